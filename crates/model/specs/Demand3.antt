@@ -1,0 +1,49 @@
+-- Demand 3: one claim over all operating rules and whole runs, about the tables that are returned.
+use mathlib.Core.Path.{_≡_}
+use mathlib.Core.Bool.{Bool, true, false}
+use mathlib.Core.List.{List}
+use mathlib.Core.Logic.{_↔_}
+use mathlib.Core.Option.{Option, none, some}
+use Prim.Native.Nat.{ℕ, _<_, _≤_, _-_}
+use lib.ListN.{getD}
+use Rattle.laws.specs.Sets.{found}
+use Rattle.laws.specs.Entry.{FFFF, told}
+use Rattle.model.specs.Plan.{Plan}
+use Rattle.model.specs.Run.{Run, moves, IsRun}
+use Rattle.model.specs.Strategy.{Strategy, Under, Total, Fails, Survives, positional}
+use Rattle.model.specs.Search.{Result, search, ordinaries}
+
+-- a table of entries read at a state: FFFF is none
+unfoldable pub reading : List ℕ → ℕ → Option ℕ
+reading table s = told (getD table s FFFF)
+
+-- What deciding's two tables say of the state s. "Deciding *calls* a state lost by a rank other than FFFF, and that entry is
+-- the r of demand 3. The *returned commands* are its command table read as a rule."
+pub record Decided (P : Plan) (ranks commands : List ℕ) (s : ℕ) : Type 0 where
+  -- "However much operating rules remember of the run so far, a state .. is called lost exactly when every rule that
+  -- commands wherever a command exists has a run from it into failure."
+  pub lost-iff : (found (reading ranks s) ≡ true) ↔ ((ρ : Strategy) → Total P s ρ → Fails P s ρ)
+  -- "From every other state the returned commands, which look at the present state alone, are such a rule, .."
+  pub returned : reading ranks s ≡ none → Total P s (positional (reading commands) s)
+  -- ".. and no run under them fails, however long it is and whichever outcomes the works give."
+  pub holds : reading ranks s ≡ none → Survives P s (positional (reading commands) s) (λ w. Unit {0})
+  -- "Against any such rule a lost state of rank r has a failing run of at most r moves, .."
+  pub within : (r : ℕ) → reading ranks s ≡ some r → (ρ : Strategy) → Total P s ρ → (f : Fails P s ρ) × (moves (f .run) ≤ r)
+  -- ".. and for r above 0 some such rule survives every run of at most r - 1 moves."
+  pub delays : (r : ℕ) → reading ranks s ≡ some r → 0 < r → (ρ : Strategy) × Total P s ρ × Survives P s ρ (λ w. moves w ≤ r - 1)
+
+-- What the search from a answers (its verdict, its rounds and its command table), beside deciding's tables.
+pub record Searched (P : Plan) (ranks commands : List ℕ) (a : ℕ) (verdict : Bool) (rounds : ℕ) (table : List ℕ) : Type 0 where
+  -- "Whatever state it starts from, the search gives that state's verdict .."
+  pub same-verdict : verdict ≡ found (reading ranks a)
+  -- ".. and, when safe, the chosen command at each state its last walk reaches": "the entry .. with deciding's .., FFFF included"
+  pub same-commands : reading ranks a ≡ none → (s : ℕ) → search P a .reached s ≡ true → getD table s FFFF ≡ getD commands s FFFF
+  -- where no round is walked, the entry at the start too
+  pub same-start : reading ranks a ≡ none → getD table a FFFF ≡ getD commands a FFFF
+  -- ".. and it reports no more rounds than there are ordinary states."
+  pub few-rounds : rounds ≤ ordinaries P
+
+-- Demand 3 whole: of every state of the plan, and of a search from a.
+pub record Demand3 (P : Plan) (ranks commands : List ℕ) (a : ℕ) (verdict : Bool) (rounds : ℕ) (table : List ℕ) : Type 0 where
+  pub decided : (s : ℕ) → s < P .states → Decided P ranks commands s
+  pub searched : Searched P ranks commands a verdict rounds table

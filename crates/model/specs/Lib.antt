@@ -1,0 +1,9 @@
+pub mod Plan
+pub mod Run
+pub mod Strategy
+pub mod Verdict
+pub mod Command
+pub mod Policy
+pub mod Search
+pub mod Value
+pub mod Demand3

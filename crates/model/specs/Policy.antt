@@ -1,0 +1,45 @@
+-- The keeper's practice judged (document 01, "Verdicts").
+use mathlib.Core.Bool.{Bool, not, cond, _&&_}
+use mathlib.Core.List.{List, [], _∷_}
+use mathlib.Core.Option.{Option, none, some}
+use Prim.Native.Nat.{ℕ, _+_}
+use Rattle.laws.specs.Sets.{howMany, grow}
+use Rattle.model.specs.Plan.{Plan, failing, hasPolicy}
+use Rattle.model.specs.Verdict.{hits, lost, safe}
+
+-- the practice as a table of commands: "A run also ends, without failing, where the practice is none."
+unfoldable pub followed : Plan → ℕ → Option ℕ
+followed P s = cond (hasPolicy P s) (some (P .policy s)) none
+
+-- the practice is given at s and has an outcome in K
+unfoldable pub risks : Plan → (ℕ → Bool) → ℕ → Bool
+risks P K s = hasPolicy P s && hits P K s (P .policy s)
+
+-- "The practice *fails* from a state if some run under it reaches a failing state, of zero moves included."
+-- That this is so is proofs/Practice.antt, `policy-judged`.
+unfoldable pub policyFails : Plan → ℕ → Bool
+policyFails P = grow (risks P) (failing P) (P .states)
+
+-- "A *bug* is a safe state from which the practice fails."
+unfoldable pub bug : Plan → ℕ → Bool
+bug P s = safe P s && policyFails P s
+
+-- "A *fault* is a safe state whose practice has a lost outcome."
+unfoldable pub fault : Plan → ℕ → Bool
+fault P s = safe P s && risks P (lost P) s
+
+-- "practice marks (0 holds, 1 fails, with 2 added at a fault)"
+unfoldable pub mark : Plan → ℕ → ℕ
+mark P s = cond (policyFails P s) 1 0 + cond (fault P s) 2 0
+
+-- "three columns: practice given and holding, given and failing, none", over the states of a row
+unfoldable pub tallyRow : Plan → (ℕ → Bool) → List ℕ
+tallyRow P row =
+    howMany (λ s. row s && hasPolicy P s && not (policyFails P s)) (P .states)
+    ∷ howMany (λ s. row s && hasPolicy P s && policyFails P s) (P .states)
+    ∷ howMany (λ s. row s && not (hasPolicy P s)) (P .states)
+    ∷ []
+
+-- "The tally is an array of two rows, safe and lost"
+unfoldable pub tally : Plan → List (List ℕ)
+tally P = tallyRow P (safe P) ∷ tallyRow P (lost P) ∷ []

@@ -1,0 +1,45 @@
+-- Moves and runs (document 01, "The plan").
+use mathlib.Core.Path.{_≡_}
+use mathlib.Core.Bool.{true, false}
+use mathlib.Core.List.{List, List·Memᴰ}
+use Prim.Native.Nat.{ℕ, suc, _<_}
+use Rattle.model.specs.Plan.{Plan, ordinary, failing}
+
+infixl 40 _▸_
+-- "A *move* issues a command and lands on any one of its outcomes."
+pub record Move : Type 0 where
+  pub command : ℕ
+  pub landing : ℕ
+
+-- "A *run* is a finite sequence of moves, possibly of none": no move yet, or a run and the move that follows it.
+pub data Run : Type 0 where
+  still : Run
+  _▸_ : Run → Move → Run
+
+-- the state where a run from s has come to
+unfoldable pub present : ℕ → Run → ℕ
+present s still = s
+present s (w ▸ m) = m .landing
+
+-- how many moves a run has
+abbrev pub moves : Run → ℕ
+moves still = 0
+moves (w ▸ m) = suc (moves w)
+
+-- The move m can be made at t. "It stops at a failing or rest state": a move leaves an ordinary one.
+pub record CanMove (P : Plan) (t : ℕ) (m : Move) : Type 0 where
+  pub leaves : ordinary P t ≡ true
+  pub issued : m .command < P .commands t
+  pub landed : List·Memᴰ (m .landing) (P .outcomes t (m .command))
+
+-- "the first leaves the state the run is from, each later one the state where the last landed"
+abbrev pub IsRun : Plan → ℕ → Run → Type 0
+IsRun P s still = Unit {0}
+IsRun P s (w ▸ m) = IsRun P s w × CanMove P (present s w) m
+
+-- "A run *fails*, or is into failure, if it ends at a failing state."
+abbrev pub RunFails : Plan → ℕ → Run → Type 0
+RunFails P s w = failing P (present s w) ≡ true
+
+abbrev pub RunHolds : Plan → ℕ → Run → Type 0
+RunHolds P s w = failing P (present s w) ≡ false

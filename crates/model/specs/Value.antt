@@ -1,0 +1,39 @@
+-- Source 000's value equation. V(s) = 1 if s is a fail state, else min over a in A(s) of max over s' in T(s, a) of V(s').
+use mathlib.Core.Path.{_≡_}
+use mathlib.Core.Bool.{cond}
+use mathlib.Core.List.{List, [], _∷_, map}
+use Prim.Native.Nat.{ℕ, _<_, _≤_}
+use Prim.Native.Nat.{min, max}
+use Rattle.laws.specs.Lists.{tabulate}
+use Rattle.model.specs.Plan.{Plan, failing, active}
+use Rattle.model.specs.Verdict.{lost}
+
+-- the sets T(s, a), for each a of A(s): a state that has no command has a self-loop
+unfoldable pub successors : Plan → ℕ → List (List ℕ)
+successors P s = cond (active P s) (tabulate (P .outcomes s) 0 (P .commands s)) ((s ∷ []) ∷ [])
+
+unfoldable pub maximum : List ℕ → ℕ
+maximum [] = 0
+maximum (x ∷ xs) = max x (maximum xs)
+
+unfoldable pub minimum : List ℕ → ℕ
+minimum [] = 0
+minimum (x ∷ []) = x
+minimum (x ∷ y ∷ r) = min x (minimum (y ∷ r))
+
+-- the right side of the equation
+unfoldable pub backup : Plan → (ℕ → ℕ) → ℕ → ℕ
+backup P v s = cond (failing P s) 1 (minimum (map (λ xs. maximum (map v xs)) (successors P s)))
+
+-- v solves the equation
+abbrev pub Solves : Plan → (ℕ → ℕ) → Type 0
+Solves P v = (s : ℕ) → s < P .states → v s ≡ backup P v s
+
+-- 1 at a lost state, 0 at a safe one
+unfoldable pub value : Plan → ℕ → ℕ
+value P s = cond (lost P s) 1 0
+
+-- "This is the least solution of 000's value equation."
+pub record LeastSolution (P : Plan) : Type 0 where
+  pub solves : Solves P (value P)
+  pub least : (v : ℕ → ℕ) → Solves P v → (s : ℕ) → s < P .states → value P s ≤ v s
