@@ -7,3 +7,15 @@ pub mod Policy
 pub mod Search
 pub mod Value
 pub mod Demand3
+pub mod Refusal
+pub mod File
+pub mod Bytes
+pub mod Tables
+pub mod Places
+pub mod Sound
+pub mod SoundTest
+pub mod Held
+pub mod Calls
+pub mod Boundary
+pub mod Listing
+pub mod Bench

@@ -31,7 +31,7 @@ active P s = ordinary P s && ltb 0 (P .commands s)
 
 -- What counts as rest. "An ordinary state without commands counts as rest."
 unfoldable pub terminal : Plan → ℕ → Bool
-terminal P s = eqb (P .kind s) 2 || ordinary P s && eqb (P .commands s) 0
+terminal P s = eqb (P .kind s) 2 || (ordinary P s && eqb (P .commands s) 0)
 
 -- the policy names a command
 unfoldable pub hasPolicy : Plan → ℕ → Bool

@@ -1,0 +1,29 @@
+-- The starred bench plans, and case A's listing: what the definitions compute is what document 01 says.
+use mathlib.Core.Path.{_≡_, refl}
+use mathlib.Core.List.{List, [], _∷_, map}
+use Prim.Native.Nat.{ℕ}
+use Rattle.laws.specs.Sets.{any, first, every, exists, orElse, lowest, found, howMany, grow}
+use Rattle.laws.specs.Lists.{tabulate, joined}
+use Rattle.laws.specs.Entry.{entry}
+use Rattle.model.specs.Plan.{ordinary, failing, active, terminal, hasPolicy}
+use Rattle.model.specs.Verdict.{hits, forced, rank, lost, safe}
+use Rattle.model.specs.Command.{tryOrder, choice, chosen}
+use Rattle.model.specs.Policy.{risks, policyFails, fault, mark, tallyRow, tally}
+use Rattle.model.specs.Search.{lands, next, marked, quiet, ends, before, atOnce, inRounds, search}
+use Rattle.model.specs.Refusal.{_>>=_, need, _>>_}
+use Rattle.model.specs.File.{field, head, state, entries, rising, command, commands, states, read}
+use Rattle.model.specs.Tables.{allCommands, rowsFrom, firstsFrom, tablesOf}
+use Rattle.model.specs.Places.{rowAt, firstCommand, firstOutcome, commandCount, outcomesAt}
+use Rattle.model.specs.SoundTest.{sizeSound, tablesLong, rowSound, risesAt, commandSound, outcomeSound, sound}
+use Rattle.model.specs.Held.{stateAt, treeOf, stateOf, planOf, planIn}
+use Rattle.model.specs.Calls.{reading, deciding, searching, rankTable, commandTable, markTable}
+use Rattle.model.specs.Listing.{digitPair, digitPairs, pairAt, digits, decimal, line, kindLetter, verdictLetter, numberOrDash, policyLetter, faultSign, planLine, stateLine, tallyLine, startLine, planText, answerText, listing}
+use Rattle.model.specs.Bench.{judged, caseA, caseAListing, benches}
+
+pub bench-plans : map (λ b. judged (b .file)) benches ≡ map (λ b. b .says) benches
+unfolding any first every exists orElse lowest found howMany grow tabulate joined entry ordinary failing active terminal hasPolicy hits forced rank lost safe tryOrder choice chosen risks policyFails fault mark tallyRow tally lands next marked quiet ends before atOnce inRounds search _>>=_ need _>>_ field head state entries rising command commands states read allCommands rowsFrom firstsFrom tablesOf rowAt firstCommand firstOutcome commandCount outcomesAt sizeSound tablesLong rowSound risesAt commandSound outcomeSound sound stateAt treeOf stateOf planOf planIn reading deciding searching rankTable commandTable markTable judged
+bench-plans = refl
+
+pub case-A-listing : listing caseA ≡ caseAListing
+unfolding any first every exists orElse lowest found howMany grow tabulate joined ordinary failing active terminal hasPolicy hits forced rank lost safe tryOrder choice chosen risks policyFails fault mark tallyRow tally lands next marked quiet ends before atOnce inRounds search _>>=_ need _>>_ field head state entries rising command commands states read allCommands rowsFrom firstsFrom tablesOf stateOf planOf digitPair digitPairs pairAt digits decimal line kindLetter verdictLetter numberOrDash policyLetter faultSign planLine stateLine tallyLine startLine planText answerText listing
+case-A-listing = refl

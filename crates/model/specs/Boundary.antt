@@ -1,0 +1,89 @@
+-- The calls of the gate controller's C program (document 01, "Refusal table"): numbers and byte slices.
+use mathlib.Core.Bool.{Bool, cond}
+use mathlib.Core.List.{List, [], _∷_}
+use Prim.Native.Nat.{ℕ, _+_, _*_, _/_}
+use lib.Dec.{leb}
+use lib.ListN.{length}
+use Rattle.laws.specs.Lists.{joined}
+use Rattle.laws.specs.Entry.{be16, twos}
+use Rattle.model.specs.Plan.{Plan}
+use Rattle.model.specs.Policy.{tally}
+use Rattle.model.specs.Search.{Result}
+use Rattle.model.specs.Refusal.{Refusal, Cramped, Unsound, Answer, given, refused, number, need, _>>=_, _>>_}
+use Rattle.model.specs.Tables.{Size, Row, Tables}
+use Rattle.model.specs.Calls.{reading, deciding, searching}
+
+-- ---- encodings
+
+-- "An entry there is two bytes, highest first": the entries of a slice; a byte left over at its end is no entry
+unfoldable pub entriesIn : List ℕ → List ℕ
+entriesIn [] = []
+entriesIn (h ∷ []) = []
+entriesIn (h ∷ l ∷ r) = (h * 256 + l) ∷ entriesIn r
+
+-- the bytes of entries
+abbrev pub bytesFor : List ℕ → List ℕ
+bytesFor es = twos es []
+
+-- "and a row three entries"; entries left over are no row
+unfoldable pub rowsIn : List ℕ → List Row
+rowsIn [] = []
+rowsIn (kind ∷ []) = []
+rowsIn (kind ∷ first ∷ []) = []
+rowsIn (kind ∷ first ∷ policy ∷ r) = record { kind = kind; first = first; policy = policy } ∷ rowsIn r
+
+unfoldable pub rowEntries : List Row → List ℕ
+rowEntries [] = []
+rowEntries (w ∷ ws) = w .kind ∷ w .first ∷ w .policy ∷ rowEntries ws
+
+-- "The size record is four entries (n, m, t, start)"
+unfoldable pub sizeEntries : Size → List ℕ
+sizeEntries z = z .n ∷ z .m ∷ z .t ∷ z .start ∷ []
+
+-- "the tally six by rows"
+unfoldable pub tallyEntries : Plan → List ℕ
+tallyEntries P = joined (tally P)
+
+-- "the search's answer two: 0 safe or 1 lost, then the rounds"
+unfoldable pub resultEntries : Result → List ℕ
+resultEntries R = cond (R .lost) 1 0 ∷ R .rounds ∷ []
+
+-- "Each call returns 0 or the refusal number."
+unfoldable pub returned : {A : Type 0} → Answer A → ℕ
+unfolding number
+returned (given a) = 0
+returned (refused r) = number r
+
+-- ---- the calls, on the slices lent in and the lengths in bytes of those written
+
+-- the plan lent in: "one too short for the size record lent in is 10"
+unfoldable pub tablesIn : List ℕ → List ℕ → List ℕ → List ℕ → Answer Tables
+tablesIn size rows firsts outcomes = do
+  need Unsound (leb 8 (length size))
+  given (record {
+    size = record { n = be16 size 0; m = be16 size 2; t = be16 size 4; start = be16 size 6 };
+    rows = rowsIn (entriesIn rows);
+    firsts = entriesIn firsts;
+    outcomes = entriesIn outcomes;
+  })
+
+-- "A slice too short for such an answer is 9"
+unfoldable pub gateRead : List ℕ → ℕ → ℕ → ℕ → ℕ → Answer Tables
+gateRead file size rows firsts outcomes = do
+  T ← reading (rows / 6) (firsts / 2) (outcomes / 2) file
+  need Cramped (leb 8 size)
+  given T
+
+unfoldable pub gateDecide : Answer Tables → ℕ → ℕ → ℕ → ℕ → ℕ → Answer Plan
+gateDecide lent ranks commands marks scratch tally = do
+  T ← lent
+  P ← deciding T (ranks / 2) (commands / 2) (marks / 2) (scratch / 2)
+  need Cramped (leb 12 tally)
+  given P
+
+unfoldable pub gateSearch : Answer Tables → ℕ → ℕ → ℕ → ℕ → Answer Result
+gateSearch lent start commands scratch answer = do
+  T ← lent
+  R ← searching T start (commands / 2) (scratch / 2)
+  need Cramped (leb 4 answer)
+  given R

@@ -1,0 +1,19 @@
+-- Writing a plan file (document 01, "Plan file"): the bytes of what a file describes.
+-- Each definition gives the bytes of its fields in front of further bytes r.
+use Prim.Native.Nat.{ℕ, _+_, _*_}
+use mathlib.Core.List.{List, [], _∷_}
+use lib.ListN.{length}
+use Rattle.laws.specs.Entry.{two, twos}
+use Rattle.model.specs.File.{State, Tree, headTag, stateTag, commandTag, endTag}
+
+unfoldable pub commandsBytes : List (List ℕ) → List ℕ → List ℕ
+commandsBytes [] r = r
+commandsBytes (c ∷ cs) r = commandTag ∷ two (length c * 2) (twos c (commandsBytes cs r))
+
+unfoldable pub statesBytes : List State → List ℕ → List ℕ
+statesBytes [] r = r
+statesBytes (s ∷ ss) r =
+    stateTag ∷ two 5 (s .kind ∷ two (length (s .commands)) (two (s .policy) (commandsBytes (s .commands) (statesBytes ss r))))
+
+unfoldable pub bytesOf : Tree → List ℕ
+bytesOf p = headTag ∷ two 4 (two (length (p .states)) (two (p .start) (statesBytes (p .states) (endTag ∷ two 0 []))))

@@ -1,0 +1,72 @@
+-- What each call answers, and what it leaves in the tables it is lent (document 01, "Refusal table").
+use mathlib.Core.Bool.{_&&_}
+use mathlib.Core.List.{List}
+use Prim.Native.Nat.{ℕ}
+use lib.Dec.{leb, ltb}
+use lib.ListN.{replicate}
+use Rattle.laws.specs.Lists.{tabulate, overwrite}
+use Rattle.laws.specs.Entry.{entry}
+use Rattle.model.specs.Plan.{Plan}
+use Rattle.model.specs.Verdict.{rank}
+use Rattle.model.specs.Command.{chosen}
+use Rattle.model.specs.Policy.{mark}
+use Rattle.model.specs.Search.{Result, search}
+use Rattle.model.specs.Refusal.{Cramped, Unsound, Stranger, Answer, given, refused, need, _>>=_, _>>_}
+use Rattle.model.specs.File.{read}
+use Rattle.model.specs.Bytes.{bytesOf}
+use Rattle.model.specs.Tables.{Size, Tables, tablesOf, fileLength}
+use Rattle.model.specs.SoundTest.{sound}
+use Rattle.model.specs.Held.{treeOf, planIn}
+
+-- "A refusal returns its number only and every lent table is as it was. After an answer, places past those counts are
+-- untouched": what a lent table holds after a call, where f gives what an answer writes to its first places
+unfoldable pub left : {A B : Type 0} → (A → List B) → Answer A → List B → List B
+left f (given a) table = overwrite (f a) table
+left f (refused r) table = table
+
+-- "After the end field: 2, then 9." "Reading needs n rows, m first outcomes and t outcomes." It answers the size record.
+unfoldable pub reading : ℕ → ℕ → ℕ → List ℕ → Answer Tables
+reading rows firsts outcomes file = do
+  p ← read file
+  need Cramped (leb (tablesOf p .size .n) rows && leb (tablesOf p .size .m) firsts && leb (tablesOf p .size .t) outcomes)
+  given (tablesOf p)
+
+-- "Other calls: 10, then 11, then 9." "writing needs the file's length", and answers it.
+unfoldable pub writing : Tables → ℕ → Answer (List ℕ)
+writing T bytes = do
+  need Unsound (sound T)
+  need Cramped (leb (fileLength (T .size)) bytes)
+  given (bytesOf (treeOf T))
+
+-- "Deciding needs n places in each table of ranks .., commands .., practice marks .. and scratch, and answers the tally"
+unfoldable pub deciding : Tables → ℕ → ℕ → ℕ → ℕ → Answer Plan
+deciding T ranks commands marks scratch = do
+  need Unsound (sound T)
+  need Cramped (leb (T .size .n) ranks && leb (T .size .n) commands && leb (T .size .n) marks && leb (T .size .n) scratch)
+  given (planIn T)
+
+-- "the search needs n places in commands and scratch", and answers the verdict and the rounds
+unfoldable pub searching : Tables → ℕ → ℕ → ℕ → Answer Result
+searching T start commands scratch = do
+  need Unsound (sound T)
+  need Stranger (ltb start (T .size .n))
+  need Cramped (leb (T .size .n) commands && leb (T .size .n) scratch)
+  given (search (planIn T) start)
+
+-- "ranks (FFFF for safe), commands (FFFF for none), practice marks"
+unfoldable pub rankTable : Plan → List ℕ
+rankTable P = tabulate (λ s. entry (rank P s)) 0 (P .states)
+
+unfoldable pub commandTable : Plan → List ℕ
+commandTable P = tabulate (λ s. entry (chosen P s)) 0 (P .states)
+
+unfoldable pub markTable : Plan → List ℕ
+markTable P = tabulate (mark P) 0 (P .states)
+
+-- the search's command table, of n places
+unfoldable pub resultTable : ℕ → Result → List ℕ
+resultTable n R = tabulate (λ s. entry (R .command s)) 0 n
+
+-- "scratch is zero in its first n places"
+unfoldable pub cleared : ℕ → List ℕ
+cleared n = replicate n 0

@@ -1,0 +1,128 @@
+-- Reading a plan file (document 01, "Plan file" and "Refusal table"), in the document's order of checks:
+-- "Reading goes field by field. In each: three bytes present (1), tag (3), length (4), value present (1)."
+-- Every definition is on the bytes from its field on.
+use Prim.Native.Nat.{ℕ, zero, suc, _+_, _*_, _/_, _%_}
+use mathlib.Core.Bool.{Bool, cond, _&&_, _||_}
+use mathlib.Core.List.{List, [], _∷_}
+use lib.ListN.{length, getD, drop}
+use lib.Dec.{leb, ltb, eqb}
+use Rattle.laws.specs.Entry.{be16, FFFF}
+use Rattle.model.specs.Refusal.{Cut, Surplus, Tag, Length, Beyond, Unsorted, Idle, Limit, Answer, given, need, _>>=_, _>>_}
+
+-- "Limits: n from 1 to 1,024; at most m = 4,096 commands and t = 16,384 outcome entries in the plan."
+abbrev pub maxStates : ℕ
+maxStates = 1024
+
+abbrev pub maxCommands : ℕ
+maxCommands = 4096
+
+abbrev pub maxOutcomes : ℕ
+maxOutcomes = 16384
+
+-- What a file describes: the states in number order, each with its commands, each of those with its outcomes.
+pub record State : Type 0 where
+  pub kind : ℕ
+  pub policy : ℕ
+  pub commands : List (List ℕ)
+
+pub record Tree : Type 0 where
+  pub start : ℕ
+  pub states : List State
+
+-- the tags
+abbrev pub headTag : ℕ
+headTag = 1
+
+abbrev pub stateTag : ℕ
+stateTag = 2
+
+abbrev pub commandTag : ℕ
+commandTag = 3
+
+abbrev pub endTag : ℕ
+endTag = 4
+
+-- the lengths that the table of fields allows: head 4, state 5, end 0; a command's is "even, at least 2"
+abbrev pub fixedLength : ℕ → ℕ
+fixedLength tag = cond (eqb tag headTag) 4 (cond (eqb tag stateTag) 5 0)
+
+abbrev pub allowed : ℕ → ℕ → Bool
+allowed tag len = cond (eqb tag commandTag) (eqb (len % 2) 0 && leb 2 len) (eqb len (fixedLength tag))
+
+-- a field with the tag that is due: its length
+unfoldable pub field : ℕ → List ℕ → Answer ℕ
+field tag s = do
+  need Cut (leb 3 (length s))
+  need Tag (eqb (getD s 0 0) tag)
+  need Length (allowed tag (be16 s 1))
+  need Cut (leb (3 + be16 s 1) (length s))
+  given (be16 s 1)
+
+-- "head: 5": n and the start
+unfoldable pub head : List ℕ → Answer (ℕ × ℕ)
+head s = do
+  _ ← field headTag s
+  need Beyond (leb 1 (be16 s 3) && leb (be16 s 3) maxStates)
+  need Beyond (ltb (be16 s 5) (be16 s 3))
+  given (be16 s 3, be16 s 5)
+
+-- no "commands under kind 1 or 2", and no "practice neither FFFF nor below the count"
+abbrev pub busy : ℕ → ℕ → ℕ → Bool
+busy kind count policy = (eqb kind 0 || eqb count 0) && (eqb policy FFFF || ltb policy count)
+
+-- "State: kind (5), 7, commands (8)", with m commands so far: kind, command count and practice
+unfoldable pub state : ℕ → List ℕ → Answer (ℕ × ℕ × ℕ)
+state m s = do
+  _ ← field stateTag s
+  need Beyond (leb (getD s 3 0) 2)
+  need Idle (busy (getD s 3 0) (be16 s 4) (be16 s 6))
+  need Limit (leb (m + be16 s 4) maxCommands)
+  given (getD s 3 0, be16 s 4, be16 s 6)
+
+-- the k numbers at the front
+unfoldable pub entries : ℕ → List ℕ → List ℕ
+entries zero s = []
+entries (suc k) s = be16 s 0 ∷ entries k (drop 2 s)
+
+-- "each entry in turn, 5 before 6": it is below n, and at least `low`, one more than the entry before
+unfoldable pub rising : ℕ → ℕ → List ℕ → Answer (Unit {0})
+rising n low [] = given tt
+rising n low (o ∷ os) = do
+  need Beyond (ltb o n)
+  need Unsorted (leb low o)
+  rising n (o + 1) os
+
+-- "Command: outcomes (8), then each entry in turn", with t outcomes so far: its outcomes
+unfoldable pub command : ℕ → ℕ → List ℕ → Answer (List ℕ)
+command n t s = do
+  len ← field commandTag s
+  need Limit (leb (t + len / 2) maxOutcomes)
+  rising n 0 (entries (len / 2) (drop 3 s))
+  given (entries (len / 2) (drop 3 s))
+
+-- k commands, with t outcomes so far: the commands, the outcomes so far, and the bytes after them
+unfoldable pub commands : ℕ → ℕ → ℕ → List ℕ → Answer (List (List ℕ) × ℕ × List ℕ)
+commands n zero t s = given ([], t, s)
+commands n (suc k) t s = do
+  os ← command n t s
+  (cs, t₁, s₁) ← commands n k (t + length os) (drop (3 + length os * 2) s)
+  given (os ∷ cs, t₁, s₁)
+
+-- "One state field per state in number order, each followed by exactly its count of command fields.":
+-- k states, with m commands and t outcomes so far, and the bytes after them
+unfoldable pub states : ℕ → ℕ → ℕ → ℕ → List ℕ → Answer (List State × List ℕ)
+states n zero m t s = given ([], s)
+states n (suc k) m t s = do
+  (kind, count, policy) ← state m s
+  (cs, t₁, s₁) ← commands n count t (drop 8 s)
+  (ss, s₂) ← states n k (m + count) t₁ s₁
+  given (record { kind = kind; policy = policy; commands = cs } ∷ ss, s₂)
+
+-- a file; "After the end field: 2"
+unfoldable pub read : List ℕ → Answer Tree
+read s = do
+  (n, start) ← head s
+  (ss, s₁) ← states n n 0 0 (drop 7 s)
+  _ ← field endTag s₁
+  need Surplus (leb (length s₁) 3)
+  given (record { start = start; states = ss })

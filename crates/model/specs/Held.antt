@@ -1,0 +1,40 @@
+-- What tables describe, and the plan of which verdicts speak.
+use mathlib.Core.List.{List, []}
+use Prim.Native.Nat.{ℕ}
+use lib.ListN.{length, getD}
+use Rattle.laws.specs.Lists.{tabulate}
+use Rattle.laws.specs.Entry.{FFFF}
+use Rattle.model.specs.Plan.{Plan}
+use Rattle.model.specs.File.{State, Tree}
+use Rattle.model.specs.Tables.{Tables}
+use Rattle.model.specs.Places.{rowAt, firstCommand, commandCount, outcomesAt}
+
+-- the state s, read off the tables
+unfoldable pub stateAt : Tables → ℕ → State
+stateAt T s = record {
+  kind = rowAt T s .kind;
+  policy = rowAt T s .policy;
+  commands = tabulate (outcomesAt T) (firstCommand T s) (commandCount T s);
+}
+
+unfoldable pub treeOf : Tables → Tree
+treeOf T = record { start = T .size .start; states = tabulate (stateAt T) 0 (T .size .n) }
+
+-- a state past the last: a rest state's
+unfoldable pub stateOf : Tree → ℕ → State
+stateOf p s = getD (p .states) s (record { kind = 2; policy = FFFF; commands = [] })
+
+-- the plan that a file describes
+unfoldable pub planOf : Tree → Plan
+planOf p = record {
+  states = length (p .states);
+  start = p .start;
+  kind = λ s. stateOf p s .kind;
+  commands = λ s. length (stateOf p s .commands);
+  outcomes = λ s c. getD (stateOf p s .commands) c [];
+  policy = λ s. stateOf p s .policy;
+}
+
+-- the plan that tables hold
+unfoldable pub planIn : Tables → Plan
+planIn T = planOf (treeOf T)

@@ -1,0 +1,111 @@
+-- The text that the listing program prints (document 01, "The listing program"), as bytes.
+use mathlib.Core.Bool.{Bool, cond}
+use mathlib.Core.List.{List, [], _∷_, _++_}
+use mathlib.Core.Option.{Option, none, some}
+use Prim.Native.Nat.{ℕ, zero, suc, _+_, _*_, _/_, _%_}
+use lib.Dec.{ltb, eqb}
+use lib.ListN.{length, getD}
+use Rattle.laws.specs.Lists.{tabulate, joined}
+use Rattle.model.specs.Plan.{Plan}
+use Rattle.model.specs.Verdict.{rank, lost}
+use Rattle.model.specs.Command.{chosen}
+use Rattle.model.specs.Policy.{policyFails, fault, tally}
+use Rattle.model.specs.Search.{Result, search}
+use Rattle.model.specs.Refusal.{Refusal, Limit, Answer, given, refused, number}
+use Rattle.model.specs.File.{Tree, read}
+use Rattle.model.specs.Tables.{Size, tablesOf}
+use Rattle.model.specs.Held.{planOf}
+
+-- ---- numbers: "Decimal digits, without leading zeros, are taken from a table of the pairs 00 to 99."
+
+-- the digits of i, below 100, in two bytes
+unfoldable pub digitPair : ℕ → List ℕ
+digitPair i = (48 + i / 10) ∷ (48 + i % 10) ∷ []
+
+unfoldable pub digitPairs : List (List ℕ)
+digitPairs = tabulate digitPair 0 100
+
+unfoldable pub pairAt : ℕ → List ℕ
+pairAt i = getD digitPairs i []
+
+-- the digits of x, in at most k pairs
+unfoldable pub digits : ℕ → ℕ → List ℕ
+digits zero x = []
+digits (suc k) x =
+    cond (ltb x 10) (getD (pairAt x) 1 0 ∷ []) (cond (ltb x 100) (pairAt x) (digits k (x / 100) ++ pairAt (x % 100)))
+
+-- three pairs hold every entry
+unfoldable pub decimal : ℕ → List ℕ
+decimal x = digits 3 x
+
+-- ---- lines: words with a space between them; "Lines end in byte 10."
+
+unfoldable pub line : List (List ℕ) → List ℕ
+line [] = 10 ∷ []
+line (w ∷ []) = w ++ 10 ∷ []
+line (w ∷ v ∷ ws) = w ++ 32 ∷ line (v ∷ ws)
+
+-- "A refusal prints `refused`, a space and the number."
+unfoldable pub refusalText : Refusal → List ℕ
+refusalText r =
+    let refusedWord : List ℕ = 114 ∷ 101 ∷ 102 ∷ 117 ∷ 115 ∷ 101 ∷ 100 ∷ [] in
+    line (refusedWord ∷ decimal (number r) ∷ [])
+
+-- "kind o, f or r"
+unfoldable pub kindLetter : ℕ → List ℕ
+kindLetter kind = cond (eqb kind 0) 111 (cond (eqb kind 1) 102 114) ∷ []
+
+-- "S safe or L lost"
+unfoldable pub verdictLetter : Bool → List ℕ
+verdictLetter isLost = cond isLost 76 83 ∷ []
+
+-- "rank or -; chosen command or -"
+unfoldable pub numberOrDash : Option ℕ → List ℕ
+numberOrDash none = 45 ∷ []
+numberOrDash (some x) = decimal x
+
+-- "practice H holds or F fails"
+unfoldable pub policyLetter : Bool → List ℕ
+policyLetter fails = cond fails 70 72 ∷ []
+
+-- "! fault or . none"
+unfoldable pub faultSign : Bool → List ℕ
+faultSign isFault = cond isFault 33 46 ∷ []
+
+-- "First line: n, m, t."
+unfoldable pub planLine : Size → List ℕ
+planLine z =
+    let planWord : List ℕ = 112 ∷ 108 ∷ 97 ∷ 110 ∷ [] in
+    line (planWord ∷ decimal (z .n) ∷ decimal (z .m) ∷ decimal (z .t) ∷ [])
+
+-- "State lines: number; kind ..; S safe or L lost; rank or -; chosen command or -; practice ..; ! fault or . none."
+unfoldable pub stateLine : Plan → ℕ → List ℕ
+stateLine P s =
+    line (decimal s ∷ kindLetter (P .kind s) ∷ verdictLetter (lost P s) ∷ numberOrDash (rank P s) ∷ numberOrDash (chosen P s)
+    ∷ policyLetter (policyFails P s) ∷ faultSign (fault P s) ∷ [])
+
+-- the tally's rows with a slash between them
+unfoldable pub tallyLine : List (List ℕ) → List ℕ
+tallyLine rows =
+    let tallyWord : List ℕ = 116 ∷ 97 ∷ 108 ∷ 108 ∷ 121 ∷ [] in
+    let at : ℕ → ℕ → List ℕ = λ r c. decimal (getD (getD rows r []) c 0) in
+    line (tallyWord ∷ at 0 0 ∷ at 0 1 ∷ at 0 2 ∷ (47 ∷ []) ∷ at 1 0 ∷ at 1 1 ∷ at 1 2 ∷ [])
+
+-- "Last: start, verdict, rounds."; "the listing takes the plan's own" start
+unfoldable pub startLine : ℕ → Result → List ℕ
+startLine start R =
+    let startWord : List ℕ = 115 ∷ 116 ∷ 97 ∷ 114 ∷ 116 ∷ [] in
+    line (startWord ∷ decimal start ∷ verdictLetter (R .lost) ∷ decimal (R .rounds) ∷ [])
+
+unfoldable pub planText : Tree → List ℕ
+planText p =
+    let P = planOf p in
+    planLine (tablesOf p .size) ++ joined (tabulate (stateLine P) 0 (P .states)) ++ tallyLine (tally P) ++ startLine (P .start) (search P (P .start))
+
+unfoldable pub answerText : Answer Tree → List ℕ
+answerText (given p) = planText p
+answerText (refused r) = refusalText r
+
+-- "Input above 65,536 bytes is refusal 8 before all else."
+unfoldable pub listing : List ℕ → List ℕ
+listing input = cond (ltb 65536 (length input)) (refusalText Limit) (answerText (read input))

@@ -1,0 +1,28 @@
+-- Sound plans (document 01, "Plan file"). That the test of SoundTest.antt decides this is proofs/Soundness.antt, `sound-iff`.
+use mathlib.Core.Path.{_≡_}
+use mathlib.Core.List.{List}
+use Prim.Native.Nat.{ℕ, _≤_}
+use lib.ListN.{length}
+use Rattle.laws.specs.Entry.{Bytes}
+use Rattle.model.specs.Refusal.{given}
+use Rattle.model.specs.File.{Tree, read}
+use Rattle.model.specs.Tables.{Tables, Same, tablesOf}
+
+-- the size record and tables "are the same as some file gives"
+pub record FromFile (T : Tables) : Type 0 where
+  pub file : List ℕ
+  pub bytes : Bytes file
+  pub tree : Tree
+  pub reads : read file ≡ given tree
+  pub same : Same T (tablesOf tree)
+
+-- "no plan table is shorter than its count"
+pub record Long (T : Tables) : Type 0 where
+  pub rows : T .size .n ≤ length (T .rows)
+  pub firsts : T .size .m ≤ length (T .firsts)
+  pub outcomes : T .size .t ≤ length (T .outcomes)
+
+-- "A plan is *sound* if its size record and tables are the same as some file gives and no plan table is shorter than its count."
+pub record Sound (T : Tables) : Type 0 where
+  pub from-file : FromFile T
+  pub long : Long T

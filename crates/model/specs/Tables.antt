@@ -1,0 +1,64 @@
+-- A plan in memory (document 01, "Plan file"): "a size record (n, m, t, start), a lent table of rows with kind, first command
+-- and practice, and tables of first outcomes and outcomes".
+use mathlib.Core.Path.{_≡_}
+use Prim.Native.Nat.{ℕ, _+_, _*_}
+use mathlib.Core.List.{List, [], _∷_, _++_}
+use lib.ListN.{length, take}
+use Rattle.laws.specs.Lists.{joined}
+use Rattle.model.specs.File.{State, Tree}
+
+pub record Size : Type 0 where
+  pub n : ℕ
+  pub m : ℕ
+  pub t : ℕ
+  pub start : ℕ
+
+pub record Row : Type 0 where
+  pub kind : ℕ
+  pub first : ℕ
+  pub policy : ℕ
+
+pub record Tables : Type 0 where
+  pub size : Size
+  pub rows : List Row
+  pub firsts : List ℕ
+  pub outcomes : List ℕ
+
+-- the commands of the states, one after another
+unfoldable pub allCommands : List State → List (List ℕ)
+allCommands [] = []
+allCommands (s ∷ ss) = s .commands ++ allCommands ss
+
+-- "A state's first command is the number of commands of all lower states, also where it has none": the rows of states that
+-- m commands come before
+unfoldable pub rowsFrom : ℕ → List State → List Row
+rowsFrom m [] = []
+rowsFrom m (s ∷ ss) = record { kind = s .kind; first = m; policy = s .policy } ∷ rowsFrom (m + length (s .commands)) ss
+
+-- "first outcomes count likewise over commands": those of commands that t outcomes come before
+unfoldable pub firstsFrom : ℕ → List (List ℕ) → List ℕ
+firstsFrom t [] = []
+firstsFrom t (c ∷ cs) = t ∷ firstsFrom (t + length c) cs
+
+-- the size record and tables that a file gives
+unfoldable pub tablesOf : Tree → Tables
+tablesOf p =
+    let cs = allCommands (p .states) in
+    let os = joined cs in
+    record {
+      size = record { n = length (p .states); m = length cs; t = length os; start = p .start };
+      rows = rowsFrom 0 (p .states);
+      firsts = firstsFrom 0 cs;
+      outcomes = os;
+    }
+
+-- "A file has 10 + 8n + 3m + 2t bytes."
+unfoldable pub fileLength : Size → ℕ
+fileLength z = 10 + 8 * z .n + 3 * z .m + 2 * z .t
+
+-- "Tables are the same if they agree up to their counts."
+pub record Same (T U : Tables) : Type 0 where
+  pub size : T .size ≡ U .size
+  pub rows : take (T .size .n) (T .rows) ≡ take (U .size .n) (U .rows)
+  pub firsts : take (T .size .m) (T .firsts) ≡ take (U .size .m) (U .firsts)
+  pub outcomes : take (T .size .t) (T .outcomes) ≡ take (U .size .t) (U .outcomes)
