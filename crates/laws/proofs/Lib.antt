@@ -1,1 +1,4 @@
 pub mod Tests
+pub mod Sets
+pub mod Grow
+pub mod Ranges

@@ -1,1 +1,11 @@
+pub mod StateKinds
+pub mod Choices
+pub mod Layers
+pub mod ValueEquation
+pub mod Practice
+pub mod Deciding
+pub mod Walks
+pub mod Rounds
+pub mod Searching
+pub mod Demands
 pub mod Bench

@@ -50,7 +50,6 @@ resultEntries R = cond (R .lost) 1 0 ∷ R .rounds ∷ []
 
 -- "Each call returns 0 or the refusal number."
 unfoldable pub returned : {A : Type 0} → Answer A → ℕ
-unfolding number
 returned (given a) = 0
 returned (refused r) = number r
 

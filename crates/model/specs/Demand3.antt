@@ -1,6 +1,6 @@
 -- Demand 3: one claim over all operating rules and whole runs, about the tables that are returned.
 use mathlib.Core.Path.{_≡_}
-use mathlib.Core.Bool.{Bool, true, false}
+use mathlib.Core.Bool.{Bool, true}
 use mathlib.Core.List.{List}
 use mathlib.Core.Logic.{_↔_}
 use mathlib.Core.Option.{Option, none, some}
@@ -9,9 +9,9 @@ use lib.ListN.{getD}
 use Rattle.laws.specs.Sets.{found}
 use Rattle.laws.specs.Entry.{FFFF, told}
 use Rattle.model.specs.Plan.{Plan}
-use Rattle.model.specs.Run.{Run, moves, IsRun}
-use Rattle.model.specs.Strategy.{Strategy, Under, Total, Fails, Survives, positional}
-use Rattle.model.specs.Search.{Result, search, ordinaries}
+use Rattle.model.specs.Run.{moves}
+use Rattle.model.specs.Strategy.{Strategy, Total, Fails, Survives, positional}
+use Rattle.model.specs.Search.{search, ordinaries}
 
 -- a table of entries read at a state: FFFF is none
 unfoldable pub reading : List ℕ → ℕ → Option ℕ

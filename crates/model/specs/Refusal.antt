@@ -29,7 +29,7 @@ pub data Refusal : Type 0 where
   -- a state number not below n
   Stranger : Refusal
 
-unfoldable pub number : Refusal → ℕ
+abbrev pub number : Refusal → ℕ
 number Cut = 1
 number Surplus = 2
 number Tag = 3

@@ -1,7 +1,7 @@
 -- Moves and runs (document 01, "The plan").
 use mathlib.Core.Path.{_≡_}
 use mathlib.Core.Bool.{true, false}
-use mathlib.Core.List.{List, List·Memᴰ}
+use mathlib.Core.List.{List·Memᴰ}
 use Prim.Native.Nat.{ℕ, suc, _<_}
 use Rattle.model.specs.Plan.{Plan, ordinary, failing}
 

@@ -4,7 +4,7 @@ use mathlib.Core.Bool.{true}
 use mathlib.Core.Option.{Option, some}
 use Prim.Native.Nat.{ℕ, _<_}
 use Rattle.model.specs.Plan.{Plan, active}
-use Rattle.model.specs.Run.{Move, Run, still, _▸_, present, IsRun, RunFails, RunHolds}
+use Rattle.model.specs.Run.{Run, still, _▸_, present, IsRun, RunFails, RunHolds}
 
 -- "An *operating rule* names, for each run so far .. (its commands and landings in order), a command .. or none."
 abbrev pub Strategy : Type 0

@@ -2,8 +2,7 @@
 use mathlib.Core.Path.{_≡_}
 use mathlib.Core.Bool.{cond}
 use mathlib.Core.List.{List, [], _∷_, map}
-use Prim.Native.Nat.{ℕ, _<_, _≤_}
-use Prim.Native.Nat.{min, max}
+use Prim.Native.Nat.{ℕ, _<_, _≤_, min, max}
 use Rattle.laws.specs.Lists.{tabulate}
 use Rattle.model.specs.Plan.{Plan, failing, active}
 use Rattle.model.specs.Verdict.{lost}
