@@ -1,7 +1,6 @@
 -- The starred bench plans, and case A's listing: what the definitions compute is what document 01 says.
 use mathlib.Core.Path.{_≡_, refl}
-use mathlib.Core.List.{List, [], _∷_, map}
-use Prim.Native.Nat.{ℕ}
+use mathlib.Core.List.{map}
 use Rattle.laws.specs.Sets.{any, first, every, exists, orElse, lowest, found, howMany, grow}
 use Rattle.laws.specs.Lists.{tabulate, joined}
 use Rattle.laws.specs.Entry.{entry}

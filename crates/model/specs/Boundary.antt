@@ -1,5 +1,5 @@
 -- The calls of the gate controller's C program (document 01, "Refusal table"): numbers and byte slices.
-use mathlib.Core.Bool.{Bool, cond}
+use mathlib.Core.Bool.{cond}
 use mathlib.Core.List.{List, [], _∷_}
 use Prim.Native.Nat.{ℕ, _+_, _*_, _/_}
 use lib.Dec.{leb}
@@ -9,7 +9,7 @@ use Rattle.laws.specs.Entry.{be16, twos}
 use Rattle.model.specs.Plan.{Plan}
 use Rattle.model.specs.Policy.{tally}
 use Rattle.model.specs.Search.{Result}
-use Rattle.model.specs.Refusal.{Refusal, Cramped, Unsound, Answer, given, refused, number, need, _>>=_, _>>_}
+use Rattle.model.specs.Refusal.{Cramped, Unsound, Answer, given, refused, number, need, _>>=_, _>>_}
 use Rattle.model.specs.Tables.{Size, Row, Tables}
 use Rattle.model.specs.Calls.{reading, deciding, searching}
 

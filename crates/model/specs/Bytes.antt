@@ -1,6 +1,6 @@
 -- Writing a plan file (document 01, "Plan file"): the bytes of what a file describes.
 -- Each definition gives the bytes of its fields in front of further bytes r.
-use Prim.Native.Nat.{ℕ, _+_, _*_}
+use Prim.Native.Nat.{ℕ, _*_}
 use mathlib.Core.List.{List, [], _∷_}
 use lib.ListN.{length}
 use Rattle.laws.specs.Entry.{two, twos}

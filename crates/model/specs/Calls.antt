@@ -14,7 +14,7 @@ use Rattle.model.specs.Search.{Result, search}
 use Rattle.model.specs.Refusal.{Cramped, Unsound, Stranger, Answer, given, refused, need, _>>=_, _>>_}
 use Rattle.model.specs.File.{read}
 use Rattle.model.specs.Bytes.{bytesOf}
-use Rattle.model.specs.Tables.{Size, Tables, tablesOf, fileLength}
+use Rattle.model.specs.Tables.{Tables, tablesOf, fileLength}
 use Rattle.model.specs.SoundTest.{sound}
 use Rattle.model.specs.Held.{treeOf, planIn}
 

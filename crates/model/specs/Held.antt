@@ -1,5 +1,5 @@
 -- What tables describe, and the plan of which verdicts speak.
-use mathlib.Core.List.{List, []}
+use mathlib.Core.List.{[]}
 use Prim.Native.Nat.{ℕ}
 use lib.ListN.{length, getD}
 use Rattle.laws.specs.Lists.{tabulate}
