@@ -8,4 +8,11 @@ pub mod Walks
 pub mod Rounds
 pub mod Searching
 pub mod Demands
+pub mod Answers
+pub mod Fields
+pub mod Readings
+pub mod Good
+pub mod ReadBack
+pub mod ReadForth
+pub mod FileLength
 pub mod Bench

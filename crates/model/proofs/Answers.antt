@@ -1,0 +1,40 @@
+-- What follows of an answer that is a value: each test on the way held, and each part gave a value.
+use mathlib.Core.Path.{_≡_, refl}
+use mathlib.Core.Bool.{Bool, true, false}
+use mathlib.Core.List.{List}
+use mathlib.Core.Logic.{_⊎_, inl, inr}
+use Prim.Native.Nat.{ℕ}
+use native.Mathlib.Omega.{arith}
+use Rattle.model.specs.Refusal.{Refusal, Answer, given, refused, need, _>>=_, _>>_}
+use Rattle.model.specs.File.{Tree, read}
+
+pub not-both : {A : Type 0} {r : Refusal} {a : A} → refused r ≡ given a → ⊥
+not-both e = let z : _≡_ {A = ℕ} 0 1 = cc in omega arith
+
+pub given-inj : {A : Type 0} {a b : A} → given a ≡ given b → a ≡ b
+given-inj e = cc
+
+module _ {B : Type 0} {b : B} where
+  pub need-inv : (r : Refusal) (t : Bool) (x : Answer B) → (need r t >> x) ≡ given b → (t ≡ true) × (x ≡ given b)
+  unfolding need _>>_
+  need-inv r true x e = (refl, e)
+  need-inv r false x e = absurd (not-both e)
+
+  pub then-inv : (u : Answer (Unit {0})) (x : Answer B) → (u >> x) ≡ given b → (u ≡ given tt) × (x ≡ given b)
+  unfolding _>>_
+  then-inv (given u) x e = (refl, e)
+  then-inv (refused r) x e = absurd (not-both e)
+
+  pub bind-inv : {A : Type 0} (x : Answer A) (f : A → Answer B) → (x >>= f) ≡ given b → (a : A) × (x ≡ given a) × (f a ≡ given b)
+  unfolding _>>=_
+  bind-inv (given a) f e = (a, refl, e)
+  bind-inv (refused r) f e = absurd (not-both e)
+
+-- an answer is a value or a refusal
+pub which : {A : Type 0} (x : Answer A) → ((a : A) × (x ≡ given a)) ⊎ ((r : Refusal) × (x ≡ refused r))
+which (given a) = inl (a, refl)
+which (refused r) = inr (r, refl)
+
+-- every list is read: as a tree or as a refusal
+pub one-answer : (s : List ℕ) → ((p : Tree) × (read s ≡ given p)) ⊎ ((r : Refusal) × (read s ≡ refused r))
+one-answer s = which (read s)
