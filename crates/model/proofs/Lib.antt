@@ -16,3 +16,4 @@ pub mod ReadBack
 pub mod ReadForth
 pub mod FileLength
 pub mod Bench
+pub mod Examples
