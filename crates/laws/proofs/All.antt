@@ -1,8 +1,11 @@
 -- Lists whose members all have a property.
-use mathlib.Core.List.{List, [], _∷_, _++_}
-use Prim.Native.Nat.{ℕ, zero, suc, _<_}
+use mathlib.Core.Path.{_≡_, sym, subst}
+use mathlib.Core.Logic.{⊎-elim}
+use mathlib.Core.List.{List, [], _∷_, _++_, List·Memᴰ, List·Memᴰ·not-nil, List·Memᴰ·cases-cons}
+use Prim.Native.Nat.{ℕ, zero, suc, _+_, _<_}
 use native.Mathlib.Omega.{arith}
 use lib.ListN.{length, getD}
+use Rattle.laws.specs.Lists.{tabulate}
 
 pub data All {A : Type 0} (P : A → Type 0) : List A → Type 0 where
   none : All P []
@@ -18,3 +21,15 @@ module _ {A : Type 0} {P : A → Type 0} where
   pub all-append : {xs ys : List A} → All P xs → All P ys → All P (xs ++ ys)
   all-append none qs = qs
   all-append (more p ps) qs = more p (all-append ps qs)
+
+  pub all-member : {x : A} {xs : List A} → All P xs → List·Memᴰ x xs → P x
+  all-member none m = absurd (List·Memᴰ·not-nil m)
+  all-member (more p ps) m = ⊎-elim (λ e. subst P (sym e) p) (all-member ps) (List·Memᴰ·cases-cons m)
+
+  pub all-tabulate : (f : ℕ → A) (a k : ℕ) → ((i : ℕ) → i < k → P (f (a + i))) → All P (tabulate f a k)
+  unfolding tabulate
+  all-tabulate f a zero h = none
+  all-tabulate f a (suc k) h =
+      let first : a + 0 ≡ a = omega arith in
+      more (subst (λ (j : ℕ). P (f j)) first (h 0 (omega arith)))
+      (all-tabulate f (suc a) k (λ i l. let next : a + suc i ≡ suc a + i = omega arith in subst (λ (j : ℕ). P (f j)) next (h (suc i) (omega arith))))

@@ -1,7 +1,10 @@
 pub mod Tests
 pub mod Sets
+pub mod TestFacts
 pub mod Grow
+pub mod Lists
 pub mod Ranges
 pub mod All
 pub mod Joins
+pub mod Parts
 pub mod Entry

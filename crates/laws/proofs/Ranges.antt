@@ -1,31 +1,12 @@
--- The list of a rule at the numbers from a on: its members, and the first number of a range that passes a test.
+-- The first number of a range that passes a test is the lowest.
 use mathlib.Core.Path.{_≡_, refl, sym, subst}
 use mathlib.Core.Bool.{Bool, true, false, cond}
-use mathlib.Core.Logic.{⊎-elim}
-use mathlib.Core.List.{List·Memᴰ, List·Memᴰ·head, List·Memᴰ·tail, List·Memᴰ·not-nil, List·Memᴰ·cases-cons}
 use mathlib.Core.Option.{Option, some}
-use Prim.Native.Nat.{ℕ, zero, suc, _+_, _<_, _≤_}
-use native.Mathlib.Nat.{eq-or-lt-of-le}
+use Prim.Native.Nat.{ℕ, zero, suc, _+_, _<_}
 use native.Mathlib.Omega.{arith}
 use Rattle.laws.specs.Sets.{first, lowest}
 use Rattle.laws.specs.Lists.{tabulate}
 use Rattle.laws.proofs.Sets.{IsLowest, lowest-eq, below-suc}
-
-module _ {A : Type 0} (f : ℕ → A) where
-  pub tabulated : (a k : ℕ) (x : A) → List·Memᴰ x (tabulate f a k) → (i : ℕ) × (i < a + k) × (x ≡ f i)
-  unfolding tabulate
-  tabulated a zero x m = absurd (List·Memᴰ·not-nil m)
-  tabulated a (suc k) x m =
-      ⊎-elim
-      (λ e. (a, omega arith, e))
-      (λ t. let (i, l, e) = tabulated (suc a) k x t in (i, omega arith, e))
-      (List·Memᴰ·cases-cons m)
-
-  pub tabulate-has : (a k i : ℕ) → a ≤ i → i < a + k → List·Memᴰ (f i) (tabulate f a k)
-  unfolding tabulate
-  tabulate-has a zero i l m = absurd (omega arith)
-  tabulate-has a (suc k) i l m =
-      ⊎-elim (λ e. rw e (List·Memᴰ·head refl)) (λ t. List·Memᴰ·tail (tabulate-has (suc a) k i t (omega arith))) (eq-or-lt-of-le l)
 
 -- the first of the numbers from a on is the lowest, where none below a passes
 first-is-lowest : (f : ℕ → Bool) (a k : ℕ) → ((j : ℕ) → j < a → f j ≡ false)

@@ -2,7 +2,7 @@
 use mathlib.Core.Path.{_≡_, refl}
 use mathlib.Core.Bool.{Bool, true, false}
 use mathlib.Core.List.{List}
-use mathlib.Core.Logic.{_⊎_, inl, inr}
+use mathlib.Core.Logic.{_⊎_, inl, inr, _↔_}
 use Prim.Native.Nat.{ℕ}
 use native.Mathlib.Omega.{arith}
 use Rattle.model.specs.Refusal.{Refusal, Answer, given, refused, need, _>>=_, _>>_}
@@ -29,6 +29,11 @@ module _ {B : Type 0} {b : B} where
   unfolding _>>=_
   bind-inv (given a) f e = (a, refl, e)
   bind-inv (refused r) f e = absurd (not-both e)
+
+-- a test on the way held, and what is behind it gave the value
+pub need-iff : {B : Type 0} (r : Refusal) (t : Bool) (x : Answer B) (b : B) → ((need r t >> x) ≡ given b) ↔ ((t ≡ true) × (x ≡ given b))
+unfolding need _>>_
+need-iff r t x b = (need-inv r t x, λ h. rw (h .0) (h .1))
 
 -- an answer is a value or a refusal
 pub which : {A : Type 0} (x : Answer A) → ((a : A) × (x ≡ given a)) ⊎ ((r : Refusal) × (x ≡ refused r))

@@ -11,7 +11,8 @@ use Rattle.laws.specs.Sets.{every, first, lowest}
 use Rattle.laws.specs.Lists.{tabulate}
 use Rattle.laws.proofs.Tests.{clash, true-or-false, refute, and-both, and-join}
 use Rattle.laws.proofs.Sets.{any-hit, any-of, any-none, every-at, every-of, first-some, first-none, first-same}
-use Rattle.laws.proofs.Ranges.{tabulated, tabulate-has, first-lowest}
+use Rattle.laws.proofs.Lists.{mem-at, at-mem}
+use Rattle.laws.proofs.Ranges.{first-lowest}
 use Rattle.model.specs.Plan.{Plan, active, hasPolicy}
 use Rattle.model.specs.Verdict.{hits, forced}
 use Rattle.model.specs.Command.{tryOrder, choice}
@@ -20,7 +21,7 @@ use Rattle.model.specs.Command.{tryOrder, choice}
 
 module _ (P : Plan) (s : ℕ) where
   numbered : (c : ℕ) → List·Memᴰ c (tabulate (λ d. d) 0 (P .commands s)) → c < P .commands s
-  numbered c m = let (i, l, q) = tabulated (λ d. d) 0 (P .commands s) c m in omega arith
+  numbered c m = let (i, l, q) = at-mem (λ d. d) (P .commands s) m in omega arith
 
   -- every number tried is a command
   pub tried-command : (c : ℕ) → List·Memᴰ c (tryOrder P s) → c < P .commands s
@@ -37,7 +38,7 @@ module _ (P : Plan) (s : ℕ) where
   command-tried c l = ⊎-elim (λ e. rw e (List·Memᴰ·tail all)) (λ e. rw e all) (true-or-false (hasPolicy P s))
     where
       all : List·Memᴰ c (tabulate (λ d. d) 0 (P .commands s))
-      all = tabulate-has (λ d. d) 0 (P .commands s) c (omega arith) (omega arith)
+      all = mem-at (λ d. d) (P .commands s) c l
 
 -- ---- outcomes in a set
 

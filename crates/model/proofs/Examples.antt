@@ -5,13 +5,13 @@ use mathlib.Core.List.{List, [], _∷_, map}
 use Prim.Native.Nat.{ℕ}
 use Rattle.laws.specs.Sets.{any, first, every, orElse, lowest, found, grow}
 use Rattle.laws.specs.Lists.{tabulate, joined}
-use Rattle.laws.specs.Entry.{FFFF, entry, twos}
+use Rattle.laws.specs.Entry.{FFFF, entry}
 use Rattle.model.specs.Plan.{ordinary, failing, active, hasPolicy}
 use Rattle.model.specs.Verdict.{hits, forced, rank, lost, safe}
 use Rattle.model.specs.Command.{tryOrder, choice, chosen}
 use Rattle.model.specs.Policy.{risks, policyFails, fault, mark}
-use Rattle.model.specs.Refusal.{Cut, Surplus, Tag, Length, Beyond, Unsorted, Idle, Limit, Cramped, Unsound, Answer, given, refused, answer, _>>=_, need, _>>_}
-use Rattle.model.specs.File.{State, Tree, field, head, state, entries, rising, command, commands, states, read}
+use Rattle.model.specs.Refusal.{Cut, Surplus, Tag, Length, Beyond, Unsorted, Idle, Limit, given, refused, answer, _>>=_, need, _>>_}
+use Rattle.model.specs.File.{State, field, head, state, entries, rising, command, commands, states, read}
 use Rattle.model.specs.Tables.{Tables, allCommands, rowsFrom, firstsFrom, tablesOf}
 use Rattle.model.specs.Places.{rowAt, firstCommand, firstOutcome, commandCount}
 use Rattle.model.specs.SoundTest.{sizeSound, tablesLong, rowSound, risesAt, commandSound, outcomeSound, sound}

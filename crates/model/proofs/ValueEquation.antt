@@ -10,7 +10,7 @@ use Rattle.laws.specs.Sets.{grow}
 use Rattle.laws.specs.Lists.{tabulate}
 use Rattle.laws.proofs.Tests.{true-or-false}
 use Rattle.laws.proofs.Grow.{grow-all}
-use Rattle.laws.proofs.Ranges.{tabulated, tabulate-has}
+use Rattle.laws.proofs.Lists.{mem-at, at-mem}
 use Rattle.model.specs.Plan.{Plan, Valid, failing, active}
 use Rattle.model.specs.Verdict.{forced, lost}
 use Rattle.model.specs.Value.{successors, maximum, minimum, backup, Solves, value, LeastSolution}
@@ -73,7 +73,7 @@ module _ (P : Plan) (v : ℕ → ℕ) (s : ℕ) (act : active P s ≡ true) wher
 
   has : (c : ℕ) → c < P .commands s → List·Memᴰ (P .outcomes s c) sets
   unfolding sets
-  has c l = tabulate-has (P .outcomes s) 0 (P .commands s) c (omega arith) (omega arith)
+  has c l = mem-at (P .outcomes s) (P .commands s) c l
 
   -- every command has an outcome worth k or more
   backup-over : (k : ℕ) → ((c : ℕ) → c < P .commands s → (x : ℕ) × List·Memᴰ x (P .outcomes s c) × (k ≤ v x))
@@ -82,7 +82,7 @@ module _ (P : Plan) (v : ℕ → ℕ) (s : ℕ) (act : active P s ≡ true) wher
   backup-over k h =
       rw backup-active
       (minimum-over worst k sets (P .outcomes s 0) (has 0 (active-is P s act .1)) (λ xs m.
-      let (c, l, q) = tabulated (P .outcomes s) 0 (P .commands s) xs m in
+      let (c, l, q) = at-mem (P .outcomes s) (P .commands s) m in
       let (x, out, le) = h c (omega arith) in
       subst (λ ys. k ≤ worst ys) (sym q) (maximum-over v k (P .outcomes s c) x out le)))
 
