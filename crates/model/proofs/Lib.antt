@@ -28,5 +28,8 @@ pub mod Fine
 pub mod GoodTables
 pub mod Soundness
 pub mod Valid
+pub mod Answering
+pub mod RoundTrips
+pub mod Delivered
 pub mod Bench
-pub mod Examples
+pub mod BenchCases
