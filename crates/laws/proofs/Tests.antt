@@ -27,6 +27,14 @@ pub and-join : (a b : Bool) → a ≡ true → b ≡ true → a && b ≡ true
 and-join true b e f = f
 and-join false b e f = e
 
+pub and-false-left : (a b : Bool) → a ≡ false → a && b ≡ false
+and-false-left true b e = clash refl e
+and-false-left false b e = refl
+
+pub and-false-right : (a b : Bool) → b ≡ false → a && b ≡ false
+and-false-right true b e = e
+and-false-right false b e = refl
+
 pub or-cases : (a b : Bool) → a || b ≡ true → (a ≡ true) ⊎ (b ≡ true)
 or-cases true b e = inl refl
 or-cases false b e = inr e

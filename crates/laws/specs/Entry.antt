@@ -33,5 +33,5 @@ entry none = FFFF
 entry (some i) = i
 
 -- how an entry is read
-unfoldable pub told : ℕ → Option ℕ
-told e = cond (eqb e FFFF) none (some e)
+unfoldable pub fromEntry : ℕ → Option ℕ
+fromEntry e = cond (eqb e FFFF) none (some e)

@@ -1,5 +1,5 @@
--- When each call answers: with a plan that is right and tables that are long enough, and only then. "9 comes only if a table is shorter."
-use mathlib.Core.Path.{_≡_, refl, sym, ap, _∙_}
+-- When each call answers: with a file or plan that is right and tables that are long enough, and only then.
+use mathlib.Core.Path.{_≡_, ap}
 use mathlib.Core.Bool.{Bool, true, _&&_}
 use mathlib.Core.Logic.{_↔_}
 use mathlib.Core.List.{List}
@@ -17,7 +17,7 @@ use Rattle.model.specs.Held.{treeOf, planIn}
 use Rattle.model.specs.Calls.{reading, writing, deciding, searching}
 use Rattle.model.proofs.Answers.{given-inj, need-iff, bind-inv}
 
-pub record Read (rows firsts outcomes : ℕ) (file : List ℕ) (T : Tables) : Type 0 where
+pub record ReadAnswers (rows firsts outcomes : ℕ) (file : List ℕ) (T : Tables) : Type 0 where
   pub tree : Tree
   pub reads : read file ≡ given tree
   pub is : tablesOf tree ≡ T
@@ -33,7 +33,7 @@ module _ (rows firsts outcomes : ℕ) where
   unfolding enough
   enough-iff T = (λ e. simp (and-iff, leb-iff) at e, λ h. simp (and-iff, leb-iff) h)
 
-  pub reading-iff : (file : List ℕ) (T : Tables) → (reading rows firsts outcomes file ≡ given T) ↔ Read rows firsts outcomes file T
+  pub reading-iff : (file : List ℕ) (T : Tables) → (reading rows firsts outcomes file ≡ given T) ↔ ReadAnswers rows firsts outcomes file T
   unfolding reading _>>=_ enough
   reading-iff file T = (
     λ e.
@@ -47,12 +47,12 @@ module _ (rows firsts outcomes : ℕ) where
         rw (h .reads) (need-iff _ _ _ _ .1 (rw (h .is) long, ap given (h .is))),
   )
 
-pub record Written (T : Tables) (bytes : ℕ) (file : List ℕ) : Type 0 where
+pub record WriteAnswers (T : Tables) (bytes : ℕ) (file : List ℕ) : Type 0 where
   pub sounds : sound T ≡ true
   pub long : fileLength (T .size) ≤ bytes
   pub is : bytesOf (treeOf T) ≡ file
 
-pub writing-iff : (T : Tables) (bytes : ℕ) (file : List ℕ) → (writing T bytes ≡ given file) ↔ Written T bytes file
+pub writing-iff : (T : Tables) (bytes : ℕ) (file : List ℕ) → (writing T bytes ≡ given file) ↔ WriteAnswers T bytes file
 unfolding writing
 writing-iff T bytes file = (
   λ e.
@@ -62,7 +62,7 @@ writing-iff T bytes file = (
   λ h. need-iff _ _ _ _ .1 (h .sounds, need-iff _ _ _ _ .1 (leb-iff _ _ .1 (h .long), ap given (h .is))),
 )
 
-pub record Decided (T : Tables) (ranks commands marks scratch : ℕ) (P : Plan) : Type 0 where
+pub record DecideAnswers (T : Tables) (ranks commands marks scratch : ℕ) (P : Plan) : Type 0 where
   pub sounds : sound T ≡ true
   pub long-ranks : T .size .n ≤ ranks
   pub long-commands : T .size .n ≤ commands
@@ -71,7 +71,7 @@ pub record Decided (T : Tables) (ranks commands marks scratch : ℕ) (P : Plan) 
   pub is : planIn T ≡ P
 
 pub deciding-iff : (T : Tables) (ranks commands marks scratch : ℕ) (P : Plan)
-    → (deciding T ranks commands marks scratch ≡ given P) ↔ Decided T ranks commands marks scratch P
+    → (deciding T ranks commands marks scratch ≡ given P) ↔ DecideAnswers T ranks commands marks scratch P
 unfolding deciding
 deciding-iff T ranks commands marks scratch P = (
   λ e.
@@ -89,7 +89,7 @@ deciding-iff T ranks commands marks scratch P = (
       ),
 )
 
-pub record Searched (T : Tables) (start commands scratch : ℕ) (R : Result) : Type 0 where
+pub record SearchAnswers (T : Tables) (start commands scratch : ℕ) (R : Result) : Type 0 where
   pub sounds : sound T ≡ true
   pub inside : start < T .size .n
   pub long-commands : T .size .n ≤ commands
@@ -97,7 +97,7 @@ pub record Searched (T : Tables) (start commands scratch : ℕ) (R : Result) : T
   pub is : search (planIn T) start ≡ R
 
 pub searching-iff : (T : Tables) (start commands scratch : ℕ) (R : Result)
-    → (searching T start commands scratch ≡ given R) ↔ Searched T start commands scratch R
+    → (searching T start commands scratch ≡ given R) ↔ SearchAnswers T start commands scratch R
 unfolding searching
 searching-iff T start commands scratch R = (
   λ e.

@@ -5,7 +5,7 @@ use mathlib.Core.List.{List}
 use mathlib.Core.Logic.{_⊎_, inl, inr, _↔_}
 use Prim.Native.Nat.{ℕ}
 use native.Mathlib.Omega.{arith}
-use Rattle.model.specs.Refusal.{Refusal, Answer, given, refused, need, _>>=_, _>>_}
+use Rattle.model.specs.Refusal.{Refusal, Answer, given, refused, answer, need, _>>=_, _>>_}
 use Rattle.model.specs.File.{Tree, read}
 
 pub not-both : {A : Type 0} {r : Refusal} {a : A} → refused r ≡ given a → ⊥
@@ -34,6 +34,12 @@ module _ {B : Type 0} {b : B} where
 pub need-iff : {B : Type 0} (r : Refusal) (t : Bool) (x : Answer B) (b : B) → ((need r t >> x) ≡ given b) ↔ ((t ≡ true) × (x ≡ given b))
 unfolding need _>>_
 need-iff r t x b = (need-inv r t x, λ h. rw (h .0) (h .1))
+
+-- a value that was changed comes from one that was answered
+pub answer-inv : {A B : Type 0} (f : A → B) (x : Answer A) (b : B) → answer f x ≡ given b → (a : A) × (x ≡ given a) × (f a ≡ b)
+unfolding answer
+answer-inv f (given a) b e = (a, refl, given-inj e)
+answer-inv f (refused r) b e = absurd (not-both e)
 
 -- an answer is a value or a refusal
 pub which : {A : Type 0} (x : Answer A) → ((a : A) × (x ≡ given a)) ⊎ ((r : Refusal) × (x ≡ refused r))

@@ -1,23 +1,25 @@
 -- Small cases, computed: where a definition could be misread, what it gives.
 use mathlib.Core.Path.{_≡_, refl}
-use mathlib.Core.Bool.{true, false}
-use mathlib.Core.List.{List, [], _∷_, map}
+use mathlib.Core.Bool.{true, false, cond}
+use mathlib.Core.List.{List, [], _∷_, _++_, map}
 use Prim.Native.Nat.{ℕ}
-use Rattle.laws.specs.Sets.{any, first, every, orElse, lowest, found, grow}
-use Rattle.laws.specs.Lists.{tabulate, joined}
+use lib.ListN.{length}
+use Rattle.laws.specs.Sets.{any, first, every, exists, orElse, lowest, found, howMany, grow}
+use Rattle.laws.specs.Lists.{tabulate, joined, overwrite}
 use Rattle.laws.specs.Entry.{FFFF, entry}
-use Rattle.model.specs.Plan.{ordinary, failing, active, hasPolicy}
+use Rattle.model.specs.Plan.{ordinary, failing, active, terminal, hasPolicy}
 use Rattle.model.specs.Verdict.{hits, forced, rank, lost, safe}
 use Rattle.model.specs.Command.{tryOrder, choice, chosen}
-use Rattle.model.specs.Policy.{risks, policyFails, fault, mark}
-use Rattle.model.specs.Refusal.{Cut, Surplus, Tag, Length, Beyond, Unsorted, Idle, Limit, given, refused, answer, _>>=_, need, _>>_}
+use Rattle.model.specs.Policy.{risks, policyFails, fault, mark, tallyRow, tally}
+use Rattle.model.specs.Search.{lands, next, marked, withoutMarks, ends, before, atOnce, inRounds, search}
+use Rattle.model.specs.Refusal.{Cut, Surplus, Tag, Length, Beyond, Unsorted, Idle, Limit, Cramped, Unsound, Stranger, given, refused, answer, _>>=_, need, _>>_}
 use Rattle.model.specs.File.{State, field, head, state, entries, rising, command, commands, states, read}
 use Rattle.model.specs.Tables.{Tables, allCommands, rowsFrom, firstsFrom, tablesOf}
-use Rattle.model.specs.Places.{rowAt, firstCommand, firstOutcome, commandCount}
+use Rattle.model.specs.Places.{rowAt, firstCommand, firstOutcome, commandCount, outcomesAt}
 use Rattle.model.specs.SoundTest.{sizeSound, tablesLong, rowSound, risesAt, commandSound, outcomeSound, sound}
-use Rattle.model.specs.Held.{stateOf, planOf}
-use Rattle.model.specs.Calls.{reading, rankTable, commandTable, markTable}
-use Rattle.model.specs.Boundary.{entriesIn, rowsIn, rowEntries, tablesIn, gateRead, returned}
+use Rattle.model.specs.Held.{stateAt, treeOf, stateOf, planOf, planIn}
+use Rattle.model.specs.Calls.{left, reading, deciding, searching, rankTable, commandTable, markTable, resultTable, cleared, decideCall, searchCall}
+use Rattle.model.specs.Boundary.{entriesIn, rowsIn, rowEntries, tablesIn, gateRead, code}
 use Rattle.model.specs.Bench.{oneRest}
 use Rattle.model.specs.Listing.{digitPair, digitPairs, pairAt, digits, decimal}
 
@@ -25,6 +27,9 @@ use Rattle.model.specs.Listing.{digitPair, digitPairs, pairAt, digits, d
 
 abbrev acting : ℕ → List (List ℕ) → State
 acting policy commands = record { kind = 0; policy = policy; commands = commands }
+
+abbrev rest : State
+rest = record { kind = 2; policy = FFFF; commands = [] }
 
 abbrev failed : State
 failed = record { kind = 1; policy = FFFF; commands = [] }
@@ -47,6 +52,21 @@ verdict-examples : map verdicts (
     ∷ []
 unfolding any first every orElse lowest found grow tabulate entry ordinary failing active hasPolicy hits forced rank lost safe tryOrder choice chosen risks policyFails fault mark stateOf planOf rankTable commandTable markTable
 verdict-examples = refl
+
+-- ---- the search: verdict, rounds and commands, from a start
+
+abbrev searched : List State → ℕ → List ℕ
+searched ss a = let R = search (planOf (record { start = 0; states = ss })) a in cond (R .lost) 1 0 ∷ R .rounds ∷ resultTable (length ss) R
+
+-- The leaking ring of three is lost from each of its places, after 3, 2 and 1 rounds; the one that holds is safe after one round.
+-- A failing start, a rest start and a start without commands take no round.
+search-examples : map (searched (acting FFFF ((1 ∷ []) ∷ []) ∷ acting FFFF ((2 ∷ []) ∷ []) ∷ acting FFFF ((0 ∷ 3 ∷ []) ∷ []) ∷ failed ∷ [])) (0 ∷ 1 ∷ 2 ∷ 3 ∷ [])
+    ++ map (searched (acting FFFF ((1 ∷ []) ∷ []) ∷ acting FFFF ((0 ∷ []) ∷ []) ∷ acting FFFF [] ∷ rest ∷ [])) (0 ∷ 2 ∷ 3 ∷ [])
+    ≡ (1 ∷ 3 ∷ FFFF ∷ FFFF ∷ FFFF ∷ FFFF ∷ []) ∷ (1 ∷ 2 ∷ FFFF ∷ FFFF ∷ FFFF ∷ FFFF ∷ []) ∷ (1 ∷ 1 ∷ FFFF ∷ FFFF ∷ FFFF ∷ FFFF ∷ []) ∷ (1 ∷ 0 ∷ FFFF ∷ FFFF ∷ FFFF ∷ FFFF ∷ [])
+    ∷ (0 ∷ 1 ∷ 0 ∷ 0 ∷ FFFF ∷ FFFF ∷ []) ∷ (0 ∷ 0 ∷ FFFF ∷ FFFF ∷ FFFF ∷ FFFF ∷ []) ∷ (0 ∷ 0 ∷ FFFF ∷ FFFF ∷ FFFF ∷ FFFF ∷ [])
+    ∷ []
+unfolding any first every exists orElse lowest found grow tabulate entry ordinary failing active terminal hasPolicy hits tryOrder choice lands next marked withoutMarks ends before atOnce inRounds search stateOf planOf resultTable
+search-examples = refl
 
 -- ---- reading: the order of the checks
 
@@ -89,7 +109,7 @@ reading-examples = refl
 
 -- ---- soundness
 
--- one rest state with the numbers n, m, t, start, its row, first outcomes and outcomes
+-- tables with the numbers n, m, t, start; three entries a row
 abbrev lent : ℕ → ℕ → ℕ → ℕ → List ℕ → List ℕ → List ℕ → Tables
 lent n m t start rows firsts outcomes =
     record { size = record { n = n; m = m; t = t; start = start }; rows = rowsIn rows; firsts = firsts; outcomes = outcomes }
@@ -113,11 +133,47 @@ sound-examples : map sound (
 unfolding every rowAt firstCommand firstOutcome commandCount sizeSound tablesLong rowSound risesAt commandSound outcomeSound sound rowsIn
 sound-examples = refl
 
+-- ---- the calls: what is answered, and every lent table afterwards
+
+-- a state that steps to itself, with places to spare in every table; then with a table one place short
+abbrev loop : Tables
+loop = lent 1 1 1 0 (0 ∷ 0 ∷ 0 ∷ []) (0 ∷ []) (0 ∷ [])
+
+decide-example : decideCall loop (7 ∷ 7 ∷ []) (7 ∷ 7 ∷ []) (7 ∷ 7 ∷ []) (7 ∷ 7 ∷ []) ≡ record {
+  answers = given ((1 ∷ 0 ∷ 0 ∷ []) ∷ (0 ∷ 0 ∷ 0 ∷ []) ∷ []);
+  ranks = FFFF ∷ 7 ∷ [];
+  commands = 0 ∷ 7 ∷ [];
+  marks = 0 ∷ 7 ∷ [];
+  scratch = 0 ∷ 7 ∷ [];
+}
+unfolding any first every orElse lowest found howMany grow tabulate overwrite entry ordinary failing active hasPolicy hits forced rank lost safe tryOrder choice chosen risks policyFails fault mark tallyRow tally answer _>>=_ need _>>_ rowAt firstCommand firstOutcome commandCount outcomesAt sizeSound tablesLong rowSound risesAt commandSound outcomeSound sound stateAt treeOf stateOf planOf planIn rowsIn left deciding rankTable commandTable markTable cleared
+decide-example = refl
+
+decide-cramped : decideCall loop (7 ∷ []) (7 ∷ []) (7 ∷ []) [] ≡ record {
+  answers = refused Cramped;
+  ranks = 7 ∷ [];
+  commands = 7 ∷ [];
+  marks = 7 ∷ [];
+  scratch = [];
+}
+unfolding every answer need _>>_ rowAt firstCommand firstOutcome commandCount sizeSound tablesLong rowSound risesAt commandSound outcomeSound sound rowsIn left deciding
+decide-cramped = refl
+
+search-example : searchCall loop 0 (7 ∷ 7 ∷ []) (7 ∷ 7 ∷ []) ≡ record { answers = given (false, 1); commands = 0 ∷ 7 ∷ []; scratch = 0 ∷ 7 ∷ [] }
+unfolding any first every exists orElse lowest found grow tabulate overwrite entry ordinary failing active terminal hasPolicy hits tryOrder choice lands next marked withoutMarks ends before atOnce inRounds search answer _>>=_ need _>>_ rowAt firstCommand firstOutcome commandCount outcomesAt sizeSound tablesLong rowSound risesAt commandSound outcomeSound sound stateAt treeOf stateOf planOf planIn rowsIn left searching resultTable cleared
+search-example = refl
+
+-- the order of refusals: an unsound plan, a stranger and a short table; then without the first; then the last alone
+search-refusals : searchCall (lent 1 1 2 0 (0 ∷ 0 ∷ 0 ∷ []) (0 ∷ []) (0 ∷ [])) 1 [] [] .answers ∷ searchCall loop 1 [] [] .answers ∷ searchCall loop 0 [] [] .answers ∷ []
+    ≡ refused Unsound ∷ refused Stranger ∷ refused Cramped ∷ []
+unfolding every answer need _>>_ rowAt firstCommand firstOutcome commandCount sizeSound tablesLong rowSound risesAt commandSound outcomeSound sound rowsIn searching
+search-refusals = refl
+
 -- ---- the C boundary
 
 -- a byte left over is no entry, entries left over are no row, and what is taken out is what was put in
 encodings : entriesIn (1 ∷ 2 ∷ 255 ∷ 255 ∷ 9 ∷ []) ≡ 0x102 ∷ FFFF ∷ []
-unfolding entriesIn
+unfolding entriesIn entries
 encodings = refl
 
 rows-again : rowEntries (rowsIn (0 ∷ 1 ∷ FFFF ∷ 2 ∷ 3 ∷ 4 ∷ 5 ∷ [])) ≡ 0 ∷ 1 ∷ FFFF ∷ 2 ∷ 3 ∷ 4 ∷ []
@@ -125,10 +181,10 @@ unfolding rowEntries rowsIn
 rows-again = refl
 
 -- one rest state read with slices that hold it, with a row one byte short, and with a size record one byte short; a size record lent in one byte short
-short-slices : returned (gateRead oneRest 8 6 0 0) ∷ returned (gateRead oneRest 8 5 0 0) ∷ returned (gateRead oneRest 7 6 0 0)
-    ∷ returned (tablesIn (0 ∷ 1 ∷ 0 ∷ 0 ∷ 0 ∷ 0 ∷ 0 ∷ []) [] [] []) ∷ []
+short-slices : code (gateRead oneRest 8 6 0 0) ∷ code (gateRead oneRest 8 5 0 0) ∷ code (gateRead oneRest 7 6 0 0)
+    ∷ code (tablesIn (0 ∷ 1 ∷ 0 ∷ 0 ∷ 0 ∷ 0 ∷ 0 ∷ []) [] [] []) ∷ []
     ≡ 0 ∷ 9 ∷ 9 ∷ 10 ∷ []
-unfolding returned gateRead tablesIn reading _>>=_ need _>>_ read head field states state commands allCommands rowsFrom firstsFrom tablesOf joined
+unfolding code gateRead tablesIn reading _>>=_ need _>>_ read head field states state commands allCommands rowsFrom firstsFrom tablesOf joined
 short-slices = refl
 
 -- ---- decimal numbers

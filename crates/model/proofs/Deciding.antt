@@ -13,7 +13,7 @@ use Rattle.model.specs.Verdict.{forced, layer, rank, lost}
 use Rattle.model.specs.Command.{choice, chosen}
 use Rattle.model.specs.Run.{Move, Run, still, _▸_, present, moves, CanMove, IsRun, RunHolds}
 use Rattle.model.specs.Strategy.{Strategy, Under, Total, Fails, Survives, positional}
-use Rattle.model.specs.Demand3.{Decided, reading}
+use Rattle.model.specs.Demand3.{Decided, readEntry}
 use Rattle.model.proofs.StateKinds.{active-is, active-of}
 use Rattle.model.proofs.Choices.{hits-is, misses, forced-is, forced-of, choice-some, choice-none}
 use Rattle.model.proofs.Layers.{layer-step, not-failing, not-forced, rank-some, lost-rank, rank-safe, safe-stands, safe-takes, chosen-choice}
@@ -166,8 +166,8 @@ module _ (P : Plan) (s r : ℕ) where
 -- ---- the claim
 
 module _ (P : Plan) (S : Valid P) (ranks commands : List ℕ)
-    (is-rank : (t : ℕ) → t < P .states → reading ranks t ≡ rank P t)
-    (is-chosen : (t : ℕ) → t < P .states → reading commands t ≡ chosen P t)
+    (is-rank : (t : ℕ) → t < P .states → readEntry ranks t ≡ rank P t)
+    (is-chosen : (t : ℕ) → t < P .states → readEntry commands t ≡ chosen P t)
     (s : ℕ) (l : s < P .states) where
   pub decided : Decided P ranks commands s
   unfolding lost
@@ -177,22 +177,22 @@ module _ (P : Plan) (S : Valid P) (ranks commands : List ℕ)
       λ h. rw (is-rank s l) (⊎-elim (λ e. e) (λ e. absurd (spared e (h rule (total e)))) (true-or-false (lost P s))),
     );
     returned = λ e. total (kept e);
-    holds = λ e w i u k. chosen-holds P S (reading commands) is-chosen s l (kept e) w i u;
+    holds = λ e w i u k. chosen-holds P S (readEntry commands) is-chosen s l (kept e) w i u;
     within = λ r e ρ T. rank-within P s ρ T r (ranked r e);
     delays = λ r e pos. (delaying P s r, delaying-total P s r, delaying-survives P s r (ranked r e) pos);
   }
     where
       rule : Strategy
-      rule = positional (reading commands) s
+      rule = positional (readEntry commands) s
 
-      ranked : (r : ℕ) → reading ranks s ≡ some r → rank P s ≡ some r
+      ranked : (r : ℕ) → readEntry ranks s ≡ some r → rank P s ≡ some r
       ranked r e = sym (is-rank s l) ∙ e
 
-      kept : reading ranks s ≡ none → lost P s ≡ false
+      kept : readEntry ranks s ≡ none → lost P s ≡ false
       kept e = rank-safe P s (sym (is-rank s l) ∙ e)
 
       total : lost P s ≡ false → Total P s rule
-      total = chosen-total P S (reading commands) is-chosen s l
+      total = chosen-total P S (readEntry commands) is-chosen s l
 
       spared : lost P s ≡ false → Fails P s rule → ⊥
-      spared = chosen-spared P S (reading commands) is-chosen s l
+      spared = chosen-spared P S (readEntry commands) is-chosen s l

@@ -7,40 +7,40 @@ use Prim.Native.Nat.{ℕ, _<_}
 use native.Mathlib.Omega.{arith}
 use lib.ListN.{getD}
 use borrow.Author.Tests.{ne-eqb}
-use Rattle.laws.specs.Entry.{FFFF, entry, told}
+use Rattle.laws.specs.Entry.{FFFF, entry, fromEntry}
 use Rattle.model.specs.Plan.{Plan, Valid}
 use Rattle.model.specs.Verdict.{rank, lost}
 use Rattle.model.specs.Command.{chosen}
 use Rattle.model.specs.Search.{search}
-use Rattle.model.specs.Demand3.{reading, Searched, Demand3}
+use Rattle.model.specs.Demand3.{readEntry, Searched, Demand3}
 use Rattle.model.proofs.Choices.{choice-some}
 use Rattle.model.proofs.Layers.{rank-bound, rank-safe, chosen-choice}
 use Rattle.model.proofs.Deciding.{decided}
 use Rattle.model.proofs.Searching.{Answers, search-answers}
 
-told-number : (i : ℕ) → i < 65535 → told i ≡ some i
-unfolding told
-told-number i l = rw (ne-eqb i 65535 (λ q. omega arith))
+from-number : (i : ℕ) → i < 65535 → fromEntry i ≡ some i
+unfolding fromEntry
+from-number i l = rw (ne-eqb i 65535 (λ q. omega arith))
 
 -- an entry is read as what it holds
-told-entry : (o : Option ℕ) → ((i : ℕ) → o ≡ some i → i < 65535) → told (entry o) ≡ o
-unfolding entry told
-told-entry none h = refl
-told-entry (some i) h = told-number i (h i refl)
+from-entry : (o : Option ℕ) → ((i : ℕ) → o ≡ some i → i < 65535) → fromEntry (entry o) ≡ o
+unfolding entry fromEntry
+from-entry none h = refl
+from-entry (some i) h = from-number i (h i refl)
 
 module _ (P : Plan) (S : Valid P) (few : P .states < 65535) (fit : (s : ℕ) → s < P .states → P .commands s < 65535)
     (ranks commands table : List ℕ)
     (is-rank : (s : ℕ) → s < P .states → getD ranks s FFFF ≡ entry (rank P s))
     (is-chosen : (s : ℕ) → s < P .states → getD commands s FFFF ≡ entry (chosen P s)) where
-  rank-read : (s : ℕ) → s < P .states → reading ranks s ≡ rank P s
-  unfolding reading
-  rank-read s l = ap told (is-rank s l) ∙ told-entry (rank P s) (λ r e. omega (arith, rank-bound P s r e))
+  rank-read : (s : ℕ) → s < P .states → readEntry ranks s ≡ rank P s
+  unfolding readEntry
+  rank-read s l = ap fromEntry (is-rank s l) ∙ from-entry (rank P s) (λ r e. omega (arith, rank-bound P s r e))
 
-  chosen-read : (s : ℕ) → s < P .states → reading commands s ≡ chosen P s
-  unfolding reading
+  chosen-read : (s : ℕ) → s < P .states → readEntry commands s ≡ chosen P s
+  unfolding readEntry
   chosen-read s l =
-      ap told (is-chosen s l)
-      ∙ told-entry (chosen P s) (λ c e. omega (arith, choice-some P (lost P) s c (sym (chosen-choice P S s l) ∙ e) .1, fit s l))
+      ap fromEntry (is-chosen s l)
+      ∙ from-entry (chosen P s) (λ c e. omega (arith, choice-some P (lost P) s c (sym (chosen-choice P S s l) ∙ e) .1, fit s l))
 
   module _ (a : ℕ) (in-plan : a < P .states)
       (is-command : (s : ℕ) → s < P .states → getD table s FFFF ≡ entry (search P a .command s)) where
@@ -59,7 +59,7 @@ module _ (P : Plan) (S : Valid P) (few : P .states < 65535) (fit : (s : ℕ) →
         answers : Answers P a (search P a)
         answers = search-answers P S a in-plan
 
-        kept : reading ranks a ≡ none → lost P a ≡ false
+        kept : readEntry ranks a ≡ none → lost P a ≡ false
         kept e = rank-safe P a (sym (rank-read a in-plan) ∙ e)
 
     pub demand3 : Demand3 P ranks commands a (search P a .lost) (search P a .rounds) table

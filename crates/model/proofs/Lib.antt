@@ -2,12 +2,14 @@ pub mod StateKinds
 pub mod Choices
 pub mod Layers
 pub mod ValueEquation
-pub mod Practice
+pub mod PolicyRuns
+pub mod Bugs
 pub mod Deciding
 pub mod Walks
 pub mod Rounds
 pub mod Searching
 pub mod Demands
+pub mod Widths
 pub mod Answers
 pub mod Fields
 pub mod Readings
@@ -29,6 +31,7 @@ pub mod GoodTables
 pub mod Soundness
 pub mod Valid
 pub mod Answering
+pub mod Refusing
 pub mod RoundTrips
 pub mod Delivered
 pub mod Bench

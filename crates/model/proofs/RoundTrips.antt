@@ -8,12 +8,13 @@ use Rattle.laws.specs.Entry.{Bytes}
 use Rattle.laws.specs.Lists.{overwrite}
 use Rattle.laws.proofs.Lists.{take-overwrite}
 use Rattle.laws.proofs.Parts.{length-heads}
-use Rattle.model.specs.Refusal.{given}
+use Rattle.model.specs.Refusal.{Answer, given, answer}
 use Rattle.model.specs.File.{Tree}
 use Rattle.model.specs.Bytes.{bytesOf}
-use Rattle.model.specs.Tables.{Row, Tables, Same, allCommands, tablesOf, fileLength}
+use Rattle.model.specs.Tables.{Size, Row, Tables, Same, allCommands, tablesOf, fileLength}
 use Rattle.model.specs.Held.{treeOf}
-use Rattle.model.specs.Calls.{left, reading, writing}
+use Rattle.model.specs.Calls.{left, reading, writing, readCall, writeCall}
+use Rattle.model.proofs.Answers.{answer-inv}
 use Rattle.model.proofs.Good.{read-good}
 use Rattle.model.proofs.ReadBack.{read-back}
 use Rattle.model.proofs.ReadForth.{read-forth}
@@ -24,69 +25,84 @@ use Rattle.model.proofs.TablesBack.{tables-back}
 use Rattle.model.proofs.GoodTables.{sound-good, good-sound}
 use Rattle.model.proofs.Answering.{reading-iff, writing-iff}
 
--- the size record answered, and the tables as a reading leaves them
-unfoldable pub afterReading : Tables → List Row → List ℕ → List ℕ → Tables
-afterReading T rows firsts outcomes = record {
-  size = T .size;
-  rows = left (λ U. U .rows) (given T) rows;
-  firsts = left (λ U. U .firsts) (given T) firsts;
-  outcomes = left (λ U. U .outcomes) (given T) outcomes;
-}
+-- a size record, and the tables as a reading of the file leaves them
+abbrev pub afterReading : Size → List ℕ → List Row → List ℕ → List ℕ → Tables
+afterReading z file rows firsts outcomes =
+    let after = readCall file rows firsts outcomes in
+    record { size = z; rows = after .rows; firsts = after .firsts; outcomes = after .outcomes }
 
 take-written : {A : Type 0} (xs l : List A) (k : ℕ) → length xs ≡ k → take k (overwrite xs l) ≡ take k xs
 take-written xs l k e = rw (← e) (take-overwrite xs l ∙ sym (take-length xs))
 
-module _ (p : Tree) (rows : List Row) (firsts outcomes : List ℕ) where
-  after-same : Same (afterReading (tablesOf p) rows firsts outcomes) (tablesOf p)
-  unfolding afterReading left tablesOf
-  after-same = record {
+module _ (file : List ℕ) (rows : List Row) (firsts outcomes : List ℕ) where
+  -- what a reading that answers leaves is the same as what the file gives
+  after-same : (T : Tables) → reading (length rows) (length firsts) (length outcomes) file ≡ given T → (p : Tree) → tablesOf p ≡ T
+      → Same (afterReading (T .size) file rows firsts outcomes) (tablesOf p)
+  unfolding left tablesOf
+  after-same T e p q = rw e (rw (← q) (record {
     size = refl;
     rows = take-written (tablesOf p .rows) rows _ (length-heads by-state 0 (p .states));
     firsts = take-written (tablesOf p .firsts) firsts _ (length-heads by-command 0 (allCommands (p .states)));
     outcomes = take-written (tablesOf p .outcomes) outcomes _ refl;
-  }
+  }))
 
--- "A plan file read without refusal and written again has the same bytes"
-pub read-write : (file : List ℕ) → Bytes file → (rows : List Row) (firsts outcomes : List ℕ) (T : Tables)
-    → reading (length rows) (length firsts) (length outcomes) file ≡ given T
-    → (bytes : ℕ) → length file ≤ bytes → writing (afterReading T rows firsts outcomes) bytes ≡ given file
-unfolding afterReading
-read-write file b rows firsts outcomes T e bytes h =
-    let r = reading-iff (length rows) (length firsts) (length outcomes) file T .0 e in
-    let p = r .tree in
-    let same : Same (afterReading T rows firsts outcomes) (tablesOf p)
-    = subst (λ (U : Tables). Same (afterReading U rows firsts outcomes) (tablesOf p)) (r .is) (after-same p rows firsts outcomes) in
-    let back : bytesOf p ≡ file = read-back file p b (r .reads) in
-    let count : fileLength (T .size) ≡ length file = sym (ap fileLength (ap (λ (U : Tables). U .size) (r .is))) ∙ sym (length-bytes p) ∙ ap length back in
-    writing-iff (afterReading T rows firsts outcomes) bytes file .1 (record {
-      sounds = good-sound _ p (read-good file p (r .reads)) same;
-      long = rw count h;
-      is = ap bytesOf (held _ p same) ∙ back;
-    })
+  -- "A plan file read without refusal and written again has the same bytes": they stand at the front of what was lent, and their
+  -- number is answered
+  pub read-write : Bytes file → (z : Size) → readCall file rows firsts outcomes .answers ≡ given z
+      → (bytes : List ℕ) → length file ≤ length bytes
+      → writeCall (afterReading z file rows firsts outcomes) bytes ≡ record { answers = given (length file); bytes = overwrite file bytes }
+  unfolding answer left
+  read-write b z e bytes h =
+      let (T, answered, size) = answer-inv (λ (U : Tables). U .size) _ z e in
+      let r = reading-iff (length rows) (length firsts) (length outcomes) file T .0 answered in
+      let p = r .tree in
+      let same : Same (afterReading z file rows firsts outcomes) (tablesOf p) = rw size at (after-same T answered p (r .is)) in
+      let back : bytesOf p ≡ file = read-back file p b (r .reads) in
+      let count : fileLength z ≡ length file
+      = sym (ap fileLength (ap (λ (U : Tables). U .size) (r .is) ∙ size)) ∙ sym (length-bytes p) ∙ ap length back in
+      let written = writing-iff (afterReading z file rows firsts outcomes) (length bytes) file .1 (record {
+        sounds = good-sound _ p (read-good file p (r .reads)) same;
+        long = rw count h;
+        is = ap bytesOf (held _ p same) ∙ back;
+      }) in
+      rw written
 
--- "sound tables written and read again are the same tables"
-pub write-read : (T : Tables) (bytes : ℕ) (file : List ℕ) → writing T bytes ≡ given file
-    → (rows firsts outcomes : ℕ) → T .size .n ≤ rows → T .size .m ≤ firsts → T .size .t ≤ outcomes
-    → (U : Tables) × (reading rows firsts outcomes file ≡ given U) × Same T U
-write-read T bytes file e rows firsts outcomes long-rows long-firsts long-outcomes =
-    let w = writing-iff T bytes file .0 e in
+-- tables that are the same as a third are the same
+same-both : {T U W : Tables} → Same T W → Same U W → Same T U
+same-both a b = record {
+  size = a .size ∙ sym (b .size);
+  rows = a .rows ∙ sym (b .rows);
+  firsts = a .firsts ∙ sym (b .firsts);
+  outcomes = a .outcomes ∙ sym (b .outcomes);
+}
+
+front-is : (x : Answer (List ℕ)) (file bytes : List ℕ) (k : ℕ) → x ≡ given file → length file ≡ k → take k (left (λ f. f) x bytes) ≡ file
+unfolding left
+front-is x file bytes k e count = rw (e, ← count) (take-overwrite file bytes)
+
+-- "sound tables written and read again are the same tables": the file is what stands at the front of the bytes lent
+pub write-read : (T : Tables) (bytes : List ℕ) (k : ℕ) → writeCall T bytes .answers ≡ given k
+    → (rows : List Row) (firsts outcomes : List ℕ) → T .size .n ≤ length rows → T .size .m ≤ length firsts → T .size .t ≤ length outcomes
+    → (readCall (take k (writeCall T bytes .bytes)) rows firsts outcomes .answers ≡ given (T .size))
+    × Same T (afterReading (T .size) (take k (writeCall T bytes .bytes)) rows firsts outcomes)
+unfolding answer left
+write-read T bytes k e rows firsts outcomes long-rows long-firsts long-outcomes =
+    let (file, written, count) = answer-inv length (writing T (length bytes)) k e in
+    let w = writing-iff T (length bytes) file .0 written in
     let p = treeOf T in
     let same = tables-back T (w .sounds) in
-    let size = same .size in (
-      tablesOf p,
-      reading-iff rows firsts outcomes file (tablesOf p) .1 (record {
-        tree = p;
-        reads = rw (← (w .is)) (read-forth p (sound-good T (w .sounds)));
-        is = refl;
-        long-rows = rw size at long-rows;
-        long-firsts = rw size at long-firsts;
-        long-outcomes = rw size at long-outcomes;
-      }),
-      same,
-    )
-
--- the length answered is the file's
-pub written-length : (T : Tables) (bytes : ℕ) (file : List ℕ) → writing T bytes ≡ given file → length file ≡ fileLength (T .size)
-written-length T bytes file e =
-    let w = writing-iff T bytes file .0 e in
-    sym (ap length (w .is)) ∙ length-bytes (treeOf T) ∙ ap fileLength (sym (tables-back T (w .sounds) .size))
+    let size : T .size ≡ tablesOf p .size = same .size in
+    let front : take k (left (λ f. f) (writing T (length bytes)) bytes) ≡ file = front-is (writing T (length bytes)) file bytes k written count in
+    let again : reading (length rows) (length firsts) (length outcomes) file ≡ given (tablesOf p)
+    = reading-iff (length rows) (length firsts) (length outcomes) file (tablesOf p) .1 (record {
+      tree = p;
+      reads = rw (← (w .is)) (read-forth p (sound-good T (w .sounds)));
+      is = refl;
+      long-rows = rw size at long-rows;
+      long-firsts = rw size at long-firsts;
+      long-outcomes = rw size at long-outcomes;
+    }) in
+    let after : Same (afterReading (T .size) file rows firsts outcomes) (tablesOf p)
+    = subst (λ (z : Size). Same (afterReading z file rows firsts outcomes) (tablesOf p)) (sym size) (after-same file rows firsts outcomes (tablesOf p) again p refl) in
+    subst (λ (f : List ℕ). (readCall f rows firsts outcomes .answers ≡ given (T .size)) × Same T (afterReading (T .size) f rows firsts outcomes)) (sym front)
+    (rw again (ap given (sym size)), same-both same after)

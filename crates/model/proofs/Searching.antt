@@ -13,7 +13,7 @@ use Rattle.laws.proofs.Grow.{grow-more, grow-add, grow-first, grow-all}
 use Rattle.model.specs.Plan.{Plan, Valid, ordinary, failing, active}
 use Rattle.model.specs.Verdict.{lost}
 use Rattle.model.specs.Command.{chosen}
-use Rattle.model.specs.Search.{reached, marked, known, quiet, ends, before, Result, atOnce, inRounds, search, ordinaries}
+use Rattle.model.specs.Search.{reached, marked, known, withoutMarks, ends, before, Result, atOnce, inRounds, search, ordinaries}
 use Rattle.model.proofs.StateKinds.{Kind, fails, rests, acts, kind-of, active-is, active-stands}
 use Rattle.model.proofs.Choices.{forced-is, choice-idle}
 use Rattle.model.proofs.Layers.{forced-more, failing-lost, forced-lost, lost-cases, chosen-choice}
@@ -37,12 +37,12 @@ module _ (P : Plan) (a : ℕ) where
   known-fails : (j x : ℕ) → failing P x ≡ true → known P a j x ≡ true
   known-fails = grow-first (λ K. marked P K a) (failing P)
 
-  quiet-is : (j : ℕ) → quiet P a j ≡ true → (x : ℕ) → x < P .states → marked P (known P a j) a x ≡ false
-  unfolding quiet
+  quiet-is : (j : ℕ) → withoutMarks P a j ≡ true → (x : ℕ) → x < P .states → marked P (known P a j) a x ≡ false
+  unfolding withoutMarks
   quiet-is j e x l = not-true (marked P (known P a j) a x) (every-at (λ s. not (marked P (known P a j) a s)) (P .states) e x l)
 
-  quiet-of : (j : ℕ) → ((x : ℕ) → x < P .states → marked P (known P a j) a x ≡ false) → quiet P a j ≡ true
-  unfolding quiet
+  quiet-of : (j : ℕ) → ((x : ℕ) → x < P .states → marked P (known P a j) a x ≡ false) → withoutMarks P a j ≡ true
+  unfolding withoutMarks
   quiet-of j h = every-of (λ s. not (marked P (known P a j) a s)) (P .states) (λ x l. ap not (h x l))
 
   -- only lost states become known
@@ -73,7 +73,7 @@ module _ (P : Plan) (S : Valid P) (a : ℕ) (in-plan : a < P .states) (act : act
   by-known : (j : ℕ) → j ≤ ordinaries P → known P a j a ≡ true → Ended
   unfolding grow ends
   by-known zero l e = clash e (active-stands P a act)
-  by-known (suc i) l e = (i, omega arith, or-right (quiet P a i) (known P a (suc i) a) e)
+  by-known (suc i) l e = (i, omega arith, or-right (withoutMarks P a i) (known P a (suc i) a) e)
 
   -- a round that adds no ordinary state has no marks, unless the start is known
   by-still : (j : ℕ) → j < ordinaries P → Part (P .states) (counted P a (suc j)) (counted P a j) → Ended
@@ -81,7 +81,7 @@ module _ (P : Plan) (S : Valid P) (a : ℕ) (in-plan : a < P .states) (act : act
   by-still j l h =
       ⊎-elim
       (by-known j (omega arith))
-      (λ e. (j, l, or-left (quiet P a j) (known P a (suc j) a) (calm e)))
+      (λ e. (j, l, or-left (withoutMarks P a j) (known P a (suc j) a) (calm e)))
       (true-or-false (known P a j a))
     where
       again : known P a j a ≡ false → (x : ℕ) → x < P .states → marked P (known P a j) a x ≡ true → ⊥
@@ -92,7 +92,7 @@ module _ (P : Plan) (S : Valid P) (a : ℕ) (in-plan : a < P .states) (act : act
           clash (counted-is P a j x (h x m (counted-of P a (suc j) x o k)) .1)
           (reached-unknown P S (known P a j) a in-plan (known-fails P a j) e x w .1)
 
-      calm : known P a j a ≡ false → quiet P a j ≡ true
+      calm : known P a j a ≡ false → withoutMarks P a j ≡ true
       calm e = quiet-of P a j (λ x m. refute (marked P (known P a j) a x) (again e x m))
 
   -- where as many ordinary states are known as there are, the start is
@@ -141,7 +141,7 @@ module _ (P : Plan) (S : Valid P) (a : ℕ) (in-plan : a < P .states) (act : act
     unfolding ends
     no-marks x l =
         ⊎-elim (λ h. quiet-is P a (before P a) h x l) (λ h. clash h open-start)
-        (or-cases (quiet P a (before P a)) (End a) (lowest-some (ends P a) (P .states) (before P a) last-round .1))
+        (or-cases (withoutMarks P a (before P a)) (End a) (lowest-some (ends P a) (P .states) (before P a) last-round .1))
 
     unknown : Last a ≡ false
     unknown = refute (Last a) (λ t. clash (known-grows P a (before P a) a t) open-start)

@@ -1,7 +1,7 @@
 -- The calls of the gate controller's C program (document 01, "Refusal table"): numbers and byte slices.
 use mathlib.Core.Bool.{cond}
 use mathlib.Core.List.{List, [], _∷_}
-use Prim.Native.Nat.{ℕ, _+_, _*_, _/_}
+use Prim.Native.Nat.{ℕ, _/_}
 use lib.Dec.{leb}
 use lib.ListN.{length}
 use Rattle.laws.specs.Lists.{joined}
@@ -11,15 +11,14 @@ use Rattle.model.specs.Policy.{tally}
 use Rattle.model.specs.Search.{Result}
 use Rattle.model.specs.Refusal.{Cramped, Unsound, Answer, given, refused, number, need, _>>=_, _>>_}
 use Rattle.model.specs.Tables.{Size, Row, Tables}
-use Rattle.model.specs.Calls.{reading, deciding, searching}
+use Rattle.model.specs.File.{entries}
+use Rattle.model.specs.Calls.{left, reading, deciding, searching, rankTable, commandTable, markTable, resultTable, cleared}
 
 -- ---- encodings
 
 -- "An entry there is two bytes, highest first": the entries of a slice; a byte left over at its end is no entry
 unfoldable pub entriesIn : List ℕ → List ℕ
-entriesIn [] = []
-entriesIn (h ∷ []) = []
-entriesIn (h ∷ l ∷ r) = (h * 256 + l) ∷ entriesIn r
+entriesIn s = entries (length s / 2) s
 
 -- the bytes of entries
 abbrev pub bytesFor : List ℕ → List ℕ
@@ -49,9 +48,9 @@ unfoldable pub resultEntries : Result → List ℕ
 resultEntries R = cond (R .lost) 1 0 ∷ R .rounds ∷ []
 
 -- "Each call returns 0 or the refusal number."
-unfoldable pub returned : {A : Type 0} → Answer A → ℕ
-returned (given a) = 0
-returned (refused r) = number r
+unfoldable pub code : {A : Type 0} → Answer A → ℕ
+code (given a) = 0
+code (refused r) = number r
 
 -- ---- the calls, on the slices lent in and the lengths in bytes of those written
 
@@ -80,9 +79,67 @@ gateDecide lent ranks commands marks scratch tally = do
   need Cramped (leb 12 tally)
   given P
 
-unfoldable pub gateSearch : Answer Tables → ℕ → ℕ → ℕ → ℕ → Answer Result
+-- with the count of states that the command table is to hold
+unfoldable pub gateSearch : Answer Tables → ℕ → ℕ → ℕ → ℕ → Answer (ℕ × Result)
 gateSearch lent start commands scratch answer = do
   T ← lent
   R ← searching T start (commands / 2) (scratch / 2)
   need Cramped (leb 4 answer)
-  given R
+  given (T .size .n, R)
+
+-- ---- what each call returns and what every slice lent to it holds afterwards, for all bytes lent
+
+pub record AfterGateRead : Type 0 where
+  pub returns : ℕ
+  pub size : List ℕ
+  pub rows : List ℕ
+  pub firsts : List ℕ
+  pub outcomes : List ℕ
+
+abbrev pub gateReadCall : List ℕ → List ℕ → List ℕ → List ℕ → List ℕ → AfterGateRead
+gateReadCall file size rows firsts outcomes =
+    let a = gateRead file (length size) (length rows) (length firsts) (length outcomes) in
+    record {
+      returns = code a;
+      size = left (λ T. bytesFor (sizeEntries (T .size))) a size;
+      rows = left (λ T. bytesFor (rowEntries (T .rows))) a rows;
+      firsts = left (λ T. bytesFor (T .firsts)) a firsts;
+      outcomes = left (λ T. bytesFor (T .outcomes)) a outcomes;
+    }
+
+pub record AfterGateDecide : Type 0 where
+  pub returns : ℕ
+  pub ranks : List ℕ
+  pub commands : List ℕ
+  pub marks : List ℕ
+  pub scratch : List ℕ
+  pub tally : List ℕ
+
+-- the plan lent in is `tablesIn` of its slices
+abbrev pub gateDecideCall : Answer Tables → List ℕ → List ℕ → List ℕ → List ℕ → List ℕ → AfterGateDecide
+gateDecideCall lent ranks commands marks scratch tally =
+    let a = gateDecide lent (length ranks) (length commands) (length marks) (length scratch) (length tally) in
+    record {
+      returns = code a;
+      ranks = left (λ P. bytesFor (rankTable P)) a ranks;
+      commands = left (λ P. bytesFor (commandTable P)) a commands;
+      marks = left (λ P. bytesFor (markTable P)) a marks;
+      scratch = left (λ P. bytesFor (cleared (P .states))) a scratch;
+      tally = left (λ P. bytesFor (tallyEntries P)) a tally;
+    }
+
+pub record AfterGateSearch : Type 0 where
+  pub returns : ℕ
+  pub commands : List ℕ
+  pub scratch : List ℕ
+  pub answer : List ℕ
+
+abbrev pub gateSearchCall : Answer Tables → ℕ → List ℕ → List ℕ → List ℕ → AfterGateSearch
+gateSearchCall lent start commands scratch answer =
+    let a = gateSearch lent start (length commands) (length scratch) (length answer) in
+    record {
+      returns = code a;
+      commands = left (λ x. bytesFor (resultTable (x .0) (x .1))) a commands;
+      scratch = left (λ x. bytesFor (cleared (x .0))) a scratch;
+      answer = left (λ x. bytesFor (resultEntries (x .1))) a answer;
+    }

@@ -1,20 +1,20 @@
 -- What each call answers, and what it leaves in the tables it is lent (document 01, "Refusal table").
-use mathlib.Core.Bool.{_&&_}
+use mathlib.Core.Bool.{Bool, _&&_}
 use mathlib.Core.List.{List}
 use Prim.Native.Nat.{ℕ}
 use lib.Dec.{leb, ltb}
-use lib.ListN.{replicate}
+use lib.ListN.{length, replicate}
 use Rattle.laws.specs.Lists.{tabulate, overwrite}
 use Rattle.laws.specs.Entry.{entry}
 use Rattle.model.specs.Plan.{Plan}
 use Rattle.model.specs.Verdict.{rank}
 use Rattle.model.specs.Command.{chosen}
-use Rattle.model.specs.Policy.{mark}
+use Rattle.model.specs.Policy.{mark, tally}
 use Rattle.model.specs.Search.{Result, search}
-use Rattle.model.specs.Refusal.{Cramped, Unsound, Stranger, Answer, given, refused, need, _>>=_, _>>_}
+use Rattle.model.specs.Refusal.{Cramped, Unsound, Stranger, Answer, given, refused, answer, need, _>>=_, _>>_}
 use Rattle.model.specs.File.{read}
 use Rattle.model.specs.Bytes.{bytesOf}
-use Rattle.model.specs.Tables.{Tables, tablesOf, fileLength}
+use Rattle.model.specs.Tables.{Size, Row, Tables, tablesOf, fileLength}
 use Rattle.model.specs.SoundTest.{sound}
 use Rattle.model.specs.Held.{treeOf, planIn}
 
@@ -70,3 +70,66 @@ resultTable n R = tabulate (λ s. entry (R .command s)) 0 n
 -- "scratch is zero in its first n places"
 unfoldable pub cleared : ℕ → List ℕ
 cleared n = replicate n 0
+
+-- ---- what each call answers and what every table lent to it holds afterwards, for every input
+
+pub record AfterRead : Type 0 where
+  pub answers : Answer Size
+  pub rows : List Row
+  pub firsts : List ℕ
+  pub outcomes : List ℕ
+
+-- "Reading answers the size record"
+abbrev pub readCall : List ℕ → List Row → List ℕ → List ℕ → AfterRead
+readCall file rows firsts outcomes =
+    let a = reading (length rows) (length firsts) (length outcomes) file in
+    record {
+      answers = answer (λ T. T .size) a;
+      rows = left (λ T. T .rows) a rows;
+      firsts = left (λ T. T .firsts) a firsts;
+      outcomes = left (λ T. T .outcomes) a outcomes;
+    }
+
+pub record AfterWrite : Type 0 where
+  pub answers : Answer ℕ
+  pub bytes : List ℕ
+
+-- "writing the file's length"
+abbrev pub writeCall : Tables → List ℕ → AfterWrite
+writeCall T bytes =
+    let a = writing T (length bytes) in
+    record { answers = answer length a; bytes = left (λ file. file) a bytes }
+
+pub record AfterDecide : Type 0 where
+  pub answers : Answer (List (List ℕ))
+  pub ranks : List ℕ
+  pub commands : List ℕ
+  pub marks : List ℕ
+  pub scratch : List ℕ
+
+-- "and answers the tally"
+abbrev pub decideCall : Tables → List ℕ → List ℕ → List ℕ → List ℕ → AfterDecide
+decideCall T ranks commands marks scratch =
+    let a = deciding T (length ranks) (length commands) (length marks) (length scratch) in
+    record {
+      answers = answer tally a;
+      ranks = left rankTable a ranks;
+      commands = left commandTable a commands;
+      marks = left markTable a marks;
+      scratch = left (λ P. cleared (P .states)) a scratch;
+    }
+
+pub record AfterSearch : Type 0 where
+  pub answers : Answer (Bool × ℕ)
+  pub commands : List ℕ
+  pub scratch : List ℕ
+
+-- "The answer carries the verdict and the number of rounds"
+abbrev pub searchCall : Tables → ℕ → List ℕ → List ℕ → AfterSearch
+searchCall T start commands scratch =
+    let a = searching T start (length commands) (length scratch) in
+    record {
+      answers = answer (λ R. (R .lost, R .rounds)) a;
+      commands = left (resultTable (T .size .n)) a commands;
+      scratch = left (λ R. cleared (T .size .n)) a scratch;
+    }

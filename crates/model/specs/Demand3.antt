@@ -7,39 +7,39 @@ use mathlib.Core.Option.{Option, none, some}
 use Prim.Native.Nat.{ℕ, _<_, _≤_, _-_}
 use lib.ListN.{getD}
 use Rattle.laws.specs.Sets.{found}
-use Rattle.laws.specs.Entry.{FFFF, told}
+use Rattle.laws.specs.Entry.{FFFF, fromEntry}
 use Rattle.model.specs.Plan.{Plan}
 use Rattle.model.specs.Run.{moves}
 use Rattle.model.specs.Strategy.{Strategy, Total, Fails, Survives, positional}
 use Rattle.model.specs.Search.{search, ordinaries}
 
 -- a table of entries read at a state: FFFF is none
-unfoldable pub reading : List ℕ → ℕ → Option ℕ
-reading table s = told (getD table s FFFF)
+unfoldable pub readEntry : List ℕ → ℕ → Option ℕ
+readEntry table s = fromEntry (getD table s FFFF)
 
 -- What deciding's two tables say of the state s. "Deciding *calls* a state lost by a rank other than FFFF, and that entry is
--- the r of demand 3. The *returned commands* are its command table read as a rule."
+-- the r of demand 3. The *returned commands* are its command table read as a rule: the entry at the present state, FFFF being none."
 pub record Decided (P : Plan) (ranks commands : List ℕ) (s : ℕ) : Type 0 where
   -- "However much operating rules remember of the run so far, a state .. is called lost exactly when every rule that
   -- commands wherever a command exists has a run from it into failure."
-  pub lost-iff : (found (reading ranks s) ≡ true) ↔ ((ρ : Strategy) → Total P s ρ → Fails P s ρ)
+  pub lost-iff : (found (readEntry ranks s) ≡ true) ↔ ((ρ : Strategy) → Total P s ρ → Fails P s ρ)
   -- "From every other state the returned commands, which look at the present state alone, are such a rule, .."
-  pub returned : reading ranks s ≡ none → Total P s (positional (reading commands) s)
+  pub returned : readEntry ranks s ≡ none → Total P s (positional (readEntry commands) s)
   -- ".. and no run under them fails, however long it is and whichever outcomes the works give."
-  pub holds : reading ranks s ≡ none → Survives P s (positional (reading commands) s) (λ w. Unit {0})
+  pub holds : readEntry ranks s ≡ none → Survives P s (positional (readEntry commands) s) (λ w. Unit {0})
   -- "Against any such rule a lost state of rank r has a failing run of at most r moves, .."
-  pub within : (r : ℕ) → reading ranks s ≡ some r → (ρ : Strategy) → Total P s ρ → (f : Fails P s ρ) × (moves (f .run) ≤ r)
+  pub within : (r : ℕ) → readEntry ranks s ≡ some r → (ρ : Strategy) → Total P s ρ → (f : Fails P s ρ) × (moves (f .run) ≤ r)
   -- ".. and for r above 0 some such rule survives every run of at most r - 1 moves."
-  pub delays : (r : ℕ) → reading ranks s ≡ some r → 0 < r → (ρ : Strategy) × Total P s ρ × Survives P s ρ (λ w. moves w ≤ r - 1)
+  pub delays : (r : ℕ) → readEntry ranks s ≡ some r → 0 < r → (ρ : Strategy) × Total P s ρ × Survives P s ρ (λ w. moves w ≤ r - 1)
 
 -- What the search from a answers (its verdict, its rounds and its command table), beside deciding's tables.
 pub record Searched (P : Plan) (ranks commands : List ℕ) (a : ℕ) (verdict : Bool) (rounds : ℕ) (table : List ℕ) : Type 0 where
   -- "Whatever state it starts from, the search gives that state's verdict .."
-  pub same-verdict : verdict ≡ found (reading ranks a)
+  pub same-verdict : verdict ≡ found (readEntry ranks a)
   -- ".. and, when safe, the chosen command at each state its last walk reaches": "the entry .. with deciding's .., FFFF included"
-  pub same-commands : reading ranks a ≡ none → (s : ℕ) → search P a .reached s ≡ true → getD table s FFFF ≡ getD commands s FFFF
+  pub same-commands : readEntry ranks a ≡ none → (s : ℕ) → search P a .reached s ≡ true → getD table s FFFF ≡ getD commands s FFFF
   -- where no round is walked, the entry at the start too
-  pub same-start : reading ranks a ≡ none → getD table a FFFF ≡ getD commands a FFFF
+  pub same-start : readEntry ranks a ≡ none → getD table a FFFF ≡ getD commands a FFFF
   -- ".. and it reports no more rounds than there are ordinary states."
   pub few-rounds : rounds ≤ ordinaries P
 

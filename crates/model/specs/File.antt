@@ -66,7 +66,7 @@ head s = do
   need Beyond (ltb (be16 s 5) (be16 s 3))
   given (be16 s 3, be16 s 5)
 
--- no "commands under kind 1 or 2", and no "practice neither FFFF nor below the count"
+-- not idle: no "commands under kind 1 or 2", and no "practice neither FFFF nor below the count"
 abbrev pub busy : ℕ → ℕ → ℕ → Bool
 busy kind count policy = (eqb kind 0 || eqb count 0) && (eqb policy FFFF || ltb policy count)
 

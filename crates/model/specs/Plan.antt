@@ -29,7 +29,7 @@ failing P s = eqb (P .kind s) 1
 unfoldable pub active : Plan → ℕ → Bool
 active P s = ordinary P s && ltb 0 (P .commands s)
 
--- What counts as rest. "An ordinary state without commands counts as rest."
+-- what counts as rest: "An ordinary state without commands counts as rest"
 unfoldable pub terminal : Plan → ℕ → Bool
 terminal P s = eqb (P .kind s) 2 || (ordinary P s && eqb (P .commands s) 0)
 
@@ -37,7 +37,7 @@ terminal P s = eqb (P .kind s) 2 || (ordinary P s && eqb (P .commands s) 0)
 unfoldable pub hasPolicy : Plan → ℕ → Bool
 hasPolicy P s = ltb (P .policy s) (P .commands s)
 
--- What the theory asks of a plan. Every plan that a file gives has it (proofs/Reads.antt, `file-valid`).
+-- What the theory asks of a plan. Every plan that a file gives has it (proofs/Valid.antt, `file-valid`).
 pub record Valid (P : Plan) : Type 0 where
   pub kinds : (s : ℕ) → s < P .states → P .kind s ≤ 2
   -- "Other kinds have none."

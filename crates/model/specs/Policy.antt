@@ -16,7 +16,7 @@ unfoldable pub risks : Plan → (ℕ → Bool) → ℕ → Bool
 risks P K s = hasPolicy P s && hits P K s (P .policy s)
 
 -- "The practice *fails* from a state if some run under it reaches a failing state, of zero moves included."
--- That this is so is proofs/Practice.antt, `policy-judged`.
+-- That this is so is proofs/PolicyRuns.antt, `policy-judged`.
 unfoldable pub policyFails : Plan → ℕ → Bool
 policyFails P = grow (risks P) (failing P) (P .states)
 

@@ -8,7 +8,8 @@ use Rattle.laws.specs.Sets.{any, every, exists, lowest, found, howMany, grow}
 use Rattle.model.specs.Plan.{Plan, ordinary, failing, active, terminal}
 use Rattle.model.specs.Command.{choice}
 
--- x is an outcome of the command taken at t, where one is taken
+-- "at each ordinary state with commands it takes the practice if no outcome of it is known, else the lowest command with none
+-- known, and goes on to all its outcomes": x is an outcome of the command taken at t, where one is taken
 unfoldable pub lands : Plan → ℕ → Option ℕ → ℕ → Bool
 lands P t none x = false
 lands P t (some c) x = any (eqb x) (P .outcomes t c)
@@ -30,12 +31,12 @@ abbrev pub known : Plan → ℕ → ℕ → ℕ → Bool
 known P a = grow (λ K. marked P K a) (failing P)
 
 -- the round after j rounds is one "without marks"
-unfoldable pub quiet : Plan → ℕ → ℕ → Bool
-quiet P a j = every (λ s. not (marked P (known P a j) a s)) (P .states)
+unfoldable pub withoutMarks : Plan → ℕ → ℕ → Bool
+withoutMarks P a j = every (λ s. not (marked P (known P a j) a s)) (P .states)
 
 -- the round after j rounds ends the search: it is without marks, or the start is known at its end
 unfoldable pub ends : Plan → ℕ → ℕ → Bool
-ends P a j = quiet P a j || known P a (suc j) a
+ends P a j = withoutMarks P a j || known P a (suc j) a
 
 -- how many rounds come before the last; some round up to the n-th is the last (proofs/Searching.antt, `last-round`)
 unfoldable pub before : Plan → ℕ → ℕ

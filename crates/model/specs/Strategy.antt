@@ -17,7 +17,7 @@ Under ρ (w ▸ m) = Under ρ w × (ρ w ≡ some (m .command))
 
 -- An operating rule, from the state s judged, that "*commands wherever a command exists*".
 pub record Total (P : Plan) (s : ℕ) (ρ : Strategy) : Type 0 where
-  -- "names, for each run so far from the state judged, .. a command of the present state or none"
+  -- "names, for each run so far from the state judged .., a command of the present state or none"
   pub own : (w : Run) (c : ℕ) → IsRun P s w → ρ w ≡ some c → c < P .commands (present s w)
   -- "it names one after every run under it that ends at an ordinary state with commands"
   pub acts : (w : Run) → IsRun P s w → Under ρ w → active P (present s w) ≡ true → (c : ℕ) × (ρ w ≡ some c)

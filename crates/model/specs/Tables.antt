@@ -13,6 +13,7 @@ pub record Size : Type 0 where
   pub t : ℕ
   pub start : ℕ
 
+-- "Entries are 16 bits wide.": that those which are answered are is proofs/Widths.antt
 pub record Row : Type 0 where
   pub kind : ℕ
   pub first : ℕ

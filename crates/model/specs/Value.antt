@@ -1,4 +1,5 @@
--- Source 000's value equation. V(s) = 1 if s is a fail state, else min over a in A(s) of max over s' in T(s, a) of V(s').
+-- Source 000's value equation: its Definition 1 with the policy's action replaced by the best one, as in its backup.
+-- V(s) = 1 if s is a fail state, else the least, over a in A(s), of the largest V(s') with s' in T(s, a).
 use mathlib.Core.Path.{_≡_}
 use mathlib.Core.Bool.{cond}
 use mathlib.Core.List.{List, [], _∷_, map}

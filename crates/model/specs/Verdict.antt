@@ -17,7 +17,7 @@ forced P K s = active P s && every (hits P K s) (P .commands s)
 abbrev pub layer : Plan → ℕ → ℕ → Bool
 layer P = grow (forced P) (failing P)
 
--- "Its *rank* is the first such k." No layer past n adds a state (proofs/Layers.antt, `layers-settle`), so none is looked at.
+-- "Its *rank* is the first such k." No layer past n adds a state (proofs/Layers.antt, `layer-rank`), so none is looked at.
 unfoldable pub rank : Plan → ℕ → Option ℕ
 rank P s = lowest (λ k. layer P k s) (suc (P .states))
 

@@ -1,0 +1,99 @@
+-- When each call refuses, and with what. Beside Answering.antt these are all the cases there are: each refusal comes under exactly its
+-- condition, in the order "10, then 11, then 9", and "9 comes only if a table is shorter".
+use mathlib.Core.Path.{_≡_}
+use mathlib.Core.Bool.{Bool, true, false, _&&_}
+use mathlib.Core.Logic.{_⊎_, ⊎-elim}
+use mathlib.Core.List.{List}
+use Prim.Native.Nat.{ℕ, _<_, _≤_}
+use lib.Dec.{leb}
+use borrow.Author.Tests.{lt-leb, le-ltb, lt-ltb}
+use Rattle.laws.proofs.Tests.{and-false-left, and-false-right}
+use Rattle.model.specs.Refusal.{Refusal, Cramped, Unsound, Stranger, given, refused, need, _>>=_, _>>_}
+use Rattle.model.specs.File.{Tree, read}
+use Rattle.model.specs.Tables.{Tables, tablesOf, fileLength}
+use Rattle.model.specs.SoundTest.{sound}
+use Rattle.model.specs.Calls.{reading, writing, deciding, searching}
+
+-- a table among others that is shorter than its count
+first-short : (n a : ℕ) (b : Bool) → a < n → leb n a && b ≡ false
+first-short n a b h = and-false-left (leb n a) b (lt-leb n a h)
+
+last-short : (a : Bool) (n b : ℕ) → b < n → a && leb n b ≡ false
+last-short a n b h = and-false-right a (leb n b) (lt-leb n b h)
+
+module _ (rows firsts outcomes : ℕ) (file : List ℕ) where
+  -- a file that is refused is refused whatever tables are lent
+  pub reading-refused : (r : Refusal) → read file ≡ refused r → reading rows firsts outcomes file ≡ refused r
+  unfolding reading _>>=_
+  reading-refused r e = rw e
+
+  pub reading-cramped : (p : Tree) → read file ≡ given p
+      → (rows < tablesOf p .size .n) ⊎ ((firsts < tablesOf p .size .m) ⊎ (outcomes < tablesOf p .size .t))
+      → reading rows firsts outcomes file ≡ refused Cramped
+  unfolding reading _>>=_ need _>>_
+  reading-cramped p e h = rw (e, short h)
+    where
+      n : ℕ
+      n = tablesOf p .size .n
+
+      m : ℕ
+      m = tablesOf p .size .m
+
+      t : ℕ
+      t = tablesOf p .size .t
+
+      short : (rows < n) ⊎ ((firsts < m) ⊎ (outcomes < t)) → leb n rows && leb m firsts && leb t outcomes ≡ false
+      short = ⊎-elim (λ l. and-false-left (leb n rows && leb m firsts) (leb t outcomes) (first-short n rows (leb m firsts) l))
+          (⊎-elim (λ l. and-false-left (leb n rows && leb m firsts) (leb t outcomes) (last-short (leb n rows) m firsts l))
+          (λ l. last-short (leb n rows && leb m firsts) t outcomes l))
+
+-- a plan that is not sound is refused before all else
+module _ (T : Tables) (unsound : sound T ≡ false) where
+  pub writing-unsound : (bytes : ℕ) → writing T bytes ≡ refused Unsound
+  unfolding writing need _>>_
+  writing-unsound bytes = rw unsound
+
+  pub deciding-unsound : (ranks commands marks scratch : ℕ) → deciding T ranks commands marks scratch ≡ refused Unsound
+  unfolding deciding need _>>_
+  deciding-unsound ranks commands marks scratch = rw unsound
+
+  pub searching-unsound : (start commands scratch : ℕ) → searching T start commands scratch ≡ refused Unsound
+  unfolding searching need _>>_
+  searching-unsound start commands scratch = rw unsound
+
+module _ (T : Tables) (sounds : sound T ≡ true) where
+  pub writing-cramped : (bytes : ℕ) → bytes < fileLength (T .size) → writing T bytes ≡ refused Cramped
+  unfolding writing need _>>_
+  writing-cramped bytes h = rw (sounds, lt-leb (fileLength (T .size)) bytes h)
+
+  pub deciding-cramped : (ranks commands marks scratch : ℕ)
+      → (ranks < T .size .n) ⊎ ((commands < T .size .n) ⊎ ((marks < T .size .n) ⊎ (scratch < T .size .n)))
+      → deciding T ranks commands marks scratch ≡ refused Cramped
+  unfolding deciding need _>>_
+  deciding-cramped ranks commands marks scratch h = rw (sounds, short h)
+    where
+      n : ℕ
+      n = T .size .n
+
+      short : (ranks < n) ⊎ ((commands < n) ⊎ ((marks < n) ⊎ (scratch < n))) → leb n ranks && leb n commands && leb n marks && leb n scratch ≡ false
+      short = ⊎-elim (λ l. and-false-left (leb n ranks && leb n commands && leb n marks) (leb n scratch)
+          (and-false-left (leb n ranks && leb n commands) (leb n marks) (first-short n ranks (leb n commands) l)))
+          (⊎-elim (λ l. and-false-left (leb n ranks && leb n commands && leb n marks) (leb n scratch)
+          (and-false-left (leb n ranks && leb n commands) (leb n marks) (last-short (leb n ranks) n commands l)))
+          (⊎-elim (λ l. and-false-left (leb n ranks && leb n commands && leb n marks) (leb n scratch) (last-short (leb n ranks && leb n commands) n marks l))
+          (λ l. last-short (leb n ranks && leb n commands && leb n marks) n scratch l)))
+
+  pub searching-stranger : (start commands scratch : ℕ) → T .size .n ≤ start → searching T start commands scratch ≡ refused Stranger
+  unfolding searching need _>>_
+  searching-stranger start commands scratch h = rw (sounds, le-ltb start (T .size .n) h)
+
+  pub searching-cramped : (start commands scratch : ℕ) → start < T .size .n → (commands < T .size .n) ⊎ (scratch < T .size .n)
+      → searching T start commands scratch ≡ refused Cramped
+  unfolding searching need _>>_
+  searching-cramped start commands scratch i h = rw (sounds, lt-ltb start (T .size .n) i, short h)
+    where
+      n : ℕ
+      n = T .size .n
+
+      short : (commands < n) ⊎ (scratch < n) → leb n commands && leb n scratch ≡ false
+      short = ⊎-elim (λ l. first-short n commands (leb n scratch) l) (λ l. last-short (leb n commands) n scratch l)

@@ -1,0 +1,208 @@
+"""Document 01 once more, in Python, written from the document and not from the Rattle code: what the bench programs are held to."""
+
+NONE = 0xFFFF
+STATES, COMMANDS, OUTCOMES = 1024, 4096, 16384
+
+
+class Refused(Exception):
+    """A refusal, by its number in the refusal table."""
+
+    def __init__(self, number):
+        super().__init__(number)
+        self.number = number
+
+
+def need(number, test):
+    if not test:
+        raise Refused(number)
+
+
+class State:
+    """A state as a plan file has it; an outcome list for each command."""
+
+    def __init__(self, kind, commands=(), practice=NONE):
+        self.kind, self.commands, self.practice = kind, [list(c) for c in commands], practice
+
+
+class Plan:
+    def __init__(self, states, start=0):
+        self.states, self.start = states, start
+
+    @property
+    def n(self):
+        return len(self.states)
+
+    @property
+    def m(self):
+        return sum(len(s.commands) for s in self.states)
+
+    @property
+    def t(self):
+        return sum(len(c) for s in self.states for c in s.commands)
+
+
+def two(x):
+    return bytes([x >> 8 & 255, x & 255])
+
+
+def write(plan):
+    """The bytes of a plan file."""
+    out = b"\x01\x00\x04" + two(plan.n) + two(plan.start)
+    for s in plan.states:
+        out += b"\x02\x00\x05" + bytes([s.kind]) + two(len(s.commands)) + two(s.practice)
+        for c in s.commands:
+            out += b"\x03" + two(2 * len(c)) + b"".join(map(two, c))
+    return out + b"\x04\x00\x00"
+
+
+class Walker:
+    """The field walker: the whole file, and how far it has come."""
+
+    def __init__(self, data):
+        self.data, self.at = data, 0
+
+    def field(self, tag, allowed):
+        rest = len(self.data) - self.at
+        need(1, rest >= 3)
+        need(3, self.data[self.at] == tag)
+        length = self.data[self.at + 1] << 8 | self.data[self.at + 2]
+        need(4, allowed(length))
+        need(1, rest >= 3 + length)
+        value = self.data[self.at + 3:self.at + 3 + length]
+        self.at += 3 + length
+        return value
+
+
+def number(value, i):
+    return value[i] << 8 | value[i + 1]
+
+
+def read(data):
+    """The plan that a file gives, or the first refusal."""
+    w = Walker(data)
+    head = w.field(1, lambda k: k == 4)
+    n, start = number(head, 0), number(head, 2)
+    need(5, 1 <= n <= STATES and start < n)
+    states, m, t = [], 0, 0
+    for _ in range(n):
+        v = w.field(2, lambda k: k == 5)
+        kind, count, practice = v[0], number(v, 1), number(v, 3)
+        need(5, kind <= 2)
+        need(7, (kind == 0 or count == 0) and (practice == NONE or practice < count))
+        m += count
+        need(8, m <= COMMANDS)
+        commands = []
+        for _ in range(count):
+            v = w.field(3, lambda k: k % 2 == 0 and k >= 2)
+            t += len(v) // 2
+            need(8, t <= OUTCOMES)
+            outcomes, last = [], -1
+            for i in range(0, len(v), 2):
+                o = number(v, i)
+                need(5, o < n)
+                need(6, o > last)
+                outcomes.append(o)
+                last = o
+            commands.append(outcomes)
+        states.append(State(kind, commands, practice))
+    w.field(4, lambda k: k == 0)
+    need(2, w.at == len(data))
+    return Plan(states, start)
+
+
+def ranks(plan):
+    """The first layer that holds each state, or None."""
+    rank = [0 if s.kind == 1 else None for s in plan.states]
+    k = 0
+    while True:
+        added = [i for i, s in enumerate(plan.states)
+                 if rank[i] is None and s.commands and all(any(rank[o] is not None for o in c) for c in s.commands)]
+        if not added:
+            return rank
+        k += 1
+        for i in added:
+            rank[i] = k
+
+
+def choose(state, bad):
+    """The practice if it has no bad outcome, else the lowest-numbered command with none."""
+    order = ([state.practice] if state.practice != NONE else []) + list(range(len(state.commands)))
+    for c in order:
+        if not any(bad[o] for o in state.commands[c]):
+            return c
+    return None
+
+
+def decide(plan):
+    """Ranks, chosen commands, practice marks and the tally."""
+    rank = ranks(plan)
+    lost = [r is not None for r in rank]
+    fails = [s.kind == 1 for s in plan.states]
+    changed = True
+    while changed:
+        changed = False
+        for i, s in enumerate(plan.states):
+            if not fails[i] and s.practice != NONE and any(fails[o] for o in s.commands[s.practice]):
+                fails[i] = changed = True
+    chosen, marks, tally = [], [], [[0, 0, 0], [0, 0, 0]]
+    for i, s in enumerate(plan.states):
+        chosen.append(None if lost[i] else choose(s, lost))
+        given = s.practice != NONE
+        fault = not lost[i] and given and any(lost[o] for o in s.commands[s.practice])
+        marks.append((1 if fails[i] else 0) + (2 if fault else 0))
+        tally[1 if lost[i] else 0][2 if not given else 1 if fails[i] else 0] += 1
+    return rank, chosen, marks, tally
+
+
+def search(plan, start):
+    """The verdict (lost?), the rounds and the last walk's commands."""
+    first = plan.states[start]
+    none = [None] * plan.n
+    if first.kind == 1:
+        return True, 0, none
+    if not first.commands:
+        return False, 0, none
+    known = [s.kind == 1 for s in plan.states]
+    rounds = 0
+    while True:
+        rounds += 1
+        reached, todo, taken, marked = {start}, [start], list(none), []
+        while todo:
+            i = todo.pop()
+            s = plan.states[i]
+            if not s.commands:
+                continue
+            c = choose(s, known)
+            if c is None:
+                marked.append(i)
+                continue
+            taken[i] = c
+            for o in s.commands[c]:
+                if o not in reached:
+                    reached.add(o)
+                    todo.append(o)
+        if not marked:
+            return False, rounds, taken
+        for i in marked:
+            known[i] = True
+        if known[start]:
+            return True, rounds, none
+
+
+def listing(data):
+    """What the listing program prints."""
+    try:
+        need(8, len(data) <= 65536)
+        plan = read(data)
+    except Refused as r:
+        return f"refused {r.number}\n"
+    rank, chosen, marks, tally = decide(plan)
+    lost, rounds, _ = search(plan, plan.start)
+    dash = lambda x: "-" if x is None else str(x)
+    out = [f"plan {plan.n} {plan.m} {plan.t}"]
+    for i, s in enumerate(plan.states):
+        out.append(f"{i} {'ofr'[s.kind]} {'S' if rank[i] is None else 'L'} {dash(rank[i])} {dash(chosen[i])} "
+                   f"{'F' if marks[i] & 1 else 'H'} {'!' if marks[i] & 2 else '.'}")
+    out.append("tally " + " / ".join(" ".join(map(str, row)) for row in tally))
+    out.append(f"start {plan.start} {'L' if lost else 'S'} {rounds}")
+    return "\n".join(out) + "\n"
