@@ -1,6 +1,7 @@
 pub mod Tests
 pub mod Sets
 pub mod TestFacts
+pub mod Loops
 pub mod Grow
 pub mod Lists
 pub mod Ranges

@@ -1,0 +1,4 @@
+pub mod RowEntries
+pub mod Spans
+pub mod CommandTest
+pub mod LongTest

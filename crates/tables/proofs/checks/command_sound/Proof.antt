@@ -1,0 +1,57 @@
+use mathlib.Core.Bool.{and-false}
+use borrow.Author.Needs.{needs}
+use borrow.Author.Tests.{lt-leb, le-leb, lt-ltb, le-ltb}
+use Rattle.tables.proofs.CommandTest.{command-test}
+use Rattle.tables.proofs.checks.command_sound.Statement.{statement}
+use Rattle.tables.proofs.checks.command_sound.Tie as tie
+
+first-outcome-requires : tie.Need-first-outcome-requires
+first-outcome-requires c κs = search needs
+
+add-first-outcome : tie.Need-add-first-outcome
+add-first-outcome c = search needs
+
+first-outcome-requires-2 : tie.Need-first-outcome-requires-2
+first-outcome-requires-2 c κs = search needs
+
+returns : tie.Need-returns
+returns c =
+    let O = c .before .before .before .before .before .args .outcomes .now in
+    λ R. rw (command-test _ _ _ _ (c .before .before .first-outcome .ensures R O) (c .before .first-outcome2 .ensures R O))
+    (simp (le-ltb _ _ (c .if1 .taken)))
+
+returns-2 : tie.Need-returns-2
+returns-2 c =
+    let O = c .before .before .before .before .before .before .before .args .outcomes .now in
+    λ R. rw (command-test _ _ _ _ (c .before .before .before .before .first-outcome .ensures R O) (c .before .before .before .first-outcome2 .ensures R O))
+    (simp (lt-leb _ _ (c .if2 .taken), and-false))
+
+sub-rises : tie.Need-sub-rises
+sub-rises c = search needs
+
+sub-rises-2 : tie.Need-sub-rises-2
+sub-rises-2 c = search needs
+
+rises-requires : tie.Need-rises-requires
+rises-requires c κs = search needs
+
+returns-3 : tie.Need-returns-3
+returns-3 c =
+    let a = c .before .before .before .before .before .before .before .before .args in
+    let O = a .outcomes .now in
+    λ R. rw (command-test _ _ _ _ (c .before .before .before .before .before .first-outcome .ensures R O) (c .before .before .before .before .first-outcome2 .ensures R O))
+    (rw (lt-ltb _ _ (c .before .before .before .if1 .left), le-leb _ _ (c .before .if2 .left)) (c .rises .ensures (a .size) R (a .firsts .now)))
+
+pub command-sound-spec : {M : Type 1} → statement M
+command-sound-spec =
+    tie.close
+    (tie.spec
+    first-outcome-requires
+    add-first-outcome
+    first-outcome-requires-2
+    returns
+    returns-2
+    sub-rises
+    sub-rises-2
+    rises-requires
+    returns-3)

@@ -1,0 +1,188 @@
+// The parts of the test for sound tables.
+ghost use mathlib.Core.Path.{_≡_};
+ghost use mathlib.Core.Bool.{_||_};
+ghost use mathlib.Core.List.{List};
+ghost use Prim.Native.Nat.{ℕ, _<_, _≤_, _+_, _-_};
+ghost use lib.Dec.{ltb, eqb};
+ghost use lib.ListN.{length};
+ghost use Rattle.laws.specs.Sets.{every};
+ghost use Rattle.model.specs.SoundTest.{sizeSound, tablesLong, rowSound, risesAt, commandSound, outcomeSound};
+ghost use Rattle.tables.specs.Meaning.{held, numbers, rowsOf, spanSound, startsSound, entriesSound};
+use crate::Size;
+use crate::internal::Span;
+use crate::internal::at;
+use crate::internal::first_command;
+use crate::internal::first_outcome;
+use crate::internal::row_count;
+use crate::internal::span_at;
+
+pub fn size_sound(size: Size) -> bool
+    ensures { λ r. ⌜ r ≡ sizeSound (numbers size) ⌝ }
+{
+    if size.n < 1 {
+        return false;
+    }
+    if Size::STATES < size.n {
+        return false;
+    }
+    if Size::COMMANDS < size.m {
+        return false;
+    }
+    if Size::OUTCOMES < size.t {
+        return false;
+    }
+    size.start < size.n
+}
+
+// No plan table is shorter than its count.
+pub fn long(size: Size, rows: &[u16], firsts: &[u16], outcomes: &[u16]) -> bool
+    ensures { λ r. ⌜ r ≡ tablesLong (held size (now (rows .entry)) (now (firsts .entry)) (now (outcomes .entry))) ⌝ }
+{
+    if row_count(rows) < size.n {
+        return false;
+    }
+    if firsts.len() < size.m {
+        return false;
+    }
+    size.t <= outcomes.len()
+}
+
+// Only a state of kind 0 has commands.
+fn kind_fits(kind: usize, count: usize) -> bool
+    ensures { λ r. ⌜ r ≡ (eqb kind 0 || eqb count 0) ⌝ }
+{
+    if kind == 0 {
+        return true;
+    }
+    count == 0
+}
+
+// The practice is none or a command.
+fn practice_fits(practice: usize, count: usize) -> bool
+    ensures { λ r. ⌜ r ≡ (eqb practice 65535 || ltb practice count) ⌝ }
+{
+    if practice == 65535 {
+        return true;
+    }
+    practice < count
+}
+
+fn span_sound(span: Span, m: usize) -> bool
+    ensures { λ r. ⌜ r ≡ spanSound span m ⌝ }
+{
+    if span.end < span.first {
+        return false;
+    }
+    if m < span.end {
+        return false;
+    }
+    if 2 < span.kind {
+        return false;
+    }
+    let count = span.end - span.first;
+    if !kind_fits(span.kind, count) {
+        return false;
+    }
+    practice_fits(span.practice, count)
+}
+
+fn rows_sound(size: Size, rows: &[u16]) -> bool
+    requires { ⌜ size .n ≤ length (rowsOf (now rows)) ⌝ }
+    ensures { λ r. ⌜ ((F O : List ℕ) → r ≡ every (rowSound (held size (now (rows .entry)) F O)) (size .n)) ⌝ }
+{
+    let mut s = 0;
+    while s < size.n {
+        let span = span_at(size, rows, s);
+        if !span_sound(span, size.m) {
+            return false;
+        }
+        s += 1;
+    }
+    true
+}
+
+// The outcomes at the k + 1 places from `from` on rise.
+fn rises(outcomes: &[u16], from: usize, k: usize) -> bool
+    requires { ⌜ (k < length (now outcomes) - from) ⌝ }
+    ensures { λ r. ⌜ ((z : Size) (R F : List ℕ) → r ≡ every (λ i. risesAt (held z R F (now (outcomes .entry))) (from + i)) k) ⌝ }
+{
+    let mut i = 0;
+    while i < k {
+        if at(outcomes, from + i + 1) <= at(outcomes, from + i) {
+            return false;
+        }
+        i += 1;
+    }
+    true
+}
+
+fn command_sound(size: Size, firsts: &[u16], outcomes: &[u16], c: usize) -> bool
+    requires { ⌜ (size .m ≤ length (now firsts)) × (size .t ≤ length (now outcomes)) × (c < size .m) ⌝ }
+    ensures { λ r. ⌜ ((R : List ℕ) → r ≡ commandSound (held size R (now (firsts .entry)) (now (outcomes .entry))) c) ⌝ }
+{
+    let from = first_outcome(size, firsts, c);
+    let end = first_outcome(size, firsts, c + 1);
+    if end <= from {
+        return false;
+    }
+    if size.t < end {
+        return false;
+    }
+    rises(outcomes, from, end - from - 1)
+}
+
+fn commands_sound(size: Size, firsts: &[u16], outcomes: &[u16]) -> bool
+    requires { ⌜ (size .m ≤ length (now firsts)) × (size .t ≤ length (now outcomes)) ⌝ }
+    ensures { λ r. ⌜ ((R : List ℕ) → r ≡ every (commandSound (held size R (now (firsts .entry)) (now (outcomes .entry)))) (size .m)) ⌝ }
+{
+    let mut c = 0;
+    while c < size.m {
+        if !command_sound(size, firsts, outcomes, c) {
+            return false;
+        }
+        c += 1;
+    }
+    true
+}
+
+fn outcomes_sound(size: Size, outcomes: &[u16]) -> bool
+    requires { ⌜ size .t ≤ length (now outcomes) ⌝ }
+    ensures { λ r. ⌜ ((R F : List ℕ) → r ≡ every (outcomeSound (held size R F (now (outcomes .entry)))) (size .t)) ⌝ }
+{
+    let mut j = 0;
+    while j < size.t {
+        if size.n <= at(outcomes, j) {
+            return false;
+        }
+        j += 1;
+    }
+    true
+}
+
+// The first command and the first outcome stand at place 0.
+fn starts_sound(size: Size, rows: &[u16], firsts: &[u16]) -> bool
+    requires { ⌜ (size .n ≤ length (rowsOf (now rows))) × (size .m ≤ length (now firsts)) ⌝ }
+    ensures { λ r. ⌜ ((O : List ℕ) → r ≡ startsSound (held size (now (rows .entry)) (now (firsts .entry)) O)) ⌝ }
+{
+    if first_command(size, rows, 0) != 0 {
+        return false;
+    }
+    first_outcome(size, firsts, 0) == 0
+}
+
+// What the tables hold is sound, up to their counts.
+pub fn entries_sound(size: Size, rows: &[u16], firsts: &[u16], outcomes: &[u16]) -> bool
+    requires { ⌜ (size .n ≤ length (rowsOf (now rows))) × (size .m ≤ length (now firsts)) × (size .t ≤ length (now outcomes)) ⌝ }
+    ensures { λ r. ⌜ r ≡ entriesSound (held size (now (rows .entry)) (now (firsts .entry)) (now (outcomes .entry))) ⌝ }
+{
+    if !starts_sound(size, rows, firsts) {
+        return false;
+    }
+    if !rows_sound(size, rows) {
+        return false;
+    }
+    if !commands_sound(size, firsts, outcomes) {
+        return false;
+    }
+    outcomes_sound(size, outcomes)
+}

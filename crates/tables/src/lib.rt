@@ -1,0 +1,84 @@
+// The plan in memory: the size record, the refusals, and the test for sound tables.
+ghost use mathlib.Core.Path.{_≡_};
+ghost use Rattle.tables.specs.Meaning.{sized, refusalOf, held, numbers};
+ghost use Rattle.model.specs.Refusal.{number};
+ghost use Rattle.model.specs.SoundTest.{sound};
+
+mod checks;
+pub mod internal;
+
+// The numbers of a plan: n states, m commands, t outcome entries, and the start.
+pub struct Size {
+    pub n: usize,
+    pub m: usize,
+    pub t: usize,
+    pub start: usize,
+}
+
+impl Size {
+    pub const STATES: usize = 1024;
+
+    pub const COMMANDS: usize = 4096;
+
+    pub const OUTCOMES: usize = 16384;
+
+    pub fn new(n: usize, m: usize, t: usize, start: usize) -> Size
+        ensures { λ r. ⌜ r ≡ sized n m t start ⌝ }
+    {
+        Size { n, m, t, start }
+    }
+}
+
+// A state's row.
+pub struct Row {
+    pub kind: u16,
+    pub first: u16,
+    pub practice: u16,
+}
+
+// The words of the refusal table.
+pub enum Refusal {
+    Cut,
+    Surplus,
+    Tag,
+    Length,
+    Beyond,
+    Unsorted,
+    Idle,
+    Limit,
+    Cramped,
+    Unsound,
+    Stranger,
+}
+
+// The table's number of a refusal.
+pub fn number(r: Refusal) -> u32
+    ensures { λ x. ⌜ x ≡ number (refusalOf r) ⌝ }
+{
+    match r {
+        Refusal::Cut => 1,
+        Refusal::Surplus => 2,
+        Refusal::Tag => 3,
+        Refusal::Length => 4,
+        Refusal::Beyond => 5,
+        Refusal::Unsorted => 6,
+        Refusal::Idle => 7,
+        Refusal::Limit => 8,
+        Refusal::Cramped => 9,
+        Refusal::Unsound => 10,
+        Refusal::Stranger => 11,
+    }
+}
+
+// Whether size record and tables are a plan that some file gives, and no table is shorter than its count (refusal 10 where not).
+pub fn sound(size: Size, rows: &[u16], firsts: &[u16], outcomes: &[u16]) -> bool
+    ensures { λ r. ⌜ r ≡ sound (held size (now (rows .entry)) (now (firsts .entry)) (now (outcomes .entry))) ⌝ }
+{
+    if !checks::size_sound(size) {
+        return false;
+    }
+    if !checks::long(size, rows, firsts, outcomes) {
+        return false;
+    }
+    checks::entries_sound(size, rows, firsts, outcomes)
+}
