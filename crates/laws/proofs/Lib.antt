@@ -9,3 +9,5 @@ pub mod All
 pub mod Joins
 pub mod Parts
 pub mod Entry
+pub mod Writes
+pub mod Steps

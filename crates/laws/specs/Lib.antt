@@ -1,3 +1,4 @@
 pub mod Sets
 pub mod Lists
 pub mod Entry
+pub mod Writes

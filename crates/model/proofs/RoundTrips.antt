@@ -106,3 +106,9 @@ write-read T bytes k e rows firsts outcomes long-rows long-firsts long-outcomes 
     = subst (λ (z : Size). Same (afterReading z file rows firsts outcomes) (tablesOf p)) (sym size) (after-same file rows firsts outcomes (tablesOf p) again p refl) in
     subst (λ (f : List ℕ). (readCall f rows firsts outcomes .answers ≡ given (T .size)) × Same T (afterReading (T .size) f rows firsts outcomes)) (sym front)
     (rw again (ap given (sym size)), same-both same after)
+
+-- the length answered is the file's
+pub written-length : (T : Tables) (bytes : ℕ) (file : List ℕ) → writing T bytes ≡ given file → length file ≡ fileLength (T .size)
+written-length T bytes file e =
+    let w = writing-iff T bytes file .0 e in
+    sym (ap length (w .is)) ∙ length-bytes (treeOf T) ∙ ap fileLength (sym (tables-back T (w .sounds) .size))

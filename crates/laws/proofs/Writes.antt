@@ -1,0 +1,37 @@
+-- Entries written to a table one after another.
+use mathlib.Core.Path.{_≡_, refl, ap, sym, _∙_}
+use mathlib.Core.List.{List, [], _∷_, _++_}
+use Prim.Native.Nat.{ℕ, suc, _+_, _≤_}
+use native.Mathlib.Omega.{arith}
+use native.Mathlib.Nat.{add-zero, not-suc-le-zero, le-of-suc-le-suc}
+use lib.ListN.{length, drop, set, length-set, length-append}
+use lib.Seq.{set-append-seam, append-snoc}
+use Rattle.laws.specs.Lists.{overwrite}
+use Rattle.laws.specs.Writes.{putAll}
+
+module _ {A : Type 0} where
+  pub length-put : (l : List A) (i : ℕ) (xs : List A) → length (putAll l i xs) ≡ length l
+  unfolding putAll
+  length-put l i [] = refl
+  length-put l i (x ∷ xs) = length-put (set l i x) (i + 1) xs ∙ length-set l i x
+
+  pub put-append : (l : List A) (i : ℕ) (xs ys : List A) → putAll l i (xs ++ ys) ≡ putAll (putAll l i xs) (i + length xs) ys
+  unfolding putAll
+  put-append l i [] ys = ap (λ (z : ℕ). putAll l z ys) (sym (add-zero i))
+  put-append l i (x ∷ xs) ys =
+      let e : i + 1 + length xs ≡ i + suc (length xs) = omega arith in
+      put-append (set l i x) (i + 1) xs ys ∙ ap (λ (z : ℕ). putAll (putAll (set l i x) (i + 1) xs) z ys) e
+
+  put-after : (pre l xs : List A) → length xs ≤ length l → putAll (pre ++ l) (length pre) xs ≡ pre ++ (xs ++ drop (length xs) l)
+  unfolding putAll
+  put-after pre l [] h = refl
+  put-after pre [] (x ∷ xs) h = absurd (not-suc-le-zero h)
+  put-after pre (y ∷ l) (x ∷ xs) h =
+      let r = put-after (pre ++ (x ∷ [])) l xs (le-of-suc-le-suc h) in
+      let e : length (pre ++ (x ∷ [])) ≡ length pre + 1 = length-append pre (x ∷ []) in
+      rw (set-append-seam pre y l x) (rw (e, append-snoc pre x l, append-snoc pre x (xs ++ drop (length xs) l)) at r)
+
+  -- written from the front, they are the first places
+  pub put-front : (l xs : List A) → length xs ≤ length l → putAll l 0 xs ≡ overwrite xs l
+  unfolding overwrite
+  put-front l xs h = put-after [] l xs h

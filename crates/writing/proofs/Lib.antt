@@ -1,0 +1,7 @@
+pub mod Stores
+pub mod Spreads
+pub mod Turns
+pub mod OutcomeFacts
+pub mod CommandFacts
+pub mod StateFacts
+pub mod FileFacts

@@ -1,0 +1,19 @@
+use borrow.Author.Needs.{needs}
+use Rattle.writing.proofs.Stores.{wrote-then}
+use Rattle.writing.proofs.bytes.put_both.Statement.{statement}
+use Rattle.writing.proofs.bytes.put_both.Tie as tie
+
+put-byte-requires : tie.Need-put-byte-requires
+put-byte-requires c κs = search needs
+
+put-byte-requires-2 : tie.Need-put-byte-requires-2
+put-byte-requires-2 c κs = search needs
+
+same-length : tie.Need-same-length
+same-length c = search needs
+
+returns : tie.Need-returns
+returns c = wrote-then (c .before .before .before .before .before .before .put-byte .ensures) (c .before .before .put-byte2 .ensures)
+
+pub put-both-spec : {M : Type 1} → statement M
+put-both-spec = tie.close (tie.spec put-byte-requires put-byte-requires-2 same-length returns)

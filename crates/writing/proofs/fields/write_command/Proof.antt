@@ -1,0 +1,40 @@
+use borrow.Author.Needs.{needs}
+use Rattle.writing.proofs.CommandFacts.{command-wrote}
+use Rattle.writing.proofs.Stores.{wrote-then}
+use Rattle.writing.proofs.fields.write_command.Statement.{statement}
+use Rattle.writing.proofs.fields.write_command.Tie as tie
+
+put-byte-requires : tie.Need-put-byte-requires
+put-byte-requires c κs = search needs
+
+sub-put-two : tie.Need-sub-put-two
+sub-put-two c = search needs
+
+mul-put-two : tie.Need-mul-put-two
+mul-put-two c = search needs
+
+put-two-requires : tie.Need-put-two-requires
+put-two-requires c κs = search needs
+
+write-outcomes-requires : tie.Need-write-outcomes-requires
+write-outcomes-requires c κs = search needs
+
+same-length : tie.Need-same-length
+same-length c = search needs
+
+returns : tie.Need-returns
+returns c =
+    command-wrote _ _ _ (c .before .before .before .before .before .before .before .before .before .before .before .before .before .before .pre .1)
+    (wrote-then (c .before .before .before .before .before .before .before .before .before .before .put-byte .ensures) (wrote-then (c .before .before .before .before .before .before .put-two .ensures) (c .before .before .write-outcomes .ensures)))
+
+pub write-command-spec : {M : Type 1} → statement M
+write-command-spec =
+    tie.close
+    (tie.spec
+    put-byte-requires
+    sub-put-two
+    mul-put-two
+    put-two-requires
+    write-outcomes-requires
+    same-length
+    returns)

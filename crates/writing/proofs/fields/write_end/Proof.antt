@@ -1,0 +1,19 @@
+use borrow.Author.Needs.{needs}
+use Rattle.writing.proofs.Stores.{wrote-then}
+use Rattle.writing.proofs.fields.write_end.Statement.{statement}
+use Rattle.writing.proofs.fields.write_end.Tie as tie
+
+put-byte-requires : tie.Need-put-byte-requires
+put-byte-requires c κs = search needs
+
+put-two-requires : tie.Need-put-two-requires
+put-two-requires c κs = search needs
+
+same-length : tie.Need-same-length
+same-length c = search needs
+
+returns : tie.Need-returns
+returns c = wrote-then (c .before .before .before .before .before .before .put-byte .ensures) (c .before .before .put-two .ensures)
+
+pub write-end-spec : {M : Type 1} → statement M
+write-end-spec = tie.close (tie.spec put-byte-requires put-two-requires same-length returns)

@@ -1,0 +1,23 @@
+use borrow.Author.Needs.{needs}
+use Rattle.writing.proofs.Stores.{wrote-then}
+use Rattle.writing.proofs.fields.write_head.Statement.{statement}
+use Rattle.writing.proofs.fields.write_head.Tie as tie
+
+put-byte-requires : tie.Need-put-byte-requires
+put-byte-requires c κs = search needs
+
+put-two-requires : tie.Need-put-two-requires
+put-two-requires c κs = search needs
+
+put-pair-requires : tie.Need-put-pair-requires
+put-pair-requires c κs = search needs
+
+same-length : tie.Need-same-length
+same-length c = search needs
+
+returns : tie.Need-returns
+returns c = wrote-then (c .before .before .before .before .before .before .before .before .before .before .put-byte .ensures) (wrote-then (c .before .before .before .before .before .before .put-two .ensures) (c .before .before .put-pair .ensures))
+
+pub write-head-spec : {M : Type 1} → statement M
+write-head-spec =
+    tie.close (tie.spec put-byte-requires put-two-requires put-pair-requires same-length returns)

@@ -1,0 +1,75 @@
+use mathlib.Core.List.{[]}
+use Prim.Native.Nat.{_-_}
+use native.Mathlib.Omega.{arith}
+use Rattle.model.specs.Places.{outcomesAt}
+use Rattle.model.specs.Bytes.{commandsBytes}
+use Rattle.tables.specs.Meaning.{held}
+use Rattle.writing.specs.Linked.{commandsFrom}
+use Rattle.writing.proofs.CommandFacts.{firsts-long, command-ready, command-stored}
+use Rattle.writing.proofs.Turns.{Turn, turn-start, turn-room, turn-next, turn-done}
+use Rattle.writing.proofs.Spreads.{commands-spread}
+use Rattle.writing.proofs.states.write_commands.Statement.{statement}
+use Rattle.writing.proofs.states.write_commands.Tie as tie
+
+abbrev Inv-loop : tie.InvT-loop
+Inv-loop size firsts outcomes first end out₀ place next₀ c₀ out next c =
+    Turn commandsBytes (outcomesAt (held size [] firsts outcomes)) end first out₀ place out next c
+
+abbrev μ-loop : tie.MeasureT-loop
+μ-loop size firsts outcomes first end out₀ place next₀ c₀ out next c = end - c
+
+loop-holds : tie.Need-loop-holds Inv-loop μ-loop
+unfolding commandsFrom
+loop-holds c = turn-start commands-spread (c .before .before .before .pre .2)
+
+first-outcome-requires : tie.Need-first-outcome-requires Inv-loop μ-loop
+first-outcome-requires c κs = firsts-long (c .before .before .before .before .before .pre .0)
+
+add-first-outcome : tie.Need-add-first-outcome Inv-loop μ-loop
+add-first-outcome c = omega (arith, c .before .loop-test .taken, c .before .before .before .before .before .before .fits)
+
+first-outcome-requires-2 : tie.Need-first-outcome-requires-2 Inv-loop μ-loop
+first-outcome-requires-2 c κs = firsts-long (c .before .before .before .before .before .before .pre .0)
+
+write-command-requires : tie.Need-write-command-requires Inv-loop μ-loop
+write-command-requires c κs =
+    let k = c .before .before .before .before .before .before .before .before .pre in
+    let more = c .before .before .before .loop-test .taken in
+    command-ready (k .0) more (k .1) (c .before .before .first-outcome .ensures [] _) (c .before .first-outcome2 .ensures [] _) _ _ (turn-room commands-spread (c .before .before .before .before .loop .inv) more)
+
+add-c : tie.Need-add-c Inv-loop μ-loop
+add-c c = omega (arith, c .before .before .before .before .before .before .loop-test .taken, c .before .before .before .before .before .before .before .before .before .before .before .fits)
+
+loop-less : tie.Need-loop-less Inv-loop μ-loop
+loop-less c = omega (arith, c .before .before .before .before .before .before .loop-test .taken)
+
+loop-again : tie.Need-loop-again Inv-loop μ-loop
+loop-again c =
+    let k = c .before .before .before .before .before .before .before .before .before .before .before .pre in
+    let more = c .before .before .before .before .before .before .loop-test .taken in
+    turn-next commands-spread (c .before .before .before .before .before .before .before .loop .inv) more
+    (command-stored (k .0) more (k .1) (c .before .before .before .before .before .first-outcome .ensures [] _) (c .before .before .before .before .first-outcome2 .ensures [] _) (c .before .before .write-command .ensures))
+
+same-length : tie.Need-same-length Inv-loop μ-loop
+same-length c = c .before .loop .inv .same
+
+returns : tie.Need-returns Inv-loop μ-loop
+unfolding commandsFrom
+returns c = turn-done commands-spread (c .before .loop .inv) (c .loop-test .left)
+
+pub write-commands-spec : {M : Type 1} → statement M
+write-commands-spec =
+    tie.close
+    (tie.spec
+    Inv-loop
+    μ-loop
+    loop-holds
+    first-outcome-requires
+    add-first-outcome
+    first-outcome-requires-2
+    write-command-requires
+    add-c
+    loop-less
+    loop-again
+    same-length
+    returns)

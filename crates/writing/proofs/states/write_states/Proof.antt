@@ -1,0 +1,55 @@
+use Prim.Native.Nat.{_-_}
+use native.Mathlib.Nat.{sub-zero}
+use native.Mathlib.Omega.{arith}
+use Rattle.model.specs.Held.{stateAt}
+use Rattle.model.specs.Bytes.{statesBytes}
+use Rattle.tables.specs.Meaning.{held}
+use Rattle.writing.proofs.Turns.{Turn, turn-start, turn-room, turn-next, turn-done}
+use Rattle.writing.proofs.Spreads.{states-spread}
+use Rattle.writing.proofs.states.write_states.Statement.{statement}
+use Rattle.writing.proofs.states.write_states.Tie as tie
+
+abbrev Inv-loop : tie.InvT-loop
+Inv-loop size rows firsts outcomes out₀ place next₀ s₀ out next s =
+    Turn statesBytes (stateAt (held size rows firsts outcomes)) (size .n) 0 out₀ place out next s
+
+abbrev μ-loop : tie.MeasureT-loop
+μ-loop size rows firsts outcomes out₀ place next₀ s₀ out next s = size .n - s
+
+loop-holds : tie.Need-loop-holds Inv-loop μ-loop
+loop-holds c = turn-start states-spread (rw sub-zero (c .before .before .before .before .pre .1))
+
+write-state-requires : tie.Need-write-state-requires Inv-loop μ-loop
+write-state-requires c κs =
+    let more = c .before .if1 .taken in
+    (c .before .before .before .before .before .before .before .before .pre .0, more, turn-room states-spread (c .before .before .before .loop .inv) more)
+
+add-s : tie.Need-add-s Inv-loop μ-loop
+add-s c = omega (arith, c .before .before .before .before .if1 .taken, c .before .before .before .before .before .before .before .before .before .before .before .fits)
+
+loop-less : tie.Need-loop-less Inv-loop μ-loop
+loop-less c = omega (arith, c .before .before .before .before .if1 .taken)
+
+loop-again : tie.Need-loop-again Inv-loop μ-loop
+loop-again c =
+    turn-next states-spread (c .before .before .before .before .before .before .loop .inv) (c .before .before .before .before .if1 .taken) (c .before .before .write-state .ensures)
+
+same-length : tie.Need-same-length Inv-loop μ-loop
+same-length c = c .before .before .loop .inv .same
+
+returns : tie.Need-returns Inv-loop μ-loop
+returns c = rw sub-zero at (turn-done states-spread (c .before .before .loop .inv) (c .if1 .left))
+
+pub write-states-spec : {M : Type 1} → statement M
+write-states-spec =
+    tie.close
+    (tie.spec
+    Inv-loop
+    μ-loop
+    loop-holds
+    write-state-requires
+    add-s
+    loop-less
+    loop-again
+    same-length
+    returns)

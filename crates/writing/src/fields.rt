@@ -1,0 +1,81 @@
+// The fields of a plan file.
+ghost use mathlib.Core.List.{[], _∷_};
+ghost use Prim.Native.Nat.{_+_, _-_, _*_, _<_, _≤_};
+ghost use lib.ListN.{length};
+ghost use lib.Seq.{slice};
+ghost use Rattle.laws.specs.Entry.{two, twos};
+ghost use Rattle.model.specs.File.{headTag, stateTag, endTag};
+ghost use Rattle.model.specs.Bytes.{commandsBytes};
+ghost use Rattle.writing.specs.Wrote.{Wrote};
+use crate::bytes::put_byte;
+use crate::bytes::put_pair;
+use crate::bytes::put_two;
+use tables::Size;
+use tables::internal::Span;
+use tables::internal::at;
+
+const HEAD: usize = 1;
+
+const STATE: usize = 2;
+
+const COMMAND: usize = 3;
+
+const END: usize = 4;
+
+pub fn write_head(size: Size, out: &mut [u8]) -> usize
+    requires { ⌜ (7 ≤ length (now out)) × (size .n < 65536) × (size .start < 65536) ⌝ }
+    ensures { λ r. ⌜ Wrote (now (out .entry)) 0 (headTag ∷ two 4 (two (size .n) (two (size .start) []))) (now (out .exit)) r ⌝ }
+{
+    let length = put_byte(out, 0, HEAD);
+    let n = put_two(out, length, 4);
+    put_pair(out, n, size.n, size.start)
+}
+
+// A state field, without the state's commands.
+pub fn write_row(span: Span, out: &mut [u8], place: usize) -> usize
+    requires { ⌜ (place + 8 ≤ length (now out)) × (span .kind < 256) × (span .first ≤ span .end) × (span .end < 65536) × (span .practice < 65536) ⌝ }
+    ensures { λ r. ⌜ Wrote (now (out .entry)) place (stateTag ∷ two 5 (span .kind ∷ two (span .end - span .first) (two (span .practice) []))) (now (out .exit)) r ⌝ }
+{
+    let length = put_byte(out, place, STATE);
+    let kind = put_two(out, length, 5);
+    let count = put_byte(out, kind, span.kind);
+    put_pair(out, count, span.end - span.first, span.practice)
+}
+
+// The outcomes at the places from `from` up to `end`.
+fn write_outcomes(outcomes: &[u16], from: usize, end: usize, out: &mut [u8], place: usize) -> usize
+    requires { ⌜ (from ≤ end) × (end ≤ length (now outcomes)) × (place + (end - from) * 2 ≤ length (now out)) ⌝ }
+    ensures { λ r. ⌜ Wrote (now (out .entry)) place (twos (slice from end (now (outcomes .entry))) []) (now (out .exit)) r ⌝ }
+{
+    let mut next = place;
+    let mut j = from;
+    while j < end {
+        next = put_two(out, next, at(outcomes, j));
+        j += 1;
+    }
+    next
+}
+
+// The command whose outcomes are at the places from `from` up to `end`.
+pub fn write_command(
+    outcomes: &[u16],
+    from: usize,
+    end: usize,
+    out: &mut [u8],
+    place: usize,
+) -> usize
+    requires { ⌜ (from ≤ end) × (end ≤ length (now outcomes)) × (end < 32768) × (place + 3 + (end - from) * 2 ≤ length (now out)) ⌝ }
+    ensures { λ r. ⌜ Wrote (now (out .entry)) place (commandsBytes (slice from end (now (outcomes .entry)) ∷ []) []) (now (out .exit)) r ⌝ }
+{
+    let length = put_byte(out, place, COMMAND);
+    let first = put_two(out, length, (end - from) * 2);
+    write_outcomes(outcomes, from, end, out, first)
+}
+
+pub fn write_end(out: &mut [u8], place: usize) -> usize
+    requires { ⌜ place + 3 ≤ length (now out) ⌝ }
+    ensures { λ r. ⌜ Wrote (now (out .entry)) place (endTag ∷ two 0 []) (now (out .exit)) r ⌝ }
+{
+    let length = put_byte(out, place, END);
+    put_two(out, length, 0)
+}

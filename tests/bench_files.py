@@ -1,0 +1,60 @@
+"""What the program bench_files is run on, and what it must print. With --check: whether the two files are what this makes."""
+import pathlib
+import sys
+
+import reference
+from plans import largest, shapes
+from reference import COMMANDS, OUTCOMES, STATES, Plan, Refused, State, two, write
+
+HERE = pathlib.Path(__file__).resolve().parent.parent / "crates" / "bench_files"
+
+
+def frame(data, rows=STATES, firsts=COMMANDS, outcomes=OUTCOMES):
+    return two(len(data)) + two(rows) + two(firsts) + two(outcomes) + data
+
+
+def said(data, rows=STATES, firsts=COMMANDS, outcomes=OUTCOMES):
+    try:
+        p = reference.read(data)
+        reference.need(9, p.n <= rows and p.m <= firsts and p.t <= outcomes)
+    except Refused as r:
+        return f"refused {r.number}\n"
+    return f"{p.n} {p.m} {p.t} {p.start} same\n"
+
+
+def cases():
+    """Document 01's bench plans that are not starred, then damaged files, then plans of many shapes."""
+    hexa = bytes.fromhex
+    wide = write(Plan([State(2)] * STATES))
+    yield (wide,)
+    yield (wide[:3] + two(STATES + 1) + wide[5:],)
+    yield (hexa("01 0004 0002 0000 02 0005 00 0001 FFFF 03 0000"),)
+    yield (hexa("01 0004 0002 0000 02 0005 00 0001 FFFF 03 0004 0001 0001"),)
+    yield (wide, STATES - 1)
+    two_states = write(Plan([State(0, [[0, 1]]), State(2)]))
+    for rows, firsts, outcomes in (2, 1, 2), (1, 1, 2), (2, 0, 2), (2, 1, 1), (0, 0, 0):
+        yield two_states, rows, firsts, outcomes
+    case_a = next(shapes())
+    data = write(case_a)
+    for cut in range(len(data)):
+        yield (data[:cut],)
+    for i in range(len(data)):
+        for change in (1, 128):
+            yield (data[:i] + bytes([data[i] ^ change]) + data[i + 1:],)
+    yield (data + b"\x00",)
+    for plan in shapes():
+        yield (write(plan),)
+
+
+def main():
+    made = {"stdin": b"".join(frame(*c) for c in cases()), "stdout": "".join(said(*c) for c in cases()).encode()}
+    for name, data in made.items():
+        if "--check" in sys.argv:
+            if (HERE / name).read_bytes() != data:
+                sys.exit(f"crates/bench_files/{name} is not what tests/bench_files.py makes")
+        else:
+            (HERE / name).write_bytes(data)
+            print(name, len(data), "bytes")
+
+
+main()

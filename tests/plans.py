@@ -1,0 +1,73 @@
+"""Plans of many shapes, for the bench programs."""
+import random
+
+from reference import NONE, Plan, State
+
+
+def rest():
+    return State(2)
+
+
+def failing():
+    return State(1)
+
+
+def ring(k, leak=None, practice=NONE):
+    """A ring of k states; the state `leak` may also fail."""
+    states = [State(0, [sorted({(i + 1) % k} | ({k} if i == leak else set()))], practice) for i in range(k)]
+    return Plan(states + [failing()])
+
+
+def chain(k):
+    """k states in a row, the last of which steps to failure."""
+    return Plan([State(0, [[i + 1]]) for i in range(k)] + [failing()])
+
+
+def ladder(k):
+    """Each state may go on or stay, but staying may fail at the end: one state is found lost in each round."""
+    return Plan([State(0, [[i + 1], [i + 1, i + 2]]) for i in range(k)] + [failing(), failing()])
+
+
+def largest():
+    """1,024 states, 4,096 commands and 16,384 outcomes."""
+    n = 1024
+    return Plan([State(0, [sorted({(i * 7 + c * 31 + j * 256) % n for j in range(4)}) for c in range(4)], c_of(i)) for i in range(n)])
+
+
+def c_of(i):
+    return NONE if i % 3 == 0 else i % 4
+
+
+def scattered(seed, n, commands, outcomes, kinds=(8, 1, 1)):
+    """A random plan; the same for the same seed."""
+    r = random.Random(seed)
+    states = []
+    for _ in range(n):
+        kind = r.choices((0, 1, 2), kinds)[0]
+        own = [sorted(r.sample(range(n), r.randint(1, min(outcomes, n)))) for _ in range(r.randint(0, commands))] if kind == 0 else []
+        states.append(State(kind, own, r.choice([NONE] + list(range(len(own))))))
+    return Plan(states, r.randrange(n))
+
+
+def case_a():
+    return Plan([State(0, [[1], [2, 3]], 1), State(0, [[0, 1]], 0), rest(), State(0, [[4], [2, 4]], 0), failing(), State(0, [[3]])])
+
+
+def shapes():
+    """The plans that every bench program runs."""
+    yield case_a()
+    yield Plan([rest()])
+    yield Plan([failing()])
+    yield Plan([State(0, [])])
+    yield Plan([State(0, [[1], [0]]), failing()])
+    yield Plan([State(0, [[1], [0]], 0), State(0, [[2]]), failing()])
+    yield ring(5)
+    for leak in range(5):
+        yield ring(5, leak)
+    yield ring(5, 3, 0)
+    yield chain(9)
+    yield ladder(7)
+    for seed in range(40):
+        yield scattered(seed, 2 + seed % 12, 3, 3)
+    for seed in range(40, 50):
+        yield scattered(seed, 30, 4, 4, (20, 1, 2))
