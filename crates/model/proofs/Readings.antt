@@ -20,7 +20,7 @@ pub data CommandsRead (n : ℕ) : ℕ → ℕ → List ℕ → List (List ℕ) �
   more : {k t t₁ : ℕ} {s os s₁ : List ℕ} {cs : List (List ℕ)} → Commanded n t s os
       → CommandsRead n k (t + length os) (drop (3 + length os * 2) s) cs t₁ s₁ → CommandsRead n (suc k) t s (os ∷ cs) t₁ s₁
 
-commands-inv : (n k t : ℕ) (s : List ℕ) (x : List (List ℕ) × ℕ × List ℕ) → commands n k t s ≡ given x → CommandsRead n k t s (x .0) (x .1) (x .2)
+pub commands-inv : (n k t : ℕ) (s : List ℕ) (x : List (List ℕ) × ℕ × List ℕ) → commands n k t s ≡ given x → CommandsRead n k t s (x .0) (x .1) (x .2)
 unfolding commands
 commands-inv n zero t s x e = rw (← (given-inj e)) none
 commands-inv n (suc k) t s x e =
@@ -32,7 +32,7 @@ pub commands-count : {n k t t₁ : ℕ} {s s₁ : List ℕ} {cs : List (List ℕ
 commands-count none = refl
 commands-count (more c r) = ap suc (commands-count r)
 
-outcomes-count : {n k t t₁ : ℕ} {s s₁ : List ℕ} {cs : List (List ℕ)} → CommandsRead n k t s cs t₁ s₁ → t₁ ≡ t + length (joined cs)
+pub outcomes-count : {n k t t₁ : ℕ} {s s₁ : List ℕ} {cs : List (List ℕ)} → CommandsRead n k t s cs t₁ s₁ → t₁ ≡ t + length (joined cs)
 unfolding joined
 outcomes-count (none {t}) = sym (add-zero t)
 outcomes-count (more c r) = outcomes-count r ∙ simp (length-append, add-assoc)

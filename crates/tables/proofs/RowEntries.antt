@@ -1,7 +1,7 @@
 -- The rows of a table of entries, three each: how many there are, and which entries each is.
 use mathlib.Core.Path.{_≡_, refl}
 use mathlib.Core.List.{List, [], _∷_}
-use Prim.Native.Nat.{ℕ, zero, suc, _+_, _*_, _/_, _<_}
+use Prim.Native.Nat.{ℕ, zero, suc, _+_, _*_, _/_, _<_, _≤_}
 use native.Mathlib.Omega.{arith}
 use lib.ListN.{length, getD, set}
 use Rattle.model.specs.Tables.{Row}
@@ -20,6 +20,10 @@ next s = omega arith
 
 next-at : (s k : ℕ) → suc s * 3 + k ≡ suc (suc (suc (s * 3 + k)))
 next-at s k = omega arith
+
+-- three entries are room for a row
+pub row-room : (l : List ℕ) (s : ℕ) → s * 3 + 3 ≤ length l → s < length (rowsIn l)
+row-room l s h = rw (rows-length l) (omega arith)
 
 pub row-entries : (l : List ℕ) (s : ℕ) (d : Row) → s < length (rowsIn l)
     → getD (rowsIn l) s d ≡ record { kind = getD l (s * 3) 0; first = getD l (s * 3 + 1) 0; policy = getD l (s * 3 + 2) 0 }

@@ -1,0 +1,173 @@
+-- The call, by the way that it ends.
+use mathlib.Core.Path.{_≡_, refl, sym, ap, ap₂, _∙_}
+use mathlib.Core.Bool.{_&&_}
+use mathlib.Core.List.{List, [], _∷_, _++_}
+use Prim.Native.Nat.{ℕ, suc, _+_, _*_, _/_, _<_, _≤_}
+use native.Mathlib.Omega.{arith}
+use lib.Dec.{leb}
+use lib.ListN.{length, drop, length-drop, length-append}
+use lib.Seq.{drop-drop}
+use borrow.Author.Tests.{le-leb, lt-leb}
+use Rattle.laws.specs.Entry.{be16}
+use Rattle.laws.specs.Lists.{joined}
+use Rattle.laws.specs.Writes.{putAll}
+use Rattle.laws.proofs.Joins.{length-joined}
+use Rattle.laws.proofs.Writes.{put-front}
+use Rattle.model.specs.Refusal.{Refusal as Word, Answer, Cramped, given, refused, answer, need, _>>=_, _>>_}
+use Rattle.model.specs.File.{State, Tree, maxCommands, maxOutcomes, read}
+use Rattle.model.specs.Tables.{Size, Tables, allCommands, rowsFrom, firstsFrom, tablesOf}
+use Rattle.model.specs.Calls.{reading, left}
+use Rattle.model.specs.Boundary.{rowEntries}
+use Rattle.model.proofs.Readings.{CommandsRead, StatesRead, none, more, read-inv, few-commands, few-outcomes, states-count}
+use Rattle.reading.specs.Filling.{commandsIn, commandsLength, statesIn, first, StatesRoom}
+use Rattle.reading.proofs.Passing.{answer-inv, refused-inv}
+use Rattle.reading.proofs.FillStates.{length-firsts}
+
+-- ---- a file that is read holds its states
+
+commands-stand : {n k t t₁ : ℕ} {s s₁ : List ℕ} {cs : List (List ℕ)} → CommandsRead n k t s cs t₁ s₁
+    → (commandsIn k s ≡ cs) × (s₁ ≡ drop (commandsLength cs) s) × (commandsLength cs ≤ length s)
+unfolding commandsIn joined
+commands-stand none = (refl, refl, omega arith)
+commands-stand (more {k} {s} {os} {cs} c r) =
+    let (a, b, l) = commands-stand r in
+    let long : be16 s 1 ≡ length os * 2 = c .framed .long in
+    let half : be16 s 1 / 2 ≡ length os = omega arith in
+    let e = length-append os (joined cs) in
+    let d : 3 + length os * 2 + commandsLength cs ≡ suc (length cs) * 3 + length (os ++ joined cs) * 2 = omega arith in (
+      rw half (ap₂ (λ (x : List ℕ) (y : List (List ℕ)). x ∷ y) (c .are) a),
+      b ∙ drop-drop (commandsLength cs) (3 + length os * 2) s ∙ ap (λ (z : ℕ). drop z s) d,
+      omega (arith, length-drop (3 + length os * 2) s, c .framed .fits),
+    )
+
+states-stand : {n k m t : ℕ} {s s₁ : List ℕ} {ss : List State} → StatesRead n k m t s ss s₁
+    → (statesIn k s ≡ ss) × (length ss * 8 + commandsLength (allCommands ss) ≤ length s)
+unfolding statesIn allCommands joined
+states-stand none = (refl, omega arith)
+states-stand (more {k} {kind} {count} {policy} {s} {s₁} {cs} {ss} g c r) =
+    let (a, b, l) = commands-stand c in
+    let (d, i) = states-stand r in
+    let lm = length-append cs (allCommands ss) in
+    let lt = length-joined cs (allCommands ss) in
+    let at : drop (8 + commandsLength cs) s ≡ s₁ = sym (b ∙ drop-drop (commandsLength cs) 8 s) in (
+      rw (g .counts, a, g .is, g .advises, at) (ap (λ (z : List State). record { kind = kind; policy = policy; commands = cs } ∷ z) d),
+      omega (arith, g .framed .fits, length-drop 8 s, ap length b, length-drop (commandsLength cs) (drop 8 s)),
+    )
+
+length-rows : (m : ℕ) (ss : List State) → length (rowEntries (rowsFrom m ss)) ≡ length ss * 3
+unfolding rowsFrom rowEntries
+length-rows m [] = refl
+length-rows m (s ∷ ss) = let r = length-rows (m + length (s .commands)) ss in omega arith
+
+-- ---- the call
+
+abbrev pub sizeOf : Tree → Size
+sizeOf p = tablesOf p .size
+
+-- after a refusal each table is as it was
+pub unchanged : (x : Answer Tables) {r : Word} (rows firsts outs : List ℕ) → x ≡ refused r
+    → (refused r ≡ answer (λ T. T .size) x)
+    × ((rows ≡ left (λ T. rowEntries (T .rows)) x rows) × ((firsts ≡ left (λ T. T .firsts) x firsts) × (outs ≡ left (λ T. T .outcomes) x outs)))
+unfolding answer left
+unchanged x rows firsts outs e = rw e (refl, (refl, (refl, refl)))
+
+pub no-plan : (R F O : ℕ) (file : List ℕ) {r : Word} → answer sizeOf (read file) ≡ refused r → reading R F O file ≡ refused r
+unfolding reading _>>=_
+no-plan R F O file e = rw (refused-inv sizeOf (read file) e)
+
+module _ (file : List ℕ) (z : Size) (e : answer sizeOf (read file) ≡ given z) where
+  plan : (p : Tree) × (read file ≡ given p) × (sizeOf p ≡ z)
+  plan = answer-inv sizeOf (read file) e
+
+  module _ (R F O : ℕ) where
+    opened : reading R F O file ≡ (need Cramped (leb (z .n) R && leb (z .m) F && leb (z .t) O) >> given (tablesOf (plan .0)))
+    unfolding reading _>>=_
+    opened =
+        let (p, i, j) = plan in
+        ap (λ (x : Answer Tree). x >>= λ q. need Cramped (leb (sizeOf q .n) R && leb (sizeOf q .m) F && leb (sizeOf q .t) O) >> given (tablesOf q)) i
+        ∙ ap (λ (y : Size). need Cramped (leb (y .n) R && leb (y .m) F && leb (y .t) O) >> given (tablesOf p)) j
+
+    pub cramped-rows : R < z .n → reading R F O file ≡ refused Cramped
+    unfolding need _>>_
+    cramped-rows a = opened ∙ rw (lt-leb _ _ a)
+
+    module _ (a : z .n ≤ R) where
+      pub cramped-firsts : F < z .m → reading R F O file ≡ refused Cramped
+      unfolding need _>>_
+      cramped-firsts b = opened ∙ rw (le-leb _ _ a, lt-leb _ _ b)
+
+      pub cramped-outcomes : z .m ≤ F → O < z .t → reading R F O file ≡ refused Cramped
+      unfolding need _>>_
+      cramped-outcomes b c = opened ∙ rw (le-leb _ _ a, le-leb _ _ b, lt-leb _ _ c)
+
+      roomy : z .m ≤ F → z .t ≤ O → reading R F O file ≡ given (tablesOf (plan .0))
+      unfolding need _>>_
+      roomy b c = opened ∙ rw (le-leb _ _ a, le-leb _ _ b, le-leb _ _ c)
+
+  -- the states stand in the file, as many as the size record counts
+  record Stands (ss : List State) : Type 0 where
+    is : statesIn (z .n) (drop 7 file) ≡ ss
+    rows : length ss ≡ z .n
+    firsts : length (allCommands ss) ≡ z .m
+    outcomes : length (joined (allCommands ss)) ≡ z .t
+    room : {R F O : ℕ} → z .n ≤ R / 3 → z .m ≤ F → z .t ≤ O → StatesRoom (length file) R F O 0 first ss
+
+  stands : Stands (plan .0 .states)
+  unfolding tablesOf
+  stands =
+      let (p, i, j) = plan in
+      let r = read-inv file p i in
+      let (a, l) = states-stand (r .stated) in
+      let n : length (p .states) ≡ z .n = ap (λ (y : Size). y .n) j in
+      let m : length (allCommands (p .states)) ≡ z .m = ap (λ (y : Size). y .m) j in
+      let t : length (joined (allCommands (p .states))) ≡ z .t = ap (λ (y : Size). y .t) j in
+      let counts : r .n ≡ z .n = sym (states-count (r .stated)) ∙ n in
+      let few-m : 0 + length (allCommands (p .states)) ≤ maxCommands = few-commands (r .stated) (omega arith) in
+      let few-t : 0 + length (joined (allCommands (p .states))) ≤ maxOutcomes = few-outcomes (r .stated) (omega arith) in
+      let fits : 7 ≤ length file = r .headed .framed .fits in
+      let d = length-drop 7 file in
+      record {
+        is = ap (λ (y : ℕ). statesIn y (drop 7 file)) (sym counts) ∙ a;
+        rows = n;
+        firsts = m;
+        outcomes = t;
+        room = λ x y w. record {
+          in-file = omega arith;
+          in-rows = omega arith;
+          in-firsts = omega arith;
+          in-outcomes = omega arith;
+          few-commands = few-m;
+          few-outcomes = few-t;
+        };
+      }
+
+  pub room : {R F O : ℕ} → z .n ≤ R / 3 → z .m ≤ F → z .t ≤ O → StatesRoom (length file) R F O 0 first (statesIn (z .n) (drop 7 file))
+  room a b c = rw (stands .is) (stands .room a b c)
+
+  pub filled : (rows firsts outs : List ℕ) {rows′ firsts′ outs′ : List ℕ}
+      → z .n ≤ length rows / 3 → z .m ≤ length firsts → z .t ≤ length outs
+      → rows′ ≡ putAll rows 0 (rowEntries (rowsFrom 0 (statesIn (z .n) (drop 7 file))))
+      → firsts′ ≡ putAll firsts 0 (firstsFrom 0 (allCommands (statesIn (z .n) (drop 7 file))))
+      → outs′ ≡ putAll outs 0 (joined (allCommands (statesIn (z .n) (drop 7 file))))
+      → let x : Answer Tables = reading (length rows / 3) (length firsts) (length outs) file in
+      (given z ≡ answer (λ T. T .size) x)
+      × ((rows′ ≡ left (λ T. rowEntries (T .rows)) x rows) × ((firsts′ ≡ left (λ T. T .firsts) x firsts) × (outs′ ≡ left (λ T. T .outcomes) x outs)))
+  unfolding answer left tablesOf
+  filled rows firsts outs a b c er ef eo =
+      let ss : List State = plan .0 .states in
+      let t = stands in
+      let q : reading (length rows / 3) (length firsts) (length outs) file ≡ given (tablesOf (plan .0))
+      = roomy (length rows / 3) (length firsts) (length outs) a b c in
+      rw q (
+        ap given (sym (plan .2)),
+        (
+          er ∙ ap (λ (y : List State). putAll rows 0 (rowEntries (rowsFrom 0 y))) (t .is)
+              ∙ put-front rows (rowEntries (rowsFrom 0 ss)) (omega (arith, t .rows, length-rows 0 ss)),
+          (
+            ef ∙ ap (λ (y : List State). putAll firsts 0 (firstsFrom 0 (allCommands y))) (t .is)
+                ∙ put-front firsts (firstsFrom 0 (allCommands ss)) (omega (arith, t .firsts, length-firsts 0 (allCommands ss))),
+            eo ∙ ap (λ (y : List State). putAll outs 0 (joined (allCommands y))) (t .is)
+                ∙ put-front outs (joined (allCommands ss)) (omega (arith, t .outcomes)),
+          ),
+        ),
+      )

@@ -1,0 +1,150 @@
+-- The filling of outcomes and of commands: what is left to write at each turn.
+use mathlib.Core.Path.{_≡_, refl, sym, ap, _∙_}
+use mathlib.Core.List.{List, [], _∷_, _++_}
+use Prim.Native.Nat.{ℕ, zero, suc, _+_, _-_, _*_, _/_, _<_, _≤_}
+use native.Mathlib.Omega.{arith}
+use native.Mathlib.Nat.{add-zero}
+use lib.ListN.{length, drop, set, length-drop, length-set, length-append}
+use lib.Seq.{drop-drop}
+use Rattle.laws.specs.Entry.{be16}
+use Rattle.laws.specs.Lists.{joined}
+use Rattle.laws.specs.Writes.{putAll}
+use Rattle.laws.proofs.Writes.{length-put, put-append}
+use Rattle.model.specs.File.{maxOutcomes, entries}
+use Rattle.model.specs.Tables.{firstsFrom}
+use Rattle.model.proofs.Fields.{length-entries}
+use Rattle.reading.specs.declared.bytes.Mark.{Mark}
+use Rattle.reading.specs.Meaning.{rest}
+use Rattle.reading.specs.Filling.{commandsIn, commandsLength, passed, Room}
+use Rattle.reading.proofs.FieldWays.{entriesFrom, entries-all, entries-more, entries-none}
+
+-- ---- outcomes
+
+module _ (s : List ℕ) (k t : ℕ) where
+  abbrev pub outcomesLeft : ℕ → List ℕ → List ℕ
+  outcomesLeft i outs = putAll outs (t + i) (entriesFrom s k i)
+
+  pub outcomes-all : (outs : List ℕ) → outcomesLeft 0 outs ≡ putAll outs t (entries k s)
+  outcomes-all outs = rw (entries-all s k, add-zero t)
+
+  module _ (outs : List ℕ) (i : ℕ) where
+    pub outcomes-put : {o : ℕ} → i < k → o ≡ be16 s (i * 2) → outcomesLeft (i + 1) (set outs (t + i) o) ≡ outcomesLeft i outs
+    unfolding putAll
+    outcomes-put h e =
+        let a : t + (i + 1) ≡ t + i + 1 = omega arith in
+        rw (e, a) (sym (ap (putAll outs (t + i)) (entries-more s k i h)))
+
+    pub outcomes-done : k ≤ i → outcomesLeft i outs ≡ outs
+    unfolding putAll
+    outcomes-done h = ap (putAll outs (t + i)) (entries-none s k i h)
+
+-- ---- commands
+
+-- the tables that a filling began with, those that it has come to, and the commands left at the mark
+pub record Filling (bytes : ℕ) (firsts₀ outs₀ : List ℕ) (k₀ : Mark) (cs₀ : List (List ℕ)) (firsts outs : List ℕ) (k : Mark) (cs : List (List ℕ)) : Type 0 where
+  pub room : Room bytes (length firsts) (length outs) k cs
+  pub same-firsts : length firsts ≡ length firsts₀
+  pub same-outs : length outs ≡ length outs₀
+  pub put-firsts : putAll firsts (k .m) (firstsFrom (k .t) cs) ≡ putAll firsts₀ (k₀ .m) (firstsFrom (k₀ .t) cs₀)
+  pub put-outs : putAll outs (k .t) (joined cs) ≡ putAll outs₀ (k₀ .t) (joined cs₀)
+  pub to : passed k cs ≡ passed k₀ cs₀
+
+filling-start : {bytes : ℕ} {firsts outs : List ℕ} {k : Mark} {cs : List (List ℕ)} → Room bytes (length firsts) (length outs) k cs
+    → Filling bytes firsts outs k cs firsts outs k cs
+filling-start r = record { room = r; same-firsts = refl; same-outs = refl; put-firsts = refl; put-outs = refl; to = refl }
+
+module _ {bytes : ℕ} {firsts₀ outs₀ : List ℕ} {k₀ : Mark} {cs₀ : List (List ℕ)} {firsts outs : List ℕ} {k : Mark} where
+  filling-next : {os : List ℕ} {cs : List (List ℕ)} (c : ℕ) → Filling bytes firsts₀ outs₀ k₀ cs₀ firsts outs k (os ∷ cs) → length os ≡ c
+      → {outs′ : List ℕ} → outs′ ≡ putAll outs (k .t) os
+      → Filling bytes firsts₀ outs₀ k₀ cs₀ (set firsts (k .m) (k .t)) outs′ (record { at = k .at + (3 + c * 2); m = k .m + 1; t = k .t + c }) cs
+  unfolding putAll firstsFrom joined
+  filling-next {os} {cs} c f e {outs′} o =
+      let r = f .room in
+      let l = length-append os (joined cs) in
+      let same : length outs′ ≡ length outs = ap length o ∙ length-put outs (k .t) os in
+      let a : k .at + (3 + c * 2) + commandsLength cs ≡ k .at + (suc (length cs) * 3 + length (os ++ joined cs) * 2) = omega arith in
+      let b : k .m + 1 + length cs ≡ k .m + suc (length cs) = omega arith in
+      let d : k .t + c + length (joined cs) ≡ k .t + length (os ++ joined cs) = omega arith in
+      let n = length-set firsts (k .m) (k .t) in
+      record {
+        room = record { in-file = omega arith; in-firsts = omega arith; in-outcomes = omega arith; few = omega arith };
+        same-firsts = n ∙ f .same-firsts;
+        same-outs = same ∙ f .same-outs;
+        put-firsts = rw (← e) (f .put-firsts);
+        put-outs = rw (o, ← e, ← (put-append outs (k .t) os (joined cs))) (f .put-outs);
+        to = rw (a, b, d) (f .to);
+      }
+
+  pub filling-end : Filling bytes firsts₀ outs₀ k₀ cs₀ firsts outs k []
+      → (firsts ≡ putAll firsts₀ (k₀ .m) (firstsFrom (k₀ .t) cs₀)) × ((outs ≡ putAll outs₀ (k₀ .t) (joined cs₀)) × (k ≡ passed k₀ cs₀))
+  unfolding putAll firstsFrom joined
+  filling-end f =
+      let a : k .at + 0 ≡ k .at = add-zero (k .at) in
+      let b : k .m + 0 ≡ k .m = add-zero (k .m) in
+      let d : k .t + 0 ≡ k .t = add-zero (k .t) in
+      let same : passed k [] ≡ k = rw (a, b, d) in
+      (f .put-firsts, (f .put-outs, sym same ∙ f .to))
+
+commands-in : (s : List ℕ) (end m : ℕ) → m < end
+    → commandsIn (end - m) s ≡ entries (be16 s 1 / 2) (drop 3 s) ∷ commandsIn (end - (m + 1)) (drop (3 + be16 s 1 / 2 * 2) s)
+unfolding commandsIn
+commands-in s end m h = let e : end - m ≡ suc (end - (m + 1)) = omega arith in rw e
+
+pub commands-in-count : (k : ℕ) (s : List ℕ) → length (commandsIn k s) ≡ k
+unfolding commandsIn
+commands-in-count zero s = refl
+commands-in-count (suc k) s = ap suc (commands-in-count k (drop (3 + be16 s 1 / 2 * 2) s))
+
+-- what a turn needs: the size field, the outcomes and their places
+pub record Turn (file firsts outs : List ℕ) (k : Mark) : Type 0 where
+  pub some : 2 < length (rest file k)
+  pub low : k .m < length firsts
+  pub few : k .t + be16 (rest file k) 1 / 2 ≤ maxOutcomes
+  pub inside : k .at + (3 + be16 (rest file k) 1 / 2 * 2) ≤ length file
+  pub within : be16 (rest file k) 1 / 2 * 2 ≤ length (drop (k .at + 3) file)
+  pub places : k .t + be16 (rest file k) 1 / 2 ≤ length outs
+
+module _ {firsts₀ outs₀ : List ℕ} {k₀ : Mark} {cs₀ : List (List ℕ)} {firsts outs : List ℕ} (file : List ℕ) (k : Mark) (end : ℕ)
+    (f : Filling (length file) firsts₀ outs₀ k₀ cs₀ firsts outs k (commandsIn (end - k .m) (rest file k))) where
+  pub filling-left : end ≤ k .m → Filling (length file) firsts₀ outs₀ k₀ cs₀ firsts outs k []
+  unfolding commandsIn
+  filling-left h = let e : end - k .m ≡ 0 = omega arith in rw e at f
+
+  module _ (h : k .m < end) where
+    opened : Filling (length file) firsts₀ outs₀ k₀ cs₀ firsts outs k
+        (entries (be16 (rest file k) 1 / 2) (drop 3 (rest file k)) ∷ commandsIn (end - (k .m + 1)) (drop (3 + be16 (rest file k) 1 / 2 * 2) (rest file k)))
+    opened = rw (commands-in (rest file k) end (k .m) h) at f
+
+    pub filling-turn : Turn file firsts outs k
+    unfolding joined
+    filling-turn =
+        let r = opened .room in
+        let c = be16 (rest file k) 1 / 2 in
+        let os : List ℕ = entries c (drop 3 (rest file k)) in
+        let cs : List (List ℕ) = commandsIn (end - (k .m + 1)) (drop (3 + c * 2) (rest file k)) in
+        let l : length (os ++ joined cs) ≡ c + length (joined cs)
+        = length-append os (joined cs) ∙ ap (λ (z : ℕ). z + length (joined cs)) (length-entries c (drop 3 (rest file k))) in
+        let inside : k .at + (3 + c * 2) ≤ length file = omega (arith, r .in-file) in
+        record {
+          some = omega (arith, length-drop (k .at) file);
+          low = omega (arith, r .in-firsts);
+          few = omega (arith, r .few);
+          inside = inside;
+          within = omega (arith, length-drop (k .at + 3) file);
+          places = omega (arith, r .in-outcomes);
+        }
+
+    pub filling-more : {c : ℕ} {firsts′ outs′ : List ℕ} → c ≡ be16 (rest file k) 1 / 2 → firsts′ ≡ set firsts (k .m) (k .t) → outs′ ≡ putAll outs (k .t) (entries c (drop (k .at + 3) file))
+        → let next : Mark = record { at = k .at + (3 + c * 2); m = k .m + 1; t = k .t + c } in
+        Filling (length file) firsts₀ outs₀ k₀ cs₀ firsts′ outs′ next (commandsIn (end - next .m) (rest file next))
+    filling-more {c} e p o =
+        let a : drop (3 + c * 2) (rest file k) ≡ drop (k .at + (3 + c * 2)) file = drop-drop (3 + c * 2) (k .at) file in
+        let b : drop 3 (rest file k) ≡ drop (k .at + 3) file = drop-drop 3 (k .at) file in
+        rw p (filling-next c (rw (← e, a, b) at opened) (length-entries c (drop (k .at + 3) file)) o)
+
+pub filling-all : (count m : ℕ) (s : List ℕ) → commandsIn (m + count - m) s ≡ commandsIn count s
+filling-all count m s = let e : m + count - m ≡ count = omega arith in rw e
+
+pub filling-begin : {firsts outs : List ℕ} (file : List ℕ) (k : Mark) (count : ℕ) → Room (length file) (length firsts) (length outs) k (commandsIn count (rest file k))
+    → let cs : List (List ℕ) = commandsIn (k .m + count - k .m) (rest file k) in Filling (length file) firsts outs k cs firsts outs k cs
+filling-begin file k count r = rw (filling-all count (k .m) (rest file k)) (filling-start r)

@@ -1,0 +1,6 @@
+pub mod Passing
+pub mod FieldWays
+pub mod Scanning
+pub mod FillCommands
+pub mod FillStates
+pub mod Calls

@@ -1,0 +1,16 @@
+use lib.ListN.{length-drop}
+use mathlib.Core.Path.{sym}
+use borrow.Author.Needs.{needs}
+use Rattle.reading.proofs.bytes.left.Statement.{statement}
+use Rattle.reading.proofs.bytes.left.Tie as tie
+
+sub-result : tie.Need-sub-result
+sub-result c = search needs
+
+returns : tie.Need-returns
+returns c =
+    let a = c .args in
+    sym (length-drop (a .at) (a .file .now))
+
+pub left-spec : {M : Type 1} → statement M
+left-spec = tie.close (tie.spec sub-result returns)

@@ -1,0 +1,78 @@
+use Prim.Native.Nat.{ℕ, _+_, _/_}
+use Rattle.reading.proofs.FieldWays.{command-long, command-limit, command-walks}
+use Rattle.reading.proofs.Passing.{refuses, ends, went}
+use Rattle.reading.specs.Meaning.{rest, afterField}
+use Rattle.tables.specs.declared.Refusal.the-variants.{Limit}
+use Rattle.model.specs.File.{command}
+use lib.ListN.{length-drop}
+use native.Mathlib.Omega.{arith}
+use mathlib.Core.Path.{ap}
+use borrow.Author.Needs.{needs}
+use Rattle.reading.proofs.fields.read_command.Statement.{statement}
+use Rattle.reading.proofs.fields.read_command.Tie as tie
+
+field-requires : tie.Need-field-requires
+field-requires c κs = search needs
+
+enum-known-f : tie.Need-enum-known-f
+enum-known-f c = search needs
+
+enum-told : tie.Need-enum-told
+enum-told c = search needs
+
+returns : tie.Need-returns
+unfolding command
+returns c = ends _ _ _ _ (c .enum-told .given .1) (c .before .before .field .ensures)
+
+number-requires : tie.Need-number-requires
+number-requires c κs =
+    let a = c .before .before .before .before .before .args in
+    let w = went (c .before .f .given .1) (c .before .before .before .field .ensures) in
+    omega (arith, command-long (rest (a .file .now) (a .k)) (afterField (a .file .now) (a .k)) (w .0))
+
+sub-if1 : tie.Need-sub-if1
+sub-if1 c = search needs
+
+returns-2 : tie.Need-returns-2
+returns-2 c =
+    let a = c .before .before .before .before .before .before .before .before .args in
+    let w = went (c .before .before .before .before .f .given .1) (c .before .before .before .before .before .before .field .ensures) in
+    refuses Limit (command-limit (rest (a .file .now) (a .k)) (afterField (a .file .now) (a .k)) (w .0) _ _ _ (omega (arith, c .before .before .number .ensures, c .before .before .before .before .before .before .before .before .pre)))
+
+add-check-outcomes : tie.Need-add-check-outcomes
+add-check-outcomes c = search needs
+
+add-t11 : tie.Need-add-t11
+add-t11 c = search needs
+
+add-check-outcomes-2 : tie.Need-add-check-outcomes-2
+add-check-outcomes-2 c = search needs
+
+check-outcomes-requires : tie.Need-check-outcomes-requires
+check-outcomes-requires c κs =
+    let a = c .before .before .before .before .before .before .before .before .before .before .before .args in
+    let w = went (c .before .before .before .before .before .before .before .f .given .1) (c .before .before .before .before .before .before .before .before .before .field .ensures) in
+    omega (arith, w .1, c .before .before .before .before .before .before .before .before .before .before .before .pre, c .before .before .before .before .before .number .ensures, command-long (rest (a .file .now) (a .k)) (afterField (a .file .now) (a .k)) (w .0), length-drop (a .k .at) (a .file .now), length-drop (a .k .at + 3) (a .file .now))
+
+returns-3 : tie.Need-returns-3
+returns-3 c =
+    let a = c .before .before .before .before .before .before .before .before .before .before .before .before .args in
+    let w = went (c .before .before .before .before .before .before .before .before .f .given .1) (c .before .before .before .before .before .before .before .before .before .before .field .ensures) in
+    command-walks (a .file .now) (a .k) (c .before .before .before .before .before .before .before .before .f .given .0 .0) (a .n) _ (w .0) (ap (λ (z : ℕ). z / 2) (c .before .before .before .before .before .before .number .ensures)) (omega (arith, c .before .before .before .before .if1 .left, c .before .before .before .before .before .before .before .before .before .before .before .before .pre)) (c .check-outcomes .ensures)
+
+pub read-command-spec : {M : Type 1} → statement M
+read-command-spec =
+    tie.close
+    (tie.spec
+    field-requires
+    enum-known-f
+    enum-told
+    returns
+    number-requires
+    sub-if1
+    returns-2
+    add-check-outcomes
+    add-t11
+    add-check-outcomes-2
+    check-outcomes-requires
+    returns-3)

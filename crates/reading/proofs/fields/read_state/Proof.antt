@@ -1,0 +1,90 @@
+use Rattle.reading.proofs.FieldWays.{state-long, state-kind, state-idle, state-limit, state-passes}
+use Rattle.reading.proofs.Passing.{refuses, ends, went}
+use Rattle.reading.specs.Meaning.{rest, afterField}
+use Rattle.tables.specs.declared.Refusal.the-variants.{Beyond, Idle, Limit}
+use Rattle.model.specs.File.{state}
+use borrow.Author.Tests.{not-true, not-false}
+use native.Mathlib.Omega.{arith}
+use mathlib.Core.Path.{sym, _∙_}
+use borrow.Author.Needs.{needs}
+use Rattle.reading.proofs.fields.read_state.Statement.{statement}
+use Rattle.reading.proofs.fields.read_state.Tie as tie
+
+field-requires : tie.Need-field-requires
+field-requires c κs = search needs
+
+enum-known-f : tie.Need-enum-known-f
+enum-known-f c = search needs
+
+enum-told : tie.Need-enum-told
+enum-told c = search needs
+
+returns : tie.Need-returns
+unfolding state
+returns c = ends _ _ _ _ (c .enum-told .given .1) (c .before .before .field .ensures)
+
+byte-requires : tie.Need-byte-requires
+byte-requires c κs =
+    let a = c .before .before .before .before .before .args in
+    let w = went (c .before .f .given .1) (c .before .before .before .field .ensures) in
+    omega (arith, state-long (a .k .m) (rest (a .file .now) (a .k)) (afterField (a .file .now) (a .k)) (w .0))
+
+number-requires : tie.Need-number-requires
+number-requires c κs =
+    let a = c .before .before .before .before .before .before .args in
+    let w = went (c .before .before .f .given .1) (c .before .before .before .before .field .ensures) in
+    omega (arith, state-long (a .k .m) (rest (a .file .now) (a .k)) (afterField (a .file .now) (a .k)) (w .0))
+
+returns-2 : tie.Need-returns-2
+returns-2 c =
+    let a = c .before .before .before .before .before .before .before .before .args in
+    let w = went (c .before .before .before .before .f .given .1) (c .before .before .before .before .before .before .field .ensures) in
+    refuses Beyond (state-kind (a .k .m) (rest (a .file .now) (a .k)) (afterField (a .file .now) (a .k)) (w .0) _ (omega (arith, c .before .before .byte .ensures)))
+
+number-requires-2 : tie.Need-number-requires-2
+number-requires-2 c κs =
+    let a = c .before .before .before .before .before .before .before .before .args in
+    let w = went (c .before .before .before .before .f .given .1) (c .before .before .before .before .before .before .field .ensures) in
+    omega (arith, state-long (a .k .m) (rest (a .file .now) (a .k)) (afterField (a .file .now) (a .k)) (w .0))
+
+busy-requires : tie.Need-busy-requires
+busy-requires c κs = search needs
+
+returns-3 : tie.Need-returns-3
+returns-3 c =
+    let a = c .before .before .before .before .before .before .before .before .before .before .before .args in
+    let w = went (c .before .before .before .before .before .before .before .f .given .1) (c .before .before .before .before .before .before .before .before .before .field .ensures) in
+    refuses Idle (state-idle (a .k .m) (rest (a .file .now) (a .k)) (afterField (a .file .now) (a .k)) (w .0) _ (omega (arith, c .before .before .before .before .before .byte .ensures, c .before .before .before .if1 .left)) (sym (rw (c .before .before .before .before .before .byte .ensures, c .before .before .before .before .number .ensures, c .before .before .number2 .ensures) at (c .before .busy .ensures)) ∙ not-true _ (c .if2 .taken)))
+
+sub-if3 : tie.Need-sub-if3
+sub-if3 c = search needs
+
+returns-4 : tie.Need-returns-4
+returns-4 c =
+    let a = c .before .before .before .before .before .before .before .before .before .before .before .before .before .args in
+    let w = went (c .before .before .before .before .before .before .before .before .before .f .given .1) (c .before .before .before .before .before .before .before .before .before .before .before .field .ensures) in
+    refuses Limit (state-limit (a .k .m) (rest (a .file .now) (a .k)) (afterField (a .file .now) (a .k)) (w .0) _ (omega (arith, c .before .before .before .before .before .before .before .byte .ensures, c .before .before .before .before .before .if1 .left)) (sym (rw (c .before .before .before .before .before .before .before .byte .ensures, c .before .before .before .before .before .before .number .ensures, c .before .before .before .before .number2 .ensures) at (c .before .before .before .busy .ensures)) ∙ not-false _ (c .before .before .if2 .left)) (omega (arith, c .before .before .before .before .before .before .number .ensures, c .before .before .before .before .before .before .before .before .before .before .before .before .before .pre)))
+
+returns-5 : tie.Need-returns-5
+returns-5 c =
+    let a = c .before .before .before .before .before .before .before .before .before .before .before .before .before .args in
+    let w = went (c .before .before .before .before .before .before .before .before .before .f .given .1) (c .before .before .before .before .before .before .before .before .before .before .before .field .ensures) in
+    record { answers = state-passes (a .k .m) (rest (a .file .now) (a .k)) (afterField (a .file .now) (a .k)) (w .0) (omega (arith, c .before .before .before .before .before .before .before .byte .ensures, c .before .before .before .before .before .if1 .left)) (sym (rw (c .before .before .before .before .before .before .before .byte .ensures, c .before .before .before .before .before .before .number .ensures, c .before .before .before .before .number2 .ensures) at (c .before .before .before .busy .ensures)) ∙ not-false _ (c .before .before .if2 .left)) (omega (arith, c .before .before .before .before .before .before .number .ensures, c .before .before .before .before .before .before .before .before .before .before .before .before .before .pre)); stays = w .1 }
+
+pub read-state-spec : {M : Type 1} → statement M
+read-state-spec =
+    tie.close
+    (tie.spec
+    field-requires
+    enum-known-f
+    enum-told
+    returns
+    byte-requires
+    number-requires
+    returns-2
+    number-requires-2
+    busy-requires
+    returns-3
+    sub-if3
+    returns-4
+    returns-5)

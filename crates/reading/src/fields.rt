@@ -1,0 +1,182 @@
+// Each field from a mark on, in document 01's order of checks: the mark past the field, or the refusal.
+ghost use mathlib.Core.Path.{_≡_};
+ghost use mathlib.Core.Bool.{_||_};
+ghost use Prim.Native.Nat.{_+_, _*_, _<_, _≤_};
+ghost use lib.Dec.{eqb, ltb};
+ghost use lib.ListN.{length, drop};
+ghost use Rattle.laws.specs.Entry.{FFFF};
+ghost use Rattle.model.specs.Refusal.{answer};
+ghost use Rattle.model.specs.File.{maxCommands, fixedLength, allowed, busy, field, head, state, entries, rising, command};
+ghost use Rattle.reading.specs.Meaning.{Within, Walks, rest, afterField, afterHead, afterState, afterCommand};
+use crate::bytes::Mark;
+use crate::bytes::byte;
+use crate::bytes::left;
+use crate::bytes::moved;
+use crate::bytes::number;
+use tables::Refusal;
+use tables::Size;
+
+const HEAD: u8 = 1;
+
+const STATE: u8 = 2;
+
+const COMMAND: u8 = 3;
+
+pub const END: u8 = 4;
+
+pub enum Passed {
+    To(Mark),
+    Refused(Refusal),
+}
+
+fn fixed_length(tag: u8) -> usize
+    ensures { λ r. ⌜ r ≡ fixedLength tag ⌝ }
+{
+    if tag == HEAD {
+        return 4;
+    }
+    if tag == STATE {
+        return 5;
+    }
+    0
+}
+
+fn allowed(tag: u8, len: usize) -> bool
+    ensures { λ r. ⌜ r ≡ allowed tag len ⌝ }
+{
+    if tag == COMMAND {
+        if len % 2 == 0 {
+            return 2 <= len;
+        }
+        return false;
+    }
+    len == fixed_length(tag)
+}
+
+// A field with the tag that is due.
+pub fn field(file: &[u8], k: Mark, due: u8) -> Passed
+    requires { ⌜ Within (now file) k ⌝ }
+    ensures { λ r. ⌜ Walks (now (file .entry)) r (answer (afterField (now (file .entry)) k) (field due (rest (now (file .entry)) k))) ⌝ }
+{
+    let left = left(file, k.at);
+    if left < 3 {
+        return Passed::Refused(Refusal::Cut);
+    }
+    if byte(file, k.at, 0) != due {
+        return Passed::Refused(Refusal::Tag);
+    }
+    let len = number(file, k.at, 1);
+    if !allowed(due, len) {
+        return Passed::Refused(Refusal::Length);
+    }
+    if left - 3 < len {
+        return Passed::Refused(Refusal::Cut);
+    }
+    Passed::To(moved(k, 3 + len))
+}
+
+pub fn read_head(file: &[u8]) -> Passed
+    ensures { λ r. ⌜ Walks (now (file .entry)) r (answer (afterHead (now (file .entry))) (head (now (file .entry)))) ⌝ }
+{
+    let f = field(file, Mark { at: 0, m: 0, t: 0 }, HEAD);
+    let Passed::To(next) = f else {
+        return f;
+    };
+    let n = number(file, 0, 3);
+    if n < 1 {
+        return Passed::Refused(Refusal::Beyond);
+    }
+    if Size::STATES < n {
+        return Passed::Refused(Refusal::Beyond);
+    }
+    if n <= number(file, 0, 5) {
+        return Passed::Refused(Refusal::Beyond);
+    }
+    Passed::To(next)
+}
+
+// The practice is none or a command.
+fn practice_fits(count: usize, practice: usize) -> bool
+    ensures { λ r. ⌜ r ≡ (eqb practice FFFF || ltb practice count) ⌝ }
+{
+    if practice == 65535 {
+        return true;
+    }
+    practice < count
+}
+
+// No commands under kind 1 or 2, and a practice that fits.
+fn busy(kind: u8, count: usize, practice: usize) -> bool
+    ensures { λ r. ⌜ r ≡ busy kind count practice ⌝ }
+{
+    if kind == 0 {
+        return practice_fits(count, practice);
+    }
+    if count == 0 {
+        return practice_fits(count, practice);
+    }
+    false
+}
+
+pub fn read_state(file: &[u8], k: Mark) -> Passed
+    requires { ⌜ Within (now file) k ⌝ }
+    ensures { λ r. ⌜ Walks (now (file .entry)) r (answer (afterState (now (file .entry)) k) (state (k .m) (rest (now (file .entry)) k))) ⌝ }
+{
+    let f = field(file, k, STATE);
+    let Passed::To(next) = f else {
+        return f;
+    };
+    let kind = byte(file, k.at, 3);
+    let count = number(file, k.at, 4);
+    if 2 < kind {
+        return Passed::Refused(Refusal::Beyond);
+    }
+    if !busy(kind, count, number(file, k.at, 6)) {
+        return Passed::Refused(Refusal::Idle);
+    }
+    if Size::COMMANDS - k.m < count {
+        return Passed::Refused(Refusal::Limit);
+    }
+    Passed::To(next)
+}
+
+// The outcomes from place `at` on, each in turn, and then the mark past them.
+fn check_outcomes(file: &[u8], at: usize, n: usize, count: usize, past: Mark) -> Passed
+    requires { ⌜ Within (now file) past × (count * 2 ≤ length (drop at (now file))) ⌝ }
+    ensures { λ r. ⌜ Walks (now (file .entry)) r (answer (λ x. (past .m, past .t, rest (now (file .entry)) past)) (rising n 0 (entries count (drop at (now (file .entry)))))) ⌝ }
+{
+    let mut low = 0;
+    let mut i = 0;
+    while i < count {
+        let o = number(file, at, i * 2);
+        if n <= o {
+            return Passed::Refused(Refusal::Beyond);
+        }
+        if o < low {
+            return Passed::Refused(Refusal::Unsorted);
+        }
+        low = o + 1;
+        i += 1;
+    }
+    Passed::To(past)
+}
+
+pub fn read_command(file: &[u8], n: usize, k: Mark) -> Passed
+    requires { ⌜ Within (now file) k × (k .m < maxCommands) ⌝ }
+    ensures { λ r. ⌜ Walks (now (file .entry)) r (answer (afterCommand (now (file .entry)) k) (command n (k .t) (rest (now (file .entry)) k))) ⌝ }
+{
+    let f = field(file, k, COMMAND);
+    let Passed::To(next) = f else {
+        return f;
+    };
+    let count = number(file, k.at, 1) / 2;
+    if Size::OUTCOMES - k.t < count {
+        return Passed::Refused(Refusal::Limit);
+    }
+    let past = Mark {
+        at: next.at,
+        m: k.m + 1,
+        t: k.t + count,
+    };
+    check_outcomes(file, k.at + 3, n, count, past)
+}
