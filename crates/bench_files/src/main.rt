@@ -5,8 +5,23 @@ use reading::ReadAnswer;
 use tables::Size;
 use writing::WriteAnswer;
 
-fn number(high: u8, low: u8) -> usize {
+fn joined(high: u8, low: u8) -> usize
+    ensures { λ r. ⌜ r ≤ 65535 ⌝ }
+{
     (high as usize) * 256 + (low as usize)
+}
+
+// The number in two bytes at a place, or 0 past the end.
+fn number(bytes: &[u8], at: usize) -> usize
+    ensures { λ r. ⌜ r ≤ 65535 ⌝ }
+{
+    if bytes.len() <= at {
+        return 0;
+    }
+    if bytes.len() - at < 2 {
+        return 0;
+    }
+    joined(bytes[at], bytes[at + 1])
 }
 
 fn least(a: usize, b: usize) -> usize
@@ -22,18 +37,15 @@ fn space() {
     io::write_all(1, b" ");
 }
 
-fn same(a: &[u8], b: &[u8]) -> bool {
-    if a.len() != b.len() {
-        return false;
-    }
-    let mut i = 0;
-    while i < a.len() {
-        if a[i] != b[i] {
-            return false;
-        }
-        i += 1;
-    }
-    true
+fn print(size: Size) {
+    io::print_decimal(1, size.n as u64);
+    space();
+    io::print_decimal(1, size.m as u64);
+    space();
+    io::print_decimal(1, size.t as u64);
+    space();
+    io::print_decimal(1, size.start as u64);
+    space();
 }
 
 // What was read is written again and compared.
@@ -45,20 +57,28 @@ fn compare(file: &[u8], size: Size, rows: &[u16], firsts: &[u16], outcomes: &[u1
         return;
     };
     let end = least(length, 58378);
-    if same(file, &bytes[..end]) {
+    if check::same(file, &bytes[..end]) {
         io::write_all(1, b"same\n");
         return;
     }
     io::write_all(1, b"changed\n");
 }
 
-fn case(file: &[u8], rows: usize, firsts: usize, outcomes: usize) {
-    let mut row_table = [0u16; 3072];
-    let mut first_table = [0u16; 4096];
-    let mut outcome_table = [0u16; 16384];
-    let row_end = least(rows * 3, 3072);
-    let first_end = least(firsts, 4096);
-    let outcome_end = least(outcomes, 16384);
+// Reads a file into as many places as are lent for it, and prints the answer.
+fn judge(
+    file: &[u8],
+    row_table: &mut [u16],
+    first_table: &mut [u16],
+    outcome_table: &mut [u16],
+    rows: usize,
+    firsts: usize,
+    outcomes: usize,
+)
+    requires { ⌜ rows ≤ 65535 ⌝ }
+{
+    let row_end = least(rows * 3, row_table.len());
+    let first_end = least(firsts, first_table.len());
+    let outcome_end = least(outcomes, outcome_table.len());
     let r = reading::read(
         file,
         &mut row_table[..row_end],
@@ -72,37 +92,46 @@ fn case(file: &[u8], rows: usize, firsts: usize, outcomes: usize) {
             io::write_all(1, b"\n");
         }
         ReadAnswer::Given(size) => {
-            io::print_decimal(1, size.n as u64);
-            space();
-            io::print_decimal(1, size.m as u64);
-            space();
-            io::print_decimal(1, size.t as u64);
-            space();
-            io::print_decimal(1, size.start as u64);
-            space();
-            compare(file, size, &row_table, &first_table, &outcome_table);
+            print(size);
+            compare(file, size, row_table, first_table, outcome_table);
         }
     }
+}
+
+fn case(file: &[u8], rows: usize, firsts: usize, outcomes: usize)
+    requires { ⌜ rows ≤ 65535 ⌝ }
+{
+    let mut row_table = [0u16; 3072];
+    let mut first_table = [0u16; 4096];
+    let mut outcome_table = [0u16; 16384];
+    judge(
+        file,
+        &mut row_table,
+        &mut first_table,
+        &mut outcome_table,
+        rows,
+        firsts,
+        outcomes,
+    );
 }
 
 // All files, one behind another.
 fn cases(input: &[u8]) {
     let mut at = 0;
     while at < input.len() {
-        if input.len() - at < 8 {
+        let rest = &input[at..];
+        let length = number(rest, 0);
+        if rest.len() < 8 + length {
             return;
         }
-        let length = number(input[at], input[at + 1]);
-        let rows = number(input[at + 2], input[at + 3]);
-        let firsts = number(input[at + 4], input[at + 5]);
-        let outcomes = number(input[at + 6], input[at + 7]);
-        let from = at + 8;
-        if input.len() - from < length {
-            return;
-        }
-        let end = from + length;
-        case(&input[from..end], rows, firsts, outcomes);
-        at = end;
+        let end = 8 + length;
+        case(
+            &rest[8..end],
+            number(rest, 2),
+            number(rest, 4),
+            number(rest, 6),
+        );
+        at = at + end;
     }
 }
 
