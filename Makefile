@@ -1,9 +1,14 @@
-# make test   prove every crate from nothing, try the must-fail edits, run the programs. The last line is 'N passed, 0 failed'.
+# make test   prove every crate from nothing, try the edits that must be refused, run the bench programs. Its last line is 'N passed, 0 failed'.
 
-.PHONY: test
+.PHONY: test tools
 .SILENT:
 
-test:
-	command -v rt >/dev/null || { echo "rt, the command of the Rattle kit, is not on the PATH" >&2; exit 1; }
+test: tools
+	cd tests && python3 bench_files.py --check
 	rt fmt --check
 	rt ci
+
+# What the tests need beside the Rattle kit.
+tools:
+	command -v rt >/dev/null || { echo "rt, the command of the Rattle kit, is not on the PATH" >&2; exit 1; }
+	command -v python3 >/dev/null || { apt-get update -qq && apt-get install -y -qq python3; } >/dev/null
