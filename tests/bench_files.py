@@ -1,9 +1,9 @@
 """What the program bench_files is run on, and what it must print. With --check: whether the two files are what this makes."""
 import pathlib
-import sys
 
+import made
 import reference
-from plans import largest, shapes
+from plans import shapes
 from reference import COMMANDS, OUTCOMES, STATES, Plan, Refused, State, two, write
 
 HERE = pathlib.Path(__file__).resolve().parent.parent / "crates" / "bench_files"
@@ -19,7 +19,7 @@ def said(data, rows=STATES, firsts=COMMANDS, outcomes=OUTCOMES):
         reference.need(9, p.n <= rows and p.m <= firsts and p.t <= outcomes)
     except Refused as r:
         return f"refused {r.number}\n"
-    return f"{p.n} {p.m} {p.t} {p.start} same\n"
+    return f"read {p.n} {p.m} {p.t} {p.start} same\n"
 
 
 def cases():
@@ -47,14 +47,7 @@ def cases():
 
 
 def main():
-    made = {"stdin": b"".join(frame(*c) for c in cases()), "stdout": "".join(said(*c) for c in cases()).encode()}
-    for name, data in made.items():
-        if "--check" in sys.argv:
-            if (HERE / name).read_bytes() != data:
-                sys.exit(f"crates/bench_files/{name} is not what tests/bench_files.py makes")
-        else:
-            (HERE / name).write_bytes(data)
-            print(name, len(data), "bytes")
+    made.put(HERE, {"stdin": b"".join(frame(*c) for c in cases()), "stdout": "".join(said(*c) for c in cases()).encode()})
 
 
 main()

@@ -28,16 +28,6 @@ def ladder(k):
     return Plan([State(0, [[i + 1], [i + 1, i + 2]]) for i in range(k)] + [failing(), failing()])
 
 
-def largest():
-    """1,024 states, 4,096 commands and 16,384 outcomes."""
-    n = 1024
-    return Plan([State(0, [sorted({(i * 7 + c * 31 + j * 256) % n for j in range(4)}) for c in range(4)], c_of(i)) for i in range(n)])
-
-
-def c_of(i):
-    return NONE if i % 3 == 0 else i % 4
-
-
 def scattered(seed, n, commands, outcomes, kinds=(8, 1, 1)):
     """A random plan; the same for the same seed."""
     r = random.Random(seed)

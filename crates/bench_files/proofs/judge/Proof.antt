@@ -1,5 +1,5 @@
-use mathlib.Core.Path.{sym}
 use native.Mathlib.Omega.{arith}
+use mathlib.Core.Path.{sym}
 use lib.Seq.{length-take-le}
 use borrow.Author.Needs.{needs}
 use Rattle.bench_files.proofs.judge.Statement.{statement}
@@ -50,11 +50,11 @@ write-all-requires c κs = search needs
 number-requires : tie.Need-number-requires
 number-requires c κs = search needs
 
-cast-print-decimal : tie.Need-cast-print-decimal
-cast-print-decimal c = search needs
+cast-print-number : tie.Need-cast-print-number
+cast-print-number c = search needs
 
-print-decimal-requires : tie.Need-print-decimal-requires
-print-decimal-requires c κs = search needs
+print-number-requires : tie.Need-print-number-requires
+print-number-requires c κs = search needs
 
 slice-aggregate-write-all-2 : tie.Need-slice-aggregate-write-all-2
 slice-aggregate-write-all-2 c = search needs
@@ -65,8 +65,23 @@ write-all-requires-2 c κs = search needs
 enum-known-r-2 : tie.Need-enum-known-r-2
 enum-known-r-2 c = search needs
 
-print-requires : tie.Need-print-requires
-print-requires c κs = search needs
+slice-aggregate-write-all-3 : tie.Need-slice-aggregate-write-all-3
+slice-aggregate-write-all-3 c = search needs
+
+write-all-requires-3 : tie.Need-write-all-requires-3
+write-all-requires-3 c κs = search needs
+
+print-number-requires-2 : tie.Need-print-number-requires-2
+print-number-requires-2 c κs = search needs
+
+print-number-requires-3 : tie.Need-print-number-requires-3
+print-number-requires-3 c κs = search needs
+
+print-number-requires-4 : tie.Need-print-number-requires-4
+print-number-requires-4 c κs = search needs
+
+print-number-requires-5 : tie.Need-print-number-requires-5
+print-number-requires-5 c κs = search needs
 
 compare-requires : tie.Need-compare-requires
 compare-requires c κs = search needs
@@ -114,12 +129,17 @@ judge-spec =
     slice-aggregate-write-all
     write-all-requires
     number-requires
-    cast-print-decimal
-    print-decimal-requires
+    cast-print-number
+    print-number-requires
     slice-aggregate-write-all-2
     write-all-requires-2
     enum-known-r-2
-    print-requires
+    slice-aggregate-write-all-3
+    write-all-requires-3
+    print-number-requires-2
+    print-number-requires-3
+    print-number-requires-4
+    print-number-requires-5
     compare-requires
     same-length
     same-length-2

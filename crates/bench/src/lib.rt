@@ -1,0 +1,56 @@
+// What the bench programs share: numbers in their input, and tables printed.
+ghost use Prim.Native.Nat.{_≤_};
+
+fn joined(high: u8, low: u8) -> usize
+    ensures { λ r. ⌜ r ≤ 65535 ⌝ }
+{
+    (high as usize) * 256 + (low as usize)
+}
+
+// The number in two bytes at a place, highest first, or 0 past the end.
+pub fn number(bytes: &[u8], at: usize) -> usize
+    ensures { λ r. ⌜ r ≤ 65535 ⌝ }
+{
+    if bytes.len() <= at {
+        return 0;
+    }
+    if bytes.len() - at < 2 {
+        return 0;
+    }
+    joined(bytes[at], bytes[at + 1])
+}
+
+// The lesser of two numbers.
+pub fn least(a: usize, b: usize) -> usize
+    ensures { λ r. ⌜ r ≤ b ⌝ }
+{
+    if a < b {
+        return a;
+    }
+    b
+}
+
+// A space and a number.
+pub fn print_number(x: u64) {
+    io::write_all(1, b" ");
+    io::print_decimal(1, x);
+}
+
+fn print_entry(x: u16) {
+    if x == 65535 {
+        io::write_all(1, b" -");
+        return;
+    }
+    print_number(x as u64);
+}
+
+// The first n entries of a table, each after a space, FFFF as -, and the line's end.
+pub fn print_entries(table: &[u16], n: usize) {
+    let end = least(n, table.len());
+    let mut i = 0;
+    while i < end {
+        print_entry(table[i]);
+        i += 1;
+    }
+    io::write_all(1, b"\n");
+}
