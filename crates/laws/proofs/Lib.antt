@@ -11,3 +11,15 @@ pub mod Parts
 pub mod Entry
 pub mod Writes
 pub mod Steps
+pub mod Fills
+pub mod Scans
+pub mod Stores
+pub mod Tries
+pub mod Agree
+pub mod Counts
+pub mod Defaults
+pub mod EntryFound
+pub mod GrowSame
+pub mod Overwrites
+pub mod Rising
+pub mod Slices

@@ -2,11 +2,12 @@
 use mathlib.Core.Path.{_≡_}
 use mathlib.Core.Bool.{Bool, true, _&&_}
 use mathlib.Core.Logic.{_↔_}
-use Prim.Native.Nat.{ℕ, _<_, _≤_}
-use lib.Dec.{leb, eqb}
-use borrow.Author.Tests.{leb-true, le-leb, eqb-true, eq-eqb}
+use Prim.Native.Nat.{ℕ, _-_, _<_, _≤_}
+use native.Mathlib.Omega.{arith}
+use lib.Dec.{leb, ltb, eqb}
+use borrow.Author.Tests.{leb-true, le-leb, ltb-true, lt-ltb, eqb-true, eq-eqb}
 use Rattle.laws.specs.Sets.{every}
-use Rattle.laws.proofs.Tests.{and-both, and-join}
+use Rattle.laws.proofs.Tests.{same-test, and-both, and-join}
 use Rattle.laws.proofs.Sets.{every-at, every-of}
 
 pub every-iff : (f : ℕ → Bool) (n : ℕ) → (every f n ≡ true) ↔ ((i : ℕ) → i < n → f i ≡ true)
@@ -20,3 +21,10 @@ leb-iff a b = (leb-true a b, le-leb a b)
 
 pub eqb-iff : (a b : ℕ) → (eqb a b ≡ true) ↔ (a ≡ b)
 eqb-iff a b = (eqb-true a b, eq-eqb a b)
+
+-- one number is below another where there is a gap between them
+pub ltb-gap : (a b : ℕ) → ltb a b ≡ ltb 0 (b - a)
+ltb-gap a b =
+    same-test (ltb a b) (ltb 0 (b - a))
+    (λ e. lt-ltb 0 (b - a) (omega (arith, ltb-true a b e)))
+    (λ e. lt-ltb a b (omega (arith, ltb-true 0 (b - a) e)))

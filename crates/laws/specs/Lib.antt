@@ -2,3 +2,4 @@ pub mod Sets
 pub mod Lists
 pub mod Entry
 pub mod Writes
+pub mod Filled

@@ -33,7 +33,7 @@ entry-written f n table s h =
 
 -- the tables of ranks and commands of a sound plan, and the search's, whatever the tables held before
 module _ (T : Tables) (sounds : sound T ≡ true) (ranks commands : List ℕ) (a : ℕ) (inside : a < T .size .n) (table : List ℕ) where
-  of-tables : Demand3 (planIn T) (overwrite (rankTable (planIn T)) ranks) (overwrite (commandTable (planIn T)) commands) a
+  pub of-tables : Demand3 (planIn T) (overwrite (rankTable (planIn T)) ranks) (overwrite (commandTable (planIn T)) commands) a
       (search (planIn T) a .lost) (search (planIn T) a .rounds) (overwrite (resultTable (T .size .n) (search (planIn T) a)) table)
   unfolding rankTable commandTable resultTable planIn
   of-tables =

@@ -37,13 +37,13 @@ module _ (P : Plan) (a : ℕ) where
   known-fails : (j x : ℕ) → failing P x ≡ true → known P a j x ≡ true
   known-fails = grow-first (λ K. marked P K a) (failing P)
 
-  quiet-is : (j : ℕ) → withoutMarks P a j ≡ true → (x : ℕ) → x < P .states → marked P (known P a j) a x ≡ false
+  pub unmarked-is : (j : ℕ) → withoutMarks P a j ≡ true → (x : ℕ) → x < P .states → marked P (known P a j) a x ≡ false
   unfolding withoutMarks
-  quiet-is j e x l = not-true (marked P (known P a j) a x) (every-at (λ s. not (marked P (known P a j) a s)) (P .states) e x l)
+  unmarked-is j e x l = not-true (marked P (known P a j) a x) (every-at (λ s. not (marked P (known P a j) a s)) (P .states) e x l)
 
-  quiet-of : (j : ℕ) → ((x : ℕ) → x < P .states → marked P (known P a j) a x ≡ false) → withoutMarks P a j ≡ true
+  unmarked-of : (j : ℕ) → ((x : ℕ) → x < P .states → marked P (known P a j) a x ≡ false) → withoutMarks P a j ≡ true
   unfolding withoutMarks
-  quiet-of j h = every-of (λ s. not (marked P (known P a j) a s)) (P .states) (λ x l. ap not (h x l))
+  unmarked-of j h = every-of (λ s. not (marked P (known P a j) a s)) (P .states) (λ x l. ap not (h x l))
 
   -- only lost states become known
   known-lost : Valid P → (j x : ℕ) → x < P .states → known P a j x ≡ true → lost P x ≡ true
@@ -93,7 +93,7 @@ module _ (P : Plan) (S : Valid P) (a : ℕ) (in-plan : a < P .states) (act : act
           (reached-unknown P S (known P a j) a in-plan (known-fails P a j) e x w .1)
 
       calm : known P a j a ≡ false → withoutMarks P a j ≡ true
-      calm e = quiet-of P a j (λ x m. refute (marked P (known P a j) a x) (again e x m))
+      calm e = unmarked-of P a j (λ x m. refute (marked P (known P a j) a x) (again e x m))
 
   -- where as many ordinary states are known as there are, the start is
   by-full : ordinaries P ≤ howMany (counted P a (ordinaries P)) (P .states) → Ended
@@ -140,7 +140,7 @@ module _ (P : Plan) (S : Valid P) (a : ℕ) (in-plan : a < P .states) (act : act
     no-marks : (x : ℕ) → x < P .states → marked P Last a x ≡ false
     unfolding ends
     no-marks x l =
-        ⊎-elim (λ h. quiet-is P a (before P a) h x l) (λ h. clash h open-start)
+        ⊎-elim (λ h. unmarked-is P a (before P a) h x l) (λ h. clash h open-start)
         (or-cases (withoutMarks P a (before P a)) (End a) (lowest-some (ends P a) (P .states) (before P a) last-round .1))
 
     unknown : Last a ≡ false

@@ -14,14 +14,14 @@ use Rattle.model.specs.Command.{choice}
 use Rattle.model.specs.Search.{lands, next, reached}
 use Rattle.model.proofs.Choices.{choice-some}
 
-lands-is : (P : Plan) (t x : ℕ) (o : Option ℕ) → lands P t o x ≡ true → (c : ℕ) × (o ≡ some c) × List·Memᴰ x (P .outcomes t c)
+pub lands-is : (P : Plan) (t x : ℕ) (o : Option ℕ) → lands P t o x ≡ true → (c : ℕ) × (o ≡ some c) × List·Memᴰ x (P .outcomes t c)
 unfolding lands
 lands-is P t x none e = clash e refl
 lands-is P t x (some c) e =
     let (y, m, q) = any-hit (eqb x) (P .outcomes t c) e in
     (c, refl, Memᴰ·cast (eqb-true x y q) m)
 
-lands-of : (P : Plan) (t c x : ℕ) → List·Memᴰ x (P .outcomes t c) → lands P t (some c) x ≡ true
+pub lands-of : (P : Plan) (t c x : ℕ) → List·Memᴰ x (P .outcomes t c) → lands P t (some c) x ≡ true
 unfolding lands
 lands-of P t c x m = any-of (eqb x) (P .outcomes t c) m (eq-eqb x x refl)
 

@@ -1,0 +1,82 @@
+use native.Mathlib.Omega.{arith}
+use lib.ListN.{length}
+use Prim.Native.Nat.{_≤_, _-_}
+use Rattle.bench_verdicts.proofs.try_all.Statement.{statement}
+use Rattle.bench_verdicts.proofs.try_all.Tie as tie
+
+abbrev Inv-loop : tie.InvT-loop
+Inv-loop input at₀ at = at ≤ length input
+
+abbrev μ-loop : tie.MeasureT-loop
+μ-loop input at₀ at = length input - at
+
+loop-holds : tie.Need-loop-holds Inv-loop μ-loop
+loop-holds c = omega arith
+
+sub-rest : tie.Need-sub-rest Inv-loop μ-loop
+sub-rest c = omega arith
+
+part-rest-start : tie.Need-part-rest-start Inv-loop μ-loop
+part-rest-start c = omega arith
+
+part-rest-end : tie.Need-part-rest-end Inv-loop μ-loop
+part-rest-end c = omega arith
+
+number-requires : tie.Need-number-requires Inv-loop μ-loop
+number-requires c κs = omega arith
+
+add-if1 : tie.Need-add-if1 Inv-loop μ-loop
+add-if1 c = omega arith
+
+returns : tie.Need-returns Inv-loop μ-loop
+returns c = omega arith
+
+add-end : tie.Need-add-end Inv-loop μ-loop
+add-end c = omega arith
+
+sub-try-bytes : tie.Need-sub-try-bytes Inv-loop μ-loop
+sub-try-bytes c = omega arith
+
+part-try-bytes-start : tie.Need-part-try-bytes-start Inv-loop μ-loop
+part-try-bytes-start c = omega arith
+
+part-try-bytes-end : tie.Need-part-try-bytes-end Inv-loop μ-loop
+part-try-bytes-end c = omega arith
+
+try-bytes-requires : tie.Need-try-bytes-requires Inv-loop μ-loop
+try-bytes-requires c κs = omega arith
+
+add-at : tie.Need-add-at Inv-loop μ-loop
+add-at c = omega arith
+
+loop-less : tie.Need-loop-less Inv-loop μ-loop
+loop-less c = omega arith
+
+loop-again : tie.Need-loop-again Inv-loop μ-loop
+loop-again c = omega arith
+
+returns-2 : tie.Need-returns-2 Inv-loop μ-loop
+returns-2 c = omega arith
+
+pub try-all-spec : {M : Type 1} → statement M
+try-all-spec =
+    tie.close
+    (tie.spec
+    Inv-loop
+    μ-loop
+    loop-holds
+    sub-rest
+    part-rest-start
+    part-rest-end
+    number-requires
+    add-if1
+    returns
+    add-end
+    sub-try-bytes
+    part-try-bytes-start
+    part-try-bytes-end
+    try-bytes-requires
+    add-at
+    loop-less
+    loop-again
+    returns-2)

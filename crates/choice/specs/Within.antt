@@ -1,0 +1,17 @@
+-- A set of states that a table holds, and the commands that stay out of it.
+use mathlib.Core.Bool.{Bool, not}
+use mathlib.Core.List.{List}
+use Prim.Native.Nat.{ℕ, _+_}
+use lib.Dec.{leb}
+use lib.ListN.{getD}
+use Rattle.laws.specs.Sets.{any}
+use Rattle.model.specs.Tables.{Tables}
+use Rattle.model.specs.Places.{outcomesAt}
+
+-- the states whose entry is at most the limit
+abbrev pub within : List ℕ → ℕ → ℕ → Bool
+within table limit x = leb (getD table x 0) limit
+
+-- of a state whose commands begin at place `first`: its command c has no outcome in K
+unfoldable pub clear : Tables → (ℕ → Bool) → ℕ → ℕ → Bool
+clear T K first c = not (any K (outcomesAt T (first + c)))

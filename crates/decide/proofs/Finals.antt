@@ -1,0 +1,81 @@
+-- What all steps of the work give together.
+use mathlib.Core.Path.{_≡_, refl, sym, ap, _∙_}
+use mathlib.Core.Bool.{Bool, true, false}
+use mathlib.Core.List.{List}
+use Prim.Native.Nat.{ℕ, _<_, _≤_}
+use lib.ListN.{length, getD}
+use Rattle.laws.specs.Entry.{entry}
+use Rattle.laws.specs.Filled.{Filled}
+use Rattle.laws.specs.Lists.{tabulate, overwrite}
+use Rattle.laws.proofs.Fills.{filled-as, filled-from, filled-over, filled-is}
+use Rattle.laws.proofs.Agree.{Agree}
+use Rattle.laws.proofs.Fills.{tabulate-constant}
+use Rattle.model.specs.Plan.{Plan, hasPolicy}
+use Rattle.model.specs.Verdict.{lost, safe}
+use Rattle.model.specs.Command.{choice, chosen}
+use Rattle.model.specs.Policy.{policyFails, fault, mark, tally}
+use Rattle.model.specs.Tables.{Tables}
+use Rattle.model.specs.SoundTest.{sound}
+use Rattle.model.specs.Held.{planIn}
+use Rattle.model.specs.Calls.{rankTable, commandTable, markTable, cleared}
+use Rattle.model.proofs.HeldPlan.{states-held}
+use Rattle.model.proofs.Layers.{chosen-choice}
+use Rattle.model.proofs.Valid.{sound-valid}
+use Rattle.tables.specs.declared.Size.{Size}
+use Rattle.tables.specs.Meaning.{held}
+use Rattle.index.specs.Commands.{commandsOf}
+use Rattle.propagate.specs.Net.{netOf, depth, seeds}
+use Rattle.decide.specs.Nets.{Laid}
+use Rattle.decide.specs.Verdicts.{numbered, oneIf, markOf, markAt, tallyTo, Judging}
+use Rattle.decide.specs.Calls.{Worked}
+use Rattle.decide.proofs.PlanHits.{choice-agree, risks-agree}
+use Rattle.decide.proofs.Depths.{ranks-found, lost-found, fails-found, fails-same, fails-past}
+use Rattle.decide.proofs.Tallies.{tally-same, tally-is}
+
+-- a table of n places is one of a place for each state
+table-is : (T : Tables) {f : ℕ → ℕ} {l₀ l : List ℕ} → T .size .n ≤ length l₀ → Filled (T .size .n) f l₀ l → l ≡ overwrite (tabulate f 0 (planIn T .states)) l₀
+table-is T {f} {l₀} h w = filled-is h w ∙ ap (λ (k : ℕ). overwrite (tabulate f 0 k) l₀) (sym (states-held T))
+
+-- the lost states and those from which the practice fails are found
+module _ (T : Tables) (sounds : sound T ≡ true) (L F : ℕ → Bool) (losts : Agree (T .size .n) L (lost (planIn T))) (fails : Agree (T .size .n) F (policyFails (planIn T))) where
+  abbrev P : Plan
+  P = planIn T
+
+  chosen-found : (s : ℕ) → s < T .size .n → entry (choice P L s) ≡ entry (chosen P s)
+  chosen-found s l = ap entry (choice-agree T sounds L (lost P) losts s l ∙ sym (chosen-choice P (sound-valid T sounds) s (rw (states-held T) l)))
+
+  mark-found : (s : ℕ) → s < T .size .n → markAt P L (F s) s ≡ mark P s
+  unfolding markAt markOf oneIf mark fault safe
+  mark-found s l = rw (fails s l, losts s l, risks-agree T sounds L (lost P) losts s l)
+
+  tally-found : tallyTo L (hasPolicy P) F (T .size .n) ≡ tally P
+  tally-found =
+      tally-same (hasPolicy P) (T .size .n) F (policyFails P) fails L (lost P) losts
+      ∙ ap (tallyTo (lost P) (hasPolicy P) (policyFails P)) (sym (states-held T)) ∙ tally-is P
+
+module _ (size : Size) (rows firsts outcomes : List ℕ) (sounds : sound (held size rows firsts outcomes) ≡ true) where
+  pub worked : {rs cs ms ss w r₁ w₁ c₁ r₂ w₂ m₁ w₃ c₂ m₂ c₃ m₃ s₁ s₂ s₃ : List ℕ} {t : List (List ℕ)}
+      → size .n ≤ length rs → size .n ≤ length cs → size .n ≤ length ms → size .n ≤ length ss
+      → Laid (held size rows firsts outcomes) false (size .n) rs w cs r₁ w₁ c₁
+      → r₂ ≡ overwrite (tabulate (λ (s : ℕ). entry (depth (netOf (commandsOf size firsts outcomes) w₁ c₁) (seeds r₁) s)) 0 (size .n)) r₁
+      → Laid (held size rows firsts outcomes) true (size .n) ms w₂ c₁ m₁ w₃ c₂
+      → m₂ ≡ overwrite (tabulate (λ (s : ℕ). entry (depth (netOf (commandsOf size firsts outcomes) w₃ c₂) (seeds m₁) s)) 0 (size .n)) m₁
+      → Judging (planIn (held size rows firsts outcomes)) (numbered r₂) (size .n) c₂ m₂ t c₃ m₃
+      → Filled (size .n) (λ i. getD s₁ i 0) ss s₁ → Filled (size .n) (λ i. getD s₂ i 0) s₁ s₂ → Filled (size .n) (λ _. 0) s₂ s₃
+      → Worked (held size rows firsts outcomes) rs cs ms ss t r₂ c₃ m₃ s₃
+  unfolding rankTable commandTable markTable cleared
+  worked {rs} {cs} {ms} {ss} {r₂ = r₂} {m₂ = m₂} lr lc lm ls v p u q j x y z =
+      let T = held size rows firsts outcomes in
+      let ranks = ranks-found size rows firsts outcomes sounds v lr r₂ p refl in
+      let losts = lost-found size rows firsts outcomes sounds ranks in
+      let fails = fails-found size rows firsts outcomes sounds u lm m₂ q refl in
+      record {
+        tallied = j .counted ∙ tally-found T sounds (numbered r₂) (numbered m₂) losts fails;
+        ranked = table-is T lr ranks;
+        chose = table-is T lc (filled-as (chosen-found T sounds (numbered r₂) (numbered m₂) losts fails) (filled-over (v .stops) (filled-over (u .stops) (j .took))));
+        marked =
+            table-is T lm
+            (filled-as (mark-found T sounds (numbered r₂) (numbered m₂) losts fails)
+            (filled-from (fails-same size rows firsts outcomes sounds u lm m₂ q) (fails-past size rows firsts outcomes sounds u lm m₂ q) (j .marked)));
+        clean = table-is T ls (filled-over x (filled-over y z)) ∙ ap (λ (l : List ℕ). overwrite l ss) (tabulate-constant 0 0 (planIn T .states));
+      }

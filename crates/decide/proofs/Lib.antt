@@ -1,0 +1,10 @@
+pub mod PlanHits
+pub mod Laying
+pub mod NetSteps
+pub mod Depths
+pub mod StateVerdicts
+pub mod Tallies
+pub mod Passes
+pub mod Settings
+pub mod Finals
+pub mod Decisions

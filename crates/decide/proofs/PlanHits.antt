@@ -1,0 +1,50 @@
+-- The plan's steps on sets that agree below n, and its commands' outcomes as the propagation reads them.
+use mathlib.Core.Path.{_≡_, sym, ap, _∙_}
+use mathlib.Core.Bool.{Bool, true}
+use mathlib.Core.Logic.{⊎-elim}
+use mathlib.Core.List.{List}
+use Prim.Native.Nat.{ℕ, _+_, _<_}
+use lib.Dec.{ltb}
+use borrow.Author.Tests.{ltb-true}
+use Rattle.laws.specs.Sets.{any}
+use Rattle.laws.proofs.Agree.{Agree, any-same}
+use Rattle.laws.proofs.Tests.{true-or-false}
+use Rattle.model.specs.Plan.{hasPolicy}
+use Rattle.model.specs.Verdict.{hits}
+use Rattle.model.specs.Policy.{risks}
+use Rattle.model.specs.Command.{choice}
+use Rattle.model.specs.Places.{firstCommand}
+use Rattle.model.specs.SoundTest.{sound}
+use Rattle.model.specs.Held.{planIn}
+use Rattle.model.specs.Tables.{Tables}
+use Rattle.model.proofs.Choices.{choice-some, choice-same}
+use Rattle.model.proofs.HeldPlan.{states-held, commands-held}
+use Rattle.model.proofs.Valid.{sound-valid}
+use Rattle.choice.proofs.Choosing.{hits-held}
+use Rattle.tables.specs.declared.Size.{Size}
+use Rattle.tables.specs.Meaning.{held}
+use Rattle.index.specs.Commands.{commandsOf}
+use Rattle.propagate.specs.Net.{hits as hitsIn}
+use Rattle.propagate.proofs.CommandHits.{same-outcomes}
+
+module _ (T : Tables) (sounds : sound T ≡ true) (A B : ℕ → Bool) (same : Agree (T .size .n) A B) (s : ℕ) (l : s < T .size .n) where
+  -- outcomes are states
+  pub hits-agree : (c : ℕ) → c < planIn T .commands s → hits (planIn T) A s c ≡ hits (planIn T) B s c
+  unfolding hits
+  hits-agree c m = any-same A B _ (λ x mem. same x (rw (states-held T) at (sound-valid T sounds .inside s c x (rw (states-held T) l) m mem)))
+
+  pub choice-agree : choice (planIn T) A s ≡ choice (planIn T) B s
+  choice-agree = choice-same (planIn T) A B s (λ c m e. sym (hits-agree c m) ∙ e) (λ c e. let t = choice-some (planIn T) A s c e in sym (hits-agree c (t .1)) ∙ t .2)
+
+  pub risks-agree : risks (planIn T) A s ≡ risks (planIn T) B s
+  unfolding risks hasPolicy
+  risks-agree =
+      ⊎-elim (λ e. rw e (hits-agree _ (ltb-true _ _ e))) (λ e. rw e) (true-or-false (ltb (planIn T .policy s) (planIn T .commands s)))
+
+module _ (size : Size) (rows firsts outcomes : List ℕ) where
+  -- a state's command, by its place
+  pub hits-place : (A : ℕ → Bool) (s c : ℕ) → s < size .n → c < planIn (held size rows firsts outcomes) .commands s
+      → hitsIn (commandsOf size firsts outcomes) A (firstCommand (held size rows firsts outcomes) s + c) ≡ hits (planIn (held size rows firsts outcomes)) A s c
+  unfolding hitsIn
+  hits-place A s c l m =
+      ap (any A) (same-outcomes size rows firsts outcomes _) ∙ sym (hits-held (held size rows firsts outcomes) A s l c (rw (commands-held (held size rows firsts outcomes) s l) at m))

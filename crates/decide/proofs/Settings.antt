@@ -1,0 +1,122 @@
+-- What sound tables and the layout give to the index and to the propagations.
+use mathlib.Core.Path.{_≡_, refl, sym, _∙_}
+use mathlib.Core.Bool.{Bool, true, false}
+use mathlib.Core.List.{List}
+use Prim.Native.Nat.{ℕ, suc, _+_, _<_, _≤_}
+use native.Mathlib.Decide.{decLt}
+use native.Mathlib.Nat.{le-of-lt}
+use native.Mathlib.Numerals.{add-one}
+use native.Mathlib.Omega.{arith}
+use lib.ListN.{length}
+use borrow.Author.Tests.{le-ltb}
+use Rattle.model.specs.Tables.{Tables}
+use Rattle.model.specs.Places.{rowAt, firstCommand}
+use Rattle.model.specs.SoundTest.{sound}
+use Rattle.model.proofs.SoundFacts.{Fits, sound-facts}
+use Rattle.tables.specs.declared.Size.{Size}
+use Rattle.tables.specs.Meaning.{held, spanAt}
+use Rattle.index.specs.Parts.{startOf, Parts, Owned}
+use Rattle.index.specs.Commands.{commandsOf, Fit}
+use Rattle.index.proofs.Starts.{start-in, start-out}
+use Rattle.propagate.specs.Net.{netOf, from, to, Seeded, Ranges, Indexed, Owns}
+use Rattle.propagate.proofs.CommandHits.{same-starts}
+use Rattle.propagate.proofs.Indexes.{own-ranges}
+use Rattle.decide.specs.Nets.{rangeOf, Spans, Laid}
+use Rattle.decide.proofs.Laying.{range-inside}
+use Rattle.decide.proofs.Depths.{laid-seeded}
+
+-- past the last state, where the last commands end
+first-past : (T : Tables) (s : ℕ) → T .size .n ≤ s → firstCommand T s ≡ T .size .m
+unfolding firstCommand
+first-past T s h = rw (le-ltb s (T .size .n) h)
+
+module _ (size : Size) (rows firsts outcomes : List ℕ) where
+  abbrev T : Tables
+  T = held size rows firsts outcomes
+
+  -- where commands begin does not depend on the other tables
+  any-tables : (F O : List ℕ) (s : ℕ) → firstCommand (held size rows F O) s ≡ firstCommand T s
+  unfolding firstCommand rowAt
+  any-tables F O s = refl
+
+  module _ (f : Fits T) where
+    fits-spans : Spans size rows
+    fits-spans = record {
+      few = f .size .few;
+      few-commands = f .size .few-commands;
+      long = f .long .rows;
+      inside = λ F O s l. let r = f .rows s l in rw (any-tables F O s, any-tables F O (s + 1), add-one s) (r .rises, r .below);
+    }
+
+    fits-fit : Fit (commandsOf size firsts outcomes)
+    fits-fit = record {
+      n-small = f .size .few;
+      m-small = f .size .few-commands;
+      firsts-long = f .long .firsts;
+      parts = record { zero = same-starts size rows firsts outcomes 0 ∙ f .outcomes-start; rises = λ c l. rw (same-starts size rows firsts outcomes c, same-starts size rows firsts outcomes (suc c)) (le-of-lt (f .commands c l .rises)) };
+      states = record { small = f .size .few-outcomes; long = f .long .outcomes; inside = f .outcomes };
+    }
+
+  module _ (sounds : sound T ≡ true) where
+    pub sound-spans : Spans size rows
+    sound-spans = fits-spans (sound-facts T .0 sounds)
+
+    pub sound-fit : Fit (commandsOf size firsts outcomes)
+    sound-fit = fits-fit (sound-facts T .0 sounds)
+
+    -- a range of commands that count is among the state's own
+    own-inside : (alone : Bool) (s : ℕ) → s < size .n
+        → (firstCommand T s ≤ rangeOf alone (spanAt T s) .from) × (rangeOf alone (spanAt T s) .to ≤ firstCommand T (suc s)) × (firstCommand T (suc s) ≤ size .m)
+    own-inside alone s l =
+        let i = sound-spans .inside firsts outcomes s l in
+        let r = range-inside (spanAt T s) (i .0) alone in
+        rw (← add-one s) (r .0, r .2, i .1)
+
+    pub laid-ranges : {alone : Bool} {r₀ w₀ e₀ r w e : List ℕ} → Laid T alone (size .n) r₀ w₀ e₀ r w e → size .n ≤ length e₀ → Ranges (commandsOf size firsts outcomes) e
+    laid-ranges {alone} v h = record {
+      long = omega (arith, v .stops .same);
+      inside = λ s l. omega (arith, v .stops .low s l, own-inside alone s l);
+    }
+
+    -- the layout of all commands, by which the index is made
+    module _ {r₀ w₀ e₀ r starts e : List ℕ} (v : Laid T false (size .n) r₀ w₀ e₀ r starts e) where
+      starts-are : (s : ℕ) → startOf starts (size .n) (size .m) s ≡ firstCommand T s
+      unfolding rangeOf
+      starts-are s = go (decLt s (size .n))
+        where
+          go : Dec (s < size .n) → startOf starts (size .n) (size .m) s ≡ firstCommand T s
+          go (yes l) = start-in starts (size .n) (size .m) s l ∙ v .begins .low s l
+          go (no l) = start-out starts (size .n) (size .m) s (omega arith) ∙ sym (first-past T s (omega arith))
+
+      pub laid-parts : Parts starts (size .n) (size .m)
+      laid-parts =
+          let f = sound-facts T .0 sounds in
+          record { zero = starts-are 0 ∙ f .commands-start; rises = λ s l. rw (starts-are s, starts-are (suc s)) (f .rows s l .rises) }
+
+      pub laid-owns : (owner : List ℕ) → Owned starts (size .n) (size .m) owner → {alone : Bool} {u₀ x₀ y₀ u x y : List ℕ} → Laid T alone (size .n) u₀ x₀ y₀ u x y
+          → Owns (netOf (commandsOf size firsts outcomes) x y) owner
+      unfolding from to
+      laid-owns owner o {alone} {u₀} {x₀} {y₀} {u} {x} {y} w = own-ranges (netOf (commandsOf size firsts outcomes) x y) starts owner o (λ s c l p q.
+          let i = own-inside alone s l in
+          rw (starts-are s, starts-are (suc s)) (omega (arith, w .begins .low s l), omega (arith, w .stops .low s l)))
+
+      -- all that a propagation asks, with a queue of so many places
+      pub propagate-ready : {offsets users owner : List ℕ} → Indexed (commandsOf size firsts outcomes) offsets users owner → Owned starts (size .n) (size .m) owner
+          → {alone : Bool} {u₀ x₀ y₀ u x y : List ℕ} → Laid T alone (size .n) u₀ x₀ y₀ u x y → (places : ℕ)
+          → size .n ≤ length u₀ → size .n ≤ length x₀ → size .n ≤ length y₀ → size .n ≤ places
+          → Fit (commandsOf size firsts outcomes) × (Ranges (commandsOf size firsts outcomes) y
+          × (Indexed (commandsOf size firsts outcomes) offsets users owner × (Owns (netOf (commandsOf size firsts outcomes) x y) owner
+          × ((size .n ≤ length u) × ((size .n ≤ length x) × ((size .n ≤ places) × Seeded (size .n) u))))))
+      propagate-ready {owner = owner} index o w places lu lx ly lq = (
+        sound-fit,
+        (
+          laid-ranges w ly,
+          (
+            index,
+            (
+              laid-owns owner o w,
+              (omega (arith, w .seeded .same), (omega (arith, w .begins .same), (lq, laid-seeded size rows firsts outcomes sounds w lu))),
+            ),
+          ),
+        ),
+      )

@@ -1,0 +1,91 @@
+-- The tally, counted from state to state.
+use mathlib.Core.Path.{_≡_, refl, ap₂}
+use mathlib.Core.Bool.{Bool, true, false, not, cond, _&&_}
+use mathlib.Core.List.{List, [], _∷_}
+use Prim.Native.Nat.{ℕ, _+_, _<_, _≤_}
+use native.Mathlib.Nat.{zero-add}
+use native.Mathlib.Numerals.{add-one, one-add}
+use native.Mathlib.Omega.{arith}
+use lib.ListN.{getD}
+use Rattle.laws.specs.Sets.{howMany}
+use Rattle.laws.proofs.Sets.{many-bound}
+use Rattle.laws.proofs.Agree.{Agree, many-same}
+use Rattle.model.specs.Plan.{Plan, hasPolicy}
+use Rattle.model.specs.Verdict.{lost, safe}
+use Rattle.model.specs.Policy.{policyFails, tallyRow, tally}
+use Rattle.decide.specs.Verdicts.{oneIf, columnOf, added, rowTo, tallyTo}
+
+module _ (L g f : ℕ → Bool) where
+  pub counted-none : _≡_ {A = List (List ℕ)} ((0 ∷ 0 ∷ 0 ∷ []) ∷ (0 ∷ 0 ∷ 0 ∷ []) ∷ []) (tallyTo L g f 0)
+  unfolding tallyTo rowTo howMany
+  counted-none = refl
+
+  -- one state more
+  pub counted-next : (s : ℕ) → added (tallyTo L g f s) (oneIf (L s)) (columnOf (g s) (f s)) ≡ tallyTo L g f (s + 1)
+  unfolding tallyTo rowTo oneIf columnOf howMany
+  counted-next s = rw (add-one s) (go (L s) (g s) (f s))
+    where
+      u : ℕ
+      u = howMany (λ x. not (L x) && g x && not (f x)) s
+
+      v : ℕ
+      v = howMany (λ x. not (L x) && g x && f x) s
+
+      w : ℕ
+      w = howMany (λ x. not (L x) && not (g x)) s
+
+      x : ℕ
+      x = howMany (λ i. L i && g i && not (f i)) s
+
+      y : ℕ
+      y = howMany (λ i. L i && g i && f i) s
+
+      z : ℕ
+      z = howMany (λ i. L i && not (g i)) s
+
+      go : (a b c : Bool) → added ((u ∷ v ∷ w ∷ []) ∷ (x ∷ y ∷ z ∷ []) ∷ []) (cond a 1 0) (cond b (cond c 1 0) 2)
+          ≡ ((cond (not a && b && not c) 1 0 + u) ∷ (cond (not a && b && c) 1 0 + v) ∷ (cond (not a && not b) 1 0 + w) ∷ [])
+          ∷ ((cond (a && b && not c) 1 0 + x) ∷ (cond (a && b && c) 1 0 + y) ∷ (cond (a && not b) 1 0 + z) ∷ []) ∷ []
+      go true true true = simp (zero-add, one-add, add-one)
+      go true true false = simp (zero-add, one-add, add-one)
+      go true false true = simp (zero-add, one-add, add-one)
+      go true false false = simp (zero-add, one-add, add-one)
+      go false true true = simp (zero-add, one-add, add-one)
+      go false true false = simp (zero-add, one-add, add-one)
+      go false false true = simp (zero-add, one-add, add-one)
+      go false false false = simp (zero-add, one-add, add-one)
+
+  -- no count is above that of the states
+  pub counted-low : (s : ℕ) → s ≤ 1024 → (a b c : Bool) → getD (getD (tallyTo L g f s) (oneIf a) []) (columnOf b c) 0 < 60000
+  unfolding tallyTo rowTo oneIf columnOf
+  counted-low s h = go
+    where
+      low : (k : ℕ → Bool) → howMany k s < 60000
+      low k = omega (arith, many-bound k s)
+
+      go : (a b c : Bool) → getD (getD (rowTo (λ i. not (L i)) g f s ∷ rowTo L g f s ∷ []) (cond a 1 0) []) (cond b (cond c 1 0) 2) 0 < 60000
+      go true true true = low _
+      go true true false = low _
+      go true false c = low _
+      go false true true = low _
+      go false true false = low _
+      go false false c = low _
+
+-- tests that agree on the states counted
+module _ (g : ℕ → Bool) (n : ℕ) (f f′ : ℕ → Bool) (fails : Agree n f f′) where
+  row-same : (r r′ : ℕ → Bool) → Agree n r r′ → rowTo r g f n ≡ rowTo r′ g f′ n
+  unfolding rowTo
+  row-same r r′ h =
+      ap₂ (λ (a : ℕ) (l : List ℕ). a ∷ l) (many-same _ _ n (λ x l. rw (h x l, fails x l)))
+      (ap₂ (λ (a : ℕ) (l : List ℕ). a ∷ l) (many-same _ _ n (λ x l. rw (h x l, fails x l)))
+      (ap₂ (λ (a : ℕ) (l : List ℕ). a ∷ l) (many-same _ _ n (λ x l. rw (h x l))) refl))
+
+  pub tally-same : (L L′ : ℕ → Bool) → Agree n L L′ → tallyTo L g f n ≡ tallyTo L′ g f′ n
+  unfolding tallyTo
+  tally-same L L′ h =
+      ap₂ (λ (a : List ℕ) (t : List (List ℕ)). a ∷ t) (row-same (λ s. not (L s)) (λ s. not (L′ s)) (λ x l. rw (h x l)))
+      (ap₂ (λ (a : List ℕ) (t : List (List ℕ)). a ∷ t) (row-same L L′ h) refl)
+
+pub tally-is : (P : Plan) → tallyTo (lost P) (hasPolicy P) (policyFails P) (P .states) ≡ tally P
+unfolding tallyTo rowTo tally tallyRow safe
+tally-is P = refl

@@ -1,0 +1,38 @@
+use Rattle.decide.proofs.StateVerdicts.{lost-fault, idle-fault, hit-fault}
+use Rattle.decide.proofs.Laying.{practice-place}
+use native.Mathlib.Omega.{arith}
+use borrow.Author.Needs.{needs}
+use Rattle.decide.proofs.verdicts.is_fault.Statement.{statement}
+use Rattle.decide.proofs.verdicts.is_fault.Tie as tie
+
+returns : tie.Need-returns
+returns c = λ R s l e. lost-fault _ (c .if1 .taken) _
+
+has-practice-requires : tie.Need-has-practice-requires
+has-practice-requires c κs = search needs
+
+returns-2 : tie.Need-returns-2
+returns-2 c = λ R s l e. idle-fault _ _ (c .before .before .if1 .left) _ (c .before .has-practice .ensures) _ _ s l e (c .if2 .taken)
+
+add-command-hit : tie.Need-add-command-hit
+add-command-hit c =
+    omega (arith, practice-place (c .before .before .before .before .before .before .before .args .span) _ (c .before .before .has-practice .ensures) (c .before .if2 .left) (c .before .before .before .before .before .before .before .pre .1 .0), c .before .before .before .before .before .before .before .pre .1 .1, c .before .before .before .before .before .before .before .pre .0 .few-commands)
+
+command-hit-requires : tie.Need-command-hit-requires
+command-hit-requires c κs =
+    let p = practice-place (c .before .before .before .before .before .before .before .args .span) _ (c .before .before .has-practice .ensures) (c .before .if2 .left) (c .before .before .before .before .before .before .before .pre .1 .0) in
+    (c .before .before .before .before .before .before .before .pre .0, (omega (arith, p, c .before .before .before .before .before .before .before .pre .1 .1), c .before .before .before .before .before .before .before .pre .1 .2))
+
+returns-3 : tie.Need-returns-3
+returns-3 c = λ R s l e. hit-fault _ _ (c .before .before .before .before .if1 .left) _ (c .before .before .before .has-practice .ensures) _ _ s l e (c .before .before .if2 .left) _ (c .command-hit .ensures R)
+
+pub is-fault-spec : {M : Type 1} → statement M
+is-fault-spec =
+    tie.close
+    (tie.spec
+    returns
+    has-practice-requires
+    returns-2
+    add-command-hit
+    command-hit-requires
+    returns-3)

@@ -1,0 +1,156 @@
+use Rattle.decide.proofs.Finals.{worked}
+use mathlib.Core.List.{[]}
+use mathlib.Core.Path.{_∙_}
+use Rattle.decide.proofs.Settings.{sound-spans, sound-fit, laid-parts, propagate-ready}
+use native.Mathlib.Omega.{arith}
+use borrow.Author.Needs.{needs}
+use Rattle.decide.proofs.working.work_out.Statement.{statement}
+use Rattle.decide.proofs.working.work_out.Tie as tie
+
+slice-aggregate-lay-out : tie.Need-slice-aggregate-lay-out
+slice-aggregate-lay-out c = search needs
+
+lay-out-requires : tie.Need-lay-out-requires
+lay-out-requires c κs =
+    let v = sound-spans _ _ _ _ (c .before .before .before .before .before .before .before .before .before .before .pre .0) in
+    let h = c .before .before .before .before .before .before .before .before .before .before .pre .1 in
+    (v, (h .0, v .few, h .1 .0))
+
+slice-aggregate-index-all : tie.Need-slice-aggregate-index-all
+slice-aggregate-index-all c = search needs
+
+slice-aggregate-index-all-2 : tie.Need-slice-aggregate-index-all-2
+slice-aggregate-index-all-2 c = search needs
+
+slice-aggregate-index-all-3 : tie.Need-slice-aggregate-index-all-3
+slice-aggregate-index-all-3 c = search needs
+
+slice-aggregate-index-all-4 : tie.Need-slice-aggregate-index-all-4
+slice-aggregate-index-all-4 c = search needs
+
+index-all-requires : tie.Need-index-all-requires
+index-all-requires c κs =
+    let e = c .before .before .before .before .before .before .before .before .before .before .before .before .before .before .before .before .before .before .before .before .pre .0 in
+    let f = sound-fit _ _ _ _ e in
+    let v = c .before .before .before .before .before .before .before .before .before .lay-out .ensures _ _ in
+    (f, (laid-parts _ _ _ _ e v, (omega (arith, v .begins .same, f .n-small), (f .m-small, (f .n-small, f .states .small)))))
+
+slice-aggregate-propagate-in : tie.Need-slice-aggregate-propagate-in
+slice-aggregate-propagate-in c = search needs
+
+slice-aggregate-propagate-in-2 : tie.Need-slice-aggregate-propagate-in-2
+slice-aggregate-propagate-in-2 c = search needs
+
+slice-aggregate-propagate-in-3 : tie.Need-slice-aggregate-propagate-in-3
+slice-aggregate-propagate-in-3 c = search needs
+
+slice-aggregate-propagate-in-4 : tie.Need-slice-aggregate-propagate-in-4
+slice-aggregate-propagate-in-4 c = search needs
+
+propagate-in-requires : tie.Need-propagate-in-requires
+propagate-in-requires c κs =
+    let e = c .before .before .before .before .before .before .before .before .before .before .before .before .before .before .before .before .before .before .before .before .before .before .before .before .before .before .before .before .before .before .before .pre .0 in
+    let h = c .before .before .before .before .before .before .before .before .before .before .before .before .before .before .before .before .before .before .before .before .before .before .before .before .before .before .before .before .before .before .before .pre .1 in
+    let v = c .before .before .before .before .before .before .before .before .before .before .before .before .before .before .before .before .before .before .before .before .lay-out .ensures _ _ in
+    let i = c .before .before .before .before .before .before .before .before .before .before .index-all .ensures in
+    propagate-ready _ _ _ _ e v (i .0) (i .1) v _ (h .0) (sound-fit _ _ _ _ e .n-small) (h .1 .0) (h .1 .1 .1)
+
+slice-aggregate-lay-out-2 : tie.Need-slice-aggregate-lay-out-2
+slice-aggregate-lay-out-2 c = search needs
+
+lay-out-requires-2 : tie.Need-lay-out-requires-2
+lay-out-requires-2 c κs =
+    let s = sound-spans _ _ _ _ (c .before .before .before .before .before .before .before .before .before .before .before .before .before .before .before .before .before .before .before .before .before .before .before .before .before .before .before .before .before .before .before .before .before .before .before .before .before .before .before .before .pre .0) in
+    let h = c .before .before .before .before .before .before .before .before .before .before .before .before .before .before .before .before .before .before .before .before .before .before .before .before .before .before .before .before .before .before .before .before .before .before .before .before .before .before .before .before .pre .1 in
+    let v = c .before .before .before .before .before .before .before .before .before .before .before .before .before .before .before .before .before .before .before .before .before .before .before .before .before .before .before .before .before .lay-out .ensures [] [] in
+    let k = c .before .before .before .before .before .before .before .before .propagate-in .kept .1 .1 .1 .1 .1 .1 .1 in
+    (s, (h .1 .1 .0, omega (arith, k .1 .0, v .begins .same, s .few), omega (arith, v .stops .same, h .1 .0)))
+
+slice-aggregate-propagate-in-5 : tie.Need-slice-aggregate-propagate-in-5
+slice-aggregate-propagate-in-5 c = search needs
+
+slice-aggregate-propagate-in-6 : tie.Need-slice-aggregate-propagate-in-6
+slice-aggregate-propagate-in-6 c = search needs
+
+slice-aggregate-propagate-in-7 : tie.Need-slice-aggregate-propagate-in-7
+slice-aggregate-propagate-in-7 c = search needs
+
+slice-aggregate-propagate-in-8 : tie.Need-slice-aggregate-propagate-in-8
+slice-aggregate-propagate-in-8 c = search needs
+
+propagate-in-requires-2 : tie.Need-propagate-in-requires-2
+propagate-in-requires-2 c κs =
+    let e = c .before .before .before .before .before .before .before .before .before .before .before .before .before .before .before .before .before .before .before .before .before .before .before .before .before .before .before .before .before .before .before .before .before .before .before .before .before .before .before .before .before .before .before .before .before .before .before .before .before .before .before .before .before .pre .0 in
+    let h = c .before .before .before .before .before .before .before .before .before .before .before .before .before .before .before .before .before .before .before .before .before .before .before .before .before .before .before .before .before .before .before .before .before .before .before .before .before .before .before .before .before .before .before .before .before .before .before .before .before .before .before .before .before .pre .1 in
+    let v = c .before .before .before .before .before .before .before .before .before .before .before .before .before .before .before .before .before .before .before .before .before .before .before .before .before .before .before .before .before .before .before .before .before .before .before .before .before .before .before .before .before .before .lay-out .ensures _ _ in
+    let i = c .before .before .before .before .before .before .before .before .before .before .before .before .before .before .before .before .before .before .before .before .before .before .before .before .before .before .before .before .before .before .before .before .index-all .ensures in
+    let k = c .before .before .before .before .before .before .before .before .before .before .before .before .before .before .before .before .before .before .before .before .before .propagate-in .kept .1 .1 .1 .1 .1 .1 .1 in
+    propagate-ready _ _ _ _ e v (i .0) (i .1) (c .before .before .before .before .before .before .before .before .before .before .before .before .lay-out2 .ensures _ _) _ (h .1 .1 .0)
+    (omega (arith, k .1 .0, v .begins .same, sound-fit _ _ _ _ e .n-small)) (omega (arith, v .stops .same, h .1 .0)) (omega (arith, k .1 .1 .0, h .1 .1 .1))
+
+judge-all-requires : tie.Need-judge-all-requires
+judge-all-requires c κs =
+    let h = c .before .before .before .before .before .before .before .before .before .before .before .before .before .before .before .before .before .before .before .before .before .before .before .before .before .before .before .before .before .before .before .before .before .before .before .before .before .before .before .before .before .before .before .before .before .before .before .before .before .before .before .before .before .before .before .before .before .before .before .before .before .before .pre .1 in
+    let v = c .before .before .before .before .before .before .before .before .before .before .before .before .before .before .before .before .before .before .before .before .before .before .before .before .before .before .before .before .before .before .before .before .before .before .before .before .before .before .before .before .before .before .before .before .before .before .before .before .before .before .before .lay-out .ensures [] [] in
+    let u = c .before .before .before .before .before .before .before .before .before .before .before .before .before .before .before .before .before .before .before .before .before .lay-out2 .ensures [] [] in
+    let k = c .before .before .before .before .before .before .before .before .before .before .before .before .before .before .before .before .before .before .before .before .before .before .before .before .before .before .before .before .before .before .propagate-in .kept .1 .1 .1 .1 .1 .1 .1 in
+    let q = c .before .before .before .before .before .before .before .before .propagate-in2 .kept .1 .1 .1 .1 .1 .1 .1 in (
+      c .before .before .before .before .before .before .before .before .before .before .before .before .before .before .before .before .before .before .before .before .before .before .before .before .before .before .before .before .before .before .before .before .before .before .before .before .before .before .before .before .before .before .before .before .before .before .before .before .before .before .before .before .before .before .before .before .before .before .before .before .before .before .pre .0,
+      (
+        omega (arith, k .0, v .seeded .same, h .0),
+        omega (arith, u .stops .same, v .stops .same, h .1 .0),
+        omega (arith, q .0, u .seeded .same, h .1 .1 .0),
+      ),
+    )
+
+clear-requires : tie.Need-clear-requires
+clear-requires c κs = omega (arith, c .before .before .before .before .before .before .before .before .before .before .before .before .before .before .propagate-in2 .ensures .1 .same, c .before .before .before .before .before .before .before .before .before .before .before .before .before .before .before .before .before .before .before .before .before .before .before .before .before .before .before .before .before .before .before .before .before .before .before .before .propagate-in .ensures .1 .same, c .before .before .before .before .before .before .before .before .before .before .before .before .before .before .before .before .before .before .before .before .before .before .before .before .before .before .before .before .before .before .before .before .before .before .before .before .before .before .before .before .before .before .before .before .before .before .before .before .before .before .before .before .before .before .before .before .before .before .before .before .before .before .before .before .before .before .before .before .pre .1 .1 .1 .1)
+
+same-length : tie.Need-same-length
+same-length c = c .before .before .before .before .before .before .before .before .before .before .before .before .before .before .before .before .before .before .before .before .before .before .before .before .before .before .before .before .before .before .before .before .before .before .before .before .before .before .before .propagate-in .kept .1 .1 .1 .1 .1 .1 .1 .0 ∙ c .before .before .before .before .before .before .before .before .before .before .before .before .before .before .before .before .before .before .before .before .before .before .before .before .before .before .before .before .before .before .before .before .before .before .before .before .before .before .before .before .before .before .before .before .before .before .before .before .before .before .before .before .before .before .before .before .before .before .before .before .lay-out .ensures [] [] .seeded .same
+
+same-length-2 : tie.Need-same-length-2
+same-length-2 c = c .before .before .before .before .before .before .before .before .judge-all .ensures .took .same ∙ c .before .before .before .before .before .before .before .before .before .before .before .before .before .before .before .before .before .before .before .before .before .before .before .before .before .before .before .before .before .before .lay-out2 .ensures [] [] .stops .same ∙ c .before .before .before .before .before .before .before .before .before .before .before .before .before .before .before .before .before .before .before .before .before .before .before .before .before .before .before .before .before .before .before .before .before .before .before .before .before .before .before .before .before .before .before .before .before .before .before .before .before .before .before .before .before .before .before .before .before .before .before .before .lay-out .ensures [] [] .stops .same
+
+same-length-3 : tie.Need-same-length-3
+same-length-3 c = search needs
+
+same-length-4 : tie.Need-same-length-4
+same-length-4 c = c .before .before .clear .ensures .same ∙ c .before .before .before .before .before .before .before .before .before .before .before .before .before .before .before .before .before .propagate-in2 .ensures .1 .same ∙ c .before .before .before .before .before .before .before .before .before .before .before .before .before .before .before .before .before .before .before .before .before .before .before .before .before .before .before .before .before .before .before .before .before .before .before .before .before .before .before .propagate-in .ensures .1 .same
+
+returns : tie.Need-returns
+returns c =
+    let h = c .before .before .before .before .before .before .before .before .before .before .before .before .before .before .before .before .before .before .before .before .before .before .before .before .before .before .before .before .before .before .before .before .before .before .before .before .before .before .before .before .before .before .before .before .before .before .before .before .before .before .before .before .before .before .before .before .before .before .before .before .before .before .before .before .before .before .before .before .before .before .before .pre .1 in
+    worked _ _ _ _ (c .before .before .before .before .before .before .before .before .before .before .before .before .before .before .before .before .before .before .before .before .before .before .before .before .before .before .before .before .before .before .before .before .before .before .before .before .before .before .before .before .before .before .before .before .before .before .before .before .before .before .before .before .before .before .before .before .before .before .before .before .before .before .before .before .before .before .before .before .before .before .before .pre .0) (h .0) (h .1 .0) (h .1 .1 .0) (h .1 .1 .1) (c .before .before .before .before .before .before .before .before .before .before .before .before .before .before .before .before .before .before .before .before .before .before .before .before .before .before .before .before .before .before .before .before .before .before .before .before .before .before .before .before .before .before .before .before .before .before .before .before .before .before .before .before .before .before .before .before .before .before .before .before .lay-out .ensures _ _) (c .before .before .before .before .before .before .before .before .before .before .before .before .before .before .before .before .before .before .before .before .before .before .before .before .before .before .before .before .before .before .before .before .before .before .before .before .before .before .before .propagate-in .ensures .0)
+    (c .before .before .before .before .before .before .before .before .before .before .before .before .before .before .before .before .before .before .before .before .before .before .before .before .before .before .before .before .before .before .lay-out2 .ensures _ _) (c .before .before .before .before .before .before .before .before .before .before .before .before .before .before .before .before .before .propagate-in2 .ensures .0) (c .before .before .before .before .before .before .before .before .judge-all .ensures) (c .before .before .before .before .before .before .before .before .before .before .before .before .before .before .before .before .before .before .before .before .before .before .before .before .before .before .before .before .before .before .before .before .before .before .before .before .before .before .before .propagate-in .ensures .1) (c .before .before .before .before .before .before .before .before .before .before .before .before .before .before .before .before .before .propagate-in2 .ensures .1) (c .before .before .clear .ensures)
+
+pub work-out-spec : {M : Type 1} → statement M
+work-out-spec =
+    tie.close
+    (tie.spec
+    slice-aggregate-lay-out
+    lay-out-requires
+    slice-aggregate-index-all
+    slice-aggregate-index-all-2
+    slice-aggregate-index-all-3
+    slice-aggregate-index-all-4
+    index-all-requires
+    slice-aggregate-propagate-in
+    slice-aggregate-propagate-in-2
+    slice-aggregate-propagate-in-3
+    slice-aggregate-propagate-in-4
+    propagate-in-requires
+    slice-aggregate-lay-out-2
+    lay-out-requires-2
+    slice-aggregate-propagate-in-5
+    slice-aggregate-propagate-in-6
+    slice-aggregate-propagate-in-7
+    slice-aggregate-propagate-in-8
+    propagate-in-requires-2
+    judge-all-requires
+    clear-requires
+    same-length
+    same-length-2
+    same-length-3
+    same-length-4
+    returns)

@@ -1,0 +1,3 @@
+pub mod Nets
+pub mod Verdicts
+pub mod Calls

@@ -1,0 +1,45 @@
+-- Where a propagation starts: which states are in layer 0, and which commands count at each state, all its own or its practice alone.
+use mathlib.Core.Bool.{Bool, cond}
+use mathlib.Core.List.{List}
+use Prim.Native.Nat.{ℕ, _+_, _-_, _<_, _≤_}
+use lib.Dec.{eqb, ltb}
+use lib.ListN.{length}
+use Rattle.laws.specs.Entry.{FFFF}
+use Rattle.laws.specs.Filled.{Filled}
+use Rattle.model.specs.Tables.{Tables}
+use Rattle.tables.specs.declared.Size.{Size}
+use Rattle.tables.specs.declared.internal.Span.{Span}
+use Rattle.tables.specs.Meaning.{held, rowsOf, spanAt}
+use Rattle.decide.specs.declared.nets.Range.{Range}
+
+-- a practice is given
+abbrev pub practised : Span → Bool
+practised q = ltb (q .practice) (q .end - q .first)
+
+abbrev pub rangeFrom : ℕ → ℕ → Range
+rangeFrom from to = record { from = from; to = to }
+
+-- the practice alone, or no command where none is given
+unfoldable pub practiceRange : Span → Range
+practiceRange q = cond (practised q) (rangeFrom (q .first + q .practice) (q .first + q .practice + 1)) (rangeFrom (q .first) (q .first))
+
+unfoldable pub rangeOf : Bool → Span → Range
+rangeOf alone q = cond alone (practiceRange q) (rangeFrom (q .first) (q .end))
+
+-- failing states are in layer 0
+unfoldable pub seedOf : Span → ℕ
+seedOf q = cond (eqb (q .kind) 1) 0 FFFF
+
+-- what is asked of the rows: the places of each state's commands are in range
+pub record Spans (size : Size) (rows : List ℕ) : Type 0 where
+  pub few : size .n ≤ 1024
+  pub few-commands : size .m ≤ 4096
+  pub long : size .n ≤ length (rowsOf rows)
+  pub inside : (F O : List ℕ) (s : ℕ) → s < size .n
+      → (spanAt (held size rows F O) s .first ≤ spanAt (held size rows F O) s .end) × (spanAt (held size rows F O) s .end ≤ size .m)
+
+-- layer 0, and where the commands that count begin and end, of the first n states
+pub record Laid (T : Tables) (alone : Bool) (n : ℕ) (ranks watch ends ranks′ watch′ ends′ : List ℕ) : Type 0 where
+  pub seeded : Filled n (λ s. seedOf (spanAt T s)) ranks ranks′
+  pub begins : Filled n (λ s. rangeOf alone (spanAt T s) .from) watch watch′
+  pub stops : Filled n (λ s. rangeOf alone (spanAt T s) .to) ends ends′

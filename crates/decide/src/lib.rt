@@ -1,0 +1,108 @@
+// Deciding a whole plan.
+ghost use mathlib.Core.Path.{_≡_};
+ghost use Rattle.model.specs.Calls.{decideCall};
+ghost use Rattle.tables.specs.Meaning.{held};
+ghost use Rattle.decide.specs.Calls.{enough, refusal, decided, decisionOf, NumberOnly, Demands};
+use tables::Refusal;
+use tables::Size;
+
+mod nets;
+mod verdicts;
+mod working;
+
+// Whether the plan was decided.
+pub enum DecideAnswer {
+    Given,
+    Refused(Refusal),
+}
+
+// The answer, with the tally's two rows: how many safe and how many lost states have a practice that holds, one that fails, and none.
+pub struct Decision {
+    pub answer: DecideAnswer,
+    pub safe: [u16; 3],
+    pub lost: [u16; 3],
+}
+
+// Whether tables of these lengths have a place for each of n states.
+fn long_enough(n: usize, ranks: usize, commands: usize, marks: usize, scratch: usize) -> bool
+    ensures { λ r. ⌜ r ≡ enough n ranks commands marks scratch ⌝ }
+{
+    if ranks < n {
+        return false;
+    }
+    if commands < n {
+        return false;
+    }
+    if marks < n {
+        return false;
+    }
+    n <= scratch
+}
+
+fn refuse(r: Refusal) -> Decision
+    ensures { λ d. ⌜ d ≡ refusal r ⌝ }
+{
+    Decision {
+        answer: DecideAnswer::Refused(r),
+        safe: [0u16; 3],
+        lost: [0u16; 3],
+    }
+}
+
+fn answer_with(tally: [[u16; 3]; 2]) -> Decision
+    ensures { λ d. ⌜ d ≡ decided tally ⌝ }
+{
+    let safe = tally[0];
+    let lost = tally[1];
+    Decision {
+        answer: DecideAnswer::Given,
+        safe,
+        lost,
+    }
+}
+
+// Decides the plan: its ranks (FFFF for safe), commands (FFFF for none), practice marks and tally. The tally leaves as its two rows beside
+// the answer, since an enum holds no array. The law leaves free what the tables have while the call runs: the first n places of all four
+// are worked in, and no place behind them is written. When it is over nothing is free: the equations say what every place has.
+pub fn decide(
+    size: Size,
+    rows: &[u16],
+    firsts: &[u16],
+    outcomes: &[u16],
+    ranks: &mut [u16],
+    commands: &mut [u16],
+    marks: &mut [u16],
+    scratch: &mut [u16],
+) -> Decision
+    ensures { λ d. ⌜ decisionOf d ≡ decideCall (held size (now (rows .entry)) (now (firsts .entry)) (now (outcomes .entry))) (now (ranks .entry)) (now (commands .entry)) (now (marks .entry)) (now (scratch .entry)) .answers ⌝ }
+    ensures { λ _. ⌜ now (ranks .exit) ≡ decideCall (held size (now (rows .entry)) (now (firsts .entry)) (now (outcomes .entry))) (now (ranks .entry)) (now (commands .entry)) (now (marks .entry)) (now (scratch .entry)) .ranks ⌝ }
+    ensures { λ _. ⌜ now (commands .exit) ≡ decideCall (held size (now (rows .entry)) (now (firsts .entry)) (now (outcomes .entry))) (now (ranks .entry)) (now (commands .entry)) (now (marks .entry)) (now (scratch .entry)) .commands ⌝ }
+    ensures { λ _. ⌜ now (marks .exit) ≡ decideCall (held size (now (rows .entry)) (now (firsts .entry)) (now (outcomes .entry))) (now (ranks .entry)) (now (commands .entry)) (now (marks .entry)) (now (scratch .entry)) .marks ⌝ }
+    ensures { λ _. ⌜ now (scratch .exit) ≡ decideCall (held size (now (rows .entry)) (now (firsts .entry)) (now (outcomes .entry))) (now (ranks .entry)) (now (commands .entry)) (now (marks .entry)) (now (scratch .entry)) .scratch ⌝ }
+    ensures { λ d. ⌜ NumberOnly d ⌝ }
+    ensures { λ d. ⌜ Demands (held size (now (rows .entry)) (now (firsts .entry)) (now (outcomes .entry))) (d .answer) (now (ranks .exit)) (now (commands .exit)) ⌝ }
+{
+    if !tables::sound(size, rows, firsts, outcomes) {
+        return refuse(Refusal::Unsound);
+    }
+    if !long_enough(
+        size.n,
+        ranks.len(),
+        commands.len(),
+        marks.len(),
+        scratch.len(),
+    ) {
+        return refuse(Refusal::Cramped);
+    }
+    let tally = working::work_out(
+        size,
+        rows,
+        firsts,
+        outcomes,
+        ranks,
+        commands,
+        marks,
+        scratch,
+    );
+    answer_with(tally)
+}

@@ -1,0 +1,159 @@
+// The last pass over the states: commands, practice marks and the tally.
+ghost use mathlib.Core.Path.{_≡_};
+ghost use mathlib.Core.Bool.{true, not, _&&_};
+ghost use mathlib.Core.List.{List, []};
+ghost use Prim.Native.Nat.{ℕ, _+_, _<_, _≤_};
+ghost use lib.ListN.{length, getD};
+ghost use Rattle.model.specs.SoundTest.{sound};
+ghost use Rattle.model.specs.Held.{planIn};
+ghost use Rattle.model.specs.Policy.{risks};
+ghost use Rattle.tables.specs.Meaning.{held, spanAt};
+ghost use Rattle.choice.specs.Ready.{Ready};
+ghost use Rattle.decide.specs.Verdicts.{Seen, numbered, oneIf, markOf, columnOf, added, Judged, Judging};
+use crate::nets::has_practice;
+use choice::internal::choose;
+use choice::internal::command_hit;
+use tables::Size;
+use tables::internal::Span;
+use tables::internal::at;
+use tables::internal::put;
+use tables::internal::span_at;
+
+// A place of the tally.
+pub struct Place {
+    pub row: usize,
+    pub column: usize,
+}
+
+// Whether the entry of s is a number.
+fn has_number(table: &[u16], s: usize) -> bool
+    requires { ⌜ s < length (now table) ⌝ }
+    ensures { λ r. ⌜ r ≡ numbered (now (table .entry)) s ⌝ }
+{
+    at(table, s) <= 65534
+}
+
+// Whether the state, of which `span` was read, is a fault.
+fn is_fault(
+    size: Size,
+    span: Span,
+    firsts: &[u16],
+    outcomes: &[u16],
+    ranks: &[u16],
+    lost: bool,
+) -> bool
+    requires { ⌜ Ready size (now firsts) (now outcomes) ⌝ }
+    requires { ⌜ (span .first ≤ span .end) × (span .end ≤ size .m) × (size .n ≤ length (now ranks)) ⌝ }
+    ensures { λ r. ⌜ ((R : List ℕ) (s : ℕ) → s < size .n → span ≡ spanAt (held size R (now (firsts .entry)) (now (outcomes .entry))) s → r ≡ (not lost && risks (planIn (held size R (now (firsts .entry)) (now (outcomes .entry)))) (numbered (now (ranks .entry))) s)) ⌝ }
+{
+    if lost {
+        return false;
+    }
+    if !has_practice(span) {
+        return false;
+    }
+    command_hit(
+        size,
+        firsts,
+        outcomes,
+        ranks,
+        65534,
+        span.first + span.practice,
+    )
+}
+
+fn one_if(b: bool) -> usize
+    ensures { λ r. ⌜ r ≡ oneIf b ⌝ }
+{
+    if b {
+        return 1;
+    }
+    0
+}
+
+// 0 holds, 1 fails, with 2 added at a fault.
+fn mark_of(fails: bool, fault: bool) -> usize
+    ensures { λ r. ⌜ r ≡ markOf fails fault ⌝ }
+{
+    let mark = one_if(fails);
+    if fault {
+        return mark + 2;
+    }
+    mark
+}
+
+fn column_of(given: bool, fails: bool) -> usize
+    ensures { λ r. ⌜ r ≡ columnOf given fails ⌝ }
+{
+    if !given {
+        return 2;
+    }
+    one_if(fails)
+}
+
+// Judges state s, of which `span` was read: writes its command and its mark, and answers its place in the tally.
+fn judge(
+    size: Size,
+    span: Span,
+    firsts: &[u16],
+    outcomes: &[u16],
+    ranks: &[u16],
+    commands: &mut [u16],
+    marks: &mut [u16],
+    s: usize,
+) -> Place
+    requires { ⌜ Ready size (now firsts) (now outcomes) ⌝ }
+    requires { ⌜ Seen size (now firsts) (now outcomes) s span ⌝ }
+    requires { ⌜ (size .n ≤ length (now ranks)) × (size .n ≤ length (now commands)) × (size .n ≤ length (now marks)) ⌝ }
+    ensures { λ r. ⌜ ((R : List ℕ) → sound (held size R (now (firsts .entry)) (now (outcomes .entry))) ≡ true → span ≡ spanAt (held size R (now (firsts .entry)) (now (outcomes .entry))) s → Judged (planIn (held size R (now (firsts .entry)) (now (outcomes .entry)))) (numbered (now (ranks .entry))) (numbered (now (marks .entry)) s) s (now (commands .entry)) (now (marks .entry)) r (now (commands .exit)) (now (marks .exit))) ⌝ }
+{
+    let lost = has_number(ranks, s);
+    let fails = has_number(marks, s);
+    put(
+        commands,
+        s,
+        choose(size, span, firsts, outcomes, ranks, 65534),
+    );
+    let fault = is_fault(size, span, firsts, outcomes, ranks, lost);
+    put(marks, s, mark_of(fails, fault));
+    Place {
+        row: one_if(lost),
+        column: column_of(has_practice(span), fails),
+    }
+}
+
+// One more at a place of the tally.
+fn add(t: [[u16; 3]; 2], r: usize, c: usize) -> [[u16; 3]; 2]
+    requires { ⌜ (r < 2) × (c < 3) × (getD (getD t r []) c 0 < 60000) ⌝ }
+    ensures { λ x. ⌜ x ≡ added t r c ⌝ }
+{
+    let mut u = t;
+    u[r][c] = u[r][c] + 1;
+    u
+}
+
+// Judges every state, and answers the tally.
+pub fn judge_all(
+    size: Size,
+    rows: &[u16],
+    firsts: &[u16],
+    outcomes: &[u16],
+    ranks: &[u16],
+    commands: &mut [u16],
+    marks: &mut [u16],
+) -> [[u16; 3]; 2]
+    requires { ⌜ sound (held size (now rows) (now firsts) (now outcomes)) ≡ true ⌝ }
+    requires { ⌜ (size .n ≤ length (now ranks)) × (size .n ≤ length (now commands)) × (size .n ≤ length (now marks)) ⌝ }
+    ensures { λ r. ⌜ Judging (planIn (held size (now (rows .entry)) (now (firsts .entry)) (now (outcomes .entry)))) (numbered (now (ranks .entry))) (size .n) (now (commands .entry)) (now (marks .entry)) r (now (commands .exit)) (now (marks .exit)) ⌝ }
+{
+    let mut tally = [[0u16; 3]; 2];
+    let mut s = 0;
+    while s < size.n {
+        let span = span_at(size, rows, s);
+        let place = judge(size, span, firsts, outcomes, ranks, commands, marks, s);
+        let next = add(tally, place.row, place.column);
+        tally = next;
+        s += 1;
+    }
+    tally
+}

@@ -1,0 +1,7 @@
+pub mod Starts
+pub mod Fills
+pub mod Owners
+pub mod Counting
+pub mod Sums
+pub mod Placing
+pub mod Groups

@@ -1,0 +1,26 @@
+-- The members of a slice are the entries from its start on, below its end.
+use mathlib.Core.Path.{_≡_, refl, sym}
+use mathlib.Core.Bool.{Bool, true, false}
+use mathlib.Core.Logic.{⊎-elim}
+use mathlib.Core.List.{List, List·Memᴰ, List·Memᴰ·head, List·Memᴰ·tail, List·Memᴰ·not-nil, List·Memᴰ·cases-cons}
+use Prim.Native.Nat.{ℕ, zero, suc, _+_, _-_, _<_, _≤_}
+use native.Mathlib.Nat.{eq-or-lt-of-le}
+use native.Mathlib.Numerals.{add-one}
+use native.Mathlib.Omega.{arith}
+use lib.ListN.{length, getD}
+use lib.Seq.{slice, slice-empty, slice-cons}
+use Rattle.laws.specs.Sets.{any}
+use Rattle.laws.proofs.Tests.{or-left}
+
+module _ (l : List ℕ) (e : ℕ) (long : e ≤ length l) where
+  -- by how many entries are left
+  part-at : (d a x : ℕ) → a + d ≡ e → List·Memᴰ x (slice a e l) → (i : ℕ) × (a ≤ i) × (i < e) × (getD l i 0 ≡ x)
+  part-at zero a x q m = let z : a ≡ e = omega arith in absurd (List·Memᴰ·not-nil (rw (z, slice-empty e l) at m))
+  part-at (suc d) a x q m =
+      ⊎-elim
+      (λ h. (a, omega arith, omega arith, sym h))
+      (λ h. let (i, p, r, g) = part-at d (suc a) x (omega arith) h in (i, omega arith, r, g))
+      (List·Memᴰ·cases-cons (rw (slice-cons a e l 0 (omega arith) long) at m))
+
+  pub slice-at : (a x : ℕ) → a ≤ e → List·Memᴰ x (slice a e l) → (i : ℕ) × (a ≤ i) × (i < e) × (getD l i 0 ≡ x)
+  slice-at a x p m = part-at (e - a) a x (omega arith) m

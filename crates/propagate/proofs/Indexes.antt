@@ -1,0 +1,18 @@
+-- What the index gives is what the propagation asks, where the ranges are parts of the states' own commands.
+use mathlib.Core.List.{List}
+use Prim.Native.Nat.{ℕ, suc, _≤_, _<_}
+use lib.ListN.{length}
+use Rattle.index.specs.Parts.{startOf, Owned}
+use Rattle.index.specs.Commands.{Commands}
+use Rattle.index.specs.Grouping.{Grouped}
+use Rattle.propagate.specs.Net.{Net, from, to, Indexed, Owns}
+
+pub index-fits : (C : Commands) (starts offsets users owner : List ℕ) → C .n ≤ length offsets → C .t ≤ length users → C .m ≤ length owner
+    → Grouped C offsets users → Owned starts (C .n) (C .m) owner → Indexed C offsets users owner
+index-fits C starts offsets users owner l u o g w =
+    record { offsets-long = l; users-long = u; owner-long = o; grouped = g; inside = w .inside }
+
+module _ (N : Net) (starts owner : List ℕ) (w : Owned starts (N .commands .n) (N .commands .m) owner) where
+  pub own-ranges : ((s c : ℕ) → s < N .commands .n → from N s ≤ c → c < to N s
+      → (startOf starts (N .commands .n) (N .commands .m) s ≤ c) × (c < startOf starts (N .commands .n) (N .commands .m) (suc s))) → Owns N owner
+  own-ranges part = record { owners = λ s c h p q. let (a, b) = part s c h p q in w .owners s c h a b }

@@ -1,0 +1,10 @@
+pub mod Hits
+pub mod Scans
+pub mod CommandHits
+pub mod Counting
+pub mod Waves
+pub mod Spreads
+pub mod Fronts
+pub mod Starts
+pub mod Ends
+pub mod Indexes

@@ -1,0 +1,73 @@
+-- Going on from one state: the command taken there, and where it may land.
+use mathlib.Core.Path.{_≡_, sym, _∙_, ap}
+use mathlib.Core.Bool.{true, false}
+use mathlib.Core.List.{List}
+use mathlib.Core.Option.{some}
+use Prim.Native.Nat.{ℕ, _+_, _<_}
+use lib.Dec.{eqb}
+use lib.ListN.{set}
+use lib.Seq.{slice}
+use Rattle.laws.specs.Sets.{any}
+use Rattle.laws.specs.Entry.{FFFF, entry}
+use Rattle.model.specs.Plan.{Plan}
+use Rattle.model.specs.Command.{choice}
+use Rattle.model.specs.Search.{lands}
+use Rattle.model.specs.Tables.{Tables}
+use Rattle.model.specs.Places.{firstCommand, firstOutcome, outcomesAt}
+use Rattle.model.specs.SoundTest.{sound}
+use Rattle.model.specs.Held.{planIn}
+use Rattle.model.proofs.Choices.{choice-some}
+use Rattle.model.proofs.HeldPlan.{commands-held, outcomes-held}
+use Rattle.tables.specs.declared.internal.Span.{Span}
+use Rattle.tables.specs.Meaning.{spanAt}
+use Rattle.choice.specs.Within.{within}
+use Rattle.choice.proofs.Outcomes.{outcomes-read}
+use Rattle.choice.proofs.Taken.{taken-place, taken-clear, none-taken, some-taken}
+use Rattle.search.specs.Flags.{knownIn, Lists, Spread}
+use Rattle.search.specs.Phases.{Gone}
+use Rattle.search.proofs.Queues.{spread-none, spread-as}
+
+known-choice : (P : Plan) (scratch : List ℕ) (s c : ℕ) → c ≡ entry (choice P (within scratch 0) s) → c ≡ entry (choice P (knownIn scratch) s)
+unfolding knownIn
+known-choice P scratch s c e = e
+
+-- c is the entry that choosing answered at s, of which `span` was read
+module _ (T : Tables) (sounds : sound T ≡ true) (s : ℕ) (l : s < T .size .n) (span : Span) (is : span ≡ spanAt T s) (scratch : List ℕ) (c : ℕ)
+    (e : c ≡ entry (choice (planIn T) (within scratch 0) s)) where
+  known : c ≡ entry (choice (planIn T) (knownIn scratch) s)
+  known = known-choice (planIn T) scratch s c e
+
+  -- none is left: the walk does not pass s
+  pub gone-none : c ≡ FFFF → {n q : ℕ} {u : List ℕ} (cs cs′ : List ℕ) → cs′ ≡ set cs s c → Lists n q scratch u → Gone (planIn T) n q s cs scratch u q cs′ scratch u
+  unfolding lands
+  gone-none h cs cs′ p L = record {
+    took = p ∙ ap (set cs s) known;
+    spreads = spread-none L _ (λ y. rw (none-taken T sounds s l (knownIn scratch) c known h));
+  }
+
+  module _ (h : c ≡ FFFF → ⊥) where
+    choice-is : choice (planIn T) (knownIn scratch) s ≡ some c
+    choice-is = some-taken T sounds s l (knownIn scratch) c known h
+
+    first-is : span .first ≡ firstCommand T s
+    first-is = ap (λ (q : Span). q .first) is
+
+    pub gone-place : span .first + c < T .size .m
+    gone-place = rw first-is (taken-place T sounds s l (knownIn scratch) c choice-is)
+
+    module _ (from end : ℕ) (p : from ≡ firstOutcome T (span .first + c)) (q : end ≡ firstOutcome T (span .first + c + 1)) where
+      part-is : slice from end (T .outcomes) ≡ outcomesAt T (firstCommand T s + c)
+      part-is = outcomes-read T (span .first + c) from end p q ∙ ap (λ (f : ℕ). outcomesAt T (f + c)) first-is
+
+      pub gone-free : any (knownIn scratch) (slice from end (T .outcomes)) ≡ false
+      gone-free = ap (any (knownIn scratch)) part-is ∙ taken-clear T sounds s l (knownIn scratch) c choice-is
+
+      lands-are : (y : ℕ) → any (eqb y) (slice from end (T .outcomes)) ≡ lands (planIn T) s (choice (planIn T) (knownIn scratch) s) y
+      unfolding lands
+      lands-are y =
+          let own = choice-some (planIn T) (knownIn scratch) s c choice-is .1 in
+          rw choice-is (ap (any (eqb y)) (part-is ∙ sym (outcomes-held T s l c (rw (commands-held T s l) at own))))
+
+      pub gone-some : {n k k′ : ℕ} {u scratch′ u′ : List ℕ} (cs cs′ : List ℕ) → cs′ ≡ set cs s c
+          → Spread n k (λ y. any (eqb y) (slice from end (T .outcomes))) scratch u k′ scratch′ u′ → Gone (planIn T) n k s cs scratch u k′ cs′ scratch′ u′
+      gone-some cs cs′ z w = record { took = z ∙ ap (set cs s) known; spreads = spread-as lands-are w }

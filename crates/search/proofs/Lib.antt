@@ -1,0 +1,15 @@
+pub mod FlagValues
+pub mod Queues
+pub mod Spreading
+pub mod Expanding
+pub mod Walking
+pub mod Settling
+pub mod SameSets
+pub mod ReadStates
+pub mod Rounding
+pub mod LastRound
+pub mod Turning
+pub mod Concluding
+pub mod Preparing
+pub mod Admitting
+pub mod Replying

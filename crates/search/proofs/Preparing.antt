@@ -1,0 +1,40 @@
+-- A sound plan, a start in it and long tables: all that the search asks for.
+use mathlib.Core.Path.{_≡_}
+use mathlib.Core.Bool.{true}
+use mathlib.Core.List.{List}
+use Prim.Native.Nat.{ℕ, _<_, _≤_}
+use native.Mathlib.Omega.{arith}
+use lib.ListN.{length}
+use Rattle.model.specs.SoundTest.{sound}
+use Rattle.model.proofs.SoundFacts.{sound-facts}
+use Rattle.tables.specs.declared.Size.{Size}
+use Rattle.tables.specs.Meaning.{held}
+use Rattle.choice.proofs.Readiness.{sound-ready}
+use Rattle.search.specs.Seen.{Prepared}
+
+pub prepared : (size : Size) (rows firsts outcomes : List ℕ) → sound (held size rows firsts outcomes) ≡ true → (a : ℕ) → a < size .n
+    → (c s u : List ℕ) → size .n ≤ length c → size .n ≤ length s → 1024 ≤ length u → Prepared size rows firsts outcomes a c s u
+prepared size rows firsts outcomes e a l c s u lc ls lu = let f = sound-facts (held size rows firsts outcomes) .0 e in record {
+  sounds = e;
+  few = f .size .few;
+  long-rows = f .long .rows;
+  ready = sound-ready size rows firsts outcomes e;
+  inside = l;
+  long-commands = lc;
+  long-scratch = ls;
+  long-queue = omega (arith, f .size .few);
+}
+
+-- later, with tables that are as long
+pub still-prepared : {size : Size} {rows firsts outcomes : List ℕ} {a : ℕ} {c s u : List ℕ} → Prepared size rows firsts outcomes a c s u
+    → (c′ s′ u′ : List ℕ) → length c′ ≡ length c → length s′ ≡ length s → length u′ ≡ length u → Prepared size rows firsts outcomes a c′ s′ u′
+still-prepared p c′ s′ u′ ec es eu = record {
+  sounds = p .sounds;
+  few = p .few;
+  long-rows = p .long-rows;
+  ready = p .ready;
+  inside = p .inside;
+  long-commands = omega (arith, p .long-commands);
+  long-scratch = omega (arith, p .long-scratch);
+  long-queue = omega (arith, p .long-queue);
+}

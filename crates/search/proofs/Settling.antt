@@ -1,0 +1,116 @@
+-- The known states before the first round, and the sweep that ends a round.
+use mathlib.Core.Path.{_≡_, refl, sym, _∙_, ap}
+use mathlib.Core.Bool.{Bool, true, false, not, _&&_, and-false, and-true}
+use mathlib.Core.List.{List}
+use Prim.Native.Nat.{ℕ, _+_, _<_, _≤_}
+use native.Mathlib.Numerals.{add-one}
+use native.Mathlib.Omega.{arith}
+use lib.Dec.{eqb, ltb}
+use lib.ListN.{length, getD, set}
+use lib.Seq.{set-getD}
+use borrow.Author.Tests.{not-true, not-false, eq-eqb, ne-eqb}
+use Rattle.laws.specs.Sets.{every}
+use Rattle.laws.specs.Entry.{FFFF}
+use Rattle.laws.specs.Filled.{Filled}
+use Rattle.laws.proofs.Fills.{filled-none, filled-next}
+use Rattle.model.specs.Tables.{Tables}
+use Rattle.tables.specs.declared.internal.Span.{Span}
+use Rattle.tables.specs.Meaning.{spanAt}
+use Rattle.search.specs.Flags.{walkedIn}
+use Rattle.search.specs.Seen.{busySpan}
+use Rattle.search.specs.Phases.{startFlag, startEnd, stuckAt, settledAt}
+
+-- ---- tests of a state by what was read of it
+
+module _ (q : Span) where
+  pub not-busy : (q .kind ≡ 0 → ⊥) → false ≡ busySpan q
+  unfolding busySpan
+  not-busy h = rw (ne-eqb (q .kind) 0 h)
+
+  pub busy-count : q .kind ≡ 0 → ltb (q .first) (q .end) ≡ busySpan q
+  unfolding busySpan
+  busy-count h = rw (eq-eqb (q .kind) 0 h)
+
+  pub flag-failing : q .kind ≡ 1 → 0 ≡ startFlag q
+  unfolding startFlag
+  flag-failing h = rw (eq-eqb (q .kind) 1 h)
+
+  pub flag-other : (q .kind ≡ 1 → ⊥) → 1 ≡ startFlag q
+  unfolding startFlag
+  flag-other h = rw (ne-eqb (q .kind) 1 h)
+
+  pub end-failing : q .kind ≡ 1 → 1 ≡ startEnd q
+  unfolding startEnd
+  end-failing h = rw (eq-eqb (q .kind) 1 h)
+
+  module _ (h : q .kind ≡ 1 → ⊥) (t : Bool) (e : t ≡ busySpan q) where
+    pub end-busy : t ≡ true → 2 ≡ startEnd q
+    unfolding startEnd
+    end-busy z = rw (ne-eqb (q .kind) 1 h, ← e, z)
+
+    pub end-rest : t ≡ false → 0 ≡ startEnd q
+    unfolding startEnd
+    end-rest z = rw (ne-eqb (q .kind) 1 h, ← e, z)
+
+-- ---- the sweep at one state, whose flag r was read
+
+module _ (q : Span) (cs s : List ℕ) (x r : ℕ) (p : r ≡ getD s x 0) where
+  pub not-reached : (r ≡ 2 → ⊥) → false ≡ stuckAt q cs s x
+  unfolding stuckAt walkedIn
+  not-reached h = rw (← p, ne-eqb r 2 h)
+
+  module _ (h : r ≡ 2) (t : Bool) (e : t ≡ busySpan q) where
+    pub nothing-to-take : not t ≡ true → false ≡ stuckAt q cs s x
+    unfolding stuckAt walkedIn
+    nothing-to-take z = rw (← p, eq-eqb r 2 h, ← e, not-true t z)
+
+    pub nothing-taken : not t ≡ false → (v : ℕ) → v ≡ getD cs x 0 → eqb v FFFF ≡ stuckAt q cs s x
+    unfolding stuckAt walkedIn
+    nothing-taken z v u = rw (← p, eq-eqb r 2 h, ← e, not-false t z, u)
+
+module _ (q : Span) (cs s : List ℕ) (x : ℕ) (calm t : Bool) (p : t ≡ stuckAt q cs s x) where
+  pub swept-marked : t ≡ true → (s′ : List ℕ) → s′ ≡ set s x 0 → (false ≡ (calm && not (stuckAt q cs s x))) × (s′ ≡ set s x (settledAt q cs s x))
+  unfolding settledAt
+  swept-marked h s′ e = (rw (← p, h) (sym (and-false calm)), rw (← p, h) e)
+
+  module _ (h : t ≡ false) (r : ℕ) (u : r ≡ getD s x 0) where
+    still-calm : calm ≡ (calm && not (stuckAt q cs s x))
+    still-calm = rw (← p, h) (sym (and-true calm))
+
+    pub swept-reached : r ≡ 2 → (s′ : List ℕ) → s′ ≡ set s x 1 → (calm ≡ (calm && not (stuckAt q cs s x))) × (s′ ≡ set s x (settledAt q cs s x))
+    unfolding settledAt walkedIn
+    swept-reached z s′ e = (still-calm, rw (← p, h, ← u, eq-eqb r 2 z) e)
+
+    pub swept-other : (r ≡ 2 → ⊥) → (calm ≡ (calm && not (stuckAt q cs s x))) × (s ≡ set s x (settledAt q cs s x))
+    unfolding settledAt walkedIn
+    swept-other z = (still-calm, rw (← p, h, ne-eqb (getD s x 0) 2 (λ w. z (u ∙ w))) (sym (set-getD s x 0)))
+
+-- ---- the sweep, at place i
+
+pub record Settling (T : Tables) (cs s₀ s : List ℕ) (calm : Bool) (i : ℕ) : Type 0 where
+  pub flags : Filled i (λ x. settledAt (spanAt T x) cs s₀ x) s₀ s
+  pub calms : calm ≡ every (λ x. not (stuckAt (spanAt T x) cs s₀ x)) i
+
+pub settling-start : {T : Tables} {cs s : List ℕ} → Settling T cs s s true 0
+unfolding every
+settling-start = record { flags = filled-none; calms = refl }
+
+module _ {T : Tables} {cs s₀ s : List ℕ} {calm : Bool} {i : ℕ} (w : Settling T cs s₀ s calm i) where
+  stuck-as : (q : Span) → stuckAt q cs s i ≡ stuckAt q cs s₀ i
+  unfolding stuckAt walkedIn
+  stuck-as q = rw (w .flags .high i (omega arith))
+
+  settled-as : (q : Span) → settledAt q cs s i ≡ settledAt q cs s₀ i
+  unfolding settledAt stuckAt walkedIn
+  settled-as q = rw (w .flags .high i (omega arith))
+
+  pub settling-next : i < length s₀ → (q : Span) → q ≡ spanAt T i → (r : Bool) (s′ : List ℕ)
+      → r ≡ (calm && not (stuckAt q cs s i)) → s′ ≡ set s i (settledAt q cs s i) → Settling T cs s₀ s′ r (i + 1)
+  unfolding every
+  settling-next l q is r s′ e f = record {
+    flags = filled-next (w .flags) l _ (settled-as q ∙ ap (λ (p : Span). settledAt p cs s₀ i) is) s′ f;
+    calms = rw (add-one i) (e ∙ rw (stuck-as q, is, w .calms));
+  }
+
+  pub settling-done : {n : ℕ} → i ≤ n → n ≤ i → Settling T cs s₀ s calm n
+  settling-done {n} h k = let e : i ≡ n = omega arith in rw e at w

@@ -1,0 +1,19 @@
+use borrow.Author.Needs.{needs}
+use Rattle.search.proofs.Settling.{end-failing, end-busy, end-rest}
+use Rattle.search.proofs.marks.start_end.Statement.{statement}
+use Rattle.search.proofs.marks.start_end.Tie as tie
+
+returns : tie.Need-returns
+returns c = end-failing _ (c .if1 .taken)
+
+has-commands-requires : tie.Need-has-commands-requires
+has-commands-requires c κs = search needs
+
+returns-2 : tie.Need-returns-2
+returns-2 c = end-busy _ (c .before .before .if1 .left) _ (c .before .has-commands .ensures) (c .if2 .taken)
+
+returns-3 : tie.Need-returns-3
+returns-3 c = end-rest _ (c .before .before .if1 .left) _ (c .before .has-commands .ensures) (c .if2 .left)
+
+pub start-end-spec : {M : Type 1} → statement M
+start-end-spec = tie.close (tie.spec returns has-commands-requires returns-2 returns-3)

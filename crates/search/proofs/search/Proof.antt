@@ -1,0 +1,55 @@
+use native.Mathlib.Omega.{arith}
+use borrow.Author.Needs.{needs}
+use Rattle.search.proofs.Replying.{refuses, gives, behind-gate}
+use Rattle.search.proofs.search.Statement.{statement}
+use Rattle.search.proofs.search.Tie as tie
+
+sound-requires : tie.Need-sound-requires
+sound-requires c κs = search needs
+
+admit-requires : tie.Need-admit-requires
+admit-requires c κs = search needs
+
+enum-known-gate : tie.Need-enum-known-gate
+enum-known-gate c = search needs
+
+enum-told : tie.Need-enum-told
+enum-told c = search needs
+
+slice-aggregate-rounds : tie.Need-slice-aggregate-rounds
+slice-aggregate-rounds c = search needs
+
+rounds-requires : tie.Need-rounds-requires
+rounds-requires c κs =
+    behind-gate _ _ _ _ _ _ _ _ _ (c .before .before .before .before .before .before .sound .ensures) _ (c .before .before .before .before .before .admit .ensures) (c .before .before .before .enum-told .given .1) (omega arith)
+
+returns : tie.Need-returns
+returns c =
+    let s = c .before .before .before .before .before .before .before .before .before .before .args in
+    refuses _ _ (s .commands .now) (s .scratch .now) _ (c .before .before .before .before .sound .ensures) _ (c .before .before .before .admit .ensures) _ (c .before .gate .given .1)
+
+same-length : tie.Need-same-length
+same-length c = search needs
+
+same-length-2 : tie.Need-same-length-2
+same-length-2 c = search needs
+
+returns-2 : tie.Need-returns-2
+returns-2 c =
+    let s = c .before .before .before .before .before .before .before .before .before .before .before .before .before .before .before .before .before .before .args in
+    gives _ _ (s .commands .now) (s .scratch .now) _ (c .before .before .before .before .before .before .before .before .before .before .before .before .sound .ensures) _ (c .before .before .before .before .before .before .before .before .before .before .before .admit .ensures) (c .before .before .before .before .before .before .before .before .before .enum-told .given .1) _ _ _ (c .before .before .before .before .before .rounds .ensures)
+
+pub search-spec : {M : Type 1} → statement M
+search-spec =
+    tie.close
+    (tie.spec
+    sound-requires
+    admit-requires
+    enum-known-gate
+    enum-told
+    slice-aggregate-rounds
+    rounds-requires
+    returns
+    same-length
+    same-length-2
+    returns-2)

@@ -1,0 +1,4 @@
+pub mod Flags
+pub mod Seen
+pub mod Phases
+pub mod Replies

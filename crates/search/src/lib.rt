@@ -1,0 +1,65 @@
+// The search from one start: the start's verdict, and the commands that hold it, without deciding the whole plan.
+ghost use mathlib.Core.Path.{_≡_};
+ghost use lib.ListN.{length};
+ghost use Rattle.model.specs.Refusal.{answer};
+ghost use Rattle.model.specs.Calls.{left, searching, resultTable, cleared};
+ghost use Rattle.tables.specs.Meaning.{held};
+ghost use Rattle.search.specs.Replies.{answerOf, Demanded};
+use gate::Gate;
+use tables::Refusal;
+use tables::Size;
+
+mod fills;
+mod gate;
+mod marks;
+mod turns;
+mod walks;
+
+// The verdict on the start, and how many rounds were walked, the last included.
+pub struct Found {
+    pub lost: bool,
+    pub rounds: usize,
+}
+
+pub enum SearchAnswer {
+    Given(Found),
+    Refused(Refusal),
+}
+
+// The search from `start`, which leaves its commands in the first n places of `commands` and zero in the first n places of `scratch`. Refused
+// with 10, then 11, then 9, before a table is written. Free is the order in which a round walks, and what scratch holds during the call:
+// neither the answer nor a table shows it.
+pub fn search(
+    size: Size,
+    rows: &[u16],
+    firsts: &[u16],
+    outcomes: &[u16],
+    start: usize,
+    commands: &mut [u16],
+    scratch: &mut [u16],
+) -> SearchAnswer
+    ensures answered { λ r. ⌜ answerOf r ≡ answer (λ R. (R .lost, R .rounds)) (searching (held size (now (rows .entry)) (now (firsts .entry)) (now (outcomes .entry))) start (length (now (commands .entry))) (length (now (scratch .entry)))) ⌝ }
+    ensures takes { λ _. ⌜ now (commands .exit) ≡ left (resultTable (size .n)) (searching (held size (now (rows .entry)) (now (firsts .entry)) (now (outcomes .entry))) start (length (now (commands .entry))) (length (now (scratch .entry)))) (now (commands .entry)) ⌝ }
+    ensures clean { λ _. ⌜ now (scratch .exit) ≡ left (λ R. cleared (size .n)) (searching (held size (now (rows .entry)) (now (firsts .entry)) (now (outcomes .entry))) start (length (now (commands .entry))) (length (now (scratch .entry)))) (now (scratch .entry)) ⌝ }
+    ensures demand3 { λ r. ⌜ Demanded (held size (now (rows .entry)) (now (firsts .entry)) (now (outcomes .entry))) start r (now (commands .exit)) ⌝ }
+{
+    let sounds = tables::sound(size, rows, firsts, outcomes);
+    let gate = gate::admit(sounds, size.n, start, commands.len(), scratch.len());
+    match gate {
+        Gate::Shut(refusal) => SearchAnswer::Refused(refusal),
+        Gate::Open => {
+            let mut queue = [0u16; 1024];
+            let found = turns::rounds(
+                size,
+                rows,
+                firsts,
+                outcomes,
+                start,
+                commands,
+                scratch,
+                &mut queue,
+            );
+            SearchAnswer::Given(found)
+        }
+    }
+}

@@ -1,0 +1,137 @@
+// The walk of one round. The queue has the states that the walk has reached, each once, and the walk goes on from each once, so a round reads
+// no state and no outcome more than a few times. In what order the states are reached is free: no contract here tells it.
+ghost use mathlib.Core.Path.{_≡_};
+ghost use mathlib.Core.Bool.{true, false};
+ghost use mathlib.Core.List.{List};
+ghost use Prim.Native.Nat.{ℕ, _<_, _≤_};
+ghost use lib.Dec.{eqb};
+ghost use lib.ListN.{length, getD};
+ghost use lib.Seq.{slice};
+ghost use Rattle.laws.specs.Sets.{any};
+ghost use Rattle.laws.specs.Entry.{FFFF};
+ghost use Rattle.laws.specs.Filled.{Filled};
+ghost use Rattle.model.specs.SoundTest.{sound};
+ghost use Rattle.model.specs.Held.{planIn};
+ghost use Rattle.tables.specs.Meaning.{held, spanAt};
+ghost use Rattle.choice.specs.Ready.{Ready};
+ghost use Rattle.search.specs.Flags.{knownIn, Lists, Spread};
+ghost use Rattle.search.specs.Seen.{Seen, Prepared, Fresh};
+ghost use Rattle.search.specs.Phases.{Gone, Walked};
+use crate::fills::fill;
+use choice::internal::choose;
+use tables::Size;
+use tables::internal::Span;
+use tables::internal::at;
+use tables::internal::first_outcome;
+use tables::internal::put;
+use tables::internal::span_at;
+
+// Takes state x into the walk, which has reached q states, unless it has reached x; answers how many it has reached then.
+fn reach(n: usize, scratch: &mut [u16], queue: &mut [u16], q: usize, x: usize) -> usize
+    requires { ⌜ Lists n q (now scratch) (now queue) ⌝ }
+    requires { ⌜ (x < n) × (n ≤ 1024) × (n ≤ length (now scratch)) × (n ≤ length (now queue)) × (knownIn (now scratch) x ≡ false) ⌝ }
+    ensures { λ r. ⌜ Spread n q (λ y. eqb y x) (now (scratch .entry)) (now (queue .entry)) r (now (scratch .exit)) (now (queue .exit)) ⌝ }
+{
+    if at(scratch, x) != 1 {
+        return q;
+    }
+    put(scratch, x, 2);
+    put(queue, q, x);
+    q + 1
+}
+
+// Takes the outcomes at the places from `from` up to `end` into the walk.
+fn spread(
+    n: usize,
+    outcomes: &[u16],
+    scratch: &mut [u16],
+    queue: &mut [u16],
+    q: usize,
+    from: usize,
+    end: usize,
+) -> usize
+    requires { ⌜ Lists n q (now scratch) (now queue) ⌝ }
+    requires { ⌜ (n ≤ 1024) × (n ≤ length (now scratch)) × (n ≤ length (now queue)) ⌝ }
+    requires { ⌜ (from ≤ end) × (end ≤ length (now outcomes)) × ((j : ℕ) → j < end → getD (now outcomes) j 0 < n) ⌝ }
+    requires { ⌜ any (knownIn (now scratch)) (slice from end (now outcomes)) ≡ false ⌝ }
+    ensures { λ r. ⌜ Spread n q (λ y. any (eqb y) (slice from end (now (outcomes .entry)))) (now (scratch .entry)) (now (queue .entry)) r (now (scratch .exit)) (now (queue .exit)) ⌝ }
+{
+    let mut i = from;
+    let mut e = q;
+    while i < end {
+        e = reach(n, scratch, queue, e, at(outcomes, i));
+        i += 1;
+    }
+    e
+}
+
+// Goes on from state s, of which `span` was read: takes the command there, and the command's outcomes into the walk.
+fn expand(
+    size: Size,
+    span: Span,
+    firsts: &[u16],
+    outcomes: &[u16],
+    commands: &mut [u16],
+    scratch: &mut [u16],
+    queue: &mut [u16],
+    q: usize,
+    s: usize,
+) -> usize
+    requires { ⌜ Ready size (now firsts) (now outcomes) ⌝ }
+    requires { ⌜ Seen size (now firsts) (now outcomes) s span ⌝ }
+    requires { ⌜ (size .n ≤ length (now commands)) × (size .n ≤ length (now scratch)) × (size .n ≤ length (now queue)) ⌝ }
+    requires { ⌜ Lists (size .n) q (now scratch) (now queue) ⌝ }
+    ensures { λ r. ⌜ ((R : List ℕ) → sound (held size R (now (firsts .entry)) (now (outcomes .entry))) ≡ true → span ≡ spanAt (held size R (now (firsts .entry)) (now (outcomes .entry))) s → Gone (planIn (held size R (now (firsts .entry)) (now (outcomes .entry)))) (size .n) q s (now (commands .entry)) (now (scratch .entry)) (now (queue .entry)) r (now (commands .exit)) (now (scratch .exit)) (now (queue .exit))) ⌝ }
+{
+    let c = choose(size, span, firsts, outcomes, scratch, 0);
+    put(commands, s, c);
+    if c == 65535 {
+        return q;
+    }
+    let g = span.first + c;
+    let from = first_outcome(size, firsts, g);
+    let end = first_outcome(size, firsts, g + 1);
+    spread(size.n, outcomes, scratch, queue, q, from, end)
+}
+
+// Begins a walk: no command is taken yet, and the start is reached. Answers how many states are reached.
+fn begin(
+    n: usize,
+    start: usize,
+    commands: &mut [u16],
+    scratch: &mut [u16],
+    queue: &mut [u16],
+) -> usize
+    requires { ⌜ (start < n) × (n ≤ 1024) × (n ≤ length (now commands)) × (n ≤ length (now scratch)) × (n ≤ length (now queue)) ⌝ }
+    requires { ⌜ Fresh n start (now scratch) ⌝ }
+    ensures { λ _. ⌜ Filled n (λ _. FFFF) (now (commands .entry)) (now (commands .exit)) ⌝ }
+    ensures { λ r. ⌜ Spread n 0 (λ y. eqb y start) (now (scratch .entry)) (now (queue .entry)) r (now (scratch .exit)) (now (queue .exit)) ⌝ }
+{
+    fill(commands, n, 65535);
+    reach(n, scratch, queue, 0, start)
+}
+
+// Walks from the start.
+pub fn walk(
+    size: Size,
+    rows: &[u16],
+    firsts: &[u16],
+    outcomes: &[u16],
+    start: usize,
+    commands: &mut [u16],
+    scratch: &mut [u16],
+    queue: &mut [u16],
+)
+    requires { ⌜ Prepared size (now rows) (now firsts) (now outcomes) start (now commands) (now scratch) (now queue) ⌝ }
+    requires { ⌜ Fresh (size .n) start (now scratch) ⌝ }
+    ensures { λ _. ⌜ Walked (planIn (held size (now (rows .entry)) (now (firsts .entry)) (now (outcomes .entry)))) (size .n) start (now (commands .entry)) (now (scratch .entry)) (now (commands .exit)) (now (scratch .exit)) ⌝ }
+{
+    let mut q = begin(size.n, start, commands, scratch, queue);
+    let mut h = 0;
+    while h < q {
+        let s = at(queue, h);
+        let span = span_at(size, rows, s);
+        q = expand(size, span, firsts, outcomes, commands, scratch, queue, q, s);
+        h += 1;
+    }
+}
