@@ -4,7 +4,7 @@ use mathlib.Core.Path.{_≡_, sym, ap, ap₂, _∙_}
 use mathlib.Core.Bool.{Bool, true, false, _&&_}
 use mathlib.Core.Logic.{⊎-elim}
 use mathlib.Core.List.{List}
-use Prim.Native.Nat.{ℕ, zero, suc, _+_, _-_, _<_, _≤_}
+use Prim.Native.Nat.{ℕ, zero, suc, _+_, _-_, _<_}
 use native.Mathlib.Nat.{add-zero}
 use native.Mathlib.Numerals.{add-one}
 use native.Mathlib.Omega.{arith}
@@ -24,7 +24,6 @@ use Rattle.model.specs.Held.{planIn}
 use Rattle.model.proofs.StateKinds.{active-is, command-active}
 use Rattle.model.proofs.HeldPlan.{states-held, policy-held, commands-held}
 use Rattle.model.proofs.Valid.{sound-valid}
-use Rattle.model.proofs.SoundFacts.{sound-facts}
 use Rattle.tables.specs.declared.Size.{Size}
 use Rattle.tables.specs.Meaning.{held, spanAt}
 use Rattle.index.specs.Commands.{commandsOf}
@@ -52,9 +51,6 @@ module _ (size : Size) (rows firsts outcomes watch ends : List ℕ) (alone : Boo
 
   abbrev P : Plan
   P = planIn T
-
-  rising : firstCommand T s ≤ firstCommand T (suc s)
-  rising = sound-facts T .0 sounds .rows s l .rises
 
   -- an outcome in A at a place is an outcome in B of the command
   hit-is : (c : ℕ) → c < P .commands s → hitsIn (commandsOf size firsts outcomes) A (firstCommand T s + c) ≡ hits P B s c

@@ -72,7 +72,7 @@ module _ (size : Size) (rows firsts outcomes : List ℕ) where
         let r = range-inside (spanAt T s) (i .0) alone in
         rw (← add-one s) (r .0, r .2, i .1)
 
-    pub laid-ranges : {alone : Bool} {r₀ w₀ e₀ r w e : List ℕ} → Laid T alone (size .n) r₀ w₀ e₀ r w e → size .n ≤ length e₀ → Ranges (commandsOf size firsts outcomes) e
+    laid-ranges : {alone : Bool} {r₀ w₀ e₀ r w e : List ℕ} → Laid T alone (size .n) r₀ w₀ e₀ r w e → size .n ≤ length e₀ → Ranges (commandsOf size firsts outcomes) e
     laid-ranges {alone} v h = record {
       long = omega (arith, v .stops .same);
       inside = λ s l. omega (arith, v .stops .low s l, own-inside alone s l);
@@ -93,7 +93,7 @@ module _ (size : Size) (rows firsts outcomes : List ℕ) where
           let f = sound-facts T .0 sounds in
           record { zero = starts-are 0 ∙ f .commands-start; rises = λ s l. rw (starts-are s, starts-are (suc s)) (f .rows s l .rises) }
 
-      pub laid-owns : (owner : List ℕ) → Owned starts (size .n) (size .m) owner → {alone : Bool} {u₀ x₀ y₀ u x y : List ℕ} → Laid T alone (size .n) u₀ x₀ y₀ u x y
+      laid-owns : (owner : List ℕ) → Owned starts (size .n) (size .m) owner → {alone : Bool} {u₀ x₀ y₀ u x y : List ℕ} → Laid T alone (size .n) u₀ x₀ y₀ u x y
           → Owns (netOf (commandsOf size firsts outcomes) x y) owner
       unfolding from to
       laid-owns owner o {alone} {u₀} {x₀} {y₀} {u} {x} {y} w = own-ranges (netOf (commandsOf size firsts outcomes) x y) starts owner o (λ s c l p q.
