@@ -4,7 +4,7 @@
 .SILENT:
 
 test: tools
-	cd tests && python3 bench_files.py --check && python3 bench_verdicts.py --check
+	cd tests && python3 -B bench_files.py --check && python3 -B bench_verdicts.py --check
 	rt fmt --check
 	rt ci
 
