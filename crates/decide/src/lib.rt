@@ -62,7 +62,7 @@ fn answer_with(tally: [[u16; 3]; 2]) -> Decision
 }
 
 // Decides the plan: its ranks (FFFF for safe), commands (FFFF for none), practice marks and tally. The tally leaves as its two rows beside
-// the answer, since an enum holds no array. The law leaves free what the tables have while the call runs: the first n places of all four
+// the answer, since an enum holds no array. Document 01 leaves free what the tables have while the call runs: the first n places of all four
 // are worked in, and no place behind them is written. When it is over nothing is free: the equations say what every place has.
 pub fn decide(
     size: Size,
