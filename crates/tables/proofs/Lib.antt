@@ -1,4 +1,6 @@
-pub mod RowEntries
+pub mod Reading
+pub mod RowReads
 pub mod Spans
 pub mod CommandTest
 pub mod LongTest
+pub mod SoundParts

@@ -1,20 +1,23 @@
 -- What the test of the tables' lengths says where it holds.
-use mathlib.Core.Path.{_≡_}
+use mathlib.Core.Path.{_≡_, subst}
 use mathlib.Core.Bool.{true, _&&_}
-use Prim.Native.Nat.{_≤_}
+use mathlib.Core.List.{List, map}
+use Prim.Native.Nat.{ℕ, _≤_}
 use lib.Dec.{leb}
-use lib.ListN.{length}
+use lib.ListN.{length, length-map}
 use borrow.Author.Tests.{leb-true}
 use Rattle.laws.proofs.Tests.{and-both}
-use Rattle.model.specs.Tables.{Tables}
 use Rattle.model.specs.SoundTest.{tablesLong}
+use Rattle.tables.specs.declared.Size.{Size}
+use Rattle.tables.specs.declared.Row.{Row}
+use Rattle.tables.specs.Meaning.{rowOf, held}
 
-pub all-long : (T : Tables) → tablesLong T ≡ true
-    → (T .size .n ≤ length (T .rows)) × (T .size .m ≤ length (T .firsts)) × (T .size .t ≤ length (T .outcomes))
+pub all-long : (z : Size) (R : List Row) (F O : List ℕ) → tablesLong (held z R F O) ≡ true
+    → (z .n ≤ length R) × (z .m ≤ length F) × (z .t ≤ length O)
 unfolding tablesLong
-all-long T h =
-    let rows = leb (T .size .n) (length (T .rows)) in
-    let firsts = leb (T .size .m) (length (T .firsts)) in
+all-long z R F O h =
+    let rows = leb (z .n) (length (map rowOf R)) in
+    let firsts = leb (z .m) (length F) in
     let three = and-both (rows && firsts) _ h in
     let two = and-both rows firsts (three .0) in
-    (leb-true _ _ (two .0), leb-true _ _ (two .1), leb-true _ _ (three .1))
+    (subst (λ (k : ℕ). z .n ≤ k) (length-map R rowOf) (leb-true _ _ (two .0)), leb-true _ _ (two .1), leb-true _ _ (three .1))

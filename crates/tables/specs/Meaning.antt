@@ -1,12 +1,12 @@
 -- What the code's types stand for: the model's size record, refusals and tables.
 use mathlib.Core.Bool.{Bool, _&&_}
-use mathlib.Core.List.{List}
+use mathlib.Core.List.{List, map}
 use Prim.Native.Nat.{ℕ, _+_, _-_}
 use lib.Dec.{leb, eqb}
+use Rattle.laws.specs.Entry.{FFFF}
 use Rattle.laws.specs.Sets.{every}
 use Rattle.model.specs.Refusal.{Refusal as Word}
 use Rattle.model.specs.Tables.{Size as Numbers, Row as Line, Tables}
-use Rattle.model.specs.Boundary.{rowsIn}
 use Rattle.model.specs.File.{busy}
 use Rattle.model.specs.Places.{rowAt, firstCommand, firstOutcome}
 use Rattle.model.specs.SoundTest.{rowSound, commandSound, outcomeSound}
@@ -38,13 +38,24 @@ refusalOf Stranger = Word.Stranger
 abbrev pub rowOf : Row → Line
 rowOf r = record { kind = r .kind; first = r .first; policy = r .practice }
 
--- the rows of a lent table: three entries each
-abbrev pub rowsOf : List ℕ → List Line
-rowsOf rows = rowsIn rows
+-- the rows of a lent table
+abbrev pub rowsOf : List Row → List Line
+rowsOf rows = map rowOf rows
+
+abbrev pub rowWith : ℕ → ℕ → ℕ → Row
+rowWith kind first practice = record { kind = kind; first = first; practice = practice }
+
+-- what stands for a row past the table: a rest state's
+abbrev pub noRow : Row
+noRow = rowWith 2 0 FFFF
 
 -- size record and lent slices as the model's tables
-abbrev pub held : Size → List ℕ → List ℕ → List ℕ → Tables
+abbrev pub held : Size → List Row → List ℕ → List ℕ → Tables
 held z rows firsts outcomes = record { size = numbers z; rows = rowsOf rows; firsts = firsts; outcomes = outcomes }
+
+-- a row, and where the state's commands end
+abbrev pub spanOf : Row → ℕ → Span
+spanOf r end = record { kind = r .kind; first = r .first; end = end; practice = r .practice }
 
 -- what is read of a state at once
 abbrev pub spanAt : Tables → ℕ → Span
@@ -54,12 +65,10 @@ spanAt T s = record { kind = rowAt T s .kind; first = firstCommand T s; end = fi
 unfoldable pub spanSound : Span → ℕ → Bool
 spanSound q m = leb (q .first) (q .end) && leb (q .end) m && leb (q .kind) 2 && busy (q .kind) (q .end - q .first) (q .practice)
 
--- the first command and the first outcome stand at place 0
-unfoldable pub startsSound : Tables → Bool
-startsSound T = eqb (firstCommand T 0) 0 && eqb (firstOutcome T 0) 0
+-- the first command, a number that was read, and the first outcome stand at place 0
+unfoldable pub startsSound : ℕ → Tables → Bool
+startsSound first T = eqb first 0 && eqb (firstOutcome T 0) 0
 
--- what the tables hold is sound, up to their counts
-unfoldable pub entriesSound : Tables → Bool
-entriesSound T =
-    startsSound T
-    && every (rowSound T) (T .size .n) && every (commandSound T) (T .size .m) && every (outcomeSound T) (T .size .t)
+-- the commands and their outcomes are sound
+unfoldable pub listsSound : Tables → Bool
+listsSound T = every (commandSound T) (T .size .m) && every (outcomeSound T) (T .size .t)

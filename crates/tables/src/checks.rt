@@ -7,13 +7,13 @@ ghost use lib.Dec.{ltb, eqb};
 ghost use lib.ListN.{length};
 ghost use Rattle.laws.specs.Sets.{every};
 ghost use Rattle.model.specs.SoundTest.{sizeSound, tablesLong, rowSound, risesAt, commandSound, outcomeSound};
-ghost use Rattle.tables.specs.Meaning.{held, numbers, rowsOf, spanSound, startsSound, entriesSound};
+ghost use Rattle.tables.specs.declared.Row.{Row};
+ghost use Rattle.tables.specs.Meaning.{held, numbers, spanSound, startsSound, listsSound};
+use crate::Row;
 use crate::Size;
 use crate::internal::Span;
 use crate::internal::at;
-use crate::internal::first_command;
 use crate::internal::first_outcome;
-use crate::internal::row_count;
 use crate::internal::span_at;
 
 pub fn size_sound(size: Size) -> bool
@@ -34,11 +34,11 @@ pub fn size_sound(size: Size) -> bool
     size.start < size.n
 }
 
-// No plan table is shorter than its count.
-pub fn long(size: Size, rows: &[u16], firsts: &[u16], outcomes: &[u16]) -> bool
-    ensures { λ r. ⌜ r ≡ tablesLong (held size (now (rows .entry)) (now (firsts .entry)) (now (outcomes .entry))) ⌝ }
+// No plan table is shorter than its count: `rows` says how many rows there are.
+pub fn long(size: Size, rows: usize, firsts: &[u16], outcomes: &[u16]) -> bool
+    ensures { λ r. ⌜ ((R : List Row) → rows ≡ length R → r ≡ tablesLong (held size R (now (firsts .entry)) (now (outcomes .entry)))) ⌝ }
 {
-    if row_count(rows) < size.n {
+    if rows < size.n {
         return false;
     }
     if firsts.len() < size.m {
@@ -86,8 +86,8 @@ fn span_sound(span: Span, m: usize) -> bool
     practice_fits(span.practice, count)
 }
 
-fn rows_sound(size: Size, rows: &[u16]) -> bool
-    requires { ⌜ size .n ≤ length (rowsOf (now rows)) ⌝ }
+pub fn rows_sound(size: Size, rows: &[Row]) -> bool
+    requires { ⌜ size .n ≤ length (now rows) ⌝ }
     ensures { λ r. ⌜ ((F O : List ℕ) → r ≡ every (rowSound (held size (now (rows .entry)) F O)) (size .n)) ⌝ }
 {
     let mut s = 0;
@@ -104,7 +104,7 @@ fn rows_sound(size: Size, rows: &[u16]) -> bool
 // The outcomes at the k + 1 places from `from` on rise.
 fn rises(outcomes: &[u16], from: usize, k: usize) -> bool
     requires { ⌜ (k < length (now outcomes) - from) ⌝ }
-    ensures { λ r. ⌜ ((z : Size) (R F : List ℕ) → r ≡ every (λ i. risesAt (held z R F (now (outcomes .entry))) (from + i)) k) ⌝ }
+    ensures { λ r. ⌜ ((z : Size) (R : List Row) (F : List ℕ) → r ≡ every (λ i. risesAt (held z R F (now (outcomes .entry))) (from + i)) k) ⌝ }
 {
     let mut i = 0;
     while i < k {
@@ -118,7 +118,7 @@ fn rises(outcomes: &[u16], from: usize, k: usize) -> bool
 
 fn command_sound(size: Size, firsts: &[u16], outcomes: &[u16], c: usize) -> bool
     requires { ⌜ (size .m ≤ length (now firsts)) × (size .t ≤ length (now outcomes)) × (c < size .m) ⌝ }
-    ensures { λ r. ⌜ ((R : List ℕ) → r ≡ commandSound (held size R (now (firsts .entry)) (now (outcomes .entry))) c) ⌝ }
+    ensures { λ r. ⌜ ((R : List Row) → r ≡ commandSound (held size R (now (firsts .entry)) (now (outcomes .entry))) c) ⌝ }
 {
     let from = first_outcome(size, firsts, c);
     let end = first_outcome(size, firsts, c + 1);
@@ -133,7 +133,7 @@ fn command_sound(size: Size, firsts: &[u16], outcomes: &[u16], c: usize) -> bool
 
 fn commands_sound(size: Size, firsts: &[u16], outcomes: &[u16]) -> bool
     requires { ⌜ (size .m ≤ length (now firsts)) × (size .t ≤ length (now outcomes)) ⌝ }
-    ensures { λ r. ⌜ ((R : List ℕ) → r ≡ every (commandSound (held size R (now (firsts .entry)) (now (outcomes .entry)))) (size .m)) ⌝ }
+    ensures { λ r. ⌜ ((R : List Row) → r ≡ every (commandSound (held size R (now (firsts .entry)) (now (outcomes .entry)))) (size .m)) ⌝ }
 {
     let mut c = 0;
     while c < size.m {
@@ -147,7 +147,7 @@ fn commands_sound(size: Size, firsts: &[u16], outcomes: &[u16]) -> bool
 
 fn outcomes_sound(size: Size, outcomes: &[u16]) -> bool
     requires { ⌜ size .t ≤ length (now outcomes) ⌝ }
-    ensures { λ r. ⌜ ((R F : List ℕ) → r ≡ every (outcomeSound (held size R F (now (outcomes .entry)))) (size .t)) ⌝ }
+    ensures { λ r. ⌜ ((R : List Row) (F : List ℕ) → r ≡ every (outcomeSound (held size R F (now (outcomes .entry)))) (size .t)) ⌝ }
 {
     let mut j = 0;
     while j < size.t {
@@ -159,28 +159,22 @@ fn outcomes_sound(size: Size, outcomes: &[u16]) -> bool
     true
 }
 
-// The first command and the first outcome stand at place 0.
-fn starts_sound(size: Size, rows: &[u16], firsts: &[u16]) -> bool
-    requires { ⌜ (size .n ≤ length (rowsOf (now rows))) × (size .m ≤ length (now firsts)) ⌝ }
-    ensures { λ r. ⌜ ((O : List ℕ) → r ≡ startsSound (held size (now (rows .entry)) (now (firsts .entry)) O)) ⌝ }
+// The first command, which is at place `first`, and the first outcome stand at place 0.
+pub fn starts_sound(size: Size, first: usize, firsts: &[u16]) -> bool
+    requires { ⌜ size .m ≤ length (now firsts) ⌝ }
+    ensures { λ r. ⌜ ((R : List Row) (O : List ℕ) → r ≡ startsSound first (held size R (now (firsts .entry)) O)) ⌝ }
 {
-    if first_command(size, rows, 0) != 0 {
+    if first != 0 {
         return false;
     }
     first_outcome(size, firsts, 0) == 0
 }
 
-// What the tables hold is sound, up to their counts.
-pub fn entries_sound(size: Size, rows: &[u16], firsts: &[u16], outcomes: &[u16]) -> bool
-    requires { ⌜ (size .n ≤ length (rowsOf (now rows))) × (size .m ≤ length (now firsts)) × (size .t ≤ length (now outcomes)) ⌝ }
-    ensures { λ r. ⌜ r ≡ entriesSound (held size (now (rows .entry)) (now (firsts .entry)) (now (outcomes .entry))) ⌝ }
+// The commands and their outcomes are sound.
+pub fn lists_sound(size: Size, firsts: &[u16], outcomes: &[u16]) -> bool
+    requires { ⌜ (size .m ≤ length (now firsts)) × (size .t ≤ length (now outcomes)) ⌝ }
+    ensures { λ r. ⌜ ((R : List Row) → r ≡ listsSound (held size R (now (firsts .entry)) (now (outcomes .entry)))) ⌝ }
 {
-    if !starts_sound(size, rows, firsts) {
-        return false;
-    }
-    if !rows_sound(size, rows) {
-        return false;
-    }
     if !commands_sound(size, firsts, outcomes) {
         return false;
     }

@@ -3,6 +3,8 @@ ghost use mathlib.Core.Path.{_≡_};
 ghost use Rattle.tables.specs.Meaning.{sized, refusalOf, held, numbers};
 ghost use Rattle.model.specs.Refusal.{number};
 ghost use Rattle.model.specs.SoundTest.{sound};
+use internal::row_count;
+use internal::span_at;
 
 mod checks;
 pub mod internal;
@@ -71,14 +73,21 @@ pub fn number(r: Refusal) -> u32
 }
 
 // Whether size record and tables are a plan that some file gives, and no table is shorter than its count (refusal 10 where not).
-pub fn sound(size: Size, rows: &[u16], firsts: &[u16], outcomes: &[u16]) -> bool
+pub fn sound(size: Size, rows: &[Row], firsts: &[u16], outcomes: &[u16]) -> bool
     ensures { λ r. ⌜ r ≡ sound (held size (now (rows .entry)) (now (firsts .entry)) (now (outcomes .entry))) ⌝ }
 {
     if !checks::size_sound(size) {
         return false;
     }
-    if !checks::long(size, rows, firsts, outcomes) {
+    if !checks::long(size, row_count(rows), firsts, outcomes) {
         return false;
     }
-    checks::entries_sound(size, rows, firsts, outcomes)
+    let span = span_at(size, rows, 0);
+    if !checks::starts_sound(size, span.first, firsts) {
+        return false;
+    }
+    if !checks::rows_sound(size, rows) {
+        return false;
+    }
+    checks::lists_sound(size, firsts, outcomes)
 }

@@ -1,36 +1,87 @@
+mod Lts
+mod Tie
+use Rattle.tables.proofs.SoundParts.{sound-parts, starts-read, some-state}
+use Rattle.tables.proofs.LongTest.{all-long}
+use Rattle.laws.proofs.Loops.{stopped, passed}
 use mathlib.Core.Bool.{and-false}
 use borrow.Author.Needs.{needs}
-use Rattle.laws.proofs.Loops.{stopped, passed}
-use Rattle.model.specs.SoundTest.{sound}
-use Rattle.tables.specs.Meaning.{entriesSound, startsSound}
-use Rattle.tables.proofs.LongTest.{all-long}
 use Rattle.tables.proofs.sound.Statement.{statement}
-use Rattle.tables.proofs.sound.Tie as tie
+use Rattle.tables.proofs.sound.Proof.Tie as tie
 
 size-sound-requires : tie.Need-size-sound-requires
 size-sound-requires c κs = search needs
 
 returns : tie.Need-returns
-unfolding sound
-returns c = simp (stopped (c .before .size-sound .ensures) (c .if1 .taken))
+returns c = rw (sound-parts _) (simp (stopped (c .before .size-sound .ensures) (c .if1 .taken)))
+
+row-count-requires : tie.Need-row-count-requires
+row-count-requires c κs = search needs
 
 long-requires : tie.Need-long-requires
 long-requires c κs = search needs
 
 returns-2 : tie.Need-returns-2
-unfolding sound
-returns-2 c = simp (stopped (c .before .long .ensures) (c .if2 .taken), and-false)
+returns-2 c = rw (sound-parts _) (simp (stopped (c .before .long .ensures (c .before .before .before .before .before .before .before .args .rows .now) (c .before .before .row-count .ensures)) (c .if2 .taken), and-false))
 
-entries-sound-requires : tie.Need-entries-sound-requires
-entries-sound-requires c κs = all-long _ (passed (c .before .long .ensures) (c .if2 .left))
+span-at-requires : tie.Need-span-at-requires
+span-at-requires c κs =
+    let R = c .before .before .before .before .before .before .before .args .rows .now in (
+      some-state _ (passed (c .before .before .before .before .size-sound .ensures) (c .before .before .before .if1 .left)),
+      all-long _ R _ _ (passed (c .before .long .ensures R (c .before .before .row-count .ensures)) (c .if2 .left)) .0,
+    )
+
+starts-sound-requires : tie.Need-starts-sound-requires
+starts-sound-requires c κs =
+    let R = c .before .before .before .before .before .before .before .before .args .rows .now in
+    all-long _ R _ _ (passed (c .before .before .long .ensures R (c .before .before .before .row-count .ensures)) (c .before .if2 .left)) .1
 
 returns-3 : tie.Need-returns-3
-unfolding sound entriesSound startsSound
 returns-3 c =
-    rw (passed (c .before .before .before .before .size-sound .ensures) (c .before .before .before .if1 .left), passed (c .before .before .long .ensures) (c .before .if2 .left))
-    (c .entries-sound .ensures)
+    let a = c .before .before .before .before .before .before .before .before .before .before .args in
+    rw (sound-parts _)
+    (simp (stopped (starts-read _ _ _ (c .before .before .span-at .ensures (a .firsts .now) (a .outcomes .now)) (c .before .starts-sound .ensures (a .rows .now) (a .outcomes .now))) (c .if3 .taken), and-false))
+
+rows-sound-requires : tie.Need-rows-sound-requires
+rows-sound-requires c κs =
+    let R = c .before .before .before .before .before .before .before .before .before .before .args .rows .now in
+    all-long _ R _ _ (passed (c .before .before .before .before .long .ensures R (c .before .before .before .before .before .row-count .ensures)) (c .before .before .before .if2 .left)) .0
+
+returns-4 : tie.Need-returns-4
+returns-4 c =
+    let a = c .before .before .before .before .before .before .before .before .before .before .before .before .args in
+    rw (sound-parts _) (simp (stopped (c .before .rows-sound .ensures (a .firsts .now) (a .outcomes .now)) (c .if4 .taken), and-false))
+
+lists-sound-requires : tie.Need-lists-sound-requires
+lists-sound-requires c κs =
+    let R = c .before .before .before .before .before .before .before .before .before .before .before .before .args .rows .now in
+    let tables-long = all-long _ R _ _ (passed (c .before .before .before .before .before .before .long .ensures R (c .before .before .before .before .before .before .before .row-count .ensures)) (c .before .before .before .before .before .if2 .left)) in
+    (tables-long .1, tables-long .2)
+
+returns-5 : tie.Need-returns-5
+returns-5 c =
+    let a = c .before .before .before .before .before .before .before .before .before .before .before .before .before .args in
+    rw (sound-parts _)
+    (rw (
+      passed (c .before .before .before .before .before .before .before .before .before .before .size-sound .ensures) (c .before .before .before .before .before .before .before .before .before .if1 .left),
+      passed (c .before .before .before .before .before .before .before .long .ensures (a .rows .now) (c .before .before .before .before .before .before .before .before .row-count .ensures)) (c .before .before .before .before .before .before .if2 .left),
+      passed (starts-read _ _ _ (c .before .before .before .before .before .span-at .ensures (a .firsts .now) (a .outcomes .now)) (c .before .before .before .before .starts-sound .ensures (a .rows .now) (a .outcomes .now))) (c .before .before .before .if3 .left),
+      passed (c .before .before .rows-sound .ensures (a .firsts .now) (a .outcomes .now)) (c .before .if4 .left),
+    )
+    (c .lists-sound .ensures (a .rows .now)))
 
 pub sound-spec : {M : Type 1} → statement M
 sound-spec =
     tie.close
-    (tie.spec size-sound-requires returns long-requires returns-2 entries-sound-requires returns-3)
+    (tie.spec
+    size-sound-requires
+    returns
+    row-count-requires
+    long-requires
+    returns-2
+    span-at-requires
+    starts-sound-requires
+    returns-3
+    rows-sound-requires
+    returns-4
+    lists-sound-requires
+    returns-5)

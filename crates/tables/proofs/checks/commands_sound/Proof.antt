@@ -6,12 +6,13 @@ use native.Mathlib.Omega.{arith}
 use Rattle.laws.specs.Sets.{every}
 use Rattle.laws.proofs.Loops.{stopped, passed, every-none, every-next, every-stop, every-done}
 use Rattle.model.specs.SoundTest.{commandSound}
+use Rattle.tables.specs.declared.Row.{Row}
 use Rattle.tables.specs.Meaning.{held}
 use Rattle.tables.proofs.checks.commands_sound.Statement.{statement}
 use Rattle.tables.proofs.checks.commands_sound.Tie as tie
 
 abbrev Inv-loop : tie.InvT-loop
-Inv-loop size firsts outcomes c₀ c = (R : List ℕ) → every (commandSound (held size R firsts outcomes)) c ≡ true
+Inv-loop size firsts outcomes c₀ c = (R : List Row) → every (commandSound (held size R firsts outcomes)) c ≡ true
 
 abbrev μ-loop : tie.MeasureT-loop
 μ-loop size firsts outcomes c₀ c = size .m - c

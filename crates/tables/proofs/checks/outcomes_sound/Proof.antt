@@ -7,13 +7,14 @@ use borrow.Author.Tests.{lt-ltb, le-ltb}
 use Rattle.laws.specs.Sets.{every}
 use Rattle.laws.proofs.Loops.{every-none, every-next, every-stop, every-done}
 use Rattle.model.specs.SoundTest.{outcomeSound}
+use Rattle.tables.specs.declared.Row.{Row}
 use Rattle.tables.specs.Meaning.{held}
 use Rattle.tables.proofs.CommandTest.{outcome-test}
 use Rattle.tables.proofs.checks.outcomes_sound.Statement.{statement}
 use Rattle.tables.proofs.checks.outcomes_sound.Tie as tie
 
 abbrev Inv-loop : tie.InvT-loop
-Inv-loop size outcomes j₀ j = (R F : List ℕ) → every (outcomeSound (held size R F outcomes)) j ≡ true
+Inv-loop size outcomes j₀ j = (R : List Row) (F : List ℕ) → every (outcomeSound (held size R F outcomes)) j ≡ true
 
 abbrev μ-loop : tie.MeasureT-loop
 μ-loop size outcomes j₀ j = size .t - j

@@ -8,13 +8,14 @@ use Rattle.laws.specs.Sets.{every}
 use Rattle.laws.proofs.Loops.{every-none, every-next, every-stop, every-done}
 use Rattle.model.specs.SoundTest.{risesAt}
 use Rattle.tables.specs.declared.Size.{Size}
+use Rattle.tables.specs.declared.Row.{Row}
 use Rattle.tables.specs.Meaning.{held}
 use Rattle.tables.proofs.CommandTest.{rises-test}
 use Rattle.tables.proofs.checks.rises.Statement.{statement}
 use Rattle.tables.proofs.checks.rises.Tie as tie
 
 abbrev Inv-loop : tie.InvT-loop
-Inv-loop outcomes from k i₀ i = (z : Size) (R F : List ℕ) → every (λ j. risesAt (held z R F outcomes) (from + j)) i ≡ true
+Inv-loop outcomes from k i₀ i = (z : Size) (R : List Row) (F : List ℕ) → every (λ j. risesAt (held z R F outcomes) (from + j)) i ≡ true
 
 abbrev μ-loop : tie.MeasureT-loop
 μ-loop outcomes from k i₀ i = k - i

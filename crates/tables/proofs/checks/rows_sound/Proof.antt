@@ -1,3 +1,5 @@
+mod Lts
+mod Tie
 use mathlib.Core.Path.{_≡_}
 use mathlib.Core.Bool.{true}
 use mathlib.Core.List.{List}
@@ -10,7 +12,7 @@ use Rattle.model.specs.SoundTest.{rowSound}
 use Rattle.tables.specs.Meaning.{held}
 use Rattle.tables.proofs.Spans.{row-tested}
 use Rattle.tables.proofs.checks.rows_sound.Statement.{statement}
-use Rattle.tables.proofs.checks.rows_sound.Tie as tie
+use Rattle.tables.proofs.checks.rows_sound.Proof.Tie as tie
 
 abbrev Inv-loop : tie.InvT-loop
 Inv-loop size rows s₀ s = (F O : List ℕ) → every (rowSound (held size rows F O)) s ≡ true

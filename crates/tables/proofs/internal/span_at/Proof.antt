@@ -1,40 +1,42 @@
+mod Lts
+mod Tie
+use native.Mathlib.Omega.{arith}
 use borrow.Author.Needs.{needs}
-use Rattle.tables.proofs.Spans.{span-read}
+use Rattle.tables.proofs.Spans.{span-last, span-inner}
 use Rattle.tables.proofs.internal.span_at.Statement.{statement}
-use Rattle.tables.proofs.internal.span_at.Tie as tie
+use Rattle.tables.proofs.internal.span_at.Proof.Tie as tie
 
 row-at-requires : tie.Need-row-at-requires
 row-at-requires c κs = search needs
 
-add-first-command : tie.Need-add-first-command
-add-first-command c = search needs
+add-if1 : tie.Need-add-if1
+add-if1 c = search needs
 
-first-command-requires : tie.Need-first-command-requires
-first-command-requires c κs = search needs
+span-of-requires : tie.Need-span-of-requires
+span-of-requires c κs = search needs
+
+returns : tie.Need-returns
+returns c = λ F O.
+    span-last _ (c .before .before .before .before .args .rows .now) F O _ _ _ (c .before .before .before .before .pre .0) (c .before .if1 .taken) (c .before .before .before .row-at .ensures) (c .span-of .ensures)
+
+add-row-at : tie.Need-add-row-at
+add-row-at c = search needs
+
+row-at-requires-2 : tie.Need-row-at-requires-2
+row-at-requires-2 c κs = search needs
 
 wide-requires : tie.Need-wide-requires
 wide-requires c κs = search needs
 
-wide-requires-2 : tie.Need-wide-requires-2
-wide-requires-2 c κs = search needs
+span-of-requires-2 : tie.Need-span-of-requires-2
+span-of-requires-2 c κs = search needs
 
-wide-requires-3 : tie.Need-wide-requires-3
-wide-requires-3 c κs = search needs
-
-returns : tie.Need-returns
-returns c =
-    let s = c .before .before .before .before .before .before in
-    λ F O. span-read _ _ _ _ _ _ _ (s .pre .0) (c .before .before .before .before .row-at .ensures (s .args .size) F O)
-    (c .before .before .wide .ensures) (c .before .wide2 .ensures) (c .before .before .before .first-command .ensures F O) (c .wide3 .ensures)
+returns-2 : tie.Need-returns-2
+returns-2 c = λ F O.
+    span-inner _ (c .before .before .before .before .before .before .args .rows .now) F O _ _ _ _ _ (c .before .before .before .before .before .before .pre .0) (omega (arith, c .before .before .before .if1 .left)) (c .before .before .before .before .before .row-at .ensures)
+    (c .before .before .row-at2 .ensures) (c .before .wide .ensures) (c .span-of2 .ensures)
 
 pub span-at-spec : {M : Type 1} → statement M
 span-at-spec =
     tie.close
-    (tie.spec
-    row-at-requires
-    add-first-command
-    first-command-requires
-    wide-requires
-    wide-requires-2
-    wide-requires-3
-    returns)
+    (tie.spec row-at-requires add-if1 span-of-requires returns add-row-at row-at-requires-2 wide-requires span-of-requires-2 returns-2)

@@ -1,0 +1,116 @@
+"""A twin repository: the same functions over slices of an array of numbers, which the borrow checker covers, where the crates have slices of
+rows. Contracts are left out, and a function is a stub of its signature unless its derivation is asked for: a derivation has the body of
+its own function and the signatures of those that are called, and nothing else of the sources."""
+import os
+import re
+
+from sources import ROW, Function, read_crates, source_files, split_source
+
+
+def learn_types(text, types):
+    """The structs and enums that a source declares: what a stub answers is made from them."""
+    for m in re.finditer(r"struct (\w+)(?:<[^>]*>)? \{(.*?)\n\s*\}", text, flags=re.S):
+        types[m.group(1)] = ("struct", re.findall(r"(?:pub )?(\w+): ([^\n]*?),?\n", m.group(2) + "\n"))
+    for m in re.finditer(r"enum (\w+) \{(.*?)\n\s*\}", text, flags=re.S):
+        variants = re.findall(r"^\s*(\w+)(?:\(([^)]*)\))?,", m.group(2), flags=re.M)
+        types[m.group(1)] = ("enum", [(v, [t.strip() for t in ts.split(",") if t.strip()]) for v, ts in variants])
+
+
+def parameters(signature):
+    """The names and types of a signature's parameters."""
+    depth, current, found = 0, "", []
+    for ch in signature[signature.index("(") + 1 :]:
+        if ch == ")" and depth == 0:
+            break
+        depth += (ch in "([<") - (ch in ")]>")
+        if ch == "," and depth == 0:
+            found.append(current)
+            current = ""
+        else:
+            current += ch
+    found.append(current)
+    pairs = [x.split(":", 1) for x in found if ":" in x]
+    return [(name.replace("mut ", "").strip(), ty.strip()) for name, ty in pairs]
+
+
+def default(ty, params, types):
+    """A value of a type, for a stub's answer."""
+    ty = ty.strip()
+    for name, of in params:
+        if of == ty and ty.startswith("&"):
+            return name
+    if re.fullmatch(r"[ui](8|16|32|64|size)", ty):
+        return "0"
+    if ty == "bool":
+        return "false"
+    array = re.fullmatch(r"\[(.*); ([^;\]]*)\]", ty)
+    if array:
+        return f"[{default(array.group(1), params, types)}; {array.group(2)}]"
+    name = re.sub(r"<.*>", "", ty).split("::")[-1]
+    if name not in types:
+        raise SystemExit(f"rows: no stub for the type {ty}")
+    kind, parts = types[name]
+    if kind == "struct":
+        return name + " { " + ", ".join(f"{f}: {default(t, params, types)}" for f, t in parts) + " }"
+    variant, data = parts[0]
+    return f"{name}::{variant}" + ("(" + ", ".join(default(t, params, types) for t in data) + ")" if data else "")
+
+
+def over_arrays(text, element):
+    """Slices and literals of rows as slices and literals of arrays."""
+    text = re.sub(rf"(&(?:'\w+ )?(?:mut )?)\[{ROW}\]", rf"\1[{element}]", text)
+
+    def literal(m):
+        values = [x.split(":")[-1].strip() for x in m.group(1).strip().rstrip(",").split(",")]
+        return "[[" + ", ".join(values) + f"]; {m.group(2)}]"
+
+    return re.sub(rf"\[{ROW} \{{\s*(.*?)\s*\}}; ([\w:]+)\]", literal, text, flags=re.S)
+
+
+def twin_source(crate, file, text, whole, element, types):
+    """A source of the twin; the functions of `whole` keep their bodies."""
+    out = []
+    for item in split_source(crate, file, text):
+        if not isinstance(item, Function):
+            if not re.match(r"\s*(ghost use|//)", item):
+                out.append(over_arrays(item, element))
+            continue
+        signature = over_arrays(item.signature, element)
+        if item.path in whole:
+            body = over_arrays("\n".join(item.body), element).split("\n")
+        else:
+            result = re.search(r"\) -> (.*)$", signature)
+            body = ["    " + default(result.group(1), parameters(signature), types)] if result else []
+        pad = " " * item.indent
+        out += [f"{pad}{signature} {{"] + body + [pad + "}"]
+    return "\n".join(out)
+
+
+def write_twin(repo, crate, out, whole, element):
+    """The twin of a crate and of those below it."""
+    crates = read_crates(repo)
+    order = []
+
+    def visit(name):
+        for dep in crates.get(name, []):
+            visit(dep)
+        if name in crates and name not in order:
+            order.append(name)
+
+    visit(crate)
+    types = {}
+    for name in order:
+        for _, path in source_files(repo, name):
+            with open(path) as f:
+                learn_types(f.read(), types)
+    os.makedirs(out, exist_ok=True)
+    with open(f"{out}/crates.txt", "w") as f:
+        f.writelines(f"{c}: {' '.join(crates[c])}\n" for c in order)
+    for name in order:
+        folder = f"{out}/crates/{name}/src"
+        os.makedirs(folder, exist_ok=True)
+        for file, path in source_files(repo, name):
+            with open(path) as f:
+                text = twin_source(name, file, f.read(), whole if name == crate else (), element, types)
+            with open(f"{folder}/{file}", "w") as f:
+                f.write(text)
