@@ -12,6 +12,7 @@ use borrow.Author.Tests.{lt-ltb}
 use Rattle.laws.specs.Sets.{any}
 use Rattle.model.specs.Tables.{Tables}
 use Rattle.model.specs.Places.{firstOutcome, outcomesAt}
+use Rattle.tables.specs.declared.Row.{Row}
 use Rattle.tables.specs.declared.Size.{Size}
 use Rattle.tables.specs.Meaning.{held}
 use Rattle.choice.specs.Within.{clear}
@@ -28,7 +29,7 @@ pub hit-read : (T : Tables) (K : ℕ → Bool) (c from end : ℕ) (r : Bool) →
 hit-read T K c from end r p q e = e ∙ rw (outcomes-read T c from end p q)
 
 -- they are in range, and so is what they name in a table of n places
-pub outcomes-inside : {size : Size} {firsts outcomes : List ℕ} → Ready size firsts outcomes → (R : List ℕ) (c from end places : ℕ) → c < size .m
+pub outcomes-inside : {size : Size} {firsts outcomes : List ℕ} → Ready size firsts outcomes → (R : List Row) (c from end places : ℕ) → c < size .m
     → from ≡ firstOutcome (held size R firsts outcomes) c → end ≡ firstOutcome (held size R firsts outcomes) (c + 1) → size .n ≤ places
     → (from ≤ end) × (end ≤ length outcomes) × ((j : ℕ) → j < end → getD outcomes j 0 < places)
 outcomes-inside ready R c from end places l p q h =

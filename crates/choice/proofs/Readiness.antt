@@ -8,13 +8,14 @@ use native.Mathlib.Numerals.{add-one}
 use Rattle.model.specs.Places.{firstOutcome}
 use Rattle.model.specs.SoundTest.{sound}
 use Rattle.model.proofs.SoundFacts.{Fits, sound-facts}
+use Rattle.tables.specs.declared.Row.{Row}
 use Rattle.tables.specs.declared.Size.{Size}
 use Rattle.tables.specs.Meaning.{held}
 use Rattle.choice.specs.Ready.{Ready}
 
-module _ (size : Size) (rows firsts outcomes : List ℕ) where
+module _ (size : Size) (rows : List Row) (firsts outcomes : List ℕ) where
   -- where outcomes begin does not depend on the rows
-  any-rows : (R : List ℕ) (c : ℕ) → firstOutcome (held size R firsts outcomes) c ≡ firstOutcome (held size rows firsts outcomes) c
+  any-rows : (R : List Row) (c : ℕ) → firstOutcome (held size R firsts outcomes) c ≡ firstOutcome (held size rows firsts outcomes) c
   unfolding firstOutcome
   any-rows R c = refl
 

@@ -3,6 +3,7 @@ use mathlib.Core.List.{List}
 use Prim.Native.Nat.{ℕ, _+_, _<_, _≤_}
 use lib.ListN.{length, getD}
 use Rattle.model.specs.Places.{firstOutcome}
+use Rattle.tables.specs.declared.Row.{Row}
 use Rattle.tables.specs.declared.Size.{Size}
 use Rattle.tables.specs.Meaning.{held}
 
@@ -12,7 +13,7 @@ pub record Ready (size : Size) (firsts outcomes : List ℕ) : Type 0 where
   pub few-outcomes : size .t ≤ 16384
   pub long-firsts : size .m ≤ length firsts
   pub long-outcomes : size .t ≤ length outcomes
-  pub rises : (R : List ℕ) (c : ℕ) → c < size .m
+  pub rises : (R : List Row) (c : ℕ) → c < size .m
       → firstOutcome (held size R firsts outcomes) c ≤ firstOutcome (held size R firsts outcomes) (c + 1)
-  pub below : (R : List ℕ) (c : ℕ) → c < size .m → firstOutcome (held size R firsts outcomes) (c + 1) ≤ size .t
+  pub below : (R : List Row) (c : ℕ) → c < size .m → firstOutcome (held size R firsts outcomes) (c + 1) ≤ size .t
   pub inside : (j : ℕ) → j < size .t → getD outcomes j 0 < size .n

@@ -13,6 +13,7 @@ ghost use Rattle.model.specs.Places.{outcomesAt};
 ghost use Rattle.model.specs.SoundTest.{sound};
 ghost use Rattle.model.specs.Held.{planIn};
 ghost use Rattle.model.specs.Command.{choice};
+ghost use Rattle.tables.specs.declared.Row.{Row};
 ghost use Rattle.tables.specs.Meaning.{held, spanAt};
 ghost use Rattle.choice.specs.Within.{within, clear};
 ghost use Rattle.choice.specs.Ready.{Ready};
@@ -47,7 +48,7 @@ pub fn command_hit(
 ) -> bool
     requires { ⌜ Ready size (now firsts) (now outcomes) ⌝ }
     requires { ⌜ (c < size .m) × (size .n ≤ length (now table)) ⌝ }
-    ensures { λ r. ⌜ ((R : List ℕ) → r ≡ any (within (now (table .entry)) limit) (outcomesAt (held size R (now (firsts .entry)) (now (outcomes .entry))) c)) ⌝ }
+    ensures { λ r. ⌜ ((R : List Row) → r ≡ any (within (now (table .entry)) limit) (outcomesAt (held size R (now (firsts .entry)) (now (outcomes .entry))) c)) ⌝ }
 {
     let from = first_outcome(size, firsts, c);
     let end = first_outcome(size, firsts, c + 1);
@@ -67,7 +68,7 @@ fn practice_clear(
 ) -> bool
     requires { ⌜ Ready size (now firsts) (now outcomes) ⌝ }
     requires { ⌜ (first + count ≤ size .m) × (size .n ≤ length (now table)) ⌝ }
-    ensures { λ r. ⌜ ((R : List ℕ) → r ≡ (ltb practice count && clear (held size R (now (firsts .entry)) (now (outcomes .entry))) (within (now (table .entry)) limit) first practice)) ⌝ }
+    ensures { λ r. ⌜ ((R : List Row) → r ≡ (ltb practice count && clear (held size R (now (firsts .entry)) (now (outcomes .entry))) (within (now (table .entry)) limit) first practice)) ⌝ }
 {
     if count <= practice {
         return false;
@@ -87,7 +88,7 @@ fn lowest_clear(
 ) -> usize
     requires { ⌜ Ready size (now firsts) (now outcomes) ⌝ }
     requires { ⌜ (first + count ≤ size .m) × (size .n ≤ length (now table)) ⌝ }
-    ensures { λ r. ⌜ ((R : List ℕ) → r ≡ entry (lowest (clear (held size R (now (firsts .entry)) (now (outcomes .entry))) (within (now (table .entry)) limit) first) count)) ⌝ }
+    ensures { λ r. ⌜ ((R : List Row) → r ≡ entry (lowest (clear (held size R (now (firsts .entry)) (now (outcomes .entry))) (within (now (table .entry)) limit) first) count)) ⌝ }
 {
     let mut left = count;
     while 0 < left {
@@ -112,7 +113,7 @@ pub fn choose(
 ) -> usize
     requires { ⌜ Ready size (now firsts) (now outcomes) ⌝ }
     requires { ⌜ (span .first ≤ span .end) × (span .end ≤ size .m) × (size .n ≤ length (now table)) ⌝ }
-    ensures { λ r. ⌜ ((R : List ℕ) (s : ℕ) → sound (held size R (now (firsts .entry)) (now (outcomes .entry))) ≡ true → s < size .n → span ≡ spanAt (held size R (now (firsts .entry)) (now (outcomes .entry))) s → r ≡ entry (choice (planIn (held size R (now (firsts .entry)) (now (outcomes .entry)))) (within (now (table .entry)) limit) s)) ⌝ }
+    ensures { λ r. ⌜ ((R : List Row) (s : ℕ) → sound (held size R (now (firsts .entry)) (now (outcomes .entry))) ≡ true → s < size .n → span ≡ spanAt (held size R (now (firsts .entry)) (now (outcomes .entry))) s → r ≡ entry (choice (planIn (held size R (now (firsts .entry)) (now (outcomes .entry)))) (within (now (table .entry)) limit) s)) ⌝ }
 {
     let count = span.end - span.first;
     if practice_clear(

@@ -29,6 +29,7 @@ use Rattle.model.specs.Held.{planIn}
 use Rattle.model.proofs.HeldPlan.{states-held, kind-held}
 use Rattle.model.proofs.Layers.{rank-bound}
 use Rattle.model.proofs.SoundFacts.{sound-facts}
+use Rattle.tables.specs.declared.Row.{Row}
 use Rattle.tables.specs.declared.Size.{Size}
 use Rattle.tables.specs.Meaning.{held, spanAt}
 use Rattle.choice.specs.Within.{within}
@@ -45,7 +46,7 @@ zero-or-none : (b : Bool) → (cond b 0 FFFF ≡ 0) ⊎ (cond b 0 FFFF ≡ FFFF)
 zero-or-none true = inl refl
 zero-or-none false = inr refl
 
-module _ (size : Size) (rows firsts outcomes : List ℕ) (sounds : sound (held size rows firsts outcomes) ≡ true) where
+module _ (size : Size) (rows : List Row) (firsts outcomes : List ℕ) (sounds : sound (held size rows firsts outcomes) ≡ true) where
   abbrev T : Tables
   T = held size rows firsts outcomes
 

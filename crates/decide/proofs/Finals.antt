@@ -21,6 +21,7 @@ use Rattle.model.specs.Calls.{rankTable, commandTable, markTable, cleared}
 use Rattle.model.proofs.HeldPlan.{states-held}
 use Rattle.model.proofs.Layers.{chosen-choice}
 use Rattle.model.proofs.Valid.{sound-valid}
+use Rattle.tables.specs.declared.Row.{Row}
 use Rattle.tables.specs.declared.Size.{Size}
 use Rattle.tables.specs.Meaning.{held}
 use Rattle.index.specs.Commands.{commandsOf}
@@ -53,7 +54,7 @@ module _ (T : Tables) (sounds : sound T ≡ true) (L F : ℕ → Bool) (losts : 
       tally-same (hasPolicy P) (T .size .n) F (policyFails P) fails L (lost P) losts
       ∙ ap (tallyTo (lost P) (hasPolicy P) (policyFails P)) (sym (states-held T)) ∙ tally-is P
 
-module _ (size : Size) (rows firsts outcomes : List ℕ) (sounds : sound (held size rows firsts outcomes) ≡ true) where
+module _ (size : Size) (rows : List Row) (firsts outcomes : List ℕ) (sounds : sound (held size rows firsts outcomes) ≡ true) where
   pub worked : {rs cs ms ss w r₁ w₁ c₁ r₂ w₂ m₁ w₃ c₂ m₂ c₃ m₃ s₁ s₂ s₃ : List ℕ} {t : List (List ℕ)}
       → size .n ≤ length rs → size .n ≤ length cs → size .n ≤ length ms → size .n ≤ length ss
       → Laid (held size rows firsts outcomes) false (size .n) rs w cs r₁ w₁ c₁

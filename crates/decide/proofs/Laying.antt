@@ -12,6 +12,7 @@ use Rattle.laws.specs.Entry.{FFFF}
 use Rattle.laws.proofs.Tests.{true-or-false}
 use Rattle.laws.proofs.Fills.{filled-none, filled-next}
 use Rattle.model.specs.Tables.{Tables}
+use Rattle.tables.specs.declared.Row.{Row}
 use Rattle.tables.specs.declared.Size.{Size}
 use Rattle.tables.specs.declared.internal.Span.{Span}
 use Rattle.tables.specs.Meaning.{held, spanAt}
@@ -85,6 +86,6 @@ pub laid-done : {T : Tables} {alone : Bool} {i : ℕ} {r₀ w₀ e₀ r w e : Li
 laid-done {i = i} v n h k = let e : n ≡ i = omega arith in rw e v
 
 -- the places of the commands of a state that was read are in range
-pub read-inside : {size : Size} {rows : List ℕ} → Spans size rows → (F O : List ℕ) (s : ℕ) → s < size .n → (q : Span) → q ≡ spanAt (held size rows F O) s
+pub read-inside : {size : Size} {rows : List Row} → Spans size rows → (F O : List ℕ) (s : ℕ) → s < size .n → (q : Span) → q ≡ spanAt (held size rows F O) s
     → (q .first ≤ q .end) × (q .end ≤ 4096)
 read-inside v F O s l q is = let i = v .inside F O s l in rw is (i .0, omega (arith, i .1, v .few-commands))

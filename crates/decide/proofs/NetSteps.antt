@@ -24,6 +24,7 @@ use Rattle.model.specs.Held.{planIn}
 use Rattle.model.proofs.StateKinds.{active-is, command-active}
 use Rattle.model.proofs.HeldPlan.{states-held, policy-held, commands-held}
 use Rattle.model.proofs.Valid.{sound-valid}
+use Rattle.tables.specs.declared.Row.{Row}
 use Rattle.tables.specs.declared.Size.{Size}
 use Rattle.tables.specs.Meaning.{held, spanAt}
 use Rattle.index.specs.Commands.{commandsOf}
@@ -42,7 +43,7 @@ pub practice-below : (T : Tables) (s : ℕ) → s < T .size .n → hasPolicy (pl
 unfolding hasPolicy
 practice-below T s l e = rw (← policy-held T s l) (ltb-true (planIn T .policy s) (planIn T .commands s) e)
 
-module _ (size : Size) (rows firsts outcomes watch ends : List ℕ) (alone : Bool) (sounds : sound (held size rows firsts outcomes) ≡ true)
+module _ (size : Size) (rows : List Row) (firsts outcomes watch ends : List ℕ) (alone : Bool) (sounds : sound (held size rows firsts outcomes) ≡ true)
     (begins : (s : ℕ) → s < size .n → getD watch s 0 ≡ rangeOf alone (spanAt (held size rows firsts outcomes) s) .from)
     (stops : (s : ℕ) → s < size .n → getD ends s 0 ≡ rangeOf alone (spanAt (held size rows firsts outcomes) s) .to)
     (A B : ℕ → Bool) (same : Agree (size .n) A B) (s : ℕ) (l : s < size .n) where

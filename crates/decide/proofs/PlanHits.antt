@@ -21,6 +21,7 @@ use Rattle.model.proofs.Choices.{choice-some, choice-same}
 use Rattle.model.proofs.HeldPlan.{states-held, commands-held}
 use Rattle.model.proofs.Valid.{sound-valid}
 use Rattle.choice.proofs.Choosing.{hits-held}
+use Rattle.tables.specs.declared.Row.{Row}
 use Rattle.tables.specs.declared.Size.{Size}
 use Rattle.tables.specs.Meaning.{held}
 use Rattle.index.specs.Commands.{commandsOf}
@@ -41,7 +42,7 @@ module _ (T : Tables) (sounds : sound T ≡ true) (A B : ℕ → Bool) (same : A
   risks-agree =
       ⊎-elim (λ e. rw e (hits-agree _ (ltb-true _ _ e))) (λ e. rw e) (true-or-false (ltb (planIn T .policy s) (planIn T .commands s)))
 
-module _ (size : Size) (rows firsts outcomes : List ℕ) where
+module _ (size : Size) (rows : List Row) (firsts outcomes : List ℕ) where
   -- a state's command, by its place
   pub hits-place : (A : ℕ → Bool) (s c : ℕ) → s < size .n → c < planIn (held size rows firsts outcomes) .commands s
       → hitsIn (commandsOf size firsts outcomes) A (firstCommand (held size rows firsts outcomes) s + c) ≡ hits (planIn (held size rows firsts outcomes)) A s c

@@ -13,6 +13,7 @@ use Rattle.model.specs.Tables.{Tables}
 use Rattle.model.specs.Places.{rowAt, firstCommand}
 use Rattle.model.specs.SoundTest.{sound}
 use Rattle.model.proofs.SoundFacts.{Fits, sound-facts}
+use Rattle.tables.specs.declared.Row.{Row}
 use Rattle.tables.specs.declared.Size.{Size}
 use Rattle.tables.specs.Meaning.{held, spanAt}
 use Rattle.index.specs.Parts.{startOf, Parts, Owned}
@@ -30,7 +31,7 @@ first-past : (T : Tables) (s : ℕ) → T .size .n ≤ s → firstCommand T s �
 unfolding firstCommand
 first-past T s h = rw (le-ltb s (T .size .n) h)
 
-module _ (size : Size) (rows firsts outcomes : List ℕ) where
+module _ (size : Size) (rows : List Row) (firsts outcomes : List ℕ) where
   abbrev T : Tables
   T = held size rows firsts outcomes
 

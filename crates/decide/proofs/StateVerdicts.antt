@@ -19,11 +19,13 @@ use Rattle.model.specs.Held.{planIn}
 use Rattle.model.proofs.HeldPlan.{policy-held, commands-held}
 use Rattle.choice.proofs.Choosing.{hits-held}
 use Rattle.choice.proofs.Taken.{span-inside, entry-fits}
+use Rattle.tables.specs.declared.Row.{Row}
 use Rattle.tables.specs.declared.Size.{Size}
 use Rattle.tables.specs.declared.internal.Span.{Span}
 use Rattle.tables.specs.Meaning.{held, spanAt}
+use Rattle.tables.specs.Seen.{Seen}
 use Rattle.decide.specs.Nets.{practised}
-use Rattle.decide.specs.Verdicts.{Seen, oneIf, markOf, markAt, columnOf, Judged}
+use Rattle.decide.specs.Verdicts.{oneIf, markOf, markAt, columnOf, Judged}
 use Rattle.decide.proofs.NetSteps.{practised-is, practice-below}
 
 -- ---- a state that some sound plan has
@@ -34,7 +36,7 @@ module _ {size : Size} {firsts outcomes : List ℕ} {s : ℕ} {q : Span} (w : Se
 
   -- what choosing answers fits an entry
   pub seen-fits : (K : ℕ → Bool) (c : ℕ)
-      → ((R : List ℕ) (x : ℕ) → sound (held size R firsts outcomes) ≡ true → x < size .n → q ≡ spanAt (held size R firsts outcomes) x
+      → ((R : List Row) (x : ℕ) → sound (held size R firsts outcomes) ≡ true → x < size .n → q ≡ spanAt (held size R firsts outcomes) x
       → c ≡ entry (choice (planIn (held size R firsts outcomes)) K x)) → c < 65536
   seen-fits K c h = entry-fits (held size (w .rows) firsts outcomes) (w .sounds) s (w .inside) K c (h (w .rows) s (w .sounds) (w .inside) (w .is))
 

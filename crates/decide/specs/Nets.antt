@@ -7,9 +7,10 @@ use lib.ListN.{length}
 use Rattle.laws.specs.Entry.{FFFF}
 use Rattle.laws.specs.Filled.{Filled}
 use Rattle.model.specs.Tables.{Tables}
+use Rattle.tables.specs.declared.Row.{Row}
 use Rattle.tables.specs.declared.Size.{Size}
 use Rattle.tables.specs.declared.internal.Span.{Span}
-use Rattle.tables.specs.Meaning.{held, rowsOf, spanAt}
+use Rattle.tables.specs.Meaning.{held, spanAt}
 use Rattle.decide.specs.declared.nets.Range.{Range}
 
 -- a practice is given
@@ -31,10 +32,10 @@ unfoldable pub seedOf : Span → ℕ
 seedOf q = cond (eqb (q .kind) 1) 0 FFFF
 
 -- what is asked of the rows: the places of each state's commands are in range
-pub record Spans (size : Size) (rows : List ℕ) : Type 0 where
+pub record Spans (size : Size) (rows : List Row) : Type 0 where
   pub few : size .n ≤ 1024
   pub few-commands : size .m ≤ 4096
-  pub long : size .n ≤ length (rowsOf rows)
+  pub long : size .n ≤ length rows
   pub inside : (F O : List ℕ) (s : ℕ) → s < size .n
       → (spanAt (held size rows F O) s .first ≤ spanAt (held size rows F O) s .end) × (spanAt (held size rows F O) s .end ≤ size .m)
 

@@ -11,19 +11,8 @@ use Rattle.laws.specs.Filled.{Filled}
 use Rattle.model.specs.Plan.{Plan, hasPolicy}
 use Rattle.model.specs.Command.{choice}
 use Rattle.model.specs.Policy.{risks}
-use Rattle.model.specs.SoundTest.{sound}
-use Rattle.tables.specs.declared.Size.{Size}
-use Rattle.tables.specs.declared.internal.Span.{Span}
-use Rattle.tables.specs.Meaning.{held, spanAt}
 use Rattle.choice.specs.Within.{within}
 use Rattle.decide.specs.declared.verdicts.Place.{Place}
-
--- what was read of the state s is what some rows hold, with which the plan is sound
-pub record Seen (size : Size) (firsts outcomes : List ℕ) (s : ℕ) (span : Span) : Type 0 where
-  pub rows : List ℕ
-  pub sounds : sound (held size rows firsts outcomes) ≡ true
-  pub inside : s < size .n
-  pub is : span ≡ spanAt (held size rows firsts outcomes) s
 
 -- the states whose entry is not FFFF
 abbrev pub numbered : List ℕ → ℕ → Bool

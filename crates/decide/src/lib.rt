@@ -4,6 +4,7 @@ ghost use Rattle.model.specs.Calls.{decideCall};
 ghost use Rattle.tables.specs.Meaning.{held};
 ghost use Rattle.decide.specs.Calls.{enough, refusal, decided, decisionOf, NumberOnly, Demands};
 use tables::Refusal;
+use tables::Row;
 use tables::Size;
 
 mod nets;
@@ -66,7 +67,7 @@ fn answer_with(tally: [[u16; 3]; 2]) -> Decision
 // are worked in, and no place behind them is written. When it is over nothing is free: the equations say what every place has.
 pub fn decide(
     size: Size,
-    rows: &[u16],
+    rows: &[Row],
     firsts: &[u16],
     outcomes: &[u16],
     ranks: &mut [u16],

@@ -5,6 +5,7 @@ ghost use Prim.Native.Nat.{ℕ, _<_, _≤_};
 ghost use lib.ListN.{length, set};
 ghost use Rattle.tables.specs.Meaning.{held};
 ghost use Rattle.decide.specs.Nets.{rangeOf, seedOf, practiceRange, practised, Spans, Laid};
+use tables::Row;
 use tables::Size;
 use tables::internal::Span;
 use tables::internal::put;
@@ -87,7 +88,7 @@ fn lay_one(
 // Lays out every state: its rank, and where the commands that count there begin and end.
 pub fn lay_out(
     size: Size,
-    rows: &[u16],
+    rows: &[Row],
     alone: bool,
     ranks: &mut [u16],
     watch: &mut [u16],

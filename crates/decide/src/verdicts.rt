@@ -7,12 +7,15 @@ ghost use lib.ListN.{length, getD};
 ghost use Rattle.model.specs.SoundTest.{sound};
 ghost use Rattle.model.specs.Held.{planIn};
 ghost use Rattle.model.specs.Policy.{risks};
+ghost use Rattle.tables.specs.declared.Row.{Row};
 ghost use Rattle.tables.specs.Meaning.{held, spanAt};
+ghost use Rattle.tables.specs.Seen.{Seen};
 ghost use Rattle.choice.specs.Ready.{Ready};
-ghost use Rattle.decide.specs.Verdicts.{Seen, numbered, oneIf, markOf, columnOf, added, Judged, Judging};
+ghost use Rattle.decide.specs.Verdicts.{numbered, oneIf, markOf, columnOf, added, Judged, Judging};
 use crate::nets::has_practice;
 use choice::internal::choose;
 use choice::internal::command_hit;
+use tables::Row;
 use tables::Size;
 use tables::internal::Span;
 use tables::internal::at;
@@ -44,7 +47,7 @@ fn is_fault(
 ) -> bool
     requires { ⌜ Ready size (now firsts) (now outcomes) ⌝ }
     requires { ⌜ (span .first ≤ span .end) × (span .end ≤ size .m) × (size .n ≤ length (now ranks)) ⌝ }
-    ensures { λ r. ⌜ ((R : List ℕ) (s : ℕ) → s < size .n → span ≡ spanAt (held size R (now (firsts .entry)) (now (outcomes .entry))) s → r ≡ (not lost && risks (planIn (held size R (now (firsts .entry)) (now (outcomes .entry)))) (numbered (now (ranks .entry))) s)) ⌝ }
+    ensures { λ r. ⌜ ((R : List Row) (s : ℕ) → s < size .n → span ≡ spanAt (held size R (now (firsts .entry)) (now (outcomes .entry))) s → r ≡ (not lost && risks (planIn (held size R (now (firsts .entry)) (now (outcomes .entry)))) (numbered (now (ranks .entry))) s)) ⌝ }
 {
     if lost {
         return false;
@@ -105,7 +108,7 @@ fn judge(
     requires { ⌜ Ready size (now firsts) (now outcomes) ⌝ }
     requires { ⌜ Seen size (now firsts) (now outcomes) s span ⌝ }
     requires { ⌜ (size .n ≤ length (now ranks)) × (size .n ≤ length (now commands)) × (size .n ≤ length (now marks)) ⌝ }
-    ensures { λ r. ⌜ ((R : List ℕ) → sound (held size R (now (firsts .entry)) (now (outcomes .entry))) ≡ true → span ≡ spanAt (held size R (now (firsts .entry)) (now (outcomes .entry))) s → Judged (planIn (held size R (now (firsts .entry)) (now (outcomes .entry)))) (numbered (now (ranks .entry))) (numbered (now (marks .entry)) s) s (now (commands .entry)) (now (marks .entry)) r (now (commands .exit)) (now (marks .exit))) ⌝ }
+    ensures { λ r. ⌜ ((R : List Row) → sound (held size R (now (firsts .entry)) (now (outcomes .entry))) ≡ true → span ≡ spanAt (held size R (now (firsts .entry)) (now (outcomes .entry))) s → Judged (planIn (held size R (now (firsts .entry)) (now (outcomes .entry)))) (numbered (now (ranks .entry))) (numbered (now (marks .entry)) s) s (now (commands .entry)) (now (marks .entry)) r (now (commands .exit)) (now (marks .exit))) ⌝ }
 {
     let lost = has_number(ranks, s);
     let fails = has_number(marks, s);
@@ -135,7 +138,7 @@ fn add(t: [[u16; 3]; 2], r: usize, c: usize) -> [[u16; 3]; 2]
 // Judges every state, and answers the tally.
 pub fn judge_all(
     size: Size,
-    rows: &[u16],
+    rows: &[Row],
     firsts: &[u16],
     outcomes: &[u16],
     ranks: &[u16],

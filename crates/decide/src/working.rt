@@ -17,6 +17,7 @@ use crate::verdicts::judge_all;
 use index::internal::group;
 use index::internal::own;
 use propagate::internal::propagate;
+use tables::Row;
 use tables::Size;
 use tables::internal::put;
 
@@ -92,7 +93,7 @@ fn propagate_in(
 // The local tables have 45,056 bytes whatever the plan is.
 pub fn work_out(
     size: Size,
-    rows: &[u16],
+    rows: &[Row],
     firsts: &[u16],
     outcomes: &[u16],
     ranks: &mut [u16],

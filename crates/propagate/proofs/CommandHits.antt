@@ -6,6 +6,7 @@ use Prim.Native.Nat.{ℕ, suc}
 use native.Mathlib.Numerals.{add-one}
 use Rattle.laws.specs.Sets.{any}
 use Rattle.model.specs.Places.{firstOutcome, outcomesAt}
+use Rattle.tables.specs.declared.Row.{Row}
 use Rattle.tables.specs.declared.Size.{Size}
 use Rattle.tables.specs.Meaning.{held}
 use Rattle.choice.specs.Ready.{Ready}
@@ -16,7 +17,7 @@ use Rattle.index.proofs.Starts.{start-le}
 use Rattle.propagate.specs.Net.{hits}
 use Rattle.propagate.specs.Work.{upTo}
 
-module _ (size : Size) (rows firsts outcomes : List ℕ) where
+module _ (size : Size) (rows : List Row) (firsts outcomes : List ℕ) where
   pub same-starts : (c : ℕ) → startOf firsts (size .m) (size .t) c ≡ firstOutcome (held size rows firsts outcomes) c
   unfolding startOf firstOutcome
   same-starts c = refl

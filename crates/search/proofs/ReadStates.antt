@@ -16,7 +16,7 @@ use Rattle.model.specs.Places.{firstCommand, commandCount}
 use Rattle.model.specs.Held.{planIn}
 use Rattle.model.proofs.HeldPlan.{kind-held, commands-held}
 use Rattle.tables.specs.Meaning.{spanAt}
-use Rattle.search.specs.Seen.{busySpan}
+use Rattle.search.specs.Prepared.{busySpan}
 use Rattle.search.specs.Phases.{startFlag, startEnd}
 
 module _ (T : Tables) (s : ℕ) (l : s < T .size .n) where

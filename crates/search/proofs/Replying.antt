@@ -17,17 +17,18 @@ use Rattle.model.specs.Calls.{left, deciding, searching, rankTable, commandTabl
 use Rattle.model.specs.Demand3.{Demand3}
 use Rattle.model.proofs.Answers.{not-both, given-inj, which}
 use Rattle.model.proofs.Delivered.{delivered}
+use Rattle.tables.specs.declared.Row.{Row}
 use Rattle.tables.specs.declared.Refusal.{Refusal as Word}
 use Rattle.tables.specs.declared.Size.{Size}
-use Rattle.tables.specs.Meaning.{held, refusalOf}
+use Rattle.tables.specs.Meaning.{held, refusalOf, gateOf}
 use Rattle.search.specs.declared.Found.{Found}
-use Rattle.search.specs.declared.gate.Gate.{Gate}
-use Rattle.search.specs.declared.gate.Gate.the-variants.{Open, Shut}
+use Rattle.tables.specs.declared.internal.Gate.{Gate}
+use Rattle.tables.specs.declared.internal.Gate.the-variants.{Open, Shut}
 use Rattle.search.specs.declared.SearchAnswer.{SearchAnswer}
 use Rattle.search.specs.declared.SearchAnswer.the-variants.{Given, Refused}
-use Rattle.search.specs.Seen.{Prepared}
+use Rattle.search.specs.Prepared.{Prepared}
 use Rattle.search.specs.Phases.{Answered}
-use Rattle.search.specs.Replies.{answerOf, gateOf, admitted, Demanded}
+use Rattle.search.specs.Replies.{answerOf, admitted, Demanded}
 use Rattle.search.proofs.Preparing.{prepared}
 use Rattle.search.proofs.Admitting.{open-tests, behind}
 
@@ -90,7 +91,7 @@ module _ (T : Tables) (a : ℕ) (c s : List ℕ) where
           (rw z (filled-is ls (w .clean) ∙ ap (λ (r : List ℕ). overwrite r s) (tabulate-constant 0 0 (T .size .n))))
 
 -- what the rounds ask for, behind an open gate
-pub behind-gate : (size : Size) (rows firsts outcomes : List ℕ) (a : ℕ) (c s u : List ℕ) (sounds : Bool) → sounds ≡ sound (held size rows firsts outcomes)
+pub behind-gate : (size : Size) (rows : List Row) (firsts outcomes : List ℕ) (a : ℕ) (c s u : List ℕ) (sounds : Bool) → sounds ≡ sound (held size rows firsts outcomes)
     → (g : Gate) → gateOf g ≡ admitted sounds (size .n) a (length c) (length s) → g ≡ Open → 1024 ≤ length u
     → Prepared size rows firsts outcomes a c s u
 behind-gate size rows firsts outcomes a c s u sounds e g h q lu =

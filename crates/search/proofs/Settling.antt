@@ -17,7 +17,7 @@ use Rattle.model.specs.Tables.{Tables}
 use Rattle.tables.specs.declared.internal.Span.{Span}
 use Rattle.tables.specs.Meaning.{spanAt}
 use Rattle.search.specs.Flags.{walkedIn}
-use Rattle.search.specs.Seen.{busySpan}
+use Rattle.search.specs.Prepared.{busySpan}
 use Rattle.search.specs.Phases.{startFlag, startEnd, stuckAt, settledAt}
 
 -- ---- tests of a state by what was read of it

@@ -28,7 +28,7 @@ use Rattle.model.proofs.Valid.{sound-valid}
 use Rattle.tables.specs.declared.internal.Span.{Span}
 use Rattle.tables.specs.Meaning.{spanAt}
 use Rattle.search.specs.Flags.{knownIn}
-use Rattle.search.specs.Seen.{Fresh}
+use Rattle.search.specs.Prepared.{Fresh}
 use Rattle.search.specs.Phases.{startFlag, startEnd, taken, roundFlag, roundEnd, Rounded}
 use Rattle.search.proofs.SameSets.{choice-over, reached-alike, marked-alike}
 use Rattle.search.proofs.ReadStates.{start-flag-is, start-end-is}

@@ -14,7 +14,7 @@ use Rattle.model.specs.Search.{lands, reached, marked, search}
 use Rattle.tables.specs.declared.internal.Span.{Span}
 use Rattle.search.specs.declared.Found.{Found}
 use Rattle.search.specs.Flags.{knownIn, walkedIn, Spread}
-use Rattle.search.specs.Seen.{busySpan}
+use Rattle.search.specs.Prepared.{busySpan}
 
 -- before the first round: the failing states are known
 unfoldable pub startFlag : Span → ℕ

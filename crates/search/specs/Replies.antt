@@ -11,8 +11,6 @@ use Rattle.model.specs.Tables.{Tables}
 use Rattle.model.specs.Calls.{left, deciding, rankTable, commandTable}
 use Rattle.model.specs.Demand3.{Demand3}
 use Rattle.tables.specs.Meaning.{refusalOf}
-use Rattle.search.specs.declared.gate.Gate.{Gate}
-use Rattle.search.specs.declared.gate.Gate.the-variants.{Open, Shut}
 use Rattle.search.specs.declared.SearchAnswer.{SearchAnswer}
 use Rattle.search.specs.declared.SearchAnswer.the-variants.{Given, Refused}
 
@@ -20,11 +18,6 @@ use Rattle.search.specs.declared.SearchAnswer.the-variants.{Given, Refus
 abbrev pub answerOf : SearchAnswer → Answer (Bool × ℕ)
 answerOf (Given f) = given (f .lost, f .rounds)
 answerOf (Refused r) = refused (refusalOf r)
-
--- admitted, or refused
-abbrev pub gateOf : Gate → Answer (Unit {0})
-gateOf Open = given tt
-gateOf (Shut r) = refused (refusalOf r)
 
 -- "Other calls: 10, then 11, then 9.": the tests of the search, by whether the plan is sound and by the lengths of the tables
 unfoldable pub admitted : Bool → ℕ → ℕ → ℕ → ℕ → Answer (Unit {0})

@@ -1,12 +1,9 @@
 // What the search is refused with.
 ghost use mathlib.Core.Path.{_≡_};
-ghost use Rattle.search.specs.Replies.{gateOf, admitted};
+ghost use Rattle.tables.specs.Meaning.{gateOf};
+ghost use Rattle.search.specs.Replies.{admitted};
 use tables::Refusal;
-
-pub enum Gate {
-    Open,
-    Shut(Refusal),
-}
+use tables::internal::Gate;
 
 // Refusal 10, then 11, then 9: `sounds` says whether the plan is sound, `commands` and `scratch` how many places those tables have.
 pub fn admit(sounds: bool, n: usize, start: usize, commands: usize, scratch: usize) -> Gate

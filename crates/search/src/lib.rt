@@ -5,9 +5,10 @@ ghost use Rattle.model.specs.Refusal.{answer};
 ghost use Rattle.model.specs.Calls.{left, searching, resultTable, cleared};
 ghost use Rattle.tables.specs.Meaning.{held};
 ghost use Rattle.search.specs.Replies.{answerOf, Demanded};
-use gate::Gate;
 use tables::Refusal;
+use tables::Row;
 use tables::Size;
+use tables::internal::Gate;
 
 mod fills;
 mod gate;
@@ -31,7 +32,7 @@ pub enum SearchAnswer {
 // neither the answer nor a table shows it.
 pub fn search(
     size: Size,
-    rows: &[u16],
+    rows: &[Row],
     firsts: &[u16],
     outcomes: &[u16],
     start: usize,

@@ -6,9 +6,10 @@ ghost use Prim.Native.Nat.{ℕ, _<_, _≤_};
 ghost use lib.ListN.{length, set};
 ghost use Rattle.laws.specs.Sets.{every};
 ghost use Rattle.laws.specs.Filled.{Filled};
-ghost use Rattle.tables.specs.Meaning.{held, rowsOf, spanAt};
-ghost use Rattle.search.specs.Seen.{busySpan};
+ghost use Rattle.tables.specs.Meaning.{held, spanAt};
+ghost use Rattle.search.specs.Prepared.{busySpan};
 ghost use Rattle.search.specs.Phases.{startFlag, startEnd, stuckAt, settledAt};
+use tables::Row;
 use tables::Size;
 use tables::internal::Span;
 use tables::internal::at;
@@ -48,8 +49,8 @@ pub fn start_end(span: Span) -> usize
 }
 
 // Makes the failing states known, and no others.
-pub fn start_known(size: Size, rows: &[u16], scratch: &mut [u16])
-    requires { ⌜ (size .n ≤ length (rowsOf (now rows))) × (size .n ≤ length (now scratch)) ⌝ }
+pub fn start_known(size: Size, rows: &[Row], scratch: &mut [u16])
+    requires { ⌜ (size .n ≤ length (now rows)) × (size .n ≤ length (now scratch)) ⌝ }
     ensures { λ _. ⌜ ((F O : List ℕ) → Filled (size .n) (λ s. startFlag (spanAt (held size (now (rows .entry)) F O) s)) (now (scratch .entry)) (now (scratch .exit))) ⌝ }
 {
     let mut s = 0;
@@ -93,8 +94,8 @@ fn settle_one(span: Span, commands: &[u16], scratch: &mut [u16], s: usize, calm:
 }
 
 // Ends the round, and answers whether it has no marks.
-pub fn settle(size: Size, rows: &[u16], commands: &[u16], scratch: &mut [u16]) -> bool
-    requires { ⌜ (size .n ≤ length (rowsOf (now rows))) × (size .n ≤ length (now commands)) × (size .n ≤ length (now scratch)) ⌝ }
+pub fn settle(size: Size, rows: &[Row], commands: &[u16], scratch: &mut [u16]) -> bool
+    requires { ⌜ (size .n ≤ length (now rows)) × (size .n ≤ length (now commands)) × (size .n ≤ length (now scratch)) ⌝ }
     ensures { λ r. ⌜ ((F O : List ℕ) → r ≡ every (λ s. not (stuckAt (spanAt (held size (now (rows .entry)) F O) s) (now (commands .entry)) (now (scratch .entry)) s)) (size .n)) ⌝ }
     ensures { λ _. ⌜ ((F O : List ℕ) → Filled (size .n) (λ s. settledAt (spanAt (held size (now (rows .entry)) F O) s) (now (commands .entry)) (now (scratch .entry)) s) (now (scratch .entry)) (now (scratch .exit))) ⌝ }
 {

@@ -4,7 +4,7 @@ ghost use Prim.Native.Nat.{_<_, _≤_};
 ghost use lib.ListN.{length, getD};
 ghost use Rattle.model.specs.Held.{planIn};
 ghost use Rattle.tables.specs.Meaning.{held};
-ghost use Rattle.search.specs.Seen.{Prepared, Fresh};
+ghost use Rattle.search.specs.Prepared.{Prepared, Fresh};
 ghost use Rattle.search.specs.Phases.{endOf, Rounded, Finished, Answered};
 use crate::Found;
 use crate::fills::fill;
@@ -12,6 +12,7 @@ use crate::marks::settle;
 use crate::marks::start_end;
 use crate::marks::start_known;
 use crate::walks::walk;
+use tables::Row;
 use tables::Size;
 use tables::internal::at;
 use tables::internal::span_at;
@@ -33,7 +34,7 @@ fn round_end(calm: bool, scratch: &[u16], start: usize) -> usize
 // One round from the start.
 fn round(
     size: Size,
-    rows: &[u16],
+    rows: &[Row],
     firsts: &[u16],
     outcomes: &[u16],
     start: usize,
@@ -78,7 +79,7 @@ fn finish(n: usize, end: usize, rounds: usize, commands: &mut [u16], scratch: &m
 // Walks rounds from the start until one is the last. Where the start is failing, rest or without commands there are none.
 pub fn rounds(
     size: Size,
-    rows: &[u16],
+    rows: &[Row],
     firsts: &[u16],
     outcomes: &[u16],
     start: usize,

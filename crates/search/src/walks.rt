@@ -12,13 +12,16 @@ ghost use Rattle.laws.specs.Entry.{FFFF};
 ghost use Rattle.laws.specs.Filled.{Filled};
 ghost use Rattle.model.specs.SoundTest.{sound};
 ghost use Rattle.model.specs.Held.{planIn};
+ghost use Rattle.tables.specs.declared.Row.{Row};
 ghost use Rattle.tables.specs.Meaning.{held, spanAt};
+ghost use Rattle.tables.specs.Seen.{Seen};
 ghost use Rattle.choice.specs.Ready.{Ready};
 ghost use Rattle.search.specs.Flags.{knownIn, Lists, Spread};
-ghost use Rattle.search.specs.Seen.{Seen, Prepared, Fresh};
+ghost use Rattle.search.specs.Prepared.{Prepared, Fresh};
 ghost use Rattle.search.specs.Phases.{Gone, Walked};
 use crate::fills::fill;
 use choice::internal::choose;
+use tables::Row;
 use tables::Size;
 use tables::internal::Span;
 use tables::internal::at;
@@ -81,7 +84,7 @@ fn expand(
     requires { ⌜ Seen size (now firsts) (now outcomes) s span ⌝ }
     requires { ⌜ (size .n ≤ length (now commands)) × (size .n ≤ length (now scratch)) × (size .n ≤ length (now queue)) ⌝ }
     requires { ⌜ Lists (size .n) q (now scratch) (now queue) ⌝ }
-    ensures { λ r. ⌜ ((R : List ℕ) → sound (held size R (now (firsts .entry)) (now (outcomes .entry))) ≡ true → span ≡ spanAt (held size R (now (firsts .entry)) (now (outcomes .entry))) s → Gone (planIn (held size R (now (firsts .entry)) (now (outcomes .entry)))) (size .n) q s (now (commands .entry)) (now (scratch .entry)) (now (queue .entry)) r (now (commands .exit)) (now (scratch .exit)) (now (queue .exit))) ⌝ }
+    ensures { λ r. ⌜ ((R : List Row) → sound (held size R (now (firsts .entry)) (now (outcomes .entry))) ≡ true → span ≡ spanAt (held size R (now (firsts .entry)) (now (outcomes .entry))) s → Gone (planIn (held size R (now (firsts .entry)) (now (outcomes .entry)))) (size .n) q s (now (commands .entry)) (now (scratch .entry)) (now (queue .entry)) r (now (commands .exit)) (now (scratch .exit)) (now (queue .exit))) ⌝ }
 {
     let c = choose(size, span, firsts, outcomes, scratch, 0);
     put(commands, s, c);
@@ -114,7 +117,7 @@ fn begin(
 // Walks from the start.
 pub fn walk(
     size: Size,
-    rows: &[u16],
+    rows: &[Row],
     firsts: &[u16],
     outcomes: &[u16],
     start: usize,

@@ -5,7 +5,7 @@ use Prim.Native.Nat.{ℕ, _+_, _-_}
 use lib.Dec.{leb, eqb}
 use Rattle.laws.specs.Entry.{FFFF}
 use Rattle.laws.specs.Sets.{every}
-use Rattle.model.specs.Refusal.{Refusal as Word}
+use Rattle.model.specs.Refusal.{Refusal as Word, Answer, given, refused}
 use Rattle.model.specs.Tables.{Size as Numbers, Row as Line, Tables}
 use Rattle.model.specs.File.{busy}
 use Rattle.model.specs.Places.{rowAt, firstCommand, firstOutcome}
@@ -13,6 +13,8 @@ use Rattle.model.specs.SoundTest.{rowSound, commandSound, outcomeSound}
 use Rattle.tables.specs.declared.Size.{Size}
 use Rattle.tables.specs.declared.Row.{Row}
 use Rattle.tables.specs.declared.internal.Span.{Span}
+use Rattle.tables.specs.declared.internal.Gate.{Gate}
+use Rattle.tables.specs.declared.internal.Gate.the-variants.{Open, Shut}
 use Rattle.tables.specs.declared.Refusal.{Refusal}
 use Rattle.tables.specs.declared.Refusal.the-variants.{Cut, Surplus, Tag, Length, Beyond, Unsorted, Idle, Limit, Cramped, Unsound, Stranger}
 
@@ -34,6 +36,11 @@ refusalOf Limit = Word.Limit
 refusalOf Cramped = Word.Cramped
 refusalOf Unsound = Word.Unsound
 refusalOf Stranger = Word.Stranger
+
+-- a call goes on, or is refused
+abbrev pub gateOf : Gate → Answer (Unit {0})
+gateOf Open = given tt
+gateOf (Shut r) = refused (refusalOf r)
 
 abbrev pub rowOf : Row → Line
 rowOf r = record { kind = r .kind; first = r .first; policy = r .practice }

@@ -6,8 +6,15 @@ ghost use lib.ListN.{length, getD, set};
 ghost use Rattle.model.specs.Places.{firstOutcome};
 ghost use Rattle.tables.specs.declared.Row.{Row};
 ghost use Rattle.tables.specs.Meaning.{held, noRow, rowWith, spanOf, spanAt};
+use crate::Refusal;
 use crate::Row;
 use crate::Size;
+
+// Whether a call goes on, or what it is refused with.
+pub enum Gate {
+    Open,
+    Shut(Refusal),
+}
 
 fn wide(x: u16) -> usize
     ensures { λ r. ⌜ r ≡ x ⌝ }

@@ -1,13 +1,12 @@
 -- The file of sound tables: its parts, its length, and what a writing answers and leaves.
-use mathlib.Core.Path.{_≡_, refl, ap, _∙_}
-use mathlib.Core.Bool.{true, false}
+use mathlib.Core.Path.{_≡_, refl, sym, ap, _∙_}
+use mathlib.Core.Bool.{Bool, true, false, not}
 use mathlib.Core.List.{List, [], _∷_, _++_}
 use Prim.Native.Nat.{ℕ, _+_, _<_, _≤_}
 use native.Mathlib.Nat.{zero-add}
 use native.Mathlib.Omega.{arith}
-use lib.Dec.{leb}
 use lib.ListN.{length, length-append}
-use borrow.Author.Tests.{lt-leb}
+use borrow.Author.Tests.{not-true, not-false, lt-leb, le-leb}
 use Rattle.laws.specs.Entry.{two}
 use Rattle.laws.specs.Lists.{tabulate}
 use Rattle.laws.proofs.Lists.{length-tabulate}
@@ -15,14 +14,20 @@ use Rattle.laws.proofs.Writes.{put-front}
 use Rattle.model.specs.Refusal.{Unsound, Cramped, given, refused, answer, need, _>>_}
 use Rattle.model.specs.File.{headTag, endTag}
 use Rattle.model.specs.Bytes.{statesBytes, bytesOf}
-use Rattle.model.specs.Tables.{Tables, fileLength}
+use Rattle.model.specs.Tables.{Size, Tables, fileLength}
 use Rattle.model.specs.SoundTest.{sound}
 use Rattle.model.specs.Held.{stateAt, treeOf}
 use Rattle.model.specs.Calls.{left, writing}
 use Rattle.model.proofs.SoundFacts.{sound-facts}
+use Rattle.model.proofs.Answers.{then-assoc}
 use Rattle.model.proofs.Answering.{writing-iff}
 use Rattle.model.proofs.RoundTrips.{written-length}
+use Rattle.tables.specs.declared.Refusal.{Refusal as Word}
+use Rattle.tables.specs.declared.internal.Gate.{Gate}
+use Rattle.tables.specs.declared.internal.Gate.the-variants.{Open, Shut}
+use Rattle.tables.specs.Meaning.{refusalOf, gateOf}
 use Rattle.writing.specs.Wrote.{Wrote}
+use Rattle.writing.specs.Answers.{admitted}
 use Rattle.writing.proofs.Stores.{wrote-then, wrote-length}
 use Rattle.writing.proofs.Spreads.{front, states-spread}
 
@@ -62,31 +67,44 @@ module _ (T : Tables) where
   pub size-ready : sound T ≡ true → (T .size .n ≤ 1024) × (T .size .m ≤ 4096) × (T .size .t ≤ 16384)
   size-ready e = let f = sound-facts T .0 e .size in (f .few, f .few-commands, f .few-outcomes)
 
-  -- count is the length that was computed
-  module _ (e : sound T ≡ true) {count : ℕ} (k : count ≡ fileLength (T .size)) where
-    gives : (size : ℕ) → count ≤ size → writing T size ≡ given (bytesOf (treeOf T))
-    gives size h = writing-iff T size (bytesOf (treeOf T)) .1 (record { sounds = e; long = rw k at h; is = refl })
+  -- the gate g, for which it was asked whether the plan is sound
+  module _ (table : List ℕ) (t : Bool) (e : t ≡ sound T) (g : Gate) (h : gateOf g ≡ admitted t (T .size) (length table)) where
+    answers : writing T (length table) ≡ (gateOf g >> given (bytesOf (treeOf T)))
+    unfolding writing admitted
+    answers = rw (h, ← e) (sym (then-assoc (need Unsound t) _ _))
 
-    pub file-ready : (size : ℕ) → count ≤ size → (sound T ≡ true) × (length (bytesOf (treeOf T)) ≤ size)
-    file-ready size h = (e, omega (arith, h, k, written-length T size (bytesOf (treeOf T)) (gives size h)))
+    -- shut: the bytes are as they were
+    pub refuses : (w : Word) → g ≡ Shut w
+        → (refused (refusalOf w) ≡ answer length (writing T (length table))) × (table ≡ left (λ file. file) (writing T (length table)) table)
+    unfolding answer left _>>_
+    refuses w q = let z : writing T (length table) ≡ refused (refusalOf w) = answers ∙ rw q in rw z (refl, refl)
 
-    -- too few bytes
-    pub cramped : (table : List ℕ) → length table < count
-        → (refused Cramped ≡ answer length (writing T (length table))) × (table ≡ left (λ file. file) (writing T (length table)) table)
-    unfolding writing need _>>_ answer left
-    cramped table h =
-        let short : leb (fileLength (T .size)) (length table) ≡ false = lt-leb _ _ (rw k at h) in
-        rw (e, short) (refl, refl)
+    module _ (q : g ≡ Open) where
+      gives : writing T (length table) ≡ given (bytesOf (treeOf T))
+      unfolding _>>_
+      gives = answers ∙ rw q
 
-    pub written : (table : List ℕ) {after : List ℕ} {next : ℕ} → count ≤ length table → Wrote table 0 (bytesOf (treeOf T)) after next
-        → (given next ≡ answer length (writing T (length table))) × (after ≡ left (λ file. file) (writing T (length table)) table)
-    unfolding answer left
-    written table h w =
-        let room = file-ready (length table) h .1 in
-        rw (gives (length table) h)
-        (ap given (w .past ∙ zero-add _), w .stored ∙ put-front table (bytesOf (treeOf T)) room)
+      pub file-ready : (sound T ≡ true) × (length (bytesOf (treeOf T)) ≤ length table)
+      file-ready =
+          let w = writing-iff T (length table) (bytesOf (treeOf T)) .0 gives in
+          (w .sounds, omega (arith, w .long, written-length T (length table) (bytesOf (treeOf T)) gives))
 
-  pub unsound : (table : List ℕ) → sound T ≡ false
-      → (refused Unsound ≡ answer length (writing T (length table))) × (table ≡ left (λ file. file) (writing T (length table)) table)
-  unfolding writing need _>>_ answer left
-  unsound table e = rw e (refl, refl)
+      pub written : {after : List ℕ} {next : ℕ} → Wrote table 0 (bytesOf (treeOf T)) after next
+          → (given next ≡ answer length (writing T (length table))) × (after ≡ left (λ file. file) (writing T (length table)) table)
+      unfolding answer left
+      written w = rw gives (ap given (w .past ∙ zero-add _), w .stored ∙ put-front table (bytesOf (treeOf T)) (file-ready .1))
+
+-- the tests in their order
+module _ (t : Bool) (z : Size) (bytes : ℕ) where
+  pub shut-unsound : not t ≡ true → refused Unsound ≡ admitted t z bytes
+  unfolding admitted need _>>_
+  shut-unsound h = rw (not-true t h)
+
+  module _ (h : not t ≡ false) {count : ℕ} (k : count ≡ fileLength z) where
+    pub shut-cramped : bytes < count → refused Cramped ≡ admitted t z bytes
+    unfolding admitted need _>>_
+    shut-cramped l = rw (not-false t h, lt-leb (fileLength z) bytes (rw k at l))
+
+    pub opens : count ≤ bytes → given tt ≡ admitted t z bytes
+    unfolding admitted need _>>_
+    opens l = rw (not-false t h, le-leb (fileLength z) bytes (rw k at l))

@@ -1,3 +1,4 @@
+pub mod RowReads
 pub mod Stores
 pub mod Spreads
 pub mod Turns

@@ -5,11 +5,16 @@ ghost use lib.ListN.{length};
 ghost use Rattle.model.specs.Refusal.{answer};
 ghost use Rattle.model.specs.Tables.{fileLength};
 ghost use Rattle.model.specs.Calls.{left, writing};
-ghost use Rattle.tables.specs.Meaning.{held, numbers};
-ghost use Rattle.writing.specs.Answers.{answerOf};
-use crate::states::write_file;
+ghost use mathlib.Core.Bool.{true};
+ghost use Rattle.tables.specs.Meaning.{held, numbers, gateOf};
+ghost use Rattle.writing.specs.Answers.{answerOf, admitted};
+use crate::fields::write_end;
+use crate::fields::write_head;
+use crate::states::write_states;
 use tables::Refusal;
+use tables::Row;
 use tables::Size;
+use tables::internal::Gate;
 use tables::sound;
 
 mod bytes;
@@ -29,10 +34,24 @@ fn file_length(size: Size) -> usize
     10 + 8 * size.n + 3 * size.m + 2 * size.t
 }
 
+// Refusal 10, then 9: `sounds` says whether the plan is sound, `bytes` how many bytes are lent.
+fn admit(sounds: bool, size: Size, bytes: usize) -> Gate
+    requires { ⌜ (sounds ≡ true → (size .n ≤ 1024) × (size .m ≤ 4096) × (size .t ≤ 16384)) ⌝ }
+    ensures { λ r. ⌜ gateOf r ≡ admitted sounds (numbers size) bytes ⌝ }
+{
+    if !sounds {
+        return Gate::Shut(Refusal::Unsound);
+    }
+    if bytes < file_length(size) {
+        return Gate::Shut(Refusal::Cramped);
+    }
+    Gate::Open
+}
+
 // Writes the file to the first bytes lent. A refusal leaves them as they were.
 pub fn write(
     size: Size,
-    rows: &[u16],
+    rows: &[Row],
     firsts: &[u16],
     outcomes: &[u16],
     bytes: &mut [u8],
@@ -40,11 +59,14 @@ pub fn write(
     ensures answer { λ r. ⌜ answerOf r ≡ answer length (writing (held size (now (rows .entry)) (now (firsts .entry)) (now (outcomes .entry))) (length (now (bytes .entry)))) ⌝ }
     ensures bytes { λ r. ⌜ now (bytes .exit) ≡ left (λ file. file) (writing (held size (now (rows .entry)) (now (firsts .entry)) (now (outcomes .entry))) (length (now (bytes .entry)))) (now (bytes .entry)) ⌝ }
 {
-    if !sound(size, rows, firsts, outcomes) {
-        return WriteAnswer::Refused(Refusal::Unsound);
+    let sounds = sound(size, rows, firsts, outcomes);
+    let gate = admit(sounds, size, bytes.len());
+    match gate {
+        Gate::Shut(refusal) => WriteAnswer::Refused(refusal),
+        Gate::Open => {
+            let states = write_head(size, bytes);
+            let end = write_states(size, rows, firsts, outcomes, bytes, states);
+            WriteAnswer::Given(write_end(bytes, end))
+        }
     }
-    if bytes.len() < file_length(size) {
-        return WriteAnswer::Refused(Refusal::Cramped);
-    }
-    WriteAnswer::Given(write_file(size, rows, firsts, outcomes, bytes))
 }

@@ -1,44 +1,62 @@
+mod Lts
+mod Tie
+use Rattle.writing.proofs.FileFacts.{head-ready, states-ready, end-ready, file-stored, size-ready, refuses, file-ready, written}
+use Rattle.tables.specs.Meaning.{held}
+use mathlib.Core.Path.{sym, _∙_}
 use borrow.Author.Needs.{needs}
-use Rattle.laws.proofs.Loops.{stopped, passed}
-use Rattle.writing.proofs.FileFacts.{size-ready, file-ready, unsound, cramped, written}
 use Rattle.writing.proofs.write.Statement.{statement}
-use Rattle.writing.proofs.write.Tie as tie
+use Rattle.writing.proofs.write.Proof.Tie as tie
 
 sound-requires : tie.Need-sound-requires
 sound-requires c κs = search needs
 
+admit-requires : tie.Need-admit-requires
+admit-requires c κs = λ e.
+    let a = c .before .before .before .before .args in
+    size-ready (held (a .size) (a .rows .now) (a .firsts .now) (a .outcomes .now)) (sym (c .sound .ensures) ∙ e)
+
+enum-known-gate : tie.Need-enum-known-gate
+enum-known-gate c = search needs
+
+enum-told : tie.Need-enum-told
+enum-told c = search needs
+
+write-head-requires : tie.Need-write-head-requires
+write-head-requires c κs =
+    let a = c .before .before .before .before .before .before .before .before .args in
+    let T = held (a .size) (a .rows .now) (a .firsts .now) (a .outcomes .now) in
+    let r = file-ready T (a .bytes .now) _ (c .before .before .before .before .sound .ensures) _ (c .before .before .before .admit .ensures) (c .before .enum-told .given .1) in
+    head-ready T _ (r .0) (r .1)
+
+write-states-requires : tie.Need-write-states-requires
+write-states-requires c κs =
+    let a = c .before .before .before .before .before .before .before .before .before .before .before .before .args in
+    let T = held (a .size) (a .rows .now) (a .firsts .now) (a .outcomes .now) in
+    let r = file-ready T (a .bytes .now) _ (c .before .before .before .before .before .before .before .before .sound .ensures) _ (c .before .before .before .before .before .before .before .admit .ensures) (c .before .before .before .before .before .enum-told .given .1) in
+    (r .0, states-ready T (r .1) (c .before .before .before .write-head .ensures))
+
+write-end-requires : tie.Need-write-end-requires
+write-end-requires c κs =
+    let a = c .before .before .before .before .before .before .before .before .before .before .before .before .before .before .before .before .args in
+    let T = held (a .size) (a .rows .now) (a .firsts .now) (a .outcomes .now) in
+    let r = file-ready T (a .bytes .now) _ (c .before .before .before .before .before .before .before .before .before .before .before .before .sound .ensures) _ (c .before .before .before .before .before .before .before .before .before .before .before .admit .ensures) (c .before .before .before .before .before .before .before .before .before .enum-told .given .1) in
+    end-ready T (r .1) (c .before .before .before .before .before .before .before .write-head .ensures) (c .before .before .before .write-states .ensures)
+
 returns : tie.Need-returns
-returns c = unsound _ _ (stopped (c .before .sound .ensures) (c .if1 .taken))
-
-file-length-requires : tie.Need-file-length-requires
-file-length-requires c κs = size-ready _ (passed (c .before .sound .ensures) (c .if1 .left))
-
-returns-2 : tie.Need-returns-2
-returns-2 c =
-    cramped _ (passed (c .before .before .before .sound .ensures) (c .before .before .if1 .left))
-    (c .before .file-length .ensures) _ (c .if2 .taken)
-
-write-file-requires : tie.Need-write-file-requires
-write-file-requires c κs =
-    file-ready _ (passed (c .before .before .before .before .sound .ensures) (c .before .before .before .if1 .left))
-    (c .before .before .file-length .ensures) _ (c .before .if2 .left)
+returns c =
+    let a = c .before .before .before .before .before .before .before .before .args in
+    refuses (held (a .size) (a .rows .now) (a .firsts .now) (a .outcomes .now)) _ _ (c .before .before .before .before .sound .ensures) _ (c .before .before .before .admit .ensures) _ (c .before .gate .given .1)
 
 same-length : tie.Need-same-length
 same-length c = search needs
 
-returns-3 : tie.Need-returns-3
-returns-3 c =
-    written _ (passed (c .before .before .before .before .before .before .before .sound .ensures) (c .before .before .before .before .before .before .if1 .left))
-    (c .before .before .before .before .before .file-length .ensures) _ (c .before .before .before .before .if2 .left) (c .before .before .write-file .ensures)
+returns-2 : tie.Need-returns-2
+returns-2 c =
+    let a = c .before .before .before .before .before .before .before .before .before .before .before .before .before .before .before .before .before .before .before .args in
+    let T = held (a .size) (a .rows .now) (a .firsts .now) (a .outcomes .now) in
+    let r = file-ready T (a .bytes .now) _ (c .before .before .before .before .before .before .before .before .before .before .before .before .before .before .before .sound .ensures) _ (c .before .before .before .before .before .before .before .before .before .before .before .before .before .before .admit .ensures) (c .before .before .before .before .before .before .before .before .before .before .before .before .enum-told .given .1) in
+    written T (a .bytes .now) _ (c .before .before .before .before .before .before .before .before .before .before .before .before .before .before .before .sound .ensures) _ (c .before .before .before .before .before .before .before .before .before .before .before .before .before .before .admit .ensures) (c .before .before .before .before .before .before .before .before .before .before .before .before .enum-told .given .1)
+    (file-stored T (r .1) (c .before .before .before .before .before .before .before .before .before .before .write-head .ensures) (c .before .before .before .before .before .before .write-states .ensures) (c .before .before .write-end .ensures))
 
 pub write-spec : {M : Type 1} → statement M
-write-spec =
-    tie.close
-    (tie.spec
-    sound-requires
-    returns
-    file-length-requires
-    returns-2
-    write-file-requires
-    same-length
-    returns-3)
+write-spec = tie.close (tie.spec sound-requires admit-requires enum-known-gate enum-told write-head-requires write-states-requires write-end-requires returns same-length returns-2)

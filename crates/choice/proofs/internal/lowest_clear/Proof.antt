@@ -3,6 +3,7 @@ use mathlib.Core.List.{List}
 use Prim.Native.Nat.{ℕ, _-_, _≤_}
 use native.Mathlib.Omega.{arith}
 use Rattle.laws.proofs.Tries.{Tried, tried-none, tried-next, tried-stop, tried-all}
+use Rattle.tables.specs.declared.Row.{Row}
 use Rattle.tables.specs.Meaning.{held}
 use Rattle.choice.specs.Within.{within, clear}
 use Rattle.choice.proofs.Outcomes.{clear-is}
@@ -11,7 +12,7 @@ use Rattle.choice.proofs.internal.lowest_clear.Tie as tie
 
 abbrev Inv-loop : tie.InvT-loop
 Inv-loop size firsts outcomes table limit first count left₀ left =
-    (left ≤ count) × ((R : List ℕ) → Tried (clear (held size R firsts outcomes) (within table limit) first) (count - left))
+    (left ≤ count) × ((R : List Row) → Tried (clear (held size R firsts outcomes) (within table limit) first) (count - left))
 
 abbrev μ-loop : tie.MeasureT-loop
 μ-loop size firsts outcomes table limit first count left₀ left = left

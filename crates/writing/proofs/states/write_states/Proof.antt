@@ -1,13 +1,16 @@
+mod Lts
+mod Tie
 use Prim.Native.Nat.{_-_}
 use native.Mathlib.Nat.{sub-zero}
 use native.Mathlib.Omega.{arith}
 use Rattle.model.specs.Held.{stateAt}
 use Rattle.model.specs.Bytes.{statesBytes}
 use Rattle.tables.specs.Meaning.{held}
+use Rattle.writing.proofs.StateFacts.{span-ready, state-ready, state-stored}
 use Rattle.writing.proofs.Turns.{Turn, turn-start, turn-room, turn-next, turn-done}
 use Rattle.writing.proofs.Spreads.{states-spread}
 use Rattle.writing.proofs.states.write_states.Statement.{statement}
-use Rattle.writing.proofs.states.write_states.Tie as tie
+use Rattle.writing.proofs.states.write_states.Proof.Tie as tie
 
 abbrev Inv-loop : tie.InvT-loop
 Inv-loop size rows firsts outcomes out₀ place next₀ s₀ out next s =
@@ -17,22 +20,31 @@ abbrev μ-loop : tie.MeasureT-loop
 μ-loop size rows firsts outcomes out₀ place next₀ s₀ out next s = size .n - s
 
 loop-holds : tie.Need-loop-holds Inv-loop μ-loop
-loop-holds c = turn-start states-spread (rw sub-zero (c .before .before .before .before .pre .1))
+loop-holds c = turn-start states-spread (rw sub-zero (c .before .before .before .pre .1))
+
+span-at-requires : tie.Need-span-at-requires Inv-loop μ-loop
+span-at-requires c κs =
+    let a = c .before .before .before .before .before .before .args in
+    span-ready _ (a .rows .now) (a .firsts .now) (a .outcomes .now) _ (c .before .before .before .before .before .before .pre .0) (c .if1 .taken)
 
 write-state-requires : tie.Need-write-state-requires Inv-loop μ-loop
 write-state-requires c κs =
-    let more = c .before .if1 .taken in
-    (c .before .before .before .before .before .before .before .before .pre .0, more, turn-room states-spread (c .before .before .before .loop .inv) more)
+    let a = c .before .before .before .before .before .before .before .before .args in
+    state-ready _ (a .rows .now) (a .firsts .now) (a .outcomes .now) _ (c .before .before .before .before .before .before .before .before .pre .0) (c .before .before .if1 .taken)
+    (c .before .span-at .ensures (a .firsts .now) (a .outcomes .now)) _ _ (turn-room states-spread (c .before .before .before .before .loop .inv) (c .before .before .if1 .taken))
 
 add-s : tie.Need-add-s Inv-loop μ-loop
-add-s c = omega (arith, c .before .before .before .before .if1 .taken, c .before .before .before .before .before .before .before .before .before .before .before .fits)
+add-s c = omega (arith, c .before .before .before .before .before .if1 .taken, c .before .before .before .before .before .before .before .before .before .before .before .fits)
 
 loop-less : tie.Need-loop-less Inv-loop μ-loop
-loop-less c = omega (arith, c .before .before .before .before .if1 .taken)
+loop-less c = omega (arith, c .before .before .before .before .before .if1 .taken)
 
 loop-again : tie.Need-loop-again Inv-loop μ-loop
 loop-again c =
-    turn-next states-spread (c .before .before .before .before .before .before .loop .inv) (c .before .before .before .before .if1 .taken) (c .before .before .write-state .ensures)
+    let a = c .before .before .before .before .before .before .before .before .before .before .before .args in
+    turn-next states-spread (c .before .before .before .before .before .before .before .loop .inv) (c .before .before .before .before .before .if1 .taken)
+    (state-stored _ (a .rows .now) (a .firsts .now) (a .outcomes .now) _ (c .before .before .before .before .before .before .before .before .before .before .before .pre .0) (c .before .before .before .before .before .if1 .taken)
+    (c .before .before .before .before .span-at .ensures (a .firsts .now) (a .outcomes .now)) (c .before .before .write-state .ensures))
 
 same-length : tie.Need-same-length Inv-loop μ-loop
 same-length c = c .before .before .loop .inv .same
@@ -47,6 +59,7 @@ write-states-spec =
     Inv-loop
     μ-loop
     loop-holds
+    span-at-requires
     write-state-requires
     add-s
     loop-less

@@ -6,28 +6,22 @@ use Prim.Native.Nat.{ℕ, _<_, _≤_}
 use lib.Dec.{eqb, ltb}
 use lib.ListN.{length, getD}
 use Rattle.model.specs.SoundTest.{sound}
+use Rattle.tables.specs.declared.Row.{Row}
 use Rattle.tables.specs.declared.Size.{Size}
 use Rattle.tables.specs.declared.internal.Span.{Span}
-use Rattle.tables.specs.Meaning.{held, rowsOf, spanAt}
+use Rattle.tables.specs.Meaning.{held}
 use Rattle.choice.specs.Ready.{Ready}
 use Rattle.search.specs.Flags.{knownIn}
-
--- what was read of the state s is what some rows hold, with which the plan is sound
-pub record Seen (size : Size) (firsts outcomes : List ℕ) (s : ℕ) (span : Span) : Type 0 where
-  pub rows : List ℕ
-  pub sounds : sound (held size rows firsts outcomes) ≡ true
-  pub inside : s < size .n
-  pub is : span ≡ spanAt (held size rows firsts outcomes) s
 
 -- an ordinary state with commands
 unfoldable pub busySpan : Span → Bool
 busySpan q = eqb (q .kind) 0 && ltb (q .first) (q .end)
 
 -- the plan is sound, the start is a state of it, and the tables have a place for each state
-pub record Prepared (size : Size) (rows firsts outcomes : List ℕ) (start : ℕ) (commands scratch queue : List ℕ) : Type 0 where
+pub record Prepared (size : Size) (rows : List Row) (firsts outcomes : List ℕ) (start : ℕ) (commands scratch queue : List ℕ) : Type 0 where
   pub sounds : sound (held size rows firsts outcomes) ≡ true
   pub few : size .n ≤ 1024
-  pub long-rows : size .n ≤ length (rowsOf rows)
+  pub long-rows : size .n ≤ length rows
   pub ready : Ready size firsts outcomes
   pub inside : start < size .n
   pub long-commands : size .n ≤ length commands
