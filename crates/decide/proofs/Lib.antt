@@ -1,3 +1,4 @@
+pub mod RowReads
 pub mod PlanHits
 pub mod Laying
 pub mod NetSteps

@@ -16,6 +16,7 @@ use Rattle.model.proofs.SoundFacts.{Fits, sound-facts}
 use Rattle.tables.specs.declared.Row.{Row}
 use Rattle.tables.specs.declared.Size.{Size}
 use Rattle.tables.specs.Meaning.{held, spanAt}
+use Rattle.tables.proofs.LongTest.{rows-long}
 use Rattle.index.specs.Parts.{startOf, Parts, Owned}
 use Rattle.index.specs.Commands.{commandsOf, Fit}
 use Rattle.index.proofs.Starts.{start-in, start-out}
@@ -45,7 +46,7 @@ module _ (size : Size) (rows : List Row) (firsts outcomes : List ℕ) where
     fits-spans = record {
       few = f .size .few;
       few-commands = f .size .few-commands;
-      long = f .long .rows;
+      long = rows-long rows (size .n) (f .long .rows);
       inside = λ F O s l. let r = f .rows s l in rw (any-tables F O s, any-tables F O (s + 1), add-one s) (r .rises, r .below);
     }
 

@@ -8,7 +8,7 @@ use lib.ListN.{getD}
 use Rattle.laws.specs.Lists.{overwrite}
 use Rattle.model.specs.Policy.{tally}
 use Rattle.model.specs.Search.{search}
-use Rattle.model.specs.Refusal.{Answer, given, refused}
+use Rattle.model.specs.Refusal.{Cramped, Unsound, Answer, given, refused, need, _>>_}
 use Rattle.model.specs.Tables.{Tables}
 use Rattle.model.specs.Held.{planIn}
 use Rattle.model.specs.Calls.{rankTable, commandTable, markTable, resultTable, cleared}
@@ -22,6 +22,12 @@ use Rattle.decide.specs.declared.DecideAnswer.the-variants.{Given, Refus
 -- tables of these lengths have a place for each of n states
 unfoldable pub enough : ℕ → ℕ → ℕ → ℕ → ℕ → Bool
 enough n ranks commands marks scratch = leb n ranks && leb n commands && leb n marks && leb n scratch
+
+-- "Other calls: 10, then 11, then 9.": by whether the plan is sound and by the lengths of the tables
+unfoldable pub admitted : Bool → ℕ → ℕ → ℕ → ℕ → ℕ → Answer (Unit {0})
+admitted sounds n ranks commands marks scratch = do
+  need Unsound sounds
+  need Cramped (enough n ranks commands marks scratch)
 
 -- an answer with the tally that stands beside it
 abbrev pub answerWith : List (List ℕ) → DecideAnswer → Answer (List (List ℕ))

@@ -1,11 +1,12 @@
 // Deciding a whole plan.
 ghost use mathlib.Core.Path.{_≡_};
 ghost use Rattle.model.specs.Calls.{decideCall};
-ghost use Rattle.tables.specs.Meaning.{held};
-ghost use Rattle.decide.specs.Calls.{enough, refusal, decided, decisionOf, NumberOnly, Demands};
+ghost use Rattle.tables.specs.Meaning.{held, gateOf};
+ghost use Rattle.decide.specs.Calls.{enough, admitted, refusal, decided, decisionOf, NumberOnly, Demands};
 use tables::Refusal;
 use tables::Row;
 use tables::Size;
+use tables::internal::Gate;
 
 mod nets;
 mod verdicts;
@@ -38,6 +39,26 @@ fn long_enough(n: usize, ranks: usize, commands: usize, marks: usize, scratch: u
         return false;
     }
     n <= scratch
+}
+
+// Refusal 10, then 9: `sounds` says whether the plan is sound, the last four how many places the tables have.
+fn admit(
+    sounds: bool,
+    n: usize,
+    ranks: usize,
+    commands: usize,
+    marks: usize,
+    scratch: usize,
+) -> Gate
+    ensures { λ r. ⌜ gateOf r ≡ admitted sounds n ranks commands marks scratch ⌝ }
+{
+    if !sounds {
+        return Gate::Shut(Refusal::Unsound);
+    }
+    if !long_enough(n, ranks, commands, marks, scratch) {
+        return Gate::Shut(Refusal::Cramped);
+    }
+    Gate::Open
 }
 
 fn refuse(r: Refusal) -> Decision
@@ -83,27 +104,29 @@ pub fn decide(
     ensures { λ d. ⌜ NumberOnly d ⌝ }
     ensures { λ d. ⌜ Demands (held size (now (rows .entry)) (now (firsts .entry)) (now (outcomes .entry))) (d .answer) (now (ranks .exit)) (now (commands .exit)) ⌝ }
 {
-    if !tables::sound(size, rows, firsts, outcomes) {
-        return refuse(Refusal::Unsound);
-    }
-    if !long_enough(
+    let sounds = tables::sound(size, rows, firsts, outcomes);
+    let gate = admit(
+        sounds,
         size.n,
         ranks.len(),
         commands.len(),
         marks.len(),
         scratch.len(),
-    ) {
-        return refuse(Refusal::Cramped);
-    }
-    let tally = working::work_out(
-        size,
-        rows,
-        firsts,
-        outcomes,
-        ranks,
-        commands,
-        marks,
-        scratch,
     );
-    answer_with(tally)
+    match gate {
+        Gate::Shut(refusal) => refuse(refusal),
+        Gate::Open => {
+            let tally = working::work_out(
+                size,
+                rows,
+                firsts,
+                outcomes,
+                ranks,
+                commands,
+                marks,
+                scratch,
+            );
+            answer_with(tally)
+        }
+    }
 }

@@ -12,6 +12,10 @@ use Rattle.tables.specs.declared.Size.{Size}
 use Rattle.tables.specs.declared.Row.{Row}
 use Rattle.tables.specs.Meaning.{rowOf, held}
 
+-- the model's rows are as many as those lent
+pub rows-long : (R : List Row) (n : ℕ) → n ≤ length (map rowOf R) → n ≤ length R
+rows-long R n h = subst (λ (k : ℕ). n ≤ k) (length-map R rowOf) h
+
 pub all-long : (z : Size) (R : List Row) (F O : List ℕ) → tablesLong (held z R F O) ≡ true
     → (z .n ≤ length R) × (z .m ≤ length F) × (z .t ≤ length O)
 unfolding tablesLong
@@ -20,4 +24,4 @@ all-long z R F O h =
     let firsts = leb (z .m) (length F) in
     let three = and-both (rows && firsts) _ h in
     let two = and-both rows firsts (three .0) in
-    (subst (λ (k : ℕ). z .n ≤ k) (length-map R rowOf) (leb-true _ _ (two .0)), leb-true _ _ (two .1), leb-true _ _ (three .1))
+    (rows-long R (z .n) (leb-true _ _ (two .0)), leb-true _ _ (two .1), leb-true _ _ (three .1))

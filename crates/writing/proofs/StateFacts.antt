@@ -1,5 +1,5 @@
 -- A state of sound tables: what is read of it, and its bytes.
-use mathlib.Core.Path.{_≡_, sym, subst}
+use mathlib.Core.Path.{_≡_, sym}
 use mathlib.Core.Bool.{true, _||_}
 use mathlib.Core.List.{List, [], _∷_}
 use mathlib.Core.Logic.{⊎-elim}
@@ -7,7 +7,7 @@ use Prim.Native.Nat.{ℕ, _+_, _<_, _≤_}
 use native.Mathlib.Numerals.{add-one}
 use native.Mathlib.Omega.{arith}
 use lib.Dec.{eqb, ltb}
-use lib.ListN.{length, length-append, length-map}
+use lib.ListN.{length, length-append}
 use borrow.Author.Tests.{eqb-true, ltb-true}
 use Rattle.laws.specs.Entry.{FFFF}
 use Rattle.laws.proofs.Tests.{and-both, or-cases}
@@ -22,7 +22,8 @@ use Rattle.model.proofs.SoundFacts.{Fits, RowFits, sound-facts}
 use Rattle.tables.specs.declared.Row.{Row}
 use Rattle.tables.specs.declared.Size.{Size}
 use Rattle.tables.specs.declared.internal.Span.{Span}
-use Rattle.tables.specs.Meaning.{rowOf, held, spanAt}
+use Rattle.tables.specs.Meaning.{held, spanAt}
+use Rattle.tables.proofs.LongTest.{rows-long}
 use Rattle.writing.specs.Wrote.{Wrote}
 use Rattle.writing.specs.Linked.{Linked, commandsFrom, rowBytes, spanBytes, FitsBytes}
 use Rattle.writing.proofs.Stores.{wrote-length}
@@ -45,7 +46,7 @@ module _ (z : Size) (rows : List Row) (firsts outcomes : List ℕ) (s : ℕ) whe
     fits = sound-facts T .0 e
 
     pub span-ready : (s < z .n) × (z .n ≤ length rows)
-    span-ready = (h, subst (λ (k : ℕ). z .n ≤ k) (length-map rows rowOf) (fits .long .rows))
+    span-ready = (h, rows-long rows (z .n) (fits .long .rows))
 
     module _ {span : Span} (q : span ≡ spanAt T s) where
       row : RowFits T s

@@ -1,3 +1,5 @@
+mod Lts
+mod Tie
 use Rattle.decide.proofs.Laying.{laid-start, laid-next, laid-done, read-inside}
 use Rattle.decide.specs.Nets.{Laid}
 use Rattle.tables.specs.Meaning.{held}
@@ -5,7 +7,7 @@ use Prim.Native.Nat.{ℕ, _-_, _≤_}
 use mathlib.Core.List.{List, []}
 use native.Mathlib.Omega.{arith}
 use Rattle.decide.proofs.nets.lay_out.Statement.{statement}
-use Rattle.decide.proofs.nets.lay_out.Tie as tie
+use Rattle.decide.proofs.nets.lay_out.Proof.Tie as tie
 
 abbrev Inv-loop : tie.InvT-loop
 Inv-loop size rows alone ranks₀ watch₀ ends₀ s₀ ranks watch ends s =
@@ -18,26 +20,26 @@ loop-holds : tie.Need-loop-holds Inv-loop μ-loop
 loop-holds c = (omega arith, λ F O. laid-start)
 
 span-at-requires : tie.Need-span-at-requires Inv-loop μ-loop
-span-at-requires c κs = omega (arith, c .before .before .before .before .before .before .before .pre .0 .long, c .if1 .taken)
+span-at-requires c κs = omega (arith, c .before .before .before .before .before .before .pre .0 .long, c .if1 .taken)
 
 lay-one-requires : tie.Need-lay-one-requires Inv-loop μ-loop
 lay-one-requires c κs =
     let v = c .before .before .before .before .before .before .loop .inv .1 [] [] in
-    let h = c .before .before .before .before .before .before .before .before .before .before .before .pre .1 in
+    let h = c .before .before .before .before .before .before .before .before .before .before .pre .1 in
     let l = c .before .before .before .before .if1 .taken in (
-      read-inside (c .before .before .before .before .before .before .before .before .before .before .before .pre .0) [] [] _ l _ (c .before .before .before .span-at .ensures [] []),
+      read-inside (c .before .before .before .before .before .before .before .before .before .before .pre .0) [] [] _ l _ (c .before .before .before .span-at .ensures [] []),
       (omega (arith, v .seeded .same, l, h), omega (arith, v .begins .same, l, h), omega (arith, v .stops .same, l, h)),
     )
 
 add-s : tie.Need-add-s Inv-loop μ-loop
-add-s c = omega (arith, c .before .before .before .before .before .before .before .before .before .before .before .if1 .taken, c .before .before .before .before .before .before .before .before .before .before .before .before .before .before .before .before .before .before .pre .0 .few)
+add-s c = omega (arith, c .before .before .before .before .before .before .before .before .before .before .before .if1 .taken, c .before .before .before .before .before .before .before .before .before .before .before .before .before .before .before .before .before .pre .0 .few)
 
 loop-less : tie.Need-loop-less Inv-loop μ-loop
 loop-less c = omega (arith, c .before .before .before .before .before .before .before .before .before .before .before .if1 .taken)
 
 loop-again : tie.Need-loop-again Inv-loop μ-loop
 loop-again c =
-    let h = c .before .before .before .before .before .before .before .before .before .before .before .before .before .before .before .before .before .before .pre .1 in
+    let h = c .before .before .before .before .before .before .before .before .before .before .before .before .before .before .before .before .before .pre .1 in
     let l = c .before .before .before .before .before .before .before .before .before .before .before .if1 .taken in
     let e = c .before .before .before .before .before .before .lay-one .ensures in (
       omega arith,

@@ -1,3 +1,6 @@
+mod Lts
+mod Tie
+use Rattle.tables.proofs.LongTest.{rows-long}
 use Rattle.decide.proofs.Passes.{pass-start, pass-room, pass-next, pass-done}
 use Rattle.decide.specs.Verdicts.{numbered, Judging}
 use Rattle.tables.specs.Meaning.{held}
@@ -7,7 +10,7 @@ use Rattle.model.specs.Held.{planIn}
 use Prim.Native.Nat.{_-_, _≤_}
 use native.Mathlib.Omega.{arith}
 use Rattle.decide.proofs.verdicts.judge_all.Statement.{statement}
-use Rattle.decide.proofs.verdicts.judge_all.Tie as tie
+use Rattle.decide.proofs.verdicts.judge_all.Proof.Tie as tie
 
 abbrev Inv-loop : tie.InvT-loop
 Inv-loop size rows firsts outcomes ranks commands₀ marks₀ tally₀ s₀ commands marks tally s =
@@ -20,37 +23,37 @@ loop-holds : tie.Need-loop-holds Inv-loop μ-loop
 loop-holds c = (omega arith, pass-start)
 
 span-at-requires : tie.Need-span-at-requires Inv-loop μ-loop
-span-at-requires c κs = (c .if1 .taken, sound-facts _ .0 (c .before .before .before .before .before .before .before .before .before .pre .0) .long .rows)
+span-at-requires c κs = (c .if1 .taken, rows-long (c .before .before .before .before .before .before .before .before .args .rows .now) _ (sound-facts _ .0 (c .before .before .before .before .before .before .before .before .pre .0) .long .rows))
 
 judge-requires : tie.Need-judge-requires Inv-loop μ-loop
 judge-requires c κs =
-    let e = c .before .before .before .before .before .before .before .before .before .before .before .before .pre .0 in
+    let e = c .before .before .before .before .before .before .before .before .before .before .before .pre .0 in
     let v = c .before .before .before .before .before .loop .inv .1 in
     let l = c .before .before .before .if1 .taken in (
-      sound-ready _ _ _ _ e,
+      sound-ready _ (c .before .before .before .before .before .before .before .before .before .before .before .args .rows .now) (c .before .before .before .before .before .before .before .before .before .before .before .args .firsts .now) (c .before .before .before .before .before .before .before .before .before .before .before .args .outcomes .now) e,
       (
-        record { rows = c .before .before .before .before .before .before .before .before .before .before .before .before .args .rows .now; sounds = e; inside = l; is = c .before .before .span-at .ensures _ _ },
-        (omega (arith, c .before .before .before .before .before .before .before .before .before .before .before .before .pre .1), omega (arith, v .took .same, c .before .before .before .before .before .before .before .before .before .before .before .before .pre .1), omega (arith, v .marked .same, c .before .before .before .before .before .before .before .before .before .before .before .before .pre .1)),
+        record { rows = c .before .before .before .before .before .before .before .before .before .before .before .args .rows .now; sounds = e; inside = l; is = c .before .before .span-at .ensures _ _ },
+        (omega (arith, c .before .before .before .before .before .before .before .before .before .before .before .pre .1), omega (arith, v .took .same, c .before .before .before .before .before .before .before .before .before .before .before .pre .1), omega (arith, v .marked .same, c .before .before .before .before .before .before .before .before .before .before .before .pre .1)),
       ),
     )
 
 add-requires : tie.Need-add-requires Inv-loop μ-loop
 add-requires c κs =
-    let e = c .before .before .before .before .before .before .before .before .before .before .before .before .before .before .before .before .before .pre .0 in
-    pass-room (c .before .before .before .before .before .before .before .before .before .before .loop .inv .1) (c .before .before .before .before .judge .ensures (c .before .before .before .before .before .before .before .before .before .before .before .before .before .before .before .before .before .args .rows .now) e (c .before .before .before .before .before .before .before .span-at .ensures _ _)) (omega (arith, c .before .before .before .before .before .before .before .before .before .before .loop .inv .0, sound-facts _ .0 e .size .few))
+    let e = c .before .before .before .before .before .before .before .before .before .before .before .before .before .before .before .before .pre .0 in
+    pass-room (c .before .before .before .before .before .before .before .before .before .before .loop .inv .1) (c .before .before .before .before .judge .ensures (c .before .before .before .before .before .before .before .before .before .before .before .before .before .before .before .before .args .rows .now) e (c .before .before .before .before .before .before .before .span-at .ensures _ _)) (omega (arith, c .before .before .before .before .before .before .before .before .before .before .loop .inv .0, sound-facts _ .0 e .size .few))
 
 add-s : tie.Need-add-s Inv-loop μ-loop
-add-s c = omega (arith, c .before .before .before .before .before .before .before .before .before .if1 .taken, sound-facts _ .0 (c .before .before .before .before .before .before .before .before .before .before .before .before .before .before .before .before .before .before .pre .0) .size .few)
+add-s c = omega (arith, c .before .before .before .before .before .before .before .before .before .if1 .taken, sound-facts _ .0 (c .before .before .before .before .before .before .before .before .before .before .before .before .before .before .before .before .before .pre .0) .size .few)
 
 loop-less : tie.Need-loop-less Inv-loop μ-loop
 loop-less c = omega (arith, c .before .before .before .before .before .before .before .before .before .if1 .taken)
 
 loop-again : tie.Need-loop-again Inv-loop μ-loop
 loop-again c =
-    let h = c .before .before .before .before .before .before .before .before .before .before .before .before .before .before .before .before .before .before .pre .1 in
+    let h = c .before .before .before .before .before .before .before .before .before .before .before .before .before .before .before .before .before .pre .1 in
     let l = c .before .before .before .before .before .before .before .before .before .if1 .taken in (
       omega arith,
-      pass-next (c .before .before .before .before .before .before .before .before .before .before .before .loop .inv .1) (c .before .before .before .before .before .judge .ensures (c .before .before .before .before .before .before .before .before .before .before .before .before .before .before .before .before .before .before .args .rows .now) (c .before .before .before .before .before .before .before .before .before .before .before .before .before .before .before .before .before .before .pre .0) (c .before .before .before .before .before .before .before .before .span-at .ensures _ _)) (omega arith) (omega arith) _ (c .add .ensures),
+      pass-next (c .before .before .before .before .before .before .before .before .before .before .before .loop .inv .1) (c .before .before .before .before .before .judge .ensures (c .before .before .before .before .before .before .before .before .before .before .before .before .before .before .before .before .before .args .rows .now) (c .before .before .before .before .before .before .before .before .before .before .before .before .before .before .before .before .before .pre .0) (c .before .before .before .before .before .before .before .before .span-at .ensures _ _)) (omega arith) (omega arith) _ (c .add .ensures),
     )
 
 same-length : tie.Need-same-length Inv-loop μ-loop
