@@ -1,18 +1,13 @@
 -- The tests of the search in their order: where each refuses, and what holds where none does.
-use mathlib.Core.Path.{_≡_, refl, sym}
+use mathlib.Core.Path.{_≡_, sym}
 use mathlib.Core.Bool.{Bool, true, false, not}
 use Prim.Native.Nat.{ℕ, _<_, _≤_}
 use lib.Dec.{leb}
 use borrow.Author.Tests.{not-true, not-false, leb-true, ltb-true, le-leb, lt-leb, lt-ltb, le-ltb}
 use Rattle.laws.proofs.Tests.{and-both}
-use Rattle.model.specs.Refusal.{Refusal, Cramped, Unsound, Stranger, Answer, given, refused, need, _>>_}
-use Rattle.model.proofs.Answers.{not-both, need-inv}
+use Rattle.model.specs.Refusal.{Cramped, Unsound, Stranger, given, refused, need, _>>_}
+use Rattle.model.proofs.Answers.{need-open, need-inv}
 use Rattle.search.specs.Replies.{admitted}
-
-need-open : (r : Refusal) (t : Bool) → need r t ≡ given tt → t ≡ true
-unfolding need
-need-open r true e = refl
-need-open r false e = absurd (not-both e)
 
 module _ (sounds : Bool) (n start commands scratch : ℕ) where
   pub shut-unsound : not sounds ≡ true → refused Unsound ≡ admitted sounds n start commands scratch
@@ -45,12 +40,3 @@ module _ (sounds : Bool) (n start commands scratch : ℕ) where
       let (u, h) = need-inv Stranger _ _ g in
       let (v, w) = and-both (leb n commands) (leb n scratch) (need-open Cramped _ h) in
       (t, ltb-true start n u, leb-true n commands v, leb-true n scratch w)
-
--- an answer behind the tests
-pub behind : {A : Type 0} (t u v : Bool) (x : Answer A)
-    → (need Unsound t >> (need Stranger u >> (need Cramped v >> x))) ≡ ((need Unsound t >> (need Stranger u >> need Cramped v)) >> x)
-unfolding need _>>_
-behind true true true x = refl
-behind true true false x = refl
-behind true false v x = refl
-behind false u v x = refl

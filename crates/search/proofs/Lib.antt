@@ -1,3 +1,4 @@
+pub mod RowReads
 pub mod FlagValues
 pub mod Queues
 pub mod Spreading

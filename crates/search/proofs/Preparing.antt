@@ -10,6 +10,7 @@ use Rattle.model.proofs.SoundFacts.{sound-facts}
 use Rattle.tables.specs.declared.Row.{Row}
 use Rattle.tables.specs.declared.Size.{Size}
 use Rattle.tables.specs.Meaning.{held}
+use Rattle.tables.proofs.LongTest.{rows-long}
 use Rattle.choice.proofs.Readiness.{sound-ready}
 use Rattle.search.specs.Prepared.{Prepared}
 
@@ -18,7 +19,7 @@ pub prepared : (size : Size) (rows : List Row) (firsts outcomes : List ℕ) → 
 prepared size rows firsts outcomes e a l c s u lc ls lu = let f = sound-facts (held size rows firsts outcomes) .0 e in record {
   sounds = e;
   few = f .size .few;
-  long-rows = f .long .rows;
+  long-rows = rows-long rows (size .n) (f .long .rows);
   ready = sound-ready size rows firsts outcomes e;
   inside = l;
   long-commands = lc;
@@ -27,7 +28,7 @@ prepared size rows firsts outcomes e a l c s u lc ls lu = let f = sound-facts (h
 }
 
 -- later, with tables that are as long
-pub still-prepared : {size : Size} {rows firsts outcomes : List ℕ} {a : ℕ} {c s u : List ℕ} → Prepared size rows firsts outcomes a c s u
+pub still-prepared : {size : Size} {rows : List Row} {firsts outcomes : List ℕ} {a : ℕ} {c s u : List ℕ} → Prepared size rows firsts outcomes a c s u
     → (c′ s′ u′ : List ℕ) → length c′ ≡ length c → length s′ ≡ length s → length u′ ≡ length u → Prepared size rows firsts outcomes a c′ s′ u′
 still-prepared p c′ s′ u′ ec es eu = record {
   sounds = p .sounds;

@@ -4,18 +4,19 @@ use mathlib.Core.Bool.{Bool, true}
 use mathlib.Core.Logic.{_⊎_, inl, inr}
 use mathlib.Core.List.{List}
 use Prim.Native.Nat.{ℕ, _<_, _≤_}
+use lib.Dec.{ltb}
 use lib.ListN.{length}
 use Rattle.laws.specs.Lists.{overwrite}
 use Rattle.laws.proofs.Fills.{filled-is, tabulate-constant}
 use Rattle.model.specs.Plan.{Plan}
 use Rattle.model.specs.Search.{Result, search}
-use Rattle.model.specs.Refusal.{Refusal, Answer, given, refused, answer, _>>_}
+use Rattle.model.specs.Refusal.{Refusal, Unsound, Stranger, Answer, given, refused, answer, need, _>>_}
 use Rattle.model.specs.Tables.{Tables}
 use Rattle.model.specs.SoundTest.{sound}
 use Rattle.model.specs.Held.{planIn}
 use Rattle.model.specs.Calls.{left, deciding, searching, rankTable, commandTable, resultTable, cleared}
 use Rattle.model.specs.Demand3.{Demand3}
-use Rattle.model.proofs.Answers.{not-both, given-inj, which}
+use Rattle.model.proofs.Answers.{not-both, given-inj, which, then-assoc}
 use Rattle.model.proofs.Delivered.{delivered}
 use Rattle.tables.specs.declared.Row.{Row}
 use Rattle.tables.specs.declared.Refusal.{Refusal as Word}
@@ -30,7 +31,7 @@ use Rattle.search.specs.Prepared.{Prepared}
 use Rattle.search.specs.Phases.{Answered}
 use Rattle.search.specs.Replies.{answerOf, admitted, Demanded}
 use Rattle.search.proofs.Preparing.{prepared}
-use Rattle.search.proofs.Admitting.{open-tests, behind}
+use Rattle.search.proofs.Admitting.{open-tests}
 
 -- of what the search finds, what is answered
 abbrev answered : Result → Bool × ℕ
@@ -70,7 +71,9 @@ module _ (T : Tables) (a : ℕ) (c s : List ℕ) where
   module _ (sounds : Bool) (e : sounds ≡ sound T) (g : Gate) (h : gateOf g ≡ admitted sounds (T .size .n) a (length c) (length s)) where
     found-is : found ≡ (gateOf g >> given (search (planIn T) a))
     unfolding searching admitted
-    found-is = rw (h, ← e) (behind sounds _ _ _)
+    found-is =
+        rw (h, ← e)
+        (ap (λ (x : Answer Result). need Unsound sounds >> x) (sym (then-assoc (need Stranger (ltb a (T .size .n))) _ _)) ∙ sym (then-assoc (need Unsound sounds) _ _))
 
     -- shut: every table is as it was
     pub refuses : (w : Word) → g ≡ Shut w → Replied (Refused w) c s

@@ -32,7 +32,7 @@ fn round_end(calm: bool, scratch: &[u16], start: usize) -> usize
 }
 
 // One round from the start.
-fn round(
+pub fn round(
     size: Size,
     rows: &[Row],
     firsts: &[u16],

@@ -1,8 +1,10 @@
+mod Lts
+mod Tie
 use native.Mathlib.Omega.{arith}
 use borrow.Author.Needs.{needs}
 use Rattle.search.proofs.Replying.{refuses, gives, behind-gate}
 use Rattle.search.proofs.search.Statement.{statement}
-use Rattle.search.proofs.search.Tie as tie
+use Rattle.search.proofs.search.Proof.Tie as tie
 
 sound-requires : tie.Need-sound-requires
 sound-requires c κs = search needs
@@ -25,7 +27,7 @@ rounds-requires c κs =
 
 returns : tie.Need-returns
 returns c =
-    let s = c .before .before .before .before .before .before .before .before .before .before .args in
+    let s = c .before .before .before .before .before .before .before .before .before .args in
     refuses _ _ (s .commands .now) (s .scratch .now) _ (c .before .before .before .before .sound .ensures) _ (c .before .before .before .admit .ensures) _ (c .before .gate .given .1)
 
 same-length : tie.Need-same-length
@@ -36,7 +38,7 @@ same-length-2 c = search needs
 
 returns-2 : tie.Need-returns-2
 returns-2 c =
-    let s = c .before .before .before .before .before .before .before .before .before .before .before .before .before .before .before .before .before .before .args in
+    let s = c .before .before .before .before .before .before .before .before .before .before .before .before .before .before .before .before .before .args in
     gives _ _ (s .commands .now) (s .scratch .now) _ (c .before .before .before .before .before .before .before .before .before .before .before .before .sound .ensures) _ (c .before .before .before .before .before .before .before .before .before .before .before .admit .ensures) (c .before .before .before .before .before .before .before .before .before .enum-told .given .1) _ _ _ (c .before .before .before .before .before .rounds .ensures)
 
 pub search-spec : {M : Type 1} → statement M

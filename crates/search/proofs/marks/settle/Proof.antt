@@ -1,10 +1,12 @@
+mod Lts
+mod Tie
 use mathlib.Core.List.{List, []}
 use Prim.Native.Nat.{ℕ, _-_, _≤_}
 use native.Mathlib.Omega.{arith}
 use Rattle.tables.specs.Meaning.{held}
 use Rattle.search.proofs.Settling.{Settling, settling-start, settling-next, settling-done}
 use Rattle.search.proofs.marks.settle.Statement.{statement}
-use Rattle.search.proofs.marks.settle.Tie as tie
+use Rattle.search.proofs.marks.settle.Proof.Tie as tie
 
 abbrev Inv-loop : tie.InvT-loop
 Inv-loop size rows commands scratch₀ calm₀ s₀ scratch calm s = (s ≤ size .n) × ((F O : List ℕ) → Settling (held size rows F O) commands scratch₀ scratch calm s)

@@ -1,3 +1,5 @@
+mod Lts
+mod Tie
 use mathlib.Core.Path.{ap, _∙_}
 use mathlib.Core.List.{List, []}
 use Prim.Native.Nat.{ℕ, _-_, _≤_}
@@ -8,7 +10,7 @@ use Rattle.laws.proofs.Fills.{filled-none, filled-next, filled-done}
 use Rattle.tables.specs.Meaning.{held, spanAt}
 use Rattle.search.specs.Phases.{startFlag}
 use Rattle.search.proofs.marks.start_known.Statement.{statement}
-use Rattle.search.proofs.marks.start_known.Tie as tie
+use Rattle.search.proofs.marks.start_known.Proof.Tie as tie
 
 abbrev Inv-loop : tie.InvT-loop
 Inv-loop size rows scratch₀ s₀ scratch s = (s ≤ size .n) × ((F O : List ℕ) → Filled s (λ x. startFlag (spanAt (held size rows F O) x)) scratch₀ scratch)

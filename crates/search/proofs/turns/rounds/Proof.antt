@@ -1,3 +1,5 @@
+mod Lts
+mod Tie
 use Prim.Native.Nat.{suc, _-_}
 use native.Mathlib.Omega.{arith}
 use borrow.Author.Needs.{needs}
@@ -10,7 +12,7 @@ use Rattle.search.proofs.Preparing.{still-prepared}
 use Rattle.search.proofs.Concluding.{concluded}
 use Rattle.search.proofs.Turning.{Turning, turning-start, due-fresh, due-before, due-few, turning-next}
 use Rattle.search.proofs.turns.rounds.Statement.{statement}
-use Rattle.search.proofs.turns.rounds.Tie as tie
+use Rattle.search.proofs.turns.rounds.Proof.Tie as tie
 
 abbrev Inv-loop : tie.InvT-loop
 Inv-loop size rows firsts outcomes start commands₀ scratch₀ queue₀ end₀ count₀ commands scratch queue end count =
@@ -34,35 +36,35 @@ start-end-requires c κs = search needs
 
 loop-holds : tie.Need-loop-holds Inv-loop μ-loop
 loop-holds c =
-    let p = c .before .before .before .before .before .before .before .before .before .before .before .before .before .before .before .before .pre in
-    let s = c .before .before .before .before .before .before .before .before .before .before .before .before .before .before .before .before .args in
+    let p = c .before .before .before .before .before .before .before .before .before .before .before .before .before .before .before .pre in
+    let s = c .before .before .before .before .before .before .before .before .before .before .before .before .before .before .before .args in
     turning-start _ (p .sounds) _ (p .inside) (c .before .before .before .before .before .before .before .before .fill .ensures) (c .before .before .before .before .start-known .ensures (s .firsts .now) (s .outcomes .now)) _ (c .before .span-at .ensures (s .firsts .now) (s .outcomes .now)) _ (c .start-end .ensures) _
 
 round-requires : tie.Need-round-requires Inv-loop μ-loop
 round-requires c κs =
-    let p = c .before .before .before .before .before .before .before .before .before .before .before .before .before .before .before .before .before .before .before .before .before .pre in
+    let p = c .before .before .before .before .before .before .before .before .before .before .before .before .before .before .before .before .before .before .before .before .pre in
     let w = c .before .before .before .before .loop .inv in
     (still-prepared p _ _ _ (omega (arith, w .same-commands, c .before .before .before .before .before .before .before .before .before .before .before .before .before .fill .kept)) (omega (arith, w .same-scratch, c .before .before .before .before .before .before .before .before .before .start-known .kept)) (w .same-queue), due-fresh (sound-valid _ (p .sounds)) (states-held _) (p .inside) (w .due (c .before .before .before .loop-test .taken)))
 
 add-count : tie.Need-add-count Inv-loop μ-loop
 add-count c =
-    let p = c .before .before .before .before .before .before .before .before .before .before .before .before .before .before .before .before .before .before .before .before .before .before .before .before .before .before .before .before .pre in
+    let p = c .before .before .before .before .before .before .before .before .before .before .before .before .before .before .before .before .before .before .before .before .before .before .before .before .before .before .before .pre in
     omega (arith, p .few, due-few (sound-valid _ (p .sounds)) (states-held _) (p .inside) (c .before .before .before .before .before .before .before .before .before .before .before .loop .inv .due (c .before .before .before .before .before .before .before .before .before .before .loop-test .taken)))
 
 loop-less : tie.Need-loop-less Inv-loop μ-loop
 loop-less c =
-    let p = c .before .before .before .before .before .before .before .before .before .before .before .before .before .before .before .before .before .before .before .before .before .before .before .before .before .before .before .before .pre in
+    let p = c .before .before .before .before .before .before .before .before .before .before .before .before .before .before .before .before .before .before .before .before .before .before .before .before .before .before .before .pre in
     omega (arith, due-before (sound-valid _ (p .sounds)) (states-held _) (p .inside) (c .before .before .before .before .before .before .before .before .before .before .before .loop .inv .due (c .before .before .before .before .before .before .before .before .before .before .loop-test .taken)))
 
 loop-again : tie.Need-loop-again Inv-loop μ-loop
 loop-again c =
-    let p = c .before .before .before .before .before .before .before .before .before .before .before .before .before .before .before .before .before .before .before .before .before .before .before .before .before .before .before .before .pre in
+    let p = c .before .before .before .before .before .before .before .before .before .before .before .before .before .before .before .before .before .before .before .before .before .before .before .before .before .before .before .pre in
     let w = c .before .before .before .before .before .before .before .before .before .before .before .loop .inv in
     turning-next (sound-valid _ (p .sounds)) (states-held _) (p .inside) (w .due (c .before .before .before .before .before .before .before .before .before .before .loop-test .taken)) (c .before .before .before .before .before .before .round .ensures) w _ (omega (arith, c .before .before .before .before .before .before .round .kept))
 
 finish-requires : tie.Need-finish-requires Inv-loop μ-loop
 finish-requires c κs =
-    let p = c .before .before .before .before .before .before .before .before .before .before .before .before .before .before .before .before .before .before .before .before .pre in
+    let p = c .before .before .before .before .before .before .before .before .before .before .before .before .before .before .before .before .before .before .before .pre in
     let w = c .before .before .before .loop .inv in
     (omega (arith, w .same-commands, c .before .before .before .before .before .before .before .before .before .before .before .before .fill .kept, p .long-commands), omega (arith, w .same-scratch, c .before .before .before .before .before .before .before .before .start-known .kept, p .long-scratch))
 
@@ -77,7 +79,7 @@ same-length-3 c = omega (arith, c .before .before .before .before .before .befor
 
 returns : tie.Need-returns Inv-loop μ-loop
 returns c =
-    let s = c .before .before .before .before .before .before .before .before .before .before .before .before .before .before .before .before .before .before .before .before .before .before .before .before .before .args in
+    let s = c .before .before .before .before .before .before .before .before .before .before .before .before .before .before .before .before .before .before .before .before .before .before .before .before .args in
     concluded (c .before .before .before .before .before .before .before .before .before .before .before .before .before .before .before .before .before .fill .ensures) (c .before .before .before .before .before .before .before .before .before .before .before .before .before .start-known .ensures (s .firsts .now) (s .outcomes .now)) (c .before .before .before .before .before .before .before .before .loop .inv) (c .before .before .before .before .before .before .before .loop-test .left) (c .before .before .before .before .finish .ensures)
 
 pub rounds-spec : {M : Type 1} → statement M

@@ -1,0 +1,95 @@
+-- `search::marks::start_known`, over rows. Made by tools/rows, and checked like every proof.
+use Rattle.search.proofs.marks.start_flag.Met
+use Rattle.search.proofs.marks.start_flag.Reads
+use Rattle.search.proofs.marks.start_flag.Symbol
+use Rattle.search.proofs.marks.start_known.Code
+use Rattle.search.proofs.marks.start_known.Key
+use Rattle.search.proofs.marks.start_known.Proof.Lts as Lts
+use Rattle.search.proofs.RowReads.MarksStartKnown as Reads'
+use Rattle.search.proofs.marks.start_known.Statement
+use Rattle.tables.proofs.internal.put.Met as Met'
+use Rattle.tables.proofs.internal.put.Reads as Reads''
+use Rattle.tables.proofs.internal.put.Symbol as Symbol'
+use Rattle.tables.proofs.internal.span_at.Met as Met''
+use Rattle.tables.proofs.RowReads.InternalSpanAt as Reads'3
+use Rattle.tables.proofs.internal.span_at.Symbol as Symbol''
+use borrow.Fn.Run
+use borrow.Fn.Written
+use contract.Running
+
+abbrev pub InvT-loop : Type 1
+InvT-loop = Lts.InvT-loop
+
+abbrev pub MeasureT-loop : Type 0
+MeasureT-loop = Lts.MeasureT-loop
+
+abbrev pub Start : (Inv : InvT-loop) → (μ : MeasureT-loop) → Type 0
+Start = λ Inv μ. Lts.Start (Reads'3.Asked, Reads'3.Learnt, Reads.Asked, Reads.Learnt, Reads''.Asked, Reads''.Learnt) Reads'.Pre Reads'.Post Inv μ
+
+abbrev pub After-slice-known : (Inv : InvT-loop) → (μ : MeasureT-loop) → Type 0
+After-slice-known = λ Inv μ. Lts.After-slice-known (Reads'3.Asked, Reads'3.Learnt, Reads.Asked, Reads.Learnt, Reads''.Asked, Reads''.Learnt) Reads'.Pre Reads'.Post Inv μ
+
+abbrev pub At-loop : (Inv : InvT-loop) → (μ : MeasureT-loop) → Type 0
+At-loop = λ Inv μ. Lts.At-loop (Reads'3.Asked, Reads'3.Learnt, Reads.Asked, Reads.Learnt, Reads''.Asked, Reads''.Learnt) Reads'.Pre Reads'.Post Inv μ
+
+abbrev pub After-struct-known : (Inv : InvT-loop) → (μ : MeasureT-loop) → Type 0
+After-struct-known = λ Inv μ. Lts.After-struct-known (Reads'3.Asked, Reads'3.Learnt, Reads.Asked, Reads.Learnt, Reads''.Asked, Reads''.Learnt) Reads'.Pre Reads'.Post Inv μ
+
+abbrev pub Then1 : (Inv : InvT-loop) → (μ : MeasureT-loop) → Type 0
+Then1 = λ Inv μ. Lts.Then1 (Reads'3.Asked, Reads'3.Learnt, Reads.Asked, Reads.Learnt, Reads''.Asked, Reads''.Learnt) Reads'.Pre Reads'.Post Inv μ
+
+abbrev pub Else1 : (Inv : InvT-loop) → (μ : MeasureT-loop) → Type 0
+Else1 = λ Inv μ. Lts.Else1 (Reads'3.Asked, Reads'3.Learnt, Reads.Asked, Reads.Learnt, Reads''.Asked, Reads''.Learnt) Reads'.Pre Reads'.Post Inv μ
+
+abbrev pub After-span-at : (Inv : InvT-loop) → (μ : MeasureT-loop) → Type 0
+After-span-at = λ Inv μ. Lts.After-span-at (Reads'3.Asked, Reads'3.Learnt, Reads.Asked, Reads.Learnt, Reads''.Asked, Reads''.Learnt) Reads'.Pre Reads'.Post Inv μ
+
+abbrev pub After-put-arg : (Inv : InvT-loop) → (μ : MeasureT-loop) → Type 0
+After-put-arg = λ Inv μ. Lts.After-put-arg (Reads'3.Asked, Reads'3.Learnt, Reads.Asked, Reads.Learnt, Reads''.Asked, Reads''.Learnt) Reads'.Pre Reads'.Post Inv μ
+
+abbrev pub After-start-flag : (Inv : InvT-loop) → (μ : MeasureT-loop) → Type 0
+After-start-flag = λ Inv μ. Lts.After-start-flag (Reads'3.Asked, Reads'3.Learnt, Reads.Asked, Reads.Learnt, Reads''.Asked, Reads''.Learnt) Reads'.Pre Reads'.Post Inv μ
+
+abbrev pub After-put : (Inv : InvT-loop) → (μ : MeasureT-loop) → Type 0
+After-put = λ Inv μ. Lts.After-put (Reads'3.Asked, Reads'3.Learnt, Reads.Asked, Reads.Learnt, Reads''.Asked, Reads''.Learnt) Reads'.Pre Reads'.Post Inv μ
+
+abbrev pub After-scratch : (Inv : InvT-loop) → (μ : MeasureT-loop) → Type 0
+After-scratch = λ Inv μ. Lts.After-scratch (Reads'3.Asked, Reads'3.Learnt, Reads.Asked, Reads.Learnt, Reads''.Asked, Reads''.Learnt) Reads'.Pre Reads'.Post Inv μ
+
+abbrev pub After-slice-known2 : (Inv : InvT-loop) → (μ : MeasureT-loop) → Type 0
+After-slice-known2 = λ Inv μ. Lts.After-slice-known2 (Reads'3.Asked, Reads'3.Learnt, Reads.Asked, Reads.Learnt, Reads''.Asked, Reads''.Learnt) Reads'.Pre Reads'.Post Inv μ
+
+abbrev pub Need-loop-holds : (Inv : InvT-loop) → (μ : MeasureT-loop) → Type 0
+Need-loop-holds = λ Inv μ. Lts.Need-loop-holds (Reads'3.Asked, Reads'3.Learnt, Reads.Asked, Reads.Learnt, Reads''.Asked, Reads''.Learnt) Reads'.Pre Reads'.Post Inv μ
+
+abbrev pub Need-span-at-requires : (Inv : InvT-loop) → (μ : MeasureT-loop) → Type 0
+Need-span-at-requires = λ Inv μ. Lts.Need-span-at-requires (Reads'3.Asked, Reads'3.Learnt, Reads.Asked, Reads.Learnt, Reads''.Asked, Reads''.Learnt) Reads'.Pre Reads'.Post Inv μ
+
+abbrev pub Need-start-flag-requires : (Inv : InvT-loop) → (μ : MeasureT-loop) → Type 0
+Need-start-flag-requires = λ Inv μ. Lts.Need-start-flag-requires (Reads'3.Asked, Reads'3.Learnt, Reads.Asked, Reads.Learnt, Reads''.Asked, Reads''.Learnt) Reads'.Pre Reads'.Post Inv μ
+
+abbrev pub Need-put-requires : (Inv : InvT-loop) → (μ : MeasureT-loop) → Type 0
+Need-put-requires = λ Inv μ. Lts.Need-put-requires (Reads'3.Asked, Reads'3.Learnt, Reads.Asked, Reads.Learnt, Reads''.Asked, Reads''.Learnt) Reads'.Pre Reads'.Post Inv μ
+
+abbrev pub Need-add-s : (Inv : InvT-loop) → (μ : MeasureT-loop) → Type 0
+Need-add-s = λ Inv μ. Lts.Need-add-s (Reads'3.Asked, Reads'3.Learnt, Reads.Asked, Reads.Learnt, Reads''.Asked, Reads''.Learnt) Reads'.Pre Reads'.Post Inv μ
+
+abbrev pub Need-loop-less : (Inv : InvT-loop) → (μ : MeasureT-loop) → Type 0
+Need-loop-less = λ Inv μ. Lts.Need-loop-less (Reads'3.Asked, Reads'3.Learnt, Reads.Asked, Reads.Learnt, Reads''.Asked, Reads''.Learnt) Reads'.Pre Reads'.Post Inv μ
+
+abbrev pub Need-loop-again : (Inv : InvT-loop) → (μ : MeasureT-loop) → Type 0
+Need-loop-again = λ Inv μ. Lts.Need-loop-again (Reads'3.Asked, Reads'3.Learnt, Reads.Asked, Reads.Learnt, Reads''.Asked, Reads''.Learnt) Reads'.Pre Reads'.Post Inv μ
+
+abbrev pub Need-same-length : (Inv : InvT-loop) → (μ : MeasureT-loop) → Type 0
+Need-same-length = λ Inv μ. Lts.Need-same-length (Reads'3.Asked, Reads'3.Learnt, Reads.Asked, Reads.Learnt, Reads''.Asked, Reads''.Learnt) Reads'.Pre Reads'.Post Inv μ
+
+abbrev pub Need-returns : (Inv : InvT-loop) → (μ : MeasureT-loop) → Type 0
+Need-returns = λ Inv μ. Lts.Need-returns (Reads'3.Asked, Reads'3.Learnt, Reads.Asked, Reads.Learnt, Reads''.Asked, Reads''.Learnt) Reads'.Pre Reads'.Post Inv μ
+
+module _ {M : Type 1} where
+  pub spec : (Inv : InvT-loop) → (μ : MeasureT-loop) → (answer : Need-loop-holds Inv μ) → (answer : Need-span-at-requires Inv μ) → (answer : Need-start-flag-requires Inv μ) → (answer : Need-put-requires Inv μ) → (answer : Need-add-s Inv μ) → (answer : Need-loop-less Inv μ) → (answer : Need-loop-again Inv μ) → (answer : Need-same-length Inv μ) → (answer : Need-returns Inv μ) → Lts.Closed (Reads'3.Asked, Reads'3.Learnt, Reads.Asked, Reads.Learnt, Reads''.Asked, Reads''.Learnt) Reads'.Pre Reads'.Post M
+  spec = λ Inv μ answer answer' answer'' answer'3 answer'4 answer'5 answer'6 answer'7 answer'8. Lts.spec (Reads'3.Asked, Reads'3.Learnt, Reads.Asked, Reads.Learnt, Reads''.Asked, Reads''.Learnt) Reads'.Pre Reads'.Post Inv μ answer answer' answer'' answer'3 answer'4 answer'5 answer'6 answer'7 answer'8
+
+  pub close : Lts.Closed (Reads'3.Asked, Reads'3.Learnt, Reads.Asked, Reads.Learnt, Reads''.Asked, Reads''.Learnt) Reads'.Pre Reads'.Post M → Statement.statement M
+  unfolding Code.routine Running.tablesOf
+  close = λ closed 𝓤 H 𝓜 𝓖 𝓡. Written.close 2 Reads'.ps Reads'.r Reads'.Ghost Reads'.requires Reads'.ensures Reads'.pre-read Reads'.Pinned Reads'.Owned Reads'.post-read record { M = M; 𝓤 = 𝓤; H = H; 𝓜 = 𝓜; 𝓖 = 𝓖; 𝓡 = 𝓡 } Code.env Key.name Code.function (Code.unfolded 𝓤 H 𝓜 𝓡) (λ κs a g. tt) (λ κs. Reads'.owns κs record { M = M; 𝓤 = 𝓤; H = H; 𝓜 = 𝓜; 𝓖 = 𝓖; 𝓡 = 𝓡 }) (Reads'.passes record { M = M; 𝓤 = 𝓤; H = H; 𝓜 = 𝓜; 𝓖 = 𝓖; 𝓡 = 𝓡 }) λ g. closed 𝓤 H (𝓖 .A) (Running.givenOf 𝓤 H 𝓜 𝓖) (Run.Over 𝓤 H 𝓜 𝓖 𝓡 Code.env) (Reads'3.known record { M = M; 𝓤 = 𝓤; H = H; 𝓜 = 𝓜; 𝓖 = 𝓖; 𝓡 = 𝓡 } Code.env Symbol''.name Symbol''.routine Code.calls-tables·internal·span-at (Met''.met 𝓤 H 𝓜 𝓖 𝓡)) (Reads.known record { M = M; 𝓤 = 𝓤; H = H; 𝓜 = 𝓜; 𝓖 = 𝓖; 𝓡 = 𝓡 } Code.env Symbol.name Symbol.routine Code.calls-search·marks·start-flag (Met.met 𝓤 H 𝓜 𝓖 𝓡)) (Reads''.known record { M = M; 𝓤 = 𝓤; H = H; 𝓜 = 𝓜; 𝓖 = 𝓖; 𝓡 = 𝓡 } Code.env Symbol'.name Symbol'.routine Code.calls-tables·internal·put (Met'.met 𝓤 H 𝓜 𝓖 𝓡))
