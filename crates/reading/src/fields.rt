@@ -6,7 +6,7 @@ ghost use lib.Dec.{eqb, ltb};
 ghost use lib.ListN.{length, drop};
 ghost use Rattle.laws.specs.Entry.{FFFF};
 ghost use Rattle.model.specs.Refusal.{answer};
-ghost use Rattle.model.specs.File.{maxCommands, busy, field, head, state, entries, rising, command};
+ghost use Rattle.model.specs.File.{maxCommands, notIdle, field, head, state, entries, rising, command};
 ghost use Rattle.reading.specs.Meaning.{Within, Walks, rest, afterField, afterHead, afterState, afterCommand};
 use crate::bytes::Mark;
 use crate::bytes::byte;
@@ -67,8 +67,8 @@ fn practice_fits(count: usize, practice: usize) -> bool
 }
 
 // No commands under kind 1 or 2, and a practice that fits.
-fn busy(kind: u8, count: usize, practice: usize) -> bool
-    ensures { λ r. ⌜ r ≡ busy kind count practice ⌝ }
+fn not_idle(kind: u8, count: usize, practice: usize) -> bool
+    ensures { λ r. ⌜ r ≡ notIdle kind count practice ⌝ }
 {
     if kind == 0 {
         return practice_fits(count, practice);
@@ -92,7 +92,7 @@ pub fn read_state(file: &[u8], k: Mark) -> Passed
     if 2 < kind {
         return Passed::Refused(Refusal::Beyond);
     }
-    if !busy(kind, count, number(file, k.at, 6)) {
+    if !not_idle(kind, count, number(file, k.at, 6)) {
         return Passed::Refused(Refusal::Idle);
     }
     if Size::COMMANDS - k.m < count {

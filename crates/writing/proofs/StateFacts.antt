@@ -12,7 +12,7 @@ use borrow.Author.Tests.{eqb-true, ltb-true}
 use Rattle.laws.specs.Entry.{FFFF, two}
 use Rattle.laws.proofs.Tests.{and-both, or-cases}
 use Rattle.laws.proofs.Lists.{length-tabulate}
-use Rattle.model.specs.File.{stateTag, busy}
+use Rattle.model.specs.File.{stateTag, notIdle}
 use Rattle.model.specs.Bytes.{commandsBytes, statesBytes}
 use Rattle.model.specs.SoundTest.{sound}
 use Rattle.model.specs.Tables.{Tables}
@@ -26,7 +26,7 @@ use Rattle.writing.specs.Wrote.{Wrote}
 use Rattle.writing.specs.Linked.{Linked, commandsFrom}
 use Rattle.writing.proofs.Stores.{wrote-then, wrote-length}
 
-policy-small : (kind count policy : ℕ) → busy kind count policy ≡ true → count ≤ 4096 → policy < 65536
+policy-small : (kind count policy : ℕ) → notIdle kind count policy ≡ true → count ≤ 4096 → policy < 65536
 policy-small kind count policy e h =
     ⊎-elim (λ t. omega (arith, eqb-true policy FFFF t)) (λ t. omega (arith, ltb-true policy count t))
     (or-cases (eqb policy FFFF) (ltb policy count) (and-both (eqb kind 0 || eqb count 0) _ e .1))
@@ -74,7 +74,7 @@ module _ (z : Size) (rows firsts outcomes : List ℕ) (s : ℕ) where
             rw q (omega (arith, row .kinds)),
             rw (q, add-one s) (row .rises),
             omega arith,
-            rw q (policy-small (rowAt T s .kind) (commandCount T s) (rowAt T s .policy) (row .busies) (omega (arith, row .below))),
+            rw q (policy-small (rowAt T s .kind) (commandCount T s) (rowAt T s .policy) (row .not-idle) (omega (arith, row .below))),
           )
 
       pub commands-ready : {before after : List ℕ} {place next : ℕ} → place + length (statesBytes (stateAt T s ∷ []) []) ≤ length before

@@ -1,6 +1,6 @@
 -- A walk of the MIR, by hand. The walker that `walker_at` returns is held in a local and passed to `next`; of both only the contracts are known.
 -- The machine value is passed on as it is. In a local of a body MIR erases the lifetime of the struct's type, so the value is shown to have the type at `erased`: what the struct owns does not say the lifetime's name.
-use mathlib.Core.Path.{_≡_, refl, ap, _∙_}
+use mathlib.Core.Path.{_≡_, refl}
 use Prim.Native.Nat.{ℕ, _<_, _≤_, _^_}
 use mathlib.Core.List.{List, [], _∷_}
 use lib.ListN.{length, drop as past}
