@@ -9,7 +9,7 @@ use borrow.Author.Tests.{leb-true, ltb-true, eqb-true, le-leb, lt-ltb, eq-eqb}
 use Rattle.laws.specs.Entry.{be16}
 use Rattle.laws.proofs.Tests.{and-both}
 use Rattle.model.specs.Refusal.{given, need, _>>=_, _>>_}
-use Rattle.model.specs.File.{maxStates, maxCommands, maxOutcomes, headTag, stateTag, commandTag, allowed, busy, field, head, state, entries, rising, command}
+use Rattle.model.specs.File.{maxStates, maxCommands, maxOutcomes, headTag, stateTag, commandTag, allowed, notIdle, field, head, state, entries, rising, command}
 use Rattle.model.proofs.Answers.{given-inj, need-inv, then-inv, bind-inv}
 
 pub record Framed (tag : ℕ) (s : List ℕ) (len : ℕ) : Type 0 where
@@ -73,7 +73,7 @@ pub record Stated (m : ℕ) (s : List ℕ) (kind count policy : ℕ) : Type 0 wh
   pub counts : be16 s 4 ≡ count
   pub advises : be16 s 6 ≡ policy
   pub low : kind ≤ 2
-  pub works : busy kind count policy ≡ true
+  pub works : notIdle kind count policy ≡ true
   pub few : m + count ≤ maxCommands
 
 module _ (m : ℕ) (s : List ℕ) (kind count policy : ℕ) where
@@ -82,7 +82,7 @@ module _ (m : ℕ) (s : List ℕ) (kind count policy : ℕ) where
   state-inv e =
       let (len, f, e₁) = bind-inv (field stateTag s) _ e in
       let (kind-test, e₂) = need-inv _ _ _ e₁ in
-      let (busy-test, e₃) = need-inv _ _ _ e₂ in
+      let (not-idle, e₃) = need-inv _ _ _ e₂ in
       let (few-test, e₄) = need-inv _ _ _ e₃ in
       let g = field-inv stateTag s len f in
       let five : len ≡ 5 = eqb-true _ _ (g .right) in
@@ -96,7 +96,7 @@ module _ (m : ℕ) (s : List ℕ) (kind count policy : ℕ) where
         counts = b;
         advises = c;
         low = rw (← a) (leb-true _ _ kind-test);
-        works = rw (← a, ← b, ← c) busy-test;
+        works = rw (← a, ← b, ← c) not-idle;
         few = rw (← b) (leb-true _ _ few-test);
       }
 

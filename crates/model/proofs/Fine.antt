@@ -58,10 +58,10 @@ module _ (T : Tables) (o : Ordered T) where
         let r = f .rows s h in
         record {
           low = r .kinds;
-          works = rw (count-commands T s) (r .busies);
+          works = rw (count-commands T s) (r .not-idle);
           good = all-tabulate (outcomesAt T) (firstCommand T s) (commandCount T s) (λ i l. let k : firstCommand T s + i < T .size .m = omega arith in command-fine (firstCommand T s + i) k (f .commands _ k) (f .outcomes));
         }
 
     pub fine-row : GoodState (T .size .n) (stateAt T s) → RowFits T s
     unfolding stateAt
-    fine-row g = record { rises = o .commands .step s h; below = o .commands .below s h; kinds = g .low; busies = rw (count-commands T s) at (g .works) }
+    fine-row g = record { rises = o .commands .step s h; below = o .commands .below s h; kinds = g .low; not-idle = rw (count-commands T s) at (g .works) }

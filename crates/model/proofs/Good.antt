@@ -15,7 +15,7 @@ use Rattle.laws.proofs.All.{All, none, more, all-at, all-append}
 use Rattle.laws.proofs.Joins.{length-joined}
 use Rattle.laws.proofs.Entry.{bytes-nil, bytes-cons, bytes-two, bytes-twos}
 use Rattle.model.specs.Refusal.{given}
-use Rattle.model.specs.File.{maxStates, maxCommands, maxOutcomes, State, Tree, busy, rising, read}
+use Rattle.model.specs.File.{maxStates, maxCommands, maxOutcomes, State, Tree, notIdle, rising, read}
 use Rattle.model.specs.Bytes.{commandsBytes, statesBytes, bytesOf}
 use Rattle.model.specs.Tables.{allCommands}
 use Rattle.model.specs.Held.{stateOf}
@@ -28,7 +28,7 @@ pub record GoodCommand (n : ℕ) (c : List ℕ) : Type 0 where
 
 pub record GoodState (n : ℕ) (s : State) : Type 0 where
   pub low : s .kind ≤ 2
-  pub works : busy (s .kind) (length (s .commands)) (s .policy) ≡ true
+  pub works : notIdle (s .kind) (length (s .commands)) (s .policy) ≡ true
   pub good : All (GoodCommand n) (s .commands)
 
 pub record Good (p : Tree) : Type 0 where
@@ -98,7 +98,7 @@ bytes-commands {n} h (more {x = c} {xs = cs} g gs) l b =
     (bytes-twos (omega arith) (rising-below n 0 c (g .rise)) (bytes-commands h gs (omega arith) b)))
 
 -- a policy fits two bytes
-policy-fits : (kind count policy : ℕ) → count ≤ maxCommands → busy kind count policy ≡ true → policy < 65536
+policy-fits : (kind count policy : ℕ) → count ≤ maxCommands → notIdle kind count policy ≡ true → policy < 65536
 policy-fits kind count policy h e =
     elim (or-cases (eqb policy FFFF) (ltb policy count) (and-both (eqb kind 0 || eqb count 0) _ e .1))
     [ inl a ↦ omega (arith, eqb-true policy FFFF a) | inr a ↦ omega (arith, ltb-true policy count a) ]

@@ -14,7 +14,7 @@ use Rattle.laws.proofs.All.{All, none, more}
 use Rattle.laws.proofs.Entry.{be16-two, length-twos, drop-twos}
 use Rattle.laws.proofs.Joins.{length-joined}
 use Rattle.model.specs.Refusal.{given, need, _>>=_, _>>_}
-use Rattle.model.specs.File.{maxStates, maxCommands, maxOutcomes, State, Tree, headTag, stateTag, commandTag, endTag, allowed, busy, head, state, entries, command, commands, states, read}
+use Rattle.model.specs.File.{maxStates, maxCommands, maxOutcomes, State, Tree, headTag, stateTag, commandTag, endTag, allowed, notIdle, head, state, entries, command, commands, states, read}
 use Rattle.model.specs.Bytes.{commandsBytes, statesBytes, bytesOf}
 use Rattle.model.specs.Tables.{allCommands}
 use Rattle.model.proofs.Fields.{Framed, field-gives, head-gives, state-gives, command-gives}
@@ -33,7 +33,7 @@ head-forth n start r h l i = head-gives _ n start (record {
   inside = i;
 })
 
-state-forth : (m kind count policy : ℕ) (r : List ℕ) → kind ≤ 2 → busy kind count policy ≡ true → m + count ≤ maxCommands
+state-forth : (m kind count policy : ℕ) (r : List ℕ) → kind ≤ 2 → notIdle kind count policy ≡ true → m + count ≤ maxCommands
     → state m (stateTag ∷ two 5 (kind ∷ two count (two policy r))) ≡ given (kind, count, policy)
 state-forth m kind count policy r h b l = state-gives m _ kind count policy (record {
   framed = framed stateTag 5 (kind ∷ two count (two policy r)) refl (omega arith);

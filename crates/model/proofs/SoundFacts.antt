@@ -6,7 +6,7 @@ use Prim.Native.Nat.{ℕ, suc, _+_, _-_, _<_, _≤_}
 use native.Mathlib.Nat.{le-of-lt}
 use lib.ListN.{getD}
 use Rattle.laws.proofs.TestFacts.{every-iff, and-iff, leb-iff, eqb-iff}
-use Rattle.model.specs.File.{maxStates, maxCommands, maxOutcomes, busy}
+use Rattle.model.specs.File.{maxStates, maxCommands, maxOutcomes, notIdle}
 use Rattle.model.specs.Tables.{Size, Tables}
 use Rattle.model.specs.Places.{rowAt, firstCommand, firstOutcome, commandCount}
 use Rattle.model.specs.Sound.{Long}
@@ -24,7 +24,7 @@ pub record RowFits (T : Tables) (s : ℕ) : Type 0 where
   pub rises : firstCommand T s ≤ firstCommand T (suc s)
   pub below : firstCommand T (suc s) ≤ T .size .m
   pub kinds : rowAt T s .kind ≤ 2
-  pub busies : busy (rowAt T s .kind) (commandCount T s) (rowAt T s .policy) ≡ true
+  pub not-idle : notIdle (rowAt T s .kind) (commandCount T s) (rowAt T s .policy) ≡ true
 
 pub record CommandFits (T : Tables) (c : ℕ) : Type 0 where
   pub rises : firstOutcome T c < firstOutcome T (suc c)
@@ -64,8 +64,8 @@ unfolding rowSound
 row-iff T s = (
   λ e.
       let h = simp (and-iff, leb-iff) at e in
-      record { rises = h .0 .0 .0; below = h .0 .0 .1; kinds = h .0 .1; busies = simp and-iff (h .1) },
-  λ f. simp (and-iff, leb-iff) (((f .rises, f .below), f .kinds), simp and-iff at (f .busies)),
+      record { rises = h .0 .0 .0; below = h .0 .0 .1; kinds = h .0 .1; not-idle = simp and-iff (h .1) },
+  λ f. simp (and-iff, leb-iff) (((f .rises, f .below), f .kinds), simp and-iff at (f .not-idle)),
 )
 
 command-iff : (T : Tables) (c : ℕ) → (commandSound T c ≡ true) ↔ CommandFits T c

@@ -66,16 +66,16 @@ head s = do
   need Beyond (ltb (be16 s 5) (be16 s 3))
   given (be16 s 3, be16 s 5)
 
--- not idle: no "commands under kind 1 or 2", and no "practice neither FFFF nor below the count"
-abbrev pub busy : ℕ → ℕ → ℕ → Bool
-busy kind count policy = (eqb kind 0 || eqb count 0) && (eqb policy FFFF || ltb policy count)
+-- no "commands under kind 1 or 2", and no "practice neither FFFF nor below the count"
+abbrev pub notIdle : ℕ → ℕ → ℕ → Bool
+notIdle kind count policy = (eqb kind 0 || eqb count 0) && (eqb policy FFFF || ltb policy count)
 
 -- "State: kind (5), 7, commands (8)", with m commands so far: kind, command count and practice
 unfoldable pub state : ℕ → List ℕ → Answer (ℕ × ℕ × ℕ)
 state m s = do
   _ ← field stateTag s
   need Beyond (leb (getD s 3 0) 2)
-  need Idle (busy (getD s 3 0) (be16 s 4) (be16 s 6))
+  need Idle (notIdle (getD s 3 0) (be16 s 4) (be16 s 6))
   need Limit (leb (m + be16 s 4) maxCommands)
   given (getD s 3 0, be16 s 4, be16 s 6)
 

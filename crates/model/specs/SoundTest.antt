@@ -5,7 +5,7 @@ use Prim.Native.Nat.{ℕ, suc, _+_, _-_}
 use lib.Dec.{leb, ltb, eqb}
 use lib.ListN.{length, getD}
 use Rattle.laws.specs.Sets.{every}
-use Rattle.model.specs.File.{maxStates, maxCommands, maxOutcomes, busy}
+use Rattle.model.specs.File.{maxStates, maxCommands, maxOutcomes, notIdle}
 use Rattle.model.specs.Tables.{Size, Tables}
 use Rattle.model.specs.Places.{rowAt, firstCommand, firstOutcome, commandCount}
 
@@ -18,7 +18,7 @@ tablesLong T = leb (T .size .n) (length (T .rows)) && leb (T .size .m) (length (
 unfoldable pub rowSound : Tables → ℕ → Bool
 rowSound T s =
     leb (firstCommand T s) (firstCommand T (suc s)) && leb (firstCommand T (suc s)) (T .size .m)
-    && leb (rowAt T s .kind) 2 && busy (rowAt T s .kind) (commandCount T s) (rowAt T s .policy)
+    && leb (rowAt T s .kind) 2 && notIdle (rowAt T s .kind) (commandCount T s) (rowAt T s .policy)
 
 -- the outcome at place j is below the next one
 unfoldable pub risesAt : Tables → ℕ → Bool

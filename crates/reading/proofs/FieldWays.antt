@@ -11,45 +11,57 @@ use borrow.Author.Tests.{le-ltb, lt-ltb, le-leb, lt-leb, eq-eqb, ne-eqb, eqb-tru
 use Rattle.laws.specs.Entry.{be16}
 use Rattle.laws.proofs.Tests.{and-both}
 use Rattle.model.specs.Refusal.{Answer, Cut, Tag, Length, Beyond, Unsorted, Idle, Limit, given, refused, answer, need, _>>=_, _>>_}
-use Rattle.model.specs.File.{maxStates, maxCommands, maxOutcomes, headTag, stateTag, commandTag, allowed, busy, field, head, state, entries, rising, command}
+use Rattle.model.specs.File.{maxStates, maxCommands, maxOutcomes, headTag, stateTag, commandTag, allowed, notIdle, field, head, state, entries, rising, command}
+use Rattle.tables.specs.declared.Refusal.{Refusal}
 use Rattle.model.proofs.Fields.{field-inv, length-entries}
 use Rattle.reading.specs.declared.bytes.Mark.{Mark}
 use Rattle.reading.specs.declared.fields.Passed.{Passed}
-use Rattle.reading.specs.Meaning.{moved, rest, Within, Walks, afterField, afterCommand}
-use Rattle.reading.proofs.Passing.{answer-inv}
+use Rattle.reading.specs.declared.frame.FieldAnswer.{FieldAnswer}
+use Rattle.reading.specs.Meaning.{lengthOf, moved, rest, Within, Walks, afterField, afterCommand}
+use Rattle.reading.proofs.Passing.{answer-inv, refuses}
 
-module _ {B : Type 0} (tag : ℕ) (s : List ℕ) (g : ℕ → B) where
-  pub field-cut : length s < 3 → refused Cut ≡ answer g (field tag s)
-  unfolding field need _>>_ answer
+module _ (tag : ℕ) (s : List ℕ) where
+  pub field-cut : length s < 3 → refused Cut ≡ field tag s
+  unfolding field need _>>_
   field-cut a = rw (lt-leb _ _ a)
 
-  pub field-tag : 3 ≤ length s → (getD s 0 0 ≡ tag → ⊥) → refused Tag ≡ answer g (field tag s)
-  unfolding field need _>>_ answer
+  pub field-tag : 3 ≤ length s → (getD s 0 0 ≡ tag → ⊥) → refused Tag ≡ field tag s
+  unfolding field need _>>_
   field-tag a b = rw (le-leb _ _ a, ne-eqb _ _ b)
 
   module _ (a : 3 ≤ length s) (b : getD s 0 0 ≡ tag) where
-    pub field-length : allowed tag (be16 s 1) ≡ false → refused Length ≡ answer g (field tag s)
-    unfolding field need _>>_ answer
+    pub field-length : allowed tag (be16 s 1) ≡ false → refused Length ≡ field tag s
+    unfolding field need _>>_
     field-length e = rw (le-leb _ _ a, eq-eqb _ _ b, e)
 
-    pub field-short : allowed tag (be16 s 1) ≡ true → length s < 3 + be16 s 1 → refused Cut ≡ answer g (field tag s)
-    unfolding field need _>>_ answer
+    pub field-short : allowed tag (be16 s 1) ≡ true → length s < 3 + be16 s 1 → refused Cut ≡ field tag s
+    unfolding field need _>>_
     field-short e l = rw (le-leb _ _ a, eq-eqb _ _ b, e, lt-leb _ _ l)
 
-    pub field-passes : allowed tag (be16 s 1) ≡ true → 3 + be16 s 1 ≤ length s → given (g (be16 s 1)) ≡ answer g (field tag s)
-    unfolding field need _>>_ answer
-    field-passes e l = rw (le-leb _ _ a, eq-eqb _ _ b, e, le-leb _ _ l)
+    pub field-given : allowed tag (be16 s 1) ≡ true → 3 + be16 s 1 ≤ length s → given (be16 s 1) ≡ field tag s
+    unfolding field need _>>_
+    field-given e l = rw (le-leb _ _ a, eq-eqb _ _ b, e, le-leb _ _ l)
 
--- the mark past a field
-pub field-walks : {file : List ℕ} {k next : Mark} {len : ℕ} (tag : ℕ) → Within file k → 3 ≤ length (rest file k) → getD (rest file k) 0 0 ≡ tag
-    → allowed tag (be16 (rest file k) 1) ≡ true → 3 + len ≤ length (rest file k) → len ≡ be16 (rest file k) 1 → next ≡ moved k (3 + len)
-    → Walks file (Passed.To next) (answer (afterField file k) (field tag (rest file k)))
-field-walks {file} {k} {len} tag w a b e l d q =
-    let inside : k .at + (3 + len) ≤ length file = omega (arith, length-drop (k .at) file, w .inside) in
-    rw (q, d) (record {
-      answers = rw (← (drop-drop (3 + be16 (rest file k) 1) (k .at) file)) (field-passes tag (rest file k) (afterField file k) a b e (rw (← d) l));
-      stays = record { inside = rw (← d) inside; few-commands = w .few-commands; few-outcomes = w .few-outcomes };
-    })
+-- the field at a mark, by what the walker answers
+module _ (file : List ℕ) (k : Mark) (tag : ℕ) {x : FieldAnswer} (e : lengthOf x ≡ field tag (rest file k)) where
+  pub field-stops : {r : Refusal} → x ≡ FieldAnswer.Refused r → Walks file (Passed.Refused r) (answer (afterField file k) (field tag (rest file k)))
+  unfolding answer
+  field-stops {r} told = refuses r (rw (← e, told))
+
+  module _ {len : ℕ} (told : x ≡ FieldAnswer.Given len) where
+    field-is : field tag (rest file k) ≡ given len
+    field-is = sym e ∙ ap lengthOf told
+
+    pub field-room : 3 + len ≤ length (rest file k)
+    field-room = field-inv tag (rest file k) len field-is .fits
+
+    pub field-walks : {next : Mark} → Within file k → next ≡ moved k (3 + len) → Walks file (Passed.To next) (answer (afterField file k) (field tag (rest file k)))
+    unfolding answer
+    field-walks w q =
+        rw (q, field-is) (record {
+          answers = ap (λ (z : List ℕ). given (k .m, k .t, z)) (sym (drop-drop (3 + len) (k .at) file));
+          stays = record { inside = omega (arith, length-drop (k .at) file, w .inside, field-room); few-commands = w .few-commands; few-outcomes = w .few-outcomes };
+        })
 
 -- a field of fixed length that was passed
 pub fixed-inv : {B : Type 0} {y : B} (tag len : ℕ) (s : List ℕ) (g : ℕ → B) → ((l : ℕ) → allowed tag l ≡ true → l ≡ len)
@@ -98,15 +110,15 @@ module _ {B : Type 0} {y : B} (m : ℕ) (s : List ℕ) (g : ℕ → B) (e : answ
     state-kind a = rw (stated .0, lt-leb _ _ a)
 
     module _ (a : getD s 3 0 ≤ 2) where
-      pub state-idle : busy (getD s 3 0) (be16 s 4) (be16 s 6) ≡ false → refused Idle ≡ answer h (state m s)
+      pub state-idle : notIdle (getD s 3 0) (be16 s 4) (be16 s 6) ≡ false → refused Idle ≡ answer h (state m s)
       unfolding state need _>>_ _>>=_ answer
       state-idle b = rw (stated .0, le-leb _ _ a, b)
 
-      pub state-limit : busy (getD s 3 0) (be16 s 4) (be16 s 6) ≡ true → maxCommands < m + be16 s 4 → refused Limit ≡ answer h (state m s)
+      pub state-limit : notIdle (getD s 3 0) (be16 s 4) (be16 s 6) ≡ true → maxCommands < m + be16 s 4 → refused Limit ≡ answer h (state m s)
       unfolding state need _>>_ _>>=_ answer
       state-limit b l = rw (stated .0, le-leb _ _ a, b, lt-leb _ _ l)
 
-  pub state-passes : getD s 3 0 ≤ 2 → busy (getD s 3 0) (be16 s 4) (be16 s 6) ≡ true → m + be16 s 4 ≤ maxCommands
+  pub state-passes : getD s 3 0 ≤ 2 → notIdle (getD s 3 0) (be16 s 4) (be16 s 6) ≡ true → m + be16 s 4 ≤ maxCommands
       → given y ≡ answer (λ x. g 5) (state m s)
   unfolding state need _>>_ _>>=_ answer
   state-passes a b l = rw (stated .0, le-leb _ _ a, b, le-leb _ _ l) (ap given (stated .2))

@@ -12,6 +12,7 @@ use Rattle.tables.specs.Meaning.{refusalOf, numbers}
 use Rattle.reading.specs.declared.ReadAnswer.{ReadAnswer}
 use Rattle.reading.specs.declared.bytes.Mark.{Mark}
 use Rattle.reading.specs.declared.fields.Passed.{Passed}
+use Rattle.reading.specs.declared.frame.FieldAnswer.{FieldAnswer}
 
 abbrev pub answerOf : ReadAnswer → Answer Numbers
 answerOf (ReadAnswer.Given z) = given (numbers z)
@@ -20,6 +21,11 @@ answerOf (ReadAnswer.Refused r) = refused (refusalOf r)
 -- a file read into these tables; a row is three entries
 abbrev pub readInto : List ℕ → List ℕ → List ℕ → List ℕ → Answer Tables
 readInto rows firsts outcomes file = reading (length rows / 3) (length firsts) (length outcomes) file
+
+-- a field's length
+abbrev pub lengthOf : FieldAnswer → Answer ℕ
+lengthOf (FieldAnswer.Given len) = given len
+lengthOf (FieldAnswer.Refused r) = refused (refusalOf r)
 
 abbrev pub moved : Mark → ℕ → Mark
 moved k bytes = record { at = k .at + bytes; m = k .m; t = k .t }

@@ -6,73 +6,34 @@ ghost use lib.Dec.{eqb, ltb};
 ghost use lib.ListN.{length, drop};
 ghost use Rattle.laws.specs.Entry.{FFFF};
 ghost use Rattle.model.specs.Refusal.{answer};
-ghost use Rattle.model.specs.File.{maxCommands, fixedLength, allowed, busy, field, head, state, entries, rising, command};
+ghost use Rattle.model.specs.File.{maxCommands, notIdle, field, head, state, entries, rising, command};
 ghost use Rattle.reading.specs.Meaning.{Within, Walks, rest, afterField, afterHead, afterState, afterCommand};
 use crate::bytes::Mark;
 use crate::bytes::byte;
-use crate::bytes::left;
 use crate::bytes::moved;
 use crate::bytes::number;
+use crate::frame::COMMAND;
+use crate::frame::FieldAnswer;
+use crate::frame::HEAD;
+use crate::frame::STATE;
+use crate::walker::field_at;
 use tables::Refusal;
 use tables::Size;
-
-const HEAD: u8 = 1;
-
-const STATE: u8 = 2;
-
-const COMMAND: u8 = 3;
-
-pub const END: u8 = 4;
 
 pub enum Passed {
     To(Mark),
     Refused(Refusal),
 }
 
-fn fixed_length(tag: u8) -> usize
-    ensures { λ r. ⌜ r ≡ fixedLength tag ⌝ }
-{
-    if tag == HEAD {
-        return 4;
-    }
-    if tag == STATE {
-        return 5;
-    }
-    0
-}
-
-fn allowed(tag: u8, len: usize) -> bool
-    ensures { λ r. ⌜ r ≡ allowed tag len ⌝ }
-{
-    if tag == COMMAND {
-        if len % 2 == 0 {
-            return 2 <= len;
-        }
-        return false;
-    }
-    len == fixed_length(tag)
-}
-
-// A field with the tag that is due.
+// The field at a mark, with the tag that is due: the mark past it.
 pub fn field(file: &[u8], k: Mark, due: u8) -> Passed
     requires { ⌜ Within (now file) k ⌝ }
     ensures { λ r. ⌜ Walks (now (file .entry)) r (answer (afterField (now (file .entry)) k) (field due (rest (now (file .entry)) k))) ⌝ }
 {
-    let left = left(file, k.at);
-    if left < 3 {
-        return Passed::Refused(Refusal::Cut);
+    match field_at(file, k.at, due) {
+        FieldAnswer::Given(len) => Passed::To(moved(k, 3 + len)),
+        FieldAnswer::Refused(r) => Passed::Refused(r),
     }
-    if byte(file, k.at, 0) != due {
-        return Passed::Refused(Refusal::Tag);
-    }
-    let len = number(file, k.at, 1);
-    if !allowed(due, len) {
-        return Passed::Refused(Refusal::Length);
-    }
-    if left - 3 < len {
-        return Passed::Refused(Refusal::Cut);
-    }
-    Passed::To(moved(k, 3 + len))
 }
 
 pub fn read_head(file: &[u8]) -> Passed
@@ -106,8 +67,8 @@ fn practice_fits(count: usize, practice: usize) -> bool
 }
 
 // No commands under kind 1 or 2, and a practice that fits.
-fn busy(kind: u8, count: usize, practice: usize) -> bool
-    ensures { λ r. ⌜ r ≡ busy kind count practice ⌝ }
+fn not_idle(kind: u8, count: usize, practice: usize) -> bool
+    ensures { λ r. ⌜ r ≡ notIdle kind count practice ⌝ }
 {
     if kind == 0 {
         return practice_fits(count, practice);
@@ -131,7 +92,7 @@ pub fn read_state(file: &[u8], k: Mark) -> Passed
     if 2 < kind {
         return Passed::Refused(Refusal::Beyond);
     }
-    if !busy(kind, count, number(file, k.at, 6)) {
+    if !not_idle(kind, count, number(file, k.at, 6)) {
         return Passed::Refused(Refusal::Idle);
     }
     if Size::COMMANDS - k.m < count {

@@ -10,7 +10,9 @@ use tables::Size;
 mod bytes;
 mod fields;
 mod fill;
+mod frame;
 mod scan;
+mod walker;
 
 // The size record of the plan that was read, or why there is none.
 pub enum ReadAnswer {

@@ -7,7 +7,7 @@ use Rattle.laws.specs.Entry.{FFFF}
 use Rattle.laws.specs.Sets.{every}
 use Rattle.model.specs.Refusal.{Refusal as Word, Answer, given, refused}
 use Rattle.model.specs.Tables.{Size as Numbers, Row as Line, Tables}
-use Rattle.model.specs.File.{busy}
+use Rattle.model.specs.File.{notIdle}
 use Rattle.model.specs.Places.{rowAt, firstCommand, firstOutcome}
 use Rattle.model.specs.SoundTest.{rowSound, commandSound, outcomeSound}
 use Rattle.tables.specs.declared.Size.{Size}
@@ -70,7 +70,7 @@ spanAt T s = record { kind = rowAt T s .kind; first = firstCommand T s; end = fi
 
 -- a state's row is sound, m being the number of commands
 unfoldable pub spanSound : Span → ℕ → Bool
-spanSound q m = leb (q .first) (q .end) && leb (q .end) m && leb (q .kind) 2 && busy (q .kind) (q .end - q .first) (q .practice)
+spanSound q m = leb (q .first) (q .end) && leb (q .end) m && leb (q .kind) 2 && notIdle (q .kind) (q .end - q .first) (q .practice)
 
 -- the first command, a number that was read, and the first outcome stand at place 0
 unfoldable pub startsSound : ℕ → Tables → Bool

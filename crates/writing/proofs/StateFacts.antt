@@ -12,7 +12,7 @@ use borrow.Author.Tests.{eqb-true, ltb-true}
 use Rattle.laws.specs.Entry.{FFFF}
 use Rattle.laws.proofs.Tests.{and-both, or-cases}
 use Rattle.laws.proofs.Lists.{length-tabulate}
-use Rattle.model.specs.File.{busy}
+use Rattle.model.specs.File.{notIdle}
 use Rattle.model.specs.Bytes.{commandsBytes, statesBytes}
 use Rattle.model.specs.SoundTest.{sound}
 use Rattle.model.specs.Tables.{Tables}
@@ -28,7 +28,7 @@ use Rattle.writing.specs.Wrote.{Wrote}
 use Rattle.writing.specs.Linked.{Linked, commandsFrom, rowBytes, spanBytes, FitsBytes}
 use Rattle.writing.proofs.Stores.{wrote-length}
 
-policy-small : (kind count policy : ℕ) → busy kind count policy ≡ true → count ≤ 4096 → policy < 65536
+policy-small : (kind count policy : ℕ) → notIdle kind count policy ≡ true → count ≤ 4096 → policy < 65536
 policy-small kind count policy e h =
     ⊎-elim (λ t. omega (arith, eqb-true policy FFFF t)) (λ t. omega (arith, ltb-true policy count t))
     (or-cases (eqb policy FFFF) (ltb policy count) (and-both (eqb kind 0 || eqb count 0) _ e .1))
@@ -66,7 +66,7 @@ module _ (z : Size) (rows : List Row) (firsts outcomes : List ℕ) (s : ℕ) whe
               rw (q, add-one s) (row .rises),
               rw (q, add-one s) (row .below),
               omega arith,
-              rw q (policy-small (rowAt T s .kind) (commandCount T s) (rowAt T s .policy) (row .busies) (omega (arith, row .below))),
+              rw q (policy-small (rowAt T s .kind) (commandCount T s) (rowAt T s .policy) (row .not-idle) (omega (arith, row .below))),
             ),
             rw bytes at room,
           )

@@ -47,14 +47,14 @@ number-requires-2 c κs =
     let w = went (c .before .before .before .before .f .given .1) (c .before .before .before .before .before .before .field .ensures) in
     omega (arith, state-long (a .k .m) (rest (a .file .now) (a .k)) (afterField (a .file .now) (a .k)) (w .0))
 
-busy-requires : tie.Need-busy-requires
-busy-requires c κs = search needs
+not-idle-requires : tie.Need-not-idle-requires
+not-idle-requires c κs = search needs
 
 returns-3 : tie.Need-returns-3
 returns-3 c =
     let a = c .before .before .before .before .before .before .before .before .before .before .before .args in
     let w = went (c .before .before .before .before .before .before .before .f .given .1) (c .before .before .before .before .before .before .before .before .before .field .ensures) in
-    refuses Idle (state-idle (a .k .m) (rest (a .file .now) (a .k)) (afterField (a .file .now) (a .k)) (w .0) _ (omega (arith, c .before .before .before .before .before .byte .ensures, c .before .before .before .if1 .left)) (sym (rw (c .before .before .before .before .before .byte .ensures, c .before .before .before .before .number .ensures, c .before .before .number2 .ensures) at (c .before .busy .ensures)) ∙ not-true _ (c .if2 .taken)))
+    refuses Idle (state-idle (a .k .m) (rest (a .file .now) (a .k)) (afterField (a .file .now) (a .k)) (w .0) _ (omega (arith, c .before .before .before .before .before .byte .ensures, c .before .before .before .if1 .left)) (sym (rw (c .before .before .before .before .before .byte .ensures, c .before .before .before .before .number .ensures, c .before .before .number2 .ensures) at (c .before .not-idle .ensures)) ∙ not-true _ (c .if2 .taken)))
 
 sub-if3 : tie.Need-sub-if3
 sub-if3 c = search needs
@@ -63,13 +63,13 @@ returns-4 : tie.Need-returns-4
 returns-4 c =
     let a = c .before .before .before .before .before .before .before .before .before .before .before .before .before .args in
     let w = went (c .before .before .before .before .before .before .before .before .before .f .given .1) (c .before .before .before .before .before .before .before .before .before .before .before .field .ensures) in
-    refuses Limit (state-limit (a .k .m) (rest (a .file .now) (a .k)) (afterField (a .file .now) (a .k)) (w .0) _ (omega (arith, c .before .before .before .before .before .before .before .byte .ensures, c .before .before .before .before .before .if1 .left)) (sym (rw (c .before .before .before .before .before .before .before .byte .ensures, c .before .before .before .before .before .before .number .ensures, c .before .before .before .before .number2 .ensures) at (c .before .before .before .busy .ensures)) ∙ not-false _ (c .before .before .if2 .left)) (omega (arith, c .before .before .before .before .before .before .number .ensures, c .before .before .before .before .before .before .before .before .before .before .before .before .before .pre)))
+    refuses Limit (state-limit (a .k .m) (rest (a .file .now) (a .k)) (afterField (a .file .now) (a .k)) (w .0) _ (omega (arith, c .before .before .before .before .before .before .before .byte .ensures, c .before .before .before .before .before .if1 .left)) (sym (rw (c .before .before .before .before .before .before .before .byte .ensures, c .before .before .before .before .before .before .number .ensures, c .before .before .before .before .number2 .ensures) at (c .before .before .before .not-idle .ensures)) ∙ not-false _ (c .before .before .if2 .left)) (omega (arith, c .before .before .before .before .before .before .number .ensures, c .before .before .before .before .before .before .before .before .before .before .before .before .before .pre)))
 
 returns-5 : tie.Need-returns-5
 returns-5 c =
     let a = c .before .before .before .before .before .before .before .before .before .before .before .before .before .args in
     let w = went (c .before .before .before .before .before .before .before .before .before .f .given .1) (c .before .before .before .before .before .before .before .before .before .before .before .field .ensures) in
-    record { answers = state-passes (a .k .m) (rest (a .file .now) (a .k)) (afterField (a .file .now) (a .k)) (w .0) (omega (arith, c .before .before .before .before .before .before .before .byte .ensures, c .before .before .before .before .before .if1 .left)) (sym (rw (c .before .before .before .before .before .before .before .byte .ensures, c .before .before .before .before .before .before .number .ensures, c .before .before .before .before .number2 .ensures) at (c .before .before .before .busy .ensures)) ∙ not-false _ (c .before .before .if2 .left)) (omega (arith, c .before .before .before .before .before .before .number .ensures, c .before .before .before .before .before .before .before .before .before .before .before .before .before .pre)); stays = w .1 }
+    record { answers = state-passes (a .k .m) (rest (a .file .now) (a .k)) (afterField (a .file .now) (a .k)) (w .0) (omega (arith, c .before .before .before .before .before .before .before .byte .ensures, c .before .before .before .before .before .if1 .left)) (sym (rw (c .before .before .before .before .before .before .before .byte .ensures, c .before .before .before .before .before .before .number .ensures, c .before .before .before .before .number2 .ensures) at (c .before .before .before .not-idle .ensures)) ∙ not-false _ (c .before .before .if2 .left)) (omega (arith, c .before .before .before .before .before .before .number .ensures, c .before .before .before .before .before .before .before .before .before .before .before .before .before .pre)); stays = w .1 }
 
 pub read-state-spec : {M : Type 1} → statement M
 read-state-spec =
@@ -83,7 +83,7 @@ read-state-spec =
     number-requires
     returns-2
     number-requires-2
-    busy-requires
+    not-idle-requires
     returns-3
     sub-if3
     returns-4

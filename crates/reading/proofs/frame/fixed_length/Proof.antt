@@ -1,6 +1,6 @@
 use borrow.Author.Tests.{eq-eqb, ne-eqb}
-use Rattle.reading.proofs.fields.fixed_length.Statement.{statement}
-use Rattle.reading.proofs.fields.fixed_length.Tie as tie
+use Rattle.reading.proofs.frame.fixed_length.Statement.{statement}
+use Rattle.reading.proofs.frame.fixed_length.Tie as tie
 
 returns : tie.Need-returns
 returns c = rw (eq-eqb _ _ (c .if1 .taken))

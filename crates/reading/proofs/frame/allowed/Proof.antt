@@ -1,7 +1,7 @@
 use borrow.Author.Tests.{eq-eqb, ne-eqb}
 use borrow.Author.Needs.{needs}
-use Rattle.reading.proofs.fields.allowed.Statement.{statement}
-use Rattle.reading.proofs.fields.allowed.Tie as tie
+use Rattle.reading.proofs.frame.allowed.Statement.{statement}
+use Rattle.reading.proofs.frame.allowed.Tie as tie
 
 returns : tie.Need-returns
 returns c = rw (eq-eqb _ _ (c .before .if1 .taken), eq-eqb _ _ (c .if2 .taken))

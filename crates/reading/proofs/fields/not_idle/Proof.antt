@@ -1,7 +1,7 @@
 use borrow.Author.Tests.{eq-eqb, ne-eqb}
 use borrow.Author.Needs.{needs}
-use Rattle.reading.proofs.fields.busy.Statement.{statement}
-use Rattle.reading.proofs.fields.busy.Tie as tie
+use Rattle.reading.proofs.fields.not_idle.Statement.{statement}
+use Rattle.reading.proofs.fields.not_idle.Tie as tie
 
 practice-fits-requires : tie.Need-practice-fits-requires
 practice-fits-requires c κs = search needs
@@ -18,7 +18,7 @@ returns-2 c = rw (ne-eqb _ _ (c .before .before .if1 .left), eq-eqb _ _ (c .befo
 returns-3 : tie.Need-returns-3
 returns-3 c = rw (ne-eqb _ _ (c .before .if1 .left), ne-eqb _ _ (c .if2 .left))
 
-pub busy-spec : {M : Type 1} → statement M
-busy-spec =
+pub not-idle-spec : {M : Type 1} → statement M
+not-idle-spec =
     tie.close
     (tie.spec practice-fits-requires returns practice-fits-requires-2 returns-2 returns-3)
