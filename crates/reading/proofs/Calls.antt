@@ -1,23 +1,28 @@
 -- The call, by the way that it ends.
 use mathlib.Core.Path.{_≡_, refl, sym, ap, ap₂, _∙_}
-use mathlib.Core.Bool.{_&&_}
+use mathlib.Core.Bool.{Bool, true, false, not, _&&_}
 use mathlib.Core.List.{List, [], _∷_, _++_}
-use Prim.Native.Nat.{ℕ, suc, _+_, _*_, _/_, _<_, _≤_}
+use Prim.Native.Nat.{ℕ, suc, _+_, _*_, _/_, _≤_}
 use native.Mathlib.Omega.{arith}
 use lib.Dec.{leb}
-use lib.ListN.{length, drop, length-drop, length-append}
+use lib.ListN.{length, drop, length-drop, length-append, length-map}
 use lib.Seq.{drop-drop}
-use borrow.Author.Tests.{le-leb, lt-leb}
+use borrow.Author.Tests.{le-leb, leb-true}
 use Rattle.laws.specs.Entry.{be16}
 use Rattle.laws.specs.Lists.{joined}
 use Rattle.laws.specs.Writes.{putAll}
 use Rattle.laws.proofs.Joins.{length-joined}
+use Rattle.laws.proofs.Loops.{stopped, passed}
+use Rattle.laws.proofs.Tests.{and-both}
 use Rattle.laws.proofs.Writes.{put-front}
 use Rattle.model.specs.Refusal.{Refusal as Word, Answer, Cramped, given, refused, answer, need, _>>=_, _>>_}
 use Rattle.model.specs.File.{State, Tree, maxCommands, maxOutcomes, read}
-use Rattle.model.specs.Tables.{Size, Tables, allCommands, rowsFrom, firstsFrom, tablesOf}
+use Rattle.model.specs.Tables.{Size, Row as Line, Tables, allCommands, rowsFrom, firstsFrom, tablesOf}
 use Rattle.model.specs.Calls.{reading, left}
-use Rattle.model.specs.Boundary.{rowEntries}
+use Rattle.tables.specs.declared.Row.{Row}
+use Rattle.tables.specs.declared.Size.{Size as Numbers}
+use Rattle.tables.specs.Meaning.{rowOf, rowsOf, numbers}
+use Rattle.reading.specs.Meaning.{enough}
 use Rattle.model.proofs.Readings.{CommandsRead, StatesRead, none, more, read-inv, few-commands, few-outcomes, states-count}
 use Rattle.reading.specs.Filling.{commandsIn, commandsLength, statesIn, first, StatesRoom}
 use Rattle.reading.proofs.Passing.{answer-inv, refused-inv}
@@ -54,10 +59,10 @@ states-stand (more {k} {kind} {count} {policy} {s} {s₁} {cs} {ss} g c r) =
       omega (arith, g .framed .fits, length-drop 8 s, ap length b, length-drop (commandsLength cs) (drop 8 s)),
     )
 
-length-rows : (m : ℕ) (ss : List State) → length (rowEntries (rowsFrom m ss)) ≡ length ss * 3
-unfolding rowsFrom rowEntries
+length-rows : (m : ℕ) (ss : List State) → length (rowsFrom m ss) ≡ length ss
+unfolding rowsFrom
 length-rows m [] = refl
-length-rows m (s ∷ ss) = let r = length-rows (m + length (s .commands)) ss in omega arith
+length-rows m (s ∷ ss) = ap suc (length-rows (m + length (s .commands)) ss)
 
 -- ---- the call
 
@@ -65,9 +70,9 @@ abbrev pub sizeOf : Tree → Size
 sizeOf p = tablesOf p .size
 
 -- after a refusal each table is as it was
-pub unchanged : (x : Answer Tables) {r : Word} (rows firsts outs : List ℕ) → x ≡ refused r
+pub unchanged : (x : Answer Tables) {r : Word} (rows : List Row) (firsts outs : List ℕ) → x ≡ refused r
     → (refused r ≡ answer (λ T. T .size) x)
-    × ((rows ≡ left (λ T. rowEntries (T .rows)) x rows) × ((firsts ≡ left (λ T. T .firsts) x firsts) × (outs ≡ left (λ T. T .outcomes) x outs)))
+    × ((rowsOf rows ≡ left (λ T. T .rows) x (rowsOf rows)) × ((firsts ≡ left (λ T. T .firsts) x firsts) × (outs ≡ left (λ T. T .outcomes) x outs)))
 unfolding answer left
 unchanged x rows firsts outs e = rw e (refl, (refl, (refl, refl)))
 
@@ -87,22 +92,13 @@ module _ (file : List ℕ) (z : Size) (e : answer sizeOf (read file) ≡ given z
         ap (λ (x : Answer Tree). x >>= λ q. need Cramped (leb (sizeOf q .n) R && leb (sizeOf q .m) F && leb (sizeOf q .t) O) >> given (tablesOf q)) i
         ∙ ap (λ (y : Size). need Cramped (leb (y .n) R && leb (y .m) F && leb (y .t) O) >> given (tablesOf p)) j
 
-    pub cramped-rows : R < z .n → reading R F O file ≡ refused Cramped
+    short : (leb (z .n) R && leb (z .m) F && leb (z .t) O) ≡ false → reading R F O file ≡ refused Cramped
     unfolding need _>>_
-    cramped-rows a = opened ∙ rw (lt-leb _ _ a)
+    short h = opened ∙ rw h
 
-    module _ (a : z .n ≤ R) where
-      pub cramped-firsts : F < z .m → reading R F O file ≡ refused Cramped
-      unfolding need _>>_
-      cramped-firsts b = opened ∙ rw (le-leb _ _ a, lt-leb _ _ b)
-
-      pub cramped-outcomes : z .m ≤ F → O < z .t → reading R F O file ≡ refused Cramped
-      unfolding need _>>_
-      cramped-outcomes b c = opened ∙ rw (le-leb _ _ a, le-leb _ _ b, lt-leb _ _ c)
-
-      roomy : z .m ≤ F → z .t ≤ O → reading R F O file ≡ given (tablesOf (plan .0))
-      unfolding need _>>_
-      roomy b c = opened ∙ rw (le-leb _ _ a, le-leb _ _ b, le-leb _ _ c)
+    roomy : z .n ≤ R → z .m ≤ F → z .t ≤ O → reading R F O file ≡ given (tablesOf (plan .0))
+    unfolding need _>>_
+    roomy a b c = opened ∙ rw (le-leb _ _ a, le-leb _ _ b, le-leb _ _ c)
 
   -- the states stand in the file, as many as the size record counts
   record Stands (ss : List State) : Type 0 where
@@ -110,7 +106,7 @@ module _ (file : List ℕ) (z : Size) (e : answer sizeOf (read file) ≡ given z
     rows : length ss ≡ z .n
     firsts : length (allCommands ss) ≡ z .m
     outcomes : length (joined (allCommands ss)) ≡ z .t
-    room : {R F O : ℕ} → z .n ≤ R / 3 → z .m ≤ F → z .t ≤ O → StatesRoom (length file) R F O 0 first ss
+    room : {R F O : ℕ} → z .n ≤ R → z .m ≤ F → z .t ≤ O → StatesRoom (length file) R F O 0 first ss
 
   stands : Stands (plan .0 .states)
   unfolding tablesOf
@@ -141,28 +137,28 @@ module _ (file : List ℕ) (z : Size) (e : answer sizeOf (read file) ≡ given z
         };
       }
 
-  pub room : {R F O : ℕ} → z .n ≤ R / 3 → z .m ≤ F → z .t ≤ O → StatesRoom (length file) R F O 0 first (statesIn (z .n) (drop 7 file))
+  pub room : {R F O : ℕ} → z .n ≤ R → z .m ≤ F → z .t ≤ O → StatesRoom (length file) R F O 0 first (statesIn (z .n) (drop 7 file))
   room a b c = rw (stands .is) (stands .room a b c)
 
-  pub filled : (rows firsts outs : List ℕ) {rows′ firsts′ outs′ : List ℕ}
-      → z .n ≤ length rows / 3 → z .m ≤ length firsts → z .t ≤ length outs
-      → rows′ ≡ putAll rows 0 (rowEntries (rowsFrom 0 (statesIn (z .n) (drop 7 file))))
+  pub filled : (rows : List Row) (firsts outs : List ℕ) {rows′ : List Line} {firsts′ outs′ : List ℕ}
+      → z .n ≤ length rows → z .m ≤ length firsts → z .t ≤ length outs
+      → rows′ ≡ putAll (rowsOf rows) 0 (rowsFrom 0 (statesIn (z .n) (drop 7 file)))
       → firsts′ ≡ putAll firsts 0 (firstsFrom 0 (allCommands (statesIn (z .n) (drop 7 file))))
       → outs′ ≡ putAll outs 0 (joined (allCommands (statesIn (z .n) (drop 7 file))))
-      → let x : Answer Tables = reading (length rows / 3) (length firsts) (length outs) file in
+      → let x : Answer Tables = reading (length rows) (length firsts) (length outs) file in
       (given z ≡ answer (λ T. T .size) x)
-      × ((rows′ ≡ left (λ T. rowEntries (T .rows)) x rows) × ((firsts′ ≡ left (λ T. T .firsts) x firsts) × (outs′ ≡ left (λ T. T .outcomes) x outs)))
+      × ((rows′ ≡ left (λ T. T .rows) x (rowsOf rows)) × ((firsts′ ≡ left (λ T. T .firsts) x firsts) × (outs′ ≡ left (λ T. T .outcomes) x outs)))
   unfolding answer left tablesOf
   filled rows firsts outs a b c er ef eo =
       let ss : List State = plan .0 .states in
       let t = stands in
-      let q : reading (length rows / 3) (length firsts) (length outs) file ≡ given (tablesOf (plan .0))
-      = roomy (length rows / 3) (length firsts) (length outs) a b c in
+      let q : reading (length rows) (length firsts) (length outs) file ≡ given (tablesOf (plan .0))
+      = roomy (length rows) (length firsts) (length outs) a b c in
       rw q (
         ap given (sym (plan .2)),
         (
-          er ∙ ap (λ (y : List State). putAll rows 0 (rowEntries (rowsFrom 0 y))) (t .is)
-              ∙ put-front rows (rowEntries (rowsFrom 0 ss)) (omega (arith, t .rows, length-rows 0 ss)),
+          er ∙ ap (λ (y : List State). putAll (rowsOf rows) 0 (rowsFrom 0 y)) (t .is)
+              ∙ put-front (rowsOf rows) (rowsFrom 0 ss) (omega (arith, t .rows, length-rows 0 ss, length-map rows rowOf)),
           (
             ef ∙ ap (λ (y : List State). putAll firsts 0 (firstsFrom 0 (allCommands y))) (t .is)
                 ∙ put-front firsts (firstsFrom 0 (allCommands ss)) (omega (arith, t .firsts, length-firsts 0 (allCommands ss))),
@@ -171,3 +167,17 @@ module _ (file : List ℕ) (z : Size) (e : answer sizeOf (read file) ≡ given z
           ),
         ),
       )
+
+-- ---- the test of the tables' lengths, where the rows were counted
+
+module _ (z : Numbers) (R : List Row) (F O : ℕ) {rows : ℕ} {t : Bool} (k : rows ≡ length R) (e : t ≡ enough z rows F O) where
+  pub cramped : (file : List ℕ) → answer sizeOf (read file) ≡ given (numbers z) → not t ≡ true → reading (length R) F O file ≡ refused Cramped
+  unfolding enough
+  cramped file p h = short file (numbers z) p (length R) F O (rw k at (stopped e h))
+
+  pub all-long : not t ≡ false → (z .n ≤ length R) × (z .m ≤ F) × (z .t ≤ O)
+  unfolding enough
+  all-long h =
+      let three = and-both (leb (z .n) rows && leb (z .m) F) _ (passed e h) in
+      let two = and-both (leb (z .n) rows) _ (three .0) in
+      (rw k at (leb-true (z .n) rows (two .0)), leb-true _ _ (two .1), leb-true _ _ (three .1))

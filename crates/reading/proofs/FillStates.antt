@@ -1,5 +1,5 @@
 -- The filling of all three tables: what is left to write at each turn over the states.
-use mathlib.Core.Path.{_≡_, refl, sym, ap, ap₂, _∙_}
+use mathlib.Core.Path.{_≡_, refl, sym, ap, _∙_}
 use mathlib.Core.List.{List, [], _∷_, _++_}
 use Prim.Native.Nat.{ℕ, suc, _+_, _-_, _*_, _<_, _≤_}
 use native.Mathlib.Omega.{arith}
@@ -13,10 +13,12 @@ use Rattle.laws.proofs.Joins.{joined-append, length-joined}
 use Rattle.laws.proofs.Writes.{length-put, put-append}
 use Rattle.model.specs.File.{State, maxCommands}
 use Rattle.model.specs.Tables.{allCommands, rowsFrom, firstsFrom}
-use Rattle.model.specs.Boundary.{rowEntries}
+use Rattle.tables.specs.declared.Row.{Row}
+use Rattle.tables.specs.Meaning.{rowsOf, rowWith}
+use Rattle.tables.proofs.StoredRows.{row-stored}
 use Rattle.reading.specs.declared.bytes.Mark.{Mark}
 use Rattle.reading.specs.Meaning.{rest, moved}
-use Rattle.reading.specs.Filling.{commandsIn, commandsLength, statesIn, first, passed, Room, StatesRoom}
+use Rattle.reading.specs.Filling.{commandsAt, commandsLength, statesIn, first, passed, Room, StatesRoom}
 
 firsts-append : (t : ℕ) (a b : List (List ℕ)) → firstsFrom t (a ++ b) ≡ firstsFrom t a ++ firstsFrom (t + length (joined a)) b
 unfolding firstsFrom joined
@@ -31,16 +33,16 @@ length-firsts t [] = refl
 length-firsts t (c ∷ cs) = ap suc (length-firsts (t + length c) cs)
 
 -- the tables that a filling began with, those that it has come to, and the states left at row i and the mark
-pub record Filling (bytes : ℕ) (rows₀ firsts₀ outs₀ : List ℕ) (ss₀ : List State) (rows firsts outs : List ℕ) (i : ℕ) (k : Mark) (ss : List State) : Type 0 where
+pub record Filling (bytes : ℕ) (rows₀ : List Row) (firsts₀ outs₀ : List ℕ) (ss₀ : List State) (rows : List Row) (firsts outs : List ℕ) (i : ℕ) (k : Mark) (ss : List State) : Type 0 where
   pub room : StatesRoom bytes (length rows) (length firsts) (length outs) i k ss
   pub same-rows : length rows ≡ length rows₀
   pub same-firsts : length firsts ≡ length firsts₀
   pub same-outs : length outs ≡ length outs₀
-  pub put-rows : putAll rows (i * 3) (rowEntries (rowsFrom (k .m) ss)) ≡ putAll rows₀ 0 (rowEntries (rowsFrom 0 ss₀))
+  pub put-rows : putAll (rowsOf rows) i (rowsFrom (k .m) ss) ≡ putAll (rowsOf rows₀) 0 (rowsFrom 0 ss₀)
   pub put-firsts : putAll firsts (k .m) (firstsFrom (k .t) (allCommands ss)) ≡ putAll firsts₀ 0 (firstsFrom 0 (allCommands ss₀))
   pub put-outs : putAll outs (k .t) (joined (allCommands ss)) ≡ putAll outs₀ 0 (joined (allCommands ss₀))
 
-filling-start : {bytes : ℕ} {rows firsts outs : List ℕ} {ss : List State} → StatesRoom bytes (length rows) (length firsts) (length outs) 0 first ss
+filling-start : {bytes : ℕ} {rows : List Row} {firsts outs : List ℕ} {ss : List State} → StatesRoom bytes (length rows) (length firsts) (length outs) 0 first ss
     → Filling bytes rows firsts outs ss rows firsts outs 0 first ss
 filling-start r = record { room = r; same-rows = refl; same-firsts = refl; same-outs = refl; put-rows = refl; put-firsts = refl; put-outs = refl }
 
@@ -63,16 +65,6 @@ module _ (s : State) (ss : List State) where
         },
       )
 
-  rows-next : (rows : List ℕ) (i m : ℕ)
-      → putAll (set (set (set rows (i * 3) (s .kind)) (i * 3 + 1) m) (i * 3 + 2) (s .policy)) ((i + 1) * 3) (rowEntries (rowsFrom (m + length (s .commands)) ss))
-      ≡ putAll rows (i * 3) (rowEntries (rowsFrom m (s ∷ ss)))
-  unfolding putAll rowEntries rowsFrom
-  rows-next rows i m =
-      let a : (i + 1) * 3 ≡ i * 3 + 1 + 1 + 1 = omega arith in
-      let b : i * 3 + 2 ≡ i * 3 + 1 + 1 = omega arith in
-      let es : List ℕ = rowEntries (rowsFrom (m + length (s .commands)) ss) in
-      ap₂ (λ (x y : ℕ). putAll (set (set (set rows (i * 3) (s .kind)) (i * 3 + 1) m) x (s .policy)) y es) b a
-
   firsts-next : (firsts : List ℕ) (m t : ℕ)
       → putAll (putAll firsts m (firstsFrom t (s .commands))) (m + length (s .commands)) (firstsFrom (t + length (joined (s .commands))) (allCommands ss))
       ≡ putAll firsts m (firstsFrom t (s .commands ++ allCommands ss))
@@ -86,14 +78,14 @@ module _ (s : State) (ss : List State) where
       → putAll (putAll outs t (joined (s .commands))) (t + length (joined (s .commands))) (joined (allCommands ss)) ≡ putAll outs t (joined (s .commands ++ allCommands ss))
   outs-next outs t = sym (put-append outs t (joined (s .commands)) (joined (allCommands ss))) ∙ sym (ap (putAll outs t) (joined-append (s .commands) (allCommands ss)))
 
-module _ {bytes : ℕ} {rows₀ firsts₀ outs₀ : List ℕ} {ss₀ : List State} {rows firsts outs : List ℕ} {i : ℕ} {k : Mark} where
+module _ {bytes : ℕ} {rows₀ : List Row} {firsts₀ outs₀ : List ℕ} {ss₀ : List State} {rows : List Row} {firsts outs : List ℕ} {i : ℕ} {k : Mark} where
   filling-next : (s : State) (ss : List State)
       → Filling bytes rows₀ firsts₀ outs₀ ss₀ rows firsts outs i k (s ∷ ss)
-      → Filling bytes rows₀ firsts₀ outs₀ ss₀ (set (set (set rows (i * 3) (s .kind)) (i * 3 + 1) (k .m)) (i * 3 + 2) (s .policy))
+      → Filling bytes rows₀ firsts₀ outs₀ ss₀ (set rows i (rowWith (s .kind) (k .m) (s .policy)))
       (putAll firsts (k .m) (firstsFrom (k .t) (s .commands))) (putAll outs (k .t) (joined (s .commands))) (i + 1) (passed (moved k 8) (s .commands)) ss
-  unfolding allCommands
+  unfolding allCommands putAll rowsFrom
   filling-next s ss f =
-      let n : length (set (set (set rows (i * 3) (s .kind)) (i * 3 + 1) (k .m)) (i * 3 + 2) (s .policy)) ≡ length rows = simp length-set in
+      let n : length (set rows i (rowWith (s .kind) (k .m) (s .policy))) ≡ length rows = length-set rows i (rowWith (s .kind) (k .m) (s .policy)) in
       let m : length (putAll firsts (k .m) (firstsFrom (k .t) (s .commands))) ≡ length firsts = length-put firsts (k .m) (firstsFrom (k .t) (s .commands)) in
       let t : length (putAll outs (k .t) (joined (s .commands))) ≡ length outs = length-put outs (k .t) (joined (s .commands)) in
       record {
@@ -101,20 +93,16 @@ module _ {bytes : ℕ} {rows₀ firsts₀ outs₀ : List ℕ} {ss₀ : List Stat
         same-rows = n ∙ f .same-rows;
         same-firsts = m ∙ f .same-firsts;
         same-outs = t ∙ f .same-outs;
-        put-rows = rows-next s ss rows i (k .m) ∙ f .put-rows;
+        put-rows = rw (row-stored rows i (rowWith (s .kind) (k .m) (s .policy))) (f .put-rows);
         put-firsts = firsts-next s ss firsts (k .m) (k .t) ∙ f .put-firsts;
         put-outs = outs-next s ss outs (k .t) ∙ f .put-outs;
       }
 
   pub filling-end : Filling bytes rows₀ firsts₀ outs₀ ss₀ rows firsts outs i k []
-      → (rows ≡ putAll rows₀ 0 (rowEntries (rowsFrom 0 ss₀)))
+      → (rowsOf rows ≡ putAll (rowsOf rows₀) 0 (rowsFrom 0 ss₀))
       × ((firsts ≡ putAll firsts₀ 0 (firstsFrom 0 (allCommands ss₀))) × (outs ≡ putAll outs₀ 0 (joined (allCommands ss₀))))
-  unfolding putAll rowEntries rowsFrom allCommands firstsFrom joined
+  unfolding putAll rowsFrom allCommands firstsFrom joined
   filling-end f = (f .put-rows, (f .put-firsts, f .put-outs))
-
--- the commands of the state at a mark
-abbrev commandsAt : List ℕ → Mark → List (List ℕ)
-commandsAt file k = commandsIn (be16 (rest file k) 4) (rest file (moved k 8))
 
 states-in : (file : List ℕ) (k : Mark) (n i : ℕ) → i < n → statesIn (n - i) (rest file k)
     ≡ record { kind = getD (rest file k) 3 0; policy = be16 (rest file k) 6; commands = commandsAt file k }
@@ -130,14 +118,14 @@ states-in file k n i h =
     rw (e, a, b)
 
 -- what a turn needs: the state field, the row and the room for the commands
-pub record Turn (file rows firsts outs : List ℕ) (i : ℕ) (k : Mark) : Type 0 where
+pub record Turn (file : List ℕ) (rows : List Row) (firsts outs : List ℕ) (i : ℕ) (k : Mark) : Type 0 where
   pub some : 7 < length (rest file k)
   pub inside : k .at + 8 ≤ length file
   pub few : k .m ≤ maxCommands
-  pub row : i * 3 + 3 ≤ length rows
+  pub row : i < length rows
   pub room : Room (length file) (length firsts) (length outs) (moved k 8) (commandsAt file k)
 
-module _ {rows₀ firsts₀ outs₀ : List ℕ} {ss₀ : List State} {rows firsts outs : List ℕ} (file : List ℕ) (n i : ℕ) (k : Mark)
+module _ {rows₀ : List Row} {firsts₀ outs₀ : List ℕ} {ss₀ : List State} {rows : List Row} {firsts outs : List ℕ} (file : List ℕ) (n i : ℕ) (k : Mark)
     (f : Filling (length file) rows₀ firsts₀ outs₀ ss₀ rows firsts outs i k (statesIn (n - i) (rest file k))) where
   pub filling-left : n ≤ i → Filling (length file) rows₀ firsts₀ outs₀ ss₀ rows firsts outs i k []
   unfolding statesIn
@@ -167,18 +155,17 @@ module _ {rows₀ firsts₀ outs₀ : List ℕ} {ss₀ : List State} {rows first
           room = room;
         }
 
-    module _ {c : ℕ} {from : Mark} (d : c ≡ be16 (rest file k) 4) (e : from ≡ moved k 8) where
-      pub filling-more : {kind m policy : ℕ} {rows′ firsts′ outs′ : List ℕ} {next : Mark}
-          → kind ≡ getD (rest file k) 3 0 → m ≡ k .m → policy ≡ be16 (rest file k) 6
-          → rows′ ≡ set (set (set rows (i * 3) kind) (i * 3 + 1) m) (i * 3 + 2) policy
-          → firsts′ ≡ putAll firsts (from .m) (firstsFrom (from .t) (commandsIn c (rest file from)))
-          → outs′ ≡ putAll outs (from .t) (joined (commandsIn c (rest file from)))
-          → next ≡ passed from (commandsIn c (rest file from))
-          → Filling (length file) rows₀ firsts₀ outs₀ ss₀ rows′ firsts′ outs′ (i + 1) next (statesIn (n - (i + 1)) (rest file next))
-      unfolding here left
-      filling-more a b g er ef eo en = rw (er, ef, eo, en, a, b, g, d, e) (filling-next here left opened)
+    pub filling-more : {row : Row} {rows′ : List Row} {firsts′ outs′ : List ℕ} {next : Mark}
+        → row ≡ rowWith (getD (rest file k) 3 0) (k .m) (be16 (rest file k) 6)
+        → rows′ ≡ set rows i (rowWith (row .kind) (row .first) (row .practice))
+        → firsts′ ≡ putAll firsts (k .m) (firstsFrom (k .t) (commandsAt file k))
+        → outs′ ≡ putAll outs (k .t) (joined (commandsAt file k))
+        → next ≡ passed (moved k 8) (commandsAt file k)
+        → Filling (length file) rows₀ firsts₀ outs₀ ss₀ rows′ firsts′ outs′ (i + 1) next (statesIn (n - (i + 1)) (rest file next))
+    unfolding here left
+    filling-more r er ef eo en = rw (er, r, ef, eo, en) (filling-next here left opened)
 
-pub filling-begin : {rows firsts outs : List ℕ} (file : List ℕ) (n : ℕ)
+pub filling-begin : {rows : List Row} {firsts outs : List ℕ} (file : List ℕ) (n : ℕ)
     → StatesRoom (length file) (length rows) (length firsts) (length outs) 0 first (statesIn n (drop 7 file))
     → Filling (length file) rows firsts outs (statesIn n (drop 7 file)) rows firsts outs 0 first (statesIn (n - 0) (rest file first))
 filling-begin file n r = let e : n - 0 ≡ n = omega arith in rw e (filling-start r)

@@ -1,3 +1,4 @@
+pub mod RowReads
 pub mod Passing
 pub mod FieldWays
 pub mod Scanning

@@ -7,6 +7,7 @@ use Rattle.laws.specs.Lists.{joined}
 use Rattle.model.specs.File.{State, maxCommands, maxOutcomes, entries}
 use Rattle.model.specs.Tables.{allCommands}
 use Rattle.reading.specs.declared.bytes.Mark.{Mark}
+use Rattle.reading.specs.Meaning.{rest, moved}
 
 -- the k commands at the front
 unfoldable pub commandsIn : ℕ → List ℕ → List (List ℕ)
@@ -23,6 +24,10 @@ statesIn zero s = []
 statesIn (suc k) s =
     let cs = commandsIn (be16 s 4) (drop 8 s) in
     record { kind = getD s 3 0; policy = be16 s 6; commands = cs } ∷ statesIn k (drop (8 + commandsLength cs) s)
+
+-- the commands of the state at a mark
+abbrev pub commandsAt : List ℕ → Mark → List (List ℕ)
+commandsAt file k = commandsIn (be16 (rest file k) 4) (rest file (moved k 8))
 
 -- where the states begin, and the mark past commands
 abbrev pub first : Mark
@@ -41,7 +46,7 @@ pub record Room (bytes firsts outcomes : ℕ) (k : Mark) (cs : List (List ℕ)) 
 -- and, from row i on, for the states
 pub record StatesRoom (bytes rows firsts outcomes : ℕ) (i : ℕ) (k : Mark) (ss : List State) : Type 0 where
   pub in-file : k .at + (length ss * 8 + commandsLength (allCommands ss)) ≤ bytes
-  pub in-rows : (i + length ss) * 3 ≤ rows
+  pub in-rows : i + length ss ≤ rows
   pub in-firsts : k .m + length (allCommands ss) ≤ firsts
   pub in-outcomes : k .t + length (joined (allCommands ss)) ≤ outcomes
   pub few-commands : k .m + length (allCommands ss) ≤ maxCommands

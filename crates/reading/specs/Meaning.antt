@@ -1,13 +1,17 @@
 -- What the answers of reading stand for.
 use mathlib.Core.Path.{_≡_}
+use mathlib.Core.Bool.{Bool, _&&_}
 use mathlib.Core.List.{List, []}
-use Prim.Native.Nat.{ℕ, _+_, _*_, _/_, _≤_}
+use Prim.Native.Nat.{ℕ, _+_, _*_, _≤_}
+use lib.Dec.{leb}
 use lib.ListN.{length, drop}
 use Rattle.laws.specs.Lists.{joined}
 use Rattle.model.specs.Refusal.{Answer, given, refused}
 use Rattle.model.specs.File.{State, Tree, maxCommands, maxOutcomes}
 use Rattle.model.specs.Tables.{Size as Numbers, Tables, allCommands, tablesOf}
 use Rattle.model.specs.Calls.{reading}
+use Rattle.tables.specs.declared.Size.{Size}
+use Rattle.tables.specs.declared.Row.{Row}
 use Rattle.tables.specs.Meaning.{refusalOf, numbers}
 use Rattle.reading.specs.declared.ReadAnswer.{ReadAnswer}
 use Rattle.reading.specs.declared.bytes.Mark.{Mark}
@@ -18,9 +22,13 @@ abbrev pub answerOf : ReadAnswer → Answer Numbers
 answerOf (ReadAnswer.Given z) = given (numbers z)
 answerOf (ReadAnswer.Refused r) = refused (refusalOf r)
 
--- a file read into these tables; a row is three entries
-abbrev pub readInto : List ℕ → List ℕ → List ℕ → List ℕ → Answer Tables
-readInto rows firsts outcomes file = reading (length rows / 3) (length firsts) (length outcomes) file
+-- tables of these lengths have a place for each state, command and outcome
+unfoldable pub enough : Size → ℕ → ℕ → ℕ → Bool
+enough z rows firsts outcomes = leb (z .n) rows && leb (z .m) firsts && leb (z .t) outcomes
+
+-- a file read into these tables
+abbrev pub readInto : List Row → List ℕ → List ℕ → List ℕ → Answer Tables
+readInto rows firsts outcomes file = reading (length rows) (length firsts) (length outcomes) file
 
 -- a field's length
 abbrev pub lengthOf : FieldAnswer → Answer ℕ

@@ -1,19 +1,21 @@
 // The filling pass, over a file that the judging pass has let through.
 ghost use mathlib.Core.Path.{_≡_};
 ghost use Prim.Native.Nat.{_+_, _*_, _<_, _≤_};
-ghost use lib.ListN.{length, drop};
+ghost use lib.ListN.{length, getD, drop};
+ghost use Rattle.laws.specs.Entry.{be16};
 ghost use Rattle.laws.specs.Lists.{joined};
 ghost use Rattle.laws.specs.Writes.{putAll};
 ghost use Rattle.model.specs.File.{entries};
 ghost use Rattle.model.specs.Tables.{allCommands, rowsFrom, firstsFrom};
-ghost use Rattle.model.specs.Boundary.{rowEntries};
-ghost use Rattle.reading.specs.Meaning.{rest};
-ghost use Rattle.reading.specs.Filling.{commandsIn, statesIn, first, passed, Room, StatesRoom};
+ghost use Rattle.tables.specs.Meaning.{rowWith, rowsOf};
+ghost use Rattle.reading.specs.Meaning.{rest, moved};
+ghost use Rattle.reading.specs.Filling.{commandsIn, commandsAt, statesIn, first, passed, Room, StatesRoom};
 use crate::bytes::Mark;
 use crate::bytes::byte;
 use crate::bytes::entry;
 use crate::bytes::moved;
 use crate::bytes::number;
+use tables::Row;
 use tables::internal::put;
 use tables::internal::put_row;
 
@@ -69,30 +71,47 @@ fn narrow(x: usize) -> u16
     x as u16
 }
 
+// The row of the state at a mark.
+fn row_in(file: &[u8], k: Mark) -> Row
+    requires { ⌜ (7 < length (rest (now file) k)) × (k .m < 65536) ⌝ }
+    ensures { λ r. ⌜ r ≡ rowWith (getD (rest (now (file .entry)) k) 3 0) (k .m) (be16 (rest (now (file .entry)) k) 6) ⌝ }
+{
+    Row {
+        kind: wide(byte(file, k.at, 3)),
+        first: narrow(k.m),
+        practice: entry(file, k.at, 6),
+    }
+}
+
+// The commands of the state at a mark.
+fn fill_state(file: &[u8], k: Mark, firsts: &mut [u16], outcomes: &mut [u16]) -> Mark
+    requires { ⌜ (k .at + 8 ≤ length (now file)) × Room (length (now file)) (length (now firsts)) (length (now outcomes)) (moved k 8) (commandsAt (now file) k) ⌝ }
+    ensures firsts { λ r. ⌜ now (firsts .exit) ≡ putAll (now (firsts .entry)) (k .m) (firstsFrom (k .t) (commandsAt (now (file .entry)) k)) ⌝ }
+    ensures outcomes { λ r. ⌜ now (outcomes .exit) ≡ putAll (now (outcomes .entry)) (k .t) (joined (commandsAt (now (file .entry)) k)) ⌝ }
+    ensures mark { λ r. ⌜ r ≡ passed (moved k 8) (commandsAt (now (file .entry)) k) ⌝ }
+{
+    let count = number(file, k.at, 4);
+    fill_commands(file, count, moved(k, 8), firsts, outcomes)
+}
+
 pub fn fill_states(
     file: &[u8],
     n: usize,
-    rows: &mut [u16],
+    rows: &mut [Row],
     firsts: &mut [u16],
     outcomes: &mut [u16],
 )
     requires { ⌜ StatesRoom (length (now file)) (length (now rows)) (length (now firsts)) (length (now outcomes)) 0 first (statesIn n (drop 7 (now file))) ⌝ }
-    ensures rows { λ r. ⌜ now (rows .exit) ≡ putAll (now (rows .entry)) 0 (rowEntries (rowsFrom 0 (statesIn n (drop 7 (now (file .entry)))))) ⌝ }
+    ensures rows { λ r. ⌜ rowsOf (now (rows .exit)) ≡ putAll (rowsOf (now (rows .entry))) 0 (rowsFrom 0 (statesIn n (drop 7 (now (file .entry))))) ⌝ }
     ensures firsts { λ r. ⌜ now (firsts .exit) ≡ putAll (now (firsts .entry)) 0 (firstsFrom 0 (allCommands (statesIn n (drop 7 (now (file .entry)))))) ⌝ }
     ensures outcomes { λ r. ⌜ now (outcomes .exit) ≡ putAll (now (outcomes .entry)) 0 (joined (allCommands (statesIn n (drop 7 (now (file .entry)))))) ⌝ }
 {
     let mut k = Mark { at: 7, m: 0, t: 0 };
     let mut i = 0;
     while i < n {
-        put_row(
-            rows,
-            i,
-            wide(byte(file, k.at, 3)),
-            narrow(k.m),
-            entry(file, k.at, 6),
-        );
-        let count = number(file, k.at, 4);
-        k = fill_commands(file, count, moved(k, 8), firsts, outcomes);
+        let row = row_in(file, k);
+        put_row(rows, i, row.kind, row.first, row.practice);
+        k = fill_state(file, k, firsts, outcomes);
         i += 1;
     }
 }

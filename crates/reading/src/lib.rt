@@ -2,10 +2,12 @@
 ghost use mathlib.Core.Path.{_≡_};
 ghost use Rattle.model.specs.Refusal.{answer};
 ghost use Rattle.model.specs.Calls.{left};
-ghost use Rattle.model.specs.Boundary.{rowEntries};
-ghost use Rattle.reading.specs.Meaning.{answerOf, readInto};
+ghost use Rattle.tables.specs.Meaning.{rowsOf};
+ghost use Rattle.reading.specs.Meaning.{answerOf, enough, readInto};
 use tables::Refusal;
+use tables::Row;
 use tables::Size;
+use tables::internal::row_count;
 
 mod bytes;
 mod fields;
@@ -20,10 +22,23 @@ pub enum ReadAnswer {
     Refused(Refusal),
 }
 
-// Reads a file into lent tables, of which rows has three entries a state. A refusal leaves each table as it was.
-pub fn read(file: &[u8], rows: &mut [u16], firsts: &mut [u16], outcomes: &mut [u16]) -> ReadAnswer
+// Whether tables of these lengths have a place for each state, command and outcome.
+fn long_enough(size: Size, rows: usize, firsts: usize, outcomes: usize) -> bool
+    ensures { λ r. ⌜ r ≡ enough size rows firsts outcomes ⌝ }
+{
+    if rows < size.n {
+        return false;
+    }
+    if firsts < size.m {
+        return false;
+    }
+    size.t <= outcomes
+}
+
+// Reads a file into lent tables. A refusal leaves each table as it was.
+pub fn read(file: &[u8], rows: &mut [Row], firsts: &mut [u16], outcomes: &mut [u16]) -> ReadAnswer
     ensures answer { λ r. ⌜ answerOf r ≡ answer (λ T. T .size) (readInto (now (rows .entry)) (now (firsts .entry)) (now (outcomes .entry)) (now (file .entry))) ⌝ }
-    ensures rows { λ r. ⌜ now (rows .exit) ≡ left (λ T. rowEntries (T .rows)) (readInto (now (rows .entry)) (now (firsts .entry)) (now (outcomes .entry)) (now (file .entry))) (now (rows .entry)) ⌝ }
+    ensures rows { λ r. ⌜ rowsOf (now (rows .exit)) ≡ left (λ T. T .rows) (readInto (now (rows .entry)) (now (firsts .entry)) (now (outcomes .entry)) (now (file .entry))) (rowsOf (now (rows .entry))) ⌝ }
     ensures firsts { λ r. ⌜ now (firsts .exit) ≡ left (λ T. T .firsts) (readInto (now (rows .entry)) (now (firsts .entry)) (now (outcomes .entry)) (now (file .entry))) (now (firsts .entry)) ⌝ }
     ensures outcomes { λ r. ⌜ now (outcomes .exit) ≡ left (λ T. T .outcomes) (readInto (now (rows .entry)) (now (firsts .entry)) (now (outcomes .entry)) (now (file .entry))) (now (outcomes .entry)) ⌝ }
 {
@@ -31,13 +46,7 @@ pub fn read(file: &[u8], rows: &mut [u16], firsts: &mut [u16], outcomes: &mut [u
     let ReadAnswer::Given(size) = s else {
         return s;
     };
-    if rows.len() / 3 < size.n {
-        return ReadAnswer::Refused(Refusal::Cramped);
-    }
-    if firsts.len() < size.m {
-        return ReadAnswer::Refused(Refusal::Cramped);
-    }
-    if outcomes.len() < size.t {
+    if !long_enough(size, row_count(rows), firsts.len(), outcomes.len()) {
         return ReadAnswer::Refused(Refusal::Cramped);
     }
     fill::fill_states(file, size.n, rows, firsts, outcomes);

@@ -3,4 +3,5 @@ pub mod RowReads
 pub mod Spans
 pub mod CommandTest
 pub mod LongTest
+pub mod StoredRows
 pub mod SoundParts

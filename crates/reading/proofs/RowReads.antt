@@ -1,0 +1,3 @@
+-- Made by tools/rows.
+pub mod FillFillStates
+pub mod Read
