@@ -10,8 +10,11 @@ use lib.ListN.{length, length-append}
 use borrow.Author.Tests.{lt-leb}
 use Rattle.laws.specs.Entry.{two}
 use Rattle.laws.specs.Lists.{tabulate}
+use Rattle.laws.specs.Wrote.{Wrote}
 use Rattle.laws.proofs.Lists.{length-tabulate}
 use Rattle.laws.proofs.Writes.{put-front}
+use Rattle.laws.proofs.Wrote.{wrote-then, wrote-length}
+use Rattle.laws.proofs.Spreads.{front}
 use Rattle.model.specs.Refusal.{Unsound, Cramped, given, refused, answer, need, _>>_}
 use Rattle.model.specs.File.{headTag, endTag}
 use Rattle.model.specs.Bytes.{statesBytes, bytesOf}
@@ -22,9 +25,7 @@ use Rattle.model.specs.Calls.{left, writing}
 use Rattle.model.proofs.SoundFacts.{sound-facts}
 use Rattle.model.proofs.Answering.{writing-iff}
 use Rattle.model.proofs.RoundTrips.{written-length}
-use Rattle.writing.specs.Wrote.{Wrote}
-use Rattle.writing.proofs.Stores.{wrote-then, wrote-length}
-use Rattle.writing.proofs.Spreads.{front, states-spread}
+use Rattle.writing.proofs.Spreads.{states-spread}
 
 module _ (T : Tables) where
   abbrev headBytes : List ℕ

@@ -1,6 +1,4 @@
-pub mod Stores
 pub mod Spreads
-pub mod Turns
 pub mod OutcomeFacts
 pub mod CommandFacts
 pub mod StateFacts

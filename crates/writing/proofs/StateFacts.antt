@@ -10,8 +10,10 @@ use lib.Dec.{eqb, ltb}
 use lib.ListN.{length, length-append}
 use borrow.Author.Tests.{eqb-true, ltb-true}
 use Rattle.laws.specs.Entry.{FFFF, two}
+use Rattle.laws.specs.Wrote.{Wrote}
 use Rattle.laws.proofs.Tests.{and-both, or-cases}
 use Rattle.laws.proofs.Lists.{length-tabulate}
+use Rattle.laws.proofs.Wrote.{wrote-then, wrote-length}
 use Rattle.model.specs.File.{stateTag, busy}
 use Rattle.model.specs.Bytes.{commandsBytes, statesBytes}
 use Rattle.model.specs.SoundTest.{sound}
@@ -22,9 +24,7 @@ use Rattle.model.proofs.SoundFacts.{Fits, RowFits, sound-facts}
 use Rattle.tables.specs.declared.Size.{Size}
 use Rattle.tables.specs.declared.internal.Span.{Span}
 use Rattle.tables.specs.Meaning.{held, spanAt}
-use Rattle.writing.specs.Wrote.{Wrote}
 use Rattle.writing.specs.Linked.{Linked, commandsFrom}
-use Rattle.writing.proofs.Stores.{wrote-then, wrote-length}
 
 policy-small : (kind count policy : ℕ) → busy kind count policy ≡ true → count ≤ 4096 → policy < 65536
 policy-small kind count policy e h =
