@@ -1,0 +1,5 @@
+// The text of the listing: its lines, written to bytes that the caller lends.
+mod bytes;
+mod digits;
+pub mod internal;
+mod words;
