@@ -2,4 +2,5 @@
 mod bytes;
 mod digits;
 pub mod internal;
+mod letters;
 mod words;

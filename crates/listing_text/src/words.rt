@@ -7,14 +7,18 @@ ghost use lib.ListN.{length, getD};
 ghost use Rattle.laws.specs.Entry.{fromEntry};
 ghost use Rattle.laws.specs.Sets.{found};
 ghost use Rattle.laws.specs.Wrote.{Wrote};
-ghost use Rattle.model.specs.Listing.{decimal, kindLetter, verdictLetter, numberOrDash, policyLetter, faultSign};
+ghost use Rattle.model.specs.Listing.{decimal, verdictLetter, numberOrDash, policyLetter, faultSign};
 ghost use Rattle.listing_text.specs.Words.{spaced};
 use crate::bytes::put_both;
 use crate::bytes::put_one;
 use crate::digits::put_decimal;
+use crate::letters::fault_sign;
+use crate::letters::policy_letter;
+use crate::letters::verdict_letter;
 
 const SPACE: u8 = 32;
 
+// The entry for none.
 const NONE: u16 = 65535;
 
 pub fn put_letter(out: &mut [u8], place: usize, letter: u8) -> usize
@@ -71,27 +75,6 @@ pub fn put_entry(out: &mut [u8], place: usize, e: u16) -> usize
     put_number(out, place, e as usize)
 }
 
-pub fn kind_letter(kind: u16) -> u8
-    ensures { λ r. ⌜ r ∷ [] ≡ kindLetter kind ⌝ }
-{
-    if kind == 0 {
-        return b'o';
-    }
-    if kind == 1 {
-        return b'f';
-    }
-    b'r'
-}
-
-pub fn verdict_letter(lost: bool) -> u8
-    ensures { λ r. ⌜ r ∷ [] ≡ verdictLetter lost ⌝ }
-{
-    if lost {
-        return b'L';
-    }
-    b'S'
-}
-
 // The verdict that a rank's entry tells, and the rank.
 pub fn put_verdict(out: &mut [u8], place: usize, rank: u16) -> usize
     requires { ⌜ place + 9 ≤ length (now out) ⌝ }
@@ -100,25 +83,6 @@ pub fn put_verdict(out: &mut [u8], place: usize, rank: u16) -> usize
 {
     let next = put_letter(out, place, verdict_letter(rank != NONE));
     put_entry(out, next, rank)
-}
-
-// The practice fails where the mark is odd.
-fn policy_letter(mark: u16) -> u8
-    ensures { λ r. ⌜ r ∷ [] ≡ policyLetter (eqb (mark % 2) 1) ⌝ }
-{
-    if mark % 2 == 1 {
-        return b'F';
-    }
-    b'H'
-}
-
-fn fault_sign(mark: u16) -> u8
-    ensures { λ r. ⌜ r ∷ [] ≡ faultSign (leb 2 mark) ⌝ }
-{
-    if 2 <= mark {
-        return b'!';
-    }
-    b'.'
 }
 
 // What a mark says of the practice.

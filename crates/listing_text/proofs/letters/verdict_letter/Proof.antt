@@ -1,6 +1,6 @@
 use Rattle.model.specs.Listing.{verdictLetter}
-use Rattle.listing_text.proofs.words.verdict_letter.Statement.{statement}
-use Rattle.listing_text.proofs.words.verdict_letter.Tie as tie
+use Rattle.listing_text.proofs.letters.verdict_letter.Statement.{statement}
+use Rattle.listing_text.proofs.letters.verdict_letter.Tie as tie
 
 returns : tie.Need-returns
 unfolding verdictLetter

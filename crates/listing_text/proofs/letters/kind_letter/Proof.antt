@@ -1,7 +1,7 @@
 use borrow.Author.Tests.{eq-eqb, ne-eqb}
 use Rattle.model.specs.Listing.{kindLetter}
-use Rattle.listing_text.proofs.words.kind_letter.Statement.{statement}
-use Rattle.listing_text.proofs.words.kind_letter.Tie as tie
+use Rattle.listing_text.proofs.letters.kind_letter.Statement.{statement}
+use Rattle.listing_text.proofs.letters.kind_letter.Tie as tie
 
 returns : tie.Need-returns
 unfolding kindLetter

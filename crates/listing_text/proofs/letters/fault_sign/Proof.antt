@@ -1,7 +1,7 @@
 use borrow.Author.Tests.{le-leb, lt-leb}
 use Rattle.model.specs.Listing.{faultSign}
-use Rattle.listing_text.proofs.words.fault_sign.Statement.{statement}
-use Rattle.listing_text.proofs.words.fault_sign.Tie as tie
+use Rattle.listing_text.proofs.letters.fault_sign.Statement.{statement}
+use Rattle.listing_text.proofs.letters.fault_sign.Tie as tie
 
 returns : tie.Need-returns
 unfolding faultSign

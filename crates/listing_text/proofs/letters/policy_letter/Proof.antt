@@ -1,7 +1,7 @@
 use borrow.Author.Tests.{eq-eqb, ne-eqb}
 use Rattle.model.specs.Listing.{policyLetter}
-use Rattle.listing_text.proofs.words.policy_letter.Statement.{statement}
-use Rattle.listing_text.proofs.words.policy_letter.Tie as tie
+use Rattle.listing_text.proofs.letters.policy_letter.Statement.{statement}
+use Rattle.listing_text.proofs.letters.policy_letter.Tie as tie
 
 returns : tie.Need-returns
 unfolding policyLetter
