@@ -11,7 +11,7 @@ same-length : tie.Need-same-length
 same-length c = search needs
 
 returns : tie.Need-returns
-returns c = let digit = c .before .before .put-digit .ensures in (rw (digits-one 0 _ (c .before .before .before .before .if1 .taken)) digit, omega arith)
+returns c = let digit = c .before .before .put-digit .ensures in (rw (digits-one 0 (c .before .before .before .before .before .before .args .x) (omega arith)) digit, omega arith)
 
 put-pair-requires : tie.Need-put-pair-requires
 put-pair-requires c κs = search needs
@@ -20,7 +20,7 @@ same-length-2 : tie.Need-same-length-2
 same-length-2 c = search needs
 
 returns-2 : tie.Need-returns-2
-returns-2 c = let pair = c .before .before .put-pair .ensures in (rw (digits-two 0 _ (c .before .before .before .before .if1 .left) (c .before .before .before .before .before .before .pre .1)) (pair .0), pair .1)
+returns-2 c = let pair = c .before .before .put-pair .ensures in (rw (digits-two 0 (c .before .before .before .before .before .before .args .x) (omega arith) (omega arith)) (pair .0), pair .1)
 
 pub put-short-spec : {M : Type 1} → statement M
 put-short-spec =
