@@ -1,63 +1,56 @@
 -- The two round trips over what `reading::read` and `writing::write` ensure: a premise that is an equation is a clause of a contract.
-use mathlib.Core.Path.{_≡_, refl, sym, ap, ap₂, subst, _∙_}
+use mathlib.Core.Path.{_≡_, sym, ap, subst, _∙_}
 use mathlib.Core.List.{List}
-use Prim.Native.Nat.{ℕ, _≤_, _/_}
-use lib.ListN.{length, take}
+use Prim.Native.Nat.{ℕ, _≤_}
+use lib.ListN.{length, take, length-map}
 use Rattle.laws.specs.Entry.{Bytes}
 use Rattle.laws.specs.Lists.{overwrite}
-use Rattle.model.specs.Refusal.{Answer, given, refused, answer}
-use Rattle.model.specs.Tables.{Row, Tables, Same}
-use Rattle.model.specs.Boundary.{rowEntries}
+use Rattle.model.specs.Refusal.{Answer, given, answer}
+use Rattle.model.specs.Tables.{Tables, Same}
 use Rattle.model.specs.Calls.{left, reading, writing, readCall, writeCall}
 use Rattle.model.proofs.RoundTrips.{afterReading, read-write, write-read}
 use Rattle.tables.specs.declared.Size.{Size}
-use Rattle.tables.specs.Meaning.{numbers, rowsOf, held}
-use Rattle.tables.proofs.RowEntries.{rows-length}
+use Rattle.tables.specs.declared.Row.{Row}
+use Rattle.tables.specs.Meaning.{numbers, rowOf, rowsOf, held}
 use Rattle.reading.specs.Meaning.{readInto}
-use Rattle.format.proofs.FlatRows.{rows-overwritten}
 
--- what reading leaves in a flat table of rows, as rows
-rows-left : (x : Answer Tables) (table : List ℕ) → rowsOf (left (λ T. rowEntries (T .rows)) x table) ≡ left (λ T. T .rows) x (rowsOf table)
-unfolding left
-rows-left (given T) table = rows-overwritten (T .rows) table
-rows-left (refused r) table = refl
-
-module _ (file rows firsts outcomes : List ℕ) where
-  -- reading into these tables, as the model says it of rows
+module _ (file : List ℕ) (rows : List Row) (firsts outcomes : List ℕ) where
+  -- reading into these tables, as the model says it of its rows
   read-rows : readInto rows firsts outcomes file ≡ reading (length (rowsOf rows)) (length firsts) (length outcomes) file
-  read-rows = ap (λ (k : ℕ). reading k (length firsts) (length outcomes) file) (sym (rows-length rows))
+  read-rows = ap (λ (k : ℕ). reading k (length firsts) (length outcomes) file) (sym (length-map rows rowOf))
 
-  -- the tables after a reading, as the model says them
-  after-held : (z : Size) → held z (left (λ T. rowEntries (T .rows)) (readInto rows firsts outcomes file) rows)
-      (left (λ T. T .firsts) (readInto rows firsts outcomes file) firsts) (left (λ T. T .outcomes) (readInto rows firsts outcomes file) outcomes)
-      ≡ afterReading (numbers z) file (rowsOf rows) firsts outcomes
-  after-held z = λ i. record {
-    size = numbers z;
-    rows = (rows-left (readInto rows firsts outcomes file) rows ∙ ap (λ (x : Answer Tables). left (λ T. T .rows) x (rowsOf rows)) read-rows) i;
-    firsts = left (λ T. T .firsts) (read-rows i) firsts;
-    outcomes = left (λ T. T .outcomes) (read-rows i) outcomes;
-  }
+  -- the tables that a reading leaves, by the clauses `rows`, `firsts` and `outcomes` of its contract
+  module _ (rows′ : List Row) (er : rowsOf rows′ ≡ left (λ T. T .rows) (readInto rows firsts outcomes file) (rowsOf rows)) where
+    abbrev after : Size → Tables
+    after z = held z rows′ (left (λ T. T .firsts) (readInto rows firsts outcomes file) firsts) (left (λ T. T .outcomes) (readInto rows firsts outcomes file) outcomes)
 
-  -- A file that is read and written again: the bytes answered and left are the file's. The premises are the clause `answer` of
-  -- read's contract, and that it answered z; what write is lent is what read's other clauses say of the tables.
-  pub file-again : Bytes file → (z : Size) → given (numbers z) ≡ answer (λ T. T .size) (readInto rows firsts outcomes file)
-      → (bytes : List ℕ) → length file ≤ length bytes
-      → let T = held z (left (λ U. rowEntries (U .rows)) (readInto rows firsts outcomes file) rows) (left (λ U. U .firsts) (readInto rows firsts outcomes file) firsts) (left (λ U. U .outcomes) (readInto rows firsts outcomes file) outcomes) in
-      (answer length (writing T (length bytes)) ≡ given (length file)) × (left (λ f. f) (writing T (length bytes)) bytes ≡ overwrite file bytes)
-  file-again b z e bytes h =
-      let w = read-write file (rowsOf rows) firsts outcomes b (numbers z) (ap (answer (λ T. T .size)) (sym read-rows) ∙ sym e) bytes h in
-      let v = ap (λ (T : Tables). writeCall T bytes) (after-held z) ∙ w in
-      (ap (λ r. r .answers) v, ap (λ r. r .bytes) v)
+    -- as the model says them
+    after-held : (z : Size) → after z ≡ afterReading (numbers z) file (rowsOf rows) firsts outcomes
+    after-held z = λ i. record {
+      size = numbers z;
+      rows = (er ∙ ap (λ (x : Answer Tables). left (λ T. T .rows) x (rowsOf rows)) read-rows) i;
+      firsts = left (λ T. T .firsts) (read-rows i) firsts;
+      outcomes = left (λ T. T .outcomes) (read-rows i) outcomes;
+    }
 
-  -- Sound tables that are written, and the bytes answered read again: the tables are the same up to their counts.
-  pub tables-again : (z : Size) (rs fs os bytes : List ℕ) (k : ℕ) → given k ≡ answer length (writing (held z rs fs os) (length bytes))
-      → file ≡ take k (left (λ f. f) (writing (held z rs fs os) (length bytes)) bytes)
-      → z .n ≤ length (rowsOf rows) → z .m ≤ length firsts → z .t ≤ length outcomes
-      → (answer (λ T. T .size) (readInto rows firsts outcomes file) ≡ given (numbers z))
-      × Same (held z rs fs os) (held z (left (λ T. rowEntries (T .rows)) (readInto rows firsts outcomes file) rows)
-      (left (λ T. T .firsts) (readInto rows firsts outcomes file) firsts) (left (λ T. T .outcomes) (readInto rows firsts outcomes file) outcomes))
-  tables-again z rs fs os bytes k e q long-rows long-firsts long-outcomes =
-      let (a, s) = write-read (held z rs fs os) bytes k (sym e) (rowsOf rows) firsts outcomes long-rows long-firsts long-outcomes in (
-        ap (answer (λ T. T .size)) read-rows ∙ subst (λ (f : List ℕ). readCall f (rowsOf rows) firsts outcomes .answers ≡ given (numbers z)) (sym q) a,
-        subst (λ (T : Tables). Same (held z rs fs os) T) (sym (after-held z)) (subst (λ (f : List ℕ). Same (held z rs fs os) (afterReading (numbers z) f (rowsOf rows) firsts outcomes)) (sym q) s),
-      )
+    -- A file that is read and written again: the bytes answered and left are the file's. The premises are the clause `answer` of
+    -- read's contract, and that it answered z.
+    pub file-again : Bytes file → (z : Size) → given (numbers z) ≡ answer (λ T. T .size) (readInto rows firsts outcomes file)
+        → (bytes : List ℕ) → length file ≤ length bytes
+        → (answer length (writing (after z) (length bytes)) ≡ given (length file)) × (left (λ f. f) (writing (after z) (length bytes)) bytes ≡ overwrite file bytes)
+    file-again b z e bytes h =
+        let w = read-write file (rowsOf rows) firsts outcomes b (numbers z) (ap (answer (λ T. T .size)) (sym read-rows) ∙ sym e) bytes h in
+        let v = ap (λ (T : Tables). writeCall T bytes) (after-held z) ∙ w in
+        (ap (λ r. r .answers) v, ap (λ r. r .bytes) v)
+
+    -- Sound tables that are written, and the bytes answered read again: the tables are the same up to their counts.
+    pub tables-again : (z : Size) (rs : List Row) (fs os bytes : List ℕ) (k : ℕ) → given k ≡ answer length (writing (held z rs fs os) (length bytes))
+        → file ≡ take k (left (λ f. f) (writing (held z rs fs os) (length bytes)) bytes)
+        → z .n ≤ length rows → z .m ≤ length firsts → z .t ≤ length outcomes
+        → (answer (λ T. T .size) (readInto rows firsts outcomes file) ≡ given (numbers z)) × Same (held z rs fs os) (after z)
+    tables-again z rs fs os bytes k e q long-rows long-firsts long-outcomes =
+        let long = subst (λ (n : ℕ). z .n ≤ n) (sym (length-map rows rowOf)) long-rows in
+        let (a, s) = write-read (held z rs fs os) bytes k (sym e) (rowsOf rows) firsts outcomes long long-firsts long-outcomes in (
+          ap (answer (λ T. T .size)) read-rows ∙ subst (λ (f : List ℕ). readCall f (rowsOf rows) firsts outcomes .answers ≡ given (numbers z)) (sym q) a,
+          subst (λ (T : Tables). Same (held z rs fs os) T) (sym (after-held z)) (subst (λ (f : List ℕ). Same (held z rs fs os) (afterReading (numbers z) f (rowsOf rows) firsts outcomes)) (sym q) s),
+        )

@@ -1,2 +1,1 @@
-pub mod FlatRows
 pub mod Again

@@ -23,3 +23,6 @@ pub mod GrowSame
 pub mod Overwrites
 pub mod Rising
 pub mod Slices
+pub mod Wrote
+pub mod Spreads
+pub mod Turns

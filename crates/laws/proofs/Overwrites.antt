@@ -9,12 +9,15 @@ use lib.Seq.{ext-getD}
 use Rattle.laws.specs.Lists.{tabulate, overwrite}
 use Rattle.laws.proofs.Lists.{length-tabulate, tabulate-at, length-overwrite, getD-overwrite-below, getD-overwrite-above}
 
+pub overwrite-at : (f : ℕ → ℕ) (n : ℕ) (table : List ℕ) (i : ℕ) → i < n → getD (overwrite (tabulate f 0 n) table) i 0 ≡ f i
+overwrite-at f n table i h = getD-overwrite-below (tabulate f 0 n) table i 0 (rw (length-tabulate f 0 n) h) ∙ tabulate-at f n i 0 h
+
 module _ (f : ℕ → ℕ) (n : ℕ) (table : List ℕ) (long : n ≤ length table) where
   pub overwrite-length : length (overwrite (tabulate f 0 n) table) ≡ length table
   overwrite-length = length-overwrite (tabulate f 0 n) table (rw (length-tabulate f 0 n) long)
 
   pub overwrite-low : (i : ℕ) → i < n → getD (overwrite (tabulate f 0 n) table) i 0 ≡ f i
-  overwrite-low i h = getD-overwrite-below (tabulate f 0 n) table i 0 (rw (length-tabulate f 0 n) h) ∙ tabulate-at f n i 0 h
+  overwrite-low = overwrite-at f n table
 
   pub overwrite-high : (i : ℕ) → n ≤ i → getD (overwrite (tabulate f 0 n) table) i 0 ≡ getD table i 0
   overwrite-high i h = getD-overwrite-above (tabulate f 0 n) table i 0 (rw (length-tabulate f 0 n) h)

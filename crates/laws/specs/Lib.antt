@@ -3,3 +3,4 @@ pub mod Lists
 pub mod Entry
 pub mod Writes
 pub mod Filled
+pub mod Wrote

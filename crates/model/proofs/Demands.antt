@@ -28,19 +28,26 @@ unfolding entry fromEntry
 from-entry none h = refl
 from-entry (some i) h = from-number i (h i refl)
 
+-- the entries of deciding's tables are read as what they hold
+module _ (P : Plan) (S : Valid P) (few : P .states < 65535) (fit : (s : ℕ) → s < P .states → P .commands s < 65535) where
+  pub rank-entry : (s : ℕ) → fromEntry (entry (rank P s)) ≡ rank P s
+  rank-entry s = from-entry (rank P s) (λ r e. omega (arith, rank-bound P s r e))
+
+  pub chosen-entry : (s : ℕ) → s < P .states → fromEntry (entry (chosen P s)) ≡ chosen P s
+  chosen-entry s l =
+      from-entry (chosen P s) (λ c e. omega (arith, choice-some P (lost P) s c (sym (chosen-choice P S s l) ∙ e) .1, fit s l))
+
 module _ (P : Plan) (S : Valid P) (few : P .states < 65535) (fit : (s : ℕ) → s < P .states → P .commands s < 65535)
     (ranks commands table : List ℕ)
     (is-rank : (s : ℕ) → s < P .states → getD ranks s FFFF ≡ entry (rank P s))
     (is-chosen : (s : ℕ) → s < P .states → getD commands s FFFF ≡ entry (chosen P s)) where
   rank-read : (s : ℕ) → s < P .states → readEntry ranks s ≡ rank P s
   unfolding readEntry
-  rank-read s l = ap fromEntry (is-rank s l) ∙ from-entry (rank P s) (λ r e. omega (arith, rank-bound P s r e))
+  rank-read s l = ap fromEntry (is-rank s l) ∙ rank-entry P S few fit s
 
   chosen-read : (s : ℕ) → s < P .states → readEntry commands s ≡ chosen P s
   unfolding readEntry
-  chosen-read s l =
-      ap fromEntry (is-chosen s l)
-      ∙ from-entry (chosen P s) (λ c e. omega (arith, choice-some P (lost P) s c (sym (chosen-choice P S s l) ∙ e) .1, fit s l))
+  chosen-read s l = ap fromEntry (is-chosen s l) ∙ chosen-entry P S few fit s l
 
   module _ (a : ℕ) (in-plan : a < P .states)
       (is-command : (s : ℕ) → s < P .states → getD table s FFFF ≡ entry (search P a .command s)) where

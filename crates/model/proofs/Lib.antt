@@ -36,3 +36,5 @@ pub mod RoundTrips
 pub mod Delivered
 pub mod Bench
 pub mod BenchCases
+pub mod Decimals
+pub mod ListingLength

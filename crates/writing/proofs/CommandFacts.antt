@@ -8,6 +8,7 @@ use native.Mathlib.Omega.{arith}
 use lib.ListN.{length}
 use lib.Seq.{slice, length-slice}
 use Rattle.laws.specs.Entry.{two, twos}
+use Rattle.laws.specs.Wrote.{Wrote}
 use Rattle.laws.proofs.Entry.{length-twos}
 use Rattle.model.specs.File.{commandTag}
 use Rattle.model.specs.Bytes.{commandsBytes}
@@ -15,7 +16,6 @@ use Rattle.model.specs.Places.{firstOutcome, outcomesAt}
 use Rattle.model.proofs.SoundFacts.{Fits, sound-facts}
 use Rattle.tables.specs.declared.Size.{Size}
 use Rattle.tables.specs.Meaning.{held}
-use Rattle.writing.specs.Wrote.{Wrote}
 use Rattle.writing.specs.Linked.{Linked}
 
 -- one command, of the outcomes from a place up to an end

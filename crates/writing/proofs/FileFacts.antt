@@ -9,8 +9,11 @@ use lib.ListN.{length, length-append}
 use borrow.Author.Tests.{not-true, not-false, lt-leb, le-leb}
 use Rattle.laws.specs.Entry.{two}
 use Rattle.laws.specs.Lists.{tabulate}
+use Rattle.laws.specs.Wrote.{Wrote}
 use Rattle.laws.proofs.Lists.{length-tabulate}
 use Rattle.laws.proofs.Writes.{put-front}
+use Rattle.laws.proofs.Wrote.{wrote-then, wrote-length}
+use Rattle.laws.proofs.Spreads.{front}
 use Rattle.model.specs.Refusal.{Unsound, Cramped, given, refused, answer, need, _>>_}
 use Rattle.model.specs.File.{headTag, endTag}
 use Rattle.model.specs.Bytes.{statesBytes, bytesOf}
@@ -26,10 +29,8 @@ use Rattle.tables.specs.declared.Refusal.{Refusal as Word}
 use Rattle.tables.specs.declared.internal.Gate.{Gate}
 use Rattle.tables.specs.declared.internal.Gate.the-variants.{Open, Shut}
 use Rattle.tables.specs.Meaning.{refusalOf, gateOf}
-use Rattle.writing.specs.Wrote.{Wrote}
 use Rattle.writing.specs.Answers.{admitted}
-use Rattle.writing.proofs.Stores.{wrote-then, wrote-length}
-use Rattle.writing.proofs.Spreads.{front, states-spread}
+use Rattle.writing.proofs.Spreads.{states-spread}
 
 module _ (T : Tables) where
   abbrev headBytes : List ℕ

@@ -1,7 +1,5 @@
 pub mod RowReads
-pub mod Stores
 pub mod Spreads
-pub mod Turns
 pub mod OutcomeFacts
 pub mod CommandFacts
 pub mod StateFacts

@@ -6,10 +6,10 @@ use lib.ListN.{length, getD}
 use lib.Seq.{slice}
 use Rattle.laws.specs.Entry.{twos}
 use Rattle.laws.specs.Lists.{tabulate}
+use Rattle.laws.specs.Wrote.{Wrote}
 use Rattle.laws.proofs.Entry.{length-twos}
 use Rattle.laws.proofs.Lists.{length-tabulate}
 use Rattle.laws.proofs.Steps.{tabulate-slice}
-use Rattle.writing.specs.Wrote.{Wrote}
 
 pub outcomes-ready : (f : ℕ → ℕ) (a k place size : ℕ) → place + k * 2 ≤ size → place + length (twos (tabulate f a k) []) ≤ size
 outcomes-ready f a k place size h = omega (arith, length-twos (tabulate f a k) [], length-tabulate f a k)

@@ -3,7 +3,7 @@ ghost use mathlib.Core.List.{[], _∷_};
 ghost use Prim.Native.Nat.{_+_, _<_, _≤_};
 ghost use lib.ListN.{length};
 ghost use Rattle.laws.specs.Entry.{two};
-ghost use Rattle.writing.specs.Wrote.{Wrote};
+ghost use Rattle.laws.specs.Wrote.{Wrote};
 
 pub fn put_byte(out: &mut [u8], place: usize, x: usize) -> usize
     requires { ⌜ (place < length (now out)) × (x < 256) ⌝ }

@@ -1,5 +1,5 @@
 use borrow.Author.Needs.{needs}
-use Rattle.writing.proofs.Stores.{wrote-one}
+use Rattle.laws.proofs.Wrote.{wrote-one}
 use Rattle.writing.proofs.bytes.put_byte.Statement.{statement}
 use Rattle.writing.proofs.bytes.put_byte.Tie as tie
 

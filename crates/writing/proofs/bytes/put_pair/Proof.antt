@@ -1,5 +1,5 @@
 use borrow.Author.Needs.{needs}
-use Rattle.writing.proofs.Stores.{wrote-then}
+use Rattle.laws.proofs.Wrote.{wrote-then}
 use Rattle.writing.proofs.bytes.put_pair.Statement.{statement}
 use Rattle.writing.proofs.bytes.put_pair.Tie as tie
 

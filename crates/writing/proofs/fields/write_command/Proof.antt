@@ -1,6 +1,6 @@
 use borrow.Author.Needs.{needs}
+use Rattle.laws.proofs.Wrote.{wrote-then}
 use Rattle.writing.proofs.CommandFacts.{command-wrote}
-use Rattle.writing.proofs.Stores.{wrote-then}
 use Rattle.writing.proofs.fields.write_command.Statement.{statement}
 use Rattle.writing.proofs.fields.write_command.Tie as tie
 

@@ -2,9 +2,9 @@ use Prim.Native.Nat.{_-_}
 use native.Mathlib.Omega.{arith}
 use lib.ListN.{getD}
 use Rattle.laws.specs.Entry.{twos}
+use Rattle.laws.proofs.Turns.{Turn, turn-start, turn-room, turn-next, turn-done}
+use Rattle.laws.proofs.Spreads.{twos-spread}
 use Rattle.writing.proofs.OutcomeFacts.{outcomes-ready, outcomes-stored}
-use Rattle.writing.proofs.Turns.{Turn, turn-start, turn-room, turn-next, turn-done}
-use Rattle.writing.proofs.Spreads.{twos-spread}
 use Rattle.writing.proofs.fields.write_outcomes.Statement.{statement}
 use Rattle.writing.proofs.fields.write_outcomes.Tie as tie
 

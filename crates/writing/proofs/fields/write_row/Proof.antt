@@ -1,5 +1,5 @@
 use borrow.Author.Needs.{needs}
-use Rattle.writing.proofs.Stores.{wrote-then}
+use Rattle.laws.proofs.Wrote.{wrote-then}
 use Rattle.writing.proofs.fields.write_row.Statement.{statement}
 use Rattle.writing.proofs.fields.write_row.Tie as tie
 

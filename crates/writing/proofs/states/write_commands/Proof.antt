@@ -1,12 +1,12 @@
 use mathlib.Core.List.{[]}
 use Prim.Native.Nat.{_-_}
 use native.Mathlib.Omega.{arith}
+use Rattle.laws.proofs.Turns.{Turn, turn-start, turn-room, turn-next, turn-done}
 use Rattle.model.specs.Places.{outcomesAt}
 use Rattle.model.specs.Bytes.{commandsBytes}
 use Rattle.tables.specs.Meaning.{held}
 use Rattle.writing.specs.Linked.{commandsFrom}
 use Rattle.writing.proofs.CommandFacts.{firsts-long, command-ready, command-stored}
-use Rattle.writing.proofs.Turns.{Turn, turn-start, turn-room, turn-next, turn-done}
 use Rattle.writing.proofs.Spreads.{commands-spread}
 use Rattle.writing.proofs.states.write_commands.Statement.{statement}
 use Rattle.writing.proofs.states.write_commands.Tie as tie

@@ -1,5 +1,5 @@
 use borrow.Author.Needs.{needs}
-use Rattle.writing.proofs.Stores.{wrote-then}
+use Rattle.laws.proofs.Wrote.{wrote-then}
 use Rattle.writing.proofs.StateFacts.{row-ready, commands-ready}
 use Rattle.writing.proofs.states.write_state.Statement.{statement}
 use Rattle.writing.proofs.states.write_state.Tie as tie

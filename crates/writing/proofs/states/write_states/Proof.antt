@@ -3,11 +3,11 @@ mod Tie
 use Prim.Native.Nat.{_-_}
 use native.Mathlib.Nat.{sub-zero}
 use native.Mathlib.Omega.{arith}
+use Rattle.laws.proofs.Turns.{Turn, turn-start, turn-room, turn-next, turn-done}
 use Rattle.model.specs.Held.{stateAt}
 use Rattle.model.specs.Bytes.{statesBytes}
 use Rattle.tables.specs.Meaning.{held}
 use Rattle.writing.proofs.StateFacts.{span-ready, state-ready, state-stored}
-use Rattle.writing.proofs.Turns.{Turn, turn-start, turn-room, turn-next, turn-done}
 use Rattle.writing.proofs.Spreads.{states-spread}
 use Rattle.writing.proofs.states.write_states.Statement.{statement}
 use Rattle.writing.proofs.states.write_states.Proof.Tie as tie

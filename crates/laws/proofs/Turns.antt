@@ -4,13 +4,13 @@ use mathlib.Core.List.{List, [], _∷_, _++_}
 use Prim.Native.Nat.{ℕ, _+_, _-_, _<_, _≤_}
 use native.Mathlib.Omega.{arith}
 use lib.ListN.{length, length-append}
 use Rattle.laws.specs.Lists.{tabulate}
 use Rattle.laws.specs.Writes.{putAll}
+use Rattle.laws.specs.Wrote.{Wrote}
 use Rattle.laws.proofs.Steps.{tabulate-more, tabulate-none}
 use Rattle.laws.proofs.Writes.{put-append}
-use Rattle.writing.specs.Wrote.{Wrote}
-use Rattle.writing.proofs.Stores.{wrote-length}
-use Rattle.writing.proofs.Spreads.{Spread}
+use Rattle.laws.proofs.Wrote.{wrote-length}
+use Rattle.laws.proofs.Spreads.{Spread}
 
 module _ {A : Type 0} (g : List A → List ℕ → List ℕ) (f : ℕ → A) (end : ℕ) where
   -- the bytes from i on

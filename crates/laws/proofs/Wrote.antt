@@ -4,9 +4,9 @@ use mathlib.Core.List.{List, [], _∷_, _++_}
 use Prim.Native.Nat.{ℕ, _+_}
 use native.Mathlib.Omega.{arith}
 use lib.ListN.{length, set, length-append}
 use Rattle.laws.specs.Writes.{putAll}
+use Rattle.laws.specs.Wrote.{Wrote}
 use Rattle.laws.proofs.Writes.{length-put, put-append}
-use Rattle.writing.specs.Wrote.{Wrote}
 
 pub wrote-one : (l : List ℕ) (i x : ℕ) → Wrote l i (x ∷ []) (set l i x) (i + 1)
 unfolding putAll

@@ -1,0 +1,53 @@
+-- The words of entries, of marks and of refusals.
+use mathlib.Core.Path.{_≡_, refl}
+use mathlib.Core.Bool.{Bool, true, false, not, cond}
+use mathlib.Core.Logic.{⊎-elim}
+use mathlib.Core.List.{[], _∷_}
+use Prim.Native.Nat.{ℕ, _+_, _%_, _<_}
+use native.Mathlib.Omega.{arith}
+use lib.Dec.{eqb, leb}
+use borrow.Author.Tests.{ne-eqb}
+use Rattle.laws.specs.Entry.{FFFF, fromEntry}
+use Rattle.laws.specs.Sets.{found}
+use Rattle.laws.proofs.Tests.{true-or-false}
+use Rattle.model.specs.Plan.{Plan}
+use Rattle.model.specs.Policy.{policyFails, fault, mark}
+use Rattle.model.specs.Refusal.{Refusal, Cut, Surplus, Tag, Length, Beyond, Unsorted, Idle, Limit, Cramped, Unsound, Stranger, number}
+use Rattle.model.specs.Listing.{decimal, numberOrDash}
+
+pub dash-word : (e : ℕ) → e ≡ FFFF → numberOrDash (fromEntry e) ≡ 45 ∷ []
+unfolding numberOrDash fromEntry
+dash-word e h = rw h
+
+pub number-word : (e : ℕ) → (e ≡ FFFF → ⊥) → numberOrDash (fromEntry e) ≡ decimal e
+unfolding numberOrDash fromEntry
+number-word e h = rw (ne-eqb e FFFF h)
+
+-- an entry tells a number where it is not FFFF
+pub found-entry : (e : ℕ) → found (fromEntry e) ≡ not (eqb e FFFF)
+unfolding found fromEntry
+found-entry e = ⊎-elim (λ h. rw h) (λ h. rw h) (true-or-false (eqb e FFFF))
+
+-- the two parts of a mark
+mark-parts : (fails faulty : Bool) → (eqb ((cond fails 1 0 + cond faulty 2 0) % 2) 1 ≡ fails) × (leb 2 (cond fails 1 0 + cond faulty 2 0) ≡ faulty)
+mark-parts true true = (refl, refl)
+mark-parts true false = (refl, refl)
+mark-parts false true = (refl, refl)
+mark-parts false false = (refl, refl)
+
+pub mark-says : (P : Plan) (s m : ℕ) → mark P s ≡ m → (eqb (m % 2) 1 ≡ policyFails P s) × (leb 2 m ≡ fault P s)
+unfolding mark
+mark-says P s m e = rw (← e) (mark-parts (policyFails P s) (fault P s))
+
+pub number-small : (r : Refusal) → number r < 1000000
+number-small Cut = omega arith
+number-small Surplus = omega arith
+number-small Tag = omega arith
+number-small Length = omega arith
+number-small Beyond = omega arith
+number-small Unsorted = omega arith
+number-small Idle = omega arith
+number-small Limit = omega arith
+number-small Cramped = omega arith
+number-small Unsound = omega arith
+number-small Stranger = omega arith

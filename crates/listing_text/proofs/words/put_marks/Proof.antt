@@ -1,0 +1,38 @@
+use mathlib.Core.List.{[], _∷_}
+use native.Mathlib.Omega.{arith}
+use borrow.Author.Needs.{needs}
+use Rattle.listing_text.proofs.Lines.{words-wrote}
+use Rattle.listing_text.proofs.words.put_marks.Statement.{statement}
+use Rattle.listing_text.proofs.words.put_marks.Tie as tie
+
+policy-letter-requires : tie.Need-policy-letter-requires
+policy-letter-requires c κs = search needs
+
+put-letter-requires : tie.Need-put-letter-requires
+put-letter-requires c κs = search needs
+
+fault-sign-requires : tie.Need-fault-sign-requires
+fault-sign-requires c κs = search needs
+
+put-letter-requires-2 : tie.Need-put-letter-requires-2
+put-letter-requires-2 c κs = search needs
+
+same-length : tie.Need-same-length
+same-length c = search needs
+
+returns : tie.Need-returns
+returns c =
+    let practice = c .before .before .before .before .before .before .before .put-letter .ensures in
+    let sign = c .before .before .put-letter2 .ensures in
+    (words-wrote (_ ∷ []) (_ ∷ []) (rw (c .before .before .before .before .before .before .before .before .policy-letter .ensures) at (practice .0)) (rw (c .before .before .before .fault-sign .ensures) at (sign .0)), omega arith)
+
+pub put-marks-spec : {M : Type 1} → statement M
+put-marks-spec =
+    tie.close
+    (tie.spec
+    policy-letter-requires
+    put-letter-requires
+    fault-sign-requires
+    put-letter-requires-2
+    same-length
+    returns)

@@ -1,0 +1,30 @@
+use mathlib.Core.List.{[], _∷_}
+use native.Mathlib.Omega.{arith}
+use borrow.Author.Needs.{needs}
+use Rattle.listing_text.proofs.Lines.{words-wrote}
+use Rattle.listing_text.proofs.words.put_three.Statement.{statement}
+use Rattle.listing_text.proofs.words.put_three.Tie as tie
+
+put-number-requires : tie.Need-put-number-requires
+put-number-requires c κs = search needs
+
+put-number-requires-2 : tie.Need-put-number-requires-2
+put-number-requires-2 c κs = search needs
+
+put-number-requires-3 : tie.Need-put-number-requires-3
+put-number-requires-3 c κs = search needs
+
+same-length : tie.Need-same-length
+same-length c = search needs
+
+returns : tie.Need-returns
+returns c =
+    let x = c .before .before .before .before .before .before .before .before .before .before .put-number .ensures in
+    let y = c .before .before .before .before .before .before .put-number2 .ensures in
+    let z = c .before .before .put-number3 .ensures in
+    (words-wrote (_ ∷ []) (_ ∷ _ ∷ []) (x .0) (words-wrote (_ ∷ []) (_ ∷ []) (y .0) (z .0)), omega arith)
+
+pub put-three-spec : {M : Type 1} → statement M
+put-three-spec =
+    tie.close
+    (tie.spec put-number-requires put-number-requires-2 put-number-requires-3 same-length returns)

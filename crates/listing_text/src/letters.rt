@@ -1,0 +1,47 @@
+// The letters of a state's line.
+ghost use mathlib.Core.Path.{_≡_};
+ghost use mathlib.Core.List.{[], _∷_};
+ghost use Prim.Native.Nat.{_%_};
+ghost use lib.Dec.{eqb, leb};
+ghost use Rattle.model.specs.Listing.{kindLetter, verdictLetter, policyLetter, faultSign};
+
+pub fn kind_letter(kind: u16) -> u8
+    ensures { λ r. ⌜ r ∷ [] ≡ kindLetter kind ⌝ }
+{
+    if kind == 0 {
+        return b'o';
+    }
+    if kind == 1 {
+        return b'f';
+    }
+    b'r'
+}
+
+pub fn verdict_letter(lost: bool) -> u8
+    ensures { λ r. ⌜ r ∷ [] ≡ verdictLetter lost ⌝ }
+{
+    if lost {
+        return b'L';
+    }
+    b'S'
+}
+
+// The practice fails where the mark is odd.
+pub fn policy_letter(mark: u16) -> u8
+    ensures { λ r. ⌜ r ∷ [] ≡ policyLetter (eqb (mark % 2) 1) ⌝ }
+{
+    if mark % 2 == 1 {
+        return b'F';
+    }
+    b'H'
+}
+
+// A fault is where 2 was added to the mark.
+pub fn fault_sign(mark: u16) -> u8
+    ensures { λ r. ⌜ r ∷ [] ≡ faultSign (leb 2 mark) ⌝ }
+{
+    if 2 <= mark {
+        return b'!';
+    }
+    b'.'
+}

@@ -1,0 +1,96 @@
+// Words with a space before each.
+ghost use mathlib.Core.Path.{_≡_};
+ghost use mathlib.Core.List.{[], _∷_};
+ghost use Prim.Native.Nat.{_+_, _%_, _<_, _≤_};
+ghost use lib.Dec.{eqb, leb};
+ghost use lib.ListN.{length, getD};
+ghost use Rattle.laws.specs.Entry.{fromEntry};
+ghost use Rattle.laws.specs.Sets.{found};
+ghost use Rattle.laws.specs.Wrote.{Wrote};
+ghost use Rattle.model.specs.Listing.{decimal, verdictLetter, numberOrDash, policyLetter, faultSign};
+ghost use Rattle.listing_text.specs.Words.{spaced};
+use crate::bytes::put_both;
+use crate::bytes::put_one;
+use crate::digits::put_decimal;
+use crate::letters::fault_sign;
+use crate::letters::policy_letter;
+use crate::letters::verdict_letter;
+
+const SPACE: u8 = 32;
+
+// The entry for none.
+const NONE: u16 = 65535;
+
+pub fn put_letter(out: &mut [u8], place: usize, letter: u8) -> usize
+    requires { ⌜ place + 2 ≤ length (now out) ⌝ }
+    ensures wrote { λ r. ⌜ Wrote (now (out .entry)) place (spaced ((letter ∷ []) ∷ [])) (now (out .exit)) r ⌝ }
+    ensures ends { λ r. ⌜ r ≤ place + 2 ⌝ }
+{
+    put_both(out, place, SPACE, letter)
+}
+
+pub fn put_number(out: &mut [u8], place: usize, x: usize) -> usize
+    requires { ⌜ (place + 7 ≤ length (now out)) × (x < 1000000) ⌝ }
+    ensures wrote { λ r. ⌜ Wrote (now (out .entry)) place (spaced (decimal x ∷ [])) (now (out .exit)) r ⌝ }
+    ensures ends { λ r. ⌜ r ≤ place + 7 ⌝ }
+{
+    let next = put_one(out, place, SPACE);
+    put_decimal(out, next, x)
+}
+
+pub fn put_three(out: &mut [u8], place: usize, x: usize, y: usize, z: usize) -> usize
+    requires { ⌜ (place + 21 ≤ length (now out)) × (x < 1000000) × (y < 1000000) × (z < 1000000) ⌝ }
+    ensures wrote { λ r. ⌜ Wrote (now (out .entry)) place (spaced (decimal x ∷ decimal y ∷ decimal z ∷ [])) (now (out .exit)) r ⌝ }
+    ensures ends { λ r. ⌜ r ≤ place + 21 ⌝ }
+{
+    let second = put_number(out, place, x);
+    let third = put_number(out, second, y);
+    put_number(out, third, z)
+}
+
+fn wide(x: u16) -> usize
+    ensures { λ r. ⌜ (r ≡ x) × (r < 65536) ⌝ }
+{
+    x as usize
+}
+
+// A row of the tally.
+pub fn put_row(out: &mut [u8], place: usize, row: [u16; 3]) -> usize
+    requires { ⌜ place + 21 ≤ length (now out) ⌝ }
+    ensures wrote { λ r. ⌜ Wrote (now (out .entry)) place (spaced (decimal (getD row 0 0) ∷ decimal (getD row 1 0) ∷ decimal (getD row 2 0) ∷ [])) (now (out .exit)) r ⌝ }
+    ensures ends { λ r. ⌜ r ≤ place + 21 ⌝ }
+{
+    put_three(out, place, wide(row[0]), wide(row[1]), wide(row[2]))
+}
+
+// An entry's number, or a dash for none.
+pub fn put_entry(out: &mut [u8], place: usize, e: u16) -> usize
+    requires { ⌜ place + 7 ≤ length (now out) ⌝ }
+    ensures wrote { λ r. ⌜ Wrote (now (out .entry)) place (spaced (numberOrDash (fromEntry e) ∷ [])) (now (out .exit)) r ⌝ }
+    ensures ends { λ r. ⌜ r ≤ place + 7 ⌝ }
+{
+    if e == NONE {
+        return put_letter(out, place, b'-');
+    }
+    put_number(out, place, e as usize)
+}
+
+// The verdict that a rank's entry tells, and the rank.
+pub fn put_verdict(out: &mut [u8], place: usize, rank: u16) -> usize
+    requires { ⌜ place + 9 ≤ length (now out) ⌝ }
+    ensures wrote { λ r. ⌜ Wrote (now (out .entry)) place (spaced (verdictLetter (found (fromEntry rank)) ∷ numberOrDash (fromEntry rank) ∷ [])) (now (out .exit)) r ⌝ }
+    ensures ends { λ r. ⌜ r ≤ place + 9 ⌝ }
+{
+    let next = put_letter(out, place, verdict_letter(rank != NONE));
+    put_entry(out, next, rank)
+}
+
+// What a mark says of the practice.
+pub fn put_marks(out: &mut [u8], place: usize, mark: u16) -> usize
+    requires { ⌜ place + 4 ≤ length (now out) ⌝ }
+    ensures wrote { λ r. ⌜ Wrote (now (out .entry)) place (spaced (policyLetter (eqb (mark % 2) 1) ∷ faultSign (leb 2 mark) ∷ [])) (now (out .exit)) r ⌝ }
+    ensures ends { λ r. ⌜ r ≤ place + 4 ⌝ }
+{
+    let next = put_letter(out, place, policy_letter(mark));
+    put_letter(out, next, fault_sign(mark))
+}
