@@ -86,6 +86,14 @@ def twin_source(crate, file, text, whole, element, types):
     return "\n".join(out)
 
 
+def seen_from_outside(files):
+    """The sources of a crate that others can name: its root and its public modules, and the root without the other modules."""
+    root = files["lib.rt"]
+    hidden = re.findall(r"^mod (\w+);", root, flags=re.M)
+    lines = [x for x in root.split("\n") if not any(re.match(rf"mod {h};|use (crate::)?{h}::", x) for h in hidden)]
+    return {"lib.rt": "\n".join(lines)} | {f: t for f, t in files.items() if f[: -len(".rt")] not in hidden and f != "lib.rt"}
+
+
 def write_twin(repo, crate, out, whole, element):
     """The twin of a crate and of those below it."""
     crates = read_crates(repo)
@@ -98,19 +106,20 @@ def write_twin(repo, crate, out, whole, element):
             order.append(name)
 
     visit(crate)
-    types = {}
+    sources, types = {}, {}
     for name in order:
-        for _, path in source_files(repo, name):
+        files = {}
+        for file, path in source_files(repo, name):
             with open(path) as f:
-                learn_types(f.read(), types)
+                files[file] = f.read()
+            learn_types(files[file], types)
+        sources[name] = files if name == crate else seen_from_outside(files)
     os.makedirs(out, exist_ok=True)
     with open(f"{out}/crates.txt", "w") as f:
         f.writelines(f"{c}: {' '.join(crates[c])}\n" for c in order)
     for name in order:
         folder = f"{out}/crates/{name}/src"
         os.makedirs(folder, exist_ok=True)
-        for file, path in source_files(repo, name):
-            with open(path) as f:
-                text = twin_source(name, file, f.read(), whole if name == crate else (), element, types)
+        for file, text in sources[name].items():
             with open(f"{folder}/{file}", "w") as f:
-                f.write(text)
+                f.write(twin_source(name, file, text, whole if name == crate else (), element, types))

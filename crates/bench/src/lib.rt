@@ -36,6 +36,13 @@ pub fn print_number(x: u64) {
     io::print_decimal(1, x);
 }
 
+// The line of a refusal.
+pub fn print_refusal(number: u32) {
+    io::write_all(1, b"refused");
+    print_number(number as u64);
+    io::write_all(1, b"\n");
+}
+
 fn print_entry(x: u16) {
     if x == 65535 {
         io::write_all(1, b" -");

@@ -1,19 +1,19 @@
 // Reads plan files from standard input and prints of each what reading answers, and whether writing gives the same bytes again.
 // Before a file stand its length and how many rows, first outcomes and outcomes are lent for it, two bytes each, highest first.
 ghost use Prim.Native.Nat.{_≤_};
+ghost use lib.ListN.{length};
 use reading::ReadAnswer;
+use tables::Row;
 use tables::Size;
 use writing::WriteAnswer;
 
-// What was read is written again and compared.
-fn compare(file: &[u8], size: Size, rows: &[u16], firsts: &[u16], outcomes: &[u16]) {
-    let mut bytes = [0u8; 58378];
-    let w = writing::write(size, rows, firsts, outcomes, &mut bytes);
+// The bytes that were written, compared with the file.
+fn print_written(file: &[u8], w: WriteAnswer, bytes: &[u8]) {
     let WriteAnswer::Given(length) = w else {
         io::write_all(1, b" not written\n");
         return;
     };
-    let end = bench::least(length, 58378);
+    let end = bench::least(length, bytes.len());
     if check::same(file, &bytes[..end]) {
         io::write_all(1, b" same\n");
         return;
@@ -21,58 +21,51 @@ fn compare(file: &[u8], size: Size, rows: &[u16], firsts: &[u16], outcomes: &[u1
     io::write_all(1, b" changed\n");
 }
 
-// Reads a file into as many places as are lent for it, and prints the answer.
-fn judge(
-    file: &[u8],
-    row_table: &mut [u16],
-    first_table: &mut [u16],
-    outcome_table: &mut [u16],
-    rows: usize,
-    firsts: usize,
-    outcomes: usize,
-)
-    requires { ⌜ rows ≤ 65535 ⌝ }
-{
-    let row_end = bench::least(rows * 3, row_table.len());
-    let first_end = bench::least(firsts, first_table.len());
-    let outcome_end = bench::least(outcomes, outcome_table.len());
-    let r = reading::read(
-        file,
-        &mut row_table[..row_end],
-        &mut first_table[..first_end],
-        &mut outcome_table[..outcome_end],
-    );
+fn print_size(size: Size) {
+    io::write_all(1, b"read");
+    bench::print_number(size.n as u64);
+    bench::print_number(size.m as u64);
+    bench::print_number(size.t as u64);
+    bench::print_number(size.start as u64);
+}
+
+// What was read is written again and compared.
+pub fn write_again(file: &[u8], size: Size, rows: &[Row], firsts: &[u16], outcomes: &[u16]) {
+    let mut bytes = [0u8; 58378];
+    let w = writing::write(size, rows, firsts, outcomes, &mut bytes);
+    print_written(file, w, &bytes);
+}
+
+// Reads a file, and prints the answer.
+pub fn try_file(file: &[u8], rows: &mut [Row], firsts: &mut [u16], outcomes: &mut [u16]) {
+    let r = reading::read(file, rows, firsts, outcomes);
     match r {
         ReadAnswer::Refused(x) => {
-            io::write_all(1, b"refused");
-            bench::print_number(tables::number(x) as u64);
-            io::write_all(1, b"\n");
+            bench::print_refusal(tables::number(x));
         }
         ReadAnswer::Given(size) => {
-            io::write_all(1, b"read");
-            bench::print_number(size.n as u64);
-            bench::print_number(size.m as u64);
-            bench::print_number(size.t as u64);
-            bench::print_number(size.start as u64);
-            compare(file, size, row_table, first_table, outcome_table);
+            print_size(size);
+            write_again(file, size, rows, firsts, outcomes);
         }
     }
 }
 
-fn case(file: &[u8], rows: usize, firsts: usize, outcomes: usize)
-    requires { ⌜ rows ≤ 65535 ⌝ }
+// Lends as many places as are asked for.
+fn lend(file: &[u8], rows: usize, firsts: usize, outcomes: usize)
+    requires { ⌜ (rows ≤ 1024) × (firsts ≤ 4096) × (outcomes ≤ 16384) ⌝ }
 {
-    let mut row_table = [0u16; 3072];
+    let mut row_table = [Row {
+        kind: 0,
+        first: 0,
+        practice: 0,
+    }; 1024];
     let mut first_table = [0u16; 4096];
     let mut outcome_table = [0u16; 16384];
-    judge(
+    try_file(
         file,
-        &mut row_table,
-        &mut first_table,
-        &mut outcome_table,
-        rows,
-        firsts,
-        outcomes,
+        &mut row_table[..rows],
+        &mut first_table[..firsts],
+        &mut outcome_table[..outcomes],
     );
 }
 
@@ -86,11 +79,11 @@ fn cases(input: &[u8]) {
             return;
         }
         let end = 8 + length;
-        case(
+        lend(
             &rest[8..end],
-            bench::number(rest, 2),
-            bench::number(rest, 4),
-            bench::number(rest, 6),
+            bench::least(bench::number(rest, 2), 1024),
+            bench::least(bench::number(rest, 4), 4096),
+            bench::least(bench::number(rest, 6), 16384),
         );
         at = at + end;
     }

@@ -1,15 +1,12 @@
 // Decides the plans of standard input and searches each from every state, and prints all that is answered and left in the tables.
 // Before a plan file stands its length in two bytes, highest first.
 use decide::DecideAnswer;
+use decide::Decision;
 use reading::ReadAnswer;
+use search::Found;
 use search::SearchAnswer;
+use tables::Row;
 use tables::Size;
-
-fn print_refusal(number: u32) {
-    io::write_all(1, b"refused");
-    bench::print_number(number as u64);
-    io::write_all(1, b"\n");
-}
 
 fn print_tables(n: usize, ranks: &[u16], commands: &[u16], marks: &[u16]) {
     io::write_all(1, b"ranks");
@@ -33,36 +30,31 @@ fn print_tally(safe: [u16; 3], lost: [u16; 3]) {
     io::write_all(1, b"\n");
 }
 
-// The search from one start.
-fn try_start(
-    size: Size,
-    rows: &[u16],
-    firsts: &[u16],
-    outcomes: &[u16],
-    start: usize,
-    commands: &mut [u16],
-    scratch: &mut [u16],
-) {
-    let s = search::search(size, rows, firsts, outcomes, start, commands, scratch);
+fn print_found(found: Found, n: usize, commands: &[u16]) {
+    if found.lost {
+        io::write_all(1, b"lost");
+    } else {
+        io::write_all(1, b"safe");
+    }
+    bench::print_number(found.rounds as u64);
+    bench::print_entries(commands, n);
+}
+
+fn print_search(s: SearchAnswer, n: usize, commands: &[u16]) {
     match s {
         SearchAnswer::Refused(x) => {
-            print_refusal(tables::number(x));
+            bench::print_refusal(tables::number(x));
         }
         SearchAnswer::Given(found) => {
-            if found.lost {
-                io::write_all(1, b"lost");
-            } else {
-                io::write_all(1, b"safe");
-            }
-            bench::print_number(found.rounds as u64);
-            bench::print_entries(commands, size.n);
+            print_found(found, n, commands);
         }
     }
 }
 
-fn try_starts(
+// The search from every state.
+pub fn try_starts(
     size: Size,
-    rows: &[u16],
+    rows: &[Row],
     firsts: &[u16],
     outcomes: &[u16],
     commands: &mut [u16],
@@ -70,76 +62,71 @@ fn try_starts(
 ) {
     let mut start = 0;
     while start < size.n {
-        try_start(size, rows, firsts, outcomes, start, commands, scratch);
+        let s = search::search(size, rows, firsts, outcomes, start, commands, scratch);
+        print_search(s, size.n, commands);
         start += 1;
     }
 }
 
-fn try_plan(
-    size: Size,
-    rows: &[u16],
-    firsts: &[u16],
-    outcomes: &[u16],
-    ranks: &mut [u16],
-    commands: &mut [u16],
-    marks: &mut [u16],
-    scratch: &mut [u16],
-) {
+// Whether a plan was decided, and what is printed of it.
+fn print_decision(d: Decision, n: usize, ranks: &[u16], commands: &[u16], marks: &[u16]) -> bool {
+    let a = d.answer;
+    match a {
+        DecideAnswer::Refused(x) => {
+            bench::print_refusal(tables::number(x));
+            false
+        }
+        DecideAnswer::Given => {
+            print_tables(n, ranks, commands, marks);
+            let safe = d.safe;
+            let lost = d.lost;
+            print_tally(safe, lost);
+            true
+        }
+    }
+}
+
+pub fn try_plan(size: Size, rows: &[Row], firsts: &[u16], outcomes: &[u16]) {
+    let mut ranks = [0u16; 1024];
+    let mut commands = [0u16; 1024];
+    let mut marks = [0u16; 1024];
+    let mut scratch = [0u16; 1024];
     let d = decide::decide(
         size,
         rows,
         firsts,
         outcomes,
-        ranks,
-        commands,
-        marks,
-        scratch,
+        &mut ranks,
+        &mut commands,
+        &mut marks,
+        &mut scratch,
     );
-    let a = d.answer;
-    match a {
-        DecideAnswer::Refused(x) => {
-            print_refusal(tables::number(x));
-        }
-        DecideAnswer::Given => {
-            print_tables(size.n, ranks, commands, marks);
-            let safe = d.safe;
-            let lost = d.lost;
-            print_tally(safe, lost);
-            try_starts(size, rows, firsts, outcomes, commands, scratch);
-        }
+    if print_decision(d, size.n, &ranks, &commands, &marks) {
+        try_starts(size, rows, firsts, outcomes, &mut commands, &mut scratch);
     }
 }
 
-fn try_file(file: &[u8], rows: &mut [u16], firsts: &mut [u16], outcomes: &mut [u16]) {
+pub fn try_file(file: &[u8], rows: &mut [Row], firsts: &mut [u16], outcomes: &mut [u16]) {
     let r = reading::read(file, rows, firsts, outcomes);
     match r {
         ReadAnswer::Refused(x) => {
-            print_refusal(tables::number(x));
+            bench::print_refusal(tables::number(x));
         }
         ReadAnswer::Given(size) => {
-            let mut ranks = [0u16; 1024];
-            let mut commands = [0u16; 1024];
-            let mut marks = [0u16; 1024];
-            let mut scratch = [0u16; 1024];
-            try_plan(
-                size,
-                rows,
-                firsts,
-                outcomes,
-                &mut ranks,
-                &mut commands,
-                &mut marks,
-                &mut scratch,
-            );
+            try_plan(size, rows, firsts, outcomes);
         }
     }
 }
 
-fn try_bytes(file: &[u8]) {
-    let mut rows = [0u16; 3072];
+fn lend(file: &[u8]) {
+    let mut rows = [Row {
+        kind: 0,
+        first: 0,
+        practice: 0,
+    }; 1024];
     let mut firsts = [0u16; 4096];
     let mut outcomes = [0u16; 16384];
-    try_file(file, &mut rows, &mut firsts, &mut outcomes);
+    try_file(file, &mut rows[..], &mut firsts, &mut outcomes);
 }
 
 // All files, one behind another.
@@ -152,7 +139,7 @@ fn try_all(input: &[u8]) {
             return;
         }
         let end = 2 + length;
-        try_bytes(&rest[2..end]);
+        lend(&rest[2..end]);
         at = at + end;
     }
 }

@@ -1,5 +1,5 @@
-use Prim.Native.Nat.{_≤_, _-_}
 use native.Mathlib.Omega.{arith}
+use Prim.Native.Nat.{_≤_, _-_}
 use lib.ListN.{length}
 use Rattle.bench_files.proofs.cases.Statement.{statement}
 use Rattle.bench_files.proofs.cases.Tie as tie
@@ -34,26 +34,35 @@ returns c = omega arith
 add-end : tie.Need-add-end Inv-loop μ-loop
 add-end c = omega arith
 
-sub-case : tie.Need-sub-case Inv-loop μ-loop
-sub-case c = omega arith
+sub-lend : tie.Need-sub-lend Inv-loop μ-loop
+sub-lend c = omega arith
 
-part-case-start : tie.Need-part-case-start Inv-loop μ-loop
-part-case-start c = omega arith
+part-lend-start : tie.Need-part-lend-start Inv-loop μ-loop
+part-lend-start c = omega arith
 
-part-case-end : tie.Need-part-case-end Inv-loop μ-loop
-part-case-end c = omega arith
+part-lend-end : tie.Need-part-lend-end Inv-loop μ-loop
+part-lend-end c = omega arith
 
 number-requires-2 : tie.Need-number-requires-2 Inv-loop μ-loop
 number-requires-2 c κs = omega arith
 
+least-requires : tie.Need-least-requires Inv-loop μ-loop
+least-requires c κs = omega arith
+
 number-requires-3 : tie.Need-number-requires-3 Inv-loop μ-loop
 number-requires-3 c κs = omega arith
+
+least-requires-2 : tie.Need-least-requires-2 Inv-loop μ-loop
+least-requires-2 c κs = omega arith
 
 number-requires-4 : tie.Need-number-requires-4 Inv-loop μ-loop
 number-requires-4 c κs = omega arith
 
-case-requires : tie.Need-case-requires Inv-loop μ-loop
-case-requires c κs = omega arith
+least-requires-3 : tie.Need-least-requires-3 Inv-loop μ-loop
+least-requires-3 c κs = omega arith
+
+lend-requires : tie.Need-lend-requires Inv-loop μ-loop
+lend-requires c κs = omega arith
 
 add-at : tie.Need-add-at Inv-loop μ-loop
 add-at c = omega arith
@@ -81,13 +90,16 @@ cases-spec =
     add-if1
     returns
     add-end
-    sub-case
-    part-case-start
-    part-case-end
+    sub-lend
+    part-lend-start
+    part-lend-end
     number-requires-2
+    least-requires
     number-requires-3
+    least-requires-2
     number-requires-4
-    case-requires
+    least-requires-3
+    lend-requires
     add-at
     loop-less
     loop-again

@@ -34,17 +34,17 @@ returns c = omega arith
 add-end : tie.Need-add-end Inv-loop μ-loop
 add-end c = omega arith
 
-sub-try-bytes : tie.Need-sub-try-bytes Inv-loop μ-loop
-sub-try-bytes c = omega arith
+sub-lend : tie.Need-sub-lend Inv-loop μ-loop
+sub-lend c = omega arith
 
-part-try-bytes-start : tie.Need-part-try-bytes-start Inv-loop μ-loop
-part-try-bytes-start c = omega arith
+part-lend-start : tie.Need-part-lend-start Inv-loop μ-loop
+part-lend-start c = omega arith
 
-part-try-bytes-end : tie.Need-part-try-bytes-end Inv-loop μ-loop
-part-try-bytes-end c = omega arith
+part-lend-end : tie.Need-part-lend-end Inv-loop μ-loop
+part-lend-end c = omega arith
 
-try-bytes-requires : tie.Need-try-bytes-requires Inv-loop μ-loop
-try-bytes-requires c κs = omega arith
+lend-requires : tie.Need-lend-requires Inv-loop μ-loop
+lend-requires c κs = omega arith
 
 add-at : tie.Need-add-at Inv-loop μ-loop
 add-at c = omega arith
@@ -72,10 +72,10 @@ try-all-spec =
     add-if1
     returns
     add-end
-    sub-try-bytes
-    part-try-bytes-start
-    part-try-bytes-end
-    try-bytes-requires
+    sub-lend
+    part-lend-start
+    part-lend-end
+    lend-requires
     add-at
     loop-less
     loop-again

@@ -1,9 +1,12 @@
-use mathlib.Core.Path.{_≡_, refl}
-use lib.ListN.{length}
+mod Lts
+mod Tie
+use mathlib.Core.Path.{_≡_, refl, _∙_}
+use Prim.Native.Nat.{_-_, _≤_}
 use native.Mathlib.Omega.{arith}
-use Prim.Native.Nat.{_-_}
+use lib.ListN.{length}
+use borrow.Author.Needs.{needs}
 use Rattle.bench_verdicts.proofs.try_starts.Statement.{statement}
-use Rattle.bench_verdicts.proofs.try_starts.Tie as tie
+use Rattle.bench_verdicts.proofs.try_starts.Proof.Tie as tie
 
 abbrev Inv-loop : tie.InvT-loop
 Inv-loop size rows firsts outcomes commands₀ scratch₀ start₀ commands scratch start = (length commands ≡ length commands₀) × (length scratch ≡ length scratch₀)
@@ -14,29 +17,29 @@ abbrev μ-loop : tie.MeasureT-loop
 loop-holds : tie.Need-loop-holds Inv-loop μ-loop
 loop-holds c = (refl, refl)
 
-try-start-requires : tie.Need-try-start-requires Inv-loop μ-loop
-try-start-requires c κs = tt
+search-requires : tie.Need-search-requires Inv-loop μ-loop
+search-requires c κs = search needs
+
+print-search-requires : tie.Need-print-search-requires Inv-loop μ-loop
+print-search-requires c κs = search needs
 
 add-start : tie.Need-add-start Inv-loop μ-loop
-add-start c = omega arith
+add-start c = search needs
 
 loop-less : tie.Need-loop-less Inv-loop μ-loop
-loop-less c = omega arith
+loop-less c = search needs
 
 loop-again : tie.Need-loop-again Inv-loop μ-loop
-loop-again c =
-    let kept = c .before .before .before .before .try-start .kept in
-    let inv = c .before .before .before .before .before .before .before .before .before .loop .inv in
-    (omega (arith, kept, inv .0), omega (arith, kept, inv .1))
+loop-again c = search needs
 
 same-length : tie.Need-same-length Inv-loop μ-loop
-same-length c = c .before .before .loop .inv .0
+same-length c = search needs
 
 same-length-2 : tie.Need-same-length-2 Inv-loop μ-loop
-same-length-2 c = c .before .before .loop .inv .1
+same-length-2 c = search needs
 
 returns : tie.Need-returns Inv-loop μ-loop
-returns c = tt
+returns c = search needs
 
 pub try-starts-spec : {M : Type 1} → statement M
 try-starts-spec =
@@ -45,7 +48,8 @@ try-starts-spec =
     Inv-loop
     μ-loop
     loop-holds
-    try-start-requires
+    search-requires
+    print-search-requires
     add-start
     loop-less
     loop-again

@@ -2,14 +2,8 @@ use mathlib.Core.Path.{sym}
 use native.Mathlib.Omega.{arith}
 use lib.Seq.{length-take-le}
 use borrow.Author.Needs.{needs}
-use Rattle.bench_files.proofs.compare.Statement.{statement}
-use Rattle.bench_files.proofs.compare.Tie as tie
-
-slice-aggregate-write : tie.Need-slice-aggregate-write
-slice-aggregate-write c = search needs
-
-write-requires : tie.Need-write-requires
-write-requires c κs = search needs
+use Rattle.bench_files.proofs.print_written.Statement.{statement}
+use Rattle.bench_files.proofs.print_written.Tie as tie
 
 enum-known-w : tie.Need-enum-known-w
 enum-known-w c = search needs
@@ -28,9 +22,6 @@ returns c = search needs
 
 least-requires : tie.Need-least-requires
 least-requires c κs = search needs
-
-array-share-prefix-bytes : tie.Need-array-share-prefix-bytes
-array-share-prefix-bytes c = search needs
 
 slice-aggregate-same : tie.Need-slice-aggregate-same
 slice-aggregate-same c = sym (length-take-le _ _ (omega arith))
@@ -56,19 +47,16 @@ write-all-requires-3 c κs = search needs
 returns-3 : tie.Need-returns-3
 returns-3 c = search needs
 
-pub compare-spec : {M : Type 1} → statement M
-compare-spec =
+pub print-written-spec : {M : Type 1} → statement M
+print-written-spec =
     tie.close
     (tie.spec
-    slice-aggregate-write
-    write-requires
     enum-known-w
     enum-told
     slice-aggregate-write-all
     write-all-requires
     returns
     least-requires
-    array-share-prefix-bytes
     slice-aggregate-same
     same-requires
     slice-aggregate-write-all-2
