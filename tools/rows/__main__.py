@@ -16,6 +16,7 @@ import re
 import shutil
 import subprocess
 import sys
+from concurrent.futures import ThreadPoolExecutor
 
 sys.path.insert(0, os.path.dirname(os.path.abspath(__file__)))
 from derivation import Element, derivation, tie
@@ -141,9 +142,9 @@ def main(words):
     every = [f for crate in crates for f in functions(REPO, crate) if f.over_rows or f.local_rows]
     files = Files(check)
     asked = [w for w in words if w != "--check"]
-    for crate in crates:
-        if any(f.crate == crate for f in every) and (not asked or crate in asked):
-            make_crate(crate, every, files)
+    wanted = [c for c in crates if any(f.crate == c for f in every) and (not asked or c in asked)]
+    with ThreadPoolExecutor(max_workers=2) as pool:
+        list(pool.map(lambda crate: make_crate(crate, every, files), wanted))
     if files.differ:
         sys.exit("rows: not what would be made: " + ", ".join(files.differ))
     print(f"rows: {files.made} files" + (" are what would be made" if check else ""))
