@@ -1,6 +1,6 @@
 # make test   prove every crate from nothing, try the edits that must be refused, run the bench programs. Its last line is 'N passed, 0 failed'.
 
-.PHONY: test tools
+.PHONY: test tools lib c-test
 .SILENT:
 
 test: tools
@@ -12,3 +12,28 @@ test: tools
 tools:
 	command -v rt >/dev/null || { echo "rt, the command of the Rattle kit, is not on the PATH" >&2; exit 1; }
 	command -v python3 >/dev/null || { apt-get update -qq && apt-get install -y -qq python3; } >/dev/null
+	command -v gcc >/dev/null || { apt-get update -qq && apt-get install -y -qq gcc libc6-dev; } >/dev/null
+
+# The C library.
+LIB = target/staticlib/libgate.a
+
+lib:
+	rt staticlib gate
+
+target/staticlib/libgate.a: lib ;
+
+# The C library's tests and example, with gcc's checks on the C side.
+C_FLAGS = -std=c11 -Wall -Wextra -Wpedantic -Wconversion -Werror -O1 -g -Iinclude
+C_SANITIZE = -fsanitize=address,undefined -fno-sanitize-recover=all
+C_TESTS = $(addprefix tests/c/, main check lend plans trials read decide search largest limits threads)
+C_STACK = $(addprefix tests/c/, stack check lend plans trials read decide search largest)
+
+c-test: tools $(LIB)
+	mkdir -p target/c
+	tests/c/archive.sh $(LIB)
+	gcc $(C_FLAGS) $(C_SANITIZE) -pthread $(C_TESTS:=.c) $(LIB) -o target/c/tests
+	gcc $(C_FLAGS) -pthread $(C_STACK:=.c) $(LIB) -o target/c/stack
+	gcc $(C_FLAGS) $(C_SANITIZE) examples/c/hold.c $(LIB) -o target/c/hold
+	target/c/hold examples/case-a.plan | cmp - examples/c/hold.expected
+	target/c/stack
+	target/c/tests

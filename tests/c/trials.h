@@ -1,0 +1,32 @@
+/* The three calls as trials, and the tests of each. */
+#ifndef TRIALS_H
+#define TRIALS_H
+
+#include "lend.h"
+#include "plans.h"
+
+/* A plan of n states, m commands and t outcomes, small or large: where its bytes are. */
+struct tables {
+    const char *name;
+    size_t n, m, t;
+    uint16_t start;
+    const uint8_t *file, *size, *rows, *firsts, *outcomes;
+    const uint8_t *ranks, *commands, *marks, *scratch, *tally;
+    const uint8_t *answer, *walked;
+};
+
+/* The calls on such a plan, with slices just as long as needed. */
+struct trial read_trial(const struct tables *tables);
+struct trial decide_trial(const struct tables *tables);
+struct trial search_trial(const struct tables *tables);
+
+/* A small plan, whose bytes are in `image`. */
+struct tables tables_of(const struct plan *plan, const struct image *image);
+
+void test_read(void);
+void test_decide(void);
+void test_search(void);
+void test_limits(void);
+void test_threads(void);
+
+#endif
