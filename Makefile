@@ -1,10 +1,11 @@
 # make test   prove every crate from nothing, try the edits that must be refused, run the bench programs. Its last line is 'N passed, 0 failed'.
 
-.PHONY: test tools lib c-test
+.PHONY: test tools
 .SILENT:
 
 test: tools
 	cd tests && python3 -B bench_files.py --check && python3 -B bench_verdicts.py --check
+	cd tests && python3 -B examples.py --check
 	rt fmt --check
 	rt ci
 
@@ -15,6 +16,8 @@ tools:
 	command -v gcc >/dev/null || { apt-get update -qq && apt-get install -y -qq gcc libc6-dev; } >/dev/null
 
 # The C library.
+.PHONY: lib c-test
+
 LIB = target/staticlib/libgate.a
 
 lib:
@@ -32,8 +35,10 @@ c-test: tools $(LIB)
 	mkdir -p target/c
 	tests/c/archive.sh $(LIB)
 	gcc $(C_FLAGS) $(C_SANITIZE) -pthread $(C_TESTS:=.c) $(LIB) -o target/c/tests
-	gcc $(C_FLAGS) -pthread $(C_STACK:=.c) $(LIB) -o target/c/stack
+	gcc $(C_FLAGS) -pthread -Wl,-z,now $(C_STACK:=.c) $(LIB) -o target/c/stack
 	gcc $(C_FLAGS) $(C_SANITIZE) examples/c/hold.c $(LIB) -o target/c/hold
 	target/c/hold examples/case-a.plan | cmp - examples/c/hold.expected
+	tests/c/examples.sh target/c/hold target/c
+	target/c/hold /dev/null 2>&1 | grep -qx 'hold: reading: the file is cut short (refusal 1)'
 	target/c/stack
 	target/c/tests

@@ -1,5 +1,6 @@
 """The example plans: the file and the listing of each, made from its annotated hexadecimal. With --check: whether they are what this makes."""
 import pathlib
+import sys
 
 import made
 import reference
@@ -19,6 +20,9 @@ def main():
         files[path.stem + ".plan"] = data
         files[path.stem + ".listing"] = reference.listing(data).encode()
     made.put(HERE, files)
+    strays = [p.name for p in HERE.iterdir() if p.suffix in (".plan", ".listing") and p.name not in files]
+    if strays:
+        sys.exit(f"no .hex gives {', '.join(sorted(strays))}")
 
 
 main()

@@ -2,18 +2,18 @@
 
 #include <string.h>
 
-enum { FILE_, SIZE, ROWS, FIRSTS, OUTCOMES };
+enum { PLAN_FILE, SIZE, ROWS, FIRSTS, OUTCOMES };
 
 static uint32_t call(const struct trial *t, uint8_t *const *bytes)
 {
-    return gate_read(bytes[FILE_], t->slice[FILE_].length, bytes[SIZE], t->slice[SIZE].length, bytes[ROWS], t->slice[ROWS].length,
+    return gate_read(bytes[PLAN_FILE], t->slice[PLAN_FILE].length, bytes[SIZE], t->slice[SIZE].length, bytes[ROWS], t->slice[ROWS].length,
                      bytes[FIRSTS], t->slice[FIRSTS].length, bytes[OUTCOMES], t->slice[OUTCOMES].length);
 }
 
 struct trial read_trial(const struct tables *p)
 {
     struct trial t = { .name = p->name, .call = call, .slices = 5 };
-    t.slice[FILE_] = lent_in("file", p->file, GATE_FILE_BYTES(p->n, p->m, p->t), 0, 0);
+    t.slice[PLAN_FILE] = lent_in("file", p->file, GATE_FILE_BYTES(p->n, p->m, p->t), 0, 0);
     t.slice[SIZE] = lent_out("size", p->size, GATE_SIZE_BYTES, 2, GATE_CRAMPED);
     t.slice[ROWS] = lent_out("rows", p->rows, GATE_ROWS_BYTES(p->n), 6, GATE_CRAMPED);
     t.slice[FIRSTS] = lent_out("firsts", p->firsts, GATE_FIRSTS_BYTES(p->m), 2, GATE_CRAMPED);
@@ -25,7 +25,7 @@ struct trial read_trial(const struct tables *p)
 static void refused(const char *name, const uint8_t *file, size_t length, uint32_t refusal)
 {
     struct trial t = { .name = name, .call = call, .slices = 5 };
-    t.slice[FILE_] = lent_in("file", file, length, 0, 0);
+    t.slice[PLAN_FILE] = lent_in("file", file, length, 0, 0);
     t.slice[SIZE] = lent_out("size", NULL, GATE_SIZE_BYTES, 2, 0);
     t.slice[ROWS] = lent_out("rows", NULL, GATE_MAX_ROWS_BYTES, 6, 0);
     t.slice[FIRSTS] = lent_out("firsts", NULL, GATE_MAX_FIRSTS_BYTES, 2, 0);
@@ -36,7 +36,7 @@ static void refused(const char *name, const uint8_t *file, size_t length, uint32
         t.slice[i].null = true;
     }
     EXPECT(&t, refusal);
-    t.slice[FILE_].null = length == 0;
+    t.slice[PLAN_FILE].null = length == 0;
     EXPECT(&t, refusal);
 }
 

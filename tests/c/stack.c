@@ -10,7 +10,7 @@
 #include <stdio.h>
 #include <stdlib.h>
 
-enum { STACK = 1 << 20, PATTERN = 0xC3, OWN = 256 }; /* OWN: what filling and looking take themselves, below `used` */
+enum { STACK = 1 << 20, PATTERN = 0xC3, OWN = 512 }; /* OWN: room for filling and looking themselves */
 
 static uint8_t *stack;
 static struct largest plan, out;
@@ -43,25 +43,26 @@ static uint32_t searching(void)
 }
 
 /* How far below `top` the stack is no longer as it was filled. */
-static size_t used(const uint8_t *top)
+static size_t used(uintptr_t top)
 {
-    const volatile uint8_t *lowest = stack;
-    while (lowest < top && *lowest == PATTERN)
-        lowest++;
-    return (size_t)(top - lowest);
+    size_t room = top - (uintptr_t)stack, kept = 0;
+    while (kept < room && ((const volatile uint8_t *)stack)[kept] == PATTERN)
+        kept++;
+    return room - kept;
 }
 
-static void fill(const uint8_t *top)
+static void fill(uintptr_t top)
 {
-    for (volatile uint8_t *p = stack; p < top - OWN; p++)
-        *p = PATTERN;
+    size_t room = top - OWN - (uintptr_t)stack;
+    for (size_t i = 0; i < room; i++)
+        ((volatile uint8_t *)stack)[i] = PATTERN;
 }
 
 static void *measure(void *argument)
 {
     struct call *call = argument;
-    uint8_t here = 0;
-    const uint8_t *top = &here;
+    volatile uint8_t here = 0;
+    uintptr_t top = (uintptr_t)&here; /* below this is what the call takes */
     fill(top);
     uint32_t returned = call->make();
     size_t taken = used(top);
