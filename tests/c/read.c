@@ -21,8 +21,7 @@ struct trial read_trial(const struct tables *p)
     return t;
 }
 
-/* A file that is refused, whatever else is lent: with much room, and with none, since cramped is the last refusal. */
-static void refused(const char *name, const uint8_t *file, size_t length, uint32_t refusal)
+void read_refused(const char *name, const uint8_t *file, size_t length, uint32_t refusal)
 {
     struct trial t = { .name = name, .call = call, .slices = 5 };
     t.slice[PLAN_FILE] = lent_in("file", file, length, 0, 0);
@@ -43,7 +42,7 @@ static void refused(const char *name, const uint8_t *file, size_t length, uint32
 #define REFUSED(refusal, ...) \
     do { \
         const uint8_t file[] = { __VA_ARGS__ }; \
-        refused(#refusal " " #__VA_ARGS__, file, sizeof file, refusal); \
+        read_refused(#refusal " " #__VA_ARGS__, file, sizeof file, refusal); \
     } while (0)
 
 /* A field of n = 2, start 0; a state of kind 0 with one command and no practice; and the end. */
@@ -83,9 +82,9 @@ static void test_cut(const struct plan *p)
 {
     uint8_t longer[sizeof p->file + 1] = { 0 };
     for (size_t length = 0; length < sizeof p->file; length++)
-        refused("case A cut", p->file, length, GATE_CUT);
+        read_refused("case A cut", p->file, length, GATE_CUT);
     memcpy(longer, p->file, sizeof p->file);
-    refused("case A and one byte", longer, sizeof longer, GATE_SURPLUS);
+    read_refused("case A and one byte", longer, sizeof longer, GATE_SURPLUS);
 }
 
 void test_read(void)
@@ -96,7 +95,7 @@ void test_read(void)
         struct trial trial = read_trial(&tables);
         VARY(&trial);
     }
-    refused("empty input", NULL, 0, GATE_CUT);
+    read_refused("empty input", NULL, 0, GATE_CUT);
     test_refusals();
     test_cut(&plans[0]);
 }

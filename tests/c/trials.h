@@ -20,6 +20,9 @@ struct trial read_trial(const struct tables *tables);
 struct trial decide_trial(const struct tables *tables);
 struct trial search_trial(const struct tables *tables);
 
+/* A file that is refused, whatever else is lent: with much room, and with none, since cramped is the last refusal. */
+void read_refused(const char *name, const uint8_t *file, size_t length, uint32_t refusal);
+
 /* A small plan, whose bytes are in `image`. */
 struct tables tables_of(const struct plan *plan, const struct image *image);
 
