@@ -5,6 +5,7 @@
 
 test: tools
 	cd tests && python3 -B bench_files.py --check && python3 -B bench_verdicts.py --check
+	cd tests && python3 -B examples.py --check
 	rt fmt --check
 	rt ci
 
@@ -12,3 +13,32 @@ test: tools
 tools:
 	command -v rt >/dev/null || { echo "rt, the command of the Rattle kit, is not on the PATH" >&2; exit 1; }
 	command -v python3 >/dev/null || { apt-get update -qq && apt-get install -y -qq python3; } >/dev/null
+	command -v gcc >/dev/null || { apt-get update -qq && apt-get install -y -qq gcc libc6-dev; } >/dev/null
+
+# The C library.
+.PHONY: lib c-test
+
+LIB = target/staticlib/libgate.a
+
+lib:
+	rt staticlib gate
+
+target/staticlib/libgate.a: lib ;
+
+# The C library's tests and example, with gcc's checks on the C side.
+C_FLAGS = -std=c11 -Wall -Wextra -Wpedantic -Wconversion -Werror -O1 -g -Iinclude
+C_SANITIZE = -fsanitize=address,undefined -fno-sanitize-recover=all
+C_TESTS = $(addprefix tests/c/, main check lend plans trials read decide search largest limits threads)
+C_STACK = $(addprefix tests/c/, stack check lend plans trials read decide search largest)
+
+c-test: tools $(LIB)
+	mkdir -p target/c
+	tests/c/archive.sh $(LIB)
+	gcc $(C_FLAGS) $(C_SANITIZE) -pthread $(C_TESTS:=.c) $(LIB) -o target/c/tests
+	gcc $(C_FLAGS) -pthread -Wl,-z,now $(C_STACK:=.c) $(LIB) -o target/c/stack
+	gcc $(C_FLAGS) $(C_SANITIZE) examples/c/hold.c $(LIB) -o target/c/hold
+	target/c/hold examples/case-a.plan | cmp - examples/c/hold.expected
+	tests/c/examples.sh target/c/hold target/c
+	target/c/hold /dev/null 2>&1 | grep -qx 'hold: reading: the file is cut short (refusal 1)'
+	target/c/stack
+	target/c/tests

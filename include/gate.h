@@ -1,0 +1,182 @@
+/*
+ * gate.h: deciding which states of a lock or weir can be held clear of failure.
+ *
+ * A plan describes the works. It has n states, numbered from 0, one of which is the start. A state is ordinary, failing or
+ * rest. In an ordinary state the controller may issue one of the state's commands, numbered from 0 within the state; the
+ * works then land on one of the command's outcomes, and nobody can say beforehand on which. The practice is the keeper's usual
+ * command in a state, or none. A state is lost if, whatever is commanded, the works can bring about failure; else it is safe,
+ * and has a command that keeps it so.
+ *
+ *     gate_read     takes a plan file apart into tables
+ *     gate_decide   judges every state of a plan, and chooses the commands
+ *     gate_search   judges one state, walking only where its commands can lead
+ *
+ * The library keeps nothing between calls, allocates nothing, prints nothing and never fails to return. All it has is lent to it:
+ * each argument of bytes is a pointer followed by its length in bytes, called a slice below. Calls on different slices may run
+ * on different threads at the same time, and so may calls that share only slices that neither writes.
+ *
+ * Slices of one call must not overlap. A pointer may be null only if its length is 0. Nothing needs alignment.
+ *
+ * An entry is a number of two bytes, highest byte first (GATE_ENTRY reads one). A slice of L bytes holds L / 2 entries, rounded
+ * down, and L / 6 rows. Longer slices than needed are welcome: bytes past what is needed are neither looked at nor touched, an odd
+ * last byte included. (The plan file alone must be lent with its exact length.)
+ *
+ * Each call returns GATE_OK (0) or the number of a refusal. A refused call leaves every slice as it was.
+ *
+ * The archive libgate.a is for x86-64 Linux.
+ */
+#ifndef GATE_H
+#define GATE_H
+
+#include <stddef.h>
+#include <stdint.h>
+
+#ifdef __cplusplus
+extern "C" {
+#endif
+
+/* ---- limits of a plan */
+
+#define GATE_MAX_STATES 1024    /* n is 1 to this */
+#define GATE_MAX_COMMANDS 4096  /* m, the commands of all states together */
+#define GATE_MAX_OUTCOMES 16384 /* t, the outcomes of all commands together */
+
+/* ---- bytes to lend, for a plan of n states, m commands and t outcomes */
+
+#define GATE_FILE_BYTES(n, m, t) (10 + 8 * (n) + 3 * (m) + 2 * (t)) /* a plan file has exactly these */
+#define GATE_SIZE_BYTES 8
+#define GATE_ROWS_BYTES(n) (6 * (n))
+#define GATE_FIRSTS_BYTES(m) (2 * (m))
+#define GATE_OUTCOMES_BYTES(t) (2 * (t))
+#define GATE_STATES_BYTES(n) (2 * (n)) /* each of ranks, commands, marks and scratch */
+#define GATE_TALLY_BYTES 12
+#define GATE_ANSWER_BYTES 4
+
+/* the most that any plan needs: lend these, and no plan is refused for want of room */
+#define GATE_MAX_FILE_BYTES GATE_FILE_BYTES(GATE_MAX_STATES, GATE_MAX_COMMANDS, GATE_MAX_OUTCOMES)
+#define GATE_MAX_ROWS_BYTES GATE_ROWS_BYTES(GATE_MAX_STATES)
+#define GATE_MAX_FIRSTS_BYTES GATE_FIRSTS_BYTES(GATE_MAX_COMMANDS)
+#define GATE_MAX_OUTCOMES_BYTES GATE_OUTCOMES_BYTES(GATE_MAX_OUTCOMES)
+#define GATE_MAX_STATES_BYTES GATE_STATES_BYTES(GATE_MAX_STATES)
+
+/*
+ * ---- bytes of stack that a call takes, rounded up from what tests/c/stack.c measures on the largest plans. Where memset is bound at
+ * its first use, the dynamic linker takes a few thousand more in that one call.
+ */
+
+#define GATE_READ_STACK 49152
+#define GATE_DECIDE_STACK 102400
+#define GATE_SEARCH_STACK 54272
+
+/* ---- what the entries say */
+
+#define GATE_ENTRY(slice, i) ((uint16_t)(((unsigned)(slice)[2 * (i)] << 8) | (unsigned)(slice)[2 * (i) + 1]))
+
+#define GATE_NONE 0xFFFF /* no practice, no command, or no rank: the state is safe */
+
+#define GATE_ORDINARY 0 /* kinds of states */
+#define GATE_FAILING 1
+#define GATE_REST 2 /* the works are at rest; an ordinary state without commands counts as such */
+
+#define GATE_PRACTICE_FAILS 1 /* in a mark: the practice, followed from here on, can end in failure */
+#define GATE_PRACTICE_FAULT 2 /* in a mark, added: the state is safe and its practice has a lost outcome */
+
+#define GATE_SAFE 0 /* verdicts of the search */
+#define GATE_LOST 1
+
+/* ---- refusals */
+
+enum {
+    GATE_OK = 0,
+    GATE_CUT = 1,       /* the file ends inside a field or before the end field */
+    GATE_SURPLUS = 2,   /* bytes follow the end field */
+    GATE_TAG = 3,       /* a field's tag is not the one due */
+    GATE_LENGTH = 4,    /* a field's length is not allowed for its tag */
+    GATE_BEYOND = 5,    /* n is 0 or above 1,024, the start or an outcome is not below n, or a kind is above 2 */
+    GATE_UNSORTED = 6,  /* an outcome does not exceed the one before it */
+    GATE_IDLE = 7,      /* a failing or rest state has commands, or a practice is neither FFFF nor below the state's count */
+    GATE_LIMIT = 8,     /* more than 4,096 commands or 16,384 outcomes so far */
+    GATE_CRAMPED = 9,   /* a slice that the call writes is too short */
+    GATE_UNSOUND = 10,  /* size, rows, firsts and outcomes are not what some file gives, or one of them is too short */
+    GATE_STRANGER = 11  /* the start named in the call is not below n */
+};
+
+/*
+ * Reads a plan file.
+ *
+ *   file      in    the whole file
+ *   size      out   GATE_SIZE_BYTES: the entries n, m, t, start
+ *   rows      out   GATE_ROWS_BYTES(n): for each state its kind, its first command and its practice (GATE_NONE for none).
+ *                   A state's first command is the number of commands of all states before it, also where it has none; its
+ *                   commands go on to the first command of the next state, those of the last state to m.
+ *   firsts    out   GATE_FIRSTS_BYTES(m): for each command its first outcome, counted in the same way; the last ends at t
+ *   outcomes  out   GATE_OUTCOMES_BYTES(t): the states on which each command may land, rising within a command
+ *
+ * A file is a sequence of fields: a tag of one byte, a length of two, a value. First the head (tag 1, length 4): n and start. For
+ * each state a state field (tag 2, length 5): kind (one byte), count of commands, practice; and behind it for each of its commands a
+ * command field (tag 3, even length of at least 2): its outcomes. Last the end (tag 4, length 0).
+ *
+ * The first refusal that applies is returned. In each field: GATE_CUT if fewer than three bytes are left, GATE_TAG, GATE_LENGTH,
+ * GATE_CUT if the value is not all there. Then, in the head, GATE_BEYOND; in a state, GATE_BEYOND for the kind, GATE_IDLE,
+ * GATE_LIMIT with the commands that it announces; in a command, GATE_LIMIT with all its outcomes, then for each outcome in turn
+ * GATE_BEYOND, GATE_UNSORTED. After the end field GATE_SURPLUS, and last GATE_CRAMPED for any of the four slices.
+ */
+uint32_t gate_read(const uint8_t *file, size_t file_length,
+                   uint8_t *size, size_t size_length,
+                   uint8_t *rows, size_t rows_length,
+                   uint8_t *firsts, size_t firsts_length,
+                   uint8_t *outcomes, size_t outcomes_length);
+
+/*
+ * Decides the whole plan.
+ *
+ *   size, rows, firsts, outcomes   in   the plan, as gate_read gave it
+ *   ranks     out   GATE_STATES_BYTES(n): GATE_NONE for a safe state; for a lost one, how many moves at most the works need
+ *                   to bring about failure against any way of commanding (0 for a failing state)
+ *   commands  out   GATE_STATES_BYTES(n): at a safe state with commands the command that keeps it safe: the practice if it has no
+ *                   lost outcome, else the lowest-numbered command with none. Elsewhere GATE_NONE.
+ *   marks     out   GATE_STATES_BYTES(n): how the practice does: 0 holds, GATE_PRACTICE_FAILS, with GATE_PRACTICE_FAULT added at a
+ *                   fault. Following the practice ends without failing where there is none; a failing state has mark 1.
+ *   scratch   out   GATE_STATES_BYTES(n): room to work in; zero when the call has answered
+ *   tally     out   GATE_TALLY_BYTES: six entries. How many safe states have a practice that holds, one that fails, none; then the
+ *                   same of lost states.
+ *
+ * Refusals, the first that applies: GATE_UNSOUND (also for a size shorter than GATE_SIZE_BYTES), GATE_CRAMPED.
+ */
+uint32_t gate_decide(const uint8_t *size, size_t size_length,
+                     const uint8_t *rows, size_t rows_length,
+                     const uint8_t *firsts, size_t firsts_length,
+                     const uint8_t *outcomes, size_t outcomes_length,
+                     uint8_t *ranks, size_t ranks_length,
+                     uint8_t *commands, size_t commands_length,
+                     uint8_t *marks, size_t marks_length,
+                     uint8_t *scratch, size_t scratch_length,
+                     uint8_t *tally, size_t tally_length);
+
+/*
+ * Searches from one state: the verdict that gate_decide would give for it, and the commands on the way.
+ *
+ *   size, rows, firsts, outcomes   in   the plan, as gate_read gave it
+ *   start     in    the state to judge; the plan's own start (the last entry of size) does not matter here
+ *   commands  out   GATE_STATES_BYTES(n): if the start is safe, the commands that hold it, at the states that they can lead to: they
+ *                   are those of gate_decide. GATE_NONE at every other state, and everywhere if the start is lost, failing, rest or
+ *                   without commands.
+ *   scratch   out   GATE_STATES_BYTES(n): room to work in; zero when the call has answered
+ *   answer    out   GATE_ANSWER_BYTES: two entries, GATE_SAFE or GATE_LOST, and the number of rounds walked
+ *
+ * Refusals, the first that applies: GATE_UNSOUND (also for a size shorter than GATE_SIZE_BYTES), GATE_STRANGER, GATE_CRAMPED.
+ */
+uint32_t gate_search(const uint8_t *size, size_t size_length,
+                     const uint8_t *rows, size_t rows_length,
+                     const uint8_t *firsts, size_t firsts_length,
+                     const uint8_t *outcomes, size_t outcomes_length,
+                     uint16_t start,
+                     uint8_t *commands, size_t commands_length,
+                     uint8_t *scratch, size_t scratch_length,
+                     uint8_t *answer, size_t answer_length);
+
+#ifdef __cplusplus
+}
+#endif
+
+#endif

@@ -1,0 +1,51 @@
+#include "check.h"
+#include "largest.h"
+
+#include <string.h>
+
+static struct largest plan;
+
+static void test_kind(uint16_t last_kind)
+{
+    make_largest(&plan, last_kind);
+    CHECK(GATE_ENTRY(plan.size, 1) == GATE_MAX_COMMANDS);
+    CHECK(GATE_ENTRY(plan.size, 2) == GATE_MAX_OUTCOMES);
+    struct tables tables = tables_of_largest(&plan, last_kind);
+    struct trial reading = read_trial(&tables), deciding = decide_trial(&tables), searching = search_trial(&tables);
+    VARY(&reading);
+    VARY(&deciding);
+    VARY(&searching);
+}
+
+/* The last state with commands announces a fifth: 4,097 in all. Nothing behind its field is looked at. */
+static void test_command_more(void)
+{
+    size_t field = sizeof plan.file - (3 + 8 + 4 * 11 + 8); /* before the end, the last state, four commands, the field itself */
+    CHECK(plan.file[field] == 2 && plan.file[field + 5] == 4);
+    plan.file[field + 5] = 5;
+    read_refused("4,097 commands", plan.file, field + 8, GATE_LIMIT);
+    plan.file[field + 5] = 4;
+}
+
+/* State 0's first command goes to 2 as well: the last command is the one with which 16,385 outcomes are reached. */
+static void test_outcome_more(void)
+{
+    static uint8_t file[sizeof plan.file + 2];
+    enum { FIELD = 7 + 8, VALUE = FIELD + 3 };
+    CHECK(plan.file[FIELD] == 3 && plan.file[FIELD + 2] == 4);
+    memcpy(file, plan.file, VALUE + 4);
+    file[FIELD + 2] = 6;
+    file[VALUE + 4] = 0;
+    file[VALUE + 5] = 2;
+    memcpy(file + VALUE + 6, plan.file + VALUE + 4, sizeof plan.file - VALUE - 4);
+    read_refused("16,385 outcomes", file, sizeof file, GATE_LIMIT);
+    read_refused("16,385 outcomes, the last missing", file, sizeof file - (3 + 8 + 2), GATE_CUT);
+}
+
+void test_limits(void)
+{
+    test_kind(GATE_FAILING);
+    test_kind(GATE_REST);
+    test_command_more();
+    test_outcome_more();
+}

@@ -1,0 +1,86 @@
+#include "trials.h"
+
+enum { SIZE, ROWS, FIRSTS, OUTCOMES, COMMANDS, SCRATCH, ANSWER };
+
+static uint32_t call(const struct trial *t, uint8_t *const *bytes)
+{
+    return gate_search(bytes[SIZE], t->slice[SIZE].length, bytes[ROWS], t->slice[ROWS].length, bytes[FIRSTS], t->slice[FIRSTS].length,
+                       bytes[OUTCOMES], t->slice[OUTCOMES].length, t->start, bytes[COMMANDS], t->slice[COMMANDS].length, bytes[SCRATCH],
+                       t->slice[SCRATCH].length, bytes[ANSWER], t->slice[ANSWER].length);
+}
+
+struct trial search_trial(const struct tables *p)
+{
+    struct trial t = { .name = p->name, .call = call, .start = p->start, .slices = 7 };
+    t.slice[SIZE] = lent_in("size", p->size, GATE_SIZE_BYTES, 2, GATE_UNSOUND);
+    t.slice[ROWS] = lent_in("rows", p->rows, GATE_ROWS_BYTES(p->n), 6, GATE_UNSOUND);
+    t.slice[FIRSTS] = lent_in("firsts", p->firsts, GATE_FIRSTS_BYTES(p->m), 2, GATE_UNSOUND);
+    t.slice[OUTCOMES] = lent_in("outcomes", p->outcomes, GATE_OUTCOMES_BYTES(p->t), 2, GATE_UNSOUND);
+    t.slice[COMMANDS] = lent_out("commands", p->walked, GATE_STATES_BYTES(p->n), 2, GATE_CRAMPED);
+    t.slice[SCRATCH] = lent_out("scratch", p->scratch, GATE_STATES_BYTES(p->n), 2, GATE_CRAMPED);
+    t.slice[ANSWER] = lent_out("answer", p->answer, GATE_ANSWER_BYTES, 2, GATE_CRAMPED);
+    return t;
+}
+
+#define NO GATE_NONE
+
+/* Case A from each of its states, worked out by hand. The failing state is 4; known states are named after each round. */
+static const struct {
+    uint16_t start, answer[2], walked[SMALL_STATES];
+} starts[] = {
+    { 0, { GATE_SAFE, 2 }, { 0, 0, NO, NO, NO, NO } },    /* round 1 takes practice 1 of state 0, and marks 3; round 2 takes 0 */
+    { 1, { GATE_SAFE, 2 }, { 0, 0, NO, NO, NO, NO } },    /* the same walk, begun at 1 */
+    { 2, { GATE_SAFE, 0 }, { NO, NO, NO, NO, NO, NO } },  /* rest */
+    { 3, { GATE_LOST, 1 }, { NO, NO, NO, NO, NO, NO } },  /* both commands may land on 4 */
+    { 4, { GATE_LOST, 0 }, { NO, NO, NO, NO, NO, NO } },  /* failing */
+    { 5, { GATE_LOST, 2 }, { NO, NO, NO, NO, NO, NO } },  /* round 1 goes to 3 and marks it; round 2 marks 5 */
+};
+
+static void test_starts(void)
+{
+    for (size_t i = 0; i < sizeof starts / sizeof *starts; i++) {
+        struct plan p = plans[0];
+        for (size_t k = 0; k < SMALL_STATES; k++)
+            p.walked[k] = starts[i].walked[k];
+        p.answer[0] = starts[i].answer[0];
+        p.answer[1] = starts[i].answer[1];
+        struct image image = image_of(&p);
+        struct tables tables = tables_of(&p, &image);
+        struct trial t = search_trial(&tables);
+        t.start = starts[i].start;
+        VARY(&t);
+    }
+}
+
+/* A start not below n: after 10, before 9. The size record's own start is part of the plan. */
+static void test_strangers(void)
+{
+    struct plan altered = plans[0];
+    altered.size[3] = 6;
+    struct image image = image_of(&plans[0]), bad = image_of(&altered);
+    struct tables tables = tables_of(&plans[0], &image), worse = tables_of(&plans[0], &bad);
+    struct trial t = search_trial(&tables), u = search_trial(&worse);
+    EXPECT(&u, GATE_UNSOUND);
+    static const uint16_t strangers[] = { 6, 7, 256, NO };
+    for (size_t i = 0; i < sizeof strangers / sizeof *strangers; i++) {
+        t.start = u.start = strangers[i];
+        t.slice[COMMANDS].length = u.slice[COMMANDS].length = t.slice[COMMANDS].count;
+        EXPECT(&t, GATE_STRANGER);
+        EXPECT(&u, GATE_UNSOUND);
+        t.slice[COMMANDS].length = u.slice[COMMANDS].length = 0;
+        EXPECT(&t, GATE_STRANGER);
+        EXPECT(&u, GATE_UNSOUND);
+    }
+}
+
+void test_search(void)
+{
+    for (size_t i = 0; i < PLANS; i++) {
+        struct image image = image_of(&plans[i]);
+        struct tables tables = tables_of(&plans[i], &image);
+        struct trial trial = search_trial(&tables);
+        VARY(&trial);
+    }
+    test_starts();
+    test_strangers();
+}
