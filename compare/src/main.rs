@@ -1,4 +1,5 @@
 //! The library beside a planner of its own: `check` compares them byte for byte, `bench` times them.
+mod bench;
 mod calls;
 mod case;
 mod check;
@@ -34,6 +35,7 @@ fn run(words: &[String]) -> Result<(), String> {
             let index = number(words.get(2), 0)?;
             check::replay(seed, index)
         }
+        (Some("bench"), 1) => bench::bench(),
         _ => Err(USAGE.to_string()),
     }
 }

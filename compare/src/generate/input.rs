@@ -104,9 +104,9 @@ fn draft(index: u64, random: &mut Random) -> Draft {
         return limits::plan(random.below(limits::COUNT), random);
     }
     let most = match random.below(200) {
-        0 => 1024,
-        1..=9 => 64,
-        10..=99 => 12,
+        0 | 1 => 1024,
+        2..=19 => 64,
+        20..=109 => 12,
         _ => 6,
     };
     shapes::any(most, random)

@@ -21,10 +21,10 @@ fn chamber_state(n: usize, s: usize, random: &mut Random) -> State {
         hold.push(s - 1);
     }
     if random.once_in(3) {
-        raise.push((s + 2).min(s - level + LEVELS - 1));
+        raise.push(s + 2.min(LEVELS - 1 - level));
     }
     if random.once_in(3) {
-        lower.push((s - 2).max(s - level));
+        lower.push(s - 2.min(level));
     }
     let mut commands = vec![raise, lower, hold];
     if random.once_in(2) {
