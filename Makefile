@@ -12,3 +12,15 @@ test: tools
 tools:
 	command -v rt >/dev/null || { echo "rt, the command of the Rattle kit, is not on the PATH" >&2; exit 1; }
 	command -v python3 >/dev/null || { apt-get update -qq && apt-get install -y -qq python3; } >/dev/null
+	command -v cargo >/dev/null || { apt-get update -qq && apt-get install -y -qq cargo; } >/dev/null
+
+# make compare   hold the C library to a planner of its own, in Rust, byte for byte over COUNT inputs made from SEED
+# make bench     time the two beside each other
+COUNT ?= 200000
+SEED ?= 1
+.PHONY: compare bench
+compare: tools lib
+	cd compare && cargo test --offline --locked --quiet && cargo run --release --offline --locked --quiet -- check $(COUNT) $(SEED)
+
+bench: tools lib
+	cd compare && cargo run --release --offline --locked --quiet -- bench

@@ -22,24 +22,23 @@ pub struct Case {
     pub lent: Vec<Lent>,
 }
 
-fn lend(contents: &[Vec<u8>], lengths: &[usize]) -> Vec<Lent> {
-    let shift = |i: usize, length: usize| 3 * i + length;
-    let mut lent = Vec::new();
-    for (i, content) in contents.iter().enumerate() {
-        lent.push(Lent::holding(content, shift(i, content.len())));
-    }
-    for (i, &length) in lengths.iter().enumerate() {
-        lent.push(Lent::filled(length, shift(i, length)));
-    }
-    lent
+/// Slices with these contents, and slices of these lengths to be written.
+fn lend(contents: &[Vec<u8>], lengths: &[usize], salt: usize) -> Vec<Lent> {
+    let salts = (0..).map(|i| salt.wrapping_add(12 * i));
+    let lent = contents.iter().zip(salts.clone());
+    let written = lengths.iter().zip(salts);
+    lent.map(|(content, salt)| Lent::holding(content, salt))
+        .chain(written.map(|(&length, salt)| Lent::filled(length, salt)))
+        .collect()
 }
 
 impl Case {
     pub fn new(call: usize, input: &Input) -> Case {
+        let salt = input.salt;
         let lent = match call {
-            0 => lend(std::slice::from_ref(&input.file), &input.read),
-            1 => lend(&input.tables, &input.decide),
-            _ => lend(&input.tables, &input.search),
+            0 => lend(std::slice::from_ref(&input.file), &input.read, salt),
+            1 => lend(&input.tables, &input.decide, salt),
+            _ => lend(&input.tables, &input.search, salt),
         };
         let start = input.start;
         Case { call, start, lent }

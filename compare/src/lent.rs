@@ -2,9 +2,15 @@
 
 const GUARD: usize = 16;
 
-/// Bytes in which a place is seldom as its neighbours are, and none of which a call would leave by itself.
-fn filling(place: usize) -> u8 {
-    (place.wrapping_mul(97) ^ (place >> 7)) as u8 ^ 0xA5
+/// What a slice holds before it is written: for most inputs bytes that differ from their neighbours, for some small
+/// entries, which could pass for a call's own.
+fn filling(place: usize, salt: usize) -> u8 {
+    let own = (salt >> 8) as u8;
+    match (salt % 4, place % 2) {
+        (0, 0) => own % 4,
+        (0, _) => 0,
+        _ => (place.wrapping_mul(97) ^ (place >> 7)) as u8 ^ own,
+    }
 }
 
 #[derive(Clone, PartialEq, Eq)]
@@ -15,18 +21,18 @@ pub struct Lent {
 }
 
 impl Lent {
-    /// A slice with this content; `shift` moves it off its alignment.
-    pub fn holding(content: &[u8], shift: usize) -> Lent {
-        let mut lent = Lent::filled(content.len(), shift);
+    /// A slice with this content. The salt settles the guards' bytes, and moves the slice off its alignment.
+    pub fn holding(content: &[u8], salt: usize) -> Lent {
+        let mut lent = Lent::filled(content.len(), salt);
         lent.slice().copy_from_slice(content);
         lent
     }
 
     /// A slice of so many bytes to be written.
-    pub fn filled(length: usize, shift: usize) -> Lent {
-        let from = GUARD + shift % 8;
+    pub fn filled(length: usize, salt: usize) -> Lent {
+        let from = GUARD + (salt >> 2) % 8;
         let to = from + length;
-        let bytes = (0..to + GUARD).map(filling).collect();
+        let bytes = (0..to + GUARD).map(|place| filling(place, salt)).collect();
         Lent { bytes, from, to }
     }
 

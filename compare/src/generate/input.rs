@@ -11,6 +11,8 @@ pub struct Input {
     /// Size record, rows, first outcomes and outcomes.
     pub tables: [Vec<u8>; 4],
     pub start: u16,
+    /// What the slices hold that are written.
+    pub salt: usize,
     /// The bytes of reading's four slices, deciding's five and the search's three.
     pub read: Vec<usize>,
     pub decide: Vec<usize>,
@@ -122,6 +124,7 @@ pub fn input(seed: u64, index: u64) -> Input {
     let mut tables = table_bytes(&held);
     let (mut read, mut decide, mut search) = needs(&held);
     let start = any_start(&held, random);
+    let salt = random.next() as usize;
     if index >= limits::COUNT as u64 {
         if random.once_in(2) {
             damage_file(&mut file, n, random);
@@ -138,6 +141,7 @@ pub fn input(seed: u64, index: u64) -> Input {
         file,
         tables,
         start,
+        salt,
         read,
         decide,
         search,
