@@ -42,8 +42,8 @@ fn practice(plan: &Plan, s: usize) -> Option<usize> {
 
 fn choice(plan: &Plan, s: usize, set: &[bool]) -> Option<usize> {
     let (first, end) = plan.commands(s);
-    let tried = practice(plan, s).into_iter().chain(first..end);
-    tried.into_iter().find(|&c| !lands_in(plan, c, set))
+    let mut tried = practice(plan, s).into_iter().chain(first..end);
+    tried.find(|&c| !lands_in(plan, c, set))
 }
 
 fn entry(plan: &Plan, s: usize, command: Option<usize>) -> u16 {
