@@ -1,12 +1,23 @@
-# make test   prove every crate from nothing, try the edits that must be refused, run the bench programs. Its last line is 'N passed, 0 failed'.
+# make run       print the listing of a plan: PLAN=examples/case-a.plan unless another is named
+# make test      prove every crate from nothing, try the edits that must be refused, run all tests. Its last line is 'N passed, 0 failed'.
+# make lib       the C library, target/staticlib/libgate.a (header: include/gate.h)
+# make c-test    the C library's tests and example
+# make compare   hold the C library to a planner of its own, in Rust, byte for byte over COUNT inputs made from SEED
+# make bench     time the two beside each other
 
-.PHONY: test tools
+.PHONY: run test tools lib c-test compare bench
 .SILENT:
 
-test: tools
-	cd tests && python3 -B bench_files.py --check && python3 -B bench_verdicts.py --check
-	cd tests && python3 -B examples.py --check
+PLAN = examples/case-a.plan
+
+run: tools
+	test -x target/bin/list || rt check list >target/list.log 2>&1 || { mkdir -p target; rt check list; }
+	target/bin/list <$(PLAN)
+
+test: tools c-test compare
+	cd tests && python3 -B bench_files.py --check && python3 -B bench_verdicts.py --check && python3 -B examples.py --check
 	rt fmt --check
+	python3 -B tools/rows --check
 	rt ci
 
 # What the tests need beside the Rattle kit.
@@ -14,18 +25,16 @@ tools:
 	command -v rt >/dev/null || { echo "rt, the command of the Rattle kit, is not on the PATH" >&2; exit 1; }
 	command -v python3 >/dev/null || { apt-get update -qq && apt-get install -y -qq python3; } >/dev/null
 	command -v gcc >/dev/null || { apt-get update -qq && apt-get install -y -qq gcc libc6-dev; } >/dev/null
-
-# The C library.
-.PHONY: lib c-test
+	command -v cargo >/dev/null || { apt-get update -qq && apt-get install -y -qq cargo; } >/dev/null
 
 LIB = target/staticlib/libgate.a
 
-lib:
+lib: $(LIB)
+
+$(LIB): $(shell find crates -path '*/must-fail' -prune -o -type f -print)
 	rt staticlib gate
 
-target/staticlib/libgate.a: lib ;
-
-# The C library's tests and example, with gcc's checks on the C side.
+# With gcc's checks on the C side.
 C_FLAGS = -std=c11 -Wall -Wextra -Wpedantic -Wconversion -Werror -O1 -g -Iinclude
 C_SANITIZE = -fsanitize=address,undefined -fno-sanitize-recover=all
 C_TESTS = $(addprefix tests/c/, main check lend plans trials read decide search largest limits threads)
@@ -42,3 +51,12 @@ c-test: tools $(LIB)
 	target/c/hold /dev/null 2>&1 | grep -qx 'hold: reading: the file is cut short (refusal 1)'
 	target/c/stack
 	target/c/tests
+
+COUNT ?= 200000
+SEED ?= 1
+
+compare: tools $(LIB)
+	cd compare && cargo test --offline --locked --quiet && cargo run --release --offline --locked --quiet -- check $(COUNT) $(SEED)
+
+bench: tools $(LIB)
+	cd compare && cargo run --release --offline --locked --quiet -- bench

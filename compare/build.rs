@@ -1,0 +1,17 @@
+// Links the C library from its fixed place in the repository.
+use std::env;
+use std::path::PathBuf;
+
+fn main() {
+    let package =
+        PathBuf::from(env::var_os("CARGO_MANIFEST_DIR").expect("cargo names the package"));
+    let folder = package.join("..").join("target").join("staticlib");
+    let library = folder.join("libgate.a");
+    println!("cargo:rerun-if-changed={}", library.display());
+    if !library.is_file() {
+        eprintln!("{} is missing: run make lib", library.display());
+        std::process::exit(1);
+    }
+    println!("cargo:rustc-link-search=native={}", folder.display());
+    println!("cargo:rustc-link-lib=static=gate");
+}

@@ -1,0 +1,9 @@
+//! Inputs made from a seed: plans of many shapes, damaged files and tables, slices of any length.
+pub mod damage;
+pub mod draft;
+pub mod fields;
+pub mod input;
+pub mod limits;
+pub mod random;
+pub mod shapes;
+pub mod sites;

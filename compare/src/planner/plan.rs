@@ -1,0 +1,57 @@
+//! A plan in memory: the size record, and three lent tables.
+
+/// The entry that stands for no practice, no command and no rank.
+pub const NONE: u16 = 0xFFFF;
+
+pub const ORDINARY: u16 = 0;
+pub const FAILING: u16 = 1;
+pub const REST: u16 = 2;
+
+#[derive(Clone, Copy, Debug, Default, PartialEq, Eq)]
+pub struct Size {
+    pub n: usize,
+    pub m: usize,
+    pub t: usize,
+    pub start: usize,
+}
+
+impl Size {
+    pub const STATES: usize = 1024;
+    pub const COMMANDS: usize = 4096;
+    pub const OUTCOMES: usize = 16384;
+}
+
+#[derive(Clone, Copy, Debug, Default, PartialEq, Eq)]
+pub struct Row {
+    pub kind: u16,
+    pub first: u16,
+    pub practice: u16,
+}
+
+/// The tables hold exactly n rows, m first outcomes and t outcomes.
+#[derive(Clone, Copy)]
+pub struct Plan<'a> {
+    pub size: Size,
+    pub rows: &'a [Row],
+    pub firsts: &'a [u16],
+    pub outcomes: &'a [u16],
+}
+
+impl<'a> Plan<'a> {
+    /// Where the commands of state `s` begin and end.
+    pub fn commands(&self, s: usize) -> (usize, usize) {
+        let end = match self.rows.get(s + 1) {
+            Some(next) => usize::from(next.first),
+            None => self.size.m,
+        };
+        (usize::from(self.rows[s].first), end)
+    }
+
+    pub fn outcomes(&self, command: usize) -> &'a [u16] {
+        let end = match self.firsts.get(command + 1) {
+            Some(&next) => usize::from(next),
+            None => self.size.t,
+        };
+        &self.outcomes[usize::from(self.firsts[command])..end]
+    }
+}
