@@ -19,19 +19,7 @@ use index::internal::own;
 use propagate::internal::propagate;
 use tables::Row;
 use tables::Size;
-use tables::internal::put;
-
-// 0 at each place below n.
-fn clear(table: &mut [u16], n: usize)
-    requires { ⌜ n ≤ length (now table) ⌝ }
-    ensures { λ _. ⌜ Filled n (λ _. 0) (now (table .entry)) (now (table .exit)) ⌝ }
-{
-    let mut i = 0;
-    while i < n {
-        put(table, i, 0);
-        i += 1;
-    }
-}
+use tables::internal::fill;
 
 // The index of the plan: the state of each command, and the commands that have each state as an outcome.
 fn index_all(
@@ -145,6 +133,6 @@ pub fn work_out(
         scratch,
     );
     let tally = judge_all(size, rows, firsts, outcomes, ranks, commands, marks);
-    clear(scratch, size.n);
+    fill(scratch, size.n, 0);
     tally
 }

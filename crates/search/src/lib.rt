@@ -10,7 +10,6 @@ use tables::Row;
 use tables::Size;
 use tables::internal::Gate;
 
-mod fills;
 mod gate;
 mod marks;
 mod turns;

@@ -7,7 +7,6 @@ ghost use Rattle.tables.specs.Meaning.{held};
 ghost use Rattle.search.specs.Prepared.{Prepared, Fresh};
 ghost use Rattle.search.specs.Phases.{endOf, Rounded, Finished, Answered};
 use crate::Found;
-use crate::fills::fill;
 use crate::marks::settle;
 use crate::marks::start_end;
 use crate::marks::start_known;
@@ -15,6 +14,7 @@ use crate::walks::walk;
 use tables::Row;
 use tables::Size;
 use tables::internal::at;
+use tables::internal::fill;
 use tables::internal::span_at;
 
 // How a round ends: 0 if it has no marks, 1 if the start is known by then, else 2.

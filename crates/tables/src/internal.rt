@@ -3,6 +3,7 @@ ghost use mathlib.Core.Path.{_≡_};
 ghost use mathlib.Core.List.{List};
 ghost use Prim.Native.Nat.{ℕ, _<_, _≤_};
 ghost use lib.ListN.{length, getD, set};
+ghost use Rattle.laws.specs.Filled.{Filled};
 ghost use Rattle.model.specs.Places.{firstOutcome};
 ghost use Rattle.tables.specs.declared.Row.{Row};
 ghost use Rattle.tables.specs.Meaning.{held, noRow, rowWith, spanOf, spanAt};
@@ -36,6 +37,18 @@ pub fn put(table: &mut [u16], i: usize, x: usize)
     ensures { λ _. ⌜ now (table .exit) ≡ set (now (table .entry)) i x ⌝ }
 {
     table[i] = x as u16;
+}
+
+// Stores x at each place below n.
+pub fn fill(table: &mut [u16], n: usize, x: usize)
+    requires { ⌜ (n ≤ length (now table)) × (x < 65536) ⌝ }
+    ensures { λ _. ⌜ Filled n (λ _. x) (now (table .entry)) (now (table .exit)) ⌝ }
+{
+    let mut i = 0;
+    while i < n {
+        put(table, i, x);
+        i += 1;
+    }
 }
 
 // How many rows a table has.

@@ -169,7 +169,7 @@ abbrev pub r·3 : Kinds.RK 6
 r·3 = Array.rArr (Array.eArr (Array.eInt Syntax.w16) 3) (Array.eArr-laws (Array.eInt Syntax.w16) (Array.eInt-laws Syntax.w16) 3) 2
 
 abbrev pub ps·4 : List.List (Kinds.PK 1)
-ps·4 = List._∷_ (MutSlice.pMutS (Referent.rtF (Referent.fInt Syntax.w16)) 0 tt) (List._∷_ (Num.pNum Syntax.w64) List.[])
+ps·4 = List._∷_ (MutSlice.pMutS (Referent.rtF (Referent.fInt Syntax.w16)) 0 tt) (List._∷_ (Num.pNum Syntax.w64) (List._∷_ (Num.pNum Syntax.w64) List.[]))
 
 abbrev pub r·4 : Kinds.RK 1
 r·4 = Unit'.rUnit
@@ -376,7 +376,7 @@ abbrev b65 : Syntax.Body
 b65 = Syntax.assign (Syntax.place 70 List.[]) (Syntax.aggregate (List._∷_ (Syntax.copy (Syntax.place 69 List.[])) (List._∷_ (Syntax.copy (Syntax.place 8 (List._∷_ (Syntax.field 1) List.[]))) List.[])))
 
 abbrev b66 : Syntax.Body
-b66 = Syntax.call "decide::working::clear" (List._∷_ (Syntax.copy (Syntax.place 70 List.[])) (List._∷_ (Syntax.copy (Syntax.place 1 (List._∷_ (Syntax.field 0) List.[]))) List.[])) (Syntax.place 14 List.[])
+b66 = Syntax.call "tables::internal::fill" (List._∷_ (Syntax.copy (Syntax.place 70 List.[])) (List._∷_ (Syntax.copy (Syntax.place 1 (List._∷_ (Syntax.field 0) List.[]))) (List._∷_ (Syntax.int Syntax.w64 0) List.[]))) (Syntax.place 14 List.[])
 
 abbrev b67 : Syntax.Body
 b67 = Syntax.assign (Syntax.place 0 List.[]) (Syntax.rvOpd (Syntax.copy (Syntax.place 13 List.[])))
@@ -1904,7 +1904,7 @@ module _ (claims· : Claims) where
   s213 = λ bs. Relend.k-sl-aggregate (Referent.rtF (Referent.fInt Syntax.w16)) (Relend.asMut (Referent.rtF (Referent.fInt Syntax.w16))) T214 69 70 34 ty·5 ty·5 (λ x. x) (Scalar.oFld 8 (List._∷_ (Syntax.field 1) List.[]) (Syntax.tyInt Syntax.w64) 8 λ v. Shared.lenV (v .0))
 
   abbrev s214 : (bs : List.List Nat.ℕ) → Typed.Both T215 T216
-  s214 = λ bs. Call.callB ps·4 r·4 (claims· .8) (claims· .9) T215 (record { pos = 70; ty = Syntax.tyRef Syntax.erased Syntax.mut (Syntax.tyInt Syntax.w16); ref = λ x. x }, (Num.vFld 1 (List._∷_ (Syntax.field 0) List.[]) 0 λ x. Size.struct .as-values x .0, tt)) 14 (List._∷_ 34 List.[]) Syntax.tyUnit
+  s214 = λ bs. Call.callB ps·4 r·4 (claims· .8) (claims· .9) T215 (record { pos = 70; ty = Syntax.tyRef Syntax.erased Syntax.mut (Syntax.tyInt Syntax.w16); ref = λ x. x }, (Num.vFld 1 (List._∷_ (Syntax.field 0) List.[]) 0 λ x. Size.struct .as-values x .0, (Num.vLit 0, tt))) 14 (List._∷_ 34 List.[]) Syntax.tyUnit
 
   abbrev s215 : (bs : List.List Nat.ℕ) → Typed.Mo T216 → Typed.Mo T217
   s215 = λ bs. Scalar.n-room T216 1 ty·22
@@ -1927,7 +1927,7 @@ module _ (claims· : Claims) where
   module _ (Pre· : (κs : Lifetimes.Lfts 7) → Kinds.Dens κs ps → Type 0) (Post· : (κs : Lifetimes.Lfts 7) → (a : Kinds.Dens κs ps) → Kinds.Plain 7 ps r κs) where
     module _ (M : Type 1) where
       abbrev pub Closed : Type 2
-      Closed = (𝓤 : URA.URA M) (H : Wp.Heap 𝓤) (A : Atoms.Atoms 𝓤) (W : Kit.Given 𝓤 H A) (𝓣 : Wp.Tables 𝓤 H) (known0 : Plain.Known 𝓤 H A W 𝓣 4 ps·0 r·0 (claims· .0) (claims· .1) "decide::nets::lay_out") (known1 : Plain.Known 𝓤 H A W 𝓣 6 ps·1 r·1 (claims· .2) (claims· .3) "decide::working::index_all") (known2 : Plain.Known 𝓤 H A W 𝓣 9 ps·2 r·2 (claims· .4) (claims· .5) "decide::working::propagate_in") (known3 : Plain.Known 𝓤 H A W 𝓣 6 ps·3 r·3 (claims· .6) (claims· .7) "decide::verdicts::judge_all") (known4 : Plain.Known 𝓤 H A W 𝓣 1 ps·4 r·4 (claims· .8) (claims· .9) "decide::working::clear") → Statement.Triple 𝓤 (Wp.WpFn 𝓤 H (𝓣 .C) (𝓣 .Λ) (Function.fnOf 7 ps r xs m hs body)) (Function.plainOf 𝓤 H A 7 ps r Pre· Post·)
+      Closed = (𝓤 : URA.URA M) (H : Wp.Heap 𝓤) (A : Atoms.Atoms 𝓤) (W : Kit.Given 𝓤 H A) (𝓣 : Wp.Tables 𝓤 H) (known0 : Plain.Known 𝓤 H A W 𝓣 4 ps·0 r·0 (claims· .0) (claims· .1) "decide::nets::lay_out") (known1 : Plain.Known 𝓤 H A W 𝓣 6 ps·1 r·1 (claims· .2) (claims· .3) "decide::working::index_all") (known2 : Plain.Known 𝓤 H A W 𝓣 9 ps·2 r·2 (claims· .4) (claims· .5) "decide::working::propagate_in") (known3 : Plain.Known 𝓤 H A W 𝓣 6 ps·3 r·3 (claims· .6) (claims· .7) "decide::verdicts::judge_all") (known4 : Plain.Known 𝓤 H A W 𝓣 1 ps·4 r·4 (claims· .8) (claims· .9) "tables::internal::fill") → Statement.Triple 𝓤 (Wp.WpFn 𝓤 H (𝓣 .C) (𝓣 .Λ) (Function.fnOf 7 ps r xs m hs body)) (Function.plainOf 𝓤 H A 7 ps r Pre· Post·)
 
     module _ where
       abbrev at0 : (bs : List.List Nat.ℕ) → Typed.TF T224 O0
@@ -2607,7 +2607,7 @@ module _ (claims· : Claims) where
 
       module _ {M : Type 1} (𝓤 : URA.URA M) (H : Wp.Heap 𝓤) (A : Atoms.Atoms 𝓤) (W : Kit.Given 𝓤 H A) (𝓣 : Wp.Tables 𝓤 H) where
         abbrev Knowns : Type 1
-        Knowns = Plain.Known 𝓤 H A W 𝓣 4 ps·0 r·0 (claims· .0) (claims· .1) "decide::nets::lay_out" × Plain.Known 𝓤 H A W 𝓣 6 ps·1 r·1 (claims· .2) (claims· .3) "decide::working::index_all" × Plain.Known 𝓤 H A W 𝓣 9 ps·2 r·2 (claims· .4) (claims· .5) "decide::working::propagate_in" × Plain.Known 𝓤 H A W 𝓣 6 ps·3 r·3 (claims· .6) (claims· .7) "decide::verdicts::judge_all" × Plain.Known 𝓤 H A W 𝓣 1 ps·4 r·4 (claims· .8) (claims· .9) "decide::working::clear"
+        Knowns = Plain.Known 𝓤 H A W 𝓣 4 ps·0 r·0 (claims· .0) (claims· .1) "decide::nets::lay_out" × Plain.Known 𝓤 H A W 𝓣 6 ps·1 r·1 (claims· .2) (claims· .3) "decide::working::index_all" × Plain.Known 𝓤 H A W 𝓣 9 ps·2 r·2 (claims· .4) (claims· .5) "decide::working::propagate_in" × Plain.Known 𝓤 H A W 𝓣 6 ps·3 r·3 (claims· .6) (claims· .7) "decide::verdicts::judge_all" × Plain.Known 𝓤 H A W 𝓣 1 ps·4 r·4 (claims· .8) (claims· .9) "tables::internal::fill"
 
       module _ (κs : Lifetimes.Lfts 7) (qs : Lifetimes.Shares 7) where
         abbrev g14 : List.List Row.Entry
@@ -3485,7 +3485,7 @@ module _ (claims· : Claims) where
           d8 = Typed.g-pre 𝓤 H A W 𝓣 E G216 G217 b69 Δ0 (Typed.pass T216 T217 (s215 bs)) (at7 bs) (Scalar.g-room 𝓤 H A W E G216 1 ty·22 (Local.room-whole 𝓤 H A W (Declared.row Size.the-type) ty·22 Path'.refl)) d7
 
           d9 : Typed.Typed 𝓤 H A 𝓣 E G215 b70 Δ0 (at9 bs)
-          d9 = Typed.s-seq 𝓤 H A W 𝓣 E G215 G216 b66 b69 Δ0 (Typed.both (s214 bs)) (at8 bs) (Plain.t-call-plain 𝓤 H A W 𝓣 1 ps·4 r·4 (claims· .8) (claims· .9) "decide::working::clear" (known .4) E (λ pos β. β) G215 (record { pos = 70; ty = Syntax.tyRef Syntax.erased Syntax.mut (Syntax.tyInt Syntax.w16); ref = λ x. x }, (Num.vFld 1 (List._∷_ (Syntax.field 0) List.[]) 0 λ x. Size.struct .as-values x .0, tt)) 14 (List._∷_ 34 List.[]) (Call.sub-id 𝓤 H A W (G215 .slots)) (Reads'.as-is 𝓤 H A (Mut.mslice (Referent.rtF (Referent.fInt Syntax.w16)) ty·5 34), Mut.reads-mslice 𝓤 H A W (Referent.rtF (Referent.fInt Syntax.w16)) ty·5 34, Path'.refl, ((Reads.reads-field 𝓤 H A W Size.the-type Laws.the-laws 0 (Syntax.tyInt Syntax.w64) 0 Path'.refl, Path'.refl), tt)) (Reads'.room-gone 𝓤 H A Syntax.tyUnit) (tt, tt) Path'.refl) d8
+          d9 = Typed.s-seq 𝓤 H A W 𝓣 E G215 G216 b66 b69 Δ0 (Typed.both (s214 bs)) (at8 bs) (Plain.t-call-plain 𝓤 H A W 𝓣 1 ps·4 r·4 (claims· .8) (claims· .9) "tables::internal::fill" (known .4) E (λ pos β. β) G215 (record { pos = 70; ty = Syntax.tyRef Syntax.erased Syntax.mut (Syntax.tyInt Syntax.w16); ref = λ x. x }, (Num.vFld 1 (List._∷_ (Syntax.field 0) List.[]) 0 λ x. Size.struct .as-values x .0, (Num.vLit 0, tt))) 14 (List._∷_ 34 List.[]) (Call.sub-id 𝓤 H A W (G215 .slots)) (Reads'.as-is 𝓤 H A (Mut.mslice (Referent.rtF (Referent.fInt Syntax.w16)) ty·5 34), Mut.reads-mslice 𝓤 H A W (Referent.rtF (Referent.fInt Syntax.w16)) ty·5 34, Path'.refl, ((Reads.reads-field 𝓤 H A W Size.the-type Laws.the-laws 0 (Syntax.tyInt Syntax.w64) 0 Path'.refl, Path'.refl), (tt, tt))) (Reads'.room-gone 𝓤 H A Syntax.tyUnit) (tt, tt) Path'.refl) d8
 
           d10 : Typed.Typed 𝓤 H A 𝓣 E G214 b71 Δ0 (at10 bs)
           d10 = Typed.s-seq 𝓤 H A W 𝓣 E G214 G215 b65 b70 Δ0 (Typed.ask (s213 bs)) (at9 bs) (Relend.t-sl-aggregate 𝓤 H A W E (Referent.rtF (Referent.fInt Syntax.w16)) 𝓣 (Relend.asMut (Referent.rtF (Referent.fInt Syntax.w16))) G214 69 70 34 ty·5 ty·5 (λ x. x) (Scalar.oFld 8 (List._∷_ (Syntax.field 1) List.[]) (Syntax.tyInt Syntax.w64) 8 λ v. Shared.lenV (v .0)) (Reads'.as-is 𝓤 H A (Relend.msptr (Referent.rtF (Referent.fInt Syntax.w16)) ty·5 34)) (Reads'.room-gone 𝓤 H A ty·20) (Relend.reads-owed-len 𝓤 H A W (Referent.rtF (Referent.fInt Syntax.w16)) ty·12 6 34 (Row.lease (κs .1 .1 .1 .1 .1 .1 .0) (qs .1 .1 .1 .1 .1 .1 .0)) 8 Path'.refl, Path'.refl) Path'.refl Path'.refl λ b o k. tt) d9
@@ -5162,45 +5162,45 @@ module _ (claims· : Claims) where
       m132 = λ before given. s213 (before .before .before .before .before .before .before .before .before .before .before .before .before .before .before .before .before .before .before .before .before .before .before .before .before .before .before .before .before .before .before .before .before .before .before .before .before .before .before .before .before .before .before .before .before .before .before .before .before .before .before .before .before .before .before .before .before .before .before .before .before .before .before .before .before .before .before .blocks) .next (m131 before given)
 
       module _ (before· : After-slice-known14) where
-        pub record After-clear-arg·own : Type 0 where
+        pub record After-fill-arg·own : Type 0 where
           pub given : s212 (before· .before .before .before .before .before .before .before .before .before .before .before .before .before .before .before .before .before .before .before .before .before .before .before .before .before .before .before .before .before .before .before .before .before .before .before .before .before .before .before .before .before .before .before .before .before .before .before .before .before .before .before .before .before .before .before .before .before .before .before .before .before .before .before .before .before .before .blocks) .gives (m130 (before· .before) (before· .slice-known14 .given))
 
-      pub record After-clear-arg : Type 0 where
+      pub record After-fill-arg : Type 0 where
         pub before : After-slice-known14
-        pub clear-arg : After-clear-arg·own before
+        pub fill-arg : After-fill-arg·own before
 
-      abbrev pub Need-clear-requires : Type 0
-      Need-clear-requires = (c : After-clear-arg) → s214 (c .before .before .before .before .before .before .before .before .before .before .before .before .before .before .before .before .before .before .before .before .before .before .before .before .before .before .before .before .before .before .before .before .before .before .before .before .before .before .before .before .before .before .before .before .before .before .before .before .before .before .before .before .before .before .before .before .before .before .before .before .before .before .before .before .before .before .before .blocks) .asks (m132 (c .before) (c .clear-arg .given))
+      abbrev pub Need-fill-requires : Type 0
+      Need-fill-requires = (c : After-fill-arg) → s214 (c .before .before .before .before .before .before .before .before .before .before .before .before .before .before .before .before .before .before .before .before .before .before .before .before .before .before .before .before .before .before .before .before .before .before .before .before .before .before .before .before .before .before .before .before .before .before .before .before .before .before .before .before .before .before .before .before .before .before .before .before .before .before .before .before .before .before .before .blocks) .asks (m132 (c .before) (c .fill-arg .given))
 
-      abbrev pub m133 : (before : After-clear-arg) → (given : s214 (before .before .before .before .before .before .before .before .before .before .before .before .before .before .before .before .before .before .before .before .before .before .before .before .before .before .before .before .before .before .before .before .before .before .before .before .before .before .before .before .before .before .before .before .before .before .before .before .before .before .before .before .before .before .before .before .before .before .before .before .before .before .before .before .before .before .before .before .blocks) .gives (m132 (before .before) (before .clear-arg .given))) → Typed.Mo T216
-      m133 = λ before given. s214 (before .before .before .before .before .before .before .before .before .before .before .before .before .before .before .before .before .before .before .before .before .before .before .before .before .before .before .before .before .before .before .before .before .before .before .before .before .before .before .before .before .before .before .before .before .before .before .before .before .before .before .before .before .before .before .before .before .before .before .before .before .before .before .before .before .before .before .before .blocks) .next (m132 (before .before) (before .clear-arg .given)) given
+      abbrev pub m133 : (before : After-fill-arg) → (given : s214 (before .before .before .before .before .before .before .before .before .before .before .before .before .before .before .before .before .before .before .before .before .before .before .before .before .before .before .before .before .before .before .before .before .before .before .before .before .before .before .before .before .before .before .before .before .before .before .before .before .before .before .before .before .before .before .before .before .before .before .before .before .before .before .before .before .before .before .before .blocks) .gives (m132 (before .before) (before .fill-arg .given))) → Typed.Mo T216
+      m133 = λ before given. s214 (before .before .before .before .before .before .before .before .before .before .before .before .before .before .before .before .before .before .before .before .before .before .before .before .before .before .before .before .before .before .before .before .before .before .before .before .before .before .before .before .before .before .before .before .before .before .before .before .before .before .before .before .before .before .before .before .before .before .before .before .before .before .before .before .before .before .before .before .blocks) .next (m132 (before .before) (before .fill-arg .given)) given
 
-      module _ (before· : After-clear-arg) where
-        abbrev pub After-clear·own : Type 0
-        After-clear·own = Called.Called ps·4 r·4 (claims· .9) T215 (record { pos = 70; ty = Syntax.tyRef Syntax.erased Syntax.mut (Syntax.tyInt Syntax.w16); ref = λ x. x }, (Num.vFld 1 (List._∷_ (Syntax.field 0) List.[]) 0 λ x. Size.struct .as-values x .0, tt)) (m132 (before· .before) (before· .clear-arg .given))
+      module _ (before· : After-fill-arg) where
+        abbrev pub After-fill·own : Type 0
+        After-fill·own = Called.Called ps·4 r·4 (claims· .9) T215 (record { pos = 70; ty = Syntax.tyRef Syntax.erased Syntax.mut (Syntax.tyInt Syntax.w16); ref = λ x. x }, (Num.vFld 1 (List._∷_ (Syntax.field 0) List.[]) 0 λ x. Size.struct .as-values x .0, (Num.vLit 0, tt))) (m132 (before· .before) (before· .fill-arg .given))
 
-      pub record After-clear : Type 0 where
-        pub before : After-clear-arg
-        pub clear : After-clear·own before
+      pub record After-fill : Type 0 where
+        pub before : After-fill-arg
+        pub fill : After-fill·own before
 
-      abbrev pub After-clear·gave : (c : After-clear) → s214 (c .before .before .before .before .before .before .before .before .before .before .before .before .before .before .before .before .before .before .before .before .before .before .before .before .before .before .before .before .before .before .before .before .before .before .before .before .before .before .before .before .before .before .before .before .before .before .before .before .before .before .before .before .before .before .before .before .before .before .before .before .before .before .before .before .before .before .before .before .blocks) .gives (m132 (c .before .before) (c .before .clear-arg .given))
-      After-clear·gave = λ c. Called.given ps·4 r·4 (claims· .9) T215 (record { pos = 70; ty = Syntax.tyRef Syntax.erased Syntax.mut (Syntax.tyInt Syntax.w16); ref = λ x. x }, (Num.vFld 1 (List._∷_ (Syntax.field 0) List.[]) 0 λ x. Size.struct .as-values x .0, tt)) (m132 (c .before .before) (c .before .clear-arg .given)) (c .clear)
+      abbrev pub After-fill·gave : (c : After-fill) → s214 (c .before .before .before .before .before .before .before .before .before .before .before .before .before .before .before .before .before .before .before .before .before .before .before .before .before .before .before .before .before .before .before .before .before .before .before .before .before .before .before .before .before .before .before .before .before .before .before .before .before .before .before .before .before .before .before .before .before .before .before .before .before .before .before .before .before .before .before .before .blocks) .gives (m132 (c .before .before) (c .before .fill-arg .given))
+      After-fill·gave = λ c. Called.given ps·4 r·4 (claims· .9) T215 (record { pos = 70; ty = Syntax.tyRef Syntax.erased Syntax.mut (Syntax.tyInt Syntax.w16); ref = λ x. x }, (Num.vFld 1 (List._∷_ (Syntax.field 0) List.[]) 0 λ x. Size.struct .as-values x .0, (Num.vLit 0, tt))) (m132 (c .before .before) (c .before .fill-arg .given)) (c .fill)
 
-      abbrev pub m134 : (before : After-clear-arg) → (given : s214 (before .before .before .before .before .before .before .before .before .before .before .before .before .before .before .before .before .before .before .before .before .before .before .before .before .before .before .before .before .before .before .before .before .before .before .before .before .before .before .before .before .before .before .before .before .before .before .before .before .before .before .before .before .before .before .before .before .before .before .before .before .before .before .before .before .before .before .before .blocks) .gives (m132 (before .before) (before .clear-arg .given))) → Typed.Mo T217
+      abbrev pub m134 : (before : After-fill-arg) → (given : s214 (before .before .before .before .before .before .before .before .before .before .before .before .before .before .before .before .before .before .before .before .before .before .before .before .before .before .before .before .before .before .before .before .before .before .before .before .before .before .before .before .before .before .before .before .before .before .before .before .before .before .before .before .before .before .before .before .before .before .before .before .before .before .before .before .before .before .before .before .blocks) .gives (m132 (before .before) (before .fill-arg .given))) → Typed.Mo T217
       m134 = λ before given. s215 (before .before .before .before .before .before .before .before .before .before .before .before .before .before .before .before .before .before .before .before .before .before .before .before .before .before .before .before .before .before .before .before .before .before .before .before .before .before .before .before .before .before .before .before .before .before .before .before .before .before .before .before .before .before .before .before .before .before .before .before .before .before .before .before .before .before .before .before .blocks) (m133 before given)
 
-      abbrev pub m135 : (before : After-clear-arg) → (given : s214 (before .before .before .before .before .before .before .before .before .before .before .before .before .before .before .before .before .before .before .before .before .before .before .before .before .before .before .before .before .before .before .before .before .before .before .before .before .before .before .before .before .before .before .before .before .before .before .before .before .before .before .before .before .before .before .before .before .before .before .before .before .before .before .before .before .before .before .before .blocks) .gives (m132 (before .before) (before .clear-arg .given))) → Typed.Mo T218
+      abbrev pub m135 : (before : After-fill-arg) → (given : s214 (before .before .before .before .before .before .before .before .before .before .before .before .before .before .before .before .before .before .before .before .before .before .before .before .before .before .before .before .before .before .before .before .before .before .before .before .before .before .before .before .before .before .before .before .before .before .before .before .before .before .before .before .before .before .before .before .before .before .before .before .before .before .before .before .before .before .before .before .blocks) .gives (m132 (before .before) (before .fill-arg .given))) → Typed.Mo T218
       m135 = λ before given. s216 (before .before .before .before .before .before .before .before .before .before .before .before .before .before .before .before .before .before .before .before .before .before .before .before .before .before .before .before .before .before .before .before .before .before .before .before .before .before .before .before .before .before .before .before .before .before .before .before .before .before .before .before .before .before .before .before .before .before .before .before .before .before .before .before .before .before .before .before .blocks) (m134 before given)
 
-      abbrev pub m136 : (before : After-clear) → (given : s218 (before .before .before .before .before .before .before .before .before .before .before .before .before .before .before .before .before .before .before .before .before .before .before .before .before .before .before .before .before .before .before .before .before .before .before .before .before .before .before .before .before .before .before .before .before .before .before .before .before .before .before .before .before .before .before .before .before .before .before .before .before .before .before .before .before .before .before .before .before .blocks) .gives (m135 (before .before) (After-clear·gave before))) → Typed.Mo T220
-      m136 = λ before given. s218 (before .before .before .before .before .before .before .before .before .before .before .before .before .before .before .before .before .before .before .before .before .before .before .before .before .before .before .before .before .before .before .before .before .before .before .before .before .before .before .before .before .before .before .before .before .before .before .before .before .before .before .before .before .before .before .before .before .before .before .before .before .before .before .before .before .before .before .before .before .blocks) .next (m135 (before .before) (After-clear·gave before)) given
+      abbrev pub m136 : (before : After-fill) → (given : s218 (before .before .before .before .before .before .before .before .before .before .before .before .before .before .before .before .before .before .before .before .before .before .before .before .before .before .before .before .before .before .before .before .before .before .before .before .before .before .before .before .before .before .before .before .before .before .before .before .before .before .before .before .before .before .before .before .before .before .before .before .before .before .before .before .before .before .before .before .before .blocks) .gives (m135 (before .before) (After-fill·gave before))) → Typed.Mo T220
+      m136 = λ before given. s218 (before .before .before .before .before .before .before .before .before .before .before .before .before .before .before .before .before .before .before .before .before .before .before .before .before .before .before .before .before .before .before .before .before .before .before .before .before .before .before .before .before .before .before .before .before .before .before .before .before .before .before .before .before .before .before .before .before .before .before .before .before .before .before .before .before .before .before .before .before .blocks) .next (m135 (before .before) (After-fill·gave before)) given
 
-      module _ (before· : After-clear) where
+      module _ (before· : After-fill) where
         pub record After-scratch3·own : Type 0 where
-          pub given : s218 (before· .before .before .before .before .before .before .before .before .before .before .before .before .before .before .before .before .before .before .before .before .before .before .before .before .before .before .before .before .before .before .before .before .before .before .before .before .before .before .before .before .before .before .before .before .before .before .before .before .before .before .before .before .before .before .before .before .before .before .before .before .before .before .before .before .before .before .before .before .blocks) .gives (m135 (before· .before) (After-clear·gave before·))
+          pub given : s218 (before· .before .before .before .before .before .before .before .before .before .before .before .before .before .before .before .before .before .before .before .before .before .before .before .before .before .before .before .before .before .before .before .before .before .before .before .before .before .before .before .before .before .before .before .before .before .before .before .before .before .before .before .before .before .before .before .before .before .before .before .before .before .before .before .before .before .before .before .before .blocks) .gives (m135 (before· .before) (After-fill·gave before·))
 
       pub record After-scratch3 : Type 0 where
-        pub before : After-clear
+        pub before : After-fill
         pub scratch3 : After-scratch3·own before
 
       abbrev pub m137 : (before : After-scratch3) → (given : s219 (before .before .before .before .before .before .before .before .before .before .before .before .before .before .before .before .before .before .before .before .before .before .before .before .before .before .before .before .before .before .before .before .before .before .before .before .before .before .before .before .before .before .before .before .before .before .before .before .before .before .before .before .before .before .before .before .before .before .before .before .before .before .before .before .before .before .before .before .before .before .blocks) .gives (m136 (before .before) (before .scratch3 .given))) → Typed.Mo T221
@@ -5235,12 +5235,12 @@ module _ (claims· : Claims) where
       abbrev pub Need-returns : Type 0
       Need-returns = (c : After-slice-known15) → Post· (c .before .before .before .before .before .before .before .before .before .before .before .before .before .before .before .before .before .before .before .before .before .before .before .before .before .before .before .before .before .before .before .before .before .before .before .before .before .before .before .before .before .before .before .before .before .before .before .before .before .before .before .before .before .before .before .before .before .before .before .before .before .before .before .before .before .before .before .before .before .before .κs) (dens (c .before .before .before .before .before .before .before .before .before .before .before .before .before .before .before .before .before .before .before .before .before .before .before .before .before .before .before .before .before .before .before .before .before .before .before .before .before .before .before .before .before .before .before .before .before .before .before .before .before .before .before .before .before .before .before .before .before .before .before .before .before .before .before .before .before .before .before .before .before .before .κs) (c .before .before .before .before .before .before .before .before .before .before .before .before .before .before .before .before .before .before .before .before .before .before .before .before .before .before .before .before .before .before .before .before .before .before .before .before .before .before .before .before .before .before .before .before .before .before .before .before .before .before .before .before .before .before .before .before .before .before .before .before .before .before .before .before .before .before .before .before .before .before .args)) (Function.resV r (c .before .before .before .before .before .before .before .before .before .before .before .before .before .before .before .before .before .before .before .before .before .before .before .before .before .before .before .before .before .before .before .before .before .before .before .before .before .before .before .before .before .before .before .before .before .before .before .before .before .before .before .before .before .before .before .before .before .before .before .before .before .before .before .before .before .before .before .before .before .before .κs) (m139 (c .before) (c .slice-known15 .given) .0)) (Clauses.atExit (Kinds.endedOf 7 ps r) (c .before .before .before .before .before .before .before .before .before .before .before .before .before .before .before .before .before .before .before .before .before .before .before .before .before .before .before .before .before .before .before .before .before .before .before .before .before .before .before .before .before .before .before .before .before .before .before .before .before .before .before .before .before .before .before .before .before .before .before .before .before .before .before .before .before .before .before .before .before .before .κs) (dens (c .before .before .before .before .before .before .before .before .before .before .before .before .before .before .before .before .before .before .before .before .before .before .before .before .before .before .before .before .before .before .before .before .before .before .before .before .before .before .before .before .before .before .before .before .before .before .before .before .before .before .before .before .before .before .before .before .before .before .before .before .before .before .before .before .before .before .before .before .before .before .κs) (c .before .before .before .before .before .before .before .before .before .before .before .before .before .before .before .before .before .before .before .before .before .before .before .before .before .before .before .before .before .before .before .before .before .before .before .before .before .before .before .before .before .before .before .before .before .before .before .before .before .before .before .before .before .before .before .before .before .before .before .before .before .before .before .before .before .before .before .before .before .before .args)) (Enter.lastsP (c .before .before .before .before .before .before .before .before .before .before .before .before .before .before .before .before .before .before .before .before .before .before .before .before .before .before .before .before .before .before .before .before .before .before .before .before .before .before .before .before .before .before .before .before .before .before .before .before .before .before .before .before .before .before .before .before .before .before .before .before .before .before .before .before .before .before .before .before .before .before .κs) 1 ps xs (dens (c .before .before .before .before .before .before .before .before .before .before .before .before .before .before .before .before .before .before .before .before .before .before .before .before .before .before .before .before .before .before .before .before .before .before .before .before .before .before .before .before .before .before .before .before .before .before .before .before .before .before .before .before .before .before .before .before .before .before .before .before .before .before .before .before .before .before .before .before .before .before .κs) (c .before .before .before .before .before .before .before .before .before .before .before .before .before .before .before .before .before .before .before .before .before .before .before .before .before .before .before .before .before .before .before .before .before .before .before .before .before .before .before .before .before .before .before .before .before .before .before .before .before .before .before .before .before .before .before .before .before .before .before .before .before .before .before .before .before .before .before .before .before .before .args)) (m139 (c .before) (c .slice-known15 .given) .1)))
 
-      module _ (slice-aggregate-lay-out : Need-slice-aggregate-lay-out) (lay-out-requires : Need-lay-out-requires) (slice-aggregate-index-all : Need-slice-aggregate-index-all) (slice-aggregate-index-all-2 : Need-slice-aggregate-index-all-2) (slice-aggregate-index-all-3 : Need-slice-aggregate-index-all-3) (slice-aggregate-index-all-4 : Need-slice-aggregate-index-all-4) (index-all-requires : Need-index-all-requires) (slice-aggregate-propagate-in : Need-slice-aggregate-propagate-in) (slice-aggregate-propagate-in-2 : Need-slice-aggregate-propagate-in-2) (slice-aggregate-propagate-in-3 : Need-slice-aggregate-propagate-in-3) (slice-aggregate-propagate-in-4 : Need-slice-aggregate-propagate-in-4) (propagate-in-requires : Need-propagate-in-requires) (slice-aggregate-lay-out-2 : Need-slice-aggregate-lay-out-2) (lay-out-requires-2 : Need-lay-out-requires-2) (slice-aggregate-propagate-in-5 : Need-slice-aggregate-propagate-in-5) (slice-aggregate-propagate-in-6 : Need-slice-aggregate-propagate-in-6) (slice-aggregate-propagate-in-7 : Need-slice-aggregate-propagate-in-7) (slice-aggregate-propagate-in-8 : Need-slice-aggregate-propagate-in-8) (propagate-in-requires-2 : Need-propagate-in-requires-2) (judge-all-requires : Need-judge-all-requires) (clear-requires : Need-clear-requires) (same-length : Need-same-length) (same-length-2 : Need-same-length-2) (same-length-3 : Need-same-length-3) (same-length-4 : Need-same-length-4) (returns : Need-returns) where
-        lay11 : (c : After-clear) → at8 (c .before .before .before .before .before .before .before .before .before .before .before .before .before .before .before .before .before .before .before .before .before .before .before .before .before .before .before .before .before .before .before .before .before .before .before .before .before .before .before .before .before .before .before .before .before .before .before .before .before .before .before .before .before .before .before .before .before .before .before .before .before .before .before .before .before .before .before .before .blocks) (W0 (c .before .before .before .before .before .before .before .before .before .before .before .before .before .before .before .before .before .before .before .before .before .before .before .before .before .before .before .before .before .before .before .before .before .before .before .before .before .before .before .before .before .before .before .before .before .before .before .before .before .before .before .before .before .before .before .before .before .before .before .before .before .before .before .before .before .before .before .before .κs) (c .before .before .before .before .before .before .before .before .before .before .before .before .before .before .before .before .before .before .before .before .before .before .before .before .before .before .before .before .before .before .before .before .before .before .before .before .before .before .before .before .before .before .before .before .before .before .before .before .before .before .before .before .before .before .before .before .before .before .before .before .before .before .before .before .before .before .before .before .args) (c .before .before .before .before .before .before .before .before .before .before .before .before .before .before .before .before .before .before .before .before .before .before .before .before .before .before .before .before .before .before .before .before .before .before .before .before .before .before .before .before .before .before .before .before .before .before .before .before .before .before .before .before .before .before .before .before .before .before .before .before .before .before .before .before .before .before .before .before .blocks)) (m133 (c .before) (After-clear·gave c))
-        lay11 = λ c. (Path'.refl, λ g. λ g'. ((tt, (Path'.refl, (Path'.refl, (Path'.refl, (MutSlice.fix-len (Row.get 5 (T224 .locals) (m139 record { before = record { before = c .before; clear = c .clear }; scratch3 = record { given = g } } g') .ptr) (Row.get 5 (T224 .locals) (m139 record { before = record { before = c .before; clear = c .clear }; scratch3 = record { given = g } } g') .name) (Row.get 5 (T224 .locals) (m139 record { before = record { before = c .before; clear = c .clear }; scratch3 = record { given = g } } g') .now) (dens (c .before .before .before .before .before .before .before .before .before .before .before .before .before .before .before .before .before .before .before .before .before .before .before .before .before .before .before .before .before .before .before .before .before .before .before .before .before .before .before .before .before .before .before .before .before .before .before .before .before .before .before .before .before .before .before .before .before .before .before .before .before .before .before .before .before .before .before .before .κs) (c .before .before .before .before .before .before .before .before .before .before .before .before .before .before .before .before .before .before .before .before .before .before .before .before .before .before .before .before .before .before .before .before .before .before .before .before .before .before .before .before .before .before .before .before .before .before .before .before .before .before .before .before .before .before .before .before .before .before .before .before .before .before .before .before .before .before .before .before .args) .1 .1 .1 .1 .0 .now) (same-length record { before = record { before = record { before = c .before; clear = c .clear }; scratch3 = record { given = g } }; slice-known15 = record { given = g' } }), (MutSlice.fix-len (Row.get 6 (T224 .locals) (m139 record { before = record { before = c .before; clear = c .clear }; scratch3 = record { given = g } } g') .ptr) (Row.get 6 (T224 .locals) (m139 record { before = record { before = c .before; clear = c .clear }; scratch3 = record { given = g } } g') .name) (Row.get 6 (T224 .locals) (m139 record { before = record { before = c .before; clear = c .clear }; scratch3 = record { given = g } } g') .now) (dens (c .before .before .before .before .before .before .before .before .before .before .before .before .before .before .before .before .before .before .before .before .before .before .before .before .before .before .before .before .before .before .before .before .before .before .before .before .before .before .before .before .before .before .before .before .before .before .before .before .before .before .before .before .before .before .before .before .before .before .before .before .before .before .before .before .before .before .before .before .κs) (c .before .before .before .before .before .before .before .before .before .before .before .before .before .before .before .before .before .before .before .before .before .before .before .before .before .before .before .before .before .before .before .before .before .before .before .before .before .before .before .before .before .before .before .before .before .before .before .before .before .before .before .before .before .before .before .before .before .before .before .before .before .before .before .before .before .before .before .before .args) .1 .1 .1 .1 .1 .0 .now) (same-length-2 record { before = record { before = record { before = c .before; clear = c .clear }; scratch3 = record { given = g } }; slice-known15 = record { given = g' } }), (MutSlice.fix-len (Row.get 7 (T224 .locals) (m139 record { before = record { before = c .before; clear = c .clear }; scratch3 = record { given = g } } g') .ptr) (Row.get 7 (T224 .locals) (m139 record { before = record { before = c .before; clear = c .clear }; scratch3 = record { given = g } } g') .name) (Row.get 7 (T224 .locals) (m139 record { before = record { before = c .before; clear = c .clear }; scratch3 = record { given = g } } g') .now) (dens (c .before .before .before .before .before .before .before .before .before .before .before .before .before .before .before .before .before .before .before .before .before .before .before .before .before .before .before .before .before .before .before .before .before .before .before .before .before .before .before .before .before .before .before .before .before .before .before .before .before .before .before .before .before .before .before .before .before .before .before .before .before .before .before .before .before .before .before .before .κs) (c .before .before .before .before .before .before .before .before .before .before .before .before .before .before .before .before .before .before .before .before .before .before .before .before .before .before .before .before .before .before .before .before .before .before .before .before .before .before .before .before .before .before .before .before .before .before .before .before .before .before .before .before .before .before .before .before .before .before .before .before .before .before .before .before .before .before .before .before .args) .1 .1 .1 .1 .1 .1 .0 .now) (same-length-3 record { before = record { before = record { before = c .before; clear = c .clear }; scratch3 = record { given = g } }; slice-known15 = record { given = g' } }), (MutSlice.fix-len (Row.get 8 (T224 .locals) (m139 record { before = record { before = c .before; clear = c .clear }; scratch3 = record { given = g } } g') .ptr) (Row.get 8 (T224 .locals) (m139 record { before = record { before = c .before; clear = c .clear }; scratch3 = record { given = g } } g') .name) (Row.get 8 (T224 .locals) (m139 record { before = record { before = c .before; clear = c .clear }; scratch3 = record { given = g } } g') .now) (dens (c .before .before .before .before .before .before .before .before .before .before .before .before .before .before .before .before .before .before .before .before .before .before .before .before .before .before .before .before .before .before .before .before .before .before .before .before .before .before .before .before .before .before .before .before .before .before .before .before .before .before .before .before .before .before .before .before .before .before .before .before .before .before .before .before .before .before .before .before .κs) (c .before .before .before .before .before .before .before .before .before .before .before .before .before .before .before .before .before .before .before .before .before .before .before .before .before .before .before .before .before .before .before .before .before .before .before .before .before .before .before .before .before .before .before .before .before .before .before .before .before .before .before .before .before .before .before .before .before .before .before .before .before .before .before .before .before .before .before .before .args) .1 .1 .1 .1 .1 .1 .1 .0 .now) (same-length-4 record { before = record { before = record { before = c .before; clear = c .clear }; scratch3 = record { given = g } }; slice-known15 = record { given = g' } }), tt)))))))), returns record { before = record { before = record { before = c .before; clear = c .clear }; scratch3 = record { given = g } }; slice-known15 = record { given = g' } }))
+      module _ (slice-aggregate-lay-out : Need-slice-aggregate-lay-out) (lay-out-requires : Need-lay-out-requires) (slice-aggregate-index-all : Need-slice-aggregate-index-all) (slice-aggregate-index-all-2 : Need-slice-aggregate-index-all-2) (slice-aggregate-index-all-3 : Need-slice-aggregate-index-all-3) (slice-aggregate-index-all-4 : Need-slice-aggregate-index-all-4) (index-all-requires : Need-index-all-requires) (slice-aggregate-propagate-in : Need-slice-aggregate-propagate-in) (slice-aggregate-propagate-in-2 : Need-slice-aggregate-propagate-in-2) (slice-aggregate-propagate-in-3 : Need-slice-aggregate-propagate-in-3) (slice-aggregate-propagate-in-4 : Need-slice-aggregate-propagate-in-4) (propagate-in-requires : Need-propagate-in-requires) (slice-aggregate-lay-out-2 : Need-slice-aggregate-lay-out-2) (lay-out-requires-2 : Need-lay-out-requires-2) (slice-aggregate-propagate-in-5 : Need-slice-aggregate-propagate-in-5) (slice-aggregate-propagate-in-6 : Need-slice-aggregate-propagate-in-6) (slice-aggregate-propagate-in-7 : Need-slice-aggregate-propagate-in-7) (slice-aggregate-propagate-in-8 : Need-slice-aggregate-propagate-in-8) (propagate-in-requires-2 : Need-propagate-in-requires-2) (judge-all-requires : Need-judge-all-requires) (fill-requires : Need-fill-requires) (same-length : Need-same-length) (same-length-2 : Need-same-length-2) (same-length-3 : Need-same-length-3) (same-length-4 : Need-same-length-4) (returns : Need-returns) where
+        lay11 : (c : After-fill) → at8 (c .before .before .before .before .before .before .before .before .before .before .before .before .before .before .before .before .before .before .before .before .before .before .before .before .before .before .before .before .before .before .before .before .before .before .before .before .before .before .before .before .before .before .before .before .before .before .before .before .before .before .before .before .before .before .before .before .before .before .before .before .before .before .before .before .before .before .before .before .blocks) (W0 (c .before .before .before .before .before .before .before .before .before .before .before .before .before .before .before .before .before .before .before .before .before .before .before .before .before .before .before .before .before .before .before .before .before .before .before .before .before .before .before .before .before .before .before .before .before .before .before .before .before .before .before .before .before .before .before .before .before .before .before .before .before .before .before .before .before .before .before .before .κs) (c .before .before .before .before .before .before .before .before .before .before .before .before .before .before .before .before .before .before .before .before .before .before .before .before .before .before .before .before .before .before .before .before .before .before .before .before .before .before .before .before .before .before .before .before .before .before .before .before .before .before .before .before .before .before .before .before .before .before .before .before .before .before .before .before .before .before .before .before .args) (c .before .before .before .before .before .before .before .before .before .before .before .before .before .before .before .before .before .before .before .before .before .before .before .before .before .before .before .before .before .before .before .before .before .before .before .before .before .before .before .before .before .before .before .before .before .before .before .before .before .before .before .before .before .before .before .before .before .before .before .before .before .before .before .before .before .before .before .before .blocks)) (m133 (c .before) (After-fill·gave c))
+        lay11 = λ c. (Path'.refl, λ g. λ g'. ((tt, (Path'.refl, (Path'.refl, (Path'.refl, (MutSlice.fix-len (Row.get 5 (T224 .locals) (m139 record { before = record { before = c .before; fill = c .fill }; scratch3 = record { given = g } } g') .ptr) (Row.get 5 (T224 .locals) (m139 record { before = record { before = c .before; fill = c .fill }; scratch3 = record { given = g } } g') .name) (Row.get 5 (T224 .locals) (m139 record { before = record { before = c .before; fill = c .fill }; scratch3 = record { given = g } } g') .now) (dens (c .before .before .before .before .before .before .before .before .before .before .before .before .before .before .before .before .before .before .before .before .before .before .before .before .before .before .before .before .before .before .before .before .before .before .before .before .before .before .before .before .before .before .before .before .before .before .before .before .before .before .before .before .before .before .before .before .before .before .before .before .before .before .before .before .before .before .before .before .κs) (c .before .before .before .before .before .before .before .before .before .before .before .before .before .before .before .before .before .before .before .before .before .before .before .before .before .before .before .before .before .before .before .before .before .before .before .before .before .before .before .before .before .before .before .before .before .before .before .before .before .before .before .before .before .before .before .before .before .before .before .before .before .before .before .before .before .before .before .before .args) .1 .1 .1 .1 .0 .now) (same-length record { before = record { before = record { before = c .before; fill = c .fill }; scratch3 = record { given = g } }; slice-known15 = record { given = g' } }), (MutSlice.fix-len (Row.get 6 (T224 .locals) (m139 record { before = record { before = c .before; fill = c .fill }; scratch3 = record { given = g } } g') .ptr) (Row.get 6 (T224 .locals) (m139 record { before = record { before = c .before; fill = c .fill }; scratch3 = record { given = g } } g') .name) (Row.get 6 (T224 .locals) (m139 record { before = record { before = c .before; fill = c .fill }; scratch3 = record { given = g } } g') .now) (dens (c .before .before .before .before .before .before .before .before .before .before .before .before .before .before .before .before .before .before .before .before .before .before .before .before .before .before .before .before .before .before .before .before .before .before .before .before .before .before .before .before .before .before .before .before .before .before .before .before .before .before .before .before .before .before .before .before .before .before .before .before .before .before .before .before .before .before .before .before .κs) (c .before .before .before .before .before .before .before .before .before .before .before .before .before .before .before .before .before .before .before .before .before .before .before .before .before .before .before .before .before .before .before .before .before .before .before .before .before .before .before .before .before .before .before .before .before .before .before .before .before .before .before .before .before .before .before .before .before .before .before .before .before .before .before .before .before .before .before .before .args) .1 .1 .1 .1 .1 .0 .now) (same-length-2 record { before = record { before = record { before = c .before; fill = c .fill }; scratch3 = record { given = g } }; slice-known15 = record { given = g' } }), (MutSlice.fix-len (Row.get 7 (T224 .locals) (m139 record { before = record { before = c .before; fill = c .fill }; scratch3 = record { given = g } } g') .ptr) (Row.get 7 (T224 .locals) (m139 record { before = record { before = c .before; fill = c .fill }; scratch3 = record { given = g } } g') .name) (Row.get 7 (T224 .locals) (m139 record { before = record { before = c .before; fill = c .fill }; scratch3 = record { given = g } } g') .now) (dens (c .before .before .before .before .before .before .before .before .before .before .before .before .before .before .before .before .before .before .before .before .before .before .before .before .before .before .before .before .before .before .before .before .before .before .before .before .before .before .before .before .before .before .before .before .before .before .before .before .before .before .before .before .before .before .before .before .before .before .before .before .before .before .before .before .before .before .before .before .κs) (c .before .before .before .before .before .before .before .before .before .before .before .before .before .before .before .before .before .before .before .before .before .before .before .before .before .before .before .before .before .before .before .before .before .before .before .before .before .before .before .before .before .before .before .before .before .before .before .before .before .before .before .before .before .before .before .before .before .before .before .before .before .before .before .before .before .before .before .before .args) .1 .1 .1 .1 .1 .1 .0 .now) (same-length-3 record { before = record { before = record { before = c .before; fill = c .fill }; scratch3 = record { given = g } }; slice-known15 = record { given = g' } }), (MutSlice.fix-len (Row.get 8 (T224 .locals) (m139 record { before = record { before = c .before; fill = c .fill }; scratch3 = record { given = g } } g') .ptr) (Row.get 8 (T224 .locals) (m139 record { before = record { before = c .before; fill = c .fill }; scratch3 = record { given = g } } g') .name) (Row.get 8 (T224 .locals) (m139 record { before = record { before = c .before; fill = c .fill }; scratch3 = record { given = g } } g') .now) (dens (c .before .before .before .before .before .before .before .before .before .before .before .before .before .before .before .before .before .before .before .before .before .before .before .before .before .before .before .before .before .before .before .before .before .before .before .before .before .before .before .before .before .before .before .before .before .before .before .before .before .before .before .before .before .before .before .before .before .before .before .before .before .before .before .before .before .before .before .before .κs) (c .before .before .before .before .before .before .before .before .before .before .before .before .before .before .before .before .before .before .before .before .before .before .before .before .before .before .before .before .before .before .before .before .before .before .before .before .before .before .before .before .before .before .before .before .before .before .before .before .before .before .before .before .before .before .before .before .before .before .before .before .before .before .before .before .before .before .before .before .args) .1 .1 .1 .1 .1 .1 .1 .0 .now) (same-length-4 record { before = record { before = record { before = c .before; fill = c .fill }; scratch3 = record { given = g } }; slice-known15 = record { given = g' } }), tt)))))))), returns record { before = record { before = record { before = c .before; fill = c .fill }; scratch3 = record { given = g } }; slice-known15 = record { given = g' } }))
 
         lay10 : (c : After-judge-all) → at24 (c .before .before .before .before .before .before .before .before .before .before .before .before .before .before .before .before .before .before .before .before .before .before .before .before .before .before .before .before .before .before .before .before .before .before .before .before .before .before .before .before .before .before .before .before .before .before .before .before .before .before .before .before .before .before .before .before .before .before .before .before .before .before .blocks) (W0 (c .before .before .before .before .before .before .before .before .before .before .before .before .before .before .before .before .before .before .before .before .before .before .before .before .before .before .before .before .before .before .before .before .before .before .before .before .before .before .before .before .before .before .before .before .before .before .before .before .before .before .before .before .before .before .before .before .before .before .before .before .before .before .κs) (c .before .before .before .before .before .before .before .before .before .before .before .before .before .before .before .before .before .before .before .before .before .before .before .before .before .before .before .before .before .before .before .before .before .before .before .before .before .before .before .before .before .before .before .before .before .before .before .before .before .before .before .before .before .before .before .before .before .before .before .before .before .before .args) (c .before .before .before .before .before .before .before .before .before .before .before .before .before .before .before .before .before .before .before .before .before .before .before .before .before .before .before .before .before .before .before .before .before .before .before .before .before .before .before .before .before .before .before .before .before .before .before .before .before .before .before .before .before .before .before .before .before .before .before .before .before .before .blocks)) (m124 (c .before) (After-judge-all·gave c))
-        lay10 = λ c. (Path'.refl, λ g. λ g'. (Path'.refl, λ g''. λ g'3. λ g'4. (Path'.refl, (clear-requires record { before = record { before = record { before = record { before = record { before = record { before = c .before; judge-all = c .judge-all }; commands3 = record { given = g } }; slice-known13 = record { given = g' } }; marks3 = record { given = g'' } }; slice-known14 = record { given = g'3 } }; clear-arg = record { given = g'4 } }, λ g'5. lay11 record { before = record { before = record { before = record { before = record { before = record { before = record { before = c .before; judge-all = c .judge-all }; commands3 = record { given = g } }; slice-known13 = record { given = g' } }; marks3 = record { given = g'' } }; slice-known14 = record { given = g'3 } }; clear-arg = record { given = g'4 } }; clear = Called.called ps·4 r·4 (claims· .9) T215 (record { pos = 70; ty = Syntax.tyRef Syntax.erased Syntax.mut (Syntax.tyInt Syntax.w16); ref = λ x. x }, (Num.vFld 1 (List._∷_ (Syntax.field 0) List.[]) 0 λ x. Size.struct .as-values x .0, tt)) (m132 record { before = record { before = record { before = record { before = record { before = c .before; judge-all = c .judge-all }; commands3 = record { given = g } }; slice-known13 = record { given = g' } }; marks3 = record { given = g'' } }; slice-known14 = record { given = g'3 } } g'4) g'5 }))))
+        lay10 = λ c. (Path'.refl, λ g. λ g'. (Path'.refl, λ g''. λ g'3. λ g'4. (Path'.refl, (fill-requires record { before = record { before = record { before = record { before = record { before = record { before = c .before; judge-all = c .judge-all }; commands3 = record { given = g } }; slice-known13 = record { given = g' } }; marks3 = record { given = g'' } }; slice-known14 = record { given = g'3 } }; fill-arg = record { given = g'4 } }, λ g'5. lay11 record { before = record { before = record { before = record { before = record { before = record { before = record { before = c .before; judge-all = c .judge-all }; commands3 = record { given = g } }; slice-known13 = record { given = g' } }; marks3 = record { given = g'' } }; slice-known14 = record { given = g'3 } }; fill-arg = record { given = g'4 } }; fill = Called.called ps·4 r·4 (claims· .9) T215 (record { pos = 70; ty = Syntax.tyRef Syntax.erased Syntax.mut (Syntax.tyInt Syntax.w16); ref = λ x. x }, (Num.vFld 1 (List._∷_ (Syntax.field 0) List.[]) 0 λ x. Size.struct .as-values x .0, (Num.vLit 0, tt))) (m132 record { before = record { before = record { before = record { before = record { before = c .before; judge-all = c .judge-all }; commands3 = record { given = g } }; slice-known13 = record { given = g' } }; marks3 = record { given = g'' } }; slice-known14 = record { given = g'3 } } g'4) g'5 }))))
 
         lay9 : (c : After-slice-known12) → at34 (c .before .before .before .before .before .before .before .before .before .before .before .before .before .before .before .before .before .before .before .before .before .before .before .before .before .before .before .before .before .before .before .before .before .before .before .before .before .before .before .before .before .before .before .before .before .before .before .before .before .before .before .before .before .before .before .before .before .before .blocks) (W0 (c .before .before .before .before .before .before .before .before .before .before .before .before .before .before .before .before .before .before .before .before .before .before .before .before .before .before .before .before .before .before .before .before .before .before .before .before .before .before .before .before .before .before .before .before .before .before .before .before .before .before .before .before .before .before .before .before .before .before .κs) (c .before .before .before .before .before .before .before .before .before .before .before .before .before .before .before .before .before .before .before .before .before .before .before .before .before .before .before .before .before .before .before .before .before .before .before .before .before .before .before .before .before .before .before .before .before .before .before .before .before .before .before .before .before .before .before .before .before .before .args) (c .before .before .before .before .before .before .before .before .before .before .before .before .before .before .before .before .before .before .before .before .before .before .before .before .before .before .before .before .before .before .before .before .before .before .before .before .before .before .before .before .before .before .before .before .before .before .before .before .before .before .before .before .before .before .before .before .before .before .blocks)) (m117 (c .before) (c .slice-known12 .given))
         lay9 = λ c. λ g. (Path'.refl, λ g'. (Path'.refl, λ g''. (Path'.refl, (judge-all-requires record { before = record { before = record { before = record { before = c .before; slice-known12 = c .slice-known12 }; judge-all-arg = record { given = g } }; judge-all-arg2 = record { given = g' } }; judge-all-arg3 = record { given = g'' } }, λ g'3. lay10 record { before = record { before = record { before = record { before = record { before = c .before; slice-known12 = c .slice-known12 }; judge-all-arg = record { given = g } }; judge-all-arg2 = record { given = g' } }; judge-all-arg3 = record { given = g'' } }; judge-all = Called.called ps·3 r·3 (claims· .7) T199 (record { pos = 1; st = List.[]; d = 0; at = λ x. x }, (record { pos = 2; ty = Syntax.tyRef (Syntax.named 0) Syntax.imm (Memory.pointee (T.the-row .written)); ref = λ x. x }, (record { pos = 3; ty = Syntax.tyRef (Syntax.named 1) Syntax.imm (Syntax.tyInt Syntax.w16); ref = λ x. x }, (record { pos = 4; ty = Syntax.tyRef (Syntax.named 2) Syntax.imm (Syntax.tyInt Syntax.w16); ref = λ x. x }, (record { pos = 64; ty = Syntax.tyRef Syntax.erased Syntax.imm (Syntax.tyInt Syntax.w16); ref = λ x. x }, (record { pos = 66; ty = Syntax.tyRef Syntax.erased Syntax.mut (Syntax.tyInt Syntax.w16); ref = λ x. x }, (record { pos = 68; ty = Syntax.tyRef Syntax.erased Syntax.mut (Syntax.tyInt Syntax.w16); ref = λ x. x }, tt))))))) (m123 record { before = record { before = record { before = c .before; slice-known12 = c .slice-known12 }; judge-all-arg = record { given = g } }; judge-all-arg2 = record { given = g' } } g'') g'3 }))))
@@ -5276,6 +5276,6 @@ module _ (claims· : Claims) where
           pub asked : (a : Kinds.Dens κs ps) → (good : Kinds.GoodsP κs ps a) → (pre : Pre· κs a) → (bs : List.List Nat.ℕ) → Φ bs (Any.wantQ 7 ps r xs m κs qs a (Post· κs a)) (Function.init 7 ps r xs m κs qs a)
           asked = λ a good pre bs. laid record { κs = κs; args = record { size = a .0; rows = a .1 .0; firsts = a .1 .1 .0; outcomes = a .1 .1 .1 .0; ranks = a .1 .1 .1 .1 .0; commands = a .1 .1 .1 .1 .1 .0; marks = a .1 .1 .1 .1 .1 .1 .0; scratch = a .1 .1 .1 .1 .1 .1 .1 .0 }; blocks = bs; good = good; pre = pre }
 
-        module _ {M : Type 1} (𝓤 : URA.URA M) (H : Wp.Heap 𝓤) (A : Atoms.Atoms 𝓤) (W : Kit.Given 𝓤 H A) (𝓣 : Wp.Tables 𝓤 H) (known0 : Plain.Known 𝓤 H A W 𝓣 4 ps·0 r·0 (claims· .0) (claims· .1) "decide::nets::lay_out") (known1 : Plain.Known 𝓤 H A W 𝓣 6 ps·1 r·1 (claims· .2) (claims· .3) "decide::working::index_all") (known2 : Plain.Known 𝓤 H A W 𝓣 9 ps·2 r·2 (claims· .4) (claims· .5) "decide::working::propagate_in") (known3 : Plain.Known 𝓤 H A W 𝓣 6 ps·3 r·3 (claims· .6) (claims· .7) "decide::verdicts::judge_all") (known4 : Plain.Known 𝓤 H A W 𝓣 1 ps·4 r·4 (claims· .8) (claims· .9) "decide::working::clear") where
+        module _ {M : Type 1} (𝓤 : URA.URA M) (H : Wp.Heap 𝓤) (A : Atoms.Atoms 𝓤) (W : Kit.Given 𝓤 H A) (𝓣 : Wp.Tables 𝓤 H) (known0 : Plain.Known 𝓤 H A W 𝓣 4 ps·0 r·0 (claims· .0) (claims· .1) "decide::nets::lay_out") (known1 : Plain.Known 𝓤 H A W 𝓣 6 ps·1 r·1 (claims· .2) (claims· .3) "decide::working::index_all") (known2 : Plain.Known 𝓤 H A W 𝓣 9 ps·2 r·2 (claims· .4) (claims· .5) "decide::working::propagate_in") (known3 : Plain.Known 𝓤 H A W 𝓣 6 ps·3 r·3 (claims· .6) (claims· .7) "decide::verdicts::judge_all") (known4 : Plain.Known 𝓤 H A W 𝓣 1 ps·4 r·4 (claims· .8) (claims· .9) "tables::internal::fill") where
           pub spec : Statement.Triple 𝓤 (Wp.WpFn 𝓤 H (𝓣 .C) (𝓣 .Λ) (Function.fnOf 7 ps r xs m hs body)) (Function.plainOf 𝓤 H A 7 ps r Pre· Post·)
           spec = Plain.t-fn-plain 𝓤 H A W 𝓣 7 ps r xs m hs body (λ κs qs bs. Φ bs) (λ κs qs bs bd. typed κs qs 𝓤 H A W 𝓣 (known0, known1, known2, known3, known4) bs bd) Pre· Post· asked

@@ -3,8 +3,8 @@ use Prim.Native.Nat.{_-_, _≤_}
 use native.Mathlib.Omega.{arith}
 use Rattle.laws.specs.Filled.{Filled}
 use Rattle.laws.proofs.Fills.{filled-none, filled-next, filled-done}
-use Rattle.search.proofs.fills.fill.Statement.{statement}
-use Rattle.search.proofs.fills.fill.Tie as tie
+use Rattle.tables.proofs.internal.fill.Statement.{statement}
+use Rattle.tables.proofs.internal.fill.Tie as tie
 
 abbrev Inv-loop : tie.InvT-loop
 Inv-loop table₀ n x i₀ table i = (i ≤ n) × Filled i (λ _. x) table₀ table
