@@ -86,6 +86,7 @@ fn answer_with(tally: [[u16; 3]; 2]) -> Decision
 // Decides the plan: its ranks (FFFF for safe), commands (FFFF for none), practice marks and tally. The tally leaves as its two rows beside
 // the answer, since an enum holds no array. Document 01 leaves free what the tables have while the call runs: the first n places of all four
 // are worked in, and no place behind them is written. When it is over nothing is free: the equations say what every place has.
+// Ruled out: a leaking ring called safe, and lack of space told as lost.
 pub fn decide(
     size: Size,
     rows: &[Row],

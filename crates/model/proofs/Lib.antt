@@ -38,3 +38,4 @@ pub mod Bench
 pub mod BenchCases
 pub mod Decimals
 pub mod ListingLength
+pub mod BoundaryCases

@@ -48,7 +48,7 @@ pub lost-waits : (N : Net) (K G : ℕ → Bool) (k hi : ℕ) (X : Work) → Wave
     → getD (X .ranks) s 0 ≡ FFFF → G (getD (X .watch) s 0) ≡ true
 lost-waits N K G k hi X v s h t e =
     let y = v .watches s h e in
-    let l = y .within (lose-some N (layer N K k) s t) in
+    let l = y .until (lose-some N (layer N K k) s t) in
     y .pending l (lose-at N (layer N K k) s t (getD (X .watch) s 0) (y .since) l)
 
 -- the walk at place h
@@ -171,7 +171,7 @@ module _ (C : Commands) (tos owner : List ℕ) (k lo : ℕ) (X : Work) where
                 let b = to-in N ends s g in
                 record {
                   since = w .since;
-                  within = w .within;
+                  until = w .until;
                   before = λ i p q d. more i (omega arith) (w .before i p q d);
                   pending = λ l t. waits (getD (Y .watch) s 0) (omega arith) (λ f. none-waits C (X .queue) h (X .end) _ over (w .pending l f)) t;
                 };

@@ -118,7 +118,7 @@ module _ (C : Commands) (R : Fit C) (tos : List ℕ) (ends : Ranges C tos) (r w 
           let b = to-in N ends s h in
           record {
             since = omega (arith, first s);
-            within = λ l. omega (arith, first s);
+            until = λ l. omega (arith, first s);
             before = λ i l g. absurd (omega (arith, first s));
             pending = λ l t. waits (getD w s 0) (omega arith) t;
           };

@@ -12,8 +12,9 @@ use lib.Seq.{getD-set-same, getD-set-other}
 use Rattle.laws.specs.Entry.{FFFF}
 use Rattle.laws.proofs.Tests.{clash}
 use Rattle.index.specs.Commands.{Commands, Fit}
+use Rattle.choice.specs.Within.{within}
 use Rattle.propagate.specs.Net.{Net, netOf, from, to, hits, losing, layer, Ranges, Owns}
-use Rattle.propagate.specs.Work.{Work, work, upTo, Advanced, Line, Watch, Wave, Moved}
+use Rattle.propagate.specs.Work.{Work, work, Advanced, Line, Watch, Wave, Moved}
 use Rattle.propagate.proofs.Hits.{hit-same, lose-of, to-in}
 use Rattle.propagate.proofs.Counting.{queue-room, line-next}
 
@@ -25,7 +26,7 @@ to-at C froms tos s = refl
 -- another set of commands to be looked at, if it has the watched one too
 pub watch-more : (N : Net) (A G G′ : ℕ → Bool) (s c : ℕ) → Watch N A G s c → (c < to N s → G c ≡ true → G′ c ≡ true) → Watch N A G′ s c
 watch-more N A G G′ s c y f =
-    record { since = y .since; within = y .within; before = y .before; pending = λ l t. f l (y .pending l t) }
+    record { since = y .since; until = y .until; before = y .before; pending = λ l t. f l (y .pending l t) }
 
 -- the range of s ends at f
 pub range-in : (C : Commands) (tos : List ℕ) → Ranges C tos → (s f : ℕ) → s < C .n → f ≡ getD tos s 0 → f ≤ C .m
@@ -75,8 +76,8 @@ module _ (C : Commands) (R : Fit C) (tos owner : List ℕ) (ends : Ranges C tos)
       y : Watch N (layer N K k) G s (getD w s 0)
       y = v .watches s h e
 
-      same : (d : ℕ) → d < C .m → hits C (upTo r k) d ≡ hits C (layer N K k) d
-      same = hit-same C R (upTo r k) (layer N K k) (λ o g. v .ranked k o (omega arith) g)
+      same : (d : ℕ) → d < C .m → hits C (within r k) d ≡ hits C (layer N K k) d
+      same = hit-same C R (within r k) (layer N K k) (λ o g. v .ranked k o (omega arith) g)
 
       bound : getD tos s 0 ≤ C .m
       bound = ends .inside s h
@@ -87,7 +88,7 @@ module _ (C : Commands) (R : Fit C) (tos owner : List ℕ) (ends : Ranges C tos)
         where
           go : Dec (i < c) → hits C (layer N K k) i ≡ true
           go (yes d) = y .before i a (omega arith) t
-          go (no d) = sym (same i (omega (arith, bound, A .within))) ∙ A .before i (omega arith) b
+          go (no d) = sym (same i (omega (arith, bound, A .until))) ∙ A .before i (omega arith) b
 
       -- the other states watch what they did
       others : (u : ℕ) → u < C .n → getD r u 0 ≡ FFFF → (u ≡ s → ⊥) → Watch N (layer N K k) G′ u (getD (set w s x) u 0)
@@ -105,7 +106,7 @@ module _ (C : Commands) (R : Fit C) (tos owner : List ℕ) (ends : Ranges C tos)
           here : Watch N (layer N K k) G′ s x
           here = record {
             since = omega (arith, y .since, A .since);
-            within = λ _. omega (arith, to-at C froms tos s);
+            until = λ _. omega (arith, to-at C froms tos s);
             before = passed;
             pending = λ _ t. clash t (sym (same x (omega (arith, bound))) ∙ A .stops b);
           }

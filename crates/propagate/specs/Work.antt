@@ -9,6 +9,7 @@ use lib.ListN.{getD}
 use Rattle.laws.specs.Entry.{FFFF}
 use Rattle.laws.specs.Sets.{exists, howMany}
 use Rattle.index.specs.Commands.{Commands}
+use Rattle.choice.specs.Within.{within}
 use Rattle.propagate.specs.Net.{Net, netOf, from, to, hits, losing, layer, Owns}
 
 -- the tables that are written, and where the queue ends
@@ -21,16 +22,12 @@ pub record Work : Type 0 where
 abbrev pub work : List ℕ → List ℕ → List ℕ → ℕ → Work
 work ranks watch queue end = record { ranks = ranks; watch = watch; queue = queue; end = end }
 
--- the states of a rank of at most k
-abbrev pub upTo : List ℕ → ℕ → ℕ → Bool
-upTo ranks k s = leb (getD ranks s 0) k
-
 -- r is the first command in [a, e) without an outcome of a rank of at most k, or e
 pub record Advanced (C : Commands) (ranks : List ℕ) (k a e r : ℕ) : Type 0 where
   pub since : a ≤ r
-  pub within : r ≤ e
-  pub before : (i : ℕ) → a ≤ i → i < r → hits C (upTo ranks k) i ≡ true
-  pub stops : r < e → hits C (upTo ranks k) r ≡ false
+  pub until : r ≤ e
+  pub before : (i : ℕ) → a ≤ i → i < r → hits C (within ranks k) i ≡ true
+  pub stops : r < e → hits C (within ranks k) r ≡ false
 
 -- how many of the first n states have a rank
 unfoldable pub rankCount : ℕ → List ℕ → ℕ
@@ -44,14 +41,14 @@ pub record Line (n : ℕ) (X : Work) : Type 0 where
 -- s watches the command c: those before it have an outcome in A, and if it has one too, it is among those still to be looked at, G
 pub record Watch (N : Net) (A G : ℕ → Bool) (s c : ℕ) : Type 0 where
   pub since : from N s ≤ c
-  pub within : from N s < to N s → c < to N s
+  pub until : from N s < to N s → c < to N s
   pub before : (i : ℕ) → from N s ≤ i → i < c → i < to N s → hits (N .commands) A i ≡ true
   pub pending : c < to N s → hits (N .commands) A c ≡ true → G c ≡ true
 
 -- On the way from layers 0 to k of what K gives to layer k + 1. G has the commands still to be looked at, and those of rank k + 1
 -- are in the queue from hi on.
 pub record Wave (N : Net) (K : ℕ → Bool) (k hi : ℕ) (G : ℕ → Bool) (X : Work) : Type 0 where
-  pub ranked : (j s : ℕ) → j ≤ k → s < N .commands .n → upTo (X .ranks) j s ≡ layer N K j s
+  pub ranked : (j s : ℕ) → j ≤ k → s < N .commands .n → within (X .ranks) j s ≡ layer N K j s
   pub fresh : (s : ℕ) → s < N .commands .n → k < getD (X .ranks) s 0 → (getD (X .ranks) s 0 ≡ FFFF → ⊥)
       → (getD (X .ranks) s 0 ≡ k + 1) × (losing N (layer N K k) s ≡ true)
   pub watches : (s : ℕ) → s < N .commands .n → getD (X .ranks) s 0 ≡ FFFF → Watch N (layer N K k) G s (getD (X .watch) s 0)

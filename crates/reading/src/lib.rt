@@ -35,7 +35,8 @@ fn long_enough(size: Size, rows: usize, firsts: usize, outcomes: usize) -> bool
     size.t <= outcomes
 }
 
-// Reads a file into lent tables. A refusal leaves each table as it was.
+// Reads a file into lent tables. A refusal leaves each table as it was. Ruled out: refusing a file that can be read, and answering a size
+// record while a table is not written.
 pub fn read(file: &[u8], rows: &mut [Row], firsts: &mut [u16], outcomes: &mut [u16]) -> ReadAnswer
     ensures answer { λ r. ⌜ answerOf r ≡ answer (λ T. T .size) (readInto (now (rows .entry)) (now (firsts .entry)) (now (outcomes .entry)) (now (file .entry))) ⌝ }
     ensures rows { λ r. ⌜ rowsOf (now (rows .exit)) ≡ left (λ T. T .rows) (readInto (now (rows .entry)) (now (firsts .entry)) (now (outcomes .entry)) (now (file .entry))) (rowsOf (now (rows .entry))) ⌝ }

@@ -28,7 +28,8 @@ pub enum SearchAnswer {
 
 // The search from `start`, which leaves its commands in the first n places of `commands` and zero in the first n places of `scratch`. Refused
 // with 10, then 11, then 9, before a table is written. Free is the order in which a round walks, and what scratch holds during the call:
-// neither the answer nor a table shows it.
+// neither the answer nor a table shows it. Ruled out: a start called safe before all that its commands lead to is walked, and a count of
+// rounds that were not walked.
 pub fn search(
     size: Size,
     rows: &[Row],
@@ -48,7 +49,7 @@ pub fn search(
     match gate {
         Gate::Shut(refusal) => SearchAnswer::Refused(refusal),
         Gate::Open => {
-            let mut queue = [0u16; 1024];
+            let mut queue = [0u16; Size::STATES];
             let found = turns::rounds(
                 size,
                 rows,

@@ -73,6 +73,7 @@ pub fn number(r: Refusal) -> u32
 }
 
 // Whether size record and tables are a plan that some file gives, and no table is shorter than its count (refusal 10 where not).
+// Ruled out: passing tables that no file gives, and failing a plan for what stands past its counts.
 pub fn sound(size: Size, rows: &[Row], firsts: &[u16], outcomes: &[u16]) -> bool
     ensures { λ r. ⌜ r ≡ sound (held size (now (rows .entry)) (now (firsts .entry)) (now (outcomes .entry))) ⌝ }
 {

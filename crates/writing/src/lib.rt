@@ -48,7 +48,8 @@ fn admit(sounds: bool, size: Size, bytes: usize) -> Gate
     Gate::Open
 }
 
-// Writes the file to the first bytes lent. A refusal leaves them as they were.
+// Writes the file to the first bytes lent. A refusal leaves them as they were. Ruled out: bytes that read back as another plan, and
+// refusal 9 though the bytes lent suffice.
 pub fn write(
     size: Size,
     rows: &[Row],

@@ -67,7 +67,7 @@ put-requires c κs =
     let f = c .before .before .before .before .before .before .before .before .before .before .before .before .before .before .before .before .before .before .before .pre in
     let l = f .1 .1 .0 .1 in
     let m = range-in _ _ (f .1 .0) (c .before .before .before .before .before .before .before .before .before .before .before .at .result) _ (omega (arith, c .before .before .before .before .before .before .before .before .before .before .before .at .ensures, l .0)) (c .before .before .before .before .at4 .ensures) in
-    (omega (arith, c .before .before .before .before .before .before .before .before .before .before .before .at .ensures, l), omega (arith, m, c .before .advance .ensures .within, f .0 .m-small))
+    (omega (arith, c .before .before .before .before .before .before .before .before .before .before .before .at .ensures, l), omega (arith, m, c .before .advance .ensures .until, f .0 .m-small))
 
 same-length-6 : tie.Need-same-length-6
 same-length-6 c = search needs

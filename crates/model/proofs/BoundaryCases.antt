@@ -1,0 +1,68 @@
+-- Case A through the three calls of the C program, byte by byte: what each returns, and what it leaves in slices that are one byte too long.
+use mathlib.Core.Path.{_≡_, refl}
+use mathlib.Core.List.{List, [], _∷_, _++_}
+use Prim.Native.Nat.{ℕ}
+use lib.ListN.{length, replicate}
+use Rattle.laws.specs.Sets.{any, first, every, exists, orElse, lowest, found, howMany, grow}
+use Rattle.laws.specs.Lists.{tabulate, joined, overwrite}
+use Rattle.laws.specs.Entry.{entry, twos}
+use Rattle.model.specs.Plan.{ordinary, failing, active, terminal, hasPolicy}
+use Rattle.model.specs.Verdict.{hits, forced, rank, lost, safe}
+use Rattle.model.specs.Command.{tryOrder, choice, chosen}
+use Rattle.model.specs.Policy.{risks, policyFails, fault, mark, tallyRow, tally}
+use Rattle.model.specs.Search.{lands, next, marked, withoutMarks, ends, before, atOnce, inRounds, search}
+use Rattle.model.specs.Refusal.{answer, _>>=_, need, _>>_}
+use Rattle.model.specs.File.{field, head, state, entries, rising, command, commands, states, read}
+use Rattle.model.specs.Tables.{allCommands, rowsFrom, firstsFrom, tablesOf}
+use Rattle.model.specs.Places.{rowAt, firstCommand, firstOutcome, commandCount, outcomesAt}
+use Rattle.model.specs.SoundTest.{sizeSound, tablesLong, rowSound, risesAt, commandSound, outcomeSound, sound}
+use Rattle.model.specs.Held.{stateAt, treeOf, stateOf, planOf, planIn}
+use Rattle.model.specs.Calls.{left, reading, deciding, searching, rankTable, commandTable, markTable, resultTable, cleared}
+use Rattle.model.specs.Boundary.{entriesIn, rowsIn, rowEntries, sizeEntries, tallyEntries, resultEntries, code, tablesIn, gateRead, gateDecide, gateSearch, gateReadCall, gateDecideCall, gateSearchCall}
+use Rattle.model.specs.Bench.{caseA, oneRest}
+
+-- bytes lent to be written
+abbrev lent : ℕ → List ℕ
+lent k = replicate k 7
+
+abbrev size : List ℕ
+size = 0 ∷ 6 ∷ 0 ∷ 6 ∷ 0 ∷ 9 ∷ 0 ∷ 0 ∷ []
+
+abbrev rows : List ℕ
+rows = 0 ∷ 0 ∷ 0 ∷ 0 ∷ 0 ∷ 1 ∷ 0 ∷ 0 ∷ 0 ∷ 2 ∷ 0 ∷ 0 ∷ 0 ∷ 2 ∷ 0 ∷ 3 ∷ 255 ∷ 255 ∷ 0 ∷ 0 ∷ 0 ∷ 3 ∷ 0 ∷ 0 ∷ 0 ∷ 1 ∷ 0 ∷ 5 ∷ 255 ∷ 255 ∷ 0 ∷ 0 ∷ 0 ∷ 5 ∷ 255 ∷ 255 ∷ []
+
+abbrev firsts : List ℕ
+firsts = 0 ∷ 0 ∷ 0 ∷ 1 ∷ 0 ∷ 3 ∷ 0 ∷ 5 ∷ 0 ∷ 6 ∷ 0 ∷ 8 ∷ []
+
+abbrev outcomes : List ℕ
+outcomes = 0 ∷ 1 ∷ 0 ∷ 2 ∷ 0 ∷ 3 ∷ 0 ∷ 0 ∷ 0 ∷ 1 ∷ 0 ∷ 4 ∷ 0 ∷ 2 ∷ 0 ∷ 4 ∷ 0 ∷ 3 ∷ []
+
+case-a-read : gateReadCall caseA (lent 9) (lent 37) (lent 13) (lent 19)
+    ≡ record { returns = 0; size = size ++ lent 1; rows = rows ++ lent 1; firsts = firsts ++ lent 1; outcomes = outcomes ++ lent 1 }
+unfolding code gateRead reading left overwrite _>>=_ need _>>_ read head field states state commands command rising entries allCommands rowsFrom firstsFrom tablesOf joined rowEntries sizeEntries twos
+case-a-read = refl
+
+case-a-decide : gateDecideCall (tablesIn size rows firsts outcomes) (lent 13) (lent 13) (lent 13) (lent 13) (lent 13)
+    ≡ record {
+      returns = 0;
+      ranks = (255 ∷ 255 ∷ 255 ∷ 255 ∷ 255 ∷ 255 ∷ 0 ∷ 1 ∷ 0 ∷ 0 ∷ 0 ∷ 2 ∷ []) ++ lent 1;
+      commands = (0 ∷ 0 ∷ 0 ∷ 0 ∷ 255 ∷ 255 ∷ 255 ∷ 255 ∷ 255 ∷ 255 ∷ 255 ∷ 255 ∷ []) ++ lent 1;
+      marks = (0 ∷ 3 ∷ 0 ∷ 1 ∷ 0 ∷ 0 ∷ 0 ∷ 1 ∷ 0 ∷ 1 ∷ 0 ∷ 0 ∷ []) ++ lent 1;
+      scratch = replicate 12 0 ++ lent 1;
+      tally = (0 ∷ 0 ∷ 0 ∷ 2 ∷ 0 ∷ 1 ∷ 0 ∷ 0 ∷ 0 ∷ 1 ∷ 0 ∷ 2 ∷ []) ++ lent 1;
+    }
+unfolding any first every exists orElse lowest found howMany grow tabulate overwrite joined entry ordinary failing active terminal hasPolicy hits forced rank lost safe tryOrder choice chosen risks policyFails fault mark tallyRow tally lands next marked withoutMarks ends before atOnce inRounds search answer _>>=_ need _>>_ rowAt firstCommand firstOutcome commandCount outcomesAt sizeSound tablesLong rowSound risesAt commandSound outcomeSound sound stateAt treeOf stateOf planOf planIn rowsIn entriesIn entries tablesIn left deciding searching rankTable commandTable markTable resultTable cleared code gateDecide gateSearch tallyEntries resultEntries twos
+case-a-decide = refl
+
+case-a-search : gateSearchCall (tablesIn size rows firsts outcomes) 0 (lent 13) (lent 13) (lent 5)
+    ≡ record { returns = 0; commands = (0 ∷ 0 ∷ 0 ∷ 0 ∷ 255 ∷ 255 ∷ 255 ∷ 255 ∷ 255 ∷ 255 ∷ 255 ∷ 255 ∷ []) ++ lent 1; scratch = replicate 12 0 ++ lent 1; answer = 0 ∷ 0 ∷ 0 ∷ 2 ∷ lent 1 }
+unfolding any first every exists orElse lowest found howMany grow tabulate overwrite joined entry ordinary failing active terminal hasPolicy hits forced rank lost safe tryOrder choice chosen risks policyFails fault mark tallyRow tally lands next marked withoutMarks ends before atOnce inRounds search answer _>>=_ need _>>_ rowAt firstCommand firstOutcome commandCount outcomesAt sizeSound tablesLong rowSound risesAt commandSound outcomeSound sound stateAt treeOf stateOf planOf planIn rowsIn entriesIn entries tablesIn left deciding searching rankTable commandTable markTable resultTable cleared code gateDecide gateSearch tallyEntries resultEntries twos
+case-a-search = refl
+
+-- "Case A (94 bytes, hexadecimal)"
+case-a-length : length caseA ≡ 94
+case-a-length = refl
+
+-- "One rest state (18 bytes)"
+one-rest-length : length oneRest ≡ 18
+one-rest-length = refl
