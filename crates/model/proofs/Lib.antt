@@ -36,3 +36,4 @@ pub mod RoundTrips
 pub mod Delivered
 pub mod Bench
 pub mod BenchCases
+pub mod Gating
