@@ -5,7 +5,7 @@ use Prim.Native.Nat.{ℕ, _*_, _<_, _≤_}
 use native.Mathlib.Omega.{arith}
 use lib.ListN.{length, take, length-map}
 use Rattle.laws.specs.Lists.{overwrite}
-use Rattle.laws.proofs.Lists.{take-overwrite, length-overwrite}
+use Rattle.laws.proofs.Overwrites.{overwrite-holds, overwrite-long}
 use Rattle.model.specs.Refusal.{Answer, given, answer, number}
 use Rattle.model.specs.File.{maxStates, maxCommands, maxOutcomes}
 use Rattle.model.specs.Tables.{Size as Numbers, Row as Line, Tables}
@@ -22,14 +22,6 @@ use Rattle.reading.specs.declared.ReadAnswer.the-variants.{Given, Refused}
 use Rattle.reading.specs.Meaning.{answerOf, readInto}
 use Rattle.reading.proofs.Passing.{refused-inv}
 use Rattle.gate_reading.specs.Lent.{admitted}
-
--- a table that xs were read into holds them
-module _ {A : Type 0} (xs l : List A) {l′ : List A} {n : ℕ} (e : l′ ≡ overwrite xs l) (k : length xs ≡ n) where
-  holds : take n l′ ≡ xs
-  holds = rw (e, ← k) (take-overwrite xs l)
-
-  long : n ≤ length l → n ≤ length l′
-  long h = omega (arith, ap length e, length-overwrite xs l (omega arith))
 
 module _ (file : List ℕ) (states : List Row) (commands entries size rows firsts outcomes : List ℕ)
     (limits : (maxStates ≤ length states) × (maxCommands ≤ length commands) × (maxOutcomes ≤ length entries)) where
@@ -94,7 +86,7 @@ module _ (file : List ℕ) (states : List Row) (commands entries size rows first
       pub rows-ready : (z .n ≤ length states′) × (z .n * 6 ≤ length rows)
       rows-ready =
           let few : z .n ≤ length (rowsOf states) = omega (arith, limits .0, gated .small .few-states, n-is, length-map states rowOf) in
-          let l = long (tables .0 .rows) (rowsOf states) (in-states .0) (in-states .1) few in
+          let l = overwrite-long (tables .0 .rows) (rowsOf states) (in-states .0) (in-states .1) few in
           (omega (arith, length-map states′ rowOf), omega (arith, gated .long-rows, n-is))
 
       pub lists-ready : ((8 ≤ length size) × (z .n < 65536) × (z .m < 65536) × (z .t < 65536) × (z .start < 65536))
@@ -105,8 +97,8 @@ module _ (file : List ℕ) (states : List Row) (commands entries size rows first
           let n : z .n ≤ maxStates = omega (arith, s .few-states, n-is) in
           let m : z .m ≤ maxCommands = omega (arith, s .few-commands, m-is) in
           let t : z .t ≤ maxOutcomes = omega (arith, s .few-outcomes, t-is) in
-          let f = long (tables .0 .firsts) commands (in-commands .0) (in-commands .1) (omega (arith, limits .1)) in
-          let o = long (tables .0 .outcomes) entries (in-entries .0) (in-entries .1) (omega (arith, limits .2)) in (
+          let f = overwrite-long (tables .0 .firsts) commands (in-commands .0) (in-commands .1) (omega (arith, limits .1)) in
+          let o = overwrite-long (tables .0 .outcomes) entries (in-entries .0) (in-entries .1) (omega (arith, limits .2)) in (
             (gated .long-size, omega arith, omega arith, omega arith, omega (arith, s .inside, s .few-states)),
             ((f, omega (arith, gated .long-firsts, m-is)), (o, omega (arith, gated .long-outcomes, t-is))),
           )
@@ -121,10 +113,10 @@ module _ (file : List ℕ) (states : List Row) (commands entries size rows first
         (
           l .0 ∙ ap (λ (y : Numbers). overwrite (bytesFor (sizeEntries y)) size) (sym (tables .2)),
           (
-            r ∙ ap (λ (y : List Line). overwrite (bytesFor (rowEntries y)) rows) (holds (tables .0 .rows) (rowsOf states) (in-states .0) (in-states .1)),
+            r ∙ ap (λ (y : List Line). overwrite (bytesFor (rowEntries y)) rows) (overwrite-holds (tables .0 .rows) (rowsOf states) (in-states .0) (in-states .1)),
             (
-              l .1 .0 ∙ ap (λ (y : List ℕ). overwrite (bytesFor y) firsts) (holds (tables .0 .firsts) commands (in-commands .0) (in-commands .1)),
-              l .1 .1 ∙ ap (λ (y : List ℕ). overwrite (bytesFor y) outcomes) (holds (tables .0 .outcomes) entries (in-entries .0) (in-entries .1)),
+              l .1 .0 ∙ ap (λ (y : List ℕ). overwrite (bytesFor y) firsts) (overwrite-holds (tables .0 .firsts) commands (in-commands .0) (in-commands .1)),
+              l .1 .1 ∙ ap (λ (y : List ℕ). overwrite (bytesFor y) outcomes) (overwrite-holds (tables .0 .outcomes) entries (in-entries .0) (in-entries .1)),
             ),
           ),
         ),
