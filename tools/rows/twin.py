@@ -68,15 +68,17 @@ def over_arrays(text, element):
 
 
 def twin_source(crate, file, text, whole, element, types):
-    """A source of the twin; the functions of `whole` keep their bodies."""
+    """A source of the twin; the functions of `whole` keep their bodies. Without `whole` nobody calls a private function: it is left out."""
     out = []
     for item in split_source(crate, file, text):
         if not isinstance(item, Function):
             if not re.match(r"\s*(ghost use|//)", item):
                 out.append(over_arrays(item, element))
             continue
+        if whole is None and not item.signature.startswith("pub "):
+            continue
         signature = over_arrays(item.signature, element)
-        if item.path in whole:
+        if whole and item.path in whole:
             body = over_arrays("\n".join(item.body), element).split("\n")
         else:
             result = re.search(r"\) -> (.*)$", signature)
@@ -122,4 +124,4 @@ def write_twin(repo, crate, out, whole, element):
         os.makedirs(folder, exist_ok=True)
         for file, text in sources[name].items():
             with open(f"{folder}/{file}", "w") as f:
-                f.write(twin_source(name, file, text, whole if name == crate else (), element, types))
+                f.write(twin_source(name, file, text, whole if name == crate else None, element, types))

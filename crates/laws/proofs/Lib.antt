@@ -26,3 +26,4 @@ pub mod Slices
 pub mod Wrote
 pub mod Spreads
 pub mod Turns
+pub mod Blocks

@@ -39,3 +39,4 @@ pub mod BenchCases
 pub mod Decimals
 pub mod ListingLength
 pub mod BoundaryCases
+pub mod Gating
