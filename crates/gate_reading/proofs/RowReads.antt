@@ -1,2 +1,2 @@
 -- Made by tools/rows.
-pub mod ReadBy
+pub mod WorkReadBy

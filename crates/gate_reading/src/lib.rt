@@ -1,106 +1,14 @@
 // Reading for the gate controller's C program: a plan file into byte slices.
 ghost use mathlib.Core.Path.{_≡_};
-ghost use Prim.Native.Nat.{_*_, _<_, _≤_};
-ghost use lib.ListN.{length, take};
-ghost use Rattle.laws.specs.Lists.{overwrite};
-ghost use Rattle.model.specs.File.{maxStates, maxCommands, maxOutcomes};
-ghost use Rattle.model.specs.Boundary.{bytesFor, sizeEntries, gateReadCall};
-ghost use Rattle.tables.specs.Meaning.{numbers};
-ghost use Rattle.reading.specs.Meaning.{answerOf};
-ghost use Rattle.gate_reading.specs.Lent.{roomy, admitted};
-use reading::ReadAnswer;
-use reading::read;
-use store::internal::store;
-use store::internal::store_rows;
-use store::internal::store_size;
-use tables::Refusal;
+ghost use Rattle.model.specs.Boundary.{gateReadCall};
 use tables::Row;
 use tables::Size;
-use tables::number;
+use work::read_by;
 
-// Whether slices of these lengths have room for a plan.
-fn roomy(z: Size, size: usize, rows: usize, firsts: usize, outcomes: usize) -> bool
-    ensures { λ r. ⌜ r ≡ roomy (numbers z) size rows firsts outcomes ⌝ }
-{
-    if rows / 6 < z.n {
-        return false;
-    }
-    if firsts / 2 < z.m {
-        return false;
-    }
-    if outcomes / 2 < z.t {
-        return false;
-    }
-    8 <= size
-}
-
-// Refusal 9 for a plan that slices of these lengths have no room for.
-fn admit(plan: ReadAnswer, size: usize, rows: usize, firsts: usize, outcomes: usize) -> ReadAnswer
-    ensures { λ r. ⌜ answerOf r ≡ admitted (answerOf plan) size rows firsts outcomes ⌝ }
-{
-    let ReadAnswer::Given(z) = plan else {
-        return plan;
-    };
-    if !roomy(z, size, rows, firsts, outcomes) {
-        return ReadAnswer::Refused(Refusal::Cramped);
-    }
-    plan
-}
-
-// Stores the size record, the first outcomes of the commands and the outcome entries.
-fn store_lists(
-    z: Size,
-    commands: &[u16],
-    entries: &[u16],
-    size: &mut [u8],
-    firsts: &mut [u8],
-    outcomes: &mut [u8],
-)
-    requires { ⌜ (8 ≤ length (now size)) × (z .n < 65536) × (z .m < 65536) × (z .t < 65536) × (z .start < 65536) ⌝ }
-    requires { ⌜ (z .m ≤ length (now commands)) × (z .m * 2 ≤ length (now firsts)) ⌝ }
-    requires { ⌜ (z .t ≤ length (now entries)) × (z .t * 2 ≤ length (now outcomes)) ⌝ }
-    ensures size { λ _. ⌜ now (size .exit) ≡ overwrite (bytesFor (sizeEntries (numbers z))) (now (size .entry)) ⌝ }
-    ensures firsts { λ _. ⌜ now (firsts .exit) ≡ overwrite (bytesFor (take (z .m) (now (commands .entry)))) (now (firsts .entry)) ⌝ }
-    ensures outcomes { λ _. ⌜ now (outcomes .exit) ≡ overwrite (bytesFor (take (z .t) (now (entries .entry)))) (now (outcomes .entry)) ⌝ }
-{
-    store_size(z, size);
-    store(commands, firsts, z.m);
-    store(entries, outcomes, z.t);
-}
-
-// Reads a file by way of tables of the limits' lengths: the rows of states, the first outcomes of commands, the outcome entries.
-pub fn read_by(
-    file: &[u8],
-    states: &mut [Row],
-    commands: &mut [u16],
-    entries: &mut [u16],
-    size: &mut [u8],
-    rows: &mut [u8],
-    firsts: &mut [u8],
-    outcomes: &mut [u8],
-) -> u32
-    requires { ⌜ (maxStates ≤ length (now states)) × (maxCommands ≤ length (now commands)) × (maxOutcomes ≤ length (now entries)) ⌝ }
-    ensures returns { λ r. ⌜ r ≡ gateReadCall (now (file .entry)) (now (size .entry)) (now (rows .entry)) (now (firsts .entry)) (now (outcomes .entry)) .returns ⌝ }
-    ensures size { λ r. ⌜ now (size .exit) ≡ gateReadCall (now (file .entry)) (now (size .entry)) (now (rows .entry)) (now (firsts .entry)) (now (outcomes .entry)) .size ⌝ }
-    ensures rows { λ r. ⌜ now (rows .exit) ≡ gateReadCall (now (file .entry)) (now (size .entry)) (now (rows .entry)) (now (firsts .entry)) (now (outcomes .entry)) .rows ⌝ }
-    ensures firsts { λ r. ⌜ now (firsts .exit) ≡ gateReadCall (now (file .entry)) (now (size .entry)) (now (rows .entry)) (now (firsts .entry)) (now (outcomes .entry)) .firsts ⌝ }
-    ensures outcomes { λ r. ⌜ now (outcomes .exit) ≡ gateReadCall (now (file .entry)) (now (size .entry)) (now (rows .entry)) (now (firsts .entry)) (now (outcomes .entry)) .outcomes ⌝ }
-{
-    let plan = read(file, states, commands, entries);
-    let admitted = admit(plan, size.len(), rows.len(), firsts.len(), outcomes.len());
-    match admitted {
-        ReadAnswer::Refused(refusal) => number(refusal),
-        ReadAnswer::Given(z) => {
-            store_rows(states, rows, z.n);
-            store_lists(z, commands, entries, size, firsts, outcomes);
-            0
-        }
-    }
-}
+mod work;
 
 // Reads a file; the size record, the rows, the first outcomes and the outcomes are answered as entries of two bytes, highest first.
-#[no_mangle]
-pub extern "C" fn gate_read(
+pub fn read_call(
     file: &[u8],
     size: &mut [u8],
     rows: &mut [u8],
@@ -118,8 +26,8 @@ pub extern "C" fn gate_read(
         first: 0,
         practice: 0,
     }; 1024];
-    let mut commands = [0u16; 4096];
-    let mut entries = [0u16; 16384];
+    let mut commands = [0u16; Size::COMMANDS];
+    let mut entries = [0u16; Size::OUTCOMES];
     read_by(
         file,
         &mut states[..],

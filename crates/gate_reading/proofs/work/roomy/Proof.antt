@@ -1,7 +1,7 @@
 use borrow.Author.Tests.{lt-leb, le-leb}
 use mathlib.Core.Bool.{and-false}
-use Rattle.gate_reading.proofs.roomy.Statement.{statement}
-use Rattle.gate_reading.proofs.roomy.Tie as tie
+use Rattle.gate_reading.proofs.work.roomy.Statement.{statement}
+use Rattle.gate_reading.proofs.work.roomy.Tie as tie
 
 returns : tie.Need-returns
 returns c = rw (lt-leb _ _ (c .if1 .taken))

@@ -2,8 +2,8 @@ use Rattle.gate_reading.proofs.Answered.{refuses, rows-ready, lists-rea
 mod Lts
 mod Tie
 use borrow.Author.Needs.{needs}
-use Rattle.gate_reading.proofs.read_by.Statement.{statement}
-use Rattle.gate_reading.proofs.read_by.Proof.Tie as tie
+use Rattle.gate_reading.proofs.work.read_by.Statement.{statement}
+use Rattle.gate_reading.proofs.work.read_by.Proof.Tie as tie
 
 read-requires : tie.Need-read-requires
 read-requires c κs = search needs

@@ -1,8 +1,8 @@
 mod Lts
 mod Tie
 use borrow.Author.Needs.{needs}
-use Rattle.gate_reading.proofs.gate_read.Statement.{statement}
-use Rattle.gate_reading.proofs.gate_read.Proof.Tie as tie
+use Rattle.gate_reading.proofs.read_call.Statement.{statement}
+use Rattle.gate_reading.proofs.read_call.Proof.Tie as tie
 
 slice-aggregate-read-by : tie.Need-slice-aggregate-read-by
 slice-aggregate-read-by c = search needs
@@ -31,5 +31,5 @@ same-length-4 c = search needs
 returns : tie.Need-returns
 returns c = c .before .before .before .before .before .before .before .before .before .before .before .read-by .ensures
 
-pub gate-read-spec : {M : Type 1} → statement M
-gate-read-spec = tie.close (tie.spec slice-aggregate-read-by slice-aggregate-read-by-2 slice-aggregate-read-by-3 read-by-requires same-length same-length-2 same-length-3 same-length-4 returns)
+pub read-call-spec : {M : Type 1} → statement M
+read-call-spec = tie.close (tie.spec slice-aggregate-read-by slice-aggregate-read-by-2 slice-aggregate-read-by-3 read-by-requires same-length same-length-2 same-length-3 same-length-4 returns)
