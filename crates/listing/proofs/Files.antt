@@ -10,6 +10,7 @@ use borrow.Author.Tests.{lt-ltb, le-ltb}
 use Rattle.laws.specs.Wrote.{Wrote}
 use Rattle.laws.proofs.Lists.{take-overwrite}
 use Rattle.laws.proofs.Writes.{put-front}
+use Rattle.laws.proofs.Wrote.{wrote-length}
 use Rattle.model.specs.Refusal.{Limit, answer}
 use Rattle.model.specs.File.{read}
 use Rattle.model.specs.Tables.{Size as Numbers, Tables}
@@ -64,8 +65,8 @@ module _ (input : List ℕ) where
 
   -- the text stands at the front
   pub text-stands : {l after : List ℕ} {k : ℕ} → Wrote l 0 (listing input) after k → 65536 ≤ length l
-      → (take k after ≡ listing input) × ((k ≡ length (listing input)) × (k ≤ 65536))
+      → (take k after ≡ listing input) × ((k ≡ length (listing input)) × (k ≤ length after))
   text-stands {l} {after} {k} w long =
       let count : k ≡ length (listing input) = w .past ∙ zero-add _ in
       let fits : length (listing input) ≤ length l = omega (arith, long, listing-length input) in
-      (rw (count, w .stored, put-front l (listing input) fits) (take-overwrite (listing input) l), (count, omega (arith, listing-length input)))
+      (rw (count, w .stored, put-front l (listing input) fits) (take-overwrite (listing input) l), (count, omega (arith, count, fits, wrote-length w)))

@@ -72,7 +72,7 @@ fn write_listing(input: &[u8], out: &mut [u8]) -> usize
 pub fn text_of(input: &[u8]) -> Text
     ensures text { λ r. ⌜ take (r .length) (r .bytes) ≡ listing (now (input .entry)) ⌝ }
     ensures length { λ r. ⌜ r .length ≡ length (listing (now (input .entry))) ⌝ }
-    ensures fits { λ r. ⌜ r .length ≤ 65536 ⌝ }
+    ensures fits { λ r. ⌜ r .length ≤ length (r .bytes) ⌝ }
 {
     let mut bytes = [0u8; 65536];
     let length = write_listing(input, &mut bytes);
