@@ -89,11 +89,11 @@ def twin_source(crate, file, text, whole, element, types):
 
 
 def seen_from_outside(files):
-    """The sources of a crate that others can name: its root and its public modules, and the root without the other modules."""
-    root = files["lib.rt"]
-    hidden = re.findall(r"^mod (\w+);", root, flags=re.M)
-    lines = [x for x in root.split("\n") if not any(re.match(rf"mod {h};|use (crate::)?{h}::", x) for h in hidden)]
-    return {"lib.rt": "\n".join(lines)} | {f: t for f, t in files.items() if f[: -len(".rt")] not in hidden and f != "lib.rt"}
+    """The sources of a crate that others can name: its root and its public modules, without what they name of the other modules."""
+    hidden = re.findall(r"^mod (\w+);", files["lib.rt"], flags=re.M)
+    names_hidden = re.compile("|".join(rf"mod {h};|use (crate::)?{h}::" for h in hidden) or "$^")
+    seen = {f: t for f, t in files.items() if f[: -len(".rt")] not in hidden}
+    return {f: "\n".join(x for x in t.split("\n") if not names_hidden.match(x)) for f, t in seen.items()}
 
 
 def write_twin(repo, crate, out, whole, element):

@@ -5,33 +5,21 @@ use Prim.Native.Nat.{ℕ, _≤_}
 use lib.ListN.{length, take, length-map}
 use Rattle.laws.specs.Entry.{Bytes}
 use Rattle.laws.specs.Lists.{overwrite}
-use Rattle.model.specs.Refusal.{Answer, given, answer}
+use Rattle.model.specs.Refusal.{given, answer}
 use Rattle.model.specs.Tables.{Tables, Same}
-use Rattle.model.specs.Calls.{left, reading, writing, readCall, writeCall}
+use Rattle.model.specs.Calls.{left, writing, readCall, writeCall}
 use Rattle.model.proofs.RoundTrips.{afterReading, read-write, write-read}
 use Rattle.tables.specs.declared.Size.{Size}
 use Rattle.tables.specs.declared.Row.{Row}
 use Rattle.tables.specs.Meaning.{numbers, rowOf, rowsOf, held}
 use Rattle.reading.specs.Meaning.{readInto}
+use Rattle.reading.proofs.Leaves.{read-rows, leaves, leaves-held}
 
 module _ (file : List ℕ) (rows : List Row) (firsts outcomes : List ℕ) where
-  -- reading into these tables, as the model says it of its rows
-  read-rows : readInto rows firsts outcomes file ≡ reading (length (rowsOf rows)) (length firsts) (length outcomes) file
-  read-rows = ap (λ (k : ℕ). reading k (length firsts) (length outcomes) file) (sym (length-map rows rowOf))
-
   -- the tables that a reading leaves, by the clauses `rows`, `firsts` and `outcomes` of its contract
   module _ (rows′ : List Row) (er : rowsOf rows′ ≡ left (λ T. T .rows) (readInto rows firsts outcomes file) (rowsOf rows)) where
     abbrev after : Size → Tables
-    after z = held z rows′ (left (λ T. T .firsts) (readInto rows firsts outcomes file) firsts) (left (λ T. T .outcomes) (readInto rows firsts outcomes file) outcomes)
-
-    -- as the model says them
-    after-held : (z : Size) → after z ≡ afterReading (numbers z) file (rowsOf rows) firsts outcomes
-    after-held z = λ i. record {
-      size = numbers z;
-      rows = (er ∙ ap (λ (x : Answer Tables). left (λ T. T .rows) x (rowsOf rows)) read-rows) i;
-      firsts = left (λ T. T .firsts) (read-rows i) firsts;
-      outcomes = left (λ T. T .outcomes) (read-rows i) outcomes;
-    }
+    after z = leaves file rows firsts outcomes rows′ z
 
     -- A file that is read and written again: the bytes answered and left are the file's. The premises are the clause `answer` of
     -- read's contract, and that it answered z.
@@ -39,8 +27,8 @@ module _ (file : List ℕ) (rows : List Row) (firsts outcomes : List ℕ) where
         → (bytes : List ℕ) → length file ≤ length bytes
         → (answer length (writing (after z) (length bytes)) ≡ given (length file)) × (left (λ f. f) (writing (after z) (length bytes)) bytes ≡ overwrite file bytes)
     file-again b z e bytes h =
-        let w = read-write file (rowsOf rows) firsts outcomes b (numbers z) (ap (answer (λ T. T .size)) (sym read-rows) ∙ sym e) bytes h in
-        let v = ap (λ (T : Tables). writeCall T bytes) (after-held z) ∙ w in
+        let w = read-write file (rowsOf rows) firsts outcomes b (numbers z) (ap (answer (λ T. T .size)) (sym (read-rows file rows firsts outcomes)) ∙ sym e) bytes h in
+        let v = ap (λ (T : Tables). writeCall T bytes) (leaves-held file rows firsts outcomes rows′ er z) ∙ w in
         (ap (λ r. r .answers) v, ap (λ r. r .bytes) v)
 
     -- Sound tables that are written, and the bytes answered read again: the tables are the same up to their counts.
@@ -51,6 +39,6 @@ module _ (file : List ℕ) (rows : List Row) (firsts outcomes : List ℕ) where
     tables-again z rs fs os bytes k e q long-rows long-firsts long-outcomes =
         let long = subst (λ (n : ℕ). z .n ≤ n) (sym (length-map rows rowOf)) long-rows in
         let (a, s) = write-read (held z rs fs os) bytes k (sym e) (rowsOf rows) firsts outcomes long long-firsts long-outcomes in (
-          ap (answer (λ T. T .size)) read-rows ∙ subst (λ (f : List ℕ). readCall f (rowsOf rows) firsts outcomes .answers ≡ given (numbers z)) (sym q) a,
-          subst (λ (T : Tables). Same (held z rs fs os) T) (sym (after-held z)) (subst (λ (f : List ℕ). Same (held z rs fs os) (afterReading (numbers z) f (rowsOf rows) firsts outcomes)) (sym q) s),
+          ap (answer (λ T. T .size)) (read-rows file rows firsts outcomes) ∙ subst (λ (f : List ℕ). readCall f (rowsOf rows) firsts outcomes .answers ≡ given (numbers z)) (sym q) a,
+          subst (λ (T : Tables). Same (held z rs fs os) T) (sym (leaves-held file rows firsts outcomes rows′ er z)) (subst (λ (f : List ℕ). Same (held z rs fs os) (afterReading (numbers z) f (rowsOf rows) firsts outcomes)) (sym q) s),
         )

@@ -14,6 +14,9 @@ not-both e = let z : _≡_ {A = ℕ} 0 1 = cc in omega arith
 pub given-inj : {A : Type 0} {a b : A} → given a ≡ given b → a ≡ b
 given-inj e = cc
 
+pub refused-inj : {A : Type 0} {r w : Refusal} → _≡_ {A = Answer A} (refused r) (refused w) → r ≡ w
+refused-inj e = cc
+
 module _ {B : Type 0} {b : B} where
   pub need-inv : (r : Refusal) (t : Bool) (x : Answer B) → (need r t >> x) ≡ given b → (t ≡ true) × (x ≡ given b)
   unfolding need _>>_

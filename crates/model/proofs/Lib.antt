@@ -33,6 +33,7 @@ pub mod Valid
 pub mod Answering
 pub mod Refusing
 pub mod RoundTrips
+pub mod ReadPlans
 pub mod Delivered
 pub mod Bench
 pub mod BenchCases

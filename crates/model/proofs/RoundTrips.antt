@@ -36,7 +36,7 @@ take-written xs l k e = rw (← e) (take-overwrite xs l ∙ sym (take-length xs)
 
 module _ (file : List ℕ) (rows : List Row) (firsts outcomes : List ℕ) where
   -- what a reading that answers leaves is the same as what the file gives
-  after-same : (T : Tables) → reading (length rows) (length firsts) (length outcomes) file ≡ given T → (p : Tree) → tablesOf p ≡ T
+  pub after-same : (T : Tables) → reading (length rows) (length firsts) (length outcomes) file ≡ given T → (p : Tree) → tablesOf p ≡ T
       → Same (afterReading (T .size) file rows firsts outcomes) (tablesOf p)
   unfolding left tablesOf
   after-same T e p q = rw e (rw (← q) (record {

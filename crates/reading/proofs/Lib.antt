@@ -5,3 +5,4 @@ pub mod Scanning
 pub mod FillCommands
 pub mod FillStates
 pub mod Calls
+pub mod Leaves

@@ -1,0 +1,6 @@
+pub mod RowReads
+pub mod StateLines
+pub mod Decided
+pub mod Found
+pub mod PlanLines
+pub mod Files

@@ -1,0 +1,38 @@
+mod Lts
+mod Tie
+use native.Mathlib.Omega.{arith}
+use borrow.Author.Needs.{needs}
+use Rattle.model.specs.Search as Model
+use Rattle.model.specs.Held.{planIn}
+use Rattle.tables.specs.Meaning.{held}
+use Rattle.listing.proofs.Found.{start-small, found-answer, few-rounds}
+use Rattle.listing.proofs.start.list_start.Statement.{statement}
+use Rattle.listing.proofs.start.list_start.Proof.Tie as tie
+
+slice-aggregate-search : tie.Need-slice-aggregate-search
+slice-aggregate-search c = search needs
+
+slice-aggregate-search-2 : tie.Need-slice-aggregate-search-2
+slice-aggregate-search-2 c = search needs
+
+search-requires : tie.Need-search-requires
+search-requires c κs = search needs
+
+put-answer-requires : tie.Need-put-answer-requires
+put-answer-requires c κs =
+    let a = c .before .before .before .before .before .before .before .before .before .args in
+    let sounds = c .before .before .before .before .before .before .before .before .before .pre .0 in
+    let T = held (a .size) (a .rows .now) (a .firsts .now) (a .outcomes .now) in
+    (c .before .before .before .before .before .before .before .before .before .pre .1, start-small T sounds, few-rounds T sounds (c .before .before .before .search .result) (c .before .before .before .search .ensures .0) (omega arith, omega arith))
+
+same-length : tie.Need-same-length
+same-length c = search needs
+
+returns : tie.Need-returns
+returns c =
+    let a = c .before .before .before .before .before .before .before .before .before .before .before .before .args in
+    let T = held (a .size) (a .rows .now) (a .firsts .now) (a .outcomes .now) in
+    c .before .before .put-answer .ensures (Model.search (planIn T) (a .size .start)) (found-answer T (c .before .before .before .before .before .before .before .before .before .before .before .before .pre .0) (c .before .before .before .before .before .before .search .result) (c .before .before .before .before .before .before .search .ensures .0) (omega arith, omega arith))
+
+pub list-start-spec : {M : Type 1} → statement M
+list-start-spec = tie.close (tie.spec slice-aggregate-search slice-aggregate-search-2 search-requires put-answer-requires same-length returns)

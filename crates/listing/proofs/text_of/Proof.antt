@@ -1,0 +1,17 @@
+use native.Mathlib.Omega.{arith}
+use borrow.Author.Needs.{needs}
+use Rattle.listing.proofs.Files.{text-stands}
+use Rattle.listing.proofs.text_of.Statement.{statement}
+use Rattle.listing.proofs.text_of.Tie as tie
+
+slice-aggregate-write-listing : tie.Need-slice-aggregate-write-listing
+slice-aggregate-write-listing c = search needs
+
+write-listing-requires : tie.Need-write-listing-requires
+write-listing-requires c κs = search needs
+
+returns : tie.Need-returns
+returns c = text-stands (c .before .before .before .before .args .input .now) (c .before .write-listing .ensures) (omega arith)
+
+pub text-of-spec : {M : Type 1} → statement M
+text-of-spec = tie.close (tie.spec slice-aggregate-write-listing write-listing-requires returns)

@@ -1,0 +1,27 @@
+use borrow.Author.Needs.{needs}
+use Rattle.listing.proofs.Files.{over-limit, in-limit}
+use Rattle.listing.proofs.write_listing.Statement.{statement}
+use Rattle.listing.proofs.write_listing.Tie as tie
+
+put-refusal-requires : tie.Need-put-refusal-requires
+put-refusal-requires c κs = search needs
+
+same-length : tie.Need-same-length
+same-length c = search needs
+
+returns : tie.Need-returns
+returns c = rw (over-limit (c .before .before .before .before .before .before .before .args .input .now) (c .before .before .before .before .if1 .taken)) (c .before .before .put-refusal .ensures .0)
+
+lend-requires : tie.Need-lend-requires
+lend-requires c κs = search needs
+
+same-length-2 : tie.Need-same-length-2
+same-length-2 c = search needs
+
+returns-2 : tie.Need-returns-2
+returns-2 c = rw (in-limit (c .before .before .before .before .before .before .before .args .input .now) (c .before .before .before .before .if1 .left)) (c .before .before .lend .ensures)
+
+pub write-listing-spec : {M : Type 1} → statement M
+write-listing-spec =
+    tie.close
+    (tie.spec put-refusal-requires same-length returns lend-requires same-length-2 returns-2)
