@@ -22,6 +22,7 @@ pub mod Ordered
 pub mod Firsts
 pub mod Prefixes
 pub mod SameTables
+pub mod SameSound
 pub mod TablesBack
 pub mod HeldPlan
 pub mod Risings
