@@ -23,6 +23,7 @@ pub mod Firsts
 pub mod Prefixes
 pub mod SameTables
 pub mod SameSound
+pub mod Lent
 pub mod TablesBack
 pub mod HeldPlan
 pub mod Risings

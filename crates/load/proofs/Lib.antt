@@ -1,0 +1,4 @@
+pub mod RowReads
+pub mod Planning
+pub mod LoadRows
+pub mod Loaded
