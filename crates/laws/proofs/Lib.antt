@@ -23,3 +23,4 @@ pub mod GrowSame
 pub mod Overwrites
 pub mod Rising
 pub mod Slices
+pub mod Blocks

@@ -24,6 +24,11 @@ module _ {A : Type 0} where
       let e : i + 1 + length xs ≡ i + suc (length xs) = omega arith in
       put-append (set l i x) (i + 1) xs ys ∙ ap (λ (z : ℕ). putAll (putAll (set l i x) (i + 1) xs) z ys) e
 
+  -- what is written past xs follows them
+  pub put-then : (l : List A) (i : ℕ) (xs ys : List A) {m r : List A} {j : ℕ} → m ≡ putAll l i xs → r ≡ putAll m j ys → j ≡ i + length xs
+      → r ≡ putAll l i (xs ++ ys)
+  put-then l i xs ys p q e = q ∙ rw (p, e) (sym (put-append l i xs ys))
+
   put-after : (pre l xs : List A) → length xs ≤ length l → putAll (pre ++ l) (length pre) xs ≡ pre ++ (xs ++ drop (length xs) l)
   unfolding putAll
   put-after pre l [] h = refl

@@ -1,0 +1,2 @@
+pub mod RowReads
+pub mod Entries
