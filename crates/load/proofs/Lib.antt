@@ -2,3 +2,4 @@ pub mod RowReads
 pub mod Planning
 pub mod LoadRows
 pub mod Loaded
+pub mod Lending

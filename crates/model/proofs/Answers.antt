@@ -14,6 +14,9 @@ not-both e = let z : _≡_ {A = ℕ} 0 1 = cc in omega arith
 pub given-inj : {A : Type 0} {a b : A} → given a ≡ given b → a ≡ b
 given-inj e = cc
 
+pub refused-inj : {A : Type 0} {q r : Refusal} → _≡_ {A = Answer A} (refused q) (refused r) → q ≡ r
+refused-inj e = cc
+
 module _ {B : Type 0} {b : B} where
   pub need-inv : (r : Refusal) (t : Bool) (x : Answer B) → (need r t >> x) ≡ given b → (t ≡ true) × (x ≡ given b)
   unfolding need _>>_
@@ -56,7 +59,7 @@ answer-inv f (refused r) b e = absurd (not-both e)
 pub answer-refused : {A B : Type 0} (f : A → B) (x : Answer A) (r : Refusal) → answer f x ≡ refused r → x ≡ refused r
 unfolding answer
 answer-refused f (given a) r e = absurd (not-both (sym e))
-answer-refused f (refused q) r e = let z : q ≡ r = cc in ap refused z
+answer-refused f (refused q) r e = ap refused (refused-inj e)
 
 -- an answer is a value or a refusal
 pub which : {A : Type 0} (x : Answer A) → ((a : A) × (x ≡ given a)) ⊎ ((r : Refusal) × (x ≡ refused r))

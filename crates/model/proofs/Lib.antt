@@ -24,6 +24,7 @@ pub mod Prefixes
 pub mod SameTables
 pub mod SameSound
 pub mod Lent
+pub mod Gates
 pub mod TablesBack
 pub mod HeldPlan
 pub mod Risings
