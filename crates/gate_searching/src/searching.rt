@@ -62,7 +62,11 @@ pub extern "C" fn gate_search(
     ensures { λ _. ⌜ now (scratch .exit) ≡ gateSearchCall (tablesIn (now (size .entry)) (now (rows .entry)) (now (firsts .entry)) (now (outcomes .entry))) start (now (commands .entry)) (now (scratch .entry)) (now (answer .entry)) .scratch ⌝ }
     ensures { λ _. ⌜ now (answer .exit) ≡ gateSearchCall (tablesIn (now (size .entry)) (now (rows .entry)) (now (firsts .entry)) (now (outcomes .entry))) start (now (commands .entry)) (now (scratch .entry)) (now (answer .entry)) .answer ⌝ }
 {
-    let mut states = [Row { kind: 0, first: 0, practice: 0 }; 1024];
+    let mut states = [Row {
+        kind: 0,
+        first: 0,
+        practice: 0,
+    }; 1024];
     let mut heads = [0u16; 4096];
     let mut entries = [0u16; 16384];
     let plan = load_plan(

@@ -13,7 +13,7 @@ use Rattle.laws.proofs.Lists.{take-overwritten}
 use Rattle.laws.proofs.Tests.{refute, clash, true-or-false}
 use Rattle.laws.proofs.TestFacts.{and-iff, leb-iff}
 use Rattle.model.specs.Refusal.{Refusal as Word, Unsound, Answer, given, refused, answer, need, _>>=_, _>>_}
-use Rattle.model.specs.Tables.{Tables, Same}
+use Rattle.model.specs.Tables.{Row as Line, Tables, Same}
 use Rattle.model.specs.SoundTest.{tablesLong, sound}
 use Rattle.model.specs.Calls.{left}
 use Rattle.model.specs.Boundary.{tablesIn, entriesIn, rowsIn}
@@ -69,14 +69,14 @@ module _ (S R F O : List ℕ) (p : PlanAnswer) (says : planOf p ≡ answer sizeO
     front f n xs l l′ h is g =
         rw (rw (w .loads, is) at g) (take-overwritten n (take n xs) l (length-take-le n xs h))
 
-    pub lent-same : (rows₀ rows₁ : List Row) (firsts₀ firsts₁ outcomes₀ outcomes₁ : List ℕ)
-        → rowsOf rows₁ ≡ left (λ (T : Tables). take (T .size .n) (T .rows)) (loading S R F O) (rowsOf rows₀)
+    pub lent-same : (rows₀ : List Line) (rows₁ : List Row) (firsts₀ firsts₁ outcomes₀ outcomes₁ : List ℕ)
+        → rowsOf rows₁ ≡ left (λ (T : Tables). take (T .size .n) (T .rows)) (loading S R F O) rows₀
         → firsts₁ ≡ left (λ (T : Tables). take (T .size .m) (T .firsts)) (loading S R F O) firsts₀
         → outcomes₁ ≡ left (λ (T : Tables). take (T .size .t) (T .outcomes)) (loading S R F O) outcomes₀
         → Same (held z rows₁ firsts₁ outcomes₁) (lentWith S R F O (numbers z))
     lent-same rows₀ rows₁ firsts₀ firsts₁ outcomes₀ outcomes₁ rs fs os = record {
       size = refl;
-      rows = front (λ T. take (T .size .n) (T .rows)) (z .n) (rowsIn (entriesIn R)) (rowsOf rows₀) (rowsOf rows₁) (omega (arith, w .rows, length-rows-in R)) refl rs;
+      rows = front (λ T. take (T .size .n) (T .rows)) (z .n) (rowsIn (entriesIn R)) rows₀ (rowsOf rows₁) (omega (arith, w .rows, length-rows-in R)) refl rs;
       firsts = front (λ T. take (T .size .m) (T .firsts)) (z .m) (entriesIn F) firsts₀ firsts₁ (omega (arith, w .firsts, length-entries-in F)) refl fs;
       outcomes = front (λ T. take (T .size .t) (T .outcomes)) (z .t) (entriesIn O) outcomes₀ outcomes₁ (omega (arith, w .outcomes, length-entries-in O)) refl os;
     }

@@ -14,6 +14,7 @@ use Rattle.model.specs.SoundTest.{tablesLong}
 use Rattle.model.specs.Calls.{left}
 use Rattle.model.specs.Boundary.{tablesIn, entriesIn, rowsIn}
 use Rattle.model.proofs.Answers.{given-inj, need-inv, bind-inv, answer-inv, answer-refused}
+use Rattle.model.proofs.Gates.{given-left, refused-left}
 use Rattle.model.proofs.Lent.{length-entries-in, length-rows-in}
 use Rattle.tables.specs.declared.Size.{Size}
 use Rattle.tables.specs.declared.Refusal.{Refusal}
@@ -80,8 +81,7 @@ module _ (S R F O : List ℕ) where
     answers = rw (w .loads)
 
     pub fills : {A : Type 0} (f : Tables → List A) (l : List A) {l′ : List A} → l′ ≡ overwrite (f (lentWith (numbers z))) l → l′ ≡ left f (loading S R F O) l
-    unfolding left
-    fills f l e = rw (w .loads) e
+    fills f l e = given-left (w .loads) f l e
 
   module _ {r : Word} (e : loading S R F O ≡ refused r) where
     pub refuses : refused r ≡ answer sizeOf (loading S R F O)
@@ -89,5 +89,4 @@ module _ (S R F O : List ℕ) where
     refuses = rw e
 
     pub keeps : {A : Type 0} (f : Tables → List A) (l : List A) → l ≡ left f (loading S R F O) l
-    unfolding left
-    keeps f l = rw e
+    keeps f l = refused-left e f l

@@ -6,9 +6,10 @@ use mathlib.Core.List.{List}
 use Prim.Native.Nat.{ℕ, _/_, _≤_}
 use lib.Dec.{leb, ltb}
 use borrow.Author.Tests.{le-leb}
+use Rattle.laws.specs.Lists.{overwrite}
 use Rattle.model.specs.Plan.{Plan}
 use Rattle.model.specs.Search.{Result, search}
-use Rattle.model.specs.Refusal.{Refusal, Cramped, Unsound, Stranger, Answer, given, refused, answer, need, _>>=_, _>>_}
+use Rattle.model.specs.Refusal.{Refusal, Cramped, Unsound, Stranger, Answer, given, refused, number, answer, need, _>>=_, _>>_}
 use Rattle.model.specs.File.{maxStates}
 use Rattle.model.specs.Tables.{Size, Tables, Same}
 use Rattle.model.specs.SoundTest.{sound}
@@ -63,6 +64,26 @@ module _ (T : Tables) where
   unfolding gateSearch _>>=_
   gate-search start commands scratch answer = rw (searching-after start (commands / 2) (scratch / 2)) (two-needs (wholeSearch start) (λ R. (T .size .n, R)) _ _)
 
+-- what a call returns and what it leaves, where it is refused and where it answers
+module _ {A : Type 0} {x : Answer A} where
+  module _ {r : Refusal} (e : x ≡ refused r) where
+    pub refused-code : {k : ℕ} → k ≡ number r → k ≡ code x
+    unfolding code
+    refused-code f = rw e f
+
+    pub refused-left : {B : Type 0} (f : A → List B) (l : List B) → l ≡ left f x l
+    unfolding left
+    refused-left f l = rw e
+
+  module _ {a : A} (e : x ≡ given a) where
+    pub given-code : 0 ≡ code x
+    unfolding code
+    given-code = rw e
+
+    pub given-left : {B : Type 0} (f : A → List B) (l : List B) {l′ : List B} → l′ ≡ overwrite (f a) l → l′ ≡ left f x l
+    unfolding left
+    given-left f l g = rw e g
+
 -- what is given of an answer v is what is given of x, from which it comes
 module _ {A B D : Type 0} (x : Answer A) (h : A → D) (v : Answer D) (from : v ≡ answer h x) (k : A → B) (q : Bool) where
   pub code-from : code (v >>= λ d. need Cramped q >> given d) ≡ code (x >>= λ a. need Cramped q >> given (k a))
@@ -96,6 +117,16 @@ module _ {T U : Tables} (same : Same T U) where
   gate-search-same start a b c =
       rw (searching-same same start (a / 2) (b / 2))
       (ap (λ (z : Size). searching U start (a / 2) (b / 2) >>= λ R. need Cramped (leb 4 c) >> given (z .n, R)) (same .size))
+
+-- the plan lent comes first
+module _ (lent : Answer Tables) where
+  pub gate-decide-lent : (ranks commands marks scratch tally : ℕ) → gateDecide lent ranks commands marks scratch tally ≡ (lent >>= λ T. gateDecide (given T) ranks commands marks scratch tally)
+  unfolding gateDecide _>>=_
+  gate-decide-lent a b c d t = refl
+
+  pub gate-search-lent : (start commands scratch answer : ℕ) → gateSearch lent start commands scratch answer ≡ (lent >>= λ T. gateSearch (given T) start commands scratch answer)
+  unfolding gateSearch _>>=_
+  gate-search-lent start a b c = refl
 
 -- an unsound plan is refused with 10
 module _ (T : Tables) (e : sound T ≡ false) where

@@ -29,7 +29,6 @@ use borrow.Rule.Array.Init
 use borrow.Rule.Array.Repeat
 use borrow.Rule.Array.Rows
 use borrow.Rule.Array.Share
-use borrow.Rule.Array.Whole as Whole'
 use borrow.Rule.AtSlots
 use borrow.Rule.Lifetime
 use borrow.Rule.Local
@@ -1802,7 +1801,7 @@ module _ (claims· : Claims) where
           d61 = Typed.g-pre 𝓤 H A W 𝓣 E G11 G12 b54 Δ0 (Typed.pass T11 T12 (s10 bs)) (at60 bs) (AtSlots.g-as-by 𝓤 H A W E (λ ρ. Unit) G11 9 (Rows.arrF T.the-row 1024 0) (λ x. x) (Own.told-none 𝓤 H A (G11 .slots)) λ ρ told. Repeat.whole-arr 𝓤 H A W T.the-row 1024 tt ρ) d60
 
           d62 : Typed.Typed 𝓤 H A 𝓣 E G10 b55 Δ0 (at62 bs)
-          d62 = Typed.s-seq 𝓤 H A W 𝓣 E G10 G11 b1 b54 Δ0 (Typed.pass T10 T11 (s9 bs)) (at61 bs) (Repeat.t-repeat-by 𝓤 H A W E 𝓣 T.the-row (Laws'4.lawful T.the-type RowLaws.the-laws 𝓤 H A W) (Copies.cStruct T.the-type RowLaws.the-laws RowLaws.the-copy .copy 𝓤 H A W) 1024 G10 9 (Scalar.oAt 15 (Memory.lone (T.the-row .mir)) λ x. Steps.only (Copies.cStruct T.the-type RowLaws.the-laws RowLaws.the-copy .vals x)) (λ m. m .1 .1 .1 .1 .1 .1 .1 .1 .1 .1 .1 .1 .1 .1 .1 .0) (λ ρ. Unit) (Reads.room-gone 𝓤 H A ty·2) (SReads.reads-struct 𝓤 H A W T.the-type RowLaws.the-laws, Path'.refl) Path'.refl (Own.told-none 𝓤 H A (G10 .slots)) λ ρ m pf wa. Gives.elem-local 𝓤 H A W E ρ T.the-row (λ x. Steps.only (Copies.cStruct T.the-type RowLaws.the-laws RowLaws.the-copy .vals x)) (Copies.cStruct T.the-type RowLaws.the-laws RowLaws.the-copy .tells) (Row.out 9 (G10 .locals)) m (λ ρ. Unit) pf 15 (Memory.lone (T.the-row .mir)) (λ x. x) (Yields.yields-copy 𝓤 H A W (λ ρ. Unit) T.the-row Path'.refl (Copies.cStruct T.the-type RowLaws.the-laws RowLaws.the-copy .copy 𝓤 H A W) (Rows'.whole (Declared'.row T.the-type)) (λ x. x) (λ x. x) (λ ρ told. Whole'.mem-arr 𝓤 H A W (Referent.rtF (Referent.fInt Syntax.w16)) 3 ρ) λ ρ told. Whole'.arr-mem 𝓤 H A W (Referent.rtF (Referent.fInt Syntax.w16)) 3 tt ρ)) d61
+          d62 = Typed.s-seq 𝓤 H A W 𝓣 E G10 G11 b1 b54 Δ0 (Typed.pass T10 T11 (s9 bs)) (at61 bs) (Repeat.t-repeat-by 𝓤 H A W E 𝓣 T.the-row (Laws'4.lawful T.the-type RowLaws.the-laws 𝓤 H A W) (Copies.cStruct T.the-type RowLaws.the-laws RowLaws.the-copy .copy 𝓤 H A W) 1024 G10 9 (Scalar.oAt 15 (Memory.lone (T.the-row .mir)) λ x. Steps.only (Copies.cStruct T.the-type RowLaws.the-laws RowLaws.the-copy .vals x)) (λ m. m .1 .1 .1 .1 .1 .1 .1 .1 .1 .1 .1 .1 .1 .1 .1 .0) (λ ρ. Unit) (Reads.room-gone 𝓤 H A ty·2) (SReads.reads-struct 𝓤 H A W T.the-type RowLaws.the-laws, Path'.refl) Path'.refl (Own.told-none 𝓤 H A (G10 .slots)) λ ρ m pf wa. Gives.elem-local 𝓤 H A W E ρ T.the-row (λ x. Steps.only (Copies.cStruct T.the-type RowLaws.the-laws RowLaws.the-copy .vals x)) (Copies.cStruct T.the-type RowLaws.the-laws RowLaws.the-copy .tells) (Row.out 9 (G10 .locals)) m (λ ρ. Unit) pf 15 (Memory.lone (T.the-row .mir)) (λ x. x) (Yields.yields-copy 𝓤 H A W (λ ρ. Unit) T.the-row Path'.refl (Copies.cStruct T.the-type RowLaws.the-laws RowLaws.the-copy .copy 𝓤 H A W) (Rows'.whole (Declared'.row T.the-type)) (λ x. x) (λ x. x) (λ ρ told. Local.mem-whole 𝓤 H A W (Declared'.row T.the-type) ρ) λ ρ told. Local.whole-mem 𝓤 H A W (Declared'.row T.the-type) ρ)) d61
 
           d63 : Typed.Typed 𝓤 H A 𝓣 E G9 b55 Δ0 (at63 bs)
           d63 = Typed.g-pre 𝓤 H A W 𝓣 E G9 G10 b55 Δ0 (Typed.pass T9 T10 (s8 bs)) (at62 bs) (AtSlots.g-as-by 𝓤 H A W E (λ ρ. Unit) G9 15 (Rows'.whole (Declared'.row T.the-type)) (λ v. T.struct .make v tt) (Own.told-none 𝓤 H A (G9 .slots)) λ ρ told v b. Apart.folds 𝓤 H A T.the-type (T.struct .Ghost) (T.struct .make) (λ v g. Path'.refl) ρ v tt b) d62
