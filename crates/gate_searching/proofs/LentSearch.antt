@@ -1,39 +1,20 @@
--- The call on a plan lent as bytes: refused where the plan cannot be read, and else what it answers on the tables read.
-use mathlib.Core.Path.{_≡_, subst, _∙_}
+-- The search as a call on a lent plan.
+use mathlib.Core.Path.{_≡_, subst}
 use mathlib.Core.List.{List}
 use Prim.Native.Nat.{ℕ}
-use lib.ListN.{length, take}
-use Rattle.model.specs.Refusal.{Answer, given, refused, answer, number, _>>=_}
-use Rattle.model.specs.Tables.{Row as Line, Tables}
 use Rattle.model.specs.Search.{Result}
-use Rattle.model.specs.Calls.{left}
-use Rattle.model.specs.Boundary.{tablesIn, code, gateSearch}
+use Rattle.model.specs.Refusal.{Answer}
+use Rattle.model.specs.Boundary.{gateSearch}
 use Rattle.model.proofs.Gates.{gate-search-lent, gate-search-same, gate-search-unsound}
-use Rattle.tables.specs.declared.Size.{Size}
-use Rattle.tables.specs.declared.Row.{Row}
-use Rattle.tables.specs.declared.Refusal.{Refusal}
-use Rattle.tables.specs.Meaning.{numbers, refusalOf, rowsOf, held}
-use Rattle.load.specs.declared.internal.PlanAnswer.{PlanAnswer}
-use Rattle.load.specs.declared.internal.PlanAnswer.the-variants.{Given, Refused}
-use Rattle.load.specs.Loading.{planOf, loading}
-use Rattle.load.proofs.Planning.{sizeOf}
-use Rattle.load.proofs.Lending.{lent-refused, lent-given, lent-same}
+use Rattle.load.proofs.Lending.{PlanCall}
 use Rattle.gate_searching.proofs.Searched.{Says}
 
-module _ (S R F O : List ℕ) (p : PlanAnswer) (says : planOf p ≡ answer sizeOf (loading S R F O)) (start c x a : ℕ) where
-  pub search-refused : (r : Refusal) → p ≡ Refused r → gateSearch (tablesIn S R F O) start c x a ≡ refused (refusalOf r)
-  search-refused r e =
-      gate-search-lent (tablesIn S R F O) start c x a
-      ∙ lent-refused S R F O p says (λ T. gateSearch (given T) start c x a) (λ T u. gate-search-unsound T u start c x a) r e
-
-  pub search-lent : (z : Size) → p ≡ Given z → (rows₀ : List Line) (rows₁ : List Row) (firsts₀ firsts₁ outcomes₀ outcomes₁ : List ℕ)
-      → rowsOf rows₁ ≡ left (λ (T : Tables). take (T .size .n) (T .rows)) (loading S R F O) rows₀
-      → firsts₁ ≡ left (λ (T : Tables). take (T .size .m) (T .firsts)) (loading S R F O) firsts₀
-      → outcomes₁ ≡ left (λ (T : Tables). take (T .size .t) (T .outcomes)) (loading S R F O) outcomes₀
-      → gateSearch (given (held z rows₁ firsts₁ outcomes₁)) start c x a ≡ gateSearch (tablesIn S R F O) start c x a
-  search-lent z e rows₀ rows₁ firsts₀ firsts₁ outcomes₀ outcomes₁ rs fs os =
-      rw (lent-given S R F O p says z e)
-      (gate-search-same (lent-same S R F O p says z e rows₀ rows₁ firsts₀ firsts₁ outcomes₀ outcomes₁ rs fs os) start c x a)
+pub search-call : (start commands scratch answer : ℕ) → PlanCall (λ lent. gateSearch lent start commands scratch answer)
+search-call start commands scratch answer = record {
+  first = λ lent. gate-search-lent lent start commands scratch answer;
+  unsound = λ T e. gate-search-unsound T e start commands scratch answer;
+  same = λ same. gate-search-same same start commands scratch answer;
+}
 
 -- what is returned and left by one answer is so by an equal one
 pub search-moved : {q q′ : Answer (ℕ × Result)} → q ≡ q′ → (C X A : List ℕ) {k : ℕ} {C′ X′ A′ : List ℕ} → Says q C X A k C′ X′ A′ → Says q′ C X A k C′ X′ A′

@@ -30,6 +30,12 @@ use Rattle.load.specs.Loading.{planOf, few, loading}
 use Rattle.load.proofs.Planning.{sizeOf}
 use Rattle.load.proofs.Loaded.{Within, within, no-plan, lentWith}
 
+-- a call that comes to the plan lent first, refuses an unsound one with 10 and answers the same on tables that agree
+pub record PlanCall {A : Type 0} (call : Answer Tables → Answer A) : Type 0 where
+  pub first : (lent : Answer Tables) → call lent ≡ (lent >>= λ T. call (given T))
+  pub unsound : (T : Tables) → sound T ≡ false → call (given T) ≡ refused Unsound
+  pub same : {T U : Tables} → Same T U → call (given T) ≡ call (given U)
+
 -- a sound plan is within the limits, and its tables are long enough
 sound-held : (T : Tables) → sound T ≡ true → few (T .size) && tablesLong T ≡ true
 unfolding few tablesLong
@@ -50,7 +56,7 @@ module _ {A : Type 0} (make : Tables → Answer A) (unsound : (T : Tables) → s
       (true-or-false (few (T .size) && tablesLong T))
 
 module _ (S R F O : List ℕ) (p : PlanAnswer) (says : planOf p ≡ answer sizeOf (loading S R F O)) where
-  pub lent-refused : {A : Type 0} (make : Tables → Answer A) → ((T : Tables) → sound T ≡ false → make T ≡ refused Unsound)
+  lent-refused : {A : Type 0} (make : Tables → Answer A) → ((T : Tables) → sound T ≡ false → make T ≡ refused Unsound)
       → (r : Refusal) → p ≡ Refused r → (tablesIn S R F O >>= make) ≡ refused (refusalOf r)
   unfolding loading
   lent-refused make unsound r e = refused-with make unsound (refusalOf r) (tablesIn S R F O) (no-plan S R F O p says r e)
@@ -59,7 +65,7 @@ module _ (S R F O : List ℕ) (p : PlanAnswer) (says : planOf p ≡ answer sizeO
     w : Within S R F O z
     w = within S R F O p says z e
 
-    pub lent-given : tablesIn S R F O ≡ given (lentWith S R F O (numbers z))
+    lent-given : tablesIn S R F O ≡ given (lentWith S R F O (numbers z))
     lent-given = w .lends
 
     -- the first places of a table that was filled
@@ -69,7 +75,7 @@ module _ (S R F O : List ℕ) (p : PlanAnswer) (says : planOf p ≡ answer sizeO
     front f n xs l l′ h is g =
         rw (rw (w .loads, is) at g) (take-overwritten n (take n xs) l (length-take-le n xs h))
 
-    pub lent-same : (rows₀ : List Line) (rows₁ : List Row) (firsts₀ firsts₁ outcomes₀ outcomes₁ : List ℕ)
+    lent-same : (rows₀ : List Line) (rows₁ : List Row) (firsts₀ firsts₁ outcomes₀ outcomes₁ : List ℕ)
         → rowsOf rows₁ ≡ left (λ (T : Tables). take (T .size .n) (T .rows)) (loading S R F O) rows₀
         → firsts₁ ≡ left (λ (T : Tables). take (T .size .m) (T .firsts)) (loading S R F O) firsts₀
         → outcomes₁ ≡ left (λ (T : Tables). take (T .size .t) (T .outcomes)) (loading S R F O) outcomes₀
@@ -80,3 +86,15 @@ module _ (S R F O : List ℕ) (p : PlanAnswer) (says : planOf p ≡ answer sizeO
       firsts = front (λ T. take (T .size .m) (T .firsts)) (z .m) (entriesIn F) firsts₀ firsts₁ (omega (arith, w .firsts, length-entries-in F)) refl fs;
       outcomes = front (λ T. take (T .size .t) (T .outcomes)) (z .t) (entriesIn O) outcomes₀ outcomes₁ (omega (arith, w .outcomes, length-entries-in O)) refl os;
     }
+
+  module _ {A : Type 0} {call : Answer Tables → Answer A} (calls : PlanCall call) where
+    pub call-refused : (r : Refusal) → p ≡ Refused r → call (tablesIn S R F O) ≡ refused (refusalOf r)
+    call-refused r e = calls .first (tablesIn S R F O) ∙ lent-refused (λ T. call (given T)) (calls .unsound) r e
+
+    pub call-given : (z : Size) → p ≡ Given z → (rows₀ : List Line) (rows₁ : List Row) (firsts₀ firsts₁ outcomes₀ outcomes₁ : List ℕ)
+        → rowsOf rows₁ ≡ left (λ (T : Tables). take (T .size .n) (T .rows)) (loading S R F O) rows₀
+        → firsts₁ ≡ left (λ (T : Tables). take (T .size .m) (T .firsts)) (loading S R F O) firsts₀
+        → outcomes₁ ≡ left (λ (T : Tables). take (T .size .t) (T .outcomes)) (loading S R F O) outcomes₀
+        → call (given (held z rows₁ firsts₁ outcomes₁)) ≡ call (tablesIn S R F O)
+    call-given z e rows₀ rows₁ firsts₀ firsts₁ outcomes₀ outcomes₁ rs fs os =
+        rw (lent-given z e) (calls .same (lent-same z e rows₀ rows₁ firsts₀ firsts₁ outcomes₀ outcomes₁ rs fs os))

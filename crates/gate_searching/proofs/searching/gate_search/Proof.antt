@@ -1,5 +1,6 @@
+use Rattle.load.proofs.Lending.{call-refused, call-given}
+use Rattle.gate_searching.proofs.LentSearch.{search-call, search-moved}
 use lib.ListN.{length}
-use Rattle.gate_searching.proofs.LentSearch.{search-refused, search-lent, search-moved}
 use Rattle.model.proofs.Gates.{refused-code, refused-left}
 mod Lts
 mod Tie
@@ -43,7 +44,7 @@ search-loaded-requires c κs = search needs
 returns : tie.Need-returns
 returns c =
     let a = c .before .before .before .before .before .before .before .before .before .before .before .before .before .before .before .before .before .before .args in
-    let e = search-refused _ _ _ _ _ (c .before .before .before .before .before .before .before .load-plan .ensures .0) (a .start) (length (a .commands .now)) (length (a .scratch .now)) (length (a .answer .now)) _ (c .before .before .plan .given .1) in
+    let e = call-refused _ _ _ _ _ (c .before .before .before .before .before .before .before .load-plan .ensures .0) (search-call (a .start) (length (a .commands .now)) (length (a .scratch .now)) (length (a .answer .now))) _ (c .before .before .plan .given .1) in
     (refused-code e (c .number .ensures), (refused-left e _ _, (refused-left e _ _, refused-left e _ _)))
 
 same-length : tie.Need-same-length
@@ -59,7 +60,7 @@ returns-2 : tie.Need-returns-2
 returns-2 c =
     let a = c .before .before .before .before .before .before .before .before .before .before .before .before .before .before .before .before .before .before .before .before .before .before .before .before .before .before .before .before .before .before .args in
     let l = c .before .before .before .before .before .before .before .before .before .before .before .before .before .before .before .before .before .before .before .load-plan .ensures in
-    let e = search-lent _ _ _ _ _ (l .0) (a .start) (length (a .commands .now)) (length (a .scratch .now)) (length (a .answer .now)) _ (c .before .before .before .before .before .before .before .before .before .before .before .before .before .before .plan2 .given .1) _ (c .before .before .before .before .before .before .before .before .before .before .before .before .before .before .before .before .before .before .before .load-plan .last .1 .1 .1 .1 .0) _ _ _ _ (l .1 .0) (l .1 .1 .0) (l .1 .1 .1) in
+    let e = call-given _ _ _ _ _ (l .0) (search-call (a .start) (length (a .commands .now)) (length (a .scratch .now)) (length (a .answer .now))) _ (c .before .before .before .before .before .before .before .before .before .before .before .before .before .before .plan2 .given .1) _ (c .before .before .before .before .before .before .before .before .before .before .before .before .before .before .before .before .before .before .before .load-plan .last .1 .1 .1 .1 .0) _ _ _ _ (l .1 .0) (l .1 .1 .0) (l .1 .1 .1) in
     search-moved e (a .commands .now) (a .scratch .now) (a .answer .now) (c .before .before .before .before .before .before .search-loaded .ensures)
 
 pub gate-search-spec : {M : Type 1} → statement M
