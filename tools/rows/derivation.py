@@ -121,8 +121,10 @@ def local_rows(text, element, row):
         "Array.arr-reads 𝓤 H A W (Array.eInt Syntax.w16) (Array.eInt-laws Syntax.w16) 3",
         f"{struct_reads}.reads-struct 𝓤 H A W {t}.the-type {laws}.the-laws",
     )
-    text = text.replace(f"Whole.mem-arr 𝓤 H A W {number} 3 ρ", f"{local}.mem-whole 𝓤 H A W {whole} ρ")
-    return lacking + text.replace(f"Whole.arr-mem 𝓤 H A W {number} 3 tt ρ", f"{local}.whole-mem 𝓤 H A W {whole} ρ")
+    for name in ("Whole'", "Whole"):
+        text = text.replace(f"{name}.mem-arr 𝓤 H A W {number} 3 ρ", f"{local}.mem-whole 𝓤 H A W {whole} ρ")
+        text = text.replace(f"{name}.arr-mem 𝓤 H A W {number} 3 tt ρ", f"{local}.whole-mem 𝓤 H A W {whole} ρ")
+    return lacking + text
 
 
 def derivation(path, element, row):

@@ -1,6 +1,6 @@
 // The calls of the gate controller's C program, on numbers and byte slices (include/gate.h). An entry is two bytes, highest first.
 ghost use mathlib.Core.Path.{_≡_};
-ghost use Rattle.model.specs.Boundary.{gateReadCall};
+ghost use Rattle.model.specs.Boundary.{tablesIn, gateReadCall, gateSearchCall};
 
 // Reads a plan file. Ruled out: 0 for a file that is not all written, and a slice altered by a refusal.
 #[no_mangle]
@@ -18,4 +18,33 @@ pub extern "C" fn gate_read(
     ensures outcomes { λ r. ⌜ now (outcomes .exit) ≡ gateReadCall (now (file .entry)) (now (size .entry)) (now (rows .entry)) (now (firsts .entry)) (now (outcomes .entry)) .outcomes ⌝ }
 {
     gate_reading::read_call(file, size, rows, firsts, outcomes)
+}
+
+// Searches from one start. Ruled out: a verdict for want of room, and a count of rounds that were not walked.
+#[no_mangle]
+pub extern "C" fn gate_search(
+    size: &[u8],
+    rows: &[u8],
+    firsts: &[u8],
+    outcomes: &[u8],
+    start: u16,
+    commands: &mut [u8],
+    scratch: &mut [u8],
+    answer: &mut [u8],
+) -> u32
+    ensures returns { λ r. ⌜ r ≡ gateSearchCall (tablesIn (now (size .entry)) (now (rows .entry)) (now (firsts .entry)) (now (outcomes .entry))) start (now (commands .entry)) (now (scratch .entry)) (now (answer .entry)) .returns ⌝ }
+    ensures commands { λ _. ⌜ now (commands .exit) ≡ gateSearchCall (tablesIn (now (size .entry)) (now (rows .entry)) (now (firsts .entry)) (now (outcomes .entry))) start (now (commands .entry)) (now (scratch .entry)) (now (answer .entry)) .commands ⌝ }
+    ensures scratch { λ _. ⌜ now (scratch .exit) ≡ gateSearchCall (tablesIn (now (size .entry)) (now (rows .entry)) (now (firsts .entry)) (now (outcomes .entry))) start (now (commands .entry)) (now (scratch .entry)) (now (answer .entry)) .scratch ⌝ }
+    ensures answer { λ _. ⌜ now (answer .exit) ≡ gateSearchCall (tablesIn (now (size .entry)) (now (rows .entry)) (now (firsts .entry)) (now (outcomes .entry))) start (now (commands .entry)) (now (scratch .entry)) (now (answer .entry)) .answer ⌝ }
+{
+    gate_searching::searching::search_call(
+        size,
+        rows,
+        firsts,
+        outcomes,
+        start,
+        commands,
+        scratch,
+        answer,
+    )
 }

@@ -82,6 +82,9 @@ module _ {A : Type 0} where
   unfolding overwrite
   take-overwrite xs l = take-append-seam xs _
 
+  pub take-overwritten : (n : ℕ) (xs l : List A) → length xs ≡ n → take n (overwrite xs l) ≡ xs
+  take-overwritten n xs l e = rw (← e) (take-overwrite xs l)
+
   pub drop-overwrite : (xs l : List A) → drop (length xs) (overwrite xs l) ≡ drop (length xs) l
   unfolding overwrite
   drop-overwrite xs l = drop-append-seam xs _

@@ -1,13 +1,15 @@
 -- Entries written to a table one after another.
 use mathlib.Core.Path.{_≡_, refl, ap, sym, _∙_}
 use mathlib.Core.List.{List, [], _∷_, _++_}
-use Prim.Native.Nat.{ℕ, suc, _+_, _≤_}
+use Prim.Native.Nat.{ℕ, suc, _+_, _-_, _<_, _≤_}
 use native.Mathlib.Omega.{arith}
+use native.Mathlib.Numerals.{add-one}
 use native.Mathlib.Nat.{add-zero, not-suc-le-zero, le-of-suc-le-suc}
 use lib.ListN.{length, drop, set, length-set, length-append}
 use lib.Seq.{set-append-seam, append-snoc}
-use Rattle.laws.specs.Lists.{overwrite}
+use Rattle.laws.specs.Lists.{tabulate, overwrite}
 use Rattle.laws.specs.Writes.{putAll}
+use Rattle.laws.proofs.Lists.{length-tabulate}
 
 module _ {A : Type 0} where
   pub length-put : (l : List A) (i : ℕ) (xs : List A) → length (putAll l i xs) ≡ length l
@@ -40,3 +42,23 @@ module _ {A : Type 0} where
   pub put-front : (l xs : List A) → length xs ≤ length l → putAll l 0 xs ≡ overwrite xs l
   unfolding overwrite
   put-front l xs h = put-after [] l xs h
+
+  -- a table whose first n places are written by a rule: the table, as far as it is written up to place i, once the rest is
+  module _ (f : ℕ → A) (n : ℕ) where
+    abbrev pub ruled : ℕ → List A → List A
+    ruled i l = putAll l i (tabulate f i (n - i))
+
+    pub ruled-next : (i : ℕ) (l : List A) {x : A} → i < n → x ≡ f i → ruled (i + 1) (set l i x) ≡ ruled i l
+    unfolding putAll tabulate
+    ruled-next i l h e =
+        let a : n - i ≡ suc (n - (i + 1)) = omega arith in
+        rw (e, a) (ap (λ (j : ℕ). putAll (set l i (f i)) (i + 1) (tabulate f j (n - (i + 1)))) (add-one i))
+
+    pub ruled-last : (i : ℕ) (l : List A) → n ≤ i → ruled i l ≡ l
+    unfolding putAll tabulate
+    ruled-last i l h = let a : n - i ≡ 0 = omega arith in rw a
+
+    pub ruled-first : (l : List A) → n ≤ length l → ruled 0 l ≡ overwrite (tabulate f 0 n) l
+    ruled-first l h =
+        let a : n - 0 ≡ n = omega arith in
+        rw a (put-front l (tabulate f 0 n) (rw (length-tabulate f 0 n) h))

@@ -1,5 +1,5 @@
 -- What follows of an answer that is a value: each test on the way held, and each part gave a value.
-use mathlib.Core.Path.{_≡_, refl}
+use mathlib.Core.Path.{_≡_, refl, sym, ap}
 use mathlib.Core.Bool.{Bool, true, false}
 use mathlib.Core.List.{List}
 use mathlib.Core.Logic.{_⊎_, inl, inr, _↔_}
@@ -54,6 +54,12 @@ pub answer-inv : {A B : Type 0} (f : A → B) (x : Answer A) (b : B) → answer 
 unfolding answer
 answer-inv f (given a) b e = (a, refl, given-inj e)
 answer-inv f (refused r) b e = absurd (not-both e)
+
+-- and a refusal is the one that was met
+pub answer-refused : {A B : Type 0} (f : A → B) (x : Answer A) (r : Refusal) → answer f x ≡ refused r → x ≡ refused r
+unfolding answer
+answer-refused f (given a) r e = absurd (not-both (sym e))
+answer-refused f (refused q) r e = ap refused (refused-inj e)
 
 -- an answer is a value or a refusal
 pub which : {A : Type 0} (x : Answer A) → ((a : A) × (x ≡ given a)) ⊎ ((r : Refusal) × (x ≡ refused r))

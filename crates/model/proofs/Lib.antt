@@ -22,6 +22,9 @@ pub mod Ordered
 pub mod Firsts
 pub mod Prefixes
 pub mod SameTables
+pub mod SameSound
+pub mod Lent
+pub mod Gates
 pub mod TablesBack
 pub mod HeldPlan
 pub mod Risings

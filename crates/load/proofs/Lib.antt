@@ -1,0 +1,5 @@
+pub mod RowReads
+pub mod Planning
+pub mod LoadRows
+pub mod Loaded
+pub mod Lending
