@@ -1,0 +1,4 @@
+pub mod RowReads
+pub mod Delivering
+pub mod Decided
+pub mod LentDeciding

@@ -1,0 +1,2 @@
+-- Made by tools/rows.
+pub mod DecidingDecideLoaded

@@ -1,0 +1,87 @@
+use mir.Syntax.{w16}
+use borrow.Kind.Array.{eInt, good-length}
+use Rattle.gate_deciding.proofs.Delivering.{tally-stored}
+use borrow.Author.Needs.{needs}
+use Rattle.gate_deciding.proofs.answers.store_tally.Statement.{statement}
+use Rattle.gate_deciding.proofs.answers.store_tally.Tie as tie
+use Rattle.gate_deciding.proofs.answers.store_tally.Reads as reads
+use Rattle.gate_deciding.proofs.answers.store_tally.Lts as lts
+use Rattle.store.proofs.internal.store_entry.Reads as store-entry-reads
+
+-- src/answers.rt:49:27
+array-read-store-entry : tie.Need-array-read-store-entry
+array-read-store-entry c = search needs
+
+-- src/answers.rt:49:5
+store-entry-requires : tie.Need-store-entry-requires
+store-entry-requires c κs = search needs
+
+-- src/answers.rt:50:27
+array-read-store-entry-2 : tie.Need-array-read-store-entry-2
+array-read-store-entry-2 c = search needs
+
+-- src/answers.rt:50:5
+store-entry-requires-2 : tie.Need-store-entry-requires-2
+store-entry-requires-2 c κs = search needs
+
+-- src/answers.rt:51:27
+array-read-store-entry-3 : tie.Need-array-read-store-entry-3
+array-read-store-entry-3 c = search needs
+
+-- src/answers.rt:51:5
+store-entry-requires-3 : tie.Need-store-entry-requires-3
+store-entry-requires-3 c κs = search needs
+
+-- src/answers.rt:52:27
+array-read-store-entry-4 : tie.Need-array-read-store-entry-4
+array-read-store-entry-4 c = search needs
+
+-- src/answers.rt:52:5
+store-entry-requires-4 : tie.Need-store-entry-requires-4
+store-entry-requires-4 c κs = search needs
+
+-- src/answers.rt:53:27
+array-read-store-entry-5 : tie.Need-array-read-store-entry-5
+array-read-store-entry-5 c = search needs
+
+-- src/answers.rt:53:5
+store-entry-requires-5 : tie.Need-store-entry-requires-5
+store-entry-requires-5 c κs = search needs
+
+-- src/answers.rt:54:27
+array-read-store-entry-6 : tie.Need-array-read-store-entry-6
+array-read-store-entry-6 c = search needs
+
+-- src/answers.rt:54:5
+store-entry-requires-6 : tie.Need-store-entry-requires-6
+store-entry-requires-6 c κs = search needs
+
+-- src/answers.rt:45:1
+same-length : tie.Need-same-length
+same-length c = search needs
+
+-- src/answers.rt:45:1
+returns : tie.Need-returns
+returns c =
+    let a = c .before .before .before .before .before .before .before .before .before .before .before .before .before .before .before .before .before .before .before .before .before .before .before .before .before .args in
+    tally-stored (a .t1) (a .t2) _ (good-length (eInt w16) 3 (a .t1) _ (c .before .before .before .before .before .before .before .before .before .before .before .before .before .before .before .before .before .before .before .before .before .before .before .before .before .good .0)) (good-length (eInt w16) 3 (a .t2) _ (c .before .before .before .before .before .before .before .before .before .before .before .before .before .before .before .before .before .before .before .before .before .before .before .before .before .good .1 .0)) (c .before .before .before .before .before .before .before .before .before .before .before .before .before .before .before .before .before .before .before .before .before .before .before .before .before .pre)
+    (c .before .before .before .before .before .before .before .before .before .before .before .before .before .before .before .before .before .before .before .before .before .before .store-entry .ensures) (c .before .before .before .before .before .before .before .before .before .before .before .before .before .before .before .before .before .before .store-entry2 .ensures) (c .before .before .before .before .before .before .before .before .before .before .before .before .before .before .store-entry3 .ensures) (c .before .before .before .before .before .before .before .before .before .before .store-entry4 .ensures) (c .before .before .before .before .before .before .store-entry5 .ensures) (c .before .before .store-entry6 .ensures)
+
+pub store-tally-spec : {M : Type 1} → statement M
+store-tally-spec =
+    tie.close
+    (tie.spec
+    array-read-store-entry
+    store-entry-requires
+    array-read-store-entry-2
+    store-entry-requires-2
+    array-read-store-entry-3
+    store-entry-requires-3
+    array-read-store-entry-4
+    store-entry-requires-4
+    array-read-store-entry-5
+    store-entry-requires-5
+    array-read-store-entry-6
+    store-entry-requires-6
+    same-length
+    returns)

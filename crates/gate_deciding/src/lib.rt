@@ -1,0 +1,3 @@
+// Deciding, for the gate controller's C program.
+mod answers;
+pub mod deciding;
