@@ -1,4 +1,4 @@
-// The call `gate_decide`.
+// The call, on bytes.
 ghost use mathlib.Core.Path.{_≡_};
 ghost use Rattle.model.specs.Refusal.{given};
 ghost use Rattle.model.specs.Boundary.{tablesIn, gateDecideCall};
@@ -28,10 +28,10 @@ pub fn decide_loaded(
     ensures { λ _. ⌜ now (scratch .exit) ≡ gateDecideCall (given (held size (now (rows .entry)) (now (firsts .entry)) (now (outcomes .entry)))) (now (ranks .entry)) (now (commands .entry)) (now (marks .entry)) (now (scratch .entry)) (now (tally .entry)) .scratch ⌝ }
     ensures { λ _. ⌜ now (tally .exit) ≡ gateDecideCall (given (held size (now (rows .entry)) (now (firsts .entry)) (now (outcomes .entry)))) (now (ranks .entry)) (now (commands .entry)) (now (marks .entry)) (now (scratch .entry)) (now (tally .entry)) .tally ⌝ }
 {
-    let mut ranked = [0u16; 1024];
-    let mut chosen = [0u16; 1024];
-    let mut marked = [0u16; 1024];
-    let mut clean = [0u16; 1024];
+    let mut ranked = [0u16; Size::STATES];
+    let mut chosen = [0u16; Size::STATES];
+    let mut marked = [0u16; Size::STATES];
+    let mut clean = [0u16; Size::STATES];
     let decision = decide::decide(
         size,
         rows,
@@ -58,8 +58,7 @@ pub fn decide_loaded(
 }
 
 // Deciding a plan lent as bytes. Refused with 10, then 9, before a slice is written.
-#[no_mangle]
-pub extern "C" fn gate_decide(
+pub fn decide_call(
     size: &[u8],
     rows: &[u8],
     firsts: &[u8],
@@ -82,8 +81,8 @@ pub extern "C" fn gate_decide(
         first: 0,
         practice: 0,
     }; 1024];
-    let mut heads = [0u16; 4096];
-    let mut entries = [0u16; 16384];
+    let mut heads = [0u16; Size::COMMANDS];
+    let mut entries = [0u16; Size::OUTCOMES];
     let plan = load_plan(
         size,
         rows,

@@ -5,8 +5,8 @@ use lib.ListN.{length}
 mod Lts
 mod Tie
 use borrow.Author.Needs.{needs}
-use Rattle.gate_deciding.proofs.deciding.gate_decide.Statement.{statement}
-use Rattle.gate_deciding.proofs.deciding.gate_decide.Proof.Tie as tie
+use Rattle.gate_deciding.proofs.deciding.decide_call.Statement.{statement}
+use Rattle.gate_deciding.proofs.deciding.decide_call.Proof.Tie as tie
 
 slice-aggregate-load-plan : tie.Need-slice-aggregate-load-plan
 slice-aggregate-load-plan c = search needs
@@ -69,5 +69,5 @@ returns-2 c =
     let e = call-given _ _ _ _ _ (l .0) (decide-call (length (a .ranks .now)) (length (a .commands .now)) (length (a .marks .now)) (length (a .scratch .now)) (length (a .tally .now))) _ (c .before .before .before .before .before .before .before .before .before .before .before .before .before .before .before .before .before .before .before .before .plan2 .given .1) _ (c .before .before .before .before .before .before .before .before .before .before .before .before .before .before .before .before .before .before .before .before .before .before .before .before .before .load-plan .last .1 .1 .1 .1 .0) _ _ _ _ (l .1 .0) (l .1 .1 .0) (l .1 .1 .1) in
     decide-moved e (a .ranks .now) (a .commands .now) (a .marks .now) (a .scratch .now) (a .tally .now) (c .before .before .before .before .before .before .before .before .before .before .decide-loaded .ensures)
 
-pub gate-decide-spec : {M : Type 1} → statement M
-gate-decide-spec = tie.close (tie.spec slice-aggregate-load-plan slice-aggregate-load-plan-2 slice-aggregate-load-plan-3 load-plan-requires enum-known-plan number-requires enum-known-plan-2 slice-aggregate-decide-loaded slice-aggregate-decide-loaded-2 slice-aggregate-decide-loaded-3 decide-loaded-requires returns same-length same-length-2 same-length-3 same-length-4 same-length-5 returns-2)
+pub decide-call-spec : {M : Type 1} → statement M
+decide-call-spec = tie.close (tie.spec slice-aggregate-load-plan slice-aggregate-load-plan-2 slice-aggregate-load-plan-3 load-plan-requires enum-known-plan number-requires enum-known-plan-2 slice-aggregate-decide-loaded slice-aggregate-decide-loaded-2 slice-aggregate-decide-loaded-3 decide-loaded-requires returns same-length same-length-2 same-length-3 same-length-4 same-length-5 returns-2)

@@ -1,4 +1,4 @@
--- `gate_deciding::deciding::gate_decide`, over rows. Made by tools/rows, and checked like every proof.
+-- `gate_deciding::deciding::decide_call`, over rows. Made by tools/rows, and checked like every proof.
 use Prim.Native.Nat
 use Rattle.load.proofs.internal.PlanAnswer
 use Rattle.load.proofs.internal.PlanAnswer.Laws
