@@ -10,9 +10,16 @@
 
 PLAN = examples/case-a.plan
 
-run: tools
-	test -x target/bin/list || rt check list >target/list.log 2>&1 || { mkdir -p target; rt check list; }
+SOURCES = crates.txt $(shell find crates -name must-fail -prune -o -type f -print)
+
+run: tools target/bin/list
 	target/bin/list <$(PLAN)
+
+target/bin/list: $(SOURCES)
+	mkdir -p target
+	echo "proving the listing program, which takes some minutes" >&2
+	rt check list >target/list.log 2>&1 || { cat target/list.log; exit 1; }
+	touch $@
 
 test: tools c-test compare
 	cd tests && python3 -B bench_files.py --check && python3 -B bench_verdicts.py --check && python3 -B examples.py --check
@@ -31,8 +38,10 @@ LIB = target/staticlib/libgate.a
 
 lib: $(LIB)
 
-$(LIB): $(shell find crates -path '*/must-fail' -prune -o -type f -print)
-	rt staticlib gate
+target/staticlib/libgate.a: $(SOURCES)
+	mkdir -p target
+	rt staticlib gate >target/lib.log 2>&1 || { cat target/lib.log; exit 1; }
+	touch $@
 
 # With gcc's checks on the C side.
 C_FLAGS = -std=c11 -Wall -Wextra -Wpedantic -Wconversion -Werror -O1 -g -Iinclude
