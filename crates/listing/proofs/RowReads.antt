@@ -1,5 +1,5 @@
 -- Made by tools/rows.
-pub mod ListFile
+pub mod FileListFile
 pub mod PlanListPlan
 pub mod StartListStart
 pub mod StatesListStates

@@ -3,8 +3,8 @@ mod Tie
 use native.Mathlib.Omega.{arith}
 use borrow.Author.Needs.{needs}
 use Rattle.listing.proofs.Files.{plan-read, refusal-read}
-use Rattle.listing.proofs.list_file.Statement.{statement}
-use Rattle.listing.proofs.list_file.Proof.Tie as tie
+use Rattle.listing.proofs.file.list_file.Statement.{statement}
+use Rattle.listing.proofs.file.list_file.Proof.Tie as tie
 
 read-requires : tie.Need-read-requires
 read-requires c κs = search needs

@@ -1,8 +1,8 @@
 mod Lts
 mod Tie
 use borrow.Author.Needs.{needs}
-use Rattle.listing.proofs.lend.Statement.{statement}
-use Rattle.listing.proofs.lend.Proof.Tie as tie
+use Rattle.listing.proofs.file.lend.Statement.{statement}
+use Rattle.listing.proofs.file.lend.Proof.Tie as tie
 
 slice-aggregate-list-file : tie.Need-slice-aggregate-list-file
 slice-aggregate-list-file c = search needs

@@ -1,4 +1,4 @@
--- `listing::list_file`, over rows. Made by tools/rows, and checked like every proof.
+-- `listing::file::list_file`, over rows. Made by tools/rows, and checked like every proof.
 use Prim.Native.Nat
 use Rattle.reading.proofs.ReadAnswer
 use Rattle.reading.proofs.ReadAnswer.Laws

@@ -1,4 +1,4 @@
--- `listing::list_file`, over rows. Made by tools/rows, and checked like every proof.
+-- `listing::file::list_file`, over rows. Made by tools/rows, and checked like every proof.
 use Rattle.tables.proofs.Row as T
 use base.Logic.{id⊢, emp}
 use borrow.Fn.Kinds
@@ -16,7 +16,7 @@ use mathlib.Core.List
 use mathlib.Core.Path.{refl}
 use mir.Syntax
 use Rattle.tables.proofs.Reading as R
-use Rattle.listing.proofs.list_file as f
+use Rattle.listing.proofs.file.list_file as f
 
 abbrev pub ps : List.List (Kinds.PK 5)
 ps = List._∷_ (ShrSlice.pShrS (Referent.rtF (Referent.fInt Syntax.w8)) 0 tt) (List._∷_ (MutSlice.pMutS T.the-row 1 tt) (List._∷_ (MutSlice.pMutS (Referent.rtF (Referent.fInt Syntax.w16)) 2 tt) (List._∷_ (MutSlice.pMutS (Referent.rtF (Referent.fInt Syntax.w16)) 3 tt) (List._∷_ (MutSlice.pMutS (Referent.rtF (Referent.fInt Syntax.w8)) 4 tt) List.[]))))
