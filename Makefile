@@ -5,7 +5,7 @@
 # make compare   hold the C library to a planner of its own, in Rust, byte for byte over COUNT inputs made from SEED
 # make bench     time the two beside each other
 
-.PHONY: run test tools lib c-test compare bench
+.PHONY: run test tools list-test lib c-test compare bench
 .SILENT:
 
 PLAN = examples/case-a.plan
@@ -21,11 +21,15 @@ target/bin/list: $(SOURCES)
 	rt check list >target/list.log 2>&1 || { cat target/list.log; exit 1; }
 	touch $@
 
-test: tools c-test compare
+test: tools c-test compare list-test
 	cd tests && python3 -B bench_files.py --check && python3 -B bench_verdicts.py --check && python3 -B examples.py --check
 	rt fmt --check
 	python3 -B tools/rows --check
 	rt ci
+
+# The listing program on every example.
+list-test: target/bin/list
+	for p in examples/*.plan; do target/bin/list <$$p | cmp - $${p%.plan}.listing || exit 1; done
 
 # What the tests need beside the Rattle kit.
 tools:
