@@ -33,7 +33,7 @@ fn write_listing(input: &[u8], out: &mut [u8]) -> usize
     lend(input, out)
 }
 
-// What the listing program prints for an input.
+// What the listing program prints for an input. Ruled out: a listing of a file that reading refuses, and a line that is not of the file's plan.
 pub fn text_of(input: &[u8]) -> Text
     ensures text { λ r. ⌜ take (r .length) (r .bytes) ≡ listing (now (input .entry)) ⌝ }
     ensures length { λ r. ⌜ r .length ≡ length (listing (now (input .entry))) ⌝ }

@@ -35,6 +35,7 @@ pub mod Soundness
 pub mod Valid
 pub mod Answering
 pub mod Refusing
+pub mod OnlyRefused
 pub mod RoundTrips
 pub mod ReadPlans
 pub mod Delivered
@@ -44,3 +45,5 @@ pub mod Decimals
 pub mod ListingLength
 pub mod BoundaryCases
 pub mod Gating
+pub mod GateDemands
+pub mod GateTables

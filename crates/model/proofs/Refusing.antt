@@ -1,5 +1,4 @@
--- When each call refuses, and with what. Beside Answering.antt these are all the cases there are: each refusal comes under exactly its
--- condition, in the order "10, then 11, then 9", and "9 comes only if a table is shorter".
+-- When each call refuses, and with what, in the order "10, then 11, then 9". That it refuses only then: OnlyRefused.antt.
 use mathlib.Core.Path.{_≡_}
 use mathlib.Core.Bool.{Bool, true, false, _&&_}
 use mathlib.Core.Logic.{_⊎_, ⊎-elim}
