@@ -2,15 +2,16 @@
 use mathlib.Core.List.{List}
 use Prim.Native.Nat.{ℕ, _+_, _<_, _≤_}
 use lib.ListN.{length, getD}
+use Rattle.model.specs.File.{maxStates, maxCommands, maxOutcomes}
 use Rattle.model.specs.Places.{firstOutcome}
 use Rattle.tables.specs.declared.Row.{Row}
 use Rattle.tables.specs.declared.Size.{Size}
 use Rattle.tables.specs.Meaning.{held}
 
 pub record Ready (size : Size) (firsts outcomes : List ℕ) : Type 0 where
-  pub few : size .n ≤ 1024
-  pub few-commands : size .m ≤ 4096
-  pub few-outcomes : size .t ≤ 16384
+  pub few : size .n ≤ maxStates
+  pub few-commands : size .m ≤ maxCommands
+  pub few-outcomes : size .t ≤ maxOutcomes
   pub long-firsts : size .m ≤ length firsts
   pub long-outcomes : size .t ≤ length outcomes
   pub rises : (R : List Row) (c : ℕ) → c < size .m

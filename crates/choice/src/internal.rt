@@ -18,6 +18,7 @@ ghost use Rattle.tables.specs.Meaning.{held, spanAt};
 ghost use Rattle.choice.specs.Within.{within, clear};
 ghost use Rattle.choice.specs.Ready.{Ready};
 use tables::Size;
+use tables::internal::NONE;
 use tables::internal::Span;
 use tables::internal::at;
 use tables::internal::first_outcome;
@@ -98,7 +99,7 @@ fn lowest_clear(
         }
         left -= 1;
     }
-    65535
+    NONE
 }
 
 // The first command tried, the practice and then the lowest first, that has no outcome in the set, or the entry FFFF. What was read of the

@@ -18,9 +18,9 @@ use Rattle.model.proofs.Answers.{then-assoc}
 use Rattle.model.proofs.Answering.{deciding-iff}
 use Rattle.model.proofs.Delivered.{of-tables}
 use Rattle.tables.specs.declared.Refusal.{Refusal}
-use Rattle.tables.specs.declared.internal.Gate.{Gate}
-use Rattle.tables.specs.declared.internal.Gate.the-variants.{Open, Shut}
-use Rattle.tables.specs.Meaning.{refusalOf, gateOf}
+use Rattle.tables.specs.declared.internal.Admission.{Admission}
+use Rattle.tables.specs.declared.internal.Admission.the-variants.{Granted, Denied}
+use Rattle.tables.specs.Meaning.{refusalOf, admissionOf}
 use Rattle.decide.specs.declared.Decision.{Decision}
 use Rattle.decide.specs.Calls.{enough, admitted, refusal, decided, decisionOf, NumberOnly, Demands, Worked}
 
@@ -56,17 +56,17 @@ module _ (T : Tables) (rs cs ms ss : List ℕ) where
   unfolding left answer
   refused-with w e d p = rw (e, p) (refl, (refl, (refl, (refl, (refl, ((λ _. (refl, refl)), λ g. absurd (let z : _≡_ {A = ℕ} 0 1 = cc in omega arith)))))))
 
-  -- the gate g, for which it was asked whether the plan is sound
-  module _ (t : Bool) (tested : t ≡ sound T) (g : Gate) (h : gateOf g ≡ admitted t (T .size .n) (length rs) (length cs) (length ms) (length ss)) where
-    answers : deciding T (length rs) (length cs) (length ms) (length ss) ≡ (gateOf g >> given (planIn T))
+  -- the admission g, for which it was asked whether the plan is sound
+  module _ (t : Bool) (tested : t ≡ sound T) (g : Admission) (h : admissionOf g ≡ admitted t (T .size .n) (length rs) (length cs) (length ms) (length ss)) where
+    answers : deciding T (length rs) (length cs) (length ms) (length ss) ≡ (admissionOf g >> given (planIn T))
     unfolding deciding admitted enough
     answers = rw (h, ← tested) (sym (then-assoc (need Unsound t) _ _))
 
-    pub refuses : (w : Refusal) → g ≡ Shut w → (d : Decision) → d ≡ refusal w → Clauses d rs cs ms ss
+    pub refuses : (w : Refusal) → g ≡ Denied w → (d : Decision) → d ≡ refusal w → Clauses d rs cs ms ss
     unfolding _>>_
     refuses w q = refused-with w (answers ∙ rw q)
 
-    module _ (q : g ≡ Open) where
+    module _ (q : g ≡ Granted) where
       answered : deciding T (length rs) (length cs) (length ms) (length ss) ≡ given (planIn T)
       unfolding _>>_
       answered = answers ∙ rw q

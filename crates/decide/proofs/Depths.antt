@@ -35,7 +35,7 @@ use Rattle.tables.specs.Meaning.{held, spanAt}
 use Rattle.choice.specs.Within.{within}
 use Rattle.index.specs.Commands.{commandsOf}
 use Rattle.propagate.specs.Net.{netOf, losing, depth, seeds, Seeded}
-use Rattle.decide.specs.Nets.{seedOf, Laid}
+use Rattle.decide.specs.Nets.{seedOf, Initialized}
 use Rattle.decide.proofs.NetSteps.{losing-all, losing-practice}
 
 zero-test : (b : Bool) → eqb (cond b 0 FFFF) 0 ≡ b
@@ -56,10 +56,10 @@ module _ (size : Size) (rows : List Row) (firsts outcomes : List ℕ) (sounds : 
   few : size .n ≤ 1024
   few = sound-facts T .0 sounds .size .few
 
-  module _ {alone : Bool} {r₀ w₀ e₀ r w e : List ℕ} (v : Laid T alone (size .n) r₀ w₀ e₀ r w e) (long : size .n ≤ length r₀) where
-    pub laid-seeded : Seeded (size .n) r
+  module _ {alone : Bool} {r₀ w₀ e₀ r w e : List ℕ} (v : Initialized T alone (size .n) r₀ w₀ e₀ r w e) (long : size .n ≤ length r₀) where
+    pub initialized-seeded : Seeded (size .n) r
     unfolding seedOf
-    laid-seeded = record { seeded = λ s l. rw (v .seeded .low s l) (zero-or-none (eqb (spanAt T s .kind) 1)) }
+    initialized-seeded = record { seeded = λ s l. rw (v .seeded .low s l) (zero-or-none (eqb (spanAt T s .kind) 1)) }
 
     seeds-are : Agree (size .n) (seeds r) (failing P)
     unfolding seedOf failing

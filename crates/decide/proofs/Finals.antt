@@ -26,7 +26,7 @@ use Rattle.tables.specs.declared.Size.{Size}
 use Rattle.tables.specs.Meaning.{held}
 use Rattle.index.specs.Commands.{commandsOf}
 use Rattle.propagate.specs.Net.{netOf, depth, seeds}
-use Rattle.decide.specs.Nets.{Laid}
+use Rattle.decide.specs.Nets.{Initialized}
 use Rattle.decide.specs.Verdicts.{numbered, oneIf, markOf, markAt, tallyTo, Judging}
 use Rattle.decide.specs.Calls.{Worked}
 use Rattle.decide.proofs.PlanHits.{choice-agree, risks-agree}
@@ -57,9 +57,9 @@ module _ (T : Tables) (sounds : sound T ≡ true) (L F : ℕ → Bool) (losts : 
 module _ (size : Size) (rows : List Row) (firsts outcomes : List ℕ) (sounds : sound (held size rows firsts outcomes) ≡ true) where
   pub worked : {rs cs ms ss w r₁ w₁ c₁ r₂ w₂ m₁ w₃ c₂ m₂ c₃ m₃ s₁ s₂ s₃ : List ℕ} {t : List (List ℕ)}
       → size .n ≤ length rs → size .n ≤ length cs → size .n ≤ length ms → size .n ≤ length ss
-      → Laid (held size rows firsts outcomes) false (size .n) rs w cs r₁ w₁ c₁
+      → Initialized (held size rows firsts outcomes) false (size .n) rs w cs r₁ w₁ c₁
       → r₂ ≡ overwrite (tabulate (λ (s : ℕ). entry (depth (netOf (commandsOf size firsts outcomes) w₁ c₁) (seeds r₁) s)) 0 (size .n)) r₁
-      → Laid (held size rows firsts outcomes) true (size .n) ms w₂ c₁ m₁ w₃ c₂
+      → Initialized (held size rows firsts outcomes) true (size .n) ms w₂ c₁ m₁ w₃ c₂
       → m₂ ≡ overwrite (tabulate (λ (s : ℕ). entry (depth (netOf (commandsOf size firsts outcomes) w₃ c₂) (seeds m₁) s)) 0 (size .n)) m₁
       → Judging (planIn (held size rows firsts outcomes)) (numbered r₂) (size .n) c₂ m₂ t c₃ m₃
       → Filled (size .n) (λ i. getD s₁ i 0) ss s₁ → Filled (size .n) (λ i. getD s₂ i 0) s₁ s₂ → Filled (size .n) (λ _. 0) s₂ s₃

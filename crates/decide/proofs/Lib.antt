@@ -1,6 +1,6 @@
 pub mod RowReads
 pub mod PlanHits
-pub mod Laying
+pub mod Initializing
 pub mod NetSteps
 pub mod Depths
 pub mod StateVerdicts

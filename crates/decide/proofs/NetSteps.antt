@@ -29,7 +29,7 @@ use Rattle.tables.specs.declared.Size.{Size}
 use Rattle.tables.specs.Meaning.{held, spanAt}
 use Rattle.index.specs.Commands.{commandsOf}
 use Rattle.propagate.specs.Net.{netOf, from, to, losing}
-use Rattle.propagate.specs.Net.{hits as hitsIn}
+use Rattle.propagate.specs.Net.{commandHits}
 use Rattle.decide.specs.Nets.{practised, practiceRange, rangeOf}
 use Rattle.decide.proofs.PlanHits.{hits-agree, hits-place}
 
@@ -54,12 +54,12 @@ module _ (size : Size) (rows : List Row) (firsts outcomes watch ends : List ℕ)
   P = planIn T
 
   -- an outcome in A at a place is an outcome in B of the command
-  hit-is : (c : ℕ) → c < P .commands s → hitsIn (commandsOf size firsts outcomes) A (firstCommand T s + c) ≡ hits P B s c
+  hit-is : (c : ℕ) → c < P .commands s → commandHits (commandsOf size firsts outcomes) A (firstCommand T s + c) ≡ hits P B s c
   hit-is c m = hits-place size rows firsts outcomes A s c l m ∙ hits-agree T sounds A B same s l c m
 
   -- of a net whose range at s is known
   losing-words : (a b : ℕ) → getD watch s 0 ≡ a → getD ends s 0 ≡ b
-      → losing (netOf (commandsOf size firsts outcomes) watch ends) A s ≡ (ltb a b && every (λ i. hitsIn (commandsOf size firsts outcomes) A (a + i)) (b - a))
+      → losing (netOf (commandsOf size firsts outcomes) watch ends) A s ≡ (ltb a b && every (λ i. commandHits (commandsOf size firsts outcomes) A (a + i)) (b - a))
   unfolding losing from to
   losing-words a b p q = rw (p, q)
 

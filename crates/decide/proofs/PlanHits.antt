@@ -25,7 +25,7 @@ use Rattle.tables.specs.declared.Row.{Row}
 use Rattle.tables.specs.declared.Size.{Size}
 use Rattle.tables.specs.Meaning.{held}
 use Rattle.index.specs.Commands.{commandsOf}
-use Rattle.propagate.specs.Net.{hits as hitsIn}
+use Rattle.propagate.specs.Net.{commandHits}
 use Rattle.propagate.proofs.CommandHits.{same-outcomes}
 
 module _ (T : Tables) (sounds : sound T ≡ true) (A B : ℕ → Bool) (same : Agree (T .size .n) A B) (s : ℕ) (l : s < T .size .n) where
@@ -45,7 +45,7 @@ module _ (T : Tables) (sounds : sound T ≡ true) (A B : ℕ → Bool) (same : A
 module _ (size : Size) (rows : List Row) (firsts outcomes : List ℕ) where
   -- a state's command, by its place
   pub hits-place : (A : ℕ → Bool) (s c : ℕ) → s < size .n → c < planIn (held size rows firsts outcomes) .commands s
-      → hitsIn (commandsOf size firsts outcomes) A (firstCommand (held size rows firsts outcomes) s + c) ≡ hits (planIn (held size rows firsts outcomes)) A s c
-  unfolding hitsIn
+      → commandHits (commandsOf size firsts outcomes) A (firstCommand (held size rows firsts outcomes) s + c) ≡ hits (planIn (held size rows firsts outcomes)) A s c
+  unfolding commandHits
   hits-place A s c l m =
       ap (any A) (same-outcomes size rows firsts outcomes _) ∙ sym (hits-held (held size rows firsts outcomes) A s l c (rw (commands-held (held size rows firsts outcomes) s l) at m))

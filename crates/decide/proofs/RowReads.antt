@@ -1,5 +1,5 @@
 -- Made by tools/rows.
 pub mod Decide
-pub mod NetsLayOut
+pub mod NetsInitialize
 pub mod VerdictsJudgeAll
 pub mod WorkingWorkOut

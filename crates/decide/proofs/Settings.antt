@@ -23,9 +23,9 @@ use Rattle.index.proofs.Starts.{start-in, start-out}
 use Rattle.propagate.specs.Net.{netOf, from, to, Seeded, Ranges, Indexed, Owns}
 use Rattle.propagate.proofs.CommandHits.{same-starts}
 use Rattle.propagate.proofs.Indexes.{own-ranges}
-use Rattle.decide.specs.Nets.{rangeOf, Spans, Laid}
-use Rattle.decide.proofs.Laying.{range-inside}
-use Rattle.decide.proofs.Depths.{laid-seeded}
+use Rattle.decide.specs.Nets.{rangeOf, Spans, Initialized}
+use Rattle.decide.proofs.Initializing.{range-inside}
+use Rattle.decide.proofs.Depths.{initialized-seeded}
 
 -- past the last state, where the last commands end
 first-past : (T : Tables) (s : ℕ) → T .size .n ≤ s → firstCommand T s ≡ T .size .m
@@ -74,14 +74,14 @@ module _ (size : Size) (rows : List Row) (firsts outcomes : List ℕ) where
         let r = range-inside (spanAt T s) (i .0) alone in
         rw (← add-one s) (r .0, r .2, i .1)
 
-    laid-ranges : {alone : Bool} {r₀ w₀ e₀ r w e : List ℕ} → Laid T alone (size .n) r₀ w₀ e₀ r w e → size .n ≤ length e₀ → Ranges (commandsOf size firsts outcomes) e
-    laid-ranges {alone} v h = record {
+    initialized-ranges : {alone : Bool} {r₀ w₀ e₀ r w e : List ℕ} → Initialized T alone (size .n) r₀ w₀ e₀ r w e → size .n ≤ length e₀ → Ranges (commandsOf size firsts outcomes) e
+    initialized-ranges {alone} v h = record {
       long = omega (arith, v .stops .same);
       inside = λ s l. omega (arith, v .stops .low s l, own-inside alone s l);
     }
 
     -- the layout of all commands, by which the index is made
-    module _ {r₀ w₀ e₀ r starts e : List ℕ} (v : Laid T false (size .n) r₀ w₀ e₀ r starts e) where
+    module _ {r₀ w₀ e₀ r starts e : List ℕ} (v : Initialized T false (size .n) r₀ w₀ e₀ r starts e) where
       starts-are : (s : ℕ) → startOf starts (size .n) (size .m) s ≡ firstCommand T s
       unfolding rangeOf
       starts-are s = go (decLt s (size .n))
@@ -90,21 +90,21 @@ module _ (size : Size) (rows : List Row) (firsts outcomes : List ℕ) where
           go (yes l) = start-in starts (size .n) (size .m) s l ∙ v .begins .low s l
           go (no l) = start-out starts (size .n) (size .m) s (omega arith) ∙ sym (first-past T s (omega arith))
 
-      pub laid-parts : Parts starts (size .n) (size .m)
-      laid-parts =
+      pub initialized-parts : Parts starts (size .n) (size .m)
+      initialized-parts =
           let f = sound-facts T .0 sounds in
           record { zero = starts-are 0 ∙ f .commands-start; rises = λ s l. rw (starts-are s, starts-are (suc s)) (f .rows s l .rises) }
 
-      laid-owns : (owner : List ℕ) → Owned starts (size .n) (size .m) owner → {alone : Bool} {u₀ x₀ y₀ u x y : List ℕ} → Laid T alone (size .n) u₀ x₀ y₀ u x y
+      initialized-owns : (owner : List ℕ) → Owned starts (size .n) (size .m) owner → {alone : Bool} {u₀ x₀ y₀ u x y : List ℕ} → Initialized T alone (size .n) u₀ x₀ y₀ u x y
           → Owns (netOf (commandsOf size firsts outcomes) x y) owner
       unfolding from to
-      laid-owns owner o {alone} {u₀} {x₀} {y₀} {u} {x} {y} w = own-ranges (netOf (commandsOf size firsts outcomes) x y) starts owner o (λ s c l p q.
+      initialized-owns owner o {alone} {u₀} {x₀} {y₀} {u} {x} {y} w = own-ranges (netOf (commandsOf size firsts outcomes) x y) starts owner o (λ s c l p q.
           let i = own-inside alone s l in
           rw (starts-are s, starts-are (suc s)) (omega (arith, w .begins .low s l), omega (arith, w .stops .low s l)))
 
       -- all that a propagation asks, with a queue of so many places
       pub propagate-ready : {offsets users owner : List ℕ} → Indexed (commandsOf size firsts outcomes) offsets users owner → Owned starts (size .n) (size .m) owner
-          → {alone : Bool} {u₀ x₀ y₀ u x y : List ℕ} → Laid T alone (size .n) u₀ x₀ y₀ u x y → (places : ℕ)
+          → {alone : Bool} {u₀ x₀ y₀ u x y : List ℕ} → Initialized T alone (size .n) u₀ x₀ y₀ u x y → (places : ℕ)
           → size .n ≤ length u₀ → size .n ≤ length x₀ → size .n ≤ length y₀ → size .n ≤ places
           → Fit (commandsOf size firsts outcomes) × (Ranges (commandsOf size firsts outcomes) y
           × (Indexed (commandsOf size firsts outcomes) offsets users owner × (Owns (netOf (commandsOf size firsts outcomes) x y) owner
@@ -112,12 +112,12 @@ module _ (size : Size) (rows : List Row) (firsts outcomes : List ℕ) where
       propagate-ready {owner = owner} index o w places lu lx ly lq = (
         sound-fit,
         (
-          laid-ranges w ly,
+          initialized-ranges w ly,
           (
             index,
             (
-              laid-owns owner o w,
-              (omega (arith, w .seeded .same), (omega (arith, w .begins .same), (lq, laid-seeded size rows firsts outcomes sounds w lu))),
+              initialized-owns owner o w,
+              (omega (arith, w .seeded .same), (omega (arith, w .begins .same), (lq, initialized-seeded size rows firsts outcomes sounds w lu))),
             ),
           ),
         ),

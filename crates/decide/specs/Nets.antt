@@ -6,6 +6,7 @@ use lib.Dec.{eqb, ltb}
 use lib.ListN.{length}
 use Rattle.laws.specs.Entry.{FFFF}
 use Rattle.laws.specs.Filled.{Filled}
+use Rattle.model.specs.File.{maxStates, maxCommands}
 use Rattle.model.specs.Tables.{Tables}
 use Rattle.tables.specs.declared.Row.{Row}
 use Rattle.tables.specs.declared.Size.{Size}
@@ -33,14 +34,14 @@ seedOf q = cond (eqb (q .kind) 1) 0 FFFF
 
 -- what is asked of the rows: the places of each state's commands are in range
 pub record Spans (size : Size) (rows : List Row) : Type 0 where
-  pub few : size .n ≤ 1024
-  pub few-commands : size .m ≤ 4096
+  pub few : size .n ≤ maxStates
+  pub few-commands : size .m ≤ maxCommands
   pub long : size .n ≤ length rows
   pub inside : (F O : List ℕ) (s : ℕ) → s < size .n
       → (spanAt (held size rows F O) s .first ≤ spanAt (held size rows F O) s .end) × (spanAt (held size rows F O) s .end ≤ size .m)
 
 -- layer 0, and where the commands that count begin and end, of the first n states
-pub record Laid (T : Tables) (alone : Bool) (n : ℕ) (ranks watch ends ranks′ watch′ ends′ : List ℕ) : Type 0 where
+pub record Initialized (T : Tables) (alone : Bool) (n : ℕ) (ranks watch ends ranks′ watch′ ends′ : List ℕ) : Type 0 where
   pub seeded : Filled n (λ s. seedOf (spanAt T s)) ranks ranks′
   pub begins : Filled n (λ s. rangeOf alone (spanAt T s) .from) watch watch′
   pub stops : Filled n (λ s. rangeOf alone (spanAt T s) .to) ends ends′

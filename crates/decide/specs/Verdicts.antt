@@ -1,9 +1,9 @@
 -- The last pass over the states: the command, the mark and the place in the tally of each. The lost states are those of a rank, and the
 -- practice fails from those that the practice's own propagation gives a number.
 use mathlib.Core.Path.{_≡_}
-use mathlib.Core.Bool.{Bool, true, not, cond, _&&_}
+use mathlib.Core.Bool.{Bool, not, cond, _&&_}
 use mathlib.Core.List.{List, [], _∷_}
-use Prim.Native.Nat.{ℕ, _+_, _<_}
+use Prim.Native.Nat.{ℕ, _+_}
 use lib.ListN.{getD, set}
 use Rattle.laws.specs.Sets.{howMany}
 use Rattle.laws.specs.Entry.{entry}

@@ -1,12 +1,12 @@
 // Deciding a whole plan.
 ghost use mathlib.Core.Path.{_≡_};
 ghost use Rattle.model.specs.Calls.{decideCall};
-ghost use Rattle.tables.specs.Meaning.{held, gateOf};
+ghost use Rattle.tables.specs.Meaning.{held, admissionOf};
 ghost use Rattle.decide.specs.Calls.{enough, admitted, refusal, decided, decisionOf, NumberOnly, Demands};
 use tables::Refusal;
 use tables::Row;
 use tables::Size;
-use tables::internal::Gate;
+use tables::internal::Admission;
 
 mod nets;
 mod verdicts;
@@ -49,16 +49,16 @@ fn admit(
     commands: usize,
     marks: usize,
     scratch: usize,
-) -> Gate
-    ensures { λ r. ⌜ gateOf r ≡ admitted sounds n ranks commands marks scratch ⌝ }
+) -> Admission
+    ensures { λ r. ⌜ admissionOf r ≡ admitted sounds n ranks commands marks scratch ⌝ }
 {
     if !sounds {
-        return Gate::Shut(Refusal::Unsound);
+        return Admission::Denied(Refusal::Unsound);
     }
     if !long_enough(n, ranks, commands, marks, scratch) {
-        return Gate::Shut(Refusal::Cramped);
+        return Admission::Denied(Refusal::Cramped);
     }
-    Gate::Open
+    Admission::Granted
 }
 
 fn refuse(r: Refusal) -> Decision
@@ -106,7 +106,7 @@ pub fn decide(
     ensures { λ d. ⌜ Demands (held size (now (rows .entry)) (now (firsts .entry)) (now (outcomes .entry))) (d .answer) (now (ranks .exit)) (now (commands .exit)) ⌝ }
 {
     let sounds = tables::sound(size, rows, firsts, outcomes);
-    let gate = admit(
+    let admission = admit(
         sounds,
         size.n,
         ranks.len(),
@@ -114,9 +114,9 @@ pub fn decide(
         marks.len(),
         scratch.len(),
     );
-    match gate {
-        Gate::Shut(refusal) => refuse(refusal),
-        Gate::Open => {
+    match admission {
+        Admission::Denied(refusal) => refuse(refusal),
+        Admission::Granted => {
             let tally = working::work_out(
                 size,
                 rows,

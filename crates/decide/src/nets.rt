@@ -3,10 +3,12 @@ ghost use mathlib.Core.Path.{_≡_};
 ghost use mathlib.Core.List.{List};
 ghost use Prim.Native.Nat.{ℕ, _<_, _≤_};
 ghost use lib.ListN.{length, set};
+ghost use Rattle.model.specs.File.{maxCommands};
 ghost use Rattle.tables.specs.Meaning.{held};
-ghost use Rattle.decide.specs.Nets.{rangeOf, seedOf, practiceRange, practised, Spans, Laid};
+ghost use Rattle.decide.specs.Nets.{rangeOf, seedOf, practiceRange, practised, Spans, Initialized};
 use tables::Row;
 use tables::Size;
+use tables::internal::NONE;
 use tables::internal::Span;
 use tables::internal::put;
 use tables::internal::span_at;
@@ -27,7 +29,7 @@ pub fn has_practice(span: Span) -> bool
 
 // The practice alone, or an empty range.
 fn practice_range(span: Span) -> Range
-    requires { ⌜ (span .first ≤ span .end) × (span .end ≤ 4096) ⌝ }
+    requires { ⌜ (span .first ≤ span .end) × (span .end ≤ maxCommands) ⌝ }
     ensures { λ r. ⌜ r ≡ practiceRange span ⌝ }
 {
     if !has_practice(span) {
@@ -42,7 +44,7 @@ fn practice_range(span: Span) -> Range
 
 // All commands of the state, or the practice alone.
 fn range_of(span: Span, alone: bool) -> Range
-    requires { ⌜ (span .first ≤ span .end) × (span .end ≤ 4096) ⌝ }
+    requires { ⌜ (span .first ≤ span .end) × (span .end ≤ maxCommands) ⌝ }
     ensures { λ r. ⌜ r ≡ rangeOf alone span ⌝ }
 {
     if alone {
@@ -61,11 +63,11 @@ fn seed_of(span: Span) -> usize
     if span.kind == 1 {
         return 0;
     }
-    65535
+    NONE
 }
 
-// Lays out state s, of which `span` was read.
-fn lay_one(
+// Initializes state s, of which `span` was read.
+fn initialize_state(
     span: Span,
     alone: bool,
     ranks: &mut [u16],
@@ -73,7 +75,7 @@ fn lay_one(
     ends: &mut [u16],
     s: usize,
 )
-    requires { ⌜ (span .first ≤ span .end) × (span .end ≤ 4096) ⌝ }
+    requires { ⌜ (span .first ≤ span .end) × (span .end ≤ maxCommands) ⌝ }
     requires { ⌜ (s < length (now ranks)) × (s < length (now watch)) × (s < length (now ends)) ⌝ }
     ensures { λ _. ⌜ now (ranks .exit) ≡ set (now (ranks .entry)) s (seedOf span) ⌝ }
     ensures { λ _. ⌜ now (watch .exit) ≡ set (now (watch .entry)) s (rangeOf alone span .from) ⌝ }
@@ -85,8 +87,8 @@ fn lay_one(
     put(ends, s, range.to);
 }
 
-// Lays out every state: its rank, and where the commands that count there begin and end.
-pub fn lay_out(
+// Initializes every state: its rank, and where the commands that count there begin and end.
+pub fn initialize(
     size: Size,
     rows: &[Row],
     alone: bool,
@@ -96,12 +98,12 @@ pub fn lay_out(
 )
     requires { ⌜ Spans size (now rows) ⌝ }
     requires { ⌜ (size .n ≤ length (now ranks)) × (size .n ≤ length (now watch)) × (size .n ≤ length (now ends)) ⌝ }
-    ensures { λ _. ⌜ ((F O : List ℕ) → Laid (held size (now (rows .entry)) F O) alone (size .n) (now (ranks .entry)) (now (watch .entry)) (now (ends .entry)) (now (ranks .exit)) (now (watch .exit)) (now (ends .exit))) ⌝ }
+    ensures { λ _. ⌜ ((F O : List ℕ) → Initialized (held size (now (rows .entry)) F O) alone (size .n) (now (ranks .entry)) (now (watch .entry)) (now (ends .entry)) (now (ranks .exit)) (now (watch .exit)) (now (ends .exit))) ⌝ }
 {
     let mut s = 0;
     while s < size.n {
         let span = span_at(size, rows, s);
-        lay_one(span, alone, ranks, watch, ends, s);
+        initialize_state(span, alone, ranks, watch, ends, s);
         s += 1;
     }
 }

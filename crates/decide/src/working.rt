@@ -12,7 +12,7 @@ ghost use Rattle.index.specs.Parts.{Parts, Owned};
 ghost use Rattle.index.specs.Commands.{commandsOf, Fit};
 ghost use Rattle.propagate.specs.Net.{netOf, depth, seeds, Seeded, Ranges, Indexed, Owns};
 ghost use Rattle.decide.specs.Calls.{Worked};
-use crate::nets::lay_out;
+use crate::nets::initialize;
 use crate::verdicts::judge_all;
 use index::internal::group;
 use index::internal::own;
@@ -97,7 +97,7 @@ pub fn work_out(
     let mut users = [0u16; Size::OUTCOMES];
     let mut offsets = [0u16; Size::STATES];
     let mut watch = [0u16; Size::STATES];
-    lay_out(size, rows, false, ranks, &mut watch, commands);
+    initialize(size, rows, false, ranks, &mut watch, commands);
     index_all(
         size,
         &watch,
@@ -119,7 +119,7 @@ pub fn work_out(
         &mut watch,
         scratch,
     );
-    lay_out(size, rows, true, marks, &mut watch, commands);
+    initialize(size, rows, true, marks, &mut watch, commands);
     propagate_in(
         size,
         commands,

@@ -1,6 +1,5 @@
 -- Deciding on tables of the limit's length, delivered, is the call on the plan that they hold.
 use mathlib.Core.Path.{_≡_, refl, sym, ap, _∙_}
-use mathlib.Core.Bool.{true}
 use mathlib.Core.List.{List}
 use Prim.Native.Nat.{ℕ, _≤_}
 use native.Mathlib.Omega.{arith}
@@ -12,7 +11,6 @@ use Rattle.model.specs.Policy.{tally}
 use Rattle.model.specs.Refusal.{Cramped, Unsound, Answer, given, answer, need, _>>=_, _>>_}
 use Rattle.model.specs.Tables.{Tables}
 use Rattle.model.specs.SoundTest.{sound}
-use Rattle.model.specs.Held.{planIn}
 use Rattle.model.specs.Calls.{left, deciding, rankTable, commandTable, markTable, cleared}
 use Rattle.model.specs.Boundary.{bytesFor, tallyEntries, code, gateDecide}
 use Rattle.model.proofs.Answers.{given-inj, need-inv, answer-inv}

@@ -4,22 +4,18 @@ use mathlib.Core.Bool.{Bool, true}
 use mathlib.Core.List.{List}
 use Prim.Native.Nat.{ℕ, _<_, _≤_}
 use native.Mathlib.Omega.{arith}
-use lib.Dec.{leb, ltb}
+use lib.Dec.{ltb}
 use lib.ListN.{length, take, length-take, length-replicate}
 use borrow.Author.Tests.{ltb-true}
-use Rattle.laws.specs.Lists.{overwrite}
-use Rattle.laws.specs.Entry.{entry}
 use Rattle.laws.proofs.Lists.{length-tabulate, take-overwritten}
-use Rattle.model.specs.Plan.{Plan}
 use Rattle.model.specs.Search.{Result, search}
-use Rattle.model.specs.Refusal.{Cramped, Unsound, Stranger, Answer, given, refused, answer, need, _>>=_, _>>_}
+use Rattle.model.specs.Refusal.{Cramped, Unsound, Stranger, Answer, given, answer, _>>=_, _>>_}
 use Rattle.model.specs.Tables.{Tables}
 use Rattle.model.specs.SoundTest.{sound}
 use Rattle.model.specs.Held.{treeOf, planIn}
 use Rattle.model.specs.Calls.{left, searching, resultTable, cleared}
 use Rattle.model.specs.Boundary.{bytesFor, resultEntries, code, gateSearch}
 use Rattle.model.proofs.Answers.{given-inj, need-inv, answer-inv}
-use Rattle.model.proofs.SoundFacts.{sound-facts}
 use Rattle.model.proofs.HeldPlan.{states-held}
 use Rattle.model.proofs.GoodTables.{sound-good}
 use Rattle.model.proofs.Valid.{sound-valid, few-states, few-commands}

@@ -13,6 +13,7 @@ use search::SearchAnswer;
 use store::internal::store;
 use store::internal::store_entry;
 use tables::Refusal;
+use tables::internal::narrow;
 use tables::number;
 
 // Whether slices of so many bytes have room for the entries of n states and for the answer's two.
@@ -35,13 +36,6 @@ fn flag(lost: bool) -> u16
         return 1;
     }
     0
-}
-
-fn narrow(x: usize) -> u16
-    requires { ⌜ x < 65536 ⌝ }
-    ensures { λ r. ⌜ r ≡ x ⌝ }
-{
-    x as u16
 }
 
 // The verdict, then the rounds.

@@ -8,12 +8,7 @@ use load::internal::PlanAnswer;
 use load::internal::load_plan;
 use tables::Row;
 use tables::Size;
-
-fn wide(x: u16) -> usize
-    ensures { λ r. ⌜ r ≡ x ⌝ }
-{
-    x as usize
-}
+use tables::internal::wide;
 
 // The call, on a plan that was read into tables.
 pub fn search_loaded(

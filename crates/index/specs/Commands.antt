@@ -3,6 +3,7 @@ use mathlib.Core.List.{List}
 use Prim.Native.Nat.{ℕ, suc, _≤_, _<_}
 use lib.ListN.{length, getD}
 use lib.Seq.{slice}
+use Rattle.model.specs.File.{maxStates, maxCommands, maxOutcomes}
 use Rattle.tables.specs.declared.Size.{Size}
 use Rattle.index.specs.Parts.{startOf, Parts}
 
@@ -27,14 +28,14 @@ outcomesOf C c = slice (start C c) (start C (suc c)) (C .outcomes)
 
 -- what is asked of the outcomes: each is one of the n states
 pub record States (n t : ℕ) (outcomes : List ℕ) : Type 0 where
-  pub small : t ≤ 16384
+  pub small : t ≤ maxOutcomes
   pub long : t ≤ length outcomes
   pub inside : (j : ℕ) → j < t → getD outcomes j 0 < n
 
 -- what is asked of the tables
 pub record Fit (C : Commands) : Type 0 where
-  pub n-small : C .n ≤ 1024
-  pub m-small : C .m ≤ 4096
+  pub n-small : C .n ≤ maxStates
+  pub m-small : C .m ≤ maxCommands
   pub firsts-long : C .m ≤ length (C .firsts)
   pub parts : Parts (C .firsts) (C .m) (C .t)
   pub states : States (C .n) (C .t) (C .outcomes)

@@ -2,7 +2,7 @@
 ghost use Prim.Native.Nat.{_≤_};
 ghost use lib.ListN.{length};
 ghost use Rattle.laws.specs.Wrote.{Wrote};
-ghost use Rattle.model.specs.File.{read};
+ghost use Rattle.model.specs.File.{maxStates, maxCommands, maxOutcomes, read};
 ghost use Rattle.model.specs.Listing.{answerText};
 use crate::plan::list_plan;
 use listing_text::internal::put_refusal;
@@ -17,7 +17,7 @@ pub fn list_file(
     outcomes: &mut [u16],
     out: &mut [u8],
 ) -> usize
-    requires { ⌜ (1024 ≤ length (now rows)) × (4096 ≤ length (now firsts)) × (16384 ≤ length (now outcomes)) × (65536 ≤ length (now out)) ⌝ }
+    requires { ⌜ (maxStates ≤ length (now rows)) × (maxCommands ≤ length (now firsts)) × (maxOutcomes ≤ length (now outcomes)) × (65536 ≤ length (now out)) ⌝ }
     ensures { λ r. ⌜ Wrote (now (out .entry)) 0 (answerText (read (now (file .entry)))) (now (out .exit)) r ⌝ }
 {
     let r = reading::read(file, rows, firsts, outcomes);

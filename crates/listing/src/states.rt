@@ -4,6 +4,7 @@ ghost use Prim.Native.Nat.{_+_, _*_, _<_, _≤_};
 ghost use lib.ListN.{length, getD};
 ghost use Rattle.laws.specs.Lists.{tabulate, joined};
 ghost use Rattle.laws.specs.Wrote.{Wrote};
+ghost use Rattle.model.specs.File.{maxStates};
 ghost use Rattle.model.specs.Plan.{Plan};
 ghost use Rattle.model.specs.Listing.{stateLine};
 ghost use Rattle.listing_text.specs.Listed.{Listed};
@@ -22,7 +23,7 @@ fn put_state(
     out: &mut [u8],
     place: usize,
 ) -> usize
-    requires { ⌜ (s < 1024) × (s < length (now ranks)) × (s < length (now commands)) × (s < length (now marks)) × (place + 29 ≤ length (now out)) ⌝ }
+    requires { ⌜ (s < maxStates) × (s < length (now ranks)) × (s < length (now commands)) × (s < length (now marks)) × (place + 29 ≤ length (now out)) ⌝ }
     ensures wrote { λ r. ⌜ ((P : Plan) → Listed P s (row .kind) (getD (now (ranks .entry)) s 0) (getD (now (commands .entry)) s 0) (getD (now (marks .entry)) s 0) → Wrote (now (out .entry)) place (stateLine P s) (now (out .exit)) r) ⌝ }
     ensures ends { λ r. ⌜ r ≤ place + 29 ⌝ }
     ensures same { λ _. ⌜ length (now (out .exit)) ≡ length (now (out .entry)) ⌝ }
@@ -40,7 +41,7 @@ pub fn list_states(
     out: &mut [u8],
     place: usize,
 ) -> usize
-    requires { ⌜ (n ≤ 1024) × (n ≤ length (now rows)) × (n ≤ length (now ranks)) × (n ≤ length (now commands)) × (n ≤ length (now marks)) × (place + n * 29 ≤ length (now out)) ⌝ }
+    requires { ⌜ (n ≤ maxStates) × (n ≤ length (now rows)) × (n ≤ length (now ranks)) × (n ≤ length (now commands)) × (n ≤ length (now marks)) × (place + n * 29 ≤ length (now out)) ⌝ }
     ensures { λ r. ⌜ ((P : Plan) → Told P n (now (rows .entry)) (now (ranks .entry)) (now (commands .entry)) (now (marks .entry)) → Wrote (now (out .entry)) place (joined (tabulate (stateLine P) 0 n)) (now (out .exit)) r) ⌝ }
 {
     let mut next = place;

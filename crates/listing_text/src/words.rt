@@ -1,5 +1,4 @@
 // Words with a space before each.
-ghost use mathlib.Core.Path.{_≡_};
 ghost use mathlib.Core.List.{[], _∷_};
 ghost use Prim.Native.Nat.{_+_, _%_, _<_, _≤_};
 ghost use lib.Dec.{eqb, leb};
@@ -15,6 +14,7 @@ use crate::digits::put_decimal;
 use crate::letters::fault_sign;
 use crate::letters::policy_letter;
 use crate::letters::verdict_letter;
+use tables::internal::wide;
 
 const SPACE: u8 = 32;
 
@@ -46,12 +46,6 @@ pub fn put_three(out: &mut [u8], place: usize, x: usize, y: usize, z: usize) -> 
     let second = put_number(out, place, x);
     let third = put_number(out, second, y);
     put_number(out, third, z)
-}
-
-fn wide(x: u16) -> usize
-    ensures { λ r. ⌜ (r ≡ x) × (r < 65536) ⌝ }
-{
-    x as usize
 }
 
 // A row of the tally.

@@ -1,14 +1,12 @@
 -- What the callers of `load_plan` learn: a plan that is refused is unsound, and the tables read agree with those lent.
 use mathlib.Core.Path.{_≡_, refl, sym, ap, _∙_}
-use mathlib.Core.Bool.{Bool, true, false, _&&_}
+use mathlib.Core.Bool.{true, false, _&&_}
 use mathlib.Core.List.{List}
 use mathlib.Core.Logic.{⊎-elim}
 use Prim.Native.Nat.{ℕ, _≤_}
 use native.Mathlib.Omega.{arith}
 use lib.ListN.{length, take}
 use lib.Seq.{length-take-le}
-use borrow.Author.Tests.{le-leb}
-use Rattle.laws.specs.Lists.{overwrite}
 use Rattle.laws.proofs.Lists.{take-overwritten}
 use Rattle.laws.proofs.Tests.{refute, clash, true-or-false}
 use Rattle.laws.proofs.TestFacts.{and-iff, leb-iff}

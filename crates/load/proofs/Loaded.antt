@@ -1,5 +1,5 @@
 -- What a plan answer says of the lent plan, and what is left in the tables by it.
-use mathlib.Core.Path.{_≡_, refl, sym, ap, _∙_}
+use mathlib.Core.Path.{_≡_, sym, ap, _∙_}
 use mathlib.Core.Bool.{true, _&&_}
 use mathlib.Core.List.{List}
 use Prim.Native.Nat.{ℕ, _*_, _≤_}
@@ -8,7 +8,7 @@ use lib.Dec.{leb}
 use lib.ListN.{length}
 use Rattle.laws.specs.Lists.{overwrite}
 use Rattle.laws.proofs.TestFacts.{and-iff, leb-iff}
-use Rattle.model.specs.Refusal.{Refusal as Word, Unsound, Answer, given, refused, answer, need, _>>=_, _>>_}
+use Rattle.model.specs.Refusal.{Refusal as Word, Unsound, given, refused, answer, _>>=_, _>>_}
 use Rattle.model.specs.Tables.{Size as Numbers, Tables}
 use Rattle.model.specs.SoundTest.{tablesLong}
 use Rattle.model.specs.Calls.{left}

@@ -1,18 +1,15 @@
 -- What is asked of a lent plan before its tables are read, and what is known of one that passes.
-use mathlib.Core.Path.{_≡_, refl, sym, ap, _∙_}
+use mathlib.Core.Path.{_≡_, _∙_}
 use mathlib.Core.Bool.{true, false, _&&_}
 use mathlib.Core.List.{List}
-use Prim.Native.Nat.{ℕ, _*_, _<_, _≤_}
-use native.Mathlib.Omega.{arith}
+use Prim.Native.Nat.{ℕ, _<_, _≤_}
 use lib.ListN.{length}
 use borrow.Author.Tests.{le-leb, lt-leb}
-use Rattle.laws.proofs.Tests.{and-join, and-false-left, and-false-right}
-use Rattle.laws.proofs.TestFacts.{and-iff, leb-iff}
-use Rattle.model.specs.Refusal.{Unsound, Answer, given, refused, answer, need, _>>=_, _>>_}
+use Rattle.laws.proofs.Tests.{and-false-left, and-false-right}
+use Rattle.model.specs.Refusal.{Unsound, given, refused, answer, need, _>>=_, _>>_}
 use Rattle.model.specs.Tables.{Size as Numbers, Tables}
 use Rattle.model.specs.SoundTest.{tablesLong}
 use Rattle.model.specs.Boundary.{tablesIn, entriesIn, rowsIn}
-use Rattle.model.proofs.Answers.{given-inj, need-iff}
 use Rattle.model.proofs.Lent.{length-entries-in, length-rows-in}
 use Rattle.tables.specs.declared.Size.{Size}
 use Rattle.tables.specs.Meaning.{numbers}

@@ -5,6 +5,7 @@ ghost use lib.ListN.{length, take};
 ghost use Rattle.laws.specs.Lists.{overwrite};
 ghost use Rattle.laws.specs.Entry.{be16};
 ghost use Rattle.model.specs.Refusal.{answer};
+ghost use Rattle.model.specs.File.{maxStates, maxCommands, maxOutcomes};
 ghost use Rattle.model.specs.Tables.{Tables};
 ghost use Rattle.model.specs.Calls.{left};
 ghost use Rattle.model.specs.Boundary.{entriesIn, rowsIn};
@@ -13,24 +14,14 @@ ghost use Rattle.load.specs.Loading.{sizeIn, rowIn, few, longIn, loading
 use tables::Refusal;
 use tables::Row;
 use tables::Size;
+use tables::internal::join;
 use tables::internal::put_row;
+use tables::internal::wide;
 
 // The size record, or what the plan is refused with.
 pub enum PlanAnswer {
     Given(Size),
     Refused(Refusal),
-}
-
-fn join(high: u8, low: u8) -> u16
-    ensures { λ r. ⌜ r ≡ high * 256 + low ⌝ }
-{
-    (high as u16) * 256 + (low as u16)
-}
-
-fn wide(x: u16) -> usize
-    ensures { λ r. ⌜ r ≡ x ⌝ }
-{
-    x as usize
 }
 
 // The entry at place i.
@@ -143,7 +134,7 @@ pub fn load_plan(
     commands: &mut [u16],
     entries: &mut [u16],
 ) -> PlanAnswer
-    requires { ⌜ (1024 ≤ length (now states)) × (4096 ≤ length (now commands)) × (16384 ≤ length (now entries)) ⌝ }
+    requires { ⌜ (maxStates ≤ length (now states)) × (maxCommands ≤ length (now commands)) × (maxOutcomes ≤ length (now entries)) ⌝ }
     ensures answered { λ r. ⌜ planOf r ≡ answer (λ (T : Tables). T .size) (loading (now (size .entry)) (now (rows .entry)) (now (firsts .entry)) (now (outcomes .entry))) ⌝ }
     ensures rows { λ _. ⌜ rowsOf (now (states .exit)) ≡ left (λ (T : Tables). take (T .size .n) (T .rows)) (loading (now (size .entry)) (now (rows .entry)) (now (firsts .entry)) (now (outcomes .entry))) (rowsOf (now (states .entry))) ⌝ }
     ensures firsts { λ _. ⌜ now (commands .exit) ≡ left (λ (T : Tables). take (T .size .m) (T .firsts)) (loading (now (size .entry)) (now (rows .entry)) (now (firsts .entry)) (now (outcomes .entry))) (now (commands .entry)) ⌝ }

@@ -1,8 +1,7 @@
 -- Demand 3 over the bytes that the C program's calls leave: entries that were written are read as they were, so it is the claim of the tables.
-use mathlib.Core.Path.{_≡_, refl, sym, ap, ap₂, subst, _∙_}
+use mathlib.Core.Path.{_≡_, refl, sym, ap, ap₂, _∙_}
 use mathlib.Core.Bool.{Bool, true, false, cond}
 use mathlib.Core.List.{List, [], _∷_, _++_}
-use mathlib.Core.Logic.{_⊎_, inl, inr}
 use Prim.Native.Nat.{ℕ, zero, suc, _+_, _-_, _*_, _/_, _%_, _≤_}
 use native.Mathlib.Nat.{zero-add}
 use native.Mathlib.Omega.{arith}
@@ -11,14 +10,14 @@ use lib.ListN.{length, drop, length-append, length-drop}
 use lib.Seq.{drop-drop}
 use borrow.Author.Tests.{leb-true}
 use Rattle.laws.specs.Lists.{tabulate, overwrite}
-use Rattle.laws.specs.Entry.{be16, two, twos, entry}
+use Rattle.laws.specs.Entry.{be16, twos, entry}
 use Rattle.laws.proofs.Entry.{be16-two, length-twos}
 use Rattle.laws.proofs.Lists.{length-tabulate}
 use Rattle.model.specs.Plan.{Plan}
 use Rattle.model.specs.Verdict.{rank}
 use Rattle.model.specs.Command.{chosen}
 use Rattle.model.specs.Search.{Result, search}
-use Rattle.model.specs.Refusal.{Refusal, Cut, Surplus, Tag, Length, Beyond, Unsorted, Idle, Limit, Cramped, Unsound, Stranger, Answer, given, refused, number, need, _>>=_, _>>_}
+use Rattle.model.specs.Refusal.{Refusal, Cut, Surplus, Tag, Length, Beyond, Unsorted, Idle, Limit, Cramped, Unsound, Stranger, Answer, given, refused, number, _>>=_, _>>_}
 use Rattle.model.specs.Tables.{Tables}
 use Rattle.model.specs.File.{entries}
 use Rattle.model.specs.Held.{planIn}

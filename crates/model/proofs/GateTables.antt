@@ -5,17 +5,17 @@ use mathlib.Core.List.{List, [], _∷_, _++_}
 use Prim.Native.Nat.{ℕ, zero, suc, _+_, _*_, _/_, _≤_}
 use native.Mathlib.Omega.{arith}
 use lib.Dec.{leb}
-use lib.ListN.{length, drop, length-append, length-drop}
+use lib.ListN.{length, drop, length-append}
 use borrow.Author.Tests.{le-leb, leb-true}
 use Rattle.laws.specs.Lists.{overwrite}
-use Rattle.laws.specs.Entry.{be16, two, twos}
+use Rattle.laws.specs.Entry.{be16, twos}
 use Rattle.laws.proofs.Entry.{be16-two, length-twos}
 use Rattle.laws.proofs.Parts.{length-heads}
 use Rattle.model.specs.Refusal.{Cramped, Answer, given, need, _>>=_, _>>_}
 use Rattle.model.specs.File.{Tree, read}
 use Rattle.model.specs.Tables.{Size, Row, Tables, Same, allCommands, tablesOf}
 use Rattle.model.specs.Calls.{left, reading}
-use Rattle.model.specs.Boundary.{entriesIn, bytesFor, rowsIn, rowEntries, sizeEntries, code, tablesIn, gateRead, gateReadCall}
+use Rattle.model.specs.Boundary.{entriesIn, bytesFor, rowsIn, rowEntries, sizeEntries, tablesIn, gateRead, gateReadCall}
 use Rattle.model.proofs.Answers.{bind-inv, need-inv}
 use Rattle.model.proofs.Answering.{reading-iff}
 use Rattle.model.proofs.Layouts.{by-state, by-command}

@@ -3,17 +3,16 @@
 use mathlib.Core.Path.{_≡_, refl, ap}
 use mathlib.Core.Bool.{Bool, true, false, _&&_}
 use mathlib.Core.List.{List}
-use Prim.Native.Nat.{ℕ, _/_, _≤_}
+use Prim.Native.Nat.{ℕ, _/_}
 use lib.Dec.{leb, ltb}
 use borrow.Author.Tests.{le-leb}
 use Rattle.laws.specs.Lists.{overwrite}
 use Rattle.model.specs.Plan.{Plan}
-use Rattle.model.specs.Search.{Result, search}
+use Rattle.model.specs.Search.{Result}
 use Rattle.model.specs.Refusal.{Refusal, Cramped, Unsound, Stranger, Answer, given, refused, number, answer, need, _>>=_, _>>_}
 use Rattle.model.specs.File.{maxStates}
 use Rattle.model.specs.Tables.{Size, Tables, Same}
 use Rattle.model.specs.SoundTest.{sound}
-use Rattle.model.specs.Held.{planIn}
 use Rattle.model.specs.Calls.{left, deciding, searching}
 use Rattle.model.specs.Boundary.{code, gateDecide, gateSearch}
 use Rattle.model.proofs.SoundFacts.{sound-facts}

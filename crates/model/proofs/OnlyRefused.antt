@@ -5,7 +5,7 @@ use mathlib.Core.Bool.{Bool, true, false, _&&_}
 use mathlib.Core.List.{List}
 use mathlib.Core.Logic.{_⊎_, inl, inr, ⊎-elim}
 use Prim.Native.Nat.{ℕ, _<_, _≤_}
-use lib.Dec.{leb, ltb}
+use lib.Dec.{leb}
 use borrow.Author.Tests.{leb-false, ltb-false, ltb-true}
 use Rattle.model.specs.Refusal.{Refusal, Cramped, Unsound, Stranger, Answer, given, refused, need, _>>=_, _>>_}
 use Rattle.model.specs.File.{Tree, read}

@@ -14,7 +14,7 @@ use Rattle.choice.specs.Within.{within}
 use Rattle.index.specs.Parts.{startOf}
 use Rattle.index.specs.Commands.{commandsOf, outcomesOf, Fit}
 use Rattle.index.proofs.Starts.{start-le}
-use Rattle.propagate.specs.Net.{hits}
+use Rattle.propagate.specs.Net.{commandHits}
 
 module _ (size : Size) (rows : List Row) (firsts outcomes : List ℕ) where
   pub same-starts : (c : ℕ) → startOf firsts (size .m) (size .t) c ≡ firstOutcome (held size rows firsts outcomes) c
@@ -26,8 +26,8 @@ module _ (size : Size) (rows : List Row) (firsts outcomes : List ℕ) where
   same-outcomes c = refl
 
   pub hit-is : (ranks : List ℕ) (k c : ℕ) (t : Bool) → t ≡ any (within ranks k) (outcomesAt (held size rows firsts outcomes) c)
-      → t ≡ hits (commandsOf size firsts outcomes) (within ranks k) c
-  unfolding hits
+      → t ≡ commandHits (commandsOf size firsts outcomes) (within ranks k) c
+  unfolding commandHits
   hit-is ranks k c t e = e ∙ ap (any (within ranks k)) (sym (same-outcomes c))
 
 pub fit-ready : {size : Size} {firsts outcomes : List ℕ} → Fit (commandsOf size firsts outcomes) → Ready size firsts outcomes

@@ -17,15 +17,15 @@ use Rattle.laws.proofs.Sets.{Part, lowest-eq}
 use Rattle.laws.proofs.Grow.{grow-step, still-all}
 use Rattle.laws.proofs.Overwrites.{overwrite-is}
 use Rattle.index.specs.Commands.{Commands, Fit}
-use Rattle.propagate.specs.Net.{Net, netOf, losing, layer, depth, seeds, Ranges, Owns}
-use Rattle.propagate.specs.Work.{Work, work, Line, Ripe, Layered}
+use Rattle.propagate.specs.Net.{Net, netOf, losing, netLayer, depth, seeds, Ranges, Owns}
+use Rattle.propagate.specs.Work.{Work, work, QueueBound, AtLayer, Layered}
 use Rattle.propagate.proofs.Hits.{lose-mono}
 use Rattle.propagate.proofs.Counting.{count-le}
-use Rattle.propagate.proofs.Fronts.{none-waits, lost-waits}
+use Rattle.propagate.proofs.LayerSteps.{none-waits, lost-waits}
 
 -- when no state waits, the ranks are the depths
 module _ (N : Net) (R : Fit (N .commands)) (ends : Ranges (N .commands) (N .tos)) (K : ℕ → Bool) (k lo : ℕ) (small : k ≤ N .commands .n) (X : Work)
-    (u : Ripe N K k lo X) (over : X .end ≤ lo) where
+    (u : AtLayer N K k lo X) (over : X .end ≤ lo) where
   abbrev n : ℕ
   n = N .commands .n
 
@@ -33,54 +33,54 @@ module _ (N : Net) (R : Fit (N .commands)) (ends : Ranges (N .commands) (N .tos)
   r s = getD (X .ranks) s 0
 
   -- the next layer adds no state
-  still : Part n (layer N K (suc k)) (layer N K k)
+  still : Part n (netLayer N K (suc k)) (netLayer N K k)
   still s h t = ⊎-elim (λ e. e) (λ e. go e (ℕ-discrete (r s) FFFF)) (grow-step (losing N) K k s t)
     where
-      go : losing N (layer N K k) s ≡ true → Dec (r s ≡ FFFF) → layer N K k s ≡ true
-      go e (yes z) = absurd (none-waits (N .commands) (X .queue) lo (X .end) (getD (X .watch) s 0) over (lost-waits N K _ k (X .end) X (u .wave) s h e z))
-      go e (no z) = sym (u .wave .ranked k s (omega arith) h) ∙ le-leb (r s) k (u .low s h z)
+      go : losing N (netLayer N K k) s ≡ true → Dec (r s ≡ FFFF) → netLayer N K k s ≡ true
+      go e (yes z) = absurd (none-waits (N .commands) (X .queue) lo (X .end) (getD (X .watch) s 0) over (lost-waits N K _ k (X .end) X (u .towards) s h e z))
+      go e (no z) = sym (u .towards .ranked k s (omega arith) h) ∙ le-leb (r s) k (u .low s h z)
 
   depth-is : (s : ℕ) → s < n → r s ≡ entry (depth N K s)
   unfolding depth entry
   depth-is s h = go (ℕ-discrete (r s) FFFF)
     where
-      go : Dec (r s ≡ FFFF) → r s ≡ entry (lowest (λ j. layer N K j s) (suc n))
-      go (yes z) = rw (lowest-eq (λ j. layer N K j s) (suc n) none (λ j l. never j)) z
+      go : Dec (r s ≡ FFFF) → r s ≡ entry (lowest (λ j. netLayer N K j s) (suc n))
+      go (yes z) = rw (lowest-eq (λ j. netLayer N K j s) (suc n) none (λ j l. never j)) z
         where
-          never : (j : ℕ) → layer N K j s ≡ false
+          never : (j : ℕ) → netLayer N K j s ≡ false
           never j =
-              refute (layer N K j s) (λ t.
-              clash (still-all (losing N) K n (lose-mono N R ends) k still j s h t) (sym (u .wave .ranked k s (omega arith) h) ∙ lt-leb (r s) k (omega arith)))
+              refute (netLayer N K j s) (λ t.
+              clash (still-all (losing N) K n (lose-mono N R ends) k still j s h t) (sym (u .towards .ranked k s (omega arith) h) ∙ lt-leb (r s) k (omega arith)))
       go (no z) =
           let l : r s ≤ k = u .low s h z in
-          rw (lowest-eq (λ j. layer N K j s) (suc n) (some (r s)) (omega arith, here l, before l)) refl
+          rw (lowest-eq (λ j. netLayer N K j s) (suc n) (some (r s)) (omega arith, here l, before l)) refl
         where
-          here : r s ≤ k → layer N K (r s) s ≡ true
-          here l = sym (u .wave .ranked (r s) s l h) ∙ le-leb (r s) (r s) (omega arith)
+          here : r s ≤ k → netLayer N K (r s) s ≡ true
+          here l = sym (u .towards .ranked (r s) s l h) ∙ le-leb (r s) (r s) (omega arith)
 
-          before : r s ≤ k → (j : ℕ) → j < r s → layer N K j s ≡ false
-          before l j g = sym (u .wave .ranked j s (omega arith) h) ∙ lt-leb (r s) j g
+          before : r s ≤ k → (j : ℕ) → j < r s → netLayer N K j s ≡ false
+          before l j g = sym (u .towards .ranked j s (omega arith) h) ∙ lt-leb (r s) j g
 
 -- The loop at layer k, from the tables r₀, w₀, q₀. As many states wait or have waited as layers are done, so there are no more than n.
 pub record Going (C : Commands) (tos r₀ w₀ q₀ : List ℕ) (r w q : List ℕ) (lo hi k : ℕ) : Type 0 where
   pub order : lo ≤ hi
   pub layers : k ≤ lo
-  pub line : Line (C .n) (work r w q hi)
+  pub bound : QueueBound (C .n) (work r w q hi)
   pub rest : (i : ℕ) → C .n ≤ i → getD r i 0 ≡ getD r₀ i 0
-  pub ripe : Ripe (netOf C w₀ tos) (seeds r₀) k lo (work r w q hi)
+  pub at-layer : AtLayer (netOf C w₀ tos) (seeds r₀) k lo (work r w q hi)
   pub long : length r ≡ length r₀
   pub wlong : length w ≡ length w₀
   pub qlong : length q ≡ length q₀
 
 module _ (C : Commands) (tos r₀ w₀ : List ℕ) where
-  pub going-start : (q₀ q : List ℕ) (e : ℕ) → Line (C .n) (work r₀ w₀ q e) → Ripe (netOf C w₀ tos) (seeds r₀) 0 0 (work r₀ w₀ q e) → length q ≡ length q₀
+  pub going-start : (q₀ q : List ℕ) (e : ℕ) → QueueBound (C .n) (work r₀ w₀ q e) → AtLayer (netOf C w₀ tos) (seeds r₀) 0 0 (work r₀ w₀ q e) → length q ≡ length q₀
       → Going C tos r₀ w₀ q₀ r₀ w₀ q 0 e 0
-  going-start q₀ q e line u l = record {
+  going-start q₀ q e bound u l = record {
     order = omega arith;
     layers = omega arith;
-    line = line;
+    bound = bound;
     rest = λ i h. refl;
-    ripe = u;
+    at-layer = u;
     long = refl;
     wlong = refl;
     qlong = l;
@@ -88,16 +88,16 @@ module _ (C : Commands) (tos r₀ w₀ : List ℕ) where
 
   module _ (q₀ r w q : List ℕ) (lo hi k : ℕ) (v : Going C tos r₀ w₀ q₀ r w q lo hi k) where
     pub going-few : hi ≤ C .n
-    going-few = omega (arith, v .line .few, count-le (C .n) r)
+    going-few = omega (arith, v .bound .few, count-le (C .n) r)
 
     pub going-next : (owner : List ℕ) → Owns (netOf C w₀ tos) owner → lo < hi → (r′ w′ q′ : List ℕ) (e : ℕ) → Layered C tos owner k lo (work r w q hi) (work r′ w′ q′ e)
         → length r′ ≡ length r → length w′ ≡ length w → length q′ ≡ length q → Going C tos r₀ w₀ q₀ r′ w′ q′ hi e (k + 1)
     going-next owner own h r′ w′ q′ e L lr lw lq = record {
       order = L .more;
       layers = omega (arith, v .layers);
-      line = L .line;
+      bound = L .bound;
       rest = λ i g. L .rest i g ∙ v .rest i g;
-      ripe = L .ripe w₀ (seeds r₀) own (v .ripe);
+      at-layer = L .at-layer w₀ (seeds r₀) own (v .at-layer);
       long = lr ∙ v .long;
       wlong = lw ∙ v .wlong;
       qlong = lq ∙ v .qlong;
@@ -107,4 +107,4 @@ module _ (C : Commands) (tos r₀ w₀ : List ℕ) where
         → r ≡ overwrite (tabulate (λ (s : ℕ). entry (depth (netOf C w₀ tos) (seeds r₀) s)) 0 (C .n)) r₀
     going-done R ends long h =
         overwrite-is (λ (s : ℕ). entry (depth (netOf C w₀ tos) (seeds r₀) s)) (C .n) r₀ long r (v .long)
-        (depth-is (netOf C w₀ tos) R ends (seeds r₀) k lo (omega (arith, v .layers, v .order, going-few)) (work r w q hi) (v .ripe) h) (v .rest)
+        (depth-is (netOf C w₀ tos) R ends (seeds r₀) k lo (omega (arith, v .layers, v .order, going-few)) (work r w q hi) (v .at-layer) h) (v .rest)

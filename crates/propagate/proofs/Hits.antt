@@ -11,25 +11,25 @@ use Rattle.laws.proofs.Sets.{any-hit, any-of, every-at, every-of, Part}
 use Rattle.laws.proofs.Grow.{Monotone}
 use Rattle.index.specs.Commands.{Commands, outcomesOf, Fit}
 use Rattle.index.proofs.Groups.{outcome-in}
-use Rattle.propagate.specs.Net.{Net, from, to, hits, losing, Ranges}
+use Rattle.propagate.specs.Net.{Net, from, to, commandHits, losing, Ranges}
 
 module _ (C : Commands) where
-  pub hit-some : (K : ℕ → Bool) (c : ℕ) → hits C K c ≡ true → (o : ℕ) × List·Memᴰ o (outcomesOf C c) × (K o ≡ true)
-  unfolding hits
+  pub hit-some : (K : ℕ → Bool) (c : ℕ) → commandHits C K c ≡ true → (o : ℕ) × List·Memᴰ o (outcomesOf C c) × (K o ≡ true)
+  unfolding commandHits
   hit-some K c t = any-hit K (outcomesOf C c) t
 
-  pub hit-of : (K : ℕ → Bool) (c o : ℕ) → List·Memᴰ o (outcomesOf C c) → K o ≡ true → hits C K c ≡ true
-  unfolding hits
+  pub hit-of : (K : ℕ → Bool) (c o : ℕ) → List·Memᴰ o (outcomesOf C c) → K o ≡ true → commandHits C K c ≡ true
+  unfolding commandHits
   hit-of K c o m t = any-of K (outcomesOf C c) m t
 
   module _ (R : Fit C) where
     -- a larger set is hit by no fewer commands
-    pub hit-more : (A B : ℕ → Bool) → Part (C .n) A B → (c : ℕ) → c < C .m → hits C A c ≡ true → hits C B c ≡ true
+    pub hit-more : (A B : ℕ → Bool) → Part (C .n) A B → (c : ℕ) → c < C .m → commandHits C A c ≡ true → commandHits C B c ≡ true
     hit-more A B h c l t = let (o, m, e) = hit-some A c t in hit-of B c o m (h o (outcome-in C R c o l m) e)
 
-    pub hit-same : (A B : ℕ → Bool) → ((o : ℕ) → o < C .n → A o ≡ B o) → (c : ℕ) → c < C .m → hits C A c ≡ hits C B c
+    pub hit-same : (A B : ℕ → Bool) → ((o : ℕ) → o < C .n → A o ≡ B o) → (c : ℕ) → c < C .m → commandHits C A c ≡ commandHits C B c
     hit-same A B h c l =
-        same-test (hits C A c) (hits C B c)
+        same-test (commandHits C A c) (commandHits C B c)
         (hit-more A B (λ o g t. sym (h o g) ∙ t) c l) (hit-more B A (λ o g t. h o g ∙ t) c l)
 
 module _ (N : Net) (K : ℕ → Bool) (s : ℕ) where
@@ -37,18 +37,18 @@ module _ (N : Net) (K : ℕ → Bool) (s : ℕ) where
   unfolding losing
   lose-some t = ltb-true (from N s) (to N s) (and-both (ltb (from N s) (to N s)) _ t .0)
 
-  pub lose-at : losing N K s ≡ true → (c : ℕ) → from N s ≤ c → c < to N s → hits (N .commands) K c ≡ true
+  pub lose-at : losing N K s ≡ true → (c : ℕ) → from N s ≤ c → c < to N s → commandHits (N .commands) K c ≡ true
   unfolding losing
   lose-at t c p q =
       let e : from N s + (c - from N s) ≡ c = omega arith in
-      subst (λ (d : ℕ). hits (N .commands) K d ≡ true) e
-      (every-at (λ i. hits (N .commands) K (from N s + i)) (to N s - from N s) (and-both (ltb (from N s) (to N s)) _ t .1) (c - from N s) (omega arith))
+      subst (λ (d : ℕ). commandHits (N .commands) K d ≡ true) e
+      (every-at (λ i. commandHits (N .commands) K (from N s + i)) (to N s - from N s) (and-both (ltb (from N s) (to N s)) _ t .1) (c - from N s) (omega arith))
 
-  pub lose-of : from N s < to N s → ((c : ℕ) → from N s ≤ c → c < to N s → hits (N .commands) K c ≡ true) → losing N K s ≡ true
+  pub lose-of : from N s < to N s → ((c : ℕ) → from N s ≤ c → c < to N s → commandHits (N .commands) K c ≡ true) → losing N K s ≡ true
   unfolding losing
   lose-of l h =
       and-join (ltb (from N s) (to N s)) _ (lt-ltb (from N s) (to N s) l)
-      (every-of (λ i. hits (N .commands) K (from N s + i)) (to N s - from N s) (λ i g. h (from N s + i) (omega arith) (omega arith)))
+      (every-of (λ i. commandHits (N .commands) K (from N s + i)) (to N s - from N s) (λ i g. h (from N s + i) (omega arith) (omega arith)))
 
 pub to-in : (N : Net) → Ranges (N .commands) (N .tos) → (s : ℕ) → s < N .commands .n → to N s ≤ N .commands .m
 unfolding to

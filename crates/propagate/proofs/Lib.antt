@@ -2,9 +2,9 @@ pub mod Hits
 pub mod Scans
 pub mod CommandHits
 pub mod Counting
-pub mod Waves
+pub mod Visits
 pub mod Spreads
-pub mod Fronts
+pub mod LayerSteps
 pub mod Starts
 pub mod Ends
 pub mod Indexes

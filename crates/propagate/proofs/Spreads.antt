@@ -13,16 +13,16 @@ use Rattle.laws.proofs.Tests.{or-cases, or-left, or-right}
 use Rattle.index.specs.Parts.{startOf}
 use Rattle.index.specs.Commands.{Commands}
 use Rattle.index.proofs.Starts.{start-next}
-use Rattle.propagate.specs.Net.{netOf, layer, Ranges, Indexed}
-use Rattle.propagate.specs.Work.{Work, Line, Moved, Among}
+use Rattle.propagate.specs.Net.{netOf, netLayer, Ranges, Indexed}
+use Rattle.propagate.specs.Work.{Work, QueueBound, Moved, Among}
 use Rattle.propagate.proofs.Hits.{to-in}
-use Rattle.propagate.proofs.Waves.{watch-more}
+use Rattle.propagate.proofs.Visits.{watch-more}
 
 module _ (C : Commands) (tos owner : List ℕ) (k : ℕ) where
   -- nothing is looked at yet
-  pub moved-none : Ranges C tos → (D : ℕ → Type 0) (X : Work) → Line (C .n) X → ((c : ℕ) → D c → ⊥) → Moved C tos owner k D X X
-  moved-none ends D X line none = record {
-    wave = λ froms K G G′ hi low own left v.
+  pub moved-none : Ranges C tos → (D : ℕ → Type 0) (X : Work) → QueueBound (C .n) X → ((c : ℕ) → D c → ⊥) → Moved C tos owner k D X X
+  moved-none ends D X bound none = record {
+    towards = λ froms K G G′ hi low own left v.
         record {
           ranked = v .ranked;
           fresh = v .fresh;
@@ -30,9 +30,9 @@ module _ (C : Commands) (tos owner : List ℕ) (k : ℕ) where
           watches = λ s h e.
               let N = netOf C froms tos in
               let c = getD (X .watch) s 0 in
-              watch-more N (layer N K k) G G′ s c (v .watches s h e) (λ l t. left c (omega (arith, to-in N ends s h)) t (none c));
+              watch-more N (netLayer N K k) G G′ s c (v .watches s h e) (λ l t. left c (omega (arith, to-in N ends s h)) t (none c));
         };
-    line = line;
+    bound = bound;
     kept = λ i g. refl;
     rest = λ i g. refl;
     more = omega arith;
@@ -42,10 +42,10 @@ module _ (C : Commands) (tos owner : List ℕ) (k : ℕ) where
   pub moved-next : (D E : ℕ → Type 0) (X Y Z : Work) (c : ℕ) → Moved C tos owner k D X Y → Moved C tos owner k (λ (d : ℕ). d ≡ c) Y Z
       → ((d : ℕ) → E d → D d ⊎ (d ≡ c)) → Moved C tos owner k E X Z
   moved-next D E X Y Z c M P sub = record {
-    wave = λ froms K G G′ hi low own left v.
-        P .wave froms K (λ d. G′ d || eqb d c) G′ hi (omega (arith, M .more)) own (λ d l t n. drop G′ d t n)
-        (M .wave froms K G (λ d. G′ d || eqb d c) hi low own (λ d l t n. keep G G′ left d l t n (ℕ-discrete d c)) v);
-    line = P .line;
+    towards = λ froms K G G′ hi low own left v.
+        P .towards froms K (λ d. G′ d || eqb d c) G′ hi (omega (arith, M .more)) own (λ d l t n. drop G′ d t n)
+        (M .towards froms K G (λ d. G′ d || eqb d c) hi low own (λ d l t n. keep G G′ left d l t n (ℕ-discrete d c)) v);
+    bound = P .bound;
     kept = λ i g. P .kept i (omega (arith, M .more)) ∙ M .kept i g;
     rest = λ i g. P .rest i g ∙ M .rest i g;
     more = omega (arith, M .more, P .more);
@@ -61,8 +61,8 @@ module _ (C : Commands) (tos owner : List ℕ) (k : ℕ) where
 
 -- The walk over the users from place a on, at place p.
 module _ (C : Commands) (tos owner : List ℕ) (k : ℕ) (users : List ℕ) (a : ℕ) (X : Work) where
-  pub spread-start : Ranges C tos → Line (C .n) X → Moved C tos owner k (Among users a a) X X
-  spread-start ends line = moved-none C tos owner k ends (Among users a a) X line (λ c t. omega (arith, t .since, t .below))
+  pub spread-start : Ranges C tos → QueueBound (C .n) X → Moved C tos owner k (Among users a a) X X
+  spread-start ends bound = moved-none C tos owner k ends (Among users a a) X bound (λ c t. omega (arith, t .since, t .below))
 
   pub spread-next : (p : ℕ) (Y Z : Work) (c : ℕ) → c ≡ getD users p 0 → Moved C tos owner k (Among users a p) X Y
       → Moved C tos owner k (λ (d : ℕ). d ≡ c) Y Z → Moved C tos owner k (Among users a (p + 1)) X Z

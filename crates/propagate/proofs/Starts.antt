@@ -17,26 +17,26 @@ use Rattle.laws.proofs.Counts.{many-yes, many-upto}
 use Rattle.laws.proofs.Defaults.{getD-inside}
 use Rattle.index.specs.Commands.{Commands, Fit}
 use Rattle.index.proofs.Groups.{outcome-in}
-use Rattle.propagate.specs.Net.{Net, netOf, from, hits, layer, seeds, Seeded, Ranges}
-use Rattle.propagate.specs.Work.{work, rankCount, Line, waiting, Ripe, Lined}
+use Rattle.propagate.specs.Net.{Net, netOf, from, commandHits, netLayer, seeds, Seeded, Ranges}
+use Rattle.propagate.specs.Work.{work, rankCount, QueueBound, waiting, AtLayer, SeedsQueued}
 use Rattle.propagate.proofs.Hits.{hit-some, hit-of, to-in}
 use Rattle.propagate.proofs.Counting.{has-rank, count-le}
-use Rattle.propagate.proofs.Fronts.{wait-of}
+use Rattle.propagate.proofs.LayerSteps.{wait-of}
 
-pub line-start : (r q : List ℕ) → Lined r q 0 0
-line-start r q = record { few = omega arith; states = λ i p. absurd (omega arith); found = λ u p. absurd (omega arith) }
+pub seeds-start : (r q : List ℕ) → SeedsQueued r q 0 0
+seeds-start r q = record { few = omega arith; states = λ i p. absurd (omega arith); found = λ u p. absurd (omega arith) }
 
-pub line-end : (r q : List ℕ) (s e : ℕ) → Lined r q s e → e ≤ s
-line-end r q s e v = omega (arith, v .few, count-le s r)
+pub seeds-end : (r q : List ℕ) (s e : ℕ) → SeedsQueued r q s e → e ≤ s
+seeds-end r q s e v = omega (arith, v .few, count-le s r)
 
-pub line-done : (r q : List ℕ) (s e : ℕ) → Lined r q s e → (n : ℕ) → s ≤ n → n ≤ s → Lined r q n e
-line-done r q s e v n g h = let z : s ≡ n = omega arith in subst (λ (i : ℕ). Lined r q i e) z v
+pub seeds-done : (r q : List ℕ) (s e : ℕ) → SeedsQueued r q s e → (n : ℕ) → s ≤ n → n ≤ s → SeedsQueued r q n e
+seeds-done r q s e v n g h = let z : s ≡ n = omega arith in subst (λ (i : ℕ). SeedsQueued r q i e) z v
 
 -- the state s, of which x was read
-module _ (r q : List ℕ) (s e : ℕ) (v : Lined r q s e) (x : ℕ) (p : x ≡ getD r s 0) where
-  pub line-skip : (x ≡ 0 → ⊥) → Lined r q (s + 1) e
+module _ (r q : List ℕ) (s e : ℕ) (v : SeedsQueued r q s e) (x : ℕ) (p : x ≡ getD r s 0) where
+  pub seeds-skip : (x ≡ 0 → ⊥) → SeedsQueued r q (s + 1) e
   unfolding rankCount
-  line-skip n = record {
+  seeds-skip n = record {
     few = omega (arith, v .few, many-upto (λ i. not (eqb (getD r i 0) FFFF)) s (s + 1) (omega arith));
     states = λ i l. omega (arith, v .states i l);
     found = λ u l z. find u l z (decLt u s);
@@ -46,9 +46,9 @@ module _ (r q : List ℕ) (s e : ℕ) (v : Lined r q s e) (x : ℕ) (p : x ≡ g
       find u l z (yes d) = v .found u d z
       find u l z (no d) = let y : u ≡ s = omega arith in absurd (n (p ∙ (rw y at z)))
 
-  pub line-add : x ≡ 0 → s < length q → (q′ : List ℕ) → q′ ≡ set q e s → Lined r q′ (s + 1) (e + 1)
+  pub seeds-add : x ≡ 0 → s < length q → (q′ : List ℕ) → q′ ≡ set q e s → SeedsQueued r q′ (s + 1) (e + 1)
   unfolding rankCount
-  line-add z long q′ f = record {
+  seeds-add z long q′ f = record {
     few = rw (add-one s) (omega (arith, v .few, many-yes (λ i. not (eqb (getD r i 0) FFFF)) s (has-rank (getD r s 0) (λ y. omega arith))));
     states = λ i l. state i l (decLt i e);
     found = λ u l y. find u l y (decLt u s);
@@ -58,7 +58,7 @@ module _ (r q : List ℕ) (s e : ℕ) (v : Lined r q s e) (x : ℕ) (p : x ≡ g
       old i l = rw f (getD-set-other q e i s 0 (omega arith))
 
       new : getD q′ e 0 ≡ s
-      new = rw f (getD-set-same q e s 0 (omega (arith, line-end r q s e v)))
+      new = rw f (getD-set-same q e s 0 (omega (arith, seeds-end r q s e v)))
 
       state : (i : ℕ) → i < e + 1 → Dec (i < e) → getD q′ i 0 < s + 1
       state i l (yes d) = omega (arith, old i d, v .states i d)
@@ -68,12 +68,12 @@ module _ (r q : List ℕ) (s e : ℕ) (v : Lined r q s e) (x : ℕ) (p : x ≡ g
       find u l y (yes d) = let (i, a, b) = v .found u d y in (i, omega arith, old i a ∙ b)
       find u l y (no d) = let t : u ≡ s = omega arith in (e, omega arith, new ∙ sym t)
 
-module _ (C : Commands) (R : Fit C) (tos : List ℕ) (ends : Ranges C tos) (r w q : List ℕ) (long : C .n ≤ length r) (a : Seeded (C .n) r) (e : ℕ) (v : Lined r q (C .n) e) where
+module _ (C : Commands) (R : Fit C) (tos : List ℕ) (ends : Ranges C tos) (r w q : List ℕ) (long : C .n ≤ length r) (a : Seeded (C .n) r) (e : ℕ) (v : SeedsQueued r q (C .n) e) where
   abbrev N : Net
   N = netOf C w tos
 
-  pub start-line : Line (C .n) (work r w q e)
-  start-line = record { few = v .few; states = v .states }
+  pub start-bound : QueueBound (C .n) (work r w q e)
+  start-bound = record { few = v .few; states = v .states }
 
   low : (s : ℕ) → s < C .n → (getD r s 0 ≡ FFFF → ⊥) → getD r s 0 ≤ 0
   low s h n = go (a .seeded s h)
@@ -82,11 +82,11 @@ module _ (C : Commands) (R : Fit C) (tos : List ℕ) (ends : Ranges C tos) (r w 
       go (inl z) = omega arith
       go (inr z) = absurd (n z)
 
-  zero-rank : (s : ℕ) → s < C .n → layer N (seeds r) 0 s ≡ true → getD r s 0 ≡ 0
+  zero-rank : (s : ℕ) → s < C .n → netLayer N (seeds r) 0 s ≡ true → getD r s 0 ≡ 0
   unfolding grow
   zero-rank s h t = getD-inside r s 0 1 (omega arith) ∙ eqb-true (getD r s 1) 0 t
 
-  ranked : (s : ℕ) → s < C .n → leb (getD r s 0) 0 ≡ layer N (seeds r) 0 s
+  ranked : (s : ℕ) → s < C .n → leb (getD r s 0) 0 ≡ netLayer N (seeds r) 0 s
   unfolding grow
   ranked s h = go (a .seeded s h)
     where
@@ -97,9 +97,9 @@ module _ (C : Commands) (R : Fit C) (tos : List ℕ) (ends : Ranges C tos) (r w 
       go (inl z) = le-leb (getD r s 0) 0 (omega arith) ∙ sym (eq-eqb (getD r s 1) 0 (here ∙ z))
       go (inr z) = lt-leb (getD r s 0) 0 (omega arith) ∙ sym (ne-eqb (getD r s 1) 0 (λ y. omega (arith, here)))
 
-  waits : (c : ℕ) → c < C .m → hits C (layer N (seeds r) 0) c ≡ true → hits C (waiting q 0 e) c ≡ true
+  waits : (c : ℕ) → c < C .m → commandHits C (netLayer N (seeds r) 0) c ≡ true → commandHits C (waiting q 0 e) c ≡ true
   waits c l t =
-      let (o, m, f) = hit-some C (layer N (seeds r) 0) c t in
+      let (o, m, f) = hit-some C (netLayer N (seeds r) 0) c t in
       let h = outcome-in C R c o l m in
       let (i, b, d) = v .found o h (zero-rank o h f) in
       hit-of C (waiting q 0 e) c o m (wait-of q 0 e o i (omega arith) b d)
@@ -108,10 +108,10 @@ module _ (C : Commands) (R : Fit C) (tos : List ℕ) (ends : Ranges C tos) (r w 
   unfolding from
   first s = refl
 
-  pub start-ripe : Ripe N (seeds r) 0 0 (work r w q e)
-  start-ripe = record {
+  pub start-at-layer : AtLayer N (seeds r) 0 0 (work r w q e)
+  start-at-layer = record {
     low = low;
-    wave = record {
+    towards = record {
       ranked = λ j s l h. let z : j ≡ 0 = omega arith in rw z (ranked s h);
       fresh = λ s h l n. absurd (omega (arith, low s h n));
       watches = λ s h z.

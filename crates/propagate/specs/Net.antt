@@ -29,20 +29,20 @@ unfoldable pub to : Net → ℕ → ℕ
 to N s = getD (N .tos) s 0
 
 -- the command c has an outcome in K
-unfoldable pub hits : Commands → (ℕ → Bool) → ℕ → Bool
-hits C K c = any K (outcomesOf C c)
+unfoldable pub commandHits : Commands → (ℕ → Bool) → ℕ → Bool
+commandHits C K c = any K (outcomesOf C c)
 
 -- s has commands that count, every one of which has an outcome in K
 unfoldable pub losing : Net → (ℕ → Bool) → ℕ → Bool
-losing N K s = ltb (from N s) (to N s) && every (λ i. hits (N .commands) K (from N s + i)) (to N s - from N s)
+losing N K s = ltb (from N s) (to N s) && every (λ i. commandHits (N .commands) K (from N s + i)) (to N s - from N s)
 
 -- K, and what loses by it in k steps
-abbrev pub layer : Net → (ℕ → Bool) → ℕ → ℕ → Bool
-layer N K = grow (losing N) K
+abbrev pub netLayer : Net → (ℕ → Bool) → ℕ → ℕ → Bool
+netLayer N K = grow (losing N) K
 
 -- in how many steps s is lost. No step after n adds a state, so no more are looked at.
 unfoldable pub depth : Net → (ℕ → Bool) → ℕ → Option ℕ
-depth N K s = lowest (λ k. layer N K k s) (suc (N .commands .n))
+depth N K s = lowest (λ k. netLayer N K k s) (suc (N .commands .n))
 
 -- the states that a table gives rank 0
 abbrev pub seeds : List ℕ → ℕ → Bool

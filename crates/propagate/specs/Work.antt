@@ -10,7 +10,7 @@ use Rattle.laws.specs.Entry.{FFFF}
 use Rattle.laws.specs.Sets.{exists, howMany}
 use Rattle.index.specs.Commands.{Commands}
 use Rattle.choice.specs.Within.{within}
-use Rattle.propagate.specs.Net.{Net, netOf, from, to, hits, losing, layer, Owns}
+use Rattle.propagate.specs.Net.{Net, netOf, from, to, commandHits, losing, netLayer, Owns}
 
 -- the tables that are written, and where the queue ends
 pub record Work : Type 0 where
@@ -26,15 +26,15 @@ work ranks watch queue end = record { ranks = ranks; watch = watch; queue = queu
 pub record Advanced (C : Commands) (ranks : List ℕ) (k a e r : ℕ) : Type 0 where
   pub since : a ≤ r
   pub until : r ≤ e
-  pub before : (i : ℕ) → a ≤ i → i < r → hits C (within ranks k) i ≡ true
-  pub stops : r < e → hits C (within ranks k) r ≡ false
+  pub before : (i : ℕ) → a ≤ i → i < r → commandHits C (within ranks k) i ≡ true
+  pub stops : r < e → commandHits C (within ranks k) r ≡ false
 
 -- how many of the first n states have a rank
 unfoldable pub rankCount : ℕ → List ℕ → ℕ
 rankCount n ranks = howMany (λ s. not (eqb (getD ranks s 0) FFFF)) n
 
 -- the queue has states, and no more than have a rank
-pub record Line (n : ℕ) (X : Work) : Type 0 where
+pub record QueueBound (n : ℕ) (X : Work) : Type 0 where
   pub few : X .end ≤ rankCount n (X .ranks)
   pub states : (i : ℕ) → i < X .end → getD (X .queue) i 0 < n
 
@@ -42,24 +42,24 @@ pub record Line (n : ℕ) (X : Work) : Type 0 where
 pub record Watch (N : Net) (A G : ℕ → Bool) (s c : ℕ) : Type 0 where
   pub since : from N s ≤ c
   pub until : from N s < to N s → c < to N s
-  pub before : (i : ℕ) → from N s ≤ i → i < c → i < to N s → hits (N .commands) A i ≡ true
-  pub pending : c < to N s → hits (N .commands) A c ≡ true → G c ≡ true
+  pub before : (i : ℕ) → from N s ≤ i → i < c → i < to N s → commandHits (N .commands) A i ≡ true
+  pub pending : c < to N s → commandHits (N .commands) A c ≡ true → G c ≡ true
 
 -- On the way from layers 0 to k of what K gives to layer k + 1. G has the commands still to be looked at, and those of rank k + 1
 -- are in the queue from hi on.
-pub record Wave (N : Net) (K : ℕ → Bool) (k hi : ℕ) (G : ℕ → Bool) (X : Work) : Type 0 where
-  pub ranked : (j s : ℕ) → j ≤ k → s < N .commands .n → within (X .ranks) j s ≡ layer N K j s
+pub record TowardsLayer (N : Net) (K : ℕ → Bool) (k hi : ℕ) (G : ℕ → Bool) (X : Work) : Type 0 where
+  pub ranked : (j s : ℕ) → j ≤ k → s < N .commands .n → within (X .ranks) j s ≡ netLayer N K j s
   pub fresh : (s : ℕ) → s < N .commands .n → k < getD (X .ranks) s 0 → (getD (X .ranks) s 0 ≡ FFFF → ⊥)
-      → (getD (X .ranks) s 0 ≡ k + 1) × (losing N (layer N K k) s ≡ true)
-  pub watches : (s : ℕ) → s < N .commands .n → getD (X .ranks) s 0 ≡ FFFF → Watch N (layer N K k) G s (getD (X .watch) s 0)
+      → (getD (X .ranks) s 0 ≡ k + 1) × (losing N (netLayer N K k) s ≡ true)
+  pub watches : (s : ℕ) → s < N .commands .n → getD (X .ranks) s 0 ≡ FFFF → Watch N (netLayer N K k) G s (getD (X .watch) s 0)
   pub queued : (s : ℕ) → s < N .commands .n → getD (X .ranks) s 0 ≡ k + 1 → (i : ℕ) × (hi ≤ i) × (i < X .end) × (getD (X .queue) i 0 ≡ s)
 
--- The commands of which Done holds are looked at. The ranges' first commands are not in the tables any more, so what is said of a
--- wave is said of every one, with whatever it began.
+-- The commands of which Done holds are looked at. The first commands of the ranges are not in the tables any more, so the way to the next
+-- layer is told for all that it may have begun with.
 pub record Moved (C : Commands) (tos owner : List ℕ) (k : ℕ) (Done : ℕ → Type 0) (X Y : Work) : Type 0 where
-  pub wave : (froms : List ℕ) (K G G′ : ℕ → Bool) (hi : ℕ) → hi ≤ X .end → Owns (netOf C froms tos) owner
-      → ((c : ℕ) → c < C .m → G c ≡ true → (Done c → ⊥) → G′ c ≡ true) → Wave (netOf C froms tos) K k hi G X → Wave (netOf C froms tos) K k hi G′ Y
-  pub line : Line (C .n) Y
+  pub towards : (froms : List ℕ) (K G G′ : ℕ → Bool) (hi : ℕ) → hi ≤ X .end → Owns (netOf C froms tos) owner
+      → ((c : ℕ) → c < C .m → G c ≡ true → (Done c → ⊥) → G′ c ≡ true) → TowardsLayer (netOf C froms tos) K k hi G X → TowardsLayer (netOf C froms tos) K k hi G′ Y
+  pub bound : QueueBound (C .n) Y
   pub kept : (i : ℕ) → i < X .end → getD (Y .queue) i 0 ≡ getD (X .queue) i 0
   pub rest : (i : ℕ) → C .n ≤ i → getD (Y .ranks) i 0 ≡ getD (X .ranks) i 0
   pub more : X .end ≤ Y .end
@@ -76,20 +76,20 @@ unfoldable pub waiting : List ℕ → ℕ → ℕ → ℕ → Bool
 waiting queue lo hi o = exists (λ i. leb lo i && eqb (getD queue i 0) o) hi
 
 -- between layers: layers 0 to k have their ranks, and the queue from lo on has all states of rank k
-pub record Ripe (N : Net) (K : ℕ → Bool) (k lo : ℕ) (X : Work) : Type 0 where
+pub record AtLayer (N : Net) (K : ℕ → Bool) (k lo : ℕ) (X : Work) : Type 0 where
   pub low : (s : ℕ) → s < N .commands .n → (getD (X .ranks) s 0 ≡ FFFF → ⊥) → getD (X .ranks) s 0 ≤ k
-  pub wave : Wave N K k (X .end) (hits (N .commands) (waiting (X .queue) lo (X .end))) X
+  pub towards : TowardsLayer N K k (X .end) (commandHits (N .commands) (waiting (X .queue) lo (X .end))) X
 
 -- layer k + 1 has its ranks too
 pub record Layered (C : Commands) (tos owner : List ℕ) (k lo : ℕ) (X Y : Work) : Type 0 where
-  pub ripe : (froms : List ℕ) (K : ℕ → Bool) → Owns (netOf C froms tos) owner → Ripe (netOf C froms tos) K k lo X
-      → Ripe (netOf C froms tos) K (k + 1) (X .end) Y
-  pub line : Line (C .n) Y
+  pub at-layer : (froms : List ℕ) (K : ℕ → Bool) → Owns (netOf C froms tos) owner → AtLayer (netOf C froms tos) K k lo X
+      → AtLayer (netOf C froms tos) K (k + 1) (X .end) Y
+  pub bound : QueueBound (C .n) Y
   pub rest : (i : ℕ) → C .n ≤ i → getD (Y .ranks) i 0 ≡ getD (X .ranks) i 0
   pub more : X .end ≤ Y .end
 
 -- the states of rank 0 below s are in the queue
-pub record Lined (ranks queue : List ℕ) (s end : ℕ) : Type 0 where
+pub record SeedsQueued (ranks queue : List ℕ) (s end : ℕ) : Type 0 where
   pub few : end ≤ rankCount s ranks
   pub states : (i : ℕ) → i < end → getD queue i 0 < s
   pub found : (u : ℕ) → u < s → getD ranks u 0 ≡ 0 → (i : ℕ) × (i < end) × (getD queue i 0 ≡ u)

@@ -5,13 +5,15 @@ ghost use Prim.Native.Nat.{ℕ, _+_, _≤_, _<_};
 ghost use lib.ListN.{length, getD};
 ghost use Rattle.laws.specs.Entry.{entry};
 ghost use Rattle.laws.specs.Lists.{tabulate, overwrite};
+ghost use Rattle.model.specs.File.{maxStates};
 ghost use Rattle.index.specs.Parts.{startOf};
 ghost use Rattle.index.specs.Commands.{commandsOf, Fit};
 ghost use Rattle.propagate.specs.Net.{netOf, depth, seeds, Seeded, Ranges, Indexed, Owns};
-ghost use Rattle.propagate.specs.Work.{work, Advanced, Line, Moved, Among, Layered, Lined};
+ghost use Rattle.propagate.specs.Work.{work, Advanced, QueueBound, Moved, Among, Layered, SeedsQueued};
 use choice::internal::command_hit;
 use index::internal::start_of;
 use tables::Size;
+use tables::internal::NONE;
 use tables::internal::at;
 use tables::internal::put;
 
@@ -56,12 +58,12 @@ fn visit(
 ) -> usize
     requires { ⌜ Fit (commandsOf size (now firsts) (now outcomes)) ⌝ }
     requires { ⌜ Ranges (commandsOf size (now firsts) (now outcomes)) (now tos) ⌝ }
-    requires { ⌜ (c < length (now owner)) × ((getD (now owner) c 0 < size .n) × ((size .n ≤ length (now ranks)) × ((size .n ≤ length (now watch)) × ((size .n ≤ length (now queue)) × (k < 1024))))) ⌝ }
-    requires { ⌜ Line (size .n) (work (now ranks) (now watch) (now queue) end) ⌝ }
+    requires { ⌜ (c < length (now owner)) × ((getD (now owner) c 0 < size .n) × ((size .n ≤ length (now ranks)) × ((size .n ≤ length (now watch)) × ((size .n ≤ length (now queue)) × (k < maxStates))))) ⌝ }
+    requires { ⌜ QueueBound (size .n) (work (now ranks) (now watch) (now queue) end) ⌝ }
     ensures { λ r. ⌜ Moved (commandsOf size (now (firsts .entry)) (now (outcomes .entry))) (now (tos .entry)) (now (owner .entry)) k (λ (d : ℕ). d ≡ c) (work (now (ranks .entry)) (now (watch .entry)) (now (queue .entry)) end) (work (now (ranks .exit)) (now (watch .exit)) (now (queue .exit)) r) ⌝ }
 {
     let s = at(owner, c);
-    if at(ranks, s) != 65535 {
+    if at(ranks, s) != NONE {
         return end;
     }
     if at(watch, s) != c {
@@ -101,8 +103,8 @@ fn spread(
     requires { ⌜ Fit (commandsOf size (now firsts) (now outcomes)) ⌝ }
     requires { ⌜ Ranges (commandsOf size (now firsts) (now outcomes)) (now tos) ⌝ }
     requires { ⌜ Indexed (commandsOf size (now firsts) (now outcomes)) (now offsets) (now users) (now owner) ⌝ }
-    requires { ⌜ (o < size .n) × ((size .n ≤ length (now ranks)) × ((size .n ≤ length (now watch)) × ((size .n ≤ length (now queue)) × (k < 1024)))) ⌝ }
-    requires { ⌜ Line (size .n) (work (now ranks) (now watch) (now queue) end) ⌝ }
+    requires { ⌜ (o < size .n) × ((size .n ≤ length (now ranks)) × ((size .n ≤ length (now watch)) × ((size .n ≤ length (now queue)) × (k < maxStates)))) ⌝ }
+    requires { ⌜ QueueBound (size .n) (work (now ranks) (now watch) (now queue) end) ⌝ }
     ensures { λ r. ⌜ Moved (commandsOf size (now (firsts .entry)) (now (outcomes .entry))) (now (tos .entry)) (now (owner .entry)) k (Among (now (users .entry)) (startOf (now (offsets .entry)) (size .n) (size .t) o) (startOf (now (offsets .entry)) (size .n) (size .t) (o + 1))) (work (now (ranks .entry)) (now (watch .entry)) (now (queue .entry)) end) (work (now (ranks .exit)) (now (watch .exit)) (now (queue .exit)) r) ⌝ }
 {
     let mut e = end;
@@ -147,8 +149,8 @@ fn add_layer(
     requires { ⌜ Fit (commandsOf size (now firsts) (now outcomes)) ⌝ }
     requires { ⌜ Ranges (commandsOf size (now firsts) (now outcomes)) (now tos) ⌝ }
     requires { ⌜ Indexed (commandsOf size (now firsts) (now outcomes)) (now offsets) (now users) (now owner) ⌝ }
-    requires { ⌜ (lo ≤ hi) × ((size .n ≤ length (now ranks)) × ((size .n ≤ length (now watch)) × ((size .n ≤ length (now queue)) × (k < 1024)))) ⌝ }
-    requires { ⌜ Line (size .n) (work (now ranks) (now watch) (now queue) hi) ⌝ }
+    requires { ⌜ (lo ≤ hi) × ((size .n ≤ length (now ranks)) × ((size .n ≤ length (now watch)) × ((size .n ≤ length (now queue)) × (k < maxStates)))) ⌝ }
+    requires { ⌜ QueueBound (size .n) (work (now ranks) (now watch) (now queue) hi) ⌝ }
     ensures { λ r. ⌜ Layered (commandsOf size (now (firsts .entry)) (now (outcomes .entry))) (now (tos .entry)) (now (owner .entry)) k lo (work (now (ranks .entry)) (now (watch .entry)) (now (queue .entry)) hi) (work (now (ranks .exit)) (now (watch .exit)) (now (queue .exit)) r) ⌝ }
 {
     let mut e = hi;
@@ -176,10 +178,10 @@ fn add_layer(
 }
 
 // The state s waits in the queue, behind those in it already, if it has rank 0.
-fn line_up(ranks: &[u16], queue: &mut [u16], s: usize, count: usize) -> usize
-    requires { ⌜ (s < length (now ranks)) × ((s < length (now queue)) × (s < 1024)) ⌝ }
-    requires { ⌜ Lined (now ranks) (now queue) s count ⌝ }
-    ensures { λ r. ⌜ Lined (now (ranks .entry)) (now (queue .exit)) (s + 1) r ⌝ }
+fn enqueue_seed(ranks: &[u16], queue: &mut [u16], s: usize, count: usize) -> usize
+    requires { ⌜ (s < length (now ranks)) × ((s < length (now queue)) × (s < maxStates)) ⌝ }
+    requires { ⌜ SeedsQueued (now ranks) (now queue) s count ⌝ }
+    ensures { λ r. ⌜ SeedsQueued (now (ranks .entry)) (now (queue .exit)) (s + 1) r ⌝ }
 {
     if at(ranks, s) != 0 {
         return count;
@@ -189,14 +191,14 @@ fn line_up(ranks: &[u16], queue: &mut [u16], s: usize, count: usize) -> usize
 }
 
 // The states of rank 0 wait in the queue.
-fn line_up_all(n: usize, ranks: &[u16], queue: &mut [u16]) -> usize
-    requires { ⌜ (n ≤ 1024) × ((n ≤ length (now ranks)) × (n ≤ length (now queue))) ⌝ }
-    ensures { λ r. ⌜ Lined (now (ranks .entry)) (now (queue .exit)) n r ⌝ }
+fn enqueue_seeds(n: usize, ranks: &[u16], queue: &mut [u16]) -> usize
+    requires { ⌜ (n ≤ maxStates) × ((n ≤ length (now ranks)) × (n ≤ length (now queue))) ⌝ }
+    ensures { λ r. ⌜ SeedsQueued (now (ranks .entry)) (now (queue .exit)) n r ⌝ }
 {
     let mut e = 0;
     let mut s = 0;
     while s < n {
-        e = line_up(ranks, queue, s, e);
+        e = enqueue_seed(ranks, queue, s, e);
         s += 1;
     }
     e
@@ -224,7 +226,7 @@ pub fn propagate(
     ensures { λ _. ⌜ now (ranks .exit) ≡ overwrite (tabulate (λ (s : ℕ). entry (depth (netOf (commandsOf size (now (firsts .entry)) (now (outcomes .entry))) (now (watch .entry)) (now (tos .entry))) (seeds (now (ranks .entry))) s)) 0 (size .n)) (now (ranks .entry)) ⌝ }
 {
     let mut lo = 0;
-    let mut hi = line_up_all(size.n, ranks, queue);
+    let mut hi = enqueue_seeds(size.n, ranks, queue);
     let mut k = 0;
     while lo < hi {
         let e = add_layer(

@@ -1,9 +1,11 @@
 // A place in the file, and the bytes from it on. No other module looks at the file.
 ghost use mathlib.Core.Path.{_≡_};
-ghost use Prim.Native.Nat.{_+_, _*_, _^_, _<_, _≤_};
+ghost use Prim.Native.Nat.{_+_, _^_, _<_, _≤_};
 ghost use lib.ListN.{length, getD, drop};
 ghost use Rattle.laws.specs.Entry.{be16};
 ghost use Rattle.reading.specs.Meaning.{moved};
+use tables::internal::join;
+use tables::internal::wide;
 
 // How far a reading has come: a place in the file, and the commands and the outcomes before it.
 pub struct Mark {
@@ -37,10 +39,12 @@ pub fn byte(file: &[u8], at: usize, i: usize) -> u8
     file[at + i]
 }
 
-fn join(high: u8, low: u8) -> u16
-    ensures { λ r. ⌜ r ≡ high * 256 + low ⌝ }
+// One byte, as a number.
+pub fn small(file: &[u8], at: usize, i: usize) -> usize
+    requires { ⌜ i < length (drop at (now file)) ⌝ }
+    ensures { λ r. ⌜ r ≡ getD (drop at (now (file .entry))) i 0 ⌝ }
 {
-    (high as u16) * 256 + (low as u16)
+    byte(file, at, i) as usize
 }
 
 // Two bytes, as an entry of a table.
@@ -49,12 +53,6 @@ pub fn entry(file: &[u8], at: usize, i: usize) -> u16
     ensures { λ r. ⌜ r ≡ be16 (drop at (now (file .entry))) i ⌝ }
 {
     join(byte(file, at, i), byte(file, at, i + 1))
-}
-
-fn wide(x: u16) -> usize
-    ensures { λ r. ⌜ r ≡ x ⌝ }
-{
-    x as usize
 }
 
 // Two bytes, as a number.

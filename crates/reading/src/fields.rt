@@ -1,17 +1,13 @@
 // Each field from a mark on, in document 01's order of checks: the mark past the field, or the refusal.
-ghost use mathlib.Core.Path.{_≡_};
-ghost use mathlib.Core.Bool.{_||_};
 ghost use Prim.Native.Nat.{_+_, _*_, _<_, _≤_};
-ghost use lib.Dec.{eqb, ltb};
 ghost use lib.ListN.{length, drop};
-ghost use Rattle.laws.specs.Entry.{FFFF};
 ghost use Rattle.model.specs.Refusal.{answer};
-ghost use Rattle.model.specs.File.{maxCommands, notIdle, field, head, state, entries, rising, command};
+ghost use Rattle.model.specs.File.{maxCommands, field, head, state, entries, rising, command};
 ghost use Rattle.reading.specs.Meaning.{Within, Walks, rest, afterField, afterHead, afterState, afterCommand};
 use crate::bytes::Mark;
-use crate::bytes::byte;
 use crate::bytes::moved;
 use crate::bytes::number;
+use crate::bytes::small;
 use crate::frame::COMMAND;
 use crate::frame::FieldAnswer;
 use crate::frame::HEAD;
@@ -19,6 +15,7 @@ use crate::frame::STATE;
 use crate::walker::field_at;
 use tables::Refusal;
 use tables::Size;
+use tables::internal::not_idle;
 
 pub enum Passed {
     To(Mark),
@@ -56,29 +53,6 @@ pub fn read_head(file: &[u8]) -> Passed
     Passed::To(next)
 }
 
-// The practice is none or a command.
-fn practice_fits(count: usize, practice: usize) -> bool
-    ensures { λ r. ⌜ r ≡ (eqb practice FFFF || ltb practice count) ⌝ }
-{
-    if practice == 65535 {
-        return true;
-    }
-    practice < count
-}
-
-// No commands under kind 1 or 2, and a practice that fits.
-fn not_idle(kind: u8, count: usize, practice: usize) -> bool
-    ensures { λ r. ⌜ r ≡ notIdle kind count practice ⌝ }
-{
-    if kind == 0 {
-        return practice_fits(count, practice);
-    }
-    if count == 0 {
-        return practice_fits(count, practice);
-    }
-    false
-}
-
 pub fn read_state(file: &[u8], k: Mark) -> Passed
     requires { ⌜ Within (now file) k ⌝ }
     ensures { λ r. ⌜ Walks (now (file .entry)) r (answer (afterState (now (file .entry)) k) (state (k .m) (rest (now (file .entry)) k))) ⌝ }
@@ -87,7 +61,7 @@ pub fn read_state(file: &[u8], k: Mark) -> Passed
     let Passed::To(next) = f else {
         return f;
     };
-    let kind = byte(file, k.at, 3);
+    let kind = small(file, k.at, 3);
     let count = number(file, k.at, 4);
     if 2 < kind {
         return Passed::Refused(Refusal::Beyond);

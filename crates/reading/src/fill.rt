@@ -16,6 +16,7 @@ use crate::bytes::entry;
 use crate::bytes::moved;
 use crate::bytes::number;
 use tables::Row;
+use tables::internal::narrow;
 use tables::internal::put;
 use tables::internal::put_row;
 
@@ -59,13 +60,6 @@ fn fill_commands(
 }
 
 fn wide(x: u8) -> u16
-    ensures { λ r. ⌜ r ≡ x ⌝ }
-{
-    x as u16
-}
-
-fn narrow(x: usize) -> u16
-    requires { ⌜ x < 65536 ⌝ }
     ensures { λ r. ⌜ r ≡ x ⌝ }
 {
     x as u16

@@ -24,7 +24,7 @@ use Rattle.choice.specs.Within.{within}
 use Rattle.choice.proofs.Outcomes.{outcomes-read}
 use Rattle.choice.proofs.Taken.{taken-place, taken-clear, none-taken, some-taken}
 use Rattle.search.specs.Flags.{knownIn, Lists, Spread}
-use Rattle.search.specs.Phases.{Gone}
+use Rattle.search.specs.Phases.{Expanded}
 use Rattle.search.proofs.Queues.{spread-none, spread-as}
 
 known-choice : (P : Plan) (scratch : List ℕ) (s c : ℕ) → c ≡ entry (choice P (within scratch 0) s) → c ≡ entry (choice P (knownIn scratch) s)
@@ -38,9 +38,9 @@ module _ (T : Tables) (sounds : sound T ≡ true) (s : ℕ) (l : s < T .size .n)
   known = known-choice (planIn T) scratch s c e
 
   -- none is left: the walk does not pass s
-  pub gone-none : c ≡ FFFF → {n q : ℕ} {u : List ℕ} (cs cs′ : List ℕ) → cs′ ≡ set cs s c → Lists n q scratch u → Gone (planIn T) n q s cs scratch u q cs′ scratch u
+  pub expand-none : c ≡ FFFF → {n q : ℕ} {u : List ℕ} (cs cs′ : List ℕ) → cs′ ≡ set cs s c → Lists n q scratch u → Expanded (planIn T) n q s cs scratch u q cs′ scratch u
   unfolding lands
-  gone-none h cs cs′ p L = record {
+  expand-none h cs cs′ p L = record {
     took = p ∙ ap (set cs s) known;
     spreads = spread-none L _ (λ y. rw (none-taken T sounds s l (knownIn scratch) c known h));
   }
@@ -52,15 +52,15 @@ module _ (T : Tables) (sounds : sound T ≡ true) (s : ℕ) (l : s < T .size .n)
     first-is : span .first ≡ firstCommand T s
     first-is = ap (λ (q : Span). q .first) is
 
-    pub gone-place : span .first + c < T .size .m
-    gone-place = rw first-is (taken-place T sounds s l (knownIn scratch) c choice-is)
+    pub expand-place : span .first + c < T .size .m
+    expand-place = rw first-is (taken-place T sounds s l (knownIn scratch) c choice-is)
 
     module _ (from end : ℕ) (p : from ≡ firstOutcome T (span .first + c)) (q : end ≡ firstOutcome T (span .first + c + 1)) where
       part-is : slice from end (T .outcomes) ≡ outcomesAt T (firstCommand T s + c)
       part-is = outcomes-read T (span .first + c) from end p q ∙ ap (λ (f : ℕ). outcomesAt T (f + c)) first-is
 
-      pub gone-free : any (knownIn scratch) (slice from end (T .outcomes)) ≡ false
-      gone-free = ap (any (knownIn scratch)) part-is ∙ taken-clear T sounds s l (knownIn scratch) c choice-is
+      pub expand-free : any (knownIn scratch) (slice from end (T .outcomes)) ≡ false
+      expand-free = ap (any (knownIn scratch)) part-is ∙ taken-clear T sounds s l (knownIn scratch) c choice-is
 
       lands-are : (y : ℕ) → any (eqb y) (slice from end (T .outcomes)) ≡ lands (planIn T) s (choice (planIn T) (knownIn scratch) s) y
       unfolding lands
@@ -68,6 +68,6 @@ module _ (T : Tables) (sounds : sound T ≡ true) (s : ℕ) (l : s < T .size .n)
           let own = choice-some (planIn T) (knownIn scratch) s c choice-is .1 in
           rw choice-is (ap (any (eqb y)) (part-is ∙ sym (outcomes-held T s l c (rw (commands-held T s l) at own))))
 
-      pub gone-some : {n k k′ : ℕ} {u scratch′ u′ : List ℕ} (cs cs′ : List ℕ) → cs′ ≡ set cs s c
-          → Spread n k (λ y. any (eqb y) (slice from end (T .outcomes))) scratch u k′ scratch′ u′ → Gone (planIn T) n k s cs scratch u k′ cs′ scratch′ u′
-      gone-some cs cs′ z w = record { took = z ∙ ap (set cs s) known; spreads = spread-as lands-are w }
+      pub expand-some : {n k k′ : ℕ} {u scratch′ u′ : List ℕ} (cs cs′ : List ℕ) → cs′ ≡ set cs s c
+          → Spread n k (λ y. any (eqb y) (slice from end (T .outcomes))) scratch u k′ scratch′ u′ → Expanded (planIn T) n k s cs scratch u k′ cs′ scratch′ u′
+      expand-some cs cs′ z w = record { took = z ∙ ap (set cs s) known; spreads = spread-as lands-are w }

@@ -16,13 +16,13 @@ use Rattle.model.specs.Places.{firstCommand, commandCount}
 use Rattle.model.specs.Held.{planIn}
 use Rattle.model.proofs.HeldPlan.{kind-held, commands-held}
 use Rattle.tables.specs.Meaning.{spanAt}
-use Rattle.search.specs.Prepared.{busySpan}
+use Rattle.search.specs.Prepared.{activeSpan}
 use Rattle.search.specs.Phases.{startFlag, startEnd}
 
 module _ (T : Tables) (s : ℕ) (l : s < T .size .n) where
-  pub busy-active : busySpan (spanAt T s) ≡ active (planIn T) s
-  unfolding busySpan active ordinary commandCount
-  busy-active = rw (kind-held T s l, commands-held T s l, add-one s, ltb-gap (firstCommand T s) _)
+  pub span-active : activeSpan (spanAt T s) ≡ active (planIn T) s
+  unfolding activeSpan active ordinary commandCount
+  span-active = rw (kind-held T s l, commands-held T s l, add-one s, ltb-gap (firstCommand T s) _)
 
   pub start-flag-is : startFlag (spanAt T s) ≡ cond (failing (planIn T) s) 0 1
   unfolding startFlag failing
@@ -30,7 +30,7 @@ module _ (T : Tables) (s : ℕ) (l : s < T .size .n) where
 
   pub start-end-is : startEnd (spanAt T s) ≡ cond (failing (planIn T) s) 1 (cond (active (planIn T) s) 2 0)
   unfolding startEnd failing
-  start-end-is = rw (kind-held T s l, busy-active)
+  start-end-is = rw (kind-held T s l, span-active)
 
 -- an entry FFFF is no command's
 pub entry-none : (o : Option ℕ) → ((c : ℕ) → o ≡ some c → c < FFFF) → eqb (entry o) FFFF ≡ not (found o)

@@ -21,10 +21,10 @@ use Rattle.model.proofs.Delivered.{delivered}
 use Rattle.tables.specs.declared.Row.{Row}
 use Rattle.tables.specs.declared.Refusal.{Refusal as Word}
 use Rattle.tables.specs.declared.Size.{Size}
-use Rattle.tables.specs.Meaning.{held, refusalOf, gateOf}
+use Rattle.tables.specs.Meaning.{held, refusalOf, admissionOf}
 use Rattle.search.specs.declared.Found.{Found}
-use Rattle.tables.specs.declared.internal.Gate.{Gate}
-use Rattle.tables.specs.declared.internal.Gate.the-variants.{Open, Shut}
+use Rattle.tables.specs.declared.internal.Admission.{Admission}
+use Rattle.tables.specs.declared.internal.Admission.the-variants.{Granted, Denied}
 use Rattle.search.specs.declared.SearchAnswer.{SearchAnswer}
 use Rattle.search.specs.declared.SearchAnswer.the-variants.{Given, Refused}
 use Rattle.search.specs.Prepared.{Prepared}
@@ -67,20 +67,20 @@ module _ (T : Tables) (a : ℕ) (c s : List ℕ) where
       → s′ ≡ left (λ R. cleared (T .size .n)) found s → Replied r c′ s′
   replied r c′ s′ e f g = (e, (f, (g, demanded r c′ e f)))
 
-  -- the gate g, for which it was asked whether the plan is sound
-  module _ (sounds : Bool) (e : sounds ≡ sound T) (g : Gate) (h : gateOf g ≡ admitted sounds (T .size .n) a (length c) (length s)) where
-    found-is : found ≡ (gateOf g >> given (search (planIn T) a))
+  -- the admission g, for which it was asked whether the plan is sound
+  module _ (sounds : Bool) (e : sounds ≡ sound T) (g : Admission) (h : admissionOf g ≡ admitted sounds (T .size .n) a (length c) (length s)) where
+    found-is : found ≡ (admissionOf g >> given (search (planIn T) a))
     unfolding searching admitted
     found-is =
         rw (h, ← e)
         (ap (λ (x : Answer Result). need Unsound sounds >> x) (sym (then-assoc (need Stranger (ltb a (T .size .n))) _ _)) ∙ sym (then-assoc (need Unsound sounds) _ _))
 
     -- shut: every table is as it was
-    pub refuses : (w : Word) → g ≡ Shut w → Replied (Refused w) c s
+    pub refuses : (w : Word) → g ≡ Denied w → Replied (Refused w) c s
     unfolding answer left _>>_
     refuses w q = let z : found ≡ refused (refusalOf w) = found-is ∙ rw q in replied (Refused w) c s (rw z) (rw z) (rw z)
 
-    module _ (q : g ≡ Open) where
+    module _ (q : g ≡ Granted) where
       tests : (sounds ≡ true) × (a < T .size .n) × (T .size .n ≤ length c) × (T .size .n ≤ length s)
       tests = open-tests sounds (T .size .n) a (length c) (length s) (rw q at h)
 
@@ -93,10 +93,10 @@ module _ (T : Tables) (a : ℕ) (c s : List ℕ) where
           (rw z (filled-is lc (w .takes)))
           (rw z (filled-is ls (w .clean) ∙ ap (λ (r : List ℕ). overwrite r s) (tabulate-constant 0 0 (T .size .n))))
 
--- what the rounds ask for, behind an open gate
-pub behind-gate : (size : Size) (rows : List Row) (firsts outcomes : List ℕ) (a : ℕ) (c s u : List ℕ) (sounds : Bool) → sounds ≡ sound (held size rows firsts outcomes)
-    → (g : Gate) → gateOf g ≡ admitted sounds (size .n) a (length c) (length s) → g ≡ Open → 1024 ≤ length u
+-- what the rounds ask for, of an admitted call
+pub admitted-prepared : (size : Size) (rows : List Row) (firsts outcomes : List ℕ) (a : ℕ) (c s u : List ℕ) (sounds : Bool) → sounds ≡ sound (held size rows firsts outcomes)
+    → (g : Admission) → admissionOf g ≡ admitted sounds (size .n) a (length c) (length s) → g ≡ Granted → 1024 ≤ length u
     → Prepared size rows firsts outcomes a c s u
-behind-gate size rows firsts outcomes a c s u sounds e g h q lu =
+admitted-prepared size rows firsts outcomes a c s u sounds e g h q lu =
     let (t, l, lc, ls) = tests (held size rows firsts outcomes) a c s sounds e g h q in
     prepared size rows firsts outcomes (sym e ∙ t) a l c s u lc ls lu

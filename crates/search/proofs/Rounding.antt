@@ -7,7 +7,7 @@ use Prim.Native.Nat.{ℕ, _<_}
 use lib.Dec.{eqb}
 use lib.ListN.{getD}
 use borrow.Author.Tests.{eq-eqb, ne-eqb}
-use Rattle.laws.specs.Sets.{every, found}
+use Rattle.laws.specs.Sets.{every}
 use Rattle.laws.specs.Filled.{Filled}
 use Rattle.laws.proofs.Tests.{clash, true-or-false}
 use Rattle.laws.proofs.Agree.{every-same}
@@ -25,8 +25,8 @@ use Rattle.model.proofs.Valid.{sound-valid}
 use Rattle.tables.specs.Meaning.{spanAt}
 use Rattle.choice.proofs.Taken.{few-commands}
 use Rattle.search.specs.Flags.{knownIn, walkedIn}
-use Rattle.search.specs.Phases.{walkFlag, taken, Walked, stuckAt, settledAt, endOf, roundFlag, roundEnd, Rounded}
-use Rattle.search.proofs.ReadStates.{busy-active, entry-none}
+use Rattle.search.specs.Phases.{walkFlag, taken, Walked, markedAt, settledAt, endOf, roundFlag, roundEnd, Rounded}
+use Rattle.search.proofs.ReadStates.{span-active, entry-none}
 
 module _ (T : Tables) (sounds : sound T ≡ true) (a : ℕ) (l : a < T .size .n) {c₀ s₀ c₁ s₁ : List ℕ} (fresh : knownIn s₀ a ≡ false)
     (w : Walked (planIn T) (T .size .n) a c₀ s₀ c₁ s₁) where
@@ -52,15 +52,15 @@ module _ (T : Tables) (sounds : sound T ≡ true) (a : ℕ) (l : a < T .size .n)
       go false e = ⊎-elim (λ t. rw t) (λ t. rw t) (true-or-false (K x))
 
   -- the states that the sweep finds are those that the round marks
-  stuck-is : (x : ℕ) → x < T .size .n → stuckAt (spanAt T x) c₁ s₁ x ≡ marked P K a x
-  unfolding stuckAt marked taken
-  stuck-is x k =
-      rw (walked-is x k, busy-active T x k, w .takes .low x k)
+  marked-is : (x : ℕ) → x < T .size .n → markedAt (spanAt T x) c₁ s₁ x ≡ marked P K a x
+  unfolding markedAt marked taken
+  marked-is x k =
+      rw (walked-is x k, span-active T x k, w .takes .low x k)
       (⊎-elim (λ e. rw e (ap (λ (b : Bool). active P x && b) (entry-none (choice P K x) (few-commands T sounds x k K)))) (λ e. rw e) (true-or-false (reached P K a x)))
 
   settled-is : (x : ℕ) → x < T .size .n → settledAt (spanAt T x) c₁ s₁ x ≡ roundFlag P K a x
   unfolding settledAt roundFlag walkFlag
-  settled-is x k = rw (stuck-is x k, walked-is x k, w .flags .low x k) (go (K x) (reached P K a x) (marked P K a x) refl refl refl)
+  settled-is x k = rw (marked-is x k, walked-is x k, w .flags .low x k) (go (K x) (reached P K a x) (marked P K a x) refl refl refl)
     where
       go : (b t u : Bool) → K x ≡ b → reached P K a x ≡ t → marked P K a x ≡ u
           → _≡_ {A = ℕ} (cond u 0 (cond t 1 (cond b 0 (cond t 2 1)))) (cond (b || u) 0 1)
@@ -72,13 +72,13 @@ module _ (T : Tables) (sounds : sound T ≡ true) (a : ℕ) (l : a < T .size .n)
       go false false false e f g = refl
 
   -- after the sweep, with whether it found none and with the start's flag
-  module _ (calm : Bool) (e : calm ≡ every (λ x. not (stuckAt (spanAt T x) c₁ s₁ x)) (T .size .n)) {s₂ : List ℕ}
-      (f : Filled (T .size .n) (λ x. settledAt (spanAt T x) c₁ s₁ x) s₁ s₂) (r : ℕ) (z : r ≡ endOf calm (getD s₂ a 0)) where
+  module _ (unmarked : Bool) (e : unmarked ≡ every (λ x. not (markedAt (spanAt T x) c₁ s₁ x)) (T .size .n)) {s₂ : List ℕ}
+      (f : Filled (T .size .n) (λ x. settledAt (spanAt T x) c₁ s₁ x) s₁ s₂) (r : ℕ) (z : r ≡ endOf unmarked (getD s₂ a 0)) where
     flags-are : Filled (T .size .n) (roundFlag P K a) s₀ s₂
     flags-are = filled-over (w .flags) (filled-as settled-is f)
 
-    calm-is : calm ≡ every (λ x. not (marked P K a x)) (P .states)
-    calm-is = e ∙ every-same _ _ (T .size .n) (λ x k. ap not (stuck-is x k)) ∙ rw (states-held T)
+    unmarked-is : unmarked ≡ every (λ x. not (marked P K a x)) (P .states)
+    unmarked-is = e ∙ every-same _ _ (T .size .n) (λ x k. ap not (marked-is x k)) ∙ rw (states-held T)
 
     start-is : eqb (getD s₂ a 0) 0 ≡ marked P K a a
     unfolding roundFlag
@@ -90,19 +90,19 @@ module _ (T : Tables) (sounds : sound T ≡ true) (a : ℕ) (l : a < T .size .n)
 
     pub rounded : Rounded P (T .size .n) a c₀ s₀ r c₁ s₂
     unfolding roundEnd endOf
-    rounded = record { ends = z ∙ rw (calm-is, start-is); takes = w .takes; flags = flags-are }
+    rounded = record { ends = z ∙ rw (unmarked-is, start-is); takes = w .takes; flags = flags-are }
 
 -- how the round ends, by the start's flag r
-module _ (calm : Bool) (s : List ℕ) (a : ℕ) where
-  pub ends-calm : calm ≡ true → 0 ≡ endOf calm (getD s a 0)
+module _ (unmarked : Bool) (s : List ℕ) (a : ℕ) where
+  pub ends-unmarked : unmarked ≡ true → 0 ≡ endOf unmarked (getD s a 0)
   unfolding endOf
-  ends-calm h = rw h
+  ends-unmarked h = rw h
 
-  module _ (h : calm ≡ false) (r : ℕ) (p : r ≡ getD s a 0) where
-    pub ends-known : r ≡ 0 → 1 ≡ endOf calm (getD s a 0)
+  module _ (h : unmarked ≡ false) (r : ℕ) (p : r ≡ getD s a 0) where
+    pub ends-known : r ≡ 0 → 1 ≡ endOf unmarked (getD s a 0)
     unfolding endOf
     ends-known z = rw (h, ← p, eq-eqb r 0 z)
 
-    pub ends-open : (r ≡ 0 → ⊥) → 2 ≡ endOf calm (getD s a 0)
+    pub ends-open : (r ≡ 0 → ⊥) → 2 ≡ endOf unmarked (getD s a 0)
     unfolding endOf
     ends-open z = rw (h, ← p, ne-eqb r 0 z)

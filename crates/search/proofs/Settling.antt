@@ -17,19 +17,19 @@ use Rattle.model.specs.Tables.{Tables}
 use Rattle.tables.specs.declared.internal.Span.{Span}
 use Rattle.tables.specs.Meaning.{spanAt}
 use Rattle.search.specs.Flags.{walkedIn}
-use Rattle.search.specs.Prepared.{busySpan}
-use Rattle.search.specs.Phases.{startFlag, startEnd, stuckAt, settledAt}
+use Rattle.search.specs.Prepared.{activeSpan}
+use Rattle.search.specs.Phases.{startFlag, startEnd, markedAt, settledAt}
 
 -- ---- tests of a state by what was read of it
 
 module _ (q : Span) where
-  pub not-busy : (q .kind ≡ 0 → ⊥) → false ≡ busySpan q
-  unfolding busySpan
-  not-busy h = rw (ne-eqb (q .kind) 0 h)
+  pub not-active : (q .kind ≡ 0 → ⊥) → false ≡ activeSpan q
+  unfolding activeSpan
+  not-active h = rw (ne-eqb (q .kind) 0 h)
 
-  pub busy-count : q .kind ≡ 0 → ltb (q .first) (q .end) ≡ busySpan q
-  unfolding busySpan
-  busy-count h = rw (eq-eqb (q .kind) 0 h)
+  pub active-count : q .kind ≡ 0 → ltb (q .first) (q .end) ≡ activeSpan q
+  unfolding activeSpan
+  active-count h = rw (eq-eqb (q .kind) 0 h)
 
   pub flag-failing : q .kind ≡ 1 → 0 ≡ startFlag q
   unfolding startFlag
@@ -43,10 +43,10 @@ module _ (q : Span) where
   unfolding startEnd
   end-failing h = rw (eq-eqb (q .kind) 1 h)
 
-  module _ (h : q .kind ≡ 1 → ⊥) (t : Bool) (e : t ≡ busySpan q) where
-    pub end-busy : t ≡ true → 2 ≡ startEnd q
+  module _ (h : q .kind ≡ 1 → ⊥) (t : Bool) (e : t ≡ activeSpan q) where
+    pub end-active : t ≡ true → 2 ≡ startEnd q
     unfolding startEnd
-    end-busy z = rw (ne-eqb (q .kind) 1 h, ← e, z)
+    end-active z = rw (ne-eqb (q .kind) 1 h, ← e, z)
 
     pub end-rest : t ≡ false → 0 ≡ startEnd q
     unfolding startEnd
@@ -55,62 +55,62 @@ module _ (q : Span) where
 -- ---- the sweep at one state, whose flag r was read
 
 module _ (q : Span) (cs s : List ℕ) (x r : ℕ) (p : r ≡ getD s x 0) where
-  pub not-reached : (r ≡ 2 → ⊥) → false ≡ stuckAt q cs s x
-  unfolding stuckAt walkedIn
+  pub not-reached : (r ≡ 2 → ⊥) → false ≡ markedAt q cs s x
+  unfolding markedAt walkedIn
   not-reached h = rw (← p, ne-eqb r 2 h)
 
-  module _ (h : r ≡ 2) (t : Bool) (e : t ≡ busySpan q) where
-    pub nothing-to-take : not t ≡ true → false ≡ stuckAt q cs s x
-    unfolding stuckAt walkedIn
+  module _ (h : r ≡ 2) (t : Bool) (e : t ≡ activeSpan q) where
+    pub nothing-to-take : not t ≡ true → false ≡ markedAt q cs s x
+    unfolding markedAt walkedIn
     nothing-to-take z = rw (← p, eq-eqb r 2 h, ← e, not-true t z)
 
-    pub nothing-taken : not t ≡ false → (v : ℕ) → v ≡ getD cs x 0 → eqb v FFFF ≡ stuckAt q cs s x
-    unfolding stuckAt walkedIn
+    pub nothing-taken : not t ≡ false → (v : ℕ) → v ≡ getD cs x 0 → eqb v FFFF ≡ markedAt q cs s x
+    unfolding markedAt walkedIn
     nothing-taken z v u = rw (← p, eq-eqb r 2 h, ← e, not-false t z, u)
 
-module _ (q : Span) (cs s : List ℕ) (x : ℕ) (calm t : Bool) (p : t ≡ stuckAt q cs s x) where
-  pub swept-marked : t ≡ true → (s′ : List ℕ) → s′ ≡ set s x 0 → (false ≡ (calm && not (stuckAt q cs s x))) × (s′ ≡ set s x (settledAt q cs s x))
+module _ (q : Span) (cs s : List ℕ) (x : ℕ) (unmarked t : Bool) (p : t ≡ markedAt q cs s x) where
+  pub swept-marked : t ≡ true → (s′ : List ℕ) → s′ ≡ set s x 0 → (false ≡ (unmarked && not (markedAt q cs s x))) × (s′ ≡ set s x (settledAt q cs s x))
   unfolding settledAt
-  swept-marked h s′ e = (rw (← p, h) (sym (and-false calm)), rw (← p, h) e)
+  swept-marked h s′ e = (rw (← p, h) (sym (and-false unmarked)), rw (← p, h) e)
 
   module _ (h : t ≡ false) (r : ℕ) (u : r ≡ getD s x 0) where
-    still-calm : calm ≡ (calm && not (stuckAt q cs s x))
-    still-calm = rw (← p, h) (sym (and-true calm))
+    still-unmarked : unmarked ≡ (unmarked && not (markedAt q cs s x))
+    still-unmarked = rw (← p, h) (sym (and-true unmarked))
 
-    pub swept-reached : r ≡ 2 → (s′ : List ℕ) → s′ ≡ set s x 1 → (calm ≡ (calm && not (stuckAt q cs s x))) × (s′ ≡ set s x (settledAt q cs s x))
+    pub swept-reached : r ≡ 2 → (s′ : List ℕ) → s′ ≡ set s x 1 → (unmarked ≡ (unmarked && not (markedAt q cs s x))) × (s′ ≡ set s x (settledAt q cs s x))
     unfolding settledAt walkedIn
-    swept-reached z s′ e = (still-calm, rw (← p, h, ← u, eq-eqb r 2 z) e)
+    swept-reached z s′ e = (still-unmarked, rw (← p, h, ← u, eq-eqb r 2 z) e)
 
-    pub swept-other : (r ≡ 2 → ⊥) → (calm ≡ (calm && not (stuckAt q cs s x))) × (s ≡ set s x (settledAt q cs s x))
+    pub swept-other : (r ≡ 2 → ⊥) → (unmarked ≡ (unmarked && not (markedAt q cs s x))) × (s ≡ set s x (settledAt q cs s x))
     unfolding settledAt walkedIn
-    swept-other z = (still-calm, rw (← p, h, ne-eqb (getD s x 0) 2 (λ w. z (u ∙ w))) (sym (set-getD s x 0)))
+    swept-other z = (still-unmarked, rw (← p, h, ne-eqb (getD s x 0) 2 (λ w. z (u ∙ w))) (sym (set-getD s x 0)))
 
 -- ---- the sweep, at place i
 
-pub record Settling (T : Tables) (cs s₀ s : List ℕ) (calm : Bool) (i : ℕ) : Type 0 where
+pub record Settling (T : Tables) (cs s₀ s : List ℕ) (unmarked : Bool) (i : ℕ) : Type 0 where
   pub flags : Filled i (λ x. settledAt (spanAt T x) cs s₀ x) s₀ s
-  pub calms : calm ≡ every (λ x. not (stuckAt (spanAt T x) cs s₀ x)) i
+  pub unmarks : unmarked ≡ every (λ x. not (markedAt (spanAt T x) cs s₀ x)) i
 
 pub settling-start : {T : Tables} {cs s : List ℕ} → Settling T cs s s true 0
 unfolding every
-settling-start = record { flags = filled-none; calms = refl }
+settling-start = record { flags = filled-none; unmarks = refl }
 
-module _ {T : Tables} {cs s₀ s : List ℕ} {calm : Bool} {i : ℕ} (w : Settling T cs s₀ s calm i) where
-  stuck-as : (q : Span) → stuckAt q cs s i ≡ stuckAt q cs s₀ i
-  unfolding stuckAt walkedIn
-  stuck-as q = rw (w .flags .high i (omega arith))
+module _ {T : Tables} {cs s₀ s : List ℕ} {unmarked : Bool} {i : ℕ} (w : Settling T cs s₀ s unmarked i) where
+  marked-as : (q : Span) → markedAt q cs s i ≡ markedAt q cs s₀ i
+  unfolding markedAt walkedIn
+  marked-as q = rw (w .flags .high i (omega arith))
 
   settled-as : (q : Span) → settledAt q cs s i ≡ settledAt q cs s₀ i
-  unfolding settledAt stuckAt walkedIn
+  unfolding settledAt markedAt walkedIn
   settled-as q = rw (w .flags .high i (omega arith))
 
   pub settling-next : i < length s₀ → (q : Span) → q ≡ spanAt T i → (r : Bool) (s′ : List ℕ)
-      → r ≡ (calm && not (stuckAt q cs s i)) → s′ ≡ set s i (settledAt q cs s i) → Settling T cs s₀ s′ r (i + 1)
+      → r ≡ (unmarked && not (markedAt q cs s i)) → s′ ≡ set s i (settledAt q cs s i) → Settling T cs s₀ s′ r (i + 1)
   unfolding every
   settling-next l q is r s′ e f = record {
     flags = filled-next (w .flags) l _ (settled-as q ∙ ap (λ (p : Span). settledAt p cs s₀ i) is) s′ f;
-    calms = rw (add-one i) (e ∙ rw (stuck-as q, is, w .calms));
+    unmarks = rw (add-one i) (e ∙ rw (marked-as q, is, w .unmarks));
   }
 
-  pub settling-done : {n : ℕ} → i ≤ n → n ≤ i → Settling T cs s₀ s calm n
+  pub settling-done : {n : ℕ} → i ≤ n → n ≤ i → Settling T cs s₀ s unmarked n
   settling-done {n} h k = let e : i ≡ n = omega arith in rw e at w

@@ -28,7 +28,7 @@ use Rattle.model.proofs.Valid.{sound-valid}
 use Rattle.tables.specs.declared.internal.Span.{Span}
 use Rattle.tables.specs.Meaning.{spanAt}
 use Rattle.search.specs.Flags.{knownIn}
-use Rattle.search.specs.Prepared.{Fresh}
+use Rattle.search.specs.Prepared.{RoundStart}
 use Rattle.search.specs.Phases.{startFlag, startEnd, taken, roundFlag, roundEnd, Rounded}
 use Rattle.search.proofs.SameSets.{choice-over, reached-alike, marked-alike}
 use Rattle.search.proofs.ReadStates.{start-flag-is, start-end-is}
@@ -154,8 +154,8 @@ module _ {P : Plan} (S : Valid P) {n : ℕ} (count : P .states ≡ n) {a : ℕ} 
       go true = refl
       go false = refl
 
-  pub due-fresh : Fresh n a s
-  due-fresh = record {
+  pub due-round-start : RoundStart n a s
+  due-round-start = record {
     flags = λ x k. rw (d .known-is x k) (⊎-elim (λ t. rw t (omega arith)) (λ t. rw t (omega arith)) (true-or-false (K x)));
     unknown = same a (in-plan l) ∙ d .fresh;
   }
@@ -206,9 +206,9 @@ module _ {P : Plan} (S : Valid P) {n : ℕ} (count : P .states ≡ n) {a : ℕ} 
 
     safe-next : end ≡ 0 → Safe P n a (suc j) cs′
     safe-next z =
-        let calm = end-zero (withoutMarks P a j) (marked P K a a) (sym end-is ∙ z) in
-        let last = unmarked-ends P a j calm in
-        let open-start : known P a (suc j) a ≡ false = start-next ∙ unmarked-is P a j calm a (in-plan l) in
+        let none-marked = end-zero (withoutMarks P a j) (marked P K a a) (sym end-is ∙ z) in
+        let last = unmarked-ends P a j none-marked in
+        let open-start : known P a (suc j) a ≡ false = start-next ∙ unmarked-is P a j none-marked a (in-plan l) in
         record {
           verdict = last-lost P S a (in-plan l) (d .act) j (d .unended) last ∙ open-start;
           counted = last-rounds P S a (in-plan l) (d .act) j (d .unended) last;

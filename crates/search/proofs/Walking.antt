@@ -21,7 +21,7 @@ use Rattle.model.specs.Search.{lands, reached}
 use Rattle.model.proofs.Choices.{choice-some}
 use Rattle.model.proofs.Walks.{lands-is, lands-of, start-reached, goes-on, reached-all}
 use Rattle.search.specs.Flags.{knownIn, walkedIn, Lists, Spread}
-use Rattle.search.specs.Phases.{Gone, walkFlag, taken, Walked}
+use Rattle.search.specs.Phases.{Expanded, walkFlag, taken, Walked}
 use Rattle.search.proofs.FlagValues.{known-value, unknown-value, walked-value, unwalked-value}
 
 -- The walk has reached q states, and has gone on from the first h of the queue. K is the known set, and c₀, s₀, u₀ are the tables when
@@ -89,7 +89,7 @@ module _ {P : Plan} {n : ℕ} {K : ℕ → Bool} {a : ℕ} {c₀ s₀ u₀ : Lis
 
   module _ (S : Valid P) (count : P .states ≡ n) where
     -- the next state of the queue is gone on from
-    module _ (k : h < q) (x : ℕ) (p : x ≡ getD u h 0) {q′ : ℕ} {cs′ s′ u′ : List ℕ} (g : Gone P n q x cs s u q′ cs′ s′ u′) where
+    module _ (k : h < q) (x : ℕ) (p : x ≡ getD u h 0) {q′ : ℕ} {cs′ s′ u′ : List ℕ} (g : Expanded P n q x cs s u q′ cs′ s′ u′) where
       same : knownIn s ≡ K
       same = fun-ext (w .known)
 
@@ -162,14 +162,14 @@ module _ {P : Plan} {n : ℕ} {K : ℕ → Bool} {a : ℕ} {c₀ s₀ u₀ : Lis
 
     -- the queue is empty: what is reached is closed, so it is all that a walk reaches
     module _ (a-in : a < n) (done : q ≤ h) where
-      gone-on : (x : ℕ) → x < n → walkedIn s x ≡ true → (i : ℕ) × (i < h) × (getD u i 0 ≡ x)
-      gone-on x k t = let (i, m, z) = w .lists .listed x k t in (i, omega arith, z)
+      expanded-from : (x : ℕ) → x < n → walkedIn s x ≡ true → (i : ℕ) × (i < h) × (getD u i 0 ≡ x)
+      expanded-from x k t = let (i, m, z) = w .lists .listed x k t in (i, omega arith, z)
 
       covers : (x : ℕ) → reached P K a x ≡ true → (x < n) × (walkedIn s x ≡ true)
       covers =
           reached-all P K a (λ x. (x < n) × (walkedIn s x ≡ true)) (a-in, w .start)
           (λ t c x k g e m.
-          let (i, l, z) = gone-on t (g .0) (g .1) in
+          let (i, l, z) = expanded-from t (g .0) (g .1) in
           (rw count at (S .inside t c x k (choice-some P K t c e .1) m), w .closed i x l (rw (z, e) (lands-of P t c x m))))
 
       reached-is : (x : ℕ) → x < n → reached P K a x ≡ walkedIn s x
@@ -184,7 +184,7 @@ module _ {P : Plan} {n : ℕ} {K : ℕ → Bool} {a : ℕ} {c₀ s₀ u₀ : Lis
           one v p r z = omega (arith, z)
 
       entry-is : (x : ℕ) → x < n → (t : Bool) → walkedIn s x ≡ t → getD cs x 0 ≡ cond t (entry (choice P K x)) FFFF
-      entry-is x k true f = let (i, l, z) = gone-on x k f in subst (λ y. getD cs y 0 ≡ entry (choice P K y)) z (w .took i l)
+      entry-is x k true f = let (i, l, z) = expanded-from x k f in subst (λ y. getD cs y 0 ≡ entry (choice P K y)) z (w .took i l)
       entry-is x k false f = w .blank x k f
 
       pub walking-flags : Filled n (walkFlag P K a) s₀ s

@@ -14,7 +14,7 @@ use Rattle.model.specs.Search.{lands, reached, marked, search}
 use Rattle.tables.specs.declared.internal.Span.{Span}
 use Rattle.search.specs.declared.Found.{Found}
 use Rattle.search.specs.Flags.{knownIn, walkedIn, Spread}
-use Rattle.search.specs.Prepared.{busySpan}
+use Rattle.search.specs.Prepared.{activeSpan}
 
 -- before the first round: the failing states are known
 unfoldable pub startFlag : Span → ℕ
@@ -22,10 +22,10 @@ startFlag q = cond (eqb (q .kind) 1) 0 1
 
 -- 2 where rounds are to be walked, else the verdict: 1 lost, 0 safe
 unfoldable pub startEnd : Span → ℕ
-startEnd q = cond (eqb (q .kind) 1) 1 (cond (busySpan q) 2 0)
+startEnd q = cond (eqb (q .kind) 1) 1 (cond (activeSpan q) 2 0)
 
 -- the walk went on from s: it took the command there, and that command's outcomes into the walk
-pub record Gone (P : Plan) (n q s : ℕ) (commands scratch queue : List ℕ) (q′ : ℕ) (commands′ scratch′ queue′ : List ℕ) : Type 0 where
+pub record Expanded (P : Plan) (n q s : ℕ) (commands scratch queue : List ℕ) (q′ : ℕ) (commands′ scratch′ queue′ : List ℕ) : Type 0 where
   pub took : commands′ ≡ set commands s (entry (choice P (knownIn scratch) s))
   pub spreads : Spread n q (lands P s (choice P (knownIn scratch) s)) scratch queue q′ scratch′ queue′
 
@@ -41,12 +41,12 @@ pub record Walked (P : Plan) (n a : ℕ) (commands scratch commands′ scratch�
   pub flags : Filled n (walkFlag P (knownIn scratch) a) scratch scratch′
 
 -- the walk reached s, which has commands, and took none of them
-unfoldable pub stuckAt : Span → List ℕ → List ℕ → ℕ → Bool
-stuckAt q commands scratch s = walkedIn scratch s && busySpan q && eqb (getD commands s 0) FFFF
+unfoldable pub markedAt : Span → List ℕ → List ℕ → ℕ → Bool
+markedAt q commands scratch s = walkedIn scratch s && activeSpan q && eqb (getD commands s 0) FFFF
 
 -- the flag of s when the round is over: what is marked is known, and what was reached is so no more
 unfoldable pub settledAt : Span → List ℕ → List ℕ → ℕ → ℕ
-settledAt q commands scratch s = cond (stuckAt q commands scratch s) 0 (cond (walkedIn scratch s) 1 (getD scratch s 0))
+settledAt q commands scratch s = cond (markedAt q commands scratch s) 0 (cond (walkedIn scratch s) 1 (getD scratch s 0))
 
 -- after a round from a
 unfoldable pub roundFlag : Plan → (ℕ → Bool) → ℕ → ℕ → ℕ
@@ -54,7 +54,7 @@ roundFlag P K a x = cond (K x || marked P K a x) 0 1
 
 -- how a round ends, by whether it has no marks and by the start's flag after it: 0 if there are none, 1 if the start is known, else 2
 unfoldable pub endOf : Bool → ℕ → ℕ
-endOf calm flag = cond calm 0 (cond (eqb flag 0) 1 2)
+endOf unmarked flag = cond unmarked 0 (cond (eqb flag 0) 1 2)
 
 unfoldable pub roundEnd : Plan → (ℕ → Bool) → ℕ → ℕ
 roundEnd P K a = cond (every (λ x. not (marked P K a x)) (P .states)) 0 (cond (marked P K a a) 1 2)

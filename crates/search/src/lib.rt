@@ -8,9 +8,9 @@ ghost use Rattle.search.specs.Replies.{answerOf, Demanded};
 use tables::Refusal;
 use tables::Row;
 use tables::Size;
-use tables::internal::Gate;
+use tables::internal::Admission;
 
-mod gate;
+mod admission;
 mod marks;
 mod turns;
 mod walks;
@@ -45,10 +45,10 @@ pub fn search(
     ensures demand3 { λ r. ⌜ Demanded (held size (now (rows .entry)) (now (firsts .entry)) (now (outcomes .entry))) start r (now (commands .exit)) ⌝ }
 {
     let sounds = tables::sound(size, rows, firsts, outcomes);
-    let gate = gate::admit(sounds, size.n, start, commands.len(), scratch.len());
-    match gate {
-        Gate::Shut(refusal) => SearchAnswer::Refused(refusal),
-        Gate::Open => {
+    let admission = admission::admit(sounds, size.n, start, commands.len(), scratch.len());
+    match admission {
+        Admission::Denied(refusal) => SearchAnswer::Refused(refusal),
+        Admission::Granted => {
             let mut queue = [0u16; Size::STATES];
             let found = turns::rounds(
                 size,

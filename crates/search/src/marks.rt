@@ -7,10 +7,11 @@ ghost use lib.ListN.{length, set};
 ghost use Rattle.laws.specs.Sets.{every};
 ghost use Rattle.laws.specs.Filled.{Filled};
 ghost use Rattle.tables.specs.Meaning.{held, spanAt};
-ghost use Rattle.search.specs.Prepared.{busySpan};
-ghost use Rattle.search.specs.Phases.{startFlag, startEnd, stuckAt, settledAt};
+ghost use Rattle.search.specs.Prepared.{activeSpan};
+ghost use Rattle.search.specs.Phases.{startFlag, startEnd, markedAt, settledAt};
 use tables::Row;
 use tables::Size;
+use tables::internal::NONE;
 use tables::internal::Span;
 use tables::internal::at;
 use tables::internal::put;
@@ -18,7 +19,7 @@ use tables::internal::span_at;
 
 // Whether the state is ordinary and has commands.
 fn has_commands(span: Span) -> bool
-    ensures { λ r. ⌜ r ≡ busySpan span ⌝ }
+    ensures { λ r. ⌜ r ≡ activeSpan span ⌝ }
 {
     if span.kind != 0 {
         return false;
@@ -64,7 +65,7 @@ pub fn start_known(size: Size, rows: &[Row], scratch: &mut [u16])
 // Whether state s is marked: the walk reached it and took none of the commands that it has.
 fn is_marked(span: Span, commands: &[u16], scratch: &[u16], s: usize) -> bool
     requires { ⌜ (s < length (now commands)) × (s < length (now scratch)) ⌝ }
-    ensures { λ r. ⌜ r ≡ stuckAt span (now (commands .entry)) (now (scratch .entry)) s ⌝ }
+    ensures { λ r. ⌜ r ≡ markedAt span (now (commands .entry)) (now (scratch .entry)) s ⌝ }
 {
     if at(scratch, s) != 2 {
         return false;
@@ -72,14 +73,14 @@ fn is_marked(span: Span, commands: &[u16], scratch: &[u16], s: usize) -> bool
     if !has_commands(span) {
         return false;
     }
-    at(commands, s) == 65535
+    at(commands, s) == NONE
 }
 
 // Ends the round at state s: if it is marked it becomes known, and if the walk only reached it, it is not reached any more.
 // Answers whether there are no marks yet.
-fn settle_one(span: Span, commands: &[u16], scratch: &mut [u16], s: usize, calm: bool) -> bool
+fn settle_one(span: Span, commands: &[u16], scratch: &mut [u16], s: usize, unmarked: bool) -> bool
     requires { ⌜ (s < length (now commands)) × (s < length (now scratch)) ⌝ }
-    ensures { λ r. ⌜ r ≡ (calm && not (stuckAt span (now (commands .entry)) (now (scratch .entry)) s)) ⌝ }
+    ensures { λ r. ⌜ r ≡ (unmarked && not (markedAt span (now (commands .entry)) (now (scratch .entry)) s)) ⌝ }
     ensures { λ _. ⌜ now (scratch .exit) ≡ set (now (scratch .entry)) s (settledAt span (now (commands .entry)) (now (scratch .entry)) s) ⌝ }
 {
     if is_marked(span, commands, scratch, s) {
@@ -88,23 +89,23 @@ fn settle_one(span: Span, commands: &[u16], scratch: &mut [u16], s: usize, calm:
     }
     if at(scratch, s) == 2 {
         put(scratch, s, 1);
-        return calm;
+        return unmarked;
     }
-    calm
+    unmarked
 }
 
 // Ends the round, and answers whether it has no marks.
 pub fn settle(size: Size, rows: &[Row], commands: &[u16], scratch: &mut [u16]) -> bool
     requires { ⌜ (size .n ≤ length (now rows)) × (size .n ≤ length (now commands)) × (size .n ≤ length (now scratch)) ⌝ }
-    ensures { λ r. ⌜ ((F O : List ℕ) → r ≡ every (λ s. not (stuckAt (spanAt (held size (now (rows .entry)) F O) s) (now (commands .entry)) (now (scratch .entry)) s)) (size .n)) ⌝ }
+    ensures { λ r. ⌜ ((F O : List ℕ) → r ≡ every (λ s. not (markedAt (spanAt (held size (now (rows .entry)) F O) s) (now (commands .entry)) (now (scratch .entry)) s)) (size .n)) ⌝ }
     ensures { λ _. ⌜ ((F O : List ℕ) → Filled (size .n) (λ s. settledAt (spanAt (held size (now (rows .entry)) F O) s) (now (commands .entry)) (now (scratch .entry)) s) (now (scratch .entry)) (now (scratch .exit))) ⌝ }
 {
-    let mut calm = true;
+    let mut unmarked = true;
     let mut s = 0;
     while s < size.n {
         let span = span_at(size, rows, s);
-        calm = settle_one(span, commands, scratch, s, calm);
+        unmarked = settle_one(span, commands, scratch, s, unmarked);
         s += 1;
     }
-    calm
+    unmarked
 }

@@ -4,7 +4,7 @@ ghost use Prim.Native.Nat.{_<_, _≤_};
 ghost use lib.ListN.{length, getD};
 ghost use Rattle.model.specs.Held.{planIn};
 ghost use Rattle.tables.specs.Meaning.{held};
-ghost use Rattle.search.specs.Prepared.{Prepared, Fresh};
+ghost use Rattle.search.specs.Prepared.{Prepared, RoundStart};
 ghost use Rattle.search.specs.Phases.{endOf, Rounded, Finished, Answered};
 use crate::Found;
 use crate::marks::settle;
@@ -13,16 +13,17 @@ use crate::marks::start_known;
 use crate::walks::walk;
 use tables::Row;
 use tables::Size;
+use tables::internal::NONE;
 use tables::internal::at;
 use tables::internal::fill;
 use tables::internal::span_at;
 
 // How a round ends: 0 if it has no marks, 1 if the start is known by then, else 2.
-fn round_end(calm: bool, scratch: &[u16], start: usize) -> usize
+fn round_end(unmarked: bool, scratch: &[u16], start: usize) -> usize
     requires { ⌜ start < length (now scratch) ⌝ }
-    ensures { λ r. ⌜ r ≡ endOf calm (getD (now (scratch .entry)) start 0) ⌝ }
+    ensures { λ r. ⌜ r ≡ endOf unmarked (getD (now (scratch .entry)) start 0) ⌝ }
 {
-    if calm {
+    if unmarked {
         return 0;
     }
     if at(scratch, start) == 0 {
@@ -43,7 +44,7 @@ pub fn round(
     queue: &mut [u16],
 ) -> usize
     requires { ⌜ Prepared size (now rows) (now firsts) (now outcomes) start (now commands) (now scratch) (now queue) ⌝ }
-    requires { ⌜ Fresh (size .n) start (now scratch) ⌝ }
+    requires { ⌜ RoundStart (size .n) start (now scratch) ⌝ }
     ensures { λ r. ⌜ Rounded (planIn (held size (now (rows .entry)) (now (firsts .entry)) (now (outcomes .entry)))) (size .n) start (now (commands .entry)) (now (scratch .entry)) r (now (commands .exit)) (now (scratch .exit)) ⌝ }
 {
     walk(
@@ -56,8 +57,8 @@ pub fn round(
         scratch,
         queue,
     );
-    let calm = settle(size, rows, commands, scratch);
-    round_end(calm, scratch, start)
+    let unmarked = settle(size, rows, commands, scratch);
+    round_end(unmarked, scratch, start)
 }
 
 // Clears what the answer does not need, after rounds of which the last ended so.
@@ -72,7 +73,7 @@ fn finish(n: usize, end: usize, rounds: usize, commands: &mut [u16], scratch: &m
             rounds,
         };
     }
-    fill(commands, n, 65535);
+    fill(commands, n, NONE);
     Found { lost: true, rounds }
 }
 
@@ -90,7 +91,7 @@ pub fn rounds(
     requires { ⌜ Prepared size (now rows) (now firsts) (now outcomes) start (now commands) (now scratch) (now queue) ⌝ }
     ensures { λ r. ⌜ Answered (planIn (held size (now (rows .entry)) (now (firsts .entry)) (now (outcomes .entry)))) (size .n) start (now (commands .entry)) (now (scratch .entry)) r (now (commands .exit)) (now (scratch .exit)) ⌝ }
 {
-    fill(commands, size.n, 65535);
+    fill(commands, size.n, NONE);
     start_known(size, rows, scratch);
     let span = span_at(size, rows, start);
     let mut end = start_end(span);

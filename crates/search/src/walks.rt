@@ -10,6 +10,7 @@ ghost use lib.Seq.{slice};
 ghost use Rattle.laws.specs.Sets.{any};
 ghost use Rattle.laws.specs.Entry.{FFFF};
 ghost use Rattle.laws.specs.Filled.{Filled};
+ghost use Rattle.model.specs.File.{maxStates};
 ghost use Rattle.model.specs.SoundTest.{sound};
 ghost use Rattle.model.specs.Held.{planIn};
 ghost use Rattle.tables.specs.declared.Row.{Row};
@@ -17,11 +18,12 @@ ghost use Rattle.tables.specs.Meaning.{held, spanAt};
 ghost use Rattle.tables.specs.Seen.{Seen};
 ghost use Rattle.choice.specs.Ready.{Ready};
 ghost use Rattle.search.specs.Flags.{knownIn, Lists, Spread};
-ghost use Rattle.search.specs.Prepared.{Prepared, Fresh};
-ghost use Rattle.search.specs.Phases.{Gone, Walked};
+ghost use Rattle.search.specs.Prepared.{Prepared, RoundStart};
+ghost use Rattle.search.specs.Phases.{Expanded, Walked};
 use choice::internal::choose;
 use tables::Row;
 use tables::Size;
+use tables::internal::NONE;
 use tables::internal::Span;
 use tables::internal::at;
 use tables::internal::fill;
@@ -32,7 +34,7 @@ use tables::internal::span_at;
 // Takes state x into the walk, which has reached q states, unless it has reached x; answers how many it has reached then.
 fn reach(n: usize, scratch: &mut [u16], queue: &mut [u16], q: usize, x: usize) -> usize
     requires { ⌜ Lists n q (now scratch) (now queue) ⌝ }
-    requires { ⌜ (x < n) × (n ≤ 1024) × (n ≤ length (now scratch)) × (n ≤ length (now queue)) × (knownIn (now scratch) x ≡ false) ⌝ }
+    requires { ⌜ (x < n) × (n ≤ maxStates) × (n ≤ length (now scratch)) × (n ≤ length (now queue)) × (knownIn (now scratch) x ≡ false) ⌝ }
     ensures { λ r. ⌜ Spread n q (λ y. eqb y x) (now (scratch .entry)) (now (queue .entry)) r (now (scratch .exit)) (now (queue .exit)) ⌝ }
 {
     if at(scratch, x) != 1 {
@@ -54,7 +56,7 @@ fn spread(
     end: usize,
 ) -> usize
     requires { ⌜ Lists n q (now scratch) (now queue) ⌝ }
-    requires { ⌜ (n ≤ 1024) × (n ≤ length (now scratch)) × (n ≤ length (now queue)) ⌝ }
+    requires { ⌜ (n ≤ maxStates) × (n ≤ length (now scratch)) × (n ≤ length (now queue)) ⌝ }
     requires { ⌜ (from ≤ end) × (end ≤ length (now outcomes)) × ((j : ℕ) → j < end → getD (now outcomes) j 0 < n) ⌝ }
     requires { ⌜ any (knownIn (now scratch)) (slice from end (now outcomes)) ≡ false ⌝ }
     ensures { λ r. ⌜ Spread n q (λ y. any (eqb y) (slice from end (now (outcomes .entry)))) (now (scratch .entry)) (now (queue .entry)) r (now (scratch .exit)) (now (queue .exit)) ⌝ }
@@ -84,11 +86,11 @@ fn expand(
     requires { ⌜ Seen size (now firsts) (now outcomes) s span ⌝ }
     requires { ⌜ (size .n ≤ length (now commands)) × (size .n ≤ length (now scratch)) × (size .n ≤ length (now queue)) ⌝ }
     requires { ⌜ Lists (size .n) q (now scratch) (now queue) ⌝ }
-    ensures { λ r. ⌜ ((R : List Row) → sound (held size R (now (firsts .entry)) (now (outcomes .entry))) ≡ true → span ≡ spanAt (held size R (now (firsts .entry)) (now (outcomes .entry))) s → Gone (planIn (held size R (now (firsts .entry)) (now (outcomes .entry)))) (size .n) q s (now (commands .entry)) (now (scratch .entry)) (now (queue .entry)) r (now (commands .exit)) (now (scratch .exit)) (now (queue .exit))) ⌝ }
+    ensures { λ r. ⌜ ((R : List Row) → sound (held size R (now (firsts .entry)) (now (outcomes .entry))) ≡ true → span ≡ spanAt (held size R (now (firsts .entry)) (now (outcomes .entry))) s → Expanded (planIn (held size R (now (firsts .entry)) (now (outcomes .entry)))) (size .n) q s (now (commands .entry)) (now (scratch .entry)) (now (queue .entry)) r (now (commands .exit)) (now (scratch .exit)) (now (queue .exit))) ⌝ }
 {
     let c = choose(size, span, firsts, outcomes, scratch, 0);
     put(commands, s, c);
-    if c == 65535 {
+    if c == NONE {
         return q;
     }
     let g = span.first + c;
@@ -105,12 +107,12 @@ fn begin(
     scratch: &mut [u16],
     queue: &mut [u16],
 ) -> usize
-    requires { ⌜ (start < n) × (n ≤ 1024) × (n ≤ length (now commands)) × (n ≤ length (now scratch)) × (n ≤ length (now queue)) ⌝ }
-    requires { ⌜ Fresh n start (now scratch) ⌝ }
+    requires { ⌜ (start < n) × (n ≤ maxStates) × (n ≤ length (now commands)) × (n ≤ length (now scratch)) × (n ≤ length (now queue)) ⌝ }
+    requires { ⌜ RoundStart n start (now scratch) ⌝ }
     ensures { λ _. ⌜ Filled n (λ _. FFFF) (now (commands .entry)) (now (commands .exit)) ⌝ }
     ensures { λ r. ⌜ Spread n 0 (λ y. eqb y start) (now (scratch .entry)) (now (queue .entry)) r (now (scratch .exit)) (now (queue .exit)) ⌝ }
 {
-    fill(commands, n, 65535);
+    fill(commands, n, NONE);
     reach(n, scratch, queue, 0, start)
 }
 
@@ -126,7 +128,7 @@ pub fn walk(
     queue: &mut [u16],
 )
     requires { ⌜ Prepared size (now rows) (now firsts) (now outcomes) start (now commands) (now scratch) (now queue) ⌝ }
-    requires { ⌜ Fresh (size .n) start (now scratch) ⌝ }
+    requires { ⌜ RoundStart (size .n) start (now scratch) ⌝ }
     ensures { λ _. ⌜ Walked (planIn (held size (now (rows .entry)) (now (firsts .entry)) (now (outcomes .entry)))) (size .n) start (now (commands .entry)) (now (scratch .entry)) (now (commands .exit)) (now (scratch .exit)) ⌝ }
 {
     let mut q = begin(size.n, start, commands, scratch, queue);

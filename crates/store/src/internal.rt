@@ -10,6 +10,7 @@ ghost use Rattle.model.specs.Boundary.{bytesFor, rowEntries, sizeEntries};
 ghost use Rattle.tables.specs.Meaning.{numbers, rowOf, rowsOf};
 use tables::Row;
 use tables::Size;
+use tables::internal::narrow;
 use tables::internal::row_at;
 
 // Stores x as the entry i.
@@ -54,13 +55,6 @@ pub fn store_rows(rows: &[Row], bytes: &mut [u8], n: usize)
         store_row(row, bytes, s);
         s += 1;
     }
-}
-
-fn narrow(x: usize) -> u16
-    requires { ⌜ x < 65536 ⌝ }
-    ensures { λ r. ⌜ r ≡ x ⌝ }
-{
-    x as u16
 }
 
 // Stores a size record: n, m, t, start.

@@ -2,8 +2,8 @@
 use mathlib.Core.Path.{_≡_, refl, _∙_, ap}
 use mathlib.Core.Bool.{Bool, true, false, _&&_}
 use borrow.Author.Tests.{leb-true}
-use Prim.Native.Nat.{ℕ, _<_, _≤_}
-use lib.Dec.{leb, ltb}
+use Prim.Native.Nat.{_<_}
+use lib.Dec.{leb}
 use Rattle.laws.specs.Sets.{every}
 use Rattle.laws.proofs.Tests.{and-both}
 use Rattle.model.specs.Tables.{Size, Tables}

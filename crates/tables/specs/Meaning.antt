@@ -9,12 +9,12 @@ use Rattle.model.specs.Refusal.{Refusal as Word, Answer, given, refused}
 use Rattle.model.specs.Tables.{Size as Numbers, Row as Line, Tables}
 use Rattle.model.specs.File.{notIdle}
 use Rattle.model.specs.Places.{rowAt, firstCommand, firstOutcome}
-use Rattle.model.specs.SoundTest.{rowSound, commandSound, outcomeSound}
+use Rattle.model.specs.SoundTest.{commandSound, outcomeSound}
 use Rattle.tables.specs.declared.Size.{Size}
 use Rattle.tables.specs.declared.Row.{Row}
 use Rattle.tables.specs.declared.internal.Span.{Span}
-use Rattle.tables.specs.declared.internal.Gate.{Gate}
-use Rattle.tables.specs.declared.internal.Gate.the-variants.{Open, Shut}
+use Rattle.tables.specs.declared.internal.Admission.{Admission}
+use Rattle.tables.specs.declared.internal.Admission.the-variants.{Granted, Denied}
 use Rattle.tables.specs.declared.Refusal.{Refusal}
 use Rattle.tables.specs.declared.Refusal.the-variants.{Cut, Surplus, Tag, Length, Beyond, Unsorted, Idle, Limit, Cramped, Unsound, Stranger}
 
@@ -38,9 +38,9 @@ refusalOf Unsound = Word.Unsound
 refusalOf Stranger = Word.Stranger
 
 -- a call goes on, or is refused
-abbrev pub gateOf : Gate → Answer (Unit {0})
-gateOf Open = given tt
-gateOf (Shut r) = refused (refusalOf r)
+abbrev pub admissionOf : Admission → Answer (Unit {0})
+admissionOf Granted = given tt
+admissionOf (Denied r) = refused (refusalOf r)
 
 abbrev pub rowOf : Row → Line
 rowOf r = record { kind = r .kind; first = r .first; policy = r .practice }

@@ -1,9 +1,7 @@
 // The parts of the test for sound tables.
 ghost use mathlib.Core.Path.{_≡_};
-ghost use mathlib.Core.Bool.{_||_};
 ghost use mathlib.Core.List.{List};
 ghost use Prim.Native.Nat.{ℕ, _<_, _≤_, _+_, _-_};
-ghost use lib.Dec.{ltb, eqb};
 ghost use lib.ListN.{length};
 ghost use Rattle.laws.specs.Sets.{every};
 ghost use Rattle.model.specs.SoundTest.{sizeSound, tablesLong, rowSound, risesAt, commandSound, outcomeSound};
@@ -14,6 +12,7 @@ use crate::Size;
 use crate::internal::Span;
 use crate::internal::at;
 use crate::internal::first_outcome;
+use crate::internal::not_idle;
 use crate::internal::span_at;
 
 pub fn size_sound(size: Size) -> bool
@@ -47,26 +46,6 @@ pub fn long(size: Size, rows: usize, firsts: &[u16], outcomes: &[u16]) -> bool
     size.t <= outcomes.len()
 }
 
-// Only a state of kind 0 has commands.
-fn kind_fits(kind: usize, count: usize) -> bool
-    ensures { λ r. ⌜ r ≡ (eqb kind 0 || eqb count 0) ⌝ }
-{
-    if kind == 0 {
-        return true;
-    }
-    count == 0
-}
-
-// The practice is none or a command.
-fn practice_fits(practice: usize, count: usize) -> bool
-    ensures { λ r. ⌜ r ≡ (eqb practice 65535 || ltb practice count) ⌝ }
-{
-    if practice == 65535 {
-        return true;
-    }
-    practice < count
-}
-
 fn span_sound(span: Span, m: usize) -> bool
     ensures { λ r. ⌜ r ≡ spanSound span m ⌝ }
 {
@@ -79,11 +58,7 @@ fn span_sound(span: Span, m: usize) -> bool
     if 2 < span.kind {
         return false;
     }
-    let count = span.end - span.first;
-    if !kind_fits(span.kind, count) {
-        return false;
-    }
-    practice_fits(span.practice, count)
+    not_idle(span.kind, span.end - span.first, span.practice)
 }
 
 pub fn rows_sound(size: Size, rows: &[Row]) -> bool

@@ -1,9 +1,13 @@
-// What only the planner's own crates call: each function here asks that its indices are in range.
+// What only the planner's own crates call: a function that is lent a table asks that its indices are in range.
 ghost use mathlib.Core.Path.{_≡_};
+ghost use mathlib.Core.Bool.{_||_};
 ghost use mathlib.Core.List.{List};
-ghost use Prim.Native.Nat.{ℕ, _<_, _≤_};
+ghost use Prim.Native.Nat.{ℕ, _+_, _*_, _<_, _≤_};
+ghost use lib.Dec.{ltb, eqb};
 ghost use lib.ListN.{length, getD, set};
+ghost use Rattle.laws.specs.Entry.{FFFF};
 ghost use Rattle.laws.specs.Filled.{Filled};
+ghost use Rattle.model.specs.File.{notIdle};
 ghost use Rattle.model.specs.Places.{firstOutcome};
 ghost use Rattle.tables.specs.declared.Row.{Row};
 ghost use Rattle.tables.specs.Meaning.{held, noRow, rowWith, spanOf, spanAt};
@@ -11,16 +15,33 @@ use crate::Refusal;
 use crate::Row;
 use crate::Size;
 
+// The entry for none, hexadecimal FFFF.
+pub const NONE: usize = 65535;
+
 // Whether a call goes on, or what it is refused with.
-pub enum Gate {
-    Open,
-    Shut(Refusal),
+pub enum Admission {
+    Granted,
+    Denied(Refusal),
 }
 
-fn wide(x: u16) -> usize
-    ensures { λ r. ⌜ r ≡ x ⌝ }
+pub fn wide(x: u16) -> usize
+    ensures { λ r. ⌜ (r ≡ x) × (r < 65536) ⌝ }
 {
     x as usize
+}
+
+pub fn narrow(x: usize) -> u16
+    requires { ⌜ x < 65536 ⌝ }
+    ensures { λ r. ⌜ r ≡ x ⌝ }
+{
+    x as u16
+}
+
+// The entry in two bytes, highest first.
+pub fn join(high: u8, low: u8) -> u16
+    ensures { λ r. ⌜ r ≡ high * 256 + low ⌝ }
+{
+    (high as u16) * 256 + (low as u16)
 }
 
 // The entry at place i.
@@ -120,4 +141,34 @@ pub fn first_outcome(size: Size, firsts: &[u16], c: usize) -> usize
         return size.t;
     }
     at(firsts, c)
+}
+
+// Only a state of kind 0 has commands.
+fn kind_fits(kind: usize, count: usize) -> bool
+    ensures { λ r. ⌜ r ≡ (eqb kind 0 || eqb count 0) ⌝ }
+{
+    if kind == 0 {
+        return true;
+    }
+    count == 0
+}
+
+// The practice is none or a command.
+fn practice_fits(practice: usize, count: usize) -> bool
+    ensures { λ r. ⌜ r ≡ (eqb practice FFFF || ltb practice count) ⌝ }
+{
+    if practice == NONE {
+        return true;
+    }
+    practice < count
+}
+
+// No commands under kind 1 or 2, and a practice that fits: what refusal 7 asks for.
+pub fn not_idle(kind: usize, count: usize, practice: usize) -> bool
+    ensures { λ r. ⌜ r ≡ notIdle kind count practice ⌝ }
+{
+    if !kind_fits(kind, count) {
+        return false;
+    }
+    practice_fits(practice, count)
 }

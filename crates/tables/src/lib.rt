@@ -1,6 +1,6 @@
 // The plan in memory: the size record, the refusals, and the test for sound tables.
 ghost use mathlib.Core.Path.{_≡_};
-ghost use Rattle.tables.specs.Meaning.{sized, refusalOf, held, numbers};
+ghost use Rattle.tables.specs.Meaning.{sized, refusalOf, held};
 ghost use Rattle.model.specs.Refusal.{number};
 ghost use Rattle.model.specs.SoundTest.{sound};
 use internal::row_count;

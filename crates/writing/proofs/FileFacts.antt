@@ -26,9 +26,9 @@ use Rattle.model.proofs.Answers.{then-assoc}
 use Rattle.model.proofs.Answering.{writing-iff}
 use Rattle.model.proofs.RoundTrips.{written-length}
 use Rattle.tables.specs.declared.Refusal.{Refusal as Word}
-use Rattle.tables.specs.declared.internal.Gate.{Gate}
-use Rattle.tables.specs.declared.internal.Gate.the-variants.{Open, Shut}
-use Rattle.tables.specs.Meaning.{refusalOf, gateOf}
+use Rattle.tables.specs.declared.internal.Admission.{Admission}
+use Rattle.tables.specs.declared.internal.Admission.the-variants.{Granted, Denied}
+use Rattle.tables.specs.Meaning.{refusalOf, admissionOf}
 use Rattle.writing.specs.Answers.{admitted}
 use Rattle.writing.proofs.Spreads.{states-spread}
 
@@ -68,19 +68,19 @@ module _ (T : Tables) where
   pub size-ready : sound T ≡ true → (T .size .n ≤ 1024) × (T .size .m ≤ 4096) × (T .size .t ≤ 16384)
   size-ready e = let f = sound-facts T .0 e .size in (f .few, f .few-commands, f .few-outcomes)
 
-  -- the gate g, for which it was asked whether the plan is sound
-  module _ (table : List ℕ) (t : Bool) (e : t ≡ sound T) (g : Gate) (h : gateOf g ≡ admitted t (T .size) (length table)) where
-    answers : writing T (length table) ≡ (gateOf g >> given (bytesOf (treeOf T)))
+  -- the admission g, for which it was asked whether the plan is sound
+  module _ (table : List ℕ) (t : Bool) (e : t ≡ sound T) (g : Admission) (h : admissionOf g ≡ admitted t (T .size) (length table)) where
+    answers : writing T (length table) ≡ (admissionOf g >> given (bytesOf (treeOf T)))
     unfolding writing admitted
     answers = rw (h, ← e) (sym (then-assoc (need Unsound t) _ _))
 
     -- shut: the bytes are as they were
-    pub refuses : (w : Word) → g ≡ Shut w
+    pub refuses : (w : Word) → g ≡ Denied w
         → (refused (refusalOf w) ≡ answer length (writing T (length table))) × (table ≡ left (λ file. file) (writing T (length table)) table)
     unfolding answer left _>>_
     refuses w q = let z : writing T (length table) ≡ refused (refusalOf w) = answers ∙ rw q in rw z (refl, refl)
 
-    module _ (q : g ≡ Open) where
+    module _ (q : g ≡ Granted) where
       gives : writing T (length table) ≡ given (bytesOf (treeOf T))
       unfolding _>>_
       gives = answers ∙ rw q

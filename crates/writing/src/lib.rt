@@ -3,10 +3,11 @@ ghost use mathlib.Core.Path.{_≡_};
 ghost use Prim.Native.Nat.{_≤_};
 ghost use lib.ListN.{length};
 ghost use Rattle.model.specs.Refusal.{answer};
+ghost use Rattle.model.specs.File.{maxStates, maxCommands, maxOutcomes};
 ghost use Rattle.model.specs.Tables.{fileLength};
 ghost use Rattle.model.specs.Calls.{left, writing};
 ghost use mathlib.Core.Bool.{true};
-ghost use Rattle.tables.specs.Meaning.{held, numbers, gateOf};
+ghost use Rattle.tables.specs.Meaning.{held, numbers, admissionOf};
 ghost use Rattle.writing.specs.Answers.{answerOf, admitted};
 use crate::fields::write_end;
 use crate::fields::write_head;
@@ -14,7 +15,7 @@ use crate::states::write_states;
 use tables::Refusal;
 use tables::Row;
 use tables::Size;
-use tables::internal::Gate;
+use tables::internal::Admission;
 use tables::sound;
 
 mod bytes;
@@ -28,24 +29,24 @@ pub enum WriteAnswer {
 }
 
 fn file_length(size: Size) -> usize
-    requires { ⌜ (size .n ≤ 1024) × (size .m ≤ 4096) × (size .t ≤ 16384) ⌝ }
+    requires { ⌜ (size .n ≤ maxStates) × (size .m ≤ maxCommands) × (size .t ≤ maxOutcomes) ⌝ }
     ensures { λ r. ⌜ r ≡ fileLength (numbers size) ⌝ }
 {
     10 + 8 * size.n + 3 * size.m + 2 * size.t
 }
 
 // Refusal 10, then 9: `sounds` says whether the plan is sound, `bytes` how many bytes are lent.
-fn admit(sounds: bool, size: Size, bytes: usize) -> Gate
-    requires { ⌜ (sounds ≡ true → (size .n ≤ 1024) × (size .m ≤ 4096) × (size .t ≤ 16384)) ⌝ }
-    ensures { λ r. ⌜ gateOf r ≡ admitted sounds (numbers size) bytes ⌝ }
+fn admit(sounds: bool, size: Size, bytes: usize) -> Admission
+    requires { ⌜ (sounds ≡ true → (size .n ≤ maxStates) × (size .m ≤ maxCommands) × (size .t ≤ maxOutcomes)) ⌝ }
+    ensures { λ r. ⌜ admissionOf r ≡ admitted sounds (numbers size) bytes ⌝ }
 {
     if !sounds {
-        return Gate::Shut(Refusal::Unsound);
+        return Admission::Denied(Refusal::Unsound);
     }
     if bytes < file_length(size) {
-        return Gate::Shut(Refusal::Cramped);
+        return Admission::Denied(Refusal::Cramped);
     }
-    Gate::Open
+    Admission::Granted
 }
 
 // Writes the file to the first bytes lent. A refusal leaves them as they were. Ruled out: bytes that read back as another plan, and
@@ -61,10 +62,10 @@ pub fn write(
     ensures bytes { λ r. ⌜ now (bytes .exit) ≡ left (λ file. file) (writing (held size (now (rows .entry)) (now (firsts .entry)) (now (outcomes .entry))) (length (now (bytes .entry)))) (now (bytes .entry)) ⌝ }
 {
     let sounds = sound(size, rows, firsts, outcomes);
-    let gate = admit(sounds, size, bytes.len());
-    match gate {
-        Gate::Shut(refusal) => WriteAnswer::Refused(refusal),
-        Gate::Open => {
+    let admission = admit(sounds, size, bytes.len());
+    match admission {
+        Admission::Denied(refusal) => WriteAnswer::Refused(refusal),
+        Admission::Granted => {
             let states = write_head(size, bytes);
             let end = write_states(size, rows, firsts, outcomes, bytes, states);
             WriteAnswer::Given(write_end(bytes, end))

@@ -12,8 +12,8 @@ sound-requires c κs = search needs
 admit-requires : tie.Need-admit-requires
 admit-requires c κs = search needs
 
-enum-known-gate : tie.Need-enum-known-gate
-enum-known-gate c = search needs
+enum-known-admission : tie.Need-enum-known-admission
+enum-known-admission c = search needs
 
 refuse-requires : tie.Need-refuse-requires
 refuse-requires c κs = search needs
@@ -34,7 +34,7 @@ returns : tie.Need-returns
 returns c =
     let a = c .before .before .before .before .before .before .before .before .before .before .before .before .args in
     refuses (held (a .size) (a .rows .now) (a .firsts .now) (a .outcomes .now)) (a .ranks .now) (a .commands .now) (a .marks .now) (a .scratch .now)
-    _ (c .before .before .before .before .before .sound .ensures) _ (c .before .before .before .before .admit .ensures) _ (c .before .before .gate .given .1) _ (c .refuse .ensures)
+    _ (c .before .before .before .before .before .sound .ensures) _ (c .before .before .before .before .admit .ensures) _ (c .before .before .admission .given .1) _ (c .refuse .ensures)
 
 same-length : tie.Need-same-length
 same-length c = search needs
@@ -55,4 +55,4 @@ returns-2 c =
     _ (c .before .before .before .before .before .before .before .before .before .before .before .before .before .before .before .before .before .sound .ensures) _ (c .before .before .before .before .before .before .before .before .before .before .before .before .before .before .before .before .admit .ensures) (c .before .before .before .before .before .before .before .before .before .before .before .before .before .before .enum-told .given .1) (c .before .before .before .before .before .before .before .before .before .work-out .ensures) _ (c .answer-with .ensures)
 
 pub decide-spec : {M : Type 1} → statement M
-decide-spec = tie.close (tie.spec sound-requires admit-requires enum-known-gate refuse-requires enum-told work-out-requires answer-with-requires returns same-length same-length-2 same-length-3 same-length-4 returns-2)
+decide-spec = tie.close (tie.spec sound-requires admit-requires enum-known-admission refuse-requires enum-told work-out-requires answer-with-requires returns same-length same-length-2 same-length-3 same-length-4 returns-2)

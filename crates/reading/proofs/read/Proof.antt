@@ -3,9 +3,7 @@ mod Tie
 use Rattle.reading.proofs.Calls.{unchanged, no-plan, cramped, all-long, room, filled}
 use Rattle.reading.specs.Meaning.{answerOf}
 use Rattle.tables.specs.Meaning.{numbers}
-use Rattle.laws.proofs.Loops.{stopped, passed}
 use lib.ListN.{length}
-use Prim.Native.Nat.{_≤_}
 use mathlib.Core.Path.{sym, ap, _∙_}
 use borrow.Author.Needs.{needs}
 use Rattle.reading.proofs.read.Statement.{statement}

@@ -2,7 +2,7 @@ mod Lts
 mod Tie
 use native.Mathlib.Omega.{arith}
 use borrow.Author.Needs.{needs}
-use Rattle.search.proofs.Replying.{refuses, gives, behind-gate}
+use Rattle.search.proofs.Replying.{refuses, gives, admitted-prepared}
 use Rattle.search.proofs.search.Statement.{statement}
 use Rattle.search.proofs.search.Proof.Tie as tie
 
@@ -12,8 +12,8 @@ sound-requires c κs = search needs
 admit-requires : tie.Need-admit-requires
 admit-requires c κs = search needs
 
-enum-known-gate : tie.Need-enum-known-gate
-enum-known-gate c = search needs
+enum-known-admission : tie.Need-enum-known-admission
+enum-known-admission c = search needs
 
 enum-told : tie.Need-enum-told
 enum-told c = search needs
@@ -23,12 +23,12 @@ slice-aggregate-rounds c = search needs
 
 rounds-requires : tie.Need-rounds-requires
 rounds-requires c κs =
-    behind-gate _ _ _ _ _ _ _ _ _ (c .before .before .before .before .before .before .sound .ensures) _ (c .before .before .before .before .before .admit .ensures) (c .before .before .before .enum-told .given .1) (omega arith)
+    admitted-prepared _ _ _ _ _ _ _ _ _ (c .before .before .before .before .before .before .sound .ensures) _ (c .before .before .before .before .before .admit .ensures) (c .before .before .before .enum-told .given .1) (omega arith)
 
 returns : tie.Need-returns
 returns c =
     let s = c .before .before .before .before .before .before .before .before .before .args in
-    refuses _ _ (s .commands .now) (s .scratch .now) _ (c .before .before .before .before .sound .ensures) _ (c .before .before .before .admit .ensures) _ (c .before .gate .given .1)
+    refuses _ _ (s .commands .now) (s .scratch .now) _ (c .before .before .before .before .sound .ensures) _ (c .before .before .before .admit .ensures) _ (c .before .admission .given .1)
 
 same-length : tie.Need-same-length
 same-length c = search needs
@@ -47,7 +47,7 @@ search-spec =
     (tie.spec
     sound-requires
     admit-requires
-    enum-known-gate
+    enum-known-admission
     enum-told
     slice-aggregate-rounds
     rounds-requires

@@ -15,8 +15,8 @@ admit-requires c κs = λ e.
     let a = c .before .before .before .before .args in
     size-ready (held (a .size) (a .rows .now) (a .firsts .now) (a .outcomes .now)) (sym (c .sound .ensures) ∙ e)
 
-enum-known-gate : tie.Need-enum-known-gate
-enum-known-gate c = search needs
+enum-known-admission : tie.Need-enum-known-admission
+enum-known-admission c = search needs
 
 enum-told : tie.Need-enum-told
 enum-told c = search needs
@@ -45,7 +45,7 @@ write-end-requires c κs =
 returns : tie.Need-returns
 returns c =
     let a = c .before .before .before .before .before .before .before .before .args in
-    refuses (held (a .size) (a .rows .now) (a .firsts .now) (a .outcomes .now)) _ _ (c .before .before .before .before .sound .ensures) _ (c .before .before .before .admit .ensures) _ (c .before .gate .given .1)
+    refuses (held (a .size) (a .rows .now) (a .firsts .now) (a .outcomes .now)) _ _ (c .before .before .before .before .sound .ensures) _ (c .before .before .before .admit .ensures) _ (c .before .admission .given .1)
 
 same-length : tie.Need-same-length
 same-length c = search needs
@@ -59,4 +59,4 @@ returns-2 c =
     (file-stored T (r .1) (c .before .before .before .before .before .before .before .before .before .before .write-head .ensures) (c .before .before .before .before .before .before .write-states .ensures) (c .before .before .write-end .ensures))
 
 pub write-spec : {M : Type 1} → statement M
-write-spec = tie.close (tie.spec sound-requires admit-requires enum-known-gate enum-told write-head-requires write-states-requires write-end-requires returns same-length returns-2)
+write-spec = tie.close (tie.spec sound-requires admit-requires enum-known-admission enum-told write-head-requires write-states-requires write-end-requires returns same-length returns-2)

@@ -7,8 +7,8 @@ use Rattle.tables.proofs.Refusal.Laws as Laws'
 use Rattle.tables.proofs.Row as T
 use Rattle.tables.proofs.Size
 use Rattle.tables.proofs.Size.Laws as Laws''
-use Rattle.tables.proofs.internal.Gate
-use Rattle.tables.proofs.internal.Gate.Laws as Laws'3
+use Rattle.tables.proofs.internal.Admission
+use Rattle.tables.proofs.internal.Admission.Laws as Laws'3
 use borrow.Author.Called
 use borrow.Enum.Known
 use borrow.Enum.Match
@@ -113,7 +113,7 @@ abbrev ty·13 : Syntax.Ty
 ty·13 = Syntax.tyEnum (List._∷_ 100 (List._∷_ 101 (List._∷_ 99 (List._∷_ 105 (List._∷_ 100 (List._∷_ 101 (List._∷_ 58 (List._∷_ 58 (List._∷_ 68 (List._∷_ 101 (List._∷_ 99 (List._∷_ 105 (List._∷_ 100 (List._∷_ 101 (List._∷_ 65 (List._∷_ 110 (List._∷_ 115 (List._∷_ 119 (List._∷_ 101 (List._∷_ 114 List.[])))))))))))))))))))) (Syntax.ttcons Syntax.tnil (Syntax.ttcons (Syntax.tcons ty·12 Syntax.tnil) Syntax.ttnil))
 
 abbrev ty·14 : Syntax.Ty
-ty·14 = Syntax.tyEnum (List._∷_ 116 (List._∷_ 97 (List._∷_ 98 (List._∷_ 108 (List._∷_ 101 (List._∷_ 115 (List._∷_ 58 (List._∷_ 58 (List._∷_ 105 (List._∷_ 110 (List._∷_ 116 (List._∷_ 101 (List._∷_ 114 (List._∷_ 110 (List._∷_ 97 (List._∷_ 108 (List._∷_ 58 (List._∷_ 58 (List._∷_ 71 (List._∷_ 97 (List._∷_ 116 (List._∷_ 101 List.[])))))))))))))))))))))) (Syntax.ttcons Syntax.tnil (Syntax.ttcons (Syntax.tcons ty·12 Syntax.tnil) Syntax.ttnil))
+ty·14 = Syntax.tyEnum (List._∷_ 116 (List._∷_ 97 (List._∷_ 98 (List._∷_ 108 (List._∷_ 101 (List._∷_ 115 (List._∷_ 58 (List._∷_ 58 (List._∷_ 105 (List._∷_ 110 (List._∷_ 116 (List._∷_ 101 (List._∷_ 114 (List._∷_ 110 (List._∷_ 97 (List._∷_ 108 (List._∷_ 58 (List._∷_ 58 (List._∷_ 65 (List._∷_ 100 (List._∷_ 109 (List._∷_ 105 (List._∷_ 115 (List._∷_ 115 (List._∷_ 105 (List._∷_ 111 (List._∷_ 110 List.[]))))))))))))))))))))))))))) (Syntax.ttcons Syntax.tnil (Syntax.ttcons (Syntax.tcons ty·12 Syntax.tnil) Syntax.ttnil))
 
 abbrev ty·15 : Syntax.Ty
 ty·15 = Syntax.tyStruct (List._∷_ 100 (List._∷_ 101 (List._∷_ 99 (List._∷_ 105 (List._∷_ 100 (List._∷_ 101 (List._∷_ 58 (List._∷_ 58 (List._∷_ 68 (List._∷_ 101 (List._∷_ 99 (List._∷_ 105 (List._∷_ 115 (List._∷_ 105 (List._∷_ 111 (List._∷_ 110 List.[])))))))))))))))) (Syntax.tcons ty·13 (Syntax.tcons ty·0 (Syntax.tcons ty·0 Syntax.tnil)))
@@ -140,7 +140,7 @@ abbrev pub ps·1 : List.List (Kinds.PK 0)
 ps·1 = List._∷_ Bool.pBool (List._∷_ (Num.pNum Syntax.w64) (List._∷_ (Num.pNum Syntax.w64) (List._∷_ (Num.pNum Syntax.w64) (List._∷_ (Num.pNum Syntax.w64) (List._∷_ (Num.pNum Syntax.w64) List.[])))))
 
 abbrev pub r·1 : Kinds.RK 0
-r·1 = Value.rVal record { ty = Declared.row Gate.the-type; one = Path'.refl; val = Laws'4.val Gate.the-type Laws'3.the-laws; tells = Laws'4.tells Gate.the-type Laws'3.the-laws; still = Laws'4.still Gate.the-type Laws'3.the-copy Exit.yes; row = Rows'.whole (Declared.row Gate.the-type); rd = λ x. x; mk = λ x. x } λ M 𝓤 H A W. record { copies = Laws'4.copy Gate.the-type Laws'3.the-copy 𝓤 H A W; lawful = Laws'4.lawful Gate.the-type Laws'3.the-laws 𝓤 H A W tt; makes = Laws'4.makes Gate.the-type Laws'3.the-plain 𝓤 H A; in-mem = Local.mem-whole 𝓤 H A W (Declared.row Gate.the-type); of-mem = Local.whole-mem 𝓤 H A W (Declared.row Gate.the-type) }
+r·1 = Value.rVal record { ty = Declared.row Admission.the-type; one = Path'.refl; val = Laws'4.val Admission.the-type Laws'3.the-laws; tells = Laws'4.tells Admission.the-type Laws'3.the-laws; still = Laws'4.still Admission.the-type Laws'3.the-copy Exit.yes; row = Rows'.whole (Declared.row Admission.the-type); rd = λ x. x; mk = λ x. x } λ M 𝓤 H A W. record { copies = Laws'4.copy Admission.the-type Laws'3.the-copy 𝓤 H A W; lawful = Laws'4.lawful Admission.the-type Laws'3.the-laws 𝓤 H A W tt; makes = Laws'4.makes Admission.the-type Laws'3.the-plain 𝓤 H A; in-mem = Local.mem-whole 𝓤 H A W (Declared.row Admission.the-type); of-mem = Local.whole-mem 𝓤 H A W (Declared.row Admission.the-type) }
 
 abbrev pub ps·2 : List.List (Kinds.PK 0)
 ps·2 = List._∷_ (Value.pVal record { ty = Declared.row Refusal.the-type; one = Path'.refl; val = Laws'4.val Refusal.the-type Laws'.the-laws; tells = Laws'4.tells Refusal.the-type Laws'.the-laws; still = Laws'4.still Refusal.the-type Laws'.the-copy Exit.yes; row = Rows'.whole (Declared.row Refusal.the-type); rd = λ x. x; mk = λ x. x } λ M 𝓤 H A W. record { copies = Laws'4.copy Refusal.the-type Laws'.the-copy 𝓤 H A W; lawful = Laws'4.lawful Refusal.the-type Laws'.the-laws 𝓤 H A W tt; makes = Laws'4.makes Refusal.the-type Laws'.the-plain 𝓤 H A; in-mem = Local.mem-whole 𝓤 H A W (Declared.row Refusal.the-type); of-mem = Local.whole-mem 𝓤 H A W (Declared.row Refusal.the-type) }) List.[]
@@ -311,7 +311,7 @@ abbrev pub t7 : List.List Row.Entry
 t7 = Row.setRow 0 (16, Rows'.sc-here (Row.sInt Syntax.w64)) t1
 
 abbrev pub t8 : List.List Row.Entry
-t8 = Row.setRow 10 (10, Rows'.whole (Declared.row Gate.the-type)) t6
+t8 = Row.setRow 10 (10, Rows'.whole (Declared.row Admission.the-type)) t6
 
 abbrev pub t9 : List.List Row.Entry
 t9 = Row.setRow 1 (1, Rows'.any-gone ty·11) t3
@@ -326,13 +326,13 @@ abbrev pub t12 : List.List Row.Entry
 t12 = Row.setRow 14 (14, Rows'.any-gone (Syntax.tyInt Syntax.w64)) t11
 
 abbrev pub t13 : List.List Row.Entry
-t13 = Row.setRow 10 (10, Rows'.whole (Declared.row Gate.the-type)) t3
+t13 = Row.setRow 15 (15, Rows'.any-gone (Syntax.tyInt Syntax.w64)) t12
 
 abbrev pub t14 : List.List Row.Entry
-t14 = Row.setRow 10 (10, Rows'.whole (Known.Known Gate.enum 1)) t3
+t14 = Row.setRow 10 (10, Rows'.whole (Known.Known Admission.enum 1)) t3
 
 abbrev pub t15 : List.List Row.Entry
-t15 = Row.setRow 10 (10, Rows'.whole (Known.Known Gate.enum 1)) t9
+t15 = Row.setRow 10 (10, Rows'.whole (Known.Known Admission.enum 1)) t9
 
 abbrev pub t16 : List.List Row.Entry
 t16 = Row.setRow 11 (11, Rows'.whole (Declared.row Refusal.the-type)) t15
@@ -618,10 +618,10 @@ module _ (claims· : Claims) where
   s15 = Scalar.n-room T17 16 (Syntax.tyInt Syntax.w64)
 
   abbrev s16 : Typed.Both T18 T19
-  s16 = Known.k-enum-known Gate.enum 1 T18 10 λ x. x
+  s16 = Known.k-enum-known Admission.enum 1 T18 10 λ x. x
 
   abbrev s17 : Typed.Gives T19 T20
-  s17 = Known.k-known-told Gate.enum Laws'3.the-laws 1 T19 10 λ x. x
+  s17 = Known.k-known-told Admission.enum Laws'3.the-laws 1 T19 10 λ x. x
 
   abbrev s18 : Typed.Mo T20 → Typed.Mo T21
   s18 = Scalar.n-room T20 1 ty·11
@@ -639,7 +639,7 @@ module _ (claims· : Claims) where
   s22 = Scalar.n-room T24 11 ty·12
 
   abbrev s23 : Typed.Both T18 T26
-  s23 = Known.k-enum-told Gate.enum 0 T18 10 λ x. x
+  s23 = Known.k-enum-told Admission.enum 0 T18 10 λ x. x
 
   abbrev s24 : Typed.Mo T26 → Typed.Mo T27
   s24 = Scalar.n-room T26 10 ty·14
@@ -837,7 +837,7 @@ module _ (claims· : Claims) where
       at38 = λ Ψ. Typed.both s23 (at37 Ψ)
 
       abbrev at39 : Typed.TF T18 O1
-      at39 = Switch.Φswitch T18 O1 10 (λ x. Declared.tagOf Gate.the-type x) (Syntax.arm (List._∷_ 1 List.[]) b8 (Syntax.arm (List._∷_ 0 List.[]) b27 Syntax.noDefault)) (at5, (at38, tt))
+      at39 = Switch.Φswitch T18 O1 10 (λ x. Declared.tagOf Admission.the-type x) (Syntax.arm (List._∷_ 1 List.[]) b8 (Syntax.arm (List._∷_ 0 List.[]) b27 Syntax.noDefault)) (at5, (at38, tt))
 
       abbrev at40 : Typed.TF T17 O1
       at40 = λ Ψ. Typed.pass T17 T18 s15 (at39 Ψ)
@@ -1140,19 +1140,19 @@ module _ (claims· : Claims) where
           d0 = Typed.s-typed 𝓤 H A W 𝓣 E G23 b7 Δ1 (λ Ψ. Typed.both s21 (Typed.pass T24 T25 s22 Ψ)) tt (Typed.g-post 𝓤 H A W 𝓣 E G23 G24 G25 b7 (Typed.both s21) (Typed.pass T24 T25 s22) (Plain.t-call-plain 𝓤 H A W 𝓣 0 ps·2 r·2 (claims· .4) (claims· .5) "decide::refuse" (known .2) E (λ pos β. β) G23 (record { pos = 11; st = List.[]; d = 0; at = λ x. x }, tt) 17 List.[] (Call.sub-id 𝓤 H A W (G23 .slots)) ((Yields.yields-copy 𝓤 H A W (λ ρ. Unit) (Declared.row Refusal.the-type) Path'.refl (Copies.cEnum Refusal.the-type Laws'.the-laws Laws'.the-copy .copy 𝓤 H A W) (Rows'.whole (Declared.row Refusal.the-type)) (λ x. x) (λ x. x) (λ ρ told. Local.mem-whole 𝓤 H A W (Declared.row Refusal.the-type) ρ) λ ρ told. Local.whole-mem 𝓤 H A W (Declared.row Refusal.the-type) ρ, Path'.refl), tt) (Reads'.room-gone 𝓤 H A ty·15) tt Path'.refl) (Scalar.g-room 𝓤 H A W E G24 11 ty·12 (Local.room-whole 𝓤 H A W (Declared.row Refusal.the-type) ty·12 Path'.refl)))
 
           d1 : Typed.Typed 𝓤 H A 𝓣 E G22 b7 Δ1 at1
-          d1 = Typed.g-pre 𝓤 H A W 𝓣 E G22 G23 b7 Δ1 (Typed.pass T22 T23 s20) at0 (Scalar.g-room 𝓤 H A W E G22 10 ty·14 (Local.room-whole 𝓤 H A W (Known.Known Gate.enum 1) ty·14 Path'.refl)) d0
+          d1 = Typed.g-pre 𝓤 H A W 𝓣 E G22 G23 b7 Δ1 (Typed.pass T22 T23 s20) at0 (Scalar.g-room 𝓤 H A W E G22 10 ty·14 (Local.room-whole 𝓤 H A W (Known.Known Admission.enum 1) ty·14 Path'.refl)) d0
 
           d2 : Typed.Typed 𝓤 H A 𝓣 E G21 b8 Δ1 at2
-          d2 = Typed.s-seq 𝓤 H A W 𝓣 E G21 G22 b6 b7 Δ1 (Typed.pass T21 T22 s19) at1 (CopyOut.t-copy-told 𝓤 H A W E 𝓣 (Declared.row Refusal.the-type) Path'.refl (Laws'4.val Refusal.the-type Laws'.the-laws) (Laws'4.lawful Refusal.the-type Laws'.the-laws 𝓤 H A W tt) (Laws'4.makes Refusal.the-type Laws'.the-plain 𝓤 H A) G21 11 (Scalar.oFld 10 (List._∷_ (Syntax.variant 1) (List._∷_ (Syntax.field 1) List.[])) ty·12 1 λ v. Laws'4.val Refusal.the-type Laws'.the-laws (v .0)) (λ m. m .1 .1 .1 .1 .1 .1 .1 .1 .1 .1 .0 .0) (λ m. Laws'4.Fields (Declared.variants Gate.the-type) (Laws'4.spellss (Gate.enum .parts) Laws'3.the-laws) (Gate.the-type .to (Known.at Gate.enum 1 (m .1 .1 .1 .1 .1 .1 .1 .1 .1 .1 .0)))) (Reads'.room-gone 𝓤 H A ty·12) (Match.reads-payload 𝓤 H A W Gate.enum Laws'3.the-laws 1 Path'.refl Path'.refl (λ v. Val.vcons (Laws'4.val Refusal.the-type Laws'.the-laws (v .0)) Val.vnil) (λ v. Path'.refl) 0 ty·12 1 Path'.refl, Path'.refl) Path'.refl (λ ρ m. Make.tells-row 𝓤 H A W E ρ (Row.out 11 (G21 .locals)) m 10 (Laws'4.Fields (Declared.variants Gate.the-type) (Laws'4.spellss (Gate.enum .parts) Laws'3.the-laws) (Gate.the-type .to (Known.at Gate.enum 1 (m .1 .1 .1 .1 .1 .1 .1 .1 .1 .1 .0)))) (Known.known-is 𝓤 H A W E Gate.enum 1 Laws'3.the-laws ρ 10 (m .1 .1 .1 .1 .1 .1 .1 .1 .1 .1 .0))) (λ m k wa. Path'.refl) λ m k wa. k .0) d1
+          d2 = Typed.s-seq 𝓤 H A W 𝓣 E G21 G22 b6 b7 Δ1 (Typed.pass T21 T22 s19) at1 (CopyOut.t-copy-told 𝓤 H A W E 𝓣 (Declared.row Refusal.the-type) Path'.refl (Laws'4.val Refusal.the-type Laws'.the-laws) (Laws'4.lawful Refusal.the-type Laws'.the-laws 𝓤 H A W tt) (Laws'4.makes Refusal.the-type Laws'.the-plain 𝓤 H A) G21 11 (Scalar.oFld 10 (List._∷_ (Syntax.variant 1) (List._∷_ (Syntax.field 1) List.[])) ty·12 1 λ v. Laws'4.val Refusal.the-type Laws'.the-laws (v .0)) (λ m. m .1 .1 .1 .1 .1 .1 .1 .1 .1 .1 .0 .0) (λ m. Laws'4.Fields (Declared.variants Admission.the-type) (Laws'4.spellss (Admission.enum .parts) Laws'3.the-laws) (Admission.the-type .to (Known.at Admission.enum 1 (m .1 .1 .1 .1 .1 .1 .1 .1 .1 .1 .0)))) (Reads'.room-gone 𝓤 H A ty·12) (Match.reads-payload 𝓤 H A W Admission.enum Laws'3.the-laws 1 Path'.refl Path'.refl (λ v. Val.vcons (Laws'4.val Refusal.the-type Laws'.the-laws (v .0)) Val.vnil) (λ v. Path'.refl) 0 ty·12 1 Path'.refl, Path'.refl) Path'.refl (λ ρ m. Make.tells-row 𝓤 H A W E ρ (Row.out 11 (G21 .locals)) m 10 (Laws'4.Fields (Declared.variants Admission.the-type) (Laws'4.spellss (Admission.enum .parts) Laws'3.the-laws) (Admission.the-type .to (Known.at Admission.enum 1 (m .1 .1 .1 .1 .1 .1 .1 .1 .1 .1 .0)))) (Known.known-is 𝓤 H A W E Admission.enum 1 Laws'3.the-laws ρ 10 (m .1 .1 .1 .1 .1 .1 .1 .1 .1 .1 .0))) (λ m k wa. Path'.refl) λ m k wa. k .0) d1
 
           d3 : Typed.Typed 𝓤 H A 𝓣 E G20 b8 Δ1 at3
           d3 = Typed.g-pre 𝓤 H A W 𝓣 E G20 G21 b8 Δ1 (Typed.pass T20 T21 s18) at2 (Scalar.g-room 𝓤 H A W E G20 1 ty·11 (Local.room-whole 𝓤 H A W (Declared'.row Size.the-type) ty·11 Path'.refl)) d2
 
           d4 : Typed.Typed 𝓤 H A 𝓣 E G19 b8 Δ1 at4
-          d4 = Typed.g-pre 𝓤 H A W 𝓣 E G19 G20 b8 Δ1 (Typed.give s17) at3 (Known.g-known-told 𝓤 H A W E Gate.enum 1 G19 10 Laws'3.the-laws (λ x. x) (Reads'.as-is 𝓤 H A (Rows'.whole (Known.Known Gate.enum 1)))) d3
+          d4 = Typed.g-pre 𝓤 H A W 𝓣 E G19 G20 b8 Δ1 (Typed.give s17) at3 (Known.g-known-told 𝓤 H A W E Admission.enum 1 G19 10 Laws'3.the-laws (λ x. x) (Reads'.as-is 𝓤 H A (Rows'.whole (Known.Known Admission.enum 1)))) d3
 
           d5 : Typed.Typed 𝓤 H A 𝓣 E G18 b8 Δ1 at5
-          d5 = Typed.g-pre 𝓤 H A W 𝓣 E G18 G19 b8 Δ1 (Typed.both s16) at4 (Known.g-enum-known 𝓤 H A W E Gate.enum 1 G18 10 (λ x. x) (Reads'.as-is 𝓤 H A (Rows'.whole (Declared.row Gate.the-type)))) d4
+          d5 = Typed.g-pre 𝓤 H A W 𝓣 E G18 G19 b8 Δ1 (Typed.both s16) at4 (Known.g-enum-known 𝓤 H A W E Admission.enum 1 G18 10 (λ x. x) (Reads'.as-is 𝓤 H A (Rows'.whole (Declared.row Admission.the-type)))) d4
 
           d6 : Typed.Typed 𝓤 H A 𝓣 E G57 b18 Δ1 at6
           d6 = Typed.s-typed 𝓤 H A W 𝓣 E G57 b18 Δ1 (λ Ψ. Typed.both s55 (Typed.pass T58 T59 s56 Ψ)) tt (Typed.g-post 𝓤 H A W 𝓣 E G57 G58 G59 b18 (Typed.both s55) (Typed.pass T58 T59 s56) (Plain.t-call-plain 𝓤 H A W 𝓣 0 ps·4 r·4 (claims· .8) (claims· .9) "decide::answer_with" (known .4) E (λ pos β. β) G57 (record { pos = 12; st = List.[]; d = 0; at = λ x. x }, tt) 17 List.[] (Call.sub-id 𝓤 H A W (G57 .slots)) ((Array.arr-yields 𝓤 H A W (Array.eArr (Array.eInt Syntax.w16) 3) (Array.eArr-laws (Array.eInt Syntax.w16) (Array.eInt-laws Syntax.w16) 3) 2, Path'.refl), tt) (Reads'.room-gone 𝓤 H A ty·15) tt Path'.refl) (Scalar.g-room 𝓤 H A W E G58 12 ty·1 (Init.room-arr 𝓤 H A W (Array'.Array (Referent.rtF (Referent.fInt Syntax.w16)) 3) 2 0 2 Path'.refl)))
@@ -1248,13 +1248,13 @@ module _ (claims· : Claims) where
           d36 = Typed.g-pre 𝓤 H A W 𝓣 E G27 G28 b27 Δ1 (λ Ψ. Ψ) at35 (Lifetime.g-begin 𝓤 H A W E G27 7 (tt, (tt, (tt, (tt, (tt, (tt, (tt, (tt, (tt, (tt, (tt, (tt, (tt, (tt, (tt, (tt, (tt, (tt, (tt, (tt, (tt, (tt, (tt, (tt, (tt, (tt, tt))))))))))))))))))))))))))) d35
 
           d37 : Typed.Typed 𝓤 H A 𝓣 E G26 b27 Δ1 at37
-          d37 = Typed.g-pre 𝓤 H A W 𝓣 E G26 G27 b27 Δ1 (Typed.pass T26 T27 s24) at36 (Scalar.g-room 𝓤 H A W E G26 10 ty·14 (Local.room-whole 𝓤 H A W (Declared.row Gate.the-type) ty·14 Path'.refl)) d36
+          d37 = Typed.g-pre 𝓤 H A W 𝓣 E G26 G27 b27 Δ1 (Typed.pass T26 T27 s24) at36 (Scalar.g-room 𝓤 H A W E G26 10 ty·14 (Local.room-whole 𝓤 H A W (Declared.row Admission.the-type) ty·14 Path'.refl)) d36
 
           d38 : Typed.Typed 𝓤 H A 𝓣 E G18 b27 Δ1 at38
-          d38 = Typed.g-pre 𝓤 H A W 𝓣 E G18 G26 b27 Δ1 (Typed.both s23) at37 (Known.g-enum-told 𝓤 H A W E Gate.enum 0 G18 10 λ x. x) d37
+          d38 = Typed.g-pre 𝓤 H A W 𝓣 E G18 G26 b27 Δ1 (Typed.both s23) at37 (Known.g-enum-told 𝓤 H A W E Admission.enum 0 G18 10 λ x. x) d37
 
           d39 : Typed.Typed 𝓤 H A 𝓣 E G18 b28 Δ1 at39
-          d39 = Switch.t-switch-on 𝓤 H A W E 𝓣 G18 (Scalar.oFld 10 (List._∷_ (Syntax.variant 0) (List._∷_ (Syntax.field 0) List.[])) (Syntax.tyInt Syntax.w8) 0 λ x. Val.vint Syntax.w8 (Declared.tagOf Gate.the-type x)) Syntax.w8 (λ u. Declared.tagOf Gate.the-type (u .1 .1 .1 .1 .1 .1 .1 .1 .1 .1 .0)) (Syntax.arm (List._∷_ 1 List.[]) b8 (Syntax.arm (List._∷_ 0 List.[]) b27 Syntax.noDefault)) Δ1 (at5, (at38, tt)) (Match.reads-tag 𝓤 H A W Gate.the-type Laws'3.the-laws (Rows'.whole (Declared.row Gate.the-type)) 0 (λ x. x) (Whole.reads-enum 𝓤 H A W Gate.the-type Laws'3.the-laws), Path'.refl) (λ u. Path'.refl) (d5, (d38, tt))
+          d39 = Switch.t-switch-on 𝓤 H A W E 𝓣 G18 (Scalar.oFld 10 (List._∷_ (Syntax.variant 0) (List._∷_ (Syntax.field 0) List.[])) (Syntax.tyInt Syntax.w8) 0 λ x. Val.vint Syntax.w8 (Declared.tagOf Admission.the-type x)) Syntax.w8 (λ u. Declared.tagOf Admission.the-type (u .1 .1 .1 .1 .1 .1 .1 .1 .1 .1 .0)) (Syntax.arm (List._∷_ 1 List.[]) b8 (Syntax.arm (List._∷_ 0 List.[]) b27 Syntax.noDefault)) Δ1 (at5, (at38, tt)) (Match.reads-tag 𝓤 H A W Admission.the-type Laws'3.the-laws (Rows'.whole (Declared.row Admission.the-type)) 0 (λ x. x) (Whole.reads-enum 𝓤 H A W Admission.the-type Laws'3.the-laws), Path'.refl) (λ u. Path'.refl) (d5, (d38, tt))
 
           d40 : Typed.Typed 𝓤 H A 𝓣 E G17 b28 Δ1 at40
           d40 = Typed.g-pre 𝓤 H A W 𝓣 E G17 G18 b28 Δ1 (Typed.pass T17 T18 s15) at39 (Scalar.g-room 𝓤 H A W E G17 16 (Syntax.tyInt Syntax.w64) (Scalar.room-sc 𝓤 H A W (Row.sInt Syntax.w64))) d39
@@ -1477,44 +1477,44 @@ module _ (claims· : Claims) where
 
       module _ (before· : After-admit) where
         pub record At-match-keys1·own : Type 0 where
-          pub keys1 : Run.OneOf (List._∷_ 1 List.[]) (Declared.tagOf Gate.the-type (Row.get 10 (T18 .locals) (m16 (before· .before) (After-admit·gave before·))))
+          pub keys1 : Run.OneOf (List._∷_ 1 List.[]) (Declared.tagOf Admission.the-type (Row.get 10 (T18 .locals) (m16 (before· .before) (After-admit·gave before·))))
 
       pub record At-match-keys1 : Type 0 where
         pub before : After-admit
         pub match : At-match-keys1·own before
 
-      abbrev pub Need-enum-known-gate : Type 0
-      Need-enum-known-gate = (c : At-match-keys1) → s16 .asks (m16 (c .before .before) (After-admit·gave (c .before)))
+      abbrev pub Need-enum-known-admission : Type 0
+      Need-enum-known-admission = (c : At-match-keys1) → s16 .asks (m16 (c .before .before) (After-admit·gave (c .before)))
 
       abbrev pub m17 : (before : At-match-keys1) → (given : s16 .gives (m16 (before .before .before) (After-admit·gave (before .before)))) → Typed.Mo T19
       m17 = λ before given. s16 .next (m16 (before .before .before) (After-admit·gave (before .before))) given
 
       module _ (before· : At-match-keys1) where
-        pub record After-gate·own : Type 0 where
+        pub record After-admission·own : Type 0 where
           pub given : s16 .gives (m16 (before· .before .before) (After-admit·gave (before· .before)))
 
-      pub record After-gate : Type 0 where
+      pub record After-admission : Type 0 where
         pub before : At-match-keys1
-        pub gate : After-gate·own before
+        pub admission : After-admission·own before
 
-      abbrev pub m18 : (before : After-gate) → (given : s17 .gives (m17 (before .before) (before .gate .given))) → Typed.Mo T20
-      m18 = λ before given. s17 .next (m17 (before .before) (before .gate .given)) given
+      abbrev pub m18 : (before : After-admission) → (given : s17 .gives (m17 (before .before) (before .admission .given))) → Typed.Mo T20
+      m18 = λ before given. s17 .next (m17 (before .before) (before .admission .given)) given
 
-      abbrev pub m19 : (before : After-gate) → (given : s17 .gives (m17 (before .before) (before .gate .given))) → Typed.Mo T21
+      abbrev pub m19 : (before : After-admission) → (given : s17 .gives (m17 (before .before) (before .admission .given))) → Typed.Mo T21
       m19 = λ before given. s18 (m18 before given)
 
-      abbrev pub m20 : (before : After-gate) → (given : s17 .gives (m17 (before .before) (before .gate .given))) → Typed.Mo T22
+      abbrev pub m20 : (before : After-admission) → (given : s17 .gives (m17 (before .before) (before .admission .given))) → Typed.Mo T22
       m20 = λ before given. s19 (m19 before given)
 
-      abbrev pub m21 : (before : After-gate) → (given : s17 .gives (m17 (before .before) (before .gate .given))) → Typed.Mo T23
+      abbrev pub m21 : (before : After-admission) → (given : s17 .gives (m17 (before .before) (before .admission .given))) → Typed.Mo T23
       m21 = λ before given. s20 (m20 before given)
 
-      module _ (before· : After-gate) where
+      module _ (before· : After-admission) where
         pub record After-known-told·own : Type 0 where
-          pub given : s17 .gives (m17 (before· .before) (before· .gate .given))
+          pub given : s17 .gives (m17 (before· .before) (before· .admission .given))
 
       pub record After-known-told : Type 0 where
-        pub before : After-gate
+        pub before : After-admission
         pub known-told : After-known-told·own before
 
       abbrev pub Need-refuse-requires : Type 0
@@ -1539,7 +1539,7 @@ module _ (claims· : Claims) where
 
       module _ (before· : After-admit) where
         pub record At-match-keys2·own : Type 0 where
-          pub keys2 : Run.OneOf (List._∷_ 0 List.[]) (Declared.tagOf Gate.the-type (Row.get 10 (T18 .locals) (m16 (before· .before) (After-admit·gave before·))))
+          pub keys2 : Run.OneOf (List._∷_ 0 List.[]) (Declared.tagOf Admission.the-type (Row.get 10 (T18 .locals) (m16 (before· .before) (After-admit·gave before·))))
 
       pub record At-match-keys2 : Type 0 where
         pub before : After-admit
@@ -1782,7 +1782,7 @@ module _ (claims· : Claims) where
       abbrev pub Need-returns-2 : Type 0
       Need-returns-2 = (c : After-answer-with) → Post· (c .before .before .before .before .before .before .before .before .before .before .before .before .before .before .before .before .before .before .before .before .before .before .before .before .κs) (dens (c .before .before .before .before .before .before .before .before .before .before .before .before .before .before .before .before .before .before .before .before .before .before .before .before .κs) (c .before .before .before .before .before .before .before .before .before .before .before .before .before .before .before .before .before .before .before .before .before .before .before .before .args)) (Function.resV r (c .before .before .before .before .before .before .before .before .before .before .before .before .before .before .before .before .before .before .before .before .before .before .before .before .κs) (m51 (c .before) (After-answer-with·gave c) .0)) (Clauses.atExit (Kinds.endedOf 7 ps r) (c .before .before .before .before .before .before .before .before .before .before .before .before .before .before .before .before .before .before .before .before .before .before .before .before .κs) (dens (c .before .before .before .before .before .before .before .before .before .before .before .before .before .before .before .before .before .before .before .before .before .before .before .before .κs) (c .before .before .before .before .before .before .before .before .before .before .before .before .before .before .before .before .before .before .before .before .before .before .before .before .args)) (Enter.lastsP (c .before .before .before .before .before .before .before .before .before .before .before .before .before .before .before .before .before .before .before .before .before .before .before .before .κs) 1 ps xs (dens (c .before .before .before .before .before .before .before .before .before .before .before .before .before .before .before .before .before .before .before .before .before .before .before .before .κs) (c .before .before .before .before .before .before .before .before .before .before .before .before .before .before .before .before .before .before .before .before .before .before .before .before .args)) (m51 (c .before) (After-answer-with·gave c) .1)))
 
-      module _ (sound-requires : Need-sound-requires) (admit-requires : Need-admit-requires) (enum-known-gate : Need-enum-known-gate) (refuse-requires : Need-refuse-requires) (enum-told : Need-enum-told) (work-out-requires : Need-work-out-requires) (answer-with-requires : Need-answer-with-requires) (returns : Need-returns) (same-length : Need-same-length) (same-length-2 : Need-same-length-2) (same-length-3 : Need-same-length-3) (same-length-4 : Need-same-length-4) (returns-2 : Need-returns-2) where
+      module _ (sound-requires : Need-sound-requires) (admit-requires : Need-admit-requires) (enum-known-admission : Need-enum-known-admission) (refuse-requires : Need-refuse-requires) (enum-told : Need-enum-told) (work-out-requires : Need-work-out-requires) (answer-with-requires : Need-answer-with-requires) (returns : Need-returns) (same-length : Need-same-length) (same-length-2 : Need-same-length-2) (same-length-3 : Need-same-length-3) (same-length-4 : Need-same-length-4) (returns-2 : Need-returns-2) where
         lay5 : (c : After-answer-with) → at47 (W0 (c .before .before .before .before .before .before .before .before .before .before .before .before .before .before .before .before .before .before .before .before .before .before .before .before .κs) (c .before .before .before .before .before .before .before .before .before .before .before .before .before .before .before .before .before .before .before .before .before .before .before .before .args)) (m45 (c .before) (After-answer-with·gave c))
         lay5 = λ c. ((tt, (Path'.refl, (Path'.refl, (Path'.refl, (MutSlice.fix-len (Row.get 5 (T62 .locals) (m51 (c .before) (After-answer-with·gave c)) .ptr) (Row.get 5 (T62 .locals) (m51 (c .before) (After-answer-with·gave c)) .name) (Row.get 5 (T62 .locals) (m51 (c .before) (After-answer-with·gave c)) .now) (dens (c .before .before .before .before .before .before .before .before .before .before .before .before .before .before .before .before .before .before .before .before .before .before .before .before .κs) (c .before .before .before .before .before .before .before .before .before .before .before .before .before .before .before .before .before .before .before .before .before .before .before .before .args) .1 .1 .1 .1 .0 .now) (same-length record { before = c .before; answer-with = c .answer-with }), (MutSlice.fix-len (Row.get 6 (T62 .locals) (m51 (c .before) (After-answer-with·gave c)) .ptr) (Row.get 6 (T62 .locals) (m51 (c .before) (After-answer-with·gave c)) .name) (Row.get 6 (T62 .locals) (m51 (c .before) (After-answer-with·gave c)) .now) (dens (c .before .before .before .before .before .before .before .before .before .before .before .before .before .before .before .before .before .before .before .before .before .before .before .before .κs) (c .before .before .before .before .before .before .before .before .before .before .before .before .before .before .before .before .before .before .before .before .before .before .before .before .args) .1 .1 .1 .1 .1 .0 .now) (same-length-2 record { before = c .before; answer-with = c .answer-with }), (MutSlice.fix-len (Row.get 7 (T62 .locals) (m51 (c .before) (After-answer-with·gave c)) .ptr) (Row.get 7 (T62 .locals) (m51 (c .before) (After-answer-with·gave c)) .name) (Row.get 7 (T62 .locals) (m51 (c .before) (After-answer-with·gave c)) .now) (dens (c .before .before .before .before .before .before .before .before .before .before .before .before .before .before .before .before .before .before .before .before .before .before .before .before .κs) (c .before .before .before .before .before .before .before .before .before .before .before .before .before .before .before .before .before .before .before .before .before .before .before .before .args) .1 .1 .1 .1 .1 .1 .0 .now) (same-length-3 record { before = c .before; answer-with = c .answer-with }), (MutSlice.fix-len (Row.get 8 (T62 .locals) (m51 (c .before) (After-answer-with·gave c)) .ptr) (Row.get 8 (T62 .locals) (m51 (c .before) (After-answer-with·gave c)) .name) (Row.get 8 (T62 .locals) (m51 (c .before) (After-answer-with·gave c)) .now) (dens (c .before .before .before .before .before .before .before .before .before .before .before .before .before .before .before .before .before .before .before .before .before .before .before .before .κs) (c .before .before .before .before .before .before .before .before .before .before .before .before .before .before .before .before .before .before .before .before .before .before .before .before .args) .1 .1 .1 .1 .1 .1 .1 .0 .now) (same-length-4 record { before = c .before; answer-with = c .answer-with }), tt)))))))), returns-2 record { before = c .before; answer-with = c .answer-with })
 
@@ -1793,7 +1793,7 @@ module _ (claims· : Claims) where
         lay3 = λ c. (Path'.refl, λ g. λ g'. (Path'.refl, λ g''. λ g'3. (Path'.refl, λ g'4. λ g'5. (Path'.refl, λ g'6. λ g'7. (answer-with-requires record { before = record { before = record { before = record { before = record { before = record { before = record { before = record { before = record { before = c .before; work-out = c .work-out }; ranks = record { given = g } }; slice-known5 = record { given = g' } }; commands = record { given = g'' } }; slice-known6 = record { given = g'3 } }; marks = record { given = g'4 } }; slice-known7 = record { given = g'5 } }; scratch = record { given = g'6 } }; slice-known8 = record { given = g'7 } }, λ g'8. lay5 record { before = record { before = record { before = record { before = record { before = record { before = record { before = record { before = record { before = record { before = c .before; work-out = c .work-out }; ranks = record { given = g } }; slice-known5 = record { given = g' } }; commands = record { given = g'' } }; slice-known6 = record { given = g'3 } }; marks = record { given = g'4 } }; slice-known7 = record { given = g'5 } }; scratch = record { given = g'6 } }; slice-known8 = record { given = g'7 } }; answer-with = Called.called ps·4 r·4 (claims· .9) T56 (record { pos = 12; st = List.[]; d = 0; at = λ x. x }, tt) (m43 record { before = record { before = record { before = record { before = record { before = record { before = record { before = record { before = c .before; work-out = c .work-out }; ranks = record { given = g } }; slice-known5 = record { given = g' } }; commands = record { given = g'' } }; slice-known6 = record { given = g'3 } }; marks = record { given = g'4 } }; slice-known7 = record { given = g'5 } }; scratch = record { given = g'6 } } g'7) g'8 })))))
 
         lay2 : (c : After-admit) → at48 (W0 (c .before .before .before .before .before .before .before .before .κs) (c .before .before .before .before .before .before .before .before .args)) (m12 (c .before) (After-admit·gave c))
-        lay2 = λ c. (λ k. (enum-known-gate record { before = record { before = c .before; admit = c .admit }; match = record { keys1 = k } }, λ g. λ g'. (refuse-requires record { before = record { before = record { before = record { before = c .before; admit = c .admit }; match = record { keys1 = k } }; gate = record { given = g } }; known-told = record { given = g' } }, λ g''. lay4 record { before = record { before = record { before = record { before = record { before = c .before; admit = c .admit }; match = record { keys1 = k } }; gate = record { given = g } }; known-told = record { given = g' } }; refuse = Called.called ps·2 r·2 (claims· .5) T23 (record { pos = 11; st = List.[]; d = 0; at = λ x. x }, tt) (m21 record { before = record { before = record { before = c .before; admit = c .admit }; match = record { keys1 = k } }; gate = record { given = g } } g') g'' })), (λ k. (enum-told record { before = record { before = c .before; admit = c .admit }; match = record { keys2 = k } }, λ g. λ g'3. (Path'.refl, λ g'4. (Path'.refl, λ g'5. (Path'.refl, λ g'6. (Path'.refl, (work-out-requires record { before = record { before = record { before = record { before = record { before = record { before = record { before = c .before; admit = c .admit }; match = record { keys2 = k } }; enum-told = record { given = g } }; work-out-arg = record { given = g'3 } }; work-out-arg2 = record { given = g'4 } }; work-out-arg3 = record { given = g'5 } }; work-out-arg4 = record { given = g'6 } }, λ g'7. lay3 record { before = record { before = record { before = record { before = record { before = record { before = record { before = record { before = c .before; admit = c .admit }; match = record { keys2 = k } }; enum-told = record { given = g } }; work-out-arg = record { given = g'3 } }; work-out-arg2 = record { given = g'4 } }; work-out-arg3 = record { given = g'5 } }; work-out-arg4 = record { given = g'6 } }; work-out = Called.called ps·3 r·3 (claims· .7) T39 (record { pos = 1; st = List.[]; d = 0; at = λ x. x }, (record { pos = 2; ty = Syntax.tyRef (Syntax.named 0) Syntax.imm (Memory.pointee (T.the-row .written)); ref = λ x. x }, (record { pos = 3; ty = Syntax.tyRef (Syntax.named 1) Syntax.imm (Syntax.tyInt Syntax.w16); ref = λ x. x }, (record { pos = 4; ty = Syntax.tyRef (Syntax.named 2) Syntax.imm (Syntax.tyInt Syntax.w16); ref = λ x. x }, (record { pos = 19; ty = Syntax.tyRef Syntax.erased Syntax.mut (Syntax.tyInt Syntax.w16); ref = λ x. x }, (record { pos = 21; ty = Syntax.tyRef Syntax.erased Syntax.mut (Syntax.tyInt Syntax.w16); ref = λ x. x }, (record { pos = 23; ty = Syntax.tyRef Syntax.erased Syntax.mut (Syntax.tyInt Syntax.w16); ref = λ x. x }, (record { pos = 25; ty = Syntax.tyRef Syntax.erased Syntax.mut (Syntax.tyInt Syntax.w16); ref = λ x. x }, tt)))))))) (m33 record { before = record { before = record { before = record { before = record { before = record { before = c .before; admit = c .admit }; match = record { keys2 = k } }; enum-told = record { given = g } }; work-out-arg = record { given = g'3 } }; work-out-arg2 = record { given = g'4 } }; work-out-arg3 = record { given = g'5 } } g'6) g'7 })))))), Match.each-below 2 (λ j. (Unit {0} × (Run.OneOf (List._∷_ 1 List.[]) j → ⊥)) × (Run.OneOf (List._∷_ 0 List.[]) j → ⊥) → ⊥) (λ n. n .0 .1 Path'.refl, (λ n. n .1 Path'.refl, tt)) (Declared.tagOf Gate.the-type (Row.get 10 (T18 .locals) (m16 (c .before) (After-admit·gave c)))) (Match.tag-small Gate.the-type (Row.get 10 (T18 .locals) (m16 (c .before) (After-admit·gave c))))))
+        lay2 = λ c. (λ k. (enum-known-admission record { before = record { before = c .before; admit = c .admit }; match = record { keys1 = k } }, λ g. λ g'. (refuse-requires record { before = record { before = record { before = record { before = c .before; admit = c .admit }; match = record { keys1 = k } }; admission = record { given = g } }; known-told = record { given = g' } }, λ g''. lay4 record { before = record { before = record { before = record { before = record { before = c .before; admit = c .admit }; match = record { keys1 = k } }; admission = record { given = g } }; known-told = record { given = g' } }; refuse = Called.called ps·2 r·2 (claims· .5) T23 (record { pos = 11; st = List.[]; d = 0; at = λ x. x }, tt) (m21 record { before = record { before = record { before = c .before; admit = c .admit }; match = record { keys1 = k } }; admission = record { given = g } } g') g'' })), (λ k. (enum-told record { before = record { before = c .before; admit = c .admit }; match = record { keys2 = k } }, λ g. λ g'3. (Path'.refl, λ g'4. (Path'.refl, λ g'5. (Path'.refl, λ g'6. (Path'.refl, (work-out-requires record { before = record { before = record { before = record { before = record { before = record { before = record { before = c .before; admit = c .admit }; match = record { keys2 = k } }; enum-told = record { given = g } }; work-out-arg = record { given = g'3 } }; work-out-arg2 = record { given = g'4 } }; work-out-arg3 = record { given = g'5 } }; work-out-arg4 = record { given = g'6 } }, λ g'7. lay3 record { before = record { before = record { before = record { before = record { before = record { before = record { before = record { before = c .before; admit = c .admit }; match = record { keys2 = k } }; enum-told = record { given = g } }; work-out-arg = record { given = g'3 } }; work-out-arg2 = record { given = g'4 } }; work-out-arg3 = record { given = g'5 } }; work-out-arg4 = record { given = g'6 } }; work-out = Called.called ps·3 r·3 (claims· .7) T39 (record { pos = 1; st = List.[]; d = 0; at = λ x. x }, (record { pos = 2; ty = Syntax.tyRef (Syntax.named 0) Syntax.imm (Memory.pointee (T.the-row .written)); ref = λ x. x }, (record { pos = 3; ty = Syntax.tyRef (Syntax.named 1) Syntax.imm (Syntax.tyInt Syntax.w16); ref = λ x. x }, (record { pos = 4; ty = Syntax.tyRef (Syntax.named 2) Syntax.imm (Syntax.tyInt Syntax.w16); ref = λ x. x }, (record { pos = 19; ty = Syntax.tyRef Syntax.erased Syntax.mut (Syntax.tyInt Syntax.w16); ref = λ x. x }, (record { pos = 21; ty = Syntax.tyRef Syntax.erased Syntax.mut (Syntax.tyInt Syntax.w16); ref = λ x. x }, (record { pos = 23; ty = Syntax.tyRef Syntax.erased Syntax.mut (Syntax.tyInt Syntax.w16); ref = λ x. x }, (record { pos = 25; ty = Syntax.tyRef Syntax.erased Syntax.mut (Syntax.tyInt Syntax.w16); ref = λ x. x }, tt)))))))) (m33 record { before = record { before = record { before = record { before = record { before = record { before = c .before; admit = c .admit }; match = record { keys2 = k } }; enum-told = record { given = g } }; work-out-arg = record { given = g'3 } }; work-out-arg2 = record { given = g'4 } }; work-out-arg3 = record { given = g'5 } } g'6) g'7 })))))), Match.each-below 2 (λ j. (Unit {0} × (Run.OneOf (List._∷_ 1 List.[]) j → ⊥)) × (Run.OneOf (List._∷_ 0 List.[]) j → ⊥) → ⊥) (λ n. n .0 .1 Path'.refl, (λ n. n .1 Path'.refl, tt)) (Declared.tagOf Admission.the-type (Row.get 10 (T18 .locals) (m16 (c .before) (After-admit·gave c)))) (Match.tag-small Admission.the-type (Row.get 10 (T18 .locals) (m16 (c .before) (After-admit·gave c))))))
 
         lay1 : (c : After-sound) → at53 (W0 (c .before .before .before .before .before .before .before .κs) (c .before .before .before .before .before .before .before .args)) (m7 (c .before) (After-sound·gave c))
         lay1 = λ c. (admit-requires record { before = c .before; sound = c .sound }, λ g. lay2 record { before = record { before = c .before; sound = c .sound }; admit = Called.called ps·1 r·1 (claims· .3) T12 (Bool.bAt 9 λ x. x, (Num.vFld 1 (List._∷_ (Syntax.field 0) List.[]) 0 λ x. Size.struct .as-values x .0, (Num.vAt 13 λ x. x, (Num.vAt 14 λ x. x, (Num.vAt 15 λ x. x, (Num.vAt 16 λ x. x, tt)))))) (m11 (c .before) (After-sound·gave c)) g })

@@ -53,8 +53,8 @@ After-admit = Lts.After-admit (Reads'5.Asked, Reads'5.Learnt, Reads.Asked, Reads
 abbrev pub At-match-keys1 : Type 0
 At-match-keys1 = Lts.At-match-keys1 (Reads'5.Asked, Reads'5.Learnt, Reads.Asked, Reads.Learnt, Reads'3.Asked, Reads'3.Learnt, Reads'4.Asked, Reads'4.Learnt, Reads'.Asked, Reads'.Learnt) Reads''.Pre Reads''.Post
 
-abbrev pub After-gate : Type 0
-After-gate = Lts.After-gate (Reads'5.Asked, Reads'5.Learnt, Reads.Asked, Reads.Learnt, Reads'3.Asked, Reads'3.Learnt, Reads'4.Asked, Reads'4.Learnt, Reads'.Asked, Reads'.Learnt) Reads''.Pre Reads''.Post
+abbrev pub After-admission : Type 0
+After-admission = Lts.After-admission (Reads'5.Asked, Reads'5.Learnt, Reads.Asked, Reads.Learnt, Reads'3.Asked, Reads'3.Learnt, Reads'4.Asked, Reads'4.Learnt, Reads'.Asked, Reads'.Learnt) Reads''.Pre Reads''.Post
 
 abbrev pub After-known-told : Type 0
 After-known-told = Lts.After-known-told (Reads'5.Asked, Reads'5.Learnt, Reads.Asked, Reads.Learnt, Reads'3.Asked, Reads'3.Learnt, Reads'4.Asked, Reads'4.Learnt, Reads'.Asked, Reads'.Learnt) Reads''.Pre Reads''.Post
@@ -116,8 +116,8 @@ Need-sound-requires = Lts.Need-sound-requires (Reads'5.Asked, Reads'5.Learnt, Re
 abbrev pub Need-admit-requires : Type 0
 Need-admit-requires = Lts.Need-admit-requires (Reads'5.Asked, Reads'5.Learnt, Reads.Asked, Reads.Learnt, Reads'3.Asked, Reads'3.Learnt, Reads'4.Asked, Reads'4.Learnt, Reads'.Asked, Reads'.Learnt) Reads''.Pre Reads''.Post
 
-abbrev pub Need-enum-known-gate : Type 0
-Need-enum-known-gate = Lts.Need-enum-known-gate (Reads'5.Asked, Reads'5.Learnt, Reads.Asked, Reads.Learnt, Reads'3.Asked, Reads'3.Learnt, Reads'4.Asked, Reads'4.Learnt, Reads'.Asked, Reads'.Learnt) Reads''.Pre Reads''.Post
+abbrev pub Need-enum-known-admission : Type 0
+Need-enum-known-admission = Lts.Need-enum-known-admission (Reads'5.Asked, Reads'5.Learnt, Reads.Asked, Reads.Learnt, Reads'3.Asked, Reads'3.Learnt, Reads'4.Asked, Reads'4.Learnt, Reads'.Asked, Reads'.Learnt) Reads''.Pre Reads''.Post
 
 abbrev pub Need-refuse-requires : Type 0
 Need-refuse-requires = Lts.Need-refuse-requires (Reads'5.Asked, Reads'5.Learnt, Reads.Asked, Reads.Learnt, Reads'3.Asked, Reads'3.Learnt, Reads'4.Asked, Reads'4.Learnt, Reads'.Asked, Reads'.Learnt) Reads''.Pre Reads''.Post
@@ -150,7 +150,7 @@ abbrev pub Need-returns-2 : Type 0
 Need-returns-2 = Lts.Need-returns-2 (Reads'5.Asked, Reads'5.Learnt, Reads.Asked, Reads.Learnt, Reads'3.Asked, Reads'3.Learnt, Reads'4.Asked, Reads'4.Learnt, Reads'.Asked, Reads'.Learnt) Reads''.Pre Reads''.Post
 
 module _ {M : Type 1} where
-  pub spec : (answer : Need-sound-requires) → (answer : Need-admit-requires) → (answer : Need-enum-known-gate) → (answer : Need-refuse-requires) → (answer : Need-enum-told) → (answer : Need-work-out-requires) → (answer : Need-answer-with-requires) → (answer : Need-returns) → (answer : Need-same-length) → (answer : Need-same-length-2) → (answer : Need-same-length-3) → (answer : Need-same-length-4) → (answer : Need-returns-2) → Lts.Closed (Reads'5.Asked, Reads'5.Learnt, Reads.Asked, Reads.Learnt, Reads'3.Asked, Reads'3.Learnt, Reads'4.Asked, Reads'4.Learnt, Reads'.Asked, Reads'.Learnt) Reads''.Pre Reads''.Post M
+  pub spec : (answer : Need-sound-requires) → (answer : Need-admit-requires) → (answer : Need-enum-known-admission) → (answer : Need-refuse-requires) → (answer : Need-enum-told) → (answer : Need-work-out-requires) → (answer : Need-answer-with-requires) → (answer : Need-returns) → (answer : Need-same-length) → (answer : Need-same-length-2) → (answer : Need-same-length-3) → (answer : Need-same-length-4) → (answer : Need-returns-2) → Lts.Closed (Reads'5.Asked, Reads'5.Learnt, Reads.Asked, Reads.Learnt, Reads'3.Asked, Reads'3.Learnt, Reads'4.Asked, Reads'4.Learnt, Reads'.Asked, Reads'.Learnt) Reads''.Pre Reads''.Post M
   spec = λ answer answer' answer'' answer'3 answer'4 answer'5 answer'6 answer'7 answer'8 answer'9 answer'10 answer'11 answer'12. Lts.spec (Reads'5.Asked, Reads'5.Learnt, Reads.Asked, Reads.Learnt, Reads'3.Asked, Reads'3.Learnt, Reads'4.Asked, Reads'4.Learnt, Reads'.Asked, Reads'.Learnt) Reads''.Pre Reads''.Post answer answer' answer'' answer'3 answer'4 answer'5 answer'6 answer'7 answer'8 answer'9 answer'10 answer'11 answer'12
 
   pub close : Lts.Closed (Reads'5.Asked, Reads'5.Learnt, Reads.Asked, Reads.Learnt, Reads'3.Asked, Reads'3.Learnt, Reads'4.Asked, Reads'4.Learnt, Reads'.Asked, Reads'.Learnt) Reads''.Pre Reads''.Post M → Statement.statement M

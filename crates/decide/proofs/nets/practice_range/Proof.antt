@@ -1,4 +1,4 @@
-use Rattle.decide.proofs.Laying.{practice-none, practice-some, practice-place}
+use Rattle.decide.proofs.Initializing.{practice-none, practice-some, practice-place}
 use native.Mathlib.Omega.{arith}
 use borrow.Author.Needs.{needs}
 use Rattle.decide.proofs.nets.practice_range.Statement.{statement}

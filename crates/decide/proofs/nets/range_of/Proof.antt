@@ -1,4 +1,4 @@
-use Rattle.decide.proofs.Laying.{range-practice, range-all}
+use Rattle.decide.proofs.Initializing.{range-practice, range-all}
 use borrow.Author.Needs.{needs}
 use Rattle.decide.proofs.nets.range_of.Statement.{statement}
 use Rattle.decide.proofs.nets.range_of.Tie as tie

@@ -1,4 +1,4 @@
-use Rattle.decide.proofs.Laying.{seed-failing, seed-other}
+use Rattle.decide.proofs.Initializing.{seed-failing, seed-other}
 use Rattle.decide.proofs.nets.seed_of.Statement.{statement}
 use Rattle.decide.proofs.nets.seed_of.Tie as tie
 

@@ -5,12 +5,6 @@ use lib.ListN.{length}
 use borrow.Author.Needs.{needs}
 use Rattle.gate_deciding.proofs.answers.deliver.Statement.{statement}
 use Rattle.gate_deciding.proofs.answers.deliver.Tie as tie
-use Rattle.gate_deciding.proofs.answers.deliver.Reads as reads
-use Rattle.gate_deciding.proofs.answers.deliver.Lts as lts
-use Rattle.gate_deciding.proofs.answers.room.Reads as room-reads
-use Rattle.gate_deciding.proofs.answers.store_tally.Reads as store-tally-reads
-use Rattle.store.proofs.internal.store.Reads as store-reads
-use Rattle.tables.proofs.number.Reads as number-reads
 
 -- src/answers.rt:81:31
 enum-known-answer : tie.Need-enum-known-answer

@@ -3,8 +3,6 @@ use borrow.Author.Tests.{lt-leb, le-leb}
 use mathlib.Core.Bool.{and-false}
 use Rattle.gate_deciding.proofs.answers.long_enough.Statement.{statement}
 use Rattle.gate_deciding.proofs.answers.long_enough.Tie as tie
-use Rattle.gate_deciding.proofs.answers.long_enough.Reads as reads
-use Rattle.gate_deciding.proofs.answers.long_enough.Lts as lts
 
 -- src/answers.rt:23:9
 returns : tie.Need-returns

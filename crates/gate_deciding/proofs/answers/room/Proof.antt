@@ -3,9 +3,6 @@ use Rattle.laws.proofs.Loops.{stopped, passed}
 use borrow.Author.Needs.{needs}
 use Rattle.gate_deciding.proofs.answers.room.Statement.{statement}
 use Rattle.gate_deciding.proofs.answers.room.Tie as tie
-use Rattle.gate_deciding.proofs.answers.room.Reads as reads
-use Rattle.gate_deciding.proofs.answers.room.Lts as lts
-use Rattle.gate_deciding.proofs.answers.long_enough.Reads as long-enough-reads
 
 -- src/answers.rt:38:9
 long-enough-requires : tie.Need-long-enough-requires

@@ -4,9 +4,6 @@ use Rattle.gate_deciding.proofs.Delivering.{tally-stored}
 use borrow.Author.Needs.{needs}
 use Rattle.gate_deciding.proofs.answers.store_tally.Statement.{statement}
 use Rattle.gate_deciding.proofs.answers.store_tally.Tie as tie
-use Rattle.gate_deciding.proofs.answers.store_tally.Reads as reads
-use Rattle.gate_deciding.proofs.answers.store_tally.Lts as lts
-use Rattle.store.proofs.internal.store_entry.Reads as store-entry-reads
 
 -- src/answers.rt:49:27
 array-read-store-entry : tie.Need-array-read-store-entry

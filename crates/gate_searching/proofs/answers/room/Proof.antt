@@ -3,8 +3,6 @@ use borrow.Author.Tests.{lt-leb, le-leb}
 use mathlib.Core.Bool.{and-false}
 use Rattle.gate_searching.proofs.answers.room.Statement.{statement}
 use Rattle.gate_searching.proofs.answers.room.Tie as tie
-use Rattle.gate_searching.proofs.answers.room.Reads as reads
-use Rattle.gate_searching.proofs.answers.room.Lts as lts
 
 -- src/answers.rt:23:9
 returns : tie.Need-returns

@@ -2,11 +2,6 @@ use Rattle.gate_searching.proofs.Delivering.{found-stored}
 use borrow.Author.Needs.{needs}
 use Rattle.gate_searching.proofs.answers.store_found.Statement.{statement}
 use Rattle.gate_searching.proofs.answers.store_found.Tie as tie
-use Rattle.gate_searching.proofs.answers.store_found.Reads as reads
-use Rattle.gate_searching.proofs.answers.store_found.Lts as lts
-use Rattle.gate_searching.proofs.answers.flag.Reads as flag-reads
-use Rattle.gate_searching.proofs.answers.narrow.Reads as narrow-reads
-use Rattle.store.proofs.internal.store_entry.Reads as store-entry-reads
 
 -- src/answers.rt:52:28
 flag-requires : tie.Need-flag-requires

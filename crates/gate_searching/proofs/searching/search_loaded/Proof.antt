@@ -28,7 +28,7 @@ deliver-requires : tie.Need-deliver-requires
 deliver-requires c κs =
     let a = c .before .before .before .before .before .before .before .before .before .before .before .before .before .before .before .before .args in
     let s = c .before .before .before .before .before .before .before .search .ensures in
-    deliverable (held (a .size) (a .rows .now) (a .firsts .now) (a .outcomes .now)) _ _ (c .before .before .before .before .before .before .before .before .before .before .wide .ensures) _ (s .0) _ _ _ (s .1 .0) (s .1 .1 .0)
+    deliverable (held (a .size) (a .rows .now) (a .firsts .now) (a .outcomes .now)) _ _ (c .before .before .before .before .before .before .before .before .before .before .wide .ensures .0) _ (s .0) _ _ _ (s .1 .0) (s .1 .1 .0)
 
 same-length : tie.Need-same-length
 same-length c = search needs
@@ -44,7 +44,7 @@ returns c =
     let a = c .before .before .before .before .before .before .before .before .before .before .before .before .before .before .before .before .before .before .before .before .before .before .before .args in
     let s = c .before .before .before .before .before .before .before .before .before .before .before .before .before .before .search .ensures in
     let d = c .before .before .before .before .before .before .deliver .ensures in
-    search-delivered (held (a .size) (a .rows .now) (a .firsts .now) (a .outcomes .now)) _ _ (c .before .before .before .before .before .before .before .before .before .before .before .before .before .before .before .before .before .wide .ensures) _ (s .0) _ _ _ (s .1 .0) (s .1 .1 .0) (a .commands .now) (a .scratch .now) (a .answer .now)
+    search-delivered (held (a .size) (a .rows .now) (a .firsts .now) (a .outcomes .now)) _ _ (c .before .before .before .before .before .before .before .before .before .before .before .before .before .before .before .before .before .wide .ensures .0) _ (s .0) _ _ _ (s .1 .0) (s .1 .1 .0) (a .commands .now) (a .scratch .now) (a .answer .now)
     (d .0) (d .1 .0) (d .1 .1 .0) (d .1 .1 .1)
 
 pub search-loaded-spec : {M : Type 1} → statement M

@@ -9,9 +9,6 @@ use mathlib.Core.Path.{_≡_, refl, sym, ap, _∙_}
 use native.Mathlib.Omega.{arith}
 use Rattle.load.proofs.internal.load.Statement.{statement}
 use Rattle.load.proofs.internal.load.Tie as tie
-use Rattle.load.proofs.internal.load.Reads as reads
-use Rattle.load.proofs.internal.load.Lts as lts
-use Rattle.load.proofs.internal.entry_at.Reads as entry-at-reads
 
 abbrev Inv-loop : tie.InvT-loop
 Inv-loop bytes table₀ n i₀ table i =

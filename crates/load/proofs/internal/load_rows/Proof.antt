@@ -1,12 +1,8 @@
 use Rattle.load.proofs.LoadRows.{Rows, rows-begin, rows-more, rows-end}
-use Rattle.tables.specs.Meaning.{rowsOf}
-use lib.ListN.{length, length-set}
 use Prim.Native.Nat.{_-_, _≤_}
-use mathlib.Core.Path.{_≡_, refl, sym, ap, _∙_}
 use native.Mathlib.Omega.{arith}
 mod Lts
 mod Tie
-use borrow.Author.Needs.{needs}
 use Rattle.load.proofs.internal.load_rows.Statement.{statement}
 use Rattle.load.proofs.internal.load_rows.Proof.Tie as tie
 

@@ -3,11 +3,6 @@ use Rattle.load.proofs.Planning.{loading-short, loading-many, loading-l
 use borrow.Author.Needs.{needs}
 use Rattle.load.proofs.internal.plan_size.Statement.{statement}
 use Rattle.load.proofs.internal.plan_size.Tie as tie
-use Rattle.load.proofs.internal.plan_size.Reads as reads
-use Rattle.load.proofs.internal.plan_size.Lts as lts
-use Rattle.load.proofs.internal.few.Reads as few-reads
-use Rattle.load.proofs.internal.long.Reads as long-reads
-use Rattle.load.proofs.internal.size_in.Reads as size-in-reads
 
 -- src/internal.rt:123:9
 returns : tie.Need-returns

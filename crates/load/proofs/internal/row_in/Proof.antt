@@ -1,9 +1,6 @@
 use borrow.Author.Needs.{needs}
 use Rattle.load.proofs.internal.row_in.Statement.{statement}
 use Rattle.load.proofs.internal.row_in.Tie as tie
-use Rattle.load.proofs.internal.row_in.Reads as reads
-use Rattle.load.proofs.internal.row_in.Lts as lts
-use Rattle.load.proofs.internal.entry_at.Reads as entry-at-reads
 
 -- src/internal.rt:62:31
 mul-entry-at : tie.Need-mul-entry-at

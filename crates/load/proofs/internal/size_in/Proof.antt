@@ -1,11 +1,6 @@
 use borrow.Author.Needs.{needs}
 use Rattle.load.proofs.internal.size_in.Statement.{statement}
 use Rattle.load.proofs.internal.size_in.Tie as tie
-use Rattle.load.proofs.internal.size_in.Reads as reads
-use Rattle.load.proofs.internal.size_in.Lts as lts
-use Rattle.load.proofs.internal.entry_at.Reads as entry-at-reads
-use Rattle.load.proofs.internal.wide.Reads as wide-reads
-use Rattle.tables.proofs.Size.new.Reads as new-reads
 
 -- src/internal.rt:85:9
 entry-at-requires : tie.Need-entry-at-requires
@@ -46,7 +41,7 @@ new-requires c κs = search needs
 -- src/internal.rt:81:1
 returns : tie.Need-returns
 returns c =
-    rw (c .new .ensures, c .before .before .before .before .wide .ensures, c .before .before .before .wide2 .ensures, c .before .before .wide3 .ensures, c .before .wide4 .ensures)
+    rw (c .new .ensures, c .before .before .before .before .wide .ensures .0, c .before .before .before .wide2 .ensures .0, c .before .before .wide3 .ensures .0, c .before .wide4 .ensures .0)
     (rw (c .before .before .before .before .before .before .before .before .entry-at .ensures, c .before .before .before .before .before .before .before .entry-at2 .ensures, c .before .before .before .before .before .before .entry-at3 .ensures, c .before .before .before .before .before .entry-at4 .ensures))
 
 pub size-in-spec : {M : Type 1} → statement M

@@ -1,4 +1,4 @@
-use Rattle.propagate.proofs.Fronts.{Front, front-start, front-at, front-state, front-next, front-done}
+use Rattle.propagate.proofs.LayerSteps.{LayerStep, layer-start, layer-at, layer-state, layer-next, layer-done}
 use Rattle.propagate.specs.Work.{work}
 use Rattle.index.specs.Commands.{commandsOf}
 use lib.ListN.{length}
@@ -11,26 +11,26 @@ use Rattle.propagate.proofs.internal.add_layer.Tie as tie
 abbrev Inv-loop : tie.InvT-loop
 Inv-loop size tos firsts outcomes offsets users owner ranks₀ watch₀ queue₀ lo hi k e₀ h₀ ranks watch queue e h =
     (length ranks ≡ length ranks₀) × (length watch ≡ length watch₀) × (length queue ≡ length queue₀)
-    × Front (commandsOf size firsts outcomes) tos owner k lo (work ranks₀ watch₀ queue₀ hi) h (work ranks watch queue e)
+    × LayerStep (commandsOf size firsts outcomes) tos owner k lo (work ranks₀ watch₀ queue₀ hi) h (work ranks watch queue e)
 
 abbrev μ-loop : tie.MeasureT-loop
 μ-loop size tos firsts outcomes offsets users owner ranks₀ watch₀ queue₀ lo hi k e₀ h₀ ranks watch queue e h = hi - h
 
 loop-holds : tie.Need-loop-holds Inv-loop μ-loop
-loop-holds c = let f = c .before .before .before .before .before .before .before .before .before .pre .1 .1 .1 in (refl, refl, refl, front-start _ _ _ _ _ _ (f .0 .0) (f .1))
+loop-holds c = let f = c .before .before .before .before .before .before .before .before .before .pre .1 .1 .1 in (refl, refl, refl, layer-start _ _ _ _ _ _ (f .0 .0) (f .1))
 
 at-requires : tie.Need-at-requires Inv-loop μ-loop
 at-requires c κs =
     let f = c .before .before .before .before .before .before .before .before .before .before .before .before .pre .1 .1 .1 in
     let v = c .before .before .loop .inv in
-    front-at _ _ _ _ _ _ _ _ (v .3) _ (omega (arith, v .2, f .0)) (c .before .loop-test .taken)
+    layer-at _ _ _ _ _ _ _ _ (v .3) _ (omega (arith, v .2, f .0)) (c .before .loop-test .taken)
 
 spread-requires : tie.Need-spread-requires Inv-loop μ-loop
 spread-requires c κs =
     let f = c .before .before .before .before .before .before .before .before .before .before .before .before .before .before .before .before .pre in
     let v = c .before .before .before .before .before .before .loop .inv in
-    let o = front-state _ _ _ _ _ _ _ _ (v .3) (c .before .before .before .before .before .loop-test .taken) _ (c .before .before .before .at .ensures) in
-    (f .0, (f .1 .0, (f .1 .1 .0, ((o, omega (arith, v .0, v .1, v .2, f .1 .1 .1 .0)), v .3 .line))))
+    let o = layer-state _ _ _ _ _ _ _ _ (v .3) (c .before .before .before .before .before .loop-test .taken) _ (c .before .before .before .at .ensures) in
+    (f .0, (f .1 .0, (f .1 .1 .0, ((o, omega (arith, v .0, v .1, v .2, f .1 .1 .1 .0)), v .3 .bound))))
 
 add-h : tie.Need-add-h Inv-loop μ-loop
 add-h c = omega (arith, c .before .before .before .before .before .before .before .before .before .before .before .before .loop-test .taken)
@@ -46,7 +46,7 @@ loop-again c =
       k .0 ∙ v .0,
       k .1 .0 ∙ v .1,
       k .1 .1 .0 ∙ v .2,
-      front-next _ _ _ _ _ _ _ _ (v .3) _ _ (f .1 .1 .0) (c .before .before .before .before .before .before .before .before .before .before .before .before .loop-test .taken) _ (c .before .before .before .before .before .before .before .before .before .before .at .ensures) _ (c .before .before .before .before .before .before .spread .ensures),
+      layer-next _ _ _ _ _ _ _ _ (v .3) _ _ (f .1 .1 .0) (c .before .before .before .before .before .before .before .before .before .before .before .before .loop-test .taken) _ (c .before .before .before .before .before .before .before .before .before .before .at .ensures) _ (c .before .before .before .before .before .before .spread .ensures),
     )
 
 same-length : tie.Need-same-length Inv-loop μ-loop
@@ -61,7 +61,7 @@ same-length-3 c = c .before .loop .inv .2
 returns : tie.Need-returns Inv-loop μ-loop
 returns c =
     let f = c .before .before .before .before .before .before .before .before .before .before .before .pre in
-    front-done _ _ _ _ _ _ _ _ (c .before .loop .inv .3) (f .0) (f .1 .0) (f .1 .1 .1 .0 .1 .1 .1 .1) (c .loop-test .left)
+    layer-done _ _ _ _ _ _ _ _ (c .before .loop .inv .3) (f .0) (f .1 .0) (f .1 .1 .1 .0 .1 .1 .1 .1) (c .loop-test .left)
 
 pub add-layer-spec : {M : Type 1} → statement M
 add-layer-spec =

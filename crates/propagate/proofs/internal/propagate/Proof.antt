@@ -1,5 +1,5 @@
 use Rattle.propagate.proofs.Ends.{Going, going-start, going-few, going-next, going-done}
-use Rattle.propagate.proofs.Starts.{start-line, start-ripe}
+use Rattle.propagate.proofs.Starts.{start-bound, start-at-layer}
 use Rattle.index.specs.Commands.{commandsOf}
 use native.Mathlib.Omega.{arith}
 use mathlib.Core.Path.{refl, _∙_}
@@ -14,23 +14,23 @@ Inv-loop size tos firsts outcomes offsets users owner ranks₀ watch₀ queue₀
 abbrev μ-loop : tie.MeasureT-loop
 μ-loop size tos firsts outcomes offsets users owner ranks₀ watch₀ queue₀ lo₀ hi₀ k₀ ranks watch queue lo hi k = size .n - lo
 
-line-up-all-requires : tie.Need-line-up-all-requires Inv-loop μ-loop
-line-up-all-requires c κs = let f = c .before .before .before .before .before .before .before .before .before .before .before .pre in omega (arith, f .0 .n-small, f .1 .1 .1 .1)
+enqueue-seeds-requires : tie.Need-enqueue-seeds-requires Inv-loop μ-loop
+enqueue-seeds-requires c κs = let f = c .before .before .before .before .before .before .before .before .before .before .before .pre in omega (arith, f .0 .n-small, f .1 .1 .1 .1)
 
 loop-holds : tie.Need-loop-holds Inv-loop μ-loop
 loop-holds c =
     let f = c .before .before .before .before .before .before .before .before .before .before .before .before .before .before .pre in
     let l = f .1 .1 .1 .1 in
-    let e = c .before .before .line-up-all .ensures in
-    going-start _ _ _ _ _ _ _ (start-line _ (f .0) _ (f .1 .0) _ _ _ (l .0) (l .1 .1 .1) _ e) (start-ripe _ (f .0) _ (f .1 .0) _ _ _ (l .0) (l .1 .1 .1) _ e) refl
+    let e = c .before .before .enqueue-seeds .ensures in
+    going-start _ _ _ _ _ _ _ (start-bound _ (f .0) _ (f .1 .0) _ _ _ (l .0) (l .1 .1 .1) _ e) (start-at-layer _ (f .0) _ (f .1 .0) _ _ _ (l .0) (l .1 .1 .1) _ e) refl
 
 add-layer-requires : tie.Need-add-layer-requires Inv-loop μ-loop
 add-layer-requires c κs =
     let f = c .before .before .before .before .before .before .before .before .before .before .before .before .before .before .before .before .before .before .before .pre in
     let v = c .before .before .before .before .loop .inv in
-    let q = c .before .before .before .before .before .before .before .line-up-all .kept .1 .1 .0 in
+    let q = c .before .before .before .before .before .before .before .enqueue-seeds .kept .1 .1 .0 in
     let n = going-few _ _ _ _ _ _ _ _ _ _ _ v in
-    (f .0, (f .1 .0, (f .1 .1 .0, (omega (arith, v .order, v .layers, v .long, v .wlong, v .qlong, q, n, c .before .before .before .loop-test .taken, f .0 .n-small, f .1 .1 .1 .1), v .line))))
+    (f .0, (f .1 .0, (f .1 .1 .0, (omega (arith, v .order, v .layers, v .long, v .wlong, v .qlong, q, n, c .before .before .before .loop-test .taken, f .0 .n-small, f .1 .1 .1 .1), v .bound))))
 
 add-k : tie.Need-add-k Inv-loop μ-loop
 add-k c =
@@ -52,7 +52,7 @@ same-length-2 : tie.Need-same-length-2 Inv-loop μ-loop
 same-length-2 c = c .before .loop .inv .wlong
 
 same-length-3 : tie.Need-same-length-3 Inv-loop μ-loop
-same-length-3 c = c .before .loop .inv .qlong ∙ c .before .before .before .before .line-up-all .kept .1 .1 .0
+same-length-3 c = c .before .loop .inv .qlong ∙ c .before .before .before .before .enqueue-seeds .kept .1 .1 .0
 
 returns : tie.Need-returns Inv-loop μ-loop
 returns c =
@@ -65,7 +65,7 @@ propagate-spec =
     (tie.spec
     Inv-loop
     μ-loop
-    line-up-all-requires
+    enqueue-seeds-requires
     loop-holds
     add-layer-requires
     add-k

@@ -41,7 +41,7 @@ visit-requires c κs =
     let f = c .before .before .before .before .before .before .before .before .before .before .before .before .before .before .before .before .before .pre in
     let v = c .before .before .before .before .before .loop .inv in
     let o = group-owner _ _ _ _ (f .1 .1 .0) _ (f .1 .1 .1 .0 .0) _ _ (c .before .before .before .before .before .before .before .start-of .ensures) (c .before .before .before .before .before .before .start-of2 .ensures) _ (v .0) (c .before .before .before .before .loop-test .taken) _ (c .before .before .before .at .ensures) in
-    (f .0, (f .1 .0, ((o .0, (o .1, omega (arith, v .2, v .3, v .4, f .1 .1 .1 .0))), v .5 .line)))
+    (f .0, (f .1 .0, ((o .0, (o .1, omega (arith, v .2, v .3, v .4, f .1 .1 .1 .0))), v .5 .bound)))
 
 add-p : tie.Need-add-p Inv-loop μ-loop
 add-p c =

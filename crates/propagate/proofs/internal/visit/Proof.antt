@@ -1,5 +1,5 @@
 use Rattle.propagate.proofs.Counting.{queue-room}
-use Rattle.propagate.proofs.Waves.{range-in, look-ranked, look-other, look-past, look-moved, look-lost}
+use Rattle.propagate.proofs.Visits.{range-in, look-ranked, look-other, look-past, look-moved, look-lost}
 use native.Mathlib.Omega.{arith}
 use borrow.Author.Needs.{needs}
 use Rattle.propagate.proofs.internal.visit.Statement.{statement}

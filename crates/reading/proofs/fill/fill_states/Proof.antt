@@ -6,7 +6,6 @@ use Rattle.reading.specs.Filling.{statesIn}
 use Prim.Native.Nat.{_-_, _≤_}
 use native.Mathlib.Omega.{arith}
 use lib.ListN.{length, drop}
-use borrow.Author.Needs.{needs}
 use Rattle.reading.proofs.fill.fill_states.Statement.{statement}
 use Rattle.reading.proofs.fill.fill_states.Proof.Tie as tie
 

@@ -1,5 +1,3 @@
-use native.Mathlib.Omega.{arith}
-use Rattle.tables.specs.Meaning.{rowWith}
 use borrow.Author.Needs.{needs}
 use Rattle.reading.proofs.fill.row_in.Statement.{statement}
 use Rattle.reading.proofs.fill.row_in.Tie as tie

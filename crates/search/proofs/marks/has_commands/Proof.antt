@@ -1,12 +1,12 @@
-use Rattle.search.proofs.Settling.{not-busy, busy-count}
+use Rattle.search.proofs.Settling.{not-active, active-count}
 use Rattle.search.proofs.marks.has_commands.Statement.{statement}
 use Rattle.search.proofs.marks.has_commands.Tie as tie
 
 returns : tie.Need-returns
-returns c = not-busy _ (c .if1 .taken)
+returns c = not-active _ (c .if1 .taken)
 
 returns-2 : tie.Need-returns-2
-returns-2 c = busy-count _ (c .before .if1 .left)
+returns-2 c = active-count _ (c .before .if1 .left)
 
 pub has-commands-spec : {M : Type 1} → statement M
 has-commands-spec = tie.close (tie.spec returns returns-2)

@@ -9,10 +9,10 @@ use Rattle.search.proofs.marks.settle.Statement.{statement}
 use Rattle.search.proofs.marks.settle.Proof.Tie as tie
 
 abbrev Inv-loop : tie.InvT-loop
-Inv-loop size rows commands scratch₀ calm₀ s₀ scratch calm s = (s ≤ size .n) × ((F O : List ℕ) → Settling (held size rows F O) commands scratch₀ scratch calm s)
+Inv-loop size rows commands scratch₀ calm₀ s₀ scratch unmarked s = (s ≤ size .n) × ((F O : List ℕ) → Settling (held size rows F O) commands scratch₀ scratch unmarked s)
 
 abbrev μ-loop : tie.MeasureT-loop
-μ-loop size rows commands scratch₀ calm₀ s₀ scratch calm s = size .n - s
+μ-loop size rows commands scratch₀ calm₀ s₀ scratch unmarked s = size .n - s
 
 loop-holds : tie.Need-loop-holds Inv-loop μ-loop
 loop-holds c = (omega arith, λ F O. settling-start)
@@ -37,7 +37,7 @@ same-length c = c .before .before .loop .inv .1 [] [] .flags .same
 
 returns : tie.Need-returns Inv-loop μ-loop
 returns c = (
-  λ F O. settling-done (c .before .before .loop .inv .1 F O) (c .before .before .loop .inv .0) (c .if1 .left) .calms,
+  λ F O. settling-done (c .before .before .loop .inv .1 F O) (c .before .before .loop .inv .0) (c .if1 .left) .unmarks,
   λ F O. settling-done (c .before .before .loop .inv .1 F O) (c .before .before .loop .inv .0) (c .if1 .left) .flags,
 )
 

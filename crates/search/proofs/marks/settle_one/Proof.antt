@@ -13,7 +13,7 @@ same-length : tie.Need-same-length
 same-length c = search needs
 
 returns : tie.Need-returns
-returns c = swept-marked _ _ _ _ (c .before .before .before .before .before .before .before .before .before .args .calm) _ (c .before .before .before .before .before .is-marked .ensures) (c .before .before .before .before .if1 .taken) _ (c .before .before .put .ensures)
+returns c = swept-marked _ _ _ _ (c .before .before .before .before .before .before .before .before .before .args .unmarked) _ (c .before .before .before .before .before .is-marked .ensures) (c .before .before .before .before .if1 .taken) _ (c .before .before .put .ensures)
 
 at-requires : tie.Need-at-requires
 at-requires c κs = search needs

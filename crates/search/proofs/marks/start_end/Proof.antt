@@ -1,5 +1,5 @@
 use borrow.Author.Needs.{needs}
-use Rattle.search.proofs.Settling.{end-failing, end-busy, end-rest}
+use Rattle.search.proofs.Settling.{end-failing, end-active, end-rest}
 use Rattle.search.proofs.marks.start_end.Statement.{statement}
 use Rattle.search.proofs.marks.start_end.Tie as tie
 
@@ -10,7 +10,7 @@ has-commands-requires : tie.Need-has-commands-requires
 has-commands-requires c κs = search needs
 
 returns-2 : tie.Need-returns-2
-returns-2 c = end-busy _ (c .before .before .if1 .left) _ (c .before .has-commands .ensures) (c .if2 .taken)
+returns-2 c = end-active _ (c .before .before .if1 .left) _ (c .before .has-commands .ensures) (c .if2 .taken)
 
 returns-3 : tie.Need-returns-3
 returns-3 c = end-rest _ (c .before .before .if1 .left) _ (c .before .has-commands .ensures) (c .if2 .left)

@@ -9,8 +9,8 @@ use Rattle.tables.proofs.Refusal.Laws as Laws''
 use Rattle.tables.proofs.Row as T
 use Rattle.tables.proofs.Size
 use Rattle.tables.proofs.Size.Laws as Laws'3
-use Rattle.tables.proofs.internal.Gate
-use Rattle.tables.proofs.internal.Gate.Laws as Laws'4
+use Rattle.tables.proofs.internal.Admission
+use Rattle.tables.proofs.internal.Admission.Laws as Laws'4
 use borrow.Author.Called
 use borrow.Enum.Known
 use borrow.Enum.Make
@@ -115,7 +115,7 @@ abbrev ty·11 : Syntax.Ty
 ty·11 = Syntax.tyEnum (List._∷_ 116 (List._∷_ 97 (List._∷_ 98 (List._∷_ 108 (List._∷_ 101 (List._∷_ 115 (List._∷_ 58 (List._∷_ 58 (List._∷_ 82 (List._∷_ 101 (List._∷_ 102 (List._∷_ 117 (List._∷_ 115 (List._∷_ 97 (List._∷_ 108 List.[]))))))))))))))) (Syntax.ttcons Syntax.tnil (Syntax.ttcons Syntax.tnil (Syntax.ttcons Syntax.tnil (Syntax.ttcons Syntax.tnil (Syntax.ttcons Syntax.tnil (Syntax.ttcons Syntax.tnil (Syntax.ttcons Syntax.tnil (Syntax.ttcons Syntax.tnil (Syntax.ttcons Syntax.tnil (Syntax.ttcons Syntax.tnil (Syntax.ttcons Syntax.tnil Syntax.ttnil)))))))))))
 
 abbrev ty·12 : Syntax.Ty
-ty·12 = Syntax.tyEnum (List._∷_ 116 (List._∷_ 97 (List._∷_ 98 (List._∷_ 108 (List._∷_ 101 (List._∷_ 115 (List._∷_ 58 (List._∷_ 58 (List._∷_ 105 (List._∷_ 110 (List._∷_ 116 (List._∷_ 101 (List._∷_ 114 (List._∷_ 110 (List._∷_ 97 (List._∷_ 108 (List._∷_ 58 (List._∷_ 58 (List._∷_ 71 (List._∷_ 97 (List._∷_ 116 (List._∷_ 101 List.[])))))))))))))))))))))) (Syntax.ttcons Syntax.tnil (Syntax.ttcons (Syntax.tcons ty·11 Syntax.tnil) Syntax.ttnil))
+ty·12 = Syntax.tyEnum (List._∷_ 116 (List._∷_ 97 (List._∷_ 98 (List._∷_ 108 (List._∷_ 101 (List._∷_ 115 (List._∷_ 58 (List._∷_ 58 (List._∷_ 105 (List._∷_ 110 (List._∷_ 116 (List._∷_ 101 (List._∷_ 114 (List._∷_ 110 (List._∷_ 97 (List._∷_ 108 (List._∷_ 58 (List._∷_ 58 (List._∷_ 65 (List._∷_ 100 (List._∷_ 109 (List._∷_ 105 (List._∷_ 115 (List._∷_ 115 (List._∷_ 105 (List._∷_ 111 (List._∷_ 110 List.[]))))))))))))))))))))))))))) (Syntax.ttcons Syntax.tnil (Syntax.ttcons (Syntax.tcons ty·11 Syntax.tnil) Syntax.ttnil))
 
 abbrev ty·13 : Syntax.Ty
 ty·13 = Syntax.tyEnum (List._∷_ 115 (List._∷_ 101 (List._∷_ 97 (List._∷_ 114 (List._∷_ 99 (List._∷_ 104 (List._∷_ 58 (List._∷_ 58 (List._∷_ 83 (List._∷_ 101 (List._∷_ 97 (List._∷_ 114 (List._∷_ 99 (List._∷_ 104 (List._∷_ 65 (List._∷_ 110 (List._∷_ 115 (List._∷_ 119 (List._∷_ 101 (List._∷_ 114 List.[])))))))))))))))))))) (Syntax.ttcons (Syntax.tcons ty·9 Syntax.tnil) (Syntax.ttcons (Syntax.tcons ty·11 Syntax.tnil) Syntax.ttnil))
@@ -142,7 +142,7 @@ abbrev pub ps·1 : List.List (Kinds.PK 0)
 ps·1 = List._∷_ Bool.pBool (List._∷_ (Num.pNum Syntax.w64) (List._∷_ (Num.pNum Syntax.w64) (List._∷_ (Num.pNum Syntax.w64) (List._∷_ (Num.pNum Syntax.w64) List.[]))))
 
 abbrev pub r·1 : Kinds.RK 0
-r·1 = Value.rVal record { ty = Declared.row Gate.the-type; one = Path'.refl; val = Laws'5.val Gate.the-type Laws'4.the-laws; tells = Laws'5.tells Gate.the-type Laws'4.the-laws; still = Laws'5.still Gate.the-type Laws'4.the-copy Exit.yes; row = Rows'.whole (Declared.row Gate.the-type); rd = λ x. x; mk = λ x. x } λ M 𝓤 H A W. record { copies = Laws'5.copy Gate.the-type Laws'4.the-copy 𝓤 H A W; lawful = Laws'5.lawful Gate.the-type Laws'4.the-laws 𝓤 H A W tt; makes = Laws'5.makes Gate.the-type Laws'4.the-plain 𝓤 H A; in-mem = Local.mem-whole 𝓤 H A W (Declared.row Gate.the-type); of-mem = Local.whole-mem 𝓤 H A W (Declared.row Gate.the-type) }
+r·1 = Value.rVal record { ty = Declared.row Admission.the-type; one = Path'.refl; val = Laws'5.val Admission.the-type Laws'4.the-laws; tells = Laws'5.tells Admission.the-type Laws'4.the-laws; still = Laws'5.still Admission.the-type Laws'4.the-copy Exit.yes; row = Rows'.whole (Declared.row Admission.the-type); rd = λ x. x; mk = λ x. x } λ M 𝓤 H A W. record { copies = Laws'5.copy Admission.the-type Laws'4.the-copy 𝓤 H A W; lawful = Laws'5.lawful Admission.the-type Laws'4.the-laws 𝓤 H A W tt; makes = Laws'5.makes Admission.the-type Laws'4.the-plain 𝓤 H A; in-mem = Local.mem-whole 𝓤 H A W (Declared.row Admission.the-type); of-mem = Local.whole-mem 𝓤 H A W (Declared.row Admission.the-type) }
 
 abbrev pub ps·2 : List.List (Kinds.PK 6)
 ps·2 = List._∷_ (Value.pVal record { ty = Declared'.row Size.the-type; one = Path'.refl; val = Laws'6.val Size.the-type Laws'3.the-laws; tells = Laws'6.tells Size.the-type Laws'3.the-laws; still = Laws'6.still Size.the-type Laws'3.the-copy Exit.yes; row = Rows'.whole (Declared'.row Size.the-type); rd = λ x. x; mk = λ x. x } λ M 𝓤 H A W. record { copies = Laws'6.copy Size.the-type Laws'3.the-copy 𝓤 H A W; lawful = Laws'6.lawful Size.the-type Laws'3.the-laws 𝓤 H A W; makes = Laws'6.makes Size.the-type Laws'3.the-plain 𝓤 H A; in-mem = Local.mem-whole 𝓤 H A W (Declared'.row Size.the-type); of-mem = Local.whole-mem 𝓤 H A W (Declared'.row Size.the-type) }) (List._∷_ (ShrSlice.pShrS T.the-row 0 tt) (List._∷_ (ShrSlice.pShrS (Referent.rtF (Referent.fInt Syntax.w16)) 1 tt) (List._∷_ (ShrSlice.pShrS (Referent.rtF (Referent.fInt Syntax.w16)) 2 tt) (List._∷_ (Num.pNum Syntax.w64) (List._∷_ (MutSlice.pMutS (Referent.rtF (Referent.fInt Syntax.w16)) 3 tt) (List._∷_ (MutSlice.pMutS (Referent.rtF (Referent.fInt Syntax.w16)) 4 tt) (List._∷_ (MutSlice.pMutS (Referent.rtF (Referent.fInt Syntax.w16)) 5 tt) List.[])))))))
@@ -163,7 +163,7 @@ abbrev b2 : Syntax.Body
 b2 = Syntax.assign (Syntax.place 14 List.[]) (Syntax.rvOpd (Syntax.copy (Syntax.place 7 (List._∷_ (Syntax.field 1) List.[]))))
 
 abbrev b3 : Syntax.Body
-b3 = Syntax.call "search::gate::admit" (List._∷_ (Syntax.copy (Syntax.place 8 List.[])) (List._∷_ (Syntax.copy (Syntax.place 1 (List._∷_ (Syntax.field 0) List.[]))) (List._∷_ (Syntax.copy (Syntax.place 5 List.[])) (List._∷_ (Syntax.copy (Syntax.place 13 List.[])) (List._∷_ (Syntax.copy (Syntax.place 14 List.[])) List.[]))))) (Syntax.place 9 List.[])
+b3 = Syntax.call "search::admission::admit" (List._∷_ (Syntax.copy (Syntax.place 8 List.[])) (List._∷_ (Syntax.copy (Syntax.place 1 (List._∷_ (Syntax.field 0) List.[]))) (List._∷_ (Syntax.copy (Syntax.place 5 List.[])) (List._∷_ (Syntax.copy (Syntax.place 13 List.[])) (List._∷_ (Syntax.copy (Syntax.place 14 List.[])) List.[]))))) (Syntax.place 9 List.[])
 
 abbrev b4 : Syntax.Body
 b4 = Syntax.assign (Syntax.place 10 List.[]) (Syntax.rvOpd (Syntax.copy (Syntax.place 9 (List._∷_ (Syntax.variant 1) (List._∷_ (Syntax.field 1) List.[])))))
@@ -277,7 +277,7 @@ abbrev pub t5 : List.List Row.Entry
 t5 = Row.setRow 14 (14, Rows'.sc-here (Row.sInt Syntax.w64)) t4
 
 abbrev pub t6 : List.List Row.Entry
-t6 = Row.setRow 9 (9, Rows'.whole (Declared.row Gate.the-type)) t5
+t6 = Row.setRow 9 (9, Rows'.whole (Declared.row Admission.the-type)) t5
 
 abbrev pub t7 : List.List Row.Entry
 t7 = Row.setRow 15 (15, Rows'.whole (Declared.row SearchAnswer.the-type)) (Row.setRow 1 (1, Rows'.any-gone ty·10) t3)
@@ -286,10 +286,10 @@ abbrev pub t8 : List.List Row.Entry
 t8 = Row.setRow 13 (13, Rows'.any-gone (Syntax.tyInt Syntax.w64)) t6
 
 abbrev pub t9 : List.List Row.Entry
-t9 = Row.setRow 9 (9, Rows'.whole (Declared.row Gate.the-type)) t3
+t9 = Row.setRow 14 (14, Rows'.any-gone (Syntax.tyInt Syntax.w64)) t8
 
 abbrev pub t10 : List.List Row.Entry
-t10 = Row.setRow 9 (9, Rows'.whole (Known.Known Gate.enum 1)) t3
+t10 = Row.setRow 9 (9, Rows'.whole (Known.Known Admission.enum 1)) t3
 
 abbrev pub t11 : List.List Row.Entry
 t11 = Row.setRow 1 (1, Rows'.any-gone ty·10) t10
@@ -545,10 +545,10 @@ module _ (claims· : Claims) where
   s9 = λ bs. Scalar.n-room T11 14 (Syntax.tyInt Syntax.w64)
 
   abbrev s10 : (bs : List.List Nat.ℕ) → Typed.Both T12 T13
-  s10 = λ bs. Known.k-enum-known Gate.enum 1 T12 9 λ x. x
+  s10 = λ bs. Known.k-enum-known Admission.enum 1 T12 9 λ x. x
 
   abbrev s11 : (bs : List.List Nat.ℕ) → Typed.Gives T13 T14
-  s11 = λ bs. Known.k-known-told Gate.enum Laws'4.the-laws 1 T13 9 λ x. x
+  s11 = λ bs. Known.k-known-told Admission.enum Laws'4.the-laws 1 T13 9 λ x. x
 
   abbrev s12 : (bs : List.List Nat.ℕ) → Typed.Mo T14 → Typed.Mo T15
   s12 = λ bs. Scalar.n-room T14 1 ty·10
@@ -566,7 +566,7 @@ module _ (claims· : Claims) where
   s16 = λ bs. Scalar.n-room T18 10 ty·11
 
   abbrev s17 : (bs : List.List Nat.ℕ) → Typed.Both T12 T20
-  s17 = λ bs. Known.k-enum-told Gate.enum 0 T12 9 λ x. x
+  s17 = λ bs. Known.k-enum-told Admission.enum 0 T12 9 λ x. x
 
   abbrev s18 : (bs : List.List Nat.ℕ) → Typed.Mo T20 → Typed.Mo T21
   s18 = λ bs. Scalar.n-room T20 9 ty·12
@@ -640,7 +640,7 @@ module _ (claims· : Claims) where
   module _ (Pre· : (κs : Lifetimes.Lfts 5) → Kinds.Dens κs ps → Type 0) (Post· : (κs : Lifetimes.Lfts 5) → (a : Kinds.Dens κs ps) → Kinds.Plain 5 ps r κs) where
     module _ (M : Type 1) where
       abbrev pub Closed : Type 2
-      Closed = (𝓤 : URA.URA M) (H : Wp.Heap 𝓤) (A : Atoms.Atoms 𝓤) (W : Kit.Given 𝓤 H A) (𝓣 : Wp.Tables 𝓤 H) (known0 : Plain.Known 𝓤 H A W 𝓣 3 ps·0 r·0 (claims· .0) (claims· .1) "tables::sound") (known1 : Plain.Known 𝓤 H A W 𝓣 0 ps·1 r·1 (claims· .2) (claims· .3) "search::gate::admit") (known2 : Plain.Known 𝓤 H A W 𝓣 6 ps·2 r·2 (claims· .4) (claims· .5) "search::turns::rounds") → Statement.Triple 𝓤 (Wp.WpFn 𝓤 H (𝓣 .C) (𝓣 .Λ) (Function.fnOf 5 ps r xs m hs body)) (Function.plainOf 𝓤 H A 5 ps r Pre· Post·)
+      Closed = (𝓤 : URA.URA M) (H : Wp.Heap 𝓤) (A : Atoms.Atoms 𝓤) (W : Kit.Given 𝓤 H A) (𝓣 : Wp.Tables 𝓤 H) (known0 : Plain.Known 𝓤 H A W 𝓣 3 ps·0 r·0 (claims· .0) (claims· .1) "tables::sound") (known1 : Plain.Known 𝓤 H A W 𝓣 0 ps·1 r·1 (claims· .2) (claims· .3) "search::admission::admit") (known2 : Plain.Known 𝓤 H A W 𝓣 6 ps·2 r·2 (claims· .4) (claims· .5) "search::turns::rounds") → Statement.Triple 𝓤 (Wp.WpFn 𝓤 H (𝓣 .C) (𝓣 .Λ) (Function.fnOf 5 ps r xs m hs body)) (Function.plainOf 𝓤 H A 5 ps r Pre· Post·)
 
     module _ where
       abbrev at0 : (bs : List.List Nat.ℕ) → Typed.TF T17 O1
@@ -746,7 +746,7 @@ module _ (claims· : Claims) where
       at33 = λ bs. λ Ψ. Typed.both (s17 bs) (at32 bs Ψ)
 
       abbrev at34 : (bs : List.List Nat.ℕ) → Typed.TF T12 O1
-      at34 = λ bs. Switch.Φswitch T12 O1 9 (λ x. Declared.tagOf Gate.the-type x) (Syntax.arm (List._∷_ 1 List.[]) b6 (Syntax.arm (List._∷_ 0 List.[]) b23 Syntax.noDefault)) (at5 bs, (at33 bs, tt))
+      at34 = λ bs. Switch.Φswitch T12 O1 9 (λ x. Declared.tagOf Admission.the-type x) (Syntax.arm (List._∷_ 1 List.[]) b6 (Syntax.arm (List._∷_ 0 List.[]) b23 Syntax.noDefault)) (at5 bs, (at33 bs, tt))
 
       abbrev at35 : (bs : List.List Nat.ℕ) → Typed.TF T11 O1
       at35 = λ bs. λ Ψ. Typed.pass T11 T12 (s9 bs) (at34 bs Ψ)
@@ -801,7 +801,7 @@ module _ (claims· : Claims) where
 
       module _ {M : Type 1} (𝓤 : URA.URA M) (H : Wp.Heap 𝓤) (A : Atoms.Atoms 𝓤) (W : Kit.Given 𝓤 H A) (𝓣 : Wp.Tables 𝓤 H) where
         abbrev Knowns : Type 1
-        Knowns = Plain.Known 𝓤 H A W 𝓣 3 ps·0 r·0 (claims· .0) (claims· .1) "tables::sound" × Plain.Known 𝓤 H A W 𝓣 0 ps·1 r·1 (claims· .2) (claims· .3) "search::gate::admit" × Plain.Known 𝓤 H A W 𝓣 6 ps·2 r·2 (claims· .4) (claims· .5) "search::turns::rounds"
+        Knowns = Plain.Known 𝓤 H A W 𝓣 3 ps·0 r·0 (claims· .0) (claims· .1) "tables::sound" × Plain.Known 𝓤 H A W 𝓣 0 ps·1 r·1 (claims· .2) (claims· .3) "search::admission::admit" × Plain.Known 𝓤 H A W 𝓣 6 ps·2 r·2 (claims· .4) (claims· .5) "search::turns::rounds"
 
       module _ (κs : Lifetimes.Lfts 5) (qs : Lifetimes.Shares 5) where
         abbrev g17 : List.List Row.Entry
@@ -995,19 +995,19 @@ module _ (claims· : Claims) where
           d0 = Typed.s-typed 𝓤 H A W 𝓣 E G17 b5 Δ1 (λ Ψ. Typed.pass T17 T18 (s15 bs) (Typed.pass T18 T19 (s16 bs) Ψ)) tt (Typed.g-post 𝓤 H A W 𝓣 E G17 G18 G19 b5 (Typed.pass T17 T18 (s15 bs)) (Typed.pass T18 T19 (s16 bs)) (Make.t-enum-make-wt 𝓤 H A W E 𝓣 SearchAnswer.the-type Laws'.the-laws Laws'.the-plain tt G17 15 (List._∷_ (Scalar.oInt Syntax.w8 1) (List._∷_ (Scalar.oAt 10 ty·11 (Laws'5.val Refusal.the-type Laws''.the-laws)) List.[])) (λ m. SearchAnswer.enum .make (Logic.inr (Logic.inl (m .1 .1 .1 .1 .1 .1 .1 .1 .1 .1 .0, tt)))) (Reads'.room-gone 𝓤 H A ty·13) (tt, ((Whole.reads-enum 𝓤 H A W Refusal.the-type Laws''.the-laws, Path'.refl), tt)) Path'.refl (λ m wa. Make.made-val SearchAnswer.the-type Laws'.the-laws (List._∷_ (Laws'5.val Refusal.the-type Laws''.the-laws (m .1 .1 .1 .1 .1 .1 .1 .1 .1 .1 .0)) List.[]) (SearchAnswer.enum .make (Logic.inr (Logic.inl (m .1 .1 .1 .1 .1 .1 .1 .1 .1 .1 .0, tt)))) (Signed.made-wt Refusal.the-field Laws''.the-field-laws (Whole.enum-wt Refusal.the-type Laws''.the-laws (tt, (tt, (tt, (tt, (tt, (tt, (tt, (tt, (tt, (tt, (tt, tt)))))))))))) (Refusal.the-type .to (m .1 .1 .1 .1 .1 .1 .1 .1 .1 .1 .0)), tt) (wa .1)) λ m wa. Make.made-is SearchAnswer.the-type Laws'.the-laws (List._∷_ (Laws'5.val Refusal.the-type Laws''.the-laws (m .1 .1 .1 .1 .1 .1 .1 .1 .1 .1 .0)) List.[]) (SearchAnswer.enum .make (Logic.inr (Logic.inl (m .1 .1 .1 .1 .1 .1 .1 .1 .1 .1 .0, tt)))) (Signed.made-wt Refusal.the-field Laws''.the-field-laws (Whole.enum-wt Refusal.the-type Laws''.the-laws (tt, (tt, (tt, (tt, (tt, (tt, (tt, (tt, (tt, (tt, (tt, tt)))))))))))) (Refusal.the-type .to (m .1 .1 .1 .1 .1 .1 .1 .1 .1 .1 .0)), tt) (wa .1)) (Scalar.g-room 𝓤 H A W E G18 10 ty·11 (Local.room-whole 𝓤 H A W (Declared.row Refusal.the-type) ty·11 Path'.refl)))
 
           d1 : Typed.Typed 𝓤 H A 𝓣 E G16 b5 Δ1 (at1 bs)
-          d1 = Typed.g-pre 𝓤 H A W 𝓣 E G16 G17 b5 Δ1 (Typed.pass T16 T17 (s14 bs)) (at0 bs) (Scalar.g-room 𝓤 H A W E G16 9 ty·12 (Local.room-whole 𝓤 H A W (Known.Known Gate.enum 1) ty·12 Path'.refl)) d0
+          d1 = Typed.g-pre 𝓤 H A W 𝓣 E G16 G17 b5 Δ1 (Typed.pass T16 T17 (s14 bs)) (at0 bs) (Scalar.g-room 𝓤 H A W E G16 9 ty·12 (Local.room-whole 𝓤 H A W (Known.Known Admission.enum 1) ty·12 Path'.refl)) d0
 
           d2 : Typed.Typed 𝓤 H A 𝓣 E G15 b6 Δ1 (at2 bs)
-          d2 = Typed.s-seq 𝓤 H A W 𝓣 E G15 G16 b4 b5 Δ1 (Typed.pass T15 T16 (s13 bs)) (at1 bs) (CopyOut.t-copy-told 𝓤 H A W E 𝓣 (Declared.row Refusal.the-type) Path'.refl (Laws'5.val Refusal.the-type Laws''.the-laws) (Laws'5.lawful Refusal.the-type Laws''.the-laws 𝓤 H A W tt) (Laws'5.makes Refusal.the-type Laws''.the-plain 𝓤 H A) G15 10 (Scalar.oFld 9 (List._∷_ (Syntax.variant 1) (List._∷_ (Syntax.field 1) List.[])) ty·11 1 λ v. Laws'5.val Refusal.the-type Laws''.the-laws (v .0)) (λ m. m .1 .1 .1 .1 .1 .1 .1 .1 .1 .0 .0) (λ m. Laws'5.Fields (Declared.variants Gate.the-type) (Laws'5.spellss (Gate.enum .parts) Laws'4.the-laws) (Gate.the-type .to (Known.at Gate.enum 1 (m .1 .1 .1 .1 .1 .1 .1 .1 .1 .0)))) (Reads'.room-gone 𝓤 H A ty·11) (Match.reads-payload 𝓤 H A W Gate.enum Laws'4.the-laws 1 Path'.refl Path'.refl (λ v. Val.vcons (Laws'5.val Refusal.the-type Laws''.the-laws (v .0)) Val.vnil) (λ v. Path'.refl) 0 ty·11 1 Path'.refl, Path'.refl) Path'.refl (λ ρ m. Make'.tells-row 𝓤 H A W E ρ (Row.out 10 (G15 .locals)) m 9 (Laws'5.Fields (Declared.variants Gate.the-type) (Laws'5.spellss (Gate.enum .parts) Laws'4.the-laws) (Gate.the-type .to (Known.at Gate.enum 1 (m .1 .1 .1 .1 .1 .1 .1 .1 .1 .0)))) (Known.known-is 𝓤 H A W E Gate.enum 1 Laws'4.the-laws ρ 9 (m .1 .1 .1 .1 .1 .1 .1 .1 .1 .0))) (λ m k wa. Path'.refl) λ m k wa. k .0) d1
+          d2 = Typed.s-seq 𝓤 H A W 𝓣 E G15 G16 b4 b5 Δ1 (Typed.pass T15 T16 (s13 bs)) (at1 bs) (CopyOut.t-copy-told 𝓤 H A W E 𝓣 (Declared.row Refusal.the-type) Path'.refl (Laws'5.val Refusal.the-type Laws''.the-laws) (Laws'5.lawful Refusal.the-type Laws''.the-laws 𝓤 H A W tt) (Laws'5.makes Refusal.the-type Laws''.the-plain 𝓤 H A) G15 10 (Scalar.oFld 9 (List._∷_ (Syntax.variant 1) (List._∷_ (Syntax.field 1) List.[])) ty·11 1 λ v. Laws'5.val Refusal.the-type Laws''.the-laws (v .0)) (λ m. m .1 .1 .1 .1 .1 .1 .1 .1 .1 .0 .0) (λ m. Laws'5.Fields (Declared.variants Admission.the-type) (Laws'5.spellss (Admission.enum .parts) Laws'4.the-laws) (Admission.the-type .to (Known.at Admission.enum 1 (m .1 .1 .1 .1 .1 .1 .1 .1 .1 .0)))) (Reads'.room-gone 𝓤 H A ty·11) (Match.reads-payload 𝓤 H A W Admission.enum Laws'4.the-laws 1 Path'.refl Path'.refl (λ v. Val.vcons (Laws'5.val Refusal.the-type Laws''.the-laws (v .0)) Val.vnil) (λ v. Path'.refl) 0 ty·11 1 Path'.refl, Path'.refl) Path'.refl (λ ρ m. Make'.tells-row 𝓤 H A W E ρ (Row.out 10 (G15 .locals)) m 9 (Laws'5.Fields (Declared.variants Admission.the-type) (Laws'5.spellss (Admission.enum .parts) Laws'4.the-laws) (Admission.the-type .to (Known.at Admission.enum 1 (m .1 .1 .1 .1 .1 .1 .1 .1 .1 .0)))) (Known.known-is 𝓤 H A W E Admission.enum 1 Laws'4.the-laws ρ 9 (m .1 .1 .1 .1 .1 .1 .1 .1 .1 .0))) (λ m k wa. Path'.refl) λ m k wa. k .0) d1
 
           d3 : Typed.Typed 𝓤 H A 𝓣 E G14 b6 Δ1 (at3 bs)
           d3 = Typed.g-pre 𝓤 H A W 𝓣 E G14 G15 b6 Δ1 (Typed.pass T14 T15 (s12 bs)) (at2 bs) (Scalar.g-room 𝓤 H A W E G14 1 ty·10 (Local.room-whole 𝓤 H A W (Declared'.row Size.the-type) ty·10 Path'.refl)) d2
 
           d4 : Typed.Typed 𝓤 H A 𝓣 E G13 b6 Δ1 (at4 bs)
-          d4 = Typed.g-pre 𝓤 H A W 𝓣 E G13 G14 b6 Δ1 (Typed.give (s11 bs)) (at3 bs) (Known.g-known-told 𝓤 H A W E Gate.enum 1 G13 9 Laws'4.the-laws (λ x. x) (Reads'.as-is 𝓤 H A (Rows'.whole (Known.Known Gate.enum 1)))) d3
+          d4 = Typed.g-pre 𝓤 H A W 𝓣 E G13 G14 b6 Δ1 (Typed.give (s11 bs)) (at3 bs) (Known.g-known-told 𝓤 H A W E Admission.enum 1 G13 9 Laws'4.the-laws (λ x. x) (Reads'.as-is 𝓤 H A (Rows'.whole (Known.Known Admission.enum 1)))) d3
 
           d5 : Typed.Typed 𝓤 H A 𝓣 E G12 b6 Δ1 (at5 bs)
-          d5 = Typed.g-pre 𝓤 H A W 𝓣 E G12 G13 b6 Δ1 (Typed.both (s10 bs)) (at4 bs) (Known.g-enum-known 𝓤 H A W E Gate.enum 1 G12 9 (λ x. x) (Reads'.as-is 𝓤 H A (Rows'.whole (Declared.row Gate.the-type)))) d4
+          d5 = Typed.g-pre 𝓤 H A W 𝓣 E G12 G13 b6 Δ1 (Typed.both (s10 bs)) (at4 bs) (Known.g-enum-known 𝓤 H A W E Admission.enum 1 G12 9 (λ x. x) (Reads'.as-is 𝓤 H A (Rows'.whole (Declared.row Admission.the-type)))) d4
 
           d6 : Typed.Typed 𝓤 H A 𝓣 E G46 b15 Δ1 (at6 bs)
           d6 = Typed.s-typed 𝓤 H A W 𝓣 E G46 b15 Δ1 (λ Ψ. Typed.pass T46 T47 (s44 bs) (Typed.pass T47 T48 (s45 bs) Ψ)) tt (Typed.g-post 𝓤 H A W 𝓣 E G46 G47 G48 b15 (Typed.pass T46 T47 (s44 bs)) (Typed.pass T47 T48 (s45 bs)) (Make.t-enum-make-wt 𝓤 H A W E 𝓣 SearchAnswer.the-type Laws'.the-laws Laws'.the-plain tt G46 15 (List._∷_ (Scalar.oInt Syntax.w8 0) (List._∷_ (Scalar.oAt 12 ty·9 (Laws'6.val Found.the-type Laws.the-laws)) List.[])) (λ m. SearchAnswer.enum .make (Logic.inl (m .1 .1 .1 .1 .1 .1 .1 .1 .1 .1 .1 .1 .0, tt))) (Reads'.room-gone 𝓤 H A ty·13) (tt, ((Reads.reads-struct 𝓤 H A W Found.the-type Laws.the-laws, Path'.refl), tt)) Path'.refl (λ m wa. Make.made-val SearchAnswer.the-type Laws'.the-laws (List._∷_ (Laws'6.val Found.the-type Laws.the-laws (m .1 .1 .1 .1 .1 .1 .1 .1 .1 .1 .1 .1 .0)) List.[]) (SearchAnswer.enum .make (Logic.inl (m .1 .1 .1 .1 .1 .1 .1 .1 .1 .1 .1 .1 .0, tt))) (Signed.made-wt Found.the-field Laws.the-field-laws (Make'.struct-wt Found.the-type Laws.the-laws (Make'.bool-wt, (Make'.u64-wt, tt))) (Found.the-type .to (m .1 .1 .1 .1 .1 .1 .1 .1 .1 .1 .1 .1 .0)), tt) (wa .1)) λ m wa. Make.made-is SearchAnswer.the-type Laws'.the-laws (List._∷_ (Laws'6.val Found.the-type Laws.the-laws (m .1 .1 .1 .1 .1 .1 .1 .1 .1 .1 .1 .1 .0)) List.[]) (SearchAnswer.enum .make (Logic.inl (m .1 .1 .1 .1 .1 .1 .1 .1 .1 .1 .1 .1 .0, tt))) (Signed.made-wt Found.the-field Laws.the-field-laws (Make'.struct-wt Found.the-type Laws.the-laws (Make'.bool-wt, (Make'.u64-wt, tt))) (Found.the-type .to (m .1 .1 .1 .1 .1 .1 .1 .1 .1 .1 .1 .1 .0)), tt) (wa .1)) (Scalar.g-room 𝓤 H A W E G47 12 ty·9 (Local.room-whole 𝓤 H A W (Declared'.row Found.the-type) ty·9 Path'.refl)))
@@ -1088,13 +1088,13 @@ module _ (claims· : Claims) where
           d31 = Typed.s-seq 𝓤 H A W 𝓣 E G21 G22 b7 b22 Δ1 (Typed.pass T21 T22 (s19 bs)) (at30 bs) (Repeat.t-repeat 𝓤 H A W E 𝓣 (Referent.rtF (Referent.fInt Syntax.w16)) (Plain'.uint-lawful 𝓤 H A W Syntax.w16) (Copies.cRf (Referent.fInt Syntax.w16) .copy 𝓤 H A W) (Plain'.uint-makes 𝓤 H A W Syntax.w16) 1024 G21 11 (Scalar.oInt Syntax.w16 0) (λ m. 0) (Reads'.room-gone 𝓤 H A ty·0) tt Path'.refl λ m wa. (Path'.refl, Dec'.lit< tt)) d30
 
           d32 : Typed.Typed 𝓤 H A 𝓣 E G20 b23 Δ1 (at32 bs)
-          d32 = Typed.g-pre 𝓤 H A W 𝓣 E G20 G21 b23 Δ1 (Typed.pass T20 T21 (s18 bs)) (at31 bs) (Scalar.g-room 𝓤 H A W E G20 9 ty·12 (Local.room-whole 𝓤 H A W (Declared.row Gate.the-type) ty·12 Path'.refl)) d31
+          d32 = Typed.g-pre 𝓤 H A W 𝓣 E G20 G21 b23 Δ1 (Typed.pass T20 T21 (s18 bs)) (at31 bs) (Scalar.g-room 𝓤 H A W E G20 9 ty·12 (Local.room-whole 𝓤 H A W (Declared.row Admission.the-type) ty·12 Path'.refl)) d31
 
           d33 : Typed.Typed 𝓤 H A 𝓣 E G12 b23 Δ1 (at33 bs)
-          d33 = Typed.g-pre 𝓤 H A W 𝓣 E G12 G20 b23 Δ1 (Typed.both (s17 bs)) (at32 bs) (Known.g-enum-told 𝓤 H A W E Gate.enum 0 G12 9 λ x. x) d32
+          d33 = Typed.g-pre 𝓤 H A W 𝓣 E G12 G20 b23 Δ1 (Typed.both (s17 bs)) (at32 bs) (Known.g-enum-told 𝓤 H A W E Admission.enum 0 G12 9 λ x. x) d32
 
           d34 : Typed.Typed 𝓤 H A 𝓣 E G12 b24 Δ1 (at34 bs)
-          d34 = Switch.t-switch-on 𝓤 H A W E 𝓣 G12 (Scalar.oFld 9 (List._∷_ (Syntax.variant 0) (List._∷_ (Syntax.field 0) List.[])) (Syntax.tyInt Syntax.w8) 0 λ x. Val.vint Syntax.w8 (Declared.tagOf Gate.the-type x)) Syntax.w8 (λ u. Declared.tagOf Gate.the-type (u .1 .1 .1 .1 .1 .1 .1 .1 .1 .0)) (Syntax.arm (List._∷_ 1 List.[]) b6 (Syntax.arm (List._∷_ 0 List.[]) b23 Syntax.noDefault)) Δ1 (at5 bs, (at33 bs, tt)) (Match.reads-tag 𝓤 H A W Gate.the-type Laws'4.the-laws (Rows'.whole (Declared.row Gate.the-type)) 0 (λ x. x) (Whole.reads-enum 𝓤 H A W Gate.the-type Laws'4.the-laws), Path'.refl) (λ u. Path'.refl) (d5, (d33, tt))
+          d34 = Switch.t-switch-on 𝓤 H A W E 𝓣 G12 (Scalar.oFld 9 (List._∷_ (Syntax.variant 0) (List._∷_ (Syntax.field 0) List.[])) (Syntax.tyInt Syntax.w8) 0 λ x. Val.vint Syntax.w8 (Declared.tagOf Admission.the-type x)) Syntax.w8 (λ u. Declared.tagOf Admission.the-type (u .1 .1 .1 .1 .1 .1 .1 .1 .1 .0)) (Syntax.arm (List._∷_ 1 List.[]) b6 (Syntax.arm (List._∷_ 0 List.[]) b23 Syntax.noDefault)) Δ1 (at5 bs, (at33 bs, tt)) (Match.reads-tag 𝓤 H A W Admission.the-type Laws'4.the-laws (Rows'.whole (Declared.row Admission.the-type)) 0 (λ x. x) (Whole.reads-enum 𝓤 H A W Admission.the-type Laws'4.the-laws), Path'.refl) (λ u. Path'.refl) (d5, (d33, tt))
 
           d35 : Typed.Typed 𝓤 H A 𝓣 E G11 b24 Δ1 (at35 bs)
           d35 = Typed.g-pre 𝓤 H A W 𝓣 E G11 G12 b24 Δ1 (Typed.pass T11 T12 (s9 bs)) (at34 bs) (Scalar.g-room 𝓤 H A W E G11 14 (Syntax.tyInt Syntax.w64) (Scalar.room-sc 𝓤 H A W (Row.sInt Syntax.w64))) d34
@@ -1121,7 +1121,7 @@ module _ (claims· : Claims) where
           d42 = Typed.t-seq 𝓤 H A W 𝓣 E G9 G10 b24 b27 Δ0 (at36 bs) (at41 bs) d36 d41
 
           d43 : Typed.Typed 𝓤 H A 𝓣 E G8 b29 Δ0 (at43 bs)
-          d43 = Typed.s-seq 𝓤 H A W 𝓣 E G8 G9 b3 b28 Δ0 (Typed.both (s7 bs)) (at42 bs) (Plain.t-call-plain 𝓤 H A W 𝓣 0 ps·1 r·1 (claims· .2) (claims· .3) "search::gate::admit" (known .1) E (λ pos β. β) G8 (Bool.bAt 8 λ x. x, (Num.vFld 1 (List._∷_ (Syntax.field 0) List.[]) 0 λ x. Size.struct .as-values x .0, (Num.vAt 5 λ x. x, (Num.vAt 13 λ x. x, (Num.vAt 14 λ x. x, tt))))) 9 List.[] (Call.sub-id 𝓤 H A W (G8 .slots)) ((Scalar.reads-sc 𝓤 H A W Row.sBool, Path'.refl), ((Reads.reads-field 𝓤 H A W Size.the-type Laws'3.the-laws 0 (Syntax.tyInt Syntax.w64) 0 Path'.refl, Path'.refl), ((Scalar.reads-sc 𝓤 H A W (Row.sInt Syntax.w64), Path'.refl), ((Scalar.reads-sc 𝓤 H A W (Row.sInt Syntax.w64), Path'.refl), ((Scalar.reads-sc 𝓤 H A W (Row.sInt Syntax.w64), Path'.refl), tt))))) (Reads'.room-gone 𝓤 H A ty·12) tt Path'.refl) d42
+          d43 = Typed.s-seq 𝓤 H A W 𝓣 E G8 G9 b3 b28 Δ0 (Typed.both (s7 bs)) (at42 bs) (Plain.t-call-plain 𝓤 H A W 𝓣 0 ps·1 r·1 (claims· .2) (claims· .3) "search::admission::admit" (known .1) E (λ pos β. β) G8 (Bool.bAt 8 λ x. x, (Num.vFld 1 (List._∷_ (Syntax.field 0) List.[]) 0 λ x. Size.struct .as-values x .0, (Num.vAt 5 λ x. x, (Num.vAt 13 λ x. x, (Num.vAt 14 λ x. x, tt))))) 9 List.[] (Call.sub-id 𝓤 H A W (G8 .slots)) ((Scalar.reads-sc 𝓤 H A W Row.sBool, Path'.refl), ((Reads.reads-field 𝓤 H A W Size.the-type Laws'3.the-laws 0 (Syntax.tyInt Syntax.w64) 0 Path'.refl, Path'.refl), ((Scalar.reads-sc 𝓤 H A W (Row.sInt Syntax.w64), Path'.refl), ((Scalar.reads-sc 𝓤 H A W (Row.sInt Syntax.w64), Path'.refl), ((Scalar.reads-sc 𝓤 H A W (Row.sInt Syntax.w64), Path'.refl), tt))))) (Reads'.room-gone 𝓤 H A ty·12) tt Path'.refl) d42
 
           d44 : Typed.Typed 𝓤 H A 𝓣 E G7 b30 Δ0 (at44 bs)
           d44 = Typed.s-seq 𝓤 H A W 𝓣 E G7 G8 b2 b29 Δ0 (Typed.pass T7 T8 (s6 bs)) (at43 bs) (Scalar.t-use 𝓤 H A W E 𝓣 G7 (Scalar.oFld 7 (List._∷_ (Syntax.field 1) List.[]) (Syntax.tyInt Syntax.w64) 8 Shared.lenV) 14 (Rows'.sc-here (Row.sInt Syntax.w64)) (Syntax.tyInt Syntax.w64) (Row.valS (Row.sInt Syntax.w64)) (Row.sInt Syntax.w64 .of) (Mut.reads-mslice-len 𝓤 H A W (Referent.rtF (Referent.fInt Syntax.w16)) ty·5 4 8 Path'.refl, Path'.refl) (Reads'.room-gone 𝓤 H A (Syntax.tyInt Syntax.w64)) (Scalar.holds-sc 𝓤 H A W (Row.sInt Syntax.w64)) Path'.refl (λ u. Path'.refl) λ u. tt) d43
@@ -1273,55 +1273,55 @@ module _ (claims· : Claims) where
 
       module _ (before· : After-admit) where
         pub record At-match-keys1·own : Type 0 where
-          pub keys1 : Run.OneOf (List._∷_ 1 List.[]) (Declared.tagOf Gate.the-type (Row.get 9 (T12 .locals) (m10 (before· .before) (After-admit·gave before·))))
+          pub keys1 : Run.OneOf (List._∷_ 1 List.[]) (Declared.tagOf Admission.the-type (Row.get 9 (T12 .locals) (m10 (before· .before) (After-admit·gave before·))))
 
       pub record At-match-keys1 : Type 0 where
         pub before : After-admit
         pub match : At-match-keys1·own before
 
-      abbrev pub Need-enum-known-gate : Type 0
-      Need-enum-known-gate = (c : At-match-keys1) → s10 (c .before .before .before .before .before .before .before .blocks) .asks (m10 (c .before .before) (After-admit·gave (c .before)))
+      abbrev pub Need-enum-known-admission : Type 0
+      Need-enum-known-admission = (c : At-match-keys1) → s10 (c .before .before .before .before .before .before .before .blocks) .asks (m10 (c .before .before) (After-admit·gave (c .before)))
 
       abbrev pub m11 : (before : At-match-keys1) → (given : s10 (before .before .before .before .before .before .before .before .blocks) .gives (m10 (before .before .before) (After-admit·gave (before .before)))) → Typed.Mo T13
       m11 = λ before given. s10 (before .before .before .before .before .before .before .before .blocks) .next (m10 (before .before .before) (After-admit·gave (before .before))) given
 
       module _ (before· : At-match-keys1) where
-        pub record After-gate·own : Type 0 where
+        pub record After-admission·own : Type 0 where
           pub given : s10 (before· .before .before .before .before .before .before .before .blocks) .gives (m10 (before· .before .before) (After-admit·gave (before· .before)))
 
-      pub record After-gate : Type 0 where
+      pub record After-admission : Type 0 where
         pub before : At-match-keys1
-        pub gate : After-gate·own before
+        pub admission : After-admission·own before
 
-      abbrev pub m12 : (before : After-gate) → (given : s11 (before .before .before .before .before .before .before .before .before .blocks) .gives (m11 (before .before) (before .gate .given))) → Typed.Mo T14
-      m12 = λ before given. s11 (before .before .before .before .before .before .before .before .before .blocks) .next (m11 (before .before) (before .gate .given)) given
+      abbrev pub m12 : (before : After-admission) → (given : s11 (before .before .before .before .before .before .before .before .before .blocks) .gives (m11 (before .before) (before .admission .given))) → Typed.Mo T14
+      m12 = λ before given. s11 (before .before .before .before .before .before .before .before .before .blocks) .next (m11 (before .before) (before .admission .given)) given
 
-      abbrev pub m13 : (before : After-gate) → (given : s11 (before .before .before .before .before .before .before .before .before .blocks) .gives (m11 (before .before) (before .gate .given))) → Typed.Mo T15
+      abbrev pub m13 : (before : After-admission) → (given : s11 (before .before .before .before .before .before .before .before .before .blocks) .gives (m11 (before .before) (before .admission .given))) → Typed.Mo T15
       m13 = λ before given. s12 (before .before .before .before .before .before .before .before .before .blocks) (m12 before given)
 
-      abbrev pub m14 : (before : After-gate) → (given : s11 (before .before .before .before .before .before .before .before .before .blocks) .gives (m11 (before .before) (before .gate .given))) → Typed.Mo T16
+      abbrev pub m14 : (before : After-admission) → (given : s11 (before .before .before .before .before .before .before .before .before .blocks) .gives (m11 (before .before) (before .admission .given))) → Typed.Mo T16
       m14 = λ before given. s13 (before .before .before .before .before .before .before .before .before .blocks) (m13 before given)
 
-      abbrev pub m15 : (before : After-gate) → (given : s11 (before .before .before .before .before .before .before .before .before .blocks) .gives (m11 (before .before) (before .gate .given))) → Typed.Mo T17
+      abbrev pub m15 : (before : After-admission) → (given : s11 (before .before .before .before .before .before .before .before .before .blocks) .gives (m11 (before .before) (before .admission .given))) → Typed.Mo T17
       m15 = λ before given. s14 (before .before .before .before .before .before .before .before .before .blocks) (m14 before given)
 
-      abbrev pub m16 : (before : After-gate) → (given : s11 (before .before .before .before .before .before .before .before .before .blocks) .gives (m11 (before .before) (before .gate .given))) → Typed.Mo T18
+      abbrev pub m16 : (before : After-admission) → (given : s11 (before .before .before .before .before .before .before .before .before .blocks) .gives (m11 (before .before) (before .admission .given))) → Typed.Mo T18
       m16 = λ before given. s15 (before .before .before .before .before .before .before .before .before .blocks) (m15 before given)
 
-      abbrev pub m17 : (before : After-gate) → (given : s11 (before .before .before .before .before .before .before .before .before .blocks) .gives (m11 (before .before) (before .gate .given))) → Typed.Mo T19
+      abbrev pub m17 : (before : After-admission) → (given : s11 (before .before .before .before .before .before .before .before .before .blocks) .gives (m11 (before .before) (before .admission .given))) → Typed.Mo T19
       m17 = λ before given. s16 (before .before .before .before .before .before .before .before .before .blocks) (m16 before given)
 
-      module _ (before· : After-gate) where
+      module _ (before· : After-admission) where
         pub record After-known-told·own : Type 0 where
-          pub given : s11 (before· .before .before .before .before .before .before .before .before .blocks) .gives (m11 (before· .before) (before· .gate .given))
+          pub given : s11 (before· .before .before .before .before .before .before .before .before .blocks) .gives (m11 (before· .before) (before· .admission .given))
 
       pub record After-known-told : Type 0 where
-        pub before : After-gate
+        pub before : After-admission
         pub known-told : After-known-told·own before
 
       module _ (before· : After-admit) where
         pub record At-match-keys2·own : Type 0 where
-          pub keys2 : Run.OneOf (List._∷_ 0 List.[]) (Declared.tagOf Gate.the-type (Row.get 9 (T12 .locals) (m10 (before· .before) (After-admit·gave before·))))
+          pub keys2 : Run.OneOf (List._∷_ 0 List.[]) (Declared.tagOf Admission.the-type (Row.get 9 (T12 .locals) (m10 (before· .before) (After-admit·gave before·))))
 
       pub record At-match-keys2 : Type 0 where
         pub before : After-admit
@@ -1479,16 +1479,16 @@ module _ (claims· : Claims) where
         pub before : After-slice-known4
         pub queue2 : After-queue2·own before
 
-      abbrev pub m38 : (before : After-gate) → (given : s11 (before .before .before .before .before .before .before .before .before .blocks) .gives (m11 (before .before) (before .gate .given))) → Typed.Mo T49
+      abbrev pub m38 : (before : After-admission) → (given : s11 (before .before .before .before .before .before .before .before .before .blocks) .gives (m11 (before .before) (before .admission .given))) → Typed.Mo T49
       m38 = λ before given. s46 (before .before .before .before .before .before .before .before .before .blocks) (m17 before given)
 
-      abbrev pub m39 : (before : After-gate) → (given : s11 (before .before .before .before .before .before .before .before .before .blocks) .gives (m11 (before .before) (before .gate .given))) → Typed.Mo T50
+      abbrev pub m39 : (before : After-admission) → (given : s11 (before .before .before .before .before .before .before .before .before .blocks) .gives (m11 (before .before) (before .admission .given))) → Typed.Mo T50
       m39 = λ before given. s47 (before .before .before .before .before .before .before .before .before .blocks) (m38 before given)
 
-      abbrev pub m40 : (before : After-gate) → (given : s11 (before .before .before .before .before .before .before .before .before .blocks) .gives (m11 (before .before) (before .gate .given))) → Typed.Mo T51
+      abbrev pub m40 : (before : After-admission) → (given : s11 (before .before .before .before .before .before .before .before .before .blocks) .gives (m11 (before .before) (before .admission .given))) → Typed.Mo T51
       m40 = λ before given. s48 (before .before .before .before .before .before .before .before .before .blocks) (m39 before given)
 
-      abbrev pub m41 : (before : After-gate) → (given : s11 (before .before .before .before .before .before .before .before .before .blocks) .gives (m11 (before .before) (before .gate .given))) → Typed.Mo T52
+      abbrev pub m41 : (before : After-admission) → (given : s11 (before .before .before .before .before .before .before .before .before .blocks) .gives (m11 (before .before) (before .admission .given))) → Typed.Mo T52
       m41 = λ before given. s49 (before .before .before .before .before .before .before .before .before .blocks) (m40 before given)
 
       abbrev pub Need-returns : Type 0
@@ -1515,7 +1515,7 @@ module _ (claims· : Claims) where
       abbrev pub Need-returns-2 : Type 0
       Need-returns-2 = (c : After-queue2) → Post· (c .before .before .before .before .before .before .before .before .before .before .before .before .before .before .before .before .before .κs) (dens (c .before .before .before .before .before .before .before .before .before .before .before .before .before .before .before .before .before .κs) (c .before .before .before .before .before .before .before .before .before .before .before .before .before .before .before .before .before .args)) (Function.resV r (c .before .before .before .before .before .before .before .before .before .before .before .before .before .before .before .before .before .κs) (m45 (c .before) (c .queue2 .given) .0)) (Clauses.atExit (Kinds.endedOf 5 ps r) (c .before .before .before .before .before .before .before .before .before .before .before .before .before .before .before .before .before .κs) (dens (c .before .before .before .before .before .before .before .before .before .before .before .before .before .before .before .before .before .κs) (c .before .before .before .before .before .before .before .before .before .before .before .before .before .before .before .before .before .args)) (Enter.lastsP (c .before .before .before .before .before .before .before .before .before .before .before .before .before .before .before .before .before .κs) 1 ps xs (dens (c .before .before .before .before .before .before .before .before .before .before .before .before .before .before .before .before .before .κs) (c .before .before .before .before .before .before .before .before .before .before .before .before .before .before .before .before .before .args)) (m45 (c .before) (c .queue2 .given) .1)))
 
-      module _ (sound-requires : Need-sound-requires) (admit-requires : Need-admit-requires) (enum-known-gate : Need-enum-known-gate) (enum-told : Need-enum-told) (slice-aggregate-rounds : Need-slice-aggregate-rounds) (rounds-requires : Need-rounds-requires) (returns : Need-returns) (same-length : Need-same-length) (same-length-2 : Need-same-length-2) (returns-2 : Need-returns-2) where
+      module _ (sound-requires : Need-sound-requires) (admit-requires : Need-admit-requires) (enum-known-admission : Need-enum-known-admission) (enum-told : Need-enum-told) (slice-aggregate-rounds : Need-slice-aggregate-rounds) (rounds-requires : Need-rounds-requires) (returns : Need-returns) (same-length : Need-same-length) (same-length-2 : Need-same-length-2) (returns-2 : Need-returns-2) where
         lay5 : (c : After-queue2) → at41 (c .before .before .before .before .before .before .before .before .before .before .before .before .before .before .before .before .before .blocks) (W0 (c .before .before .before .before .before .before .before .before .before .before .before .before .before .before .before .before .before .κs) (c .before .before .before .before .before .before .before .before .before .before .before .before .before .before .before .before .before .args) (c .before .before .before .before .before .before .before .before .before .before .before .before .before .before .before .before .before .blocks)) (m37 (c .before) (c .queue2 .given))
         lay5 = λ c. ((tt, (Path'.refl, (Path'.refl, (Path'.refl, (tt, (MutSlice.fix-len (Row.get 6 (T52 .locals) (m45 (c .before) (c .queue2 .given)) .ptr) (Row.get 6 (T52 .locals) (m45 (c .before) (c .queue2 .given)) .name) (Row.get 6 (T52 .locals) (m45 (c .before) (c .queue2 .given)) .now) (dens (c .before .before .before .before .before .before .before .before .before .before .before .before .before .before .before .before .before .κs) (c .before .before .before .before .before .before .before .before .before .before .before .before .before .before .before .before .before .args) .1 .1 .1 .1 .1 .0 .now) (same-length record { before = c .before; queue2 = c .queue2 }), (MutSlice.fix-len (Row.get 7 (T52 .locals) (m45 (c .before) (c .queue2 .given)) .ptr) (Row.get 7 (T52 .locals) (m45 (c .before) (c .queue2 .given)) .name) (Row.get 7 (T52 .locals) (m45 (c .before) (c .queue2 .given)) .now) (dens (c .before .before .before .before .before .before .before .before .before .before .before .before .before .before .before .before .before .κs) (c .before .before .before .before .before .before .before .before .before .before .before .before .before .before .before .before .before .args) .1 .1 .1 .1 .1 .1 .0 .now) (same-length-2 record { before = c .before; queue2 = c .queue2 }), tt))))))), returns-2 record { before = c .before; queue2 = c .queue2 })
 
@@ -1526,7 +1526,7 @@ module _ (claims· : Claims) where
         lay3 = λ c. (Path'.refl, λ g. λ g'. (Path'.refl, λ g''. λ g'3. (Path'.refl, λ g'4. lay5 record { before = record { before = record { before = record { before = record { before = record { before = c .before; rounds = c .rounds }; commands = record { given = g } }; slice-known3 = record { given = g' } }; scratch = record { given = g'' } }; slice-known4 = record { given = g'3 } }; queue2 = record { given = g'4 } })))
 
         lay2 : (c : After-admit) → at42 (c .before .before .before .before .before .before .blocks) (W0 (c .before .before .before .before .before .before .κs) (c .before .before .before .before .before .before .args) (c .before .before .before .before .before .before .blocks)) (m8 (c .before) (After-admit·gave c))
-        lay2 = λ c. (λ k. (enum-known-gate record { before = record { before = c .before; admit = c .admit }; match = record { keys1 = k } }, λ g. λ g'. lay4 record { before = record { before = record { before = record { before = c .before; admit = c .admit }; match = record { keys1 = k } }; gate = record { given = g } }; known-told = record { given = g' } }), (λ k. (enum-told record { before = record { before = c .before; admit = c .admit }; match = record { keys2 = k } }, λ g. λ g''. (Path'.refl, λ g'3. (Path'.refl, λ g'4. (Relend.count-is T31 20 21 (λ x. x) (λ u. 1024) (m26 record { before = record { before = record { before = record { before = record { before = c .before; admit = c .admit }; match = record { keys2 = k } }; enum-told = record { given = g } }; rounds-arg = record { given = g'' } }; rounds-arg2 = record { given = g'3 } } g'4) (slice-aggregate-rounds record { before = record { before = record { before = record { before = record { before = record { before = c .before; admit = c .admit }; match = record { keys2 = k } }; enum-told = record { given = g } }; rounds-arg = record { given = g'' } }; rounds-arg2 = record { given = g'3 } }; queue = record { given = g'4 } }), (rounds-requires record { before = record { before = record { before = record { before = record { before = record { before = c .before; admit = c .admit }; match = record { keys2 = k } }; enum-told = record { given = g } }; rounds-arg = record { given = g'' } }; rounds-arg2 = record { given = g'3 } }; queue = record { given = g'4 } }, λ g'5. lay3 record { before = record { before = record { before = record { before = record { before = record { before = record { before = c .before; admit = c .admit }; match = record { keys2 = k } }; enum-told = record { given = g } }; rounds-arg = record { given = g'' } }; rounds-arg2 = record { given = g'3 } }; queue = record { given = g'4 } }; rounds = Called.called ps·2 r·2 (claims· .5) T32 (record { pos = 1; st = List.[]; d = 0; at = λ x. x }, (record { pos = 2; ty = Syntax.tyRef (Syntax.named 0) Syntax.imm (Memory.pointee (T.the-row .written)); ref = λ x. x }, (record { pos = 3; ty = Syntax.tyRef (Syntax.named 1) Syntax.imm (Syntax.tyInt Syntax.w16); ref = λ x. x }, (record { pos = 4; ty = Syntax.tyRef (Syntax.named 2) Syntax.imm (Syntax.tyInt Syntax.w16); ref = λ x. x }, (Num.vAt 5 λ x. x, (record { pos = 17; ty = Syntax.tyRef Syntax.erased Syntax.mut (Syntax.tyInt Syntax.w16); ref = λ x. x }, (record { pos = 19; ty = Syntax.tyRef Syntax.erased Syntax.mut (Syntax.tyInt Syntax.w16); ref = λ x. x }, (record { pos = 21; ty = Syntax.tyRef Syntax.erased Syntax.mut (Syntax.tyInt Syntax.w16); ref = λ x. x }, tt)))))))) (m27 record { before = record { before = record { before = record { before = record { before = c .before; admit = c .admit }; match = record { keys2 = k } }; enum-told = record { given = g } }; rounds-arg = record { given = g'' } }; rounds-arg2 = record { given = g'3 } } g'4) g'5 }))))), Match.each-below 2 (λ j. (Unit {0} × (Run.OneOf (List._∷_ 1 List.[]) j → ⊥)) × (Run.OneOf (List._∷_ 0 List.[]) j → ⊥) → ⊥) (λ n. n .0 .1 Path'.refl, (λ n. n .1 Path'.refl, tt)) (Declared.tagOf Gate.the-type (Row.get 9 (T12 .locals) (m10 (c .before) (After-admit·gave c)))) (Match.tag-small Gate.the-type (Row.get 9 (T12 .locals) (m10 (c .before) (After-admit·gave c))))))
+        lay2 = λ c. (λ k. (enum-known-admission record { before = record { before = c .before; admit = c .admit }; match = record { keys1 = k } }, λ g. λ g'. lay4 record { before = record { before = record { before = record { before = c .before; admit = c .admit }; match = record { keys1 = k } }; admission = record { given = g } }; known-told = record { given = g' } }), (λ k. (enum-told record { before = record { before = c .before; admit = c .admit }; match = record { keys2 = k } }, λ g. λ g''. (Path'.refl, λ g'3. (Path'.refl, λ g'4. (Relend.count-is T31 20 21 (λ x. x) (λ u. 1024) (m26 record { before = record { before = record { before = record { before = record { before = c .before; admit = c .admit }; match = record { keys2 = k } }; enum-told = record { given = g } }; rounds-arg = record { given = g'' } }; rounds-arg2 = record { given = g'3 } } g'4) (slice-aggregate-rounds record { before = record { before = record { before = record { before = record { before = record { before = c .before; admit = c .admit }; match = record { keys2 = k } }; enum-told = record { given = g } }; rounds-arg = record { given = g'' } }; rounds-arg2 = record { given = g'3 } }; queue = record { given = g'4 } }), (rounds-requires record { before = record { before = record { before = record { before = record { before = record { before = c .before; admit = c .admit }; match = record { keys2 = k } }; enum-told = record { given = g } }; rounds-arg = record { given = g'' } }; rounds-arg2 = record { given = g'3 } }; queue = record { given = g'4 } }, λ g'5. lay3 record { before = record { before = record { before = record { before = record { before = record { before = record { before = c .before; admit = c .admit }; match = record { keys2 = k } }; enum-told = record { given = g } }; rounds-arg = record { given = g'' } }; rounds-arg2 = record { given = g'3 } }; queue = record { given = g'4 } }; rounds = Called.called ps·2 r·2 (claims· .5) T32 (record { pos = 1; st = List.[]; d = 0; at = λ x. x }, (record { pos = 2; ty = Syntax.tyRef (Syntax.named 0) Syntax.imm (Memory.pointee (T.the-row .written)); ref = λ x. x }, (record { pos = 3; ty = Syntax.tyRef (Syntax.named 1) Syntax.imm (Syntax.tyInt Syntax.w16); ref = λ x. x }, (record { pos = 4; ty = Syntax.tyRef (Syntax.named 2) Syntax.imm (Syntax.tyInt Syntax.w16); ref = λ x. x }, (Num.vAt 5 λ x. x, (record { pos = 17; ty = Syntax.tyRef Syntax.erased Syntax.mut (Syntax.tyInt Syntax.w16); ref = λ x. x }, (record { pos = 19; ty = Syntax.tyRef Syntax.erased Syntax.mut (Syntax.tyInt Syntax.w16); ref = λ x. x }, (record { pos = 21; ty = Syntax.tyRef Syntax.erased Syntax.mut (Syntax.tyInt Syntax.w16); ref = λ x. x }, tt)))))))) (m27 record { before = record { before = record { before = record { before = record { before = c .before; admit = c .admit }; match = record { keys2 = k } }; enum-told = record { given = g } }; rounds-arg = record { given = g'' } }; rounds-arg2 = record { given = g'3 } } g'4) g'5 }))))), Match.each-below 2 (λ j. (Unit {0} × (Run.OneOf (List._∷_ 1 List.[]) j → ⊥)) × (Run.OneOf (List._∷_ 0 List.[]) j → ⊥) → ⊥) (λ n. n .0 .1 Path'.refl, (λ n. n .1 Path'.refl, tt)) (Declared.tagOf Admission.the-type (Row.get 9 (T12 .locals) (m10 (c .before) (After-admit·gave c)))) (Match.tag-small Admission.the-type (Row.get 9 (T12 .locals) (m10 (c .before) (After-admit·gave c))))))
 
         lay1 : (c : After-sound) → at45 (c .before .before .before .before .before .blocks) (W0 (c .before .before .before .before .before .κs) (c .before .before .before .before .before .args) (c .before .before .before .before .before .blocks)) (m5 (c .before) (After-sound·gave c))
         lay1 = λ c. (admit-requires record { before = c .before; sound = c .sound }, λ g. lay2 record { before = record { before = c .before; sound = c .sound }; admit = Called.called ps·1 r·1 (claims· .3) T8 (Bool.bAt 8 λ x. x, (Num.vFld 1 (List._∷_ (Syntax.field 0) List.[]) 0 λ x. Size.struct .as-values x .0, (Num.vAt 5 λ x. x, (Num.vAt 13 λ x. x, (Num.vAt 14 λ x. x, tt))))) (m7 (c .before) (After-sound·gave c)) g })
@@ -1538,6 +1538,6 @@ module _ (claims· : Claims) where
           pub asked : (a : Kinds.Dens κs ps) → (good : Kinds.GoodsP κs ps a) → (pre : Pre· κs a) → (bs : List.List Nat.ℕ) → Φ bs (Any.wantQ 5 ps r xs m κs qs a (Post· κs a)) (Function.init 5 ps r xs m κs qs a)
           asked = λ a good pre bs. laid record { κs = κs; args = record { size = a .0; rows = a .1 .0; firsts = a .1 .1 .0; outcomes = a .1 .1 .1 .0; start = a .1 .1 .1 .1 .0; commands = a .1 .1 .1 .1 .1 .0; scratch = a .1 .1 .1 .1 .1 .1 .0 }; blocks = bs; good = good; fits = record { start = record { fits = good .1 .1 .1 .1 .0 .1 } }; pre = pre }
 
-        module _ {M : Type 1} (𝓤 : URA.URA M) (H : Wp.Heap 𝓤) (A : Atoms.Atoms 𝓤) (W : Kit.Given 𝓤 H A) (𝓣 : Wp.Tables 𝓤 H) (known0 : Plain.Known 𝓤 H A W 𝓣 3 ps·0 r·0 (claims· .0) (claims· .1) "tables::sound") (known1 : Plain.Known 𝓤 H A W 𝓣 0 ps·1 r·1 (claims· .2) (claims· .3) "search::gate::admit") (known2 : Plain.Known 𝓤 H A W 𝓣 6 ps·2 r·2 (claims· .4) (claims· .5) "search::turns::rounds") where
+        module _ {M : Type 1} (𝓤 : URA.URA M) (H : Wp.Heap 𝓤) (A : Atoms.Atoms 𝓤) (W : Kit.Given 𝓤 H A) (𝓣 : Wp.Tables 𝓤 H) (known0 : Plain.Known 𝓤 H A W 𝓣 3 ps·0 r·0 (claims· .0) (claims· .1) "tables::sound") (known1 : Plain.Known 𝓤 H A W 𝓣 0 ps·1 r·1 (claims· .2) (claims· .3) "search::admission::admit") (known2 : Plain.Known 𝓤 H A W 𝓣 6 ps·2 r·2 (claims· .4) (claims· .5) "search::turns::rounds") where
           pub spec : Statement.Triple 𝓤 (Wp.WpFn 𝓤 H (𝓣 .C) (𝓣 .Λ) (Function.fnOf 5 ps r xs m hs body)) (Function.plainOf 𝓤 H A 5 ps r Pre· Post·)
           spec = Plain.t-fn-plain 𝓤 H A W 𝓣 5 ps r xs m hs body (λ κs qs bs. Φ bs) (λ κs qs bs bd. typed κs qs 𝓤 H A W 𝓣 (known0, known1, known2) bs bd) Pre· Post· asked

@@ -1,7 +1,7 @@
 -- `search::search`, over rows. Made by tools/rows, and checked like every proof.
-use Rattle.search.proofs.gate.admit.Met
-use Rattle.search.proofs.gate.admit.Reads
-use Rattle.search.proofs.gate.admit.Symbol
+use Rattle.search.proofs.admission.admit.Met
+use Rattle.search.proofs.admission.admit.Reads
+use Rattle.search.proofs.admission.admit.Symbol
 use Rattle.search.proofs.search.Code
 use Rattle.search.proofs.search.Key
 use Rattle.search.proofs.search.Proof.Lts as Lts
@@ -41,8 +41,8 @@ After-admit = Lts.After-admit (Reads'3.Asked, Reads'3.Learnt, Reads.Asked, Reads
 abbrev pub At-match-keys1 : Type 0
 At-match-keys1 = Lts.At-match-keys1 (Reads'3.Asked, Reads'3.Learnt, Reads.Asked, Reads.Learnt, Reads''.Asked, Reads''.Learnt) Reads'.Pre Reads'.Post
 
-abbrev pub After-gate : Type 0
-After-gate = Lts.After-gate (Reads'3.Asked, Reads'3.Learnt, Reads.Asked, Reads.Learnt, Reads''.Asked, Reads''.Learnt) Reads'.Pre Reads'.Post
+abbrev pub After-admission : Type 0
+After-admission = Lts.After-admission (Reads'3.Asked, Reads'3.Learnt, Reads.Asked, Reads.Learnt, Reads''.Asked, Reads''.Learnt) Reads'.Pre Reads'.Post
 
 abbrev pub After-known-told : Type 0
 After-known-told = Lts.After-known-told (Reads'3.Asked, Reads'3.Learnt, Reads.Asked, Reads.Learnt, Reads''.Asked, Reads''.Learnt) Reads'.Pre Reads'.Post
@@ -86,8 +86,8 @@ Need-sound-requires = Lts.Need-sound-requires (Reads'3.Asked, Reads'3.Learnt, Re
 abbrev pub Need-admit-requires : Type 0
 Need-admit-requires = Lts.Need-admit-requires (Reads'3.Asked, Reads'3.Learnt, Reads.Asked, Reads.Learnt, Reads''.Asked, Reads''.Learnt) Reads'.Pre Reads'.Post
 
-abbrev pub Need-enum-known-gate : Type 0
-Need-enum-known-gate = Lts.Need-enum-known-gate (Reads'3.Asked, Reads'3.Learnt, Reads.Asked, Reads.Learnt, Reads''.Asked, Reads''.Learnt) Reads'.Pre Reads'.Post
+abbrev pub Need-enum-known-admission : Type 0
+Need-enum-known-admission = Lts.Need-enum-known-admission (Reads'3.Asked, Reads'3.Learnt, Reads.Asked, Reads.Learnt, Reads''.Asked, Reads''.Learnt) Reads'.Pre Reads'.Post
 
 abbrev pub Need-enum-told : Type 0
 Need-enum-told = Lts.Need-enum-told (Reads'3.Asked, Reads'3.Learnt, Reads.Asked, Reads.Learnt, Reads''.Asked, Reads''.Learnt) Reads'.Pre Reads'.Post
@@ -111,9 +111,9 @@ abbrev pub Need-returns-2 : Type 0
 Need-returns-2 = Lts.Need-returns-2 (Reads'3.Asked, Reads'3.Learnt, Reads.Asked, Reads.Learnt, Reads''.Asked, Reads''.Learnt) Reads'.Pre Reads'.Post
 
 module _ {M : Type 1} where
-  pub spec : (answer : Need-sound-requires) → (answer : Need-admit-requires) → (answer : Need-enum-known-gate) → (answer : Need-enum-told) → (answer : Need-slice-aggregate-rounds) → (answer : Need-rounds-requires) → (answer : Need-returns) → (answer : Need-same-length) → (answer : Need-same-length-2) → (answer : Need-returns-2) → Lts.Closed (Reads'3.Asked, Reads'3.Learnt, Reads.Asked, Reads.Learnt, Reads''.Asked, Reads''.Learnt) Reads'.Pre Reads'.Post M
+  pub spec : (answer : Need-sound-requires) → (answer : Need-admit-requires) → (answer : Need-enum-known-admission) → (answer : Need-enum-told) → (answer : Need-slice-aggregate-rounds) → (answer : Need-rounds-requires) → (answer : Need-returns) → (answer : Need-same-length) → (answer : Need-same-length-2) → (answer : Need-returns-2) → Lts.Closed (Reads'3.Asked, Reads'3.Learnt, Reads.Asked, Reads.Learnt, Reads''.Asked, Reads''.Learnt) Reads'.Pre Reads'.Post M
   spec = λ answer answer' answer'' answer'3 answer'4 answer'5 answer'6 answer'7 answer'8 answer'9. Lts.spec (Reads'3.Asked, Reads'3.Learnt, Reads.Asked, Reads.Learnt, Reads''.Asked, Reads''.Learnt) Reads'.Pre Reads'.Post answer answer' answer'' answer'3 answer'4 answer'5 answer'6 answer'7 answer'8 answer'9
 
   pub close : Lts.Closed (Reads'3.Asked, Reads'3.Learnt, Reads.Asked, Reads.Learnt, Reads''.Asked, Reads''.Learnt) Reads'.Pre Reads'.Post M → Statement.statement M
   unfolding Code.routine Running.tablesOf
-  close = λ closed 𝓤 H 𝓜 𝓖 𝓡. Written.close 5 Reads'.ps Reads'.r Reads'.Ghost Reads'.requires Reads'.ensures Reads'.pre-read Reads'.Pinned Reads'.Owned Reads'.post-read record { M = M; 𝓤 = 𝓤; H = H; 𝓜 = 𝓜; 𝓖 = 𝓖; 𝓡 = 𝓡 } Code.env Key.name Code.function (Code.unfolded 𝓤 H 𝓜 𝓡) (λ κs a g. tt) (λ κs. Reads'.owns κs record { M = M; 𝓤 = 𝓤; H = H; 𝓜 = 𝓜; 𝓖 = 𝓖; 𝓡 = 𝓡 }) (Reads'.passes record { M = M; 𝓤 = 𝓤; H = H; 𝓜 = 𝓜; 𝓖 = 𝓖; 𝓡 = 𝓡 }) λ g. closed 𝓤 H (𝓖 .A) (Running.givenOf 𝓤 H 𝓜 𝓖) (Run.Over 𝓤 H 𝓜 𝓖 𝓡 Code.env) (Reads'3.known record { M = M; 𝓤 = 𝓤; H = H; 𝓜 = 𝓜; 𝓖 = 𝓖; 𝓡 = 𝓡 } Code.env Symbol''.name Symbol''.routine Code.calls-tables·sound (Met''.met 𝓤 H 𝓜 𝓖 𝓡)) (Reads.known record { M = M; 𝓤 = 𝓤; H = H; 𝓜 = 𝓜; 𝓖 = 𝓖; 𝓡 = 𝓡 } Code.env Symbol.name Symbol.routine Code.calls-search·gate·admit (Met.met 𝓤 H 𝓜 𝓖 𝓡)) (Reads''.known record { M = M; 𝓤 = 𝓤; H = H; 𝓜 = 𝓜; 𝓖 = 𝓖; 𝓡 = 𝓡 } Code.env Symbol'.name Symbol'.routine Code.calls-search·turns·rounds (Met'.met 𝓤 H 𝓜 𝓖 𝓡))
+  close = λ closed 𝓤 H 𝓜 𝓖 𝓡. Written.close 5 Reads'.ps Reads'.r Reads'.Ghost Reads'.requires Reads'.ensures Reads'.pre-read Reads'.Pinned Reads'.Owned Reads'.post-read record { M = M; 𝓤 = 𝓤; H = H; 𝓜 = 𝓜; 𝓖 = 𝓖; 𝓡 = 𝓡 } Code.env Key.name Code.function (Code.unfolded 𝓤 H 𝓜 𝓡) (λ κs a g. tt) (λ κs. Reads'.owns κs record { M = M; 𝓤 = 𝓤; H = H; 𝓜 = 𝓜; 𝓖 = 𝓖; 𝓡 = 𝓡 }) (Reads'.passes record { M = M; 𝓤 = 𝓤; H = H; 𝓜 = 𝓜; 𝓖 = 𝓖; 𝓡 = 𝓡 }) λ g. closed 𝓤 H (𝓖 .A) (Running.givenOf 𝓤 H 𝓜 𝓖) (Run.Over 𝓤 H 𝓜 𝓖 𝓡 Code.env) (Reads'3.known record { M = M; 𝓤 = 𝓤; H = H; 𝓜 = 𝓜; 𝓖 = 𝓖; 𝓡 = 𝓡 } Code.env Symbol''.name Symbol''.routine Code.calls-tables·sound (Met''.met 𝓤 H 𝓜 𝓖 𝓡)) (Reads.known record { M = M; 𝓤 = 𝓤; H = H; 𝓜 = 𝓜; 𝓖 = 𝓖; 𝓡 = 𝓡 } Code.env Symbol.name Symbol.routine Code.calls-search·admission·admit (Met.met 𝓤 H 𝓜 𝓖 𝓡)) (Reads''.known record { M = M; 𝓤 = 𝓤; H = H; 𝓜 = 𝓜; 𝓖 = 𝓖; 𝓡 = 𝓡 } Code.env Symbol'.name Symbol'.routine Code.calls-search·turns·rounds (Met'.met 𝓤 H 𝓜 𝓖 𝓡))

@@ -1,10 +1,10 @@
 use borrow.Author.Needs.{needs}
-use Rattle.search.proofs.Rounding.{ends-calm, ends-known, ends-open}
+use Rattle.search.proofs.Rounding.{ends-unmarked, ends-known, ends-open}
 use Rattle.search.proofs.turns.round_end.Statement.{statement}
 use Rattle.search.proofs.turns.round_end.Tie as tie
 
 returns : tie.Need-returns
-returns c = ends-calm _ (c .before .before .args .scratch .now) (c .before .before .args .start) (c .if1 .taken)
+returns c = ends-unmarked _ (c .before .before .args .scratch .now) (c .before .before .args .start) (c .if1 .taken)
 
 at-requires : tie.Need-at-requires
 at-requires c κs = search needs

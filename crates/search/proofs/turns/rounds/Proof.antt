@@ -10,7 +10,7 @@ use Rattle.model.proofs.HeldPlan.{states-held}
 use Rattle.tables.specs.Meaning.{held}
 use Rattle.search.proofs.Preparing.{still-prepared}
 use Rattle.search.proofs.Concluding.{concluded}
-use Rattle.search.proofs.Turning.{Turning, turning-start, due-fresh, due-before, due-few, turning-next}
+use Rattle.search.proofs.Turning.{Turning, turning-start, due-round-start, due-before, due-few, turning-next}
 use Rattle.search.proofs.turns.rounds.Statement.{statement}
 use Rattle.search.proofs.turns.rounds.Proof.Tie as tie
 
@@ -44,7 +44,7 @@ round-requires : tie.Need-round-requires Inv-loop μ-loop
 round-requires c κs =
     let p = c .before .before .before .before .before .before .before .before .before .before .before .before .before .before .before .before .before .before .before .before .pre in
     let w = c .before .before .before .before .loop .inv in
-    (still-prepared p _ _ _ (omega (arith, w .same-commands, c .before .before .before .before .before .before .before .before .before .before .before .before .before .fill .kept)) (omega (arith, w .same-scratch, c .before .before .before .before .before .before .before .before .before .start-known .kept)) (w .same-queue), due-fresh (sound-valid _ (p .sounds)) (states-held _) (p .inside) (w .due (c .before .before .before .loop-test .taken)))
+    (still-prepared p _ _ _ (omega (arith, w .same-commands, c .before .before .before .before .before .before .before .before .before .before .before .before .before .fill .kept)) (omega (arith, w .same-scratch, c .before .before .before .before .before .before .before .before .before .start-known .kept)) (w .same-queue), due-round-start (sound-valid _ (p .sounds)) (states-held _) (p .inside) (w .due (c .before .before .before .loop-test .taken)))
 
 add-count : tie.Need-add-count Inv-loop μ-loop
 add-count c =

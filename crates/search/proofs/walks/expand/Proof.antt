@@ -2,7 +2,7 @@ use native.Mathlib.Omega.{arith}
 use borrow.Author.Needs.{needs}
 use Rattle.choice.proofs.Outcomes.{outcomes-inside}
 use Rattle.choice.proofs.Taken.{span-inside, entry-fits}
-use Rattle.search.proofs.Expanding.{gone-none, gone-place, gone-free, gone-some}
+use Rattle.search.proofs.Expanding.{expand-none, expand-place, expand-free, expand-some}
 use Rattle.search.proofs.walks.expand.Statement.{statement}
 use Rattle.search.proofs.walks.expand.Tie as tie
 
@@ -28,12 +28,12 @@ same-length-2 c = search needs
 returns : tie.Need-returns
 returns c =
     let p = c .before .before .before .before .before .before .before .before .before .before .before .before .pre in
-    λ R sounds is. gone-none _ sounds _ (p .1 .0 .inside) _ is _ _ (c .before .before .before .before .before .choose .ensures R _ sounds (p .1 .0 .inside) is) (c .if1 .taken) _ _ (c .before .before .before .put .ensures) (p .1 .1 .1)
+    λ R sounds is. expand-none _ sounds _ (p .1 .0 .inside) _ is _ _ (c .before .before .before .before .before .choose .ensures R _ sounds (p .1 .0 .inside) is) (c .if1 .taken) _ _ (c .before .before .before .put .ensures) (p .1 .1 .1)
 
 add-g : tie.Need-add-g
 add-g c =
     let v = c .before .before .before .before .before .before .before .before .before .before .before .before .before .pre .1 .0 in
-    omega (arith, c .before .before .before .before .before .before .before .before .before .before .before .before .before .pre .0 .few-commands, gone-place _ (v .sounds) _ (v .inside) _ (v .is) (c .before .before .before .before .before .before .before .before .before .before .before .before .before .args .scratch .now) _ (c .before .before .before .before .before .before .choose .ensures (v .rows) _ (v .sounds) (v .inside) (v .is)) (c .before .if1 .left))
+    omega (arith, c .before .before .before .before .before .before .before .before .before .before .before .before .before .pre .0 .few-commands, expand-place _ (v .sounds) _ (v .inside) _ (v .is) (c .before .before .before .before .before .before .before .before .before .before .before .before .before .args .scratch .now) _ (c .before .before .before .before .before .before .choose .ensures (v .rows) _ (v .sounds) (v .inside) (v .is)) (c .before .if1 .left))
 
 first-outcome-requires : tie.Need-first-outcome-requires
 first-outcome-requires c κs = search needs
@@ -41,7 +41,7 @@ first-outcome-requires c κs = search needs
 add-first-outcome : tie.Need-add-first-outcome
 add-first-outcome c =
     let v = c .before .before .before .before .before .before .before .before .before .before .before .before .before .before .pre .1 .0 in
-    omega (arith, c .before .before .before .before .before .before .before .before .before .before .before .before .before .before .pre .0 .few-commands, gone-place _ (v .sounds) _ (v .inside) _ (v .is) (c .before .before .before .before .before .before .before .before .before .before .before .before .before .before .args .scratch .now) _ (c .before .before .before .before .before .before .before .choose .ensures (v .rows) _ (v .sounds) (v .inside) (v .is)) (c .before .before .if1 .left))
+    omega (arith, c .before .before .before .before .before .before .before .before .before .before .before .before .before .before .pre .0 .few-commands, expand-place _ (v .sounds) _ (v .inside) _ (v .is) (c .before .before .before .before .before .before .before .before .before .before .before .before .before .before .args .scratch .now) _ (c .before .before .before .before .before .before .before .choose .ensures (v .rows) _ (v .sounds) (v .inside) (v .is)) (c .before .before .if1 .left))
 
 first-outcome-requires-2 : tie.Need-first-outcome-requires-2
 first-outcome-requires-2 c κs = search needs
@@ -58,8 +58,8 @@ spread-requires c κs =
       (
         (p .0 .few, p .1 .1 .0 .1, p .1 .1 .0 .2),
         (
-          outcomes-inside (p .0) (v .rows) _ _ _ _ (gone-place _ (v .sounds) _ (v .inside) _ (v .is) (c .before .before .before .before .before .before .before .before .before .before .before .before .before .before .before .before .before .args .scratch .now) _ e (c .before .before .before .before .before .if1 .left)) from end (omega arith),
-          gone-free _ (v .sounds) _ (v .inside) _ (v .is) _ _ e (c .before .before .before .before .before .if1 .left) _ _ from end,
+          outcomes-inside (p .0) (v .rows) _ _ _ _ (expand-place _ (v .sounds) _ (v .inside) _ (v .is) (c .before .before .before .before .before .before .before .before .before .before .before .before .before .before .before .before .before .args .scratch .now) _ e (c .before .before .before .before .before .if1 .left)) from end (omega arith),
+          expand-free _ (v .sounds) _ (v .inside) _ (v .is) _ _ e (c .before .before .before .before .before .if1 .left) _ _ from end,
         ),
       ),
     )
@@ -77,7 +77,7 @@ returns-2 : tie.Need-returns-2
 returns-2 c =
     let p = c .before .before .before .before .before .before .before .before .before .before .before .before .before .before .before .before .before .before .before .before .before .before .pre in
     let O = c .before .before .before .before .before .before .before .before .before .before .before .before .before .before .before .before .before .before .before .before .before .before .args .outcomes .now in
-    λ R sounds is. gone-some _ sounds _ (p .1 .0 .inside) _ is _ _ (c .before .before .before .before .before .before .before .before .before .before .before .before .before .before .before .choose .ensures R _ sounds (p .1 .0 .inside) is) (c .before .before .before .before .before .before .before .before .before .before .if1 .left)
+    λ R sounds is. expand-some _ sounds _ (p .1 .0 .inside) _ is _ _ (c .before .before .before .before .before .before .before .before .before .before .before .before .before .before .before .choose .ensures R _ sounds (p .1 .0 .inside) is) (c .before .before .before .before .before .before .before .before .before .before .if1 .left)
     _ _ (c .before .before .before .before .before .before .before .before .first-outcome .ensures R O) (c .before .before .before .before .before .before .before .first-outcome2 .ensures R O) _ _ (c .before .before .before .before .before .before .before .before .before .before .before .before .before .put .ensures) (c .before .before .before .before .spread .ensures)
 
 pub expand-spec : {M : Type 1} → statement M

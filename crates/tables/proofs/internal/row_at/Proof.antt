@@ -1,7 +1,7 @@
 -- `tables::internal::row_at` meets its contract: a walk of its MIR, by hand. The place of `rows[i]` is i * 6 past the slice's pointer, and the row is copied from there.
 -- The slice is looked into, row i is taken out of it, read, and put back, and the token comes back. The code has no check of the bound: it is the contract's to ask.
 -- Assumes nothing.
-use mathlib.Core.Path.{_≡_, refl, sym}
+use mathlib.Core.Path.{refl, sym}
 use Prim.Native.Nat.{ℕ, _<_, _*_, _^_}
 use native.Mathlib.Omega.{arith}
 use mathlib.Core.List.{List, [], _∷_}

@@ -34,7 +34,7 @@ span-of-requires-2 c κs = search needs
 returns-2 : tie.Need-returns-2
 returns-2 c = λ F O.
     span-inner _ (c .before .before .before .before .before .before .args .rows .now) F O _ _ _ _ _ (c .before .before .before .before .before .before .pre .0) (omega (arith, c .before .before .before .if1 .left)) (c .before .before .before .before .before .row-at .ensures)
-    (c .before .before .row-at2 .ensures) (c .before .wide .ensures) (c .span-of2 .ensures)
+    (c .before .before .row-at2 .ensures) (c .before .wide .ensures .0) (c .span-of2 .ensures)
 
 pub span-at-spec : {M : Type 1} → statement M
 span-at-spec =

@@ -12,7 +12,7 @@ wide-requires-3 : tie.Need-wide-requires-3
 wide-requires-3 c κs = search needs
 
 returns : tie.Need-returns
-returns c = rw (c .before .before .wide .ensures, c .before .wide2 .ensures, c .wide3 .ensures)
+returns c = rw (c .before .before .wide .ensures .0, c .before .wide2 .ensures .0, c .wide3 .ensures .0)
 
 pub span-of-spec : {M : Type 1} → statement M
 span-of-spec = tie.close (tie.spec wide-requires wide-requires-2 wide-requires-3 returns)

@@ -5,8 +5,8 @@ use Rattle.tables.proofs.Refusal.Laws
 use Rattle.tables.proofs.Row as T
 use Rattle.tables.proofs.Size
 use Rattle.tables.proofs.Size.Laws as Laws'
-use Rattle.tables.proofs.internal.Gate
-use Rattle.tables.proofs.internal.Gate.Laws as Laws''
+use Rattle.tables.proofs.internal.Admission
+use Rattle.tables.proofs.internal.Admission.Laws as Laws''
 use Rattle.writing.proofs.WriteAnswer
 use Rattle.writing.proofs.WriteAnswer.Laws as Laws'3
 use borrow.Author.Called
@@ -94,10 +94,10 @@ abbrev ty·7 : Syntax.Ty
 ty·7 = Syntax.tyEnum (List._∷_ 116 (List._∷_ 97 (List._∷_ 98 (List._∷_ 108 (List._∷_ 101 (List._∷_ 115 (List._∷_ 58 (List._∷_ 58 (List._∷_ 82 (List._∷_ 101 (List._∷_ 102 (List._∷_ 117 (List._∷_ 115 (List._∷_ 97 (List._∷_ 108 List.[]))))))))))))))) (Syntax.ttcons Syntax.tnil (Syntax.ttcons Syntax.tnil (Syntax.ttcons Syntax.tnil (Syntax.ttcons Syntax.tnil (Syntax.ttcons Syntax.tnil (Syntax.ttcons Syntax.tnil (Syntax.ttcons Syntax.tnil (Syntax.ttcons Syntax.tnil (Syntax.ttcons Syntax.tnil (Syntax.ttcons Syntax.tnil (Syntax.ttcons Syntax.tnil Syntax.ttnil)))))))))))
 
 abbrev ty·8 : Syntax.Ty
-ty·8 = Syntax.tyEnum (List._∷_ 116 (List._∷_ 97 (List._∷_ 98 (List._∷_ 108 (List._∷_ 101 (List._∷_ 115 (List._∷_ 58 (List._∷_ 58 (List._∷_ 105 (List._∷_ 110 (List._∷_ 116 (List._∷_ 101 (List._∷_ 114 (List._∷_ 110 (List._∷_ 97 (List._∷_ 108 (List._∷_ 58 (List._∷_ 58 (List._∷_ 71 (List._∷_ 97 (List._∷_ 116 (List._∷_ 101 List.[])))))))))))))))))))))) (Syntax.ttcons Syntax.tnil (Syntax.ttcons (Syntax.tcons ty·7 Syntax.tnil) Syntax.ttnil))
+ty·8 = Syntax.tyEnum (List._∷_ 119 (List._∷_ 114 (List._∷_ 105 (List._∷_ 116 (List._∷_ 105 (List._∷_ 110 (List._∷_ 103 (List._∷_ 58 (List._∷_ 58 (List._∷_ 87 (List._∷_ 114 (List._∷_ 105 (List._∷_ 116 (List._∷_ 101 (List._∷_ 65 (List._∷_ 110 (List._∷_ 115 (List._∷_ 119 (List._∷_ 101 (List._∷_ 114 List.[])))))))))))))))))))) (Syntax.ttcons (Syntax.tcons (Syntax.tyInt Syntax.w64) Syntax.tnil) (Syntax.ttcons (Syntax.tcons ty·7 Syntax.tnil) Syntax.ttnil))
 
 abbrev ty·9 : Syntax.Ty
-ty·9 = Syntax.tyEnum (List._∷_ 119 (List._∷_ 114 (List._∷_ 105 (List._∷_ 116 (List._∷_ 105 (List._∷_ 110 (List._∷_ 103 (List._∷_ 58 (List._∷_ 58 (List._∷_ 87 (List._∷_ 114 (List._∷_ 105 (List._∷_ 116 (List._∷_ 101 (List._∷_ 65 (List._∷_ 110 (List._∷_ 115 (List._∷_ 119 (List._∷_ 101 (List._∷_ 114 List.[])))))))))))))))))))) (Syntax.ttcons (Syntax.tcons (Syntax.tyInt Syntax.w64) Syntax.tnil) (Syntax.ttcons (Syntax.tcons ty·7 Syntax.tnil) Syntax.ttnil))
+ty·9 = Syntax.tyEnum (List._∷_ 116 (List._∷_ 97 (List._∷_ 98 (List._∷_ 108 (List._∷_ 101 (List._∷_ 115 (List._∷_ 58 (List._∷_ 58 (List._∷_ 105 (List._∷_ 110 (List._∷_ 116 (List._∷_ 101 (List._∷_ 114 (List._∷_ 110 (List._∷_ 97 (List._∷_ 108 (List._∷_ 58 (List._∷_ 58 (List._∷_ 65 (List._∷_ 100 (List._∷_ 109 (List._∷_ 105 (List._∷_ 115 (List._∷_ 115 (List._∷_ 105 (List._∷_ 111 (List._∷_ 110 List.[]))))))))))))))))))))))))))) (Syntax.ttcons Syntax.tnil (Syntax.ttcons (Syntax.tcons ty·7 Syntax.tnil) Syntax.ttnil))
 
 abbrev pub ps : List.List (Kinds.PK 4)
 ps = List._∷_ (Value.pVal record { ty = Declared'.row Size.the-type; one = Path'.refl; val = Laws'5.val Size.the-type Laws'.the-laws; tells = Laws'5.tells Size.the-type Laws'.the-laws; still = Laws'5.still Size.the-type Laws'.the-copy Exit.yes; row = Rows.whole (Declared'.row Size.the-type); rd = λ x. x; mk = λ x. x } λ M 𝓤 H A W. record { copies = Laws'5.copy Size.the-type Laws'.the-copy 𝓤 H A W; lawful = Laws'5.lawful Size.the-type Laws'.the-laws 𝓤 H A W; makes = Laws'5.makes Size.the-type Laws'.the-plain 𝓤 H A; in-mem = Local.mem-whole 𝓤 H A W (Declared'.row Size.the-type); of-mem = Local.whole-mem 𝓤 H A W (Declared'.row Size.the-type) }) (List._∷_ (ShrSlice.pShrS T.the-row 0 tt) (List._∷_ (ShrSlice.pShrS (Referent.rtF (Referent.fInt Syntax.w16)) 1 tt) (List._∷_ (ShrSlice.pShrS (Referent.rtF (Referent.fInt Syntax.w16)) 2 tt) (List._∷_ (MutSlice.pMutS (Referent.rtF (Referent.fInt Syntax.w8)) 3 tt) List.[]))))
@@ -106,7 +106,7 @@ abbrev pub r : Kinds.RK 4
 r = Value.rVal record { ty = Declared.row WriteAnswer.the-type; one = Path'.refl; val = Laws'4.val WriteAnswer.the-type Laws'3.the-laws; tells = Laws'4.tells WriteAnswer.the-type Laws'3.the-laws; still = Laws'4.still WriteAnswer.the-type Laws'3.the-copy Exit.yes; row = Rows.whole (Declared.row WriteAnswer.the-type); rd = λ x. x; mk = λ x. x } λ M 𝓤 H A W. record { copies = Laws'4.copy WriteAnswer.the-type Laws'3.the-copy 𝓤 H A W; lawful = Laws'4.lawful WriteAnswer.the-type Laws'3.the-laws 𝓤 H A W tt; makes = Laws'4.makes WriteAnswer.the-type Laws'3.the-plain 𝓤 H A; in-mem = Local.mem-whole 𝓤 H A W (Declared.row WriteAnswer.the-type); of-mem = Local.whole-mem 𝓤 H A W (Declared.row WriteAnswer.the-type) }
 
 abbrev pub xs : List.List Syntax.Ty
-xs = List._∷_ Syntax.tyBool (List._∷_ ty·8 (List._∷_ ty·7 (List._∷_ (Syntax.tyInt Syntax.w64) (List._∷_ (Syntax.tyInt Syntax.w64) (List._∷_ (Syntax.tyInt Syntax.w64) (List._∷_ ty·9 (List._∷_ ty·0 (List._∷_ ty·5 (List._∷_ ty·0 (List._∷_ ty·5 (List._∷_ (Syntax.tyInt Syntax.w64) (List._∷_ ty·0 (List._∷_ ty·5 List.[])))))))))))))
+xs = List._∷_ Syntax.tyBool (List._∷_ ty·9 (List._∷_ ty·7 (List._∷_ (Syntax.tyInt Syntax.w64) (List._∷_ (Syntax.tyInt Syntax.w64) (List._∷_ (Syntax.tyInt Syntax.w64) (List._∷_ ty·8 (List._∷_ ty·0 (List._∷_ ty·5 (List._∷_ ty·0 (List._∷_ ty·5 (List._∷_ (Syntax.tyInt Syntax.w64) (List._∷_ ty·0 (List._∷_ ty·5 List.[])))))))))))))
 
 abbrev pub m : Nat.ℕ
 m = 3
@@ -121,7 +121,7 @@ abbrev pub ps·1 : List.List (Kinds.PK 0)
 ps·1 = List._∷_ Bool.pBool (List._∷_ (Value.pVal record { ty = Declared'.row Size.the-type; one = Path'.refl; val = Laws'5.val Size.the-type Laws'.the-laws; tells = Laws'5.tells Size.the-type Laws'.the-laws; still = Laws'5.still Size.the-type Laws'.the-copy Exit.yes; row = Rows.whole (Declared'.row Size.the-type); rd = λ x. x; mk = λ x. x } λ M 𝓤 H A W. record { copies = Laws'5.copy Size.the-type Laws'.the-copy 𝓤 H A W; lawful = Laws'5.lawful Size.the-type Laws'.the-laws 𝓤 H A W; makes = Laws'5.makes Size.the-type Laws'.the-plain 𝓤 H A; in-mem = Local.mem-whole 𝓤 H A W (Declared'.row Size.the-type); of-mem = Local.whole-mem 𝓤 H A W (Declared'.row Size.the-type) }) (List._∷_ (Num.pNum Syntax.w64) List.[]))
 
 abbrev pub r·1 : Kinds.RK 0
-r·1 = Value.rVal record { ty = Declared.row Gate.the-type; one = Path'.refl; val = Laws'4.val Gate.the-type Laws''.the-laws; tells = Laws'4.tells Gate.the-type Laws''.the-laws; still = Laws'4.still Gate.the-type Laws''.the-copy Exit.yes; row = Rows.whole (Declared.row Gate.the-type); rd = λ x. x; mk = λ x. x } λ M 𝓤 H A W. record { copies = Laws'4.copy Gate.the-type Laws''.the-copy 𝓤 H A W; lawful = Laws'4.lawful Gate.the-type Laws''.the-laws 𝓤 H A W tt; makes = Laws'4.makes Gate.the-type Laws''.the-plain 𝓤 H A; in-mem = Local.mem-whole 𝓤 H A W (Declared.row Gate.the-type); of-mem = Local.whole-mem 𝓤 H A W (Declared.row Gate.the-type) }
+r·1 = Value.rVal record { ty = Declared.row Admission.the-type; one = Path'.refl; val = Laws'4.val Admission.the-type Laws''.the-laws; tells = Laws'4.tells Admission.the-type Laws''.the-laws; still = Laws'4.still Admission.the-type Laws''.the-copy Exit.yes; row = Rows.whole (Declared.row Admission.the-type); rd = λ x. x; mk = λ x. x } λ M 𝓤 H A W. record { copies = Laws'4.copy Admission.the-type Laws''.the-copy 𝓤 H A W; lawful = Laws'4.lawful Admission.the-type Laws''.the-laws 𝓤 H A W tt; makes = Laws'4.makes Admission.the-type Laws''.the-plain 𝓤 H A; in-mem = Local.mem-whole 𝓤 H A W (Declared.row Admission.the-type); of-mem = Local.whole-mem 𝓤 H A W (Declared.row Admission.the-type) }
 
 abbrev pub ps·2 : List.List (Kinds.PK 1)
 ps·2 = List._∷_ (Value.pVal record { ty = Declared'.row Size.the-type; one = Path'.refl; val = Laws'5.val Size.the-type Laws'.the-laws; tells = Laws'5.tells Size.the-type Laws'.the-laws; still = Laws'5.still Size.the-type Laws'.the-copy Exit.yes; row = Rows.whole (Declared'.row Size.the-type); rd = λ x. x; mk = λ x. x } λ M 𝓤 H A W. record { copies = Laws'5.copy Size.the-type Laws'.the-copy 𝓤 H A W; lawful = Laws'5.lawful Size.the-type Laws'.the-laws 𝓤 H A W; makes = Laws'5.makes Size.the-type Laws'.the-plain 𝓤 H A; in-mem = Local.mem-whole 𝓤 H A W (Declared'.row Size.the-type); of-mem = Local.whole-mem 𝓤 H A W (Declared'.row Size.the-type) }) (List._∷_ (MutSlice.pMutS (Referent.rtF (Referent.fInt Syntax.w8)) 0 tt) List.[])
@@ -250,7 +250,7 @@ abbrev pub Claims : Type 1
 Claims = Kinds.In 3 ps·0 × Kinds.Out 3 ps·0 r·0 × Kinds.In 0 ps·1 × Kinds.Out 0 ps·1 r·1 × Kinds.In 1 ps·2 × Kinds.Out 1 ps·2 r·2 × Kinds.In 4 ps·3 × Kinds.Out 4 ps·3 r·3 × Kinds.In 1 ps·4 × Kinds.Out 1 ps·4 r·4
 
 abbrev pub t0 : List.List Row.Entry
-t0 = List._∷_ (0, Rows.any-gone ty·9) (List._∷_ (1, Rows.whole (Declared'.row Size.the-type)) (List._∷_ (2, Rows.sslice T.the-row ty·4 0) (List._∷_ (3, Rows.sslice (Referent.rtF (Referent.fInt Syntax.w16)) ty·2 1) (List._∷_ (4, Rows.sslice (Referent.rtF (Referent.fInt Syntax.w16)) ty·3 2) (List._∷_ (5, Mut.mslice (Referent.rtF (Referent.fInt Syntax.w8)) ty·1 3) (List._∷_ (6, Rows.any-gone Syntax.tyBool) (List._∷_ (7, Rows.any-gone ty·8) (List._∷_ (8, Rows.any-gone ty·7) (List._∷_ (9, Rows.any-gone (Syntax.tyInt Syntax.w64)) (List._∷_ (10, Rows.any-gone (Syntax.tyInt Syntax.w64)) (List._∷_ (11, Rows.any-gone (Syntax.tyInt Syntax.w64)) (List._∷_ (12, Rows.any-gone ty·9) (List._∷_ (13, Rows.any-gone ty·0) (List._∷_ (14, Rows.any-gone ty·5) (List._∷_ (15, Rows.any-gone ty·0) List.[])))))))))))))))
+t0 = List._∷_ (0, Rows.any-gone ty·8) (List._∷_ (1, Rows.whole (Declared'.row Size.the-type)) (List._∷_ (2, Rows.sslice T.the-row ty·4 0) (List._∷_ (3, Rows.sslice (Referent.rtF (Referent.fInt Syntax.w16)) ty·2 1) (List._∷_ (4, Rows.sslice (Referent.rtF (Referent.fInt Syntax.w16)) ty·3 2) (List._∷_ (5, Mut.mslice (Referent.rtF (Referent.fInt Syntax.w8)) ty·1 3) (List._∷_ (6, Rows.any-gone Syntax.tyBool) (List._∷_ (7, Rows.any-gone ty·9) (List._∷_ (8, Rows.any-gone ty·7) (List._∷_ (9, Rows.any-gone (Syntax.tyInt Syntax.w64)) (List._∷_ (10, Rows.any-gone (Syntax.tyInt Syntax.w64)) (List._∷_ (11, Rows.any-gone (Syntax.tyInt Syntax.w64)) (List._∷_ (12, Rows.any-gone ty·8) (List._∷_ (13, Rows.any-gone ty·0) (List._∷_ (14, Rows.any-gone ty·5) (List._∷_ (15, Rows.any-gone ty·0) List.[])))))))))))))))
 
 abbrev pub t1 : List.List Row.Entry
 t1 = List._∷_ (16, Rows.any-gone ty·5) (List._∷_ (17, Rows.any-gone (Syntax.tyInt Syntax.w64)) (List._∷_ (18, Rows.any-gone ty·0) (List._∷_ (19, Rows.any-gone ty·5) List.[])))
@@ -265,16 +265,16 @@ abbrev pub t4 : List.List Row.Entry
 t4 = Row.setRow 11 (11, Rows.sc-here (Row.sInt Syntax.w64)) t3
 
 abbrev pub t5 : List.List Row.Entry
-t5 = Row.setRow 7 (7, Rows.whole (Declared.row Gate.the-type)) t4
+t5 = Row.setRow 7 (7, Rows.whole (Declared.row Admission.the-type)) t4
 
 abbrev pub t6 : List.List Row.Entry
 t6 = Row.setRow 12 (12, Rows.whole (Declared.row WriteAnswer.the-type)) (Row.setRow 1 (1, Rows.any-gone ty·6) t3)
 
 abbrev pub t7 : List.List Row.Entry
-t7 = Row.setRow 7 (7, Rows.whole (Declared.row Gate.the-type)) t3
+t7 = Row.setRow 11 (11, Rows.any-gone (Syntax.tyInt Syntax.w64)) t5
 
 abbrev pub t8 : List.List Row.Entry
-t8 = Row.setRow 7 (7, Rows.whole (Known.Known Gate.enum 1)) t3
+t8 = Row.setRow 7 (7, Rows.whole (Known.Known Admission.enum 1)) t3
 
 abbrev pub t9 : List.List Row.Entry
 t9 = Row.setRow 1 (1, Rows.any-gone ty·6) t8
@@ -497,16 +497,16 @@ module _ (claims· : Claims) where
   s4 = Scalar.n-use T5 (Scalar.oFld 5 (List._∷_ (Syntax.field 1) List.[]) (Syntax.tyInt Syntax.w64) 8 Shared.lenV) 11 (Rows.sc-here (Row.sInt Syntax.w64)) (Row.sInt Syntax.w64 .of)
 
   abbrev s5 : Typed.Both T6 T7
-  s5 = Call.callB ps·1 r·1 (claims· .2) (claims· .3) T6 (Bool.bAt 6 λ x. x, (record { pos = 1; st = List.[]; d = 0; at = λ x. x }, (Num.vAt 11 λ x. x, tt))) 7 List.[] ty·8
+  s5 = Call.callB ps·1 r·1 (claims· .2) (claims· .3) T6 (Bool.bAt 6 λ x. x, (record { pos = 1; st = List.[]; d = 0; at = λ x. x }, (Num.vAt 11 λ x. x, tt))) 7 List.[] ty·9
 
   abbrev s6 : Typed.Mo T7 → Typed.Mo T9
   s6 = Scalar.n-room T7 11 (Syntax.tyInt Syntax.w64)
 
   abbrev s7 : Typed.Both T9 T10
-  s7 = Known.k-enum-known Gate.enum 1 T9 7 λ x. x
+  s7 = Known.k-enum-known Admission.enum 1 T9 7 λ x. x
 
   abbrev s8 : Typed.Gives T10 T11
-  s8 = Known.k-known-told Gate.enum Laws''.the-laws 1 T10 7 λ x. x
+  s8 = Known.k-known-told Admission.enum Laws''.the-laws 1 T10 7 λ x. x
 
   abbrev s9 : Typed.Mo T11 → Typed.Mo T12
   s9 = Scalar.n-room T11 1 ty·6
@@ -515,7 +515,7 @@ module _ (claims· : Claims) where
   s10 = Make'.n-make (Declared.row Refusal.the-type) T12 8 λ m. m .1 .1 .1 .1 .1 .1 .1 .0 .0
 
   abbrev s11 : Typed.Mo T13 → Typed.Mo T14
-  s11 = Scalar.n-room T13 7 ty·8
+  s11 = Scalar.n-room T13 7 ty·9
 
   abbrev s12 : Typed.Mo T14 → Typed.Mo T15
   s12 = Make.n-enum-make WriteAnswer.the-type T14 12 λ m. WriteAnswer.enum .make (Logic.inr (Logic.inl (m .1 .1 .1 .1 .1 .1 .1 .1 .0, tt)))
@@ -524,10 +524,10 @@ module _ (claims· : Claims) where
   s13 = Scalar.n-room T15 8 ty·7
 
   abbrev s14 : Typed.Both T9 T17
-  s14 = Known.k-enum-told Gate.enum 0 T9 7 λ x. x
+  s14 = Known.k-enum-told Admission.enum 0 T9 7 λ x. x
 
   abbrev s15 : Typed.Mo T17 → Typed.Mo T18
-  s15 = Scalar.n-room T17 7 ty·8
+  s15 = Scalar.n-room T17 7 ty·9
 
   abbrev s17 : Typed.Gives T18 T20
   s17 = Relend.k-sl-relend (Referent.rtF (Referent.fInt Syntax.w8)) T18 5 13 3 4 ty·1 ty·0 Row.off λ x. x
@@ -596,7 +596,7 @@ module _ (claims· : Claims) where
   s46 = Scalar.n-room T48 6 Syntax.tyBool
 
   abbrev s47 : Typed.Mo T49 → Typed.Mo T50
-  s47 = Scalar.n-room T49 12 ty·9
+  s47 = Scalar.n-room T49 12 ty·8
 
   module _ (Pre· : (κs : Lifetimes.Lfts 4) → Kinds.Dens κs ps → Type 0) (Post· : (κs : Lifetimes.Lfts 4) → (a : Kinds.Dens κs ps) → Kinds.Plain 4 ps r κs) where
     module _ (M : Type 1) where
@@ -707,7 +707,7 @@ module _ (claims· : Claims) where
       at33 = λ Ψ. Typed.both s14 (at32 Ψ)
 
       abbrev at34 : Typed.TF T9 O1
-      at34 = Switch.Φswitch T9 O1 7 (λ x. Declared.tagOf Gate.the-type x) (Syntax.arm (List._∷_ 1 List.[]) b5 (Syntax.arm (List._∷_ 0 List.[]) b24 Syntax.noDefault)) (at5, (at33, tt))
+      at34 = Switch.Φswitch T9 O1 7 (λ x. Declared.tagOf Admission.the-type x) (Syntax.arm (List._∷_ 1 List.[]) b5 (Syntax.arm (List._∷_ 0 List.[]) b24 Syntax.noDefault)) (at5, (at33, tt))
 
       abbrev at35 : Typed.TF T7 O1
       at35 = λ Ψ. Typed.pass T7 T9 s6 (at34 Ψ)
@@ -941,25 +941,25 @@ module _ (claims· : Claims) where
           E = Frame.EnvOf 𝓤 H (List._∷_ (Kinds.tyR r) (Enter.tysP ps xs)) bs
 
           d0 : Typed.Typed 𝓤 H A 𝓣 E G14 b4 Δ1 at0
-          d0 = Typed.s-typed 𝓤 H A W 𝓣 E G14 b4 Δ1 (λ Ψ. Typed.pass T14 T15 s12 (Typed.pass T15 T16 s13 Ψ)) tt (Typed.g-post 𝓤 H A W 𝓣 E G14 G15 G16 b4 (Typed.pass T14 T15 s12) (Typed.pass T15 T16 s13) (Make.t-enum-make-wt 𝓤 H A W E 𝓣 WriteAnswer.the-type Laws'3.the-laws Laws'3.the-plain tt G14 12 (List._∷_ (Scalar.oInt Syntax.w8 1) (List._∷_ (Scalar.oAt 8 ty·7 (Laws'4.val Refusal.the-type Laws.the-laws)) List.[])) (λ m. WriteAnswer.enum .make (Logic.inr (Logic.inl (m .1 .1 .1 .1 .1 .1 .1 .1 .0, tt)))) (Reads.room-gone 𝓤 H A ty·9) (tt, ((Whole.reads-enum 𝓤 H A W Refusal.the-type Laws.the-laws, Path'.refl), tt)) Path'.refl (λ m wa. Make.made-val WriteAnswer.the-type Laws'3.the-laws (List._∷_ (Laws'4.val Refusal.the-type Laws.the-laws (m .1 .1 .1 .1 .1 .1 .1 .1 .0)) List.[]) (WriteAnswer.enum .make (Logic.inr (Logic.inl (m .1 .1 .1 .1 .1 .1 .1 .1 .0, tt)))) (Signed.made-wt Refusal.the-field Laws.the-field-laws (Whole.enum-wt Refusal.the-type Laws.the-laws (tt, (tt, (tt, (tt, (tt, (tt, (tt, (tt, (tt, (tt, (tt, tt)))))))))))) (Refusal.the-type .to (m .1 .1 .1 .1 .1 .1 .1 .1 .0)), tt) (wa .1)) λ m wa. Make.made-is WriteAnswer.the-type Laws'3.the-laws (List._∷_ (Laws'4.val Refusal.the-type Laws.the-laws (m .1 .1 .1 .1 .1 .1 .1 .1 .0)) List.[]) (WriteAnswer.enum .make (Logic.inr (Logic.inl (m .1 .1 .1 .1 .1 .1 .1 .1 .0, tt)))) (Signed.made-wt Refusal.the-field Laws.the-field-laws (Whole.enum-wt Refusal.the-type Laws.the-laws (tt, (tt, (tt, (tt, (tt, (tt, (tt, (tt, (tt, (tt, (tt, tt)))))))))))) (Refusal.the-type .to (m .1 .1 .1 .1 .1 .1 .1 .1 .0)), tt) (wa .1)) (Scalar.g-room 𝓤 H A W E G15 8 ty·7 (Local.room-whole 𝓤 H A W (Declared.row Refusal.the-type) ty·7 Path'.refl)))
+          d0 = Typed.s-typed 𝓤 H A W 𝓣 E G14 b4 Δ1 (λ Ψ. Typed.pass T14 T15 s12 (Typed.pass T15 T16 s13 Ψ)) tt (Typed.g-post 𝓤 H A W 𝓣 E G14 G15 G16 b4 (Typed.pass T14 T15 s12) (Typed.pass T15 T16 s13) (Make.t-enum-make-wt 𝓤 H A W E 𝓣 WriteAnswer.the-type Laws'3.the-laws Laws'3.the-plain tt G14 12 (List._∷_ (Scalar.oInt Syntax.w8 1) (List._∷_ (Scalar.oAt 8 ty·7 (Laws'4.val Refusal.the-type Laws.the-laws)) List.[])) (λ m. WriteAnswer.enum .make (Logic.inr (Logic.inl (m .1 .1 .1 .1 .1 .1 .1 .1 .0, tt)))) (Reads.room-gone 𝓤 H A ty·8) (tt, ((Whole.reads-enum 𝓤 H A W Refusal.the-type Laws.the-laws, Path'.refl), tt)) Path'.refl (λ m wa. Make.made-val WriteAnswer.the-type Laws'3.the-laws (List._∷_ (Laws'4.val Refusal.the-type Laws.the-laws (m .1 .1 .1 .1 .1 .1 .1 .1 .0)) List.[]) (WriteAnswer.enum .make (Logic.inr (Logic.inl (m .1 .1 .1 .1 .1 .1 .1 .1 .0, tt)))) (Signed.made-wt Refusal.the-field Laws.the-field-laws (Whole.enum-wt Refusal.the-type Laws.the-laws (tt, (tt, (tt, (tt, (tt, (tt, (tt, (tt, (tt, (tt, (tt, tt)))))))))))) (Refusal.the-type .to (m .1 .1 .1 .1 .1 .1 .1 .1 .0)), tt) (wa .1)) λ m wa. Make.made-is WriteAnswer.the-type Laws'3.the-laws (List._∷_ (Laws'4.val Refusal.the-type Laws.the-laws (m .1 .1 .1 .1 .1 .1 .1 .1 .0)) List.[]) (WriteAnswer.enum .make (Logic.inr (Logic.inl (m .1 .1 .1 .1 .1 .1 .1 .1 .0, tt)))) (Signed.made-wt Refusal.the-field Laws.the-field-laws (Whole.enum-wt Refusal.the-type Laws.the-laws (tt, (tt, (tt, (tt, (tt, (tt, (tt, (tt, (tt, (tt, (tt, tt)))))))))))) (Refusal.the-type .to (m .1 .1 .1 .1 .1 .1 .1 .1 .0)), tt) (wa .1)) (Scalar.g-room 𝓤 H A W E G15 8 ty·7 (Local.room-whole 𝓤 H A W (Declared.row Refusal.the-type) ty·7 Path'.refl)))
 
           d1 : Typed.Typed 𝓤 H A 𝓣 E G13 b4 Δ1 at1
-          d1 = Typed.g-pre 𝓤 H A W 𝓣 E G13 G14 b4 Δ1 (Typed.pass T13 T14 s11) at0 (Scalar.g-room 𝓤 H A W E G13 7 ty·8 (Local.room-whole 𝓤 H A W (Known.Known Gate.enum 1) ty·8 Path'.refl)) d0
+          d1 = Typed.g-pre 𝓤 H A W 𝓣 E G13 G14 b4 Δ1 (Typed.pass T13 T14 s11) at0 (Scalar.g-room 𝓤 H A W E G13 7 ty·9 (Local.room-whole 𝓤 H A W (Known.Known Admission.enum 1) ty·9 Path'.refl)) d0
 
           d2 : Typed.Typed 𝓤 H A 𝓣 E G12 b5 Δ1 at2
-          d2 = Typed.s-seq 𝓤 H A W 𝓣 E G12 G13 b3 b4 Δ1 (Typed.pass T12 T13 s10) at1 (CopyOut.t-copy-told 𝓤 H A W E 𝓣 (Declared.row Refusal.the-type) Path'.refl (Laws'4.val Refusal.the-type Laws.the-laws) (Laws'4.lawful Refusal.the-type Laws.the-laws 𝓤 H A W tt) (Laws'4.makes Refusal.the-type Laws.the-plain 𝓤 H A) G12 8 (Scalar.oFld 7 (List._∷_ (Syntax.variant 1) (List._∷_ (Syntax.field 1) List.[])) ty·7 1 λ v. Laws'4.val Refusal.the-type Laws.the-laws (v .0)) (λ m. m .1 .1 .1 .1 .1 .1 .1 .0 .0) (λ m. Laws'4.Fields (Declared.variants Gate.the-type) (Laws'4.spellss (Gate.enum .parts) Laws''.the-laws) (Gate.the-type .to (Known.at Gate.enum 1 (m .1 .1 .1 .1 .1 .1 .1 .0)))) (Reads.room-gone 𝓤 H A ty·7) (Match.reads-payload 𝓤 H A W Gate.enum Laws''.the-laws 1 Path'.refl Path'.refl (λ v. Val.vcons (Laws'4.val Refusal.the-type Laws.the-laws (v .0)) Val.vnil) (λ v. Path'.refl) 0 ty·7 1 Path'.refl, Path'.refl) Path'.refl (λ ρ m. Make'.tells-row 𝓤 H A W E ρ (Row.out 8 (G12 .locals)) m 7 (Laws'4.Fields (Declared.variants Gate.the-type) (Laws'4.spellss (Gate.enum .parts) Laws''.the-laws) (Gate.the-type .to (Known.at Gate.enum 1 (m .1 .1 .1 .1 .1 .1 .1 .0)))) (Known.known-is 𝓤 H A W E Gate.enum 1 Laws''.the-laws ρ 7 (m .1 .1 .1 .1 .1 .1 .1 .0))) (λ m k wa. Path'.refl) λ m k wa. k .0) d1
+          d2 = Typed.s-seq 𝓤 H A W 𝓣 E G12 G13 b3 b4 Δ1 (Typed.pass T12 T13 s10) at1 (CopyOut.t-copy-told 𝓤 H A W E 𝓣 (Declared.row Refusal.the-type) Path'.refl (Laws'4.val Refusal.the-type Laws.the-laws) (Laws'4.lawful Refusal.the-type Laws.the-laws 𝓤 H A W tt) (Laws'4.makes Refusal.the-type Laws.the-plain 𝓤 H A) G12 8 (Scalar.oFld 7 (List._∷_ (Syntax.variant 1) (List._∷_ (Syntax.field 1) List.[])) ty·7 1 λ v. Laws'4.val Refusal.the-type Laws.the-laws (v .0)) (λ m. m .1 .1 .1 .1 .1 .1 .1 .0 .0) (λ m. Laws'4.Fields (Declared.variants Admission.the-type) (Laws'4.spellss (Admission.enum .parts) Laws''.the-laws) (Admission.the-type .to (Known.at Admission.enum 1 (m .1 .1 .1 .1 .1 .1 .1 .0)))) (Reads.room-gone 𝓤 H A ty·7) (Match.reads-payload 𝓤 H A W Admission.enum Laws''.the-laws 1 Path'.refl Path'.refl (λ v. Val.vcons (Laws'4.val Refusal.the-type Laws.the-laws (v .0)) Val.vnil) (λ v. Path'.refl) 0 ty·7 1 Path'.refl, Path'.refl) Path'.refl (λ ρ m. Make'.tells-row 𝓤 H A W E ρ (Row.out 8 (G12 .locals)) m 7 (Laws'4.Fields (Declared.variants Admission.the-type) (Laws'4.spellss (Admission.enum .parts) Laws''.the-laws) (Admission.the-type .to (Known.at Admission.enum 1 (m .1 .1 .1 .1 .1 .1 .1 .0)))) (Known.known-is 𝓤 H A W E Admission.enum 1 Laws''.the-laws ρ 7 (m .1 .1 .1 .1 .1 .1 .1 .0))) (λ m k wa. Path'.refl) λ m k wa. k .0) d1
 
           d3 : Typed.Typed 𝓤 H A 𝓣 E G11 b5 Δ1 at3
           d3 = Typed.g-pre 𝓤 H A W 𝓣 E G11 G12 b5 Δ1 (Typed.pass T11 T12 s9) at2 (Scalar.g-room 𝓤 H A W E G11 1 ty·6 (Local.room-whole 𝓤 H A W (Declared'.row Size.the-type) ty·6 Path'.refl)) d2
 
           d4 : Typed.Typed 𝓤 H A 𝓣 E G10 b5 Δ1 at4
-          d4 = Typed.g-pre 𝓤 H A W 𝓣 E G10 G11 b5 Δ1 (Typed.give s8) at3 (Known.g-known-told 𝓤 H A W E Gate.enum 1 G10 7 Laws''.the-laws (λ x. x) (Reads.as-is 𝓤 H A (Rows.whole (Known.Known Gate.enum 1)))) d3
+          d4 = Typed.g-pre 𝓤 H A W 𝓣 E G10 G11 b5 Δ1 (Typed.give s8) at3 (Known.g-known-told 𝓤 H A W E Admission.enum 1 G10 7 Laws''.the-laws (λ x. x) (Reads.as-is 𝓤 H A (Rows.whole (Known.Known Admission.enum 1)))) d3
 
           d5 : Typed.Typed 𝓤 H A 𝓣 E G9 b5 Δ1 at5
-          d5 = Typed.g-pre 𝓤 H A W 𝓣 E G9 G10 b5 Δ1 (Typed.both s7) at4 (Known.g-enum-known 𝓤 H A W E Gate.enum 1 G9 7 (λ x. x) (Reads.as-is 𝓤 H A (Rows.whole (Declared.row Gate.the-type)))) d4
+          d5 = Typed.g-pre 𝓤 H A W 𝓣 E G9 G10 b5 Δ1 (Typed.both s7) at4 (Known.g-enum-known 𝓤 H A W E Admission.enum 1 G9 7 (λ x. x) (Reads.as-is 𝓤 H A (Rows.whole (Declared.row Admission.the-type)))) d4
 
           d6 : Typed.Typed 𝓤 H A 𝓣 E G43 b15 Δ1 at6
-          d6 = Typed.s-typed 𝓤 H A W 𝓣 E G43 b15 Δ1 (λ Ψ. Typed.pass T42 T44 s41 (Typed.pass T44 T45 s42 (Typed.pass T45 T46 s43 (Typed.pass T46 T47 s44 Ψ)))) tt (Typed.g-post 𝓤 H A W 𝓣 E G43 G46 G47 b15 (λ Ψ. Typed.pass T42 T44 s41 (Typed.pass T44 T45 s42 (Typed.pass T45 T46 s43 Ψ))) (Typed.pass T46 T47 s44) (Typed.g-post 𝓤 H A W 𝓣 E G43 G45 G46 b15 (λ Ψ. Typed.pass T42 T44 s41 (Typed.pass T44 T45 s42 Ψ)) (Typed.pass T45 T46 s43) (Typed.g-post 𝓤 H A W 𝓣 E G43 G44 G45 b15 (Typed.pass T42 T44 s41) (Typed.pass T44 T45 s42) (Make.t-enum-make-wt 𝓤 H A W E 𝓣 WriteAnswer.the-type Laws'3.the-laws Laws'3.the-plain tt G43 12 (List._∷_ (Scalar.oInt Syntax.w8 0) (List._∷_ (Scalar.oAt 17 (Syntax.tyInt Syntax.w64) (Row.valS (Row.sInt Syntax.w64))) List.[])) (λ m. WriteAnswer.enum .make (Logic.inl (m .1 .1 .1 .1 .1 .1 .1 .1 .1 .1 .1 .1 .1 .1 .1 .1 .1 .0, tt))) (Reads.room-gone 𝓤 H A ty·9) (tt, ((Scalar.reads-sc 𝓤 H A W (Row.sInt Syntax.w64), Path'.refl), tt)) Path'.refl (λ m wa. Make.made-val WriteAnswer.the-type Laws'3.the-laws (List._∷_ (Laws'3.the-laws .0 .0 .val (m .1 .1 .1 .1 .1 .1 .1 .1 .1 .1 .1 .1 .1 .1 .1 .1 .1 .0)) List.[]) (WriteAnswer.enum .make (Logic.inl (m .1 .1 .1 .1 .1 .1 .1 .1 .1 .1 .1 .1 .1 .1 .1 .1 .1 .0, tt))) (Signed.made-wt Field.u64-field (Laws'3.the-laws .0 .0) Make'.u64-wt (m .1 .1 .1 .1 .1 .1 .1 .1 .1 .1 .1 .1 .1 .1 .1 .1 .1 .0), tt) (wa .1)) λ m wa. Make.made-is WriteAnswer.the-type Laws'3.the-laws (List._∷_ (Laws'3.the-laws .0 .0 .val (m .1 .1 .1 .1 .1 .1 .1 .1 .1 .1 .1 .1 .1 .1 .1 .1 .1 .0)) List.[]) (WriteAnswer.enum .make (Logic.inl (m .1 .1 .1 .1 .1 .1 .1 .1 .1 .1 .1 .1 .1 .1 .1 .1 .1 .0, tt))) (Signed.made-wt Field.u64-field (Laws'3.the-laws .0 .0) Make'.u64-wt (m .1 .1 .1 .1 .1 .1 .1 .1 .1 .1 .1 .1 .1 .1 .1 .1 .1 .0), tt) (wa .1)) (Scalar.g-room 𝓤 H A W E G44 9 (Syntax.tyInt Syntax.w64) (Scalar.room-sc 𝓤 H A W (Row.sInt Syntax.w64)))) (Scalar.g-room 𝓤 H A W E G45 10 (Syntax.tyInt Syntax.w64) (Scalar.room-sc 𝓤 H A W (Row.sInt Syntax.w64)))) (Scalar.g-room 𝓤 H A W E G46 17 (Syntax.tyInt Syntax.w64) (Scalar.room-sc 𝓤 H A W (Row.sInt Syntax.w64))))
+          d6 = Typed.s-typed 𝓤 H A W 𝓣 E G43 b15 Δ1 (λ Ψ. Typed.pass T42 T44 s41 (Typed.pass T44 T45 s42 (Typed.pass T45 T46 s43 (Typed.pass T46 T47 s44 Ψ)))) tt (Typed.g-post 𝓤 H A W 𝓣 E G43 G46 G47 b15 (λ Ψ. Typed.pass T42 T44 s41 (Typed.pass T44 T45 s42 (Typed.pass T45 T46 s43 Ψ))) (Typed.pass T46 T47 s44) (Typed.g-post 𝓤 H A W 𝓣 E G43 G45 G46 b15 (λ Ψ. Typed.pass T42 T44 s41 (Typed.pass T44 T45 s42 Ψ)) (Typed.pass T45 T46 s43) (Typed.g-post 𝓤 H A W 𝓣 E G43 G44 G45 b15 (Typed.pass T42 T44 s41) (Typed.pass T44 T45 s42) (Make.t-enum-make-wt 𝓤 H A W E 𝓣 WriteAnswer.the-type Laws'3.the-laws Laws'3.the-plain tt G43 12 (List._∷_ (Scalar.oInt Syntax.w8 0) (List._∷_ (Scalar.oAt 17 (Syntax.tyInt Syntax.w64) (Row.valS (Row.sInt Syntax.w64))) List.[])) (λ m. WriteAnswer.enum .make (Logic.inl (m .1 .1 .1 .1 .1 .1 .1 .1 .1 .1 .1 .1 .1 .1 .1 .1 .1 .0, tt))) (Reads.room-gone 𝓤 H A ty·8) (tt, ((Scalar.reads-sc 𝓤 H A W (Row.sInt Syntax.w64), Path'.refl), tt)) Path'.refl (λ m wa. Make.made-val WriteAnswer.the-type Laws'3.the-laws (List._∷_ (Laws'3.the-laws .0 .0 .val (m .1 .1 .1 .1 .1 .1 .1 .1 .1 .1 .1 .1 .1 .1 .1 .1 .1 .0)) List.[]) (WriteAnswer.enum .make (Logic.inl (m .1 .1 .1 .1 .1 .1 .1 .1 .1 .1 .1 .1 .1 .1 .1 .1 .1 .0, tt))) (Signed.made-wt Field.u64-field (Laws'3.the-laws .0 .0) Make'.u64-wt (m .1 .1 .1 .1 .1 .1 .1 .1 .1 .1 .1 .1 .1 .1 .1 .1 .1 .0), tt) (wa .1)) λ m wa. Make.made-is WriteAnswer.the-type Laws'3.the-laws (List._∷_ (Laws'3.the-laws .0 .0 .val (m .1 .1 .1 .1 .1 .1 .1 .1 .1 .1 .1 .1 .1 .1 .1 .1 .1 .0)) List.[]) (WriteAnswer.enum .make (Logic.inl (m .1 .1 .1 .1 .1 .1 .1 .1 .1 .1 .1 .1 .1 .1 .1 .1 .1 .0, tt))) (Signed.made-wt Field.u64-field (Laws'3.the-laws .0 .0) Make'.u64-wt (m .1 .1 .1 .1 .1 .1 .1 .1 .1 .1 .1 .1 .1 .1 .1 .1 .1 .0), tt) (wa .1)) (Scalar.g-room 𝓤 H A W E G44 9 (Syntax.tyInt Syntax.w64) (Scalar.room-sc 𝓤 H A W (Row.sInt Syntax.w64)))) (Scalar.g-room 𝓤 H A W E G45 10 (Syntax.tyInt Syntax.w64) (Scalar.room-sc 𝓤 H A W (Row.sInt Syntax.w64)))) (Scalar.g-room 𝓤 H A W E G46 17 (Syntax.tyInt Syntax.w64) (Scalar.room-sc 𝓤 H A W (Row.sInt Syntax.w64))))
 
           d7 : Typed.Typed 𝓤 H A 𝓣 E G42 b15 Δ1 at7
           d7 = Typed.g-pre 𝓤 H A W 𝓣 E G42 G43 b15 Δ1 (λ Ψ. Ψ) at6 (Lifetime.g-forget 𝓤 H A W E G42 6 Row.dead Path'.refl) d6
@@ -1037,13 +1037,13 @@ module _ (claims· : Claims) where
           d31 = Typed.g-pre 𝓤 H A W 𝓣 E G18 G19 b24 Δ1 (λ Ψ. Ψ) at30 (Lifetime.g-begin 𝓤 H A W E G18 4 (tt, (tt, (tt, (tt, (tt, (tt, (tt, (tt, (tt, (tt, (tt, (tt, (tt, (tt, (tt, (tt, (tt, (tt, (tt, (tt, tt))))))))))))))))))))) d30
 
           d32 : Typed.Typed 𝓤 H A 𝓣 E G17 b24 Δ1 at32
-          d32 = Typed.g-pre 𝓤 H A W 𝓣 E G17 G18 b24 Δ1 (Typed.pass T17 T18 s15) at31 (Scalar.g-room 𝓤 H A W E G17 7 ty·8 (Local.room-whole 𝓤 H A W (Declared.row Gate.the-type) ty·8 Path'.refl)) d31
+          d32 = Typed.g-pre 𝓤 H A W 𝓣 E G17 G18 b24 Δ1 (Typed.pass T17 T18 s15) at31 (Scalar.g-room 𝓤 H A W E G17 7 ty·9 (Local.room-whole 𝓤 H A W (Declared.row Admission.the-type) ty·9 Path'.refl)) d31
 
           d33 : Typed.Typed 𝓤 H A 𝓣 E G9 b24 Δ1 at33
-          d33 = Typed.g-pre 𝓤 H A W 𝓣 E G9 G17 b24 Δ1 (Typed.both s14) at32 (Known.g-enum-told 𝓤 H A W E Gate.enum 0 G9 7 λ x. x) d32
+          d33 = Typed.g-pre 𝓤 H A W 𝓣 E G9 G17 b24 Δ1 (Typed.both s14) at32 (Known.g-enum-told 𝓤 H A W E Admission.enum 0 G9 7 λ x. x) d32
 
           d34 : Typed.Typed 𝓤 H A 𝓣 E G9 b25 Δ1 at34
-          d34 = Switch.t-switch-on 𝓤 H A W E 𝓣 G9 (Scalar.oFld 7 (List._∷_ (Syntax.variant 0) (List._∷_ (Syntax.field 0) List.[])) (Syntax.tyInt Syntax.w8) 0 λ x. Val.vint Syntax.w8 (Declared.tagOf Gate.the-type x)) Syntax.w8 (λ u. Declared.tagOf Gate.the-type (u .1 .1 .1 .1 .1 .1 .1 .0)) (Syntax.arm (List._∷_ 1 List.[]) b5 (Syntax.arm (List._∷_ 0 List.[]) b24 Syntax.noDefault)) Δ1 (at5, (at33, tt)) (Match.reads-tag 𝓤 H A W Gate.the-type Laws''.the-laws (Rows.whole (Declared.row Gate.the-type)) 0 (λ x. x) (Whole.reads-enum 𝓤 H A W Gate.the-type Laws''.the-laws), Path'.refl) (λ u. Path'.refl) (d5, (d33, tt))
+          d34 = Switch.t-switch-on 𝓤 H A W E 𝓣 G9 (Scalar.oFld 7 (List._∷_ (Syntax.variant 0) (List._∷_ (Syntax.field 0) List.[])) (Syntax.tyInt Syntax.w8) 0 λ x. Val.vint Syntax.w8 (Declared.tagOf Admission.the-type x)) Syntax.w8 (λ u. Declared.tagOf Admission.the-type (u .1 .1 .1 .1 .1 .1 .1 .0)) (Syntax.arm (List._∷_ 1 List.[]) b5 (Syntax.arm (List._∷_ 0 List.[]) b24 Syntax.noDefault)) Δ1 (at5, (at33, tt)) (Match.reads-tag 𝓤 H A W Admission.the-type Laws''.the-laws (Rows.whole (Declared.row Admission.the-type)) 0 (λ x. x) (Whole.reads-enum 𝓤 H A W Admission.the-type Laws''.the-laws), Path'.refl) (λ u. Path'.refl) (d5, (d33, tt))
 
           d35 : Typed.Typed 𝓤 H A 𝓣 E G7 b25 Δ1 at35
           d35 = Typed.g-pre 𝓤 H A W 𝓣 E G7 G9 b25 Δ1 (Typed.pass T7 T9 s6) at34 (Scalar.g-room 𝓤 H A W E G7 11 (Syntax.tyInt Syntax.w64) (Scalar.room-sc 𝓤 H A W (Row.sInt Syntax.w64))) d34
@@ -1052,19 +1052,19 @@ module _ (claims· : Claims) where
           d36 = Typed.t-return 𝓤 H A W 𝓣 E Δ0 tt
 
           d37 : Typed.Typed 𝓤 H A 𝓣 E G49 b27 Δ0 at37
-          d37 = Typed.g-pre 𝓤 H A W 𝓣 E G49 G50 b27 Δ0 (Typed.pass T49 T50 s47) at36 (Scalar.g-room 𝓤 H A W E G49 12 ty·9 (Local.room-whole 𝓤 H A W (Declared.row WriteAnswer.the-type) ty·9 Path'.refl)) d36
+          d37 = Typed.g-pre 𝓤 H A W 𝓣 E G49 G50 b27 Δ0 (Typed.pass T49 T50 s47) at36 (Scalar.g-room 𝓤 H A W E G49 12 ty·8 (Local.room-whole 𝓤 H A W (Declared.row WriteAnswer.the-type) ty·8 Path'.refl)) d36
 
           d38 : Typed.Typed 𝓤 H A 𝓣 E G48 b27 Δ0 at38
           d38 = Typed.g-pre 𝓤 H A W 𝓣 E G48 G49 b27 Δ0 (Typed.pass T48 T49 s46) at37 (Scalar.g-room 𝓤 H A W E G48 6 Syntax.tyBool (Scalar.room-sc 𝓤 H A W Row.sBool)) d37
 
           d39 : Typed.Typed 𝓤 H A 𝓣 E G8 b28 Δ0 at39
-          d39 = Typed.s-seq 𝓤 H A W 𝓣 E G8 G48 b26 b27 Δ0 (Typed.pass T8 T48 s45) at38 (LocalCopy.t-val-copy 𝓤 H A W E 𝓣 (λ ρ. Unit) G8 12 0 (Declared.row WriteAnswer.the-type) ty·9 ty·9 (Rows.whole (Declared.row WriteAnswer.the-type)) (Rows.whole (Declared.row WriteAnswer.the-type)) (λ x. x) (λ x. x) (λ x. x) Path'.refl (Own.told-none 𝓤 H A (G8 .slots)) (Yields.yields-copy 𝓤 H A W (λ ρ. Unit) (Declared.row WriteAnswer.the-type) Path'.refl (Copies.cEnum WriteAnswer.the-type Laws'3.the-laws Laws'3.the-copy .copy 𝓤 H A W) (Rows.whole (Declared.row WriteAnswer.the-type)) (λ x. x) (λ x. x) (λ ρ told. Local.mem-whole 𝓤 H A W (Declared.row WriteAnswer.the-type) ρ) λ ρ told. Local.whole-mem 𝓤 H A W (Declared.row WriteAnswer.the-type) ρ) (Reads.room-gone 𝓤 H A ty·9) (Yields.makes-mem 𝓤 H A W (λ ρ. Unit) (Declared.row WriteAnswer.the-type) Path'.refl (Rows.whole (Declared.row WriteAnswer.the-type)) (λ x. x) λ ρ told. Local.whole-mem 𝓤 H A W (Declared.row WriteAnswer.the-type) ρ) Path'.refl Path'.refl) d38
+          d39 = Typed.s-seq 𝓤 H A W 𝓣 E G8 G48 b26 b27 Δ0 (Typed.pass T8 T48 s45) at38 (LocalCopy.t-val-copy 𝓤 H A W E 𝓣 (λ ρ. Unit) G8 12 0 (Declared.row WriteAnswer.the-type) ty·8 ty·8 (Rows.whole (Declared.row WriteAnswer.the-type)) (Rows.whole (Declared.row WriteAnswer.the-type)) (λ x. x) (λ x. x) (λ x. x) Path'.refl (Own.told-none 𝓤 H A (G8 .slots)) (Yields.yields-copy 𝓤 H A W (λ ρ. Unit) (Declared.row WriteAnswer.the-type) Path'.refl (Copies.cEnum WriteAnswer.the-type Laws'3.the-laws Laws'3.the-copy .copy 𝓤 H A W) (Rows.whole (Declared.row WriteAnswer.the-type)) (λ x. x) (λ x. x) (λ ρ told. Local.mem-whole 𝓤 H A W (Declared.row WriteAnswer.the-type) ρ) λ ρ told. Local.whole-mem 𝓤 H A W (Declared.row WriteAnswer.the-type) ρ) (Reads.room-gone 𝓤 H A ty·8) (Yields.makes-mem 𝓤 H A W (λ ρ. Unit) (Declared.row WriteAnswer.the-type) Path'.refl (Rows.whole (Declared.row WriteAnswer.the-type)) (λ x. x) λ ρ told. Local.whole-mem 𝓤 H A W (Declared.row WriteAnswer.the-type) ρ) Path'.refl Path'.refl) d38
 
           d40 : Typed.Typed 𝓤 H A 𝓣 E G7 b29 Δ0 at40
           d40 = Typed.t-seq 𝓤 H A W 𝓣 E G7 G8 b25 b28 Δ0 at35 at39 d35 d39
 
           d41 : Typed.Typed 𝓤 H A 𝓣 E G6 b30 Δ0 at41
-          d41 = Typed.s-seq 𝓤 H A W 𝓣 E G6 G7 b2 b29 Δ0 (Typed.both s5) at40 (Plain.t-call-plain 𝓤 H A W 𝓣 0 ps·1 r·1 (claims· .2) (claims· .3) "writing::admit" (known .1) E (λ pos β. β) G6 (Bool.bAt 6 λ x. x, (record { pos = 1; st = List.[]; d = 0; at = λ x. x }, (Num.vAt 11 λ x. x, tt))) 7 List.[] (Call.sub-id 𝓤 H A W (G6 .slots)) ((Scalar.reads-sc 𝓤 H A W Row.sBool, Path'.refl), ((Yields.yields-copy 𝓤 H A W (λ ρ. Unit) (Declared'.row Size.the-type) Path'.refl (Copies.cStruct Size.the-type Laws'.the-laws Laws'.the-copy .copy 𝓤 H A W) (Rows.whole (Declared'.row Size.the-type)) (λ x. x) (λ x. x) (λ ρ told. Local.mem-whole 𝓤 H A W (Declared'.row Size.the-type) ρ) λ ρ told. Local.whole-mem 𝓤 H A W (Declared'.row Size.the-type) ρ, Path'.refl), ((Scalar.reads-sc 𝓤 H A W (Row.sInt Syntax.w64), Path'.refl), tt))) (Reads.room-gone 𝓤 H A ty·8) tt Path'.refl) d40
+          d41 = Typed.s-seq 𝓤 H A W 𝓣 E G6 G7 b2 b29 Δ0 (Typed.both s5) at40 (Plain.t-call-plain 𝓤 H A W 𝓣 0 ps·1 r·1 (claims· .2) (claims· .3) "writing::admit" (known .1) E (λ pos β. β) G6 (Bool.bAt 6 λ x. x, (record { pos = 1; st = List.[]; d = 0; at = λ x. x }, (Num.vAt 11 λ x. x, tt))) 7 List.[] (Call.sub-id 𝓤 H A W (G6 .slots)) ((Scalar.reads-sc 𝓤 H A W Row.sBool, Path'.refl), ((Yields.yields-copy 𝓤 H A W (λ ρ. Unit) (Declared'.row Size.the-type) Path'.refl (Copies.cStruct Size.the-type Laws'.the-laws Laws'.the-copy .copy 𝓤 H A W) (Rows.whole (Declared'.row Size.the-type)) (λ x. x) (λ x. x) (λ ρ told. Local.mem-whole 𝓤 H A W (Declared'.row Size.the-type) ρ) λ ρ told. Local.whole-mem 𝓤 H A W (Declared'.row Size.the-type) ρ, Path'.refl), ((Scalar.reads-sc 𝓤 H A W (Row.sInt Syntax.w64), Path'.refl), tt))) (Reads.room-gone 𝓤 H A ty·9) tt Path'.refl) d40
 
           d42 : Typed.Typed 𝓤 H A 𝓣 E G5 b31 Δ0 at42
           d42 = Typed.s-seq 𝓤 H A W 𝓣 E G5 G6 b1 b30 Δ0 (Typed.pass T5 T6 s4) at41 (Scalar.t-use 𝓤 H A W E 𝓣 G5 (Scalar.oFld 5 (List._∷_ (Syntax.field 1) List.[]) (Syntax.tyInt Syntax.w64) 8 Shared.lenV) 11 (Rows.sc-here (Row.sInt Syntax.w64)) (Syntax.tyInt Syntax.w64) (Row.valS (Row.sInt Syntax.w64)) (Row.sInt Syntax.w64 .of) (Mut.reads-mslice-len 𝓤 H A W (Referent.rtF (Referent.fInt Syntax.w8)) ty·1 3 8 Path'.refl, Path'.refl) (Reads.room-gone 𝓤 H A (Syntax.tyInt Syntax.w64)) (Scalar.holds-sc 𝓤 H A W (Row.sInt Syntax.w64)) Path'.refl (λ u. Path'.refl) λ u. tt) d41
@@ -1185,55 +1185,55 @@ module _ (claims· : Claims) where
 
       module _ (before· : After-admit) where
         pub record At-match-keys1·own : Type 0 where
-          pub keys1 : Run.OneOf (List._∷_ 1 List.[]) (Declared.tagOf Gate.the-type (Row.get 7 (T9 .locals) (m7 (before· .before) (After-admit·gave before·))))
+          pub keys1 : Run.OneOf (List._∷_ 1 List.[]) (Declared.tagOf Admission.the-type (Row.get 7 (T9 .locals) (m7 (before· .before) (After-admit·gave before·))))
 
       pub record At-match-keys1 : Type 0 where
         pub before : After-admit
         pub match : At-match-keys1·own before
 
-      abbrev pub Need-enum-known-gate : Type 0
-      Need-enum-known-gate = (c : At-match-keys1) → s7 .asks (m7 (c .before .before) (After-admit·gave (c .before)))
+      abbrev pub Need-enum-known-admission : Type 0
+      Need-enum-known-admission = (c : At-match-keys1) → s7 .asks (m7 (c .before .before) (After-admit·gave (c .before)))
 
       abbrev pub m8 : (before : At-match-keys1) → (given : s7 .gives (m7 (before .before .before) (After-admit·gave (before .before)))) → Typed.Mo T10
       m8 = λ before given. s7 .next (m7 (before .before .before) (After-admit·gave (before .before))) given
 
       module _ (before· : At-match-keys1) where
-        pub record After-gate·own : Type 0 where
+        pub record After-admission·own : Type 0 where
           pub given : s7 .gives (m7 (before· .before .before) (After-admit·gave (before· .before)))
 
-      pub record After-gate : Type 0 where
+      pub record After-admission : Type 0 where
         pub before : At-match-keys1
-        pub gate : After-gate·own before
+        pub admission : After-admission·own before
 
-      abbrev pub m9 : (before : After-gate) → (given : s8 .gives (m8 (before .before) (before .gate .given))) → Typed.Mo T11
-      m9 = λ before given. s8 .next (m8 (before .before) (before .gate .given)) given
+      abbrev pub m9 : (before : After-admission) → (given : s8 .gives (m8 (before .before) (before .admission .given))) → Typed.Mo T11
+      m9 = λ before given. s8 .next (m8 (before .before) (before .admission .given)) given
 
-      abbrev pub m10 : (before : After-gate) → (given : s8 .gives (m8 (before .before) (before .gate .given))) → Typed.Mo T12
+      abbrev pub m10 : (before : After-admission) → (given : s8 .gives (m8 (before .before) (before .admission .given))) → Typed.Mo T12
       m10 = λ before given. s9 (m9 before given)
 
-      abbrev pub m11 : (before : After-gate) → (given : s8 .gives (m8 (before .before) (before .gate .given))) → Typed.Mo T13
+      abbrev pub m11 : (before : After-admission) → (given : s8 .gives (m8 (before .before) (before .admission .given))) → Typed.Mo T13
       m11 = λ before given. s10 (m10 before given)
 
-      abbrev pub m12 : (before : After-gate) → (given : s8 .gives (m8 (before .before) (before .gate .given))) → Typed.Mo T14
+      abbrev pub m12 : (before : After-admission) → (given : s8 .gives (m8 (before .before) (before .admission .given))) → Typed.Mo T14
       m12 = λ before given. s11 (m11 before given)
 
-      abbrev pub m13 : (before : After-gate) → (given : s8 .gives (m8 (before .before) (before .gate .given))) → Typed.Mo T15
+      abbrev pub m13 : (before : After-admission) → (given : s8 .gives (m8 (before .before) (before .admission .given))) → Typed.Mo T15
       m13 = λ before given. s12 (m12 before given)
 
-      abbrev pub m14 : (before : After-gate) → (given : s8 .gives (m8 (before .before) (before .gate .given))) → Typed.Mo T16
+      abbrev pub m14 : (before : After-admission) → (given : s8 .gives (m8 (before .before) (before .admission .given))) → Typed.Mo T16
       m14 = λ before given. s13 (m13 before given)
 
-      module _ (before· : After-gate) where
+      module _ (before· : After-admission) where
         pub record After-known-told·own : Type 0 where
-          pub given : s8 .gives (m8 (before· .before) (before· .gate .given))
+          pub given : s8 .gives (m8 (before· .before) (before· .admission .given))
 
       pub record After-known-told : Type 0 where
-        pub before : After-gate
+        pub before : After-admission
         pub known-told : After-known-told·own before
 
       module _ (before· : After-admit) where
         pub record At-match-keys2·own : Type 0 where
-          pub keys2 : Run.OneOf (List._∷_ 0 List.[]) (Declared.tagOf Gate.the-type (Row.get 7 (T9 .locals) (m7 (before· .before) (After-admit·gave before·))))
+          pub keys2 : Run.OneOf (List._∷_ 0 List.[]) (Declared.tagOf Admission.the-type (Row.get 7 (T9 .locals) (m7 (before· .before) (After-admit·gave before·))))
 
       pub record At-match-keys2 : Type 0 where
         pub before : After-admit
@@ -1430,13 +1430,13 @@ module _ (claims· : Claims) where
         pub before : After-bytes3
         pub slice-known4 : After-slice-known4·own before
 
-      abbrev pub m37 : (before : After-gate) → (given : s8 .gives (m8 (before .before) (before .gate .given))) → Typed.Mo T48
+      abbrev pub m37 : (before : After-admission) → (given : s8 .gives (m8 (before .before) (before .admission .given))) → Typed.Mo T48
       m37 = λ before given. s45 (m14 before given)
 
-      abbrev pub m38 : (before : After-gate) → (given : s8 .gives (m8 (before .before) (before .gate .given))) → Typed.Mo T49
+      abbrev pub m38 : (before : After-admission) → (given : s8 .gives (m8 (before .before) (before .admission .given))) → Typed.Mo T49
       m38 = λ before given. s46 (m37 before given)
 
-      abbrev pub m39 : (before : After-gate) → (given : s8 .gives (m8 (before .before) (before .gate .given))) → Typed.Mo T50
+      abbrev pub m39 : (before : After-admission) → (given : s8 .gives (m8 (before .before) (before .admission .given))) → Typed.Mo T50
       m39 = λ before given. s47 (m38 before given)
 
       abbrev pub Need-returns : Type 0
@@ -1457,7 +1457,7 @@ module _ (claims· : Claims) where
       abbrev pub Need-returns-2 : Type 0
       Need-returns-2 = (c : After-slice-known4) → Post· (c .before .before .before .before .before .before .before .before .before .before .before .before .before .before .before .before .before .before .before .κs) (dens (c .before .before .before .before .before .before .before .before .before .before .before .before .before .before .before .before .before .before .before .κs) (c .before .before .before .before .before .before .before .before .before .before .before .before .before .before .before .before .before .before .before .args)) (Function.resV r (c .before .before .before .before .before .before .before .before .before .before .before .before .before .before .before .before .before .before .before .κs) (m42 (c .before) (c .slice-known4 .given) .0)) (Clauses.atExit (Kinds.endedOf 4 ps r) (c .before .before .before .before .before .before .before .before .before .before .before .before .before .before .before .before .before .before .before .κs) (dens (c .before .before .before .before .before .before .before .before .before .before .before .before .before .before .before .before .before .before .before .κs) (c .before .before .before .before .before .before .before .before .before .before .before .before .before .before .before .before .before .before .before .args)) (Enter.lastsP (c .before .before .before .before .before .before .before .before .before .before .before .before .before .before .before .before .before .before .before .κs) 1 ps xs (dens (c .before .before .before .before .before .before .before .before .before .before .before .before .before .before .before .before .before .before .before .κs) (c .before .before .before .before .before .before .before .before .before .before .before .before .before .before .before .before .before .before .before .args)) (m42 (c .before) (c .slice-known4 .given) .1)))
 
-      module _ (sound-requires : Need-sound-requires) (admit-requires : Need-admit-requires) (enum-known-gate : Need-enum-known-gate) (enum-told : Need-enum-told) (write-head-requires : Need-write-head-requires) (write-states-requires : Need-write-states-requires) (write-end-requires : Need-write-end-requires) (returns : Need-returns) (same-length : Need-same-length) (returns-2 : Need-returns-2) where
+      module _ (sound-requires : Need-sound-requires) (admit-requires : Need-admit-requires) (enum-known-admission : Need-enum-known-admission) (enum-told : Need-enum-told) (write-head-requires : Need-write-head-requires) (write-states-requires : Need-write-states-requires) (write-end-requires : Need-write-end-requires) (returns : Need-returns) (same-length : Need-same-length) (returns-2 : Need-returns-2) where
         lay7 : (c : After-slice-known4) → at39 (W0 (c .before .before .before .before .before .before .before .before .before .before .before .before .before .before .before .before .before .before .before .κs) (c .before .before .before .before .before .before .before .before .before .before .before .before .before .before .before .before .before .before .before .args)) (m36 (c .before) (c .slice-known4 .given))
         lay7 = λ c. ((tt, (Path'.refl, (Path'.refl, (Path'.refl, (MutSlice.fix-len (Row.get 5 (T50 .locals) (m42 (c .before) (c .slice-known4 .given)) .ptr) (Row.get 5 (T50 .locals) (m42 (c .before) (c .slice-known4 .given)) .name) (Row.get 5 (T50 .locals) (m42 (c .before) (c .slice-known4 .given)) .now) (dens (c .before .before .before .before .before .before .before .before .before .before .before .before .before .before .before .before .before .before .before .κs) (c .before .before .before .before .before .before .before .before .before .before .before .before .before .before .before .before .before .before .before .args) .1 .1 .1 .1 .0 .now) (same-length record { before = c .before; slice-known4 = c .slice-known4 }), tt))))), returns-2 record { before = c .before; slice-known4 = c .slice-known4 })
 
@@ -1474,7 +1474,7 @@ module _ (claims· : Claims) where
         lay3 = λ c. (Path'.refl, λ g. λ g'. λ g''. (Path'.refl, (write-states-requires record { before = record { before = record { before = record { before = c .before; write-head = c .write-head }; bytes = record { given = g } }; slice-known2 = record { given = g' } }; write-states-arg = record { given = g'' } }, λ g'3. lay4 record { before = record { before = record { before = record { before = record { before = c .before; write-head = c .write-head }; bytes = record { given = g } }; slice-known2 = record { given = g' } }; write-states-arg = record { given = g'' } }; write-states = Called.called ps·3 r·3 (claims· .7) T29 (record { pos = 1; st = List.[]; d = 0; at = λ x. x }, (record { pos = 2; ty = Syntax.tyRef (Syntax.named 0) Syntax.imm (Memory.pointee (T.the-row .written)); ref = λ x. x }, (record { pos = 3; ty = Syntax.tyRef (Syntax.named 1) Syntax.imm (Syntax.tyInt Syntax.w16); ref = λ x. x }, (record { pos = 4; ty = Syntax.tyRef (Syntax.named 2) Syntax.imm (Syntax.tyInt Syntax.w16); ref = λ x. x }, (record { pos = 16; ty = Syntax.tyRef Syntax.erased Syntax.mut (Syntax.tyInt Syntax.w8); ref = λ x. x }, (Num.vAt 9 λ x. x, tt)))))) (m23 record { before = record { before = record { before = c .before; write-head = c .write-head }; bytes = record { given = g } }; slice-known2 = record { given = g' } } g'') g'3 })))
 
         lay2 : (c : After-admit) → at40 (W0 (c .before .before .before .before .before .κs) (c .before .before .before .before .before .args)) (m6 (c .before) (After-admit·gave c))
-        lay2 = λ c. (λ k. (enum-known-gate record { before = record { before = c .before; admit = c .admit }; match = record { keys1 = k } }, λ g. λ g'. lay6 record { before = record { before = record { before = record { before = c .before; admit = c .admit }; match = record { keys1 = k } }; gate = record { given = g } }; known-told = record { given = g' } }), (λ k. (enum-told record { before = record { before = c .before; admit = c .admit }; match = record { keys2 = k } }, λ g. λ g''. (Path'.refl, (write-head-requires record { before = record { before = record { before = record { before = c .before; admit = c .admit }; match = record { keys2 = k } }; enum-told = record { given = g } }; write-head-arg = record { given = g'' } }, λ g'3. lay3 record { before = record { before = record { before = record { before = record { before = c .before; admit = c .admit }; match = record { keys2 = k } }; enum-told = record { given = g } }; write-head-arg = record { given = g'' } }; write-head = Called.called ps·2 r·2 (claims· .5) T21 (record { pos = 1; st = List.[]; d = 0; at = λ x. x }, (record { pos = 14; ty = Syntax.tyRef Syntax.erased Syntax.mut (Syntax.tyInt Syntax.w8); ref = λ x. x }, tt)) (m18 record { before = record { before = record { before = c .before; admit = c .admit }; match = record { keys2 = k } }; enum-told = record { given = g } } g'') g'3 }))), Match.each-below 2 (λ j. (Unit {0} × (Run.OneOf (List._∷_ 1 List.[]) j → ⊥)) × (Run.OneOf (List._∷_ 0 List.[]) j → ⊥) → ⊥) (λ n. n .0 .1 Path'.refl, (λ n. n .1 Path'.refl, tt)) (Declared.tagOf Gate.the-type (Row.get 7 (T9 .locals) (m7 (c .before) (After-admit·gave c)))) (Match.tag-small Gate.the-type (Row.get 7 (T9 .locals) (m7 (c .before) (After-admit·gave c))))))
+        lay2 = λ c. (λ k. (enum-known-admission record { before = record { before = c .before; admit = c .admit }; match = record { keys1 = k } }, λ g. λ g'. lay6 record { before = record { before = record { before = record { before = c .before; admit = c .admit }; match = record { keys1 = k } }; admission = record { given = g } }; known-told = record { given = g' } }), (λ k. (enum-told record { before = record { before = c .before; admit = c .admit }; match = record { keys2 = k } }, λ g. λ g''. (Path'.refl, (write-head-requires record { before = record { before = record { before = record { before = c .before; admit = c .admit }; match = record { keys2 = k } }; enum-told = record { given = g } }; write-head-arg = record { given = g'' } }, λ g'3. lay3 record { before = record { before = record { before = record { before = record { before = c .before; admit = c .admit }; match = record { keys2 = k } }; enum-told = record { given = g } }; write-head-arg = record { given = g'' } }; write-head = Called.called ps·2 r·2 (claims· .5) T21 (record { pos = 1; st = List.[]; d = 0; at = λ x. x }, (record { pos = 14; ty = Syntax.tyRef Syntax.erased Syntax.mut (Syntax.tyInt Syntax.w8); ref = λ x. x }, tt)) (m18 record { before = record { before = record { before = c .before; admit = c .admit }; match = record { keys2 = k } }; enum-told = record { given = g } } g'') g'3 }))), Match.each-below 2 (λ j. (Unit {0} × (Run.OneOf (List._∷_ 1 List.[]) j → ⊥)) × (Run.OneOf (List._∷_ 0 List.[]) j → ⊥) → ⊥) (λ n. n .0 .1 Path'.refl, (λ n. n .1 Path'.refl, tt)) (Declared.tagOf Admission.the-type (Row.get 7 (T9 .locals) (m7 (c .before) (After-admit·gave c)))) (Match.tag-small Admission.the-type (Row.get 7 (T9 .locals) (m7 (c .before) (After-admit·gave c))))))
 
         lay1 : (c : After-sound) → at42 (W0 (c .before .before .before .before .κs) (c .before .before .before .before .args)) (m4 (c .before) (After-sound·gave c))
         lay1 = λ c. (admit-requires record { before = c .before; sound = c .sound }, λ g. lay2 record { before = record { before = c .before; sound = c .sound }; admit = Called.called ps·1 r·1 (claims· .3) T6 (Bool.bAt 6 λ x. x, (record { pos = 1; st = List.[]; d = 0; at = λ x. x }, (Num.vAt 11 λ x. x, tt))) (m5 (c .before) (After-sound·gave c)) g })

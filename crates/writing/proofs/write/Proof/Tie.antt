@@ -44,8 +44,8 @@ After-admit = Lts.After-admit (Reads.Asked, Reads.Learnt, Reads'.Asked, Reads'.L
 abbrev pub At-match-keys1 : Type 0
 At-match-keys1 = Lts.At-match-keys1 (Reads.Asked, Reads.Learnt, Reads'.Asked, Reads'.Learnt, Reads'3.Asked, Reads'3.Learnt, Reads'4.Asked, Reads'4.Learnt, Reads''.Asked, Reads''.Learnt) Reads'5.Pre Reads'5.Post
 
-abbrev pub After-gate : Type 0
-After-gate = Lts.After-gate (Reads.Asked, Reads.Learnt, Reads'.Asked, Reads'.Learnt, Reads'3.Asked, Reads'3.Learnt, Reads'4.Asked, Reads'4.Learnt, Reads''.Asked, Reads''.Learnt) Reads'5.Pre Reads'5.Post
+abbrev pub After-admission : Type 0
+After-admission = Lts.After-admission (Reads.Asked, Reads.Learnt, Reads'.Asked, Reads'.Learnt, Reads'3.Asked, Reads'3.Learnt, Reads'4.Asked, Reads'4.Learnt, Reads''.Asked, Reads''.Learnt) Reads'5.Pre Reads'5.Post
 
 abbrev pub After-known-told : Type 0
 After-known-told = Lts.After-known-told (Reads.Asked, Reads.Learnt, Reads'.Asked, Reads'.Learnt, Reads'3.Asked, Reads'3.Learnt, Reads'4.Asked, Reads'4.Learnt, Reads''.Asked, Reads''.Learnt) Reads'5.Pre Reads'5.Post
@@ -98,8 +98,8 @@ Need-sound-requires = Lts.Need-sound-requires (Reads.Asked, Reads.Learnt, Reads'
 abbrev pub Need-admit-requires : Type 0
 Need-admit-requires = Lts.Need-admit-requires (Reads.Asked, Reads.Learnt, Reads'.Asked, Reads'.Learnt, Reads'3.Asked, Reads'3.Learnt, Reads'4.Asked, Reads'4.Learnt, Reads''.Asked, Reads''.Learnt) Reads'5.Pre Reads'5.Post
 
-abbrev pub Need-enum-known-gate : Type 0
-Need-enum-known-gate = Lts.Need-enum-known-gate (Reads.Asked, Reads.Learnt, Reads'.Asked, Reads'.Learnt, Reads'3.Asked, Reads'3.Learnt, Reads'4.Asked, Reads'4.Learnt, Reads''.Asked, Reads''.Learnt) Reads'5.Pre Reads'5.Post
+abbrev pub Need-enum-known-admission : Type 0
+Need-enum-known-admission = Lts.Need-enum-known-admission (Reads.Asked, Reads.Learnt, Reads'.Asked, Reads'.Learnt, Reads'3.Asked, Reads'3.Learnt, Reads'4.Asked, Reads'4.Learnt, Reads''.Asked, Reads''.Learnt) Reads'5.Pre Reads'5.Post
 
 abbrev pub Need-enum-told : Type 0
 Need-enum-told = Lts.Need-enum-told (Reads.Asked, Reads.Learnt, Reads'.Asked, Reads'.Learnt, Reads'3.Asked, Reads'3.Learnt, Reads'4.Asked, Reads'4.Learnt, Reads''.Asked, Reads''.Learnt) Reads'5.Pre Reads'5.Post
@@ -123,7 +123,7 @@ abbrev pub Need-returns-2 : Type 0
 Need-returns-2 = Lts.Need-returns-2 (Reads.Asked, Reads.Learnt, Reads'.Asked, Reads'.Learnt, Reads'3.Asked, Reads'3.Learnt, Reads'4.Asked, Reads'4.Learnt, Reads''.Asked, Reads''.Learnt) Reads'5.Pre Reads'5.Post
 
 module _ {M : Type 1} where
-  pub spec : (answer : Need-sound-requires) → (answer : Need-admit-requires) → (answer : Need-enum-known-gate) → (answer : Need-enum-told) → (answer : Need-write-head-requires) → (answer : Need-write-states-requires) → (answer : Need-write-end-requires) → (answer : Need-returns) → (answer : Need-same-length) → (answer : Need-returns-2) → Lts.Closed (Reads.Asked, Reads.Learnt, Reads'.Asked, Reads'.Learnt, Reads'3.Asked, Reads'3.Learnt, Reads'4.Asked, Reads'4.Learnt, Reads''.Asked, Reads''.Learnt) Reads'5.Pre Reads'5.Post M
+  pub spec : (answer : Need-sound-requires) → (answer : Need-admit-requires) → (answer : Need-enum-known-admission) → (answer : Need-enum-told) → (answer : Need-write-head-requires) → (answer : Need-write-states-requires) → (answer : Need-write-end-requires) → (answer : Need-returns) → (answer : Need-same-length) → (answer : Need-returns-2) → Lts.Closed (Reads.Asked, Reads.Learnt, Reads'.Asked, Reads'.Learnt, Reads'3.Asked, Reads'3.Learnt, Reads'4.Asked, Reads'4.Learnt, Reads''.Asked, Reads''.Learnt) Reads'5.Pre Reads'5.Post M
   spec = λ answer answer' answer'' answer'3 answer'4 answer'5 answer'6 answer'7 answer'8 answer'9. Lts.spec (Reads.Asked, Reads.Learnt, Reads'.Asked, Reads'.Learnt, Reads'3.Asked, Reads'3.Learnt, Reads'4.Asked, Reads'4.Learnt, Reads''.Asked, Reads''.Learnt) Reads'5.Pre Reads'5.Post answer answer' answer'' answer'3 answer'4 answer'5 answer'6 answer'7 answer'8 answer'9
 
   pub close : Lts.Closed (Reads.Asked, Reads.Learnt, Reads'.Asked, Reads'.Learnt, Reads'3.Asked, Reads'3.Learnt, Reads'4.Asked, Reads'4.Learnt, Reads''.Asked, Reads''.Learnt) Reads'5.Pre Reads'5.Post M → Statement.statement M

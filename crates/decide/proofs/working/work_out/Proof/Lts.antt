@@ -208,7 +208,7 @@ abbrev b9 : Syntax.Body
 b9 = Syntax.assign (Syntax.place 20 List.[]) (Syntax.aggregate (List._∷_ (Syntax.copy (Syntax.place 19 List.[])) (List._∷_ (Syntax.copy (Syntax.place 6 (List._∷_ (Syntax.field 1) List.[]))) List.[])))
 
 abbrev b10 : Syntax.Body
-b10 = Syntax.call "decide::nets::lay_out" (List._∷_ (Syntax.copy (Syntax.place 1 List.[])) (List._∷_ (Syntax.copy (Syntax.place 2 List.[])) (List._∷_ Syntax.opdFalse (List._∷_ (Syntax.copy (Syntax.place 16 List.[])) (List._∷_ (Syntax.copy (Syntax.place 18 List.[])) (List._∷_ (Syntax.copy (Syntax.place 20 List.[])) List.[])))))) (Syntax.place 14 List.[])
+b10 = Syntax.call "decide::nets::initialize" (List._∷_ (Syntax.copy (Syntax.place 1 List.[])) (List._∷_ (Syntax.copy (Syntax.place 2 List.[])) (List._∷_ Syntax.opdFalse (List._∷_ (Syntax.copy (Syntax.place 16 List.[])) (List._∷_ (Syntax.copy (Syntax.place 18 List.[])) (List._∷_ (Syntax.copy (Syntax.place 20 List.[])) List.[])))))) (Syntax.place 14 List.[])
 
 abbrev b11 : Syntax.Body
 b11 = Syntax.assign (Syntax.place 21 List.[]) (Syntax.addrOf (Syntax.place 12 List.[]))
@@ -301,7 +301,7 @@ abbrev b40 : Syntax.Body
 b40 = Syntax.assign (Syntax.place 48 List.[]) (Syntax.aggregate (List._∷_ (Syntax.copy (Syntax.place 47 List.[])) (List._∷_ (Syntax.copy (Syntax.place 6 (List._∷_ (Syntax.field 1) List.[]))) List.[])))
 
 abbrev b41 : Syntax.Body
-b41 = Syntax.call "decide::nets::lay_out" (List._∷_ (Syntax.copy (Syntax.place 1 List.[])) (List._∷_ (Syntax.copy (Syntax.place 2 List.[])) (List._∷_ Syntax.opdTrue (List._∷_ (Syntax.copy (Syntax.place 44 List.[])) (List._∷_ (Syntax.copy (Syntax.place 46 List.[])) (List._∷_ (Syntax.copy (Syntax.place 48 List.[])) List.[])))))) (Syntax.place 14 List.[])
+b41 = Syntax.call "decide::nets::initialize" (List._∷_ (Syntax.copy (Syntax.place 1 List.[])) (List._∷_ (Syntax.copy (Syntax.place 2 List.[])) (List._∷_ Syntax.opdTrue (List._∷_ (Syntax.copy (Syntax.place 44 List.[])) (List._∷_ (Syntax.copy (Syntax.place 46 List.[])) (List._∷_ (Syntax.copy (Syntax.place 48 List.[])) List.[])))))) (Syntax.place 14 List.[])
 
 abbrev b42 : Syntax.Body
 b42 = Syntax.assign (Syntax.place 49 List.[]) (Syntax.addrOf (Syntax.place 6 (List._∷_ (Syntax.field 0) (List._∷_ (Syntax.deref (Syntax.tyInt Syntax.w16)) List.[]))))
@@ -1927,7 +1927,7 @@ module _ (claims· : Claims) where
   module _ (Pre· : (κs : Lifetimes.Lfts 7) → Kinds.Dens κs ps → Type 0) (Post· : (κs : Lifetimes.Lfts 7) → (a : Kinds.Dens κs ps) → Kinds.Plain 7 ps r κs) where
     module _ (M : Type 1) where
       abbrev pub Closed : Type 2
-      Closed = (𝓤 : URA.URA M) (H : Wp.Heap 𝓤) (A : Atoms.Atoms 𝓤) (W : Kit.Given 𝓤 H A) (𝓣 : Wp.Tables 𝓤 H) (known0 : Plain.Known 𝓤 H A W 𝓣 4 ps·0 r·0 (claims· .0) (claims· .1) "decide::nets::lay_out") (known1 : Plain.Known 𝓤 H A W 𝓣 6 ps·1 r·1 (claims· .2) (claims· .3) "decide::working::index_all") (known2 : Plain.Known 𝓤 H A W 𝓣 9 ps·2 r·2 (claims· .4) (claims· .5) "decide::working::propagate_in") (known3 : Plain.Known 𝓤 H A W 𝓣 6 ps·3 r·3 (claims· .6) (claims· .7) "decide::verdicts::judge_all") (known4 : Plain.Known 𝓤 H A W 𝓣 1 ps·4 r·4 (claims· .8) (claims· .9) "tables::internal::fill") → Statement.Triple 𝓤 (Wp.WpFn 𝓤 H (𝓣 .C) (𝓣 .Λ) (Function.fnOf 7 ps r xs m hs body)) (Function.plainOf 𝓤 H A 7 ps r Pre· Post·)
+      Closed = (𝓤 : URA.URA M) (H : Wp.Heap 𝓤) (A : Atoms.Atoms 𝓤) (W : Kit.Given 𝓤 H A) (𝓣 : Wp.Tables 𝓤 H) (known0 : Plain.Known 𝓤 H A W 𝓣 4 ps·0 r·0 (claims· .0) (claims· .1) "decide::nets::initialize") (known1 : Plain.Known 𝓤 H A W 𝓣 6 ps·1 r·1 (claims· .2) (claims· .3) "decide::working::index_all") (known2 : Plain.Known 𝓤 H A W 𝓣 9 ps·2 r·2 (claims· .4) (claims· .5) "decide::working::propagate_in") (known3 : Plain.Known 𝓤 H A W 𝓣 6 ps·3 r·3 (claims· .6) (claims· .7) "decide::verdicts::judge_all") (known4 : Plain.Known 𝓤 H A W 𝓣 1 ps·4 r·4 (claims· .8) (claims· .9) "tables::internal::fill") → Statement.Triple 𝓤 (Wp.WpFn 𝓤 H (𝓣 .C) (𝓣 .Λ) (Function.fnOf 7 ps r xs m hs body)) (Function.plainOf 𝓤 H A 7 ps r Pre· Post·)
 
     module _ where
       abbrev at0 : (bs : List.List Nat.ℕ) → Typed.TF T224 O0
@@ -2607,7 +2607,7 @@ module _ (claims· : Claims) where
 
       module _ {M : Type 1} (𝓤 : URA.URA M) (H : Wp.Heap 𝓤) (A : Atoms.Atoms 𝓤) (W : Kit.Given 𝓤 H A) (𝓣 : Wp.Tables 𝓤 H) where
         abbrev Knowns : Type 1
-        Knowns = Plain.Known 𝓤 H A W 𝓣 4 ps·0 r·0 (claims· .0) (claims· .1) "decide::nets::lay_out" × Plain.Known 𝓤 H A W 𝓣 6 ps·1 r·1 (claims· .2) (claims· .3) "decide::working::index_all" × Plain.Known 𝓤 H A W 𝓣 9 ps·2 r·2 (claims· .4) (claims· .5) "decide::working::propagate_in" × Plain.Known 𝓤 H A W 𝓣 6 ps·3 r·3 (claims· .6) (claims· .7) "decide::verdicts::judge_all" × Plain.Known 𝓤 H A W 𝓣 1 ps·4 r·4 (claims· .8) (claims· .9) "tables::internal::fill"
+        Knowns = Plain.Known 𝓤 H A W 𝓣 4 ps·0 r·0 (claims· .0) (claims· .1) "decide::nets::initialize" × Plain.Known 𝓤 H A W 𝓣 6 ps·1 r·1 (claims· .2) (claims· .3) "decide::working::index_all" × Plain.Known 𝓤 H A W 𝓣 9 ps·2 r·2 (claims· .4) (claims· .5) "decide::working::propagate_in" × Plain.Known 𝓤 H A W 𝓣 6 ps·3 r·3 (claims· .6) (claims· .7) "decide::verdicts::judge_all" × Plain.Known 𝓤 H A W 𝓣 1 ps·4 r·4 (claims· .8) (claims· .9) "tables::internal::fill"
 
       module _ (κs : Lifetimes.Lfts 7) (qs : Lifetimes.Shares 7) where
         abbrev g14 : List.List Row.Entry
@@ -3761,7 +3761,7 @@ module _ (claims· : Claims) where
           d100 = Typed.g-pre 𝓤 H A W 𝓣 E G124 G125 b94 Δ0 (Typed.pass T124 T125 (s123 bs)) (at99 bs) (Scalar.g-room 𝓤 H A W E G124 14 Syntax.tyUnit (Scalar.room-sc 𝓤 H A W Row.sUnit)) d99
 
           d101 : Typed.Typed 𝓤 H A 𝓣 E G123 b95 Δ0 (at101 bs)
-          d101 = Typed.s-seq 𝓤 H A W 𝓣 E G123 G124 b41 b94 Δ0 (Typed.both (s122 bs)) (at100 bs) (Plain.t-call-plain 𝓤 H A W 𝓣 4 ps·0 r·0 (claims· .0) (claims· .1) "decide::nets::lay_out" (known .0) E (λ pos β. β) G123 (record { pos = 1; st = List.[]; d = 0; at = λ x. x }, (record { pos = 2; ty = Syntax.tyRef (Syntax.named 0) Syntax.imm (Memory.pointee (T.the-row .written)); ref = λ x. x }, (Bool.bLit Bool'.true, (record { pos = 44; ty = Syntax.tyRef Syntax.erased Syntax.mut (Syntax.tyInt Syntax.w16); ref = λ x. x }, (record { pos = 46; ty = Syntax.tyRef Syntax.erased Syntax.mut (Syntax.tyInt Syntax.w16); ref = λ x. x }, (record { pos = 48; ty = Syntax.tyRef Syntax.erased Syntax.mut (Syntax.tyInt Syntax.w16); ref = λ x. x }, tt)))))) 14 (List._∷_ 0 (List._∷_ 21 (List._∷_ 22 (List._∷_ 23 List.[])))) (Call.sub-id 𝓤 H A W (G123 .slots)) ((Yields.yields-copy 𝓤 H A W (λ ρ. Unit) (Declared.row Size.the-type) Path'.refl (Copies.cStruct Size.the-type Laws.the-laws Laws.the-copy .copy 𝓤 H A W) (Rows'.whole (Declared.row Size.the-type)) (λ x. x) (λ x. x) (λ ρ told. Local.mem-whole 𝓤 H A W (Declared.row Size.the-type) ρ) λ ρ told. Local.whole-mem 𝓤 H A W (Declared.row Size.the-type) ρ, Path'.refl), (ShrSlice.spares-sslice 𝓤 H A W T.the-row ty·13 0, Shared.reads-sslice 𝓤 H A W T.the-row ty·13 0, Path'.refl, (tt, (Reads'.as-is 𝓤 H A (Mut.mslice (Referent.rtF (Referent.fInt Syntax.w16)) ty·5 21), Mut.reads-mslice 𝓤 H A W (Referent.rtF (Referent.fInt Syntax.w16)) ty·5 21, Path'.refl, (Reads'.as-is 𝓤 H A (Mut.mslice (Referent.rtF (Referent.fInt Syntax.w16)) ty·5 22), Mut.reads-mslice 𝓤 H A W (Referent.rtF (Referent.fInt Syntax.w16)) ty·5 22, Path'.refl, (Reads'.as-is 𝓤 H A (Mut.mslice (Referent.rtF (Referent.fInt Syntax.w16)) ty·5 23), Mut.reads-mslice 𝓤 H A W (Referent.rtF (Referent.fInt Syntax.w16)) ty·5 23, Path'.refl, tt)))))) (Reads'.room-gone 𝓤 H A Syntax.tyUnit) (tt, (tt, (tt, (tt, tt)))) Path'.refl) d100
+          d101 = Typed.s-seq 𝓤 H A W 𝓣 E G123 G124 b41 b94 Δ0 (Typed.both (s122 bs)) (at100 bs) (Plain.t-call-plain 𝓤 H A W 𝓣 4 ps·0 r·0 (claims· .0) (claims· .1) "decide::nets::initialize" (known .0) E (λ pos β. β) G123 (record { pos = 1; st = List.[]; d = 0; at = λ x. x }, (record { pos = 2; ty = Syntax.tyRef (Syntax.named 0) Syntax.imm (Memory.pointee (T.the-row .written)); ref = λ x. x }, (Bool.bLit Bool'.true, (record { pos = 44; ty = Syntax.tyRef Syntax.erased Syntax.mut (Syntax.tyInt Syntax.w16); ref = λ x. x }, (record { pos = 46; ty = Syntax.tyRef Syntax.erased Syntax.mut (Syntax.tyInt Syntax.w16); ref = λ x. x }, (record { pos = 48; ty = Syntax.tyRef Syntax.erased Syntax.mut (Syntax.tyInt Syntax.w16); ref = λ x. x }, tt)))))) 14 (List._∷_ 0 (List._∷_ 21 (List._∷_ 22 (List._∷_ 23 List.[])))) (Call.sub-id 𝓤 H A W (G123 .slots)) ((Yields.yields-copy 𝓤 H A W (λ ρ. Unit) (Declared.row Size.the-type) Path'.refl (Copies.cStruct Size.the-type Laws.the-laws Laws.the-copy .copy 𝓤 H A W) (Rows'.whole (Declared.row Size.the-type)) (λ x. x) (λ x. x) (λ ρ told. Local.mem-whole 𝓤 H A W (Declared.row Size.the-type) ρ) λ ρ told. Local.whole-mem 𝓤 H A W (Declared.row Size.the-type) ρ, Path'.refl), (ShrSlice.spares-sslice 𝓤 H A W T.the-row ty·13 0, Shared.reads-sslice 𝓤 H A W T.the-row ty·13 0, Path'.refl, (tt, (Reads'.as-is 𝓤 H A (Mut.mslice (Referent.rtF (Referent.fInt Syntax.w16)) ty·5 21), Mut.reads-mslice 𝓤 H A W (Referent.rtF (Referent.fInt Syntax.w16)) ty·5 21, Path'.refl, (Reads'.as-is 𝓤 H A (Mut.mslice (Referent.rtF (Referent.fInt Syntax.w16)) ty·5 22), Mut.reads-mslice 𝓤 H A W (Referent.rtF (Referent.fInt Syntax.w16)) ty·5 22, Path'.refl, (Reads'.as-is 𝓤 H A (Mut.mslice (Referent.rtF (Referent.fInt Syntax.w16)) ty·5 23), Mut.reads-mslice 𝓤 H A W (Referent.rtF (Referent.fInt Syntax.w16)) ty·5 23, Path'.refl, tt)))))) (Reads'.room-gone 𝓤 H A Syntax.tyUnit) (tt, (tt, (tt, (tt, tt)))) Path'.refl) d100
 
           d102 : Typed.Typed 𝓤 H A 𝓣 E G122 b96 Δ0 (at102 bs)
           d102 = Typed.s-seq 𝓤 H A W 𝓣 E G122 G123 b40 b95 Δ0 (Typed.ask (s121 bs)) (at101 bs) (Relend.t-sl-aggregate 𝓤 H A W E (Referent.rtF (Referent.fInt Syntax.w16)) 𝓣 (Relend.asMut (Referent.rtF (Referent.fInt Syntax.w16))) G122 47 48 23 ty·5 ty·5 (λ x. x) (Scalar.oFld 6 (List._∷_ (Syntax.field 1) List.[]) (Syntax.tyInt Syntax.w64) 8 λ v. Shared.lenV (v .0)) (Reads'.as-is 𝓤 H A (Relend.msptr (Referent.rtF (Referent.fInt Syntax.w16)) ty·5 23)) (Reads'.room-gone 𝓤 H A ty·20) (Relend.reads-owed-len 𝓤 H A W (Referent.rtF (Referent.fInt Syntax.w16)) ty·10 4 23 (Row.lease (κs .1 .1 .1 .1 .0) (qs .1 .1 .1 .1 .0)) 8 Path'.refl, Path'.refl) Path'.refl Path'.refl λ b o k. tt) d101
@@ -4058,7 +4058,7 @@ module _ (claims· : Claims) where
           d199 = Typed.g-pre 𝓤 H A W 𝓣 E G25 G26 b125 Δ0 (Typed.pass T25 T26 (s24 bs)) (at198 bs) (Scalar.g-room 𝓤 H A W E G25 14 Syntax.tyUnit (Scalar.room-sc 𝓤 H A W Row.sUnit)) d198
 
           d200 : Typed.Typed 𝓤 H A 𝓣 E G24 b126 Δ0 (at200 bs)
-          d200 = Typed.s-seq 𝓤 H A W 𝓣 E G24 G25 b10 b125 Δ0 (Typed.both (s23 bs)) (at199 bs) (Plain.t-call-plain 𝓤 H A W 𝓣 4 ps·0 r·0 (claims· .0) (claims· .1) "decide::nets::lay_out" (known .0) E (λ pos β. β) G24 (record { pos = 1; st = List.[]; d = 0; at = λ x. x }, (record { pos = 2; ty = Syntax.tyRef (Syntax.named 0) Syntax.imm (Memory.pointee (T.the-row .written)); ref = λ x. x }, (Bool.bLit Bool'.false, (record { pos = 16; ty = Syntax.tyRef Syntax.erased Syntax.mut (Syntax.tyInt Syntax.w16); ref = λ x. x }, (record { pos = 18; ty = Syntax.tyRef Syntax.erased Syntax.mut (Syntax.tyInt Syntax.w16); ref = λ x. x }, (record { pos = 20; ty = Syntax.tyRef Syntax.erased Syntax.mut (Syntax.tyInt Syntax.w16); ref = λ x. x }, tt)))))) 14 (List._∷_ 0 (List._∷_ 7 (List._∷_ 8 (List._∷_ 9 List.[])))) (Call.sub-id 𝓤 H A W (G24 .slots)) ((Yields.yields-copy 𝓤 H A W (λ ρ. Unit) (Declared.row Size.the-type) Path'.refl (Copies.cStruct Size.the-type Laws.the-laws Laws.the-copy .copy 𝓤 H A W) (Rows'.whole (Declared.row Size.the-type)) (λ x. x) (λ x. x) (λ ρ told. Local.mem-whole 𝓤 H A W (Declared.row Size.the-type) ρ) λ ρ told. Local.whole-mem 𝓤 H A W (Declared.row Size.the-type) ρ, Path'.refl), (ShrSlice.spares-sslice 𝓤 H A W T.the-row ty·13 0, Shared.reads-sslice 𝓤 H A W T.the-row ty·13 0, Path'.refl, (tt, (Reads'.as-is 𝓤 H A (Mut.mslice (Referent.rtF (Referent.fInt Syntax.w16)) ty·5 7), Mut.reads-mslice 𝓤 H A W (Referent.rtF (Referent.fInt Syntax.w16)) ty·5 7, Path'.refl, (Reads'.as-is 𝓤 H A (Mut.mslice (Referent.rtF (Referent.fInt Syntax.w16)) ty·5 8), Mut.reads-mslice 𝓤 H A W (Referent.rtF (Referent.fInt Syntax.w16)) ty·5 8, Path'.refl, (Reads'.as-is 𝓤 H A (Mut.mslice (Referent.rtF (Referent.fInt Syntax.w16)) ty·5 9), Mut.reads-mslice 𝓤 H A W (Referent.rtF (Referent.fInt Syntax.w16)) ty·5 9, Path'.refl, tt)))))) (Reads'.room-gone 𝓤 H A Syntax.tyUnit) (tt, (tt, (tt, (tt, tt)))) Path'.refl) d199
+          d200 = Typed.s-seq 𝓤 H A W 𝓣 E G24 G25 b10 b125 Δ0 (Typed.both (s23 bs)) (at199 bs) (Plain.t-call-plain 𝓤 H A W 𝓣 4 ps·0 r·0 (claims· .0) (claims· .1) "decide::nets::initialize" (known .0) E (λ pos β. β) G24 (record { pos = 1; st = List.[]; d = 0; at = λ x. x }, (record { pos = 2; ty = Syntax.tyRef (Syntax.named 0) Syntax.imm (Memory.pointee (T.the-row .written)); ref = λ x. x }, (Bool.bLit Bool'.false, (record { pos = 16; ty = Syntax.tyRef Syntax.erased Syntax.mut (Syntax.tyInt Syntax.w16); ref = λ x. x }, (record { pos = 18; ty = Syntax.tyRef Syntax.erased Syntax.mut (Syntax.tyInt Syntax.w16); ref = λ x. x }, (record { pos = 20; ty = Syntax.tyRef Syntax.erased Syntax.mut (Syntax.tyInt Syntax.w16); ref = λ x. x }, tt)))))) 14 (List._∷_ 0 (List._∷_ 7 (List._∷_ 8 (List._∷_ 9 List.[])))) (Call.sub-id 𝓤 H A W (G24 .slots)) ((Yields.yields-copy 𝓤 H A W (λ ρ. Unit) (Declared.row Size.the-type) Path'.refl (Copies.cStruct Size.the-type Laws.the-laws Laws.the-copy .copy 𝓤 H A W) (Rows'.whole (Declared.row Size.the-type)) (λ x. x) (λ x. x) (λ ρ told. Local.mem-whole 𝓤 H A W (Declared.row Size.the-type) ρ) λ ρ told. Local.whole-mem 𝓤 H A W (Declared.row Size.the-type) ρ, Path'.refl), (ShrSlice.spares-sslice 𝓤 H A W T.the-row ty·13 0, Shared.reads-sslice 𝓤 H A W T.the-row ty·13 0, Path'.refl, (tt, (Reads'.as-is 𝓤 H A (Mut.mslice (Referent.rtF (Referent.fInt Syntax.w16)) ty·5 7), Mut.reads-mslice 𝓤 H A W (Referent.rtF (Referent.fInt Syntax.w16)) ty·5 7, Path'.refl, (Reads'.as-is 𝓤 H A (Mut.mslice (Referent.rtF (Referent.fInt Syntax.w16)) ty·5 8), Mut.reads-mslice 𝓤 H A W (Referent.rtF (Referent.fInt Syntax.w16)) ty·5 8, Path'.refl, (Reads'.as-is 𝓤 H A (Mut.mslice (Referent.rtF (Referent.fInt Syntax.w16)) ty·5 9), Mut.reads-mslice 𝓤 H A W (Referent.rtF (Referent.fInt Syntax.w16)) ty·5 9, Path'.refl, tt)))))) (Reads'.room-gone 𝓤 H A Syntax.tyUnit) (tt, (tt, (tt, (tt, tt)))) Path'.refl) d199
 
           d201 : Typed.Typed 𝓤 H A 𝓣 E G23 b127 Δ0 (at201 bs)
           d201 = Typed.s-seq 𝓤 H A W 𝓣 E G23 G24 b9 b126 Δ0 (Typed.ask (s22 bs)) (at200 bs) (Relend.t-sl-aggregate 𝓤 H A W E (Referent.rtF (Referent.fInt Syntax.w16)) 𝓣 (Relend.asMut (Referent.rtF (Referent.fInt Syntax.w16))) G23 19 20 9 ty·5 ty·5 (λ x. x) (Scalar.oFld 6 (List._∷_ (Syntax.field 1) List.[]) (Syntax.tyInt Syntax.w64) 8 λ v. Shared.lenV (v .0)) (Reads'.as-is 𝓤 H A (Relend.msptr (Referent.rtF (Referent.fInt Syntax.w16)) ty·5 9)) (Reads'.room-gone 𝓤 H A ty·20) (Relend.reads-owed-len 𝓤 H A W (Referent.rtF (Referent.fInt Syntax.w16)) ty·10 4 9 (Row.lease (κs .1 .1 .1 .1 .0) (qs .1 .1 .1 .1 .0)) 8 Path'.refl, Path'.refl) Path'.refl Path'.refl λ b o k. tt) d200
@@ -4256,28 +4256,28 @@ module _ (claims· : Claims) where
       m16 = λ before given. s16 (before .before .before .before .before .before .before .blocks) .next (m15 before given)
 
       module _ (before· : After-slice-known4) where
-        pub record After-lay-out-arg·own : Type 0 where
+        pub record After-initialize-arg·own : Type 0 where
           pub given : s15 (before· .before .before .before .before .before .before .blocks) .gives (m14 (before· .before) (before· .slice-known4 .given))
 
-      pub record After-lay-out-arg : Type 0 where
+      pub record After-initialize-arg : Type 0 where
         pub before : After-slice-known4
-        pub lay-out-arg : After-lay-out-arg·own before
+        pub initialize-arg : After-initialize-arg·own before
 
-      abbrev pub m17 : (before : After-lay-out-arg) → (given : s18 (before .before .before .before .before .before .before .before .blocks) .gives (m16 (before .before) (before .lay-out-arg .given))) → Typed.Mo T20
-      m17 = λ before given. s18 (before .before .before .before .before .before .before .before .blocks) .next (m16 (before .before) (before .lay-out-arg .given)) given
+      abbrev pub m17 : (before : After-initialize-arg) → (given : s18 (before .before .before .before .before .before .before .before .blocks) .gives (m16 (before .before) (before .initialize-arg .given))) → Typed.Mo T20
+      m17 = λ before given. s18 (before .before .before .before .before .before .before .before .blocks) .next (m16 (before .before) (before .initialize-arg .given)) given
 
-      module _ (before· : After-lay-out-arg) where
+      module _ (before· : After-initialize-arg) where
         pub record After-watch·own : Type 0 where
-          pub given : s18 (before· .before .before .before .before .before .before .before .blocks) .gives (m16 (before· .before) (before· .lay-out-arg .given))
+          pub given : s18 (before· .before .before .before .before .before .before .before .blocks) .gives (m16 (before· .before) (before· .initialize-arg .given))
 
       pub record After-watch : Type 0 where
-        pub before : After-lay-out-arg
+        pub before : After-initialize-arg
         pub watch : After-watch·own before
 
-      abbrev pub Need-slice-aggregate-lay-out : Type 0
-      Need-slice-aggregate-lay-out = (c : After-watch) → Relend.CountIs T20 17 18 (λ x. x) (λ u. 1024) (m17 (c .before) (c .watch .given))
+      abbrev pub Need-slice-aggregate-initialize : Type 0
+      Need-slice-aggregate-initialize = (c : After-watch) → Relend.CountIs T20 17 18 (λ x. x) (λ u. 1024) (m17 (c .before) (c .watch .given))
 
-      abbrev pub m18 : (before : After-lay-out-arg) → (given : s18 (before .before .before .before .before .before .before .before .blocks) .gives (m16 (before .before) (before .lay-out-arg .given))) → Typed.Mo T21
+      abbrev pub m18 : (before : After-initialize-arg) → (given : s18 (before .before .before .before .before .before .before .before .blocks) .gives (m16 (before .before) (before .initialize-arg .given))) → Typed.Mo T21
       m18 = λ before given. s19 (before .before .before .before .before .before .before .before .blocks) .next (m17 before given)
 
       abbrev pub m19 : (before : After-watch) → (given : s21 (before .before .before .before .before .before .before .before .before .blocks) .gives (m18 (before .before) (before .watch .given))) → Typed.Mo T23
@@ -4287,42 +4287,42 @@ module _ (claims· : Claims) where
       m20 = λ before given. s22 (before .before .before .before .before .before .before .before .before .blocks) .next (m19 before given)
 
       module _ (before· : After-watch) where
-        pub record After-lay-out-arg2·own : Type 0 where
+        pub record After-initialize-arg2·own : Type 0 where
           pub given : s21 (before· .before .before .before .before .before .before .before .before .blocks) .gives (m18 (before· .before) (before· .watch .given))
 
-      pub record After-lay-out-arg2 : Type 0 where
+      pub record After-initialize-arg2 : Type 0 where
         pub before : After-watch
-        pub lay-out-arg2 : After-lay-out-arg2·own before
+        pub initialize-arg2 : After-initialize-arg2·own before
 
-      abbrev pub Need-lay-out-requires : Type 0
-      Need-lay-out-requires = (c : After-lay-out-arg2) → s23 (c .before .before .before .before .before .before .before .before .before .blocks) .asks (m20 (c .before) (c .lay-out-arg2 .given))
+      abbrev pub Need-initialize-requires : Type 0
+      Need-initialize-requires = (c : After-initialize-arg2) → s23 (c .before .before .before .before .before .before .before .before .before .blocks) .asks (m20 (c .before) (c .initialize-arg2 .given))
 
-      abbrev pub m21 : (before : After-lay-out-arg2) → (given : s23 (before .before .before .before .before .before .before .before .before .before .blocks) .gives (m20 (before .before) (before .lay-out-arg2 .given))) → Typed.Mo T25
-      m21 = λ before given. s23 (before .before .before .before .before .before .before .before .before .before .blocks) .next (m20 (before .before) (before .lay-out-arg2 .given)) given
+      abbrev pub m21 : (before : After-initialize-arg2) → (given : s23 (before .before .before .before .before .before .before .before .before .before .blocks) .gives (m20 (before .before) (before .initialize-arg2 .given))) → Typed.Mo T25
+      m21 = λ before given. s23 (before .before .before .before .before .before .before .before .before .before .blocks) .next (m20 (before .before) (before .initialize-arg2 .given)) given
 
-      module _ (before· : After-lay-out-arg2) where
-        abbrev pub After-lay-out·own : Type 0
-        After-lay-out·own = Called.Called ps·0 r·0 (claims· .1) T24 (record { pos = 1; st = List.[]; d = 0; at = λ x. x }, (record { pos = 2; ty = Syntax.tyRef (Syntax.named 0) Syntax.imm (Memory.pointee (T.the-row .written)); ref = λ x. x }, (Bool.bLit Bool'.false, (record { pos = 16; ty = Syntax.tyRef Syntax.erased Syntax.mut (Syntax.tyInt Syntax.w16); ref = λ x. x }, (record { pos = 18; ty = Syntax.tyRef Syntax.erased Syntax.mut (Syntax.tyInt Syntax.w16); ref = λ x. x }, (record { pos = 20; ty = Syntax.tyRef Syntax.erased Syntax.mut (Syntax.tyInt Syntax.w16); ref = λ x. x }, tt)))))) (m20 (before· .before) (before· .lay-out-arg2 .given))
+      module _ (before· : After-initialize-arg2) where
+        abbrev pub After-initialize·own : Type 0
+        After-initialize·own = Called.Called ps·0 r·0 (claims· .1) T24 (record { pos = 1; st = List.[]; d = 0; at = λ x. x }, (record { pos = 2; ty = Syntax.tyRef (Syntax.named 0) Syntax.imm (Memory.pointee (T.the-row .written)); ref = λ x. x }, (Bool.bLit Bool'.false, (record { pos = 16; ty = Syntax.tyRef Syntax.erased Syntax.mut (Syntax.tyInt Syntax.w16); ref = λ x. x }, (record { pos = 18; ty = Syntax.tyRef Syntax.erased Syntax.mut (Syntax.tyInt Syntax.w16); ref = λ x. x }, (record { pos = 20; ty = Syntax.tyRef Syntax.erased Syntax.mut (Syntax.tyInt Syntax.w16); ref = λ x. x }, tt)))))) (m20 (before· .before) (before· .initialize-arg2 .given))
 
-      pub record After-lay-out : Type 0 where
-        pub before : After-lay-out-arg2
-        pub lay-out : After-lay-out·own before
+      pub record After-initialize : Type 0 where
+        pub before : After-initialize-arg2
+        pub initialize : After-initialize·own before
 
-      abbrev pub After-lay-out·gave : (c : After-lay-out) → s23 (c .before .before .before .before .before .before .before .before .before .before .blocks) .gives (m20 (c .before .before) (c .before .lay-out-arg2 .given))
-      After-lay-out·gave = λ c. Called.given ps·0 r·0 (claims· .1) T24 (record { pos = 1; st = List.[]; d = 0; at = λ x. x }, (record { pos = 2; ty = Syntax.tyRef (Syntax.named 0) Syntax.imm (Memory.pointee (T.the-row .written)); ref = λ x. x }, (Bool.bLit Bool'.false, (record { pos = 16; ty = Syntax.tyRef Syntax.erased Syntax.mut (Syntax.tyInt Syntax.w16); ref = λ x. x }, (record { pos = 18; ty = Syntax.tyRef Syntax.erased Syntax.mut (Syntax.tyInt Syntax.w16); ref = λ x. x }, (record { pos = 20; ty = Syntax.tyRef Syntax.erased Syntax.mut (Syntax.tyInt Syntax.w16); ref = λ x. x }, tt)))))) (m20 (c .before .before) (c .before .lay-out-arg2 .given)) (c .lay-out)
+      abbrev pub After-initialize·gave : (c : After-initialize) → s23 (c .before .before .before .before .before .before .before .before .before .before .blocks) .gives (m20 (c .before .before) (c .before .initialize-arg2 .given))
+      After-initialize·gave = λ c. Called.given ps·0 r·0 (claims· .1) T24 (record { pos = 1; st = List.[]; d = 0; at = λ x. x }, (record { pos = 2; ty = Syntax.tyRef (Syntax.named 0) Syntax.imm (Memory.pointee (T.the-row .written)); ref = λ x. x }, (Bool.bLit Bool'.false, (record { pos = 16; ty = Syntax.tyRef Syntax.erased Syntax.mut (Syntax.tyInt Syntax.w16); ref = λ x. x }, (record { pos = 18; ty = Syntax.tyRef Syntax.erased Syntax.mut (Syntax.tyInt Syntax.w16); ref = λ x. x }, (record { pos = 20; ty = Syntax.tyRef Syntax.erased Syntax.mut (Syntax.tyInt Syntax.w16); ref = λ x. x }, tt)))))) (m20 (c .before .before) (c .before .initialize-arg2 .given)) (c .initialize)
 
-      abbrev pub m22 : (before : After-lay-out-arg2) → (given : s23 (before .before .before .before .before .before .before .before .before .before .blocks) .gives (m20 (before .before) (before .lay-out-arg2 .given))) → Typed.Mo T26
+      abbrev pub m22 : (before : After-initialize-arg2) → (given : s23 (before .before .before .before .before .before .before .before .before .before .blocks) .gives (m20 (before .before) (before .initialize-arg2 .given))) → Typed.Mo T26
       m22 = λ before given. s24 (before .before .before .before .before .before .before .before .before .before .blocks) (m21 before given)
 
-      abbrev pub m23 : (before : After-lay-out) → (given : s26 (before .before .before .before .before .before .before .before .before .before .before .blocks) .gives (m22 (before .before) (After-lay-out·gave before))) → Typed.Mo T28
-      m23 = λ before given. s26 (before .before .before .before .before .before .before .before .before .before .before .blocks) .next (m22 (before .before) (After-lay-out·gave before)) given
+      abbrev pub m23 : (before : After-initialize) → (given : s26 (before .before .before .before .before .before .before .before .before .before .before .blocks) .gives (m22 (before .before) (After-initialize·gave before))) → Typed.Mo T28
+      m23 = λ before given. s26 (before .before .before .before .before .before .before .before .before .before .before .blocks) .next (m22 (before .before) (After-initialize·gave before)) given
 
-      module _ (before· : After-lay-out) where
+      module _ (before· : After-initialize) where
         pub record After-ranks·own : Type 0 where
-          pub given : s26 (before· .before .before .before .before .before .before .before .before .before .before .blocks) .gives (m22 (before· .before) (After-lay-out·gave before·))
+          pub given : s26 (before· .before .before .before .before .before .before .before .before .before .before .blocks) .gives (m22 (before· .before) (After-initialize·gave before·))
 
       pub record After-ranks : Type 0 where
-        pub before : After-lay-out
+        pub before : After-initialize
         pub ranks : After-ranks·own before
 
       abbrev pub m24 : (before : After-ranks) → (given : s27 (before .before .before .before .before .before .before .before .before .before .before .before .blocks) .gives (m23 (before .before) (before .ranks .given))) → Typed.Mo T29
@@ -4712,28 +4712,28 @@ module _ (claims· : Claims) where
       m73 = λ before given. s115 (before .before .before .before .before .before .before .before .before .before .before .before .before .before .before .before .before .before .before .before .before .before .before .before .before .before .before .before .before .before .before .before .before .before .before .before .before .blocks) .next (m72 before given)
 
       module _ (before· : After-slice-known8) where
-        pub record After-lay-out-arg3·own : Type 0 where
+        pub record After-initialize-arg3·own : Type 0 where
           pub given : s114 (before· .before .before .before .before .before .before .before .before .before .before .before .before .before .before .before .before .before .before .before .before .before .before .before .before .before .before .before .before .before .before .before .before .before .before .before .before .blocks) .gives (m71 (before· .before) (before· .slice-known8 .given))
 
-      pub record After-lay-out-arg3 : Type 0 where
+      pub record After-initialize-arg3 : Type 0 where
         pub before : After-slice-known8
-        pub lay-out-arg3 : After-lay-out-arg3·own before
+        pub initialize-arg3 : After-initialize-arg3·own before
 
-      abbrev pub m74 : (before : After-lay-out-arg3) → (given : s117 (before .before .before .before .before .before .before .before .before .before .before .before .before .before .before .before .before .before .before .before .before .before .before .before .before .before .before .before .before .before .before .before .before .before .before .before .before .before .blocks) .gives (m73 (before .before) (before .lay-out-arg3 .given))) → Typed.Mo T119
-      m74 = λ before given. s117 (before .before .before .before .before .before .before .before .before .before .before .before .before .before .before .before .before .before .before .before .before .before .before .before .before .before .before .before .before .before .before .before .before .before .before .before .before .before .blocks) .next (m73 (before .before) (before .lay-out-arg3 .given)) given
+      abbrev pub m74 : (before : After-initialize-arg3) → (given : s117 (before .before .before .before .before .before .before .before .before .before .before .before .before .before .before .before .before .before .before .before .before .before .before .before .before .before .before .before .before .before .before .before .before .before .before .before .before .before .blocks) .gives (m73 (before .before) (before .initialize-arg3 .given))) → Typed.Mo T119
+      m74 = λ before given. s117 (before .before .before .before .before .before .before .before .before .before .before .before .before .before .before .before .before .before .before .before .before .before .before .before .before .before .before .before .before .before .before .before .before .before .before .before .before .before .blocks) .next (m73 (before .before) (before .initialize-arg3 .given)) given
 
-      module _ (before· : After-lay-out-arg3) where
+      module _ (before· : After-initialize-arg3) where
         pub record After-watch6·own : Type 0 where
-          pub given : s117 (before· .before .before .before .before .before .before .before .before .before .before .before .before .before .before .before .before .before .before .before .before .before .before .before .before .before .before .before .before .before .before .before .before .before .before .before .before .before .blocks) .gives (m73 (before· .before) (before· .lay-out-arg3 .given))
+          pub given : s117 (before· .before .before .before .before .before .before .before .before .before .before .before .before .before .before .before .before .before .before .before .before .before .before .before .before .before .before .before .before .before .before .before .before .before .before .before .before .before .blocks) .gives (m73 (before· .before) (before· .initialize-arg3 .given))
 
       pub record After-watch6 : Type 0 where
-        pub before : After-lay-out-arg3
+        pub before : After-initialize-arg3
         pub watch6 : After-watch6·own before
 
-      abbrev pub Need-slice-aggregate-lay-out-2 : Type 0
-      Need-slice-aggregate-lay-out-2 = (c : After-watch6) → Relend.CountIs T119 45 46 (λ x. x) (λ u. 1024) (m74 (c .before) (c .watch6 .given))
+      abbrev pub Need-slice-aggregate-initialize-2 : Type 0
+      Need-slice-aggregate-initialize-2 = (c : After-watch6) → Relend.CountIs T119 45 46 (λ x. x) (λ u. 1024) (m74 (c .before) (c .watch6 .given))
 
-      abbrev pub m75 : (before : After-lay-out-arg3) → (given : s117 (before .before .before .before .before .before .before .before .before .before .before .before .before .before .before .before .before .before .before .before .before .before .before .before .before .before .before .before .before .before .before .before .before .before .before .before .before .before .blocks) .gives (m73 (before .before) (before .lay-out-arg3 .given))) → Typed.Mo T120
+      abbrev pub m75 : (before : After-initialize-arg3) → (given : s117 (before .before .before .before .before .before .before .before .before .before .before .before .before .before .before .before .before .before .before .before .before .before .before .before .before .before .before .before .before .before .before .before .before .before .before .before .before .before .blocks) .gives (m73 (before .before) (before .initialize-arg3 .given))) → Typed.Mo T120
       m75 = λ before given. s118 (before .before .before .before .before .before .before .before .before .before .before .before .before .before .before .before .before .before .before .before .before .before .before .before .before .before .before .before .before .before .before .before .before .before .before .before .before .before .blocks) .next (m74 before given)
 
       abbrev pub m76 : (before : After-watch6) → (given : s120 (before .before .before .before .before .before .before .before .before .before .before .before .before .before .before .before .before .before .before .before .before .before .before .before .before .before .before .before .before .before .before .before .before .before .before .before .before .before .before .blocks) .gives (m75 (before .before) (before .watch6 .given))) → Typed.Mo T122
@@ -4743,42 +4743,42 @@ module _ (claims· : Claims) where
       m77 = λ before given. s121 (before .before .before .before .before .before .before .before .before .before .before .before .before .before .before .before .before .before .before .before .before .before .before .before .before .before .before .before .before .before .before .before .before .before .before .before .before .before .before .blocks) .next (m76 before given)
 
       module _ (before· : After-watch6) where
-        pub record After-lay-out-arg4·own : Type 0 where
+        pub record After-initialize-arg4·own : Type 0 where
           pub given : s120 (before· .before .before .before .before .before .before .before .before .before .before .before .before .before .before .before .before .before .before .before .before .before .before .before .before .before .before .before .before .before .before .before .before .before .before .before .before .before .before .blocks) .gives (m75 (before· .before) (before· .watch6 .given))
 
-      pub record After-lay-out-arg4 : Type 0 where
+      pub record After-initialize-arg4 : Type 0 where
         pub before : After-watch6
-        pub lay-out-arg4 : After-lay-out-arg4·own before
+        pub initialize-arg4 : After-initialize-arg4·own before
 
-      abbrev pub Need-lay-out-requires-2 : Type 0
-      Need-lay-out-requires-2 = (c : After-lay-out-arg4) → s122 (c .before .before .before .before .before .before .before .before .before .before .before .before .before .before .before .before .before .before .before .before .before .before .before .before .before .before .before .before .before .before .before .before .before .before .before .before .before .before .before .blocks) .asks (m77 (c .before) (c .lay-out-arg4 .given))
+      abbrev pub Need-initialize-requires-2 : Type 0
+      Need-initialize-requires-2 = (c : After-initialize-arg4) → s122 (c .before .before .before .before .before .before .before .before .before .before .before .before .before .before .before .before .before .before .before .before .before .before .before .before .before .before .before .before .before .before .before .before .before .before .before .before .before .before .before .blocks) .asks (m77 (c .before) (c .initialize-arg4 .given))
 
-      abbrev pub m78 : (before : After-lay-out-arg4) → (given : s122 (before .before .before .before .before .before .before .before .before .before .before .before .before .before .before .before .before .before .before .before .before .before .before .before .before .before .before .before .before .before .before .before .before .before .before .before .before .before .before .before .blocks) .gives (m77 (before .before) (before .lay-out-arg4 .given))) → Typed.Mo T124
-      m78 = λ before given. s122 (before .before .before .before .before .before .before .before .before .before .before .before .before .before .before .before .before .before .before .before .before .before .before .before .before .before .before .before .before .before .before .before .before .before .before .before .before .before .before .before .blocks) .next (m77 (before .before) (before .lay-out-arg4 .given)) given
+      abbrev pub m78 : (before : After-initialize-arg4) → (given : s122 (before .before .before .before .before .before .before .before .before .before .before .before .before .before .before .before .before .before .before .before .before .before .before .before .before .before .before .before .before .before .before .before .before .before .before .before .before .before .before .before .blocks) .gives (m77 (before .before) (before .initialize-arg4 .given))) → Typed.Mo T124
+      m78 = λ before given. s122 (before .before .before .before .before .before .before .before .before .before .before .before .before .before .before .before .before .before .before .before .before .before .before .before .before .before .before .before .before .before .before .before .before .before .before .before .before .before .before .before .blocks) .next (m77 (before .before) (before .initialize-arg4 .given)) given
 
-      module _ (before· : After-lay-out-arg4) where
-        abbrev pub After-lay-out2·own : Type 0
-        After-lay-out2·own = Called.Called ps·0 r·0 (claims· .1) T123 (record { pos = 1; st = List.[]; d = 0; at = λ x. x }, (record { pos = 2; ty = Syntax.tyRef (Syntax.named 0) Syntax.imm (Memory.pointee (T.the-row .written)); ref = λ x. x }, (Bool.bLit Bool'.true, (record { pos = 44; ty = Syntax.tyRef Syntax.erased Syntax.mut (Syntax.tyInt Syntax.w16); ref = λ x. x }, (record { pos = 46; ty = Syntax.tyRef Syntax.erased Syntax.mut (Syntax.tyInt Syntax.w16); ref = λ x. x }, (record { pos = 48; ty = Syntax.tyRef Syntax.erased Syntax.mut (Syntax.tyInt Syntax.w16); ref = λ x. x }, tt)))))) (m77 (before· .before) (before· .lay-out-arg4 .given))
+      module _ (before· : After-initialize-arg4) where
+        abbrev pub After-initialize2·own : Type 0
+        After-initialize2·own = Called.Called ps·0 r·0 (claims· .1) T123 (record { pos = 1; st = List.[]; d = 0; at = λ x. x }, (record { pos = 2; ty = Syntax.tyRef (Syntax.named 0) Syntax.imm (Memory.pointee (T.the-row .written)); ref = λ x. x }, (Bool.bLit Bool'.true, (record { pos = 44; ty = Syntax.tyRef Syntax.erased Syntax.mut (Syntax.tyInt Syntax.w16); ref = λ x. x }, (record { pos = 46; ty = Syntax.tyRef Syntax.erased Syntax.mut (Syntax.tyInt Syntax.w16); ref = λ x. x }, (record { pos = 48; ty = Syntax.tyRef Syntax.erased Syntax.mut (Syntax.tyInt Syntax.w16); ref = λ x. x }, tt)))))) (m77 (before· .before) (before· .initialize-arg4 .given))
 
-      pub record After-lay-out2 : Type 0 where
-        pub before : After-lay-out-arg4
-        pub lay-out2 : After-lay-out2·own before
+      pub record After-initialize2 : Type 0 where
+        pub before : After-initialize-arg4
+        pub initialize2 : After-initialize2·own before
 
-      abbrev pub After-lay-out2·gave : (c : After-lay-out2) → s122 (c .before .before .before .before .before .before .before .before .before .before .before .before .before .before .before .before .before .before .before .before .before .before .before .before .before .before .before .before .before .before .before .before .before .before .before .before .before .before .before .before .blocks) .gives (m77 (c .before .before) (c .before .lay-out-arg4 .given))
-      After-lay-out2·gave = λ c. Called.given ps·0 r·0 (claims· .1) T123 (record { pos = 1; st = List.[]; d = 0; at = λ x. x }, (record { pos = 2; ty = Syntax.tyRef (Syntax.named 0) Syntax.imm (Memory.pointee (T.the-row .written)); ref = λ x. x }, (Bool.bLit Bool'.true, (record { pos = 44; ty = Syntax.tyRef Syntax.erased Syntax.mut (Syntax.tyInt Syntax.w16); ref = λ x. x }, (record { pos = 46; ty = Syntax.tyRef Syntax.erased Syntax.mut (Syntax.tyInt Syntax.w16); ref = λ x. x }, (record { pos = 48; ty = Syntax.tyRef Syntax.erased Syntax.mut (Syntax.tyInt Syntax.w16); ref = λ x. x }, tt)))))) (m77 (c .before .before) (c .before .lay-out-arg4 .given)) (c .lay-out2)
+      abbrev pub After-initialize2·gave : (c : After-initialize2) → s122 (c .before .before .before .before .before .before .before .before .before .before .before .before .before .before .before .before .before .before .before .before .before .before .before .before .before .before .before .before .before .before .before .before .before .before .before .before .before .before .before .before .blocks) .gives (m77 (c .before .before) (c .before .initialize-arg4 .given))
+      After-initialize2·gave = λ c. Called.given ps·0 r·0 (claims· .1) T123 (record { pos = 1; st = List.[]; d = 0; at = λ x. x }, (record { pos = 2; ty = Syntax.tyRef (Syntax.named 0) Syntax.imm (Memory.pointee (T.the-row .written)); ref = λ x. x }, (Bool.bLit Bool'.true, (record { pos = 44; ty = Syntax.tyRef Syntax.erased Syntax.mut (Syntax.tyInt Syntax.w16); ref = λ x. x }, (record { pos = 46; ty = Syntax.tyRef Syntax.erased Syntax.mut (Syntax.tyInt Syntax.w16); ref = λ x. x }, (record { pos = 48; ty = Syntax.tyRef Syntax.erased Syntax.mut (Syntax.tyInt Syntax.w16); ref = λ x. x }, tt)))))) (m77 (c .before .before) (c .before .initialize-arg4 .given)) (c .initialize2)
 
-      abbrev pub m79 : (before : After-lay-out-arg4) → (given : s122 (before .before .before .before .before .before .before .before .before .before .before .before .before .before .before .before .before .before .before .before .before .before .before .before .before .before .before .before .before .before .before .before .before .before .before .before .before .before .before .before .blocks) .gives (m77 (before .before) (before .lay-out-arg4 .given))) → Typed.Mo T125
+      abbrev pub m79 : (before : After-initialize-arg4) → (given : s122 (before .before .before .before .before .before .before .before .before .before .before .before .before .before .before .before .before .before .before .before .before .before .before .before .before .before .before .before .before .before .before .before .before .before .before .before .before .before .before .before .blocks) .gives (m77 (before .before) (before .initialize-arg4 .given))) → Typed.Mo T125
       m79 = λ before given. s123 (before .before .before .before .before .before .before .before .before .before .before .before .before .before .before .before .before .before .before .before .before .before .before .before .before .before .before .before .before .before .before .before .before .before .before .before .before .before .before .before .blocks) (m78 before given)
 
-      abbrev pub m80 : (before : After-lay-out2) → (given : s125 (before .before .before .before .before .before .before .before .before .before .before .before .before .before .before .before .before .before .before .before .before .before .before .before .before .before .before .before .before .before .before .before .before .before .before .before .before .before .before .before .before .blocks) .gives (m79 (before .before) (After-lay-out2·gave before))) → Typed.Mo T127
-      m80 = λ before given. s125 (before .before .before .before .before .before .before .before .before .before .before .before .before .before .before .before .before .before .before .before .before .before .before .before .before .before .before .before .before .before .before .before .before .before .before .before .before .before .before .before .before .blocks) .next (m79 (before .before) (After-lay-out2·gave before)) given
+      abbrev pub m80 : (before : After-initialize2) → (given : s125 (before .before .before .before .before .before .before .before .before .before .before .before .before .before .before .before .before .before .before .before .before .before .before .before .before .before .before .before .before .before .before .before .before .before .before .before .before .before .before .before .before .blocks) .gives (m79 (before .before) (After-initialize2·gave before))) → Typed.Mo T127
+      m80 = λ before given. s125 (before .before .before .before .before .before .before .before .before .before .before .before .before .before .before .before .before .before .before .before .before .before .before .before .before .before .before .before .before .before .before .before .before .before .before .before .before .before .before .before .before .blocks) .next (m79 (before .before) (After-initialize2·gave before)) given
 
-      module _ (before· : After-lay-out2) where
+      module _ (before· : After-initialize2) where
         pub record After-marks·own : Type 0 where
-          pub given : s125 (before· .before .before .before .before .before .before .before .before .before .before .before .before .before .before .before .before .before .before .before .before .before .before .before .before .before .before .before .before .before .before .before .before .before .before .before .before .before .before .before .before .blocks) .gives (m79 (before· .before) (After-lay-out2·gave before·))
+          pub given : s125 (before· .before .before .before .before .before .before .before .before .before .before .before .before .before .before .before .before .before .before .before .before .before .before .before .before .before .before .before .before .before .before .before .before .before .before .before .before .before .before .before .before .blocks) .gives (m79 (before· .before) (After-initialize2·gave before·))
 
       pub record After-marks : Type 0 where
-        pub before : After-lay-out2
+        pub before : After-initialize2
         pub marks : After-marks·own before
 
       abbrev pub m81 : (before : After-marks) → (given : s126 (before .before .before .before .before .before .before .before .before .before .before .before .before .before .before .before .before .before .before .before .before .before .before .before .before .before .before .before .before .before .before .before .before .before .before .before .before .before .before .before .before .before .blocks) .gives (m80 (before .before) (before .marks .given))) → Typed.Mo T128
@@ -5235,7 +5235,7 @@ module _ (claims· : Claims) where
       abbrev pub Need-returns : Type 0
       Need-returns = (c : After-slice-known15) → Post· (c .before .before .before .before .before .before .before .before .before .before .before .before .before .before .before .before .before .before .before .before .before .before .before .before .before .before .before .before .before .before .before .before .before .before .before .before .before .before .before .before .before .before .before .before .before .before .before .before .before .before .before .before .before .before .before .before .before .before .before .before .before .before .before .before .before .before .before .before .before .before .κs) (dens (c .before .before .before .before .before .before .before .before .before .before .before .before .before .before .before .before .before .before .before .before .before .before .before .before .before .before .before .before .before .before .before .before .before .before .before .before .before .before .before .before .before .before .before .before .before .before .before .before .before .before .before .before .before .before .before .before .before .before .before .before .before .before .before .before .before .before .before .before .before .before .κs) (c .before .before .before .before .before .before .before .before .before .before .before .before .before .before .before .before .before .before .before .before .before .before .before .before .before .before .before .before .before .before .before .before .before .before .before .before .before .before .before .before .before .before .before .before .before .before .before .before .before .before .before .before .before .before .before .before .before .before .before .before .before .before .before .before .before .before .before .before .before .before .args)) (Function.resV r (c .before .before .before .before .before .before .before .before .before .before .before .before .before .before .before .before .before .before .before .before .before .before .before .before .before .before .before .before .before .before .before .before .before .before .before .before .before .before .before .before .before .before .before .before .before .before .before .before .before .before .before .before .before .before .before .before .before .before .before .before .before .before .before .before .before .before .before .before .before .before .κs) (m139 (c .before) (c .slice-known15 .given) .0)) (Clauses.atExit (Kinds.endedOf 7 ps r) (c .before .before .before .before .before .before .before .before .before .before .before .before .before .before .before .before .before .before .before .before .before .before .before .before .before .before .before .before .before .before .before .before .before .before .before .before .before .before .before .before .before .before .before .before .before .before .before .before .before .before .before .before .before .before .before .before .before .before .before .before .before .before .before .before .before .before .before .before .before .before .κs) (dens (c .before .before .before .before .before .before .before .before .before .before .before .before .before .before .before .before .before .before .before .before .before .before .before .before .before .before .before .before .before .before .before .before .before .before .before .before .before .before .before .before .before .before .before .before .before .before .before .before .before .before .before .before .before .before .before .before .before .before .before .before .before .before .before .before .before .before .before .before .before .before .κs) (c .before .before .before .before .before .before .before .before .before .before .before .before .before .before .before .before .before .before .before .before .before .before .before .before .before .before .before .before .before .before .before .before .before .before .before .before .before .before .before .before .before .before .before .before .before .before .before .before .before .before .before .before .before .before .before .before .before .before .before .before .before .before .before .before .before .before .before .before .before .before .args)) (Enter.lastsP (c .before .before .before .before .before .before .before .before .before .before .before .before .before .before .before .before .before .before .before .before .before .before .before .before .before .before .before .before .before .before .before .before .before .before .before .before .before .before .before .before .before .before .before .before .before .before .before .before .before .before .before .before .before .before .before .before .before .before .before .before .before .before .before .before .before .before .before .before .before .before .κs) 1 ps xs (dens (c .before .before .before .before .before .before .before .before .before .before .before .before .before .before .before .before .before .before .before .before .before .before .before .before .before .before .before .before .before .before .before .before .before .before .before .before .before .before .before .before .before .before .before .before .before .before .before .before .before .before .before .before .before .before .before .before .before .before .before .before .before .before .before .before .before .before .before .before .before .before .κs) (c .before .before .before .before .before .before .before .before .before .before .before .before .before .before .before .before .before .before .before .before .before .before .before .before .before .before .before .before .before .before .before .before .before .before .before .before .before .before .before .before .before .before .before .before .before .before .before .before .before .before .before .before .before .before .before .before .before .before .before .before .before .before .before .before .before .before .before .before .before .before .args)) (m139 (c .before) (c .slice-known15 .given) .1)))
 
-      module _ (slice-aggregate-lay-out : Need-slice-aggregate-lay-out) (lay-out-requires : Need-lay-out-requires) (slice-aggregate-index-all : Need-slice-aggregate-index-all) (slice-aggregate-index-all-2 : Need-slice-aggregate-index-all-2) (slice-aggregate-index-all-3 : Need-slice-aggregate-index-all-3) (slice-aggregate-index-all-4 : Need-slice-aggregate-index-all-4) (index-all-requires : Need-index-all-requires) (slice-aggregate-propagate-in : Need-slice-aggregate-propagate-in) (slice-aggregate-propagate-in-2 : Need-slice-aggregate-propagate-in-2) (slice-aggregate-propagate-in-3 : Need-slice-aggregate-propagate-in-3) (slice-aggregate-propagate-in-4 : Need-slice-aggregate-propagate-in-4) (propagate-in-requires : Need-propagate-in-requires) (slice-aggregate-lay-out-2 : Need-slice-aggregate-lay-out-2) (lay-out-requires-2 : Need-lay-out-requires-2) (slice-aggregate-propagate-in-5 : Need-slice-aggregate-propagate-in-5) (slice-aggregate-propagate-in-6 : Need-slice-aggregate-propagate-in-6) (slice-aggregate-propagate-in-7 : Need-slice-aggregate-propagate-in-7) (slice-aggregate-propagate-in-8 : Need-slice-aggregate-propagate-in-8) (propagate-in-requires-2 : Need-propagate-in-requires-2) (judge-all-requires : Need-judge-all-requires) (fill-requires : Need-fill-requires) (same-length : Need-same-length) (same-length-2 : Need-same-length-2) (same-length-3 : Need-same-length-3) (same-length-4 : Need-same-length-4) (returns : Need-returns) where
+      module _ (slice-aggregate-initialize : Need-slice-aggregate-initialize) (initialize-requires : Need-initialize-requires) (slice-aggregate-index-all : Need-slice-aggregate-index-all) (slice-aggregate-index-all-2 : Need-slice-aggregate-index-all-2) (slice-aggregate-index-all-3 : Need-slice-aggregate-index-all-3) (slice-aggregate-index-all-4 : Need-slice-aggregate-index-all-4) (index-all-requires : Need-index-all-requires) (slice-aggregate-propagate-in : Need-slice-aggregate-propagate-in) (slice-aggregate-propagate-in-2 : Need-slice-aggregate-propagate-in-2) (slice-aggregate-propagate-in-3 : Need-slice-aggregate-propagate-in-3) (slice-aggregate-propagate-in-4 : Need-slice-aggregate-propagate-in-4) (propagate-in-requires : Need-propagate-in-requires) (slice-aggregate-initialize-2 : Need-slice-aggregate-initialize-2) (initialize-requires-2 : Need-initialize-requires-2) (slice-aggregate-propagate-in-5 : Need-slice-aggregate-propagate-in-5) (slice-aggregate-propagate-in-6 : Need-slice-aggregate-propagate-in-6) (slice-aggregate-propagate-in-7 : Need-slice-aggregate-propagate-in-7) (slice-aggregate-propagate-in-8 : Need-slice-aggregate-propagate-in-8) (propagate-in-requires-2 : Need-propagate-in-requires-2) (judge-all-requires : Need-judge-all-requires) (fill-requires : Need-fill-requires) (same-length : Need-same-length) (same-length-2 : Need-same-length-2) (same-length-3 : Need-same-length-3) (same-length-4 : Need-same-length-4) (returns : Need-returns) where
         lay11 : (c : After-fill) → at8 (c .before .before .before .before .before .before .before .before .before .before .before .before .before .before .before .before .before .before .before .before .before .before .before .before .before .before .before .before .before .before .before .before .before .before .before .before .before .before .before .before .before .before .before .before .before .before .before .before .before .before .before .before .before .before .before .before .before .before .before .before .before .before .before .before .before .before .before .before .blocks) (W0 (c .before .before .before .before .before .before .before .before .before .before .before .before .before .before .before .before .before .before .before .before .before .before .before .before .before .before .before .before .before .before .before .before .before .before .before .before .before .before .before .before .before .before .before .before .before .before .before .before .before .before .before .before .before .before .before .before .before .before .before .before .before .before .before .before .before .before .before .before .κs) (c .before .before .before .before .before .before .before .before .before .before .before .before .before .before .before .before .before .before .before .before .before .before .before .before .before .before .before .before .before .before .before .before .before .before .before .before .before .before .before .before .before .before .before .before .before .before .before .before .before .before .before .before .before .before .before .before .before .before .before .before .before .before .before .before .before .before .before .before .args) (c .before .before .before .before .before .before .before .before .before .before .before .before .before .before .before .before .before .before .before .before .before .before .before .before .before .before .before .before .before .before .before .before .before .before .before .before .before .before .before .before .before .before .before .before .before .before .before .before .before .before .before .before .before .before .before .before .before .before .before .before .before .before .before .before .before .before .before .before .blocks)) (m133 (c .before) (After-fill·gave c))
         lay11 = λ c. (Path'.refl, λ g. λ g'. ((tt, (Path'.refl, (Path'.refl, (Path'.refl, (MutSlice.fix-len (Row.get 5 (T224 .locals) (m139 record { before = record { before = c .before; fill = c .fill }; scratch3 = record { given = g } } g') .ptr) (Row.get 5 (T224 .locals) (m139 record { before = record { before = c .before; fill = c .fill }; scratch3 = record { given = g } } g') .name) (Row.get 5 (T224 .locals) (m139 record { before = record { before = c .before; fill = c .fill }; scratch3 = record { given = g } } g') .now) (dens (c .before .before .before .before .before .before .before .before .before .before .before .before .before .before .before .before .before .before .before .before .before .before .before .before .before .before .before .before .before .before .before .before .before .before .before .before .before .before .before .before .before .before .before .before .before .before .before .before .before .before .before .before .before .before .before .before .before .before .before .before .before .before .before .before .before .before .before .before .κs) (c .before .before .before .before .before .before .before .before .before .before .before .before .before .before .before .before .before .before .before .before .before .before .before .before .before .before .before .before .before .before .before .before .before .before .before .before .before .before .before .before .before .before .before .before .before .before .before .before .before .before .before .before .before .before .before .before .before .before .before .before .before .before .before .before .before .before .before .before .args) .1 .1 .1 .1 .0 .now) (same-length record { before = record { before = record { before = c .before; fill = c .fill }; scratch3 = record { given = g } }; slice-known15 = record { given = g' } }), (MutSlice.fix-len (Row.get 6 (T224 .locals) (m139 record { before = record { before = c .before; fill = c .fill }; scratch3 = record { given = g } } g') .ptr) (Row.get 6 (T224 .locals) (m139 record { before = record { before = c .before; fill = c .fill }; scratch3 = record { given = g } } g') .name) (Row.get 6 (T224 .locals) (m139 record { before = record { before = c .before; fill = c .fill }; scratch3 = record { given = g } } g') .now) (dens (c .before .before .before .before .before .before .before .before .before .before .before .before .before .before .before .before .before .before .before .before .before .before .before .before .before .before .before .before .before .before .before .before .before .before .before .before .before .before .before .before .before .before .before .before .before .before .before .before .before .before .before .before .before .before .before .before .before .before .before .before .before .before .before .before .before .before .before .before .κs) (c .before .before .before .before .before .before .before .before .before .before .before .before .before .before .before .before .before .before .before .before .before .before .before .before .before .before .before .before .before .before .before .before .before .before .before .before .before .before .before .before .before .before .before .before .before .before .before .before .before .before .before .before .before .before .before .before .before .before .before .before .before .before .before .before .before .before .before .before .args) .1 .1 .1 .1 .1 .0 .now) (same-length-2 record { before = record { before = record { before = c .before; fill = c .fill }; scratch3 = record { given = g } }; slice-known15 = record { given = g' } }), (MutSlice.fix-len (Row.get 7 (T224 .locals) (m139 record { before = record { before = c .before; fill = c .fill }; scratch3 = record { given = g } } g') .ptr) (Row.get 7 (T224 .locals) (m139 record { before = record { before = c .before; fill = c .fill }; scratch3 = record { given = g } } g') .name) (Row.get 7 (T224 .locals) (m139 record { before = record { before = c .before; fill = c .fill }; scratch3 = record { given = g } } g') .now) (dens (c .before .before .before .before .before .before .before .before .before .before .before .before .before .before .before .before .before .before .before .before .before .before .before .before .before .before .before .before .before .before .before .before .before .before .before .before .before .before .before .before .before .before .before .before .before .before .before .before .before .before .before .before .before .before .before .before .before .before .before .before .before .before .before .before .before .before .before .before .κs) (c .before .before .before .before .before .before .before .before .before .before .before .before .before .before .before .before .before .before .before .before .before .before .before .before .before .before .before .before .before .before .before .before .before .before .before .before .before .before .before .before .before .before .before .before .before .before .before .before .before .before .before .before .before .before .before .before .before .before .before .before .before .before .before .before .before .before .before .before .args) .1 .1 .1 .1 .1 .1 .0 .now) (same-length-3 record { before = record { before = record { before = c .before; fill = c .fill }; scratch3 = record { given = g } }; slice-known15 = record { given = g' } }), (MutSlice.fix-len (Row.get 8 (T224 .locals) (m139 record { before = record { before = c .before; fill = c .fill }; scratch3 = record { given = g } } g') .ptr) (Row.get 8 (T224 .locals) (m139 record { before = record { before = c .before; fill = c .fill }; scratch3 = record { given = g } } g') .name) (Row.get 8 (T224 .locals) (m139 record { before = record { before = c .before; fill = c .fill }; scratch3 = record { given = g } } g') .now) (dens (c .before .before .before .before .before .before .before .before .before .before .before .before .before .before .before .before .before .before .before .before .before .before .before .before .before .before .before .before .before .before .before .before .before .before .before .before .before .before .before .before .before .before .before .before .before .before .before .before .before .before .before .before .before .before .before .before .before .before .before .before .before .before .before .before .before .before .before .before .κs) (c .before .before .before .before .before .before .before .before .before .before .before .before .before .before .before .before .before .before .before .before .before .before .before .before .before .before .before .before .before .before .before .before .before .before .before .before .before .before .before .before .before .before .before .before .before .before .before .before .before .before .before .before .before .before .before .before .before .before .before .before .before .before .before .before .before .before .before .before .args) .1 .1 .1 .1 .1 .1 .1 .0 .now) (same-length-4 record { before = record { before = record { before = c .before; fill = c .fill }; scratch3 = record { given = g } }; slice-known15 = record { given = g' } }), tt)))))))), returns record { before = record { before = record { before = c .before; fill = c .fill }; scratch3 = record { given = g } }; slice-known15 = record { given = g' } }))
 
@@ -5251,14 +5251,14 @@ module _ (claims· : Claims) where
         lay7 : (c : After-propagate-in-arg6) → at68 (c .before .before .before .before .before .before .before .before .before .before .before .before .before .before .before .before .before .before .before .before .before .before .before .before .before .before .before .before .before .before .before .before .before .before .before .before .before .before .before .before .before .before .before .before .before .before .before .before .before .before .before .before .blocks) (W0 (c .before .before .before .before .before .before .before .before .before .before .before .before .before .before .before .before .before .before .before .before .before .before .before .before .before .before .before .before .before .before .before .before .before .before .before .before .before .before .before .before .before .before .before .before .before .before .before .before .before .before .before .before .κs) (c .before .before .before .before .before .before .before .before .before .before .before .before .before .before .before .before .before .before .before .before .before .before .before .before .before .before .before .before .before .before .before .before .before .before .before .before .before .before .before .before .before .before .before .before .before .before .before .before .before .before .before .before .args) (c .before .before .before .before .before .before .before .before .before .before .before .before .before .before .before .before .before .before .before .before .before .before .before .before .before .before .before .before .before .before .before .before .before .before .before .before .before .before .before .before .before .before .before .before .before .before .before .before .before .before .before .before .blocks)) (m97 (c .before) (c .propagate-in-arg6 .given))
         lay7 = λ c. (Path'.refl, (propagate-in-requires-2 record { before = c .before; propagate-in-arg6 = c .propagate-in-arg6 }, λ g. lay8 record { before = record { before = c .before; propagate-in-arg6 = c .propagate-in-arg6 }; propagate-in2 = Called.called ps·2 r·2 (claims· .5) T157 (record { pos = 1; st = List.[]; d = 0; at = λ x. x }, (record { pos = 50; ty = Syntax.tyRef Syntax.erased Syntax.imm (Syntax.tyInt Syntax.w16); ref = λ x. x }, (record { pos = 3; ty = Syntax.tyRef (Syntax.named 1) Syntax.imm (Syntax.tyInt Syntax.w16); ref = λ x. x }, (record { pos = 4; ty = Syntax.tyRef (Syntax.named 2) Syntax.imm (Syntax.tyInt Syntax.w16); ref = λ x. x }, (record { pos = 52; ty = Syntax.tyRef Syntax.erased Syntax.imm (Syntax.tyInt Syntax.w16); ref = λ x. x }, (record { pos = 54; ty = Syntax.tyRef Syntax.erased Syntax.imm (Syntax.tyInt Syntax.w16); ref = λ x. x }, (record { pos = 56; ty = Syntax.tyRef Syntax.erased Syntax.imm (Syntax.tyInt Syntax.w16); ref = λ x. x }, (record { pos = 58; ty = Syntax.tyRef Syntax.erased Syntax.mut (Syntax.tyInt Syntax.w16); ref = λ x. x }, (record { pos = 60; ty = Syntax.tyRef Syntax.erased Syntax.mut (Syntax.tyInt Syntax.w16); ref = λ x. x }, (record { pos = 62; ty = Syntax.tyRef Syntax.erased Syntax.mut (Syntax.tyInt Syntax.w16); ref = λ x. x }, tt)))))))))) (m98 (c .before) (c .propagate-in-arg6 .given)) g }))
 
-        lay6 : (c : After-lay-out2) → at100 (c .before .before .before .before .before .before .before .before .before .before .before .before .before .before .before .before .before .before .before .before .before .before .before .before .before .before .before .before .before .before .before .before .before .before .before .before .before .before .before .before .blocks) (W0 (c .before .before .before .before .before .before .before .before .before .before .before .before .before .before .before .before .before .before .before .before .before .before .before .before .before .before .before .before .before .before .before .before .before .before .before .before .before .before .before .before .κs) (c .before .before .before .before .before .before .before .before .before .before .before .before .before .before .before .before .before .before .before .before .before .before .before .before .before .before .before .before .before .before .before .before .before .before .before .before .before .before .before .before .args) (c .before .before .before .before .before .before .before .before .before .before .before .before .before .before .before .before .before .before .before .before .before .before .before .before .before .before .before .before .before .before .before .before .before .before .before .before .before .before .before .before .blocks)) (m78 (c .before) (After-lay-out2·gave c))
-        lay6 = λ c. (Path'.refl, λ g. λ g'. (Path'.refl, λ g''. (Path'.refl, λ g'3. λ g'4. λ g'5. (Path'.refl, λ g'6. (Relend.count-is T141 51 52 (λ x. x) (λ u. 1024) (m87 record { before = record { before = record { before = record { before = record { before = record { before = record { before = c .before; lay-out2 = c .lay-out2 }; marks = record { given = g } }; slice-known9 = record { given = g' } }; watch7 = record { given = g'' } }; commands2 = record { given = g'3 } }; slice-known10 = record { given = g'4 } }; propagate-in-arg4 = record { given = g'5 } } g'6) (slice-aggregate-propagate-in-5 record { before = record { before = record { before = record { before = record { before = record { before = record { before = record { before = c .before; lay-out2 = c .lay-out2 }; marks = record { given = g } }; slice-known9 = record { given = g' } }; watch7 = record { given = g'' } }; commands2 = record { given = g'3 } }; slice-known10 = record { given = g'4 } }; propagate-in-arg4 = record { given = g'5 } }; offsets4 = record { given = g'6 } }), λ g'7. (Relend.count-is T144 53 54 (λ x. x) (λ u. 16384) (m89 record { before = record { before = record { before = record { before = record { before = record { before = record { before = record { before = c .before; lay-out2 = c .lay-out2 }; marks = record { given = g } }; slice-known9 = record { given = g' } }; watch7 = record { given = g'' } }; commands2 = record { given = g'3 } }; slice-known10 = record { given = g'4 } }; propagate-in-arg4 = record { given = g'5 } }; offsets4 = record { given = g'6 } } g'7) (slice-aggregate-propagate-in-6 record { before = record { before = record { before = record { before = record { before = record { before = record { before = record { before = record { before = c .before; lay-out2 = c .lay-out2 }; marks = record { given = g } }; slice-known9 = record { given = g' } }; watch7 = record { given = g'' } }; commands2 = record { given = g'3 } }; slice-known10 = record { given = g'4 } }; propagate-in-arg4 = record { given = g'5 } }; offsets4 = record { given = g'6 } }; users4 = record { given = g'7 } }), λ g'8. (Relend.count-is T147 55 56 (λ x. x) (λ u. 4096) (m91 record { before = record { before = record { before = record { before = record { before = record { before = record { before = record { before = record { before = c .before; lay-out2 = c .lay-out2 }; marks = record { given = g } }; slice-known9 = record { given = g' } }; watch7 = record { given = g'' } }; commands2 = record { given = g'3 } }; slice-known10 = record { given = g'4 } }; propagate-in-arg4 = record { given = g'5 } }; offsets4 = record { given = g'6 } }; users4 = record { given = g'7 } } g'8) (slice-aggregate-propagate-in-7 record { before = record { before = record { before = record { before = record { before = record { before = record { before = record { before = record { before = record { before = c .before; lay-out2 = c .lay-out2 }; marks = record { given = g } }; slice-known9 = record { given = g' } }; watch7 = record { given = g'' } }; commands2 = record { given = g'3 } }; slice-known10 = record { given = g'4 } }; propagate-in-arg4 = record { given = g'5 } }; offsets4 = record { given = g'6 } }; users4 = record { given = g'7 } }; owner4 = record { given = g'8 } }), λ g'9. (Path'.refl, λ g'10. (Relend.count-is T153 59 60 (λ x. x) (λ u. 1024) (m95 record { before = record { before = record { before = record { before = record { before = record { before = record { before = record { before = record { before = record { before = record { before = c .before; lay-out2 = c .lay-out2 }; marks = record { given = g } }; slice-known9 = record { given = g' } }; watch7 = record { given = g'' } }; commands2 = record { given = g'3 } }; slice-known10 = record { given = g'4 } }; propagate-in-arg4 = record { given = g'5 } }; offsets4 = record { given = g'6 } }; users4 = record { given = g'7 } }; owner4 = record { given = g'8 } }; propagate-in-arg5 = record { given = g'9 } } g'10) (slice-aggregate-propagate-in-8 record { before = record { before = record { before = record { before = record { before = record { before = record { before = record { before = record { before = record { before = record { before = record { before = c .before; lay-out2 = c .lay-out2 }; marks = record { given = g } }; slice-known9 = record { given = g' } }; watch7 = record { given = g'' } }; commands2 = record { given = g'3 } }; slice-known10 = record { given = g'4 } }; propagate-in-arg4 = record { given = g'5 } }; offsets4 = record { given = g'6 } }; users4 = record { given = g'7 } }; owner4 = record { given = g'8 } }; propagate-in-arg5 = record { given = g'9 } }; watch8 = record { given = g'10 } }), λ g'11. lay7 record { before = record { before = record { before = record { before = record { before = record { before = record { before = record { before = record { before = record { before = record { before = record { before = record { before = c .before; lay-out2 = c .lay-out2 }; marks = record { given = g } }; slice-known9 = record { given = g' } }; watch7 = record { given = g'' } }; commands2 = record { given = g'3 } }; slice-known10 = record { given = g'4 } }; propagate-in-arg4 = record { given = g'5 } }; offsets4 = record { given = g'6 } }; users4 = record { given = g'7 } }; owner4 = record { given = g'8 } }; propagate-in-arg5 = record { given = g'9 } }; watch8 = record { given = g'10 } }; propagate-in-arg6 = record { given = g'11 } })))))))))
+        lay6 : (c : After-initialize2) → at100 (c .before .before .before .before .before .before .before .before .before .before .before .before .before .before .before .before .before .before .before .before .before .before .before .before .before .before .before .before .before .before .before .before .before .before .before .before .before .before .before .before .blocks) (W0 (c .before .before .before .before .before .before .before .before .before .before .before .before .before .before .before .before .before .before .before .before .before .before .before .before .before .before .before .before .before .before .before .before .before .before .before .before .before .before .before .before .κs) (c .before .before .before .before .before .before .before .before .before .before .before .before .before .before .before .before .before .before .before .before .before .before .before .before .before .before .before .before .before .before .before .before .before .before .before .before .before .before .before .before .args) (c .before .before .before .before .before .before .before .before .before .before .before .before .before .before .before .before .before .before .before .before .before .before .before .before .before .before .before .before .before .before .before .before .before .before .before .before .before .before .before .before .blocks)) (m78 (c .before) (After-initialize2·gave c))
+        lay6 = λ c. (Path'.refl, λ g. λ g'. (Path'.refl, λ g''. (Path'.refl, λ g'3. λ g'4. λ g'5. (Path'.refl, λ g'6. (Relend.count-is T141 51 52 (λ x. x) (λ u. 1024) (m87 record { before = record { before = record { before = record { before = record { before = record { before = record { before = c .before; initialize2 = c .initialize2 }; marks = record { given = g } }; slice-known9 = record { given = g' } }; watch7 = record { given = g'' } }; commands2 = record { given = g'3 } }; slice-known10 = record { given = g'4 } }; propagate-in-arg4 = record { given = g'5 } } g'6) (slice-aggregate-propagate-in-5 record { before = record { before = record { before = record { before = record { before = record { before = record { before = record { before = c .before; initialize2 = c .initialize2 }; marks = record { given = g } }; slice-known9 = record { given = g' } }; watch7 = record { given = g'' } }; commands2 = record { given = g'3 } }; slice-known10 = record { given = g'4 } }; propagate-in-arg4 = record { given = g'5 } }; offsets4 = record { given = g'6 } }), λ g'7. (Relend.count-is T144 53 54 (λ x. x) (λ u. 16384) (m89 record { before = record { before = record { before = record { before = record { before = record { before = record { before = record { before = c .before; initialize2 = c .initialize2 }; marks = record { given = g } }; slice-known9 = record { given = g' } }; watch7 = record { given = g'' } }; commands2 = record { given = g'3 } }; slice-known10 = record { given = g'4 } }; propagate-in-arg4 = record { given = g'5 } }; offsets4 = record { given = g'6 } } g'7) (slice-aggregate-propagate-in-6 record { before = record { before = record { before = record { before = record { before = record { before = record { before = record { before = record { before = c .before; initialize2 = c .initialize2 }; marks = record { given = g } }; slice-known9 = record { given = g' } }; watch7 = record { given = g'' } }; commands2 = record { given = g'3 } }; slice-known10 = record { given = g'4 } }; propagate-in-arg4 = record { given = g'5 } }; offsets4 = record { given = g'6 } }; users4 = record { given = g'7 } }), λ g'8. (Relend.count-is T147 55 56 (λ x. x) (λ u. 4096) (m91 record { before = record { before = record { before = record { before = record { before = record { before = record { before = record { before = record { before = c .before; initialize2 = c .initialize2 }; marks = record { given = g } }; slice-known9 = record { given = g' } }; watch7 = record { given = g'' } }; commands2 = record { given = g'3 } }; slice-known10 = record { given = g'4 } }; propagate-in-arg4 = record { given = g'5 } }; offsets4 = record { given = g'6 } }; users4 = record { given = g'7 } } g'8) (slice-aggregate-propagate-in-7 record { before = record { before = record { before = record { before = record { before = record { before = record { before = record { before = record { before = record { before = c .before; initialize2 = c .initialize2 }; marks = record { given = g } }; slice-known9 = record { given = g' } }; watch7 = record { given = g'' } }; commands2 = record { given = g'3 } }; slice-known10 = record { given = g'4 } }; propagate-in-arg4 = record { given = g'5 } }; offsets4 = record { given = g'6 } }; users4 = record { given = g'7 } }; owner4 = record { given = g'8 } }), λ g'9. (Path'.refl, λ g'10. (Relend.count-is T153 59 60 (λ x. x) (λ u. 1024) (m95 record { before = record { before = record { before = record { before = record { before = record { before = record { before = record { before = record { before = record { before = record { before = c .before; initialize2 = c .initialize2 }; marks = record { given = g } }; slice-known9 = record { given = g' } }; watch7 = record { given = g'' } }; commands2 = record { given = g'3 } }; slice-known10 = record { given = g'4 } }; propagate-in-arg4 = record { given = g'5 } }; offsets4 = record { given = g'6 } }; users4 = record { given = g'7 } }; owner4 = record { given = g'8 } }; propagate-in-arg5 = record { given = g'9 } } g'10) (slice-aggregate-propagate-in-8 record { before = record { before = record { before = record { before = record { before = record { before = record { before = record { before = record { before = record { before = record { before = record { before = c .before; initialize2 = c .initialize2 }; marks = record { given = g } }; slice-known9 = record { given = g' } }; watch7 = record { given = g'' } }; commands2 = record { given = g'3 } }; slice-known10 = record { given = g'4 } }; propagate-in-arg4 = record { given = g'5 } }; offsets4 = record { given = g'6 } }; users4 = record { given = g'7 } }; owner4 = record { given = g'8 } }; propagate-in-arg5 = record { given = g'9 } }; watch8 = record { given = g'10 } }), λ g'11. lay7 record { before = record { before = record { before = record { before = record { before = record { before = record { before = record { before = record { before = record { before = record { before = record { before = record { before = c .before; initialize2 = c .initialize2 }; marks = record { given = g } }; slice-known9 = record { given = g' } }; watch7 = record { given = g'' } }; commands2 = record { given = g'3 } }; slice-known10 = record { given = g'4 } }; propagate-in-arg4 = record { given = g'5 } }; offsets4 = record { given = g'6 } }; users4 = record { given = g'7 } }; owner4 = record { given = g'8 } }; propagate-in-arg5 = record { given = g'9 } }; watch8 = record { given = g'10 } }; propagate-in-arg6 = record { given = g'11 } })))))))))
 
-        lay5 : (c : After-lay-out-arg3) → at106 (c .before .before .before .before .before .before .before .before .before .before .before .before .before .before .before .before .before .before .before .before .before .before .before .before .before .before .before .before .before .before .before .before .before .before .before .before .before .blocks) (W0 (c .before .before .before .before .before .before .before .before .before .before .before .before .before .before .before .before .before .before .before .before .before .before .before .before .before .before .before .before .before .before .before .before .before .before .before .before .before .κs) (c .before .before .before .before .before .before .before .before .before .before .before .before .before .before .before .before .before .before .before .before .before .before .before .before .before .before .before .before .before .before .before .before .before .before .before .before .before .args) (c .before .before .before .before .before .before .before .before .before .before .before .before .before .before .before .before .before .before .before .before .before .before .before .before .before .before .before .before .before .before .before .before .before .before .before .before .before .blocks)) (m73 (c .before) (c .lay-out-arg3 .given))
-        lay5 = λ c. λ g. (Relend.count-is T119 45 46 (λ x. x) (λ u. 1024) (m74 record { before = c .before; lay-out-arg3 = c .lay-out-arg3 } g) (slice-aggregate-lay-out-2 record { before = record { before = c .before; lay-out-arg3 = c .lay-out-arg3 }; watch6 = record { given = g } }), λ g'. (Path'.refl, (lay-out-requires-2 record { before = record { before = record { before = c .before; lay-out-arg3 = c .lay-out-arg3 }; watch6 = record { given = g } }; lay-out-arg4 = record { given = g' } }, λ g''. lay6 record { before = record { before = record { before = record { before = c .before; lay-out-arg3 = c .lay-out-arg3 }; watch6 = record { given = g } }; lay-out-arg4 = record { given = g' } }; lay-out2 = Called.called ps·0 r·0 (claims· .1) T123 (record { pos = 1; st = List.[]; d = 0; at = λ x. x }, (record { pos = 2; ty = Syntax.tyRef (Syntax.named 0) Syntax.imm (Memory.pointee (T.the-row .written)); ref = λ x. x }, (Bool.bLit Bool'.true, (record { pos = 44; ty = Syntax.tyRef Syntax.erased Syntax.mut (Syntax.tyInt Syntax.w16); ref = λ x. x }, (record { pos = 46; ty = Syntax.tyRef Syntax.erased Syntax.mut (Syntax.tyInt Syntax.w16); ref = λ x. x }, (record { pos = 48; ty = Syntax.tyRef Syntax.erased Syntax.mut (Syntax.tyInt Syntax.w16); ref = λ x. x }, tt)))))) (m77 record { before = record { before = c .before; lay-out-arg3 = c .lay-out-arg3 }; watch6 = record { given = g } } g') g'' })))
+        lay5 : (c : After-initialize-arg3) → at106 (c .before .before .before .before .before .before .before .before .before .before .before .before .before .before .before .before .before .before .before .before .before .before .before .before .before .before .before .before .before .before .before .before .before .before .before .before .before .blocks) (W0 (c .before .before .before .before .before .before .before .before .before .before .before .before .before .before .before .before .before .before .before .before .before .before .before .before .before .before .before .before .before .before .before .before .before .before .before .before .before .κs) (c .before .before .before .before .before .before .before .before .before .before .before .before .before .before .before .before .before .before .before .before .before .before .before .before .before .before .before .before .before .before .before .before .before .before .before .before .before .args) (c .before .before .before .before .before .before .before .before .before .before .before .before .before .before .before .before .before .before .before .before .before .before .before .before .before .before .before .before .before .before .before .before .before .before .before .before .before .blocks)) (m73 (c .before) (c .initialize-arg3 .given))
+        lay5 = λ c. λ g. (Relend.count-is T119 45 46 (λ x. x) (λ u. 1024) (m74 record { before = c .before; initialize-arg3 = c .initialize-arg3 } g) (slice-aggregate-initialize-2 record { before = record { before = c .before; initialize-arg3 = c .initialize-arg3 }; watch6 = record { given = g } }), λ g'. (Path'.refl, (initialize-requires-2 record { before = record { before = record { before = c .before; initialize-arg3 = c .initialize-arg3 }; watch6 = record { given = g } }; initialize-arg4 = record { given = g' } }, λ g''. lay6 record { before = record { before = record { before = record { before = c .before; initialize-arg3 = c .initialize-arg3 }; watch6 = record { given = g } }; initialize-arg4 = record { given = g' } }; initialize2 = Called.called ps·0 r·0 (claims· .1) T123 (record { pos = 1; st = List.[]; d = 0; at = λ x. x }, (record { pos = 2; ty = Syntax.tyRef (Syntax.named 0) Syntax.imm (Memory.pointee (T.the-row .written)); ref = λ x. x }, (Bool.bLit Bool'.true, (record { pos = 44; ty = Syntax.tyRef Syntax.erased Syntax.mut (Syntax.tyInt Syntax.w16); ref = λ x. x }, (record { pos = 46; ty = Syntax.tyRef Syntax.erased Syntax.mut (Syntax.tyInt Syntax.w16); ref = λ x. x }, (record { pos = 48; ty = Syntax.tyRef Syntax.erased Syntax.mut (Syntax.tyInt Syntax.w16); ref = λ x. x }, tt)))))) (m77 record { before = record { before = c .before; initialize-arg3 = c .initialize-arg3 }; watch6 = record { given = g } } g') g'' })))
 
         lay4 : (c : After-propagate-in) → at138 (c .before .before .before .before .before .before .before .before .before .before .before .before .before .before .before .before .before .before .before .before .before .before .before .before .before .before .before .before .before .before .before .blocks) (W0 (c .before .before .before .before .before .before .before .before .before .before .before .before .before .before .before .before .before .before .before .before .before .before .before .before .before .before .before .before .before .before .before .κs) (c .before .before .before .before .before .before .before .before .before .before .before .before .before .before .before .before .before .before .before .before .before .before .before .before .before .before .before .before .before .before .before .args) (c .before .before .before .before .before .before .before .before .before .before .before .before .before .before .before .before .before .before .before .before .before .before .before .before .before .before .before .before .before .before .before .blocks)) (m57 (c .before) (After-propagate-in·gave c))
-        lay4 = λ c. (Path'.refl, λ g. λ g'. (Path'.refl, λ g''. (Path'.refl, λ g'3. λ g'4. λ g'5. (Path'.refl, lay5 record { before = record { before = record { before = record { before = record { before = record { before = record { before = c .before; propagate-in = c .propagate-in }; ranks2 = record { given = g } }; slice-known7 = record { given = g' } }; watch5 = record { given = g'' } }; scratch = record { given = g'3 } }; slice-known8 = record { given = g'4 } }; lay-out-arg3 = record { given = g'5 } }))))
+        lay4 = λ c. (Path'.refl, λ g. λ g'. (Path'.refl, λ g''. (Path'.refl, λ g'3. λ g'4. λ g'5. (Path'.refl, lay5 record { before = record { before = record { before = record { before = record { before = record { before = record { before = c .before; propagate-in = c .propagate-in }; ranks2 = record { given = g } }; slice-known7 = record { given = g' } }; watch5 = record { given = g'' } }; scratch = record { given = g'3 } }; slice-known8 = record { given = g'4 } }; initialize-arg3 = record { given = g'5 } }))))
 
         lay3 : (c : After-watch4) → at142 (c .before .before .before .before .before .before .before .before .before .before .before .before .before .before .before .before .before .before .before .before .before .before .before .before .before .before .before .before .before .blocks) (W0 (c .before .before .before .before .before .before .before .before .before .before .before .before .before .before .before .before .before .before .before .before .before .before .before .before .before .before .before .before .before .κs) (c .before .before .before .before .before .before .before .before .before .before .before .before .before .before .before .before .before .before .before .before .before .before .before .before .before .before .before .before .before .args) (c .before .before .before .before .before .before .before .before .before .before .before .before .before .before .before .before .before .before .before .before .before .before .before .before .before .before .before .before .before .blocks)) (m54 (c .before) (c .watch4 .given))
         lay3 = λ c. λ g. (Path'.refl, (propagate-in-requires record { before = record { before = c .before; watch4 = c .watch4 }; propagate-in-arg3 = record { given = g } }, λ g'. lay4 record { before = record { before = record { before = c .before; watch4 = c .watch4 }; propagate-in-arg3 = record { given = g } }; propagate-in = Called.called ps·2 r·2 (claims· .5) T85 (record { pos = 1; st = List.[]; d = 0; at = λ x. x }, (record { pos = 30; ty = Syntax.tyRef Syntax.erased Syntax.imm (Syntax.tyInt Syntax.w16); ref = λ x. x }, (record { pos = 3; ty = Syntax.tyRef (Syntax.named 1) Syntax.imm (Syntax.tyInt Syntax.w16); ref = λ x. x }, (record { pos = 4; ty = Syntax.tyRef (Syntax.named 2) Syntax.imm (Syntax.tyInt Syntax.w16); ref = λ x. x }, (record { pos = 32; ty = Syntax.tyRef Syntax.erased Syntax.imm (Syntax.tyInt Syntax.w16); ref = λ x. x }, (record { pos = 34; ty = Syntax.tyRef Syntax.erased Syntax.imm (Syntax.tyInt Syntax.w16); ref = λ x. x }, (record { pos = 36; ty = Syntax.tyRef Syntax.erased Syntax.imm (Syntax.tyInt Syntax.w16); ref = λ x. x }, (record { pos = 38; ty = Syntax.tyRef Syntax.erased Syntax.mut (Syntax.tyInt Syntax.w16); ref = λ x. x }, (record { pos = 40; ty = Syntax.tyRef Syntax.erased Syntax.mut (Syntax.tyInt Syntax.w16); ref = λ x. x }, (record { pos = 42; ty = Syntax.tyRef Syntax.erased Syntax.mut (Syntax.tyInt Syntax.w16); ref = λ x. x }, tt)))))))))) (m56 record { before = c .before; watch4 = c .watch4 } g) g' }))
@@ -5266,16 +5266,16 @@ module _ (claims· : Claims) where
         lay2 : (c : After-index-all) → at174 (c .before .before .before .before .before .before .before .before .before .before .before .before .before .before .before .before .before .before .before .before .blocks) (W0 (c .before .before .before .before .before .before .before .before .before .before .before .before .before .before .before .before .before .before .before .before .κs) (c .before .before .before .before .before .before .before .before .before .before .before .before .before .before .before .before .before .before .before .before .args) (c .before .before .before .before .before .before .before .before .before .before .before .before .before .before .before .before .before .before .before .before .blocks)) (m36 (c .before) (After-index-all·gave c))
         lay2 = λ c. (Path'.refl, λ g. (Path'.refl, λ g'. (Path'.refl, λ g''. λ g'3. (Path'.refl, λ g'4. (Relend.count-is T69 31 32 (λ x. x) (λ u. 1024) (m45 record { before = record { before = record { before = record { before = record { before = c .before; index-all = c .index-all }; owner2 = record { given = g } }; offsets2 = record { given = g' } }; users2 = record { given = g'' } }; propagate-in-arg = record { given = g'3 } } g'4) (slice-aggregate-propagate-in record { before = record { before = record { before = record { before = record { before = record { before = c .before; index-all = c .index-all }; owner2 = record { given = g } }; offsets2 = record { given = g' } }; users2 = record { given = g'' } }; propagate-in-arg = record { given = g'3 } }; offsets3 = record { given = g'4 } }), λ g'5. (Relend.count-is T72 33 34 (λ x. x) (λ u. 16384) (m47 record { before = record { before = record { before = record { before = record { before = record { before = c .before; index-all = c .index-all }; owner2 = record { given = g } }; offsets2 = record { given = g' } }; users2 = record { given = g'' } }; propagate-in-arg = record { given = g'3 } }; offsets3 = record { given = g'4 } } g'5) (slice-aggregate-propagate-in-2 record { before = record { before = record { before = record { before = record { before = record { before = record { before = c .before; index-all = c .index-all }; owner2 = record { given = g } }; offsets2 = record { given = g' } }; users2 = record { given = g'' } }; propagate-in-arg = record { given = g'3 } }; offsets3 = record { given = g'4 } }; users3 = record { given = g'5 } }), λ g'6. (Relend.count-is T75 35 36 (λ x. x) (λ u. 4096) (m49 record { before = record { before = record { before = record { before = record { before = record { before = record { before = c .before; index-all = c .index-all }; owner2 = record { given = g } }; offsets2 = record { given = g' } }; users2 = record { given = g'' } }; propagate-in-arg = record { given = g'3 } }; offsets3 = record { given = g'4 } }; users3 = record { given = g'5 } } g'6) (slice-aggregate-propagate-in-3 record { before = record { before = record { before = record { before = record { before = record { before = record { before = record { before = c .before; index-all = c .index-all }; owner2 = record { given = g } }; offsets2 = record { given = g' } }; users2 = record { given = g'' } }; propagate-in-arg = record { given = g'3 } }; offsets3 = record { given = g'4 } }; users3 = record { given = g'5 } }; owner3 = record { given = g'6 } }), λ g'7. (Path'.refl, λ g'8. (Relend.count-is T81 39 40 (λ x. x) (λ u. 1024) (m53 record { before = record { before = record { before = record { before = record { before = record { before = record { before = record { before = record { before = c .before; index-all = c .index-all }; owner2 = record { given = g } }; offsets2 = record { given = g' } }; users2 = record { given = g'' } }; propagate-in-arg = record { given = g'3 } }; offsets3 = record { given = g'4 } }; users3 = record { given = g'5 } }; owner3 = record { given = g'6 } }; propagate-in-arg2 = record { given = g'7 } } g'8) (slice-aggregate-propagate-in-4 record { before = record { before = record { before = record { before = record { before = record { before = record { before = record { before = record { before = record { before = c .before; index-all = c .index-all }; owner2 = record { given = g } }; offsets2 = record { given = g' } }; users2 = record { given = g'' } }; propagate-in-arg = record { given = g'3 } }; offsets3 = record { given = g'4 } }; users3 = record { given = g'5 } }; owner3 = record { given = g'6 } }; propagate-in-arg2 = record { given = g'7 } }; watch4 = record { given = g'8 } }), lay3 record { before = record { before = record { before = record { before = record { before = record { before = record { before = record { before = record { before = record { before = c .before; index-all = c .index-all }; owner2 = record { given = g } }; offsets2 = record { given = g' } }; users2 = record { given = g'' } }; propagate-in-arg = record { given = g'3 } }; offsets3 = record { given = g'4 } }; users3 = record { given = g'5 } }; owner3 = record { given = g'6 } }; propagate-in-arg2 = record { given = g'7 } }; watch4 = record { given = g'8 } })))))))))
 
-        lay1 : (c : After-lay-out) → at199 (c .before .before .before .before .before .before .before .before .before .before .blocks) (W0 (c .before .before .before .before .before .before .before .before .before .before .κs) (c .before .before .before .before .before .before .before .before .before .before .args) (c .before .before .before .before .before .before .before .before .before .before .blocks)) (m21 (c .before) (After-lay-out·gave c))
-        lay1 = λ c. (Path'.refl, λ g. λ g'. (Path'.refl, λ g''. (Path'.refl, λ g'3. λ g'4. λ g'5. (Relend.count-is T39 21 22 (λ x. x) (λ u. 1024) (m28 record { before = record { before = record { before = record { before = record { before = record { before = c .before; lay-out = c .lay-out }; ranks = record { given = g } }; slice-known5 = record { given = g' } }; watch2 = record { given = g'' } }; commands = record { given = g'3 } }; slice-known6 = record { given = g'4 } } g'5) (slice-aggregate-index-all record { before = record { before = record { before = record { before = record { before = record { before = record { before = c .before; lay-out = c .lay-out }; ranks = record { given = g } }; slice-known5 = record { given = g' } }; watch2 = record { given = g'' } }; commands = record { given = g'3 } }; slice-known6 = record { given = g'4 } }; watch3 = record { given = g'5 } }), λ g'6. (Relend.count-is T42 23 24 (λ x. x) (λ u. 4096) (m30 record { before = record { before = record { before = record { before = record { before = record { before = record { before = c .before; lay-out = c .lay-out }; ranks = record { given = g } }; slice-known5 = record { given = g' } }; watch2 = record { given = g'' } }; commands = record { given = g'3 } }; slice-known6 = record { given = g'4 } }; watch3 = record { given = g'5 } } g'6) (slice-aggregate-index-all-2 record { before = record { before = record { before = record { before = record { before = record { before = record { before = record { before = c .before; lay-out = c .lay-out }; ranks = record { given = g } }; slice-known5 = record { given = g' } }; watch2 = record { given = g'' } }; commands = record { given = g'3 } }; slice-known6 = record { given = g'4 } }; watch3 = record { given = g'5 } }; owner = record { given = g'6 } }), λ g'7. (Relend.count-is T45 25 26 (λ x. x) (λ u. 1024) (m32 record { before = record { before = record { before = record { before = record { before = record { before = record { before = record { before = c .before; lay-out = c .lay-out }; ranks = record { given = g } }; slice-known5 = record { given = g' } }; watch2 = record { given = g'' } }; commands = record { given = g'3 } }; slice-known6 = record { given = g'4 } }; watch3 = record { given = g'5 } }; owner = record { given = g'6 } } g'7) (slice-aggregate-index-all-3 record { before = record { before = record { before = record { before = record { before = record { before = record { before = record { before = record { before = c .before; lay-out = c .lay-out }; ranks = record { given = g } }; slice-known5 = record { given = g' } }; watch2 = record { given = g'' } }; commands = record { given = g'3 } }; slice-known6 = record { given = g'4 } }; watch3 = record { given = g'5 } }; owner = record { given = g'6 } }; offsets = record { given = g'7 } }), λ g'8. (Relend.count-is T48 27 28 (λ x. x) (λ u. 16384) (m34 record { before = record { before = record { before = record { before = record { before = record { before = record { before = record { before = record { before = c .before; lay-out = c .lay-out }; ranks = record { given = g } }; slice-known5 = record { given = g' } }; watch2 = record { given = g'' } }; commands = record { given = g'3 } }; slice-known6 = record { given = g'4 } }; watch3 = record { given = g'5 } }; owner = record { given = g'6 } }; offsets = record { given = g'7 } } g'8) (slice-aggregate-index-all-4 record { before = record { before = record { before = record { before = record { before = record { before = record { before = record { before = record { before = record { before = c .before; lay-out = c .lay-out }; ranks = record { given = g } }; slice-known5 = record { given = g' } }; watch2 = record { given = g'' } }; commands = record { given = g'3 } }; slice-known6 = record { given = g'4 } }; watch3 = record { given = g'5 } }; owner = record { given = g'6 } }; offsets = record { given = g'7 } }; users = record { given = g'8 } }), (index-all-requires record { before = record { before = record { before = record { before = record { before = record { before = record { before = record { before = record { before = record { before = c .before; lay-out = c .lay-out }; ranks = record { given = g } }; slice-known5 = record { given = g' } }; watch2 = record { given = g'' } }; commands = record { given = g'3 } }; slice-known6 = record { given = g'4 } }; watch3 = record { given = g'5 } }; owner = record { given = g'6 } }; offsets = record { given = g'7 } }; users = record { given = g'8 } }, λ g'9. lay2 record { before = record { before = record { before = record { before = record { before = record { before = record { before = record { before = record { before = record { before = record { before = c .before; lay-out = c .lay-out }; ranks = record { given = g } }; slice-known5 = record { given = g' } }; watch2 = record { given = g'' } }; commands = record { given = g'3 } }; slice-known6 = record { given = g'4 } }; watch3 = record { given = g'5 } }; owner = record { given = g'6 } }; offsets = record { given = g'7 } }; users = record { given = g'8 } }; index-all = Called.called ps·1 r·1 (claims· .3) T49 (record { pos = 1; st = List.[]; d = 0; at = λ x. x }, (record { pos = 22; ty = Syntax.tyRef Syntax.erased Syntax.imm (Syntax.tyInt Syntax.w16); ref = λ x. x }, (record { pos = 3; ty = Syntax.tyRef (Syntax.named 1) Syntax.imm (Syntax.tyInt Syntax.w16); ref = λ x. x }, (record { pos = 4; ty = Syntax.tyRef (Syntax.named 2) Syntax.imm (Syntax.tyInt Syntax.w16); ref = λ x. x }, (record { pos = 24; ty = Syntax.tyRef Syntax.erased Syntax.mut (Syntax.tyInt Syntax.w16); ref = λ x. x }, (record { pos = 26; ty = Syntax.tyRef Syntax.erased Syntax.mut (Syntax.tyInt Syntax.w16); ref = λ x. x }, (record { pos = 28; ty = Syntax.tyRef Syntax.erased Syntax.mut (Syntax.tyInt Syntax.w16); ref = λ x. x }, tt))))))) (m35 record { before = record { before = record { before = record { before = record { before = record { before = record { before = record { before = record { before = c .before; lay-out = c .lay-out }; ranks = record { given = g } }; slice-known5 = record { given = g' } }; watch2 = record { given = g'' } }; commands = record { given = g'3 } }; slice-known6 = record { given = g'4 } }; watch3 = record { given = g'5 } }; owner = record { given = g'6 } }; offsets = record { given = g'7 } } g'8) g'9 }))))))))
+        lay1 : (c : After-initialize) → at199 (c .before .before .before .before .before .before .before .before .before .before .blocks) (W0 (c .before .before .before .before .before .before .before .before .before .before .κs) (c .before .before .before .before .before .before .before .before .before .before .args) (c .before .before .before .before .before .before .before .before .before .before .blocks)) (m21 (c .before) (After-initialize·gave c))
+        lay1 = λ c. (Path'.refl, λ g. λ g'. (Path'.refl, λ g''. (Path'.refl, λ g'3. λ g'4. λ g'5. (Relend.count-is T39 21 22 (λ x. x) (λ u. 1024) (m28 record { before = record { before = record { before = record { before = record { before = record { before = c .before; initialize = c .initialize }; ranks = record { given = g } }; slice-known5 = record { given = g' } }; watch2 = record { given = g'' } }; commands = record { given = g'3 } }; slice-known6 = record { given = g'4 } } g'5) (slice-aggregate-index-all record { before = record { before = record { before = record { before = record { before = record { before = record { before = c .before; initialize = c .initialize }; ranks = record { given = g } }; slice-known5 = record { given = g' } }; watch2 = record { given = g'' } }; commands = record { given = g'3 } }; slice-known6 = record { given = g'4 } }; watch3 = record { given = g'5 } }), λ g'6. (Relend.count-is T42 23 24 (λ x. x) (λ u. 4096) (m30 record { before = record { before = record { before = record { before = record { before = record { before = record { before = c .before; initialize = c .initialize }; ranks = record { given = g } }; slice-known5 = record { given = g' } }; watch2 = record { given = g'' } }; commands = record { given = g'3 } }; slice-known6 = record { given = g'4 } }; watch3 = record { given = g'5 } } g'6) (slice-aggregate-index-all-2 record { before = record { before = record { before = record { before = record { before = record { before = record { before = record { before = c .before; initialize = c .initialize }; ranks = record { given = g } }; slice-known5 = record { given = g' } }; watch2 = record { given = g'' } }; commands = record { given = g'3 } }; slice-known6 = record { given = g'4 } }; watch3 = record { given = g'5 } }; owner = record { given = g'6 } }), λ g'7. (Relend.count-is T45 25 26 (λ x. x) (λ u. 1024) (m32 record { before = record { before = record { before = record { before = record { before = record { before = record { before = record { before = c .before; initialize = c .initialize }; ranks = record { given = g } }; slice-known5 = record { given = g' } }; watch2 = record { given = g'' } }; commands = record { given = g'3 } }; slice-known6 = record { given = g'4 } }; watch3 = record { given = g'5 } }; owner = record { given = g'6 } } g'7) (slice-aggregate-index-all-3 record { before = record { before = record { before = record { before = record { before = record { before = record { before = record { before = record { before = c .before; initialize = c .initialize }; ranks = record { given = g } }; slice-known5 = record { given = g' } }; watch2 = record { given = g'' } }; commands = record { given = g'3 } }; slice-known6 = record { given = g'4 } }; watch3 = record { given = g'5 } }; owner = record { given = g'6 } }; offsets = record { given = g'7 } }), λ g'8. (Relend.count-is T48 27 28 (λ x. x) (λ u. 16384) (m34 record { before = record { before = record { before = record { before = record { before = record { before = record { before = record { before = record { before = c .before; initialize = c .initialize }; ranks = record { given = g } }; slice-known5 = record { given = g' } }; watch2 = record { given = g'' } }; commands = record { given = g'3 } }; slice-known6 = record { given = g'4 } }; watch3 = record { given = g'5 } }; owner = record { given = g'6 } }; offsets = record { given = g'7 } } g'8) (slice-aggregate-index-all-4 record { before = record { before = record { before = record { before = record { before = record { before = record { before = record { before = record { before = record { before = c .before; initialize = c .initialize }; ranks = record { given = g } }; slice-known5 = record { given = g' } }; watch2 = record { given = g'' } }; commands = record { given = g'3 } }; slice-known6 = record { given = g'4 } }; watch3 = record { given = g'5 } }; owner = record { given = g'6 } }; offsets = record { given = g'7 } }; users = record { given = g'8 } }), (index-all-requires record { before = record { before = record { before = record { before = record { before = record { before = record { before = record { before = record { before = record { before = c .before; initialize = c .initialize }; ranks = record { given = g } }; slice-known5 = record { given = g' } }; watch2 = record { given = g'' } }; commands = record { given = g'3 } }; slice-known6 = record { given = g'4 } }; watch3 = record { given = g'5 } }; owner = record { given = g'6 } }; offsets = record { given = g'7 } }; users = record { given = g'8 } }, λ g'9. lay2 record { before = record { before = record { before = record { before = record { before = record { before = record { before = record { before = record { before = record { before = record { before = c .before; initialize = c .initialize }; ranks = record { given = g } }; slice-known5 = record { given = g' } }; watch2 = record { given = g'' } }; commands = record { given = g'3 } }; slice-known6 = record { given = g'4 } }; watch3 = record { given = g'5 } }; owner = record { given = g'6 } }; offsets = record { given = g'7 } }; users = record { given = g'8 } }; index-all = Called.called ps·1 r·1 (claims· .3) T49 (record { pos = 1; st = List.[]; d = 0; at = λ x. x }, (record { pos = 22; ty = Syntax.tyRef Syntax.erased Syntax.imm (Syntax.tyInt Syntax.w16); ref = λ x. x }, (record { pos = 3; ty = Syntax.tyRef (Syntax.named 1) Syntax.imm (Syntax.tyInt Syntax.w16); ref = λ x. x }, (record { pos = 4; ty = Syntax.tyRef (Syntax.named 2) Syntax.imm (Syntax.tyInt Syntax.w16); ref = λ x. x }, (record { pos = 24; ty = Syntax.tyRef Syntax.erased Syntax.mut (Syntax.tyInt Syntax.w16); ref = λ x. x }, (record { pos = 26; ty = Syntax.tyRef Syntax.erased Syntax.mut (Syntax.tyInt Syntax.w16); ref = λ x. x }, (record { pos = 28; ty = Syntax.tyRef Syntax.erased Syntax.mut (Syntax.tyInt Syntax.w16); ref = λ x. x }, tt))))))) (m35 record { before = record { before = record { before = record { before = record { before = record { before = record { before = record { before = record { before = c .before; initialize = c .initialize }; ranks = record { given = g } }; slice-known5 = record { given = g' } }; watch2 = record { given = g'' } }; commands = record { given = g'3 } }; slice-known6 = record { given = g'4 } }; watch3 = record { given = g'5 } }; owner = record { given = g'6 } }; offsets = record { given = g'7 } } g'8) g'9 }))))))))
 
         pub laid : (c : Start) → at223 (c .blocks) (W0 (c .κs) (c .args) (c .blocks)) (m0 (c .κs) (c .args) (c .blocks))
-        laid = λ c. λ g. λ g'. λ g''. λ g'3. λ g'4. λ g'5. λ g'6. (Path'.refl, λ g'7. (Relend.count-is T20 17 18 (λ x. x) (λ u. 1024) (m17 record { before = record { before = record { before = record { before = record { before = record { before = record { before = c; shared-slice-known = record { given = g } }; shared-slice-known2 = record { given = g' } }; slice-known = record { given = g'' } }; slice-known2 = record { given = g'3 } }; slice-known3 = record { given = g'4 } }; slice-known4 = record { given = g'5 } }; lay-out-arg = record { given = g'6 } } g'7) (slice-aggregate-lay-out record { before = record { before = record { before = record { before = record { before = record { before = record { before = record { before = c; shared-slice-known = record { given = g } }; shared-slice-known2 = record { given = g' } }; slice-known = record { given = g'' } }; slice-known2 = record { given = g'3 } }; slice-known3 = record { given = g'4 } }; slice-known4 = record { given = g'5 } }; lay-out-arg = record { given = g'6 } }; watch = record { given = g'7 } }), λ g'8. (Path'.refl, (lay-out-requires record { before = record { before = record { before = record { before = record { before = record { before = record { before = record { before = record { before = c; shared-slice-known = record { given = g } }; shared-slice-known2 = record { given = g' } }; slice-known = record { given = g'' } }; slice-known2 = record { given = g'3 } }; slice-known3 = record { given = g'4 } }; slice-known4 = record { given = g'5 } }; lay-out-arg = record { given = g'6 } }; watch = record { given = g'7 } }; lay-out-arg2 = record { given = g'8 } }, λ g'9. lay1 record { before = record { before = record { before = record { before = record { before = record { before = record { before = record { before = record { before = record { before = c; shared-slice-known = record { given = g } }; shared-slice-known2 = record { given = g' } }; slice-known = record { given = g'' } }; slice-known2 = record { given = g'3 } }; slice-known3 = record { given = g'4 } }; slice-known4 = record { given = g'5 } }; lay-out-arg = record { given = g'6 } }; watch = record { given = g'7 } }; lay-out-arg2 = record { given = g'8 } }; lay-out = Called.called ps·0 r·0 (claims· .1) T24 (record { pos = 1; st = List.[]; d = 0; at = λ x. x }, (record { pos = 2; ty = Syntax.tyRef (Syntax.named 0) Syntax.imm (Memory.pointee (T.the-row .written)); ref = λ x. x }, (Bool.bLit Bool'.false, (record { pos = 16; ty = Syntax.tyRef Syntax.erased Syntax.mut (Syntax.tyInt Syntax.w16); ref = λ x. x }, (record { pos = 18; ty = Syntax.tyRef Syntax.erased Syntax.mut (Syntax.tyInt Syntax.w16); ref = λ x. x }, (record { pos = 20; ty = Syntax.tyRef Syntax.erased Syntax.mut (Syntax.tyInt Syntax.w16); ref = λ x. x }, tt)))))) (m20 record { before = record { before = record { before = record { before = record { before = record { before = record { before = record { before = c; shared-slice-known = record { given = g } }; shared-slice-known2 = record { given = g' } }; slice-known = record { given = g'' } }; slice-known2 = record { given = g'3 } }; slice-known3 = record { given = g'4 } }; slice-known4 = record { given = g'5 } }; lay-out-arg = record { given = g'6 } }; watch = record { given = g'7 } } g'8) g'9 }))))
+        laid = λ c. λ g. λ g'. λ g''. λ g'3. λ g'4. λ g'5. λ g'6. (Path'.refl, λ g'7. (Relend.count-is T20 17 18 (λ x. x) (λ u. 1024) (m17 record { before = record { before = record { before = record { before = record { before = record { before = record { before = c; shared-slice-known = record { given = g } }; shared-slice-known2 = record { given = g' } }; slice-known = record { given = g'' } }; slice-known2 = record { given = g'3 } }; slice-known3 = record { given = g'4 } }; slice-known4 = record { given = g'5 } }; initialize-arg = record { given = g'6 } } g'7) (slice-aggregate-initialize record { before = record { before = record { before = record { before = record { before = record { before = record { before = record { before = c; shared-slice-known = record { given = g } }; shared-slice-known2 = record { given = g' } }; slice-known = record { given = g'' } }; slice-known2 = record { given = g'3 } }; slice-known3 = record { given = g'4 } }; slice-known4 = record { given = g'5 } }; initialize-arg = record { given = g'6 } }; watch = record { given = g'7 } }), λ g'8. (Path'.refl, (initialize-requires record { before = record { before = record { before = record { before = record { before = record { before = record { before = record { before = record { before = c; shared-slice-known = record { given = g } }; shared-slice-known2 = record { given = g' } }; slice-known = record { given = g'' } }; slice-known2 = record { given = g'3 } }; slice-known3 = record { given = g'4 } }; slice-known4 = record { given = g'5 } }; initialize-arg = record { given = g'6 } }; watch = record { given = g'7 } }; initialize-arg2 = record { given = g'8 } }, λ g'9. lay1 record { before = record { before = record { before = record { before = record { before = record { before = record { before = record { before = record { before = record { before = c; shared-slice-known = record { given = g } }; shared-slice-known2 = record { given = g' } }; slice-known = record { given = g'' } }; slice-known2 = record { given = g'3 } }; slice-known3 = record { given = g'4 } }; slice-known4 = record { given = g'5 } }; initialize-arg = record { given = g'6 } }; watch = record { given = g'7 } }; initialize-arg2 = record { given = g'8 } }; initialize = Called.called ps·0 r·0 (claims· .1) T24 (record { pos = 1; st = List.[]; d = 0; at = λ x. x }, (record { pos = 2; ty = Syntax.tyRef (Syntax.named 0) Syntax.imm (Memory.pointee (T.the-row .written)); ref = λ x. x }, (Bool.bLit Bool'.false, (record { pos = 16; ty = Syntax.tyRef Syntax.erased Syntax.mut (Syntax.tyInt Syntax.w16); ref = λ x. x }, (record { pos = 18; ty = Syntax.tyRef Syntax.erased Syntax.mut (Syntax.tyInt Syntax.w16); ref = λ x. x }, (record { pos = 20; ty = Syntax.tyRef Syntax.erased Syntax.mut (Syntax.tyInt Syntax.w16); ref = λ x. x }, tt)))))) (m20 record { before = record { before = record { before = record { before = record { before = record { before = record { before = record { before = c; shared-slice-known = record { given = g } }; shared-slice-known2 = record { given = g' } }; slice-known = record { given = g'' } }; slice-known2 = record { given = g'3 } }; slice-known3 = record { given = g'4 } }; slice-known4 = record { given = g'5 } }; initialize-arg = record { given = g'6 } }; watch = record { given = g'7 } } g'8) g'9 }))))
 
         module _ (κs : Lifetimes.Lfts 7) (qs : Lifetimes.Shares 7) where
           pub asked : (a : Kinds.Dens κs ps) → (good : Kinds.GoodsP κs ps a) → (pre : Pre· κs a) → (bs : List.List Nat.ℕ) → Φ bs (Any.wantQ 7 ps r xs m κs qs a (Post· κs a)) (Function.init 7 ps r xs m κs qs a)
           asked = λ a good pre bs. laid record { κs = κs; args = record { size = a .0; rows = a .1 .0; firsts = a .1 .1 .0; outcomes = a .1 .1 .1 .0; ranks = a .1 .1 .1 .1 .0; commands = a .1 .1 .1 .1 .1 .0; marks = a .1 .1 .1 .1 .1 .1 .0; scratch = a .1 .1 .1 .1 .1 .1 .1 .0 }; blocks = bs; good = good; pre = pre }
 
-        module _ {M : Type 1} (𝓤 : URA.URA M) (H : Wp.Heap 𝓤) (A : Atoms.Atoms 𝓤) (W : Kit.Given 𝓤 H A) (𝓣 : Wp.Tables 𝓤 H) (known0 : Plain.Known 𝓤 H A W 𝓣 4 ps·0 r·0 (claims· .0) (claims· .1) "decide::nets::lay_out") (known1 : Plain.Known 𝓤 H A W 𝓣 6 ps·1 r·1 (claims· .2) (claims· .3) "decide::working::index_all") (known2 : Plain.Known 𝓤 H A W 𝓣 9 ps·2 r·2 (claims· .4) (claims· .5) "decide::working::propagate_in") (known3 : Plain.Known 𝓤 H A W 𝓣 6 ps·3 r·3 (claims· .6) (claims· .7) "decide::verdicts::judge_all") (known4 : Plain.Known 𝓤 H A W 𝓣 1 ps·4 r·4 (claims· .8) (claims· .9) "tables::internal::fill") where
+        module _ {M : Type 1} (𝓤 : URA.URA M) (H : Wp.Heap 𝓤) (A : Atoms.Atoms 𝓤) (W : Kit.Given 𝓤 H A) (𝓣 : Wp.Tables 𝓤 H) (known0 : Plain.Known 𝓤 H A W 𝓣 4 ps·0 r·0 (claims· .0) (claims· .1) "decide::nets::initialize") (known1 : Plain.Known 𝓤 H A W 𝓣 6 ps·1 r·1 (claims· .2) (claims· .3) "decide::working::index_all") (known2 : Plain.Known 𝓤 H A W 𝓣 9 ps·2 r·2 (claims· .4) (claims· .5) "decide::working::propagate_in") (known3 : Plain.Known 𝓤 H A W 𝓣 6 ps·3 r·3 (claims· .6) (claims· .7) "decide::verdicts::judge_all") (known4 : Plain.Known 𝓤 H A W 𝓣 1 ps·4 r·4 (claims· .8) (claims· .9) "tables::internal::fill") where
           pub spec : Statement.Triple 𝓤 (Wp.WpFn 𝓤 H (𝓣 .C) (𝓣 .Λ) (Function.fnOf 7 ps r xs m hs body)) (Function.plainOf 𝓤 H A 7 ps r Pre· Post·)
           spec = Plain.t-fn-plain 𝓤 H A W 𝓣 7 ps r xs m hs body (λ κs qs bs. Φ bs) (λ κs qs bs bd. typed κs qs 𝓤 H A W 𝓣 (known0, known1, known2, known3, known4) bs bd) Pre· Post· asked

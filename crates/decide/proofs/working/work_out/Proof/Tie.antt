@@ -1,7 +1,7 @@
 -- `decide::working::work_out`, over rows. Made by tools/rows, and checked like every proof.
-use Rattle.decide.proofs.nets.lay_out.Met
-use Rattle.decide.proofs.RowReads.NetsLayOut as Reads
-use Rattle.decide.proofs.nets.lay_out.Symbol
+use Rattle.decide.proofs.nets.initialize.Met
+use Rattle.decide.proofs.RowReads.NetsInitialize as Reads
+use Rattle.decide.proofs.nets.initialize.Symbol
 use Rattle.decide.proofs.verdicts.judge_all.Met as Met'
 use Rattle.decide.proofs.RowReads.VerdictsJudgeAll as Reads'
 use Rattle.decide.proofs.verdicts.judge_all.Symbol as Symbol'
@@ -44,17 +44,17 @@ After-slice-known3 = Lts.After-slice-known3 (Reads.Asked, Reads.Learnt, Reads''.
 abbrev pub After-slice-known4 : Type 0
 After-slice-known4 = Lts.After-slice-known4 (Reads.Asked, Reads.Learnt, Reads''.Asked, Reads''.Learnt, Reads'3.Asked, Reads'3.Learnt, Reads'.Asked, Reads'.Learnt, Reads'5.Asked, Reads'5.Learnt) Reads'4.Pre Reads'4.Post
 
-abbrev pub After-lay-out-arg : Type 0
-After-lay-out-arg = Lts.After-lay-out-arg (Reads.Asked, Reads.Learnt, Reads''.Asked, Reads''.Learnt, Reads'3.Asked, Reads'3.Learnt, Reads'.Asked, Reads'.Learnt, Reads'5.Asked, Reads'5.Learnt) Reads'4.Pre Reads'4.Post
+abbrev pub After-initialize-arg : Type 0
+After-initialize-arg = Lts.After-initialize-arg (Reads.Asked, Reads.Learnt, Reads''.Asked, Reads''.Learnt, Reads'3.Asked, Reads'3.Learnt, Reads'.Asked, Reads'.Learnt, Reads'5.Asked, Reads'5.Learnt) Reads'4.Pre Reads'4.Post
 
 abbrev pub After-watch : Type 0
 After-watch = Lts.After-watch (Reads.Asked, Reads.Learnt, Reads''.Asked, Reads''.Learnt, Reads'3.Asked, Reads'3.Learnt, Reads'.Asked, Reads'.Learnt, Reads'5.Asked, Reads'5.Learnt) Reads'4.Pre Reads'4.Post
 
-abbrev pub After-lay-out-arg2 : Type 0
-After-lay-out-arg2 = Lts.After-lay-out-arg2 (Reads.Asked, Reads.Learnt, Reads''.Asked, Reads''.Learnt, Reads'3.Asked, Reads'3.Learnt, Reads'.Asked, Reads'.Learnt, Reads'5.Asked, Reads'5.Learnt) Reads'4.Pre Reads'4.Post
+abbrev pub After-initialize-arg2 : Type 0
+After-initialize-arg2 = Lts.After-initialize-arg2 (Reads.Asked, Reads.Learnt, Reads''.Asked, Reads''.Learnt, Reads'3.Asked, Reads'3.Learnt, Reads'.Asked, Reads'.Learnt, Reads'5.Asked, Reads'5.Learnt) Reads'4.Pre Reads'4.Post
 
-abbrev pub After-lay-out : Type 0
-After-lay-out = Lts.After-lay-out (Reads.Asked, Reads.Learnt, Reads''.Asked, Reads''.Learnt, Reads'3.Asked, Reads'3.Learnt, Reads'.Asked, Reads'.Learnt, Reads'5.Asked, Reads'5.Learnt) Reads'4.Pre Reads'4.Post
+abbrev pub After-initialize : Type 0
+After-initialize = Lts.After-initialize (Reads.Asked, Reads.Learnt, Reads''.Asked, Reads''.Learnt, Reads'3.Asked, Reads'3.Learnt, Reads'.Asked, Reads'.Learnt, Reads'5.Asked, Reads'5.Learnt) Reads'4.Pre Reads'4.Post
 
 abbrev pub After-ranks : Type 0
 After-ranks = Lts.After-ranks (Reads.Asked, Reads.Learnt, Reads''.Asked, Reads''.Learnt, Reads'3.Asked, Reads'3.Learnt, Reads'.Asked, Reads'.Learnt, Reads'5.Asked, Reads'5.Learnt) Reads'4.Pre Reads'4.Post
@@ -134,17 +134,17 @@ After-scratch = Lts.After-scratch (Reads.Asked, Reads.Learnt, Reads''.Asked, Rea
 abbrev pub After-slice-known8 : Type 0
 After-slice-known8 = Lts.After-slice-known8 (Reads.Asked, Reads.Learnt, Reads''.Asked, Reads''.Learnt, Reads'3.Asked, Reads'3.Learnt, Reads'.Asked, Reads'.Learnt, Reads'5.Asked, Reads'5.Learnt) Reads'4.Pre Reads'4.Post
 
-abbrev pub After-lay-out-arg3 : Type 0
-After-lay-out-arg3 = Lts.After-lay-out-arg3 (Reads.Asked, Reads.Learnt, Reads''.Asked, Reads''.Learnt, Reads'3.Asked, Reads'3.Learnt, Reads'.Asked, Reads'.Learnt, Reads'5.Asked, Reads'5.Learnt) Reads'4.Pre Reads'4.Post
+abbrev pub After-initialize-arg3 : Type 0
+After-initialize-arg3 = Lts.After-initialize-arg3 (Reads.Asked, Reads.Learnt, Reads''.Asked, Reads''.Learnt, Reads'3.Asked, Reads'3.Learnt, Reads'.Asked, Reads'.Learnt, Reads'5.Asked, Reads'5.Learnt) Reads'4.Pre Reads'4.Post
 
 abbrev pub After-watch6 : Type 0
 After-watch6 = Lts.After-watch6 (Reads.Asked, Reads.Learnt, Reads''.Asked, Reads''.Learnt, Reads'3.Asked, Reads'3.Learnt, Reads'.Asked, Reads'.Learnt, Reads'5.Asked, Reads'5.Learnt) Reads'4.Pre Reads'4.Post
 
-abbrev pub After-lay-out-arg4 : Type 0
-After-lay-out-arg4 = Lts.After-lay-out-arg4 (Reads.Asked, Reads.Learnt, Reads''.Asked, Reads''.Learnt, Reads'3.Asked, Reads'3.Learnt, Reads'.Asked, Reads'.Learnt, Reads'5.Asked, Reads'5.Learnt) Reads'4.Pre Reads'4.Post
+abbrev pub After-initialize-arg4 : Type 0
+After-initialize-arg4 = Lts.After-initialize-arg4 (Reads.Asked, Reads.Learnt, Reads''.Asked, Reads''.Learnt, Reads'3.Asked, Reads'3.Learnt, Reads'.Asked, Reads'.Learnt, Reads'5.Asked, Reads'5.Learnt) Reads'4.Pre Reads'4.Post
 
-abbrev pub After-lay-out2 : Type 0
-After-lay-out2 = Lts.After-lay-out2 (Reads.Asked, Reads.Learnt, Reads''.Asked, Reads''.Learnt, Reads'3.Asked, Reads'3.Learnt, Reads'.Asked, Reads'.Learnt, Reads'5.Asked, Reads'5.Learnt) Reads'4.Pre Reads'4.Post
+abbrev pub After-initialize2 : Type 0
+After-initialize2 = Lts.After-initialize2 (Reads.Asked, Reads.Learnt, Reads''.Asked, Reads''.Learnt, Reads'3.Asked, Reads'3.Learnt, Reads'.Asked, Reads'.Learnt, Reads'5.Asked, Reads'5.Learnt) Reads'4.Pre Reads'4.Post
 
 abbrev pub After-marks : Type 0
 After-marks = Lts.After-marks (Reads.Asked, Reads.Learnt, Reads''.Asked, Reads''.Learnt, Reads'3.Asked, Reads'3.Learnt, Reads'.Asked, Reads'.Learnt, Reads'5.Asked, Reads'5.Learnt) Reads'4.Pre Reads'4.Post
@@ -236,11 +236,11 @@ After-scratch3 = Lts.After-scratch3 (Reads.Asked, Reads.Learnt, Reads''.Asked, R
 abbrev pub After-slice-known15 : Type 0
 After-slice-known15 = Lts.After-slice-known15 (Reads.Asked, Reads.Learnt, Reads''.Asked, Reads''.Learnt, Reads'3.Asked, Reads'3.Learnt, Reads'.Asked, Reads'.Learnt, Reads'5.Asked, Reads'5.Learnt) Reads'4.Pre Reads'4.Post
 
-abbrev pub Need-slice-aggregate-lay-out : Type 0
-Need-slice-aggregate-lay-out = Lts.Need-slice-aggregate-lay-out (Reads.Asked, Reads.Learnt, Reads''.Asked, Reads''.Learnt, Reads'3.Asked, Reads'3.Learnt, Reads'.Asked, Reads'.Learnt, Reads'5.Asked, Reads'5.Learnt) Reads'4.Pre Reads'4.Post
+abbrev pub Need-slice-aggregate-initialize : Type 0
+Need-slice-aggregate-initialize = Lts.Need-slice-aggregate-initialize (Reads.Asked, Reads.Learnt, Reads''.Asked, Reads''.Learnt, Reads'3.Asked, Reads'3.Learnt, Reads'.Asked, Reads'.Learnt, Reads'5.Asked, Reads'5.Learnt) Reads'4.Pre Reads'4.Post
 
-abbrev pub Need-lay-out-requires : Type 0
-Need-lay-out-requires = Lts.Need-lay-out-requires (Reads.Asked, Reads.Learnt, Reads''.Asked, Reads''.Learnt, Reads'3.Asked, Reads'3.Learnt, Reads'.Asked, Reads'.Learnt, Reads'5.Asked, Reads'5.Learnt) Reads'4.Pre Reads'4.Post
+abbrev pub Need-initialize-requires : Type 0
+Need-initialize-requires = Lts.Need-initialize-requires (Reads.Asked, Reads.Learnt, Reads''.Asked, Reads''.Learnt, Reads'3.Asked, Reads'3.Learnt, Reads'.Asked, Reads'.Learnt, Reads'5.Asked, Reads'5.Learnt) Reads'4.Pre Reads'4.Post
 
 abbrev pub Need-slice-aggregate-index-all : Type 0
 Need-slice-aggregate-index-all = Lts.Need-slice-aggregate-index-all (Reads.Asked, Reads.Learnt, Reads''.Asked, Reads''.Learnt, Reads'3.Asked, Reads'3.Learnt, Reads'.Asked, Reads'.Learnt, Reads'5.Asked, Reads'5.Learnt) Reads'4.Pre Reads'4.Post
@@ -272,11 +272,11 @@ Need-slice-aggregate-propagate-in-4 = Lts.Need-slice-aggregate-propagate-in-4 (R
 abbrev pub Need-propagate-in-requires : Type 0
 Need-propagate-in-requires = Lts.Need-propagate-in-requires (Reads.Asked, Reads.Learnt, Reads''.Asked, Reads''.Learnt, Reads'3.Asked, Reads'3.Learnt, Reads'.Asked, Reads'.Learnt, Reads'5.Asked, Reads'5.Learnt) Reads'4.Pre Reads'4.Post
 
-abbrev pub Need-slice-aggregate-lay-out-2 : Type 0
-Need-slice-aggregate-lay-out-2 = Lts.Need-slice-aggregate-lay-out-2 (Reads.Asked, Reads.Learnt, Reads''.Asked, Reads''.Learnt, Reads'3.Asked, Reads'3.Learnt, Reads'.Asked, Reads'.Learnt, Reads'5.Asked, Reads'5.Learnt) Reads'4.Pre Reads'4.Post
+abbrev pub Need-slice-aggregate-initialize-2 : Type 0
+Need-slice-aggregate-initialize-2 = Lts.Need-slice-aggregate-initialize-2 (Reads.Asked, Reads.Learnt, Reads''.Asked, Reads''.Learnt, Reads'3.Asked, Reads'3.Learnt, Reads'.Asked, Reads'.Learnt, Reads'5.Asked, Reads'5.Learnt) Reads'4.Pre Reads'4.Post
 
-abbrev pub Need-lay-out-requires-2 : Type 0
-Need-lay-out-requires-2 = Lts.Need-lay-out-requires-2 (Reads.Asked, Reads.Learnt, Reads''.Asked, Reads''.Learnt, Reads'3.Asked, Reads'3.Learnt, Reads'.Asked, Reads'.Learnt, Reads'5.Asked, Reads'5.Learnt) Reads'4.Pre Reads'4.Post
+abbrev pub Need-initialize-requires-2 : Type 0
+Need-initialize-requires-2 = Lts.Need-initialize-requires-2 (Reads.Asked, Reads.Learnt, Reads''.Asked, Reads''.Learnt, Reads'3.Asked, Reads'3.Learnt, Reads'.Asked, Reads'.Learnt, Reads'5.Asked, Reads'5.Learnt) Reads'4.Pre Reads'4.Post
 
 abbrev pub Need-slice-aggregate-propagate-in-5 : Type 0
 Need-slice-aggregate-propagate-in-5 = Lts.Need-slice-aggregate-propagate-in-5 (Reads.Asked, Reads.Learnt, Reads''.Asked, Reads''.Learnt, Reads'3.Asked, Reads'3.Learnt, Reads'.Asked, Reads'.Learnt, Reads'5.Asked, Reads'5.Learnt) Reads'4.Pre Reads'4.Post
@@ -315,9 +315,9 @@ abbrev pub Need-returns : Type 0
 Need-returns = Lts.Need-returns (Reads.Asked, Reads.Learnt, Reads''.Asked, Reads''.Learnt, Reads'3.Asked, Reads'3.Learnt, Reads'.Asked, Reads'.Learnt, Reads'5.Asked, Reads'5.Learnt) Reads'4.Pre Reads'4.Post
 
 module _ {M : Type 1} where
-  pub spec : (answer : Need-slice-aggregate-lay-out) → (answer : Need-lay-out-requires) → (answer : Need-slice-aggregate-index-all) → (answer : Need-slice-aggregate-index-all-2) → (answer : Need-slice-aggregate-index-all-3) → (answer : Need-slice-aggregate-index-all-4) → (answer : Need-index-all-requires) → (answer : Need-slice-aggregate-propagate-in) → (answer : Need-slice-aggregate-propagate-in-2) → (answer : Need-slice-aggregate-propagate-in-3) → (answer : Need-slice-aggregate-propagate-in-4) → (answer : Need-propagate-in-requires) → (answer : Need-slice-aggregate-lay-out-2) → (answer : Need-lay-out-requires-2) → (answer : Need-slice-aggregate-propagate-in-5) → (answer : Need-slice-aggregate-propagate-in-6) → (answer : Need-slice-aggregate-propagate-in-7) → (answer : Need-slice-aggregate-propagate-in-8) → (answer : Need-propagate-in-requires-2) → (answer : Need-judge-all-requires) → (answer : Need-fill-requires) → (answer : Need-same-length) → (answer : Need-same-length-2) → (answer : Need-same-length-3) → (answer : Need-same-length-4) → (answer : Need-returns) → Lts.Closed (Reads.Asked, Reads.Learnt, Reads''.Asked, Reads''.Learnt, Reads'3.Asked, Reads'3.Learnt, Reads'.Asked, Reads'.Learnt, Reads'5.Asked, Reads'5.Learnt) Reads'4.Pre Reads'4.Post M
+  pub spec : (answer : Need-slice-aggregate-initialize) → (answer : Need-initialize-requires) → (answer : Need-slice-aggregate-index-all) → (answer : Need-slice-aggregate-index-all-2) → (answer : Need-slice-aggregate-index-all-3) → (answer : Need-slice-aggregate-index-all-4) → (answer : Need-index-all-requires) → (answer : Need-slice-aggregate-propagate-in) → (answer : Need-slice-aggregate-propagate-in-2) → (answer : Need-slice-aggregate-propagate-in-3) → (answer : Need-slice-aggregate-propagate-in-4) → (answer : Need-propagate-in-requires) → (answer : Need-slice-aggregate-initialize-2) → (answer : Need-initialize-requires-2) → (answer : Need-slice-aggregate-propagate-in-5) → (answer : Need-slice-aggregate-propagate-in-6) → (answer : Need-slice-aggregate-propagate-in-7) → (answer : Need-slice-aggregate-propagate-in-8) → (answer : Need-propagate-in-requires-2) → (answer : Need-judge-all-requires) → (answer : Need-fill-requires) → (answer : Need-same-length) → (answer : Need-same-length-2) → (answer : Need-same-length-3) → (answer : Need-same-length-4) → (answer : Need-returns) → Lts.Closed (Reads.Asked, Reads.Learnt, Reads''.Asked, Reads''.Learnt, Reads'3.Asked, Reads'3.Learnt, Reads'.Asked, Reads'.Learnt, Reads'5.Asked, Reads'5.Learnt) Reads'4.Pre Reads'4.Post M
   spec = λ answer answer' answer'' answer'3 answer'4 answer'5 answer'6 answer'7 answer'8 answer'9 answer'10 answer'11 answer'12 answer'13 answer'14 answer'15 answer'16 answer'17 answer'18 answer'19 answer'20 answer'21 answer'22 answer'23 answer'24 answer'25. Lts.spec (Reads.Asked, Reads.Learnt, Reads''.Asked, Reads''.Learnt, Reads'3.Asked, Reads'3.Learnt, Reads'.Asked, Reads'.Learnt, Reads'5.Asked, Reads'5.Learnt) Reads'4.Pre Reads'4.Post answer answer' answer'' answer'3 answer'4 answer'5 answer'6 answer'7 answer'8 answer'9 answer'10 answer'11 answer'12 answer'13 answer'14 answer'15 answer'16 answer'17 answer'18 answer'19 answer'20 answer'21 answer'22 answer'23 answer'24 answer'25
 
   pub close : Lts.Closed (Reads.Asked, Reads.Learnt, Reads''.Asked, Reads''.Learnt, Reads'3.Asked, Reads'3.Learnt, Reads'.Asked, Reads'.Learnt, Reads'5.Asked, Reads'5.Learnt) Reads'4.Pre Reads'4.Post M → Statement.statement M
   unfolding Code.routine Running.tablesOf
-  close = λ closed 𝓤 H 𝓜 𝓖 𝓡. Written.close 7 Reads'4.ps Reads'4.r Reads'4.Ghost Reads'4.requires Reads'4.ensures Reads'4.pre-read Reads'4.Pinned Reads'4.Owned Reads'4.post-read record { M = M; 𝓤 = 𝓤; H = H; 𝓜 = 𝓜; 𝓖 = 𝓖; 𝓡 = 𝓡 } Code.env Key.name Code.function (Code.unfolded 𝓤 H 𝓜 𝓡) (λ κs a g. tt) (λ κs. Reads'4.owns κs record { M = M; 𝓤 = 𝓤; H = H; 𝓜 = 𝓜; 𝓖 = 𝓖; 𝓡 = 𝓡 }) (Reads'4.passes record { M = M; 𝓤 = 𝓤; H = H; 𝓜 = 𝓜; 𝓖 = 𝓖; 𝓡 = 𝓡 }) λ g. closed 𝓤 H (𝓖 .A) (Running.givenOf 𝓤 H 𝓜 𝓖) (Run.Over 𝓤 H 𝓜 𝓖 𝓡 Code.env) (Reads.known record { M = M; 𝓤 = 𝓤; H = H; 𝓜 = 𝓜; 𝓖 = 𝓖; 𝓡 = 𝓡 } Code.env Symbol.name Symbol.routine Code.calls-decide·nets·lay-out (Met.met 𝓤 H 𝓜 𝓖 𝓡)) (Reads''.known record { M = M; 𝓤 = 𝓤; H = H; 𝓜 = 𝓜; 𝓖 = 𝓖; 𝓡 = 𝓡 } Code.env Symbol''.name Symbol''.routine Code.calls-decide·working·index-all (Met''.met 𝓤 H 𝓜 𝓖 𝓡)) (Reads'3.known record { M = M; 𝓤 = 𝓤; H = H; 𝓜 = 𝓜; 𝓖 = 𝓖; 𝓡 = 𝓡 } Code.env Symbol'3.name Symbol'3.routine Code.calls-decide·working·propagate-in (Met'3.met 𝓤 H 𝓜 𝓖 𝓡)) (Reads'.known record { M = M; 𝓤 = 𝓤; H = H; 𝓜 = 𝓜; 𝓖 = 𝓖; 𝓡 = 𝓡 } Code.env Symbol'.name Symbol'.routine Code.calls-decide·verdicts·judge-all (Met'.met 𝓤 H 𝓜 𝓖 𝓡)) (Reads'5.known record { M = M; 𝓤 = 𝓤; H = H; 𝓜 = 𝓜; 𝓖 = 𝓖; 𝓡 = 𝓡 } Code.env Symbol'4.name Symbol'4.routine Code.calls-tables·internal·fill (Met'4.met 𝓤 H 𝓜 𝓖 𝓡))
+  close = λ closed 𝓤 H 𝓜 𝓖 𝓡. Written.close 7 Reads'4.ps Reads'4.r Reads'4.Ghost Reads'4.requires Reads'4.ensures Reads'4.pre-read Reads'4.Pinned Reads'4.Owned Reads'4.post-read record { M = M; 𝓤 = 𝓤; H = H; 𝓜 = 𝓜; 𝓖 = 𝓖; 𝓡 = 𝓡 } Code.env Key.name Code.function (Code.unfolded 𝓤 H 𝓜 𝓡) (λ κs a g. tt) (λ κs. Reads'4.owns κs record { M = M; 𝓤 = 𝓤; H = H; 𝓜 = 𝓜; 𝓖 = 𝓖; 𝓡 = 𝓡 }) (Reads'4.passes record { M = M; 𝓤 = 𝓤; H = H; 𝓜 = 𝓜; 𝓖 = 𝓖; 𝓡 = 𝓡 }) λ g. closed 𝓤 H (𝓖 .A) (Running.givenOf 𝓤 H 𝓜 𝓖) (Run.Over 𝓤 H 𝓜 𝓖 𝓡 Code.env) (Reads.known record { M = M; 𝓤 = 𝓤; H = H; 𝓜 = 𝓜; 𝓖 = 𝓖; 𝓡 = 𝓡 } Code.env Symbol.name Symbol.routine Code.calls-decide·nets·initialize (Met.met 𝓤 H 𝓜 𝓖 𝓡)) (Reads''.known record { M = M; 𝓤 = 𝓤; H = H; 𝓜 = 𝓜; 𝓖 = 𝓖; 𝓡 = 𝓡 } Code.env Symbol''.name Symbol''.routine Code.calls-decide·working·index-all (Met''.met 𝓤 H 𝓜 𝓖 𝓡)) (Reads'3.known record { M = M; 𝓤 = 𝓤; H = H; 𝓜 = 𝓜; 𝓖 = 𝓖; 𝓡 = 𝓡 } Code.env Symbol'3.name Symbol'3.routine Code.calls-decide·working·propagate-in (Met'3.met 𝓤 H 𝓜 𝓖 𝓡)) (Reads'.known record { M = M; 𝓤 = 𝓤; H = H; 𝓜 = 𝓜; 𝓖 = 𝓖; 𝓡 = 𝓡 } Code.env Symbol'.name Symbol'.routine Code.calls-decide·verdicts·judge-all (Met'.met 𝓤 H 𝓜 𝓖 𝓡)) (Reads'5.known record { M = M; 𝓤 = 𝓤; H = H; 𝓜 = 𝓜; 𝓖 = 𝓖; 𝓡 = 𝓡 } Code.env Symbol'4.name Symbol'4.routine Code.calls-tables·internal·fill (Met'4.met 𝓤 H 𝓜 𝓖 𝓡))

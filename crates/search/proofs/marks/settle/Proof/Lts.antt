@@ -755,35 +755,35 @@ module _ (claims· : Claims) where
       abbrev pub Need-loop-holds : Type 0
       Need-loop-holds = (c : After-slice-known) → Inv·0 (Row.get 1 (T5 .locals) (m4 (c .before) (c .slice-known .given))) (Row.get 2 (T5 .locals) (m4 (c .before) (c .slice-known .given)) .now) (Row.get 3 (T5 .locals) (m4 (c .before) (c .slice-known .given)) .now) (Row.get 4 (T5 .locals) (m4 (c .before) (c .slice-known .given)) .now) (Row.get 5 (T5 .locals) (m4 (c .before) (c .slice-known .given))) (Row.get 6 (T5 .locals) (m4 (c .before) (c .slice-known .given))) (Row.get 4 (T5 .locals) (m4 (c .before) (c .slice-known .given)) .now) (Row.get 5 (T5 .locals) (m4 (c .before) (c .slice-known .given))) (Row.get 6 (T5 .locals) (m4 (c .before) (c .slice-known .given)))
 
-      abbrev pub m5 : (before : After-slice-known) → (scratch : List.List (Referent.rtF (Referent.fInt Syntax.w16) .Denot)) → (calm : Rows.sc-here Row.sBool .Mod) → (s : Rows.sc-here (Row.sInt Syntax.w64) .Mod) → Typed.Mo T5
-      m5 = λ before scratch calm s. Row.set 6 (6, Rows.sc-here (Row.sInt Syntax.w64)) s (Row.setRow 5 (5, Rows.sc-here Row.sBool) (Row.setRow 4 (4, Mut.mslice (Referent.rtF (Referent.fInt Syntax.w16)) ty·2 2) (T5 .locals))) (Row.set 5 (5, Rows.sc-here Row.sBool) calm (Row.setRow 4 (4, Mut.mslice (Referent.rtF (Referent.fInt Syntax.w16)) ty·2 2) (T5 .locals)) (Row.set 4 (4, Mut.mslice (Referent.rtF (Referent.fInt Syntax.w16)) ty·2 2) record { ptr = Row.get 4 (T5 .locals) (m4 (before .before) (before .slice-known .given)) .ptr; name = Row.get 4 (T5 .locals) (m4 (before .before) (before .slice-known .given)) .name; now = scratch } (T5 .locals) (m4 (before .before) (before .slice-known .given))))
+      abbrev pub m5 : (before : After-slice-known) → (scratch : List.List (Referent.rtF (Referent.fInt Syntax.w16) .Denot)) → (unmarked : Rows.sc-here Row.sBool .Mod) → (s : Rows.sc-here (Row.sInt Syntax.w64) .Mod) → Typed.Mo T5
+      m5 = λ before scratch unmarked s. Row.set 6 (6, Rows.sc-here (Row.sInt Syntax.w64)) s (Row.setRow 5 (5, Rows.sc-here Row.sBool) (Row.setRow 4 (4, Mut.mslice (Referent.rtF (Referent.fInt Syntax.w16)) ty·2 2) (T5 .locals))) (Row.set 5 (5, Rows.sc-here Row.sBool) unmarked (Row.setRow 4 (4, Mut.mslice (Referent.rtF (Referent.fInt Syntax.w16)) ty·2 2) (T5 .locals)) (Row.set 4 (4, Mut.mslice (Referent.rtF (Referent.fInt Syntax.w16)) ty·2 2) record { ptr = Row.get 4 (T5 .locals) (m4 (before .before) (before .slice-known .given)) .ptr; name = Row.get 4 (T5 .locals) (m4 (before .before) (before .slice-known .given)) .name; now = scratch } (T5 .locals) (m4 (before .before) (before .slice-known .given))))
 
-      abbrev W3 : (before : After-slice-known) → (scratch : List.List (Referent.rtF (Referent.fInt Syntax.w16) .Denot)) → (calm : Rows.sc-here Row.sBool .Mod) → (s : Rows.sc-here (Row.sInt Syntax.w64) .Mod) → Typed.Want O3
-      W3 = λ before scratch calm s. Typed.inLoop T5 O2 (Typed.Round T5 O2 put0 (λ u vs. Inv·0 (Row.get 1 (T5 .locals) u) (Row.get 2 (T5 .locals) u .now) (Row.get 3 (T5 .locals) u .now) (Row.get 4 (T5 .locals) u .now) (Row.get 5 (T5 .locals) u) (Row.get 6 (T5 .locals) u) (vs .0) (vs .1) (vs .2)) (λ u vs. μ·0 (Row.get 1 (T5 .locals) u) (Row.get 2 (T5 .locals) u .now) (Row.get 3 (T5 .locals) u .now) (Row.get 4 (T5 .locals) u .now) (Row.get 5 (T5 .locals) u) (Row.get 6 (T5 .locals) u) (vs .0) (vs .1) (vs .2)) at19 (m4 (before .before) (before .slice-known .given)) (scratch, calm, s)) (W2 (before .before) (before .slice-known .given))
+      abbrev W3 : (before : After-slice-known) → (scratch : List.List (Referent.rtF (Referent.fInt Syntax.w16) .Denot)) → (unmarked : Rows.sc-here Row.sBool .Mod) → (s : Rows.sc-here (Row.sInt Syntax.w64) .Mod) → Typed.Want O3
+      W3 = λ before scratch unmarked s. Typed.inLoop T5 O2 (Typed.Round T5 O2 put0 (λ u vs. Inv·0 (Row.get 1 (T5 .locals) u) (Row.get 2 (T5 .locals) u .now) (Row.get 3 (T5 .locals) u .now) (Row.get 4 (T5 .locals) u .now) (Row.get 5 (T5 .locals) u) (Row.get 6 (T5 .locals) u) (vs .0) (vs .1) (vs .2)) (λ u vs. μ·0 (Row.get 1 (T5 .locals) u) (Row.get 2 (T5 .locals) u .now) (Row.get 3 (T5 .locals) u .now) (Row.get 4 (T5 .locals) u .now) (Row.get 5 (T5 .locals) u) (Row.get 6 (T5 .locals) u) (vs .0) (vs .1) (vs .2)) at19 (m4 (before .before) (before .slice-known .given)) (scratch, unmarked, s)) (W2 (before .before) (before .slice-known .given))
 
       module _ (before· : After-slice-known) where
         pub record At-loop·own : Type 0 where
           pub scratch : List.List (Referent.rtF (Referent.fInt Syntax.w16) .Denot)
-          pub calm : Rows.sc-here Row.sBool .Mod
+          pub unmarked : Rows.sc-here Row.sBool .Mod
           pub s : Rows.sc-here (Row.sInt Syntax.w64) .Mod
-          pub inv : Inv·0 (Row.get 1 (T5 .locals) (m4 (before· .before) (before· .slice-known .given))) (Row.get 2 (T5 .locals) (m4 (before· .before) (before· .slice-known .given)) .now) (Row.get 3 (T5 .locals) (m4 (before· .before) (before· .slice-known .given)) .now) (Row.get 4 (T5 .locals) (m4 (before· .before) (before· .slice-known .given)) .now) (Row.get 5 (T5 .locals) (m4 (before· .before) (before· .slice-known .given))) (Row.get 6 (T5 .locals) (m4 (before· .before) (before· .slice-known .given))) scratch calm s
+          pub inv : Inv·0 (Row.get 1 (T5 .locals) (m4 (before· .before) (before· .slice-known .given))) (Row.get 2 (T5 .locals) (m4 (before· .before) (before· .slice-known .given)) .now) (Row.get 3 (T5 .locals) (m4 (before· .before) (before· .slice-known .given)) .now) (Row.get 4 (T5 .locals) (m4 (before· .before) (before· .slice-known .given)) .now) (Row.get 5 (T5 .locals) (m4 (before· .before) (before· .slice-known .given))) (Row.get 6 (T5 .locals) (m4 (before· .before) (before· .slice-known .given))) scratch unmarked s
 
       pub record At-loop : Type 0 where
         pub before : After-slice-known
         pub loop : At-loop·own before
 
-      abbrev pub m6 : (before : At-loop) → (given : s4 .gives (m5 (before .before) (before .loop .scratch) (before .loop .calm) (before .loop .s))) → Typed.Mo T7
-      m6 = λ before given. s4 .next (m5 (before .before) (before .loop .scratch) (before .loop .calm) (before .loop .s)) given
+      abbrev pub m6 : (before : At-loop) → (given : s4 .gives (m5 (before .before) (before .loop .scratch) (before .loop .unmarked) (before .loop .s))) → Typed.Mo T7
+      m6 = λ before given. s4 .next (m5 (before .before) (before .loop .scratch) (before .loop .unmarked) (before .loop .s)) given
 
-      abbrev pub m7 : (before : At-loop) → (given : s4 .gives (m5 (before .before) (before .loop .scratch) (before .loop .calm) (before .loop .s))) → Typed.Mo T8
+      abbrev pub m7 : (before : At-loop) → (given : s4 .gives (m5 (before .before) (before .loop .scratch) (before .loop .unmarked) (before .loop .s))) → Typed.Mo T8
       m7 = λ before given. s5 .next (m6 before given)
 
-      abbrev W4 : (before : At-loop) → (given : s4 .gives (m5 (before .before) (before .loop .scratch) (before .loop .calm) (before .loop .s))) → Typed.Want O4
-      W4 = λ before given. Typed.wantNext T9 O3 (at16 (W3 (before .before) (before .loop .scratch) (before .loop .calm) (before .loop .s))) (W3 (before .before) (before .loop .scratch) (before .loop .calm) (before .loop .s))
+      abbrev W4 : (before : At-loop) → (given : s4 .gives (m5 (before .before) (before .loop .scratch) (before .loop .unmarked) (before .loop .s))) → Typed.Want O4
+      W4 = λ before given. Typed.wantNext T9 O3 (at16 (W3 (before .before) (before .loop .scratch) (before .loop .unmarked) (before .loop .s))) (W3 (before .before) (before .loop .scratch) (before .loop .unmarked) (before .loop .s))
 
       module _ (before· : At-loop) where
         pub record After-struct-known·own : Type 0 where
-          pub given : s4 .gives (m5 (before· .before) (before· .loop .scratch) (before· .loop .calm) (before· .loop .s))
+          pub given : s4 .gives (m5 (before· .before) (before· .loop .scratch) (before· .loop .unmarked) (before· .loop .s))
 
       pub record After-struct-known : Type 0 where
         pub before : At-loop
@@ -894,7 +894,7 @@ module _ (claims· : Claims) where
       m18 = λ before given. s19 .next (m17 before given)
 
       abbrev pub Need-loop-less : Type 0
-      Need-loop-less = (c : After-slice-known2) → Nat._<_ (μ·0 (Row.get 1 (T5 .locals) (m4 (c .before .before .before .before .before .before .before .before .before) (c .before .before .before .before .before .before .before .before .slice-known .given))) (Row.get 2 (T5 .locals) (m4 (c .before .before .before .before .before .before .before .before .before) (c .before .before .before .before .before .before .before .before .slice-known .given)) .now) (Row.get 3 (T5 .locals) (m4 (c .before .before .before .before .before .before .before .before .before) (c .before .before .before .before .before .before .before .before .slice-known .given)) .now) (Row.get 4 (T5 .locals) (m4 (c .before .before .before .before .before .before .before .before .before) (c .before .before .before .before .before .before .before .before .slice-known .given)) .now) (Row.get 5 (T5 .locals) (m4 (c .before .before .before .before .before .before .before .before .before) (c .before .before .before .before .before .before .before .before .slice-known .given))) (Row.get 6 (T5 .locals) (m4 (c .before .before .before .before .before .before .before .before .before) (c .before .before .before .before .before .before .before .before .slice-known .given))) (Row.get 4 (T5 .locals) (m18 (c .before) (c .slice-known2 .given)) .now) (Row.get 5 (T5 .locals) (m18 (c .before) (c .slice-known2 .given))) (Row.get 6 (T5 .locals) (m18 (c .before) (c .slice-known2 .given)))) (μ·0 (Row.get 1 (T5 .locals) (m4 (c .before .before .before .before .before .before .before .before .before) (c .before .before .before .before .before .before .before .before .slice-known .given))) (Row.get 2 (T5 .locals) (m4 (c .before .before .before .before .before .before .before .before .before) (c .before .before .before .before .before .before .before .before .slice-known .given)) .now) (Row.get 3 (T5 .locals) (m4 (c .before .before .before .before .before .before .before .before .before) (c .before .before .before .before .before .before .before .before .slice-known .given)) .now) (Row.get 4 (T5 .locals) (m4 (c .before .before .before .before .before .before .before .before .before) (c .before .before .before .before .before .before .before .before .slice-known .given)) .now) (Row.get 5 (T5 .locals) (m4 (c .before .before .before .before .before .before .before .before .before) (c .before .before .before .before .before .before .before .before .slice-known .given))) (Row.get 6 (T5 .locals) (m4 (c .before .before .before .before .before .before .before .before .before) (c .before .before .before .before .before .before .before .before .slice-known .given))) (c .before .before .before .before .before .before .before .loop .scratch) (c .before .before .before .before .before .before .before .loop .calm) (c .before .before .before .before .before .before .before .loop .s))
+      Need-loop-less = (c : After-slice-known2) → Nat._<_ (μ·0 (Row.get 1 (T5 .locals) (m4 (c .before .before .before .before .before .before .before .before .before) (c .before .before .before .before .before .before .before .before .slice-known .given))) (Row.get 2 (T5 .locals) (m4 (c .before .before .before .before .before .before .before .before .before) (c .before .before .before .before .before .before .before .before .slice-known .given)) .now) (Row.get 3 (T5 .locals) (m4 (c .before .before .before .before .before .before .before .before .before) (c .before .before .before .before .before .before .before .before .slice-known .given)) .now) (Row.get 4 (T5 .locals) (m4 (c .before .before .before .before .before .before .before .before .before) (c .before .before .before .before .before .before .before .before .slice-known .given)) .now) (Row.get 5 (T5 .locals) (m4 (c .before .before .before .before .before .before .before .before .before) (c .before .before .before .before .before .before .before .before .slice-known .given))) (Row.get 6 (T5 .locals) (m4 (c .before .before .before .before .before .before .before .before .before) (c .before .before .before .before .before .before .before .before .slice-known .given))) (Row.get 4 (T5 .locals) (m18 (c .before) (c .slice-known2 .given)) .now) (Row.get 5 (T5 .locals) (m18 (c .before) (c .slice-known2 .given))) (Row.get 6 (T5 .locals) (m18 (c .before) (c .slice-known2 .given)))) (μ·0 (Row.get 1 (T5 .locals) (m4 (c .before .before .before .before .before .before .before .before .before) (c .before .before .before .before .before .before .before .before .slice-known .given))) (Row.get 2 (T5 .locals) (m4 (c .before .before .before .before .before .before .before .before .before) (c .before .before .before .before .before .before .before .before .slice-known .given)) .now) (Row.get 3 (T5 .locals) (m4 (c .before .before .before .before .before .before .before .before .before) (c .before .before .before .before .before .before .before .before .slice-known .given)) .now) (Row.get 4 (T5 .locals) (m4 (c .before .before .before .before .before .before .before .before .before) (c .before .before .before .before .before .before .before .before .slice-known .given)) .now) (Row.get 5 (T5 .locals) (m4 (c .before .before .before .before .before .before .before .before .before) (c .before .before .before .before .before .before .before .before .slice-known .given))) (Row.get 6 (T5 .locals) (m4 (c .before .before .before .before .before .before .before .before .before) (c .before .before .before .before .before .before .before .before .slice-known .given))) (c .before .before .before .before .before .before .before .loop .scratch) (c .before .before .before .before .before .before .before .loop .unmarked) (c .before .before .before .before .before .before .before .loop .s))
 
       abbrev pub Need-loop-again : Type 0
       Need-loop-again = (c : After-slice-known2) → Inv·0 (Row.get 1 (T5 .locals) (m4 (c .before .before .before .before .before .before .before .before .before) (c .before .before .before .before .before .before .before .before .slice-known .given))) (Row.get 2 (T5 .locals) (m4 (c .before .before .before .before .before .before .before .before .before) (c .before .before .before .before .before .before .before .before .slice-known .given)) .now) (Row.get 3 (T5 .locals) (m4 (c .before .before .before .before .before .before .before .before .before) (c .before .before .before .before .before .before .before .before .slice-known .given)) .now) (Row.get 4 (T5 .locals) (m4 (c .before .before .before .before .before .before .before .before .before) (c .before .before .before .before .before .before .before .before .slice-known .given)) .now) (Row.get 5 (T5 .locals) (m4 (c .before .before .before .before .before .before .before .before .before) (c .before .before .before .before .before .before .before .before .slice-known .given))) (Row.get 6 (T5 .locals) (m4 (c .before .before .before .before .before .before .before .before .before) (c .before .before .before .before .before .before .before .before .slice-known .given))) (Row.get 4 (T5 .locals) (m18 (c .before) (c .slice-known2 .given)) .now) (Row.get 5 (T5 .locals) (m18 (c .before) (c .slice-known2 .given))) (Row.get 6 (T5 .locals) (m18 (c .before) (c .slice-known2 .given)))
@@ -918,13 +918,13 @@ module _ (claims· : Claims) where
         lay6 : (c : Else1) → at25 (W0 (c .before .before .before .before .before .κs) (c .before .before .before .before .before .args)) (m10 (c .before))
         lay6 = λ c. ((tt, (Path'.refl, (Path'.refl, (MutSlice.fix-len (Row.get 4 (T26 .locals) (m21 (c .before)) .ptr) (Row.get 4 (T26 .locals) (m21 (c .before)) .name) (Row.get 4 (T26 .locals) (m21 (c .before)) .now) (dens (c .before .before .before .before .before .κs) (c .before .before .before .before .before .args) .1 .1 .1 .0 .now) (same-length record { before = c .before; if1 = c .if1 }), tt)))), returns record { before = c .before; if1 = c .if1 })
 
-        lay5 : (c : After-settle-one) → at11 (W3 (c .before .before .before .before .before .before) (c .before .before .before .before .before .loop .scratch) (c .before .before .before .before .before .loop .calm) (c .before .before .before .before .before .loop .s)) (m14 (c .before) (After-settle-one·gave c))
+        lay5 : (c : After-settle-one) → at11 (W3 (c .before .before .before .before .before .before) (c .before .before .before .before .before .loop .scratch) (c .before .before .before .before .before .loop .unmarked) (c .before .before .before .before .before .loop .s)) (m14 (c .before) (After-settle-one·gave c))
         lay5 = λ c. (Path'.refl, λ g. λ g'. (add-s record { before = record { before = record { before = c .before; settle-one = c .settle-one }; scratch = record { given = g } }; slice-known2 = record { given = g' } }, (μ·0 (Row.get 1 (T5 .locals) (m4 (c .before .before .before .before .before .before .before) (c .before .before .before .before .before .before .slice-known .given))) (Row.get 2 (T5 .locals) (m4 (c .before .before .before .before .before .before .before) (c .before .before .before .before .before .before .slice-known .given)) .now) (Row.get 3 (T5 .locals) (m4 (c .before .before .before .before .before .before .before) (c .before .before .before .before .before .before .slice-known .given)) .now) (Row.get 4 (T5 .locals) (m4 (c .before .before .before .before .before .before .before) (c .before .before .before .before .before .before .slice-known .given)) .now) (Row.get 5 (T5 .locals) (m4 (c .before .before .before .before .before .before .before) (c .before .before .before .before .before .before .slice-known .given))) (Row.get 6 (T5 .locals) (m4 (c .before .before .before .before .before .before .before) (c .before .before .before .before .before .before .slice-known .given))) (Row.get 4 (T5 .locals) (m18 record { before = record { before = c .before; settle-one = c .settle-one }; scratch = record { given = g } } g') .now) (Row.get 5 (T5 .locals) (m18 record { before = record { before = c .before; settle-one = c .settle-one }; scratch = record { given = g } } g')) (Row.get 6 (T5 .locals) (m18 record { before = record { before = c .before; settle-one = c .settle-one }; scratch = record { given = g } } g')), loop-less record { before = record { before = record { before = c .before; settle-one = c .settle-one }; scratch = record { given = g } }; slice-known2 = record { given = g' } }, ((Row.get 4 (T5 .locals) (m18 record { before = record { before = c .before; settle-one = c .settle-one }; scratch = record { given = g } } g') .now, Row.get 5 (T5 .locals) (m18 record { before = record { before = c .before; settle-one = c .settle-one }; scratch = record { given = g } } g'), Row.get 6 (T5 .locals) (m18 record { before = record { before = c .before; settle-one = c .settle-one }; scratch = record { given = g } } g')), Path'.refl {a = m18 record { before = record { before = c .before; settle-one = c .settle-one }; scratch = record { given = g } } g'}, loop-again record { before = record { before = record { before = c .before; settle-one = c .settle-one }; scratch = record { given = g } }; slice-known2 = record { given = g' } }, Path'.refl {a = μ·0 (Row.get 1 (T5 .locals) (m4 (c .before .before .before .before .before .before .before) (c .before .before .before .before .before .before .slice-known .given))) (Row.get 2 (T5 .locals) (m4 (c .before .before .before .before .before .before .before) (c .before .before .before .before .before .before .slice-known .given)) .now) (Row.get 3 (T5 .locals) (m4 (c .before .before .before .before .before .before .before) (c .before .before .before .before .before .before .slice-known .given)) .now) (Row.get 4 (T5 .locals) (m4 (c .before .before .before .before .before .before .before) (c .before .before .before .before .before .before .slice-known .given)) .now) (Row.get 5 (T5 .locals) (m4 (c .before .before .before .before .before .before .before) (c .before .before .before .before .before .before .slice-known .given))) (Row.get 6 (T5 .locals) (m4 (c .before .before .before .before .before .before .before) (c .before .before .before .before .before .before .slice-known .given))) (Row.get 4 (T5 .locals) (m18 record { before = record { before = c .before; settle-one = c .settle-one }; scratch = record { given = g } } g') .now) (Row.get 5 (T5 .locals) (m18 record { before = record { before = c .before; settle-one = c .settle-one }; scratch = record { given = g } } g')) (Row.get 6 (T5 .locals) (m18 record { before = record { before = c .before; settle-one = c .settle-one }; scratch = record { given = g } } g'))}))))
 
-        lay4 : (c : After-span-at) → at15 (W3 (c .before .before .before .before) (c .before .before .before .loop .scratch) (c .before .before .before .loop .calm) (c .before .before .before .loop .s)) (m11 (c .before) (After-span-at·gave c))
+        lay4 : (c : After-span-at) → at15 (W3 (c .before .before .before .before) (c .before .before .before .loop .scratch) (c .before .before .before .loop .unmarked) (c .before .before .before .loop .s)) (m11 (c .before) (After-span-at·gave c))
         lay4 = λ c. λ g. (Path'.refl, (settle-one-requires record { before = record { before = c .before; span-at = c .span-at }; settle-one-arg = record { given = g } }, λ g'. lay5 record { before = record { before = record { before = c .before; span-at = c .span-at }; settle-one-arg = record { given = g } }; settle-one = Called.called ps·1 r·1 (claims· .3) T16 (record { pos = 7; st = List.[]; d = 0; at = λ x. x }, (record { pos = 3; ty = Syntax.tyRef (Syntax.named 1) Syntax.imm (Syntax.tyInt Syntax.w16); ref = λ x. x }, (record { pos = 10; ty = Syntax.tyRef Syntax.erased Syntax.mut (Syntax.tyInt Syntax.w16); ref = λ x. x }, (Num.vAt 6 λ x. x, (Bool.bAt 5 λ x. x, tt))))) (m13 record { before = c .before; span-at = c .span-at } g) g' }))
 
-        lay3 : (c : Then1) → at16 (W3 (c .before .before .before) (c .before .before .loop .scratch) (c .before .before .loop .calm) (c .before .before .loop .s)) (m8 (c .before))
+        lay3 : (c : Then1) → at16 (W3 (c .before .before .before) (c .before .before .loop .scratch) (c .before .before .loop .unmarked) (c .before .before .loop .s)) (m8 (c .before))
         lay3 = λ c. (span-at-requires record { before = c .before; if1 = c .if1 }, λ g. lay4 record { before = record { before = c .before; if1 = c .if1 }; span-at = Called.called ps·0 r·0 (claims· .1) T9 (record { pos = 1; st = List.[]; d = 0; at = λ x. x }, (record { pos = 2; ty = Syntax.tyRef (Syntax.named 0) Syntax.imm (Memory.pointee (T.the-row .written)); ref = λ x. x }, (Num.vAt 6 λ x. x, tt))) (m8 (c .before)) g })
 
         lay2 : (c : Else1) → at4 (W4 (c .before .before) (c .before .struct-known .given)) (m7 (c .before .before) (c .before .struct-known .given))
@@ -934,7 +934,7 @@ module _ (claims· : Claims) where
         lay1 = λ c. lay3 record { before = c .before; if1 = c .if1 }
 
         pub laid : (c : Start) → at30 (W0 (c .κs) (c .args)) (m0 (c .κs) (c .args))
-        laid = λ c. λ g. λ g'. (((Row.get 4 (T5 .locals) (m4 record { before = c; shared-slice-known = record { given = g } } g') .now, Row.get 5 (T5 .locals) (m4 record { before = c; shared-slice-known = record { given = g } } g'), Row.get 6 (T5 .locals) (m4 record { before = c; shared-slice-known = record { given = g } } g')), Path'.refl {a = m4 record { before = c; shared-slice-known = record { given = g } } g'}, loop-holds record { before = record { before = c; shared-slice-known = record { given = g } }; slice-known = record { given = g' } }), λ vs inv. λ g''. (tt, (λ taken. lay1 record { before = record { before = record { before = record { before = record { before = c; shared-slice-known = record { given = g } }; slice-known = record { given = g' } }; loop = record { scratch = vs .0; calm = vs .1; s = vs .2; inv = inv } }; struct-known = record { given = g'' } }; if1 = record { taken = Tests.ltb-true (Row.get 6 (T7 .locals) (m6 record { before = record { before = record { before = c; shared-slice-known = record { given = g } }; slice-known = record { given = g' } }; loop = record { scratch = vs .0; calm = vs .1; s = vs .2; inv = inv } } g'')) (Size.struct .as-values (Row.get 1 (T7 .locals) (m6 record { before = record { before = record { before = c; shared-slice-known = record { given = g } }; slice-known = record { given = g' } }; loop = record { scratch = vs .0; calm = vs .1; s = vs .2; inv = inv } } g'')) .0) taken } }, λ left. lay2 record { before = record { before = record { before = record { before = record { before = c; shared-slice-known = record { given = g } }; slice-known = record { given = g' } }; loop = record { scratch = vs .0; calm = vs .1; s = vs .2; inv = inv } }; struct-known = record { given = g'' } }; if1 = record { left = Tests.ltb-false (Row.get 6 (T7 .locals) (m6 record { before = record { before = record { before = c; shared-slice-known = record { given = g } }; slice-known = record { given = g' } }; loop = record { scratch = vs .0; calm = vs .1; s = vs .2; inv = inv } } g'')) (Size.struct .as-values (Row.get 1 (T7 .locals) (m6 record { before = record { before = record { before = c; shared-slice-known = record { given = g } }; slice-known = record { given = g' } }; loop = record { scratch = vs .0; calm = vs .1; s = vs .2; inv = inv } } g'')) .0) left } })))
+        laid = λ c. λ g. λ g'. (((Row.get 4 (T5 .locals) (m4 record { before = c; shared-slice-known = record { given = g } } g') .now, Row.get 5 (T5 .locals) (m4 record { before = c; shared-slice-known = record { given = g } } g'), Row.get 6 (T5 .locals) (m4 record { before = c; shared-slice-known = record { given = g } } g')), Path'.refl {a = m4 record { before = c; shared-slice-known = record { given = g } } g'}, loop-holds record { before = record { before = c; shared-slice-known = record { given = g } }; slice-known = record { given = g' } }), λ vs inv. λ g''. (tt, (λ taken. lay1 record { before = record { before = record { before = record { before = record { before = c; shared-slice-known = record { given = g } }; slice-known = record { given = g' } }; loop = record { scratch = vs .0; unmarked = vs .1; s = vs .2; inv = inv } }; struct-known = record { given = g'' } }; if1 = record { taken = Tests.ltb-true (Row.get 6 (T7 .locals) (m6 record { before = record { before = record { before = c; shared-slice-known = record { given = g } }; slice-known = record { given = g' } }; loop = record { scratch = vs .0; unmarked = vs .1; s = vs .2; inv = inv } } g'')) (Size.struct .as-values (Row.get 1 (T7 .locals) (m6 record { before = record { before = record { before = c; shared-slice-known = record { given = g } }; slice-known = record { given = g' } }; loop = record { scratch = vs .0; unmarked = vs .1; s = vs .2; inv = inv } } g'')) .0) taken } }, λ left. lay2 record { before = record { before = record { before = record { before = record { before = c; shared-slice-known = record { given = g } }; slice-known = record { given = g' } }; loop = record { scratch = vs .0; unmarked = vs .1; s = vs .2; inv = inv } }; struct-known = record { given = g'' } }; if1 = record { left = Tests.ltb-false (Row.get 6 (T7 .locals) (m6 record { before = record { before = record { before = c; shared-slice-known = record { given = g } }; slice-known = record { given = g' } }; loop = record { scratch = vs .0; unmarked = vs .1; s = vs .2; inv = inv } } g'')) (Size.struct .as-values (Row.get 1 (T7 .locals) (m6 record { before = record { before = record { before = c; shared-slice-known = record { given = g } }; slice-known = record { given = g' } }; loop = record { scratch = vs .0; unmarked = vs .1; s = vs .2; inv = inv } } g'')) .0) left } })))
 
         module _ (κs : Lifetimes.Lfts 3) (qs : Lifetimes.Shares 3) where
           pub asked : (a : Kinds.Dens κs ps) → (good : Kinds.GoodsP κs ps a) → (pre : Pre· κs a) → (bs : List.List Nat.ℕ) → Φ (Any.wantQ 3 ps r xs m κs qs a (Post· κs a)) (Function.init 3 ps r xs m κs qs a)

@@ -1,6 +1,6 @@
 use borrow.Author.Tests.{eq-eqb, ne-eqb}
-use Rattle.tables.proofs.checks.kind_fits.Statement.{statement}
-use Rattle.tables.proofs.checks.kind_fits.Tie as tie
+use Rattle.tables.proofs.internal.kind_fits.Statement.{statement}
+use Rattle.tables.proofs.internal.kind_fits.Tie as tie
 
 returns : tie.Need-returns
 returns c = rw (eq-eqb _ _ (c .if1 .taken))

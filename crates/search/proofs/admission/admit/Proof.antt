@@ -1,6 +1,6 @@
 use Rattle.search.proofs.Admitting.{shut-unsound, shut-stranger, shut-commands, shut-scratch, opens}
-use Rattle.search.proofs.gate.admit.Statement.{statement}
-use Rattle.search.proofs.gate.admit.Tie as tie
+use Rattle.search.proofs.admission.admit.Statement.{statement}
+use Rattle.search.proofs.admission.admit.Tie as tie
 
 returns : tie.Need-returns
 returns c = shut-unsound _ _ _ _ _ (c .if1 .taken)

@@ -18,8 +18,8 @@ use Rattle.index.specs.Parts.{startOf}
 use Rattle.index.specs.Commands.{Commands, outcomesOf, Fit}
 use Rattle.index.proofs.Starts.{start-next}
 use Rattle.index.proofs.Groups.{outcome-in}
-use Rattle.propagate.specs.Net.{Net, netOf, hits, losing, layer, Ranges, Indexed, Owns}
-use Rattle.propagate.specs.Work.{Work, Line, Wave, Moved, Among, waiting, Ripe, Layered}
+use Rattle.propagate.specs.Net.{Net, netOf, commandHits, losing, netLayer, Ranges, Indexed, Owns}
+use Rattle.propagate.specs.Work.{Work, QueueBound, TowardsLayer, Moved, Among, waiting, AtLayer, Layered}
 use Rattle.propagate.proofs.Hits.{hit-some, hit-of, hit-more, lose-some, lose-at, to-in}
 use Rattle.propagate.proofs.Counting.{count-le}
 
@@ -37,70 +37,70 @@ module _ (q : List ℕ) (lo hi o : ℕ) where
       exists-of (λ i. leb lo i && eqb (getD q i 0) o) hi i l (and-join (leb lo i) (eqb (getD q i 0) o) (le-leb lo i p) (eq-eqb (getD q i 0) o e))
 
 -- no command waits when the walk is over
-pub none-waits : (C : Commands) (q : List ℕ) (lo hi c : ℕ) → hi ≤ lo → hits C (waiting q lo hi) c ≡ true → ⊥
+pub none-waits : (C : Commands) (q : List ℕ) (lo hi c : ℕ) → hi ≤ lo → commandHits C (waiting q lo hi) c ≡ true → ⊥
 none-waits C q lo hi c h t =
     let (o, m, e) = hit-some C (waiting q lo hi) c t in
     let (i, p, l, f) = wait-at q lo hi o e in
     omega arith
 
 -- a state that layers 0 to k lose has a rank, or a command that it watches waits
-pub lost-waits : (N : Net) (K G : ℕ → Bool) (k hi : ℕ) (X : Work) → Wave N K k hi G X → (s : ℕ) → s < N .commands .n → losing N (layer N K k) s ≡ true
+pub lost-waits : (N : Net) (K G : ℕ → Bool) (k hi : ℕ) (X : Work) → TowardsLayer N K k hi G X → (s : ℕ) → s < N .commands .n → losing N (netLayer N K k) s ≡ true
     → getD (X .ranks) s 0 ≡ FFFF → G (getD (X .watch) s 0) ≡ true
 lost-waits N K G k hi X v s h t e =
     let y = v .watches s h e in
-    let l = y .until (lose-some N (layer N K k) s t) in
-    y .pending l (lose-at N (layer N K k) s t (getD (X .watch) s 0) (y .since) l)
+    let l = y .until (lose-some N (netLayer N K k) s t) in
+    y .pending l (lose-at N (netLayer N K k) s t (getD (X .watch) s 0) (y .since) l)
 
 -- the walk at place h
-pub record Front (C : Commands) (tos owner : List ℕ) (k lo : ℕ) (X : Work) (h : ℕ) (Y : Work) : Type 0 where
+pub record LayerStep (C : Commands) (tos owner : List ℕ) (k lo : ℕ) (X : Work) (h : ℕ) (Y : Work) : Type 0 where
   pub order : h ≤ X .end
   pub more : X .end ≤ Y .end
-  pub line : Line (C .n) Y
+  pub bound : QueueBound (C .n) Y
   pub kept : (i : ℕ) → i < X .end → getD (Y .queue) i 0 ≡ getD (X .queue) i 0
   pub rest : (i : ℕ) → C .n ≤ i → getD (Y .ranks) i 0 ≡ getD (X .ranks) i 0
-  pub wave : (froms : List ℕ) (K : ℕ → Bool) → Owns (netOf C froms tos) owner → Ripe (netOf C froms tos) K k lo X
-      → Wave (netOf C froms tos) K k (X .end) (hits C (waiting (X .queue) h (X .end))) Y
+  pub towards : (froms : List ℕ) (K : ℕ → Bool) → Owns (netOf C froms tos) owner → AtLayer (netOf C froms tos) K k lo X
+      → TowardsLayer (netOf C froms tos) K k (X .end) (commandHits C (waiting (X .queue) h (X .end))) Y
 
 module _ (C : Commands) (tos owner : List ℕ) (k lo : ℕ) (X : Work) where
-  pub front-start : lo ≤ X .end → Line (C .n) X → Front C tos owner k lo X lo X
-  front-start h line = record {
+  pub layer-start : lo ≤ X .end → QueueBound (C .n) X → LayerStep C tos owner k lo X lo X
+  layer-start h bound = record {
     order = h;
     more = omega arith;
-    line = line;
+    bound = bound;
     kept = λ i g. refl;
     rest = λ i g. refl;
-    wave = λ froms K own u. u .wave;
+    towards = λ froms K own u. u .towards;
   }
 
-  module _ (h : ℕ) (Y : Work) (v : Front C tos owner k lo X h Y) where
-    pub front-at : (len : ℕ) → C .n ≤ len → h < X .end → h < len
-    front-at len l g = omega (arith, v .more, v .line .few, count-le (C .n) (Y .ranks))
+  module _ (h : ℕ) (Y : Work) (v : LayerStep C tos owner k lo X h Y) where
+    pub layer-at : (len : ℕ) → C .n ≤ len → h < X .end → h < len
+    layer-at len l g = omega (arith, v .more, v .bound .few, count-le (C .n) (Y .ranks))
 
-    pub front-state : h < X .end → (o : ℕ) → o ≡ getD (Y .queue) h 0 → o < C .n
-    front-state g o e = omega (arith, e, v .line .states h (omega (arith, v .more)))
+    pub layer-state : h < X .end → (o : ℕ) → o ≡ getD (Y .queue) h 0 → o < C .n
+    layer-state g o e = omega (arith, e, v .bound .states h (omega (arith, v .more)))
 
-    pub front-next : (offsets users : List ℕ) → Indexed C offsets users owner → h < X .end → (o : ℕ) → o ≡ getD (Y .queue) h 0 → (Z : Work)
-        → Moved C tos owner k (Among users (startOf offsets (C .n) (C .t) o) (startOf offsets (C .n) (C .t) (o + 1))) Y Z → Front C tos owner k lo X (h + 1) Z
-    front-next offsets users I g o e Z M = record {
+    pub layer-next : (offsets users : List ℕ) → Indexed C offsets users owner → h < X .end → (o : ℕ) → o ≡ getD (Y .queue) h 0 → (Z : Work)
+        → Moved C tos owner k (Among users (startOf offsets (C .n) (C .t) o) (startOf offsets (C .n) (C .t) (o + 1))) Y Z → LayerStep C tos owner k lo X (h + 1) Z
+    layer-next offsets users I g o e Z M = record {
       order = omega arith;
       more = omega (arith, v .more, M .more);
-      line = M .line;
+      bound = M .bound;
       kept = λ i l. M .kept i (omega (arith, v .more)) ∙ v .kept i l;
       rest = λ i l. M .rest i l ∙ v .rest i l;
-      wave = λ froms K own u.
-          M .wave froms K (hits C (waiting (X .queue) h (X .end))) (hits C (waiting (X .queue) (h + 1) (X .end))) (X .end) (v .more) own left (v .wave froms K own u);
+      towards = λ froms K own u.
+          M .towards froms K (commandHits C (waiting (X .queue) h (X .end))) (commandHits C (waiting (X .queue) (h + 1) (X .end))) (X .end) (v .more) own left (v .towards froms K own u);
     }
       where
         found : (c u i : ℕ) → c < C .m → List·Memᴰ u (outcomesOf C c) → h ≤ i → i < X .end → getD (X .queue) i 0 ≡ u
-            → (Among users (startOf offsets (C .n) (C .t) o) (startOf offsets (C .n) (C .t) (o + 1)) c → ⊥) → Dec (i ≡ h) → hits C (waiting (X .queue) (h + 1) (X .end)) c ≡ true
+            → (Among users (startOf offsets (C .n) (C .t) o) (startOf offsets (C .n) (C .t) (o + 1)) c → ⊥) → Dec (i ≡ h) → commandHits C (waiting (X .queue) (h + 1) (X .end)) c ≡ true
         found c u i l m p b f n (no d) = hit-of C (waiting (X .queue) (h + 1) (X .end)) c u m (wait-of (X .queue) (h + 1) (X .end) u i (omega arith) b f)
         found c u i l m p b f n (yes d) =
             let z : u ≡ o = sym f ∙ rw d (sym (v .kept h g) ∙ sym e) in
             let (x, s, t, y) = I .grouped .has c u l m in
             absurd (n (rw (start-next offsets (C .n) (C .t) o, ← z) (record { place = x; since = s; below = t; stands = y })))
 
-        left : (c : ℕ) → c < C .m → hits C (waiting (X .queue) h (X .end)) c ≡ true
-            → (Among users (startOf offsets (C .n) (C .t) o) (startOf offsets (C .n) (C .t) (o + 1)) c → ⊥) → hits C (waiting (X .queue) (h + 1) (X .end)) c ≡ true
+        left : (c : ℕ) → c < C .m → commandHits C (waiting (X .queue) h (X .end)) c ≡ true
+            → (Among users (startOf offsets (C .n) (C .t) o) (startOf offsets (C .n) (C .t) (o + 1)) c → ⊥) → commandHits C (waiting (X .queue) (h + 1) (X .end)) c ≡ true
         left c l t n =
             let (u, m, w) = hit-some C (waiting (X .queue) h (X .end)) c t in
             let (i, p, b, f) = wait-at (X .queue) h (X .end) u w in
@@ -108,15 +108,15 @@ module _ (C : Commands) (tos owner : List ℕ) (k lo : ℕ) (X : Work) where
 
     -- the end of the walk
     module _ (R : Fit C) (ends : Ranges C tos) (small : k < 1024) (over : X .end ≤ h) where
-      module _ (froms : List ℕ) (K : ℕ → Bool) (own : Owns (netOf C froms tos) owner) (u : Ripe (netOf C froms tos) K k lo X) where
+      module _ (froms : List ℕ) (K : ℕ → Bool) (own : Owns (netOf C froms tos) owner) (u : AtLayer (netOf C froms tos) K k lo X) where
         abbrev N : Net
         N = netOf C froms tos
 
         abbrev r : ℕ → ℕ
         r s = getD (Y .ranks) s 0
 
-        y : Wave N K k (X .end) (hits C (waiting (X .queue) h (X .end))) Y
-        y = v .wave froms K own u
+        y : TowardsLayer N K k (X .end) (commandHits C (waiting (X .queue) h (X .end))) Y
+        y = v .towards froms K own u
 
         low : (s : ℕ) → s < C .n → (r s ≡ FFFF → ⊥) → r s ≤ k + 1
         low s g n = go (decLt k (r s))
@@ -126,44 +126,44 @@ module _ (C : Commands) (tos owner : List ℕ) (k lo : ℕ) (X : Work) where
             go (no l) = omega arith
 
         -- layer k + 1 has its ranks
-        next : (s : ℕ) → s < C .n → leb (r s) (k + 1) ≡ layer N K (k + 1) s
-        next s g = rw (add-one k) (same-test (leb (r s) (suc k)) (layer N K (suc k) s) into out)
+        next : (s : ℕ) → s < C .n → leb (r s) (k + 1) ≡ netLayer N K (k + 1) s
+        next s g = rw (add-one k) (same-test (leb (r s) (suc k)) (netLayer N K (suc k) s) into out)
           where
-            into : leb (r s) (suc k) ≡ true → layer N K (suc k) s ≡ true
+            into : leb (r s) (suc k) ≡ true → netLayer N K (suc k) s ≡ true
             into t = go (decLt k (r s))
               where
-                go : Dec (k < r s) → layer N K (suc k) s ≡ true
+                go : Dec (k < r s) → netLayer N K (suc k) s ≡ true
                 go (no l) = grow-more (losing N) K k s (sym (y .ranked k s (omega arith) g) ∙ le-leb (r s) k (omega arith))
                 go (yes l) = grow-add (losing N) K k s (y .fresh s g l (λ z. omega (arith, leb-true (r s) (suc k) t)) .1)
 
-            out : layer N K (suc k) s ≡ true → leb (r s) (suc k) ≡ true
+            out : netLayer N K (suc k) s ≡ true → leb (r s) (suc k) ≡ true
             out t = ⊎-elim old (λ e. new e (ℕ-discrete (r s) FFFF)) (grow-step (losing N) K k s t)
               where
-                old : layer N K k s ≡ true → leb (r s) (suc k) ≡ true
+                old : netLayer N K k s ≡ true → leb (r s) (suc k) ≡ true
                 old e = le-leb (r s) (suc k) (omega (arith, leb-true (r s) k (y .ranked k s (omega arith) g ∙ e)))
 
-                new : losing N (layer N K k) s ≡ true → Dec (r s ≡ FFFF) → leb (r s) (suc k) ≡ true
+                new : losing N (netLayer N K k) s ≡ true → Dec (r s ≡ FFFF) → leb (r s) (suc k) ≡ true
                 new e (no n) = le-leb (r s) (suc k) (omega (arith, low s g n))
                 new e (yes z) = absurd (none-waits C (X .queue) h (X .end) (getD (Y .watch) s 0) over (lost-waits N K _ k (X .end) Y y s g e z))
 
         -- a watched command that layers 0 to k + 1 hit has an outcome of rank k + 1, and that waits
-        waits : (c : ℕ) → c < C .m → (hits C (layer N K k) c ≡ true → ⊥) → hits C (layer N K (k + 1)) c ≡ true → hits C (waiting (Y .queue) (X .end) (Y .end)) c ≡ true
+        waits : (c : ℕ) → c < C .m → (commandHits C (netLayer N K k) c ≡ true → ⊥) → commandHits C (netLayer N K (k + 1)) c ≡ true → commandHits C (waiting (Y .queue) (X .end) (Y .end)) c ≡ true
         waits c l n t =
-            let (o, m, e) = hit-some C (layer N K (k + 1)) c t in
+            let (o, m, e) = hit-some C (netLayer N K (k + 1)) c t in
             let g = outcome-in C R c o l m in
             let f = next o g ∙ e in
             go o m g (leb-true (r o) (k + 1) f) (decLe (r o) k)
           where
-            go : (o : ℕ) → List·Memᴰ o (outcomesOf C c) → o < C .n → r o ≤ k + 1 → Dec (r o ≤ k) → hits C (waiting (Y .queue) (X .end) (Y .end)) c ≡ true
-            go o m g f (yes d) = absurd (n (hit-of C (layer N K k) c o m (sym (y .ranked k o (omega arith) g) ∙ le-leb (r o) k d)))
+            go : (o : ℕ) → List·Memᴰ o (outcomesOf C c) → o < C .n → r o ≤ k + 1 → Dec (r o ≤ k) → commandHits C (waiting (Y .queue) (X .end) (Y .end)) c ≡ true
+            go o m g f (yes d) = absurd (n (hit-of C (netLayer N K k) c o m (sym (y .ranked k o (omega arith) g) ∙ le-leb (r o) k d)))
             go o m g f (no d) =
                 let (i, p, b, q) = y .queued o g (omega arith) in
                 hit-of C (waiting (Y .queue) (X .end) (Y .end)) c o m (wait-of (Y .queue) (X .end) (Y .end) o i p b q)
 
-        ripe : Ripe N K (k + 1) (X .end) Y
-        ripe = record {
+        at-layer : AtLayer N K (k + 1) (X .end) Y
+        at-layer = record {
           low = low;
-          wave = record {
+          towards = record {
             ranked = λ j s a g. rank j s a g (decLe j k);
             fresh = λ s g a n. absurd (omega (arith, low s g n));
             watches = λ s g e.
@@ -179,12 +179,12 @@ module _ (C : Commands) (tos owner : List ℕ) (k lo : ℕ) (X : Work) where
           };
         }
           where
-            rank : (j s : ℕ) → j ≤ k + 1 → s < C .n → Dec (j ≤ k) → leb (r s) j ≡ layer N K j s
+            rank : (j s : ℕ) → j ≤ k + 1 → s < C .n → Dec (j ≤ k) → leb (r s) j ≡ netLayer N K j s
             rank j s a g (yes d) = y .ranked j s d g
             rank j s a g (no d) = let z : j ≡ k + 1 = omega arith in rw z (next s g)
 
-            more : (c : ℕ) → c < C .m → hits C (layer N K k) c ≡ true → hits C (layer N K (k + 1)) c ≡ true
-            more c l t = rw (add-one k) (hit-more C R (layer N K k) (layer N K (suc k)) (λ s g e. grow-more (losing N) K k s e) c l t)
+            more : (c : ℕ) → c < C .m → commandHits C (netLayer N K k) c ≡ true → commandHits C (netLayer N K (k + 1)) c ≡ true
+            more c l t = rw (add-one k) (hit-more C R (netLayer N K k) (netLayer N K (suc k)) (λ s g e. grow-more (losing N) K k s e) c l t)
 
-      pub front-done : Layered C tos owner k lo X Y
-      front-done = record { ripe = ripe; line = v .line; rest = v .rest; more = v .more }
+      pub layer-done : Layered C tos owner k lo X Y
+      layer-done = record { at-layer = at-layer; bound = v .bound; rest = v .rest; more = v .more }

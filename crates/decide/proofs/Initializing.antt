@@ -17,7 +17,7 @@ use Rattle.tables.specs.declared.Size.{Size}
 use Rattle.tables.specs.declared.internal.Span.{Span}
 use Rattle.tables.specs.Meaning.{held, spanAt}
 use Rattle.decide.specs.declared.nets.Range.{Range}
-use Rattle.decide.specs.Nets.{practised, rangeFrom, practiceRange, rangeOf, seedOf, Spans, Laid}
+use Rattle.decide.specs.Nets.{practised, rangeFrom, practiceRange, rangeOf, seedOf, Spans, Initialized}
 
 -- ---- of one state
 
@@ -69,21 +69,21 @@ module _ (q : Span) where
 
 -- ---- of the states one after another
 
-pub laid-start : {T : Tables} {alone : Bool} {r w e : List ℕ} → Laid T alone 0 r w e r w e
-laid-start = record { seeded = filled-none; begins = filled-none; stops = filled-none }
+pub initialized-start : {T : Tables} {alone : Bool} {r w e : List ℕ} → Initialized T alone 0 r w e r w e
+initialized-start = record { seeded = filled-none; begins = filled-none; stops = filled-none }
 
-pub laid-next : {T : Tables} {alone : Bool} {i : ℕ} {r₀ w₀ e₀ r w e : List ℕ} → Laid T alone i r₀ w₀ e₀ r w e → (q : Span) → q ≡ spanAt T i
+pub initialized-next : {T : Tables} {alone : Bool} {i : ℕ} {r₀ w₀ e₀ r w e : List ℕ} → Initialized T alone i r₀ w₀ e₀ r w e → (q : Span) → q ≡ spanAt T i
     → i < length r₀ → i < length w₀ → i < length e₀ → (r′ w′ e′ : List ℕ)
-    → r′ ≡ set r i (seedOf q) → w′ ≡ set w i (rangeOf alone q .from) → e′ ≡ set e i (rangeOf alone q .to) → Laid T alone (i + 1) r₀ w₀ e₀ r′ w′ e′
-laid-next {alone = alone} v q is lr lw le r′ w′ e′ a b c = record {
+    → r′ ≡ set r i (seedOf q) → w′ ≡ set w i (rangeOf alone q .from) → e′ ≡ set e i (rangeOf alone q .to) → Initialized T alone (i + 1) r₀ w₀ e₀ r′ w′ e′
+initialized-next {alone = alone} v q is lr lw le r′ w′ e′ a b c = record {
   seeded = filled-next (v .seeded) lr _ (ap seedOf is) r′ a;
   begins = filled-next (v .begins) lw _ (ap (λ (p : Span). rangeOf alone p .from) is) w′ b;
   stops = filled-next (v .stops) le _ (ap (λ (p : Span). rangeOf alone p .to) is) e′ c;
 }
 
-pub laid-done : {T : Tables} {alone : Bool} {i : ℕ} {r₀ w₀ e₀ r w e : List ℕ} → Laid T alone i r₀ w₀ e₀ r w e → (n : ℕ) → i ≤ n → n ≤ i
-    → Laid T alone n r₀ w₀ e₀ r w e
-laid-done {i = i} v n h k = let e : n ≡ i = omega arith in rw e v
+pub initialized-done : {T : Tables} {alone : Bool} {i : ℕ} {r₀ w₀ e₀ r w e : List ℕ} → Initialized T alone i r₀ w₀ e₀ r w e → (n : ℕ) → i ≤ n → n ≤ i
+    → Initialized T alone n r₀ w₀ e₀ r w e
+initialized-done {i = i} v n h k = let e : n ≡ i = omega arith in rw e v
 
 -- the places of the commands of a state that was read are in range
 pub read-inside : {size : Size} {rows : List Row} → Spans size rows → (F O : List ℕ) (s : ℕ) → s < size .n → (q : Span) → q ≡ spanAt (held size rows F O) s

@@ -1,4 +1,4 @@
--- `decide::nets::lay_out`, over rows. Made by tools/rows, and checked like every proof.
+-- `decide::nets::initialize`, over rows. Made by tools/rows, and checked like every proof.
 use Prim.Native.Nat
 use Rattle.tables.proofs.Row as T
 use Rattle.tables.proofs.Size
@@ -141,7 +141,7 @@ abbrev b11 : Syntax.Body
 b11 = Syntax.assign (Syntax.place 16 List.[]) (Syntax.aggregate (List._∷_ (Syntax.copy (Syntax.place 15 List.[])) (List._∷_ (Syntax.copy (Syntax.place 6 (List._∷_ (Syntax.field 1) List.[]))) List.[])))
 
 abbrev b12 : Syntax.Body
-b12 = Syntax.call "decide::nets::lay_one" (List._∷_ (Syntax.copy (Syntax.place 8 List.[])) (List._∷_ (Syntax.copy (Syntax.place 3 List.[])) (List._∷_ (Syntax.copy (Syntax.place 12 List.[])) (List._∷_ (Syntax.copy (Syntax.place 14 List.[])) (List._∷_ (Syntax.copy (Syntax.place 16 List.[])) (List._∷_ (Syntax.copy (Syntax.place 7 List.[])) List.[])))))) (Syntax.place 10 List.[])
+b12 = Syntax.call "decide::nets::initialize_state" (List._∷_ (Syntax.copy (Syntax.place 8 List.[])) (List._∷_ (Syntax.copy (Syntax.place 3 List.[])) (List._∷_ (Syntax.copy (Syntax.place 12 List.[])) (List._∷_ (Syntax.copy (Syntax.place 14 List.[])) (List._∷_ (Syntax.copy (Syntax.place 16 List.[])) (List._∷_ (Syntax.copy (Syntax.place 7 List.[])) List.[])))))) (Syntax.place 10 List.[])
 
 abbrev b13 : Syntax.Body
 b13 = Syntax.assign (Syntax.place 7 List.[]) (Syntax.op2 (Syntax.add Syntax.unsigned) (Syntax.copy (Syntax.place 7 List.[])) (Syntax.int Syntax.w64 1))
@@ -486,7 +486,7 @@ module _ (claims· : Claims) where
   module _ (Pre· : (κs : Lifetimes.Lfts 4) → Kinds.Dens κs ps → Type 0) (Post· : (κs : Lifetimes.Lfts 4) → (a : Kinds.Dens κs ps) → Kinds.Plain 4 ps r κs) where
     module _ (M : Type 1) where
       abbrev pub Closed : Type 2
-      Closed = (𝓤 : URA.URA M) (H : Wp.Heap 𝓤) (A : Atoms.Atoms 𝓤) (W : Kit.Given 𝓤 H A) (𝓣 : Wp.Tables 𝓤 H) (known0 : Plain.Known 𝓤 H A W 𝓣 1 ps·0 r·0 (claims· .0) (claims· .1) "tables::internal::span_at") (known1 : Plain.Known 𝓤 H A W 𝓣 3 ps·1 r·1 (claims· .2) (claims· .3) "decide::nets::lay_one") → Statement.Triple 𝓤 (Wp.WpFn 𝓤 H (𝓣 .C) (𝓣 .Λ) (Function.fnOf 4 ps r xs m hs body)) (Function.plainOf 𝓤 H A 4 ps r Pre· Post·)
+      Closed = (𝓤 : URA.URA M) (H : Wp.Heap 𝓤) (A : Atoms.Atoms 𝓤) (W : Kit.Given 𝓤 H A) (𝓣 : Wp.Tables 𝓤 H) (known0 : Plain.Known 𝓤 H A W 𝓣 1 ps·0 r·0 (claims· .0) (claims· .1) "tables::internal::span_at") (known1 : Plain.Known 𝓤 H A W 𝓣 3 ps·1 r·1 (claims· .2) (claims· .3) "decide::nets::initialize_state") → Statement.Triple 𝓤 (Wp.WpFn 𝓤 H (𝓣 .C) (𝓣 .Λ) (Function.fnOf 4 ps r xs m hs body)) (Function.plainOf 𝓤 H A 4 ps r Pre· Post·)
 
     module _ (Inv·0 : InvT-loop) (μ·0 : MeasureT-loop) where
       abbrev at0 : Typed.TF T10 O4
@@ -632,7 +632,7 @@ module _ (claims· : Claims) where
 
       module _ {M : Type 1} (𝓤 : URA.URA M) (H : Wp.Heap 𝓤) (A : Atoms.Atoms 𝓤) (W : Kit.Given 𝓤 H A) (𝓣 : Wp.Tables 𝓤 H) where
         abbrev Knowns : Type 1
-        Knowns = Plain.Known 𝓤 H A W 𝓣 1 ps·0 r·0 (claims· .0) (claims· .1) "tables::internal::span_at" × Plain.Known 𝓤 H A W 𝓣 3 ps·1 r·1 (claims· .2) (claims· .3) "decide::nets::lay_one"
+        Knowns = Plain.Known 𝓤 H A W 𝓣 1 ps·0 r·0 (claims· .0) (claims· .1) "tables::internal::span_at" × Plain.Known 𝓤 H A W 𝓣 3 ps·1 r·1 (claims· .2) (claims· .3) "decide::nets::initialize_state"
 
       module _ (κs : Lifetimes.Lfts 4) (qs : Lifetimes.Shares 4) where
         abbrev g8 : List.List Row.Entry
@@ -877,7 +877,7 @@ module _ (claims· : Claims) where
           d20 = Typed.g-pre 𝓤 H A W 𝓣 E G23 G24 b13 Δ3 (Typed.pass T23 T24 s20) at19 (Scalar.g-room 𝓤 H A W E G23 8 ty·7 (Local.room-whole 𝓤 H A W (Declared.row Span.the-type) ty·7 Path'.refl)) d19
 
           d21 : Typed.Typed 𝓤 H A 𝓣 E G22 b14 Δ3 at21
-          d21 = Typed.s-seq 𝓤 H A W 𝓣 E G22 G23 b12 b13 Δ3 (Typed.both s19) at20 (Plain.t-call-plain 𝓤 H A W 𝓣 3 ps·1 r·1 (claims· .2) (claims· .3) "decide::nets::lay_one" (known .1) E (λ pos β. β) G22 (record { pos = 8; st = List.[]; d = 0; at = λ x. x }, (Bool.bAt 3 λ x. x, (record { pos = 12; ty = Syntax.tyRef Syntax.erased Syntax.mut (Syntax.tyInt Syntax.w16); ref = λ x. x }, (record { pos = 14; ty = Syntax.tyRef Syntax.erased Syntax.mut (Syntax.tyInt Syntax.w16); ref = λ x. x }, (record { pos = 16; ty = Syntax.tyRef Syntax.erased Syntax.mut (Syntax.tyInt Syntax.w16); ref = λ x. x }, (Num.vAt 7 λ x. x, tt)))))) 10 (List._∷_ 4 (List._∷_ 5 (List._∷_ 6 List.[]))) (Call.sub-id 𝓤 H A W (G22 .slots)) ((Yields.yields-copy 𝓤 H A W (λ ρ. Unit) (Declared.row Span.the-type) Path'.refl (Copies.cStruct Span.the-type Laws'.the-laws Laws'.the-copy .copy 𝓤 H A W) (Rows.whole (Declared.row Span.the-type)) (λ x. x) (λ x. x) (λ ρ told. Local.mem-whole 𝓤 H A W (Declared.row Span.the-type) ρ) λ ρ told. Local.whole-mem 𝓤 H A W (Declared.row Span.the-type) ρ, Path'.refl), ((Scalar.reads-sc 𝓤 H A W Row.sBool, Path'.refl), (Reads'.as-is 𝓤 H A (Mut.mslice (Referent.rtF (Referent.fInt Syntax.w16)) ty·0 4), Mut.reads-mslice 𝓤 H A W (Referent.rtF (Referent.fInt Syntax.w16)) ty·0 4, Path'.refl, (Reads'.as-is 𝓤 H A (Mut.mslice (Referent.rtF (Referent.fInt Syntax.w16)) ty·0 5), Mut.reads-mslice 𝓤 H A W (Referent.rtF (Referent.fInt Syntax.w16)) ty·0 5, Path'.refl, (Reads'.as-is 𝓤 H A (Mut.mslice (Referent.rtF (Referent.fInt Syntax.w16)) ty·0 6), Mut.reads-mslice 𝓤 H A W (Referent.rtF (Referent.fInt Syntax.w16)) ty·0 6, Path'.refl, ((Scalar.reads-sc 𝓤 H A W (Row.sInt Syntax.w64), Path'.refl), tt)))))) (Reads'.room-gone 𝓤 H A Syntax.tyUnit) (tt, (tt, (tt, tt))) Path'.refl) d20
+          d21 = Typed.s-seq 𝓤 H A W 𝓣 E G22 G23 b12 b13 Δ3 (Typed.both s19) at20 (Plain.t-call-plain 𝓤 H A W 𝓣 3 ps·1 r·1 (claims· .2) (claims· .3) "decide::nets::initialize_state" (known .1) E (λ pos β. β) G22 (record { pos = 8; st = List.[]; d = 0; at = λ x. x }, (Bool.bAt 3 λ x. x, (record { pos = 12; ty = Syntax.tyRef Syntax.erased Syntax.mut (Syntax.tyInt Syntax.w16); ref = λ x. x }, (record { pos = 14; ty = Syntax.tyRef Syntax.erased Syntax.mut (Syntax.tyInt Syntax.w16); ref = λ x. x }, (record { pos = 16; ty = Syntax.tyRef Syntax.erased Syntax.mut (Syntax.tyInt Syntax.w16); ref = λ x. x }, (Num.vAt 7 λ x. x, tt)))))) 10 (List._∷_ 4 (List._∷_ 5 (List._∷_ 6 List.[]))) (Call.sub-id 𝓤 H A W (G22 .slots)) ((Yields.yields-copy 𝓤 H A W (λ ρ. Unit) (Declared.row Span.the-type) Path'.refl (Copies.cStruct Span.the-type Laws'.the-laws Laws'.the-copy .copy 𝓤 H A W) (Rows.whole (Declared.row Span.the-type)) (λ x. x) (λ x. x) (λ ρ told. Local.mem-whole 𝓤 H A W (Declared.row Span.the-type) ρ) λ ρ told. Local.whole-mem 𝓤 H A W (Declared.row Span.the-type) ρ, Path'.refl), ((Scalar.reads-sc 𝓤 H A W Row.sBool, Path'.refl), (Reads'.as-is 𝓤 H A (Mut.mslice (Referent.rtF (Referent.fInt Syntax.w16)) ty·0 4), Mut.reads-mslice 𝓤 H A W (Referent.rtF (Referent.fInt Syntax.w16)) ty·0 4, Path'.refl, (Reads'.as-is 𝓤 H A (Mut.mslice (Referent.rtF (Referent.fInt Syntax.w16)) ty·0 5), Mut.reads-mslice 𝓤 H A W (Referent.rtF (Referent.fInt Syntax.w16)) ty·0 5, Path'.refl, (Reads'.as-is 𝓤 H A (Mut.mslice (Referent.rtF (Referent.fInt Syntax.w16)) ty·0 6), Mut.reads-mslice 𝓤 H A W (Referent.rtF (Referent.fInt Syntax.w16)) ty·0 6, Path'.refl, ((Scalar.reads-sc 𝓤 H A W (Row.sInt Syntax.w64), Path'.refl), tt)))))) (Reads'.room-gone 𝓤 H A Syntax.tyUnit) (tt, (tt, (tt, tt))) Path'.refl) d20
 
           d22 : Typed.Typed 𝓤 H A 𝓣 E G21 b15 Δ3 at22
           d22 = Typed.s-seq 𝓤 H A W 𝓣 E G21 G22 b11 b14 Δ3 (Typed.ask s18) at21 (Relend.t-sl-aggregate 𝓤 H A W E (Referent.rtF (Referent.fInt Syntax.w16)) 𝓣 (Relend.asMut (Referent.rtF (Referent.fInt Syntax.w16))) G21 15 16 6 ty·0 ty·0 (λ x. x) (Scalar.oFld 6 (List._∷_ (Syntax.field 1) List.[]) (Syntax.tyInt Syntax.w64) 8 λ v. Shared.lenV (v .0)) (Reads'.as-is 𝓤 H A (Relend.msptr (Referent.rtF (Referent.fInt Syntax.w16)) ty·0 6)) (Reads'.room-gone 𝓤 H A ty·5) (Relend.reads-owed-len 𝓤 H A W (Referent.rtF (Referent.fInt Syntax.w16)) ty·3 3 6 (Row.lease (κs .1 .1 .1 .0) (qs .1 .1 .1 .0)) 8 Path'.refl, Path'.refl) Path'.refl Path'.refl λ b o k. tt) d21
@@ -1107,73 +1107,73 @@ module _ (claims· : Claims) where
       m13 = λ before given. s12 .next (m12 before given)
 
       module _ (before· : After-span-at) where
-        pub record After-lay-one-arg·own : Type 0 where
+        pub record After-initialize-state-arg·own : Type 0 where
           pub given : s11 .gives (m11 (before· .before) (After-span-at·gave before·))
 
-      pub record After-lay-one-arg : Type 0 where
+      pub record After-initialize-state-arg : Type 0 where
         pub before : After-span-at
-        pub lay-one-arg : After-lay-one-arg·own before
+        pub initialize-state-arg : After-initialize-state-arg·own before
 
-      abbrev pub m14 : (before : After-lay-one-arg) → (given : s14 .gives (m13 (before .before) (before .lay-one-arg .given))) → Typed.Mo T18
-      m14 = λ before given. s14 .next (m13 (before .before) (before .lay-one-arg .given)) given
+      abbrev pub m14 : (before : After-initialize-state-arg) → (given : s14 .gives (m13 (before .before) (before .initialize-state-arg .given))) → Typed.Mo T18
+      m14 = λ before given. s14 .next (m13 (before .before) (before .initialize-state-arg .given)) given
 
-      abbrev pub m15 : (before : After-lay-one-arg) → (given : s14 .gives (m13 (before .before) (before .lay-one-arg .given))) → Typed.Mo T19
+      abbrev pub m15 : (before : After-initialize-state-arg) → (given : s14 .gives (m13 (before .before) (before .initialize-state-arg .given))) → Typed.Mo T19
       m15 = λ before given. s15 .next (m14 before given)
 
-      module _ (before· : After-lay-one-arg) where
-        pub record After-lay-one-arg2·own : Type 0 where
-          pub given : s14 .gives (m13 (before· .before) (before· .lay-one-arg .given))
+      module _ (before· : After-initialize-state-arg) where
+        pub record After-initialize-state-arg2·own : Type 0 where
+          pub given : s14 .gives (m13 (before· .before) (before· .initialize-state-arg .given))
 
-      pub record After-lay-one-arg2 : Type 0 where
-        pub before : After-lay-one-arg
-        pub lay-one-arg2 : After-lay-one-arg2·own before
+      pub record After-initialize-state-arg2 : Type 0 where
+        pub before : After-initialize-state-arg
+        pub initialize-state-arg2 : After-initialize-state-arg2·own before
 
-      abbrev pub m16 : (before : After-lay-one-arg2) → (given : s17 .gives (m15 (before .before) (before .lay-one-arg2 .given))) → Typed.Mo T21
-      m16 = λ before given. s17 .next (m15 (before .before) (before .lay-one-arg2 .given)) given
+      abbrev pub m16 : (before : After-initialize-state-arg2) → (given : s17 .gives (m15 (before .before) (before .initialize-state-arg2 .given))) → Typed.Mo T21
+      m16 = λ before given. s17 .next (m15 (before .before) (before .initialize-state-arg2 .given)) given
 
-      abbrev pub m17 : (before : After-lay-one-arg2) → (given : s17 .gives (m15 (before .before) (before .lay-one-arg2 .given))) → Typed.Mo T22
+      abbrev pub m17 : (before : After-initialize-state-arg2) → (given : s17 .gives (m15 (before .before) (before .initialize-state-arg2 .given))) → Typed.Mo T22
       m17 = λ before given. s18 .next (m16 before given)
 
-      module _ (before· : After-lay-one-arg2) where
-        pub record After-lay-one-arg3·own : Type 0 where
-          pub given : s17 .gives (m15 (before· .before) (before· .lay-one-arg2 .given))
+      module _ (before· : After-initialize-state-arg2) where
+        pub record After-initialize-state-arg3·own : Type 0 where
+          pub given : s17 .gives (m15 (before· .before) (before· .initialize-state-arg2 .given))
 
-      pub record After-lay-one-arg3 : Type 0 where
-        pub before : After-lay-one-arg2
-        pub lay-one-arg3 : After-lay-one-arg3·own before
+      pub record After-initialize-state-arg3 : Type 0 where
+        pub before : After-initialize-state-arg2
+        pub initialize-state-arg3 : After-initialize-state-arg3·own before
 
-      abbrev pub Need-lay-one-requires : Type 0
-      Need-lay-one-requires = (c : After-lay-one-arg3) → s19 .asks (m17 (c .before) (c .lay-one-arg3 .given))
+      abbrev pub Need-initialize-state-requires : Type 0
+      Need-initialize-state-requires = (c : After-initialize-state-arg3) → s19 .asks (m17 (c .before) (c .initialize-state-arg3 .given))
 
-      abbrev pub m18 : (before : After-lay-one-arg3) → (given : s19 .gives (m17 (before .before) (before .lay-one-arg3 .given))) → Typed.Mo T23
-      m18 = λ before given. s19 .next (m17 (before .before) (before .lay-one-arg3 .given)) given
+      abbrev pub m18 : (before : After-initialize-state-arg3) → (given : s19 .gives (m17 (before .before) (before .initialize-state-arg3 .given))) → Typed.Mo T23
+      m18 = λ before given. s19 .next (m17 (before .before) (before .initialize-state-arg3 .given)) given
 
-      module _ (before· : After-lay-one-arg3) where
-        abbrev pub After-lay-one·own : Type 0
-        After-lay-one·own = Called.Called ps·1 r·1 (claims· .3) T22 (record { pos = 8; st = List.[]; d = 0; at = λ x. x }, (Bool.bAt 3 λ x. x, (record { pos = 12; ty = Syntax.tyRef Syntax.erased Syntax.mut (Syntax.tyInt Syntax.w16); ref = λ x. x }, (record { pos = 14; ty = Syntax.tyRef Syntax.erased Syntax.mut (Syntax.tyInt Syntax.w16); ref = λ x. x }, (record { pos = 16; ty = Syntax.tyRef Syntax.erased Syntax.mut (Syntax.tyInt Syntax.w16); ref = λ x. x }, (Num.vAt 7 λ x. x, tt)))))) (m17 (before· .before) (before· .lay-one-arg3 .given))
+      module _ (before· : After-initialize-state-arg3) where
+        abbrev pub After-initialize-state·own : Type 0
+        After-initialize-state·own = Called.Called ps·1 r·1 (claims· .3) T22 (record { pos = 8; st = List.[]; d = 0; at = λ x. x }, (Bool.bAt 3 λ x. x, (record { pos = 12; ty = Syntax.tyRef Syntax.erased Syntax.mut (Syntax.tyInt Syntax.w16); ref = λ x. x }, (record { pos = 14; ty = Syntax.tyRef Syntax.erased Syntax.mut (Syntax.tyInt Syntax.w16); ref = λ x. x }, (record { pos = 16; ty = Syntax.tyRef Syntax.erased Syntax.mut (Syntax.tyInt Syntax.w16); ref = λ x. x }, (Num.vAt 7 λ x. x, tt)))))) (m17 (before· .before) (before· .initialize-state-arg3 .given))
 
-      pub record After-lay-one : Type 0 where
-        pub before : After-lay-one-arg3
-        pub lay-one : After-lay-one·own before
+      pub record After-initialize-state : Type 0 where
+        pub before : After-initialize-state-arg3
+        pub initialize-state : After-initialize-state·own before
 
-      abbrev pub After-lay-one·gave : (c : After-lay-one) → s19 .gives (m17 (c .before .before) (c .before .lay-one-arg3 .given))
-      After-lay-one·gave = λ c. Called.given ps·1 r·1 (claims· .3) T22 (record { pos = 8; st = List.[]; d = 0; at = λ x. x }, (Bool.bAt 3 λ x. x, (record { pos = 12; ty = Syntax.tyRef Syntax.erased Syntax.mut (Syntax.tyInt Syntax.w16); ref = λ x. x }, (record { pos = 14; ty = Syntax.tyRef Syntax.erased Syntax.mut (Syntax.tyInt Syntax.w16); ref = λ x. x }, (record { pos = 16; ty = Syntax.tyRef Syntax.erased Syntax.mut (Syntax.tyInt Syntax.w16); ref = λ x. x }, (Num.vAt 7 λ x. x, tt)))))) (m17 (c .before .before) (c .before .lay-one-arg3 .given)) (c .lay-one)
+      abbrev pub After-initialize-state·gave : (c : After-initialize-state) → s19 .gives (m17 (c .before .before) (c .before .initialize-state-arg3 .given))
+      After-initialize-state·gave = λ c. Called.given ps·1 r·1 (claims· .3) T22 (record { pos = 8; st = List.[]; d = 0; at = λ x. x }, (Bool.bAt 3 λ x. x, (record { pos = 12; ty = Syntax.tyRef Syntax.erased Syntax.mut (Syntax.tyInt Syntax.w16); ref = λ x. x }, (record { pos = 14; ty = Syntax.tyRef Syntax.erased Syntax.mut (Syntax.tyInt Syntax.w16); ref = λ x. x }, (record { pos = 16; ty = Syntax.tyRef Syntax.erased Syntax.mut (Syntax.tyInt Syntax.w16); ref = λ x. x }, (Num.vAt 7 λ x. x, tt)))))) (m17 (c .before .before) (c .before .initialize-state-arg3 .given)) (c .initialize-state)
 
-      abbrev pub m19 : (before : After-lay-one-arg3) → (given : s19 .gives (m17 (before .before) (before .lay-one-arg3 .given))) → Typed.Mo T24
+      abbrev pub m19 : (before : After-initialize-state-arg3) → (given : s19 .gives (m17 (before .before) (before .initialize-state-arg3 .given))) → Typed.Mo T24
       m19 = λ before given. s20 (m18 before given)
 
-      abbrev pub m20 : (before : After-lay-one-arg3) → (given : s19 .gives (m17 (before .before) (before .lay-one-arg3 .given))) → Typed.Mo T25
+      abbrev pub m20 : (before : After-initialize-state-arg3) → (given : s19 .gives (m17 (before .before) (before .initialize-state-arg3 .given))) → Typed.Mo T25
       m20 = λ before given. s21 (m19 before given)
 
-      abbrev pub m21 : (before : After-lay-one) → (given : s23 .gives (m20 (before .before) (After-lay-one·gave before))) → Typed.Mo T27
-      m21 = λ before given. s23 .next (m20 (before .before) (After-lay-one·gave before)) given
+      abbrev pub m21 : (before : After-initialize-state) → (given : s23 .gives (m20 (before .before) (After-initialize-state·gave before))) → Typed.Mo T27
+      m21 = λ before given. s23 .next (m20 (before .before) (After-initialize-state·gave before)) given
 
-      module _ (before· : After-lay-one) where
+      module _ (before· : After-initialize-state) where
         pub record After-ranks·own : Type 0 where
-          pub given : s23 .gives (m20 (before· .before) (After-lay-one·gave before·))
+          pub given : s23 .gives (m20 (before· .before) (After-initialize-state·gave before·))
 
       pub record After-ranks : Type 0 where
-        pub before : After-lay-one
+        pub before : After-initialize-state
         pub ranks : After-ranks·own before
 
       abbrev pub m22 : (before : After-ranks) → (given : s24 .gives (m21 (before .before) (before .ranks .given))) → Typed.Mo T28
@@ -1264,15 +1264,15 @@ module _ (claims· : Claims) where
       abbrev pub Need-returns : Type 0
       Need-returns = (c : Else1) → Post· (c .before .before .before .before .before .before .κs) (dens (c .before .before .before .before .before .before .κs) (c .before .before .before .before .before .before .args)) (Function.resV r (c .before .before .before .before .before .before .κs) (m30 (c .before) .0)) (Clauses.atExit (Kinds.endedOf 4 ps r) (c .before .before .before .before .before .before .κs) (dens (c .before .before .before .before .before .before .κs) (c .before .before .before .before .before .before .args)) (Enter.lastsP (c .before .before .before .before .before .before .κs) 1 ps xs (dens (c .before .before .before .before .before .before .κs) (c .before .before .before .before .before .before .args)) (m30 (c .before) .1)))
 
-      module _ (loop-holds : Need-loop-holds) (span-at-requires : Need-span-at-requires) (lay-one-requires : Need-lay-one-requires) (add-s : Need-add-s) (loop-less : Need-loop-less) (loop-again : Need-loop-again) (same-length : Need-same-length) (same-length-2 : Need-same-length-2) (same-length-3 : Need-same-length-3) (returns : Need-returns) where
+      module _ (loop-holds : Need-loop-holds) (span-at-requires : Need-span-at-requires) (initialize-state-requires : Need-initialize-state-requires) (add-s : Need-add-s) (loop-less : Need-loop-less) (loop-again : Need-loop-again) (same-length : Need-same-length) (same-length-2 : Need-same-length-2) (same-length-3 : Need-same-length-3) (returns : Need-returns) where
         lay6 : (c : Else1) → at40 (W0 (c .before .before .before .before .before .before .κs) (c .before .before .before .before .before .before .args)) (m10 (c .before))
         lay6 = λ c. ((tt, (Path'.refl, (tt, (MutSlice.fix-len (Row.get 4 (T41 .locals) (m30 (c .before)) .ptr) (Row.get 4 (T41 .locals) (m30 (c .before)) .name) (Row.get 4 (T41 .locals) (m30 (c .before)) .now) (dens (c .before .before .before .before .before .before .κs) (c .before .before .before .before .before .before .args) .1 .1 .1 .0 .now) (same-length record { before = c .before; if1 = c .if1 }), (MutSlice.fix-len (Row.get 5 (T41 .locals) (m30 (c .before)) .ptr) (Row.get 5 (T41 .locals) (m30 (c .before)) .name) (Row.get 5 (T41 .locals) (m30 (c .before)) .now) (dens (c .before .before .before .before .before .before .κs) (c .before .before .before .before .before .before .args) .1 .1 .1 .1 .0 .now) (same-length-2 record { before = c .before; if1 = c .if1 }), (MutSlice.fix-len (Row.get 6 (T41 .locals) (m30 (c .before)) .ptr) (Row.get 6 (T41 .locals) (m30 (c .before)) .name) (Row.get 6 (T41 .locals) (m30 (c .before)) .now) (dens (c .before .before .before .before .before .before .κs) (c .before .before .before .before .before .before .args) .1 .1 .1 .1 .1 .0 .now) (same-length-3 record { before = c .before; if1 = c .if1 }), tt)))))), returns record { before = c .before; if1 = c .if1 })
 
-        lay5 : (c : After-lay-one) → at20 (W3 (c .before .before .before .before .before .before .before .before) (c .before .before .before .before .before .before .before .loop .ranks) (c .before .before .before .before .before .before .before .loop .watch) (c .before .before .before .before .before .before .before .loop .ends) (c .before .before .before .before .before .before .before .loop .s)) (m18 (c .before) (After-lay-one·gave c))
-        lay5 = λ c. (Path'.refl, λ g. λ g'. (Path'.refl, λ g''. λ g'3. (Path'.refl, λ g'4. λ g'5. (add-s record { before = record { before = record { before = record { before = record { before = record { before = record { before = c .before; lay-one = c .lay-one }; ranks = record { given = g } }; slice-known4 = record { given = g' } }; watch = record { given = g'' } }; slice-known5 = record { given = g'3 } }; ends = record { given = g'4 } }; slice-known6 = record { given = g'5 } }, (μ·0 (Row.get 1 (T5 .locals) (m4 (c .before .before .before .before .before .before .before .before .before) (c .before .before .before .before .before .before .before .before .slice-known3 .given))) (Row.get 2 (T5 .locals) (m4 (c .before .before .before .before .before .before .before .before .before) (c .before .before .before .before .before .before .before .before .slice-known3 .given)) .now) (Row.get 3 (T5 .locals) (m4 (c .before .before .before .before .before .before .before .before .before) (c .before .before .before .before .before .before .before .before .slice-known3 .given))) (Row.get 4 (T5 .locals) (m4 (c .before .before .before .before .before .before .before .before .before) (c .before .before .before .before .before .before .before .before .slice-known3 .given)) .now) (Row.get 5 (T5 .locals) (m4 (c .before .before .before .before .before .before .before .before .before) (c .before .before .before .before .before .before .before .before .slice-known3 .given)) .now) (Row.get 6 (T5 .locals) (m4 (c .before .before .before .before .before .before .before .before .before) (c .before .before .before .before .before .before .before .before .slice-known3 .given)) .now) (Row.get 7 (T5 .locals) (m4 (c .before .before .before .before .before .before .before .before .before) (c .before .before .before .before .before .before .before .before .slice-known3 .given))) (Row.get 4 (T5 .locals) (m27 record { before = record { before = record { before = record { before = record { before = record { before = c .before; lay-one = c .lay-one }; ranks = record { given = g } }; slice-known4 = record { given = g' } }; watch = record { given = g'' } }; slice-known5 = record { given = g'3 } }; ends = record { given = g'4 } } g'5) .now) (Row.get 5 (T5 .locals) (m27 record { before = record { before = record { before = record { before = record { before = record { before = c .before; lay-one = c .lay-one }; ranks = record { given = g } }; slice-known4 = record { given = g' } }; watch = record { given = g'' } }; slice-known5 = record { given = g'3 } }; ends = record { given = g'4 } } g'5) .now) (Row.get 6 (T5 .locals) (m27 record { before = record { before = record { before = record { before = record { before = record { before = c .before; lay-one = c .lay-one }; ranks = record { given = g } }; slice-known4 = record { given = g' } }; watch = record { given = g'' } }; slice-known5 = record { given = g'3 } }; ends = record { given = g'4 } } g'5) .now) (Row.get 7 (T5 .locals) (m27 record { before = record { before = record { before = record { before = record { before = record { before = c .before; lay-one = c .lay-one }; ranks = record { given = g } }; slice-known4 = record { given = g' } }; watch = record { given = g'' } }; slice-known5 = record { given = g'3 } }; ends = record { given = g'4 } } g'5)), loop-less record { before = record { before = record { before = record { before = record { before = record { before = record { before = c .before; lay-one = c .lay-one }; ranks = record { given = g } }; slice-known4 = record { given = g' } }; watch = record { given = g'' } }; slice-known5 = record { given = g'3 } }; ends = record { given = g'4 } }; slice-known6 = record { given = g'5 } }, ((Row.get 4 (T5 .locals) (m27 record { before = record { before = record { before = record { before = record { before = record { before = c .before; lay-one = c .lay-one }; ranks = record { given = g } }; slice-known4 = record { given = g' } }; watch = record { given = g'' } }; slice-known5 = record { given = g'3 } }; ends = record { given = g'4 } } g'5) .now, Row.get 5 (T5 .locals) (m27 record { before = record { before = record { before = record { before = record { before = record { before = c .before; lay-one = c .lay-one }; ranks = record { given = g } }; slice-known4 = record { given = g' } }; watch = record { given = g'' } }; slice-known5 = record { given = g'3 } }; ends = record { given = g'4 } } g'5) .now, Row.get 6 (T5 .locals) (m27 record { before = record { before = record { before = record { before = record { before = record { before = c .before; lay-one = c .lay-one }; ranks = record { given = g } }; slice-known4 = record { given = g' } }; watch = record { given = g'' } }; slice-known5 = record { given = g'3 } }; ends = record { given = g'4 } } g'5) .now, Row.get 7 (T5 .locals) (m27 record { before = record { before = record { before = record { before = record { before = record { before = c .before; lay-one = c .lay-one }; ranks = record { given = g } }; slice-known4 = record { given = g' } }; watch = record { given = g'' } }; slice-known5 = record { given = g'3 } }; ends = record { given = g'4 } } g'5)), Path'.refl {a = m27 record { before = record { before = record { before = record { before = record { before = record { before = c .before; lay-one = c .lay-one }; ranks = record { given = g } }; slice-known4 = record { given = g' } }; watch = record { given = g'' } }; slice-known5 = record { given = g'3 } }; ends = record { given = g'4 } } g'5}, loop-again record { before = record { before = record { before = record { before = record { before = record { before = record { before = c .before; lay-one = c .lay-one }; ranks = record { given = g } }; slice-known4 = record { given = g' } }; watch = record { given = g'' } }; slice-known5 = record { given = g'3 } }; ends = record { given = g'4 } }; slice-known6 = record { given = g'5 } }, Path'.refl {a = μ·0 (Row.get 1 (T5 .locals) (m4 (c .before .before .before .before .before .before .before .before .before) (c .before .before .before .before .before .before .before .before .slice-known3 .given))) (Row.get 2 (T5 .locals) (m4 (c .before .before .before .before .before .before .before .before .before) (c .before .before .before .before .before .before .before .before .slice-known3 .given)) .now) (Row.get 3 (T5 .locals) (m4 (c .before .before .before .before .before .before .before .before .before) (c .before .before .before .before .before .before .before .before .slice-known3 .given))) (Row.get 4 (T5 .locals) (m4 (c .before .before .before .before .before .before .before .before .before) (c .before .before .before .before .before .before .before .before .slice-known3 .given)) .now) (Row.get 5 (T5 .locals) (m4 (c .before .before .before .before .before .before .before .before .before) (c .before .before .before .before .before .before .before .before .slice-known3 .given)) .now) (Row.get 6 (T5 .locals) (m4 (c .before .before .before .before .before .before .before .before .before) (c .before .before .before .before .before .before .before .before .slice-known3 .given)) .now) (Row.get 7 (T5 .locals) (m4 (c .before .before .before .before .before .before .before .before .before) (c .before .before .before .before .before .before .before .before .slice-known3 .given))) (Row.get 4 (T5 .locals) (m27 record { before = record { before = record { before = record { before = record { before = record { before = c .before; lay-one = c .lay-one }; ranks = record { given = g } }; slice-known4 = record { given = g' } }; watch = record { given = g'' } }; slice-known5 = record { given = g'3 } }; ends = record { given = g'4 } } g'5) .now) (Row.get 5 (T5 .locals) (m27 record { before = record { before = record { before = record { before = record { before = record { before = c .before; lay-one = c .lay-one }; ranks = record { given = g } }; slice-known4 = record { given = g' } }; watch = record { given = g'' } }; slice-known5 = record { given = g'3 } }; ends = record { given = g'4 } } g'5) .now) (Row.get 6 (T5 .locals) (m27 record { before = record { before = record { before = record { before = record { before = record { before = c .before; lay-one = c .lay-one }; ranks = record { given = g } }; slice-known4 = record { given = g' } }; watch = record { given = g'' } }; slice-known5 = record { given = g'3 } }; ends = record { given = g'4 } } g'5) .now) (Row.get 7 (T5 .locals) (m27 record { before = record { before = record { before = record { before = record { before = record { before = c .before; lay-one = c .lay-one }; ranks = record { given = g } }; slice-known4 = record { given = g' } }; watch = record { given = g'' } }; slice-known5 = record { given = g'3 } }; ends = record { given = g'4 } } g'5))}))))))
+        lay5 : (c : After-initialize-state) → at20 (W3 (c .before .before .before .before .before .before .before .before) (c .before .before .before .before .before .before .before .loop .ranks) (c .before .before .before .before .before .before .before .loop .watch) (c .before .before .before .before .before .before .before .loop .ends) (c .before .before .before .before .before .before .before .loop .s)) (m18 (c .before) (After-initialize-state·gave c))
+        lay5 = λ c. (Path'.refl, λ g. λ g'. (Path'.refl, λ g''. λ g'3. (Path'.refl, λ g'4. λ g'5. (add-s record { before = record { before = record { before = record { before = record { before = record { before = record { before = c .before; initialize-state = c .initialize-state }; ranks = record { given = g } }; slice-known4 = record { given = g' } }; watch = record { given = g'' } }; slice-known5 = record { given = g'3 } }; ends = record { given = g'4 } }; slice-known6 = record { given = g'5 } }, (μ·0 (Row.get 1 (T5 .locals) (m4 (c .before .before .before .before .before .before .before .before .before) (c .before .before .before .before .before .before .before .before .slice-known3 .given))) (Row.get 2 (T5 .locals) (m4 (c .before .before .before .before .before .before .before .before .before) (c .before .before .before .before .before .before .before .before .slice-known3 .given)) .now) (Row.get 3 (T5 .locals) (m4 (c .before .before .before .before .before .before .before .before .before) (c .before .before .before .before .before .before .before .before .slice-known3 .given))) (Row.get 4 (T5 .locals) (m4 (c .before .before .before .before .before .before .before .before .before) (c .before .before .before .before .before .before .before .before .slice-known3 .given)) .now) (Row.get 5 (T5 .locals) (m4 (c .before .before .before .before .before .before .before .before .before) (c .before .before .before .before .before .before .before .before .slice-known3 .given)) .now) (Row.get 6 (T5 .locals) (m4 (c .before .before .before .before .before .before .before .before .before) (c .before .before .before .before .before .before .before .before .slice-known3 .given)) .now) (Row.get 7 (T5 .locals) (m4 (c .before .before .before .before .before .before .before .before .before) (c .before .before .before .before .before .before .before .before .slice-known3 .given))) (Row.get 4 (T5 .locals) (m27 record { before = record { before = record { before = record { before = record { before = record { before = c .before; initialize-state = c .initialize-state }; ranks = record { given = g } }; slice-known4 = record { given = g' } }; watch = record { given = g'' } }; slice-known5 = record { given = g'3 } }; ends = record { given = g'4 } } g'5) .now) (Row.get 5 (T5 .locals) (m27 record { before = record { before = record { before = record { before = record { before = record { before = c .before; initialize-state = c .initialize-state }; ranks = record { given = g } }; slice-known4 = record { given = g' } }; watch = record { given = g'' } }; slice-known5 = record { given = g'3 } }; ends = record { given = g'4 } } g'5) .now) (Row.get 6 (T5 .locals) (m27 record { before = record { before = record { before = record { before = record { before = record { before = c .before; initialize-state = c .initialize-state }; ranks = record { given = g } }; slice-known4 = record { given = g' } }; watch = record { given = g'' } }; slice-known5 = record { given = g'3 } }; ends = record { given = g'4 } } g'5) .now) (Row.get 7 (T5 .locals) (m27 record { before = record { before = record { before = record { before = record { before = record { before = c .before; initialize-state = c .initialize-state }; ranks = record { given = g } }; slice-known4 = record { given = g' } }; watch = record { given = g'' } }; slice-known5 = record { given = g'3 } }; ends = record { given = g'4 } } g'5)), loop-less record { before = record { before = record { before = record { before = record { before = record { before = record { before = c .before; initialize-state = c .initialize-state }; ranks = record { given = g } }; slice-known4 = record { given = g' } }; watch = record { given = g'' } }; slice-known5 = record { given = g'3 } }; ends = record { given = g'4 } }; slice-known6 = record { given = g'5 } }, ((Row.get 4 (T5 .locals) (m27 record { before = record { before = record { before = record { before = record { before = record { before = c .before; initialize-state = c .initialize-state }; ranks = record { given = g } }; slice-known4 = record { given = g' } }; watch = record { given = g'' } }; slice-known5 = record { given = g'3 } }; ends = record { given = g'4 } } g'5) .now, Row.get 5 (T5 .locals) (m27 record { before = record { before = record { before = record { before = record { before = record { before = c .before; initialize-state = c .initialize-state }; ranks = record { given = g } }; slice-known4 = record { given = g' } }; watch = record { given = g'' } }; slice-known5 = record { given = g'3 } }; ends = record { given = g'4 } } g'5) .now, Row.get 6 (T5 .locals) (m27 record { before = record { before = record { before = record { before = record { before = record { before = c .before; initialize-state = c .initialize-state }; ranks = record { given = g } }; slice-known4 = record { given = g' } }; watch = record { given = g'' } }; slice-known5 = record { given = g'3 } }; ends = record { given = g'4 } } g'5) .now, Row.get 7 (T5 .locals) (m27 record { before = record { before = record { before = record { before = record { before = record { before = c .before; initialize-state = c .initialize-state }; ranks = record { given = g } }; slice-known4 = record { given = g' } }; watch = record { given = g'' } }; slice-known5 = record { given = g'3 } }; ends = record { given = g'4 } } g'5)), Path'.refl {a = m27 record { before = record { before = record { before = record { before = record { before = record { before = c .before; initialize-state = c .initialize-state }; ranks = record { given = g } }; slice-known4 = record { given = g' } }; watch = record { given = g'' } }; slice-known5 = record { given = g'3 } }; ends = record { given = g'4 } } g'5}, loop-again record { before = record { before = record { before = record { before = record { before = record { before = record { before = c .before; initialize-state = c .initialize-state }; ranks = record { given = g } }; slice-known4 = record { given = g' } }; watch = record { given = g'' } }; slice-known5 = record { given = g'3 } }; ends = record { given = g'4 } }; slice-known6 = record { given = g'5 } }, Path'.refl {a = μ·0 (Row.get 1 (T5 .locals) (m4 (c .before .before .before .before .before .before .before .before .before) (c .before .before .before .before .before .before .before .before .slice-known3 .given))) (Row.get 2 (T5 .locals) (m4 (c .before .before .before .before .before .before .before .before .before) (c .before .before .before .before .before .before .before .before .slice-known3 .given)) .now) (Row.get 3 (T5 .locals) (m4 (c .before .before .before .before .before .before .before .before .before) (c .before .before .before .before .before .before .before .before .slice-known3 .given))) (Row.get 4 (T5 .locals) (m4 (c .before .before .before .before .before .before .before .before .before) (c .before .before .before .before .before .before .before .before .slice-known3 .given)) .now) (Row.get 5 (T5 .locals) (m4 (c .before .before .before .before .before .before .before .before .before) (c .before .before .before .before .before .before .before .before .slice-known3 .given)) .now) (Row.get 6 (T5 .locals) (m4 (c .before .before .before .before .before .before .before .before .before) (c .before .before .before .before .before .before .before .before .slice-known3 .given)) .now) (Row.get 7 (T5 .locals) (m4 (c .before .before .before .before .before .before .before .before .before) (c .before .before .before .before .before .before .before .before .slice-known3 .given))) (Row.get 4 (T5 .locals) (m27 record { before = record { before = record { before = record { before = record { before = record { before = c .before; initialize-state = c .initialize-state }; ranks = record { given = g } }; slice-known4 = record { given = g' } }; watch = record { given = g'' } }; slice-known5 = record { given = g'3 } }; ends = record { given = g'4 } } g'5) .now) (Row.get 5 (T5 .locals) (m27 record { before = record { before = record { before = record { before = record { before = record { before = c .before; initialize-state = c .initialize-state }; ranks = record { given = g } }; slice-known4 = record { given = g' } }; watch = record { given = g'' } }; slice-known5 = record { given = g'3 } }; ends = record { given = g'4 } } g'5) .now) (Row.get 6 (T5 .locals) (m27 record { before = record { before = record { before = record { before = record { before = record { before = c .before; initialize-state = c .initialize-state }; ranks = record { given = g } }; slice-known4 = record { given = g' } }; watch = record { given = g'' } }; slice-known5 = record { given = g'3 } }; ends = record { given = g'4 } } g'5) .now) (Row.get 7 (T5 .locals) (m27 record { before = record { before = record { before = record { before = record { before = record { before = c .before; initialize-state = c .initialize-state }; ranks = record { given = g } }; slice-known4 = record { given = g' } }; watch = record { given = g'' } }; slice-known5 = record { given = g'3 } }; ends = record { given = g'4 } } g'5))}))))))
 
         lay4 : (c : After-span-at) → at30 (W3 (c .before .before .before .before) (c .before .before .before .loop .ranks) (c .before .before .before .loop .watch) (c .before .before .before .loop .ends) (c .before .before .before .loop .s)) (m11 (c .before) (After-span-at·gave c))
-        lay4 = λ c. λ g. (Path'.refl, λ g'. (Path'.refl, λ g''. (Path'.refl, (lay-one-requires record { before = record { before = record { before = record { before = c .before; span-at = c .span-at }; lay-one-arg = record { given = g } }; lay-one-arg2 = record { given = g' } }; lay-one-arg3 = record { given = g'' } }, λ g'3. lay5 record { before = record { before = record { before = record { before = record { before = c .before; span-at = c .span-at }; lay-one-arg = record { given = g } }; lay-one-arg2 = record { given = g' } }; lay-one-arg3 = record { given = g'' } }; lay-one = Called.called ps·1 r·1 (claims· .3) T22 (record { pos = 8; st = List.[]; d = 0; at = λ x. x }, (Bool.bAt 3 λ x. x, (record { pos = 12; ty = Syntax.tyRef Syntax.erased Syntax.mut (Syntax.tyInt Syntax.w16); ref = λ x. x }, (record { pos = 14; ty = Syntax.tyRef Syntax.erased Syntax.mut (Syntax.tyInt Syntax.w16); ref = λ x. x }, (record { pos = 16; ty = Syntax.tyRef Syntax.erased Syntax.mut (Syntax.tyInt Syntax.w16); ref = λ x. x }, (Num.vAt 7 λ x. x, tt)))))) (m17 record { before = record { before = record { before = c .before; span-at = c .span-at }; lay-one-arg = record { given = g } }; lay-one-arg2 = record { given = g' } } g'') g'3 }))))
+        lay4 = λ c. λ g. (Path'.refl, λ g'. (Path'.refl, λ g''. (Path'.refl, (initialize-state-requires record { before = record { before = record { before = record { before = c .before; span-at = c .span-at }; initialize-state-arg = record { given = g } }; initialize-state-arg2 = record { given = g' } }; initialize-state-arg3 = record { given = g'' } }, λ g'3. lay5 record { before = record { before = record { before = record { before = record { before = c .before; span-at = c .span-at }; initialize-state-arg = record { given = g } }; initialize-state-arg2 = record { given = g' } }; initialize-state-arg3 = record { given = g'' } }; initialize-state = Called.called ps·1 r·1 (claims· .3) T22 (record { pos = 8; st = List.[]; d = 0; at = λ x. x }, (Bool.bAt 3 λ x. x, (record { pos = 12; ty = Syntax.tyRef Syntax.erased Syntax.mut (Syntax.tyInt Syntax.w16); ref = λ x. x }, (record { pos = 14; ty = Syntax.tyRef Syntax.erased Syntax.mut (Syntax.tyInt Syntax.w16); ref = λ x. x }, (record { pos = 16; ty = Syntax.tyRef Syntax.erased Syntax.mut (Syntax.tyInt Syntax.w16); ref = λ x. x }, (Num.vAt 7 λ x. x, tt)))))) (m17 record { before = record { before = record { before = c .before; span-at = c .span-at }; initialize-state-arg = record { given = g } }; initialize-state-arg2 = record { given = g' } } g'') g'3 }))))
 
         lay3 : (c : Then1) → at31 (W3 (c .before .before .before) (c .before .before .loop .ranks) (c .before .before .loop .watch) (c .before .before .loop .ends) (c .before .before .loop .s)) (m8 (c .before))
         lay3 = λ c. (span-at-requires record { before = c .before; if1 = c .if1 }, λ g. lay4 record { before = record { before = c .before; if1 = c .if1 }; span-at = Called.called ps·0 r·0 (claims· .1) T9 (record { pos = 1; st = List.[]; d = 0; at = λ x. x }, (record { pos = 2; ty = Syntax.tyRef (Syntax.named 0) Syntax.imm (Memory.pointee (T.the-row .written)); ref = λ x. x }, (Num.vAt 7 λ x. x, tt))) (m8 (c .before)) g })
@@ -1290,6 +1290,6 @@ module _ (claims· : Claims) where
           pub asked : (a : Kinds.Dens κs ps) → (good : Kinds.GoodsP κs ps a) → (pre : Pre· κs a) → (bs : List.List Nat.ℕ) → Φ (Any.wantQ 4 ps r xs m κs qs a (Post· κs a)) (Function.init 4 ps r xs m κs qs a)
           asked = λ a good pre bs. laid record { κs = κs; args = record { size = a .0; rows = a .1 .0; alone = a .1 .1 .0; ranks = a .1 .1 .1 .0; watch = a .1 .1 .1 .1 .0; ends = a .1 .1 .1 .1 .1 .0 }; good = good; pre = pre }
 
-        module _ {M : Type 1} (𝓤 : URA.URA M) (H : Wp.Heap 𝓤) (A : Atoms.Atoms 𝓤) (W : Kit.Given 𝓤 H A) (𝓣 : Wp.Tables 𝓤 H) (known0 : Plain.Known 𝓤 H A W 𝓣 1 ps·0 r·0 (claims· .0) (claims· .1) "tables::internal::span_at") (known1 : Plain.Known 𝓤 H A W 𝓣 3 ps·1 r·1 (claims· .2) (claims· .3) "decide::nets::lay_one") where
+        module _ {M : Type 1} (𝓤 : URA.URA M) (H : Wp.Heap 𝓤) (A : Atoms.Atoms 𝓤) (W : Kit.Given 𝓤 H A) (𝓣 : Wp.Tables 𝓤 H) (known0 : Plain.Known 𝓤 H A W 𝓣 1 ps·0 r·0 (claims· .0) (claims· .1) "tables::internal::span_at") (known1 : Plain.Known 𝓤 H A W 𝓣 3 ps·1 r·1 (claims· .2) (claims· .3) "decide::nets::initialize_state") where
           pub spec : Statement.Triple 𝓤 (Wp.WpFn 𝓤 H (𝓣 .C) (𝓣 .Λ) (Function.fnOf 4 ps r xs m hs body)) (Function.plainOf 𝓤 H A 4 ps r Pre· Post·)
           spec = Plain.t-fn-plain 𝓤 H A W 𝓣 4 ps r xs m hs body (λ κs qs bs. Φ) (λ κs qs bs bd. typed κs qs 𝓤 H A W 𝓣 (known0, known1) bs bd) Pre· Post· asked

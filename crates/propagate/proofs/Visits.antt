@@ -13,10 +13,10 @@ use Rattle.laws.specs.Entry.{FFFF}
 use Rattle.laws.proofs.Tests.{clash}
 use Rattle.index.specs.Commands.{Commands, Fit}
 use Rattle.choice.specs.Within.{within}
-use Rattle.propagate.specs.Net.{Net, netOf, from, to, hits, losing, layer, Ranges, Owns}
-use Rattle.propagate.specs.Work.{Work, work, Advanced, Line, Watch, Wave, Moved}
+use Rattle.propagate.specs.Net.{Net, netOf, from, to, commandHits, losing, netLayer, Ranges, Owns}
+use Rattle.propagate.specs.Work.{Work, work, Advanced, QueueBound, Watch, TowardsLayer, Moved}
 use Rattle.propagate.proofs.Hits.{hit-same, lose-of, to-in}
-use Rattle.propagate.proofs.Counting.{queue-room, line-next}
+use Rattle.propagate.proofs.Counting.{queue-room, bound-next}
 
 -- the end of a range as the table has it
 to-at : (C : Commands) (froms tos : List ℕ) (s : ℕ) → to (netOf C froms tos) s ≡ getD tos s 0
@@ -34,7 +34,7 @@ range-in C tos R s f h p = omega (arith, p, R .inside s h)
 
 -- The tables before the look, of the command c, whose owner is s.
 module _ (C : Commands) (R : Fit C) (tos owner : List ℕ) (ends : Ranges C tos) (k : ℕ) (small : k < 1024) (r w q : List ℕ) (end : ℕ)
-    (line : Line (C .n) (work r w q end)) (c s : ℕ) (p : s ≡ getD owner c 0) (inside : getD owner c 0 < C .n) where
+    (bound : QueueBound (C .n) (work r w q end)) (c s : ℕ) (p : s ≡ getD owner c 0) (inside : getD owner c 0 < C .n) where
   h : s < C .n
   h = omega (arith, p)
 
@@ -45,7 +45,7 @@ module _ (C : Commands) (R : Fit C) (tos owner : List ℕ) (ends : Ranges C tos)
   Look = Moved C tos owner k (λ (d : ℕ). d ≡ c) X
 
   module _ (froms : List ℕ) (K G G′ : ℕ → Bool) (hi : ℕ) (own : Owns (netOf C froms tos) owner)
-      (left : (d : ℕ) → d < C .m → G d ≡ true → (d ≡ c → ⊥) → G′ d ≡ true) (v : Wave (netOf C froms tos) K k hi G X) where
+      (left : (d : ℕ) → d < C .m → G d ≡ true → (d ≡ c → ⊥) → G′ d ≡ true) (v : TowardsLayer (netOf C froms tos) K k hi G X) where
     abbrev N : Net
     N = netOf C froms tos
 
@@ -54,13 +54,13 @@ module _ (C : Commands) (R : Fit C) (tos owner : List ℕ) (ends : Ranges C tos)
     mine u g e l z = sym (own .owners u c g (omega (arith, v .watches u g e .since)) (omega arith)) ∙ sym p
 
     -- one that does not goes on watching
-    goes-on : (u : ℕ) → u < C .n → getD r u 0 ≡ FFFF → (getD w u 0 < to N u → getD w u 0 ≡ c → ⊥) → Watch N (layer N K k) G′ u (getD w u 0)
+    goes-on : (u : ℕ) → u < C .n → getD r u 0 ≡ FFFF → (getD w u 0 < to N u → getD w u 0 ≡ c → ⊥) → Watch N (netLayer N K k) G′ u (getD w u 0)
     goes-on u g e n =
-        watch-more N (layer N K k) G G′ u (getD w u 0) (v .watches u g e)
+        watch-more N (netLayer N K k) G G′ u (getD w u 0) (v .watches u g e)
         (λ l t. left (getD w u 0) (omega (arith, to-in N ends u g)) t (n l))
 
     -- no state watches c
-    unwatched : (getD r s 0 ≡ FFFF → getD w s 0 ≡ c → c < getD tos s 0 → ⊥) → Wave N K k hi G′ X
+    unwatched : (getD r s 0 ≡ FFFF → getD w s 0 ≡ c → c < getD tos s 0 → ⊥) → TowardsLayer N K k hi G′ X
     unwatched idle = record {
       ranked = v .ranked;
       fresh = v .fresh;
@@ -73,29 +73,29 @@ module _ (C : Commands) (R : Fit C) (tos owner : List ℕ) (ends : Ranges C tos)
 
     -- s watches c, and goes on to x
     module _ (wlong : C .n ≤ length w) (e : getD r s 0 ≡ FFFF) (z : getD w s 0 ≡ c) (l : c < getD tos s 0) (x : ℕ) (A : Advanced C r k c (getD tos s 0) x) where
-      y : Watch N (layer N K k) G s (getD w s 0)
+      y : Watch N (netLayer N K k) G s (getD w s 0)
       y = v .watches s h e
 
-      same : (d : ℕ) → d < C .m → hits C (within r k) d ≡ hits C (layer N K k) d
-      same = hit-same C R (within r k) (layer N K k) (λ o g. v .ranked k o (omega arith) g)
+      same : (d : ℕ) → d < C .m → commandHits C (within r k) d ≡ commandHits C (netLayer N K k) d
+      same = hit-same C R (within r k) (netLayer N K k) (λ o g. v .ranked k o (omega arith) g)
 
-      bound : getD tos s 0 ≤ C .m
-      bound = ends .inside s h
+      range-end : getD tos s 0 ≤ C .m
+      range-end = ends .inside s h
 
       -- the commands before x have an outcome in layers 0 to k
-      passed : (i : ℕ) → from N s ≤ i → i < x → i < to N s → hits C (layer N K k) i ≡ true
+      passed : (i : ℕ) → from N s ≤ i → i < x → i < to N s → commandHits C (netLayer N K k) i ≡ true
       passed i a b t = go (decLt i c)
         where
-          go : Dec (i < c) → hits C (layer N K k) i ≡ true
+          go : Dec (i < c) → commandHits C (netLayer N K k) i ≡ true
           go (yes d) = y .before i a (omega arith) t
-          go (no d) = sym (same i (omega (arith, bound, A .until))) ∙ A .before i (omega arith) b
+          go (no d) = sym (same i (omega (arith, range-end, A .until))) ∙ A .before i (omega arith) b
 
       -- the other states watch what they did
-      others : (u : ℕ) → u < C .n → getD r u 0 ≡ FFFF → (u ≡ s → ⊥) → Watch N (layer N K k) G′ u (getD (set w s x) u 0)
+      others : (u : ℕ) → u < C .n → getD r u 0 ≡ FFFF → (u ≡ s → ⊥) → Watch N (netLayer N K k) G′ u (getD (set w s x) u 0)
       others u g a n =
-          subst (λ (d : ℕ). Watch N (layer N K k) G′ u d) (sym (getD-set-other w s u x 0 n)) (goes-on u g a (λ b t. n (mine u g a b t)))
+          subst (λ (d : ℕ). Watch N (netLayer N K k) G′ u d) (sym (getD-set-other w s u x 0 n)) (goes-on u g a (λ b t. n (mine u g a b t)))
 
-      moves : x < getD tos s 0 → Wave N K k hi G′ (work r (set w s x) q end)
+      moves : x < getD tos s 0 → TowardsLayer N K k hi G′ (work r (set w s x) q end)
       moves b = record {
         ranked = v .ranked;
         fresh = v .fresh;
@@ -103,24 +103,24 @@ module _ (C : Commands) (R : Fit C) (tos owner : List ℕ) (ends : Ranges C tos)
         watches = λ u g a. go u g a (ℕ-discrete u s);
       }
         where
-          here : Watch N (layer N K k) G′ s x
+          here : Watch N (netLayer N K k) G′ s x
           here = record {
             since = omega (arith, y .since, A .since);
             until = λ _. omega (arith, to-at C froms tos s);
             before = passed;
-            pending = λ _ t. clash t (sym (same x (omega (arith, bound))) ∙ A .stops b);
+            pending = λ _ t. clash t (sym (same x (omega (arith, range-end))) ∙ A .stops b);
           }
 
-          go : (u : ℕ) → u < C .n → getD r u 0 ≡ FFFF → Dec (u ≡ s) → Watch N (layer N K k) G′ u (getD (set w s x) u 0)
+          go : (u : ℕ) → u < C .n → getD r u 0 ≡ FFFF → Dec (u ≡ s) → Watch N (netLayer N K k) G′ u (getD (set w s x) u 0)
           go u g a (no n) = others u g a n
           go u g a (yes n) = rw (n, getD-set-same w s x 0 (omega arith)) here
 
-      loses : getD tos s 0 ≤ x → losing N (layer N K k) s ≡ true
+      loses : getD tos s 0 ≤ x → losing N (netLayer N K k) s ≡ true
       loses b =
-          lose-of N (layer N K k) s (omega (arith, y .since, to-at C froms tos s)) (λ i a d. passed i a (omega (arith, to-at C froms tos s)) d)
+          lose-of N (netLayer N K k) s (omega (arith, y .since, to-at C froms tos s)) (λ i a d. passed i a (omega (arith, to-at C froms tos s)) d)
 
       -- it has none left, so it has rank k + 1 and waits in the queue
-      ends-up : getD tos s 0 ≤ x → C .n ≤ length r → C .n ≤ length q → hi ≤ end → Wave N K k hi G′ (work (set r s (k + 1)) (set w s x) (set q end s) (end + 1))
+      ends-up : getD tos s 0 ≤ x → C .n ≤ length r → C .n ≤ length q → hi ≤ end → TowardsLayer N K k hi G′ (work (set r s (k + 1)) (set w s x) (set q end s) (end + 1))
       ends-up b rlong qlong low = record {
         ranked = λ j u a g. leq j u a g (ℕ-discrete u s);
         fresh = λ u g a n. new u g a n (ℕ-discrete u s);
@@ -137,18 +137,18 @@ module _ (C : Commands) (R : Fit C) (tos owner : List ℕ) (ends : Ranges C tos)
           apart : (u : ℕ) → getD (set r s (k + 1)) u 0 ≡ FFFF → u ≡ s → ⊥
           apart u a n = omega (arith, now, rw n at a)
 
-          leq : (j u : ℕ) → j ≤ k → u < C .n → Dec (u ≡ s) → leb (getD (set r s (k + 1)) u 0) j ≡ layer N K j u
+          leq : (j u : ℕ) → j ≤ k → u < C .n → Dec (u ≡ s) → leb (getD (set r s (k + 1)) u 0) j ≡ netLayer N K j u
           leq j u a g (no n) = ap (λ (d : ℕ). leb d j) (old u n) ∙ v .ranked j u a g
           leq j u a g (yes n) =
               rw n (lt-leb (getD (set r s (k + 1)) s 0) j (omega (arith, now)) ∙ sym (lt-leb (getD r s 0) j (omega arith)) ∙ v .ranked j s a h)
 
           new : (u : ℕ) → u < C .n → k < getD (set r s (k + 1)) u 0 → (getD (set r s (k + 1)) u 0 ≡ FFFF → ⊥) → Dec (u ≡ s)
-              → (getD (set r s (k + 1)) u 0 ≡ k + 1) × (losing N (layer N K k) u ≡ true)
+              → (getD (set r s (k + 1)) u 0 ≡ k + 1) × (losing N (netLayer N K k) u ≡ true)
           new u g a f (no n) = let t = v .fresh u g (omega (arith, old u n)) (λ d. f (old u n ∙ d)) in (old u n ∙ t .0, t .1)
           new u g a f (yes n) = rw n (now, loses b)
 
           room : end < C .n
-          room = queue-room (C .n) r w q end line s (getD r s 0) h refl e
+          room = queue-room (C .n) r w q end bound s (getD r s 0) h refl e
 
           find : (u : ℕ) → u < C .n → getD (set r s (k + 1)) u 0 ≡ k + 1 → Dec (u ≡ s) → (i : ℕ) × (hi ≤ i) × (i < end + 1) × (getD (set q end s) i 0 ≡ u)
           find u g a (yes n) = (end, low, omega arith, getD-set-same q end s 0 (omega (arith, room)) ∙ sym n)
@@ -159,8 +159,8 @@ module _ (C : Commands) (R : Fit C) (tos owner : List ℕ) (ends : Ranges C tos)
   -- nothing is done
   pub look-idle : (getD r s 0 ≡ FFFF → getD w s 0 ≡ c → c < getD tos s 0 → ⊥) → Look X
   look-idle idle = record {
-    wave = λ froms K G G′ hi low own left v. unwatched froms K G G′ hi own left v idle;
-    line = line;
+    towards = λ froms K G G′ hi low own left v. unwatched froms K G G′ hi own left v idle;
+    bound = bound;
     kept = λ i g. refl;
     rest = λ i g. refl;
     more = omega arith;
@@ -190,8 +190,8 @@ module _ (C : Commands) (R : Fit C) (tos owner : List ℕ) (ends : Ranges C tos)
 
           pub look-moved : x < f → (w′ : List ℕ) → w′ ≡ set w s x → Look (work r w′ q end)
           look-moved g w′ m = rw m (record {
-            wave = λ froms K G G′ hi low own left v. moves froms K G G′ hi own left v wlong e z (omega arith) x B (omega arith);
-            line = record { few = line .few; states = line .states };
+            towards = λ froms K G G′ hi low own left v. moves froms K G G′ hi own left v wlong e z (omega arith) x B (omega arith);
+            bound = record { few = bound .few; states = bound .states };
             kept = λ i t. refl;
             rest = λ i t. refl;
             more = omega arith;
@@ -200,8 +200,8 @@ module _ (C : Commands) (R : Fit C) (tos owner : List ℕ) (ends : Ranges C tos)
           module _ (g : f ≤ x) (rlong : C .n ≤ length r) (qlong : C .n ≤ length q) where
             pub look-lost : (w′ r′ q′ : List ℕ) → w′ ≡ set w s x → r′ ≡ set r s (k + 1) → q′ ≡ set q end s → Look (work r′ w′ q′ (end + 1))
             look-lost w′ r′ q′ a₁ a₂ a₃ = rw (a₁, a₂, a₃) (record {
-              wave = λ froms K G G′ hi low own left v. ends-up froms K G G′ hi own left v wlong e z (omega arith) x B (omega arith) rlong qlong low;
-              line = line-next (C .n) r s (k + 1) h rlong (omega arith) e w q end line qlong (set w s x);
+              towards = λ froms K G G′ hi low own left v. ends-up froms K G G′ hi own left v wlong e z (omega arith) x B (omega arith) rlong qlong low;
+              bound = bound-next (C .n) r s (k + 1) h rlong (omega arith) e w q end bound qlong (set w s x);
               kept = λ i t. getD-set-other q end i s 0 (omega arith);
               rest = λ i t. getD-set-other r s i (k + 1) 0 (omega arith);
               more = omega arith;

@@ -1,8 +1,8 @@
-use Rattle.decide.proofs.Laying.{seed-small, range-inside}
+use Rattle.decide.proofs.Initializing.{seed-small, range-inside}
 use native.Mathlib.Omega.{arith}
 use borrow.Author.Needs.{needs}
-use Rattle.decide.proofs.nets.lay_one.Statement.{statement}
-use Rattle.decide.proofs.nets.lay_one.Tie as tie
+use Rattle.decide.proofs.nets.initialize_state.Statement.{statement}
+use Rattle.decide.proofs.nets.initialize_state.Tie as tie
 
 range-of-requires : tie.Need-range-of-requires
 range-of-requires c κs = search needs
@@ -35,8 +35,8 @@ same-length-3 c = search needs
 returns : tie.Need-returns
 returns c = (rw (← c .before .before .before .before .before .before .before .before .before .before .before .seed-of .ensures) (c .before .before .before .before .before .before .before .before .before .before .put .ensures), (rw (← c .before .before .before .before .before .before .before .before .before .before .before .before .before .range-of .ensures) (c .before .before .before .before .before .before .put2 .ensures), rw (← c .before .before .before .before .before .before .before .before .before .before .before .before .before .range-of .ensures) (c .before .before .put3 .ensures)))
 
-pub lay-one-spec : {M : Type 1} → statement M
-lay-one-spec =
+pub initialize-state-spec : {M : Type 1} → statement M
+initialize-state-spec =
     tie.close
     (tie.spec
     range-of-requires
