@@ -22,7 +22,7 @@ target/bin/list: $(SOURCES)
 	touch $@
 
 test: tools c-test compare list-test
-	cd tests && python3 -B bench_files.py --check && python3 -B bench_verdicts.py --check && python3 -B examples.py --check
+	cd tests && python3 -B bench_plans.py --check && python3 -B examples.py --check
 	rt fmt --check
 	python3 -B tools/rows --check
 	rt ci

@@ -1,4 +1,4 @@
-"""Plans of many shapes, for the bench programs."""
+"""Plans of many shapes, for the bench program."""
 import random
 
 from reference import NONE, Plan, State
@@ -44,7 +44,7 @@ def case_a():
 
 
 def shapes():
-    """The plans that every bench program runs."""
+    """The plans that the bench program runs."""
     yield case_a()
     yield Plan([rest()])
     yield Plan([failing()])

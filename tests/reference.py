@@ -1,4 +1,4 @@
-"""Document 01 once more, in Python, written from the document and not from the Rattle code: what the bench programs are held to."""
+"""Document 01 once more, in Python, written from the document and not from the Rattle code: what the bench program is held to."""
 
 NONE = 0xFFFF
 STATES, COMMANDS, OUTCOMES = 1024, 4096, 16384

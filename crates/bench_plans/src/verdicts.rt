@@ -1,0 +1,110 @@
+// A plan decided and searched: all that is answered and left in the tables.
+use crate::numbers::least;
+use crate::print::print_entries;
+use crate::print::print_number;
+use crate::print::print_refusal;
+use decide::DecideAnswer;
+use decide::Decision;
+use search::Found;
+use search::SearchAnswer;
+use tables::Row;
+use tables::Size;
+
+fn print_tables(n: usize, ranks: &[u16], commands: &[u16], marks: &[u16]) {
+    io::write_all(1, b"ranks");
+    print_entries(ranks, n);
+    io::write_all(1, b"commands");
+    print_entries(commands, n);
+    io::write_all(1, b"marks");
+    print_entries(marks, n);
+}
+
+fn print_row(row: [u16; 3]) {
+    print_number(row[0] as u64);
+    print_number(row[1] as u64);
+    print_number(row[2] as u64);
+}
+
+fn print_tally(safe: [u16; 3], lost: [u16; 3]) {
+    io::write_all(1, b"tally");
+    print_row(safe);
+    print_row(lost);
+    io::write_all(1, b"\n");
+}
+
+fn print_found(found: Found, n: usize, commands: &[u16]) {
+    if found.lost {
+        io::write_all(1, b"lost");
+    } else {
+        io::write_all(1, b"safe");
+    }
+    print_number(found.rounds as u64);
+    print_entries(commands, n);
+}
+
+fn print_search(s: SearchAnswer, n: usize, commands: &[u16]) {
+    match s {
+        SearchAnswer::Refused(x) => {
+            print_refusal(tables::number(x));
+        }
+        SearchAnswer::Given(found) => {
+            print_found(found, n, commands);
+        }
+    }
+}
+
+// The search from every state; in a large plan from the first 32, which keeps what is printed short.
+pub fn try_starts(
+    size: Size,
+    rows: &[Row],
+    firsts: &[u16],
+    outcomes: &[u16],
+    commands: &mut [u16],
+    scratch: &mut [u16],
+) {
+    let end = least(size.n, 32);
+    let mut start = 0;
+    while start < end {
+        let s = search::search(size, rows, firsts, outcomes, start, commands, scratch);
+        print_search(s, size.n, commands);
+        start += 1;
+    }
+}
+
+// Whether a plan was decided, and what is printed of it.
+fn print_decision(d: Decision, n: usize, ranks: &[u16], commands: &[u16], marks: &[u16]) -> bool {
+    let a = d.answer;
+    match a {
+        DecideAnswer::Refused(x) => {
+            print_refusal(tables::number(x));
+            false
+        }
+        DecideAnswer::Given => {
+            print_tables(n, ranks, commands, marks);
+            let safe = d.safe;
+            let lost = d.lost;
+            print_tally(safe, lost);
+            true
+        }
+    }
+}
+
+pub fn try_plan(size: Size, rows: &[Row], firsts: &[u16], outcomes: &[u16]) {
+    let mut ranks = [0u16; 1024];
+    let mut commands = [0u16; 1024];
+    let mut marks = [0u16; 1024];
+    let mut scratch = [0u16; 1024];
+    let d = decide::decide(
+        size,
+        rows,
+        firsts,
+        outcomes,
+        &mut ranks,
+        &mut commands,
+        &mut marks,
+        &mut scratch,
+    );
+    if print_decision(d, size.n, &ranks, &commands, &marks) {
+        try_starts(size, rows, firsts, outcomes, &mut commands, &mut scratch);
+    }
+}

@@ -1,4 +1,0 @@
--- Made by tools/rows.
-pub mod TryStarts
-pub mod TryPlan
-pub mod TryFile
