@@ -1,5 +1,4 @@
 pub mod Members
-pub mod Readiness
 pub mod Outcomes
 pub mod Choosing
 pub mod Taken

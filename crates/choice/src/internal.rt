@@ -14,9 +14,9 @@ ghost use Rattle.model.specs.SoundTest.{sound};
 ghost use Rattle.model.specs.Held.{planIn};
 ghost use Rattle.model.specs.Command.{choice};
 ghost use Rattle.tables.specs.declared.Row.{Row};
-ghost use Rattle.tables.specs.Meaning.{held, spanAt};
+ghost use Rattle.tables.specs.Meaning.{held, spanAt, commandsOf};
+ghost use Rattle.tables.specs.Ready.{Ready};
 ghost use Rattle.choice.specs.Within.{within, clear};
-ghost use Rattle.choice.specs.Ready.{Ready};
 use tables::Size;
 use tables::internal::NONE;
 use tables::internal::Span;
@@ -47,7 +47,7 @@ pub fn command_hit(
     limit: usize,
     c: usize,
 ) -> bool
-    requires { ⌜ Ready size (now firsts) (now outcomes) ⌝ }
+    requires { ⌜ Ready (commandsOf size (now firsts) (now outcomes)) ⌝ }
     requires { ⌜ (c < size .m) × (size .n ≤ length (now table)) ⌝ }
     ensures { λ r. ⌜ ((R : List Row) → r ≡ any (within (now (table .entry)) limit) (outcomesAt (held size R (now (firsts .entry)) (now (outcomes .entry))) c)) ⌝ }
 {
@@ -67,7 +67,7 @@ fn practice_clear(
     count: usize,
     practice: usize,
 ) -> bool
-    requires { ⌜ Ready size (now firsts) (now outcomes) ⌝ }
+    requires { ⌜ Ready (commandsOf size (now firsts) (now outcomes)) ⌝ }
     requires { ⌜ (first + count ≤ size .m) × (size .n ≤ length (now table)) ⌝ }
     ensures { λ r. ⌜ ((R : List Row) → r ≡ (ltb practice count && clear (held size R (now (firsts .entry)) (now (outcomes .entry))) (within (now (table .entry)) limit) first practice)) ⌝ }
 {
@@ -87,7 +87,7 @@ fn lowest_clear(
     first: usize,
     count: usize,
 ) -> usize
-    requires { ⌜ Ready size (now firsts) (now outcomes) ⌝ }
+    requires { ⌜ Ready (commandsOf size (now firsts) (now outcomes)) ⌝ }
     requires { ⌜ (first + count ≤ size .m) × (size .n ≤ length (now table)) ⌝ }
     ensures { λ r. ⌜ ((R : List Row) → r ≡ entry (lowest (clear (held size R (now (firsts .entry)) (now (outcomes .entry))) (within (now (table .entry)) limit) first) count)) ⌝ }
 {
@@ -112,7 +112,7 @@ pub fn choose(
     table: &[u16],
     limit: usize,
 ) -> usize
-    requires { ⌜ Ready size (now firsts) (now outcomes) ⌝ }
+    requires { ⌜ Ready (commandsOf size (now firsts) (now outcomes)) ⌝ }
     requires { ⌜ (span .first ≤ span .end) × (span .end ≤ size .m) × (size .n ≤ length (now table)) ⌝ }
     ensures { λ r. ⌜ ((R : List Row) (s : ℕ) → sound (held size R (now (firsts .entry)) (now (outcomes .entry))) ≡ true → s < size .n → span ≡ spanAt (held size R (now (firsts .entry)) (now (outcomes .entry))) s → r ≡ entry (choice (planIn (held size R (now (firsts .entry)) (now (outcomes .entry)))) (within (now (table .entry)) limit) s)) ⌝ }
 {

@@ -1,6 +1,6 @@
 -- The call's answer in each of its cases, with every table lent to it.
-use mathlib.Core.Path.{_≡_, refl, sym, _∙_}
-use mathlib.Core.Bool.{Bool, true, false, not}
+use mathlib.Core.Path.{_≡_, refl, _∙_}
+use mathlib.Core.Bool.{Bool, true, false, not, _&&_}
 use mathlib.Core.List.{List}
 use Prim.Native.Nat.{ℕ, _<_, _≤_}
 use native.Mathlib.Omega.{arith}
@@ -14,33 +14,32 @@ use Rattle.model.specs.Tables.{Tables}
 use Rattle.model.specs.SoundTest.{sound}
 use Rattle.model.specs.Held.{planIn}
 use Rattle.model.specs.Calls.{left, deciding, decideCall}
-use Rattle.model.proofs.Answers.{then-assoc}
 use Rattle.model.proofs.Answering.{deciding-iff}
 use Rattle.model.proofs.Delivered.{of-tables}
 use Rattle.tables.specs.declared.Refusal.{Refusal}
 use Rattle.tables.specs.declared.internal.Admission.{Admission}
 use Rattle.tables.specs.declared.internal.Admission.the-variants.{Granted, Denied}
-use Rattle.tables.specs.Meaning.{refusalOf, admissionOf}
+use Rattle.tables.specs.Meaning.{refusalOf, admitted}
 use Rattle.decide.specs.declared.Decision.{Decision}
-use Rattle.decide.specs.Calls.{enough, admitted, refusal, decided, decisionOf, NumberOnly, Demands, Worked}
+use Rattle.decide.specs.declared.DecideAnswer.the-variants.{Given}
+use Rattle.decide.specs.Calls.{noCounts, refusedWith, decided, decisionOf, Demands, Worked}
 
 -- ---- the lengths of the tables
 
 module _ (n r c m s : ℕ) where
-  pub short-ranks : r < n → false ≡ enough n r c m s
-  unfolding enough
+  abbrev pub Long : Bool
+  Long = leb n r && leb n c && leb n m && leb n s
+
+  pub short-ranks : r < n → false ≡ Long
   short-ranks h = rw (lt-leb n r h)
 
-  pub short-commands : n ≤ r → c < n → false ≡ enough n r c m s
-  unfolding enough
+  pub short-commands : n ≤ r → c < n → false ≡ Long
   short-commands h k = rw (le-leb n r h, lt-leb n c k)
 
-  pub short-marks : n ≤ r → n ≤ c → m < n → false ≡ enough n r c m s
-  unfolding enough
+  pub short-marks : n ≤ r → n ≤ c → m < n → false ≡ Long
   short-marks h k i = rw (le-leb n r h, le-leb n c k, lt-leb n m i)
 
-  pub last-test : n ≤ r → n ≤ c → n ≤ m → leb n s ≡ enough n r c m s
-  unfolding enough
+  pub last-test : n ≤ r → n ≤ c → n ≤ m → leb n s ≡ Long
   last-test h k i = rw (le-leb n r h, le-leb n c k, le-leb n m i)
 
 -- ---- the contract's clauses, of the answer d and the tables r, c, m, s that are left
@@ -49,26 +48,20 @@ module _ (T : Tables) (rs cs ms ss : List ℕ) where
   abbrev Clauses : Decision → List ℕ → List ℕ → List ℕ → List ℕ → Type 0
   Clauses d r c m s =
       (decisionOf d ≡ decideCall T rs cs ms ss .answers) × ((r ≡ decideCall T rs cs ms ss .ranks) × ((c ≡ decideCall T rs cs ms ss .commands)
-      × ((m ≡ decideCall T rs cs ms ss .marks) × ((s ≡ decideCall T rs cs ms ss .scratch) × (NumberOnly d × Demands T (d .answer) r c)))))
+      × ((m ≡ decideCall T rs cs ms ss .marks) × ((s ≡ decideCall T rs cs ms ss .scratch) × (((d .answer ≡ Given → ⊥) → (d .safe ≡ noCounts) × (d .lost ≡ noCounts)) × (d .answer ≡ Given → Demands T r c))))))
 
   -- a refusal leaves every table as it was
-  refused-with : (w : Refusal) → deciding T (length rs) (length cs) (length ms) (length ss) ≡ refused (refusalOf w) → (d : Decision) → d ≡ refusal w → Clauses d rs cs ms ss
+  refused-with : (w : Refusal) → deciding T (length rs) (length cs) (length ms) (length ss) ≡ refused (refusalOf w) → (d : Decision) → d ≡ refusedWith w → Clauses d rs cs ms ss
   unfolding left answer
   refused-with w e d p = rw (e, p) (refl, (refl, (refl, (refl, (refl, ((λ _. (refl, refl)), λ g. absurd (let z : _≡_ {A = ℕ} 0 1 = cc in omega arith)))))))
 
-  -- the admission g, for which it was asked whether the plan is sound
-  module _ (t : Bool) (tested : t ≡ sound T) (g : Admission) (h : admissionOf g ≡ admitted t (T .size .n) (length rs) (length cs) (length ms) (length ss)) where
-    answers : deciding T (length rs) (length cs) (length ms) (length ss) ≡ (admissionOf g >> given (planIn T))
-    unfolding deciding admitted enough
-    answers = rw (h, ← tested) (sym (then-assoc (need Unsound t) _ _))
-
-    pub refuses : (w : Refusal) → g ≡ Denied w → (d : Decision) → d ≡ refusal w → Clauses d rs cs ms ss
-    unfolding _>>_
+  -- the admission g
+  module _ (g : Admission) (answers : deciding T (length rs) (length cs) (length ms) (length ss) ≡ admitted g (planIn T)) where
+    pub refuses : (w : Refusal) → g ≡ Denied w → (d : Decision) → d ≡ refusedWith w → Clauses d rs cs ms ss
     refuses w q = refused-with w (answers ∙ rw q)
 
     module _ (q : g ≡ Granted) where
       answered : deciding T (length rs) (length cs) (length ms) (length ss) ≡ given (planIn T)
-      unfolding _>>_
       answered = answers ∙ rw q
 
       -- what the work asks for
@@ -86,16 +79,16 @@ module _ (T : Tables) (rs cs ms ss : List ℕ) where
 
 -- ---- the tests in their order
 
-module _ (t : Bool) (n r c m s : ℕ) where
-  pub shut-unsound : not t ≡ true → refused Unsound ≡ admitted t n r c m s
-  unfolding admitted need _>>_
-  shut-unsound h = rw (not-true t h)
+module _ (T : Tables) (r c m s : ℕ) {t : Bool} {n : ℕ} where
+  pub denies-unsound : not t ≡ true → t ≡ sound T → n ≡ T .size .n → deciding T r c m s ≡ refused Unsound
+  unfolding deciding need _>>_
+  denies-unsound h e k = rw (← e, not-true t h)
 
-  module _ (h : not t ≡ false) {u : Bool} (measured : u ≡ enough n r c m s) where
-    pub shut-cramped : not u ≡ true → refused Cramped ≡ admitted t n r c m s
-    unfolding admitted need _>>_
-    shut-cramped k = rw (not-false t h, stopped measured k)
+  module _ (h : not t ≡ false) {u : Bool} (measured : u ≡ Long n r c m s) where
+    pub denies-cramped : not u ≡ true → t ≡ sound T → n ≡ T .size .n → deciding T r c m s ≡ refused Cramped
+    unfolding deciding need _>>_
+    denies-cramped z e k = rw (← e, not-false t h, ← k, stopped measured z)
 
-    pub opens : not u ≡ false → given tt ≡ admitted t n r c m s
-    unfolding admitted need _>>_
-    opens k = rw (not-false t h, passed measured k)
+    pub grants : not u ≡ false → t ≡ sound T → n ≡ T .size .n → deciding T r c m s ≡ given (planIn T)
+    unfolding deciding need _>>_
+    grants z e k = rw (← e, not-false t h, ← k, passed measured z)

@@ -22,7 +22,7 @@ use Rattle.laws.proofs.Fills.{filled-of}
 use Rattle.laws.proofs.EntryFound.{entry-found}
 use Rattle.model.specs.Plan.{Plan, failing}
 use Rattle.model.specs.Verdict.{forced, layer, rank, lost}
-use Rattle.model.specs.Policy.{risks, policyFails}
+use Rattle.model.specs.Policy.{policyHits, policyFails}
 use Rattle.model.specs.Tables.{Tables}
 use Rattle.model.specs.SoundTest.{sound}
 use Rattle.model.specs.Held.{planIn}
@@ -31,9 +31,8 @@ use Rattle.model.proofs.Layers.{rank-bound}
 use Rattle.model.proofs.SoundFacts.{sound-facts}
 use Rattle.tables.specs.declared.Row.{Row}
 use Rattle.tables.specs.declared.Size.{Size}
-use Rattle.tables.specs.Meaning.{held, spanAt}
+use Rattle.tables.specs.Meaning.{held, spanAt, commandsOf}
 use Rattle.choice.specs.Within.{within}
-use Rattle.index.specs.Commands.{commandsOf}
 use Rattle.propagate.specs.Net.{netOf, losing, depth, seeds, Seeded}
 use Rattle.decide.specs.Nets.{seedOf, Initialized}
 use Rattle.decide.proofs.NetSteps.{losing-all, losing-practice}
@@ -96,10 +95,10 @@ module _ (size : Size) (rows : List Row) (firsts outcomes : List ℕ) (sounds : 
           rw (filled .low s l)
           (entry-found (depth (netOf (commandsOf size firsts outcomes) w e) (seeds r) s) (depth-small s)
           ∙ grow-found (losing (netOf (commandsOf size firsts outcomes) w e)) (seeds r) (size .n) s
-          ∙ grow-same (size .n) _ (risks P)
+          ∙ grow-same (size .n) _ (policyHits P)
           (λ A B h x g. losing-practice size rows firsts outcomes w e alone sounds (v .begins .low) (v .stops .low) A B h x g z)
           (seeds r) (failing P) seeds-are (size .n) s l
-          ∙ ap (λ (j : ℕ). grow (risks P) (failing P) j s) (sym (states-held T)))
+          ∙ ap (λ (j : ℕ). grow (policyHits P) (failing P) j s) (sym (states-held T)))
 
       pub fails-same : length r′ ≡ length r₀
       fails-same = filled .same

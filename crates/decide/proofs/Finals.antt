@@ -13,7 +13,7 @@ use Rattle.laws.proofs.Fills.{tabulate-constant}
 use Rattle.model.specs.Plan.{Plan, hasPolicy}
 use Rattle.model.specs.Verdict.{lost, safe}
 use Rattle.model.specs.Command.{choice, chosen}
-use Rattle.model.specs.Policy.{policyFails, fault, mark, tally}
+use Rattle.model.specs.Policy.{policyFails, fault, mark, tallyOf, tally}
 use Rattle.model.specs.Tables.{Tables}
 use Rattle.model.specs.SoundTest.{sound}
 use Rattle.model.specs.Held.{planIn}
@@ -23,13 +23,12 @@ use Rattle.model.proofs.Layers.{chosen-choice}
 use Rattle.model.proofs.Valid.{sound-valid}
 use Rattle.tables.specs.declared.Row.{Row}
 use Rattle.tables.specs.declared.Size.{Size}
-use Rattle.tables.specs.Meaning.{held}
-use Rattle.index.specs.Commands.{commandsOf}
+use Rattle.tables.specs.Meaning.{held, commandsOf}
 use Rattle.propagate.specs.Net.{netOf, depth, seeds}
 use Rattle.decide.specs.Nets.{Initialized}
-use Rattle.decide.specs.Verdicts.{numbered, oneIf, markOf, markAt, tallyTo, Judging}
+use Rattle.decide.specs.Verdicts.{numbered, oneIf, markAt, StatesJudged}
 use Rattle.decide.specs.Calls.{Worked}
-use Rattle.decide.proofs.PlanHits.{choice-agree, risks-agree}
+use Rattle.decide.proofs.PlanHits.{choice-agree, policy-hits-agree}
 use Rattle.decide.proofs.Depths.{ranks-found, lost-found, fails-found, fails-same, fails-past}
 use Rattle.decide.proofs.Tallies.{tally-same, tally-is}
 
@@ -46,13 +45,13 @@ module _ (T : Tables) (sounds : sound T ≡ true) (L F : ℕ → Bool) (losts : 
   chosen-found s l = ap entry (choice-agree T sounds L (lost P) losts s l ∙ sym (chosen-choice P (sound-valid T sounds) s (rw (states-held T) l)))
 
   mark-found : (s : ℕ) → s < T .size .n → markAt P L (F s) s ≡ mark P s
-  unfolding markAt markOf oneIf mark fault safe
-  mark-found s l = rw (fails s l, losts s l, risks-agree T sounds L (lost P) losts s l)
+  unfolding markAt oneIf mark fault safe
+  mark-found s l = rw (fails s l, losts s l, policy-hits-agree T sounds L (lost P) losts s l)
 
-  tally-found : tallyTo L (hasPolicy P) F (T .size .n) ≡ tally P
+  tally-found : tallyOf L (hasPolicy P) F (T .size .n) ≡ tally P
   tally-found =
       tally-same (hasPolicy P) (T .size .n) F (policyFails P) fails L (lost P) losts
-      ∙ ap (tallyTo (lost P) (hasPolicy P) (policyFails P)) (sym (states-held T)) ∙ tally-is P
+      ∙ ap (tallyOf (lost P) (hasPolicy P) (policyFails P)) (sym (states-held T)) ∙ tally-is P
 
 module _ (size : Size) (rows : List Row) (firsts outcomes : List ℕ) (sounds : sound (held size rows firsts outcomes) ≡ true) where
   pub worked : {rs cs ms ss w r₁ w₁ c₁ r₂ w₂ m₁ w₃ c₂ m₂ c₃ m₃ s₁ s₂ s₃ : List ℕ} {t : List (List ℕ)}
@@ -61,7 +60,7 @@ module _ (size : Size) (rows : List Row) (firsts outcomes : List ℕ) (sounds : 
       → r₂ ≡ overwrite (tabulate (λ (s : ℕ). entry (depth (netOf (commandsOf size firsts outcomes) w₁ c₁) (seeds r₁) s)) 0 (size .n)) r₁
       → Initialized (held size rows firsts outcomes) true (size .n) ms w₂ c₁ m₁ w₃ c₂
       → m₂ ≡ overwrite (tabulate (λ (s : ℕ). entry (depth (netOf (commandsOf size firsts outcomes) w₃ c₂) (seeds m₁) s)) 0 (size .n)) m₁
-      → Judging (planIn (held size rows firsts outcomes)) (numbered r₂) (size .n) c₂ m₂ t c₃ m₃
+      → StatesJudged (planIn (held size rows firsts outcomes)) (numbered r₂) (size .n) c₂ m₂ t c₃ m₃
       → Filled (size .n) (λ i. getD s₁ i 0) ss s₁ → Filled (size .n) (λ i. getD s₂ i 0) s₁ s₂ → Filled (size .n) (λ _. 0) s₂ s₃
       → Worked (held size rows firsts outcomes) rs cs ms ss t r₂ c₃ m₃ s₃
   unfolding rankTable commandTable markTable cleared

@@ -15,7 +15,7 @@ use Rattle.model.specs.Tables.{Tables}
 use Rattle.tables.specs.declared.Row.{Row}
 use Rattle.tables.specs.declared.Size.{Size}
 use Rattle.tables.specs.declared.internal.Span.{Span}
-use Rattle.tables.specs.Meaning.{held, spanAt}
+use Rattle.tables.specs.Meaning.{held, spanAt, failingSpan}
 use Rattle.decide.specs.declared.nets.Range.{Range}
 use Rattle.decide.specs.Nets.{practised, rangeFrom, practiceRange, rangeOf, seedOf, Spans, Initialized}
 
@@ -43,13 +43,13 @@ module _ (q : Span) where
   unfolding rangeOf
   range-all alone h = rw h
 
-  pub seed-failing : q .kind ≡ 1 → 0 ≡ seedOf q
+  pub seed-failing : failingSpan q ≡ true → 0 ≡ seedOf q
   unfolding seedOf
-  seed-failing h = rw (eq-eqb (q .kind) 1 h)
+  seed-failing h = rw h
 
-  pub seed-other : (q .kind ≡ 1 → ⊥) → FFFF ≡ seedOf q
+  pub seed-other : failingSpan q ≡ false → FFFF ≡ seedOf q
   unfolding seedOf
-  seed-other h = rw (ne-eqb (q .kind) 1 h)
+  seed-other h = rw h
 
   pub seed-small : seedOf q < 65536
   unfolding seedOf

@@ -16,7 +16,7 @@ use Rattle.laws.proofs.Agree.{Agree, every-same}
 use Rattle.laws.proofs.Tests.{same-test, true-or-false}
 use Rattle.model.specs.Plan.{Plan, active, hasPolicy}
 use Rattle.model.specs.Verdict.{hits, forced}
-use Rattle.model.specs.Policy.{risks}
+use Rattle.model.specs.Policy.{policyHits}
 use Rattle.model.specs.Tables.{Tables}
 use Rattle.model.specs.Places.{rowAt, firstCommand, commandCount}
 use Rattle.model.specs.SoundTest.{sound}
@@ -26,8 +26,7 @@ use Rattle.model.proofs.HeldPlan.{states-held, policy-held, commands-held}
 use Rattle.model.proofs.Valid.{sound-valid}
 use Rattle.tables.specs.declared.Row.{Row}
 use Rattle.tables.specs.declared.Size.{Size}
-use Rattle.tables.specs.Meaning.{held, spanAt}
-use Rattle.index.specs.Commands.{commandsOf}
+use Rattle.tables.specs.Meaning.{held, spanAt, commandsOf}
 use Rattle.propagate.specs.Net.{netOf, from, to, losing}
 use Rattle.propagate.specs.Net.{commandHits}
 use Rattle.decide.specs.Nets.{practised, practiceRange, rangeOf}
@@ -81,8 +80,8 @@ module _ (size : Size) (rows : List Row) (firsts outcomes watch ends : List ℕ)
 
   -- ---- the practice alone
 
-  pub losing-practice : alone ≡ true → losing (netOf (commandsOf size firsts outcomes) watch ends) A s ≡ risks P B s
-  unfolding risks rangeOf practiceRange every
+  pub losing-practice : alone ≡ true → losing (netOf (commandsOf size firsts outcomes) watch ends) A s ≡ policyHits P B s
+  unfolding policyHits rangeOf practiceRange every
   losing-practice z = ⊎-elim given none (true-or-false (practised (spanAt T s)))
     where
       none : practised (spanAt T s) ≡ false → losing (netOf (commandsOf size firsts outcomes) watch ends) A s ≡ (hasPolicy P s && hits P B s (P .policy s))

@@ -11,9 +11,9 @@ use Rattle.laws.proofs.Agree.{Agree, any-same}
 use Rattle.laws.proofs.Tests.{true-or-false}
 use Rattle.model.specs.Plan.{hasPolicy}
 use Rattle.model.specs.Verdict.{hits}
-use Rattle.model.specs.Policy.{risks}
+use Rattle.model.specs.Policy.{policyHits}
 use Rattle.model.specs.Command.{choice}
-use Rattle.model.specs.Places.{firstCommand}
+use Rattle.model.specs.Places.{firstCommand, outcomesAt}
 use Rattle.model.specs.SoundTest.{sound}
 use Rattle.model.specs.Held.{planIn}
 use Rattle.model.specs.Tables.{Tables}
@@ -23,10 +23,8 @@ use Rattle.model.proofs.Valid.{sound-valid}
 use Rattle.choice.proofs.Choosing.{hits-held}
 use Rattle.tables.specs.declared.Row.{Row}
 use Rattle.tables.specs.declared.Size.{Size}
-use Rattle.tables.specs.Meaning.{held}
-use Rattle.index.specs.Commands.{commandsOf}
+use Rattle.tables.specs.Meaning.{held, commandsOf}
 use Rattle.propagate.specs.Net.{commandHits}
-use Rattle.propagate.proofs.CommandHits.{same-outcomes}
 
 module _ (T : Tables) (sounds : sound T ≡ true) (A B : ℕ → Bool) (same : Agree (T .size .n) A B) (s : ℕ) (l : s < T .size .n) where
   -- outcomes are states
@@ -37,15 +35,15 @@ module _ (T : Tables) (sounds : sound T ≡ true) (A B : ℕ → Bool) (same : A
   pub choice-agree : choice (planIn T) A s ≡ choice (planIn T) B s
   choice-agree = choice-same (planIn T) A B s (λ c m e. sym (hits-agree c m) ∙ e) (λ c e. let t = choice-some (planIn T) A s c e in sym (hits-agree c (t .1)) ∙ t .2)
 
-  pub risks-agree : risks (planIn T) A s ≡ risks (planIn T) B s
-  unfolding risks hasPolicy
-  risks-agree =
+  pub policy-hits-agree : policyHits (planIn T) A s ≡ policyHits (planIn T) B s
+  unfolding policyHits hasPolicy
+  policy-hits-agree =
       ⊎-elim (λ e. rw e (hits-agree _ (ltb-true _ _ e))) (λ e. rw e) (true-or-false (ltb (planIn T .policy s) (planIn T .commands s)))
 
 module _ (size : Size) (rows : List Row) (firsts outcomes : List ℕ) where
   -- a state's command, by its place
   pub hits-place : (A : ℕ → Bool) (s c : ℕ) → s < size .n → c < planIn (held size rows firsts outcomes) .commands s
       → commandHits (commandsOf size firsts outcomes) A (firstCommand (held size rows firsts outcomes) s + c) ≡ hits (planIn (held size rows firsts outcomes)) A s c
-  unfolding commandHits
+  unfolding commandHits outcomesAt
   hits-place A s c l m =
-      ap (any A) (same-outcomes size rows firsts outcomes _) ∙ sym (hits-held (held size rows firsts outcomes) A s l c (rw (commands-held (held size rows firsts outcomes) s l) at m))
+      sym (hits-held (held size rows firsts outcomes) A s l c (rw (commands-held (held size rows firsts outcomes) s l) at m))

@@ -9,19 +9,20 @@ use native.Mathlib.Numerals.{add-one}
 use native.Mathlib.Omega.{arith}
 use lib.ListN.{length}
 use borrow.Author.Tests.{le-ltb}
+use Rattle.laws.specs.Starts.{startOf, Parts}
+use Rattle.laws.proofs.Starts.{start-in, start-out}
 use Rattle.model.specs.Tables.{Tables}
 use Rattle.model.specs.Places.{rowAt, firstCommand}
 use Rattle.model.specs.SoundTest.{sound}
 use Rattle.model.proofs.SoundFacts.{Fits, sound-facts}
 use Rattle.tables.specs.declared.Row.{Row}
 use Rattle.tables.specs.declared.Size.{Size}
-use Rattle.tables.specs.Meaning.{held, spanAt}
+use Rattle.tables.specs.Meaning.{held, spanAt, commandsOf}
+use Rattle.tables.specs.Ready.{Ready}
 use Rattle.tables.proofs.LongTest.{rows-long}
-use Rattle.index.specs.Parts.{startOf, Parts, Owned}
-use Rattle.index.specs.Commands.{commandsOf, Fit}
-use Rattle.index.proofs.Starts.{start-in, start-out}
+use Rattle.tables.proofs.Readiness.{sound-ready}
+use Rattle.index.specs.Parts.{Owned}
 use Rattle.propagate.specs.Net.{netOf, from, to, Seeded, Ranges, Indexed, Owns}
-use Rattle.propagate.proofs.CommandHits.{same-starts}
 use Rattle.propagate.proofs.Indexes.{own-ranges}
 use Rattle.decide.specs.Nets.{rangeOf, Spans, Initialized}
 use Rattle.decide.proofs.Initializing.{range-inside}
@@ -50,21 +51,9 @@ module _ (size : Size) (rows : List Row) (firsts outcomes : List ℕ) where
       inside = λ F O s l. let r = f .rows s l in rw (any-tables F O s, any-tables F O (s + 1), add-one s) (r .rises, r .below);
     }
 
-    fits-fit : Fit (commandsOf size firsts outcomes)
-    fits-fit = record {
-      n-small = f .size .few;
-      m-small = f .size .few-commands;
-      firsts-long = f .long .firsts;
-      parts = record { zero = same-starts size rows firsts outcomes 0 ∙ f .outcomes-start; rises = λ c l. rw (same-starts size rows firsts outcomes c, same-starts size rows firsts outcomes (suc c)) (le-of-lt (f .commands c l .rises)) };
-      states = record { small = f .size .few-outcomes; long = f .long .outcomes; inside = f .outcomes };
-    }
-
   module _ (sounds : sound T ≡ true) where
     pub sound-spans : Spans size rows
     sound-spans = fits-spans (sound-facts T .0 sounds)
-
-    pub sound-fit : Fit (commandsOf size firsts outcomes)
-    sound-fit = fits-fit (sound-facts T .0 sounds)
 
     -- a range of commands that count is among the state's own
     own-inside : (alone : Bool) (s : ℕ) → s < size .n
@@ -106,11 +95,11 @@ module _ (size : Size) (rows : List Row) (firsts outcomes : List ℕ) where
       pub propagate-ready : {offsets users owner : List ℕ} → Indexed (commandsOf size firsts outcomes) offsets users owner → Owned starts (size .n) (size .m) owner
           → {alone : Bool} {u₀ x₀ y₀ u x y : List ℕ} → Initialized T alone (size .n) u₀ x₀ y₀ u x y → (places : ℕ)
           → size .n ≤ length u₀ → size .n ≤ length x₀ → size .n ≤ length y₀ → size .n ≤ places
-          → Fit (commandsOf size firsts outcomes) × (Ranges (commandsOf size firsts outcomes) y
+          → Ready (commandsOf size firsts outcomes) × (Ranges (commandsOf size firsts outcomes) y
           × (Indexed (commandsOf size firsts outcomes) offsets users owner × (Owns (netOf (commandsOf size firsts outcomes) x y) owner
           × ((size .n ≤ length u) × ((size .n ≤ length x) × ((size .n ≤ places) × Seeded (size .n) u))))))
       propagate-ready {owner = owner} index o w places lu lx ly lq = (
-        sound-fit,
+        sound-ready size rows firsts outcomes sounds,
         (
           initialized-ranges w ly,
           (

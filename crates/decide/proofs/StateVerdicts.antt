@@ -11,7 +11,7 @@ use Rattle.laws.specs.Sets.{any}
 use Rattle.laws.specs.Entry.{entry}
 use Rattle.model.specs.Plan.{hasPolicy}
 use Rattle.model.specs.Command.{choice}
-use Rattle.model.specs.Policy.{risks}
+use Rattle.model.specs.Policy.{policyHits, markOf}
 use Rattle.model.specs.Tables.{Tables}
 use Rattle.model.specs.Places.{outcomesAt}
 use Rattle.model.specs.SoundTest.{sound}
@@ -25,7 +25,7 @@ use Rattle.tables.specs.declared.internal.Span.{Span}
 use Rattle.tables.specs.Meaning.{held, spanAt}
 use Rattle.tables.specs.Seen.{Seen}
 use Rattle.decide.specs.Nets.{practised}
-use Rattle.decide.specs.Verdicts.{oneIf, markOf, markAt, columnOf, Judged}
+use Rattle.decide.specs.Verdicts.{oneIf, markAt, columnOf, StateJudged}
 use Rattle.decide.proofs.NetSteps.{practised-is, practice-below}
 
 -- ---- a state that some sound plan has
@@ -50,12 +50,12 @@ module _ (q : Span) (lost : Bool) where
     given-is : t ≡ hasPolicy (planIn T) s
     given-is = e ∙ ap practised is ∙ practised-is T s l
 
-    pub idle-fault : not t ≡ true → false ≡ (not lost && risks (planIn T) K s)
-    unfolding risks
+    pub idle-fault : not t ≡ true → false ≡ (not lost && policyHits (planIn T) K s)
+    unfolding policyHits
     idle-fault z = rw (h, ← given-is, not-true t z)
 
-    pub hit-fault : not t ≡ false → (r : Bool) → r ≡ any K (outcomesAt T (q .first + q .practice)) → r ≡ (not lost && risks (planIn T) K s)
-    unfolding risks
+    pub hit-fault : not t ≡ false → (r : Bool) → r ≡ any K (outcomesAt T (q .first + q .practice)) → r ≡ (not lost && policyHits (planIn T) K s)
+    unfolding policyHits
     hit-fault z r p =
         rw (h, ← given-is, not-false t z, policy-held T s l)
         (p ∙ rw is (sym (hits-held T K s l _ (rw (← commands-held T s l) (practice-below T s l (sym given-is ∙ not-false t z))))))
@@ -77,15 +77,15 @@ one-small false = omega arith
 
 module _ (fails fault : Bool) where
   pub mark-fault : (m : ℕ) → m ≡ oneIf fails → fault ≡ true → m + 2 ≡ markOf fails fault
-  unfolding markOf
+  unfolding oneIf
   mark-fault m e h = rw (h, e)
 
   pub mark-plain : (m : ℕ) → m ≡ oneIf fails → fault ≡ false → m ≡ markOf fails fault
-  unfolding markOf
+  unfolding oneIf
   mark-plain m e h = rw (h, add-zero) e
 
   pub mark-small : markOf fails fault < 65536
-  unfolding markOf
+  unfolding oneIf
   mark-small = omega (arith, one-small fails, two-small fault)
     where
       two-small : (b : Bool) → cond b 2 0 < 3
@@ -109,10 +109,10 @@ column-small false fails = omega arith
 
 module _ (T : Tables) (s : ℕ) (l : s < T .size .n) (q : Span) (is : q ≡ spanAt T s) (L : ℕ → Bool) (F lost fails fault given : Bool)
     (a : lost ≡ L s) (b : fails ≡ F) where
-  pub judged : (fault ≡ (not lost && risks (planIn T) L s)) → given ≡ practised q → (c m r k : ℕ) → c ≡ entry (choice (planIn T) L s)
+  pub judged : (fault ≡ (not lost && policyHits (planIn T) L s)) → given ≡ practised q → (c m r k : ℕ) → c ≡ entry (choice (planIn T) L s)
       → m ≡ markOf fails fault → r ≡ oneIf lost → k ≡ columnOf given fails
       → (cs ms cs′ ms′ : List ℕ) → cs′ ≡ set cs s c → ms′ ≡ set ms s m
-      → Judged (planIn T) L F s cs ms (record { row = r; column = k }) cs′ ms′
+      → StateJudged (planIn T) L F s cs ms (record { row = r; column = k }) cs′ ms′
   unfolding markAt
   judged f g c m r k ec em er ek cs ms cs′ ms′ x y = record {
     took = x ∙ ap (set cs s) ec;

@@ -12,17 +12,17 @@ use Rattle.laws.proofs.Sets.{many-bound}
 use Rattle.laws.proofs.Agree.{Agree, many-same}
 use Rattle.model.specs.Plan.{Plan, hasPolicy}
 use Rattle.model.specs.Verdict.{lost, safe}
-use Rattle.model.specs.Policy.{policyFails, tallyRow, tally}
-use Rattle.decide.specs.Verdicts.{oneIf, columnOf, added, rowTo, tallyTo}
+use Rattle.model.specs.Policy.{policyFails, tallyRow, tallyOf, tally}
+use Rattle.decide.specs.Verdicts.{oneIf, columnOf, added}
 
 module _ (L g f : ℕ → Bool) where
-  pub counted-none : _≡_ {A = List (List ℕ)} ((0 ∷ 0 ∷ 0 ∷ []) ∷ (0 ∷ 0 ∷ 0 ∷ []) ∷ []) (tallyTo L g f 0)
-  unfolding tallyTo rowTo howMany
+  pub counted-none : _≡_ {A = List (List ℕ)} ((0 ∷ 0 ∷ 0 ∷ []) ∷ (0 ∷ 0 ∷ 0 ∷ []) ∷ []) (tallyOf L g f 0)
+  unfolding tallyRow howMany
   counted-none = refl
 
   -- one state more
-  pub counted-next : (s : ℕ) → added (tallyTo L g f s) (oneIf (L s)) (columnOf (g s) (f s)) ≡ tallyTo L g f (s + 1)
-  unfolding tallyTo rowTo oneIf columnOf howMany
+  pub counted-next : (s : ℕ) → added (tallyOf L g f s) (oneIf (L s)) (columnOf (g s) (f s)) ≡ tallyOf L g f (s + 1)
+  unfolding tallyRow oneIf columnOf howMany
   counted-next s = rw (add-one s) (go (L s) (g s) (f s))
     where
       u : ℕ
@@ -56,14 +56,14 @@ module _ (L g f : ℕ → Bool) where
       go false false false = simp (zero-add, one-add, add-one)
 
   -- no count is above that of the states
-  pub counted-low : (s : ℕ) → s ≤ 1024 → (a b c : Bool) → getD (getD (tallyTo L g f s) (oneIf a) []) (columnOf b c) 0 < 60000
-  unfolding tallyTo rowTo oneIf columnOf
+  pub counted-low : (s : ℕ) → s ≤ 1024 → (a b c : Bool) → getD (getD (tallyOf L g f s) (oneIf a) []) (columnOf b c) 0 < 60000
+  unfolding tallyRow oneIf columnOf
   counted-low s h = go
     where
       low : (k : ℕ → Bool) → howMany k s < 60000
       low k = omega (arith, many-bound k s)
 
-      go : (a b c : Bool) → getD (getD (rowTo (λ i. not (L i)) g f s ∷ rowTo L g f s ∷ []) (cond a 1 0) []) (cond b (cond c 1 0) 2) 0 < 60000
+      go : (a b c : Bool) → getD (getD (tallyRow (λ i. not (L i)) g f s ∷ tallyRow L g f s ∷ []) (cond a 1 0) []) (cond b (cond c 1 0) 2) 0 < 60000
       go true true true = low _
       go true true false = low _
       go true false c = low _
@@ -73,19 +73,18 @@ module _ (L g f : ℕ → Bool) where
 
 -- tests that agree on the states counted
 module _ (g : ℕ → Bool) (n : ℕ) (f f′ : ℕ → Bool) (fails : Agree n f f′) where
-  row-same : (r r′ : ℕ → Bool) → Agree n r r′ → rowTo r g f n ≡ rowTo r′ g f′ n
-  unfolding rowTo
+  row-same : (r r′ : ℕ → Bool) → Agree n r r′ → tallyRow r g f n ≡ tallyRow r′ g f′ n
+  unfolding tallyRow
   row-same r r′ h =
       ap₂ (λ (a : ℕ) (l : List ℕ). a ∷ l) (many-same _ _ n (λ x l. rw (h x l, fails x l)))
       (ap₂ (λ (a : ℕ) (l : List ℕ). a ∷ l) (many-same _ _ n (λ x l. rw (h x l, fails x l)))
       (ap₂ (λ (a : ℕ) (l : List ℕ). a ∷ l) (many-same _ _ n (λ x l. rw (h x l))) refl))
 
-  pub tally-same : (L L′ : ℕ → Bool) → Agree n L L′ → tallyTo L g f n ≡ tallyTo L′ g f′ n
-  unfolding tallyTo
+  pub tally-same : (L L′ : ℕ → Bool) → Agree n L L′ → tallyOf L g f n ≡ tallyOf L′ g f′ n
   tally-same L L′ h =
       ap₂ (λ (a : List ℕ) (t : List (List ℕ)). a ∷ t) (row-same (λ s. not (L s)) (λ s. not (L′ s)) (λ x l. rw (h x l)))
       (ap₂ (λ (a : List ℕ) (t : List (List ℕ)). a ∷ t) (row-same L L′ h) refl)
 
-pub tally-is : (P : Plan) → tallyTo (lost P) (hasPolicy P) (policyFails P) (P .states) ≡ tally P
-unfolding tallyTo rowTo tally tallyRow safe
+pub tally-is : (P : Plan) → tallyOf (lost P) (hasPolicy P) (policyFails P) (P .states) ≡ tally P
+unfolding tallyRow tally safe
 tally-is P = refl

@@ -1,14 +1,12 @@
 -- What the call answers, and what it leaves in the tables lent to it.
 use mathlib.Core.Path.{_≡_}
-use mathlib.Core.Bool.{Bool, _&&_}
 use mathlib.Core.List.{List, [], _∷_}
 use Prim.Native.Nat.{ℕ, _<_}
-use lib.Dec.{leb}
 use lib.ListN.{getD}
 use Rattle.laws.specs.Lists.{overwrite}
 use Rattle.model.specs.Policy.{tally}
 use Rattle.model.specs.Search.{search}
-use Rattle.model.specs.Refusal.{Cramped, Unsound, Answer, given, refused, need, _>>_}
+use Rattle.model.specs.Refusal.{Answer, given, refused}
 use Rattle.model.specs.Tables.{Tables}
 use Rattle.model.specs.Held.{planIn}
 use Rattle.model.specs.Calls.{rankTable, commandTable, markTable, resultTable, cleared}
@@ -18,16 +16,6 @@ use Rattle.tables.specs.Meaning.{refusalOf}
 use Rattle.decide.specs.declared.Decision.{Decision}
 use Rattle.decide.specs.declared.DecideAnswer.{DecideAnswer}
 use Rattle.decide.specs.declared.DecideAnswer.the-variants.{Given, Refused}
-
--- tables of these lengths have a place for each of n states
-unfoldable pub enough : ℕ → ℕ → ℕ → ℕ → ℕ → Bool
-enough n ranks commands marks scratch = leb n ranks && leb n commands && leb n marks && leb n scratch
-
--- "Other calls: 10, then 11, then 9.": by whether the plan is sound and by the lengths of the tables
-unfoldable pub admitted : Bool → ℕ → ℕ → ℕ → ℕ → ℕ → Answer (Unit {0})
-admitted sounds n ranks commands marks scratch = do
-  need Unsound sounds
-  need Cramped (enough n ranks commands marks scratch)
 
 -- an answer with the tally that stands beside it
 abbrev pub answerWith : List (List ℕ) → DecideAnswer → Answer (List (List ℕ))
@@ -41,21 +29,18 @@ decisionOf d = answerWith (d .safe ∷ d .lost ∷ []) (d .answer)
 abbrev pub noCounts : List ℕ
 noCounts = 0 ∷ 0 ∷ 0 ∷ []
 
-abbrev pub refusal : Refusal → Decision
-refusal r = record { answer = Refused r; safe = noCounts; lost = noCounts }
+-- "A refusal returns its number only": beside it both rows are zero
+abbrev pub refusedWith : Refusal → Decision
+refusedWith r = record { answer = Refused r; safe = noCounts; lost = noCounts }
 
 -- with the two rows of a tally
 abbrev pub decided : List (List ℕ) → Decision
 decided t = record { answer = Given; safe = getD t 0 []; lost = getD t 1 [] }
 
--- "A refusal returns its number only": beside it both rows are zero
-abbrev pub NumberOnly : Decision → Type 0
-NumberOnly d = (d .answer ≡ Given → ⊥) → (d .safe ≡ noCounts) × (d .lost ≡ noCounts)
-
--- Demand 3 of the tables that are returned, where a plan is decided: of every state, and of the search from every start a, with whatever
--- was in the command table lent to the search
-abbrev pub Demands : Tables → DecideAnswer → List ℕ → List ℕ → Type 0
-Demands T answer ranks commands = answer ≡ Given → (a : ℕ) (table : List ℕ) → a < T .size .n
+-- Demand 3 of the tables that are returned: of every state, and of the search from every start a, with whatever was in the command table
+-- lent to the search
+abbrev pub Demands : Tables → List ℕ → List ℕ → Type 0
+Demands T ranks commands = (a : ℕ) (table : List ℕ) → a < T .size .n
     → Demand3 (planIn T) ranks commands a (search (planIn T) a .lost) (search (planIn T) a .rounds)
     (overwrite (resultTable (T .size .n) (search (planIn T) a)) table)
 

@@ -2,7 +2,7 @@
 use mathlib.Core.Bool.{Bool, cond}
 use mathlib.Core.List.{List}
 use Prim.Native.Nat.{ℕ, _+_, _-_, _<_, _≤_}
-use lib.Dec.{eqb, ltb}
+use lib.Dec.{ltb}
 use lib.ListN.{length}
 use Rattle.laws.specs.Entry.{FFFF}
 use Rattle.laws.specs.Filled.{Filled}
@@ -11,7 +11,7 @@ use Rattle.model.specs.Tables.{Tables}
 use Rattle.tables.specs.declared.Row.{Row}
 use Rattle.tables.specs.declared.Size.{Size}
 use Rattle.tables.specs.declared.internal.Span.{Span}
-use Rattle.tables.specs.Meaning.{held, spanAt}
+use Rattle.tables.specs.Meaning.{held, spanAt, failingSpan}
 use Rattle.decide.specs.declared.nets.Range.{Range}
 
 -- a practice is given
@@ -30,7 +30,7 @@ rangeOf alone q = cond alone (practiceRange q) (rangeFrom (q .first) (q .end))
 
 -- failing states are in layer 0
 unfoldable pub seedOf : Span → ℕ
-seedOf q = cond (eqb (q .kind) 1) 0 FFFF
+seedOf q = cond (failingSpan q) 0 FFFF
 
 -- what is asked of the rows: the places of each state's commands are in range
 pub record Spans (size : Size) (rows : List Row) : Type 0 where

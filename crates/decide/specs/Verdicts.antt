@@ -5,29 +5,24 @@ use mathlib.Core.Bool.{Bool, not, cond, _&&_}
 use mathlib.Core.List.{List, [], _∷_}
 use Prim.Native.Nat.{ℕ, _+_}
 use lib.ListN.{getD, set}
-use Rattle.laws.specs.Sets.{howMany}
-use Rattle.laws.specs.Entry.{entry}
+use Rattle.laws.specs.Entry.{entry, highest}
 use Rattle.laws.specs.Filled.{Filled}
 use Rattle.model.specs.Plan.{Plan, hasPolicy}
 use Rattle.model.specs.Command.{choice}
-use Rattle.model.specs.Policy.{risks}
+use Rattle.model.specs.Policy.{policyHits, markOf, tallyOf}
 use Rattle.choice.specs.Within.{within}
 use Rattle.decide.specs.declared.verdicts.Place.{Place}
 
--- the states whose entry is not FFFF
+-- the states whose entry is not FFFF; as in `within`, a place past the table counts as 0
 abbrev pub numbered : List ℕ → ℕ → Bool
-numbered table = within table 65534
+numbered table = within table highest
 
 unfoldable pub oneIf : Bool → ℕ
 oneIf b = cond b 1 0
 
--- 0 holds, 1 fails, with 2 added at a fault
-unfoldable pub markOf : Bool → Bool → ℕ
-markOf fails fault = oneIf fails + cond fault 2 0
-
 -- the mark of s, where the states of L are lost
 unfoldable pub markAt : Plan → (ℕ → Bool) → Bool → ℕ → ℕ
-markAt P L fails s = markOf fails (not (L s) && risks P L s)
+markAt P L fails s = markOf fails (not (L s) && policyHits P L s)
 
 -- the tally's columns: practice given and holding, given and failing, none
 unfoldable pub columnOf : Bool → Bool → ℕ
@@ -37,26 +32,15 @@ columnOf given fails = cond given (oneIf fails) 2
 abbrev pub added : List (List ℕ) → ℕ → ℕ → List (List ℕ)
 added t r c = set t r (set (getD t r []) c (getD (getD t r []) c 0 + 1))
 
--- the counts of the first n states
-unfoldable pub rowTo : (ℕ → Bool) → (ℕ → Bool) → (ℕ → Bool) → ℕ → List ℕ
-rowTo row given fails n =
-    howMany (λ s. row s && given s && not (fails s)) n
-    ∷ howMany (λ s. row s && given s && fails s) n
-    ∷ howMany (λ s. row s && not (given s)) n
-    ∷ []
-
-unfoldable pub tallyTo : (ℕ → Bool) → (ℕ → Bool) → (ℕ → Bool) → ℕ → List (List ℕ)
-tallyTo lost given fails n = rowTo (λ s. not (lost s)) given fails n ∷ rowTo lost given fails n ∷ []
-
 -- the state s is judged
-pub record Judged (P : Plan) (L : ℕ → Bool) (fails : Bool) (s : ℕ) (commands marks : List ℕ) (r : Place) (commands′ marks′ : List ℕ) : Type 0 where
+pub record StateJudged (P : Plan) (L : ℕ → Bool) (fails : Bool) (s : ℕ) (commands marks : List ℕ) (r : Place) (commands′ marks′ : List ℕ) : Type 0 where
   pub took : commands′ ≡ set commands s (entry (choice P L s))
   pub marked : marks′ ≡ set marks s (markAt P L fails s)
   pub row : r .row ≡ oneIf (L s)
   pub column : r .column ≡ columnOf (hasPolicy P s) fails
 
 -- the first n states are judged
-pub record Judging (P : Plan) (L : ℕ → Bool) (n : ℕ) (commands marks : List ℕ) (t : List (List ℕ)) (commands′ marks′ : List ℕ) : Type 0 where
+pub record StatesJudged (P : Plan) (L : ℕ → Bool) (n : ℕ) (commands marks : List ℕ) (t : List (List ℕ)) (commands′ marks′ : List ℕ) : Type 0 where
   pub took : Filled n (λ s. entry (choice P L s)) commands commands′
   pub marked : Filled n (λ s. markAt P L (numbered marks s) s) marks marks′
-  pub counted : t ≡ tallyTo L (hasPolicy P) (numbered marks) n
+  pub counted : t ≡ tallyOf L (hasPolicy P) (numbered marks) n

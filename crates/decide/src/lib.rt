@@ -1,8 +1,14 @@
 // Deciding a whole plan.
 ghost use mathlib.Core.Path.{_≡_};
-ghost use Rattle.model.specs.Calls.{decideCall};
-ghost use Rattle.tables.specs.Meaning.{held, admissionOf};
-ghost use Rattle.decide.specs.Calls.{enough, admitted, refusal, decided, decisionOf, NumberOnly, Demands};
+ghost use mathlib.Core.Bool.{_&&_};
+ghost use lib.Dec.{leb};
+ghost use Rattle.model.specs.Tables.{Tables};
+ghost use Rattle.model.specs.SoundTest.{sound};
+ghost use Rattle.model.specs.Held.{planIn};
+ghost use Rattle.model.specs.Calls.{deciding, decideCall};
+ghost use Rattle.tables.specs.Meaning.{held, admitted};
+ghost use Rattle.decide.specs.declared.DecideAnswer.the-variants.{Given};
+ghost use Rattle.decide.specs.Calls.{noCounts, refusedWith, decided, decisionOf, Demands};
 use tables::Refusal;
 use tables::Row;
 use tables::Size;
@@ -27,7 +33,7 @@ pub struct Decision {
 
 // Whether tables of these lengths have a place for each of n states.
 fn long_enough(n: usize, ranks: usize, commands: usize, marks: usize, scratch: usize) -> bool
-    ensures { λ r. ⌜ r ≡ enough n ranks commands marks scratch ⌝ }
+    ensures { λ r. ⌜ r ≡ (leb n ranks && leb n commands && leb n marks && leb n scratch) ⌝ }
 {
     if ranks < n {
         return false;
@@ -50,7 +56,7 @@ fn admit(
     marks: usize,
     scratch: usize,
 ) -> Admission
-    ensures { λ r. ⌜ admissionOf r ≡ admitted sounds n ranks commands marks scratch ⌝ }
+    ensures { λ r. ⌜ ((T : Tables) → sounds ≡ sound T → n ≡ T .size .n → deciding T ranks commands marks scratch ≡ admitted r (planIn T)) ⌝ }
 {
     if !sounds {
         return Admission::Denied(Refusal::Unsound);
@@ -62,7 +68,7 @@ fn admit(
 }
 
 fn refuse(r: Refusal) -> Decision
-    ensures { λ d. ⌜ d ≡ refusal r ⌝ }
+    ensures { λ d. ⌜ d ≡ refusedWith r ⌝ }
 {
     Decision {
         answer: DecideAnswer::Refused(r),
@@ -102,8 +108,8 @@ pub fn decide(
     ensures { λ _. ⌜ now (commands .exit) ≡ decideCall (held size (now (rows .entry)) (now (firsts .entry)) (now (outcomes .entry))) (now (ranks .entry)) (now (commands .entry)) (now (marks .entry)) (now (scratch .entry)) .commands ⌝ }
     ensures { λ _. ⌜ now (marks .exit) ≡ decideCall (held size (now (rows .entry)) (now (firsts .entry)) (now (outcomes .entry))) (now (ranks .entry)) (now (commands .entry)) (now (marks .entry)) (now (scratch .entry)) .marks ⌝ }
     ensures { λ _. ⌜ now (scratch .exit) ≡ decideCall (held size (now (rows .entry)) (now (firsts .entry)) (now (outcomes .entry))) (now (ranks .entry)) (now (commands .entry)) (now (marks .entry)) (now (scratch .entry)) .scratch ⌝ }
-    ensures { λ d. ⌜ NumberOnly d ⌝ }
-    ensures { λ d. ⌜ Demands (held size (now (rows .entry)) (now (firsts .entry)) (now (outcomes .entry))) (d .answer) (now (ranks .exit)) (now (commands .exit)) ⌝ }
+    ensures { λ d. ⌜ ((d .answer ≡ Given → ⊥) → (d .safe ≡ noCounts) × (d .lost ≡ noCounts)) ⌝ }
+    ensures { λ d. ⌜ (d .answer ≡ Given → Demands (held size (now (rows .entry)) (now (firsts .entry)) (now (outcomes .entry))) (now (ranks .exit)) (now (commands .exit))) ⌝ }
 {
     let sounds = tables::sound(size, rows, firsts, outcomes);
     let admission = admit(

@@ -10,6 +10,7 @@ use tables::Row;
 use tables::Size;
 use tables::internal::NONE;
 use tables::internal::Span;
+use tables::internal::is_failing;
 use tables::internal::put;
 use tables::internal::span_at;
 
@@ -60,7 +61,7 @@ fn range_of(span: Span, alone: bool) -> Range
 fn seed_of(span: Span) -> usize
     ensures { λ r. ⌜ r ≡ seedOf span ⌝ }
 {
-    if span.kind == 1 {
+    if is_failing(span) {
         return 0;
     }
     NONE

@@ -6,12 +6,12 @@ ghost use Prim.Native.Nat.{ℕ, _+_, _<_, _≤_};
 ghost use lib.ListN.{length, getD};
 ghost use Rattle.model.specs.SoundTest.{sound};
 ghost use Rattle.model.specs.Held.{planIn};
-ghost use Rattle.model.specs.Policy.{risks};
+ghost use Rattle.model.specs.Policy.{policyHits, markOf};
 ghost use Rattle.tables.specs.declared.Row.{Row};
-ghost use Rattle.tables.specs.Meaning.{held, spanAt};
+ghost use Rattle.tables.specs.Meaning.{held, spanAt, commandsOf};
 ghost use Rattle.tables.specs.Seen.{Seen};
-ghost use Rattle.choice.specs.Ready.{Ready};
-ghost use Rattle.decide.specs.Verdicts.{numbered, oneIf, markOf, columnOf, added, Judged, Judging};
+ghost use Rattle.tables.specs.Ready.{Ready};
+ghost use Rattle.decide.specs.Verdicts.{numbered, oneIf, columnOf, added, StateJudged, StatesJudged};
 use crate::nets::has_practice;
 use choice::internal::choose;
 use choice::internal::command_hit;
@@ -21,6 +21,9 @@ use tables::internal::Span;
 use tables::internal::at;
 use tables::internal::put;
 use tables::internal::span_at;
+
+// The highest number that an entry holds beside FFFF. The states that have a number are those up to it.
+const HIGHEST: usize = 65534;
 
 // A place of the tally.
 pub struct Place {
@@ -33,7 +36,7 @@ fn has_number(table: &[u16], s: usize) -> bool
     requires { ⌜ s < length (now table) ⌝ }
     ensures { λ r. ⌜ r ≡ numbered (now (table .entry)) s ⌝ }
 {
-    at(table, s) <= 65534
+    at(table, s) <= HIGHEST
 }
 
 // Whether the state, of which `span` was read, is a fault.
@@ -45,9 +48,9 @@ fn is_fault(
     ranks: &[u16],
     lost: bool,
 ) -> bool
-    requires { ⌜ Ready size (now firsts) (now outcomes) ⌝ }
+    requires { ⌜ Ready (commandsOf size (now firsts) (now outcomes)) ⌝ }
     requires { ⌜ (span .first ≤ span .end) × (span .end ≤ size .m) × (size .n ≤ length (now ranks)) ⌝ }
-    ensures { λ r. ⌜ ((R : List Row) (s : ℕ) → s < size .n → span ≡ spanAt (held size R (now (firsts .entry)) (now (outcomes .entry))) s → r ≡ (not lost && risks (planIn (held size R (now (firsts .entry)) (now (outcomes .entry)))) (numbered (now (ranks .entry))) s)) ⌝ }
+    ensures { λ r. ⌜ ((R : List Row) (s : ℕ) → s < size .n → span ≡ spanAt (held size R (now (firsts .entry)) (now (outcomes .entry))) s → r ≡ (not lost && policyHits (planIn (held size R (now (firsts .entry)) (now (outcomes .entry)))) (numbered (now (ranks .entry))) s)) ⌝ }
 {
     if lost {
         return false;
@@ -60,7 +63,7 @@ fn is_fault(
         firsts,
         outcomes,
         ranks,
-        65534,
+        HIGHEST,
         span.first + span.practice,
     )
 }
@@ -105,17 +108,17 @@ fn judge(
     marks: &mut [u16],
     s: usize,
 ) -> Place
-    requires { ⌜ Ready size (now firsts) (now outcomes) ⌝ }
+    requires { ⌜ Ready (commandsOf size (now firsts) (now outcomes)) ⌝ }
     requires { ⌜ Seen size (now firsts) (now outcomes) s span ⌝ }
     requires { ⌜ (size .n ≤ length (now ranks)) × (size .n ≤ length (now commands)) × (size .n ≤ length (now marks)) ⌝ }
-    ensures { λ r. ⌜ ((R : List Row) → sound (held size R (now (firsts .entry)) (now (outcomes .entry))) ≡ true → span ≡ spanAt (held size R (now (firsts .entry)) (now (outcomes .entry))) s → Judged (planIn (held size R (now (firsts .entry)) (now (outcomes .entry)))) (numbered (now (ranks .entry))) (numbered (now (marks .entry)) s) s (now (commands .entry)) (now (marks .entry)) r (now (commands .exit)) (now (marks .exit))) ⌝ }
+    ensures { λ r. ⌜ ((R : List Row) → sound (held size R (now (firsts .entry)) (now (outcomes .entry))) ≡ true → span ≡ spanAt (held size R (now (firsts .entry)) (now (outcomes .entry))) s → StateJudged (planIn (held size R (now (firsts .entry)) (now (outcomes .entry)))) (numbered (now (ranks .entry))) (numbered (now (marks .entry)) s) s (now (commands .entry)) (now (marks .entry)) r (now (commands .exit)) (now (marks .exit))) ⌝ }
 {
     let lost = has_number(ranks, s);
     let fails = has_number(marks, s);
     put(
         commands,
         s,
-        choose(size, span, firsts, outcomes, ranks, 65534),
+        choose(size, span, firsts, outcomes, ranks, HIGHEST),
     );
     let fault = is_fault(size, span, firsts, outcomes, ranks, lost);
     put(marks, s, mark_of(fails, fault));
@@ -147,7 +150,7 @@ pub fn judge_all(
 ) -> [[u16; 3]; 2]
     requires { ⌜ sound (held size (now rows) (now firsts) (now outcomes)) ≡ true ⌝ }
     requires { ⌜ (size .n ≤ length (now ranks)) × (size .n ≤ length (now commands)) × (size .n ≤ length (now marks)) ⌝ }
-    ensures { λ r. ⌜ Judging (planIn (held size (now (rows .entry)) (now (firsts .entry)) (now (outcomes .entry)))) (numbered (now (ranks .entry))) (size .n) (now (commands .entry)) (now (marks .entry)) r (now (commands .exit)) (now (marks .exit)) ⌝ }
+    ensures { λ r. ⌜ StatesJudged (planIn (held size (now (rows .entry)) (now (firsts .entry)) (now (outcomes .entry)))) (numbered (now (ranks .entry))) (size .n) (now (commands .entry)) (now (marks .entry)) r (now (commands .exit)) (now (marks .exit)) ⌝ }
 {
     let mut tally = [[0u16; 3]; 2];
     let mut s = 0;

@@ -6,10 +6,11 @@ ghost use lib.ListN.{length, getD};
 ghost use Rattle.laws.specs.Entry.{entry};
 ghost use Rattle.laws.specs.Filled.{Filled};
 ghost use Rattle.laws.specs.Lists.{tabulate, overwrite};
+ghost use Rattle.laws.specs.Starts.{Parts};
 ghost use Rattle.model.specs.SoundTest.{sound};
-ghost use Rattle.tables.specs.Meaning.{held};
-ghost use Rattle.index.specs.Parts.{Parts, Owned};
-ghost use Rattle.index.specs.Commands.{commandsOf, Fit};
+ghost use Rattle.tables.specs.Meaning.{held, commandsOf};
+ghost use Rattle.tables.specs.Ready.{Ready};
+ghost use Rattle.index.specs.Parts.{Owned};
 ghost use Rattle.propagate.specs.Net.{netOf, depth, seeds, Seeded, Ranges, Indexed, Owns};
 ghost use Rattle.decide.specs.Calls.{Worked};
 use crate::nets::initialize;
@@ -31,7 +32,7 @@ fn index_all(
     offsets: &mut [u16],
     users: &mut [u16],
 )
-    requires { ⌜ Fit (commandsOf size (now firsts) (now outcomes)) ⌝ }
+    requires { ⌜ Ready (commandsOf size (now firsts) (now outcomes)) ⌝ }
     requires { ⌜ Parts (now starts) (size .n) (size .m) ⌝ }
     requires { ⌜ (size .n ≤ length (now starts)) × ((size .m ≤ length (now owner)) × ((size .n ≤ length (now offsets)) × (size .t ≤ length (now users)))) ⌝ }
     ensures { λ _. ⌜ Indexed (commandsOf size (now (firsts .entry)) (now (outcomes .entry))) (now (offsets .exit)) (now (users .exit)) (now (owner .exit)) ⌝ }
@@ -54,7 +55,7 @@ fn propagate_in(
     watch: &mut [u16],
     scratch: &mut [u16],
 )
-    requires { ⌜ Fit (commandsOf size (now firsts) (now outcomes)) ⌝ }
+    requires { ⌜ Ready (commandsOf size (now firsts) (now outcomes)) ⌝ }
     requires { ⌜ Ranges (commandsOf size (now firsts) (now outcomes)) (now ends) ⌝ }
     requires { ⌜ Indexed (commandsOf size (now firsts) (now outcomes)) (now offsets) (now users) (now owner) ⌝ }
     requires { ⌜ Owns (netOf (commandsOf size (now firsts) (now outcomes)) (now watch) (now ends)) (now owner) ⌝ }

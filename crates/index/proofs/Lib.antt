@@ -1,4 +1,3 @@
-pub mod Starts
 pub mod Fills
 pub mod Owners
 pub mod Counting

@@ -1,3 +1,2 @@
 pub mod Parts
-pub mod Commands
 pub mod Grouping

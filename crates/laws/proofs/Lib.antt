@@ -27,3 +27,4 @@ pub mod Wrote
 pub mod Spreads
 pub mod Turns
 pub mod Blocks
+pub mod Starts

@@ -27,6 +27,10 @@ twos (v ∷ vs) r = two v (twos vs r)
 abbrev pub FFFF : ℕ
 FFFF = 0xffff
 
+-- the highest number beside it
+abbrev pub highest : ℕ
+highest = 0xfffe
+
 -- how a table holds a number or none
 unfoldable pub entry : Option ℕ → ℕ
 entry none = FFFF

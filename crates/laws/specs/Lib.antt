@@ -4,3 +4,4 @@ pub mod Entry
 pub mod Writes
 pub mod Filled
 pub mod Wrote
+pub mod Starts

@@ -7,10 +7,11 @@ use lib.ListN.{length}
 use Rattle.laws.specs.Sets.{any, first, every, exists, orElse, lowest, found, howMany, grow}
 use Rattle.laws.specs.Lists.{tabulate, joined, overwrite}
 use Rattle.laws.specs.Entry.{FFFF, entry}
+use Rattle.laws.specs.Starts.{startOf}
 use Rattle.model.specs.Plan.{ordinary, failing, active, terminal, hasPolicy}
 use Rattle.model.specs.Verdict.{hits, forced, rank, lost, safe}
 use Rattle.model.specs.Command.{tryOrder, choice, chosen}
-use Rattle.model.specs.Policy.{risks, policyFails, fault, mark, tallyRow, tally}
+use Rattle.model.specs.Policy.{policyHits, policyFails, fault, mark, tallyRow, tally}
 use Rattle.model.specs.Search.{lands, next, marked, withoutMarks, ends, before, atOnce, inRounds, search}
 use Rattle.model.specs.Refusal.{Cut, Surplus, Tag, Length, Beyond, Unsorted, Idle, Limit, Cramped, Unsound, Stranger, given, refused, answer, _>>=_, need, _>>_}
 use Rattle.model.specs.File.{State, field, head, state, entries, rising, command, commands, states, read}
@@ -50,7 +51,7 @@ verdict-examples : map verdicts (
     ∷ ((3 ∷ 2 ∷ 1 ∷ 0 ∷ []) ∷ (FFFF ∷ FFFF ∷ FFFF ∷ FFFF ∷ []) ∷ (0 ∷ 0 ∷ 0 ∷ 1 ∷ []) ∷ [])
     ∷ ((FFFF ∷ 1 ∷ 0 ∷ []) ∷ (1 ∷ FFFF ∷ FFFF ∷ []) ∷ (2 ∷ 0 ∷ 1 ∷ []) ∷ [])
     ∷ []
-unfolding any first every orElse lowest found grow tabulate entry ordinary failing active hasPolicy hits forced rank lost safe tryOrder choice chosen risks policyFails fault mark stateOf planOf rankTable commandTable markTable
+unfolding any first every orElse lowest found grow tabulate entry ordinary failing active hasPolicy hits forced rank lost safe tryOrder choice chosen policyHits policyFails fault mark stateOf planOf rankTable commandTable markTable
 verdict-examples = refl
 
 -- ---- the search: verdict, rounds and commands, from a start
@@ -130,7 +131,7 @@ sound-examples : map sound (
     ∷ lent 1 1 1 0 (0 ∷ 0 ∷ 0 ∷ []) [] (0 ∷ [])
     ∷ [])
     ≡ true ∷ true ∷ false ∷ false ∷ false ∷ false ∷ false ∷ true ∷ false ∷ false ∷ []
-unfolding every rowAt firstCommand firstOutcome commandCount sizeSound tablesLong rowSound risesAt commandSound outcomeSound sound rowsIn
+unfolding every rowAt firstCommand commandCount sizeSound tablesLong rowSound risesAt commandSound outcomeSound sound rowsIn startOf
 sound-examples = refl
 
 -- ---- the calls: what is answered, and every lent table afterwards
@@ -146,7 +147,7 @@ decide-example : decideCall loop (7 ∷ 7 ∷ []) (7 ∷ 7 ∷ []) (7 ∷ 7 ∷ 
   marks = 0 ∷ 7 ∷ [];
   scratch = 0 ∷ 7 ∷ [];
 }
-unfolding any first every orElse lowest found howMany grow tabulate overwrite entry ordinary failing active hasPolicy hits forced rank lost safe tryOrder choice chosen risks policyFails fault mark tallyRow tally answer _>>=_ need _>>_ rowAt firstCommand firstOutcome commandCount outcomesAt sizeSound tablesLong rowSound risesAt commandSound outcomeSound sound stateAt treeOf stateOf planOf planIn rowsIn left deciding rankTable commandTable markTable cleared
+unfolding any first every orElse lowest found howMany grow tabulate overwrite entry ordinary failing active hasPolicy hits forced rank lost safe tryOrder choice chosen policyHits policyFails fault mark tallyRow tally answer _>>=_ need _>>_ rowAt firstCommand commandCount outcomesAt sizeSound tablesLong rowSound risesAt commandSound outcomeSound sound stateAt treeOf stateOf planOf planIn rowsIn left deciding rankTable commandTable markTable cleared startOf
 decide-example = refl
 
 decide-cramped : decideCall loop (7 ∷ []) (7 ∷ []) (7 ∷ []) [] ≡ record {
@@ -156,17 +157,17 @@ decide-cramped : decideCall loop (7 ∷ []) (7 ∷ []) (7 ∷ []) [] ≡ record 
   marks = 7 ∷ [];
   scratch = [];
 }
-unfolding every answer need _>>_ rowAt firstCommand firstOutcome commandCount sizeSound tablesLong rowSound risesAt commandSound outcomeSound sound rowsIn left deciding
+unfolding every answer need _>>_ rowAt firstCommand commandCount sizeSound tablesLong rowSound risesAt commandSound outcomeSound sound rowsIn left deciding startOf
 decide-cramped = refl
 
 search-example : searchCall loop 0 (7 ∷ 7 ∷ []) (7 ∷ 7 ∷ []) ≡ record { answers = given (false, 1); commands = 0 ∷ 7 ∷ []; scratch = 0 ∷ 7 ∷ [] }
-unfolding any first every exists orElse lowest found grow tabulate overwrite entry ordinary failing active terminal hasPolicy hits tryOrder choice lands next marked withoutMarks ends before atOnce inRounds search answer _>>=_ need _>>_ rowAt firstCommand firstOutcome commandCount outcomesAt sizeSound tablesLong rowSound risesAt commandSound outcomeSound sound stateAt treeOf stateOf planOf planIn rowsIn left searching resultTable cleared
+unfolding any first every exists orElse lowest found grow tabulate overwrite entry ordinary failing active terminal hasPolicy hits tryOrder choice lands next marked withoutMarks ends before atOnce inRounds search answer _>>=_ need _>>_ rowAt firstCommand commandCount outcomesAt sizeSound tablesLong rowSound risesAt commandSound outcomeSound sound stateAt treeOf stateOf planOf planIn rowsIn left searching resultTable cleared startOf
 search-example = refl
 
 -- the order of refusals: an unsound plan, a stranger and a short table; then without the first; then the last alone
 search-refusals : searchCall (lent 1 1 2 0 (0 ∷ 0 ∷ 0 ∷ []) (0 ∷ []) (0 ∷ [])) 1 [] [] .answers ∷ searchCall loop 1 [] [] .answers ∷ searchCall loop 0 [] [] .answers ∷ []
     ≡ refused Unsound ∷ refused Stranger ∷ refused Cramped ∷ []
-unfolding every answer need _>>_ rowAt firstCommand firstOutcome commandCount sizeSound tablesLong rowSound risesAt commandSound outcomeSound sound rowsIn searching
+unfolding every answer need _>>_ rowAt firstCommand commandCount sizeSound tablesLong rowSound risesAt commandSound outcomeSound sound rowsIn searching startOf
 search-refusals = refl
 
 -- ---- the C boundary

@@ -6,10 +6,11 @@ use lib.ListN.{length, replicate}
 use Rattle.laws.specs.Sets.{any, first, every, exists, orElse, lowest, found, howMany, grow}
 use Rattle.laws.specs.Lists.{tabulate, joined, overwrite}
 use Rattle.laws.specs.Entry.{entry, twos}
+use Rattle.laws.specs.Starts.{startOf}
 use Rattle.model.specs.Plan.{ordinary, failing, active, terminal, hasPolicy}
 use Rattle.model.specs.Verdict.{hits, forced, rank, lost, safe}
 use Rattle.model.specs.Command.{tryOrder, choice, chosen}
-use Rattle.model.specs.Policy.{risks, policyFails, fault, mark, tallyRow, tally}
+use Rattle.model.specs.Policy.{policyHits, policyFails, fault, mark, tallyRow, tally}
 use Rattle.model.specs.Search.{lands, next, marked, withoutMarks, ends, before, atOnce, inRounds, search}
 use Rattle.model.specs.Refusal.{answer, _>>=_, need, _>>_}
 use Rattle.model.specs.File.{field, head, state, entries, rising, command, commands, states, read}
@@ -51,12 +52,12 @@ case-a-decide : gateDecideCall (tablesIn size rows firsts outcomes) (lent 13) (l
       scratch = replicate 12 0 ++ lent 1;
       tally = (0 ∷ 0 ∷ 0 ∷ 2 ∷ 0 ∷ 1 ∷ 0 ∷ 0 ∷ 0 ∷ 1 ∷ 0 ∷ 2 ∷ []) ++ lent 1;
     }
-unfolding any first every exists orElse lowest found howMany grow tabulate overwrite joined entry ordinary failing active terminal hasPolicy hits forced rank lost safe tryOrder choice chosen risks policyFails fault mark tallyRow tally lands next marked withoutMarks ends before atOnce inRounds search answer _>>=_ need _>>_ rowAt firstCommand firstOutcome commandCount outcomesAt sizeSound tablesLong rowSound risesAt commandSound outcomeSound sound stateAt treeOf stateOf planOf planIn rowsIn entriesIn entries tablesIn left deciding searching rankTable commandTable markTable resultTable cleared code gateDecide gateSearch tallyEntries resultEntries twos
+unfolding any first every exists orElse lowest found howMany grow tabulate overwrite joined entry ordinary failing active terminal hasPolicy hits forced rank lost safe tryOrder choice chosen policyHits policyFails fault mark tallyRow tally lands next marked withoutMarks ends before atOnce inRounds search answer _>>=_ need _>>_ rowAt firstCommand commandCount outcomesAt sizeSound tablesLong rowSound risesAt commandSound outcomeSound sound stateAt treeOf stateOf planOf planIn rowsIn entriesIn entries tablesIn left deciding searching rankTable commandTable markTable resultTable cleared code gateDecide gateSearch tallyEntries resultEntries twos startOf
 case-a-decide = refl
 
 case-a-search : gateSearchCall (tablesIn size rows firsts outcomes) 0 (lent 13) (lent 13) (lent 5)
     ≡ record { returns = 0; commands = (0 ∷ 0 ∷ 0 ∷ 0 ∷ 255 ∷ 255 ∷ 255 ∷ 255 ∷ 255 ∷ 255 ∷ 255 ∷ 255 ∷ []) ++ lent 1; scratch = replicate 12 0 ++ lent 1; answer = 0 ∷ 0 ∷ 0 ∷ 2 ∷ lent 1 }
-unfolding any first every exists orElse lowest found howMany grow tabulate overwrite joined entry ordinary failing active terminal hasPolicy hits forced rank lost safe tryOrder choice chosen risks policyFails fault mark tallyRow tally lands next marked withoutMarks ends before atOnce inRounds search answer _>>=_ need _>>_ rowAt firstCommand firstOutcome commandCount outcomesAt sizeSound tablesLong rowSound risesAt commandSound outcomeSound sound stateAt treeOf stateOf planOf planIn rowsIn entriesIn entries tablesIn left deciding searching rankTable commandTable markTable resultTable cleared code gateDecide gateSearch tallyEntries resultEntries twos
+unfolding any first every exists orElse lowest found howMany grow tabulate overwrite joined entry ordinary failing active terminal hasPolicy hits forced rank lost safe tryOrder choice chosen policyHits policyFails fault mark tallyRow tally lands next marked withoutMarks ends before atOnce inRounds search answer _>>=_ need _>>_ rowAt firstCommand commandCount outcomesAt sizeSound tablesLong rowSound risesAt commandSound outcomeSound sound stateAt treeOf stateOf planOf planIn rowsIn entriesIn entries tablesIn left deciding searching rankTable commandTable markTable resultTable cleared code gateDecide gateSearch tallyEntries resultEntries twos startOf
 case-a-search = refl
 
 -- "Case A (94 bytes, hexadecimal)"

@@ -11,16 +11,16 @@ use Rattle.laws.proofs.Sets.{many-le}
 use Rattle.laws.proofs.Grow.{grow-all}
 use Rattle.model.specs.Plan.{Plan, Valid, failing, hasPolicy}
 use Rattle.model.specs.Verdict.{hits, lost, safe}
-use Rattle.model.specs.Policy.{risks, policyFails, bug, tallyRow, tally}
+use Rattle.model.specs.Policy.{policyHits, policyFails, bug, tallyRow, tally}
 use Rattle.model.proofs.Layers.{safe-stands}
 use borrow.Author.Tests.{not-true}
 
 module _ (P : Plan) (S : Valid P) where
   -- a practice that fails from a state that does not fail is given there
   given-there : (s : ℕ) → failing P s ≡ false → policyFails P s ≡ true → hasPolicy P s ≡ true
-  unfolding policyFails risks
+  unfolding policyFails policyHits
   given-there s stands e =
-      grow-all (risks P) (failing P) (λ x. failing P x ≡ false → hasPolicy P x ≡ true) (λ x f g. clash f g)
+      grow-all (policyHits P) (failing P) (λ x. failing P x ≡ false → hasPolicy P x ≡ true) (λ x f g. clash f g)
       (λ A below x r g. and-both (hasPolicy P x) (hits P A x (P .policy x)) r .0) (P .states) s e stands
 
   pub bugs-tallied : getD (getD (tally P) 0 []) 1 0 ≡ howMany (bug P) (P .states)

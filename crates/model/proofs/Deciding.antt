@@ -11,7 +11,7 @@ use Rattle.laws.proofs.Tests.{clash, true-or-false}
 use Rattle.model.specs.Plan.{Plan, Valid}
 use Rattle.model.specs.Verdict.{forced, layer, rank, lost}
 use Rattle.model.specs.Command.{choice, chosen}
-use Rattle.model.specs.Run.{Move, Run, still, _▸_, present, moves, CanMove, IsRun, RunHolds}
+use Rattle.model.specs.Run.{Move, Run, noMoves, _▸_, present, moves, CanMove, IsRun, RunHolds}
 use Rattle.model.specs.Strategy.{Strategy, Under, Total, Fails, Survives, positional}
 use Rattle.model.specs.Demand3.{Decided, readEntry}
 use Rattle.model.proofs.StateKinds.{active-is, active-of}
@@ -21,7 +21,7 @@ use Rattle.model.proofs.Layers.{layer-step, not-failing, not-forced, ra
 -- a run stays in the plan
 pub run-inside : (P : Plan) → Valid P → (s : ℕ) → s < P .states → (w : Run) → IsRun P s w → present s w < P .states
 unfolding present
-run-inside P S s l still i = l
+run-inside P S s l noMoves i = l
 run-inside P S s l (w ▸ m) i =
     let can = i .1 in
     S .inside (present s w) (m .command) (m .landing) (run-inside P S s l w (i .0)) (can .issued) (can .landed)
@@ -65,7 +65,7 @@ module _ (P : Plan) (s : ℕ) (ρ : Strategy) (C : Total P s ρ) where
 
   rank-within : (r : ℕ) → rank P s ≡ some r → Within r
   unfolding present
-  rank-within r e = let f = caught r still tt tt (rank-some P s r e .0) in (f .0, omega (arith, f .1))
+  rank-within r e = let f = caught r noMoves tt tt (rank-some P s r e .0) in (f .0, omega (arith, f .1))
 
 -- ---- a safe state: the chosen commands are a rule that commands, and no run under them fails
 
@@ -80,7 +80,7 @@ module _ (P : Plan) (S : Valid P) (C : ℕ → Option ℕ) (is-chosen : (t : ℕ
   -- every run under them stays at safe states
   stays : (w : Run) → IsRun P s w → Under (positional C s) w → lost P (present s w) ≡ false
   unfolding present
-  stays still i u = kept
+  stays noMoves i u = kept
   stays (w ▸ m) i u =
       let (act, own, out) = choice-some P (lost P) (present s w) (m .command) (sym (taken w (i .0)) ∙ u .1) in
       misses P (lost P) (present s w) (m .command) (m .landing) out (i .1 .landed)
@@ -152,7 +152,7 @@ module _ (P : Plan) (s r : ℕ) where
     -- after j of at most r - 1 moves the run is not yet in layer r - 1 - j
     later : (w : Run) → IsRun P s w → Under delaying w → moves w < r → layer P (r - 1 - moves w) (present s w) ≡ false
     unfolding present delaying
-    later still i u l = rank-some P s r is-rank .1 (r - 1 - 0) (omega arith)
+    later noMoves i u l = rank-some P s r is-rank .1 (r - 1 - 0) (omega arith)
     later (w ▸ m) i u l =
         let below = later w (i .0) (u .0) (omega arith) in
         let q : r - 1 - moves w ≡ suc (r - 2 - moves w) = omega arith in

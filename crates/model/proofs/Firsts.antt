@@ -3,6 +3,7 @@ use mathlib.Core.Path.{_≡_}
 use Prim.Native.Nat.{ℕ, _<_, _≤_}
 use lib.ListN.{getD}
 use borrow.Author.Tests.{lt-ltb, le-ltb}
+use Rattle.laws.specs.Starts.{startOf}
 use Rattle.model.specs.Tables.{Tables}
 use Rattle.model.specs.Places.{rowAt, firstCommand, firstOutcome}
 
@@ -16,9 +17,9 @@ module _ (T : Tables) where
   command-end s h = rw (le-ltb s (T .size .n) h)
 
   pub outcome-entry : (c : ℕ) → c < T .size .m → firstOutcome T c ≡ getD (T .firsts) c 0
-  unfolding firstOutcome
+  unfolding startOf
   outcome-entry c h = rw (lt-ltb c (T .size .m) h)
 
   pub outcome-end : (c : ℕ) → T .size .m ≤ c → firstOutcome T c ≡ T .size .t
-  unfolding firstOutcome
+  unfolding startOf
   outcome-end c h = rw (le-ltb c (T .size .m) h)

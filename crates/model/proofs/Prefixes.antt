@@ -6,6 +6,7 @@ use native.Mathlib.Nat.{zero-add, le-of-eq}
 use lib.ListN.{length, getD, take}
 use lib.Seq.{slice}
 use Rattle.laws.specs.Lists.{joined}
+use Rattle.laws.specs.Starts.{startOf}
 use Rattle.laws.proofs.Lists.{tabulate-is}
 use Rattle.laws.proofs.Parts.{rises-same, edge-rises, edge-told, piece, length-heads, getD-heads}
 use Rattle.model.specs.File.{Tree}
@@ -25,7 +26,7 @@ module _ (p : Tree) where
   first-command s = edge-told by-state (p .states) s _ (λ h. ap (λ (r : Row). r .first) (row-of s h))
 
   pub first-outcome : (c : ℕ) → firstOutcome (tablesOf p) c ≡ length (joined (take c (allCommands (p .states))))
-  unfolding firstOutcome tablesOf
+  unfolding tablesOf startOf
   first-outcome c =
       edge-told by-command (allCommands (p .states)) c _ (λ h. getD-heads by-command 0 (allCommands (p .states)) c 0 [] h ∙ zero-add _)
 

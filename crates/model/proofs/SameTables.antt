@@ -7,6 +7,7 @@ use native.Mathlib.Omega.{arith}
 use lib.Dec.{ltb}
 use lib.Seq.{slice}
 use borrow.Author.Tests.{ltb-true}
+use Rattle.laws.specs.Starts.{startOf}
 use Rattle.laws.proofs.Tests.{true-or-false}
 use Rattle.laws.proofs.Lists.{tabulate-same, agree-getD, agree-long, agree-slice}
 use Rattle.laws.proofs.Parts.{Rises, rises-same}
@@ -43,7 +44,7 @@ module _ (T U : Tables) (same : Same T U) where
   first-command-same s = entry-or-end s _ _ _ _ _ _ n-same (λ h. ap (λ (r : Row). r .first) (row-same s h)) m-same
 
   first-outcome-same : (c : ℕ) → firstOutcome T c ≡ firstOutcome U c
-  unfolding firstOutcome
+  unfolding startOf
   first-outcome-same c = entry-or-end c _ _ _ _ _ _ m-same (agree-getD _ _ _ _ m-same (same .firsts) c 0) t-same
 
   module _ (o : Ordered U) where

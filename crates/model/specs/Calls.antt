@@ -24,28 +24,32 @@ unfoldable pub left : {A B : Type 0} → (A → List B) → Answer A → List B 
 left f (given a) table = overwrite (f a) table
 left f (refused r) table = table
 
--- "After the end field: 2, then 9." "Reading needs n rows, m first outcomes and t outcomes." It answers the size record.
+-- "After the end field: 2, then 9." "Reading needs n rows, m first outcomes and t outcomes."
+-- Given are the tables that are filled; `readCall` has what is answered.
 unfoldable pub reading : ℕ → ℕ → ℕ → List ℕ → Answer Tables
 reading rows firsts outcomes file = do
   p ← read file
   need Cramped (leb (tablesOf p .size .n) rows && leb (tablesOf p .size .m) firsts && leb (tablesOf p .size .t) outcomes)
   given (tablesOf p)
 
--- "Other calls: 10, then 11, then 9." "writing needs the file's length", and answers it.
+-- "Other calls: 10, then 11, then 9." "writing needs the file's length".
+-- Given are the file's bytes; `writeCall` has what is answered.
 unfoldable pub writing : Tables → ℕ → Answer (List ℕ)
 writing T bytes = do
   need Unsound (sound T)
   need Cramped (leb (fileLength (T .size)) bytes)
   given (bytesOf (treeOf T))
 
--- "Deciding needs n places in each table of ranks .., commands .., practice marks .. and scratch, and answers the tally"
+-- "Deciding needs n places in each table of ranks .., commands .., practice marks .. and scratch"
+-- Given is the plan that is decided; `decideCall` has what is answered.
 unfoldable pub deciding : Tables → ℕ → ℕ → ℕ → ℕ → Answer Plan
 deciding T ranks commands marks scratch = do
   need Unsound (sound T)
   need Cramped (leb (T .size .n) ranks && leb (T .size .n) commands && leb (T .size .n) marks && leb (T .size .n) scratch)
   given (planIn T)
 
--- "the search needs n places in commands and scratch", and answers the verdict and the rounds
+-- "the search needs n places in commands and scratch"
+-- Given is all that the search finds; `searchCall` has what is answered.
 unfoldable pub searching : Tables → ℕ → ℕ → ℕ → Answer Result
 searching T start commands scratch = do
   need Unsound (sound T)

@@ -20,8 +20,8 @@ readEntry table s = fromEntry (getD table s FFFF)
 -- What deciding's two tables say of the state s. "Deciding *calls* a state lost by a rank other than FFFF, and that entry is
 -- the r of demand 3. The *returned commands* are its command table read as a rule: the entry at the present state, FFFF being none."
 pub record Decided (P : Plan) (ranks commands : List ℕ) (s : ℕ) : Type 0 where
-  -- "However much operating rules remember of the run so far, a state .. is called lost exactly when every rule that
-  -- commands wherever a command exists has a run from it into failure."
+  -- "However much operating rules remember of the run so far, a state of a sound plan is called lost exactly when every rule that
+  -- commands wherever a command exists has a run from it into failure." Of a sound plan: the calls refuse every other.
   pub lost-iff : (found (readEntry ranks s) ≡ true) ↔ ((ρ : Strategy) → Total P s ρ → Fails P s ρ)
   -- "From every other state the returned commands, which look at the present state alone, are such a rule, .."
   pub returned : readEntry ranks s ≡ none → Total P s (positional (readEntry commands) s)

@@ -20,7 +20,7 @@ stateAt T s = record {
 unfoldable pub treeOf : Tables → Tree
 treeOf T = record { start = T .size .start; states = tabulate (stateAt T) 0 (T .size .n) }
 
--- a state past the last: a rest state's
+-- the state s; past the last, a rest state
 unfoldable pub stateOf : Tree → ℕ → State
 stateOf p s = getD (p .states) s (record { kind = 2; policy = FFFF; commands = [] })
 

@@ -6,6 +6,7 @@ use lib.Dec.{ltb}
 use lib.ListN.{getD}
 use lib.Seq.{slice}
 use Rattle.laws.specs.Entry.{FFFF}
+use Rattle.laws.specs.Starts.{startOf}
 use Rattle.model.specs.Tables.{Row, Tables}
 
 -- a state's row; past the table, a rest state's
@@ -17,8 +18,8 @@ unfoldable pub firstCommand : Tables → ℕ → ℕ
 firstCommand T s = cond (ltb s (T .size .n)) (rowAt T s .first) (T .size .m)
 
 -- where the outcomes of the command c begin, and those of the command before it end
-unfoldable pub firstOutcome : Tables → ℕ → ℕ
-firstOutcome T c = cond (ltb c (T .size .m)) (getD (T .firsts) c 0) (T .size .t)
+abbrev pub firstOutcome : Tables → ℕ → ℕ
+firstOutcome T c = startOf (T .firsts) (T .size .m) (T .size .t) c
 
 unfoldable pub commandCount : Tables → ℕ → ℕ
 commandCount T s = firstCommand T (suc s) - firstCommand T s

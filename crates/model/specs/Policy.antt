@@ -12,13 +12,13 @@ unfoldable pub followed : Plan → ℕ → Option ℕ
 followed P s = cond (hasPolicy P s) (some (P .policy s)) none
 
 -- the practice is given at s and has an outcome in K
-unfoldable pub risks : Plan → (ℕ → Bool) → ℕ → Bool
-risks P K s = hasPolicy P s && hits P K s (P .policy s)
+unfoldable pub policyHits : Plan → (ℕ → Bool) → ℕ → Bool
+policyHits P K s = hasPolicy P s && hits P K s (P .policy s)
 
 -- "The practice *fails* from a state if some run under it reaches a failing state, of zero moves included."
 -- That this is so is proofs/PolicyRuns.antt, `policy-judged`.
 unfoldable pub policyFails : Plan → ℕ → Bool
-policyFails P = grow (risks P) (failing P) (P .states)
+policyFails P = grow (policyHits P) (failing P) (P .states)
 
 -- "A *bug* is a safe state from which the practice fails."
 unfoldable pub bug : Plan → ℕ → Bool
@@ -26,20 +26,27 @@ bug P s = safe P s && policyFails P s
 
 -- "A *fault* is a safe state whose practice has a lost outcome."
 unfoldable pub fault : Plan → ℕ → Bool
-fault P s = safe P s && risks P (lost P) s
+fault P s = safe P s && policyHits P (lost P) s
 
 -- "practice marks (0 holds, 1 fails, with 2 added at a fault)"
-unfoldable pub mark : Plan → ℕ → ℕ
-mark P s = cond (policyFails P s) 1 0 + cond (fault P s) 2 0
+abbrev pub markOf : Bool → Bool → ℕ
+markOf fails isFault = cond fails 1 0 + cond isFault 2 0
 
--- "three columns: practice given and holding, given and failing, none", over the states of a row
-unfoldable pub tallyRow : Plan → (ℕ → Bool) → List ℕ
-tallyRow P row =
-    howMany (λ s. row s && hasPolicy P s && not (policyFails P s)) (P .states)
-    ∷ howMany (λ s. row s && hasPolicy P s && policyFails P s) (P .states)
-    ∷ howMany (λ s. row s && not (hasPolicy P s)) (P .states)
+unfoldable pub mark : Plan → ℕ → ℕ
+mark P s = markOf (policyFails P s) (fault P s)
+
+-- "three columns: practice given and holding, given and failing, none", over those of the first n states that are in a row
+unfoldable pub tallyRow : (ℕ → Bool) → (ℕ → Bool) → (ℕ → Bool) → ℕ → List ℕ
+tallyRow row given fails n =
+    howMany (λ s. row s && given s && not (fails s)) n
+    ∷ howMany (λ s. row s && given s && fails s) n
+    ∷ howMany (λ s. row s && not (given s)) n
     ∷ []
+
+-- the counts of the first n states, by whether a state is lost
+abbrev pub tallyOf : (ℕ → Bool) → (ℕ → Bool) → (ℕ → Bool) → ℕ → List (List ℕ)
+tallyOf isLost given fails n = tallyRow (λ s. not (isLost s)) given fails n ∷ tallyRow isLost given fails n ∷ []
 
 -- "The tally is an array of two rows, safe and lost"
 unfoldable pub tally : Plan → List (List ℕ)
-tally P = tallyRow P (safe P) ∷ tallyRow P (lost P) ∷ []
+tally P = tallyOf (lost P) (hasPolicy P) (policyFails P) (P .states)

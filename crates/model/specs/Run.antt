@@ -13,17 +13,17 @@ pub record Move : Type 0 where
 
 -- "A *run* is a finite sequence of moves, possibly of none": no move yet, or a run and the move that follows it.
 pub data Run : Type 0 where
-  still : Run
+  noMoves : Run
   _▸_ : Run → Move → Run
 
 -- the state where a run from s has come to
 unfoldable pub present : ℕ → Run → ℕ
-present s still = s
+present s noMoves = s
 present s (w ▸ m) = m .landing
 
 -- how many moves a run has
 abbrev pub moves : Run → ℕ
-moves still = 0
+moves noMoves = 0
 moves (w ▸ m) = suc (moves w)
 
 -- The move m can be made at t. "It stops at a failing or rest state": a move leaves an ordinary one.
@@ -34,7 +34,7 @@ pub record CanMove (P : Plan) (t : ℕ) (m : Move) : Type 0 where
 
 -- "the first leaves the state the run is from, each later one the state where the last landed"
 abbrev pub IsRun : Plan → ℕ → Run → Type 0
-IsRun P s still = Unit {0}
+IsRun P s noMoves = Unit {0}
 IsRun P s (w ▸ m) = IsRun P s w × CanMove P (present s w) m
 
 -- "A run *fails*, or is into failure, if it ends at a failing state."

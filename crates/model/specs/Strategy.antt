@@ -4,7 +4,7 @@ use mathlib.Core.Bool.{true}
 use mathlib.Core.Option.{Option, some}
 use Prim.Native.Nat.{ℕ, _<_}
 use Rattle.model.specs.Plan.{Plan, active}
-use Rattle.model.specs.Run.{Run, still, _▸_, present, IsRun, RunFails, RunHolds}
+use Rattle.model.specs.Run.{Run, noMoves, _▸_, present, IsRun, RunFails, RunHolds}
 
 -- "An *operating rule* names, for each run so far .. (its commands and landings in order), a command .. or none."
 abbrev pub Strategy : Type 0
@@ -12,7 +12,7 @@ Strategy = Run → Option ℕ
 
 -- "A run is *under* a rule if each move issues the command named for the moves before it; where none is named, the run ends."
 abbrev pub Under : Strategy → Run → Type 0
-Under ρ still = Unit {0}
+Under ρ noMoves = Unit {0}
 Under ρ (w ▸ m) = Under ρ w × (ρ w ≡ some (m .command))
 
 -- An operating rule, from the state s judged, that "*commands wherever a command exists*".

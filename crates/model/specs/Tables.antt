@@ -7,13 +7,13 @@ use lib.ListN.{length, take}
 use Rattle.laws.specs.Lists.{joined}
 use Rattle.model.specs.File.{State, Tree}
 
+-- "Entries are 16 bits wide.": that those which deciding and the search answer fit is proofs/Widths.antt
 pub record Size : Type 0 where
   pub n : ℕ
   pub m : ℕ
   pub t : ℕ
   pub start : ℕ
 
--- "Entries are 16 bits wide.": that those which are answered are is proofs/Widths.antt
 pub record Row : Type 0 where
   pub kind : ℕ
   pub first : ℕ

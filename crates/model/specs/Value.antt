@@ -25,7 +25,7 @@ minimum (x ∷ y ∷ r) = min x (minimum (y ∷ r))
 unfoldable pub backup : Plan → (ℕ → ℕ) → ℕ → ℕ
 backup P v s = cond (failing P s) 1 (minimum (map (λ xs. maximum (map v xs)) (successors P s)))
 
--- v solves the equation
+-- v solves the equation at every state of the plan
 abbrev pub Solves : Plan → (ℕ → ℕ) → Type 0
 Solves P v = (s : ℕ) → s < P .states → v s ≡ backup P v s
 

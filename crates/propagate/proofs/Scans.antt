@@ -5,12 +5,12 @@ use mathlib.Core.List.{List}
 use Prim.Native.Nat.{ℕ, _+_, _≤_, _<_}
 use native.Mathlib.Decide.{decLt}
 use native.Mathlib.Omega.{arith}
-use Rattle.index.specs.Commands.{Commands}
+use Rattle.model.specs.Tables.{Tables}
 use Rattle.choice.specs.Within.{within}
 use Rattle.propagate.specs.Net.{commandHits}
 use Rattle.propagate.specs.Work.{Advanced}
 
-module _ (C : Commands) (r : List ℕ) (k a : ℕ) where
+module _ (C : Tables) (r : List ℕ) (k a : ℕ) where
   pub scan-start : Advanced C r k a a a
   scan-start = record { since = omega arith; until = omega arith; before = λ i p q. absurd (omega arith); stops = λ p. absurd (omega arith) }
 

@@ -9,18 +9,18 @@ use native.Mathlib.Omega.{arith}
 use borrow.Author.Tests.{eq-eqb, eqb-true}
 use lib.Dec.{eqb}
 use lib.ListN.{length, getD}
+use Rattle.laws.specs.Starts.{startOf}
 use Rattle.laws.proofs.Tests.{or-cases, or-left, or-right}
-use Rattle.index.specs.Parts.{startOf}
-use Rattle.index.specs.Commands.{Commands}
-use Rattle.index.proofs.Starts.{start-next}
+use Rattle.laws.proofs.Starts.{start-next}
+use Rattle.model.specs.Tables.{Tables}
 use Rattle.propagate.specs.Net.{netOf, netLayer, Ranges, Indexed}
 use Rattle.propagate.specs.Work.{Work, QueueBound, Moved, Among}
 use Rattle.propagate.proofs.Hits.{to-in}
 use Rattle.propagate.proofs.Visits.{watch-more}
 
-module _ (C : Commands) (tos owner : List ℕ) (k : ℕ) where
+module _ (C : Tables) (tos owner : List ℕ) (k : ℕ) where
   -- nothing is looked at yet
-  pub moved-none : Ranges C tos → (D : ℕ → Type 0) (X : Work) → QueueBound (C .n) X → ((c : ℕ) → D c → ⊥) → Moved C tos owner k D X X
+  pub moved-none : Ranges C tos → (D : ℕ → Type 0) (X : Work) → QueueBound (C .size .n) X → ((c : ℕ) → D c → ⊥) → Moved C tos owner k D X X
   moved-none ends D X bound none = record {
     towards = λ froms K G G′ hi low own left v.
         record {
@@ -54,14 +54,14 @@ module _ (C : Commands) (tos owner : List ℕ) (k : ℕ) where
       drop : (G′ : ℕ → Bool) (d : ℕ) → G′ d || eqb d c ≡ true → (d ≡ c → ⊥) → G′ d ≡ true
       drop G′ d t n = ⊎-elim (λ e. e) (λ e. absurd (n (eqb-true d c e))) (or-cases (G′ d) (eqb d c) t)
 
-      keep : (G G′ : ℕ → Bool) → ((d : ℕ) → d < C .m → G d ≡ true → (E d → ⊥) → G′ d ≡ true) → (d : ℕ) → d < C .m → G d ≡ true → (D d → ⊥)
+      keep : (G G′ : ℕ → Bool) → ((d : ℕ) → d < C .size .m → G d ≡ true → (E d → ⊥) → G′ d ≡ true) → (d : ℕ) → d < C .size .m → G d ≡ true → (D d → ⊥)
           → Dec (d ≡ c) → G′ d || eqb d c ≡ true
       keep G G′ left d l t n (yes e) = or-right (G′ d) (eqb d c) (eq-eqb d c e)
       keep G G′ left d l t n (no e) = or-left (G′ d) (eqb d c) (left d l t (λ x. ⊎-elim n e (sub d x)))
 
 -- The walk over the users from place a on, at place p.
-module _ (C : Commands) (tos owner : List ℕ) (k : ℕ) (users : List ℕ) (a : ℕ) (X : Work) where
-  pub spread-start : Ranges C tos → QueueBound (C .n) X → Moved C tos owner k (Among users a a) X X
+module _ (C : Tables) (tos owner : List ℕ) (k : ℕ) (users : List ℕ) (a : ℕ) (X : Work) where
+  pub spread-start : Ranges C tos → QueueBound (C .size .n) X → Moved C tos owner k (Among users a a) X X
   spread-start ends bound = moved-none C tos owner k ends (Among users a a) X bound (λ c t. omega (arith, t .since, t .below))
 
   pub spread-next : (p : ℕ) (Y Z : Work) (c : ℕ) → c ≡ getD users p 0 → Moved C tos owner k (Among users a p) X Y
@@ -78,10 +78,10 @@ module _ (C : Commands) (tos owner : List ℕ) (k : ℕ) (users : List ℕ) (a :
   spread-done p z Y M g h b e q f = let y : p ≡ e = omega arith in rw (← q, ← y) M
 
 -- the places of a group, and the command that is read there
-module _ (C : Commands) (offsets users owner : List ℕ) (I : Indexed C offsets users owner) (o : ℕ) (h : o < C .n) (a z : ℕ)
-    (q : a ≡ startOf offsets (C .n) (C .t) o) (r : z ≡ startOf offsets (C .n) (C .t) (o + 1)) where
-  top : z ≡ startOf offsets (C .n) (C .t) (suc o)
-  top = r ∙ start-next offsets (C .n) (C .t) o
+module _ (C : Tables) (offsets users owner : List ℕ) (I : Indexed C offsets users owner) (o : ℕ) (h : o < C .size .n) (a z : ℕ)
+    (q : a ≡ startOf offsets (C .size .n) (C .size .t) o) (r : z ≡ startOf offsets (C .size .n) (C .size .t) (o + 1)) where
+  top : z ≡ startOf offsets (C .size .n) (C .size .t) (suc o)
+  top = r ∙ start-next offsets (C .size .n) (C .size .t) o
 
   pub group-order : a ≤ z
   group-order = omega (arith, top, I .grouped .rises o h)
@@ -90,11 +90,11 @@ module _ (C : Commands) (offsets users owner : List ℕ) (I : Indexed C offsets 
     pub group-place : p < length users
     group-place = omega (arith, top, I .grouped .within o h, I .users-long)
 
-    pub group-end : p < C .t
+    pub group-end : p < C .size .t
     group-end = omega (arith, top, I .grouped .within o h)
 
-    pub group-command : (c : ℕ) → c ≡ getD users p 0 → c < C .m
+    pub group-command : (c : ℕ) → c ≡ getD users p 0 → c < C .size .m
     group-command c e = omega (arith, e, I .grouped .inside o p h (omega arith) (omega (arith, top)))
 
-    pub group-owner : (c : ℕ) → c ≡ getD users p 0 → (c < length owner) × (getD owner c 0 < C .n)
+    pub group-owner : (c : ℕ) → c ≡ getD users p 0 → (c < length owner) × (getD owner c 0 < C .size .n)
     group-owner c e = let m = group-command c e in (omega (arith, I .owner-long), I .inside c m)

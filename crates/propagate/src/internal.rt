@@ -5,17 +5,18 @@ ghost use Prim.Native.Nat.{ℕ, _+_, _≤_, _<_};
 ghost use lib.ListN.{length, getD};
 ghost use Rattle.laws.specs.Entry.{entry};
 ghost use Rattle.laws.specs.Lists.{tabulate, overwrite};
+ghost use Rattle.laws.specs.Starts.{startOf};
 ghost use Rattle.model.specs.File.{maxStates};
-ghost use Rattle.index.specs.Parts.{startOf};
-ghost use Rattle.index.specs.Commands.{commandsOf, Fit};
+ghost use Rattle.tables.specs.Meaning.{commandsOf};
+ghost use Rattle.tables.specs.Ready.{Ready};
 ghost use Rattle.propagate.specs.Net.{netOf, depth, seeds, Seeded, Ranges, Indexed, Owns};
 ghost use Rattle.propagate.specs.Work.{work, Advanced, QueueBound, Moved, Among, Layered, SeedsQueued};
 use choice::internal::command_hit;
-use index::internal::start_of;
 use tables::Size;
 use tables::internal::NONE;
 use tables::internal::at;
 use tables::internal::put;
+use tables::internal::start_of;
 
 // The first command from a on, below e, that has no outcome of a rank of at most k; or e.
 fn advance(
@@ -27,7 +28,7 @@ fn advance(
     e: usize,
     k: usize,
 ) -> usize
-    requires { ⌜ Fit (commandsOf size (now firsts) (now outcomes)) ⌝ }
+    requires { ⌜ Ready (commandsOf size (now firsts) (now outcomes)) ⌝ }
     requires { ⌜ (a ≤ e) × ((e ≤ size .m) × (size .n ≤ length (now ranks))) ⌝ }
     ensures { λ r. ⌜ Advanced (commandsOf size (now (firsts .entry)) (now (outcomes .entry))) (now (ranks .entry)) k a e r ⌝ }
 {
@@ -56,7 +57,7 @@ fn visit(
     end: usize,
     k: usize,
 ) -> usize
-    requires { ⌜ Fit (commandsOf size (now firsts) (now outcomes)) ⌝ }
+    requires { ⌜ Ready (commandsOf size (now firsts) (now outcomes)) ⌝ }
     requires { ⌜ Ranges (commandsOf size (now firsts) (now outcomes)) (now tos) ⌝ }
     requires { ⌜ (c < length (now owner)) × ((getD (now owner) c 0 < size .n) × ((size .n ≤ length (now ranks)) × ((size .n ≤ length (now watch)) × ((size .n ≤ length (now queue)) × (k < maxStates))))) ⌝ }
     requires { ⌜ QueueBound (size .n) (work (now ranks) (now watch) (now queue) end) ⌝ }
@@ -100,7 +101,7 @@ fn spread(
     end: usize,
     k: usize,
 ) -> usize
-    requires { ⌜ Fit (commandsOf size (now firsts) (now outcomes)) ⌝ }
+    requires { ⌜ Ready (commandsOf size (now firsts) (now outcomes)) ⌝ }
     requires { ⌜ Ranges (commandsOf size (now firsts) (now outcomes)) (now tos) ⌝ }
     requires { ⌜ Indexed (commandsOf size (now firsts) (now outcomes)) (now offsets) (now users) (now owner) ⌝ }
     requires { ⌜ (o < size .n) × ((size .n ≤ length (now ranks)) × ((size .n ≤ length (now watch)) × ((size .n ≤ length (now queue)) × (k < maxStates)))) ⌝ }
@@ -146,7 +147,7 @@ fn add_layer(
     hi: usize,
     k: usize,
 ) -> usize
-    requires { ⌜ Fit (commandsOf size (now firsts) (now outcomes)) ⌝ }
+    requires { ⌜ Ready (commandsOf size (now firsts) (now outcomes)) ⌝ }
     requires { ⌜ Ranges (commandsOf size (now firsts) (now outcomes)) (now tos) ⌝ }
     requires { ⌜ Indexed (commandsOf size (now firsts) (now outcomes)) (now offsets) (now users) (now owner) ⌝ }
     requires { ⌜ (lo ≤ hi) × ((size .n ≤ length (now ranks)) × ((size .n ≤ length (now watch)) × ((size .n ≤ length (now queue)) × (k < maxStates)))) ⌝ }
@@ -218,7 +219,7 @@ pub fn propagate(
     watch: &mut [u16],
     queue: &mut [u16],
 )
-    requires { ⌜ Fit (commandsOf size (now firsts) (now outcomes)) ⌝ }
+    requires { ⌜ Ready (commandsOf size (now firsts) (now outcomes)) ⌝ }
     requires { ⌜ Ranges (commandsOf size (now firsts) (now outcomes)) (now tos) ⌝ }
     requires { ⌜ Indexed (commandsOf size (now firsts) (now outcomes)) (now offsets) (now users) (now owner) ⌝ }
     requires { ⌜ Owns (netOf (commandsOf size (now firsts) (now outcomes)) (now watch) (now tos)) (now owner) ⌝ }

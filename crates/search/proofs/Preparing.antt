@@ -6,16 +6,17 @@ use Prim.Native.Nat.{ℕ, _<_, _≤_}
 use native.Mathlib.Omega.{arith}
 use lib.ListN.{length}
 use Rattle.model.specs.SoundTest.{sound}
+use Rattle.model.specs.File.{maxStates}
 use Rattle.model.proofs.SoundFacts.{sound-facts}
 use Rattle.tables.specs.declared.Row.{Row}
 use Rattle.tables.specs.declared.Size.{Size}
 use Rattle.tables.specs.Meaning.{held}
 use Rattle.tables.proofs.LongTest.{rows-long}
-use Rattle.choice.proofs.Readiness.{sound-ready}
+use Rattle.tables.proofs.Readiness.{sound-ready}
 use Rattle.search.specs.Prepared.{Prepared}
 
 pub prepared : (size : Size) (rows : List Row) (firsts outcomes : List ℕ) → sound (held size rows firsts outcomes) ≡ true → (a : ℕ) → a < size .n
-    → (c s u : List ℕ) → size .n ≤ length c → size .n ≤ length s → 1024 ≤ length u → Prepared size rows firsts outcomes a c s u
+    → (c s u : List ℕ) → size .n ≤ length c → size .n ≤ length s → maxStates ≤ length u → Prepared size rows firsts outcomes a c s u
 prepared size rows firsts outcomes e a l c s u lc ls lu = let f = sound-facts (held size rows firsts outcomes) .0 e in record {
   sounds = e;
   few = f .size .few;

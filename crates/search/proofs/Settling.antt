@@ -15,7 +15,7 @@ use Rattle.laws.specs.Filled.{Filled}
 use Rattle.laws.proofs.Fills.{filled-none, filled-next}
 use Rattle.model.specs.Tables.{Tables}
 use Rattle.tables.specs.declared.internal.Span.{Span}
-use Rattle.tables.specs.Meaning.{spanAt}
+use Rattle.tables.specs.Meaning.{spanAt, failingSpan}
 use Rattle.search.specs.Flags.{walkedIn}
 use Rattle.search.specs.Prepared.{activeSpan}
 use Rattle.search.specs.Phases.{startFlag, startEnd, markedAt, settledAt}
@@ -31,26 +31,26 @@ module _ (q : Span) where
   unfolding activeSpan
   active-count h = rw (eq-eqb (q .kind) 0 h)
 
-  pub flag-failing : q .kind ≡ 1 → 0 ≡ startFlag q
+  pub flag-failing : failingSpan q ≡ true → 0 ≡ startFlag q
   unfolding startFlag
-  flag-failing h = rw (eq-eqb (q .kind) 1 h)
+  flag-failing h = rw h
 
-  pub flag-other : (q .kind ≡ 1 → ⊥) → 1 ≡ startFlag q
+  pub flag-other : failingSpan q ≡ false → 1 ≡ startFlag q
   unfolding startFlag
-  flag-other h = rw (ne-eqb (q .kind) 1 h)
+  flag-other h = rw h
 
-  pub end-failing : q .kind ≡ 1 → 1 ≡ startEnd q
+  pub end-failing : failingSpan q ≡ true → 1 ≡ startEnd q
   unfolding startEnd
-  end-failing h = rw (eq-eqb (q .kind) 1 h)
+  end-failing h = rw h
 
-  module _ (h : q .kind ≡ 1 → ⊥) (t : Bool) (e : t ≡ activeSpan q) where
+  module _ (h : failingSpan q ≡ false) (t : Bool) (e : t ≡ activeSpan q) where
     pub end-active : t ≡ true → 2 ≡ startEnd q
     unfolding startEnd
-    end-active z = rw (ne-eqb (q .kind) 1 h, ← e, z)
+    end-active z = rw (h, ← e, z)
 
     pub end-rest : t ≡ false → 0 ≡ startEnd q
     unfolding startEnd
-    end-rest z = rw (ne-eqb (q .kind) 1 h, ← e, z)
+    end-rest z = rw (h, ← e, z)
 
 -- ---- the sweep at one state, whose flag r was read
 

@@ -12,17 +12,18 @@ use Rattle.model.specs.Plan.{Plan}
 use Rattle.model.specs.Command.{choice}
 use Rattle.model.specs.Search.{lands, reached, marked, search}
 use Rattle.tables.specs.declared.internal.Span.{Span}
+use Rattle.tables.specs.Meaning.{failingSpan}
 use Rattle.search.specs.declared.Found.{Found}
 use Rattle.search.specs.Flags.{knownIn, walkedIn, Spread}
 use Rattle.search.specs.Prepared.{activeSpan}
 
 -- before the first round: the failing states are known
 unfoldable pub startFlag : Span → ℕ
-startFlag q = cond (eqb (q .kind) 1) 0 1
+startFlag q = cond (failingSpan q) 0 1
 
 -- 2 where rounds are to be walked, else the verdict: 1 lost, 0 safe
 unfoldable pub startEnd : Span → ℕ
-startEnd q = cond (eqb (q .kind) 1) 1 (cond (activeSpan q) 2 0)
+startEnd q = cond (failingSpan q) 1 (cond (activeSpan q) 2 0)
 
 -- the walk went on from s: it took the command there, and that command's outcomes into the walk
 pub record Expanded (P : Plan) (n q s : ℕ) (commands scratch queue : List ℕ) (q′ : ℕ) (commands′ scratch′ queue′ : List ℕ) : Type 0 where

@@ -10,8 +10,8 @@ use Rattle.model.specs.SoundTest.{sound}
 use Rattle.tables.specs.declared.Row.{Row}
 use Rattle.tables.specs.declared.Size.{Size}
 use Rattle.tables.specs.declared.internal.Span.{Span}
-use Rattle.tables.specs.Meaning.{held}
-use Rattle.choice.specs.Ready.{Ready}
+use Rattle.tables.specs.Meaning.{held, commandsOf}
+use Rattle.tables.specs.Ready.{Ready}
 use Rattle.search.specs.Flags.{knownIn}
 
 -- an ordinary state with commands
@@ -23,7 +23,7 @@ pub record Prepared (size : Size) (rows : List Row) (firsts outcomes : List ℕ)
   pub sounds : sound (held size rows firsts outcomes) ≡ true
   pub few : size .n ≤ maxStates
   pub long-rows : size .n ≤ length rows
-  pub ready : Ready size firsts outcomes
+  pub ready : Ready (commandsOf size firsts outcomes)
   pub inside : start < size .n
   pub long-commands : size .n ≤ length commands
   pub long-scratch : size .n ≤ length scratch

@@ -1,12 +1,11 @@
 -- What the public call answers, in the model's words, and demand 3 of it.
 use mathlib.Core.Path.{_≡_}
-use mathlib.Core.Bool.{Bool, _&&_}
+use mathlib.Core.Bool.{Bool}
 use mathlib.Core.List.{List}
 use Prim.Native.Nat.{ℕ}
-use lib.Dec.{leb, ltb}
 use lib.ListN.{length}
 use Rattle.model.specs.Plan.{Plan}
-use Rattle.model.specs.Refusal.{Cramped, Unsound, Stranger, Answer, given, refused, need, _>>_}
+use Rattle.model.specs.Refusal.{Answer, given, refused}
 use Rattle.model.specs.Tables.{Tables}
 use Rattle.model.specs.Calls.{left, deciding, rankTable, commandTable}
 use Rattle.model.specs.Demand3.{Demand3}
@@ -18,13 +17,6 @@ use Rattle.search.specs.declared.SearchAnswer.the-variants.{Given, Refus
 abbrev pub answerOf : SearchAnswer → Answer (Bool × ℕ)
 answerOf (Given f) = given (f .lost, f .rounds)
 answerOf (Refused r) = refused (refusalOf r)
-
--- "Other calls: 10, then 11, then 9.": the tests of the search, by whether the plan is sound and by the lengths of the tables
-unfoldable pub admitted : Bool → ℕ → ℕ → ℕ → ℕ → Answer (Unit {0})
-admitted sounds n start commands scratch = do
-  need Unsound sounds
-  need Stranger (ltb start n)
-  need Cramped (leb n commands && leb n scratch)
 
 -- Demand 3 over what is returned here and what deciding returns: whatever tables deciding was lent, if it answers on the same plan and the
 -- search answers too.

@@ -1,13 +1,17 @@
 // What the search is refused with.
 ghost use mathlib.Core.Path.{_≡_};
-ghost use Rattle.tables.specs.Meaning.{admissionOf};
-ghost use Rattle.search.specs.Replies.{admitted};
+ghost use Rattle.model.specs.Tables.{Tables};
+ghost use Rattle.model.specs.SoundTest.{sound};
+ghost use Rattle.model.specs.Held.{planIn};
+ghost use Rattle.model.specs.Search.{search};
+ghost use Rattle.model.specs.Calls.{searching};
+ghost use Rattle.tables.specs.Meaning.{admitted};
 use tables::Refusal;
 use tables::internal::Admission;
 
 // Refusal 10, then 11, then 9: `sounds` says whether the plan is sound, `commands` and `scratch` how many places those tables have.
 pub fn admit(sounds: bool, n: usize, start: usize, commands: usize, scratch: usize) -> Admission
-    ensures { λ r. ⌜ admissionOf r ≡ admitted sounds n start commands scratch ⌝ }
+    ensures { λ r. ⌜ ((T : Tables) → sounds ≡ sound T → n ≡ T .size .n → searching T start commands scratch ≡ admitted r (search (planIn T) start)) ⌝ }
 {
     if !sounds {
         return Admission::Denied(Refusal::Unsound);

@@ -1,8 +1,6 @@
 // The search from one start: the start's verdict, and the commands that hold it, without deciding the whole plan.
 ghost use mathlib.Core.Path.{_≡_};
-ghost use lib.ListN.{length};
-ghost use Rattle.model.specs.Refusal.{answer};
-ghost use Rattle.model.specs.Calls.{left, searching, resultTable, cleared};
+ghost use Rattle.model.specs.Calls.{searchCall};
 ghost use Rattle.tables.specs.Meaning.{held};
 ghost use Rattle.search.specs.Replies.{answerOf, Demanded};
 use tables::Refusal;
@@ -27,8 +25,8 @@ pub enum SearchAnswer {
 }
 
 // The search from `start`, which leaves its commands in the first n places of `commands` and zero in the first n places of `scratch`. Refused
-// with 10, then 11, then 9, before a table is written. Free is the order in which a round walks, and what scratch holds during the call:
-// neither the answer nor a table shows it. Ruled out: a start called safe before all that its commands lead to is walked, and a count of
+// with 10, then 11, then 9, before a table is written. Free is the order in which a round walks, and what commands and scratch hold during the
+// call: when it is over neither the answer nor a table shows it. Ruled out: a start called safe before all that its commands lead to is walked, and a count of
 // rounds that were not walked.
 pub fn search(
     size: Size,
@@ -39,9 +37,9 @@ pub fn search(
     commands: &mut [u16],
     scratch: &mut [u16],
 ) -> SearchAnswer
-    ensures answered { λ r. ⌜ answerOf r ≡ answer (λ R. (R .lost, R .rounds)) (searching (held size (now (rows .entry)) (now (firsts .entry)) (now (outcomes .entry))) start (length (now (commands .entry))) (length (now (scratch .entry)))) ⌝ }
-    ensures takes { λ _. ⌜ now (commands .exit) ≡ left (resultTable (size .n)) (searching (held size (now (rows .entry)) (now (firsts .entry)) (now (outcomes .entry))) start (length (now (commands .entry))) (length (now (scratch .entry)))) (now (commands .entry)) ⌝ }
-    ensures clean { λ _. ⌜ now (scratch .exit) ≡ left (λ R. cleared (size .n)) (searching (held size (now (rows .entry)) (now (firsts .entry)) (now (outcomes .entry))) start (length (now (commands .entry))) (length (now (scratch .entry)))) (now (scratch .entry)) ⌝ }
+    ensures answered { λ r. ⌜ answerOf r ≡ searchCall (held size (now (rows .entry)) (now (firsts .entry)) (now (outcomes .entry))) start (now (commands .entry)) (now (scratch .entry)) .answers ⌝ }
+    ensures takes { λ _. ⌜ now (commands .exit) ≡ searchCall (held size (now (rows .entry)) (now (firsts .entry)) (now (outcomes .entry))) start (now (commands .entry)) (now (scratch .entry)) .commands ⌝ }
+    ensures clean { λ _. ⌜ now (scratch .exit) ≡ searchCall (held size (now (rows .entry)) (now (firsts .entry)) (now (outcomes .entry))) start (now (commands .entry)) (now (scratch .entry)) .scratch ⌝ }
     ensures demand3 { λ r. ⌜ Demanded (held size (now (rows .entry)) (now (firsts .entry)) (now (outcomes .entry))) start r (now (commands .exit)) ⌝ }
 {
     let sounds = tables::sound(size, rows, firsts, outcomes);

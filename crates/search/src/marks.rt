@@ -14,6 +14,7 @@ use tables::Size;
 use tables::internal::NONE;
 use tables::internal::Span;
 use tables::internal::at;
+use tables::internal::is_failing;
 use tables::internal::put;
 use tables::internal::span_at;
 
@@ -30,7 +31,7 @@ fn has_commands(span: Span) -> bool
 fn start_flag(span: Span) -> usize
     ensures { λ r. ⌜ (r ≡ startFlag span) × (r < 65536) ⌝ }
 {
-    if span.kind == 1 {
+    if is_failing(span) {
         return 0;
     }
     1
@@ -40,7 +41,7 @@ fn start_flag(span: Span) -> usize
 pub fn start_end(span: Span) -> usize
     ensures { λ r. ⌜ r ≡ startEnd span ⌝ }
 {
-    if span.kind == 1 {
+    if is_failing(span) {
         return 1;
     }
     if has_commands(span) {

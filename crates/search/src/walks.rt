@@ -14,9 +14,9 @@ ghost use Rattle.model.specs.File.{maxStates};
 ghost use Rattle.model.specs.SoundTest.{sound};
 ghost use Rattle.model.specs.Held.{planIn};
 ghost use Rattle.tables.specs.declared.Row.{Row};
-ghost use Rattle.tables.specs.Meaning.{held, spanAt};
+ghost use Rattle.tables.specs.Meaning.{held, spanAt, commandsOf};
 ghost use Rattle.tables.specs.Seen.{Seen};
-ghost use Rattle.choice.specs.Ready.{Ready};
+ghost use Rattle.tables.specs.Ready.{Ready};
 ghost use Rattle.search.specs.Flags.{knownIn, Lists, Spread};
 ghost use Rattle.search.specs.Prepared.{Prepared, RoundStart};
 ghost use Rattle.search.specs.Phases.{Expanded, Walked};
@@ -82,7 +82,7 @@ fn expand(
     q: usize,
     s: usize,
 ) -> usize
-    requires { ⌜ Ready size (now firsts) (now outcomes) ⌝ }
+    requires { ⌜ Ready (commandsOf size (now firsts) (now outcomes)) ⌝ }
     requires { ⌜ Seen size (now firsts) (now outcomes) s span ⌝ }
     requires { ⌜ (size .n ≤ length (now commands)) × (size .n ≤ length (now scratch)) × (size .n ≤ length (now queue)) ⌝ }
     requires { ⌜ Lists (size .n) q (now scratch) (now queue) ⌝ }

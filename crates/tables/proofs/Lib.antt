@@ -5,3 +5,4 @@ pub mod CommandTest
 pub mod LongTest
 pub mod StoredRows
 pub mod SoundParts
+pub mod Readiness

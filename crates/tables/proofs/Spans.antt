@@ -6,7 +6,7 @@ use Prim.Native.Nat.{ℕ, _+_, _<_, _≤_}
 use native.Mathlib.Numerals.{add-one}
 use borrow.Author.Tests.{lt-ltb, le-ltb}
 use lib.ListN.{getD, List·getD-map}
-use Rattle.model.specs.Tables.{Row as Line, Tables}
+use Rattle.model.specs.Tables.{Row as ModelRow, Tables}
 use Rattle.model.specs.Places.{rowAt, firstCommand, commandCount}
 use Rattle.model.specs.SoundTest.{rowSound}
 use Rattle.tables.specs.declared.Size.{Size}
@@ -21,7 +21,7 @@ module _ (z : Size) (R : List Row) (F O : List ℕ) where
 
   first-below : (s : ℕ) → s < z .n → firstCommand (held z R F O) s ≡ getD R s noRow .first
   unfolding firstCommand
-  first-below s h = rw (lt-ltb _ _ h) (ap (λ (w : Line). w .first) (row-held s))
+  first-below s h = rw (lt-ltb _ _ h) (ap (λ (w : ModelRow). w .first) (row-held s))
 
   span-to : (s end : ℕ) (r : Row) → s < z .n → r ≡ getD R s noRow → end ≡ firstCommand (held z R F O) (s + 1)
       → spanOf r end ≡ spanAt (held z R F O) s

@@ -1,12 +1,13 @@
 -- What the code's types stand for: the model's size record, refusals and tables.
 use mathlib.Core.Bool.{Bool, _&&_}
-use mathlib.Core.List.{List, map}
+use mathlib.Core.List.{List, [], map}
 use Prim.Native.Nat.{ℕ, _+_, _-_}
 use lib.Dec.{leb, eqb}
 use Rattle.laws.specs.Entry.{FFFF}
 use Rattle.laws.specs.Sets.{every}
-use Rattle.model.specs.Refusal.{Refusal as Word, Answer, given, refused}
-use Rattle.model.specs.Tables.{Size as Numbers, Row as Line, Tables}
+use Rattle.model.specs.Plan.{failingAt}
+use Rattle.model.specs.Refusal.{Refusal as ModelRefusal, Answer, given, refused}
+use Rattle.model.specs.Tables.{Size as ModelSize, Row as ModelRow, Tables}
 use Rattle.model.specs.File.{notIdle}
 use Rattle.model.specs.Places.{rowAt, firstCommand, firstOutcome}
 use Rattle.model.specs.SoundTest.{commandSound, outcomeSound}
@@ -21,32 +22,32 @@ use Rattle.tables.specs.declared.Refusal.the-variants.{Cut, Surplus, Tag
 abbrev pub sized : ℕ → ℕ → ℕ → ℕ → Size
 sized n m t start = record { n = n; m = m; t = t; start = start }
 
-abbrev pub numbers : Size → Numbers
+abbrev pub numbers : Size → ModelSize
 numbers z = record { n = z .n; m = z .m; t = z .t; start = z .start }
 
-abbrev pub refusalOf : Refusal → Word
-refusalOf Cut = Word.Cut
-refusalOf Surplus = Word.Surplus
-refusalOf Tag = Word.Tag
-refusalOf Length = Word.Length
-refusalOf Beyond = Word.Beyond
-refusalOf Unsorted = Word.Unsorted
-refusalOf Idle = Word.Idle
-refusalOf Limit = Word.Limit
-refusalOf Cramped = Word.Cramped
-refusalOf Unsound = Word.Unsound
-refusalOf Stranger = Word.Stranger
+abbrev pub refusalOf : Refusal → ModelRefusal
+refusalOf Cut = ModelRefusal.Cut
+refusalOf Surplus = ModelRefusal.Surplus
+refusalOf Tag = ModelRefusal.Tag
+refusalOf Length = ModelRefusal.Length
+refusalOf Beyond = ModelRefusal.Beyond
+refusalOf Unsorted = ModelRefusal.Unsorted
+refusalOf Idle = ModelRefusal.Idle
+refusalOf Limit = ModelRefusal.Limit
+refusalOf Cramped = ModelRefusal.Cramped
+refusalOf Unsound = ModelRefusal.Unsound
+refusalOf Stranger = ModelRefusal.Stranger
 
--- a call goes on, or is refused
-abbrev pub admissionOf : Admission → Answer (Unit {0})
-admissionOf Granted = given tt
-admissionOf (Denied r) = refused (refusalOf r)
+-- a call answers a where it goes on, else the refusal
+abbrev pub admitted : {A : Type 0} → Admission → A → Answer A
+admitted Granted a = given a
+admitted (Denied r) a = refused (refusalOf r)
 
-abbrev pub rowOf : Row → Line
+abbrev pub rowOf : Row → ModelRow
 rowOf r = record { kind = r .kind; first = r .first; policy = r .practice }
 
 -- the rows of a lent table
-abbrev pub rowsOf : List Row → List Line
+abbrev pub rowsOf : List Row → List ModelRow
 rowsOf rows = map rowOf rows
 
 abbrev pub rowWith : ℕ → ℕ → ℕ → Row
@@ -60,6 +61,10 @@ noRow = rowWith 2 0 FFFF
 abbrev pub held : Size → List Row → List ℕ → List ℕ → Tables
 held z rows firsts outcomes = record { size = numbers z; rows = rowsOf rows; firsts = firsts; outcomes = outcomes }
 
+-- the commands of a plan, without its rows
+abbrev pub commandsOf : Size → List ℕ → List ℕ → Tables
+commandsOf z firsts outcomes = held z [] firsts outcomes
+
 -- a row, and where the state's commands end
 abbrev pub spanOf : Row → ℕ → Span
 spanOf r end = record { kind = r .kind; first = r .first; end = end; practice = r .practice }
@@ -67,6 +72,10 @@ spanOf r end = record { kind = r .kind; first = r .first; end = end; practice = 
 -- what is read of a state at once
 abbrev pub spanAt : Tables → ℕ → Span
 spanAt T s = record { kind = rowAt T s .kind; first = firstCommand T s; end = firstCommand T (s + 1); practice = rowAt T s .policy }
+
+-- a state counts as failing
+abbrev pub failingSpan : Span → Bool
+failingSpan q = failingAt (q .kind) (q .end - q .first)
 
 -- a state's row is sound, m being the number of commands
 unfoldable pub spanSound : Span → ℕ → Bool

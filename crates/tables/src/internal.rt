@@ -7,10 +7,11 @@ ghost use lib.Dec.{ltb, eqb};
 ghost use lib.ListN.{length, getD, set};
 ghost use Rattle.laws.specs.Entry.{FFFF};
 ghost use Rattle.laws.specs.Filled.{Filled};
+ghost use Rattle.laws.specs.Starts.{startOf};
 ghost use Rattle.model.specs.File.{notIdle};
 ghost use Rattle.model.specs.Places.{firstOutcome};
 ghost use Rattle.tables.specs.declared.Row.{Row};
-ghost use Rattle.tables.specs.Meaning.{held, noRow, rowWith, spanOf, spanAt};
+ghost use Rattle.tables.specs.Meaning.{held, noRow, rowWith, spanOf, spanAt, failingSpan};
 use crate::Refusal;
 use crate::Row;
 use crate::Size;
@@ -107,6 +108,13 @@ pub struct Span {
     pub practice: usize,
 }
 
+// Whether the state counts as failing.
+pub fn is_failing(span: Span) -> bool
+    ensures { λ r. ⌜ r ≡ failingSpan span ⌝ }
+{
+    span.kind == 1
+}
+
 // A state's span: its row, and where its commands end.
 fn span_of(row: Row, end: usize) -> Span
     ensures { λ r. ⌜ r ≡ spanOf row end ⌝ }
@@ -132,15 +140,23 @@ pub fn span_at(size: Size, rows: &[Row], s: usize) -> Span
     span_of(row, wide(next.first))
 }
 
+// Where part i of a table starts that is cut into `count` parts, and the part before it ends.
+pub fn start_of(starts: &[u16], count: usize, end: usize, i: usize) -> usize
+    requires { ⌜ count ≤ length (now starts) ⌝ }
+    ensures { λ r. ⌜ r ≡ startOf (now (starts .entry)) count end i ⌝ }
+{
+    if i < count {
+        return at(starts, i);
+    }
+    end
+}
+
 // Where the outcomes of command c begin; for c = m, where the last ones end.
 pub fn first_outcome(size: Size, firsts: &[u16], c: usize) -> usize
     requires { ⌜ size .m ≤ length (now firsts) ⌝ }
     ensures { λ r. ⌜ ((R : List Row) (O : List ℕ) → r ≡ firstOutcome (held size R (now (firsts .entry)) O) c) ⌝ }
 {
-    if size.m <= c {
-        return size.t;
-    }
-    at(firsts, c)
+    start_of(firsts, size.m, size.t, c)
 }
 
 // Only a state of kind 0 has commands.

@@ -13,10 +13,10 @@ use Rattle.laws.proofs.Entry.{length-twos}
 use Rattle.model.specs.File.{commandTag}
 use Rattle.model.specs.Bytes.{commandsBytes}
 use Rattle.model.specs.Places.{firstOutcome, outcomesAt}
-use Rattle.model.proofs.SoundFacts.{Fits, sound-facts}
 use Rattle.tables.specs.declared.Size.{Size}
-use Rattle.tables.specs.Meaning.{held}
-use Rattle.writing.specs.Linked.{Linked}
+use Rattle.tables.specs.Meaning.{commandsOf}
+use Rattle.tables.specs.Ready.{Ready}
+use Rattle.tables.proofs.Readiness.{ready-below}
 
 -- one command, of the outcomes from a place up to an end
 module _ (outcomes : List ℕ) (from end : ℕ) (h : end ≤ length outcomes) where
@@ -33,39 +33,31 @@ module _ (outcomes : List ℕ) (from end : ℕ) (h : end ≤ length outcomes) wh
       → Wrote before place (commandsBytes (slice from end outcomes ∷ []) []) after next
   command-wrote w = rw command-bytes w
 
-module _ {z : Size} {firsts outcomes : List ℕ} (k : Linked z firsts outcomes) where
-  fits : Fits (held z (k .rows) firsts outcomes)
-  fits = sound-facts _ .0 (k .sounds)
-
-  pub firsts-long : z .m ≤ length firsts
-  firsts-long = fits .long .firsts
-
+module _ {z : Size} {firsts outcomes : List ℕ} (k : Ready (commandsOf z firsts outcomes)) where
   -- the command c, with the places that are read of it
-  module _ {c last from end : ℕ} (h : c < last) (l : last ≤ z .m) (p : from ≡ firstOutcome (held z [] firsts outcomes) c)
-      (q : end ≡ firstOutcome (held z [] firsts outcomes) (c + 1)) where
+  module _ {c last from end : ℕ} (h : c < last) (l : last ≤ z .m) (p : from ≡ firstOutcome (commandsOf z firsts outcomes) c)
+      (q : end ≡ firstOutcome (commandsOf z firsts outcomes) (c + 1)) where
     rises : from ≤ end
-    unfolding firstOutcome
-    rises = omega (arith, p, rw add-one at q, fits .commands c (lt-of-lt-of-le h l) .rises)
+    rises = omega (arith, p, rw add-one at q, k .parts .rises c (lt-of-lt-of-le h l))
 
     below : end ≤ z .t
-    unfolding firstOutcome
-    below = omega (arith, rw add-one at q, fits .commands c (lt-of-lt-of-le h l) .below)
+    below = omega (arith, rw add-one at q, ready-below k c (lt-of-lt-of-le h l))
 
     inside : end ≤ length outcomes
-    inside = omega (arith, below, fits .long .outcomes)
+    inside = omega (arith, below, k .states .long)
 
-    outcomes-are : outcomesAt (held z [] firsts outcomes) c ≡ slice from end outcomes
+    outcomes-are : outcomesAt (commandsOf z firsts outcomes) c ≡ slice from end outcomes
     unfolding outcomesAt
     outcomes-are = rw (p, q, add-one c)
 
     pub command-ready : (place size : ℕ)
-        → place + length (commandsBytes (outcomesAt (held z [] firsts outcomes) c ∷ []) []) ≤ size
+        → place + length (commandsBytes (outcomesAt (commandsOf z firsts outcomes) c ∷ []) []) ≤ size
         → (from ≤ end) × (end ≤ length outcomes) × (end < 32768) × (place + 3 + (end - from) * 2 ≤ size)
     command-ready place size room =
         let r : place + length (commandsBytes (slice from end outcomes ∷ []) []) ≤ size = rw outcomes-are at room in
-        (rises, inside, omega (arith, below, fits .size .few-outcomes), omega (arith, r, command-length outcomes from end inside))
+        (rises, inside, omega (arith, below, k .states .few), omega (arith, r, command-length outcomes from end inside))
 
     pub command-stored : {place next : ℕ} {before after : List ℕ}
         → Wrote before place (commandsBytes (slice from end outcomes ∷ []) []) after next
-        → Wrote before place (commandsBytes (outcomesAt (held z [] firsts outcomes) c ∷ []) []) after next
+        → Wrote before place (commandsBytes (outcomesAt (commandsOf z firsts outcomes) c ∷ []) []) after next
     command-stored w = rw outcomes-are w

@@ -15,39 +15,37 @@ use Rattle.laws.proofs.Writes.{put-front}
 use Rattle.laws.proofs.Wrote.{wrote-then, wrote-length}
 use Rattle.laws.proofs.Spreads.{front}
 use Rattle.model.specs.Refusal.{Unsound, Cramped, given, refused, answer, need, _>>_}
-use Rattle.model.specs.File.{headTag, endTag}
+use Rattle.model.specs.File.{maxStates, maxCommands, maxOutcomes, headTag, endTag}
 use Rattle.model.specs.Bytes.{statesBytes, bytesOf}
-use Rattle.model.specs.Tables.{Size, Tables, fileLength}
+use Rattle.model.specs.Tables.{Size as ModelSize, Tables, fileLength}
 use Rattle.model.specs.SoundTest.{sound}
 use Rattle.model.specs.Held.{stateAt, treeOf}
 use Rattle.model.specs.Calls.{left, writing}
 use Rattle.model.proofs.SoundFacts.{sound-facts}
-use Rattle.model.proofs.Answers.{then-assoc}
 use Rattle.model.proofs.Answering.{writing-iff}
 use Rattle.model.proofs.RoundTrips.{written-length}
-use Rattle.tables.specs.declared.Refusal.{Refusal as Word}
+use Rattle.tables.specs.declared.Refusal.{Refusal}
 use Rattle.tables.specs.declared.internal.Admission.{Admission}
 use Rattle.tables.specs.declared.internal.Admission.the-variants.{Granted, Denied}
-use Rattle.tables.specs.Meaning.{refusalOf, admissionOf}
-use Rattle.writing.specs.Answers.{admitted}
+use Rattle.tables.specs.Meaning.{refusalOf, admitted}
 use Rattle.writing.proofs.Spreads.{states-spread}
 
 module _ (T : Tables) where
   abbrev headBytes : List ℕ
   headBytes = headTag ∷ two 4 (two (T .size .n) (two (T .size .start) []))
 
-  abbrev stateBytes : List ℕ
-  stateBytes = statesBytes (tabulate (stateAt T) 0 (T .size .n)) []
+  abbrev allStates : List ℕ
+  allStates = statesBytes (tabulate (stateAt T) 0 (T .size .n)) []
 
   abbrev endBytes : List ℕ
   endBytes = endTag ∷ two 0 []
 
-  file-bytes : bytesOf (treeOf T) ≡ headBytes ++ (stateBytes ++ endBytes)
+  file-bytes : bytesOf (treeOf T) ≡ headBytes ++ (allStates ++ endBytes)
   unfolding bytesOf treeOf
   file-bytes = rw (length-tabulate (stateAt T) 0 (T .size .n), front states-spread (tabulate (stateAt T) 0 (T .size .n)) endBytes)
 
-  parts-length : length (bytesOf (treeOf T)) ≡ 7 + length stateBytes + 3
-  parts-length = omega (arith, ap length file-bytes, length-append stateBytes endBytes)
+  parts-length : length (bytesOf (treeOf T)) ≡ 7 + length allStates + 3
+  parts-length = omega (arith, ap length file-bytes, length-append allStates endBytes)
 
   pub head-ready : (size : ℕ) → sound T ≡ true → length (bytesOf (treeOf T)) ≤ size → (7 ≤ size) × (T .size .n < 65536) × (T .size .start < 65536)
   head-ready size e room =
@@ -55,34 +53,29 @@ module _ (T : Tables) where
       (omega (arith, room, parts-length), omega (arith, f .few), omega (arith, f .few, f .starts))
 
   module _ {before after : List ℕ} {next : ℕ} (room : length (bytesOf (treeOf T)) ≤ length before) (w : Wrote before 0 headBytes after next) where
-    pub states-ready : next + length stateBytes ≤ length after
+    pub states-ready : next + length allStates ≤ length after
     states-ready = omega (arith, room, parts-length, w .past, wrote-length w)
 
-    module _ {last : List ℕ} {end : ℕ} (v : Wrote after next stateBytes last end) where
+    module _ {last : List ℕ} {end : ℕ} (v : Wrote after next allStates last end) where
       pub end-ready : end + 3 ≤ length last
       end-ready = omega (arith, room, parts-length, w .past, wrote-length w, v .past, wrote-length v)
 
       pub file-stored : {whole : List ℕ} {count : ℕ} → Wrote last end endBytes whole count → Wrote before 0 (bytesOf (treeOf T)) whole count
       file-stored u = rw file-bytes (wrote-then w (wrote-then v u))
 
-  pub size-ready : sound T ≡ true → (T .size .n ≤ 1024) × (T .size .m ≤ 4096) × (T .size .t ≤ 16384)
+  pub size-ready : sound T ≡ true → (T .size .n ≤ maxStates) × (T .size .m ≤ maxCommands) × (T .size .t ≤ maxOutcomes)
   size-ready e = let f = sound-facts T .0 e .size in (f .few, f .few-commands, f .few-outcomes)
 
-  -- the admission g, for which it was asked whether the plan is sound
-  module _ (table : List ℕ) (t : Bool) (e : t ≡ sound T) (g : Admission) (h : admissionOf g ≡ admitted t (T .size) (length table)) where
-    answers : writing T (length table) ≡ (admissionOf g >> given (bytesOf (treeOf T)))
-    unfolding writing admitted
-    answers = rw (h, ← e) (sym (then-assoc (need Unsound t) _ _))
-
-    -- shut: the bytes are as they were
-    pub refuses : (w : Word) → g ≡ Denied w
+  -- the admission g
+  module _ (table : List ℕ) (g : Admission) (answers : writing T (length table) ≡ admitted g (bytesOf (treeOf T))) where
+    -- denied: the bytes are as they were
+    pub refuses : (w : Refusal) → g ≡ Denied w
         → (refused (refusalOf w) ≡ answer length (writing T (length table))) × (table ≡ left (λ file. file) (writing T (length table)) table)
-    unfolding answer left _>>_
+    unfolding answer left
     refuses w q = let z : writing T (length table) ≡ refused (refusalOf w) = answers ∙ rw q in rw z (refl, refl)
 
     module _ (q : g ≡ Granted) where
       gives : writing T (length table) ≡ given (bytesOf (treeOf T))
-      unfolding _>>_
       gives = answers ∙ rw q
 
       pub file-ready : (sound T ≡ true) × (length (bytesOf (treeOf T)) ≤ length table)
@@ -96,16 +89,16 @@ module _ (T : Tables) where
       written w = rw gives (ap given (w .past ∙ zero-add _), w .stored ∙ put-front table (bytesOf (treeOf T)) (file-ready .1))
 
 -- the tests in their order
-module _ (t : Bool) (z : Size) (bytes : ℕ) where
-  pub shut-unsound : not t ≡ true → refused Unsound ≡ admitted t z bytes
-  unfolding admitted need _>>_
-  shut-unsound h = rw (not-true t h)
+module _ (T : Tables) (bytes : ℕ) {t : Bool} {z : ModelSize} where
+  pub denies-unsound : not t ≡ true → t ≡ sound T → z ≡ T .size → writing T bytes ≡ refused Unsound
+  unfolding writing need _>>_
+  denies-unsound h e k = rw (← e, not-true t h)
 
-  module _ (h : not t ≡ false) {count : ℕ} (k : count ≡ fileLength z) where
-    pub shut-cramped : bytes < count → refused Cramped ≡ admitted t z bytes
-    unfolding admitted need _>>_
-    shut-cramped l = rw (not-false t h, lt-leb (fileLength z) bytes (rw k at l))
+  module _ (h : not t ≡ false) {count : ℕ} (w : count ≡ fileLength z) where
+    pub denies-cramped : bytes < count → t ≡ sound T → z ≡ T .size → writing T bytes ≡ refused Cramped
+    unfolding writing need _>>_
+    denies-cramped l e k = rw (← e, not-false t h, ← k, lt-leb (fileLength z) bytes (rw w at l))
 
-    pub opens : count ≤ bytes → given tt ≡ admitted t z bytes
-    unfolding admitted need _>>_
-    opens l = rw (not-false t h, le-leb (fileLength z) bytes (rw k at l))
+    pub grants : count ≤ bytes → t ≡ sound T → z ≡ T .size → writing T bytes ≡ given (bytesOf (treeOf T))
+    unfolding writing need _>>_
+    grants l e k = rw (← e, not-false t h, ← k, le-leb (fileLength z) bytes (rw w at l))

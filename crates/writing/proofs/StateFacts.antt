@@ -11,10 +11,11 @@ use lib.ListN.{length, length-append}
 use borrow.Author.Tests.{eqb-true, ltb-true}
 use Rattle.laws.specs.Entry.{FFFF}
 use Rattle.laws.specs.Wrote.{Wrote}
+use Rattle.laws.specs.Starts.{startOf}
 use Rattle.laws.proofs.Tests.{and-both, or-cases}
 use Rattle.laws.proofs.Lists.{length-tabulate}
 use Rattle.laws.proofs.Wrote.{wrote-length}
-use Rattle.model.specs.File.{notIdle}
+use Rattle.model.specs.File.{notIdle, maxCommands}
 use Rattle.model.specs.Bytes.{commandsBytes, statesBytes}
 use Rattle.model.specs.SoundTest.{sound}
 use Rattle.model.specs.Tables.{Tables}
@@ -24,11 +25,13 @@ use Rattle.model.proofs.SoundFacts.{Fits, RowFits, sound-facts}
 use Rattle.tables.specs.declared.Row.{Row}
 use Rattle.tables.specs.declared.Size.{Size}
 use Rattle.tables.specs.declared.internal.Span.{Span}
-use Rattle.tables.specs.Meaning.{held, spanAt}
+use Rattle.tables.specs.Meaning.{held, spanAt, commandsOf}
+use Rattle.tables.specs.Ready.{Ready}
 use Rattle.tables.proofs.LongTest.{rows-long}
-use Rattle.writing.specs.Linked.{Linked, commandsFrom, rowBytes, spanBytes, FitsBytes}
+use Rattle.tables.proofs.Readiness.{sound-ready}
+use Rattle.writing.specs.SpanBytes.{commandsFrom, rowBytes, spanBytes, FitsBytes}
 
-policy-small : (kind count policy : ℕ) → notIdle kind count policy ≡ true → count ≤ 4096 → policy < 65536
+policy-small : (kind count policy : ℕ) → notIdle kind count policy ≡ true → count ≤ maxCommands → policy < 65536
 policy-small kind count policy e h =
     ⊎-elim (λ t. omega (arith, eqb-true policy FFFF t)) (λ t. omega (arith, ltb-true policy count t))
     (or-cases (eqb policy FFFF) (ltb policy count) (and-both (eqb kind 0 || eqb count 0) _ e .1))
@@ -38,7 +41,7 @@ module _ (z : Size) (rows : List Row) (firsts outcomes : List ℕ) (s : ℕ) whe
   T = held z rows firsts outcomes
 
   pub state-bytes : spanBytes z firsts outcomes (spanAt T s) ≡ statesBytes (stateAt T s ∷ []) []
-  unfolding statesBytes stateAt commandCount commandsFrom outcomesAt firstOutcome
+  unfolding statesBytes stateAt commandCount commandsFrom outcomesAt startOf
   state-bytes = rw (length-tabulate (outcomesAt T) (firstCommand T s) (commandCount T s), add-one s)
 
   module _ (e : sound T ≡ true) (h : s < z .n) where
@@ -56,11 +59,11 @@ module _ (z : Size) (rows : List Row) (firsts outcomes : List ℕ) (s : ℕ) whe
       bytes = rw q (sym state-bytes)
 
       pub state-ready : (place size : ℕ) → place + length (statesBytes (stateAt T s ∷ []) []) ≤ size
-          → Linked z firsts outcomes × FitsBytes (z .m) span × (place + length (spanBytes z firsts outcomes span) ≤ size)
+          → Ready (commandsOf z firsts outcomes) × FitsBytes (z .m) span × (place + length (spanBytes z firsts outcomes span) ≤ size)
       unfolding commandCount
       state-ready place size room =
           let few = fits .size .few-commands in (
-            record { rows = rows; sounds = e },
+            sound-ready z rows firsts outcomes e,
             (
               rw q (omega (arith, row .kinds)),
               rw (q, add-one s) (row .rises),
@@ -84,7 +87,7 @@ module _ (z : Size) (firsts outcomes : List ℕ) (span : Span) (f : FitsBytes (z
       → (place + 8 ≤ size) × (span .kind < 256) × (span .first ≤ span .end) × (span .end < 65536) × (span .practice < 65536)
   row-ready place size room = (omega (arith, room, length-append (rowBytes span) commandBytes), f .0, f .1, omega (arith, f .2, f .3), f .4)
 
-  pub commands-ready : {before after : List ℕ} {place next : ℕ} → Linked z firsts outcomes → place + length (spanBytes z firsts outcomes span) ≤ length before
+  pub commands-ready : {before after : List ℕ} {place next : ℕ} → Ready (commandsOf z firsts outcomes) → place + length (spanBytes z firsts outcomes span) ≤ length before
       → Wrote before place (rowBytes span) after next
-      → Linked z firsts outcomes × (span .end ≤ z .m) × (next + length commandBytes ≤ length after)
+      → Ready (commandsOf z firsts outcomes) × (span .end ≤ z .m) × (next + length commandBytes ≤ length after)
   commands-ready l room w = (l, f .2, omega (arith, room, w .past, wrote-length w, length-append (rowBytes span) commandBytes))

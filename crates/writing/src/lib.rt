@@ -1,14 +1,15 @@
 // Writing a plan file from plan tables.
 ghost use mathlib.Core.Path.{_≡_};
-ghost use Prim.Native.Nat.{_≤_};
-ghost use lib.ListN.{length};
-ghost use Rattle.model.specs.Refusal.{answer};
-ghost use Rattle.model.specs.File.{maxStates, maxCommands, maxOutcomes};
-ghost use Rattle.model.specs.Tables.{fileLength};
-ghost use Rattle.model.specs.Calls.{left, writing};
 ghost use mathlib.Core.Bool.{true};
-ghost use Rattle.tables.specs.Meaning.{held, numbers, admissionOf};
-ghost use Rattle.writing.specs.Answers.{answerOf, admitted};
+ghost use Prim.Native.Nat.{_≤_};
+ghost use Rattle.model.specs.File.{maxStates, maxCommands, maxOutcomes};
+ghost use Rattle.model.specs.Bytes.{bytesOf};
+ghost use Rattle.model.specs.Tables.{Tables, fileLength};
+ghost use Rattle.model.specs.SoundTest.{sound};
+ghost use Rattle.model.specs.Held.{treeOf};
+ghost use Rattle.model.specs.Calls.{writing, writeCall};
+ghost use Rattle.tables.specs.Meaning.{held, numbers, admitted};
+ghost use Rattle.writing.specs.Answers.{answerOf};
 use crate::fields::write_end;
 use crate::fields::write_head;
 use crate::states::write_states;
@@ -38,7 +39,7 @@ fn file_length(size: Size) -> usize
 // Refusal 10, then 9: `sounds` says whether the plan is sound, `bytes` how many bytes are lent.
 fn admit(sounds: bool, size: Size, bytes: usize) -> Admission
     requires { ⌜ (sounds ≡ true → (size .n ≤ maxStates) × (size .m ≤ maxCommands) × (size .t ≤ maxOutcomes)) ⌝ }
-    ensures { λ r. ⌜ admissionOf r ≡ admitted sounds (numbers size) bytes ⌝ }
+    ensures { λ r. ⌜ ((T : Tables) → sounds ≡ sound T → numbers size ≡ T .size → writing T bytes ≡ admitted r (bytesOf (treeOf T))) ⌝ }
 {
     if !sounds {
         return Admission::Denied(Refusal::Unsound);
@@ -58,8 +59,8 @@ pub fn write(
     outcomes: &[u16],
     bytes: &mut [u8],
 ) -> WriteAnswer
-    ensures answer { λ r. ⌜ answerOf r ≡ answer length (writing (held size (now (rows .entry)) (now (firsts .entry)) (now (outcomes .entry))) (length (now (bytes .entry)))) ⌝ }
-    ensures bytes { λ r. ⌜ now (bytes .exit) ≡ left (λ file. file) (writing (held size (now (rows .entry)) (now (firsts .entry)) (now (outcomes .entry))) (length (now (bytes .entry)))) (now (bytes .entry)) ⌝ }
+    ensures answer { λ r. ⌜ answerOf r ≡ writeCall (held size (now (rows .entry)) (now (firsts .entry)) (now (outcomes .entry))) (now (bytes .entry)) .answers ⌝ }
+    ensures bytes { λ r. ⌜ now (bytes .exit) ≡ writeCall (held size (now (rows .entry)) (now (firsts .entry)) (now (outcomes .entry))) (now (bytes .entry)) .bytes ⌝ }
 {
     let sounds = sound(size, rows, firsts, outcomes);
     let admission = admit(sounds, size, bytes.len());

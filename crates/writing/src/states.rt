@@ -9,8 +9,9 @@ ghost use Rattle.laws.specs.Wrote.{Wrote};
 ghost use Rattle.model.specs.Bytes.{commandsBytes, statesBytes};
 ghost use Rattle.model.specs.Held.{stateAt};
 ghost use Rattle.model.specs.SoundTest.{sound};
-ghost use Rattle.tables.specs.Meaning.{held};
-ghost use Rattle.writing.specs.Linked.{Linked, commandsFrom, spanBytes, FitsBytes};
+ghost use Rattle.tables.specs.Meaning.{held, commandsOf};
+ghost use Rattle.tables.specs.Ready.{Ready};
+ghost use Rattle.writing.specs.SpanBytes.{commandsFrom, spanBytes, FitsBytes};
 use crate::fields::write_command;
 use crate::fields::write_row;
 use tables::Row;
@@ -29,7 +30,7 @@ fn write_commands(
     out: &mut [u8],
     place: usize,
 ) -> usize
-    requires { ⌜ Linked size (now firsts) (now outcomes) × (end ≤ size .m) × (place + length (commandsBytes (commandsFrom size (now firsts) (now outcomes) first end) []) ≤ length (now out)) ⌝ }
+    requires { ⌜ Ready (commandsOf size (now firsts) (now outcomes)) × (end ≤ size .m) × (place + length (commandsBytes (commandsFrom size (now firsts) (now outcomes) first end) []) ≤ length (now out)) ⌝ }
     ensures { λ r. ⌜ Wrote (now (out .entry)) place (commandsBytes (commandsFrom size (now (firsts .entry)) (now (outcomes .entry)) first end) []) (now (out .exit)) r ⌝ }
 {
     let mut next = place;
@@ -52,7 +53,7 @@ fn write_state(
     out: &mut [u8],
     place: usize,
 ) -> usize
-    requires { ⌜ Linked size (now firsts) (now outcomes) × FitsBytes (size .m) span × (place + length (spanBytes size (now firsts) (now outcomes) span) ≤ length (now out)) ⌝ }
+    requires { ⌜ Ready (commandsOf size (now firsts) (now outcomes)) × FitsBytes (size .m) span × (place + length (spanBytes size (now firsts) (now outcomes) span) ≤ length (now out)) ⌝ }
     ensures { λ r. ⌜ Wrote (now (out .entry)) place (spanBytes size (now (firsts .entry)) (now (outcomes .entry)) span) (now (out .exit)) r ⌝ }
 {
     let commands = write_row(span, out, place);

@@ -23,7 +23,7 @@ mark-of-requires : tie.Need-mark-of-requires
 mark-of-requires c κs = search needs
 
 put-requires-2 : tie.Need-put-requires-2
-put-requires-2 c κs = (omega (arith, c .before .before .before .before .before .before .before .before .before .before .before .before .before .before .before .before .pre .1 .0 .inside, c .before .before .before .before .before .before .before .before .before .before .before .before .before .before .before .before .pre .1 .1), rw (c .mark-of .ensures) (mark-small _ _))
+put-requires-2 c κs = (omega (arith, c .before .before .before .before .before .before .before .before .before .before .before .before .before .before .before .before .pre .1 .0 .inside, c .before .before .before .before .before .before .before .before .before .before .before .before .before .before .before .before .pre .1 .1), rw (c .mark-of .ensures) (mark-small (c .before .before .before .before .before .before .before .before .has-number2 .result) (c .before .before .is-fault .result)))
 
 one-if-requires : tie.Need-one-if-requires
 one-if-requires c κs = search needs

@@ -2,19 +2,19 @@ mod Lts
 mod Tie
 use Rattle.tables.proofs.LongTest.{rows-long}
 use Rattle.decide.proofs.Passes.{pass-start, pass-room, pass-next, pass-done}
-use Rattle.decide.specs.Verdicts.{numbered, Judging}
+use Rattle.decide.specs.Verdicts.{numbered, StatesJudged}
 use Rattle.tables.specs.Meaning.{held}
-use Rattle.choice.proofs.Readiness.{sound-ready}
 use Rattle.model.proofs.SoundFacts.{sound-facts}
 use Rattle.model.specs.Held.{planIn}
 use Prim.Native.Nat.{_-_, _≤_}
 use native.Mathlib.Omega.{arith}
+use Rattle.tables.proofs.Readiness.{sound-ready}
 use Rattle.decide.proofs.verdicts.judge_all.Statement.{statement}
 use Rattle.decide.proofs.verdicts.judge_all.Proof.Tie as tie
 
 abbrev Inv-loop : tie.InvT-loop
 Inv-loop size rows firsts outcomes ranks commands₀ marks₀ tally₀ s₀ commands marks tally s =
-    (s ≤ size .n) × Judging (planIn (held size rows firsts outcomes)) (numbered ranks) s commands₀ marks₀ tally commands marks
+    (s ≤ size .n) × StatesJudged (planIn (held size rows firsts outcomes)) (numbered ranks) s commands₀ marks₀ tally commands marks
 
 abbrev μ-loop : tie.MeasureT-loop
 μ-loop size rows firsts outcomes ranks commands₀ marks₀ tally₀ s₀ commands marks tally s = size .n - s

@@ -1,10 +1,10 @@
 use Rattle.propagate.proofs.LayerSteps.{LayerStep, layer-start, layer-at, layer-state, layer-next, layer-done}
 use Rattle.propagate.specs.Work.{work}
-use Rattle.index.specs.Commands.{commandsOf}
 use lib.ListN.{length}
 use native.Mathlib.Omega.{arith}
 use mathlib.Core.Path.{_≡_, refl, _∙_}
 use Prim.Native.Nat.{_-_}
+use Rattle.tables.specs.Meaning.{commandsOf}
 use Rattle.propagate.proofs.internal.add_layer.Statement.{statement}
 use Rattle.propagate.proofs.internal.add_layer.Tie as tie
 

@@ -1,9 +1,9 @@
 use Rattle.propagate.proofs.Ends.{Going, going-start, going-few, going-next, going-done}
 use Rattle.propagate.proofs.Starts.{start-bound, start-at-layer}
-use Rattle.index.specs.Commands.{commandsOf}
 use native.Mathlib.Omega.{arith}
 use mathlib.Core.Path.{refl, _∙_}
 use Prim.Native.Nat.{_-_}
+use Rattle.tables.specs.Meaning.{commandsOf}
 use Rattle.propagate.proofs.internal.propagate.Statement.{statement}
 use Rattle.propagate.proofs.internal.propagate.Tie as tie
 
@@ -15,7 +15,7 @@ abbrev μ-loop : tie.MeasureT-loop
 μ-loop size tos firsts outcomes offsets users owner ranks₀ watch₀ queue₀ lo₀ hi₀ k₀ ranks watch queue lo hi k = size .n - lo
 
 enqueue-seeds-requires : tie.Need-enqueue-seeds-requires Inv-loop μ-loop
-enqueue-seeds-requires c κs = let f = c .before .before .before .before .before .before .before .before .before .before .before .pre in omega (arith, f .0 .n-small, f .1 .1 .1 .1)
+enqueue-seeds-requires c κs = let f = c .before .before .before .before .before .before .before .before .before .before .before .pre in omega (arith, f .0 .few, f .1 .1 .1 .1)
 
 loop-holds : tie.Need-loop-holds Inv-loop μ-loop
 loop-holds c =
@@ -30,12 +30,12 @@ add-layer-requires c κs =
     let v = c .before .before .before .before .loop .inv in
     let q = c .before .before .before .before .before .before .before .enqueue-seeds .kept .1 .1 .0 in
     let n = going-few _ _ _ _ _ _ _ _ _ _ _ v in
-    (f .0, (f .1 .0, (f .1 .1 .0, (omega (arith, v .order, v .layers, v .long, v .wlong, v .qlong, q, n, c .before .before .before .loop-test .taken, f .0 .n-small, f .1 .1 .1 .1), v .bound))))
+    (f .0, (f .1 .0, (f .1 .1 .0, (omega (arith, v .order, v .layers, v .long, v .wlong, v .qlong, q, n, c .before .before .before .loop-test .taken, f .0 .few, f .1 .1 .1 .1), v .bound))))
 
 add-k : tie.Need-add-k Inv-loop μ-loop
 add-k c =
     let v = c .before .before .before .before .before .before .before .before .before .before .before .loop .inv in
-    omega (arith, v .order, v .layers, going-few _ _ _ _ _ _ _ _ _ _ _ v, c .before .before .before .before .before .before .before .before .before .before .before .before .before .before .before .before .before .before .before .before .before .before .before .before .before .before .pre .0 .n-small)
+    omega (arith, v .order, v .layers, going-few _ _ _ _ _ _ _ _ _ _ _ v, c .before .before .before .before .before .before .before .before .before .before .before .before .before .before .before .before .before .before .before .before .before .before .before .before .before .before .pre .0 .few)
 
 loop-less : tie.Need-loop-less Inv-loop μ-loop
 loop-less c = omega (arith, going-few _ _ _ _ _ _ _ _ _ _ _ (c .before .before .before .before .before .before .before .before .before .before .before .loop .inv), c .before .before .before .before .before .before .before .before .before .before .loop-test .taken)

@@ -1,10 +1,10 @@
 use Rattle.propagate.proofs.Spreads.{spread-start, spread-next, spread-done, group-order, group-place, group-end, group-owner}
 use Rattle.propagate.specs.Work.{work, Moved, Among}
-use Rattle.index.specs.Commands.{commandsOf}
 use lib.ListN.{length}
 use native.Mathlib.Omega.{arith}
 use mathlib.Core.Path.{_≡_, refl, _∙_}
 use Prim.Native.Nat.{_≤_, _-_}
+use Rattle.tables.specs.Meaning.{commandsOf}
 use Rattle.propagate.proofs.internal.spread.Statement.{statement}
 use Rattle.propagate.proofs.internal.spread.Tie as tie
 
@@ -20,7 +20,7 @@ start-of-requires : tie.Need-start-of-requires Inv-loop μ-loop
 start-of-requires c κs = c .before .before .before .before .before .before .before .before .before .pre .1 .1 .0 .offsets-long
 
 add-start-of : tie.Need-add-start-of Inv-loop μ-loop
-add-start-of c = omega (arith, c .before .before .before .before .before .before .before .before .before .before .pre .0 .n-small, c .before .before .before .before .before .before .before .before .before .before .pre .1 .1 .1 .0)
+add-start-of c = omega (arith, c .before .before .before .before .before .before .before .before .before .before .pre .0 .few, c .before .before .before .before .before .before .before .before .before .before .pre .1 .1 .1 .0)
 
 start-of-requires-2 : tie.Need-start-of-requires-2 Inv-loop μ-loop
 start-of-requires-2 c κs = c .before .before .before .before .before .before .before .before .before .before .pre .1 .1 .0 .offsets-long
@@ -46,7 +46,7 @@ visit-requires c κs =
 add-p : tie.Need-add-p Inv-loop μ-loop
 add-p c =
     let f = c .before .before .before .before .before .before .before .before .before .before .before .before .before .before .before .before .before .before .before .before .before .before .before .before .pre in
-    omega (arith, f .0 .states .small, group-end _ _ _ _ (f .1 .1 .0) _ (f .1 .1 .1 .0 .0) _ _ (c .before .before .before .before .before .before .before .before .before .before .before .before .before .before .start-of .ensures) (c .before .before .before .before .before .before .before .before .before .before .before .before .before .start-of2 .ensures) _ (c .before .before .before .before .before .before .before .before .before .before .before .before .loop .inv .0) (c .before .before .before .before .before .before .before .before .before .before .before .loop-test .taken))
+    omega (arith, f .0 .states .few, group-end _ _ _ _ (f .1 .1 .0) _ (f .1 .1 .1 .0 .0) _ _ (c .before .before .before .before .before .before .before .before .before .before .before .before .before .before .start-of .ensures) (c .before .before .before .before .before .before .before .before .before .before .before .before .before .start-of2 .ensures) _ (c .before .before .before .before .before .before .before .before .before .before .before .before .loop .inv .0) (c .before .before .before .before .before .before .before .before .before .before .before .loop-test .taken))
 
 loop-less : tie.Need-loop-less Inv-loop μ-loop
 loop-less c = omega (arith, c .before .before .before .before .before .before .before .before .before .before .before .loop-test .taken)

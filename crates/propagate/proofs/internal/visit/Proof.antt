@@ -67,7 +67,7 @@ put-requires c κs =
     let f = c .before .before .before .before .before .before .before .before .before .before .before .before .before .before .before .before .before .before .before .pre in
     let l = f .1 .1 .0 .1 in
     let m = range-in _ _ (f .1 .0) (c .before .before .before .before .before .before .before .before .before .before .before .at .result) _ (omega (arith, c .before .before .before .before .before .before .before .before .before .before .before .at .ensures, l .0)) (c .before .before .before .before .at4 .ensures) in
-    (omega (arith, c .before .before .before .before .before .before .before .before .before .before .before .at .ensures, l), omega (arith, m, c .before .advance .ensures .until, f .0 .m-small))
+    (omega (arith, c .before .before .before .before .before .before .before .before .before .before .before .at .ensures, l), omega (arith, m, c .before .advance .ensures .until, f .0 .few-commands))
 
 same-length-6 : tie.Need-same-length-6
 same-length-6 c = search needs
@@ -90,14 +90,14 @@ put-requires-3 c κs =
     let f = c .before .before .before .before .before .before .before .before .before .before .before .before .before .before .before .before .before .before .before .before .before .before .before .before .before .before .before .before .pre in
     let l = f .1 .1 .0 .1 in
     let m = queue-room _ _ _ _ _ (f .1 .1 .1) (c .before .before .before .before .before .before .before .before .before .before .before .before .before .before .before .before .before .before .before .before .at .result) _ (omega (arith, c .before .before .before .before .before .before .before .before .before .before .before .before .before .before .before .before .before .before .before .before .at .ensures, l .0)) (c .before .before .before .before .before .before .before .before .before .before .before .before .before .before .before .before .before .before .at2 .ensures) (c .before .before .before .before .before .before .before .before .before .before .before .before .before .before .before .before .before .if1 .left) in
-    omega (arith, m, l, c .before .before .before .before .before .before .before .before .before .before .before .before .before .before .before .before .before .before .before .before .at .ensures, f .0 .n-small)
+    omega (arith, m, l, c .before .before .before .before .before .before .before .before .before .before .before .before .before .before .before .before .before .before .before .before .at .ensures, f .0 .few)
 
 add-result : tie.Need-add-result
 add-result c =
     let f = c .before .before .before .before .before .before .before .before .before .before .before .before .before .before .before .before .before .before .before .before .before .before .before .before .before .before .before .before .before .before .before .pre in
     let l = f .1 .1 .0 .1 in
     let m = queue-room _ _ _ _ _ (f .1 .1 .1) (c .before .before .before .before .before .before .before .before .before .before .before .before .before .before .before .before .before .before .before .before .before .before .before .at .result) _ (omega (arith, c .before .before .before .before .before .before .before .before .before .before .before .before .before .before .before .before .before .before .before .before .before .before .before .at .ensures, l .0)) (c .before .before .before .before .before .before .before .before .before .before .before .before .before .before .before .before .before .before .before .before .before .at2 .ensures) (c .before .before .before .before .before .before .before .before .before .before .before .before .before .before .before .before .before .before .before .before .if1 .left) in
-    omega (arith, m, f .0 .n-small)
+    omega (arith, m, f .0 .few)
 
 same-length-8 : tie.Need-same-length-8
 same-length-8 c = search needs

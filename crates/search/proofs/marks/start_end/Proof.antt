@@ -1,19 +1,23 @@
+use mathlib.Core.Path.{sym, _∙_}
 use borrow.Author.Needs.{needs}
 use Rattle.search.proofs.Settling.{end-failing, end-active, end-rest}
 use Rattle.search.proofs.marks.start_end.Statement.{statement}
 use Rattle.search.proofs.marks.start_end.Tie as tie
 
+is-failing-requires : tie.Need-is-failing-requires
+is-failing-requires c κs = search needs
+
 returns : tie.Need-returns
-returns c = end-failing _ (c .if1 .taken)
+returns c = end-failing _ (sym (c .before .is-failing .ensures) ∙ c .if1 .taken)
 
 has-commands-requires : tie.Need-has-commands-requires
 has-commands-requires c κs = search needs
 
 returns-2 : tie.Need-returns-2
-returns-2 c = end-active _ (c .before .before .if1 .left) _ (c .before .has-commands .ensures) (c .if2 .taken)
+returns-2 c = end-active _ (sym (c .before .before .before .is-failing .ensures) ∙ c .before .before .if1 .left) _ (c .before .has-commands .ensures) (c .if2 .taken)
 
 returns-3 : tie.Need-returns-3
-returns-3 c = end-rest _ (c .before .before .if1 .left) _ (c .before .has-commands .ensures) (c .if2 .left)
+returns-3 c = end-rest _ (sym (c .before .before .before .is-failing .ensures) ∙ c .before .before .if1 .left) _ (c .before .has-commands .ensures) (c .if2 .left)
 
 pub start-end-spec : {M : Type 1} → statement M
-start-end-spec = tie.close (tie.spec returns has-commands-requires returns-2 returns-3)
+start-end-spec = tie.close (tie.spec is-failing-requires returns has-commands-requires returns-2 returns-3)

@@ -5,8 +5,8 @@ use Rattle.laws.proofs.Turns.{Turn, turn-start, turn-room, turn-next, turn-done
 use Rattle.model.specs.Places.{outcomesAt}
 use Rattle.model.specs.Bytes.{commandsBytes}
 use Rattle.tables.specs.Meaning.{held}
-use Rattle.writing.specs.Linked.{commandsFrom}
-use Rattle.writing.proofs.CommandFacts.{firsts-long, command-ready, command-stored}
+use Rattle.writing.specs.SpanBytes.{commandsFrom}
+use Rattle.writing.proofs.CommandFacts.{command-ready, command-stored}
 use Rattle.writing.proofs.Spreads.{commands-spread}
 use Rattle.writing.proofs.states.write_commands.Statement.{statement}
 use Rattle.writing.proofs.states.write_commands.Tie as tie
@@ -23,19 +23,19 @@ unfolding commandsFrom
 loop-holds c = turn-start commands-spread (c .before .before .before .pre .2)
 
 first-outcome-requires : tie.Need-first-outcome-requires Inv-loop μ-loop
-first-outcome-requires c κs = firsts-long (c .before .before .before .before .before .pre .0)
+first-outcome-requires c κs = c .before .before .before .before .before .pre .0 .long-firsts
 
 add-first-outcome : tie.Need-add-first-outcome Inv-loop μ-loop
 add-first-outcome c = omega (arith, c .before .loop-test .taken, c .before .before .before .before .before .before .fits)
 
 first-outcome-requires-2 : tie.Need-first-outcome-requires-2 Inv-loop μ-loop
-first-outcome-requires-2 c κs = firsts-long (c .before .before .before .before .before .before .pre .0)
+first-outcome-requires-2 c κs = c .before .before .before .before .before .before .pre .0 .long-firsts
 
 write-command-requires : tie.Need-write-command-requires Inv-loop μ-loop
 write-command-requires c κs =
     let k = c .before .before .before .before .before .before .before .before .pre in
     let more = c .before .before .before .loop-test .taken in
-    command-ready (k .0) more (k .1) (c .before .before .first-outcome .ensures [] _) (c .before .first-outcome2 .ensures [] _) _ _ (turn-room commands-spread (c .before .before .before .before .loop .inv) more)
+    command-ready (k .0) more (k .1) (c .before .before .first-outcome .ensures [] []) (c .before .first-outcome2 .ensures [] []) _ _ (turn-room commands-spread (c .before .before .before .before .loop .inv) more)
 
 add-c : tie.Need-add-c Inv-loop μ-loop
 add-c c = omega (arith, c .before .before .before .before .before .before .loop-test .taken, c .before .before .before .before .before .before .before .before .before .before .before .fits)
@@ -48,7 +48,7 @@ loop-again c =
     let k = c .before .before .before .before .before .before .before .before .before .before .before .pre in
     let more = c .before .before .before .before .before .before .loop-test .taken in
     turn-next commands-spread (c .before .before .before .before .before .before .before .loop .inv) more
-    (command-stored (k .0) more (k .1) (c .before .before .before .before .before .first-outcome .ensures [] _) (c .before .before .before .before .first-outcome2 .ensures [] _) (c .before .before .write-command .ensures))
+    (command-stored (k .0) more (k .1) (c .before .before .before .before .before .first-outcome .ensures [] []) (c .before .before .before .before .first-outcome2 .ensures [] []) (c .before .before .write-command .ensures))
 
 same-length : tie.Need-same-length Inv-loop μ-loop
 same-length c = c .before .loop .inv .same

@@ -6,8 +6,8 @@ use native.Mathlib.Numerals.{add-one}
 use native.Mathlib.Omega.{arith}
 use borrow.Author.Tests.{lt-ltb, le-ltb}
 use lib.ListN.{getD}
 use Rattle.laws.proofs.Rising.{rises}
-use Rattle.index.specs.Parts.{startOf, Parts}
+use Rattle.laws.specs.Starts.{startOf, Parts}
 
 module _ (starts : List ℕ) (count end : ℕ) where
   pub start-in : (i : ℕ) → i < count → startOf starts count end i ≡ getD starts i 0

@@ -1,0 +1,25 @@
+-- The bytes of a state and its commands, by what was read of its row.
+use mathlib.Core.List.{List, [], _++_}
+use Prim.Native.Nat.{ℕ, _-_, _<_, _≤_}
+use Rattle.laws.specs.Lists.{tabulate}
+use Rattle.model.specs.Bytes.{stateBytes, commandsBytes}
+use Rattle.model.specs.Places.{outcomesAt}
+use Rattle.tables.specs.declared.Size.{Size}
+use Rattle.tables.specs.declared.internal.Span.{Span}
+use Rattle.tables.specs.Meaning.{commandsOf}
+
+-- the commands from first up to end
+unfoldable pub commandsFrom : Size → List ℕ → List ℕ → ℕ → ℕ → List (List ℕ)
+commandsFrom z firsts outcomes first end = tabulate (outcomesAt (commandsOf z firsts outcomes)) first (end - first)
+
+-- the state field of what was read of a state
+abbrev pub rowBytes : Span → List ℕ
+rowBytes q = stateBytes (q .kind) (q .end - q .first) (q .practice) []
+
+-- with the state's commands
+abbrev pub spanBytes : Size → List ℕ → List ℕ → Span → List ℕ
+spanBytes z firsts outcomes q = rowBytes q ++ commandsBytes (commandsFrom z firsts outcomes (q .first) (q .end)) []
+
+-- its commands are in order and end by m, and its numbers fit the bytes that hold them
+abbrev pub FitsBytes : ℕ → Span → Type 0
+FitsBytes m q = (q .kind < 256) × (q .first ≤ q .end) × (q .end ≤ m) × (m < 65536) × (q .practice < 65536)
