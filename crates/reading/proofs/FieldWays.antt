@@ -13,11 +13,11 @@ use Rattle.laws.proofs.Tests.{and-both}
 use Rattle.model.specs.Refusal.{Answer, Cut, Tag, Length, Beyond, Unsorted, Idle, Limit, given, refused, answer, need, _>>=_, _>>_}
 use Rattle.model.specs.File.{maxStates, maxCommands, maxOutcomes, headTag, stateTag, commandTag, allowed, notIdle, field, head, state, entries, rising, command}
 use Rattle.tables.specs.declared.Refusal.{Refusal}
+use Rattle.tables.specs.Meaning.{refusalOf}
 use Rattle.model.proofs.Fields.{field-inv, length-entries}
 use Rattle.reading.specs.declared.bytes.Mark.{Mark}
-use Rattle.reading.specs.declared.fields.Passed.{Passed}
-use Rattle.reading.specs.declared.frame.FieldAnswer.{FieldAnswer}
-use Rattle.reading.specs.Meaning.{lengthOf, moved, rest, Within, Walks, afterField, afterCommand}
+use Rattle.reading.specs.declared.frame.Passed.{Passed}
+use Rattle.reading.specs.Meaning.{moved, rest, Within, Walks, afterField, afterCommand}
 use Rattle.reading.proofs.Passing.{answer-inv, refuses}
 
 module _ (tag : ℕ) (s : List ℕ) where
@@ -42,26 +42,20 @@ module _ (tag : ℕ) (s : List ℕ) where
     unfolding field need _>>_
     field-given e l = rw (le-leb _ _ a, eq-eqb _ _ b, e, le-leb _ _ l)
 
--- the field at a mark, by what the walker answers
-module _ (file : List ℕ) (k : Mark) (tag : ℕ) {x : FieldAnswer} (e : lengthOf x ≡ field tag (rest file k)) where
-  pub field-stops : {r : Refusal} → x ≡ FieldAnswer.Refused r → Walks file (Passed.Refused r) (answer (afterField file k) (field tag (rest file k)))
+-- the field at a mark
+module _ (file : List ℕ) (k : Mark) (tag : ℕ) where
+  pub field-stops : (r : Refusal) → refused (refusalOf r) ≡ field tag (rest file k) → Walks file (Passed.Refused r) (answer (afterField file k) (field tag (rest file k)))
   unfolding answer
-  field-stops {r} told = refuses r (rw (← e, told))
+  field-stops r e = refuses r (ap (answer (afterField file k)) e)
 
-  module _ {len : ℕ} (told : x ≡ FieldAnswer.Given len) where
-    field-is : field tag (rest file k) ≡ given len
-    field-is = sym e ∙ ap lengthOf told
-
-    pub field-room : 3 + len ≤ length (rest file k)
-    field-room = field-inv tag (rest file k) len field-is .fits
-
-    pub field-walks : {next : Mark} → Within file k → next ≡ moved k (3 + len) → Walks file (Passed.To next) (answer (afterField file k) (field tag (rest file k)))
-    unfolding answer
-    field-walks w q =
-        rw (q, field-is) (record {
-          answers = ap (λ (z : List ℕ). given (k .m, k .t, z)) (sym (drop-drop (3 + len) (k .at) file));
-          stays = record { inside = omega (arith, length-drop (k .at) file, w .inside, field-room); few-commands = w .few-commands; few-outcomes = w .few-outcomes };
-        })
+  pub field-walks : {len : ℕ} {next : Mark} → given len ≡ field tag (rest file k) → Within file k → next ≡ moved k (3 + len) → Walks file (Passed.To next) (answer (afterField file k) (field tag (rest file k)))
+  unfolding answer
+  field-walks {len} e w q =
+      let room : 3 + len ≤ length (rest file k) = field-inv tag (rest file k) len (sym e) .fits in
+      rw (q, ← e) (record {
+        answers = ap (λ (z : List ℕ). given (k .m, k .t, z)) (sym (drop-drop (3 + len) (k .at) file));
+        stays = record { inside = omega (arith, length-drop (k .at) file, w .inside, room); few-commands = w .few-commands; few-outcomes = w .few-outcomes };
+      })
 
 -- a field of fixed length that was passed
 pub fixed-inv : {B : Type 0} {y : B} (tag len : ℕ) (s : List ℕ) (g : ℕ → B) → ((l : ℕ) → allowed tag l ≡ true → l ≡ len)

@@ -7,7 +7,7 @@ use Rattle.model.proofs.Answers.{given-inj, not-both}
 use Rattle.tables.specs.Meaning.{refusalOf}
 use Rattle.tables.specs.declared.Refusal.{Refusal}
 use Rattle.reading.specs.declared.bytes.Mark.{Mark}
-use Rattle.reading.specs.declared.fields.Passed.{Passed}
+use Rattle.reading.specs.declared.frame.Passed.{Passed}
 use Rattle.reading.specs.Meaning.{rest, passedOf, Within, Stays, Walks}
 
 pub answer-inv : {A B : Type 0} {b : B} (f : A → B) (x : Answer A) → answer f x ≡ given b → (a : A) × (x ≡ given a) × (f a ≡ b)

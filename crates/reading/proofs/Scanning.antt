@@ -18,7 +18,7 @@ use Rattle.model.proofs.Readings.{commands-inv, commands-count, outcomes-count,
 use Rattle.tables.specs.Meaning.{refusalOf}
 use Rattle.tables.specs.declared.Refusal.{Refusal}
 use Rattle.reading.specs.declared.bytes.Mark.{Mark}
-use Rattle.reading.specs.declared.fields.Passed.{Passed}
+use Rattle.reading.specs.declared.frame.Passed.{Passed}
 use Rattle.reading.specs.Meaning.{rest, passedOf, Walks, afterField, afterHead, afterState, afterCommand, afterCommands, afterStates, afterFile}
 use Rattle.reading.proofs.Passing.{answer-inv, refused-inv, ends}
 use Rattle.reading.proofs.FieldWays.{fixed-inv}

@@ -15,8 +15,7 @@ use Rattle.tables.specs.declared.Row.{Row}
 use Rattle.tables.specs.Meaning.{refusalOf, numbers}
 use Rattle.reading.specs.declared.ReadAnswer.{ReadAnswer}
 use Rattle.reading.specs.declared.bytes.Mark.{Mark}
-use Rattle.reading.specs.declared.fields.Passed.{Passed}
-use Rattle.reading.specs.declared.frame.FieldAnswer.{FieldAnswer}
+use Rattle.reading.specs.declared.frame.Passed.{Passed}
 
 abbrev pub answerOf : ReadAnswer → Answer Numbers
 answerOf (ReadAnswer.Given z) = given (numbers z)
@@ -29,11 +28,6 @@ enough z rows firsts outcomes = leb (z .n) rows && leb (z .m) firsts && leb (z .
 -- a file read into these tables
 abbrev pub readInto : List Row → List ℕ → List ℕ → List ℕ → Answer Tables
 readInto rows firsts outcomes file = reading (length rows) (length firsts) (length outcomes) file
-
--- a field's length
-abbrev pub lengthOf : FieldAnswer → Answer ℕ
-lengthOf (FieldAnswer.Given len) = given len
-lengthOf (FieldAnswer.Refused r) = refused (refusalOf r)
 
 abbrev pub moved : Mark → ℕ → Mark
 moved k bytes = record { at = k .at + bytes; m = k .m; t = k .t }

@@ -2,36 +2,19 @@
 ghost use Prim.Native.Nat.{_+_, _*_, _<_, _≤_};
 ghost use lib.ListN.{length, drop};
 ghost use Rattle.model.specs.Refusal.{answer};
-ghost use Rattle.model.specs.File.{maxCommands, field, head, state, entries, rising, command};
-ghost use Rattle.reading.specs.Meaning.{Within, Walks, rest, afterField, afterHead, afterState, afterCommand};
+ghost use Rattle.model.specs.File.{maxCommands, head, state, entries, rising, command};
+ghost use Rattle.reading.specs.Meaning.{Within, Walks, rest, afterHead, afterState, afterCommand};
 use crate::bytes::Mark;
-use crate::bytes::moved;
 use crate::bytes::number;
 use crate::bytes::small;
 use crate::frame::COMMAND;
-use crate::frame::FieldAnswer;
 use crate::frame::HEAD;
+use crate::frame::Passed;
 use crate::frame::STATE;
-use crate::walker::field_at;
+use crate::walker::field;
 use tables::Refusal;
 use tables::Size;
 use tables::internal::not_idle;
-
-pub enum Passed {
-    To(Mark),
-    Refused(Refusal),
-}
-
-// The field at a mark, with the tag that is due: the mark past it.
-pub fn field(file: &[u8], k: Mark, due: u8) -> Passed
-    requires { ⌜ Within (now file) k ⌝ }
-    ensures { λ r. ⌜ Walks (now (file .entry)) r (answer (afterField (now (file .entry)) k) (field due (rest (now (file .entry)) k))) ⌝ }
-{
-    match field_at(file, k.at, due) {
-        FieldAnswer::Given(len) => Passed::To(moved(k, 3 + len)),
-        FieldAnswer::Refused(r) => Passed::Refused(r),
-    }
-}
 
 pub fn read_head(file: &[u8]) -> Passed
     ensures { λ r. ⌜ Walks (now (file .entry)) r (answer (afterHead (now (file .entry))) (head (now (file .entry)))) ⌝ }

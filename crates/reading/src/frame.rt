@@ -1,11 +1,12 @@
 // The frame of a field, in document 01's order of checks: three bytes present, the tag, the length, the value present.
 ghost use mathlib.Core.Path.{_≡_};
-ghost use Prim.Native.Nat.{_≤_};
-ghost use lib.ListN.{length, drop};
+ghost use Rattle.model.specs.Refusal.{answer};
 ghost use Rattle.model.specs.File.{fixedLength, allowed, field};
-ghost use Rattle.reading.specs.Meaning.{lengthOf};
+ghost use Rattle.reading.specs.Meaning.{Within, Walks, rest, afterField};
+use crate::bytes::Mark;
 use crate::bytes::byte;
 use crate::bytes::left;
+use crate::bytes::moved;
 use crate::bytes::number;
 use tables::Refusal;
 
@@ -17,9 +18,9 @@ pub const COMMAND: u8 = 3;
 
 pub const END: u8 = 4;
 
-// The length of a field's value, or the refusal.
-pub enum FieldAnswer {
-    Given(usize),
+// The answer to every field: the mark past it, or the refusal, which ends the reading.
+pub enum Passed {
+    To(Mark),
     Refused(Refusal),
 }
 
@@ -47,24 +48,24 @@ fn allowed(tag: u8, len: usize) -> bool
     len == fixed_length(tag)
 }
 
-// The field at a place of the file, with the tag that is due.
-pub fn check_frame(file: &[u8], at: usize, due: u8) -> FieldAnswer
-    requires { ⌜ at ≤ length (now file) ⌝ }
-    ensures { λ r. ⌜ lengthOf r ≡ field due (drop at (now (file .entry))) ⌝ }
+// The field at a mark, with the tag that is due.
+pub fn check_frame(file: &[u8], k: Mark, due: u8) -> Passed
+    requires { ⌜ Within (now file) k ⌝ }
+    ensures { λ r. ⌜ Walks (now (file .entry)) r (answer (afterField (now (file .entry)) k) (field due (rest (now (file .entry)) k))) ⌝ }
 {
-    let left = left(file, at);
+    let left = left(file, k.at);
     if left < 3 {
-        return FieldAnswer::Refused(Refusal::Cut);
+        return Passed::Refused(Refusal::Cut);
     }
-    if byte(file, at, 0) != due {
-        return FieldAnswer::Refused(Refusal::Tag);
+    if byte(file, k.at, 0) != due {
+        return Passed::Refused(Refusal::Tag);
     }
-    let len = number(file, at, 1);
+    let len = number(file, k.at, 1);
     if !allowed(due, len) {
-        return FieldAnswer::Refused(Refusal::Length);
+        return Passed::Refused(Refusal::Length);
     }
     if left - 3 < len {
-        return FieldAnswer::Refused(Refusal::Cut);
+        return Passed::Refused(Refusal::Cut);
     }
-    FieldAnswer::Given(len)
+    Passed::To(moved(k, 3 + len))
 }

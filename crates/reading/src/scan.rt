@@ -9,12 +9,12 @@ use crate::ReadAnswer;
 use crate::bytes::Mark;
 use crate::bytes::left;
 use crate::bytes::number;
-use crate::fields::Passed;
-use crate::fields::field;
 use crate::fields::read_command;
 use crate::fields::read_head;
 use crate::fields::read_state;
 use crate::frame::END;
+use crate::frame::Passed;
+use crate::walker::field;
 use tables::Refusal;
 use tables::Size;
 

@@ -1,35 +1,35 @@
-// The field walker: the whole file, and how far it has come. Its steps are thin; the work on file and place is check_frame's.
+// The field walker: the whole file, and how far it has come in it. Its steps are thin; the work is check_frame's.
 ghost use mathlib.Core.Path.{_≡_};
-ghost use Prim.Native.Nat.{_≤_};
-ghost use lib.ListN.{length, drop};
+ghost use Rattle.model.specs.Refusal.{answer};
 ghost use Rattle.model.specs.File.{field};
-ghost use Rattle.reading.specs.Meaning.{lengthOf};
-use crate::frame::FieldAnswer;
+ghost use Rattle.reading.specs.Meaning.{Within, Walks, rest, afterField};
+use crate::bytes::Mark;
+use crate::frame::Passed;
 use crate::frame::check_frame;
 
 pub struct FieldWalker<'a> {
     pub file: &'a [u8],
-    pub at: usize,
+    pub mark: Mark,
 }
 
-fn walker_at<'a>(file: &'a [u8], at: usize) -> FieldWalker<'a>
-    ensures { λ r. ⌜ (r .file ≡ file .entry) × (r .at ≡ at) ⌝ }
+fn walker_at<'a>(file: &'a [u8], k: Mark) -> FieldWalker<'a>
+    ensures { λ r. ⌜ (r .file ≡ file .entry) × (r .mark ≡ k) ⌝ }
 {
-    FieldWalker { file, at }
+    FieldWalker { file, mark: k }
 }
 
-// The field that the walker has come to, with the tag that is due.
-fn next<'a>(w: FieldWalker<'a>, due: u8) -> FieldAnswer
-    requires { ⌜ w .at ≤ length (now (w .file)) ⌝ }
-    ensures { λ r. ⌜ lengthOf r ≡ field due (drop (w .entry .at) (now (w .entry .file))) ⌝ }
+// The field that the walker has come to, with the tag that is due: how far the walker comes by it.
+fn next<'a>(w: FieldWalker<'a>, due: u8) -> Passed
+    requires { ⌜ Within (now (w .file)) (w .mark) ⌝ }
+    ensures { λ r. ⌜ Walks (now (w .entry .file)) r (answer (afterField (now (w .entry .file)) (w .entry .mark)) (field due (rest (now (w .entry .file)) (w .entry .mark)))) ⌝ }
 {
-    check_frame(w.file, w.at, due)
+    check_frame(w.file, w.mark, due)
 }
 
-// A walker that has come to a place, asked for the field there: the way to every field for a caller that keeps its place in a number.
-pub fn field_at(file: &[u8], at: usize, due: u8) -> FieldAnswer
-    requires { ⌜ at ≤ length (now file) ⌝ }
-    ensures { λ r. ⌜ lengthOf r ≡ field due (drop at (now (file .entry))) ⌝ }
+// A walker that has come to a mark, asked for the field there: the way to every field.
+pub fn field(file: &[u8], k: Mark, due: u8) -> Passed
+    requires { ⌜ Within (now file) k ⌝ }
+    ensures { λ r. ⌜ Walks (now (file .entry)) r (answer (afterField (now (file .entry)) k) (field due (rest (now (file .entry)) k))) ⌝ }
 {
-    next(walker_at(file, at), due)
+    next(walker_at(file, k), due)
 }

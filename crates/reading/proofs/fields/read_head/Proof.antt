@@ -2,7 +2,7 @@ use Rattle.reading.proofs.FieldWays.{head-long, head-none, head-many, h
 use Rattle.reading.proofs.Passing.{refuses, ends, went}
 use Rattle.reading.specs.Meaning.{afterField}
 use Rattle.tables.specs.declared.Refusal.the-variants.{Beyond}
-use Rattle.model.specs.File.{head, field}
+use Rattle.model.specs.File.{head}
 use native.Mathlib.Omega.{arith}
 use borrow.Author.Needs.{needs}
 use Rattle.reading.proofs.fields.read_head.Statement.{statement}
