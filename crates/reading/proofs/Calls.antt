@@ -15,16 +15,16 @@ use Rattle.laws.proofs.Joins.{length-joined}
 use Rattle.laws.proofs.Loops.{stopped, passed}
 use Rattle.laws.proofs.Tests.{and-both}
 use Rattle.laws.proofs.Writes.{put-front}
-use Rattle.model.specs.Refusal.{Refusal as Word, Answer, Cramped, given, refused, answer, need, _>>=_, _>>_}
+use Rattle.model.specs.Refusal.{Refusal as ModelRefusal, Answer, Cramped, given, refused, answer, need, _>>=_, _>>_}
 use Rattle.model.specs.File.{State, Tree, maxCommands, maxOutcomes, read}
-use Rattle.model.specs.Tables.{Size, Row as Line, Tables, allCommands, rowsFrom, firstsFrom, tablesOf}
+use Rattle.model.specs.Tables.{Size as ModelSize, Row as ModelRow, Tables, allCommands, rowsFrom, firstsFrom, tablesOf}
 use Rattle.model.specs.Calls.{reading, left}
 use Rattle.tables.specs.declared.Row.{Row}
-use Rattle.tables.specs.declared.Size.{Size as Numbers}
+use Rattle.tables.specs.declared.Size.{Size}
 use Rattle.tables.specs.Meaning.{rowOf, rowsOf, numbers}
 use Rattle.reading.specs.Meaning.{enough}
 use Rattle.model.proofs.Readings.{CommandsRead, StatesRead, none, more, read-inv, few-commands, few-outcomes, states-count}
-use Rattle.reading.specs.Filling.{commandsIn, commandsLength, statesIn, first, StatesRoom}
+use Rattle.reading.specs.Filling.{commandsIn, commandsLength, statesIn, statesMark, StatesRoom}
 use Rattle.reading.proofs.Passing.{answer-inv, refused-inv}
 use Rattle.reading.proofs.FillStates.{length-firsts}
 
@@ -66,21 +66,21 @@ length-rows m (s ∷ ss) = ap suc (length-rows (m + length (s .commands)) ss)
 
 -- ---- the call
 
-abbrev pub sizeOf : Tree → Size
+abbrev pub sizeOf : Tree → ModelSize
 sizeOf p = tablesOf p .size
 
 -- after a refusal each table is as it was
-pub unchanged : (x : Answer Tables) {r : Word} (rows : List Row) (firsts outs : List ℕ) → x ≡ refused r
+pub unchanged : (x : Answer Tables) {r : ModelRefusal} (rows : List Row) (firsts outs : List ℕ) → x ≡ refused r
     → (refused r ≡ answer (λ T. T .size) x)
     × ((rowsOf rows ≡ left (λ T. T .rows) x (rowsOf rows)) × ((firsts ≡ left (λ T. T .firsts) x firsts) × (outs ≡ left (λ T. T .outcomes) x outs)))
 unfolding answer left
 unchanged x rows firsts outs e = rw e (refl, (refl, (refl, refl)))
 
-pub no-plan : (R F O : ℕ) (file : List ℕ) {r : Word} → answer sizeOf (read file) ≡ refused r → reading R F O file ≡ refused r
+pub no-plan : (R F O : ℕ) (file : List ℕ) {r : ModelRefusal} → answer sizeOf (read file) ≡ refused r → reading R F O file ≡ refused r
 unfolding reading _>>=_
 no-plan R F O file e = rw (refused-inv sizeOf (read file) e)
 
-module _ (file : List ℕ) (z : Size) (e : answer sizeOf (read file) ≡ given z) where
+module _ (file : List ℕ) (z : ModelSize) (e : answer sizeOf (read file) ≡ given z) where
   plan : (p : Tree) × (read file ≡ given p) × (sizeOf p ≡ z)
   plan = answer-inv sizeOf (read file) e
 
@@ -90,7 +90,7 @@ module _ (file : List ℕ) (z : Size) (e : answer sizeOf (read file) ≡ given z
     opened =
         let (p, i, j) = plan in
         ap (λ (x : Answer Tree). x >>= λ q. need Cramped (leb (sizeOf q .n) R && leb (sizeOf q .m) F && leb (sizeOf q .t) O) >> given (tablesOf q)) i
-        ∙ ap (λ (y : Size). need Cramped (leb (y .n) R && leb (y .m) F && leb (y .t) O) >> given (tablesOf p)) j
+        ∙ ap (λ (y : ModelSize). need Cramped (leb (y .n) R && leb (y .m) F && leb (y .t) O) >> given (tablesOf p)) j
 
     short : (leb (z .n) R && leb (z .m) F && leb (z .t) O) ≡ false → reading R F O file ≡ refused Cramped
     unfolding need _>>_
@@ -106,7 +106,7 @@ module _ (file : List ℕ) (z : Size) (e : answer sizeOf (read file) ≡ given z
     rows : length ss ≡ z .n
     firsts : length (allCommands ss) ≡ z .m
     outcomes : length (joined (allCommands ss)) ≡ z .t
-    room : {R F O : ℕ} → z .n ≤ R → z .m ≤ F → z .t ≤ O → StatesRoom (length file) R F O 0 first ss
+    room : {R F O : ℕ} → z .n ≤ R → z .m ≤ F → z .t ≤ O → StatesRoom (length file) R F O 0 statesMark ss
 
   stands : Stands (plan .0 .states)
   unfolding tablesOf
@@ -114,9 +114,9 @@ module _ (file : List ℕ) (z : Size) (e : answer sizeOf (read file) ≡ given z
       let (p, i, j) = plan in
       let r = read-inv file p i in
       let (a, l) = states-stand (r .stated) in
-      let n : length (p .states) ≡ z .n = ap (λ (y : Size). y .n) j in
-      let m : length (allCommands (p .states)) ≡ z .m = ap (λ (y : Size). y .m) j in
-      let t : length (joined (allCommands (p .states))) ≡ z .t = ap (λ (y : Size). y .t) j in
+      let n : length (p .states) ≡ z .n = ap (λ (y : ModelSize). y .n) j in
+      let m : length (allCommands (p .states)) ≡ z .m = ap (λ (y : ModelSize). y .m) j in
+      let t : length (joined (allCommands (p .states))) ≡ z .t = ap (λ (y : ModelSize). y .t) j in
       let counts : r .n ≡ z .n = sym (states-count (r .stated)) ∙ n in
       let few-m : 0 + length (allCommands (p .states)) ≤ maxCommands = few-commands (r .stated) (omega arith) in
       let few-t : 0 + length (joined (allCommands (p .states))) ≤ maxOutcomes = few-outcomes (r .stated) (omega arith) in
@@ -137,10 +137,10 @@ module _ (file : List ℕ) (z : Size) (e : answer sizeOf (read file) ≡ given z
         };
       }
 
-  pub room : {R F O : ℕ} → z .n ≤ R → z .m ≤ F → z .t ≤ O → StatesRoom (length file) R F O 0 first (statesIn (z .n) (drop 7 file))
+  pub room : {R F O : ℕ} → z .n ≤ R → z .m ≤ F → z .t ≤ O → StatesRoom (length file) R F O 0 statesMark (statesIn (z .n) (drop 7 file))
   room a b c = rw (stands .is) (stands .room a b c)
 
-  pub filled : (rows : List Row) (firsts outs : List ℕ) {rows′ : List Line} {firsts′ outs′ : List ℕ}
+  pub filled : (rows : List Row) (firsts outs : List ℕ) {rows′ : List ModelRow} {firsts′ outs′ : List ℕ}
       → z .n ≤ length rows → z .m ≤ length firsts → z .t ≤ length outs
       → rows′ ≡ putAll (rowsOf rows) 0 (rowsFrom 0 (statesIn (z .n) (drop 7 file)))
       → firsts′ ≡ putAll firsts 0 (firstsFrom 0 (allCommands (statesIn (z .n) (drop 7 file))))
@@ -170,7 +170,7 @@ module _ (file : List ℕ) (z : Size) (e : answer sizeOf (read file) ≡ given z
 
 -- ---- the test of the tables' lengths, where the rows were counted
 
-module _ (z : Numbers) (R : List Row) (F O : ℕ) {rows : ℕ} {t : Bool} (k : rows ≡ length R) (e : t ≡ enough z rows F O) where
+module _ (z : Size) (R : List Row) (F O : ℕ) {rows : ℕ} {t : Bool} (k : rows ≡ length R) (e : t ≡ enough z rows F O) where
   pub cramped : (file : List ℕ) → answer sizeOf (read file) ≡ given (numbers z) → not t ≡ true → reading (length R) F O file ≡ refused Cramped
   unfolding enough
   cramped file p h = short file (numbers z) p (length R) F O (rw k at (stopped e h))

@@ -17,7 +17,7 @@ use Rattle.tables.specs.Meaning.{refusalOf}
 use Rattle.model.proofs.Fields.{field-inv, length-entries}
 use Rattle.reading.specs.declared.bytes.Mark.{Mark}
 use Rattle.reading.specs.declared.frame.Passed.{Passed}
-use Rattle.reading.specs.Meaning.{moved, rest, Within, Walks, afterField, afterCommand}
+use Rattle.reading.specs.Meaning.{moved, bytesFrom, Within, Walks, afterField, afterCommand}
 use Rattle.reading.proofs.Passing.{answer-inv, refuses}
 
 module _ (tag : ℕ) (s : List ℕ) where
@@ -44,14 +44,14 @@ module _ (tag : ℕ) (s : List ℕ) where
 
 -- the field at a mark
 module _ (file : List ℕ) (k : Mark) (tag : ℕ) where
-  pub field-stops : (r : Refusal) → refused (refusalOf r) ≡ field tag (rest file k) → Walks file (Passed.Refused r) (answer (afterField file k) (field tag (rest file k)))
+  pub field-stops : (r : Refusal) → refused (refusalOf r) ≡ field tag (bytesFrom file k) → Walks file (Passed.Refused r) (answer (afterField file k) (field tag (bytesFrom file k)))
   unfolding answer
   field-stops r e = refuses r (ap (answer (afterField file k)) e)
 
-  pub field-walks : {len : ℕ} {next : Mark} → given len ≡ field tag (rest file k) → Within file k → next ≡ moved k (3 + len) → Walks file (Passed.To next) (answer (afterField file k) (field tag (rest file k)))
+  pub field-walks : {len : ℕ} {next : Mark} → given len ≡ field tag (bytesFrom file k) → Within file k → next ≡ moved k (3 + len) → Walks file (Passed.To next) (answer (afterField file k) (field tag (bytesFrom file k)))
   unfolding answer
   field-walks {len} e w q =
-      let room : 3 + len ≤ length (rest file k) = field-inv tag (rest file k) len (sym e) .fits in
+      let room : 3 + len ≤ length (bytesFrom file k) = field-inv tag (bytesFrom file k) len (sym e) .fits in
       rw (q, ← e) (record {
         answers = ap (λ (z : List ℕ). given (k .m, k .t, z)) (sym (drop-drop (3 + len) (k .at) file));
         stays = record { inside = omega (arith, length-drop (k .at) file, w .inside, room); few-commands = w .few-commands; few-outcomes = w .few-outcomes };
@@ -217,19 +217,19 @@ module _ {B : Type 0} {y : B} (s : List ℕ) (g : ℕ → B) (e : answer g (fiel
       rw (f .is, half, le-leb _ _ l) (sym (then-answer (rising n 0 (entries c (drop 3 s))) (entries c (drop 3 s)) h))
 
 pub command-walks : (file : List ℕ) (k next : Mark) (n c : ℕ) {r : Passed}
-    → answer (afterField file k) (field commandTag (rest file k)) ≡ given (next .m, next .t, rest file next)
-    → c ≡ be16 (rest file k) 1 / 2 → k .t + c ≤ maxOutcomes
-    → Walks file r (answer (λ x. (k .m + 1, k .t + c, rest file next)) (rising n 0 (entries c (drop (k .at + 3) file))))
-    → Walks file r (answer (afterCommand file k) (command n (k .t) (rest file k)))
+    → answer (afterField file k) (field commandTag (bytesFrom file k)) ≡ given (next .m, next .t, bytesFrom file next)
+    → c ≡ be16 (bytesFrom file k) 1 / 2 → k .t + c ≤ maxOutcomes
+    → Walks file r (answer (λ x. (k .m + 1, k .t + c, bytesFrom file next)) (rising n 0 (entries c (drop (k .at + 3) file))))
+    → Walks file r (answer (afterCommand file k) (command n (k .t) (bytesFrom file k)))
 command-walks file k next n c {r} e d few w =
-    let s : List ℕ = rest file k in
+    let s : List ℕ = bytesFrom file k in
     let (len, f, q) = measured s (afterField file k) e in
     let even : len ≡ be16 s 1 / 2 * 2 = f .even in
     let twice : len ≡ c * 2 = omega arith in
     let os : List ℕ = entries c (drop 3 s) in
-    let at : drop (3 + c * 2) s ≡ rest file next = rw (← twice) (ap (λ (x : ℕ × ℕ × List ℕ). x .2) q) in
-    let past : (k .m + 1, k .t + c, rest file next) ≡ afterCommand file k os
+    let at : drop (3 + c * 2) s ≡ bytesFrom file next = rw (← twice) (ap (λ (x : ℕ × ℕ × List ℕ). x .2) q) in
+    let past : (k .m + 1, k .t + c, bytesFrom file next) ≡ afterCommand file k os
     = rw (length-entries c (drop 3 s)) (ap (λ (z : List ℕ). (k .m + 1, k .t + c, z)) (sym at)) in
-    let same : answer (λ x. (k .m + 1, k .t + c, rest file next)) (rising n 0 os) ≡ answer (afterCommand file k) (command n (k .t) s)
+    let same : answer (λ x. (k .m + 1, k .t + c, bytesFrom file next)) (rising n 0 os) ≡ answer (afterCommand file k) (command n (k .t) s)
     = ap (λ (z : ℕ × ℕ × List ℕ). answer (λ x. z) (rising n 0 os)) past ∙ command-as s (afterField file k) e n (k .t) (afterCommand file k) c d few in
     subst (Walks file r) same (rw (drop-drop 3 (k .at) file) w)

@@ -14,8 +14,8 @@ use Rattle.model.specs.File.{maxOutcomes, entries}
 use Rattle.model.specs.Tables.{firstsFrom}
 use Rattle.model.proofs.Fields.{length-entries}
 use Rattle.reading.specs.declared.bytes.Mark.{Mark}
-use Rattle.reading.specs.Meaning.{rest}
-use Rattle.reading.specs.Filling.{commandsIn, commandsLength, passed, Room}
+use Rattle.reading.specs.Meaning.{bytesFrom}
+use Rattle.reading.specs.Filling.{commandsIn, commandsLength, pastCommands, Room}
 use Rattle.reading.proofs.FieldWays.{entriesFrom, entries-all, entries-more, entries-none}
 
 -- ---- outcomes
@@ -47,7 +47,7 @@ pub record Filling (bytes : ℕ) (firsts₀ outs₀ : List ℕ) (k₀ : Mark) (c
   pub same-outs : length outs ≡ length outs₀
   pub put-firsts : putAll firsts (k .m) (firstsFrom (k .t) cs) ≡ putAll firsts₀ (k₀ .m) (firstsFrom (k₀ .t) cs₀)
   pub put-outs : putAll outs (k .t) (joined cs) ≡ putAll outs₀ (k₀ .t) (joined cs₀)
-  pub to : passed k cs ≡ passed k₀ cs₀
+  pub to : pastCommands k cs ≡ pastCommands k₀ cs₀
 
 filling-start : {bytes : ℕ} {firsts outs : List ℕ} {k : Mark} {cs : List (List ℕ)} → Room bytes (length firsts) (length outs) k cs
     → Filling bytes firsts outs k cs firsts outs k cs
@@ -76,13 +76,13 @@ module _ {bytes : ℕ} {firsts₀ outs₀ : List ℕ} {k₀ : Mark} {cs₀ : Lis
       }
 
   pub filling-end : Filling bytes firsts₀ outs₀ k₀ cs₀ firsts outs k []
-      → (firsts ≡ putAll firsts₀ (k₀ .m) (firstsFrom (k₀ .t) cs₀)) × ((outs ≡ putAll outs₀ (k₀ .t) (joined cs₀)) × (k ≡ passed k₀ cs₀))
+      → (firsts ≡ putAll firsts₀ (k₀ .m) (firstsFrom (k₀ .t) cs₀)) × ((outs ≡ putAll outs₀ (k₀ .t) (joined cs₀)) × (k ≡ pastCommands k₀ cs₀))
   unfolding putAll firstsFrom joined
   filling-end f =
       let a : k .at + 0 ≡ k .at = add-zero (k .at) in
       let b : k .m + 0 ≡ k .m = add-zero (k .m) in
       let d : k .t + 0 ≡ k .t = add-zero (k .t) in
-      let same : passed k [] ≡ k = rw (a, b, d) in
+      let same : pastCommands k [] ≡ k = rw (a, b, d) in
       (f .put-firsts, (f .put-outs, sym same ∙ f .to))
 
 commands-in : (s : List ℕ) (end m : ℕ) → m < end
@@ -97,33 +97,33 @@ commands-in-count (suc k) s = ap suc (commands-in-count k (drop (3 + be16 s 1 / 
 
 -- what a turn needs: the size field, the outcomes and their places
 pub record Turn (file firsts outs : List ℕ) (k : Mark) : Type 0 where
-  pub some : 2 < length (rest file k)
+  pub some : 2 < length (bytesFrom file k)
   pub low : k .m < length firsts
-  pub few : k .t + be16 (rest file k) 1 / 2 ≤ maxOutcomes
-  pub inside : k .at + (3 + be16 (rest file k) 1 / 2 * 2) ≤ length file
-  pub within : be16 (rest file k) 1 / 2 * 2 ≤ length (drop (k .at + 3) file)
-  pub places : k .t + be16 (rest file k) 1 / 2 ≤ length outs
+  pub few : k .t + be16 (bytesFrom file k) 1 / 2 ≤ maxOutcomes
+  pub inside : k .at + (3 + be16 (bytesFrom file k) 1 / 2 * 2) ≤ length file
+  pub within : be16 (bytesFrom file k) 1 / 2 * 2 ≤ length (drop (k .at + 3) file)
+  pub places : k .t + be16 (bytesFrom file k) 1 / 2 ≤ length outs
 
 module _ {firsts₀ outs₀ : List ℕ} {k₀ : Mark} {cs₀ : List (List ℕ)} {firsts outs : List ℕ} (file : List ℕ) (k : Mark) (end : ℕ)
-    (f : Filling (length file) firsts₀ outs₀ k₀ cs₀ firsts outs k (commandsIn (end - k .m) (rest file k))) where
+    (f : Filling (length file) firsts₀ outs₀ k₀ cs₀ firsts outs k (commandsIn (end - k .m) (bytesFrom file k))) where
   pub filling-left : end ≤ k .m → Filling (length file) firsts₀ outs₀ k₀ cs₀ firsts outs k []
   unfolding commandsIn
   filling-left h = let e : end - k .m ≡ 0 = omega arith in rw e at f
 
   module _ (h : k .m < end) where
     opened : Filling (length file) firsts₀ outs₀ k₀ cs₀ firsts outs k
-        (entries (be16 (rest file k) 1 / 2) (drop 3 (rest file k)) ∷ commandsIn (end - (k .m + 1)) (drop (3 + be16 (rest file k) 1 / 2 * 2) (rest file k)))
-    opened = rw (commands-in (rest file k) end (k .m) h) at f
+        (entries (be16 (bytesFrom file k) 1 / 2) (drop 3 (bytesFrom file k)) ∷ commandsIn (end - (k .m + 1)) (drop (3 + be16 (bytesFrom file k) 1 / 2 * 2) (bytesFrom file k)))
+    opened = rw (commands-in (bytesFrom file k) end (k .m) h) at f
 
     pub filling-turn : Turn file firsts outs k
     unfolding joined
     filling-turn =
         let r = opened .room in
-        let c = be16 (rest file k) 1 / 2 in
-        let os : List ℕ = entries c (drop 3 (rest file k)) in
-        let cs : List (List ℕ) = commandsIn (end - (k .m + 1)) (drop (3 + c * 2) (rest file k)) in
+        let c = be16 (bytesFrom file k) 1 / 2 in
+        let os : List ℕ = entries c (drop 3 (bytesFrom file k)) in
+        let cs : List (List ℕ) = commandsIn (end - (k .m + 1)) (drop (3 + c * 2) (bytesFrom file k)) in
         let l : length (os ++ joined cs) ≡ c + length (joined cs)
-        = length-append os (joined cs) ∙ ap (λ (z : ℕ). z + length (joined cs)) (length-entries c (drop 3 (rest file k))) in
+        = length-append os (joined cs) ∙ ap (λ (z : ℕ). z + length (joined cs)) (length-entries c (drop 3 (bytesFrom file k))) in
         let inside : k .at + (3 + c * 2) ≤ length file = omega (arith, r .in-file) in
         record {
           some = omega (arith, length-drop (k .at) file);
@@ -134,17 +134,17 @@ module _ {firsts₀ outs₀ : List ℕ} {k₀ : Mark} {cs₀ : List (List ℕ)} 
           places = omega (arith, r .in-outcomes);
         }
 
-    pub filling-more : {c : ℕ} {firsts′ outs′ : List ℕ} → c ≡ be16 (rest file k) 1 / 2 → firsts′ ≡ set firsts (k .m) (k .t) → outs′ ≡ putAll outs (k .t) (entries c (drop (k .at + 3) file))
+    pub filling-more : {c : ℕ} {firsts′ outs′ : List ℕ} → c ≡ be16 (bytesFrom file k) 1 / 2 → firsts′ ≡ set firsts (k .m) (k .t) → outs′ ≡ putAll outs (k .t) (entries c (drop (k .at + 3) file))
         → let next : Mark = record { at = k .at + (3 + c * 2); m = k .m + 1; t = k .t + c } in
-        Filling (length file) firsts₀ outs₀ k₀ cs₀ firsts′ outs′ next (commandsIn (end - next .m) (rest file next))
+        Filling (length file) firsts₀ outs₀ k₀ cs₀ firsts′ outs′ next (commandsIn (end - next .m) (bytesFrom file next))
     filling-more {c} e p o =
-        let a : drop (3 + c * 2) (rest file k) ≡ drop (k .at + (3 + c * 2)) file = drop-drop (3 + c * 2) (k .at) file in
-        let b : drop 3 (rest file k) ≡ drop (k .at + 3) file = drop-drop 3 (k .at) file in
+        let a : drop (3 + c * 2) (bytesFrom file k) ≡ drop (k .at + (3 + c * 2)) file = drop-drop (3 + c * 2) (k .at) file in
+        let b : drop 3 (bytesFrom file k) ≡ drop (k .at + 3) file = drop-drop 3 (k .at) file in
         rw p (filling-next c (rw (← e, a, b) at opened) (length-entries c (drop (k .at + 3) file)) o)
 
 pub filling-all : (count m : ℕ) (s : List ℕ) → commandsIn (m + count - m) s ≡ commandsIn count s
 filling-all count m s = let e : m + count - m ≡ count = omega arith in rw e
 
-pub filling-begin : {firsts outs : List ℕ} (file : List ℕ) (k : Mark) (count : ℕ) → Room (length file) (length firsts) (length outs) k (commandsIn count (rest file k))
-    → let cs : List (List ℕ) = commandsIn (k .m + count - k .m) (rest file k) in Filling (length file) firsts outs k cs firsts outs k cs
-filling-begin file k count r = rw (filling-all count (k .m) (rest file k)) (filling-start r)
+pub filling-begin : {firsts outs : List ℕ} (file : List ℕ) (k : Mark) (count : ℕ) → Room (length file) (length firsts) (length outs) k (commandsIn count (bytesFrom file k))
+    → let cs : List (List ℕ) = commandsIn (k .m + count - k .m) (bytesFrom file k) in Filling (length file) firsts outs k cs firsts outs k cs
+filling-begin file k count r = rw (filling-all count (k .m) (bytesFrom file k)) (filling-start r)

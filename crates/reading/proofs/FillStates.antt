@@ -17,8 +17,8 @@ use Rattle.tables.specs.declared.Row.{Row}
 use Rattle.tables.specs.Meaning.{rowsOf, rowWith}
 use Rattle.tables.proofs.StoredRows.{row-stored}
 use Rattle.reading.specs.declared.bytes.Mark.{Mark}
-use Rattle.reading.specs.Meaning.{rest, moved}
-use Rattle.reading.specs.Filling.{commandsAt, commandsLength, statesIn, first, passed, Room, StatesRoom}
+use Rattle.reading.specs.Meaning.{bytesFrom, moved}
+use Rattle.reading.specs.Filling.{commandsAt, commandsLength, statesIn, statesMark, pastCommands, Room, StatesRoom}
 
 firsts-append : (t : ℕ) (a b : List (List ℕ)) → firstsFrom t (a ++ b) ≡ firstsFrom t a ++ firstsFrom (t + length (joined a)) b
 unfolding firstsFrom joined
@@ -42,14 +42,14 @@ pub record Filling (bytes : ℕ) (rows₀ : List Row) (firsts₀ outs₀ : List 
   pub put-firsts : putAll firsts (k .m) (firstsFrom (k .t) (allCommands ss)) ≡ putAll firsts₀ 0 (firstsFrom 0 (allCommands ss₀))
   pub put-outs : putAll outs (k .t) (joined (allCommands ss)) ≡ putAll outs₀ 0 (joined (allCommands ss₀))
 
-filling-start : {bytes : ℕ} {rows : List Row} {firsts outs : List ℕ} {ss : List State} → StatesRoom bytes (length rows) (length firsts) (length outs) 0 first ss
-    → Filling bytes rows firsts outs ss rows firsts outs 0 first ss
+filling-start : {bytes : ℕ} {rows : List Row} {firsts outs : List ℕ} {ss : List State} → StatesRoom bytes (length rows) (length firsts) (length outs) 0 statesMark ss
+    → Filling bytes rows firsts outs ss rows firsts outs 0 statesMark ss
 filling-start r = record { room = r; same-rows = refl; same-firsts = refl; same-outs = refl; put-rows = refl; put-firsts = refl; put-outs = refl }
 
 -- a state that comes first
 module _ (s : State) (ss : List State) where
   room-next : {bytes rows firsts outs i : ℕ} {k : Mark} → StatesRoom bytes rows firsts outs i k (s ∷ ss)
-      → Room bytes firsts outs (moved k 8) (s .commands) × StatesRoom bytes rows firsts outs (i + 1) (passed (moved k 8) (s .commands)) ss
+      → Room bytes firsts outs (moved k 8) (s .commands) × StatesRoom bytes rows firsts outs (i + 1) (pastCommands (moved k 8) (s .commands)) ss
   unfolding allCommands
   room-next r =
       let lm = length-append (s .commands) (allCommands ss) in
@@ -82,7 +82,7 @@ module _ {bytes : ℕ} {rows₀ : List Row} {firsts₀ outs₀ : List ℕ} {ss�
   filling-next : (s : State) (ss : List State)
       → Filling bytes rows₀ firsts₀ outs₀ ss₀ rows firsts outs i k (s ∷ ss)
       → Filling bytes rows₀ firsts₀ outs₀ ss₀ (set rows i (rowWith (s .kind) (k .m) (s .policy)))
-      (putAll firsts (k .m) (firstsFrom (k .t) (s .commands))) (putAll outs (k .t) (joined (s .commands))) (i + 1) (passed (moved k 8) (s .commands)) ss
+      (putAll firsts (k .m) (firstsFrom (k .t) (s .commands))) (putAll outs (k .t) (joined (s .commands))) (i + 1) (pastCommands (moved k 8) (s .commands)) ss
   unfolding allCommands putAll rowsFrom
   filling-next s ss f =
       let n : length (set rows i (rowWith (s .kind) (k .m) (s .policy))) ≡ length rows = length-set rows i (rowWith (s .kind) (k .m) (s .policy)) in
@@ -104,12 +104,12 @@ module _ {bytes : ℕ} {rows₀ : List Row} {firsts₀ outs₀ : List ℕ} {ss�
   unfolding putAll rowsFrom allCommands firstsFrom joined
   filling-end f = (f .put-rows, (f .put-firsts, f .put-outs))
 
-states-in : (file : List ℕ) (k : Mark) (n i : ℕ) → i < n → statesIn (n - i) (rest file k)
-    ≡ record { kind = getD (rest file k) 3 0; policy = be16 (rest file k) 6; commands = commandsAt file k }
-    ∷ statesIn (n - (i + 1)) (rest file (passed (moved k 8) (commandsAt file k)))
+states-in : (file : List ℕ) (k : Mark) (n i : ℕ) → i < n → statesIn (n - i) (bytesFrom file k)
+    ≡ record { kind = getD (bytesFrom file k) 3 0; policy = be16 (bytesFrom file k) 6; commands = commandsAt file k }
+    ∷ statesIn (n - (i + 1)) (bytesFrom file (pastCommands (moved k 8) (commandsAt file k)))
 unfolding statesIn
 states-in file k n i h =
-    let s : List ℕ = rest file k in
+    let s : List ℕ = bytesFrom file k in
     let e : n - i ≡ suc (n - (i + 1)) = omega arith in
     let a : drop 8 s ≡ drop (k .at + 8) file = drop-drop 8 (k .at) file in
     let cs : List (List ℕ) = commandsAt file k in
@@ -119,33 +119,33 @@ states-in file k n i h =
 
 -- what a turn needs: the state field, the row and the room for the commands
 pub record Turn (file : List ℕ) (rows : List Row) (firsts outs : List ℕ) (i : ℕ) (k : Mark) : Type 0 where
-  pub some : 7 < length (rest file k)
+  pub some : 7 < length (bytesFrom file k)
   pub inside : k .at + 8 ≤ length file
   pub few : k .m ≤ maxCommands
   pub row : i < length rows
   pub room : Room (length file) (length firsts) (length outs) (moved k 8) (commandsAt file k)
 
 module _ {rows₀ : List Row} {firsts₀ outs₀ : List ℕ} {ss₀ : List State} {rows : List Row} {firsts outs : List ℕ} (file : List ℕ) (n i : ℕ) (k : Mark)
-    (f : Filling (length file) rows₀ firsts₀ outs₀ ss₀ rows firsts outs i k (statesIn (n - i) (rest file k))) where
+    (f : Filling (length file) rows₀ firsts₀ outs₀ ss₀ rows firsts outs i k (statesIn (n - i) (bytesFrom file k))) where
   pub filling-left : n ≤ i → Filling (length file) rows₀ firsts₀ outs₀ ss₀ rows firsts outs i k []
   unfolding statesIn
   filling-left h = let e : n - i ≡ 0 = omega arith in rw e at f
 
   module _ (h : i < n) where
     here : State
-    here = record { kind = getD (rest file k) 3 0; policy = be16 (rest file k) 6; commands = commandsAt file k }
+    here = record { kind = getD (bytesFrom file k) 3 0; policy = be16 (bytesFrom file k) 6; commands = commandsAt file k }
 
-    left : List State
-    left = statesIn (n - (i + 1)) (rest file (passed (moved k 8) (commandsAt file k)))
+    after : List State
+    after = statesIn (n - (i + 1)) (bytesFrom file (pastCommands (moved k 8) (commandsAt file k)))
 
-    opened : Filling (length file) rows₀ firsts₀ outs₀ ss₀ rows firsts outs i k (here ∷ left)
-    unfolding here left
+    opened : Filling (length file) rows₀ firsts₀ outs₀ ss₀ rows firsts outs i k (here ∷ after)
+    unfolding here after
     opened = rw (states-in file k n i h) at f
 
     pub filling-turn : Turn file rows firsts outs i k
-    unfolding here left
+    unfolding here after
     filling-turn =
-        let (room, r) = room-next here left (opened .room) in
+        let (room, r) = room-next here after (opened .room) in
         let inside : k .at + 8 ≤ length file = omega (arith, room .in-file) in
         record {
           some = omega (arith, length-drop (k .at) file);
@@ -156,16 +156,16 @@ module _ {rows₀ : List Row} {firsts₀ outs₀ : List ℕ} {ss₀ : List State
         }
 
     pub filling-more : {row : Row} {rows′ : List Row} {firsts′ outs′ : List ℕ} {next : Mark}
-        → row ≡ rowWith (getD (rest file k) 3 0) (k .m) (be16 (rest file k) 6)
+        → row ≡ rowWith (getD (bytesFrom file k) 3 0) (k .m) (be16 (bytesFrom file k) 6)
         → rows′ ≡ set rows i (rowWith (row .kind) (row .first) (row .practice))
         → firsts′ ≡ putAll firsts (k .m) (firstsFrom (k .t) (commandsAt file k))
         → outs′ ≡ putAll outs (k .t) (joined (commandsAt file k))
-        → next ≡ passed (moved k 8) (commandsAt file k)
-        → Filling (length file) rows₀ firsts₀ outs₀ ss₀ rows′ firsts′ outs′ (i + 1) next (statesIn (n - (i + 1)) (rest file next))
-    unfolding here left
-    filling-more r er ef eo en = rw (er, r, ef, eo, en) (filling-next here left opened)
+        → next ≡ pastCommands (moved k 8) (commandsAt file k)
+        → Filling (length file) rows₀ firsts₀ outs₀ ss₀ rows′ firsts′ outs′ (i + 1) next (statesIn (n - (i + 1)) (bytesFrom file next))
+    unfolding here after
+    filling-more r er ef eo en = rw (er, r, ef, eo, en) (filling-next here after opened)
 
 pub filling-begin : {rows : List Row} {firsts outs : List ℕ} (file : List ℕ) (n : ℕ)
-    → StatesRoom (length file) (length rows) (length firsts) (length outs) 0 first (statesIn n (drop 7 file))
-    → Filling (length file) rows firsts outs (statesIn n (drop 7 file)) rows firsts outs 0 first (statesIn (n - 0) (rest file first))
+    → StatesRoom (length file) (length rows) (length firsts) (length outs) 0 statesMark (statesIn n (drop 7 file))
+    → Filling (length file) rows firsts outs (statesIn n (drop 7 file)) rows firsts outs 0 statesMark (statesIn (n - 0) (bytesFrom file statesMark))
 filling-begin file n r = let e : n - 0 ≡ n = omega arith in rw e (filling-start r)

@@ -2,20 +2,20 @@
 use mathlib.Core.Path.{_≡_, refl, sym, ap, _∙_, subst}
 use mathlib.Core.List.{List}
 use Prim.Native.Nat.{ℕ}
-use Rattle.model.specs.Refusal.{Refusal as Word, Answer, given, refused, answer, _>>=_}
+use Rattle.model.specs.Refusal.{Refusal as ModelRefusal, Answer, given, refused, answer, _>>=_}
 use Rattle.model.proofs.Answers.{given-inj, not-both}
 use Rattle.tables.specs.Meaning.{refusalOf}
 use Rattle.tables.specs.declared.Refusal.{Refusal}
 use Rattle.reading.specs.declared.bytes.Mark.{Mark}
 use Rattle.reading.specs.declared.frame.Passed.{Passed}
-use Rattle.reading.specs.Meaning.{rest, passedOf, Within, Stays, Walks}
+use Rattle.reading.specs.Meaning.{bytesFrom, passedOf, Within, Stays, Walks}
 
 pub answer-inv : {A B : Type 0} {b : B} (f : A → B) (x : Answer A) → answer f x ≡ given b → (a : A) × (x ≡ given a) × (f a ≡ b)
 unfolding answer
 answer-inv f (given a) e = (a, refl, given-inj e)
 answer-inv f (refused r) e = absurd (not-both e)
 
-pub refused-inv : {A B : Type 0} {r : Word} (f : A → B) (x : Answer A) → answer f x ≡ refused r → x ≡ refused r
+pub refused-inv : {A B : Type 0} {r : ModelRefusal} (f : A → B) (x : Answer A) → answer f x ≡ refused r → x ≡ refused r
 unfolding answer
 refused-inv f (given a) e = absurd (not-both (sym e))
 refused-inv f (refused q) e = cc
@@ -26,7 +26,7 @@ module _ {file : List ℕ} where
 
   -- what is known of a mark that was passed to
   pub went : {f : Passed} {k : Mark} {x : Answer (ℕ × ℕ × List ℕ)} → f ≡ Passed.To k → Walks file f x
-      → (x ≡ given (k .m, k .t, rest file k)) × Within file k
+      → (x ≡ given (k .m, k .t, bytesFrom file k)) × Within file k
   went told w = (sym (w .answers) ∙ ap (passedOf file) told, subst (Stays file) told (w .stays))
 
   -- a refusal ends the reading

@@ -19,7 +19,7 @@ use Rattle.tables.specs.Meaning.{refusalOf}
 use Rattle.tables.specs.declared.Refusal.{Refusal}
 use Rattle.reading.specs.declared.bytes.Mark.{Mark}
 use Rattle.reading.specs.declared.frame.Passed.{Passed}
-use Rattle.reading.specs.Meaning.{rest, passedOf, Walks, afterField, afterHead, afterState, afterCommand, afterCommands, afterStates, afterFile}
+use Rattle.reading.specs.Meaning.{bytesFrom, passedOf, Walks, headMark, afterField, afterCommand, afterCommands, afterStates, afterFile}
 use Rattle.reading.proofs.Passing.{answer-inv, refused-inv, ends}
 use Rattle.reading.proofs.FieldWays.{fixed-inv}
 
@@ -34,26 +34,26 @@ one-more (refused r) h f g same = refl
 
 module _ (file : List ℕ) (n end : ℕ) where
   abbrev pub commandsLeft : Mark → Answer (ℕ × ℕ × List ℕ)
-  commandsLeft k = answer (afterCommands (k .m)) (commands n (end - k .m) (k .t) (rest file k))
+  commandsLeft k = answer (afterCommands (k .m)) (commands n (end - k .m) (k .t) (bytesFrom file k))
 
-  pub commands-none : (k : Mark) → end ≤ k .m → given (k .m, k .t, rest file k) ≡ commandsLeft k
+  pub commands-none : (k : Mark) → end ≤ k .m → given (k .m, k .t, bytesFrom file k) ≡ commandsLeft k
   unfolding commands answer
-  commands-none k h = let e : end - k .m ≡ 0 = omega arith in rw e (ap (λ (z : ℕ). given (z, k .t, rest file k)) (sym (add-zero (k .m))))
+  commands-none k h = let e : end - k .m ≡ 0 = omega arith in rw e (ap (λ (z : ℕ). given (z, k .t, bytesFrom file k)) (sym (add-zero (k .m))))
 
   module _ (k : Mark) (h : k .m < end) where
-    pub commands-end : {f : Passed} {r : Refusal} → f ≡ Passed.Refused r → Walks file f (answer (afterCommand file k) (command n (k .t) (rest file k)))
+    pub commands-end : {f : Passed} {r : Refusal} → f ≡ Passed.Refused r → Walks file f (answer (afterCommand file k) (command n (k .t) (bytesFrom file k)))
         → Walks file f (commandsLeft k)
     unfolding commands
     commands-end told w = let e : end - k .m ≡ suc (end - (k .m + 1)) = omega arith in rw e (ends _ _ _ _ told w)
 
-    module _ (next : Mark) (e : answer (afterCommand file k) (command n (k .t) (rest file k)) ≡ given (next .m, next .t, rest file next)) where
+    module _ (next : Mark) (e : answer (afterCommand file k) (command n (k .t) (bytesFrom file k)) ≡ given (next .m, next .t, bytesFrom file next)) where
       pub commands-step : next .m ≡ k .m + 1
-      commands-step = let (os, p, q) = answer-inv (afterCommand file k) (command n (k .t) (rest file k)) e in ap (λ (x : ℕ × ℕ × List ℕ). x .0) (sym q)
+      commands-step = let (os, p, q) = answer-inv (afterCommand file k) (command n (k .t) (bytesFrom file k)) e in ap (λ (x : ℕ × ℕ × List ℕ). x .0) (sym q)
 
       pub commands-more : commandsLeft k ≡ commandsLeft next
       unfolding commands _>>=_
       commands-more =
-          let s : List ℕ = rest file k in
+          let s : List ℕ = bytesFrom file k in
           let (os, p, q) = answer-inv (afterCommand file k) (command n (k .t) s) e in
           let d : end - k .m ≡ suc (end - (k .m + 1)) = omega arith in
           let x : Answer (List (List ℕ) × ℕ × List ℕ) = commands n (end - (k .m + 1)) (k .t + length os) (drop (3 + length os * 2) s) in
@@ -63,17 +63,17 @@ module _ (file : List ℕ) (n end : ℕ) where
           rw (d, p) (on ∙ ap (λ (z : ℕ × ℕ × List ℕ). answer (afterCommands (z .0)) (commands n (end - z .0) (z .1) (z .2))) q)
 
 pub commands-all : (file : List ℕ) (n count : ℕ) (k : Mark)
-    → commandsLeft file n (k .m + count) k ≡ answer (afterCommands (k .m)) (commands n count (k .t) (rest file k))
+    → commandsLeft file n (k .m + count) k ≡ answer (afterCommands (k .m)) (commands n count (k .t) (bytesFrom file k))
 commands-all file n count k = let e : k .m + count - k .m ≡ count = omega arith in rw e
 
 -- ---- states
 
 -- a state that was passed
-module _ (file : List ℕ) (k next : Mark) (e : answer (afterState file k) (state (k .m) (rest file k)) ≡ given (next .m, next .t, rest file next)) where
-  pub state-room : (8 ≤ length (rest file k)) × (next .m + be16 (rest file k) 4 ≤ maxCommands)
+module _ (file : List ℕ) (k next : Mark) (e : answer (λ x. afterField file k 5) (state (k .m) (bytesFrom file k)) ≡ given (next .m, next .t, bytesFrom file next)) where
+  pub state-room : (8 ≤ length (bytesFrom file k)) × (next .m + be16 (bytesFrom file k) 4 ≤ maxCommands)
   state-room =
-      let ((kind, count, policy), p, q) = answer-inv (afterState file k) (state (k .m) (rest file k)) e in
-      let g = state-inv (k .m) (rest file k) kind count policy p in
+      let ((kind, count, policy), p, q) = answer-inv (λ x. afterField file k 5) (state (k .m) (bytesFrom file k)) e in
+      let g = state-inv (k .m) (bytesFrom file k) kind count policy p in
       let m : next .m ≡ k .m = ap (λ (x : ℕ × ℕ × List ℕ). x .0) (sym q) in
       (g .framed .fits, omega (arith, g .few, g .counts))
 
@@ -99,60 +99,60 @@ state-counts {c} {t₁} cs m t kind policy d e z =
 
 module _ (file : List ℕ) (n : ℕ) where
   abbrev pub statesLeft : ℕ → Mark → Answer (ℕ × ℕ × List ℕ)
-  statesLeft i k = answer (afterStates (k .m) (k .t)) (states n (n - i) (k .m) (k .t) (rest file k))
+  statesLeft i k = answer (afterStates (k .m) (k .t)) (states n (n - i) (k .m) (k .t) (bytesFrom file k))
 
-  pub states-none : (i : ℕ) (k : Mark) → n ≤ i → given (k .m, k .t, rest file k) ≡ statesLeft i k
+  pub states-none : (i : ℕ) (k : Mark) → n ≤ i → given (k .m, k .t, bytesFrom file k) ≡ statesLeft i k
   unfolding states answer allCommands joined
   states-none i k h =
       let e : n - i ≡ 0 = omega arith in
-      rw e (ap₂ (λ (y z : ℕ). given (y, z, rest file k)) (sym (add-zero (k .m))) (sym (add-zero (k .t))))
+      rw e (ap₂ (λ (y z : ℕ). given (y, z, bytesFrom file k)) (sym (add-zero (k .m))) (sym (add-zero (k .t))))
 
   module _ (i : ℕ) (k : Mark) (h : i < n) where
     more : n - i ≡ suc (n - (i + 1))
     more = omega arith
 
-    pub states-end : {f : Passed} {r : Refusal} → f ≡ Passed.Refused r → Walks file f (answer (afterState file k) (state (k .m) (rest file k)))
+    pub states-end : {f : Passed} {r : Refusal} → f ≡ Passed.Refused r → Walks file f (answer (λ x. afterField file k 5) (state (k .m) (bytesFrom file k)))
         → Walks file f (statesLeft i k)
     unfolding states
     states-end told w = rw more (ends _ _ _ _ told w)
 
-    module _ (next : Mark) (c : ℕ) (d : c ≡ be16 (rest file k) 4)
-        (e : answer (afterState file k) (state (k .m) (rest file k)) ≡ given (next .m, next .t, rest file next)) where
+    module _ (next : Mark) (c : ℕ) (d : c ≡ be16 (bytesFrom file k) 4)
+        (e : answer (λ x. afterField file k 5) (state (k .m) (bytesFrom file k)) ≡ given (next .m, next .t, bytesFrom file next)) where
       -- the state's commands come next
       opened : (kind : ℕ) × (policy : ℕ) × (statesLeft i k
-          ≡ answer (afterStates (next .m) (next .t)) (commands n c (next .t) (rest file next) >>= follow n (n - (i + 1)) (next .m + c) kind policy))
+          ≡ answer (afterStates (next .m) (next .t)) (commands n c (next .t) (bytesFrom file next) >>= follow n (n - (i + 1)) (next .m + c) kind policy))
       opened =
-          let s : List ℕ = rest file k in
-          let ((kind, count, policy), p, q) = answer-inv (afterState file k) (state (k .m) s) e in
+          let s : List ℕ = bytesFrom file k in
+          let ((kind, count, policy), p, q) = answer-inv (λ x. afterField file k 5) (state (k .m) s) e in
           let g = state-inv (k .m) s kind count policy p in
           let same : count ≡ c = sym (g .counts) ∙ sym d in
           let goes : ℕ → ℕ × ℕ × List ℕ → Answer (ℕ × ℕ × List ℕ)
           = λ x z. answer (afterStates (z .0) (z .1)) (commands n x (z .1) (z .2) >>= follow n (n - (i + 1)) (z .0 + x) kind policy) in
-          let first : statesLeft i k ≡ goes count (afterState file k (kind, count, policy))
+          let first : statesLeft i k ≡ goes count (afterField file k 5)
           = rw more (ap (answer (afterStates (k .m) (k .t))) (states-open n (n - (i + 1)) (k .m) (k .t) s p)) in
           (kind, policy, first ∙ ap₂ goes same q)
 
       pub states-stop : {f : Passed} {r : Refusal} → f ≡ Passed.Refused r
-          → Walks file f (answer (afterCommands (next .m)) (commands n c (next .t) (rest file next))) → Walks file f (statesLeft i k)
+          → Walks file f (answer (afterCommands (next .m)) (commands n c (next .t) (bytesFrom file next))) → Walks file f (statesLeft i k)
       states-stop told w = let (kind, policy, q) = opened in rw q (ends _ _ _ _ told w)
 
       pub states-more : (past : Mark)
-          → answer (afterCommands (next .m)) (commands n c (next .t) (rest file next)) ≡ given (past .m, past .t, rest file past)
+          → answer (afterCommands (next .m)) (commands n c (next .t) (bytesFrom file next)) ≡ given (past .m, past .t, bytesFrom file past)
           → statesLeft i k ≡ statesLeft (i + 1) past
       unfolding _>>=_ follow
       states-more past w =
           let (kind, policy, a) = opened in
-          let (y, p, q) = answer-inv (afterCommands (next .m)) (commands n c (next .t) (rest file next)) w in
-          let r = commands-inv n c (next .t) (rest file next) y p in
+          let (y, p, q) = answer-inv (afterCommands (next .m)) (commands n c (next .t) (bytesFrom file next)) w in
+          let r = commands-inv n c (next .t) (bytesFrom file next) y p in
           let x : Answer (List State × List ℕ) = states n (n - (i + 1)) (next .m + c) (y .1) (y .2) in
-          let at : _≡_ {A = ℕ × ℕ × List ℕ} (next .m + c, y .1, y .2) (past .m, past .t, rest file past)
+          let at : _≡_ {A = ℕ × ℕ × List ℕ} (next .m + c, y .1, y .2) (past .m, past .t, bytesFrom file past)
           = ap (λ (z : ℕ). (next .m + z, y .1, y .2)) (sym (commands-count r)) ∙ q in
           a ∙ ap (λ (z : Answer (List (List ℕ) × ℕ × List ℕ)). answer (afterStates (next .m) (next .t)) (z >>= follow n (n - (i + 1)) (next .m + c) kind policy)) p
           ∙ one-more x _ (afterStates (next .m + c) (y .1)) (afterStates (next .m) (next .t))
           (λ z _. state-counts (y .0) (next .m) (next .t) kind policy (commands-count r) (outcomes-count r) z)
           ∙ ap (λ (z : ℕ × ℕ × List ℕ). answer (afterStates (z .0) (z .1)) (states n (n - (i + 1)) (z .0) (z .1) (z .2))) at
 
-pub states-all : (file : List ℕ) (n : ℕ) (k : Mark) → statesLeft file n 0 k ≡ answer (afterStates (k .m) (k .t)) (states n n (k .m) (k .t) (rest file k))
+pub states-all : (file : List ℕ) (n : ℕ) (k : Mark) → statesLeft file n 0 k ≡ answer (afterStates (k .m) (k .t)) (states n n (k .m) (k .t) (bytesFrom file k))
 states-all file n k = let e : n - 0 ≡ n = omega arith in rw e
 
 -- ---- the whole file
@@ -168,31 +168,31 @@ read-open : (s : List ℕ) {n start : ℕ} → head s ≡ given (n, start) → r
 unfolding read _>>=_ finish
 read-open s e = rw e
 
-module _ (file : List ℕ) (first : Mark) (e : answer (afterHead file) (head file) ≡ given (first .m, first .t, rest file first)) where
+module _ (file : List ℕ) (first : Mark) (e : answer (λ x. afterField file headMark 4) (head file) ≡ given (first .m, first .t, bytesFrom file first)) where
   pub head-room : 7 ≤ length file
   head-room =
-      let ((n, start), p, q) = answer-inv (afterHead file) (head file) e in
+      let ((n, start), p, q) = answer-inv (λ x. afterField file headMark 4) (head file) e in
       head-inv file n start p .framed .fits
 
   module _ {n : ℕ} (d : n ≡ be16 file 3) where
-    begun : (start : ℕ) × (read file ≡ (states n n (first .m) (first .t) (rest file first) >>= finish start))
+    begun : (start : ℕ) × (read file ≡ (states n n (first .m) (first .t) (bytesFrom file first) >>= finish start))
     begun =
-        let ((n₀, start), p, q) = answer-inv (afterHead file) (head file) e in
+        let ((n₀, start), p, q) = answer-inv (λ x. afterField file headMark 4) (head file) e in
         let same : n₀ ≡ n = sym (head-inv file n₀ start p .counts) ∙ sym d in
         let goes : ℕ → ℕ × ℕ × List ℕ → Answer Tree = λ x z. states x x (z .0) (z .1) (z .2) >>= finish start in
         (start, read-open file p ∙ ap₂ goes same q)
 
     pub file-stops : {f : Passed} {r : Refusal} → f ≡ Passed.Refused r
-        → Walks file f (answer (afterStates (first .m) (first .t)) (states n n (first .m) (first .t) (rest file first)))
+        → Walks file f (answer (afterStates (first .m) (first .t)) (states n n (first .m) (first .t) (bytesFrom file first)))
         → Walks file f (answer afterFile (read file))
     file-stops told w = let (start, q) = begun in rw q (ends _ _ _ _ told w)
 
     module _ (last : Mark)
-        (w : answer (afterStates (first .m) (first .t)) (states n n (first .m) (first .t) (rest file first)) ≡ given (last .m, last .t, rest file last)) where
+        (w : answer (afterStates (first .m) (first .t)) (states n n (first .m) (first .t) (bytesFrom file first)) ≡ given (last .m, last .t, bytesFrom file last)) where
       record Stood : Type 0 where
         start : ℕ
         ss : List State
-        is : read file ≡ finish start (ss, rest file last)
+        is : read file ≡ finish start (ss, bytesFrom file last)
         few : length (allCommands ss) ≡ last .m
         outcomes : length (joined (allCommands ss)) ≡ last .t
 
@@ -200,48 +200,48 @@ module _ (file : List ℕ) (first : Mark) (e : answer (afterHead file) (head fil
       unfolding _>>=_
       stood =
           let (start, a) = begun in
-          let (y, i, j) = answer-inv (afterHead file) (head file) e in
-          let (x, p, q) = answer-inv (afterStates (first .m) (first .t)) (states n n (first .m) (first .t) (rest file first)) w in
+          let (y, i, j) = answer-inv (λ x. afterField file headMark 4) (head file) e in
+          let (x, p, q) = answer-inv (afterStates (first .m) (first .t)) (states n n (first .m) (first .t) (bytesFrom file first)) w in
           let m₀ : 0 ≡ first .m = ap (λ (z : ℕ × ℕ × List ℕ). z .0) j in
           let t₀ : 0 ≡ first .t = ap (λ (z : ℕ × ℕ × List ℕ). z .1) j in
           let m₁ : first .m + length (allCommands (x .0)) ≡ last .m = ap (λ (z : ℕ × ℕ × List ℕ). z .0) q in
           let t₁ : first .t + length (joined (allCommands (x .0))) ≡ last .t = ap (λ (z : ℕ × ℕ × List ℕ). z .1) q in
-          let at : x .1 ≡ rest file last = ap (λ (z : ℕ × ℕ × List ℕ). z .2) q in
-          let there : (states n n (first .m) (first .t) (rest file first) >>= finish start) ≡ finish start (x .0, rest file last)
+          let at : x .1 ≡ bytesFrom file last = ap (λ (z : ℕ × ℕ × List ℕ). z .2) q in
+          let there : (states n n (first .m) (first .t) (bytesFrom file first) >>= finish start) ≡ finish start (x .0, bytesFrom file last)
           = ap (λ (z : Answer (List State × List ℕ)). z >>= finish start) p ∙ ap (λ (z : List ℕ). finish start (x .0, z)) at in
           record { start = start; ss = x .0; is = a ∙ there; few = omega arith; outcomes = omega arith }
 
-      pub end-stops : {f : Passed} {r : Refusal} → f ≡ Passed.Refused r → Walks file f (answer (afterField file last) (field endTag (rest file last)))
+      pub end-stops : {f : Passed} {r : Refusal} → f ≡ Passed.Refused r → Walks file f (answer (afterField file last) (field endTag (bytesFrom file last)))
           → Walks file f (answer afterFile (read file))
       unfolding finish
       end-stops told v = let t = stood in rw (t .is) (ends _ _ _ _ told v)
 
-      module _ (end : Mark) (v : answer (afterField file last) (field endTag (rest file last)) ≡ given (end .m, end .t, rest file end)) where
-        ended : (field endTag (rest file last) ≡ given 0) × (3 ≤ length (rest file last)) × (_≡_ {A = ℕ × ℕ × List ℕ} (end .m, end .t, rest file end) (afterField file last 0))
-        ended = fixed-inv endTag 0 (rest file last) (afterField file last) (λ l t. eqb-true l 0 t) v
+      module _ (end : Mark) (v : answer (afterField file last) (field endTag (bytesFrom file last)) ≡ given (end .m, end .t, bytesFrom file end)) where
+        ended : (field endTag (bytesFrom file last) ≡ given 0) × (3 ≤ length (bytesFrom file last)) × (_≡_ {A = ℕ × ℕ × List ℕ} (end .m, end .t, bytesFrom file end) (afterField file last 0))
+        ended = fixed-inv endTag 0 (bytesFrom file last) (afterField file last) (λ l t. eqb-true l 0 t) v
 
-        over : length (rest file end) ≡ length (rest file last) - 3
-        over = ap (λ (z : ℕ × ℕ × List ℕ). length (z .2)) (ended .2) ∙ length-drop 3 (rest file last)
+        over : length (bytesFrom file end) ≡ length (bytesFrom file last) - 3
+        over = ap (λ (z : ℕ × ℕ × List ℕ). length (z .2)) (ended .2) ∙ length-drop 3 (bytesFrom file last)
 
-        pub file-surplus : 0 < length (rest file end) → refused Surplus ≡ answer afterFile (read file)
+        pub file-surplus : 0 < length (bytesFrom file end) → refused Surplus ≡ answer afterFile (read file)
         unfolding finish _>>=_ _>>_ need answer
         file-surplus h =
             let t = stood in
             let o = over in
-            let l : 3 < length (rest file last) = omega arith in
+            let l : 3 < length (bytesFrom file last) = omega arith in
             rw (t .is, ended .0, lt-leb _ _ l)
 
-        pub file-read : length (rest file end) ≤ 0 → given (end .m, end .t, rest file end) ≡ answer afterFile (read file)
+        pub file-read : length (bytesFrom file end) ≤ 0 → given (end .m, end .t, bytesFrom file end) ≡ answer afterFile (read file)
         unfolding finish _>>=_ _>>_ need answer tablesOf
         file-read h =
             let t = stood in
             let o = over in
-            let l : length (rest file last) ≤ 3 = omega arith in
-            let none : drop 3 (rest file last) ≡ [] = drop-of-length-le (rest file last) l in
+            let l : length (bytesFrom file last) ≤ 3 = omega arith in
+            let none : drop 3 (bytesFrom file last) ≡ [] = drop-of-length-le (bytesFrom file last) l in
             rw (t .is, ended .0, le-leb _ _ l, t .few, t .outcomes) (ap given (ended .2 ∙ ap (λ (z : List ℕ). (last .m, last .t, z)) none))
 
 -- the size record of a file that was read
-module _ (file : List ℕ) (k : Mark) (e : answer afterFile (read file) ≡ given (k .m, k .t, rest file k)) where
+module _ (file : List ℕ) (k : Mark) (e : answer afterFile (read file) ≡ given (k .m, k .t, bytesFrom file k)) where
   pub read-long : 7 ≤ length file
   read-long = let (p, i, j) = answer-inv afterFile (read file) e in read-inv file p i .headed .framed .fits
 

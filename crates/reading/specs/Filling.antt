@@ -7,7 +7,7 @@ use Rattle.laws.specs.Lists.{joined}
 use Rattle.model.specs.File.{State, maxCommands, maxOutcomes, entries}
 use Rattle.model.specs.Tables.{allCommands}
 use Rattle.reading.specs.declared.bytes.Mark.{Mark}
-use Rattle.reading.specs.Meaning.{rest, moved}
+use Rattle.reading.specs.Meaning.{bytesFrom, moved}
 
 -- the k commands at the front
 unfoldable pub commandsIn : ℕ → List ℕ → List (List ℕ)
@@ -27,14 +27,14 @@ statesIn (suc k) s =
 
 -- the commands of the state at a mark
 abbrev pub commandsAt : List ℕ → Mark → List (List ℕ)
-commandsAt file k = commandsIn (be16 (rest file k) 4) (rest file (moved k 8))
+commandsAt file k = commandsIn (be16 (bytesFrom file k) 4) (bytesFrom file (moved k 8))
 
 -- where the states begin, and the mark past commands
-abbrev pub first : Mark
-first = record { at = 7; m = 0; t = 0 }
+abbrev pub statesMark : Mark
+statesMark = record { at = 7; m = 0; t = 0 }
 
-abbrev pub passed : Mark → List (List ℕ) → Mark
-passed k cs = record { at = k .at + commandsLength cs; m = k .m + length cs; t = k .t + length (joined cs) }
+abbrev pub pastCommands : Mark → List (List ℕ) → Mark
+pastCommands k cs = record { at = k .at + commandsLength cs; m = k .m + length cs; t = k .t + length (joined cs) }
 
 -- from the mark on, a file of so many bytes and tables of so many places have room for the commands
 pub record Room (bytes firsts outcomes : ℕ) (k : Mark) (cs : List (List ℕ)) : Type 0 where

@@ -8,7 +8,7 @@ use lib.ListN.{length, drop}
 use Rattle.laws.specs.Lists.{joined}
 use Rattle.model.specs.Refusal.{Answer, given, refused}
 use Rattle.model.specs.File.{State, Tree, maxCommands, maxOutcomes}
-use Rattle.model.specs.Tables.{Size as Numbers, Tables, allCommands, tablesOf}
+use Rattle.model.specs.Tables.{Size as ModelSize, Tables, allCommands, tablesOf}
 use Rattle.model.specs.Calls.{reading}
 use Rattle.tables.specs.declared.Size.{Size}
 use Rattle.tables.specs.declared.Row.{Row}
@@ -17,7 +17,7 @@ use Rattle.reading.specs.declared.ReadAnswer.{ReadAnswer}
 use Rattle.reading.specs.declared.bytes.Mark.{Mark}
 use Rattle.reading.specs.declared.frame.Passed.{Passed}
 
-abbrev pub answerOf : ReadAnswer → Answer Numbers
+abbrev pub answerOf : ReadAnswer → Answer ModelSize
 answerOf (ReadAnswer.Given z) = given (numbers z)
 answerOf (ReadAnswer.Refused r) = refused (refusalOf r)
 
@@ -33,12 +33,12 @@ abbrev pub moved : Mark → ℕ → Mark
 moved k bytes = record { at = k .at + bytes; m = k .m; t = k .t }
 
 -- the bytes from a mark on
-abbrev pub rest : List ℕ → Mark → List ℕ
-rest file k = drop (k .at) file
+abbrev pub bytesFrom : List ℕ → Mark → List ℕ
+bytesFrom file k = drop (k .at) file
 
 -- what a mark stands for: the commands and the outcomes so far, and the bytes from it on
 abbrev pub passedOf : List ℕ → Passed → Answer (ℕ × ℕ × List ℕ)
-passedOf file (Passed.To k) = given (k .m, k .t, rest file k)
+passedOf file (Passed.To k) = given (k .m, k .t, bytesFrom file k)
 passedOf file (Passed.Refused r) = refused (refusalOf r)
 
 -- the mark is in the file, and keeps the limits
@@ -47,6 +47,7 @@ pub record Within (file : List ℕ) (k : Mark) : Type 0 where
   pub few-commands : k .m ≤ maxCommands
   pub few-outcomes : k .t ≤ maxOutcomes
 
+-- a mark that is answered is within; of a refusal this says nothing
 abbrev pub Stays : List ℕ → Passed → Type 0
 Stays file (Passed.To k) = Within file k
 Stays file (Passed.Refused r) = Unit {0}
@@ -56,18 +57,16 @@ pub record Walks (file : List ℕ) (r : Passed) (x : Answer (ℕ × ℕ × List 
   pub answers : passedOf file r ≡ x
   pub stays : Stays file r
 
--- What is past what was read, as a mark has it: past a field of some length, past the head, a state, a command, commands, states and the file.
+-- where the head begins
+abbrev pub headMark : Mark
+headMark = record { at = 0; m = 0; t = 0 }
+
+-- What is past what was read, as a mark has it: past a field with a value of some length, past a command, commands, states and the file.
 abbrev pub afterField : List ℕ → Mark → ℕ → ℕ × ℕ × List ℕ
-afterField file k len = (k .m, k .t, drop (3 + len) (rest file k))
-
-abbrev pub afterHead : List ℕ → ℕ × ℕ → ℕ × ℕ × List ℕ
-afterHead file x = (0, 0, drop 7 file)
-
-abbrev pub afterState : List ℕ → Mark → ℕ × ℕ × ℕ → ℕ × ℕ × List ℕ
-afterState file k x = (k .m, k .t, drop 8 (rest file k))
+afterField file k len = (k .m, k .t, drop (3 + len) (bytesFrom file k))
 
 abbrev pub afterCommand : List ℕ → Mark → List ℕ → ℕ × ℕ × List ℕ
-afterCommand file k os = (k .m + 1, k .t + length os, drop (3 + length os * 2) (rest file k))
+afterCommand file k os = (k .m + 1, k .t + length os, drop (3 + length os * 2) (bytesFrom file k))
 
 abbrev pub afterCommands : ℕ → List (List ℕ) × ℕ × List ℕ → ℕ × ℕ × List ℕ
 afterCommands m x = (m + length (x .0), x .1, x .2)

@@ -25,7 +25,7 @@ pub fn moved(k: Mark, bytes: usize) -> Mark
     }
 }
 
-pub fn left(file: &[u8], at: usize) -> usize
+pub fn remaining(file: &[u8], at: usize) -> usize
     requires { ⌜ at ≤ length (now file) ⌝ }
     ensures { λ r. ⌜ r ≡ length (drop at (now (file .entry))) ⌝ }
 {

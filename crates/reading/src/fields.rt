@@ -3,7 +3,7 @@ ghost use Prim.Native.Nat.{_+_, _*_, _<_, _≤_};
 ghost use lib.ListN.{length, drop};
 ghost use Rattle.model.specs.Refusal.{answer};
 ghost use Rattle.model.specs.File.{maxCommands, head, state, entries, rising, command};
-ghost use Rattle.reading.specs.Meaning.{Within, Walks, rest, afterHead, afterState, afterCommand};
+ghost use Rattle.reading.specs.Meaning.{Within, Walks, bytesFrom, headMark, afterField, afterCommand};
 use crate::bytes::Mark;
 use crate::bytes::number;
 use crate::bytes::small;
@@ -17,7 +17,7 @@ use tables::Size;
 use tables::internal::not_idle;
 
 pub fn read_head(file: &[u8]) -> Passed
-    ensures { λ r. ⌜ Walks (now (file .entry)) r (answer (afterHead (now (file .entry))) (head (now (file .entry)))) ⌝ }
+    ensures { λ r. ⌜ Walks (now (file .entry)) r (answer (λ x. afterField (now (file .entry)) headMark 4) (head (now (file .entry)))) ⌝ }
 {
     let f = field(file, Mark { at: 0, m: 0, t: 0 }, HEAD);
     let Passed::To(next) = f else {
@@ -38,7 +38,7 @@ pub fn read_head(file: &[u8]) -> Passed
 
 pub fn read_state(file: &[u8], k: Mark) -> Passed
     requires { ⌜ Within (now file) k ⌝ }
-    ensures { λ r. ⌜ Walks (now (file .entry)) r (answer (afterState (now (file .entry)) k) (state (k .m) (rest (now (file .entry)) k))) ⌝ }
+    ensures { λ r. ⌜ Walks (now (file .entry)) r (answer (λ x. afterField (now (file .entry)) k 5) (state (k .m) (bytesFrom (now (file .entry)) k))) ⌝ }
 {
     let f = field(file, k, STATE);
     let Passed::To(next) = f else {
@@ -61,7 +61,7 @@ pub fn read_state(file: &[u8], k: Mark) -> Passed
 // The outcomes from place `at` on, each in turn, and then the mark past them.
 fn check_outcomes(file: &[u8], at: usize, n: usize, count: usize, past: Mark) -> Passed
     requires { ⌜ Within (now file) past × (count * 2 ≤ length (drop at (now file))) ⌝ }
-    ensures { λ r. ⌜ Walks (now (file .entry)) r (answer (λ x. (past .m, past .t, rest (now (file .entry)) past)) (rising n 0 (entries count (drop at (now (file .entry)))))) ⌝ }
+    ensures { λ r. ⌜ Walks (now (file .entry)) r (answer (λ x. (past .m, past .t, bytesFrom (now (file .entry)) past)) (rising n 0 (entries count (drop at (now (file .entry)))))) ⌝ }
 {
     let mut low = 0;
     let mut i = 0;
@@ -81,7 +81,7 @@ fn check_outcomes(file: &[u8], at: usize, n: usize, count: usize, past: Mark) ->
 
 pub fn read_command(file: &[u8], n: usize, k: Mark) -> Passed
     requires { ⌜ Within (now file) k × (k .m < maxCommands) ⌝ }
-    ensures { λ r. ⌜ Walks (now (file .entry)) r (answer (afterCommand (now (file .entry)) k) (command n (k .t) (rest (now (file .entry)) k))) ⌝ }
+    ensures { λ r. ⌜ Walks (now (file .entry)) r (answer (afterCommand (now (file .entry)) k) (command n (k .t) (bytesFrom (now (file .entry)) k))) ⌝ }
 {
     let f = field(file, k, COMMAND);
     let Passed::To(next) = f else {

@@ -8,8 +8,8 @@ ghost use Rattle.laws.specs.Writes.{putAll};
 ghost use Rattle.model.specs.File.{entries};
 ghost use Rattle.model.specs.Tables.{allCommands, rowsFrom, firstsFrom};
 ghost use Rattle.tables.specs.Meaning.{rowWith, rowsOf};
-ghost use Rattle.reading.specs.Meaning.{rest, moved};
-ghost use Rattle.reading.specs.Filling.{commandsIn, commandsAt, statesIn, first, passed, Room, StatesRoom};
+ghost use Rattle.reading.specs.Meaning.{bytesFrom, moved};
+ghost use Rattle.reading.specs.Filling.{commandsIn, commandsAt, statesIn, statesMark, pastCommands, Room, StatesRoom};
 use crate::bytes::Mark;
 use crate::bytes::byte;
 use crate::bytes::entry;
@@ -39,10 +39,10 @@ fn fill_commands(
     firsts: &mut [u16],
     outcomes: &mut [u16],
 ) -> Mark
-    requires { ⌜ Room (length (now file)) (length (now firsts)) (length (now outcomes)) from (commandsIn count (rest (now file) from)) ⌝ }
-    ensures firsts { λ r. ⌜ now (firsts .exit) ≡ putAll (now (firsts .entry)) (from .m) (firstsFrom (from .t) (commandsIn count (rest (now (file .entry)) from))) ⌝ }
-    ensures outcomes { λ r. ⌜ now (outcomes .exit) ≡ putAll (now (outcomes .entry)) (from .t) (joined (commandsIn count (rest (now (file .entry)) from))) ⌝ }
-    ensures mark { λ r. ⌜ r ≡ passed from (commandsIn count (rest (now (file .entry)) from)) ⌝ }
+    requires { ⌜ Room (length (now file)) (length (now firsts)) (length (now outcomes)) from (commandsIn count (bytesFrom (now file) from)) ⌝ }
+    ensures firsts { λ r. ⌜ now (firsts .exit) ≡ putAll (now (firsts .entry)) (from .m) (firstsFrom (from .t) (commandsIn count (bytesFrom (now (file .entry)) from))) ⌝ }
+    ensures outcomes { λ r. ⌜ now (outcomes .exit) ≡ putAll (now (outcomes .entry)) (from .t) (joined (commandsIn count (bytesFrom (now (file .entry)) from))) ⌝ }
+    ensures mark { λ r. ⌜ r ≡ pastCommands from (commandsIn count (bytesFrom (now (file .entry)) from)) ⌝ }
 {
     let end = from.m + count;
     let mut k = from;
@@ -67,8 +67,8 @@ fn wide(x: u8) -> u16
 
 // The row of the state at a mark.
 fn row_in(file: &[u8], k: Mark) -> Row
-    requires { ⌜ (7 < length (rest (now file) k)) × (k .m < 65536) ⌝ }
-    ensures { λ r. ⌜ r ≡ rowWith (getD (rest (now (file .entry)) k) 3 0) (k .m) (be16 (rest (now (file .entry)) k) 6) ⌝ }
+    requires { ⌜ (7 < length (bytesFrom (now file) k)) × (k .m < 65536) ⌝ }
+    ensures { λ r. ⌜ r ≡ rowWith (getD (bytesFrom (now (file .entry)) k) 3 0) (k .m) (be16 (bytesFrom (now (file .entry)) k) 6) ⌝ }
 {
     Row {
         kind: wide(byte(file, k.at, 3)),
@@ -82,7 +82,7 @@ fn fill_state(file: &[u8], k: Mark, firsts: &mut [u16], outcomes: &mut [u16]) ->
     requires { ⌜ (k .at + 8 ≤ length (now file)) × Room (length (now file)) (length (now firsts)) (length (now outcomes)) (moved k 8) (commandsAt (now file) k) ⌝ }
     ensures firsts { λ r. ⌜ now (firsts .exit) ≡ putAll (now (firsts .entry)) (k .m) (firstsFrom (k .t) (commandsAt (now (file .entry)) k)) ⌝ }
     ensures outcomes { λ r. ⌜ now (outcomes .exit) ≡ putAll (now (outcomes .entry)) (k .t) (joined (commandsAt (now (file .entry)) k)) ⌝ }
-    ensures mark { λ r. ⌜ r ≡ passed (moved k 8) (commandsAt (now (file .entry)) k) ⌝ }
+    ensures mark { λ r. ⌜ r ≡ pastCommands (moved k 8) (commandsAt (now (file .entry)) k) ⌝ }
 {
     let count = number(file, k.at, 4);
     fill_commands(file, count, moved(k, 8), firsts, outcomes)
@@ -95,7 +95,7 @@ pub fn fill_states(
     firsts: &mut [u16],
     outcomes: &mut [u16],
 )
-    requires { ⌜ StatesRoom (length (now file)) (length (now rows)) (length (now firsts)) (length (now outcomes)) 0 first (statesIn n (drop 7 (now file))) ⌝ }
+    requires { ⌜ StatesRoom (length (now file)) (length (now rows)) (length (now firsts)) (length (now outcomes)) 0 statesMark (statesIn n (drop 7 (now file))) ⌝ }
     ensures rows { λ r. ⌜ rowsOf (now (rows .exit)) ≡ putAll (rowsOf (now (rows .entry))) 0 (rowsFrom 0 (statesIn n (drop 7 (now (file .entry))))) ⌝ }
     ensures firsts { λ r. ⌜ now (firsts .exit) ≡ putAll (now (firsts .entry)) 0 (firstsFrom 0 (allCommands (statesIn n (drop 7 (now (file .entry)))))) ⌝ }
     ensures outcomes { λ r. ⌜ now (outcomes .exit) ≡ putAll (now (outcomes .entry)) 0 (joined (allCommands (statesIn n (drop 7 (now (file .entry)))))) ⌝ }

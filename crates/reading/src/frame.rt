@@ -2,12 +2,12 @@
 ghost use mathlib.Core.Path.{_≡_};
 ghost use Rattle.model.specs.Refusal.{answer};
 ghost use Rattle.model.specs.File.{fixedLength, allowed, field};
-ghost use Rattle.reading.specs.Meaning.{Within, Walks, rest, afterField};
+ghost use Rattle.reading.specs.Meaning.{Within, Walks, bytesFrom, afterField};
 use crate::bytes::Mark;
 use crate::bytes::byte;
-use crate::bytes::left;
 use crate::bytes::moved;
 use crate::bytes::number;
+use crate::bytes::remaining;
 use tables::Refusal;
 
 pub const HEAD: u8 = 1;
@@ -51,9 +51,9 @@ fn allowed(tag: u8, len: usize) -> bool
 // The field at a mark, with the tag that is due.
 pub fn check_frame(file: &[u8], k: Mark, due: u8) -> Passed
     requires { ⌜ Within (now file) k ⌝ }
-    ensures { λ r. ⌜ Walks (now (file .entry)) r (answer (afterField (now (file .entry)) k) (field due (rest (now (file .entry)) k))) ⌝ }
+    ensures { λ r. ⌜ Walks (now (file .entry)) r (answer (afterField (now (file .entry)) k) (field due (bytesFrom (now (file .entry)) k))) ⌝ }
 {
-    let left = left(file, k.at);
+    let left = remaining(file, k.at);
     if left < 3 {
         return Passed::Refused(Refusal::Cut);
     }

@@ -4,11 +4,11 @@ ghost use Prim.Native.Nat.{_+_, _≤_};
 ghost use Rattle.model.specs.Refusal.{answer};
 ghost use Rattle.model.specs.File.{maxCommands, commands, states, read};
 ghost use Rattle.model.specs.Tables.{tablesOf};
-ghost use Rattle.reading.specs.Meaning.{Within, Walks, rest, afterCommands, afterStates, afterFile, answerOf};
+ghost use Rattle.reading.specs.Meaning.{Within, Walks, bytesFrom, afterCommands, afterStates, afterFile, answerOf};
 use crate::ReadAnswer;
 use crate::bytes::Mark;
-use crate::bytes::left;
 use crate::bytes::number;
+use crate::bytes::remaining;
 use crate::fields::read_command;
 use crate::fields::read_head;
 use crate::fields::read_state;
@@ -20,7 +20,7 @@ use tables::Size;
 
 fn scan_commands(file: &[u8], n: usize, count: usize, from: Mark) -> Passed
     requires { ⌜ Within (now file) from × (from .m + count ≤ maxCommands) ⌝ }
-    ensures { λ r. ⌜ Walks (now (file .entry)) r (answer (afterCommands (from .m)) (commands n count (from .t) (rest (now (file .entry)) from))) ⌝ }
+    ensures { λ r. ⌜ Walks (now (file .entry)) r (answer (afterCommands (from .m)) (commands n count (from .t) (bytesFrom (now (file .entry)) from))) ⌝ }
 {
     let end = from.m + count;
     let mut k = from;
@@ -36,7 +36,7 @@ fn scan_commands(file: &[u8], n: usize, count: usize, from: Mark) -> Passed
 
 fn scan_states(file: &[u8], n: usize, from: Mark) -> Passed
     requires { ⌜ Within (now file) from ⌝ }
-    ensures { λ r. ⌜ Walks (now (file .entry)) r (answer (afterStates (from .m) (from .t)) (states n n (from .m) (from .t) (rest (now (file .entry)) from))) ⌝ }
+    ensures { λ r. ⌜ Walks (now (file .entry)) r (answer (afterStates (from .m) (from .t)) (states n n (from .m) (from .t) (bytesFrom (now (file .entry)) from))) ⌝ }
 {
     let mut k = from;
     let mut i = 0;
@@ -71,7 +71,7 @@ fn judge(file: &[u8]) -> Passed
     let Passed::To(end) = e else {
         return e;
     };
-    if 0 < left(file, end.at) {
+    if 0 < remaining(file, end.at) {
         return Passed::Refused(Refusal::Surplus);
     }
     Passed::To(end)

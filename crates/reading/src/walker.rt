@@ -2,7 +2,7 @@
 ghost use mathlib.Core.Path.{_≡_};
 ghost use Rattle.model.specs.Refusal.{answer};
 ghost use Rattle.model.specs.File.{field};
-ghost use Rattle.reading.specs.Meaning.{Within, Walks, rest, afterField};
+ghost use Rattle.reading.specs.Meaning.{Within, Walks, bytesFrom, afterField};
 use crate::bytes::Mark;
 use crate::frame::Passed;
 use crate::frame::check_frame;
@@ -21,7 +21,7 @@ fn walker_at<'a>(file: &'a [u8], k: Mark) -> FieldWalker<'a>
 // The field that the walker has come to, with the tag that is due: how far the walker comes by it.
 fn next<'a>(w: FieldWalker<'a>, due: u8) -> Passed
     requires { ⌜ Within (now (w .file)) (w .mark) ⌝ }
-    ensures { λ r. ⌜ Walks (now (w .entry .file)) r (answer (afterField (now (w .entry .file)) (w .entry .mark)) (field due (rest (now (w .entry .file)) (w .entry .mark)))) ⌝ }
+    ensures { λ r. ⌜ Walks (now (w .entry .file)) r (answer (afterField (now (w .entry .file)) (w .entry .mark)) (field due (bytesFrom (now (w .entry .file)) (w .entry .mark)))) ⌝ }
 {
     check_frame(w.file, w.mark, due)
 }
@@ -29,7 +29,7 @@ fn next<'a>(w: FieldWalker<'a>, due: u8) -> Passed
 // A walker that has come to a mark, asked for the field there: the way to every field.
 pub fn field(file: &[u8], k: Mark, due: u8) -> Passed
     requires { ⌜ Within (now file) k ⌝ }
-    ensures { λ r. ⌜ Walks (now (file .entry)) r (answer (afterField (now (file .entry)) k) (field due (rest (now (file .entry)) k))) ⌝ }
+    ensures { λ r. ⌜ Walks (now (file .entry)) r (answer (afterField (now (file .entry)) k) (field due (bytesFrom (now (file .entry)) k))) ⌝ }
 {
     next(walker_at(file, k), due)
 }

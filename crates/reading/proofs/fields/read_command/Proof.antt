@@ -1,7 +1,7 @@
 use Prim.Native.Nat.{ℕ, _+_, _/_}
 use Rattle.reading.proofs.FieldWays.{command-long, command-limit, command-walks}
 use Rattle.reading.proofs.Passing.{refuses, ends, went}
-use Rattle.reading.specs.Meaning.{rest, afterField}
+use Rattle.reading.specs.Meaning.{bytesFrom, afterField}
 use Rattle.tables.specs.declared.Refusal.the-variants.{Limit}
 use Rattle.model.specs.File.{command}
 use lib.ListN.{length-drop}
@@ -28,7 +28,7 @@ number-requires : tie.Need-number-requires
 number-requires c κs =
     let a = c .before .before .before .before .before .args in
     let w = went (c .before .f .given .1) (c .before .before .before .field .ensures) in
-    omega (arith, command-long (rest (a .file .now) (a .k)) (afterField (a .file .now) (a .k)) (w .0))
+    omega (arith, command-long (bytesFrom (a .file .now) (a .k)) (afterField (a .file .now) (a .k)) (w .0))
 
 sub-if1 : tie.Need-sub-if1
 sub-if1 c = search needs
@@ -37,7 +37,7 @@ returns-2 : tie.Need-returns-2
 returns-2 c =
     let a = c .before .before .before .before .before .before .before .before .args in
     let w = went (c .before .before .before .before .f .given .1) (c .before .before .before .before .before .before .field .ensures) in
-    refuses Limit (command-limit (rest (a .file .now) (a .k)) (afterField (a .file .now) (a .k)) (w .0) _ _ _ (omega (arith, c .before .before .number .ensures, c .before .before .before .before .before .before .before .before .pre)))
+    refuses Limit (command-limit (bytesFrom (a .file .now) (a .k)) (afterField (a .file .now) (a .k)) (w .0) _ _ _ (omega (arith, c .before .before .number .ensures, c .before .before .before .before .before .before .before .before .pre)))
 
 add-check-outcomes : tie.Need-add-check-outcomes
 add-check-outcomes c = search needs
@@ -52,7 +52,7 @@ check-outcomes-requires : tie.Need-check-outcomes-requires
 check-outcomes-requires c κs =
     let a = c .before .before .before .before .before .before .before .before .before .before .before .args in
     let w = went (c .before .before .before .before .before .before .before .f .given .1) (c .before .before .before .before .before .before .before .before .before .field .ensures) in
-    omega (arith, w .1, c .before .before .before .before .before .before .before .before .before .before .before .pre, c .before .before .before .before .before .number .ensures, command-long (rest (a .file .now) (a .k)) (afterField (a .file .now) (a .k)) (w .0), length-drop (a .k .at) (a .file .now), length-drop (a .k .at + 3) (a .file .now))
+    omega (arith, w .1, c .before .before .before .before .before .before .before .before .before .before .before .pre, c .before .before .before .before .before .number .ensures, command-long (bytesFrom (a .file .now) (a .k)) (afterField (a .file .now) (a .k)) (w .0), length-drop (a .k .at) (a .file .now), length-drop (a .k .at + 3) (a .file .now))
 
 returns-3 : tie.Need-returns-3
 returns-3 c =

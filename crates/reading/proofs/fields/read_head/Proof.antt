@@ -1,6 +1,6 @@
 use Rattle.reading.proofs.FieldWays.{head-long, head-none, head-many, head-start, head-passes}
 use Rattle.reading.proofs.Passing.{refuses, ends, went}
-use Rattle.reading.specs.Meaning.{afterField}
+use Rattle.reading.specs.Meaning.{headMark, afterField}
 use Rattle.tables.specs.declared.Refusal.the-variants.{Beyond}
 use Rattle.model.specs.File.{head}
 use native.Mathlib.Omega.{arith}
@@ -25,37 +25,37 @@ number-requires : tie.Need-number-requires
 number-requires c κs =
     let a = c .before .before .before .before .before .args in
     let w = went (c .before .f .given .1) (c .before .before .before .field .ensures) in
-    omega (arith, head-long (a .file .now) (afterField (a .file .now) (record { at = 0; m = 0; t = 0 })) (w .0))
+    omega (arith, head-long (a .file .now) (afterField (a .file .now) headMark) (w .0))
 
 returns-2 : tie.Need-returns-2
 returns-2 c =
     let a = c .before .before .before .before .before .before .before .args in
     let w = went (c .before .before .before .f .given .1) (c .before .before .before .before .before .field .ensures) in
-    refuses Beyond (head-none (a .file .now) (afterField (a .file .now) (record { at = 0; m = 0; t = 0 })) (w .0) _ (omega (arith, c .before .number .ensures)))
+    refuses Beyond (head-none (a .file .now) (afterField (a .file .now) headMark) (w .0) _ (omega (arith, c .before .number .ensures)))
 
 returns-3 : tie.Need-returns-3
 returns-3 c =
     let a = c .before .before .before .before .before .before .before .before .args in
     let w = went (c .before .before .before .before .f .given .1) (c .before .before .before .before .before .before .field .ensures) in
-    refuses Beyond (head-many (a .file .now) (afterField (a .file .now) (record { at = 0; m = 0; t = 0 })) (w .0) _ (omega (arith, c .before .before .number .ensures, c .before .if1 .left)) (omega (arith, c .before .before .number .ensures)))
+    refuses Beyond (head-many (a .file .now) (afterField (a .file .now) headMark) (w .0) _ (omega (arith, c .before .before .number .ensures, c .before .if1 .left)) (omega (arith, c .before .before .number .ensures)))
 
 number-requires-2 : tie.Need-number-requires-2
 number-requires-2 c κs =
     let a = c .before .before .before .before .before .before .before .before .args in
     let w = went (c .before .before .before .before .f .given .1) (c .before .before .before .before .before .before .field .ensures) in
-    omega (arith, head-long (a .file .now) (afterField (a .file .now) (record { at = 0; m = 0; t = 0 })) (w .0))
+    omega (arith, head-long (a .file .now) (afterField (a .file .now) headMark) (w .0))
 
 returns-4 : tie.Need-returns-4
 returns-4 c =
     let a = c .before .before .before .before .before .before .before .before .before .before .args in
     let w = went (c .before .before .before .before .before .before .f .given .1) (c .before .before .before .before .before .before .before .before .field .ensures) in
-    refuses Beyond (head-start (a .file .now) (afterField (a .file .now) (record { at = 0; m = 0; t = 0 })) (w .0) _ (omega (arith, c .before .before .before .before .number .ensures, c .before .before .before .if1 .left)) (omega (arith, c .before .before .before .before .number .ensures, c .before .before .if2 .left)) (omega (arith, c .before .before .before .before .number .ensures, c .before .number2 .ensures)))
+    refuses Beyond (head-start (a .file .now) (afterField (a .file .now) headMark) (w .0) _ (omega (arith, c .before .before .before .before .number .ensures, c .before .before .before .if1 .left)) (omega (arith, c .before .before .before .before .number .ensures, c .before .before .if2 .left)) (omega (arith, c .before .before .before .before .number .ensures, c .before .number2 .ensures)))
 
 returns-5 : tie.Need-returns-5
 returns-5 c =
     let a = c .before .before .before .before .before .before .before .before .before .before .args in
     let w = went (c .before .before .before .before .before .before .f .given .1) (c .before .before .before .before .before .before .before .before .field .ensures) in
-    record { answers = head-passes (a .file .now) (afterField (a .file .now) (record { at = 0; m = 0; t = 0 })) (w .0) (omega (arith, c .before .before .before .before .number .ensures, c .before .before .before .if1 .left)) (omega (arith, c .before .before .before .before .number .ensures, c .before .before .if2 .left)) (omega (arith, c .before .before .before .before .number .ensures, c .before .number2 .ensures)); stays = w .1 }
+    record { answers = head-passes (a .file .now) (afterField (a .file .now) headMark) (w .0) (omega (arith, c .before .before .before .before .number .ensures, c .before .before .before .if1 .left)) (omega (arith, c .before .before .before .before .number .ensures, c .before .before .if2 .left)) (omega (arith, c .before .before .before .before .number .ensures, c .before .number2 .ensures)); stays = w .1 }
 
 pub read-head-spec : {M : Type 1} → statement M
 read-head-spec =

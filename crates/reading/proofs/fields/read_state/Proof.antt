@@ -1,6 +1,6 @@
 use Rattle.reading.proofs.FieldWays.{state-long, state-kind, state-idle, state-limit, state-passes}
 use Rattle.reading.proofs.Passing.{refuses, ends, went}
-use Rattle.reading.specs.Meaning.{rest, afterField}
+use Rattle.reading.specs.Meaning.{bytesFrom, afterField}
 use Rattle.tables.specs.declared.Refusal.the-variants.{Beyond, Idle, Limit}
 use Rattle.model.specs.File.{state}
 use borrow.Author.Tests.{not-true, not-false}
@@ -27,25 +27,25 @@ small-requires : tie.Need-small-requires
 small-requires c κs =
     let a = c .before .before .before .before .before .args in
     let w = went (c .before .f .given .1) (c .before .before .before .field .ensures) in
-    omega (arith, state-long (a .k .m) (rest (a .file .now) (a .k)) (afterField (a .file .now) (a .k)) (w .0))
+    omega (arith, state-long (a .k .m) (bytesFrom (a .file .now) (a .k)) (afterField (a .file .now) (a .k)) (w .0))
 
 number-requires : tie.Need-number-requires
 number-requires c κs =
     let a = c .before .before .before .before .before .before .args in
     let w = went (c .before .before .f .given .1) (c .before .before .before .before .field .ensures) in
-    omega (arith, state-long (a .k .m) (rest (a .file .now) (a .k)) (afterField (a .file .now) (a .k)) (w .0))
+    omega (arith, state-long (a .k .m) (bytesFrom (a .file .now) (a .k)) (afterField (a .file .now) (a .k)) (w .0))
 
 returns-2 : tie.Need-returns-2
 returns-2 c =
     let a = c .before .before .before .before .before .before .before .before .args in
     let w = went (c .before .before .before .before .f .given .1) (c .before .before .before .before .before .before .field .ensures) in
-    refuses Beyond (state-kind (a .k .m) (rest (a .file .now) (a .k)) (afterField (a .file .now) (a .k)) (w .0) _ (omega (arith, c .before .before .small .ensures)))
+    refuses Beyond (state-kind (a .k .m) (bytesFrom (a .file .now) (a .k)) (afterField (a .file .now) (a .k)) (w .0) _ (omega (arith, c .before .before .small .ensures)))
 
 number-requires-2 : tie.Need-number-requires-2
 number-requires-2 c κs =
     let a = c .before .before .before .before .before .before .before .before .args in
     let w = went (c .before .before .before .before .f .given .1) (c .before .before .before .before .before .before .field .ensures) in
-    omega (arith, state-long (a .k .m) (rest (a .file .now) (a .k)) (afterField (a .file .now) (a .k)) (w .0))
+    omega (arith, state-long (a .k .m) (bytesFrom (a .file .now) (a .k)) (afterField (a .file .now) (a .k)) (w .0))
 
 not-idle-requires : tie.Need-not-idle-requires
 not-idle-requires c κs = search needs
@@ -54,7 +54,7 @@ returns-3 : tie.Need-returns-3
 returns-3 c =
     let a = c .before .before .before .before .before .before .before .before .before .before .before .args in
     let w = went (c .before .before .before .before .before .before .before .f .given .1) (c .before .before .before .before .before .before .before .before .before .field .ensures) in
-    refuses Idle (state-idle (a .k .m) (rest (a .file .now) (a .k)) (afterField (a .file .now) (a .k)) (w .0) _ (omega (arith, c .before .before .before .before .before .small .ensures, c .before .before .before .if1 .left)) (sym (rw (c .before .before .before .before .before .small .ensures, c .before .before .before .before .number .ensures, c .before .before .number2 .ensures) at (c .before .not-idle .ensures)) ∙ not-true _ (c .if2 .taken)))
+    refuses Idle (state-idle (a .k .m) (bytesFrom (a .file .now) (a .k)) (afterField (a .file .now) (a .k)) (w .0) _ (omega (arith, c .before .before .before .before .before .small .ensures, c .before .before .before .if1 .left)) (sym (rw (c .before .before .before .before .before .small .ensures, c .before .before .before .before .number .ensures, c .before .before .number2 .ensures) at (c .before .not-idle .ensures)) ∙ not-true _ (c .if2 .taken)))
 
 sub-if3 : tie.Need-sub-if3
 sub-if3 c = search needs
@@ -63,13 +63,13 @@ returns-4 : tie.Need-returns-4
 returns-4 c =
     let a = c .before .before .before .before .before .before .before .before .before .before .before .before .before .args in
     let w = went (c .before .before .before .before .before .before .before .before .before .f .given .1) (c .before .before .before .before .before .before .before .before .before .before .before .field .ensures) in
-    refuses Limit (state-limit (a .k .m) (rest (a .file .now) (a .k)) (afterField (a .file .now) (a .k)) (w .0) _ (omega (arith, c .before .before .before .before .before .before .before .small .ensures, c .before .before .before .before .before .if1 .left)) (sym (rw (c .before .before .before .before .before .before .before .small .ensures, c .before .before .before .before .before .before .number .ensures, c .before .before .before .before .number2 .ensures) at (c .before .before .before .not-idle .ensures)) ∙ not-false _ (c .before .before .if2 .left)) (omega (arith, c .before .before .before .before .before .before .number .ensures, c .before .before .before .before .before .before .before .before .before .before .before .before .before .pre)))
+    refuses Limit (state-limit (a .k .m) (bytesFrom (a .file .now) (a .k)) (afterField (a .file .now) (a .k)) (w .0) _ (omega (arith, c .before .before .before .before .before .before .before .small .ensures, c .before .before .before .before .before .if1 .left)) (sym (rw (c .before .before .before .before .before .before .before .small .ensures, c .before .before .before .before .before .before .number .ensures, c .before .before .before .before .number2 .ensures) at (c .before .before .before .not-idle .ensures)) ∙ not-false _ (c .before .before .if2 .left)) (omega (arith, c .before .before .before .before .before .before .number .ensures, c .before .before .before .before .before .before .before .before .before .before .before .before .before .pre)))
 
 returns-5 : tie.Need-returns-5
 returns-5 c =
     let a = c .before .before .before .before .before .before .before .before .before .before .before .before .before .args in
     let w = went (c .before .before .before .before .before .before .before .before .before .f .given .1) (c .before .before .before .before .before .before .before .before .before .before .before .field .ensures) in
-    record { answers = state-passes (a .k .m) (rest (a .file .now) (a .k)) (afterField (a .file .now) (a .k)) (w .0) (omega (arith, c .before .before .before .before .before .before .before .small .ensures, c .before .before .before .before .before .if1 .left)) (sym (rw (c .before .before .before .before .before .before .before .small .ensures, c .before .before .before .before .before .before .number .ensures, c .before .before .before .before .number2 .ensures) at (c .before .before .before .not-idle .ensures)) ∙ not-false _ (c .before .before .if2 .left)) (omega (arith, c .before .before .before .before .before .before .number .ensures, c .before .before .before .before .before .before .before .before .before .before .before .before .before .pre)); stays = w .1 }
+    record { answers = state-passes (a .k .m) (bytesFrom (a .file .now) (a .k)) (afterField (a .file .now) (a .k)) (w .0) (omega (arith, c .before .before .before .before .before .before .before .small .ensures, c .before .before .before .before .before .if1 .left)) (sym (rw (c .before .before .before .before .before .before .before .small .ensures, c .before .before .before .before .before .before .number .ensures, c .before .before .before .before .number2 .ensures) at (c .before .before .before .not-idle .ensures)) ∙ not-false _ (c .before .before .if2 .left)) (omega (arith, c .before .before .before .before .before .before .number .ensures, c .before .before .before .before .before .before .before .before .before .before .before .before .before .pre)); stays = w .1 }
 
 pub read-state-spec : {M : Type 1} → statement M
 read-state-spec =

@@ -1,6 +1,6 @@
 use Rattle.reading.proofs.FillCommands.{Filling, filling-begin, filling-turn, filling-more, filling-left, filling-end, filling-all, commands-in-count}
 use Rattle.reading.specs.Filling.{commandsIn}
-use Rattle.reading.specs.Meaning.{rest}
+use Rattle.reading.specs.Meaning.{bytesFrom}
 use lib.ListN.{length}
 use native.Mathlib.Omega.{arith}
 use mathlib.Core.Path.{ap}
@@ -9,7 +9,7 @@ use Rattle.reading.proofs.fill.fill_commands.Statement.{statement}
 use Rattle.reading.proofs.fill.fill_commands.Tie as tie
 
 abbrev Inv-loop : tie.InvT-loop
-Inv-loop file count firsts₀ outcomes₀ end k₀ firsts outcomes k = (k .m ≤ end) × Filling (length file) firsts₀ outcomes₀ k₀ (commandsIn (end - k₀ .m) (rest file k₀)) firsts outcomes k (commandsIn (end - k .m) (rest file k))
+Inv-loop file count firsts₀ outcomes₀ end k₀ firsts outcomes k = (k .m ≤ end) × Filling (length file) firsts₀ outcomes₀ k₀ (commandsIn (end - k₀ .m) (bytesFrom file k₀)) firsts outcomes k (commandsIn (end - k .m) (bytesFrom file k))
 
 abbrev μ-loop : tie.MeasureT-loop
 μ-loop file count firsts₀ outcomes₀ end k₀ firsts outcomes k = end - k .m
@@ -17,7 +17,7 @@ abbrev μ-loop : tie.MeasureT-loop
 add-end : tie.Need-add-end Inv-loop μ-loop
 add-end c =
     let a = c .before .before .before .before .args in
-    omega (arith, c .before .before .before .before .pre .in-firsts, c .before .before .before .before .good, commands-in-count (a .count) (rest (a .file .now) (a .from)))
+    omega (arith, c .before .before .before .before .pre .in-firsts, c .before .before .before .before .good, commands-in-count (a .count) (bytesFrom (a .file .now) (a .from)))
 
 loop-holds : tie.Need-loop-holds Inv-loop μ-loop
 loop-holds c =
@@ -91,7 +91,7 @@ same-length-2 c = c .before .before .loop .inv .1 .same-outs
 returns : tie.Need-returns Inv-loop μ-loop
 returns c =
     let a = c .before .before .before .before .before .before .before .args in
-    rw (← filling-all (a .count) (a .from .m) (rest (a .file .now) (a .from))) (filling-end (filling-left (a .file .now) (c .before .before .loop .k) _ (c .before .before .loop .inv .1) (c .if1 .left)))
+    rw (← filling-all (a .count) (a .from .m) (bytesFrom (a .file .now) (a .from))) (filling-end (filling-left (a .file .now) (c .before .before .loop .k) _ (c .before .before .loop .inv .1) (c .if1 .left)))
 
 pub fill-commands-spec : {M : Type 1} → statement M
 fill-commands-spec =

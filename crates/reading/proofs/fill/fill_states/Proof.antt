@@ -1,7 +1,7 @@
 mod Lts
 mod Tie
 use Rattle.reading.proofs.FillStates.{Filling, Turn, filling-begin, filling-turn, filling-more, filling-left, filling-end}
-use Rattle.reading.specs.Meaning.{rest}
+use Rattle.reading.specs.Meaning.{bytesFrom}
 use Rattle.reading.specs.Filling.{statesIn}
 use Prim.Native.Nat.{_-_, _≤_}
 use native.Mathlib.Omega.{arith}
@@ -11,7 +11,7 @@ use Rattle.reading.proofs.fill.fill_states.Proof.Tie as tie
 
 abbrev Inv-loop : tie.InvT-loop
 Inv-loop file n rows₀ firsts₀ outcomes₀ k₀ i₀ rows firsts outcomes k i =
-    (i ≤ n) × Filling (length file) rows₀ firsts₀ outcomes₀ (statesIn n (drop 7 file)) rows firsts outcomes i k (statesIn (n - i) (rest file k))
+    (i ≤ n) × Filling (length file) rows₀ firsts₀ outcomes₀ (statesIn n (drop 7 file)) rows firsts outcomes i k (statesIn (n - i) (bytesFrom file k))
 
 abbrev μ-loop : tie.MeasureT-loop
 μ-loop file n rows₀ firsts₀ outcomes₀ k₀ i₀ rows firsts outcomes k i = n - i

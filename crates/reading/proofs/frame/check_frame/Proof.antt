@@ -1,5 +1,5 @@
 use Rattle.reading.proofs.FieldWays.{field-cut, field-tag, field-length, field-short, field-given, field-stops, field-walks}
-use Rattle.reading.specs.Meaning.{rest}
+use Rattle.reading.specs.Meaning.{bytesFrom}
 use Rattle.tables.specs.declared.Refusal.the-variants.{Cut, Tag, Length}
 use Rattle.model.specs.File.{allowed}
 use borrow.Author.Tests.{not-true, not-false}
@@ -10,13 +10,13 @@ use borrow.Author.Needs.{needs}
 use Rattle.reading.proofs.frame.check_frame.Statement.{statement}
 use Rattle.reading.proofs.frame.check_frame.Tie as tie
 
-left-requires : tie.Need-left-requires
-left-requires c κs = search needs
+remaining-requires : tie.Need-remaining-requires
+remaining-requires c κs = search needs
 
 returns : tie.Need-returns
 returns c =
     let a = c .before .before .before .args in
-    field-stops (a .file .now) (a .k) (a .due) Cut (field-cut (a .due) (rest (a .file .now) (a .k)) (omega (arith, c .before .left .ensures)))
+    field-stops (a .file .now) (a .k) (a .due) Cut (field-cut (a .due) (bytesFrom (a .file .now) (a .k)) (omega (arith, c .before .remaining .ensures)))
 
 byte-requires : tie.Need-byte-requires
 byte-requires c κs = search needs
@@ -24,7 +24,7 @@ byte-requires c κs = search needs
 returns-2 : tie.Need-returns-2
 returns-2 c =
     let a = c .before .before .before .before .before .args in
-    field-stops (a .file .now) (a .k) (a .due) Tag (field-tag (a .due) (rest (a .file .now) (a .k)) (omega (arith, c .before .before .before .left .ensures)) (λ q. c .if2 .taken (c .before .byte .ensures ∙ q)))
+    field-stops (a .file .now) (a .k) (a .due) Tag (field-tag (a .due) (bytesFrom (a .file .now) (a .k)) (omega (arith, c .before .before .before .remaining .ensures)) (λ q. c .if2 .taken (c .before .byte .ensures ∙ q)))
 
 number-requires : tie.Need-number-requires
 number-requires c κs = search needs
@@ -35,31 +35,31 @@ allowed-requires c κs = search needs
 returns-3 : tie.Need-returns-3
 returns-3 c =
     let a = c .before .before .before .before .before .before .before .before .args in
-    field-stops (a .file .now) (a .k) (a .due) Length (field-length (a .due) (rest (a .file .now) (a .k)) (omega (arith, c .before .before .before .before .before .before .left .ensures)) (sym (c .before .before .before .before .byte .ensures) ∙ c .before .before .before .if2 .left) (sym (c .before .allowed .ensures ∙ ap (allowed (a .due)) (c .before .before .number .ensures)) ∙ not-true _ (c .if3 .taken)))
+    field-stops (a .file .now) (a .k) (a .due) Length (field-length (a .due) (bytesFrom (a .file .now) (a .k)) (omega (arith, c .before .before .before .before .before .before .remaining .ensures)) (sym (c .before .before .before .before .byte .ensures) ∙ c .before .before .before .if2 .left) (sym (c .before .allowed .ensures ∙ ap (allowed (a .due)) (c .before .before .number .ensures)) ∙ not-true _ (c .if3 .taken)))
 
 returns-4 : tie.Need-returns-4
 returns-4 c =
     let a = c .before .before .before .before .before .before .before .before .before .args in
-    field-stops (a .file .now) (a .k) (a .due) Cut (field-short (a .due) (rest (a .file .now) (a .k)) (omega (arith, c .before .before .before .before .before .before .before .left .ensures)) (sym (c .before .before .before .before .before .byte .ensures) ∙ c .before .before .before .before .if2 .left) (sym (c .before .before .allowed .ensures ∙ ap (allowed (a .due)) (c .before .before .before .number .ensures)) ∙ not-false _ (c .before .if3 .left)) (omega (arith, c .before .before .before .before .before .before .before .left .ensures, c .before .before .before .number .ensures)))
+    field-stops (a .file .now) (a .k) (a .due) Cut (field-short (a .due) (bytesFrom (a .file .now) (a .k)) (omega (arith, c .before .before .before .before .before .before .before .remaining .ensures)) (sym (c .before .before .before .before .before .byte .ensures) ∙ c .before .before .before .before .if2 .left) (sym (c .before .before .allowed .ensures ∙ ap (allowed (a .due)) (c .before .before .before .number .ensures)) ∙ not-false _ (c .before .if3 .left)) (omega (arith, c .before .before .before .before .before .before .before .remaining .ensures, c .before .before .before .number .ensures)))
 
 add-moved : tie.Need-add-moved
-add-moved c = let s = c .before .before .before .before .before .before .before .before .before in omega (arith, c .before .before .before .before .before .before .before .left .ensures, length-drop (s .args .k .at) (s .args .file .now), s .good)
+add-moved c = let s = c .before .before .before .before .before .before .before .before .before in omega (arith, c .before .before .before .before .before .before .before .remaining .ensures, length-drop (s .args .k .at) (s .args .file .now), s .good)
 
 moved-requires : tie.Need-moved-requires
-moved-requires c κs = let s = c .before .before .before .before .before .before .before .before .before in omega (arith, c .before .before .before .before .before .before .before .left .ensures, length-drop (s .args .k .at) (s .args .file .now), s .pre, s .good)
+moved-requires c κs = let s = c .before .before .before .before .before .before .before .before .before in omega (arith, c .before .before .before .before .before .before .before .remaining .ensures, length-drop (s .args .k .at) (s .args .file .now), s .pre, s .good)
 
 returns-5 : tie.Need-returns-5
 returns-5 c =
     let s = c .before .before .before .before .before .before .before .before .before .before in
     let a = s .args in
-    let given-len = field-given (a .due) (rest (a .file .now) (a .k)) (omega (arith, c .before .before .before .before .before .before .before .before .left .ensures)) (sym (c .before .before .before .before .before .before .byte .ensures) ∙ c .before .before .before .before .before .if2 .left) (sym (c .before .before .before .allowed .ensures ∙ ap (allowed (a .due)) (c .before .before .before .before .number .ensures)) ∙ not-false _ (c .before .before .if3 .left)) (omega (arith, c .before .before .before .before .before .before .before .before .left .ensures, c .before .before .before .before .number .ensures)) in
+    let given-len = field-given (a .due) (bytesFrom (a .file .now) (a .k)) (omega (arith, c .before .before .before .before .before .before .before .before .remaining .ensures)) (sym (c .before .before .before .before .before .before .byte .ensures) ∙ c .before .before .before .before .before .if2 .left) (sym (c .before .before .before .allowed .ensures ∙ ap (allowed (a .due)) (c .before .before .before .before .number .ensures)) ∙ not-false _ (c .before .before .if3 .left)) (omega (arith, c .before .before .before .before .before .before .before .before .remaining .ensures, c .before .before .before .before .number .ensures)) in
     field-walks (a .file .now) (a .k) (a .due) (rw (← c .before .before .before .before .number .ensures) at given-len) (s .pre) (c .moved .ensures)
 
 pub check-frame-spec : {M : Type 1} → statement M
 check-frame-spec =
     tie.close
     (tie.spec
-    left-requires
+    remaining-requires
     returns
     byte-requires
     returns-2

@@ -58,8 +58,8 @@ returns-3 c =
     let y = went (c .before .before .before .before .s .given .1) (c .before .before .before .before .before .before .scan-states .ensures) in
     end-stops (c .before .before .before .before .before .before .before .before .before .before .before .before .before .args .file .now) (c .before .before .before .before .before .before .before .before .before .h .given .0 .0) (x .0) (c .before .before .before .before .before .before .before .number .ensures) (c .before .before .before .before .s .given .0 .0) (y .0) (c .enum-told3 .given .1) (c .before .before .field .ensures)
 
-left-requires : tie.Need-left-requires
-left-requires c κs =
+remaining-requires : tie.Need-remaining-requires
+remaining-requires c κs =
     let z = went (c .before .e .given .1) (c .before .before .before .field .ensures) in
     z .1 .inside
 
@@ -68,14 +68,14 @@ returns-4 c =
     let x = went (c .before .before .before .before .before .before .before .before .before .before .before .before .h .given .1) (c .before .before .before .before .before .before .before .before .before .before .before .before .before .before .read-head .ensures) in
     let y = went (c .before .before .before .before .before .before .before .s .given .1) (c .before .before .before .before .before .before .before .before .before .scan-states .ensures) in
     let z = went (c .before .before .before .e .given .1) (c .before .before .before .before .before .field .ensures) in
-    refuses Surplus (file-surplus (c .before .before .before .before .before .before .before .before .before .before .before .before .before .before .before .before .args .file .now) (c .before .before .before .before .before .before .before .before .before .before .before .before .h .given .0 .0) (x .0) (c .before .before .before .before .before .before .before .before .before .before .number .ensures) (c .before .before .before .before .before .before .before .s .given .0 .0) (y .0) (c .before .before .before .e .given .0 .0) (z .0) (omega (arith, c .before .left .ensures)))
+    refuses Surplus (file-surplus (c .before .before .before .before .before .before .before .before .before .before .before .before .before .before .before .before .args .file .now) (c .before .before .before .before .before .before .before .before .before .before .before .before .h .given .0 .0) (x .0) (c .before .before .before .before .before .before .before .before .before .before .number .ensures) (c .before .before .before .before .before .before .before .s .given .0 .0) (y .0) (c .before .before .before .e .given .0 .0) (z .0) (omega (arith, c .before .remaining .ensures)))
 
 returns-5 : tie.Need-returns-5
 returns-5 c =
     let x = went (c .before .before .before .before .before .before .before .before .before .before .before .before .h .given .1) (c .before .before .before .before .before .before .before .before .before .before .before .before .before .before .read-head .ensures) in
     let y = went (c .before .before .before .before .before .before .before .s .given .1) (c .before .before .before .before .before .before .before .before .before .scan-states .ensures) in
     let z = went (c .before .before .before .e .given .1) (c .before .before .before .before .before .field .ensures) in
-    record { answers = file-read (c .before .before .before .before .before .before .before .before .before .before .before .before .before .before .before .before .args .file .now) (c .before .before .before .before .before .before .before .before .before .before .before .before .h .given .0 .0) (x .0) (c .before .before .before .before .before .before .before .before .before .before .number .ensures) (c .before .before .before .before .before .before .before .s .given .0 .0) (y .0) (c .before .before .before .e .given .0 .0) (z .0) (omega (arith, c .before .left .ensures)); stays = z .1 }
+    record { answers = file-read (c .before .before .before .before .before .before .before .before .before .before .before .before .before .before .before .before .args .file .now) (c .before .before .before .before .before .before .before .before .before .before .before .before .h .given .0 .0) (x .0) (c .before .before .before .before .before .before .before .before .before .before .number .ensures) (c .before .before .before .before .before .before .before .s .given .0 .0) (y .0) (c .before .before .before .e .given .0 .0) (z .0) (omega (arith, c .before .remaining .ensures)); stays = z .1 }
 
 pub judge-spec : {M : Type 1} → statement M
 judge-spec =
@@ -94,6 +94,6 @@ judge-spec =
     enum-known-e
     enum-told-3
     returns-3
-    left-requires
+    remaining-requires
     returns-4
     returns-5)

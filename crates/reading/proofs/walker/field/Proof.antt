@@ -39,7 +39,7 @@ use denote.Exit.{yes}
 use denote.Triple.Clauses.{ensured, lasts}
 use Rattle.model.specs.Refusal.{answer}
 use Rattle.model.specs.File.{field}
-use Rattle.reading.specs.Meaning.{Within, Walks as Passes, rest as bytesFrom, afterField}
+use Rattle.reading.specs.Meaning.{Within, Walks as Passes, bytesFrom, afterField}
 use Rattle.reading.specs.declared.bytes.Mark.{Mark}
 use Rattle.reading.specs.declared.walker.FieldWalker.{FieldWalker}
 use Rattle.reading.specs.declared.frame.Passed.{Passed}
@@ -58,7 +58,7 @@ use Rattle.reading.proofs.walker.next.Symbol as next-def
 use Rattle.reading.proofs.walker.next.Symbol.{name as #reading·next}
 use Rattle.reading.proofs.walker.next.Met as next-thm
 use Rattle.reading.proofs.walker.field.Key.{name as #reading·field}
-use Rattle.reading.proofs.walker.field as first
+use Rattle.reading.proofs.walker.field as here
 use Rattle.reading.proofs.walker.field.Statement as stated
 use Rattle.reading.proofs.walker.field.Code as code
 
@@ -66,7 +66,7 @@ use Rattle.reading.proofs.walker.field.Code as code
 abbrev B : Lfts 1 → RattleType
 B κs = T.the-row (namedLft 1 0 tt κs)
 
-abbrev stayed : Stays (first.ended .signature .params) (first.ended .kept)
+abbrev stayed : Stays (here.ended .signature .params) (here.ended .kept)
 stayed = (stay-none-slice (0 ∷ []) tt (plain (λ _. u8)) yes, (stay-none (λ _. K.the-row) yes, (stay-none (λ _. u8) yes, tt)))
 
 module _ {M : Type 1} (𝓤 : URA M) (H : Heap 𝓤) (A : Atoms 𝓤) (mem : Memory → SProp 𝓤) (run : Routine → Fun 𝓤) where
@@ -95,7 +95,7 @@ module _ {M : Type 1} (𝓤 : URA M) (H : Heap 𝓤) (A : Atoms 𝓤) (W : Given
   αᵉ = record { mir = erased; lft = κ }
 
   abbrev Post : Val → SProp 𝓤
-  Post = walkOf 𝓤 H A first.ended stayed (first.clauses 𝓤 H A mem run) .post (((κ, tt), (q, tt), tt, (s, (k, (due, tt))), (v ∷ [], (c ∷ [], (vint w8 due ∷ [], tt)))), tt)
+  Post = walkOf 𝓤 H A here.ended stayed (here.clauses 𝓤 H A mem run) .post (((κ, tt), (q, tt), tt, (s, (k, (due, tt))), (v ∷ [], (c ∷ [], (vint w8 due ∷ [], tt)))), tt)
 
   abbrev Own : Fml
   Own = ShrSlice (named 0) κ u8 .own s (v ∷ [])
@@ -104,7 +104,7 @@ module _ {M : Type 1} (𝓤 : URA M) (H : Heap 𝓤) (A : Atoms 𝓤) (W : Given
   abbrev to-new : New 𝓤 H A mem run .Ghost
   to-new = (((κ, tt), (q, tt), tt, (s, (k, tt)), (v ∷ [], (c ∷ [], tt))), tt)
 
-  goes-new : ent 𝓤 (onEntry 𝓤 H A first.signature (κ, tt) (q, tt) (s, (k, (due, tt))) (v ∷ [], (c ∷ [], (vint w8 due ∷ [], tt)))) (sep 𝓤 (New 𝓤 H A mem run .pre to-new) (sem 𝓤 H A Own))
+  goes-new : ent 𝓤 (onEntry 𝓤 H A here.signature (κ, tt) (q, tt) (s, (k, (due, tt))) (v ∷ [], (c ∷ [], (vint w8 due ∷ [], tt)))) (sep 𝓤 (New 𝓤 H A mem run .pre to-new) (sem 𝓤 H A Own))
   goes-new =
       qed W ((‵ (flft κ q) ⊛ ‵ ftrue) ∷ ‵ (owns (ShrSlice (named 0) κ u8 ∷ K.the-row ∷ u8 ∷ []) (s, (k, (due, tt))) (v ∷ [], (c ∷ [], (vint w8 due ∷ [], tt)))) ∷ []) ∵
       move ! (1 ∷ []) $ fsplit ! $ use1 W (‵ Own ⊛ ‵ Own) (shr-slice-copy 𝓤 H A W (named 0) κ u8 .twice s (v ∷ [])) $ split ! $
@@ -130,13 +130,13 @@ module _ {M : Type 1} (𝓤 : URA M) (H : Heap 𝓤) (A : Atoms 𝓤) (W : Given
   exits : (t : Passed) (u : Val) → Found (now s) k t → ent 𝓤 (⋆ 𝓤 H A (‵ (S.the-row .own t (u ∷ [])) ∷ (‵ (flft κ q) ⊛ ‵ ftrue) ∷ ‵ Own ∷ [])) (Post u)
   exits t u e =
       qed W (‵ (S.the-row .own t (u ∷ [])) ∷ (‵ (flft κ q) ⊛ ‵ ftrue) ∷ ‵ Own ∷ []) ∵
-      suffices ! _ (ends-at 𝓤 H A first.ended stayed (first.clauses 𝓤 H A mem run) W (((κ, tt), (q, tt), tt, (s, (k, (due, tt))), (v ∷ [], (c ∷ [], (vint w8 due ∷ [], tt)))), tt) u t (tt, (tt, (tt, tt))) (tt, (tt, (tt, tt)))) $ says ! e $
+      suffices ! _ (ends-at 𝓤 H A here.ended stayed (here.clauses 𝓤 H A mem run) W (((κ, tt), (q, tt), tt, (s, (k, (due, tt))), (v ∷ [], (c ∷ [], (vint w8 due ∷ [], tt)))), tt) u t (tt, (tt, (tt, tt))) (tt, (tt, (tt, tt)))) $ says ! e $
       move ! (1 ∷ []) $ frame ! $ nothing ! $ owned ! u8 (Is u8) (uint-makes 𝓤 H A W w8) due _ (refl, due-fits) $ fjoin ! $ owned ! K.the-row (Is K.the-row) (LL.makes K.the-type K′.the-plain 𝓤 H A) k _ is-k $ fjoin ! $ move ! (2 ∷ 0 ∷ []) $ fjoin ! $ frame ! $ done !
 
   module _ (C : Calls 𝓤 H) (Λ : Loops 𝓤 H) (fm : FmC 𝓤 H (W .laws) C) (known-new : Triple 𝓤 (C #reading·walker-at) (New 𝓤 H A mem run)) (known-next : Triple 𝓤 (C #reading·next) (Next 𝓤 H A mem run)) where
-    walk : Is (ShrSlice (named 0) κ u8) s (v ∷ []) → Within (now s) k → ent 𝓤 (onEntry 𝓤 H A first.signature (κ, tt) (q, tt) (s, (k, (due, tt))) (v ∷ [], (c ∷ [], (vint w8 due ∷ [], tt)))) (WpFn 𝓤 H C Λ code.function (v ∷ c ∷ vint w8 due ∷ []) Post)
+    walk : Is (ShrSlice (named 0) κ u8) s (v ∷ []) → Within (now s) k → ent 𝓤 (onEntry 𝓤 H A here.signature (κ, tt) (q, tt) (s, (k, (due, tt))) (v ∷ [], (c ∷ [], (vint w8 due ∷ [], tt)))) (WpFn 𝓤 H C Λ code.function (v ∷ c ∷ vint w8 due ∷ []) Post)
     walk p inside =
-        qed W (raw (onEntry 𝓤 H A first.signature (κ, tt) (q, tt) (s, (k, (due, tt))) (v ∷ [], (c ∷ [], (vint w8 due ∷ [], tt)))) ∷ []) ∵ enter ! C Λ code.function (v ∷ c ∷ vint w8 due ∷ []) _ $
+        qed W (raw (onEntry 𝓤 H A here.signature (κ, tt) (q, tt) (s, (k, (due, tt))) (v ∷ [], (c ∷ [], (vint w8 due ∷ [], tt)))) ∷ []) ∵ enter ! C Λ code.function (v ∷ c ∷ vint w8 due ∷ []) _ $
         alloc1 ! (λ l₀. alloc1 ! (λ l₁. alloc1 ! (λ l₂. alloc1 ! (λ l₃. alloc1 ! (λ l₄. alloc0 ! $ params1 ! $
         pass1 ! (init ! 6 refl (shr-slice-lawful 𝓤 H A W (named 0) κ u8 .typed s (v ∷ []) p .0)) $ pass1 ! (init ! 4 refl (LL.lawful K.the-type K′.the-laws 𝓤 H A W .typed k _ is-k .0)) $ pass1 ! (init ! 2 refl (tt, record { fits = due-fits })) $ pass0 ! $
         move ! (10 ∷ []) $ use1 W (raw (New 𝓤 H A mem run .pre to-new) ⊛ ‵ Own) goes-new $ split ! $
@@ -159,20 +159,20 @@ module _ {M : Type 1} (𝓤 : URA M) (H : Heap 𝓤) (A : Atoms 𝓤) (W : Given
 
 module _ {M : Type 1} (𝓤 : URA M) (H : Heap 𝓤) (A : Atoms 𝓤) (W : Given 𝓤 H A) (mem : Memory → SProp 𝓤) (run : Routine → Fun 𝓤) where
   field-walks : (C : Calls 𝓤 H) (Λ : Loops 𝓤 H) → FmC 𝓤 H (W .laws) C → Triple 𝓤 (C #reading·walker-at) (New 𝓤 H A mem run) → Triple 𝓤 (C #reading·next) (Next 𝓤 H A mem run)
-      → Walks 𝓤 H A first.ended stayed (WpFn 𝓤 H C Λ code.function) (first.clauses 𝓤 H A mem run)
-  field-walks C Λ fm known-new known-next = walked 𝓤 H A first.ended stayed (first.clauses 𝓤 H A mem run) (WpFn 𝓤 H C Λ code.function) (λ κs. (slice-vals, (LL.vals K.the-type K′.the-laws, (uint-vals w8, tt)))) (λ κs. (shr-slice-tells (named 0) (κs .0) u8, (LL.tells K.the-type K′.the-laws, (uint-tells w8, tt))))
+      → Walks 𝓤 H A here.ended stayed (WpFn 𝓤 H C Λ code.function) (here.clauses 𝓤 H A mem run)
+  field-walks C Λ fm known-new known-next = walked 𝓤 H A here.ended stayed (here.clauses 𝓤 H A mem run) (WpFn 𝓤 H C Λ code.function) (λ κs. (slice-vals, (LL.vals K.the-type K′.the-laws, (uint-vals w8, tt)))) (λ κs. (shr-slice-tells (named 0) (κs .0) u8, (LL.tells K.the-type K′.the-laws, (uint-tells w8, tt))))
       (λ κs qs bounds a g are. needs 𝓤 (Within (now (a .0)) (a .1 .0)) _ (walk 𝓤 H A W mem run (κs .0) (qs .0) (a .0) (a .1 .0) (are .1 .0) (a .1 .1 .0) (are .1 .1 .0 .1) C Λ fm known-new known-next (are .0)))
 
 field-meets : {M : Type 1} (𝓤 : URA M) (H : Heap 𝓤) (A : Atoms 𝓤) (W : Given 𝓤 H A) (mem : Memory → SProp 𝓤) (run : Routine → Fun 𝓤) (𝓣 : Tables 𝓤 H)
     → Triple 𝓤 (𝓣 .C #reading·walker-at) (New 𝓤 H A mem run) → Triple 𝓤 (𝓣 .C #reading·next) (Next 𝓤 H A mem run)
-    → Meets 𝓤 H A first.signature (WpFn 𝓤 H (𝓣 .C) (𝓣 .Λ) code.function) (first.spec 𝓤 H A mem run)
-field-meets 𝓤 H A W mem run 𝓣 known-new known-next = walk-meets 𝓤 H A first.ended stayed W (goes-none-slice 𝓤 H A W 1 (0 ∷ []) tt (plain (λ _. u8)) yes, (goes-none 𝓤 H A W 1 (λ _. K.the-row) yes (λ κs x f. refl), (goes-none 𝓤 H A W 1 (λ _. u8) yes (λ κs x f. refl), tt))) (first.clauses 𝓤 H A mem run) (WpFn 𝓤 H (𝓣 .C) (𝓣 .Λ) code.function) (WpFn-mono 𝓤 H (W .laws) 𝓣 code.function)
+    → Meets 𝓤 H A here.signature (WpFn 𝓤 H (𝓣 .C) (𝓣 .Λ) code.function) (here.spec 𝓤 H A mem run)
+field-meets 𝓤 H A W mem run 𝓣 known-new known-next = walk-meets 𝓤 H A here.ended stayed W (goes-none-slice 𝓤 H A W 1 (0 ∷ []) tt (plain (λ _. u8)) yes, (goes-none 𝓤 H A W 1 (λ _. K.the-row) yes (λ κs x f. refl), (goes-none 𝓤 H A W 1 (λ _. u8) yes (λ κs x f. refl), tt))) (here.clauses 𝓤 H A mem run) (WpFn 𝓤 H (𝓣 .C) (𝓣 .Λ) code.function) (WpFn-mono 𝓤 H (W .laws) 𝓣 code.function)
     (field-walks 𝓤 H A W mem run (𝓣 .C) (𝓣 .Λ) (fmOf 𝓤 H (W .laws) 𝓣) known-new known-next)
 
 pub field-spec : {M : Type 1} → stated.statement M
 unfolding code.routine tablesOf
 field-spec 𝓤 H 𝓜 𝓖 𝓡 =
-    entered 𝓤 H (tripleOf 𝓤 H (𝓖 .A) first.signature (first.spec 𝓤 H (𝓖 .A) (𝓜 .mem) (𝓡 .run)))
+    entered 𝓤 H (tripleOf 𝓤 H (𝓖 .A) here.signature (here.spec 𝓤 H (𝓖 .A) (𝓜 .mem) (𝓡 .run)))
     (tables 𝓤 H 𝓜 𝓡 code.env .C) (tables 𝓤 H 𝓜 𝓡 code.env .Λ) #reading·field code.function (code.unfolded 𝓤 H 𝓜 𝓡)
     (field-meets 𝓤 H (𝓖 .A) (givenOf 𝓤 H 𝓜 𝓖) (𝓜 .mem) (𝓡 .run) (tablesOf 𝓤 H 𝓜 (tables 𝓤 H 𝓜 𝓡 code.env))
     (cited 𝓤 H (New 𝓤 H (𝓖 .A) (𝓜 .mem) (𝓡 .run)) 𝓜 𝓡 code.env #reading·walker-at new-def.routine code.calls-reading·walker·walker-at (new-thm.met 𝓤 H 𝓜 𝓖 𝓡))

@@ -44,7 +44,7 @@ use denote.Exit.{yes}
 use denote.Triple.Clauses.{ensured, lasts}
 use Rattle.model.specs.Refusal.{answer}
 use Rattle.model.specs.File.{field}
-use Rattle.reading.specs.Meaning.{Within, Walks as Passes, rest as bytesFrom, afterField}
+use Rattle.reading.specs.Meaning.{Within, Walks as Passes, bytesFrom, afterField}
 use Rattle.reading.specs.declared.walker.FieldWalker.{FieldWalker}
 use Rattle.reading.specs.declared.frame.Passed.{Passed}
 use Rattle.reading.proofs.walker.FieldWalker as T

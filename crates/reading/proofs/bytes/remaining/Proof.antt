@@ -1,8 +1,8 @@
 use lib.ListN.{length-drop}
 use mathlib.Core.Path.{sym}
 use borrow.Author.Needs.{needs}
-use Rattle.reading.proofs.bytes.left.Statement.{statement}
-use Rattle.reading.proofs.bytes.left.Tie as tie
+use Rattle.reading.proofs.bytes.remaining.Statement.{statement}
+use Rattle.reading.proofs.bytes.remaining.Tie as tie
 
 sub-result : tie.Need-sub-result
 sub-result c = search needs
@@ -12,5 +12,5 @@ returns c =
     let a = c .args in
     sym (length-drop (a .at) (a .file .now))
 
-pub left-spec : {M : Type 1} → statement M
-left-spec = tie.close (tie.spec sub-result returns)
+pub remaining-spec : {M : Type 1} → statement M
+remaining-spec = tie.close (tie.spec sub-result returns)
