@@ -22,7 +22,6 @@ use Rattle.model.specs.Calls.{reading, left}
 use Rattle.tables.specs.declared.Row.{Row}
 use Rattle.tables.specs.declared.Size.{Size}
 use Rattle.tables.specs.Meaning.{rowOf, rowsOf, numbers}
-use Rattle.reading.specs.Meaning.{enough}
 use Rattle.model.proofs.Readings.{CommandsRead, StatesRead, none, more, read-inv, few-commands, few-outcomes, states-count}
 use Rattle.reading.specs.Filling.{commandsIn, commandsLength, statesIn, statesMark, StatesRoom}
 use Rattle.reading.proofs.Passing.{answer-inv, refused-inv}
@@ -170,13 +169,11 @@ module _ (file : List ℕ) (z : ModelSize) (e : answer sizeOf (read file) ≡ gi
 
 -- ---- the test of the tables' lengths, where the rows were counted
 
-module _ (z : Size) (R : List Row) (F O : ℕ) {rows : ℕ} {t : Bool} (k : rows ≡ length R) (e : t ≡ enough z rows F O) where
+module _ (z : Size) (R : List Row) (F O : ℕ) {rows : ℕ} {t : Bool} (k : rows ≡ length R) (e : t ≡ (leb (z .n) rows && leb (z .m) F && leb (z .t) O)) where
   pub cramped : (file : List ℕ) → answer sizeOf (read file) ≡ given (numbers z) → not t ≡ true → reading (length R) F O file ≡ refused Cramped
-  unfolding enough
   cramped file p h = short file (numbers z) p (length R) F O (rw k at (stopped e h))
 
   pub all-long : not t ≡ false → (z .n ≤ length R) × (z .m ≤ F) × (z .t ≤ O)
-  unfolding enough
   all-long h =
       let three = and-both (leb (z .n) rows && leb (z .m) F) _ (passed e h) in
       let two = and-both (leb (z .n) rows) _ (three .0) in

@@ -21,10 +21,6 @@ abbrev pub answerOf : ReadAnswer → Answer ModelSize
 answerOf (ReadAnswer.Given z) = given (numbers z)
 answerOf (ReadAnswer.Refused r) = refused (refusalOf r)
 
--- tables of these lengths have a place for each state, command and outcome
-unfoldable pub enough : Size → ℕ → ℕ → ℕ → Bool
-enough z rows firsts outcomes = leb (z .n) rows && leb (z .m) firsts && leb (z .t) outcomes
-
 -- a file read into these tables
 abbrev pub readInto : List Row → List ℕ → List ℕ → List ℕ → Answer Tables
 readInto rows firsts outcomes file = reading (length rows) (length firsts) (length outcomes) file

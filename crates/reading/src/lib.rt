@@ -1,9 +1,11 @@
 // Reading a plan file into lent tables.
 ghost use mathlib.Core.Path.{_≡_};
+ghost use mathlib.Core.Bool.{_&&_};
+ghost use lib.Dec.{leb};
 ghost use Rattle.model.specs.Refusal.{answer};
 ghost use Rattle.model.specs.Calls.{left};
 ghost use Rattle.tables.specs.Meaning.{rowsOf};
-ghost use Rattle.reading.specs.Meaning.{answerOf, enough, readInto};
+ghost use Rattle.reading.specs.Meaning.{answerOf, readInto};
 use tables::Refusal;
 use tables::Row;
 use tables::Size;
@@ -24,7 +26,7 @@ pub enum ReadAnswer {
 
 // Whether tables of these lengths have a place for each state, command and outcome.
 fn long_enough(size: Size, rows: usize, firsts: usize, outcomes: usize) -> bool
-    ensures { λ r. ⌜ r ≡ enough size rows firsts outcomes ⌝ }
+    ensures { λ r. ⌜ r ≡ (leb (size .n) rows && leb (size .m) firsts && leb (size .t) outcomes) ⌝ }
 {
     if rows < size.n {
         return false;

@@ -1,19 +1,15 @@
-use Rattle.reading.specs.Meaning.{enough}
 use mathlib.Core.Bool.{and-false}
 use borrow.Author.Tests.{lt-leb, le-leb}
 use Rattle.reading.proofs.long_enough.Statement.{statement}
 use Rattle.reading.proofs.long_enough.Tie as tie
 
 returns : tie.Need-returns
-unfolding enough
 returns c = rw (lt-leb _ _ (c .if1 .taken))
 
 returns-2 : tie.Need-returns-2
-unfolding enough
 returns-2 c = simp (lt-leb _ _ (c .if2 .taken), and-false)
 
 returns-3 : tie.Need-returns-3
-unfolding enough
 returns-3 c = rw (le-leb _ _ (c .before .before .before .if1 .left), le-leb _ _ (c .before .if2 .left))
 
 pub long-enough-spec : {M : Type 1} → statement M
