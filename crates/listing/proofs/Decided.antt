@@ -1,4 +1,4 @@
--- What deciding leaves of a sound plan: tables that tell the lines of the states, and the tally.
+-- What deciding leaves of a sound plan: tables that hold what the lines of the states say, and the tally.
 use mathlib.Core.Path.{_≡_, refl, ap, _∙_}
 use mathlib.Core.Bool.{true}
 use mathlib.Core.List.{List, [], _∷_}
@@ -7,7 +7,7 @@ use native.Mathlib.Omega.{arith}
 use lib.ListN.{length, getD, List·getD-map}
 use Rattle.model.specs.Policy.{tally}
 use Rattle.model.specs.Refusal.{given, answer}
-use Rattle.model.specs.Tables.{Row as Line, Tables}
+use Rattle.model.specs.Tables.{Row as ModelRow, Tables}
 use Rattle.model.specs.Places.{rowAt}
 use Rattle.model.specs.Held.{treeOf, planIn}
 use Rattle.model.specs.SoundTest.{sound}
@@ -27,7 +27,7 @@ use Rattle.decide.specs.declared.DecideAnswer.{DecideAnswer}
 use Rattle.decide.specs.declared.DecideAnswer.the-variants.{Given, Refused}
 use Rattle.decide.specs.Calls.{answerWith, decisionOf}
 use Rattle.listing_text.proofs.StateLine.{listed-tables}
-use Rattle.listing.specs.Told.{Told}
+use Rattle.listing.specs.AllListed.{AllListed}
 
 -- tables of these lengths hold every plan's entries
 abbrev pub Long : ℕ → ℕ → ℕ → ℕ → Type 0
@@ -50,7 +50,7 @@ module _ (z : Size) (rows : List Row) (firsts outcomes : List ℕ) (e : sound (h
 
   kind-read : (s : ℕ) → s < z .n → planIn T .kind s ≡ getD rows s noRow .kind
   unfolding rowAt
-  kind-read s h = kind-held T s h ∙ ap (λ (r : Line). r .kind) (List·getD-map rowOf rows s noRow)
+  kind-read s h = kind-held T s h ∙ ap (λ (r : ModelRow). r .kind) (List·getD-map rowOf rows s noRow)
 
   -- the lengths of the tables lent to it
   module _ {R C M S : ℕ} where
@@ -64,10 +64,10 @@ module _ (z : Size) (rows : List Row) (firsts outcomes : List ℕ) (e : sound (h
       is = refl;
     })
 
-    pub told : (rs cs ms : List ℕ) {rs′ cs′ ms′ : List ℕ} → rs′ ≡ left rankTable (deciding T R C M S) rs → cs′ ≡ left commandTable (deciding T R C M S) cs
-        → ms′ ≡ left markTable (deciding T R C M S) ms → Long R C M S → Told (planIn T) (z .n) rows rs′ cs′ ms′
+    pub all-listed : (rs cs ms : List ℕ) {rs′ cs′ ms′ : List ℕ} → rs′ ≡ left rankTable (deciding T R C M S) rs → cs′ ≡ left commandTable (deciding T R C M S) cs
+        → ms′ ≡ left markTable (deciding T R C M S) ms → Long R C M S → AllListed (planIn T) (z .n) rows rs′ cs′ ms′
     unfolding left planIn
-    told rs cs ms er ec em long =
+    all-listed rs cs ms er ec em long =
         let g = sound-good T e in
         let entries = listed-tables (planIn T) (sound-valid T e) (omega (arith, few-states (treeOf T) g)) (λ s h. omega (arith, few-commands (treeOf T) g s h)) rs cs ms in
         rw (er, ec, em, answers long) (record { line = λ s h. rw (kind-read s h) at (entries s (rw (states-held T) h)) })

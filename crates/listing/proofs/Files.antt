@@ -7,13 +7,14 @@ use native.Mathlib.Nat.{zero-add}
 use native.Mathlib.Omega.{arith}
 use lib.ListN.{length, take}
 use borrow.Author.Tests.{lt-ltb, le-ltb}
+use Rattle.laws.specs.Lists.{overwrite}
 use Rattle.laws.specs.Wrote.{Wrote}
 use Rattle.laws.proofs.Lists.{take-overwrite}
 use Rattle.laws.proofs.Writes.{put-front}
 use Rattle.laws.proofs.Wrote.{wrote-length}
 use Rattle.model.specs.Refusal.{Limit, answer}
 use Rattle.model.specs.File.{read}
-use Rattle.model.specs.Tables.{Size as Numbers, Tables}
+use Rattle.model.specs.Tables.{Size as ModelSize, Tables}
 use Rattle.model.specs.Held.{treeOf}
 use Rattle.model.specs.SoundTest.{sound}
 use Rattle.model.specs.Calls.{left}
@@ -50,7 +51,7 @@ module _ (file : List ℕ) (rows : List Row) (firsts outcomes : List ℕ) (r : R
       → answerText (read file) ≡ refusalText (refusalOf w)
   unfolding answerText
   refusal-read w q lr lf lo =
-      let size : Tables → Numbers = λ T. T .size in
+      let size : Tables → ModelSize = λ T. T .size in
       ap answerText (refuses-file (length rows) (length firsts) (length outcomes) lr lf lo file (refusalOf w)
       (refused-inv size (readInto rows firsts outcomes file) (sym e ∙ ap answerOf q)))
 
@@ -63,10 +64,11 @@ module _ (input : List ℕ) where
   unfolding listing
   in-limit h = rw (le-ltb 65536 (length input) h)
 
-  -- the text stands at the front
+  -- the text stands at the front, and what is past it is as it was
   pub text-stands : {l after : List ℕ} {k : ℕ} → Wrote l 0 (listing input) after k → 65536 ≤ length l
-      → (take k after ≡ listing input) × ((k ≡ length (listing input)) × (k ≤ length after))
+      → (take k after ≡ listing input) × ((k ≡ length (listing input)) × ((k ≤ length after) × (after ≡ overwrite (listing input) l)))
   text-stands {l} {after} {k} w long =
       let count : k ≡ length (listing input) = w .past ∙ zero-add _ in
       let fits : length (listing input) ≤ length l = omega (arith, long, listing-length input) in
-      (rw (count, w .stored, put-front l (listing input) fits) (take-overwrite (listing input) l), (count, omega (arith, count, fits, wrote-length w)))
+      let whole : after ≡ overwrite (listing input) l = w .stored ∙ put-front l (listing input) fits in
+      (rw (count, whole) (take-overwrite (listing input) l), (count, (omega (arith, count, fits, wrote-length w), whole)))

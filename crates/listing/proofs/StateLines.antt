@@ -16,7 +16,7 @@ use Rattle.model.proofs.ListingLength.{state-length}
 use Rattle.tables.specs.declared.Row.{Row}
 use Rattle.tables.specs.Meaning.{noRow}
 use Rattle.listing_text.specs.Listed.{Listed}
-use Rattle.listing.specs.Told.{Told}
+use Rattle.listing.specs.AllListed.{AllListed}
 
 abbrev lines : List (List ℕ) → List ℕ → List ℕ
 lines xs r = joined xs ++ r
@@ -30,7 +30,7 @@ module _ (n : ℕ) (rows : List Row) (ranks commands marks out₀ : List ℕ) (p
   pub record Lines (out : List ℕ) (next s : ℕ) : Type 0 where
     pub below : next ≤ place + s * 29
     pub same : length out ≡ length out₀
-    pub turn : (P : Plan) → Told P n rows ranks commands marks → Turn lines (stateLine P) n 0 out₀ place out next s
+    pub turn : (P : Plan) → AllListed P n rows ranks commands marks → Turn lines (stateLine P) n 0 out₀ place out next s
 
   module _ (room : place + n * 29 ≤ length out₀) where
     pub lines-start : Lines out₀ place 0
@@ -55,5 +55,5 @@ module _ (n : ℕ) (rows : List Row) (ranks commands marks out₀ : List ℕ) (p
         turn = λ P t. turn-next joined-spread (l .turn P t) h (rw (one-line (stateLine P s)) (w P (rw e (t .line s h))));
       }
 
-      pub lines-done : n ≤ s → (P : Plan) → Told P n rows ranks commands marks → Wrote out₀ place (joined (tabulate (stateLine P) 0 n)) out next
+      pub lines-done : n ≤ s → (P : Plan) → AllListed P n rows ranks commands marks → Wrote out₀ place (joined (tabulate (stateLine P) 0 n)) out next
       lines-done h P t = rw (sub-zero n, append-nil (joined (tabulate (stateLine P) 0 n))) at (turn-done joined-spread (l .turn P t) h)

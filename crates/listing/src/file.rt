@@ -8,6 +8,7 @@ use crate::plan::list_plan;
 use listing_text::internal::put_refusal;
 use reading::ReadAnswer;
 use tables::Row;
+use tables::Size;
 
 // The file's listing, or the line of its refusal.
 pub fn list_file(
@@ -27,7 +28,7 @@ pub fn list_file(
     }
 }
 
-// Lends tables that hold every plan.
+// Lends tables of the limits' lengths, which hold every plan.
 pub fn lend(file: &[u8], out: &mut [u8]) -> usize
     requires { ⌜ 65536 ≤ length (now out) ⌝ }
     ensures { λ r. ⌜ Wrote (now (out .entry)) 0 (answerText (read (now (file .entry)))) (now (out .exit)) r ⌝ }
@@ -36,8 +37,8 @@ pub fn lend(file: &[u8], out: &mut [u8]) -> usize
         kind: 0,
         first: 0,
         practice: 0,
-    }; 1024];
-    let mut firsts = [0u16; 4096];
-    let mut outcomes = [0u16; 16384];
+    }; Size::STATES];
+    let mut firsts = [0u16; Size::COMMANDS];
+    let mut outcomes = [0u16; Size::OUTCOMES];
     list_file(file, &mut rows[..], &mut firsts, &mut outcomes, out)
 }

@@ -1,7 +1,8 @@
 // The listing of a plan file, as text.
 ghost use mathlib.Core.Path.{_≡_};
 ghost use Prim.Native.Nat.{_≤_};
-ghost use lib.ListN.{length, take};
+ghost use lib.ListN.{length, take, replicate};
+ghost use Rattle.laws.specs.Lists.{overwrite};
 ghost use Rattle.laws.specs.Wrote.{Wrote};
 ghost use Rattle.model.specs.Listing.{listing};
 use crate::file::lend;
@@ -14,7 +15,7 @@ mod start;
 mod states;
 mod verdicts;
 
-// The text is in the first `length` bytes.
+// The text is in the first `length` bytes, and the bytes past it are zero.
 pub struct Text {
     pub bytes: [u8; 65536],
     pub length: usize,
@@ -33,11 +34,13 @@ fn write_listing(input: &[u8], out: &mut [u8]) -> usize
     lend(input, out)
 }
 
-// What the listing program prints for an input. Ruled out: a listing of a file that reading refuses, and a line that is not of the file's plan.
+// What the listing program prints for an input. Ruled out: text that begins as a listing though reading refuses the file, and a
+// line that is not of the file's plan.
 pub fn text_of(input: &[u8]) -> Text
     ensures text { λ r. ⌜ take (r .length) (r .bytes) ≡ listing (now (input .entry)) ⌝ }
     ensures length { λ r. ⌜ r .length ≡ length (listing (now (input .entry))) ⌝ }
     ensures fits { λ r. ⌜ r .length ≤ length (r .bytes) ⌝ }
+    ensures bytes { λ r. ⌜ r .bytes ≡ overwrite (listing (now (input .entry))) (replicate 65536 0) ⌝ }
 {
     let mut bytes = [0u8; 65536];
     let length = write_listing(input, &mut bytes);

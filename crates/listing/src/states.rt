@@ -8,7 +8,7 @@ ghost use Rattle.model.specs.File.{maxStates};
 ghost use Rattle.model.specs.Plan.{Plan};
 ghost use Rattle.model.specs.Listing.{stateLine};
 ghost use Rattle.listing_text.specs.Listed.{Listed};
-ghost use Rattle.listing.specs.Told.{Told};
+ghost use Rattle.listing.specs.AllListed.{AllListed};
 use listing_text::internal::put_state_line;
 use tables::Row;
 use tables::internal::row_at;
@@ -42,7 +42,7 @@ pub fn list_states(
     place: usize,
 ) -> usize
     requires { ⌜ (n ≤ maxStates) × (n ≤ length (now rows)) × (n ≤ length (now ranks)) × (n ≤ length (now commands)) × (n ≤ length (now marks)) × (place + n * 29 ≤ length (now out)) ⌝ }
-    ensures { λ r. ⌜ ((P : Plan) → Told P n (now (rows .entry)) (now (ranks .entry)) (now (commands .entry)) (now (marks .entry)) → Wrote (now (out .entry)) place (joined (tabulate (stateLine P) 0 n)) (now (out .exit)) r) ⌝ }
+    ensures { λ r. ⌜ ((P : Plan) → AllListed P n (now (rows .entry)) (now (ranks .entry)) (now (commands .entry)) (now (marks .entry)) → Wrote (now (out .entry)) place (joined (tabulate (stateLine P) 0 n)) (now (out .exit)) r) ⌝ }
 {
     let mut next = place;
     let mut s = 0;

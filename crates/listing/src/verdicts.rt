@@ -37,10 +37,10 @@ pub fn list_verdicts(
     requires { ⌜ (sound (held size (now rows) (now firsts) (now outcomes)) ≡ true) × (place + size .n * 29 + 50 ≤ length (now out)) ⌝ }
     ensures { λ r. ⌜ Wrote (now (out .entry)) place (joined (tabulate (stateLine (planIn (held size (now (rows .entry)) (now (firsts .entry)) (now (outcomes .entry))))) 0 (size .n)) ++ tallyLine (tally (planIn (held size (now (rows .entry)) (now (firsts .entry)) (now (outcomes .entry)))))) (now (out .exit)) r ⌝ }
 {
-    let mut ranks = [0u16; 1024];
-    let mut commands = [0u16; 1024];
-    let mut marks = [0u16; 1024];
-    let mut scratch = [0u16; 1024];
+    let mut ranks = [0u16; Size::STATES];
+    let mut commands = [0u16; Size::STATES];
+    let mut marks = [0u16; Size::STATES];
+    let mut scratch = [0u16; Size::STATES];
     let d = decide::decide(
         size,
         rows,

@@ -1,4 +1,4 @@
--- The line of a state, from the entries that tell what it says.
+-- The line of a state, from the entries that hold what it says.
 use mathlib.Core.Path.{_≡_, refl, sym, ap, _∙_}
 use mathlib.Core.List.{List, [], _∷_}
 use Prim.Native.Nat.{ℕ, _%_, _<_}
@@ -48,7 +48,7 @@ module _ {P : Plan} {s k r c m : ℕ} (q : Listed P s k r c m) where
       end)
 
 module _ (P : Plan) (valid : Valid P) (few : P .states < 65535) (fit : (s : ℕ) → s < P .states → P .commands s < 65535) where
-  -- the entries of a state tell its line
+  -- the entries of a state hold what its line says
   pub listed : {s k r c m : ℕ} → s < P .states → k ≡ P .kind s → r ≡ entry (rank P s) → c ≡ entry (chosen P s) → m ≡ mark P s → Listed P s k r c m
   listed {s} h kind-of rank-of chosen-of mark-of = record {
     kind-is = sym kind-of;

@@ -18,7 +18,7 @@ use tables::internal::wide;
 
 const SPACE: u8 = 32;
 
-// The entry for none.
+// The entry for none: hexadecimal FFFF.
 const NONE: u16 = 65535;
 
 pub fn put_letter(out: &mut [u8], place: usize, letter: u8) -> usize
@@ -69,7 +69,7 @@ pub fn put_entry(out: &mut [u8], place: usize, e: u16) -> usize
     put_number(out, place, e as usize)
 }
 
-// The verdict that a rank's entry tells, and the rank.
+// The verdict that follows from a rank's entry, and the rank.
 pub fn put_verdict(out: &mut [u8], place: usize, rank: u16) -> usize
     requires { ⌜ place + 9 ≤ length (now out) ⌝ }
     ensures wrote { λ r. ⌜ Wrote (now (out .entry)) place (spaced (verdictLetter (found (fromEntry rank)) ∷ numberOrDash (fromEntry rank) ∷ [])) (now (out .exit)) r ⌝ }

@@ -20,7 +20,7 @@ text-of-requires : tie.Need-text-of-requires
 text-of-requires c κs = search needs
 
 array-share-prefix-bytes : tie.Need-array-share-prefix-bytes
-array-share-prefix-bytes c = c .before .text-of .ensures .1 .1
+array-share-prefix-bytes c = c .before .text-of .ensures .1 .1 .0
 
 slice-aggregate-write-all : tie.Need-slice-aggregate-write-all
 slice-aggregate-write-all c = let e = c .before .before .text-of .ensures in e .1 .0 ∙ sym (ap length (e .0))

@@ -22,8 +22,8 @@ list-plan-requires : tie.Need-list-plan-requires
 list-plan-requires c κs =
     let a = c .before .before .before .before .before .before .before .before .before .before .before .before .before .before .before .before .before .before .before .before .args in
     let e = c .before .before .before .before .before .before .before .before .before .before .before .before .read .ensures in
-    let told = c .before .before .before .before .before .r2 .given in (
-      plan-read (a .file .now) (a .rows .now) (a .firsts .now) (a .outcomes .now) (c .before .before .before .before .before .before .before .before .before .before .before .before .read .result) (e .0) (c .before .before .before .before .before .before .before .before .before .before .before .before .read .last .1 .0) (told .0 .0) (told .1) (e .1 .0) (e .1 .1 .0) (e .1 .1 .1) .0,
+    let known = c .before .before .before .before .before .r2 .given in (
+      plan-read (a .file .now) (a .rows .now) (a .firsts .now) (a .outcomes .now) (c .before .before .before .before .before .before .before .before .before .before .before .before .read .result) (e .0) (c .before .before .before .before .before .before .before .before .before .before .before .before .read .last .1 .0) (known .0 .0) (known .1) (e .1 .0) (e .1 .1 .0) (e .1 .1 .1) .0,
       c .before .before .before .before .before .before .before .before .before .before .before .before .before .before .before .before .before .before .before .before .pre .3,
     )
 
@@ -62,8 +62,8 @@ returns-2 : tie.Need-returns-2
 returns-2 c =
     let a = c .before .before .before .before .before .before .before .before .before .before .before .before .before .before .before .before .before .before .before .before .before .before .before .args in
     let e = c .before .before .before .before .before .before .before .before .before .before .before .before .before .before .before .read .ensures in
-    let told = c .before .before .before .before .before .before .before .before .r2 .given in
-    rw (plan-read (a .file .now) (a .rows .now) (a .firsts .now) (a .outcomes .now) (c .before .before .before .before .before .before .before .before .before .before .before .before .before .before .before .read .result) (e .0) (c .before .before .before .before .before .before .before .before .before .before .before .before .before .before .before .read .last .1 .0) (told .0 .0) (told .1) (e .1 .0) (e .1 .1 .0) (e .1 .1 .1) .1)
+    let known = c .before .before .before .before .before .before .before .before .r2 .given in
+    rw (plan-read (a .file .now) (a .rows .now) (a .firsts .now) (a .outcomes .now) (c .before .before .before .before .before .before .before .before .before .before .before .before .before .before .before .read .result) (e .0) (c .before .before .before .before .before .before .before .before .before .before .before .before .before .before .before .read .last .1 .0) (known .0 .0) (known .1) (e .1 .0) (e .1 .1 .0) (e .1 .1 .1) .1)
     (c .before .before .list-plan .ensures)
 
 pub list-file-spec : {M : Type 1} → statement M

@@ -6,7 +6,7 @@ use Rattle.laws.proofs.Wrote.{wrote-then}
 use Rattle.model.specs.Held.{planIn}
 use Rattle.tables.specs.Meaning.{held}
 use Rattle.listing.proofs.PlanLines.{tally-room}
-use Rattle.listing.proofs.Decided.{few, long-rows, told, tallied}
+use Rattle.listing.proofs.Decided.{few, long-rows, all-listed, tallied}
 use Rattle.listing.proofs.verdicts.list_verdicts.Statement.{statement}
 use Rattle.listing.proofs.verdicts.list_verdicts.Proof.Tie as tie
 
@@ -52,8 +52,8 @@ put-tally-requires c κs =
     let a = c .before .before .before .before .before .before .before .before .before .before .before .before .before .before .before .before .before .before .before .before .args in
     let T = held (a .size) (a .rows .now) (a .firsts .now) (a .outcomes .now) in
     let d = c .before .before .before .before .before .before .before .before .before .before .before .before .decide .ensures in
-    let tells = told (a .size) (a .rows .now) (a .firsts .now) (a .outcomes .now) (c .before .before .before .before .before .before .before .before .before .before .before .before .before .before .before .before .before .before .before .before .pre .0) _ _ _ (d .1 .0) (d .1 .1 .0) (d .1 .1 .1 .0) (omega arith, omega arith, omega arith, omega arith) in
-    tally-room (planIn T) (a .size .n) (c .before .before .before .before .before .before .before .before .before .before .before .before .before .before .before .before .before .before .before .before .pre .1) (c .before .before .before .list-states .ensures (planIn T) tells)
+    let listed = all-listed (a .size) (a .rows .now) (a .firsts .now) (a .outcomes .now) (c .before .before .before .before .before .before .before .before .before .before .before .before .before .before .before .before .before .before .before .before .pre .0) _ _ _ (d .1 .0) (d .1 .1 .0) (d .1 .1 .1 .0) (omega arith, omega arith, omega arith, omega arith) in
+    tally-room (planIn T) (a .size .n) (c .before .before .before .before .before .before .before .before .before .before .before .before .before .before .before .before .before .before .before .before .pre .1) (c .before .before .before .list-states .ensures (planIn T) listed)
 
 same-length : tie.Need-same-length
 same-length c = search needs
@@ -63,9 +63,9 @@ returns c =
     let a = c .before .before .before .before .before .before .before .before .before .before .before .before .before .before .before .before .before .before .before .before .before .before .before .args in
     let T = held (a .size) (a .rows .now) (a .firsts .now) (a .outcomes .now) in
     let d = c .before .before .before .before .before .before .before .before .before .before .before .before .before .before .before .decide .ensures in
-    let tells = told (a .size) (a .rows .now) (a .firsts .now) (a .outcomes .now) (c .before .before .before .before .before .before .before .before .before .before .before .before .before .before .before .before .before .before .before .before .before .before .before .pre .0) _ _ _ (d .1 .0) (d .1 .1 .0) (d .1 .1 .1 .0) (omega arith, omega arith, omega arith, omega arith) in
+    let listed = all-listed (a .size) (a .rows .now) (a .firsts .now) (a .outcomes .now) (c .before .before .before .before .before .before .before .before .before .before .before .before .before .before .before .before .before .before .before .before .before .before .before .pre .0) _ _ _ (d .1 .0) (d .1 .1 .0) (d .1 .1 .1 .0) (omega arith, omega arith, omega arith, omega arith) in
     let counts = tallied (a .size) (a .rows .now) (a .firsts .now) (a .outcomes .now) (c .before .before .before .before .before .before .before .before .before .before .before .before .before .before .before .before .before .before .before .before .before .before .before .pre .0) (c .before .before .before .before .before .before .before .before .before .before .before .before .before .before .before .decide .result) (d .0) (omega arith, omega arith, omega arith, omega arith) in
-    wrote-then (c .before .before .before .before .before .before .list-states .ensures (planIn T) tells) (rw counts at (c .before .before .put-tally .ensures))
+    wrote-then (c .before .before .before .before .before .before .list-states .ensures (planIn T) listed) (rw counts at (c .before .before .put-tally .ensures))
 
 pub list-verdicts-spec : {M : Type 1} → statement M
 list-verdicts-spec = tie.close (tie.spec slice-aggregate-decide slice-aggregate-decide-2 slice-aggregate-decide-3 slice-aggregate-decide-4 decide-requires slice-aggregate-list-states slice-aggregate-list-states-2 slice-aggregate-list-states-3 list-states-requires put-tally-requires same-length returns)
