@@ -27,9 +27,13 @@ test: tools c-test compare list-test
 	python3 -B tools/rows --check
 	rt ci
 
-# The listing program on every example.
+# The listing program on every example; then on zero bytes, refused past the limit (8), at the limit by their first tag (3), and where there are none (1).
 list-test: target/bin/list
 	for p in examples/*.plan; do target/bin/list <$$p | cmp - $${p%.plan}.listing || exit 1; done
+	for c in 65537:8 65536:3 0:1; do \
+	    echo "refused $${c#*:}" >target/refused; \
+	    head -c $${c%:*} /dev/zero | target/bin/list | cmp - target/refused || { echo "list-test: $${c%:*} zero bytes" >&2; exit 1; }; \
+	done
 
 # What the tests need beside the Rattle kit.
 tools:
