@@ -23,20 +23,12 @@ use Rattle.model.specs.Calls.{left, reading, deciding, searching, rankTa
 use Rattle.model.specs.Boundary.{entriesIn, rowsIn, rowEntries, tablesIn, gateRead, code}
 use Rattle.model.specs.Bench.{oneRest}
 use Rattle.model.specs.Listing.{digitPair, digitPairs, pairAt, digits, decimal}
+use Rattle.model.proofs.CasePlans.{acting, rest, failed, planned}
 
 -- ---- verdicts: ranks, commands and marks
 
-abbrev acting : ℕ → List (List ℕ) → State
-acting policy commands = record { kind = 0; policy = policy; commands = commands }
-
-abbrev rest : State
-rest = record { kind = 2; policy = FFFF; commands = [] }
-
-abbrev failed : State
-failed = record { kind = 1; policy = FFFF; commands = [] }
-
 abbrev verdicts : List State → List (List ℕ)
-verdicts ss = let P = planOf (record { start = 0; states = ss }) in rankTable P ∷ commandTable P ∷ markTable P ∷ []
+verdicts ss = let P = planned ss in rankTable P ∷ commandTable P ∷ markTable P ∷ []
 
 -- Of two commands without a lost outcome the lower is chosen, and the practice before both. A ring of three that holds; the same
 -- ring with a leak, of which no state is safe. A fault whose practice holds: it steps to a lost state where the practice is none.
@@ -57,7 +49,7 @@ verdict-examples = refl
 -- ---- the search: verdict, rounds and commands, from a start
 
 abbrev searched : List State → ℕ → List ℕ
-searched ss a = let R = search (planOf (record { start = 0; states = ss })) a in cond (R .lost) 1 0 ∷ R .rounds ∷ resultTable (length ss) R
+searched ss a = let R = search (planned ss) a in cond (R .lost) 1 0 ∷ R .rounds ∷ resultTable (length ss) R
 
 -- The leaking ring of three is lost from each of its places, after 3, 2 and 1 rounds; the one that holds is safe after one round.
 -- A failing start, a rest start and a start without commands take no round.

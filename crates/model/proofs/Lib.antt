@@ -40,7 +40,11 @@ pub mod RoundTrips
 pub mod ReadPlans
 pub mod Delivered
 pub mod Bench
+pub mod CasePlans
 pub mod BenchCases
+pub mod SearchCases
+pub mod ValueCases
+pub mod ListingCases
 pub mod Decimals
 pub mod ListingLength
 pub mod BoundaryCases

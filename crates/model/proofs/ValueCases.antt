@@ -1,0 +1,27 @@
+-- Source 000's value equation, computed.
+use mathlib.Core.Path.{_≡_, refl}
+use mathlib.Core.List.{List, [], _∷_, map}
+use Prim.Native.Nat.{_+_}
+use Rattle.laws.specs.Sets.{any, every, orElse, lowest, found, grow}
+use Rattle.laws.specs.Lists.{tabulate}
+use Rattle.laws.specs.Entry.{FFFF}
+use Rattle.model.specs.Plan.{Plan, ordinary, failing, active}
+use Rattle.model.specs.Verdict.{hits, forced, rank, lost}
+use Rattle.model.specs.Value.{successors, maximum, minimum, backup, value}
+use Rattle.model.specs.Held.{stateOf, planOf}
+use Rattle.model.proofs.CasePlans.{acting, rest, failed, planned}
+
+-- 0 with {0,3} and {1,2}; 1 rest; 2 failing; 3 without commands
+abbrev four : Plan
+four = planned (acting FFFF ((0 ∷ 3 ∷ []) ∷ (1 ∷ 2 ∷ []) ∷ []) ∷ rest ∷ failed ∷ acting FFFF [] ∷ [])
+
+-- With V(s) = 10 + s: at 0 the least of the largest, min (max 10 13) (max 11 12) (the largest of the least is 11, the least of all 10,
+-- the largest 13); at 2, which fails, 1; at 1 and 3 the state's own, by the self-loop, not a least of nothing.
+backups : map (backup four (λ s. 10 + s)) (0 ∷ 1 ∷ 2 ∷ 3 ∷ []) ≡ 12 ∷ 11 ∷ 1 ∷ 13 ∷ []
+unfolding tabulate ordinary failing active stateOf planOf successors maximum minimum backup
+backups = refl
+
+-- 1 is lost, 0 safe
+values : map (value four) (0 ∷ 1 ∷ 2 ∷ 3 ∷ []) ≡ 0 ∷ 0 ∷ 1 ∷ 0 ∷ []
+unfolding any every orElse lowest found grow ordinary failing active hits forced rank lost stateOf planOf value
+values = refl
