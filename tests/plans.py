@@ -28,6 +28,11 @@ def ladder(k):
     return Plan([State(0, [[i + 1], [i + 1, i + 2]]) for i in range(k)] + [failing(), failing()])
 
 
+def late():
+    """Three rounds from 0. A search that knew its marks before the round's end would take two: 2 is marked before 3 is walked."""
+    return Plan([State(0, [[1, 2, 3], [1, 3]]), State(0, [[2]]), State(0, [[4]]), State(0, [[2]]), failing()])
+
+
 def scattered(seed, n, commands, outcomes, kinds=(8, 1, 1)):
     """A random plan; the same for the same seed."""
     r = random.Random(seed)
@@ -57,6 +62,7 @@ def shapes():
     yield ring(5, 3, 0)
     yield chain(9)
     yield ladder(7)
+    yield late()
     for seed in range(40):
         yield scattered(seed, 2 + seed % 12, 3, 3)
     for seed in range(40, 50):
