@@ -42,6 +42,7 @@ pub mod Delivered
 pub mod Bench
 pub mod CasePlans
 pub mod BenchCases
+pub mod BenchRounds
 pub mod SearchCases
 pub mod ValueCases
 pub mod ListingCases
