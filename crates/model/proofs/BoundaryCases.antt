@@ -1,4 +1,5 @@
--- Case A through the three calls of the C program, byte by byte: what each returns, and what it leaves in slices that are one byte too long.
+-- The three calls of the C program, byte by byte. Case A: what each returns, and what it leaves in slices that are one byte too long.
+-- Then a lost start, slices one byte short, and the order of the refusals.
 use mathlib.Core.Path.{_≡_, refl}
 use mathlib.Core.List.{List, [], _∷_, _++_}
 use Prim.Native.Nat.{ℕ}
@@ -12,9 +13,9 @@ use Rattle.model.specs.Verdict.{hits, forced, rank, lost, safe}
 use Rattle.model.specs.Command.{tryOrder, choice, chosen}
 use Rattle.model.specs.Policy.{policyHits, policyFails, fault, mark, tallyRow, tally}
 use Rattle.model.specs.Search.{lands, next, marked, withoutMarks, ends, before, atOnce, inRounds, search}
-use Rattle.model.specs.Refusal.{answer, _>>=_, need, _>>_}
+use Rattle.model.specs.Refusal.{Answer, answer, _>>=_, need, _>>_}
 use Rattle.model.specs.File.{field, head, state, entries, rising, command, commands, states, read}
-use Rattle.model.specs.Tables.{allCommands, rowsFrom, firstsFrom, tablesOf}
+use Rattle.model.specs.Tables.{Tables, allCommands, rowsFrom, firstsFrom, tablesOf}
 use Rattle.model.specs.Places.{rowAt, firstCommand, firstOutcome, commandCount, outcomesAt}
 use Rattle.model.specs.SoundTest.{sizeSound, tablesLong, rowSound, risesAt, commandSound, outcomeSound, sound}
 use Rattle.model.specs.Held.{stateAt, treeOf, stateOf, planOf, planIn}
@@ -67,3 +68,50 @@ case-a-length = refl
 -- "One rest state (18 bytes)"
 one-rest-length : length oneRest ≡ 18
 one-rest-length = refl
+
+-- ---- a lost start
+
+-- 0 to {1}, 1 to {2}, 2 failing
+abbrev chainIn : Answer Tables
+chainIn = tablesIn (0 ∷ 3 ∷ 0 ∷ 2 ∷ 0 ∷ 2 ∷ 0 ∷ 0 ∷ []) (0 ∷ 0 ∷ 0 ∷ 0 ∷ 255 ∷ 255 ∷ 0 ∷ 0 ∷ 0 ∷ 1 ∷ 255 ∷ 255 ∷ 0 ∷ 1 ∷ 0 ∷ 2 ∷ 255 ∷ 255 ∷ []) (0 ∷ 0 ∷ 0 ∷ 1 ∷ []) (0 ∷ 1 ∷ 0 ∷ 2 ∷ [])
+
+-- lost is 1, and the rounds come after it; safe and 0 rounds would be the same bytes in either order
+lost-search : gateSearchCall chainIn 0 (lent 6) (lent 6) (lent 4)
+    ≡ record { returns = 0; commands = replicate 6 255; scratch = replicate 6 0; answer = 0 ∷ 1 ∷ 0 ∷ 2 ∷ [] }
+unfolding any first every exists orElse lowest found grow tabulate overwrite entry ordinary failing active terminal hasPolicy hits tryOrder choice lands next marked withoutMarks ends before atOnce inRounds search _>>=_ need _>>_ rowAt firstCommand firstOutcome commandCount outcomesAt sizeSound tablesLong rowSound risesAt commandSound outcomeSound sound stateAt treeOf stateOf planOf planIn rowsIn entriesIn entries tablesIn left searching resultTable cleared code gateSearch resultEntries twos
+lost-search = refl
+
+-- ---- lengths in bytes: each slice just long enough, then in turn a byte less
+
+read-lengths : code (gateRead caseA 8 36 12 18) ∷ code (gateRead caseA 7 36 12 18) ∷ code (gateRead caseA 8 35 12 18) ∷ code (gateRead caseA 8 36 11 18) ∷ code (gateRead caseA 8 36 12 17) ∷ []
+    ≡ 0 ∷ 9 ∷ 9 ∷ 9 ∷ 9 ∷ []
+unfolding code gateRead reading _>>=_ need _>>_ read head field states state commands command rising entries allCommands rowsFrom firstsFrom tablesOf joined
+read-lengths = refl
+
+-- one rest state
+abbrev restIn : Answer Tables
+restIn = tablesIn (0 ∷ 1 ∷ 0 ∷ 0 ∷ 0 ∷ 0 ∷ 0 ∷ 0 ∷ []) (0 ∷ 2 ∷ 0 ∷ 0 ∷ 255 ∷ 255 ∷ []) [] []
+
+decide-lengths : code (gateDecide restIn 2 2 2 2 12) ∷ code (gateDecide restIn 1 2 2 2 12) ∷ code (gateDecide restIn 2 1 2 2 12) ∷ code (gateDecide restIn 2 2 1 2 12) ∷ code (gateDecide restIn 2 2 2 1 12) ∷ code (gateDecide restIn 2 2 2 2 11) ∷ []
+    ≡ 0 ∷ 9 ∷ 9 ∷ 9 ∷ 9 ∷ 9 ∷ []
+unfolding every _>>=_ need _>>_ rowAt firstCommand firstOutcome commandCount sizeSound tablesLong rowSound risesAt commandSound outcomeSound sound rowsIn entriesIn entries tablesIn deciding code gateDecide
+decide-lengths = refl
+
+search-lengths : code (gateSearch restIn 0 2 2 4) ∷ code (gateSearch restIn 0 1 2 4) ∷ code (gateSearch restIn 0 2 1 4) ∷ code (gateSearch restIn 0 2 2 3) ∷ []
+    ≡ 0 ∷ 9 ∷ 9 ∷ 9 ∷ []
+unfolding every _>>=_ need _>>_ rowAt firstCommand firstOutcome commandCount sizeSound tablesLong rowSound risesAt commandSound outcomeSound sound rowsIn entriesIn entries tablesIn searching code gateSearch
+search-lengths = refl
+
+-- ---- the order of refusals
+
+-- a size record one byte short before an answer one byte short, of deciding and of the search with a stranger; a stranger before an answer one byte short
+gate-order : code (gateDecide (tablesIn (lent 7) [] [] []) 2 2 2 2 11) ∷ code (gateSearch (tablesIn (lent 7) [] [] []) 1 2 2 3) ∷ code (gateSearch restIn 1 2 2 3) ∷ []
+    ≡ 10 ∷ 10 ∷ 11 ∷ []
+unfolding every _>>=_ need _>>_ rowAt firstCommand firstOutcome commandCount sizeSound tablesLong rowSound risesAt commandSound outcomeSound sound rowsIn entriesIn entries tablesIn searching code gateDecide gateSearch
+gate-order = refl
+
+-- with room for all but the tally, deciding writes no table
+gate-refused : gateDecideCall restIn (lent 2) (lent 2) (lent 2) (lent 2) (lent 11)
+    ≡ record { returns = 9; ranks = lent 2; commands = lent 2; marks = lent 2; scratch = lent 2; tally = lent 11 }
+unfolding every _>>=_ need _>>_ rowAt firstCommand firstOutcome commandCount sizeSound tablesLong rowSound risesAt commandSound outcomeSound sound rowsIn entriesIn entries tablesIn left deciding code gateDecide
+gate-refused = refl

@@ -46,6 +46,10 @@ pub mod BenchRounds
 pub mod SearchCases
 pub mod ValueCases
 pub mod ListingCases
+pub mod FileCases
+pub mod CallCases
+pub mod PolicyCases
+pub mod RunCases
 pub mod Decimals
 pub mod ListingLength
 pub mod BoundaryCases
