@@ -75,7 +75,7 @@ one-rest-length = refl
 abbrev chainIn : Answer Tables
 chainIn = tablesIn (0 ∷ 3 ∷ 0 ∷ 2 ∷ 0 ∷ 2 ∷ 0 ∷ 0 ∷ []) (0 ∷ 0 ∷ 0 ∷ 0 ∷ 255 ∷ 255 ∷ 0 ∷ 0 ∷ 0 ∷ 1 ∷ 255 ∷ 255 ∷ 0 ∷ 1 ∷ 0 ∷ 2 ∷ 255 ∷ 255 ∷ []) (0 ∷ 0 ∷ 0 ∷ 1 ∷ []) (0 ∷ 1 ∷ 0 ∷ 2 ∷ [])
 
--- lost is 1, and the rounds come after it; safe and 0 rounds would be the same bytes in either order
+-- lost is 1 (case A is safe), and no command is left in the table
 lost-search : gateSearchCall chainIn 0 (lent 6) (lent 6) (lent 4)
     ≡ record { returns = 0; commands = replicate 6 255; scratch = replicate 6 0; answer = 0 ∷ 1 ∷ 0 ∷ 2 ∷ [] }
 unfolding any first every exists orElse lowest found grow tabulate overwrite entry ordinary failing active terminal hasPolicy hits tryOrder choice lands next marked withoutMarks ends before atOnce inRounds search _>>=_ need _>>_ rowAt firstCommand firstOutcome commandCount outcomesAt sizeSound tablesLong rowSound risesAt commandSound outcomeSound sound stateAt treeOf stateOf planOf planIn rowsIn entriesIn entries tablesIn left searching resultTable cleared code gateSearch resultEntries twos

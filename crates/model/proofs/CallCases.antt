@@ -33,7 +33,7 @@ read-refused : readCall (toItself ++ 0 ∷ []) (seven ∷ []) (7 ∷ []) (7 ∷ 
 unfolding answer left reading read head field states state commands command entries rising _>>=_ need _>>_
 read-refused = refl
 
--- the same plan in tables with more in them than their counts, of n states
+-- the same plan, in tables with more in them than their counts
 abbrev tables : Tables
 tables = record { size = record { n = 1; m = 1; t = 1; start = 0 }; rows = own ∷ seven ∷ []; firsts = 0 ∷ 7 ∷ []; outcomes = 0 ∷ 7 ∷ [] }
 
@@ -52,3 +52,8 @@ write-unsound : writeCall (record { size = record { n = 1; m = 1; t = 1; start =
     ≡ record { answers = refused Unsound; bytes = [] }
 unfolding answer left writing sizeSound sound need _>>_
 write-unsound = refl
+
+-- "A file has 10 + 8n + 3m + 2t bytes.": case A, with its three counts 6, 6 and 9
+case-a-size : fileLength (record { n = 6; m = 6; t = 9; start = 0 }) ≡ 94
+unfolding fileLength
+case-a-size = refl
