@@ -29,7 +29,7 @@ def ladder(k):
 
 
 def late():
-    """Three rounds from 0. A search that knew its marks before the round's end would take two: 2 is marked before 3 is walked."""
+    """Three rounds from 0. A search that knew its marks before the round's end would take two: 1 or 3 is walked after 2 is marked."""
     return Plan([State(0, [[1, 2, 3], [1, 3]]), State(0, [[2]]), State(0, [[4]]), State(0, [[2]]), failing()])
 
 
