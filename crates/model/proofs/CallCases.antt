@@ -5,6 +5,7 @@ use lib.ListN.{replicate}
 use Rattle.laws.specs.Sets.{every}
 use Rattle.laws.specs.Lists.{tabulate, joined, overwrite}
 use Rattle.laws.specs.Entry.{FFFF, twos}
+use Rattle.laws.specs.Starts.{startOf}
 use Rattle.model.specs.Refusal.{Surplus, Cramped, Unsound, given, refused, answer, _>>=_, need, _>>_}
 use Rattle.model.specs.File.{field, head, state, entries, rising, command, commands, states, read}
 use Rattle.model.specs.Bytes.{commandsBytes, statesBytes, bytesOf}
@@ -39,12 +40,12 @@ tables = record { size = record { n = 1; m = 1; t = 1; start = 0 }; rows = own �
 
 -- 10 + 8 + 3 + 2 bytes, with a byte to spare: the length is answered, nothing past the counts is written
 write-example : writeCall tables (replicate 24 7) ≡ record { answers = given 23; bytes = toItself ++ 7 ∷ [] }
-unfolding every answer left overwrite twos tabulate writing commandsBytes statesBytes bytesOf fileLength rowAt firstCommand firstOutcome commandCount outcomesAt sizeSound tablesLong rowSound risesAt commandSound outcomeSound sound stateAt treeOf need _>>_
+unfolding every answer left overwrite twos tabulate writing commandsBytes statesBytes bytesOf fileLength rowAt firstCommand commandCount outcomesAt sizeSound tablesLong rowSound risesAt commandSound outcomeSound sound stateAt treeOf need _>>_ startOf
 write-example = refl
 
 -- a byte too few
 write-cramped : writeCall tables (replicate 22 7) ≡ record { answers = refused Cramped; bytes = replicate 22 7 }
-unfolding every answer left writing fileLength rowAt firstCommand firstOutcome commandCount sizeSound tablesLong rowSound risesAt commandSound outcomeSound sound need _>>_
+unfolding every answer left writing fileLength rowAt firstCommand commandCount sizeSound tablesLong rowSound risesAt commandSound outcomeSound sound need _>>_ startOf
 write-cramped = refl
 
 -- a start that is no state, and no byte: unsound before cramped

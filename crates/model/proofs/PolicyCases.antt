@@ -7,7 +7,7 @@ use Rattle.laws.specs.Sets.{any, every, orElse, lowest, found, grow}
 use Rattle.laws.specs.Lists.{tabulate}
 use Rattle.model.specs.Plan.{ordinary, failing, active, hasPolicy}
 use Rattle.model.specs.Verdict.{hits, forced, rank, lost, safe}
-use Rattle.model.specs.Policy.{followed, risks, policyFails, bug, fault}
+use Rattle.model.specs.Policy.{followed, policyHits, policyFails, bug, fault}
 use Rattle.model.specs.Refusal.{given, answer, _>>=_, need, _>>_}
 use Rattle.model.specs.File.{field, head, state, entries, rising, command, commands, states, read}
 use Rattle.model.specs.Held.{stateOf, planOf}
@@ -17,7 +17,7 @@ use Rattle.model.specs.Bench.{caseA}
 -- The practice also fails from 3 and 4, which are lost.
 case-a-bugs : answer (λ p. tabulate (bug (planOf p)) 0 6 ∷ tabulate (fault (planOf p)) 0 6 ∷ tabulate (policyFails (planOf p)) 0 6 ∷ []) (read caseA)
     ≡ given ((true ∷ true ∷ false ∷ false ∷ false ∷ false ∷ []) ∷ (true ∷ false ∷ false ∷ false ∷ false ∷ false ∷ []) ∷ (true ∷ true ∷ false ∷ true ∷ true ∷ false ∷ []) ∷ [])
-unfolding any every orElse lowest found grow tabulate ordinary failing active hasPolicy hits forced rank lost safe risks policyFails bug fault answer _>>=_ need _>>_ field head state entries rising command commands states read stateOf planOf
+unfolding any every orElse lowest found grow tabulate ordinary failing active hasPolicy hits forced rank lost safe policyHits policyFails bug fault answer _>>=_ need _>>_ field head state entries rising command commands states read stateOf planOf
 case-a-bugs = refl
 
 -- the practice as a rule: none where the file has FFFF, not command 65,535

@@ -8,7 +8,7 @@ use native.Mathlib.Omega.{arith}
 use Rattle.laws.specs.Entry.{FFFF, fromEntry}
 use Rattle.laws.proofs.Tests.{clash}
 use Rattle.model.specs.Plan.{Plan, ordinary, failing}
-use Rattle.model.specs.Run.{Move, Run, still, _▸_, present, moves, CanMove, IsRun, RunFails, RunHolds}
+use Rattle.model.specs.Run.{Move, Run, noMoves, _▸_, present, moves, CanMove, IsRun, RunFails, RunHolds}
 use Rattle.model.specs.Strategy.{Strategy, Under}
 use Rattle.model.specs.Demand3.{readEntry}
 use Rattle.model.specs.Held.{stateOf, planOf}
@@ -23,13 +23,13 @@ move c x = record { command = c; landing = x }
 
 -- from 0 to 0 and to rest; from 0 to 0 and into failure
 abbrev resting : Run
-resting = still ▸ move 0 0 ▸ move 1 2
+resting = noMoves ▸ move 0 0 ▸ move 1 2
 
 abbrev falling : Run
-falling = still ▸ move 0 0 ▸ move 0 1
+falling = noMoves ▸ move 0 0 ▸ move 0 1
 
 -- the last landing, not the first; each move counted once
-ends-of-runs : present 0 resting ∷ present 0 falling ∷ present 5 still ∷ moves resting ∷ moves still ∷ [] ≡ 2 ∷ 1 ∷ 5 ∷ 2 ∷ 0 ∷ []
+ends-of-runs : present 0 resting ∷ present 0 falling ∷ present 5 noMoves ∷ moves resting ∷ moves noMoves ∷ [] ≡ 2 ∷ 1 ∷ 5 ∷ 2 ∷ 0 ∷ []
 unfolding present
 ends-of-runs = refl
 
@@ -60,7 +60,7 @@ no-such-landing c = ⊎-elim (λ q. omega (arith, q)) List·Memᴰ·not-nil (Lis
 
 -- a rule that remembers: command 0 first, then 1
 abbrev turning : Strategy
-turning still = some 0
+turning noMoves = some 0
 turning (w ▸ m) = some 1
 
 -- It is asked before each move, of the moves so far: the run that falls issues command 0 twice. At 0 it names both commands, in turn.
