@@ -7,7 +7,7 @@ use Prim.Native.Nat.{ℕ, _+_, _<_, _≤_}
 use native.Mathlib.Omega.{arith}
 use lib.Dec.{eqb}
 use lib.ListN.{length, set}
-use borrow.Author.Tests.{not-true, not-false, eq-eqb, ne-eqb, ltb-true}
+use borrow.Author.Tests.{not-true, not-false, ltb-true}
 use Rattle.laws.specs.Entry.{FFFF}
 use Rattle.laws.proofs.Tests.{true-or-false}
 use Rattle.laws.proofs.Fills.{filled-none, filled-next}

@@ -1,12 +1,11 @@
 -- The plan's steps on sets that agree below n, and its commands' outcomes as the propagation reads them.
-use mathlib.Core.Path.{_≡_, sym, ap, _∙_}
+use mathlib.Core.Path.{_≡_, sym, _∙_}
 use mathlib.Core.Bool.{Bool, true}
 use mathlib.Core.Logic.{⊎-elim}
 use mathlib.Core.List.{List}
 use Prim.Native.Nat.{ℕ, _+_, _<_}
 use lib.Dec.{ltb}
 use borrow.Author.Tests.{ltb-true}
-use Rattle.laws.specs.Sets.{any}
 use Rattle.laws.proofs.Agree.{Agree, any-same}
 use Rattle.laws.proofs.Tests.{true-or-false}
 use Rattle.model.specs.Plan.{hasPolicy}

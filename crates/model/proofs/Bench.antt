@@ -13,7 +13,7 @@ use Rattle.model.specs.Search.{lands, next, marked, withoutMarks, ends, 
 use Rattle.model.specs.Refusal.{_>>=_, need, _>>_}
 use Rattle.model.specs.File.{field, head, state, entries, rising, command, commands, states, read}
 use Rattle.model.specs.Tables.{allCommands, rowsFrom, firstsFrom, tablesOf}
-use Rattle.model.specs.Places.{rowAt, firstCommand, firstOutcome, commandCount, outcomesAt}
+use Rattle.model.specs.Places.{rowAt, firstCommand, commandCount, outcomesAt}
 use Rattle.model.specs.SoundTest.{sizeSound, tablesLong, rowSound, risesAt, commandSound, outcomeSound, sound}
 use Rattle.model.specs.Held.{stateAt, treeOf, stateOf, planOf, planIn}
 use Rattle.model.specs.Calls.{reading, deciding, searching, rankTable, commandTable, markTable}

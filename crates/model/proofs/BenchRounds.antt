@@ -2,7 +2,7 @@
 -- (document 01, "Search from one start"; its wrong turn of "adding marks to the known set during a round, which alters the count").
 use mathlib.Core.Path.{_≡_, refl}
 use mathlib.Core.Bool.{true, false}
-use mathlib.Core.List.{List, [], _∷_, map}
+use mathlib.Core.List.{[], _∷_, map}
 use Rattle.laws.specs.Sets.{any, first, every, exists, orElse, lowest, found, grow}
 use Rattle.laws.specs.Lists.{tabulate}
 use Rattle.laws.specs.Entry.{FFFF}

@@ -1,6 +1,6 @@
 -- Reading and writing as calls, computed: what is answered, and every lent table afterwards.
 use mathlib.Core.Path.{_≡_, refl}
-use mathlib.Core.List.{List, [], _∷_, _++_}
+use mathlib.Core.List.{[], _∷_, _++_}
 use lib.ListN.{replicate}
 use Rattle.laws.specs.Sets.{every}
 use Rattle.laws.specs.Lists.{tabulate, joined, overwrite}
@@ -10,7 +10,7 @@ use Rattle.model.specs.Refusal.{Surplus, Cramped, Unsound, given, refuse
 use Rattle.model.specs.File.{field, head, state, entries, rising, command, commands, states, read}
 use Rattle.model.specs.Bytes.{commandsBytes, statesBytes, bytesOf}
 use Rattle.model.specs.Tables.{Row, Tables, allCommands, rowsFrom, firstsFrom, tablesOf, fileLength}
-use Rattle.model.specs.Places.{rowAt, firstCommand, firstOutcome, commandCount, outcomesAt}
+use Rattle.model.specs.Places.{rowAt, firstCommand, commandCount, outcomesAt}
 use Rattle.model.specs.SoundTest.{sizeSound, tablesLong, rowSound, risesAt, commandSound, outcomeSound, sound}
 use Rattle.model.specs.Held.{stateAt, treeOf}
 use Rattle.model.specs.Calls.{left, reading, writing, readCall, writeCall}

@@ -2,9 +2,9 @@
 use mathlib.Core.Path.{_≡_, refl}
 use mathlib.Core.List.{List, [], _∷_, _++_, map}
 use Prim.Native.Nat.{ℕ}
-use lib.ListN.{length, replicate}
+use lib.ListN.{replicate}
 use Rattle.laws.specs.Lists.{tabulate}
-use Rattle.model.specs.Refusal.{Cut, Limit, Stranger, _>>=_, need, _>>_}
+use Rattle.model.specs.Refusal.{Cut, Stranger, _>>=_, need, _>>_}
 use Rattle.model.specs.File.{field, head, read}
 use Rattle.model.specs.Listing.{digitPair, digitPairs, pairAt, digits, decimal, line, refusalText, answerText, listing}
 

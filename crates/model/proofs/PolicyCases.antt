@@ -1,7 +1,7 @@
 -- The practice of case A, computed.
 use mathlib.Core.Path.{_≡_, refl}
 use mathlib.Core.Bool.{true, false}
-use mathlib.Core.List.{List, [], _∷_}
+use mathlib.Core.List.{[], _∷_}
 use mathlib.Core.Option.{none, some}
 use Rattle.laws.specs.Sets.{any, every, orElse, lowest, found, grow}
 use Rattle.laws.specs.Lists.{tabulate}

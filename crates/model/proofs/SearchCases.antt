@@ -1,7 +1,7 @@
 -- The search, computed: what the last walk reaches, and the bound on the rounds.
 use mathlib.Core.Path.{_≡_, refl}
 use mathlib.Core.Bool.{true, false}
-use mathlib.Core.List.{List, [], _∷_, map}
+use mathlib.Core.List.{[], _∷_, map}
 use Rattle.laws.specs.Sets.{any, first, every, exists, orElse, lowest, found, howMany, grow}
 use Rattle.laws.specs.Lists.{tabulate}
 use Rattle.model.specs.Plan.{ordinary, failing, active, terminal, hasPolicy}

@@ -1,6 +1,6 @@
 -- Source 000's value equation, computed.
 use mathlib.Core.Path.{_≡_, refl}
-use mathlib.Core.List.{List, [], _∷_, map}
+use mathlib.Core.List.{[], _∷_, map}
 use Prim.Native.Nat.{_+_}
 use Rattle.laws.specs.Sets.{any, every, orElse, lowest, found, grow}
 use Rattle.laws.specs.Lists.{tabulate}

@@ -1,16 +1,13 @@
 -- What the answers of reading stand for.
 use mathlib.Core.Path.{_≡_}
-use mathlib.Core.Bool.{Bool, _&&_}
 use mathlib.Core.List.{List, []}
 use Prim.Native.Nat.{ℕ, _+_, _*_, _≤_}
-use lib.Dec.{leb}
 use lib.ListN.{length, drop}
 use Rattle.laws.specs.Lists.{joined}
 use Rattle.model.specs.Refusal.{Answer, given, refused}
 use Rattle.model.specs.File.{State, Tree, maxCommands, maxOutcomes}
 use Rattle.model.specs.Tables.{Size as ModelSize, Tables, allCommands, tablesOf}
 use Rattle.model.specs.Calls.{reading}
-use Rattle.tables.specs.declared.Size.{Size}
 use Rattle.tables.specs.declared.Row.{Row}
 use Rattle.tables.specs.Meaning.{refusalOf, numbers}
 use Rattle.reading.specs.declared.ReadAnswer.{ReadAnswer}

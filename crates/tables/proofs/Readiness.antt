@@ -4,7 +4,6 @@ use mathlib.Core.Bool.{true}
 use mathlib.Core.List.{List}
 use Prim.Native.Nat.{ℕ, suc, _<_, _≤_}
 use native.Mathlib.Nat.{le-of-lt}
-use Rattle.laws.specs.Starts.{startOf}
 use Rattle.laws.proofs.Starts.{start-le}
 use Rattle.model.specs.Tables.{Tables}
 use Rattle.model.specs.Places.{firstOutcome}

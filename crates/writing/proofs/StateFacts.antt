@@ -19,7 +19,7 @@ use Rattle.model.specs.File.{notIdle, maxCommands}
 use Rattle.model.specs.Bytes.{commandsBytes, statesBytes}
 use Rattle.model.specs.SoundTest.{sound}
 use Rattle.model.specs.Tables.{Tables}
-use Rattle.model.specs.Places.{rowAt, firstCommand, firstOutcome, commandCount, outcomesAt}
+use Rattle.model.specs.Places.{rowAt, firstCommand, commandCount, outcomesAt}
 use Rattle.model.specs.Held.{stateAt}
 use Rattle.model.proofs.SoundFacts.{Fits, RowFits, sound-facts}
 use Rattle.tables.specs.declared.Row.{Row}
