@@ -4,8 +4,9 @@
 # make c-test    the C library's tests and example
 # make compare   hold the C library to a planner of its own, in Rust, byte for byte over COUNT inputs made from SEED
 # make bench     time the two beside each other
+# make rows      check that every machine-made proof file is what tools/rows makes (some minutes)
 
-.PHONY: run test tools list-test lib c-test compare bench
+.PHONY: run test tools list-test lib c-test compare bench rows
 .SILENT:
 
 PLAN = examples/case-a.plan
@@ -24,7 +25,7 @@ target/bin/list: $(SOURCES)
 test: tools c-test compare list-test
 	cd tests && python3 -B bench_plans.py --check && python3 -B examples.py --check
 	rt fmt --check
-	python3 -B tools/rows --check
+	python3 -B tools/rows --check tables load store
 	rt ci
 
 # The listing program on every example; then on zero bytes, refused past the limit (8), at the limit by their first tag (3), and where there are none (1).
@@ -77,3 +78,6 @@ compare: tools $(LIB)
 
 bench: tools $(LIB)
 	cd compare && cargo run --release --offline --locked --quiet -- bench
+
+rows: tools
+	python3 -B tools/rows --check
