@@ -2,6 +2,7 @@
 // deciding and the search answer. Before a file stand its length and how many rows, first outcomes and outcomes are lent for it, two bytes
 // each, highest first.
 ghost use Prim.Native.Nat.{_≤_};
+ghost use Rattle.model.specs.File.{maxStates, maxCommands, maxOutcomes};
 use crate::files::print_size;
 use crate::files::write_again;
 use crate::numbers::least;
@@ -10,6 +11,7 @@ use crate::print::print_refusal;
 use crate::verdicts::try_plan;
 use reading::ReadAnswer;
 use tables::Row;
+use tables::Size;
 
 mod files;
 mod numbers;
@@ -32,15 +34,15 @@ pub fn try_file(file: &[u8], rows: &mut [Row], firsts: &mut [u16], outcomes: &mu
 
 // Lends as many places as are asked for.
 fn lend(file: &[u8], rows: usize, firsts: usize, outcomes: usize)
-    requires { ⌜ (rows ≤ 1024) × (firsts ≤ 4096) × (outcomes ≤ 16384) ⌝ }
+    requires { ⌜ (rows ≤ maxStates) × (firsts ≤ maxCommands) × (outcomes ≤ maxOutcomes) ⌝ }
 {
     let mut row_table = [Row {
         kind: 0,
         first: 0,
         practice: 0,
-    }; 1024];
-    let mut first_table = [0u16; 4096];
-    let mut outcome_table = [0u16; 16384];
+    }; Size::STATES];
+    let mut first_table = [0u16; Size::COMMANDS];
+    let mut outcome_table = [0u16; Size::OUTCOMES];
     try_file(
         file,
         &mut row_table[..rows],
@@ -61,9 +63,9 @@ fn cases(input: &[u8]) {
         let end = 8 + length;
         lend(
             &rest[8..end],
-            least(number(rest, 2), 1024),
-            least(number(rest, 4), 4096),
-            least(number(rest, 6), 16384),
+            least(number(rest, 2), Size::STATES),
+            least(number(rest, 4), Size::COMMANDS),
+            least(number(rest, 6), Size::OUTCOMES),
         );
         at = at + end;
     }

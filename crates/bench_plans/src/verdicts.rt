@@ -90,10 +90,10 @@ fn print_decision(d: Decision, n: usize, ranks: &[u16], commands: &[u16], marks:
 }
 
 pub fn try_plan(size: Size, rows: &[Row], firsts: &[u16], outcomes: &[u16]) {
-    let mut ranks = [0u16; 1024];
-    let mut commands = [0u16; 1024];
-    let mut marks = [0u16; 1024];
-    let mut scratch = [0u16; 1024];
+    let mut ranks = [0u16; Size::STATES];
+    let mut commands = [0u16; Size::STATES];
+    let mut marks = [0u16; Size::STATES];
+    let mut scratch = [0u16; Size::STATES];
     let d = decide::decide(
         size,
         rows,
