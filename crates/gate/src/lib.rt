@@ -17,7 +17,7 @@ pub extern "C" fn gate_read(
     ensures firsts { λ r. ⌜ now (firsts .exit) ≡ gateReadCall (now (file .entry)) (now (size .entry)) (now (rows .entry)) (now (firsts .entry)) (now (outcomes .entry)) .firsts ⌝ }
     ensures outcomes { λ r. ⌜ now (outcomes .exit) ≡ gateReadCall (now (file .entry)) (now (size .entry)) (now (rows .entry)) (now (firsts .entry)) (now (outcomes .entry)) .outcomes ⌝ }
 {
-    gate_reading::read_call(file, size, rows, firsts, outcomes)
+    gate_reading::internal::read_call(file, size, rows, firsts, outcomes)
 }
 
 // Decides a whole plan. Ruled out: a leaking ring called safe, and lack of room told as a verdict.
@@ -40,7 +40,7 @@ pub extern "C" fn gate_decide(
     ensures scratch { λ _. ⌜ now (scratch .exit) ≡ gateDecideCall (tablesIn (now (size .entry)) (now (rows .entry)) (now (firsts .entry)) (now (outcomes .entry))) (now (ranks .entry)) (now (commands .entry)) (now (marks .entry)) (now (scratch .entry)) (now (tally .entry)) .scratch ⌝ }
     ensures tally { λ _. ⌜ now (tally .exit) ≡ gateDecideCall (tablesIn (now (size .entry)) (now (rows .entry)) (now (firsts .entry)) (now (outcomes .entry))) (now (ranks .entry)) (now (commands .entry)) (now (marks .entry)) (now (scratch .entry)) (now (tally .entry)) .tally ⌝ }
 {
-    gate_deciding::deciding::decide_call(
+    gate_deciding::internal::decide_call(
         size,
         rows,
         firsts,
@@ -70,7 +70,7 @@ pub extern "C" fn gate_search(
     ensures scratch { λ _. ⌜ now (scratch .exit) ≡ gateSearchCall (tablesIn (now (size .entry)) (now (rows .entry)) (now (firsts .entry)) (now (outcomes .entry))) start (now (commands .entry)) (now (scratch .entry)) (now (answer .entry)) .scratch ⌝ }
     ensures answer { λ _. ⌜ now (answer .exit) ≡ gateSearchCall (tablesIn (now (size .entry)) (now (rows .entry)) (now (firsts .entry)) (now (outcomes .entry))) start (now (commands .entry)) (now (scratch .entry)) (now (answer .entry)) .answer ⌝ }
 {
-    gate_searching::searching::search_call(
+    gate_searching::internal::search_call(
         size,
         rows,
         firsts,

@@ -12,11 +12,11 @@ use Rattle.model.specs.Refusal.{Cramped, Unsound, Answer, given, answer, need, 
 use Rattle.model.specs.Tables.{Tables}
 use Rattle.model.specs.SoundTest.{sound}
 use Rattle.model.specs.Calls.{left, deciding, rankTable, commandTable, markTable, cleared}
-use Rattle.model.specs.Boundary.{bytesFor, tallyEntries, code, gateDecide}
+use Rattle.model.specs.Boundary.{bytesFor, tallyEntries, decideRoom, code, gateDecide}
 use Rattle.model.proofs.Answers.{given-inj, need-inv, answer-inv}
 use Rattle.model.proofs.HeldPlan.{states-held}
 use Rattle.model.proofs.Gates.{wholeDeciding, gate-decide, code-from, left-from}
-use Rattle.gate_deciding.specs.Delivery.{enough, room, delivery, Deliverable}
+use Rattle.gate_deciding.specs.Delivery.{delivery, Deliverable}
 
 -- what the call returns and leaves in the slices lent to it
 abbrev pub Says : Answer Plan → List ℕ → List ℕ → List ℕ → List ℕ → List ℕ → ℕ → List ℕ → List ℕ → List ℕ → List ℕ → List ℕ → Type 0
@@ -81,8 +81,7 @@ module _ (T : Tables) (v : Answer (List (List ℕ))) (says : v ≡ answer tally 
     abbrev call : Answer Plan
     call = gateDecide (given T) (length R) (length C) (length M) (length X) (length Y)
 
-    call-is : call ≡ (wholeDeciding T >>= λ P. need Cramped (room n (length R) (length C) (length M) (length X) (length Y)) >> given P)
-    unfolding room enough
+    call-is : call ≡ (wholeDeciding T >>= λ P. need Cramped (decideRoom n (length R) (length C) (length M) (length X) (length Y)) >> given P)
     call-is = gate-decide T (length R) (length C) (length M) (length X) (length Y)
 
     returns : code out ≡ code call

@@ -1,6 +1,6 @@
 -- What is stored of a decision, and where there is room for it.
 use mathlib.Core.Path.{_≡_, refl, sym, _∙_}
-use mathlib.Core.Bool.{true, false}
+use mathlib.Core.Bool.{Bool, true, false, not}
 use mathlib.Core.List.{List, [], _∷_, _++_}
 use Prim.Native.Nat.{ℕ, _*_, _≤_}
 use native.Mathlib.Omega.{arith}
@@ -8,16 +8,17 @@ use lib.ListN.{length, getD}
 use Rattle.laws.specs.Entry.{two, twos}
 use Rattle.laws.specs.Lists.{joined, overwrite}
 use Rattle.laws.specs.Writes.{putAll}
+use Rattle.laws.proofs.Loops.{passed}
 use Rattle.laws.proofs.TestFacts.{and-iff, leb-iff}
 use Rattle.laws.proofs.Writes.{put-then, put-front}
 use Rattle.model.specs.Refusal.{Cramped, given, refused, need, _>>=_, _>>_}
-use Rattle.model.specs.Boundary.{bytesFor}
+use Rattle.model.specs.Boundary.{bytesFor, decideRoom}
 use Rattle.tables.specs.declared.Refusal.{Refusal}
 use Rattle.tables.specs.Meaning.{refusalOf}
 use Rattle.decide.specs.declared.Decision.{Decision}
 use Rattle.decide.specs.declared.DecideAnswer.the-variants.{Given, Refused}
 use Rattle.decide.specs.Calls.{decisionOf}
-use Rattle.gate_deciding.specs.Delivery.{enough, room, delivery, Deliverable}
+use Rattle.gate_deciding.specs.Delivery.{delivery, Deliverable}
 
 -- a row of three counts, by its places
 three : (l : List ℕ) → length l ≡ 3 → l ≡ getD l 0 0 ∷ getD l 1 0 ∷ getD l 2 0 ∷ []
@@ -50,11 +51,11 @@ module _ (d : Decision) (n r c m x t : ℕ) where
   not-decided q e = rw e
 
   module _ (e : d .answer ≡ Given) where
-    pub cramped : room n r c m x t ≡ false → delivery (decisionOf d) n r c m x t ≡ refused Cramped
+    pub cramped : decideRoom n r c m x t ≡ false → delivery (decisionOf d) n r c m x t ≡ refused Cramped
     unfolding delivery need _>>_ _>>=_
     cramped h = rw (e, h)
 
-    pub delivered : room n r c m x t ≡ true → delivery (decisionOf d) n r c m x t ≡ given (d .safe ∷ d .lost ∷ [])
+    pub delivered : decideRoom n r c m x t ≡ true → delivery (decisionOf d) n r c m x t ≡ given (d .safe ∷ d .lost ∷ [])
     unfolding delivery need _>>_ _>>=_
     delivered h = rw (e, h)
 
@@ -62,8 +63,7 @@ module _ (d : Decision) (n r c m x t : ℕ) where
         → (n ≤ ranked) × (n ≤ chosen) × (n ≤ marked) × (n ≤ clean)
     decision-fits h = h (d .safe ∷ d .lost ∷ []) (rw e)
 
-pub room-facts : (n r c m x t : ℕ) → room n r c m x t ≡ true → (n * 2 ≤ r) × (n * 2 ≤ c) × (n * 2 ≤ m) × (n * 2 ≤ x) × (12 ≤ t)
-unfolding room enough
-room-facts n r c m x t e =
-    let h = simp (and-iff, leb-iff) at e in
+pub room-facts : (n r c m x t : ℕ) {told : Bool} → told ≡ decideRoom n r c m x t → not told ≡ false → (n * 2 ≤ r) × (n * 2 ≤ c) × (n * 2 ≤ m) × (n * 2 ≤ x) × (12 ≤ t)
+room-facts n r c m x t says left =
+    let h = simp (and-iff, leb-iff) at (passed says left) in
     (omega (arith, h .0 .0 .0 .0), omega (arith, h .0 .0 .0 .1), omega (arith, h .0 .0 .1), omega (arith, h .0 .1), h .1)

@@ -1,2 +1,2 @@
 -- Made by tools/rows.
-pub mod DecidingDecideLoaded
+pub mod InternalDecideLoaded

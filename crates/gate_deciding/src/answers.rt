@@ -5,9 +5,9 @@ ghost use Prim.Native.Nat.{_≤_};
 ghost use lib.ListN.{length, take};
 ghost use Rattle.laws.specs.Lists.{joined, overwrite};
 ghost use Rattle.model.specs.Calls.{left};
-ghost use Rattle.model.specs.Boundary.{bytesFor, code};
+ghost use Rattle.model.specs.Boundary.{bytesFor, code, decideRoom};
 ghost use Rattle.decide.specs.Calls.{decisionOf};
-ghost use Rattle.gate_deciding.specs.Delivery.{enough, room, delivery, Deliverable};
+ghost use Rattle.gate_deciding.specs.Delivery.{delivery, Deliverable};
 use decide::DecideAnswer;
 use decide::Decision;
 use store::internal::store;
@@ -15,9 +15,9 @@ use store::internal::store_entry;
 use tables::Refusal;
 use tables::number;
 
-// Whether slices of so many bytes have room for the entries of n states.
-fn long_enough(n: usize, ranks: usize, commands: usize, marks: usize, scratch: usize) -> bool
-    ensures { λ r. ⌜ r ≡ enough n ranks commands marks scratch ⌝ }
+// Whether slices of so many bytes have room for the entries of n states and for the tally's six.
+fn room(n: usize, ranks: usize, commands: usize, marks: usize, scratch: usize, tally: usize) -> bool
+    ensures { λ r. ⌜ r ≡ decideRoom n ranks commands marks scratch tally ⌝ }
 {
     if ranks / 2 < n {
         return false;
@@ -28,14 +28,7 @@ fn long_enough(n: usize, ranks: usize, commands: usize, marks: usize, scratch: u
     if marks / 2 < n {
         return false;
     }
-    n <= scratch / 2
-}
-
-// Whether there is room for the entries of n states and for the tally's six.
-fn room(n: usize, ranks: usize, commands: usize, marks: usize, scratch: usize, tally: usize) -> bool
-    ensures { λ r. ⌜ r ≡ room n ranks commands marks scratch tally ⌝ }
-{
-    if !long_enough(n, ranks, commands, marks, scratch) {
+    if scratch / 2 < n {
         return false;
     }
     12 <= tally

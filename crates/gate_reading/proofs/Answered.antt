@@ -8,7 +8,7 @@ use Rattle.laws.specs.Lists.{overwrite}
 use Rattle.laws.proofs.Overwrites.{overwrite-holds, overwrite-long}
 use Rattle.model.specs.Refusal.{Answer, given, answer, number}
 use Rattle.model.specs.File.{maxStates, maxCommands, maxOutcomes}
-use Rattle.model.specs.Tables.{Size as Numbers, Row as Line, Tables}
+use Rattle.model.specs.Tables.{Size as ModelSize, Row as ModelRow, Tables}
 use Rattle.model.specs.Calls.{left}
 use Rattle.model.specs.Boundary.{bytesFor, rowEntries, sizeEntries, code, gateRead}
 use Rattle.model.proofs.Answers.{answer-inv}
@@ -46,7 +46,7 @@ module _ (file : List ℕ) (states : List Row) (commands entries size rows first
     answers : answerOf admission ≡ answer (λ T. T .size) gate
     answers =
         admits
-        ∙ ap (λ (a : Answer Numbers). admitted a (length size) (length rows) (length firsts) (length outcomes)) (reads .0)
+        ∙ ap (λ (a : Answer ModelSize). admitted a (length size) (length rows) (length firsts) (length outcomes)) (reads .0)
         ∙ sym (gate-read-size file (limits .0) (limits .1) (limits .2) (length size) (length rows) (length firsts) (length outcomes))
 
     pub refuses : {w : Refusal} {r : ℕ} → admission ≡ Refused w → r ≡ number (refusalOf w) → Leaves r size rows firsts outcomes
@@ -62,13 +62,13 @@ module _ (file : List ℕ) (states : List Row) (commands entries size rows first
 
       -- the tables' counts are those of the size record
       n-is : tables .0 .size .n ≡ z .n
-      n-is = ap (λ (y : Numbers). y .n) (tables .2)
+      n-is = ap (λ (y : ModelSize). y .n) (tables .2)
 
       m-is : tables .0 .size .m ≡ z .m
-      m-is = ap (λ (y : Numbers). y .m) (tables .2)
+      m-is = ap (λ (y : ModelSize). y .m) (tables .2)
 
       t-is : tables .0 .size .t ≡ z .t
-      t-is = ap (λ (y : Numbers). y .t) (tables .2)
+      t-is = ap (λ (y : ModelSize). y .t) (tables .2)
 
       -- what was read into each table
       in-states : (rowsOf states′ ≡ overwrite (tables .0 .rows) (rowsOf states)) × (length (tables .0 .rows) ≡ z .n)
@@ -93,7 +93,7 @@ module _ (file : List ℕ) (states : List Row) (commands entries size rows first
           × (((z .m ≤ length commands′) × (z .m * 2 ≤ length firsts)) × ((z .t ≤ length entries′) × (z .t * 2 ≤ length outcomes)))
       lists-ready =
           let s = gated .small in
-          let start : tables .0 .size .start ≡ z .start = ap (λ (y : Numbers). y .start) (tables .2) in
+          let start : tables .0 .size .start ≡ z .start = ap (λ (y : ModelSize). y .start) (tables .2) in
           let n : z .n ≤ maxStates = omega (arith, s .few-states, n-is) in
           let m : z .m ≤ maxCommands = omega (arith, s .few-commands, m-is) in
           let t : z .t ≤ maxOutcomes = omega (arith, s .few-outcomes, t-is) in
@@ -111,9 +111,9 @@ module _ (file : List ℕ) (states : List Row) (commands entries size rows first
       gives r l = rw (tables .1) (
         refl,
         (
-          l .0 ∙ ap (λ (y : Numbers). overwrite (bytesFor (sizeEntries y)) size) (sym (tables .2)),
+          l .0 ∙ ap (λ (y : ModelSize). overwrite (bytesFor (sizeEntries y)) size) (sym (tables .2)),
           (
-            r ∙ ap (λ (y : List Line). overwrite (bytesFor (rowEntries y)) rows) (overwrite-holds (tables .0 .rows) (rowsOf states) (in-states .0) (in-states .1)),
+            r ∙ ap (λ (y : List ModelRow). overwrite (bytesFor (rowEntries y)) rows) (overwrite-holds (tables .0 .rows) (rowsOf states) (in-states .0) (in-states .1)),
             (
               l .1 .0 ∙ ap (λ (y : List ℕ). overwrite (bytesFor y) firsts) (overwrite-holds (tables .0 .firsts) commands (in-commands .0) (in-commands .1)),
               l .1 .1 ∙ ap (λ (y : List ℕ). overwrite (bytesFor y) outcomes) (overwrite-holds (tables .0 .outcomes) entries (in-entries .0) (in-entries .1)),

@@ -4,10 +4,10 @@ ghost use Prim.Native.Nat.{_*_, _<_, _≤_};
 ghost use lib.ListN.{length, take};
 ghost use Rattle.laws.specs.Lists.{overwrite};
 ghost use Rattle.model.specs.File.{maxStates, maxCommands, maxOutcomes};
-ghost use Rattle.model.specs.Boundary.{bytesFor, sizeEntries, gateReadCall};
+ghost use Rattle.model.specs.Boundary.{bytesFor, sizeEntries, readRoom, gateReadCall};
 ghost use Rattle.tables.specs.Meaning.{numbers};
 ghost use Rattle.reading.specs.Meaning.{answerOf};
-ghost use Rattle.gate_reading.specs.Lent.{roomy, admitted};
+ghost use Rattle.gate_reading.specs.Lent.{admitted};
 use reading::ReadAnswer;
 use reading::read;
 use store::internal::store;
@@ -19,8 +19,8 @@ use tables::Size;
 use tables::number;
 
 // Whether slices of these lengths have room for a plan.
-fn roomy(z: Size, size: usize, rows: usize, firsts: usize, outcomes: usize) -> bool
-    ensures { λ r. ⌜ r ≡ roomy (numbers z) size rows firsts outcomes ⌝ }
+fn room(z: Size, size: usize, rows: usize, firsts: usize, outcomes: usize) -> bool
+    ensures { λ r. ⌜ r ≡ readRoom (numbers z) size rows firsts outcomes ⌝ }
 {
     if rows / 6 < z.n {
         return false;
@@ -41,7 +41,7 @@ fn admit(plan: ReadAnswer, size: usize, rows: usize, firsts: usize, outcomes: us
     let ReadAnswer::Given(z) = plan else {
         return plan;
     };
-    if !roomy(z, size, rows, firsts, outcomes) {
+    if !room(z, size, rows, firsts, outcomes) {
         return ReadAnswer::Refused(Refusal::Cramped);
     }
     plan

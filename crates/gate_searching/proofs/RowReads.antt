@@ -1,2 +1,2 @@
 -- Made by tools/rows.
-pub mod SearchingSearchLoaded
+pub mod InternalSearchLoaded

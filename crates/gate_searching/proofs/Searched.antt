@@ -21,7 +21,7 @@ use Rattle.model.proofs.GoodTables.{sound-good}
 use Rattle.model.proofs.Valid.{sound-valid, few-states, few-commands}
 use Rattle.model.proofs.Widths.{rounds-fit}
 use Rattle.model.proofs.Gates.{wholeSearch, gate-search, code-from, left-from}
-use Rattle.gate_searching.specs.Delivery.{room, delivery, entriesOf, Deliverable}
+use Rattle.gate_searching.specs.Delivery.{delivery, resultOf, Deliverable}
 
 -- what is answered of a search
 abbrev pub verdict : Result → Bool × ℕ
@@ -91,7 +91,7 @@ module _ (T : Tables) (s start : ℕ) (at : s ≡ start) (v : Answer (Bool × �
     call-is = ap (λ (i : ℕ). gateSearch (given T) i (length C) (length X) (length A)) at
 
     returns : code out ≡ code call
-    unfolding delivery room
+    unfolding delivery
     returns =
         code-from (wholeSearch T s) verdict v says (λ R. (T .size .n, R)) _
         ∙ sym (ap code (gate-search T s (length C) (length X) (length A)))
@@ -99,14 +99,14 @@ module _ (T : Tables) (s start : ℕ) (at : s ≡ start) (v : Answer (Bool × �
 
     leaves : (f : Bool × ℕ → List ℕ) (g : ℕ × Result → List ℕ) → ((R : Result) → wholeSearch T s ≡ given R → f (verdict R) ≡ g (T .size .n, R)) → (l : List ℕ)
         → left f out l ≡ left g call l
-    unfolding delivery room
+    unfolding delivery
     leaves f g same l =
         left-from (wholeSearch T s) verdict v says (λ R. (T .size .n, R)) _ f g same l
         ∙ sym (ap (λ (q : Answer (ℕ × Result)). left g q l) (gate-search T s (length C) (length X) (length A)))
         ∙ ap (λ (q : Answer (ℕ × Result)). left g q l) call-is
 
     pub search-delivered : {k : ℕ} {C′ X′ A′ : List ℕ} → k ≡ code out → C′ ≡ left (λ _. bytesFor (take (T .size .n) takes)) out C
-        → X′ ≡ left (λ _. bytesFor (take (T .size .n) clean)) out X → A′ ≡ left (λ w. bytesFor (entriesOf w)) out A
+        → X′ ≡ left (λ _. bytesFor (take (T .size .n) clean)) out X → A′ ≡ left (λ w. bytesFor (resultEntries (resultOf w))) out A
         → Says call C X A k C′ X′ A′
     unfolding resultEntries
     search-delivered h c x a = (
@@ -115,7 +115,7 @@ module _ (T : Tables) (s start : ℕ) (at : s ≡ start) (v : Answer (Bool × �
         c ∙ leaves _ _ (λ R f. ap bytesFor (commands-taken T s zeros takes took R f)) C,
         (
           x ∙ leaves _ _ (λ R f. ap bytesFor (scratch-taken T s zeros clean cleans R f)) X,
-          a ∙ leaves (λ w. bytesFor (entriesOf w)) (λ y. bytesFor (resultEntries (y .1))) (λ R f. refl) A,
+          a ∙ leaves (λ w. bytesFor (resultEntries (resultOf w))) (λ y. bytesFor (resultEntries (y .1))) (λ R f. refl) A,
         ),
       ),
     )

@@ -1,24 +1,22 @@
 -- What is stored of a search.
 use mathlib.Core.Path.{_≡_}
-use mathlib.Core.Bool.{Bool, cond, _&&_}
-use mathlib.Core.List.{List, [], _∷_}
-use Prim.Native.Nat.{ℕ, _/_, _<_, _≤_}
-use lib.Dec.{leb}
+use mathlib.Core.Bool.{Bool, false}
+use mathlib.Core.Option.{none}
+use Prim.Native.Nat.{ℕ, _<_, _≤_}
+use Rattle.model.specs.Search.{Result}
 use Rattle.model.specs.Refusal.{Cramped, Answer, given, need, _>>=_, _>>_}
-
--- slices of so many bytes have room for the entries of n states and for the answer's two
-unfoldable pub room : ℕ → ℕ → ℕ → ℕ → Bool
-room n commands scratch answer = leb n (commands / 2) && leb n (scratch / 2) && leb 4 answer
+use Rattle.model.specs.Boundary.{searchRoom}
 
 -- what was found, lost or not and the rounds, if there is room for it
 unfoldable pub delivery : Answer (Bool × ℕ) → ℕ → ℕ → ℕ → ℕ → Answer (Bool × ℕ)
 delivery found n commands scratch answer = do
   v ← found
-  need Cramped (room n commands scratch answer)
+  need Cramped (searchRoom n commands scratch answer)
   given v
 
-abbrev pub entriesOf : Bool × ℕ → List ℕ
-entriesOf v = cond (v .0) 1 0 ∷ v .1 ∷ []
+-- a result with that verdict and those rounds: its entries (`resultEntries`) say no more of it
+abbrev pub resultOf : Bool × ℕ → Result
+resultOf v = record { lost = v .0; rounds = v .1; reached = λ _. false; command = λ _. none }
 
 -- where something was found it fits: the rounds 16 bits, and n the tables' lengths
 abbrev pub Deliverable : Answer (Bool × ℕ) → ℕ → ℕ → ℕ → Type 0

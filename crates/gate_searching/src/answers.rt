@@ -5,9 +5,9 @@ ghost use Prim.Native.Nat.{_<_, _≤_};
 ghost use lib.ListN.{length, take};
 ghost use Rattle.laws.specs.Lists.{overwrite};
 ghost use Rattle.model.specs.Calls.{left};
-ghost use Rattle.model.specs.Boundary.{bytesFor, code};
+ghost use Rattle.model.specs.Boundary.{bytesFor, resultEntries, code, searchRoom};
 ghost use Rattle.search.specs.Replies.{answerOf};
-ghost use Rattle.gate_searching.specs.Delivery.{room, delivery, entriesOf, Deliverable};
+ghost use Rattle.gate_searching.specs.Delivery.{delivery, resultOf, Deliverable};
 use search::Found;
 use search::SearchAnswer;
 use store::internal::store;
@@ -18,7 +18,7 @@ use tables::number;
 
 // Whether slices of so many bytes have room for the entries of n states and for the answer's two.
 fn room(n: usize, commands: usize, scratch: usize, answer: usize) -> bool
-    ensures { λ r. ⌜ r ≡ room n commands scratch answer ⌝ }
+    ensures { λ r. ⌜ r ≡ searchRoom n commands scratch answer ⌝ }
 {
     if commands / 2 < n {
         return false;
@@ -41,7 +41,7 @@ fn flag(lost: bool) -> u16
 // The verdict, then the rounds.
 fn store_found(found: Found, answer: &mut [u8])
     requires { ⌜ (found .rounds < 65536) × (4 ≤ length (now answer)) ⌝ }
-    ensures { λ _. ⌜ now (answer .exit) ≡ overwrite (bytesFor (entriesOf (found .lost, found .rounds))) (now (answer .entry)) ⌝ }
+    ensures { λ _. ⌜ now (answer .exit) ≡ overwrite (bytesFor (resultEntries (resultOf (found .lost, found .rounds)))) (now (answer .entry)) ⌝ }
 {
     store_entry(answer, 0, flag(found.lost));
     store_entry(answer, 1, narrow(found.rounds));
@@ -61,7 +61,7 @@ pub fn deliver(
     ensures { λ r. ⌜ r ≡ code (delivery (answerOf found) n (length (now (commands .entry))) (length (now (scratch .entry))) (length (now (answer .entry)))) ⌝ }
     ensures { λ _. ⌜ now (commands .exit) ≡ left (λ _. bytesFor (take n (now (takes .entry)))) (delivery (answerOf found) n (length (now (commands .entry))) (length (now (scratch .entry))) (length (now (answer .entry)))) (now (commands .entry)) ⌝ }
     ensures { λ _. ⌜ now (scratch .exit) ≡ left (λ _. bytesFor (take n (now (clean .entry)))) (delivery (answerOf found) n (length (now (commands .entry))) (length (now (scratch .entry))) (length (now (answer .entry)))) (now (scratch .entry)) ⌝ }
-    ensures { λ _. ⌜ now (answer .exit) ≡ left (λ v. bytesFor (entriesOf v)) (delivery (answerOf found) n (length (now (commands .entry))) (length (now (scratch .entry))) (length (now (answer .entry)))) (now (answer .entry)) ⌝ }
+    ensures { λ _. ⌜ now (answer .exit) ≡ left (λ v. bytesFor (resultEntries (resultOf v))) (delivery (answerOf found) n (length (now (commands .entry))) (length (now (scratch .entry))) (length (now (answer .entry)))) (now (answer .entry)) ⌝ }
 {
     match found {
         SearchAnswer::Refused(refusal) => number(refusal),

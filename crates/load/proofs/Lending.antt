@@ -10,8 +10,8 @@ use lib.Seq.{length-take-le}
 use Rattle.laws.proofs.Lists.{take-overwritten}
 use Rattle.laws.proofs.Tests.{refute, clash, true-or-false}
 use Rattle.laws.proofs.TestFacts.{and-iff, leb-iff}
-use Rattle.model.specs.Refusal.{Refusal as Word, Unsound, Answer, given, refused, answer, need, _>>=_, _>>_}
-use Rattle.model.specs.Tables.{Row as Line, Tables, Same}
+use Rattle.model.specs.Refusal.{Refusal as ModelRefusal, Unsound, Answer, given, refused, answer, need, _>>=_, _>>_}
+use Rattle.model.specs.Tables.{Row as ModelRow, Tables, Same}
 use Rattle.model.specs.SoundTest.{tablesLong, sound}
 use Rattle.model.specs.Calls.{left}
 use Rattle.model.specs.Boundary.{tablesIn, entriesIn, rowsIn}
@@ -24,7 +24,7 @@ use Rattle.tables.specs.declared.Refusal.{Refusal}
 use Rattle.tables.specs.Meaning.{numbers, refusalOf, rowsOf, held}
 use Rattle.load.specs.declared.internal.PlanAnswer.{PlanAnswer}
 use Rattle.load.specs.declared.internal.PlanAnswer.the-variants.{Given, Refused}
-use Rattle.load.specs.Loading.{planOf, few, loading}
+use Rattle.load.specs.Loading.{answerOf, few, loading}
 use Rattle.load.proofs.Planning.{sizeOf}
 use Rattle.load.proofs.Loaded.{Within, within, no-plan, lentWith}
 
@@ -43,7 +43,7 @@ sound-held T e =
     (((f .size .few, f .size .few-commands), f .size .few-outcomes), ((f .long .rows, f .long .firsts), f .long .outcomes))
 
 -- what is made of the lent plan, where that is refused with 10 if the plan is unsound
-module _ {A : Type 0} (make : Tables → Answer A) (unsound : (T : Tables) → sound T ≡ false → make T ≡ refused Unsound) (r : Word) where
+module _ {A : Type 0} (make : Tables → Answer A) (unsound : (T : Tables) → sound T ≡ false → make T ≡ refused Unsound) (r : ModelRefusal) where
   refused-with : (lent : Answer Tables) → (lent >>= λ T. need Unsound (few (T .size) && tablesLong T) >> given T) ≡ refused r → (lent >>= make) ≡ refused r
   unfolding _>>=_ _>>_ need
   refused-with (refused q) e = ap refused (refused-inj e)
@@ -53,7 +53,7 @@ module _ {A : Type 0} (make : Tables → Answer A) (unsound : (T : Tables) → s
       (λ h. unsound T (refute (sound T) (λ s. clash (sound-held T s) h)) ∙ ap refused (refused-inj (rw h at e)))
       (true-or-false (few (T .size) && tablesLong T))
 
-module _ (S R F O : List ℕ) (p : PlanAnswer) (says : planOf p ≡ answer sizeOf (loading S R F O)) where
+module _ (S R F O : List ℕ) (p : PlanAnswer) (says : answerOf p ≡ answer sizeOf (loading S R F O)) where
   lent-refused : {A : Type 0} (make : Tables → Answer A) → ((T : Tables) → sound T ≡ false → make T ≡ refused Unsound)
       → (r : Refusal) → p ≡ Refused r → (tablesIn S R F O >>= make) ≡ refused (refusalOf r)
   unfolding loading
@@ -73,7 +73,7 @@ module _ (S R F O : List ℕ) (p : PlanAnswer) (says : planOf p ≡ answer sizeO
     front f n xs l l′ h is g =
         rw (rw (w .loads, is) at g) (take-overwritten n (take n xs) l (length-take-le n xs h))
 
-    lent-same : (rows₀ : List Line) (rows₁ : List Row) (firsts₀ firsts₁ outcomes₀ outcomes₁ : List ℕ)
+    lent-same : (rows₀ : List ModelRow) (rows₁ : List Row) (firsts₀ firsts₁ outcomes₀ outcomes₁ : List ℕ)
         → rowsOf rows₁ ≡ left (λ (T : Tables). take (T .size .n) (T .rows)) (loading S R F O) rows₀
         → firsts₁ ≡ left (λ (T : Tables). take (T .size .m) (T .firsts)) (loading S R F O) firsts₀
         → outcomes₁ ≡ left (λ (T : Tables). take (T .size .t) (T .outcomes)) (loading S R F O) outcomes₀
@@ -89,7 +89,7 @@ module _ (S R F O : List ℕ) (p : PlanAnswer) (says : planOf p ≡ answer sizeO
     pub call-refused : (r : Refusal) → p ≡ Refused r → call (tablesIn S R F O) ≡ refused (refusalOf r)
     call-refused r e = calls .first (tablesIn S R F O) ∙ lent-refused (λ T. call (given T)) (calls .unsound) r e
 
-    pub call-given : (z : Size) → p ≡ Given z → (rows₀ : List Line) (rows₁ : List Row) (firsts₀ firsts₁ outcomes₀ outcomes₁ : List ℕ)
+    pub call-given : (z : Size) → p ≡ Given z → (rows₀ : List ModelRow) (rows₁ : List Row) (firsts₀ firsts₁ outcomes₀ outcomes₁ : List ℕ)
         → rowsOf rows₁ ≡ left (λ (T : Tables). take (T .size .n) (T .rows)) (loading S R F O) rows₀
         → firsts₁ ≡ left (λ (T : Tables). take (T .size .m) (T .firsts)) (loading S R F O) firsts₀
         → outcomes₁ ≡ left (λ (T : Tables). take (T .size .t) (T .outcomes)) (loading S R F O) outcomes₀

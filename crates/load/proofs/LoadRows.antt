@@ -5,9 +5,9 @@ use Prim.Native.Nat.{ℕ, _+_, _*_, _<_, _≤_}
 use lib.ListN.{length, take, set, length-set, length-map}
 use Rattle.laws.specs.Lists.{overwrite}
 use Rattle.laws.proofs.Writes.{ruled, ruled-next, ruled-last, ruled-first}
-use Rattle.model.specs.Tables.{Row as Line}
+use Rattle.model.specs.Tables.{Row as ModelRow}
 use Rattle.model.specs.Boundary.{entriesIn, rowsIn}
-use Rattle.model.proofs.Lent.{rowIn as lineIn, take-rows}
+use Rattle.model.proofs.Lent.{rowIn as modelRowIn, take-rows}
 use Rattle.tables.specs.declared.Row.{Row}
 use Rattle.tables.specs.Meaning.{rowOf, rowsOf, rowWith}
 use Rattle.tables.proofs.StoredRows.{row-stored}
@@ -16,7 +16,7 @@ use Rattle.load.specs.Loading.{rowIn}
 -- of n rows those before s are loaded
 pub record Rows (bytes : List ℕ) (n : ℕ) (rows₀ rows : List Row) (s : ℕ) : Type 0 where
   pub same : length rows ≡ length rows₀
-  pub put : ruled (lineIn bytes) n s (rowsOf rows) ≡ ruled (lineIn bytes) n 0 (rowsOf rows₀)
+  pub put : ruled (modelRowIn bytes) n s (rowsOf rows) ≡ ruled (modelRowIn bytes) n 0 (rowsOf rows₀)
 
 pub rows-begin : (bytes : List ℕ) (n : ℕ) (rows : List Row) → Rows bytes n rows rows 0
 rows-begin bytes n rows = record { same = refl; put = refl }
@@ -26,12 +26,12 @@ module _ (bytes : List ℕ) (n s : ℕ) {rows₀ rows : List Row} (w : Rows byte
       → Rows bytes n rows₀ rows′ (s + 1)
   rows-more h {r} e f = rw f (record {
     same = length-set rows s _ ∙ w .same;
-    put = rw (row-stored rows s r) (ruled-next (lineIn bytes) n s (rowsOf rows) h (ap rowOf e) ∙ w .put);
+    put = rw (row-stored rows s r) (ruled-next (modelRowIn bytes) n s (rowsOf rows) h (ap rowOf e) ∙ w .put);
   })
 
   pub rows-end : n * 6 ≤ length bytes → n ≤ length rows₀ → n ≤ s → rowsOf rows ≡ overwrite (take n (rowsIn (entriesIn bytes))) (rowsOf rows₀)
   rows-end h l k =
-      sym (ruled-last (lineIn bytes) n s (rowsOf rows) k)
+      sym (ruled-last (modelRowIn bytes) n s (rowsOf rows) k)
       ∙ w .put
-      ∙ ruled-first (lineIn bytes) n (rowsOf rows₀) (rw (length-map rows₀ rowOf) l)
-      ∙ ap (λ (xs : List Line). overwrite xs (rowsOf rows₀)) (sym (take-rows n bytes h))
+      ∙ ruled-first (modelRowIn bytes) n (rowsOf rows₀) (rw (length-map rows₀ rowOf) l)
+      ∙ ap (λ (xs : List ModelRow). overwrite xs (rowsOf rows₀)) (sym (take-rows n bytes h))

@@ -8,8 +8,8 @@ use lib.Dec.{leb}
 use lib.ListN.{length}
 use Rattle.laws.specs.Lists.{overwrite}
 use Rattle.laws.proofs.TestFacts.{and-iff, leb-iff}
-use Rattle.model.specs.Refusal.{Refusal as Word, Unsound, given, refused, answer, _>>=_, _>>_}
-use Rattle.model.specs.Tables.{Size as Numbers, Tables}
+use Rattle.model.specs.Refusal.{Refusal as ModelRefusal, Unsound, given, refused, answer, _>>=_, _>>_}
+use Rattle.model.specs.Tables.{Size as ModelSize, Tables}
 use Rattle.model.specs.SoundTest.{tablesLong}
 use Rattle.model.specs.Calls.{left}
 use Rattle.model.specs.Boundary.{tablesIn, entriesIn, rowsIn}
@@ -21,12 +21,12 @@ use Rattle.tables.specs.declared.Refusal.{Refusal}
 use Rattle.tables.specs.Meaning.{numbers, refusalOf}
 use Rattle.load.specs.declared.internal.PlanAnswer.{PlanAnswer}
 use Rattle.load.specs.declared.internal.PlanAnswer.the-variants.{Given, Refused}
-use Rattle.load.specs.Loading.{planOf, few, loading}
+use Rattle.load.specs.Loading.{answerOf, few, loading}
 use Rattle.load.proofs.Planning.{sizeOf}
 
 module _ (S R F O : List ℕ) where
   -- the lent plan with its size record
-  abbrev pub lentWith : Numbers → Tables
+  abbrev pub lentWith : ModelSize → Tables
   lentWith z = record { size = z; rows = rowsIn (entriesIn R); firsts = entriesIn F; outcomes = entriesIn O }
 
   -- the plan is given: its counts are within the limits, and within the slices
@@ -52,11 +52,11 @@ module _ (S R F O : List ℕ) where
       let same : U ≡ T = given-inj q in
       (rw same at lends, rw same at fits)
 
-  module _ (p : PlanAnswer) (says : planOf p ≡ answer sizeOf (loading S R F O)) where
+  module _ (p : PlanAnswer) (says : answerOf p ≡ answer sizeOf (loading S R F O)) where
     pub within : (z : Size) → p ≡ Given z → Within z
     unfolding few tablesLong
     within z e =
-        let (T, loads, is) = answer-inv sizeOf (loading S R F O) (numbers z) (sym says ∙ ap planOf e) in
+        let (T, loads, is) = answer-inv sizeOf (loading S R F O) (numbers z) (sym says ∙ ap answerOf e) in
         let (lends, fits) = loading-inv T loads in
         let same : lentWith (numbers z) ≡ T = rw is at (lent-size T lends) in
         let h = simp (and-iff, leb-iff) at (rw (← same) at fits) in
@@ -72,7 +72,7 @@ module _ (S R F O : List ℕ) where
         }
 
     pub no-plan : (r : Refusal) → p ≡ Refused r → loading S R F O ≡ refused (refusalOf r)
-    no-plan r e = answer-refused sizeOf (loading S R F O) (refusalOf r) (sym says ∙ ap planOf e)
+    no-plan r e = answer-refused sizeOf (loading S R F O) (refusalOf r) (sym says ∙ ap answerOf e)
 
   -- what is answered, and what is left in a table
   module _ {z : Size} (w : Within z) where
@@ -83,7 +83,7 @@ module _ (S R F O : List ℕ) where
     pub fills : {A : Type 0} (f : Tables → List A) (l : List A) {l′ : List A} → l′ ≡ overwrite (f (lentWith (numbers z))) l → l′ ≡ left f (loading S R F O) l
     fills f l e = given-left (w .loads) f l e
 
-  module _ {r : Word} (e : loading S R F O ≡ refused r) where
+  module _ {r : ModelRefusal} (e : loading S R F O ≡ refused r) where
     pub refuses : refused r ≡ answer sizeOf (loading S R F O)
     unfolding answer
     refuses = rw e

@@ -7,16 +7,16 @@ use lib.ListN.{length}
 use borrow.Author.Tests.{le-leb, lt-leb}
 use Rattle.laws.proofs.Tests.{and-false-left, and-false-right}
 use Rattle.model.specs.Refusal.{Unsound, given, refused, answer, need, _>>=_, _>>_}
-use Rattle.model.specs.Tables.{Size as Numbers, Tables}
+use Rattle.model.specs.Tables.{Size as ModelSize, Tables}
 use Rattle.model.specs.SoundTest.{tablesLong}
-use Rattle.model.specs.Boundary.{tablesIn, entriesIn, rowsIn}
+use Rattle.model.specs.Boundary.{tablesIn, entriesIn, rowsIn, sizeIn, longIn}
 use Rattle.model.proofs.Lent.{length-entries-in, length-rows-in}
 use Rattle.tables.specs.declared.Size.{Size}
 use Rattle.tables.specs.Meaning.{numbers}
-use Rattle.load.specs.Loading.{sizeIn, few, longIn, loading}
+use Rattle.load.specs.Loading.{few, loading}
 
 -- the size record that is answered
-abbrev pub sizeOf : Tables → Numbers
+abbrev pub sizeOf : Tables → ModelSize
 sizeOf T = T .size
 
 module _ (S R F O : List ℕ) where
@@ -33,7 +33,7 @@ module _ (S R F O : List ℕ) where
   lent-is h = rw (le-leb 8 (length S) h)
 
   long-is : tablesLong lent ≡ longIn (sizeIn S) (length R) (length F) (length O)
-  unfolding tablesLong longIn
+  unfolding tablesLong
   long-is = rw (length-rows-in R, length-entries-in F, length-entries-in O)
 
   loading-is : 8 ≤ length S → loading S R F O ≡ (need Unsound (few (sizeIn S) && longIn (sizeIn S) (length R) (length F) (length O)) >> given lent)

@@ -1,12 +1,12 @@
 -- A plan that is lent as bytes, and the part of it that tables of the limits' lengths hold.
 use mathlib.Core.Bool.{Bool, _&&_}
 use mathlib.Core.List.{List}
-use Prim.Native.Nat.{ℕ, _+_, _*_, _/_}
+use Prim.Native.Nat.{ℕ, _+_, _*_}
 use lib.Dec.{leb}
 use Rattle.laws.specs.Entry.{be16}
 use Rattle.model.specs.Refusal.{Unsound, Answer, given, refused, need, _>>=_, _>>_}
 use Rattle.model.specs.File.{maxStates, maxCommands, maxOutcomes}
-use Rattle.model.specs.Tables.{Size, Tables}
+use Rattle.model.specs.Tables.{Size as ModelSize, Tables}
 use Rattle.model.specs.SoundTest.{tablesLong}
 use Rattle.model.specs.Boundary.{tablesIn}
 use Rattle.tables.specs.declared.Row.{Row}
@@ -15,24 +15,17 @@ use Rattle.load.specs.declared.internal.PlanAnswer.{PlanAnswer}
 use Rattle.load.specs.declared.internal.PlanAnswer.the-variants.{Given, Refused}
 
 -- the size record, or the refusal
-abbrev pub planOf : PlanAnswer → Answer Size
-planOf (Given z) = given (numbers z)
-planOf (Refused r) = refused (refusalOf r)
-
-abbrev pub sizeIn : List ℕ → Size
-sizeIn s = record { n = be16 s 0; m = be16 s 2; t = be16 s 4; start = be16 s 6 }
+abbrev pub answerOf : PlanAnswer → Answer ModelSize
+answerOf (Given z) = given (numbers z)
+answerOf (Refused r) = refused (refusalOf r)
 
 -- the row of state i
 abbrev pub rowIn : List ℕ → ℕ → Row
 rowIn s i = rowWith (be16 s (i * 3 * 2)) (be16 s ((i * 3 + 1) * 2)) (be16 s ((i * 3 + 2) * 2))
 
 -- no count is above its limit
-unfoldable pub few : Size → Bool
+unfoldable pub few : ModelSize → Bool
 few z = leb (z .n) maxStates && leb (z .m) maxCommands && leb (z .t) maxOutcomes
-
--- slices of so many bytes hold as many rows and entries as the counts say
-unfoldable pub longIn : Size → ℕ → ℕ → ℕ → Bool
-longIn z rows firsts outcomes = leb (z .n) (rows / 6) && leb (z .m) (firsts / 2) && leb (z .t) (outcomes / 2)
 
 -- the lent plan, where tables of the limits' lengths hold it
 unfoldable pub loading : List ℕ → List ℕ → List ℕ → List ℕ → Answer Tables

@@ -8,9 +8,9 @@ ghost use Rattle.model.specs.Refusal.{answer};
 ghost use Rattle.model.specs.File.{maxStates, maxCommands, maxOutcomes};
 ghost use Rattle.model.specs.Tables.{Tables};
 ghost use Rattle.model.specs.Calls.{left};
-ghost use Rattle.model.specs.Boundary.{entriesIn, rowsIn};
+ghost use Rattle.model.specs.Boundary.{entriesIn, rowsIn, sizeIn, longIn};
 ghost use Rattle.tables.specs.Meaning.{numbers, rowsOf};
-ghost use Rattle.load.specs.Loading.{sizeIn, rowIn, few, longIn, loading, planOf};
+ghost use Rattle.load.specs.Loading.{rowIn, few, loading, answerOf};
 use tables::Refusal;
 use tables::Row;
 use tables::Size;
@@ -108,7 +108,7 @@ fn long(size: Size, rows: usize, firsts: usize, outcomes: usize) -> bool
 
 // The lent plan's size record, where tables of the limits' lengths hold the plan; else it is unsound.
 fn plan_size(size: &[u8], rows: &[u8], firsts: &[u8], outcomes: &[u8]) -> PlanAnswer
-    ensures { λ r. ⌜ planOf r ≡ answer (λ (T : Tables). T .size) (loading (now (size .entry)) (now (rows .entry)) (now (firsts .entry)) (now (outcomes .entry))) ⌝ }
+    ensures { λ r. ⌜ answerOf r ≡ answer (λ (T : Tables). T .size) (loading (now (size .entry)) (now (rows .entry)) (now (firsts .entry)) (now (outcomes .entry))) ⌝ }
 {
     if size.len() < 8 {
         return PlanAnswer::Refused(Refusal::Unsound);
@@ -135,7 +135,7 @@ pub fn load_plan(
     entries: &mut [u16],
 ) -> PlanAnswer
     requires { ⌜ (maxStates ≤ length (now states)) × (maxCommands ≤ length (now commands)) × (maxOutcomes ≤ length (now entries)) ⌝ }
-    ensures answered { λ r. ⌜ planOf r ≡ answer (λ (T : Tables). T .size) (loading (now (size .entry)) (now (rows .entry)) (now (firsts .entry)) (now (outcomes .entry))) ⌝ }
+    ensures answered { λ r. ⌜ answerOf r ≡ answer (λ (T : Tables). T .size) (loading (now (size .entry)) (now (rows .entry)) (now (firsts .entry)) (now (outcomes .entry))) ⌝ }
     ensures rows { λ _. ⌜ rowsOf (now (states .exit)) ≡ left (λ (T : Tables). take (T .size .n) (T .rows)) (loading (now (size .entry)) (now (rows .entry)) (now (firsts .entry)) (now (outcomes .entry))) (rowsOf (now (states .entry))) ⌝ }
     ensures firsts { λ _. ⌜ now (commands .exit) ≡ left (λ (T : Tables). take (T .size .m) (T .firsts)) (loading (now (size .entry)) (now (rows .entry)) (now (firsts .entry)) (now (outcomes .entry))) (now (commands .entry)) ⌝ }
     ensures outcomes { λ _. ⌜ now (entries .exit) ≡ left (λ (T : Tables). take (T .size .t) (T .outcomes)) (loading (now (size .entry)) (now (rows .entry)) (now (firsts .entry)) (now (outcomes .entry))) (now (entries .entry)) ⌝ }

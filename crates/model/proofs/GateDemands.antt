@@ -1,6 +1,6 @@
 -- Demand 3 over the bytes that the C program's calls leave: entries that were written are read as they were, so it is the claim of the tables.
 use mathlib.Core.Path.{_≡_, refl, sym, ap, ap₂, _∙_}
-use mathlib.Core.Bool.{Bool, true, false, cond}
+use mathlib.Core.Bool.{Bool, true, false, cond, _&&_}
 use mathlib.Core.List.{List, [], _∷_, _++_}
 use Prim.Native.Nat.{ℕ, zero, suc, _+_, _-_, _*_, _/_, _%_, _≤_}
 use native.Mathlib.Nat.{zero-add}
@@ -13,6 +13,7 @@ use Rattle.laws.specs.Lists.{tabulate, overwrite}
 use Rattle.laws.specs.Entry.{be16, twos, entry}
 use Rattle.laws.proofs.Entry.{be16-two, length-twos}
 use Rattle.laws.proofs.Lists.{length-tabulate}
+use Rattle.laws.proofs.Tests.{and-both}
 use Rattle.model.specs.Plan.{Plan}
 use Rattle.model.specs.Verdict.{rank}
 use Rattle.model.specs.Command.{chosen}
@@ -22,7 +23,7 @@ use Rattle.model.specs.Tables.{Tables}
 use Rattle.model.specs.File.{entries}
 use Rattle.model.specs.Held.{planIn}
 use Rattle.model.specs.Calls.{left, deciding, searching, rankTable, commandTable, resultTable}
-use Rattle.model.specs.Boundary.{entriesIn, bytesFor, resultEntries, code, tablesIn, gateDecide, gateSearch, gateDecideCall, gateSearchCall}
+use Rattle.model.specs.Boundary.{entriesIn, bytesFor, resultEntries, decideRoom, searchRoom, code, tablesIn, gateDecide, gateSearch, gateDecideCall, gateSearchCall}
 use Rattle.model.specs.Demand3.{Demand3}
 use Rattle.model.proofs.Answers.{bind-inv, need-inv, given-inj}
 use Rattle.model.proofs.Answering.{DecideAnswers, SearchAnswers, deciding-iff, searching-iff}
@@ -92,7 +93,7 @@ module _ (T : Tables) where
   unfolding gateDecide _>>=_
   decided ranks commands marks scratch tally P e =
       let (Q, d, f) = bind-inv (deciding T (ranks / 2) (commands / 2) (marks / 2) (scratch / 2)) _ e in
-      let (_, g) = need-inv Cramped (leb 12 tally) (given Q) f in
+      let (_, g) = need-inv Cramped (decideRoom (T .size .n) ranks commands marks scratch tally) (given Q) f in
       deciding-iff T (ranks / 2) (commands / 2) (marks / 2) (scratch / 2) P .0 (d ∙ g)
 
   found : (start commands scratch answer n : ℕ) (R : Result) → gateSearch (given T) start commands scratch answer ≡ given (n, R)
@@ -100,11 +101,11 @@ module _ (T : Tables) where
   unfolding gateSearch _>>=_
   found start commands scratch answer n R e =
       let (Q, d, f) = bind-inv (searching T start (commands / 2) (scratch / 2)) _ e in
-      let (l, g) = need-inv Cramped (leb 4 answer) (given (T .size .n, Q)) f in
+      let (l, g) = need-inv Cramped (searchRoom (T .size .n) commands scratch answer) (given (T .size .n, Q)) f in
       let same = given-inj g in (
         ap (λ (x : ℕ × Result). x .0) same,
         searching-iff T start (commands / 2) (scratch / 2) R .0 (d ∙ ap (λ (x : ℕ × Result). given (x .1)) same),
-        leb-true 4 answer l,
+        leb-true 4 answer (and-both (leb (T .size .n) (commands / 2) && leb (T .size .n) (scratch / 2)) (leb 4 answer) l .1),
       )
 
 -- the answer's entries, and the bytes behind them

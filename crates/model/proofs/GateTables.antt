@@ -8,14 +8,15 @@ use lib.Dec.{leb}
 use lib.ListN.{length, drop, length-append}
 use borrow.Author.Tests.{le-leb, leb-true}
 use Rattle.laws.specs.Lists.{overwrite}
-use Rattle.laws.specs.Entry.{be16, twos}
+use Rattle.laws.specs.Entry.{twos}
 use Rattle.laws.proofs.Entry.{be16-two, length-twos}
 use Rattle.laws.proofs.Parts.{length-heads}
+use Rattle.laws.proofs.Tests.{and-both}
 use Rattle.model.specs.Refusal.{Cramped, Answer, given, need, _>>=_, _>>_}
 use Rattle.model.specs.File.{Tree, read}
 use Rattle.model.specs.Tables.{Size, Row, Tables, Same, allCommands, tablesOf}
 use Rattle.model.specs.Calls.{left, reading}
-use Rattle.model.specs.Boundary.{entriesIn, bytesFor, rowsIn, rowEntries, sizeEntries, tablesIn, gateRead, gateReadCall}
+use Rattle.model.specs.Boundary.{entriesIn, bytesFor, rowsIn, rowEntries, sizeEntries, sizeIn, longIn, readRoom, tablesIn, gateRead, gateReadCall}
 use Rattle.model.proofs.Answers.{bind-inv, need-inv}
 use Rattle.model.proofs.Answering.{reading-iff}
 use Rattle.model.proofs.Layouts.{by-state, by-command}
@@ -64,7 +65,7 @@ module _ (z : Size) (s : List ℕ) (h : 8 ≤ length s) where
       let es = twos (sizeEntries z) [] in
       le-leb 8 (length (es ++ drop (length es) s)) (omega (arith, h, length-append es (drop (length es) s), length-twos (sizeEntries z) []))
 
-  size-back : _≡_ {A = Size} (record { n = be16 after 0; m = be16 after 2; t = be16 after 4; start = be16 after 6 }) z
+  size-back : sizeIn after ≡ z
   unfolding after overwrite sizeEntries twos
   size-back = λ i. record { n = be16-two (z .n) [] i; m = be16-two (z .m) [] i; t = be16-two (z .t) [] i; start = be16-two (z .start) [] i }
 
@@ -103,7 +104,7 @@ module _ (file size rows firsts outcomes : List ℕ) where
   gate-read-again e =
       let (T, t) = answered (gateRead file (length size) (length rows) (length firsts) (length outcomes)) e in
       let (U, r, f) = bind-inv (reading (length rows / 6) (length firsts / 2) (length outcomes / 2) file) _ t in
-      let (l, g) = need-inv Cramped (leb 8 (length size)) (given U) f in
+      let (l, g) = need-inv Cramped (readRoom (U .size) (length size) (length rows) (length firsts) (length outcomes)) (given U) f in
       let a = reading-iff (length rows / 6) (length firsts / 2) (length outcomes / 2) file T .0 (r ∙ g) in
       let p = a .tree in
       let back : given T ≡ given (tablesOf p) = ap given (sym (a .is)) in
@@ -112,7 +113,7 @@ module _ (file size rows firsts outcomes : List ℕ) where
       = rw (length-rows-in rows, length-entries-in firsts, length-entries-in outcomes) (r ∙ g ∙ back) in (
         p,
         a .reads,
-        left-back (tablesOf p) answers (leb-true 8 (length size) l)
+        left-back (tablesOf p) answers (leb-true 8 (length size) (and-both (longIn (U .size) (length rows) (length firsts) (length outcomes)) (leb 8 (length size)) l .1))
             (omega (arith, a .long-rows, ap (λ (z : Size). z .n) size-is, length-heads by-state 0 (p .states)))
             (omega (arith, a .long-firsts, ap (λ (z : Size). z .m) size-is, length-heads by-command 0 (allCommands (p .states))))
             (omega (arith, a .long-outcomes, ap (λ (z : Size). z .t) size-is))

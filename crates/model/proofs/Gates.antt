@@ -14,7 +14,7 @@ use Rattle.model.specs.File.{maxStates}
 use Rattle.model.specs.Tables.{Size, Tables, Same}
 use Rattle.model.specs.SoundTest.{sound}
 use Rattle.model.specs.Calls.{left, deciding, searching}
-use Rattle.model.specs.Boundary.{code, gateDecide, gateSearch}
+use Rattle.model.specs.Boundary.{decideRoom, searchRoom, code, gateDecide, gateSearch}
 use Rattle.model.proofs.SoundFacts.{sound-facts}
 use Rattle.model.proofs.SameSound.{deciding-same, searching-same}
 
@@ -24,9 +24,9 @@ unfolding need _>>_ _>>=_
 behind r true x y f h = h refl
 behind r false x y f h = refl
 
--- two tests for room, one after the other
+-- a test for room, and then one that asks for more: the second is enough
 two-needs : {A B : Type 0} (x : Answer A) (k : A → B) (p q : Bool)
-    → ((x >>= λ a. need Cramped p >> given a) >>= λ a. need Cramped q >> given (k a)) ≡ (x >>= λ a. need Cramped (p && q) >> given (k a))
+    → ((x >>= λ a. need Cramped p >> given a) >>= λ a. need Cramped (p && q) >> given (k a)) ≡ (x >>= λ a. need Cramped (p && q) >> given (k a))
 unfolding need _>>_ _>>=_
 two-needs (given a) k true q = refl
 two-needs (given a) k false q = refl
@@ -54,12 +54,12 @@ module _ (T : Tables) where
       behind Unsound (sound T) _ _ _ (λ e. let few = le-leb _ _ (sound-facts T .0 e .size .few) in behind Stranger (ltb start (T .size .n)) _ _ _ (λ _. rw few))
 
   pub gate-decide : (ranks commands marks scratch tally : ℕ) → gateDecide (given T) ranks commands marks scratch tally
-      ≡ (wholeDeciding >>= λ P. need Cramped (leb (T .size .n) (ranks / 2) && leb (T .size .n) (commands / 2) && leb (T .size .n) (marks / 2) && leb (T .size .n) (scratch / 2) && leb 12 tally) >> given P)
+      ≡ (wholeDeciding >>= λ P. need Cramped (decideRoom (T .size .n) ranks commands marks scratch tally) >> given P)
   unfolding gateDecide _>>=_
   gate-decide ranks commands marks scratch tally = rw (deciding-after (ranks / 2) (commands / 2) (marks / 2) (scratch / 2)) (two-needs wholeDeciding (λ P. P) _ _)
 
   pub gate-search : (start commands scratch answer : ℕ) → gateSearch (given T) start commands scratch answer
-      ≡ (wholeSearch start >>= λ R. need Cramped (leb (T .size .n) (commands / 2) && leb (T .size .n) (scratch / 2) && leb 4 answer) >> given (T .size .n, R))
+      ≡ (wholeSearch start >>= λ R. need Cramped (searchRoom (T .size .n) commands scratch answer) >> given (T .size .n, R))
   unfolding gateSearch _>>=_
   gate-search start commands scratch answer = rw (searching-after start (commands / 2) (scratch / 2)) (two-needs (wholeSearch start) (λ R. (T .size .n, R)) _ _)
 
@@ -109,13 +109,15 @@ module _ {A B D : Type 0} (x : Answer A) (h : A → D) (v : Answer D) (from : v 
 module _ {T U : Tables} (same : Same T U) where
   pub gate-decide-same : (ranks commands marks scratch tally : ℕ) → gateDecide (given T) ranks commands marks scratch tally ≡ gateDecide (given U) ranks commands marks scratch tally
   unfolding gateDecide _>>=_
-  gate-decide-same a b c d e = rw (deciding-same same (a / 2) (b / 2) (c / 2) (d / 2))
+  gate-decide-same a b c d e =
+      rw (deciding-same same (a / 2) (b / 2) (c / 2) (d / 2))
+      (ap (λ (z : Size). deciding U (a / 2) (b / 2) (c / 2) (d / 2) >>= λ P. need Cramped (decideRoom (z .n) a b c d e) >> given P) (same .size))
 
   pub gate-search-same : (start commands scratch answer : ℕ) → gateSearch (given T) start commands scratch answer ≡ gateSearch (given U) start commands scratch answer
   unfolding gateSearch _>>=_
   gate-search-same start a b c =
       rw (searching-same same start (a / 2) (b / 2))
-      (ap (λ (z : Size). searching U start (a / 2) (b / 2) >>= λ R. need Cramped (leb 4 c) >> given (z .n, R)) (same .size))
+      (ap (λ (z : Size). searching U start (a / 2) (b / 2) >>= λ R. need Cramped (searchRoom (z .n) a b c) >> given (z .n, R)) (same .size))
 
 -- the plan lent comes first
 module _ (lent : Answer Tables) where

@@ -1,5 +1,5 @@
 -- The calls of the gate controller's C program (document 01, "Refusal table"): numbers and byte slices.
-use mathlib.Core.Bool.{cond}
+use mathlib.Core.Bool.{Bool, cond, _&&_}
 use mathlib.Core.List.{List, [], _∷_}
 use Prim.Native.Nat.{ℕ, _/_}
 use lib.Dec.{leb}
@@ -39,6 +39,10 @@ rowEntries (w ∷ ws) = w .kind ∷ w .first ∷ w .policy ∷ rowEntries ws
 unfoldable pub sizeEntries : Size → List ℕ
 sizeEntries z = z .n ∷ z .m ∷ z .t ∷ z .start ∷ []
 
+-- and the size record that bytes hold
+abbrev pub sizeIn : List ℕ → Size
+sizeIn s = record { n = be16 s 0; m = be16 s 2; t = be16 s 4; start = be16 s 6 }
+
 -- "the tally six by rows"
 unfoldable pub tallyEntries : Plan → List ℕ
 tallyEntries P = joined (tally P)
@@ -52,6 +56,25 @@ unfoldable pub code : {A : Type 0} → Answer A → ℕ
 code (given a) = 0
 code (refused r) = number r
 
+-- ---- room in slices, by their lengths in bytes
+
+-- slices hold as many rows and entries as a size record counts
+abbrev pub longIn : Size → ℕ → ℕ → ℕ → Bool
+longIn z rows firsts outcomes = leb (z .n) (rows / 6) && leb (z .m) (firsts / 2) && leb (z .t) (outcomes / 2)
+
+-- room for a plan that was read, and for its size record
+abbrev pub readRoom : Size → ℕ → ℕ → ℕ → ℕ → Bool
+readRoom z size rows firsts outcomes = longIn z rows firsts outcomes && leb 8 size
+
+-- for the verdicts on n states, and for the tally
+abbrev pub decideRoom : ℕ → ℕ → ℕ → ℕ → ℕ → ℕ → Bool
+decideRoom n ranks commands marks scratch tally =
+    leb n (ranks / 2) && leb n (commands / 2) && leb n (marks / 2) && leb n (scratch / 2) && leb 12 tally
+
+-- for the search's command table of n states, and for its answer
+abbrev pub searchRoom : ℕ → ℕ → ℕ → ℕ → Bool
+searchRoom n commands scratch answer = leb n (commands / 2) && leb n (scratch / 2) && leb 4 answer
+
 -- ---- the calls, on the slices lent in and the lengths in bytes of those written
 
 -- the plan lent in: "one too short for the size record lent in is 10"
@@ -59,24 +82,24 @@ unfoldable pub tablesIn : List ℕ → List ℕ → List ℕ → List ℕ → An
 tablesIn size rows firsts outcomes = do
   need Unsound (leb 8 (length size))
   given (record {
-    size = record { n = be16 size 0; m = be16 size 2; t = be16 size 4; start = be16 size 6 };
+    size = sizeIn size;
     rows = rowsIn (entriesIn rows);
     firsts = entriesIn firsts;
     outcomes = entriesIn outcomes;
   })
 
--- "A slice too short for such an answer is 9"
+-- "A slice too short for such an answer is 9": after the library's call, which asks for room in its own tables, the same of all slices
 unfoldable pub gateRead : List ℕ → ℕ → ℕ → ℕ → ℕ → Answer Tables
 gateRead file size rows firsts outcomes = do
   T ← reading (rows / 6) (firsts / 2) (outcomes / 2) file
-  need Cramped (leb 8 size)
+  need Cramped (readRoom (T .size) size rows firsts outcomes)
   given T
 
 unfoldable pub gateDecide : Answer Tables → ℕ → ℕ → ℕ → ℕ → ℕ → Answer Plan
 gateDecide lent ranks commands marks scratch tally = do
   T ← lent
   P ← deciding T (ranks / 2) (commands / 2) (marks / 2) (scratch / 2)
-  need Cramped (leb 12 tally)
+  need Cramped (decideRoom (T .size .n) ranks commands marks scratch tally)
   given P
 
 -- with the count of states that the command table is to hold
@@ -84,7 +107,7 @@ unfoldable pub gateSearch : Answer Tables → ℕ → ℕ → ℕ → ℕ → An
 gateSearch lent start commands scratch answer = do
   T ← lent
   R ← searching T start (commands / 2) (scratch / 2)
-  need Cramped (leb 4 answer)
+  need Cramped (searchRoom (T .size .n) commands scratch answer)
   given (T .size .n, R)
 
 -- ---- what each call returns and what every slice lent to it holds afterwards, for all bytes lent

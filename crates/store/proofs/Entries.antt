@@ -9,10 +9,10 @@ use Rattle.laws.specs.Lists.{overwrite}
 use Rattle.laws.specs.Writes.{putAll}
 use Rattle.laws.proofs.Blocks.{Blocks}
 use Rattle.laws.proofs.Writes.{put-then, put-front}
-use Rattle.model.specs.Tables.{Row, Size}
+use Rattle.model.specs.Tables.{Row as ModelRow, Size as ModelSize}
 use Rattle.model.specs.Boundary.{bytesFor, rowEntries, sizeEntries}
 
-pub row-stored : (w : Row) (s : ℕ) (l₀ : List ℕ) {l₁ l₂ l₃ : List ℕ} → l₁ ≡ putAll l₀ (s * 3 * 2) (two (w .kind) [])
+pub row-stored : (w : ModelRow) (s : ℕ) (l₀ : List ℕ) {l₁ l₂ l₃ : List ℕ} → l₁ ≡ putAll l₀ (s * 3 * 2) (two (w .kind) [])
     → l₂ ≡ putAll l₁ ((s * 3 + 1) * 2) (two (w .first) []) → l₃ ≡ putAll l₂ ((s * 3 + 2) * 2) (two (w .policy) [])
     → l₃ ≡ putAll l₀ (s * 6) (bytesFor (rowEntries (w ∷ [])))
 unfolding rowEntries twos
@@ -23,7 +23,7 @@ row-stored w s l₀ p q r =
     let p′ = p ∙ ap (λ (i : ℕ). putAll l₀ i k) e in
     put-then l₀ (s * 6) (k ++ f) (two (w .policy) []) (put-then l₀ (s * 6) k f p′ q (omega arith)) r (omega arith)
 
-pub size-stored : (z : Size) (l₀ : List ℕ) {l₁ l₂ l₃ l₄ : List ℕ} → 8 ≤ length l₀ → l₁ ≡ putAll l₀ 0 (two (z .n) [])
+pub size-stored : (z : ModelSize) (l₀ : List ℕ) {l₁ l₂ l₃ l₄ : List ℕ} → 8 ≤ length l₀ → l₁ ≡ putAll l₀ 0 (two (z .n) [])
     → l₂ ≡ putAll l₁ 2 (two (z .m) []) → l₃ ≡ putAll l₂ 4 (two (z .t) []) → l₄ ≡ putAll l₃ 6 (two (z .start) [])
     → l₄ ≡ overwrite (bytesFor (sizeEntries z)) l₀
 unfolding sizeEntries twos
@@ -35,6 +35,6 @@ size-stored z l₀ h p q r u =
     put-then l₀ 0 ((n ++ m) ++ t) start (put-then l₀ 0 (n ++ m) t (put-then l₀ 0 n m p q refl) r refl) u refl
     ∙ put-front l₀ (((n ++ m) ++ t) ++ start) h
 
-pub rows-blocks : Blocks 6 (λ (ws : List Row). bytesFor (rowEntries ws))
+pub rows-blocks : Blocks 6 (λ (ws : List ModelRow). bytesFor (rowEntries ws))
 unfolding rowEntries twos
 rows-blocks = record { none = refl; more = λ w ws. refl; wide = λ w. refl }

@@ -6,96 +6,80 @@ use borrow.Author.Needs.{needs}
 use Rattle.gate_deciding.proofs.answers.deliver.Statement.{statement}
 use Rattle.gate_deciding.proofs.answers.deliver.Tie as tie
 
--- src/answers.rt:81:31
 enum-known-answer : tie.Need-enum-known-answer
 enum-known-answer c = search needs
 
--- src/answers.rt:81:43
 number-requires : tie.Need-number-requires
 number-requires c κs = search needs
 
--- src/answers.rt:85:17
 enum-told : tie.Need-enum-told
 enum-told c = search needs
 
--- src/answers.rt:83:17
 room-requires : tie.Need-room-requires
 room-requires c κs = search needs
 
--- src/answers.rt:91:17
 number-requires-2 : tie.Need-number-requires-2
 number-requires-2 c κs = search needs
 
--- src/answers.rt:91:17
 returns : tie.Need-returns
 returns c =
     let e = cramped (c .before .before .before .before .before .before .before .before .before .before .before .before .before .before .args .decision) _ _ _ _ _ _ (c .before .before .before .enum-told .given .1) (stopped (c .before .before .room .ensures) (c .before .if1 .taken)) in
     (refused-code e (c .number2 .ensures), (refused-left e _ _, (refused-left e _ _, (refused-left e _ _, (refused-left e _ _, refused-left e _ _)))))
 
--- src/answers.rt:93:13
 store-requires : tie.Need-store-requires
 store-requires c κs =
     let a = c .before .before .before .before .before .before .before .before .before .before .before .before .before .before .args in (
       decision-fits (a .decision) (a .n) 0 0 0 0 0 (c .before .before .before .enum-told .given .1) (c .before .before .before .before .before .before .before .before .before .before .before .before .before .before .pre) .0,
-      room-facts _ _ _ _ _ _ (passed (c .before .before .room .ensures) (c .before .if1 .left)) .0,
+      room-facts (a .n) (length (a .ranks .now)) (length (a .commands .now)) (length (a .marks .now)) (length (a .scratch .now)) (length (a .tally .now)) (c .before .before .room .ensures) (c .before .if1 .left) .0,
     )
 
--- src/answers.rt:94:13
 store-requires-2 : tie.Need-store-requires-2
 store-requires-2 c κs =
     let a = c .before .before .before .before .before .before .before .before .before .before .before .before .before .before .before .before .before .before .args in (
       decision-fits (a .decision) (a .n) 0 0 0 0 0 (c .before .before .before .before .before .before .before .enum-told .given .1) (c .before .before .before .before .before .before .before .before .before .before .before .before .before .before .before .before .before .before .pre) .1,
-      room-facts _ _ _ _ _ _ (passed (c .before .before .before .before .before .before .room .ensures) (c .before .before .before .before .before .if1 .left)) .1,
+      room-facts (a .n) (length (a .ranks .now)) (length (a .commands .now)) (length (a .marks .now)) (length (a .scratch .now)) (length (a .tally .now)) (c .before .before .before .before .before .before .room .ensures) (c .before .before .before .before .before .if1 .left) .1,
     )
 
--- src/answers.rt:95:13
 store-requires-3 : tie.Need-store-requires-3
 store-requires-3 c κs =
     let a = c .before .before .before .before .before .before .before .before .before .before .before .before .before .before .before .before .before .before .before .before .before .before .args in (
       decision-fits (a .decision) (a .n) 0 0 0 0 0 (c .before .before .before .before .before .before .before .before .before .before .before .enum-told .given .1) (c .before .before .before .before .before .before .before .before .before .before .before .before .before .before .before .before .before .before .before .before .before .before .pre) .2,
-      room-facts _ _ _ _ _ _ (passed (c .before .before .before .before .before .before .before .before .before .before .room .ensures) (c .before .before .before .before .before .before .before .before .before .if1 .left)) .2,
+      room-facts (a .n) (length (a .ranks .now)) (length (a .commands .now)) (length (a .marks .now)) (length (a .scratch .now)) (length (a .tally .now)) (c .before .before .before .before .before .before .before .before .before .before .room .ensures) (c .before .before .before .before .before .before .before .before .before .if1 .left) .2,
     )
 
--- src/answers.rt:96:13
 store-requires-4 : tie.Need-store-requires-4
 store-requires-4 c κs =
     let a = c .before .before .before .before .before .before .before .before .before .before .before .before .before .before .before .before .before .before .before .before .before .before .before .before .before .before .args in (
       decision-fits (a .decision) (a .n) 0 0 0 0 0 (c .before .before .before .before .before .before .before .before .before .before .before .before .before .before .before .enum-told .given .1) (c .before .before .before .before .before .before .before .before .before .before .before .before .before .before .before .before .before .before .before .before .before .before .before .before .before .before .pre) .3,
-      room-facts _ _ _ _ _ _ (passed (c .before .before .before .before .before .before .before .before .before .before .before .before .before .before .room .ensures) (c .before .before .before .before .before .before .before .before .before .before .before .before .before .if1 .left)) .3,
+      room-facts (a .n) (length (a .ranks .now)) (length (a .commands .now)) (length (a .marks .now)) (length (a .scratch .now)) (length (a .tally .now)) (c .before .before .before .before .before .before .before .before .before .before .before .before .before .before .room .ensures) (c .before .before .before .before .before .before .before .before .before .before .before .before .before .if1 .left) .3,
     )
 
--- src/answers.rt:99:13
 store-tally-requires : tie.Need-store-tally-requires
-store-tally-requires c κs = room-facts _ _ _ _ _ _ (passed (c .before .before .before .before .before .before .before .before .before .before .before .before .before .before .before .before .before .before .before .before .room .ensures) (c .before .before .before .before .before .before .before .before .before .before .before .before .before .before .before .before .before .before .before .if1 .left)) .4
+store-tally-requires c κs =
+    let a = c .before .before .before .before .before .before .before .before .before .before .before .before .before .before .before .before .before .before .before .before .before .before .before .before .before .before .before .before .before .before .before .before .args in
+    room-facts (a .n) (length (a .ranks .now)) (length (a .commands .now)) (length (a .marks .now)) (length (a .scratch .now)) (length (a .tally .now)) (c .before .before .before .before .before .before .before .before .before .before .before .before .before .before .before .before .before .before .before .before .room .ensures) (c .before .before .before .before .before .before .before .before .before .before .before .before .before .before .before .before .before .before .before .if1 .left) .4
 
--- src/answers.rt:58:1
 returns-2 : tie.Need-returns-2
 returns-2 c =
     let a = c .before .before .before .before .before .before .before .before .before .before .before .before .before .args in
     let e = not-decided (a .decision) (a .n) (length (a .ranks .now)) (length (a .commands .now)) (length (a .marks .now)) (length (a .scratch .now)) (length (a .tally .now)) _ (c .before .before .answer .given .1) in
     (refused-code e (c .number .ensures), (refused-left e _ _, (refused-left e _ _, (refused-left e _ _, (refused-left e _ _, refused-left e _ _)))))
 
--- src/answers.rt:58:1
 same-length : tie.Need-same-length
 same-length c = search needs
 
--- src/answers.rt:58:1
 same-length-2 : tie.Need-same-length-2
 same-length-2 c = search needs
 
--- src/answers.rt:58:1
 same-length-3 : tie.Need-same-length-3
 same-length-3 c = search needs
 
--- src/answers.rt:58:1
 same-length-4 : tie.Need-same-length-4
 same-length-4 c = search needs
 
--- src/answers.rt:58:1
 same-length-5 : tie.Need-same-length-5
 same-length-5 c = search needs
 
--- src/answers.rt:58:1
 returns-3 : tie.Need-returns-3
 returns-3 c =
     let e = delivered (c .before .before .before .before .before .before .before .before .before .before .before .before .before .before .before .before .before .before .before .before .before .before .before .before .before .before .before .before .before .before .before .before .before .before .before .args .decision) _ _ _ _ _ _ (c .before .before .before .before .before .before .before .before .before .before .before .before .before .before .before .before .before .before .before .before .before .before .before .before .enum-told .given .1) (passed (c .before .before .before .before .before .before .before .before .before .before .before .before .before .before .before .before .before .before .before .before .before .before .before .room .ensures) (c .before .before .before .before .before .before .before .before .before .before .before .before .before .before .before .before .before .before .before .before .before .before .if1 .left)) in

@@ -1,22 +1,22 @@
-use Rattle.gate_deciding.specs.Delivery.{room}
-use Rattle.laws.proofs.Loops.{stopped, passed}
-use borrow.Author.Needs.{needs}
+use borrow.Author.Tests.{lt-leb, le-leb}
+use mathlib.Core.Bool.{and-false}
 use Rattle.gate_deciding.proofs.answers.room.Statement.{statement}
 use Rattle.gate_deciding.proofs.answers.room.Tie as tie
 
--- src/answers.rt:38:9
-long-enough-requires : tie.Need-long-enough-requires
-long-enough-requires c κs = search needs
-
--- src/answers.rt:39:9
 returns : tie.Need-returns
-unfolding room
-returns c = rw (stopped (c .before .long-enough .ensures) (c .if1 .taken))
+returns c = simp (lt-leb _ _ (c .if1 .taken))
 
--- src/answers.rt:35:1
 returns-2 : tie.Need-returns-2
-unfolding room
-returns-2 c = rw (passed (c .before .long-enough .ensures) (c .if1 .left))
+returns-2 c = simp (lt-leb _ _ (c .if2 .taken), and-false)
+
+returns-3 : tie.Need-returns-3
+returns-3 c = simp (lt-leb _ _ (c .if3 .taken), and-false)
+
+returns-4 : tie.Need-returns-4
+returns-4 c = simp (lt-leb _ _ (c .if4 .taken), and-false)
+
+returns-5 : tie.Need-returns-5
+returns-5 c = rw (le-leb _ _ (c .before .before .before .if1 .left), le-leb _ _ (c .before .before .if2 .left), le-leb _ _ (c .before .if3 .left), le-leb _ _ (c .if4 .left))
 
 pub room-spec : {M : Type 1} → statement M
-room-spec = tie.close (tie.spec long-enough-requires returns returns-2)
+room-spec = tie.close (tie.spec returns returns-2 returns-3 returns-4 returns-5)

@@ -5,59 +5,45 @@ use borrow.Author.Needs.{needs}
 use Rattle.gate_deciding.proofs.answers.store_tally.Statement.{statement}
 use Rattle.gate_deciding.proofs.answers.store_tally.Tie as tie
 
--- src/answers.rt:49:27
 array-read-store-entry : tie.Need-array-read-store-entry
 array-read-store-entry c = search needs
 
--- src/answers.rt:49:5
 store-entry-requires : tie.Need-store-entry-requires
 store-entry-requires c κs = search needs
 
--- src/answers.rt:50:27
 array-read-store-entry-2 : tie.Need-array-read-store-entry-2
 array-read-store-entry-2 c = search needs
 
--- src/answers.rt:50:5
 store-entry-requires-2 : tie.Need-store-entry-requires-2
 store-entry-requires-2 c κs = search needs
 
--- src/answers.rt:51:27
 array-read-store-entry-3 : tie.Need-array-read-store-entry-3
 array-read-store-entry-3 c = search needs
 
--- src/answers.rt:51:5
 store-entry-requires-3 : tie.Need-store-entry-requires-3
 store-entry-requires-3 c κs = search needs
 
--- src/answers.rt:52:27
 array-read-store-entry-4 : tie.Need-array-read-store-entry-4
 array-read-store-entry-4 c = search needs
 
--- src/answers.rt:52:5
 store-entry-requires-4 : tie.Need-store-entry-requires-4
 store-entry-requires-4 c κs = search needs
 
--- src/answers.rt:53:27
 array-read-store-entry-5 : tie.Need-array-read-store-entry-5
 array-read-store-entry-5 c = search needs
 
--- src/answers.rt:53:5
 store-entry-requires-5 : tie.Need-store-entry-requires-5
 store-entry-requires-5 c κs = search needs
 
--- src/answers.rt:54:27
 array-read-store-entry-6 : tie.Need-array-read-store-entry-6
 array-read-store-entry-6 c = search needs
 
--- src/answers.rt:54:5
 store-entry-requires-6 : tie.Need-store-entry-requires-6
 store-entry-requires-6 c κs = search needs
 
--- src/answers.rt:45:1
 same-length : tie.Need-same-length
 same-length c = search needs
 
--- src/answers.rt:45:1
 returns : tie.Need-returns
 returns c =
     let a = c .before .before .before .before .before .before .before .before .before .before .before .before .before .before .before .before .before .before .before .before .before .before .before .before .before .args in

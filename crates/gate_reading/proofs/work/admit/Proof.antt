@@ -14,17 +14,17 @@ returns : tie.Need-returns
 unfolding _>>=_
 returns c = rw (c .enum-told .given .1)
 
-roomy-requires : tie.Need-roomy-requires
-roomy-requires c κs = search needs
+room-requires : tie.Need-room-requires
+room-requires c κs = search needs
 
 returns-2 : tie.Need-returns-2
 unfolding need _>>=_ _>>_
-returns-2 c = rw (c .before .before .before .plan .given .1, stopped (c .before .roomy .ensures) (c .if1 .taken))
+returns-2 c = rw (c .before .before .before .plan .given .1, stopped (c .before .room .ensures) (c .if1 .taken))
 
 returns-3 : tie.Need-returns-3
 unfolding need _>>=_ _>>_
-returns-3 c = rw (c .before .before .before .plan .given .1, passed (c .before .roomy .ensures) (c .if1 .left))
+returns-3 c = rw (c .before .before .before .plan .given .1, passed (c .before .room .ensures) (c .if1 .left))
 
 pub admit-spec : {M : Type 1} → statement M
 admit-spec =
-    tie.close (tie.spec enum-known-plan enum-told returns roomy-requires returns-2 returns-3)
+    tie.close (tie.spec enum-known-plan enum-told returns room-requires returns-2 returns-3)

@@ -6,76 +6,62 @@ use borrow.Author.Needs.{needs}
 use Rattle.gate_searching.proofs.answers.deliver.Statement.{statement}
 use Rattle.gate_searching.proofs.answers.deliver.Tie as tie
 
--- src/answers.rt:73:31
 enum-known-found : tie.Need-enum-known-found
 enum-known-found c = search needs
 
--- src/answers.rt:73:43
 number-requires : tie.Need-number-requires
 number-requires c κs = search needs
 
--- src/answers.rt:74:29
 enum-known-found-2 : tie.Need-enum-known-found-2
 enum-known-found-2 c = search needs
 
--- src/answers.rt:75:17
 room-requires : tie.Need-room-requires
 room-requires c κs = search needs
 
--- src/answers.rt:76:17
 number-requires-2 : tie.Need-number-requires-2
 number-requires-2 c κs = search needs
 
--- src/answers.rt:76:17
 returns : tie.Need-returns
 returns c =
     let e = cramped _ _ _ _ _ _ (c .before .before .before .before .found2 .given .1) (stopped (c .before .before .room .ensures) (c .before .if1 .taken)) in
     (refused-code e (c .number2 .ensures), (refused-left e _ _, (refused-left e _ _, refused-left e _ _)))
 
--- src/answers.rt:78:13
 store-requires : tie.Need-store-requires
 store-requires c κs =
     let a = c .before .before .before .before .before .before .before .before .before .before .before .args in (
       found-fits (a .found) (a .n) 0 0 0 _ (c .before .before .before .before .found2 .given .1) (c .before .before .before .before .before .before .before .before .before .before .before .pre) .0,
-      room-facts _ _ _ _ (passed (c .before .before .room .ensures) (c .before .if1 .left)) .0,
+      room-facts (a .n) (length (a .commands .now)) (length (a .scratch .now)) (length (a .answer .now)) (c .before .before .room .ensures) (c .before .if1 .left) .0,
     )
 
--- src/answers.rt:79:13
 store-requires-2 : tie.Need-store-requires-2
 store-requires-2 c κs =
     let a = c .before .before .before .before .before .before .before .before .before .before .before .before .before .before .before .args in (
       found-fits (a .found) (a .n) 0 0 0 _ (c .before .before .before .before .before .before .before .before .found2 .given .1) (c .before .before .before .before .before .before .before .before .before .before .before .before .before .before .before .pre) .1,
-      room-facts _ _ _ _ (passed (c .before .before .before .before .before .before .room .ensures) (c .before .before .before .before .before .if1 .left)) .1,
+      room-facts (a .n) (length (a .commands .now)) (length (a .scratch .now)) (length (a .answer .now)) (c .before .before .before .before .before .before .room .ensures) (c .before .before .before .before .before .if1 .left) .1,
     )
 
--- src/answers.rt:80:13
 store-found-requires : tie.Need-store-found-requires
 store-found-requires c κs =
     let a = c .before .before .before .before .before .before .before .before .before .before .before .before .before .before .before .before .before .before .before .args in (
       found-fits (a .found) (a .n) 0 0 0 _ (c .before .before .before .before .before .before .before .before .before .before .before .before .found2 .given .1) (c .before .before .before .before .before .before .before .before .before .before .before .before .before .before .before .before .before .before .before .pre) .2,
-      room-facts _ _ _ _ (passed (c .before .before .before .before .before .before .before .before .before .before .room .ensures) (c .before .before .before .before .before .before .before .before .before .if1 .left)) .2,
+      room-facts (a .n) (length (a .commands .now)) (length (a .scratch .now)) (length (a .answer .now)) (c .before .before .before .before .before .before .before .before .before .before .room .ensures) (c .before .before .before .before .before .before .before .before .before .if1 .left) .2,
     )
 
--- src/answers.rt:57:1
 returns-2 : tie.Need-returns-2
 returns-2 c =
     let a = c .before .before .before .before .before .before .before .before .before .args in
     let e = not-found (a .found) (a .n) (length (a .commands .now)) (length (a .scratch .now)) (length (a .answer .now)) _ (c .before .before .found .given .1) in
     (refused-code e (c .number .ensures), (refused-left e _ _, (refused-left e _ _, refused-left e _ _)))
 
--- src/answers.rt:57:1
 same-length : tie.Need-same-length
 same-length c = search needs
 
--- src/answers.rt:57:1
 same-length-2 : tie.Need-same-length-2
 same-length-2 c = search needs
 
--- src/answers.rt:57:1
 same-length-3 : tie.Need-same-length-3
 same-length-3 c = search needs
 
--- src/answers.rt:57:1
 returns-3 : tie.Need-returns-3
 returns-3 c =
     let e = delivered _ _ _ _ _ _ (c .before .before .before .before .before .before .before .before .before .before .before .before .before .before .before .found2 .given .1) (passed (c .before .before .before .before .before .before .before .before .before .before .before .before .before .room .ensures) (c .before .before .before .before .before .before .before .before .before .before .before .before .if1 .left)) in

@@ -1,22 +1,15 @@
-use Rattle.gate_searching.specs.Delivery.{room}
 use borrow.Author.Tests.{lt-leb, le-leb}
 use mathlib.Core.Bool.{and-false}
 use Rattle.gate_searching.proofs.answers.room.Statement.{statement}
 use Rattle.gate_searching.proofs.answers.room.Tie as tie
 
--- src/answers.rt:23:9
 returns : tie.Need-returns
-unfolding room
 returns c = simp (lt-leb _ _ (c .if1 .taken))
 
--- src/answers.rt:26:9
 returns-2 : tie.Need-returns-2
-unfolding room
 returns-2 c = simp (lt-leb _ _ (c .if2 .taken), and-false)
 
--- src/answers.rt:19:1
 returns-3 : tie.Need-returns-3
-unfolding room
 returns-3 c = rw (le-leb _ _ (c .before .if1 .left), le-leb _ _ (c .if2 .left))
 
 pub room-spec : {M : Type 1} → statement M

@@ -3,27 +3,21 @@ use borrow.Author.Needs.{needs}
 use Rattle.gate_searching.proofs.answers.store_found.Statement.{statement}
 use Rattle.gate_searching.proofs.answers.store_found.Tie as tie
 
--- src/answers.rt:52:28
 flag-requires : tie.Need-flag-requires
 flag-requires c κs = search needs
 
--- src/answers.rt:52:5
 store-entry-requires : tie.Need-store-entry-requires
 store-entry-requires c κs = search needs
 
--- src/answers.rt:53:28
 narrow-requires : tie.Need-narrow-requires
 narrow-requires c κs = search needs
 
--- src/answers.rt:53:5
 store-entry-requires-2 : tie.Need-store-entry-requires-2
 store-entry-requires-2 c κs = search needs
 
--- src/answers.rt:48:1
 same-length : tie.Need-same-length
 same-length c = search needs
 
--- src/answers.rt:48:1
 returns : tie.Need-returns
 returns c =
     let f = c .before .before .before .before .before .before .before .before .before .before .before .args .found in

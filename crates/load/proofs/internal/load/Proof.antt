@@ -17,31 +17,24 @@ Inv-loop bytes table₀ n i₀ table i =
 abbrev μ-loop : tie.MeasureT-loop
 μ-loop bytes table₀ n i₀ table i = n - i
 
--- src/internal.rt:50:5
 loop-holds : tie.Need-loop-holds Inv-loop μ-loop
 loop-holds c = (omega arith, refl, refl)
 
--- src/internal.rt:51:20
 entry-at-requires : tie.Need-entry-at-requires Inv-loop μ-loop
 entry-at-requires c κs = omega (arith, c .before .before .before .before .pre .0, c .loop-test .taken)
 
--- src/internal.rt:51:9
 mul-table : tie.Need-mul-table Inv-loop μ-loop
 mul-table c = omega (arith, c .before .before .before .before .before .pre .1, c .before .before .before .before .before .good, c .before .before .loop .inv .1)
 
--- src/internal.rt:51:9
 slice-write-table : tie.Need-slice-write-table Inv-loop μ-loop
 slice-write-table c = omega (arith, c .before .before .before .before .before .pre .1, c .before .before .loop .inv .1)
 
--- src/internal.rt:52:9
 add-i : tie.Need-add-i Inv-loop μ-loop
 add-i c = omega (arith, c .before .before .before .before .before .fits)
 
--- src/internal.rt:50:5
 loop-less : tie.Need-loop-less Inv-loop μ-loop
 loop-less c = omega arith
 
--- src/internal.rt:50:5
 loop-again : tie.Need-loop-again Inv-loop μ-loop
 loop-again c =
     let bytes = c .before .before .before .before .before .args .bytes .now in (
@@ -50,11 +43,9 @@ loop-again c =
       ruled-next (λ j. be16 bytes (j * 2)) (c .before .before .before .before .before .args .n) (c .before .before .loop .i) (c .before .before .loop .table) (c .before .loop-test .taken) (c .entry-at .ensures) ∙ c .before .before .loop .inv .2,
     )
 
--- src/internal.rt:45:1
 same-length : tie.Need-same-length Inv-loop μ-loop
 same-length c = c .before .loop .inv .1
 
--- src/internal.rt:45:1
 returns : tie.Need-returns Inv-loop μ-loop
 returns c =
     let a = c .before .before .before .before .args in

@@ -1,19 +1,15 @@
 use mathlib.Core.Bool.{and-false}
 use borrow.Author.Tests.{lt-leb, le-leb}
-use Rattle.load.specs.Loading.{longIn}
 use Rattle.load.proofs.internal.long.Statement.{statement}
 use Rattle.load.proofs.internal.long.Tie as tie
 
 returns : tie.Need-returns
-unfolding longIn
 returns c = simp (lt-leb _ _ (c .if1 .taken))
 
 returns-2 : tie.Need-returns-2
-unfolding longIn
 returns-2 c = simp (lt-leb _ _ (c .if2 .taken), and-false)
 
 returns-3 : tie.Need-returns-3
-unfolding longIn
 returns-3 c = rw (le-leb _ _ (c .before .before .before .if1 .left), le-leb _ _ (c .before .if2 .left))
 
 pub long-spec : {M : Type 1} → statement M

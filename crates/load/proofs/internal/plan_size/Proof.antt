@@ -4,31 +4,24 @@ use borrow.Author.Needs.{needs}
 use Rattle.load.proofs.internal.plan_size.Statement.{statement}
 use Rattle.load.proofs.internal.plan_size.Tie as tie
 
--- src/internal.rt:123:9
 returns : tie.Need-returns
 returns c = size-refused _ _ _ _ (loading-short _ _ _ _ (c .if1 .taken))
 
--- src/internal.rt:125:9
 size-in-requires : tie.Need-size-in-requires
 size-in-requires c κs = search needs
 
--- src/internal.rt:126:9
 few-requires : tie.Need-few-requires
 few-requires c κs = search needs
 
--- src/internal.rt:127:9
 returns-2 : tie.Need-returns-2
 returns-2 c = size-refused _ _ _ _ (loading-many _ _ _ _ (c .before .before .before .if1 .left) _ (c .before .before .size-in .ensures) (stopped (c .before .few .ensures) (c .if2 .taken)))
 
--- src/internal.rt:129:9
 long-requires : tie.Need-long-requires
 long-requires c κs = search needs
 
--- src/internal.rt:130:9
 returns-3 : tie.Need-returns-3
 returns-3 c = size-refused _ _ _ _ (loading-long _ _ _ _ (c .before .before .before .before .before .if1 .left) _ (c .before .before .before .before .size-in .ensures) (stopped (c .before .long .ensures) (c .if3 .taken)))
 
--- src/internal.rt:119:1
 returns-4 : tie.Need-returns-4
 returns-4 c =
     size-answered _ _ _ _ (c .before .before .before .before .before .if1 .left) _ (c .before .before .before .before .size-in .ensures)

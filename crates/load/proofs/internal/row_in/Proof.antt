@@ -2,39 +2,30 @@ use borrow.Author.Needs.{needs}
 use Rattle.load.proofs.internal.row_in.Statement.{statement}
 use Rattle.load.proofs.internal.row_in.Tie as tie
 
--- src/internal.rt:62:31
 mul-entry-at : tie.Need-mul-entry-at
 mul-entry-at c = search needs
 
--- src/internal.rt:62:15
 entry-at-requires : tie.Need-entry-at-requires
 entry-at-requires c κs = search needs
 
--- src/internal.rt:63:32
 mul-entry-at-2 : tie.Need-mul-entry-at-2
 mul-entry-at-2 c = search needs
 
--- src/internal.rt:63:32
 add-entry-at : tie.Need-add-entry-at
 add-entry-at c = search needs
 
--- src/internal.rt:63:16
 entry-at-requires-2 : tie.Need-entry-at-requires-2
 entry-at-requires-2 c κs = search needs
 
--- src/internal.rt:64:35
 mul-entry-at-3 : tie.Need-mul-entry-at-3
 mul-entry-at-3 c = search needs
 
--- src/internal.rt:64:35
 add-entry-at-2 : tie.Need-add-entry-at-2
 add-entry-at-2 c = search needs
 
--- src/internal.rt:64:19
 entry-at-requires-3 : tie.Need-entry-at-requires-3
 entry-at-requires-3 c κs = search needs
 
--- src/internal.rt:57:1
 returns : tie.Need-returns
 returns c = rw (c .before .before .entry-at .ensures, c .before .entry-at2 .ensures, c .entry-at3 .ensures)
 

@@ -2,43 +2,33 @@ use borrow.Author.Needs.{needs}
 use Rattle.load.proofs.internal.size_in.Statement.{statement}
 use Rattle.load.proofs.internal.size_in.Tie as tie
 
--- src/internal.rt:85:9
 entry-at-requires : tie.Need-entry-at-requires
 entry-at-requires c κs = search needs
 
--- src/internal.rt:86:9
 entry-at-requires-2 : tie.Need-entry-at-requires-2
 entry-at-requires-2 c κs = search needs
 
--- src/internal.rt:87:9
 entry-at-requires-3 : tie.Need-entry-at-requires-3
 entry-at-requires-3 c κs = search needs
 
--- src/internal.rt:88:9
 entry-at-requires-4 : tie.Need-entry-at-requires-4
 entry-at-requires-4 c κs = search needs
 
--- src/internal.rt:89:15
 wide-requires : tie.Need-wide-requires
 wide-requires c κs = search needs
 
--- src/internal.rt:89:24
 wide-requires-2 : tie.Need-wide-requires-2
 wide-requires-2 c κs = search needs
 
--- src/internal.rt:89:33
 wide-requires-3 : tie.Need-wide-requires-3
 wide-requires-3 c κs = search needs
 
--- src/internal.rt:89:42
 wide-requires-4 : tie.Need-wide-requires-4
 wide-requires-4 c κs = search needs
 
--- src/internal.rt:89:5
 new-requires : tie.Need-new-requires
 new-requires c κs = search needs
 
--- src/internal.rt:81:1
 returns : tie.Need-returns
 returns c =
     rw (c .new .ensures, c .before .before .before .before .wide .ensures .0, c .before .before .before .wide2 .ensures .0, c .before .before .wide3 .ensures .0, c .before .wide4 .ensures .0)

@@ -6,7 +6,7 @@ use lib.ListN.{length-map, List·getD-map}
 use Rattle.laws.proofs.Blocks.{Stored, stored-none, stored-next, stored-done}
 use Rattle.laws.specs.Writes.{putAll}
 use Rattle.model.specs.Boundary.{bytesFor, rowEntries}
-use Rattle.model.specs.Tables.{Row}
+use Rattle.model.specs.Tables.{Row as ModelRow}
 use Rattle.tables.specs.Meaning.{rowOf, rowsOf, noRow}
 use Rattle.store.proofs.Entries.{rows-blocks}
 mod Lts
@@ -15,7 +15,7 @@ use Rattle.store.proofs.internal.store_rows.Statement.{statement}
 use Rattle.store.proofs.internal.store_rows.Proof.Tie as tie
 
 abbrev Inv-loop : tie.InvT-loop
-Inv-loop rows bytes₀ n s₀ bytes s = (s ≤ n) × Stored (λ (ws : List Row). bytesFor (rowEntries ws)) (rowsOf rows) bytes₀ s bytes
+Inv-loop rows bytes₀ n s₀ bytes s = (s ≤ n) × Stored (λ (ws : List ModelRow). bytesFor (rowEntries ws)) (rowsOf rows) bytes₀ s bytes
 
 abbrev μ-loop : tie.MeasureT-loop
 μ-loop rows bytes₀ n s₀ bytes s = n - s
@@ -41,7 +41,7 @@ loop-again c =
     let s = c .before .before .before .before .before .before .loop .s in (
       omega (arith, c .before .before .before .before .before .loop-test .taken),
       stored-next rows-blocks (rowOf noRow) (c .before .before .before .before .before .before .loop .inv .1) (omega (arith, c .before .before .before .before .before .before .before .before .pre, c .before .before .before .before .before .loop-test .taken, length-map R rowOf)) _
-          (c .before .before .store-row .ensures ∙ ap (λ (w : Row). putAll (c .before .before .before .before .before .before .loop .bytes) (s * 6) (bytesFor (rowEntries (w ∷ [])))) (ap rowOf (c .before .before .before .before .row-at .ensures) ∙ sym (List·getD-map rowOf R s noRow))),
+          (c .before .before .store-row .ensures ∙ ap (λ (w : ModelRow). putAll (c .before .before .before .before .before .before .loop .bytes) (s * 6) (bytesFor (rowEntries (w ∷ [])))) (ap rowOf (c .before .before .before .before .row-at .ensures) ∙ sym (List·getD-map rowOf R s noRow))),
     )
 
 same-length : tie.Need-same-length Inv-loop μ-loop

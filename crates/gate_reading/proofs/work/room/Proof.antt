@@ -1,0 +1,19 @@
+use borrow.Author.Tests.{lt-leb, le-leb}
+use mathlib.Core.Bool.{and-false}
+use Rattle.gate_reading.proofs.work.room.Statement.{statement}
+use Rattle.gate_reading.proofs.work.room.Tie as tie
+
+returns : tie.Need-returns
+returns c = rw (lt-leb _ _ (c .if1 .taken))
+
+returns-2 : tie.Need-returns-2
+returns-2 c = simp (lt-leb _ _ (c .if2 .taken), and-false)
+
+returns-3 : tie.Need-returns-3
+returns-3 c = simp (lt-leb _ _ (c .if3 .taken), and-false)
+
+returns-4 : tie.Need-returns-4
+returns-4 c = rw (le-leb _ _ (c .before .before .before .before .if1 .left), le-leb _ _ (c .before .before .if2 .left), le-leb _ _ (c .if3 .left))
+
+pub room-spec : {M : Type 1} → statement M
+room-spec = tie.close (tie.spec returns returns-2 returns-3 returns-4)

@@ -1,0 +1,39 @@
+// What only the planner's own crates call: reading, to bytes.
+ghost use mathlib.Core.Path.{_≡_};
+ghost use Rattle.model.specs.Boundary.{gateReadCall};
+use crate::work::read_by;
+use tables::Row;
+use tables::Size;
+
+// Reads a file; the size record, the rows, the first outcomes and the outcomes are answered as entries of two bytes, highest first.
+pub fn read_call(
+    file: &[u8],
+    size: &mut [u8],
+    rows: &mut [u8],
+    firsts: &mut [u8],
+    outcomes: &mut [u8],
+) -> u32
+    ensures returns { λ r. ⌜ r ≡ gateReadCall (now (file .entry)) (now (size .entry)) (now (rows .entry)) (now (firsts .entry)) (now (outcomes .entry)) .returns ⌝ }
+    ensures size { λ r. ⌜ now (size .exit) ≡ gateReadCall (now (file .entry)) (now (size .entry)) (now (rows .entry)) (now (firsts .entry)) (now (outcomes .entry)) .size ⌝ }
+    ensures rows { λ r. ⌜ now (rows .exit) ≡ gateReadCall (now (file .entry)) (now (size .entry)) (now (rows .entry)) (now (firsts .entry)) (now (outcomes .entry)) .rows ⌝ }
+    ensures firsts { λ r. ⌜ now (firsts .exit) ≡ gateReadCall (now (file .entry)) (now (size .entry)) (now (rows .entry)) (now (firsts .entry)) (now (outcomes .entry)) .firsts ⌝ }
+    ensures outcomes { λ r. ⌜ now (outcomes .exit) ≡ gateReadCall (now (file .entry)) (now (size .entry)) (now (rows .entry)) (now (firsts .entry)) (now (outcomes .entry)) .outcomes ⌝ }
+{
+    let mut states = [Row {
+        kind: 0,
+        first: 0,
+        practice: 0,
+    }; Size::STATES];
+    let mut commands = [0u16; Size::COMMANDS];
+    let mut entries = [0u16; Size::OUTCOMES];
+    read_by(
+        file,
+        &mut states[..],
+        &mut commands[..],
+        &mut entries[..],
+        size,
+        rows,
+        firsts,
+        outcomes,
+    )
+}

@@ -1,0 +1,88 @@
+// What only the planner's own crates call: the search, on bytes.
+ghost use mathlib.Core.Path.{_≡_};
+ghost use Rattle.model.specs.Refusal.{given};
+ghost use Rattle.model.specs.Boundary.{tablesIn, gateSearchCall};
+ghost use Rattle.tables.specs.Meaning.{held};
+use crate::answers::deliver;
+use load::internal::PlanAnswer;
+use load::internal::load_plan;
+use tables::Row;
+use tables::Size;
+use tables::internal::wide;
+
+// The call, on a plan that was read into tables.
+pub fn search_loaded(
+    size: Size,
+    rows: &[Row],
+    firsts: &[u16],
+    outcomes: &[u16],
+    start: u16,
+    commands: &mut [u8],
+    scratch: &mut [u8],
+    answer: &mut [u8],
+) -> u32
+    ensures { λ r. ⌜ r ≡ gateSearchCall (given (held size (now (rows .entry)) (now (firsts .entry)) (now (outcomes .entry)))) start (now (commands .entry)) (now (scratch .entry)) (now (answer .entry)) .returns ⌝ }
+    ensures { λ _. ⌜ now (commands .exit) ≡ gateSearchCall (given (held size (now (rows .entry)) (now (firsts .entry)) (now (outcomes .entry)))) start (now (commands .entry)) (now (scratch .entry)) (now (answer .entry)) .commands ⌝ }
+    ensures { λ _. ⌜ now (scratch .exit) ≡ gateSearchCall (given (held size (now (rows .entry)) (now (firsts .entry)) (now (outcomes .entry)))) start (now (commands .entry)) (now (scratch .entry)) (now (answer .entry)) .scratch ⌝ }
+    ensures { λ _. ⌜ now (answer .exit) ≡ gateSearchCall (given (held size (now (rows .entry)) (now (firsts .entry)) (now (outcomes .entry)))) start (now (commands .entry)) (now (scratch .entry)) (now (answer .entry)) .answer ⌝ }
+{
+    let mut takes = [0u16; Size::STATES];
+    let mut clean = [0u16; Size::STATES];
+    let found = search::search(
+        size,
+        rows,
+        firsts,
+        outcomes,
+        wide(start),
+        &mut takes,
+        &mut clean,
+    );
+    deliver(found, size.n, &takes, &clean, commands, scratch, answer)
+}
+
+// The search from one start, on a plan lent as bytes. Refused with 10, then 11, then 9, before a slice is written.
+pub fn search_call(
+    size: &[u8],
+    rows: &[u8],
+    firsts: &[u8],
+    outcomes: &[u8],
+    start: u16,
+    commands: &mut [u8],
+    scratch: &mut [u8],
+    answer: &mut [u8],
+) -> u32
+    ensures { λ r. ⌜ r ≡ gateSearchCall (tablesIn (now (size .entry)) (now (rows .entry)) (now (firsts .entry)) (now (outcomes .entry))) start (now (commands .entry)) (now (scratch .entry)) (now (answer .entry)) .returns ⌝ }
+    ensures { λ _. ⌜ now (commands .exit) ≡ gateSearchCall (tablesIn (now (size .entry)) (now (rows .entry)) (now (firsts .entry)) (now (outcomes .entry))) start (now (commands .entry)) (now (scratch .entry)) (now (answer .entry)) .commands ⌝ }
+    ensures { λ _. ⌜ now (scratch .exit) ≡ gateSearchCall (tablesIn (now (size .entry)) (now (rows .entry)) (now (firsts .entry)) (now (outcomes .entry))) start (now (commands .entry)) (now (scratch .entry)) (now (answer .entry)) .scratch ⌝ }
+    ensures { λ _. ⌜ now (answer .exit) ≡ gateSearchCall (tablesIn (now (size .entry)) (now (rows .entry)) (now (firsts .entry)) (now (outcomes .entry))) start (now (commands .entry)) (now (scratch .entry)) (now (answer .entry)) .answer ⌝ }
+{
+    let mut states = [Row {
+        kind: 0,
+        first: 0,
+        practice: 0,
+    }; Size::STATES];
+    let mut heads = [0u16; Size::COMMANDS];
+    let mut entries = [0u16; Size::OUTCOMES];
+    let plan = load_plan(
+        size,
+        rows,
+        firsts,
+        outcomes,
+        &mut states[..],
+        &mut heads,
+        &mut entries,
+    );
+    match plan {
+        PlanAnswer::Refused(refusal) => tables::number(refusal),
+        PlanAnswer::Given(read) => search_loaded(
+            read,
+            &states[..],
+            &heads,
+            &entries,
+            start,
+            commands,
+            scratch,
+            answer,
+        ),
+    }
+}
