@@ -33,17 +33,6 @@ module _ {B : Type 0} {b : B} where
   bind-inv (given a) f e = (a, refl, e)
   bind-inv (refused r) f e = absurd (not-both e)
 
-pub need-open : (r : Refusal) (t : Bool) → need r t ≡ given tt → t ≡ true
-unfolding need
-need-open r true e = refl
-need-open r false e = absurd (not-both e)
-
--- an answer behind two tests
-pub then-assoc : {B : Type 0} (u v : Answer (Unit {0})) (x : Answer B) → ((u >> v) >> x) ≡ (u >> (v >> x))
-unfolding _>>_
-then-assoc (given u) v x = refl
-then-assoc (refused r) v x = refl
-
 -- a test on the way held, and what is behind it gave the value
 pub need-iff : {B : Type 0} (r : Refusal) (t : Bool) (x : Answer B) (b : B) → ((need r t >> x) ≡ given b) ↔ ((t ≡ true) × (x ≡ given b))
 unfolding need _>>_
