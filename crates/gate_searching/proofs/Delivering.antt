@@ -19,10 +19,10 @@ use Rattle.search.specs.declared.Found.{Found}
 use Rattle.search.specs.declared.SearchAnswer.{SearchAnswer}
 use Rattle.search.specs.declared.SearchAnswer.the-variants.{Given, Refused}
 use Rattle.search.specs.Replies.{answerOf}
-use Rattle.gate_searching.specs.Delivery.{delivery, resultOf, Deliverable}
+use Rattle.gate_searching.specs.Delivery.{delivery, Deliverable}
 
 pub found-stored : (v : Bool × ℕ) (l₀ : List ℕ) {l₁ l₂ : List ℕ} → 4 ≤ length l₀ → l₁ ≡ putAll l₀ 0 (two (cond (v .0) 1 0) []) → l₂ ≡ putAll l₁ 2 (two (v .1) [])
-    → l₂ ≡ overwrite (bytesFor (resultEntries (resultOf v))) l₀
+    → l₂ ≡ overwrite (bytesFor (resultEntries v)) l₀
 unfolding twos resultEntries
 found-stored v l₀ h p q =
     let lost : List ℕ = two (cond (v .0) 1 0) [] in

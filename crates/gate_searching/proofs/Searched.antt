@@ -21,7 +21,7 @@ use Rattle.model.proofs.GoodTables.{sound-good}
 use Rattle.model.proofs.Valid.{sound-valid, few-states, few-commands}
 use Rattle.model.proofs.Widths.{rounds-fit}
 use Rattle.model.proofs.Gates.{wholeSearch, gate-search, code-from, left-from}
-use Rattle.gate_searching.specs.Delivery.{delivery, resultOf, Deliverable}
+use Rattle.gate_searching.specs.Delivery.{delivery, Deliverable}
 
 -- what is answered of a search
 abbrev pub verdict : Result → Bool × ℕ
@@ -31,7 +31,7 @@ verdict R = (R .lost, R .rounds)
 abbrev pub Says : Answer (ℕ × Result) → List ℕ → List ℕ → List ℕ → ℕ → List ℕ → List ℕ → List ℕ → Type 0
 Says q C X A k C′ X′ A′ =
     (k ≡ code q) × ((C′ ≡ left (λ y. bytesFor (resultTable (y .0) (y .1))) q C)
-    × ((X′ ≡ left (λ y. bytesFor (cleared (y .0))) q X) × (A′ ≡ left (λ y. bytesFor (resultEntries (y .1))) q A)))
+    × ((X′ ≡ left (λ y. bytesFor (cleared (y .0))) q X) × (A′ ≡ left (λ y. bytesFor (resultEntries (y .1 .lost, y .1 .rounds))) q A)))
 
 -- what is known where the search answers
 record Searched (T : Tables) (start : ℕ) (R : Result) : Type 0 where
@@ -106,7 +106,7 @@ module _ (T : Tables) (s start : ℕ) (at : s ≡ start) (v : Answer (Bool × �
         ∙ ap (λ (q : Answer (ℕ × Result)). left g q l) call-is
 
     pub search-delivered : {k : ℕ} {C′ X′ A′ : List ℕ} → k ≡ code out → C′ ≡ left (λ _. bytesFor (take (T .size .n) takes)) out C
-        → X′ ≡ left (λ _. bytesFor (take (T .size .n) clean)) out X → A′ ≡ left (λ w. bytesFor (resultEntries (resultOf w))) out A
+        → X′ ≡ left (λ _. bytesFor (take (T .size .n) clean)) out X → A′ ≡ left (λ w. bytesFor (resultEntries w)) out A
         → Says call C X A k C′ X′ A′
     unfolding resultEntries
     search-delivered h c x a = (
@@ -115,7 +115,7 @@ module _ (T : Tables) (s start : ℕ) (at : s ≡ start) (v : Answer (Bool × �
         c ∙ leaves _ _ (λ R f. ap bytesFor (commands-taken T s zeros takes took R f)) C,
         (
           x ∙ leaves _ _ (λ R f. ap bytesFor (scratch-taken T s zeros clean cleans R f)) X,
-          a ∙ leaves (λ w. bytesFor (resultEntries (resultOf w))) (λ y. bytesFor (resultEntries (y .1))) (λ R f. refl) A,
+          a ∙ leaves (λ w. bytesFor (resultEntries w)) (λ y. bytesFor (resultEntries (y .1 .lost, y .1 .rounds))) (λ R f. refl) A,
         ),
       ),
     )

@@ -1,9 +1,7 @@
 -- What is stored of a search.
 use mathlib.Core.Path.{_≡_}
-use mathlib.Core.Bool.{Bool, false}
-use mathlib.Core.Option.{none}
+use mathlib.Core.Bool.{Bool}
 use Prim.Native.Nat.{ℕ, _<_, _≤_}
-use Rattle.model.specs.Search.{Result}
 use Rattle.model.specs.Refusal.{Cramped, Answer, given, need, _>>=_, _>>_}
 use Rattle.model.specs.Boundary.{searchRoom}
 
@@ -13,10 +11,6 @@ delivery found n commands scratch answer = do
   v ← found
   need Cramped (searchRoom n commands scratch answer)
   given v
-
--- a result with that verdict and those rounds: its entries (`resultEntries`) say no more of it
-abbrev pub resultOf : Bool × ℕ → Result
-resultOf v = record { lost = v .0; rounds = v .1; reached = λ _. false; command = λ _. none }
 
 -- where something was found it fits: the rounds 16 bits, and n the tables' lengths
 abbrev pub Deliverable : Answer (Bool × ℕ) → ℕ → ℕ → ℕ → Type 0

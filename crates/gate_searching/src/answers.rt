@@ -7,7 +7,7 @@ ghost use Rattle.laws.specs.Lists.{overwrite};
 ghost use Rattle.model.specs.Calls.{left};
 ghost use Rattle.model.specs.Boundary.{bytesFor, resultEntries, code, searchRoom};
 ghost use Rattle.search.specs.Replies.{answerOf};
-ghost use Rattle.gate_searching.specs.Delivery.{delivery, resultOf, Deliverable};
+ghost use Rattle.gate_searching.specs.Delivery.{delivery, Deliverable};
 use search::Found;
 use search::SearchAnswer;
 use store::internal::store;
@@ -41,7 +41,7 @@ fn flag(lost: bool) -> u16
 // The verdict, then the rounds.
 fn store_found(found: Found, answer: &mut [u8])
     requires { ⌜ (found .rounds < 65536) × (4 ≤ length (now answer)) ⌝ }
-    ensures { λ _. ⌜ now (answer .exit) ≡ overwrite (bytesFor (resultEntries (resultOf (found .lost, found .rounds)))) (now (answer .entry)) ⌝ }
+    ensures { λ _. ⌜ now (answer .exit) ≡ overwrite (bytesFor (resultEntries (found .lost, found .rounds))) (now (answer .entry)) ⌝ }
 {
     store_entry(answer, 0, flag(found.lost));
     store_entry(answer, 1, narrow(found.rounds));
@@ -61,7 +61,7 @@ pub fn deliver(
     ensures { λ r. ⌜ r ≡ code (delivery (answerOf found) n (length (now (commands .entry))) (length (now (scratch .entry))) (length (now (answer .entry)))) ⌝ }
     ensures { λ _. ⌜ now (commands .exit) ≡ left (λ _. bytesFor (take n (now (takes .entry)))) (delivery (answerOf found) n (length (now (commands .entry))) (length (now (scratch .entry))) (length (now (answer .entry)))) (now (commands .entry)) ⌝ }
     ensures { λ _. ⌜ now (scratch .exit) ≡ left (λ _. bytesFor (take n (now (clean .entry)))) (delivery (answerOf found) n (length (now (commands .entry))) (length (now (scratch .entry))) (length (now (answer .entry)))) (now (scratch .entry)) ⌝ }
-    ensures { λ _. ⌜ now (answer .exit) ≡ left (λ v. bytesFor (resultEntries (resultOf v))) (delivery (answerOf found) n (length (now (commands .entry))) (length (now (scratch .entry))) (length (now (answer .entry)))) (now (answer .entry)) ⌝ }
+    ensures { λ _. ⌜ now (answer .exit) ≡ left (λ v. bytesFor (resultEntries v)) (delivery (answerOf found) n (length (now (commands .entry))) (length (now (scratch .entry))) (length (now (answer .entry)))) (now (answer .entry)) ⌝ }
 {
     match found {
         SearchAnswer::Refused(refusal) => number(refusal),

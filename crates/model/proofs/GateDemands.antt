@@ -109,7 +109,7 @@ module _ (T : Tables) where
       )
 
 -- the answer's entries, and the bytes behind them
-verdict-entry : (R : Result) (answer : List ℕ) → eqb (be16 (overwrite (bytesFor (resultEntries R)) answer) 0) 1 ≡ R .lost
+verdict-entry : (R : Result) (answer : List ℕ) → eqb (be16 (overwrite (bytesFor (resultEntries (R .lost, R .rounds))) answer) 0) 1 ≡ R .lost
 unfolding resultEntries overwrite twos
 verdict-entry R answer = flag (R .lost)
   where
@@ -117,7 +117,7 @@ verdict-entry R answer = flag (R .lost)
     flag true = refl
     flag false = refl
 
-rounds-entry : (R : Result) (answer : List ℕ) → be16 (overwrite (bytesFor (resultEntries R)) answer) 2 ≡ R .rounds
+rounds-entry : (R : Result) (answer : List ℕ) → be16 (overwrite (bytesFor (resultEntries (R .lost, R .rounds))) answer) 2 ≡ R .rounds
 unfolding resultEntries overwrite twos
 rounds-entry R answer = be16-two (R .rounds) []
 

@@ -48,8 +48,8 @@ unfoldable pub tallyEntries : Plan → List ℕ
 tallyEntries P = joined (tally P)
 
 -- "the search's answer two: 0 safe or 1 lost, then the rounds"
-unfoldable pub resultEntries : Result → List ℕ
-resultEntries R = cond (R .lost) 1 0 ∷ R .rounds ∷ []
+unfoldable pub resultEntries : Bool × ℕ → List ℕ
+resultEntries (lost, rounds) = cond lost 1 0 ∷ rounds ∷ []
 
 -- "Each call returns 0 or the refusal number."
 unfoldable pub code : {A : Type 0} → Answer A → ℕ
@@ -164,5 +164,5 @@ gateSearchCall lent start commands scratch answer =
       returns = code a;
       commands = left (λ x. bytesFor (resultTable (x .0) (x .1))) a commands;
       scratch = left (λ x. bytesFor (cleared (x .0))) a scratch;
-      answer = left (λ x. bytesFor (resultEntries (x .1))) a answer;
+      answer = left (λ x. bytesFor (resultEntries (x .1 .lost, x .1 .rounds))) a answer;
     }

@@ -24,6 +24,7 @@ impl Size {
 
     pub const OUTCOMES: usize = 16384;
 
+    // Ruled out: m and t exchanged, and a start of its own choosing.
     pub fn new(n: usize, m: usize, t: usize, start: usize) -> Size
         ensures { λ r. ⌜ r ≡ sized n m t start ⌝ }
     {
@@ -53,7 +54,7 @@ pub enum Refusal {
     Stranger,
 }
 
-// The table's number of a refusal.
+// The table's number of a refusal. Ruled out: one number for two refusals, and a number that is not the table's.
 pub fn number(r: Refusal) -> u32
     ensures { λ x. ⌜ x ≡ number (refusalOf r) ⌝ }
 {
