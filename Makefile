@@ -6,7 +6,7 @@
 # make bench     time the two beside each other
 # make rows      check that every machine-made proof file is what tools/rows makes (some minutes)
 
-.PHONY: run test tools list-test lib c-test compare bench rows
+.PHONY: run test tools proofs list-test lib c-test compare bench rows
 .SILENT:
 
 PLAN = examples/case-a.plan
@@ -22,11 +22,16 @@ target/bin/list: $(SOURCES)
 	rt check list >target/list.log 2>&1 || { cat target/list.log; exit 1; }
 	touch $@
 
-test: tools c-test compare list-test
+test: tools proofs c-test compare list-test
 	cd tests && python3 -B bench_plans.py --check && python3 -B examples.py --check
 	rt fmt --check
 	python3 -B tools/rows --check tables load store
 	rt ci
+
+# What the tests below are built from, proved side by side.
+proofs: tools
+	mkdir -p target
+	rt check gate list >target/proofs.log 2>&1 || { cat target/proofs.log; exit 1; }
 
 # The listing program on every example; then on zero bytes, refused past the limit (8), at the limit by their first tag (3), and where there are none (1).
 list-test: target/bin/list
