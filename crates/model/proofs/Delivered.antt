@@ -13,12 +13,12 @@ use Rattle.model.specs.Verdict.{rank}
 use Rattle.model.specs.Command.{chosen}
 use Rattle.model.specs.Policy.{tally}
 use Rattle.model.specs.Search.{Result, search}
-use Rattle.model.specs.Refusal.{Answer, given}
+use Rattle.model.specs.Refusal.{given}
 use Rattle.model.specs.Tables.{Tables}
 use Rattle.model.specs.SoundTest.{sound}
 use Rattle.model.specs.Held.{treeOf, planIn}
-use Rattle.model.specs.Calls.{left, deciding, searching, rankTable, commandTable, resultTable, decideCall, searchCall}
-use Rattle.model.specs.Demand3.{Demand3}
+use Rattle.model.specs.Calls.{left, rankTable, commandTable, resultTable, decideCall, searchCall}
+use Rattle.model.specs.Demand3.{Demand3, DecidingDemand3, SearchDemand3}
 use Rattle.model.proofs.Answers.{answer-inv}
 use Rattle.model.proofs.GoodTables.{sound-good}
 use Rattle.model.proofs.HeldPlan.{states-held}
@@ -31,12 +31,13 @@ entry-written : (f : ℕ → ℕ) (n : ℕ) (table : List ℕ) (s : ℕ) → s <
 entry-written f n table s h =
     getD-overwrite-below (tabulate f 0 n) table s FFFF (rw (length-tabulate f 0 n) h) ∙ tabulate-at f n s FFFF h
 
--- the tables of ranks and commands of a sound plan, and the search's, whatever the tables held before
-module _ (T : Tables) (sounds : sound T ≡ true) (ranks commands : List ℕ) (a : ℕ) (inside : a < T .size .n) (table : List ℕ) where
-  pub of-tables : Demand3 (planIn T) (overwrite (rankTable (planIn T)) ranks) (overwrite (commandTable (planIn T)) commands) a
+module _ (T : Tables) (sounds : sound T ≡ true) where
+  -- the tables of ranks and commands of a sound plan, and the search's, whatever the tables held before
+  of-tables : (ranks commands : List ℕ) (a : ℕ) → a < T .size .n → (table : List ℕ)
+      → Demand3 (planIn T) (overwrite (rankTable (planIn T)) ranks) (overwrite (commandTable (planIn T)) commands) a
       (search (planIn T) a .lost) (search (planIn T) a .rounds) (overwrite (resultTable (T .size .n) (search (planIn T) a)) table)
   unfolding rankTable commandTable resultTable planIn
-  of-tables =
+  of-tables ranks commands a inside table =
       let g = sound-good T sounds in
       let n = states-held T in
       demand3 (planIn T) (sound-valid T sounds) (omega (arith, few-states (treeOf T) g)) (λ s h. omega (arith, few-commands (treeOf T) g s h))
@@ -46,37 +47,38 @@ module _ (T : Tables) (sounds : sound T ≡ true) (ranks commands : List ℕ) (a
       a (rw n inside)
       (λ s h. entry-written (λ t. entry (search (planIn T) a .command t)) (T .size .n) table s (rw n at h))
 
--- both calls answered, on the same plan
-pub delivered : (T : Tables) (P : Plan) (R : Result) (ranks commands marks scratch : List ℕ) (a : ℕ) (table space : List ℕ)
-    → deciding T (length ranks) (length commands) (length marks) (length scratch) ≡ given P
-    → searching T a (length table) (length space) ≡ given R
-    → Demand3 P (left rankTable (given P) ranks) (left commandTable (given P) commands) a (R .lost) (R .rounds)
-    (left (resultTable (T .size .n)) (given R) table)
+  pub tables-decided : (ranks commands : List ℕ) → DecidingDemand3 T (overwrite (rankTable (planIn T)) ranks) (overwrite (commandTable (planIn T)) commands)
+  unfolding left
+  tables-decided ranks commands a table space verdict rounds e =
+      let (R, found, q) = answer-inv (λ (x : Result). (x .lost, x .rounds)) _ (verdict, rounds) e in
+      let S = searching-iff T a (length table) (length space) R .0 found in
+      rw found (subst (λ (v : Bool × ℕ). Demand3 (planIn T) (overwrite (rankTable (planIn T)) ranks) (overwrite (commandTable (planIn T)) commands) a (v .0) (v .1) (overwrite (resultTable (T .size .n) R) table)) q
+      (rw (← (S .is)) (of-tables ranks commands a (S .inside) table)))
+
+  pub table-searched : (a : ℕ) → a < T .size .n → (table : List ℕ)
+      → SearchDemand3 T a (search (planIn T) a .lost) (search (planIn T) a .rounds) (overwrite (resultTable (T .size .n) (search (planIn T) a)) table)
+  unfolding left
+  table-searched a inside table ranks commands marks scratch counts e =
+      let (P, decided, _) = answer-inv tally _ counts e in
+      let D = deciding-iff T (length ranks) (length commands) (length marks) (length scratch) P .0 decided in
+      rw (decided, ← (D .is)) (of-tables ranks commands a inside table)
+
+-- of deciding's call, where it answers
+pub decide-demand3 : (T : Tables) (ranks commands marks scratch : List ℕ) (counts : List (List ℕ))
+    → decideCall T ranks commands marks scratch .answers ≡ given counts
+    → DecidingDemand3 T (decideCall T ranks commands marks scratch .ranks) (decideCall T ranks commands marks scratch .commands)
 unfolding left
-delivered T P R ranks commands marks scratch a table space d s =
-    let D = deciding-iff T (length ranks) (length commands) (length marks) (length scratch) P .0 d in
-    let S = searching-iff T a (length table) (length space) R .0 s in
-    subst (λ (Q : Plan). Demand3 Q (overwrite (rankTable Q) ranks) (overwrite (commandTable Q) commands) a (R .lost) (R .rounds) (overwrite (resultTable (T .size .n) R) table)) (D .is)
-    (subst (λ (A : Result). Demand3 (planIn T) (overwrite (rankTable (planIn T)) ranks) (overwrite (commandTable (planIn T)) commands) a (A .lost) (A .rounds) (overwrite (resultTable (T .size .n) A) table)) (S .is)
-    (of-tables T (D .sounds) ranks commands a (S .inside) table))
+decide-demand3 T ranks commands marks scratch counts e =
+    let (P, decided, _) = answer-inv tally _ counts e in
+    let D = deciding-iff T (length ranks) (length commands) (length marks) (length scratch) P .0 decided in
+    rw (decided, ← (D .is)) (tables-decided T (D .sounds) ranks commands)
 
--- the same of answers that are equal to those
-over : (P Q : Plan) (R : Result) (x : Answer Plan) (y : Answer Result) (n : ℕ) (ranks commands : List ℕ) (a : ℕ) (lost : Bool) (rounds : ℕ) (table : List ℕ)
-    → Q ≡ P → x ≡ given P → y ≡ given R → _≡_ {A = Bool × ℕ} (R .lost, R .rounds) (lost, rounds)
-    → Demand3 P (left rankTable (given P) ranks) (left commandTable (given P) commands) a (R .lost) (R .rounds) (left (resultTable n) (given R) table)
-    → Demand3 Q (left rankTable x ranks) (left commandTable x commands) a lost rounds (left (resultTable n) y table)
-over P Q R x y n ranks commands a lost rounds table q e f v h =
-    rw (q, e, f) (subst (λ (z : Bool × ℕ). Demand3 P (left rankTable (given P) ranks) (left commandTable (given P) commands) a (z .0) (z .1) (left (resultTable n) (given R) table)) v h)
-
--- "Demand 3 is due whole": over the answers and tables of the two calls, whatever the tables held before
-pub calls-demand3 : (T : Tables) (ranks commands marks scratch : List ℕ) (a : ℕ) (table space : List ℕ)
-    (counts : List (List ℕ)) (lost : Bool) (rounds : ℕ)
-    → decideCall T ranks commands marks scratch .answers ≡ given counts → searchCall T a table space .answers ≡ given (lost, rounds)
-    → Demand3 (planIn T) (decideCall T ranks commands marks scratch .ranks) (decideCall T ranks commands marks scratch .commands) a
-    lost rounds (searchCall T a table space .commands)
-calls-demand3 T ranks commands marks scratch a table space counts lost rounds d e =
-    let (P, answered, _) = answer-inv tally _ counts d in
-    let (R, found, q) = answer-inv (λ (x : Result). (x .lost, x .rounds)) _ (lost, rounds) e in
-    let D = deciding-iff T (length ranks) (length commands) (length marks) (length scratch) P .0 answered in
-    over P (planIn T) R _ _ (T .size .n) ranks commands a lost rounds table (D .is) answered found q
-    (delivered T P R ranks commands marks scratch a table space answered found)
+-- of the search's, where it answers
+pub search-demand3 : (T : Tables) (a : ℕ) (table space : List ℕ) (verdict : Bool) (rounds : ℕ)
+    → searchCall T a table space .answers ≡ given (verdict, rounds) → SearchDemand3 T a verdict rounds (searchCall T a table space .commands)
+unfolding left
+search-demand3 T a table space verdict rounds e =
+    let (R, found, q) = answer-inv (λ (x : Result). (x .lost, x .rounds)) _ (verdict, rounds) e in
+    let S = searching-iff T a (length table) (length space) R .0 found in
+    rw found (subst (λ (v : Bool × ℕ). SearchDemand3 T a (v .0) (v .1) (overwrite (resultTable (T .size .n) R) table)) q
+    (rw (← (S .is)) (table-searched T (S .sounds) a (S .inside) table)))

@@ -54,20 +54,23 @@ module _ (P : Plan) (S : Valid P) (few : P .states < 65535) (fit : (s : ℕ) →
     same : (s : ℕ) → s < P .states → search P a .command s ≡ chosen P s → getD table s FFFF ≡ getD commands s FFFF
     same s l q = is-command s l ∙ ap entry q ∙ sym (is-chosen s l)
 
+    answers : Answers P a (search P a)
+    answers = search-answers P S a in-plan
+
+    kept : readEntry ranks a ≡ none → lost P a ≡ false
+    kept e = rank-safe P a (sym (rank-read a in-plan) ∙ e)
+
+    -- also where no round is walked, so that no walk reaches the start
+    pub same-start : readEntry ranks a ≡ none → getD table a FFFF ≡ getD commands a FFFF
+    same-start e = same a in-plan (answers .start (kept e))
+
     searched : Searched P ranks commands a (search P a .lost) (search P a .rounds) table
     unfolding lost
     searched = record {
       same-verdict = rw (rank-read a in-plan) (answers .verdict);
       same-commands = λ e s w. same s (answers .inside (kept e) s w) (answers .commands (kept e) s w);
-      same-start = λ e. same a in-plan (answers .start (kept e));
       few-rounds = answers .few;
     }
-      where
-        answers : Answers P a (search P a)
-        answers = search-answers P S a in-plan
-
-        kept : readEntry ranks a ≡ none → lost P a ≡ false
-        kept e = rank-safe P a (sym (rank-read a in-plan) ∙ e)
 
     pub demand3 : Demand3 P ranks commands a (search P a .lost) (search P a .rounds) table
     demand3 = record { decided = decided P S ranks commands rank-read chosen-read; searched = searched }

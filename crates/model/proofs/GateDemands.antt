@@ -13,7 +13,6 @@ use Rattle.laws.specs.Lists.{tabulate, overwrite}
 use Rattle.laws.specs.Entry.{be16, twos, entry}
 use Rattle.laws.proofs.Entry.{be16-two, length-twos}
 use Rattle.laws.proofs.Lists.{length-tabulate}
-use Rattle.laws.proofs.Tests.{and-both}
 use Rattle.model.specs.Plan.{Plan}
 use Rattle.model.specs.Verdict.{rank}
 use Rattle.model.specs.Command.{chosen}
@@ -23,12 +22,12 @@ use Rattle.model.specs.Tables.{Tables}
 use Rattle.model.specs.File.{entries}
 use Rattle.model.specs.Held.{planIn}
 use Rattle.model.specs.Calls.{left, deciding, searching, rankTable, commandTable, resultTable}
-use Rattle.model.specs.Boundary.{entriesIn, bytesFor, resultEntries, decideRoom, searchRoom, code, tablesIn, gateDecide, gateSearch, gateDecideCall, gateSearchCall}
-use Rattle.model.specs.Demand3.{Demand3}
+use Rattle.model.specs.Boundary.{entriesIn, bytesFor, resultEntries, tallyBytes, answerBytes, code, verdictIn, roundsIn, gateDecide, gateSearch, gateDecideCall, gateSearchCall}
+use Rattle.model.specs.Demand3.{DecidingDemand3, SearchDemand3}
 use Rattle.model.proofs.Answers.{bind-inv, need-inv, given-inj}
 use Rattle.model.proofs.Answering.{DecideAnswers, SearchAnswers, deciding-iff, searching-iff}
 use Rattle.model.proofs.HeldPlan.{states-held}
-use Rattle.model.proofs.Delivered.{of-tables}
+use Rattle.model.proofs.Delivered.{tables-decided, table-searched}
 
 -- ---- entries written to bytes
 
@@ -93,7 +92,7 @@ module _ (T : Tables) where
   unfolding gateDecide _>>=_
   decided ranks commands marks scratch tally P e =
       let (Q, d, f) = bind-inv (deciding T (ranks / 2) (commands / 2) (marks / 2) (scratch / 2)) _ e in
-      let (_, g) = need-inv Cramped (decideRoom (T .size .n) ranks commands marks scratch tally) (given Q) f in
+      let (_, g) = need-inv Cramped (leb tallyBytes tally) (given Q) f in
       deciding-iff T (ranks / 2) (commands / 2) (marks / 2) (scratch / 2) P .0 (d ∙ g)
 
   found : (start commands scratch answer n : ℕ) (R : Result) → gateSearch (given T) start commands scratch answer ≡ given (n, R)
@@ -101,15 +100,15 @@ module _ (T : Tables) where
   unfolding gateSearch _>>=_
   found start commands scratch answer n R e =
       let (Q, d, f) = bind-inv (searching T start (commands / 2) (scratch / 2)) _ e in
-      let (l, g) = need-inv Cramped (searchRoom (T .size .n) commands scratch answer) (given (T .size .n, Q)) f in
+      let (l, g) = need-inv Cramped (leb answerBytes answer) (given (T .size .n, Q)) f in
       let same = given-inj g in (
         ap (λ (x : ℕ × Result). x .0) same,
         searching-iff T start (commands / 2) (scratch / 2) R .0 (d ∙ ap (λ (x : ℕ × Result). given (x .1)) same),
-        leb-true 4 answer (and-both (leb (T .size .n) (commands / 2) && leb (T .size .n) (scratch / 2)) (leb 4 answer) l .1),
+        leb-true answerBytes answer l,
       )
 
 -- the answer's entries, and the bytes behind them
-verdict-entry : (R : Result) (answer : List ℕ) → eqb (be16 (overwrite (bytesFor (resultEntries (R .lost, R .rounds))) answer) 0) 1 ≡ R .lost
+verdict-entry : (R : Result) (answer : List ℕ) → verdictIn (overwrite (bytesFor (resultEntries (R .lost, R .rounds))) answer) ≡ R .lost
 unfolding resultEntries overwrite twos
 verdict-entry R answer = flag (R .lost)
   where
@@ -117,39 +116,43 @@ verdict-entry R answer = flag (R .lost)
     flag true = refl
     flag false = refl
 
-rounds-entry : (R : Result) (answer : List ℕ) → be16 (overwrite (bytesFor (resultEntries (R .lost, R .rounds))) answer) 2 ≡ R .rounds
+rounds-entry : (R : Result) (answer : List ℕ) → roundsIn (overwrite (bytesFor (resultEntries (R .lost, R .rounds))) answer) ≡ R .rounds
 unfolding resultEntries overwrite twos
 rounds-entry R answer = be16-two (R .rounds) []
 
--- "The gate controller's C program calls reading, deciding and the search": of the bytes that the two calls leave when both return 0, on a
--- plan lent as bytes, whatever the slices held before
-module _ (size rows firsts outcomes : List ℕ) (T : Tables) (lent : tablesIn size rows firsts outcomes ≡ given T)
-    (ranks commands marks scratch tally : List ℕ) (a : ℕ) (table space answer : List ℕ) where
-  pub gate-demand3 : gateDecideCall (tablesIn size rows firsts outcomes) ranks commands marks scratch tally .returns ≡ 0
-      → gateSearchCall (tablesIn size rows firsts outcomes) a table space answer .returns ≡ 0
-      → Demand3 (planIn T) (entriesIn (gateDecideCall (tablesIn size rows firsts outcomes) ranks commands marks scratch tally .ranks))
-      (entriesIn (gateDecideCall (tablesIn size rows firsts outcomes) ranks commands marks scratch tally .commands)) a
-      (eqb (be16 (gateSearchCall (tablesIn size rows firsts outcomes) a table space answer .answer) 0) 1)
-      (be16 (gateSearchCall (tablesIn size rows firsts outcomes) a table space answer .answer) 2)
-      (entriesIn (gateSearchCall (tablesIn size rows firsts outcomes) a table space answer .commands))
-  unfolding left rankTable commandTable resultTable
-  gate-demand3 d e =
-      let (P, p) = answered (gateDecide (given T) (length ranks) (length commands) (length marks) (length scratch) (length tally)) (rw lent at d) in
-      let (x, q) = answered (gateSearch (given T) a (length table) (length space) (length answer)) (rw lent at e) in
+-- "The gate controller's C program calls reading, deciding and the search": of the bytes that each call leaves when it returns 0, on a plan
+-- lent as bytes, whatever the slices held before
+module _ (lent : Answer Tables) (T : Tables) (is : lent ≡ given T) where
+  pub gate-decide-demand3 : (ranks commands marks scratch tally : List ℕ) → gateDecideCall lent ranks commands marks scratch tally .returns ≡ 0
+      → DecidingDemand3 T (entriesIn (gateDecideCall lent ranks commands marks scratch tally .ranks)) (entriesIn (gateDecideCall lent ranks commands marks scratch tally .commands))
+  unfolding left rankTable commandTable
+  gate-decide-demand3 ranks commands marks scratch tally e =
+      let (P, p) = answered (gateDecide (given T) (length ranks) (length commands) (length marks) (length scratch) (length tally)) (rw is at e) in
       let D = decided T (length ranks) (length commands) (length marks) (length scratch) (length tally) P p in
-      let (n, S, l) = found T a (length table) (length space) (length answer) (x .0) (x .1) q in
       let m = states-held T in
       rw (
-        lent,
+        is,
         p,
-        q,
         ← D .is,
-        ← S .is,
-        ← n,
         written-table (λ s. entry (rank (planIn T) s)) (planIn T .states) ranks (omega (arith, D .long-ranks, m)),
         written-table (λ s. entry (chosen (planIn T) s)) (planIn T .states) commands (omega (arith, D .long-commands, m)),
+      )
+      (tables-decided T (D .sounds) (entriesIn ranks) (entriesIn commands))
+
+  pub gate-search-demand3 : (a : ℕ) (table space answer : List ℕ) → gateSearchCall lent a table space answer .returns ≡ 0
+      → SearchDemand3 T a (verdictIn (gateSearchCall lent a table space answer .answer)) (roundsIn (gateSearchCall lent a table space answer .answer))
+      (entriesIn (gateSearchCall lent a table space answer .commands))
+  unfolding left resultTable
+  gate-search-demand3 a table space answer e =
+      let (x, q) = answered (gateSearch (given T) a (length table) (length space) (length answer)) (rw is at e) in
+      let (n, S, l) = found T a (length table) (length space) (length answer) (x .0) (x .1) q in
+      rw (
+        is,
+        q,
+        ← S .is,
+        ← n,
         written-table (λ s. entry (search (planIn T) a .command s)) (T .size .n) table (S .long-commands),
         verdict-entry (search (planIn T) a) answer,
         rounds-entry (search (planIn T) a) answer,
       )
-      (of-tables T (D .sounds) (entriesIn ranks) (entriesIn commands) a (S .inside) (entriesIn table))
+      (table-searched T (S .sounds) a (S .inside) (entriesIn table))

@@ -11,12 +11,11 @@ use Rattle.laws.specs.Lists.{overwrite}
 use Rattle.laws.specs.Entry.{twos}
 use Rattle.laws.proofs.Entry.{be16-two, length-twos}
 use Rattle.laws.proofs.Parts.{length-heads}
-use Rattle.laws.proofs.Tests.{and-both}
 use Rattle.model.specs.Refusal.{Cramped, Answer, given, need, _>>=_, _>>_}
 use Rattle.model.specs.File.{Tree, read}
 use Rattle.model.specs.Tables.{Size, Row, Tables, Same, allCommands, tablesOf}
 use Rattle.model.specs.Calls.{left, reading}
-use Rattle.model.specs.Boundary.{entriesIn, bytesFor, rowsIn, rowEntries, sizeEntries, sizeIn, longIn, readRoom, tablesIn, gateRead, gateReadCall}
+use Rattle.model.specs.Boundary.{entriesIn, bytesFor, rowsIn, rowEntries, sizeEntries, sizeBytes, sizeIn, tablesIn, gateRead, gateReadCall}
 use Rattle.model.proofs.Answers.{bind-inv, need-inv}
 use Rattle.model.proofs.Answering.{reading-iff}
 use Rattle.model.proofs.Layouts.{by-state, by-command}
@@ -104,7 +103,7 @@ module _ (file size rows firsts outcomes : List ℕ) where
   gate-read-again e =
       let (T, t) = answered (gateRead file (length size) (length rows) (length firsts) (length outcomes)) e in
       let (U, r, f) = bind-inv (reading (length rows / 6) (length firsts / 2) (length outcomes / 2) file) _ t in
-      let (l, g) = need-inv Cramped (readRoom (U .size) (length size) (length rows) (length firsts) (length outcomes)) (given U) f in
+      let (l, g) = need-inv Cramped (leb sizeBytes (length size)) (given U) f in
       let a = reading-iff (length rows / 6) (length firsts / 2) (length outcomes / 2) file T .0 (r ∙ g) in
       let p = a .tree in
       let back : given T ≡ given (tablesOf p) = ap given (sym (a .is)) in
@@ -113,7 +112,7 @@ module _ (file size rows firsts outcomes : List ℕ) where
       = rw (length-rows-in rows, length-entries-in firsts, length-entries-in outcomes) (r ∙ g ∙ back) in (
         p,
         a .reads,
-        left-back (tablesOf p) answers (leb-true 8 (length size) (and-both (longIn (U .size) (length rows) (length firsts) (length outcomes)) (leb 8 (length size)) l .1))
+        left-back (tablesOf p) answers (leb-true sizeBytes (length size) l)
             (omega (arith, a .long-rows, ap (λ (z : Size). z .n) size-is, length-heads by-state 0 (p .states)))
             (omega (arith, a .long-firsts, ap (λ (z : Size). z .m) size-is, length-heads by-command 0 (allCommands (p .states))))
             (omega (arith, a .long-outcomes, ap (λ (z : Size). z .t) size-is))

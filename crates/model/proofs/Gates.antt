@@ -14,7 +14,7 @@ use Rattle.model.specs.File.{maxStates}
 use Rattle.model.specs.Tables.{Size, Tables, Same}
 use Rattle.model.specs.SoundTest.{sound}
 use Rattle.model.specs.Calls.{left, deciding, searching}
-use Rattle.model.specs.Boundary.{decideRoom, searchRoom, code, gateDecide, gateSearch}
+use Rattle.model.specs.Boundary.{tallyBytes, answerBytes, code, gateDecide, gateSearch}
 use Rattle.model.proofs.SoundFacts.{sound-facts}
 use Rattle.model.proofs.SameSound.{deciding-same, searching-same}
 
@@ -24,13 +24,22 @@ unfolding need _>>_ _>>=_
 behind r true x y f h = h refl
 behind r false x y f h = refl
 
--- a test for room, and then one that asks for more: the second is enough
+-- two tests for room, one after the other, are one
 two-needs : {A B : Type 0} (x : Answer A) (k : A → B) (p q : Bool)
-    → ((x >>= λ a. need Cramped p >> given a) >>= λ a. need Cramped (p && q) >> given (k a)) ≡ (x >>= λ a. need Cramped (p && q) >> given (k a))
+    → ((x >>= λ a. need Cramped p >> given a) >>= λ a. need Cramped q >> given (k a)) ≡ (x >>= λ a. need Cramped (p && q) >> given (k a))
 unfolding need _>>_ _>>=_
 two-needs (given a) k true q = refl
 two-needs (given a) k false q = refl
 two-needs (refused r) k p q = refl
+
+-- what slices of so many bytes have room for: the verdicts on n states, and the tally
+abbrev pub decideRoom : ℕ → ℕ → ℕ → ℕ → ℕ → ℕ → Bool
+decideRoom n ranks commands marks scratch tally =
+    leb n (ranks / 2) && leb n (commands / 2) && leb n (marks / 2) && leb n (scratch / 2) && leb tallyBytes tally
+
+-- the search's command table of n states, and its answer
+abbrev pub searchRoom : ℕ → ℕ → ℕ → ℕ → Bool
+searchRoom n commands scratch answer = leb n (commands / 2) && leb n (scratch / 2) && leb answerBytes answer
 
 module _ (T : Tables) where
   -- the plan decided, with tables of the limit's length
@@ -111,13 +120,12 @@ module _ {T U : Tables} (same : Same T U) where
   unfolding gateDecide _>>=_
   gate-decide-same a b c d e =
       rw (deciding-same same (a / 2) (b / 2) (c / 2) (d / 2))
-      (ap (λ (z : Size). deciding U (a / 2) (b / 2) (c / 2) (d / 2) >>= λ P. need Cramped (decideRoom (z .n) a b c d e) >> given P) (same .size))
 
   pub gate-search-same : (start commands scratch answer : ℕ) → gateSearch (given T) start commands scratch answer ≡ gateSearch (given U) start commands scratch answer
   unfolding gateSearch _>>=_
   gate-search-same start a b c =
       rw (searching-same same start (a / 2) (b / 2))
-      (ap (λ (z : Size). searching U start (a / 2) (b / 2) >>= λ R. need Cramped (searchRoom (z .n) a b c) >> given (z .n, R)) (same .size))
+      (ap (λ (z : Size). searching U start (a / 2) (b / 2) >>= λ R. need Cramped (leb answerBytes c) >> given (z .n, R)) (same .size))
 
 -- the plan lent comes first
 module _ (lent : Answer Tables) where

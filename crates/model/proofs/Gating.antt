@@ -8,12 +8,11 @@ use lib.Dec.{leb}
 use lib.ListN.{length}
 use borrow.Author.Tests.{le-leb, leb-true}
 use Rattle.laws.proofs.Parts.{length-heads}
-use Rattle.laws.proofs.Tests.{and-both}
 use Rattle.model.specs.Refusal.{Cramped, Answer, given, refused, answer, need, _>>=_, _>>_}
 use Rattle.model.specs.File.{Tree, maxStates, maxCommands, maxOutcomes, read}
-use Rattle.model.specs.Tables.{Tables, allCommands, tablesOf}
+use Rattle.model.specs.Tables.{Size, Tables, enough, allCommands, tablesOf}
 use Rattle.model.specs.Calls.{reading}
-use Rattle.model.specs.Boundary.{longIn, readRoom, gateRead}
+use Rattle.model.specs.Boundary.{sizeBytes, gateRead}
 use Rattle.model.proofs.Answers.{bind-inv, need-inv}
 use Rattle.model.proofs.Answering.{reading-iff}
 use Rattle.model.proofs.Layouts.{by-state, by-command}
@@ -44,13 +43,17 @@ small file p e =
       outcomes = refl;
     }
 
--- a test, and then one that asks for more: the second is enough
-both-tests : (T : Tables) (a b : Bool) (next : Tables → Answer Tables) → next T ≡ (need Cramped (a && b) >> given T)
-    → answer (λ T. T .size) ((need Cramped a >> given T) >>= next) ≡ (need Cramped (a && b) >> given (T .size))
+-- two tests, one after the other, are one
+both-tests : (T : Tables) (a b : Bool)
+    → answer (λ T. T .size) ((need Cramped a >> given T) >>= λ U. need Cramped b >> given U) ≡ (need Cramped (a && b) >> given (T .size))
 unfolding need _>>_ _>>=_ answer
-both-tests T true true next e = rw e
-both-tests T true false next e = rw e
-both-tests T false b next e = refl
+both-tests T true true = refl
+both-tests T true false = refl
+both-tests T false b = refl
+
+-- what slices of so many bytes have room for: a plan, and its size record
+abbrev pub room : Size → ℕ → ℕ → ℕ → ℕ → Bool
+room z size rows firsts outcomes = enough z (rows / 6) (firsts / 2) (outcomes / 2) && leb sizeBytes size
 
 module _ (file : List ℕ) {R F O : ℕ} (all-rows : maxStates ≤ R) (all-firsts : maxCommands ≤ F) (all-outcomes : maxOutcomes ≤ O) where
   -- tables of the limits' lengths are long enough for every file
@@ -59,7 +62,7 @@ module _ (file : List ℕ) {R F O : ℕ} (all-rows : maxStates ≤ R) (all-first
   reading-all = go (read file) refl
     where
       go : (x : Answer Tree) → read file ≡ x
-          → (x >>= λ p. need Cramped (leb (tablesOf p .size .n) R && leb (tablesOf p .size .m) F && leb (tablesOf p .size .t) O) >> given (tablesOf p))
+          → (x >>= λ p. need Cramped (enough (tablesOf p .size) R F O) >> given (tablesOf p))
           ≡ answer tablesOf x
       go (refused r) e = refl
       go (given p) e =
@@ -73,23 +76,21 @@ module _ (file : List ℕ) {R F O : ℕ} (all-rows : maxStates ≤ R) (all-first
   module _ (size rows firsts outcomes : ℕ) where
     -- the size record is answered if it was read and the slices have room
     pub gate-read-size : answer (λ T. T .size) (gateRead file size rows firsts outcomes)
-        ≡ (answer (λ T. T .size) (reading R F O file) >>= λ z. need Cramped (readRoom z size rows firsts outcomes) >> given z)
+        ≡ (answer (λ T. T .size) (reading R F O file) >>= λ z. need Cramped (room z size rows firsts outcomes) >> given z)
     unfolding gateRead reading _>>=_ answer
     gate-read-size = rw reading-all (go (read file))
       where
         go : (x : Answer Tree)
-            → answer (λ T. T .size) ((x >>= λ p. need Cramped (longIn (tablesOf p .size) rows firsts outcomes) >> given (tablesOf p)) >>= λ T. need Cramped (readRoom (T .size) size rows firsts outcomes) >> given T)
-            ≡ (answer (λ T. T .size) (answer tablesOf x) >>= λ z. need Cramped (readRoom z size rows firsts outcomes) >> given z)
+            → answer (λ T. T .size) ((x >>= λ p. need Cramped (enough (tablesOf p .size) (rows / 6) (firsts / 2) (outcomes / 2)) >> given (tablesOf p)) >>= λ T. need Cramped (leb sizeBytes size) >> given T)
+            ≡ (answer (λ T. T .size) (answer tablesOf x) >>= λ z. need Cramped (room z size rows firsts outcomes) >> given z)
         go (refused r) = refl
-        go (given p) =
-            both-tests (tablesOf p) (longIn (tablesOf p .size) rows firsts outcomes) (leb 8 size)
-            (λ T. need Cramped (readRoom (T .size) size rows firsts outcomes) >> given T) refl
+        go (given p) = both-tests (tablesOf p) (enough (tablesOf p .size) (rows / 6) (firsts / 2) (outcomes / 2)) (leb sizeBytes size)
 
     -- what was read, if the slices have room for it
     pub record Gated (T : Tables) : Type 0 where
       pub reads : reading R F O file ≡ given T
       pub small : Small T
-      pub long-size : 8 ≤ size
+      pub long-size : sizeBytes ≤ size
       pub long-rows : T .size .n * 6 ≤ rows
       pub long-firsts : T .size .m * 2 ≤ firsts
       pub long-outcomes : T .size .t * 2 ≤ outcomes
@@ -98,12 +99,12 @@ module _ (file : List ℕ) {R F O : ℕ} (all-rows : maxStates ≤ R) (all-first
     unfolding gateRead answer
     gate-read-inv T e =
         let (U, r, f) = bind-inv (reading (rows / 6) (firsts / 2) (outcomes / 2) file) _ e in
-        let (l, g) = need-inv Cramped (readRoom (U .size) size rows firsts outcomes) (given U) f in
+        let (l, g) = need-inv Cramped (leb sizeBytes size) (given U) f in
         let a = reading-iff (rows / 6) (firsts / 2) (outcomes / 2) file T .0 (r ∙ g) in
         record {
           reads = reading-all ∙ rw (a .reads) (ap given (a .is));
           small = rw (a .is) at (small file (a .tree) (a .reads));
-          long-size = leb-true 8 size (and-both (longIn (U .size) rows firsts outcomes) (leb 8 size) l .1);
+          long-size = leb-true sizeBytes size l;
           long-rows = omega (arith, a .long-rows);
           long-firsts = omega (arith, a .long-firsts);
           long-outcomes = omega (arith, a .long-outcomes);

@@ -1,8 +1,8 @@
 -- The calls of the gate controller's C program (document 01, "Refusal table"): numbers and byte slices.
-use mathlib.Core.Bool.{Bool, cond, _&&_}
+use mathlib.Core.Bool.{Bool, cond}
 use mathlib.Core.List.{List, [], _∷_}
 use Prim.Native.Nat.{ℕ, _/_}
-use lib.Dec.{leb}
+use lib.Dec.{leb, eqb}
 use lib.ListN.{length}
 use Rattle.laws.specs.Lists.{joined}
 use Rattle.laws.specs.Entry.{be16, twos}
@@ -51,36 +51,34 @@ tallyEntries P = joined (tally P)
 unfoldable pub resultEntries : Bool × ℕ → List ℕ
 resultEntries (lost, rounds) = cond lost 1 0 ∷ rounds ∷ []
 
+-- and the verdict (true: lost) and the rounds that bytes hold
+abbrev pub verdictIn : List ℕ → Bool
+verdictIn s = eqb (be16 s 0) 1
+
+abbrev pub roundsIn : List ℕ → ℕ
+roundsIn s = be16 s 2
+
 -- "Each call returns 0 or the refusal number."
 unfoldable pub code : {A : Type 0} → Answer A → ℕ
 code (given a) = 0
 code (refused r) = number r
 
--- ---- room in slices, by their lengths in bytes
+-- the bytes of a size record, of a tally and of the search's answer
+abbrev pub sizeBytes : ℕ
+sizeBytes = 8
 
--- slices hold as many rows and entries as a size record counts
-abbrev pub longIn : Size → ℕ → ℕ → ℕ → Bool
-longIn z rows firsts outcomes = leb (z .n) (rows / 6) && leb (z .m) (firsts / 2) && leb (z .t) (outcomes / 2)
+abbrev pub tallyBytes : ℕ
+tallyBytes = 12
 
--- room for a plan that was read, and for its size record
-abbrev pub readRoom : Size → ℕ → ℕ → ℕ → ℕ → Bool
-readRoom z size rows firsts outcomes = longIn z rows firsts outcomes && leb 8 size
-
--- for the verdicts on n states, and for the tally
-abbrev pub decideRoom : ℕ → ℕ → ℕ → ℕ → ℕ → ℕ → Bool
-decideRoom n ranks commands marks scratch tally =
-    leb n (ranks / 2) && leb n (commands / 2) && leb n (marks / 2) && leb n (scratch / 2) && leb 12 tally
-
--- for the search's command table of n states, and for its answer
-abbrev pub searchRoom : ℕ → ℕ → ℕ → ℕ → Bool
-searchRoom n commands scratch answer = leb n (commands / 2) && leb n (scratch / 2) && leb 4 answer
+abbrev pub answerBytes : ℕ
+answerBytes = 4
 
 -- ---- the calls, on the slices lent in and the lengths in bytes of those written
 
 -- the plan lent in: "one too short for the size record lent in is 10"
 unfoldable pub tablesIn : List ℕ → List ℕ → List ℕ → List ℕ → Answer Tables
 tablesIn size rows firsts outcomes = do
-  need Unsound (leb 8 (length size))
+  need Unsound (leb sizeBytes (length size))
   given (record {
     size = sizeIn size;
     rows = rowsIn (entriesIn rows);
@@ -88,18 +86,19 @@ tablesIn size rows firsts outcomes = do
     outcomes = entriesIn outcomes;
   })
 
--- "A slice too short for such an answer is 9": after the library's call, which asks for room in its own tables, the same of all slices
+-- "A slice too short for such an answer is 9": the library's call asks for room in the tables, so that only the size record, the tally and
+-- the search's answer are new here
 unfoldable pub gateRead : List ℕ → ℕ → ℕ → ℕ → ℕ → Answer Tables
 gateRead file size rows firsts outcomes = do
   T ← reading (rows / 6) (firsts / 2) (outcomes / 2) file
-  need Cramped (readRoom (T .size) size rows firsts outcomes)
+  need Cramped (leb sizeBytes size)
   given T
 
 unfoldable pub gateDecide : Answer Tables → ℕ → ℕ → ℕ → ℕ → ℕ → Answer Plan
 gateDecide lent ranks commands marks scratch tally = do
   T ← lent
   P ← deciding T (ranks / 2) (commands / 2) (marks / 2) (scratch / 2)
-  need Cramped (decideRoom (T .size .n) ranks commands marks scratch tally)
+  need Cramped (leb tallyBytes tally)
   given P
 
 -- with the count of states that the command table is to hold
@@ -107,7 +106,7 @@ unfoldable pub gateSearch : Answer Tables → ℕ → ℕ → ℕ → ℕ → An
 gateSearch lent start commands scratch answer = do
   T ← lent
   R ← searching T start (commands / 2) (scratch / 2)
-  need Cramped (searchRoom (T .size .n) commands scratch answer)
+  need Cramped (leb answerBytes answer)
   given (T .size .n, R)
 
 -- ---- what each call returns and what every slice lent to it holds afterwards, for all bytes lent

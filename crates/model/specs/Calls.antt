@@ -14,7 +14,7 @@ use Rattle.model.specs.Search.{Result, search}
 use Rattle.model.specs.Refusal.{Cramped, Unsound, Stranger, Answer, given, refused, answer, need, _>>=_, _>>_}
 use Rattle.model.specs.File.{read}
 use Rattle.model.specs.Bytes.{bytesOf}
-use Rattle.model.specs.Tables.{Size, Row, Tables, tablesOf, fileLength}
+use Rattle.model.specs.Tables.{Size, Row, Tables, enough, tablesOf, fileLength}
 use Rattle.model.specs.SoundTest.{sound}
 use Rattle.model.specs.Held.{treeOf, planIn}
 
@@ -29,7 +29,7 @@ left f (refused r) table = table
 unfoldable pub reading : ℕ → ℕ → ℕ → List ℕ → Answer Tables
 reading rows firsts outcomes file = do
   p ← read file
-  need Cramped (leb (tablesOf p .size .n) rows && leb (tablesOf p .size .m) firsts && leb (tablesOf p .size .t) outcomes)
+  need Cramped (enough (tablesOf p .size) rows firsts outcomes)
   given (tablesOf p)
 
 -- "Other calls: 10, then 11, then 9." "writing needs the file's length".

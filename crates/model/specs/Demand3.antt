@@ -12,6 +12,10 @@ use Rattle.model.specs.Plan.{Plan}
 use Rattle.model.specs.Run.{moves}
 use Rattle.model.specs.Strategy.{Strategy, Total, Fails, Survives, positional}
 use Rattle.model.specs.Search.{search, ordinaries}
+use Rattle.model.specs.Refusal.{given}
+use Rattle.model.specs.Tables.{Tables}
+use Rattle.model.specs.Held.{planIn}
+use Rattle.model.specs.Calls.{decideCall, searchCall}
 
 -- a table of entries read at a state: FFFF is none
 unfoldable pub readEntry : List ℕ → ℕ → Option ℕ
@@ -38,8 +42,6 @@ pub record Searched (P : Plan) (ranks commands : List ℕ) (a : ℕ) (verdict : 
   pub same-verdict : verdict ≡ found (readEntry ranks a)
   -- ".. and, when safe, the chosen command at each state its last walk reaches": "the entry .. with deciding's .., FFFF included"
   pub same-commands : readEntry ranks a ≡ none → (s : ℕ) → search P a .reached s ≡ true → getD table s FFFF ≡ getD commands s FFFF
-  -- where no round is walked, the entry at the start too
-  pub same-start : readEntry ranks a ≡ none → getD table a FFFF ≡ getD commands a FFFF
   -- ".. and it reports no more rounds than there are ordinary states."
   pub few-rounds : rounds ≤ ordinaries P
 
@@ -47,3 +49,15 @@ pub record Searched (P : Plan) (ranks commands : List ℕ) (a : ℕ) (verdict : 
 pub record Demand3 (P : Plan) (ranks commands : List ℕ) (a : ℕ) (verdict : Bool) (rounds : ℕ) (table : List ℕ) : Type 0 where
   pub decided : (s : ℕ) → s < P .states → Decided P ranks commands s
   pub searched : Searched P ranks commands a verdict rounds table
+
+-- Demand 3 of the tables that deciding leaves: whatever start and tables the search is lent on the same plan, if it answers.
+abbrev pub DecidingDemand3 : Tables → List ℕ → List ℕ → Type 0
+DecidingDemand3 T ranks commands = (a : ℕ) (table space : List ℕ) (verdict : Bool) (rounds : ℕ)
+    → searchCall T a table space .answers ≡ given (verdict, rounds)
+    → Demand3 (planIn T) ranks commands a verdict rounds (searchCall T a table space .commands)
+
+-- And of what the search from a answers and leaves: whatever tables deciding is lent on the same plan, if it answers.
+abbrev pub SearchDemand3 : Tables → ℕ → Bool → ℕ → List ℕ → Type 0
+SearchDemand3 T a verdict rounds table = (ranks commands marks scratch : List ℕ) (counts : List (List ℕ))
+    → decideCall T ranks commands marks scratch .answers ≡ given counts
+    → Demand3 (planIn T) (decideCall T ranks commands marks scratch .ranks) (decideCall T ranks commands marks scratch .commands) a verdict rounds table

@@ -6,7 +6,6 @@ pub mod Command
 pub mod Policy
 pub mod Search
 pub mod Value
-pub mod Demand3
 pub mod Refusal
 pub mod File
 pub mod Bytes
@@ -16,6 +15,7 @@ pub mod Sound
 pub mod SoundTest
 pub mod Held
 pub mod Calls
+pub mod Demand3
 pub mod Boundary
 pub mod Listing
 pub mod Bench

@@ -21,12 +21,12 @@ pub record Plan : Type 0 where
 unfoldable pub ordinary : Plan → ℕ → Bool
 ordinary P s = eqb (P .kind s) 0
 
--- what counts as failing, by a state's kind and how many commands it has
-abbrev pub failingAt : ℕ → ℕ → Bool
-failingAt kind count = eqb kind 1
+-- what counts as failing, by a state's kind
+abbrev pub failingAt : ℕ → Bool
+failingAt kind = eqb kind 1
 
 unfoldable pub failing : Plan → ℕ → Bool
-failing P s = failingAt (P .kind s) (P .commands s)
+failing P s = failingAt (P .kind s)
 
 -- "an ordinary state with commands"
 unfoldable pub active : Plan → ℕ → Bool

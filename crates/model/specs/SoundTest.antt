@@ -6,14 +6,14 @@ use lib.Dec.{leb, ltb, eqb}
 use lib.ListN.{length, getD}
 use Rattle.laws.specs.Sets.{every}
 use Rattle.model.specs.File.{maxStates, maxCommands, maxOutcomes, notIdle}
-use Rattle.model.specs.Tables.{Size, Tables}
+use Rattle.model.specs.Tables.{Size, Tables, enough}
 use Rattle.model.specs.Places.{rowAt, firstCommand, firstOutcome, commandCount}
 
 unfoldable pub sizeSound : Size → Bool
 sizeSound z = leb 1 (z .n) && leb (z .n) maxStates && leb (z .m) maxCommands && leb (z .t) maxOutcomes && ltb (z .start) (z .n)
 
 unfoldable pub tablesLong : Tables → Bool
-tablesLong T = leb (T .size .n) (length (T .rows)) && leb (T .size .m) (length (T .firsts)) && leb (T .size .t) (length (T .outcomes))
+tablesLong T = enough (T .size) (length (T .rows)) (length (T .firsts)) (length (T .outcomes))
 
 unfoldable pub rowSound : Tables → ℕ → Bool
 rowSound T s =

@@ -1,8 +1,10 @@
 -- A plan in memory (document 01, "Plan file"): "a size record (n, m, t, start), a lent table of rows with kind, first command
 -- and practice, and tables of first outcomes and outcomes".
 use mathlib.Core.Path.{_≡_}
+use mathlib.Core.Bool.{Bool, _&&_}
 use Prim.Native.Nat.{ℕ, _+_, _*_}
 use mathlib.Core.List.{List, [], _∷_, _++_}
+use lib.Dec.{leb}
 use lib.ListN.{length, take}
 use Rattle.laws.specs.Lists.{joined}
 use Rattle.model.specs.File.{State, Tree}
@@ -24,6 +26,10 @@ pub record Tables : Type 0 where
   pub rows : List Row
   pub firsts : List ℕ
   pub outcomes : List ℕ
+
+-- tables of so many places have one for each state, command and outcome
+abbrev pub enough : Size → ℕ → ℕ → ℕ → Bool
+enough z rows firsts outcomes = leb (z .n) rows && leb (z .m) firsts && leb (z .t) outcomes
 
 -- the commands of the states, one after another
 unfoldable pub allCommands : List State → List (List ℕ)

@@ -1,6 +1,7 @@
 -- The soundness test in the parts that are called one after another.
-use mathlib.Core.Path.{_≡_, refl, _∙_, ap}
+use mathlib.Core.Path.{_≡_, refl, sym, _∙_, ap, subst}
 use mathlib.Core.Bool.{Bool, true, false, _&&_}
+use mathlib.Core.Logic.{_↔_}
 use borrow.Author.Tests.{leb-true}
 use Prim.Native.Nat.{_<_}
 use lib.Dec.{leb}
@@ -9,7 +10,9 @@ use Rattle.laws.proofs.Tests.{and-both}
 use Rattle.model.specs.Tables.{Size, Tables}
 use Rattle.model.specs.File.{maxStates, maxCommands, maxOutcomes}
 use Rattle.model.specs.Places.{firstCommand}
+use Rattle.model.specs.Sound.{Sound}
 use Rattle.model.specs.SoundTest.{sizeSound, tablesLong, rowSound, sound}
+use Rattle.model.proofs.Soundness.{sound-iff}
 use Rattle.tables.specs.declared.internal.Span.{Span}
 use Rattle.tables.specs.Meaning.{spanAt, startsSound, listsSound}
 
@@ -37,3 +40,7 @@ some-state z h =
     let commands = states && leb (z .m) maxCommands in
     let outcomes = commands && leb (z .t) maxOutcomes in
     leb-true _ _ (and-both (leb 1 (z .n)) _ (and-both states _ (and-both commands _ (and-both outcomes _ h .0) .0) .0) .0)
+
+-- what the computed test says
+pub told : (T : Tables) {r : Bool} → r ≡ sound T → (r ≡ sound T) × ((r ≡ true) ↔ Sound T)
+told T e = (e, subst (λ (b : Bool). (b ≡ true) ↔ Sound T) (sym e) (sound-iff T))

@@ -75,7 +75,7 @@ spanAt T s = record { kind = rowAt T s .kind; first = firstCommand T s; end = fi
 
 -- a state counts as failing
 abbrev pub failingSpan : Span → Bool
-failingSpan q = failingAt (q .kind) (q .end - q .first)
+failingSpan q = failingAt (q .kind)
 
 -- a state's row is sound, m being the number of commands
 unfoldable pub spanSound : Span → ℕ → Bool

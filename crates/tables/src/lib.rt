@@ -1,7 +1,10 @@
 // The plan in memory: the size record, the refusals, and the test for sound tables.
 ghost use mathlib.Core.Path.{_≡_};
+ghost use mathlib.Core.Bool.{true};
+ghost use mathlib.Core.Logic.{_↔_};
 ghost use Rattle.tables.specs.Meaning.{sized, refusalOf, held};
 ghost use Rattle.model.specs.Refusal.{number};
+ghost use Rattle.model.specs.Sound.{Sound};
 ghost use Rattle.model.specs.SoundTest.{sound};
 use internal::row_count;
 use internal::span_at;
@@ -76,7 +79,8 @@ pub fn number(r: Refusal) -> u32
 // Whether size record and tables are a plan that some file gives, and no table is shorter than its count (refusal 10 where not).
 // Ruled out: passing tables that no file gives, and failing a plan for what stands past its counts.
 pub fn sound(size: Size, rows: &[Row], firsts: &[u16], outcomes: &[u16]) -> bool
-    ensures { λ r. ⌜ r ≡ sound (held size (now (rows .entry)) (now (firsts .entry)) (now (outcomes .entry))) ⌝ }
+    ensures computed { λ r. ⌜ r ≡ sound (held size (now (rows .entry)) (now (firsts .entry)) (now (outcomes .entry))) ⌝ }
+    ensures meant { λ r. ⌜ ((r ≡ true) ↔ Sound (held size (now (rows .entry)) (now (firsts .entry)) (now (outcomes .entry)))) ⌝ }
 {
     if !checks::size_sound(size) {
         return false;

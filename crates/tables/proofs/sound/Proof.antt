@@ -1,6 +1,6 @@
 mod Lts
 mod Tie
-use Rattle.tables.proofs.SoundParts.{sound-parts, starts-read, some-state}
+use Rattle.tables.proofs.SoundParts.{sound-parts, starts-read, some-state, told}
 use Rattle.tables.proofs.LongTest.{all-long}
 use Rattle.laws.proofs.Loops.{stopped, passed}
 use mathlib.Core.Bool.{and-false}
@@ -12,7 +12,7 @@ size-sound-requires : tie.Need-size-sound-requires
 size-sound-requires c κs = search needs
 
 returns : tie.Need-returns
-returns c = rw (sound-parts _) (simp (stopped (c .before .size-sound .ensures) (c .if1 .taken)))
+returns c = told _ (rw (sound-parts _) (simp (stopped (c .before .size-sound .ensures) (c .if1 .taken))))
 
 row-count-requires : tie.Need-row-count-requires
 row-count-requires c κs = search needs
@@ -21,7 +21,7 @@ long-requires : tie.Need-long-requires
 long-requires c κs = search needs
 
 returns-2 : tie.Need-returns-2
-returns-2 c = rw (sound-parts _) (simp (stopped (c .before .long .ensures (c .before .before .before .before .before .before .before .args .rows .now) (c .before .before .row-count .ensures)) (c .if2 .taken), and-false))
+returns-2 c = told _ (rw (sound-parts _) (simp (stopped (c .before .long .ensures (c .before .before .before .before .before .before .before .args .rows .now) (c .before .before .row-count .ensures)) (c .if2 .taken), and-false)))
 
 span-at-requires : tie.Need-span-at-requires
 span-at-requires c κs =
@@ -38,8 +38,8 @@ starts-sound-requires c κs =
 returns-3 : tie.Need-returns-3
 returns-3 c =
     let a = c .before .before .before .before .before .before .before .before .before .before .args in
-    rw (sound-parts _)
-    (simp (stopped (starts-read _ _ _ (c .before .before .span-at .ensures (a .firsts .now) (a .outcomes .now)) (c .before .starts-sound .ensures (a .rows .now) (a .outcomes .now))) (c .if3 .taken), and-false))
+    told _ (rw (sound-parts _)
+    (simp (stopped (starts-read _ _ _ (c .before .before .span-at .ensures (a .firsts .now) (a .outcomes .now)) (c .before .starts-sound .ensures (a .rows .now) (a .outcomes .now))) (c .if3 .taken), and-false)))
 
 rows-sound-requires : tie.Need-rows-sound-requires
 rows-sound-requires c κs =
@@ -49,7 +49,7 @@ rows-sound-requires c κs =
 returns-4 : tie.Need-returns-4
 returns-4 c =
     let a = c .before .before .before .before .before .before .before .before .before .before .before .before .args in
-    rw (sound-parts _) (simp (stopped (c .before .rows-sound .ensures (a .firsts .now) (a .outcomes .now)) (c .if4 .taken), and-false))
+    told _ (rw (sound-parts _) (simp (stopped (c .before .rows-sound .ensures (a .firsts .now) (a .outcomes .now)) (c .if4 .taken), and-false)))
 
 lists-sound-requires : tie.Need-lists-sound-requires
 lists-sound-requires c κs =
@@ -60,14 +60,14 @@ lists-sound-requires c κs =
 returns-5 : tie.Need-returns-5
 returns-5 c =
     let a = c .before .before .before .before .before .before .before .before .before .before .before .before .before .args in
-    rw (sound-parts _)
+    told _ (rw (sound-parts _)
     (rw (
       passed (c .before .before .before .before .before .before .before .before .before .before .size-sound .ensures) (c .before .before .before .before .before .before .before .before .before .if1 .left),
       passed (c .before .before .before .before .before .before .before .long .ensures (a .rows .now) (c .before .before .before .before .before .before .before .before .row-count .ensures)) (c .before .before .before .before .before .before .if2 .left),
       passed (starts-read _ _ _ (c .before .before .before .before .before .span-at .ensures (a .firsts .now) (a .outcomes .now)) (c .before .before .before .before .starts-sound .ensures (a .rows .now) (a .outcomes .now))) (c .before .before .before .if3 .left),
       passed (c .before .before .rows-sound .ensures (a .firsts .now) (a .outcomes .now)) (c .before .if4 .left),
     )
-    (c .lists-sound .ensures (a .rows .now)))
+    (c .lists-sound .ensures (a .rows .now))))
 
 pub sound-spec : {M : Type 1} → statement M
 sound-spec =
