@@ -14,13 +14,13 @@ use Rattle.laws.proofs.Parts.{length-heads}
 use Rattle.model.specs.Refusal.{Cramped, Answer, given, need, _>>=_, _>>_}
 use Rattle.model.specs.File.{Tree, read}
 use Rattle.model.specs.Tables.{Size, Row, Tables, Same, allCommands, tablesOf}
-use Rattle.model.specs.Calls.{left, reading}
+use Rattle.model.specs.Calls.{left, reading, afterReading}
 use Rattle.model.specs.Boundary.{entriesIn, bytesFor, rowsIn, rowEntries, sizeEntries, sizeBytes, sizeIn, tablesIn, gateRead, gateReadCall}
 use Rattle.model.proofs.Answers.{bind-inv, need-inv}
 use Rattle.model.proofs.Answering.{reading-iff}
 use Rattle.model.proofs.Layouts.{by-state, by-command}
 use Rattle.model.proofs.Lent.{length-entries-in, length-rows-in}
-use Rattle.model.proofs.RoundTrips.{afterReading, after-same}
+use Rattle.model.proofs.RoundTrips.{after-same}
 use Rattle.model.proofs.GateDemands.{written-entries, answered}
 
 -- ---- rows written to entries

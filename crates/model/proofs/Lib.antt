@@ -56,3 +56,4 @@ pub mod BoundaryCases
 pub mod Gating
 pub mod GateDemands
 pub mod GateTables
+pub mod Claimed

@@ -11,13 +11,13 @@ use Rattle.model.specs.File.{maxStates, maxCommands, maxOutcomes, Tree, 
 use Rattle.model.specs.Tables.{Size, Row, Tables, Same, tablesOf}
 use Rattle.model.specs.SoundTest.{sound}
 use Rattle.model.specs.Held.{treeOf}
-use Rattle.model.specs.Calls.{reading, readCall}
+use Rattle.model.specs.Calls.{reading, readCall, afterReading}
 use Rattle.model.proofs.Answers.{not-both, refused-inj, answer-inv, one-answer}
 use Rattle.model.proofs.Good.{read-good}
 use Rattle.model.proofs.SameTables.{held}
 use Rattle.model.proofs.GoodTables.{good-sound}
 use Rattle.model.proofs.Answering.{reading-iff}
-use Rattle.model.proofs.RoundTrips.{afterReading, after-same}
+use Rattle.model.proofs.RoundTrips.{after-same}
 
 -- the plan is sound, and its tree is the file's
 pub reads-plan : (file : List ℕ) (rows : List Row) (firsts outcomes : List ℕ) (z : Size) → readCall file rows firsts outcomes .answers ≡ given z

@@ -13,7 +13,7 @@ use Rattle.model.specs.File.{Tree}
 use Rattle.model.specs.Bytes.{bytesOf}
 use Rattle.model.specs.Tables.{Size, Row, Tables, Same, allCommands, tablesOf, fileLength}
 use Rattle.model.specs.Held.{treeOf}
-use Rattle.model.specs.Calls.{left, reading, writing, readCall, writeCall}
+use Rattle.model.specs.Calls.{left, reading, writing, readCall, afterReading, writeCall}
 use Rattle.model.proofs.Answers.{answer-inv}
 use Rattle.model.proofs.Good.{read-good}
 use Rattle.model.proofs.ReadBack.{read-back}
@@ -24,12 +24,6 @@ use Rattle.model.proofs.SameTables.{held}
 use Rattle.model.proofs.TablesBack.{tables-back}
 use Rattle.model.proofs.GoodTables.{sound-good, good-sound}
 use Rattle.model.proofs.Answering.{reading-iff, writing-iff}
-
--- a size record, and the tables as a reading of the file leaves them
-abbrev pub afterReading : Size → List ℕ → List Row → List ℕ → List ℕ → Tables
-afterReading z file rows firsts outcomes =
-    let after = readCall file rows firsts outcomes in
-    record { size = z; rows = after .rows; firsts = after .firsts; outcomes = after .outcomes }
 
 take-written : {A : Type 0} (xs l : List A) (k : ℕ) → length xs ≡ k → take k (overwrite xs l) ≡ take k xs
 take-written xs l k e = rw (← e) (take-overwrite xs l ∙ sym (take-length xs))

@@ -94,6 +94,12 @@ readCall file rows firsts outcomes =
       outcomes = left (λ T. T .outcomes) a outcomes;
     }
 
+-- a size record, and the tables as a reading of the file leaves them
+abbrev pub afterReading : Size → List ℕ → List Row → List ℕ → List ℕ → Tables
+afterReading z file rows firsts outcomes =
+    let after = readCall file rows firsts outcomes in
+    record { size = z; rows = after .rows; firsts = after .firsts; outcomes = after .outcomes }
+
 pub record AfterWrite : Type 0 where
   pub answers : Answer ℕ
   pub bytes : List ℕ

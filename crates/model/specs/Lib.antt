@@ -19,3 +19,4 @@ pub mod Demand3
 pub mod Boundary
 pub mod Listing
 pub mod Bench
+pub mod Claims

@@ -107,5 +107,12 @@ answerText (given p) = planText p
 answerText (refused r) = refusalText r
 
 -- "Input above 65,536 bytes is refusal 8 before all else."
+abbrev pub maxInput : ℕ
+maxInput = 65536
+
+-- and as many hold every listing
+abbrev pub maxListing : ℕ
+maxListing = 65536
+
 unfoldable pub listing : List ℕ → List ℕ
-listing input = cond (ltb 65536 (length input)) (refusalText Limit) (answerText (read input))
+listing input = cond (ltb maxInput (length input)) (refusalText Limit) (answerText (read input))

@@ -5,8 +5,7 @@ use Prim.Native.Nat.{ℕ}
 use lib.ListN.{length, length-map}
 use Rattle.model.specs.Refusal.{Answer}
 use Rattle.model.specs.Tables.{Tables}
-use Rattle.model.specs.Calls.{left, reading}
-use Rattle.model.proofs.RoundTrips.{afterReading}
+use Rattle.model.specs.Calls.{left, reading, afterReading}
 use Rattle.tables.specs.declared.Size.{Size}
 use Rattle.tables.specs.declared.Row.{Row}
 use Rattle.tables.specs.Meaning.{numbers, rowOf, rowsOf, held}

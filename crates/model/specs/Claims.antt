@@ -1,0 +1,105 @@
+-- What is claimed of the definitions, in the order of the demands. Each claim is proved: proofs/Claimed.antt. What is claimed of the calls'
+-- code, that it answers and leaves what the definitions say, stands in the calls' contracts.
+use mathlib.Core.Path.{_≡_}
+use mathlib.Core.Bool.{Bool, true, false, not, cond, _&&_}
+use mathlib.Core.List.{List, map}
+use mathlib.Core.Logic.{_⊎_, _↔_}
+use mathlib.Core.Option.{some}
+use Prim.Native.Nat.{ℕ, _<_, _≤_}
+use lib.ListN.{length, take}
+use Rattle.laws.specs.Sets.{lowest}
+use Rattle.laws.specs.Lists.{overwrite}
+use Rattle.laws.specs.Entry.{Bytes}
+use Rattle.model.specs.Plan.{Plan, active, hasPolicy}
+use Rattle.model.specs.Strategy.{Fails, positional}
+use Rattle.model.specs.Verdict.{hits, layer, rank, lost}
+use Rattle.model.specs.Value.{LeastSolution}
+use Rattle.model.specs.Command.{choice}
+use Rattle.model.specs.Policy.{followed, policyFails}
+use Rattle.model.specs.Search.{Result, ends, before, search}
+use Rattle.model.specs.Refusal.{Refusal, Cramped, Unsound, Stranger, Answer, given, refused}
+use Rattle.model.specs.File.{Tree, read}
+use Rattle.model.specs.Bytes.{bytesOf}
+use Rattle.model.specs.Tables.{Size, Row, Tables, Same, tablesOf, fileLength}
+use Rattle.model.specs.Sound.{Sound}
+use Rattle.model.specs.SoundTest.{sound}
+use Rattle.model.specs.Held.{treeOf, planIn}
+use Rattle.model.specs.Calls.{reading, writing, deciding, searching, readCall, afterReading, writeCall, decideCall, searchCall}
+use Rattle.model.specs.Demand3.{DecidingDemand3, SearchDemand3}
+use Rattle.model.specs.Boundary.{entriesIn, verdictIn, roundsIn, gateDecideCall, gateSearchCall}
+use Rattle.model.specs.Listing.{maxListing, listing}
+use Rattle.model.specs.Bench.{judged, benches, caseA, caseAListing}
+
+-- ---- demand 1: each call answers, or is refused, exactly under the condition written for it
+
+-- tables of so many places have too few for a plan of this size
+abbrev pub Short : Size → ℕ → ℕ → ℕ → Type 0
+Short z rows firsts outcomes = (rows < z .n) ⊎ ((firsts < z .m) ⊎ (outcomes < z .t))
+
+pub record Conditions : Type 0 where
+  -- a file is refused for what it is before room is asked for
+  pub reading-given : (rows firsts outcomes : ℕ) (file : List ℕ) (T : Tables) → (reading rows firsts outcomes file ≡ given T)
+      ↔ ((p : Tree) × (read file ≡ given p) × (tablesOf p ≡ T) × (Short (T .size) rows firsts outcomes → ⊥))
+  pub reading-refused : (rows firsts outcomes : ℕ) (file : List ℕ) (r : Refusal) → (reading rows firsts outcomes file ≡ refused r)
+      ↔ ((read file ≡ refused r) ⊎ ((p : Tree) × (read file ≡ given p) × Short (tablesOf p .size) rows firsts outcomes × (r ≡ Cramped)))
+  pub writing-given : (T : Tables) (bytes : ℕ) (file : List ℕ) → (writing T bytes ≡ given file)
+      ↔ (Sound T × (fileLength (T .size) ≤ bytes) × (bytesOf (treeOf T) ≡ file))
+  pub writing-refused : (T : Tables) (bytes : ℕ) (r : Refusal) → (writing T bytes ≡ refused r)
+      ↔ (((Sound T → ⊥) × (r ≡ Unsound)) ⊎ (Sound T × (bytes < fileLength (T .size)) × (r ≡ Cramped)))
+  pub deciding-given : (T : Tables) (ranks commands marks scratch : ℕ) (P : Plan) → (deciding T ranks commands marks scratch ≡ given P)
+      ↔ (Sound T × (T .size .n ≤ ranks) × (T .size .n ≤ commands) × (T .size .n ≤ marks) × (T .size .n ≤ scratch) × (planIn T ≡ P))
+  pub deciding-refused : (T : Tables) (ranks commands marks scratch : ℕ) (r : Refusal) → (deciding T ranks commands marks scratch ≡ refused r)
+      ↔ (((Sound T → ⊥) × (r ≡ Unsound))
+      ⊎ (Sound T × ((ranks < T .size .n) ⊎ ((commands < T .size .n) ⊎ ((marks < T .size .n) ⊎ (scratch < T .size .n)))) × (r ≡ Cramped)))
+  pub searching-given : (T : Tables) (start commands scratch : ℕ) (R : Result) → (searching T start commands scratch ≡ given R)
+      ↔ (Sound T × (start < T .size .n) × (T .size .n ≤ commands) × (T .size .n ≤ scratch) × (search (planIn T) start ≡ R))
+  pub searching-refused : (T : Tables) (start commands scratch : ℕ) (r : Refusal) → (searching T start commands scratch ≡ refused r)
+      ↔ (((Sound T → ⊥) × (r ≡ Unsound)) ⊎ ((Sound T × (T .size .n ≤ start) × (r ≡ Stranger))
+      ⊎ (Sound T × (start < T .size .n) × ((commands < T .size .n) ⊎ (scratch < T .size .n)) × (r ≡ Cramped))))
+
+-- ---- demand 2: the definitions that compute say what the words say, and both round trips
+
+pub record Meanings : Type 0 where
+  -- the test that the calls compute
+  pub sound-computed : (T : Tables) → (sound T ≡ true) ↔ Sound T
+  -- lost: some layer of all holds the state; rank: the first that does
+  pub lost-layer : (T : Tables) → Sound T → (s : ℕ) → s < T .size .n → (lost (planIn T) s ≡ true) ↔ ((k : ℕ) × (layer (planIn T) k s ≡ true))
+  pub first-layer : (T : Tables) → Sound T → (s : ℕ) → s < T .size .n → (r : ℕ) → (rank (planIn T) s ≡ some r)
+      ↔ ((layer (planIn T) r s ≡ true) × ((k : ℕ) → k < r → layer (planIn T) k s ≡ false))
+  pub least-solution : (T : Tables) → Sound T → LeastSolution (planIn T)
+  -- the practice if it has no outcome in K, else the lowest-numbered command that has none
+  pub choice-words : (P : Plan) (K : ℕ → Bool) (s : ℕ) → active P s ≡ true → choice P K s
+      ≡ cond (hasPolicy P s && not (hits P K s (P .policy s))) (some (P .policy s)) (lowest (λ c. not (hits P K s c)) (P .commands s))
+  -- the practice fails: some run under it does
+  pub practice-judged : (T : Tables) → Sound T → (s : ℕ) → s < T .size .n → (policyFails (planIn T) s ≡ true) ↔ Fails (planIn T) s (positional (followed (planIn T)) s)
+  -- some round is the last
+  pub last-round : (T : Tables) → Sound T → (a : ℕ) → a < T .size .n → active (planIn T) a ≡ true
+      → lowest (ends (planIn T) a) (T .size .n) ≡ some (before (planIn T) a)
+  -- a file that is read and written again has its own bytes; its length is the one that is written there
+  pub read-write : (file : List ℕ) (rows : List Row) (firsts outcomes : List ℕ) → Bytes file → (z : Size) → readCall file rows firsts outcomes .answers ≡ given z
+      → (bytes : List ℕ) → length file ≤ length bytes
+      → writeCall (afterReading z file rows firsts outcomes) bytes ≡ record { answers = given (length file); bytes = overwrite file bytes }
+  pub file-length : (p : Tree) → length (bytesOf p) ≡ fileLength (tablesOf p .size)
+  -- sound tables that are written and read again, into tables that are long enough, are the same tables
+  pub write-read : (T : Tables) (bytes : List ℕ) → Sound T → fileLength (T .size) ≤ length bytes → (rows : List Row) (firsts outcomes : List ℕ)
+      → T .size .n ≤ length rows → T .size .m ≤ length firsts → T .size .t ≤ length outcomes
+      → let file = take (fileLength (T .size)) (writeCall T bytes .bytes) in
+      (readCall file rows firsts outcomes .answers ≡ given (T .size)) × Same T (afterReading (T .size) file rows firsts outcomes)
+  -- the starred bench plans, and case A's listing
+  pub bench-plans : map (λ b. judged (b .file)) benches ≡ map (λ b. b .says) benches
+  pub case-A-listing : listing caseA ≡ caseAListing
+  pub listing-length : (input : List ℕ) → length (listing input) ≤ maxListing
+
+-- ---- demand 3: over all rules and whole runs, of the tables that the calls leave, and of the bytes that the C program's calls leave
+
+pub record Rules : Type 0 where
+  pub decided : (T : Tables) (ranks commands marks scratch : List ℕ) (counts : List (List ℕ)) → let D = decideCall T ranks commands marks scratch in
+      D .answers ≡ given counts → DecidingDemand3 T (D .ranks) (D .commands)
+  pub searched : (T : Tables) (a : ℕ) (table space : List ℕ) (verdict : Bool) (rounds : ℕ) → let S = searchCall T a table space in
+      S .answers ≡ given (verdict, rounds) → SearchDemand3 T a verdict rounds (S .commands)
+  pub gate-decided : (lent : Answer Tables) (T : Tables) → lent ≡ given T → (ranks commands marks scratch tally : List ℕ)
+      → let D = gateDecideCall lent ranks commands marks scratch tally in
+      D .returns ≡ 0 → DecidingDemand3 T (entriesIn (D .ranks)) (entriesIn (D .commands))
+  pub gate-searched : (lent : Answer Tables) (T : Tables) → lent ≡ given T → (a : ℕ) (table space answer : List ℕ)
+      → let S = gateSearchCall lent a table space answer in
+      S .returns ≡ 0 → SearchDemand3 T a (verdictIn (S .answer)) (roundsIn (S .answer)) (entriesIn (S .commands))
