@@ -3,7 +3,7 @@ use mathlib.Core.Path.{_≡_, refl}
 use mathlib.Core.Bool.{true, false, cond}
 use mathlib.Core.List.{List, [], _∷_, _++_, map}
 use Prim.Native.Nat.{ℕ}
-use lib.ListN.{length}
+use lib.ListN.{length, replicate}
 use Rattle.laws.specs.Sets.{any, first, every, exists, orElse, lowest, found, howMany, grow}
 use Rattle.laws.specs.Lists.{tabulate, joined, overwrite}
 use Rattle.laws.specs.Entry.{FFFF, entry}
@@ -128,19 +128,23 @@ sound-examples = refl
 
 -- ---- the calls: what is answered, and every lent table afterwards
 
--- a state that steps to itself, with places to spare in every table; then with a table one place short
-abbrev loop : Tables
-loop = lent 1 1 1 0 (0 ∷ 0 ∷ 0 ∷ []) (0 ∷ []) (0 ∷ [])
+-- 0 to {1,2} by its practice, both of them rest: n, m and t are all different, and each table has a place to spare
+abbrev fork : Tables
+fork = lent 3 1 2 0 (0 ∷ 0 ∷ 0 ∷ 2 ∷ 1 ∷ FFFF ∷ 2 ∷ 1 ∷ FFFF ∷ []) (0 ∷ []) (1 ∷ 2 ∷ [])
 
-decide-example : decideCall loop (7 ∷ 7 ∷ []) (7 ∷ 7 ∷ []) (7 ∷ 7 ∷ []) (7 ∷ 7 ∷ []) ≡ record {
-  answers = given ((1 ∷ 0 ∷ 0 ∷ []) ∷ (0 ∷ 0 ∷ 0 ∷ []) ∷ []);
-  ranks = FFFF ∷ 7 ∷ [];
-  commands = 0 ∷ 7 ∷ [];
-  marks = 0 ∷ 7 ∷ [];
-  scratch = 0 ∷ 7 ∷ [];
+decide-example : decideCall fork (replicate 4 7) (replicate 4 7) (replicate 4 7) (replicate 4 7) ≡ record {
+  answers = given ((1 ∷ 0 ∷ 2 ∷ []) ∷ (0 ∷ 0 ∷ 0 ∷ []) ∷ []);
+  ranks = FFFF ∷ FFFF ∷ FFFF ∷ 7 ∷ [];
+  commands = 0 ∷ FFFF ∷ FFFF ∷ 7 ∷ [];
+  marks = 0 ∷ 0 ∷ 0 ∷ 7 ∷ [];
+  scratch = 0 ∷ 0 ∷ 0 ∷ 7 ∷ [];
 }
 unfolding any first every orElse lowest found howMany grow tabulate overwrite entry ordinary failing active hasPolicy hits forced rank lost safe tryOrder choice chosen policyHits policyFails fault mark tallyRow tally answer _>>=_ need _>>_ rowAt firstCommand commandCount outcomesAt sizeSound tablesLong rowSound risesAt commandSound outcomeSound sound stateAt treeOf stateOf planOf planIn rowsIn left deciding rankTable commandTable markTable cleared startOf
 decide-example = refl
+
+-- a state that steps to itself, with a table one place short
+abbrev loop : Tables
+loop = lent 1 1 1 0 (0 ∷ 0 ∷ 0 ∷ []) (0 ∷ []) (0 ∷ [])
 
 decide-cramped : decideCall loop (7 ∷ []) (7 ∷ []) (7 ∷ []) [] ≡ record {
   answers = refused Cramped;
@@ -152,7 +156,8 @@ decide-cramped : decideCall loop (7 ∷ []) (7 ∷ []) (7 ∷ []) [] ≡ record 
 unfolding every answer need _>>_ rowAt firstCommand commandCount sizeSound tablesLong rowSound risesAt commandSound outcomeSound sound rowsIn left deciding startOf
 decide-cramped = refl
 
-search-example : searchCall loop 0 (7 ∷ 7 ∷ []) (7 ∷ 7 ∷ []) ≡ record { answers = given (false, 1); commands = 0 ∷ 7 ∷ []; scratch = 0 ∷ 7 ∷ [] }
+search-example : searchCall fork 0 (replicate 4 7) (replicate 4 7)
+    ≡ record { answers = given (false, 1); commands = 0 ∷ FFFF ∷ FFFF ∷ 7 ∷ []; scratch = 0 ∷ 0 ∷ 0 ∷ 7 ∷ [] }
 unfolding any first every exists orElse lowest found grow tabulate overwrite entry ordinary failing active terminal hasPolicy hits tryOrder choice lands next marked withoutMarks ends before atOnce inRounds search answer _>>=_ need _>>_ rowAt firstCommand commandCount outcomesAt sizeSound tablesLong rowSound risesAt commandSound outcomeSound sound stateAt treeOf stateOf planOf planIn rowsIn left searching resultTable cleared startOf
 search-example = refl
 
