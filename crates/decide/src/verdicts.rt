@@ -4,6 +4,7 @@ ghost use mathlib.Core.Bool.{true, not, _&&_};
 ghost use mathlib.Core.List.{List, []};
 ghost use Prim.Native.Nat.{ℕ, _+_, _<_, _≤_};
 ghost use lib.ListN.{length, getD};
+ghost use Rattle.model.specs.File.{maxStates};
 ghost use Rattle.model.specs.SoundTest.{sound};
 ghost use Rattle.model.specs.Held.{planIn};
 ghost use Rattle.model.specs.Policy.{policyHits, markOf};
@@ -17,13 +18,14 @@ use choice::internal::choose;
 use choice::internal::command_hit;
 use tables::Row;
 use tables::Size;
+use tables::internal::NONE;
 use tables::internal::Span;
 use tables::internal::at;
 use tables::internal::put;
 use tables::internal::span_at;
 
 // The highest number that an entry holds beside FFFF. The states that have a number are those up to it.
-const HIGHEST: usize = 65534;
+const HIGHEST: usize = NONE - 1;
 
 // A place of the tally.
 pub struct Place {
@@ -130,7 +132,7 @@ fn judge(
 
 // One more at a place of the tally.
 fn add(t: [[u16; 3]; 2], r: usize, c: usize) -> [[u16; 3]; 2]
-    requires { ⌜ (r < 2) × (c < 3) × (getD (getD t r []) c 0 < 60000) ⌝ }
+    requires { ⌜ (r < 2) × (c < 3) × (getD (getD t r []) c 0 < maxStates) ⌝ }
     ensures { λ x. ⌜ x ≡ added t r c ⌝ }
 {
     let mut u = t;
