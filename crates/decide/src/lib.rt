@@ -57,12 +57,15 @@ fn admit(
     marks: usize,
     scratch: usize,
 ) -> Admission
-    ensures { λ r. ⌜ ((T : Tables) → sounds ≡ sound T → n ≡ T .size .n → deciding T ranks commands marks scratch ≡ admitted r (planIn T)) ⌝ }
+    ensures { λ r. ⌜
+        ((T : Tables) → sounds ≡ sound T → n ≡ T .size .n → deciding T ranks commands marks scratch ≡ admitted r (planIn T))
+        ⌝ }
 {
+    let long = long_enough(n, ranks, commands, marks, scratch);
     if !sounds {
         return Admission::Denied(Refusal::Unsound);
     }
-    if !long_enough(n, ranks, commands, marks, scratch) {
+    if !long {
         return Admission::Denied(Refusal::Cramped);
     }
     Admission::Granted

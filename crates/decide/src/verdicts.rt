@@ -52,7 +52,11 @@ fn is_fault(
 ) -> bool
     requires { ⌜ Ready (commandsOf size (now firsts) (now outcomes)) ⌝ }
     requires { ⌜ (span .first ≤ span .end) × (span .end ≤ size .m) × (size .n ≤ length (now ranks)) ⌝ }
-    ensures { λ r. ⌜ ((R : List Row) (s : ℕ) → s < size .n → span ≡ spanAt (held size R (now (firsts .entry)) (now (outcomes .entry))) s → r ≡ (not lost && policyHits (planIn (held size R (now (firsts .entry)) (now (outcomes .entry)))) (numbered (now (ranks .entry))) s)) ⌝ }
+    ensures { λ r. ⌜
+        ((R : List Row) (s : ℕ) → s < size .n →
+        let T = held size R (now (firsts .entry)) (now (outcomes .entry)) in
+        span ≡ spanAt T s → r ≡ (not lost && policyHits (planIn T) (numbered (now (ranks .entry))) s))
+        ⌝ }
 {
     if lost {
         return false;
@@ -113,7 +117,13 @@ fn judge(
     requires { ⌜ Ready (commandsOf size (now firsts) (now outcomes)) ⌝ }
     requires { ⌜ Seen size (now firsts) (now outcomes) s span ⌝ }
     requires { ⌜ (size .n ≤ length (now ranks)) × (size .n ≤ length (now commands)) × (size .n ≤ length (now marks)) ⌝ }
-    ensures { λ r. ⌜ ((R : List Row) → sound (held size R (now (firsts .entry)) (now (outcomes .entry))) ≡ true → span ≡ spanAt (held size R (now (firsts .entry)) (now (outcomes .entry))) s → StateJudged (planIn (held size R (now (firsts .entry)) (now (outcomes .entry)))) (numbered (now (ranks .entry))) (numbered (now (marks .entry)) s) s (now (commands .entry)) (now (marks .entry)) r (now (commands .exit)) (now (marks .exit))) ⌝ }
+    ensures { λ r. ⌜
+        ((R : List Row) →
+        let T = held size R (now (firsts .entry)) (now (outcomes .entry)) in
+        sound T ≡ true → span ≡ spanAt T s
+        → StateJudged (planIn T) (numbered (now (ranks .entry))) (numbered (now (marks .entry)) s) s
+        (now (commands .entry)) (now (marks .entry)) r (now (commands .exit)) (now (marks .exit)))
+        ⌝ }
 {
     let lost = has_number(ranks, s);
     let fails = has_number(marks, s);
@@ -152,7 +162,11 @@ pub fn judge_all(
 ) -> [[u16; 3]; 2]
     requires { ⌜ sound (held size (now rows) (now firsts) (now outcomes)) ≡ true ⌝ }
     requires { ⌜ (size .n ≤ length (now ranks)) × (size .n ≤ length (now commands)) × (size .n ≤ length (now marks)) ⌝ }
-    ensures { λ r. ⌜ StatesJudged (planIn (held size (now (rows .entry)) (now (firsts .entry)) (now (outcomes .entry)))) (numbered (now (ranks .entry))) (size .n) (now (commands .entry)) (now (marks .entry)) r (now (commands .exit)) (now (marks .exit)) ⌝ }
+    ensures { λ r. ⌜
+        (let T = held size (now (rows .entry)) (now (firsts .entry)) (now (outcomes .entry)) in
+        StatesJudged (planIn T) (numbered (now (ranks .entry))) (size .n)
+        (now (commands .entry)) (now (marks .entry)) r (now (commands .exit)) (now (marks .exit)))
+        ⌝ }
 {
     let mut tally = [[0u16; 3]; 2];
     let mut s = 0;
