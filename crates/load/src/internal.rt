@@ -111,7 +111,10 @@ fn long(size: Size, rows: usize, firsts: usize, outcomes: usize) -> bool
 
 // The lent plan's size record, where tables of the limits' lengths hold the plan; else it is unsound.
 fn plan_size(size: &[u8], rows: &[u8], firsts: &[u8], outcomes: &[u8]) -> PlanAnswer
-    ensures { λ r. ⌜ answerOf r ≡ answer (λ (T : Tables). T .size) (loading (now (size .entry)) (now (rows .entry)) (now (firsts .entry)) (now (outcomes .entry))) ⌝ }
+    ensures { λ r. ⌜
+        (let lent = loading (now (size .entry)) (now (rows .entry)) (now (firsts .entry)) (now (outcomes .entry)) in
+        answerOf r ≡ answer (λ (T : Tables). T .size) lent)
+        ⌝ }
 {
     if size.len() < SIZE_BYTES {
         return PlanAnswer::Refused(Refusal::Unsound);
@@ -138,10 +141,22 @@ pub fn load_plan(
     entries: &mut [u16],
 ) -> PlanAnswer
     requires { ⌜ (maxStates ≤ length (now states)) × (maxCommands ≤ length (now commands)) × (maxOutcomes ≤ length (now entries)) ⌝ }
-    ensures answered { λ r. ⌜ answerOf r ≡ answer (λ (T : Tables). T .size) (loading (now (size .entry)) (now (rows .entry)) (now (firsts .entry)) (now (outcomes .entry))) ⌝ }
-    ensures rows { λ _. ⌜ rowsOf (now (states .exit)) ≡ left (λ (T : Tables). take (T .size .n) (T .rows)) (loading (now (size .entry)) (now (rows .entry)) (now (firsts .entry)) (now (outcomes .entry))) (rowsOf (now (states .entry))) ⌝ }
-    ensures firsts { λ _. ⌜ now (commands .exit) ≡ left (λ (T : Tables). take (T .size .m) (T .firsts)) (loading (now (size .entry)) (now (rows .entry)) (now (firsts .entry)) (now (outcomes .entry))) (now (commands .entry)) ⌝ }
-    ensures outcomes { λ _. ⌜ now (entries .exit) ≡ left (λ (T : Tables). take (T .size .t) (T .outcomes)) (loading (now (size .entry)) (now (rows .entry)) (now (firsts .entry)) (now (outcomes .entry))) (now (entries .entry)) ⌝ }
+    ensures answered { λ r. ⌜
+        (let lent = loading (now (size .entry)) (now (rows .entry)) (now (firsts .entry)) (now (outcomes .entry)) in
+        answerOf r ≡ answer (λ (T : Tables). T .size) lent)
+        ⌝ }
+    ensures rows { λ _. ⌜
+        (let lent = loading (now (size .entry)) (now (rows .entry)) (now (firsts .entry)) (now (outcomes .entry)) in
+        rowsOf (now (states .exit)) ≡ left (λ (T : Tables). take (T .size .n) (T .rows)) lent (rowsOf (now (states .entry))))
+        ⌝ }
+    ensures firsts { λ _. ⌜
+        (let lent = loading (now (size .entry)) (now (rows .entry)) (now (firsts .entry)) (now (outcomes .entry)) in
+        now (commands .exit) ≡ left (λ (T : Tables). take (T .size .m) (T .firsts)) lent (now (commands .entry)))
+        ⌝ }
+    ensures outcomes { λ _. ⌜
+        (let lent = loading (now (size .entry)) (now (rows .entry)) (now (firsts .entry)) (now (outcomes .entry)) in
+        now (entries .exit) ≡ left (λ (T : Tables). take (T .size .t) (T .outcomes)) lent (now (entries .entry)))
+        ⌝ }
 {
     let plan = plan_size(size, rows, firsts, outcomes);
     match plan {
