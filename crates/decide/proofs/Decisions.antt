@@ -1,9 +1,8 @@
 -- The call's answer in each of its cases, with every table lent to it.
-use mathlib.Core.Path.{_≡_, refl, _∙_}
+use mathlib.Core.Path.{_≡_, refl, sym, ap, subst, _∙_}
 use mathlib.Core.Bool.{Bool, true, false, not, _&&_}
-use mathlib.Core.List.{List}
+use mathlib.Core.List.{List, [], _∷_}
 use Prim.Native.Nat.{ℕ, _<_, _≤_}
-use native.Mathlib.Omega.{arith}
 use lib.Dec.{leb}
 use lib.ListN.{length}
 use borrow.Author.Tests.{not-true, not-false, le-leb, lt-leb}
@@ -13,16 +12,17 @@ use Rattle.model.specs.Refusal.{Cramped, Unsound, refused, given, answer, need,
 use Rattle.model.specs.Tables.{Tables}
 use Rattle.model.specs.SoundTest.{sound}
 use Rattle.model.specs.Held.{planIn}
-use Rattle.model.specs.Calls.{left, deciding, decideCall}
+use Rattle.model.specs.Calls.{AfterDecide, left, deciding, decideCall}
+use Rattle.model.specs.Demand3.{DecidingDemand3}
 use Rattle.model.proofs.Answering.{deciding-iff}
-use Rattle.model.proofs.Delivered.{of-tables}
+use Rattle.model.proofs.Delivered.{decide-demand3}
 use Rattle.tables.specs.declared.Refusal.{Refusal}
 use Rattle.tables.specs.declared.internal.Admission.{Admission}
 use Rattle.tables.specs.declared.internal.Admission.the-variants.{Granted, Denied}
 use Rattle.tables.specs.Meaning.{refusalOf, admitted}
 use Rattle.decide.specs.declared.Decision.{Decision}
 use Rattle.decide.specs.declared.DecideAnswer.the-variants.{Given}
-use Rattle.decide.specs.Calls.{noCounts, refusedWith, decided, decisionOf, Demands, Worked}
+use Rattle.decide.specs.Calls.{noCounts, refusedWith, decided, afterDecide, Worked}
 
 -- ---- the lengths of the tables
 
@@ -47,13 +47,21 @@ module _ (n r c m s : ℕ) where
 module _ (T : Tables) (rs cs ms ss : List ℕ) where
   abbrev Clauses : Decision → List ℕ → List ℕ → List ℕ → List ℕ → Type 0
   Clauses d r c m s =
-      (decisionOf d ≡ decideCall T rs cs ms ss .answers) × ((r ≡ decideCall T rs cs ms ss .ranks) × ((c ≡ decideCall T rs cs ms ss .commands)
-      × ((m ≡ decideCall T rs cs ms ss .marks) × ((s ≡ decideCall T rs cs ms ss .scratch) × (((d .answer ≡ Given → ⊥) → (d .safe ≡ noCounts) × (d .lost ≡ noCounts)) × (d .answer ≡ Given → Demands T r c))))))
+      (afterDecide d r c m s ≡ decideCall T rs cs ms ss)
+      × (((d .answer ≡ Given → ⊥) → (d .safe ≡ noCounts) × (d .lost ≡ noCounts)) × (d .answer ≡ Given → DecidingDemand3 T r c))
+
+  -- demand 3 follows from the equation
+  demanded : (d : Decision) {r c m s : List ℕ} → afterDecide d r c m s ≡ decideCall T rs cs ms ss → d .answer ≡ Given → DecidingDemand3 T r c
+  demanded d e g =
+      subst (λ (x : AfterDecide). DecidingDemand3 T (x .ranks) (x .commands)) (sym e)
+      (decide-demand3 T rs cs ms ss (d .safe ∷ d .lost ∷ []) (sym (ap (λ (x : AfterDecide). x .answers) e) ∙ rw g))
 
   -- a refusal leaves every table as it was
   refused-with : (w : Refusal) → deciding T (length rs) (length cs) (length ms) (length ss) ≡ refused (refusalOf w) → (d : Decision) → d ≡ refusedWith w → Clauses d rs cs ms ss
   unfolding left answer
-  refused-with w e d p = rw (e, p) (refl, (refl, (refl, (refl, (refl, ((λ _. (refl, refl)), λ g. absurd (let z : _≡_ {A = ℕ} 0 1 = cc in omega arith)))))))
+  refused-with w e d p =
+      let is : afterDecide d rs cs ms ss ≡ decideCall T rs cs ms ss = rw (e, p) in
+      (is, (λ _. rw p (refl, refl), demanded d is))
 
   -- the admission g
   module _ (g : Admission) (answers : deciding T (length rs) (length cs) (length ms) (length ss) ≡ admitted g (planIn T)) where
@@ -72,10 +80,9 @@ module _ (T : Tables) (rs cs ms ss : List ℕ) where
 
       pub decides : {v : List (List ℕ)} {r c m s : List ℕ} → Worked T rs cs ms ss v r c m s → (d : Decision) → d ≡ decided v → Clauses d r c m s
       unfolding left answer tally
-      decides w d p = rw (answered, p, w .tallied) (
-        refl,
-        (w .ranked, (w .chose, (w .marked, (w .clean, ((λ g. absurd (g refl)), λ _ a table l. rw (w .ranked, w .chose) (of-tables T (admits .0) rs cs a l table)))))),
-      )
+      decides {v} {r} {c} {m} {s} w d p =
+          let is : afterDecide d r c m s ≡ decideCall T rs cs ms ss = rw (answered, p, w .tallied, w .ranked, w .chose, w .marked, w .clean) in
+          (is, (λ g. absurd (g (rw p)), demanded d is))
 
 -- ---- the tests in their order
 

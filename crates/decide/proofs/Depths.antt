@@ -8,7 +8,7 @@ use Prim.Native.Nat.{ℕ, suc, _<_, _≤_}
 use native.Mathlib.Omega.{arith}
 use lib.Dec.{eqb}
 use lib.ListN.{length, getD}
-use Rattle.laws.specs.Entry.{FFFF, entry}
+use Rattle.laws.specs.Entry.{FFFF, highest, entry}
 use Rattle.laws.specs.Filled.{Filled}
 use Rattle.laws.specs.Lists.{tabulate, overwrite}
 use Rattle.laws.specs.Sets.{lowest, grow}
@@ -20,6 +20,7 @@ use Rattle.laws.proofs.Agree.{Agree}
 use Rattle.laws.proofs.GrowSame.{grow-same, grow-found}
 use Rattle.laws.proofs.Fills.{filled-of}
 use Rattle.laws.proofs.EntryFound.{entry-found}
+use Rattle.model.specs.File.{maxStates}
 use Rattle.model.specs.Plan.{Plan, failing}
 use Rattle.model.specs.Verdict.{forced, layer, rank, lost}
 use Rattle.model.specs.Policy.{policyHits, policyFails}
@@ -52,7 +53,7 @@ module _ (size : Size) (rows : List Row) (firsts outcomes : List ℕ) (sounds : 
   abbrev P : Plan
   P = planIn T
 
-  few : size .n ≤ 1024
+  few : size .n ≤ maxStates
   few = sound-facts T .0 sounds .size .few
 
   module _ {alone : Bool} {r₀ w₀ e₀ r w e : List ℕ} (v : Initialized T alone (size .n) r₀ w₀ e₀ r w e) (long : size .n ≤ length r₀) where
@@ -85,11 +86,11 @@ module _ (size : Size) (rows : List Row) (firsts outcomes : List ℕ) (sounds : 
 
       -- ---- the practice alone
 
-      depth-small : (s i : ℕ) → depth (netOf (commandsOf size firsts outcomes) w e) (seeds r) s ≡ some i → i ≤ 65534
+      depth-small : (s i : ℕ) → depth (netOf (commandsOf size firsts outcomes) w e) (seeds r) s ≡ some i → i ≤ highest
       unfolding depth
       depth-small s i q = omega (arith, lowest-some _ (suc (size .n)) i q .0, few)
 
-      pub fails-found : alone ≡ true → Agree (size .n) (within r′ 65534) (policyFails P)
+      pub fails-found : alone ≡ true → Agree (size .n) (within r′ highest) (policyFails P)
       unfolding depth policyFails
       fails-found z s l =
           rw (filled .low s l)
@@ -107,6 +108,6 @@ module _ (size : Size) (rows : List Row) (firsts outcomes : List ℕ) (sounds : 
       fails-past = filled .high
 
   -- the lost states are those of a rank
-  pub lost-found : {r₀ r′ : List ℕ} → Filled (size .n) (λ s. entry (rank P s)) r₀ r′ → Agree (size .n) (within r′ 65534) (lost P)
+  pub lost-found : {r₀ r′ : List ℕ} → Filled (size .n) (λ s. entry (rank P s)) r₀ r′ → Agree (size .n) (within r′ highest) (lost P)
   unfolding lost
   lost-found v s l = rw (v .low s l) (entry-found (rank P s) (λ i q. omega (arith, rank-bound P s i q, states-held T, few)))

@@ -6,6 +6,7 @@ use Prim.Native.Nat.{ℕ, _+_, _<_, _≤_}
 use native.Mathlib.Omega.{arith}
 use lib.ListN.{length, getD}
 use Rattle.laws.proofs.Fills.{filled-none, filled-next}
+use Rattle.model.specs.File.{maxStates}
 use Rattle.model.specs.Plan.{Plan, hasPolicy}
 use Rattle.decide.specs.declared.verdicts.Place.{Place}
 use Rattle.decide.specs.Verdicts.{numbered, markAt, added, StateJudged, StatesJudged}
@@ -22,7 +23,7 @@ module _ {P : Plan} {L : ℕ → Bool} {i : ℕ} {cs₀ ms₀ cs ms : List ℕ} 
 
   module _ {r : Place} {cs′ ms′ : List ℕ} (j : StateJudged P L (numbered ms i) i cs ms r cs′ ms′) where
     -- the count that grows fits
-    pub pass-room : i ≤ 1024 → (r .row < 2) × (r .column < 3) × (getD (getD t (r .row) []) (r .column) 0 < 60000)
+    pub pass-room : i < maxStates → (r .row < 2) × (r .column < 3) × (getD (getD t (r .row) []) (r .column) 0 < maxStates)
     pass-room h =
         rw (j .row, j .column, w .counted)
         (one-small (L i), column-small (hasPolicy P i) (numbered ms i), counted-low L (hasPolicy P) (numbered ms₀) i h (L i) (hasPolicy P i) (numbered ms i))

@@ -2,7 +2,7 @@
 use mathlib.Core.Path.{_≡_, refl, ap₂}
 use mathlib.Core.Bool.{Bool, true, false, not, cond, _&&_}
 use mathlib.Core.List.{List, [], _∷_}
-use Prim.Native.Nat.{ℕ, _+_, _<_, _≤_}
+use Prim.Native.Nat.{ℕ, _+_, _<_}
 use native.Mathlib.Nat.{zero-add}
 use native.Mathlib.Numerals.{add-one, one-add}
 use native.Mathlib.Omega.{arith}
@@ -10,6 +10,7 @@ use lib.ListN.{getD}
 use Rattle.laws.specs.Sets.{howMany}
 use Rattle.laws.proofs.Sets.{many-bound}
 use Rattle.laws.proofs.Agree.{Agree, many-same}
+use Rattle.model.specs.File.{maxStates}
 use Rattle.model.specs.Plan.{Plan, hasPolicy}
 use Rattle.model.specs.Verdict.{lost, safe}
 use Rattle.model.specs.Policy.{policyFails, tallyRow, tallyOf, tally}
@@ -56,14 +57,14 @@ module _ (L g f : ℕ → Bool) where
       go false false false = simp (zero-add, one-add, add-one)
 
   -- no count is above that of the states
-  pub counted-low : (s : ℕ) → s ≤ 1024 → (a b c : Bool) → getD (getD (tallyOf L g f s) (oneIf a) []) (columnOf b c) 0 < 60000
+  pub counted-low : (s : ℕ) → s < maxStates → (a b c : Bool) → getD (getD (tallyOf L g f s) (oneIf a) []) (columnOf b c) 0 < maxStates
   unfolding tallyRow oneIf columnOf
   counted-low s h = go
     where
-      low : (k : ℕ → Bool) → howMany k s < 60000
+      low : (k : ℕ → Bool) → howMany k s < maxStates
       low k = omega (arith, many-bound k s)
 
-      go : (a b c : Bool) → getD (getD (tallyRow (λ i. not (L i)) g f s ∷ tallyRow L g f s ∷ []) (cond a 1 0) []) (cond b (cond c 1 0) 2) 0 < 60000
+      go : (a b c : Bool) → getD (getD (tallyRow (λ i. not (L i)) g f s ∷ tallyRow L g f s ∷ []) (cond a 1 0) []) (cond b (cond c 1 0) 2) 0 < maxStates
       go true true true = low _
       go true true false = low _
       go true false c = low _

@@ -6,9 +6,10 @@ ghost use Rattle.model.specs.Tables.{Tables};
 ghost use Rattle.model.specs.SoundTest.{sound};
 ghost use Rattle.model.specs.Held.{planIn};
 ghost use Rattle.model.specs.Calls.{deciding, decideCall};
+ghost use Rattle.model.specs.Demand3.{DecidingDemand3};
 ghost use Rattle.tables.specs.Meaning.{held, admitted};
 ghost use Rattle.decide.specs.declared.DecideAnswer.the-variants.{Given};
-ghost use Rattle.decide.specs.Calls.{noCounts, refusedWith, decided, decisionOf, Demands};
+ghost use Rattle.decide.specs.Calls.{noCounts, refusedWith, decided, afterDecide};
 use tables::Refusal;
 use tables::Row;
 use tables::Size;
@@ -56,12 +57,15 @@ fn admit(
     marks: usize,
     scratch: usize,
 ) -> Admission
-    ensures { λ r. ⌜ ((T : Tables) → sounds ≡ sound T → n ≡ T .size .n → deciding T ranks commands marks scratch ≡ admitted r (planIn T)) ⌝ }
+    ensures { λ r. ⌜
+        ((T : Tables) → sounds ≡ sound T → n ≡ T .size .n → deciding T ranks commands marks scratch ≡ admitted r (planIn T))
+        ⌝ }
 {
+    let long = long_enough(n, ranks, commands, marks, scratch);
     if !sounds {
         return Admission::Denied(Refusal::Unsound);
     }
-    if !long_enough(n, ranks, commands, marks, scratch) {
+    if !long {
         return Admission::Denied(Refusal::Cramped);
     }
     Admission::Granted
@@ -89,9 +93,12 @@ fn answer_with(tally: [[u16; 3]; 2]) -> Decision
     }
 }
 
-// Decides the plan: its ranks (FFFF for safe), commands (FFFF for none), practice marks and tally. The tally leaves as its two rows beside
-// the answer, since an enum holds no array. Document 01 leaves free what the tables have while the call runs: the first n places of all four
-// are worked in, and no place behind them is written. When it is over nothing is free: the equations say what every place has.
+// Decides the plan: its ranks (FFFF for safe), commands (FFFF for none), practice marks and tally. Inside deciding the tally is an array
+// of two rows, handed from state to state by value. It is answered as its two rows beside the enum: an enum may hold an array, but the
+// toolchain's borrow checker covers no function that makes, takes apart or hands on such an enum, so that each caller of `decide` would be
+// proved by hand.
+// Document 01 leaves free what the tables have while the call runs: the first n places of all four are worked in, and no place behind them
+// is written. When it is over nothing is free: the equation says what every place has.
 // Ruled out: a leaking ring called safe, and lack of space told as lost.
 pub fn decide(
     size: Size,
@@ -103,13 +110,16 @@ pub fn decide(
     marks: &mut [u16],
     scratch: &mut [u16],
 ) -> Decision
-    ensures { λ d. ⌜ decisionOf d ≡ decideCall (held size (now (rows .entry)) (now (firsts .entry)) (now (outcomes .entry))) (now (ranks .entry)) (now (commands .entry)) (now (marks .entry)) (now (scratch .entry)) .answers ⌝ }
-    ensures { λ _. ⌜ now (ranks .exit) ≡ decideCall (held size (now (rows .entry)) (now (firsts .entry)) (now (outcomes .entry))) (now (ranks .entry)) (now (commands .entry)) (now (marks .entry)) (now (scratch .entry)) .ranks ⌝ }
-    ensures { λ _. ⌜ now (commands .exit) ≡ decideCall (held size (now (rows .entry)) (now (firsts .entry)) (now (outcomes .entry))) (now (ranks .entry)) (now (commands .entry)) (now (marks .entry)) (now (scratch .entry)) .commands ⌝ }
-    ensures { λ _. ⌜ now (marks .exit) ≡ decideCall (held size (now (rows .entry)) (now (firsts .entry)) (now (outcomes .entry))) (now (ranks .entry)) (now (commands .entry)) (now (marks .entry)) (now (scratch .entry)) .marks ⌝ }
-    ensures { λ _. ⌜ now (scratch .exit) ≡ decideCall (held size (now (rows .entry)) (now (firsts .entry)) (now (outcomes .entry))) (now (ranks .entry)) (now (commands .entry)) (now (marks .entry)) (now (scratch .entry)) .scratch ⌝ }
-    ensures { λ d. ⌜ ((d .answer ≡ Given → ⊥) → (d .safe ≡ noCounts) × (d .lost ≡ noCounts)) ⌝ }
-    ensures { λ d. ⌜ (d .answer ≡ Given → Demands (held size (now (rows .entry)) (now (firsts .entry)) (now (outcomes .entry))) (now (ranks .exit)) (now (commands .exit))) ⌝ }
+    ensures call { λ d. ⌜
+        (let T = held size (now (rows .entry)) (now (firsts .entry)) (now (outcomes .entry)) in
+        afterDecide d (now (ranks .exit)) (now (commands .exit)) (now (marks .exit)) (now (scratch .exit))
+        ≡ decideCall T (now (ranks .entry)) (now (commands .entry)) (now (marks .entry)) (now (scratch .entry)))
+        ⌝ }
+    ensures no_counts { λ d. ⌜ ((d .answer ≡ Given → ⊥) → (d .safe ≡ noCounts) × (d .lost ≡ noCounts)) ⌝ }
+    ensures demand3 { λ d. ⌜
+        (let T = held size (now (rows .entry)) (now (firsts .entry)) (now (outcomes .entry)) in
+        d .answer ≡ Given → DecidingDemand3 T (now (ranks .exit)) (now (commands .exit)))
+        ⌝ }
 {
     let sounds = tables::sound(size, rows, firsts, outcomes);
     let admission = admit(

@@ -78,9 +78,9 @@ fn initialize_state(
 )
     requires { ⌜ (span .first ≤ span .end) × (span .end ≤ maxCommands) ⌝ }
     requires { ⌜ (s < length (now ranks)) × (s < length (now watch)) × (s < length (now ends)) ⌝ }
-    ensures { λ _. ⌜ now (ranks .exit) ≡ set (now (ranks .entry)) s (seedOf span) ⌝ }
-    ensures { λ _. ⌜ now (watch .exit) ≡ set (now (watch .entry)) s (rangeOf alone span .from) ⌝ }
-    ensures { λ _. ⌜ now (ends .exit) ≡ set (now (ends .entry)) s (rangeOf alone span .to) ⌝ }
+    ensures seeded { λ _. ⌜ now (ranks .exit) ≡ set (now (ranks .entry)) s (seedOf span) ⌝ }
+    ensures begins { λ _. ⌜ now (watch .exit) ≡ set (now (watch .entry)) s (rangeOf alone span .from) ⌝ }
+    ensures stops { λ _. ⌜ now (ends .exit) ≡ set (now (ends .entry)) s (rangeOf alone span .to) ⌝ }
 {
     let range = range_of(span, alone);
     put(ranks, s, seed_of(span));
@@ -99,7 +99,10 @@ pub fn initialize(
 )
     requires { ⌜ Spans size (now rows) ⌝ }
     requires { ⌜ (size .n ≤ length (now ranks)) × (size .n ≤ length (now watch)) × (size .n ≤ length (now ends)) ⌝ }
-    ensures { λ _. ⌜ ((F O : List ℕ) → Initialized (held size (now (rows .entry)) F O) alone (size .n) (now (ranks .entry)) (now (watch .entry)) (now (ends .entry)) (now (ranks .exit)) (now (watch .exit)) (now (ends .exit))) ⌝ }
+    ensures { λ _. ⌜
+        ((F O : List ℕ) → Initialized (held size (now (rows .entry)) F O) alone (size .n)
+        (now (ranks .entry)) (now (watch .entry)) (now (ends .entry)) (now (ranks .exit)) (now (watch .exit)) (now (ends .exit)))
+        ⌝ }
 {
     let mut s = 0;
     while s < size.n {

@@ -4,6 +4,7 @@ ghost use mathlib.Core.Bool.{true, not, _&&_};
 ghost use mathlib.Core.List.{List, []};
 ghost use Prim.Native.Nat.{ℕ, _+_, _<_, _≤_};
 ghost use lib.ListN.{length, getD};
+ghost use Rattle.model.specs.File.{maxStates};
 ghost use Rattle.model.specs.SoundTest.{sound};
 ghost use Rattle.model.specs.Held.{planIn};
 ghost use Rattle.model.specs.Policy.{policyHits, markOf};
@@ -17,13 +18,14 @@ use choice::internal::choose;
 use choice::internal::command_hit;
 use tables::Row;
 use tables::Size;
+use tables::internal::NONE;
 use tables::internal::Span;
 use tables::internal::at;
 use tables::internal::put;
 use tables::internal::span_at;
 
 // The highest number that an entry holds beside FFFF. The states that have a number are those up to it.
-const HIGHEST: usize = 65534;
+const HIGHEST: usize = NONE - 1;
 
 // A place of the tally.
 pub struct Place {
@@ -50,7 +52,11 @@ fn is_fault(
 ) -> bool
     requires { ⌜ Ready (commandsOf size (now firsts) (now outcomes)) ⌝ }
     requires { ⌜ (span .first ≤ span .end) × (span .end ≤ size .m) × (size .n ≤ length (now ranks)) ⌝ }
-    ensures { λ r. ⌜ ((R : List Row) (s : ℕ) → s < size .n → span ≡ spanAt (held size R (now (firsts .entry)) (now (outcomes .entry))) s → r ≡ (not lost && policyHits (planIn (held size R (now (firsts .entry)) (now (outcomes .entry)))) (numbered (now (ranks .entry))) s)) ⌝ }
+    ensures { λ r. ⌜
+        ((R : List Row) (s : ℕ) → s < size .n →
+        let T = held size R (now (firsts .entry)) (now (outcomes .entry)) in
+        span ≡ spanAt T s → r ≡ (not lost && policyHits (planIn T) (numbered (now (ranks .entry))) s))
+        ⌝ }
 {
     if lost {
         return false;
@@ -111,7 +117,13 @@ fn judge(
     requires { ⌜ Ready (commandsOf size (now firsts) (now outcomes)) ⌝ }
     requires { ⌜ Seen size (now firsts) (now outcomes) s span ⌝ }
     requires { ⌜ (size .n ≤ length (now ranks)) × (size .n ≤ length (now commands)) × (size .n ≤ length (now marks)) ⌝ }
-    ensures { λ r. ⌜ ((R : List Row) → sound (held size R (now (firsts .entry)) (now (outcomes .entry))) ≡ true → span ≡ spanAt (held size R (now (firsts .entry)) (now (outcomes .entry))) s → StateJudged (planIn (held size R (now (firsts .entry)) (now (outcomes .entry)))) (numbered (now (ranks .entry))) (numbered (now (marks .entry)) s) s (now (commands .entry)) (now (marks .entry)) r (now (commands .exit)) (now (marks .exit))) ⌝ }
+    ensures { λ r. ⌜
+        ((R : List Row) →
+        let T = held size R (now (firsts .entry)) (now (outcomes .entry)) in
+        sound T ≡ true → span ≡ spanAt T s
+        → StateJudged (planIn T) (numbered (now (ranks .entry))) (numbered (now (marks .entry)) s) s
+        (now (commands .entry)) (now (marks .entry)) r (now (commands .exit)) (now (marks .exit)))
+        ⌝ }
 {
     let lost = has_number(ranks, s);
     let fails = has_number(marks, s);
@@ -130,7 +142,7 @@ fn judge(
 
 // One more at a place of the tally.
 fn add(t: [[u16; 3]; 2], r: usize, c: usize) -> [[u16; 3]; 2]
-    requires { ⌜ (r < 2) × (c < 3) × (getD (getD t r []) c 0 < 60000) ⌝ }
+    requires { ⌜ (r < 2) × (c < 3) × (getD (getD t r []) c 0 < maxStates) ⌝ }
     ensures { λ x. ⌜ x ≡ added t r c ⌝ }
 {
     let mut u = t;
@@ -150,7 +162,11 @@ pub fn judge_all(
 ) -> [[u16; 3]; 2]
     requires { ⌜ sound (held size (now rows) (now firsts) (now outcomes)) ≡ true ⌝ }
     requires { ⌜ (size .n ≤ length (now ranks)) × (size .n ≤ length (now commands)) × (size .n ≤ length (now marks)) ⌝ }
-    ensures { λ r. ⌜ StatesJudged (planIn (held size (now (rows .entry)) (now (firsts .entry)) (now (outcomes .entry)))) (numbered (now (ranks .entry))) (size .n) (now (commands .entry)) (now (marks .entry)) r (now (commands .exit)) (now (marks .exit)) ⌝ }
+    ensures { λ r. ⌜
+        (let T = held size (now (rows .entry)) (now (firsts .entry)) (now (outcomes .entry)) in
+        StatesJudged (planIn T) (numbered (now (ranks .entry))) (size .n)
+        (now (commands .entry)) (now (marks .entry)) r (now (commands .exit)) (now (marks .exit)))
+        ⌝ }
 {
     let mut tally = [[0u16; 3]; 2];
     let mut s = 0;

@@ -35,8 +35,8 @@ fn index_all(
     requires { ⌜ Ready (commandsOf size (now firsts) (now outcomes)) ⌝ }
     requires { ⌜ Parts (now starts) (size .n) (size .m) ⌝ }
     requires { ⌜ (size .n ≤ length (now starts)) × ((size .m ≤ length (now owner)) × ((size .n ≤ length (now offsets)) × (size .t ≤ length (now users)))) ⌝ }
-    ensures { λ _. ⌜ Indexed (commandsOf size (now (firsts .entry)) (now (outcomes .entry))) (now (offsets .exit)) (now (users .exit)) (now (owner .exit)) ⌝ }
-    ensures { λ _. ⌜ Owned (now (starts .entry)) (size .n) (size .m) (now (owner .exit)) ⌝ }
+    ensures indexed { λ _. ⌜ Indexed (commandsOf size (now (firsts .entry)) (now (outcomes .entry))) (now (offsets .exit)) (now (users .exit)) (now (owner .exit)) ⌝ }
+    ensures owned { λ _. ⌜ Owned (now (starts .entry)) (size .n) (size .m) (now (owner .exit)) ⌝ }
 {
     own(size, starts, owner);
     group(size, firsts, outcomes, offsets, users);
@@ -60,8 +60,12 @@ fn propagate_in(
     requires { ⌜ Indexed (commandsOf size (now firsts) (now outcomes)) (now offsets) (now users) (now owner) ⌝ }
     requires { ⌜ Owns (netOf (commandsOf size (now firsts) (now outcomes)) (now watch) (now ends)) (now owner) ⌝ }
     requires { ⌜ (size .n ≤ length (now ranks)) × ((size .n ≤ length (now watch)) × ((size .n ≤ length (now scratch)) × Seeded (size .n) (now ranks))) ⌝ }
-    ensures { λ _. ⌜ now (ranks .exit) ≡ overwrite (tabulate (λ (s : ℕ). entry (depth (netOf (commandsOf size (now (firsts .entry)) (now (outcomes .entry))) (now (watch .entry)) (now (ends .entry))) (seeds (now (ranks .entry))) s)) 0 (size .n)) (now (ranks .entry)) ⌝ }
-    ensures { λ _. ⌜ Filled (size .n) (λ i. getD (now (scratch .exit)) i 0) (now (scratch .entry)) (now (scratch .exit)) ⌝ }
+    ensures ranked { λ _. ⌜
+        (let net = netOf (commandsOf size (now (firsts .entry)) (now (outcomes .entry))) (now (watch .entry)) (now (ends .entry)) in
+        now (ranks .exit)
+        ≡ overwrite (tabulate (λ (s : ℕ). entry (depth net (seeds (now (ranks .entry))) s)) 0 (size .n)) (now (ranks .entry)))
+        ⌝ }
+    ensures queued { λ _. ⌜ Filled (size .n) (λ i. getD (now (scratch .exit)) i 0) (now (scratch .entry)) (now (scratch .exit)) ⌝ }
 {
     propagate(
         size,
@@ -92,7 +96,11 @@ pub fn work_out(
 ) -> [[u16; 3]; 2]
     requires { ⌜ sound (held size (now rows) (now firsts) (now outcomes)) ≡ true ⌝ }
     requires { ⌜ (size .n ≤ length (now ranks)) × ((size .n ≤ length (now commands)) × ((size .n ≤ length (now marks)) × (size .n ≤ length (now scratch)))) ⌝ }
-    ensures { λ r. ⌜ Worked (held size (now (rows .entry)) (now (firsts .entry)) (now (outcomes .entry))) (now (ranks .entry)) (now (commands .entry)) (now (marks .entry)) (now (scratch .entry)) r (now (ranks .exit)) (now (commands .exit)) (now (marks .exit)) (now (scratch .exit)) ⌝ }
+    ensures { λ r. ⌜
+        (let T = held size (now (rows .entry)) (now (firsts .entry)) (now (outcomes .entry)) in
+        Worked T (now (ranks .entry)) (now (commands .entry)) (now (marks .entry)) (now (scratch .entry)) r
+        (now (ranks .exit)) (now (commands .exit)) (now (marks .exit)) (now (scratch .exit)))
+        ⌝ }
 {
     let mut owner = [0u16; Size::COMMANDS];
     let mut users = [0u16; Size::OUTCOMES];

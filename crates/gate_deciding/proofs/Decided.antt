@@ -11,18 +11,12 @@ use Rattle.model.specs.Policy.{tally}
 use Rattle.model.specs.Refusal.{Cramped, Unsound, Answer, given, answer, need, _>>=_, _>>_}
 use Rattle.model.specs.Tables.{Tables}
 use Rattle.model.specs.SoundTest.{sound}
-use Rattle.model.specs.Calls.{left, deciding, rankTable, commandTable, markTable, cleared}
-use Rattle.model.specs.Boundary.{bytesFor, tallyEntries, decideRoom, code, gateDecide}
+use Rattle.model.specs.Calls.{left, AfterDecide, deciding, rankTable, commandTable, markTable, cleared}
+use Rattle.model.specs.Boundary.{bytesFor, tallyEntries, code, gateDecide, AfterGateDecide, gateDecideCall}
 use Rattle.model.proofs.Answers.{given-inj, need-inv, answer-inv}
 use Rattle.model.proofs.HeldPlan.{states-held}
 use Rattle.model.proofs.Gates.{wholeDeciding, gate-decide, code-from, left-from}
-use Rattle.gate_deciding.specs.Delivery.{delivery, Deliverable}
-
--- what the call returns and leaves in the slices lent to it
-abbrev pub Says : Answer Plan → List ℕ → List ℕ → List ℕ → List ℕ → List ℕ → ℕ → List ℕ → List ℕ → List ℕ → List ℕ → List ℕ → Type 0
-Says q R C M X Y k R′ C′ M′ X′ Y′ =
-    (k ≡ code q) × ((R′ ≡ left (λ P. bytesFor (rankTable P)) q R) × ((C′ ≡ left (λ P. bytesFor (commandTable P)) q C)
-    × ((M′ ≡ left (λ P. bytesFor (markTable P)) q M) × ((X′ ≡ left (λ P. bytesFor (cleared (P .states))) q X) × (Y′ ≡ left (λ P. bytesFor (tallyEntries P)) q Y)))))
+use Rattle.gate_deciding.specs.Delivery.{decideRoom, delivery, deliveryCall, Deliverable}
 
 -- the plan that is decided has as many states as the size record says
 states-decided : (T : Tables) (P : Plan) → wholeDeciding T ≡ given P → P .states ≡ T .size .n
@@ -31,12 +25,6 @@ states-decided T P e =
     let (_, f) = need-inv Unsound (sound T) _ e in
     let (_, is) = need-inv Cramped _ _ f in
     sym (ap (λ (q : Plan). q .states) (given-inj is)) ∙ states-held T
-
--- what a table begins with where the plan is decided
-taken : (T : Tables) (f : Plan → List ℕ) → ((P : Plan) → length (f P) ≡ P .states) → (zeros l : List ℕ) → l ≡ left f (wholeDeciding T) zeros
-    → (P : Plan) → wholeDeciding T ≡ given P → take (T .size .n) l ≡ f P
-unfolding left
-taken T f long zeros l e P g = rw (rw g at e) (take-overwritten (T .size .n) (f P) zeros (long P ∙ states-decided T P g))
 
 long-ranks : (P : Plan) → length (rankTable P) ≡ P .states
 unfolding rankTable
@@ -54,29 +42,44 @@ long-cleared : (P : Plan) → length (cleared (P .states)) ≡ P .states
 unfolding cleared
 long-cleared P = length-replicate (P .states) 0
 
-module _ (T : Tables) (v : Answer (List (List ℕ))) (says : v ≡ answer tally (wholeDeciding T)) (zeros ranked chosen marked clean : List ℕ)
-    (ranks : ranked ≡ left rankTable (wholeDeciding T) zeros) (commands : chosen ≡ left commandTable (wholeDeciding T) zeros)
-    (marks : marked ≡ left markTable (wholeDeciding T) zeros) (scratch : clean ≡ left (λ P. cleared (P .states)) (wholeDeciding T) zeros) where
+module _ (T : Tables) (zeros : List ℕ) where
   abbrev n : ℕ
   n = T .size .n
 
-  long-front : (f : Plan → List ℕ) → ((P : Plan) → length (f P) ≡ P .states) → (l : List ℕ) → l ≡ left f (wholeDeciding T) zeros → (P : Plan) → wholeDeciding T ≡ given P
-      → n ≤ length l
-  long-front f long l e P g = omega (arith, length-take n l, ap length (taken T f long zeros l e P g), long P, states-decided T P g)
+  -- what deciding answers and leaves
+  abbrev decided : AfterDecide
+  decided = record {
+    answers = answer tally (wholeDeciding T);
+    ranks = left rankTable (wholeDeciding T) zeros;
+    commands = left commandTable (wholeDeciding T) zeros;
+    marks = left markTable (wholeDeciding T) zeros;
+    scratch = left (λ P. cleared (P .states)) (wholeDeciding T) zeros;
+  }
 
-  pub deliverable : Deliverable v n (length ranked) (length chosen) (length marked) (length clean)
-  deliverable t e =
-      let (P, g, _) = answer-inv tally (wholeDeciding T) t (sym says ∙ e) in (
-        long-front rankTable long-ranks ranked ranks P g,
-        long-front commandTable long-commands chosen commands P g,
-        long-front markTable long-marks marked marks P g,
-        long-front (λ P. cleared (P .states)) long-cleared clean scratch P g,
-      )
+  -- what a table begins with where the plan is decided
+  taken : (f : Plan → List ℕ) → ((P : Plan) → length (f P) ≡ P .states) → (P : Plan) → wholeDeciding T ≡ given P
+      → take n (left f (wholeDeciding T) zeros) ≡ f P
+  unfolding left
+  taken f long P g = rw g (take-overwritten n (f P) zeros (long P ∙ states-decided T P g))
+
+  long-front : (f : Plan → List ℕ) → ((P : Plan) → length (f P) ≡ P .states) → (P : Plan) → wholeDeciding T ≡ given P
+      → n ≤ length (left f (wholeDeciding T) zeros)
+  long-front f long P g =
+      omega (arith, length-take n (left f (wholeDeciding T) zeros), ap length (taken f long P g), long P, states-decided T P g)
+
+  pub deliverable : (x : AfterDecide) → x ≡ decided → Deliverable x n
+  deliverable x is = rw is (λ t e.
+      let (P, g, _) = answer-inv tally (wholeDeciding T) t e in (
+        long-front rankTable long-ranks P g,
+        long-front commandTable long-commands P g,
+        long-front markTable long-marks P g,
+        long-front (λ P. cleared (P .states)) long-cleared P g,
+      ))
 
   module _ (R C M X Y : List ℕ) where
     -- what is delivered, and what the call answers
     abbrev out : Answer (List (List ℕ))
-    out = delivery v n (length R) (length C) (length M) (length X) (length Y)
+    out = delivery (answer tally (wholeDeciding T)) n (length R) (length C) (length M) (length X) (length Y)
 
     abbrev call : Answer Plan
     call = gateDecide (given T) (length R) (length C) (length M) (length X) (length Y)
@@ -86,34 +89,27 @@ module _ (T : Tables) (v : Answer (List (List ℕ))) (says : v ≡ answer tally 
 
     returns : code out ≡ code call
     unfolding delivery
-    returns = code-from (wholeDeciding T) tally v says (λ P. P) _ ∙ sym (ap code call-is)
+    returns = code-from (wholeDeciding T) tally _ refl (λ P. P) _ ∙ sym (ap code call-is)
 
     leaves : (f : List (List ℕ) → List ℕ) (g : Plan → List ℕ) → ((P : Plan) → wholeDeciding T ≡ given P → f (tally P) ≡ g P) → (l : List ℕ)
         → left f out l ≡ left g call l
     unfolding delivery
-    leaves f g same l = left-from (wholeDeciding T) tally v says (λ P. P) _ f g same l ∙ sym (ap (λ (q : Answer Plan). left g q l) call-is)
+    leaves f g same l = left-from (wholeDeciding T) tally _ refl (λ P. P) _ f g same l ∙ sym (ap (λ (q : Answer Plan). left g q l) call-is)
 
-    stored : (f : Plan → List ℕ) → ((P : Plan) → length (f P) ≡ P .states) → (t : List ℕ) → t ≡ left f (wholeDeciding T) zeros → (l : List ℕ)
-        → left (λ _. bytesFor (take n t)) out l ≡ left (λ P. bytesFor (f P)) call l
-    stored f long t e l = leaves (λ _. bytesFor (take n t)) (λ P. bytesFor (f P)) (λ P g. ap bytesFor (taken T f long zeros t e P g)) l
+    stored : (f : Plan → List ℕ) → ((P : Plan) → length (f P) ≡ P .states) → (l : List ℕ)
+        → left (λ _. bytesFor (take n (left f (wholeDeciding T) zeros))) out l ≡ left (λ P. bytesFor (f P)) call l
+    stored f long l = leaves _ (λ P. bytesFor (f P)) (λ P g. ap bytesFor (taken f long P g)) l
 
-    pub decision-delivered : {k : ℕ} {R′ C′ M′ X′ Y′ : List ℕ} → k ≡ code out → R′ ≡ left (λ _. bytesFor (take n ranked)) out R
-        → C′ ≡ left (λ _. bytesFor (take n chosen)) out C → M′ ≡ left (λ _. bytesFor (take n marked)) out M
-        → X′ ≡ left (λ _. bytesFor (take n clean)) out X → Y′ ≡ left (λ t. bytesFor (joined t)) out Y → Says call R C M X Y k R′ C′ M′ X′ Y′
+    delivers : deliveryCall decided n R C M X Y ≡ gateDecideCall (given T) R C M X Y
     unfolding tallyEntries
-    decision-delivered h r c m x y = (
-      h ∙ returns,
-      (
-        r ∙ stored rankTable long-ranks ranked ranks R,
-        (
-          c ∙ stored commandTable long-commands chosen commands C,
-          (
-            m ∙ stored markTable long-marks marked marks M,
-            (
-              x ∙ stored (λ P. cleared (P .states)) long-cleared clean scratch X,
-              y ∙ leaves (λ t. bytesFor (joined t)) (λ P. bytesFor (tallyEntries P)) (λ P g. refl) Y,
-            ),
-          ),
-        ),
-      ),
-    )
+    delivers = λ i. record {
+      returns = returns i;
+      ranks = stored rankTable long-ranks R i;
+      commands = stored commandTable long-commands C i;
+      marks = stored markTable long-marks M i;
+      scratch = stored (λ P. cleared (P .states)) long-cleared X i;
+      tally = leaves (λ t. bytesFor (joined t)) (λ P. bytesFor (tallyEntries P)) (λ P g. refl) Y i;
+    }
+
+    pub decision-delivered : {y : AfterGateDecide} (x : AfterDecide) → x ≡ decided → y ≡ deliveryCall x n R C M X Y → y ≡ gateDecideCall (given T) R C M X Y
+    decision-delivered x is e = e ∙ ap (λ (d : AfterDecide). deliveryCall d n R C M X Y) is ∙ delivers

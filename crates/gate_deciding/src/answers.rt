@@ -2,18 +2,20 @@
 ghost use mathlib.Core.Path.{_≡_};
 ghost use mathlib.Core.List.{[], _∷_};
 ghost use Prim.Native.Nat.{_≤_};
-ghost use lib.ListN.{length, take};
+ghost use lib.ListN.{length};
 ghost use Rattle.laws.specs.Lists.{joined, overwrite};
-ghost use Rattle.model.specs.Calls.{left};
-ghost use Rattle.model.specs.Boundary.{bytesFor, code, decideRoom};
-ghost use Rattle.decide.specs.Calls.{decisionOf};
-ghost use Rattle.gate_deciding.specs.Delivery.{delivery, Deliverable};
+ghost use Rattle.model.specs.Boundary.{bytesFor, tallyBytes};
+ghost use Rattle.decide.specs.Calls.{afterDecide};
+ghost use Rattle.gate_deciding.specs.Delivery.{decideRoom, afterGateDecide, deliveryCall, Deliverable};
 use decide::DecideAnswer;
 use decide::Decision;
 use store::internal::store;
 use store::internal::store_entry;
 use tables::Refusal;
 use tables::number;
+
+// The bytes of a tally.
+const TALLY_BYTES: usize = 12;
 
 // Whether slices of so many bytes have room for the entries of n states and for the tally's six.
 fn room(n: usize, ranks: usize, commands: usize, marks: usize, scratch: usize, tally: usize) -> bool
@@ -31,12 +33,12 @@ fn room(n: usize, ranks: usize, commands: usize, marks: usize, scratch: usize, t
     if scratch / 2 < n {
         return false;
     }
-    12 <= tally
+    TALLY_BYTES <= tally
 }
 
 // The tally's two rows, one after the other.
 fn store_tally(safe: [u16; 3], lost: [u16; 3], tally: &mut [u8])
-    requires { ⌜ 12 ≤ length (now tally) ⌝ }
+    requires { ⌜ tallyBytes ≤ length (now tally) ⌝ }
     ensures { λ _. ⌜ now (tally .exit) ≡ overwrite (bytesFor (joined (safe ∷ lost ∷ []))) (now (tally .entry)) ⌝ }
 {
     store_entry(tally, 0, safe[0]);
@@ -61,13 +63,12 @@ pub fn deliver(
     scratch: &mut [u8],
     tally: &mut [u8],
 ) -> u32
-    requires { ⌜ Deliverable (decisionOf decision) n (length (now ranked)) (length (now chosen)) (length (now marked)) (length (now clean)) ⌝ }
-    ensures { λ r. ⌜ r ≡ code (delivery (decisionOf decision) n (length (now (ranks .entry))) (length (now (commands .entry))) (length (now (marks .entry))) (length (now (scratch .entry))) (length (now (tally .entry)))) ⌝ }
-    ensures { λ _. ⌜ now (ranks .exit) ≡ left (λ _. bytesFor (take n (now (ranked .entry)))) (delivery (decisionOf decision) n (length (now (ranks .entry))) (length (now (commands .entry))) (length (now (marks .entry))) (length (now (scratch .entry))) (length (now (tally .entry)))) (now (ranks .entry)) ⌝ }
-    ensures { λ _. ⌜ now (commands .exit) ≡ left (λ _. bytesFor (take n (now (chosen .entry)))) (delivery (decisionOf decision) n (length (now (ranks .entry))) (length (now (commands .entry))) (length (now (marks .entry))) (length (now (scratch .entry))) (length (now (tally .entry)))) (now (commands .entry)) ⌝ }
-    ensures { λ _. ⌜ now (marks .exit) ≡ left (λ _. bytesFor (take n (now (marked .entry)))) (delivery (decisionOf decision) n (length (now (ranks .entry))) (length (now (commands .entry))) (length (now (marks .entry))) (length (now (scratch .entry))) (length (now (tally .entry)))) (now (marks .entry)) ⌝ }
-    ensures { λ _. ⌜ now (scratch .exit) ≡ left (λ _. bytesFor (take n (now (clean .entry)))) (delivery (decisionOf decision) n (length (now (ranks .entry))) (length (now (commands .entry))) (length (now (marks .entry))) (length (now (scratch .entry))) (length (now (tally .entry)))) (now (scratch .entry)) ⌝ }
-    ensures { λ _. ⌜ now (tally .exit) ≡ left (λ t. bytesFor (joined t)) (delivery (decisionOf decision) n (length (now (ranks .entry))) (length (now (commands .entry))) (length (now (marks .entry))) (length (now (scratch .entry))) (length (now (tally .entry)))) (now (tally .entry)) ⌝ }
+    requires { ⌜ Deliverable (afterDecide decision (now ranked) (now chosen) (now marked) (now clean)) n ⌝ }
+    ensures call { λ r. ⌜
+        (let decided = afterDecide decision (now (ranked .entry)) (now (chosen .entry)) (now (marked .entry)) (now (clean .entry)) in
+        afterGateDecide r (now (ranks .exit)) (now (commands .exit)) (now (marks .exit)) (now (scratch .exit)) (now (tally .exit))
+        ≡ deliveryCall decided n (now (ranks .entry)) (now (commands .entry)) (now (marks .entry)) (now (scratch .entry)) (now (tally .entry)))
+        ⌝ }
 {
     let answer = decision.answer;
     match answer {

@@ -3,6 +3,7 @@ ghost use mathlib.Core.Path.{_≡_};
 ghost use Rattle.model.specs.Refusal.{given};
 ghost use Rattle.model.specs.Boundary.{tablesIn, gateDecideCall};
 ghost use Rattle.tables.specs.Meaning.{held};
+ghost use Rattle.gate_deciding.specs.Delivery.{afterGateDecide};
 use crate::answers::deliver;
 use load::internal::PlanAnswer;
 use load::internal::load_plan;
@@ -21,12 +22,11 @@ pub fn decide_loaded(
     scratch: &mut [u8],
     tally: &mut [u8],
 ) -> u32
-    ensures { λ r. ⌜ r ≡ gateDecideCall (given (held size (now (rows .entry)) (now (firsts .entry)) (now (outcomes .entry)))) (now (ranks .entry)) (now (commands .entry)) (now (marks .entry)) (now (scratch .entry)) (now (tally .entry)) .returns ⌝ }
-    ensures { λ _. ⌜ now (ranks .exit) ≡ gateDecideCall (given (held size (now (rows .entry)) (now (firsts .entry)) (now (outcomes .entry)))) (now (ranks .entry)) (now (commands .entry)) (now (marks .entry)) (now (scratch .entry)) (now (tally .entry)) .ranks ⌝ }
-    ensures { λ _. ⌜ now (commands .exit) ≡ gateDecideCall (given (held size (now (rows .entry)) (now (firsts .entry)) (now (outcomes .entry)))) (now (ranks .entry)) (now (commands .entry)) (now (marks .entry)) (now (scratch .entry)) (now (tally .entry)) .commands ⌝ }
-    ensures { λ _. ⌜ now (marks .exit) ≡ gateDecideCall (given (held size (now (rows .entry)) (now (firsts .entry)) (now (outcomes .entry)))) (now (ranks .entry)) (now (commands .entry)) (now (marks .entry)) (now (scratch .entry)) (now (tally .entry)) .marks ⌝ }
-    ensures { λ _. ⌜ now (scratch .exit) ≡ gateDecideCall (given (held size (now (rows .entry)) (now (firsts .entry)) (now (outcomes .entry)))) (now (ranks .entry)) (now (commands .entry)) (now (marks .entry)) (now (scratch .entry)) (now (tally .entry)) .scratch ⌝ }
-    ensures { λ _. ⌜ now (tally .exit) ≡ gateDecideCall (given (held size (now (rows .entry)) (now (firsts .entry)) (now (outcomes .entry)))) (now (ranks .entry)) (now (commands .entry)) (now (marks .entry)) (now (scratch .entry)) (now (tally .entry)) .tally ⌝ }
+    ensures call { λ r. ⌜
+        (let T = held size (now (rows .entry)) (now (firsts .entry)) (now (outcomes .entry)) in
+        afterGateDecide r (now (ranks .exit)) (now (commands .exit)) (now (marks .exit)) (now (scratch .exit)) (now (tally .exit))
+        ≡ gateDecideCall (given T) (now (ranks .entry)) (now (commands .entry)) (now (marks .entry)) (now (scratch .entry)) (now (tally .entry)))
+        ⌝ }
 {
     let mut ranked = [0u16; Size::STATES];
     let mut chosen = [0u16; Size::STATES];
@@ -69,12 +69,11 @@ pub fn decide_call(
     scratch: &mut [u8],
     tally: &mut [u8],
 ) -> u32
-    ensures { λ r. ⌜ r ≡ gateDecideCall (tablesIn (now (size .entry)) (now (rows .entry)) (now (firsts .entry)) (now (outcomes .entry))) (now (ranks .entry)) (now (commands .entry)) (now (marks .entry)) (now (scratch .entry)) (now (tally .entry)) .returns ⌝ }
-    ensures { λ _. ⌜ now (ranks .exit) ≡ gateDecideCall (tablesIn (now (size .entry)) (now (rows .entry)) (now (firsts .entry)) (now (outcomes .entry))) (now (ranks .entry)) (now (commands .entry)) (now (marks .entry)) (now (scratch .entry)) (now (tally .entry)) .ranks ⌝ }
-    ensures { λ _. ⌜ now (commands .exit) ≡ gateDecideCall (tablesIn (now (size .entry)) (now (rows .entry)) (now (firsts .entry)) (now (outcomes .entry))) (now (ranks .entry)) (now (commands .entry)) (now (marks .entry)) (now (scratch .entry)) (now (tally .entry)) .commands ⌝ }
-    ensures { λ _. ⌜ now (marks .exit) ≡ gateDecideCall (tablesIn (now (size .entry)) (now (rows .entry)) (now (firsts .entry)) (now (outcomes .entry))) (now (ranks .entry)) (now (commands .entry)) (now (marks .entry)) (now (scratch .entry)) (now (tally .entry)) .marks ⌝ }
-    ensures { λ _. ⌜ now (scratch .exit) ≡ gateDecideCall (tablesIn (now (size .entry)) (now (rows .entry)) (now (firsts .entry)) (now (outcomes .entry))) (now (ranks .entry)) (now (commands .entry)) (now (marks .entry)) (now (scratch .entry)) (now (tally .entry)) .scratch ⌝ }
-    ensures { λ _. ⌜ now (tally .exit) ≡ gateDecideCall (tablesIn (now (size .entry)) (now (rows .entry)) (now (firsts .entry)) (now (outcomes .entry))) (now (ranks .entry)) (now (commands .entry)) (now (marks .entry)) (now (scratch .entry)) (now (tally .entry)) .tally ⌝ }
+    ensures call { λ r. ⌜
+        (let lent = tablesIn (now (size .entry)) (now (rows .entry)) (now (firsts .entry)) (now (outcomes .entry)) in
+        afterGateDecide r (now (ranks .exit)) (now (commands .exit)) (now (marks .exit)) (now (scratch .exit)) (now (tally .exit))
+        ≡ gateDecideCall lent (now (ranks .entry)) (now (commands .entry)) (now (marks .entry)) (now (scratch .entry)) (now (tally .entry)))
+        ⌝ }
 {
     let mut states = [Row {
         kind: 0,

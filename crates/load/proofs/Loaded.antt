@@ -8,11 +8,12 @@ use lib.Dec.{leb}
 use lib.ListN.{length}
 use Rattle.laws.specs.Lists.{overwrite}
 use Rattle.laws.proofs.TestFacts.{and-iff, leb-iff}
+use Rattle.model.specs.File.{maxStates, maxCommands, maxOutcomes}
 use Rattle.model.specs.Refusal.{Refusal as ModelRefusal, Unsound, given, refused, answer, _>>=_, _>>_}
 use Rattle.model.specs.Tables.{Size as ModelSize, Tables}
 use Rattle.model.specs.SoundTest.{tablesLong}
 use Rattle.model.specs.Calls.{left}
-use Rattle.model.specs.Boundary.{tablesIn, entriesIn, rowsIn}
+use Rattle.model.specs.Boundary.{tablesIn, entriesIn, rowsIn, sizeBytes}
 use Rattle.model.proofs.Answers.{given-inj, need-inv, bind-inv, answer-inv, answer-refused}
 use Rattle.model.proofs.Gates.{given-left, refused-left}
 use Rattle.model.proofs.Lent.{length-entries-in, length-rows-in}
@@ -33,16 +34,16 @@ module _ (S R F O : List ℕ) where
   pub record Within (z : Size) : Type 0 where
     pub lends : tablesIn S R F O ≡ given (lentWith (numbers z))
     pub loads : loading S R F O ≡ given (lentWith (numbers z))
-    pub few-states : z .n ≤ 1024
-    pub few-commands : z .m ≤ 4096
-    pub few-outcomes : z .t ≤ 16384
+    pub few-states : z .n ≤ maxStates
+    pub few-commands : z .m ≤ maxCommands
+    pub few-outcomes : z .t ≤ maxOutcomes
     pub rows : z .n * 6 ≤ length R
     pub firsts : z .m * 2 ≤ length F
     pub outcomes : z .t * 2 ≤ length O
 
   lent-size : (T : Tables) → tablesIn S R F O ≡ given T → lentWith (T .size) ≡ T
   unfolding tablesIn
-  lent-size T e = let q = given-inj (need-inv Unsound (leb 8 (length S)) _ e .1) in rw (← q)
+  lent-size T e = let q = given-inj (need-inv Unsound (leb sizeBytes (length S)) _ e .1) in rw (← q)
 
   loading-inv : (T : Tables) → loading S R F O ≡ given T → (tablesIn S R F O ≡ given T) × (few (T .size) && tablesLong T ≡ true)
   unfolding loading

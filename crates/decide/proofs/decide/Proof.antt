@@ -26,7 +26,7 @@ work-out-requires : tie.Need-work-out-requires
 work-out-requires c κs =
     let a = c .before .before .before .before .before .before .before .before .before .before .before .before .before .before .args in
     admits (held (a .size) (a .rows .now) (a .firsts .now) (a .outcomes .now)) (a .ranks .now) (a .commands .now) (a .marks .now) (a .scratch .now)
-    _ (c .before .before .before .before .before .before .admit .ensures _ (c .before .before .before .before .before .before .before .sound .ensures) refl) (c .before .before .before .before .enum-told .given .1)
+    _ (c .before .before .before .before .before .before .admit .ensures _ (c .before .before .before .before .before .before .before .sound .ensures .0) refl) (c .before .before .before .before .enum-told .given .1)
 
 answer-with-requires : tie.Need-answer-with-requires
 answer-with-requires c κs = search needs
@@ -35,7 +35,7 @@ returns : tie.Need-returns
 returns c =
     let a = c .before .before .before .before .before .before .before .before .before .before .before .before .args in
     refuses (held (a .size) (a .rows .now) (a .firsts .now) (a .outcomes .now)) (a .ranks .now) (a .commands .now) (a .marks .now) (a .scratch .now)
-    _ (c .before .before .before .before .admit .ensures _ (c .before .before .before .before .before .sound .ensures) refl) _ (c .before .before .admission .given .1) _ (c .refuse .ensures)
+    _ (c .before .before .before .before .admit .ensures _ (c .before .before .before .before .before .sound .ensures .0) refl) _ (c .before .before .admission .given .1) _ (c .refuse .ensures)
 
 same-length : tie.Need-same-length
 same-length c = search needs
@@ -53,7 +53,7 @@ returns-2 : tie.Need-returns-2
 returns-2 c =
     let a = c .before .before .before .before .before .before .before .before .before .before .before .before .before .before .before .before .before .before .before .before .before .before .before .before .args in
     decides (held (a .size) (a .rows .now) (a .firsts .now) (a .outcomes .now)) (a .ranks .now) (a .commands .now) (a .marks .now) (a .scratch .now)
-    _ (c .before .before .before .before .before .before .before .before .before .before .before .before .before .before .before .before .admit .ensures _ (c .before .before .before .before .before .before .before .before .before .before .before .before .before .before .before .before .before .sound .ensures) refl) (c .before .before .before .before .before .before .before .before .before .before .before .before .before .before .enum-told .given .1) (c .before .before .before .before .before .before .before .before .before .work-out .ensures) _ (c .answer-with .ensures)
+    _ (c .before .before .before .before .before .before .before .before .before .before .before .before .before .before .before .before .admit .ensures _ (c .before .before .before .before .before .before .before .before .before .before .before .before .before .before .before .before .before .sound .ensures .0) refl) (c .before .before .before .before .before .before .before .before .before .before .before .before .before .before .enum-told .given .1) (c .before .before .before .before .before .before .before .before .before .work-out .ensures) _ (c .answer-with .ensures)
 
 pub decide-spec : {M : Type 1} → statement M
 decide-spec = tie.close (tie.spec sound-requires admit-requires enum-known-admission refuse-requires enum-told work-out-requires answer-with-requires returns same-length same-length-2 same-length-3 same-length-4 returns-2)

@@ -40,7 +40,7 @@ judge-requires c κs =
 add-requires : tie.Need-add-requires Inv-loop μ-loop
 add-requires c κs =
     let e = c .before .before .before .before .before .before .before .before .before .before .before .before .before .before .before .before .pre .0 in
-    pass-room (c .before .before .before .before .before .before .before .before .before .before .loop .inv .1) (c .before .before .before .before .judge .ensures (c .before .before .before .before .before .before .before .before .before .before .before .before .before .before .before .before .args .rows .now) e (c .before .before .before .before .before .before .before .span-at .ensures _ _)) (omega (arith, c .before .before .before .before .before .before .before .before .before .before .loop .inv .0, sound-facts _ .0 e .size .few))
+    pass-room (c .before .before .before .before .before .before .before .before .before .before .loop .inv .1) (c .before .before .before .before .judge .ensures (c .before .before .before .before .before .before .before .before .before .before .before .before .before .before .before .before .args .rows .now) e (c .before .before .before .before .before .before .before .span-at .ensures _ _)) (omega (arith, c .before .before .before .before .before .before .before .before .if1 .taken, sound-facts _ .0 e .size .few))
 
 add-s : tie.Need-add-s Inv-loop μ-loop
 add-s c = omega (arith, c .before .before .before .before .before .before .before .before .before .if1 .taken, sound-facts _ .0 (c .before .before .before .before .before .before .before .before .before .before .before .before .before .before .before .before .before .pre .0) .size .few)

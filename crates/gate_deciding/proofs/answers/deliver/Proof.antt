@@ -1,5 +1,4 @@
 use Rattle.gate_deciding.proofs.Delivering.{not-decided, cramped, delivered, decision-fits, room-facts}
-use Rattle.model.proofs.Gates.{refused-code, refused-left, given-code, given-left}
 use Rattle.laws.proofs.Loops.{stopped, passed}
 use lib.ListN.{length}
 use borrow.Author.Needs.{needs}
@@ -23,34 +22,35 @@ number-requires-2 c κs = search needs
 
 returns : tie.Need-returns
 returns c =
-    let e = cramped (c .before .before .before .before .before .before .before .before .before .before .before .before .before .before .args .decision) _ _ _ _ _ _ (c .before .before .before .enum-told .given .1) (stopped (c .before .before .room .ensures) (c .before .if1 .taken)) in
-    (refused-code e (c .number2 .ensures), (refused-left e _ _, (refused-left e _ _, (refused-left e _ _, (refused-left e _ _, refused-left e _ _)))))
+    let a = c .before .before .before .before .before .before .before .before .before .before .before .before .before .before .args in
+    cramped (a .decision) (a .ranked .now) (a .chosen .now) (a .marked .now) (a .clean .now) (a .n) (a .ranks .now) (a .commands .now) (a .marks .now) (a .scratch .now) (a .tally .now)
+    (c .before .before .before .enum-told .given .1) (stopped (c .before .before .room .ensures) (c .before .if1 .taken)) (c .number2 .ensures)
 
 store-requires : tie.Need-store-requires
 store-requires c κs =
     let a = c .before .before .before .before .before .before .before .before .before .before .before .before .before .before .args in (
-      decision-fits (a .decision) (a .n) 0 0 0 0 0 (c .before .before .before .enum-told .given .1) (c .before .before .before .before .before .before .before .before .before .before .before .before .before .before .pre) .0,
+      decision-fits (a .decision) (a .ranked .now) (a .chosen .now) (a .marked .now) (a .clean .now) (a .n) (a .ranks .now) (a .commands .now) (a .marks .now) (a .scratch .now) (a .tally .now) (c .before .before .before .enum-told .given .1) (c .before .before .before .before .before .before .before .before .before .before .before .before .before .before .pre) .0,
       room-facts (a .n) (length (a .ranks .now)) (length (a .commands .now)) (length (a .marks .now)) (length (a .scratch .now)) (length (a .tally .now)) (c .before .before .room .ensures) (c .before .if1 .left) .0,
     )
 
 store-requires-2 : tie.Need-store-requires-2
 store-requires-2 c κs =
     let a = c .before .before .before .before .before .before .before .before .before .before .before .before .before .before .before .before .before .before .args in (
-      decision-fits (a .decision) (a .n) 0 0 0 0 0 (c .before .before .before .before .before .before .before .enum-told .given .1) (c .before .before .before .before .before .before .before .before .before .before .before .before .before .before .before .before .before .before .pre) .1,
+      decision-fits (a .decision) (a .ranked .now) (a .chosen .now) (a .marked .now) (a .clean .now) (a .n) (a .ranks .now) (a .commands .now) (a .marks .now) (a .scratch .now) (a .tally .now) (c .before .before .before .before .before .before .before .enum-told .given .1) (c .before .before .before .before .before .before .before .before .before .before .before .before .before .before .before .before .before .before .pre) .1,
       room-facts (a .n) (length (a .ranks .now)) (length (a .commands .now)) (length (a .marks .now)) (length (a .scratch .now)) (length (a .tally .now)) (c .before .before .before .before .before .before .room .ensures) (c .before .before .before .before .before .if1 .left) .1,
     )
 
 store-requires-3 : tie.Need-store-requires-3
 store-requires-3 c κs =
     let a = c .before .before .before .before .before .before .before .before .before .before .before .before .before .before .before .before .before .before .before .before .before .before .args in (
-      decision-fits (a .decision) (a .n) 0 0 0 0 0 (c .before .before .before .before .before .before .before .before .before .before .before .enum-told .given .1) (c .before .before .before .before .before .before .before .before .before .before .before .before .before .before .before .before .before .before .before .before .before .before .pre) .2,
+      decision-fits (a .decision) (a .ranked .now) (a .chosen .now) (a .marked .now) (a .clean .now) (a .n) (a .ranks .now) (a .commands .now) (a .marks .now) (a .scratch .now) (a .tally .now) (c .before .before .before .before .before .before .before .before .before .before .before .enum-told .given .1) (c .before .before .before .before .before .before .before .before .before .before .before .before .before .before .before .before .before .before .before .before .before .before .pre) .2,
       room-facts (a .n) (length (a .ranks .now)) (length (a .commands .now)) (length (a .marks .now)) (length (a .scratch .now)) (length (a .tally .now)) (c .before .before .before .before .before .before .before .before .before .before .room .ensures) (c .before .before .before .before .before .before .before .before .before .if1 .left) .2,
     )
 
 store-requires-4 : tie.Need-store-requires-4
 store-requires-4 c κs =
     let a = c .before .before .before .before .before .before .before .before .before .before .before .before .before .before .before .before .before .before .before .before .before .before .before .before .before .before .args in (
-      decision-fits (a .decision) (a .n) 0 0 0 0 0 (c .before .before .before .before .before .before .before .before .before .before .before .before .before .before .before .enum-told .given .1) (c .before .before .before .before .before .before .before .before .before .before .before .before .before .before .before .before .before .before .before .before .before .before .before .before .before .before .pre) .3,
+      decision-fits (a .decision) (a .ranked .now) (a .chosen .now) (a .marked .now) (a .clean .now) (a .n) (a .ranks .now) (a .commands .now) (a .marks .now) (a .scratch .now) (a .tally .now) (c .before .before .before .before .before .before .before .before .before .before .before .before .before .before .before .enum-told .given .1) (c .before .before .before .before .before .before .before .before .before .before .before .before .before .before .before .before .before .before .before .before .before .before .before .before .before .before .pre) .3,
       room-facts (a .n) (length (a .ranks .now)) (length (a .commands .now)) (length (a .marks .now)) (length (a .scratch .now)) (length (a .tally .now)) (c .before .before .before .before .before .before .before .before .before .before .before .before .before .before .room .ensures) (c .before .before .before .before .before .before .before .before .before .before .before .before .before .if1 .left) .3,
     )
 
@@ -62,8 +62,8 @@ store-tally-requires c κs =
 returns-2 : tie.Need-returns-2
 returns-2 c =
     let a = c .before .before .before .before .before .before .before .before .before .before .before .before .before .args in
-    let e = not-decided (a .decision) (a .n) (length (a .ranks .now)) (length (a .commands .now)) (length (a .marks .now)) (length (a .scratch .now)) (length (a .tally .now)) _ (c .before .before .answer .given .1) in
-    (refused-code e (c .number .ensures), (refused-left e _ _, (refused-left e _ _, (refused-left e _ _, (refused-left e _ _, refused-left e _ _)))))
+    not-decided (a .decision) (a .ranked .now) (a .chosen .now) (a .marked .now) (a .clean .now) (a .n) (a .ranks .now) (a .commands .now) (a .marks .now) (a .scratch .now) (a .tally .now)
+    _ (c .before .before .answer .given .1) (c .number .ensures)
 
 same-length : tie.Need-same-length
 same-length c = search needs
@@ -82,8 +82,10 @@ same-length-5 c = search needs
 
 returns-3 : tie.Need-returns-3
 returns-3 c =
-    let e = delivered (c .before .before .before .before .before .before .before .before .before .before .before .before .before .before .before .before .before .before .before .before .before .before .before .before .before .before .before .before .before .before .before .before .before .before .before .args .decision) _ _ _ _ _ _ (c .before .before .before .before .before .before .before .before .before .before .before .before .before .before .before .before .before .before .before .before .before .before .before .before .enum-told .given .1) (passed (c .before .before .before .before .before .before .before .before .before .before .before .before .before .before .before .before .before .before .before .before .before .before .before .room .ensures) (c .before .before .before .before .before .before .before .before .before .before .before .before .before .before .before .before .before .before .before .before .before .before .if1 .left)) in
-    (given-code e, (given-left e _ _ (c .before .before .before .before .before .before .before .before .before .before .before .before .before .before .before .before .before .before .before .before .store .ensures), (given-left e _ _ (c .before .before .before .before .before .before .before .before .before .before .before .before .before .before .before .before .store2 .ensures), (given-left e _ _ (c .before .before .before .before .before .before .before .before .before .before .before .before .store3 .ensures), (given-left e _ _ (c .before .before .before .before .before .before .before .before .store4 .ensures), given-left e _ _ (c .before .before .store-tally .ensures))))))
+    let a = c .before .before .before .before .before .before .before .before .before .before .before .before .before .before .before .before .before .before .before .before .before .before .before .before .before .before .before .before .before .before .before .before .before .before .before .args in
+    delivered (a .decision) (a .ranked .now) (a .chosen .now) (a .marked .now) (a .clean .now) (a .n) (a .ranks .now) (a .commands .now) (a .marks .now) (a .scratch .now) (a .tally .now)
+    (c .before .before .before .before .before .before .before .before .before .before .before .before .before .before .before .before .before .before .before .before .before .before .before .before .enum-told .given .1) (passed (c .before .before .before .before .before .before .before .before .before .before .before .before .before .before .before .before .before .before .before .before .before .before .before .room .ensures) (c .before .before .before .before .before .before .before .before .before .before .before .before .before .before .before .before .before .before .before .before .before .before .if1 .left))
+    (c .before .before .before .before .before .before .before .before .before .before .before .before .before .before .before .before .before .before .before .before .store .ensures) (c .before .before .before .before .before .before .before .before .before .before .before .before .before .before .before .before .store2 .ensures) (c .before .before .before .before .before .before .before .before .before .before .before .before .store3 .ensures) (c .before .before .before .before .before .before .before .before .store4 .ensures) (c .before .before .store-tally .ensures)
 
 pub deliver-spec : {M : Type 1} → statement M
 deliver-spec =

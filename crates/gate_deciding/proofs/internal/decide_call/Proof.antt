@@ -1,6 +1,5 @@
-use Rattle.gate_deciding.proofs.LentDeciding.{decide-call, decide-moved}
+use Rattle.gate_deciding.proofs.LentDeciding.{decide-call, decide-refused, decide-moved}
 use Rattle.load.proofs.Lending.{call-refused, call-given}
-use Rattle.model.proofs.Gates.{refused-code, refused-left}
 use lib.ListN.{length}
 mod Lts
 mod Tie
@@ -45,7 +44,7 @@ returns : tie.Need-returns
 returns c =
     let a = c .before .before .before .before .before .before .before .before .before .before .before .before .before .before .before .before .before .before .before .before .args in
     let e = call-refused _ _ _ _ _ (c .before .before .before .before .before .before .before .load-plan .ensures .0) (decide-call (length (a .ranks .now)) (length (a .commands .now)) (length (a .marks .now)) (length (a .scratch .now)) (length (a .tally .now))) _ (c .before .before .plan .given .1) in
-    (refused-code e (c .number .ensures), (refused-left e _ _, (refused-left e _ _, (refused-left e _ _, (refused-left e _ _, refused-left e _ _)))))
+    decide-refused (a .ranks .now) (a .commands .now) (a .marks .now) (a .scratch .now) (a .tally .now) _ _ e (c .number .ensures)
 
 same-length : tie.Need-same-length
 same-length c = search needs
@@ -67,7 +66,7 @@ returns-2 c =
     let a = c .before .before .before .before .before .before .before .before .before .before .before .before .before .before .before .before .before .before .before .before .before .before .before .before .before .before .before .before .before .before .before .before .before .before .before .before .before .before .args in
     let l = c .before .before .before .before .before .before .before .before .before .before .before .before .before .before .before .before .before .before .before .before .before .before .before .before .before .load-plan .ensures in
     let e = call-given _ _ _ _ _ (l .0) (decide-call (length (a .ranks .now)) (length (a .commands .now)) (length (a .marks .now)) (length (a .scratch .now)) (length (a .tally .now))) _ (c .before .before .before .before .before .before .before .before .before .before .before .before .before .before .before .before .before .before .before .before .plan2 .given .1) _ (c .before .before .before .before .before .before .before .before .before .before .before .before .before .before .before .before .before .before .before .before .before .before .before .before .before .load-plan .last .1 .1 .1 .1 .0) _ _ _ _ (l .1 .0) (l .1 .1 .0) (l .1 .1 .1) in
-    decide-moved e (a .ranks .now) (a .commands .now) (a .marks .now) (a .scratch .now) (a .tally .now) (c .before .before .before .before .before .before .before .before .before .before .decide-loaded .ensures)
+    decide-moved (a .ranks .now) (a .commands .now) (a .marks .now) (a .scratch .now) (a .tally .now) _ _ e (c .before .before .before .before .before .before .before .before .before .before .decide-loaded .ensures)
 
 pub decide-call-spec : {M : Type 1} → statement M
 decide-call-spec = tie.close (tie.spec slice-aggregate-load-plan slice-aggregate-load-plan-2 slice-aggregate-load-plan-3 load-plan-requires enum-known-plan number-requires enum-known-plan-2 slice-aggregate-decide-loaded slice-aggregate-decide-loaded-2 slice-aggregate-decide-loaded-3 decide-loaded-requires returns same-length same-length-2 same-length-3 same-length-4 same-length-5 returns-2)

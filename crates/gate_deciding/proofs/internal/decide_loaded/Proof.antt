@@ -36,8 +36,7 @@ slice-aggregate-deliver-4 c = search needs
 deliver-requires : tie.Need-deliver-requires
 deliver-requires c κs =
     let a = c .before .before .before .before .before .before .before .before .before .before .before .before .before .before .before .before .before .before .before .before .before .before .before .before .before .args in
-    let s = c .before .before .before .before .before .before .before .before .before .before .before .before .before .decide .ensures in
-    deliverable (held (a .size) (a .rows .now) (a .firsts .now) (a .outcomes .now)) _ (s .0) _ _ _ _ _ (s .1 .0) (s .1 .1 .0) (s .1 .1 .1 .0) (s .1 .1 .1 .1 .0)
+    deliverable (held (a .size) (a .rows .now) (a .firsts .now) (a .outcomes .now)) _ _ (c .before .before .before .before .before .before .before .before .before .before .before .before .before .decide .ensures .0)
 
 same-length : tie.Need-same-length
 same-length c = search needs
@@ -57,11 +56,8 @@ same-length-5 c = search needs
 returns : tie.Need-returns
 returns c =
     let a = c .before .before .before .before .before .before .before .before .before .before .before .before .before .before .before .before .before .before .before .before .before .before .before .before .before .before .before .before .before .before .before .before .before .before .before .before .args in
-    let s = c .before .before .before .before .before .before .before .before .before .before .before .before .before .before .before .before .before .before .before .before .before .before .before .before .decide .ensures in
-    let d = c .before .before .before .before .before .before .before .before .before .before .deliver .ensures in
-    decision-delivered (held (a .size) (a .rows .now) (a .firsts .now) (a .outcomes .now)) _ (s .0) _ _ _ _ _ (s .1 .0) (s .1 .1 .0) (s .1 .1 .1 .0) (s .1 .1 .1 .1 .0)
-    (a .ranks .now) (a .commands .now) (a .marks .now) (a .scratch .now) (a .tally .now)
-    (d .0) (d .1 .0) (d .1 .1 .0) (d .1 .1 .1 .0) (d .1 .1 .1 .1 .0) (d .1 .1 .1 .1 .1)
+    decision-delivered (held (a .size) (a .rows .now) (a .firsts .now) (a .outcomes .now)) _ (a .ranks .now) (a .commands .now) (a .marks .now) (a .scratch .now) (a .tally .now)
+    _ (c .before .before .before .before .before .before .before .before .before .before .before .before .before .before .before .before .before .before .before .before .before .before .before .before .decide .ensures .0) (c .before .before .before .before .before .before .before .before .before .before .deliver .ensures)
 
 pub decide-loaded-spec : {M : Type 1} → statement M
 decide-loaded-spec = tie.close (tie.spec slice-aggregate-decide slice-aggregate-decide-2 slice-aggregate-decide-3 slice-aggregate-decide-4 decide-requires slice-aggregate-deliver slice-aggregate-deliver-2 slice-aggregate-deliver-3 slice-aggregate-deliver-4 deliver-requires same-length same-length-2 same-length-3 same-length-4 same-length-5 returns)
