@@ -2,14 +2,14 @@
 use mathlib.Core.Path.{_≡_, _∙_}
 use mathlib.Core.Bool.{true, false, _&&_}
 use mathlib.Core.List.{List}
-use Prim.Native.Nat.{ℕ, _<_, _≤_}
+use Prim.Native.Nat.{ℕ, _/_, _<_, _≤_}
 use lib.ListN.{length}
 use borrow.Author.Tests.{le-leb, lt-leb}
 use Rattle.laws.proofs.Tests.{and-false-left, and-false-right}
 use Rattle.model.specs.Refusal.{Unsound, given, refused, answer, need, _>>=_, _>>_}
-use Rattle.model.specs.Tables.{Size as ModelSize, Tables}
+use Rattle.model.specs.Tables.{Size as ModelSize, Tables, enough}
 use Rattle.model.specs.SoundTest.{tablesLong}
-use Rattle.model.specs.Boundary.{tablesIn, entriesIn, rowsIn, sizeIn, longIn}
+use Rattle.model.specs.Boundary.{tablesIn, entriesIn, rowsIn, sizeIn, sizeBytes}
 use Rattle.model.proofs.Lent.{length-entries-in, length-rows-in}
 use Rattle.tables.specs.declared.Size.{Size}
 use Rattle.tables.specs.Meaning.{numbers}
@@ -24,44 +24,44 @@ module _ (S R F O : List ℕ) where
   abbrev pub lent : Tables
   lent = record { size = sizeIn S; rows = rowsIn (entriesIn R); firsts = entriesIn F; outcomes = entriesIn O }
 
-  pub lent-short : length S < 8 → tablesIn S R F O ≡ refused Unsound
+  pub lent-short : length S < sizeBytes → tablesIn S R F O ≡ refused Unsound
   unfolding tablesIn need _>>_
-  lent-short h = rw (lt-leb 8 (length S) h)
+  lent-short h = rw (lt-leb sizeBytes (length S) h)
 
-  pub lent-is : 8 ≤ length S → tablesIn S R F O ≡ given lent
+  pub lent-is : sizeBytes ≤ length S → tablesIn S R F O ≡ given lent
   unfolding tablesIn need _>>_
-  lent-is h = rw (le-leb 8 (length S) h)
+  lent-is h = rw (le-leb sizeBytes (length S) h)
 
-  long-is : tablesLong lent ≡ longIn (sizeIn S) (length R) (length F) (length O)
+  long-is : tablesLong lent ≡ enough (sizeIn S) (length R / 6) (length F / 2) (length O / 2)
   unfolding tablesLong
   long-is = rw (length-rows-in R, length-entries-in F, length-entries-in O)
 
-  loading-is : 8 ≤ length S → loading S R F O ≡ (need Unsound (few (sizeIn S) && longIn (sizeIn S) (length R) (length F) (length O)) >> given lent)
+  loading-is : sizeBytes ≤ length S → loading S R F O ≡ (need Unsound (few (sizeIn S) && enough (sizeIn S) (length R / 6) (length F / 2) (length O / 2)) >> given lent)
   unfolding loading _>>=_
   loading-is h = rw (lent-is h, long-is)
 
-  pub loading-short : length S < 8 → loading S R F O ≡ refused Unsound
+  pub loading-short : length S < sizeBytes → loading S R F O ≡ refused Unsound
   unfolding loading _>>=_
   loading-short h = rw (lent-short h)
 
-  module _ (h : 8 ≤ length S) (z : Size) (e : numbers z ≡ sizeIn S) where
+  module _ (h : sizeBytes ≤ length S) (z : Size) (e : numbers z ≡ sizeIn S) where
     pub loading-many : few (numbers z) ≡ false → loading S R F O ≡ refused Unsound
     unfolding need _>>_
     loading-many f =
         let f′ : few (sizeIn S) ≡ false = rw e at f in
-        loading-is h ∙ rw (and-false-left (few (sizeIn S)) (longIn (sizeIn S) (length R) (length F) (length O)) f′)
+        loading-is h ∙ rw (and-false-left (few (sizeIn S)) (enough (sizeIn S) (length R / 6) (length F / 2) (length O / 2)) f′)
 
-    pub loading-long : longIn (numbers z) (length R) (length F) (length O) ≡ false → loading S R F O ≡ refused Unsound
+    pub loading-long : enough (numbers z) (length R / 6) (length F / 2) (length O / 2) ≡ false → loading S R F O ≡ refused Unsound
     unfolding need _>>_
     loading-long f =
-        let f′ : longIn (sizeIn S) (length R) (length F) (length O) ≡ false = rw e at f in
-        loading-is h ∙ rw (and-false-right (few (sizeIn S)) (longIn (sizeIn S) (length R) (length F) (length O)) f′)
+        let f′ : enough (sizeIn S) (length R / 6) (length F / 2) (length O / 2) ≡ false = rw e at f in
+        loading-is h ∙ rw (and-false-right (few (sizeIn S)) (enough (sizeIn S) (length R / 6) (length F / 2) (length O / 2)) f′)
 
-    pub loading-whole : few (numbers z) ≡ true → longIn (numbers z) (length R) (length F) (length O) ≡ true → loading S R F O ≡ given lent
+    pub loading-whole : few (numbers z) ≡ true → enough (numbers z) (length R / 6) (length F / 2) (length O / 2) ≡ true → loading S R F O ≡ given lent
     unfolding need _>>_
     loading-whole f g =
         let f′ : few (sizeIn S) ≡ true = rw e at f in
-        let g′ : longIn (sizeIn S) (length R) (length F) (length O) ≡ true = rw e at g in
+        let g′ : enough (sizeIn S) (length R / 6) (length F / 2) (length O / 2) ≡ true = rw e at g in
         loading-is h ∙ rw (f′, g′)
 
     pub size-answered : loading S R F O ≡ given lent → given (numbers z) ≡ answer sizeOf (loading S R F O)

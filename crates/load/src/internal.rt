@@ -1,14 +1,14 @@
 // What the calls of the gate controller's C program read the lent plan with.
 ghost use mathlib.Core.Path.{_≡_};
-ghost use Prim.Native.Nat.{_+_, _*_, _<_, _≤_};
+ghost use Prim.Native.Nat.{_+_, _*_, _/_, _<_, _≤_};
 ghost use lib.ListN.{length, take};
 ghost use Rattle.laws.specs.Lists.{overwrite};
 ghost use Rattle.laws.specs.Entry.{be16};
 ghost use Rattle.model.specs.Refusal.{answer};
 ghost use Rattle.model.specs.File.{maxStates, maxCommands, maxOutcomes};
-ghost use Rattle.model.specs.Tables.{Tables};
+ghost use Rattle.model.specs.Tables.{Tables, enough};
 ghost use Rattle.model.specs.Calls.{left};
-ghost use Rattle.model.specs.Boundary.{entriesIn, rowsIn, sizeIn, longIn};
+ghost use Rattle.model.specs.Boundary.{entriesIn, rowsIn, sizeIn, sizeBytes};
 ghost use Rattle.tables.specs.Meaning.{numbers, rowsOf};
 ghost use Rattle.load.specs.Loading.{rowIn, few, loading, answerOf};
 use tables::Refusal;
@@ -17,6 +17,9 @@ use tables::Size;
 use tables::internal::join;
 use tables::internal::put_row;
 use tables::internal::wide;
+
+// The bytes of a size record.
+const SIZE_BYTES: usize = 8;
 
 // The size record, or what the plan is refused with.
 pub enum PlanAnswer {
@@ -70,7 +73,7 @@ pub fn load_rows(bytes: &[u8], rows: &mut [Row], n: usize)
 }
 
 fn size_in(bytes: &[u8]) -> Size
-    requires { ⌜ 8 ≤ length (now bytes) ⌝ }
+    requires { ⌜ sizeBytes ≤ length (now bytes) ⌝ }
     ensures { λ r. ⌜ numbers r ≡ sizeIn (now (bytes .entry)) ⌝ }
 {
     let n = entry_at(bytes, 0);
@@ -95,7 +98,7 @@ fn few(size: Size) -> bool
 
 // No slice, of so many bytes, is shorter than its count.
 fn long(size: Size, rows: usize, firsts: usize, outcomes: usize) -> bool
-    ensures { λ r. ⌜ r ≡ longIn (numbers size) rows firsts outcomes ⌝ }
+    ensures { λ r. ⌜ r ≡ enough (numbers size) (rows / 6) (firsts / 2) (outcomes / 2) ⌝ }
 {
     if rows / 6 < size.n {
         return false;
@@ -110,7 +113,7 @@ fn long(size: Size, rows: usize, firsts: usize, outcomes: usize) -> bool
 fn plan_size(size: &[u8], rows: &[u8], firsts: &[u8], outcomes: &[u8]) -> PlanAnswer
     ensures { λ r. ⌜ answerOf r ≡ answer (λ (T : Tables). T .size) (loading (now (size .entry)) (now (rows .entry)) (now (firsts .entry)) (now (outcomes .entry))) ⌝ }
 {
-    if size.len() < 8 {
+    if size.len() < SIZE_BYTES {
         return PlanAnswer::Refused(Refusal::Unsound);
     }
     let read = size_in(size);
