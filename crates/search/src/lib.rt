@@ -43,12 +43,10 @@ pub fn search(
 ) -> SearchAnswer
     ensures call { λ r. ⌜
         (let T = held size (now (rows .entry)) (now (firsts .entry)) (now (outcomes .entry)) in
-        afterSearch r (now (commands .exit)) (now (scratch .exit)) ≡ searchCall T start (now (commands .entry)) (now (scratch .entry)))
-        ⌝ }
+        afterSearch r (now (commands .exit)) (now (scratch .exit)) ≡ searchCall T start (now (commands .entry)) (now (scratch .entry))) ⌝ }
     ensures demand3 { λ r. ⌜
         (let T = held size (now (rows .entry)) (now (firsts .entry)) (now (outcomes .entry)) in
-        (lost : Bool) (rounds : ℕ) → answerOf r ≡ given (lost, rounds) → SearchDemand3 T start lost rounds (now (commands .exit)))
-        ⌝ }
+        (lost : Bool) (rounds : ℕ) → answerOf r ≡ given (lost, rounds) → SearchDemand3 T start lost rounds (now (commands .exit))) ⌝ }
 {
     let sounds = tables::sound(size, rows, firsts, outcomes);
     let admission = admission::admit(sounds, size.n, start, commands.len(), scratch.len());
