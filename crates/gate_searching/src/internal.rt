@@ -32,8 +32,8 @@ pub fn search_loaded(
     deliver(found, size.n, &takes, &clean, commands, scratch, answer)
 }
 
-// The search from one start, on a plan lent as bytes. Refused with 10, then 11, then 9, before a slice is written. The
-// start is a number of any width that a machine has: one too large for an entry is no state, and is refused with 11.
+// The search from one start, on a plan lent as bytes. Refused with 10, then 11, then 9, before a slice is written. Any
+// number may be the start: one that is no state is 11, also where no entry holds it.
 pub fn search_call(
     size: &[u8],
     rows: &[u8],
