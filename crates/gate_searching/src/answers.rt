@@ -2,12 +2,11 @@
 ghost use mathlib.Core.Path.{_≡_};
 ghost use mathlib.Core.Bool.{cond};
 ghost use Prim.Native.Nat.{_<_, _≤_};
-ghost use lib.ListN.{length, take};
+ghost use lib.ListN.{length};
 ghost use Rattle.laws.specs.Lists.{overwrite};
-ghost use Rattle.model.specs.Calls.{left};
-ghost use Rattle.model.specs.Boundary.{bytesFor, resultEntries, code, searchRoom};
+ghost use Rattle.model.specs.Boundary.{bytesFor, resultEntries, answerBytes};
 ghost use Rattle.search.specs.Replies.{answerOf};
-ghost use Rattle.gate_searching.specs.Delivery.{delivery, Deliverable};
+ghost use Rattle.gate_searching.specs.Delivery.{afterGateSearch, searchRoom, Deliverable, delivered};
 use search::Found;
 use search::SearchAnswer;
 use store::internal::store;
@@ -16,9 +15,12 @@ use tables::Refusal;
 use tables::internal::narrow;
 use tables::number;
 
-// Whether slices of so many bytes have room for the entries of n states and for the answer's two.
+// The verdict and the rounds, an entry each.
+const ANSWER_BYTES: usize = 4;
+
+// Whether slices of so many bytes have room for the entries of n states and for the answer.
 fn room(n: usize, commands: usize, scratch: usize, answer: usize) -> bool
-    ensures { λ r. ⌜ r ≡ searchRoom n commands scratch answer ⌝ }
+    ensures tested { λ r. ⌜ r ≡ searchRoom n commands scratch answer ⌝ }
 {
     if commands / 2 < n {
         return false;
@@ -26,11 +28,11 @@ fn room(n: usize, commands: usize, scratch: usize, answer: usize) -> bool
     if scratch / 2 < n {
         return false;
     }
-    4 <= answer
+    ANSWER_BYTES <= answer
 }
 
 fn flag(lost: bool) -> u16
-    ensures { λ r. ⌜ r ≡ cond lost 1 0 ⌝ }
+    ensures flagged { λ r. ⌜ r ≡ cond lost 1 0 ⌝ }
 {
     if lost {
         return 1;
@@ -40,8 +42,8 @@ fn flag(lost: bool) -> u16
 
 // The verdict, then the rounds.
 fn store_found(found: Found, answer: &mut [u8])
-    requires { ⌜ (found .rounds < 65536) × (4 ≤ length (now answer)) ⌝ }
-    ensures { λ _. ⌜ now (answer .exit) ≡ overwrite (bytesFor (resultEntries (found .lost, found .rounds))) (now (answer .entry)) ⌝ }
+    requires fits { ⌜ (found .rounds < 65536) × (answerBytes ≤ length (now answer)) ⌝ }
+    ensures stored { λ _. ⌜ now (answer .exit) ≡ overwrite (bytesFor (resultEntries (found .lost, found .rounds))) (now (answer .entry)) ⌝ }
 {
     store_entry(answer, 0, flag(found.lost));
     store_entry(answer, 1, narrow(found.rounds));
@@ -57,11 +59,10 @@ pub fn deliver(
     scratch: &mut [u8],
     answer: &mut [u8],
 ) -> u32
-    requires { ⌜ Deliverable (answerOf found) n (length (now takes)) (length (now clean)) ⌝ }
-    ensures { λ r. ⌜ r ≡ code (delivery (answerOf found) n (length (now (commands .entry))) (length (now (scratch .entry))) (length (now (answer .entry)))) ⌝ }
-    ensures { λ _. ⌜ now (commands .exit) ≡ left (λ _. bytesFor (take n (now (takes .entry)))) (delivery (answerOf found) n (length (now (commands .entry))) (length (now (scratch .entry))) (length (now (answer .entry)))) (now (commands .entry)) ⌝ }
-    ensures { λ _. ⌜ now (scratch .exit) ≡ left (λ _. bytesFor (take n (now (clean .entry)))) (delivery (answerOf found) n (length (now (commands .entry))) (length (now (scratch .entry))) (length (now (answer .entry)))) (now (scratch .entry)) ⌝ }
-    ensures { λ _. ⌜ now (answer .exit) ≡ left (λ v. bytesFor (resultEntries v)) (delivery (answerOf found) n (length (now (commands .entry))) (length (now (scratch .entry))) (length (now (answer .entry)))) (now (answer .entry)) ⌝ }
+    requires fits { ⌜ Deliverable (answerOf found) n (length (now takes)) (length (now clean)) ⌝ }
+    ensures call { λ r. ⌜
+        afterGateSearch r (now (commands .exit)) (now (scratch .exit)) (now (answer .exit))
+        ≡ delivered (answerOf found) n (now (takes .entry)) (now (clean .entry)) (now (commands .entry)) (now (scratch .entry)) (now (answer .entry)) ⌝ }
 {
     match found {
         SearchAnswer::Refused(refusal) => number(refusal),

@@ -1,8 +1,12 @@
 // The search from one start: the start's verdict, and the commands that hold it, without deciding the whole plan.
 ghost use mathlib.Core.Path.{_≡_};
+ghost use mathlib.Core.Bool.{Bool};
+ghost use Prim.Native.Nat.{ℕ};
+ghost use Rattle.model.specs.Refusal.{given};
 ghost use Rattle.model.specs.Calls.{searchCall};
+ghost use Rattle.model.specs.Demand3.{SearchDemand3};
 ghost use Rattle.tables.specs.Meaning.{held};
-ghost use Rattle.search.specs.Replies.{answerOf, Demanded};
+ghost use Rattle.search.specs.Replies.{answerOf, afterSearch};
 use tables::Refusal;
 use tables::Row;
 use tables::Size;
@@ -37,10 +41,12 @@ pub fn search(
     commands: &mut [u16],
     scratch: &mut [u16],
 ) -> SearchAnswer
-    ensures answered { λ r. ⌜ answerOf r ≡ searchCall (held size (now (rows .entry)) (now (firsts .entry)) (now (outcomes .entry))) start (now (commands .entry)) (now (scratch .entry)) .answers ⌝ }
-    ensures takes { λ _. ⌜ now (commands .exit) ≡ searchCall (held size (now (rows .entry)) (now (firsts .entry)) (now (outcomes .entry))) start (now (commands .entry)) (now (scratch .entry)) .commands ⌝ }
-    ensures clean { λ _. ⌜ now (scratch .exit) ≡ searchCall (held size (now (rows .entry)) (now (firsts .entry)) (now (outcomes .entry))) start (now (commands .entry)) (now (scratch .entry)) .scratch ⌝ }
-    ensures demand3 { λ r. ⌜ Demanded (held size (now (rows .entry)) (now (firsts .entry)) (now (outcomes .entry))) start r (now (commands .exit)) ⌝ }
+    ensures call { λ r. ⌜
+        (let T = held size (now (rows .entry)) (now (firsts .entry)) (now (outcomes .entry)) in
+        afterSearch r (now (commands .exit)) (now (scratch .exit)) ≡ searchCall T start (now (commands .entry)) (now (scratch .entry))) ⌝ }
+    ensures demand3 { λ r. ⌜
+        (let T = held size (now (rows .entry)) (now (firsts .entry)) (now (outcomes .entry)) in
+        (lost : Bool) (rounds : ℕ) → answerOf r ≡ given (lost, rounds) → SearchDemand3 T start lost rounds (now (commands .exit))) ⌝ }
 {
     let sounds = tables::sound(size, rows, firsts, outcomes);
     let admission = admission::admit(sounds, size.n, start, commands.len(), scratch.len());

@@ -20,7 +20,7 @@ use Rattle.model.specs.Bytes.{statesBytes, bytesOf}
 use Rattle.model.specs.Tables.{Size as ModelSize, Tables, fileLength}
 use Rattle.model.specs.SoundTest.{sound}
 use Rattle.model.specs.Held.{stateAt, treeOf}
-use Rattle.model.specs.Calls.{left, writing}
+use Rattle.model.specs.Calls.{left, writing, writeCall}
 use Rattle.model.proofs.SoundFacts.{sound-facts}
 use Rattle.model.proofs.Answering.{writing-iff}
 use Rattle.model.proofs.RoundTrips.{written-length}
@@ -28,6 +28,8 @@ use Rattle.tables.specs.declared.Refusal.{Refusal}
 use Rattle.tables.specs.declared.internal.Admission.{Admission}
 use Rattle.tables.specs.declared.internal.Admission.the-variants.{Granted, Denied}
 use Rattle.tables.specs.Meaning.{refusalOf, admitted}
+use Rattle.writing.specs.declared.WriteAnswer.the-variants.{Given, Refused}
+use Rattle.writing.specs.Answers.{afterWrite}
 use Rattle.writing.proofs.Spreads.{states-spread}
 
 module _ (T : Tables) where
@@ -69,10 +71,9 @@ module _ (T : Tables) where
   -- the admission g
   module _ (table : List ℕ) (g : Admission) (answers : writing T (length table) ≡ admitted g (bytesOf (treeOf T))) where
     -- denied: the bytes are as they were
-    pub refuses : (w : Refusal) → g ≡ Denied w
-        → (refused (refusalOf w) ≡ answer length (writing T (length table))) × (table ≡ left (λ file. file) (writing T (length table)) table)
+    pub refuses : (w : Refusal) → g ≡ Denied w → afterWrite (Refused w) table ≡ writeCall T table
     unfolding answer left
-    refuses w q = let z : writing T (length table) ≡ refused (refusalOf w) = answers ∙ rw q in rw z (refl, refl)
+    refuses w q = let z : writing T (length table) ≡ refused (refusalOf w) = answers ∙ rw q in rw z
 
     module _ (q : g ≡ Granted) where
       gives : writing T (length table) ≡ given (bytesOf (treeOf T))
@@ -83,10 +84,11 @@ module _ (T : Tables) where
           let w = writing-iff T (length table) (bytesOf (treeOf T)) .0 gives in
           (w .sounds, omega (arith, w .long, written-length T (length table) (bytesOf (treeOf T)) gives))
 
-      pub written : {after : List ℕ} {next : ℕ} → Wrote table 0 (bytesOf (treeOf T)) after next
-          → (given next ≡ answer length (writing T (length table))) × (after ≡ left (λ file. file) (writing T (length table)) table)
+      pub written : {after : List ℕ} {next : ℕ} → Wrote table 0 (bytesOf (treeOf T)) after next → afterWrite (Given next) after ≡ writeCall T table
       unfolding answer left
-      written w = rw gives (ap given (w .past ∙ zero-add _), w .stored ∙ put-front table (bytesOf (treeOf T)) (file-ready .1))
+      written w =
+          let stored = w .stored ∙ put-front table (bytesOf (treeOf T)) (file-ready .1) in
+          rw (gives, w .past ∙ zero-add _, stored)
 
 -- the tests in their order
 module _ (T : Tables) (bytes : ℕ) {t : Bool} {z : ModelSize} where

@@ -9,7 +9,7 @@ ghost use Rattle.model.specs.SoundTest.{sound};
 ghost use Rattle.model.specs.Held.{treeOf};
 ghost use Rattle.model.specs.Calls.{writing, writeCall};
 ghost use Rattle.tables.specs.Meaning.{held, numbers, admitted};
-ghost use Rattle.writing.specs.Answers.{answerOf};
+ghost use Rattle.writing.specs.Answers.{afterWrite};
 use crate::fields::write_end;
 use crate::fields::write_head;
 use crate::states::write_states;
@@ -59,8 +59,9 @@ pub fn write(
     outcomes: &[u16],
     bytes: &mut [u8],
 ) -> WriteAnswer
-    ensures answer { λ r. ⌜ answerOf r ≡ writeCall (held size (now (rows .entry)) (now (firsts .entry)) (now (outcomes .entry))) (now (bytes .entry)) .answers ⌝ }
-    ensures bytes { λ r. ⌜ now (bytes .exit) ≡ writeCall (held size (now (rows .entry)) (now (firsts .entry)) (now (outcomes .entry))) (now (bytes .entry)) .bytes ⌝ }
+    ensures call { λ r. ⌜
+        (let T = held size (now (rows .entry)) (now (firsts .entry)) (now (outcomes .entry)) in
+        afterWrite r (now (bytes .exit)) ≡ writeCall T (now (bytes .entry))) ⌝ }
 {
     let sounds = sound(size, rows, firsts, outcomes);
     let admission = admit(sounds, size, bytes.len());

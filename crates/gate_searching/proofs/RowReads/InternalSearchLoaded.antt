@@ -5,7 +5,7 @@ use Rattle.tables.proofs.Size.Laws
 use base.Logic.{id⊢, emp}
 use borrow.Fn.Kinds
 use borrow.Fn.Picked.{KnownAs}
-use borrow.Fn.Read.{all-models, all∗, r-fact, r-last, r-top}
+use borrow.Fn.Read.{all-models, all∗, r-last, r-top}
 use borrow.Fn.World.{World}
 use borrow.Fn.Written as Written
 use borrow.Kind.MutSlice
@@ -27,7 +27,7 @@ use Rattle.tables.proofs.Reading as R
 use Rattle.gate_searching.proofs.internal.search_loaded as f
 
 abbrev pub ps : List.List (Kinds.PK 6)
-ps = List._∷_ (Value.pVal record { ty = Declared.row Size.the-type; one = refl; val = Laws'.val Size.the-type Laws.the-laws; tells = Laws'.tells Size.the-type Laws.the-laws; still = Laws'.still Size.the-type Laws.the-copy Exit.yes; row = Rows.whole (Declared.row Size.the-type); rd = λ x. x; mk = λ x. x } λ M 𝓤 H A W. record { copies = Laws'.copy Size.the-type Laws.the-copy 𝓤 H A W; lawful = Laws'.lawful Size.the-type Laws.the-laws 𝓤 H A W; makes = Laws'.makes Size.the-type Laws.the-plain 𝓤 H A; in-mem = Local.mem-whole 𝓤 H A W (Declared.row Size.the-type); of-mem = Local.whole-mem 𝓤 H A W (Declared.row Size.the-type) }) (List._∷_ (ShrSlice.pShrS T.the-row 0 tt) (List._∷_ (ShrSlice.pShrS (Referent.rtF (Referent.fInt Syntax.w16)) 1 tt) (List._∷_ (ShrSlice.pShrS (Referent.rtF (Referent.fInt Syntax.w16)) 2 tt) (List._∷_ (Kinds.pNum Syntax.w16) (List._∷_ (MutSlice.pMutS (Referent.rtF (Referent.fInt Syntax.w8)) 3 tt) (List._∷_ (MutSlice.pMutS (Referent.rtF (Referent.fInt Syntax.w8)) 4 tt) (List._∷_ (MutSlice.pMutS (Referent.rtF (Referent.fInt Syntax.w8)) 5 tt) List.[])))))))
+ps = List._∷_ (Value.pVal record { ty = Declared.row Size.the-type; one = refl; val = Laws'.val Size.the-type Laws.the-laws; tells = Laws'.tells Size.the-type Laws.the-laws; still = Laws'.still Size.the-type Laws.the-copy Exit.yes; row = Rows.whole (Declared.row Size.the-type); rd = λ x. x; mk = λ x. x } λ M 𝓤 H A W. record { copies = Laws'.copy Size.the-type Laws.the-copy 𝓤 H A W; lawful = Laws'.lawful Size.the-type Laws.the-laws 𝓤 H A W; makes = Laws'.makes Size.the-type Laws.the-plain 𝓤 H A; in-mem = Local.mem-whole 𝓤 H A W (Declared.row Size.the-type); of-mem = Local.whole-mem 𝓤 H A W (Declared.row Size.the-type) }) (List._∷_ (ShrSlice.pShrS T.the-row 0 tt) (List._∷_ (ShrSlice.pShrS (Referent.rtF (Referent.fInt Syntax.w16)) 1 tt) (List._∷_ (ShrSlice.pShrS (Referent.rtF (Referent.fInt Syntax.w16)) 2 tt) (List._∷_ (Kinds.pNum Syntax.w64) (List._∷_ (MutSlice.pMutS (Referent.rtF (Referent.fInt Syntax.w8)) 3 tt) (List._∷_ (MutSlice.pMutS (Referent.rtF (Referent.fInt Syntax.w8)) 4 tt) (List._∷_ (MutSlice.pMutS (Referent.rtF (Referent.fInt Syntax.w8)) 5 tt) List.[])))))))
 
 abbrev pub r : Kinds.RK 6
 r = Kinds.rNum Syntax.w32
@@ -45,7 +45,7 @@ abbrev pub pre-read : R.ReadReq 6 ps r requires ensures
 pre-read κs a g = all-models (requires κs a g) (λ w. r-top) (λ w. refl) (λ w. refl) (λ w. refl)
 
 abbrev pub post-read : R.ReadEns 6 ps r requires ensures
-post-read κs a g z e = all-models (ensures κs a g z e) (λ w. r-fact _ _ (r-fact _ _ (r-fact _ _ (r-last _)))) (λ w. refl) (λ w. refl) (λ w. refl)
+post-read κs a g z e = all-models (ensures κs a g z e) (λ w. r-last _) (λ w. refl) (λ w. refl) (λ w. refl)
 
 abbrev pub Pinned : R.Pins 6 ps r
 Pinned = R.Ps 6 ps r

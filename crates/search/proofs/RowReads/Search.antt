@@ -49,7 +49,7 @@ abbrev pub pre-read : R.ReadReq 5 ps r requires ensures
 pre-read κs a g = all-models (requires κs a g) (λ w. r-top) (λ w. refl) (λ w. refl) (λ w. refl)
 
 abbrev pub post-read : R.ReadEns 5 ps r requires ensures
-post-read κs a g z e = all-models (ensures κs a g z e) (λ w. r-fact _ _ (r-fact _ _ (r-fact _ _ (r-last _)))) (λ w. refl) (λ w. refl) (λ w. refl)
+post-read κs a g z e = all-models (ensures κs a g z e) (λ w. r-fact _ _ (r-last _)) (λ w. refl) (λ w. refl) (λ w. refl)
 
 abbrev pub Pinned : R.Pins 5 ps r
 Pinned = R.Ps 5 ps r

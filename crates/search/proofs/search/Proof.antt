@@ -24,12 +24,12 @@ slice-aggregate-rounds c = search needs
 
 rounds-requires : tie.Need-rounds-requires
 rounds-requires c κs =
-    admitted-prepared _ _ _ _ _ _ _ _ _ (c .before .before .before .before .before .admit .ensures _ (c .before .before .before .before .before .before .sound .ensures) refl) (c .before .before .before .enum-told .given .1) (omega arith)
+    admitted-prepared _ _ _ _ _ _ _ _ _ (c .before .before .before .before .before .admit .ensures _ (c .before .before .before .before .before .before .sound .ensures .0) refl) (c .before .before .before .enum-told .given .1) (omega arith)
 
 returns : tie.Need-returns
 returns c =
     let s = c .before .before .before .before .before .before .before .before .before .args in
-    refuses _ _ (s .commands .now) (s .scratch .now) _ (c .before .before .before .admit .ensures _ (c .before .before .before .before .sound .ensures) refl) _ (c .before .admission .given .1)
+    refuses _ _ (s .commands .now) (s .scratch .now) _ (c .before .before .before .admit .ensures _ (c .before .before .before .before .sound .ensures .0) refl) _ (c .before .admission .given .1)
 
 same-length : tie.Need-same-length
 same-length c = search needs
@@ -40,7 +40,7 @@ same-length-2 c = search needs
 returns-2 : tie.Need-returns-2
 returns-2 c =
     let s = c .before .before .before .before .before .before .before .before .before .before .before .before .before .before .before .before .before .args in
-    gives _ _ (s .commands .now) (s .scratch .now) _ (c .before .before .before .before .before .before .before .before .before .before .before .admit .ensures _ (c .before .before .before .before .before .before .before .before .before .before .before .before .sound .ensures) refl) (c .before .before .before .before .before .before .before .before .before .enum-told .given .1) _ _ _ (c .before .before .before .before .before .rounds .ensures)
+    gives _ _ (s .commands .now) (s .scratch .now) _ (c .before .before .before .before .before .before .before .before .before .before .before .admit .ensures _ (c .before .before .before .before .before .before .before .before .before .before .before .before .sound .ensures .0) refl) (c .before .before .before .before .before .before .before .before .before .enum-told .given .1) _ _ _ (c .before .before .before .before .before .rounds .ensures)
 
 pub search-spec : {M : Type 1} → statement M
 search-spec =

@@ -13,7 +13,7 @@ sound-requires c κs = search needs
 admit-requires : tie.Need-admit-requires
 admit-requires c κs = λ e.
     let a = c .before .before .before .before .args in
-    size-ready (held (a .size) (a .rows .now) (a .firsts .now) (a .outcomes .now)) (sym (c .sound .ensures) ∙ e)
+    size-ready (held (a .size) (a .rows .now) (a .firsts .now) (a .outcomes .now)) (sym (c .sound .ensures .0) ∙ e)
 
 enum-known-admission : tie.Need-enum-known-admission
 enum-known-admission c = search needs
@@ -25,27 +25,27 @@ write-head-requires : tie.Need-write-head-requires
 write-head-requires c κs =
     let a = c .before .before .before .before .before .before .before .before .args in
     let T = held (a .size) (a .rows .now) (a .firsts .now) (a .outcomes .now) in
-    let r = file-ready T (a .bytes .now) _ (c .before .before .before .admit .ensures _ (c .before .before .before .before .sound .ensures) refl) (c .before .enum-told .given .1) in
+    let r = file-ready T (a .bytes .now) _ (c .before .before .before .admit .ensures _ (c .before .before .before .before .sound .ensures .0) refl) (c .before .enum-told .given .1) in
     head-ready T _ (r .0) (r .1)
 
 write-states-requires : tie.Need-write-states-requires
 write-states-requires c κs =
     let a = c .before .before .before .before .before .before .before .before .before .before .before .before .args in
     let T = held (a .size) (a .rows .now) (a .firsts .now) (a .outcomes .now) in
-    let r = file-ready T (a .bytes .now) _ (c .before .before .before .before .before .before .before .admit .ensures _ (c .before .before .before .before .before .before .before .before .sound .ensures) refl) (c .before .before .before .before .before .enum-told .given .1) in
+    let r = file-ready T (a .bytes .now) _ (c .before .before .before .before .before .before .before .admit .ensures _ (c .before .before .before .before .before .before .before .before .sound .ensures .0) refl) (c .before .before .before .before .before .enum-told .given .1) in
     (r .0, states-ready T (r .1) (c .before .before .before .write-head .ensures))
 
 write-end-requires : tie.Need-write-end-requires
 write-end-requires c κs =
     let a = c .before .before .before .before .before .before .before .before .before .before .before .before .before .before .before .before .args in
     let T = held (a .size) (a .rows .now) (a .firsts .now) (a .outcomes .now) in
-    let r = file-ready T (a .bytes .now) _ (c .before .before .before .before .before .before .before .before .before .before .before .admit .ensures _ (c .before .before .before .before .before .before .before .before .before .before .before .before .sound .ensures) refl) (c .before .before .before .before .before .before .before .before .before .enum-told .given .1) in
+    let r = file-ready T (a .bytes .now) _ (c .before .before .before .before .before .before .before .before .before .before .before .admit .ensures _ (c .before .before .before .before .before .before .before .before .before .before .before .before .sound .ensures .0) refl) (c .before .before .before .before .before .before .before .before .before .enum-told .given .1) in
     end-ready T (r .1) (c .before .before .before .before .before .before .before .write-head .ensures) (c .before .before .before .write-states .ensures)
 
 returns : tie.Need-returns
 returns c =
     let a = c .before .before .before .before .before .before .before .before .args in
-    refuses (held (a .size) (a .rows .now) (a .firsts .now) (a .outcomes .now)) _ _ (c .before .before .before .admit .ensures _ (c .before .before .before .before .sound .ensures) refl) _ (c .before .admission .given .1)
+    refuses (held (a .size) (a .rows .now) (a .firsts .now) (a .outcomes .now)) _ _ (c .before .before .before .admit .ensures _ (c .before .before .before .before .sound .ensures .0) refl) _ (c .before .admission .given .1)
 
 same-length : tie.Need-same-length
 same-length c = search needs
@@ -54,8 +54,8 @@ returns-2 : tie.Need-returns-2
 returns-2 c =
     let a = c .before .before .before .before .before .before .before .before .before .before .before .before .before .before .before .before .before .before .before .args in
     let T = held (a .size) (a .rows .now) (a .firsts .now) (a .outcomes .now) in
-    let r = file-ready T (a .bytes .now) _ (c .before .before .before .before .before .before .before .before .before .before .before .before .before .before .admit .ensures _ (c .before .before .before .before .before .before .before .before .before .before .before .before .before .before .before .sound .ensures) refl) (c .before .before .before .before .before .before .before .before .before .before .before .before .enum-told .given .1) in
-    written T (a .bytes .now) _ (c .before .before .before .before .before .before .before .before .before .before .before .before .before .before .admit .ensures _ (c .before .before .before .before .before .before .before .before .before .before .before .before .before .before .before .sound .ensures) refl) (c .before .before .before .before .before .before .before .before .before .before .before .before .enum-told .given .1)
+    let r = file-ready T (a .bytes .now) _ (c .before .before .before .before .before .before .before .before .before .before .before .before .before .before .admit .ensures _ (c .before .before .before .before .before .before .before .before .before .before .before .before .before .before .before .sound .ensures .0) refl) (c .before .before .before .before .before .before .before .before .before .before .before .before .enum-told .given .1) in
+    written T (a .bytes .now) _ (c .before .before .before .before .before .before .before .before .before .before .before .before .before .before .admit .ensures _ (c .before .before .before .before .before .before .before .before .before .before .before .before .before .before .before .sound .ensures .0) refl) (c .before .before .before .before .before .before .before .before .before .before .before .before .enum-told .given .1)
     (file-stored T (r .1) (c .before .before .before .before .before .before .before .before .before .before .write-head .ensures) (c .before .before .before .before .before .before .write-states .ensures) (c .before .before .write-end .ensures))
 
 pub write-spec : {M : Type 1} → statement M

@@ -1,5 +1,4 @@
-use Rattle.gate_searching.proofs.Delivering.{not-found, cramped, delivered, found-fits, room-facts}
-use Rattle.model.proofs.Gates.{refused-code, refused-left, given-code, given-left}
+use Rattle.gate_searching.proofs.Delivering.{not-found, cramped, fits, found-fits, room-facts, refused-after, given-after}
 use Rattle.laws.proofs.Loops.{stopped, passed}
 use lib.ListN.{length}
 use borrow.Author.Needs.{needs}
@@ -24,7 +23,7 @@ number-requires-2 c κs = search needs
 returns : tie.Need-returns
 returns c =
     let e = cramped _ _ _ _ _ _ (c .before .before .before .before .found2 .given .1) (stopped (c .before .before .room .ensures) (c .before .if1 .taken)) in
-    (refused-code e (c .number2 .ensures), (refused-left e _ _, (refused-left e _ _, refused-left e _ _)))
+    refused-after _ _ _ _ _ _ _ e (c .number2 .ensures)
 
 store-requires : tie.Need-store-requires
 store-requires c κs =
@@ -51,7 +50,7 @@ returns-2 : tie.Need-returns-2
 returns-2 c =
     let a = c .before .before .before .before .before .before .before .before .before .args in
     let e = not-found (a .found) (a .n) (length (a .commands .now)) (length (a .scratch .now)) (length (a .answer .now)) _ (c .before .before .found .given .1) in
-    (refused-code e (c .number .ensures), (refused-left e _ _, (refused-left e _ _, refused-left e _ _)))
+    refused-after _ _ _ _ _ _ _ e (c .number .ensures)
 
 same-length : tie.Need-same-length
 same-length c = search needs
@@ -64,8 +63,8 @@ same-length-3 c = search needs
 
 returns-3 : tie.Need-returns-3
 returns-3 c =
-    let e = delivered _ _ _ _ _ _ (c .before .before .before .before .before .before .before .before .before .before .before .before .before .before .before .found2 .given .1) (passed (c .before .before .before .before .before .before .before .before .before .before .before .before .before .room .ensures) (c .before .before .before .before .before .before .before .before .before .before .before .before .if1 .left)) in
-    (given-code e, (given-left e _ _ (c .before .before .before .before .before .before .before .before .before .before .store .ensures), (given-left e _ _ (c .before .before .before .before .before .before .store2 .ensures), given-left e _ _ (c .before .before .store-found .ensures))))
+    let e = fits _ _ _ _ _ _ (c .before .before .before .before .before .before .before .before .before .before .before .before .before .before .before .found2 .given .1) (passed (c .before .before .before .before .before .before .before .before .before .before .before .before .before .room .ensures) (c .before .before .before .before .before .before .before .before .before .before .before .before .if1 .left)) in
+    given-after _ _ _ _ _ _ _ e (c .before .before .before .before .before .before .before .before .before .before .store .ensures) (c .before .before .before .before .before .before .store2 .ensures) (c .before .before .store-found .ensures)
 
 pub deliver-spec : {M : Type 1} → statement M
 deliver-spec =

@@ -1,7 +1,8 @@
 use Rattle.load.proofs.Lending.{call-refused, call-given}
 use Rattle.gate_searching.proofs.LentSearch.{search-call, search-moved}
 use lib.ListN.{length}
-use Rattle.model.proofs.Gates.{refused-code, refused-left}
+use mathlib.Core.Path.{_∙_}
+use Rattle.gate_searching.proofs.Delivering.{refused-after}
 mod Lts
 mod Tie
 use borrow.Author.Needs.{needs}
@@ -45,7 +46,7 @@ returns : tie.Need-returns
 returns c =
     let a = c .before .before .before .before .before .before .before .before .before .before .before .before .before .before .before .before .before .before .args in
     let e = call-refused _ _ _ _ _ (c .before .before .before .before .before .before .before .load-plan .ensures .0) (search-call (a .start) (length (a .commands .now)) (length (a .scratch .now)) (length (a .answer .now))) _ (c .before .before .plan .given .1) in
-    (refused-code e (c .number .ensures), (refused-left e _ _, (refused-left e _ _, refused-left e _ _)))
+    refused-after _ _ _ _ _ _ _ e (c .number .ensures)
 
 same-length : tie.Need-same-length
 same-length c = search needs
@@ -61,7 +62,7 @@ returns-2 c =
     let a = c .before .before .before .before .before .before .before .before .before .before .before .before .before .before .before .before .before .before .before .before .before .before .before .before .before .before .before .before .before .before .args in
     let l = c .before .before .before .before .before .before .before .before .before .before .before .before .before .before .before .before .before .before .before .load-plan .ensures in
     let e = call-given _ _ _ _ _ (l .0) (search-call (a .start) (length (a .commands .now)) (length (a .scratch .now)) (length (a .answer .now))) _ (c .before .before .before .before .before .before .before .before .before .before .before .before .before .before .plan2 .given .1) _ (c .before .before .before .before .before .before .before .before .before .before .before .before .before .before .before .before .before .before .before .load-plan .last .1 .1 .1 .1 .0) _ _ _ _ (l .1 .0) (l .1 .1 .0) (l .1 .1 .1) in
-    search-moved e (a .commands .now) (a .scratch .now) (a .answer .now) (c .before .before .before .before .before .before .search-loaded .ensures)
+    c .before .before .before .before .before .before .search-loaded .ensures ∙ search-moved e (a .commands .now) (a .scratch .now) (a .answer .now)
 
 pub search-call-spec : {M : Type 1} → statement M
 search-call-spec = tie.close (tie.spec slice-aggregate-load-plan slice-aggregate-load-plan-2 slice-aggregate-load-plan-3 load-plan-requires enum-known-plan number-requires enum-known-plan-2 slice-aggregate-search-loaded slice-aggregate-search-loaded-2 slice-aggregate-search-loaded-3 search-loaded-requires returns same-length same-length-2 same-length-3 returns-2)

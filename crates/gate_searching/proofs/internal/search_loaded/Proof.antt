@@ -1,3 +1,4 @@
+use mathlib.Core.Path.{_∙_}
 use Rattle.gate_searching.proofs.Searched.{deliverable, search-delivered}
 use Rattle.tables.specs.Meaning.{held}
 mod Lts
@@ -5,9 +6,6 @@ mod Tie
 use borrow.Author.Needs.{needs}
 use Rattle.gate_searching.proofs.internal.search_loaded.Statement.{statement}
 use Rattle.gate_searching.proofs.internal.search_loaded.Proof.Tie as tie
-
-wide-requires : tie.Need-wide-requires
-wide-requires c κs = search needs
 
 slice-aggregate-search : tie.Need-slice-aggregate-search
 slice-aggregate-search c = search needs
@@ -26,9 +24,9 @@ slice-aggregate-deliver-2 c = search needs
 
 deliver-requires : tie.Need-deliver-requires
 deliver-requires c κs =
-    let a = c .before .before .before .before .before .before .before .before .before .before .before .before .before .before .before .before .args in
-    let s = c .before .before .before .before .before .before .before .search .ensures in
-    deliverable (held (a .size) (a .rows .now) (a .firsts .now) (a .outcomes .now)) _ _ (c .before .before .before .before .before .before .before .before .before .before .wide .ensures .0) _ (s .0) _ _ _ (s .1 .0) (s .1 .1 .0)
+    let a = c .before .before .before .before .before .before .before .before .before .before .before .before .before .before .before .args in
+    let s = c .before .before .before .before .before .before .before .search in
+    deliverable (held (a .size) (a .rows .now) (a .firsts .now) (a .outcomes .now)) _ _ (s .result) _ _ (s .ensures .0)
 
 same-length : tie.Need-same-length
 same-length c = search needs
@@ -41,11 +39,10 @@ same-length-3 c = search needs
 
 returns : tie.Need-returns
 returns c =
-    let a = c .before .before .before .before .before .before .before .before .before .before .before .before .before .before .before .before .before .before .before .before .before .before .before .args in
-    let s = c .before .before .before .before .before .before .before .before .before .before .before .before .before .before .search .ensures in
-    let d = c .before .before .before .before .before .before .deliver .ensures in
-    search-delivered (held (a .size) (a .rows .now) (a .firsts .now) (a .outcomes .now)) _ _ (c .before .before .before .before .before .before .before .before .before .before .before .before .before .before .before .before .before .wide .ensures .0) _ (s .0) _ _ _ (s .1 .0) (s .1 .1 .0) (a .commands .now) (a .scratch .now) (a .answer .now)
-    (d .0) (d .1 .0) (d .1 .1 .0) (d .1 .1 .1)
+    let a = c .before .before .before .before .before .before .before .before .before .before .before .before .before .before .before .before .before .before .before .before .before .before .args in
+    let s = c .before .before .before .before .before .before .before .before .before .before .before .before .before .before .search in
+    c .before .before .before .before .before .before .deliver .ensures
+    ∙ search-delivered (held (a .size) (a .rows .now) (a .firsts .now) (a .outcomes .now)) _ _ (s .result) _ _ (s .ensures .0) (a .commands .now) (a .scratch .now) (a .answer .now)
 
 pub search-loaded-spec : {M : Type 1} → statement M
-search-loaded-spec = tie.close (tie.spec wide-requires slice-aggregate-search slice-aggregate-search-2 search-requires slice-aggregate-deliver slice-aggregate-deliver-2 deliver-requires same-length same-length-2 same-length-3 returns)
+search-loaded-spec = tie.close (tie.spec slice-aggregate-search slice-aggregate-search-2 search-requires slice-aggregate-deliver slice-aggregate-deliver-2 deliver-requires same-length same-length-2 same-length-3 returns)

@@ -165,7 +165,7 @@ abbrev ty·29 : Syntax.Ty
 ty·29 = Syntax.tyEnum (List._∷_ 108 (List._∷_ 111 (List._∷_ 97 (List._∷_ 100 (List._∷_ 58 (List._∷_ 58 (List._∷_ 105 (List._∷_ 110 (List._∷_ 116 (List._∷_ 101 (List._∷_ 114 (List._∷_ 110 (List._∷_ 97 (List._∷_ 108 (List._∷_ 58 (List._∷_ 58 (List._∷_ 80 (List._∷_ 108 (List._∷_ 97 (List._∷_ 110 (List._∷_ 65 (List._∷_ 110 (List._∷_ 115 (List._∷_ 119 (List._∷_ 101 (List._∷_ 114 List.[])))))))))))))))))))))))))) (Syntax.ttcons (Syntax.tcons ty·27 Syntax.tnil) (Syntax.ttcons (Syntax.tcons ty·28 Syntax.tnil) Syntax.ttnil))
 
 abbrev pub ps : List.List (Kinds.PK 7)
-ps = List._∷_ (ShrSlice.pShrS (Referent.rtF (Referent.fInt Syntax.w8)) 0 tt) (List._∷_ (ShrSlice.pShrS (Referent.rtF (Referent.fInt Syntax.w8)) 1 tt) (List._∷_ (ShrSlice.pShrS (Referent.rtF (Referent.fInt Syntax.w8)) 2 tt) (List._∷_ (ShrSlice.pShrS (Referent.rtF (Referent.fInt Syntax.w8)) 3 tt) (List._∷_ (Num.pNum Syntax.w16) (List._∷_ (MutSlice.pMutS (Referent.rtF (Referent.fInt Syntax.w8)) 4 tt) (List._∷_ (MutSlice.pMutS (Referent.rtF (Referent.fInt Syntax.w8)) 5 tt) (List._∷_ (MutSlice.pMutS (Referent.rtF (Referent.fInt Syntax.w8)) 6 tt) List.[])))))))
+ps = List._∷_ (ShrSlice.pShrS (Referent.rtF (Referent.fInt Syntax.w8)) 0 tt) (List._∷_ (ShrSlice.pShrS (Referent.rtF (Referent.fInt Syntax.w8)) 1 tt) (List._∷_ (ShrSlice.pShrS (Referent.rtF (Referent.fInt Syntax.w8)) 2 tt) (List._∷_ (ShrSlice.pShrS (Referent.rtF (Referent.fInt Syntax.w8)) 3 tt) (List._∷_ (Num.pNum Syntax.w64) (List._∷_ (MutSlice.pMutS (Referent.rtF (Referent.fInt Syntax.w8)) 4 tt) (List._∷_ (MutSlice.pMutS (Referent.rtF (Referent.fInt Syntax.w8)) 5 tt) (List._∷_ (MutSlice.pMutS (Referent.rtF (Referent.fInt Syntax.w8)) 6 tt) List.[])))))))
 
 abbrev pub r : Kinds.RK 7
 r = Num.rNum Syntax.w32
@@ -189,7 +189,7 @@ abbrev pub r·1 : Kinds.RK 0
 r·1 = Num.rNum Syntax.w32
 
 abbrev pub ps·2 : List.List (Kinds.PK 6)
-ps·2 = List._∷_ (Value.pVal record { ty = Declared'.row Size.the-type; one = Path'.refl; val = Laws'4.val Size.the-type Laws''.the-laws; tells = Laws'4.tells Size.the-type Laws''.the-laws; still = Laws'4.still Size.the-type Laws''.the-copy Exit.yes; row = Rows'.whole (Declared'.row Size.the-type); rd = λ x. x; mk = λ x. x } λ M 𝓤 H A W. record { copies = Laws'4.copy Size.the-type Laws''.the-copy 𝓤 H A W; lawful = Laws'4.lawful Size.the-type Laws''.the-laws 𝓤 H A W; makes = Laws'4.makes Size.the-type Laws''.the-plain 𝓤 H A; in-mem = Local.mem-whole 𝓤 H A W (Declared'.row Size.the-type); of-mem = Local.whole-mem 𝓤 H A W (Declared'.row Size.the-type) }) (List._∷_ (ShrSlice.pShrS T.the-row 0 tt) (List._∷_ (ShrSlice.pShrS (Referent.rtF (Referent.fInt Syntax.w16)) 1 tt) (List._∷_ (ShrSlice.pShrS (Referent.rtF (Referent.fInt Syntax.w16)) 2 tt) (List._∷_ (Num.pNum Syntax.w16) (List._∷_ (MutSlice.pMutS (Referent.rtF (Referent.fInt Syntax.w8)) 3 tt) (List._∷_ (MutSlice.pMutS (Referent.rtF (Referent.fInt Syntax.w8)) 4 tt) (List._∷_ (MutSlice.pMutS (Referent.rtF (Referent.fInt Syntax.w8)) 5 tt) List.[])))))))
+ps·2 = List._∷_ (Value.pVal record { ty = Declared'.row Size.the-type; one = Path'.refl; val = Laws'4.val Size.the-type Laws''.the-laws; tells = Laws'4.tells Size.the-type Laws''.the-laws; still = Laws'4.still Size.the-type Laws''.the-copy Exit.yes; row = Rows'.whole (Declared'.row Size.the-type); rd = λ x. x; mk = λ x. x } λ M 𝓤 H A W. record { copies = Laws'4.copy Size.the-type Laws''.the-copy 𝓤 H A W; lawful = Laws'4.lawful Size.the-type Laws''.the-laws 𝓤 H A W; makes = Laws'4.makes Size.the-type Laws''.the-plain 𝓤 H A; in-mem = Local.mem-whole 𝓤 H A W (Declared'.row Size.the-type); of-mem = Local.whole-mem 𝓤 H A W (Declared'.row Size.the-type) }) (List._∷_ (ShrSlice.pShrS T.the-row 0 tt) (List._∷_ (ShrSlice.pShrS (Referent.rtF (Referent.fInt Syntax.w16)) 1 tt) (List._∷_ (ShrSlice.pShrS (Referent.rtF (Referent.fInt Syntax.w16)) 2 tt) (List._∷_ (Num.pNum Syntax.w64) (List._∷_ (MutSlice.pMutS (Referent.rtF (Referent.fInt Syntax.w8)) 3 tt) (List._∷_ (MutSlice.pMutS (Referent.rtF (Referent.fInt Syntax.w8)) 4 tt) (List._∷_ (MutSlice.pMutS (Referent.rtF (Referent.fInt Syntax.w8)) 5 tt) List.[])))))))
 
 abbrev pub r·2 : Kinds.RK 6
 r·2 = Num.rNum Syntax.w32
@@ -375,7 +375,7 @@ abbrev pub Claims : Type 1
 Claims = Kinds.In 7 ps·0 × Kinds.Out 7 ps·0 r·0 × Kinds.In 0 ps·1 × Kinds.Out 0 ps·1 r·1 × Kinds.In 6 ps·2 × Kinds.Out 6 ps·2 r·2
 
 abbrev pub t0 : List.List Row.Entry
-t0 = List._∷_ (0, Rows'.any-gone (Syntax.tyInt Syntax.w32)) (List._∷_ (1, Rows'.sslice (Referent.rtF (Referent.fInt Syntax.w8)) ty·7 0) (List._∷_ (2, Rows'.sslice (Referent.rtF (Referent.fInt Syntax.w8)) ty·8 1) (List._∷_ (3, Rows'.sslice (Referent.rtF (Referent.fInt Syntax.w8)) ty·9 2) (List._∷_ (4, Rows'.sslice (Referent.rtF (Referent.fInt Syntax.w8)) ty·10 3) (List._∷_ (5, Rows'.sc-here (Row.sInt Syntax.w16)) (List._∷_ (6, Mut.mslice (Referent.rtF (Referent.fInt Syntax.w8)) ty·11 4) (List._∷_ (7, Mut.mslice (Referent.rtF (Referent.fInt Syntax.w8)) ty·12 5) (List._∷_ (8, Mut.mslice (Referent.rtF (Referent.fInt Syntax.w8)) ty·13 6) (List._∷_ (9, Rows'.any-gone ty·2) (List._∷_ (10, Rows'.any-gone ty·0) (List._∷_ (11, Rows'.any-gone ty·1) (List._∷_ (12, Rows'.any-gone ty·29) (List._∷_ (13, Rows'.any-gone ty·28) (List._∷_ (14, Rows'.any-gone ty·27) (List._∷_ (15, Rows'.any-gone (Memory.lone (T.the-row .mir))) List.[])))))))))))))))
+t0 = List._∷_ (0, Rows'.any-gone (Syntax.tyInt Syntax.w32)) (List._∷_ (1, Rows'.sslice (Referent.rtF (Referent.fInt Syntax.w8)) ty·7 0) (List._∷_ (2, Rows'.sslice (Referent.rtF (Referent.fInt Syntax.w8)) ty·8 1) (List._∷_ (3, Rows'.sslice (Referent.rtF (Referent.fInt Syntax.w8)) ty·9 2) (List._∷_ (4, Rows'.sslice (Referent.rtF (Referent.fInt Syntax.w8)) ty·10 3) (List._∷_ (5, Rows'.sc-here (Row.sInt Syntax.w64)) (List._∷_ (6, Mut.mslice (Referent.rtF (Referent.fInt Syntax.w8)) ty·11 4) (List._∷_ (7, Mut.mslice (Referent.rtF (Referent.fInt Syntax.w8)) ty·12 5) (List._∷_ (8, Mut.mslice (Referent.rtF (Referent.fInt Syntax.w8)) ty·13 6) (List._∷_ (9, Rows'.any-gone ty·2) (List._∷_ (10, Rows'.any-gone ty·0) (List._∷_ (11, Rows'.any-gone ty·1) (List._∷_ (12, Rows'.any-gone ty·29) (List._∷_ (13, Rows'.any-gone ty·28) (List._∷_ (14, Rows'.any-gone ty·27) (List._∷_ (15, Rows'.any-gone (Memory.lone (T.the-row .mir))) List.[])))))))))))))))
 
 abbrev pub t1 : List.List Row.Entry
 t1 = List._∷_ (16, Rows'.any-gone ty·20) (List._∷_ (17, Rows'.any-gone ty·25) (List._∷_ (18, Rows'.any-gone ty·16) (List._∷_ (19, Rows'.any-gone ty·23) (List._∷_ (20, Rows'.any-gone ty·18) (List._∷_ (21, Rows'.any-gone ty·23) (List._∷_ (22, Rows'.any-gone (Syntax.tyInt Syntax.w32)) (List._∷_ (23, Rows'.any-gone ty·21) (List._∷_ (24, Rows'.any-gone ty·26) (List._∷_ (25, Rows'.any-gone ty·17) (List._∷_ (26, Rows'.any-gone ty·24) (List._∷_ (27, Rows'.any-gone ty·19) (List._∷_ (28, Rows'.any-gone ty·24) (List._∷_ (29, Rows'.any-gone ty·4) (List._∷_ (30, Rows'.any-gone ty·22) (List._∷_ (31, Rows'.any-gone ty·4) List.[])))))))))))))))
@@ -384,7 +384,7 @@ abbrev pub t2 : List.List Row.Entry
 t2 = List._∷_ (32, Rows'.any-gone ty·22) (List._∷_ (33, Rows'.any-gone ty·4) (List._∷_ (34, Rows'.any-gone ty·22) List.[]))
 
 abbrev pub t3 : List.List Row.Entry
-t3 = Row.setRow 5 (5, Rows'.any-gone (Syntax.tyInt Syntax.w16)) (Row.setRow 0 (0, Rows'.sc-here (Row.sInt Syntax.w32)) t0)
+t3 = Row.setRow 5 (5, Rows'.any-gone (Syntax.tyInt Syntax.w64)) (Row.setRow 0 (0, Rows'.sc-here (Row.sInt Syntax.w32)) t0)
 
 abbrev pub t4 : List.List Row.Entry
 t4 = Row.setRow 15 (15, Rows'.whole (Declared'.row (Apart.apartT T.the-type))) t0
@@ -1033,7 +1033,7 @@ module _ (claims· : Claims) where
   s96 = λ bs. Scalar.n-room T98 22 (Syntax.tyInt Syntax.w32)
 
   abbrev s97 : (bs : List.List Nat.ℕ) → Typed.Mo T99 → Typed.Mo T100
-  s97 = λ bs. Scalar.n-room T99 5 (Syntax.tyInt Syntax.w16)
+  s97 = λ bs. Scalar.n-room T99 5 (Syntax.tyInt Syntax.w64)
 
   module _ (Pre· : (κs : Lifetimes.Lfts 7) → Kinds.Dens κs ps → Type 0) (Post· : (κs : Lifetimes.Lfts 7) → (a : Kinds.Dens κs ps) → Kinds.Plain 7 ps r κs) where
     module _ (M : Type 1) where
@@ -1639,7 +1639,7 @@ module _ (claims· : Claims) where
           d7 = Typed.g-pre 𝓤 H A W 𝓣 E G37 G38 b13 Δ1 (Typed.both (s35 bs)) (at6 bs) (Known.g-enum-known 𝓤 H A W E PlanAnswer.enum 1 G37 12 (λ x. x) (Reads.as-is 𝓤 H A (Rows'.whole (Declared.row PlanAnswer.the-type)))) d6
 
           d8 : Typed.Typed 𝓤 H A 𝓣 E G68 b27 Δ1 (at8 bs)
-          d8 = Typed.s-typed 𝓤 H A W 𝓣 E G68 b27 Δ1 (λ Ψ. Typed.both (s66 bs) (Typed.pass T69 T70 (s67 bs) (Typed.pass T70 T71 (s68 bs) (Typed.pass T71 T72 (s69 bs) (Typed.pass T72 T73 (s70 bs) (Typed.pass T73 T75 (s72 bs) (Typed.pass T75 T77 (s74 bs) (Typed.pass T77 T79 (s76 bs) (Typed.pass T79 T81 (s78 bs) (Typed.pass T81 T83 (s80 bs) (Typed.pass T83 T85 (s82 bs) (Typed.both (s84 bs) (Typed.give (s85 bs) (Typed.both (s88 bs) (Typed.give (s89 bs) (Typed.both (s92 bs) (Typed.give (s93 bs) Ψ))))))))))))))))) tt (Typed.g-post 𝓤 H A W 𝓣 E G68 G96 G97 b27 (λ Ψ. Typed.both (s66 bs) (Typed.pass T69 T70 (s67 bs) (Typed.pass T70 T71 (s68 bs) (Typed.pass T71 T72 (s69 bs) (Typed.pass T72 T73 (s70 bs) (Typed.pass T73 T75 (s72 bs) (Typed.pass T75 T77 (s74 bs) (Typed.pass T77 T79 (s76 bs) (Typed.pass T79 T81 (s78 bs) (Typed.pass T81 T83 (s80 bs) (Typed.pass T83 T85 (s82 bs) (Typed.both (s84 bs) (Typed.give (s85 bs) (Typed.both (s88 bs) (Typed.give (s89 bs) (Typed.both (s92 bs) (Typed.give (s93 bs) Ψ))))))))))))))))) (λ Ψ. Ψ) (Typed.g-post 𝓤 H A W 𝓣 E G68 G95 G96 b27 (λ Ψ. Typed.both (s66 bs) (Typed.pass T69 T70 (s67 bs) (Typed.pass T70 T71 (s68 bs) (Typed.pass T71 T72 (s69 bs) (Typed.pass T72 T73 (s70 bs) (Typed.pass T73 T75 (s72 bs) (Typed.pass T75 T77 (s74 bs) (Typed.pass T77 T79 (s76 bs) (Typed.pass T79 T81 (s78 bs) (Typed.pass T81 T83 (s80 bs) (Typed.pass T83 T85 (s82 bs) (Typed.both (s84 bs) (Typed.give (s85 bs) (Typed.both (s88 bs) (Typed.give (s89 bs) (Typed.both (s92 bs) Ψ)))))))))))))))) (Typed.give (s93 bs)) (Typed.g-post 𝓤 H A W 𝓣 E G68 G94 G95 b27 (λ Ψ. Typed.both (s66 bs) (Typed.pass T69 T70 (s67 bs) (Typed.pass T70 T71 (s68 bs) (Typed.pass T71 T72 (s69 bs) (Typed.pass T72 T73 (s70 bs) (Typed.pass T73 T75 (s72 bs) (Typed.pass T75 T77 (s74 bs) (Typed.pass T77 T79 (s76 bs) (Typed.pass T79 T81 (s78 bs) (Typed.pass T81 T83 (s80 bs) (Typed.pass T83 T85 (s82 bs) (Typed.both (s84 bs) (Typed.give (s85 bs) (Typed.both (s88 bs) (Typed.give (s89 bs) Ψ))))))))))))))) (Typed.both (s92 bs)) (Typed.g-post 𝓤 H A W 𝓣 E G68 G93 G94 b27 (λ Ψ. Typed.both (s66 bs) (Typed.pass T69 T70 (s67 bs) (Typed.pass T70 T71 (s68 bs) (Typed.pass T71 T72 (s69 bs) (Typed.pass T72 T73 (s70 bs) (Typed.pass T73 T75 (s72 bs) (Typed.pass T75 T77 (s74 bs) (Typed.pass T77 T79 (s76 bs) (Typed.pass T79 T81 (s78 bs) (Typed.pass T81 T83 (s80 bs) (Typed.pass T83 T85 (s82 bs) (Typed.both (s84 bs) (Typed.give (s85 bs) (Typed.both (s88 bs) (Typed.give (s89 bs) Ψ))))))))))))))) (λ Ψ. Ψ) (Typed.g-post 𝓤 H A W 𝓣 E G68 G92 G93 b27 (λ Ψ. Typed.both (s66 bs) (Typed.pass T69 T70 (s67 bs) (Typed.pass T70 T71 (s68 bs) (Typed.pass T71 T72 (s69 bs) (Typed.pass T72 T73 (s70 bs) (Typed.pass T73 T75 (s72 bs) (Typed.pass T75 T77 (s74 bs) (Typed.pass T77 T79 (s76 bs) (Typed.pass T79 T81 (s78 bs) (Typed.pass T81 T83 (s80 bs) (Typed.pass T83 T85 (s82 bs) (Typed.both (s84 bs) (Typed.give (s85 bs) (Typed.both (s88 bs) (Typed.give (s89 bs) Ψ))))))))))))))) (λ Ψ. Ψ) (Typed.g-post 𝓤 H A W 𝓣 E G68 G91 G92 b27 (λ Ψ. Typed.both (s66 bs) (Typed.pass T69 T70 (s67 bs) (Typed.pass T70 T71 (s68 bs) (Typed.pass T71 T72 (s69 bs) (Typed.pass T72 T73 (s70 bs) (Typed.pass T73 T75 (s72 bs) (Typed.pass T75 T77 (s74 bs) (Typed.pass T77 T79 (s76 bs) (Typed.pass T79 T81 (s78 bs) (Typed.pass T81 T83 (s80 bs) (Typed.pass T83 T85 (s82 bs) (Typed.both (s84 bs) (Typed.give (s85 bs) (Typed.both (s88 bs) Ψ)))))))))))))) (Typed.give (s89 bs)) (Typed.g-post 𝓤 H A W 𝓣 E G68 G90 G91 b27 (λ Ψ. Typed.both (s66 bs) (Typed.pass T69 T70 (s67 bs) (Typed.pass T70 T71 (s68 bs) (Typed.pass T71 T72 (s69 bs) (Typed.pass T72 T73 (s70 bs) (Typed.pass T73 T75 (s72 bs) (Typed.pass T75 T77 (s74 bs) (Typed.pass T77 T79 (s76 bs) (Typed.pass T79 T81 (s78 bs) (Typed.pass T81 T83 (s80 bs) (Typed.pass T83 T85 (s82 bs) (Typed.both (s84 bs) (Typed.give (s85 bs) Ψ))))))))))))) (Typed.both (s88 bs)) (Typed.g-post 𝓤 H A W 𝓣 E G68 G89 G90 b27 (λ Ψ. Typed.both (s66 bs) (Typed.pass T69 T70 (s67 bs) (Typed.pass T70 T71 (s68 bs) (Typed.pass T71 T72 (s69 bs) (Typed.pass T72 T73 (s70 bs) (Typed.pass T73 T75 (s72 bs) (Typed.pass T75 T77 (s74 bs) (Typed.pass T77 T79 (s76 bs) (Typed.pass T79 T81 (s78 bs) (Typed.pass T81 T83 (s80 bs) (Typed.pass T83 T85 (s82 bs) (Typed.both (s84 bs) (Typed.give (s85 bs) Ψ))))))))))))) (λ Ψ. Ψ) (Typed.g-post 𝓤 H A W 𝓣 E G68 G88 G89 b27 (λ Ψ. Typed.both (s66 bs) (Typed.pass T69 T70 (s67 bs) (Typed.pass T70 T71 (s68 bs) (Typed.pass T71 T72 (s69 bs) (Typed.pass T72 T73 (s70 bs) (Typed.pass T73 T75 (s72 bs) (Typed.pass T75 T77 (s74 bs) (Typed.pass T77 T79 (s76 bs) (Typed.pass T79 T81 (s78 bs) (Typed.pass T81 T83 (s80 bs) (Typed.pass T83 T85 (s82 bs) (Typed.both (s84 bs) (Typed.give (s85 bs) Ψ))))))))))))) (λ Ψ. Ψ) (Typed.g-post 𝓤 H A W 𝓣 E G68 G87 G88 b27 (λ Ψ. Typed.both (s66 bs) (Typed.pass T69 T70 (s67 bs) (Typed.pass T70 T71 (s68 bs) (Typed.pass T71 T72 (s69 bs) (Typed.pass T72 T73 (s70 bs) (Typed.pass T73 T75 (s72 bs) (Typed.pass T75 T77 (s74 bs) (Typed.pass T77 T79 (s76 bs) (Typed.pass T79 T81 (s78 bs) (Typed.pass T81 T83 (s80 bs) (Typed.pass T83 T85 (s82 bs) (Typed.both (s84 bs) Ψ)))))))))))) (Typed.give (s85 bs)) (Typed.g-post 𝓤 H A W 𝓣 E G68 G86 G87 b27 (λ Ψ. Typed.both (s66 bs) (Typed.pass T69 T70 (s67 bs) (Typed.pass T70 T71 (s68 bs) (Typed.pass T71 T72 (s69 bs) (Typed.pass T72 T73 (s70 bs) (Typed.pass T73 T75 (s72 bs) (Typed.pass T75 T77 (s74 bs) (Typed.pass T77 T79 (s76 bs) (Typed.pass T79 T81 (s78 bs) (Typed.pass T81 T83 (s80 bs) (Typed.pass T83 T85 (s82 bs) Ψ))))))))))) (Typed.both (s84 bs)) (Typed.g-post 𝓤 H A W 𝓣 E G68 G85 G86 b27 (λ Ψ. Typed.both (s66 bs) (Typed.pass T69 T70 (s67 bs) (Typed.pass T70 T71 (s68 bs) (Typed.pass T71 T72 (s69 bs) (Typed.pass T72 T73 (s70 bs) (Typed.pass T73 T75 (s72 bs) (Typed.pass T75 T77 (s74 bs) (Typed.pass T77 T79 (s76 bs) (Typed.pass T79 T81 (s78 bs) (Typed.pass T81 T83 (s80 bs) (Typed.pass T83 T85 (s82 bs) Ψ))))))))))) (λ Ψ. Ψ) (Typed.g-post 𝓤 H A W 𝓣 E G68 G84 G85 b27 (λ Ψ. Typed.both (s66 bs) (Typed.pass T69 T70 (s67 bs) (Typed.pass T70 T71 (s68 bs) (Typed.pass T71 T72 (s69 bs) (Typed.pass T72 T73 (s70 bs) (Typed.pass T73 T75 (s72 bs) (Typed.pass T75 T77 (s74 bs) (Typed.pass T77 T79 (s76 bs) (Typed.pass T79 T81 (s78 bs) (Typed.pass T81 T83 (s80 bs) Ψ)))))))))) (Typed.pass T83 T85 (s82 bs)) (Typed.g-post 𝓤 H A W 𝓣 E G68 G83 G84 b27 (λ Ψ. Typed.both (s66 bs) (Typed.pass T69 T70 (s67 bs) (Typed.pass T70 T71 (s68 bs) (Typed.pass T71 T72 (s69 bs) (Typed.pass T72 T73 (s70 bs) (Typed.pass T73 T75 (s72 bs) (Typed.pass T75 T77 (s74 bs) (Typed.pass T77 T79 (s76 bs) (Typed.pass T79 T81 (s78 bs) (Typed.pass T81 T83 (s80 bs) Ψ)))))))))) (λ Ψ. Ψ) (Typed.g-post 𝓤 H A W 𝓣 E G68 G82 G83 b27 (λ Ψ. Typed.both (s66 bs) (Typed.pass T69 T70 (s67 bs) (Typed.pass T70 T71 (s68 bs) (Typed.pass T71 T72 (s69 bs) (Typed.pass T72 T73 (s70 bs) (Typed.pass T73 T75 (s72 bs) (Typed.pass T75 T77 (s74 bs) (Typed.pass T77 T79 (s76 bs) (Typed.pass T79 T81 (s78 bs) Ψ))))))))) (Typed.pass T81 T83 (s80 bs)) (Typed.g-post 𝓤 H A W 𝓣 E G68 G81 G82 b27 (λ Ψ. Typed.both (s66 bs) (Typed.pass T69 T70 (s67 bs) (Typed.pass T70 T71 (s68 bs) (Typed.pass T71 T72 (s69 bs) (Typed.pass T72 T73 (s70 bs) (Typed.pass T73 T75 (s72 bs) (Typed.pass T75 T77 (s74 bs) (Typed.pass T77 T79 (s76 bs) (Typed.pass T79 T81 (s78 bs) Ψ))))))))) (λ Ψ. Ψ) (Typed.g-post 𝓤 H A W 𝓣 E G68 G80 G81 b27 (λ Ψ. Typed.both (s66 bs) (Typed.pass T69 T70 (s67 bs) (Typed.pass T70 T71 (s68 bs) (Typed.pass T71 T72 (s69 bs) (Typed.pass T72 T73 (s70 bs) (Typed.pass T73 T75 (s72 bs) (Typed.pass T75 T77 (s74 bs) (Typed.pass T77 T79 (s76 bs) Ψ)))))))) (Typed.pass T79 T81 (s78 bs)) (Typed.g-post 𝓤 H A W 𝓣 E G68 G79 G80 b27 (λ Ψ. Typed.both (s66 bs) (Typed.pass T69 T70 (s67 bs) (Typed.pass T70 T71 (s68 bs) (Typed.pass T71 T72 (s69 bs) (Typed.pass T72 T73 (s70 bs) (Typed.pass T73 T75 (s72 bs) (Typed.pass T75 T77 (s74 bs) (Typed.pass T77 T79 (s76 bs) Ψ)))))))) (λ Ψ. Ψ) (Typed.g-post 𝓤 H A W 𝓣 E G68 G78 G79 b27 (λ Ψ. Typed.both (s66 bs) (Typed.pass T69 T70 (s67 bs) (Typed.pass T70 T71 (s68 bs) (Typed.pass T71 T72 (s69 bs) (Typed.pass T72 T73 (s70 bs) (Typed.pass T73 T75 (s72 bs) (Typed.pass T75 T77 (s74 bs) Ψ))))))) (Typed.pass T77 T79 (s76 bs)) (Typed.g-post 𝓤 H A W 𝓣 E G68 G77 G78 b27 (λ Ψ. Typed.both (s66 bs) (Typed.pass T69 T70 (s67 bs) (Typed.pass T70 T71 (s68 bs) (Typed.pass T71 T72 (s69 bs) (Typed.pass T72 T73 (s70 bs) (Typed.pass T73 T75 (s72 bs) (Typed.pass T75 T77 (s74 bs) Ψ))))))) (λ Ψ. Ψ) (Typed.g-post 𝓤 H A W 𝓣 E G68 G76 G77 b27 (λ Ψ. Typed.both (s66 bs) (Typed.pass T69 T70 (s67 bs) (Typed.pass T70 T71 (s68 bs) (Typed.pass T71 T72 (s69 bs) (Typed.pass T72 T73 (s70 bs) (Typed.pass T73 T75 (s72 bs) Ψ)))))) (Typed.pass T75 T77 (s74 bs)) (Typed.g-post 𝓤 H A W 𝓣 E G68 G75 G76 b27 (λ Ψ. Typed.both (s66 bs) (Typed.pass T69 T70 (s67 bs) (Typed.pass T70 T71 (s68 bs) (Typed.pass T71 T72 (s69 bs) (Typed.pass T72 T73 (s70 bs) (Typed.pass T73 T75 (s72 bs) Ψ)))))) (λ Ψ. Ψ) (Typed.g-post 𝓤 H A W 𝓣 E G68 G74 G75 b27 (λ Ψ. Typed.both (s66 bs) (Typed.pass T69 T70 (s67 bs) (Typed.pass T70 T71 (s68 bs) (Typed.pass T71 T72 (s69 bs) (Typed.pass T72 T73 (s70 bs) Ψ))))) (Typed.pass T73 T75 (s72 bs)) (Typed.g-post 𝓤 H A W 𝓣 E G68 G73 G74 b27 (λ Ψ. Typed.both (s66 bs) (Typed.pass T69 T70 (s67 bs) (Typed.pass T70 T71 (s68 bs) (Typed.pass T71 T72 (s69 bs) (Typed.pass T72 T73 (s70 bs) Ψ))))) (λ Ψ. Ψ) (Typed.g-post 𝓤 H A W 𝓣 E G68 G72 G73 b27 (λ Ψ. Typed.both (s66 bs) (Typed.pass T69 T70 (s67 bs) (Typed.pass T70 T71 (s68 bs) (Typed.pass T71 T72 (s69 bs) Ψ)))) (Typed.pass T72 T73 (s70 bs)) (Typed.g-post 𝓤 H A W 𝓣 E G68 G71 G72 b27 (λ Ψ. Typed.both (s66 bs) (Typed.pass T69 T70 (s67 bs) (Typed.pass T70 T71 (s68 bs) Ψ))) (Typed.pass T71 T72 (s69 bs)) (Typed.g-post 𝓤 H A W 𝓣 E G68 G70 G71 b27 (λ Ψ. Typed.both (s66 bs) (Typed.pass T69 T70 (s67 bs) Ψ)) (Typed.pass T70 T71 (s68 bs)) (Typed.g-post 𝓤 H A W 𝓣 E G68 G69 G70 b27 (Typed.both (s66 bs)) (Typed.pass T69 T70 (s67 bs)) (Plain.t-call-plain 𝓤 H A W 𝓣 6 ps·2 r·2 (claims· .4) (claims· .5) "gate_searching::internal::search_loaded" (known .2) E (λ pos β. β) G68 (record { pos = 14; st = List.[]; d = 0; at = λ x. x }, (record { pos = 24; ty = Syntax.tyRef Syntax.erased Syntax.imm (Memory.pointee (T.the-row .written)); ref = λ x. x }, (record { pos = 26; ty = Syntax.tyRef Syntax.erased Syntax.imm (Syntax.tyInt Syntax.w16); ref = λ x. x }, (record { pos = 28; ty = Syntax.tyRef Syntax.erased Syntax.imm (Syntax.tyInt Syntax.w16); ref = λ x. x }, (Num.vAt 5 λ x. x, (record { pos = 30; ty = Syntax.tyRef Syntax.erased Syntax.mut (Syntax.tyInt Syntax.w8); ref = λ x. x }, (record { pos = 32; ty = Syntax.tyRef Syntax.erased Syntax.mut (Syntax.tyInt Syntax.w8); ref = λ x. x }, (record { pos = 34; ty = Syntax.tyRef Syntax.erased Syntax.mut (Syntax.tyInt Syntax.w8); ref = λ x. x }, tt)))))))) 22 (List._∷_ 10 (List._∷_ 11 (List._∷_ 12 (List._∷_ 13 (List._∷_ 14 (List._∷_ 15 List.[])))))) (Call.sub-id 𝓤 H A W (G68 .slots)) ((Yields.yields-copy 𝓤 H A W (λ ρ. Unit) (Declared'.row Size.the-type) Path'.refl (Copies.cStruct Size.the-type Laws''.the-laws Laws''.the-copy .copy 𝓤 H A W) (Rows'.whole (Declared'.row Size.the-type)) (λ x. x) (λ x. x) (λ ρ told. Local.mem-whole 𝓤 H A W (Declared'.row Size.the-type) ρ) λ ρ told. Local.whole-mem 𝓤 H A W (Declared'.row Size.the-type) ρ, Path'.refl), (ShrSlice.spares-sslice 𝓤 H A W T.the-row ty·15 10, Shared.reads-sslice 𝓤 H A W T.the-row ty·15 10, Path'.refl, (ShrSlice.spares-sslice 𝓤 H A W (Referent.rtF (Referent.fInt Syntax.w16)) ty·6 11, Shared.reads-sslice 𝓤 H A W (Referent.rtF (Referent.fInt Syntax.w16)) ty·6 11, Path'.refl, (ShrSlice.spares-sslice 𝓤 H A W (Referent.rtF (Referent.fInt Syntax.w16)) ty·6 12, Shared.reads-sslice 𝓤 H A W (Referent.rtF (Referent.fInt Syntax.w16)) ty·6 12, Path'.refl, ((Scalar.reads-sc 𝓤 H A W (Row.sInt Syntax.w16), Path'.refl), (Reads.as-is 𝓤 H A (Mut.mslice (Referent.rtF (Referent.fInt Syntax.w8)) ty·4 13), Mut.reads-mslice 𝓤 H A W (Referent.rtF (Referent.fInt Syntax.w8)) ty·4 13, Path'.refl, (Reads.as-is 𝓤 H A (Mut.mslice (Referent.rtF (Referent.fInt Syntax.w8)) ty·4 14), Mut.reads-mslice 𝓤 H A W (Referent.rtF (Referent.fInt Syntax.w8)) ty·4 14, Path'.refl, (Reads.as-is 𝓤 H A (Mut.mslice (Referent.rtF (Referent.fInt Syntax.w8)) ty·4 15), Mut.reads-mslice 𝓤 H A W (Referent.rtF (Referent.fInt Syntax.w8)) ty·4 15, Path'.refl, tt)))))))) (Reads.room-gone 𝓤 H A (Syntax.tyInt Syntax.w32)) (tt, (tt, (tt, (tt, (tt, (tt, tt)))))) Path'.refl) (Scalar.g-room 𝓤 H A W E G69 24 ty·26 (Shared.room-sslice 𝓤 H A W T.the-row ty·15 10))) (Scalar.g-room 𝓤 H A W E G70 26 ty·24 (Shared.room-sslice 𝓤 H A W (Referent.rtF (Referent.fInt Syntax.w16)) ty·6 11))) (Scalar.g-room 𝓤 H A W E G71 28 ty·24 (Shared.room-sslice 𝓤 H A W (Referent.rtF (Referent.fInt Syntax.w16)) ty·6 12))) (Scalar.g-room 𝓤 H A W E G72 14 ty·27 (Local.room-whole 𝓤 H A W (Declared'.row Size.the-type) ty·27 Path'.refl))) (Lifetime.g-end 𝓤 H A W E G73 10 Path'.refl)) (Share.g-back-arr-shr 𝓤 H A W E T.the-row G74 9 1024 10 (λ x. x) (Reads.as-is 𝓤 H A (Rows.arr-shr T.the-row 1024 10)) Path'.refl)) (Lifetime.g-forget 𝓤 H A W E G75 10 Row.dead Path'.refl)) (Scalar.g-room 𝓤 H A W E G76 9 ty·2 (Init.room-arr 𝓤 H A W T.the-row 1024 0 1024 Path'.refl))) (Lifetime.g-end 𝓤 H A W E G77 11 Path'.refl)) (Share.g-back-arr-shr 𝓤 H A W E (Referent.rtF (Referent.fInt Syntax.w16)) G78 10 4096 11 (λ x. x) (Reads.as-is 𝓤 H A (Rows.arr-shr (Referent.rtF (Referent.fInt Syntax.w16)) 4096 11)) Path'.refl)) (Lifetime.g-forget 𝓤 H A W E G79 11 Row.dead Path'.refl)) (Scalar.g-room 𝓤 H A W E G80 10 ty·0 (Init.room-arr 𝓤 H A W (Referent.rtF (Referent.fInt Syntax.w16)) 4096 0 4096 Path'.refl))) (Lifetime.g-end 𝓤 H A W E G81 12 Path'.refl)) (Share.g-back-arr-shr 𝓤 H A W E (Referent.rtF (Referent.fInt Syntax.w16)) G82 11 16384 12 (λ x. x) (Reads.as-is 𝓤 H A (Rows.arr-shr (Referent.rtF (Referent.fInt Syntax.w16)) 16384 12)) Path'.refl)) (Lifetime.g-forget 𝓤 H A W E G83 12 Row.dead Path'.refl)) (Scalar.g-room 𝓤 H A W E G84 11 ty·1 (Init.room-arr 𝓤 H A W (Referent.rtF (Referent.fInt Syntax.w16)) 16384 0 16384 Path'.refl))) (Lifetime.g-end 𝓤 H A W E G85 13 Path'.refl)) (Relend.g-back-sl 𝓤 H A W E (Referent.rtF (Referent.fInt Syntax.w8)) G86 30 6 4 13 ty·11 ty·4 (Row.lease (κs .1 .1 .1 .1 .0) (qs .1 .1 .1 .1 .0)) (λ x. x) (λ x. x) (Reads.as-is 𝓤 H A (Mut.msleft (Referent.rtF (Referent.fInt Syntax.w8)) ty·4)) (Reads.as-is 𝓤 H A (Relend.mslice-owed (Referent.rtF (Referent.fInt Syntax.w8)) ty·11 4 13 (Row.lease (κs .1 .1 .1 .1 .0) (qs .1 .1 .1 .1 .0)))) Path'.refl Path'.refl)) (Know.g-sl-known 𝓤 H A W (Referent.fInt Syntax.w8) E G87 6 4 ty·11 (Row.lease (κs .1 .1 .1 .1 .0) (qs .1 .1 .1 .1 .0)) 0 (λ x. x) record { fits = Dec'.lit< tt } (Reads.as-is 𝓤 H A (Mut.mslice (Referent.rtF (Referent.fInt Syntax.w8)) ty·11 4)) Path'.refl tt)) (Lifetime.g-forget 𝓤 H A W E G88 13 Row.dead Path'.refl)) (Lifetime.g-end 𝓤 H A W E G89 14 Path'.refl)) (Relend.g-back-sl 𝓤 H A W E (Referent.rtF (Referent.fInt Syntax.w8)) G90 32 7 5 14 ty·12 ty·4 (Row.lease (κs .1 .1 .1 .1 .1 .0) (qs .1 .1 .1 .1 .1 .0)) (λ x. x) (λ x. x) (Reads.as-is 𝓤 H A (Mut.msleft (Referent.rtF (Referent.fInt Syntax.w8)) ty·4)) (Reads.as-is 𝓤 H A (Relend.mslice-owed (Referent.rtF (Referent.fInt Syntax.w8)) ty·12 5 14 (Row.lease (κs .1 .1 .1 .1 .1 .0) (qs .1 .1 .1 .1 .1 .0)))) Path'.refl Path'.refl)) (Know.g-sl-known 𝓤 H A W (Referent.fInt Syntax.w8) E G91 7 5 ty·12 (Row.lease (κs .1 .1 .1 .1 .1 .0) (qs .1 .1 .1 .1 .1 .0)) 0 (λ x. x) record { fits = Dec'.lit< tt } (Reads.as-is 𝓤 H A (Mut.mslice (Referent.rtF (Referent.fInt Syntax.w8)) ty·12 5)) Path'.refl tt)) (Lifetime.g-forget 𝓤 H A W E G92 14 Row.dead Path'.refl)) (Lifetime.g-end 𝓤 H A W E G93 15 Path'.refl)) (Relend.g-back-sl 𝓤 H A W E (Referent.rtF (Referent.fInt Syntax.w8)) G94 34 8 6 15 ty·13 ty·4 (Row.lease (κs .1 .1 .1 .1 .1 .1 .0) (qs .1 .1 .1 .1 .1 .1 .0)) (λ x. x) (λ x. x) (Reads.as-is 𝓤 H A (Mut.msleft (Referent.rtF (Referent.fInt Syntax.w8)) ty·4)) (Reads.as-is 𝓤 H A (Relend.mslice-owed (Referent.rtF (Referent.fInt Syntax.w8)) ty·13 6 15 (Row.lease (κs .1 .1 .1 .1 .1 .1 .0) (qs .1 .1 .1 .1 .1 .1 .0)))) Path'.refl Path'.refl)) (Know.g-sl-known 𝓤 H A W (Referent.fInt Syntax.w8) E G95 8 6 ty·13 (Row.lease (κs .1 .1 .1 .1 .1 .1 .0) (qs .1 .1 .1 .1 .1 .1 .0)) 0 (λ x. x) record { fits = Dec'.lit< tt } (Reads.as-is 𝓤 H A (Mut.mslice (Referent.rtF (Referent.fInt Syntax.w8)) ty·13 6)) Path'.refl tt)) (Lifetime.g-forget 𝓤 H A W E G96 15 Row.dead Path'.refl))
+          d8 = Typed.s-typed 𝓤 H A W 𝓣 E G68 b27 Δ1 (λ Ψ. Typed.both (s66 bs) (Typed.pass T69 T70 (s67 bs) (Typed.pass T70 T71 (s68 bs) (Typed.pass T71 T72 (s69 bs) (Typed.pass T72 T73 (s70 bs) (Typed.pass T73 T75 (s72 bs) (Typed.pass T75 T77 (s74 bs) (Typed.pass T77 T79 (s76 bs) (Typed.pass T79 T81 (s78 bs) (Typed.pass T81 T83 (s80 bs) (Typed.pass T83 T85 (s82 bs) (Typed.both (s84 bs) (Typed.give (s85 bs) (Typed.both (s88 bs) (Typed.give (s89 bs) (Typed.both (s92 bs) (Typed.give (s93 bs) Ψ))))))))))))))))) tt (Typed.g-post 𝓤 H A W 𝓣 E G68 G96 G97 b27 (λ Ψ. Typed.both (s66 bs) (Typed.pass T69 T70 (s67 bs) (Typed.pass T70 T71 (s68 bs) (Typed.pass T71 T72 (s69 bs) (Typed.pass T72 T73 (s70 bs) (Typed.pass T73 T75 (s72 bs) (Typed.pass T75 T77 (s74 bs) (Typed.pass T77 T79 (s76 bs) (Typed.pass T79 T81 (s78 bs) (Typed.pass T81 T83 (s80 bs) (Typed.pass T83 T85 (s82 bs) (Typed.both (s84 bs) (Typed.give (s85 bs) (Typed.both (s88 bs) (Typed.give (s89 bs) (Typed.both (s92 bs) (Typed.give (s93 bs) Ψ))))))))))))))))) (λ Ψ. Ψ) (Typed.g-post 𝓤 H A W 𝓣 E G68 G95 G96 b27 (λ Ψ. Typed.both (s66 bs) (Typed.pass T69 T70 (s67 bs) (Typed.pass T70 T71 (s68 bs) (Typed.pass T71 T72 (s69 bs) (Typed.pass T72 T73 (s70 bs) (Typed.pass T73 T75 (s72 bs) (Typed.pass T75 T77 (s74 bs) (Typed.pass T77 T79 (s76 bs) (Typed.pass T79 T81 (s78 bs) (Typed.pass T81 T83 (s80 bs) (Typed.pass T83 T85 (s82 bs) (Typed.both (s84 bs) (Typed.give (s85 bs) (Typed.both (s88 bs) (Typed.give (s89 bs) (Typed.both (s92 bs) Ψ)))))))))))))))) (Typed.give (s93 bs)) (Typed.g-post 𝓤 H A W 𝓣 E G68 G94 G95 b27 (λ Ψ. Typed.both (s66 bs) (Typed.pass T69 T70 (s67 bs) (Typed.pass T70 T71 (s68 bs) (Typed.pass T71 T72 (s69 bs) (Typed.pass T72 T73 (s70 bs) (Typed.pass T73 T75 (s72 bs) (Typed.pass T75 T77 (s74 bs) (Typed.pass T77 T79 (s76 bs) (Typed.pass T79 T81 (s78 bs) (Typed.pass T81 T83 (s80 bs) (Typed.pass T83 T85 (s82 bs) (Typed.both (s84 bs) (Typed.give (s85 bs) (Typed.both (s88 bs) (Typed.give (s89 bs) Ψ))))))))))))))) (Typed.both (s92 bs)) (Typed.g-post 𝓤 H A W 𝓣 E G68 G93 G94 b27 (λ Ψ. Typed.both (s66 bs) (Typed.pass T69 T70 (s67 bs) (Typed.pass T70 T71 (s68 bs) (Typed.pass T71 T72 (s69 bs) (Typed.pass T72 T73 (s70 bs) (Typed.pass T73 T75 (s72 bs) (Typed.pass T75 T77 (s74 bs) (Typed.pass T77 T79 (s76 bs) (Typed.pass T79 T81 (s78 bs) (Typed.pass T81 T83 (s80 bs) (Typed.pass T83 T85 (s82 bs) (Typed.both (s84 bs) (Typed.give (s85 bs) (Typed.both (s88 bs) (Typed.give (s89 bs) Ψ))))))))))))))) (λ Ψ. Ψ) (Typed.g-post 𝓤 H A W 𝓣 E G68 G92 G93 b27 (λ Ψ. Typed.both (s66 bs) (Typed.pass T69 T70 (s67 bs) (Typed.pass T70 T71 (s68 bs) (Typed.pass T71 T72 (s69 bs) (Typed.pass T72 T73 (s70 bs) (Typed.pass T73 T75 (s72 bs) (Typed.pass T75 T77 (s74 bs) (Typed.pass T77 T79 (s76 bs) (Typed.pass T79 T81 (s78 bs) (Typed.pass T81 T83 (s80 bs) (Typed.pass T83 T85 (s82 bs) (Typed.both (s84 bs) (Typed.give (s85 bs) (Typed.both (s88 bs) (Typed.give (s89 bs) Ψ))))))))))))))) (λ Ψ. Ψ) (Typed.g-post 𝓤 H A W 𝓣 E G68 G91 G92 b27 (λ Ψ. Typed.both (s66 bs) (Typed.pass T69 T70 (s67 bs) (Typed.pass T70 T71 (s68 bs) (Typed.pass T71 T72 (s69 bs) (Typed.pass T72 T73 (s70 bs) (Typed.pass T73 T75 (s72 bs) (Typed.pass T75 T77 (s74 bs) (Typed.pass T77 T79 (s76 bs) (Typed.pass T79 T81 (s78 bs) (Typed.pass T81 T83 (s80 bs) (Typed.pass T83 T85 (s82 bs) (Typed.both (s84 bs) (Typed.give (s85 bs) (Typed.both (s88 bs) Ψ)))))))))))))) (Typed.give (s89 bs)) (Typed.g-post 𝓤 H A W 𝓣 E G68 G90 G91 b27 (λ Ψ. Typed.both (s66 bs) (Typed.pass T69 T70 (s67 bs) (Typed.pass T70 T71 (s68 bs) (Typed.pass T71 T72 (s69 bs) (Typed.pass T72 T73 (s70 bs) (Typed.pass T73 T75 (s72 bs) (Typed.pass T75 T77 (s74 bs) (Typed.pass T77 T79 (s76 bs) (Typed.pass T79 T81 (s78 bs) (Typed.pass T81 T83 (s80 bs) (Typed.pass T83 T85 (s82 bs) (Typed.both (s84 bs) (Typed.give (s85 bs) Ψ))))))))))))) (Typed.both (s88 bs)) (Typed.g-post 𝓤 H A W 𝓣 E G68 G89 G90 b27 (λ Ψ. Typed.both (s66 bs) (Typed.pass T69 T70 (s67 bs) (Typed.pass T70 T71 (s68 bs) (Typed.pass T71 T72 (s69 bs) (Typed.pass T72 T73 (s70 bs) (Typed.pass T73 T75 (s72 bs) (Typed.pass T75 T77 (s74 bs) (Typed.pass T77 T79 (s76 bs) (Typed.pass T79 T81 (s78 bs) (Typed.pass T81 T83 (s80 bs) (Typed.pass T83 T85 (s82 bs) (Typed.both (s84 bs) (Typed.give (s85 bs) Ψ))))))))))))) (λ Ψ. Ψ) (Typed.g-post 𝓤 H A W 𝓣 E G68 G88 G89 b27 (λ Ψ. Typed.both (s66 bs) (Typed.pass T69 T70 (s67 bs) (Typed.pass T70 T71 (s68 bs) (Typed.pass T71 T72 (s69 bs) (Typed.pass T72 T73 (s70 bs) (Typed.pass T73 T75 (s72 bs) (Typed.pass T75 T77 (s74 bs) (Typed.pass T77 T79 (s76 bs) (Typed.pass T79 T81 (s78 bs) (Typed.pass T81 T83 (s80 bs) (Typed.pass T83 T85 (s82 bs) (Typed.both (s84 bs) (Typed.give (s85 bs) Ψ))))))))))))) (λ Ψ. Ψ) (Typed.g-post 𝓤 H A W 𝓣 E G68 G87 G88 b27 (λ Ψ. Typed.both (s66 bs) (Typed.pass T69 T70 (s67 bs) (Typed.pass T70 T71 (s68 bs) (Typed.pass T71 T72 (s69 bs) (Typed.pass T72 T73 (s70 bs) (Typed.pass T73 T75 (s72 bs) (Typed.pass T75 T77 (s74 bs) (Typed.pass T77 T79 (s76 bs) (Typed.pass T79 T81 (s78 bs) (Typed.pass T81 T83 (s80 bs) (Typed.pass T83 T85 (s82 bs) (Typed.both (s84 bs) Ψ)))))))))))) (Typed.give (s85 bs)) (Typed.g-post 𝓤 H A W 𝓣 E G68 G86 G87 b27 (λ Ψ. Typed.both (s66 bs) (Typed.pass T69 T70 (s67 bs) (Typed.pass T70 T71 (s68 bs) (Typed.pass T71 T72 (s69 bs) (Typed.pass T72 T73 (s70 bs) (Typed.pass T73 T75 (s72 bs) (Typed.pass T75 T77 (s74 bs) (Typed.pass T77 T79 (s76 bs) (Typed.pass T79 T81 (s78 bs) (Typed.pass T81 T83 (s80 bs) (Typed.pass T83 T85 (s82 bs) Ψ))))))))))) (Typed.both (s84 bs)) (Typed.g-post 𝓤 H A W 𝓣 E G68 G85 G86 b27 (λ Ψ. Typed.both (s66 bs) (Typed.pass T69 T70 (s67 bs) (Typed.pass T70 T71 (s68 bs) (Typed.pass T71 T72 (s69 bs) (Typed.pass T72 T73 (s70 bs) (Typed.pass T73 T75 (s72 bs) (Typed.pass T75 T77 (s74 bs) (Typed.pass T77 T79 (s76 bs) (Typed.pass T79 T81 (s78 bs) (Typed.pass T81 T83 (s80 bs) (Typed.pass T83 T85 (s82 bs) Ψ))))))))))) (λ Ψ. Ψ) (Typed.g-post 𝓤 H A W 𝓣 E G68 G84 G85 b27 (λ Ψ. Typed.both (s66 bs) (Typed.pass T69 T70 (s67 bs) (Typed.pass T70 T71 (s68 bs) (Typed.pass T71 T72 (s69 bs) (Typed.pass T72 T73 (s70 bs) (Typed.pass T73 T75 (s72 bs) (Typed.pass T75 T77 (s74 bs) (Typed.pass T77 T79 (s76 bs) (Typed.pass T79 T81 (s78 bs) (Typed.pass T81 T83 (s80 bs) Ψ)))))))))) (Typed.pass T83 T85 (s82 bs)) (Typed.g-post 𝓤 H A W 𝓣 E G68 G83 G84 b27 (λ Ψ. Typed.both (s66 bs) (Typed.pass T69 T70 (s67 bs) (Typed.pass T70 T71 (s68 bs) (Typed.pass T71 T72 (s69 bs) (Typed.pass T72 T73 (s70 bs) (Typed.pass T73 T75 (s72 bs) (Typed.pass T75 T77 (s74 bs) (Typed.pass T77 T79 (s76 bs) (Typed.pass T79 T81 (s78 bs) (Typed.pass T81 T83 (s80 bs) Ψ)))))))))) (λ Ψ. Ψ) (Typed.g-post 𝓤 H A W 𝓣 E G68 G82 G83 b27 (λ Ψ. Typed.both (s66 bs) (Typed.pass T69 T70 (s67 bs) (Typed.pass T70 T71 (s68 bs) (Typed.pass T71 T72 (s69 bs) (Typed.pass T72 T73 (s70 bs) (Typed.pass T73 T75 (s72 bs) (Typed.pass T75 T77 (s74 bs) (Typed.pass T77 T79 (s76 bs) (Typed.pass T79 T81 (s78 bs) Ψ))))))))) (Typed.pass T81 T83 (s80 bs)) (Typed.g-post 𝓤 H A W 𝓣 E G68 G81 G82 b27 (λ Ψ. Typed.both (s66 bs) (Typed.pass T69 T70 (s67 bs) (Typed.pass T70 T71 (s68 bs) (Typed.pass T71 T72 (s69 bs) (Typed.pass T72 T73 (s70 bs) (Typed.pass T73 T75 (s72 bs) (Typed.pass T75 T77 (s74 bs) (Typed.pass T77 T79 (s76 bs) (Typed.pass T79 T81 (s78 bs) Ψ))))))))) (λ Ψ. Ψ) (Typed.g-post 𝓤 H A W 𝓣 E G68 G80 G81 b27 (λ Ψ. Typed.both (s66 bs) (Typed.pass T69 T70 (s67 bs) (Typed.pass T70 T71 (s68 bs) (Typed.pass T71 T72 (s69 bs) (Typed.pass T72 T73 (s70 bs) (Typed.pass T73 T75 (s72 bs) (Typed.pass T75 T77 (s74 bs) (Typed.pass T77 T79 (s76 bs) Ψ)))))))) (Typed.pass T79 T81 (s78 bs)) (Typed.g-post 𝓤 H A W 𝓣 E G68 G79 G80 b27 (λ Ψ. Typed.both (s66 bs) (Typed.pass T69 T70 (s67 bs) (Typed.pass T70 T71 (s68 bs) (Typed.pass T71 T72 (s69 bs) (Typed.pass T72 T73 (s70 bs) (Typed.pass T73 T75 (s72 bs) (Typed.pass T75 T77 (s74 bs) (Typed.pass T77 T79 (s76 bs) Ψ)))))))) (λ Ψ. Ψ) (Typed.g-post 𝓤 H A W 𝓣 E G68 G78 G79 b27 (λ Ψ. Typed.both (s66 bs) (Typed.pass T69 T70 (s67 bs) (Typed.pass T70 T71 (s68 bs) (Typed.pass T71 T72 (s69 bs) (Typed.pass T72 T73 (s70 bs) (Typed.pass T73 T75 (s72 bs) (Typed.pass T75 T77 (s74 bs) Ψ))))))) (Typed.pass T77 T79 (s76 bs)) (Typed.g-post 𝓤 H A W 𝓣 E G68 G77 G78 b27 (λ Ψ. Typed.both (s66 bs) (Typed.pass T69 T70 (s67 bs) (Typed.pass T70 T71 (s68 bs) (Typed.pass T71 T72 (s69 bs) (Typed.pass T72 T73 (s70 bs) (Typed.pass T73 T75 (s72 bs) (Typed.pass T75 T77 (s74 bs) Ψ))))))) (λ Ψ. Ψ) (Typed.g-post 𝓤 H A W 𝓣 E G68 G76 G77 b27 (λ Ψ. Typed.both (s66 bs) (Typed.pass T69 T70 (s67 bs) (Typed.pass T70 T71 (s68 bs) (Typed.pass T71 T72 (s69 bs) (Typed.pass T72 T73 (s70 bs) (Typed.pass T73 T75 (s72 bs) Ψ)))))) (Typed.pass T75 T77 (s74 bs)) (Typed.g-post 𝓤 H A W 𝓣 E G68 G75 G76 b27 (λ Ψ. Typed.both (s66 bs) (Typed.pass T69 T70 (s67 bs) (Typed.pass T70 T71 (s68 bs) (Typed.pass T71 T72 (s69 bs) (Typed.pass T72 T73 (s70 bs) (Typed.pass T73 T75 (s72 bs) Ψ)))))) (λ Ψ. Ψ) (Typed.g-post 𝓤 H A W 𝓣 E G68 G74 G75 b27 (λ Ψ. Typed.both (s66 bs) (Typed.pass T69 T70 (s67 bs) (Typed.pass T70 T71 (s68 bs) (Typed.pass T71 T72 (s69 bs) (Typed.pass T72 T73 (s70 bs) Ψ))))) (Typed.pass T73 T75 (s72 bs)) (Typed.g-post 𝓤 H A W 𝓣 E G68 G73 G74 b27 (λ Ψ. Typed.both (s66 bs) (Typed.pass T69 T70 (s67 bs) (Typed.pass T70 T71 (s68 bs) (Typed.pass T71 T72 (s69 bs) (Typed.pass T72 T73 (s70 bs) Ψ))))) (λ Ψ. Ψ) (Typed.g-post 𝓤 H A W 𝓣 E G68 G72 G73 b27 (λ Ψ. Typed.both (s66 bs) (Typed.pass T69 T70 (s67 bs) (Typed.pass T70 T71 (s68 bs) (Typed.pass T71 T72 (s69 bs) Ψ)))) (Typed.pass T72 T73 (s70 bs)) (Typed.g-post 𝓤 H A W 𝓣 E G68 G71 G72 b27 (λ Ψ. Typed.both (s66 bs) (Typed.pass T69 T70 (s67 bs) (Typed.pass T70 T71 (s68 bs) Ψ))) (Typed.pass T71 T72 (s69 bs)) (Typed.g-post 𝓤 H A W 𝓣 E G68 G70 G71 b27 (λ Ψ. Typed.both (s66 bs) (Typed.pass T69 T70 (s67 bs) Ψ)) (Typed.pass T70 T71 (s68 bs)) (Typed.g-post 𝓤 H A W 𝓣 E G68 G69 G70 b27 (Typed.both (s66 bs)) (Typed.pass T69 T70 (s67 bs)) (Plain.t-call-plain 𝓤 H A W 𝓣 6 ps·2 r·2 (claims· .4) (claims· .5) "gate_searching::internal::search_loaded" (known .2) E (λ pos β. β) G68 (record { pos = 14; st = List.[]; d = 0; at = λ x. x }, (record { pos = 24; ty = Syntax.tyRef Syntax.erased Syntax.imm (Memory.pointee (T.the-row .written)); ref = λ x. x }, (record { pos = 26; ty = Syntax.tyRef Syntax.erased Syntax.imm (Syntax.tyInt Syntax.w16); ref = λ x. x }, (record { pos = 28; ty = Syntax.tyRef Syntax.erased Syntax.imm (Syntax.tyInt Syntax.w16); ref = λ x. x }, (Num.vAt 5 λ x. x, (record { pos = 30; ty = Syntax.tyRef Syntax.erased Syntax.mut (Syntax.tyInt Syntax.w8); ref = λ x. x }, (record { pos = 32; ty = Syntax.tyRef Syntax.erased Syntax.mut (Syntax.tyInt Syntax.w8); ref = λ x. x }, (record { pos = 34; ty = Syntax.tyRef Syntax.erased Syntax.mut (Syntax.tyInt Syntax.w8); ref = λ x. x }, tt)))))))) 22 (List._∷_ 10 (List._∷_ 11 (List._∷_ 12 (List._∷_ 13 (List._∷_ 14 (List._∷_ 15 List.[])))))) (Call.sub-id 𝓤 H A W (G68 .slots)) ((Yields.yields-copy 𝓤 H A W (λ ρ. Unit) (Declared'.row Size.the-type) Path'.refl (Copies.cStruct Size.the-type Laws''.the-laws Laws''.the-copy .copy 𝓤 H A W) (Rows'.whole (Declared'.row Size.the-type)) (λ x. x) (λ x. x) (λ ρ told. Local.mem-whole 𝓤 H A W (Declared'.row Size.the-type) ρ) λ ρ told. Local.whole-mem 𝓤 H A W (Declared'.row Size.the-type) ρ, Path'.refl), (ShrSlice.spares-sslice 𝓤 H A W T.the-row ty·15 10, Shared.reads-sslice 𝓤 H A W T.the-row ty·15 10, Path'.refl, (ShrSlice.spares-sslice 𝓤 H A W (Referent.rtF (Referent.fInt Syntax.w16)) ty·6 11, Shared.reads-sslice 𝓤 H A W (Referent.rtF (Referent.fInt Syntax.w16)) ty·6 11, Path'.refl, (ShrSlice.spares-sslice 𝓤 H A W (Referent.rtF (Referent.fInt Syntax.w16)) ty·6 12, Shared.reads-sslice 𝓤 H A W (Referent.rtF (Referent.fInt Syntax.w16)) ty·6 12, Path'.refl, ((Scalar.reads-sc 𝓤 H A W (Row.sInt Syntax.w64), Path'.refl), (Reads.as-is 𝓤 H A (Mut.mslice (Referent.rtF (Referent.fInt Syntax.w8)) ty·4 13), Mut.reads-mslice 𝓤 H A W (Referent.rtF (Referent.fInt Syntax.w8)) ty·4 13, Path'.refl, (Reads.as-is 𝓤 H A (Mut.mslice (Referent.rtF (Referent.fInt Syntax.w8)) ty·4 14), Mut.reads-mslice 𝓤 H A W (Referent.rtF (Referent.fInt Syntax.w8)) ty·4 14, Path'.refl, (Reads.as-is 𝓤 H A (Mut.mslice (Referent.rtF (Referent.fInt Syntax.w8)) ty·4 15), Mut.reads-mslice 𝓤 H A W (Referent.rtF (Referent.fInt Syntax.w8)) ty·4 15, Path'.refl, tt)))))))) (Reads.room-gone 𝓤 H A (Syntax.tyInt Syntax.w32)) (tt, (tt, (tt, (tt, (tt, (tt, tt)))))) Path'.refl) (Scalar.g-room 𝓤 H A W E G69 24 ty·26 (Shared.room-sslice 𝓤 H A W T.the-row ty·15 10))) (Scalar.g-room 𝓤 H A W E G70 26 ty·24 (Shared.room-sslice 𝓤 H A W (Referent.rtF (Referent.fInt Syntax.w16)) ty·6 11))) (Scalar.g-room 𝓤 H A W E G71 28 ty·24 (Shared.room-sslice 𝓤 H A W (Referent.rtF (Referent.fInt Syntax.w16)) ty·6 12))) (Scalar.g-room 𝓤 H A W E G72 14 ty·27 (Local.room-whole 𝓤 H A W (Declared'.row Size.the-type) ty·27 Path'.refl))) (Lifetime.g-end 𝓤 H A W E G73 10 Path'.refl)) (Share.g-back-arr-shr 𝓤 H A W E T.the-row G74 9 1024 10 (λ x. x) (Reads.as-is 𝓤 H A (Rows.arr-shr T.the-row 1024 10)) Path'.refl)) (Lifetime.g-forget 𝓤 H A W E G75 10 Row.dead Path'.refl)) (Scalar.g-room 𝓤 H A W E G76 9 ty·2 (Init.room-arr 𝓤 H A W T.the-row 1024 0 1024 Path'.refl))) (Lifetime.g-end 𝓤 H A W E G77 11 Path'.refl)) (Share.g-back-arr-shr 𝓤 H A W E (Referent.rtF (Referent.fInt Syntax.w16)) G78 10 4096 11 (λ x. x) (Reads.as-is 𝓤 H A (Rows.arr-shr (Referent.rtF (Referent.fInt Syntax.w16)) 4096 11)) Path'.refl)) (Lifetime.g-forget 𝓤 H A W E G79 11 Row.dead Path'.refl)) (Scalar.g-room 𝓤 H A W E G80 10 ty·0 (Init.room-arr 𝓤 H A W (Referent.rtF (Referent.fInt Syntax.w16)) 4096 0 4096 Path'.refl))) (Lifetime.g-end 𝓤 H A W E G81 12 Path'.refl)) (Share.g-back-arr-shr 𝓤 H A W E (Referent.rtF (Referent.fInt Syntax.w16)) G82 11 16384 12 (λ x. x) (Reads.as-is 𝓤 H A (Rows.arr-shr (Referent.rtF (Referent.fInt Syntax.w16)) 16384 12)) Path'.refl)) (Lifetime.g-forget 𝓤 H A W E G83 12 Row.dead Path'.refl)) (Scalar.g-room 𝓤 H A W E G84 11 ty·1 (Init.room-arr 𝓤 H A W (Referent.rtF (Referent.fInt Syntax.w16)) 16384 0 16384 Path'.refl))) (Lifetime.g-end 𝓤 H A W E G85 13 Path'.refl)) (Relend.g-back-sl 𝓤 H A W E (Referent.rtF (Referent.fInt Syntax.w8)) G86 30 6 4 13 ty·11 ty·4 (Row.lease (κs .1 .1 .1 .1 .0) (qs .1 .1 .1 .1 .0)) (λ x. x) (λ x. x) (Reads.as-is 𝓤 H A (Mut.msleft (Referent.rtF (Referent.fInt Syntax.w8)) ty·4)) (Reads.as-is 𝓤 H A (Relend.mslice-owed (Referent.rtF (Referent.fInt Syntax.w8)) ty·11 4 13 (Row.lease (κs .1 .1 .1 .1 .0) (qs .1 .1 .1 .1 .0)))) Path'.refl Path'.refl)) (Know.g-sl-known 𝓤 H A W (Referent.fInt Syntax.w8) E G87 6 4 ty·11 (Row.lease (κs .1 .1 .1 .1 .0) (qs .1 .1 .1 .1 .0)) 0 (λ x. x) record { fits = Dec'.lit< tt } (Reads.as-is 𝓤 H A (Mut.mslice (Referent.rtF (Referent.fInt Syntax.w8)) ty·11 4)) Path'.refl tt)) (Lifetime.g-forget 𝓤 H A W E G88 13 Row.dead Path'.refl)) (Lifetime.g-end 𝓤 H A W E G89 14 Path'.refl)) (Relend.g-back-sl 𝓤 H A W E (Referent.rtF (Referent.fInt Syntax.w8)) G90 32 7 5 14 ty·12 ty·4 (Row.lease (κs .1 .1 .1 .1 .1 .0) (qs .1 .1 .1 .1 .1 .0)) (λ x. x) (λ x. x) (Reads.as-is 𝓤 H A (Mut.msleft (Referent.rtF (Referent.fInt Syntax.w8)) ty·4)) (Reads.as-is 𝓤 H A (Relend.mslice-owed (Referent.rtF (Referent.fInt Syntax.w8)) ty·12 5 14 (Row.lease (κs .1 .1 .1 .1 .1 .0) (qs .1 .1 .1 .1 .1 .0)))) Path'.refl Path'.refl)) (Know.g-sl-known 𝓤 H A W (Referent.fInt Syntax.w8) E G91 7 5 ty·12 (Row.lease (κs .1 .1 .1 .1 .1 .0) (qs .1 .1 .1 .1 .1 .0)) 0 (λ x. x) record { fits = Dec'.lit< tt } (Reads.as-is 𝓤 H A (Mut.mslice (Referent.rtF (Referent.fInt Syntax.w8)) ty·12 5)) Path'.refl tt)) (Lifetime.g-forget 𝓤 H A W E G92 14 Row.dead Path'.refl)) (Lifetime.g-end 𝓤 H A W E G93 15 Path'.refl)) (Relend.g-back-sl 𝓤 H A W E (Referent.rtF (Referent.fInt Syntax.w8)) G94 34 8 6 15 ty·13 ty·4 (Row.lease (κs .1 .1 .1 .1 .1 .1 .0) (qs .1 .1 .1 .1 .1 .1 .0)) (λ x. x) (λ x. x) (Reads.as-is 𝓤 H A (Mut.msleft (Referent.rtF (Referent.fInt Syntax.w8)) ty·4)) (Reads.as-is 𝓤 H A (Relend.mslice-owed (Referent.rtF (Referent.fInt Syntax.w8)) ty·13 6 15 (Row.lease (κs .1 .1 .1 .1 .1 .1 .0) (qs .1 .1 .1 .1 .1 .1 .0)))) Path'.refl Path'.refl)) (Know.g-sl-known 𝓤 H A W (Referent.fInt Syntax.w8) E G95 8 6 ty·13 (Row.lease (κs .1 .1 .1 .1 .1 .1 .0) (qs .1 .1 .1 .1 .1 .1 .0)) 0 (λ x. x) record { fits = Dec'.lit< tt } (Reads.as-is 𝓤 H A (Mut.mslice (Referent.rtF (Referent.fInt Syntax.w8)) ty·13 6)) Path'.refl tt)) (Lifetime.g-forget 𝓤 H A W E G96 15 Row.dead Path'.refl))
 
           d9 : Typed.Typed 𝓤 H A 𝓣 E G67 b28 Δ1 (at9 bs)
           d9 = Typed.s-seq 𝓤 H A W 𝓣 E G67 G68 b26 b27 Δ1 (Typed.ask (s65 bs)) (at8 bs) (Relend.t-sl-aggregate 𝓤 H A W E (Referent.rtF (Referent.fInt Syntax.w8)) 𝓣 (Relend.asMut (Referent.rtF (Referent.fInt Syntax.w8))) G67 33 34 15 ty·4 ty·4 (λ x. x) (Scalar.oFld 8 (List._∷_ (Syntax.field 1) List.[]) (Syntax.tyInt Syntax.w64) 8 λ v. Shared.lenV (v .0)) (Reads.as-is 𝓤 H A (Relend.msptr (Referent.rtF (Referent.fInt Syntax.w8)) ty·4 15)) (Reads.room-gone 𝓤 H A ty·22) (Relend.reads-owed-len 𝓤 H A W (Referent.rtF (Referent.fInt Syntax.w8)) ty·13 6 15 (Row.lease (κs .1 .1 .1 .1 .1 .1 .0) (qs .1 .1 .1 .1 .1 .1 .0)) 8 Path'.refl, Path'.refl) Path'.refl Path'.refl λ b o k. tt) d8
@@ -1741,7 +1741,7 @@ module _ (claims· : Claims) where
           d41 = Typed.t-return 𝓤 H A W 𝓣 E Δ0 tt
 
           d42 : Typed.Typed 𝓤 H A 𝓣 E G99 b43 Δ0 (at42 bs)
-          d42 = Typed.g-pre 𝓤 H A W 𝓣 E G99 G100 b43 Δ0 (Typed.pass T99 T100 (s97 bs)) (at41 bs) (Scalar.g-room 𝓤 H A W E G99 5 (Syntax.tyInt Syntax.w16) (Scalar.room-sc 𝓤 H A W (Row.sInt Syntax.w16))) d41
+          d42 = Typed.g-pre 𝓤 H A W 𝓣 E G99 G100 b43 Δ0 (Typed.pass T99 T100 (s97 bs)) (at41 bs) (Scalar.g-room 𝓤 H A W E G99 5 (Syntax.tyInt Syntax.w64) (Scalar.room-sc 𝓤 H A W (Row.sInt Syntax.w64))) d41
 
           d43 : Typed.Typed 𝓤 H A 𝓣 E G98 b43 Δ0 (at43 bs)
           d43 = Typed.g-pre 𝓤 H A W 𝓣 E G98 G99 b43 Δ0 (Typed.pass T98 T99 (s96 bs)) (at42 bs) (Scalar.g-room 𝓤 H A W E G98 22 (Syntax.tyInt Syntax.w32) (Scalar.room-sc 𝓤 H A W (Row.sInt Syntax.w32))) d42
@@ -1839,7 +1839,7 @@ module _ (claims· : Claims) where
           pub rows : Kinds.Den {n = 7} κs (ShrSlice.pShrS (Referent.rtF (Referent.fInt Syntax.w8)) 1 tt)
           pub firsts : Kinds.Den {n = 7} κs (ShrSlice.pShrS (Referent.rtF (Referent.fInt Syntax.w8)) 2 tt)
           pub outcomes : Kinds.Den {n = 7} κs (ShrSlice.pShrS (Referent.rtF (Referent.fInt Syntax.w8)) 3 tt)
-          pub start : Kinds.Den {n = 7} κs (Num.pNum Syntax.w16)
+          pub start : Kinds.Den {n = 7} κs (Num.pNum Syntax.w64)
           pub commands : Kinds.Den {n = 7} κs (MutSlice.pMutS (Referent.rtF (Referent.fInt Syntax.w8)) 4 tt)
           pub scratch : Kinds.Den {n = 7} κs (MutSlice.pMutS (Referent.rtF (Referent.fInt Syntax.w8)) 5 tt)
           pub answer : Kinds.Den {n = 7} κs (MutSlice.pMutS (Referent.rtF (Referent.fInt Syntax.w8)) 6 tt)
@@ -1849,7 +1849,7 @@ module _ (claims· : Claims) where
 
         module _ (args· : Args) where
           pub record Ranges : Type 0 where
-            pub start : Val.Fits Syntax.w16 (args· .start)
+            pub start : Val.Fits Syntax.w64 (args· .start)
 
       abbrev pub m0 : (κs : Lifetimes.Lfts 7) → (args : Args κs) → (blocks : List.List Nat.ℕ) → Typed.Mo T0
       m0 = λ κs args blocks. (tt, Enter.partsP κs 1 ps xs (dens κs args))
