@@ -33,13 +33,15 @@ proofs: tools
 	mkdir -p target
 	rt check gate list >target/proofs.log 2>&1 || { cat target/proofs.log; exit 1; }
 
-# The listing program on every example; then on zero bytes, refused past the limit (8), at the limit by their first tag (3), and where there are none (1).
-list-test: target/bin/list
+# The listing program on every example; on zero bytes, refused past the limit (8), at the limit by their first tag (3), and where there are none (1);
+# and where it cannot read or write.
+list-test: tools target/bin/list
 	for p in examples/*.plan; do target/bin/list <$$p | cmp - $${p%.plan}.listing || exit 1; done
 	for c in 65537:8 65536:3 0:1; do \
 	    echo "refused $${c#*:}" >target/refused; \
 	    head -c $${c%:*} /dev/zero | target/bin/list | cmp - target/refused || { echo "list-test: $${c%:*} zero bytes" >&2; exit 1; }; \
 	done
+	python3 -B tests/list_errors.py target/bin/list
 
 # What the tests need beside the Rattle kit.
 tools:
