@@ -5,8 +5,9 @@
 # make compare   hold the C library to a planner of its own, in Rust, byte for byte over COUNT inputs made from SEED
 # make bench     time the two beside each other
 # make rows      check that every machine-made proof file is what tools/rows makes (some minutes)
+# make trace     check that all that docs/TRACE.md names is there
 
-.PHONY: run test tools proofs list-test lib c-test compare bench rows
+.PHONY: run test tools proofs list-test lib c-test compare bench rows trace
 .SILENT:
 
 PLAN = examples/case-a.plan
@@ -22,7 +23,7 @@ target/bin/list: $(SOURCES)
 	rt check list >target/list.log 2>&1 || { cat target/list.log; exit 1; }
 	touch $@
 
-test: tools proofs c-test compare list-test
+test: tools trace proofs c-test compare list-test
 	cd tests && python3 -B bench_plans.py --check && python3 -B examples.py --check
 	rt fmt --check
 	python3 -B tools/rows --check tables load store
@@ -88,3 +89,6 @@ bench: tools $(LIB)
 
 rows: tools
 	python3 -B tools/rows --check
+
+trace: tools
+	python3 -B tools/trace
