@@ -7,7 +7,8 @@ column of a table, in its head and between tables is checked; the left column ha
     `name` of `PATH`                likewise
     `name` in `PATH`, `PATH`        it is used in each; after the word contract, defined there
     `name` of `crate::function`     a parameter of the function, or a clause of its contract
-    `name` in the contract of `crate::function`   it is used there
+    `name` in the contract of `crate::function`
+                                    it is used there
     `name` of `crate`               a public function of the crate
     the crates `a` and `b`          also: the program `a`
     the Makefile's `a`, `make a`    a target
