@@ -88,8 +88,8 @@ static void unsound(size_t start)
     EXPECT(&t, GATE_UNSOUND);
 }
 
-/* Whole words: what a number has above its low 16 bits, or above its low 32. */
-static const size_t words[] = { (size_t)1 << 16, (size_t)3 << 16, (size_t)1 << 32, (size_t)1 << 63, SIZE_MAX - 0xFFFF };
+/* What a start can have above its low 16 bits. */
+static const size_t high[] = { (size_t)1 << 16, (size_t)3 << 16, (size_t)1 << 32, (size_t)1 << 63, SIZE_MAX - 0xFFFF };
 
 /* Starts from n on, those among them that would be a state if the call dropped their higher bits. */
 static void test_strangers(const struct tables *p)
@@ -97,9 +97,9 @@ static void test_strangers(const struct tables *p)
     const size_t beyond[] = { p->n, p->n + 1, 256, NO, SIZE_MAX };
     for (size_t i = 0; i < sizeof beyond / sizeof *beyond; i++)
         stranger(p, beyond[i]);
-    for (size_t i = 0; i < sizeof words / sizeof *words; i++)
+    for (size_t i = 0; i < sizeof high / sizeof *high; i++)
         for (size_t s = 0; s < p->n; s++)
-            stranger(p, words[i] + s);
+            stranger(p, high[i] + s);
 }
 
 static void test_unsound(void)
