@@ -5,8 +5,9 @@
 # make compare   hold the C library to a planner of its own, in Rust, byte for byte over COUNT inputs made from SEED
 # make bench     time the two beside each other
 # make rows      check that every machine-made proof file is what tools/rows makes (some minutes)
+# make trace     check that all that docs/TRACE.md names is there
 
-.PHONY: run test tools proofs list-test lib c-test compare bench rows
+.PHONY: run test tools proofs list-test lib c-test compare bench rows trace
 .SILENT:
 
 PLAN = examples/case-a.plan
@@ -22,7 +23,7 @@ target/bin/list: $(SOURCES)
 	rt check list >target/list.log 2>&1 || { cat target/list.log; exit 1; }
 	touch $@
 
-test: tools proofs c-test compare list-test
+test: tools trace proofs c-test compare list-test
 	cd tests && python3 -B bench_plans.py --check && python3 -B examples.py --check
 	rt fmt --check
 	python3 -B tools/rows --check tables load store
@@ -33,13 +34,15 @@ proofs: tools
 	mkdir -p target
 	rt check gate list >target/proofs.log 2>&1 || { cat target/proofs.log; exit 1; }
 
-# The listing program on every example; then on zero bytes, refused past the limit (8), at the limit by their first tag (3), and where there are none (1).
-list-test: target/bin/list
+# The listing program on every example; on zero bytes, refused past the limit (8), at the limit by their first tag (3), and where there are none (1);
+# and where it cannot read or write.
+list-test: tools target/bin/list
 	for p in examples/*.plan; do target/bin/list <$$p | cmp - $${p%.plan}.listing || exit 1; done
 	for c in 65537:8 65536:3 0:1; do \
 	    echo "refused $${c#*:}" >target/refused; \
 	    head -c $${c%:*} /dev/zero | target/bin/list | cmp - target/refused || { echo "list-test: $${c%:*} zero bytes" >&2; exit 1; }; \
 	done
+	python3 -B tests/list_errors.py target/bin/list
 
 # What the tests need beside the Rattle kit.
 tools:
@@ -86,3 +89,6 @@ bench: tools $(LIB)
 
 rows: tools
 	python3 -B tools/rows --check
+
+trace: tools
+	python3 -B tools/trace

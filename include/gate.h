@@ -98,7 +98,7 @@ enum {
     GATE_LIMIT = 8,     /* more than 4,096 commands or 16,384 outcomes so far */
     GATE_CRAMPED = 9,   /* a slice that the call writes is too short */
     GATE_UNSOUND = 10,  /* size, rows, firsts and outcomes are not what some file gives, or one of them is too short */
-    GATE_STRANGER = 11  /* the start named in the call is not below n */
+    GATE_STRANGER = 11  /* the start named in the call is not below n, however large a number it is */
 };
 
 /*
@@ -157,7 +157,8 @@ uint32_t gate_decide(const uint8_t *size, size_t size_length,
  * Searches from one state: the verdict that gate_decide would give for it, and the commands on the way.
  *
  *   size, rows, firsts, outcomes   in   the plan, as gate_read gave it
- *   start     in    the state to judge; the plan's own start (the last entry of size) does not matter here
+ *   start     in    the state to judge. No bit of it is dropped: 65,539 is no name for state 3, and is refused. The plan's own start (the
+ *                   last entry of size) does not matter here.
  *   commands  out   GATE_STATES_BYTES(n): if the start is safe, the commands that hold it, at the states that they can lead to: they
  *                   are those of gate_decide. GATE_NONE at every other state, and everywhere if the start is lost, failing, rest or
  *                   without commands.
@@ -170,7 +171,7 @@ uint32_t gate_search(const uint8_t *size, size_t size_length,
                      const uint8_t *rows, size_t rows_length,
                      const uint8_t *firsts, size_t firsts_length,
                      const uint8_t *outcomes, size_t outcomes_length,
-                     uint16_t start,
+                     size_t start,
                      uint8_t *commands, size_t commands_length,
                      uint8_t *scratch, size_t scratch_length,
                      uint8_t *answer, size_t answer_length);

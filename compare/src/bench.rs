@@ -17,7 +17,7 @@ const BATCH: Duration = Duration::from_micros(400);
 struct Buffers {
     file: Vec<u8>,
     tables: [Vec<u8>; 4],
-    start: u16,
+    start: usize,
     places: [Vec<u8>; 4],
     tally: Vec<u8>,
     answer: Vec<u8>,
@@ -29,7 +29,7 @@ impl Buffers {
         Buffers {
             file: held.file(),
             tables: table_bytes(held),
-            start: held.size.start as u16,
+            start: held.size.start,
             places: [places(), places(), places(), places()],
             tally: vec![0; 12],
             answer: vec![0; 4],

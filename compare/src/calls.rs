@@ -5,7 +5,7 @@ use crate::planner::boundary::{self, DecideBytes, PlanBytes, ReadBytes, SearchBy
 pub trait Calls {
     fn read(&mut self, file: &[u8], out: ReadBytes) -> u32;
     fn decide(&mut self, plan: PlanBytes, out: DecideBytes) -> u32;
-    fn search(&mut self, plan: PlanBytes, start: u16, out: SearchBytes) -> u32;
+    fn search(&mut self, plan: PlanBytes, start: usize, out: SearchBytes) -> u32;
 }
 
 pub struct Library;
@@ -19,7 +19,7 @@ impl Calls for Library {
         gate::decide(plan, out)
     }
 
-    fn search(&mut self, plan: PlanBytes, start: u16, out: SearchBytes) -> u32 {
+    fn search(&mut self, plan: PlanBytes, start: usize, out: SearchBytes) -> u32 {
         gate::search(plan, start, out)
     }
 }
@@ -45,7 +45,7 @@ impl Calls for Peer {
         boundary::gate_decide(plan, out, &mut self.space)
     }
 
-    fn search(&mut self, plan: PlanBytes, start: u16, out: SearchBytes) -> u32 {
+    fn search(&mut self, plan: PlanBytes, start: usize, out: SearchBytes) -> u32 {
         boundary::gate_search(plan, start, out, &mut self.space)
     }
 }

@@ -18,7 +18,7 @@ const SEARCH: [&str; 7] = [
 #[derive(Clone)]
 pub struct Case {
     pub call: usize,
-    pub start: u16,
+    pub start: usize,
     pub lent: Vec<Lent>,
 }
 

@@ -46,7 +46,7 @@ extern "C" {
         firsts_len: usize,
         outcomes: *const u8,
         outcomes_len: usize,
-        start: u16,
+        start: usize,
         commands: *mut u8,
         commands_len: usize,
         scratch: *mut u8,
@@ -117,7 +117,7 @@ pub fn decide(plan: PlanBytes, out: DecideBytes) -> u32 {
     }
 }
 
-pub fn search(plan: PlanBytes, start: u16, out: SearchBytes) -> u32 {
+pub fn search(plan: PlanBytes, start: usize, out: SearchBytes) -> u32 {
     // SAFETY: as in `read`.
     unsafe {
         gate_search(

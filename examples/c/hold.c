@@ -56,14 +56,14 @@ static int hold(size_t length)
                     sizeof commands, marks, sizeof marks, scratch, sizeof scratch, tally, sizeof tally);
     if (r != GATE_OK)
         return refused("deciding", r);
-    uint16_t start = GATE_ENTRY(size, 3);
+    size_t start = GATE_ENTRY(size, 3);
     r = gate_search(size, sizeof size, rows, sizeof rows, firsts, sizeof firsts, outcomes, sizeof outcomes, start, walked, sizeof walked,
                     scratch, sizeof scratch, answer, sizeof answer);
     if (r != GATE_OK)
         return refused("the search", r);
     for (unsigned s = 0; s < GATE_ENTRY(size, 0); s++)
         print_state(s);
-    printf("start %u: %s, rounds %u\n", (unsigned)start, GATE_ENTRY(answer, 0) == GATE_LOST ? "lost" : "safe", (unsigned)GATE_ENTRY(answer, 1));
+    printf("start %zu: %s, rounds %u\n", start, GATE_ENTRY(answer, 0) == GATE_LOST ? "lost" : "safe", (unsigned)GATE_ENTRY(answer, 1));
     return 0;
 }
 

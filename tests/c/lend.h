@@ -28,7 +28,7 @@ struct slice {
 struct trial {
     const char *name;
     uint32_t (*call)(const struct trial *trial, uint8_t *const *bytes);
-    uint16_t start; /* for the search */
+    size_t start; /* for the search */
     size_t slices;
     struct slice slice[SLICES];
 };

@@ -15,6 +15,10 @@ static void test_kind(uint16_t last_kind)
     VARY(&reading);
     VARY(&deciding);
     VARY(&searching);
+    searching.start = GATE_MAX_STATES;
+    EXPECT(&searching, GATE_STRANGER);
+    searching.start = 65536 + GATE_MAX_STATES - 1;
+    EXPECT(&searching, GATE_STRANGER);
 }
 
 /* The last state with commands announces a fifth: 4,097 in all. Nothing behind its field is looked at. */

@@ -1,5 +1,7 @@
 #include "trials.h"
 
+#include <stdio.h>
+
 enum { SIZE, ROWS, FIRSTS, OUTCOMES, COMMANDS, SCRATCH, ANSWER };
 
 static uint32_t call(const struct trial *t, uint8_t *const *bytes)
@@ -26,7 +28,8 @@ struct trial search_trial(const struct tables *p)
 
 /* Case A from each of its states, worked out by hand. The failing state is 4; known states are named after each round. */
 static const struct {
-    uint16_t start, answer[2], walked[SMALL_STATES];
+    size_t start;
+    uint16_t answer[2], walked[SMALL_STATES];
 } starts[] = {
     { 0, { GATE_SAFE, 2 }, { 0, 0, NO, NO, NO, NO } },    /* round 1 takes practice 1 of state 0, and marks 3; round 2 takes 0 */
     { 1, { GATE_SAFE, 2 }, { 0, 0, NO, NO, NO, NO } },    /* the same walk, begun at 1 */
@@ -52,25 +55,58 @@ static void test_starts(void)
     }
 }
 
-/* A start not below n: after 10, before 9. The size record's own start is part of the plan. */
-static void test_strangers(void)
+/* A start that is no state: 11, also where a slice to be written is short, but 10 where one of the plan's is. */
+static void stranger(const struct tables *p, size_t start)
+{
+    struct trial t = search_trial(p);
+    char name[128];
+    snprintf(name, sizeof name, "%s from %zu", p->name, start);
+    t.name = name;
+    t.start = start;
+    EXPECT(&t, GATE_STRANGER);
+    for (size_t i = 0; i < t.slices; i++) {
+        struct trial other = t;
+        struct slice *s = &other.slice[i];
+        if (s->count == 0)
+            continue;
+        s->length = s->count - 1;
+        EXPECT(&other, s->refusal == GATE_UNSOUND ? GATE_UNSOUND : GATE_STRANGER);
+    }
+}
+
+/* No start makes up for tables that are no plan's, here by the size record's own start, nor does room matter then. */
+static void unsound(size_t start)
 {
     struct plan altered = plans[0];
-    altered.size[3] = 6;
-    struct image image = image_of(&plans[0]), bad = image_of(&altered);
-    struct tables tables = tables_of(&plans[0], &image), worse = tables_of(&plans[0], &bad);
-    struct trial t = search_trial(&tables), u = search_trial(&worse);
-    EXPECT(&u, GATE_UNSOUND);
-    static const uint16_t strangers[] = { 6, 7, 256, NO };
-    for (size_t i = 0; i < sizeof strangers / sizeof *strangers; i++) {
-        t.start = u.start = strangers[i];
-        t.slice[COMMANDS].length = u.slice[COMMANDS].length = t.slice[COMMANDS].count;
-        EXPECT(&t, GATE_STRANGER);
-        EXPECT(&u, GATE_UNSOUND);
-        t.slice[COMMANDS].length = u.slice[COMMANDS].length = 0;
-        EXPECT(&t, GATE_STRANGER);
-        EXPECT(&u, GATE_UNSOUND);
-    }
+    altered.size[3] = SMALL_STATES;
+    struct image image = image_of(&altered);
+    struct tables tables = tables_of(&plans[0], &image);
+    struct trial t = search_trial(&tables);
+    t.start = start;
+    EXPECT(&t, GATE_UNSOUND);
+    t.slice[COMMANDS].length = t.slice[SCRATCH].length = t.slice[ANSWER].length = 0;
+    EXPECT(&t, GATE_UNSOUND);
+}
+
+/* What a start can have above its low 16 bits. */
+static const size_t high[] = { (size_t)1 << 16, (size_t)3 << 16, (size_t)1 << 32, (size_t)1 << 63, SIZE_MAX - 0xFFFF };
+
+/* Starts from n on, those among them that would be a state if the call dropped their higher bits. */
+static void test_strangers(const struct tables *p)
+{
+    const size_t beyond[] = { p->n, p->n + 1, 256, NO, SIZE_MAX };
+    for (size_t i = 0; i < sizeof beyond / sizeof *beyond; i++)
+        stranger(p, beyond[i]);
+    for (size_t i = 0; i < sizeof high / sizeof *high; i++)
+        for (size_t s = 0; s < p->n; s++)
+            stranger(p, high[i] + s);
+}
+
+static void test_unsound(void)
+{
+    static const size_t named[] = { 0, SMALL_STATES, NO, 65536, 65539, SIZE_MAX };
+    for (size_t i = 0; i < sizeof named / sizeof *named; i++)
+        unsound(named[i]);
 }
 
 void test_search(void)
@@ -80,7 +116,8 @@ void test_search(void)
         struct tables tables = tables_of(&plans[i], &image);
         struct trial trial = search_trial(&tables);
         VARY(&trial);
+        test_strangers(&tables);
     }
     test_starts();
-    test_strangers();
+    test_unsound();
 }

@@ -8,8 +8,7 @@
 /* A plan of n states, m commands and t outcomes, small or large: where its bytes are. */
 struct tables {
     const char *name;
-    size_t n, m, t;
-    uint16_t start;
+    size_t n, m, t, start;
     const uint8_t *file, *size, *rows, *firsts, *outcomes;
     const uint8_t *ranks, *commands, *marks, *scratch, *tally;
     const uint8_t *answer, *walked;

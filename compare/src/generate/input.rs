@@ -10,7 +10,7 @@ pub struct Input {
     pub file: Vec<u8>,
     /// Size record, rows, first outcomes and outcomes.
     pub tables: [Vec<u8>; 4],
-    pub start: u16,
+    pub start: usize,
     /// What the slices hold that are written.
     pub salt: usize,
     /// The bytes of reading's four slices, deciding's five and the search's three.
@@ -86,14 +86,24 @@ fn resize_tables(tables: &mut [Vec<u8>; 4], random: &mut Random) {
     }
 }
 
-fn any_start(held: &Held, random: &mut Random) -> u16 {
-    let n = held.size.n;
-    let start = match random.below(8) {
-        0 => random.pick(&[n, n + 1, 1023, 1024, 0x7FFF, 0xFFFF]),
-        1..=3 => random.below(n),
-        _ => held.size.start,
+/// No state, but one if its higher bits are dropped.
+fn wide_start(n: usize, random: &mut Random) -> usize {
+    let high = match random.below(3) {
+        0 => random.pick(&[1, 2, 0xFFFF, 1 << 16, 1 << 47, usize::MAX >> 16]),
+        1 => random.within(1, 0xFFFF),
+        _ => random.within(1, usize::MAX >> 16),
     };
-    start as u16
+    (high << 16) + random.below(n)
+}
+
+fn any_start(held: &Held, random: &mut Random) -> usize {
+    let n = held.size.n;
+    match random.below(10) {
+        0 => random.pick(&[n, n + 1, 1023, 1024, 0x7FFF, 0xFFFF, 0x10000, usize::MAX]),
+        1 => wide_start(n, random),
+        2..=4 => random.below(n),
+        _ => held.size.start,
+    }
 }
 
 /// Most plans are small; the first inputs are those at the limits.

@@ -129,13 +129,13 @@ fn decide_into(bytes: PlanBytes, out: DecideBytes, space: &mut Space) -> Result<
 
 fn search_into(
     bytes: PlanBytes,
-    start: u16,
+    start: usize,
     out: SearchBytes,
     space: &mut Space,
 ) -> Result<(), Refusal> {
     let plan = lent(bytes, &mut space.tables)?;
     let n = plan.size.n;
-    need(usize::from(start) < n, Refusal::Stranger)?;
+    need(start < n, Refusal::Stranger)?;
     let long = out.commands.len() / 2 >= n && out.scratch.len() / 2 >= n;
     need(long && out.answer.len() >= ANSWER_BYTES, Refusal::Cramped)?;
     let commands = &mut space.commands[..n];
@@ -154,6 +154,6 @@ pub fn gate_decide(plan: PlanBytes, out: DecideBytes, space: &mut Space) -> u32 
     code(decide_into(plan, out, space))
 }
 
-pub fn gate_search(plan: PlanBytes, start: u16, out: SearchBytes, space: &mut Space) -> u32 {
+pub fn gate_search(plan: PlanBytes, start: usize, out: SearchBytes, space: &mut Space) -> u32 {
     code(search_into(plan, start, out, space))
 }

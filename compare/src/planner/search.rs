@@ -77,19 +77,18 @@ fn walk(plan: &Plan, start: u16, round: u16, commands: &mut [u16], space: &mut S
 }
 
 /// Searches a sound plan from a state of it; the table has n places.
-pub fn search(plan: &Plan, start: u16, commands: &mut [u16], space: &mut Space) -> Found {
-    let s = usize::from(start);
-    let (first, end) = plan.commands(s);
+pub fn search(plan: &Plan, start: usize, commands: &mut [u16], space: &mut Space) -> Found {
+    let (first, end) = plan.commands(start);
     if first == end {
         commands.fill(NONE);
-        let lost = plan.rows[s].kind == FAILING;
+        let lost = plan.rows[start].kind == FAILING;
         return Found { lost, rounds: 0 };
     }
     space.begin(plan);
     let mut rounds = 0;
     loop {
         rounds += 1;
-        walk(plan, start, rounds, commands, space);
+        walk(plan, start as u16, rounds, commands, space);
         if space.marked.is_empty() {
             return Found {
                 lost: false,
@@ -99,7 +98,7 @@ pub fn search(plan: &Plan, start: u16, commands: &mut [u16], space: &mut Space) 
         for &state in &space.marked {
             space.known[usize::from(state)] = true;
         }
-        if space.known[s] {
+        if space.known[start] {
             commands.fill(NONE);
             return Found { lost: true, rounds };
         }

@@ -70,7 +70,7 @@ fn decided(plan: &Plan) -> Decided {
 fn searched(plan: &Plan, start: usize) -> (bool, u16, Vec<u16>) {
     let mut commands = vec![7; plan.size.n];
     let space = &mut search::Space::new();
-    let Found { lost, rounds } = search::search(plan, start as u16, &mut commands, space);
+    let Found { lost, rounds } = search::search(plan, start, &mut commands, space);
     (lost, rounds, commands)
 }
 
