@@ -81,6 +81,8 @@ def split_source(crate, file, text):
             ensures += word.startswith("ensures")
             if not is_clause(lines[i]):
                 head.append(word)
+            while is_clause(word) and not lines[i].rstrip().endswith("}"):
+                i += 1
             i += 1
         if lines[i].strip() != "{":
             head.append(lines[i].strip()[:-1].strip())
