@@ -1,1 +1,3 @@
-pub mod Again
+pub mod RowReads
+pub mod FileTrip
+pub mod TablesTrip

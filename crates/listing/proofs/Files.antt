@@ -5,55 +5,51 @@ use mathlib.Core.List.{List}
 use Prim.Native.Nat.{ℕ, _<_, _≤_}
 use native.Mathlib.Nat.{zero-add}
 use native.Mathlib.Omega.{arith}
-use lib.ListN.{length, take}
+use lib.ListN.{length, take, length-map}
 use borrow.Author.Tests.{lt-ltb, le-ltb}
 use Rattle.laws.specs.Lists.{overwrite}
 use Rattle.laws.specs.Wrote.{Wrote}
 use Rattle.laws.proofs.Lists.{take-overwrite}
 use Rattle.laws.proofs.Writes.{put-front}
 use Rattle.laws.proofs.Wrote.{wrote-length}
-use Rattle.model.specs.Refusal.{Limit, answer}
+use Rattle.model.specs.Refusal.{Limit}
 use Rattle.model.specs.File.{read}
 use Rattle.model.specs.Tables.{Size as ModelSize, Tables}
 use Rattle.model.specs.Held.{treeOf}
 use Rattle.model.specs.SoundTest.{sound}
-use Rattle.model.specs.Calls.{left}
+use Rattle.model.specs.Calls.{reading, AfterRead, readCall}
 use Rattle.model.specs.Listing.{refusalText, planText, answerText, listing}
 use Rattle.model.proofs.ListingLength.{listing-length}
 use Rattle.model.proofs.ReadPlans.{reads-plan, refuses-file}
 use Rattle.tables.specs.declared.Row.{Row}
 use Rattle.tables.specs.declared.Size.{Size}
 use Rattle.tables.specs.declared.Refusal.{Refusal}
-use Rattle.tables.specs.Meaning.{numbers, refusalOf, rowsOf, held}
+use Rattle.tables.specs.Meaning.{numbers, refusalOf, rowOf, rowsOf, held}
 use Rattle.reading.specs.declared.ReadAnswer.{ReadAnswer}
 use Rattle.reading.specs.declared.ReadAnswer.the-variants.{Given, Refused}
-use Rattle.reading.specs.Meaning.{answerOf, readInto}
+use Rattle.reading.specs.Meaning.{answerOf, afterRead}
 use Rattle.reading.proofs.Passing.{refused-inv}
-use Rattle.reading.proofs.Leaves.{read-rows, leaves-held}
+use Rattle.reading.proofs.Leaves.{answered, leaves}
 
--- by the clauses of the reading's contract, the answer r first
-module _ (file : List ℕ) (rows : List Row) (firsts outcomes : List ℕ) (r : ReadAnswer)
-    (e : answerOf r ≡ answer (λ T. T .size) (readInto rows firsts outcomes file)) where
-  pub plan-read : (rows′ : List Row) {firsts′ outcomes′ : List ℕ} (z : Size) → r ≡ Given z
-      → rowsOf rows′ ≡ left (λ T. T .rows) (readInto rows firsts outcomes file) (rowsOf rows)
-      → firsts′ ≡ left (λ T. T .firsts) (readInto rows firsts outcomes file) firsts
-      → outcomes′ ≡ left (λ T. T .outcomes) (readInto rows firsts outcomes file) outcomes
+-- by the equation of the reading's contract
+module _ (file : List ℕ) (rows : List Row) (firsts outcomes : List ℕ) (r : ReadAnswer) (rows′ : List Row) (firsts′ outcomes′ : List ℕ)
+    (e : afterRead r rows′ firsts′ outcomes′ ≡ readCall file (rowsOf rows) firsts outcomes) where
+  pub plan-read : (z : Size) → r ≡ Given z
       → (sound (held z rows′ firsts′ outcomes′) ≡ true) × (answerText (read file) ≡ planText (treeOf (held z rows′ firsts′ outcomes′)))
   unfolding answerText
-  plan-read rows′ z q er ef eo =
-      let given-size = ap (answer (λ T. T .size)) (sym (read-rows file rows firsts outcomes)) ∙ sym e ∙ ap answerOf q in
-      let (sounds, reads) = reads-plan file (rowsOf rows) firsts outcomes (numbers z) given-size in
-      rw (ef, eo)
-      (subst (λ (T : Tables). (sound T ≡ true) × (answerText (read file) ≡ planText (treeOf T))) (sym (leaves-held file rows firsts outcomes rows′ er z))
-      (sounds, ap answerText reads))
+  plan-read z q =
+      let (sounds, reads) = reads-plan file (rowsOf rows) firsts outcomes (numbers z) (answered file rows firsts outcomes r rows′ firsts′ outcomes′ e z q) in
+      subst (λ (T : Tables). (sound T ≡ true) × (answerText (read file) ≡ planText (treeOf T))) (sym (leaves file rows firsts outcomes r rows′ firsts′ outcomes′ e z))
+      (sounds, ap answerText reads)
 
   pub refusal-read : (w : Refusal) → r ≡ Refused w → 1024 ≤ length rows → 4096 ≤ length firsts → 16384 ≤ length outcomes
       → answerText (read file) ≡ refusalText (refusalOf w)
   unfolding answerText
   refusal-read w q lr lf lo =
       let size : Tables → ModelSize = λ T. T .size in
-      ap answerText (refuses-file (length rows) (length firsts) (length outcomes) lr lf lo file (refusalOf w)
-      (refused-inv size (readInto rows firsts outcomes file) (sym e ∙ ap answerOf q)))
+      let long : 1024 ≤ length (rowsOf rows) = rw (length-map rows rowOf) lr in
+      ap answerText (refuses-file (length (rowsOf rows)) (length firsts) (length outcomes) long lf lo file (refusalOf w)
+      (refused-inv size (reading (length (rowsOf rows)) (length firsts) (length outcomes) file) (ap (λ (x : AfterRead). x .answers) (sym e) ∙ ap answerOf q)))
 
 module _ (input : List ℕ) where
   pub over-limit : 65536 < length input → listing input ≡ refusalText Limit

@@ -9,7 +9,7 @@ use lib.ListN.{length, drop, length-drop, length-append, length-map}
 use lib.Seq.{drop-drop}
 use borrow.Author.Tests.{le-leb, leb-true}
 use Rattle.laws.specs.Entry.{be16}
-use Rattle.laws.specs.Lists.{joined}
+use Rattle.laws.specs.Lists.{joined, overwrite}
 use Rattle.laws.specs.Writes.{putAll}
 use Rattle.laws.proofs.Joins.{length-joined}
 use Rattle.laws.proofs.Loops.{stopped, passed}
@@ -18,7 +18,7 @@ use Rattle.laws.proofs.Writes.{put-front}
 use Rattle.model.specs.Refusal.{Refusal as ModelRefusal, Answer, Cramped, given, refused, answer, need, _>>=_, _>>_}
 use Rattle.model.specs.File.{State, Tree, maxCommands, maxOutcomes, read}
 use Rattle.model.specs.Tables.{Size as ModelSize, Row as ModelRow, Tables, allCommands, rowsFrom, firstsFrom, tablesOf}
-use Rattle.model.specs.Calls.{reading, left}
+use Rattle.model.specs.Calls.{reading, left, AfterRead, readCall}
 use Rattle.tables.specs.declared.Row.{Row}
 use Rattle.tables.specs.declared.Size.{Size}
 use Rattle.tables.specs.Meaning.{rowOf, rowsOf, numbers}
@@ -68,12 +68,19 @@ length-rows m (s ∷ ss) = ap suc (length-rows (m + length (s .commands)) ss)
 abbrev pub sizeOf : Tree → ModelSize
 sizeOf p = tablesOf p .size
 
--- after a refusal each table is as it was
-pub unchanged : (x : Answer Tables) {r : ModelRefusal} (rows : List Row) (firsts outs : List ℕ) → x ≡ refused r
-    → (refused r ≡ answer (λ T. T .size) x)
-    × ((rowsOf rows ≡ left (λ T. T .rows) x (rowsOf rows)) × ((firsts ≡ left (λ T. T .firsts) x firsts) × (outs ≡ left (λ T. T .outcomes) x outs)))
-unfolding answer left
-unchanged x rows firsts outs e = rw e (refl, (refl, (refl, refl)))
+module _ (file : List ℕ) (rows : List Row) (firsts outs : List ℕ) where
+  -- after a refusal each table is as it was
+  pub unchanged : {r : ModelRefusal} → reading (length rows) (length firsts) (length outs) file ≡ refused r
+      → record { answers = refused r; rows = rowsOf rows; firsts = firsts; outcomes = outs } ≡ readCall file (rowsOf rows) firsts outs
+  unfolding answer left
+  unchanged e = rw (length-map rows rowOf, e) refl
+
+  -- after an answer each begins with what was read
+  written : (T : Tables) → reading (length rows) (length firsts) (length outs) file ≡ given T
+      → record { answers = given (T .size); rows = overwrite (T .rows) (rowsOf rows); firsts = overwrite (T .firsts) firsts; outcomes = overwrite (T .outcomes) outs }
+      ≡ readCall file (rowsOf rows) firsts outs
+  unfolding answer left
+  written T e = rw (length-map rows rowOf, e) refl
 
 pub no-plan : (R F O : ℕ) (file : List ℕ) {r : ModelRefusal} → answer sizeOf (read file) ≡ refused r → reading R F O file ≡ refused r
 unfolding reading _>>=_
@@ -144,28 +151,22 @@ module _ (file : List ℕ) (z : ModelSize) (e : answer sizeOf (read file) ≡ gi
       → rows′ ≡ putAll (rowsOf rows) 0 (rowsFrom 0 (statesIn (z .n) (drop 7 file)))
       → firsts′ ≡ putAll firsts 0 (firstsFrom 0 (allCommands (statesIn (z .n) (drop 7 file))))
       → outs′ ≡ putAll outs 0 (joined (allCommands (statesIn (z .n) (drop 7 file))))
-      → let x : Answer Tables = reading (length rows) (length firsts) (length outs) file in
-      (given z ≡ answer (λ T. T .size) x)
-      × ((rows′ ≡ left (λ T. T .rows) x (rowsOf rows)) × ((firsts′ ≡ left (λ T. T .firsts) x firsts) × (outs′ ≡ left (λ T. T .outcomes) x outs)))
-  unfolding answer left tablesOf
-  filled rows firsts outs a b c er ef eo =
+      → record { answers = given z; rows = rows′; firsts = firsts′; outcomes = outs′ } ≡ readCall file (rowsOf rows) firsts outs
+  unfolding tablesOf
+  filled rows firsts outs {rows′} {firsts′} {outs′} a b c er ef eo =
       let ss : List State = plan .0 .states in
       let t = stands in
-      let q : reading (length rows) (length firsts) (length outs) file ≡ given (tablesOf (plan .0))
-      = roomy (length rows) (length firsts) (length outs) a b c in
-      rw q (
-        ap given (sym (plan .2)),
-        (
-          er ∙ ap (λ (y : List State). putAll (rowsOf rows) 0 (rowsFrom 0 y)) (t .is)
-              ∙ put-front (rowsOf rows) (rowsFrom 0 ss) (omega (arith, t .rows, length-rows 0 ss, length-map rows rowOf)),
-          (
-            ef ∙ ap (λ (y : List State). putAll firsts 0 (firstsFrom 0 (allCommands y))) (t .is)
-                ∙ put-front firsts (firstsFrom 0 (allCommands ss)) (omega (arith, t .firsts, length-firsts 0 (allCommands ss))),
-            eo ∙ ap (λ (y : List State). putAll outs 0 (joined (allCommands y))) (t .is)
-                ∙ put-front outs (joined (allCommands ss)) (omega (arith, t .outcomes)),
-          ),
-        ),
-      )
+      let in-rows : rows′ ≡ overwrite (rowsFrom 0 ss) (rowsOf rows)
+      = er ∙ ap (λ (y : List State). putAll (rowsOf rows) 0 (rowsFrom 0 y)) (t .is)
+      ∙ put-front (rowsOf rows) (rowsFrom 0 ss) (omega (arith, t .rows, length-rows 0 ss, length-map rows rowOf)) in
+      let in-firsts : firsts′ ≡ overwrite (firstsFrom 0 (allCommands ss)) firsts
+      = ef ∙ ap (λ (y : List State). putAll firsts 0 (firstsFrom 0 (allCommands y))) (t .is)
+      ∙ put-front firsts (firstsFrom 0 (allCommands ss)) (omega (arith, t .firsts, length-firsts 0 (allCommands ss))) in
+      let in-outs : outs′ ≡ overwrite (joined (allCommands ss)) outs
+      = eo ∙ ap (λ (y : List State). putAll outs 0 (joined (allCommands y))) (t .is)
+      ∙ put-front outs (joined (allCommands ss)) (omega (arith, t .outcomes)) in
+      (λ i. record { answers = given (sym (plan .2) i); rows = in-rows i; firsts = in-firsts i; outcomes = in-outs i })
+      ∙ written file rows firsts outs (tablesOf (plan .0)) (roomy (length rows) (length firsts) (length outs) a b c)
 
 -- ---- the test of the tables' lengths, where the rows were counted
 

@@ -6,10 +6,10 @@ use lib.ListN.{length, drop}
 use Rattle.laws.specs.Lists.{joined}
 use Rattle.model.specs.Refusal.{Answer, given, refused}
 use Rattle.model.specs.File.{State, Tree, maxCommands, maxOutcomes}
-use Rattle.model.specs.Tables.{Size as ModelSize, Tables, allCommands, tablesOf}
-use Rattle.model.specs.Calls.{reading}
+use Rattle.model.specs.Tables.{Size as ModelSize, allCommands, tablesOf}
+use Rattle.model.specs.Calls.{AfterRead}
 use Rattle.tables.specs.declared.Row.{Row}
-use Rattle.tables.specs.Meaning.{refusalOf, numbers}
+use Rattle.tables.specs.Meaning.{refusalOf, numbers, rowsOf}
 use Rattle.reading.specs.declared.ReadAnswer.{ReadAnswer}
 use Rattle.reading.specs.declared.bytes.Mark.{Mark}
 use Rattle.reading.specs.declared.frame.Passed.{Passed}
@@ -18,9 +18,9 @@ abbrev pub answerOf : ReadAnswer → Answer ModelSize
 answerOf (ReadAnswer.Given z) = given (numbers z)
 answerOf (ReadAnswer.Refused r) = refused (refusalOf r)
 
--- a file read into these tables
-abbrev pub readInto : List Row → List ℕ → List ℕ → List ℕ → Answer Tables
-readInto rows firsts outcomes file = reading (length rows) (length firsts) (length outcomes) file
+-- what is answered, and what the lent tables hold then
+abbrev pub afterRead : ReadAnswer → List Row → List ℕ → List ℕ → AfterRead
+afterRead r rows firsts outcomes = record { answers = answerOf r; rows = rowsOf rows; firsts = firsts; outcomes = outcomes }
 
 abbrev pub moved : Mark → ℕ → Mark
 moved k bytes = record { at = k .at + bytes; m = k .m; t = k .t }

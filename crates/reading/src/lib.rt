@@ -2,10 +2,9 @@
 ghost use mathlib.Core.Path.{_≡_};
 ghost use mathlib.Core.Bool.{_&&_};
 ghost use lib.Dec.{leb};
-ghost use Rattle.model.specs.Refusal.{answer};
-ghost use Rattle.model.specs.Calls.{left};
+ghost use Rattle.model.specs.Calls.{readCall};
 ghost use Rattle.tables.specs.Meaning.{rowsOf};
-ghost use Rattle.reading.specs.Meaning.{answerOf, readInto};
+ghost use Rattle.reading.specs.Meaning.{afterRead};
 use tables::Refusal;
 use tables::Row;
 use tables::Size;
@@ -40,10 +39,8 @@ fn long_enough(size: Size, rows: usize, firsts: usize, outcomes: usize) -> bool
 // Reads a file into lent tables. A refusal leaves each table as it was. Ruled out: refusing a file that can be read, and answering a size
 // record while a table is not written.
 pub fn read(file: &[u8], rows: &mut [Row], firsts: &mut [u16], outcomes: &mut [u16]) -> ReadAnswer
-    ensures answer { λ r. ⌜ answerOf r ≡ answer (λ T. T .size) (readInto (now (rows .entry)) (now (firsts .entry)) (now (outcomes .entry)) (now (file .entry))) ⌝ }
-    ensures rows { λ r. ⌜ rowsOf (now (rows .exit)) ≡ left (λ T. T .rows) (readInto (now (rows .entry)) (now (firsts .entry)) (now (outcomes .entry)) (now (file .entry))) (rowsOf (now (rows .entry))) ⌝ }
-    ensures firsts { λ r. ⌜ now (firsts .exit) ≡ left (λ T. T .firsts) (readInto (now (rows .entry)) (now (firsts .entry)) (now (outcomes .entry)) (now (file .entry))) (now (firsts .entry)) ⌝ }
-    ensures outcomes { λ r. ⌜ now (outcomes .exit) ≡ left (λ T. T .outcomes) (readInto (now (rows .entry)) (now (firsts .entry)) (now (outcomes .entry)) (now (file .entry))) (now (outcomes .entry)) ⌝ }
+    ensures call { λ r. ⌜ afterRead r (now (rows .exit)) (now (firsts .exit)) (now (outcomes .exit))
+        ≡ readCall (now (file .entry)) (rowsOf (now (rows .entry))) (now (firsts .entry)) (now (outcomes .entry)) ⌝ }
 {
     let s = scan::scan(file);
     let ReadAnswer::Given(size) = s else {

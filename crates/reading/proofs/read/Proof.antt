@@ -22,7 +22,7 @@ returns : tie.Need-returns
 returns c =
     let a = c .before .before .before .before .before .before .args in
     rw (c .enum-told .given .1)
-    (unchanged _ (a .rows .now) (a .firsts .now) (a .outcomes .now)
+    (unchanged (a .file .now) (a .rows .now) (a .firsts .now) (a .outcomes .now)
     (no-plan (length (a .rows .now)) (length (a .firsts .now)) (length (a .outcomes .now)) (a .file .now) (sym (c .before .before .scan .ensures) ∙ ap answerOf (c .enum-told .given .1))))
 
 row-count-requires : tie.Need-row-count-requires
@@ -37,7 +37,7 @@ same-length c = search needs
 returns-2 : tie.Need-returns-2
 returns-2 c =
     let a = c .before .before .before .before .before .before .before .before .before .before .before .args in
-    unchanged _ (a .rows .now) (a .firsts .now) (a .outcomes .now)
+    unchanged (a .file .now) (a .rows .now) (a .firsts .now) (a .outcomes .now)
     (cramped (c .before .before .before .before .before .s .given .0 .0) (a .rows .now) (length (a .firsts .now)) (length (a .outcomes .now)) (c .before .before .row-count .ensures) (c .before .long-enough .ensures) (a .file .now) (sym (c .before .before .before .before .before .before .before .scan .ensures) ∙ ap answerOf (c .before .before .before .before .before .s .given .1)) (c .if1 .taken))
 
 fill-states-requires : tie.Need-fill-states-requires

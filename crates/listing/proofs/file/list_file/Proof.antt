@@ -21,11 +21,9 @@ enum-known-r-2 c = search needs
 list-plan-requires : tie.Need-list-plan-requires
 list-plan-requires c κs =
     let a = c .before .before .before .before .before .before .before .before .before .before .before .before .before .before .before .before .before .before .before .before .args in
-    let e = c .before .before .before .before .before .before .before .before .before .before .before .before .read .ensures in
-    let known = c .before .before .before .before .before .r2 .given in (
-      plan-read (a .file .now) (a .rows .now) (a .firsts .now) (a .outcomes .now) (c .before .before .before .before .before .before .before .before .before .before .before .before .read .result) (e .0) (c .before .before .before .before .before .before .before .before .before .before .before .before .read .last .1 .0) (known .0 .0) (known .1) (e .1 .0) (e .1 .1 .0) (e .1 .1 .1) .0,
-      c .before .before .before .before .before .before .before .before .before .before .before .before .before .before .before .before .before .before .before .before .pre .3,
-    )
+    let reads = c .before .before .before .before .before .before .before .before .before .before .before .before .read in
+    let known = c .before .before .before .before .before .r2 .given in
+    (plan-read (a .file .now) (a .rows .now) (a .firsts .now) (a .outcomes .now) _ (reads .last .1 .0) _ _ (reads .ensures) (known .0 .0) (known .1) .0, c .before .before .before .before .before .before .before .before .before .before .before .before .before .before .before .before .before .before .before .before .pre .3)
 
 same-length : tie.Need-same-length
 same-length c = search needs
@@ -43,7 +41,8 @@ returns : tie.Need-returns
 returns c =
     let a = c .before .before .before .before .before .before .before .before .before .before .before .before .before .before .before .before .before .before .before .before .args in
     let pre = c .before .before .before .before .before .before .before .before .before .before .before .before .before .before .before .before .before .before .before .before .pre in
-    rw (refusal-read (a .file .now) (a .rows .now) (a .firsts .now) (a .outcomes .now) (c .before .before .before .before .before .before .before .before .before .before .before .before .read .result) (c .before .before .before .before .before .before .before .before .before .before .before .before .read .ensures .0) _ (c .before .before .before .before .before .r .given .1) (pre .0) (pre .1) (pre .2))
+    let reads = c .before .before .before .before .before .before .before .before .before .before .before .before .read in
+    rw (refusal-read (a .file .now) (a .rows .now) (a .firsts .now) (a .outcomes .now) _ (reads .last .1 .0) _ _ (reads .ensures) _ (c .before .before .before .before .before .r .given .1) (pre .0) (pre .1) (pre .2))
     (c .before .before .put-refusal .ensures .0)
 
 same-length-5 : tie.Need-same-length-5
@@ -61,9 +60,9 @@ same-length-8 c = search needs
 returns-2 : tie.Need-returns-2
 returns-2 c =
     let a = c .before .before .before .before .before .before .before .before .before .before .before .before .before .before .before .before .before .before .before .before .before .before .before .args in
-    let e = c .before .before .before .before .before .before .before .before .before .before .before .before .before .before .before .read .ensures in
+    let reads = c .before .before .before .before .before .before .before .before .before .before .before .before .before .before .before .read in
     let known = c .before .before .before .before .before .before .before .before .r2 .given in
-    rw (plan-read (a .file .now) (a .rows .now) (a .firsts .now) (a .outcomes .now) (c .before .before .before .before .before .before .before .before .before .before .before .before .before .before .before .read .result) (e .0) (c .before .before .before .before .before .before .before .before .before .before .before .before .before .before .before .read .last .1 .0) (known .0 .0) (known .1) (e .1 .0) (e .1 .1 .0) (e .1 .1 .1) .1)
+    rw (plan-read (a .file .now) (a .rows .now) (a .firsts .now) (a .outcomes .now) _ (reads .last .1 .0) _ _ (reads .ensures) (known .0 .0) (known .1) .1)
     (c .before .before .list-plan .ensures)
 
 pub list-file-spec : {M : Type 1} → statement M

@@ -1,0 +1,3 @@
+-- Made by tools/rows.
+pub mod ReadWrite
+pub mod WriteRead
