@@ -1,6 +1,9 @@
 // The calls of the gate controller's C program, on numbers and byte slices (include/gate.h). An entry is two bytes, highest first.
 ghost use mathlib.Core.Path.{_≡_};
-ghost use Rattle.model.specs.Boundary.{tablesIn, gateReadCall, gateDecideCall, gateSearchCall};
+ghost use Rattle.model.specs.Refusal.{given};
+ghost use Rattle.model.specs.Tables.{Tables};
+ghost use Rattle.model.specs.Demand3.{DecidingDemand3, SearchDemand3};
+ghost use Rattle.model.specs.Boundary.{entriesIn, verdictIn, roundsIn, tablesIn, gateReadCall, gateDecideCall, gateSearchCall};
 
 // Reads a plan file. Ruled out: 0 for a file that is not all written, and a slice altered by a refusal.
 #[no_mangle]
@@ -11,11 +14,10 @@ pub extern "C" fn gate_read(
     firsts: &mut [u8],
     outcomes: &mut [u8],
 ) -> u32
-    ensures returns { λ r. ⌜ r ≡ gateReadCall (now (file .entry)) (now (size .entry)) (now (rows .entry)) (now (firsts .entry)) (now (outcomes .entry)) .returns ⌝ }
-    ensures size { λ r. ⌜ now (size .exit) ≡ gateReadCall (now (file .entry)) (now (size .entry)) (now (rows .entry)) (now (firsts .entry)) (now (outcomes .entry)) .size ⌝ }
-    ensures rows { λ r. ⌜ now (rows .exit) ≡ gateReadCall (now (file .entry)) (now (size .entry)) (now (rows .entry)) (now (firsts .entry)) (now (outcomes .entry)) .rows ⌝ }
-    ensures firsts { λ r. ⌜ now (firsts .exit) ≡ gateReadCall (now (file .entry)) (now (size .entry)) (now (rows .entry)) (now (firsts .entry)) (now (outcomes .entry)) .firsts ⌝ }
-    ensures outcomes { λ r. ⌜ now (outcomes .exit) ≡ gateReadCall (now (file .entry)) (now (size .entry)) (now (rows .entry)) (now (firsts .entry)) (now (outcomes .entry)) .outcomes ⌝ }
+    ensures call { λ r. ⌜
+        gateReadCall (now (file .entry)) (now (size .entry)) (now (rows .entry)) (now (firsts .entry)) (now (outcomes .entry))
+        ≡ record { returns = r; size = now (size .exit); rows = now (rows .exit); firsts = now (firsts .exit); outcomes = now (outcomes .exit) }
+        ⌝ }
 {
     gate_reading::internal::read_call(file, size, rows, firsts, outcomes)
 }
@@ -33,12 +35,22 @@ pub extern "C" fn gate_decide(
     scratch: &mut [u8],
     tally: &mut [u8],
 ) -> u32
-    ensures returns { λ r. ⌜ r ≡ gateDecideCall (tablesIn (now (size .entry)) (now (rows .entry)) (now (firsts .entry)) (now (outcomes .entry))) (now (ranks .entry)) (now (commands .entry)) (now (marks .entry)) (now (scratch .entry)) (now (tally .entry)) .returns ⌝ }
-    ensures ranks { λ _. ⌜ now (ranks .exit) ≡ gateDecideCall (tablesIn (now (size .entry)) (now (rows .entry)) (now (firsts .entry)) (now (outcomes .entry))) (now (ranks .entry)) (now (commands .entry)) (now (marks .entry)) (now (scratch .entry)) (now (tally .entry)) .ranks ⌝ }
-    ensures commands { λ _. ⌜ now (commands .exit) ≡ gateDecideCall (tablesIn (now (size .entry)) (now (rows .entry)) (now (firsts .entry)) (now (outcomes .entry))) (now (ranks .entry)) (now (commands .entry)) (now (marks .entry)) (now (scratch .entry)) (now (tally .entry)) .commands ⌝ }
-    ensures marks { λ _. ⌜ now (marks .exit) ≡ gateDecideCall (tablesIn (now (size .entry)) (now (rows .entry)) (now (firsts .entry)) (now (outcomes .entry))) (now (ranks .entry)) (now (commands .entry)) (now (marks .entry)) (now (scratch .entry)) (now (tally .entry)) .marks ⌝ }
-    ensures scratch { λ _. ⌜ now (scratch .exit) ≡ gateDecideCall (tablesIn (now (size .entry)) (now (rows .entry)) (now (firsts .entry)) (now (outcomes .entry))) (now (ranks .entry)) (now (commands .entry)) (now (marks .entry)) (now (scratch .entry)) (now (tally .entry)) .scratch ⌝ }
-    ensures tally { λ _. ⌜ now (tally .exit) ≡ gateDecideCall (tablesIn (now (size .entry)) (now (rows .entry)) (now (firsts .entry)) (now (outcomes .entry))) (now (ranks .entry)) (now (commands .entry)) (now (marks .entry)) (now (scratch .entry)) (now (tally .entry)) .tally ⌝ }
+    ensures call { λ r. ⌜
+        (let lent = tablesIn (now (size .entry)) (now (rows .entry)) (now (firsts .entry)) (now (outcomes .entry)) in
+        gateDecideCall lent (now (ranks .entry)) (now (commands .entry)) (now (marks .entry)) (now (scratch .entry)) (now (tally .entry))
+        ≡ record {
+          returns = r;
+          ranks = now (ranks .exit);
+          commands = now (commands .exit);
+          marks = now (marks .exit);
+          scratch = now (scratch .exit);
+          tally = now (tally .exit);
+        })
+        ⌝ }
+    ensures demand3 { λ r. ⌜
+        (let lent = tablesIn (now (size .entry)) (now (rows .entry)) (now (firsts .entry)) (now (outcomes .entry)) in
+        (T : Tables) → lent ≡ given T → r ≡ 0 → DecidingDemand3 T (entriesIn (now (ranks .exit))) (entriesIn (now (commands .exit))))
+        ⌝ }
 {
     gate_deciding::internal::decide_call(
         size,
@@ -53,22 +65,28 @@ pub extern "C" fn gate_decide(
     )
 }
 
-// Searches from one start. Ruled out: a verdict for want of room, and a count of rounds that were not walked.
+// Searches from one start, any number. Ruled out: a verdict for want of room, and a count of rounds that were not walked.
 #[no_mangle]
 pub extern "C" fn gate_search(
     size: &[u8],
     rows: &[u8],
     firsts: &[u8],
     outcomes: &[u8],
-    start: u16,
+    start: usize,
     commands: &mut [u8],
     scratch: &mut [u8],
     answer: &mut [u8],
 ) -> u32
-    ensures returns { λ r. ⌜ r ≡ gateSearchCall (tablesIn (now (size .entry)) (now (rows .entry)) (now (firsts .entry)) (now (outcomes .entry))) start (now (commands .entry)) (now (scratch .entry)) (now (answer .entry)) .returns ⌝ }
-    ensures commands { λ _. ⌜ now (commands .exit) ≡ gateSearchCall (tablesIn (now (size .entry)) (now (rows .entry)) (now (firsts .entry)) (now (outcomes .entry))) start (now (commands .entry)) (now (scratch .entry)) (now (answer .entry)) .commands ⌝ }
-    ensures scratch { λ _. ⌜ now (scratch .exit) ≡ gateSearchCall (tablesIn (now (size .entry)) (now (rows .entry)) (now (firsts .entry)) (now (outcomes .entry))) start (now (commands .entry)) (now (scratch .entry)) (now (answer .entry)) .scratch ⌝ }
-    ensures answer { λ _. ⌜ now (answer .exit) ≡ gateSearchCall (tablesIn (now (size .entry)) (now (rows .entry)) (now (firsts .entry)) (now (outcomes .entry))) start (now (commands .entry)) (now (scratch .entry)) (now (answer .entry)) .answer ⌝ }
+    ensures call { λ r. ⌜
+        (let lent = tablesIn (now (size .entry)) (now (rows .entry)) (now (firsts .entry)) (now (outcomes .entry)) in
+        gateSearchCall lent start (now (commands .entry)) (now (scratch .entry)) (now (answer .entry))
+        ≡ record { returns = r; commands = now (commands .exit); scratch = now (scratch .exit); answer = now (answer .exit) })
+        ⌝ }
+    ensures demand3 { λ r. ⌜
+        (let lent = tablesIn (now (size .entry)) (now (rows .entry)) (now (firsts .entry)) (now (outcomes .entry)) in
+        (T : Tables) → lent ≡ given T → r ≡ 0
+        → SearchDemand3 T start (verdictIn (now (answer .exit))) (roundsIn (now (answer .exit))) (entriesIn (now (commands .exit))))
+        ⌝ }
 {
     gate_searching::internal::search_call(
         size,

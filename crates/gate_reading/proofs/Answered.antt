@@ -9,8 +9,8 @@ use Rattle.laws.proofs.Overwrites.{overwrite-holds, overwrite-long}
 use Rattle.model.specs.Refusal.{Answer, given, answer, number}
 use Rattle.model.specs.File.{maxStates, maxCommands, maxOutcomes}
 use Rattle.model.specs.Tables.{Size as ModelSize, Row as ModelRow, Tables}
-use Rattle.model.specs.Calls.{left}
-use Rattle.model.specs.Boundary.{bytesFor, rowEntries, sizeEntries, code, gateRead}
+use Rattle.model.specs.Calls.{AfterRead, left, readCall}
+use Rattle.model.specs.Boundary.{bytesFor, rowEntries, sizeEntries, code, gateRead, gateReadCall, sizeBytes}
 use Rattle.model.proofs.Answers.{answer-inv}
 use Rattle.model.proofs.Gating.{Gated, gate-read-size, gate-read-inv}
 use Rattle.tables.specs.declared.Row.{Row}
@@ -19,9 +19,9 @@ use Rattle.tables.specs.declared.Refusal.{Refusal}
 use Rattle.tables.specs.Meaning.{rowOf, rowsOf, numbers, refusalOf}
 use Rattle.reading.specs.declared.ReadAnswer.{ReadAnswer}
 use Rattle.reading.specs.declared.ReadAnswer.the-variants.{Given, Refused}
-use Rattle.reading.specs.Meaning.{answerOf, readInto}
+use Rattle.reading.specs.Meaning.{answerOf, afterRead}
 use Rattle.reading.proofs.Passing.{refused-inv}
-use Rattle.gate_reading.specs.Lent.{admitted}
+use Rattle.gate_reading.specs.Lent.{admitted, afterGateRead}
 
 module _ (file : List ℕ) (states : List Row) (commands entries size rows firsts outcomes : List ℕ)
     (limits : (maxStates ≤ length states) × (maxCommands ≤ length commands) × (maxOutcomes ≤ length entries)) where
@@ -30,35 +30,31 @@ module _ (file : List ℕ) (states : List Row) (commands entries size rows first
 
   -- what the call returns and leaves
   abbrev pub Leaves : ℕ → List ℕ → List ℕ → List ℕ → List ℕ → Type 0
-  Leaves r size′ rows′ firsts′ outcomes′ =
-      (r ≡ code gate)
-      × ((size′ ≡ left (λ T. bytesFor (sizeEntries (T .size))) gate size)
-      × ((rows′ ≡ left (λ T. bytesFor (rowEntries (T .rows))) gate rows)
-      × ((firsts′ ≡ left (λ T. bytesFor (T .firsts)) gate firsts)
-      × (outcomes′ ≡ left (λ T. bytesFor (T .outcomes)) gate outcomes))))
+  Leaves r size′ rows′ firsts′ outcomes′ = afterGateRead r size′ rows′ firsts′ outcomes′ ≡ gateReadCall file size rows firsts outcomes
+
+  -- the tables' limits, for rows as the model has them
+  all-rows : maxStates ≤ length (rowsOf states)
+  all-rows = omega (arith, limits .0, length-map states rowOf)
 
   module _ (plan admission : ReadAnswer) (states′ : List Row) {commands′ entries′ : List ℕ}
-      (reads : (answerOf plan ≡ answer (λ T. T .size) (readInto states commands entries file))
-      × ((rowsOf states′ ≡ left (λ T. T .rows) (readInto states commands entries file) (rowsOf states))
-      × ((commands′ ≡ left (λ T. T .firsts) (readInto states commands entries file) commands)
-      × (entries′ ≡ left (λ T. T .outcomes) (readInto states commands entries file) entries))))
+      (reads : afterRead plan states′ commands′ entries′ ≡ readCall file (rowsOf states) commands entries)
       (admits : answerOf admission ≡ admitted (answerOf plan) (length size) (length rows) (length firsts) (length outcomes)) where
     answers : answerOf admission ≡ answer (λ T. T .size) gate
     answers =
         admits
-        ∙ ap (λ (a : Answer ModelSize). admitted a (length size) (length rows) (length firsts) (length outcomes)) (reads .0)
-        ∙ sym (gate-read-size file (limits .0) (limits .1) (limits .2) (length size) (length rows) (length firsts) (length outcomes))
+        ∙ ap (λ (a : Answer ModelSize). admitted a (length size) (length rows) (length firsts) (length outcomes)) (ap (λ (x : AfterRead). x .answers) reads)
+        ∙ sym (gate-read-size file all-rows (limits .1) (limits .2) (length size) (length rows) (length firsts) (length outcomes))
 
     pub refuses : {w : Refusal} {r : ℕ} → admission ≡ Refused w → r ≡ number (refusalOf w) → Leaves r size rows firsts outcomes
     unfolding left code
-    refuses told e = let q = refused-inv (λ T. T .size) gate (sym answers ∙ ap answerOf told) in rw q (e, (refl, (refl, (refl, refl))))
+    refuses told e = let q = refused-inv (λ T. T .size) gate (sym answers ∙ ap answerOf told) in rw (q, e)
 
     module _ {z : Size} (told : admission ≡ Given z) where
       tables : (T : Tables) × (gate ≡ given T) × (T .size ≡ numbers z)
       tables = answer-inv (λ T. T .size) gate (numbers z) (sym answers ∙ ap answerOf told)
 
-      gated : Gated file (limits .0) (limits .1) (limits .2) (length size) (length rows) (length firsts) (length outcomes) (tables .0)
-      gated = gate-read-inv file (limits .0) (limits .1) (limits .2) (length size) (length rows) (length firsts) (length outcomes) (tables .0) (tables .1)
+      gated : Gated file all-rows (limits .1) (limits .2) (length size) (length rows) (length firsts) (length outcomes) (tables .0)
+      gated = gate-read-inv file all-rows (limits .1) (limits .2) (length size) (length rows) (length firsts) (length outcomes) (tables .0) (tables .1)
 
       -- the tables' counts are those of the size record
       n-is : tables .0 .size .n ≡ z .n
@@ -73,15 +69,15 @@ module _ (file : List ℕ) (states : List Row) (commands entries size rows first
       -- what was read into each table
       in-states : (rowsOf states′ ≡ overwrite (tables .0 .rows) (rowsOf states)) × (length (tables .0 .rows) ≡ z .n)
       unfolding left
-      in-states = (rw (gated .reads) at (reads .1 .0), gated .small .rows ∙ n-is)
+      in-states = (rw (gated .reads) at (ap (λ (x : AfterRead). x .rows) reads), gated .small .rows ∙ n-is)
 
       in-commands : (commands′ ≡ overwrite (tables .0 .firsts) commands) × (length (tables .0 .firsts) ≡ z .m)
       unfolding left
-      in-commands = (rw (gated .reads) at (reads .1 .1 .0), gated .small .firsts ∙ m-is)
+      in-commands = (rw (gated .reads) at (ap (λ (x : AfterRead). x .firsts) reads), gated .small .firsts ∙ m-is)
 
       in-entries : (entries′ ≡ overwrite (tables .0 .outcomes) entries) × (length (tables .0 .outcomes) ≡ z .t)
       unfolding left
-      in-entries = (rw (gated .reads) at (reads .1 .1 .1), gated .small .outcomes ∙ t-is)
+      in-entries = (rw (gated .reads) at (ap (λ (x : AfterRead). x .outcomes) reads), gated .small .outcomes ∙ t-is)
 
       pub rows-ready : (z .n ≤ length states′) × (z .n * 6 ≤ length rows)
       rows-ready =
@@ -89,7 +85,7 @@ module _ (file : List ℕ) (states : List Row) (commands entries size rows first
           let l = overwrite-long (tables .0 .rows) (rowsOf states) (in-states .0) (in-states .1) few in
           (omega (arith, length-map states′ rowOf), omega (arith, gated .long-rows, n-is))
 
-      pub lists-ready : ((8 ≤ length size) × (z .n < 65536) × (z .m < 65536) × (z .t < 65536) × (z .start < 65536))
+      pub lists-ready : ((sizeBytes ≤ length size) × (z .n < 65536) × (z .m < 65536) × (z .t < 65536) × (z .start < 65536))
           × (((z .m ≤ length commands′) × (z .m * 2 ≤ length firsts)) × ((z .t ≤ length entries′) × (z .t * 2 ≤ length outcomes)))
       lists-ready =
           let s = gated .small in
@@ -108,16 +104,9 @@ module _ (file : List ℕ) (states : List Row) (commands entries size rows first
           × ((firsts′ ≡ overwrite (bytesFor (take (z .m) commands′)) firsts) × (outcomes′ ≡ overwrite (bytesFor (take (z .t) entries′)) outcomes))
           → Leaves 0 size′ rows′ firsts′ outcomes′
       unfolding left code
-      gives r l = rw (tables .1) (
-        refl,
-        (
-          l .0 ∙ ap (λ (y : ModelSize). overwrite (bytesFor (sizeEntries y)) size) (sym (tables .2)),
-          (
-            r ∙ ap (λ (y : List ModelRow). overwrite (bytesFor (rowEntries y)) rows) (overwrite-holds (tables .0 .rows) (rowsOf states) (in-states .0) (in-states .1)),
-            (
-              l .1 .0 ∙ ap (λ (y : List ℕ). overwrite (bytesFor y) firsts) (overwrite-holds (tables .0 .firsts) commands (in-commands .0) (in-commands .1)),
-              l .1 .1 ∙ ap (λ (y : List ℕ). overwrite (bytesFor y) outcomes) (overwrite-holds (tables .0 .outcomes) entries (in-entries .0) (in-entries .1)),
-            ),
-          ),
-        ),
-      )
+      gives r l =
+          let size-is = l .0 ∙ ap (λ (y : ModelSize). overwrite (bytesFor (sizeEntries y)) size) (sym (tables .2)) in
+          let rows-is = r ∙ ap (λ (y : List ModelRow). overwrite (bytesFor (rowEntries y)) rows) (overwrite-holds (tables .0 .rows) (rowsOf states) (in-states .0) (in-states .1)) in
+          let firsts-is = l .1 .0 ∙ ap (λ (y : List ℕ). overwrite (bytesFor y) firsts) (overwrite-holds (tables .0 .firsts) commands (in-commands .0) (in-commands .1)) in
+          let outcomes-is = l .1 .1 ∙ ap (λ (y : List ℕ). overwrite (bytesFor y) outcomes) (overwrite-holds (tables .0 .outcomes) entries (in-entries .0) (in-entries .1)) in
+          rw (tables .1) (λ i. afterGateRead 0 (size-is i) (rows-is i) (firsts-is i) (outcomes-is i))

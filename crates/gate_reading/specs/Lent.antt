@@ -1,8 +1,15 @@
 -- Slices that a plan is to be read into, by their lengths in bytes.
-use Prim.Native.Nat.{ℕ}
+use mathlib.Core.Bool.{Bool, _&&_}
+use mathlib.Core.List.{List}
+use Prim.Native.Nat.{ℕ, _/_}
+use lib.Dec.{leb}
 use Rattle.model.specs.Refusal.{Answer, Cramped, given, need, _>>=_, _>>_}
-use Rattle.model.specs.Tables.{Size as ModelSize}
-use Rattle.model.specs.Boundary.{readRoom}
+use Rattle.model.specs.Tables.{Size as ModelSize, enough}
+use Rattle.model.specs.Boundary.{sizeBytes, AfterGateRead}
+
+-- they have room for a plan of this size, and for its size record
+abbrev pub readRoom : ModelSize → ℕ → ℕ → ℕ → ℕ → Bool
+readRoom z size rows firsts outcomes = enough z (rows / 6) (firsts / 2) (outcomes / 2) && leb sizeBytes size
 
 -- "A slice too short for such an answer is 9": the size record answered, if they have room
 abbrev pub admitted : Answer ModelSize → ℕ → ℕ → ℕ → ℕ → Answer ModelSize
@@ -10,3 +17,7 @@ admitted a size rows firsts outcomes = do
   z ← a
   need Cramped (readRoom z size rows firsts outcomes)
   given z
+
+-- what is returned, and what every slice holds afterwards
+abbrev pub afterGateRead : ℕ → List ℕ → List ℕ → List ℕ → List ℕ → AfterGateRead
+afterGateRead r size rows firsts outcomes = record { returns = r; size = size; rows = rows; firsts = firsts; outcomes = outcomes }

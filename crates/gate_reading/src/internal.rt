@@ -1,6 +1,7 @@
 // What only the planner's own crates call: reading, to bytes.
 ghost use mathlib.Core.Path.{_≡_};
 ghost use Rattle.model.specs.Boundary.{gateReadCall};
+ghost use Rattle.gate_reading.specs.Lent.{afterGateRead};
 use crate::work::read_by;
 use tables::Row;
 use tables::Size;
@@ -13,11 +14,10 @@ pub fn read_call(
     firsts: &mut [u8],
     outcomes: &mut [u8],
 ) -> u32
-    ensures returns { λ r. ⌜ r ≡ gateReadCall (now (file .entry)) (now (size .entry)) (now (rows .entry)) (now (firsts .entry)) (now (outcomes .entry)) .returns ⌝ }
-    ensures size { λ r. ⌜ now (size .exit) ≡ gateReadCall (now (file .entry)) (now (size .entry)) (now (rows .entry)) (now (firsts .entry)) (now (outcomes .entry)) .size ⌝ }
-    ensures rows { λ r. ⌜ now (rows .exit) ≡ gateReadCall (now (file .entry)) (now (size .entry)) (now (rows .entry)) (now (firsts .entry)) (now (outcomes .entry)) .rows ⌝ }
-    ensures firsts { λ r. ⌜ now (firsts .exit) ≡ gateReadCall (now (file .entry)) (now (size .entry)) (now (rows .entry)) (now (firsts .entry)) (now (outcomes .entry)) .firsts ⌝ }
-    ensures outcomes { λ r. ⌜ now (outcomes .exit) ≡ gateReadCall (now (file .entry)) (now (size .entry)) (now (rows .entry)) (now (firsts .entry)) (now (outcomes .entry)) .outcomes ⌝ }
+    ensures call { λ r. ⌜
+        afterGateRead r (now (size .exit)) (now (rows .exit)) (now (firsts .exit)) (now (outcomes .exit))
+        ≡ gateReadCall (now (file .entry)) (now (size .entry)) (now (rows .entry)) (now (firsts .entry)) (now (outcomes .entry))
+        ⌝ }
 {
     let mut states = [Row {
         kind: 0,

@@ -4,10 +4,10 @@ ghost use Prim.Native.Nat.{_*_, _<_, _≤_};
 ghost use lib.ListN.{length, take};
 ghost use Rattle.laws.specs.Lists.{overwrite};
 ghost use Rattle.model.specs.File.{maxStates, maxCommands, maxOutcomes};
-ghost use Rattle.model.specs.Boundary.{bytesFor, sizeEntries, readRoom, gateReadCall};
+ghost use Rattle.model.specs.Boundary.{bytesFor, sizeBytes, sizeEntries, gateReadCall};
 ghost use Rattle.tables.specs.Meaning.{numbers};
 ghost use Rattle.reading.specs.Meaning.{answerOf};
-ghost use Rattle.gate_reading.specs.Lent.{admitted};
+ghost use Rattle.gate_reading.specs.Lent.{readRoom, admitted, afterGateRead};
 use reading::ReadAnswer;
 use reading::read;
 use store::internal::store;
@@ -56,7 +56,7 @@ fn store_lists(
     firsts: &mut [u8],
     outcomes: &mut [u8],
 )
-    requires { ⌜ (8 ≤ length (now size)) × (z .n < 65536) × (z .m < 65536) × (z .t < 65536) × (z .start < 65536) ⌝ }
+    requires { ⌜ (sizeBytes ≤ length (now size)) × (z .n < 65536) × (z .m < 65536) × (z .t < 65536) × (z .start < 65536) ⌝ }
     requires { ⌜ (z .m ≤ length (now commands)) × (z .m * 2 ≤ length (now firsts)) ⌝ }
     requires { ⌜ (z .t ≤ length (now entries)) × (z .t * 2 ≤ length (now outcomes)) ⌝ }
     ensures size { λ _. ⌜ now (size .exit) ≡ overwrite (bytesFor (sizeEntries (numbers z))) (now (size .entry)) ⌝ }
@@ -80,11 +80,10 @@ pub fn read_by(
     outcomes: &mut [u8],
 ) -> u32
     requires { ⌜ (maxStates ≤ length (now states)) × (maxCommands ≤ length (now commands)) × (maxOutcomes ≤ length (now entries)) ⌝ }
-    ensures returns { λ r. ⌜ r ≡ gateReadCall (now (file .entry)) (now (size .entry)) (now (rows .entry)) (now (firsts .entry)) (now (outcomes .entry)) .returns ⌝ }
-    ensures size { λ r. ⌜ now (size .exit) ≡ gateReadCall (now (file .entry)) (now (size .entry)) (now (rows .entry)) (now (firsts .entry)) (now (outcomes .entry)) .size ⌝ }
-    ensures rows { λ r. ⌜ now (rows .exit) ≡ gateReadCall (now (file .entry)) (now (size .entry)) (now (rows .entry)) (now (firsts .entry)) (now (outcomes .entry)) .rows ⌝ }
-    ensures firsts { λ r. ⌜ now (firsts .exit) ≡ gateReadCall (now (file .entry)) (now (size .entry)) (now (rows .entry)) (now (firsts .entry)) (now (outcomes .entry)) .firsts ⌝ }
-    ensures outcomes { λ r. ⌜ now (outcomes .exit) ≡ gateReadCall (now (file .entry)) (now (size .entry)) (now (rows .entry)) (now (firsts .entry)) (now (outcomes .entry)) .outcomes ⌝ }
+    ensures call { λ r. ⌜
+        afterGateRead r (now (size .exit)) (now (rows .exit)) (now (firsts .exit)) (now (outcomes .exit))
+        ≡ gateReadCall (now (file .entry)) (now (size .entry)) (now (rows .entry)) (now (firsts .entry)) (now (outcomes .entry))
+        ⌝ }
 {
     let plan = read(file, states, commands, entries);
     let admitted = admit(plan, size.len(), rows.len(), firsts.len(), outcomes.len());

@@ -3,7 +3,7 @@ use Rattle.tables.proofs.Row as T
 use base.Logic.{id⊢, emp}
 use borrow.Fn.Kinds
 use borrow.Fn.Picked.{KnownAs}
-use borrow.Fn.Read.{all-models, all∗, r-fact, r-last}
+use borrow.Fn.Read.{all-models, all∗, r-last}
 use borrow.Fn.World.{World}
 use borrow.Fn.Written as Written
 use borrow.Kind.MutSlice
@@ -37,7 +37,7 @@ abbrev pub pre-read : R.ReadReq 8 ps r requires ensures
 pre-read κs a g = all-models (requires κs a g) (λ w. r-last _) (λ w. refl) (λ w. refl) (λ w. refl)
 
 abbrev pub post-read : R.ReadEns 8 ps r requires ensures
-post-read κs a g z e = all-models (ensures κs a g z e) (λ w. r-fact _ _ (r-fact _ _ (r-fact _ _ (r-fact _ _ (r-last _))))) (λ w. refl) (λ w. refl) (λ w. refl)
+post-read κs a g z e = all-models (ensures κs a g z e) (λ w. r-last _) (λ w. refl) (λ w. refl) (λ w. refl)
 
 abbrev pub Pinned : R.Pins 8 ps r
 Pinned = R.Ps 8 ps r
