@@ -1,21 +1,20 @@
 -- The search on tables of the limit's length, delivered, is the call on the plan that they hold.
 use mathlib.Core.Path.{_≡_, refl, sym, ap, _∙_}
-use mathlib.Core.Bool.{Bool, true}
+use mathlib.Core.Bool.{Bool}
 use mathlib.Core.List.{List}
-use Prim.Native.Nat.{ℕ, _<_, _≤_}
+use Prim.Native.Nat.{ℕ, _≤_}
 use native.Mathlib.Omega.{arith}
-use lib.Dec.{ltb}
 use lib.ListN.{length, take, length-take, length-replicate}
-use borrow.Author.Tests.{ltb-true}
 use Rattle.laws.proofs.Lists.{length-tabulate, take-overwritten}
 use Rattle.model.specs.Search.{Result, search}
-use Rattle.model.specs.Refusal.{Cramped, Unsound, Stranger, Answer, given, answer, _>>=_, _>>_}
+use Rattle.model.specs.Refusal.{Answer, given, answer}
+use Rattle.model.specs.File.{maxStates}
 use Rattle.model.specs.Tables.{Tables}
-use Rattle.model.specs.SoundTest.{sound}
 use Rattle.model.specs.Held.{treeOf, planIn}
-use Rattle.model.specs.Calls.{left, searching, resultTable, cleared, AfterSearch}
+use Rattle.model.specs.Calls.{left, resultTable, cleared, AfterSearch}
 use Rattle.model.specs.Boundary.{bytesFor, resultEntries, code, gateSearch, gateSearchCall}
-use Rattle.model.proofs.Answers.{given-inj, need-inv, answer-inv}
+use Rattle.model.proofs.Answers.{answer-inv}
+use Rattle.model.proofs.Answering.{searching-iff}
 use Rattle.model.proofs.HeldPlan.{states-held}
 use Rattle.model.proofs.GoodTables.{sound-good}
 use Rattle.model.proofs.Valid.{sound-valid, few-states, few-commands}
@@ -28,20 +27,6 @@ use Rattle.gate_searching.specs.Delivery.{delivery, Deliverable, deliver
 -- what is answered of a search
 abbrev verdict : Result → Bool × ℕ
 verdict R = (R .lost, R .rounds)
-
--- what is known where the search answers
-record Searched (T : Tables) (start : ℕ) (R : Result) : Type 0 where
-  sounds : sound T ≡ true
-  inside : start < T .size .n
-  is : search (planIn T) start ≡ R
-
-searched : (T : Tables) (start : ℕ) (R : Result) → wholeSearch T start ≡ given R → Searched T start R
-unfolding searching
-searched T start R e =
-    let (s, f) = need-inv Unsound (sound T) _ e in
-    let (l, g) = need-inv Stranger (ltb start (T .size .n)) _ f in
-    let (_, is) = need-inv Cramped _ _ g in
-    record { sounds = s; inside = ltb-true _ _ l; is = given-inj is }
 
 -- a list that begins with n entries is that long
 long-front : (n : ℕ) (l xs : List ℕ) → take n l ≡ xs → length xs ≡ n → n ≤ length l
@@ -76,7 +61,7 @@ module _ (T : Tables) (start : ℕ) (zeros : List ℕ) where
     unfolding planIn resultTable cleared
     deliverable w e =
         let (R, f, is) = answer-inv verdict (wholeSearch T start) w (sym answers ∙ e) in
-        let q = searched T start R f in
+        let q = searching-iff T start maxStates maxStates R .0 f in
         let good = sound-good T (q .sounds) in
         let fits = rounds-fit (planIn T) (sound-valid T (q .sounds)) (omega (arith, few-states (treeOf T) good)) (λ x l. omega (arith, few-commands (treeOf T) good x l)) start (rw (states-held T) (q .inside)) in
         let rounds : search (planIn T) start .rounds ≡ w .1 = ap (λ (R : Result). R .rounds) (q .is) ∙ ap (λ (u : Bool × ℕ). u .1) is in (
