@@ -2,6 +2,8 @@ mod Lts
 mod Tie
 use native.Mathlib.Omega.{arith}
 use borrow.Author.Needs.{needs}
+use mathlib.Core.Path.{ap}
+use Rattle.model.specs.Calls.{AfterSearch}
 use Rattle.model.specs.Search as Model
 use Rattle.model.specs.Held.{planIn}
 use Rattle.tables.specs.Meaning.{held}
@@ -23,7 +25,7 @@ put-answer-requires c κs =
     let a = c .before .before .before .before .before .before .before .before .before .args in
     let sounds = c .before .before .before .before .before .before .before .before .before .pre .0 in
     let T = held (a .size) (a .rows .now) (a .firsts .now) (a .outcomes .now) in
-    (c .before .before .before .before .before .before .before .before .before .pre .1, start-small T sounds, few-rounds T sounds (c .before .before .before .search .result) (c .before .before .before .search .ensures .0) (omega arith, omega arith))
+    (c .before .before .before .before .before .before .before .before .before .pre .1, start-small T sounds, few-rounds T sounds (c .before .before .before .search .result) (ap (λ (x : AfterSearch). x .answers) (c .before .before .before .search .ensures .0)) (omega arith, omega arith))
 
 same-length : tie.Need-same-length
 same-length c = search needs
@@ -32,7 +34,7 @@ returns : tie.Need-returns
 returns c =
     let a = c .before .before .before .before .before .before .before .before .before .before .before .before .args in
     let T = held (a .size) (a .rows .now) (a .firsts .now) (a .outcomes .now) in
-    c .before .before .put-answer .ensures (Model.search (planIn T) (a .size .start)) (found-answer T (c .before .before .before .before .before .before .before .before .before .before .before .before .pre .0) (c .before .before .before .before .before .before .search .result) (c .before .before .before .before .before .before .search .ensures .0) (omega arith, omega arith))
+    c .before .before .put-answer .ensures (Model.search (planIn T) (a .size .start)) (found-answer T (c .before .before .before .before .before .before .before .before .before .before .before .before .pre .0) (c .before .before .before .before .before .before .search .result) (ap (λ (x : AfterSearch). x .answers) (c .before .before .before .before .before .before .search .ensures .0)) (omega arith, omega arith))
 
 pub list-start-spec : {M : Type 1} → statement M
 list-start-spec = tie.close (tie.spec slice-aggregate-search slice-aggregate-search-2 search-requires put-answer-requires same-length returns)

@@ -2,6 +2,8 @@ mod Lts
 mod Tie
 use native.Mathlib.Omega.{arith}
 use borrow.Author.Needs.{needs}
+use mathlib.Core.Path.{ap}
+use Rattle.model.specs.Calls.{AfterDecide}
 use Rattle.laws.proofs.Wrote.{wrote-then}
 use Rattle.model.specs.Held.{planIn}
 use Rattle.tables.specs.Meaning.{held}
@@ -51,8 +53,8 @@ put-tally-requires : tie.Need-put-tally-requires
 put-tally-requires c κs =
     let a = c .before .before .before .before .before .before .before .before .before .before .before .before .before .before .before .before .before .before .before .before .args in
     let T = held (a .size) (a .rows .now) (a .firsts .now) (a .outcomes .now) in
-    let d = c .before .before .before .before .before .before .before .before .before .before .before .before .decide .ensures in
-    let listed = all-listed (a .size) (a .rows .now) (a .firsts .now) (a .outcomes .now) (c .before .before .before .before .before .before .before .before .before .before .before .before .before .before .before .before .before .before .before .before .pre .0) _ _ _ (d .1 .0) (d .1 .1 .0) (d .1 .1 .1 .0) (omega arith, omega arith, omega arith, omega arith) in
+    let d = c .before .before .before .before .before .before .before .before .before .before .before .before .decide .ensures .0 in
+    let listed = all-listed (a .size) (a .rows .now) (a .firsts .now) (a .outcomes .now) (c .before .before .before .before .before .before .before .before .before .before .before .before .before .before .before .before .before .before .before .before .pre .0) _ _ _ (ap (λ (x : AfterDecide). x .ranks) d) (ap (λ (x : AfterDecide). x .commands) d) (ap (λ (x : AfterDecide). x .marks) d) (omega arith, omega arith, omega arith, omega arith) in
     tally-room (planIn T) (a .size .n) (c .before .before .before .before .before .before .before .before .before .before .before .before .before .before .before .before .before .before .before .before .pre .1) (c .before .before .before .list-states .ensures (planIn T) listed)
 
 same-length : tie.Need-same-length
@@ -62,9 +64,9 @@ returns : tie.Need-returns
 returns c =
     let a = c .before .before .before .before .before .before .before .before .before .before .before .before .before .before .before .before .before .before .before .before .before .before .before .args in
     let T = held (a .size) (a .rows .now) (a .firsts .now) (a .outcomes .now) in
-    let d = c .before .before .before .before .before .before .before .before .before .before .before .before .before .before .before .decide .ensures in
-    let listed = all-listed (a .size) (a .rows .now) (a .firsts .now) (a .outcomes .now) (c .before .before .before .before .before .before .before .before .before .before .before .before .before .before .before .before .before .before .before .before .before .before .before .pre .0) _ _ _ (d .1 .0) (d .1 .1 .0) (d .1 .1 .1 .0) (omega arith, omega arith, omega arith, omega arith) in
-    let counts = tallied (a .size) (a .rows .now) (a .firsts .now) (a .outcomes .now) (c .before .before .before .before .before .before .before .before .before .before .before .before .before .before .before .before .before .before .before .before .before .before .before .pre .0) (c .before .before .before .before .before .before .before .before .before .before .before .before .before .before .before .decide .result) (d .0) (omega arith, omega arith, omega arith, omega arith) in
+    let d = c .before .before .before .before .before .before .before .before .before .before .before .before .before .before .before .decide .ensures .0 in
+    let listed = all-listed (a .size) (a .rows .now) (a .firsts .now) (a .outcomes .now) (c .before .before .before .before .before .before .before .before .before .before .before .before .before .before .before .before .before .before .before .before .before .before .before .pre .0) _ _ _ (ap (λ (x : AfterDecide). x .ranks) d) (ap (λ (x : AfterDecide). x .commands) d) (ap (λ (x : AfterDecide). x .marks) d) (omega arith, omega arith, omega arith, omega arith) in
+    let counts = tallied (a .size) (a .rows .now) (a .firsts .now) (a .outcomes .now) (c .before .before .before .before .before .before .before .before .before .before .before .before .before .before .before .before .before .before .before .before .before .before .before .pre .0) (c .before .before .before .before .before .before .before .before .before .before .before .before .before .before .before .decide .result) (ap (λ (x : AfterDecide). x .answers) d) (omega arith, omega arith, omega arith, omega arith) in
     wrote-then (c .before .before .before .before .before .before .list-states .ensures (planIn T) listed) (rw counts at (c .before .before .put-tally .ensures))
 
 pub list-verdicts-spec : {M : Type 1} → statement M
