@@ -1,9 +1,11 @@
-// Reads plan files from standard input and prints of each what reading answers, whether writing gives the same bytes again, and what
+// Reads plan files from standard input and prints of each what reading answers, whether both round trips give the same again, and what
 // deciding and the search answer. Before a file stand its length and how many rows, first outcomes and outcomes are lent for it, two bytes
 // each, highest first.
 ghost use Prim.Native.Nat.{_≤_};
 ghost use Rattle.model.specs.File.{maxStates, maxCommands, maxOutcomes};
+use crate::files::print_again;
 use crate::files::print_size;
+use crate::files::read_again;
 use crate::files::write_again;
 use crate::numbers::least;
 use crate::numbers::number;
@@ -16,6 +18,7 @@ use tables::Size;
 mod files;
 mod numbers;
 mod print;
+mod same;
 mod verdicts;
 
 pub fn try_file(file: &[u8], rows: &mut [Row], firsts: &mut [u16], outcomes: &mut [u16]) {
@@ -26,7 +29,9 @@ pub fn try_file(file: &[u8], rows: &mut [Row], firsts: &mut [u16], outcomes: &mu
         }
         ReadAnswer::Given(size) => {
             print_size(size);
-            write_again(file, size, rows, firsts, outcomes);
+            let bytes = write_again(file, rows, firsts, outcomes);
+            let tables = read_again(size, rows, firsts, outcomes);
+            print_again(bytes, tables);
             try_plan(size, rows, firsts, outcomes);
         }
     }

@@ -1,23 +1,16 @@
 -- `bench_plans::files::write_again`, over rows. Made by tools/rows, and checked like every proof.
 use Rattle.tables.proofs.Row as T
-use Rattle.tables.proofs.Size
-use Rattle.tables.proofs.Size.Laws
 use base.Logic.{id⊢, emp}
 use borrow.Fn.Kinds
 use borrow.Fn.Picked.{KnownAs}
 use borrow.Fn.Read.{all-models, all∗, r-top}
 use borrow.Fn.World.{World}
 use borrow.Fn.Written as Written
+use borrow.Kind.MutSlice
 use borrow.Kind.ShrSlice
-use borrow.Kind.Value
-use borrow.Rule.Local
 use borrow.Table.Referent
-use borrow.Table.Rows
 use contract.Lifetimes.{Lfts}
 use contract.Monad.{top}
-use denote.Exit
-use denote.Struct.Declared
-use denote.Struct.Laws as Laws'
 use denote.Triple.Clauses.{AtExit}
 use mathlib.Core.List
 use mathlib.Core.Path.{refl}
@@ -26,10 +19,10 @@ use Rattle.tables.proofs.Reading as R
 use Rattle.bench_plans.proofs.files.write_again as f
 
 abbrev pub ps : List.List (Kinds.PK 4)
-ps = List._∷_ (ShrSlice.pShrS (Referent.rtF (Referent.fInt Syntax.w8)) 0 tt) (List._∷_ (Value.pVal record { ty = Declared.row Size.the-type; one = refl; val = Laws'.val Size.the-type Laws.the-laws; tells = Laws'.tells Size.the-type Laws.the-laws; still = Laws'.still Size.the-type Laws.the-copy Exit.yes; row = Rows.whole (Declared.row Size.the-type); rd = λ x. x; mk = λ x. x } λ M 𝓤 H A W. record { copies = Laws'.copy Size.the-type Laws.the-copy 𝓤 H A W; lawful = Laws'.lawful Size.the-type Laws.the-laws 𝓤 H A W; makes = Laws'.makes Size.the-type Laws.the-plain 𝓤 H A; in-mem = Local.mem-whole 𝓤 H A W (Declared.row Size.the-type); of-mem = Local.whole-mem 𝓤 H A W (Declared.row Size.the-type) }) (List._∷_ (ShrSlice.pShrS T.the-row 1 tt) (List._∷_ (ShrSlice.pShrS (Referent.rtF (Referent.fInt Syntax.w16)) 2 tt) (List._∷_ (ShrSlice.pShrS (Referent.rtF (Referent.fInt Syntax.w16)) 3 tt) List.[]))))
+ps = List._∷_ (ShrSlice.pShrS (Referent.rtF (Referent.fInt Syntax.w8)) 0 tt) (List._∷_ (MutSlice.pMutS T.the-row 1 tt) (List._∷_ (MutSlice.pMutS (Referent.rtF (Referent.fInt Syntax.w16)) 2 tt) (List._∷_ (MutSlice.pMutS (Referent.rtF (Referent.fInt Syntax.w16)) 3 tt) List.[])))
 
 abbrev pub r : Kinds.RK 4
-r = Kinds.rUnit
+r = Kinds.rBool
 
 abbrev pub Ghost : Type 0
 Ghost = Unit {0}

@@ -25,6 +25,12 @@ print-size-requires c κs = search needs
 write-again-requires : tie.Need-write-again-requires
 write-again-requires c κs = search needs
 
+read-again-requires : tie.Need-read-again-requires
+read-again-requires c κs = search needs
+
+print-again-requires : tie.Need-print-again-requires
+print-again-requires c κs = search needs
+
 try-plan-requires : tie.Need-try-plan-requires
 try-plan-requires c κs = search needs
 
@@ -53,4 +59,4 @@ returns-2 : tie.Need-returns-2
 returns-2 c = search needs
 
 pub try-file-spec : {M : Type 1} → statement M
-try-file-spec = tie.close (tie.spec read-requires enum-known-r number-requires print-refusal-requires enum-known-r-2 print-size-requires write-again-requires try-plan-requires same-length same-length-2 same-length-3 returns same-length-4 same-length-5 same-length-6 returns-2)
+try-file-spec = tie.close (tie.spec read-requires enum-known-r number-requires print-refusal-requires enum-known-r-2 print-size-requires write-again-requires read-again-requires print-again-requires try-plan-requires same-length same-length-2 same-length-3 returns same-length-4 same-length-5 same-length-6 returns-2)
