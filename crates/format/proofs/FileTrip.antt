@@ -18,7 +18,7 @@ use Rattle.reading.specs.declared.ReadAnswer.the-variants.{Given, Refused}
 use Rattle.reading.specs.Meaning.{afterRead, answerOf as readAnswer}
 use Rattle.reading.proofs.Leaves.{answered, leaves}
 use Rattle.writing.specs.declared.WriteAnswer.{WriteAnswer}
-use Rattle.writing.specs.Answers.{answerOf as writeAnswer}
+use Rattle.writing.specs.Answers.{answerOf as writeAnswer, afterWrite}
 use Rattle.format.specs.Trips.{AfterReadWrite, thenWrite, readWriteCall}
 use Rattle.format.specs.Meaning.{afterReadWrite}
 
@@ -59,17 +59,14 @@ module _ (file : List ℕ) (rows : List Row) (firsts outcomes bytes : List ℕ) 
         says w rows′ firsts′ outcomes′ bytes
         (λ i. record { answers = answers i; rows = e i .rows; firsts = e i .firsts; outcomes = e i .outcomes; bytes = kept i })
 
-    -- with the two of the writing's
+    -- with that of the writing's
     pub file-written : (z : Size) → r ≡ Given z → (w : WriteAnswer) (bytes′ : List ℕ)
-        → writeAnswer w ≡ writeCall (held z rows′ firsts′ outcomes′) bytes .answers → bytes′ ≡ writeCall (held z rows′ firsts′ outcomes′) bytes .bytes
-        → Says w rows′ firsts′ outcomes′ bytes′
+        → afterWrite w bytes′ ≡ writeCall (held z rows′ firsts′ outcomes′) bytes → Says w rows′ firsts′ outcomes′ bytes′
     unfolding thenWrite
-    file-written z q w bytes′ a s =
+    file-written z q w bytes′ f =
         let d = answered file rows firsts outcomes r rows′ firsts′ outcomes′ e z q in
         let T = leaves file rows firsts outcomes r rows′ firsts′ outcomes′ e z in
-        let answers : writeAnswer w ≡ readWriteCall file (rowsOf rows) firsts outcomes bytes .answers
-        = rw d (a ∙ ap (λ (U : Tables). writeCall U bytes .answers) T) in
-        let stored : bytes′ ≡ readWriteCall file (rowsOf rows) firsts outcomes bytes .bytes
-        = rw d (s ∙ ap (λ (U : Tables). writeCall U bytes .bytes) T) in
+        let x = readCall file (rowsOf rows) firsts outcomes in
+        let g : afterWrite w bytes′ ≡ thenWrite x (x .answers) bytes = rw d (f ∙ ap (λ (U : Tables). writeCall U bytes) T) in
         says w rows′ firsts′ outcomes′ bytes′
-        (λ i. record { answers = answers i; rows = e i .rows; firsts = e i .firsts; outcomes = e i .outcomes; bytes = stored i })
+        (λ i. record { answers = g i .answers; rows = e i .rows; firsts = e i .firsts; outcomes = e i .outcomes; bytes = g i .bytes })

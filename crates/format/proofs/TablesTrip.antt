@@ -22,14 +22,14 @@ use Rattle.reading.specs.declared.ReadAnswer.{ReadAnswer}
 use Rattle.reading.specs.Meaning.{afterRead, answerOf as readAnswer}
 use Rattle.writing.specs.declared.WriteAnswer.{WriteAnswer}
 use Rattle.writing.specs.declared.WriteAnswer.the-variants.{Given, Refused}
-use Rattle.writing.specs.Answers.{answerOf as writeAnswer}
+use Rattle.writing.specs.Answers.{answerOf as writeAnswer, afterWrite}
 use Rattle.format.specs.Trips.{AfterWriteRead, thenRead, writeReadCall}
 use Rattle.format.specs.Meaning.{afterWriteRead}
 
 -- what is written fits the bytes lent
-pub written-fits : (T : Tables) (bytes : List ℕ) (w : WriteAnswer) (k : ℕ) → writeAnswer w ≡ writeCall T bytes .answers → w ≡ Given k → k ≤ length bytes
+pub written-fits : (T : Tables) (bytes : List ℕ) (w : WriteAnswer) {bytes′ : List ℕ} (k : ℕ) → afterWrite w bytes′ ≡ writeCall T bytes → w ≡ Given k → k ≤ length bytes
 written-fits T bytes w k e q =
-    let (file, written, count) = answer-inv length (writing T (length bytes)) k (sym e ∙ ap writeAnswer q) in
+    let (file, written, count) = answer-inv length (writing T (length bytes)) k (ap (λ (x : AfterWrite). x .answers) (sym e) ∙ ap writeAnswer q) in
     omega (arith, count, written-length T (length bytes) file written, writing-iff T (length bytes) file .0 written .long)
 
 module _ (z : Size) (rows : List Row) (firsts outcomes bytes : List ℕ) (rows2 : List Row) (firsts2 outcomes2 : List ℕ) where
@@ -66,8 +66,14 @@ module _ (z : Size) (rows : List Row) (firsts outcomes bytes : List ℕ) (rows2 
         (ap (λ (x : AfterWriteRead). x .answers) e ∙ answers, subst (λ (U : Tables). Same T U) left same),
   )
 
-  -- the equations of the writing's contract
-  module _ (w : WriteAnswer) (bytes′ : List ℕ) (a : writeAnswer w ≡ writeCall T bytes .answers) (s : bytes′ ≡ writeCall T bytes .bytes) where
+  -- the equation of the writing's contract
+  module _ (w : WriteAnswer) (bytes′ : List ℕ) (f : afterWrite w bytes′ ≡ writeCall T bytes) where
+    a : writeAnswer w ≡ writeCall T bytes .answers
+    a = ap (λ (x : AfterWrite). x .answers) f
+
+    s : bytes′ ≡ writeCall T bytes .bytes
+    s = ap (λ (x : AfterWrite). x .bytes) f
+
     pub tables-refused : (x : Refusal) → w ≡ Refused x → (r : ReadAnswer) → readAnswer r ≡ refused (refusalOf x) → Says r bytes′ rows2 firsts2 outcomes2
     unfolding thenRead
     tables-refused x q r c =

@@ -52,7 +52,7 @@ returns-2 c =
     let a = c .before .before .before .before .before .before .before .before .before .before .before .before .before .before .before .before .before .before .before .before .before .before .before .args in
     let reads = c .before .before .before .before .before .before .before .before .before .before .before .before .before .before .before .read in
     let writes = c .before .before .write in
-    file-written (a .file .now) (a .rows .now) (a .firsts .now) (a .outcomes .now) (a .bytes .now) (record { byte = λ i. c .before .before .before .before .before .before .before .before .before .before .before .before .before .before .before .before .before .before .before .before .before .before .shared-slice-known .given i .fits }) _ (reads .last .1 .0) _ _ (reads .ensures) _ (c .before .before .before .before .before .before .before .before .r2 .given .1) (writes .result) _ (writes .ensures .0) (writes .ensures .1)
+    file-written (a .file .now) (a .rows .now) (a .firsts .now) (a .outcomes .now) (a .bytes .now) (record { byte = λ i. c .before .before .before .before .before .before .before .before .before .before .before .before .before .before .before .before .before .before .before .before .before .before .shared-slice-known .given i .fits }) _ (reads .last .1 .0) _ _ (reads .ensures) _ (c .before .before .before .before .before .before .before .before .r2 .given .1) (writes .result) _ (writes .ensures)
 
 pub read-write-spec : {M : Type 1} → statement M
 read-write-spec = tie.close (tie.spec read-requires enum-known-r not-read-requires enum-known-r-2 write-requires same-length same-length-2 same-length-3 returns same-length-4 same-length-5 same-length-6 same-length-7 returns-2)

@@ -25,14 +25,14 @@ slice-reshare-prefix-read : tie.Need-slice-reshare-prefix-read
 slice-reshare-prefix-read c =
     let a = c .before .before .before .before .before .before .before .before .before .before .before .before .args in
     let writes = c .before .before .before .before .before .write in
-    let fits = written-fits (held (a .size) (a .rows .now) (a .firsts .now) (a .outcomes .now)) (a .bytes .now) _ _ (writes .ensures .0) (c .before .w2 .given .1) in
+    let fits = written-fits (held (a .size) (a .rows .now) (a .firsts .now) (a .outcomes .now)) (a .bytes .now) _ _ (writes .ensures) (c .before .w2 .given .1) in
     omega (arith, fits, writes .kept .1 .1 .1 .1 .0)
 
 slice-aggregate-read : tie.Need-slice-aggregate-read
 slice-aggregate-read c =
     let a = c .before .before .before .before .before .before .before .before .before .before .before .before .before .args in
     let writes = c .before .before .before .before .before .before .write in
-    let fits = written-fits (held (a .size) (a .rows .now) (a .firsts .now) (a .outcomes .now)) (a .bytes .now) _ _ (writes .ensures .0) (c .before .before .w2 .given .1) in
+    let fits = written-fits (held (a .size) (a .rows .now) (a .firsts .now) (a .outcomes .now)) (a .bytes .now) _ _ (writes .ensures) (c .before .before .w2 .given .1) in
     sym (length-take-le _ _ (omega (arith, fits, writes .kept .1 .1 .1 .1 .0)))
 
 read-requires : tie.Need-read-requires
@@ -45,7 +45,7 @@ returns : tie.Need-returns
 returns c =
     let a = c .before .before .before .before .before .before .before .before .before .before .before .before .before .args in
     let writes = c .before .before .before .before .before .before .write in
-    tables-refused (a .size) (a .rows .now) (a .firsts .now) (a .outcomes .now) (a .bytes .now) (a .rows2 .now) (a .firsts2 .now) (a .outcomes2 .now) _ _ (writes .ensures .0) (writes .ensures .1) _ (c .before .before .w .given .1) (c .not-written .result) (c .not-written .ensures)
+    tables-refused (a .size) (a .rows .now) (a .firsts .now) (a .outcomes .now) (a .bytes .now) (a .rows2 .now) (a .firsts2 .now) (a .outcomes2 .now) _ _ (writes .ensures) _ (c .before .before .w .given .1) (c .not-written .result) (c .not-written .ensures)
 
 same-length-2 : tie.Need-same-length-2
 same-length-2 c = search needs
@@ -64,7 +64,7 @@ returns-2 c =
     let a = c .before .before .before .before .before .before .before .before .before .before .before .before .before .before .before .before .before .before .before .before .before .before .args in
     let writes = c .before .before .before .before .before .before .before .before .before .before .before .before .before .before .before .write in
     let reads = c .before .before .before .before .before .read in
-    tables-read (a .size) (a .rows .now) (a .firsts .now) (a .outcomes .now) (a .bytes .now) (a .rows2 .now) (a .firsts2 .now) (a .outcomes2 .now) _ _ (writes .ensures .0) (writes .ensures .1) _ (c .before .before .before .before .before .before .before .before .before .before .before .w2 .given .1) (reads .result) (reads .last .1 .0) _ _ (reads .ensures)
+    tables-read (a .size) (a .rows .now) (a .firsts .now) (a .outcomes .now) (a .bytes .now) (a .rows2 .now) (a .firsts2 .now) (a .outcomes2 .now) _ _ (writes .ensures) _ (c .before .before .before .before .before .before .before .before .before .before .before .w2 .given .1) (reads .result) (reads .last .1 .0) _ _ (reads .ensures)
 
 pub write-read-spec : {M : Type 1} → statement M
 write-read-spec = tie.close (tie.spec write-requires enum-known-w not-written-requires enum-known-w-2 slice-reshare-prefix-read slice-aggregate-read read-requires same-length returns same-length-2 same-length-3 same-length-4 same-length-5 returns-2)
