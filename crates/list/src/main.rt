@@ -21,7 +21,7 @@ fn print(input: &[u8]) {
 
 fn main() {
     // One byte more than the limit, to see what is above it.
-    let mut input = [0u8; 65537];
+    let mut input = [0u8; listing::LIMIT + 1];
     let n = io::read_full(0, &mut input);
     if n < input.len() && !at_end() {
         io::write_all(2, b"list: standard input could not be read\n");

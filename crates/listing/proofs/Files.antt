@@ -5,7 +5,7 @@ use mathlib.Core.List.{List}
 use Prim.Native.Nat.{ℕ, _<_, _≤_}
 use native.Mathlib.Nat.{zero-add}
 use native.Mathlib.Omega.{arith}
-use lib.ListN.{length, take, length-map}
+use lib.ListN.{length, take, replicate, length-map, length-replicate}
 use borrow.Author.Tests.{lt-ltb, le-ltb}
 use Rattle.laws.specs.Lists.{overwrite}
 use Rattle.laws.specs.Wrote.{Wrote}
@@ -18,7 +18,7 @@ use Rattle.model.specs.Tables.{Size as ModelSize, Tables}
 use Rattle.model.specs.Held.{treeOf}
 use Rattle.model.specs.SoundTest.{sound}
 use Rattle.model.specs.Calls.{reading, AfterRead, readCall}
-use Rattle.model.specs.Listing.{refusalText, planText, answerText, listing}
+use Rattle.model.specs.Listing.{maxInput, maxListing, refusalText, planText, answerText, listing}
 use Rattle.model.proofs.ListingLength.{listing-length}
 use Rattle.model.proofs.ReadPlans.{reads-plan, refuses-file}
 use Rattle.tables.specs.declared.Row.{Row}
@@ -30,6 +30,8 @@ use Rattle.reading.specs.declared.ReadAnswer.the-variants.{Given, Refused}
 use Rattle.reading.specs.Meaning.{answerOf, afterRead}
 use Rattle.reading.proofs.Passing.{refused-inv}
 use Rattle.reading.proofs.Leaves.{answered, leaves}
+use Rattle.listing.specs.declared.Text.{Text}
+use Rattle.listing.specs.Texts.{textOf}
 
 -- by the equation of the reading's contract
 module _ (file : List ℕ) (rows : List Row) (firsts outcomes : List ℕ) (r : ReadAnswer) (rows′ : List Row) (firsts′ outcomes′ : List ℕ)
@@ -51,20 +53,27 @@ module _ (file : List ℕ) (rows : List Row) (firsts outcomes : List ℕ) (r : R
       ap answerText (refuses-file (length (rowsOf rows)) (length firsts) (length outcomes) long lf lo file (refusalOf w)
       (refused-inv size (reading (length (rowsOf rows)) (length firsts) (length outcomes) file) (ap (λ (x : AfterRead). x .answers) (sym e) ∙ ap answerOf q)))
 
+abbrev textWith : List ℕ → ℕ → Text
+textWith bytes length = record { bytes = bytes; length = length }
+
 module _ (input : List ℕ) where
-  pub over-limit : 65536 < length input → listing input ≡ refusalText Limit
+  pub over-limit : maxInput < length input → listing input ≡ refusalText Limit
   unfolding listing
-  over-limit h = rw (lt-ltb 65536 (length input) h)
+  over-limit h = rw (lt-ltb maxInput (length input) h)
 
-  pub in-limit : length input ≤ 65536 → listing input ≡ answerText (read input)
+  pub in-limit : length input ≤ maxInput → listing input ≡ answerText (read input)
   unfolding listing
-  in-limit h = rw (le-ltb 65536 (length input) h)
+  in-limit h = rw (le-ltb maxInput (length input) h)
 
-  -- the text stands at the front, and what is past it is as it was
-  pub text-stands : {l after : List ℕ} {k : ℕ} → Wrote l 0 (listing input) after k → 65536 ≤ length l
-      → (take k after ≡ listing input) × ((k ≡ length (listing input)) × ((k ≤ length after) × (after ≡ overwrite (listing input) l)))
-  text-stands {l} {after} {k} w long =
-      let count : k ≡ length (listing input) = w .past ∙ zero-add _ in
-      let fits : length (listing input) ≤ length l = omega (arith, long, listing-length input) in
-      let whole : after ≡ overwrite (listing input) l = w .stored ∙ put-front l (listing input) fits in
-      (rw (count, whole) (take-overwrite (listing input) l), (count, (omega (arith, count, fits, wrote-length w), whole)))
+  -- the text stands at the front of zeros
+  pub text-stands : {after : List ℕ} {k : ℕ} → Wrote (replicate maxListing 0) 0 (listing input) after k → textWith after k ≡ textOf (listing input)
+  text-stands w =
+      let zeros : List ℕ = replicate maxListing 0 in
+      let count = w .past ∙ zero-add _ in
+      let fits : length (listing input) ≤ length zeros = omega (arith, listing-length input, length-replicate {A = ℕ} maxListing 0) in
+      let whole = w .stored ∙ put-front zeros (listing input) fits in
+      λ i. textWith (whole i) (count i)
+
+  -- its bytes are as many as are said
+  pub text-fits : (r : Text) → r ≡ textOf (listing input) → length (take (r .length) (r .bytes)) ≡ r .length
+  text-fits r e = rw e (ap length (take-overwrite (listing input) (replicate maxListing 0)))

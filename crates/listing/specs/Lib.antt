@@ -1,1 +1,2 @@
 pub mod AllListed
+pub mod Texts

@@ -3,7 +3,7 @@ ghost use Prim.Native.Nat.{_≤_};
 ghost use lib.ListN.{length};
 ghost use Rattle.laws.specs.Wrote.{Wrote};
 ghost use Rattle.model.specs.File.{maxStates, maxCommands, maxOutcomes, read};
-ghost use Rattle.model.specs.Listing.{answerText};
+ghost use Rattle.model.specs.Listing.{maxListing, answerText};
 use crate::plan::list_plan;
 use listing_text::internal::put_refusal;
 use reading::ReadAnswer;
@@ -18,7 +18,7 @@ pub fn list_file(
     outcomes: &mut [u16],
     out: &mut [u8],
 ) -> usize
-    requires { ⌜ (maxStates ≤ length (now rows)) × (maxCommands ≤ length (now firsts)) × (maxOutcomes ≤ length (now outcomes)) × (65536 ≤ length (now out)) ⌝ }
+    requires { ⌜ (maxStates ≤ length (now rows)) × (maxCommands ≤ length (now firsts)) × (maxOutcomes ≤ length (now outcomes)) × (maxListing ≤ length (now out)) ⌝ }
     ensures { λ r. ⌜ Wrote (now (out .entry)) 0 (answerText (read (now (file .entry)))) (now (out .exit)) r ⌝ }
 {
     let r = reading::read(file, rows, firsts, outcomes);
@@ -30,7 +30,7 @@ pub fn list_file(
 
 // Lends tables of the limits' lengths, which hold every plan.
 pub fn lend(file: &[u8], out: &mut [u8]) -> usize
-    requires { ⌜ 65536 ≤ length (now out) ⌝ }
+    requires { ⌜ maxListing ≤ length (now out) ⌝ }
     ensures { λ r. ⌜ Wrote (now (out .entry)) 0 (answerText (read (now (file .entry)))) (now (out .exit)) r ⌝ }
 {
     let mut rows = [Row {

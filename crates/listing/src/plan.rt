@@ -5,7 +5,7 @@ ghost use Prim.Native.Nat.{_≤_};
 ghost use lib.ListN.{length};
 ghost use Rattle.laws.specs.Wrote.{Wrote};
 ghost use Rattle.model.specs.Held.{treeOf};
-ghost use Rattle.model.specs.Listing.{planText};
+ghost use Rattle.model.specs.Listing.{maxListing, planText};
 ghost use Rattle.model.specs.SoundTest.{sound};
 ghost use Rattle.tables.specs.Meaning.{held};
 use crate::start::list_start;
@@ -21,7 +21,7 @@ pub fn list_plan(
     outcomes: &[u16],
     out: &mut [u8],
 ) -> usize
-    requires { ⌜ (sound (held size (now rows) (now firsts) (now outcomes)) ≡ true) × (65536 ≤ length (now out)) ⌝ }
+    requires { ⌜ (sound (held size (now rows) (now firsts) (now outcomes)) ≡ true) × (maxListing ≤ length (now out)) ⌝ }
     ensures { λ r. ⌜ Wrote (now (out .entry)) 0 (planText (treeOf (held size (now (rows .entry)) (now (firsts .entry)) (now (outcomes .entry))))) (now (out .exit)) r ⌝ }
 {
     let states = put_plan_line(out, 0, size);

@@ -1,5 +1,5 @@
-use lib.ListN.{length}
-use mathlib.Core.Path.{sym, ap, _∙_}
+use mathlib.Core.Path.{sym}
+use Rattle.listing.proofs.Files.{text-fits}
 use borrow.Author.Needs.{needs}
 use Rattle.list.proofs.print.Statement.{statement}
 use Rattle.list.proofs.print.Tie as tie
@@ -11,7 +11,7 @@ array-share-prefix-bytes : tie.Need-array-share-prefix-bytes
 array-share-prefix-bytes c = search needs
 
 slice-aggregate-write-all : tie.Need-slice-aggregate-write-all
-slice-aggregate-write-all c = let e = c .before .before .text-of .ensures in e .1 .0 ∙ sym (ap length (e .0))
+slice-aggregate-write-all c = sym (text-fits _ _ (c .before .before .text-of .ensures))
 
 write-all-requires : tie.Need-write-all-requires
 write-all-requires c κs = search needs

@@ -11,7 +11,7 @@ write-listing-requires : tie.Need-write-listing-requires
 write-listing-requires c κs = search needs
 
 returns : tie.Need-returns
-returns c = text-stands (c .before .before .before .before .args .input .now) (c .before .write-listing .ensures) (omega arith)
+returns c = text-stands (c .before .before .before .before .args .input .now) (c .before .write-listing .ensures)
 
 pub text-of-spec : {M : Type 1} → statement M
 text-of-spec = tie.close (tie.spec slice-aggregate-write-listing write-listing-requires returns)
