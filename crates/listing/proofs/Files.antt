@@ -5,7 +5,7 @@ use mathlib.Core.List.{List}
 use Prim.Native.Nat.{ℕ, _<_, _≤_}
 use native.Mathlib.Nat.{zero-add}
 use native.Mathlib.Omega.{arith}
-use lib.ListN.{length, take, replicate, length-map, length-replicate}
+use lib.ListN.{length, take, drop, replicate, length-map, length-append, length-replicate}
 use borrow.Author.Tests.{lt-ltb, le-ltb}
 use Rattle.laws.specs.Lists.{overwrite}
 use Rattle.laws.specs.Wrote.{Wrote}
@@ -73,6 +73,11 @@ module _ (input : List ℕ) where
       let fits : length (listing input) ≤ length zeros = omega (arith, listing-length input, length-replicate {A = ℕ} maxListing 0) in
       let whole = w .stored ∙ put-front zeros (listing input) fits in
       λ i. textWith (whole i) (count i)
+
+  -- it is no longer than the bytes that hold it
+  pub text-room : (r : Text) → r ≡ textOf (listing input) → r .length ≤ length (r .bytes)
+  unfolding overwrite
+  text-room r e = rw e (omega (arith, length-append (listing input) (drop (length (listing input)) (replicate {A = ℕ} maxListing 0))))
 
   -- its bytes are as many as are said
   pub text-fits : (r : Text) → r ≡ textOf (listing input) → length (take (r .length) (r .bytes)) ≡ r .length

@@ -1,5 +1,5 @@
 use mathlib.Core.Path.{sym}
-use Rattle.listing.proofs.Files.{text-fits}
+use Rattle.listing.proofs.Files.{text-fits, text-room}
 use borrow.Author.Needs.{needs}
 use Rattle.list.proofs.print.Statement.{statement}
 use Rattle.list.proofs.print.Tie as tie
@@ -8,7 +8,7 @@ text-of-requires : tie.Need-text-of-requires
 text-of-requires c κs = search needs
 
 array-share-prefix-bytes : tie.Need-array-share-prefix-bytes
-array-share-prefix-bytes c = search needs
+array-share-prefix-bytes c = text-room _ _ (c .before .text-of .ensures)
 
 slice-aggregate-write-all : tie.Need-slice-aggregate-write-all
 slice-aggregate-write-all c = sym (text-fits _ _ (c .before .before .text-of .ensures))
