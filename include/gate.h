@@ -98,7 +98,16 @@ enum {
     GATE_LIMIT = 8,     /* more than 4,096 commands or 16,384 outcomes so far */
     GATE_CRAMPED = 9,   /* a slice that the call writes is too short */
     GATE_UNSOUND = 10,  /* size, rows, firsts and outcomes are not what some file gives, or one of them is too short */
-    GATE_STRANGER = 11  /* the start named in the call is not below n, however large a number it is */
+    GATE_STRANGER = 11, /* the start named in the call is not below n, however large a number it is */
+
+    /* names set aside: no call returns these yet */
+    GATE_MOVES = 12,      /* more than 8 moves */
+    GATE_SECONDS = 13,    /* a move of 0 seconds, or of more than 3,600 */
+    GATE_DOUBTFUL = 14,   /* a doubtful outcome of a command is one of its sure ones */
+    GATE_DEPARTURES = 15, /* more than 8 departures from the practice */
+    GATE_CHAMBERS = 16,   /* no chamber, or more than 16 */
+    GATE_REPORT = 17,     /* no grant is open, or the state reported is no outcome of the granted command */
+    GATE_GRANT = 18       /* a grant is open already, or no chamber's state has a command */
 };
 
 /*

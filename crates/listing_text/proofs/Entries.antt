@@ -12,8 +12,9 @@ use Rattle.laws.specs.Sets.{found}
 use Rattle.laws.proofs.Tests.{true-or-false}
 use Rattle.model.specs.Plan.{Plan}
 use Rattle.model.specs.Policy.{policyFails, fault, mark}
-use Rattle.model.specs.Refusal.{Refusal, Cut, Surplus, Tag, Length, Beyond, Unsorted, Idle, Limit, Cramped, Unsound, Stranger, number}
+use Rattle.model.specs.Refusal.{Refusal, number}
 use Rattle.model.specs.Listing.{decimal, numberOrDash}
+use Rattle.model.proofs.Numbers.{number-bound}
 
 pub dash-word : (e : ℕ) → e ≡ FFFF → numberOrDash (fromEntry e) ≡ 45 ∷ []
 unfolding numberOrDash fromEntry
@@ -40,14 +41,4 @@ unfolding mark
 mark-says P s m e = rw (← e) (mark-parts (policyFails P s) (fault P s))
 
 pub number-small : (r : Refusal) → number r < 1000000
-number-small Cut = omega arith
-number-small Surplus = omega arith
-number-small Tag = omega arith
-number-small Length = omega arith
-number-small Beyond = omega arith
-number-small Unsorted = omega arith
-number-small Idle = omega arith
-number-small Limit = omega arith
-number-small Cramped = omega arith
-number-small Unsound = omega arith
-number-small Stranger = omega arith
+number-small r = omega (arith, number-bound r .1)

@@ -17,13 +17,14 @@ use Rattle.model.specs.Plan.{Plan}
 use Rattle.model.specs.Verdict.{rank}
 use Rattle.model.specs.Command.{chosen}
 use Rattle.model.specs.Search.{Result, search}
-use Rattle.model.specs.Refusal.{Refusal, Cut, Surplus, Tag, Length, Beyond, Unsorted, Idle, Limit, Cramped, Unsound, Stranger, Answer, given, refused, number, _>>=_, _>>_}
+use Rattle.model.specs.Refusal.{Refusal, Cramped, Answer, given, refused, number, _>>=_, _>>_}
 use Rattle.model.specs.Tables.{Tables}
 use Rattle.model.specs.File.{entries}
 use Rattle.model.specs.Held.{planIn}
 use Rattle.model.specs.Calls.{left, deciding, searching, rankTable, commandTable, resultTable}
 use Rattle.model.specs.Boundary.{entriesIn, bytesFor, resultEntries, tallyBytes, answerBytes, code, verdictIn, roundsIn, gateDecide, gateSearch, gateDecideCall, gateSearchCall}
 use Rattle.model.specs.Demand3.{DecidingDemand3, SearchDemand3}
+use Rattle.model.proofs.Numbers.{number-bound}
 use Rattle.model.proofs.Answers.{bind-inv, need-inv, given-inj}
 use Rattle.model.proofs.Answering.{DecideAnswers, SearchAnswers, deciding-iff, searching-iff}
 use Rattle.model.proofs.HeldPlan.{states-held}
@@ -69,17 +70,7 @@ written-table f n s h = written-entries (tabulate f 0 n) s (omega (arith, h, len
 
 -- no refusal has the number 0
 numbered : (r : Refusal) → number r ≡ 0 → ⊥
-numbered Cut e = omega (arith, e)
-numbered Surplus e = omega (arith, e)
-numbered Tag e = omega (arith, e)
-numbered Length e = omega (arith, e)
-numbered Beyond e = omega (arith, e)
-numbered Unsorted e = omega (arith, e)
-numbered Idle e = omega (arith, e)
-numbered Limit e = omega (arith, e)
-numbered Cramped e = omega (arith, e)
-numbered Unsound e = omega (arith, e)
-numbered Stranger e = omega (arith, e)
+numbered r e = omega (arith, e, number-bound r .0)
 
 pub answered : {A : Type 0} (x : Answer A) → code x ≡ 0 → (a : A) × (x ≡ given a)
 unfolding code

@@ -10,6 +10,7 @@ pub mod Rounds
 pub mod Searching
 pub mod Demands
 pub mod Widths
+pub mod Numbers
 pub mod Answers
 pub mod Fields
 pub mod Readings

@@ -1,10 +1,10 @@
--- The refusal table (document 01, "Refusal table"), and answers that may be refusals.
+-- The refusal tables of documents 01 and 02, and answers that may be refusals.
 use mathlib.Core.Bool.{Bool, true, false}
 use Prim.Native.Nat.{ℕ}
 
 infixl 1 _>>=_
 infixr 1 _>>_
--- the words of the table
+-- the words, in the order of their numbers
 pub data Refusal : Type 0 where
   -- bytes end inside a field or before the end field
   Cut : Refusal
@@ -28,6 +28,21 @@ pub data Refusal : Type 0 where
   Unsound : Refusal
   -- a state number not below n
   Stranger : Refusal
+  -- document 02's, which give numbers only; the calls that give these come with their requests
+  -- T-02: a contest of more than 8 moves is asked for
+  Moves : Refusal
+  -- T-06: a move is said to last 0 seconds, or more than 3,600
+  Seconds : Refusal
+  -- T-09: a doubtful outcome of a command is one of its sure ones
+  Doubtful : Refusal
+  -- T-13: more than 8 departures from the practice are asked for
+  Departures : Refusal
+  -- T-14: a site without chambers, or of more than 16
+  Chambers : Refusal
+  -- T-14: no grant is open, or the state reported is no outcome of the granted command
+  Report : Refusal
+  -- T-14: a grant is open already, or no chamber's state has a chosen command
+  Grant : Refusal
 
 abbrev pub number : Refusal → ℕ
 number Cut = 1
@@ -41,6 +56,13 @@ number Limit = 8
 number Cramped = 9
 number Unsound = 10
 number Stranger = 11
+number Moves = 12
+number Seconds = 13
+number Doubtful = 14
+number Departures = 15
+number Chambers = 16
+number Report = 17
+number Grant = 18
 
 -- a value, or a refusal
 pub data Answer (A : Type 0) : Type 0 where

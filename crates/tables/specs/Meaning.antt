@@ -17,7 +17,7 @@ use Rattle.tables.specs.declared.internal.Span.{Span}
 use Rattle.tables.specs.declared.internal.Admission.{Admission}
 use Rattle.tables.specs.declared.internal.Admission.the-variants.{Granted, Denied}
 use Rattle.tables.specs.declared.Refusal.{Refusal}
-use Rattle.tables.specs.declared.Refusal.the-variants.{Cut, Surplus, Tag, Length, Beyond, Unsorted, Idle, Limit, Cramped, Unsound, Stranger}
+use Rattle.tables.specs.declared.Refusal.the-variants.{Cut, Surplus, Tag, Length, Beyond, Unsorted, Idle, Limit, Cramped, Unsound, Stranger, Moves, Seconds, Doubtful, Departures, Chambers, Report, Grant}
 
 abbrev pub sized : ℕ → ℕ → ℕ → ℕ → Size
 sized n m t start = record { n = n; m = m; t = t; start = start }
@@ -37,6 +37,13 @@ refusalOf Limit = ModelRefusal.Limit
 refusalOf Cramped = ModelRefusal.Cramped
 refusalOf Unsound = ModelRefusal.Unsound
 refusalOf Stranger = ModelRefusal.Stranger
+refusalOf Moves = ModelRefusal.Moves
+refusalOf Seconds = ModelRefusal.Seconds
+refusalOf Doubtful = ModelRefusal.Doubtful
+refusalOf Departures = ModelRefusal.Departures
+refusalOf Chambers = ModelRefusal.Chambers
+refusalOf Report = ModelRefusal.Report
+refusalOf Grant = ModelRefusal.Grant
 
 -- a call answers a where it goes on, else the refusal
 abbrev pub admitted : {A : Type 0} → Admission → A → Answer A

@@ -42,7 +42,7 @@ pub struct Row {
     pub practice: u16,
 }
 
-// The words of the refusal table.
+// The words of the refusal tables. No call gives the last seven yet: they belong to requests of document 02.
 pub enum Refusal {
     Cut,
     Surplus,
@@ -55,6 +55,13 @@ pub enum Refusal {
     Cramped,
     Unsound,
     Stranger,
+    Moves,
+    Seconds,
+    Doubtful,
+    Departures,
+    Chambers,
+    Report,
+    Grant,
 }
 
 // The table's number of a refusal. Ruled out: one number for two refusals, and a number that is not the table's.
@@ -73,6 +80,13 @@ pub fn number(r: Refusal) -> u32
         Refusal::Cramped => 9,
         Refusal::Unsound => 10,
         Refusal::Stranger => 11,
+        Refusal::Moves => 12,
+        Refusal::Seconds => 13,
+        Refusal::Doubtful => 14,
+        Refusal::Departures => 15,
+        Refusal::Chambers => 16,
+        Refusal::Report => 17,
+        Refusal::Grant => 18,
     }
 }
 
