@@ -28,3 +28,6 @@ pub mod Spreads
 pub mod Turns
 pub mod Blocks
 pub mod Starts
+pub mod Merge
+pub mod Passing
+pub mod Maps

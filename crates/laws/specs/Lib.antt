@@ -1,5 +1,7 @@
 pub mod Sets
 pub mod Lists
+pub mod Merge
+pub mod Passing
 pub mod Entry
 pub mod Writes
 pub mod Filled

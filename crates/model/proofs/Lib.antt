@@ -1,10 +1,14 @@
 pub mod StateKinds
 pub mod Choices
 pub mod Layers
+pub mod SameLayers
+pub mod Finer
+pub mod Renumbered
 pub mod ValueEquation
 pub mod PolicyRuns
 pub mod Bugs
 pub mod Deciding
+pub mod Stays
 pub mod Walks
 pub mod Rounds
 pub mod Searching

@@ -1,7 +1,9 @@
 pub mod Plan
 pub mod Run
+pub mod Stays
 pub mod Strategy
 pub mod Verdict
+pub mod Finer
 pub mod Command
 pub mod Policy
 pub mod Search
