@@ -1,6 +1,6 @@
 """python3 tools/trace
 
-Checks that what docs/TRACE.md names is there: every path, name, function, crate, target of the Makefile and decision. What stands in the right
+Checks the line counts of README's list of what to read (believe.py), and that what docs/TRACE.md names is there: every path, name, function, crate, target of the Makefile and decision. What stands in the right
 column of a table, in its head and between tables is checked; the left column has the paper's words.
 
     `PATH` `name`, `name`           each is defined in the file; so are names further on, up to the next file
@@ -17,6 +17,7 @@ A path is under crates/ unless it starts at the top of the repository. Other cod
 import re
 import sys
 
+from believe import wrong_counts
 from defined import REPO, crates, decisions, defines, is_source, names_in_head, signature, targets, uses, uses_in_head
 
 TRACE = "docs/TRACE.md"
@@ -179,7 +180,10 @@ def main():
     wrongs = [wrong for passage in checked for wrong in passage.wrongs()]
     for line, wrong in wrongs:
         print(f"{TRACE}:{line}: {wrong}", file=sys.stderr)
-    if wrongs:
+    miscounted = wrong_counts()
+    for wrong in miscounted:
+        print(wrong, file=sys.stderr)
+    if wrongs or miscounted:
         sys.exit(1)
     words = [word for passage in checked for word in passage.words]
     print(f"{TRACE}: {sum(word.kind() == 'path' for word in words)} paths and {sum(word.is_name for word in words)} names, all there")
