@@ -91,7 +91,7 @@ abbrev ty·6 : Syntax.Ty
 ty·6 = Syntax.tyStruct (List._∷_ 116 (List._∷_ 97 (List._∷_ 98 (List._∷_ 108 (List._∷_ 101 (List._∷_ 115 (List._∷_ 58 (List._∷_ 58 (List._∷_ 83 (List._∷_ 105 (List._∷_ 122 (List._∷_ 101 List.[])))))))))))) (Syntax.tcons (Syntax.tyInt Syntax.w64) (Syntax.tcons (Syntax.tyInt Syntax.w64) (Syntax.tcons (Syntax.tyInt Syntax.w64) (Syntax.tcons (Syntax.tyInt Syntax.w64) Syntax.tnil))))
 
 abbrev ty·7 : Syntax.Ty
-ty·7 = Syntax.tyEnum (List._∷_ 116 (List._∷_ 97 (List._∷_ 98 (List._∷_ 108 (List._∷_ 101 (List._∷_ 115 (List._∷_ 58 (List._∷_ 58 (List._∷_ 82 (List._∷_ 101 (List._∷_ 102 (List._∷_ 117 (List._∷_ 115 (List._∷_ 97 (List._∷_ 108 List.[]))))))))))))))) (Syntax.ttcons Syntax.tnil (Syntax.ttcons Syntax.tnil (Syntax.ttcons Syntax.tnil (Syntax.ttcons Syntax.tnil (Syntax.ttcons Syntax.tnil (Syntax.ttcons Syntax.tnil (Syntax.ttcons Syntax.tnil (Syntax.ttcons Syntax.tnil (Syntax.ttcons Syntax.tnil (Syntax.ttcons Syntax.tnil (Syntax.ttcons Syntax.tnil Syntax.ttnil)))))))))))
+ty·7 = Syntax.tyEnum (List._∷_ 116 (List._∷_ 97 (List._∷_ 98 (List._∷_ 108 (List._∷_ 101 (List._∷_ 115 (List._∷_ 58 (List._∷_ 58 (List._∷_ 82 (List._∷_ 101 (List._∷_ 102 (List._∷_ 117 (List._∷_ 115 (List._∷_ 97 (List._∷_ 108 List.[]))))))))))))))) (Syntax.ttcons Syntax.tnil (Syntax.ttcons Syntax.tnil (Syntax.ttcons Syntax.tnil (Syntax.ttcons Syntax.tnil (Syntax.ttcons Syntax.tnil (Syntax.ttcons Syntax.tnil (Syntax.ttcons Syntax.tnil (Syntax.ttcons Syntax.tnil (Syntax.ttcons Syntax.tnil (Syntax.ttcons Syntax.tnil (Syntax.ttcons Syntax.tnil (Syntax.ttcons Syntax.tnil (Syntax.ttcons Syntax.tnil (Syntax.ttcons Syntax.tnil (Syntax.ttcons Syntax.tnil (Syntax.ttcons Syntax.tnil (Syntax.ttcons Syntax.tnil (Syntax.ttcons Syntax.tnil Syntax.ttnil))))))))))))))))))
 
 abbrev ty·8 : Syntax.Ty
 ty·8 = Syntax.tyEnum (List._∷_ 119 (List._∷_ 114 (List._∷_ 105 (List._∷_ 116 (List._∷_ 105 (List._∷_ 110 (List._∷_ 103 (List._∷_ 58 (List._∷_ 58 (List._∷_ 87 (List._∷_ 114 (List._∷_ 105 (List._∷_ 116 (List._∷_ 101 (List._∷_ 65 (List._∷_ 110 (List._∷_ 115 (List._∷_ 119 (List._∷_ 101 (List._∷_ 114 List.[])))))))))))))))))))) (Syntax.ttcons (Syntax.tcons (Syntax.tyInt Syntax.w64) Syntax.tnil) (Syntax.ttcons (Syntax.tcons ty·7 Syntax.tnil) Syntax.ttnil))
@@ -941,7 +941,7 @@ module _ (claims· : Claims) where
           E = Frame.EnvOf 𝓤 H (List._∷_ (Kinds.tyR r) (Enter.tysP ps xs)) bs
 
           d0 : Typed.Typed 𝓤 H A 𝓣 E G14 b4 Δ1 at0
-          d0 = Typed.s-typed 𝓤 H A W 𝓣 E G14 b4 Δ1 (λ Ψ. Typed.pass T14 T15 s12 (Typed.pass T15 T16 s13 Ψ)) tt (Typed.g-post 𝓤 H A W 𝓣 E G14 G15 G16 b4 (Typed.pass T14 T15 s12) (Typed.pass T15 T16 s13) (Make.t-enum-make-wt 𝓤 H A W E 𝓣 WriteAnswer.the-type Laws'3.the-laws Laws'3.the-plain tt G14 12 (List._∷_ (Scalar.oInt Syntax.w8 1) (List._∷_ (Scalar.oAt 8 ty·7 (Laws'4.val Refusal.the-type Laws.the-laws)) List.[])) (λ m. WriteAnswer.enum .make (Logic.inr (Logic.inl (m .1 .1 .1 .1 .1 .1 .1 .1 .0, tt)))) (Reads.room-gone 𝓤 H A ty·8) (tt, ((Whole.reads-enum 𝓤 H A W Refusal.the-type Laws.the-laws, Path'.refl), tt)) Path'.refl (λ m wa. Make.made-val WriteAnswer.the-type Laws'3.the-laws (List._∷_ (Laws'4.val Refusal.the-type Laws.the-laws (m .1 .1 .1 .1 .1 .1 .1 .1 .0)) List.[]) (WriteAnswer.enum .make (Logic.inr (Logic.inl (m .1 .1 .1 .1 .1 .1 .1 .1 .0, tt)))) (Signed.made-wt Refusal.the-field Laws.the-field-laws (Whole.enum-wt Refusal.the-type Laws.the-laws (tt, (tt, (tt, (tt, (tt, (tt, (tt, (tt, (tt, (tt, (tt, tt)))))))))))) (Refusal.the-type .to (m .1 .1 .1 .1 .1 .1 .1 .1 .0)), tt) (wa .1)) λ m wa. Make.made-is WriteAnswer.the-type Laws'3.the-laws (List._∷_ (Laws'4.val Refusal.the-type Laws.the-laws (m .1 .1 .1 .1 .1 .1 .1 .1 .0)) List.[]) (WriteAnswer.enum .make (Logic.inr (Logic.inl (m .1 .1 .1 .1 .1 .1 .1 .1 .0, tt)))) (Signed.made-wt Refusal.the-field Laws.the-field-laws (Whole.enum-wt Refusal.the-type Laws.the-laws (tt, (tt, (tt, (tt, (tt, (tt, (tt, (tt, (tt, (tt, (tt, tt)))))))))))) (Refusal.the-type .to (m .1 .1 .1 .1 .1 .1 .1 .1 .0)), tt) (wa .1)) (Scalar.g-room 𝓤 H A W E G15 8 ty·7 (Local.room-whole 𝓤 H A W (Declared.row Refusal.the-type) ty·7 Path'.refl)))
+          d0 = Typed.s-typed 𝓤 H A W 𝓣 E G14 b4 Δ1 (λ Ψ. Typed.pass T14 T15 s12 (Typed.pass T15 T16 s13 Ψ)) tt (Typed.g-post 𝓤 H A W 𝓣 E G14 G15 G16 b4 (Typed.pass T14 T15 s12) (Typed.pass T15 T16 s13) (Make.t-enum-make-wt 𝓤 H A W E 𝓣 WriteAnswer.the-type Laws'3.the-laws Laws'3.the-plain tt G14 12 (List._∷_ (Scalar.oInt Syntax.w8 1) (List._∷_ (Scalar.oAt 8 ty·7 (Laws'4.val Refusal.the-type Laws.the-laws)) List.[])) (λ m. WriteAnswer.enum .make (Logic.inr (Logic.inl (m .1 .1 .1 .1 .1 .1 .1 .1 .0, tt)))) (Reads.room-gone 𝓤 H A ty·8) (tt, ((Whole.reads-enum 𝓤 H A W Refusal.the-type Laws.the-laws, Path'.refl), tt)) Path'.refl (λ m wa. Make.made-val WriteAnswer.the-type Laws'3.the-laws (List._∷_ (Laws'4.val Refusal.the-type Laws.the-laws (m .1 .1 .1 .1 .1 .1 .1 .1 .0)) List.[]) (WriteAnswer.enum .make (Logic.inr (Logic.inl (m .1 .1 .1 .1 .1 .1 .1 .1 .0, tt)))) (Signed.made-wt Refusal.the-field Laws.the-field-laws (Whole.enum-wt Refusal.the-type Laws.the-laws (tt, (tt, (tt, (tt, (tt, (tt, (tt, (tt, (tt, (tt, (tt, (tt, (tt, (tt, (tt, (tt, (tt, (tt, tt))))))))))))))))))) (Refusal.the-type .to (m .1 .1 .1 .1 .1 .1 .1 .1 .0)), tt) (wa .1)) λ m wa. Make.made-is WriteAnswer.the-type Laws'3.the-laws (List._∷_ (Laws'4.val Refusal.the-type Laws.the-laws (m .1 .1 .1 .1 .1 .1 .1 .1 .0)) List.[]) (WriteAnswer.enum .make (Logic.inr (Logic.inl (m .1 .1 .1 .1 .1 .1 .1 .1 .0, tt)))) (Signed.made-wt Refusal.the-field Laws.the-field-laws (Whole.enum-wt Refusal.the-type Laws.the-laws (tt, (tt, (tt, (tt, (tt, (tt, (tt, (tt, (tt, (tt, (tt, (tt, (tt, (tt, (tt, (tt, (tt, (tt, tt))))))))))))))))))) (Refusal.the-type .to (m .1 .1 .1 .1 .1 .1 .1 .1 .0)), tt) (wa .1)) (Scalar.g-room 𝓤 H A W E G15 8 ty·7 (Local.room-whole 𝓤 H A W (Declared.row Refusal.the-type) ty·7 Path'.refl)))
 
           d1 : Typed.Typed 𝓤 H A 𝓣 E G13 b4 Δ1 at1
           d1 = Typed.g-pre 𝓤 H A W 𝓣 E G13 G14 b4 Δ1 (Typed.pass T13 T14 s11) at0 (Scalar.g-room 𝓤 H A W E G13 7 ty·9 (Local.room-whole 𝓤 H A W (Known.Known Admission.enum 1) ty·9 Path'.refl)) d0

@@ -104,7 +104,7 @@ abbrev ty·11 : Syntax.Ty
 ty·11 = Syntax.tyStruct (List._∷_ 116 (List._∷_ 97 (List._∷_ 98 (List._∷_ 108 (List._∷_ 101 (List._∷_ 115 (List._∷_ 58 (List._∷_ 58 (List._∷_ 83 (List._∷_ 105 (List._∷_ 122 (List._∷_ 101 List.[])))))))))))) (Syntax.tcons (Syntax.tyInt Syntax.w64) (Syntax.tcons (Syntax.tyInt Syntax.w64) (Syntax.tcons (Syntax.tyInt Syntax.w64) (Syntax.tcons (Syntax.tyInt Syntax.w64) Syntax.tnil))))
 
 abbrev ty·12 : Syntax.Ty
-ty·12 = Syntax.tyEnum (List._∷_ 116 (List._∷_ 97 (List._∷_ 98 (List._∷_ 108 (List._∷_ 101 (List._∷_ 115 (List._∷_ 58 (List._∷_ 58 (List._∷_ 82 (List._∷_ 101 (List._∷_ 102 (List._∷_ 117 (List._∷_ 115 (List._∷_ 97 (List._∷_ 108 List.[]))))))))))))))) (Syntax.ttcons Syntax.tnil (Syntax.ttcons Syntax.tnil (Syntax.ttcons Syntax.tnil (Syntax.ttcons Syntax.tnil (Syntax.ttcons Syntax.tnil (Syntax.ttcons Syntax.tnil (Syntax.ttcons Syntax.tnil (Syntax.ttcons Syntax.tnil (Syntax.ttcons Syntax.tnil (Syntax.ttcons Syntax.tnil (Syntax.ttcons Syntax.tnil Syntax.ttnil)))))))))))
+ty·12 = Syntax.tyEnum (List._∷_ 116 (List._∷_ 97 (List._∷_ 98 (List._∷_ 108 (List._∷_ 101 (List._∷_ 115 (List._∷_ 58 (List._∷_ 58 (List._∷_ 82 (List._∷_ 101 (List._∷_ 102 (List._∷_ 117 (List._∷_ 115 (List._∷_ 97 (List._∷_ 108 List.[]))))))))))))))) (Syntax.ttcons Syntax.tnil (Syntax.ttcons Syntax.tnil (Syntax.ttcons Syntax.tnil (Syntax.ttcons Syntax.tnil (Syntax.ttcons Syntax.tnil (Syntax.ttcons Syntax.tnil (Syntax.ttcons Syntax.tnil (Syntax.ttcons Syntax.tnil (Syntax.ttcons Syntax.tnil (Syntax.ttcons Syntax.tnil (Syntax.ttcons Syntax.tnil (Syntax.ttcons Syntax.tnil (Syntax.ttcons Syntax.tnil (Syntax.ttcons Syntax.tnil (Syntax.ttcons Syntax.tnil (Syntax.ttcons Syntax.tnil (Syntax.ttcons Syntax.tnil (Syntax.ttcons Syntax.tnil Syntax.ttnil))))))))))))))))))
 
 abbrev ty·13 : Syntax.Ty
 ty·13 = Syntax.tyEnum (List._∷_ 108 (List._∷_ 111 (List._∷_ 97 (List._∷_ 100 (List._∷_ 58 (List._∷_ 58 (List._∷_ 105 (List._∷_ 110 (List._∷_ 116 (List._∷_ 101 (List._∷_ 114 (List._∷_ 110 (List._∷_ 97 (List._∷_ 108 (List._∷_ 58 (List._∷_ 58 (List._∷_ 80 (List._∷_ 108 (List._∷_ 97 (List._∷_ 110 (List._∷_ 65 (List._∷_ 110 (List._∷_ 115 (List._∷_ 119 (List._∷_ 101 (List._∷_ 114 List.[])))))))))))))))))))))))))) (Syntax.ttcons (Syntax.tcons ty·11 Syntax.tnil) (Syntax.ttcons (Syntax.tcons ty·12 Syntax.tnil) Syntax.ttnil))
@@ -915,7 +915,7 @@ module _ (claims· : Claims) where
           E = Frame.EnvOf 𝓤 H (List._∷_ (Kinds.tyR r) (Enter.tysP ps xs)) bs
 
           d0 : Typed.Typed 𝓤 H A 𝓣 E G13 b2 Δ1 at0
-          d0 = Typed.s-typed 𝓤 H A W 𝓣 E G13 b2 Δ1 (λ Ψ. Typed.pass T13 T14 s11 (Typed.pass T14 T15 s12 Ψ)) tt (Typed.g-post 𝓤 H A W 𝓣 E G13 G14 G15 b2 (Typed.pass T13 T14 s11) (Typed.pass T14 T15 s12) (Make.t-enum-make-wt 𝓤 H A W E 𝓣 PlanAnswer.the-type Laws.the-laws Laws.the-plain tt G13 11 (List._∷_ (Scalar.oInt Syntax.w8 1) (List._∷_ (Scalar.oAt 9 ty·12 (Laws'3.val Refusal.the-type Laws'.the-laws)) List.[])) (λ m. PlanAnswer.enum .make (Logic.inr (Logic.inl (m .1 .1 .1 .1 .1 .1 .1 .1 .1 .0, tt)))) (Reads'.room-gone 𝓤 H A ty·13) (tt, ((Whole.reads-enum 𝓤 H A W Refusal.the-type Laws'.the-laws, Path'.refl), tt)) Path'.refl (λ m wa. Make.made-val PlanAnswer.the-type Laws.the-laws (List._∷_ (Laws'3.val Refusal.the-type Laws'.the-laws (m .1 .1 .1 .1 .1 .1 .1 .1 .1 .0)) List.[]) (PlanAnswer.enum .make (Logic.inr (Logic.inl (m .1 .1 .1 .1 .1 .1 .1 .1 .1 .0, tt)))) (Signed.made-wt Refusal.the-field Laws'.the-field-laws (Whole.enum-wt Refusal.the-type Laws'.the-laws (tt, (tt, (tt, (tt, (tt, (tt, (tt, (tt, (tt, (tt, (tt, tt)))))))))))) (Refusal.the-type .to (m .1 .1 .1 .1 .1 .1 .1 .1 .1 .0)), tt) (wa .1)) λ m wa. Make.made-is PlanAnswer.the-type Laws.the-laws (List._∷_ (Laws'3.val Refusal.the-type Laws'.the-laws (m .1 .1 .1 .1 .1 .1 .1 .1 .1 .0)) List.[]) (PlanAnswer.enum .make (Logic.inr (Logic.inl (m .1 .1 .1 .1 .1 .1 .1 .1 .1 .0, tt)))) (Signed.made-wt Refusal.the-field Laws'.the-field-laws (Whole.enum-wt Refusal.the-type Laws'.the-laws (tt, (tt, (tt, (tt, (tt, (tt, (tt, (tt, (tt, (tt, (tt, tt)))))))))))) (Refusal.the-type .to (m .1 .1 .1 .1 .1 .1 .1 .1 .1 .0)), tt) (wa .1)) (Scalar.g-room 𝓤 H A W E G14 9 ty·12 (Local.room-whole 𝓤 H A W (Declared.row Refusal.the-type) ty·12 Path'.refl)))
+          d0 = Typed.s-typed 𝓤 H A W 𝓣 E G13 b2 Δ1 (λ Ψ. Typed.pass T13 T14 s11 (Typed.pass T14 T15 s12 Ψ)) tt (Typed.g-post 𝓤 H A W 𝓣 E G13 G14 G15 b2 (Typed.pass T13 T14 s11) (Typed.pass T14 T15 s12) (Make.t-enum-make-wt 𝓤 H A W E 𝓣 PlanAnswer.the-type Laws.the-laws Laws.the-plain tt G13 11 (List._∷_ (Scalar.oInt Syntax.w8 1) (List._∷_ (Scalar.oAt 9 ty·12 (Laws'3.val Refusal.the-type Laws'.the-laws)) List.[])) (λ m. PlanAnswer.enum .make (Logic.inr (Logic.inl (m .1 .1 .1 .1 .1 .1 .1 .1 .1 .0, tt)))) (Reads'.room-gone 𝓤 H A ty·13) (tt, ((Whole.reads-enum 𝓤 H A W Refusal.the-type Laws'.the-laws, Path'.refl), tt)) Path'.refl (λ m wa. Make.made-val PlanAnswer.the-type Laws.the-laws (List._∷_ (Laws'3.val Refusal.the-type Laws'.the-laws (m .1 .1 .1 .1 .1 .1 .1 .1 .1 .0)) List.[]) (PlanAnswer.enum .make (Logic.inr (Logic.inl (m .1 .1 .1 .1 .1 .1 .1 .1 .1 .0, tt)))) (Signed.made-wt Refusal.the-field Laws'.the-field-laws (Whole.enum-wt Refusal.the-type Laws'.the-laws (tt, (tt, (tt, (tt, (tt, (tt, (tt, (tt, (tt, (tt, (tt, (tt, (tt, (tt, (tt, (tt, (tt, (tt, tt))))))))))))))))))) (Refusal.the-type .to (m .1 .1 .1 .1 .1 .1 .1 .1 .1 .0)), tt) (wa .1)) λ m wa. Make.made-is PlanAnswer.the-type Laws.the-laws (List._∷_ (Laws'3.val Refusal.the-type Laws'.the-laws (m .1 .1 .1 .1 .1 .1 .1 .1 .1 .0)) List.[]) (PlanAnswer.enum .make (Logic.inr (Logic.inl (m .1 .1 .1 .1 .1 .1 .1 .1 .1 .0, tt)))) (Signed.made-wt Refusal.the-field Laws'.the-field-laws (Whole.enum-wt Refusal.the-type Laws'.the-laws (tt, (tt, (tt, (tt, (tt, (tt, (tt, (tt, (tt, (tt, (tt, (tt, (tt, (tt, (tt, (tt, (tt, (tt, tt))))))))))))))))))) (Refusal.the-type .to (m .1 .1 .1 .1 .1 .1 .1 .1 .1 .0)), tt) (wa .1)) (Scalar.g-room 𝓤 H A W E G14 9 ty·12 (Local.room-whole 𝓤 H A W (Declared.row Refusal.the-type) ty·12 Path'.refl)))
 
           d1 : Typed.Typed 𝓤 H A 𝓣 E G12 b2 Δ1 at1
           d1 = Typed.g-pre 𝓤 H A W 𝓣 E G12 G13 b2 Δ1 (Typed.pass T12 T13 s10) at0 (Scalar.g-room 𝓤 H A W E G12 8 ty·13 (Local.room-whole 𝓤 H A W (Known.Known PlanAnswer.enum 1) ty·13 Path'.refl)) d0
