@@ -1,15 +1,14 @@
 -- What all steps of the work give together.
-use mathlib.Core.Path.{_≡_, refl, sym, ap, _∙_}
-use mathlib.Core.Bool.{Bool, true, false}
+use mathlib.Core.Path.{_≡_, sym, ap, _∙_}
+use mathlib.Core.Bool.{Bool, true}
 use mathlib.Core.List.{List}
 use Prim.Native.Nat.{ℕ, _<_, _≤_}
-use lib.ListN.{length, getD}
+use lib.ListN.{length}
 use Rattle.laws.specs.Entry.{entry}
 use Rattle.laws.specs.Filled.{Filled}
 use Rattle.laws.specs.Lists.{tabulate, overwrite}
-use Rattle.laws.proofs.Fills.{filled-as, filled-from, filled-over, filled-is}
+use Rattle.laws.proofs.Fills.{filled-as, filled-over, filled-is, tabulate-constant}
 use Rattle.laws.proofs.Agree.{Agree}
-use Rattle.laws.proofs.Fills.{tabulate-constant}
 use Rattle.model.specs.Plan.{Plan, hasPolicy}
 use Rattle.model.specs.Verdict.{lost, safe}
 use Rattle.model.specs.Command.{choice, chosen}
@@ -23,13 +22,12 @@ use Rattle.model.proofs.Layers.{chosen-choice}
 use Rattle.model.proofs.Valid.{sound-valid}
 use Rattle.tables.specs.declared.Row.{Row}
 use Rattle.tables.specs.declared.Size.{Size}
-use Rattle.tables.specs.Meaning.{held, commandsOf}
-use Rattle.propagate.specs.Net.{netOf, depth, seeds}
-use Rattle.decide.specs.Nets.{Initialized}
+use Rattle.tables.specs.Meaning.{held}
+use Rattle.nets.specs.Found.{Found}
 use Rattle.decide.specs.Verdicts.{numbered, oneIf, markAt, StatesJudged}
 use Rattle.decide.specs.Calls.{Worked}
-use Rattle.decide.proofs.PlanHits.{choice-agree, policy-hits-agree}
-use Rattle.decide.proofs.Depths.{ranks-found, lost-found, fails-found, fails-same, fails-past}
+use Rattle.nets.proofs.PlanHits.{choice-agree, policy-hits-agree}
+use Rattle.nets.proofs.Depths.{lost-found}
 use Rattle.decide.proofs.Tallies.{tally-same, tally-is}
 
 -- a table of n places is one of a place for each state
@@ -54,28 +52,19 @@ module _ (T : Tables) (sounds : sound T ≡ true) (L F : ℕ → Bool) (losts : 
       ∙ ap (tallyOf (lost P) (hasPolicy P) (policyFails P)) (sym (states-held T)) ∙ tally-is P
 
 module _ (size : Size) (rows : List Row) (firsts outcomes : List ℕ) (sounds : sound (held size rows firsts outcomes) ≡ true) where
-  pub worked : {rs cs ms ss w r₁ w₁ c₁ r₂ w₂ m₁ w₃ c₂ m₂ c₃ m₃ s₁ s₂ s₃ : List ℕ} {t : List (List ℕ)}
+  pub worked : {rs cs ms ss r₁ c₁ m₁ s₁ c₂ m₂ s₂ : List ℕ} {t : List (List ℕ)}
       → size .n ≤ length rs → size .n ≤ length cs → size .n ≤ length ms → size .n ≤ length ss
-      → Initialized (held size rows firsts outcomes) false (size .n) rs w cs r₁ w₁ c₁
-      → r₂ ≡ overwrite (tabulate (λ (s : ℕ). entry (depth (netOf (commandsOf size firsts outcomes) w₁ c₁) (seeds r₁) s)) 0 (size .n)) r₁
-      → Initialized (held size rows firsts outcomes) true (size .n) ms w₂ c₁ m₁ w₃ c₂
-      → m₂ ≡ overwrite (tabulate (λ (s : ℕ). entry (depth (netOf (commandsOf size firsts outcomes) w₃ c₂) (seeds m₁) s)) 0 (size .n)) m₁
-      → StatesJudged (planIn (held size rows firsts outcomes)) (numbered r₂) (size .n) c₂ m₂ t c₃ m₃
-      → Filled (size .n) (λ i. getD s₁ i 0) ss s₁ → Filled (size .n) (λ i. getD s₂ i 0) s₁ s₂ → Filled (size .n) (λ _. 0) s₂ s₃
-      → Worked (held size rows firsts outcomes) rs cs ms ss t r₂ c₃ m₃ s₃
+      → Found (held size rows firsts outcomes) rs cs ms ss r₁ c₁ m₁ s₁
+      → StatesJudged (planIn (held size rows firsts outcomes)) (numbered r₁) (size .n) c₁ m₁ t c₂ m₂ → Filled (size .n) (λ _. 0) s₁ s₂
+      → Worked (held size rows firsts outcomes) rs cs ms ss t r₁ c₂ m₂ s₂
   unfolding rankTable commandTable markTable cleared
-  worked {rs} {cs} {ms} {ss} {r₂ = r₂} {m₂ = m₂} lr lc lm ls v p u q j x y z =
+  worked {rs} {cs} {ms} {ss} {r₁ = r₁} {m₁ = m₁} lr lc lm ls v j z =
       let T = held size rows firsts outcomes in
-      let ranks = ranks-found size rows firsts outcomes sounds v lr r₂ p refl in
-      let losts = lost-found size rows firsts outcomes sounds ranks in
-      let fails = fails-found size rows firsts outcomes sounds u lm m₂ q refl in
+      let losts = lost-found size rows firsts outcomes sounds (v .ranked) in
       record {
-        tallied = j .counted ∙ tally-found T sounds (numbered r₂) (numbered m₂) losts fails;
-        ranked = table-is T lr ranks;
-        chose = table-is T lc (filled-as (chosen-found T sounds (numbered r₂) (numbered m₂) losts fails) (filled-over (v .stops) (filled-over (u .stops) (j .took))));
-        marked =
-            table-is T lm
-            (filled-as (mark-found T sounds (numbered r₂) (numbered m₂) losts fails)
-            (filled-from (fails-same size rows firsts outcomes sounds u lm m₂ q) (fails-past size rows firsts outcomes sounds u lm m₂ q) (j .marked)));
-        clean = table-is T ls (filled-over x (filled-over y z)) ∙ ap (λ (l : List ℕ). overwrite l ss) (tabulate-constant 0 0 (planIn T .states));
+        tallied = j .counted ∙ tally-found T sounds (numbered r₁) (numbered m₁) losts (v .failed);
+        ranked = table-is T lr (v .ranked);
+        chose = table-is T lc (filled-as (chosen-found T sounds (numbered r₁) (numbered m₁) losts (v .failed)) (filled-over (v .tos-past) (j .took)));
+        marked = table-is T lm (filled-as (mark-found T sounds (numbered r₁) (numbered m₁) losts (v .failed)) (filled-over (v .fails-past) (j .marked)));
+        clean = table-is T ls (filled-over (v .scratch-past) z) ∙ ap (λ (l : List ℕ). overwrite l ss) (tabulate-constant 0 0 (planIn T .states));
       }

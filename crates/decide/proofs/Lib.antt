@@ -1,11 +1,6 @@
 pub mod RowReads
-pub mod PlanHits
-pub mod Initializing
-pub mod NetSteps
-pub mod Depths
 pub mod StateVerdicts
 pub mod Tallies
 pub mod Passes
-pub mod Settings
 pub mod Finals
 pub mod Decisions

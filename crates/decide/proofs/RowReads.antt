@@ -1,5 +1,4 @@
 -- Made by tools/rows.
 pub mod Decide
-pub mod NetsInitialize
 pub mod VerdictsJudgeAll
 pub mod WorkingWorkOut

@@ -24,9 +24,9 @@ use Rattle.tables.specs.declared.Size.{Size}
 use Rattle.tables.specs.declared.internal.Span.{Span}
 use Rattle.tables.specs.Meaning.{held, spanAt}
 use Rattle.tables.specs.Seen.{Seen}
-use Rattle.decide.specs.Nets.{practised}
+use Rattle.nets.specs.Nets.{practised}
 use Rattle.decide.specs.Verdicts.{oneIf, markAt, columnOf, StateJudged}
-use Rattle.decide.proofs.NetSteps.{practised-is, practice-below}
+use Rattle.nets.proofs.NetSteps.{practised-is, practice-below}
 
 -- ---- a state that some sound plan has
 

@@ -15,7 +15,6 @@ use tables::Row;
 use tables::Size;
 use tables::internal::Admission;
 
-mod nets;
 mod verdicts;
 mod working;
 

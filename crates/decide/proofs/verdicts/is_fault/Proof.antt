@@ -1,5 +1,5 @@
 use Rattle.decide.proofs.StateVerdicts.{lost-fault, idle-fault, hit-fault}
-use Rattle.decide.proofs.Initializing.{practice-place}
+use Rattle.nets.proofs.Initializing.{practice-place}
 use native.Mathlib.Omega.{arith}
 use borrow.Author.Needs.{needs}
 use Rattle.decide.proofs.verdicts.is_fault.Statement.{statement}

@@ -1,0 +1,113 @@
+-- What a propagation finds: with all commands counting the ranks, with the practice alone where it fails.
+use mathlib.Core.Path.{_≡_, refl, sym, ap, _∙_}
+use mathlib.Core.Bool.{Bool, true, false, cond}
+use mathlib.Core.Logic.{_⊎_, inl, inr}
+use mathlib.Core.List.{List}
+use mathlib.Core.Option.{some}
+use Prim.Native.Nat.{ℕ, suc, _<_, _≤_}
+use native.Mathlib.Omega.{arith}
+use lib.Dec.{eqb}
+use lib.ListN.{length, getD}
+use Rattle.laws.specs.Entry.{FFFF, highest, entry}
+use Rattle.laws.specs.Filled.{Filled}
+use Rattle.laws.specs.Sets.{lowest, grow}
+use Rattle.laws.proofs.Defaults.{getD-inside}
+use Rattle.laws.proofs.Tries.{lowest-same}
+use Rattle.laws.proofs.Sets.{lowest-some}
+use Rattle.laws.proofs.Fills.{filled-as, filled-over, filled-of}
+use Rattle.laws.proofs.Agree.{Agree}
+use Rattle.laws.proofs.GrowSame.{grow-same, grow-found}
+use Rattle.laws.proofs.EntryFound.{entry-found}
+use Rattle.model.specs.File.{maxStates}
+use Rattle.model.specs.Plan.{Plan, failing}
+use Rattle.model.specs.Verdict.{forced, layer, rank, lost}
+use Rattle.model.specs.Policy.{policyHits, policyFails}
+use Rattle.model.specs.Tables.{Tables}
+use Rattle.model.specs.SoundTest.{sound}
+use Rattle.model.specs.Held.{planIn}
+use Rattle.model.proofs.HeldPlan.{states-held, kind-held}
+use Rattle.model.proofs.Layers.{rank-bound}
+use Rattle.model.proofs.SoundFacts.{sound-facts}
+use Rattle.tables.specs.declared.Row.{Row}
+use Rattle.tables.specs.declared.Size.{Size}
+use Rattle.tables.specs.Meaning.{held, spanAt, commandsOf}
+use Rattle.choice.specs.Within.{within}
+use Rattle.propagate.specs.Net.{netOf, losing, depth, seeds, Seeded}
+use Rattle.nets.specs.Nets.{seedOf, Initialized}
+use Rattle.nets.specs.Found.{depthTable}
+use Rattle.nets.proofs.NetSteps.{losing-all, losing-practice}
+
+zero-test : (b : Bool) → eqb (cond b 0 FFFF) 0 ≡ b
+zero-test true = refl
+zero-test false = refl
+
+zero-or-none : (b : Bool) → (cond b 0 FFFF ≡ 0) ⊎ (cond b 0 FFFF ≡ FFFF)
+zero-or-none true = inl refl
+zero-or-none false = inr refl
+
+-- what is left below n may be anything
+pub filled-past : {n : ℕ} {f : ℕ → ℕ} {l₀ l : List ℕ} → Filled n f l₀ l → Filled n (λ s. getD l s 0) l₀ l
+filled-past v = record { same = v .same; low = λ x h. refl; high = v .high }
+
+module _ (size : Size) (rows : List Row) (firsts outcomes : List ℕ) (sounds : sound (held size rows firsts outcomes) ≡ true) where
+  abbrev T : Tables
+  T = held size rows firsts outcomes
+
+  abbrev P : Plan
+  P = planIn T
+
+  few : size .n ≤ maxStates
+  few = sound-facts T .0 sounds .size .few
+
+  module _ {alone : Bool} {r₀ w₀ e₀ r w e : List ℕ} (v : Initialized T alone (size .n) r₀ w₀ e₀ r w e) (long : size .n ≤ length r₀) where
+    pub initialized-seeded : Seeded (size .n) r
+    unfolding seedOf
+    initialized-seeded = record { seeded = λ s l. rw (v .seeded .low s l) (zero-or-none (eqb (spanAt T s .kind) 1)) }
+
+    seeds-are : Agree (size .n) (seeds r) (failing P)
+    unfolding seedOf failing
+    seeds-are s l =
+        rw (getD-inside r s 1 0 (omega (arith, v .seeded .same)), v .seeded .low s l, kind-held T s l) (zero-test (eqb (spanAt T s .kind) 1))
+
+    module _ (r′ : List ℕ) (found : r′ ≡ depthTable (netOf (commandsOf size firsts outcomes) w e) r) where
+      filled : Filled (size .n) (λ s. entry (depth (netOf (commandsOf size firsts outcomes) w e) (seeds r) s)) r₀ r′
+      filled = filled-over (v .seeded) (filled-of (omega (arith, v .seeded .same)) found)
+
+      -- ---- all commands
+
+      depth-rank : alone ≡ false → (s : ℕ) → s < size .n → depth (netOf (commandsOf size firsts outcomes) w e) (seeds r) s ≡ rank P s
+      unfolding depth rank
+      depth-rank z s l =
+          lowest-same _ _ (suc (size .n)) (λ k _.
+          grow-same (size .n) (losing (netOf (commandsOf size firsts outcomes) w e)) (forced P)
+          (λ A B h x g. losing-all size rows firsts outcomes w e alone sounds (v .begins .low) (v .stops .low) A B h x g z)
+          (seeds r) (failing P) seeds-are k s l)
+          ∙ ap (λ (j : ℕ). lowest (λ k. layer P k s) (suc j)) (sym (states-held T))
+
+      pub ranks-found : alone ≡ false → Filled (size .n) (λ s. entry (rank P s)) r₀ r′
+      ranks-found z = filled-as (λ s l. ap entry (depth-rank z s l)) filled
+
+      -- ---- the practice alone
+
+      depth-small : (s i : ℕ) → depth (netOf (commandsOf size firsts outcomes) w e) (seeds r) s ≡ some i → i ≤ highest
+      unfolding depth
+      depth-small s i q = omega (arith, lowest-some _ (suc (size .n)) i q .0, few)
+
+      pub fails-found : alone ≡ true → Agree (size .n) (within r′ highest) (policyFails P)
+      unfolding depth policyFails
+      fails-found z s l =
+          rw (filled .low s l)
+          (entry-found (depth (netOf (commandsOf size firsts outcomes) w e) (seeds r) s) (depth-small s)
+          ∙ grow-found (losing (netOf (commandsOf size firsts outcomes) w e)) (seeds r) (size .n) s
+          ∙ grow-same (size .n) _ (policyHits P)
+          (λ A B h x g. losing-practice size rows firsts outcomes w e alone sounds (v .begins .low) (v .stops .low) A B h x g z)
+          (seeds r) (failing P) seeds-are (size .n) s l
+          ∙ ap (λ (j : ℕ). grow (policyHits P) (failing P) j s) (sym (states-held T)))
+
+      pub fails-filled : Filled (size .n) (λ s. getD r′ s 0) r₀ r′
+      fails-filled = filled-past filled
+
+  -- the lost states are those of a rank
+  pub lost-found : {r₀ r′ : List ℕ} → Filled (size .n) (λ s. entry (rank P s)) r₀ r′ → Agree (size .n) (within r′ highest) (lost P)
+  unfolding lost
+  lost-found v s l = rw (v .low s l) (entry-found (rank P s) (λ i q. omega (arith, rank-bound P s i q, states-held T, few)))

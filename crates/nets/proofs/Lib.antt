@@ -1,0 +1,8 @@
+pub mod RowReads
+pub mod PlanHits
+pub mod Initializing
+pub mod NetSteps
+pub mod Depths
+pub mod Settings
+pub mod OwnIndex
+pub mod Finds

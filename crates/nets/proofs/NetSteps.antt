@@ -1,0 +1,99 @@
+-- A propagation's step is the plan's: with all commands counting it is what document 01's layers add, with the practice alone what the
+-- practice risks.
+use mathlib.Core.Path.{_≡_, sym, ap, ap₂, _∙_}
+use mathlib.Core.Bool.{Bool, true, false, _&&_}
+use mathlib.Core.Logic.{⊎-elim}
+use mathlib.Core.List.{List}
+use Prim.Native.Nat.{ℕ, zero, suc, _+_, _-_, _<_}
+use native.Mathlib.Nat.{add-zero}
+use native.Mathlib.Numerals.{add-one}
+use native.Mathlib.Omega.{arith}
+use lib.Dec.{ltb}
+use lib.ListN.{getD}
+use borrow.Author.Tests.{lt-ltb, le-ltb, ltb-true}
+use Rattle.laws.specs.Sets.{every}
+use Rattle.laws.proofs.Agree.{Agree, every-same}
+use Rattle.laws.proofs.Tests.{same-test, true-or-false}
+use Rattle.model.specs.Plan.{Plan, active, hasPolicy}
+use Rattle.model.specs.Verdict.{hits, forced}
+use Rattle.model.specs.Policy.{policyHits}
+use Rattle.model.specs.Tables.{Tables}
+use Rattle.model.specs.Places.{rowAt, firstCommand, commandCount}
+use Rattle.model.specs.SoundTest.{sound}
+use Rattle.model.specs.Held.{planIn}
+use Rattle.model.proofs.StateKinds.{active-is, command-active}
+use Rattle.model.proofs.HeldPlan.{states-held, policy-held, commands-held}
+use Rattle.model.proofs.Valid.{sound-valid}
+use Rattle.tables.specs.declared.Row.{Row}
+use Rattle.tables.specs.declared.Size.{Size}
+use Rattle.tables.specs.Meaning.{held, spanAt, commandsOf}
+use Rattle.propagate.specs.Net.{netOf, from, to, losing}
+use Rattle.propagate.specs.Net.{commandHits}
+use Rattle.nets.specs.Nets.{practised, practiceRange, rangeOf}
+use Rattle.nets.proofs.PlanHits.{hits-agree, hits-place}
+
+-- whether a practice is given, by what was read
+pub practised-is : (T : Tables) (s : ℕ) → s < T .size .n → practised (spanAt T s) ≡ hasPolicy (planIn T) s
+unfolding hasPolicy commandCount
+practised-is T s l = rw (policy-held T s l, commands-held T s l, add-one s)
+
+-- a practice that is given is a command
+pub practice-below : (T : Tables) (s : ℕ) → s < T .size .n → hasPolicy (planIn T) s ≡ true → rowAt T s .policy < planIn T .commands s
+unfolding hasPolicy
+practice-below T s l e = rw (← policy-held T s l) (ltb-true (planIn T .policy s) (planIn T .commands s) e)
+
+module _ (size : Size) (rows : List Row) (firsts outcomes watch ends : List ℕ) (alone : Bool) (sounds : sound (held size rows firsts outcomes) ≡ true)
+    (begins : (s : ℕ) → s < size .n → getD watch s 0 ≡ rangeOf alone (spanAt (held size rows firsts outcomes) s) .from)
+    (stops : (s : ℕ) → s < size .n → getD ends s 0 ≡ rangeOf alone (spanAt (held size rows firsts outcomes) s) .to)
+    (A B : ℕ → Bool) (same : Agree (size .n) A B) (s : ℕ) (l : s < size .n) where
+  abbrev T : Tables
+  T = held size rows firsts outcomes
+
+  abbrev P : Plan
+  P = planIn T
+
+  -- an outcome in A at a place is an outcome in B of the command
+  hit-is : (c : ℕ) → c < P .commands s → commandHits (commandsOf size firsts outcomes) A (firstCommand T s + c) ≡ hits P B s c
+  hit-is c m = hits-place size rows firsts outcomes A s c l m ∙ hits-agree T sounds A B same s l c m
+
+  -- of a net whose range at s is known
+  losing-words : (a b : ℕ) → getD watch s 0 ≡ a → getD ends s 0 ≡ b
+      → losing (netOf (commandsOf size firsts outcomes) watch ends) A s ≡ (ltb a b && every (λ i. commandHits (commandsOf size firsts outcomes) A (a + i)) (b - a))
+  unfolding losing from to
+  losing-words a b p q = rw (p, q)
+
+  -- ---- all commands
+
+  active-test : ltb (firstCommand T s) (firstCommand T (suc s)) ≡ active P s
+  unfolding commandCount
+  active-test =
+      same-test (ltb (firstCommand T s) (firstCommand T (suc s))) (active P s)
+      (λ e. command-active P s (sound-valid T sounds) (rw (states-held T) l) 0 (omega (arith, ltb-true (firstCommand T s) (firstCommand T (suc s)) e, commands-held T s l)))
+      (λ e. lt-ltb (firstCommand T s) (firstCommand T (suc s)) (omega (arith, active-is P s e .1, commands-held T s l)))
+
+  pub losing-all : alone ≡ false → losing (netOf (commandsOf size firsts outcomes) watch ends) A s ≡ forced P B s
+  unfolding forced rangeOf commandCount
+  losing-all z =
+      losing-words (firstCommand T s) (firstCommand T (suc s)) (begins s l ∙ rw z) (stops s l ∙ rw (z, add-one s))
+      ∙ ap₂ (λ (a b : Bool). a && b) active-test
+      (every-same _ _ _ (λ c m. hit-is c (rw (commands-held T s l) m)) ∙ ap (every (hits P B s)) (sym (commands-held T s l)))
+
+  -- ---- the practice alone
+
+  pub losing-practice : alone ≡ true → losing (netOf (commandsOf size firsts outcomes) watch ends) A s ≡ policyHits P B s
+  unfolding policyHits rangeOf practiceRange every
+  losing-practice z = ⊎-elim given none (true-or-false (practised (spanAt T s)))
+    where
+      none : practised (spanAt T s) ≡ false → losing (netOf (commandsOf size firsts outcomes) watch ends) A s ≡ (hasPolicy P s && hits P B s (P .policy s))
+      none e =
+          losing-words (firstCommand T s) (firstCommand T s) (begins s l ∙ rw (z, e)) (stops s l ∙ rw (z, e))
+          ∙ rw (le-ltb (firstCommand T s) (firstCommand T s) (omega arith), ← practised-is T s l, e)
+
+      given : practised (spanAt T s) ≡ true → losing (netOf (commandsOf size firsts outcomes) watch ends) A s ≡ (hasPolicy P s && hits P B s (P .policy s))
+      given e =
+          let p = rowAt T s .policy in
+          let f = firstCommand T s in
+          let one : f + p + 1 - (f + p) ≡ suc zero = omega arith in
+          losing-words (f + p) (f + p + 1) (begins s l ∙ rw (z, e)) (stops s l ∙ rw (z, e))
+          ∙ rw (lt-ltb (f + p) (f + p + 1) (omega arith), one, add-zero (f + p), ← practised-is T s l, e, policy-held T s l)
+          (hit-is p (practice-below T s l (sym (practised-is T s l) ∙ e)))

@@ -1,0 +1,3 @@
+-- Made by tools/rows.
+pub mod InternalInitialize
+pub mod InternalPropagatePlan

@@ -1,0 +1,33 @@
+-- What both propagations of a plan leave.
+use mathlib.Core.Path.{_≡_}
+use mathlib.Core.List.{List}
+use Prim.Native.Nat.{ℕ, suc, _<_, _≤_}
+use lib.ListN.{length, getD}
+use Rattle.laws.specs.Entry.{highest, entry}
+use Rattle.laws.specs.Filled.{Filled}
+use Rattle.laws.specs.Lists.{tabulate, overwrite}
+use Rattle.laws.specs.Starts.{startOf}
+use Rattle.model.specs.Verdict.{rank}
+use Rattle.model.specs.Policy.{policyFails}
+use Rattle.model.specs.Tables.{Tables}
+use Rattle.model.specs.Held.{planIn}
+use Rattle.choice.specs.Within.{within}
+use Rattle.propagate.specs.Net.{Net, depth, seeds}
+
+-- a table of seeds, with the number of steps in which each state is lost, or FFFF, in their place
+abbrev pub depthTable : Net → List ℕ → List ℕ
+depthTable N ranks = overwrite (tabulate (λ (s : ℕ). entry (depth N (seeds ranks) s)) 0 (N .commands .size .n)) ranks
+
+-- the commands that count at each of n states are among its own, which start where `starts` says, the last ending at m
+pub record OwnRanges (n m : ℕ) (starts froms tos : List ℕ) : Type 0 where
+  pub long-froms : n ≤ length froms
+  pub long-tos : n ≤ length tos
+  pub inside : (s : ℕ) → s < n → (startOf starts n m s ≤ getD froms s 0) × (getD tos s 0 ≤ startOf starts n m (suc s))
+
+-- The rank of each state, and a number where the practice fails. In the first n places of the two tables that are worked in is left what may be.
+pub record Found (T : Tables) (ranks tos fails scratch ranks′ tos′ fails′ scratch′ : List ℕ) : Type 0 where
+  pub ranked : Filled (T .size .n) (λ s. entry (rank (planIn T) s)) ranks ranks′
+  pub failed : (s : ℕ) → s < T .size .n → within fails′ highest s ≡ policyFails (planIn T) s
+  pub fails-past : Filled (T .size .n) (λ s. getD fails′ s 0) fails fails′
+  pub tos-past : Filled (T .size .n) (λ s. getD tos′ s 0) tos tos′
+  pub scratch-past : Filled (T .size .n) (λ i. getD scratch′ i 0) scratch scratch′
