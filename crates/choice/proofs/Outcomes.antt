@@ -12,8 +12,8 @@ use borrow.Author.Tests.{lt-ltb}
 use Rattle.laws.specs.Sets.{any}
 use Rattle.laws.specs.Starts.{startOf}
 use Rattle.laws.proofs.Starts.{start-next}
-use Rattle.model.specs.Tables.{Tables}
-use Rattle.model.specs.Places.{firstOutcome, outcomesAt}
+use Rattle.model.specs.Tables.{Tables, Lists}
+use Rattle.model.specs.Places.{startIn, listAt, firstOutcome, outcomesAt}
 use Rattle.tables.specs.declared.Row.{Row}
 use Rattle.tables.specs.declared.Size.{Size}
 use Rattle.tables.specs.Meaning.{held, commandsOf}
@@ -21,15 +21,14 @@ use Rattle.tables.specs.Ready.{Ready}
 use Rattle.tables.proofs.Readiness.{ready-below}
 use Rattle.choice.specs.Within.{clear}
 
--- a command whose outcomes are read from place `from` up to place `end`
-pub outcomes-read : (T : Tables) (c from end : ℕ) → from ≡ firstOutcome T c → end ≡ firstOutcome T (c + 1)
-    → slice from end (T .outcomes) ≡ outcomesAt T c
-unfolding outcomesAt
-outcomes-read T c from end p q = rw (p, q, add-one c)
+-- a list whose entries are read from place `from` up to place `end`
+pub outcomes-read : (L : Lists) (c from end : ℕ) → from ≡ startIn L c → end ≡ startIn L (c + 1) → slice from end (L .entries) ≡ listAt L c
+unfolding listAt
+outcomes-read L c from end p q = rw (p, q, add-one c)
 
-pub hit-read : (T : Tables) (K : ℕ → Bool) (c from end : ℕ) (r : Bool) → from ≡ firstOutcome T c → end ≡ firstOutcome T (c + 1)
-    → r ≡ any K (slice from end (T .outcomes)) → r ≡ any K (outcomesAt T c)
-hit-read T K c from end r p q e = e ∙ rw (outcomes-read T c from end p q)
+pub hit-read : (L : Lists) (K : ℕ → Bool) (c from end : ℕ) (r : Bool) → from ≡ startIn L c → end ≡ startIn L (c + 1)
+    → r ≡ any K (slice from end (L .entries)) → r ≡ any K (listAt L c)
+hit-read L K c from end r p q e = e ∙ rw (outcomes-read L c from end p q)
 
 -- they are in range, and so is what they name in a table of n places
 pub outcomes-inside : {size : Size} {firsts outcomes : List ℕ} → Ready (commandsOf size firsts outcomes) → (R : List Row) (c from end places : ℕ) → c < size .m

@@ -39,7 +39,7 @@ module _ (z : Size) (rows : List Row) (firsts outcomes bytes : List ℕ) (rows2 
   abbrev whole : AfterWriteRead
   whole = writeReadCall T bytes (rowsOf rows2) firsts2 outcomes2
 
-  trip : Sound T → fileLength (T .size) ≤ length bytes → z .n ≤ length rows2 → z .m ≤ length firsts2 → z .t ≤ length outcomes2
+  trip : Sound T → fileLength T ≤ length bytes → z .n ≤ length rows2 → z .m ≤ length firsts2 → z .t ≤ length outcomes2
       → (whole .answers ≡ given (T .size)) × Same T (record { size = T .size; rows = whole .rows; firsts = whole .firsts; outcomes = whole .outcomes })
   unfolding thenRead answer
   trip s room long-rows long-firsts long-outcomes =
@@ -52,7 +52,7 @@ module _ (z : Size) (rows : List Row) (firsts outcomes bytes : List ℕ) (rows2 
   abbrev Says : ReadAnswer → List ℕ → List Row → List ℕ → List ℕ → Type 0
   Says r bytes′ rows′ firsts′ outcomes′ =
       (afterWriteRead r bytes′ rows′ firsts′ outcomes′ ≡ whole)
-      × (Sound T → fileLength (T .size) ≤ length bytes → z .n ≤ length rows2 → z .m ≤ length firsts2 → z .t ≤ length outcomes2
+      × (Sound T → fileLength T ≤ length bytes → z .n ≤ length rows2 → z .m ≤ length firsts2 → z .t ≤ length outcomes2
       → (readAnswer r ≡ given (T .size)) × Same T (held z rows′ firsts′ outcomes′))
 
   says : (r : ReadAnswer) (bytes′ : List ℕ) (rows′ : List Row) (firsts′ outcomes′ : List ℕ)

@@ -70,7 +70,7 @@ pub fn write_read(
         ≡ writeReadCall (held size (now (rows .entry)) (now (firsts .entry)) (now (outcomes .entry))) (now (bytes .entry))
         (rowsOf (now (rows2 .entry))) (now (firsts2 .entry)) (now (outcomes2 .entry)) ⌝ }
     ensures again { λ r. ⌜ (let T = held size (now (rows .entry)) (now (firsts .entry)) (now (outcomes .entry)) in
-        Sound T → fileLength (T .size) ≤ length (now (bytes .entry))
+        Sound T → fileLength T ≤ length (now (bytes .entry))
         → size .n ≤ length (now (rows2 .entry)) → size .m ≤ length (now (firsts2 .entry)) → size .t ≤ length (now (outcomes2 .entry))
         → (readAnswer r ≡ given (T .size)) × Same T (held size (now (rows2 .exit)) (now (firsts2 .exit)) (now (outcomes2 .exit)))) ⌝ }
 {

@@ -40,7 +40,7 @@ unfolding few tablesLong
 sound-held T e =
     let f = sound-facts T .0 e in
     simp (and-iff, leb-iff)
-    (((f .size .few, f .size .few-commands), f .size .few-outcomes), ((f .long .rows, f .long .firsts), f .long .outcomes))
+    (((f .size .few, f .size .few-commands), f .size .few-outcomes), ((f .long .rows, f .long .lists .firsts), f .long .lists .entries))
 
 -- what is made of the lent plan, where that is refused with 10 if the plan is unsound
 module _ {A : Type 0} (make : Tables → Answer A) (unsound : (T : Tables) → sound T ≡ false → make T ≡ refused Unsound) (r : ModelRefusal) where
@@ -81,8 +81,10 @@ module _ (S R F O : List ℕ) (p : PlanAnswer) (says : answerOf p ≡ answer siz
     lent-same rows₀ rows₁ firsts₀ firsts₁ outcomes₀ outcomes₁ rs fs os = record {
       size = refl;
       rows = front (λ T. take (T .size .n) (T .rows)) (z .n) (rowsIn (entriesIn R)) rows₀ (rowsOf rows₁) (omega (arith, w .rows, length-rows-in R)) refl rs;
-      firsts = front (λ T. take (T .size .m) (T .firsts)) (z .m) (entriesIn F) firsts₀ firsts₁ (omega (arith, w .firsts, length-entries-in F)) refl fs;
-      outcomes = front (λ T. take (T .size .t) (T .outcomes)) (z .t) (entriesIn O) outcomes₀ outcomes₁ (omega (arith, w .outcomes, length-entries-in O)) refl os;
+      lists = record {
+        firsts = front (λ T. take (T .size .m) (T .firsts)) (z .m) (entriesIn F) firsts₀ firsts₁ (omega (arith, w .firsts, length-entries-in F)) refl fs;
+        entries = front (λ T. take (T .size .t) (T .outcomes)) (z .t) (entriesIn O) outcomes₀ outcomes₁ (omega (arith, w .outcomes, length-entries-in O)) refl os;
+      };
     }
 
   module _ {A : Type 0} {call : Answer Tables → Answer A} (calls : PlanCall call) where

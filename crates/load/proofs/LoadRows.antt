@@ -9,7 +9,7 @@ use Rattle.model.specs.Tables.{Row as ModelRow}
 use Rattle.model.specs.Boundary.{entriesIn, rowsIn}
 use Rattle.model.proofs.Lent.{rowIn as modelRowIn, take-rows}
 use Rattle.tables.specs.declared.Row.{Row}
-use Rattle.tables.specs.Meaning.{rowOf, rowsOf, rowWith}
+use Rattle.tables.specs.Meaning.{rowOf, rowsOf}
 use Rattle.tables.proofs.StoredRows.{row-stored}
 use Rattle.load.specs.Loading.{rowIn}
 
@@ -22,7 +22,7 @@ pub rows-begin : (bytes : List ℕ) (n : ℕ) (rows : List Row) → Rows bytes n
 rows-begin bytes n rows = record { same = refl; put = refl }
 
 module _ (bytes : List ℕ) (n s : ℕ) {rows₀ rows : List Row} (w : Rows bytes n rows₀ rows s) where
-  pub rows-more : s < n → {r : Row} → r ≡ rowIn bytes s → {rows′ : List Row} → rows′ ≡ set rows s (rowWith (r .kind) (r .first) (r .practice))
+  pub rows-more : s < n → {r : Row} → r ≡ rowIn bytes s → {rows′ : List Row} → rows′ ≡ set rows s r
       → Rows bytes n rows₀ rows′ (s + 1)
   rows-more h {r} e f = rw f (record {
     same = length-set rows s _ ∙ w .same;

@@ -49,7 +49,7 @@ module _ (rows firsts outcomes : ℕ) where
 
 pub record WriteAnswers (T : Tables) (bytes : ℕ) (file : List ℕ) : Type 0 where
   pub sounds : sound T ≡ true
-  pub long : fileLength (T .size) ≤ bytes
+  pub long : fileLength T ≤ bytes
   pub is : bytesOf (treeOf T) ≡ file
 
 pub writing-iff : (T : Tables) (bytes : ℕ) (file : List ℕ) → (writing T bytes ≡ given file) ↔ WriteAnswers T bytes file

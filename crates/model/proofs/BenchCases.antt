@@ -16,8 +16,8 @@ use Rattle.model.specs.Search.{lands, next, marked, withoutMarks, ends, 
 use Rattle.model.specs.Refusal.{Cut, Surplus, Tag, Length, Beyond, Unsorted, Idle, Limit, Cramped, Unsound, Stranger, given, refused, answer, _>>=_, need, _>>_}
 use Rattle.model.specs.File.{State, field, head, state, entries, rising, command, commands, states, read}
 use Rattle.model.specs.Tables.{Tables, allCommands, rowsFrom, firstsFrom, tablesOf}
-use Rattle.model.specs.Places.{rowAt, firstCommand, commandCount, outcomesAt}
-use Rattle.model.specs.SoundTest.{sizeSound, tablesLong, rowSound, risesAt, commandSound, outcomeSound, sound}
+use Rattle.model.specs.Places.{rowAt, firstCommand, commandCount, listAt}
+use Rattle.model.specs.SoundTest.{sizeSound, tablesLong, rowSound, risesAt, listSound, entrySound, listsSound, sound}
 use Rattle.model.specs.Held.{stateAt, treeOf, stateOf, planOf, planIn}
 use Rattle.model.specs.Calls.{left, reading, deciding, searching, rankTable, commandTable, markTable, resultTable, cleared, decideCall, searchCall}
 use Rattle.model.specs.Boundary.{entriesIn, rowsIn, rowEntries, tablesIn, gateRead, code}
@@ -123,7 +123,7 @@ sound-examples : map sound (
     ∷ lent 1 1 1 0 (0 ∷ 0 ∷ 0 ∷ []) [] (0 ∷ [])
     ∷ [])
     ≡ true ∷ true ∷ false ∷ false ∷ false ∷ false ∷ false ∷ true ∷ false ∷ false ∷ []
-unfolding every rowAt firstCommand commandCount sizeSound tablesLong rowSound risesAt commandSound outcomeSound sound rowsIn startOf
+unfolding every rowAt firstCommand commandCount sizeSound tablesLong rowSound risesAt listSound entrySound listsSound sound rowsIn startOf
 sound-examples = refl
 
 -- ---- the calls: what is answered, and every lent table afterwards
@@ -139,7 +139,7 @@ decide-example : decideCall fork (replicate 4 7) (replicate 4 7) (replicate 4 7)
   marks = 0 ∷ 0 ∷ 0 ∷ 7 ∷ [];
   scratch = 0 ∷ 0 ∷ 0 ∷ 7 ∷ [];
 }
-unfolding any first every orElse lowest found howMany grow tabulate overwrite entry ordinary failing active hasPolicy hits forced rank lost safe tryOrder choice chosen policyHits policyFails fault mark tallyRow tally answer _>>=_ need _>>_ rowAt firstCommand commandCount outcomesAt sizeSound tablesLong rowSound risesAt commandSound outcomeSound sound stateAt treeOf stateOf planOf planIn rowsIn left deciding rankTable commandTable markTable cleared startOf
+unfolding any first every orElse lowest found howMany grow tabulate overwrite entry ordinary failing active hasPolicy hits forced rank lost safe tryOrder choice chosen policyHits policyFails fault mark tallyRow tally answer _>>=_ need _>>_ rowAt firstCommand commandCount listAt sizeSound tablesLong rowSound risesAt listSound entrySound listsSound sound stateAt treeOf stateOf planOf planIn rowsIn left deciding rankTable commandTable markTable cleared startOf
 decide-example = refl
 
 -- a state that steps to itself, with a table one place short
@@ -153,18 +153,18 @@ decide-cramped : decideCall loop (7 ∷ []) (7 ∷ []) (7 ∷ []) [] ≡ record 
   marks = 7 ∷ [];
   scratch = [];
 }
-unfolding every answer need _>>_ rowAt firstCommand commandCount sizeSound tablesLong rowSound risesAt commandSound outcomeSound sound rowsIn left deciding startOf
+unfolding every answer need _>>_ rowAt firstCommand commandCount sizeSound tablesLong rowSound risesAt listSound entrySound listsSound sound rowsIn left deciding startOf
 decide-cramped = refl
 
 search-example : searchCall fork 0 (replicate 4 7) (replicate 4 7)
     ≡ record { answers = given (false, 1); commands = 0 ∷ FFFF ∷ FFFF ∷ 7 ∷ []; scratch = 0 ∷ 0 ∷ 0 ∷ 7 ∷ [] }
-unfolding any first every exists orElse lowest found grow tabulate overwrite entry ordinary failing active terminal hasPolicy hits tryOrder choice lands next marked withoutMarks ends before atOnce inRounds search answer _>>=_ need _>>_ rowAt firstCommand commandCount outcomesAt sizeSound tablesLong rowSound risesAt commandSound outcomeSound sound stateAt treeOf stateOf planOf planIn rowsIn left searching resultTable cleared startOf
+unfolding any first every exists orElse lowest found grow tabulate overwrite entry ordinary failing active terminal hasPolicy hits tryOrder choice lands next marked withoutMarks ends before atOnce inRounds search answer _>>=_ need _>>_ rowAt firstCommand commandCount listAt sizeSound tablesLong rowSound risesAt listSound entrySound listsSound sound stateAt treeOf stateOf planOf planIn rowsIn left searching resultTable cleared startOf
 search-example = refl
 
 -- the order of refusals: an unsound plan, a stranger and a short table; then without the first; then the last alone
 search-refusals : searchCall (lent 1 1 2 0 (0 ∷ 0 ∷ 0 ∷ []) (0 ∷ []) (0 ∷ [])) 1 [] [] .answers ∷ searchCall loop 1 [] [] .answers ∷ searchCall loop 0 [] [] .answers ∷ []
     ≡ refused Unsound ∷ refused Stranger ∷ refused Cramped ∷ []
-unfolding every answer need _>>_ rowAt firstCommand commandCount sizeSound tablesLong rowSound risesAt commandSound outcomeSound sound rowsIn searching startOf
+unfolding every answer need _>>_ rowAt firstCommand commandCount sizeSound tablesLong rowSound risesAt listSound entrySound listsSound sound rowsIn searching startOf
 search-refusals = refl
 
 -- ---- the C boundary

@@ -16,8 +16,8 @@ use Rattle.model.specs.Search.{lands, next, marked, withoutMarks, ends, 
 use Rattle.model.specs.Refusal.{Answer, answer, _>>=_, need, _>>_}
 use Rattle.model.specs.File.{field, head, state, entries, rising, command, commands, states, read}
 use Rattle.model.specs.Tables.{Tables, allCommands, rowsFrom, firstsFrom, tablesOf}
-use Rattle.model.specs.Places.{rowAt, firstCommand, commandCount, outcomesAt}
-use Rattle.model.specs.SoundTest.{sizeSound, tablesLong, rowSound, risesAt, commandSound, outcomeSound, sound}
+use Rattle.model.specs.Places.{rowAt, firstCommand, commandCount, listAt}
+use Rattle.model.specs.SoundTest.{sizeSound, tablesLong, rowSound, risesAt, listSound, entrySound, listsSound, sound}
 use Rattle.model.specs.Held.{stateAt, treeOf, stateOf, planOf, planIn}
 use Rattle.model.specs.Calls.{left, reading, deciding, searching, rankTable, commandTable, markTable, resultTable, cleared}
 use Rattle.model.specs.Boundary.{entriesIn, rowsIn, rowEntries, sizeEntries, tallyEntries, resultEntries, code, tablesIn, gateRead, gateDecide, gateSearch, gateReadCall, gateDecideCall, gateSearchCall}
@@ -53,12 +53,12 @@ case-a-decide : gateDecideCall (tablesIn size rows firsts outcomes) (lent 13) (l
       scratch = replicate 12 0 ++ lent 1;
       tally = (0 ∷ 0 ∷ 0 ∷ 2 ∷ 0 ∷ 1 ∷ 0 ∷ 0 ∷ 0 ∷ 1 ∷ 0 ∷ 2 ∷ []) ++ lent 1;
     }
-unfolding any first every exists orElse lowest found howMany grow tabulate overwrite joined entry ordinary failing active terminal hasPolicy hits forced rank lost safe tryOrder choice chosen policyHits policyFails fault mark tallyRow tally lands next marked withoutMarks ends before atOnce inRounds search answer _>>=_ need _>>_ rowAt firstCommand commandCount outcomesAt sizeSound tablesLong rowSound risesAt commandSound outcomeSound sound stateAt treeOf stateOf planOf planIn rowsIn entriesIn entries tablesIn left deciding searching rankTable commandTable markTable resultTable cleared code gateDecide gateSearch tallyEntries resultEntries twos startOf
+unfolding any first every exists orElse lowest found howMany grow tabulate overwrite joined entry ordinary failing active terminal hasPolicy hits forced rank lost safe tryOrder choice chosen policyHits policyFails fault mark tallyRow tally lands next marked withoutMarks ends before atOnce inRounds search answer _>>=_ need _>>_ rowAt firstCommand commandCount listAt sizeSound tablesLong rowSound risesAt listSound entrySound listsSound sound stateAt treeOf stateOf planOf planIn rowsIn entriesIn entries tablesIn left deciding searching rankTable commandTable markTable resultTable cleared code gateDecide gateSearch tallyEntries resultEntries twos startOf
 case-a-decide = refl
 
 case-a-search : gateSearchCall (tablesIn size rows firsts outcomes) 0 (lent 13) (lent 13) (lent 5)
     ≡ record { returns = 0; commands = (0 ∷ 0 ∷ 0 ∷ 0 ∷ 255 ∷ 255 ∷ 255 ∷ 255 ∷ 255 ∷ 255 ∷ 255 ∷ 255 ∷ []) ++ lent 1; scratch = replicate 12 0 ++ lent 1; answer = 0 ∷ 0 ∷ 0 ∷ 2 ∷ lent 1 }
-unfolding any first every exists orElse lowest found howMany grow tabulate overwrite joined entry ordinary failing active terminal hasPolicy hits forced rank lost safe tryOrder choice chosen policyHits policyFails fault mark tallyRow tally lands next marked withoutMarks ends before atOnce inRounds search answer _>>=_ need _>>_ rowAt firstCommand commandCount outcomesAt sizeSound tablesLong rowSound risesAt commandSound outcomeSound sound stateAt treeOf stateOf planOf planIn rowsIn entriesIn entries tablesIn left deciding searching rankTable commandTable markTable resultTable cleared code gateDecide gateSearch tallyEntries resultEntries twos startOf
+unfolding any first every exists orElse lowest found howMany grow tabulate overwrite joined entry ordinary failing active terminal hasPolicy hits forced rank lost safe tryOrder choice chosen policyHits policyFails fault mark tallyRow tally lands next marked withoutMarks ends before atOnce inRounds search answer _>>=_ need _>>_ rowAt firstCommand commandCount listAt sizeSound tablesLong rowSound risesAt listSound entrySound listsSound sound stateAt treeOf stateOf planOf planIn rowsIn entriesIn entries tablesIn left deciding searching rankTable commandTable markTable resultTable cleared code gateDecide gateSearch tallyEntries resultEntries twos startOf
 case-a-search = refl
 
 -- "Case A (94 bytes, hexadecimal)"
@@ -78,7 +78,7 @@ chainIn = tablesIn (0 ∷ 3 ∷ 0 ∷ 2 ∷ 0 ∷ 2 ∷ 0 ∷ 0 ∷ []) (0 ∷ 0
 -- lost is 1 (case A is safe), and no command is left in the table
 lost-search : gateSearchCall chainIn 0 (lent 6) (lent 6) (lent 4)
     ≡ record { returns = 0; commands = replicate 6 255; scratch = replicate 6 0; answer = 0 ∷ 1 ∷ 0 ∷ 2 ∷ [] }
-unfolding any first every exists orElse lowest found grow tabulate overwrite entry ordinary failing active terminal hasPolicy hits tryOrder choice lands next marked withoutMarks ends before atOnce inRounds search _>>=_ need _>>_ rowAt firstCommand commandCount outcomesAt sizeSound tablesLong rowSound risesAt commandSound outcomeSound sound stateAt treeOf stateOf planOf planIn rowsIn entriesIn entries tablesIn left searching resultTable cleared code gateSearch resultEntries twos startOf
+unfolding any first every exists orElse lowest found grow tabulate overwrite entry ordinary failing active terminal hasPolicy hits tryOrder choice lands next marked withoutMarks ends before atOnce inRounds search _>>=_ need _>>_ rowAt firstCommand commandCount listAt sizeSound tablesLong rowSound risesAt listSound entrySound listsSound sound stateAt treeOf stateOf planOf planIn rowsIn entriesIn entries tablesIn left searching resultTable cleared code gateSearch resultEntries twos startOf
 lost-search = refl
 
 -- ---- lengths in bytes: each slice just long enough, then in turn a byte less
@@ -94,12 +94,12 @@ restIn = tablesIn (0 ∷ 1 ∷ 0 ∷ 0 ∷ 0 ∷ 0 ∷ 0 ∷ 0 ∷ []) (0 ∷ 2 
 
 decide-lengths : code (gateDecide restIn 2 2 2 2 12) ∷ code (gateDecide restIn 1 2 2 2 12) ∷ code (gateDecide restIn 2 1 2 2 12) ∷ code (gateDecide restIn 2 2 1 2 12) ∷ code (gateDecide restIn 2 2 2 1 12) ∷ code (gateDecide restIn 2 2 2 2 11) ∷ []
     ≡ 0 ∷ 9 ∷ 9 ∷ 9 ∷ 9 ∷ 9 ∷ []
-unfolding every _>>=_ need _>>_ rowAt firstCommand commandCount sizeSound tablesLong rowSound risesAt commandSound outcomeSound sound rowsIn entriesIn entries tablesIn deciding code gateDecide startOf
+unfolding every _>>=_ need _>>_ rowAt firstCommand commandCount sizeSound tablesLong rowSound risesAt listSound entrySound listsSound sound rowsIn entriesIn entries tablesIn deciding code gateDecide startOf
 decide-lengths = refl
 
 search-lengths : code (gateSearch restIn 0 2 2 4) ∷ code (gateSearch restIn 0 1 2 4) ∷ code (gateSearch restIn 0 2 1 4) ∷ code (gateSearch restIn 0 2 2 3) ∷ []
     ≡ 0 ∷ 9 ∷ 9 ∷ 9 ∷ []
-unfolding every _>>=_ need _>>_ rowAt firstCommand commandCount sizeSound tablesLong rowSound risesAt commandSound outcomeSound sound rowsIn entriesIn entries tablesIn searching code gateSearch startOf
+unfolding every _>>=_ need _>>_ rowAt firstCommand commandCount sizeSound tablesLong rowSound risesAt listSound entrySound listsSound sound rowsIn entriesIn entries tablesIn searching code gateSearch startOf
 search-lengths = refl
 
 -- ---- the order of refusals
@@ -107,11 +107,11 @@ search-lengths = refl
 -- a size record one byte short before an answer one byte short, of deciding and of the search with a stranger; a stranger before an answer one byte short
 gate-order : code (gateDecide (tablesIn (lent 7) [] [] []) 2 2 2 2 11) ∷ code (gateSearch (tablesIn (lent 7) [] [] []) 1 2 2 3) ∷ code (gateSearch restIn 1 2 2 3) ∷ []
     ≡ 10 ∷ 10 ∷ 11 ∷ []
-unfolding every _>>=_ need _>>_ rowAt firstCommand commandCount sizeSound tablesLong rowSound risesAt commandSound outcomeSound sound rowsIn entriesIn entries tablesIn searching code gateDecide gateSearch startOf
+unfolding every _>>=_ need _>>_ rowAt firstCommand commandCount sizeSound tablesLong rowSound risesAt listSound entrySound listsSound sound rowsIn entriesIn entries tablesIn searching code gateDecide gateSearch startOf
 gate-order = refl
 
 -- with room for all but the tally, deciding writes no table
 gate-refused : gateDecideCall restIn (lent 2) (lent 2) (lent 2) (lent 2) (lent 11)
     ≡ record { returns = 9; ranks = lent 2; commands = lent 2; marks = lent 2; scratch = lent 2; tally = lent 11 }
-unfolding every _>>=_ need _>>_ rowAt firstCommand commandCount sizeSound tablesLong rowSound risesAt commandSound outcomeSound sound rowsIn entriesIn entries tablesIn left deciding code gateDecide startOf
+unfolding every _>>=_ need _>>_ rowAt firstCommand commandCount sizeSound tablesLong rowSound risesAt listSound entrySound listsSound sound rowsIn entriesIn entries tablesIn left deciding code gateDecide startOf
 gate-refused = refl

@@ -9,9 +9,9 @@ use Rattle.laws.specs.Starts.{startOf}
 use Rattle.model.specs.Refusal.{Surplus, Cramped, Unsound, given, refused, answer, _>>=_, need, _>>_}
 use Rattle.model.specs.File.{field, head, state, entries, rising, command, commands, states, read}
 use Rattle.model.specs.Bytes.{commandsBytes, statesBytes, bytesOf}
-use Rattle.model.specs.Tables.{Row, Tables, allCommands, rowsFrom, firstsFrom, tablesOf, fileLength}
-use Rattle.model.specs.Places.{rowAt, firstCommand, commandCount, outcomesAt}
-use Rattle.model.specs.SoundTest.{sizeSound, tablesLong, rowSound, risesAt, commandSound, outcomeSound, sound}
+use Rattle.model.specs.Tables.{Row, Tables, allCommands, rowsFrom, firstsFrom, tablesOf, sizeLength}
+use Rattle.model.specs.Places.{rowAt, firstCommand, commandCount, listAt}
+use Rattle.model.specs.SoundTest.{sizeSound, tablesLong, rowSound, risesAt, listSound, entrySound, listsSound, sound}
 use Rattle.model.specs.Held.{stateAt, treeOf}
 use Rattle.model.specs.Calls.{left, reading, writing, readCall, writeCall}
 use Rattle.model.specs.Bench.{toItself}
@@ -40,12 +40,12 @@ tables = record { size = record { n = 1; m = 1; t = 1; start = 0 }; rows = own �
 
 -- 10 + 8 + 3 + 2 bytes, with a byte to spare: the length is answered, nothing past the counts is written
 write-example : writeCall tables (replicate 24 7) ≡ record { answers = given 23; bytes = toItself ++ 7 ∷ [] }
-unfolding every answer left overwrite twos tabulate writing commandsBytes statesBytes bytesOf fileLength rowAt firstCommand commandCount outcomesAt sizeSound tablesLong rowSound risesAt commandSound outcomeSound sound stateAt treeOf need _>>_ startOf
+unfolding every answer left overwrite twos tabulate writing commandsBytes statesBytes bytesOf sizeLength rowAt firstCommand commandCount listAt sizeSound tablesLong rowSound risesAt listSound entrySound listsSound sound stateAt treeOf need _>>_ startOf
 write-example = refl
 
 -- a byte too few
 write-cramped : writeCall tables (replicate 22 7) ≡ record { answers = refused Cramped; bytes = replicate 22 7 }
-unfolding every answer left writing fileLength rowAt firstCommand commandCount sizeSound tablesLong rowSound risesAt commandSound outcomeSound sound need _>>_ startOf
+unfolding every answer left writing sizeLength rowAt firstCommand commandCount sizeSound tablesLong rowSound risesAt listSound entrySound listsSound sound need _>>_ startOf
 write-cramped = refl
 
 -- a start that is no state, and no byte: unsound before cramped
@@ -55,6 +55,6 @@ unfolding answer left writing sizeSound sound need _>>_
 write-unsound = refl
 
 -- "A file has 10 + 8n + 3m + 2t bytes.": case A, with its three counts 6, 6 and 9
-case-a-size : fileLength (record { n = 6; m = 6; t = 9; start = 0 }) ≡ 94
-unfolding fileLength
+case-a-size : sizeLength (record { n = 6; m = 6; t = 9; start = 0 }) ≡ 94
+unfolding sizeLength
 case-a-size = refl

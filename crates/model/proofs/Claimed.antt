@@ -132,7 +132,7 @@ module _ (T : Tables) (S : Sound T) where
   in-plan s l = rw (states-held T) l
 
 -- the length that is answered is the file's, so that the file is the bytes up to it
-written-answers : (T : Tables) (bytes : List ℕ) → Sound T → fileLength (T .size) ≤ length bytes → writeCall T bytes .answers ≡ given (fileLength (T .size))
+written-answers : (T : Tables) (bytes : List ℕ) → Sound T → fileLength T ≤ length bytes → writeCall T bytes .answers ≡ given (fileLength T)
 unfolding answer
 written-answers T bytes S long =
     let w = writing-iff T (length bytes) (bytesOf (treeOf T)) .1 (record { sounds = passes T S; long = long; is = refl }) in
@@ -157,7 +157,7 @@ meanings = record {
       subst (λ (n : ℕ). lowest (ends (planIn T) a) n ≡ some (before (planIn T) a)) (states-held T) (last-round (planIn T) (valid T S) a (in-plan T S a l) act);
   read-write = read-write;
   file-length = length-bytes;
-  write-read = λ T bytes S long rows firsts outcomes. write-read T bytes (fileLength (T .size)) (written-answers T bytes S long) rows firsts outcomes;
+  write-read = λ T bytes S long rows firsts outcomes. write-read T bytes (fileLength T) (written-answers T bytes S long) rows firsts outcomes;
   bench-plans = bench-plans;
   case-A-listing = case-A-listing;
   listing-length = listing-length;

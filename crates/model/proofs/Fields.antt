@@ -1,5 +1,5 @@
 -- The fields of a file: what the bytes hold where a field gives a value, and that it gives it where they do.
-use mathlib.Core.Path.{_≡_, refl, ap, sym, _∙_}
+use mathlib.Core.Path.{_≡_, refl, ap, sym, _∙_, subst}
 use mathlib.Core.Bool.{true}
 use mathlib.Core.List.{List}
 use Prim.Native.Nat.{ℕ, zero, suc, _+_, _*_, _/_, _%_, _<_, _≤_}
@@ -9,7 +9,7 @@ use borrow.Author.Tests.{leb-true, ltb-true, eqb-true, le-leb, lt-ltb, eq-eqb}
 use Rattle.laws.specs.Entry.{be16}
 use Rattle.laws.proofs.Tests.{and-both}
 use Rattle.model.specs.Refusal.{given, need, _>>=_, _>>_}
-use Rattle.model.specs.File.{maxStates, maxCommands, maxOutcomes, headTag, stateTag, commandTag, allowed, notIdle, field, head, state, entries, rising, command}
+use Rattle.model.specs.File.{maxStates, maxCommands, maxOutcomes, headTag, stateTag, commandTag, allowed, StateField, notIdle, stateValues, field, head, state, entries, rising, command}
 use Rattle.model.proofs.Answers.{given-inj, need-inv, then-inv, bind-inv}
 
 pub record Framed (tag : ℕ) (s : List ℕ) (len : ℕ) : Type 0 where
@@ -67,17 +67,15 @@ module _ (s : List ℕ) (n start : ℕ) where
   unfolding head need _>>_ _>>=_
   head-gives h = rw (field-gives headTag s 4 (h .framed), h .counts, h .starts, le-leb _ _ (h .some), le-leb _ _ (h .few), lt-ltb _ _ (h .inside))
 
-pub record Stated (m : ℕ) (s : List ℕ) (kind count policy : ℕ) : Type 0 where
+pub record Stated (m : ℕ) (s : List ℕ) (q : StateField) : Type 0 where
   pub framed : Framed stateTag s 5
-  pub is : getD s 3 0 ≡ kind
-  pub counts : be16 s 4 ≡ count
-  pub advises : be16 s 6 ≡ policy
-  pub low : kind ≤ 2
-  pub works : notIdle kind count policy ≡ true
-  pub few : m + count ≤ maxCommands
+  pub is : stateValues s ≡ q
+  pub low : q .kind ≤ 2
+  pub works : notIdle q ≡ true
+  pub few : m + q .count ≤ maxCommands
 
-module _ (m : ℕ) (s : List ℕ) (kind count policy : ℕ) where
-  pub state-inv : state m s ≡ given (kind, count, policy) → Stated m s kind count policy
+module _ (m : ℕ) (s : List ℕ) (q : StateField) where
+  pub state-inv : state m s ≡ given q → Stated m s q
   unfolding state
   state-inv e =
       let (len, f, e₁) = bind-inv (field stateTag s) _ e in
@@ -87,22 +85,20 @@ module _ (m : ℕ) (s : List ℕ) (kind count policy : ℕ) where
       let g = field-inv stateTag s len f in
       let five : len ≡ 5 = eqb-true _ _ (g .right) in
       let v = given-inj e₄ in
-      let a : getD s 3 0 ≡ kind = ap (λ (x : ℕ × ℕ × ℕ). x .0) v in
-      let b : be16 s 4 ≡ count = ap (λ (x : ℕ × ℕ × ℕ). x .1) v in
-      let c : be16 s 6 ≡ policy = ap (λ (x : ℕ × ℕ × ℕ). x .2) v in
       record {
         framed = rw five at g;
-        is = a;
-        counts = b;
-        advises = c;
-        low = rw (← a) (leb-true _ _ kind-test);
-        works = rw (← a, ← b, ← c) not-idle;
-        few = rw (← b) (leb-true _ _ few-test);
+        is = v;
+        low = rw (← v) (leb-true _ _ kind-test);
+        works = rw (← v) not-idle;
+        few = rw (← v) (leb-true _ _ few-test);
       }
 
-  pub state-gives : Stated m s kind count policy → state m s ≡ given (kind, count, policy)
+  pub state-gives : Stated m s q → state m s ≡ given q
   unfolding state need _>>_ _>>=_
-  state-gives h = rw (field-gives stateTag s 5 (h .framed), h .is, h .counts, h .advises, le-leb _ _ (h .low), h .works, le-leb _ _ (h .few))
+  state-gives h = subst (λ (x : StateField). state m s ≡ given x) (h .is) (gives (rw (← (h .is)) at h))
+    where
+      gives : Stated m s (stateValues s) → state m s ≡ given (stateValues s)
+      gives g = rw (field-gives stateTag s 5 (g .framed), le-leb _ _ (g .low), g .works, le-leb _ _ (g .few))
 
 pub record Commanded (n t : ℕ) (s os : List ℕ) : Type 0 where
   pub framed : Framed commandTag s (length os * 2)

@@ -1,5 +1,5 @@
 -- A file has 10 + 8n + 3m + 2t bytes.
-use mathlib.Core.Path.{_≡_}
+use mathlib.Core.Path.{_≡_, ap}
 use mathlib.Core.List.{List, [], _∷_}
 use Prim.Native.Nat.{ℕ, _+_, _*_}
 use native.Mathlib.Omega.{arith}
@@ -10,7 +10,7 @@ use Rattle.laws.proofs.Entry.{length-twos}
 use Rattle.laws.proofs.Joins.{length-joined}
 use Rattle.model.specs.File.{State, Tree, endTag}
 use Rattle.model.specs.Bytes.{commandsBytes, statesBytes, bytesOf}
-use Rattle.model.specs.Tables.{allCommands, tablesOf, fileLength}
+use Rattle.model.specs.Tables.{Tables, Same, allCommands, tablesOf, sizeLength, fileLength}
 
 length-commands : (cs : List (List ℕ)) (r : List ℕ) → length (commandsBytes cs r) ≡ 3 * length cs + 2 * length (joined cs) + length r
 unfolding commandsBytes joined
@@ -29,6 +29,10 @@ length-states (s ∷ ss) r = omega (
   length-joined (s .commands) (allCommands ss),
 )
 
-pub length-bytes : (p : Tree) → length (bytesOf p) ≡ fileLength (tablesOf p .size)
-unfolding bytesOf tablesOf fileLength
+pub length-bytes : (p : Tree) → length (bytesOf p) ≡ fileLength (tablesOf p)
+unfolding bytesOf tablesOf sizeLength
 length-bytes p = omega (arith, length-states (p .states) (endTag ∷ two 0 []))
+
+-- tables that are the same have files of the same length
+pub length-same : {T U : Tables} → Same T U → fileLength T ≡ fileLength U
+length-same same = ap sizeLength (same .size)

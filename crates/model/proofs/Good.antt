@@ -15,20 +15,24 @@ use Rattle.laws.proofs.All.{All, none, more, all-at, all-append}
 use Rattle.laws.proofs.Joins.{length-joined}
 use Rattle.laws.proofs.Entry.{bytes-nil, bytes-cons, bytes-two, bytes-twos}
 use Rattle.model.specs.Refusal.{given}
-use Rattle.model.specs.File.{maxStates, maxCommands, maxOutcomes, State, Tree, notIdle, rising, read}
+use Rattle.model.specs.File.{maxStates, maxCommands, maxOutcomes, State, StateField, stateFrom, fieldOf, Tree, notIdle, rising, read}
 use Rattle.model.specs.Bytes.{commandsBytes, statesBytes, bytesOf}
 use Rattle.model.specs.Tables.{allCommands}
 use Rattle.model.specs.Held.{stateOf}
 use Rattle.model.proofs.Answers.{need-inv}
 use Rattle.model.proofs.Readings.{CommandsRead, StatesRead, none, more, read-inv, commands-count, states-count, few-commands, few-outcomes}
 
-pub record GoodCommand (n : ℕ) (c : List ℕ) : Type 0 where
-  pub some : 1 ≤ length c
+-- a list of at least so many states, which rise
+pub record GoodList (least n : ℕ) (c : List ℕ) : Type 0 where
+  pub some : least ≤ length c
   pub rise : rising n 0 c ≡ given tt
+
+abbrev pub GoodCommand : ℕ → List ℕ → Type 0
+GoodCommand = GoodList 1
 
 pub record GoodState (n : ℕ) (s : State) : Type 0 where
   pub low : s .kind ≤ 2
-  pub works : notIdle (s .kind) (length (s .commands)) (s .policy) ≡ true
+  pub works : notIdle (fieldOf s) ≡ true
   pub good : All (GoodCommand n) (s .commands)
 
 pub record Good (p : Tree) : Type 0 where
@@ -70,9 +74,9 @@ commands-good (more c r) = more (record { some = c .some; rise = c .rise }) (com
 
 states-good : {n k m t : ℕ} {s s₁ : List ℕ} {ss : List State} → StatesRead n k m t s ss s₁ → All (GoodState n) ss
 states-good none = none
-states-good {n} (more {kind} {policy} {cs} g c r) =
-    let q : GoodState n (record { kind = kind; policy = policy; commands = cs }) = record { low = g .low; works = rw (commands-count c) (g .works); good = commands-good c } in
-    more q (states-good r)
+states-good {n} (more {q} {cs} g c r) =
+    let good : GoodState n (stateFrom q cs) = record { low = g .low; works = rw (commands-count c) (g .works); good = commands-good c } in
+    more good (states-good r)
 
 pub read-good : (s : List ℕ) (p : Tree) → read s ≡ given p → Good p
 read-good s p e =
@@ -98,10 +102,10 @@ bytes-commands {n} h (more {x = c} {xs = cs} g gs) l b =
     (bytes-twos (omega arith) (rising-below n 0 c (g .rise)) (bytes-commands h gs (omega arith) b)))
 
 -- a policy fits two bytes
-policy-fits : (kind count policy : ℕ) → count ≤ maxCommands → notIdle kind count policy ≡ true → policy < 65536
-policy-fits kind count policy h e =
-    elim (or-cases (eqb policy FFFF) (ltb policy count) (and-both (eqb kind 0 || eqb count 0) _ e .1))
-    [ inl a ↦ omega (arith, eqb-true policy FFFF a) | inr a ↦ omega (arith, ltb-true policy count a) ]
+pub policy-fits : (q : StateField) → q .count ≤ maxCommands → notIdle q ≡ true → q .policy < 65536
+policy-fits q h e =
+    elim (or-cases (eqb (q .policy) FFFF) (ltb (q .policy) (q .count)) (and-both (eqb (q .kind) 0 || eqb (q .count) 0) _ e .1))
+    [ inl a ↦ omega (arith, eqb-true (q .policy) FFFF a) | inr a ↦ omega (arith, ltb-true (q .policy) (q .count) a) ]
 
 bytes-states : {n : ℕ} {ss : List State} {r : List ℕ} → n ≤ maxStates → All (GoodState n) ss
     → length (allCommands ss) ≤ maxCommands → length (joined (allCommands ss)) ≤ maxOutcomes → Bytes r → Bytes (statesBytes ss r)
@@ -111,7 +115,7 @@ bytes-states h (more {x = s} {xs = ss} g gs) l k b =
     let d = length-append (s .commands) (allCommands ss) in
     let e = length-joined (s .commands) (allCommands ss) in
     bytes-cons (omega arith) (bytes-two 5 (omega arith) (bytes-cons (omega arith)
-    (bytes-two (length (s .commands)) (omega arith) (bytes-two (s .policy) (policy-fits (s .kind) (length (s .commands)) (s .policy) (omega arith) (g .works))
+    (bytes-two (length (s .commands)) (omega arith) (bytes-two (s .policy) (policy-fits (fieldOf s) (omega arith) (g .works))
     (bytes-commands h (g .good) (omega arith) (bytes-states h gs (omega arith) (omega arith) b))))))
 
 pub bytes-good : (p : Tree) → Good p → Bytes (bytesOf p)

@@ -1,33 +1,24 @@
 -- Tables pass the test of soundness if and only if their firsts rise and the tree that they hold is good.
 use mathlib.Core.Path.{_≡_, sym, ap, subst}
 use mathlib.Core.Bool.{true}
-use mathlib.Core.List.{List, []}
-use Prim.Native.Nat.{ℕ, _<_}
 use native.Mathlib.Nat.{zero-add}
 use native.Mathlib.Omega.{arith}
-use lib.ListN.{length, getD, take}
-use lib.Seq.{length-take-le, getD-take}
+use lib.ListN.{length}
 use Rattle.laws.specs.Lists.{joined}
-use Rattle.laws.proofs.All.{All, none, more, all-at, all-append, all-tabulate}
-use Rattle.laws.proofs.Lists.{length-tabulate, tabulate-at}
+use Rattle.laws.proofs.All.{All, all-at, all-tabulate}
+use Rattle.laws.proofs.Lists.{tabulate-at}
 use Rattle.model.specs.File.{Tree}
-use Rattle.model.specs.Tables.{Size, Tables, Same, allCommands, tablesOf}
-use Rattle.model.specs.Places.{outcomesAt}
+use Rattle.model.specs.Tables.{Size, Tables, Same, listsIn, allCommands, tablesOf}
 use Rattle.model.specs.SoundTest.{sound}
 use Rattle.model.specs.Held.{stateAt, treeOf}
-use Rattle.model.proofs.Good.{GoodState, GoodCommand, Good, good-commands, rising-below}
-use Rattle.model.proofs.Ordered.{Ordered, commandsIn}
+use Rattle.model.proofs.Good.{GoodState, Good, good-commands}
+use Rattle.model.proofs.ListTable.{lists-fit}
+use Rattle.model.proofs.Ordered.{Ordered}
 use Rattle.model.proofs.HeldPlan.{tree-count}
 use Rattle.model.proofs.SoundFacts.{Fits, sound-facts, fits-ordered}
-use Rattle.model.proofs.TablesBack.{tables-same, all-commands, all-outcomes}
+use Rattle.model.proofs.TablesBack.{tables-same, all-commands}
 use Rattle.model.proofs.SameTables.{held, held-ordered}
-use Rattle.model.proofs.Fine.{state-fine, fine-row, fine-command}
-
--- the outcomes of good commands are states
-outcomes-below : {n : ℕ} {cs : List (List ℕ)} → All (GoodCommand n) cs → All (λ o. o < n) (joined cs)
-unfolding joined
-outcomes-below none = none
-outcomes-below {n} (more {x = c} g gs) = all-append (rising-below n 0 c (g .rise)) (outcomes-below gs)
+use Rattle.model.proofs.Fine.{state-fine, fine-row}
 
 module _ (T : Tables) (o : Ordered T) where
   -- the counts of the tree held
@@ -38,21 +29,6 @@ module _ (T : Tables) (o : Ordered T) where
   t-held : length (joined (allCommands (treeOf T .states))) ≡ T .size .t
   unfolding tablesOf
   t-held = ap (λ (z : Size). z .t) (sym (tables-same T o .size))
-
-  -- the commands and outcomes of a good tree, at their places in the tables
-  module _ (good : All (GoodState (T .size .n)) (treeOf T .states)) where
-    commands-good : All (GoodCommand (T .size .n)) (commandsIn T)
-    commands-good = rw (all-commands T o) at (good-commands good)
-
-    command-good : (c : ℕ) → c < T .size .m → GoodCommand (T .size .n) (outcomesAt T c)
-    command-good c h =
-        let count = length-tabulate (outcomesAt T) 0 (T .size .m) in
-        rw (tabulate-at (outcomesAt T) (T .size .m) c [] h) at (all-at commands-good [] c (rw count h))
-
-    outcome-good : (j : ℕ) → j < T .size .t → getD (T .outcomes) j 0 < T .size .n
-    outcome-good j h =
-        let below : All (λ x. x < T .size .n) (take (T .size .t) (T .outcomes)) = rw (all-outcomes T o) at (outcomes-below (good-commands good)) in
-        rw (getD-take (T .size .t) (T .outcomes) j 0 h) at (all-at below 0 j (rw (length-take-le _ _ (o .long .outcomes)) h))
 
 pub fits-good : (T : Tables) → Fits T → Good (treeOf T)
 unfolding treeOf
@@ -81,12 +57,10 @@ good-fits T o g =
         few-outcomes = omega (arith, t-held T o, g .few-outcomes);
         starts = omega (arith, n, g .inside);
       };
-      long = o .long;
+      long = record { rows = o .rows; lists = o .lists .long };
       commands-start = o .commands .start;
-      outcomes-start = o .outcomes .start;
       rows = λ s h. fine-row T o s h (rw (tabulate-at (stateAt T) (T .size .n) s _ h) at (all-at good (stateAt T 0) s (rw n h)));
-      commands = λ c h. fine-command T o c h (command-good T o good c h);
-      outcomes = outcome-good T o good;
+      lists = lists-fit (listsIn T) (o .lists) (rw (all-commands T o) at (good-commands good));
     }
 
 pub sound-good : (T : Tables) → sound T ≡ true → Good (treeOf T)

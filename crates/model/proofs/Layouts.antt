@@ -5,13 +5,13 @@ use Prim.Native.Nat.{ℕ}
 use Rattle.laws.specs.Lists.{joined}
 use Rattle.laws.proofs.Parts.{Layout, Lays}
 use Rattle.model.specs.File.{State}
-use Rattle.model.specs.Tables.{Row, allCommands, rowsFrom, firstsFrom}
+use Rattle.model.specs.Tables.{Row, allCommands, rowFor, rowsFrom, firstsFrom}
 
 abbrev pub byState : Layout (List ℕ) State Row
 byState = record {
   part = λ s. s .commands;
   all = allCommands;
-  head = λ m s. record { kind = s .kind; first = m; policy = s .policy };
+  head = rowFor;
   heads = rowsFrom;
 }
 

@@ -23,6 +23,7 @@ pub mod ReadBack
 pub mod ReadForth
 pub mod FileLength
 pub mod Layouts
+pub mod ListTable
 pub mod Ordered
 pub mod Firsts
 pub mod Prefixes

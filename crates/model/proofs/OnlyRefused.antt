@@ -60,10 +60,10 @@ reading-only rows firsts outcomes file r = go (read file)
 
 module _ (T : Tables) where
   pub writing-only : (bytes : ℕ) (r : Refusal) → writing T bytes ≡ refused r
-      → ((sound T ≡ false) × (r ≡ Unsound)) ⊎ ((sound T ≡ true) × (bytes < fileLength (T .size)) × (r ≡ Cramped))
+      → ((sound T ≡ false) × (r ≡ Unsound)) ⊎ ((sound T ≡ true) × (bytes < fileLength T) × (r ≡ Cramped))
   unfolding writing
   writing-only bytes r e =
-      ⊎-elim inl (λ h. let (t, w) = last-refused Cramped r _ _ (h .1) in inr (h .0, leb-false (fileLength (T .size)) bytes t, w)) (need-refused Unsound r _ _ e)
+      ⊎-elim inl (λ h. let (t, w) = last-refused Cramped r _ _ (h .1) in inr (h .0, leb-false (fileLength T) bytes t, w)) (need-refused Unsound r _ _ e)
 
   pub deciding-only : (ranks commands marks scratch : ℕ) (r : Refusal) → deciding T ranks commands marks scratch ≡ refused r
       → ((sound T ≡ false) × (r ≡ Unsound))

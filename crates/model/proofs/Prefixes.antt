@@ -1,19 +1,17 @@
 -- The tables of a tree by index: a first is the length of what comes before, and the slices are the commands' own lists.
-use mathlib.Core.Path.{_≡_, refl, sym, ap, ap₂, _∙_}
-use mathlib.Core.List.{[]}
+use mathlib.Core.Path.{_≡_, sym, ap, ap₂, _∙_}
 use Prim.Native.Nat.{ℕ, suc, _<_}
 use native.Mathlib.Nat.{zero-add, le-of-eq}
-use lib.ListN.{length, getD, take}
+use lib.ListN.{length, take}
 use lib.Seq.{slice}
-use Rattle.laws.specs.Lists.{joined}
-use Rattle.laws.specs.Starts.{startOf}
 use Rattle.laws.proofs.Lists.{tabulate-is}
 use Rattle.laws.proofs.Parts.{rises-same, edge-rises, edge-told, piece, length-heads, getD-heads}
-use Rattle.model.specs.File.{Tree}
+use Rattle.model.specs.File.{stateFrom, Tree}
 use Rattle.model.specs.Tables.{Row, allCommands, tablesOf}
-use Rattle.model.specs.Places.{rowAt, firstCommand, firstOutcome, outcomesAt}
+use Rattle.model.specs.Places.{rowAt, firstCommand, commandCount, fieldFor}
 use Rattle.model.specs.Held.{stateAt, treeOf, stateOf}
-use Rattle.model.proofs.Layouts.{byState, by-state, by-command}
+use Rattle.model.proofs.Layouts.{byState, by-state}
+use Rattle.model.proofs.ListTable.{of-ordered, of-held}
 use Rattle.model.proofs.Ordered.{Ordered, commandsIn, commands-cut}
 
 module _ (p : Tree) where
@@ -25,31 +23,17 @@ module _ (p : Tree) where
   unfolding firstCommand tablesOf
   first-command s = edge-told by-state (p .states) s _ (λ h. ap (λ (r : Row). r .first) (row-of s h))
 
-  pub first-outcome : (c : ℕ) → firstOutcome (tablesOf p) c ≡ length (joined (take c (allCommands (p .states))))
-  unfolding tablesOf startOf
-  first-outcome c =
-      edge-told by-command (allCommands (p .states)) c _ (λ h. getD-heads by-command 0 (allCommands (p .states)) c 0 [] h ∙ zero-add _)
-
   pub tree-ordered : Ordered (tablesOf p)
   unfolding tablesOf
   tree-ordered = record {
-    long = record {
-      rows = le-of-eq (sym (length-heads by-state 0 (p .states)));
-      firsts = le-of-eq (sym (length-heads by-command 0 (allCommands (p .states))));
-      outcomes = le-of-eq refl;
-    };
+    rows = le-of-eq (sym (length-heads by-state 0 (p .states)));
     commands = rises-same first-command (edge-rises by-state (p .states) (stateOf p 0));
-    outcomes = rises-same first-outcome (edge-rises by-command (allCommands (p .states)) []);
+    lists = of-ordered (allCommands (p .states));
   }
-
-  outcomes-of : (c : ℕ) → c < length (allCommands (p .states)) → outcomesAt (tablesOf p) c ≡ getD (allCommands (p .states)) c []
-  unfolding outcomesAt tablesOf
-  outcomes-of c h =
-      ap₂ (λ (a b : ℕ). slice a b (tablesOf p .outcomes)) (first-outcome c) (first-outcome (suc c)) ∙ piece by-command (allCommands (p .states)) c [] h
 
   tree-commands : commandsIn (tablesOf p) ≡ allCommands (p .states)
   unfolding tablesOf
-  tree-commands = tabulate-is (outcomesAt (tablesOf p)) (allCommands (p .states)) [] outcomes-of
+  tree-commands = of-held (allCommands (p .states))
 
   commands-of : (s : ℕ) → s < length (p .states) → stateAt (tablesOf p) s .commands ≡ stateOf p s .commands
   unfolding stateOf tablesOf
@@ -61,7 +45,7 @@ module _ (p : Tree) where
 
   state-of : (s : ℕ) → s < length (p .states) → stateAt (tablesOf p) s ≡ stateOf p s
   unfolding stateAt
-  state-of s h = λ i. record { kind = row-of s h i .kind; policy = row-of s h i .policy; commands = commands-of s h i }
+  state-of s h = λ i. stateFrom (fieldFor (row-of s h i) (commandCount (tablesOf p) s)) (commands-of s h i)
 
   -- the tables of a tree hold it
   pub tree-back : treeOf (tablesOf p) ≡ p

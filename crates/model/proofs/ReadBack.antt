@@ -8,8 +8,8 @@ use lib.Seq.{drop-cons, drop-drop}
 use Rattle.laws.specs.Entry.{Bytes, be16, two, twos}
 use Rattle.laws.proofs.Entry.{pair-at, bytes-drop}
 use Rattle.model.specs.Refusal.{given}
-use Rattle.model.specs.File.{State, Tree, headTag, stateTag, commandTag, endTag, entries, read}
-use Rattle.model.specs.Bytes.{commandsBytes, statesBytes, bytesOf}
+use Rattle.model.specs.File.{State, StateField, Tree, headTag, commandTag, endTag, entries, read}
+use Rattle.model.specs.Bytes.{stateBytes, commandsBytes, statesBytes, bytesOf}
 use Rattle.model.proofs.Fields.{Framed, Headed, Stated, Commanded}
 use Rattle.model.proofs.Readings.{CommandsRead, StatesRead, none, more, commands-count, states-count, read-inv}
 
@@ -23,11 +23,10 @@ head-back {s} b h =
     let fits = h .framed .fits in
     rw (← (h .counts), ← (h .starts), ← (pair-at s 5 b fits), ← (pair-at s 3 b (omega arith))) (field-back b (h .framed))
 
-state-back : {m : ℕ} {s : List ℕ} {kind count policy : ℕ} → Bytes s → Stated m s kind count policy
-    → s ≡ stateTag ∷ two 5 (kind ∷ two count (two policy (drop 8 s)))
+state-back : {m : ℕ} {s : List ℕ} {q : StateField} → Bytes s → Stated m s q → s ≡ stateBytes q (drop 8 s)
 state-back {m} {s} b h =
     let fits = h .framed .fits in
-    rw (← (h .is), ← (h .counts), ← (h .advises), ← (pair-at s 6 b fits), ← (pair-at s 4 b (omega arith)), ← (drop-cons s 3 0 (omega arith)))
+    rw (← (h .is), ← (pair-at s 6 b fits), ← (pair-at s 4 b (omega arith)), ← (drop-cons s 3 0 (omega arith)))
     (field-back b (h .framed))
 
 entries-back : (k : ℕ) (s : List ℕ) → Bytes s → k * 2 ≤ length s → s ≡ twos (entries k s) (drop (k * 2) s)
@@ -54,12 +53,12 @@ commands-back b (more {s} {os} c r) =
 states-back : {n k m t : ℕ} {s s₁ : List ℕ} {ss : List State} → Bytes s → StatesRead n k m t s ss s₁ → Bytes s₁ × (s ≡ statesBytes ss s₁)
 unfolding statesBytes
 states-back b none = (b, refl)
-states-back b (more {kind} {count} {policy} {s} {cs} g c r) =
+states-back b (more {q} {s} {cs} g c r) =
     let (b₁, d) = commands-back (bytes-drop 8 s b) c in
     let (b₂, e) = states-back b₁ r in (
       b₂,
       state-back b g
-          ∙ rw (commands-count c) (ap (λ (z : List ℕ). stateTag ∷ two 5 (kind ∷ two count (two policy z))) (d ∙ ap (commandsBytes cs) e)),
+          ∙ rw (commands-count c) (ap (stateBytes q) (d ∙ ap (commandsBytes cs) e)),
     )
 
 pub read-back : (s : List ℕ) (p : Tree) → Bytes s → read s ≡ given p → bytesOf p ≡ s

@@ -14,8 +14,8 @@ use Rattle.laws.proofs.All.{All, none, more}
 use Rattle.laws.proofs.Entry.{be16-two, length-twos, drop-twos}
 use Rattle.laws.proofs.Joins.{length-joined}
 use Rattle.model.specs.Refusal.{given, need, _>>=_, _>>_}
-use Rattle.model.specs.File.{maxStates, maxCommands, maxOutcomes, State, Tree, headTag, stateTag, commandTag, endTag, allowed, notIdle, head, state, entries, command, commands, states, read}
-use Rattle.model.specs.Bytes.{commandsBytes, statesBytes, bytesOf}
+use Rattle.model.specs.File.{maxStates, maxCommands, maxOutcomes, State, StateField, fieldOf, Tree, headTag, stateTag, commandTag, endTag, allowed, notIdle, head, state, entries, command, commands, states, read}
+use Rattle.model.specs.Bytes.{stateBytes, commandsBytes, statesBytes, bytesOf}
 use Rattle.model.specs.Tables.{allCommands}
 use Rattle.model.proofs.Fields.{Framed, field-gives, head-gives, state-gives, command-gives}
 use Rattle.model.proofs.Good.{GoodCommand, GoodState, Good}
@@ -33,13 +33,11 @@ head-forth n start r h l i = head-gives _ n start (record {
   inside = i;
 })
 
-state-forth : (m kind count policy : ℕ) (r : List ℕ) → kind ≤ 2 → notIdle kind count policy ≡ true → m + count ≤ maxCommands
-    → state m (stateTag ∷ two 5 (kind ∷ two count (two policy r))) ≡ given (kind, count, policy)
-state-forth m kind count policy r h b l = state-gives m _ kind count policy (record {
-  framed = framed stateTag 5 (kind ∷ two count (two policy r)) refl (omega arith);
-  is = refl;
-  counts = be16-two count r;
-  advises = be16-two policy r;
+state-forth : (m : ℕ) (q : StateField) (r : List ℕ) → q .kind ≤ 2 → notIdle q ≡ true → m + q .count ≤ maxCommands
+    → state m (stateBytes q r) ≡ given q
+state-forth m q r h b l = state-gives m _ q (record {
+  framed = framed stateTag 5 (q .kind ∷ two (q .count) (two (q .policy) r)) refl (omega arith);
+  is = λ i. record { kind = q .kind; count = be16-two (q .count) r i; policy = be16-two (q .policy) r i };
   low = h;
   works = b;
   few = l;
@@ -84,7 +82,7 @@ states-forth m t r (more {x = s} {xs = ss} g gs) l k =
     let d = length-append (s .commands) (allCommands ss) in
     let e = length-joined (s .commands) (allCommands ss) in
     rw (
-      state-forth m (s .kind) (length (s .commands)) (s .policy) (commandsBytes (s .commands) (statesBytes ss r)) (g .low) (g .works) (omega arith),
+      state-forth m (fieldOf s) (commandsBytes (s .commands) (statesBytes ss r)) (g .low) (g .works) (omega arith),
       commands-forth t (statesBytes ss r) (g .good) (omega arith),
       states-forth (m + length (s .commands)) (t + length (joined (s .commands))) r gs (omega arith) (omega arith),
     )

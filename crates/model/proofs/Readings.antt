@@ -9,7 +9,7 @@ use borrow.Author.Tests.{leb-true, eqb-true}
 use Rattle.laws.specs.Lists.{joined}
 use Rattle.laws.proofs.Joins.{length-joined}
 use Rattle.model.specs.Refusal.{given}
-use Rattle.model.specs.File.{maxCommands, maxOutcomes, State, Tree, endTag, field, head, state, command, commands, states, read}
+use Rattle.model.specs.File.{maxCommands, maxOutcomes, State, StateField, stateFrom, Tree, endTag, field, head, state, command, commands, states, read}
 use Rattle.model.specs.Tables.{allCommands}
 use Rattle.model.proofs.Answers.{given-inj, need-inv, bind-inv}
 use Rattle.model.proofs.Fields.{Framed, Headed, Stated, Commanded, field-inv, head-inv, state-inv, command-inv}
@@ -44,19 +44,19 @@ outcomes-few (more c r) h = outcomes-few r (c .few)
 -- k states at the front of s, with m commands and t outcomes before them, and the bytes after them
 pub data StatesRead (n : ℕ) : ℕ → ℕ → ℕ → List ℕ → List State → List ℕ → Type 0 where
   none : {m t : ℕ} {s : List ℕ} → StatesRead n 0 m t s [] s
-  more : {k m t t₁ kind count policy : ℕ} {s s₁ s₂ : List ℕ} {cs : List (List ℕ)} {ss : List State} → Stated m s kind count policy
-      → CommandsRead n count t (drop 8 s) cs t₁ s₁ → StatesRead n k (m + count) t₁ s₁ ss s₂
-      → StatesRead n (suc k) m t s (record { kind = kind; policy = policy; commands = cs } ∷ ss) s₂
+  more : {k m t t₁ : ℕ} {q : StateField} {s s₁ s₂ : List ℕ} {cs : List (List ℕ)} {ss : List State} → Stated m s q
+      → CommandsRead n (q .count) t (drop 8 s) cs t₁ s₁ → StatesRead n k (m + q .count) t₁ s₁ ss s₂
+      → StatesRead n (suc k) m t s (stateFrom q cs ∷ ss) s₂
 
 states-inv : (n k m t : ℕ) (s : List ℕ) (x : List State × List ℕ) → states n k m t s ≡ given x → StatesRead n k m t s (x .0) (x .1)
 unfolding states
 states-inv n zero m t s x e = rw (← (given-inj e)) none
 states-inv n (suc k) m t s x e =
     let (v, p, q) = bind-inv (state m s) _ e in
-    let (y, i, j) = bind-inv (commands n (v .1) t (drop 8 s)) _ q in
-    let (z, a, b) = bind-inv (states n k (m + v .1) (y .1) (y .2)) _ j in
-    rw (← (given-inj {a = (record { kind = v .0; policy = v .2; commands = y .0 } ∷ z .0, z .1)} b))
-    (more (state-inv m s _ _ _ p) (commands-inv n _ t _ y i) (states-inv n k _ _ _ z a))
+    let (y, i, j) = bind-inv (commands n (v .count) t (drop 8 s)) _ q in
+    let (z, a, b) = bind-inv (states n k (m + v .count) (y .1) (y .2)) _ j in
+    rw (← (given-inj {a = (stateFrom v (y .0) ∷ z .0, z .1)} b))
+    (more (state-inv m s v p) (commands-inv n _ t _ y i) (states-inv n k _ _ _ z a))
 
 pub states-count : {n k m t : ℕ} {s s₁ : List ℕ} {ss : List State} → StatesRead n k m t s ss s₁ → length ss ≡ k
 states-count none = refl

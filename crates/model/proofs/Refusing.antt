@@ -61,9 +61,9 @@ module _ (T : Tables) (unsound : sound T ≡ false) where
   searching-unsound start commands scratch = rw unsound
 
 module _ (T : Tables) (sounds : sound T ≡ true) where
-  pub writing-cramped : (bytes : ℕ) → bytes < fileLength (T .size) → writing T bytes ≡ refused Cramped
+  pub writing-cramped : (bytes : ℕ) → bytes < fileLength T → writing T bytes ≡ refused Cramped
   unfolding writing need _>>_
-  writing-cramped bytes h = rw (sounds, lt-leb (fileLength (T .size)) bytes h)
+  writing-cramped bytes h = rw (sounds, lt-leb (fileLength T) bytes h)
 
   pub deciding-cramped : (ranks commands marks scratch : ℕ)
       → (ranks < T .size .n) ⊎ ((commands < T .size .n) ⊎ ((marks < T .size .n) ⊎ (scratch < T .size .n)))

@@ -18,9 +18,10 @@ use Rattle.model.proofs.Answers.{answer-inv}
 use Rattle.model.proofs.Good.{read-good}
 use Rattle.model.proofs.ReadBack.{read-back}
 use Rattle.model.proofs.ReadForth.{read-forth}
-use Rattle.model.proofs.FileLength.{length-bytes}
+use Rattle.model.proofs.FileLength.{length-bytes, length-same}
 use Rattle.model.proofs.Layouts.{by-state, by-command}
 use Rattle.model.proofs.SameTables.{held}
+use Rattle.model.proofs.SameSound.{same-back, same-on}
 use Rattle.model.proofs.TablesBack.{tables-back}
 use Rattle.model.proofs.GoodTables.{sound-good, good-sound}
 use Rattle.model.proofs.Answering.{reading-iff, writing-iff}
@@ -36,8 +37,10 @@ module _ (file : List ℕ) (rows : List Row) (firsts outcomes : List ℕ) where
   after-same T e p q = rw e (rw (← q) (record {
     size = refl;
     rows = take-written (tablesOf p .rows) rows _ (length-heads by-state 0 (p .states));
-    firsts = take-written (tablesOf p .firsts) firsts _ (length-heads by-command 0 (allCommands (p .states)));
-    outcomes = take-written (tablesOf p .outcomes) outcomes _ refl;
+    lists = record {
+      firsts = take-written (tablesOf p .firsts) firsts _ (length-heads by-command 0 (allCommands (p .states)));
+      entries = take-written (tablesOf p .outcomes) outcomes _ refl;
+    };
   }))
 
   -- "A plan file read without refusal and written again has the same bytes": they stand at the front of what was lent, and their
@@ -52,23 +55,13 @@ module _ (file : List ℕ) (rows : List Row) (firsts outcomes : List ℕ) where
       let p = r .tree in
       let same : Same (afterReading z file rows firsts outcomes) (tablesOf p) = rw size at (after-same T answered p (r .is)) in
       let back : bytesOf p ≡ file = read-back file p b (r .reads) in
-      let count : fileLength z ≡ length file
-      = sym (ap fileLength (ap (λ (U : Tables). U .size) (r .is) ∙ size)) ∙ sym (length-bytes p) ∙ ap length back in
+      let count : fileLength (afterReading z file rows firsts outcomes) ≡ length file = length-same same ∙ sym (length-bytes p) ∙ ap length back in
       let written = writing-iff (afterReading z file rows firsts outcomes) (length bytes) file .1 (record {
         sounds = good-sound _ p (read-good file p (r .reads)) same;
         long = rw count h;
         is = ap bytesOf (held _ p same) ∙ back;
       }) in
       rw written
-
--- tables that are the same as a third are the same
-same-both : {T U W : Tables} → Same T W → Same U W → Same T U
-same-both a b = record {
-  size = a .size ∙ sym (b .size);
-  rows = a .rows ∙ sym (b .rows);
-  firsts = a .firsts ∙ sym (b .firsts);
-  outcomes = a .outcomes ∙ sym (b .outcomes);
-}
 
 front-is : (x : Answer (List ℕ)) (file bytes : List ℕ) (k : ℕ) → x ≡ given file → length file ≡ k → take k (left (λ f. f) x bytes) ≡ file
 unfolding left
@@ -99,10 +92,10 @@ write-read T bytes k e rows firsts outcomes long-rows long-firsts long-outcomes 
     let after : Same (afterReading (T .size) file rows firsts outcomes) (tablesOf p)
     = subst (λ (z : Size). Same (afterReading z file rows firsts outcomes) (tablesOf p)) (sym size) (after-same file rows firsts outcomes (tablesOf p) again p refl) in
     subst (λ (f : List ℕ). (readCall f rows firsts outcomes .answers ≡ given (T .size)) × Same T (afterReading (T .size) f rows firsts outcomes)) (sym front)
-    (rw again (ap given (sym size)), same-both same after)
+    (rw again (ap given (sym size)), same-on same (same-back after))
 
 -- the length answered is the file's
-pub written-length : (T : Tables) (bytes : ℕ) (file : List ℕ) → writing T bytes ≡ given file → length file ≡ fileLength (T .size)
+pub written-length : (T : Tables) (bytes : ℕ) (file : List ℕ) → writing T bytes ≡ given file → length file ≡ fileLength T
 written-length T bytes file e =
     let w = writing-iff T bytes file .0 e in
-    sym (ap length (w .is)) ∙ length-bytes (treeOf T) ∙ ap fileLength (sym (tables-back T (w .sounds) .size))
+    sym (ap length (w .is)) ∙ length-bytes (treeOf T) ∙ sym (length-same (tables-back T (w .sounds)))

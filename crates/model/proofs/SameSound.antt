@@ -15,11 +15,19 @@ use Rattle.model.proofs.TablesBack.{tables-back}
 use Rattle.model.proofs.GoodTables.{sound-good, good-sound}
 use Rattle.model.proofs.SameTables.{held}
 
-same-back : {T U : Tables} → Same T U → Same U T
-same-back same = record { size = sym (same .size); rows = sym (same .rows); firsts = sym (same .firsts); outcomes = sym (same .outcomes) }
+pub same-back : {T U : Tables} → Same T U → Same U T
+same-back same = record {
+  size = sym (same .size);
+  rows = sym (same .rows);
+  lists = record { firsts = sym (same .lists .firsts); entries = sym (same .lists .entries) };
+}
 
-same-on : {S T U : Tables} → Same S T → Same T U → Same S U
-same-on f g = record { size = f .size ∙ g .size; rows = f .rows ∙ g .rows; firsts = f .firsts ∙ g .firsts; outcomes = f .outcomes ∙ g .outcomes }
+pub same-on : {S T U : Tables} → Same S T → Same T U → Same S U
+same-on f g = record {
+  size = f .size ∙ g .size;
+  rows = f .rows ∙ g .rows;
+  lists = record { firsts = f .lists .firsts ∙ g .lists .firsts; entries = f .lists .entries ∙ g .lists .entries };
+}
 
 -- where T is sound, tables that agree with it agree with those of its tree
 like-tree : {T U : Tables} → Same T U → sound T ≡ true → Same U (tablesOf (treeOf T))

@@ -37,7 +37,7 @@ reading rows firsts outcomes file = do
 unfoldable pub writing : Tables → ℕ → Answer (List ℕ)
 writing T bytes = do
   need Unsound (sound T)
-  need Cramped (leb (fileLength (T .size)) bytes)
+  need Cramped (leb (fileLength T) bytes)
   given (bytesOf (treeOf T))
 
 -- "Deciding needs n places in each table of ranks .., commands .., practice marks .. and scratch"

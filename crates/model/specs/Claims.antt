@@ -43,9 +43,9 @@ pub record Conditions : Type 0 where
   pub reading-refused : (rows firsts outcomes : ℕ) (file : List ℕ) (r : Refusal) → (reading rows firsts outcomes file ≡ refused r)
       ↔ ((read file ≡ refused r) ⊎ ((p : Tree) × (read file ≡ given p) × Short (tablesOf p .size) rows firsts outcomes × (r ≡ Cramped)))
   pub writing-given : (T : Tables) (bytes : ℕ) (file : List ℕ) → (writing T bytes ≡ given file)
-      ↔ (Sound T × (fileLength (T .size) ≤ bytes) × (bytesOf (treeOf T) ≡ file))
+      ↔ (Sound T × (fileLength T ≤ bytes) × (bytesOf (treeOf T) ≡ file))
   pub writing-refused : (T : Tables) (bytes : ℕ) (r : Refusal) → (writing T bytes ≡ refused r)
-      ↔ (((Sound T → ⊥) × (r ≡ Unsound)) ⊎ (Sound T × (bytes < fileLength (T .size)) × (r ≡ Cramped)))
+      ↔ (((Sound T → ⊥) × (r ≡ Unsound)) ⊎ (Sound T × (bytes < fileLength T) × (r ≡ Cramped)))
   pub deciding-given : (T : Tables) (ranks commands marks scratch : ℕ) (P : Plan) → (deciding T ranks commands marks scratch ≡ given P)
       ↔ (Sound T × (T .size .n ≤ ranks) × (T .size .n ≤ commands) × (T .size .n ≤ marks) × (T .size .n ≤ scratch) × (planIn T ≡ P))
   pub deciding-refused : (T : Tables) (ranks commands marks scratch : ℕ) (r : Refusal) → (deciding T ranks commands marks scratch ≡ refused r)
@@ -79,11 +79,11 @@ pub record Meanings : Type 0 where
   pub read-write : (file : List ℕ) (rows : List Row) (firsts outcomes : List ℕ) → Bytes file → (z : Size) → readCall file rows firsts outcomes .answers ≡ given z
       → (bytes : List ℕ) → length file ≤ length bytes
       → writeCall (afterReading z file rows firsts outcomes) bytes ≡ record { answers = given (length file); bytes = overwrite file bytes }
-  pub file-length : (p : Tree) → length (bytesOf p) ≡ fileLength (tablesOf p .size)
+  pub file-length : (p : Tree) → length (bytesOf p) ≡ fileLength (tablesOf p)
   -- sound tables that are written and read again, into tables that are long enough, are the same tables
-  pub write-read : (T : Tables) (bytes : List ℕ) → Sound T → fileLength (T .size) ≤ length bytes → (rows : List Row) (firsts outcomes : List ℕ)
+  pub write-read : (T : Tables) (bytes : List ℕ) → Sound T → fileLength T ≤ length bytes → (rows : List Row) (firsts outcomes : List ℕ)
       → T .size .n ≤ length rows → T .size .m ≤ length firsts → T .size .t ≤ length outcomes
-      → let file = take (fileLength (T .size)) (writeCall T bytes .bytes) in
+      → let file = take (fileLength T) (writeCall T bytes .bytes) in
       (readCall file rows firsts outcomes .answers ≡ given (T .size)) × Same T (afterReading (T .size) file rows firsts outcomes)
   -- the starred bench plans, and case A's listing
   pub bench-plans : map (λ b. judged (b .file)) benches ≡ map (λ b. b .says) benches

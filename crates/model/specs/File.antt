@@ -25,6 +25,19 @@ pub record State : Type 0 where
   pub policy : ℕ
   pub commands : List (List ℕ)
 
+-- what a state field says: kind, command count and practice
+pub record StateField : Type 0 where
+  pub kind : ℕ
+  pub count : ℕ
+  pub policy : ℕ
+
+-- the state that a state field and the commands after it describe, and the state field of a state
+abbrev pub stateFrom : StateField → List (List ℕ) → State
+stateFrom q cs = record { kind = q .kind; policy = q .policy; commands = cs }
+
+abbrev pub fieldOf : State → StateField
+fieldOf s = record { kind = s .kind; count = length (s .commands); policy = s .policy }
+
 pub record Tree : Type 0 where
   pub start : ℕ
   pub states : List State
@@ -67,17 +80,21 @@ head s = do
   given (be16 s 3, be16 s 5)
 
 -- no "commands under kind 1 or 2", and no "practice neither FFFF nor below the count"
-abbrev pub notIdle : ℕ → ℕ → ℕ → Bool
-notIdle kind count policy = (eqb kind 0 || eqb count 0) && (eqb policy FFFF || ltb policy count)
+abbrev pub notIdle : StateField → Bool
+notIdle q = (eqb (q .kind) 0 || eqb (q .count) 0) && (eqb (q .policy) FFFF || ltb (q .policy) (q .count))
 
--- "State: kind (5), 7, commands (8)", with m commands so far: kind, command count and practice
-unfoldable pub state : ℕ → List ℕ → Answer (ℕ × ℕ × ℕ)
+-- the values of a state field
+abbrev pub stateValues : List ℕ → StateField
+stateValues s = record { kind = getD s 3 0; count = be16 s 4; policy = be16 s 6 }
+
+-- "State: kind (5), 7, commands (8)", with m commands so far
+unfoldable pub state : ℕ → List ℕ → Answer StateField
 state m s = do
   _ ← field stateTag s
-  need Beyond (leb (getD s 3 0) 2)
-  need Idle (notIdle (getD s 3 0) (be16 s 4) (be16 s 6))
-  need Limit (leb (m + be16 s 4) maxCommands)
-  given (getD s 3 0, be16 s 4, be16 s 6)
+  need Beyond (leb (stateValues s .kind) 2)
+  need Idle (notIdle (stateValues s))
+  need Limit (leb (m + stateValues s .count) maxCommands)
+  given (stateValues s)
 
 -- the k numbers at the front
 unfoldable pub entries : ℕ → List ℕ → List ℕ
@@ -113,10 +130,10 @@ commands n (suc k) t s = do
 unfoldable pub states : ℕ → ℕ → ℕ → ℕ → List ℕ → Answer (List State × List ℕ)
 states n zero m t s = given ([], s)
 states n (suc k) m t s = do
-  (kind, count, policy) ← state m s
-  (cs, t₁, s₁) ← commands n count t (drop 8 s)
-  (ss, s₂) ← states n k (m + count) t₁ s₁
-  given (record { kind = kind; policy = policy; commands = cs } ∷ ss, s₂)
+  q ← state m s
+  (cs, t₁, s₁) ← commands n (q .count) t (drop 8 s)
+  (ss, s₂) ← states n k (m + q .count) t₁ s₁
+  given (stateFrom q cs ∷ ss, s₂)
 
 -- a file; "After the end field: 2"
 unfoldable pub read : List ℕ → Answer Tree

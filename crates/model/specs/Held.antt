@@ -5,17 +5,13 @@ use lib.ListN.{length, getD}
 use Rattle.laws.specs.Lists.{tabulate}
 use Rattle.laws.specs.Entry.{FFFF}
 use Rattle.model.specs.Plan.{Plan}
-use Rattle.model.specs.File.{State, Tree}
+use Rattle.model.specs.File.{State, stateFrom, Tree}
 use Rattle.model.specs.Tables.{Tables}
-use Rattle.model.specs.Places.{rowAt, firstCommand, commandCount, outcomesAt}
+use Rattle.model.specs.Places.{firstCommand, commandCount, fieldAt, outcomesAt}
 
 -- the state s, read off the tables
 unfoldable pub stateAt : Tables → ℕ → State
-stateAt T s = record {
-  kind = rowAt T s .kind;
-  policy = rowAt T s .policy;
-  commands = tabulate (outcomesAt T) (firstCommand T s) (commandCount T s);
-}
+stateAt T s = stateFrom (fieldAt T s) (tabulate (outcomesAt T) (firstCommand T s) (commandCount T s))
 
 unfoldable pub treeOf : Tables → Tree
 treeOf T = record { start = T .size .start; states = tabulate (stateAt T) 0 (T .size .n) }

@@ -31,41 +31,69 @@ pub record Tables : Type 0 where
 abbrev pub enough : Size → ℕ → ℕ → ℕ → Bool
 enough z rows firsts outcomes = leb (z .n) rows && leb (z .m) firsts && leb (z .t) outcomes
 
+-- Lists that lie one behind another in a table, with a table of the places where they begin.
+pub record Lists : Type 0 where
+  -- how many lists there are, and how many entries they have together
+  pub count : ℕ
+  pub end : ℕ
+  pub firsts : List ℕ
+  pub entries : List ℕ
+
+-- the outcomes, a list for each command
+abbrev pub listsIn : Tables → Lists
+listsIn T = record { count = T .size .m; end = T .size .t; firsts = T .firsts; entries = T .outcomes }
+
 -- the commands of the states, one after another
 unfoldable pub allCommands : List State → List (List ℕ)
 allCommands [] = []
 allCommands (s ∷ ss) = s .commands ++ allCommands ss
 
+-- a state's row, where m commands come before
+abbrev pub rowFor : ℕ → State → Row
+rowFor m s = record { kind = s .kind; first = m; policy = s .policy }
+
 -- "A state's first command is the number of commands of all lower states, also where it has none": the rows of states that
 -- m commands come before
 unfoldable pub rowsFrom : ℕ → List State → List Row
 rowsFrom m [] = []
-rowsFrom m (s ∷ ss) = record { kind = s .kind; first = m; policy = s .policy } ∷ rowsFrom (m + length (s .commands)) ss
+rowsFrom m (s ∷ ss) = rowFor m s ∷ rowsFrom (m + length (s .commands)) ss
 
 -- "first outcomes count likewise over commands": those of commands that t outcomes come before
 unfoldable pub firstsFrom : ℕ → List (List ℕ) → List ℕ
 firstsFrom t [] = []
 firstsFrom t (c ∷ cs) = t ∷ firstsFrom (t + length c) cs
 
+-- the tables of lists
+abbrev pub listsOf : List (List ℕ) → Lists
+listsOf cs =
+    let os = joined cs in
+    record { count = length cs; end = length os; firsts = firstsFrom 0 cs; entries = os }
+
 -- the size record and tables that a file gives
 unfoldable pub tablesOf : Tree → Tables
 tablesOf p =
-    let cs = allCommands (p .states) in
-    let os = joined cs in
+    let L = listsOf (allCommands (p .states)) in
     record {
-      size = record { n = length (p .states); m = length cs; t = length os; start = p .start };
+      size = record { n = length (p .states); m = L .count; t = L .end; start = p .start };
       rows = rowsFrom 0 (p .states);
-      firsts = firstsFrom 0 cs;
-      outcomes = os;
+      firsts = L .firsts;
+      outcomes = L .entries;
     }
 
 -- "A file has 10 + 8n + 3m + 2t bytes."
-unfoldable pub fileLength : Size → ℕ
-fileLength z = 10 + 8 * z .n + 3 * z .m + 2 * z .t
+unfoldable pub sizeLength : Size → ℕ
+sizeLength z = 10 + 8 * z .n + 3 * z .m + 2 * z .t
+
+abbrev pub fileLength : Tables → ℕ
+fileLength T = sizeLength (T .size)
+
+-- lists agree up to their counts
+pub record SameLists (L M : Lists) : Type 0 where
+  pub firsts : take (L .count) (L .firsts) ≡ take (M .count) (M .firsts)
+  pub entries : take (L .end) (L .entries) ≡ take (M .end) (M .entries)
 
 -- "Tables are the same if they agree up to their counts."
 pub record Same (T U : Tables) : Type 0 where
   pub size : T .size ≡ U .size
   pub rows : take (T .size .n) (T .rows) ≡ take (U .size .n) (U .rows)
-  pub firsts : take (T .size .m) (T .firsts) ≡ take (U .size .m) (U .firsts)
-  pub outcomes : take (T .size .t) (T .outcomes) ≡ take (U .size .t) (U .outcomes)
+  pub lists : SameLists (listsIn T) (listsIn U)

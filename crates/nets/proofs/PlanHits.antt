@@ -12,7 +12,7 @@ use Rattle.model.specs.Plan.{hasPolicy}
 use Rattle.model.specs.Verdict.{hits}
 use Rattle.model.specs.Policy.{policyHits}
 use Rattle.model.specs.Command.{choice}
-use Rattle.model.specs.Places.{firstCommand, outcomesAt}
+use Rattle.model.specs.Places.{firstCommand, listAt}
 use Rattle.model.specs.SoundTest.{sound}
 use Rattle.model.specs.Held.{planIn}
 use Rattle.model.specs.Tables.{Tables}
@@ -43,6 +43,6 @@ module _ (size : Size) (rows : List Row) (firsts outcomes : List ℕ) where
   -- a state's command, by its place
   pub hits-place : (A : ℕ → Bool) (s c : ℕ) → s < size .n → c < planIn (held size rows firsts outcomes) .commands s
       → commandHits (commandsOf size firsts outcomes) A (firstCommand (held size rows firsts outcomes) s + c) ≡ hits (planIn (held size rows firsts outcomes)) A s c
-  unfolding commandHits outcomesAt
+  unfolding commandHits listAt
   hits-place A s c l m =
       sym (hits-held (held size rows firsts outcomes) A s l c (rw (commands-held (held size rows firsts outcomes) s l) at m))

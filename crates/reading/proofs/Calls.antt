@@ -16,7 +16,7 @@ use Rattle.laws.proofs.Loops.{stopped, passed}
 use Rattle.laws.proofs.Tests.{and-both}
 use Rattle.laws.proofs.Writes.{put-front}
 use Rattle.model.specs.Refusal.{Refusal as ModelRefusal, Answer, Cramped, given, refused, answer, need, _>>=_, _>>_}
-use Rattle.model.specs.File.{State, Tree, maxCommands, maxOutcomes, read}
+use Rattle.model.specs.File.{State, StateField, stateFrom, Tree, maxCommands, maxOutcomes, read}
 use Rattle.model.specs.Tables.{Size as ModelSize, Row as ModelRow, Tables, allCommands, rowsFrom, firstsFrom, tablesOf}
 use Rattle.model.specs.Calls.{reading, left, AfterRead, readCall}
 use Rattle.tables.specs.declared.Row.{Row}
@@ -48,13 +48,14 @@ states-stand : {n k m t : ℕ} {s s₁ : List ℕ} {ss : List State} → StatesR
     → (statesIn k s ≡ ss) × (length ss * 8 + commandsLength (allCommands ss) ≤ length s)
 unfolding statesIn allCommands joined
 states-stand none = (refl, omega arith)
-states-stand (more {k} {kind} {count} {policy} {s} {s₁} {cs} {ss} g c r) =
+states-stand (more {k} {q} {s} {s₁} {cs} {ss} g c r) =
     let (a, b, l) = commands-stand c in
     let (d, i) = states-stand r in
     let lm = length-append cs (allCommands ss) in
     let lt = length-joined cs (allCommands ss) in
     let at : drop (8 + commandsLength cs) s ≡ s₁ = sym (b ∙ drop-drop (commandsLength cs) 8 s) in (
-      rw (g .counts, a, g .is, g .advises, at) (ap (λ (z : List State). record { kind = kind; policy = policy; commands = cs } ∷ z) d),
+      ap (λ (v : StateField). let xs = commandsIn (v .count) (drop 8 s) in stateFrom v xs ∷ statesIn k (drop (8 + commandsLength xs) s)) (g .is)
+          ∙ rw (a, at) (ap (λ (z : List State). stateFrom q cs ∷ z) d),
       omega (arith, g .framed .fits, length-drop 8 s, ap length b, length-drop (commandsLength cs) (drop 8 s)),
     )
 

@@ -11,7 +11,7 @@ use borrow.Author.Tests.{le-ltb, lt-ltb, le-leb, lt-leb, eq-eqb, ne-eqb, eqb-tru
 use Rattle.laws.specs.Entry.{be16}
 use Rattle.laws.proofs.Tests.{and-both}
 use Rattle.model.specs.Refusal.{Answer, Cut, Tag, Length, Beyond, Unsorted, Idle, Limit, given, refused, answer, need, _>>=_, _>>_}
-use Rattle.model.specs.File.{maxStates, maxCommands, maxOutcomes, headTag, stateTag, commandTag, allowed, notIdle, field, head, state, entries, rising, command}
+use Rattle.model.specs.File.{maxStates, maxCommands, maxOutcomes, headTag, stateTag, commandTag, allowed, StateField, notIdle, stateValues, field, head, state, entries, rising, command}
 use Rattle.tables.specs.declared.Refusal.{Refusal}
 use Rattle.tables.specs.Meaning.{refusalOf}
 use Rattle.model.proofs.Fields.{field-inv, length-entries}
@@ -98,21 +98,21 @@ module _ {B : Type 0} {y : B} (m : ℕ) (s : List ℕ) (g : ℕ → B) (e : answ
   pub state-long : 8 ≤ length s
   state-long = stated .1
 
-  module _ {C : Type 0} (h : ℕ × ℕ × ℕ → C) where
+  module _ {C : Type 0} (h : StateField → C) where
     pub state-kind : 2 < getD s 3 0 → refused Beyond ≡ answer h (state m s)
     unfolding state need _>>_ _>>=_ answer
     state-kind a = rw (stated .0, lt-leb _ _ a)
 
     module _ (a : getD s 3 0 ≤ 2) where
-      pub state-idle : notIdle (getD s 3 0) (be16 s 4) (be16 s 6) ≡ false → refused Idle ≡ answer h (state m s)
+      pub state-idle : notIdle (stateValues s) ≡ false → refused Idle ≡ answer h (state m s)
       unfolding state need _>>_ _>>=_ answer
       state-idle b = rw (stated .0, le-leb _ _ a, b)
 
-      pub state-limit : notIdle (getD s 3 0) (be16 s 4) (be16 s 6) ≡ true → maxCommands < m + be16 s 4 → refused Limit ≡ answer h (state m s)
+      pub state-limit : notIdle (stateValues s) ≡ true → maxCommands < m + be16 s 4 → refused Limit ≡ answer h (state m s)
       unfolding state need _>>_ _>>=_ answer
       state-limit b l = rw (stated .0, le-leb _ _ a, b, lt-leb _ _ l)
 
-  pub state-passes : getD s 3 0 ≤ 2 → notIdle (getD s 3 0) (be16 s 4) (be16 s 6) ≡ true → m + be16 s 4 ≤ maxCommands
+  pub state-passes : getD s 3 0 ≤ 2 → notIdle (stateValues s) ≡ true → m + be16 s 4 ≤ maxCommands
       → given y ≡ answer (λ x. g 5) (state m s)
   unfolding state need _>>_ _>>=_ answer
   state-passes a b l = rw (stated .0, le-leb _ _ a, b, le-leb _ _ l) (ap given (stated .2))

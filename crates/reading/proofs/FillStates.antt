@@ -4,17 +4,16 @@ use mathlib.Core.List.{List, [], _∷_, _++_}
 use Prim.Native.Nat.{ℕ, suc, _+_, _-_, _<_, _≤_}
 use native.Mathlib.Omega.{arith}
 use native.Mathlib.Nat.{add-zero, add-assoc}
-use lib.ListN.{length, getD, drop, set, length-drop, length-set, length-append}
+use lib.ListN.{length, drop, set, length-drop, length-set, length-append}
 use lib.Seq.{drop-drop}
-use Rattle.laws.specs.Entry.{be16}
 use Rattle.laws.specs.Lists.{joined}
 use Rattle.laws.specs.Writes.{putAll}
 use Rattle.laws.proofs.Joins.{joined-append, length-joined}
 use Rattle.laws.proofs.Writes.{length-put, put-append}
-use Rattle.model.specs.File.{State, maxCommands}
+use Rattle.model.specs.File.{State, stateFrom, fieldOf, stateValues, maxCommands}
 use Rattle.model.specs.Tables.{allCommands, rowsFrom, firstsFrom}
 use Rattle.tables.specs.declared.Row.{Row}
-use Rattle.tables.specs.Meaning.{rowsOf, rowWith}
+use Rattle.tables.specs.Meaning.{rowsOf, rowSaid}
 use Rattle.tables.proofs.StoredRows.{row-stored}
 use Rattle.reading.specs.declared.bytes.Mark.{Mark}
 use Rattle.reading.specs.Meaning.{bytesFrom, moved}
@@ -81,11 +80,11 @@ module _ (s : State) (ss : List State) where
 module _ {bytes : ℕ} {rows₀ : List Row} {firsts₀ outs₀ : List ℕ} {ss₀ : List State} {rows : List Row} {firsts outs : List ℕ} {i : ℕ} {k : Mark} where
   filling-next : (s : State) (ss : List State)
       → Filling bytes rows₀ firsts₀ outs₀ ss₀ rows firsts outs i k (s ∷ ss)
-      → Filling bytes rows₀ firsts₀ outs₀ ss₀ (set rows i (rowWith (s .kind) (k .m) (s .policy)))
+      → Filling bytes rows₀ firsts₀ outs₀ ss₀ (set rows i (rowSaid (k .m) (fieldOf s)))
       (putAll firsts (k .m) (firstsFrom (k .t) (s .commands))) (putAll outs (k .t) (joined (s .commands))) (i + 1) (pastCommands (moved k 8) (s .commands)) ss
   unfolding allCommands putAll rowsFrom
   filling-next s ss f =
-      let n : length (set rows i (rowWith (s .kind) (k .m) (s .policy))) ≡ length rows = length-set rows i (rowWith (s .kind) (k .m) (s .policy)) in
+      let n : length (set rows i (rowSaid (k .m) (fieldOf s))) ≡ length rows = length-set rows i (rowSaid (k .m) (fieldOf s)) in
       let m : length (putAll firsts (k .m) (firstsFrom (k .t) (s .commands))) ≡ length firsts = length-put firsts (k .m) (firstsFrom (k .t) (s .commands)) in
       let t : length (putAll outs (k .t) (joined (s .commands))) ≡ length outs = length-put outs (k .t) (joined (s .commands)) in
       record {
@@ -93,7 +92,7 @@ module _ {bytes : ℕ} {rows₀ : List Row} {firsts₀ outs₀ : List ℕ} {ss�
         same-rows = n ∙ f .same-rows;
         same-firsts = m ∙ f .same-firsts;
         same-outs = t ∙ f .same-outs;
-        put-rows = rw (row-stored rows i (rowWith (s .kind) (k .m) (s .policy))) (f .put-rows);
+        put-rows = rw (row-stored rows i (rowSaid (k .m) (fieldOf s))) (f .put-rows);
         put-firsts = firsts-next s ss firsts (k .m) (k .t) ∙ f .put-firsts;
         put-outs = outs-next s ss outs (k .t) ∙ f .put-outs;
       }
@@ -105,7 +104,7 @@ module _ {bytes : ℕ} {rows₀ : List Row} {firsts₀ outs₀ : List ℕ} {ss�
   filling-end f = (f .put-rows, (f .put-firsts, f .put-outs))
 
 states-in : (file : List ℕ) (k : Mark) (n i : ℕ) → i < n → statesIn (n - i) (bytesFrom file k)
-    ≡ record { kind = getD (bytesFrom file k) 3 0; policy = be16 (bytesFrom file k) 6; commands = commandsAt file k }
+    ≡ stateFrom (stateValues (bytesFrom file k)) (commandsAt file k)
     ∷ statesIn (n - (i + 1)) (bytesFrom file (pastCommands (moved k 8) (commandsAt file k)))
 unfolding statesIn
 states-in file k n i h =
@@ -133,7 +132,7 @@ module _ {rows₀ : List Row} {firsts₀ outs₀ : List ℕ} {ss₀ : List State
 
   module _ (h : i < n) where
     here : State
-    here = record { kind = getD (bytesFrom file k) 3 0; policy = be16 (bytesFrom file k) 6; commands = commandsAt file k }
+    here = stateFrom (stateValues (bytesFrom file k)) (commandsAt file k)
 
     after : List State
     after = statesIn (n - (i + 1)) (bytesFrom file (pastCommands (moved k 8) (commandsAt file k)))
@@ -156,8 +155,8 @@ module _ {rows₀ : List Row} {firsts₀ outs₀ : List ℕ} {ss₀ : List State
         }
 
     pub filling-more : {row : Row} {rows′ : List Row} {firsts′ outs′ : List ℕ} {next : Mark}
-        → row ≡ rowWith (getD (bytesFrom file k) 3 0) (k .m) (be16 (bytesFrom file k) 6)
-        → rows′ ≡ set rows i (rowWith (row .kind) (row .first) (row .practice))
+        → row ≡ rowSaid (k .m) (stateValues (bytesFrom file k))
+        → rows′ ≡ set rows i row
         → firsts′ ≡ putAll firsts (k .m) (firstsFrom (k .t) (commandsAt file k))
         → outs′ ≡ putAll outs (k .t) (joined (commandsAt file k))
         → next ≡ pastCommands (moved k 8) (commandsAt file k)

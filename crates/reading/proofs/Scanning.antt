@@ -11,7 +11,7 @@ use Rattle.laws.specs.Entry.{be16}
 use Rattle.laws.specs.Lists.{joined}
 use Rattle.laws.proofs.Joins.{length-joined}
 use Rattle.model.specs.Refusal.{Answer, Surplus, given, refused, answer, need, _>>=_, _>>_}
-use Rattle.model.specs.File.{State, Tree, maxCommands, endTag, field, head, state, command, commands, states, read}
+use Rattle.model.specs.File.{State, StateField, stateFrom, Tree, maxCommands, endTag, field, head, state, command, commands, states, read}
 use Rattle.model.specs.Tables.{allCommands, tablesOf}
 use Rattle.model.proofs.Fields.{head-inv, state-inv}
 use Rattle.model.proofs.Readings.{commands-inv, commands-count, outcomes-count, states-count, read-inv}
@@ -72,27 +72,27 @@ commands-all file n count k = let e : k .m + count - k .m ≡ count = omega arit
 module _ (file : List ℕ) (k next : Mark) (e : answer (λ x. afterField file k 5) (state (k .m) (bytesFrom file k)) ≡ given (next .m, next .t, bytesFrom file next)) where
   pub state-room : (8 ≤ length (bytesFrom file k)) × (next .m + be16 (bytesFrom file k) 4 ≤ maxCommands)
   state-room =
-      let ((kind, count, policy), p, q) = answer-inv (λ x. afterField file k 5) (state (k .m) (bytesFrom file k)) e in
-      let g = state-inv (k .m) (bytesFrom file k) kind count policy p in
+      let (v, p, q) = answer-inv (λ x. afterField file k 5) (state (k .m) (bytesFrom file k)) e in
+      let g = state-inv (k .m) (bytesFrom file k) v p in
       let m : next .m ≡ k .m = ap (λ (x : ℕ × ℕ × List ℕ). x .0) (sym q) in
-      (g .framed .fits, omega (arith, g .few, g .counts))
+      (g .framed .fits, omega (arith, g .few, ap (λ (x : StateField). x .count) (g .is)))
 
 -- the states after a state and its commands, with m commands before them
-unfoldable follow : (n k m kind policy : ℕ) → List (List ℕ) × ℕ × List ℕ → Answer (List State × List ℕ)
-follow n k m kind policy y = do
+unfoldable follow : (n k m : ℕ) → StateField → List (List ℕ) × ℕ × List ℕ → Answer (List State × List ℕ)
+follow n k m v y = do
   z ← states n k m (y .1) (y .2)
-  given (record { kind = kind; policy = policy; commands = y .0 } ∷ z .0, z .1)
+  given (stateFrom v (y .0) ∷ z .0, z .1)
 
-states-open : (n k m t : ℕ) (s : List ℕ) {kind count policy : ℕ} → state m s ≡ given (kind, count, policy)
-    → states n (suc k) m t s ≡ (commands n count t (drop 8 s) >>= follow n k (m + count) kind policy)
+states-open : (n k m t : ℕ) (s : List ℕ) {v : StateField} → state m s ≡ given v
+    → states n (suc k) m t s ≡ (commands n (v .count) t (drop 8 s) >>= follow n k (m + v .count) v)
 unfolding states _>>=_ follow
 states-open n k m t s e = rw e
 
 -- a state and its commands are counted first
-state-counts : {c t₁ : ℕ} (cs : List (List ℕ)) (m t kind policy : ℕ) → length cs ≡ c → t₁ ≡ t + length (joined cs) → (z : List State × List ℕ)
-    → afterStates (m + c) t₁ z ≡ afterStates m t (record { kind = kind; policy = policy; commands = cs } ∷ z .0, z .1)
+state-counts : {c t₁ : ℕ} (cs : List (List ℕ)) (m t : ℕ) (v : StateField) → length cs ≡ c → t₁ ≡ t + length (joined cs) → (z : List State × List ℕ)
+    → afterStates (m + c) t₁ z ≡ afterStates m t (stateFrom v cs ∷ z .0, z .1)
 unfolding allCommands
-state-counts {c} {t₁} cs m t kind policy d e z =
+state-counts {c} {t₁} cs m t v d e z =
     let a : m + c + length (allCommands (z .0)) ≡ m + length (cs ++ allCommands (z .0)) = omega (arith, length-append cs (allCommands (z .0))) in
     let b : t₁ + length (joined (allCommands (z .0))) ≡ t + length (joined (cs ++ allCommands (z .0))) = omega (arith, length-joined cs (allCommands (z .0))) in
     ap₂ (λ (p q : ℕ). (p, q, z .1)) a b
@@ -119,37 +119,37 @@ module _ (file : List ℕ) (n : ℕ) where
     module _ (next : Mark) (c : ℕ) (d : c ≡ be16 (bytesFrom file k) 4)
         (e : answer (λ x. afterField file k 5) (state (k .m) (bytesFrom file k)) ≡ given (next .m, next .t, bytesFrom file next)) where
       -- the state's commands come next
-      opened : (kind : ℕ) × (policy : ℕ) × (statesLeft i k
-          ≡ answer (afterStates (next .m) (next .t)) (commands n c (next .t) (bytesFrom file next) >>= follow n (n - (i + 1)) (next .m + c) kind policy))
+      opened : (v : StateField) × (statesLeft i k
+          ≡ answer (afterStates (next .m) (next .t)) (commands n c (next .t) (bytesFrom file next) >>= follow n (n - (i + 1)) (next .m + c) v))
       opened =
           let s : List ℕ = bytesFrom file k in
-          let ((kind, count, policy), p, q) = answer-inv (λ x. afterField file k 5) (state (k .m) s) e in
-          let g = state-inv (k .m) s kind count policy p in
-          let same : count ≡ c = sym (g .counts) ∙ sym d in
+          let (v, p, q) = answer-inv (λ x. afterField file k 5) (state (k .m) s) e in
+          let g = state-inv (k .m) s v p in
+          let same : v .count ≡ c = sym (ap (λ (x : StateField). x .count) (g .is)) ∙ sym d in
           let goes : ℕ → ℕ × ℕ × List ℕ → Answer (ℕ × ℕ × List ℕ)
-          = λ x z. answer (afterStates (z .0) (z .1)) (commands n x (z .1) (z .2) >>= follow n (n - (i + 1)) (z .0 + x) kind policy) in
-          let first : statesLeft i k ≡ goes count (afterField file k 5)
+          = λ x z. answer (afterStates (z .0) (z .1)) (commands n x (z .1) (z .2) >>= follow n (n - (i + 1)) (z .0 + x) v) in
+          let first : statesLeft i k ≡ goes (v .count) (afterField file k 5)
           = rw more (ap (answer (afterStates (k .m) (k .t))) (states-open n (n - (i + 1)) (k .m) (k .t) s p)) in
-          (kind, policy, first ∙ ap₂ goes same q)
+          (v, first ∙ ap₂ goes same q)
 
       pub states-stop : {f : Passed} {r : Refusal} → f ≡ Passed.Refused r
           → Walks file f (answer (afterCommands (next .m)) (commands n c (next .t) (bytesFrom file next))) → Walks file f (statesLeft i k)
-      states-stop told w = let (kind, policy, q) = opened in rw q (ends _ _ _ _ told w)
+      states-stop told w = let (v, q) = opened in rw q (ends _ _ _ _ told w)
 
       pub states-more : (past : Mark)
           → answer (afterCommands (next .m)) (commands n c (next .t) (bytesFrom file next)) ≡ given (past .m, past .t, bytesFrom file past)
           → statesLeft i k ≡ statesLeft (i + 1) past
       unfolding _>>=_ follow
       states-more past w =
-          let (kind, policy, a) = opened in
+          let (v, a) = opened in
           let (y, p, q) = answer-inv (afterCommands (next .m)) (commands n c (next .t) (bytesFrom file next)) w in
           let r = commands-inv n c (next .t) (bytesFrom file next) y p in
           let x : Answer (List State × List ℕ) = states n (n - (i + 1)) (next .m + c) (y .1) (y .2) in
           let at : _≡_ {A = ℕ × ℕ × List ℕ} (next .m + c, y .1, y .2) (past .m, past .t, bytesFrom file past)
           = ap (λ (z : ℕ). (next .m + z, y .1, y .2)) (sym (commands-count r)) ∙ q in
-          a ∙ ap (λ (z : Answer (List (List ℕ) × ℕ × List ℕ)). answer (afterStates (next .m) (next .t)) (z >>= follow n (n - (i + 1)) (next .m + c) kind policy)) p
+          a ∙ ap (λ (z : Answer (List (List ℕ) × ℕ × List ℕ)). answer (afterStates (next .m) (next .t)) (z >>= follow n (n - (i + 1)) (next .m + c) v)) p
           ∙ one-more x _ (afterStates (next .m + c) (y .1)) (afterStates (next .m) (next .t))
-          (λ z _. state-counts (y .0) (next .m) (next .t) kind policy (commands-count r) (outcomes-count r) z)
+          (λ z _. state-counts (y .0) (next .m) (next .t) v (commands-count r) (outcomes-count r) z)
           ∙ ap (λ (z : ℕ × ℕ × List ℕ). answer (afterStates (z .0) (z .1)) (states n (n - (i + 1)) (z .0) (z .1) (z .2))) at
 
 pub states-all : (file : List ℕ) (n : ℕ) (k : Mark) → statesLeft file n 0 k ≡ answer (afterStates (k .m) (k .t)) (states n n (k .m) (k .t) (bytesFrom file k))

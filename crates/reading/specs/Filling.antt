@@ -1,10 +1,10 @@
 -- The states that stand in the bytes of a file that can be read, and the room that they take.
 use mathlib.Core.List.{List, [], _∷_}
 use Prim.Native.Nat.{ℕ, zero, suc, _+_, _*_, _/_, _≤_}
-use lib.ListN.{length, getD, drop}
+use lib.ListN.{length, drop}
 use Rattle.laws.specs.Entry.{be16}
 use Rattle.laws.specs.Lists.{joined}
-use Rattle.model.specs.File.{State, maxCommands, maxOutcomes, entries}
+use Rattle.model.specs.File.{State, stateFrom, stateValues, maxCommands, maxOutcomes, entries}
 use Rattle.model.specs.Tables.{allCommands}
 use Rattle.reading.specs.declared.bytes.Mark.{Mark}
 use Rattle.reading.specs.Meaning.{bytesFrom, moved}
@@ -22,12 +22,12 @@ commandsLength cs = length cs * 3 + length (joined cs) * 2
 unfoldable pub statesIn : ℕ → List ℕ → List State
 statesIn zero s = []
 statesIn (suc k) s =
-    let cs = commandsIn (be16 s 4) (drop 8 s) in
-    record { kind = getD s 3 0; policy = be16 s 6; commands = cs } ∷ statesIn k (drop (8 + commandsLength cs) s)
+    let cs = commandsIn (stateValues s .count) (drop 8 s) in
+    stateFrom (stateValues s) cs ∷ statesIn k (drop (8 + commandsLength cs) s)
 
 -- the commands of the state at a mark
 abbrev pub commandsAt : List ℕ → Mark → List (List ℕ)
-commandsAt file k = commandsIn (be16 (bytesFrom file k) 4) (bytesFrom file (moved k 8))
+commandsAt file k = commandsIn (stateValues (bytesFrom file k) .count) (bytesFrom file (moved k 8))
 
 -- where the states begin, and the mark past commands
 abbrev pub statesMark : Mark

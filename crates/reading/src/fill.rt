@@ -1,13 +1,12 @@
 // The filling pass, over a file that the judging pass has let through.
 ghost use mathlib.Core.Path.{_≡_};
 ghost use Prim.Native.Nat.{_+_, _*_, _<_, _≤_};
-ghost use lib.ListN.{length, getD, drop};
-ghost use Rattle.laws.specs.Entry.{be16};
+ghost use lib.ListN.{length, drop};
 ghost use Rattle.laws.specs.Lists.{joined};
 ghost use Rattle.laws.specs.Writes.{putAll};
-ghost use Rattle.model.specs.File.{entries};
+ghost use Rattle.model.specs.File.{entries, stateValues};
 ghost use Rattle.model.specs.Tables.{allCommands, rowsFrom, firstsFrom};
-ghost use Rattle.tables.specs.Meaning.{rowWith, rowsOf};
+ghost use Rattle.tables.specs.Meaning.{rowSaid, rowsOf};
 ghost use Rattle.reading.specs.Meaning.{bytesFrom, moved};
 ghost use Rattle.reading.specs.Filling.{commandsIn, commandsAt, statesIn, statesMark, pastCommands, Room, StatesRoom};
 use crate::bytes::Mark;
@@ -68,7 +67,7 @@ fn wide(x: u8) -> u16
 // The row of the state at a mark.
 fn row_in(file: &[u8], k: Mark) -> Row
     requires { ⌜ (7 < length (bytesFrom (now file) k)) × (k .m < 65536) ⌝ }
-    ensures { λ r. ⌜ r ≡ rowWith (getD (bytesFrom (now (file .entry)) k) 3 0) (k .m) (be16 (bytesFrom (now (file .entry)) k) 6) ⌝ }
+    ensures { λ r. ⌜ r ≡ rowSaid (k .m) (stateValues (bytesFrom (now (file .entry)) k)) ⌝ }
 {
     Row {
         kind: wide(byte(file, k.at, 3)),

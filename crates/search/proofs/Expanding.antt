@@ -12,7 +12,7 @@ use Rattle.laws.specs.Entry.{FFFF, entry}
 use Rattle.model.specs.Plan.{Plan}
 use Rattle.model.specs.Command.{choice}
 use Rattle.model.specs.Search.{lands}
-use Rattle.model.specs.Tables.{Tables}
+use Rattle.model.specs.Tables.{Tables, listsIn}
 use Rattle.model.specs.Places.{firstCommand, firstOutcome, outcomesAt}
 use Rattle.model.specs.SoundTest.{sound}
 use Rattle.model.specs.Held.{planIn}
@@ -57,7 +57,7 @@ module _ (T : Tables) (sounds : sound T ≡ true) (s : ℕ) (l : s < T .size .n)
 
     module _ (from end : ℕ) (p : from ≡ firstOutcome T (span .first + c)) (q : end ≡ firstOutcome T (span .first + c + 1)) where
       part-is : slice from end (T .outcomes) ≡ outcomesAt T (firstCommand T s + c)
-      part-is = outcomes-read T (span .first + c) from end p q ∙ ap (λ (f : ℕ). outcomesAt T (f + c)) first-is
+      part-is = outcomes-read (listsIn T) (span .first + c) from end p q ∙ ap (λ (f : ℕ). outcomesAt T (f + c)) first-is
 
       pub expand-free : any (knownIn scratch) (slice from end (T .outcomes)) ≡ false
       expand-free = ap (any (knownIn scratch)) part-is ∙ taken-clear T sounds s l (knownIn scratch) c choice-is

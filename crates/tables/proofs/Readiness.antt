@@ -19,9 +19,9 @@ module _ (size : Size) (rows : List Row) (firsts outcomes : List ℕ) where
   fits-ready f = record {
     few = f .size .few;
     few-commands = f .size .few-commands;
-    long-firsts = f .long .firsts;
-    parts = record { zero = f .outcomes-start; rises = λ c l. le-of-lt (f .commands c l .rises) };
-    states = record { few = f .size .few-outcomes; long = f .long .outcomes; inside = f .outcomes };
+    long-firsts = f .long .lists .firsts;
+    parts = record { zero = f .lists .start; rises = λ c l. le-of-lt (f .lists .lists c l .rises) };
+    states = record { few = f .size .few-outcomes; long = f .long .lists .entries; inside = f .lists .entries };
   }
 
   pub sound-ready : sound (held size rows firsts outcomes) ≡ true → Ready (commandsOf size firsts outcomes)

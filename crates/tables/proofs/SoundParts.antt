@@ -11,21 +11,22 @@ use Rattle.model.specs.Tables.{Size, Tables}
 use Rattle.model.specs.File.{maxStates, maxCommands, maxOutcomes}
 use Rattle.model.specs.Places.{firstCommand}
 use Rattle.model.specs.Sound.{Sound}
-use Rattle.model.specs.SoundTest.{sizeSound, tablesLong, rowSound, sound}
+use Rattle.model.specs.SoundTest.{sizeSound, tablesLong, rowSound, listsSound, sound}
 use Rattle.model.proofs.Soundness.{sound-iff}
 use Rattle.tables.specs.declared.internal.Span.{Span}
-use Rattle.tables.specs.Meaning.{spanAt, startsSound, listsSound}
+use Rattle.tables.specs.Meaning.{spanAt, startsSound, outcomesSound}
 
-regroup : (x c d e f g : Bool) → (x && c && d && e && f && g) ≡ (x && (c && d) && e && (f && g))
+regroup : (x c d e f g : Bool) → (x && c && e && (d && f && g)) ≡ (x && (c && d) && e && (f && g))
 regroup false c d e f g = refl
 regroup true false d e f g = refl
-regroup true true false e f g = refl
+regroup true true false false f g = refl
+regroup true true false true f g = refl
 regroup true true true false f g = refl
 regroup true true true true f g = refl
 
 pub sound-parts : (T : Tables)
-    → sound T ≡ (sizeSound (T .size) && tablesLong T && startsSound (firstCommand T 0) T && every (rowSound T) (T .size .n) && listsSound T)
-unfolding sound startsSound listsSound
+    → sound T ≡ (sizeSound (T .size) && tablesLong T && startsSound (firstCommand T 0) T && every (rowSound T) (T .size .n) && outcomesSound T)
+unfolding sound listsSound startsSound outcomesSound
 sound-parts T = regroup (sizeSound (T .size) && tablesLong T) _ _ _ _ _
 
 -- the first command, as it is read of state 0

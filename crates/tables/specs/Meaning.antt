@@ -7,10 +7,10 @@ use Rattle.laws.specs.Entry.{FFFF}
 use Rattle.laws.specs.Sets.{every}
 use Rattle.model.specs.Plan.{failingAt}
 use Rattle.model.specs.Refusal.{Refusal as ModelRefusal, Answer, given, refused}
-use Rattle.model.specs.Tables.{Size as ModelSize, Row as ModelRow, Tables}
-use Rattle.model.specs.File.{notIdle}
+use Rattle.model.specs.Tables.{Size as ModelSize, Row as ModelRow, Tables, listsIn}
+use Rattle.model.specs.File.{StateField, notIdle}
 use Rattle.model.specs.Places.{rowAt, firstCommand, firstOutcome}
-use Rattle.model.specs.SoundTest.{commandSound, outcomeSound}
+use Rattle.model.specs.SoundTest.{listSound, entrySound}
 use Rattle.tables.specs.declared.Size.{Size}
 use Rattle.tables.specs.declared.Row.{Row}
 use Rattle.tables.specs.declared.internal.Span.{Span}
@@ -84,14 +84,25 @@ spanAt T s = record { kind = rowAt T s .kind; first = firstCommand T s; end = fi
 abbrev pub failingSpan : Span → Bool
 failingSpan q = failingAt (q .kind)
 
+-- what a state field says of it
+abbrev pub fieldIn : Span → StateField
+fieldIn q = record { kind = q .kind; count = q .end - q .first; policy = q .practice }
+
+abbrev pub fieldWith : ℕ → ℕ → ℕ → StateField
+fieldWith kind count practice = record { kind = kind; count = count; policy = practice }
+
+-- the row of a state, where m commands come before, by what its state field says
+abbrev pub rowSaid : ℕ → StateField → Row
+rowSaid m q = rowWith (q .kind) m (q .policy)
+
 -- a state's row is sound, m being the number of commands
 unfoldable pub spanSound : Span → ℕ → Bool
-spanSound q m = leb (q .first) (q .end) && leb (q .end) m && leb (q .kind) 2 && notIdle (q .kind) (q .end - q .first) (q .practice)
+spanSound q m = leb (q .first) (q .end) && leb (q .end) m && leb (q .kind) 2 && notIdle (fieldIn q)
 
 -- the first command, a number that was read, and the first outcome stand at place 0
 unfoldable pub startsSound : ℕ → Tables → Bool
 startsSound first T = eqb first 0 && eqb (firstOutcome T 0) 0
 
 -- the commands and their outcomes are sound
-unfoldable pub listsSound : Tables → Bool
-listsSound T = every (commandSound T) (T .size .m) && every (outcomeSound T) (T .size .t)
+unfoldable pub outcomesSound : Tables → Bool
+outcomesSound T = every (listSound 1 (listsIn T)) (T .size .m) && every (entrySound (T .size .n) (T .outcomes)) (T .size .t)

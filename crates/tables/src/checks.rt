@@ -4,9 +4,10 @@ ghost use mathlib.Core.List.{List};
 ghost use Prim.Native.Nat.{ℕ, _<_, _≤_, _+_, _-_};
 ghost use lib.ListN.{length};
 ghost use Rattle.laws.specs.Sets.{every};
-ghost use Rattle.model.specs.SoundTest.{sizeSound, tablesLong, rowSound, risesAt, commandSound, outcomeSound};
+ghost use Rattle.model.specs.Tables.{listsIn};
+ghost use Rattle.model.specs.SoundTest.{sizeSound, tablesLong, rowSound, risesAt, listSound, entrySound};
 ghost use Rattle.tables.specs.declared.Row.{Row};
-ghost use Rattle.tables.specs.Meaning.{held, numbers, spanSound, startsSound, listsSound};
+ghost use Rattle.tables.specs.Meaning.{held, commandsOf, numbers, spanSound, startsSound, outcomesSound};
 use crate::Row;
 use crate::Size;
 use crate::internal::Span;
@@ -79,7 +80,7 @@ pub fn rows_sound(size: Size, rows: &[Row]) -> bool
 // The outcomes at the k + 1 places from `from` on rise.
 fn rises(outcomes: &[u16], from: usize, k: usize) -> bool
     requires { ⌜ (k < length (now outcomes) - from) ⌝ }
-    ensures { λ r. ⌜ ((z : Size) (R : List Row) (F : List ℕ) → r ≡ every (λ i. risesAt (held z R F (now (outcomes .entry))) (from + i)) k) ⌝ }
+    ensures { λ r. ⌜ r ≡ every (λ i. risesAt (now (outcomes .entry)) (from + i)) k ⌝ }
 {
     let mut i = 0;
     while i < k {
@@ -93,7 +94,7 @@ fn rises(outcomes: &[u16], from: usize, k: usize) -> bool
 
 fn command_sound(size: Size, firsts: &[u16], outcomes: &[u16], c: usize) -> bool
     requires { ⌜ (size .m ≤ length (now firsts)) × (size .t ≤ length (now outcomes)) × (c < size .m) ⌝ }
-    ensures { λ r. ⌜ ((R : List Row) → r ≡ commandSound (held size R (now (firsts .entry)) (now (outcomes .entry))) c) ⌝ }
+    ensures { λ r. ⌜ r ≡ listSound 1 (listsIn (commandsOf size (now (firsts .entry)) (now (outcomes .entry)))) c ⌝ }
 {
     let from = first_outcome(size, firsts, c);
     let end = first_outcome(size, firsts, c + 1);
@@ -108,7 +109,7 @@ fn command_sound(size: Size, firsts: &[u16], outcomes: &[u16], c: usize) -> bool
 
 fn commands_sound(size: Size, firsts: &[u16], outcomes: &[u16]) -> bool
     requires { ⌜ (size .m ≤ length (now firsts)) × (size .t ≤ length (now outcomes)) ⌝ }
-    ensures { λ r. ⌜ ((R : List Row) → r ≡ every (commandSound (held size R (now (firsts .entry)) (now (outcomes .entry)))) (size .m)) ⌝ }
+    ensures { λ r. ⌜ r ≡ every (listSound 1 (listsIn (commandsOf size (now (firsts .entry)) (now (outcomes .entry))))) (size .m) ⌝ }
 {
     let mut c = 0;
     while c < size.m {
@@ -122,7 +123,7 @@ fn commands_sound(size: Size, firsts: &[u16], outcomes: &[u16]) -> bool
 
 fn outcomes_sound(size: Size, outcomes: &[u16]) -> bool
     requires { ⌜ size .t ≤ length (now outcomes) ⌝ }
-    ensures { λ r. ⌜ ((R : List Row) (F : List ℕ) → r ≡ every (outcomeSound (held size R F (now (outcomes .entry)))) (size .t)) ⌝ }
+    ensures { λ r. ⌜ r ≡ every (entrySound (size .n) (now (outcomes .entry))) (size .t) ⌝ }
 {
     let mut j = 0;
     while j < size.t {
@@ -148,7 +149,7 @@ pub fn starts_sound(size: Size, first: usize, firsts: &[u16]) -> bool
 // The commands and their outcomes are sound.
 pub fn lists_sound(size: Size, firsts: &[u16], outcomes: &[u16]) -> bool
     requires { ⌜ (size .m ≤ length (now firsts)) × (size .t ≤ length (now outcomes)) ⌝ }
-    ensures { λ r. ⌜ ((R : List Row) → r ≡ listsSound (held size R (now (firsts .entry)) (now (outcomes .entry)))) ⌝ }
+    ensures { λ r. ⌜ ((R : List Row) → r ≡ outcomesSound (held size R (now (firsts .entry)) (now (outcomes .entry)))) ⌝ }
 {
     if !commands_sound(size, firsts, outcomes) {
         return false;

@@ -11,7 +11,7 @@ ghost use Rattle.laws.specs.Starts.{startOf};
 ghost use Rattle.model.specs.File.{notIdle};
 ghost use Rattle.model.specs.Places.{firstOutcome};
 ghost use Rattle.tables.specs.declared.Row.{Row};
-ghost use Rattle.tables.specs.Meaning.{held, noRow, rowWith, spanOf, spanAt, failingSpan};
+ghost use Rattle.tables.specs.Meaning.{held, noRow, rowWith, fieldWith, spanOf, spanAt, failingSpan};
 use crate::Refusal;
 use crate::Row;
 use crate::Size;
@@ -181,7 +181,7 @@ fn practice_fits(practice: usize, count: usize) -> bool
 
 // No commands under kind 1 or 2, and a practice that fits: what refusal 7 asks for.
 pub fn not_idle(kind: usize, count: usize, practice: usize) -> bool
-    ensures { λ r. ⌜ r ≡ notIdle kind count practice ⌝ }
+    ensures { λ r. ⌜ r ≡ notIdle (fieldWith kind count practice) ⌝ }
 {
     if !kind_fits(kind, count) {
         return false;

@@ -12,7 +12,7 @@ use Rattle.laws.specs.Wrote.{Wrote}
 use Rattle.laws.proofs.Entry.{length-twos}
 use Rattle.model.specs.File.{commandTag}
 use Rattle.model.specs.Bytes.{commandsBytes}
-use Rattle.model.specs.Places.{firstOutcome, outcomesAt}
+use Rattle.model.specs.Places.{firstOutcome, listAt, outcomesAt}
 use Rattle.tables.specs.declared.Size.{Size}
 use Rattle.tables.specs.Meaning.{commandsOf}
 use Rattle.tables.specs.Ready.{Ready}
@@ -47,7 +47,7 @@ module _ {z : Size} {firsts outcomes : List ℕ} (k : Ready (commandsOf z firsts
     inside = omega (arith, below, k .states .long)
 
     outcomes-are : outcomesAt (commandsOf z firsts outcomes) c ≡ slice from end outcomes
-    unfolding outcomesAt
+    unfolding listAt
     outcomes-are = rw (p, q, add-one c)
 
     pub command-ready : (place size : ℕ)

@@ -17,7 +17,7 @@ use Rattle.laws.proofs.Spreads.{front}
 use Rattle.model.specs.Refusal.{Unsound, Cramped, given, refused, answer, need, _>>_}
 use Rattle.model.specs.File.{maxStates, maxCommands, maxOutcomes, headTag, endTag}
 use Rattle.model.specs.Bytes.{statesBytes, bytesOf}
-use Rattle.model.specs.Tables.{Size as ModelSize, Tables, fileLength}
+use Rattle.model.specs.Tables.{Size as ModelSize, Tables, sizeLength}
 use Rattle.model.specs.SoundTest.{sound}
 use Rattle.model.specs.Held.{stateAt, treeOf}
 use Rattle.model.specs.Calls.{left, writing, writeCall}
@@ -96,11 +96,11 @@ module _ (T : Tables) (bytes : ℕ) {t : Bool} {z : ModelSize} where
   unfolding writing need _>>_
   denies-unsound h e k = rw (← e, not-true t h)
 
-  module _ (h : not t ≡ false) {count : ℕ} (w : count ≡ fileLength z) where
+  module _ (h : not t ≡ false) {count : ℕ} (w : count ≡ sizeLength z) where
     pub denies-cramped : bytes < count → t ≡ sound T → z ≡ T .size → writing T bytes ≡ refused Cramped
     unfolding writing need _>>_
-    denies-cramped l e k = rw (← e, not-false t h, ← k, lt-leb (fileLength z) bytes (rw w at l))
+    denies-cramped l e k = rw (← e, not-false t h, ← k, lt-leb (sizeLength z) bytes (rw w at l))
 
     pub grants : count ≤ bytes → t ≡ sound T → z ≡ T .size → writing T bytes ≡ given (bytesOf (treeOf T))
     unfolding writing need _>>_
-    grants l e k = rw (← e, not-false t h, ← k, le-leb (fileLength z) bytes (rw w at l))
+    grants l e k = rw (← e, not-false t h, ← k, le-leb (sizeLength z) bytes (rw w at l))

@@ -1,26 +1,21 @@
 -- A state of sound tables: what is read of it, and its bytes.
 use mathlib.Core.Path.{_≡_, sym}
-use mathlib.Core.Bool.{true, _||_}
+use mathlib.Core.Bool.{true}
 use mathlib.Core.List.{List, [], _∷_}
-use mathlib.Core.Logic.{⊎-elim}
 use Prim.Native.Nat.{ℕ, _+_, _<_, _≤_}
 use native.Mathlib.Numerals.{add-one}
 use native.Mathlib.Omega.{arith}
-use lib.Dec.{eqb, ltb}
 use lib.ListN.{length, length-append}
-use borrow.Author.Tests.{eqb-true, ltb-true}
-use Rattle.laws.specs.Entry.{FFFF}
 use Rattle.laws.specs.Wrote.{Wrote}
 use Rattle.laws.specs.Starts.{startOf}
-use Rattle.laws.proofs.Tests.{and-both, or-cases}
 use Rattle.laws.proofs.Lists.{length-tabulate}
 use Rattle.laws.proofs.Wrote.{wrote-length}
-use Rattle.model.specs.File.{notIdle, maxCommands}
 use Rattle.model.specs.Bytes.{commandsBytes, statesBytes}
 use Rattle.model.specs.SoundTest.{sound}
 use Rattle.model.specs.Tables.{Tables}
-use Rattle.model.specs.Places.{rowAt, firstCommand, commandCount, outcomesAt}
+use Rattle.model.specs.Places.{firstCommand, commandCount, fieldAt, listAt, outcomesAt}
 use Rattle.model.specs.Held.{stateAt}
+use Rattle.model.proofs.Good.{policy-fits}
 use Rattle.model.proofs.SoundFacts.{Fits, RowFits, sound-facts}
 use Rattle.tables.specs.declared.Row.{Row}
 use Rattle.tables.specs.declared.Size.{Size}
@@ -31,17 +26,12 @@ use Rattle.tables.proofs.LongTest.{rows-long}
 use Rattle.tables.proofs.Readiness.{sound-ready}
 use Rattle.writing.specs.SpanBytes.{commandsFrom, rowBytes, spanBytes, FitsBytes}
 
-policy-small : (kind count policy : ℕ) → notIdle kind count policy ≡ true → count ≤ maxCommands → policy < 65536
-policy-small kind count policy e h =
-    ⊎-elim (λ t. omega (arith, eqb-true policy FFFF t)) (λ t. omega (arith, ltb-true policy count t))
-    (or-cases (eqb policy FFFF) (ltb policy count) (and-both (eqb kind 0 || eqb count 0) _ e .1))
-
 module _ (z : Size) (rows : List Row) (firsts outcomes : List ℕ) (s : ℕ) where
   abbrev T : Tables
   T = held z rows firsts outcomes
 
   pub state-bytes : spanBytes z firsts outcomes (spanAt T s) ≡ statesBytes (stateAt T s ∷ []) []
-  unfolding statesBytes stateAt commandCount commandsFrom outcomesAt startOf
+  unfolding statesBytes stateAt commandCount commandsFrom listAt startOf
   state-bytes = rw (length-tabulate (outcomesAt T) (firstCommand T s) (commandCount T s), add-one s)
 
   module _ (e : sound T ≡ true) (h : s < z .n) where
@@ -69,7 +59,7 @@ module _ (z : Size) (rows : List Row) (firsts outcomes : List ℕ) (s : ℕ) whe
               rw (q, add-one s) (row .rises),
               rw (q, add-one s) (row .below),
               omega arith,
-              rw q (policy-small (rowAt T s .kind) (commandCount T s) (rowAt T s .policy) (row .not-idle) (omega (arith, row .below))),
+              rw q (policy-fits (fieldAt T s) (omega (arith, row .below)) (row .not-idle)),
             ),
             rw bytes at room,
           )

@@ -6,7 +6,7 @@ use Rattle.model.specs.Bytes.{stateBytes, commandsBytes}
 use Rattle.model.specs.Places.{outcomesAt}
 use Rattle.tables.specs.declared.Size.{Size}
 use Rattle.tables.specs.declared.internal.Span.{Span}
-use Rattle.tables.specs.Meaning.{commandsOf}
+use Rattle.tables.specs.Meaning.{commandsOf, fieldIn}
 
 -- the commands from first up to end
 unfoldable pub commandsFrom : Size → List ℕ → List ℕ → ℕ → ℕ → List (List ℕ)
@@ -14,7 +14,7 @@ commandsFrom z firsts outcomes first end = tabulate (outcomesAt (commandsOf z fi
 
 -- the state field of what was read of a state
 abbrev pub rowBytes : Span → List ℕ
-rowBytes q = stateBytes (q .kind) (q .end - q .first) (q .practice) []
+rowBytes q = stateBytes (fieldIn q) []
 
 -- with the state's commands
 abbrev pub spanBytes : Size → List ℕ → List ℕ → Span → List ℕ

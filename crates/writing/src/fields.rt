@@ -7,6 +7,7 @@ ghost use Rattle.laws.specs.Entry.{two, twos};
 ghost use Rattle.laws.specs.Wrote.{Wrote};
 ghost use Rattle.model.specs.File.{headTag, endTag};
 ghost use Rattle.model.specs.Bytes.{stateBytes, commandsBytes};
+ghost use Rattle.tables.specs.Meaning.{fieldIn};
 use crate::bytes::put_byte;
 use crate::bytes::put_pair;
 use crate::bytes::put_two;
@@ -34,7 +35,7 @@ pub fn write_head(size: Size, out: &mut [u8]) -> usize
 // A state field, without the state's commands.
 pub fn write_row(span: Span, out: &mut [u8], place: usize) -> usize
     requires { ⌜ (place + 8 ≤ length (now out)) × (span .kind < 256) × (span .first ≤ span .end) × (span .end < 65536) × (span .practice < 65536) ⌝ }
-    ensures { λ r. ⌜ Wrote (now (out .entry)) place (stateBytes (span .kind) (span .end - span .first) (span .practice) []) (now (out .exit)) r ⌝ }
+    ensures { λ r. ⌜ Wrote (now (out .entry)) place (stateBytes (fieldIn span) []) (now (out .exit)) r ⌝ }
 {
     let length = put_byte(out, place, STATE);
     let kind = put_two(out, length, 5);

@@ -4,7 +4,7 @@ ghost use mathlib.Core.Bool.{true};
 ghost use Prim.Native.Nat.{_≤_};
 ghost use Rattle.model.specs.File.{maxStates, maxCommands, maxOutcomes};
 ghost use Rattle.model.specs.Bytes.{bytesOf};
-ghost use Rattle.model.specs.Tables.{Tables, fileLength};
+ghost use Rattle.model.specs.Tables.{Tables, sizeLength};
 ghost use Rattle.model.specs.SoundTest.{sound};
 ghost use Rattle.model.specs.Held.{treeOf};
 ghost use Rattle.model.specs.Calls.{writing, writeCall};
@@ -31,7 +31,7 @@ pub enum WriteAnswer {
 
 fn file_length(size: Size) -> usize
     requires { ⌜ (size .n ≤ maxStates) × (size .m ≤ maxCommands) × (size .t ≤ maxOutcomes) ⌝ }
-    ensures { λ r. ⌜ r ≡ fileLength (numbers size) ⌝ }
+    ensures { λ r. ⌜ r ≡ sizeLength (numbers size) ⌝ }
 {
     10 + 8 * size.n + 3 * size.m + 2 * size.t
 }

@@ -1,6 +1,6 @@
 use mathlib.Core.Path.{refl}
 use borrow.Author.Needs.{needs}
-use Rattle.model.specs.Tables.{fileLength}
+use Rattle.model.specs.Tables.{sizeLength}
 use Rattle.writing.proofs.file_length.Statement.{statement}
 use Rattle.writing.proofs.file_length.Tie as tie
 
@@ -23,7 +23,7 @@ add-result-3 : tie.Need-add-result-3
 add-result-3 c = search needs
 
 returns : tie.Need-returns
-unfolding fileLength
+unfolding sizeLength
 returns c = refl
 
 pub file-length-spec : {M : Type 1} → statement M

@@ -1,7 +1,9 @@
 use mathlib.Core.Bool.{and-false}
+use mathlib.Core.List.{[]}
 use borrow.Author.Needs.{needs}
 use borrow.Author.Tests.{lt-leb, le-leb, lt-ltb, le-ltb}
-use Rattle.tables.specs.Meaning.{held}
+use Rattle.model.specs.Tables.{listsIn}
+use Rattle.tables.specs.Meaning.{commandsOf}
 use Rattle.tables.proofs.CommandTest.{command-test}
 use Rattle.tables.proofs.checks.command_sound.Statement.{statement}
 use Rattle.tables.proofs.checks.command_sound.Tie as tie
@@ -19,14 +21,14 @@ returns : tie.Need-returns
 returns c =
     let a = c .before .before .before .before .before .args in
     let O = a .outcomes .now in
-    λ R. rw (command-test (held (a .size) R (a .firsts .now) O) _ _ _ (c .before .before .first-outcome .ensures R O) (c .before .first-outcome2 .ensures R O))
+    rw (command-test 1 (listsIn (commandsOf (a .size) (a .firsts .now) O)) _ _ _ (c .before .before .first-outcome .ensures [] O) (c .before .first-outcome2 .ensures [] O))
     (simp (le-ltb _ _ (c .if1 .taken)))
 
 returns-2 : tie.Need-returns-2
 returns-2 c =
     let a = c .before .before .before .before .before .before .before .args in
     let O = a .outcomes .now in
-    λ R. rw (command-test (held (a .size) R (a .firsts .now) O) _ _ _ (c .before .before .before .before .first-outcome .ensures R O) (c .before .before .before .first-outcome2 .ensures R O))
+    rw (command-test 1 (listsIn (commandsOf (a .size) (a .firsts .now) O)) _ _ _ (c .before .before .before .before .first-outcome .ensures [] O) (c .before .before .before .first-outcome2 .ensures [] O))
     (simp (lt-leb _ _ (c .if2 .taken), and-false))
 
 sub-rises : tie.Need-sub-rises
@@ -42,8 +44,8 @@ returns-3 : tie.Need-returns-3
 returns-3 c =
     let a = c .before .before .before .before .before .before .before .before .args in
     let O = a .outcomes .now in
-    λ R. rw (command-test (held (a .size) R (a .firsts .now) O) _ _ _ (c .before .before .before .before .before .first-outcome .ensures R O) (c .before .before .before .before .first-outcome2 .ensures R O))
-    (rw (lt-ltb _ _ (c .before .before .before .if1 .left), le-leb _ _ (c .before .if2 .left)) (c .rises .ensures (a .size) R (a .firsts .now)))
+    rw (command-test 1 (listsIn (commandsOf (a .size) (a .firsts .now) O)) _ _ _ (c .before .before .before .before .before .first-outcome .ensures [] O) (c .before .before .before .before .first-outcome2 .ensures [] O))
+    (rw (lt-ltb _ _ (c .before .before .before .if1 .left), le-leb _ _ (c .before .if2 .left)) (c .rises .ensures))
 
 pub command-sound-spec : {M : Type 1} → statement M
 command-sound-spec =

@@ -1,27 +1,23 @@
 use mathlib.Core.Path.{_≡_, _∙_}
 use mathlib.Core.Bool.{true}
-use mathlib.Core.List.{List}
-use Prim.Native.Nat.{ℕ, _+_, _-_}
+use Prim.Native.Nat.{_+_, _-_}
 use native.Mathlib.Omega.{arith}
 use borrow.Author.Tests.{lt-ltb, le-ltb}
 use Rattle.laws.specs.Sets.{every}
 use Rattle.laws.proofs.Loops.{every-none, every-next, every-stop, every-done}
 use Rattle.model.specs.SoundTest.{risesAt}
-use Rattle.tables.specs.declared.Size.{Size}
-use Rattle.tables.specs.declared.Row.{Row}
-use Rattle.tables.specs.Meaning.{held}
 use Rattle.tables.proofs.CommandTest.{rises-test}
 use Rattle.tables.proofs.checks.rises.Statement.{statement}
 use Rattle.tables.proofs.checks.rises.Tie as tie
 
 abbrev Inv-loop : tie.InvT-loop
-Inv-loop outcomes from k i₀ i = (z : Size) (R : List Row) (F : List ℕ) → every (λ j. risesAt (held z R F outcomes) (from + j)) i ≡ true
+Inv-loop outcomes from k i₀ i = every (λ j. risesAt outcomes (from + j)) i ≡ true
 
 abbrev μ-loop : tie.MeasureT-loop
 μ-loop outcomes from k i₀ i = k - i
 
 loop-holds : tie.Need-loop-holds Inv-loop μ-loop
-loop-holds c = λ z R F. every-none _
+loop-holds c = every-none _
 
 add-at : tie.Need-add-at Inv-loop μ-loop
 add-at c = omega arith
@@ -39,7 +35,7 @@ at-requires-2 : tie.Need-at-requires-2 Inv-loop μ-loop
 at-requires-2 c κs = omega arith
 
 returns : tie.Need-returns Inv-loop μ-loop
-returns c = λ z R F.
+returns c =
     every-stop _ (c .before .before .before .loop-test .taken) (rises-test _ _ _ _ (c .before .at2 .ensures) (c .before .before .at .ensures) ∙ le-ltb _ _ (c .if1 .taken))
 
 add-i : tie.Need-add-i Inv-loop μ-loop
@@ -49,12 +45,12 @@ loop-less : tie.Need-loop-less Inv-loop μ-loop
 loop-less c = omega arith
 
 loop-again : tie.Need-loop-again Inv-loop μ-loop
-loop-again c = λ z R F.
-    every-next _ _ (c .before .before .before .before .loop .inv z R F)
+loop-again c =
+    every-next _ _ (c .before .before .before .before .loop .inv)
     (rises-test _ _ _ _ (c .before .at2 .ensures) (c .before .before .at .ensures) ∙ lt-ltb _ _ (c .if1 .left))
 
 returns-2 : tie.Need-returns-2 Inv-loop μ-loop
-returns-2 c = λ z R F. every-done _ (c .before .loop .inv z R F) (c .loop-test .left)
+returns-2 c = every-done _ (c .before .loop .inv) (c .loop-test .left)
 
 pub rises-spec : {M : Type 1} → statement M
 rises-spec =
