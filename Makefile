@@ -1,5 +1,7 @@
 # make run       print the listing of a plan: PLAN=examples/case-a.plan unless another is named
 # make test      prove every crate from nothing, try the edits that must be refused, run all tests. Its last line is 'N passed, 0 failed'.
+# make quick     what make test begins with: layout, files that scripts make, and docs/TRACE.md
+# make wrong     try every edit that must be refused, those of crates/*/wrong too, for which make test has no time
 # make lib       the C library, target/staticlib/libgate.a (header: include/gate.h)
 # make c-test    the C library's tests and example
 # make compare   hold the C library to a planner of its own, in Rust, byte for byte over COUNT inputs made from SEED
@@ -7,12 +9,12 @@
 # make rows      check that every machine-made proof file is what tools/rows makes (some minutes)
 # make trace     check that all that docs/TRACE.md names is there
 
-.PHONY: run test tools proofs list-test lib c-test compare bench rows trace
+.PHONY: run test quick wrong tools list-test lib c-test compare bench rows trace
 .SILENT:
 
 PLAN = examples/case-a.plan
 
-SOURCES = crates.txt $(shell find crates -name must-fail -prune -o -type f -print)
+SOURCES = crates.txt $(shell find crates \( -name must-fail -o -name wrong \) -prune -o -type f -print)
 
 run: tools target/bin/list
 	target/bin/list <$(PLAN)
@@ -23,16 +25,17 @@ target/bin/list: $(SOURCES)
 	rt check list >target/list.log 2>&1 || { cat target/list.log; exit 1; }
 	touch $@
 
-test: tools trace proofs c-test compare list-test
-	cd tests && python3 -B bench_plans.py --check && python3 -B examples.py --check
-	rt fmt --check
-	python3 -B tools/rows --check tables load store
-	rt ci
+test: quick
+	tests/gate.sh
 
-# What the tests below are built from, proved side by side.
-proofs: tools
-	mkdir -p target
-	rt check gate list >target/proofs.log 2>&1 || { cat target/proofs.log; exit 1; }
+# What needs nothing proved comes first, so that it fails early.
+quick: tools trace
+	rt fmt --check
+	cd tests && python3 -B bench_plans.py --check && python3 -B examples.py --check
+	python3 -B tools/rows --check tables load store
+
+wrong: tools
+	tests/wrong.sh
 
 # The listing program on every example; on zero bytes, refused past the limit (8), at the limit by their first tag (3), and where there are none (1);
 # and where it cannot read or write.
