@@ -25,12 +25,13 @@ use Rattle.model.specs.Policy.{policyHits, policyFails}
 use Rattle.model.specs.Tables.{Tables}
 use Rattle.model.specs.SoundTest.{sound}
 use Rattle.model.specs.Held.{planIn}
-use Rattle.model.proofs.HeldPlan.{states-held, kind-held}
+use Rattle.model.proofs.HeldPlan.{states-held}
 use Rattle.model.proofs.Layers.{rank-bound}
 use Rattle.model.proofs.SoundFacts.{sound-facts}
 use Rattle.tables.specs.declared.Row.{Row}
 use Rattle.tables.specs.declared.Size.{Size}
-use Rattle.tables.specs.Meaning.{held, spanAt, commandsOf}
+use Rattle.tables.specs.Meaning.{held, spanAt, failingSpan, commandsOf}
+use Rattle.tables.proofs.Spans.{span-failing}
 use Rattle.choice.specs.Within.{within}
 use Rattle.propagate.specs.Net.{netOf, losing, depth, seeds, Seeded}
 use Rattle.nets.specs.Nets.{seedOf, Initialized}
@@ -62,12 +63,13 @@ module _ (size : Size) (rows : List Row) (firsts outcomes : List ℕ) (sounds : 
   module _ {alone : Bool} {r₀ w₀ e₀ r w e : List ℕ} (v : Initialized T alone (size .n) r₀ w₀ e₀ r w e) (long : size .n ≤ length r₀) where
     pub initialized-seeded : Seeded (size .n) r
     unfolding seedOf
-    initialized-seeded = record { seeded = λ s l. rw (v .seeded .low s l) (zero-or-none (eqb (spanAt T s .kind) 1)) }
+    initialized-seeded = record { seeded = λ s l. rw (v .seeded .low s l) (zero-or-none (failingSpan (spanAt T s))) }
 
     seeds-are : Agree (size .n) (seeds r) (failing P)
-    unfolding seedOf failing
+    unfolding seedOf
     seeds-are s l =
-        rw (getD-inside r s 1 0 (omega (arith, v .seeded .same)), v .seeded .low s l, kind-held T s l) (zero-test (eqb (spanAt T s .kind) 1))
+        rw (getD-inside r s 1 0 (omega (arith, v .seeded .same)), v .seeded .low s l) (zero-test (failingSpan (spanAt T s)))
+        ∙ span-failing T s l
 
     module _ (r′ : List ℕ) (found : r′ ≡ depthTable (netOf (commandsOf size firsts outcomes) w e) r) where
       filled : Filled (size .n) (λ s. entry (depth (netOf (commandsOf size firsts outcomes) w e) (seeds r) s)) r₀ r′

@@ -5,7 +5,6 @@ use mathlib.Core.Logic.{⊎-elim}
 use mathlib.Core.List.{List}
 use Prim.Native.Nat.{ℕ, _+_, _<_, _≤_}
 use native.Mathlib.Omega.{arith}
-use lib.Dec.{eqb}
 use lib.ListN.{length}
 use borrow.Author.Tests.{not-true, not-false, ltb-true}
 use Rattle.laws.specs.Entry.{FFFF}
@@ -53,7 +52,7 @@ module _ (q : Span) where
 
   pub seed-small : seedOf q < 65536
   unfolding seedOf
-  seed-small = ⊎-elim (λ e. rw e (omega arith)) (λ e. rw e (omega arith)) (true-or-false (eqb (q .kind) 1))
+  seed-small = ⊎-elim (λ e. rw e (omega arith)) (λ e. rw e (omega arith)) (true-or-false (failingSpan q))
 
   -- a range is among the state's own commands
   module _ (l : q .first ≤ q .end) where

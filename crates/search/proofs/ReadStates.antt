@@ -16,6 +16,7 @@ use Rattle.model.specs.Places.{firstCommand, commandCount}
 use Rattle.model.specs.Held.{planIn}
 use Rattle.model.proofs.HeldPlan.{kind-held, commands-held}
 use Rattle.tables.specs.Meaning.{spanAt}
+use Rattle.tables.proofs.Spans.{span-failing}
 use Rattle.search.specs.Prepared.{activeSpan}
 use Rattle.search.specs.Phases.{startFlag, startEnd}
 
@@ -25,12 +26,12 @@ module _ (T : Tables) (s : ℕ) (l : s < T .size .n) where
   span-active = rw (kind-held T s l, commands-held T s l, add-one s, ltb-gap (firstCommand T s) _)
 
   pub start-flag-is : startFlag (spanAt T s) ≡ cond (failing (planIn T) s) 0 1
-  unfolding startFlag failing
-  start-flag-is = rw (kind-held T s l)
+  unfolding startFlag
+  start-flag-is = rw (span-failing T s l)
 
   pub start-end-is : startEnd (spanAt T s) ≡ cond (failing (planIn T) s) 1 (cond (active (planIn T) s) 2 0)
-  unfolding startEnd failing
-  start-end-is = rw (kind-held T s l, span-active)
+  unfolding startEnd
+  start-end-is = rw (span-failing T s l, span-active)
 
 -- an entry FFFF is no command's
 pub entry-none : (o : Option ℕ) → ((c : ℕ) → o ≡ some c → c < FFFF) → eqb (entry o) FFFF ≡ not (found o)

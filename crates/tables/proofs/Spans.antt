@@ -9,10 +9,13 @@ use lib.ListN.{getD, List·getD-map}
 use Rattle.model.specs.Tables.{Row as ModelRow, Tables}
 use Rattle.model.specs.Places.{rowAt, firstCommand, commandCount}
 use Rattle.model.specs.SoundTest.{rowSound}
+use Rattle.model.specs.Plan.{failing}
+use Rattle.model.specs.Held.{planIn}
+use Rattle.model.proofs.HeldPlan.{kind-held}
 use Rattle.tables.specs.declared.Size.{Size}
 use Rattle.tables.specs.declared.Row.{Row}
 use Rattle.tables.specs.declared.internal.Span.{Span}
-use Rattle.tables.specs.Meaning.{rowOf, noRow, held, spanOf, spanAt, spanSound}
+use Rattle.tables.specs.Meaning.{rowOf, noRow, held, spanOf, spanAt, failingSpan, spanSound}
 
 module _ (z : Size) (R : List Row) (F O : List ℕ) where
   row-held : (s : ℕ) → rowAt (held z R F O) s ≡ rowOf (getD R s noRow)
@@ -45,3 +48,8 @@ row-test T s = rw (add-one s)
 -- of a call on what was read
 pub row-tested : (T : Tables) (s : ℕ) (q : Span) (t : Bool) → q ≡ spanAt T s → t ≡ spanSound q (T .size .m) → t ≡ rowSound T s
 row-tested T s q t p e = e ∙ ap (λ x. spanSound x (T .size .m)) p ∙ row-test T s
+
+-- a state counts as failing by what was read of it where it does in the plan
+pub span-failing : (T : Tables) (s : ℕ) → s < T .size .n → failingSpan (spanAt T s) ≡ failing (planIn T) s
+unfolding failingSpan failing
+span-failing T s l = rw (kind-held T s l)

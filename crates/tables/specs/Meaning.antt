@@ -80,8 +80,8 @@ spanOf r end = record { kind = r .kind; first = r .first; end = end; practice = 
 abbrev pub spanAt : Tables → ℕ → Span
 spanAt T s = record { kind = rowAt T s .kind; first = firstCommand T s; end = firstCommand T (s + 1); practice = rowAt T s .policy }
 
--- a state counts as failing
-abbrev pub failingSpan : Span → Bool
+-- a state counts as failing: proofs/Spans.antt, `span-failing`, ties it to the plan's
+unfoldable pub failingSpan : Span → Bool
 failingSpan q = failingAt (q .kind)
 
 -- what a state field says of it
