@@ -1,4 +1,3 @@
-mod Lts
 mod Tie
 use Rattle.decide.proofs.Initializing.{initialized-start, initialized-next, initialized-done, read-inside}
 use Rattle.decide.specs.Nets.{Initialized}

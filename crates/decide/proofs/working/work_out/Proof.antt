@@ -1,4 +1,3 @@
-mod Lts
 mod Tie
 use Rattle.decide.proofs.Finals.{worked}
 use mathlib.Core.List.{[]}
