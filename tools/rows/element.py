@@ -39,7 +39,8 @@ def read_row(path):
 
 def element_for(repo, crate, row, local):
     """An array of the row's own size, since where a part of a slice is lent the derivation has its bytes. The array has to occur nowhere
-    else, or what is no row would be replaced too; rows made in a local are made field by field, so there it has the fields' own width."""
+    else, or what is no row would be replaced too, and the prover refuse it. Rows made in a local are made field by field: there it has the
+    fields' own width, and whether the function has such an array otherwise is left to the prover."""
     widths = [row.width] if local else [w for w in (8, 16, 32, 64) if row.size % (w // 8) == 0]
     text = "".join(open(path).read() for c in below(read_crates(repo), crate) for _, path in source_files(repo, c))
     for width in widths:

@@ -71,7 +71,8 @@ class Room:
             self.write(f"Made/{camel(path)}.antt", "the modules of one function", "".join(f"pub mod {p}\n" for p in sorted(parts)))
         if self.parts:
             self.write("Made.antt", "the functions over rows", "".join(f"pub mod {camel(p)}\n" for p in sorted(self.parts)))
-            if "pub mod Made\n" not in open(f"{self.proofs}/Lib.antt").read():
+            lib = f"{self.proofs}/Lib.antt"
+            if not os.path.exists(lib) or "pub mod Made\n" not in open(lib).read():
                 self.complain("Lib.antt", "wants the line `pub mod Made`")
         for path in self.found():
             if path not in self.made and self.check:
