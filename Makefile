@@ -47,9 +47,12 @@ list-test: tools target/bin/list
 	done
 	python3 -B tests/list_errors.py target/bin/list
 
-# What the tests need beside the Rattle kit.
+# What the tests need: the Rattle kit, and what can be installed. Another kit than README.md names is no error: its prover judges every file as well,
+# and where it refuses one that tools/rows made, this says why.
 tools:
 	command -v rt >/dev/null || { echo "rt, the command of the Rattle kit, is not on the PATH" >&2; exit 1; }
+	is=$$(rt version); named=$$(sed -n 's/.*`\(rattle-kit-[^`]*\)`.*/\1/p' README.md); \
+	    [ "$$is" = "$$named" ] || echo "warning: this kit is '$$is', README.md names '$$named'" >&2
 	command -v python3 >/dev/null || { apt-get update -qq && apt-get install -y -qq python3; } >/dev/null
 	command -v gcc >/dev/null || { apt-get update -qq && apt-get install -y -qq gcc libc6-dev; } >/dev/null
 	command -v cargo >/dev/null || { apt-get update -qq && apt-get install -y -qq cargo; } >/dev/null

@@ -40,7 +40,8 @@ class Function:
         return any(re.search(rf"(?<![&\w]){p}(\[|\.len\(\))", text) and not re.search(rf"&(mut )?{p}\[", text) for p in lent)
 
     def calls(self, other):
-        return re.search(rf"(?<![\w]){other.name}\(", "\n".join(self.body)) is not None
+        """Whether it calls a function of its own crate."""
+        return re.search(rf"(?<![\w:.])((crate|super|{other.module or 'crate'})::)*{other.name}\(", "\n".join(self.body)) is not None
 
 
 def read_crates(repo):
@@ -53,6 +54,20 @@ def read_crates(repo):
                 name, _, deps = line.partition(":")
                 crates[name.strip()] = deps.split()
     return crates
+
+
+def below(crates, crate):
+    """A crate and those that it stands on, in order."""
+    order = []
+
+    def visit(name):
+        for dep in crates.get(name, []):
+            visit(dep)
+        if name in crates and name not in order:
+            order.append(name)
+
+    visit(crate)
+    return order
 
 
 def source_files(repo, crate):

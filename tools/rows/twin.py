@@ -4,7 +4,7 @@ its own function and the signatures of those that are called, and nothing else o
 import os
 import re
 
-from sources import ROW, Function, read_crates, source_files, split_source
+from sources import ROW, Function, below, read_crates, source_files, split_source
 
 
 def learn_types(text, types):
@@ -56,30 +56,32 @@ def default(ty, params, types):
     return f"{name}::{variant}" + ("(" + ", ".join(default(t, params, types) for t in data) + ")" if data else "")
 
 
-def over_arrays(text, element):
-    """Slices and literals of rows as slices and literals of arrays."""
+def over_arrays(text, row, element):
+    """Slices and literals of rows as slices and literals of arrays. A field's place in the array is its place in the struct."""
     text = re.sub(rf"(&(?:'\w+ )?(?:mut )?)\[{ROW}\]", rf"\1[{element}]", text)
 
     def literal(m):
-        values = [x.split(":")[-1].strip() for x in m.group(1).strip().rstrip(",").split(",")]
-        return "[[" + ", ".join(values) + f"]; {m.group(2)}]"
+        values = [[x.strip() for x in part.split(":")] for part in m.group(1).strip().rstrip(",").split(",")]
+        if [value[0] for value in values] != row.fields:
+            raise SystemExit(f"rows: a {ROW} is to be written with the fields in the struct's order: {', '.join(row.fields)}")
+        return "[[" + ", ".join(value[-1] for value in values) + f"]; {m.group(2)}]"
 
     return re.sub(rf"\[{ROW} \{{\s*(.*?)\s*\}}; ([\w:]+)\]", literal, text, flags=re.S)
 
 
-def twin_source(crate, file, text, whole, element, types):
+def twin_source(crate, file, text, whole, row, element, types):
     """A source of the twin; the functions of `whole` keep their bodies. Without `whole` nobody calls a private function: it is left out."""
     out = []
     for item in split_source(crate, file, text):
         if not isinstance(item, Function):
             if not re.match(r"\s*(ghost use|//)", item):
-                out.append(over_arrays(item, element))
+                out.append(over_arrays(item, row, element))
             continue
         if whole is None and not item.signature.startswith("pub "):
             continue
-        signature = over_arrays(item.signature, element)
+        signature = over_arrays(item.signature, row, element)
         if whole and item.path in whole:
-            body = over_arrays("\n".join(item.body), element).split("\n")
+            body = over_arrays("\n".join(item.body), row, element).split("\n")
         else:
             result = re.search(r"\) -> (.*)$", signature)
             body = ["    " + default(result.group(1), parameters(signature), types)] if result else []
@@ -96,18 +98,10 @@ def seen_from_outside(files):
     return {f: "\n".join(x for x in t.split("\n") if not names_hidden.match(x)) for f, t in seen.items()}
 
 
-def write_twin(repo, crate, out, whole, element):
+def write_twin(repo, crate, out, whole, row, element):
     """The twin of a crate and of those below it."""
     crates = read_crates(repo)
-    order = []
-
-    def visit(name):
-        for dep in crates.get(name, []):
-            visit(dep)
-        if name in crates and name not in order:
-            order.append(name)
-
-    visit(crate)
+    order = below(crates, crate)
     sources, types = {}, {}
     for name in order:
         files = {}
@@ -124,4 +118,4 @@ def write_twin(repo, crate, out, whole, element):
         os.makedirs(folder, exist_ok=True)
         for file, text in sources[name].items():
             with open(f"{folder}/{file}", "w") as f:
-                f.write(twin_source(name, file, text, whole if name == crate else None, element, types))
+                f.write(twin_source(name, file, text, whole if name == crate else None, row, element, types))

@@ -1,1 +1,1 @@
-pub mod RowReads
+pub mod Made

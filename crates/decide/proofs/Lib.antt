@@ -1,4 +1,4 @@
-pub mod RowReads
+pub mod Made
 pub mod StateVerdicts
 pub mod Tallies
 pub mod Passes

@@ -1,3 +1,3 @@
-pub mod RowReads
+pub mod Made
 pub mod FileTrip
 pub mod TablesTrip

@@ -1,4 +1,4 @@
-pub mod RowReads
+pub mod Made
 pub mod Delivering
 pub mod Decided
 pub mod LentDeciding

@@ -1,2 +1,2 @@
-pub mod RowReads
+pub mod Made
 pub mod Answered

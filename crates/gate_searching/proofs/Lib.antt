@@ -1,4 +1,4 @@
-pub mod RowReads
+pub mod Made
 pub mod Delivering
 pub mod Searched
 pub mod LentSearch

@@ -1,4 +1,4 @@
-pub mod RowReads
+pub mod Made
 pub mod StateLines
 pub mod Decided
 pub mod Found

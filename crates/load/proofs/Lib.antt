@@ -1,4 +1,4 @@
-pub mod RowReads
+pub mod Made
 pub mod Planning
 pub mod LoadRows
 pub mod Loaded

@@ -1,4 +1,4 @@
-pub mod RowReads
+pub mod Made
 pub mod PlanHits
 pub mod Initializing
 pub mod NetSteps

@@ -1,4 +1,4 @@
-pub mod RowReads
+pub mod Made
 pub mod Passing
 pub mod FieldWays
 pub mod Scanning

@@ -1,4 +1,4 @@
-pub mod RowReads
+pub mod Made
 pub mod FlagValues
 pub mod Queues
 pub mod Spreading

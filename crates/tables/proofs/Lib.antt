@@ -1,5 +1,5 @@
 pub mod Reading
-pub mod RowReads
+pub mod Made
 pub mod Spans
 pub mod CommandTest
 pub mod LongTest

@@ -1,4 +1,4 @@
-pub mod RowReads
+pub mod Made
 pub mod Spreads
 pub mod OutcomeFacts
 pub mod CommandFacts

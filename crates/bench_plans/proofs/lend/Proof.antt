@@ -1,4 +1,3 @@
-mod Lts
 mod Tie
 use mathlib.Core.Path.{sym}
 use native.Mathlib.Omega.{arith}

@@ -1,4 +1,3 @@
-mod Lts
 mod Tie
 use borrow.Author.Needs.{needs}
 use Rattle.bench_plans.proofs.try_file.Statement.{statement}

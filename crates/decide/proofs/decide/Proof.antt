@@ -1,4 +1,3 @@
-mod Lts
 mod Tie
 use Rattle.decide.proofs.Decisions.{refuses, admits, decides}
 use Rattle.tables.specs.Meaning.{held}

@@ -1,4 +1,3 @@
-mod Lts
 mod Tie
 use borrow.Author.Needs.{needs}
 use Rattle.format.proofs.FileTrip.{file-refused, file-written}

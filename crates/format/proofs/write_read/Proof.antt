@@ -1,4 +1,3 @@
-mod Lts
 mod Tie
 use lib.Seq.{length-take-le}
 use mathlib.Core.Path.{sym}

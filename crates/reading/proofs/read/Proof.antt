@@ -1,4 +1,3 @@
-mod Lts
 mod Tie
 use Rattle.reading.proofs.Calls.{unchanged, no-plan, cramped, all-long, room, filled}
 use Rattle.reading.specs.Meaning.{answerOf}

@@ -1,4 +1,3 @@
-mod Lts
 mod Tie
 use Rattle.tables.proofs.SoundParts.{sound-parts, starts-read, some-state, told}
 use Rattle.tables.proofs.LongTest.{all-long}

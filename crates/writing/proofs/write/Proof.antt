@@ -1,4 +1,3 @@
-mod Lts
 mod Tie
 use Rattle.writing.proofs.FileFacts.{head-ready, states-ready, end-ready, file-stored, size-ready, refuses, file-ready, written}
 use Rattle.tables.specs.Meaning.{held}

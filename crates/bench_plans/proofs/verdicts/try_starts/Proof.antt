@@ -1,4 +1,3 @@
-mod Lts
 mod Tie
 use mathlib.Core.Path.{_≡_, refl}
 use Prim.Native.Nat.{_-_}

@@ -1,4 +1,3 @@
-mod Lts
 mod Tie
 use Rattle.tables.proofs.LongTest.{rows-long}
 use Rattle.decide.proofs.Passes.{pass-start, pass-room, pass-next, pass-done}

@@ -1,7 +1,6 @@
 use Rattle.gate_deciding.proofs.LentDeciding.{decide-call, decide-refused, decide-moved}
 use Rattle.load.proofs.Lending.{call-refused, call-given}
 use lib.ListN.{length}
-mod Lts
 mod Tie
 use borrow.Author.Needs.{needs}
 use Rattle.gate_deciding.proofs.internal.decide_call.Statement.{statement}

@@ -1,6 +1,5 @@
 use Rattle.gate_deciding.proofs.Decided.{deliverable, decision-delivered}
 use Rattle.tables.specs.Meaning.{held}
-mod Lts
 mod Tie
 use borrow.Author.Needs.{needs}
 use Rattle.gate_deciding.proofs.internal.decide_loaded.Statement.{statement}

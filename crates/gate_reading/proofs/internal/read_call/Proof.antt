@@ -1,4 +1,3 @@
-mod Lts
 mod Tie
 use borrow.Author.Needs.{needs}
 use Rattle.gate_reading.proofs.internal.read_call.Statement.{statement}

@@ -1,5 +1,4 @@
 use Rattle.gate_reading.proofs.Answered.{refuses, rows-ready, lists-ready, gives}
-mod Lts
 mod Tie
 use borrow.Author.Needs.{needs}
 use Rattle.gate_reading.proofs.work.read_by.Statement.{statement}

@@ -3,7 +3,6 @@ use Rattle.gate_searching.proofs.LentSearch.{search-call, search-moved}
 use lib.ListN.{length}
 use mathlib.Core.Path.{_∙_}
 use Rattle.gate_searching.proofs.Delivering.{refused-after}
-mod Lts
 mod Tie
 use borrow.Author.Needs.{needs}
 use Rattle.gate_searching.proofs.internal.search_call.Statement.{statement}

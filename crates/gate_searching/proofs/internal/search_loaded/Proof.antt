@@ -1,7 +1,6 @@
 use mathlib.Core.Path.{_∙_}
 use Rattle.gate_searching.proofs.Searched.{deliverable, search-delivered}
 use Rattle.tables.specs.Meaning.{held}
-mod Lts
 mod Tie
 use borrow.Author.Needs.{needs}
 use Rattle.gate_searching.proofs.internal.search_loaded.Statement.{statement}

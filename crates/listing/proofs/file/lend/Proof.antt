@@ -1,4 +1,3 @@
-mod Lts
 mod Tie
 use borrow.Author.Needs.{needs}
 use Rattle.listing.proofs.file.lend.Statement.{statement}

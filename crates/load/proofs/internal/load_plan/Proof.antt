@@ -1,6 +1,5 @@
 use Rattle.load.proofs.Loaded.{within, no-plan, answers, fills, refuses, keeps}
 use native.Mathlib.Omega.{arith}
-mod Lts
 mod Tie
 use borrow.Author.Needs.{needs}
 use Rattle.load.proofs.internal.load_plan.Statement.{statement}

@@ -1,7 +1,6 @@
 use Rattle.load.proofs.LoadRows.{Rows, rows-begin, rows-more, rows-end}
 use Prim.Native.Nat.{_-_, _≤_}
 use native.Mathlib.Omega.{arith}
-mod Lts
 mod Tie
 use Rattle.load.proofs.internal.load_rows.Statement.{statement}
 use Rattle.load.proofs.internal.load_rows.Proof.Tie as tie

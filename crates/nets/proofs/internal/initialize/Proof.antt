@@ -1,4 +1,3 @@
-mod Lts
 mod Tie
 use Rattle.nets.proofs.Initializing.{initialized-start, initialized-next, initialized-done, read-inside}
 use Rattle.nets.specs.Nets.{Initialized}

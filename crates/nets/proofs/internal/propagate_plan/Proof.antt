@@ -1,4 +1,3 @@
-mod Lts
 mod Tie
 use mathlib.Core.Path.{_∙_}
 use mathlib.Core.List.{[]}

@@ -1,4 +1,3 @@
-mod Lts
 mod Tie
 use Rattle.reading.proofs.FillStates.{Filling, Turn, filling-begin, filling-turn, filling-more, filling-left, filling-end}
 use Rattle.reading.specs.Meaning.{bytesFrom}

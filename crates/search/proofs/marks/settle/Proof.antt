@@ -1,4 +1,3 @@
-mod Lts
 mod Tie
 use mathlib.Core.List.{List, []}
 use Prim.Native.Nat.{ℕ, _-_, _≤_}

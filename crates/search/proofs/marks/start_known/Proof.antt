@@ -1,4 +1,3 @@
-mod Lts
 mod Tie
 use mathlib.Core.Path.{ap, _∙_}
 use mathlib.Core.List.{List, []}

@@ -1,4 +1,3 @@
-mod Lts
 mod Tie
 use Prim.Native.Nat.{suc, _-_}
 use native.Mathlib.Omega.{arith}

@@ -1,4 +1,3 @@
-mod Lts
 mod Tie
 use Prim.Native.Nat.{_-_}
 use native.Mathlib.Omega.{arith}

@@ -9,7 +9,6 @@ use Rattle.model.specs.Boundary.{bytesFor, rowEntries}
 use Rattle.model.specs.Tables.{Row as ModelRow}
 use Rattle.tables.specs.Meaning.{rowOf, rowsOf, noRow}
 use Rattle.store.proofs.Entries.{rows-blocks}
-mod Lts
 mod Tie
 use Rattle.store.proofs.internal.store_rows.Statement.{statement}
 use Rattle.store.proofs.internal.store_rows.Proof.Tie as tie

@@ -1,8 +1,0 @@
--- Made by tools/rows.
-pub mod FilesWriteAgain
-pub mod FilesReadAgain
-pub mod TryFile
-pub mod SameSameRows
-pub mod SameSameTables
-pub mod VerdictsTryStarts
-pub mod VerdictsTryPlan

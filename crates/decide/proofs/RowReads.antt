@@ -1,4 +1,0 @@
--- Made by tools/rows.
-pub mod Decide
-pub mod VerdictsJudgeAll
-pub mod WorkingWorkOut

@@ -1,2 +1,0 @@
--- Made by tools/rows.
-pub mod WorkReadBy

@@ -1,3 +1,0 @@
--- Made by tools/rows.
-pub mod InternalInitialize
-pub mod InternalPropagatePlan

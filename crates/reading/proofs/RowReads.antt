@@ -1,3 +1,0 @@
--- Made by tools/rows.
-pub mod FillFillStates
-pub mod Read

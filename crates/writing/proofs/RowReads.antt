@@ -1,3 +1,0 @@
--- Made by tools/rows.
-pub mod Write
-pub mod StatesWriteStates
