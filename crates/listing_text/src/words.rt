@@ -18,8 +18,8 @@ use tables::internal::wide;
 
 const SPACE: u8 = 32;
 
-// The entry for none: hexadecimal FFFF.
-const NONE: u16 = 65535;
+// The entry for none, as it stands in a table.
+const NONE: u16 = tables::internal::NONE as u16;
 
 pub fn put_letter(out: &mut [u8], place: usize, letter: u8) -> usize
     requires { ⌜ place + 2 ≤ length (now out) ⌝ }
