@@ -4,5 +4,6 @@ pub mod FilesReadAgain
 pub mod TryFile
 pub mod SameSameRows
 pub mod SameSameTables
-pub mod VerdictsTryStarts
-pub mod VerdictsTryPlan
+pub mod VerdictsAnswer
+pub mod VerdictsAsk
+pub mod VerdictsAskAll

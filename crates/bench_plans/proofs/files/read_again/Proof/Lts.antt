@@ -74,7 +74,7 @@ use types.Kit
 use types.Run
 
 abbrev ty·0 : Syntax.Ty
-ty·0 = Syntax.tyArray (Syntax.tyInt Syntax.w8) 58378
+ty·0 = Syntax.tyArray (Syntax.tyInt Syntax.w8) 53258
 
 abbrev ty·1 : Syntax.Ty
 ty·1 = Syntax.tyArray (Syntax.tyInt Syntax.w16) 4096
@@ -185,7 +185,7 @@ abbrev pub hs : List.List Syntax.Home
 hs = List._∷_ Syntax.valueLocal (List._∷_ Syntax.valueLocal (List._∷_ Syntax.valueLocal (List._∷_ Syntax.valueLocal (List._∷_ Syntax.valueLocal (List._∷_ Syntax.memorySlot (List._∷_ Syntax.memorySlot (List._∷_ Syntax.memorySlot (List._∷_ Syntax.memorySlot (List._∷_ Syntax.valueLocal (List._∷_ Syntax.valueLocal (List._∷_ Syntax.valueLocal (List._∷_ Syntax.valueLocal (List._∷_ Syntax.valueLocal (List._∷_ Syntax.valueLocal (List._∷_ Syntax.valueLocal (List._∷_ Syntax.valueLocal (List._∷_ Syntax.valueLocal (List._∷_ Syntax.valueLocal (List._∷_ Syntax.valueLocal (List._∷_ Syntax.valueLocal (List._∷_ Syntax.valueLocal (List._∷_ Syntax.valueLocal (List._∷_ Syntax.valueLocal (List._∷_ Syntax.valueLocal (List._∷_ Syntax.valueLocal List.[])))))))))))))))))))))))))
 
 abbrev b0 : Syntax.Body
-b0 = Syntax.assign (Syntax.place 5 List.[]) (Syntax.repeat (Syntax.int Syntax.w8 0) 58378)
+b0 = Syntax.assign (Syntax.place 5 List.[]) (Syntax.repeat (Syntax.int Syntax.w8 0) 53258)
 
 abbrev b1 : Syntax.Body
 b1 = Syntax.assign (Syntax.place 11 List.[]) (Syntax.aggregate (List._∷_ (Syntax.int Syntax.w16 0) (List._∷_ (Syntax.int Syntax.w16 0) (List._∷_ (Syntax.int Syntax.w16 0) List.[]))))
@@ -203,7 +203,7 @@ abbrev b5 : Syntax.Body
 b5 = Syntax.assign (Syntax.place 12 List.[]) (Syntax.addrOf (Syntax.place 5 List.[]))
 
 abbrev b6 : Syntax.Body
-b6 = Syntax.assign (Syntax.place 13 List.[]) (Syntax.aggregate (List._∷_ (Syntax.copy (Syntax.place 12 List.[])) (List._∷_ (Syntax.intBig Syntax.w64 58378) List.[])))
+b6 = Syntax.assign (Syntax.place 13 List.[]) (Syntax.aggregate (List._∷_ (Syntax.copy (Syntax.place 12 List.[])) (List._∷_ (Syntax.intBig Syntax.w64 53258) List.[])))
 
 abbrev b7 : Syntax.Body
 b7 = Syntax.assign (Syntax.place 14 List.[]) (Syntax.addrOf (Syntax.place 6 List.[]))
@@ -347,10 +347,10 @@ abbrev pub t2 : List.List Row.Entry
 t2 = Row.setRow 1 (1, Rows'.any-gone ty·25) (Row.setRow 0 (0, Rows'.sc-here Row.sBool) t0)
 
 abbrev pub t3 : List.List Row.Entry
-t3 = Row.setRow 5 (5, Rows'.whole (Array'.Array (Referent.rtF (Referent.fInt Syntax.w8)) 58378)) t0
+t3 = Row.setRow 5 (5, Rows'.whole (Array'.Array (Referent.rtF (Referent.fInt Syntax.w8)) 53258)) t0
 
 abbrev pub t4 : List.List Row.Entry
-t4 = Row.setRow 5 (5, Rows.arrF (Referent.rtF (Referent.fInt Syntax.w8)) 58378 0) t0
+t4 = Row.setRow 5 (5, Rows.arrF (Referent.rtF (Referent.fInt Syntax.w8)) 53258 0) t0
 
 abbrev pub t5 : List.List Row.Entry
 t5 = Row.setRow 11 (11, Rows'.whole (Declared'.row (Apart.apartT T.the-type))) t4
@@ -380,10 +380,10 @@ abbrev pub t13 : List.List Row.Entry
 t13 = Row.setRow 8 (8, Rows.arrF (Referent.rtF (Referent.fInt Syntax.w16)) 16384 0) t11
 
 abbrev pub t14 : List.List Row.Entry
-t14 = Row.setRow 12 (12, Relend.msptr (Referent.rtF (Referent.fInt Syntax.w8)) ty·13 3) (Row.setRow 5 (5, Rows.arr-owed (Referent.rtF (Referent.fInt Syntax.w8)) 58378 3) t13)
+t14 = Row.setRow 12 (12, Relend.msptr (Referent.rtF (Referent.fInt Syntax.w8)) ty·13 3) (Row.setRow 5 (5, Rows.arr-owed (Referent.rtF (Referent.fInt Syntax.w8)) 53258 3) t13)
 
 abbrev pub t15 : List.List Row.Entry
-t15 = Row.setRow 13 (13, Mut.mslice (Referent.rtF (Referent.fInt Syntax.w8)) ty·5 3) (Row.setRow 5 (5, Rows.arr-owed (Referent.rtF (Referent.fInt Syntax.w8)) 58378 3) t13)
+t15 = Row.setRow 13 (13, Mut.mslice (Referent.rtF (Referent.fInt Syntax.w8)) ty·5 3) (Row.setRow 5 (5, Rows.arr-owed (Referent.rtF (Referent.fInt Syntax.w8)) 53258 3) t13)
 
 abbrev pub t16 : List.List Row.Entry
 t16 = Row.setRow 14 (14, Relend.msptr T.the-row ty·18 4) (Row.setRow 6 (6, Rows.arr-owed T.the-row 1024 4) t15)
@@ -419,7 +419,7 @@ abbrev pub t26 : List.List Row.Entry
 t26 = Row.setRow 10 (10, Rows'.whole (Declared'.row Size.the-type)) (Row.setRow 5 (5, Rows'.any-gone ty·0) t13)
 
 abbrev pub t27 : List.List Row.Entry
-t27 = Row.setRow 13 (13, Rows'.any-gone ty·20) (Row.setRow 5 (5, Rows.arrF (Referent.rtF (Referent.fInt Syntax.w8)) 58378 0) t24)
+t27 = Row.setRow 13 (13, Rows'.any-gone ty·20) (Row.setRow 5 (5, Rows.arrF (Referent.rtF (Referent.fInt Syntax.w8)) 53258 0) t24)
 
 abbrev pub t28 : List.List Row.Entry
 t28 = Row.setRow 5 (5, Rows'.any-gone ty·0) t27
@@ -705,10 +705,10 @@ module _ (claims· : Claims) where
   s1 = λ bs. Know.k-shs-known (Referent.fInt Syntax.w16) T2 4 2 ty·9 Row.off 0 λ x. x
 
   abbrev s2 : (bs : List.List Nat.ℕ) → Typed.Mo T3 → Typed.Mo T4
-  s2 = λ bs. Repeat.n-repeat (Referent.rtF (Referent.fInt Syntax.w8)) 58378 T3 5 λ m. 0
+  s2 = λ bs. Repeat.n-repeat (Referent.rtF (Referent.fInt Syntax.w8)) 53258 T3 5 λ m. 0
 
   abbrev s3 : (bs : List.List Nat.ℕ) → Typed.Mo T4 → Typed.Mo T5
-  s3 = λ bs. AtSlots.n-as-by T4 5 (Rows.arrF (Referent.rtF (Referent.fInt Syntax.w8)) 58378 0) λ x. x
+  s3 = λ bs. AtSlots.n-as-by T4 5 (Rows.arrF (Referent.rtF (Referent.fInt Syntax.w8)) 53258 0) λ x. x
 
   abbrev s4 : (bs : List.List Nat.ℕ) → Typed.Mo T5 → Typed.Mo T6
   s4 = λ bs. Make.n-struct-make (Apart.apartT T.the-type) T5 11 λ m. (0, (0, (0, tt)))
@@ -738,10 +738,10 @@ module _ (claims· : Claims) where
   s12 = λ bs. AtSlots.n-as-by T13 8 (Rows.arrF (Referent.rtF (Referent.fInt Syntax.w16)) 16384 0) λ x. x
 
   abbrev s14 : (bs : List.List Nat.ℕ) → Typed.Gives T14 T16
-  s14 = λ bs. Borrow.k-arr-borrow (Referent.rtF (Referent.fInt Syntax.w8)) T14 (Row.hd 0 (Row.tl (Row.tl (Row.tl (Row.tl (Row.tl bs)))))) 5 12 58378 3 ty·13 λ x. x
+  s14 = λ bs. Borrow.k-arr-borrow (Referent.rtF (Referent.fInt Syntax.w8)) T14 (Row.hd 0 (Row.tl (Row.tl (Row.tl (Row.tl (Row.tl bs)))))) 5 12 53258 3 ty·13 λ x. x
 
   abbrev s15 : (bs : List.List Nat.ℕ) → Typed.Asks T16 T17
-  s15 = λ bs. Relend.k-sl-aggregate (Referent.rtF (Referent.fInt Syntax.w8)) (Relend.asMut (Referent.rtF (Referent.fInt Syntax.w8))) T16 12 13 3 ty·13 ty·5 (λ x. x) (Scalar.oBig Syntax.w64 58378)
+  s15 = λ bs. Relend.k-sl-aggregate (Referent.rtF (Referent.fInt Syntax.w8)) (Relend.asMut (Referent.rtF (Referent.fInt Syntax.w8))) T16 12 13 3 ty·13 ty·5 (λ x. x) (Scalar.oBig Syntax.w64 53258)
 
   abbrev s17 : (bs : List.List Nat.ℕ) → Typed.Gives T17 T19
   s17 = λ bs. Borrow.k-arr-borrow T.the-row T17 (Row.hd 0 (Row.tl (Row.tl (Row.tl (Row.tl (Row.tl (Row.tl bs))))))) 6 14 1024 4 ty·18 λ x. x
@@ -765,7 +765,7 @@ module _ (claims· : Claims) where
   s25 = λ bs. Call.callB ps·0 r·0 (claims· .0) (claims· .1) T26 (record { pos = 1; st = List.[]; d = 0; at = λ x. x }, (record { pos = 2; ty = Syntax.tyRef (Syntax.named 0) Syntax.imm (Memory.pointee (T.the-row .written)); ref = λ x. x }, (record { pos = 3; ty = Syntax.tyRef (Syntax.named 1) Syntax.imm (Syntax.tyInt Syntax.w16); ref = λ x. x }, (record { pos = 4; ty = Syntax.tyRef (Syntax.named 2) Syntax.imm (Syntax.tyInt Syntax.w16); ref = λ x. x }, (record { pos = 13; ty = Syntax.tyRef Syntax.erased Syntax.mut (Syntax.tyInt Syntax.w8); ref = λ x. x }, (record { pos = 15; ty = Syntax.tyRef Syntax.erased Syntax.mut (Memory.pointee (T.the-row .written)); ref = λ x. x }, (record { pos = 17; ty = Syntax.tyRef Syntax.erased Syntax.mut (Syntax.tyInt Syntax.w16); ref = λ x. x }, (record { pos = 19; ty = Syntax.tyRef Syntax.erased Syntax.mut (Syntax.tyInt Syntax.w16); ref = λ x. x }, tt)))))))) 9 (List._∷_ 0 (List._∷_ 1 (List._∷_ 2 (List._∷_ 3 (List._∷_ 4 (List._∷_ 5 (List._∷_ 6 List.[]))))))) ty·27
 
   abbrev s27 : (bs : List.List Nat.ℕ) → Typed.Both T27 T30
-  s27 = λ bs. Borrow.k-back-arr (Referent.rtF (Referent.fInt Syntax.w8)) T27 13 5 3 58378 ty·5 (λ x. x) λ x. x
+  s27 = λ bs. Borrow.k-back-arr (Referent.rtF (Referent.fInt Syntax.w8)) T27 13 5 3 53258 ty·5 (λ x. x) λ x. x
 
   abbrev s29 : (bs : List.List Nat.ℕ) → Typed.Mo T30 → Typed.Mo T32
   s29 = λ bs. Scalar.n-room T30 5 ty·0
@@ -1434,13 +1434,13 @@ module _ (claims· : Claims) where
           d20 = Typed.g-pre 𝓤 H A W 𝓣 E G32 G33 b18 Δ1 (λ Ψ. Ψ) (at19 bs) (Lifetime.g-end 𝓤 H A W E G32 4 Path'.refl) d19
 
           d21 : Typed.Typed 𝓤 H A 𝓣 E G31 b18 Δ1 (at21 bs)
-          d21 = Typed.g-pre 𝓤 H A W 𝓣 E G31 G32 b18 Δ1 (Typed.pass T30 T32 (s29 bs)) (at20 bs) (Scalar.g-room 𝓤 H A W E G31 5 ty·0 (Init.room-arr 𝓤 H A W (Referent.rtF (Referent.fInt Syntax.w8)) 58378 0 58378 Path'.refl)) d20
+          d21 = Typed.g-pre 𝓤 H A W 𝓣 E G31 G32 b18 Δ1 (Typed.pass T30 T32 (s29 bs)) (at20 bs) (Scalar.g-room 𝓤 H A W E G31 5 ty·0 (Init.room-arr 𝓤 H A W (Referent.rtF (Referent.fInt Syntax.w8)) 53258 0 53258 Path'.refl)) d20
 
           d22 : Typed.Typed 𝓤 H A 𝓣 E G30 b18 Δ1 (at22 bs)
           d22 = Typed.g-pre 𝓤 H A W 𝓣 E G30 G31 b18 Δ1 (λ Ψ. Ψ) (at21 bs) (Lifetime.g-forget 𝓤 H A W E G30 3 Row.dead Path'.refl) d21
 
           d23 : Typed.Typed 𝓤 H A 𝓣 E G29 b18 Δ1 (at23 bs)
-          d23 = Typed.g-pre 𝓤 H A W 𝓣 E G29 G30 b18 Δ1 (Typed.both (s27 bs)) (at22 bs) (Borrow.g-back-arr 𝓤 H A W E (Referent.rtF (Referent.fInt Syntax.w8)) G29 13 5 3 58378 ty·5 (λ x. x) (λ x. x) (Reads.as-is 𝓤 H A (Mut.msleft (Referent.rtF (Referent.fInt Syntax.w8)) ty·5)) (Reads.as-is 𝓤 H A (Rows.arr-owed (Referent.rtF (Referent.fInt Syntax.w8)) 58378 3)) Path'.refl) d22
+          d23 = Typed.g-pre 𝓤 H A W 𝓣 E G29 G30 b18 Δ1 (Typed.both (s27 bs)) (at22 bs) (Borrow.g-back-arr 𝓤 H A W E (Referent.rtF (Referent.fInt Syntax.w8)) G29 13 5 3 53258 ty·5 (λ x. x) (λ x. x) (Reads.as-is 𝓤 H A (Mut.msleft (Referent.rtF (Referent.fInt Syntax.w8)) ty·5)) (Reads.as-is 𝓤 H A (Rows.arr-owed (Referent.rtF (Referent.fInt Syntax.w8)) 53258 3)) Path'.refl) d22
 
           d24 : Typed.Typed 𝓤 H A 𝓣 E G27 b18 Δ1 (at24 bs)
           d24 = Typed.g-pre 𝓤 H A W 𝓣 E G27 G29 b18 Δ1 (λ Ψ. Ψ) (at23 bs) (Lifetime.g-end 𝓤 H A W E G27 3 Path'.refl) d23
@@ -1563,10 +1563,10 @@ module _ (claims· : Claims) where
           d63 = Typed.g-pre 𝓤 H A W 𝓣 E G17 G18 b41 Δ0 (λ Ψ. Ψ) (at62 bs) (Lifetime.g-begin 𝓤 H A W E G17 4 (tt, (tt, (tt, (tt, (tt, (tt, (tt, (tt, (tt, (tt, (tt, (tt, (tt, (tt, (tt, (tt, (tt, (tt, (tt, (tt, (tt, (tt, (tt, (tt, (tt, (tt, tt))))))))))))))))))))))))))) d62
 
           d64 : Typed.Typed 𝓤 H A 𝓣 E G16 b42 Δ0 (at64 bs)
-          d64 = Typed.s-seq 𝓤 H A W 𝓣 E G16 G17 b6 b41 Δ0 (Typed.ask (s15 bs)) (at63 bs) (Relend.t-sl-aggregate 𝓤 H A W E (Referent.rtF (Referent.fInt Syntax.w8)) 𝓣 (Relend.asMut (Referent.rtF (Referent.fInt Syntax.w8))) G16 12 13 3 ty·13 ty·5 (λ x. x) (Scalar.oBig Syntax.w64 58378) (Reads.as-is 𝓤 H A (Relend.msptr (Referent.rtF (Referent.fInt Syntax.w8)) ty·13 3)) (Reads.room-gone 𝓤 H A ty·20) record { lower = record { fits = Dec'.lit< tt } } Path'.refl Path'.refl λ b o k. tt) d63
+          d64 = Typed.s-seq 𝓤 H A W 𝓣 E G16 G17 b6 b41 Δ0 (Typed.ask (s15 bs)) (at63 bs) (Relend.t-sl-aggregate 𝓤 H A W E (Referent.rtF (Referent.fInt Syntax.w8)) 𝓣 (Relend.asMut (Referent.rtF (Referent.fInt Syntax.w8))) G16 12 13 3 ty·13 ty·5 (λ x. x) (Scalar.oBig Syntax.w64 53258) (Reads.as-is 𝓤 H A (Relend.msptr (Referent.rtF (Referent.fInt Syntax.w8)) ty·13 3)) (Reads.room-gone 𝓤 H A ty·20) record { lower = record { fits = Dec'.lit< tt } } Path'.refl Path'.refl λ b o k. tt) d63
 
           d65 : Typed.Typed 𝓤 H A 𝓣 E G15 b43 Δ0 (at65 bs)
-          d65 = Typed.s-seq 𝓤 H A W 𝓣 E G15 G16 b5 b42 Δ0 (Typed.give (s14 bs)) (at64 bs) (Borrow.t-arr-borrow 𝓤 H A W E 𝓣 (Referent.rtF (Referent.fInt Syntax.w8)) G15 5 12 58378 3 ty·13 (λ x. x) (Reads.as-is 𝓤 H A (Rows.arrF (Referent.rtF (Referent.fInt Syntax.w8)) 58378 0)) (Reads.room-gone 𝓤 H A ty·13) Path'.refl (λ b o. tt) (Dec'.lit< tt, Dec'.lit< tt)) d64
+          d65 = Typed.s-seq 𝓤 H A W 𝓣 E G15 G16 b5 b42 Δ0 (Typed.give (s14 bs)) (at64 bs) (Borrow.t-arr-borrow 𝓤 H A W E 𝓣 (Referent.rtF (Referent.fInt Syntax.w8)) G15 5 12 53258 3 ty·13 (λ x. x) (Reads.as-is 𝓤 H A (Rows.arrF (Referent.rtF (Referent.fInt Syntax.w8)) 53258 0)) (Reads.room-gone 𝓤 H A ty·13) Path'.refl (λ b o. tt) (Dec'.lit< tt, Dec'.lit< tt)) d64
 
           d66 : Typed.Typed 𝓤 H A 𝓣 E G14 b43 Δ0 (at66 bs)
           d66 = Typed.g-pre 𝓤 H A W 𝓣 E G14 G15 b43 Δ0 (λ Ψ. Ψ) (at65 bs) (Lifetime.g-begin 𝓤 H A W E G14 3 (tt, (tt, (tt, (tt, (tt, (tt, (tt, (tt, (tt, (tt, (tt, (tt, (tt, (tt, (tt, (tt, (tt, (tt, (tt, (tt, (tt, (tt, (tt, (tt, (tt, (tt, tt))))))))))))))))))))))))))) d65
@@ -1599,10 +1599,10 @@ module _ (claims· : Claims) where
           d75 = Typed.s-seq 𝓤 H A W 𝓣 E G5 G6 b1 b46 Δ0 (Typed.pass T5 T6 (s4 bs)) (at74 bs) (Make.t-struct-make 𝓤 H A W E 𝓣 (Apart.apartT T.the-type) RowLaws.the-laws RowLaws.the-plain G5 11 (List._∷_ (Scalar.oInt Syntax.w16 0) (List._∷_ (Scalar.oInt Syntax.w16 0) (List._∷_ (Scalar.oInt Syntax.w16 0) List.[]))) (λ m. (0, (0, (0, tt)))) (Reads.room-gone 𝓤 H A (Memory.lone (T.the-row .mir))) (tt, (tt, (tt, tt))) Path'.refl (λ u. Path'.refl) λ m. Make.is-wt (Apart.apartT T.the-type) RowLaws.the-laws (Make.u16-wt, (Make.u16-wt, (Make.u16-wt, tt))) (0, (0, (0, tt)))) d74
 
           d76 : Typed.Typed 𝓤 H A 𝓣 E G4 b47 Δ0 (at76 bs)
-          d76 = Typed.g-pre 𝓤 H A W 𝓣 E G4 G5 b47 Δ0 (Typed.pass T4 T5 (s3 bs)) (at75 bs) (AtSlots.g-as-by 𝓤 H A W E (λ ρ. Unit) G4 5 (Rows.arrF (Referent.rtF (Referent.fInt Syntax.w8)) 58378 0) (λ x. x) (Own.told-none 𝓤 H A (G4 .slots)) λ ρ told. Repeat.whole-arr 𝓤 H A W (Referent.rtF (Referent.fInt Syntax.w8)) 58378 tt ρ) d75
+          d76 = Typed.g-pre 𝓤 H A W 𝓣 E G4 G5 b47 Δ0 (Typed.pass T4 T5 (s3 bs)) (at75 bs) (AtSlots.g-as-by 𝓤 H A W E (λ ρ. Unit) G4 5 (Rows.arrF (Referent.rtF (Referent.fInt Syntax.w8)) 53258 0) (λ x. x) (Own.told-none 𝓤 H A (G4 .slots)) λ ρ told. Repeat.whole-arr 𝓤 H A W (Referent.rtF (Referent.fInt Syntax.w8)) 53258 tt ρ) d75
 
           d77 : Typed.Typed 𝓤 H A 𝓣 E G3 b48 Δ0 (at77 bs)
-          d77 = Typed.s-seq 𝓤 H A W 𝓣 E G3 G4 b0 b47 Δ0 (Typed.pass T3 T4 (s2 bs)) (at76 bs) (Repeat.t-repeat 𝓤 H A W E 𝓣 (Referent.rtF (Referent.fInt Syntax.w8)) (Plain'.uint-lawful 𝓤 H A W Syntax.w8) (Copies.cRf (Referent.fInt Syntax.w8) .copy 𝓤 H A W) (Plain'.uint-makes 𝓤 H A W Syntax.w8) 58378 G3 5 (Scalar.oInt Syntax.w8 0) (λ m. 0) (Reads.room-gone 𝓤 H A ty·0) tt Path'.refl λ m wa. (Path'.refl, Dec'.lit< tt)) d76
+          d77 = Typed.s-seq 𝓤 H A W 𝓣 E G3 G4 b0 b47 Δ0 (Typed.pass T3 T4 (s2 bs)) (at76 bs) (Repeat.t-repeat 𝓤 H A W E 𝓣 (Referent.rtF (Referent.fInt Syntax.w8)) (Plain'.uint-lawful 𝓤 H A W Syntax.w8) (Copies.cRf (Referent.fInt Syntax.w8) .copy 𝓤 H A W) (Plain'.uint-makes 𝓤 H A W Syntax.w8) 53258 G3 5 (Scalar.oInt Syntax.w8 0) (λ m. 0) (Reads.room-gone 𝓤 H A ty·0) tt Path'.refl λ m wa. (Path'.refl, Dec'.lit< tt)) d76
 
           d78 : Typed.Typed 𝓤 H A 𝓣 E G2 b48 Δ0 (at78 bs)
           d78 = Typed.g-pre 𝓤 H A W 𝓣 E G2 G3 b48 Δ0 (Typed.give (s1 bs)) (at77 bs) (Know.g-shs-known 𝓤 H A W (Referent.fInt Syntax.w16) E G2 4 2 ty·9 (Row.lease (κs .1 .1 .0) (qs .1 .1 .0)) 0 (λ x. x) record { fits = Dec'.lit< tt } (Reads.as-is 𝓤 H A (Rows'.sslice (Referent.rtF (Referent.fInt Syntax.w16)) ty·9 2)) Path'.refl tt) d77
@@ -1703,7 +1703,7 @@ module _ (claims· : Claims) where
         pub bytes : After-bytes·own before
 
       abbrev pub Need-slice-aggregate-write-read : Type 0
-      Need-slice-aggregate-write-read = (c : After-bytes) → Relend.CountIs T16 12 13 (λ x. x) (λ u. 58378) (m14 (c .before) (c .bytes .given))
+      Need-slice-aggregate-write-read = (c : After-bytes) → Relend.CountIs T16 12 13 (λ x. x) (λ u. 53258) (m14 (c .before) (c .bytes .given))
 
       abbrev pub m15 : (before : After-shared-slice-known2) → (given : s14 (before .before .before .blocks) .gives (m13 (before .before) (before .shared-slice-known2 .given))) → Typed.Mo T17
       m15 = λ before given. s15 (before .before .before .blocks) .next (m14 before given)
@@ -2023,7 +2023,7 @@ module _ (claims· : Claims) where
         lay1 = λ c. (Path'.refl, λ g. (Path'.refl, λ g'. (Path'.refl, λ g''. (Path'.refl, λ g'3. (λ k. (enum-known-r record { before = record { before = record { before = record { before = record { before = record { before = c .before; write-read = c .write-read }; bytes2 = record { given = g } }; rows22 = record { given = g' } }; firsts22 = record { given = g'' } }; outcomes22 = record { given = g'3 } }; match = record { keys1 = k } }, λ g'4. λ g'5. lay2 record { before = record { before = record { before = record { before = record { before = record { before = record { before = record { before = c .before; write-read = c .write-read }; bytes2 = record { given = g } }; rows22 = record { given = g' } }; firsts22 = record { given = g'' } }; outcomes22 = record { given = g'3 } }; match = record { keys1 = k } }; r = record { given = g'4 } }; known-told = record { given = g'5 } }), (λ k. (enum-told record { before = record { before = record { before = record { before = record { before = record { before = c .before; write-read = c .write-read }; bytes2 = record { given = g } }; rows22 = record { given = g' } }; firsts22 = record { given = g'' } }; outcomes22 = record { given = g'3 } }; match = record { keys2 = k } }, λ g'6. ((tt, (Path'.refl, (Path'.refl, (Path'.refl, tt)))), returns record { before = record { before = record { before = record { before = record { before = record { before = record { before = c .before; write-read = c .write-read }; bytes2 = record { given = g } }; rows22 = record { given = g' } }; firsts22 = record { given = g'' } }; outcomes22 = record { given = g'3 } }; match = record { keys2 = k } }; enum-told = record { given = g'6 } })), Match.each-below 2 (λ j. (Unit {0} × (Run.OneOf (List._∷_ 0 List.[]) j → ⊥)) × (Run.OneOf (List._∷_ 1 List.[]) j → ⊥) → ⊥) (λ n. n .1 Path'.refl, (λ n. n .0 .1 Path'.refl, tt)) (Declared.tagOf ReadAnswer.the-type (Row.get 9 (T40 .locals) (m27 record { before = record { before = record { before = record { before = c .before; write-read = c .write-read }; bytes2 = record { given = g } }; rows22 = record { given = g' } }; firsts22 = record { given = g'' } } g'3))) (Match.tag-small ReadAnswer.the-type (Row.get 9 (T40 .locals) (m27 record { before = record { before = record { before = record { before = c .before; write-read = c .write-read }; bytes2 = record { given = g } }; rows22 = record { given = g' } }; firsts22 = record { given = g'' } } g'3)))))))))
 
         pub laid : (c : Start) → at79 (c .blocks) (W0 (c .κs) (c .args) (c .blocks)) (m0 (c .κs) (c .args) (c .blocks))
-        laid = λ c. λ g. λ g'. λ g''. (Relend.count-is T16 12 13 (λ x. x) (λ u. 58378) (m14 record { before = record { before = c; shared-slice-known = record { given = g } }; shared-slice-known2 = record { given = g' } } g'') (slice-aggregate-write-read record { before = record { before = record { before = c; shared-slice-known = record { given = g } }; shared-slice-known2 = record { given = g' } }; bytes = record { given = g'' } }), λ g'3. (Relend.count-is T19 14 15 (λ x. x) (λ u. 1024) (m16 record { before = record { before = record { before = c; shared-slice-known = record { given = g } }; shared-slice-known2 = record { given = g' } }; bytes = record { given = g'' } } g'3) (slice-aggregate-write-read-2 record { before = record { before = record { before = record { before = c; shared-slice-known = record { given = g } }; shared-slice-known2 = record { given = g' } }; bytes = record { given = g'' } }; rows2 = record { given = g'3 } }), λ g'4. (Relend.count-is T22 16 17 (λ x. x) (λ u. 4096) (m18 record { before = record { before = record { before = record { before = c; shared-slice-known = record { given = g } }; shared-slice-known2 = record { given = g' } }; bytes = record { given = g'' } }; rows2 = record { given = g'3 } } g'4) (slice-aggregate-write-read-3 record { before = record { before = record { before = record { before = record { before = c; shared-slice-known = record { given = g } }; shared-slice-known2 = record { given = g' } }; bytes = record { given = g'' } }; rows2 = record { given = g'3 } }; firsts2 = record { given = g'4 } }), λ g'5. (Relend.count-is T25 18 19 (λ x. x) (λ u. 16384) (m20 record { before = record { before = record { before = record { before = record { before = c; shared-slice-known = record { given = g } }; shared-slice-known2 = record { given = g' } }; bytes = record { given = g'' } }; rows2 = record { given = g'3 } }; firsts2 = record { given = g'4 } } g'5) (slice-aggregate-write-read-4 record { before = record { before = record { before = record { before = record { before = record { before = c; shared-slice-known = record { given = g } }; shared-slice-known2 = record { given = g' } }; bytes = record { given = g'' } }; rows2 = record { given = g'3 } }; firsts2 = record { given = g'4 } }; outcomes2 = record { given = g'5 } }), (write-read-requires record { before = record { before = record { before = record { before = record { before = record { before = c; shared-slice-known = record { given = g } }; shared-slice-known2 = record { given = g' } }; bytes = record { given = g'' } }; rows2 = record { given = g'3 } }; firsts2 = record { given = g'4 } }; outcomes2 = record { given = g'5 } }, λ g'6. lay1 record { before = record { before = record { before = record { before = record { before = record { before = record { before = c; shared-slice-known = record { given = g } }; shared-slice-known2 = record { given = g' } }; bytes = record { given = g'' } }; rows2 = record { given = g'3 } }; firsts2 = record { given = g'4 } }; outcomes2 = record { given = g'5 } }; write-read = Called.called ps·0 r·0 (claims· .1) T26 (record { pos = 1; st = List.[]; d = 0; at = λ x. x }, (record { pos = 2; ty = Syntax.tyRef (Syntax.named 0) Syntax.imm (Memory.pointee (T.the-row .written)); ref = λ x. x }, (record { pos = 3; ty = Syntax.tyRef (Syntax.named 1) Syntax.imm (Syntax.tyInt Syntax.w16); ref = λ x. x }, (record { pos = 4; ty = Syntax.tyRef (Syntax.named 2) Syntax.imm (Syntax.tyInt Syntax.w16); ref = λ x. x }, (record { pos = 13; ty = Syntax.tyRef Syntax.erased Syntax.mut (Syntax.tyInt Syntax.w8); ref = λ x. x }, (record { pos = 15; ty = Syntax.tyRef Syntax.erased Syntax.mut (Memory.pointee (T.the-row .written)); ref = λ x. x }, (record { pos = 17; ty = Syntax.tyRef Syntax.erased Syntax.mut (Syntax.tyInt Syntax.w16); ref = λ x. x }, (record { pos = 19; ty = Syntax.tyRef Syntax.erased Syntax.mut (Syntax.tyInt Syntax.w16); ref = λ x. x }, tt)))))))) (m21 record { before = record { before = record { before = record { before = record { before = c; shared-slice-known = record { given = g } }; shared-slice-known2 = record { given = g' } }; bytes = record { given = g'' } }; rows2 = record { given = g'3 } }; firsts2 = record { given = g'4 } } g'5) g'6 })))))
+        laid = λ c. λ g. λ g'. λ g''. (Relend.count-is T16 12 13 (λ x. x) (λ u. 53258) (m14 record { before = record { before = c; shared-slice-known = record { given = g } }; shared-slice-known2 = record { given = g' } } g'') (slice-aggregate-write-read record { before = record { before = record { before = c; shared-slice-known = record { given = g } }; shared-slice-known2 = record { given = g' } }; bytes = record { given = g'' } }), λ g'3. (Relend.count-is T19 14 15 (λ x. x) (λ u. 1024) (m16 record { before = record { before = record { before = c; shared-slice-known = record { given = g } }; shared-slice-known2 = record { given = g' } }; bytes = record { given = g'' } } g'3) (slice-aggregate-write-read-2 record { before = record { before = record { before = record { before = c; shared-slice-known = record { given = g } }; shared-slice-known2 = record { given = g' } }; bytes = record { given = g'' } }; rows2 = record { given = g'3 } }), λ g'4. (Relend.count-is T22 16 17 (λ x. x) (λ u. 4096) (m18 record { before = record { before = record { before = record { before = c; shared-slice-known = record { given = g } }; shared-slice-known2 = record { given = g' } }; bytes = record { given = g'' } }; rows2 = record { given = g'3 } } g'4) (slice-aggregate-write-read-3 record { before = record { before = record { before = record { before = record { before = c; shared-slice-known = record { given = g } }; shared-slice-known2 = record { given = g' } }; bytes = record { given = g'' } }; rows2 = record { given = g'3 } }; firsts2 = record { given = g'4 } }), λ g'5. (Relend.count-is T25 18 19 (λ x. x) (λ u. 16384) (m20 record { before = record { before = record { before = record { before = record { before = c; shared-slice-known = record { given = g } }; shared-slice-known2 = record { given = g' } }; bytes = record { given = g'' } }; rows2 = record { given = g'3 } }; firsts2 = record { given = g'4 } } g'5) (slice-aggregate-write-read-4 record { before = record { before = record { before = record { before = record { before = record { before = c; shared-slice-known = record { given = g } }; shared-slice-known2 = record { given = g' } }; bytes = record { given = g'' } }; rows2 = record { given = g'3 } }; firsts2 = record { given = g'4 } }; outcomes2 = record { given = g'5 } }), (write-read-requires record { before = record { before = record { before = record { before = record { before = record { before = c; shared-slice-known = record { given = g } }; shared-slice-known2 = record { given = g' } }; bytes = record { given = g'' } }; rows2 = record { given = g'3 } }; firsts2 = record { given = g'4 } }; outcomes2 = record { given = g'5 } }, λ g'6. lay1 record { before = record { before = record { before = record { before = record { before = record { before = record { before = c; shared-slice-known = record { given = g } }; shared-slice-known2 = record { given = g' } }; bytes = record { given = g'' } }; rows2 = record { given = g'3 } }; firsts2 = record { given = g'4 } }; outcomes2 = record { given = g'5 } }; write-read = Called.called ps·0 r·0 (claims· .1) T26 (record { pos = 1; st = List.[]; d = 0; at = λ x. x }, (record { pos = 2; ty = Syntax.tyRef (Syntax.named 0) Syntax.imm (Memory.pointee (T.the-row .written)); ref = λ x. x }, (record { pos = 3; ty = Syntax.tyRef (Syntax.named 1) Syntax.imm (Syntax.tyInt Syntax.w16); ref = λ x. x }, (record { pos = 4; ty = Syntax.tyRef (Syntax.named 2) Syntax.imm (Syntax.tyInt Syntax.w16); ref = λ x. x }, (record { pos = 13; ty = Syntax.tyRef Syntax.erased Syntax.mut (Syntax.tyInt Syntax.w8); ref = λ x. x }, (record { pos = 15; ty = Syntax.tyRef Syntax.erased Syntax.mut (Memory.pointee (T.the-row .written)); ref = λ x. x }, (record { pos = 17; ty = Syntax.tyRef Syntax.erased Syntax.mut (Syntax.tyInt Syntax.w16); ref = λ x. x }, (record { pos = 19; ty = Syntax.tyRef Syntax.erased Syntax.mut (Syntax.tyInt Syntax.w16); ref = λ x. x }, tt)))))))) (m21 record { before = record { before = record { before = record { before = record { before = c; shared-slice-known = record { given = g } }; shared-slice-known2 = record { given = g' } }; bytes = record { given = g'' } }; rows2 = record { given = g'3 } }; firsts2 = record { given = g'4 } } g'5) g'6 })))))
 
         module _ (κs : Lifetimes.Lfts 3) (qs : Lifetimes.Shares 3) where
           pub asked : (a : Kinds.Dens κs ps) → (good : Kinds.GoodsP κs ps a) → (pre : Pre· κs a) → (bs : List.List Nat.ℕ) → Φ bs (Any.wantQ 3 ps r xs m κs qs a (Post· κs a)) (Function.init 3 ps r xs m κs qs a)

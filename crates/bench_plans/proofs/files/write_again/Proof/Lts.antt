@@ -56,7 +56,7 @@ use prog.Wp
 use types.Kit
 
 abbrev ty·0 : Syntax.Ty
-ty·0 = Syntax.tyArray (Syntax.tyInt Syntax.w8) 58378
+ty·0 = Syntax.tyArray (Syntax.tyInt Syntax.w8) 53258
 
 abbrev ty·1 : Syntax.Ty
 ty·1 = Syntax.tyRef Syntax.erased Syntax.mut (Syntax.tyInt Syntax.w8)
@@ -134,7 +134,7 @@ abbrev pub hs : List.List Syntax.Home
 hs = List._∷_ Syntax.valueLocal (List._∷_ Syntax.valueLocal (List._∷_ Syntax.valueLocal (List._∷_ Syntax.valueLocal (List._∷_ Syntax.valueLocal (List._∷_ Syntax.memorySlot (List._∷_ Syntax.valueLocal (List._∷_ Syntax.valueLocal (List._∷_ Syntax.valueLocal (List._∷_ Syntax.valueLocal (List._∷_ Syntax.valueLocal (List._∷_ Syntax.valueLocal (List._∷_ Syntax.valueLocal (List._∷_ Syntax.valueLocal (List._∷_ Syntax.valueLocal (List._∷_ Syntax.valueLocal (List._∷_ Syntax.valueLocal List.[]))))))))))))))))
 
 abbrev b0 : Syntax.Body
-b0 = Syntax.assign (Syntax.place 5 List.[]) (Syntax.repeat (Syntax.int Syntax.w8 0) 58378)
+b0 = Syntax.assign (Syntax.place 5 List.[]) (Syntax.repeat (Syntax.int Syntax.w8 0) 53258)
 
 abbrev b1 : Syntax.Body
 b1 = Syntax.assign (Syntax.place 7 List.[]) (Syntax.addrOf (Syntax.place 2 (List._∷_ (Syntax.field 0) (List._∷_ (Syntax.deref (Memory.lone (T.the-row .mir))) List.[]))))
@@ -158,7 +158,7 @@ abbrev b7 : Syntax.Body
 b7 = Syntax.assign (Syntax.place 13 List.[]) (Syntax.addrOf (Syntax.place 5 List.[]))
 
 abbrev b8 : Syntax.Body
-b8 = Syntax.assign (Syntax.place 14 List.[]) (Syntax.aggregate (List._∷_ (Syntax.copy (Syntax.place 13 List.[])) (List._∷_ (Syntax.intBig Syntax.w64 58378) List.[])))
+b8 = Syntax.assign (Syntax.place 14 List.[]) (Syntax.aggregate (List._∷_ (Syntax.copy (Syntax.place 13 List.[])) (List._∷_ (Syntax.intBig Syntax.w64 53258) List.[])))
 
 abbrev b9 : Syntax.Body
 b9 = Syntax.call "format::read_write" (List._∷_ (Syntax.copy (Syntax.place 1 List.[])) (List._∷_ (Syntax.copy (Syntax.place 8 List.[])) (List._∷_ (Syntax.copy (Syntax.place 10 List.[])) (List._∷_ (Syntax.copy (Syntax.place 12 List.[])) (List._∷_ (Syntax.copy (Syntax.place 14 List.[])) List.[]))))) (Syntax.place 6 List.[])
@@ -167,7 +167,7 @@ abbrev b10 : Syntax.Body
 b10 = Syntax.assign (Syntax.place 15 List.[]) (Syntax.addrOf (Syntax.place 5 List.[]))
 
 abbrev b11 : Syntax.Body
-b11 = Syntax.assign (Syntax.place 16 List.[]) (Syntax.aggregate (List._∷_ (Syntax.copy (Syntax.place 15 List.[])) (List._∷_ (Syntax.intBig Syntax.w64 58378) List.[])))
+b11 = Syntax.assign (Syntax.place 16 List.[]) (Syntax.aggregate (List._∷_ (Syntax.copy (Syntax.place 15 List.[])) (List._∷_ (Syntax.intBig Syntax.w64 53258) List.[])))
 
 abbrev b12 : Syntax.Body
 b12 = Syntax.call "bench_plans::files::same_bytes" (List._∷_ (Syntax.copy (Syntax.place 1 List.[])) (List._∷_ (Syntax.copy (Syntax.place 6 List.[])) (List._∷_ (Syntax.copy (Syntax.place 16 List.[])) List.[]))) (Syntax.place 0 List.[])
@@ -230,10 +230,10 @@ abbrev pub t2 : List.List Row.Entry
 t2 = Row.setRow 0 (0, Rows'.sc-here Row.sBool) t0
 
 abbrev pub t3 : List.List Row.Entry
-t3 = Row.setRow 5 (5, Rows'.whole (Array.Array (Referent.rtF (Referent.fInt Syntax.w8)) 58378)) t0
+t3 = Row.setRow 5 (5, Rows'.whole (Array.Array (Referent.rtF (Referent.fInt Syntax.w8)) 53258)) t0
 
 abbrev pub t4 : List.List Row.Entry
-t4 = Row.setRow 5 (5, Rows.arrF (Referent.rtF (Referent.fInt Syntax.w8)) 58378 0) t0
+t4 = Row.setRow 5 (5, Rows.arrF (Referent.rtF (Referent.fInt Syntax.w8)) 53258 0) t0
 
 abbrev pub t5 : List.List Row.Entry
 t5 = Row.setRow 7 (7, Relend.msptr T.the-row ty·7 4) (Row.setRow 2 (2, Relend.mslice-owed T.the-row ty·8 1 4 Row.off) t4)
@@ -254,10 +254,10 @@ abbrev pub t10 : List.List Row.Entry
 t10 = Row.setRow 12 (12, Mut.mslice (Referent.rtF (Referent.fInt Syntax.w16)) ty·3 6) (Row.setRow 11 (11, Rows'.any-gone ty·3) t9)
 
 abbrev pub t11 : List.List Row.Entry
-t11 = Row.setRow 13 (13, Relend.msptr (Referent.rtF (Referent.fInt Syntax.w8)) ty·9 7) (Row.setRow 5 (5, Rows.arr-owed (Referent.rtF (Referent.fInt Syntax.w8)) 58378 7) t10)
+t11 = Row.setRow 13 (13, Relend.msptr (Referent.rtF (Referent.fInt Syntax.w8)) ty·9 7) (Row.setRow 5 (5, Rows.arr-owed (Referent.rtF (Referent.fInt Syntax.w8)) 53258 7) t10)
 
 abbrev pub t12 : List.List Row.Entry
-t12 = Row.setRow 14 (14, Mut.mslice (Referent.rtF (Referent.fInt Syntax.w8)) ty·1 7) (Row.setRow 5 (5, Rows.arr-owed (Referent.rtF (Referent.fInt Syntax.w8)) 58378 7) t10)
+t12 = Row.setRow 14 (14, Mut.mslice (Referent.rtF (Referent.fInt Syntax.w8)) ty·1 7) (Row.setRow 5 (5, Rows.arr-owed (Referent.rtF (Referent.fInt Syntax.w8)) 53258 7) t10)
 
 abbrev pub t13 : List.List Row.Entry
 t13 = Row.setRow 14 (14, Mut.msleft (Referent.rtF (Referent.fInt Syntax.w8)) ty·1) (Row.setRow 12 (12, Mut.msleft (Referent.rtF (Referent.fInt Syntax.w16)) ty·3) (Row.setRow 10 (10, Mut.msleft (Referent.rtF (Referent.fInt Syntax.w16)) ty·3) (Row.setRow 8 (8, Mut.msleft T.the-row ty·7) (Row.setRow 6 (6, Rows'.whole (Declared.row WriteAnswer.the-type)) t12))))
@@ -269,16 +269,16 @@ abbrev pub t15 : List.List Row.Entry
 t15 = Row.setRow 10 (10, Rows'.any-gone ty·13) (Row.setRow 3 (3, Mut.mslice (Referent.rtF (Referent.fInt Syntax.w16)) ty·5 2) t14)
 
 abbrev pub t16 : List.List Row.Entry
-t16 = Row.setRow 14 (14, Mut.msleft (Referent.rtF (Referent.fInt Syntax.w8)) ty·1) (Row.setRow 6 (6, Rows'.whole (Declared.row WriteAnswer.the-type)) (Row.setRow 5 (5, Rows.arr-owed (Referent.rtF (Referent.fInt Syntax.w8)) 58378 7) t0))
+t16 = Row.setRow 14 (14, Mut.msleft (Referent.rtF (Referent.fInt Syntax.w8)) ty·1) (Row.setRow 6 (6, Rows'.whole (Declared.row WriteAnswer.the-type)) (Row.setRow 5 (5, Rows.arr-owed (Referent.rtF (Referent.fInt Syntax.w8)) 53258 7) t0))
 
 abbrev pub t17 : List.List Row.Entry
 t17 = Row.setRow 6 (6, Rows'.whole (Declared.row WriteAnswer.the-type)) t4
 
 abbrev pub t18 : List.List Row.Entry
-t18 = Row.setRow 15 (15, Relend.ssptr (Referent.rtF (Referent.fInt Syntax.w8)) ty·10 8) (Row.setRow 5 (5, Rows.arr-shr (Referent.rtF (Referent.fInt Syntax.w8)) 58378 8) t17)
+t18 = Row.setRow 15 (15, Relend.ssptr (Referent.rtF (Referent.fInt Syntax.w8)) ty·10 8) (Row.setRow 5 (5, Rows.arr-shr (Referent.rtF (Referent.fInt Syntax.w8)) 53258 8) t17)
 
 abbrev pub t19 : List.List Row.Entry
-t19 = Row.setRow 5 (5, Rows.arr-shr (Referent.rtF (Referent.fInt Syntax.w8)) 58378 8) t17
+t19 = Row.setRow 5 (5, Rows.arr-shr (Referent.rtF (Referent.fInt Syntax.w8)) 53258 8) t17
 
 abbrev pub t20 : List.List Row.Entry
 t20 = List._∷_ (16, Rows'.sslice (Referent.rtF (Referent.fInt Syntax.w8)) ty·2 8) List.[]
@@ -287,7 +287,7 @@ abbrev pub t21 : List.List Row.Entry
 t21 = Row.setRow 0 (0, Rows'.sc-here Row.sBool) t19
 
 abbrev pub t22 : List.List Row.Entry
-t22 = Row.setRow 5 (5, Rows.arr-shr (Referent.rtF (Referent.fInt Syntax.w8)) 58378 8) t2
+t22 = Row.setRow 5 (5, Rows.arr-shr (Referent.rtF (Referent.fInt Syntax.w8)) 53258 8) t2
 
 abbrev pub t23 : List.List Row.Entry
 t23 = Row.setRow 0 (0, Rows'.sc-here Row.sBool) t4
@@ -393,10 +393,10 @@ module _ (claims· : Claims) where
   s2 = λ bs. Know.k-sl-known (Referent.fInt Syntax.w16) T3 4 3 ty·6 Row.off 0 λ x. x
 
   abbrev s3 : (bs : List.List Nat.ℕ) → Typed.Mo T4 → Typed.Mo T5
-  s3 = λ bs. Repeat.n-repeat (Referent.rtF (Referent.fInt Syntax.w8)) 58378 T4 5 λ m. 0
+  s3 = λ bs. Repeat.n-repeat (Referent.rtF (Referent.fInt Syntax.w8)) 53258 T4 5 λ m. 0
 
   abbrev s4 : (bs : List.List Nat.ℕ) → Typed.Mo T5 → Typed.Mo T6
-  s4 = λ bs. AtSlots.n-as-by T5 5 (Rows.arrF (Referent.rtF (Referent.fInt Syntax.w8)) 58378 0) λ x. x
+  s4 = λ bs. AtSlots.n-as-by T5 5 (Rows.arrF (Referent.rtF (Referent.fInt Syntax.w8)) 53258 0) λ x. x
 
   abbrev s6 : (bs : List.List Nat.ℕ) → Typed.Gives T6 T8
   s6 = λ bs. Relend.k-sl-relend T.the-row T6 2 7 1 4 ty·8 ty·7 Row.off λ x. x
@@ -417,10 +417,10 @@ module _ (claims· : Claims) where
   s13 = λ bs. Relend.k-sl-aggregate (Referent.rtF (Referent.fInt Syntax.w16)) (Relend.asMut (Referent.rtF (Referent.fInt Syntax.w16))) T14 11 12 6 ty·3 ty·3 (λ x. x) (Scalar.oFld 4 (List._∷_ (Syntax.field 1) List.[]) (Syntax.tyInt Syntax.w64) 8 λ v. Shared.lenV (v .0))
 
   abbrev s15 : (bs : List.List Nat.ℕ) → Typed.Gives T15 T17
-  s15 = λ bs. Borrow.k-arr-borrow (Referent.rtF (Referent.fInt Syntax.w8)) T15 (Row.hd 0 (Row.tl (Row.tl (Row.tl (Row.tl (Row.tl bs)))))) 5 13 58378 7 ty·9 λ x. x
+  s15 = λ bs. Borrow.k-arr-borrow (Referent.rtF (Referent.fInt Syntax.w8)) T15 (Row.hd 0 (Row.tl (Row.tl (Row.tl (Row.tl (Row.tl bs)))))) 5 13 53258 7 ty·9 λ x. x
 
   abbrev s16 : (bs : List.List Nat.ℕ) → Typed.Asks T17 T18
-  s16 = λ bs. Relend.k-sl-aggregate (Referent.rtF (Referent.fInt Syntax.w8)) (Relend.asMut (Referent.rtF (Referent.fInt Syntax.w8))) T17 13 14 7 ty·9 ty·1 (λ x. x) (Scalar.oBig Syntax.w64 58378)
+  s16 = λ bs. Relend.k-sl-aggregate (Referent.rtF (Referent.fInt Syntax.w8)) (Relend.asMut (Referent.rtF (Referent.fInt Syntax.w8))) T17 13 14 7 ty·9 ty·1 (λ x. x) (Scalar.oBig Syntax.w64 53258)
 
   abbrev s17 : (bs : List.List Nat.ℕ) → Typed.Both T18 T19
   s17 = λ bs. Call.callB ps·0 r·0 (claims· .0) (claims· .1) T18 (record { pos = 1; ty = Syntax.tyRef (Syntax.named 0) Syntax.imm (Syntax.tyInt Syntax.w8); ref = λ x. x }, (record { pos = 8; ty = Syntax.tyRef Syntax.erased Syntax.mut (Memory.pointee (T.the-row .written)); ref = λ x. x }, (record { pos = 10; ty = Syntax.tyRef Syntax.erased Syntax.mut (Syntax.tyInt Syntax.w16); ref = λ x. x }, (record { pos = 12; ty = Syntax.tyRef Syntax.erased Syntax.mut (Syntax.tyInt Syntax.w16); ref = λ x. x }, (record { pos = 14; ty = Syntax.tyRef Syntax.erased Syntax.mut (Syntax.tyInt Syntax.w8); ref = λ x. x }, tt))))) 6 (List._∷_ 0 (List._∷_ 4 (List._∷_ 5 (List._∷_ 6 (List._∷_ 7 List.[]))))) ty·16
@@ -441,13 +441,13 @@ module _ (claims· : Claims) where
   s27 = λ bs. Know.k-sl-known (Referent.fInt Syntax.w16) T28 4 3 ty·6 Row.off 0 λ x. x
 
   abbrev s30 : (bs : List.List Nat.ℕ) → Typed.Both T29 T32
-  s30 = λ bs. Borrow.k-back-arr (Referent.rtF (Referent.fInt Syntax.w8)) T29 14 5 7 58378 ty·1 (λ x. x) λ x. x
+  s30 = λ bs. Borrow.k-back-arr (Referent.rtF (Referent.fInt Syntax.w8)) T29 14 5 7 53258 ty·1 (λ x. x) λ x. x
 
   abbrev s33 : (bs : List.List Nat.ℕ) → Typed.Gives T32 T35
-  s33 = λ bs. Share.k-arr-share (Referent.rtF (Referent.fInt Syntax.w8)) T32 5 15 58378 8 ty·10 λ x. x
+  s33 = λ bs. Share.k-arr-share (Referent.rtF (Referent.fInt Syntax.w8)) T32 5 15 53258 8 ty·10 λ x. x
 
   abbrev s34 : (bs : List.List Nat.ℕ) → Typed.Asks T35 T36
-  s34 = λ bs. Relend.k-sl-aggregate (Referent.rtF (Referent.fInt Syntax.w8)) (Relend.asShr (Referent.rtF (Referent.fInt Syntax.w8))) T35 15 16 8 ty·10 ty·2 (λ x. x) (Scalar.oBig Syntax.w64 58378)
+  s34 = λ bs. Relend.k-sl-aggregate (Referent.rtF (Referent.fInt Syntax.w8)) (Relend.asShr (Referent.rtF (Referent.fInt Syntax.w8))) T35 15 16 8 ty·10 ty·2 (λ x. x) (Scalar.oBig Syntax.w64 53258)
 
   abbrev s35 : (bs : List.List Nat.ℕ) → Typed.Both T36 T37
   s35 = λ bs. Call.callB ps·1 r·1 (claims· .2) (claims· .3) T36 (record { pos = 1; ty = Syntax.tyRef (Syntax.named 0) Syntax.imm (Syntax.tyInt Syntax.w8); ref = λ x. x }, (record { pos = 6; st = List.[]; d = 0; at = λ x. x }, (record { pos = 16; ty = Syntax.tyRef Syntax.erased Syntax.imm (Syntax.tyInt Syntax.w8); ref = λ x. x }, tt))) 0 (List._∷_ 0 (List._∷_ 8 List.[])) Syntax.tyBool
@@ -459,7 +459,7 @@ module _ (claims· : Claims) where
   s37 = λ bs. Scalar.n-room T38 6 ty·16
 
   abbrev s39 : (bs : List.List Nat.ℕ) → Typed.Mo T39 → Typed.Mo T41
-  s39 = λ bs. Share.n-back-arr-shr (Referent.rtF (Referent.fInt Syntax.w8)) T39 5 58378 8 λ x. x
+  s39 = λ bs. Share.n-back-arr-shr (Referent.rtF (Referent.fInt Syntax.w8)) T39 5 53258 8 λ x. x
 
   abbrev s41 : (bs : List.List Nat.ℕ) → Typed.Mo T41 → Typed.Mo T43
   s41 = λ bs. Scalar.n-room T41 5 ty·0
@@ -626,10 +626,10 @@ module _ (claims· : Claims) where
         g10 = Row.setRow 12 (12, Mut.mslice (Referent.rtF (Referent.fInt Syntax.w16)) ty·3 6) (Row.setRow 11 (11, Rows'.any-gone ty·3) g9)
 
         abbrev g11 : List.List Row.Entry
-        g11 = Row.setRow 13 (13, Relend.msptr (Referent.rtF (Referent.fInt Syntax.w8)) ty·9 7) (Row.setRow 5 (5, Rows.arr-owed (Referent.rtF (Referent.fInt Syntax.w8)) 58378 7) g10)
+        g11 = Row.setRow 13 (13, Relend.msptr (Referent.rtF (Referent.fInt Syntax.w8)) ty·9 7) (Row.setRow 5 (5, Rows.arr-owed (Referent.rtF (Referent.fInt Syntax.w8)) 53258 7) g10)
 
         abbrev g12 : List.List Row.Entry
-        g12 = Row.setRow 14 (14, Mut.mslice (Referent.rtF (Referent.fInt Syntax.w8)) ty·1 7) (Row.setRow 5 (5, Rows.arr-owed (Referent.rtF (Referent.fInt Syntax.w8)) 58378 7) g10)
+        g12 = Row.setRow 14 (14, Mut.mslice (Referent.rtF (Referent.fInt Syntax.w8)) ty·1 7) (Row.setRow 5 (5, Rows.arr-owed (Referent.rtF (Referent.fInt Syntax.w8)) 53258 7) g10)
 
         abbrev g13 : List.List Row.Entry
         g13 = Row.setRow 4 (4, Relend.mslice-owed (Referent.rtF (Referent.fInt Syntax.w16)) ty·6 3 6 (Row.lease (κs .1 .1 .1 .0) (qs .1 .1 .1 .0))) (Row.setRow 3 (3, Relend.mslice-owed (Referent.rtF (Referent.fInt Syntax.w16)) ty·5 2 5 (Row.lease (κs .1 .1 .0) (qs .1 .1 .0))) (Row.setRow 2 (2, Relend.mslice-owed T.the-row ty·8 1 4 (Row.lease (κs .1 .0) (qs .1 .0))) t13))
@@ -783,13 +783,13 @@ module _ (claims· : Claims) where
           d0 = Typed.t-return 𝓤 H A W 𝓣 E Δ0 tt
 
           d1 : Typed.Typed 𝓤 H A 𝓣 E G42 b13 Δ0 (at1 bs)
-          d1 = Typed.g-pre 𝓤 H A W 𝓣 E G42 G43 b13 Δ0 (Typed.pass T41 T43 (s41 bs)) (at0 bs) (Scalar.g-room 𝓤 H A W E G42 5 ty·0 (Init.room-arr 𝓤 H A W (Referent.rtF (Referent.fInt Syntax.w8)) 58378 0 58378 Path'.refl)) d0
+          d1 = Typed.g-pre 𝓤 H A W 𝓣 E G42 G43 b13 Δ0 (Typed.pass T41 T43 (s41 bs)) (at0 bs) (Scalar.g-room 𝓤 H A W E G42 5 ty·0 (Init.room-arr 𝓤 H A W (Referent.rtF (Referent.fInt Syntax.w8)) 53258 0 53258 Path'.refl)) d0
 
           d2 : Typed.Typed 𝓤 H A 𝓣 E G41 b13 Δ0 (at2 bs)
           d2 = Typed.g-pre 𝓤 H A W 𝓣 E G41 G42 b13 Δ0 (λ Ψ. Ψ) (at1 bs) (Lifetime.g-forget 𝓤 H A W E G41 8 Row.dead Path'.refl) d1
 
           d3 : Typed.Typed 𝓤 H A 𝓣 E G40 b13 Δ0 (at3 bs)
-          d3 = Typed.g-pre 𝓤 H A W 𝓣 E G40 G41 b13 Δ0 (Typed.pass T39 T41 (s39 bs)) (at2 bs) (Share.g-back-arr-shr 𝓤 H A W E (Referent.rtF (Referent.fInt Syntax.w8)) G40 5 58378 8 (λ x. x) (Reads.as-is 𝓤 H A (Rows.arr-shr (Referent.rtF (Referent.fInt Syntax.w8)) 58378 8)) Path'.refl) d2
+          d3 = Typed.g-pre 𝓤 H A W 𝓣 E G40 G41 b13 Δ0 (Typed.pass T39 T41 (s39 bs)) (at2 bs) (Share.g-back-arr-shr 𝓤 H A W E (Referent.rtF (Referent.fInt Syntax.w8)) G40 5 53258 8 (λ x. x) (Reads.as-is 𝓤 H A (Rows.arr-shr (Referent.rtF (Referent.fInt Syntax.w8)) 53258 8)) Path'.refl) d2
 
           d4 : Typed.Typed 𝓤 H A 𝓣 E G39 b13 Δ0 (at4 bs)
           d4 = Typed.g-pre 𝓤 H A W 𝓣 E G39 G40 b13 Δ0 (λ Ψ. Ψ) (at3 bs) (Lifetime.g-end 𝓤 H A W E G39 8 Path'.refl) d3
@@ -804,10 +804,10 @@ module _ (claims· : Claims) where
           d7 = Typed.s-seq 𝓤 H A W 𝓣 E G36 G37 b12 b13 Δ0 (Typed.both (s35 bs)) (at6 bs) (Plain.t-call-plain 𝓤 H A W 𝓣 2 ps·1 r·1 (claims· .2) (claims· .3) "bench_plans::files::same_bytes" (known .1) E (λ pos β. β) G36 (record { pos = 1; ty = Syntax.tyRef (Syntax.named 0) Syntax.imm (Syntax.tyInt Syntax.w8); ref = λ x. x }, (record { pos = 6; st = List.[]; d = 0; at = λ x. x }, (record { pos = 16; ty = Syntax.tyRef Syntax.erased Syntax.imm (Syntax.tyInt Syntax.w8); ref = λ x. x }, tt))) 0 (List._∷_ 0 (List._∷_ 8 List.[])) (Call.sub-id 𝓤 H A W (G36 .slots)) (ShrSlice.spares-sslice 𝓤 H A W (Referent.rtF (Referent.fInt Syntax.w8)) ty·4 0, Shared.reads-sslice 𝓤 H A W (Referent.rtF (Referent.fInt Syntax.w8)) ty·4 0, Path'.refl, ((Yields.yields-copy 𝓤 H A W (λ ρ. Unit) (Declared.row WriteAnswer.the-type) Path'.refl (Copies.cEnum WriteAnswer.the-type Laws.the-laws Laws.the-copy .copy 𝓤 H A W) (Rows'.whole (Declared.row WriteAnswer.the-type)) (λ x. x) (λ x. x) (λ ρ told. Local.mem-whole 𝓤 H A W (Declared.row WriteAnswer.the-type) ρ) λ ρ told. Local.whole-mem 𝓤 H A W (Declared.row WriteAnswer.the-type) ρ, Path'.refl), (ShrSlice.spares-sslice 𝓤 H A W (Referent.rtF (Referent.fInt Syntax.w8)) ty·2 8, Shared.reads-sslice 𝓤 H A W (Referent.rtF (Referent.fInt Syntax.w8)) ty·2 8, Path'.refl, tt))) (Reads.room-gone 𝓤 H A Syntax.tyBool) (tt, (tt, tt)) Path'.refl) d6
 
           d8 : Typed.Typed 𝓤 H A 𝓣 E G35 b15 Δ0 (at8 bs)
-          d8 = Typed.s-seq 𝓤 H A W 𝓣 E G35 G36 b11 b14 Δ0 (Typed.ask (s34 bs)) (at7 bs) (Relend.t-sl-aggregate 𝓤 H A W E (Referent.rtF (Referent.fInt Syntax.w8)) 𝓣 (Relend.asShr (Referent.rtF (Referent.fInt Syntax.w8))) G35 15 16 8 ty·10 ty·2 (λ x. x) (Scalar.oBig Syntax.w64 58378) (Reads.as-is 𝓤 H A (Relend.ssptr (Referent.rtF (Referent.fInt Syntax.w8)) ty·10 8)) (Reads.room-gone 𝓤 H A ty·12) record { lower = record { fits = Dec'.lit< tt } } Path'.refl Path'.refl λ b o k. tt) d7
+          d8 = Typed.s-seq 𝓤 H A W 𝓣 E G35 G36 b11 b14 Δ0 (Typed.ask (s34 bs)) (at7 bs) (Relend.t-sl-aggregate 𝓤 H A W E (Referent.rtF (Referent.fInt Syntax.w8)) 𝓣 (Relend.asShr (Referent.rtF (Referent.fInt Syntax.w8))) G35 15 16 8 ty·10 ty·2 (λ x. x) (Scalar.oBig Syntax.w64 53258) (Reads.as-is 𝓤 H A (Relend.ssptr (Referent.rtF (Referent.fInt Syntax.w8)) ty·10 8)) (Reads.room-gone 𝓤 H A ty·12) record { lower = record { fits = Dec'.lit< tt } } Path'.refl Path'.refl λ b o k. tt) d7
 
           d9 : Typed.Typed 𝓤 H A 𝓣 E G34 b16 Δ0 (at9 bs)
-          d9 = Typed.s-seq 𝓤 H A W 𝓣 E G34 G35 b10 b15 Δ0 (Typed.give (s33 bs)) (at8 bs) (Share.t-arr-share 𝓤 H A W E 𝓣 (Referent.rtF (Referent.fInt Syntax.w8)) G34 5 15 58378 8 ty·10 (λ x. x) (Reads.as-is 𝓤 H A (Rows.arrF (Referent.rtF (Referent.fInt Syntax.w8)) 58378 0)) (Reads.room-gone 𝓤 H A ty·10) Path'.refl (λ b o. tt) (Dec'.lit< tt, Dec'.lit< tt)) d8
+          d9 = Typed.s-seq 𝓤 H A W 𝓣 E G34 G35 b10 b15 Δ0 (Typed.give (s33 bs)) (at8 bs) (Share.t-arr-share 𝓤 H A W E 𝓣 (Referent.rtF (Referent.fInt Syntax.w8)) G34 5 15 53258 8 ty·10 (λ x. x) (Reads.as-is 𝓤 H A (Rows.arrF (Referent.rtF (Referent.fInt Syntax.w8)) 53258 0)) (Reads.room-gone 𝓤 H A ty·10) Path'.refl (λ b o. tt) (Dec'.lit< tt, Dec'.lit< tt)) d8
 
           d10 : Typed.Typed 𝓤 H A 𝓣 E G33 b16 Δ0 (at10 bs)
           d10 = Typed.g-pre 𝓤 H A W 𝓣 E G33 G34 b16 Δ0 (λ Ψ. Ψ) (at9 bs) (Lifetime.g-begin 𝓤 H A W E G33 8 (tt, (tt, (tt, (tt, (tt, (tt, (tt, (tt, (tt, (tt, (tt, (tt, (tt, (tt, (tt, (tt, (tt, tt)))))))))))))))))) d9
@@ -816,7 +816,7 @@ module _ (claims· : Claims) where
           d11 = Typed.g-pre 𝓤 H A W 𝓣 E G32 G33 b16 Δ0 (λ Ψ. Ψ) (at10 bs) (Lifetime.g-forget 𝓤 H A W E G32 7 Row.dead Path'.refl) d10
 
           d12 : Typed.Typed 𝓤 H A 𝓣 E G31 b16 Δ0 (at12 bs)
-          d12 = Typed.g-pre 𝓤 H A W 𝓣 E G31 G32 b16 Δ0 (Typed.both (s30 bs)) (at11 bs) (Borrow.g-back-arr 𝓤 H A W E (Referent.rtF (Referent.fInt Syntax.w8)) G31 14 5 7 58378 ty·1 (λ x. x) (λ x. x) (Reads.as-is 𝓤 H A (Mut.msleft (Referent.rtF (Referent.fInt Syntax.w8)) ty·1)) (Reads.as-is 𝓤 H A (Rows.arr-owed (Referent.rtF (Referent.fInt Syntax.w8)) 58378 7)) Path'.refl) d11
+          d12 = Typed.g-pre 𝓤 H A W 𝓣 E G31 G32 b16 Δ0 (Typed.both (s30 bs)) (at11 bs) (Borrow.g-back-arr 𝓤 H A W E (Referent.rtF (Referent.fInt Syntax.w8)) G31 14 5 7 53258 ty·1 (λ x. x) (λ x. x) (Reads.as-is 𝓤 H A (Mut.msleft (Referent.rtF (Referent.fInt Syntax.w8)) ty·1)) (Reads.as-is 𝓤 H A (Rows.arr-owed (Referent.rtF (Referent.fInt Syntax.w8)) 53258 7)) Path'.refl) d11
 
           d13 : Typed.Typed 𝓤 H A 𝓣 E G30 b16 Δ0 (at13 bs)
           d13 = Typed.g-pre 𝓤 H A W 𝓣 E G30 G31 b16 Δ0 (λ Ψ. Ψ) (at12 bs) (Lifetime.g-end 𝓤 H A W E G30 7 Path'.refl) d12
@@ -858,10 +858,10 @@ module _ (claims· : Claims) where
           d25 = Typed.s-seq 𝓤 H A W 𝓣 E G18 G19 b9 b16 Δ0 (Typed.both (s17 bs)) (at24 bs) (Plain.t-call-plain 𝓤 H A W 𝓣 5 ps·0 r·0 (claims· .0) (claims· .1) "format::read_write" (known .0) E (λ pos β. β) G18 (record { pos = 1; ty = Syntax.tyRef (Syntax.named 0) Syntax.imm (Syntax.tyInt Syntax.w8); ref = λ x. x }, (record { pos = 8; ty = Syntax.tyRef Syntax.erased Syntax.mut (Memory.pointee (T.the-row .written)); ref = λ x. x }, (record { pos = 10; ty = Syntax.tyRef Syntax.erased Syntax.mut (Syntax.tyInt Syntax.w16); ref = λ x. x }, (record { pos = 12; ty = Syntax.tyRef Syntax.erased Syntax.mut (Syntax.tyInt Syntax.w16); ref = λ x. x }, (record { pos = 14; ty = Syntax.tyRef Syntax.erased Syntax.mut (Syntax.tyInt Syntax.w8); ref = λ x. x }, tt))))) 6 (List._∷_ 0 (List._∷_ 4 (List._∷_ 5 (List._∷_ 6 (List._∷_ 7 List.[]))))) (Call.sub-id 𝓤 H A W (G18 .slots)) (ShrSlice.spares-sslice 𝓤 H A W (Referent.rtF (Referent.fInt Syntax.w8)) ty·4 0, Shared.reads-sslice 𝓤 H A W (Referent.rtF (Referent.fInt Syntax.w8)) ty·4 0, Path'.refl, (Reads.as-is 𝓤 H A (Mut.mslice T.the-row ty·7 4), Mut.reads-mslice 𝓤 H A W T.the-row ty·7 4, Path'.refl, (Reads.as-is 𝓤 H A (Mut.mslice (Referent.rtF (Referent.fInt Syntax.w16)) ty·3 5), Mut.reads-mslice 𝓤 H A W (Referent.rtF (Referent.fInt Syntax.w16)) ty·3 5, Path'.refl, (Reads.as-is 𝓤 H A (Mut.mslice (Referent.rtF (Referent.fInt Syntax.w16)) ty·3 6), Mut.reads-mslice 𝓤 H A W (Referent.rtF (Referent.fInt Syntax.w16)) ty·3 6, Path'.refl, (Reads.as-is 𝓤 H A (Mut.mslice (Referent.rtF (Referent.fInt Syntax.w8)) ty·1 7), Mut.reads-mslice 𝓤 H A W (Referent.rtF (Referent.fInt Syntax.w8)) ty·1 7, Path'.refl, tt))))) (Reads.room-gone 𝓤 H A ty·16) (tt, (tt, (tt, (tt, (tt, tt))))) Path'.refl) d24
 
           d26 : Typed.Typed 𝓤 H A 𝓣 E G17 b18 Δ0 (at26 bs)
-          d26 = Typed.s-seq 𝓤 H A W 𝓣 E G17 G18 b8 b17 Δ0 (Typed.ask (s16 bs)) (at25 bs) (Relend.t-sl-aggregate 𝓤 H A W E (Referent.rtF (Referent.fInt Syntax.w8)) 𝓣 (Relend.asMut (Referent.rtF (Referent.fInt Syntax.w8))) G17 13 14 7 ty·9 ty·1 (λ x. x) (Scalar.oBig Syntax.w64 58378) (Reads.as-is 𝓤 H A (Relend.msptr (Referent.rtF (Referent.fInt Syntax.w8)) ty·9 7)) (Reads.room-gone 𝓤 H A ty·11) record { lower = record { fits = Dec'.lit< tt } } Path'.refl Path'.refl λ b o k. tt) d25
+          d26 = Typed.s-seq 𝓤 H A W 𝓣 E G17 G18 b8 b17 Δ0 (Typed.ask (s16 bs)) (at25 bs) (Relend.t-sl-aggregate 𝓤 H A W E (Referent.rtF (Referent.fInt Syntax.w8)) 𝓣 (Relend.asMut (Referent.rtF (Referent.fInt Syntax.w8))) G17 13 14 7 ty·9 ty·1 (λ x. x) (Scalar.oBig Syntax.w64 53258) (Reads.as-is 𝓤 H A (Relend.msptr (Referent.rtF (Referent.fInt Syntax.w8)) ty·9 7)) (Reads.room-gone 𝓤 H A ty·11) record { lower = record { fits = Dec'.lit< tt } } Path'.refl Path'.refl λ b o k. tt) d25
 
           d27 : Typed.Typed 𝓤 H A 𝓣 E G16 b19 Δ0 (at27 bs)
-          d27 = Typed.s-seq 𝓤 H A W 𝓣 E G16 G17 b7 b18 Δ0 (Typed.give (s15 bs)) (at26 bs) (Borrow.t-arr-borrow 𝓤 H A W E 𝓣 (Referent.rtF (Referent.fInt Syntax.w8)) G16 5 13 58378 7 ty·9 (λ x. x) (Reads.as-is 𝓤 H A (Rows.arrF (Referent.rtF (Referent.fInt Syntax.w8)) 58378 0)) (Reads.room-gone 𝓤 H A ty·9) Path'.refl (λ b o. tt) (Dec'.lit< tt, Dec'.lit< tt)) d26
+          d27 = Typed.s-seq 𝓤 H A W 𝓣 E G16 G17 b7 b18 Δ0 (Typed.give (s15 bs)) (at26 bs) (Borrow.t-arr-borrow 𝓤 H A W E 𝓣 (Referent.rtF (Referent.fInt Syntax.w8)) G16 5 13 53258 7 ty·9 (λ x. x) (Reads.as-is 𝓤 H A (Rows.arrF (Referent.rtF (Referent.fInt Syntax.w8)) 53258 0)) (Reads.room-gone 𝓤 H A ty·9) Path'.refl (λ b o. tt) (Dec'.lit< tt, Dec'.lit< tt)) d26
 
           d28 : Typed.Typed 𝓤 H A 𝓣 E G15 b19 Δ0 (at28 bs)
           d28 = Typed.g-pre 𝓤 H A W 𝓣 E G15 G16 b19 Δ0 (λ Ψ. Ψ) (at27 bs) (Lifetime.g-begin 𝓤 H A W E G15 7 (tt, (tt, ((tt, tt), ((tt, tt), ((tt, tt), (tt, (tt, (tt, (tt, (tt, (tt, (tt, (tt, (tt, (tt, (tt, (tt, tt)))))))))))))))))) d27
@@ -894,10 +894,10 @@ module _ (claims· : Claims) where
           d37 = Typed.g-pre 𝓤 H A W 𝓣 E G6 G7 b25 Δ0 (λ Ψ. Ψ) (at36 bs) (Lifetime.g-begin 𝓤 H A W E G6 4 (tt, (tt, (tt, (tt, (tt, (tt, (tt, (tt, (tt, (tt, (tt, (tt, (tt, (tt, (tt, (tt, (tt, tt)))))))))))))))))) d36
 
           d38 : Typed.Typed 𝓤 H A 𝓣 E G5 b25 Δ0 (at38 bs)
-          d38 = Typed.g-pre 𝓤 H A W 𝓣 E G5 G6 b25 Δ0 (Typed.pass T5 T6 (s4 bs)) (at37 bs) (AtSlots.g-as-by 𝓤 H A W E (λ ρ. Unit) G5 5 (Rows.arrF (Referent.rtF (Referent.fInt Syntax.w8)) 58378 0) (λ x. x) (Own.told-none 𝓤 H A (G5 .slots)) λ ρ told. Repeat.whole-arr 𝓤 H A W (Referent.rtF (Referent.fInt Syntax.w8)) 58378 tt ρ) d37
+          d38 = Typed.g-pre 𝓤 H A W 𝓣 E G5 G6 b25 Δ0 (Typed.pass T5 T6 (s4 bs)) (at37 bs) (AtSlots.g-as-by 𝓤 H A W E (λ ρ. Unit) G5 5 (Rows.arrF (Referent.rtF (Referent.fInt Syntax.w8)) 53258 0) (λ x. x) (Own.told-none 𝓤 H A (G5 .slots)) λ ρ told. Repeat.whole-arr 𝓤 H A W (Referent.rtF (Referent.fInt Syntax.w8)) 53258 tt ρ) d37
 
           d39 : Typed.Typed 𝓤 H A 𝓣 E G4 b26 Δ0 (at39 bs)
-          d39 = Typed.s-seq 𝓤 H A W 𝓣 E G4 G5 b0 b25 Δ0 (Typed.pass T4 T5 (s3 bs)) (at38 bs) (Repeat.t-repeat 𝓤 H A W E 𝓣 (Referent.rtF (Referent.fInt Syntax.w8)) (Plain'.uint-lawful 𝓤 H A W Syntax.w8) (Copies.cRf (Referent.fInt Syntax.w8) .copy 𝓤 H A W) (Plain'.uint-makes 𝓤 H A W Syntax.w8) 58378 G4 5 (Scalar.oInt Syntax.w8 0) (λ m. 0) (Reads.room-gone 𝓤 H A ty·0) tt Path'.refl λ m wa. (Path'.refl, Dec'.lit< tt)) d38
+          d39 = Typed.s-seq 𝓤 H A W 𝓣 E G4 G5 b0 b25 Δ0 (Typed.pass T4 T5 (s3 bs)) (at38 bs) (Repeat.t-repeat 𝓤 H A W E 𝓣 (Referent.rtF (Referent.fInt Syntax.w8)) (Plain'.uint-lawful 𝓤 H A W Syntax.w8) (Copies.cRf (Referent.fInt Syntax.w8) .copy 𝓤 H A W) (Plain'.uint-makes 𝓤 H A W Syntax.w8) 53258 G4 5 (Scalar.oInt Syntax.w8 0) (λ m. 0) (Reads.room-gone 𝓤 H A ty·0) tt Path'.refl λ m wa. (Path'.refl, Dec'.lit< tt)) d38
 
           d40 : Typed.Typed 𝓤 H A 𝓣 E G3 b26 Δ0 (at40 bs)
           d40 = Typed.g-pre 𝓤 H A W 𝓣 E G3 G4 b26 Δ0 (Typed.give (s2 bs)) (at39 bs) (Know.g-sl-known 𝓤 H A W (Referent.fInt Syntax.w16) E G3 4 3 ty·6 (Row.lease (κs .1 .1 .1 .0) (qs .1 .1 .1 .0)) 0 (λ x. x) record { fits = Dec'.lit< tt } (Reads.as-is 𝓤 H A (Mut.mslice (Referent.rtF (Referent.fInt Syntax.w16)) ty·6 3)) Path'.refl tt) d39
@@ -1027,7 +1027,7 @@ module _ (claims· : Claims) where
         pub bytes : After-bytes·own before
 
       abbrev pub Need-slice-aggregate-read-write : Type 0
-      Need-slice-aggregate-read-write = (c : After-bytes) → Relend.CountIs T17 13 14 (λ x. x) (λ u. 58378) (m12 (c .before) (c .bytes .given))
+      Need-slice-aggregate-read-write = (c : After-bytes) → Relend.CountIs T17 13 14 (λ x. x) (λ u. 53258) (m12 (c .before) (c .bytes .given))
 
       abbrev pub m13 : (before : After-read-write-arg3) → (given : s15 (before .before .before .before .before .before .before .blocks) .gives (m11 (before .before) (before .read-write-arg3 .given))) → Typed.Mo T18
       m13 = λ before given. s16 (before .before .before .before .before .before .before .blocks) .next (m12 before given)
@@ -1127,7 +1127,7 @@ module _ (claims· : Claims) where
         pub bytes3 : After-bytes3·own before
 
       abbrev pub Need-slice-aggregate-same-bytes : Type 0
-      Need-slice-aggregate-same-bytes = (c : After-bytes3) → Relend.CountIs T35 15 16 (λ x. x) (λ u. 58378) (m21 (c .before) (c .bytes3 .given))
+      Need-slice-aggregate-same-bytes = (c : After-bytes3) → Relend.CountIs T35 15 16 (λ x. x) (λ u. 53258) (m21 (c .before) (c .bytes3 .given))
 
       abbrev pub m22 : (before : After-bytes2) → (given : s33 (before .before .before .before .before .before .before .before .before .before .before .before .before .before .before .blocks) .gives (m20 (before .before) (before .bytes2 .given))) → Typed.Mo T36
       m22 = λ before given. s34 (before .before .before .before .before .before .before .before .before .before .before .before .before .before .before .blocks) .next (m21 before given)
@@ -1178,10 +1178,10 @@ module _ (claims· : Claims) where
         lay2 = λ c. ((Path'.refl, (MutSlice.fix-len (Row.get 2 (T43 .locals) (m27 (c .before) (After-same-bytes·gave c)) .ptr) (Row.get 2 (T43 .locals) (m27 (c .before) (After-same-bytes·gave c)) .name) (Row.get 2 (T43 .locals) (m27 (c .before) (After-same-bytes·gave c)) .now) (dens (c .before .before .before .before .before .before .before .before .before .before .before .before .before .before .before .before .κs) (c .before .before .before .before .before .before .before .before .before .before .before .before .before .before .before .before .args) .1 .0 .now) (same-length record { before = c .before; same-bytes = c .same-bytes }), (MutSlice.fix-len (Row.get 3 (T43 .locals) (m27 (c .before) (After-same-bytes·gave c)) .ptr) (Row.get 3 (T43 .locals) (m27 (c .before) (After-same-bytes·gave c)) .name) (Row.get 3 (T43 .locals) (m27 (c .before) (After-same-bytes·gave c)) .now) (dens (c .before .before .before .before .before .before .before .before .before .before .before .before .before .before .before .before .κs) (c .before .before .before .before .before .before .before .before .before .before .before .before .before .before .before .before .args) .1 .1 .0 .now) (same-length-2 record { before = c .before; same-bytes = c .same-bytes }), (MutSlice.fix-len (Row.get 4 (T43 .locals) (m27 (c .before) (After-same-bytes·gave c)) .ptr) (Row.get 4 (T43 .locals) (m27 (c .before) (After-same-bytes·gave c)) .name) (Row.get 4 (T43 .locals) (m27 (c .before) (After-same-bytes·gave c)) .now) (dens (c .before .before .before .before .before .before .before .before .before .before .before .before .before .before .before .before .κs) (c .before .before .before .before .before .before .before .before .before .before .before .before .before .before .before .before .args) .1 .1 .1 .0 .now) (same-length-3 record { before = c .before; same-bytes = c .same-bytes }), tt)))), returns record { before = c .before; same-bytes = c .same-bytes })
 
         lay1 : (c : After-read-write) → at24 (c .before .before .before .before .before .before .before .before .blocks) (W0 (c .before .before .before .before .before .before .before .before .κs) (c .before .before .before .before .before .before .before .before .args) (c .before .before .before .before .before .before .before .before .blocks)) (m14 (c .before) (After-read-write·gave c))
-        lay1 = λ c. (Path'.refl, λ g. (Path'.refl, λ g'. λ g''. (Path'.refl, λ g'3. λ g'4. (Path'.refl, λ g'5. λ g'6. (Relend.count-is T35 15 16 (λ x. x) (λ u. 58378) (m21 record { before = record { before = record { before = record { before = record { before = record { before = record { before = c .before; read-write = c .read-write }; rows = record { given = g } }; firsts = record { given = g' } }; slice-known3 = record { given = g'' } }; outcomes = record { given = g'3 } }; slice-known4 = record { given = g'4 } }; bytes2 = record { given = g'5 } } g'6) (slice-aggregate-same-bytes record { before = record { before = record { before = record { before = record { before = record { before = record { before = record { before = c .before; read-write = c .read-write }; rows = record { given = g } }; firsts = record { given = g' } }; slice-known3 = record { given = g'' } }; outcomes = record { given = g'3 } }; slice-known4 = record { given = g'4 } }; bytes2 = record { given = g'5 } }; bytes3 = record { given = g'6 } }), (same-bytes-requires record { before = record { before = record { before = record { before = record { before = record { before = record { before = record { before = c .before; read-write = c .read-write }; rows = record { given = g } }; firsts = record { given = g' } }; slice-known3 = record { given = g'' } }; outcomes = record { given = g'3 } }; slice-known4 = record { given = g'4 } }; bytes2 = record { given = g'5 } }; bytes3 = record { given = g'6 } }, λ g'7. lay2 record { before = record { before = record { before = record { before = record { before = record { before = record { before = record { before = record { before = c .before; read-write = c .read-write }; rows = record { given = g } }; firsts = record { given = g' } }; slice-known3 = record { given = g'' } }; outcomes = record { given = g'3 } }; slice-known4 = record { given = g'4 } }; bytes2 = record { given = g'5 } }; bytes3 = record { given = g'6 } }; same-bytes = Called.called ps·1 r·1 (claims· .3) T36 (record { pos = 1; ty = Syntax.tyRef (Syntax.named 0) Syntax.imm (Syntax.tyInt Syntax.w8); ref = λ x. x }, (record { pos = 6; st = List.[]; d = 0; at = λ x. x }, (record { pos = 16; ty = Syntax.tyRef Syntax.erased Syntax.imm (Syntax.tyInt Syntax.w8); ref = λ x. x }, tt))) (m22 record { before = record { before = record { before = record { before = record { before = record { before = record { before = c .before; read-write = c .read-write }; rows = record { given = g } }; firsts = record { given = g' } }; slice-known3 = record { given = g'' } }; outcomes = record { given = g'3 } }; slice-known4 = record { given = g'4 } }; bytes2 = record { given = g'5 } } g'6) g'7 }))))))
+        lay1 = λ c. (Path'.refl, λ g. (Path'.refl, λ g'. λ g''. (Path'.refl, λ g'3. λ g'4. (Path'.refl, λ g'5. λ g'6. (Relend.count-is T35 15 16 (λ x. x) (λ u. 53258) (m21 record { before = record { before = record { before = record { before = record { before = record { before = record { before = c .before; read-write = c .read-write }; rows = record { given = g } }; firsts = record { given = g' } }; slice-known3 = record { given = g'' } }; outcomes = record { given = g'3 } }; slice-known4 = record { given = g'4 } }; bytes2 = record { given = g'5 } } g'6) (slice-aggregate-same-bytes record { before = record { before = record { before = record { before = record { before = record { before = record { before = record { before = c .before; read-write = c .read-write }; rows = record { given = g } }; firsts = record { given = g' } }; slice-known3 = record { given = g'' } }; outcomes = record { given = g'3 } }; slice-known4 = record { given = g'4 } }; bytes2 = record { given = g'5 } }; bytes3 = record { given = g'6 } }), (same-bytes-requires record { before = record { before = record { before = record { before = record { before = record { before = record { before = record { before = c .before; read-write = c .read-write }; rows = record { given = g } }; firsts = record { given = g' } }; slice-known3 = record { given = g'' } }; outcomes = record { given = g'3 } }; slice-known4 = record { given = g'4 } }; bytes2 = record { given = g'5 } }; bytes3 = record { given = g'6 } }, λ g'7. lay2 record { before = record { before = record { before = record { before = record { before = record { before = record { before = record { before = record { before = c .before; read-write = c .read-write }; rows = record { given = g } }; firsts = record { given = g' } }; slice-known3 = record { given = g'' } }; outcomes = record { given = g'3 } }; slice-known4 = record { given = g'4 } }; bytes2 = record { given = g'5 } }; bytes3 = record { given = g'6 } }; same-bytes = Called.called ps·1 r·1 (claims· .3) T36 (record { pos = 1; ty = Syntax.tyRef (Syntax.named 0) Syntax.imm (Syntax.tyInt Syntax.w8); ref = λ x. x }, (record { pos = 6; st = List.[]; d = 0; at = λ x. x }, (record { pos = 16; ty = Syntax.tyRef Syntax.erased Syntax.imm (Syntax.tyInt Syntax.w8); ref = λ x. x }, tt))) (m22 record { before = record { before = record { before = record { before = record { before = record { before = record { before = c .before; read-write = c .read-write }; rows = record { given = g } }; firsts = record { given = g' } }; slice-known3 = record { given = g'' } }; outcomes = record { given = g'3 } }; slice-known4 = record { given = g'4 } }; bytes2 = record { given = g'5 } } g'6) g'7 }))))))
 
         pub laid : (c : Start) → at42 (c .blocks) (W0 (c .κs) (c .args) (c .blocks)) (m0 (c .κs) (c .args) (c .blocks))
-        laid = λ c. λ g. λ g'. λ g''. λ g'3. (Path'.refl, λ g'4. (Path'.refl, λ g'5. (Path'.refl, λ g'6. (Relend.count-is T17 13 14 (λ x. x) (λ u. 58378) (m12 record { before = record { before = record { before = record { before = record { before = record { before = c; shared-slice-known = record { given = g } }; slice-known = record { given = g' } }; slice-known2 = record { given = g'' } }; read-write-arg = record { given = g'3 } }; read-write-arg2 = record { given = g'4 } }; read-write-arg3 = record { given = g'5 } } g'6) (slice-aggregate-read-write record { before = record { before = record { before = record { before = record { before = record { before = record { before = c; shared-slice-known = record { given = g } }; slice-known = record { given = g' } }; slice-known2 = record { given = g'' } }; read-write-arg = record { given = g'3 } }; read-write-arg2 = record { given = g'4 } }; read-write-arg3 = record { given = g'5 } }; bytes = record { given = g'6 } }), (read-write-requires record { before = record { before = record { before = record { before = record { before = record { before = record { before = c; shared-slice-known = record { given = g } }; slice-known = record { given = g' } }; slice-known2 = record { given = g'' } }; read-write-arg = record { given = g'3 } }; read-write-arg2 = record { given = g'4 } }; read-write-arg3 = record { given = g'5 } }; bytes = record { given = g'6 } }, λ g'7. lay1 record { before = record { before = record { before = record { before = record { before = record { before = record { before = record { before = c; shared-slice-known = record { given = g } }; slice-known = record { given = g' } }; slice-known2 = record { given = g'' } }; read-write-arg = record { given = g'3 } }; read-write-arg2 = record { given = g'4 } }; read-write-arg3 = record { given = g'5 } }; bytes = record { given = g'6 } }; read-write = Called.called ps·0 r·0 (claims· .1) T18 (record { pos = 1; ty = Syntax.tyRef (Syntax.named 0) Syntax.imm (Syntax.tyInt Syntax.w8); ref = λ x. x }, (record { pos = 8; ty = Syntax.tyRef Syntax.erased Syntax.mut (Memory.pointee (T.the-row .written)); ref = λ x. x }, (record { pos = 10; ty = Syntax.tyRef Syntax.erased Syntax.mut (Syntax.tyInt Syntax.w16); ref = λ x. x }, (record { pos = 12; ty = Syntax.tyRef Syntax.erased Syntax.mut (Syntax.tyInt Syntax.w16); ref = λ x. x }, (record { pos = 14; ty = Syntax.tyRef Syntax.erased Syntax.mut (Syntax.tyInt Syntax.w8); ref = λ x. x }, tt))))) (m13 record { before = record { before = record { before = record { before = record { before = record { before = c; shared-slice-known = record { given = g } }; slice-known = record { given = g' } }; slice-known2 = record { given = g'' } }; read-write-arg = record { given = g'3 } }; read-write-arg2 = record { given = g'4 } }; read-write-arg3 = record { given = g'5 } } g'6) g'7 })))))
+        laid = λ c. λ g. λ g'. λ g''. λ g'3. (Path'.refl, λ g'4. (Path'.refl, λ g'5. (Path'.refl, λ g'6. (Relend.count-is T17 13 14 (λ x. x) (λ u. 53258) (m12 record { before = record { before = record { before = record { before = record { before = record { before = c; shared-slice-known = record { given = g } }; slice-known = record { given = g' } }; slice-known2 = record { given = g'' } }; read-write-arg = record { given = g'3 } }; read-write-arg2 = record { given = g'4 } }; read-write-arg3 = record { given = g'5 } } g'6) (slice-aggregate-read-write record { before = record { before = record { before = record { before = record { before = record { before = record { before = c; shared-slice-known = record { given = g } }; slice-known = record { given = g' } }; slice-known2 = record { given = g'' } }; read-write-arg = record { given = g'3 } }; read-write-arg2 = record { given = g'4 } }; read-write-arg3 = record { given = g'5 } }; bytes = record { given = g'6 } }), (read-write-requires record { before = record { before = record { before = record { before = record { before = record { before = record { before = c; shared-slice-known = record { given = g } }; slice-known = record { given = g' } }; slice-known2 = record { given = g'' } }; read-write-arg = record { given = g'3 } }; read-write-arg2 = record { given = g'4 } }; read-write-arg3 = record { given = g'5 } }; bytes = record { given = g'6 } }, λ g'7. lay1 record { before = record { before = record { before = record { before = record { before = record { before = record { before = record { before = c; shared-slice-known = record { given = g } }; slice-known = record { given = g' } }; slice-known2 = record { given = g'' } }; read-write-arg = record { given = g'3 } }; read-write-arg2 = record { given = g'4 } }; read-write-arg3 = record { given = g'5 } }; bytes = record { given = g'6 } }; read-write = Called.called ps·0 r·0 (claims· .1) T18 (record { pos = 1; ty = Syntax.tyRef (Syntax.named 0) Syntax.imm (Syntax.tyInt Syntax.w8); ref = λ x. x }, (record { pos = 8; ty = Syntax.tyRef Syntax.erased Syntax.mut (Memory.pointee (T.the-row .written)); ref = λ x. x }, (record { pos = 10; ty = Syntax.tyRef Syntax.erased Syntax.mut (Syntax.tyInt Syntax.w16); ref = λ x. x }, (record { pos = 12; ty = Syntax.tyRef Syntax.erased Syntax.mut (Syntax.tyInt Syntax.w16); ref = λ x. x }, (record { pos = 14; ty = Syntax.tyRef Syntax.erased Syntax.mut (Syntax.tyInt Syntax.w8); ref = λ x. x }, tt))))) (m13 record { before = record { before = record { before = record { before = record { before = record { before = c; shared-slice-known = record { given = g } }; slice-known = record { given = g' } }; slice-known2 = record { given = g'' } }; read-write-arg = record { given = g'3 } }; read-write-arg2 = record { given = g'4 } }; read-write-arg3 = record { given = g'5 } } g'6) g'7 })))))
 
         module _ (κs : Lifetimes.Lfts 4) (qs : Lifetimes.Shares 4) where
           pub asked : (a : Kinds.Dens κs ps) → (good : Kinds.GoodsP κs ps a) → (pre : Pre· κs a) → (bs : List.List Nat.ℕ) → Φ bs (Any.wantQ 4 ps r xs m κs qs a (Post· κs a)) (Function.init 4 ps r xs m κs qs a)

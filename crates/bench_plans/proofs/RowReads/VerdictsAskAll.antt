@@ -1,4 +1,4 @@
--- `bench_plans::verdicts::try_plan`, over rows. Made by tools/rows, and checked like every proof.
+-- `bench_plans::verdicts::ask_all`, over rows. Made by tools/rows, and checked like every proof.
 use Rattle.tables.proofs.Row as T
 use Rattle.tables.proofs.Size
 use Rattle.tables.proofs.Size.Laws
@@ -23,10 +23,10 @@ use mathlib.Core.List
 use mathlib.Core.Path.{refl}
 use mir.Syntax
 use Rattle.tables.proofs.Reading as R
-use Rattle.bench_plans.proofs.verdicts.try_plan as f
+use Rattle.bench_plans.proofs.verdicts.ask_all as f
 
 abbrev pub ps : List.List (Kinds.PK 3)
-ps = List._∷_ (Value.pVal record { ty = Declared.row Size.the-type; one = refl; val = Laws'.val Size.the-type Laws.the-laws; tells = Laws'.tells Size.the-type Laws.the-laws; still = Laws'.still Size.the-type Laws.the-copy Exit.yes; row = Rows.whole (Declared.row Size.the-type); rd = λ x. x; mk = λ x. x } λ M 𝓤 H A W. record { copies = Laws'.copy Size.the-type Laws.the-copy 𝓤 H A W; lawful = Laws'.lawful Size.the-type Laws.the-laws 𝓤 H A W; makes = Laws'.makes Size.the-type Laws.the-plain 𝓤 H A; in-mem = Local.mem-whole 𝓤 H A W (Declared.row Size.the-type); of-mem = Local.whole-mem 𝓤 H A W (Declared.row Size.the-type) }) (List._∷_ (ShrSlice.pShrS T.the-row 0 tt) (List._∷_ (ShrSlice.pShrS (Referent.rtF (Referent.fInt Syntax.w16)) 1 tt) (List._∷_ (ShrSlice.pShrS (Referent.rtF (Referent.fInt Syntax.w16)) 2 tt) List.[])))
+ps = List._∷_ (Value.pVal record { ty = Declared.row Size.the-type; one = refl; val = Laws'.val Size.the-type Laws.the-laws; tells = Laws'.tells Size.the-type Laws.the-laws; still = Laws'.still Size.the-type Laws.the-copy Exit.yes; row = Rows.whole (Declared.row Size.the-type); rd = λ x. x; mk = λ x. x } λ M 𝓤 H A W. record { copies = Laws'.copy Size.the-type Laws.the-copy 𝓤 H A W; lawful = Laws'.lawful Size.the-type Laws.the-laws 𝓤 H A W; makes = Laws'.makes Size.the-type Laws.the-plain 𝓤 H A; in-mem = Local.mem-whole 𝓤 H A W (Declared.row Size.the-type); of-mem = Local.whole-mem 𝓤 H A W (Declared.row Size.the-type) }) (List._∷_ (ShrSlice.pShrS T.the-row 0 tt) (List._∷_ (ShrSlice.pShrS (Referent.rtF (Referent.fInt Syntax.w16)) 1 tt) (List._∷_ (ShrSlice.pShrS (Referent.rtF (Referent.fInt Syntax.w16)) 2 tt) (List._∷_ (Kinds.pNum Syntax.w64) List.[]))))
 
 abbrev pub r : Kinds.RK 3
 r = Kinds.rUnit
