@@ -8,6 +8,6 @@ cd "$(dirname "$0")/.."
 log=$(mktemp)
 trap 'rm -f "$log"' EXIT
 
-rt ci 2>&1 | tee "$log" | sed -u '$d'
+rt ci 2>&1 | tee "$log" | sed -u '$d' || { tail -n 1 "$log"; exit 1; }
 make --no-print-directory c-test compare list-test
 tail -n 1 "$log" | grep -x '[0-9]* passed, 0 failed'

@@ -1,7 +1,7 @@
 """Plans of many shapes, for the bench program."""
 import random
 
-from reference import NONE, Plan, State
+from reference import NONE, STATES, Plan, State
 
 
 def rest():
@@ -31,6 +31,11 @@ def ladder(k):
 def late():
     """Three rounds from 0. A search that knew its marks before the round's end would take two: 1 or 3 is walked after 2 is marked."""
     return Plan([State(0, [[1, 2, 3], [1, 3]]), State(0, [[2]]), State(0, [[4]]), State(0, [[2]]), failing()])
+
+
+def longest():
+    """All limits reached, so no file is longer."""
+    return Plan([State(0, [sorted((i + c + k) % STATES for k in range(4)) for c in range(4)]) for i in range(STATES)])
 
 
 def scattered(seed, n, commands, outcomes, kinds=(8, 1, 1)):

@@ -43,14 +43,14 @@ pub fn write_again(
     firsts: &mut [u16],
     outcomes: &mut [u16],
 ) -> bool {
-    let mut bytes = [0u8; 58378];
+    let mut bytes = [0u8; Size::FILE];
     let w = format::read_write(file, rows, firsts, outcomes, &mut bytes);
     same_bytes(file, w, &bytes)
 }
 
 // The tables are written and read again, and compared.
 pub fn read_again(size: Size, rows: &[Row], firsts: &[u16], outcomes: &[u16]) -> bool {
-    let mut bytes = [0u8; 58378];
+    let mut bytes = [0u8; Size::FILE];
     let mut rows2 = [Row {
         kind: 0,
         first: 0,

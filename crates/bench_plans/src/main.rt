@@ -1,6 +1,10 @@
-// Reads plan files from standard input and prints of each what reading answers, whether both round trips give the same again, and what
-// deciding and the search answer. Before a file stand its length and how many rows, first outcomes and outcomes are lent for it, two bytes
-// each, highest first.
+// Reads plan files and questions on them from standard input, and prints of each file what reading answers and whether both round trips
+// give the same again, and of each question what the call answers.
+//
+// The input is numbers of two bytes, highest first, and files: how many cases there are, and then the cases. A case is the length of its
+// file; how many rows, first outcomes and outcomes are lent for it; how many questions there are; the file; and the questions. A
+// question is the call (0 deciding, 1 the search), the start, and how many places are lent of each table that the call writes. On a file
+// that is refused the questions are asked of a plan without states. Past the end of the input every byte is 0.
 ghost use Prim.Native.Nat.{_≤_};
 ghost use Rattle.model.specs.File.{maxStates, maxCommands, maxOutcomes};
 use crate::files::print_again;
@@ -8,9 +12,9 @@ use crate::files::print_size;
 use crate::files::read_again;
 use crate::files::write_again;
 use crate::numbers::least;
-use crate::numbers::number;
+use crate::numbers::next;
 use crate::print::print_refusal;
-use crate::verdicts::try_plan;
+use crate::verdicts::ask_all;
 use reading::ReadAnswer;
 use tables::Row;
 use tables::Size;
@@ -21,24 +25,31 @@ mod print;
 mod same;
 mod verdicts;
 
-pub fn try_file(file: &[u8], rows: &mut [Row], firsts: &mut [u16], outcomes: &mut [u16]) {
+pub fn try_file(
+    file: &[u8],
+    rows: &mut [Row],
+    firsts: &mut [u16],
+    outcomes: &mut [u16],
+    questions: usize,
+) {
     let r = reading::read(file, rows, firsts, outcomes);
     match r {
         ReadAnswer::Refused(x) => {
             print_refusal(tables::number(x));
+            ask_all(Size::new(0, 0, 0, 0), rows, firsts, outcomes, questions);
         }
         ReadAnswer::Given(size) => {
             print_size(size);
             let bytes = write_again(file, rows, firsts, outcomes);
             let tables = read_again(size, rows, firsts, outcomes);
             print_again(bytes, tables);
-            try_plan(size, rows, firsts, outcomes);
+            ask_all(size, rows, firsts, outcomes, questions);
         }
     }
 }
 
 // Lends as many places as are asked for.
-fn lend(file: &[u8], rows: usize, firsts: usize, outcomes: usize)
+fn lend(file: &[u8], rows: usize, firsts: usize, outcomes: usize, questions: usize)
     requires { ⌜ (rows ≤ maxStates) × (firsts ≤ maxCommands) × (outcomes ≤ maxOutcomes) ⌝ }
 {
     let mut row_table = [Row {
@@ -53,31 +64,31 @@ fn lend(file: &[u8], rows: usize, firsts: usize, outcomes: usize)
         &mut row_table[..rows],
         &mut first_table[..firsts],
         &mut outcome_table[..outcomes],
+        questions,
     );
 }
 
-// All files, one behind another.
-fn cases(input: &[u8]) {
-    let mut at = 0;
-    while at < input.len() {
-        let rest = &input[at..];
-        let length = number(rest, 0);
-        if rest.len() < 8 + length {
-            return;
-        }
-        let end = 8 + length;
-        lend(
-            &rest[8..end],
-            least(number(rest, 2), Size::STATES),
-            least(number(rest, 4), Size::COMMANDS),
-            least(number(rest, 6), Size::OUTCOMES),
-        );
-        at = at + end;
-    }
+fn try_case() {
+    let length = next();
+    let rows = next();
+    let firsts = next();
+    let outcomes = next();
+    let questions = next();
+    let mut bytes = io::large_buffer();
+    let n = io::read_full(0, &mut bytes[..length]);
+    lend(
+        &bytes[..n],
+        least(rows, Size::STATES),
+        least(firsts, Size::COMMANDS),
+        least(outcomes, Size::OUTCOMES),
+        questions,
+    );
 }
 
 fn main() {
-    let mut input = io::large_buffer();
-    let n = io::read_full(0, &mut input);
-    cases(&input[..n]);
+    let mut left = next();
+    while left > 0 {
+        try_case();
+        left -= 1;
+    }
 }

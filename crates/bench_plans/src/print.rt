@@ -1,5 +1,6 @@
 // Numbers, refusals and table entries, printed.
 use crate::numbers::least;
+use tables::internal::NONE;
 
 // A space and a number.
 pub fn print_number(x: u64) {
@@ -15,7 +16,7 @@ pub fn print_refusal(number: u32) {
 }
 
 fn print_entry(x: u16) {
-    if x == 65535 {
+    if (x as usize) == NONE {
         io::write_all(1, b" -");
         return;
     }

@@ -1,5 +1,8 @@
-// A plan decided and searched: all that is answered and left in the tables.
+// The questions on a plan: all that is answered and left in the tables.
+ghost use Prim.Native.Nat.{_≤_};
+ghost use Rattle.model.specs.File.{maxStates};
 use crate::numbers::least;
+use crate::numbers::next;
 use crate::print::print_entries;
 use crate::print::print_number;
 use crate::print::print_refusal;
@@ -9,6 +12,11 @@ use search::Found;
 use search::SearchAnswer;
 use tables::Row;
 use tables::Size;
+
+// The calls, as a question names them.
+const DECIDING: usize = 0;
+
+const SEARCH: usize = 1;
 
 fn print_tables(n: usize, ranks: &[u16], commands: &[u16], marks: &[u16]) {
     io::write_all(1, b"ranks");
@@ -53,58 +61,91 @@ fn print_search(s: SearchAnswer, n: usize, commands: &[u16]) {
     }
 }
 
-// The search from every state; in a large plan from the first 32, which keeps what is printed short.
-pub fn try_starts(
-    size: Size,
-    rows: &[Row],
-    firsts: &[u16],
-    outcomes: &[u16],
-    commands: &mut [u16],
-    scratch: &mut [u16],
-) {
-    let end = least(size.n, 32);
-    let mut start = 0;
-    while start < end {
-        let s = search::search(size, rows, firsts, outcomes, start, commands, scratch);
-        print_search(s, size.n, commands);
-        start += 1;
-    }
-}
-
-// Whether a plan was decided, and what is printed of it.
-fn print_decision(d: Decision, n: usize, ranks: &[u16], commands: &[u16], marks: &[u16]) -> bool {
+fn print_decision(d: Decision, n: usize, ranks: &[u16], commands: &[u16], marks: &[u16]) {
     let a = d.answer;
     match a {
         DecideAnswer::Refused(x) => {
             print_refusal(tables::number(x));
-            false
         }
         DecideAnswer::Given => {
             print_tables(n, ranks, commands, marks);
             let safe = d.safe;
             let lost = d.lost;
             print_tally(safe, lost);
-            true
         }
     }
 }
 
-pub fn try_plan(size: Size, rows: &[Row], firsts: &[u16], outcomes: &[u16]) {
+pub fn answer(
+    size: Size,
+    rows: &[Row],
+    firsts: &[u16],
+    outcomes: &[u16],
+    call: usize,
+    start: usize,
+    ranks: &mut [u16],
+    commands: &mut [u16],
+    marks: &mut [u16],
+    scratch: &mut [u16],
+) {
+    if call == DECIDING {
+        let d = decide::decide(
+            size,
+            rows,
+            firsts,
+            outcomes,
+            ranks,
+            commands,
+            marks,
+            scratch,
+        );
+        print_decision(d, size.n, ranks, commands, marks);
+        return;
+    }
+    if call == SEARCH {
+        let s = search::search(size, rows, firsts, outcomes, start, commands, scratch);
+        print_search(s, size.n, commands);
+    }
+}
+
+// Lends as many places of each table as are asked for.
+pub fn ask(
+    size: Size,
+    rows: &[Row],
+    firsts: &[u16],
+    outcomes: &[u16],
+    call: usize,
+    start: usize,
+    places: usize,
+)
+    requires { ⌜ places ≤ maxStates ⌝ }
+{
     let mut ranks = [0u16; Size::STATES];
     let mut commands = [0u16; Size::STATES];
     let mut marks = [0u16; Size::STATES];
     let mut scratch = [0u16; Size::STATES];
-    let d = decide::decide(
+    answer(
         size,
         rows,
         firsts,
         outcomes,
-        &mut ranks,
-        &mut commands,
-        &mut marks,
-        &mut scratch,
+        call,
+        start,
+        &mut ranks[..places],
+        &mut commands[..places],
+        &mut marks[..places],
+        &mut scratch[..places],
     );
-    if print_decision(d, size.n, &ranks, &commands, &marks) {
-        try_starts(size, rows, firsts, outcomes, &mut commands, &mut scratch);
+}
+
+// As many questions as the input has on this plan.
+pub fn ask_all(size: Size, rows: &[Row], firsts: &[u16], outcomes: &[u16], questions: usize) {
+    let mut left = questions;
+    while left > 0 {
+        let call = next();
+        let start = next();
+        let places = least(next(), Size::STATES);
+        ask(size, rows, firsts, outcomes, call, start, places);
+        left -= 1;
     }
 }

@@ -27,6 +27,9 @@ impl Size {
 
     pub const OUTCOMES: usize = 16384;
 
+    // The bytes of the longest file.
+    pub const FILE: usize = 10 + 8 * Size::STATES + 3 * Size::COMMANDS + 2 * Size::OUTCOMES;
+
     // Ruled out: m and t exchanged, and a start of its own choosing.
     pub fn new(n: usize, m: usize, t: usize, start: usize) -> Size
         ensures { λ r. ⌜ r ≡ sized n m t start ⌝ }

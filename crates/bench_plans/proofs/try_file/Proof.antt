@@ -15,6 +15,12 @@ number-requires c κs = search needs
 print-refusal-requires : tie.Need-print-refusal-requires
 print-refusal-requires c κs = search needs
 
+new-requires : tie.Need-new-requires
+new-requires c κs = search needs
+
+ask-all-requires : tie.Need-ask-all-requires
+ask-all-requires c κs = search needs
+
 enum-known-r-2 : tie.Need-enum-known-r-2
 enum-known-r-2 c = search needs
 
@@ -30,8 +36,8 @@ read-again-requires c κs = search needs
 print-again-requires : tie.Need-print-again-requires
 print-again-requires c κs = search needs
 
-try-plan-requires : tie.Need-try-plan-requires
-try-plan-requires c κs = search needs
+ask-all-requires-2 : tie.Need-ask-all-requires-2
+ask-all-requires-2 c κs = search needs
 
 same-length : tie.Need-same-length
 same-length c = search needs
@@ -58,4 +64,4 @@ returns-2 : tie.Need-returns-2
 returns-2 c = search needs
 
 pub try-file-spec : {M : Type 1} → statement M
-try-file-spec = tie.close (tie.spec read-requires enum-known-r number-requires print-refusal-requires enum-known-r-2 print-size-requires write-again-requires read-again-requires print-again-requires try-plan-requires same-length same-length-2 same-length-3 returns same-length-4 same-length-5 same-length-6 returns-2)
+try-file-spec = tie.close (tie.spec read-requires enum-known-r number-requires print-refusal-requires new-requires ask-all-requires enum-known-r-2 print-size-requires write-again-requires read-again-requires print-again-requires ask-all-requires-2 same-length same-length-2 same-length-3 returns same-length-4 same-length-5 same-length-6 returns-2)
