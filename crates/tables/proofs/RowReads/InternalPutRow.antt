@@ -1,5 +1,6 @@
 -- `tables::internal::put_row`, over rows. Made by tools/rows, and checked like every proof.
-use Rattle.tables.proofs.Row as T
+use Rattle.tables.proofs.Row
+use Rattle.tables.proofs.Row.Laws
 use base.Logic.{id⊢, emp}
 use borrow.Fn.Kinds
 use borrow.Fn.Picked.{KnownAs}
@@ -7,8 +8,14 @@ use borrow.Fn.Read.{all-models, all∗, r-last}
 use borrow.Fn.World.{World}
 use borrow.Fn.Written as Written
 use borrow.Kind.MutSlice
+use borrow.Kind.Value
+use borrow.Rule.Local
+use borrow.Table.Rows
 use contract.Lifetimes.{Lfts}
 use contract.Monad.{top}
+use denote.Exit
+use denote.Struct.Declared
+use denote.Struct.Laws as Laws'
 use denote.Triple.Clauses.{AtExit}
 use mathlib.Core.List
 use mathlib.Core.Path.{refl}
@@ -17,7 +24,7 @@ use Rattle.tables.proofs.Reading as R
 use Rattle.tables.proofs.internal.put_row as f
 
 abbrev pub ps : List.List (Kinds.PK 1)
-ps = List._∷_ (MutSlice.pMutS T.the-row 0 tt) (List._∷_ (Kinds.pNum Syntax.w64) (List._∷_ (Kinds.pNum Syntax.w16) (List._∷_ (Kinds.pNum Syntax.w16) (List._∷_ (Kinds.pNum Syntax.w16) List.[]))))
+ps = List._∷_ (MutSlice.pMutS Row.the-row 0 tt) (List._∷_ (Kinds.pNum Syntax.w64) (List._∷_ (Value.pVal record { ty = Declared.row Row.the-type; one = refl; val = Laws'.val Row.the-type Laws.the-laws; tells = Laws'.tells Row.the-type Laws.the-laws; still = Laws'.still Row.the-type Laws.the-copy Exit.yes; row = Rows.whole (Declared.row Row.the-type); rd = λ x. x; mk = λ x. x } λ M 𝓤 H A W. record { copies = Laws'.copy Row.the-type Laws.the-copy 𝓤 H A W; lawful = Laws'.lawful Row.the-type Laws.the-laws 𝓤 H A W; makes = Laws'.makes Row.the-type Laws.the-plain 𝓤 H A; in-mem = Local.mem-whole 𝓤 H A W (Declared.row Row.the-type); of-mem = Local.whole-mem 𝓤 H A W (Declared.row Row.the-type) }) List.[]))
 
 abbrev pub r : Kinds.RK 1
 r = Kinds.rUnit
