@@ -5,11 +5,11 @@ use Prim.Native.Nat.{ℕ, _/_}
 use lib.Dec.{leb}
 use Rattle.model.specs.Refusal.{Answer, Cramped, given, need, _>>=_, _>>_}
 use Rattle.model.specs.Tables.{Size as ModelSize, enough}
-use Rattle.model.specs.Boundary.{sizeBytes, AfterGateRead}
+use Rattle.model.specs.Boundary.{entryBytes, rowBytes, sizeBytes, AfterGateRead}
 
 -- they have room for a plan of this size, and for its size record
 abbrev pub readRoom : ModelSize → ℕ → ℕ → ℕ → ℕ → Bool
-readRoom z size rows firsts outcomes = enough z (rows / 6) (firsts / 2) (outcomes / 2) && leb sizeBytes size
+readRoom z size rows firsts outcomes = enough z (rows / rowBytes) (firsts / entryBytes) (outcomes / entryBytes) && leb sizeBytes size
 
 -- "A slice too short for such an answer is 9": the size record answered, if they have room
 abbrev pub admitted : Answer ModelSize → ℕ → ℕ → ℕ → ℕ → Answer ModelSize

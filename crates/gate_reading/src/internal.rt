@@ -19,11 +19,7 @@ pub fn read_call(
         ≡ gateReadCall (now (file .entry)) (now (size .entry)) (now (rows .entry)) (now (firsts .entry)) (now (outcomes .entry))
         ⌝ }
 {
-    let mut states = [Row {
-        kind: 0,
-        first: 0,
-        practice: 0,
-    }; Size::STATES];
+    let mut states = [Row::BLANK; Size::STATES];
     let mut commands = [0u16; Size::COMMANDS];
     let mut entries = [0u16; Size::OUTCOMES];
     read_by(

@@ -4,7 +4,7 @@ ghost use Prim.Native.Nat.{_*_, _<_, _≤_};
 ghost use lib.ListN.{length, take};
 ghost use Rattle.laws.specs.Lists.{overwrite};
 ghost use Rattle.model.specs.File.{maxStates, maxCommands, maxOutcomes};
-ghost use Rattle.model.specs.Boundary.{bytesFor, sizeBytes, sizeEntries, gateReadCall};
+ghost use Rattle.model.specs.Boundary.{bytesFor, entryBytes, sizeBytes, sizeEntries, gateReadCall};
 ghost use Rattle.tables.specs.Meaning.{numbers};
 ghost use Rattle.reading.specs.Meaning.{answerOf};
 ghost use Rattle.gate_reading.specs.Lent.{readRoom, admitted, afterGateRead};
@@ -16,22 +16,25 @@ use store::internal::store_size;
 use tables::Refusal;
 use tables::Row;
 use tables::Size;
+use tables::internal::ENTRY_BYTES;
+use tables::internal::ROW_BYTES;
+use tables::internal::SIZE_BYTES;
 use tables::number;
 
 // Whether slices of these lengths have room for a plan.
 fn room(z: Size, size: usize, rows: usize, firsts: usize, outcomes: usize) -> bool
     ensures { λ r. ⌜ r ≡ readRoom (numbers z) size rows firsts outcomes ⌝ }
 {
-    if rows / 6 < z.n {
+    if rows / ROW_BYTES < z.n {
         return false;
     }
-    if firsts / 2 < z.m {
+    if firsts / ENTRY_BYTES < z.m {
         return false;
     }
-    if outcomes / 2 < z.t {
+    if outcomes / ENTRY_BYTES < z.t {
         return false;
     }
-    8 <= size
+    SIZE_BYTES <= size
 }
 
 // Refusal 9 for a plan that slices of these lengths have no room for.
@@ -57,8 +60,8 @@ fn store_lists(
     outcomes: &mut [u8],
 )
     requires { ⌜ (sizeBytes ≤ length (now size)) × (z .n < 65536) × (z .m < 65536) × (z .t < 65536) × (z .start < 65536) ⌝ }
-    requires { ⌜ (z .m ≤ length (now commands)) × (z .m * 2 ≤ length (now firsts)) ⌝ }
-    requires { ⌜ (z .t ≤ length (now entries)) × (z .t * 2 ≤ length (now outcomes)) ⌝ }
+    requires { ⌜ (z .m ≤ length (now commands)) × (z .m * entryBytes ≤ length (now firsts)) ⌝ }
+    requires { ⌜ (z .t ≤ length (now entries)) × (z .t * entryBytes ≤ length (now outcomes)) ⌝ }
     ensures size { λ _. ⌜ now (size .exit) ≡ overwrite (bytesFor (sizeEntries (numbers z))) (now (size .entry)) ⌝ }
     ensures firsts { λ _. ⌜ now (firsts .exit) ≡ overwrite (bytesFor (take (z .m) (now (commands .entry)))) (now (firsts .entry)) ⌝ }
     ensures outcomes { λ _. ⌜ now (outcomes .exit) ≡ overwrite (bytesFor (take (z .t) (now (entries .entry)))) (now (outcomes .entry)) ⌝ }

@@ -7,7 +7,7 @@ use lib.Dec.{leb}
 use lib.ListN.{length, take}
 use Rattle.model.specs.Refusal.{Cramped, Answer, given, need, _>>=_, _>>_}
 use Rattle.model.specs.Calls.{left}
-use Rattle.model.specs.Boundary.{bytesFor, resultEntries, code, answerBytes, AfterGateSearch}
+use Rattle.model.specs.Boundary.{bytesFor, resultEntries, code, entryBytes, answerBytes, AfterGateSearch}
 
 -- what a call returned, and what the slices lent to it hold then
 abbrev pub afterGateSearch : ℕ → List ℕ → List ℕ → List ℕ → AfterGateSearch
@@ -16,7 +16,7 @@ afterGateSearch returned commands scratch answer =
 
 -- slices of so many bytes have room for the entries of n states and for the answer
 abbrev pub searchRoom : ℕ → ℕ → ℕ → ℕ → Bool
-searchRoom n commands scratch answer = leb n (commands / 2) && leb n (scratch / 2) && leb answerBytes answer
+searchRoom n commands scratch answer = leb n (commands / entryBytes) && leb n (scratch / entryBytes) && leb answerBytes answer
 
 -- what was found, lost or not and the rounds, if there is room for it
 unfoldable pub delivery : Answer (Bool × ℕ) → ℕ → ℕ → ℕ → ℕ → Answer (Bool × ℕ)

@@ -12,6 +12,7 @@ use search::SearchAnswer;
 use store::internal::store;
 use store::internal::store_entry;
 use tables::Refusal;
+use tables::internal::ENTRY_BYTES;
 use tables::internal::narrow;
 use tables::number;
 
@@ -22,10 +23,10 @@ const ANSWER_BYTES: usize = 4;
 fn room(n: usize, commands: usize, scratch: usize, answer: usize) -> bool
     ensures tested { λ r. ⌜ r ≡ searchRoom n commands scratch answer ⌝ }
 {
-    if commands / 2 < n {
+    if commands / ENTRY_BYTES < n {
         return false;
     }
-    if scratch / 2 < n {
+    if scratch / ENTRY_BYTES < n {
         return false;
     }
     ANSWER_BYTES <= answer

@@ -49,11 +49,7 @@ pub fn search_call(
         afterGateSearch r (now (commands .exit)) (now (scratch .exit)) (now (answer .exit))
         ≡ gateSearchCall lent start (now (commands .entry)) (now (scratch .entry)) (now (answer .entry))) ⌝ }
 {
-    let mut states = [Row {
-        kind: 0,
-        first: 0,
-        practice: 0,
-    }; Size::STATES];
+    let mut states = [Row::BLANK; Size::STATES];
     let mut heads = [0u16; Size::COMMANDS];
     let mut entries = [0u16; Size::OUTCOMES];
     let plan = load_plan(

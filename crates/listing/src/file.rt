@@ -33,11 +33,7 @@ pub fn lend(file: &[u8], out: &mut [u8]) -> usize
     requires { ⌜ maxListing ≤ length (now out) ⌝ }
     ensures { λ r. ⌜ Wrote (now (out .entry)) 0 (answerText (read (now (file .entry)))) (now (out .exit)) r ⌝ }
 {
-    let mut rows = [Row {
-        kind: 0,
-        first: 0,
-        practice: 0,
-    }; Size::STATES];
+    let mut rows = [Row::BLANK; Size::STATES];
     let mut firsts = [0u16; Size::COMMANDS];
     let mut outcomes = [0u16; Size::OUTCOMES];
     list_file(file, &mut rows[..], &mut firsts, &mut outcomes, out)

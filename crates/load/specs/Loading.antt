@@ -1,16 +1,14 @@
 -- A plan that is lent as bytes, and the part of it that tables of the limits' lengths hold.
 use mathlib.Core.Bool.{Bool, _&&_}
 use mathlib.Core.List.{List}
-use Prim.Native.Nat.{ℕ, _+_, _*_}
+use Prim.Native.Nat.{ℕ}
 use lib.Dec.{leb}
-use Rattle.laws.specs.Entry.{be16}
 use Rattle.model.specs.Refusal.{Unsound, Answer, given, refused, need, _>>=_, _>>_}
 use Rattle.model.specs.File.{maxStates, maxCommands, maxOutcomes}
 use Rattle.model.specs.Tables.{Size as ModelSize, Tables}
 use Rattle.model.specs.SoundTest.{tablesLong}
 use Rattle.model.specs.Boundary.{tablesIn}
-use Rattle.tables.specs.declared.Row.{Row}
-use Rattle.tables.specs.Meaning.{numbers, refusalOf, rowWith}
+use Rattle.tables.specs.Meaning.{numbers, refusalOf}
 use Rattle.load.specs.declared.internal.PlanAnswer.{PlanAnswer}
 use Rattle.load.specs.declared.internal.PlanAnswer.the-variants.{Given, Refused}
 
@@ -18,10 +16,6 @@ use Rattle.load.specs.declared.internal.PlanAnswer.the-variants.{Given, 
 abbrev pub answerOf : PlanAnswer → Answer ModelSize
 answerOf (Given z) = given (numbers z)
 answerOf (Refused r) = refused (refusalOf r)
-
--- the row of state i
-abbrev pub rowIn : List ℕ → ℕ → Row
-rowIn s i = rowWith (be16 s (i * 3 * 2)) (be16 s ((i * 3 + 1) * 2)) (be16 s ((i * 3 + 2) * 2))
 
 -- no count is above its limit
 unfoldable pub few : ModelSize → Bool

@@ -8,18 +8,18 @@ ghost use Rattle.model.specs.Refusal.{answer};
 ghost use Rattle.model.specs.File.{maxStates, maxCommands, maxOutcomes};
 ghost use Rattle.model.specs.Tables.{Tables, enough};
 ghost use Rattle.model.specs.Calls.{left};
-ghost use Rattle.model.specs.Boundary.{entriesIn, rowsIn, sizeIn, sizeBytes};
-ghost use Rattle.tables.specs.Meaning.{numbers, rowsOf};
-ghost use Rattle.load.specs.Loading.{rowIn, few, loading, answerOf};
+ghost use Rattle.model.specs.Boundary.{entriesIn, rowsIn, rowIn, sizeIn, entryBytes, rowBytes, sizeBytes};
+ghost use Rattle.tables.specs.Meaning.{numbers, rowOf, rowsOf};
+ghost use Rattle.load.specs.Loading.{few, loading, answerOf};
 use tables::Refusal;
 use tables::Row;
 use tables::Size;
+use tables::internal::ENTRY_BYTES;
+use tables::internal::ROW_BYTES;
+use tables::internal::SIZE_BYTES;
 use tables::internal::join;
 use tables::internal::put_row;
 use tables::internal::wide;
-
-// The bytes of a size record.
-const SIZE_BYTES: usize = 8;
 
 // The size record, or what the plan is refused with.
 pub enum PlanAnswer {
@@ -37,7 +37,7 @@ fn entry_at(bytes: &[u8], i: usize) -> u16
 
 // The first n entries, to the first n places of a table.
 pub fn load(bytes: &[u8], table: &mut [u16], n: usize)
-    requires { ⌜ (n * 2 ≤ length (now bytes)) × (n ≤ length (now table)) ⌝ }
+    requires { ⌜ (n * entryBytes ≤ length (now bytes)) × (n ≤ length (now table)) ⌝ }
     ensures { λ _. ⌜ now (table .exit) ≡ overwrite (take n (entriesIn (now (bytes .entry)))) (now (table .entry)) ⌝ }
 {
     let mut i = 0;
@@ -49,8 +49,8 @@ pub fn load(bytes: &[u8], table: &mut [u16], n: usize)
 
 // The row of state s, three entries.
 fn row_in(bytes: &[u8], s: usize) -> Row
-    requires { ⌜ s * 6 + 6 ≤ length (now bytes) ⌝ }
-    ensures { λ r. ⌜ r ≡ rowIn (now (bytes .entry)) s ⌝ }
+    requires { ⌜ s * rowBytes + rowBytes ≤ length (now bytes) ⌝ }
+    ensures { λ r. ⌜ rowOf r ≡ rowIn (now (bytes .entry)) s ⌝ }
 {
     Row {
         kind: entry_at(bytes, s * 3),
@@ -61,13 +61,13 @@ fn row_in(bytes: &[u8], s: usize) -> Row
 
 // The first n rows, to the first n places of a table.
 pub fn load_rows(bytes: &[u8], rows: &mut [Row], n: usize)
-    requires { ⌜ (n * 6 ≤ length (now bytes)) × (n ≤ length (now rows)) ⌝ }
+    requires { ⌜ (n * rowBytes ≤ length (now bytes)) × (n ≤ length (now rows)) ⌝ }
     ensures { λ _. ⌜ rowsOf (now (rows .exit)) ≡ overwrite (take n (rowsIn (entriesIn (now (bytes .entry))))) (rowsOf (now (rows .entry))) ⌝ }
 {
     let mut s = 0;
     while s < n {
         let row = row_in(bytes, s);
-        put_row(rows, s, row.kind, row.first, row.practice);
+        put_row(rows, s, row);
         s += 1;
     }
 }
@@ -98,15 +98,15 @@ fn few(size: Size) -> bool
 
 // No slice, of so many bytes, is shorter than its count.
 fn long(size: Size, rows: usize, firsts: usize, outcomes: usize) -> bool
-    ensures { λ r. ⌜ r ≡ enough (numbers size) (rows / 6) (firsts / 2) (outcomes / 2) ⌝ }
+    ensures { λ r. ⌜ r ≡ enough (numbers size) (rows / rowBytes) (firsts / entryBytes) (outcomes / entryBytes) ⌝ }
 {
-    if rows / 6 < size.n {
+    if rows / ROW_BYTES < size.n {
         return false;
     }
-    if firsts / 2 < size.m {
+    if firsts / ENTRY_BYTES < size.m {
         return false;
     }
-    size.t <= outcomes / 2
+    size.t <= outcomes / ENTRY_BYTES
 }
 
 // The lent plan's size record, where tables of the limits' lengths hold the plan; else it is unsound.

@@ -10,7 +10,7 @@ use Rattle.laws.specs.Entry.{be16}
 use Rattle.laws.proofs.Lists.{length-tabulate, tabulate-at}
 use Rattle.model.specs.File.{entries}
 use Rattle.model.specs.Tables.{Row}
-use Rattle.model.specs.Boundary.{entriesIn, rowsIn}
+use Rattle.model.specs.Boundary.{entryBytes, rowBytes, entriesIn, rowsIn, rowIn}
 use Rattle.model.proofs.Fields.{length-entries}
 
 entry-at : (k : ℕ) (s : List ℕ) (i : ℕ) → i < k → getD (entries k s) i 0 ≡ be16 s (i * 2)
@@ -56,12 +56,8 @@ row-at (k ∷ f ∷ p ∷ es) (suc i) d h =
     let c : suc (suc (suc (i * 3 + 2))) ≡ suc i * 3 + 2 = omega arith in
     row-at es i d (omega arith) ∙ (λ q. record { kind = getD all (a q) 0; first = getD all (b q) 0; policy = getD all (c q) 0 })
 
--- the row at place i of a slice of bytes
-abbrev pub rowIn : List ℕ → ℕ → Row
-rowIn s i = record { kind = be16 s (i * 3 * 2); first = be16 s ((i * 3 + 1) * 2); policy = be16 s ((i * 3 + 2) * 2) }
-
 -- the first n rows
-pub take-rows : (n : ℕ) (s : List ℕ) → n * 6 ≤ length s → take n (rowsIn (entriesIn s)) ≡ tabulate (rowIn s) 0 n
+pub take-rows : (n : ℕ) (s : List ℕ) → n * rowBytes ≤ length s → take n (rowsIn (entriesIn s)) ≡ tabulate (rowIn s) 0 n
 unfolding entriesIn rowOf
 take-rows n s h =
     let k = length s / 2 in
@@ -82,9 +78,9 @@ take-rows n s h =
     none = rowIn s 0
 
 -- how many a slice of bytes has
-pub length-entries-in : (s : List ℕ) → length (entriesIn s) ≡ length s / 2
+pub length-entries-in : (s : List ℕ) → length (entriesIn s) ≡ length s / entryBytes
 unfolding entriesIn
 length-entries-in s = length-entries (length s / 2) s
 
-pub length-rows-in : (s : List ℕ) → length (rowsIn (entriesIn s)) ≡ length s / 6
+pub length-rows-in : (s : List ℕ) → length (rowsIn (entriesIn s)) ≡ length s / rowBytes
 length-rows-in s = omega (arith, length-rows (entriesIn s), length-entries-in s)

@@ -1,7 +1,7 @@
 -- The calls of the gate controller's C program (document 01, "Refusal table"): numbers and byte slices.
 use mathlib.Core.Bool.{Bool, cond}
 use mathlib.Core.List.{List, [], _∷_}
-use Prim.Native.Nat.{ℕ, _/_}
+use Prim.Native.Nat.{ℕ, _+_, _*_, _/_}
 use lib.Dec.{leb, eqb}
 use lib.ListN.{length}
 use Rattle.laws.specs.Lists.{joined}
@@ -14,11 +14,30 @@ use Rattle.model.specs.Tables.{Size, Row, Tables}
 use Rattle.model.specs.File.{entries}
 use Rattle.model.specs.Calls.{left, reading, deciding, searching, rankTable, commandTable, markTable, resultTable, cleared}
 
+-- ---- how many bytes there are
+
+-- in an entry, a row and a size record
+abbrev pub entryBytes : ℕ
+entryBytes = 2
+
+abbrev pub rowBytes : ℕ
+rowBytes = 6
+
+abbrev pub sizeBytes : ℕ
+sizeBytes = 8
+
+-- in a tally, and in the search's answer
+abbrev pub tallyBytes : ℕ
+tallyBytes = 12
+
+abbrev pub answerBytes : ℕ
+answerBytes = 4
+
 -- ---- encodings
 
 -- "An entry there is two bytes, highest first": the entries of a slice; a byte left over at its end is no entry
 unfoldable pub entriesIn : List ℕ → List ℕ
-entriesIn s = entries (length s / 2) s
+entriesIn s = entries (length s / entryBytes) s
 
 -- the bytes of entries
 abbrev pub bytesFor : List ℕ → List ℕ
@@ -30,6 +49,10 @@ rowsIn [] = []
 rowsIn (kind ∷ []) = []
 rowsIn (kind ∷ first ∷ []) = []
 rowsIn (kind ∷ first ∷ policy ∷ r) = record { kind = kind; first = first; policy = policy } ∷ rowsIn r
+
+-- and the row of state s that bytes hold
+abbrev pub rowIn : List ℕ → ℕ → Row
+rowIn bytes s = record { kind = be16 bytes (s * 3 * 2); first = be16 bytes ((s * 3 + 1) * 2); policy = be16 bytes ((s * 3 + 2) * 2) }
 
 unfoldable pub rowEntries : List Row → List ℕ
 rowEntries [] = []
@@ -63,16 +86,6 @@ unfoldable pub code : {A : Type 0} → Answer A → ℕ
 code (given a) = 0
 code (refused r) = number r
 
--- the bytes of a size record, of a tally and of the search's answer
-abbrev pub sizeBytes : ℕ
-sizeBytes = 8
-
-abbrev pub tallyBytes : ℕ
-tallyBytes = 12
-
-abbrev pub answerBytes : ℕ
-answerBytes = 4
-
 -- ---- the calls, on the slices lent in and the lengths in bytes of those written
 
 -- the plan lent in: "one too short for the size record lent in is 10"
@@ -90,14 +103,14 @@ tablesIn size rows firsts outcomes = do
 -- the search's answer are new here
 unfoldable pub gateRead : List ℕ → ℕ → ℕ → ℕ → ℕ → Answer Tables
 gateRead file size rows firsts outcomes = do
-  T ← reading (rows / 6) (firsts / 2) (outcomes / 2) file
+  T ← reading (rows / rowBytes) (firsts / entryBytes) (outcomes / entryBytes) file
   need Cramped (leb sizeBytes size)
   given T
 
 unfoldable pub gateDecide : Answer Tables → ℕ → ℕ → ℕ → ℕ → ℕ → Answer Plan
 gateDecide lent ranks commands marks scratch tally = do
   T ← lent
-  P ← deciding T (ranks / 2) (commands / 2) (marks / 2) (scratch / 2)
+  P ← deciding T (ranks / entryBytes) (commands / entryBytes) (marks / entryBytes) (scratch / entryBytes)
   need Cramped (leb tallyBytes tally)
   given P
 
@@ -105,7 +118,7 @@ gateDecide lent ranks commands marks scratch tally = do
 unfoldable pub gateSearch : Answer Tables → ℕ → ℕ → ℕ → ℕ → Answer (ℕ × Result)
 gateSearch lent start commands scratch answer = do
   T ← lent
-  R ← searching T start (commands / 2) (scratch / 2)
+  R ← searching T start (commands / entryBytes) (scratch / entryBytes)
   need Cramped (leb answerBytes answer)
   given (T .size .n, R)
 

@@ -13,7 +13,7 @@ use Rattle.laws.proofs.Writes.{length-put, put-append}
 use Rattle.model.specs.File.{State, stateFrom, fieldOf, stateValues, maxCommands}
 use Rattle.model.specs.Tables.{allCommands, rowsFrom, firstsFrom}
 use Rattle.tables.specs.declared.Row.{Row}
-use Rattle.tables.specs.Meaning.{rowsOf, rowSaid}
+use Rattle.tables.specs.Meaning.{rowsOf, rowWith}
 use Rattle.tables.proofs.StoredRows.{row-stored}
 use Rattle.reading.specs.declared.bytes.Mark.{Mark}
 use Rattle.reading.specs.Meaning.{bytesFrom, moved}
@@ -80,11 +80,11 @@ module _ (s : State) (ss : List State) where
 module _ {bytes : ℕ} {rows₀ : List Row} {firsts₀ outs₀ : List ℕ} {ss₀ : List State} {rows : List Row} {firsts outs : List ℕ} {i : ℕ} {k : Mark} where
   filling-next : (s : State) (ss : List State)
       → Filling bytes rows₀ firsts₀ outs₀ ss₀ rows firsts outs i k (s ∷ ss)
-      → Filling bytes rows₀ firsts₀ outs₀ ss₀ (set rows i (rowSaid (k .m) (fieldOf s)))
+      → Filling bytes rows₀ firsts₀ outs₀ ss₀ (set rows i (rowWith (k .m) (fieldOf s)))
       (putAll firsts (k .m) (firstsFrom (k .t) (s .commands))) (putAll outs (k .t) (joined (s .commands))) (i + 1) (pastCommands (moved k 8) (s .commands)) ss
   unfolding allCommands putAll rowsFrom
   filling-next s ss f =
-      let n : length (set rows i (rowSaid (k .m) (fieldOf s))) ≡ length rows = length-set rows i (rowSaid (k .m) (fieldOf s)) in
+      let n : length (set rows i (rowWith (k .m) (fieldOf s))) ≡ length rows = length-set rows i (rowWith (k .m) (fieldOf s)) in
       let m : length (putAll firsts (k .m) (firstsFrom (k .t) (s .commands))) ≡ length firsts = length-put firsts (k .m) (firstsFrom (k .t) (s .commands)) in
       let t : length (putAll outs (k .t) (joined (s .commands))) ≡ length outs = length-put outs (k .t) (joined (s .commands)) in
       record {
@@ -92,7 +92,7 @@ module _ {bytes : ℕ} {rows₀ : List Row} {firsts₀ outs₀ : List ℕ} {ss�
         same-rows = n ∙ f .same-rows;
         same-firsts = m ∙ f .same-firsts;
         same-outs = t ∙ f .same-outs;
-        put-rows = rw (row-stored rows i (rowSaid (k .m) (fieldOf s))) (f .put-rows);
+        put-rows = rw (row-stored rows i (rowWith (k .m) (fieldOf s))) (f .put-rows);
         put-firsts = firsts-next s ss firsts (k .m) (k .t) ∙ f .put-firsts;
         put-outs = outs-next s ss outs (k .t) ∙ f .put-outs;
       }
@@ -155,7 +155,7 @@ module _ {rows₀ : List Row} {firsts₀ outs₀ : List ℕ} {ss₀ : List State
         }
 
     pub filling-more : {row : Row} {rows′ : List Row} {firsts′ outs′ : List ℕ} {next : Mark}
-        → row ≡ rowSaid (k .m) (stateValues (bytesFrom file k))
+        → row ≡ rowWith (k .m) (stateValues (bytesFrom file k))
         → rows′ ≡ set rows i row
         → firsts′ ≡ putAll firsts (k .m) (firstsFrom (k .t) (commandsAt file k))
         → outs′ ≡ putAll outs (k .t) (joined (commandsAt file k))

@@ -6,7 +6,7 @@ ghost use Rattle.laws.specs.Lists.{joined};
 ghost use Rattle.laws.specs.Writes.{putAll};
 ghost use Rattle.model.specs.File.{entries, stateValues};
 ghost use Rattle.model.specs.Tables.{allCommands, rowsFrom, firstsFrom};
-ghost use Rattle.tables.specs.Meaning.{rowSaid, rowsOf};
+ghost use Rattle.tables.specs.Meaning.{rowsOf, rowWith};
 ghost use Rattle.reading.specs.Meaning.{bytesFrom, moved};
 ghost use Rattle.reading.specs.Filling.{commandsIn, commandsAt, statesIn, statesMark, pastCommands, Room, StatesRoom};
 use crate::bytes::Mark;
@@ -67,7 +67,7 @@ fn wide(x: u8) -> u16
 // The row of the state at a mark.
 fn row_in(file: &[u8], k: Mark) -> Row
     requires { ⌜ (7 < length (bytesFrom (now file) k)) × (k .m < 65536) ⌝ }
-    ensures { λ r. ⌜ r ≡ rowSaid (k .m) (stateValues (bytesFrom (now (file .entry)) k)) ⌝ }
+    ensures { λ r. ⌜ r ≡ rowWith (k .m) (stateValues (bytesFrom (now (file .entry)) k)) ⌝ }
 {
     Row {
         kind: wide(byte(file, k.at, 3)),
@@ -103,7 +103,7 @@ pub fn fill_states(
     let mut i = 0;
     while i < n {
         let row = row_in(file, k);
-        put_row(rows, i, row.kind, row.first, row.practice);
+        put_row(rows, i, row);
         k = fill_state(file, k, firsts, outcomes);
         i += 1;
     }

@@ -6,7 +6,7 @@ ghost use lib.ListN.{length, take};
 ghost use Rattle.laws.specs.Entry.{two};
 ghost use Rattle.laws.specs.Lists.{overwrite};
 ghost use Rattle.laws.specs.Writes.{putAll};
-ghost use Rattle.model.specs.Boundary.{bytesFor, rowEntries, sizeEntries};
+ghost use Rattle.model.specs.Boundary.{bytesFor, rowEntries, sizeEntries, entryBytes, rowBytes, sizeBytes};
 ghost use Rattle.tables.specs.Meaning.{numbers, rowOf, rowsOf};
 use tables::Row;
 use tables::Size;
@@ -24,7 +24,7 @@ pub fn store_entry(bytes: &mut [u8], i: usize, x: u16)
 
 // Stores the first n entries of a table.
 pub fn store(table: &[u16], bytes: &mut [u8], n: usize)
-    requires { ⌜ (n ≤ length (now table)) × (n * 2 ≤ length (now bytes)) ⌝ }
+    requires { ⌜ (n ≤ length (now table)) × (n * entryBytes ≤ length (now bytes)) ⌝ }
     ensures { λ _. ⌜ now (bytes .exit) ≡ overwrite (bytesFor (take n (now (table .entry)))) (now (bytes .entry)) ⌝ }
 {
     let mut i = 0;
@@ -36,8 +36,8 @@ pub fn store(table: &[u16], bytes: &mut [u8], n: usize)
 
 // Stores the row of state s, three entries.
 fn store_row(row: Row, bytes: &mut [u8], s: usize)
-    requires { ⌜ s * 6 + 6 ≤ length (now bytes) ⌝ }
-    ensures { λ _. ⌜ now (bytes .exit) ≡ putAll (now (bytes .entry)) (s * 6) (bytesFor (rowEntries (rowOf row ∷ []))) ⌝ }
+    requires { ⌜ s * rowBytes + rowBytes ≤ length (now bytes) ⌝ }
+    ensures { λ _. ⌜ now (bytes .exit) ≡ putAll (now (bytes .entry)) (s * rowBytes) (bytesFor (rowEntries (rowOf row ∷ []))) ⌝ }
 {
     store_entry(bytes, s * 3, row.kind);
     store_entry(bytes, s * 3 + 1, row.first);
@@ -46,7 +46,7 @@ fn store_row(row: Row, bytes: &mut [u8], s: usize)
 
 // Stores the first n rows of a table.
 pub fn store_rows(rows: &[Row], bytes: &mut [u8], n: usize)
-    requires { ⌜ (n ≤ length (now rows)) × (n * 6 ≤ length (now bytes)) ⌝ }
+    requires { ⌜ (n ≤ length (now rows)) × (n * rowBytes ≤ length (now bytes)) ⌝ }
     ensures { λ _. ⌜ now (bytes .exit) ≡ overwrite (bytesFor (rowEntries (take n (rowsOf (now (rows .entry)))))) (now (bytes .entry)) ⌝ }
 {
     let mut s = 0;
@@ -59,7 +59,7 @@ pub fn store_rows(rows: &[Row], bytes: &mut [u8], n: usize)
 
 // Stores a size record: n, m, t, start.
 pub fn store_size(size: Size, bytes: &mut [u8])
-    requires { ⌜ (8 ≤ length (now bytes)) × (size .n < 65536) × (size .m < 65536) × (size .t < 65536) × (size .start < 65536) ⌝ }
+    requires { ⌜ (sizeBytes ≤ length (now bytes)) × (size .n < 65536) × (size .m < 65536) × (size .t < 65536) × (size .start < 65536) ⌝ }
     ensures { λ _. ⌜ now (bytes .exit) ≡ overwrite (bytesFor (sizeEntries (numbers size))) (now (bytes .entry)) ⌝ }
 {
     store_entry(bytes, 0, narrow(size.n));

@@ -57,12 +57,13 @@ rowOf r = record { kind = r .kind; first = r .first; policy = r .practice }
 abbrev pub rowsOf : List Row → List ModelRow
 rowsOf rows = map rowOf rows
 
-abbrev pub rowWith : ℕ → ℕ → ℕ → Row
-rowWith kind first practice = record { kind = kind; first = first; practice = practice }
+-- the row of a state, with its first command, by what its state field says
+abbrev pub rowWith : ℕ → StateField → Row
+rowWith first q = record { kind = q .kind; first = first; practice = q .policy }
 
 -- what stands for a row past the table: a rest state's
 abbrev pub noRow : Row
-noRow = rowWith 2 0 FFFF
+noRow = rowWith 0 (record { kind = 2; count = 0; policy = FFFF })
 
 -- size record and lent slices as the model's tables
 abbrev pub held : Size → List Row → List ℕ → List ℕ → Tables
@@ -90,10 +91,6 @@ fieldIn q = record { kind = q .kind; count = q .end - q .first; policy = q .prac
 
 abbrev pub fieldWith : ℕ → ℕ → ℕ → StateField
 fieldWith kind count practice = record { kind = kind; count = count; policy = practice }
-
--- the row of a state, where m commands come before, by what its state field says
-abbrev pub rowSaid : ℕ → StateField → Row
-rowSaid m q = rowWith (q .kind) m (q .policy)
 
 -- a state's row is sound, m being the number of commands
 unfoldable pub spanSound : Span → ℕ → Bool

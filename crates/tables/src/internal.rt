@@ -11,13 +11,20 @@ ghost use Rattle.laws.specs.Starts.{startOf};
 ghost use Rattle.model.specs.File.{notIdle};
 ghost use Rattle.model.specs.Places.{firstOutcome};
 ghost use Rattle.tables.specs.declared.Row.{Row};
-ghost use Rattle.tables.specs.Meaning.{held, noRow, rowWith, fieldWith, spanOf, spanAt, failingSpan};
+ghost use Rattle.tables.specs.Meaning.{held, noRow, fieldWith, spanOf, spanAt, failingSpan};
 use crate::Refusal;
 use crate::Row;
 use crate::Size;
 
 // The entry for none, hexadecimal FFFF.
 pub const NONE: usize = 65535;
+
+// Where a plan is lent as bytes: how many there are in an entry, a row and a size record.
+pub const ENTRY_BYTES: usize = 2;
+
+pub const ROW_BYTES: usize = 6;
+
+pub const SIZE_BYTES: usize = 8;
 
 // Whether a call goes on, or what it is refused with.
 pub enum Admission {
@@ -89,15 +96,11 @@ pub fn row_at(rows: &[Row], s: usize) -> Row
 }
 
 // Stores the row of state s.
-pub fn put_row(rows: &mut [Row], s: usize, kind: u16, first: u16, practice: u16)
+pub fn put_row(rows: &mut [Row], s: usize, row: Row)
     requires { ⌜ s < length (now rows) ⌝ }
-    ensures { λ _. ⌜ now (rows .exit) ≡ set (now (rows .entry)) s (rowWith kind first practice) ⌝ }
+    ensures { λ _. ⌜ now (rows .exit) ≡ set (now (rows .entry)) s row ⌝ }
 {
-    rows[s] = Row {
-        kind,
-        first,
-        practice,
-    };
+    rows[s] = row;
 }
 
 // A state's kind and practice, and where its commands begin and end.

@@ -45,6 +45,15 @@ pub struct Row {
     pub practice: u16,
 }
 
+impl Row {
+    // What a table is made of before it is filled.
+    pub const BLANK: Row = Row {
+        kind: 0,
+        first: 0,
+        practice: 0,
+    };
+}
+
 // The words of the refusal tables. No call gives the last seven yet: they belong to requests of document 02.
 pub enum Refusal {
     Cut,

@@ -24,7 +24,7 @@ use Rattle.tables.specs.Meaning.{held, spanAt, commandsOf}
 use Rattle.tables.specs.Ready.{Ready}
 use Rattle.tables.proofs.LongTest.{rows-long}
 use Rattle.tables.proofs.Readiness.{sound-ready}
-use Rattle.writing.specs.SpanBytes.{commandsFrom, rowBytes, spanBytes, FitsBytes}
+use Rattle.writing.specs.SpanBytes.{commandsFrom, fieldBytes, spanBytes, FitsBytes}
 
 module _ (z : Size) (rows : List Row) (firsts outcomes : List ℕ) (s : ℕ) where
   abbrev T : Tables
@@ -75,9 +75,9 @@ module _ (z : Size) (firsts outcomes : List ℕ) (span : Span) (f : FitsBytes (z
 
   pub row-ready : (place size : ℕ) → place + length (spanBytes z firsts outcomes span) ≤ size
       → (place + 8 ≤ size) × (span .kind < 256) × (span .first ≤ span .end) × (span .end < 65536) × (span .practice < 65536)
-  row-ready place size room = (omega (arith, room, length-append (rowBytes span) commandBytes), f .0, f .1, omega (arith, f .2, f .3), f .4)
+  row-ready place size room = (omega (arith, room, length-append (fieldBytes span) commandBytes), f .0, f .1, omega (arith, f .2, f .3), f .4)
 
   pub commands-ready : {before after : List ℕ} {place next : ℕ} → Ready (commandsOf z firsts outcomes) → place + length (spanBytes z firsts outcomes span) ≤ length before
-      → Wrote before place (rowBytes span) after next
+      → Wrote before place (fieldBytes span) after next
       → Ready (commandsOf z firsts outcomes) × (span .end ≤ z .m) × (next + length commandBytes ≤ length after)
-  commands-ready l room w = (l, f .2, omega (arith, room, w .past, wrote-length w, length-append (rowBytes span) commandBytes))
+  commands-ready l room w = (l, f .2, omega (arith, room, w .past, wrote-length w, length-append (fieldBytes span) commandBytes))

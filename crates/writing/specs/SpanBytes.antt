@@ -13,12 +13,12 @@ unfoldable pub commandsFrom : Size → List ℕ → List ℕ → ℕ → ℕ →
 commandsFrom z firsts outcomes first end = tabulate (outcomesAt (commandsOf z firsts outcomes)) first (end - first)
 
 -- the state field of what was read of a state
-abbrev pub rowBytes : Span → List ℕ
-rowBytes q = stateBytes (fieldIn q) []
+abbrev pub fieldBytes : Span → List ℕ
+fieldBytes q = stateBytes (fieldIn q) []
 
 -- with the state's commands
 abbrev pub spanBytes : Size → List ℕ → List ℕ → Span → List ℕ
-spanBytes z firsts outcomes q = rowBytes q ++ commandsBytes (commandsFrom z firsts outcomes (q .first) (q .end)) []
+spanBytes z firsts outcomes q = fieldBytes q ++ commandsBytes (commandsFrom z firsts outcomes (q .first) (q .end)) []
 
 -- its commands are in order and end by m, and its numbers fit the bytes that hold them
 abbrev pub FitsBytes : ℕ → Span → Type 0

@@ -23,8 +23,9 @@ use borrow.Rule.Slice.Know
 use borrow.Rule.Slice.Mut
 use borrow.Rule.Slice.Relend
 use borrow.Rule.Slice.Shared
-use borrow.Struct.Reads
-use borrow.Table.Reads as Reads'
+use borrow.Rule.Yields
+use borrow.Table.Copies
+use borrow.Table.Reads
 use borrow.Table.Referent
 use borrow.Table.Row as Row'
 use borrow.Table.Rows
@@ -81,7 +82,7 @@ abbrev pub r·0 : Kinds.RK 1
 r·0 = Value.rVal record { ty = Declared.row Row.the-type; one = Path'.refl; val = Laws'.val Row.the-type Laws.the-laws; tells = Laws'.tells Row.the-type Laws.the-laws; still = Laws'.still Row.the-type Laws.the-copy Exit.yes; row = Rows.whole (Declared.row Row.the-type); rd = λ x. x; mk = λ x. x } λ M 𝓤 H A W. record { copies = Laws'.copy Row.the-type Laws.the-copy 𝓤 H A W; lawful = Laws'.lawful Row.the-type Laws.the-laws 𝓤 H A W; makes = Laws'.makes Row.the-type Laws.the-plain 𝓤 H A; in-mem = Local.mem-whole 𝓤 H A W (Declared.row Row.the-type); of-mem = Local.whole-mem 𝓤 H A W (Declared.row Row.the-type) }
 
 abbrev pub ps·1 : List.List (Kinds.PK 1)
-ps·1 = List._∷_ (MutSlice.pMutS Row.the-row 0 tt) (List._∷_ (Num.pNum Syntax.w64) (List._∷_ (Num.pNum Syntax.w16) (List._∷_ (Num.pNum Syntax.w16) (List._∷_ (Num.pNum Syntax.w16) List.[]))))
+ps·1 = List._∷_ (MutSlice.pMutS Row.the-row 0 tt) (List._∷_ (Num.pNum Syntax.w64) (List._∷_ (Value.pVal record { ty = Declared.row Row.the-type; one = Path'.refl; val = Laws'.val Row.the-type Laws.the-laws; tells = Laws'.tells Row.the-type Laws.the-laws; still = Laws'.still Row.the-type Laws.the-copy Exit.yes; row = Rows.whole (Declared.row Row.the-type); rd = λ x. x; mk = λ x. x } λ M 𝓤 H A W. record { copies = Laws'.copy Row.the-type Laws.the-copy 𝓤 H A W; lawful = Laws'.lawful Row.the-type Laws.the-laws 𝓤 H A W; makes = Laws'.makes Row.the-type Laws.the-plain 𝓤 H A; in-mem = Local.mem-whole 𝓤 H A W (Declared.row Row.the-type); of-mem = Local.whole-mem 𝓤 H A W (Declared.row Row.the-type) }) List.[]))
 
 abbrev pub r·1 : Kinds.RK 1
 r·1 = Unit'.rUnit
@@ -114,7 +115,7 @@ abbrev b7 : Syntax.Body
 b7 = Syntax.assign (Syntax.place 9 List.[]) (Syntax.aggregate (List._∷_ (Syntax.copy (Syntax.place 8 List.[])) (List._∷_ (Syntax.copy (Syntax.place 2 (List._∷_ (Syntax.field 1) List.[]))) List.[])))
 
 abbrev b8 : Syntax.Body
-b8 = Syntax.call "tables::internal::put_row" (List._∷_ (Syntax.copy (Syntax.place 9 List.[])) (List._∷_ (Syntax.copy (Syntax.place 4 List.[])) (List._∷_ (Syntax.copy (Syntax.place 5 (List._∷_ (Syntax.field 0) List.[]))) (List._∷_ (Syntax.copy (Syntax.place 5 (List._∷_ (Syntax.field 1) List.[]))) (List._∷_ (Syntax.copy (Syntax.place 5 (List._∷_ (Syntax.field 2) List.[]))) List.[]))))) (Syntax.place 7 List.[])
+b8 = Syntax.call "tables::internal::put_row" (List._∷_ (Syntax.copy (Syntax.place 9 List.[])) (List._∷_ (Syntax.copy (Syntax.place 4 List.[])) (List._∷_ (Syntax.copy (Syntax.place 5 List.[])) List.[]))) (Syntax.place 7 List.[])
 
 abbrev b9 : Syntax.Body
 b9 = Syntax.assign (Syntax.place 4 List.[]) (Syntax.op2 (Syntax.add Syntax.unsigned) (Syntax.copy (Syntax.place 4 List.[])) (Syntax.int Syntax.w64 1))
@@ -307,7 +308,7 @@ module _ (claims· : Claims) where
   s8 = Relend.k-sl-aggregate Row.the-row (Relend.asMut Row.the-row) T11 8 9 2 ty·1 ty·1 (λ x. x) (Scalar.oFld 2 (List._∷_ (Syntax.field 1) List.[]) (Syntax.tyInt Syntax.w64) 8 λ v. Shared.lenV (v .0))
 
   abbrev s9 : Typed.Both T12 T13
-  s9 = Call.callB ps·1 r·1 (claims· .2) (claims· .3) T12 (record { pos = 9; ty = Syntax.tyRef Syntax.erased Syntax.mut (Memory.pointee (Row.the-row .written)); ref = λ x. x }, (Num.vAt 4 λ x. x, (Num.vFld 5 (List._∷_ (Syntax.field 0) List.[]) 0 λ x. Row.struct .as-values x .0, (Num.vFld 5 (List._∷_ (Syntax.field 1) List.[]) 2 λ x. Row.struct .as-values x .1 .0, (Num.vFld 5 (List._∷_ (Syntax.field 2) List.[]) 4 λ x. Row.struct .as-values x .1 .1 .0, tt))))) 7 (List._∷_ 2 List.[]) Syntax.tyUnit
+  s9 = Call.callB ps·1 r·1 (claims· .2) (claims· .3) T12 (record { pos = 9; ty = Syntax.tyRef Syntax.erased Syntax.mut (Memory.pointee (Row.the-row .written)); ref = λ x. x }, (Num.vAt 4 λ x. x, (record { pos = 5; st = List.[]; d = 0; at = λ x. x }, tt))) 7 (List._∷_ 2 List.[]) Syntax.tyUnit
 
   abbrev s10 : Typed.Mo T13 → Typed.Mo T14
   s10 = Scalar.n-room T13 5 ty·4
@@ -553,7 +554,7 @@ module _ (claims· : Claims) where
           d6 = Typed.g-pre 𝓤 H A W 𝓣 E G17 G18 b9 Δ3 (λ Ψ. Ψ) at5 (Lifetime.g-forget 𝓤 H A W E G17 2 Row'.dead Path'.refl) d5
 
           d7 : Typed.Typed 𝓤 H A 𝓣 E G16 b9 Δ3 at7
-          d7 = Typed.g-pre 𝓤 H A W 𝓣 E G16 G17 b9 Δ3 (Typed.both s13) at6 (Relend.g-back-sl 𝓤 H A W E Row.the-row G16 9 2 1 2 ty·2 ty·1 (Row'.lease (κs .1 .0) (qs .1 .0)) (λ x. x) (λ x. x) (Reads'.as-is 𝓤 H A (Mut.msleft Row.the-row ty·1)) (Reads'.as-is 𝓤 H A (Relend.mslice-owed Row.the-row ty·2 1 2 (Row'.lease (κs .1 .0) (qs .1 .0)))) Path'.refl Path'.refl) d6
+          d7 = Typed.g-pre 𝓤 H A W 𝓣 E G16 G17 b9 Δ3 (Typed.both s13) at6 (Relend.g-back-sl 𝓤 H A W E Row.the-row G16 9 2 1 2 ty·2 ty·1 (Row'.lease (κs .1 .0) (qs .1 .0)) (λ x. x) (λ x. x) (Reads.as-is 𝓤 H A (Mut.msleft Row.the-row ty·1)) (Reads.as-is 𝓤 H A (Relend.mslice-owed Row.the-row ty·2 1 2 (Row'.lease (κs .1 .0) (qs .1 .0)))) Path'.refl Path'.refl) d6
 
           d8 : Typed.Typed 𝓤 H A 𝓣 E G15 b9 Δ3 at8
           d8 = Typed.g-pre 𝓤 H A W 𝓣 E G15 G16 b9 Δ3 (λ Ψ. Ψ) at7 (Lifetime.g-end 𝓤 H A W E G15 2 Path'.refl) d7
@@ -565,25 +566,25 @@ module _ (claims· : Claims) where
           d10 = Typed.g-pre 𝓤 H A W 𝓣 E G13 G14 b9 Δ3 (Typed.pass T13 T14 s10) at9 (Scalar.g-room 𝓤 H A W E G13 5 ty·4 (Local.room-whole 𝓤 H A W (Declared.row Row.the-type) ty·4 Path'.refl)) d9
 
           d11 : Typed.Typed 𝓤 H A 𝓣 E G12 b10 Δ3 at11
-          d11 = Typed.s-seq 𝓤 H A W 𝓣 E G12 G13 b8 b9 Δ3 (Typed.both s9) at10 (Plain.t-call-plain 𝓤 H A W 𝓣 1 ps·1 r·1 (claims· .2) (claims· .3) "tables::internal::put_row" (known .1) E (λ pos β. β) G12 (record { pos = 9; ty = Syntax.tyRef Syntax.erased Syntax.mut (Memory.pointee (Row.the-row .written)); ref = λ x. x }, (Num.vAt 4 λ x. x, (Num.vFld 5 (List._∷_ (Syntax.field 0) List.[]) 0 λ x. Row.struct .as-values x .0, (Num.vFld 5 (List._∷_ (Syntax.field 1) List.[]) 2 λ x. Row.struct .as-values x .1 .0, (Num.vFld 5 (List._∷_ (Syntax.field 2) List.[]) 4 λ x. Row.struct .as-values x .1 .1 .0, tt))))) 7 (List._∷_ 2 List.[]) (Call.sub-id 𝓤 H A W (G12 .slots)) (Reads'.as-is 𝓤 H A (Mut.mslice Row.the-row ty·1 2), Mut.reads-mslice 𝓤 H A W Row.the-row ty·1 2, Path'.refl, ((Scalar.reads-sc 𝓤 H A W (Row'.sInt Syntax.w64), Path'.refl), ((Reads.reads-field 𝓤 H A W Row.the-type Laws.the-laws 0 (Syntax.tyInt Syntax.w16) 0 Path'.refl, Path'.refl), ((Reads.reads-field 𝓤 H A W Row.the-type Laws.the-laws 1 (Syntax.tyInt Syntax.w16) 2 Path'.refl, Path'.refl), ((Reads.reads-field 𝓤 H A W Row.the-type Laws.the-laws 2 (Syntax.tyInt Syntax.w16) 4 Path'.refl, Path'.refl), tt))))) (Reads'.room-gone 𝓤 H A Syntax.tyUnit) (tt, tt) Path'.refl) d10
+          d11 = Typed.s-seq 𝓤 H A W 𝓣 E G12 G13 b8 b9 Δ3 (Typed.both s9) at10 (Plain.t-call-plain 𝓤 H A W 𝓣 1 ps·1 r·1 (claims· .2) (claims· .3) "tables::internal::put_row" (known .1) E (λ pos β. β) G12 (record { pos = 9; ty = Syntax.tyRef Syntax.erased Syntax.mut (Memory.pointee (Row.the-row .written)); ref = λ x. x }, (Num.vAt 4 λ x. x, (record { pos = 5; st = List.[]; d = 0; at = λ x. x }, tt))) 7 (List._∷_ 2 List.[]) (Call.sub-id 𝓤 H A W (G12 .slots)) (Reads.as-is 𝓤 H A (Mut.mslice Row.the-row ty·1 2), Mut.reads-mslice 𝓤 H A W Row.the-row ty·1 2, Path'.refl, ((Scalar.reads-sc 𝓤 H A W (Row'.sInt Syntax.w64), Path'.refl), ((Yields.yields-copy 𝓤 H A W (λ ρ. Unit) (Declared.row Row.the-type) Path'.refl (Copies.cStruct Row.the-type Laws.the-laws Laws.the-copy .copy 𝓤 H A W) (Rows.whole (Declared.row Row.the-type)) (λ x. x) (λ x. x) (λ ρ told. Local.mem-whole 𝓤 H A W (Declared.row Row.the-type) ρ) λ ρ told. Local.whole-mem 𝓤 H A W (Declared.row Row.the-type) ρ, Path'.refl), tt))) (Reads.room-gone 𝓤 H A Syntax.tyUnit) (tt, tt) Path'.refl) d10
 
           d12 : Typed.Typed 𝓤 H A 𝓣 E G11 b11 Δ3 at12
-          d12 = Typed.s-seq 𝓤 H A W 𝓣 E G11 G12 b7 b10 Δ3 (Typed.ask s8) at11 (Relend.t-sl-aggregate 𝓤 H A W E Row.the-row 𝓣 (Relend.asMut Row.the-row) G11 8 9 2 ty·1 ty·1 (λ x. x) (Scalar.oFld 2 (List._∷_ (Syntax.field 1) List.[]) (Syntax.tyInt Syntax.w64) 8 λ v. Shared.lenV (v .0)) (Reads'.as-is 𝓤 H A (Relend.msptr Row.the-row ty·1 2)) (Reads'.room-gone 𝓤 H A ty·3) (Relend.reads-owed-len 𝓤 H A W Row.the-row ty·2 1 2 (Row'.lease (κs .1 .0) (qs .1 .0)) 8 Path'.refl, Path'.refl) Path'.refl Path'.refl λ b o k. tt) d11
+          d12 = Typed.s-seq 𝓤 H A W 𝓣 E G11 G12 b7 b10 Δ3 (Typed.ask s8) at11 (Relend.t-sl-aggregate 𝓤 H A W E Row.the-row 𝓣 (Relend.asMut Row.the-row) G11 8 9 2 ty·1 ty·1 (λ x. x) (Scalar.oFld 2 (List._∷_ (Syntax.field 1) List.[]) (Syntax.tyInt Syntax.w64) 8 λ v. Shared.lenV (v .0)) (Reads.as-is 𝓤 H A (Relend.msptr Row.the-row ty·1 2)) (Reads.room-gone 𝓤 H A ty·3) (Relend.reads-owed-len 𝓤 H A W Row.the-row ty·2 1 2 (Row'.lease (κs .1 .0) (qs .1 .0)) 8 Path'.refl, Path'.refl) Path'.refl Path'.refl λ b o k. tt) d11
 
           d13 : Typed.Typed 𝓤 H A 𝓣 E G10 b12 Δ3 at13
-          d13 = Typed.s-seq 𝓤 H A W 𝓣 E G10 G11 b6 b11 Δ3 (Typed.give s7) at12 (Relend.t-sl-relend 𝓤 H A W E Row.the-row 𝓣 G10 2 8 1 2 ty·2 ty·1 (Row'.lease (κs .1 .0) (qs .1 .0)) 0 (λ x. x) (Reads'.as-is 𝓤 H A (Mut.mslice Row.the-row ty·2 1)) (Reads'.room-gone 𝓤 H A ty·1) Path'.refl tt Path'.refl Path'.refl Path'.refl λ b o. tt) d12
+          d13 = Typed.s-seq 𝓤 H A W 𝓣 E G10 G11 b6 b11 Δ3 (Typed.give s7) at12 (Relend.t-sl-relend 𝓤 H A W E Row.the-row 𝓣 G10 2 8 1 2 ty·2 ty·1 (Row'.lease (κs .1 .0) (qs .1 .0)) 0 (λ x. x) (Reads.as-is 𝓤 H A (Mut.mslice Row.the-row ty·2 1)) (Reads.room-gone 𝓤 H A ty·1) Path'.refl tt Path'.refl Path'.refl Path'.refl λ b o. tt) d12
 
           d14 : Typed.Typed 𝓤 H A 𝓣 E G9 b12 Δ3 at14
           d14 = Typed.g-pre 𝓤 H A W 𝓣 E G9 G10 b12 Δ3 (λ Ψ. Ψ) at13 (Lifetime.g-begin 𝓤 H A W E G9 2 (tt, (tt, (tt, (tt, (tt, (tt, (tt, (tt, (tt, (tt, tt))))))))))) d13
 
           d15 : Typed.Typed 𝓤 H A 𝓣 E G6 b13 Δ3 at15
-          d15 = Typed.s-seq 𝓤 H A W 𝓣 E G6 G9 b5 b12 Δ3 (Typed.both s5) at14 (Plain.t-call-plain 𝓤 H A W 𝓣 1 ps·0 r·0 (claims· .0) (claims· .1) "load::internal::row_in" (known .0) E (λ pos β. β) G6 (record { pos = 1; ty = Syntax.tyRef (Syntax.named 0) Syntax.imm (Syntax.tyInt Syntax.w8); ref = λ x. x }, (Num.vAt 4 λ x. x, tt)) 5 (List._∷_ 0 List.[]) (Call.sub-id 𝓤 H A W (G6 .slots)) (ShrSlice.spares-sslice 𝓤 H A W (Referent.rtF (Referent.fInt Syntax.w8)) ty·0 0, Shared.reads-sslice 𝓤 H A W (Referent.rtF (Referent.fInt Syntax.w8)) ty·0 0, Path'.refl, ((Scalar.reads-sc 𝓤 H A W (Row'.sInt Syntax.w64), Path'.refl), tt)) (Reads'.room-gone 𝓤 H A ty·4) (tt, tt) Path'.refl) d14
+          d15 = Typed.s-seq 𝓤 H A W 𝓣 E G6 G9 b5 b12 Δ3 (Typed.both s5) at14 (Plain.t-call-plain 𝓤 H A W 𝓣 1 ps·0 r·0 (claims· .0) (claims· .1) "load::internal::row_in" (known .0) E (λ pos β. β) G6 (record { pos = 1; ty = Syntax.tyRef (Syntax.named 0) Syntax.imm (Syntax.tyInt Syntax.w8); ref = λ x. x }, (Num.vAt 4 λ x. x, tt)) 5 (List._∷_ 0 List.[]) (Call.sub-id 𝓤 H A W (G6 .slots)) (ShrSlice.spares-sslice 𝓤 H A W (Referent.rtF (Referent.fInt Syntax.w8)) ty·0 0, Shared.reads-sslice 𝓤 H A W (Referent.rtF (Referent.fInt Syntax.w8)) ty·0 0, Path'.refl, ((Scalar.reads-sc 𝓤 H A W (Row'.sInt Syntax.w64), Path'.refl), tt)) (Reads.room-gone 𝓤 H A ty·4) (tt, tt) Path'.refl) d14
 
           d16 : Typed.Typed 𝓤 H A 𝓣 E G5 b14 Δ3 at16
           d16 = Typed.t-seq 𝓤 H A W 𝓣 E G5 G6 b4 b13 Δ3 at4 at15 d4 d15
 
           d17 : Typed.Typed 𝓤 H A 𝓣 E G3 b15 Δ3 at17
-          d17 = Typed.s-seq 𝓤 H A W 𝓣 E G3 G5 b1 b14 Δ3 (Typed.ask s2) at16 (Scalar.t-op2 𝓤 H A W E 𝓣 G3 (Syntax.lt Syntax.unsigned) (Scalar.oAt 4 (Syntax.tyInt Syntax.w64) (Row'.valS (Row'.sInt Syntax.w64))) (Scalar.oAt 3 (Syntax.tyInt Syntax.w64) (Row'.valS (Row'.sInt Syntax.w64))) 6 (Rows.sc-here Row'.sBool) Syntax.tyBool (Row'.valS Row'.sBool) (Row'.sBool .of) (Scalar.reads-sc 𝓤 H A W (Row'.sInt Syntax.w64), Path'.refl) (Scalar.reads-sc 𝓤 H A W (Row'.sInt Syntax.w64), Path'.refl) (Reads'.room-gone 𝓤 H A Syntax.tyBool) (Scalar.holds-sc 𝓤 H A W Row'.sBool) Path'.refl (λ u. Path'.refl) λ u. tt) d16
+          d17 = Typed.s-seq 𝓤 H A W 𝓣 E G3 G5 b1 b14 Δ3 (Typed.ask s2) at16 (Scalar.t-op2 𝓤 H A W E 𝓣 G3 (Syntax.lt Syntax.unsigned) (Scalar.oAt 4 (Syntax.tyInt Syntax.w64) (Row'.valS (Row'.sInt Syntax.w64))) (Scalar.oAt 3 (Syntax.tyInt Syntax.w64) (Row'.valS (Row'.sInt Syntax.w64))) 6 (Rows.sc-here Row'.sBool) Syntax.tyBool (Row'.valS Row'.sBool) (Row'.sBool .of) (Scalar.reads-sc 𝓤 H A W (Row'.sInt Syntax.w64), Path'.refl) (Scalar.reads-sc 𝓤 H A W (Row'.sInt Syntax.w64), Path'.refl) (Reads.room-gone 𝓤 H A Syntax.tyBool) (Scalar.holds-sc 𝓤 H A W Row'.sBool) Path'.refl (λ u. Path'.refl) λ u. tt) d16
 
           d18 : Typed.Typed 𝓤 H A 𝓣 E G3 b16 Δ2 at18
           d18 = Typed.t-loop-by 𝓤 H A W 𝓣 E G3 b15 Δ2 put0 (λ u vs. Inv·0 (Row'.get 1 (T3 .locals) u .now) (Row'.get 2 (T3 .locals) u .now) (Row'.get 3 (T3 .locals) u) (Row'.get 4 (T3 .locals) u) (vs .0) (vs .1)) (λ u vs. μ·0 (Row'.get 1 (T3 .locals) u .now) (Row'.get 2 (T3 .locals) u .now) (Row'.get 3 (T3 .locals) u) (Row'.get 4 (T3 .locals) u) (vs .0) (vs .1)) at17 d17
@@ -601,16 +602,16 @@ module _ (claims· : Claims) where
           d22 = Typed.g-pre 𝓤 H A W 𝓣 E G20 G21 b19 Δ0 (Typed.pass T20 T21 s17) at21 (Scalar.g-room 𝓤 H A W E G20 4 (Syntax.tyInt Syntax.w64) (Scalar.room-sc 𝓤 H A W (Row'.sInt Syntax.w64))) d21
 
           d23 : Typed.Typed 𝓤 H A 𝓣 E G4 b20 Δ0 at23
-          d23 = Typed.s-seq 𝓤 H A W 𝓣 E G4 G20 b18 b19 Δ0 (Typed.pass T4 T20 s16) at22 (Scalar.t-use 𝓤 H A W E 𝓣 G4 Scalar.oUnit 0 (Rows.sc-here Row'.sUnit) Syntax.tyUnit (Row'.valS Row'.sUnit) (Row'.sUnit .of) tt (Reads'.room-gone 𝓤 H A Syntax.tyUnit) (Scalar.holds-sc 𝓤 H A W Row'.sUnit) Path'.refl (λ u. Path'.refl) λ u. tt) d22
+          d23 = Typed.s-seq 𝓤 H A W 𝓣 E G4 G20 b18 b19 Δ0 (Typed.pass T4 T20 s16) at22 (Scalar.t-use 𝓤 H A W E 𝓣 G4 Scalar.oUnit 0 (Rows.sc-here Row'.sUnit) Syntax.tyUnit (Row'.valS Row'.sUnit) (Row'.sUnit .of) tt (Reads.room-gone 𝓤 H A Syntax.tyUnit) (Scalar.holds-sc 𝓤 H A W Row'.sUnit) Path'.refl (λ u. Path'.refl) λ u. tt) d22
 
           d24 : Typed.Typed 𝓤 H A 𝓣 E G3 b21 Δ0 at24
           d24 = Typed.t-seq 𝓤 H A W 𝓣 E G3 G4 b17 b20 Δ0 at19 at23 d19 d23
 
           d25 : Typed.Typed 𝓤 H A 𝓣 E G2 b22 Δ0 at25
-          d25 = Typed.s-seq 𝓤 H A W 𝓣 E G2 G3 b0 b21 Δ0 (Typed.pass T2 T3 s1) at24 (Scalar.t-use 𝓤 H A W E 𝓣 G2 (Scalar.oInt Syntax.w64 0) 4 (Rows.sc-here (Row'.sInt Syntax.w64)) (Syntax.tyInt Syntax.w64) (Row'.valS (Row'.sInt Syntax.w64)) (Row'.sInt Syntax.w64 .of) tt (Reads'.room-gone 𝓤 H A (Syntax.tyInt Syntax.w64)) (Scalar.holds-sc 𝓤 H A W (Row'.sInt Syntax.w64)) Path'.refl (λ u. Path'.refl) λ u. tt) d24
+          d25 = Typed.s-seq 𝓤 H A W 𝓣 E G2 G3 b0 b21 Δ0 (Typed.pass T2 T3 s1) at24 (Scalar.t-use 𝓤 H A W E 𝓣 G2 (Scalar.oInt Syntax.w64 0) 4 (Rows.sc-here (Row'.sInt Syntax.w64)) (Syntax.tyInt Syntax.w64) (Row'.valS (Row'.sInt Syntax.w64)) (Row'.sInt Syntax.w64 .of) tt (Reads.room-gone 𝓤 H A (Syntax.tyInt Syntax.w64)) (Scalar.holds-sc 𝓤 H A W (Row'.sInt Syntax.w64)) Path'.refl (λ u. Path'.refl) λ u. tt) d24
 
           d26 : Typed.Typed 𝓤 H A 𝓣 E G0 b22 Δ0 at26
-          d26 = Typed.g-pre 𝓤 H A W 𝓣 E G0 G2 b22 Δ0 (Typed.give s0) at25 (Know.g-shs-known 𝓤 H A W (Referent.fInt Syntax.w8) E G0 1 0 ty·0 (Row'.lease (κs .0) (qs .0)) 0 (λ x. x) record { fits = Dec'.lit< tt } (Reads'.as-is 𝓤 H A (Rows.sslice (Referent.rtF (Referent.fInt Syntax.w8)) ty·0 0)) Path'.refl tt) d25
+          d26 = Typed.g-pre 𝓤 H A W 𝓣 E G0 G2 b22 Δ0 (Typed.give s0) at25 (Know.g-shs-known 𝓤 H A W (Referent.fInt Syntax.w8) E G0 1 0 ty·0 (Row'.lease (κs .0) (qs .0)) 0 (λ x. x) record { fits = Dec'.lit< tt } (Reads.as-is 𝓤 H A (Rows.sslice (Referent.rtF (Referent.fInt Syntax.w8)) ty·0 0)) Path'.refl tt) d25
 
           pub typed : Typed.Typed 𝓤 H A 𝓣 E (Function.Γin 2 ps r xs m κs qs) b22 (Function.Δret 2 ps r xs m κs qs) Φ
           typed = d26
@@ -747,14 +748,14 @@ module _ (claims· : Claims) where
 
       module _ (before· : After-put-row-arg) where
         abbrev pub After-put-row·own : Type 0
-        After-put-row·own = Called.Called ps·1 r·1 (claims· .3) T12 (record { pos = 9; ty = Syntax.tyRef Syntax.erased Syntax.mut (Memory.pointee (Row.the-row .written)); ref = λ x. x }, (Num.vAt 4 λ x. x, (Num.vFld 5 (List._∷_ (Syntax.field 0) List.[]) 0 λ x. Row.struct .as-values x .0, (Num.vFld 5 (List._∷_ (Syntax.field 1) List.[]) 2 λ x. Row.struct .as-values x .1 .0, (Num.vFld 5 (List._∷_ (Syntax.field 2) List.[]) 4 λ x. Row.struct .as-values x .1 .1 .0, tt))))) (m9 (before· .before) (before· .put-row-arg .given))
+        After-put-row·own = Called.Called ps·1 r·1 (claims· .3) T12 (record { pos = 9; ty = Syntax.tyRef Syntax.erased Syntax.mut (Memory.pointee (Row.the-row .written)); ref = λ x. x }, (Num.vAt 4 λ x. x, (record { pos = 5; st = List.[]; d = 0; at = λ x. x }, tt))) (m9 (before· .before) (before· .put-row-arg .given))
 
       pub record After-put-row : Type 0 where
         pub before : After-put-row-arg
         pub put-row : After-put-row·own before
 
       abbrev pub After-put-row·gave : (c : After-put-row) → s9 .gives (m9 (c .before .before) (c .before .put-row-arg .given))
-      After-put-row·gave = λ c. Called.given ps·1 r·1 (claims· .3) T12 (record { pos = 9; ty = Syntax.tyRef Syntax.erased Syntax.mut (Memory.pointee (Row.the-row .written)); ref = λ x. x }, (Num.vAt 4 λ x. x, (Num.vFld 5 (List._∷_ (Syntax.field 0) List.[]) 0 λ x. Row.struct .as-values x .0, (Num.vFld 5 (List._∷_ (Syntax.field 1) List.[]) 2 λ x. Row.struct .as-values x .1 .0, (Num.vFld 5 (List._∷_ (Syntax.field 2) List.[]) 4 λ x. Row.struct .as-values x .1 .1 .0, tt))))) (m9 (c .before .before) (c .before .put-row-arg .given)) (c .put-row)
+      After-put-row·gave = λ c. Called.given ps·1 r·1 (claims· .3) T12 (record { pos = 9; ty = Syntax.tyRef Syntax.erased Syntax.mut (Memory.pointee (Row.the-row .written)); ref = λ x. x }, (Num.vAt 4 λ x. x, (record { pos = 5; st = List.[]; d = 0; at = λ x. x }, tt))) (m9 (c .before .before) (c .before .put-row-arg .given)) (c .put-row)
 
       abbrev pub m11 : (before : After-put-row-arg) → (given : s9 .gives (m9 (before .before) (before .put-row-arg .given))) → Typed.Mo T14
       m11 = λ before given. s10 (m10 before given)
@@ -808,7 +809,7 @@ module _ (claims· : Claims) where
         lay5 = λ c. (Path'.refl, λ g. (add-s record { before = record { before = c .before; put-row = c .put-row }; rows = record { given = g } }, (μ·0 (Row'.get 1 (T3 .locals) (m2 (c .before .before .before .before .before .before) (c .before .before .before .before .before .shared-slice-known .given)) .now) (Row'.get 2 (T3 .locals) (m2 (c .before .before .before .before .before .before) (c .before .before .before .before .before .shared-slice-known .given)) .now) (Row'.get 3 (T3 .locals) (m2 (c .before .before .before .before .before .before) (c .before .before .before .before .before .shared-slice-known .given))) (Row'.get 4 (T3 .locals) (m2 (c .before .before .before .before .before .before) (c .before .before .before .before .before .shared-slice-known .given))) (Row'.get 2 (T3 .locals) (m14 record { before = c .before; put-row = c .put-row } g) .now) (Row'.get 4 (T3 .locals) (m14 record { before = c .before; put-row = c .put-row } g)), loop-less record { before = record { before = c .before; put-row = c .put-row }; rows = record { given = g } }, ((Row'.get 2 (T3 .locals) (m14 record { before = c .before; put-row = c .put-row } g) .now, Row'.get 4 (T3 .locals) (m14 record { before = c .before; put-row = c .put-row } g)), Path'.refl {a = m14 record { before = c .before; put-row = c .put-row } g}, loop-again record { before = record { before = c .before; put-row = c .put-row }; rows = record { given = g } }, Path'.refl {a = μ·0 (Row'.get 1 (T3 .locals) (m2 (c .before .before .before .before .before .before) (c .before .before .before .before .before .shared-slice-known .given)) .now) (Row'.get 2 (T3 .locals) (m2 (c .before .before .before .before .before .before) (c .before .before .before .before .before .shared-slice-known .given)) .now) (Row'.get 3 (T3 .locals) (m2 (c .before .before .before .before .before .before) (c .before .before .before .before .before .shared-slice-known .given))) (Row'.get 4 (T3 .locals) (m2 (c .before .before .before .before .before .before) (c .before .before .before .before .before .shared-slice-known .given))) (Row'.get 2 (T3 .locals) (m14 record { before = c .before; put-row = c .put-row } g) .now) (Row'.get 4 (T3 .locals) (m14 record { before = c .before; put-row = c .put-row } g))}))))
 
         lay4 : (c : After-row-in) → at14 (W3 (c .before .before .before) (c .before .before .loop .rows) (c .before .before .loop .s)) (m7 (c .before) (After-row-in·gave c))
-        lay4 = λ c. λ g. (Path'.refl, (put-row-requires record { before = record { before = c .before; row-in = c .row-in }; put-row-arg = record { given = g } }, λ g'. lay5 record { before = record { before = record { before = c .before; row-in = c .row-in }; put-row-arg = record { given = g } }; put-row = Called.called ps·1 r·1 (claims· .3) T12 (record { pos = 9; ty = Syntax.tyRef Syntax.erased Syntax.mut (Memory.pointee (Row.the-row .written)); ref = λ x. x }, (Num.vAt 4 λ x. x, (Num.vFld 5 (List._∷_ (Syntax.field 0) List.[]) 0 λ x. Row.struct .as-values x .0, (Num.vFld 5 (List._∷_ (Syntax.field 1) List.[]) 2 λ x. Row.struct .as-values x .1 .0, (Num.vFld 5 (List._∷_ (Syntax.field 2) List.[]) 4 λ x. Row.struct .as-values x .1 .1 .0, tt))))) (m9 record { before = c .before; row-in = c .row-in } g) g' }))
+        lay4 = λ c. λ g. (Path'.refl, (put-row-requires record { before = record { before = c .before; row-in = c .row-in }; put-row-arg = record { given = g } }, λ g'. lay5 record { before = record { before = record { before = c .before; row-in = c .row-in }; put-row-arg = record { given = g } }; put-row = Called.called ps·1 r·1 (claims· .3) T12 (record { pos = 9; ty = Syntax.tyRef Syntax.erased Syntax.mut (Memory.pointee (Row.the-row .written)); ref = λ x. x }, (Num.vAt 4 λ x. x, (record { pos = 5; st = List.[]; d = 0; at = λ x. x }, tt))) (m9 record { before = c .before; row-in = c .row-in } g) g' }))
 
         lay3 : (c : In-loop) → at15 (W3 (c .before .before) (c .before .loop .rows) (c .before .loop .s)) (m5 (c .before))
         lay3 = λ c. (row-in-requires record { before = c .before; loop-test = c .loop-test }, λ g. lay4 record { before = record { before = c .before; loop-test = c .loop-test }; row-in = Called.called ps·0 r·0 (claims· .1) T6 (record { pos = 1; ty = Syntax.tyRef (Syntax.named 0) Syntax.imm (Syntax.tyInt Syntax.w8); ref = λ x. x }, (Num.vAt 4 λ x. x, tt)) (m5 (c .before)) g })

@@ -29,10 +29,9 @@ use borrow.Rule.Slice.Shared
 use borrow.Rule.Yields
 use borrow.Struct.Apart
 use borrow.Struct.Make
-use borrow.Struct.Reads
 use borrow.Table.Copies
 use borrow.Table.Own
-use borrow.Table.Reads as Reads'
+use borrow.Table.Reads
 use borrow.Table.Referent
 use borrow.Table.Row as Row'
 use borrow.Table.Rows
@@ -104,7 +103,7 @@ abbrev pub r·0 : Kinds.RK 1
 r·0 = Value.rVal record { ty = Declared.row Row.the-type; one = Path'.refl; val = Laws''.val Row.the-type Laws'.the-laws; tells = Laws''.tells Row.the-type Laws'.the-laws; still = Laws''.still Row.the-type Laws'.the-copy Exit.yes; row = Rows.whole (Declared.row Row.the-type); rd = λ x. x; mk = λ x. x } λ M 𝓤 H A W. record { copies = Laws''.copy Row.the-type Laws'.the-copy 𝓤 H A W; lawful = Laws''.lawful Row.the-type Laws'.the-laws 𝓤 H A W; makes = Laws''.makes Row.the-type Laws'.the-plain 𝓤 H A; in-mem = Local.mem-whole 𝓤 H A W (Declared.row Row.the-type); of-mem = Local.whole-mem 𝓤 H A W (Declared.row Row.the-type) }
 
 abbrev pub ps·1 : List.List (Kinds.PK 1)
-ps·1 = List._∷_ (MutSlice.pMutS Row.the-row 0 tt) (List._∷_ (Num.pNum Syntax.w64) (List._∷_ (Num.pNum Syntax.w16) (List._∷_ (Num.pNum Syntax.w16) (List._∷_ (Num.pNum Syntax.w16) List.[]))))
+ps·1 = List._∷_ (MutSlice.pMutS Row.the-row 0 tt) (List._∷_ (Num.pNum Syntax.w64) (List._∷_ (Value.pVal record { ty = Declared.row Row.the-type; one = Path'.refl; val = Laws''.val Row.the-type Laws'.the-laws; tells = Laws''.tells Row.the-type Laws'.the-laws; still = Laws''.still Row.the-type Laws'.the-copy Exit.yes; row = Rows.whole (Declared.row Row.the-type); rd = λ x. x; mk = λ x. x } λ M 𝓤 H A W. record { copies = Laws''.copy Row.the-type Laws'.the-copy 𝓤 H A W; lawful = Laws''.lawful Row.the-type Laws'.the-laws 𝓤 H A W; makes = Laws''.makes Row.the-type Laws'.the-plain 𝓤 H A; in-mem = Local.mem-whole 𝓤 H A W (Declared.row Row.the-type); of-mem = Local.whole-mem 𝓤 H A W (Declared.row Row.the-type) }) List.[]))
 
 abbrev pub r·1 : Kinds.RK 1
 r·1 = Unit'.rUnit
@@ -146,7 +145,7 @@ abbrev b8 : Syntax.Body
 b8 = Syntax.assign (Syntax.place 12 List.[]) (Syntax.aggregate (List._∷_ (Syntax.copy (Syntax.place 11 List.[])) (List._∷_ (Syntax.copy (Syntax.place 3 (List._∷_ (Syntax.field 1) List.[]))) List.[])))
 
 abbrev b9 : Syntax.Body
-b9 = Syntax.call "tables::internal::put_row" (List._∷_ (Syntax.copy (Syntax.place 12 List.[])) (List._∷_ (Syntax.copy (Syntax.place 7 List.[])) (List._∷_ (Syntax.copy (Syntax.place 8 (List._∷_ (Syntax.field 0) List.[]))) (List._∷_ (Syntax.copy (Syntax.place 8 (List._∷_ (Syntax.field 1) List.[]))) (List._∷_ (Syntax.copy (Syntax.place 8 (List._∷_ (Syntax.field 2) List.[]))) List.[]))))) (Syntax.place 10 List.[])
+b9 = Syntax.call "tables::internal::put_row" (List._∷_ (Syntax.copy (Syntax.place 12 List.[])) (List._∷_ (Syntax.copy (Syntax.place 7 List.[])) (List._∷_ (Syntax.copy (Syntax.place 8 List.[])) List.[]))) (Syntax.place 10 List.[])
 
 abbrev b10 : Syntax.Body
 b10 = Syntax.assign (Syntax.place 13 List.[]) (Syntax.addrOf (Syntax.place 4 (List._∷_ (Syntax.field 0) (List._∷_ (Syntax.deref (Syntax.tyInt Syntax.w16)) List.[]))))
@@ -468,7 +467,7 @@ module _ (claims· : Claims) where
   s13 = Relend.k-sl-aggregate Row.the-row (Relend.asMut Row.the-row) T16 11 12 4 ty·4 ty·4 (λ x. x) (Scalar.oFld 3 (List._∷_ (Syntax.field 1) List.[]) (Syntax.tyInt Syntax.w64) 8 λ v. Shared.lenV (v .0))
 
   abbrev s14 : Typed.Both T17 T18
-  s14 = Call.callB ps·1 r·1 (claims· .2) (claims· .3) T17 (record { pos = 12; ty = Syntax.tyRef Syntax.erased Syntax.mut (Memory.pointee (Row.the-row .written)); ref = λ x. x }, (Num.vAt 7 λ x. x, (Num.vFld 8 (List._∷_ (Syntax.field 0) List.[]) 0 λ x. Row.struct .as-values x .0, (Num.vFld 8 (List._∷_ (Syntax.field 1) List.[]) 2 λ x. Row.struct .as-values x .1 .0, (Num.vFld 8 (List._∷_ (Syntax.field 2) List.[]) 4 λ x. Row.struct .as-values x .1 .1 .0, tt))))) 10 (List._∷_ 4 List.[]) Syntax.tyUnit
+  s14 = Call.callB ps·1 r·1 (claims· .2) (claims· .3) T17 (record { pos = 12; ty = Syntax.tyRef Syntax.erased Syntax.mut (Memory.pointee (Row.the-row .written)); ref = λ x. x }, (Num.vAt 7 λ x. x, (record { pos = 8; st = List.[]; d = 0; at = λ x. x }, tt))) 10 (List._∷_ 4 List.[]) Syntax.tyUnit
 
   abbrev s15 : Typed.Mo T18 → Typed.Mo T19
   s15 = Scalar.n-room T18 8 ty·8
@@ -882,10 +881,10 @@ module _ (claims· : Claims) where
           d7 = Typed.g-pre 𝓤 H A W 𝓣 E G37 G38 b15 Δ3 (λ Ψ. Ψ) at6 (Lifetime.g-forget 𝓤 H A W E G37 6 Row'.dead Path'.refl) d6
 
           d8 : Typed.Typed 𝓤 H A 𝓣 E G36 b15 Δ3 at8
-          d8 = Typed.g-pre 𝓤 H A W 𝓣 E G36 G37 b15 Δ3 (Typed.give s33) at7 (Know.g-sl-known 𝓤 H A W (Referent.fInt Syntax.w16) E G36 5 3 ty·3 (Row'.lease (κs .1 .1 .1 .0) (qs .1 .1 .1 .0)) 0 (λ x. x) record { fits = Dec'.lit< tt } (Reads'.as-is 𝓤 H A (Mut.mslice (Referent.rtF (Referent.fInt Syntax.w16)) ty·3 3)) Path'.refl tt) d7
+          d8 = Typed.g-pre 𝓤 H A W 𝓣 E G36 G37 b15 Δ3 (Typed.give s33) at7 (Know.g-sl-known 𝓤 H A W (Referent.fInt Syntax.w16) E G36 5 3 ty·3 (Row'.lease (κs .1 .1 .1 .0) (qs .1 .1 .1 .0)) 0 (λ x. x) record { fits = Dec'.lit< tt } (Reads.as-is 𝓤 H A (Mut.mslice (Referent.rtF (Referent.fInt Syntax.w16)) ty·3 3)) Path'.refl tt) d7
 
           d9 : Typed.Typed 𝓤 H A 𝓣 E G35 b15 Δ3 at9
-          d9 = Typed.g-pre 𝓤 H A W 𝓣 E G35 G36 b15 Δ3 (Typed.both s32) at8 (Relend.g-back-sl 𝓤 H A W E (Referent.rtF (Referent.fInt Syntax.w16)) G35 16 5 3 6 ty·3 ty·0 (Row'.lease (κs .1 .1 .1 .0) (qs .1 .1 .1 .0)) (λ x. x) (λ x. x) (Reads'.as-is 𝓤 H A (Mut.msleft (Referent.rtF (Referent.fInt Syntax.w16)) ty·0)) (Reads'.as-is 𝓤 H A (Relend.mslice-owed (Referent.rtF (Referent.fInt Syntax.w16)) ty·3 3 6 (Row'.lease (κs .1 .1 .1 .0) (qs .1 .1 .1 .0)))) Path'.refl Path'.refl) d8
+          d9 = Typed.g-pre 𝓤 H A W 𝓣 E G35 G36 b15 Δ3 (Typed.both s32) at8 (Relend.g-back-sl 𝓤 H A W E (Referent.rtF (Referent.fInt Syntax.w16)) G35 16 5 3 6 ty·3 ty·0 (Row'.lease (κs .1 .1 .1 .0) (qs .1 .1 .1 .0)) (λ x. x) (λ x. x) (Reads.as-is 𝓤 H A (Mut.msleft (Referent.rtF (Referent.fInt Syntax.w16)) ty·0)) (Reads.as-is 𝓤 H A (Relend.mslice-owed (Referent.rtF (Referent.fInt Syntax.w16)) ty·3 3 6 (Row'.lease (κs .1 .1 .1 .0) (qs .1 .1 .1 .0)))) Path'.refl Path'.refl) d8
 
           d10 : Typed.Typed 𝓤 H A 𝓣 E G34 b15 Δ3 at10
           d10 = Typed.g-pre 𝓤 H A W 𝓣 E G34 G35 b15 Δ3 (λ Ψ. Ψ) at9 (Lifetime.g-end 𝓤 H A W E G34 6 Path'.refl) d9
@@ -894,31 +893,31 @@ module _ (claims· : Claims) where
           d11 = Typed.g-pre 𝓤 H A W 𝓣 E G33 G34 b15 Δ3 (λ Ψ. Ψ) at10 (Lifetime.g-forget 𝓤 H A W E G33 5 Row'.dead Path'.refl) d10
 
           d12 : Typed.Typed 𝓤 H A 𝓣 E G32 b15 Δ3 at12
-          d12 = Typed.g-pre 𝓤 H A W 𝓣 E G32 G33 b15 Δ3 (Typed.give s29) at11 (Know.g-sl-known 𝓤 H A W (Referent.fInt Syntax.w16) E G32 4 2 ty·2 (Row'.lease (κs .1 .1 .0) (qs .1 .1 .0)) 0 (λ x. x) record { fits = Dec'.lit< tt } (Reads'.as-is 𝓤 H A (Mut.mslice (Referent.rtF (Referent.fInt Syntax.w16)) ty·2 2)) Path'.refl tt) d11
+          d12 = Typed.g-pre 𝓤 H A W 𝓣 E G32 G33 b15 Δ3 (Typed.give s29) at11 (Know.g-sl-known 𝓤 H A W (Referent.fInt Syntax.w16) E G32 4 2 ty·2 (Row'.lease (κs .1 .1 .0) (qs .1 .1 .0)) 0 (λ x. x) record { fits = Dec'.lit< tt } (Reads.as-is 𝓤 H A (Mut.mslice (Referent.rtF (Referent.fInt Syntax.w16)) ty·2 2)) Path'.refl tt) d11
 
           d13 : Typed.Typed 𝓤 H A 𝓣 E G31 b15 Δ3 at13
-          d13 = Typed.g-pre 𝓤 H A W 𝓣 E G31 G32 b15 Δ3 (Typed.both s28) at12 (Relend.g-back-sl 𝓤 H A W E (Referent.rtF (Referent.fInt Syntax.w16)) G31 14 4 2 5 ty·2 ty·0 (Row'.lease (κs .1 .1 .0) (qs .1 .1 .0)) (λ x. x) (λ x. x) (Reads'.as-is 𝓤 H A (Mut.msleft (Referent.rtF (Referent.fInt Syntax.w16)) ty·0)) (Reads'.as-is 𝓤 H A (Relend.mslice-owed (Referent.rtF (Referent.fInt Syntax.w16)) ty·2 2 5 (Row'.lease (κs .1 .1 .0) (qs .1 .1 .0)))) Path'.refl Path'.refl) d12
+          d13 = Typed.g-pre 𝓤 H A W 𝓣 E G31 G32 b15 Δ3 (Typed.both s28) at12 (Relend.g-back-sl 𝓤 H A W E (Referent.rtF (Referent.fInt Syntax.w16)) G31 14 4 2 5 ty·2 ty·0 (Row'.lease (κs .1 .1 .0) (qs .1 .1 .0)) (λ x. x) (λ x. x) (Reads.as-is 𝓤 H A (Mut.msleft (Referent.rtF (Referent.fInt Syntax.w16)) ty·0)) (Reads.as-is 𝓤 H A (Relend.mslice-owed (Referent.rtF (Referent.fInt Syntax.w16)) ty·2 2 5 (Row'.lease (κs .1 .1 .0) (qs .1 .1 .0)))) Path'.refl Path'.refl) d12
 
           d14 : Typed.Typed 𝓤 H A 𝓣 E G30 b15 Δ3 at14
           d14 = Typed.g-pre 𝓤 H A W 𝓣 E G30 G31 b15 Δ3 (λ Ψ. Ψ) at13 (Lifetime.g-end 𝓤 H A W E G30 5 Path'.refl) d13
 
           d15 : Typed.Typed 𝓤 H A 𝓣 E G29 b16 Δ3 at15
-          d15 = Typed.s-seq 𝓤 H A W 𝓣 E G29 G30 b14 b15 Δ3 (Typed.both s26) at14 (Plain.t-call-plain 𝓤 H A W 𝓣 3 ps·2 r·2 (claims· .4) (claims· .5) "reading::fill::fill_state" (known .2) E (λ pos β. β) G29 (record { pos = 1; ty = Syntax.tyRef (Syntax.named 0) Syntax.imm (Syntax.tyInt Syntax.w8); ref = λ x. x }, (record { pos = 6; st = List.[]; d = 0; at = λ x. x }, (record { pos = 14; ty = Syntax.tyRef Syntax.erased Syntax.mut (Syntax.tyInt Syntax.w16); ref = λ x. x }, (record { pos = 16; ty = Syntax.tyRef Syntax.erased Syntax.mut (Syntax.tyInt Syntax.w16); ref = λ x. x }, tt)))) 6 (List._∷_ 0 (List._∷_ 5 (List._∷_ 6 List.[]))) (Call.sub-id 𝓤 H A W (G29 .slots)) (ShrSlice.spares-sslice 𝓤 H A W (Referent.rtF (Referent.fInt Syntax.w8)) ty·1 0, Shared.reads-sslice 𝓤 H A W (Referent.rtF (Referent.fInt Syntax.w8)) ty·1 0, Path'.refl, ((Yields.yields-copy 𝓤 H A W (λ ρ. Unit) (Declared.row Mark.the-type) Path'.refl (Copies.cStruct Mark.the-type Laws.the-laws Laws.the-copy .copy 𝓤 H A W) (Rows.whole (Declared.row Mark.the-type)) (λ x. x) (λ x. x) (λ ρ told. Local.mem-whole 𝓤 H A W (Declared.row Mark.the-type) ρ) λ ρ told. Local.whole-mem 𝓤 H A W (Declared.row Mark.the-type) ρ, Path'.refl), (Reads'.as-is 𝓤 H A (Mut.mslice (Referent.rtF (Referent.fInt Syntax.w16)) ty·0 5), Mut.reads-mslice 𝓤 H A W (Referent.rtF (Referent.fInt Syntax.w16)) ty·0 5, Path'.refl, (Reads'.as-is 𝓤 H A (Mut.mslice (Referent.rtF (Referent.fInt Syntax.w16)) ty·0 6), Mut.reads-mslice 𝓤 H A W (Referent.rtF (Referent.fInt Syntax.w16)) ty·0 6, Path'.refl, tt)))) (Local.room-whole 𝓤 H A W (Declared.row Mark.the-type) ty·9 Path'.refl) (tt, (tt, (tt, tt))) Path'.refl) d14
+          d15 = Typed.s-seq 𝓤 H A W 𝓣 E G29 G30 b14 b15 Δ3 (Typed.both s26) at14 (Plain.t-call-plain 𝓤 H A W 𝓣 3 ps·2 r·2 (claims· .4) (claims· .5) "reading::fill::fill_state" (known .2) E (λ pos β. β) G29 (record { pos = 1; ty = Syntax.tyRef (Syntax.named 0) Syntax.imm (Syntax.tyInt Syntax.w8); ref = λ x. x }, (record { pos = 6; st = List.[]; d = 0; at = λ x. x }, (record { pos = 14; ty = Syntax.tyRef Syntax.erased Syntax.mut (Syntax.tyInt Syntax.w16); ref = λ x. x }, (record { pos = 16; ty = Syntax.tyRef Syntax.erased Syntax.mut (Syntax.tyInt Syntax.w16); ref = λ x. x }, tt)))) 6 (List._∷_ 0 (List._∷_ 5 (List._∷_ 6 List.[]))) (Call.sub-id 𝓤 H A W (G29 .slots)) (ShrSlice.spares-sslice 𝓤 H A W (Referent.rtF (Referent.fInt Syntax.w8)) ty·1 0, Shared.reads-sslice 𝓤 H A W (Referent.rtF (Referent.fInt Syntax.w8)) ty·1 0, Path'.refl, ((Yields.yields-copy 𝓤 H A W (λ ρ. Unit) (Declared.row Mark.the-type) Path'.refl (Copies.cStruct Mark.the-type Laws.the-laws Laws.the-copy .copy 𝓤 H A W) (Rows.whole (Declared.row Mark.the-type)) (λ x. x) (λ x. x) (λ ρ told. Local.mem-whole 𝓤 H A W (Declared.row Mark.the-type) ρ) λ ρ told. Local.whole-mem 𝓤 H A W (Declared.row Mark.the-type) ρ, Path'.refl), (Reads.as-is 𝓤 H A (Mut.mslice (Referent.rtF (Referent.fInt Syntax.w16)) ty·0 5), Mut.reads-mslice 𝓤 H A W (Referent.rtF (Referent.fInt Syntax.w16)) ty·0 5, Path'.refl, (Reads.as-is 𝓤 H A (Mut.mslice (Referent.rtF (Referent.fInt Syntax.w16)) ty·0 6), Mut.reads-mslice 𝓤 H A W (Referent.rtF (Referent.fInt Syntax.w16)) ty·0 6, Path'.refl, tt)))) (Local.room-whole 𝓤 H A W (Declared.row Mark.the-type) ty·9 Path'.refl) (tt, (tt, (tt, tt))) Path'.refl) d14
 
           d16 : Typed.Typed 𝓤 H A 𝓣 E G28 b17 Δ3 at16
-          d16 = Typed.s-seq 𝓤 H A W 𝓣 E G28 G29 b13 b16 Δ3 (Typed.ask s25) at15 (Relend.t-sl-aggregate 𝓤 H A W E (Referent.rtF (Referent.fInt Syntax.w16)) 𝓣 (Relend.asMut (Referent.rtF (Referent.fInt Syntax.w16))) G28 15 16 6 ty·0 ty·0 (λ x. x) (Scalar.oFld 5 (List._∷_ (Syntax.field 1) List.[]) (Syntax.tyInt Syntax.w64) 8 λ v. Shared.lenV (v .0)) (Reads'.as-is 𝓤 H A (Relend.msptr (Referent.rtF (Referent.fInt Syntax.w16)) ty·0 6)) (Reads'.room-gone 𝓤 H A ty·6) (Relend.reads-owed-len 𝓤 H A W (Referent.rtF (Referent.fInt Syntax.w16)) ty·3 3 6 (Row'.lease (κs .1 .1 .1 .0) (qs .1 .1 .1 .0)) 8 Path'.refl, Path'.refl) Path'.refl Path'.refl λ b o k. tt) d15
+          d16 = Typed.s-seq 𝓤 H A W 𝓣 E G28 G29 b13 b16 Δ3 (Typed.ask s25) at15 (Relend.t-sl-aggregate 𝓤 H A W E (Referent.rtF (Referent.fInt Syntax.w16)) 𝓣 (Relend.asMut (Referent.rtF (Referent.fInt Syntax.w16))) G28 15 16 6 ty·0 ty·0 (λ x. x) (Scalar.oFld 5 (List._∷_ (Syntax.field 1) List.[]) (Syntax.tyInt Syntax.w64) 8 λ v. Shared.lenV (v .0)) (Reads.as-is 𝓤 H A (Relend.msptr (Referent.rtF (Referent.fInt Syntax.w16)) ty·0 6)) (Reads.room-gone 𝓤 H A ty·6) (Relend.reads-owed-len 𝓤 H A W (Referent.rtF (Referent.fInt Syntax.w16)) ty·3 3 6 (Row'.lease (κs .1 .1 .1 .0) (qs .1 .1 .1 .0)) 8 Path'.refl, Path'.refl) Path'.refl Path'.refl λ b o k. tt) d15
 
           d17 : Typed.Typed 𝓤 H A 𝓣 E G27 b18 Δ3 at17
-          d17 = Typed.s-seq 𝓤 H A W 𝓣 E G27 G28 b12 b17 Δ3 (Typed.give s24) at16 (Relend.t-sl-relend 𝓤 H A W E (Referent.rtF (Referent.fInt Syntax.w16)) 𝓣 G27 5 15 3 6 ty·3 ty·0 (Row'.lease (κs .1 .1 .1 .0) (qs .1 .1 .1 .0)) 0 (λ x. x) (Reads'.as-is 𝓤 H A (Mut.mslice (Referent.rtF (Referent.fInt Syntax.w16)) ty·3 3)) (Reads'.room-gone 𝓤 H A ty·0) Path'.refl tt Path'.refl Path'.refl Path'.refl λ b o. tt) d16
+          d17 = Typed.s-seq 𝓤 H A W 𝓣 E G27 G28 b12 b17 Δ3 (Typed.give s24) at16 (Relend.t-sl-relend 𝓤 H A W E (Referent.rtF (Referent.fInt Syntax.w16)) 𝓣 G27 5 15 3 6 ty·3 ty·0 (Row'.lease (κs .1 .1 .1 .0) (qs .1 .1 .1 .0)) 0 (λ x. x) (Reads.as-is 𝓤 H A (Mut.mslice (Referent.rtF (Referent.fInt Syntax.w16)) ty·3 3)) (Reads.room-gone 𝓤 H A ty·0) Path'.refl tt Path'.refl Path'.refl Path'.refl λ b o. tt) d16
 
           d18 : Typed.Typed 𝓤 H A 𝓣 E G26 b18 Δ3 at18
           d18 = Typed.g-pre 𝓤 H A W 𝓣 E G26 G27 b18 Δ3 (λ Ψ. Ψ) at17 (Lifetime.g-begin 𝓤 H A W E G26 6 (tt, (tt, (tt, (tt, ((tt, tt), (tt, (tt, (tt, (tt, (tt, (tt, (tt, (tt, (tt, (tt, (tt, (tt, tt)))))))))))))))))) d17
 
           d19 : Typed.Typed 𝓤 H A 𝓣 E G25 b19 Δ3 at19
-          d19 = Typed.s-seq 𝓤 H A W 𝓣 E G25 G26 b11 b18 Δ3 (Typed.ask s22) at18 (Relend.t-sl-aggregate 𝓤 H A W E (Referent.rtF (Referent.fInt Syntax.w16)) 𝓣 (Relend.asMut (Referent.rtF (Referent.fInt Syntax.w16))) G25 13 14 5 ty·0 ty·0 (λ x. x) (Scalar.oFld 4 (List._∷_ (Syntax.field 1) List.[]) (Syntax.tyInt Syntax.w64) 8 λ v. Shared.lenV (v .0)) (Reads'.as-is 𝓤 H A (Relend.msptr (Referent.rtF (Referent.fInt Syntax.w16)) ty·0 5)) (Reads'.room-gone 𝓤 H A ty·6) (Relend.reads-owed-len 𝓤 H A W (Referent.rtF (Referent.fInt Syntax.w16)) ty·2 2 5 (Row'.lease (κs .1 .1 .0) (qs .1 .1 .0)) 8 Path'.refl, Path'.refl) Path'.refl Path'.refl λ b o k. tt) d18
+          d19 = Typed.s-seq 𝓤 H A W 𝓣 E G25 G26 b11 b18 Δ3 (Typed.ask s22) at18 (Relend.t-sl-aggregate 𝓤 H A W E (Referent.rtF (Referent.fInt Syntax.w16)) 𝓣 (Relend.asMut (Referent.rtF (Referent.fInt Syntax.w16))) G25 13 14 5 ty·0 ty·0 (λ x. x) (Scalar.oFld 4 (List._∷_ (Syntax.field 1) List.[]) (Syntax.tyInt Syntax.w64) 8 λ v. Shared.lenV (v .0)) (Reads.as-is 𝓤 H A (Relend.msptr (Referent.rtF (Referent.fInt Syntax.w16)) ty·0 5)) (Reads.room-gone 𝓤 H A ty·6) (Relend.reads-owed-len 𝓤 H A W (Referent.rtF (Referent.fInt Syntax.w16)) ty·2 2 5 (Row'.lease (κs .1 .1 .0) (qs .1 .1 .0)) 8 Path'.refl, Path'.refl) Path'.refl Path'.refl λ b o k. tt) d18
 
           d20 : Typed.Typed 𝓤 H A 𝓣 E G24 b20 Δ3 at20
-          d20 = Typed.s-seq 𝓤 H A W 𝓣 E G24 G25 b10 b19 Δ3 (Typed.give s21) at19 (Relend.t-sl-relend 𝓤 H A W E (Referent.rtF (Referent.fInt Syntax.w16)) 𝓣 G24 4 13 2 5 ty·2 ty·0 (Row'.lease (κs .1 .1 .0) (qs .1 .1 .0)) 0 (λ x. x) (Reads'.as-is 𝓤 H A (Mut.mslice (Referent.rtF (Referent.fInt Syntax.w16)) ty·2 2)) (Reads'.room-gone 𝓤 H A ty·0) Path'.refl tt Path'.refl Path'.refl Path'.refl λ b o. tt) d19
+          d20 = Typed.s-seq 𝓤 H A W 𝓣 E G24 G25 b10 b19 Δ3 (Typed.give s21) at19 (Relend.t-sl-relend 𝓤 H A W E (Referent.rtF (Referent.fInt Syntax.w16)) 𝓣 G24 4 13 2 5 ty·2 ty·0 (Row'.lease (κs .1 .1 .0) (qs .1 .1 .0)) 0 (λ x. x) (Reads.as-is 𝓤 H A (Mut.mslice (Referent.rtF (Referent.fInt Syntax.w16)) ty·2 2)) (Reads.room-gone 𝓤 H A ty·0) Path'.refl tt Path'.refl Path'.refl Path'.refl λ b o. tt) d19
 
           d21 : Typed.Typed 𝓤 H A 𝓣 E G23 b20 Δ3 at21
           d21 = Typed.g-pre 𝓤 H A W 𝓣 E G23 G24 b20 Δ3 (λ Ψ. Ψ) at20 (Lifetime.g-begin 𝓤 H A W E G23 5 (tt, (tt, (tt, (tt, (tt, (tt, (tt, (tt, (tt, (tt, (tt, (tt, (tt, (tt, (tt, (tt, (tt, tt)))))))))))))))))) d20
@@ -927,7 +926,7 @@ module _ (claims· : Claims) where
           d22 = Typed.g-pre 𝓤 H A W 𝓣 E G22 G23 b20 Δ3 (λ Ψ. Ψ) at21 (Lifetime.g-forget 𝓤 H A W E G22 4 Row'.dead Path'.refl) d21
 
           d23 : Typed.Typed 𝓤 H A 𝓣 E G21 b20 Δ3 at23
-          d23 = Typed.g-pre 𝓤 H A W 𝓣 E G21 G22 b20 Δ3 (Typed.both s18) at22 (Relend.g-back-sl 𝓤 H A W E Row.the-row G21 12 3 1 4 ty·5 ty·4 (Row'.lease (κs .1 .0) (qs .1 .0)) (λ x. x) (λ x. x) (Reads'.as-is 𝓤 H A (Mut.msleft Row.the-row ty·4)) (Reads'.as-is 𝓤 H A (Relend.mslice-owed Row.the-row ty·5 1 4 (Row'.lease (κs .1 .0) (qs .1 .0)))) Path'.refl Path'.refl) d22
+          d23 = Typed.g-pre 𝓤 H A W 𝓣 E G21 G22 b20 Δ3 (Typed.both s18) at22 (Relend.g-back-sl 𝓤 H A W E Row.the-row G21 12 3 1 4 ty·5 ty·4 (Row'.lease (κs .1 .0) (qs .1 .0)) (λ x. x) (λ x. x) (Reads.as-is 𝓤 H A (Mut.msleft Row.the-row ty·4)) (Reads.as-is 𝓤 H A (Relend.mslice-owed Row.the-row ty·5 1 4 (Row'.lease (κs .1 .0) (qs .1 .0)))) Path'.refl Path'.refl) d22
 
           d24 : Typed.Typed 𝓤 H A 𝓣 E G20 b20 Δ3 at24
           d24 = Typed.g-pre 𝓤 H A W 𝓣 E G20 G21 b20 Δ3 (λ Ψ. Ψ) at23 (Lifetime.g-end 𝓤 H A W E G20 4 Path'.refl) d23
@@ -939,25 +938,25 @@ module _ (claims· : Claims) where
           d26 = Typed.g-pre 𝓤 H A W 𝓣 E G18 G19 b20 Δ3 (Typed.pass T18 T19 s15) at25 (Scalar.g-room 𝓤 H A W E G18 8 ty·8 (Local.room-whole 𝓤 H A W (Declared.row Row.the-type) ty·8 Path'.refl)) d25
 
           d27 : Typed.Typed 𝓤 H A 𝓣 E G17 b21 Δ3 at27
-          d27 = Typed.s-seq 𝓤 H A W 𝓣 E G17 G18 b9 b20 Δ3 (Typed.both s14) at26 (Plain.t-call-plain 𝓤 H A W 𝓣 1 ps·1 r·1 (claims· .2) (claims· .3) "tables::internal::put_row" (known .1) E (λ pos β. β) G17 (record { pos = 12; ty = Syntax.tyRef Syntax.erased Syntax.mut (Memory.pointee (Row.the-row .written)); ref = λ x. x }, (Num.vAt 7 λ x. x, (Num.vFld 8 (List._∷_ (Syntax.field 0) List.[]) 0 λ x. Row.struct .as-values x .0, (Num.vFld 8 (List._∷_ (Syntax.field 1) List.[]) 2 λ x. Row.struct .as-values x .1 .0, (Num.vFld 8 (List._∷_ (Syntax.field 2) List.[]) 4 λ x. Row.struct .as-values x .1 .1 .0, tt))))) 10 (List._∷_ 4 List.[]) (Call.sub-id 𝓤 H A W (G17 .slots)) (Reads'.as-is 𝓤 H A (Mut.mslice Row.the-row ty·4 4), Mut.reads-mslice 𝓤 H A W Row.the-row ty·4 4, Path'.refl, ((Scalar.reads-sc 𝓤 H A W (Row'.sInt Syntax.w64), Path'.refl), ((Reads.reads-field 𝓤 H A W Row.the-type Laws'.the-laws 0 (Syntax.tyInt Syntax.w16) 0 Path'.refl, Path'.refl), ((Reads.reads-field 𝓤 H A W Row.the-type Laws'.the-laws 1 (Syntax.tyInt Syntax.w16) 2 Path'.refl, Path'.refl), ((Reads.reads-field 𝓤 H A W Row.the-type Laws'.the-laws 2 (Syntax.tyInt Syntax.w16) 4 Path'.refl, Path'.refl), tt))))) (Reads'.room-gone 𝓤 H A Syntax.tyUnit) (tt, tt) Path'.refl) d26
+          d27 = Typed.s-seq 𝓤 H A W 𝓣 E G17 G18 b9 b20 Δ3 (Typed.both s14) at26 (Plain.t-call-plain 𝓤 H A W 𝓣 1 ps·1 r·1 (claims· .2) (claims· .3) "tables::internal::put_row" (known .1) E (λ pos β. β) G17 (record { pos = 12; ty = Syntax.tyRef Syntax.erased Syntax.mut (Memory.pointee (Row.the-row .written)); ref = λ x. x }, (Num.vAt 7 λ x. x, (record { pos = 8; st = List.[]; d = 0; at = λ x. x }, tt))) 10 (List._∷_ 4 List.[]) (Call.sub-id 𝓤 H A W (G17 .slots)) (Reads.as-is 𝓤 H A (Mut.mslice Row.the-row ty·4 4), Mut.reads-mslice 𝓤 H A W Row.the-row ty·4 4, Path'.refl, ((Scalar.reads-sc 𝓤 H A W (Row'.sInt Syntax.w64), Path'.refl), ((Yields.yields-copy 𝓤 H A W (λ ρ. Unit) (Declared.row Row.the-type) Path'.refl (Copies.cStruct Row.the-type Laws'.the-laws Laws'.the-copy .copy 𝓤 H A W) (Rows.whole (Declared.row Row.the-type)) (λ x. x) (λ x. x) (λ ρ told. Local.mem-whole 𝓤 H A W (Declared.row Row.the-type) ρ) λ ρ told. Local.whole-mem 𝓤 H A W (Declared.row Row.the-type) ρ, Path'.refl), tt))) (Reads.room-gone 𝓤 H A Syntax.tyUnit) (tt, tt) Path'.refl) d26
 
           d28 : Typed.Typed 𝓤 H A 𝓣 E G16 b22 Δ3 at28
-          d28 = Typed.s-seq 𝓤 H A W 𝓣 E G16 G17 b8 b21 Δ3 (Typed.ask s13) at27 (Relend.t-sl-aggregate 𝓤 H A W E Row.the-row 𝓣 (Relend.asMut Row.the-row) G16 11 12 4 ty·4 ty·4 (λ x. x) (Scalar.oFld 3 (List._∷_ (Syntax.field 1) List.[]) (Syntax.tyInt Syntax.w64) 8 λ v. Shared.lenV (v .0)) (Reads'.as-is 𝓤 H A (Relend.msptr Row.the-row ty·4 4)) (Reads'.room-gone 𝓤 H A ty·7) (Relend.reads-owed-len 𝓤 H A W Row.the-row ty·5 1 4 (Row'.lease (κs .1 .0) (qs .1 .0)) 8 Path'.refl, Path'.refl) Path'.refl Path'.refl λ b o k. tt) d27
+          d28 = Typed.s-seq 𝓤 H A W 𝓣 E G16 G17 b8 b21 Δ3 (Typed.ask s13) at27 (Relend.t-sl-aggregate 𝓤 H A W E Row.the-row 𝓣 (Relend.asMut Row.the-row) G16 11 12 4 ty·4 ty·4 (λ x. x) (Scalar.oFld 3 (List._∷_ (Syntax.field 1) List.[]) (Syntax.tyInt Syntax.w64) 8 λ v. Shared.lenV (v .0)) (Reads.as-is 𝓤 H A (Relend.msptr Row.the-row ty·4 4)) (Reads.room-gone 𝓤 H A ty·7) (Relend.reads-owed-len 𝓤 H A W Row.the-row ty·5 1 4 (Row'.lease (κs .1 .0) (qs .1 .0)) 8 Path'.refl, Path'.refl) Path'.refl Path'.refl λ b o k. tt) d27
 
           d29 : Typed.Typed 𝓤 H A 𝓣 E G15 b23 Δ3 at29
-          d29 = Typed.s-seq 𝓤 H A W 𝓣 E G15 G16 b7 b22 Δ3 (Typed.give s12) at28 (Relend.t-sl-relend 𝓤 H A W E Row.the-row 𝓣 G15 3 11 1 4 ty·5 ty·4 (Row'.lease (κs .1 .0) (qs .1 .0)) 0 (λ x. x) (Reads'.as-is 𝓤 H A (Mut.mslice Row.the-row ty·5 1)) (Reads'.room-gone 𝓤 H A ty·4) Path'.refl tt Path'.refl Path'.refl Path'.refl λ b o. tt) d28
+          d29 = Typed.s-seq 𝓤 H A W 𝓣 E G15 G16 b7 b22 Δ3 (Typed.give s12) at28 (Relend.t-sl-relend 𝓤 H A W E Row.the-row 𝓣 G15 3 11 1 4 ty·5 ty·4 (Row'.lease (κs .1 .0) (qs .1 .0)) 0 (λ x. x) (Reads.as-is 𝓤 H A (Mut.mslice Row.the-row ty·5 1)) (Reads.room-gone 𝓤 H A ty·4) Path'.refl tt Path'.refl Path'.refl Path'.refl λ b o. tt) d28
 
           d30 : Typed.Typed 𝓤 H A 𝓣 E G14 b23 Δ3 at30
           d30 = Typed.g-pre 𝓤 H A W 𝓣 E G14 G15 b23 Δ3 (λ Ψ. Ψ) at29 (Lifetime.g-begin 𝓤 H A W E G14 4 (tt, (tt, (tt, (tt, (tt, (tt, (tt, (tt, (tt, (tt, (tt, (tt, (tt, (tt, (tt, (tt, (tt, tt)))))))))))))))))) d29
 
           d31 : Typed.Typed 𝓤 H A 𝓣 E G10 b24 Δ3 at31
-          d31 = Typed.s-seq 𝓤 H A W 𝓣 E G10 G14 b6 b23 Δ3 (Typed.both s10) at30 (Plain.t-call-plain 𝓤 H A W 𝓣 1 ps·0 r·0 (claims· .0) (claims· .1) "reading::fill::row_in" (known .0) E (λ pos β. β) G10 (record { pos = 1; ty = Syntax.tyRef (Syntax.named 0) Syntax.imm (Syntax.tyInt Syntax.w8); ref = λ x. x }, (record { pos = 6; st = List.[]; d = 0; at = λ x. x }, tt)) 8 (List._∷_ 0 List.[]) (Call.sub-id 𝓤 H A W (G10 .slots)) (ShrSlice.spares-sslice 𝓤 H A W (Referent.rtF (Referent.fInt Syntax.w8)) ty·1 0, Shared.reads-sslice 𝓤 H A W (Referent.rtF (Referent.fInt Syntax.w8)) ty·1 0, Path'.refl, ((Yields.yields-copy 𝓤 H A W (λ ρ. Unit) (Declared.row Mark.the-type) Path'.refl (Copies.cStruct Mark.the-type Laws.the-laws Laws.the-copy .copy 𝓤 H A W) (Rows.whole (Declared.row Mark.the-type)) (λ x. x) (λ x. x) (λ ρ told. Local.mem-whole 𝓤 H A W (Declared.row Mark.the-type) ρ) λ ρ told. Local.whole-mem 𝓤 H A W (Declared.row Mark.the-type) ρ, Path'.refl), tt)) (Reads'.room-gone 𝓤 H A ty·8) (tt, tt) Path'.refl) d30
+          d31 = Typed.s-seq 𝓤 H A W 𝓣 E G10 G14 b6 b23 Δ3 (Typed.both s10) at30 (Plain.t-call-plain 𝓤 H A W 𝓣 1 ps·0 r·0 (claims· .0) (claims· .1) "reading::fill::row_in" (known .0) E (λ pos β. β) G10 (record { pos = 1; ty = Syntax.tyRef (Syntax.named 0) Syntax.imm (Syntax.tyInt Syntax.w8); ref = λ x. x }, (record { pos = 6; st = List.[]; d = 0; at = λ x. x }, tt)) 8 (List._∷_ 0 List.[]) (Call.sub-id 𝓤 H A W (G10 .slots)) (ShrSlice.spares-sslice 𝓤 H A W (Referent.rtF (Referent.fInt Syntax.w8)) ty·1 0, Shared.reads-sslice 𝓤 H A W (Referent.rtF (Referent.fInt Syntax.w8)) ty·1 0, Path'.refl, ((Yields.yields-copy 𝓤 H A W (λ ρ. Unit) (Declared.row Mark.the-type) Path'.refl (Copies.cStruct Mark.the-type Laws.the-laws Laws.the-copy .copy 𝓤 H A W) (Rows.whole (Declared.row Mark.the-type)) (λ x. x) (λ x. x) (λ ρ told. Local.mem-whole 𝓤 H A W (Declared.row Mark.the-type) ρ) λ ρ told. Local.whole-mem 𝓤 H A W (Declared.row Mark.the-type) ρ, Path'.refl), tt)) (Reads.room-gone 𝓤 H A ty·8) (tt, tt) Path'.refl) d30
 
           d32 : Typed.Typed 𝓤 H A 𝓣 E G9 b25 Δ3 at32
           d32 = Typed.t-seq 𝓤 H A W 𝓣 E G9 G10 b5 b24 Δ3 at5 at31 d5 d31
 
           d33 : Typed.Typed 𝓤 H A 𝓣 E G8 b26 Δ3 at33
-          d33 = Typed.s-seq 𝓤 H A W 𝓣 E G8 G9 b2 b25 Δ3 (Typed.ask s6) at32 (Scalar.t-op2 𝓤 H A W E 𝓣 G8 (Syntax.lt Syntax.unsigned) (Scalar.oAt 7 (Syntax.tyInt Syntax.w64) (Row'.valS (Row'.sInt Syntax.w64))) (Scalar.oAt 2 (Syntax.tyInt Syntax.w64) (Row'.valS (Row'.sInt Syntax.w64))) 9 (Rows.sc-here Row'.sBool) Syntax.tyBool (Row'.valS Row'.sBool) (Row'.sBool .of) (Scalar.reads-sc 𝓤 H A W (Row'.sInt Syntax.w64), Path'.refl) (Scalar.reads-sc 𝓤 H A W (Row'.sInt Syntax.w64), Path'.refl) (Reads'.room-gone 𝓤 H A Syntax.tyBool) (Scalar.holds-sc 𝓤 H A W Row'.sBool) Path'.refl (λ u. Path'.refl) λ u. tt) d32
+          d33 = Typed.s-seq 𝓤 H A W 𝓣 E G8 G9 b2 b25 Δ3 (Typed.ask s6) at32 (Scalar.t-op2 𝓤 H A W E 𝓣 G8 (Syntax.lt Syntax.unsigned) (Scalar.oAt 7 (Syntax.tyInt Syntax.w64) (Row'.valS (Row'.sInt Syntax.w64))) (Scalar.oAt 2 (Syntax.tyInt Syntax.w64) (Row'.valS (Row'.sInt Syntax.w64))) 9 (Rows.sc-here Row'.sBool) Syntax.tyBool (Row'.valS Row'.sBool) (Row'.sBool .of) (Scalar.reads-sc 𝓤 H A W (Row'.sInt Syntax.w64), Path'.refl) (Scalar.reads-sc 𝓤 H A W (Row'.sInt Syntax.w64), Path'.refl) (Reads.room-gone 𝓤 H A Syntax.tyBool) (Scalar.holds-sc 𝓤 H A W Row'.sBool) Path'.refl (λ u. Path'.refl) λ u. tt) d32
 
           d34 : Typed.Typed 𝓤 H A 𝓣 E G8 b27 Δ2 at34
           d34 = Typed.t-loop-by 𝓤 H A W 𝓣 E G8 b26 Δ2 put0 (λ u vs. Inv·0 (Row'.get 1 (T8 .locals) u .now) (Row'.get 2 (T8 .locals) u) (Row'.get 3 (T8 .locals) u .now) (Row'.get 4 (T8 .locals) u .now) (Row'.get 5 (T8 .locals) u .now) (Row'.get 6 (T8 .locals) u) (Row'.get 7 (T8 .locals) u) (vs .0) (vs .1) (vs .2) (vs .3) (vs .4)) (λ u vs. μ·0 (Row'.get 1 (T8 .locals) u .now) (Row'.get 2 (T8 .locals) u) (Row'.get 3 (T8 .locals) u .now) (Row'.get 4 (T8 .locals) u .now) (Row'.get 5 (T8 .locals) u .now) (Row'.get 6 (T8 .locals) u) (Row'.get 7 (T8 .locals) u) (vs .0) (vs .1) (vs .2) (vs .3) (vs .4)) at33 d33
@@ -978,25 +977,25 @@ module _ (claims· : Claims) where
           d39 = Typed.g-pre 𝓤 H A W 𝓣 E G40 G41 b30 Δ0 (Typed.pass T40 T41 s37) at38 (Scalar.g-room 𝓤 H A W E G40 7 (Syntax.tyInt Syntax.w64) (Scalar.room-sc 𝓤 H A W (Row'.sInt Syntax.w64))) d38
 
           d40 : Typed.Typed 𝓤 H A 𝓣 E G7 b31 Δ0 at40
-          d40 = Typed.s-seq 𝓤 H A W 𝓣 E G7 G40 b29 b30 Δ0 (Typed.pass T7 T40 s36) at39 (Scalar.t-use 𝓤 H A W E 𝓣 G7 Scalar.oUnit 0 (Rows.sc-here Row'.sUnit) Syntax.tyUnit (Row'.valS Row'.sUnit) (Row'.sUnit .of) tt (Reads'.room-gone 𝓤 H A Syntax.tyUnit) (Scalar.holds-sc 𝓤 H A W Row'.sUnit) Path'.refl (λ u. Path'.refl) λ u. tt) d39
+          d40 = Typed.s-seq 𝓤 H A W 𝓣 E G7 G40 b29 b30 Δ0 (Typed.pass T7 T40 s36) at39 (Scalar.t-use 𝓤 H A W E 𝓣 G7 Scalar.oUnit 0 (Rows.sc-here Row'.sUnit) Syntax.tyUnit (Row'.valS Row'.sUnit) (Row'.sUnit .of) tt (Reads.room-gone 𝓤 H A Syntax.tyUnit) (Scalar.holds-sc 𝓤 H A W Row'.sUnit) Path'.refl (λ u. Path'.refl) λ u. tt) d39
 
           d41 : Typed.Typed 𝓤 H A 𝓣 E G6 b32 Δ0 at41
           d41 = Typed.t-seq 𝓤 H A W 𝓣 E G6 G7 b28 b31 Δ0 at36 at40 d36 d40
 
           d42 : Typed.Typed 𝓤 H A 𝓣 E G5 b33 Δ0 at42
-          d42 = Typed.s-seq 𝓤 H A W 𝓣 E G5 G6 b1 b32 Δ0 (Typed.pass T5 T6 s4) at41 (Scalar.t-use 𝓤 H A W E 𝓣 G5 (Scalar.oInt Syntax.w64 0) 7 (Rows.sc-here (Row'.sInt Syntax.w64)) (Syntax.tyInt Syntax.w64) (Row'.valS (Row'.sInt Syntax.w64)) (Row'.sInt Syntax.w64 .of) tt (Reads'.room-gone 𝓤 H A (Syntax.tyInt Syntax.w64)) (Scalar.holds-sc 𝓤 H A W (Row'.sInt Syntax.w64)) Path'.refl (λ u. Path'.refl) λ u. tt) d41
+          d42 = Typed.s-seq 𝓤 H A W 𝓣 E G5 G6 b1 b32 Δ0 (Typed.pass T5 T6 s4) at41 (Scalar.t-use 𝓤 H A W E 𝓣 G5 (Scalar.oInt Syntax.w64 0) 7 (Rows.sc-here (Row'.sInt Syntax.w64)) (Syntax.tyInt Syntax.w64) (Row'.valS (Row'.sInt Syntax.w64)) (Row'.sInt Syntax.w64 .of) tt (Reads.room-gone 𝓤 H A (Syntax.tyInt Syntax.w64)) (Scalar.holds-sc 𝓤 H A W (Row'.sInt Syntax.w64)) Path'.refl (λ u. Path'.refl) λ u. tt) d41
 
           d43 : Typed.Typed 𝓤 H A 𝓣 E G4 b34 Δ0 at43
-          d43 = Typed.s-seq 𝓤 H A W 𝓣 E G4 G5 b0 b33 Δ0 (Typed.pass T4 T5 s3) at42 (Make.t-struct-make 𝓤 H A W E 𝓣 (Apart.apartT Mark.the-type) Laws.the-laws Laws.the-plain G4 6 (List._∷_ (Scalar.oInt Syntax.w64 7) (List._∷_ (Scalar.oInt Syntax.w64 0) (List._∷_ (Scalar.oInt Syntax.w64 0) List.[]))) (λ m. (7, (0, (0, tt)))) (Reads'.room-gone 𝓤 H A ty·9) (tt, (tt, (tt, tt))) Path'.refl (λ u. Path'.refl) λ m. Make.is-wt (Apart.apartT Mark.the-type) Laws.the-laws (Make.u64-wt, (Make.u64-wt, (Make.u64-wt, tt))) (7, (0, (0, tt)))) d42
+          d43 = Typed.s-seq 𝓤 H A W 𝓣 E G4 G5 b0 b33 Δ0 (Typed.pass T4 T5 s3) at42 (Make.t-struct-make 𝓤 H A W E 𝓣 (Apart.apartT Mark.the-type) Laws.the-laws Laws.the-plain G4 6 (List._∷_ (Scalar.oInt Syntax.w64 7) (List._∷_ (Scalar.oInt Syntax.w64 0) (List._∷_ (Scalar.oInt Syntax.w64 0) List.[]))) (λ m. (7, (0, (0, tt)))) (Reads.room-gone 𝓤 H A ty·9) (tt, (tt, (tt, tt))) Path'.refl (λ u. Path'.refl) λ m. Make.is-wt (Apart.apartT Mark.the-type) Laws.the-laws (Make.u64-wt, (Make.u64-wt, (Make.u64-wt, tt))) (7, (0, (0, tt)))) d42
 
           d44 : Typed.Typed 𝓤 H A 𝓣 E G3 b34 Δ0 at44
-          d44 = Typed.g-pre 𝓤 H A W 𝓣 E G3 G4 b34 Δ0 (Typed.give s2) at43 (Know.g-sl-known 𝓤 H A W (Referent.fInt Syntax.w16) E G3 5 3 ty·3 (Row'.lease (κs .1 .1 .1 .0) (qs .1 .1 .1 .0)) 0 (λ x. x) record { fits = Dec'.lit< tt } (Reads'.as-is 𝓤 H A (Mut.mslice (Referent.rtF (Referent.fInt Syntax.w16)) ty·3 3)) Path'.refl tt) d43
+          d44 = Typed.g-pre 𝓤 H A W 𝓣 E G3 G4 b34 Δ0 (Typed.give s2) at43 (Know.g-sl-known 𝓤 H A W (Referent.fInt Syntax.w16) E G3 5 3 ty·3 (Row'.lease (κs .1 .1 .1 .0) (qs .1 .1 .1 .0)) 0 (λ x. x) record { fits = Dec'.lit< tt } (Reads.as-is 𝓤 H A (Mut.mslice (Referent.rtF (Referent.fInt Syntax.w16)) ty·3 3)) Path'.refl tt) d43
 
           d45 : Typed.Typed 𝓤 H A 𝓣 E G2 b34 Δ0 at45
-          d45 = Typed.g-pre 𝓤 H A W 𝓣 E G2 G3 b34 Δ0 (Typed.give s1) at44 (Know.g-sl-known 𝓤 H A W (Referent.fInt Syntax.w16) E G2 4 2 ty·2 (Row'.lease (κs .1 .1 .0) (qs .1 .1 .0)) 0 (λ x. x) record { fits = Dec'.lit< tt } (Reads'.as-is 𝓤 H A (Mut.mslice (Referent.rtF (Referent.fInt Syntax.w16)) ty·2 2)) Path'.refl tt) d44
+          d45 = Typed.g-pre 𝓤 H A W 𝓣 E G2 G3 b34 Δ0 (Typed.give s1) at44 (Know.g-sl-known 𝓤 H A W (Referent.fInt Syntax.w16) E G2 4 2 ty·2 (Row'.lease (κs .1 .1 .0) (qs .1 .1 .0)) 0 (λ x. x) record { fits = Dec'.lit< tt } (Reads.as-is 𝓤 H A (Mut.mslice (Referent.rtF (Referent.fInt Syntax.w16)) ty·2 2)) Path'.refl tt) d44
 
           d46 : Typed.Typed 𝓤 H A 𝓣 E G0 b34 Δ0 at46
-          d46 = Typed.g-pre 𝓤 H A W 𝓣 E G0 G2 b34 Δ0 (Typed.give s0) at45 (Know.g-shs-known 𝓤 H A W (Referent.fInt Syntax.w8) E G0 1 0 ty·1 (Row'.lease (κs .0) (qs .0)) 0 (λ x. x) record { fits = Dec'.lit< tt } (Reads'.as-is 𝓤 H A (Rows.sslice (Referent.rtF (Referent.fInt Syntax.w8)) ty·1 0)) Path'.refl tt) d45
+          d46 = Typed.g-pre 𝓤 H A W 𝓣 E G0 G2 b34 Δ0 (Typed.give s0) at45 (Know.g-shs-known 𝓤 H A W (Referent.fInt Syntax.w8) E G0 1 0 ty·1 (Row'.lease (κs .0) (qs .0)) 0 (λ x. x) record { fits = Dec'.lit< tt } (Reads.as-is 𝓤 H A (Rows.sslice (Referent.rtF (Referent.fInt Syntax.w8)) ty·1 0)) Path'.refl tt) d45
 
           pub typed : Typed.Typed 𝓤 H A 𝓣 E (Function.Γin 4 ps r xs m κs qs) b34 (Function.Δret 4 ps r xs m κs qs) Φ
           typed = d46
@@ -1169,14 +1168,14 @@ module _ (claims· : Claims) where
 
       module _ (before· : After-put-row-arg) where
         abbrev pub After-put-row·own : Type 0
-        After-put-row·own = Called.Called ps·1 r·1 (claims· .3) T17 (record { pos = 12; ty = Syntax.tyRef Syntax.erased Syntax.mut (Memory.pointee (Row.the-row .written)); ref = λ x. x }, (Num.vAt 7 λ x. x, (Num.vFld 8 (List._∷_ (Syntax.field 0) List.[]) 0 λ x. Row.struct .as-values x .0, (Num.vFld 8 (List._∷_ (Syntax.field 1) List.[]) 2 λ x. Row.struct .as-values x .1 .0, (Num.vFld 8 (List._∷_ (Syntax.field 2) List.[]) 4 λ x. Row.struct .as-values x .1 .1 .0, tt))))) (m14 (before· .before) (before· .put-row-arg .given))
+        After-put-row·own = Called.Called ps·1 r·1 (claims· .3) T17 (record { pos = 12; ty = Syntax.tyRef Syntax.erased Syntax.mut (Memory.pointee (Row.the-row .written)); ref = λ x. x }, (Num.vAt 7 λ x. x, (record { pos = 8; st = List.[]; d = 0; at = λ x. x }, tt))) (m14 (before· .before) (before· .put-row-arg .given))
 
       pub record After-put-row : Type 0 where
         pub before : After-put-row-arg
         pub put-row : After-put-row·own before
 
       abbrev pub After-put-row·gave : (c : After-put-row) → s14 .gives (m14 (c .before .before) (c .before .put-row-arg .given))
-      After-put-row·gave = λ c. Called.given ps·1 r·1 (claims· .3) T17 (record { pos = 12; ty = Syntax.tyRef Syntax.erased Syntax.mut (Memory.pointee (Row.the-row .written)); ref = λ x. x }, (Num.vAt 7 λ x. x, (Num.vFld 8 (List._∷_ (Syntax.field 0) List.[]) 0 λ x. Row.struct .as-values x .0, (Num.vFld 8 (List._∷_ (Syntax.field 1) List.[]) 2 λ x. Row.struct .as-values x .1 .0, (Num.vFld 8 (List._∷_ (Syntax.field 2) List.[]) 4 λ x. Row.struct .as-values x .1 .1 .0, tt))))) (m14 (c .before .before) (c .before .put-row-arg .given)) (c .put-row)
+      After-put-row·gave = λ c. Called.given ps·1 r·1 (claims· .3) T17 (record { pos = 12; ty = Syntax.tyRef Syntax.erased Syntax.mut (Memory.pointee (Row.the-row .written)); ref = λ x. x }, (Num.vAt 7 λ x. x, (record { pos = 8; st = List.[]; d = 0; at = λ x. x }, tt))) (m14 (c .before .before) (c .before .put-row-arg .given)) (c .put-row)
 
       abbrev pub m16 : (before : After-put-row-arg) → (given : s14 .gives (m14 (before .before) (before .put-row-arg .given))) → Typed.Mo T19
       m16 = λ before given. s15 (m15 before given)
@@ -1328,7 +1327,7 @@ module _ (claims· : Claims) where
         lay5 = λ c. (Path'.refl, λ g. λ g'. (Path'.refl, λ g''. (Path'.refl, (fill-state-requires record { before = record { before = record { before = record { before = c .before; put-row = c .put-row }; rows = record { given = g } }; fill-state-arg = record { given = g' } }; fill-state-arg2 = record { given = g'' } }, λ g'3. lay6 record { before = record { before = record { before = record { before = record { before = c .before; put-row = c .put-row }; rows = record { given = g } }; fill-state-arg = record { given = g' } }; fill-state-arg2 = record { given = g'' } }; fill-state = Called.called ps·2 r·2 (claims· .5) T29 (record { pos = 1; ty = Syntax.tyRef (Syntax.named 0) Syntax.imm (Syntax.tyInt Syntax.w8); ref = λ x. x }, (record { pos = 6; st = List.[]; d = 0; at = λ x. x }, (record { pos = 14; ty = Syntax.tyRef Syntax.erased Syntax.mut (Syntax.tyInt Syntax.w16); ref = λ x. x }, (record { pos = 16; ty = Syntax.tyRef Syntax.erased Syntax.mut (Syntax.tyInt Syntax.w16); ref = λ x. x }, tt)))) (m22 record { before = record { before = record { before = c .before; put-row = c .put-row }; rows = record { given = g } }; fill-state-arg = record { given = g' } } g'') g'3 }))))
 
         lay4 : (c : After-row-in) → at30 (W3 (c .before .before .before) (c .before .before .loop .rows) (c .before .before .loop .firsts) (c .before .before .loop .outcomes) (c .before .before .loop .k) (c .before .before .loop .i)) (m12 (c .before) (After-row-in·gave c))
-        lay4 = λ c. λ g. (Path'.refl, (put-row-requires record { before = record { before = c .before; row-in = c .row-in }; put-row-arg = record { given = g } }, λ g'. lay5 record { before = record { before = record { before = c .before; row-in = c .row-in }; put-row-arg = record { given = g } }; put-row = Called.called ps·1 r·1 (claims· .3) T17 (record { pos = 12; ty = Syntax.tyRef Syntax.erased Syntax.mut (Memory.pointee (Row.the-row .written)); ref = λ x. x }, (Num.vAt 7 λ x. x, (Num.vFld 8 (List._∷_ (Syntax.field 0) List.[]) 0 λ x. Row.struct .as-values x .0, (Num.vFld 8 (List._∷_ (Syntax.field 1) List.[]) 2 λ x. Row.struct .as-values x .1 .0, (Num.vFld 8 (List._∷_ (Syntax.field 2) List.[]) 4 λ x. Row.struct .as-values x .1 .1 .0, tt))))) (m14 record { before = c .before; row-in = c .row-in } g) g' }))
+        lay4 = λ c. λ g. (Path'.refl, (put-row-requires record { before = record { before = c .before; row-in = c .row-in }; put-row-arg = record { given = g } }, λ g'. lay5 record { before = record { before = record { before = c .before; row-in = c .row-in }; put-row-arg = record { given = g } }; put-row = Called.called ps·1 r·1 (claims· .3) T17 (record { pos = 12; ty = Syntax.tyRef Syntax.erased Syntax.mut (Memory.pointee (Row.the-row .written)); ref = λ x. x }, (Num.vAt 7 λ x. x, (record { pos = 8; st = List.[]; d = 0; at = λ x. x }, tt))) (m14 record { before = c .before; row-in = c .row-in } g) g' }))
 
         lay3 : (c : In-loop) → at31 (W3 (c .before .before) (c .before .loop .rows) (c .before .loop .firsts) (c .before .loop .outcomes) (c .before .loop .k) (c .before .loop .i)) (m9 (c .before))
         lay3 = λ c. (row-in-requires record { before = c .before; loop-test = c .loop-test }, λ g. lay4 record { before = record { before = c .before; loop-test = c .loop-test }; row-in = Called.called ps·0 r·0 (claims· .1) T10 (record { pos = 1; ty = Syntax.tyRef (Syntax.named 0) Syntax.imm (Syntax.tyInt Syntax.w8); ref = λ x. x }, (record { pos = 6; st = List.[]; d = 0; at = λ x. x }, tt)) (m9 (c .before)) g })
