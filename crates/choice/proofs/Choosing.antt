@@ -25,7 +25,7 @@ use Rattle.model.proofs.Choices.{choice-idle, choice-words}
 use Rattle.model.proofs.HeldPlan.{states-held, policy-held, commands-held, outcomes-held}
 use Rattle.model.proofs.Valid.{sound-valid}
 use Rattle.tables.specs.declared.internal.Span.{Span}
-use Rattle.tables.specs.Meaning.{spanAt}
+use Rattle.tables.specs.Spans.{spanAt}
 use Rattle.choice.specs.Within.{clear}
 
 module _ (T : Tables) (K : ℕ → Bool) (s : ℕ) (l : s < T .size .n) where

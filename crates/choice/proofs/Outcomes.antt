@@ -16,7 +16,8 @@ use Rattle.model.specs.Tables.{Tables, Lists}
 use Rattle.model.specs.Places.{startIn, listAt, firstOutcome, outcomesAt}
 use Rattle.tables.specs.declared.Row.{Row}
 use Rattle.tables.specs.declared.Size.{Size}
-use Rattle.tables.specs.Meaning.{held, commandsOf}
+use Rattle.tables.specs.Meaning.{held}
+use Rattle.tables.specs.Spans.{commandsOf}
 use Rattle.tables.specs.Ready.{Ready}
 use Rattle.tables.proofs.Readiness.{ready-below}
 use Rattle.choice.specs.Within.{clear}

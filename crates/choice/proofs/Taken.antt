@@ -16,7 +16,7 @@ use Rattle.model.proofs.Choices.{choice-some}
 use Rattle.model.proofs.HeldPlan.{commands-held}
 use Rattle.model.proofs.SoundFacts.{sound-facts}
 use Rattle.tables.specs.declared.internal.Span.{Span}
-use Rattle.tables.specs.Meaning.{spanAt}
+use Rattle.tables.specs.Spans.{spanAt}
 use Rattle.choice.proofs.Choosing.{hits-held}
 
 module _ (T : Tables) (sounds : sound T ≡ true) (s : ℕ) (l : s < T .size .n) where

@@ -19,10 +19,12 @@ use Rattle.model.proofs.Delivered.{decide-demand3}
 use Rattle.tables.specs.declared.Refusal.{Refusal}
 use Rattle.tables.specs.declared.internal.Admission.{Admission}
 use Rattle.tables.specs.declared.internal.Admission.the-variants.{Granted, Denied}
-use Rattle.tables.specs.Meaning.{refusalOf, admitted}
+use Rattle.tables.specs.Meaning.{refusalOf}
+use Rattle.tables.specs.Spans.{admitted}
 use Rattle.decide.specs.declared.Decision.{Decision}
 use Rattle.decide.specs.declared.DecideAnswer.the-variants.{Given}
-use Rattle.decide.specs.Calls.{noCounts, refusedWith, decided, afterDecide, Worked}
+use Rattle.decide.specs.Calls.{refusedWith, decided, Worked}
+use Rattle.decide.specs.Answers.{noCounts, afterDecide}
 
 -- ---- the lengths of the tables
 

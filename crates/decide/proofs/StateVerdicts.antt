@@ -22,7 +22,8 @@ use Rattle.choice.proofs.Taken.{span-inside, entry-fits}
 use Rattle.tables.specs.declared.Row.{Row}
 use Rattle.tables.specs.declared.Size.{Size}
 use Rattle.tables.specs.declared.internal.Span.{Span}
-use Rattle.tables.specs.Meaning.{held, spanAt}
+use Rattle.tables.specs.Meaning.{held}
+use Rattle.tables.specs.Spans.{spanAt}
 use Rattle.tables.specs.Seen.{Seen}
 use Rattle.nets.specs.Nets.{practised}
 use Rattle.decide.specs.Verdicts.{oneIf, markAt, columnOf, StateJudged}

@@ -1,38 +1,19 @@
--- What the call answers, and what it leaves in the tables lent to it.
+-- How the call makes its answer, and what the work leaves.
 use mathlib.Core.Path.{_≡_}
-use mathlib.Core.List.{List, [], _∷_}
+use mathlib.Core.List.{List, []}
 use Prim.Native.Nat.{ℕ}
 use lib.ListN.{getD}
 use Rattle.laws.specs.Lists.{overwrite}
 use Rattle.model.specs.Policy.{tally}
-use Rattle.model.specs.Refusal.{Answer, given, refused}
 use Rattle.model.specs.Tables.{Tables}
 use Rattle.model.specs.Held.{planIn}
-use Rattle.model.specs.Calls.{AfterDecide, rankTable, commandTable, markTable, cleared}
+use Rattle.model.specs.Calls.{rankTable, commandTable, markTable, cleared}
 use Rattle.tables.specs.declared.Refusal.{Refusal}
-use Rattle.tables.specs.Meaning.{refusalOf}
 use Rattle.decide.specs.declared.Decision.{Decision}
-use Rattle.decide.specs.declared.DecideAnswer.{DecideAnswer}
 use Rattle.decide.specs.declared.DecideAnswer.the-variants.{Given, Refused}
+use Rattle.decide.specs.Answers.{noCounts}
 
--- an answer with the tally that stands beside it
-abbrev pub answerWith : List (List ℕ) → DecideAnswer → Answer (List (List ℕ))
-answerWith t Given = given t
-answerWith t (Refused r) = refused (refusalOf r)
-
--- the tally's two rows, safe and lost, or the refusal
-abbrev pub decisionOf : Decision → Answer (List (List ℕ))
-decisionOf d = answerWith (d .safe ∷ d .lost ∷ []) (d .answer)
-
--- what is answered and what every table lent to the call holds
-abbrev pub afterDecide : Decision → List ℕ → List ℕ → List ℕ → List ℕ → AfterDecide
-afterDecide d ranks commands marks scratch =
-    record { answers = decisionOf d; ranks = ranks; commands = commands; marks = marks; scratch = scratch }
-
-abbrev pub noCounts : List ℕ
-noCounts = 0 ∷ 0 ∷ 0 ∷ []
-
--- "A refusal returns its number only": beside it both rows are zero
+-- a refusal, with no counts beside it
 abbrev pub refusedWith : Refusal → Decision
 refusedWith r = record { answer = Refused r; safe = noCounts; lost = noCounts }
 

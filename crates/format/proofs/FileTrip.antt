@@ -15,7 +15,7 @@ use Rattle.tables.specs.declared.Refusal.{Refusal}
 use Rattle.tables.specs.Meaning.{numbers, refusalOf, rowsOf, held}
 use Rattle.reading.specs.declared.ReadAnswer.{ReadAnswer}
 use Rattle.reading.specs.declared.ReadAnswer.the-variants.{Given, Refused}
-use Rattle.reading.specs.Meaning.{afterRead, answerOf as readAnswer}
+use Rattle.reading.specs.Answers.{afterRead, answerOf as readAnswer}
 use Rattle.reading.proofs.Leaves.{answered, leaves}
 use Rattle.writing.specs.declared.WriteAnswer.{WriteAnswer}
 use Rattle.writing.specs.Answers.{answerOf as writeAnswer, afterWrite}

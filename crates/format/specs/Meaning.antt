@@ -4,7 +4,7 @@ use Prim.Native.Nat.{ℕ}
 use Rattle.tables.specs.declared.Row.{Row}
 use Rattle.tables.specs.Meaning.{rowsOf}
 use Rattle.reading.specs.declared.ReadAnswer.{ReadAnswer}
-use Rattle.reading.specs.Meaning as R
+use Rattle.reading.specs.Answers as R
 use Rattle.writing.specs.declared.WriteAnswer.{WriteAnswer}
 use Rattle.writing.specs.Answers as W
 use Rattle.format.specs.Trips.{AfterReadWrite, AfterWriteRead}

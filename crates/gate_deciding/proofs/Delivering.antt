@@ -18,7 +18,7 @@ use Rattle.tables.specs.declared.Refusal.{Refusal}
 use Rattle.tables.specs.Meaning.{refusalOf}
 use Rattle.decide.specs.declared.Decision.{Decision}
 use Rattle.decide.specs.declared.DecideAnswer.the-variants.{Given, Refused}
-use Rattle.decide.specs.Calls.{afterDecide}
+use Rattle.decide.specs.Answers.{afterDecide}
 use Rattle.gate_deciding.specs.Delivery.{decideRoom, delivery, afterGateDecide, deliveryCall, Deliverable}
 
 -- a row of three counts, by its places

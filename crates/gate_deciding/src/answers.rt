@@ -5,7 +5,7 @@ ghost use Prim.Native.Nat.{_≤_};
 ghost use lib.ListN.{length};
 ghost use Rattle.laws.specs.Lists.{joined, overwrite};
 ghost use Rattle.model.specs.Boundary.{bytesFor, tallyBytes};
-ghost use Rattle.decide.specs.Calls.{afterDecide};
+ghost use Rattle.decide.specs.Answers.{afterDecide};
 ghost use Rattle.gate_deciding.specs.Delivery.{decideRoom, afterGateDecide, deliveryCall, Deliverable};
 use decide::DecideAnswer;
 use decide::Decision;

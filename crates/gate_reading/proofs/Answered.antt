@@ -19,7 +19,7 @@ use Rattle.tables.specs.declared.Refusal.{Refusal}
 use Rattle.tables.specs.Meaning.{rowOf, rowsOf, numbers, refusalOf}
 use Rattle.reading.specs.declared.ReadAnswer.{ReadAnswer}
 use Rattle.reading.specs.declared.ReadAnswer.the-variants.{Given, Refused}
-use Rattle.reading.specs.Meaning.{answerOf, afterRead}
+use Rattle.reading.specs.Answers.{answerOf, afterRead}
 use Rattle.reading.proofs.Passing.{refused-inv}
 use Rattle.gate_reading.specs.Lent.{admitted, afterGateRead}
 

@@ -6,7 +6,7 @@ ghost use Rattle.laws.specs.Lists.{overwrite};
 ghost use Rattle.model.specs.File.{maxStates, maxCommands, maxOutcomes};
 ghost use Rattle.model.specs.Boundary.{bytesFor, entryBytes, sizeBytes, sizeEntries, gateReadCall};
 ghost use Rattle.tables.specs.Meaning.{numbers};
-ghost use Rattle.reading.specs.Meaning.{answerOf};
+ghost use Rattle.reading.specs.Answers.{answerOf};
 ghost use Rattle.gate_reading.specs.Lent.{readRoom, admitted, afterGateRead};
 use reading::ReadAnswer;
 use reading::read;

@@ -20,7 +20,7 @@ use Rattle.tables.specs.Meaning.{refusalOf}
 use Rattle.search.specs.declared.Found.{Found}
 use Rattle.search.specs.declared.SearchAnswer.{SearchAnswer}
 use Rattle.search.specs.declared.SearchAnswer.the-variants.{Given, Refused}
-use Rattle.search.specs.Replies.{answerOf}
+use Rattle.search.specs.Answers.{answerOf}
 use Rattle.gate_searching.specs.Delivery.{afterGateSearch, searchRoom, delivery, Deliverable}
 
 -- what a call that answers x returns and leaves, where f, g and h give what an answer writes

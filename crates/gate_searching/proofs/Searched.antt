@@ -21,7 +21,7 @@ use Rattle.model.proofs.Valid.{sound-valid, few-states, few-commands}
 use Rattle.model.proofs.Widths.{rounds-fit}
 use Rattle.model.proofs.Gates.{wholeSearch, gate-search, code-from, left-from}
 use Rattle.search.specs.declared.SearchAnswer.{SearchAnswer}
-use Rattle.search.specs.Replies.{answerOf, afterSearch}
+use Rattle.search.specs.Answers.{answerOf, afterSearch}
 use Rattle.gate_searching.specs.Delivery.{delivery, Deliverable, delivered}
 
 -- what is answered of a search

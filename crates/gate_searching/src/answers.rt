@@ -5,7 +5,7 @@ ghost use Prim.Native.Nat.{_<_, _≤_};
 ghost use lib.ListN.{length};
 ghost use Rattle.laws.specs.Lists.{overwrite};
 ghost use Rattle.model.specs.Boundary.{bytesFor, resultEntries, answerBytes};
-ghost use Rattle.search.specs.Replies.{answerOf};
+ghost use Rattle.search.specs.Answers.{answerOf};
 ghost use Rattle.gate_searching.specs.Delivery.{afterGateSearch, searchRoom, Deliverable, delivered};
 use search::Found;
 use search::SearchAnswer;

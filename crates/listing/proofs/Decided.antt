@@ -20,12 +20,13 @@ use Rattle.model.proofs.SoundFacts.{sound-facts}
 use Rattle.model.proofs.Valid.{sound-valid, few-states, few-commands}
 use Rattle.tables.specs.declared.Row.{Row}
 use Rattle.tables.specs.declared.Size.{Size}
-use Rattle.tables.specs.Meaning.{rowOf, noRow, held}
+use Rattle.tables.specs.Meaning.{rowOf, held}
+use Rattle.tables.specs.Spans.{noRow}
 use Rattle.tables.proofs.LongTest.{rows-long}
 use Rattle.decide.specs.declared.Decision.{Decision}
 use Rattle.decide.specs.declared.DecideAnswer.{DecideAnswer}
 use Rattle.decide.specs.declared.DecideAnswer.the-variants.{Given, Refused}
-use Rattle.decide.specs.Calls.{answerWith, decisionOf}
+use Rattle.decide.specs.Answers.{answerWith, decisionOf}
 use Rattle.listing_text.proofs.StateLine.{listed-tables}
 use Rattle.listing.specs.AllListed.{AllListed}
 

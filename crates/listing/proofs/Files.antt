@@ -27,7 +27,7 @@ use Rattle.tables.specs.declared.Refusal.{Refusal}
 use Rattle.tables.specs.Meaning.{numbers, refusalOf, rowOf, rowsOf, held}
 use Rattle.reading.specs.declared.ReadAnswer.{ReadAnswer}
 use Rattle.reading.specs.declared.ReadAnswer.the-variants.{Given, Refused}
-use Rattle.reading.specs.Meaning.{answerOf, afterRead}
+use Rattle.reading.specs.Answers.{answerOf, afterRead}
 use Rattle.reading.proofs.Passing.{refused-inv}
 use Rattle.reading.proofs.Leaves.{answered, leaves}
 use Rattle.listing.specs.declared.Text.{Text}

@@ -20,7 +20,7 @@ use Rattle.tables.specs.declared.Refusal.{Refusal}
 use Rattle.search.specs.declared.Found.{Found}
 use Rattle.search.specs.declared.SearchAnswer.{SearchAnswer}
 use Rattle.search.specs.declared.SearchAnswer.the-variants.{Given, Refused}
-use Rattle.search.specs.Replies.{answerOf}
+use Rattle.search.specs.Answers.{answerOf}
 
 module _ (T : Tables) (e : sound T ≡ true) where
   pub start-small : T .size .start < 1000000

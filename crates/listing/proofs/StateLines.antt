@@ -14,7 +14,7 @@ use Rattle.model.specs.Plan.{Plan}
 use Rattle.model.specs.Listing.{stateLine}
 use Rattle.model.proofs.ListingLength.{state-length}
 use Rattle.tables.specs.declared.Row.{Row}
-use Rattle.tables.specs.Meaning.{noRow}
+use Rattle.tables.specs.Spans.{noRow}
 use Rattle.listing_text.specs.Listed.{Listed}
 use Rattle.listing.specs.AllListed.{AllListed}
 

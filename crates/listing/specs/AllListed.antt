@@ -4,7 +4,7 @@ use Prim.Native.Nat.{ℕ, _<_}
 use lib.ListN.{getD}
 use Rattle.model.specs.Plan.{Plan}
 use Rattle.tables.specs.declared.Row.{Row}
-use Rattle.tables.specs.Meaning.{noRow}
+use Rattle.tables.specs.Spans.{noRow}
 use Rattle.listing_text.specs.Listed.{Listed}
 
 -- for each of the first n states: its kind from the rows, and its entries in deciding's tables

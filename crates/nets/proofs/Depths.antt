@@ -30,7 +30,8 @@ use Rattle.model.proofs.Layers.{rank-bound}
 use Rattle.model.proofs.SoundFacts.{sound-facts}
 use Rattle.tables.specs.declared.Row.{Row}
 use Rattle.tables.specs.declared.Size.{Size}
-use Rattle.tables.specs.Meaning.{held, spanAt, failingSpan, commandsOf}
+use Rattle.tables.specs.Meaning.{held}
+use Rattle.tables.specs.Spans.{spanAt, failingSpan, commandsOf}
 use Rattle.tables.proofs.Spans.{span-failing}
 use Rattle.choice.specs.Within.{within}
 use Rattle.propagate.specs.Net.{netOf, losing, depth, seeds, Seeded}

@@ -8,7 +8,8 @@ use Rattle.laws.specs.Filled.{Filled}
 use Rattle.model.specs.SoundTest.{sound}
 use Rattle.tables.specs.declared.Row.{Row}
 use Rattle.tables.specs.declared.Size.{Size}
-use Rattle.tables.specs.Meaning.{held, commandsOf}
+use Rattle.tables.specs.Meaning.{held}
+use Rattle.tables.specs.Spans.{commandsOf}
 use Rattle.propagate.specs.Net.{netOf}
 use Rattle.nets.specs.Nets.{Initialized}
 use Rattle.nets.specs.Found.{depthTable, Found}

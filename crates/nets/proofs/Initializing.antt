@@ -14,7 +14,8 @@ use Rattle.model.specs.Tables.{Tables}
 use Rattle.tables.specs.declared.Row.{Row}
 use Rattle.tables.specs.declared.Size.{Size}
 use Rattle.tables.specs.declared.internal.Span.{Span}
-use Rattle.tables.specs.Meaning.{held, spanAt, failingSpan}
+use Rattle.tables.specs.Meaning.{held}
+use Rattle.tables.specs.Spans.{spanAt, failingSpan}
 use Rattle.nets.specs.declared.ranges.Range.{Range}
 use Rattle.nets.specs.Nets.{practised, rangeFrom, practiceRange, rangeOf, seedOf, Spans, StateInitialized, Initialized}
 

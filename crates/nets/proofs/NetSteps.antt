@@ -26,7 +26,8 @@ use Rattle.model.proofs.HeldPlan.{states-held, policy-held, commands-held}
 use Rattle.model.proofs.Valid.{sound-valid}
 use Rattle.tables.specs.declared.Row.{Row}
 use Rattle.tables.specs.declared.Size.{Size}
-use Rattle.tables.specs.Meaning.{held, spanAt, commandsOf}
+use Rattle.tables.specs.Meaning.{held}
+use Rattle.tables.specs.Spans.{spanAt, commandsOf}
 use Rattle.propagate.specs.Net.{netOf, from, to, losing}
 use Rattle.propagate.specs.Net.{commandHits}
 use Rattle.nets.specs.Nets.{practised, practiceRange, rangeOf}

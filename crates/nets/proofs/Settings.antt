@@ -16,7 +16,8 @@ use Rattle.model.specs.SoundTest.{sound}
 use Rattle.model.proofs.SoundFacts.{Fits, sound-facts}
 use Rattle.tables.specs.declared.Row.{Row}
 use Rattle.tables.specs.declared.Size.{Size}
-use Rattle.tables.specs.Meaning.{held, spanAt, commandsOf}
+use Rattle.tables.specs.Meaning.{held}
+use Rattle.tables.specs.Spans.{spanAt, commandsOf}
 use Rattle.tables.specs.Ready.{Ready}
 use Rattle.tables.proofs.LongTest.{rows-long}
 use Rattle.tables.proofs.Readiness.{sound-ready}

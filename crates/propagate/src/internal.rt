@@ -7,7 +7,7 @@ ghost use Rattle.laws.specs.Entry.{entry};
 ghost use Rattle.laws.specs.Lists.{tabulate, overwrite};
 ghost use Rattle.laws.specs.Starts.{startOf};
 ghost use Rattle.model.specs.File.{maxStates};
-ghost use Rattle.tables.specs.Meaning.{commandsOf};
+ghost use Rattle.tables.specs.Spans.{commandsOf};
 ghost use Rattle.tables.specs.Ready.{Ready};
 ghost use Rattle.propagate.specs.Net.{netOf, depth, seeds, Seeded, Ranges, Indexed, Owns};
 ghost use Rattle.propagate.specs.Work.{work, Advanced, QueueBound, Moved, Among, Layered, SeedsQueued};

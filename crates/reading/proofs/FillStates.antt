@@ -13,7 +13,8 @@ use Rattle.laws.proofs.Writes.{length-put, put-append}
 use Rattle.model.specs.File.{State, stateFrom, fieldOf, stateValues, maxCommands}
 use Rattle.model.specs.Tables.{allCommands, rowsFrom, firstsFrom}
 use Rattle.tables.specs.declared.Row.{Row}
-use Rattle.tables.specs.Meaning.{rowsOf, rowWith}
+use Rattle.tables.specs.Meaning.{rowsOf}
+use Rattle.tables.specs.Spans.{rowWith}
 use Rattle.tables.proofs.StoredRows.{row-stored}
 use Rattle.reading.specs.declared.bytes.Mark.{Mark}
 use Rattle.reading.specs.Meaning.{bytesFrom, moved}

@@ -9,7 +9,7 @@ use Rattle.tables.specs.declared.Row.{Row}
 use Rattle.tables.specs.Meaning.{numbers, rowsOf, held}
 use Rattle.reading.specs.declared.ReadAnswer.{ReadAnswer}
 use Rattle.reading.specs.declared.ReadAnswer.the-variants.{Given}
-use Rattle.reading.specs.Meaning.{answerOf, afterRead}
+use Rattle.reading.specs.Answers.{answerOf, afterRead}
 
 module _ (file : List ℕ) (rows : List Row) (firsts outcomes : List ℕ) (r : ReadAnswer) (rows′ : List Row) (firsts′ outcomes′ : List ℕ)
     (e : afterRead r rows′ firsts′ outcomes′ ≡ readCall file (rowsOf rows) firsts outcomes) where

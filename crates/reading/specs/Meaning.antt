@@ -1,4 +1,4 @@
--- What the answers of reading stand for.
+-- What a mark in a file stands for, and what the functions that walk over fields answer.
 use mathlib.Core.Path.{_≡_}
 use mathlib.Core.List.{List, []}
 use Prim.Native.Nat.{ℕ, _+_, _*_, _≤_}
@@ -6,21 +6,10 @@ use lib.ListN.{length, drop}
 use Rattle.laws.specs.Lists.{joined}
 use Rattle.model.specs.Refusal.{Answer, given, refused}
 use Rattle.model.specs.File.{State, Tree, maxCommands, maxOutcomes}
-use Rattle.model.specs.Tables.{Size as ModelSize, allCommands, tablesOf}
-use Rattle.model.specs.Calls.{AfterRead}
-use Rattle.tables.specs.declared.Row.{Row}
-use Rattle.tables.specs.Meaning.{refusalOf, numbers, rowsOf}
-use Rattle.reading.specs.declared.ReadAnswer.{ReadAnswer}
+use Rattle.model.specs.Tables.{allCommands, tablesOf}
+use Rattle.tables.specs.Meaning.{refusalOf}
 use Rattle.reading.specs.declared.bytes.Mark.{Mark}
 use Rattle.reading.specs.declared.frame.Passed.{Passed}
-
-abbrev pub answerOf : ReadAnswer → Answer ModelSize
-answerOf (ReadAnswer.Given z) = given (numbers z)
-answerOf (ReadAnswer.Refused r) = refused (refusalOf r)
-
--- what is answered, and what the lent tables hold then
-abbrev pub afterRead : ReadAnswer → List Row → List ℕ → List ℕ → AfterRead
-afterRead r rows firsts outcomes = record { answers = answerOf r; rows = rowsOf rows; firsts = firsts; outcomes = outcomes }
 
 abbrev pub moved : Mark → ℕ → Mark
 moved k bytes = record { at = k .at + bytes; m = k .m; t = k .t }

@@ -4,7 +4,7 @@ ghost use mathlib.Core.Bool.{_&&_};
 ghost use lib.Dec.{leb};
 ghost use Rattle.model.specs.Calls.{readCall};
 ghost use Rattle.tables.specs.Meaning.{rowsOf};
-ghost use Rattle.reading.specs.Meaning.{afterRead};
+ghost use Rattle.reading.specs.Answers.{afterRead};
 use tables::Refusal;
 use tables::Row;
 use tables::Size;

@@ -19,7 +19,7 @@ use Rattle.model.specs.Held.{planIn}
 use Rattle.model.proofs.Choices.{choice-some}
 use Rattle.model.proofs.HeldPlan.{commands-held, outcomes-held}
 use Rattle.tables.specs.declared.internal.Span.{Span}
-use Rattle.tables.specs.Meaning.{spanAt}
+use Rattle.tables.specs.Spans.{spanAt}
 use Rattle.choice.specs.Within.{within}
 use Rattle.choice.proofs.Outcomes.{outcomes-read}
 use Rattle.choice.proofs.Taken.{taken-place, taken-clear, none-taken, some-taken}

@@ -15,7 +15,7 @@ use Rattle.model.specs.Tables.{Tables}
 use Rattle.model.specs.Places.{firstCommand, commandCount}
 use Rattle.model.specs.Held.{planIn}
 use Rattle.model.proofs.HeldPlan.{kind-held, commands-held}
-use Rattle.tables.specs.Meaning.{spanAt}
+use Rattle.tables.specs.Spans.{spanAt}
 use Rattle.tables.proofs.Spans.{span-failing}
 use Rattle.search.specs.Prepared.{activeSpan}
 use Rattle.search.specs.Phases.{startFlag, startEnd}

@@ -18,7 +18,8 @@ use Rattle.model.proofs.Delivered.{search-demand3}
 use Rattle.tables.specs.declared.Row.{Row}
 use Rattle.tables.specs.declared.Refusal.{Refusal}
 use Rattle.tables.specs.declared.Size.{Size}
-use Rattle.tables.specs.Meaning.{held, refusalOf, admitted}
+use Rattle.tables.specs.Meaning.{held, refusalOf}
+use Rattle.tables.specs.Spans.{admitted}
 use Rattle.search.specs.declared.Found.{Found}
 use Rattle.tables.specs.declared.internal.Admission.{Admission}
 use Rattle.tables.specs.declared.internal.Admission.the-variants.{Granted, Denied}
@@ -26,7 +27,7 @@ use Rattle.search.specs.declared.SearchAnswer.{SearchAnswer}
 use Rattle.search.specs.declared.SearchAnswer.the-variants.{Given, Refused}
 use Rattle.search.specs.Prepared.{Prepared}
 use Rattle.search.specs.Phases.{Answered}
-use Rattle.search.specs.Replies.{answerOf, afterSearch}
+use Rattle.search.specs.Answers.{answerOf, afterSearch}
 use Rattle.search.proofs.Preparing.{prepared}
 
 module _ (T : Tables) (a : ℕ) (c s : List ℕ) where

@@ -22,7 +22,7 @@ use Rattle.model.proofs.Choices.{misses, choice-some}
 use Rattle.model.proofs.Walks.{reached-all}
 use Rattle.model.proofs.HeldPlan.{states-held}
 use Rattle.model.proofs.Valid.{sound-valid}
-use Rattle.tables.specs.Meaning.{spanAt}
+use Rattle.tables.specs.Spans.{spanAt}
 use Rattle.choice.proofs.Taken.{few-commands}
 use Rattle.search.specs.Flags.{knownIn, walkedIn}
 use Rattle.search.specs.Phases.{walkFlag, taken, Walked, markedAt, settledAt, endOf, roundFlag, roundEnd, Rounded}

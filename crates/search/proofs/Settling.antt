@@ -15,7 +15,7 @@ use Rattle.laws.specs.Filled.{Filled}
 use Rattle.laws.proofs.Fills.{filled-none, filled-next}
 use Rattle.model.specs.Tables.{Tables}
 use Rattle.tables.specs.declared.internal.Span.{Span}
-use Rattle.tables.specs.Meaning.{spanAt, failingSpan}
+use Rattle.tables.specs.Spans.{spanAt, failingSpan}
 use Rattle.search.specs.Flags.{walkedIn}
 use Rattle.search.specs.Prepared.{activeSpan}
 use Rattle.search.specs.Phases.{startFlag, startEnd, markedAt, settledAt}

@@ -1,4 +1,4 @@
 pub mod Flags
 pub mod Prepared
 pub mod Phases
-pub mod Replies
+pub mod Answers

@@ -12,7 +12,7 @@ use Rattle.model.specs.Plan.{Plan}
 use Rattle.model.specs.Command.{choice}
 use Rattle.model.specs.Search.{lands, reached, marked, search}
 use Rattle.tables.specs.declared.internal.Span.{Span}
-use Rattle.tables.specs.Meaning.{failingSpan}
+use Rattle.tables.specs.Spans.{failingSpan}
 use Rattle.search.specs.declared.Found.{Found}
 use Rattle.search.specs.Flags.{knownIn, walkedIn, Spread}
 use Rattle.search.specs.Prepared.{activeSpan}

@@ -10,7 +10,8 @@ use Rattle.model.specs.SoundTest.{sound}
 use Rattle.tables.specs.declared.Row.{Row}
 use Rattle.tables.specs.declared.Size.{Size}
 use Rattle.tables.specs.declared.internal.Span.{Span}
-use Rattle.tables.specs.Meaning.{held, commandsOf}
+use Rattle.tables.specs.Meaning.{held}
+use Rattle.tables.specs.Spans.{commandsOf}
 use Rattle.tables.specs.Ready.{Ready}
 use Rattle.search.specs.Flags.{knownIn}
 

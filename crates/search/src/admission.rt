@@ -5,7 +5,7 @@ ghost use Rattle.model.specs.SoundTest.{sound};
 ghost use Rattle.model.specs.Held.{planIn};
 ghost use Rattle.model.specs.Search.{search};
 ghost use Rattle.model.specs.Calls.{searching};
-ghost use Rattle.tables.specs.Meaning.{admitted};
+ghost use Rattle.tables.specs.Spans.{admitted};
 use tables::Refusal;
 use tables::internal::Admission;
 

@@ -6,7 +6,7 @@ ghost use Rattle.model.specs.Refusal.{given};
 ghost use Rattle.model.specs.Calls.{searchCall};
 ghost use Rattle.model.specs.Demand3.{SearchDemand3};
 ghost use Rattle.tables.specs.Meaning.{held};
-ghost use Rattle.search.specs.Replies.{answerOf, afterSearch};
+ghost use Rattle.search.specs.Answers.{answerOf, afterSearch};
 use tables::Refusal;
 use tables::Row;
 use tables::Size;

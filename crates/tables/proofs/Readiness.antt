@@ -11,7 +11,8 @@ use Rattle.model.specs.SoundTest.{sound}
 use Rattle.model.proofs.SoundFacts.{Fits, sound-facts}
 use Rattle.tables.specs.declared.Row.{Row}
 use Rattle.tables.specs.declared.Size.{Size}
-use Rattle.tables.specs.Meaning.{held, commandsOf}
+use Rattle.tables.specs.Meaning.{held}
+use Rattle.tables.specs.Spans.{commandsOf}
 use Rattle.tables.specs.Ready.{Ready}
 
 module _ (size : Size) (rows : List Row) (firsts outcomes : List ℕ) where

@@ -14,7 +14,7 @@ use Rattle.model.specs.Sound.{Sound}
 use Rattle.model.specs.SoundTest.{sizeSound, tablesLong, rowSound, listsSound, sound}
 use Rattle.model.proofs.Soundness.{sound-iff}
 use Rattle.tables.specs.declared.internal.Span.{Span}
-use Rattle.tables.specs.Meaning.{spanAt, startsSound, outcomesSound}
+use Rattle.tables.specs.Spans.{spanAt, startsSound, outcomesSound}
 
 regroup : (x c d e f g : Bool) → (x && c && e && (d && f && g)) ≡ (x && (c && d) && e && (f && g))
 regroup false c d e f g = refl

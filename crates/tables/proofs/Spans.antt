@@ -15,7 +15,8 @@ use Rattle.model.proofs.HeldPlan.{kind-held}
 use Rattle.tables.specs.declared.Size.{Size}
 use Rattle.tables.specs.declared.Row.{Row}
 use Rattle.tables.specs.declared.internal.Span.{Span}
-use Rattle.tables.specs.Meaning.{rowOf, noRow, held, spanOf, spanAt, failingSpan, spanSound}
+use Rattle.tables.specs.Meaning.{rowOf, held}
+use Rattle.tables.specs.Spans.{noRow, spanOf, spanAt, failingSpan, spanSound}
 
 module _ (z : Size) (R : List Row) (F O : List ℕ) where
   row-held : (s : ℕ) → rowAt (held z R F O) s ≡ rowOf (getD R s noRow)

@@ -7,7 +7,8 @@ use lib.ListN.{length, getD, drop, set}
 use Rattle.model.specs.Tables.{Row as ModelRow}
 use Rattle.model.specs.Places.{fieldFor}
 use Rattle.tables.specs.declared.Row.{Row}
-use Rattle.tables.specs.Meaning.{rowOf, rowsOf, rowWith, noRow}
+use Rattle.tables.specs.Meaning.{rowOf, rowsOf}
+use Rattle.tables.specs.Spans.{rowWith, noRow}
 
 pub row-stored : (R : List Row) (s : ℕ) (r : Row) → map rowOf (set R s r) ≡ set (map rowOf R) s (rowOf r)
 row-stored [] s r = refl

@@ -1,3 +1,4 @@
 pub mod Meaning
+pub mod Spans
 pub mod Seen
 pub mod Ready

@@ -7,7 +7,8 @@ use Rattle.model.specs.SoundTest.{sound}
 use Rattle.tables.specs.declared.Size.{Size}
 use Rattle.tables.specs.declared.Row.{Row}
 use Rattle.tables.specs.declared.internal.Span.{Span}
-use Rattle.tables.specs.Meaning.{held, spanAt}
+use Rattle.tables.specs.Meaning.{held}
+use Rattle.tables.specs.Spans.{spanAt}
 
 -- what was read of the state s is what some rows hold, with which the plan is sound
 pub record Seen (size : Size) (firsts outcomes : List ℕ) (s : ℕ) (span : Span) : Type 0 where

@@ -14,7 +14,7 @@ use Rattle.model.specs.File.{commandTag}
 use Rattle.model.specs.Bytes.{commandsBytes}
 use Rattle.model.specs.Places.{firstOutcome, listAt, outcomesAt}
 use Rattle.tables.specs.declared.Size.{Size}
-use Rattle.tables.specs.Meaning.{commandsOf}
+use Rattle.tables.specs.Spans.{commandsOf}
 use Rattle.tables.specs.Ready.{Ready}
 use Rattle.tables.proofs.Readiness.{ready-below}
 

@@ -27,7 +27,8 @@ use Rattle.model.proofs.RoundTrips.{written-length}
 use Rattle.tables.specs.declared.Refusal.{Refusal}
 use Rattle.tables.specs.declared.internal.Admission.{Admission}
 use Rattle.tables.specs.declared.internal.Admission.the-variants.{Granted, Denied}
-use Rattle.tables.specs.Meaning.{refusalOf, admitted}
+use Rattle.tables.specs.Meaning.{refusalOf}
+use Rattle.tables.specs.Spans.{admitted}
 use Rattle.writing.specs.declared.WriteAnswer.the-variants.{Given, Refused}
 use Rattle.writing.specs.Answers.{afterWrite}
 use Rattle.writing.proofs.Spreads.{states-spread}

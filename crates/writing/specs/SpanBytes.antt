@@ -6,7 +6,7 @@ use Rattle.model.specs.Bytes.{stateBytes, commandsBytes}
 use Rattle.model.specs.Places.{outcomesAt}
 use Rattle.tables.specs.declared.Size.{Size}
 use Rattle.tables.specs.declared.internal.Span.{Span}
-use Rattle.tables.specs.Meaning.{commandsOf, fieldIn}
+use Rattle.tables.specs.Spans.{commandsOf, fieldIn}
 
 -- the commands from first up to end
 unfoldable pub commandsFrom : Size → List ℕ → List ℕ → ℕ → ℕ → List (List ℕ)

@@ -7,7 +7,7 @@ ghost use Rattle.laws.specs.Entry.{two, twos};
 ghost use Rattle.laws.specs.Wrote.{Wrote};
 ghost use Rattle.model.specs.File.{headTag, endTag};
 ghost use Rattle.model.specs.Bytes.{stateBytes, commandsBytes};
-ghost use Rattle.tables.specs.Meaning.{fieldIn};
+ghost use Rattle.tables.specs.Spans.{fieldIn};
 use crate::bytes::put_byte;
 use crate::bytes::put_pair;
 use crate::bytes::put_two;

@@ -1,6 +1,6 @@
 mod Tie
 use Rattle.reading.proofs.Calls.{unchanged, no-plan, cramped, all-long, room, filled}
-use Rattle.reading.specs.Meaning.{answerOf}
+use Rattle.reading.specs.Answers.{answerOf}
 use Rattle.tables.specs.Meaning.{numbers}
 use lib.ListN.{length}
 use mathlib.Core.Path.{sym, ap, _∙_}

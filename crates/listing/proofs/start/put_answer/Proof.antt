@@ -1,6 +1,6 @@
 use mathlib.Core.Path.{ap}
 use borrow.Author.Needs.{needs}
-use Rattle.search.specs.Replies.{answerOf}
+use Rattle.search.specs.Answers.{answerOf}
 use Rattle.listing.proofs.Found.{not-refused, same-found}
 use Rattle.listing.proofs.start.put_answer.Statement.{statement}
 use Rattle.listing.proofs.start.put_answer.Tie as tie

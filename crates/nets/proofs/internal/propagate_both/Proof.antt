@@ -1,6 +1,6 @@
 use Rattle.laws.proofs.Fills.{filled-over}
 use native.Mathlib.Omega.{arith}
-use Rattle.tables.specs.Meaning.{commandsOf}
+use Rattle.tables.specs.Spans.{commandsOf}
 use Rattle.nets.proofs.OwnIndex.{ranges-fit, owners-fit}
 use borrow.Author.Needs.{needs}
 use Rattle.nets.proofs.internal.propagate_both.Statement.{statement}

@@ -4,7 +4,7 @@ use lib.ListN.{length}
 use native.Mathlib.Omega.{arith}
 use mathlib.Core.Path.{_≡_, refl, _∙_}
 use Prim.Native.Nat.{_-_}
-use Rattle.tables.specs.Meaning.{commandsOf}
+use Rattle.tables.specs.Spans.{commandsOf}
 use Rattle.propagate.proofs.internal.add_layer.Statement.{statement}
 use Rattle.propagate.proofs.internal.add_layer.Tie as tie
 

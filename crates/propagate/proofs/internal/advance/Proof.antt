@@ -6,7 +6,7 @@ use native.Mathlib.Omega.{arith}
 use Prim.Native.Nat.{_≤_, _-_}
 use mathlib.Core.Path.{sym, _∙_}
 use mathlib.Core.List.{[]}
-use Rattle.tables.specs.Meaning.{commandsOf}
+use Rattle.tables.specs.Spans.{commandsOf}
 use Rattle.propagate.proofs.internal.advance.Statement.{statement}
 use Rattle.propagate.proofs.internal.advance.Tie as tie
 

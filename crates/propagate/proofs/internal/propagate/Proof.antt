@@ -3,7 +3,7 @@ use Rattle.propagate.proofs.Starts.{start-bound, start-at-layer}
 use native.Mathlib.Omega.{arith}
 use mathlib.Core.Path.{refl, _∙_}
 use Prim.Native.Nat.{_-_}
-use Rattle.tables.specs.Meaning.{commandsOf}
+use Rattle.tables.specs.Spans.{commandsOf}
 use Rattle.propagate.proofs.internal.propagate.Statement.{statement}
 use Rattle.propagate.proofs.internal.propagate.Tie as tie
 

@@ -6,7 +6,8 @@ use native.Mathlib.Omega.{arith}
 use borrow.Author.Needs.{needs}
 use Rattle.laws.specs.Filled.{Filled}
 use Rattle.laws.proofs.Fills.{filled-none, filled-next, filled-done}
-use Rattle.tables.specs.Meaning.{held, spanAt}
+use Rattle.tables.specs.Meaning.{held}
+use Rattle.tables.specs.Spans.{spanAt}
 use Rattle.search.specs.Phases.{startFlag}
 use Rattle.search.proofs.marks.start_known.Statement.{statement}
 use Rattle.search.proofs.marks.start_known.Proof.Tie as tie

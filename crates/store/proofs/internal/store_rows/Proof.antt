@@ -7,7 +7,8 @@ use Rattle.laws.proofs.Blocks.{Stored, stored-none, stored-next, stored-done}
 use Rattle.laws.specs.Writes.{putAll}
 use Rattle.model.specs.Boundary.{bytesFor, rowEntries}
 use Rattle.model.specs.Tables.{Row as ModelRow}
-use Rattle.tables.specs.Meaning.{rowOf, rowsOf, noRow}
+use Rattle.tables.specs.Meaning.{rowOf, rowsOf}
+use Rattle.tables.specs.Spans.{noRow}
 use Rattle.store.proofs.Entries.{rows-blocks}
 mod Tie
 use Rattle.store.proofs.internal.store_rows.Statement.{statement}

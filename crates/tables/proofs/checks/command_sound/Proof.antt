@@ -3,7 +3,7 @@ use mathlib.Core.List.{[]}
 use borrow.Author.Needs.{needs}
 use borrow.Author.Tests.{lt-leb, le-leb, lt-ltb, le-ltb}
 use Rattle.model.specs.Tables.{listsIn}
-use Rattle.tables.specs.Meaning.{commandsOf}
+use Rattle.tables.specs.Spans.{commandsOf}
 use Rattle.tables.proofs.CommandTest.{command-test}
 use Rattle.tables.proofs.checks.command_sound.Statement.{statement}
 use Rattle.tables.proofs.checks.command_sound.Tie as tie

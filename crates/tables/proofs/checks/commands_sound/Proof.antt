@@ -6,7 +6,7 @@ use Rattle.laws.specs.Sets.{every}
 use Rattle.laws.proofs.Loops.{stopped, passed, every-none, every-next, every-stop, every-done}
 use Rattle.model.specs.Tables.{listsIn}
 use Rattle.model.specs.SoundTest.{listSound}
-use Rattle.tables.specs.Meaning.{commandsOf}
+use Rattle.tables.specs.Spans.{commandsOf}
 use Rattle.tables.proofs.checks.commands_sound.Statement.{statement}
 use Rattle.tables.proofs.checks.commands_sound.Tie as tie
 

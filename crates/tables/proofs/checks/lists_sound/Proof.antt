@@ -1,6 +1,6 @@
 use borrow.Author.Needs.{needs}
 use Rattle.laws.proofs.Loops.{stopped, passed}
-use Rattle.tables.specs.Meaning.{outcomesSound}
+use Rattle.tables.specs.Spans.{outcomesSound}
 use Rattle.tables.proofs.checks.lists_sound.Statement.{statement}
 use Rattle.tables.proofs.checks.lists_sound.Tie as tie
 

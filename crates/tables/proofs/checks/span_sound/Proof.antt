@@ -1,7 +1,7 @@
 use mathlib.Core.Bool.{and-false}
 use borrow.Author.Needs.{needs}
 use borrow.Author.Tests.{lt-leb, le-leb}
-use Rattle.tables.specs.Meaning.{spanSound}
+use Rattle.tables.specs.Spans.{spanSound}
 use Rattle.tables.proofs.checks.span_sound.Statement.{statement}
 use Rattle.tables.proofs.checks.span_sound.Tie as tie
 

@@ -1,6 +1,6 @@
 use borrow.Author.Needs.{needs}
 use borrow.Author.Tests.{eq-eqb, ne-eqb}
-use Rattle.tables.specs.Meaning.{startsSound}
+use Rattle.tables.specs.Spans.{startsSound}
 use Rattle.tables.proofs.checks.starts_sound.Statement.{statement}
 use Rattle.tables.proofs.checks.starts_sound.Tie as tie
 

@@ -1,5 +1,5 @@
 use mathlib.Core.Path.{refl}
-use Rattle.tables.specs.Meaning.{failingSpan}
+use Rattle.tables.specs.Spans.{failingSpan}
 use Rattle.tables.proofs.internal.is_failing.Statement.{statement}
 use Rattle.tables.proofs.internal.is_failing.Tie as tie
 

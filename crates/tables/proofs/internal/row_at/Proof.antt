@@ -37,7 +37,7 @@ use denote.Triple.Spec.{Meets, tripleOf}
 use denote.Triple.Table.{entered}
 use denote.Triple.Walked.{says, needs, Stays, stay-none-slice, stay-none, walkOf, Walks, ends-at, walked, goes-none-slice, goes-none, walk-meets}
 use denote.Exit.{yes}
-use Rattle.tables.specs.Meaning.{noRow}
+use Rattle.tables.specs.Spans.{noRow}
 use Rattle.tables.specs.declared.Row.{Row}
 use Rattle.tables.proofs.Row as T
 use Rattle.tables.proofs.Row.Laws as T′

@@ -1,4 +1,4 @@
--- What the public call answers and leaves, in the model's words.
+-- What the answer of the search stands for.
 use mathlib.Core.Bool.{Bool}
 use mathlib.Core.List.{List}
 use Prim.Native.Nat.{ℕ}
