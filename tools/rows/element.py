@@ -11,6 +11,7 @@ class Row:
 
     fields: list  # their names, in order
     width: int  # of each field, in bits
+    blank: list  # the values of its constant BLANK, in the same order
 
     @property
     def size(self):
@@ -29,12 +30,16 @@ class Element:
 def read_row(path):
     """The row's fields, from the struct in the source of the crate that declares it."""
     with open(path) as f:
-        declared = re.search(rf"struct {ROW} \{{\n(.*?)\n\}}", f.read(), flags=re.S)
+        text = f.read()
+    declared = re.search(rf"struct {ROW} \{{\n(.*?)\n\}}", text, flags=re.S)
     lines = [line.strip() for line in declared.group(1).split("\n")] if declared else []
     fields = [re.fullmatch(r"(?:pub )?(\w+): u(8|16|32|64),", line) for line in lines if not line.startswith("//")]
     if not fields or not all(fields) or len({m.group(2) for m in fields}) != 1:
         raise SystemExit(f"rows: struct {ROW} in {path} is not numbers of one width, as u16: no array of numbers stands for it")
-    return Row([m.group(1) for m in fields], int(fields[0].group(2)))
+    blank = re.search(rf"const BLANK: {ROW} = {ROW} \{{(.*?)\}};", text, flags=re.S)
+    values = dict(re.findall(r"(\w+): (\d+)", blank.group(1))) if blank else {}
+    names = [m.group(1) for m in fields]
+    return Row(names, int(fields[0].group(2)), [values.get(name) for name in names])
 
 
 def element_for(repo, crate, row, local):

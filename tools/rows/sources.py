@@ -30,7 +30,7 @@ class Function:
     @property
     def local_rows(self):
         """Whether it makes rows in a local."""
-        return any(re.search(rf"\[{ROW} \{{", line) for line in self.body)
+        return any(re.search(rf"\[{ROW}( \{{|::BLANK;)", line) for line in self.body)
 
     @property
     def thin(self):

@@ -66,6 +66,8 @@ def over_arrays(text, row, element):
             raise SystemExit(f"rows: a {ROW} is to be written with the fields in the struct's order: {', '.join(row.fields)}")
         return "[[" + ", ".join(value[-1] for value in values) + f"]; {m.group(2)}]"
 
+    if None not in row.blank:
+        text = re.sub(rf"\[{ROW}::BLANK; ([\w:]+)\]", rf"[[{', '.join(row.blank)}]; \1]", text)
     return re.sub(rf"\[{ROW} \{{\s*(.*?)\s*\}}; ([\w:]+)\]", literal, text, flags=re.S)
 
 

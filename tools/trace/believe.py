@@ -1,4 +1,4 @@
-"""The section of README that lists what to read: each line `N PATH ..` says how many lines the file has, comments and blank lines left out. Of code
+"""The section of README that lists what to read: each line `N PATH ..` says how many lines the file has, comments, imports and blank lines left out. Of code
 the heads of public functions count, with their contracts."""
 import re
 
@@ -16,7 +16,7 @@ def lines_of(path):
     text = (REPO / path).read_text()
     if path.endswith(".rt"):
         text = heads(text)
-    return sum(1 for line in text.split("\n") if line.strip() and not line.strip().startswith(("--", "//")))
+    return sum(1 for line in text.split("\n") if line.strip() and not line.strip().startswith(("--", "//", "use ")))
 
 
 def wrong_counts():
