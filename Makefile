@@ -25,6 +25,7 @@ target/bin/list: $(SOURCES)
 	rt check list >target/list.log 2>&1 || { cat target/list.log; exit 1; }
 	touch $@
 
+# `rt ci`, and then the tests on what it leaves.
 test: quick
 	tests/gate.sh
 

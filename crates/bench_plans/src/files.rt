@@ -51,11 +51,7 @@ pub fn write_again(
 // The tables are written and read again, and compared.
 pub fn read_again(size: Size, rows: &[Row], firsts: &[u16], outcomes: &[u16]) -> bool {
     let mut bytes = [0u8; Size::FILE];
-    let mut rows2 = [Row {
-        kind: 0,
-        first: 0,
-        practice: 0,
-    }; Size::STATES];
+    let mut rows2 = [Row::BLANK; Size::STATES];
     let mut firsts2 = [0u16; Size::COMMANDS];
     let mut outcomes2 = [0u16; Size::OUTCOMES];
     let r = format::write_read(

@@ -52,11 +52,7 @@ pub fn try_file(
 fn lend(file: &[u8], rows: usize, firsts: usize, outcomes: usize, questions: usize)
     requires { ⌜ (rows ≤ maxStates) × (firsts ≤ maxCommands) × (outcomes ≤ maxOutcomes) ⌝ }
 {
-    let mut row_table = [Row {
-        kind: 0,
-        first: 0,
-        practice: 0,
-    }; Size::STATES];
+    let mut row_table = [Row::BLANK; Size::STATES];
     let mut first_table = [0u16; Size::COMMANDS];
     let mut outcome_table = [0u16; Size::OUTCOMES];
     try_file(

@@ -75,11 +75,7 @@ pub fn decide_call(
         ≡ gateDecideCall lent (now (ranks .entry)) (now (commands .entry)) (now (marks .entry)) (now (scratch .entry)) (now (tally .entry)))
         ⌝ }
 {
-    let mut states = [Row {
-        kind: 0,
-        first: 0,
-        practice: 0,
-    }; Size::STATES];
+    let mut states = [Row::BLANK; Size::STATES];
     let mut heads = [0u16; Size::COMMANDS];
     let mut entries = [0u16; Size::OUTCOMES];
     let plan = load_plan(
