@@ -32,7 +32,7 @@ impl Size {
 
     // Ruled out: m and t exchanged, and a start of its own choosing.
     pub fn new(n: usize, m: usize, t: usize, start: usize) -> Size
-        ensures { λ r. ⌜ r ≡ sized n m t start ⌝ }
+        ensures made { λ r. ⌜ r ≡ sized n m t start ⌝ }
     {
         Size { n, m, t, start }
     }
@@ -78,7 +78,7 @@ pub enum Refusal {
 
 // The table's number of a refusal. Ruled out: one number for two refusals, and a number that is not the table's.
 pub fn number(r: Refusal) -> u32
-    ensures { λ x. ⌜ x ≡ number (refusalOf r) ⌝ }
+    ensures numbered { λ x. ⌜ x ≡ number (refusalOf r) ⌝ }
 {
     match r {
         Refusal::Cut => 1,
