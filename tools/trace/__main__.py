@@ -1,7 +1,8 @@
 """python3 tools/trace
 
-Checks the line counts of README's list of what to read (believe.py), and that what docs/TRACE.md names is there: every path, name, function, crate, target of the Makefile and decision. What stands in the right
-column of a table, in its head and between tables is checked; the left column has the paper's words.
+Checks that what docs/TRACE.md names is there: every path, name, function, crate, target of the Makefile and decision; that it goes rule by
+rule of docs/SPECIFICATION.md, and that only rules that exist are cited (rules.py); and the line counts of README's list of what to read
+(believe.py). In a table the last column and the head are checked, and all that stands between tables.
 
     `PATH` `name`, `name`           each is defined in the file; so are names further on, up to the next file
     `name` of `PATH`                likewise
@@ -19,8 +20,8 @@ import sys
 
 from believe import wrong_counts
 from defined import REPO, crates, decisions, defines, is_source, names_in_head, signature, targets, uses, uses_in_head
+from rules import TRACE, rules, wrong_rules
 
-TRACE = "docs/TRACE.md"
 TOP = {".ci", "compare", "crates", "docs", "examples", "include", "tests", "tools"}
 WORDS = {"ensures", "requires", "u16", "src", "specs", "proofs", "must-fail"}  # of the language, and of a crate's folders
 
@@ -177,16 +178,15 @@ def passages(lines):
 
 def main():
     checked = list(passages((REPO / TRACE).read_text().splitlines()))
-    wrongs = [wrong for passage in checked for wrong in passage.wrongs()]
-    for line, wrong in wrongs:
-        print(f"{TRACE}:{line}: {wrong}", file=sys.stderr)
-    miscounted = wrong_counts()
-    for wrong in miscounted:
+    dangling = [f"{TRACE}:{line}: {wrong}" for passage in checked for line, wrong in passage.wrongs()]
+    wrongs = [*dangling, *wrong_rules(), *wrong_counts()]
+    for wrong in wrongs:
         print(wrong, file=sys.stderr)
-    if wrongs or miscounted:
+    if wrongs:
         sys.exit(1)
     words = [word for passage in checked for word in passage.words]
-    print(f"{TRACE}: {sum(word.kind() == 'path' for word in words)} paths and {sum(word.is_name for word in words)} names, all there")
+    paths, names = sum(word.kind() == "path" for word in words), sum(word.is_name for word in words)
+    print(f"{TRACE}: {len(rules())} rules, {paths} paths and {names} names, all there")
 
 
 main()
