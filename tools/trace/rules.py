@@ -7,7 +7,7 @@ import re
 from defined import REPO
 
 SPECIFICATION, TRACE = "docs/SPECIFICATION.md", "docs/TRACE.md"
-CITING = ("README.md", "docs/*.md", "crates/*/specs/**/*.antt", "crates/*/src/**/*.rt", "crates/*/proofs/*.antt", "tests/**/*.*")
+CITING = ("README.md", "docs/*.md", "crates/*/specs/**/*.antt", "crates/*/src/**/*.rt", "crates/*/proofs/*.antt", "tests/**/*.[pch]*")
 
 RULE = r"\b[A-Z]\d+[a-z]?\b"
 CITATION = rf"\brules?[\s/-]+{RULE}(?:(?:, and|,| and| to)[\s/-]+{RULE})*"
