@@ -1,7 +1,4 @@
 pub mod Made
-pub mod FlagValues
-pub mod Queues
-pub mod Spreading
 pub mod Expanding
 pub mod Walking
 pub mod Settling

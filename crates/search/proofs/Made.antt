@@ -4,4 +4,4 @@ pub mod MarksStartKnown
 pub mod Search
 pub mod TurnsRound
 pub mod TurnsRounds
-pub mod WalksWalk
+pub mod WalkWalk

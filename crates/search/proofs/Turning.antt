@@ -27,7 +27,7 @@ use Rattle.model.proofs.Searching.{unmarked-is}
 use Rattle.model.proofs.Valid.{sound-valid}
 use Rattle.tables.specs.declared.internal.Span.{Span}
 use Rattle.tables.specs.Spans.{spanAt}
-use Rattle.search.specs.Flags.{knownIn}
+use Rattle.walks.specs.Flags.{knownIn}
 use Rattle.search.specs.Prepared.{RoundStart}
 use Rattle.search.specs.Phases.{startFlag, startEnd, taken, roundFlag, roundEnd, Rounded}
 use Rattle.search.proofs.SameSets.{choice-over, reached-alike, marked-alike}

@@ -14,7 +14,8 @@ use Rattle.model.specs.Search.{lands, reached, marked, search}
 use Rattle.tables.specs.declared.internal.Span.{Span}
 use Rattle.tables.specs.Spans.{failingSpan}
 use Rattle.search.specs.declared.Found.{Found}
-use Rattle.search.specs.Flags.{knownIn, walkedIn, Spread}
+use Rattle.walks.specs.Flags.{knownIn, walkedIn}
+use Rattle.walks.specs.Spread.{Spread}
 use Rattle.search.specs.Prepared.{activeSpan}
 
 -- before the first round: the failing states are known
@@ -28,7 +29,7 @@ startEnd q = cond (failingSpan q) 1 (cond (activeSpan q) 2 0)
 -- the walk went on from s: it took the command there, and that command's outcomes into the walk
 pub record Expanded (P : Plan) (n q s : ℕ) (commands scratch queue : List ℕ) (q′ : ℕ) (commands′ scratch′ queue′ : List ℕ) : Type 0 where
   pub took : commands′ ≡ set commands s (entry (choice P (knownIn scratch) s))
-  pub spreads : Spread n q (lands P s (choice P (knownIn scratch) s)) scratch queue q′ scratch′ queue′
+  pub spreads : Spread n q (lands P s (choice P (knownIn scratch) s)) 2 scratch queue q′ scratch′ queue′
 
 -- after a walk from a: the flag of x, and its entry in the command table
 unfoldable pub walkFlag : Plan → (ℕ → Bool) → ℕ → ℕ → ℕ

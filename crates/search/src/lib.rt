@@ -15,7 +15,7 @@ use tables::internal::Admission;
 mod admission;
 mod marks;
 mod turns;
-mod walks;
+mod walk;
 
 // The verdict on the start, and how many rounds were walked, the last included.
 pub struct Found {

@@ -10,7 +10,7 @@ use crate::Found;
 use crate::marks::settle;
 use crate::marks::start_end;
 use crate::marks::start_known;
-use crate::walks::walk;
+use crate::walk::walk;
 use tables::Row;
 use tables::Size;
 use tables::internal::NONE;

@@ -135,7 +135,7 @@ abbrev b5 : Syntax.Body
 b5 = Syntax.assign (Syntax.place 16 List.[]) (Syntax.aggregate (List._∷_ (Syntax.copy (Syntax.place 15 List.[])) (List._∷_ (Syntax.copy (Syntax.place 8 (List._∷_ (Syntax.field 1) List.[]))) List.[])))
 
 abbrev b6 : Syntax.Body
-b6 = Syntax.call "search::walks::walk" (List._∷_ (Syntax.copy (Syntax.place 1 List.[])) (List._∷_ (Syntax.copy (Syntax.place 2 List.[])) (List._∷_ (Syntax.copy (Syntax.place 3 List.[])) (List._∷_ (Syntax.copy (Syntax.place 4 List.[])) (List._∷_ (Syntax.copy (Syntax.place 5 List.[])) (List._∷_ (Syntax.copy (Syntax.place 12 List.[])) (List._∷_ (Syntax.copy (Syntax.place 14 List.[])) (List._∷_ (Syntax.copy (Syntax.place 16 List.[])) List.[])))))))) (Syntax.place 10 List.[])
+b6 = Syntax.call "search::walk::walk" (List._∷_ (Syntax.copy (Syntax.place 1 List.[])) (List._∷_ (Syntax.copy (Syntax.place 2 List.[])) (List._∷_ (Syntax.copy (Syntax.place 3 List.[])) (List._∷_ (Syntax.copy (Syntax.place 4 List.[])) (List._∷_ (Syntax.copy (Syntax.place 5 List.[])) (List._∷_ (Syntax.copy (Syntax.place 12 List.[])) (List._∷_ (Syntax.copy (Syntax.place 14 List.[])) (List._∷_ (Syntax.copy (Syntax.place 16 List.[])) List.[])))))))) (Syntax.place 10 List.[])
 
 abbrev b7 : Syntax.Body
 b7 = Syntax.assign (Syntax.place 17 List.[]) (Syntax.addrOf (Syntax.place 6 (List._∷_ (Syntax.field 0) (List._∷_ (Syntax.deref (Syntax.tyInt Syntax.w16)) List.[]))))
@@ -543,7 +543,7 @@ module _ (claims· : Claims) where
   module _ (Pre· : (κs : Lifetimes.Lfts 6) → Kinds.Dens κs ps → Type 0) (Post· : (κs : Lifetimes.Lfts 6) → (a : Kinds.Dens κs ps) → Kinds.Plain 6 ps r κs) where
     module _ (M : Type 1) where
       abbrev pub Closed : Type 2
-      Closed = (𝓤 : URA.URA M) (H : Wp.Heap 𝓤) (A : Atoms.Atoms 𝓤) (W : Kit.Given 𝓤 H A) (𝓣 : Wp.Tables 𝓤 H) (known0 : Plain.Known 𝓤 H A W 𝓣 6 ps·0 r·0 (claims· .0) (claims· .1) "search::walks::walk") (known1 : Plain.Known 𝓤 H A W 𝓣 3 ps·1 r·1 (claims· .2) (claims· .3) "search::marks::settle") (known2 : Plain.Known 𝓤 H A W 𝓣 1 ps·2 r·2 (claims· .4) (claims· .5) "search::turns::round_end") → Statement.Triple 𝓤 (Wp.WpFn 𝓤 H (𝓣 .C) (𝓣 .Λ) (Function.fnOf 6 ps r xs m hs body)) (Function.plainOf 𝓤 H A 6 ps r Pre· Post·)
+      Closed = (𝓤 : URA.URA M) (H : Wp.Heap 𝓤) (A : Atoms.Atoms 𝓤) (W : Kit.Given 𝓤 H A) (𝓣 : Wp.Tables 𝓤 H) (known0 : Plain.Known 𝓤 H A W 𝓣 6 ps·0 r·0 (claims· .0) (claims· .1) "search::walk::walk") (known1 : Plain.Known 𝓤 H A W 𝓣 3 ps·1 r·1 (claims· .2) (claims· .3) "search::marks::settle") (known2 : Plain.Known 𝓤 H A W 𝓣 1 ps·2 r·2 (claims· .4) (claims· .5) "search::turns::round_end") → Statement.Triple 𝓤 (Wp.WpFn 𝓤 H (𝓣 .C) (𝓣 .Λ) (Function.fnOf 6 ps r xs m hs body)) (Function.plainOf 𝓤 H A 6 ps r Pre· Post·)
 
     module _ where
       abbrev at0 : Typed.TF T55 O0
@@ -716,7 +716,7 @@ module _ (claims· : Claims) where
 
       module _ {M : Type 1} (𝓤 : URA.URA M) (H : Wp.Heap 𝓤) (A : Atoms.Atoms 𝓤) (W : Kit.Given 𝓤 H A) (𝓣 : Wp.Tables 𝓤 H) where
         abbrev Knowns : Type 1
-        Knowns = Plain.Known 𝓤 H A W 𝓣 6 ps·0 r·0 (claims· .0) (claims· .1) "search::walks::walk" × Plain.Known 𝓤 H A W 𝓣 3 ps·1 r·1 (claims· .2) (claims· .3) "search::marks::settle" × Plain.Known 𝓤 H A W 𝓣 1 ps·2 r·2 (claims· .4) (claims· .5) "search::turns::round_end"
+        Knowns = Plain.Known 𝓤 H A W 𝓣 6 ps·0 r·0 (claims· .0) (claims· .1) "search::walk::walk" × Plain.Known 𝓤 H A W 𝓣 3 ps·1 r·1 (claims· .2) (claims· .3) "search::marks::settle" × Plain.Known 𝓤 H A W 𝓣 1 ps·2 r·2 (claims· .4) (claims· .5) "search::turns::round_end"
 
       module _ (κs : Lifetimes.Lfts 6) (qs : Lifetimes.Shares 6) where
         abbrev g3 : List.List Row.Entry
@@ -1069,7 +1069,7 @@ module _ (claims· : Claims) where
           d39 = Typed.g-pre 𝓤 H A W 𝓣 E G16 G17 b23 Δ0 (Typed.pass T16 T17 s15) at38 (Scalar.g-room 𝓤 H A W E G16 10 Syntax.tyUnit (Scalar.room-sc 𝓤 H A W Row.sUnit)) d38
 
           d40 : Typed.Typed 𝓤 H A 𝓣 E G15 b24 Δ0 at40
-          d40 = Typed.s-seq 𝓤 H A W 𝓣 E G15 G16 b6 b23 Δ0 (Typed.both s14) at39 (Plain.t-call-plain 𝓤 H A W 𝓣 6 ps·0 r·0 (claims· .0) (claims· .1) "search::walks::walk" (known .0) E (λ pos β. β) G15 (record { pos = 1; st = List.[]; d = 0; at = λ x. x }, (record { pos = 2; ty = Syntax.tyRef (Syntax.named 0) Syntax.imm (Memory.pointee (T.the-row .written)); ref = λ x. x }, (record { pos = 3; ty = Syntax.tyRef (Syntax.named 1) Syntax.imm (Syntax.tyInt Syntax.w16); ref = λ x. x }, (record { pos = 4; ty = Syntax.tyRef (Syntax.named 2) Syntax.imm (Syntax.tyInt Syntax.w16); ref = λ x. x }, (Num.vAt 5 λ x. x, (record { pos = 12; ty = Syntax.tyRef Syntax.erased Syntax.mut (Syntax.tyInt Syntax.w16); ref = λ x. x }, (record { pos = 14; ty = Syntax.tyRef Syntax.erased Syntax.mut (Syntax.tyInt Syntax.w16); ref = λ x. x }, (record { pos = 16; ty = Syntax.tyRef Syntax.erased Syntax.mut (Syntax.tyInt Syntax.w16); ref = λ x. x }, tt)))))))) 10 (List._∷_ 0 (List._∷_ 1 (List._∷_ 2 (List._∷_ 6 (List._∷_ 7 (List._∷_ 8 List.[])))))) (Call.sub-id 𝓤 H A W (G15 .slots)) ((Yields.yields-copy 𝓤 H A W (λ ρ. Unit) (Declared.row Size.the-type) Path'.refl (Copies.cStruct Size.the-type Laws.the-laws Laws.the-copy .copy 𝓤 H A W) (Rows.whole (Declared.row Size.the-type)) (λ x. x) (λ x. x) (λ ρ told. Local.mem-whole 𝓤 H A W (Declared.row Size.the-type) ρ) λ ρ told. Local.whole-mem 𝓤 H A W (Declared.row Size.the-type) ρ, Path'.refl), (ShrSlice.spares-sslice 𝓤 H A W T.the-row ty·7 0, Shared.reads-sslice 𝓤 H A W T.the-row ty·7 0, Path'.refl, (ShrSlice.spares-sslice 𝓤 H A W (Referent.rtF (Referent.fInt Syntax.w16)) ty·2 1, Shared.reads-sslice 𝓤 H A W (Referent.rtF (Referent.fInt Syntax.w16)) ty·2 1, Path'.refl, (ShrSlice.spares-sslice 𝓤 H A W (Referent.rtF (Referent.fInt Syntax.w16)) ty·3 2, Shared.reads-sslice 𝓤 H A W (Referent.rtF (Referent.fInt Syntax.w16)) ty·3 2, Path'.refl, ((Scalar.reads-sc 𝓤 H A W (Row.sInt Syntax.w64), Path'.refl), (Reads.as-is 𝓤 H A (Mut.mslice (Referent.rtF (Referent.fInt Syntax.w16)) ty·0 6), Mut.reads-mslice 𝓤 H A W (Referent.rtF (Referent.fInt Syntax.w16)) ty·0 6, Path'.refl, (Reads.as-is 𝓤 H A (Mut.mslice (Referent.rtF (Referent.fInt Syntax.w16)) ty·0 7), Mut.reads-mslice 𝓤 H A W (Referent.rtF (Referent.fInt Syntax.w16)) ty·0 7, Path'.refl, (Reads.as-is 𝓤 H A (Mut.mslice (Referent.rtF (Referent.fInt Syntax.w16)) ty·0 8), Mut.reads-mslice 𝓤 H A W (Referent.rtF (Referent.fInt Syntax.w16)) ty·0 8, Path'.refl, tt)))))))) (Reads.room-gone 𝓤 H A Syntax.tyUnit) (tt, (tt, (tt, (tt, (tt, (tt, tt)))))) Path'.refl) d39
+          d40 = Typed.s-seq 𝓤 H A W 𝓣 E G15 G16 b6 b23 Δ0 (Typed.both s14) at39 (Plain.t-call-plain 𝓤 H A W 𝓣 6 ps·0 r·0 (claims· .0) (claims· .1) "search::walk::walk" (known .0) E (λ pos β. β) G15 (record { pos = 1; st = List.[]; d = 0; at = λ x. x }, (record { pos = 2; ty = Syntax.tyRef (Syntax.named 0) Syntax.imm (Memory.pointee (T.the-row .written)); ref = λ x. x }, (record { pos = 3; ty = Syntax.tyRef (Syntax.named 1) Syntax.imm (Syntax.tyInt Syntax.w16); ref = λ x. x }, (record { pos = 4; ty = Syntax.tyRef (Syntax.named 2) Syntax.imm (Syntax.tyInt Syntax.w16); ref = λ x. x }, (Num.vAt 5 λ x. x, (record { pos = 12; ty = Syntax.tyRef Syntax.erased Syntax.mut (Syntax.tyInt Syntax.w16); ref = λ x. x }, (record { pos = 14; ty = Syntax.tyRef Syntax.erased Syntax.mut (Syntax.tyInt Syntax.w16); ref = λ x. x }, (record { pos = 16; ty = Syntax.tyRef Syntax.erased Syntax.mut (Syntax.tyInt Syntax.w16); ref = λ x. x }, tt)))))))) 10 (List._∷_ 0 (List._∷_ 1 (List._∷_ 2 (List._∷_ 6 (List._∷_ 7 (List._∷_ 8 List.[])))))) (Call.sub-id 𝓤 H A W (G15 .slots)) ((Yields.yields-copy 𝓤 H A W (λ ρ. Unit) (Declared.row Size.the-type) Path'.refl (Copies.cStruct Size.the-type Laws.the-laws Laws.the-copy .copy 𝓤 H A W) (Rows.whole (Declared.row Size.the-type)) (λ x. x) (λ x. x) (λ ρ told. Local.mem-whole 𝓤 H A W (Declared.row Size.the-type) ρ) λ ρ told. Local.whole-mem 𝓤 H A W (Declared.row Size.the-type) ρ, Path'.refl), (ShrSlice.spares-sslice 𝓤 H A W T.the-row ty·7 0, Shared.reads-sslice 𝓤 H A W T.the-row ty·7 0, Path'.refl, (ShrSlice.spares-sslice 𝓤 H A W (Referent.rtF (Referent.fInt Syntax.w16)) ty·2 1, Shared.reads-sslice 𝓤 H A W (Referent.rtF (Referent.fInt Syntax.w16)) ty·2 1, Path'.refl, (ShrSlice.spares-sslice 𝓤 H A W (Referent.rtF (Referent.fInt Syntax.w16)) ty·3 2, Shared.reads-sslice 𝓤 H A W (Referent.rtF (Referent.fInt Syntax.w16)) ty·3 2, Path'.refl, ((Scalar.reads-sc 𝓤 H A W (Row.sInt Syntax.w64), Path'.refl), (Reads.as-is 𝓤 H A (Mut.mslice (Referent.rtF (Referent.fInt Syntax.w16)) ty·0 6), Mut.reads-mslice 𝓤 H A W (Referent.rtF (Referent.fInt Syntax.w16)) ty·0 6, Path'.refl, (Reads.as-is 𝓤 H A (Mut.mslice (Referent.rtF (Referent.fInt Syntax.w16)) ty·0 7), Mut.reads-mslice 𝓤 H A W (Referent.rtF (Referent.fInt Syntax.w16)) ty·0 7, Path'.refl, (Reads.as-is 𝓤 H A (Mut.mslice (Referent.rtF (Referent.fInt Syntax.w16)) ty·0 8), Mut.reads-mslice 𝓤 H A W (Referent.rtF (Referent.fInt Syntax.w16)) ty·0 8, Path'.refl, tt)))))))) (Reads.room-gone 𝓤 H A Syntax.tyUnit) (tt, (tt, (tt, (tt, (tt, (tt, tt)))))) Path'.refl) d39
 
           d41 : Typed.Typed 𝓤 H A 𝓣 E G14 b25 Δ0 at41
           d41 = Typed.s-seq 𝓤 H A W 𝓣 E G14 G15 b5 b24 Δ0 (Typed.ask s13) at40 (Relend.t-sl-aggregate 𝓤 H A W E (Referent.rtF (Referent.fInt Syntax.w16)) 𝓣 (Relend.asMut (Referent.rtF (Referent.fInt Syntax.w16))) G14 15 16 8 ty·0 ty·0 (λ x. x) (Scalar.oFld 8 (List._∷_ (Syntax.field 1) List.[]) (Syntax.tyInt Syntax.w64) 8 λ v. Shared.lenV (v .0)) (Reads.as-is 𝓤 H A (Relend.msptr (Referent.rtF (Referent.fInt Syntax.w16)) ty·0 8)) (Reads.room-gone 𝓤 H A ty·8) (Relend.reads-owed-len 𝓤 H A W (Referent.rtF (Referent.fInt Syntax.w16)) ty·6 5 8 (Row.lease (κs .1 .1 .1 .1 .1 .0) (qs .1 .1 .1 .1 .1 .0)) 8 Path'.refl, Path'.refl) Path'.refl Path'.refl λ b o k. tt) d40
@@ -1478,6 +1478,6 @@ module _ (claims· : Claims) where
           pub asked : (a : Kinds.Dens κs ps) → (good : Kinds.GoodsP κs ps a) → (pre : Pre· κs a) → (bs : List.List Nat.ℕ) → Φ (Any.wantQ 6 ps r xs m κs qs a (Post· κs a)) (Function.init 6 ps r xs m κs qs a)
           asked = λ a good pre bs. laid record { κs = κs; args = record { size = a .0; rows = a .1 .0; firsts = a .1 .1 .0; outcomes = a .1 .1 .1 .0; start = a .1 .1 .1 .1 .0; commands = a .1 .1 .1 .1 .1 .0; scratch = a .1 .1 .1 .1 .1 .1 .0; queue = a .1 .1 .1 .1 .1 .1 .1 .0 }; good = good; fits = record { start = record { fits = good .1 .1 .1 .1 .0 .1 } }; pre = pre }
 
-        module _ {M : Type 1} (𝓤 : URA.URA M) (H : Wp.Heap 𝓤) (A : Atoms.Atoms 𝓤) (W : Kit.Given 𝓤 H A) (𝓣 : Wp.Tables 𝓤 H) (known0 : Plain.Known 𝓤 H A W 𝓣 6 ps·0 r·0 (claims· .0) (claims· .1) "search::walks::walk") (known1 : Plain.Known 𝓤 H A W 𝓣 3 ps·1 r·1 (claims· .2) (claims· .3) "search::marks::settle") (known2 : Plain.Known 𝓤 H A W 𝓣 1 ps·2 r·2 (claims· .4) (claims· .5) "search::turns::round_end") where
+        module _ {M : Type 1} (𝓤 : URA.URA M) (H : Wp.Heap 𝓤) (A : Atoms.Atoms 𝓤) (W : Kit.Given 𝓤 H A) (𝓣 : Wp.Tables 𝓤 H) (known0 : Plain.Known 𝓤 H A W 𝓣 6 ps·0 r·0 (claims· .0) (claims· .1) "search::walk::walk") (known1 : Plain.Known 𝓤 H A W 𝓣 3 ps·1 r·1 (claims· .2) (claims· .3) "search::marks::settle") (known2 : Plain.Known 𝓤 H A W 𝓣 1 ps·2 r·2 (claims· .4) (claims· .5) "search::turns::round_end") where
           pub spec : Statement.Triple 𝓤 (Wp.WpFn 𝓤 H (𝓣 .C) (𝓣 .Λ) (Function.fnOf 6 ps r xs m hs body)) (Function.plainOf 𝓤 H A 6 ps r Pre· Post·)
           spec = Plain.t-fn-plain 𝓤 H A W 𝓣 6 ps r xs m hs body (λ κs qs bs. Φ) (λ κs qs bs bd. typed κs qs 𝓤 H A W 𝓣 (known0, known1, known2) bs bd) Pre· Post· asked

@@ -2,9 +2,9 @@ use native.Mathlib.Omega.{arith}
 use borrow.Author.Needs.{needs}
 use Rattle.choice.proofs.Outcomes.{outcomes-inside}
 use Rattle.choice.proofs.Taken.{span-inside, entry-fits}
-use Rattle.search.proofs.Expanding.{expand-none, expand-place, expand-free, expand-some}
-use Rattle.search.proofs.walks.expand.Statement.{statement}
-use Rattle.search.proofs.walks.expand.Tie as tie
+use Rattle.search.proofs.Expanding.{expand-none, expand-place, expand-some}
+use Rattle.search.proofs.walk.expand.Statement.{statement}
+use Rattle.search.proofs.walk.expand.Tie as tie
 
 choose-requires : tie.Need-choose-requires
 choose-requires c κs =
@@ -56,11 +56,8 @@ spread-requires c κs =
     let end = c .before .before .first-outcome2 .ensures (v .rows) O in (
       p .1 .1 .1,
       (
-        (p .0 .few, p .1 .1 .0 .1, p .1 .1 .0 .2),
-        (
-          outcomes-inside (p .0) (v .rows) _ _ _ _ (expand-place _ (v .sounds) _ (v .inside) _ (v .is) (c .before .before .before .before .before .before .before .before .before .before .before .before .before .before .before .before .before .args .scratch .now) _ e (c .before .before .before .before .before .if1 .left)) from end (omega arith),
-          expand-free _ (v .sounds) _ (v .inside) _ (v .is) _ _ e (c .before .before .before .before .before .if1 .left) _ _ from end,
-        ),
+        (p .0 .few, p .1 .1 .0 .1, p .1 .1 .0 .2, omega arith, omega arith),
+        outcomes-inside (p .0) (v .rows) _ _ _ _ (expand-place _ (v .sounds) _ (v .inside) _ (v .is) (c .before .before .before .before .before .before .before .before .before .before .before .before .before .before .before .before .before .args .scratch .now) _ e (c .before .before .before .before .before .if1 .left)) from end (omega arith),
       ),
     )
 

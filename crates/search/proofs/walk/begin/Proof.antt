@@ -1,7 +1,8 @@
+use native.Mathlib.Omega.{arith}
 use borrow.Author.Needs.{needs}
-use Rattle.search.proofs.Queues.{lists-none}
-use Rattle.search.proofs.walks.begin.Statement.{statement}
-use Rattle.search.proofs.walks.begin.Tie as tie
+use Rattle.walks.proofs.Spreads.{queued-none}
+use Rattle.search.proofs.walk.begin.Statement.{statement}
+use Rattle.search.proofs.walk.begin.Tie as tie
 
 fill-requires : tie.Need-fill-requires
 fill-requires c κs = search needs
@@ -9,7 +10,7 @@ fill-requires c κs = search needs
 reach-requires : tie.Need-reach-requires
 reach-requires c κs =
     let p = c .before .before .before .before .before .before .before .before .before .pre in
-    (lists-none _ (p .1 .flags), (p .0 .0, p .0 .1, p .0 .3, p .0 .4, p .1 .unknown))
+    (queued-none _ (p .1 .flags), (p .0 .0, p .0 .1, p .0 .3, p .0 .4, omega arith, omega arith))
 
 same-length : tie.Need-same-length
 same-length c = search needs

@@ -5,10 +5,10 @@ use Rattle.model.specs.Held.{planIn}
 use Rattle.model.proofs.Valid.{sound-valid}
 use Rattle.model.proofs.HeldPlan.{states-held}
 use Rattle.tables.specs.Meaning.{held}
-use Rattle.search.specs.Flags.{knownIn}
+use Rattle.walks.specs.Flags.{knownIn}
 use Rattle.search.proofs.Walking.{Walking, walking-start, walking-room, walking-state, walking-next, walking-takes, walking-flags, walked-from}
-use Rattle.search.proofs.walks.walk.Statement.{statement}
-use Rattle.search.proofs.walks.walk.Proof.Tie as tie
+use Rattle.search.proofs.walk.walk.Statement.{statement}
+use Rattle.search.proofs.walk.walk.Proof.Tie as tie
 
 abbrev Inv-loop : tie.InvT-loop
 Inv-loop size rows firsts outcomes start commands₀ scratch₀ queue₀ q₀ h₀ commands scratch queue q h =
@@ -25,7 +25,7 @@ begin-requires c κs =
 loop-holds : tie.Need-loop-holds Inv-loop μ-loop
 loop-holds c =
     let p = c .before .before .before .before .before .before .before .before .before .before .before .before .before .before .before .pre in
-    walking-start _ (p .1 .flags) (p .0 .long-commands) (p .0 .long-scratch) (p .0 .long-queue) (c .before .before .before .before .before .before .begin .ensures .1) (c .before .before .before .before .before .before .begin .ensures .0)
+    walking-start _ _ (p .1 .flags) (p .1 .unknown) (p .0 .long-commands) (p .0 .long-scratch) (p .0 .long-queue) (c .before .before .before .before .before .before .begin .ensures .1) (c .before .before .before .before .before .before .begin .ensures .0)
 
 at-requires : tie.Need-at-requires Inv-loop μ-loop
 at-requires c κs = omega (arith, walking-room (c .before .before .loop .inv), c .before .before .loop .inv .long-queue)
@@ -46,7 +46,7 @@ expand-requires c κs =
           inside = walking-state w (c .before .before .before .before .before .before .loop-test .taken) _ (c .before .before .before .before .at .ensures);
           is = c .before .before .before .span-at .ensures (s .firsts .now) (s .outcomes .now);
         },
-        ((w .long-commands, w .long-scratch, w .long-queue), w .lists),
+        ((w .long-commands, w .long-scratch, w .long-queue), w .queued),
       ),
     )
 
@@ -77,7 +77,7 @@ returns c =
     let p = c .before .before .before .before .before .before .before .before .before .before .before .before .before .before .before .before .before .pre in
     let w = c .before .loop .inv in
     let v = sound-valid _ (p .0 .sounds) in
-    walked-from _ (p .1 .flags) (p .0 .long-commands) (p .0 .long-scratch) (p .0 .long-queue) (c .before .before .before .before .before .before .before .before .begin .ensures .1) (c .before .before .before .before .before .before .before .before .begin .ensures .0)
+    walked-from _ _ (p .1 .flags) (p .1 .unknown) (p .0 .long-commands) (p .0 .long-scratch) (p .0 .long-queue) (c .before .before .before .before .before .before .before .before .begin .ensures .1) (c .before .before .before .before .before .before .before .before .begin .ensures .0)
     (record { takes = walking-takes w v (states-held _) (p .0 .inside) (c .loop-test .left); flags = walking-flags w v (states-held _) (p .0 .inside) (c .loop-test .left) })
 
 pub walk-spec : {M : Type 1} → statement M

@@ -1,13 +1,12 @@
 // The walk of one round. The queue has the states that the walk has reached, each once, and the walk goes on from each once, so a round reads
-// no state and no outcome more than a few times. In what order the states are reached is free: no contract here tells it.
+// no state and no outcome more than a few times. Scratch has the flags of the crate `walks`, with the mark 2 at a reached state. In what order
+// the states are reached is free: no contract here tells it.
 ghost use mathlib.Core.Path.{_≡_};
-ghost use mathlib.Core.Bool.{true, false};
+ghost use mathlib.Core.Bool.{true};
 ghost use mathlib.Core.List.{List};
 ghost use Prim.Native.Nat.{ℕ, _<_, _≤_};
 ghost use lib.Dec.{eqb};
-ghost use lib.ListN.{length, getD};
-ghost use lib.Seq.{slice};
-ghost use Rattle.laws.specs.Sets.{any};
+ghost use lib.ListN.{length};
 ghost use Rattle.laws.specs.Entry.{FFFF};
 ghost use Rattle.laws.specs.Filled.{Filled};
 ghost use Rattle.model.specs.File.{maxStates};
@@ -18,7 +17,8 @@ ghost use Rattle.tables.specs.Meaning.{held};
 ghost use Rattle.tables.specs.Spans.{spanAt, commandsOf};
 ghost use Rattle.tables.specs.Seen.{Seen};
 ghost use Rattle.tables.specs.Ready.{Ready};
-ghost use Rattle.search.specs.Flags.{knownIn, Lists, Spread};
+ghost use Rattle.walks.specs.Queued.{Queued};
+ghost use Rattle.walks.specs.Spread.{Spread};
 ghost use Rattle.search.specs.Prepared.{Prepared, RoundStart};
 ghost use Rattle.search.specs.Phases.{Expanded, Walked};
 use choice::internal::choose;
@@ -31,45 +31,8 @@ use tables::internal::fill;
 use tables::internal::first_outcome;
 use tables::internal::put;
 use tables::internal::span_at;
-
-// Takes state x into the walk, which has reached q states, unless it has reached x; answers how many it has reached then.
-fn reach(n: usize, scratch: &mut [u16], queue: &mut [u16], q: usize, x: usize) -> usize
-    requires { ⌜ Lists n q (now scratch) (now queue) ⌝ }
-    requires { ⌜ (x < n) × (n ≤ maxStates) × (n ≤ length (now scratch)) × (n ≤ length (now queue)) × (knownIn (now scratch) x ≡ false) ⌝ }
-    ensures { λ r. ⌜ Spread n q (λ y. eqb y x) (now (scratch .entry)) (now (queue .entry)) r (now (scratch .exit)) (now (queue .exit)) ⌝ }
-{
-    if at(scratch, x) != 1 {
-        return q;
-    }
-    put(scratch, x, 2);
-    put(queue, q, x);
-    q + 1
-}
-
-// Takes the outcomes at the places from `from` up to `end` into the walk.
-fn spread(
-    n: usize,
-    outcomes: &[u16],
-    scratch: &mut [u16],
-    queue: &mut [u16],
-    q: usize,
-    from: usize,
-    end: usize,
-) -> usize
-    requires { ⌜ Lists n q (now scratch) (now queue) ⌝ }
-    requires { ⌜ (n ≤ maxStates) × (n ≤ length (now scratch)) × (n ≤ length (now queue)) ⌝ }
-    requires { ⌜ (from ≤ end) × (end ≤ length (now outcomes)) × ((j : ℕ) → j < end → getD (now outcomes) j 0 < n) ⌝ }
-    requires { ⌜ any (knownIn (now scratch)) (slice from end (now outcomes)) ≡ false ⌝ }
-    ensures { λ r. ⌜ Spread n q (λ y. any (eqb y) (slice from end (now (outcomes .entry)))) (now (scratch .entry)) (now (queue .entry)) r (now (scratch .exit)) (now (queue .exit)) ⌝ }
-{
-    let mut i = from;
-    let mut e = q;
-    while i < end {
-        e = reach(n, scratch, queue, e, at(outcomes, i));
-        i += 1;
-    }
-    e
-}
+use walks::queue::reach;
+use walks::queue::spread;
 
 // Goes on from state s, of which `span` was read: takes the command there, and the command's outcomes into the walk.
 fn expand(
@@ -86,7 +49,7 @@ fn expand(
     requires { ⌜ Ready (commandsOf size (now firsts) (now outcomes)) ⌝ }
     requires { ⌜ Seen size (now firsts) (now outcomes) s span ⌝ }
     requires { ⌜ (size .n ≤ length (now commands)) × (size .n ≤ length (now scratch)) × (size .n ≤ length (now queue)) ⌝ }
-    requires { ⌜ Lists (size .n) q (now scratch) (now queue) ⌝ }
+    requires { ⌜ Queued (size .n) q (now scratch) (now queue) ⌝ }
     ensures { λ r. ⌜ ((R : List Row) → sound (held size R (now (firsts .entry)) (now (outcomes .entry))) ≡ true → span ≡ spanAt (held size R (now (firsts .entry)) (now (outcomes .entry))) s → Expanded (planIn (held size R (now (firsts .entry)) (now (outcomes .entry)))) (size .n) q s (now (commands .entry)) (now (scratch .entry)) (now (queue .entry)) r (now (commands .exit)) (now (scratch .exit)) (now (queue .exit))) ⌝ }
 {
     let c = choose(size, span, firsts, outcomes, scratch, 0);
@@ -97,7 +60,7 @@ fn expand(
     let g = span.first + c;
     let from = first_outcome(size, firsts, g);
     let end = first_outcome(size, firsts, g + 1);
-    spread(size.n, outcomes, scratch, queue, q, from, end)
+    spread(size.n, outcomes, scratch, queue, q, from, end, 2)
 }
 
 // Begins a walk: no command is taken yet, and the start is reached. Answers how many states are reached.
@@ -111,10 +74,10 @@ fn begin(
     requires { ⌜ (start < n) × (n ≤ maxStates) × (n ≤ length (now commands)) × (n ≤ length (now scratch)) × (n ≤ length (now queue)) ⌝ }
     requires { ⌜ RoundStart n start (now scratch) ⌝ }
     ensures { λ _. ⌜ Filled n (λ _. FFFF) (now (commands .entry)) (now (commands .exit)) ⌝ }
-    ensures { λ r. ⌜ Spread n 0 (λ y. eqb y start) (now (scratch .entry)) (now (queue .entry)) r (now (scratch .exit)) (now (queue .exit)) ⌝ }
+    ensures { λ r. ⌜ Spread n 0 (λ y. eqb y start) 2 (now (scratch .entry)) (now (queue .entry)) r (now (scratch .exit)) (now (queue .exit)) ⌝ }
 {
     fill(commands, n, NONE);
-    reach(n, scratch, queue, 0, start)
+    reach(n, scratch, queue, 0, start, 2)
 }
 
 // Walks from the start.
