@@ -6,7 +6,7 @@ pub mod SameSets
 pub mod ReadStates
 pub mod Rounding
 pub mod LastRound
-pub mod Turning
+pub mod AfterRounds
 pub mod Concluding
 pub mod Preparing
 pub mod Admitting

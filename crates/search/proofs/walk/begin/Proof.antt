@@ -1,3 +1,4 @@
+-- Before the walk no state is reached, so the queue is empty, and taking in the start is all that happens to it.
 use native.Mathlib.Omega.{arith}
 use borrow.Author.Needs.{needs}
 use Rattle.walks.proofs.Spreads.{queued-none}

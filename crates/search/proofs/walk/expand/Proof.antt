@@ -1,3 +1,4 @@
+-- The entry chosen says whether a command is taken; if one is, its outcomes are the part of the table that is spread over.
 use native.Mathlib.Omega.{arith}
 use borrow.Author.Needs.{needs}
 use Rattle.choice.proofs.Outcomes.{outcomes-inside}

@@ -1,3 +1,5 @@
+-- The loop holds that what is reached is closed but for the states of the queue not yet gone on from; when there are none left it is all
+-- that the round reaches.
 mod Tie
 use Prim.Native.Nat.{_-_}
 use native.Mathlib.Omega.{arith}

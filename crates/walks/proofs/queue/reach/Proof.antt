@@ -1,4 +1,5 @@
--- A flag other than 1 leaves all as it was; at 1 there is room in the queue, since x is one state more than the queue has, and both stores are made.
+-- A flag other than 1 leaves all as it was; at 1 there is room in the queue, since x is a state that the queue has not, and both stores
+-- are made.
 use native.Mathlib.Omega.{arith}
 use borrow.Author.Needs.{needs}
 use Rattle.walks.proofs.Reaching.{reach-old, reach-room, reach-new}

@@ -29,9 +29,10 @@ use Rattle.tables.specs.declared.internal.Span.{Span}
 use Rattle.tables.specs.Spans.{spanAt}
 use Rattle.walks.specs.Flags.{knownIn}
 use Rattle.search.specs.Prepared.{RoundStart}
-use Rattle.search.specs.Phases.{startFlag, startEnd, taken, roundFlag, roundEnd, Rounded}
+use Rattle.search.specs.Phases.{startFlag, startEnd, taken}
 use Rattle.search.proofs.SameSets.{choice-over, reached-alike, marked-alike}
 use Rattle.search.proofs.ReadStates.{start-flag-is, start-end-is}
+use Rattle.search.proofs.Rounding.{roundFlag, roundEnd, Rounded}
 use Rattle.search.proofs.LastRound.{known-next, unmarked-ends, start-ends, goes-on-after, not-past, few-rounds, last-lost, last-rounds, last-command}
 
 -- another round is due: scratch has the known set, and no round so far was the last
@@ -52,7 +53,7 @@ pub record Lost (P : Plan) (a j : ℕ) : Type 0 where
   pub blank : (x : ℕ) → FFFF ≡ entry (search P a .command x)
 
 -- c₀, s₀ and u₀ are the tables when the loop begins
-pub record Turning (P : Plan) (n a : ℕ) (c₀ s₀ u₀ : List ℕ) (end j : ℕ) (cs s u : List ℕ) : Type 0 where
+pub record AfterRounds (P : Plan) (n a : ℕ) (c₀ s₀ u₀ : List ℕ) (end j : ℕ) (cs s u : List ℕ) : Type 0 where
   pub low : end ≤ 2
   pub due : end ≡ 2 → Due P n a j s
   pub safe : end ≡ 0 → Safe P n a j cs
@@ -84,15 +85,15 @@ module _ (T : Tables) (sounds : sound T ≡ true) (a : ℕ) (l : a < T .size .n)
   unfolding atOnce entry
   lost-first e = record { verdict = rw e; counted = rw e; blank = λ x. rw e }
 
-  pub turning-start : (q : Span) → q ≡ spanAt T a → (end : ℕ) → end ≡ startEnd q → (u : List ℕ) → Turning (planIn T) (T .size .n) a cs s u end 0 cs s u
+  pub rounds-start : (q : Span) → q ≡ spanAt T a → (end : ℕ) → end ≡ startEnd q → (u : List ℕ) → AfterRounds (planIn T) (T .size .n) a cs s u end 0 cs s u
   unfolding search
-  turning-start q is end e u = go (kind-of (planIn T) a (sound-valid T sounds) (rw (states-held T) l))
+  rounds-start q is end e u = go (kind-of (planIn T) a (sound-valid T sounds) (rw (states-held T) l))
     where
       end-is : end ≡ cond (failing (planIn T) a) 1 (cond (active (planIn T) a) 2 0)
       end-is = e ∙ ap startEnd is ∙ start-end-is T a l
 
       begun : end ≤ 2 → (end ≡ 2 → Due (planIn T) (T .size .n) a 0 s) → (end ≡ 0 → Safe (planIn T) (T .size .n) a 0 cs) → (end ≡ 1 → Lost (planIn T) a 0)
-          → Turning (planIn T) (T .size .n) a cs s u end 0 cs s u
+          → AfterRounds (planIn T) (T .size .n) a cs s u end 0 cs s u
       begun b d v w = record {
         low = b;
         due = d;
@@ -105,7 +106,7 @@ module _ (T : Tables) (sounds : sound T ≡ true) (a : ℕ) (l : a < T .size .n)
         same-queue = refl;
       }
 
-      go : Kind (planIn T) a → Turning (planIn T) (T .size .n) a cs s u end 0 cs s u
+      go : Kind (planIn T) a → AfterRounds (planIn T) (T .size .n) a cs s u end 0 cs s u
       go (fails failed t i) =
           let z : end ≡ 1 = end-is ∙ rw failed in
           begun (omega arith) (λ k. absurd (omega arith)) (λ k. absurd (omega arith)) (λ k. lost-first (rw failed))
@@ -226,9 +227,9 @@ module _ {P : Plan} (S : Valid P) {n : ℕ} (count : P .states ≡ n) {a : ℕ} 
           blank = λ x. sym (rw (last-command P S a (in-plan l) (d .act) j (d .unended) last x, now-known));
         }
 
-    pub turning-next : {c₀ s₀ u₀ : List ℕ} {e : ℕ} {u : List ℕ} → Turning P n a c₀ s₀ u₀ e j cs s u → (u′ : List ℕ) → length u′ ≡ length u
-        → Turning P n a c₀ s₀ u₀ end (j + 1) cs′ s′ u′
-    turning-next w u′ h = rw (add-one j) (record {
+    pub rounds-next : {c₀ s₀ u₀ : List ℕ} {e : ℕ} {u : List ℕ} → AfterRounds P n a c₀ s₀ u₀ e j cs s u → (u′ : List ℕ) → length u′ ≡ length u
+        → AfterRounds P n a c₀ s₀ u₀ end (j + 1) cs′ s′ u′
+    rounds-next w u′ h = rw (add-one j) (record {
       low = rw end-is (end-low (withoutMarks P a j) (marked P K a a));
       due = due-next;
       safe = safe-next;

@@ -1,7 +1,8 @@
+-- The two tests are those of the definition, in its order.
 use borrow.Author.Needs.{needs}
 use Rattle.search.proofs.Rounding.{ends-unmarked, ends-known, ends-open}
-use Rattle.search.proofs.turns.round_end.Statement.{statement}
-use Rattle.search.proofs.turns.round_end.Tie as tie
+use Rattle.search.proofs.rounds.round_end.Statement.{statement}
+use Rattle.search.proofs.rounds.round_end.Tie as tie
 
 returns : tie.Need-returns
 returns c = ends-unmarked _ (c .before .before .args .scratch .now) (c .before .before .args .start) (c .if1 .taken)

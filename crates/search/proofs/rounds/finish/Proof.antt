@@ -1,7 +1,8 @@
+-- Scratch is cleared in any case, and the commands only where the last round did not end without marks.
 use borrow.Author.Needs.{needs}
 use Rattle.search.proofs.Concluding.{finished-safe, finished-lost}
-use Rattle.search.proofs.turns.finish.Statement.{statement}
-use Rattle.search.proofs.turns.finish.Tie as tie
+use Rattle.search.proofs.rounds.finish.Statement.{statement}
+use Rattle.search.proofs.rounds.finish.Tie as tie
 
 fill-requires : tie.Need-fill-requires
 fill-requires c κs = search needs

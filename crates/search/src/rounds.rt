@@ -4,8 +4,8 @@ ghost use Prim.Native.Nat.{_<_, _≤_};
 ghost use lib.ListN.{length, getD};
 ghost use Rattle.model.specs.Held.{planIn};
 ghost use Rattle.tables.specs.Meaning.{held};
-ghost use Rattle.search.specs.Prepared.{Prepared, RoundStart};
-ghost use Rattle.search.specs.Phases.{endOf, Rounded, Finished, Answered};
+ghost use Rattle.search.specs.Prepared.{Prepared};
+ghost use Rattle.search.specs.Phases.{endOf, Finished, Answered};
 use crate::Found;
 use crate::marks::settle;
 use crate::marks::start_end;
@@ -32,35 +32,6 @@ fn round_end(unmarked: bool, scratch: &[u16], start: usize) -> usize
     2
 }
 
-// One round from the start.
-pub fn round(
-    size: Size,
-    rows: &[Row],
-    firsts: &[u16],
-    outcomes: &[u16],
-    start: usize,
-    commands: &mut [u16],
-    scratch: &mut [u16],
-    queue: &mut [u16],
-) -> usize
-    requires { ⌜ Prepared size (now rows) (now firsts) (now outcomes) start (now commands) (now scratch) (now queue) ⌝ }
-    requires { ⌜ RoundStart (size .n) start (now scratch) ⌝ }
-    ensures { λ r. ⌜ Rounded (planIn (held size (now (rows .entry)) (now (firsts .entry)) (now (outcomes .entry)))) (size .n) start (now (commands .entry)) (now (scratch .entry)) r (now (commands .exit)) (now (scratch .exit)) ⌝ }
-{
-    walk(
-        size,
-        rows,
-        firsts,
-        outcomes,
-        start,
-        commands,
-        scratch,
-        queue,
-    );
-    let unmarked = settle(size, rows, commands, scratch);
-    round_end(unmarked, scratch, start)
-}
-
 // Clears what the answer does not need, after rounds of which the last ended so.
 fn finish(n: usize, end: usize, rounds: usize, commands: &mut [u16], scratch: &mut [u16]) -> Found
     requires { ⌜ (n ≤ length (now commands)) × (n ≤ length (now scratch)) ⌝ }
@@ -78,7 +49,7 @@ fn finish(n: usize, end: usize, rounds: usize, commands: &mut [u16], scratch: &m
 }
 
 // Walks rounds from the start until one is the last. Where the start is failing, rest or without commands there are none.
-pub fn rounds(
+pub fn walk_rounds(
     size: Size,
     rows: &[Row],
     firsts: &[u16],
@@ -97,7 +68,7 @@ pub fn rounds(
     let mut end = start_end(span);
     let mut count = 0;
     while end == 2 {
-        end = round(
+        walk(
             size,
             rows,
             firsts,
@@ -107,6 +78,8 @@ pub fn rounds(
             scratch,
             queue,
         );
+        let unmarked = settle(size, rows, commands, scratch);
+        end = round_end(unmarked, scratch, start);
         count += 1;
     }
     finish(size.n, end, count, commands, scratch)
