@@ -11,7 +11,7 @@ use Rattle.laws.proofs.Fills.{filled-as, filled-from, filled-over}
 use Rattle.model.specs.Plan.{Plan}
 use Rattle.search.specs.declared.Found.{Found}
 use Rattle.search.specs.Phases.{Finished, Answered}
-use Rattle.search.proofs.Turning.{Turning}
+use Rattle.search.proofs.AfterRounds.{AfterRounds}
 
 module _ {n end j : ℕ} {cs s s′ : List ℕ} (f : Filled n (λ _. 0) s s′) where
   pub finished-safe : end ≡ 0 → Finished n end j cs s (record { lost = false; rounds = j }) cs s′
@@ -21,7 +21,7 @@ module _ {n end j : ℕ} {cs s s′ : List ℕ} (f : Filled n (λ _. 0) s s′) 
   finished-lost h g = record { counted = refl; safe = λ e. absurd (h e); lost = λ _. (refl, g); clean = f }
 
 module _ {P : Plan} {n a : ℕ} {f g : ℕ → ℕ} {c₋ s₋ c₀ s₀ u₀ : List ℕ} (blank : Filled n f c₋ c₀) (known : Filled n g s₋ s₀)
-    {end j : ℕ} {cs s u : List ℕ} (w : Turning P n a c₀ s₀ u₀ end j cs s u) (over : end ≡ 2 → ⊥)
+    {end j : ℕ} {cs s u : List ℕ} (w : AfterRounds P n a c₀ s₀ u₀ end j cs s u) (over : end ≡ 2 → ⊥)
     {r : Found} {c′ s′ : List ℕ} (z : Finished n end j cs s r c′ s′) where
   clean : Filled n (λ _. 0) s₋ s′
   clean = filled-over known (filled-from (w .same-scratch) (w .past-scratch) (z .clean))

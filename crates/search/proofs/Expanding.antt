@@ -1,6 +1,6 @@
 -- Going on from one state: the command taken there, and where it may land.
 use mathlib.Core.Path.{_≡_, sym, _∙_, ap}
-use mathlib.Core.Bool.{true, false}
+use mathlib.Core.Bool.{true}
 use mathlib.Core.List.{List}
 use mathlib.Core.Option.{some}
 use Prim.Native.Nat.{ℕ, _+_, _<_}
@@ -22,10 +22,13 @@ use Rattle.tables.specs.declared.internal.Span.{Span}
 use Rattle.tables.specs.Spans.{spanAt}
 use Rattle.choice.specs.Within.{within}
 use Rattle.choice.proofs.Outcomes.{outcomes-read}
-use Rattle.choice.proofs.Taken.{taken-place, taken-clear, none-taken, some-taken}
-use Rattle.search.specs.Flags.{knownIn, Lists, Spread}
+use Rattle.choice.proofs.Taken.{taken-place, none-taken, some-taken}
+use Rattle.walks.specs.Flags.{knownIn}
+use Rattle.walks.specs.Queued.{Queued}
+use Rattle.walks.specs.Spread.{Spread}
 use Rattle.search.specs.Phases.{Expanded}
-use Rattle.search.proofs.Queues.{spread-none, spread-as}
+use Rattle.walks.proofs.FlagValues.{not-taken}
+use Rattle.walks.proofs.Spreads.{spread-none, spread-as}
 
 known-choice : (P : Plan) (scratch : List ℕ) (s c : ℕ) → c ≡ entry (choice P (within scratch 0) s) → c ≡ entry (choice P (knownIn scratch) s)
 unfolding knownIn
@@ -38,11 +41,11 @@ module _ (T : Tables) (sounds : sound T ≡ true) (s : ℕ) (l : s < T .size .n)
   known = known-choice (planIn T) scratch s c e
 
   -- none is left: the walk does not pass s
-  pub expand-none : c ≡ FFFF → {n q : ℕ} {u : List ℕ} (cs cs′ : List ℕ) → cs′ ≡ set cs s c → Lists n q scratch u → Expanded (planIn T) n q s cs scratch u q cs′ scratch u
+  pub expand-none : c ≡ FFFF → {n q : ℕ} {u : List ℕ} (cs cs′ : List ℕ) → cs′ ≡ set cs s c → Queued n q scratch u → Expanded (planIn T) n q s cs scratch u q cs′ scratch u
   unfolding lands
   expand-none h cs cs′ p L = record {
     took = p ∙ ap (set cs s) known;
-    spreads = spread-none L _ (λ y. rw (none-taken T sounds s l (knownIn scratch) c known h));
+    spreads = spread-none 2 L _ (λ y. not-taken scratch y _ (rw (none-taken T sounds s l (knownIn scratch) c known h)));
   }
 
   module _ (h : c ≡ FFFF → ⊥) where
@@ -59,9 +62,6 @@ module _ (T : Tables) (sounds : sound T ≡ true) (s : ℕ) (l : s < T .size .n)
       part-is : slice from end (T .outcomes) ≡ outcomesAt T (firstCommand T s + c)
       part-is = outcomes-read (listsIn T) (span .first + c) from end p q ∙ ap (λ (f : ℕ). outcomesAt T (f + c)) first-is
 
-      pub expand-free : any (knownIn scratch) (slice from end (T .outcomes)) ≡ false
-      expand-free = ap (any (knownIn scratch)) part-is ∙ taken-clear T sounds s l (knownIn scratch) c choice-is
-
       lands-are : (y : ℕ) → any (eqb y) (slice from end (T .outcomes)) ≡ lands (planIn T) s (choice (planIn T) (knownIn scratch) s) y
       unfolding lands
       lands-are y =
@@ -69,5 +69,5 @@ module _ (T : Tables) (sounds : sound T ≡ true) (s : ℕ) (l : s < T .size .n)
           rw choice-is (ap (any (eqb y)) (part-is ∙ sym (outcomes-held T s l c (rw (commands-held T s l) at own))))
 
       pub expand-some : {n k k′ : ℕ} {u scratch′ u′ : List ℕ} (cs cs′ : List ℕ) → cs′ ≡ set cs s c
-          → Spread n k (λ y. any (eqb y) (slice from end (T .outcomes))) scratch u k′ scratch′ u′ → Expanded (planIn T) n k s cs scratch u k′ cs′ scratch′ u′
+          → Spread n k (λ y. any (eqb y) (slice from end (T .outcomes))) 2 scratch u k′ scratch′ u′ → Expanded (planIn T) n k s cs scratch u k′ cs′ scratch′ u′
       expand-some cs cs′ z w = record { took = z ∙ ap (set cs s) known; spreads = spread-as lands-are w }

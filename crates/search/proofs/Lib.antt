@@ -1,7 +1,4 @@
 pub mod Made
-pub mod FlagValues
-pub mod Queues
-pub mod Spreading
 pub mod Expanding
 pub mod Walking
 pub mod Settling
@@ -9,7 +6,7 @@ pub mod SameSets
 pub mod ReadStates
 pub mod Rounding
 pub mod LastRound
-pub mod Turning
+pub mod AfterRounds
 pub mod Concluding
 pub mod Preparing
 pub mod Admitting

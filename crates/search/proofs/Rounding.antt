@@ -4,7 +4,7 @@ use mathlib.Core.Bool.{Bool, true, false, not, cond, _&&_, _||_}
 use mathlib.Core.Logic.{⊎-elim}
 use mathlib.Core.List.{List}
 use Prim.Native.Nat.{ℕ, _<_}
-use lib.Dec.{eqb}
+use lib.Dec.{eqb, leb}
 use lib.ListN.{getD}
 use borrow.Author.Tests.{eq-eqb, ne-eqb}
 use Rattle.laws.specs.Sets.{every}
@@ -24,9 +24,22 @@ use Rattle.model.proofs.HeldPlan.{states-held}
 use Rattle.model.proofs.Valid.{sound-valid}
 use Rattle.tables.specs.Spans.{spanAt}
 use Rattle.choice.proofs.Taken.{few-commands}
-use Rattle.search.specs.Flags.{knownIn, walkedIn}
-use Rattle.search.specs.Phases.{walkFlag, taken, Walked, markedAt, settledAt, endOf, roundFlag, roundEnd, Rounded}
+use Rattle.walks.specs.Flags.{knownIn, walkedIn}
+use Rattle.search.specs.Phases.{walkFlag, taken, Walked, markedAt, settledAt, endOf}
 use Rattle.search.proofs.ReadStates.{span-active, entry-none}
+
+-- the flag of x after a round from a
+unfoldable pub roundFlag : Plan → (ℕ → Bool) → ℕ → ℕ → ℕ
+roundFlag P K a x = cond (K x || marked P K a x) 0 1
+
+unfoldable pub roundEnd : Plan → (ℕ → Bool) → ℕ → ℕ
+roundEnd P K a = cond (every (λ x. not (marked P K a x)) (P .states)) 0 (cond (marked P K a a) 1 2)
+
+-- what a round leaves, and how it ends
+pub record Rounded (P : Plan) (n a : ℕ) (commands scratch : List ℕ) (end : ℕ) (commands′ scratch′ : List ℕ) : Type 0 where
+  pub ends : end ≡ roundEnd P (knownIn scratch) a
+  pub takes : Filled n (taken P (knownIn scratch) a) commands commands′
+  pub flags : Filled n (roundFlag P (knownIn scratch) a) scratch scratch′
 
 module _ (T : Tables) (sounds : sound T ≡ true) (a : ℕ) (l : a < T .size .n) {c₀ s₀ c₁ s₁ : List ℕ} (fresh : knownIn s₀ a ≡ false)
     (w : Walked (planIn T) (T .size .n) a c₀ s₀ c₁ s₁) where
@@ -47,7 +60,7 @@ module _ (T : Tables) (sounds : sound T ≡ true) (a : ℕ) (l : a < T .size .n)
   unfolding walkedIn walkFlag
   walked-is x k = rw (w .flags .low x k) (go (reached P K a x) refl)
     where
-      go : (b : Bool) → reached P K a x ≡ b → eqb (cond (K x) 0 (cond b 2 1)) 2 ≡ b
+      go : (b : Bool) → reached P K a x ≡ b → leb 2 (cond (K x) 0 (cond b 2 1)) ≡ b
       go true e = rw (avoids x e .1)
       go false e = ⊎-elim (λ t. rw t) (λ t. rw t) (true-or-false (K x))
 

@@ -8,7 +8,7 @@ use native.Mathlib.Omega.{arith}
 use lib.Dec.{eqb, ltb}
 use lib.ListN.{length, getD, set}
 use lib.Seq.{set-getD}
-use borrow.Author.Tests.{not-true, not-false, eq-eqb, ne-eqb}
+use borrow.Author.Tests.{not-true, not-false, eq-eqb, ne-eqb, le-leb, lt-leb}
 use Rattle.laws.specs.Sets.{every}
 use Rattle.laws.specs.Entry.{FFFF}
 use Rattle.laws.specs.Filled.{Filled}
@@ -16,7 +16,7 @@ use Rattle.laws.proofs.Fills.{filled-none, filled-next}
 use Rattle.model.specs.Tables.{Tables}
 use Rattle.tables.specs.declared.internal.Span.{Span}
 use Rattle.tables.specs.Spans.{spanAt, failingSpan}
-use Rattle.search.specs.Flags.{walkedIn}
+use Rattle.walks.specs.Flags.{walkedIn}
 use Rattle.search.specs.Prepared.{activeSpan}
 use Rattle.search.specs.Phases.{startFlag, startEnd, markedAt, settledAt}
 
@@ -55,18 +55,18 @@ module _ (q : Span) where
 -- ---- the sweep at one state, whose flag r was read
 
 module _ (q : Span) (cs s : List ℕ) (x r : ℕ) (p : r ≡ getD s x 0) where
-  pub not-reached : (r ≡ 2 → ⊥) → false ≡ markedAt q cs s x
+  pub not-reached : r < 2 → false ≡ markedAt q cs s x
   unfolding markedAt walkedIn
-  not-reached h = rw (← p, ne-eqb r 2 h)
+  not-reached h = rw (← p, lt-leb 2 r h)
 
-  module _ (h : r ≡ 2) (t : Bool) (e : t ≡ activeSpan q) where
+  module _ (h : 2 ≤ r) (t : Bool) (e : t ≡ activeSpan q) where
     pub nothing-to-take : not t ≡ true → false ≡ markedAt q cs s x
     unfolding markedAt walkedIn
-    nothing-to-take z = rw (← p, eq-eqb r 2 h, ← e, not-true t z)
+    nothing-to-take z = rw (← p, le-leb 2 r h, ← e, not-true t z)
 
     pub nothing-taken : not t ≡ false → (v : ℕ) → v ≡ getD cs x 0 → eqb v FFFF ≡ markedAt q cs s x
     unfolding markedAt walkedIn
-    nothing-taken z v u = rw (← p, eq-eqb r 2 h, ← e, not-false t z, u)
+    nothing-taken z v u = rw (← p, le-leb 2 r h, ← e, not-false t z, u)
 
 module _ (q : Span) (cs s : List ℕ) (x : ℕ) (unmarked t : Bool) (p : t ≡ markedAt q cs s x) where
   pub swept-marked : t ≡ true → (s′ : List ℕ) → s′ ≡ set s x 0 → (false ≡ (unmarked && not (markedAt q cs s x))) × (s′ ≡ set s x (settledAt q cs s x))
@@ -77,13 +77,13 @@ module _ (q : Span) (cs s : List ℕ) (x : ℕ) (unmarked t : Bool) (p : t ≡ m
     still-unmarked : unmarked ≡ (unmarked && not (markedAt q cs s x))
     still-unmarked = rw (← p, h) (sym (and-true unmarked))
 
-    pub swept-reached : r ≡ 2 → (s′ : List ℕ) → s′ ≡ set s x 1 → (unmarked ≡ (unmarked && not (markedAt q cs s x))) × (s′ ≡ set s x (settledAt q cs s x))
+    pub swept-reached : 2 ≤ r → (s′ : List ℕ) → s′ ≡ set s x 1 → (unmarked ≡ (unmarked && not (markedAt q cs s x))) × (s′ ≡ set s x (settledAt q cs s x))
     unfolding settledAt walkedIn
-    swept-reached z s′ e = (still-unmarked, rw (← p, h, ← u, eq-eqb r 2 z) e)
+    swept-reached z s′ e = (still-unmarked, rw (← p, h, ← u, le-leb 2 r z) e)
 
-    pub swept-other : (r ≡ 2 → ⊥) → (unmarked ≡ (unmarked && not (markedAt q cs s x))) × (s ≡ set s x (settledAt q cs s x))
+    pub swept-other : r < 2 → (unmarked ≡ (unmarked && not (markedAt q cs s x))) × (s ≡ set s x (settledAt q cs s x))
     unfolding settledAt walkedIn
-    swept-other z = (still-unmarked, rw (← p, h, ne-eqb (getD s x 0) 2 (λ w. z (u ∙ w))) (sym (set-getD s x 0)))
+    swept-other z = (still-unmarked, rw (← p, h, lt-leb 2 (getD s x 0) (rw (← u) z)) (sym (set-getD s x 0)))
 
 -- ---- the sweep, at place i
 

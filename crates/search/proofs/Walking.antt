@@ -1,6 +1,6 @@
 -- The walk of one round: what is reached so far, and what it is at the end.
 use mathlib.Core.Path.{_≡_, refl, sym, _∙_, ap, subst, fun-ext}
-use mathlib.Core.Bool.{Bool, true, false, cond}
+use mathlib.Core.Bool.{Bool, true, false, cond, _||_}
 use mathlib.Core.Logic.{⊎-elim}
 use mathlib.Core.List.{List}
 use Prim.Native.Nat.{ℕ, _+_, _<_, _≤_}
@@ -18,16 +18,20 @@ use Rattle.laws.proofs.Fills.{filled-from, filled-over}
 use Rattle.model.specs.Plan.{Plan, Valid}
 use Rattle.model.specs.Command.{choice}
 use Rattle.model.specs.Search.{lands, reached}
-use Rattle.model.proofs.Choices.{choice-some}
+use Rattle.model.proofs.Choices.{misses, choice-some}
 use Rattle.model.proofs.Walks.{lands-is, lands-of, start-reached, goes-on, reached-all}
-use Rattle.search.specs.Flags.{knownIn, walkedIn, Lists, Spread}
+use Rattle.walks.specs.Flags.{knownIn, walkedIn}
+use Rattle.walks.specs.Queued.{Queued}
+use Rattle.walks.specs.Spread.{Spread}
 use Rattle.search.specs.Phases.{Expanded, walkFlag, taken, Walked}
-use Rattle.search.proofs.FlagValues.{known-value, unknown-value, walked-value, unwalked-value}
+use Rattle.walks.proofs.FlagValues.{known-value, unknown-value, walked-value, unwalked-value}
+use Rattle.walks.proofs.Spreads.{flag-cases, flag-past, spread-known, spread-walked}
 
 -- The walk has reached q states, and has gone on from the first h of the queue. K is the known set, and c₀, s₀, u₀ are the tables when
 -- the loop begins.
 pub record Walking (P : Plan) (n : ℕ) (K : ℕ → Bool) (a : ℕ) (c₀ s₀ u₀ : List ℕ) (h q : ℕ) (cs s u : List ℕ) : Type 0 where
-  pub lists : Lists n q s u
+  pub queued : Queued n q s u
+  pub flags : (x : ℕ) → x < n → getD s x 0 < 3
   pub ahead : h ≤ q
   pub known : (y : ℕ) → knownIn s y ≡ K y
   pub start : walkedIn s a ≡ true
@@ -47,19 +51,23 @@ pub record Walking (P : Plan) (n : ℕ) (K : ℕ → Bool) (a : ℕ) (c₀ s₀ 
   pub long-queue : n ≤ length u
 
 -- the start is reached, over tables with no flag of an earlier walk
-module _ (P : Plan) {n a : ℕ} {c₀ s₀ u₀ : List ℕ} (flags : (x : ℕ) → x < n → getD s₀ x 0 < 2) (lc : n ≤ length c₀) (ls : n ≤ length s₀) (lu : n ≤ length u₀)
-    {q : ℕ} {cs s u : List ℕ} (v : Spread n 0 (λ y. eqb y a) s₀ u₀ q s u) (f : Filled n (λ _. FFFF) c₀ cs) where
+module _ (P : Plan) {n : ℕ} (a : ℕ) {c₀ s₀ u₀ : List ℕ} (flags : (x : ℕ) → x < n → getD s₀ x 0 < 2) (fresh : knownIn s₀ a ≡ false) (lc : n ≤ length c₀) (ls : n ≤ length s₀) (lu : n ≤ length u₀)
+    {q : ℕ} {cs s u : List ℕ} (v : Spread n 0 (λ y. eqb y a) 2 s₀ u₀ q s u) (f : Filled n (λ _. FFFF) c₀ cs) where
+  first-walked : (y : ℕ) → walkedIn s y ≡ walkedIn s₀ y || eqb y a
+  first-walked = spread-walked v (omega arith) (λ y t. rw (eqb-true y a t) fresh)
+
   pub walking-start : Walking P n (knownIn s) a cs s u 0 q cs s u
   walking-start = record {
-    lists = v .lists;
+    queued = v .queued;
+    flags = λ x k. flag-cases v (λ z. z < 3) x (λ t. omega arith) (λ t. omega (arith, flags x k));
     ahead = omega arith;
     known = λ y. refl;
-    start = v .walked a ∙ or-right (walkedIn s₀ a) (eqb a a) (eq-eqb a a refl);
+    start = first-walked a ∙ or-right (walkedIn s₀ a) (eqb a a) (eq-eqb a a refl);
     only = λ x k t.
         ⊎-elim
         (λ z. absurd (omega (arith, flags x k, walked-value s₀ x z)))
         (λ z. rw (eqb-true x a z) (start-reached P (knownIn s) a))
-        (or-cases (walkedIn s₀ x) (eqb x a) (sym (v .walked x) ∙ t));
+        (or-cases (walkedIn s₀ x) (eqb x a) (sym (first-walked x) ∙ t));
     closed = λ i y k. absurd (omega arith);
     took = λ i k. absurd (omega arith);
     blank = λ x k t. f .low x k;
@@ -68,24 +76,24 @@ module _ (P : Plan) {n a : ℕ} {c₀ s₀ u₀ : List ℕ} (flags : (x : ℕ) �
     same-scratch = refl;
     same-commands = refl;
     same-queue = refl;
-    long-scratch = omega (arith, v .same-scratch);
+    long-scratch = omega (arith, v .same-flags);
     long-commands = omega (arith, f .same);
     long-queue = omega (arith, v .same-queue);
   }
 
   -- the tables at the end of the walk, over those before it
   pub walked-from : {cs′ s′ : List ℕ} → Walked P n a cs s cs′ s′ → Walked P n a c₀ s₀ cs′ s′
-  walked-from w = let same : knownIn s ≡ knownIn s₀ = fun-ext (v .known) in record {
+  walked-from w = let same : knownIn s ≡ knownIn s₀ = fun-ext (spread-known v (omega arith)) in record {
     takes = rw (← same) (filled-over f (w .takes));
-    flags = rw (← same) (filled-from (v .same-scratch) (v .past) (w .flags));
+    flags = rw (← same) (filled-from (v .same-flags) (flag-past v) (w .flags));
   }
 
 module _ {P : Plan} {n : ℕ} {K : ℕ → Bool} {a : ℕ} {c₀ s₀ u₀ : List ℕ} {h q : ℕ} {cs s u : List ℕ} (w : Walking P n K a c₀ s₀ u₀ h q cs s u) where
   pub walking-room : q ≤ n
-  walking-room = omega (arith, w .lists .fits, many-bound (walkedIn s) n)
+  walking-room = omega (arith, w .queued .fits, many-bound (walkedIn s) n)
 
   pub walking-state : h < q → (x : ℕ) → x ≡ getD u h 0 → x < n
-  walking-state k x p = rw p (w .lists .states h k)
+  walking-state k x p = rw p (w .queued .states h k)
 
   module _ (S : Valid P) (count : P .states ≡ n) where
     -- the next state of the queue is gone on from
@@ -93,11 +101,18 @@ module _ {P : Plan} {n : ℕ} {K : ℕ → Bool} {a : ℕ} {c₀ s₀ u₀ : Lis
       same : knownIn s ≡ K
       same = fun-ext (w .known)
 
-      v : Spread n q (lands P x (choice P K x)) s u q′ s′ u′
+      v : Spread n q (lands P x (choice P K x)) 2 s u q′ s′ u′
       v = rw same at (g .spreads)
 
       cs-is : cs′ ≡ set cs x (entry (choice P K x))
       cs-is = rw same at (g .took)
+
+      -- a command taken has no known outcome
+      free : (y : ℕ) → lands P x (choice P K x) y ≡ true → knownIn s y ≡ false
+      free y t = let (c, e, m) = lands-is P x y (choice P K x) t in w .known y ∙ misses P K x c y (choice-some P K x c e .2) m
+
+      walked : (y : ℕ) → walkedIn s′ y ≡ walkedIn s y || lands P x (choice P K x) y
+      walked = spread-walked v (omega arith) free
 
       state : x < n
       state = walking-state k x p
@@ -106,10 +121,10 @@ module _ {P : Plan} {n : ℕ} {K : ℕ → Bool} {a : ℕ} {c₀ s₀ u₀ : Lis
       x-in = omega (arith, state, w .long-commands)
 
       x-walked : walkedIn s x ≡ true
-      x-walked = rw p (w .lists .placed h k)
+      x-walked = rw p (w .queued .placed h k)
 
       grows : (y : ℕ) → walkedIn s y ≡ true → walkedIn s′ y ≡ true
-      grows y t = v .walked y ∙ or-left (walkedIn s y) (lands P x (choice P K x) y) t
+      grows y t = walked y ∙ or-left (walkedIn s y) (lands P x (choice P K x) y) t
 
       new-reached : (y : ℕ) → lands P x (choice P K x) y ≡ true → reached P K a y ≡ true
       new-reached y t =
@@ -120,7 +135,7 @@ module _ {P : Plan} {n : ℕ} {K : ℕ → Bool} {a : ℕ} {c₀ s₀ u₀ : Lis
       old-closed y i m t = grows y (w .closed i y m (rw (v .kept i (omega (arith, w .ahead))) at t))
 
       new-closed : (y : ℕ) → lands P (getD u′ h 0) (choice P K (getD u′ h 0)) y ≡ true → walkedIn s′ y ≡ true
-      new-closed y t = v .walked y ∙ or-right (walkedIn s y) (lands P x (choice P K x) y) (rw (v .kept h k ∙ sym p) at t)
+      new-closed y t = walked y ∙ or-right (walkedIn s y) (lands P x (choice P K x) y) (rw (v .kept h k ∙ sym p) at t)
 
       entry-at : (z : ℕ) → (eqb z x ≡ false → getD cs z 0 ≡ entry (choice P K z)) → getD cs′ z 0 ≡ entry (choice P K z)
       entry-at z other =
@@ -142,20 +157,21 @@ module _ {P : Plan} {n : ℕ} {K : ℕ → Bool} {a : ℕ} {c₀ s₀ u₀ : Lis
 
       pub walking-next : Walking P n K a c₀ s₀ u₀ (h + 1) q′ cs′ s′ u′
       walking-next = record {
-        lists = v .lists;
+        queued = v .queued;
+        flags = λ y m. flag-cases v (λ z. z < 3) y (λ t. omega arith) (λ t. w .flags y m);
         ahead = omega (arith, v .more);
-        known = λ y. v .known y ∙ w .known y;
+        known = λ y. spread-known v (omega arith) y ∙ w .known y;
         start = grows a (w .start);
-        only = λ y m t. ⊎-elim (w .only y m) (new-reached y) (or-cases (walkedIn s y) (lands P x (choice P K x) y) (sym (v .walked y) ∙ t));
+        only = λ y m t. ⊎-elim (w .only y m) (new-reached y) (or-cases (walkedIn s y) (lands P x (choice P K x) y) (sym (walked y) ∙ t));
         closed = λ i y m. below-suc (λ j. lands P (getD u′ j 0) (choice P K (getD u′ j 0)) y ≡ true → walkedIn s′ y ≡ true) h (old-closed y) (new-closed y) i (omega arith);
         took = λ i m. below-suc (λ j. getD cs′ (getD u′ j 0) 0 ≡ entry (choice P K (getD u′ j 0))) h old-took new-took i (omega arith);
         blank = λ y m t. rw (cs-is, entry-after cs x (entry (choice P K x)) y x-in) (still-blank y m t);
-        past-scratch = λ y m. v .past y m ∙ w .past-scratch y m;
+        past-scratch = λ y m. flag-past v y m ∙ w .past-scratch y m;
         past-commands = λ y m. rw cs-is (getD-set-other cs x y (entry (choice P K x)) 0 (λ z. omega (arith, state))) ∙ w .past-commands y m;
-        same-scratch = v .same-scratch ∙ w .same-scratch;
+        same-scratch = v .same-flags ∙ w .same-scratch;
         same-commands = ap length cs-is ∙ length-set cs x (entry (choice P K x)) ∙ w .same-commands;
         same-queue = v .same-queue ∙ w .same-queue;
-        long-scratch = omega (arith, v .same-scratch, w .long-scratch);
+        long-scratch = omega (arith, v .same-flags, w .long-scratch);
         long-commands = omega (arith, ap length cs-is ∙ length-set cs x (entry (choice P K x)), w .long-commands);
         long-queue = omega (arith, v .same-queue, w .long-queue);
       }
@@ -163,7 +179,7 @@ module _ {P : Plan} {n : ℕ} {K : ℕ → Bool} {a : ℕ} {c₀ s₀ u₀ : Lis
     -- the queue is empty: what is reached is closed, so it is all that a walk reaches
     module _ (a-in : a < n) (done : q ≤ h) where
       expanded-from : (x : ℕ) → x < n → walkedIn s x ≡ true → (i : ℕ) × (i < h) × (getD u i 0 ≡ x)
-      expanded-from x k t = let (i, m, z) = w .lists .listed x k t in (i, omega arith, z)
+      expanded-from x k t = let (i, m, z) = w .queued .listed x k t in (i, omega arith, z)
 
       covers : (x : ℕ) → reached P K a x ≡ true → (x < n) × (walkedIn s x ≡ true)
       covers =
@@ -177,11 +193,8 @@ module _ {P : Plan} {n : ℕ} {K : ℕ → Bool} {a : ℕ} {c₀ s₀ u₀ : Lis
 
       flag-is : (x : ℕ) (b t : Bool) → K x ≡ b → walkedIn s x ≡ t → getD s x 0 < 3 → getD s x 0 ≡ cond b 0 (cond t 2 1)
       flag-is x true t e f m = let z = known-value s x (w .known x ∙ e) in omega arith
-      flag-is x false true e f m = walked-value s x f
-      flag-is x false false e f m = one (getD s x 0) m (unknown-value s x (w .known x ∙ e)) (unwalked-value s x f)
-        where
-          one : (v : ℕ) → v < 3 → 0 < v → (v ≡ 2 → ⊥) → v ≡ 1
-          one v p r z = omega (arith, z)
+      flag-is x false true e f m = omega (arith, walked-value s x f)
+      flag-is x false false e f m = omega (arith, unknown-value s x (w .known x ∙ e), unwalked-value s x f)
 
       entry-is : (x : ℕ) → x < n → (t : Bool) → walkedIn s x ≡ t → getD cs x 0 ≡ cond t (entry (choice P K x)) FFFF
       entry-is x k true f = let (i, l, z) = expanded-from x k f in subst (λ y. getD cs y 0 ≡ entry (choice P K y)) z (w .took i l)
@@ -191,7 +204,7 @@ module _ {P : Plan} {n : ℕ} {K : ℕ → Bool} {a : ℕ} {c₀ s₀ u₀ : Lis
       unfolding walkFlag
       walking-flags = record {
         same = w .same-scratch;
-        low = λ x k. rw (reached-is x k) (flag-is x (K x) (walkedIn s x) refl refl (w .lists .flags x k));
+        low = λ x k. rw (reached-is x k) (flag-is x (K x) (walkedIn s x) refl refl (w .flags x k));
         high = w .past-scratch;
       }
 

@@ -1,4 +1,3 @@
-pub mod Flags
 pub mod Prepared
 pub mod Phases
 pub mod Answers

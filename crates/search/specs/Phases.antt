@@ -1,20 +1,20 @@
 -- What each phase of the search leaves in the command table and in scratch. Nothing here depends on the order of the walk.
 use mathlib.Core.Path.{_≡_}
-use mathlib.Core.Bool.{Bool, true, false, not, cond, _&&_, _||_}
+use mathlib.Core.Bool.{Bool, true, false, cond, _&&_}
 use mathlib.Core.List.{List}
 use Prim.Native.Nat.{ℕ}
 use lib.Dec.{eqb}
 use lib.ListN.{getD, set}
-use Rattle.laws.specs.Sets.{every}
 use Rattle.laws.specs.Entry.{FFFF, entry}
 use Rattle.laws.specs.Filled.{Filled}
 use Rattle.model.specs.Plan.{Plan}
 use Rattle.model.specs.Command.{choice}
-use Rattle.model.specs.Search.{lands, reached, marked, search}
+use Rattle.model.specs.Search.{lands, reached, search}
 use Rattle.tables.specs.declared.internal.Span.{Span}
 use Rattle.tables.specs.Spans.{failingSpan}
 use Rattle.search.specs.declared.Found.{Found}
-use Rattle.search.specs.Flags.{knownIn, walkedIn, Spread}
+use Rattle.walks.specs.Flags.{knownIn, walkedIn}
+use Rattle.walks.specs.Spread.{Spread}
 use Rattle.search.specs.Prepared.{activeSpan}
 
 -- before the first round: the failing states are known
@@ -28,7 +28,7 @@ startEnd q = cond (failingSpan q) 1 (cond (activeSpan q) 2 0)
 -- the walk went on from s: it took the command there, and that command's outcomes into the walk
 pub record Expanded (P : Plan) (n q s : ℕ) (commands scratch queue : List ℕ) (q′ : ℕ) (commands′ scratch′ queue′ : List ℕ) : Type 0 where
   pub took : commands′ ≡ set commands s (entry (choice P (knownIn scratch) s))
-  pub spreads : Spread n q (lands P s (choice P (knownIn scratch) s)) scratch queue q′ scratch′ queue′
+  pub spreads : Spread n q (lands P s (choice P (knownIn scratch) s)) 2 scratch queue q′ scratch′ queue′
 
 -- after a walk from a: the flag of x, and its entry in the command table
 unfoldable pub walkFlag : Plan → (ℕ → Bool) → ℕ → ℕ → ℕ
@@ -49,21 +49,9 @@ markedAt q commands scratch s = walkedIn scratch s && activeSpan q && eqb (getD 
 unfoldable pub settledAt : Span → List ℕ → List ℕ → ℕ → ℕ
 settledAt q commands scratch s = cond (markedAt q commands scratch s) 0 (cond (walkedIn scratch s) 1 (getD scratch s 0))
 
--- after a round from a
-unfoldable pub roundFlag : Plan → (ℕ → Bool) → ℕ → ℕ → ℕ
-roundFlag P K a x = cond (K x || marked P K a x) 0 1
-
 -- how a round ends, by whether it has no marks and by the start's flag after it: 0 if there are none, 1 if the start is known, else 2
 unfoldable pub endOf : Bool → ℕ → ℕ
 endOf unmarked flag = cond unmarked 0 (cond (eqb flag 0) 1 2)
-
-unfoldable pub roundEnd : Plan → (ℕ → Bool) → ℕ → ℕ
-roundEnd P K a = cond (every (λ x. not (marked P K a x)) (P .states)) 0 (cond (marked P K a a) 1 2)
-
-pub record Rounded (P : Plan) (n a : ℕ) (commands scratch : List ℕ) (end : ℕ) (commands′ scratch′ : List ℕ) : Type 0 where
-  pub ends : end ≡ roundEnd P (knownIn scratch) a
-  pub takes : Filled n (taken P (knownIn scratch) a) commands commands′
-  pub flags : Filled n (roundFlag P (knownIn scratch) a) scratch scratch′
 
 -- the last words of the search, after a last round that ended so
 pub record Finished (n end rounds : ℕ) (commands scratch : List ℕ) (r : Found) (commands′ scratch′ : List ℕ) : Type 0 where

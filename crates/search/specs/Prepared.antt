@@ -13,7 +13,7 @@ use Rattle.tables.specs.declared.internal.Span.{Span}
 use Rattle.tables.specs.Meaning.{held}
 use Rattle.tables.specs.Spans.{commandsOf}
 use Rattle.tables.specs.Ready.{Ready}
-use Rattle.search.specs.Flags.{knownIn}
+use Rattle.walks.specs.Flags.{knownIn}
 
 -- an ordinary state with commands
 unfoldable pub activeSpan : Span → Bool

@@ -14,8 +14,8 @@ use tables::internal::Admission;
 
 mod admission;
 mod marks;
-mod turns;
-mod walks;
+mod rounds;
+mod walk;
 
 // The verdict on the start, and how many rounds were walked, the last included.
 pub struct Found {
@@ -54,7 +54,7 @@ pub fn search(
         Admission::Denied(refusal) => SearchAnswer::Refused(refusal),
         Admission::Granted => {
             let mut queue = [0u16; Size::STATES];
-            let found = turns::rounds(
+            let found = rounds::walk_rounds(
                 size,
                 rows,
                 firsts,

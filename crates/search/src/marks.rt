@@ -69,7 +69,7 @@ fn is_marked(span: Span, commands: &[u16], scratch: &[u16], s: usize) -> bool
     requires { ⌜ (s < length (now commands)) × (s < length (now scratch)) ⌝ }
     ensures { λ r. ⌜ r ≡ markedAt span (now (commands .entry)) (now (scratch .entry)) s ⌝ }
 {
-    if at(scratch, s) != 2 {
+    if at(scratch, s) < 2 {
         return false;
     }
     if !has_commands(span) {
@@ -89,7 +89,7 @@ fn settle_one(span: Span, commands: &[u16], scratch: &mut [u16], s: usize, unmar
         put(scratch, s, 0);
         return false;
     }
-    if at(scratch, s) == 2 {
+    if 2 <= at(scratch, s) {
         put(scratch, s, 1);
         return unmarked;
     }

@@ -1,3 +1,4 @@
+-- Admission decides as the definition does; where it is granted, all that the rounds ask for follows from the tests that were passed.
 mod Tie
 use native.Mathlib.Omega.{arith}
 use mathlib.Core.Path.{refl}
@@ -18,11 +19,11 @@ enum-known-admission c = search needs
 enum-told : tie.Need-enum-told
 enum-told c = search needs
 
-slice-aggregate-rounds : tie.Need-slice-aggregate-rounds
-slice-aggregate-rounds c = search needs
+slice-aggregate-walk-rounds : tie.Need-slice-aggregate-walk-rounds
+slice-aggregate-walk-rounds c = search needs
 
-rounds-requires : tie.Need-rounds-requires
-rounds-requires c κs =
+walk-rounds-requires : tie.Need-walk-rounds-requires
+walk-rounds-requires c κs =
     admitted-prepared _ _ _ _ _ _ _ _ _ (c .before .before .before .before .before .admit .ensures _ (c .before .before .before .before .before .before .sound .ensures .0) refl) (c .before .before .before .enum-told .given .1) (omega arith)
 
 returns : tie.Need-returns
@@ -39,7 +40,7 @@ same-length-2 c = search needs
 returns-2 : tie.Need-returns-2
 returns-2 c =
     let s = c .before .before .before .before .before .before .before .before .before .before .before .before .before .before .before .before .before .args in
-    gives _ _ (s .commands .now) (s .scratch .now) _ (c .before .before .before .before .before .before .before .before .before .before .before .admit .ensures _ (c .before .before .before .before .before .before .before .before .before .before .before .before .sound .ensures .0) refl) (c .before .before .before .before .before .before .before .before .before .enum-told .given .1) _ _ _ (c .before .before .before .before .before .rounds .ensures)
+    gives _ _ (s .commands .now) (s .scratch .now) _ (c .before .before .before .before .before .before .before .before .before .before .before .admit .ensures _ (c .before .before .before .before .before .before .before .before .before .before .before .before .sound .ensures .0) refl) (c .before .before .before .before .before .before .before .before .before .enum-told .given .1) _ _ _ (c .before .before .before .before .before .walk-rounds .ensures)
 
 pub search-spec : {M : Type 1} → statement M
 search-spec =
@@ -49,8 +50,8 @@ search-spec =
     admit-requires
     enum-known-admission
     enum-told
-    slice-aggregate-rounds
-    rounds-requires
+    slice-aggregate-walk-rounds
+    walk-rounds-requires
     returns
     same-length
     same-length-2

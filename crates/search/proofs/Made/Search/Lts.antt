@@ -196,7 +196,7 @@ abbrev b13 : Syntax.Body
 b13 = Syntax.assign (Syntax.place 21 List.[]) (Syntax.aggregate (List._∷_ (Syntax.copy (Syntax.place 20 List.[])) (List._∷_ (Syntax.intBig Syntax.w64 1024) List.[])))
 
 abbrev b14 : Syntax.Body
-b14 = Syntax.call "search::turns::rounds" (List._∷_ (Syntax.copy (Syntax.place 1 List.[])) (List._∷_ (Syntax.copy (Syntax.place 2 List.[])) (List._∷_ (Syntax.copy (Syntax.place 3 List.[])) (List._∷_ (Syntax.copy (Syntax.place 4 List.[])) (List._∷_ (Syntax.copy (Syntax.place 5 List.[])) (List._∷_ (Syntax.copy (Syntax.place 17 List.[])) (List._∷_ (Syntax.copy (Syntax.place 19 List.[])) (List._∷_ (Syntax.copy (Syntax.place 21 List.[])) List.[])))))))) (Syntax.place 12 List.[])
+b14 = Syntax.call "search::rounds::walk_rounds" (List._∷_ (Syntax.copy (Syntax.place 1 List.[])) (List._∷_ (Syntax.copy (Syntax.place 2 List.[])) (List._∷_ (Syntax.copy (Syntax.place 3 List.[])) (List._∷_ (Syntax.copy (Syntax.place 4 List.[])) (List._∷_ (Syntax.copy (Syntax.place 5 List.[])) (List._∷_ (Syntax.copy (Syntax.place 17 List.[])) (List._∷_ (Syntax.copy (Syntax.place 19 List.[])) (List._∷_ (Syntax.copy (Syntax.place 21 List.[])) List.[])))))))) (Syntax.place 12 List.[])
 
 abbrev b15 : Syntax.Body
 b15 = Syntax.assign (Syntax.place 15 List.[]) (Syntax.aggregate (List._∷_ (Syntax.int Syntax.w8 0) (List._∷_ (Syntax.copy (Syntax.place 12 List.[])) List.[])))
@@ -640,7 +640,7 @@ module _ (claims· : Claims) where
   module _ (Pre· : (κs : Lifetimes.Lfts 5) → Kinds.Dens κs ps → Type 0) (Post· : (κs : Lifetimes.Lfts 5) → (a : Kinds.Dens κs ps) → Kinds.Plain 5 ps r κs) where
     module _ (M : Type 1) where
       abbrev pub Closed : Type 2
-      Closed = (𝓤 : URA.URA M) (H : Wp.Heap 𝓤) (A : Atoms.Atoms 𝓤) (W : Kit.Given 𝓤 H A) (𝓣 : Wp.Tables 𝓤 H) (known0 : Plain.Known 𝓤 H A W 𝓣 3 ps·0 r·0 (claims· .0) (claims· .1) "tables::sound") (known1 : Plain.Known 𝓤 H A W 𝓣 0 ps·1 r·1 (claims· .2) (claims· .3) "search::admission::admit") (known2 : Plain.Known 𝓤 H A W 𝓣 6 ps·2 r·2 (claims· .4) (claims· .5) "search::turns::rounds") → Statement.Triple 𝓤 (Wp.WpFn 𝓤 H (𝓣 .C) (𝓣 .Λ) (Function.fnOf 5 ps r xs m hs body)) (Function.plainOf 𝓤 H A 5 ps r Pre· Post·)
+      Closed = (𝓤 : URA.URA M) (H : Wp.Heap 𝓤) (A : Atoms.Atoms 𝓤) (W : Kit.Given 𝓤 H A) (𝓣 : Wp.Tables 𝓤 H) (known0 : Plain.Known 𝓤 H A W 𝓣 3 ps·0 r·0 (claims· .0) (claims· .1) "tables::sound") (known1 : Plain.Known 𝓤 H A W 𝓣 0 ps·1 r·1 (claims· .2) (claims· .3) "search::admission::admit") (known2 : Plain.Known 𝓤 H A W 𝓣 6 ps·2 r·2 (claims· .4) (claims· .5) "search::rounds::walk_rounds") → Statement.Triple 𝓤 (Wp.WpFn 𝓤 H (𝓣 .C) (𝓣 .Λ) (Function.fnOf 5 ps r xs m hs body)) (Function.plainOf 𝓤 H A 5 ps r Pre· Post·)
 
     module _ where
       abbrev at0 : (bs : List.List Nat.ℕ) → Typed.TF T17 O1
@@ -801,7 +801,7 @@ module _ (claims· : Claims) where
 
       module _ {M : Type 1} (𝓤 : URA.URA M) (H : Wp.Heap 𝓤) (A : Atoms.Atoms 𝓤) (W : Kit.Given 𝓤 H A) (𝓣 : Wp.Tables 𝓤 H) where
         abbrev Knowns : Type 1
-        Knowns = Plain.Known 𝓤 H A W 𝓣 3 ps·0 r·0 (claims· .0) (claims· .1) "tables::sound" × Plain.Known 𝓤 H A W 𝓣 0 ps·1 r·1 (claims· .2) (claims· .3) "search::admission::admit" × Plain.Known 𝓤 H A W 𝓣 6 ps·2 r·2 (claims· .4) (claims· .5) "search::turns::rounds"
+        Knowns = Plain.Known 𝓤 H A W 𝓣 3 ps·0 r·0 (claims· .0) (claims· .1) "tables::sound" × Plain.Known 𝓤 H A W 𝓣 0 ps·1 r·1 (claims· .2) (claims· .3) "search::admission::admit" × Plain.Known 𝓤 H A W 𝓣 6 ps·2 r·2 (claims· .4) (claims· .5) "search::rounds::walk_rounds"
 
       module _ (κs : Lifetimes.Lfts 5) (qs : Lifetimes.Shares 5) where
         abbrev g17 : List.List Row.Entry
@@ -1052,7 +1052,7 @@ module _ (claims· : Claims) where
           d19 = Typed.g-pre 𝓤 H A W 𝓣 E G33 G34 b15 Δ1 (Typed.pass T33 T34 (s31 bs)) (at18 bs) (Scalar.g-room 𝓤 H A W E G33 1 ty·10 (Local.room-whole 𝓤 H A W (Declared'.row Size.the-type) ty·10 Path'.refl)) d18
 
           d20 : Typed.Typed 𝓤 H A 𝓣 E G32 b16 Δ1 (at20 bs)
-          d20 = Typed.s-seq 𝓤 H A W 𝓣 E G32 G33 b14 b15 Δ1 (Typed.both (s30 bs)) (at19 bs) (Plain.t-call-plain 𝓤 H A W 𝓣 6 ps·2 r·2 (claims· .4) (claims· .5) "search::turns::rounds" (known .2) E (λ pos β. β) G32 (record { pos = 1; st = List.[]; d = 0; at = λ x. x }, (record { pos = 2; ty = Syntax.tyRef (Syntax.named 0) Syntax.imm (Memory.pointee (T.the-row .written)); ref = λ x. x }, (record { pos = 3; ty = Syntax.tyRef (Syntax.named 1) Syntax.imm (Syntax.tyInt Syntax.w16); ref = λ x. x }, (record { pos = 4; ty = Syntax.tyRef (Syntax.named 2) Syntax.imm (Syntax.tyInt Syntax.w16); ref = λ x. x }, (Num.vAt 5 λ x. x, (record { pos = 17; ty = Syntax.tyRef Syntax.erased Syntax.mut (Syntax.tyInt Syntax.w16); ref = λ x. x }, (record { pos = 19; ty = Syntax.tyRef Syntax.erased Syntax.mut (Syntax.tyInt Syntax.w16); ref = λ x. x }, (record { pos = 21; ty = Syntax.tyRef Syntax.erased Syntax.mut (Syntax.tyInt Syntax.w16); ref = λ x. x }, tt)))))))) 12 (List._∷_ 0 (List._∷_ 1 (List._∷_ 2 (List._∷_ 5 (List._∷_ 6 (List._∷_ 7 List.[])))))) (Call.sub-id 𝓤 H A W (G32 .slots)) ((Yields.yields-copy 𝓤 H A W (λ ρ. Unit) (Declared'.row Size.the-type) Path'.refl (Copies.cStruct Size.the-type Laws'3.the-laws Laws'3.the-copy .copy 𝓤 H A W) (Rows'.whole (Declared'.row Size.the-type)) (λ x. x) (λ x. x) (λ ρ told. Local.mem-whole 𝓤 H A W (Declared'.row Size.the-type) ρ) λ ρ told. Local.whole-mem 𝓤 H A W (Declared'.row Size.the-type) ρ, Path'.refl), (ShrSlice.spares-sslice 𝓤 H A W T.the-row ty·6 0, Shared.reads-sslice 𝓤 H A W T.the-row ty·6 0, Path'.refl, (ShrSlice.spares-sslice 𝓤 H A W (Referent.rtF (Referent.fInt Syntax.w16)) ty·2 1, Shared.reads-sslice 𝓤 H A W (Referent.rtF (Referent.fInt Syntax.w16)) ty·2 1, Path'.refl, (ShrSlice.spares-sslice 𝓤 H A W (Referent.rtF (Referent.fInt Syntax.w16)) ty·3 2, Shared.reads-sslice 𝓤 H A W (Referent.rtF (Referent.fInt Syntax.w16)) ty·3 2, Path'.refl, ((Scalar.reads-sc 𝓤 H A W (Row.sInt Syntax.w64), Path'.refl), (Reads'.as-is 𝓤 H A (Mut.mslice (Referent.rtF (Referent.fInt Syntax.w16)) ty·1 5), Mut.reads-mslice 𝓤 H A W (Referent.rtF (Referent.fInt Syntax.w16)) ty·1 5, Path'.refl, (Reads'.as-is 𝓤 H A (Mut.mslice (Referent.rtF (Referent.fInt Syntax.w16)) ty·1 6), Mut.reads-mslice 𝓤 H A W (Referent.rtF (Referent.fInt Syntax.w16)) ty·1 6, Path'.refl, (Reads'.as-is 𝓤 H A (Mut.mslice (Referent.rtF (Referent.fInt Syntax.w16)) ty·1 7), Mut.reads-mslice 𝓤 H A W (Referent.rtF (Referent.fInt Syntax.w16)) ty·1 7, Path'.refl, tt)))))))) (Reads'.room-gone 𝓤 H A ty·9) (tt, (tt, (tt, (tt, (tt, (tt, tt)))))) Path'.refl) d19
+          d20 = Typed.s-seq 𝓤 H A W 𝓣 E G32 G33 b14 b15 Δ1 (Typed.both (s30 bs)) (at19 bs) (Plain.t-call-plain 𝓤 H A W 𝓣 6 ps·2 r·2 (claims· .4) (claims· .5) "search::rounds::walk_rounds" (known .2) E (λ pos β. β) G32 (record { pos = 1; st = List.[]; d = 0; at = λ x. x }, (record { pos = 2; ty = Syntax.tyRef (Syntax.named 0) Syntax.imm (Memory.pointee (T.the-row .written)); ref = λ x. x }, (record { pos = 3; ty = Syntax.tyRef (Syntax.named 1) Syntax.imm (Syntax.tyInt Syntax.w16); ref = λ x. x }, (record { pos = 4; ty = Syntax.tyRef (Syntax.named 2) Syntax.imm (Syntax.tyInt Syntax.w16); ref = λ x. x }, (Num.vAt 5 λ x. x, (record { pos = 17; ty = Syntax.tyRef Syntax.erased Syntax.mut (Syntax.tyInt Syntax.w16); ref = λ x. x }, (record { pos = 19; ty = Syntax.tyRef Syntax.erased Syntax.mut (Syntax.tyInt Syntax.w16); ref = λ x. x }, (record { pos = 21; ty = Syntax.tyRef Syntax.erased Syntax.mut (Syntax.tyInt Syntax.w16); ref = λ x. x }, tt)))))))) 12 (List._∷_ 0 (List._∷_ 1 (List._∷_ 2 (List._∷_ 5 (List._∷_ 6 (List._∷_ 7 List.[])))))) (Call.sub-id 𝓤 H A W (G32 .slots)) ((Yields.yields-copy 𝓤 H A W (λ ρ. Unit) (Declared'.row Size.the-type) Path'.refl (Copies.cStruct Size.the-type Laws'3.the-laws Laws'3.the-copy .copy 𝓤 H A W) (Rows'.whole (Declared'.row Size.the-type)) (λ x. x) (λ x. x) (λ ρ told. Local.mem-whole 𝓤 H A W (Declared'.row Size.the-type) ρ) λ ρ told. Local.whole-mem 𝓤 H A W (Declared'.row Size.the-type) ρ, Path'.refl), (ShrSlice.spares-sslice 𝓤 H A W T.the-row ty·6 0, Shared.reads-sslice 𝓤 H A W T.the-row ty·6 0, Path'.refl, (ShrSlice.spares-sslice 𝓤 H A W (Referent.rtF (Referent.fInt Syntax.w16)) ty·2 1, Shared.reads-sslice 𝓤 H A W (Referent.rtF (Referent.fInt Syntax.w16)) ty·2 1, Path'.refl, (ShrSlice.spares-sslice 𝓤 H A W (Referent.rtF (Referent.fInt Syntax.w16)) ty·3 2, Shared.reads-sslice 𝓤 H A W (Referent.rtF (Referent.fInt Syntax.w16)) ty·3 2, Path'.refl, ((Scalar.reads-sc 𝓤 H A W (Row.sInt Syntax.w64), Path'.refl), (Reads'.as-is 𝓤 H A (Mut.mslice (Referent.rtF (Referent.fInt Syntax.w16)) ty·1 5), Mut.reads-mslice 𝓤 H A W (Referent.rtF (Referent.fInt Syntax.w16)) ty·1 5, Path'.refl, (Reads'.as-is 𝓤 H A (Mut.mslice (Referent.rtF (Referent.fInt Syntax.w16)) ty·1 6), Mut.reads-mslice 𝓤 H A W (Referent.rtF (Referent.fInt Syntax.w16)) ty·1 6, Path'.refl, (Reads'.as-is 𝓤 H A (Mut.mslice (Referent.rtF (Referent.fInt Syntax.w16)) ty·1 7), Mut.reads-mslice 𝓤 H A W (Referent.rtF (Referent.fInt Syntax.w16)) ty·1 7, Path'.refl, tt)))))))) (Reads'.room-gone 𝓤 H A ty·9) (tt, (tt, (tt, (tt, (tt, (tt, tt)))))) Path'.refl) d19
 
           d21 : Typed.Typed 𝓤 H A 𝓣 E G31 b17 Δ1 (at21 bs)
           d21 = Typed.s-seq 𝓤 H A W 𝓣 E G31 G32 b13 b16 Δ1 (Typed.ask (s29 bs)) (at20 bs) (Relend.t-sl-aggregate 𝓤 H A W E (Referent.rtF (Referent.fInt Syntax.w16)) 𝓣 (Relend.asMut (Referent.rtF (Referent.fInt Syntax.w16))) G31 20 21 7 ty·7 ty·1 (λ x. x) (Scalar.oBig Syntax.w64 1024) (Reads'.as-is 𝓤 H A (Relend.msptr (Referent.rtF (Referent.fInt Syntax.w16)) ty·7 7)) (Reads'.room-gone 𝓤 H A ty·8) record { lower = record { fits = Dec'.lit< tt } } Path'.refl Path'.refl λ b o k. tt) d20
@@ -1357,73 +1357,73 @@ module _ (claims· : Claims) where
       m23 = λ before given. s23 (before .before .before .before .before .before .before .before .before .blocks) .next (m22 before given)
 
       module _ (before· : After-enum-told) where
-        pub record After-rounds-arg·own : Type 0 where
+        pub record After-walk-rounds-arg·own : Type 0 where
           pub given : s22 (before· .before .before .before .before .before .before .before .before .blocks) .gives (m21 (before· .before) (before· .enum-told .given))
 
-      pub record After-rounds-arg : Type 0 where
+      pub record After-walk-rounds-arg : Type 0 where
         pub before : After-enum-told
-        pub rounds-arg : After-rounds-arg·own before
+        pub walk-rounds-arg : After-walk-rounds-arg·own before
 
-      abbrev pub m24 : (before : After-rounds-arg) → (given : s25 (before .before .before .before .before .before .before .before .before .before .blocks) .gives (m23 (before .before) (before .rounds-arg .given))) → Typed.Mo T28
-      m24 = λ before given. s25 (before .before .before .before .before .before .before .before .before .before .blocks) .next (m23 (before .before) (before .rounds-arg .given)) given
+      abbrev pub m24 : (before : After-walk-rounds-arg) → (given : s25 (before .before .before .before .before .before .before .before .before .before .blocks) .gives (m23 (before .before) (before .walk-rounds-arg .given))) → Typed.Mo T28
+      m24 = λ before given. s25 (before .before .before .before .before .before .before .before .before .before .blocks) .next (m23 (before .before) (before .walk-rounds-arg .given)) given
 
-      abbrev pub m25 : (before : After-rounds-arg) → (given : s25 (before .before .before .before .before .before .before .before .before .before .blocks) .gives (m23 (before .before) (before .rounds-arg .given))) → Typed.Mo T29
+      abbrev pub m25 : (before : After-walk-rounds-arg) → (given : s25 (before .before .before .before .before .before .before .before .before .before .blocks) .gives (m23 (before .before) (before .walk-rounds-arg .given))) → Typed.Mo T29
       m25 = λ before given. s26 (before .before .before .before .before .before .before .before .before .before .blocks) .next (m24 before given)
 
-      module _ (before· : After-rounds-arg) where
-        pub record After-rounds-arg2·own : Type 0 where
-          pub given : s25 (before· .before .before .before .before .before .before .before .before .before .blocks) .gives (m23 (before· .before) (before· .rounds-arg .given))
+      module _ (before· : After-walk-rounds-arg) where
+        pub record After-walk-rounds-arg2·own : Type 0 where
+          pub given : s25 (before· .before .before .before .before .before .before .before .before .before .blocks) .gives (m23 (before· .before) (before· .walk-rounds-arg .given))
 
-      pub record After-rounds-arg2 : Type 0 where
-        pub before : After-rounds-arg
-        pub rounds-arg2 : After-rounds-arg2·own before
+      pub record After-walk-rounds-arg2 : Type 0 where
+        pub before : After-walk-rounds-arg
+        pub walk-rounds-arg2 : After-walk-rounds-arg2·own before
 
-      abbrev pub m26 : (before : After-rounds-arg2) → (given : s28 (before .before .before .before .before .before .before .before .before .before .before .blocks) .gives (m25 (before .before) (before .rounds-arg2 .given))) → Typed.Mo T31
-      m26 = λ before given. s28 (before .before .before .before .before .before .before .before .before .before .before .blocks) .next (m25 (before .before) (before .rounds-arg2 .given)) given
+      abbrev pub m26 : (before : After-walk-rounds-arg2) → (given : s28 (before .before .before .before .before .before .before .before .before .before .before .blocks) .gives (m25 (before .before) (before .walk-rounds-arg2 .given))) → Typed.Mo T31
+      m26 = λ before given. s28 (before .before .before .before .before .before .before .before .before .before .before .blocks) .next (m25 (before .before) (before .walk-rounds-arg2 .given)) given
 
-      module _ (before· : After-rounds-arg2) where
+      module _ (before· : After-walk-rounds-arg2) where
         pub record After-queue·own : Type 0 where
-          pub given : s28 (before· .before .before .before .before .before .before .before .before .before .before .blocks) .gives (m25 (before· .before) (before· .rounds-arg2 .given))
+          pub given : s28 (before· .before .before .before .before .before .before .before .before .before .before .blocks) .gives (m25 (before· .before) (before· .walk-rounds-arg2 .given))
 
       pub record After-queue : Type 0 where
-        pub before : After-rounds-arg2
+        pub before : After-walk-rounds-arg2
         pub queue : After-queue·own before
 
-      abbrev pub Need-slice-aggregate-rounds : Type 0
-      Need-slice-aggregate-rounds = (c : After-queue) → Relend.CountIs T31 20 21 (λ x. x) (λ u. 1024) (m26 (c .before) (c .queue .given))
+      abbrev pub Need-slice-aggregate-walk-rounds : Type 0
+      Need-slice-aggregate-walk-rounds = (c : After-queue) → Relend.CountIs T31 20 21 (λ x. x) (λ u. 1024) (m26 (c .before) (c .queue .given))
 
-      abbrev pub m27 : (before : After-rounds-arg2) → (given : s28 (before .before .before .before .before .before .before .before .before .before .before .blocks) .gives (m25 (before .before) (before .rounds-arg2 .given))) → Typed.Mo T32
+      abbrev pub m27 : (before : After-walk-rounds-arg2) → (given : s28 (before .before .before .before .before .before .before .before .before .before .before .blocks) .gives (m25 (before .before) (before .walk-rounds-arg2 .given))) → Typed.Mo T32
       m27 = λ before given. s29 (before .before .before .before .before .before .before .before .before .before .before .blocks) .next (m26 before given)
 
-      abbrev pub Need-rounds-requires : Type 0
-      Need-rounds-requires = (c : After-queue) → s30 (c .before .before .before .before .before .before .before .before .before .before .before .blocks) .asks (m27 (c .before) (c .queue .given))
+      abbrev pub Need-walk-rounds-requires : Type 0
+      Need-walk-rounds-requires = (c : After-queue) → s30 (c .before .before .before .before .before .before .before .before .before .before .before .blocks) .asks (m27 (c .before) (c .queue .given))
 
       abbrev pub m28 : (before : After-queue) → (given : s30 (before .before .before .before .before .before .before .before .before .before .before .before .blocks) .gives (m27 (before .before) (before .queue .given))) → Typed.Mo T33
       m28 = λ before given. s30 (before .before .before .before .before .before .before .before .before .before .before .before .blocks) .next (m27 (before .before) (before .queue .given)) given
 
       module _ (before· : After-queue) where
-        abbrev pub After-rounds·own : Type 0
-        After-rounds·own = Called.Called ps·2 r·2 (claims· .5) T32 (record { pos = 1; st = List.[]; d = 0; at = λ x. x }, (record { pos = 2; ty = Syntax.tyRef (Syntax.named 0) Syntax.imm (Memory.pointee (T.the-row .written)); ref = λ x. x }, (record { pos = 3; ty = Syntax.tyRef (Syntax.named 1) Syntax.imm (Syntax.tyInt Syntax.w16); ref = λ x. x }, (record { pos = 4; ty = Syntax.tyRef (Syntax.named 2) Syntax.imm (Syntax.tyInt Syntax.w16); ref = λ x. x }, (Num.vAt 5 λ x. x, (record { pos = 17; ty = Syntax.tyRef Syntax.erased Syntax.mut (Syntax.tyInt Syntax.w16); ref = λ x. x }, (record { pos = 19; ty = Syntax.tyRef Syntax.erased Syntax.mut (Syntax.tyInt Syntax.w16); ref = λ x. x }, (record { pos = 21; ty = Syntax.tyRef Syntax.erased Syntax.mut (Syntax.tyInt Syntax.w16); ref = λ x. x }, tt)))))))) (m27 (before· .before) (before· .queue .given))
+        abbrev pub After-walk-rounds·own : Type 0
+        After-walk-rounds·own = Called.Called ps·2 r·2 (claims· .5) T32 (record { pos = 1; st = List.[]; d = 0; at = λ x. x }, (record { pos = 2; ty = Syntax.tyRef (Syntax.named 0) Syntax.imm (Memory.pointee (T.the-row .written)); ref = λ x. x }, (record { pos = 3; ty = Syntax.tyRef (Syntax.named 1) Syntax.imm (Syntax.tyInt Syntax.w16); ref = λ x. x }, (record { pos = 4; ty = Syntax.tyRef (Syntax.named 2) Syntax.imm (Syntax.tyInt Syntax.w16); ref = λ x. x }, (Num.vAt 5 λ x. x, (record { pos = 17; ty = Syntax.tyRef Syntax.erased Syntax.mut (Syntax.tyInt Syntax.w16); ref = λ x. x }, (record { pos = 19; ty = Syntax.tyRef Syntax.erased Syntax.mut (Syntax.tyInt Syntax.w16); ref = λ x. x }, (record { pos = 21; ty = Syntax.tyRef Syntax.erased Syntax.mut (Syntax.tyInt Syntax.w16); ref = λ x. x }, tt)))))))) (m27 (before· .before) (before· .queue .given))
 
-      pub record After-rounds : Type 0 where
+      pub record After-walk-rounds : Type 0 where
         pub before : After-queue
-        pub rounds : After-rounds·own before
+        pub walk-rounds : After-walk-rounds·own before
 
-      abbrev pub After-rounds·gave : (c : After-rounds) → s30 (c .before .before .before .before .before .before .before .before .before .before .before .before .blocks) .gives (m27 (c .before .before) (c .before .queue .given))
-      After-rounds·gave = λ c. Called.given ps·2 r·2 (claims· .5) T32 (record { pos = 1; st = List.[]; d = 0; at = λ x. x }, (record { pos = 2; ty = Syntax.tyRef (Syntax.named 0) Syntax.imm (Memory.pointee (T.the-row .written)); ref = λ x. x }, (record { pos = 3; ty = Syntax.tyRef (Syntax.named 1) Syntax.imm (Syntax.tyInt Syntax.w16); ref = λ x. x }, (record { pos = 4; ty = Syntax.tyRef (Syntax.named 2) Syntax.imm (Syntax.tyInt Syntax.w16); ref = λ x. x }, (Num.vAt 5 λ x. x, (record { pos = 17; ty = Syntax.tyRef Syntax.erased Syntax.mut (Syntax.tyInt Syntax.w16); ref = λ x. x }, (record { pos = 19; ty = Syntax.tyRef Syntax.erased Syntax.mut (Syntax.tyInt Syntax.w16); ref = λ x. x }, (record { pos = 21; ty = Syntax.tyRef Syntax.erased Syntax.mut (Syntax.tyInt Syntax.w16); ref = λ x. x }, tt)))))))) (m27 (c .before .before) (c .before .queue .given)) (c .rounds)
+      abbrev pub After-walk-rounds·gave : (c : After-walk-rounds) → s30 (c .before .before .before .before .before .before .before .before .before .before .before .before .blocks) .gives (m27 (c .before .before) (c .before .queue .given))
+      After-walk-rounds·gave = λ c. Called.given ps·2 r·2 (claims· .5) T32 (record { pos = 1; st = List.[]; d = 0; at = λ x. x }, (record { pos = 2; ty = Syntax.tyRef (Syntax.named 0) Syntax.imm (Memory.pointee (T.the-row .written)); ref = λ x. x }, (record { pos = 3; ty = Syntax.tyRef (Syntax.named 1) Syntax.imm (Syntax.tyInt Syntax.w16); ref = λ x. x }, (record { pos = 4; ty = Syntax.tyRef (Syntax.named 2) Syntax.imm (Syntax.tyInt Syntax.w16); ref = λ x. x }, (Num.vAt 5 λ x. x, (record { pos = 17; ty = Syntax.tyRef Syntax.erased Syntax.mut (Syntax.tyInt Syntax.w16); ref = λ x. x }, (record { pos = 19; ty = Syntax.tyRef Syntax.erased Syntax.mut (Syntax.tyInt Syntax.w16); ref = λ x. x }, (record { pos = 21; ty = Syntax.tyRef Syntax.erased Syntax.mut (Syntax.tyInt Syntax.w16); ref = λ x. x }, tt)))))))) (m27 (c .before .before) (c .before .queue .given)) (c .walk-rounds)
 
       abbrev pub m29 : (before : After-queue) → (given : s30 (before .before .before .before .before .before .before .before .before .before .before .before .blocks) .gives (m27 (before .before) (before .queue .given))) → Typed.Mo T34
       m29 = λ before given. s31 (before .before .before .before .before .before .before .before .before .before .before .before .blocks) (m28 before given)
 
-      abbrev pub m30 : (before : After-rounds) → (given : s33 (before .before .before .before .before .before .before .before .before .before .before .before .before .blocks) .gives (m29 (before .before) (After-rounds·gave before))) → Typed.Mo T36
-      m30 = λ before given. s33 (before .before .before .before .before .before .before .before .before .before .before .before .before .blocks) .next (m29 (before .before) (After-rounds·gave before)) given
+      abbrev pub m30 : (before : After-walk-rounds) → (given : s33 (before .before .before .before .before .before .before .before .before .before .before .before .before .blocks) .gives (m29 (before .before) (After-walk-rounds·gave before))) → Typed.Mo T36
+      m30 = λ before given. s33 (before .before .before .before .before .before .before .before .before .before .before .before .before .blocks) .next (m29 (before .before) (After-walk-rounds·gave before)) given
 
-      module _ (before· : After-rounds) where
+      module _ (before· : After-walk-rounds) where
         pub record After-commands·own : Type 0 where
-          pub given : s33 (before· .before .before .before .before .before .before .before .before .before .before .before .before .blocks) .gives (m29 (before· .before) (After-rounds·gave before·))
+          pub given : s33 (before· .before .before .before .before .before .before .before .before .before .before .before .before .blocks) .gives (m29 (before· .before) (After-walk-rounds·gave before·))
 
       pub record After-commands : Type 0 where
-        pub before : After-rounds
+        pub before : After-walk-rounds
         pub commands : After-commands·own before
 
       abbrev pub m31 : (before : After-commands) → (given : s34 (before .before .before .before .before .before .before .before .before .before .before .before .before .before .blocks) .gives (m30 (before .before) (before .commands .given))) → Typed.Mo T37
@@ -1515,18 +1515,18 @@ module _ (claims· : Claims) where
       abbrev pub Need-returns-2 : Type 0
       Need-returns-2 = (c : After-queue2) → Post· (c .before .before .before .before .before .before .before .before .before .before .before .before .before .before .before .before .before .κs) (dens (c .before .before .before .before .before .before .before .before .before .before .before .before .before .before .before .before .before .κs) (c .before .before .before .before .before .before .before .before .before .before .before .before .before .before .before .before .before .args)) (Function.resV r (c .before .before .before .before .before .before .before .before .before .before .before .before .before .before .before .before .before .κs) (m45 (c .before) (c .queue2 .given) .0)) (Clauses.atExit (Kinds.endedOf 5 ps r) (c .before .before .before .before .before .before .before .before .before .before .before .before .before .before .before .before .before .κs) (dens (c .before .before .before .before .before .before .before .before .before .before .before .before .before .before .before .before .before .κs) (c .before .before .before .before .before .before .before .before .before .before .before .before .before .before .before .before .before .args)) (Enter.lastsP (c .before .before .before .before .before .before .before .before .before .before .before .before .before .before .before .before .before .κs) 1 ps xs (dens (c .before .before .before .before .before .before .before .before .before .before .before .before .before .before .before .before .before .κs) (c .before .before .before .before .before .before .before .before .before .before .before .before .before .before .before .before .before .args)) (m45 (c .before) (c .queue2 .given) .1)))
 
-      module _ (sound-requires : Need-sound-requires) (admit-requires : Need-admit-requires) (enum-known-admission : Need-enum-known-admission) (enum-told : Need-enum-told) (slice-aggregate-rounds : Need-slice-aggregate-rounds) (rounds-requires : Need-rounds-requires) (returns : Need-returns) (same-length : Need-same-length) (same-length-2 : Need-same-length-2) (returns-2 : Need-returns-2) where
+      module _ (sound-requires : Need-sound-requires) (admit-requires : Need-admit-requires) (enum-known-admission : Need-enum-known-admission) (enum-told : Need-enum-told) (slice-aggregate-walk-rounds : Need-slice-aggregate-walk-rounds) (walk-rounds-requires : Need-walk-rounds-requires) (returns : Need-returns) (same-length : Need-same-length) (same-length-2 : Need-same-length-2) (returns-2 : Need-returns-2) where
         lay5 : (c : After-queue2) → at41 (c .before .before .before .before .before .before .before .before .before .before .before .before .before .before .before .before .before .blocks) (W0 (c .before .before .before .before .before .before .before .before .before .before .before .before .before .before .before .before .before .κs) (c .before .before .before .before .before .before .before .before .before .before .before .before .before .before .before .before .before .args) (c .before .before .before .before .before .before .before .before .before .before .before .before .before .before .before .before .before .blocks)) (m37 (c .before) (c .queue2 .given))
         lay5 = λ c. ((tt, (Path'.refl, (Path'.refl, (Path'.refl, (tt, (MutSlice.fix-len (Row.get 6 (T52 .locals) (m45 (c .before) (c .queue2 .given)) .ptr) (Row.get 6 (T52 .locals) (m45 (c .before) (c .queue2 .given)) .name) (Row.get 6 (T52 .locals) (m45 (c .before) (c .queue2 .given)) .now) (dens (c .before .before .before .before .before .before .before .before .before .before .before .before .before .before .before .before .before .κs) (c .before .before .before .before .before .before .before .before .before .before .before .before .before .before .before .before .before .args) .1 .1 .1 .1 .1 .0 .now) (same-length record { before = c .before; queue2 = c .queue2 }), (MutSlice.fix-len (Row.get 7 (T52 .locals) (m45 (c .before) (c .queue2 .given)) .ptr) (Row.get 7 (T52 .locals) (m45 (c .before) (c .queue2 .given)) .name) (Row.get 7 (T52 .locals) (m45 (c .before) (c .queue2 .given)) .now) (dens (c .before .before .before .before .before .before .before .before .before .before .before .before .before .before .before .before .before .κs) (c .before .before .before .before .before .before .before .before .before .before .before .before .before .before .before .before .before .args) .1 .1 .1 .1 .1 .1 .0 .now) (same-length-2 record { before = c .before; queue2 = c .queue2 }), tt))))))), returns-2 record { before = c .before; queue2 = c .queue2 })
 
         lay4 : (c : After-known-told) → at41 (c .before .before .before .before .before .before .before .before .before .blocks) (W0 (c .before .before .before .before .before .before .before .before .before .κs) (c .before .before .before .before .before .before .before .before .before .args) (c .before .before .before .before .before .before .before .before .before .blocks)) (m17 (c .before) (c .known-told .given))
         lay4 = λ c. ((tt, (Path'.refl, (Path'.refl, (Path'.refl, (tt, (Path'.refl, (Path'.refl, tt))))))), returns record { before = c .before; known-told = c .known-told })
 
-        lay3 : (c : After-rounds) → at19 (c .before .before .before .before .before .before .before .before .before .before .before .before .blocks) (W1 (c .before .before .before .before .before .before .before) (After-admit·gave (c .before .before .before .before .before .before))) (m28 (c .before) (After-rounds·gave c))
-        lay3 = λ c. (Path'.refl, λ g. λ g'. (Path'.refl, λ g''. λ g'3. (Path'.refl, λ g'4. lay5 record { before = record { before = record { before = record { before = record { before = record { before = c .before; rounds = c .rounds }; commands = record { given = g } }; slice-known3 = record { given = g' } }; scratch = record { given = g'' } }; slice-known4 = record { given = g'3 } }; queue2 = record { given = g'4 } })))
+        lay3 : (c : After-walk-rounds) → at19 (c .before .before .before .before .before .before .before .before .before .before .before .before .blocks) (W1 (c .before .before .before .before .before .before .before) (After-admit·gave (c .before .before .before .before .before .before))) (m28 (c .before) (After-walk-rounds·gave c))
+        lay3 = λ c. (Path'.refl, λ g. λ g'. (Path'.refl, λ g''. λ g'3. (Path'.refl, λ g'4. lay5 record { before = record { before = record { before = record { before = record { before = record { before = c .before; walk-rounds = c .walk-rounds }; commands = record { given = g } }; slice-known3 = record { given = g' } }; scratch = record { given = g'' } }; slice-known4 = record { given = g'3 } }; queue2 = record { given = g'4 } })))
 
         lay2 : (c : After-admit) → at42 (c .before .before .before .before .before .before .blocks) (W0 (c .before .before .before .before .before .before .κs) (c .before .before .before .before .before .before .args) (c .before .before .before .before .before .before .blocks)) (m8 (c .before) (After-admit·gave c))
-        lay2 = λ c. (λ k. (enum-known-admission record { before = record { before = c .before; admit = c .admit }; match = record { keys1 = k } }, λ g. λ g'. lay4 record { before = record { before = record { before = record { before = c .before; admit = c .admit }; match = record { keys1 = k } }; admission = record { given = g } }; known-told = record { given = g' } }), (λ k. (enum-told record { before = record { before = c .before; admit = c .admit }; match = record { keys2 = k } }, λ g. λ g''. (Path'.refl, λ g'3. (Path'.refl, λ g'4. (Relend.count-is T31 20 21 (λ x. x) (λ u. 1024) (m26 record { before = record { before = record { before = record { before = record { before = c .before; admit = c .admit }; match = record { keys2 = k } }; enum-told = record { given = g } }; rounds-arg = record { given = g'' } }; rounds-arg2 = record { given = g'3 } } g'4) (slice-aggregate-rounds record { before = record { before = record { before = record { before = record { before = record { before = c .before; admit = c .admit }; match = record { keys2 = k } }; enum-told = record { given = g } }; rounds-arg = record { given = g'' } }; rounds-arg2 = record { given = g'3 } }; queue = record { given = g'4 } }), (rounds-requires record { before = record { before = record { before = record { before = record { before = record { before = c .before; admit = c .admit }; match = record { keys2 = k } }; enum-told = record { given = g } }; rounds-arg = record { given = g'' } }; rounds-arg2 = record { given = g'3 } }; queue = record { given = g'4 } }, λ g'5. lay3 record { before = record { before = record { before = record { before = record { before = record { before = record { before = c .before; admit = c .admit }; match = record { keys2 = k } }; enum-told = record { given = g } }; rounds-arg = record { given = g'' } }; rounds-arg2 = record { given = g'3 } }; queue = record { given = g'4 } }; rounds = Called.called ps·2 r·2 (claims· .5) T32 (record { pos = 1; st = List.[]; d = 0; at = λ x. x }, (record { pos = 2; ty = Syntax.tyRef (Syntax.named 0) Syntax.imm (Memory.pointee (T.the-row .written)); ref = λ x. x }, (record { pos = 3; ty = Syntax.tyRef (Syntax.named 1) Syntax.imm (Syntax.tyInt Syntax.w16); ref = λ x. x }, (record { pos = 4; ty = Syntax.tyRef (Syntax.named 2) Syntax.imm (Syntax.tyInt Syntax.w16); ref = λ x. x }, (Num.vAt 5 λ x. x, (record { pos = 17; ty = Syntax.tyRef Syntax.erased Syntax.mut (Syntax.tyInt Syntax.w16); ref = λ x. x }, (record { pos = 19; ty = Syntax.tyRef Syntax.erased Syntax.mut (Syntax.tyInt Syntax.w16); ref = λ x. x }, (record { pos = 21; ty = Syntax.tyRef Syntax.erased Syntax.mut (Syntax.tyInt Syntax.w16); ref = λ x. x }, tt)))))))) (m27 record { before = record { before = record { before = record { before = record { before = c .before; admit = c .admit }; match = record { keys2 = k } }; enum-told = record { given = g } }; rounds-arg = record { given = g'' } }; rounds-arg2 = record { given = g'3 } } g'4) g'5 }))))), Match.each-below 2 (λ j. (Unit {0} × (Run.OneOf (List._∷_ 1 List.[]) j → ⊥)) × (Run.OneOf (List._∷_ 0 List.[]) j → ⊥) → ⊥) (λ n. n .0 .1 Path'.refl, (λ n. n .1 Path'.refl, tt)) (Declared.tagOf Admission.the-type (Row.get 9 (T12 .locals) (m10 (c .before) (After-admit·gave c)))) (Match.tag-small Admission.the-type (Row.get 9 (T12 .locals) (m10 (c .before) (After-admit·gave c))))))
+        lay2 = λ c. (λ k. (enum-known-admission record { before = record { before = c .before; admit = c .admit }; match = record { keys1 = k } }, λ g. λ g'. lay4 record { before = record { before = record { before = record { before = c .before; admit = c .admit }; match = record { keys1 = k } }; admission = record { given = g } }; known-told = record { given = g' } }), (λ k. (enum-told record { before = record { before = c .before; admit = c .admit }; match = record { keys2 = k } }, λ g. λ g''. (Path'.refl, λ g'3. (Path'.refl, λ g'4. (Relend.count-is T31 20 21 (λ x. x) (λ u. 1024) (m26 record { before = record { before = record { before = record { before = record { before = c .before; admit = c .admit }; match = record { keys2 = k } }; enum-told = record { given = g } }; walk-rounds-arg = record { given = g'' } }; walk-rounds-arg2 = record { given = g'3 } } g'4) (slice-aggregate-walk-rounds record { before = record { before = record { before = record { before = record { before = record { before = c .before; admit = c .admit }; match = record { keys2 = k } }; enum-told = record { given = g } }; walk-rounds-arg = record { given = g'' } }; walk-rounds-arg2 = record { given = g'3 } }; queue = record { given = g'4 } }), (walk-rounds-requires record { before = record { before = record { before = record { before = record { before = record { before = c .before; admit = c .admit }; match = record { keys2 = k } }; enum-told = record { given = g } }; walk-rounds-arg = record { given = g'' } }; walk-rounds-arg2 = record { given = g'3 } }; queue = record { given = g'4 } }, λ g'5. lay3 record { before = record { before = record { before = record { before = record { before = record { before = record { before = c .before; admit = c .admit }; match = record { keys2 = k } }; enum-told = record { given = g } }; walk-rounds-arg = record { given = g'' } }; walk-rounds-arg2 = record { given = g'3 } }; queue = record { given = g'4 } }; walk-rounds = Called.called ps·2 r·2 (claims· .5) T32 (record { pos = 1; st = List.[]; d = 0; at = λ x. x }, (record { pos = 2; ty = Syntax.tyRef (Syntax.named 0) Syntax.imm (Memory.pointee (T.the-row .written)); ref = λ x. x }, (record { pos = 3; ty = Syntax.tyRef (Syntax.named 1) Syntax.imm (Syntax.tyInt Syntax.w16); ref = λ x. x }, (record { pos = 4; ty = Syntax.tyRef (Syntax.named 2) Syntax.imm (Syntax.tyInt Syntax.w16); ref = λ x. x }, (Num.vAt 5 λ x. x, (record { pos = 17; ty = Syntax.tyRef Syntax.erased Syntax.mut (Syntax.tyInt Syntax.w16); ref = λ x. x }, (record { pos = 19; ty = Syntax.tyRef Syntax.erased Syntax.mut (Syntax.tyInt Syntax.w16); ref = λ x. x }, (record { pos = 21; ty = Syntax.tyRef Syntax.erased Syntax.mut (Syntax.tyInt Syntax.w16); ref = λ x. x }, tt)))))))) (m27 record { before = record { before = record { before = record { before = record { before = c .before; admit = c .admit }; match = record { keys2 = k } }; enum-told = record { given = g } }; walk-rounds-arg = record { given = g'' } }; walk-rounds-arg2 = record { given = g'3 } } g'4) g'5 }))))), Match.each-below 2 (λ j. (Unit {0} × (Run.OneOf (List._∷_ 1 List.[]) j → ⊥)) × (Run.OneOf (List._∷_ 0 List.[]) j → ⊥) → ⊥) (λ n. n .0 .1 Path'.refl, (λ n. n .1 Path'.refl, tt)) (Declared.tagOf Admission.the-type (Row.get 9 (T12 .locals) (m10 (c .before) (After-admit·gave c)))) (Match.tag-small Admission.the-type (Row.get 9 (T12 .locals) (m10 (c .before) (After-admit·gave c))))))
 
         lay1 : (c : After-sound) → at45 (c .before .before .before .before .before .blocks) (W0 (c .before .before .before .before .before .κs) (c .before .before .before .before .before .args) (c .before .before .before .before .before .blocks)) (m5 (c .before) (After-sound·gave c))
         lay1 = λ c. (admit-requires record { before = c .before; sound = c .sound }, λ g. lay2 record { before = record { before = c .before; sound = c .sound }; admit = Called.called ps·1 r·1 (claims· .3) T8 (Bool.bAt 8 λ x. x, (Num.vFld 1 (List._∷_ (Syntax.field 0) List.[]) 0 λ x. Size.struct .as-values x .0, (Num.vAt 5 λ x. x, (Num.vAt 13 λ x. x, (Num.vAt 14 λ x. x, tt))))) (m7 (c .before) (After-sound·gave c)) g })
@@ -1538,6 +1538,6 @@ module _ (claims· : Claims) where
           pub asked : (a : Kinds.Dens κs ps) → (good : Kinds.GoodsP κs ps a) → (pre : Pre· κs a) → (bs : List.List Nat.ℕ) → Φ bs (Any.wantQ 5 ps r xs m κs qs a (Post· κs a)) (Function.init 5 ps r xs m κs qs a)
           asked = λ a good pre bs. laid record { κs = κs; args = record { size = a .0; rows = a .1 .0; firsts = a .1 .1 .0; outcomes = a .1 .1 .1 .0; start = a .1 .1 .1 .1 .0; commands = a .1 .1 .1 .1 .1 .0; scratch = a .1 .1 .1 .1 .1 .1 .0 }; blocks = bs; good = good; fits = record { start = record { fits = good .1 .1 .1 .1 .0 .1 } }; pre = pre }
 
-        module _ {M : Type 1} (𝓤 : URA.URA M) (H : Wp.Heap 𝓤) (A : Atoms.Atoms 𝓤) (W : Kit.Given 𝓤 H A) (𝓣 : Wp.Tables 𝓤 H) (known0 : Plain.Known 𝓤 H A W 𝓣 3 ps·0 r·0 (claims· .0) (claims· .1) "tables::sound") (known1 : Plain.Known 𝓤 H A W 𝓣 0 ps·1 r·1 (claims· .2) (claims· .3) "search::admission::admit") (known2 : Plain.Known 𝓤 H A W 𝓣 6 ps·2 r·2 (claims· .4) (claims· .5) "search::turns::rounds") where
+        module _ {M : Type 1} (𝓤 : URA.URA M) (H : Wp.Heap 𝓤) (A : Atoms.Atoms 𝓤) (W : Kit.Given 𝓤 H A) (𝓣 : Wp.Tables 𝓤 H) (known0 : Plain.Known 𝓤 H A W 𝓣 3 ps·0 r·0 (claims· .0) (claims· .1) "tables::sound") (known1 : Plain.Known 𝓤 H A W 𝓣 0 ps·1 r·1 (claims· .2) (claims· .3) "search::admission::admit") (known2 : Plain.Known 𝓤 H A W 𝓣 6 ps·2 r·2 (claims· .4) (claims· .5) "search::rounds::walk_rounds") where
           pub spec : Statement.Triple 𝓤 (Wp.WpFn 𝓤 H (𝓣 .C) (𝓣 .Λ) (Function.fnOf 5 ps r xs m hs body)) (Function.plainOf 𝓤 H A 5 ps r Pre· Post·)
           spec = Plain.t-fn-plain 𝓤 H A W 𝓣 5 ps r xs m hs body (λ κs qs bs. Φ bs) (λ κs qs bs bd. typed κs qs 𝓤 H A W 𝓣 (known0, known1, known2) bs bd) Pre· Post· asked

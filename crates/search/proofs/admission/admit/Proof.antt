@@ -1,3 +1,4 @@
+-- Each test is one of the definition's, in its order, so each return is where the definition stops too.
 use Rattle.search.proofs.Admitting.{denies-unsound, denies-stranger, denies-commands, denies-scratch, grants}
 use Rattle.search.proofs.admission.admit.Statement.{statement}
 use Rattle.search.proofs.admission.admit.Tie as tie

@@ -1,3 +1,4 @@
+-- The loop holds that the states below s have their flag after the round, and whether none of them is marked.
 mod Tie
 use mathlib.Core.List.{List, []}
 use Prim.Native.Nat.{ℕ, _-_, _≤_}

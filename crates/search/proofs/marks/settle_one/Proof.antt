@@ -1,3 +1,4 @@
+-- Each branch stores the flag that the definition gives for its case, and where nothing is stored the old flag is that one.
 use borrow.Author.Needs.{needs}
 use Rattle.search.proofs.Settling.{swept-marked, swept-reached, swept-other}
 use Rattle.search.proofs.marks.settle_one.Statement.{statement}

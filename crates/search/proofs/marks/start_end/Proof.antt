@@ -1,3 +1,4 @@
+-- A failing start, one with commands and any other are told apart by two tests, as in the definition.
 use mathlib.Core.Path.{sym, _∙_}
 use borrow.Author.Needs.{needs}
 use Rattle.search.proofs.Settling.{end-failing, end-active, end-rest}

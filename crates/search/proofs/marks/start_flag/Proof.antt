@@ -1,3 +1,4 @@
+-- The flag is 0 where the state counts as failing and 1 elsewhere, by the answer of the test.
 use mathlib.Core.Path.{sym, _∙_}
 use native.Mathlib.Omega.{arith}
 use borrow.Author.Needs.{needs}

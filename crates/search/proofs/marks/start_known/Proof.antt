@@ -1,3 +1,4 @@
+-- The loop holds that the places below s have their flag, whatever the other tables of the plan are, and at s = n those are all.
 mod Tie
 use mathlib.Core.Path.{ap, _∙_}
 use mathlib.Core.List.{List, []}

@@ -1,0 +1,98 @@
+-- The entry chosen says whether a command is taken; if one is, its outcomes are the part of the table that is spread over.
+use native.Mathlib.Omega.{arith}
+use borrow.Author.Needs.{needs}
+use Rattle.choice.proofs.Outcomes.{outcomes-inside}
+use Rattle.choice.proofs.Taken.{span-inside, entry-fits}
+use Rattle.search.proofs.Expanding.{expand-none, expand-place, expand-some}
+use Rattle.search.proofs.walk.expand.Statement.{statement}
+use Rattle.search.proofs.walk.expand.Tie as tie
+
+choose-requires : tie.Need-choose-requires
+choose-requires c κs =
+    let p = c .before .before .before .before .before .before .pre in
+    let v = p .1 .0 in
+    let i = span-inside _ (v .sounds) _ (v .inside) _ (v .is) in
+    (p .0, (i .0, i .1, p .1 .1 .0 .1))
+
+put-requires : tie.Need-put-requires
+put-requires c κs =
+    let v = c .before .before .before .before .before .before .before .before .pre .1 .0 in
+    let e = entry-fits _ (v .sounds) _ (v .inside) _ _ (c .before .choose .ensures (v .rows) _ (v .sounds) (v .inside) (v .is)) in
+    omega arith
+
+same-length : tie.Need-same-length
+same-length c = search needs
+
+same-length-2 : tie.Need-same-length-2
+same-length-2 c = search needs
+
+returns : tie.Need-returns
+returns c =
+    let p = c .before .before .before .before .before .before .before .before .before .before .before .before .pre in
+    λ R sounds is. expand-none _ sounds _ (p .1 .0 .inside) _ is _ _ (c .before .before .before .before .before .choose .ensures R _ sounds (p .1 .0 .inside) is) (c .if1 .taken) _ _ (c .before .before .before .put .ensures) (p .1 .1 .1)
+
+add-g : tie.Need-add-g
+add-g c =
+    let v = c .before .before .before .before .before .before .before .before .before .before .before .before .before .pre .1 .0 in
+    omega (arith, c .before .before .before .before .before .before .before .before .before .before .before .before .before .pre .0 .few-commands, expand-place _ (v .sounds) _ (v .inside) _ (v .is) (c .before .before .before .before .before .before .before .before .before .before .before .before .before .args .scratch .now) _ (c .before .before .before .before .before .before .choose .ensures (v .rows) _ (v .sounds) (v .inside) (v .is)) (c .before .if1 .left))
+
+first-outcome-requires : tie.Need-first-outcome-requires
+first-outcome-requires c κs = search needs
+
+add-first-outcome : tie.Need-add-first-outcome
+add-first-outcome c =
+    let v = c .before .before .before .before .before .before .before .before .before .before .before .before .before .before .pre .1 .0 in
+    omega (arith, c .before .before .before .before .before .before .before .before .before .before .before .before .before .before .pre .0 .few-commands, expand-place _ (v .sounds) _ (v .inside) _ (v .is) (c .before .before .before .before .before .before .before .before .before .before .before .before .before .before .args .scratch .now) _ (c .before .before .before .before .before .before .before .choose .ensures (v .rows) _ (v .sounds) (v .inside) (v .is)) (c .before .before .if1 .left))
+
+first-outcome-requires-2 : tie.Need-first-outcome-requires-2
+first-outcome-requires-2 c κs = search needs
+
+spread-requires : tie.Need-spread-requires
+spread-requires c κs =
+    let p = c .before .before .before .before .before .before .before .before .before .before .before .before .before .before .before .before .before .pre in
+    let v = p .1 .0 in
+    let O = c .before .before .before .before .before .before .before .before .before .before .before .before .before .before .before .before .before .args .outcomes .now in
+    let e = c .before .before .before .before .before .before .before .before .before .before .choose .ensures (v .rows) _ (v .sounds) (v .inside) (v .is) in
+    let from = c .before .before .before .first-outcome .ensures (v .rows) O in
+    let end = c .before .before .first-outcome2 .ensures (v .rows) O in (
+      p .1 .1 .1,
+      (
+        (p .0 .few, p .1 .1 .0 .1, p .1 .1 .0 .2, omega arith, omega arith),
+        outcomes-inside (p .0) (v .rows) _ _ _ _ (expand-place _ (v .sounds) _ (v .inside) _ (v .is) (c .before .before .before .before .before .before .before .before .before .before .before .before .before .before .before .before .before .args .scratch .now) _ e (c .before .before .before .before .before .if1 .left)) from end (omega arith),
+      ),
+    )
+
+same-length-3 : tie.Need-same-length-3
+same-length-3 c = search needs
+
+same-length-4 : tie.Need-same-length-4
+same-length-4 c = search needs
+
+same-length-5 : tie.Need-same-length-5
+same-length-5 c = search needs
+
+returns-2 : tie.Need-returns-2
+returns-2 c =
+    let p = c .before .before .before .before .before .before .before .before .before .before .before .before .before .before .before .before .before .before .before .before .before .before .pre in
+    let O = c .before .before .before .before .before .before .before .before .before .before .before .before .before .before .before .before .before .before .before .before .before .before .args .outcomes .now in
+    λ R sounds is. expand-some _ sounds _ (p .1 .0 .inside) _ is _ _ (c .before .before .before .before .before .before .before .before .before .before .before .before .before .before .before .choose .ensures R _ sounds (p .1 .0 .inside) is) (c .before .before .before .before .before .before .before .before .before .before .if1 .left)
+    _ _ (c .before .before .before .before .before .before .before .before .first-outcome .ensures R O) (c .before .before .before .before .before .before .before .first-outcome2 .ensures R O) _ _ (c .before .before .before .before .before .before .before .before .before .before .before .before .before .put .ensures) (c .before .before .before .before .spread .ensures)
+
+pub expand-spec : {M : Type 1} → statement M
+expand-spec =
+    tie.close
+    (tie.spec
+    choose-requires
+    put-requires
+    same-length
+    same-length-2
+    returns
+    add-g
+    first-outcome-requires
+    add-first-outcome
+    first-outcome-requires-2
+    spread-requires
+    same-length-3
+    same-length-4
+    same-length-5
+    returns-2)

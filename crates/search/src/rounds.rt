@@ -1,0 +1,86 @@
+// The rounds of the search.
+ghost use mathlib.Core.Path.{_≡_};
+ghost use Prim.Native.Nat.{_<_, _≤_};
+ghost use lib.ListN.{length, getD};
+ghost use Rattle.model.specs.Held.{planIn};
+ghost use Rattle.tables.specs.Meaning.{held};
+ghost use Rattle.search.specs.Prepared.{Prepared};
+ghost use Rattle.search.specs.Phases.{endOf, Finished, Answered};
+use crate::Found;
+use crate::marks::settle;
+use crate::marks::start_end;
+use crate::marks::start_known;
+use crate::walk::walk;
+use tables::Row;
+use tables::Size;
+use tables::internal::NONE;
+use tables::internal::at;
+use tables::internal::fill;
+use tables::internal::span_at;
+
+// How a round ends: 0 if it has no marks, 1 if the start is known by then, else 2.
+fn round_end(unmarked: bool, scratch: &[u16], start: usize) -> usize
+    requires { ⌜ start < length (now scratch) ⌝ }
+    ensures { λ r. ⌜ r ≡ endOf unmarked (getD (now (scratch .entry)) start 0) ⌝ }
+{
+    if unmarked {
+        return 0;
+    }
+    if at(scratch, start) == 0 {
+        return 1;
+    }
+    2
+}
+
+// Clears what the answer does not need, after rounds of which the last ended so.
+fn finish(n: usize, end: usize, rounds: usize, commands: &mut [u16], scratch: &mut [u16]) -> Found
+    requires { ⌜ (n ≤ length (now commands)) × (n ≤ length (now scratch)) ⌝ }
+    ensures { λ r. ⌜ Finished n end rounds (now (commands .entry)) (now (scratch .entry)) r (now (commands .exit)) (now (scratch .exit)) ⌝ }
+{
+    fill(scratch, n, 0);
+    if end == 0 {
+        return Found {
+            lost: false,
+            rounds,
+        };
+    }
+    fill(commands, n, NONE);
+    Found { lost: true, rounds }
+}
+
+// Walks rounds from the start until one is the last. Where the start is failing, rest or without commands there are none.
+pub fn walk_rounds(
+    size: Size,
+    rows: &[Row],
+    firsts: &[u16],
+    outcomes: &[u16],
+    start: usize,
+    commands: &mut [u16],
+    scratch: &mut [u16],
+    queue: &mut [u16],
+) -> Found
+    requires { ⌜ Prepared size (now rows) (now firsts) (now outcomes) start (now commands) (now scratch) (now queue) ⌝ }
+    ensures { λ r. ⌜ Answered (planIn (held size (now (rows .entry)) (now (firsts .entry)) (now (outcomes .entry)))) (size .n) start (now (commands .entry)) (now (scratch .entry)) r (now (commands .exit)) (now (scratch .exit)) ⌝ }
+{
+    fill(commands, size.n, NONE);
+    start_known(size, rows, scratch);
+    let span = span_at(size, rows, start);
+    let mut end = start_end(span);
+    let mut count = 0;
+    while end == 2 {
+        walk(
+            size,
+            rows,
+            firsts,
+            outcomes,
+            start,
+            commands,
+            scratch,
+            queue,
+        );
+        let unmarked = settle(size, rows, commands, scratch);
+        end = round_end(unmarked, scratch, start);
+        count += 1;
+    }
+    finish(size.n, end, count, commands, scratch)
+}

@@ -1,0 +1,4 @@
+pub mod FlagValues
+pub mod Spreads
+pub mod Reaching
+pub mod Spreading
