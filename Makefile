@@ -10,7 +10,7 @@
 # make rows      check that every machine-made proof file is what tools/rows makes (some minutes)
 # make trace     check that all that docs/TRACE.md names is there
 
-.PHONY: run plan test quick wrong kit list-test lib c-test compare bench rows trace
+.PHONY: run plan test quick wrong kit list-test lib c-test header-test example-test compare bench rows trace
 .SILENT:
 .NOTPARALLEL:
 .DELETE_ON_ERROR:
@@ -87,22 +87,38 @@ $(LIB): $(SOURCES)
 	touch $@
 
 # With gcc's checks on the C side.
-C_FLAGS = -std=c11 -Wall -Wextra -Wpedantic -Wconversion -Werror -O1 -g -Iinclude
+C_WARN = -Wall -Wextra -Wpedantic -Wconversion -Werror -O1 -g -Iinclude
+C_FLAGS = -std=c11 $(C_WARN)
 C_SANITIZE = -fsanitize=address,undefined -fno-sanitize-recover=all
 C_TESTS = $(addprefix tests/c/, main check lend plans trials read decide search largest limits threads)
 C_STACK = $(addprefix tests/c/, stack check lend plans trials read decide search largest)
+C_HEADER = tests/c/header.c tests/c/check.c
 
-c-test: kit need-gcc need-g++ $(LIB)
-	mkdir -p target/c
+c-test: kit need-gcc $(LIB) header-test example-test
 	tests/c/archive.sh $(LIB)
 	gcc $(C_FLAGS) $(C_SANITIZE) -pthread $(C_TESTS:=.c) $(LIB) -o target/c/tests
 	gcc $(C_FLAGS) -pthread -Wl,-z,now $(C_STACK:=.c) $(LIB) -o target/c/stack
-	gcc $(C_FLAGS) $(C_SANITIZE) examples/c/hold.c $(LIB) -o target/c/hold
-	target/c/hold examples/case-a.plan | cmp - examples/c/hold.expected
-	tests/c/examples.sh target/c/hold target/c
-	target/c/hold /dev/null 2>&1 | grep -qx 'hold: reading: the file is cut short (refusal 1)'
 	target/c/stack
 	target/c/tests
+
+# The header's own functions, in the languages that it is for.
+header-test: kit need-gcc need-g++ $(LIB)
+	mkdir -p target/c
+	for std in c99 c11 c17; do \
+	    gcc -std=$$std $(C_WARN) $(C_SANITIZE) $(C_HEADER) $(LIB) -o target/c/header-$$std || exit 1; \
+	done
+	for std in c++11 c++17; do \
+	    g++ -std=$$std $(C_WARN) -Wold-style-cast $(C_SANITIZE) -x c++ $(C_HEADER) -x none $(LIB) -o target/c/header-$$std || exit 1; \
+	done
+	for std in c99 c11 c17 c++11 c++17; do printf 'the header as %s: ' $$std; target/c/header-$$std || exit 1; done
+	tests/c/refusals.sh target/c/header-c11 target/c
+
+example-test: kit need-gcc $(LIB)
+	mkdir -p target/c
+	for program in hold walk; do \
+	    gcc $(C_FLAGS) $(C_SANITIZE) examples/c/$$program.c examples/c/plan.c $(LIB) -o target/c/$$program || exit 1; \
+	done
+	tests/c/examples.sh target/c/hold target/c/walk target/c
 
 COUNT ?= 200000
 SEED ?= 1
