@@ -2,10 +2,10 @@
 # make test      prove every crate from nothing, try the edits that must be refused, run all tests;
 #                the last line is 'N passed, 0 failed'
 # make quick     what make test begins with: layout, files that scripts make, and docs/TRACE.md
-# make wrong     try every edit that must be refused, those of crates/*/wrong too, for which make test has no time
+# make wrong     try every edit that must be refused, those too for which make test has no time (crates/*/wrong)
 # make lib       the C library, target/staticlib/libgate.a (header: include/gate.h)
 # make c-test    the C library's tests and examples, and the header's in C and C++
-# make compare   hold the C library to a planner of its own, in Rust, byte for byte over COUNT inputs made from SEED
+# make compare   hold the C library to a planner in Rust, byte for byte over COUNT inputs made from SEED
 # make bench     time the two beside each other
 # make rows      check that every machine-made proof file is what tools/rows makes (some minutes)
 # make trace     check that all that docs/TRACE.md names is there
@@ -22,7 +22,8 @@ export PLAN
 
 SOURCES = crates.txt $(shell find crates \( -name must-fail -o -name wrong \) -prune -o -type f -print)
 
-# Runs rt and shows its lines on the crates as they come; all that it said is in the log, and shown if it refuses one.
+# Runs rt and shows its lines on the crates as they come. All else that it says is in a log, which is shown if
+# it refuses one.
 prove = set -o pipefail; mkdir -p target; \
     rt $(1) 2>&1 | tee target/$(2).log | sed -un '/^rt: /p' >&2 || { cat target/$(2).log >&2; exit 1; }
 
@@ -53,8 +54,8 @@ quick: kit trace
 wrong: kit
 	tests/wrong.sh
 
-# The listing program on every example; on zero bytes, refused past the limit (8), at the limit by their first tag (3),
-# and where there are none (1); where it cannot read or write; and `make run`.
+# The listing program on every example; on zero bytes, refused past the limit (8), at the limit by their first
+# tag (3), and where there are none (1); where it cannot read or write; and `make run`.
 list-test: kit need-python3 target/bin/list
 	for p in examples/*.plan; do target/bin/list <$$p | cmp - $${p%.plan}.listing || exit 1; done
 	for c in 65537:8 65536:3 0:1; do \
@@ -64,8 +65,8 @@ list-test: kit need-python3 target/bin/list
 	python3 -B tests/list_errors.py target/bin/list
 	tests/run.sh
 
-# The Rattle kit. Another one than README.md names is no error: its prover judges every file as well, and where it refuses
-# one that tools/rows made, this says why.
+# The Rattle kit. Another one than README.md names is no error: its prover judges every file as well, and where
+# it refuses one that tools/rows made, this says why.
 kit:
 	command -v rt >/dev/null || { echo "rt, the command of the Rattle kit, is not on the PATH" >&2; exit 1; }
 	is=$$(rt version); named=$$(sed -n 's/.*`\(rattle-kit-[^`]*\)`.*/\1/p' README.md); \

@@ -108,7 +108,7 @@ enum {
     GATE_LENGTH = 4,    /* a field's length is not allowed for its tag */
     GATE_BEYOND = 5,    /* n is 0 or above 1,024, a start or outcome is not below n, or a kind is above 2 */
     GATE_UNSORTED = 6,  /* an outcome is not above the one before it */
-    GATE_IDLE = 7,      /* commands at a failing or rest state, or a practice neither GATE_NONE nor one of them */
+    GATE_IDLE = 7,      /* commands at a failing or rest state, or a practice neither none nor one of them */
     GATE_LIMIT = 8,     /* the commands so far are more than 4,096, or the outcomes more than 16,384 */
     GATE_CRAMPED = 9,   /* a slice that the call writes is too short */
     GATE_UNSOUND = 10,  /* size, rows, firsts and outcomes are of no plan file, or one is too short */

@@ -1,6 +1,6 @@
 #!/usr/bin/env bash
-# `make run`: plans whose paths have spaces and quotes, plans that are not there, what it shows of proving and where that fails,
-# and that nothing is installed for it.
+# `make run`: plans whose paths have spaces and quotes, plans that are not there, what it shows of proving and
+# where that fails, and that nothing is installed for it.
 set -euo pipefail
 cd "$(dirname "$0")/.."
 unset MAKEFLAGS MAKELEVEL PLAN # of the make that runs this

@@ -1,6 +1,6 @@
 /*
- * hold PLAN: prints, for each state of a plan file, the command that holds it clear of failure, and whether its
- * start can be held. All memory is set aside beforehand, as in a controller.
+ * hold PLAN: prints, for each state of a plan file, the command that holds it clear of failure, and whether
+ * its start can be held. All memory is set aside beforehand, as in a controller.
  */
 #include "plan.h"
 

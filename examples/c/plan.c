@@ -11,7 +11,7 @@ int refused(const char *program, const char *call, uint32_t number)
     return 1;
 }
 
-/* Reads into `file`; one byte more than a plan can have tells that there are more. Returns whether it could be read. */
+/* Reads into `file`, up to one byte more than a plan can have. Returns whether it could be read. */
 static bool read_file(const char *name, size_t *length)
 {
     FILE *f = fopen(name, "rb");

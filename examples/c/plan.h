@@ -11,7 +11,7 @@ struct plan {
     uint8_t outcomes[GATE_MAX_OUTCOMES_BYTES];
 };
 
-/* Reads the plan file that is the program's one argument. Returns 0; or says what is wrong and returns the exit status. */
+/* Reads the plan file that the one argument names. Returns 0, or the exit status after saying why. */
 int get_plan(struct plan *plan, const char *program, int count, char **words);
 
 /* Says which call was refused and why. Returns the exit status. */

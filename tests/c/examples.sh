@@ -1,6 +1,7 @@
 #!/usr/bin/env bash
-# examples.sh HOLD WALK DIR: what the example programs HOLD and WALK print of each example plan agrees with its listing, and with its bytes
-# in hexadecimal; and what they say where there is no plan. DIR is for what is compared.
+# examples.sh HOLD WALK DIR: what the example programs HOLD and WALK print of each example plan agrees with its
+# listing, and with its bytes in hexadecimal; and what they say where there is no plan. DIR is for what is
+# compared.
 set -euo pipefail
 hold=$1 walk=$2 dir=$3
 

@@ -1,6 +1,6 @@
 /*
- * The header's own functions. This file is compiled as C and as C++. `header names` prints the refusals' numbers
- * and names, for tests/c/refusals.sh.
+ * The header's own functions. This file is compiled as C and as C++. `header names` prints the refusals'
+ * numbers and names, for tests/c/refusals.sh.
  */
 #include "check.h"
 #include "gate.h"
@@ -14,7 +14,7 @@
 
 enum { N = 3, M = 3, T = 4 };
 
-/* State 0 has commands to {1} and to {0, 2}, the second its practice; 1 is failing; 2, the start, goes to itself. */
+/* State 0 has commands to {1} and {0, 2}, the second its practice; 1 is failing; 2, the start, goes to 2. */
 static const uint8_t file[GATE_FILE_BYTES(N, M, T)] = {
     1, 0, 4, 0, 3, 0, 2,
     2, 0, 5, 0, 0, 2, 0, 1, 3, 0, 2, 0, 1, 3, 0, 4, 0, 0, 0, 2,
