@@ -1,101 +1,137 @@
 # make run       print the listing of a plan: PLAN=examples/case-a.plan unless another is named
-# make test      prove every crate from nothing, try the edits that must be refused, run all tests. Its last line is 'N passed, 0 failed'.
+# make test      prove every crate from nothing, try the edits that must be refused, run all tests;
+#                the last line is 'N passed, 0 failed'
 # make quick     what make test begins with: layout, files that scripts make, and docs/TRACE.md
-# make wrong     try every edit that must be refused, those of crates/*/wrong too, for which make test has no time
+# make wrong     try every edit that must be refused, those too for which make test has no time (crates/*/wrong)
 # make lib       the C library, target/staticlib/libgate.a (header: include/gate.h)
-# make c-test    the C library's tests and example
-# make compare   hold the C library to a planner of its own, in Rust, byte for byte over COUNT inputs made from SEED
+# make c-test    the C library's tests and examples, and the header's in C and C++
+# make compare   hold the C library to a planner in Rust, byte for byte over COUNT inputs made from SEED
 # make bench     time the two beside each other
 # make rows      check that every machine-made proof file is what tools/rows makes (some minutes)
 # make trace     check that all that docs/TRACE.md names is there
 
-.PHONY: run test quick wrong tools list-test lib c-test compare bench rows trace
+.PHONY: run plan test quick wrong kit list-test lib c-test header-test example-test compare bench rows trace
 .SILENT:
+.NOTPARALLEL:
+.DELETE_ON_ERROR:
 
-PLAN = examples/case-a.plan
+SHELL = /bin/bash
+
+PLAN ?= examples/case-a.plan
+export PLAN
 
 SOURCES = crates.txt $(shell find crates \( -name must-fail -o -name wrong \) -prune -o -type f -print)
 
-run: tools target/bin/list
-	target/bin/list <$(PLAN)
+# Runs rt and shows its lines on the crates as they come. All else that it says is in a log, which is shown if
+# it refuses one.
+prove = set -o pipefail; mkdir -p target; \
+    rt $(1) 2>&1 | tee target/$(2).log | sed -un '/^rt: /p' >&2 || { cat target/$(2).log >&2; exit 1; }
+
+run: plan kit target/bin/list
+	target/bin/list <"$$PLAN"
+
+# Looked for before anything is proved for it.
+plan:
+	[ -e "$$PLAN" ] || { echo "make run: there is no file '$$PLAN'" >&2; exit 1; }
+	[ -r "$$PLAN" ] && [ ! -d "$$PLAN" ] || { echo "make run: '$$PLAN' cannot be read" >&2; exit 1; }
 
 target/bin/list: $(SOURCES)
-	mkdir -p target
-	echo "proving the listing program, which takes some minutes" >&2
-	rt check list >target/list.log 2>&1 || { cat target/list.log; exit 1; }
+	echo "proving the listing program and the crates that it is built on, which can take some minutes" >&2
+	[ -x $@ ] || rm -f target/stamp/list # else rt takes it as built
+	$(call prove,check list,list)
 	touch $@
 
 # `rt ci`, and then the tests on what it leaves.
-test: quick
+test: kit need-gcc need-g++ need-cargo quick
 	tests/gate.sh
 
 # What needs nothing proved comes first, so that it fails early.
-quick: tools trace
+quick: kit trace
 	rt fmt --check
 	cd tests && python3 -B bench_plans.py --check && python3 -B examples.py --check
 	python3 -B tools/rows --check tables load store
 
-wrong: tools
+wrong: kit
 	tests/wrong.sh
 
-# The listing program on every example; on zero bytes, refused past the limit (8), at the limit by their first tag (3), and where there are none (1);
-# and where it cannot read or write.
-list-test: tools target/bin/list
+# The listing program on every example; on zero bytes, refused past the limit (8), at the limit by their first
+# tag (3), and where there are none (1); where it cannot read or write; and `make run`.
+list-test: kit need-python3 target/bin/list
 	for p in examples/*.plan; do target/bin/list <$$p | cmp - $${p%.plan}.listing || exit 1; done
 	for c in 65537:8 65536:3 0:1; do \
 	    echo "refused $${c#*:}" >target/refused; \
 	    head -c $${c%:*} /dev/zero | target/bin/list | cmp - target/refused || { echo "list-test: $${c%:*} zero bytes" >&2; exit 1; }; \
 	done
 	python3 -B tests/list_errors.py target/bin/list
+	tests/run.sh
 
-# What the tests need: the Rattle kit, and what can be installed. Another kit than README.md names is no error: its prover judges every file as well,
-# and where it refuses one that tools/rows made, this says why.
-tools:
+# The Rattle kit. Another one than README.md names is no error: its prover judges every file as well, and where
+# it refuses one that tools/rows made, this says why.
+kit:
 	command -v rt >/dev/null || { echo "rt, the command of the Rattle kit, is not on the PATH" >&2; exit 1; }
 	is=$$(rt version); named=$$(sed -n 's/.*`\(rattle-kit-[^`]*\)`.*/\1/p' README.md); \
 	    [ "$$is" = "$$named" ] || echo "warning: this kit is '$$is', README.md names '$$named'" >&2
-	command -v python3 >/dev/null || { apt-get update -qq && apt-get install -y -qq python3; } >/dev/null
-	command -v gcc >/dev/null || { apt-get update -qq && apt-get install -y -qq gcc libc6-dev; } >/dev/null
-	command -v cargo >/dev/null || { apt-get update -qq && apt-get install -y -qq cargo; } >/dev/null
+
+# A command that Debian has, installed where it is missing.
+PACKAGES_gcc = gcc libc6-dev
+need-%:
+	command -v $* >/dev/null || { echo "installing $*" >&2; apt-get update -qq && \
+	    apt-get install -y -qq $(or $(PACKAGES_$*),$*); } >/dev/null
 
 LIB = target/staticlib/libgate.a
 
-lib: $(LIB)
+lib: kit $(LIB)
 
-target/staticlib/libgate.a: $(SOURCES)
-	mkdir -p target
-	rt staticlib gate >target/lib.log 2>&1 || { cat target/lib.log; exit 1; }
+$(LIB): $(SOURCES)
+	echo "proving the C library and the crates that it is built on, which can take some minutes" >&2
+	$(call prove,staticlib gate,lib)
 	touch $@
 
 # With gcc's checks on the C side.
-C_FLAGS = -std=c11 -Wall -Wextra -Wpedantic -Wconversion -Werror -O1 -g -Iinclude
+C_WARN = -Wall -Wextra -Wpedantic -Wconversion -Werror -O1 -g -Iinclude
+C_FLAGS = -std=c11 $(C_WARN)
 C_SANITIZE = -fsanitize=address,undefined -fno-sanitize-recover=all
 C_TESTS = $(addprefix tests/c/, main check lend plans trials read decide search largest limits threads)
 C_STACK = $(addprefix tests/c/, stack check lend plans trials read decide search largest)
+C_HEADER = tests/c/header.c tests/c/check.c
 
-c-test: tools $(LIB)
-	mkdir -p target/c
+c-test: kit need-gcc $(LIB) header-test example-test
 	tests/c/archive.sh $(LIB)
 	gcc $(C_FLAGS) $(C_SANITIZE) -pthread $(C_TESTS:=.c) $(LIB) -o target/c/tests
 	gcc $(C_FLAGS) -pthread -Wl,-z,now $(C_STACK:=.c) $(LIB) -o target/c/stack
-	gcc $(C_FLAGS) $(C_SANITIZE) examples/c/hold.c $(LIB) -o target/c/hold
-	target/c/hold examples/case-a.plan | cmp - examples/c/hold.expected
-	tests/c/examples.sh target/c/hold target/c
-	target/c/hold /dev/null 2>&1 | grep -qx 'hold: reading: the file is cut short (refusal 1)'
 	target/c/stack
 	target/c/tests
+
+# The header's own functions, in the languages that it is for.
+header-test: kit need-gcc need-g++ $(LIB)
+	mkdir -p target/c
+	for std in c99 c11 c17; do \
+	    gcc -std=$$std $(C_WARN) $(C_SANITIZE) $(C_HEADER) $(LIB) -o target/c/header-$$std || exit 1; \
+	done
+	for std in c++11 c++17; do \
+	    g++ -std=$$std $(C_WARN) -Wold-style-cast $(C_SANITIZE) -x c++ $(C_HEADER) -x none $(LIB) -o target/c/header-$$std || exit 1; \
+	done
+	for std in c99 c11 c17 c++11 c++17; do printf 'the header as %s: ' $$std; target/c/header-$$std || exit 1; done
+	tests/c/refusals.sh target/c/header-c11 target/c
+
+example-test: kit need-gcc $(LIB)
+	mkdir -p target/c
+	for program in hold walk; do \
+	    gcc $(C_FLAGS) $(C_SANITIZE) examples/c/$$program.c examples/c/plan.c $(LIB) -o target/c/$$program || exit 1; \
+	done
+	tests/c/examples.sh target/c/hold target/c/walk target/c
 
 COUNT ?= 200000
 SEED ?= 1
 
-compare: tools $(LIB)
+compare: kit need-gcc need-cargo $(LIB)
 	cd compare && cargo test --offline --locked --quiet && cargo run --release --offline --locked --quiet -- check $(COUNT) $(SEED)
 
-bench: tools $(LIB)
+bench: kit need-gcc need-cargo $(LIB)
 	cd compare && cargo run --release --offline --locked --quiet -- bench
 
-rows: tools
+rows: kit need-python3
 	python3 -B tools/rows --check
 
-trace: tools
+trace: need-python3
 	python3 -B tools/trace

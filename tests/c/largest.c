@@ -10,8 +10,7 @@ struct pen {
 
 static void put(uint8_t *bytes, size_t i, size_t entry)
 {
-    bytes[2 * i] = (uint8_t)(entry >> 8);
-    bytes[2 * i + 1] = (uint8_t)(entry & 0xFF);
+    gate_set_entry(bytes, i, (uint16_t)entry);
 }
 
 static void byte(struct pen *pen, size_t x)
@@ -32,7 +31,7 @@ static void field(struct pen *pen, size_t tag, size_t length)
 }
 
 /* States 0 and 1 have few states behind them; states 10 to 14 make up for that, so that there are 16,384 outcomes in all. */
-static size_t outcomes_of(size_t s)
+size_t largest_outcomes(size_t s)
 {
     if (s < 2)
         return s + 2;
@@ -40,14 +39,14 @@ static size_t outcomes_of(size_t s)
 }
 
 /* The last state has no commands, and state 0 has its four too. */
-static size_t commands_of(size_t s)
+size_t largest_commands(size_t s)
 {
     return s == LAST ? 0 : s == 0 ? 8 : 4;
 }
 
 static void command(struct pen *pen, size_t s)
 {
-    size_t count = outcomes_of(s);
+    size_t count = largest_outcomes(s);
     field(pen, 3, 2 * count);
     put(pen->plan->firsts, pen->m++, pen->t);
     for (size_t o = s + 2 - count; o < s + 2; o++) {
@@ -58,7 +57,7 @@ static void command(struct pen *pen, size_t s)
 
 static void state(struct pen *pen, size_t s, uint16_t kind)
 {
-    size_t count = commands_of(s);
+    size_t count = largest_commands(s);
     field(pen, 2, 5);
     byte(pen, kind);
     entry(pen, count);

@@ -25,6 +25,10 @@ struct largest {
  */
 void make_largest(struct largest *plan, uint16_t last_kind);
 
+/* How many commands state s has, and how many outcomes each of them; the last outcome is s + 1. */
+size_t largest_commands(size_t s);
+size_t largest_outcomes(size_t s);
+
 struct tables tables_of_largest(const struct largest *plan, uint16_t last_kind);
 
 #endif

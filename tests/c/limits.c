@@ -5,11 +5,26 @@
 
 static struct largest plan;
 
+/* The header's way from states to outcomes, in the tables as they were made. */
+static void test_walk(void)
+{
+    for (size_t s = 0; s < GATE_MAX_STATES; s++) {
+        size_t commands = gate_command_count(plan.size, plan.rows, s), count = largest_outcomes(s);
+        CHECK(commands == largest_commands(s));
+        for (size_t c = 0; c < commands; c++) {
+            CHECK(gate_outcome_count(plan.size, plan.rows, plan.firsts, s, c) == count);
+            for (size_t i = 0; i < count; i++)
+                CHECK(gate_outcome(plan.rows, plan.firsts, plan.outcomes, s, c, i) == s + 2 - count + i);
+        }
+    }
+}
+
 static void test_kind(uint16_t last_kind)
 {
     make_largest(&plan, last_kind);
-    CHECK(GATE_ENTRY(plan.size, 1) == GATE_MAX_COMMANDS);
-    CHECK(GATE_ENTRY(plan.size, 2) == GATE_MAX_OUTCOMES);
+    CHECK(gate_entry(plan.size, 1) == GATE_MAX_COMMANDS);
+    CHECK(gate_entry(plan.size, 2) == GATE_MAX_OUTCOMES);
+    test_walk();
     struct tables tables = tables_of_largest(&plan, last_kind);
     struct trial reading = read_trial(&tables), deciding = decide_trial(&tables), searching = search_trial(&tables);
     VARY(&reading);

@@ -125,10 +125,8 @@ const struct plan plans[PLANS] = {
 
 void put_entries(uint8_t *bytes, const uint16_t *entries, size_t count)
 {
-    for (size_t i = 0; i < count; i++) {
-        bytes[2 * i] = (uint8_t)(entries[i] >> 8);
-        bytes[2 * i + 1] = (uint8_t)(entries[i] & 0xFF);
-    }
+    for (size_t i = 0; i < count; i++)
+        gate_set_entry(bytes, i, entries[i]);
 }
 
 struct image image_of(const struct plan *p)
