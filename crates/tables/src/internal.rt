@@ -20,10 +20,12 @@ use crate::Size;
 // The entry for none, hexadecimal FFFF.
 pub const NONE: usize = 65535;
 
-// Where a plan is lent as bytes: how many there are in an entry, a row and a size record.
+// Where a plan is lent as bytes: how many there are in an entry, a row, of so many entries, and a size record.
 pub const ENTRY_BYTES: usize = 2;
 
-pub const ROW_BYTES: usize = 6;
+pub const ROW_ENTRIES: usize = 3;
+
+pub const ROW_BYTES: usize = ROW_ENTRIES * ENTRY_BYTES;
 
 pub const SIZE_BYTES: usize = 8;
 
