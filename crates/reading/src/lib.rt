@@ -1,9 +1,8 @@
 // Reading a plan file into lent tables.
 ghost use mathlib.Core.Path.{_≡_};
-ghost use mathlib.Core.Bool.{_&&_};
-ghost use lib.Dec.{leb};
+ghost use Rattle.model.specs.Tables.{enough};
 ghost use Rattle.model.specs.Calls.{readCall};
-ghost use Rattle.tables.specs.Meaning.{rowsOf};
+ghost use Rattle.tables.specs.Meaning.{numbers, rowsOf};
 ghost use Rattle.reading.specs.Answers.{afterRead};
 use tables::Refusal;
 use tables::Row;
@@ -25,7 +24,7 @@ pub enum ReadAnswer {
 
 // Whether tables of these lengths have a place for each state, command and outcome.
 fn long_enough(size: Size, rows: usize, firsts: usize, outcomes: usize) -> bool
-    ensures { λ r. ⌜ r ≡ (leb (size .n) rows && leb (size .m) firsts && leb (size .t) outcomes) ⌝ }
+    ensures { λ r. ⌜ r ≡ enough (numbers size) rows firsts outcomes ⌝ }
 {
     if rows < size.n {
         return false;
