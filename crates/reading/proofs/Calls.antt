@@ -165,14 +165,14 @@ module _ (file : List ℕ) (z : ModelSize) (e : answer sizeOf (read file) ≡ gi
       (λ i. record { answers = given (sym (plan .2) i); rows = in-rows i; firsts = in-firsts i; outcomes = in-outs i })
       ∙ written file rows firsts outs (tablesOf (plan .0)) (roomy (length rows) (length firsts) (length outs) a b c)
 
--- ---- the test of the tables' lengths, where the rows were counted
+-- ---- the test of the tables' lengths
 
-module _ (z : Size) (R : List Row) (F O : ℕ) {rows : ℕ} {t : Bool} (k : rows ≡ length R) (e : t ≡ enough (numbers z) rows F O) where
-  pub cramped : (file : List ℕ) → answer sizeOf (read file) ≡ given (numbers z) → not t ≡ true → reading (length R) F O file ≡ refused Cramped
-  cramped file p h = short file (numbers z) p (length R) F O (rw k at (stopped e h))
+module _ (z : Size) (R F O : ℕ) {t : Bool} (e : t ≡ enough (numbers z) R F O) where
+  pub cramped : (file : List ℕ) → answer sizeOf (read file) ≡ given (numbers z) → not t ≡ true → reading R F O file ≡ refused Cramped
+  cramped file p h = short file (numbers z) p R F O (stopped e h)
 
-  pub all-long : not t ≡ false → (z .n ≤ length R) × (z .m ≤ F) × (z .t ≤ O)
+  pub all-long : not t ≡ false → (z .n ≤ R) × (z .m ≤ F) × (z .t ≤ O)
   all-long h =
-      let three = and-both (leb (z .n) rows && leb (z .m) F) _ (passed e h) in
-      let two = and-both (leb (z .n) rows) _ (three .0) in
-      (rw k at (leb-true (z .n) rows (two .0)), leb-true _ _ (two .1), leb-true _ _ (three .1))
+      let three = and-both (leb (z .n) R && leb (z .m) F) _ (passed e h) in
+      let two = and-both (leb (z .n) R) _ (three .0) in
+      (leb-true _ _ (two .0), leb-true _ _ (two .1), leb-true _ _ (three .1))

@@ -7,7 +7,6 @@ ghost use Rattle.reading.specs.Answers.{afterRead};
 use tables::Refusal;
 use tables::Row;
 use tables::Size;
-use tables::internal::row_count;
 
 mod bytes;
 mod fields;
@@ -45,7 +44,7 @@ pub fn read(file: &[u8], rows: &mut [Row], firsts: &mut [u16], outcomes: &mut [u
     let ReadAnswer::Given(size) = s else {
         return s;
     };
-    if !long_enough(size, row_count(rows), firsts.len(), outcomes.len()) {
+    if !long_enough(size, rows.len(), firsts.len(), outcomes.len()) {
         return ReadAnswer::Refused(Refusal::Cramped);
     }
     fill::fill_states(file, size.n, rows, firsts, outcomes);

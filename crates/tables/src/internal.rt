@@ -83,13 +83,6 @@ pub fn fill(table: &mut [u16], n: usize, x: usize)
     }
 }
 
-// How many rows a table has.
-pub fn row_count(rows: &[Row]) -> usize
-    ensures { λ r. ⌜ r ≡ length (now (rows .entry)) ⌝ }
-{
-    rows.len()
-}
-
 // The row of state s.
 pub fn row_at(rows: &[Row], s: usize) -> Row
     requires { ⌜ s < length (now rows) ⌝ }
