@@ -34,10 +34,10 @@ class Function:
 
     @property
     def thin(self):
-        """Whether it touches an element or the length of lent rows: such a function is proved by hand."""
+        """Whether it touches an element of lent rows: such a function is proved by hand."""
         lent = re.findall(rf"(\w+): &(?:'\w+ )?(?:mut )?\[{ROW}\]", self.signature)
         text = "\n".join(self.body)
-        return any(re.search(rf"(?<![&\w]){p}(\[|\.len\(\))", text) and not re.search(rf"&(mut )?{p}\[", text) for p in lent)
+        return any(re.search(rf"(?<![&\w]){p}\[", text) and not re.search(rf"&(mut )?{p}\[", text) for p in lent)
 
     def calls(self, other):
         """Whether it calls a function of its own crate."""

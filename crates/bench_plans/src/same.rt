@@ -2,7 +2,6 @@
 use tables::Row;
 use tables::Size;
 use tables::internal::row_at;
-use tables::internal::row_count;
 
 fn same_size(a: Size, b: Size) -> bool {
     if a.n != b.n {
@@ -28,10 +27,10 @@ fn same_row(a: Row, b: Row) -> bool {
 }
 
 pub fn same_rows(n: usize, a: &[Row], b: &[Row]) -> bool {
-    if row_count(a) < n {
+    if a.len() < n {
         return false;
     }
-    if row_count(b) < n {
+    if b.len() < n {
         return false;
     }
     let mut i = 0;

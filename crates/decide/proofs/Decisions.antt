@@ -23,7 +23,8 @@ use Rattle.tables.specs.Meaning.{refusalOf}
 use Rattle.tables.specs.Spans.{admitted}
 use Rattle.decide.specs.declared.Decision.{Decision}
 use Rattle.decide.specs.declared.DecideAnswer.the-variants.{Given}
-use Rattle.decide.specs.Calls.{refusedWith, decided, Worked}
+use Rattle.decide.specs.Calls.{refusedWith, decided}
+use Rattle.decide.proofs.Finals.{PlanDecided}
 use Rattle.decide.specs.Answers.{noCounts, afterDecide}
 
 -- ---- the lengths of the tables
@@ -74,13 +75,13 @@ module _ (T : Tables) (rs cs ms ss : List ℕ) where
       answered : deciding T (length rs) (length cs) (length ms) (length ss) ≡ given (planIn T)
       answered = answers ∙ rw q
 
-      -- what the work asks for
+      -- what deciding it asks for
       pub admits : (sound T ≡ true) × ((T .size .n ≤ length rs) × ((T .size .n ≤ length cs) × ((T .size .n ≤ length ms) × (T .size .n ≤ length ss))))
       admits =
           let w = deciding-iff T (length rs) (length cs) (length ms) (length ss) (planIn T) .0 answered in
           (w .sounds, (w .long-ranks, (w .long-commands, (w .long-marks, w .long-scratch))))
 
-      pub decides : {v : List (List ℕ)} {r c m s : List ℕ} → Worked T rs cs ms ss v r c m s → (d : Decision) → d ≡ decided v → Clauses d r c m s
+      pub decides : {v : List (List ℕ)} {r c m s : List ℕ} → PlanDecided T rs cs ms ss v r c m s → (d : Decision) → d ≡ decided v → Clauses d r c m s
       unfolding left answer tally
       decides {v} {r} {c} {m} {s} w d p =
           let is : afterDecide d r c m s ≡ decideCall T rs cs ms ss = rw (answered, p, w .tallied, w .ranked, w .chose, w .marked, w .clean) in

@@ -25,7 +25,6 @@ use Rattle.tables.specs.declared.Size.{Size}
 use Rattle.tables.specs.Meaning.{held}
 use Rattle.nets.specs.Found.{Found}
 use Rattle.decide.specs.Verdicts.{numbered, oneIf, markAt, StatesJudged}
-use Rattle.decide.specs.Calls.{Worked}
 use Rattle.nets.proofs.PlanHits.{choice-agree, policy-hits-agree}
 use Rattle.nets.proofs.Depths.{lost-found}
 use Rattle.decide.proofs.Tallies.{tally-same, tally-is}
@@ -33,6 +32,14 @@ use Rattle.decide.proofs.Tallies.{tally-same, tally-is}
 -- a table of n places is one of a place for each state
 table-is : (T : Tables) {f : ℕ → ℕ} {l₀ l : List ℕ} → T .size .n ≤ length l₀ → Filled (T .size .n) f l₀ l → l ≡ overwrite (tabulate f 0 (planIn T .states)) l₀
 table-is T {f} {l₀} h w = filled-is h w ∙ ap (λ (k : ℕ). overwrite (tabulate f 0 k) l₀) (sym (states-held T))
+
+-- the plan is decided: its tally, and the tables that hold its verdicts
+pub record PlanDecided (T : Tables) (ranks commands marks scratch : List ℕ) (t : List (List ℕ)) (ranks′ commands′ marks′ scratch′ : List ℕ) : Type 0 where
+  pub tallied : t ≡ tally (planIn T)
+  pub ranked : ranks′ ≡ overwrite (rankTable (planIn T)) ranks
+  pub chose : commands′ ≡ overwrite (commandTable (planIn T)) commands
+  pub marked : marks′ ≡ overwrite (markTable (planIn T)) marks
+  pub clean : scratch′ ≡ overwrite (cleared (planIn T .states)) scratch
 
 -- the lost states and those from which the practice fails are found
 module _ (T : Tables) (sounds : sound T ≡ true) (L F : ℕ → Bool) (losts : Agree (T .size .n) L (lost (planIn T))) (fails : Agree (T .size .n) F (policyFails (planIn T))) where
@@ -52,13 +59,13 @@ module _ (T : Tables) (sounds : sound T ≡ true) (L F : ℕ → Bool) (losts : 
       ∙ ap (tallyOf (lost P) (hasPolicy P) (policyFails P)) (sym (states-held T)) ∙ tally-is P
 
 module _ (size : Size) (rows : List Row) (firsts outcomes : List ℕ) (sounds : sound (held size rows firsts outcomes) ≡ true) where
-  pub worked : {rs cs ms ss r₁ c₁ m₁ s₁ c₂ m₂ s₂ : List ℕ} {t : List (List ℕ)}
+  pub plan-decided : {rs cs ms ss r₁ c₁ m₁ s₁ c₂ m₂ s₂ : List ℕ} {t : List (List ℕ)}
       → size .n ≤ length rs → size .n ≤ length cs → size .n ≤ length ms → size .n ≤ length ss
       → Found (held size rows firsts outcomes) rs cs ms ss r₁ c₁ m₁ s₁
       → StatesJudged (planIn (held size rows firsts outcomes)) (numbered r₁) (size .n) c₁ m₁ t c₂ m₂ → Filled (size .n) (λ _. 0) s₁ s₂
-      → Worked (held size rows firsts outcomes) rs cs ms ss t r₁ c₂ m₂ s₂
+      → PlanDecided (held size rows firsts outcomes) rs cs ms ss t r₁ c₂ m₂ s₂
   unfolding rankTable commandTable markTable cleared
-  worked {rs} {cs} {ms} {ss} {r₁ = r₁} {m₁ = m₁} lr lc lm ls v j z =
+  plan-decided {rs} {cs} {ms} {ss} {r₁ = r₁} {m₁ = m₁} lr lc lm ls v j z =
       let T = held size rows firsts outcomes in
       let losts = lost-found size rows firsts outcomes sounds (v .ranked) in
       record {

@@ -12,13 +12,15 @@ ghost use Rattle.tables.specs.Spans.{admitted};
 ghost use Rattle.decide.specs.declared.DecideAnswer.the-variants.{Given};
 ghost use Rattle.decide.specs.Calls.{refusedWith, decided};
 ghost use Rattle.decide.specs.Answers.{noCounts, afterDecide};
+use nets::internal::propagate_plan;
 use tables::Refusal;
 use tables::Row;
 use tables::Size;
 use tables::internal::Admission;
+use tables::internal::fill;
+use verdicts::judge_all;
 
 mod verdicts;
-mod working;
 
 // Whether the plan was decided.
 pub enum DecideAnswer {
@@ -98,8 +100,8 @@ fn answer_with(tally: [[u16; 3]; 2]) -> Decision
 // of two rows, handed from state to state by value. It is answered as its two rows beside the enum: an enum may hold an array, but the
 // toolchain's borrow checker covers no function that makes, takes apart or hands on such an enum, so that each caller of `decide` would be
 // proved by hand.
-// Document 01 leaves free what the tables have while the call runs: the first n places of all four are worked in, and no place behind them
-// is written. When it is over nothing is free: the equation says what every place has.
+// Document 01 leaves free what the tables have while the call runs: until the answers are written, the propagations work in the first n
+// places of all four, and no place behind them is written. When it is over nothing is free: the equation says what every place has.
 // Ruled out: a leaking ring called safe, and lack of space told as lost.
 pub fn decide(
     size: Size,
@@ -134,7 +136,7 @@ pub fn decide(
     match admission {
         Admission::Denied(refusal) => refuse(refusal),
         Admission::Granted => {
-            let tally = working::work_out(
+            propagate_plan(
                 size,
                 rows,
                 firsts,
@@ -144,6 +146,8 @@ pub fn decide(
                 marks,
                 scratch,
             );
+            let tally = judge_all(size, rows, firsts, outcomes, ranks, commands, marks);
+            fill(scratch, size.n, 0);
             answer_with(tally)
         }
     }

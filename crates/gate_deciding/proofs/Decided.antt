@@ -16,7 +16,8 @@ use Rattle.model.specs.Boundary.{bytesFor, tallyEntries, code, gateDecide, Afte
 use Rattle.model.proofs.Answers.{given-inj, need-inv, answer-inv}
 use Rattle.model.proofs.HeldPlan.{states-held}
 use Rattle.model.proofs.Gates.{wholeDeciding, gate-decide, code-from, left-from}
-use Rattle.gate_deciding.specs.Delivery.{decideRoom, delivery, deliveryCall, Deliverable}
+use Rattle.model.specs.Rooms.{decideRoom}
+use Rattle.gate_deciding.specs.Delivery.{delivery, deliveryCall, Deliverable}
 
 -- the plan that is decided has as many states as the size record says
 states-decided : (T : Tables) (P : Plan) → wholeDeciding T ≡ given P → P .states ≡ T .size .n

@@ -13,13 +13,14 @@ use Rattle.laws.proofs.TestFacts.{and-iff, leb-iff}
 use Rattle.laws.proofs.Writes.{put-then, put-front}
 use Rattle.model.specs.Refusal.{Cramped, number, need, _>>=_, _>>_}
 use Rattle.model.specs.Calls.{left, AfterDecide}
-use Rattle.model.specs.Boundary.{bytesFor, tallyBytes, code}
+use Rattle.model.specs.Boundary.{entryBytes, bytesFor, tallyBytes, code}
 use Rattle.tables.specs.declared.Refusal.{Refusal}
 use Rattle.tables.specs.Meaning.{refusalOf}
 use Rattle.decide.specs.declared.Decision.{Decision}
 use Rattle.decide.specs.declared.DecideAnswer.the-variants.{Given, Refused}
 use Rattle.decide.specs.Answers.{afterDecide}
-use Rattle.gate_deciding.specs.Delivery.{decideRoom, delivery, afterGateDecide, deliveryCall, Deliverable}
+use Rattle.model.specs.Rooms.{decideRoom}
+use Rattle.gate_deciding.specs.Delivery.{delivery, afterGateDecide, deliveryCall, Deliverable}
 
 -- a row of three counts, by its places
 three : (l : List ℕ) → length l ≡ 3 → l ≡ getD l 0 0 ∷ getD l 1 0 ∷ getD l 2 0 ∷ []
@@ -77,7 +78,7 @@ module _ (d : Decision) (ranked chosen marked clean : List ℕ) (n : ℕ) (R C M
     decision-fits h = h (d .safe ∷ d .lost ∷ []) (rw e)
 
 pub room-facts : (n r c m x t : ℕ) {told : Bool} → told ≡ decideRoom n r c m x t → not told ≡ false
-    → (n * 2 ≤ r) × (n * 2 ≤ c) × (n * 2 ≤ m) × (n * 2 ≤ x) × (tallyBytes ≤ t)
+    → (n * entryBytes ≤ r) × (n * entryBytes ≤ c) × (n * entryBytes ≤ m) × (n * entryBytes ≤ x) × (tallyBytes ≤ t)
 room-facts n r c m x t says left =
     let h = simp (and-iff, leb-iff) at (passed says left) in
     (omega (arith, h .0 .0 .0 .0), omega (arith, h .0 .0 .0 .1), omega (arith, h .0 .0 .1), omega (arith, h .0 .1), h .1)

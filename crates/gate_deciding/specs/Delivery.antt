@@ -1,19 +1,13 @@
 -- What is stored of a decision.
 use mathlib.Core.Path.{_≡_}
-use mathlib.Core.Bool.{Bool, _&&_}
 use mathlib.Core.List.{List}
-use Prim.Native.Nat.{ℕ, _/_, _≤_}
-use lib.Dec.{leb}
+use Prim.Native.Nat.{ℕ, _≤_}
 use lib.ListN.{length, take}
 use Rattle.laws.specs.Lists.{joined}
 use Rattle.model.specs.Refusal.{Cramped, Answer, given, need, _>>=_, _>>_}
 use Rattle.model.specs.Calls.{left, AfterDecide}
-use Rattle.model.specs.Boundary.{bytesFor, tallyBytes, code, AfterGateDecide}
-
--- slices of so many bytes have room for the entries of n states, and for the tally
-abbrev pub decideRoom : ℕ → ℕ → ℕ → ℕ → ℕ → ℕ → Bool
-decideRoom n ranks commands marks scratch tally =
-    leb n (ranks / 2) && leb n (commands / 2) && leb n (marks / 2) && leb n (scratch / 2) && leb tallyBytes tally
+use Rattle.model.specs.Boundary.{bytesFor, code, AfterGateDecide}
+use Rattle.model.specs.Rooms.{decideRoom}
 
 -- the tally, if there is room for everything
 unfoldable pub delivery : Answer (List (List ℕ)) → ℕ → ℕ → ℕ → ℕ → ℕ → ℕ → Answer (List (List ℕ))

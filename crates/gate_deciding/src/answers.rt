@@ -6,12 +6,14 @@ ghost use lib.ListN.{length};
 ghost use Rattle.laws.specs.Lists.{joined, overwrite};
 ghost use Rattle.model.specs.Boundary.{bytesFor, tallyBytes};
 ghost use Rattle.decide.specs.Answers.{afterDecide};
-ghost use Rattle.gate_deciding.specs.Delivery.{decideRoom, afterGateDecide, deliveryCall, Deliverable};
+ghost use Rattle.model.specs.Rooms.{decideRoom};
+ghost use Rattle.gate_deciding.specs.Delivery.{afterGateDecide, deliveryCall, Deliverable};
 use decide::DecideAnswer;
 use decide::Decision;
 use store::internal::store;
 use store::internal::store_entry;
 use tables::Refusal;
+use tables::internal::ENTRY_BYTES;
 use tables::number;
 
 // The bytes of a tally.
@@ -21,16 +23,16 @@ const TALLY_BYTES: usize = 12;
 fn room(n: usize, ranks: usize, commands: usize, marks: usize, scratch: usize, tally: usize) -> bool
     ensures { λ r. ⌜ r ≡ decideRoom n ranks commands marks scratch tally ⌝ }
 {
-    if ranks / 2 < n {
+    if ranks / ENTRY_BYTES < n {
         return false;
     }
-    if commands / 2 < n {
+    if commands / ENTRY_BYTES < n {
         return false;
     }
-    if marks / 2 < n {
+    if marks / ENTRY_BYTES < n {
         return false;
     }
-    if scratch / 2 < n {
+    if scratch / ENTRY_BYTES < n {
         return false;
     }
     TALLY_BYTES <= tally

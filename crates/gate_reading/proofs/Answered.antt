@@ -10,7 +10,7 @@ use Rattle.model.specs.Refusal.{Answer, given, answer, number}
 use Rattle.model.specs.File.{maxStates, maxCommands, maxOutcomes}
 use Rattle.model.specs.Tables.{Size as ModelSize, Row as ModelRow, Tables}
 use Rattle.model.specs.Calls.{AfterRead, left, readCall}
-use Rattle.model.specs.Boundary.{bytesFor, rowEntries, sizeEntries, code, gateRead, gateReadCall, sizeBytes}
+use Rattle.model.specs.Boundary.{rowBytes, entryBytes, bytesFor, rowEntries, sizeEntries, code, gateRead, gateReadCall, sizeBytes}
 use Rattle.model.proofs.Answers.{answer-inv}
 use Rattle.model.proofs.Gating.{Gated, gate-read-size, gate-read-inv}
 use Rattle.tables.specs.declared.Row.{Row}
@@ -79,14 +79,14 @@ module _ (file : List ℕ) (states : List Row) (commands entries size rows first
       unfolding left
       in-entries = (rw (gated .reads) at (ap (λ (x : AfterRead). x .outcomes) reads), gated .small .outcomes ∙ t-is)
 
-      pub rows-ready : (z .n ≤ length states′) × (z .n * 6 ≤ length rows)
+      pub rows-ready : (z .n ≤ length states′) × (z .n * rowBytes ≤ length rows)
       rows-ready =
           let few : z .n ≤ length (rowsOf states) = omega (arith, limits .0, gated .small .few-states, n-is, length-map states rowOf) in
           let l = overwrite-long (tables .0 .rows) (rowsOf states) (in-states .0) (in-states .1) few in
           (omega (arith, length-map states′ rowOf), omega (arith, gated .long-rows, n-is))
 
       pub lists-ready : ((sizeBytes ≤ length size) × (z .n < 65536) × (z .m < 65536) × (z .t < 65536) × (z .start < 65536))
-          × (((z .m ≤ length commands′) × (z .m * 2 ≤ length firsts)) × ((z .t ≤ length entries′) × (z .t * 2 ≤ length outcomes)))
+          × (((z .m ≤ length commands′) × (z .m * entryBytes ≤ length firsts)) × ((z .t ≤ length entries′) × (z .t * entryBytes ≤ length outcomes)))
       lists-ready =
           let s = gated .small in
           let start : tables .0 .size .start ≡ z .start = ap (λ (y : ModelSize). y .start) (tables .2) in

@@ -1,15 +1,10 @@
 -- Slices that a plan is to be read into, by their lengths in bytes.
-use mathlib.Core.Bool.{Bool, _&&_}
 use mathlib.Core.List.{List}
-use Prim.Native.Nat.{ℕ, _/_}
-use lib.Dec.{leb}
+use Prim.Native.Nat.{ℕ}
 use Rattle.model.specs.Refusal.{Answer, Cramped, given, need, _>>=_, _>>_}
-use Rattle.model.specs.Tables.{Size as ModelSize, enough}
-use Rattle.model.specs.Boundary.{entryBytes, rowBytes, sizeBytes, AfterGateRead}
-
--- they have room for a plan of this size, and for its size record
-abbrev pub readRoom : ModelSize → ℕ → ℕ → ℕ → ℕ → Bool
-readRoom z size rows firsts outcomes = enough z (rows / rowBytes) (firsts / entryBytes) (outcomes / entryBytes) && leb sizeBytes size
+use Rattle.model.specs.Tables.{Size as ModelSize}
+use Rattle.model.specs.Boundary.{AfterGateRead}
+use Rattle.model.specs.Rooms.{readRoom}
 
 -- "A slice too short for such an answer is 9": the size record answered, if they have room
 abbrev pub admitted : Answer ModelSize → ℕ → ℕ → ℕ → ℕ → Answer ModelSize

@@ -13,7 +13,7 @@ use Rattle.laws.proofs.TestFacts.{and-iff, leb-iff}
 use Rattle.laws.proofs.Writes.{put-then, put-front}
 use Rattle.model.specs.Refusal.{Refusal as ModelRefusal, Cramped, Answer, given, refused, number, need, _>>=_, _>>_}
 use Rattle.model.specs.Calls.{left}
-use Rattle.model.specs.Boundary.{bytesFor, resultEntries, code, answerBytes, AfterGateSearch}
+use Rattle.model.specs.Boundary.{entryBytes, bytesFor, resultEntries, code, answerBytes, AfterGateSearch}
 use Rattle.model.proofs.Gates.{refused-code, refused-left, given-code, given-left}
 use Rattle.tables.specs.declared.Refusal.{Refusal}
 use Rattle.tables.specs.Meaning.{refusalOf}
@@ -21,7 +21,8 @@ use Rattle.search.specs.declared.Found.{Found}
 use Rattle.search.specs.declared.SearchAnswer.{SearchAnswer}
 use Rattle.search.specs.declared.SearchAnswer.the-variants.{Given, Refused}
 use Rattle.search.specs.Answers.{answerOf}
-use Rattle.gate_searching.specs.Delivery.{afterGateSearch, searchRoom, delivery, Deliverable}
+use Rattle.model.specs.Rooms.{searchRoom}
+use Rattle.gate_searching.specs.Delivery.{afterGateSearch, delivery, Deliverable}
 
 -- what a call that answers x returns and leaves, where f, g and h give what an answer writes
 module _ {A : Type 0} (x : Answer A) (f g h : A → List ℕ) (C X L : List ℕ) where
@@ -70,5 +71,5 @@ module _ (found : SearchAnswer) (n c x a : ℕ) where
     pub found-fits : {takes clean : ℕ} → Deliverable (answerOf found) n takes clean → (n ≤ takes) × (n ≤ clean) × (f .rounds < 65536)
     found-fits h = h (f .lost, f .rounds) (ap answerOf e)
 
-pub room-facts : (n c x a : ℕ) {told : Bool} → told ≡ searchRoom n c x a → not told ≡ false → (n * 2 ≤ c) × (n * 2 ≤ x) × (answerBytes ≤ a)
+pub room-facts : (n c x a : ℕ) {told : Bool} → told ≡ searchRoom n c x a → not told ≡ false → (n * entryBytes ≤ c) × (n * entryBytes ≤ x) × (answerBytes ≤ a)
 room-facts n c x a says left = let h = simp (and-iff, leb-iff) at (passed says left) in (omega (arith, h .0 .0), omega (arith, h .0 .1), h .1)

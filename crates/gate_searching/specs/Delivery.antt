@@ -1,22 +1,18 @@
 -- What is stored of a search.
 use mathlib.Core.Path.{_≡_}
-use mathlib.Core.Bool.{Bool, _&&_}
+use mathlib.Core.Bool.{Bool}
 use mathlib.Core.List.{List}
-use Prim.Native.Nat.{ℕ, _/_, _<_, _≤_}
-use lib.Dec.{leb}
+use Prim.Native.Nat.{ℕ, _<_, _≤_}
 use lib.ListN.{length, take}
 use Rattle.model.specs.Refusal.{Cramped, Answer, given, need, _>>=_, _>>_}
 use Rattle.model.specs.Calls.{left}
-use Rattle.model.specs.Boundary.{bytesFor, resultEntries, code, entryBytes, answerBytes, AfterGateSearch}
+use Rattle.model.specs.Boundary.{bytesFor, resultEntries, code, AfterGateSearch}
+use Rattle.model.specs.Rooms.{searchRoom}
 
 -- what a call returned, and what the slices lent to it hold then
 abbrev pub afterGateSearch : ℕ → List ℕ → List ℕ → List ℕ → AfterGateSearch
 afterGateSearch returned commands scratch answer =
     record { returns = returned; commands = commands; scratch = scratch; answer = answer }
-
--- slices of so many bytes have room for the entries of n states and for the answer
-abbrev pub searchRoom : ℕ → ℕ → ℕ → ℕ → Bool
-searchRoom n commands scratch answer = leb n (commands / entryBytes) && leb n (scratch / entryBytes) && leb answerBytes answer
 
 -- what was found, lost or not and the rounds, if there is room for it
 unfoldable pub delivery : Answer (Bool × ℕ) → ℕ → ℕ → ℕ → ℕ → Answer (Bool × ℕ)

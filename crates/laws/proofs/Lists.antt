@@ -50,6 +50,22 @@ module _ {A : Type 0} where
       ext-getD d (tabulate f 0 (length l)) l e
       (λ i k. tabulate-at f (length l) i d (rw e at k) ∙ h i (rw e at k))
 
+  -- the first of them, and those behind
+  pub take-tabulate : (f : ℕ → A) (a n k : ℕ) → n ≤ k → take n (tabulate f a k) ≡ tabulate f a n
+  unfolding tabulate
+  take-tabulate f a zero k h = refl
+  take-tabulate f a (suc n) zero h = absurd (not-suc-le-zero h)
+  take-tabulate f a (suc n) (suc k) h = ap (λ (r : List A). f a ∷ r) (take-tabulate f (suc a) n k (le-of-suc-le-suc h))
+
+  pub drop-tabulate : (f : ℕ → A) (a n k : ℕ) → drop n (tabulate f a k) ≡ tabulate f (a + n) (k - n)
+  unfolding tabulate
+  drop-tabulate f a zero k = let e : k - 0 ≡ k = omega arith in rw (e, add-zero a)
+  drop-tabulate f a (suc n) zero = let e : 0 - suc n ≡ 0 = omega arith in rw e
+  drop-tabulate f a (suc n) (suc k) =
+      let e : suc k - suc n ≡ k - n = omega arith in
+      let b : a + suc n ≡ suc a + n = omega arith in
+      rw (e, b) (drop-tabulate f (suc a) n k)
+
   pub mem-tabulate : (f : ℕ → A) (a k i : ℕ) → i < k → List·Memᴰ (f (a + i)) (tabulate f a k)
   unfolding tabulate
   mem-tabulate f a zero i h = absurd (not-suc-le-zero h)

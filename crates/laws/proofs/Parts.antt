@@ -122,6 +122,16 @@ module _ {A B C : Type 0} {L : Layout A B C} (lays : Lays L) where
   length-heads m [] = ap length (lays .heads-nil m)
   length-heads m (x ∷ xs) = ap length (lays .heads-cons m x xs) ∙ ap suc (length-heads (m + length (L .part x)) xs)
 
+  -- the entries of elements that come behind others
+  pub heads-append : (m : ℕ) (xs ys : List B) → L .heads m (xs ++ ys) ≡ L .heads m xs ++ L .heads (m + length (L .all xs)) ys
+  heads-append m [] ys = rw (lays .heads-nil m, lays .all-nil, add-zero m)
+  heads-append m (x ∷ xs) ys =
+      let n = m + length (L .part x) in
+      let e : n + length (L .all xs) ≡ m + length (L .all (x ∷ xs)) = rw (lays .all-cons x xs, length-append) (add-assoc m (length (L .part x)) (length (L .all xs))) in
+      lays .heads-cons m x (xs ++ ys)
+      ∙ ap (λ (r : List C). L .head m x ∷ r) (heads-append n xs ys ∙ ap (λ (j : ℕ). L .heads n xs ++ L .heads j ys) e)
+      ∙ ap (λ (r : List C). r ++ L .heads (m + length (L .all (x ∷ xs))) ys) (sym (lays .heads-cons m x xs))
+
   pub getD-heads : (m : ℕ) (xs : List B) (i : ℕ) (d : C) (e : B) → i < length xs → getD (L .heads m xs) i d ≡ L .head (m + edge L xs i) (getD xs i e)
   getD-heads m [] i d e h = absurd (not-suc-le-zero h)
   getD-heads m (x ∷ xs) zero d e h =

@@ -13,7 +13,7 @@ use Rattle.model.specs.Refusal.{Refusal as ModelRefusal, Unsound, given, refuse
 use Rattle.model.specs.Tables.{Size as ModelSize, Tables}
 use Rattle.model.specs.SoundTest.{tablesLong}
 use Rattle.model.specs.Calls.{left}
-use Rattle.model.specs.Boundary.{tablesIn, entriesIn, rowsIn, sizeBytes}
+use Rattle.model.specs.Boundary.{tablesIn, entriesIn, rowsIn, entryBytes, rowBytes, sizeBytes}
 use Rattle.model.proofs.Answers.{given-inj, need-inv, bind-inv, answer-inv, answer-refused}
 use Rattle.model.proofs.Gates.{given-left, refused-left}
 use Rattle.model.proofs.Lent.{length-entries-in, length-rows-in}
@@ -37,9 +37,9 @@ module _ (S R F O : List ℕ) where
     pub few-states : z .n ≤ maxStates
     pub few-commands : z .m ≤ maxCommands
     pub few-outcomes : z .t ≤ maxOutcomes
-    pub rows : z .n * 6 ≤ length R
-    pub firsts : z .m * 2 ≤ length F
-    pub outcomes : z .t * 2 ≤ length O
+    pub rows : z .n * rowBytes ≤ length R
+    pub firsts : z .m * entryBytes ≤ length F
+    pub outcomes : z .t * entryBytes ≤ length O
 
   lent-size : (T : Tables) → tablesIn S R F O ≡ given T → lentWith (T .size) ≡ T
   unfolding tablesIn

@@ -9,7 +9,7 @@ use Rattle.laws.proofs.Tests.{and-false-left, and-false-right}
 use Rattle.model.specs.Refusal.{Unsound, given, refused, answer, need, _>>=_, _>>_}
 use Rattle.model.specs.Tables.{Size as ModelSize, Tables, enough}
 use Rattle.model.specs.SoundTest.{tablesLong}
-use Rattle.model.specs.Boundary.{tablesIn, entriesIn, rowsIn, sizeIn, sizeBytes}
+use Rattle.model.specs.Boundary.{tablesIn, entriesIn, rowsIn, sizeIn, entryBytes, rowBytes, sizeBytes}
 use Rattle.model.proofs.Lent.{length-entries-in, length-rows-in}
 use Rattle.tables.specs.declared.Size.{Size}
 use Rattle.tables.specs.Meaning.{numbers}
@@ -32,11 +32,11 @@ module _ (S R F O : List ℕ) where
   unfolding tablesIn need _>>_
   lent-is h = rw (le-leb sizeBytes (length S) h)
 
-  long-is : tablesLong lent ≡ enough (sizeIn S) (length R / 6) (length F / 2) (length O / 2)
+  long-is : tablesLong lent ≡ enough (sizeIn S) (length R / rowBytes) (length F / entryBytes) (length O / entryBytes)
   unfolding tablesLong
   long-is = rw (length-rows-in R, length-entries-in F, length-entries-in O)
 
-  loading-is : sizeBytes ≤ length S → loading S R F O ≡ (need Unsound (few (sizeIn S) && enough (sizeIn S) (length R / 6) (length F / 2) (length O / 2)) >> given lent)
+  loading-is : sizeBytes ≤ length S → loading S R F O ≡ (need Unsound (few (sizeIn S) && enough (sizeIn S) (length R / rowBytes) (length F / entryBytes) (length O / entryBytes)) >> given lent)
   unfolding loading _>>=_
   loading-is h = rw (lent-is h, long-is)
 
@@ -49,19 +49,19 @@ module _ (S R F O : List ℕ) where
     unfolding need _>>_
     loading-many f =
         let f′ : few (sizeIn S) ≡ false = rw e at f in
-        loading-is h ∙ rw (and-false-left (few (sizeIn S)) (enough (sizeIn S) (length R / 6) (length F / 2) (length O / 2)) f′)
+        loading-is h ∙ rw (and-false-left (few (sizeIn S)) (enough (sizeIn S) (length R / rowBytes) (length F / entryBytes) (length O / entryBytes)) f′)
 
-    pub loading-long : enough (numbers z) (length R / 6) (length F / 2) (length O / 2) ≡ false → loading S R F O ≡ refused Unsound
+    pub loading-long : enough (numbers z) (length R / rowBytes) (length F / entryBytes) (length O / entryBytes) ≡ false → loading S R F O ≡ refused Unsound
     unfolding need _>>_
     loading-long f =
-        let f′ : enough (sizeIn S) (length R / 6) (length F / 2) (length O / 2) ≡ false = rw e at f in
-        loading-is h ∙ rw (and-false-right (few (sizeIn S)) (enough (sizeIn S) (length R / 6) (length F / 2) (length O / 2)) f′)
+        let f′ : enough (sizeIn S) (length R / rowBytes) (length F / entryBytes) (length O / entryBytes) ≡ false = rw e at f in
+        loading-is h ∙ rw (and-false-right (few (sizeIn S)) (enough (sizeIn S) (length R / rowBytes) (length F / entryBytes) (length O / entryBytes)) f′)
 
-    pub loading-whole : few (numbers z) ≡ true → enough (numbers z) (length R / 6) (length F / 2) (length O / 2) ≡ true → loading S R F O ≡ given lent
+    pub loading-whole : few (numbers z) ≡ true → enough (numbers z) (length R / rowBytes) (length F / entryBytes) (length O / entryBytes) ≡ true → loading S R F O ≡ given lent
     unfolding need _>>_
     loading-whole f g =
         let f′ : few (sizeIn S) ≡ true = rw e at f in
-        let g′ : enough (sizeIn S) (length R / 6) (length F / 2) (length O / 2) ≡ true = rw e at g in
+        let g′ : enough (sizeIn S) (length R / rowBytes) (length F / entryBytes) (length O / entryBytes) ≡ true = rw e at g in
         loading-is h ∙ rw (f′, g′)
 
     pub size-answered : loading S R F O ≡ given lent → given (numbers z) ≡ answer sizeOf (loading S R F O)

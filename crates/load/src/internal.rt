@@ -16,6 +16,7 @@ use tables::Row;
 use tables::Size;
 use tables::internal::ENTRY_BYTES;
 use tables::internal::ROW_BYTES;
+use tables::internal::ROW_ENTRIES;
 use tables::internal::SIZE_BYTES;
 use tables::internal::join;
 use tables::internal::put_row;
@@ -47,15 +48,16 @@ pub fn load(bytes: &[u8], table: &mut [u16], n: usize)
     }
 }
 
-// The row of state s, three entries.
+// The row of state s.
 fn row_in(bytes: &[u8], s: usize) -> Row
     requires { ⌜ s * rowBytes + rowBytes ≤ length (now bytes) ⌝ }
     ensures { λ r. ⌜ rowOf r ≡ rowIn (now (bytes .entry)) s ⌝ }
 {
+    let from = s * ROW_ENTRIES;
     Row {
-        kind: entry_at(bytes, s * 3),
-        first: entry_at(bytes, s * 3 + 1),
-        practice: entry_at(bytes, s * 3 + 2),
+        kind: entry_at(bytes, from),
+        first: entry_at(bytes, from + 1),
+        practice: entry_at(bytes, from + 2),
     }
 }
 

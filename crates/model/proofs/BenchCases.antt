@@ -123,7 +123,7 @@ sound-examples : map sound (
     ∷ lent 1 1 1 0 (0 ∷ 0 ∷ 0 ∷ []) [] (0 ∷ [])
     ∷ [])
     ≡ true ∷ true ∷ false ∷ false ∷ false ∷ false ∷ false ∷ true ∷ false ∷ false ∷ []
-unfolding every rowAt firstCommand commandCount sizeSound tablesLong rowSound risesAt listSound entrySound listsSound sound rowsIn startOf
+unfolding every rowAt firstCommand commandCount sizeSound tablesLong rowSound risesAt listSound entrySound listsSound sound rowsIn tabulate startOf
 sound-examples = refl
 
 -- ---- the calls: what is answered, and every lent table afterwards
@@ -153,7 +153,7 @@ decide-cramped : decideCall loop (7 ∷ []) (7 ∷ []) (7 ∷ []) [] ≡ record 
   marks = 7 ∷ [];
   scratch = [];
 }
-unfolding every answer need _>>_ rowAt firstCommand commandCount sizeSound tablesLong rowSound risesAt listSound entrySound listsSound sound rowsIn left deciding startOf
+unfolding every answer need _>>_ rowAt firstCommand commandCount sizeSound tablesLong rowSound risesAt listSound entrySound listsSound sound rowsIn tabulate left deciding startOf
 decide-cramped = refl
 
 search-example : searchCall fork 0 (replicate 4 7) (replicate 4 7)
@@ -164,7 +164,7 @@ search-example = refl
 -- the order of refusals: an unsound plan, a stranger and a short table; then without the first; then the last alone
 search-refusals : searchCall (lent 1 1 2 0 (0 ∷ 0 ∷ 0 ∷ []) (0 ∷ []) (0 ∷ [])) 1 [] [] .answers ∷ searchCall loop 1 [] [] .answers ∷ searchCall loop 0 [] [] .answers ∷ []
     ≡ refused Unsound ∷ refused Stranger ∷ refused Cramped ∷ []
-unfolding every answer need _>>_ rowAt firstCommand commandCount sizeSound tablesLong rowSound risesAt listSound entrySound listsSound sound rowsIn searching startOf
+unfolding every answer need _>>_ rowAt firstCommand commandCount sizeSound tablesLong rowSound risesAt listSound entrySound listsSound sound rowsIn tabulate searching startOf
 search-refusals = refl
 
 -- ---- the C boundary
@@ -175,7 +175,7 @@ unfolding entriesIn entries
 encodings = refl
 
 rows-again : rowEntries (rowsIn (0 ∷ 1 ∷ FFFF ∷ 2 ∷ 3 ∷ 4 ∷ 5 ∷ [])) ≡ 0 ∷ 1 ∷ FFFF ∷ 2 ∷ 3 ∷ 4 ∷ []
-unfolding rowEntries rowsIn
+unfolding rowEntries rowsIn tabulate
 rows-again = refl
 
 -- one rest state read with slices that hold it, with a row one byte short, and with a size record one byte short; a size record lent in one byte short

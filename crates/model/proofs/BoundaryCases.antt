@@ -94,12 +94,12 @@ restIn = tablesIn (0 ∷ 1 ∷ 0 ∷ 0 ∷ 0 ∷ 0 ∷ 0 ∷ 0 ∷ []) (0 ∷ 2 
 
 decide-lengths : code (gateDecide restIn 2 2 2 2 12) ∷ code (gateDecide restIn 1 2 2 2 12) ∷ code (gateDecide restIn 2 1 2 2 12) ∷ code (gateDecide restIn 2 2 1 2 12) ∷ code (gateDecide restIn 2 2 2 1 12) ∷ code (gateDecide restIn 2 2 2 2 11) ∷ []
     ≡ 0 ∷ 9 ∷ 9 ∷ 9 ∷ 9 ∷ 9 ∷ []
-unfolding every _>>=_ need _>>_ rowAt firstCommand commandCount sizeSound tablesLong rowSound risesAt listSound entrySound listsSound sound rowsIn entriesIn entries tablesIn deciding code gateDecide startOf
+unfolding every _>>=_ need _>>_ rowAt firstCommand commandCount sizeSound tablesLong rowSound risesAt listSound entrySound listsSound sound rowsIn tabulate entriesIn entries tablesIn deciding code gateDecide startOf
 decide-lengths = refl
 
 search-lengths : code (gateSearch restIn 0 2 2 4) ∷ code (gateSearch restIn 0 1 2 4) ∷ code (gateSearch restIn 0 2 1 4) ∷ code (gateSearch restIn 0 2 2 3) ∷ []
     ≡ 0 ∷ 9 ∷ 9 ∷ 9 ∷ []
-unfolding every _>>=_ need _>>_ rowAt firstCommand commandCount sizeSound tablesLong rowSound risesAt listSound entrySound listsSound sound rowsIn entriesIn entries tablesIn searching code gateSearch startOf
+unfolding every _>>=_ need _>>_ rowAt firstCommand commandCount sizeSound tablesLong rowSound risesAt listSound entrySound listsSound sound rowsIn tabulate entriesIn entries tablesIn searching code gateSearch startOf
 search-lengths = refl
 
 -- ---- the order of refusals
@@ -107,11 +107,11 @@ search-lengths = refl
 -- a size record one byte short before an answer one byte short, of deciding and of the search with a stranger; a stranger before an answer one byte short
 gate-order : code (gateDecide (tablesIn (lent 7) [] [] []) 2 2 2 2 11) ∷ code (gateSearch (tablesIn (lent 7) [] [] []) 1 2 2 3) ∷ code (gateSearch restIn 1 2 2 3) ∷ []
     ≡ 10 ∷ 10 ∷ 11 ∷ []
-unfolding every _>>=_ need _>>_ rowAt firstCommand commandCount sizeSound tablesLong rowSound risesAt listSound entrySound listsSound sound rowsIn entriesIn entries tablesIn searching code gateDecide gateSearch startOf
+unfolding every _>>=_ need _>>_ rowAt firstCommand commandCount sizeSound tablesLong rowSound risesAt listSound entrySound listsSound sound rowsIn tabulate entriesIn entries tablesIn searching code gateDecide gateSearch startOf
 gate-order = refl
 
 -- with room for all but the tally, deciding writes no table
 gate-refused : gateDecideCall restIn (lent 2) (lent 2) (lent 2) (lent 2) (lent 11)
     ≡ record { returns = 9; ranks = lent 2; commands = lent 2; marks = lent 2; scratch = lent 2; tally = lent 11 }
-unfolding every _>>=_ need _>>_ rowAt firstCommand commandCount sizeSound tablesLong rowSound risesAt listSound entrySound listsSound sound rowsIn entriesIn entries tablesIn left deciding code gateDecide startOf
+unfolding every _>>=_ need _>>_ rowAt firstCommand commandCount sizeSound tablesLong rowSound risesAt listSound entrySound listsSound sound rowsIn tabulate entriesIn entries tablesIn left deciding code gateDecide startOf
 gate-refused = refl

@@ -2,20 +2,22 @@
 use mathlib.Core.Path.{_≡_, refl, sym, ap, _∙_}
 use mathlib.Core.Bool.{true}
 use mathlib.Core.List.{List, [], _∷_, _++_}
-use Prim.Native.Nat.{ℕ, zero, suc, _+_, _*_, _/_, _≤_}
+use Prim.Native.Nat.{ℕ, suc, _+_, _-_, _*_, _/_, _≤_}
 use native.Mathlib.Omega.{arith}
 use lib.Dec.{leb}
-use lib.ListN.{length, drop, length-append}
+use lib.ListN.{length, getD, drop, length-append, length-drop}
+use lib.Seq.{getD-append-add, getD-drop}
 use borrow.Author.Tests.{le-leb, leb-true}
-use Rattle.laws.specs.Lists.{overwrite}
+use Rattle.laws.specs.Lists.{tabulate, overwrite}
 use Rattle.laws.specs.Entry.{twos}
 use Rattle.laws.proofs.Entry.{be16-two, length-twos}
+use Rattle.laws.proofs.Lists.{tabulate-ext, drop-tabulate}
 use Rattle.laws.proofs.Parts.{length-heads}
 use Rattle.model.specs.Refusal.{Cramped, Answer, given, need, _>>=_, _>>_}
 use Rattle.model.specs.File.{Tree, read}
 use Rattle.model.specs.Tables.{Size, Row, Tables, Same, allCommands, tablesOf}
 use Rattle.model.specs.Calls.{left, reading, afterReading}
-use Rattle.model.specs.Boundary.{entriesIn, bytesFor, rowsIn, rowEntries, sizeEntries, sizeBytes, sizeIn, tablesIn, gateRead, gateReadCall}
+use Rattle.model.specs.Boundary.{entryBytes, rowWidth, rowBytes, entriesIn, bytesFor, rowFrom, entriesOf, rowsIn, rowEntries, sizeEntries, sizeBytes, sizeIn, tablesIn, gateRead, gateReadCall}
 use Rattle.model.proofs.Answers.{bind-inv, need-inv}
 use Rattle.model.proofs.Answering.{reading-iff}
 use Rattle.model.proofs.Layouts.{by-state, by-command}
@@ -25,23 +27,43 @@ use Rattle.model.proofs.GateDemands.{written-entries, answered}
 
 -- ---- rows written to entries
 
-rows-front : (ws : List Row) (rest : List ℕ) → rowsIn (rowEntries ws ++ rest) ≡ ws ++ rowsIn rest
-unfolding rowsIn rowEntries
-rows-front [] rest = refl
-rows-front (w ∷ ws) rest = ap (λ (r : List Row). w ∷ r) (rows-front ws rest)
+row-front : (w : Row) (rest : List ℕ) → rowsIn (entriesOf w ++ rest) ≡ w ∷ rowsIn rest
+unfolding rowsIn tabulate
+row-front w rest =
+    let all : List ℕ = entriesOf w ++ rest in
+    let count : length all / rowWidth ≡ suc (length rest / rowWidth) = omega arith in
+    let row : List ℕ → ℕ → Row = λ es s. rowFrom (λ i. getD es (s * rowWidth + i) 0) in
+    ap (tabulate (row all) 0) count
+    ∙ ap (λ (r : List Row). w ∷ r) (tabulate-ext (row all) (row rest) 1 0 (length rest / rowWidth) (λ s l q. rowFrom (λ i. behind s i q)))
+  where
+    behind : (s i : ℕ) → getD (entriesOf w ++ rest) ((1 + s) * rowWidth + i) 0 ≡ getD rest ((0 + s) * rowWidth + i) 0
+    behind s i =
+        let e : (1 + s) * rowWidth + i ≡ length (entriesOf w) + ((0 + s) * rowWidth + i) = omega arith in
+        ap (λ (j : ℕ). getD (entriesOf w ++ rest) j 0) e ∙ getD-append-add (entriesOf w) rest ((0 + s) * rowWidth + i) 0
 
-row-entries : (ws : List Row) → length (rowEntries ws) ≡ length ws * 3
+rows-front : (ws : List Row) (rest : List ℕ) → rowsIn (rowEntries ws ++ rest) ≡ ws ++ rowsIn rest
+unfolding rowEntries
+rows-front [] rest = refl
+rows-front (w ∷ ws) rest = row-front w (rowEntries ws ++ rest) ∙ ap (λ (r : List Row). w ∷ r) (rows-front ws rest)
+
+row-entries : (ws : List Row) → length (rowEntries ws) ≡ length ws * rowWidth
 unfolding rowEntries
 row-entries [] = refl
-row-entries (w ∷ ws) = let h = row-entries ws in omega arith
+row-entries (w ∷ ws) = let h = row-entries ws in omega (arith, length-append (entriesOf w) (rowEntries ws))
 
-rows-drop : (k : ℕ) (l : List ℕ) → rowsIn (drop (k * 3) l) ≡ drop k (rowsIn l)
+rows-drop : (k : ℕ) (l : List ℕ) → rowsIn (drop (k * rowWidth) l) ≡ drop k (rowsIn l)
 unfolding rowsIn
-rows-drop zero l = refl
-rows-drop (suc k) [] = let e : suc k * 3 ≡ suc (suc (suc (k * 3))) = omega arith in rw e
-rows-drop (suc k) (a ∷ []) = let e : suc k * 3 ≡ suc (suc (suc (k * 3))) = omega arith in rw e
-rows-drop (suc k) (a ∷ b ∷ []) = let e : suc k * 3 ≡ suc (suc (suc (k * 3))) = omega arith in rw e
-rows-drop (suc k) (a ∷ b ∷ c ∷ l) = let e : suc k * 3 ≡ suc (suc (suc (k * 3))) = omega arith in rw e (rows-drop k l)
+rows-drop k l =
+    let row : List ℕ → ℕ → Row = λ es s. rowFrom (λ i. getD es (s * rowWidth + i) 0) in
+    let count : length (drop (k * rowWidth) l) / rowWidth ≡ length l / rowWidth - k = omega (arith, length-drop (k * rowWidth) l) in
+    ap (tabulate (row (drop (k * rowWidth) l)) 0) count
+    ∙ tabulate-ext (row (drop (k * rowWidth) l)) (row l) 0 (0 + k) (length l / rowWidth - k) (λ s h q. rowFrom (λ i. behind s i q))
+    ∙ sym (drop-tabulate (row l) 0 k (length l / rowWidth))
+  where
+    behind : (s i : ℕ) → getD (drop (k * rowWidth) l) ((0 + s) * rowWidth + i) 0 ≡ getD l ((0 + k + s) * rowWidth + i) 0
+    behind s i =
+        let e : k * rowWidth + ((0 + s) * rowWidth + i) ≡ (0 + k + s) * rowWidth + i = omega arith in
+        getD-drop (k * rowWidth) l ((0 + s) * rowWidth + i) 0 ∙ ap (λ (j : ℕ). getD l j 0) e
 
 rows-overwritten : (ws : List Row) (table : List ℕ) → rowsIn (overwrite (rowEntries ws) table) ≡ overwrite ws (rowsIn table)
 unfolding overwrite
@@ -49,7 +71,8 @@ rows-overwritten ws table =
     rows-front ws (drop (length (rowEntries ws)) table)
     ∙ ap (λ (r : List Row). ws ++ r) (ap (λ (k : ℕ). rowsIn (drop k table)) (row-entries ws) ∙ rows-drop (length ws) table)
 
-written-rows : (ws : List Row) (s : List ℕ) → length ws * 6 ≤ length s → rowsIn (entriesIn (overwrite (bytesFor (rowEntries ws)) s)) ≡ overwrite ws (rowsIn (entriesIn s))
+written-rows : (ws : List Row) (s : List ℕ) → length ws * rowBytes ≤ length s
+    → rowsIn (entriesIn (overwrite (bytesFor (rowEntries ws)) s)) ≡ overwrite ws (rowsIn (entriesIn s))
 written-rows ws s h = ap rowsIn (written-entries (rowEntries ws) s (omega (arith, h, row-entries ws))) ∙ rows-overwritten ws (entriesIn s)
 
 -- ---- the size record
@@ -76,8 +99,8 @@ module _ (file size rows firsts outcomes : List ℕ) where
   lent T = afterReading (T .size) file (rowsIn (entriesIn rows)) (entriesIn firsts) (entriesIn outcomes)
 
   module _ (T : Tables) (answers : reading (length (rowsIn (entriesIn rows))) (length (entriesIn firsts)) (length (entriesIn outcomes)) file ≡ given T)
-      (long-size : 8 ≤ length size) (long-rows : length (T .rows) * 6 ≤ length rows) (long-firsts : length (T .firsts) * 2 ≤ length firsts)
-      (long-outcomes : length (T .outcomes) * 2 ≤ length outcomes) where
+      (long-size : sizeBytes ≤ length size) (long-rows : length (T .rows) * rowBytes ≤ length rows) (long-firsts : length (T .firsts) * entryBytes ≤ length firsts)
+      (long-outcomes : length (T .outcomes) * entryBytes ≤ length outcomes) where
     tables-back : tablesIn (overwrite (bytesFor (sizeEntries (T .size))) size) (overwrite (bytesFor (rowEntries (T .rows))) rows)
         (overwrite (bytesFor (T .firsts)) firsts) (overwrite (bytesFor (T .outcomes)) outcomes) ≡ given (lent T)
     unfolding tablesIn left need _>>_ after
@@ -102,9 +125,9 @@ module _ (file size rows firsts outcomes : List ℕ) where
   unfolding gateRead tablesOf
   gate-read-again e =
       let (T, t) = answered (gateRead file (length size) (length rows) (length firsts) (length outcomes)) e in
-      let (U, r, f) = bind-inv (reading (length rows / 6) (length firsts / 2) (length outcomes / 2) file) _ t in
+      let (U, r, f) = bind-inv (reading (length rows / rowBytes) (length firsts / entryBytes) (length outcomes / entryBytes) file) _ t in
       let (l, g) = need-inv Cramped (leb sizeBytes (length size)) (given U) f in
-      let a = reading-iff (length rows / 6) (length firsts / 2) (length outcomes / 2) file T .0 (r ∙ g) in
+      let a = reading-iff (length rows / rowBytes) (length firsts / entryBytes) (length outcomes / entryBytes) file T .0 (r ∙ g) in
       let p = a .tree in
       let back : given T ≡ given (tablesOf p) = ap given (sym (a .is)) in
       let size-is : T .size ≡ tablesOf p .size = ap (λ (W : Tables). W .size) (sym (a .is)) in

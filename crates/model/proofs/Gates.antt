@@ -14,7 +14,8 @@ use Rattle.model.specs.File.{maxStates}
 use Rattle.model.specs.Tables.{Size, Tables, Same}
 use Rattle.model.specs.SoundTest.{sound}
 use Rattle.model.specs.Calls.{left, deciding, searching}
-use Rattle.model.specs.Boundary.{tallyBytes, answerBytes, code, gateDecide, gateSearch}
+use Rattle.model.specs.Boundary.{entryBytes, answerBytes, code, gateDecide, gateSearch}
+use Rattle.model.specs.Rooms.{decideRoom, searchRoom}
 use Rattle.model.proofs.SoundFacts.{sound-facts}
 use Rattle.model.proofs.SameSound.{deciding-same, searching-same}
 
@@ -31,15 +32,6 @@ unfolding need _>>_ _>>=_
 two-needs (given a) k true q = refl
 two-needs (given a) k false q = refl
 two-needs (refused r) k p q = refl
-
--- what slices of so many bytes have room for: the verdicts on n states, and the tally
-abbrev pub decideRoom : ℕ → ℕ → ℕ → ℕ → ℕ → ℕ → Bool
-decideRoom n ranks commands marks scratch tally =
-    leb n (ranks / 2) && leb n (commands / 2) && leb n (marks / 2) && leb n (scratch / 2) && leb tallyBytes tally
-
--- the search's command table of n states, and its answer
-abbrev pub searchRoom : ℕ → ℕ → ℕ → ℕ → Bool
-searchRoom n commands scratch answer = leb n (commands / 2) && leb n (scratch / 2) && leb answerBytes answer
 
 module _ (T : Tables) where
   -- the plan decided, with tables of the limit's length
@@ -65,12 +57,12 @@ module _ (T : Tables) where
   pub gate-decide : (ranks commands marks scratch tally : ℕ) → gateDecide (given T) ranks commands marks scratch tally
       ≡ (wholeDeciding >>= λ P. need Cramped (decideRoom (T .size .n) ranks commands marks scratch tally) >> given P)
   unfolding gateDecide _>>=_
-  gate-decide ranks commands marks scratch tally = rw (deciding-after (ranks / 2) (commands / 2) (marks / 2) (scratch / 2)) (two-needs wholeDeciding (λ P. P) _ _)
+  gate-decide ranks commands marks scratch tally = rw (deciding-after (ranks / entryBytes) (commands / entryBytes) (marks / entryBytes) (scratch / entryBytes)) (two-needs wholeDeciding (λ P. P) _ _)
 
   pub gate-search : (start commands scratch answer : ℕ) → gateSearch (given T) start commands scratch answer
       ≡ (wholeSearch start >>= λ R. need Cramped (searchRoom (T .size .n) commands scratch answer) >> given (T .size .n, R))
   unfolding gateSearch _>>=_
-  gate-search start commands scratch answer = rw (searching-after start (commands / 2) (scratch / 2)) (two-needs (wholeSearch start) (λ R. (T .size .n, R)) _ _)
+  gate-search start commands scratch answer = rw (searching-after start (commands / entryBytes) (scratch / entryBytes)) (two-needs (wholeSearch start) (λ R. (T .size .n, R)) _ _)
 
 -- what a call returns and what it leaves, where it is refused and where it answers
 module _ {A : Type 0} {x : Answer A} where
@@ -119,13 +111,13 @@ module _ {T U : Tables} (same : Same T U) where
   pub gate-decide-same : (ranks commands marks scratch tally : ℕ) → gateDecide (given T) ranks commands marks scratch tally ≡ gateDecide (given U) ranks commands marks scratch tally
   unfolding gateDecide _>>=_
   gate-decide-same a b c d e =
-      rw (deciding-same same (a / 2) (b / 2) (c / 2) (d / 2))
+      rw (deciding-same same (a / entryBytes) (b / entryBytes) (c / entryBytes) (d / entryBytes))
 
   pub gate-search-same : (start commands scratch answer : ℕ) → gateSearch (given T) start commands scratch answer ≡ gateSearch (given U) start commands scratch answer
   unfolding gateSearch _>>=_
   gate-search-same start a b c =
-      rw (searching-same same start (a / 2) (b / 2))
-      (ap (λ (z : Size). searching U start (a / 2) (b / 2) >>= λ R. need Cramped (leb answerBytes c) >> given (z .n, R)) (same .size))
+      rw (searching-same same start (a / entryBytes) (b / entryBytes))
+      (ap (λ (z : Size). searching U start (a / entryBytes) (b / entryBytes) >>= λ R. need Cramped (leb answerBytes c) >> given (z .n, R)) (same .size))
 
 -- the plan lent comes first
 module _ (lent : Answer Tables) where

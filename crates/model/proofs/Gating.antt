@@ -10,9 +10,10 @@ use borrow.Author.Tests.{le-leb, leb-true}
 use Rattle.laws.proofs.Parts.{length-heads}
 use Rattle.model.specs.Refusal.{Cramped, Answer, given, refused, answer, need, _>>=_, _>>_}
 use Rattle.model.specs.File.{Tree, maxStates, maxCommands, maxOutcomes, read}
-use Rattle.model.specs.Tables.{Size, Tables, enough, allCommands, tablesOf}
+use Rattle.model.specs.Tables.{Tables, enough, allCommands, tablesOf}
 use Rattle.model.specs.Calls.{reading}
-use Rattle.model.specs.Boundary.{sizeBytes, gateRead}
+use Rattle.model.specs.Boundary.{entryBytes, rowBytes, sizeBytes, gateRead}
+use Rattle.model.specs.Rooms.{readRoom}
 use Rattle.model.proofs.Answers.{bind-inv, need-inv}
 use Rattle.model.proofs.Answering.{reading-iff}
 use Rattle.model.proofs.Layouts.{by-state, by-command}
@@ -51,10 +52,6 @@ both-tests T true true = refl
 both-tests T true false = refl
 both-tests T false b = refl
 
--- what slices of so many bytes have room for: a plan, and its size record
-abbrev pub room : Size → ℕ → ℕ → ℕ → ℕ → Bool
-room z size rows firsts outcomes = enough z (rows / 6) (firsts / 2) (outcomes / 2) && leb sizeBytes size
-
 module _ (file : List ℕ) {R F O : ℕ} (all-rows : maxStates ≤ R) (all-firsts : maxCommands ≤ F) (all-outcomes : maxOutcomes ≤ O) where
   -- tables of the limits' lengths are long enough for every file
   pub reading-all : reading R F O file ≡ answer tablesOf (read file)
@@ -76,31 +73,31 @@ module _ (file : List ℕ) {R F O : ℕ} (all-rows : maxStates ≤ R) (all-first
   module _ (size rows firsts outcomes : ℕ) where
     -- the size record is answered if it was read and the slices have room
     pub gate-read-size : answer (λ T. T .size) (gateRead file size rows firsts outcomes)
-        ≡ (answer (λ T. T .size) (reading R F O file) >>= λ z. need Cramped (room z size rows firsts outcomes) >> given z)
+        ≡ (answer (λ T. T .size) (reading R F O file) >>= λ z. need Cramped (readRoom z size rows firsts outcomes) >> given z)
     unfolding gateRead reading _>>=_ answer
     gate-read-size = rw reading-all (go (read file))
       where
         go : (x : Answer Tree)
-            → answer (λ T. T .size) ((x >>= λ p. need Cramped (enough (tablesOf p .size) (rows / 6) (firsts / 2) (outcomes / 2)) >> given (tablesOf p)) >>= λ T. need Cramped (leb sizeBytes size) >> given T)
-            ≡ (answer (λ T. T .size) (answer tablesOf x) >>= λ z. need Cramped (room z size rows firsts outcomes) >> given z)
+            → answer (λ T. T .size) ((x >>= λ p. need Cramped (enough (tablesOf p .size) (rows / rowBytes) (firsts / entryBytes) (outcomes / entryBytes)) >> given (tablesOf p)) >>= λ T. need Cramped (leb sizeBytes size) >> given T)
+            ≡ (answer (λ T. T .size) (answer tablesOf x) >>= λ z. need Cramped (readRoom z size rows firsts outcomes) >> given z)
         go (refused r) = refl
-        go (given p) = both-tests (tablesOf p) (enough (tablesOf p .size) (rows / 6) (firsts / 2) (outcomes / 2)) (leb sizeBytes size)
+        go (given p) = both-tests (tablesOf p) (enough (tablesOf p .size) (rows / rowBytes) (firsts / entryBytes) (outcomes / entryBytes)) (leb sizeBytes size)
 
     -- what was read, if the slices have room for it
     pub record Gated (T : Tables) : Type 0 where
       pub reads : reading R F O file ≡ given T
       pub small : Small T
       pub long-size : sizeBytes ≤ size
-      pub long-rows : T .size .n * 6 ≤ rows
-      pub long-firsts : T .size .m * 2 ≤ firsts
-      pub long-outcomes : T .size .t * 2 ≤ outcomes
+      pub long-rows : T .size .n * rowBytes ≤ rows
+      pub long-firsts : T .size .m * entryBytes ≤ firsts
+      pub long-outcomes : T .size .t * entryBytes ≤ outcomes
 
     pub gate-read-inv : (T : Tables) → gateRead file size rows firsts outcomes ≡ given T → Gated T
     unfolding gateRead answer
     gate-read-inv T e =
-        let (U, r, f) = bind-inv (reading (rows / 6) (firsts / 2) (outcomes / 2) file) _ e in
+        let (U, r, f) = bind-inv (reading (rows / rowBytes) (firsts / entryBytes) (outcomes / entryBytes) file) _ e in
         let (l, g) = need-inv Cramped (leb sizeBytes size) (given U) f in
-        let a = reading-iff (rows / 6) (firsts / 2) (outcomes / 2) file T .0 (r ∙ g) in
+        let a = reading-iff (rows / rowBytes) (firsts / entryBytes) (outcomes / entryBytes) file T .0 (r ∙ g) in
         record {
           reads = reading-all ∙ rw (a .reads) (ap given (a .is));
           small = rw (a .is) at (small file (a .tree) (a .reads));

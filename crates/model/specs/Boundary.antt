@@ -1,10 +1,10 @@
 -- The calls of the gate controller's C program (document 01, "Refusal table"): numbers and byte slices.
 use mathlib.Core.Bool.{Bool, cond}
-use mathlib.Core.List.{List, [], _∷_}
+use mathlib.Core.List.{List, [], _∷_, _++_}
 use Prim.Native.Nat.{ℕ, _+_, _*_, _/_}
 use lib.Dec.{leb, eqb}
-use lib.ListN.{length}
-use Rattle.laws.specs.Lists.{joined}
+use lib.ListN.{length, getD}
+use Rattle.laws.specs.Lists.{tabulate, joined}
 use Rattle.laws.specs.Entry.{be16, twos}
 use Rattle.model.specs.Plan.{Plan}
 use Rattle.model.specs.Policy.{tally}
@@ -16,12 +16,15 @@ use Rattle.model.specs.Calls.{left, reading, deciding, searching, rankTa
 
 -- ---- how many bytes there are
 
--- in an entry, a row and a size record
+-- in an entry, a row, of so many entries, and a size record
 abbrev pub entryBytes : ℕ
 entryBytes = 2
 
+abbrev pub rowWidth : ℕ
+rowWidth = 3
+
 abbrev pub rowBytes : ℕ
-rowBytes = 6
+rowBytes = rowWidth * entryBytes
 
 abbrev pub sizeBytes : ℕ
 sizeBytes = 8
@@ -43,20 +46,25 @@ entriesIn s = entries (length s / entryBytes) s
 abbrev pub bytesFor : List ℕ → List ℕ
 bytesFor es = twos es []
 
--- "and a row three entries"; entries left over are no row
+-- "and a row three entries": the row whose entries these are, by their places in it
+abbrev pub rowFrom : (ℕ → ℕ) → Row
+rowFrom entry = record { kind = entry 0; first = entry 1; policy = entry 2 }
+
+-- and the entries of a row
+abbrev pub entriesOf : Row → List ℕ
+entriesOf w = w .kind ∷ w .first ∷ w .policy ∷ []
+
+-- the rows that entries hold, one behind another; entries left over are no row
 unfoldable pub rowsIn : List ℕ → List Row
-rowsIn [] = []
-rowsIn (kind ∷ []) = []
-rowsIn (kind ∷ first ∷ []) = []
-rowsIn (kind ∷ first ∷ policy ∷ r) = record { kind = kind; first = first; policy = policy } ∷ rowsIn r
+rowsIn es = tabulate (λ s. rowFrom (λ i. getD es (s * rowWidth + i) 0)) 0 (length es / rowWidth)
 
 -- and the row of state s that bytes hold
 abbrev pub rowIn : List ℕ → ℕ → Row
-rowIn bytes s = record { kind = be16 bytes (s * 3 * 2); first = be16 bytes ((s * 3 + 1) * 2); policy = be16 bytes ((s * 3 + 2) * 2) }
+rowIn bytes s = rowFrom (λ i. be16 bytes ((s * rowWidth + i) * entryBytes))
 
 unfoldable pub rowEntries : List Row → List ℕ
 rowEntries [] = []
-rowEntries (w ∷ ws) = w .kind ∷ w .first ∷ w .policy ∷ rowEntries ws
+rowEntries (w ∷ ws) = entriesOf w ++ rowEntries ws
 
 -- "The size record is four entries (n, m, t, start)"
 unfoldable pub sizeEntries : Size → List ℕ

@@ -19,6 +19,7 @@ pub mod Held
 pub mod Calls
 pub mod Demand3
 pub mod Boundary
+pub mod Rooms
 pub mod Listing
 pub mod Bench
 pub mod Claims

@@ -10,9 +10,13 @@ use Rattle.laws.specs.Starts.{startOf}
 use Rattle.model.specs.File.{StateField}
 use Rattle.model.specs.Tables.{Row, Tables, Lists, listsIn}
 
--- a state's row; past the table, a rest state's
+-- what stands for a row past the table: a rest state's
+abbrev pub noRow : Row
+noRow = record { kind = 2; first = 0; policy = FFFF }
+
+-- a state's row
 unfoldable pub rowAt : Tables → ℕ → Row
-rowAt T s = getD (T .rows) s (record { kind = 2; first = 0; policy = FFFF })
+rowAt T s = getD (T .rows) s noRow
 
 -- where the commands of s begin, and those of the state before it end
 unfoldable pub firstCommand : Tables → ℕ → ℕ

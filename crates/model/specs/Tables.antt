@@ -7,7 +7,7 @@ use mathlib.Core.List.{List, [], _∷_, _++_}
 use lib.Dec.{leb}
 use lib.ListN.{length, take}
 use Rattle.laws.specs.Lists.{joined}
-use Rattle.model.specs.File.{State, Tree}
+use Rattle.model.specs.File.{State, StateField, Tree, fieldOf}
 
 -- "Entries are 16 bits wide.": that those which deciding and the search answer fit is proofs/Widths.antt
 pub record Size : Type 0 where
@@ -48,9 +48,12 @@ unfoldable pub allCommands : List State → List (List ℕ)
 allCommands [] = []
 allCommands (s ∷ ss) = s .commands ++ allCommands ss
 
--- a state's row, where m commands come before
+-- the row of a state that m commands come before, by what its state field says
+abbrev pub rowWith : ℕ → StateField → Row
+rowWith m q = record { kind = q .kind; first = m; policy = q .policy }
+
 abbrev pub rowFor : ℕ → State → Row
-rowFor m s = record { kind = s .kind; first = m; policy = s .policy }
+rowFor m s = rowWith m (fieldOf s)
 
 -- "A state's first command is the number of commands of all lower states, also where it has none": the rows of states that
 -- m commands come before

@@ -13,19 +13,20 @@ use Rattle.laws.specs.Lists.{joined, overwrite}
 use Rattle.laws.specs.Writes.{putAll}
 use Rattle.laws.proofs.Joins.{length-joined}
 use Rattle.laws.proofs.Loops.{stopped, passed}
+use Rattle.laws.proofs.Parts.{length-heads}
 use Rattle.laws.proofs.Tests.{and-both}
 use Rattle.laws.proofs.Writes.{put-front}
 use Rattle.model.specs.Refusal.{Refusal as ModelRefusal, Answer, Cramped, given, refused, answer, need, _>>=_, _>>_}
 use Rattle.model.specs.File.{State, StateField, stateFrom, Tree, maxCommands, maxOutcomes, read}
-use Rattle.model.specs.Tables.{Size as ModelSize, Row as ModelRow, Tables, allCommands, rowsFrom, firstsFrom, tablesOf}
+use Rattle.model.specs.Tables.{Size as ModelSize, Row as ModelRow, Tables, enough, allCommands, rowsFrom, firstsFrom, tablesOf}
 use Rattle.model.specs.Calls.{reading, left, AfterRead, readCall}
 use Rattle.tables.specs.declared.Row.{Row}
 use Rattle.tables.specs.declared.Size.{Size}
 use Rattle.tables.specs.Meaning.{rowOf, rowsOf, numbers}
+use Rattle.model.proofs.Layouts.{by-state, by-command}
 use Rattle.model.proofs.Readings.{CommandsRead, StatesRead, none, more, read-inv, few-commands, few-outcomes, states-count}
-use Rattle.reading.specs.Filling.{commandsIn, commandsLength, statesIn, statesMark, StatesRoom}
+use Rattle.reading.specs.Filling.{commandsIn, commandsLength, statesIn, statesLength, statesMark, StatesRoom}
 use Rattle.reading.proofs.Passing.{answer-inv, refused-inv}
-use Rattle.reading.proofs.FillStates.{length-firsts}
 
 -- ---- a file that is read holds its states
 
@@ -45,7 +46,7 @@ commands-stand (more {k} {s} {os} {cs} c r) =
     )
 
 states-stand : {n k m t : ℕ} {s s₁ : List ℕ} {ss : List State} → StatesRead n k m t s ss s₁
-    → (statesIn k s ≡ ss) × (length ss * 8 + commandsLength (allCommands ss) ≤ length s)
+    → (statesIn k s ≡ ss) × (statesLength ss ≤ length s)
 unfolding statesIn allCommands joined
 states-stand none = (refl, omega arith)
 states-stand (more {k} {q} {s} {s₁} {cs} {ss} g c r) =
@@ -58,11 +59,6 @@ states-stand (more {k} {q} {s} {s₁} {cs} {ss} g c r) =
           ∙ rw (a, at) (ap (λ (z : List State). stateFrom q cs ∷ z) d),
       omega (arith, g .framed .fits, length-drop 8 s, ap length b, length-drop (commandsLength cs) (drop 8 s)),
     )
-
-length-rows : (m : ℕ) (ss : List State) → length (rowsFrom m ss) ≡ length ss
-unfolding rowsFrom
-length-rows m [] = refl
-length-rows m (s ∷ ss) = ap suc (length-rows (m + length (s .commands)) ss)
 
 -- ---- the call
 
@@ -92,14 +88,14 @@ module _ (file : List ℕ) (z : ModelSize) (e : answer sizeOf (read file) ≡ gi
   plan = answer-inv sizeOf (read file) e
 
   module _ (R F O : ℕ) where
-    opened : reading R F O file ≡ (need Cramped (leb (z .n) R && leb (z .m) F && leb (z .t) O) >> given (tablesOf (plan .0)))
+    opened : reading R F O file ≡ (need Cramped (enough z R F O) >> given (tablesOf (plan .0)))
     unfolding reading _>>=_
     opened =
         let (p, i, j) = plan in
-        ap (λ (x : Answer Tree). x >>= λ q. need Cramped (leb (sizeOf q .n) R && leb (sizeOf q .m) F && leb (sizeOf q .t) O) >> given (tablesOf q)) i
-        ∙ ap (λ (y : ModelSize). need Cramped (leb (y .n) R && leb (y .m) F && leb (y .t) O) >> given (tablesOf p)) j
+        ap (λ (x : Answer Tree). x >>= λ q. need Cramped (enough (sizeOf q) R F O) >> given (tablesOf q)) i
+        ∙ ap (λ (y : ModelSize). need Cramped (enough y R F O) >> given (tablesOf p)) j
 
-    short : (leb (z .n) R && leb (z .m) F && leb (z .t) O) ≡ false → reading R F O file ≡ refused Cramped
+    short : enough z R F O ≡ false → reading R F O file ≡ refused Cramped
     unfolding need _>>_
     short h = opened ∙ rw h
 
@@ -159,24 +155,24 @@ module _ (file : List ℕ) (z : ModelSize) (e : answer sizeOf (read file) ≡ gi
       let t = stands in
       let in-rows : rows′ ≡ overwrite (rowsFrom 0 ss) (rowsOf rows)
       = er ∙ ap (λ (y : List State). putAll (rowsOf rows) 0 (rowsFrom 0 y)) (t .is)
-      ∙ put-front (rowsOf rows) (rowsFrom 0 ss) (omega (arith, t .rows, length-rows 0 ss, length-map rows rowOf)) in
+      ∙ put-front (rowsOf rows) (rowsFrom 0 ss) (omega (arith, t .rows, length-heads by-state 0 ss, length-map rows rowOf)) in
       let in-firsts : firsts′ ≡ overwrite (firstsFrom 0 (allCommands ss)) firsts
       = ef ∙ ap (λ (y : List State). putAll firsts 0 (firstsFrom 0 (allCommands y))) (t .is)
-      ∙ put-front firsts (firstsFrom 0 (allCommands ss)) (omega (arith, t .firsts, length-firsts 0 (allCommands ss))) in
+      ∙ put-front firsts (firstsFrom 0 (allCommands ss)) (omega (arith, t .firsts, length-heads by-command 0 (allCommands ss))) in
       let in-outs : outs′ ≡ overwrite (joined (allCommands ss)) outs
       = eo ∙ ap (λ (y : List State). putAll outs 0 (joined (allCommands y))) (t .is)
       ∙ put-front outs (joined (allCommands ss)) (omega (arith, t .outcomes)) in
       (λ i. record { answers = given (sym (plan .2) i); rows = in-rows i; firsts = in-firsts i; outcomes = in-outs i })
       ∙ written file rows firsts outs (tablesOf (plan .0)) (roomy (length rows) (length firsts) (length outs) a b c)
 
--- ---- the test of the tables' lengths, where the rows were counted
+-- ---- the test of the tables' lengths
 
-module _ (z : Size) (R : List Row) (F O : ℕ) {rows : ℕ} {t : Bool} (k : rows ≡ length R) (e : t ≡ (leb (z .n) rows && leb (z .m) F && leb (z .t) O)) where
-  pub cramped : (file : List ℕ) → answer sizeOf (read file) ≡ given (numbers z) → not t ≡ true → reading (length R) F O file ≡ refused Cramped
-  cramped file p h = short file (numbers z) p (length R) F O (rw k at (stopped e h))
+module _ (z : Size) (R F O : ℕ) {t : Bool} (e : t ≡ enough (numbers z) R F O) where
+  pub cramped : (file : List ℕ) → answer sizeOf (read file) ≡ given (numbers z) → not t ≡ true → reading R F O file ≡ refused Cramped
+  cramped file p h = short file (numbers z) p R F O (stopped e h)
 
-  pub all-long : not t ≡ false → (z .n ≤ length R) × (z .m ≤ F) × (z .t ≤ O)
+  pub all-long : not t ≡ false → (z .n ≤ R) × (z .m ≤ F) × (z .t ≤ O)
   all-long h =
-      let three = and-both (leb (z .n) rows && leb (z .m) F) _ (passed e h) in
-      let two = and-both (leb (z .n) rows) _ (three .0) in
-      (rw k at (leb-true (z .n) rows (two .0)), leb-true _ _ (two .1), leb-true _ _ (three .1))
+      let three = and-both (leb (z .n) R && leb (z .m) F) _ (passed e h) in
+      let two = and-both (leb (z .n) R) _ (three .0) in
+      (leb-true _ _ (two .0), leb-true _ _ (two .1), leb-true _ _ (three .1))

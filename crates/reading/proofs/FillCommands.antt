@@ -4,15 +4,16 @@ use mathlib.Core.List.{List, [], _∷_, _++_}
 use Prim.Native.Nat.{ℕ, zero, suc, _+_, _-_, _*_, _/_, _<_, _≤_}
 use native.Mathlib.Omega.{arith}
 use native.Mathlib.Nat.{add-zero}
-use lib.ListN.{length, drop, set, length-drop, length-set, length-append}
+use lib.ListN.{length, drop, set, length-drop, length-append}
 use lib.Seq.{drop-drop}
 use Rattle.laws.specs.Entry.{be16}
 use Rattle.laws.specs.Lists.{joined}
 use Rattle.laws.specs.Writes.{putAll}
-use Rattle.laws.proofs.Writes.{length-put, put-append}
+use Rattle.laws.proofs.Writes.{length-put}
 use Rattle.model.specs.File.{maxOutcomes, entries}
 use Rattle.model.specs.Tables.{firstsFrom}
 use Rattle.model.proofs.Fields.{length-entries}
+use Rattle.tables.proofs.Filling.{Filling as Fills, filling-start, filling-long, filling-next, filling-end}
 use Rattle.reading.specs.declared.bytes.Mark.{Mark}
 use Rattle.reading.specs.Meaning.{bytesFrom}
 use Rattle.reading.specs.Filling.{commandsIn, commandsLength, pastCommands, Room}
@@ -40,50 +41,36 @@ module _ (s : List ℕ) (k t : ℕ) where
 
 -- ---- commands
 
--- the tables that a filling began with, those that it has come to, and the commands left at the mark
+-- the filling of both tables that began at the mark k₀, and the mark that it has come to in the file
 pub record Filling (bytes : ℕ) (firsts₀ outs₀ : List ℕ) (k₀ : Mark) (cs₀ : List (List ℕ)) (firsts outs : List ℕ) (k : Mark) (cs : List (List ℕ)) : Type 0 where
-  pub room : Room bytes (length firsts) (length outs) k cs
-  pub same-firsts : length firsts ≡ length firsts₀
-  pub same-outs : length outs ≡ length outs₀
-  pub put-firsts : putAll firsts (k .m) (firstsFrom (k .t) cs) ≡ putAll firsts₀ (k₀ .m) (firstsFrom (k₀ .t) cs₀)
-  pub put-outs : putAll outs (k .t) (joined cs) ≡ putAll outs₀ (k₀ .t) (joined cs₀)
-  pub to : pastCommands k cs ≡ pastCommands k₀ cs₀
-
-filling-start : {bytes : ℕ} {firsts outs : List ℕ} {k : Mark} {cs : List (List ℕ)} → Room bytes (length firsts) (length outs) k cs
-    → Filling bytes firsts outs k cs firsts outs k cs
-filling-start r = record { room = r; same-firsts = refl; same-outs = refl; put-firsts = refl; put-outs = refl; to = refl }
+  pub room : Room bytes (length firsts₀) (length outs₀) k₀ cs₀
+  pub lists : Fills (putAll firsts₀ (k₀ .m) (firstsFrom (k₀ .t) cs₀)) (putAll outs₀ (k₀ .t) (joined cs₀)) (k₀ .m + length cs₀) (k₀ .t + length (joined cs₀))
+      firsts outs (k .m) (k .t) cs
+  pub in-file : k .at + commandsLength cs ≡ k₀ .at + commandsLength cs₀
 
 module _ {bytes : ℕ} {firsts₀ outs₀ : List ℕ} {k₀ : Mark} {cs₀ : List (List ℕ)} {firsts outs : List ℕ} {k : Mark} where
-  filling-next : {os : List ℕ} {cs : List (List ℕ)} (c : ℕ) → Filling bytes firsts₀ outs₀ k₀ cs₀ firsts outs k (os ∷ cs) → length os ≡ c
+  pub filling-same : {cs : List (List ℕ)} → Filling bytes firsts₀ outs₀ k₀ cs₀ firsts outs k cs → (length firsts ≡ length firsts₀) × (length outs ≡ length outs₀)
+  filling-same f =
+      let (a, b) = filling-long (f .lists) in
+      (a ∙ length-put firsts₀ (k₀ .m) (firstsFrom (k₀ .t) cs₀), b ∙ length-put outs₀ (k₀ .t) (joined cs₀))
+
+  filling-one : {os : List ℕ} {cs : List (List ℕ)} (c : ℕ) → Filling bytes firsts₀ outs₀ k₀ cs₀ firsts outs k (os ∷ cs) → length os ≡ c
       → {outs′ : List ℕ} → outs′ ≡ putAll outs (k .t) os
       → Filling bytes firsts₀ outs₀ k₀ cs₀ (set firsts (k .m) (k .t)) outs′ (record { at = k .at + (3 + c * 2); m = k .m + 1; t = k .t + c }) cs
-  unfolding putAll firstsFrom joined
-  filling-next {os} {cs} c f e {outs′} o =
-      let r = f .room in
-      let l = length-append os (joined cs) in
-      let same : length outs′ ≡ length outs = ap length o ∙ length-put outs (k .t) os in
-      let a : k .at + (3 + c * 2) + commandsLength cs ≡ k .at + (suc (length cs) * 3 + length (os ++ joined cs) * 2) = omega arith in
-      let b : k .m + 1 + length cs ≡ k .m + suc (length cs) = omega arith in
-      let d : k .t + c + length (joined cs) ≡ k .t + length (os ++ joined cs) = omega arith in
-      let n = length-set firsts (k .m) (k .t) in
-      record {
-        room = record { in-file = omega arith; in-firsts = omega arith; in-outcomes = omega arith; few = omega arith };
-        same-firsts = n ∙ f .same-firsts;
-        same-outs = same ∙ f .same-outs;
-        put-firsts = rw (← e) (f .put-firsts);
-        put-outs = rw (o, ← e, ← (put-append outs (k .t) os (joined cs))) (f .put-outs);
-        to = rw (a, b, d) (f .to);
-      }
+  unfolding joined
+  filling-one {os} {cs} c f e o = record {
+    room = f .room;
+    lists = rw e at (filling-next os cs (f .lists) o);
+    in-file = omega (arith, e, f .in-file, length-append os (joined cs));
+  }
 
-  pub filling-end : Filling bytes firsts₀ outs₀ k₀ cs₀ firsts outs k []
+  pub filling-over : Filling bytes firsts₀ outs₀ k₀ cs₀ firsts outs k []
       → (firsts ≡ putAll firsts₀ (k₀ .m) (firstsFrom (k₀ .t) cs₀)) × ((outs ≡ putAll outs₀ (k₀ .t) (joined cs₀)) × (k ≡ pastCommands k₀ cs₀))
-  unfolding putAll firstsFrom joined
-  filling-end f =
-      let a : k .at + 0 ≡ k .at = add-zero (k .at) in
-      let b : k .m + 0 ≡ k .m = add-zero (k .m) in
-      let d : k .t + 0 ≡ k .t = add-zero (k .t) in
-      let same : pastCommands k [] ≡ k = rw (a, b, d) in
-      (f .put-firsts, (f .put-outs, sym same ∙ f .to))
+  unfolding joined
+  filling-over f =
+      let (p, o, m, t) = filling-end (f .lists) in
+      let at : k .at ≡ k₀ .at + commandsLength cs₀ = sym (add-zero (k .at)) ∙ f .in-file in
+      (p, (o, λ i. record { at = at i; m = m i; t = t i }))
 
 commands-in : (s : List ℕ) (end m : ℕ) → m < end
     → commandsIn (end - m) s ≡ entries (be16 s 1 / 2) (drop 3 s) ∷ commandsIn (end - (m + 1)) (drop (3 + be16 s 1 / 2 * 2) s)
@@ -119,19 +106,21 @@ module _ {firsts₀ outs₀ : List ℕ} {k₀ : Mark} {cs₀ : List (List ℕ)} 
     unfolding joined
     filling-turn =
         let r = opened .room in
+        let left = opened .lists in
+        let same = filling-same opened in
         let c = be16 (bytesFrom file k) 1 / 2 in
         let os : List ℕ = entries c (drop 3 (bytesFrom file k)) in
         let cs : List (List ℕ) = commandsIn (end - (k .m + 1)) (drop (3 + c * 2) (bytesFrom file k)) in
         let l : length (os ++ joined cs) ≡ c + length (joined cs)
         = length-append os (joined cs) ∙ ap (λ (z : ℕ). z + length (joined cs)) (length-entries c (drop 3 (bytesFrom file k))) in
-        let inside : k .at + (3 + c * 2) ≤ length file = omega (arith, r .in-file) in
+        let inside : k .at + (3 + c * 2) ≤ length file = omega (arith, r .in-file, opened .in-file) in
         record {
           some = omega (arith, length-drop (k .at) file);
-          low = omega (arith, r .in-firsts);
-          few = omega (arith, r .few);
+          low = omega (arith, r .in-firsts, left .in-firsts, same .0);
+          few = omega (arith, r .few, left .in-outs);
           inside = inside;
           within = omega (arith, length-drop (k .at + 3) file);
-          places = omega (arith, r .in-outcomes);
+          places = omega (arith, r .in-outcomes, left .in-outs, same .1);
         }
 
     pub filling-more : {c : ℕ} {firsts′ outs′ : List ℕ} → c ≡ be16 (bytesFrom file k) 1 / 2 → firsts′ ≡ set firsts (k .m) (k .t) → outs′ ≡ putAll outs (k .t) (entries c (drop (k .at + 3) file))
@@ -140,11 +129,13 @@ module _ {firsts₀ outs₀ : List ℕ} {k₀ : Mark} {cs₀ : List (List ℕ)} 
     filling-more {c} e p o =
         let a : drop (3 + c * 2) (bytesFrom file k) ≡ drop (k .at + (3 + c * 2)) file = drop-drop (3 + c * 2) (k .at) file in
         let b : drop 3 (bytesFrom file k) ≡ drop (k .at + 3) file = drop-drop 3 (k .at) file in
-        rw p (filling-next c (rw (← e, a, b) at opened) (length-entries c (drop (k .at + 3) file)) o)
+        rw p (filling-one c (rw (← e, a, b) at opened) (length-entries c (drop (k .at + 3) file)) o)
 
 pub filling-all : (count m : ℕ) (s : List ℕ) → commandsIn (m + count - m) s ≡ commandsIn count s
 filling-all count m s = let e : m + count - m ≡ count = omega arith in rw e
 
 pub filling-begin : {firsts outs : List ℕ} (file : List ℕ) (k : Mark) (count : ℕ) → Room (length file) (length firsts) (length outs) k (commandsIn count (bytesFrom file k))
     → let cs : List (List ℕ) = commandsIn (k .m + count - k .m) (bytesFrom file k) in Filling (length file) firsts outs k cs firsts outs k cs
-filling-begin file k count r = rw (filling-all count (k .m) (bytesFrom file k)) (filling-start r)
+filling-begin {firsts} {outs} file k count r =
+    rw (filling-all count (k .m) (bytesFrom file k))
+    (record { room = r; lists = filling-start firsts outs (k .m) (k .t) (commandsIn count (bytesFrom file k)); in-file = refl })

@@ -25,6 +25,10 @@ statesIn (suc k) s =
     let cs = commandsIn (stateValues s .count) (drop 8 s) in
     stateFrom (stateValues s) cs ∷ statesIn k (drop (8 + commandsLength cs) s)
 
+-- their bytes
+abbrev pub statesLength : List State → ℕ
+statesLength ss = length ss * 8 + commandsLength (allCommands ss)
+
 -- the commands of the state at a mark
 abbrev pub commandsAt : List ℕ → Mark → List (List ℕ)
 commandsAt file k = commandsIn (stateValues (bytesFrom file k) .count) (bytesFrom file (moved k 8))
@@ -45,7 +49,7 @@ pub record Room (bytes firsts outcomes : ℕ) (k : Mark) (cs : List (List ℕ)) 
 
 -- and, from row i on, for the states
 pub record StatesRoom (bytes rows firsts outcomes : ℕ) (i : ℕ) (k : Mark) (ss : List State) : Type 0 where
-  pub in-file : k .at + (length ss * 8 + commandsLength (allCommands ss)) ≤ bytes
+  pub in-file : k .at + statesLength ss ≤ bytes
   pub in-rows : i + length ss ≤ rows
   pub in-firsts : k .m + length (allCommands ss) ≤ firsts
   pub in-outcomes : k .t + length (joined (allCommands ss)) ≤ outcomes

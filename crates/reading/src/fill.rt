@@ -5,9 +5,8 @@ ghost use lib.ListN.{length, drop};
 ghost use Rattle.laws.specs.Lists.{joined};
 ghost use Rattle.laws.specs.Writes.{putAll};
 ghost use Rattle.model.specs.File.{entries, stateValues};
-ghost use Rattle.model.specs.Tables.{allCommands, rowsFrom, firstsFrom};
-ghost use Rattle.tables.specs.Meaning.{rowsOf};
-ghost use Rattle.tables.specs.Spans.{rowWith};
+ghost use Rattle.model.specs.Tables.{allCommands, rowWith, rowsFrom, firstsFrom};
+ghost use Rattle.tables.specs.Meaning.{rowOf, rowsOf};
 ghost use Rattle.reading.specs.Meaning.{bytesFrom, moved};
 ghost use Rattle.reading.specs.Filling.{commandsIn, commandsAt, statesIn, statesMark, pastCommands, Room, StatesRoom};
 use crate::bytes::Mark;
@@ -68,7 +67,7 @@ fn wide(x: u8) -> u16
 // The row of the state at a mark.
 fn row_in(file: &[u8], k: Mark) -> Row
     requires { ⌜ (7 < length (bytesFrom (now file) k)) × (k .m < 65536) ⌝ }
-    ensures { λ r. ⌜ r ≡ rowWith (k .m) (stateValues (bytesFrom (now (file .entry)) k)) ⌝ }
+    ensures { λ r. ⌜ rowOf r ≡ rowWith (k .m) (stateValues (bytesFrom (now (file .entry)) k)) ⌝ }
 {
     Row {
         kind: wide(byte(file, k.at, 3)),

@@ -1,14 +1,12 @@
 // Reading a plan file into lent tables.
 ghost use mathlib.Core.Path.{_≡_};
-ghost use mathlib.Core.Bool.{_&&_};
-ghost use lib.Dec.{leb};
+ghost use Rattle.model.specs.Tables.{enough};
 ghost use Rattle.model.specs.Calls.{readCall};
-ghost use Rattle.tables.specs.Meaning.{rowsOf};
+ghost use Rattle.tables.specs.Meaning.{numbers, rowsOf};
 ghost use Rattle.reading.specs.Answers.{afterRead};
 use tables::Refusal;
 use tables::Row;
 use tables::Size;
-use tables::internal::row_count;
 
 mod bytes;
 mod fields;
@@ -25,7 +23,7 @@ pub enum ReadAnswer {
 
 // Whether tables of these lengths have a place for each state, command and outcome.
 fn long_enough(size: Size, rows: usize, firsts: usize, outcomes: usize) -> bool
-    ensures { λ r. ⌜ r ≡ (leb (size .n) rows && leb (size .m) firsts && leb (size .t) outcomes) ⌝ }
+    ensures { λ r. ⌜ r ≡ enough (numbers size) rows firsts outcomes ⌝ }
 {
     if rows < size.n {
         return false;
@@ -46,7 +44,7 @@ pub fn read(file: &[u8], rows: &mut [Row], firsts: &mut [u16], outcomes: &mut [u
     let ReadAnswer::Given(size) = s else {
         return s;
     };
-    if !long_enough(size, row_count(rows), firsts.len(), outcomes.len()) {
+    if !long_enough(size, rows.len(), firsts.len(), outcomes.len()) {
         return ReadAnswer::Refused(Refusal::Cramped);
     }
     fill::fill_states(file, size.n, rows, firsts, outcomes);

@@ -10,6 +10,7 @@ ghost use Rattle.model.specs.Boundary.{bytesFor, rowEntries, sizeEntries, entry
 ghost use Rattle.tables.specs.Meaning.{numbers, rowOf, rowsOf};
 use tables::Row;
 use tables::Size;
+use tables::internal::ROW_ENTRIES;
 use tables::internal::narrow;
 use tables::internal::row_at;
 
@@ -34,14 +35,15 @@ pub fn store(table: &[u16], bytes: &mut [u8], n: usize)
     }
 }
 
-// Stores the row of state s, three entries.
+// Stores the row of state s.
 fn store_row(row: Row, bytes: &mut [u8], s: usize)
     requires { ⌜ s * rowBytes + rowBytes ≤ length (now bytes) ⌝ }
     ensures { λ _. ⌜ now (bytes .exit) ≡ putAll (now (bytes .entry)) (s * rowBytes) (bytesFor (rowEntries (rowOf row ∷ []))) ⌝ }
 {
-    store_entry(bytes, s * 3, row.kind);
-    store_entry(bytes, s * 3 + 1, row.first);
-    store_entry(bytes, s * 3 + 2, row.practice);
+    let from = s * ROW_ENTRIES;
+    store_entry(bytes, from, row.kind);
+    store_entry(bytes, from + 1, row.first);
+    store_entry(bytes, from + 2, row.practice);
 }
 
 // Stores the first n rows of a table.

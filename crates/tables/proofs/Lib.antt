@@ -1,8 +1,11 @@
 pub mod Reading
+pub mod RowPlaces
 pub mod Made
 pub mod Spans
 pub mod CommandTest
 pub mod LongTest
 pub mod StoredRows
+pub mod Filling
+pub mod StatesFilling
 pub mod SoundParts
 pub mod Readiness

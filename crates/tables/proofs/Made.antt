@@ -2,6 +2,5 @@
 pub mod ChecksRowsSound
 pub mod InternalPutRow
 pub mod InternalRowAt
-pub mod InternalRowCount
 pub mod InternalSpanAt
 pub mod Sound

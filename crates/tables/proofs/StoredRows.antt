@@ -5,10 +5,9 @@ use Prim.Native.Nat.{ℕ, zero, suc}
 use native.Mathlib.Omega.{arith}
 use lib.ListN.{length, getD, drop, set}
 use Rattle.model.specs.Tables.{Row as ModelRow}
-use Rattle.model.specs.Places.{fieldFor}
 use Rattle.tables.specs.declared.Row.{Row}
 use Rattle.tables.specs.Meaning.{rowOf, rowsOf}
-use Rattle.tables.specs.Spans.{rowWith, noRow}
+use Rattle.tables.specs.Spans.{asRow, noRow}
 
 pub row-stored : (R : List Row) (s : ℕ) (r : Row) → map rowOf (set R s r) ≡ set (map rowOf R) s (rowOf r)
 row-stored [] s r = refl
@@ -22,5 +21,5 @@ rows-inj [] (y ∷ S) e = absurd (let z : length (rowsOf []) ≡ length (rowsOf 
 rows-inj (x ∷ R) [] e = absurd (let z : length (rowsOf (x ∷ R)) ≡ length (rowsOf []) = ap length e in omega (arith, z))
 rows-inj (x ∷ R) (y ∷ S) e =
     ap₂ (λ (r : Row) (l : List Row). r ∷ l)
-    (ap (λ (r : ModelRow). rowWith (r .first) (fieldFor r 0)) (ap (λ (l : List ModelRow). getD l 0 (rowOf noRow)) e))
+    (ap asRow (ap (λ (l : List ModelRow). getD l 0 (rowOf noRow)) e))
     (rows-inj R S (ap (λ (l : List ModelRow). drop 1 l) e))

@@ -3,45 +3,47 @@ use mathlib.Core.Bool.{Bool, _&&_}
 use mathlib.Core.List.{List, []}
 use Prim.Native.Nat.{ℕ, _+_, _-_}
 use lib.Dec.{leb, eqb}
-use Rattle.laws.specs.Entry.{FFFF}
 use Rattle.laws.specs.Sets.{every}
 use Rattle.model.specs.Plan.{failingAt}
 use Rattle.model.specs.Refusal.{Answer, given, refused}
-use Rattle.model.specs.Tables.{Tables, listsIn}
+use Rattle.model.specs.Tables.{Row as ModelRow, Tables, listsIn}
 use Rattle.model.specs.File.{StateField, notIdle}
-use Rattle.model.specs.Places.{rowAt, firstCommand, firstOutcome}
+use Rattle.model.specs.Places.{noRow as noModelRow, rowAt, firstCommand, firstOutcome}
 use Rattle.model.specs.SoundTest.{listSound, entrySound}
 use Rattle.tables.specs.declared.Size.{Size}
 use Rattle.tables.specs.declared.Row.{Row}
 use Rattle.tables.specs.declared.internal.Span.{Span}
 use Rattle.tables.specs.declared.internal.Admission.{Admission}
 use Rattle.tables.specs.declared.internal.Admission.the-variants.{Granted, Denied}
-use Rattle.tables.specs.Meaning.{refusalOf, held}
+use Rattle.tables.specs.Meaning.{refusalOf, rowOf, held}
 
 -- a call answers a where it goes on, else the refusal
 abbrev pub admitted : {A : Type 0} → Admission → A → Answer A
 admitted Granted a = given a
 admitted (Denied r) a = refused (refusalOf r)
 
--- the row of a state, with its first command, by what its state field says
-abbrev pub rowWith : ℕ → StateField → Row
-rowWith first q = record { kind = q .kind; first = first; practice = q .policy }
+-- the row that stands for one of the model's
+abbrev pub asRow : ModelRow → Row
+asRow w = record { kind = w .kind; first = w .first; practice = w .policy }
 
--- what stands for a row past the table: a rest state's
+-- what stands for a row past the table
 abbrev pub noRow : Row
-noRow = rowWith 0 (record { kind = 2; count = 0; policy = FFFF })
+noRow = asRow noModelRow
 
 -- the commands of a plan, without its rows
 abbrev pub commandsOf : Size → List ℕ → List ℕ → Tables
 commandsOf z firsts outcomes = held z [] firsts outcomes
 
--- a row, and where the state's commands end
+-- a row, and where the state's commands begin and end
+abbrev pub spanFor : ModelRow → ℕ → ℕ → Span
+spanFor w first end = record { kind = w .kind; first = first; end = end; practice = w .policy }
+
 abbrev pub spanOf : Row → ℕ → Span
-spanOf r end = record { kind = r .kind; first = r .first; end = end; practice = r .practice }
+spanOf r end = spanFor (rowOf r) (r .first) end
 
 -- what is read of a state at once
 abbrev pub spanAt : Tables → ℕ → Span
-spanAt T s = record { kind = rowAt T s .kind; first = firstCommand T s; end = firstCommand T (s + 1); practice = rowAt T s .policy }
+spanAt T s = spanFor (rowAt T s) (firstCommand T s) (firstCommand T (s + 1))
 
 -- a state counts as failing: proofs/Spans.antt, `span-failing`, ties it to the plan's
 unfoldable pub failingSpan : Span → Bool

@@ -20,10 +20,12 @@ use crate::Size;
 // The entry for none, hexadecimal FFFF.
 pub const NONE: usize = 65535;
 
-// Where a plan is lent as bytes: how many there are in an entry, a row and a size record.
+// Where a plan is lent as bytes: how many there are in an entry, a row, of so many entries, and a size record.
 pub const ENTRY_BYTES: usize = 2;
 
-pub const ROW_BYTES: usize = 6;
+pub const ROW_ENTRIES: usize = 3;
+
+pub const ROW_BYTES: usize = ROW_ENTRIES * ENTRY_BYTES;
 
 pub const SIZE_BYTES: usize = 8;
 
@@ -79,13 +81,6 @@ pub fn fill(table: &mut [u16], n: usize, x: usize)
         put(table, i, x);
         i += 1;
     }
-}
-
-// How many rows a table has.
-pub fn row_count(rows: &[Row]) -> usize
-    ensures { λ r. ⌜ r ≡ length (now (rows .entry)) ⌝ }
-{
-    rows.len()
 }
 
 // The row of state s.

@@ -6,7 +6,6 @@ ghost use Rattle.tables.specs.Meaning.{sized, refusalOf, held};
 ghost use Rattle.model.specs.Refusal.{number};
 ghost use Rattle.model.specs.Sound.{Sound};
 ghost use Rattle.model.specs.SoundTest.{sound};
-use internal::row_count;
 use internal::span_at;
 
 mod checks;
@@ -111,7 +110,7 @@ pub fn sound(size: Size, rows: &[Row], firsts: &[u16], outcomes: &[u16]) -> bool
     if !checks::size_sound(size) {
         return false;
     }
-    if !checks::long(size, row_count(rows), firsts, outcomes) {
+    if !checks::long(size, rows.len(), firsts, outcomes) {
         return false;
     }
     let span = span_at(size, rows, 0);

@@ -1,7 +1,15 @@
+-- What is refused leaves every table as it was; where the plan is admitted it is sound and the tables are long enough, and then the propagations, the
+-- last pass over the states and the clearing of scratch leave what `decideCall` gives.
 mod Tie
-use Rattle.decide.proofs.Decisions.{refuses, admits, decides}
+use mathlib.Core.Path.{_≡_, refl, _∙_}
+use mathlib.Core.Bool.{true}
+use Prim.Native.Nat.{_≤_}
+use native.Mathlib.Omega.{arith}
+use lib.ListN.{length}
+use Rattle.model.specs.SoundTest.{sound}
 use Rattle.tables.specs.Meaning.{held}
-use mathlib.Core.Path.{refl}
+use Rattle.decide.proofs.Decisions.{refuses, admits, decides}
+use Rattle.decide.proofs.Finals.{plan-decided}
 use borrow.Author.Needs.{needs}
 use Rattle.decide.proofs.decide.Statement.{statement}
 use Rattle.decide.proofs.decide.Proof.Tie as tie
@@ -21,11 +29,27 @@ refuse-requires c κs = search needs
 enum-told : tie.Need-enum-told
 enum-told c = search needs
 
-work-out-requires : tie.Need-work-out-requires
-work-out-requires c κs =
-    let a = c .before .before .before .before .before .before .before .before .before .before .before .before .before .before .args in
+-- what is known of a plan that is admitted
+granted : (c : tie.After-enum-told)
+    → let a = c .before .before .before .before .before .before .before .before .before .before .args in
+    (sound (held (a .size) (a .rows .now) (a .firsts .now) (a .outcomes .now)) ≡ true)
+    × ((a .size .n ≤ length (a .ranks .now)) × ((a .size .n ≤ length (a .commands .now)) × ((a .size .n ≤ length (a .marks .now)) × (a .size .n ≤ length (a .scratch .now)))))
+granted c =
+    let a = c .before .before .before .before .before .before .before .before .before .before .args in
     admits (held (a .size) (a .rows .now) (a .firsts .now) (a .outcomes .now)) (a .ranks .now) (a .commands .now) (a .marks .now) (a .scratch .now)
-    _ (c .before .before .before .before .before .before .admit .ensures _ (c .before .before .before .before .before .before .before .sound .ensures .0) refl) (c .before .before .before .before .enum-told .given .1)
+    _ (c .before .before .admit .ensures _ (c .before .before .before .sound .ensures .0) refl) (c .enum-told .given .1)
+
+propagate-plan-requires : tie.Need-propagate-plan-requires
+propagate-plan-requires c κs = granted (c .before .before .before .before)
+
+judge-all-requires : tie.Need-judge-all-requires
+judge-all-requires c κs =
+    let (sounds, long) = granted (c .before .before .before .before .before .before .before .before .before .before .before .before .before .before .before .before) in
+    let v = c .before .before .before .before .before .before .before .before .before .before .before .propagate-plan .ensures in
+    (sounds, (omega (arith, v .ranked .same, long), omega (arith, v .tos-past .same, long), omega (arith, v .fails-past .same, long)))
+
+fill-requires : tie.Need-fill-requires
+fill-requires c κs = omega (arith, c .before .before .before .before .before .before .before .before .before .before .before .before .before .before .before .before .before .propagate-plan .ensures .scratch-past .same, granted (c .before .before .before .before .before .before .before .before .before .before .before .before .before .before .before .before .before .before .before .before .before .before) .1)
 
 answer-with-requires : tie.Need-answer-with-requires
 answer-with-requires c κs = search needs
@@ -37,22 +61,25 @@ returns c =
     _ (c .before .before .before .before .admit .ensures _ (c .before .before .before .before .before .sound .ensures .0) refl) _ (c .before .before .admission .given .1) _ (c .refuse .ensures)
 
 same-length : tie.Need-same-length
-same-length c = search needs
+same-length c = c .before .before .before .before .before .before .before .before .before .before .before .before .before .before .before .before .before .before .before .before .before .propagate-plan .ensures .ranked .same
 
 same-length-2 : tie.Need-same-length-2
-same-length-2 c = search needs
+same-length-2 c = c .before .before .before .before .before .before .before .before .before .judge-all .ensures .took .same ∙ c .before .before .before .before .before .before .before .before .before .before .before .before .before .before .before .before .before .before .before .before .before .propagate-plan .ensures .tos-past .same
 
 same-length-3 : tie.Need-same-length-3
-same-length-3 c = search needs
+same-length-3 c = c .before .before .before .before .before .before .before .before .before .judge-all .ensures .marked .same ∙ c .before .before .before .before .before .before .before .before .before .before .before .before .before .before .before .before .before .before .before .before .before .propagate-plan .ensures .fails-past .same
 
 same-length-4 : tie.Need-same-length-4
-same-length-4 c = search needs
+same-length-4 c = c .before .before .before .fill .ensures .same ∙ c .before .before .before .before .before .before .before .before .before .before .before .before .before .before .before .before .before .before .before .before .before .propagate-plan .ensures .scratch-past .same
 
 returns-2 : tie.Need-returns-2
 returns-2 c =
-    let a = c .before .before .before .before .before .before .before .before .before .before .before .before .before .before .before .before .before .before .before .before .before .before .before .before .args in
+    let a = c .before .before .before .before .before .before .before .before .before .before .before .before .before .before .before .before .before .before .before .before .before .before .before .before .before .before .before .before .before .before .before .before .before .before .before .before .args in
+    let (sounds, long) = granted (c .before .before .before .before .before .before .before .before .before .before .before .before .before .before .before .before .before .before .before .before .before .before .before .before .before .before) in
+    let leaves = plan-decided _ (a .rows .now) (a .firsts .now) (a .outcomes .now) sounds (long .0) (long .1 .0) (long .1 .1 .0) (long .1 .1 .1)
+        (c .before .before .before .before .before .before .before .before .before .before .before .before .before .before .before .before .before .before .before .before .before .propagate-plan .ensures) (c .before .before .before .before .before .before .before .before .before .judge-all .ensures) (c .before .before .before .fill .ensures) in
     decides (held (a .size) (a .rows .now) (a .firsts .now) (a .outcomes .now)) (a .ranks .now) (a .commands .now) (a .marks .now) (a .scratch .now)
-    _ (c .before .before .before .before .before .before .before .before .before .before .before .before .before .before .before .before .admit .ensures _ (c .before .before .before .before .before .before .before .before .before .before .before .before .before .before .before .before .before .sound .ensures .0) refl) (c .before .before .before .before .before .before .before .before .before .before .before .before .before .before .enum-told .given .1) (c .before .before .before .before .before .before .before .before .before .work-out .ensures) _ (c .answer-with .ensures)
+    _ (c .before .before .before .before .before .before .before .before .before .before .before .before .before .before .before .before .before .before .before .before .before .before .before .before .before .before .before .before .admit .ensures _ (c .before .before .before .before .before .before .before .before .before .before .before .before .before .before .before .before .before .before .before .before .before .before .before .before .before .before .before .before .before .sound .ensures .0) refl) (c .before .before .before .before .before .before .before .before .before .before .before .before .before .before .before .before .before .before .before .before .before .before .before .before .before .before .enum-told .given .1) leaves _ (c .answer-with .ensures)
 
 pub decide-spec : {M : Type 1} → statement M
-decide-spec = tie.close (tie.spec sound-requires admit-requires enum-known-admission refuse-requires enum-told work-out-requires answer-with-requires returns same-length same-length-2 same-length-3 same-length-4 returns-2)
+decide-spec = tie.close (tie.spec sound-requires admit-requires enum-known-admission refuse-requires enum-told propagate-plan-requires judge-all-requires fill-requires answer-with-requires returns same-length same-length-2 same-length-3 same-length-4 returns-2)

@@ -1,3 +1,4 @@
+-- The judging pass answers the size record or the refusal; then the tables are tested for length, and what the filling pass leaves is what `readCall` gives.
 mod Tie
 use Rattle.reading.proofs.Calls.{unchanged, no-plan, cramped, all-long, room, filled}
 use Rattle.reading.specs.Answers.{answerOf}
@@ -24,26 +25,23 @@ returns c =
     (unchanged (a .file .now) (a .rows .now) (a .firsts .now) (a .outcomes .now)
     (no-plan (length (a .rows .now)) (length (a .firsts .now)) (length (a .outcomes .now)) (a .file .now) (sym (c .before .before .scan .ensures) ∙ ap answerOf (c .enum-told .given .1))))
 
-row-count-requires : tie.Need-row-count-requires
-row-count-requires c κs = search needs
-
 long-enough-requires : tie.Need-long-enough-requires
 long-enough-requires c κs = search needs
 
-same-length : tie.Need-same-length
-same-length c = search needs
-
 returns-2 : tie.Need-returns-2
 returns-2 c =
-    let a = c .before .before .before .before .before .before .before .before .before .before .before .args in
+    let a = c .before .before .before .before .before .before .before .before .before .args in
     unchanged (a .file .now) (a .rows .now) (a .firsts .now) (a .outcomes .now)
-    (cramped (c .before .before .before .before .before .s .given .0 .0) (a .rows .now) (length (a .firsts .now)) (length (a .outcomes .now)) (c .before .before .row-count .ensures) (c .before .long-enough .ensures) (a .file .now) (sym (c .before .before .before .before .before .before .before .scan .ensures) ∙ ap answerOf (c .before .before .before .before .before .s .given .1)) (c .if1 .taken))
+    (cramped (c .before .before .before .s .given .0 .0) (length (a .rows .now)) (length (a .firsts .now)) (length (a .outcomes .now)) (c .before .long-enough .ensures) (a .file .now) (sym (c .before .before .before .before .before .scan .ensures) ∙ ap answerOf (c .before .before .before .s .given .1)) (c .if1 .taken))
 
 fill-states-requires : tie.Need-fill-states-requires
 fill-states-requires c κs =
-    let a = c .before .before .before .before .before .before .before .before .before .before .before .before .before .before .args in
-    let l = all-long (c .before .before .before .before .before .before .before .before .s .given .0 .0) (a .rows .now) (length (a .firsts .now)) (length (a .outcomes .now)) (c .before .before .before .before .before .row-count .ensures) (c .before .before .before .before .long-enough .ensures) (c .before .before .before .if1 .left) in
-    room (a .file .now) (numbers (c .before .before .before .before .before .before .before .before .s .given .0 .0)) (sym (c .before .before .before .before .before .before .before .before .before .before .scan .ensures) ∙ ap answerOf (c .before .before .before .before .before .before .before .before .s .given .1)) (l .0) (l .1) (l .2)
+    let a = c .before .before .before .before .before .before .before .before .before .before .before .before .args in
+    let l = all-long (c .before .before .before .before .before .before .s .given .0 .0) (length (a .rows .now)) (length (a .firsts .now)) (length (a .outcomes .now)) (c .before .before .before .before .long-enough .ensures) (c .before .before .before .if1 .left) in
+    room (a .file .now) (numbers (c .before .before .before .before .before .before .s .given .0 .0)) (sym (c .before .before .before .before .before .before .before .before .scan .ensures) ∙ ap answerOf (c .before .before .before .before .before .before .s .given .1)) (l .0) (l .1) (l .2)
+
+same-length : tie.Need-same-length
+same-length c = search needs
 
 same-length-2 : tie.Need-same-length-2
 same-length-2 c = search needs
@@ -51,15 +49,12 @@ same-length-2 c = search needs
 same-length-3 : tie.Need-same-length-3
 same-length-3 c = search needs
 
-same-length-4 : tie.Need-same-length-4
-same-length-4 c = search needs
-
 returns-3 : tie.Need-returns-3
 returns-3 c =
-    let a = c .before .before .before .before .before .before .before .before .before .before .before .before .before .before .before .before .before .before .before .before .args in
-    let l = all-long (c .before .before .before .before .before .before .before .before .before .before .before .before .before .before .s .given .0 .0) (a .rows .now) (length (a .firsts .now)) (length (a .outcomes .now)) (c .before .before .before .before .before .before .before .before .before .before .before .row-count .ensures) (c .before .before .before .before .before .before .before .before .before .before .long-enough .ensures) (c .before .before .before .before .before .before .before .before .before .if1 .left) in
-    filled (a .file .now) (numbers (c .before .before .before .before .before .before .before .before .before .before .before .before .before .before .s .given .0 .0)) (sym (c .before .before .before .before .before .before .before .before .before .before .before .before .before .before .before .before .scan .ensures) ∙ ap answerOf (c .before .before .before .before .before .before .before .before .before .before .before .before .before .before .s .given .1)) (a .rows .now) (a .firsts .now) (a .outcomes .now)
+    let a = c .before .before .before .before .before .before .before .before .before .before .before .before .before .before .before .before .before .before .args in
+    let l = all-long (c .before .before .before .before .before .before .before .before .before .before .before .before .s .given .0 .0) (length (a .rows .now)) (length (a .firsts .now)) (length (a .outcomes .now)) (c .before .before .before .before .before .before .before .before .before .before .long-enough .ensures) (c .before .before .before .before .before .before .before .before .before .if1 .left) in
+    filled (a .file .now) (numbers (c .before .before .before .before .before .before .before .before .before .before .before .before .s .given .0 .0)) (sym (c .before .before .before .before .before .before .before .before .before .before .before .before .before .before .scan .ensures) ∙ ap answerOf (c .before .before .before .before .before .before .before .before .before .before .before .before .s .given .1)) (a .rows .now) (a .firsts .now) (a .outcomes .now)
     (l .0) (l .1) (l .2) (c .before .before .before .before .before .fill-states .ensures .0) (c .before .before .before .before .before .fill-states .ensures .1 .0) (c .before .before .before .before .before .fill-states .ensures .1 .1)
 
 pub read-spec : {M : Type 1} → statement M
-read-spec = tie.close (tie.spec scan-requires enum-known-s enum-told returns row-count-requires long-enough-requires same-length returns-2 fill-states-requires same-length-2 same-length-3 same-length-4 returns-3)
+read-spec = tie.close (tie.spec scan-requires enum-known-s enum-told returns long-enough-requires returns-2 fill-states-requires same-length same-length-2 same-length-3 returns-3)

@@ -1,4 +1,6 @@
+-- The parts of the test are called one after another: where one stops the whole test fails, and each part that passed gives the next what it asks for.
 mod Tie
+use mathlib.Core.Path.{refl}
 use Rattle.tables.proofs.SoundParts.{sound-parts, starts-read, some-state, told}
 use Rattle.tables.proofs.LongTest.{all-long}
 use Rattle.laws.proofs.Loops.{stopped, passed}
@@ -13,56 +15,53 @@ size-sound-requires c κs = search needs
 returns : tie.Need-returns
 returns c = told _ (rw (sound-parts _) (simp (stopped (c .before .size-sound .ensures) (c .if1 .taken))))
 
-row-count-requires : tie.Need-row-count-requires
-row-count-requires c κs = search needs
-
 long-requires : tie.Need-long-requires
 long-requires c κs = search needs
 
 returns-2 : tie.Need-returns-2
-returns-2 c = told _ (rw (sound-parts _) (simp (stopped (c .before .long .ensures (c .before .before .before .before .before .before .before .args .rows .now) (c .before .before .row-count .ensures)) (c .if2 .taken), and-false)))
+returns-2 c = told _ (rw (sound-parts _) (simp (stopped (c .before .long .ensures (c .before .before .before .before .before .before .args .rows .now) refl) (c .if2 .taken), and-false)))
 
 span-at-requires : tie.Need-span-at-requires
 span-at-requires c κs =
-    let R = c .before .before .before .before .before .before .before .args .rows .now in (
-      some-state _ (passed (c .before .before .before .before .size-sound .ensures) (c .before .before .before .if1 .left)),
-      all-long _ R _ _ (passed (c .before .long .ensures R (c .before .before .row-count .ensures)) (c .if2 .left)) .0,
+    let R = c .before .before .before .before .before .before .args .rows .now in (
+      some-state _ (passed (c .before .before .before .size-sound .ensures) (c .before .before .if1 .left)),
+      all-long _ R _ _ (passed (c .before .long .ensures R refl) (c .if2 .left)) .0,
     )
 
 starts-sound-requires : tie.Need-starts-sound-requires
 starts-sound-requires c κs =
-    let R = c .before .before .before .before .before .before .before .before .args .rows .now in
-    all-long _ R _ _ (passed (c .before .before .long .ensures R (c .before .before .before .row-count .ensures)) (c .before .if2 .left)) .1
+    let R = c .before .before .before .before .before .before .before .args .rows .now in
+    all-long _ R _ _ (passed (c .before .before .long .ensures R refl) (c .before .if2 .left)) .1
 
 returns-3 : tie.Need-returns-3
 returns-3 c =
-    let a = c .before .before .before .before .before .before .before .before .before .before .args in
+    let a = c .before .before .before .before .before .before .before .before .before .args in
     told _ (rw (sound-parts _)
     (simp (stopped (starts-read _ _ _ (c .before .before .span-at .ensures (a .firsts .now) (a .outcomes .now)) (c .before .starts-sound .ensures (a .rows .now) (a .outcomes .now))) (c .if3 .taken), and-false)))
 
 rows-sound-requires : tie.Need-rows-sound-requires
 rows-sound-requires c κs =
-    let R = c .before .before .before .before .before .before .before .before .before .before .args .rows .now in
-    all-long _ R _ _ (passed (c .before .before .before .before .long .ensures R (c .before .before .before .before .before .row-count .ensures)) (c .before .before .before .if2 .left)) .0
+    let R = c .before .before .before .before .before .before .before .before .before .args .rows .now in
+    all-long _ R _ _ (passed (c .before .before .before .before .long .ensures R refl) (c .before .before .before .if2 .left)) .0
 
 returns-4 : tie.Need-returns-4
 returns-4 c =
-    let a = c .before .before .before .before .before .before .before .before .before .before .before .before .args in
+    let a = c .before .before .before .before .before .before .before .before .before .before .before .args in
     told _ (rw (sound-parts _) (simp (stopped (c .before .rows-sound .ensures (a .firsts .now) (a .outcomes .now)) (c .if4 .taken), and-false)))
 
 lists-sound-requires : tie.Need-lists-sound-requires
 lists-sound-requires c κs =
-    let R = c .before .before .before .before .before .before .before .before .before .before .before .before .args .rows .now in
-    let tables-long = all-long _ R _ _ (passed (c .before .before .before .before .before .before .long .ensures R (c .before .before .before .before .before .before .before .row-count .ensures)) (c .before .before .before .before .before .if2 .left)) in
+    let R = c .before .before .before .before .before .before .before .before .before .before .before .args .rows .now in
+    let tables-long = all-long _ R _ _ (passed (c .before .before .before .before .before .before .long .ensures R refl) (c .before .before .before .before .before .if2 .left)) in
     (tables-long .1, tables-long .2)
 
 returns-5 : tie.Need-returns-5
 returns-5 c =
-    let a = c .before .before .before .before .before .before .before .before .before .before .before .before .before .args in
+    let a = c .before .before .before .before .before .before .before .before .before .before .before .before .args in
     told _ (rw (sound-parts _)
     (rw (
-      passed (c .before .before .before .before .before .before .before .before .before .before .size-sound .ensures) (c .before .before .before .before .before .before .before .before .before .if1 .left),
-      passed (c .before .before .before .before .before .before .before .long .ensures (a .rows .now) (c .before .before .before .before .before .before .before .before .row-count .ensures)) (c .before .before .before .before .before .before .if2 .left),
+      passed (c .before .before .before .before .before .before .before .before .before .size-sound .ensures) (c .before .before .before .before .before .before .before .before .if1 .left),
+      passed (c .before .before .before .before .before .before .before .long .ensures (a .rows .now) refl) (c .before .before .before .before .before .before .if2 .left),
       passed (starts-read _ _ _ (c .before .before .before .before .before .span-at .ensures (a .firsts .now) (a .outcomes .now)) (c .before .before .before .before .starts-sound .ensures (a .rows .now) (a .outcomes .now))) (c .before .before .before .if3 .left),
       passed (c .before .before .rows-sound .ensures (a .firsts .now) (a .outcomes .now)) (c .before .if4 .left),
     )
@@ -74,7 +73,6 @@ sound-spec =
     (tie.spec
     size-sound-requires
     returns
-    row-count-requires
     long-requires
     returns-2
     span-at-requires

@@ -1,4 +1,4 @@
-use Rattle.reading.proofs.FillCommands.{Filling, filling-begin, filling-turn, filling-more, filling-left, filling-end, filling-all, commands-in-count}
+use Rattle.reading.proofs.FillCommands.{Filling, filling-begin, filling-turn, filling-more, filling-left, filling-over, filling-same, filling-all, commands-in-count}
 use Rattle.reading.specs.Filling.{commandsIn}
 use Rattle.reading.specs.Meaning.{bytesFrom}
 use lib.ListN.{length}
@@ -83,15 +83,15 @@ loop-again c =
     (omega arith, filling-more (c .before .before .before .before .before .before .before .before .before .before .before .before .before .before .before .before .before .before .before .before .args .file .now) (c .before .before .before .before .before .before .before .before .before .before .before .before .before .before .before .loop .k) _ (c .before .before .before .before .before .before .before .before .before .before .before .before .before .before .before .loop .inv .1) (c .before .before .before .before .before .before .before .before .before .before .before .before .before .if1 .taken) half (c .before .before .before .before .before .before .before .before .before .before .put .ensures) (c .before .before .before .before .before .fill-outcomes .ensures))
 
 same-length : tie.Need-same-length Inv-loop μ-loop
-same-length c = c .before .before .loop .inv .1 .same-firsts
+same-length c = filling-same (c .before .before .loop .inv .1) .0
 
 same-length-2 : tie.Need-same-length-2 Inv-loop μ-loop
-same-length-2 c = c .before .before .loop .inv .1 .same-outs
+same-length-2 c = filling-same (c .before .before .loop .inv .1) .1
 
 returns : tie.Need-returns Inv-loop μ-loop
 returns c =
     let a = c .before .before .before .before .before .before .before .args in
-    rw (← filling-all (a .count) (a .from .m) (bytesFrom (a .file .now) (a .from))) (filling-end (filling-left (a .file .now) (c .before .before .loop .k) _ (c .before .before .loop .inv .1) (c .if1 .left)))
+    rw (← filling-all (a .count) (a .from .m) (bytesFrom (a .file .now) (a .from))) (filling-over (filling-left (a .file .now) (c .before .before .loop .k) _ (c .before .before .loop .inv .1) (c .if1 .left)))
 
 pub fill-commands-spec : {M : Type 1} → statement M
 fill-commands-spec =

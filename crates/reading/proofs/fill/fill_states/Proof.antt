@@ -1,5 +1,5 @@
 mod Tie
-use Rattle.reading.proofs.FillStates.{Filling, Turn, filling-begin, filling-turn, filling-more, filling-left, filling-end}
+use Rattle.reading.proofs.FillStates.{Filling, Turn, filling-begin, filling-turn, filling-more, filling-left, filling-over, filling-same}
 use Rattle.reading.specs.Meaning.{bytesFrom}
 use Rattle.reading.specs.Filling.{statesIn}
 use Prim.Native.Nat.{_-_, _≤_}
@@ -50,18 +50,18 @@ loop-again c =
     )
 
 same-length : tie.Need-same-length Inv-loop μ-loop
-same-length c = c .before .loop .inv .1 .same-rows
+same-length c = filling-same (c .before .loop .inv .1) .0
 
 same-length-2 : tie.Need-same-length-2 Inv-loop μ-loop
-same-length-2 c = c .before .loop .inv .1 .same-firsts
+same-length-2 c = filling-same (c .before .loop .inv .1) .1
 
 same-length-3 : tie.Need-same-length-3 Inv-loop μ-loop
-same-length-3 c = c .before .loop .inv .1 .same-outs
+same-length-3 c = filling-same (c .before .loop .inv .1) .2
 
 returns : tie.Need-returns Inv-loop μ-loop
 returns c =
     let a = c .before .before .before .before .before .args in
-    filling-end (filling-left (a .file .now) (a .n) (c .before .loop .i) (c .before .loop .k) (c .before .loop .inv .1) (c .loop-test .left))
+    filling-over (filling-left (a .file .now) (a .n) (c .before .loop .i) (c .before .loop .k) (c .before .loop .inv .1) (c .loop-test .left))
 
 pub fill-states-spec : {M : Type 1} → statement M
 fill-states-spec = tie.close (tie.spec Inv-loop μ-loop loop-holds row-in-requires put-row-requires fill-state-requires add-i loop-less loop-again same-length same-length-2 same-length-3 returns)

@@ -5,7 +5,7 @@ use native.Mathlib.Omega.{arith}
 use lib.ListN.{length-map, List·getD-map}
 use Rattle.laws.proofs.Blocks.{Stored, stored-none, stored-next, stored-done}
 use Rattle.laws.specs.Writes.{putAll}
-use Rattle.model.specs.Boundary.{bytesFor, rowEntries}
+use Rattle.model.specs.Boundary.{rowBytes, bytesFor, rowEntries}
 use Rattle.model.specs.Tables.{Row as ModelRow}
 use Rattle.tables.specs.Meaning.{rowOf, rowsOf}
 use Rattle.tables.specs.Spans.{noRow}
@@ -41,7 +41,7 @@ loop-again c =
     let s = c .before .before .before .before .before .before .loop .s in (
       omega (arith, c .before .before .before .before .before .loop-test .taken),
       stored-next rows-blocks (rowOf noRow) (c .before .before .before .before .before .before .loop .inv .1) (omega (arith, c .before .before .before .before .before .before .before .before .pre, c .before .before .before .before .before .loop-test .taken, length-map R rowOf)) _
-          (c .before .before .store-row .ensures ∙ ap (λ (w : ModelRow). putAll (c .before .before .before .before .before .before .loop .bytes) (s * 6) (bytesFor (rowEntries (w ∷ [])))) (ap rowOf (c .before .before .before .before .row-at .ensures) ∙ sym (List·getD-map rowOf R s noRow))),
+          (c .before .before .store-row .ensures ∙ ap (λ (w : ModelRow). putAll (c .before .before .before .before .before .before .loop .bytes) (s * rowBytes) (bytesFor (rowEntries (w ∷ [])))) (ap rowOf (c .before .before .before .before .row-at .ensures) ∙ sym (List·getD-map rowOf R s noRow))),
     )
 
 same-length : tie.Need-same-length Inv-loop μ-loop

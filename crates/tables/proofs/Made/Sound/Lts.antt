@@ -80,41 +80,35 @@ ps·0 = List._∷_ (Value.pVal record { ty = Declared.row Size.the-type; one = P
 abbrev pub r·0 : Kinds.RK 0
 r·0 = Bool.rBool
 
-abbrev pub ps·1 : List.List (Kinds.PK 1)
-ps·1 = List._∷_ (ShrSlice.pShrS T.the-row 0 tt) List.[]
+abbrev pub ps·1 : List.List (Kinds.PK 2)
+ps·1 = List._∷_ (Value.pVal record { ty = Declared.row Size.the-type; one = Path'.refl; val = Laws''.val Size.the-type Laws.the-laws; tells = Laws''.tells Size.the-type Laws.the-laws; still = Laws''.still Size.the-type Laws.the-copy Exit.yes; row = Rows.whole (Declared.row Size.the-type); rd = λ x. x; mk = λ x. x } λ M 𝓤 H A W. record { copies = Laws''.copy Size.the-type Laws.the-copy 𝓤 H A W; lawful = Laws''.lawful Size.the-type Laws.the-laws 𝓤 H A W; makes = Laws''.makes Size.the-type Laws.the-plain 𝓤 H A; in-mem = Local.mem-whole 𝓤 H A W (Declared.row Size.the-type); of-mem = Local.whole-mem 𝓤 H A W (Declared.row Size.the-type) }) (List._∷_ (Num.pNum Syntax.w64) (List._∷_ (ShrSlice.pShrS (Referent.rtF (Referent.fInt Syntax.w16)) 0 tt) (List._∷_ (ShrSlice.pShrS (Referent.rtF (Referent.fInt Syntax.w16)) 1 tt) List.[])))
 
-abbrev pub r·1 : Kinds.RK 1
-r·1 = Num.rNum Syntax.w64
+abbrev pub r·1 : Kinds.RK 2
+r·1 = Bool.rBool
 
-abbrev pub ps·2 : List.List (Kinds.PK 2)
-ps·2 = List._∷_ (Value.pVal record { ty = Declared.row Size.the-type; one = Path'.refl; val = Laws''.val Size.the-type Laws.the-laws; tells = Laws''.tells Size.the-type Laws.the-laws; still = Laws''.still Size.the-type Laws.the-copy Exit.yes; row = Rows.whole (Declared.row Size.the-type); rd = λ x. x; mk = λ x. x } λ M 𝓤 H A W. record { copies = Laws''.copy Size.the-type Laws.the-copy 𝓤 H A W; lawful = Laws''.lawful Size.the-type Laws.the-laws 𝓤 H A W; makes = Laws''.makes Size.the-type Laws.the-plain 𝓤 H A; in-mem = Local.mem-whole 𝓤 H A W (Declared.row Size.the-type); of-mem = Local.whole-mem 𝓤 H A W (Declared.row Size.the-type) }) (List._∷_ (Num.pNum Syntax.w64) (List._∷_ (ShrSlice.pShrS (Referent.rtF (Referent.fInt Syntax.w16)) 0 tt) (List._∷_ (ShrSlice.pShrS (Referent.rtF (Referent.fInt Syntax.w16)) 1 tt) List.[])))
+abbrev pub ps·2 : List.List (Kinds.PK 1)
+ps·2 = List._∷_ (Value.pVal record { ty = Declared.row Size.the-type; one = Path'.refl; val = Laws''.val Size.the-type Laws.the-laws; tells = Laws''.tells Size.the-type Laws.the-laws; still = Laws''.still Size.the-type Laws.the-copy Exit.yes; row = Rows.whole (Declared.row Size.the-type); rd = λ x. x; mk = λ x. x } λ M 𝓤 H A W. record { copies = Laws''.copy Size.the-type Laws.the-copy 𝓤 H A W; lawful = Laws''.lawful Size.the-type Laws.the-laws 𝓤 H A W; makes = Laws''.makes Size.the-type Laws.the-plain 𝓤 H A; in-mem = Local.mem-whole 𝓤 H A W (Declared.row Size.the-type); of-mem = Local.whole-mem 𝓤 H A W (Declared.row Size.the-type) }) (List._∷_ (ShrSlice.pShrS T.the-row 0 tt) (List._∷_ (Num.pNum Syntax.w64) List.[]))
 
-abbrev pub r·2 : Kinds.RK 2
-r·2 = Bool.rBool
+abbrev pub r·2 : Kinds.RK 1
+r·2 = Value.rVal record { ty = Declared.row Span.the-type; one = Path'.refl; val = Laws''.val Span.the-type Laws'.the-laws; tells = Laws''.tells Span.the-type Laws'.the-laws; still = Laws''.still Span.the-type Laws'.the-copy Exit.yes; row = Rows.whole (Declared.row Span.the-type); rd = λ x. x; mk = λ x. x } λ M 𝓤 H A W. record { copies = Laws''.copy Span.the-type Laws'.the-copy 𝓤 H A W; lawful = Laws''.lawful Span.the-type Laws'.the-laws 𝓤 H A W; makes = Laws''.makes Span.the-type Laws'.the-plain 𝓤 H A; in-mem = Local.mem-whole 𝓤 H A W (Declared.row Span.the-type); of-mem = Local.whole-mem 𝓤 H A W (Declared.row Span.the-type) }
 
 abbrev pub ps·3 : List.List (Kinds.PK 1)
-ps·3 = List._∷_ (Value.pVal record { ty = Declared.row Size.the-type; one = Path'.refl; val = Laws''.val Size.the-type Laws.the-laws; tells = Laws''.tells Size.the-type Laws.the-laws; still = Laws''.still Size.the-type Laws.the-copy Exit.yes; row = Rows.whole (Declared.row Size.the-type); rd = λ x. x; mk = λ x. x } λ M 𝓤 H A W. record { copies = Laws''.copy Size.the-type Laws.the-copy 𝓤 H A W; lawful = Laws''.lawful Size.the-type Laws.the-laws 𝓤 H A W; makes = Laws''.makes Size.the-type Laws.the-plain 𝓤 H A; in-mem = Local.mem-whole 𝓤 H A W (Declared.row Size.the-type); of-mem = Local.whole-mem 𝓤 H A W (Declared.row Size.the-type) }) (List._∷_ (ShrSlice.pShrS T.the-row 0 tt) (List._∷_ (Num.pNum Syntax.w64) List.[]))
+ps·3 = List._∷_ (Value.pVal record { ty = Declared.row Size.the-type; one = Path'.refl; val = Laws''.val Size.the-type Laws.the-laws; tells = Laws''.tells Size.the-type Laws.the-laws; still = Laws''.still Size.the-type Laws.the-copy Exit.yes; row = Rows.whole (Declared.row Size.the-type); rd = λ x. x; mk = λ x. x } λ M 𝓤 H A W. record { copies = Laws''.copy Size.the-type Laws.the-copy 𝓤 H A W; lawful = Laws''.lawful Size.the-type Laws.the-laws 𝓤 H A W; makes = Laws''.makes Size.the-type Laws.the-plain 𝓤 H A; in-mem = Local.mem-whole 𝓤 H A W (Declared.row Size.the-type); of-mem = Local.whole-mem 𝓤 H A W (Declared.row Size.the-type) }) (List._∷_ (Num.pNum Syntax.w64) (List._∷_ (ShrSlice.pShrS (Referent.rtF (Referent.fInt Syntax.w16)) 0 tt) List.[]))
 
 abbrev pub r·3 : Kinds.RK 1
-r·3 = Value.rVal record { ty = Declared.row Span.the-type; one = Path'.refl; val = Laws''.val Span.the-type Laws'.the-laws; tells = Laws''.tells Span.the-type Laws'.the-laws; still = Laws''.still Span.the-type Laws'.the-copy Exit.yes; row = Rows.whole (Declared.row Span.the-type); rd = λ x. x; mk = λ x. x } λ M 𝓤 H A W. record { copies = Laws''.copy Span.the-type Laws'.the-copy 𝓤 H A W; lawful = Laws''.lawful Span.the-type Laws'.the-laws 𝓤 H A W; makes = Laws''.makes Span.the-type Laws'.the-plain 𝓤 H A; in-mem = Local.mem-whole 𝓤 H A W (Declared.row Span.the-type); of-mem = Local.whole-mem 𝓤 H A W (Declared.row Span.the-type) }
+r·3 = Bool.rBool
 
 abbrev pub ps·4 : List.List (Kinds.PK 1)
-ps·4 = List._∷_ (Value.pVal record { ty = Declared.row Size.the-type; one = Path'.refl; val = Laws''.val Size.the-type Laws.the-laws; tells = Laws''.tells Size.the-type Laws.the-laws; still = Laws''.still Size.the-type Laws.the-copy Exit.yes; row = Rows.whole (Declared.row Size.the-type); rd = λ x. x; mk = λ x. x } λ M 𝓤 H A W. record { copies = Laws''.copy Size.the-type Laws.the-copy 𝓤 H A W; lawful = Laws''.lawful Size.the-type Laws.the-laws 𝓤 H A W; makes = Laws''.makes Size.the-type Laws.the-plain 𝓤 H A; in-mem = Local.mem-whole 𝓤 H A W (Declared.row Size.the-type); of-mem = Local.whole-mem 𝓤 H A W (Declared.row Size.the-type) }) (List._∷_ (Num.pNum Syntax.w64) (List._∷_ (ShrSlice.pShrS (Referent.rtF (Referent.fInt Syntax.w16)) 0 tt) List.[]))
+ps·4 = List._∷_ (Value.pVal record { ty = Declared.row Size.the-type; one = Path'.refl; val = Laws''.val Size.the-type Laws.the-laws; tells = Laws''.tells Size.the-type Laws.the-laws; still = Laws''.still Size.the-type Laws.the-copy Exit.yes; row = Rows.whole (Declared.row Size.the-type); rd = λ x. x; mk = λ x. x } λ M 𝓤 H A W. record { copies = Laws''.copy Size.the-type Laws.the-copy 𝓤 H A W; lawful = Laws''.lawful Size.the-type Laws.the-laws 𝓤 H A W; makes = Laws''.makes Size.the-type Laws.the-plain 𝓤 H A; in-mem = Local.mem-whole 𝓤 H A W (Declared.row Size.the-type); of-mem = Local.whole-mem 𝓤 H A W (Declared.row Size.the-type) }) (List._∷_ (ShrSlice.pShrS T.the-row 0 tt) List.[])
 
 abbrev pub r·4 : Kinds.RK 1
 r·4 = Bool.rBool
 
-abbrev pub ps·5 : List.List (Kinds.PK 1)
-ps·5 = List._∷_ (Value.pVal record { ty = Declared.row Size.the-type; one = Path'.refl; val = Laws''.val Size.the-type Laws.the-laws; tells = Laws''.tells Size.the-type Laws.the-laws; still = Laws''.still Size.the-type Laws.the-copy Exit.yes; row = Rows.whole (Declared.row Size.the-type); rd = λ x. x; mk = λ x. x } λ M 𝓤 H A W. record { copies = Laws''.copy Size.the-type Laws.the-copy 𝓤 H A W; lawful = Laws''.lawful Size.the-type Laws.the-laws 𝓤 H A W; makes = Laws''.makes Size.the-type Laws.the-plain 𝓤 H A; in-mem = Local.mem-whole 𝓤 H A W (Declared.row Size.the-type); of-mem = Local.whole-mem 𝓤 H A W (Declared.row Size.the-type) }) (List._∷_ (ShrSlice.pShrS T.the-row 0 tt) List.[])
+abbrev pub ps·5 : List.List (Kinds.PK 2)
+ps·5 = List._∷_ (Value.pVal record { ty = Declared.row Size.the-type; one = Path'.refl; val = Laws''.val Size.the-type Laws.the-laws; tells = Laws''.tells Size.the-type Laws.the-laws; still = Laws''.still Size.the-type Laws.the-copy Exit.yes; row = Rows.whole (Declared.row Size.the-type); rd = λ x. x; mk = λ x. x } λ M 𝓤 H A W. record { copies = Laws''.copy Size.the-type Laws.the-copy 𝓤 H A W; lawful = Laws''.lawful Size.the-type Laws.the-laws 𝓤 H A W; makes = Laws''.makes Size.the-type Laws.the-plain 𝓤 H A; in-mem = Local.mem-whole 𝓤 H A W (Declared.row Size.the-type); of-mem = Local.whole-mem 𝓤 H A W (Declared.row Size.the-type) }) (List._∷_ (ShrSlice.pShrS (Referent.rtF (Referent.fInt Syntax.w16)) 0 tt) (List._∷_ (ShrSlice.pShrS (Referent.rtF (Referent.fInt Syntax.w16)) 1 tt) List.[]))
 
-abbrev pub r·5 : Kinds.RK 1
+abbrev pub r·5 : Kinds.RK 2
 r·5 = Bool.rBool
-
-abbrev pub ps·6 : List.List (Kinds.PK 2)
-ps·6 = List._∷_ (Value.pVal record { ty = Declared.row Size.the-type; one = Path'.refl; val = Laws''.val Size.the-type Laws.the-laws; tells = Laws''.tells Size.the-type Laws.the-laws; still = Laws''.still Size.the-type Laws.the-copy Exit.yes; row = Rows.whole (Declared.row Size.the-type); rd = λ x. x; mk = λ x. x } λ M 𝓤 H A W. record { copies = Laws''.copy Size.the-type Laws.the-copy 𝓤 H A W; lawful = Laws''.lawful Size.the-type Laws.the-laws 𝓤 H A W; makes = Laws''.makes Size.the-type Laws.the-plain 𝓤 H A; in-mem = Local.mem-whole 𝓤 H A W (Declared.row Size.the-type); of-mem = Local.whole-mem 𝓤 H A W (Declared.row Size.the-type) }) (List._∷_ (ShrSlice.pShrS (Referent.rtF (Referent.fInt Syntax.w16)) 0 tt) (List._∷_ (ShrSlice.pShrS (Referent.rtF (Referent.fInt Syntax.w16)) 1 tt) List.[]))
-
-abbrev pub r·6 : Kinds.RK 2
-r·6 = Bool.rBool
 
 abbrev pub hs : List.List Syntax.Home
 hs = List._∷_ Syntax.valueLocal (List._∷_ Syntax.valueLocal (List._∷_ Syntax.valueLocal (List._∷_ Syntax.valueLocal (List._∷_ Syntax.valueLocal (List._∷_ Syntax.valueLocal (List._∷_ Syntax.valueLocal (List._∷_ Syntax.valueLocal (List._∷_ Syntax.valueLocal List.[]))))))))
@@ -141,7 +135,7 @@ abbrev b6 : Syntax.Body
 b6 = Syntax.cond (Syntax.copy (Syntax.place 7 List.[])) b4 b5
 
 abbrev b7 : Syntax.Body
-b7 = Syntax.call "tables::internal::row_count" (List._∷_ (Syntax.copy (Syntax.place 2 List.[])) List.[]) (Syntax.place 8 List.[])
+b7 = Syntax.assign (Syntax.place 8 List.[]) (Syntax.rvOpd (Syntax.copy (Syntax.place 2 (List._∷_ (Syntax.field 1) List.[]))))
 
 abbrev b8 : Syntax.Body
 b8 = Syntax.call "tables::checks::long" (List._∷_ (Syntax.copy (Syntax.place 1 List.[])) (List._∷_ (Syntax.copy (Syntax.place 8 List.[])) (List._∷_ (Syntax.copy (Syntax.place 3 List.[])) (List._∷_ (Syntax.copy (Syntax.place 4 List.[])) List.[])))) (Syntax.place 6 List.[])
@@ -264,7 +258,7 @@ abbrev pub body : Syntax.Body
 body = b46
 
 abbrev pub Claims : Type 1
-Claims = Kinds.In 0 ps·0 × Kinds.Out 0 ps·0 r·0 × Kinds.In 1 ps·1 × Kinds.Out 1 ps·1 r·1 × Kinds.In 2 ps·2 × Kinds.Out 2 ps·2 r·2 × Kinds.In 1 ps·3 × Kinds.Out 1 ps·3 r·3 × Kinds.In 1 ps·4 × Kinds.Out 1 ps·4 r·4 × Kinds.In 1 ps·5 × Kinds.Out 1 ps·5 r·5 × Kinds.In 2 ps·6 × Kinds.Out 2 ps·6 r·6
+Claims = Kinds.In 0 ps·0 × Kinds.Out 0 ps·0 r·0 × Kinds.In 2 ps·1 × Kinds.Out 2 ps·1 r·1 × Kinds.In 1 ps·2 × Kinds.Out 1 ps·2 r·2 × Kinds.In 1 ps·3 × Kinds.Out 1 ps·3 r·3 × Kinds.In 1 ps·4 × Kinds.Out 1 ps·4 r·4 × Kinds.In 2 ps·5 × Kinds.Out 2 ps·5 r·5
 
 abbrev pub t0 : List.List Row.Entry
 t0 = List._∷_ (0, Rows.any-gone Syntax.tyBool) (List._∷_ (1, Rows.whole (Declared.row Size.the-type)) (List._∷_ (2, Rows.sslice T.the-row ty·2 0) (List._∷_ (3, Rows.sslice (Referent.rtF (Referent.fInt Syntax.w16)) ty·0 1) (List._∷_ (4, Rows.sslice (Referent.rtF (Referent.fInt Syntax.w16)) ty·1 2) (List._∷_ (5, Rows.any-gone ty·4) (List._∷_ (6, Rows.any-gone Syntax.tyBool) (List._∷_ (7, Rows.any-gone Syntax.tyBool) (List._∷_ (8, Rows.any-gone (Syntax.tyInt Syntax.w64)) List.[]))))))))
@@ -471,11 +465,11 @@ module _ (claims· : Claims) where
   abbrev s8 : Typed.Mo T7 → Typed.Mo T11
   s8 = Scalar.n-room T7 7 Syntax.tyBool
 
-  abbrev s9 : Typed.Both T6 T12
-  s9 = Call.callB ps·1 r·1 (claims· .2) (claims· .3) T6 (record { pos = 2; ty = Syntax.tyRef (Syntax.named 0) Syntax.imm (Memory.pointee (T.the-row .written)); ref = λ x. x }, tt) 8 (List._∷_ 0 List.[]) (Syntax.tyInt Syntax.w64)
+  abbrev s9 : Typed.Mo T6 → Typed.Mo T12
+  s9 = Scalar.n-use T6 (Scalar.oFld 2 (List._∷_ (Syntax.field 1) List.[]) (Syntax.tyInt Syntax.w64) 8 Shared.lenV) 8 (Rows.sc-here (Row.sInt Syntax.w64)) (Row.sInt Syntax.w64 .of)
 
   abbrev s10 : Typed.Both T12 T13
-  s10 = Call.callB ps·2 r·2 (claims· .4) (claims· .5) T12 (record { pos = 1; st = List.[]; d = 0; at = λ x. x }, (Num.vAt 8 λ x. x, (record { pos = 3; ty = Syntax.tyRef (Syntax.named 1) Syntax.imm (Syntax.tyInt Syntax.w16); ref = λ x. x }, (record { pos = 4; ty = Syntax.tyRef (Syntax.named 2) Syntax.imm (Syntax.tyInt Syntax.w16); ref = λ x. x }, tt)))) 6 (List._∷_ 1 (List._∷_ 2 List.[])) Syntax.tyBool
+  s10 = Call.callB ps·1 r·1 (claims· .2) (claims· .3) T12 (record { pos = 1; st = List.[]; d = 0; at = λ x. x }, (Num.vAt 8 λ x. x, (record { pos = 3; ty = Syntax.tyRef (Syntax.named 1) Syntax.imm (Syntax.tyInt Syntax.w16); ref = λ x. x }, (record { pos = 4; ty = Syntax.tyRef (Syntax.named 2) Syntax.imm (Syntax.tyInt Syntax.w16); ref = λ x. x }, tt)))) 6 (List._∷_ 1 (List._∷_ 2 List.[])) Syntax.tyBool
 
   abbrev s11 : Typed.Mo T13 → Typed.Mo T14
   s11 = Scalar.n-room T13 8 (Syntax.tyInt Syntax.w64)
@@ -499,10 +493,10 @@ module _ (claims· : Claims) where
   s17 = Scalar.n-room T17 7 Syntax.tyBool
 
   abbrev s18 : Typed.Both T16 T22
-  s18 = Call.callB ps·3 r·3 (claims· .6) (claims· .7) T16 (record { pos = 1; st = List.[]; d = 0; at = λ x. x }, (record { pos = 2; ty = Syntax.tyRef (Syntax.named 0) Syntax.imm (Memory.pointee (T.the-row .written)); ref = λ x. x }, (Num.vLit 0, tt))) 5 (List._∷_ 0 List.[]) ty·4
+  s18 = Call.callB ps·2 r·2 (claims· .4) (claims· .5) T16 (record { pos = 1; st = List.[]; d = 0; at = λ x. x }, (record { pos = 2; ty = Syntax.tyRef (Syntax.named 0) Syntax.imm (Memory.pointee (T.the-row .written)); ref = λ x. x }, (Num.vLit 0, tt))) 5 (List._∷_ 0 List.[]) ty·4
 
   abbrev s19 : Typed.Both T22 T23
-  s19 = Call.callB ps·4 r·4 (claims· .8) (claims· .9) T22 (record { pos = 1; st = List.[]; d = 0; at = λ x. x }, (Num.vFld 5 (List._∷_ (Syntax.field 1) List.[]) 8 λ x. Span.struct .as-values x .1 .0, (record { pos = 3; ty = Syntax.tyRef (Syntax.named 1) Syntax.imm (Syntax.tyInt Syntax.w16); ref = λ x. x }, tt))) 6 (List._∷_ 1 List.[]) Syntax.tyBool
+  s19 = Call.callB ps·3 r·3 (claims· .6) (claims· .7) T22 (record { pos = 1; st = List.[]; d = 0; at = λ x. x }, (Num.vFld 5 (List._∷_ (Syntax.field 1) List.[]) 8 λ x. Span.struct .as-values x .1 .0, (record { pos = 3; ty = Syntax.tyRef (Syntax.named 1) Syntax.imm (Syntax.tyInt Syntax.w16); ref = λ x. x }, tt))) 6 (List._∷_ 1 List.[]) Syntax.tyBool
 
   abbrev s20 : Typed.Mo T23 → Typed.Mo T24
   s20 = Scalar.n-room T23 5 ty·4
@@ -526,7 +520,7 @@ module _ (claims· : Claims) where
   s26 = Scalar.n-room T27 7 Syntax.tyBool
 
   abbrev s27 : Typed.Both T26 T32
-  s27 = Call.callB ps·5 r·5 (claims· .10) (claims· .11) T26 (record { pos = 1; st = List.[]; d = 0; at = λ x. x }, (record { pos = 2; ty = Syntax.tyRef (Syntax.named 0) Syntax.imm (Memory.pointee (T.the-row .written)); ref = λ x. x }, tt)) 6 (List._∷_ 0 List.[]) Syntax.tyBool
+  s27 = Call.callB ps·4 r·4 (claims· .8) (claims· .9) T26 (record { pos = 1; st = List.[]; d = 0; at = λ x. x }, (record { pos = 2; ty = Syntax.tyRef (Syntax.named 0) Syntax.imm (Memory.pointee (T.the-row .written)); ref = λ x. x }, tt)) 6 (List._∷_ 0 List.[]) Syntax.tyBool
 
   abbrev s28 : Typed.Asks T32 T33
   s28 = Scalar.k-op1 T32 Syntax.bitNot (Scalar.oAt 6 Syntax.tyBool (Row.valS Row.sBool)) 7 (Rows.sc-here Row.sBool) (Row.sBool .of)
@@ -547,7 +541,7 @@ module _ (claims· : Claims) where
   s33 = Scalar.n-room T35 7 Syntax.tyBool
 
   abbrev s34 : Typed.Both T34 T40
-  s34 = Call.callB ps·6 r·6 (claims· .12) (claims· .13) T34 (record { pos = 1; st = List.[]; d = 0; at = λ x. x }, (record { pos = 3; ty = Syntax.tyRef (Syntax.named 1) Syntax.imm (Syntax.tyInt Syntax.w16); ref = λ x. x }, (record { pos = 4; ty = Syntax.tyRef (Syntax.named 2) Syntax.imm (Syntax.tyInt Syntax.w16); ref = λ x. x }, tt))) 0 (List._∷_ 1 (List._∷_ 2 List.[])) Syntax.tyBool
+  s34 = Call.callB ps·5 r·5 (claims· .10) (claims· .11) T34 (record { pos = 1; st = List.[]; d = 0; at = λ x. x }, (record { pos = 3; ty = Syntax.tyRef (Syntax.named 1) Syntax.imm (Syntax.tyInt Syntax.w16); ref = λ x. x }, (record { pos = 4; ty = Syntax.tyRef (Syntax.named 2) Syntax.imm (Syntax.tyInt Syntax.w16); ref = λ x. x }, tt))) 0 (List._∷_ 1 (List._∷_ 2 List.[])) Syntax.tyBool
 
   abbrev s35 : Typed.Mo T40 → Typed.Mo T41
   s35 = Scalar.n-room T40 1 ty·3
@@ -555,7 +549,7 @@ module _ (claims· : Claims) where
   module _ (Pre· : (κs : Lifetimes.Lfts 3) → Kinds.Dens κs ps → Type 0) (Post· : (κs : Lifetimes.Lfts 3) → (a : Kinds.Dens κs ps) → Kinds.Plain 3 ps r κs) where
     module _ (M : Type 1) where
       abbrev pub Closed : Type 2
-      Closed = (𝓤 : URA.URA M) (H : Wp.Heap 𝓤) (A : Atoms.Atoms 𝓤) (W : Kit.Given 𝓤 H A) (𝓣 : Wp.Tables 𝓤 H) (known0 : Plain.Known 𝓤 H A W 𝓣 0 ps·0 r·0 (claims· .0) (claims· .1) "tables::checks::size_sound") (known1 : Plain.Known 𝓤 H A W 𝓣 1 ps·1 r·1 (claims· .2) (claims· .3) "tables::internal::row_count") (known2 : Plain.Known 𝓤 H A W 𝓣 2 ps·2 r·2 (claims· .4) (claims· .5) "tables::checks::long") (known3 : Plain.Known 𝓤 H A W 𝓣 1 ps·3 r·3 (claims· .6) (claims· .7) "tables::internal::span_at") (known4 : Plain.Known 𝓤 H A W 𝓣 1 ps·4 r·4 (claims· .8) (claims· .9) "tables::checks::starts_sound") (known5 : Plain.Known 𝓤 H A W 𝓣 1 ps·5 r·5 (claims· .10) (claims· .11) "tables::checks::rows_sound") (known6 : Plain.Known 𝓤 H A W 𝓣 2 ps·6 r·6 (claims· .12) (claims· .13) "tables::checks::lists_sound") → Statement.Triple 𝓤 (Wp.WpFn 𝓤 H (𝓣 .C) (𝓣 .Λ) (Function.fnOf 3 ps r xs m hs body)) (Function.plainOf 𝓤 H A 3 ps r Pre· Post·)
+      Closed = (𝓤 : URA.URA M) (H : Wp.Heap 𝓤) (A : Atoms.Atoms 𝓤) (W : Kit.Given 𝓤 H A) (𝓣 : Wp.Tables 𝓤 H) (known0 : Plain.Known 𝓤 H A W 𝓣 0 ps·0 r·0 (claims· .0) (claims· .1) "tables::checks::size_sound") (known1 : Plain.Known 𝓤 H A W 𝓣 2 ps·1 r·1 (claims· .2) (claims· .3) "tables::checks::long") (known2 : Plain.Known 𝓤 H A W 𝓣 1 ps·2 r·2 (claims· .4) (claims· .5) "tables::internal::span_at") (known3 : Plain.Known 𝓤 H A W 𝓣 1 ps·3 r·3 (claims· .6) (claims· .7) "tables::checks::starts_sound") (known4 : Plain.Known 𝓤 H A W 𝓣 1 ps·4 r·4 (claims· .8) (claims· .9) "tables::checks::rows_sound") (known5 : Plain.Known 𝓤 H A W 𝓣 2 ps·5 r·5 (claims· .10) (claims· .11) "tables::checks::lists_sound") → Statement.Triple 𝓤 (Wp.WpFn 𝓤 H (𝓣 .C) (𝓣 .Λ) (Function.fnOf 3 ps r xs m hs body)) (Function.plainOf 𝓤 H A 3 ps r Pre· Post·)
 
     module _ where
       abbrev at0 : Typed.TF T10 O1
@@ -700,7 +694,7 @@ module _ (claims· : Claims) where
       at46 = λ Ψ. Typed.both s10 (at45 Ψ)
 
       abbrev at47 : Typed.TF T6 O0
-      at47 = λ Ψ. Typed.both s9 (at46 Ψ)
+      at47 = λ Ψ. Typed.pass T6 T12 s9 (at46 Ψ)
 
       abbrev at48 : Typed.TF T5 O0
       at48 = λ Ψ. at7 (Typed.wantNext T6 O0 (at47 Ψ) Ψ)
@@ -722,7 +716,7 @@ module _ (claims· : Claims) where
 
       module _ {M : Type 1} (𝓤 : URA.URA M) (H : Wp.Heap 𝓤) (A : Atoms.Atoms 𝓤) (W : Kit.Given 𝓤 H A) (𝓣 : Wp.Tables 𝓤 H) where
         abbrev Knowns : Type 1
-        Knowns = Plain.Known 𝓤 H A W 𝓣 0 ps·0 r·0 (claims· .0) (claims· .1) "tables::checks::size_sound" × Plain.Known 𝓤 H A W 𝓣 1 ps·1 r·1 (claims· .2) (claims· .3) "tables::internal::row_count" × Plain.Known 𝓤 H A W 𝓣 2 ps·2 r·2 (claims· .4) (claims· .5) "tables::checks::long" × Plain.Known 𝓤 H A W 𝓣 1 ps·3 r·3 (claims· .6) (claims· .7) "tables::internal::span_at" × Plain.Known 𝓤 H A W 𝓣 1 ps·4 r·4 (claims· .8) (claims· .9) "tables::checks::starts_sound" × Plain.Known 𝓤 H A W 𝓣 1 ps·5 r·5 (claims· .10) (claims· .11) "tables::checks::rows_sound" × Plain.Known 𝓤 H A W 𝓣 2 ps·6 r·6 (claims· .12) (claims· .13) "tables::checks::lists_sound"
+        Knowns = Plain.Known 𝓤 H A W 𝓣 0 ps·0 r·0 (claims· .0) (claims· .1) "tables::checks::size_sound" × Plain.Known 𝓤 H A W 𝓣 2 ps·1 r·1 (claims· .2) (claims· .3) "tables::checks::long" × Plain.Known 𝓤 H A W 𝓣 1 ps·2 r·2 (claims· .4) (claims· .5) "tables::internal::span_at" × Plain.Known 𝓤 H A W 𝓣 1 ps·3 r·3 (claims· .6) (claims· .7) "tables::checks::starts_sound" × Plain.Known 𝓤 H A W 𝓣 1 ps·4 r·4 (claims· .8) (claims· .9) "tables::checks::rows_sound" × Plain.Known 𝓤 H A W 𝓣 2 ps·5 r·5 (claims· .10) (claims· .11) "tables::checks::lists_sound"
 
       module _ (κs : Lifetimes.Lfts 3) (qs : Lifetimes.Shares 3) where
         abbrev G0 : Row.Cx
@@ -973,7 +967,7 @@ module _ (claims· : Claims) where
           d33 = Typed.g-pre 𝓤 H A W 𝓣 E G40 G41 b31 Δ0 (Typed.pass T40 T41 s35) at32 (Scalar.g-room 𝓤 H A W E G40 1 ty·3 (Local.room-whole 𝓤 H A W (Declared.row Size.the-type) ty·3 Path'.refl)) d32
 
           d34 : Typed.Typed 𝓤 H A 𝓣 E G34 b32 Δ0 at34
-          d34 = Typed.s-seq 𝓤 H A W 𝓣 E G34 G40 b30 b31 Δ0 (Typed.both s34) at33 (Plain.t-call-plain 𝓤 H A W 𝓣 2 ps·6 r·6 (claims· .12) (claims· .13) "tables::checks::lists_sound" (known .6) E (λ pos β. β) G34 (record { pos = 1; st = List.[]; d = 0; at = λ x. x }, (record { pos = 3; ty = Syntax.tyRef (Syntax.named 1) Syntax.imm (Syntax.tyInt Syntax.w16); ref = λ x. x }, (record { pos = 4; ty = Syntax.tyRef (Syntax.named 2) Syntax.imm (Syntax.tyInt Syntax.w16); ref = λ x. x }, tt))) 0 (List._∷_ 1 (List._∷_ 2 List.[])) (Call.sub-id 𝓤 H A W (G34 .slots)) ((Yields.yields-copy 𝓤 H A W (λ ρ. Unit) (Declared.row Size.the-type) Path'.refl (Copies.cStruct Size.the-type Laws.the-laws Laws.the-copy .copy 𝓤 H A W) (Rows.whole (Declared.row Size.the-type)) (λ x. x) (λ x. x) (λ ρ told. Local.mem-whole 𝓤 H A W (Declared.row Size.the-type) ρ) λ ρ told. Local.whole-mem 𝓤 H A W (Declared.row Size.the-type) ρ, Path'.refl), (ShrSlice.spares-sslice 𝓤 H A W (Referent.rtF (Referent.fInt Syntax.w16)) ty·0 1, Shared.reads-sslice 𝓤 H A W (Referent.rtF (Referent.fInt Syntax.w16)) ty·0 1, Path'.refl, (ShrSlice.spares-sslice 𝓤 H A W (Referent.rtF (Referent.fInt Syntax.w16)) ty·1 2, Shared.reads-sslice 𝓤 H A W (Referent.rtF (Referent.fInt Syntax.w16)) ty·1 2, Path'.refl, tt))) (Reads'.room-gone 𝓤 H A Syntax.tyBool) (tt, (tt, tt)) Path'.refl) d33
+          d34 = Typed.s-seq 𝓤 H A W 𝓣 E G34 G40 b30 b31 Δ0 (Typed.both s34) at33 (Plain.t-call-plain 𝓤 H A W 𝓣 2 ps·5 r·5 (claims· .10) (claims· .11) "tables::checks::lists_sound" (known .5) E (λ pos β. β) G34 (record { pos = 1; st = List.[]; d = 0; at = λ x. x }, (record { pos = 3; ty = Syntax.tyRef (Syntax.named 1) Syntax.imm (Syntax.tyInt Syntax.w16); ref = λ x. x }, (record { pos = 4; ty = Syntax.tyRef (Syntax.named 2) Syntax.imm (Syntax.tyInt Syntax.w16); ref = λ x. x }, tt))) 0 (List._∷_ 1 (List._∷_ 2 List.[])) (Call.sub-id 𝓤 H A W (G34 .slots)) ((Yields.yields-copy 𝓤 H A W (λ ρ. Unit) (Declared.row Size.the-type) Path'.refl (Copies.cStruct Size.the-type Laws.the-laws Laws.the-copy .copy 𝓤 H A W) (Rows.whole (Declared.row Size.the-type)) (λ x. x) (λ x. x) (λ ρ told. Local.mem-whole 𝓤 H A W (Declared.row Size.the-type) ρ) λ ρ told. Local.whole-mem 𝓤 H A W (Declared.row Size.the-type) ρ, Path'.refl), (ShrSlice.spares-sslice 𝓤 H A W (Referent.rtF (Referent.fInt Syntax.w16)) ty·0 1, Shared.reads-sslice 𝓤 H A W (Referent.rtF (Referent.fInt Syntax.w16)) ty·0 1, Path'.refl, (ShrSlice.spares-sslice 𝓤 H A W (Referent.rtF (Referent.fInt Syntax.w16)) ty·1 2, Shared.reads-sslice 𝓤 H A W (Referent.rtF (Referent.fInt Syntax.w16)) ty·1 2, Path'.refl, tt))) (Reads'.room-gone 𝓤 H A Syntax.tyBool) (tt, (tt, tt)) Path'.refl) d33
 
           d35 : Typed.Typed 𝓤 H A 𝓣 E G33 b33 Δ0 at35
           d35 = Typed.t-seq 𝓤 H A W 𝓣 E G33 G34 b29 b32 Δ0 at31 at34 d31 d34
@@ -982,7 +976,7 @@ module _ (claims· : Claims) where
           d36 = Typed.s-seq 𝓤 H A W 𝓣 E G32 G33 b24 b33 Δ0 (Typed.ask s28) at35 (Scalar.t-op1 𝓤 H A W E 𝓣 G32 Syntax.bitNot (Scalar.oAt 6 Syntax.tyBool (Row.valS Row.sBool)) 7 (Rows.sc-here Row.sBool) Syntax.tyBool (Row.valS Row.sBool) (Row.sBool .of) (Scalar.reads-sc 𝓤 H A W Row.sBool, Path'.refl) (Reads'.room-gone 𝓤 H A Syntax.tyBool) (Scalar.holds-sc 𝓤 H A W Row.sBool) Path'.refl (λ u. Path'.refl) λ u. tt) d35
 
           d37 : Typed.Typed 𝓤 H A 𝓣 E G26 b35 Δ0 at37
-          d37 = Typed.s-seq 𝓤 H A W 𝓣 E G26 G32 b23 b34 Δ0 (Typed.both s27) at36 (Plain.t-call-plain 𝓤 H A W 𝓣 1 ps·5 r·5 (claims· .10) (claims· .11) "tables::checks::rows_sound" (known .5) E (λ pos β. β) G26 (record { pos = 1; st = List.[]; d = 0; at = λ x. x }, (record { pos = 2; ty = Syntax.tyRef (Syntax.named 0) Syntax.imm (Memory.pointee (T.the-row .written)); ref = λ x. x }, tt)) 6 (List._∷_ 0 List.[]) (Call.sub-id 𝓤 H A W (G26 .slots)) ((Yields.yields-copy 𝓤 H A W (λ ρ. Unit) (Declared.row Size.the-type) Path'.refl (Copies.cStruct Size.the-type Laws.the-laws Laws.the-copy .copy 𝓤 H A W) (Rows.whole (Declared.row Size.the-type)) (λ x. x) (λ x. x) (λ ρ told. Local.mem-whole 𝓤 H A W (Declared.row Size.the-type) ρ) λ ρ told. Local.whole-mem 𝓤 H A W (Declared.row Size.the-type) ρ, Path'.refl), (ShrSlice.spares-sslice 𝓤 H A W T.the-row ty·2 0, Shared.reads-sslice 𝓤 H A W T.the-row ty·2 0, Path'.refl, tt)) (Reads'.room-gone 𝓤 H A Syntax.tyBool) (tt, tt) Path'.refl) d36
+          d37 = Typed.s-seq 𝓤 H A W 𝓣 E G26 G32 b23 b34 Δ0 (Typed.both s27) at36 (Plain.t-call-plain 𝓤 H A W 𝓣 1 ps·4 r·4 (claims· .8) (claims· .9) "tables::checks::rows_sound" (known .4) E (λ pos β. β) G26 (record { pos = 1; st = List.[]; d = 0; at = λ x. x }, (record { pos = 2; ty = Syntax.tyRef (Syntax.named 0) Syntax.imm (Memory.pointee (T.the-row .written)); ref = λ x. x }, tt)) 6 (List._∷_ 0 List.[]) (Call.sub-id 𝓤 H A W (G26 .slots)) ((Yields.yields-copy 𝓤 H A W (λ ρ. Unit) (Declared.row Size.the-type) Path'.refl (Copies.cStruct Size.the-type Laws.the-laws Laws.the-copy .copy 𝓤 H A W) (Rows.whole (Declared.row Size.the-type)) (λ x. x) (λ x. x) (λ ρ told. Local.mem-whole 𝓤 H A W (Declared.row Size.the-type) ρ) λ ρ told. Local.whole-mem 𝓤 H A W (Declared.row Size.the-type) ρ, Path'.refl), (ShrSlice.spares-sslice 𝓤 H A W T.the-row ty·2 0, Shared.reads-sslice 𝓤 H A W T.the-row ty·2 0, Path'.refl, tt)) (Reads'.room-gone 𝓤 H A Syntax.tyBool) (tt, tt) Path'.refl) d36
 
           d38 : Typed.Typed 𝓤 H A 𝓣 E G25 b36 Δ0 at38
           d38 = Typed.t-seq 𝓤 H A W 𝓣 E G25 G26 b22 b35 Δ0 at23 at37 d23 d37
@@ -994,10 +988,10 @@ module _ (claims· : Claims) where
           d40 = Typed.g-pre 𝓤 H A W 𝓣 E G23 G24 b37 Δ0 (Typed.pass T23 T24 s20) at39 (Scalar.g-room 𝓤 H A W E G23 5 ty·4 (Local.room-whole 𝓤 H A W (Declared.row Span.the-type) ty·4 Path'.refl)) d39
 
           d41 : Typed.Typed 𝓤 H A 𝓣 E G22 b38 Δ0 at41
-          d41 = Typed.s-seq 𝓤 H A W 𝓣 E G22 G23 b16 b37 Δ0 (Typed.both s19) at40 (Plain.t-call-plain 𝓤 H A W 𝓣 1 ps·4 r·4 (claims· .8) (claims· .9) "tables::checks::starts_sound" (known .4) E (λ pos β. β) G22 (record { pos = 1; st = List.[]; d = 0; at = λ x. x }, (Num.vFld 5 (List._∷_ (Syntax.field 1) List.[]) 8 λ x. Span.struct .as-values x .1 .0, (record { pos = 3; ty = Syntax.tyRef (Syntax.named 1) Syntax.imm (Syntax.tyInt Syntax.w16); ref = λ x. x }, tt))) 6 (List._∷_ 1 List.[]) (Call.sub-id 𝓤 H A W (G22 .slots)) ((Yields.yields-copy 𝓤 H A W (λ ρ. Unit) (Declared.row Size.the-type) Path'.refl (Copies.cStruct Size.the-type Laws.the-laws Laws.the-copy .copy 𝓤 H A W) (Rows.whole (Declared.row Size.the-type)) (λ x. x) (λ x. x) (λ ρ told. Local.mem-whole 𝓤 H A W (Declared.row Size.the-type) ρ) λ ρ told. Local.whole-mem 𝓤 H A W (Declared.row Size.the-type) ρ, Path'.refl), ((Reads.reads-field 𝓤 H A W Span.the-type Laws'.the-laws 1 (Syntax.tyInt Syntax.w64) 8 Path'.refl, Path'.refl), (ShrSlice.spares-sslice 𝓤 H A W (Referent.rtF (Referent.fInt Syntax.w16)) ty·0 1, Shared.reads-sslice 𝓤 H A W (Referent.rtF (Referent.fInt Syntax.w16)) ty·0 1, Path'.refl, tt))) (Reads'.room-gone 𝓤 H A Syntax.tyBool) (tt, tt) Path'.refl) d40
+          d41 = Typed.s-seq 𝓤 H A W 𝓣 E G22 G23 b16 b37 Δ0 (Typed.both s19) at40 (Plain.t-call-plain 𝓤 H A W 𝓣 1 ps·3 r·3 (claims· .6) (claims· .7) "tables::checks::starts_sound" (known .3) E (λ pos β. β) G22 (record { pos = 1; st = List.[]; d = 0; at = λ x. x }, (Num.vFld 5 (List._∷_ (Syntax.field 1) List.[]) 8 λ x. Span.struct .as-values x .1 .0, (record { pos = 3; ty = Syntax.tyRef (Syntax.named 1) Syntax.imm (Syntax.tyInt Syntax.w16); ref = λ x. x }, tt))) 6 (List._∷_ 1 List.[]) (Call.sub-id 𝓤 H A W (G22 .slots)) ((Yields.yields-copy 𝓤 H A W (λ ρ. Unit) (Declared.row Size.the-type) Path'.refl (Copies.cStruct Size.the-type Laws.the-laws Laws.the-copy .copy 𝓤 H A W) (Rows.whole (Declared.row Size.the-type)) (λ x. x) (λ x. x) (λ ρ told. Local.mem-whole 𝓤 H A W (Declared.row Size.the-type) ρ) λ ρ told. Local.whole-mem 𝓤 H A W (Declared.row Size.the-type) ρ, Path'.refl), ((Reads.reads-field 𝓤 H A W Span.the-type Laws'.the-laws 1 (Syntax.tyInt Syntax.w64) 8 Path'.refl, Path'.refl), (ShrSlice.spares-sslice 𝓤 H A W (Referent.rtF (Referent.fInt Syntax.w16)) ty·0 1, Shared.reads-sslice 𝓤 H A W (Referent.rtF (Referent.fInt Syntax.w16)) ty·0 1, Path'.refl, tt))) (Reads'.room-gone 𝓤 H A Syntax.tyBool) (tt, tt) Path'.refl) d40
 
           d42 : Typed.Typed 𝓤 H A 𝓣 E G16 b39 Δ0 at42
-          d42 = Typed.s-seq 𝓤 H A W 𝓣 E G16 G22 b15 b38 Δ0 (Typed.both s18) at41 (Plain.t-call-plain 𝓤 H A W 𝓣 1 ps·3 r·3 (claims· .6) (claims· .7) "tables::internal::span_at" (known .3) E (λ pos β. β) G16 (record { pos = 1; st = List.[]; d = 0; at = λ x. x }, (record { pos = 2; ty = Syntax.tyRef (Syntax.named 0) Syntax.imm (Memory.pointee (T.the-row .written)); ref = λ x. x }, (Num.vLit 0, tt))) 5 (List._∷_ 0 List.[]) (Call.sub-id 𝓤 H A W (G16 .slots)) ((Yields.yields-copy 𝓤 H A W (λ ρ. Unit) (Declared.row Size.the-type) Path'.refl (Copies.cStruct Size.the-type Laws.the-laws Laws.the-copy .copy 𝓤 H A W) (Rows.whole (Declared.row Size.the-type)) (λ x. x) (λ x. x) (λ ρ told. Local.mem-whole 𝓤 H A W (Declared.row Size.the-type) ρ) λ ρ told. Local.whole-mem 𝓤 H A W (Declared.row Size.the-type) ρ, Path'.refl), (ShrSlice.spares-sslice 𝓤 H A W T.the-row ty·2 0, Shared.reads-sslice 𝓤 H A W T.the-row ty·2 0, Path'.refl, (tt, tt))) (Reads'.room-gone 𝓤 H A ty·4) (tt, tt) Path'.refl) d41
+          d42 = Typed.s-seq 𝓤 H A W 𝓣 E G16 G22 b15 b38 Δ0 (Typed.both s18) at41 (Plain.t-call-plain 𝓤 H A W 𝓣 1 ps·2 r·2 (claims· .4) (claims· .5) "tables::internal::span_at" (known .2) E (λ pos β. β) G16 (record { pos = 1; st = List.[]; d = 0; at = λ x. x }, (record { pos = 2; ty = Syntax.tyRef (Syntax.named 0) Syntax.imm (Memory.pointee (T.the-row .written)); ref = λ x. x }, (Num.vLit 0, tt))) 5 (List._∷_ 0 List.[]) (Call.sub-id 𝓤 H A W (G16 .slots)) ((Yields.yields-copy 𝓤 H A W (λ ρ. Unit) (Declared.row Size.the-type) Path'.refl (Copies.cStruct Size.the-type Laws.the-laws Laws.the-copy .copy 𝓤 H A W) (Rows.whole (Declared.row Size.the-type)) (λ x. x) (λ x. x) (λ ρ told. Local.mem-whole 𝓤 H A W (Declared.row Size.the-type) ρ) λ ρ told. Local.whole-mem 𝓤 H A W (Declared.row Size.the-type) ρ, Path'.refl), (ShrSlice.spares-sslice 𝓤 H A W T.the-row ty·2 0, Shared.reads-sslice 𝓤 H A W T.the-row ty·2 0, Path'.refl, (tt, tt))) (Reads'.room-gone 𝓤 H A ty·4) (tt, tt) Path'.refl) d41
 
           d43 : Typed.Typed 𝓤 H A 𝓣 E G15 b40 Δ0 at43
           d43 = Typed.t-seq 𝓤 H A W 𝓣 E G15 G16 b14 b39 Δ0 at15 at42 d15 d42
@@ -1009,10 +1003,10 @@ module _ (claims· : Claims) where
           d45 = Typed.g-pre 𝓤 H A W 𝓣 E G13 G14 b41 Δ0 (Typed.pass T13 T14 s11) at44 (Scalar.g-room 𝓤 H A W E G13 8 (Syntax.tyInt Syntax.w64) (Scalar.room-sc 𝓤 H A W (Row.sInt Syntax.w64))) d44
 
           d46 : Typed.Typed 𝓤 H A 𝓣 E G12 b42 Δ0 at46
-          d46 = Typed.s-seq 𝓤 H A W 𝓣 E G12 G13 b8 b41 Δ0 (Typed.both s10) at45 (Plain.t-call-plain 𝓤 H A W 𝓣 2 ps·2 r·2 (claims· .4) (claims· .5) "tables::checks::long" (known .2) E (λ pos β. β) G12 (record { pos = 1; st = List.[]; d = 0; at = λ x. x }, (Num.vAt 8 λ x. x, (record { pos = 3; ty = Syntax.tyRef (Syntax.named 1) Syntax.imm (Syntax.tyInt Syntax.w16); ref = λ x. x }, (record { pos = 4; ty = Syntax.tyRef (Syntax.named 2) Syntax.imm (Syntax.tyInt Syntax.w16); ref = λ x. x }, tt)))) 6 (List._∷_ 1 (List._∷_ 2 List.[])) (Call.sub-id 𝓤 H A W (G12 .slots)) ((Yields.yields-copy 𝓤 H A W (λ ρ. Unit) (Declared.row Size.the-type) Path'.refl (Copies.cStruct Size.the-type Laws.the-laws Laws.the-copy .copy 𝓤 H A W) (Rows.whole (Declared.row Size.the-type)) (λ x. x) (λ x. x) (λ ρ told. Local.mem-whole 𝓤 H A W (Declared.row Size.the-type) ρ) λ ρ told. Local.whole-mem 𝓤 H A W (Declared.row Size.the-type) ρ, Path'.refl), ((Scalar.reads-sc 𝓤 H A W (Row.sInt Syntax.w64), Path'.refl), (ShrSlice.spares-sslice 𝓤 H A W (Referent.rtF (Referent.fInt Syntax.w16)) ty·0 1, Shared.reads-sslice 𝓤 H A W (Referent.rtF (Referent.fInt Syntax.w16)) ty·0 1, Path'.refl, (ShrSlice.spares-sslice 𝓤 H A W (Referent.rtF (Referent.fInt Syntax.w16)) ty·1 2, Shared.reads-sslice 𝓤 H A W (Referent.rtF (Referent.fInt Syntax.w16)) ty·1 2, Path'.refl, tt)))) (Reads'.room-gone 𝓤 H A Syntax.tyBool) (tt, (tt, tt)) Path'.refl) d45
+          d46 = Typed.s-seq 𝓤 H A W 𝓣 E G12 G13 b8 b41 Δ0 (Typed.both s10) at45 (Plain.t-call-plain 𝓤 H A W 𝓣 2 ps·1 r·1 (claims· .2) (claims· .3) "tables::checks::long" (known .1) E (λ pos β. β) G12 (record { pos = 1; st = List.[]; d = 0; at = λ x. x }, (Num.vAt 8 λ x. x, (record { pos = 3; ty = Syntax.tyRef (Syntax.named 1) Syntax.imm (Syntax.tyInt Syntax.w16); ref = λ x. x }, (record { pos = 4; ty = Syntax.tyRef (Syntax.named 2) Syntax.imm (Syntax.tyInt Syntax.w16); ref = λ x. x }, tt)))) 6 (List._∷_ 1 (List._∷_ 2 List.[])) (Call.sub-id 𝓤 H A W (G12 .slots)) ((Yields.yields-copy 𝓤 H A W (λ ρ. Unit) (Declared.row Size.the-type) Path'.refl (Copies.cStruct Size.the-type Laws.the-laws Laws.the-copy .copy 𝓤 H A W) (Rows.whole (Declared.row Size.the-type)) (λ x. x) (λ x. x) (λ ρ told. Local.mem-whole 𝓤 H A W (Declared.row Size.the-type) ρ) λ ρ told. Local.whole-mem 𝓤 H A W (Declared.row Size.the-type) ρ, Path'.refl), ((Scalar.reads-sc 𝓤 H A W (Row.sInt Syntax.w64), Path'.refl), (ShrSlice.spares-sslice 𝓤 H A W (Referent.rtF (Referent.fInt Syntax.w16)) ty·0 1, Shared.reads-sslice 𝓤 H A W (Referent.rtF (Referent.fInt Syntax.w16)) ty·0 1, Path'.refl, (ShrSlice.spares-sslice 𝓤 H A W (Referent.rtF (Referent.fInt Syntax.w16)) ty·1 2, Shared.reads-sslice 𝓤 H A W (Referent.rtF (Referent.fInt Syntax.w16)) ty·1 2, Path'.refl, tt)))) (Reads'.room-gone 𝓤 H A Syntax.tyBool) (tt, (tt, tt)) Path'.refl) d45
 
           d47 : Typed.Typed 𝓤 H A 𝓣 E G6 b43 Δ0 at47
-          d47 = Typed.s-seq 𝓤 H A W 𝓣 E G6 G12 b7 b42 Δ0 (Typed.both s9) at46 (Plain.t-call-plain 𝓤 H A W 𝓣 1 ps·1 r·1 (claims· .2) (claims· .3) "tables::internal::row_count" (known .1) E (λ pos β. β) G6 (record { pos = 2; ty = Syntax.tyRef (Syntax.named 0) Syntax.imm (Memory.pointee (T.the-row .written)); ref = λ x. x }, tt) 8 (List._∷_ 0 List.[]) (Call.sub-id 𝓤 H A W (G6 .slots)) (ShrSlice.spares-sslice 𝓤 H A W T.the-row ty·2 0, Shared.reads-sslice 𝓤 H A W T.the-row ty·2 0, Path'.refl, tt) (Reads'.room-gone 𝓤 H A (Syntax.tyInt Syntax.w64)) (tt, tt) Path'.refl) d46
+          d47 = Typed.s-seq 𝓤 H A W 𝓣 E G6 G12 b7 b42 Δ0 (Typed.pass T6 T12 s9) at46 (Scalar.t-use 𝓤 H A W E 𝓣 G6 (Scalar.oFld 2 (List._∷_ (Syntax.field 1) List.[]) (Syntax.tyInt Syntax.w64) 8 Shared.lenV) 8 (Rows.sc-here (Row.sInt Syntax.w64)) (Syntax.tyInt Syntax.w64) (Row.valS (Row.sInt Syntax.w64)) (Row.sInt Syntax.w64 .of) (Shared.reads-sslice-len 𝓤 H A W T.the-row ty·2 0 8 Path'.refl, Path'.refl) (Reads'.room-gone 𝓤 H A (Syntax.tyInt Syntax.w64)) (Scalar.holds-sc 𝓤 H A W (Row.sInt Syntax.w64)) Path'.refl (λ u. Path'.refl) λ u. tt) d46
 
           d48 : Typed.Typed 𝓤 H A 𝓣 E G5 b44 Δ0 at48
           d48 = Typed.t-seq 𝓤 H A W 𝓣 E G5 G6 b6 b43 Δ0 at7 at47 d7 d47
@@ -1133,50 +1127,36 @@ module _ (claims· : Claims) where
         pub before : After-size-sound
         pub if1 : Else1·own before
 
-      abbrev pub Need-row-count-requires : Type 0
-      Need-row-count-requires = (c : Else1) → s9 .asks (m9 (c .before))
-
-      abbrev pub m10 : (before : Else1) → (given : s9 .gives (m9 (before .before))) → Typed.Mo T12
-      m10 = λ before given. s9 .next (m9 (before .before)) given
-
-      module _ (before· : Else1) where
-        abbrev pub After-row-count·own : Type 0
-        After-row-count·own = Called.Called ps·1 r·1 (claims· .3) T6 (record { pos = 2; ty = Syntax.tyRef (Syntax.named 0) Syntax.imm (Memory.pointee (T.the-row .written)); ref = λ x. x }, tt) (m9 (before· .before))
-
-      pub record After-row-count : Type 0 where
-        pub before : Else1
-        pub row-count : After-row-count·own before
-
-      abbrev pub After-row-count·gave : (c : After-row-count) → s9 .gives (m9 (c .before .before))
-      After-row-count·gave = λ c. Called.given ps·1 r·1 (claims· .3) T6 (record { pos = 2; ty = Syntax.tyRef (Syntax.named 0) Syntax.imm (Memory.pointee (T.the-row .written)); ref = λ x. x }, tt) (m9 (c .before .before)) (c .row-count)
+      abbrev pub m10 : (before : After-size-sound) → Typed.Mo T12
+      m10 = λ before. s9 (m9 before)
 
       abbrev pub Need-long-requires : Type 0
-      Need-long-requires = (c : After-row-count) → s10 .asks (m10 (c .before) (After-row-count·gave c))
+      Need-long-requires = (c : Else1) → s10 .asks (m10 (c .before))
 
-      abbrev pub m11 : (before : After-row-count) → (given : s10 .gives (m10 (before .before) (After-row-count·gave before))) → Typed.Mo T13
-      m11 = λ before given. s10 .next (m10 (before .before) (After-row-count·gave before)) given
+      abbrev pub m11 : (before : Else1) → (given : s10 .gives (m10 (before .before))) → Typed.Mo T13
+      m11 = λ before given. s10 .next (m10 (before .before)) given
 
-      module _ (before· : After-row-count) where
+      module _ (before· : Else1) where
         abbrev pub After-long·own : Type 0
-        After-long·own = Called.Called ps·2 r·2 (claims· .5) T12 (record { pos = 1; st = List.[]; d = 0; at = λ x. x }, (Num.vAt 8 λ x. x, (record { pos = 3; ty = Syntax.tyRef (Syntax.named 1) Syntax.imm (Syntax.tyInt Syntax.w16); ref = λ x. x }, (record { pos = 4; ty = Syntax.tyRef (Syntax.named 2) Syntax.imm (Syntax.tyInt Syntax.w16); ref = λ x. x }, tt)))) (m10 (before· .before) (After-row-count·gave before·))
+        After-long·own = Called.Called ps·1 r·1 (claims· .3) T12 (record { pos = 1; st = List.[]; d = 0; at = λ x. x }, (Num.vAt 8 λ x. x, (record { pos = 3; ty = Syntax.tyRef (Syntax.named 1) Syntax.imm (Syntax.tyInt Syntax.w16); ref = λ x. x }, (record { pos = 4; ty = Syntax.tyRef (Syntax.named 2) Syntax.imm (Syntax.tyInt Syntax.w16); ref = λ x. x }, tt)))) (m10 (before· .before))
 
       pub record After-long : Type 0 where
-        pub before : After-row-count
+        pub before : Else1
         pub long : After-long·own before
 
-      abbrev pub After-long·gave : (c : After-long) → s10 .gives (m10 (c .before .before) (After-row-count·gave (c .before)))
-      After-long·gave = λ c. Called.given ps·2 r·2 (claims· .5) T12 (record { pos = 1; st = List.[]; d = 0; at = λ x. x }, (Num.vAt 8 λ x. x, (record { pos = 3; ty = Syntax.tyRef (Syntax.named 1) Syntax.imm (Syntax.tyInt Syntax.w16); ref = λ x. x }, (record { pos = 4; ty = Syntax.tyRef (Syntax.named 2) Syntax.imm (Syntax.tyInt Syntax.w16); ref = λ x. x }, tt)))) (m10 (c .before .before) (After-row-count·gave (c .before))) (c .long)
+      abbrev pub After-long·gave : (c : After-long) → s10 .gives (m10 (c .before .before))
+      After-long·gave = λ c. Called.given ps·1 r·1 (claims· .3) T12 (record { pos = 1; st = List.[]; d = 0; at = λ x. x }, (Num.vAt 8 λ x. x, (record { pos = 3; ty = Syntax.tyRef (Syntax.named 1) Syntax.imm (Syntax.tyInt Syntax.w16); ref = λ x. x }, (record { pos = 4; ty = Syntax.tyRef (Syntax.named 2) Syntax.imm (Syntax.tyInt Syntax.w16); ref = λ x. x }, tt)))) (m10 (c .before .before)) (c .long)
 
-      abbrev pub m12 : (before : After-row-count) → (given : s10 .gives (m10 (before .before) (After-row-count·gave before))) → Typed.Mo T14
+      abbrev pub m12 : (before : Else1) → (given : s10 .gives (m10 (before .before))) → Typed.Mo T14
       m12 = λ before given. s11 (m11 before given)
 
-      abbrev pub m13 : (before : After-row-count) → (given : s10 .gives (m10 (before .before) (After-row-count·gave before))) → Typed.Mo T15
+      abbrev pub m13 : (before : Else1) → (given : s10 .gives (m10 (before .before))) → Typed.Mo T15
       m13 = λ before given. s12 .next (m12 before given)
 
-      abbrev W2 : (before : After-row-count) → (given : s10 .gives (m10 (before .before) (After-row-count·gave before))) → Typed.Want O2
-      W2 = λ before given. Typed.wantNext T16 O0 (at42 (W0 (before .before .before .before .before .before .κs) (before .before .before .before .before .before .args))) (W0 (before .before .before .before .before .before .κs) (before .before .before .before .before .before .args))
+      abbrev W2 : (before : Else1) → (given : s10 .gives (m10 (before .before))) → Typed.Want O2
+      W2 = λ before given. Typed.wantNext T16 O0 (at42 (W0 (before .before .before .before .before .κs) (before .before .before .before .before .args))) (W0 (before .before .before .before .before .κs) (before .before .before .before .before .args))
 
-      abbrev pub m14 : (before : After-row-count) → (given : s10 .gives (m10 (before .before) (After-row-count·gave before))) → Typed.Mo T17
+      abbrev pub m14 : (before : Else1) → (given : s10 .gives (m10 (before .before))) → Typed.Mo T17
       m14 = λ before given. s13 (m13 before given)
 
       abbrev pub m15 : (before : After-long) → Typed.Mo T18
@@ -1197,7 +1177,7 @@ module _ (claims· : Claims) where
         pub if2 : Then2·own before
 
       abbrev pub Need-returns-2 : Type 0
-      Need-returns-2 = (c : Then2) → Post· (c .before .before .before .before .before .before .before .κs) (dens (c .before .before .before .before .before .before .before .κs) (c .before .before .before .before .before .before .before .args)) (Function.resV r (c .before .before .before .before .before .before .before .κs) (m17 (c .before) .0)) (Clauses.atExit (Kinds.endedOf 3 ps r) (c .before .before .before .before .before .before .before .κs) (dens (c .before .before .before .before .before .before .before .κs) (c .before .before .before .before .before .before .before .args)) (Enter.lastsP (c .before .before .before .before .before .before .before .κs) 1 ps xs (dens (c .before .before .before .before .before .before .before .κs) (c .before .before .before .before .before .before .before .args)) (m17 (c .before) .1)))
+      Need-returns-2 = (c : Then2) → Post· (c .before .before .before .before .before .before .κs) (dens (c .before .before .before .before .before .before .κs) (c .before .before .before .before .before .before .args)) (Function.resV r (c .before .before .before .before .before .before .κs) (m17 (c .before) .0)) (Clauses.atExit (Kinds.endedOf 3 ps r) (c .before .before .before .before .before .before .κs) (dens (c .before .before .before .before .before .before .κs) (c .before .before .before .before .before .before .args)) (Enter.lastsP (c .before .before .before .before .before .before .κs) 1 ps xs (dens (c .before .before .before .before .before .before .κs) (c .before .before .before .before .before .before .args)) (m17 (c .before) .1)))
 
       abbrev pub m18 : (before : After-long) → Typed.Mo T21
       m18 = λ before. s17 (m14 (before .before) (After-long·gave before))
@@ -1218,14 +1198,14 @@ module _ (claims· : Claims) where
 
       module _ (before· : Else2) where
         abbrev pub After-span-at·own : Type 0
-        After-span-at·own = Called.Called ps·3 r·3 (claims· .7) T16 (record { pos = 1; st = List.[]; d = 0; at = λ x. x }, (record { pos = 2; ty = Syntax.tyRef (Syntax.named 0) Syntax.imm (Memory.pointee (T.the-row .written)); ref = λ x. x }, (Num.vLit 0, tt))) (m18 (before· .before))
+        After-span-at·own = Called.Called ps·2 r·2 (claims· .5) T16 (record { pos = 1; st = List.[]; d = 0; at = λ x. x }, (record { pos = 2; ty = Syntax.tyRef (Syntax.named 0) Syntax.imm (Memory.pointee (T.the-row .written)); ref = λ x. x }, (Num.vLit 0, tt))) (m18 (before· .before))
 
       pub record After-span-at : Type 0 where
         pub before : Else2
         pub span-at : After-span-at·own before
 
       abbrev pub After-span-at·gave : (c : After-span-at) → s18 .gives (m18 (c .before .before))
-      After-span-at·gave = λ c. Called.given ps·3 r·3 (claims· .7) T16 (record { pos = 1; st = List.[]; d = 0; at = λ x. x }, (record { pos = 2; ty = Syntax.tyRef (Syntax.named 0) Syntax.imm (Memory.pointee (T.the-row .written)); ref = λ x. x }, (Num.vLit 0, tt))) (m18 (c .before .before)) (c .span-at)
+      After-span-at·gave = λ c. Called.given ps·2 r·2 (claims· .5) T16 (record { pos = 1; st = List.[]; d = 0; at = λ x. x }, (record { pos = 2; ty = Syntax.tyRef (Syntax.named 0) Syntax.imm (Memory.pointee (T.the-row .written)); ref = λ x. x }, (Num.vLit 0, tt))) (m18 (c .before .before)) (c .span-at)
 
       abbrev pub Need-starts-sound-requires : Type 0
       Need-starts-sound-requires = (c : After-span-at) → s19 .asks (m19 (c .before) (After-span-at·gave c))
@@ -1235,14 +1215,14 @@ module _ (claims· : Claims) where
 
       module _ (before· : After-span-at) where
         abbrev pub After-starts-sound·own : Type 0
-        After-starts-sound·own = Called.Called ps·4 r·4 (claims· .9) T22 (record { pos = 1; st = List.[]; d = 0; at = λ x. x }, (Num.vFld 5 (List._∷_ (Syntax.field 1) List.[]) 8 λ x. Span.struct .as-values x .1 .0, (record { pos = 3; ty = Syntax.tyRef (Syntax.named 1) Syntax.imm (Syntax.tyInt Syntax.w16); ref = λ x. x }, tt))) (m19 (before· .before) (After-span-at·gave before·))
+        After-starts-sound·own = Called.Called ps·3 r·3 (claims· .7) T22 (record { pos = 1; st = List.[]; d = 0; at = λ x. x }, (Num.vFld 5 (List._∷_ (Syntax.field 1) List.[]) 8 λ x. Span.struct .as-values x .1 .0, (record { pos = 3; ty = Syntax.tyRef (Syntax.named 1) Syntax.imm (Syntax.tyInt Syntax.w16); ref = λ x. x }, tt))) (m19 (before· .before) (After-span-at·gave before·))
 
       pub record After-starts-sound : Type 0 where
         pub before : After-span-at
         pub starts-sound : After-starts-sound·own before
 
       abbrev pub After-starts-sound·gave : (c : After-starts-sound) → s19 .gives (m19 (c .before .before) (After-span-at·gave (c .before)))
-      After-starts-sound·gave = λ c. Called.given ps·4 r·4 (claims· .9) T22 (record { pos = 1; st = List.[]; d = 0; at = λ x. x }, (Num.vFld 5 (List._∷_ (Syntax.field 1) List.[]) 8 λ x. Span.struct .as-values x .1 .0, (record { pos = 3; ty = Syntax.tyRef (Syntax.named 1) Syntax.imm (Syntax.tyInt Syntax.w16); ref = λ x. x }, tt))) (m19 (c .before .before) (After-span-at·gave (c .before))) (c .starts-sound)
+      After-starts-sound·gave = λ c. Called.given ps·3 r·3 (claims· .7) T22 (record { pos = 1; st = List.[]; d = 0; at = λ x. x }, (Num.vFld 5 (List._∷_ (Syntax.field 1) List.[]) 8 λ x. Span.struct .as-values x .1 .0, (record { pos = 3; ty = Syntax.tyRef (Syntax.named 1) Syntax.imm (Syntax.tyInt Syntax.w16); ref = λ x. x }, tt))) (m19 (c .before .before) (After-span-at·gave (c .before))) (c .starts-sound)
 
       abbrev pub m21 : (before : After-span-at) → (given : s19 .gives (m19 (before .before) (After-span-at·gave before))) → Typed.Mo T24
       m21 = λ before given. s20 (m20 before given)
@@ -1251,7 +1231,7 @@ module _ (claims· : Claims) where
       m22 = λ before given. s21 .next (m21 before given)
 
       abbrev W3 : (before : After-span-at) → (given : s19 .gives (m19 (before .before) (After-span-at·gave before))) → Typed.Want O3
-      W3 = λ before given. Typed.wantNext T26 O0 (at37 (W0 (before .before .before .before .before .before .before .before .before .κs) (before .before .before .before .before .before .before .before .before .args))) (W0 (before .before .before .before .before .before .before .before .before .κs) (before .before .before .before .before .before .before .before .before .args))
+      W3 = λ before given. Typed.wantNext T26 O0 (at37 (W0 (before .before .before .before .before .before .before .before .κs) (before .before .before .before .before .before .before .before .args))) (W0 (before .before .before .before .before .before .before .before .κs) (before .before .before .before .before .before .before .before .args))
 
       abbrev pub m23 : (before : After-span-at) → (given : s19 .gives (m19 (before .before) (After-span-at·gave before))) → Typed.Mo T27
       m23 = λ before given. s22 (m22 before given)
@@ -1274,7 +1254,7 @@ module _ (claims· : Claims) where
         pub if3 : Then3·own before
 
       abbrev pub Need-returns-3 : Type 0
-      Need-returns-3 = (c : Then3) → Post· (c .before .before .before .before .before .before .before .before .before .before .κs) (dens (c .before .before .before .before .before .before .before .before .before .before .κs) (c .before .before .before .before .before .before .before .before .before .before .args)) (Function.resV r (c .before .before .before .before .before .before .before .before .before .before .κs) (m26 (c .before) .0)) (Clauses.atExit (Kinds.endedOf 3 ps r) (c .before .before .before .before .before .before .before .before .before .before .κs) (dens (c .before .before .before .before .before .before .before .before .before .before .κs) (c .before .before .before .before .before .before .before .before .before .before .args)) (Enter.lastsP (c .before .before .before .before .before .before .before .before .before .before .κs) 1 ps xs (dens (c .before .before .before .before .before .before .before .before .before .before .κs) (c .before .before .before .before .before .before .before .before .before .before .args)) (m26 (c .before) .1)))
+      Need-returns-3 = (c : Then3) → Post· (c .before .before .before .before .before .before .before .before .before .κs) (dens (c .before .before .before .before .before .before .before .before .before .κs) (c .before .before .before .before .before .before .before .before .before .args)) (Function.resV r (c .before .before .before .before .before .before .before .before .before .κs) (m26 (c .before) .0)) (Clauses.atExit (Kinds.endedOf 3 ps r) (c .before .before .before .before .before .before .before .before .before .κs) (dens (c .before .before .before .before .before .before .before .before .before .κs) (c .before .before .before .before .before .before .before .before .before .args)) (Enter.lastsP (c .before .before .before .before .before .before .before .before .before .κs) 1 ps xs (dens (c .before .before .before .before .before .before .before .before .before .κs) (c .before .before .before .before .before .before .before .before .before .args)) (m26 (c .before) .1)))
 
       abbrev pub m27 : (before : After-starts-sound) → Typed.Mo T31
       m27 = λ before. s26 (m23 (before .before) (After-starts-sound·gave before))
@@ -1295,20 +1275,20 @@ module _ (claims· : Claims) where
 
       module _ (before· : Else3) where
         abbrev pub After-rows-sound·own : Type 0
-        After-rows-sound·own = Called.Called ps·5 r·5 (claims· .11) T26 (record { pos = 1; st = List.[]; d = 0; at = λ x. x }, (record { pos = 2; ty = Syntax.tyRef (Syntax.named 0) Syntax.imm (Memory.pointee (T.the-row .written)); ref = λ x. x }, tt)) (m27 (before· .before))
+        After-rows-sound·own = Called.Called ps·4 r·4 (claims· .9) T26 (record { pos = 1; st = List.[]; d = 0; at = λ x. x }, (record { pos = 2; ty = Syntax.tyRef (Syntax.named 0) Syntax.imm (Memory.pointee (T.the-row .written)); ref = λ x. x }, tt)) (m27 (before· .before))
 
       pub record After-rows-sound : Type 0 where
         pub before : Else3
         pub rows-sound : After-rows-sound·own before
 
       abbrev pub After-rows-sound·gave : (c : After-rows-sound) → s27 .gives (m27 (c .before .before))
-      After-rows-sound·gave = λ c. Called.given ps·5 r·5 (claims· .11) T26 (record { pos = 1; st = List.[]; d = 0; at = λ x. x }, (record { pos = 2; ty = Syntax.tyRef (Syntax.named 0) Syntax.imm (Memory.pointee (T.the-row .written)); ref = λ x. x }, tt)) (m27 (c .before .before)) (c .rows-sound)
+      After-rows-sound·gave = λ c. Called.given ps·4 r·4 (claims· .9) T26 (record { pos = 1; st = List.[]; d = 0; at = λ x. x }, (record { pos = 2; ty = Syntax.tyRef (Syntax.named 0) Syntax.imm (Memory.pointee (T.the-row .written)); ref = λ x. x }, tt)) (m27 (c .before .before)) (c .rows-sound)
 
       abbrev pub m29 : (before : Else3) → (given : s27 .gives (m27 (before .before))) → Typed.Mo T33
       m29 = λ before given. s28 .next (m28 before given)
 
       abbrev W4 : (before : Else3) → (given : s27 .gives (m27 (before .before))) → Typed.Want O4
-      W4 = λ before given. Typed.wantNext T34 O0 (at34 (W0 (before .before .before .before .before .before .before .before .before .before .before .κs) (before .before .before .before .before .before .before .before .before .before .before .args))) (W0 (before .before .before .before .before .before .before .before .before .before .before .κs) (before .before .before .before .before .before .before .before .before .before .before .args))
+      W4 = λ before given. Typed.wantNext T34 O0 (at34 (W0 (before .before .before .before .before .before .before .before .before .before .κs) (before .before .before .before .before .before .before .before .before .before .args))) (W0 (before .before .before .before .before .before .before .before .before .before .κs) (before .before .before .before .before .before .before .before .before .before .args))
 
       abbrev pub m30 : (before : Else3) → (given : s27 .gives (m27 (before .before))) → Typed.Mo T35
       m30 = λ before given. s29 (m29 before given)
@@ -1331,7 +1311,7 @@ module _ (claims· : Claims) where
         pub if4 : Then4·own before
 
       abbrev pub Need-returns-4 : Type 0
-      Need-returns-4 = (c : Then4) → Post· (c .before .before .before .before .before .before .before .before .before .before .before .before .κs) (dens (c .before .before .before .before .before .before .before .before .before .before .before .before .κs) (c .before .before .before .before .before .before .before .before .before .before .before .before .args)) (Function.resV r (c .before .before .before .before .before .before .before .before .before .before .before .before .κs) (m33 (c .before) .0)) (Clauses.atExit (Kinds.endedOf 3 ps r) (c .before .before .before .before .before .before .before .before .before .before .before .before .κs) (dens (c .before .before .before .before .before .before .before .before .before .before .before .before .κs) (c .before .before .before .before .before .before .before .before .before .before .before .before .args)) (Enter.lastsP (c .before .before .before .before .before .before .before .before .before .before .before .before .κs) 1 ps xs (dens (c .before .before .before .before .before .before .before .before .before .before .before .before .κs) (c .before .before .before .before .before .before .before .before .before .before .before .before .args)) (m33 (c .before) .1)))
+      Need-returns-4 = (c : Then4) → Post· (c .before .before .before .before .before .before .before .before .before .before .before .κs) (dens (c .before .before .before .before .before .before .before .before .before .before .before .κs) (c .before .before .before .before .before .before .before .before .before .before .before .args)) (Function.resV r (c .before .before .before .before .before .before .before .before .before .before .before .κs) (m33 (c .before) .0)) (Clauses.atExit (Kinds.endedOf 3 ps r) (c .before .before .before .before .before .before .before .before .before .before .before .κs) (dens (c .before .before .before .before .before .before .before .before .before .before .before .κs) (c .before .before .before .before .before .before .before .before .before .before .before .args)) (Enter.lastsP (c .before .before .before .before .before .before .before .before .before .before .before .κs) 1 ps xs (dens (c .before .before .before .before .before .before .before .before .before .before .before .κs) (c .before .before .before .before .before .before .before .before .before .before .before .args)) (m33 (c .before) .1)))
 
       abbrev pub m34 : (before : After-rows-sound) → Typed.Mo T39
       m34 = λ before. s33 (m30 (before .before) (After-rows-sound·gave before))
@@ -1352,51 +1332,48 @@ module _ (claims· : Claims) where
 
       module _ (before· : Else4) where
         abbrev pub After-lists-sound·own : Type 0
-        After-lists-sound·own = Called.Called ps·6 r·6 (claims· .13) T34 (record { pos = 1; st = List.[]; d = 0; at = λ x. x }, (record { pos = 3; ty = Syntax.tyRef (Syntax.named 1) Syntax.imm (Syntax.tyInt Syntax.w16); ref = λ x. x }, (record { pos = 4; ty = Syntax.tyRef (Syntax.named 2) Syntax.imm (Syntax.tyInt Syntax.w16); ref = λ x. x }, tt))) (m34 (before· .before))
+        After-lists-sound·own = Called.Called ps·5 r·5 (claims· .11) T34 (record { pos = 1; st = List.[]; d = 0; at = λ x. x }, (record { pos = 3; ty = Syntax.tyRef (Syntax.named 1) Syntax.imm (Syntax.tyInt Syntax.w16); ref = λ x. x }, (record { pos = 4; ty = Syntax.tyRef (Syntax.named 2) Syntax.imm (Syntax.tyInt Syntax.w16); ref = λ x. x }, tt))) (m34 (before· .before))
 
       pub record After-lists-sound : Type 0 where
         pub before : Else4
         pub lists-sound : After-lists-sound·own before
 
       abbrev pub After-lists-sound·gave : (c : After-lists-sound) → s34 .gives (m34 (c .before .before))
-      After-lists-sound·gave = λ c. Called.given ps·6 r·6 (claims· .13) T34 (record { pos = 1; st = List.[]; d = 0; at = λ x. x }, (record { pos = 3; ty = Syntax.tyRef (Syntax.named 1) Syntax.imm (Syntax.tyInt Syntax.w16); ref = λ x. x }, (record { pos = 4; ty = Syntax.tyRef (Syntax.named 2) Syntax.imm (Syntax.tyInt Syntax.w16); ref = λ x. x }, tt))) (m34 (c .before .before)) (c .lists-sound)
+      After-lists-sound·gave = λ c. Called.given ps·5 r·5 (claims· .11) T34 (record { pos = 1; st = List.[]; d = 0; at = λ x. x }, (record { pos = 3; ty = Syntax.tyRef (Syntax.named 1) Syntax.imm (Syntax.tyInt Syntax.w16); ref = λ x. x }, (record { pos = 4; ty = Syntax.tyRef (Syntax.named 2) Syntax.imm (Syntax.tyInt Syntax.w16); ref = λ x. x }, tt))) (m34 (c .before .before)) (c .lists-sound)
 
       abbrev pub m36 : (before : Else4) → (given : s34 .gives (m34 (before .before))) → Typed.Mo T41
       m36 = λ before given. s35 (m35 before given)
 
       abbrev pub Need-returns-5 : Type 0
-      Need-returns-5 = (c : After-lists-sound) → Post· (c .before .before .before .before .before .before .before .before .before .before .before .before .before .κs) (dens (c .before .before .before .before .before .before .before .before .before .before .before .before .before .κs) (c .before .before .before .before .before .before .before .before .before .before .before .before .before .args)) (Function.resV r (c .before .before .before .before .before .before .before .before .before .before .before .before .before .κs) (m36 (c .before) (After-lists-sound·gave c) .0)) (Clauses.atExit (Kinds.endedOf 3 ps r) (c .before .before .before .before .before .before .before .before .before .before .before .before .before .κs) (dens (c .before .before .before .before .before .before .before .before .before .before .before .before .before .κs) (c .before .before .before .before .before .before .before .before .before .before .before .before .before .args)) (Enter.lastsP (c .before .before .before .before .before .before .before .before .before .before .before .before .before .κs) 1 ps xs (dens (c .before .before .before .before .before .before .before .before .before .before .before .before .before .κs) (c .before .before .before .before .before .before .before .before .before .before .before .before .before .args)) (m36 (c .before) (After-lists-sound·gave c) .1)))
+      Need-returns-5 = (c : After-lists-sound) → Post· (c .before .before .before .before .before .before .before .before .before .before .before .before .κs) (dens (c .before .before .before .before .before .before .before .before .before .before .before .before .κs) (c .before .before .before .before .before .before .before .before .before .before .before .before .args)) (Function.resV r (c .before .before .before .before .before .before .before .before .before .before .before .before .κs) (m36 (c .before) (After-lists-sound·gave c) .0)) (Clauses.atExit (Kinds.endedOf 3 ps r) (c .before .before .before .before .before .before .before .before .before .before .before .before .κs) (dens (c .before .before .before .before .before .before .before .before .before .before .before .before .κs) (c .before .before .before .before .before .before .before .before .before .before .before .before .args)) (Enter.lastsP (c .before .before .before .before .before .before .before .before .before .before .before .before .κs) 1 ps xs (dens (c .before .before .before .before .before .before .before .before .before .before .before .before .κs) (c .before .before .before .before .before .before .before .before .before .before .before .before .args)) (m36 (c .before) (After-lists-sound·gave c) .1)))
 
-      module _ (size-sound-requires : Need-size-sound-requires) (returns : Need-returns) (row-count-requires : Need-row-count-requires) (long-requires : Need-long-requires) (returns-2 : Need-returns-2) (span-at-requires : Need-span-at-requires) (starts-sound-requires : Need-starts-sound-requires) (returns-3 : Need-returns-3) (rows-sound-requires : Need-rows-sound-requires) (returns-4 : Need-returns-4) (lists-sound-requires : Need-lists-sound-requires) (returns-5 : Need-returns-5) where
-        lay11 : (c : After-lists-sound) → at33 (W0 (c .before .before .before .before .before .before .before .before .before .before .before .before .before .κs) (c .before .before .before .before .before .before .before .before .before .before .before .before .before .args)) (m35 (c .before) (After-lists-sound·gave c))
-        lay11 = λ c. ((tt, (Path'.refl, (Path'.refl, (Path'.refl, tt)))), returns-5 record { before = c .before; lists-sound = c .lists-sound })
+      module _ (size-sound-requires : Need-size-sound-requires) (returns : Need-returns) (long-requires : Need-long-requires) (returns-2 : Need-returns-2) (span-at-requires : Need-span-at-requires) (starts-sound-requires : Need-starts-sound-requires) (returns-3 : Need-returns-3) (rows-sound-requires : Need-rows-sound-requires) (returns-4 : Need-returns-4) (lists-sound-requires : Need-lists-sound-requires) (returns-5 : Need-returns-5) where
+        lay10 : (c : After-lists-sound) → at33 (W0 (c .before .before .before .before .before .before .before .before .before .before .before .before .κs) (c .before .before .before .before .before .before .before .before .before .before .before .before .args)) (m35 (c .before) (After-lists-sound·gave c))
+        lay10 = λ c. ((tt, (Path'.refl, (Path'.refl, (Path'.refl, tt)))), returns-5 record { before = c .before; lists-sound = c .lists-sound })
 
-        lay10 : (c : Else4) → at34 (W0 (c .before .before .before .before .before .before .before .before .before .before .before .before .κs) (c .before .before .before .before .before .before .before .before .before .before .before .before .args)) (m34 (c .before))
-        lay10 = λ c. (lists-sound-requires record { before = c .before; if4 = c .if4 }, λ g. lay11 record { before = record { before = c .before; if4 = c .if4 }; lists-sound = Called.called ps·6 r·6 (claims· .13) T34 (record { pos = 1; st = List.[]; d = 0; at = λ x. x }, (record { pos = 3; ty = Syntax.tyRef (Syntax.named 1) Syntax.imm (Syntax.tyInt Syntax.w16); ref = λ x. x }, (record { pos = 4; ty = Syntax.tyRef (Syntax.named 2) Syntax.imm (Syntax.tyInt Syntax.w16); ref = λ x. x }, tt))) (m34 (c .before)) g })
+        lay9 : (c : Else4) → at34 (W0 (c .before .before .before .before .before .before .before .before .before .before .before .κs) (c .before .before .before .before .before .before .before .before .before .before .before .args)) (m34 (c .before))
+        lay9 = λ c. (lists-sound-requires record { before = c .before; if4 = c .if4 }, λ g. lay10 record { before = record { before = c .before; if4 = c .if4 }; lists-sound = Called.called ps·5 r·5 (claims· .11) T34 (record { pos = 1; st = List.[]; d = 0; at = λ x. x }, (record { pos = 3; ty = Syntax.tyRef (Syntax.named 1) Syntax.imm (Syntax.tyInt Syntax.w16); ref = λ x. x }, (record { pos = 4; ty = Syntax.tyRef (Syntax.named 2) Syntax.imm (Syntax.tyInt Syntax.w16); ref = λ x. x }, tt))) (m34 (c .before)) g })
 
-        lay9 : (c : After-rows-sound) → at36 (W0 (c .before .before .before .before .before .before .before .before .before .before .before .κs) (c .before .before .before .before .before .before .before .before .before .before .before .args)) (m28 (c .before) (After-rows-sound·gave c))
-        lay9 = λ c. (tt, (λ taken. ((tt, (Path'.refl, (Path'.refl, (Path'.refl, tt)))), returns-4 record { before = record { before = c .before; rows-sound = c .rows-sound }; if4 = record { taken = taken } }), λ left. lay10 record { before = record { before = c .before; rows-sound = c .rows-sound }; if4 = record { left = left } }))
+        lay8 : (c : After-rows-sound) → at36 (W0 (c .before .before .before .before .before .before .before .before .before .before .κs) (c .before .before .before .before .before .before .before .before .before .before .args)) (m28 (c .before) (After-rows-sound·gave c))
+        lay8 = λ c. (tt, (λ taken. ((tt, (Path'.refl, (Path'.refl, (Path'.refl, tt)))), returns-4 record { before = record { before = c .before; rows-sound = c .rows-sound }; if4 = record { taken = taken } }), λ left. lay9 record { before = record { before = c .before; rows-sound = c .rows-sound }; if4 = record { left = left } }))
 
-        lay8 : (c : Else3) → at37 (W0 (c .before .before .before .before .before .before .before .before .before .before .κs) (c .before .before .before .before .before .before .before .before .before .before .args)) (m27 (c .before))
-        lay8 = λ c. (rows-sound-requires record { before = c .before; if3 = c .if3 }, λ g. lay9 record { before = record { before = c .before; if3 = c .if3 }; rows-sound = Called.called ps·5 r·5 (claims· .11) T26 (record { pos = 1; st = List.[]; d = 0; at = λ x. x }, (record { pos = 2; ty = Syntax.tyRef (Syntax.named 0) Syntax.imm (Memory.pointee (T.the-row .written)); ref = λ x. x }, tt)) (m27 (c .before)) g })
+        lay7 : (c : Else3) → at37 (W0 (c .before .before .before .before .before .before .before .before .before .κs) (c .before .before .before .before .before .before .before .before .before .args)) (m27 (c .before))
+        lay7 = λ c. (rows-sound-requires record { before = c .before; if3 = c .if3 }, λ g. lay8 record { before = record { before = c .before; if3 = c .if3 }; rows-sound = Called.called ps·4 r·4 (claims· .9) T26 (record { pos = 1; st = List.[]; d = 0; at = λ x. x }, (record { pos = 2; ty = Syntax.tyRef (Syntax.named 0) Syntax.imm (Memory.pointee (T.the-row .written)); ref = λ x. x }, tt)) (m27 (c .before)) g })
 
-        lay7 : (c : After-starts-sound) → at40 (W0 (c .before .before .before .before .before .before .before .before .before .κs) (c .before .before .before .before .before .before .before .before .before .args)) (m20 (c .before) (After-starts-sound·gave c))
-        lay7 = λ c. (tt, (λ taken. ((tt, (Path'.refl, (Path'.refl, (Path'.refl, tt)))), returns-3 record { before = record { before = c .before; starts-sound = c .starts-sound }; if3 = record { taken = taken } }), λ left. lay8 record { before = record { before = c .before; starts-sound = c .starts-sound }; if3 = record { left = left } }))
+        lay6 : (c : After-starts-sound) → at40 (W0 (c .before .before .before .before .before .before .before .before .κs) (c .before .before .before .before .before .before .before .before .args)) (m20 (c .before) (After-starts-sound·gave c))
+        lay6 = λ c. (tt, (λ taken. ((tt, (Path'.refl, (Path'.refl, (Path'.refl, tt)))), returns-3 record { before = record { before = c .before; starts-sound = c .starts-sound }; if3 = record { taken = taken } }), λ left. lay7 record { before = record { before = c .before; starts-sound = c .starts-sound }; if3 = record { left = left } }))
 
-        lay6 : (c : After-span-at) → at41 (W0 (c .before .before .before .before .before .before .before .before .κs) (c .before .before .before .before .before .before .before .before .args)) (m19 (c .before) (After-span-at·gave c))
-        lay6 = λ c. (starts-sound-requires record { before = c .before; span-at = c .span-at }, λ g. lay7 record { before = record { before = c .before; span-at = c .span-at }; starts-sound = Called.called ps·4 r·4 (claims· .9) T22 (record { pos = 1; st = List.[]; d = 0; at = λ x. x }, (Num.vFld 5 (List._∷_ (Syntax.field 1) List.[]) 8 λ x. Span.struct .as-values x .1 .0, (record { pos = 3; ty = Syntax.tyRef (Syntax.named 1) Syntax.imm (Syntax.tyInt Syntax.w16); ref = λ x. x }, tt))) (m19 (c .before) (After-span-at·gave c)) g })
+        lay5 : (c : After-span-at) → at41 (W0 (c .before .before .before .before .before .before .before .κs) (c .before .before .before .before .before .before .before .args)) (m19 (c .before) (After-span-at·gave c))
+        lay5 = λ c. (starts-sound-requires record { before = c .before; span-at = c .span-at }, λ g. lay6 record { before = record { before = c .before; span-at = c .span-at }; starts-sound = Called.called ps·3 r·3 (claims· .7) T22 (record { pos = 1; st = List.[]; d = 0; at = λ x. x }, (Num.vFld 5 (List._∷_ (Syntax.field 1) List.[]) 8 λ x. Span.struct .as-values x .1 .0, (record { pos = 3; ty = Syntax.tyRef (Syntax.named 1) Syntax.imm (Syntax.tyInt Syntax.w16); ref = λ x. x }, tt))) (m19 (c .before) (After-span-at·gave c)) g })
 
-        lay5 : (c : Else2) → at42 (W0 (c .before .before .before .before .before .before .before .κs) (c .before .before .before .before .before .before .before .args)) (m18 (c .before))
-        lay5 = λ c. (span-at-requires record { before = c .before; if2 = c .if2 }, λ g. lay6 record { before = record { before = c .before; if2 = c .if2 }; span-at = Called.called ps·3 r·3 (claims· .7) T16 (record { pos = 1; st = List.[]; d = 0; at = λ x. x }, (record { pos = 2; ty = Syntax.tyRef (Syntax.named 0) Syntax.imm (Memory.pointee (T.the-row .written)); ref = λ x. x }, (Num.vLit 0, tt))) (m18 (c .before)) g })
+        lay4 : (c : Else2) → at42 (W0 (c .before .before .before .before .before .before .κs) (c .before .before .before .before .before .before .args)) (m18 (c .before))
+        lay4 = λ c. (span-at-requires record { before = c .before; if2 = c .if2 }, λ g. lay5 record { before = record { before = c .before; if2 = c .if2 }; span-at = Called.called ps·2 r·2 (claims· .5) T16 (record { pos = 1; st = List.[]; d = 0; at = λ x. x }, (record { pos = 2; ty = Syntax.tyRef (Syntax.named 0) Syntax.imm (Memory.pointee (T.the-row .written)); ref = λ x. x }, (Num.vLit 0, tt))) (m18 (c .before)) g })
 
-        lay4 : (c : After-long) → at45 (W0 (c .before .before .before .before .before .before .κs) (c .before .before .before .before .before .before .args)) (m11 (c .before) (After-long·gave c))
-        lay4 = λ c. (tt, (λ taken. ((tt, (Path'.refl, (Path'.refl, (Path'.refl, tt)))), returns-2 record { before = record { before = c .before; long = c .long }; if2 = record { taken = taken } }), λ left. lay5 record { before = record { before = c .before; long = c .long }; if2 = record { left = left } }))
-
-        lay3 : (c : After-row-count) → at46 (W0 (c .before .before .before .before .before .κs) (c .before .before .before .before .before .args)) (m10 (c .before) (After-row-count·gave c))
-        lay3 = λ c. (long-requires record { before = c .before; row-count = c .row-count }, λ g. lay4 record { before = record { before = c .before; row-count = c .row-count }; long = Called.called ps·2 r·2 (claims· .5) T12 (record { pos = 1; st = List.[]; d = 0; at = λ x. x }, (Num.vAt 8 λ x. x, (record { pos = 3; ty = Syntax.tyRef (Syntax.named 1) Syntax.imm (Syntax.tyInt Syntax.w16); ref = λ x. x }, (record { pos = 4; ty = Syntax.tyRef (Syntax.named 2) Syntax.imm (Syntax.tyInt Syntax.w16); ref = λ x. x }, tt)))) (m10 (c .before) (After-row-count·gave c)) g })
+        lay3 : (c : After-long) → at45 (W0 (c .before .before .before .before .before .κs) (c .before .before .before .before .before .args)) (m11 (c .before) (After-long·gave c))
+        lay3 = λ c. (tt, (λ taken. ((tt, (Path'.refl, (Path'.refl, (Path'.refl, tt)))), returns-2 record { before = record { before = c .before; long = c .long }; if2 = record { taken = taken } }), λ left. lay4 record { before = record { before = c .before; long = c .long }; if2 = record { left = left } }))
 
         lay2 : (c : Else1) → at47 (W0 (c .before .before .before .before .κs) (c .before .before .before .before .args)) (m9 (c .before))
-        lay2 = λ c. (row-count-requires record { before = c .before; if1 = c .if1 }, λ g. lay3 record { before = record { before = c .before; if1 = c .if1 }; row-count = Called.called ps·1 r·1 (claims· .3) T6 (record { pos = 2; ty = Syntax.tyRef (Syntax.named 0) Syntax.imm (Memory.pointee (T.the-row .written)); ref = λ x. x }, tt) (m9 (c .before)) g })
+        lay2 = λ c. (long-requires record { before = c .before; if1 = c .if1 }, λ g. lay3 record { before = record { before = c .before; if1 = c .if1 }; long = Called.called ps·1 r·1 (claims· .3) T12 (record { pos = 1; st = List.[]; d = 0; at = λ x. x }, (Num.vAt 8 λ x. x, (record { pos = 3; ty = Syntax.tyRef (Syntax.named 1) Syntax.imm (Syntax.tyInt Syntax.w16); ref = λ x. x }, (record { pos = 4; ty = Syntax.tyRef (Syntax.named 2) Syntax.imm (Syntax.tyInt Syntax.w16); ref = λ x. x }, tt)))) (m10 (c .before)) g })
 
         lay1 : (c : After-size-sound) → at49 (W0 (c .before .before .before .κs) (c .before .before .before .args)) (m3 (c .before) (After-size-sound·gave c))
         lay1 = λ c. (tt, (λ taken. ((tt, (Path'.refl, (Path'.refl, (Path'.refl, tt)))), returns record { before = record { before = c .before; size-sound = c .size-sound }; if1 = record { taken = taken } }), λ left. lay2 record { before = record { before = c .before; size-sound = c .size-sound }; if1 = record { left = left } }))
@@ -1408,6 +1385,6 @@ module _ (claims· : Claims) where
           pub asked : (a : Kinds.Dens κs ps) → (good : Kinds.GoodsP κs ps a) → (pre : Pre· κs a) → (bs : List.List Nat.ℕ) → Φ (Any.wantQ 3 ps r xs m κs qs a (Post· κs a)) (Function.init 3 ps r xs m κs qs a)
           asked = λ a good pre bs. laid record { κs = κs; args = record { size = a .0; rows = a .1 .0; firsts = a .1 .1 .0; outcomes = a .1 .1 .1 .0 }; good = good; pre = pre }
 
-        module _ {M : Type 1} (𝓤 : URA.URA M) (H : Wp.Heap 𝓤) (A : Atoms.Atoms 𝓤) (W : Kit.Given 𝓤 H A) (𝓣 : Wp.Tables 𝓤 H) (known0 : Plain.Known 𝓤 H A W 𝓣 0 ps·0 r·0 (claims· .0) (claims· .1) "tables::checks::size_sound") (known1 : Plain.Known 𝓤 H A W 𝓣 1 ps·1 r·1 (claims· .2) (claims· .3) "tables::internal::row_count") (known2 : Plain.Known 𝓤 H A W 𝓣 2 ps·2 r·2 (claims· .4) (claims· .5) "tables::checks::long") (known3 : Plain.Known 𝓤 H A W 𝓣 1 ps·3 r·3 (claims· .6) (claims· .7) "tables::internal::span_at") (known4 : Plain.Known 𝓤 H A W 𝓣 1 ps·4 r·4 (claims· .8) (claims· .9) "tables::checks::starts_sound") (known5 : Plain.Known 𝓤 H A W 𝓣 1 ps·5 r·5 (claims· .10) (claims· .11) "tables::checks::rows_sound") (known6 : Plain.Known 𝓤 H A W 𝓣 2 ps·6 r·6 (claims· .12) (claims· .13) "tables::checks::lists_sound") where
+        module _ {M : Type 1} (𝓤 : URA.URA M) (H : Wp.Heap 𝓤) (A : Atoms.Atoms 𝓤) (W : Kit.Given 𝓤 H A) (𝓣 : Wp.Tables 𝓤 H) (known0 : Plain.Known 𝓤 H A W 𝓣 0 ps·0 r·0 (claims· .0) (claims· .1) "tables::checks::size_sound") (known1 : Plain.Known 𝓤 H A W 𝓣 2 ps·1 r·1 (claims· .2) (claims· .3) "tables::checks::long") (known2 : Plain.Known 𝓤 H A W 𝓣 1 ps·2 r·2 (claims· .4) (claims· .5) "tables::internal::span_at") (known3 : Plain.Known 𝓤 H A W 𝓣 1 ps·3 r·3 (claims· .6) (claims· .7) "tables::checks::starts_sound") (known4 : Plain.Known 𝓤 H A W 𝓣 1 ps·4 r·4 (claims· .8) (claims· .9) "tables::checks::rows_sound") (known5 : Plain.Known 𝓤 H A W 𝓣 2 ps·5 r·5 (claims· .10) (claims· .11) "tables::checks::lists_sound") where
           pub spec : Statement.Triple 𝓤 (Wp.WpFn 𝓤 H (𝓣 .C) (𝓣 .Λ) (Function.fnOf 3 ps r xs m hs body)) (Function.plainOf 𝓤 H A 3 ps r Pre· Post·)
-          spec = Plain.t-fn-plain 𝓤 H A W 𝓣 3 ps r xs m hs body (λ κs qs bs. Φ) (λ κs qs bs bd. typed κs qs 𝓤 H A W 𝓣 (known0, known1, known2, known3, known4, known5, known6) bs bd) Pre· Post· asked
+          spec = Plain.t-fn-plain 𝓤 H A W 𝓣 3 ps r xs m hs body (λ κs qs bs. Φ) (λ κs qs bs bd. typed κs qs 𝓤 H A W 𝓣 (known0, known1, known2, known3, known4, known5) bs bd) Pre· Post· asked
