@@ -1,13 +1,51 @@
-//! Times the library beside the peer: the same bytes in, the same bytes out, by turns in one run.
+//! Times the library beside the peer: the same bytes in, the same bytes out, by turns.
 mod run;
 
 use crate::calls::Peer;
 use crate::case::CALLS;
 use run::{verified, Verified, BATCH, BATCHES};
+use std::env;
+use std::process::{Command, Stdio};
 
 /// From how many states on a ratio is marked, and above what, call by call.
 const MARKED_FROM: usize = 256;
 const MARKED_ABOVE: [f64; 3] = [1.9, 1.5, 1.5];
+
+/// One run: for each plan a line of times.
+pub fn times() -> Result<(), String> {
+    let mut peer = Peer::new();
+    for mut plan in verified(&mut peer)? {
+        let times = plan.times(&mut peer);
+        let words: Vec<String> = times.iter().map(f64::to_string).collect();
+        println!("{}", words.join(" "));
+    }
+    Ok(())
+}
+
+/// The times of a run in a process of its own, since where memory lies may differ from process to process.
+fn run_apart() -> Result<Vec<f64>, String> {
+    let program = env::current_exe().map_err(|error| error.to_string())?;
+    let mut command = Command::new(program);
+    let output = command.arg("times").stderr(Stdio::inherit()).output();
+    let output = output.map_err(|error| error.to_string())?;
+    if !output.status.success() {
+        return Err("a run has failed".to_string());
+    }
+    let text = String::from_utf8_lossy(&output.stdout);
+    let times: Result<_, _> = text.split_whitespace().map(str::parse).collect();
+    times.map_err(|_| "a run printed something else than times".to_string())
+}
+
+/// The least of each time over the runs, six times a plan.
+fn least(runs: u64) -> Result<Vec<f64>, String> {
+    let mut least = run_apart()?;
+    for _ in 1..runs {
+        for (least, time) in least.iter_mut().zip(run_apart()?) {
+            *least = least.min(time);
+        }
+    }
+    Ok(least)
+}
 
 fn row(plan: &Verified, times: &[f64]) -> String {
     let (name, n, rounds) = (plan.name, plan.size.n, plan.rounds);
@@ -34,16 +72,24 @@ fn head() -> String {
     plan + &calls.concat()
 }
 
-pub fn bench() -> Result<(), String> {
-    let mut peer = Peer::new();
-    println!("microseconds a call: library, peer, and library / peer; the best of {BATCHES} batches of each, by turns;");
+pub fn bench(runs: u64) -> Result<(), String> {
+    let plans = verified(&mut Peer::new())?;
+    let runs = runs.max(1);
+    let least = least(runs)?;
+    println!("microseconds a call: library, peer, and library / peer; the best of {BATCHES} batches of each, by turns, in {runs} run(s);");
     println!("a batch repeats the call for about {} microseconds; buffers are warm and not cleared in between;", BATCH.as_micros());
-    println!("<-- is a ratio above {MARKED_ABOVE:?} for {CALLS:?} from n = {MARKED_FROM} on");
+    let bounds = CALLS.iter().zip(MARKED_ABOVE);
+    let bounds: Vec<String> = bounds
+        .map(|(name, above)| format!("{name} {above}"))
+        .collect();
+    println!(
+        "<-- is a ratio above its bound from n = {MARKED_FROM} on: {}",
+        bounds.join(", ")
+    );
     println!();
     println!("{}", head());
-    for mut plan in verified(&mut peer)? {
-        let times = plan.times(&mut peer);
-        println!("{}", row(&plan, &times));
+    for (plan, times) in plans.iter().zip(least.chunks(2 * CALLS.len())) {
+        println!("{}", row(plan, times));
     }
     Ok(())
 }
