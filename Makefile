@@ -6,7 +6,7 @@
 # make lib       the C library, target/staticlib/libgate.a (header: include/gate.h)
 # make c-test    the C library's tests and examples, and the header's in C and C++
 # make compare   hold the C library to a planner in Rust, byte for byte over COUNT inputs made from SEED
-# make bench     time the two beside each other
+# make bench     time the two beside each other: the best of RUNS runs
 # make rows      check that every machine-made proof file is what tools/rows makes (some minutes)
 # make trace     check that all that docs/TRACE.md names is there
 
@@ -127,8 +127,10 @@ SEED ?= 1
 compare: kit need-gcc need-cargo $(LIB)
 	cd compare && cargo test --offline --locked --quiet && cargo run --release --offline --locked --quiet -- check $(COUNT) $(SEED)
 
+RUNS ?= 1
+
 bench: kit need-gcc need-cargo $(LIB)
-	cd compare && cargo run --release --offline --locked --quiet -- bench
+	cd compare && cargo run --release --offline --locked --quiet -- bench $(RUNS)
 
 rows: kit need-python3
 	python3 -B tools/rows --check

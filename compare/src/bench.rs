@@ -1,152 +1,95 @@
-//! Times the library beside the peer: the same bytes in, the same bytes out, by turns in one run.
-use crate::calls::{Calls, Library, Peer};
+//! Times the library beside the peer: the same bytes in, the same bytes out, by turns.
+mod run;
+
+use crate::calls::Peer;
 use crate::case::CALLS;
-use crate::generate::draft::{Draft, Held};
-use crate::generate::input::table_bytes;
-use crate::generate::random::Random;
-use crate::generate::{shapes, sites};
-use crate::planner::boundary::{DecideBytes, PlanBytes, ReadBytes, SearchBytes};
-use std::time::{Duration, Instant};
+use run::{verified, Verified, BATCH, BATCHES};
+use std::env;
+use std::process::{Command, Stdio};
 
-const STATES: [usize; 5] = [64, 128, 256, 512, 1024];
-const BATCHES: usize = 25;
-const BATCH: Duration = Duration::from_micros(400);
+/// From how many states on a ratio is marked, and above what, call by call.
+const MARKED_FROM: usize = 256;
+const MARKED_ABOVE: [f64; 3] = [1.9, 1.5, 1.5];
 
-/// All that the three calls are lent: deciding and the search take the tables that reading leaves.
-#[derive(Clone, PartialEq, Eq)]
-struct Buffers {
-    file: Vec<u8>,
-    tables: [Vec<u8>; 4],
-    start: usize,
-    places: [Vec<u8>; 4],
-    tally: Vec<u8>,
-    answer: Vec<u8>,
+/// One run: for each plan a line of times.
+pub fn times() -> Result<(), String> {
+    let mut peer = Peer::new();
+    for mut plan in verified(&mut peer)? {
+        let times = plan.times(&mut peer);
+        let words: Vec<String> = times.iter().map(f64::to_string).collect();
+        println!("{}", words.join(" "));
+    }
+    Ok(())
 }
 
-impl Buffers {
-    fn new(held: &Held) -> Buffers {
-        let places = || vec![0; 2 * held.size.n];
-        Buffers {
-            file: held.file(),
-            tables: table_bytes(held),
-            start: held.size.start,
-            places: [places(), places(), places(), places()],
-            tally: vec![0; 12],
-            answer: vec![0; 4],
+/// The times of a run in a process of its own, since where memory lies may differ from process to process.
+fn run_apart() -> Result<Vec<f64>, String> {
+    let program = env::current_exe().map_err(|error| error.to_string())?;
+    let mut command = Command::new(program);
+    let output = command.arg("times").stderr(Stdio::inherit()).output();
+    let output = output.map_err(|error| error.to_string())?;
+    if !output.status.success() {
+        return Err("a run has failed".to_string());
+    }
+    let text = String::from_utf8_lossy(&output.stdout);
+    let times: Result<_, _> = text.split_whitespace().map(str::parse).collect();
+    times.map_err(|_| "a run printed something else than times".to_string())
+}
+
+/// The least of each time over the runs, six times a plan.
+fn least(runs: u64) -> Result<Vec<f64>, String> {
+    let mut least = run_apart()?;
+    for _ in 1..runs {
+        for (least, time) in least.iter_mut().zip(run_apart()?) {
+            *least = least.min(time);
         }
     }
-
-    fn run(&mut self, call: usize, calls: &mut dyn Calls) -> u32 {
-        let [size, rows, firsts, outcomes] = &mut self.tables;
-        let [ranks, commands, marks, scratch] = &mut self.places;
-        if call == 0 {
-            let out = ReadBytes {
-                size,
-                rows,
-                firsts,
-                outcomes,
-            };
-            return calls.read(&self.file, out);
-        }
-        let plan = PlanBytes {
-            size,
-            rows,
-            firsts,
-            outcomes,
-        };
-        if call == 1 {
-            let out = DecideBytes {
-                ranks,
-                commands,
-                marks,
-                scratch,
-                tally: &mut self.tally,
-            };
-            return calls.decide(plan, out);
-        }
-        let out = SearchBytes {
-            commands,
-            scratch,
-            answer: &mut self.answer,
-        };
-        calls.search(plan, self.start, out)
-    }
+    Ok(least)
 }
 
-/// How long one of `repeats` runs takes.
-fn batch(call: usize, repeats: u32, buffers: &mut Buffers, calls: &mut dyn Calls) -> Duration {
-    let begun = Instant::now();
-    for _ in 0..repeats {
-        buffers.run(call, calls);
-    }
-    begun.elapsed() / repeats
-}
-
-/// The best of the batches of the library and of the peer, in microseconds.
-fn time(call: usize, buffers: &mut Buffers, peer: &mut Peer) -> (f64, f64) {
-    let trials = (0..5).map(|_| batch(call, 1, buffers, &mut Library));
-    let once = trials.min().unwrap_or(BATCH).max(Duration::from_nanos(100));
-    let repeats = (BATCH.as_nanos() / once.as_nanos()).clamp(1, 1000) as u32;
-    let mut best = (Duration::MAX, Duration::MAX);
-    for _ in 0..BATCHES {
-        best.0 = best.0.min(batch(call, repeats, buffers, &mut Library));
-        best.1 = best.1.min(batch(call, repeats, buffers, peer));
-    }
-    (best.0.as_secs_f64() * 1e6, best.1.as_secs_f64() * 1e6)
-}
-
-/// Both must answer, with the same bytes, and reading must give the tables that the file was written from.
-fn verify(held: &Held, peer: &mut Peer) -> Result<Buffers, String> {
-    let mut ours = Buffers::new(held);
-    let mut theirs = ours.clone();
-    for (call, name) in CALLS.iter().enumerate() {
-        let returned = (ours.run(call, &mut Library), theirs.run(call, peer));
-        if returned != (0, 0) || ours != theirs || ours.tables != table_bytes(held) {
-            return Err(format!("{name} gives a wrong answer"));
-        }
-    }
-    Ok(ours)
-}
-
-fn row(name: &str, draft: &Draft, peer: &mut Peer) -> Result<String, String> {
-    let held = draft.hold();
-    let size = held.size;
-    let mut buffers =
-        verify(&held, peer).map_err(|wrong| format!("{name}, n = {}: {wrong}", size.n))?;
-    let mut line = format!("{name:<14}{:>5}{:>6}{:>7}", size.n, size.m, size.t);
-    for call in 0..CALLS.len() {
-        let (library, peer) = time(call, &mut buffers, peer);
+fn row(plan: &Verified, times: &[f64]) -> String {
+    let (name, n, rounds) = (plan.name, plan.size.n, plan.rounds);
+    let (m, t) = (plan.size.m, plan.size.t);
+    let mut line = format!("{name:<14}{n:>5}{m:>6}{t:>7}{rounds:>8}");
+    let mut marks = String::new();
+    for (call, pair) in times.chunks_exact(2).enumerate() {
+        let (library, peer) = (pair[0], pair[1]);
         let ratio = library / peer;
         line.push_str(&format!("  |{library:>10.2}{peer:>10.2}{ratio:>7.2}"));
-    }
-    Ok(line)
-}
-
-fn plans(n: usize, random: &mut Random) -> [(&'static str, Draft); 5] {
-    [
-        ("ordinary", sites::ordinary(n, random)),
-        ("random, full", sites::random(n, 4 * n, 16 * n, random)),
-        ("worst chain", sites::worst_chain(n)),
-        ("most rounds", sites::worst_rounds(n)),
-        ("leaking ring", shapes::leaking_ring(n)),
-    ]
-}
-
-pub fn bench() -> Result<(), String> {
-    let mut peer = Peer::new();
-    let mut random = Random::new(1, 0);
-    println!("microseconds a call: library, peer, and library / peer; the best of {BATCHES} batches of each, by turns;");
-    println!("a batch repeats the call for about {} microseconds; buffers are warm and not cleared in between", BATCH.as_micros());
-    println!();
-    let heads: String = CALLS
-        .iter()
-        .map(|name| format!("  |{name:>10}{:>10}{:>7}", "peer", "ratio"))
-        .collect();
-    println!("{:<14}{:>5}{:>6}{:>7}{heads}", "plan", "n", "m", "t");
-    for n in STATES {
-        for (name, draft) in plans(n, &mut random) {
-            println!("{}", row(name, &draft, &mut peer)?);
+        if n >= MARKED_FROM && ratio > MARKED_ABOVE[call] {
+            marks.push_str(&format!("  <-- {}", CALLS[call]));
         }
+    }
+    line + &marks
+}
+
+fn head() -> String {
+    let calls = CALLS.map(|name| format!("  |{name:>10}{:>10}{:>7}", "peer", "ratio"));
+    let plan = format!(
+        "{:<14}{:>5}{:>6}{:>7}{:>8}",
+        "plan", "n", "m", "t", "rounds"
+    );
+    plan + &calls.concat()
+}
+
+pub fn bench(runs: u64) -> Result<(), String> {
+    let plans = verified(&mut Peer::new())?;
+    let runs = runs.max(1);
+    let least = least(runs)?;
+    println!("microseconds a call: library, peer, and library / peer; the best of {BATCHES} batches of each, by turns, in {runs} run(s);");
+    println!("a batch repeats the call for about {} microseconds; buffers are warm and not cleared in between;", BATCH.as_micros());
+    let bounds = CALLS.iter().zip(MARKED_ABOVE);
+    let bounds: Vec<String> = bounds
+        .map(|(name, above)| format!("{name} {above}"))
+        .collect();
+    println!(
+        "<-- is a ratio above its bound from n = {MARKED_FROM} on: {}",
+        bounds.join(", ")
+    );
+    println!();
+    println!("{}", head());
+    for (plan, times) in plans.iter().zip(least.chunks(2 * CALLS.len())) {
+        println!("{}", row(plan, times));
     }
     Ok(())
 }

@@ -1,4 +1,5 @@
-//! The library beside a planner of its own: `check` compares them byte for byte, `bench` times them.
+//! The library beside a planner of its own: `check` compares them byte for byte, `bench` times them, in
+//! runs of `times`.
 mod bench;
 mod calls;
 mod case;
@@ -11,7 +12,8 @@ mod planner;
 use std::env;
 use std::process::ExitCode;
 
-const USAGE: &str = "usage: compare check [COUNT] [SEED] | replay SEED INDEX | bench";
+const USAGE: &str =
+    "usage: compare check [COUNT] [SEED] | replay SEED INDEX | bench [RUNS] | times";
 const COUNT: u64 = 200_000;
 const SEED: u64 = 1;
 
@@ -35,7 +37,8 @@ fn run(words: &[String]) -> Result<(), String> {
             let index = number(words.get(2), 0)?;
             check::replay(seed, index)
         }
-        (Some("bench"), 1) => bench::bench(),
+        (Some("bench"), 1..=2) => bench::bench(number(words.get(1), 1)?),
+        (Some("times"), 1) => bench::times(),
         _ => Err(USAGE.to_string()),
     }
 }

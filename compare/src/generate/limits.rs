@@ -11,7 +11,7 @@ fn commands(count: usize) -> Draft {
 }
 
 /// 1,024 states of which the first has commands onto all, with `surplus` outcomes more than the limit.
-fn outcomes(surplus: usize) -> Draft {
+pub fn outcomes(surplus: usize) -> Draft {
     let n = Size::STATES;
     let mut lists = vec![(0..n).collect::<Vec<usize>>(); Size::OUTCOMES / n];
     if surplus > 0 {

@@ -5,5 +5,7 @@ pub mod fields;
 pub mod input;
 pub mod limits;
 pub mod random;
+pub mod rounds;
 pub mod shapes;
 pub mod sites;
+pub mod timed;
