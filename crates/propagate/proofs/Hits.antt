@@ -12,7 +12,7 @@ use Rattle.laws.proofs.Grow.{Monotone}
 use Rattle.model.specs.Tables.{Lists}
 use Rattle.model.specs.Places.{listAt}
 use Rattle.tables.specs.Ready.{Ready}
-use Rattle.index.proofs.Groups.{outcome-in}
+use Rattle.index.proofs.Groups.{entry-in}
 use Rattle.choice.specs.Within.{commandHits}
 use Rattle.propagate.specs.Net.{Net, from, to, losing, Ranges}
 
@@ -28,7 +28,7 @@ module _ (C : Lists) where
   module _ {n : ℕ} (R : Ready n C) where
     -- a larger set is hit by no fewer commands
     pub hit-more : (A B : ℕ → Bool) → Part (n) A B → (c : ℕ) → c < C .count → commandHits C A c ≡ true → commandHits C B c ≡ true
-    hit-more A B h c l t = let (o, m, e) = hit-some A c t in hit-of B c o m (h o (outcome-in C R c o l m) e)
+    hit-more A B h c l t = let (o, m, e) = hit-some A c t in hit-of B c o m (h o (entry-in C R c o l m) e)
 
     pub hit-same : (A B : ℕ → Bool) → ((o : ℕ) → o < n → A o ≡ B o) → (c : ℕ) → c < C .count → commandHits C A c ≡ commandHits C B c
     hit-same A B h c l =

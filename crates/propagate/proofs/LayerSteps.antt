@@ -19,7 +19,7 @@ use Rattle.laws.proofs.Starts.{start-next}
 use Rattle.model.specs.Tables.{Lists}
 use Rattle.model.specs.Places.{listAt}
 use Rattle.tables.specs.Ready.{Ready}
-use Rattle.index.proofs.Groups.{outcome-in}
+use Rattle.index.proofs.Groups.{entry-in}
 use Rattle.choice.specs.Within.{commandHits}
 use Rattle.propagate.specs.Net.{Net, netOf, losing, netLayer, Ranges, Indexed, Owns}
 use Rattle.propagate.specs.Work.{Work, QueueBound, TowardsLayer, Moved, Among, waiting, AtLayer, Layered}
@@ -153,7 +153,7 @@ module _ {n : ℕ} (C : Lists) (tos owner : List ℕ) (k lo : ℕ) (X : Work) wh
         waits : (c : ℕ) → c < C .count → (commandHits C (netLayer N K k) c ≡ true → ⊥) → commandHits C (netLayer N K (k + 1)) c ≡ true → commandHits C (waiting (Y .queue) (X .end) (Y .end)) c ≡ true
         waits c l new t =
             let (o, m, e) = hit-some C (netLayer N K (k + 1)) c t in
-            let g = outcome-in C R c o l m in
+            let g = entry-in C R c o l m in
             let f = next o g ∙ e in
             go o m g (leb-true (r o) (k + 1) f) (decLe (r o) k)
           where

@@ -17,7 +17,7 @@ use Rattle.laws.proofs.Counts.{many-yes, many-upto}
 use Rattle.laws.proofs.Defaults.{getD-inside}
 use Rattle.model.specs.Tables.{Lists}
 use Rattle.tables.specs.Ready.{Ready}
-use Rattle.index.proofs.Groups.{outcome-in}
+use Rattle.index.proofs.Groups.{entry-in}
 use Rattle.choice.specs.Within.{commandHits}
 use Rattle.propagate.specs.Net.{Net, netOf, from, netLayer, seeds, Seeded, Ranges}
 use Rattle.propagate.specs.Work.{work, rankCount, QueueBound, waiting, AtLayer, SeedsQueued}
@@ -102,7 +102,7 @@ module _ {n : ℕ} (C : Lists) (R : Ready n C) (tos : List ℕ) (ends : Ranges n
   waits : (c : ℕ) → c < C .count → commandHits C (netLayer N (seeds r) 0) c ≡ true → commandHits C (waiting q 0 e) c ≡ true
   waits c l t =
       let (o, m, f) = hit-some C (netLayer N (seeds r) 0) c t in
-      let h = outcome-in C R c o l m in
+      let h = entry-in C R c o l m in
       let (i, b, d) = v .found o h (zero-rank o h f) in
       hit-of C (waiting q 0 e) c o m (wait-of q 0 e o i (omega arith) b d)
 
