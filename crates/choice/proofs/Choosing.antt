@@ -3,20 +3,21 @@ use mathlib.Core.Path.{_≡_, refl, sym, ap, _∙_}
 use mathlib.Core.Bool.{Bool, true, false, not, cond, _&&_}
 use mathlib.Core.Logic.{⊎-elim}
 use mathlib.Core.Option.{none, some}
-use Prim.Native.Nat.{ℕ, _+_, _-_, _<_}
+use Prim.Native.Nat.{ℕ, _+_, _-_, _<_, _≤_}
 use native.Mathlib.Numerals.{add-one}
 use native.Mathlib.Omega.{arith}
 use native.Mathlib.Decide.{decLt}
 use lib.Dec.{ltb}
 use borrow.Author.Tests.{le-ltb, ltb-true}
 use Rattle.laws.specs.Sets.{any, lowest}
-use Rattle.laws.specs.Entry.{entry}
+use Rattle.laws.specs.Entry.{FFFF, entry}
+use Rattle.laws.specs.First.{FirstNot}
 use Rattle.laws.proofs.Tests.{clash, true-or-false}
-use Rattle.laws.proofs.Tries.{lowest-same}
+use Rattle.laws.proofs.Tries.{lowest-same, first-found, first-missing}
 use Rattle.model.specs.Plan.{active, hasPolicy}
 use Rattle.model.specs.Verdict.{hits}
 use Rattle.model.specs.Command.{choice}
-use Rattle.model.specs.Tables.{Tables}
+use Rattle.model.specs.Tables.{Tables, listsIn}
 use Rattle.model.specs.Places.{rowAt, firstCommand, commandCount, outcomesAt}
 use Rattle.model.specs.SoundTest.{sound}
 use Rattle.model.specs.Held.{planIn}
@@ -26,7 +27,7 @@ use Rattle.model.proofs.HeldPlan.{states-held, policy-held, commands-held, outc
 use Rattle.model.proofs.Valid.{sound-valid}
 use Rattle.tables.specs.declared.internal.Span.{Span}
 use Rattle.tables.specs.Spans.{spanAt}
-use Rattle.choice.specs.Within.{clear}
+use Rattle.choice.specs.Within.{commandHits, clear}
 
 module _ (T : Tables) (K : ℕ → Bool) (s : ℕ) (l : s < T .size .n) where
   -- a command's outcomes, by its place
@@ -34,8 +35,8 @@ module _ (T : Tables) (K : ℕ → Bool) (s : ℕ) (l : s < T .size .n) where
   unfolding hits
   hits-held c h = ap (any K) (outcomes-held T s l c h)
 
-  clear-held : (c : ℕ) → c < commandCount T s → not (hits (planIn T) K s c) ≡ clear T K (firstCommand T s) c
-  unfolding clear
+  clear-held : (c : ℕ) → c < commandCount T s → not (hits (planIn T) K s c) ≡ clear (listsIn T) K (firstCommand T s) c
+  unfolding clear commandHits
   clear-held c h = ap not (hits-held c h)
 
   -- a state that is not active has no commands to try
@@ -59,11 +60,11 @@ module _ (T : Tables) (K : ℕ → Bool) (s : ℕ) (l : s < T .size .n) where
 
     -- the practice if it is clear, else the lowest command that is
     choice-clear : choice (planIn T) K s
-        ≡ cond (ltb (rowAt T s .policy) (commandCount T s) && clear T K (firstCommand T s) (rowAt T s .policy)) (some (rowAt T s .policy)) (lowest (clear T K (firstCommand T s)) (commandCount T s))
+        ≡ cond (ltb (rowAt T s .policy) (commandCount T s) && clear (listsIn T) K (firstCommand T s) (rowAt T s .policy)) (some (rowAt T s .policy)) (lowest (clear (listsIn T) K (firstCommand T s)) (commandCount T s))
     unfolding hasPolicy
     choice-clear =
         any-words ∙ rw (policy-held T s l, commands-held T s l)
-        (go (ltb p n) refl ∙ ap (cond (ltb p n && clear T K (firstCommand T s) p) (some p)) (lowest-same _ _ n clear-held))
+        (go (ltb p n) refl ∙ ap (cond (ltb p n && clear (listsIn T) K (firstCommand T s) p) (some p)) (lowest-same _ _ n clear-held))
       where
         p : ℕ
         p = rowAt T s .policy
@@ -73,14 +74,14 @@ module _ (T : Tables) (K : ℕ → Bool) (s : ℕ) (l : s < T .size .n) where
 
         go : (b : Bool) → ltb p n ≡ b
             → cond (b && not (hits (planIn T) K s p)) (some p) (lowest (λ c. not (hits (planIn T) K s c)) n)
-            ≡ cond (b && clear T K (firstCommand T s) p) (some p) (lowest (λ c. not (hits (planIn T) K s c)) n)
+            ≡ cond (b && clear (listsIn T) K (firstCommand T s) p) (some p) (lowest (λ c. not (hits (planIn T) K s c)) n)
         go true e = rw (clear-held p (ltb-true p n e))
         go false e = refl
 
 -- what was read of the state s, and the count of its commands
 module _ (T : Tables) (K : ℕ → Bool) (q : Span) (count s : ℕ) (c : count ≡ q .end - q .first) (t : Bool)
-    (practice : t ≡ (ltb (q .practice) count && clear T K (q .first) (q .practice))) (sounds : sound T ≡ true) (l : s < T .size .n) (e : q ≡ spanAt T s) where
-  chosen-is : choice (planIn T) K s ≡ cond t (some (q .practice)) (lowest (clear T K (q .first)) count)
+    (practice : t ≡ (ltb (q .practice) count && clear (listsIn T) K (q .first) (q .practice))) (sounds : sound T ≡ true) (l : s < T .size .n) (e : q ≡ spanAt T s) where
+  chosen-is : choice (planIn T) K s ≡ cond t (some (q .practice)) (lowest (clear (listsIn T) K (q .first)) count)
   unfolding commandCount
   chosen-is = choice-clear T K s l sounds ∙ rw (practice, c, e, add-one s)
 
@@ -88,5 +89,14 @@ module _ (T : Tables) (K : ℕ → Bool) (q : Span) (count s : ℕ) (c : count �
   unfolding entry
   practice-chosen h = sym (rw (chosen-is, h))
 
-  pub lowest-chosen : t ≡ false → (r : ℕ) → r ≡ entry (lowest (clear T K (q .first)) count) → r ≡ entry (choice (planIn T) K s)
-  lowest-chosen h r p = p ∙ sym (rw (chosen-is, h))
+  -- the first of its commands that is clear, where the practice is not
+  module _ (h : t ≡ false) (r : ℕ) (v : FirstNot (commandHits (listsIn T) K) (q .first) (q .end) r) where
+    lowest-is : entry (choice (planIn T) K s) ≡ entry (lowest (λ i. not (commandHits (listsIn T) K (q .first + i))) (q .end - q .first))
+    unfolding clear
+    lowest-is = rw (chosen-is, h, c)
+
+    pub first-chosen : r < q .end → r - q .first ≡ entry (choice (planIn T) K s)
+    first-chosen l = first-found v l ∙ sym lowest-is
+
+    pub none-chosen : q .end ≤ r → FFFF ≡ entry (choice (planIn T) K s)
+    none-chosen l = first-missing v l ∙ sym lowest-is

@@ -1,51 +1,52 @@
--- The places of a command's outcomes.
+-- The places of a list, and whether a command has an outcome in a set by what is read there.
 use mathlib.Core.Path.{_≡_, _∙_}
 use mathlib.Core.Bool.{Bool, not, _&&_}
-use mathlib.Core.List.{List}
 use Prim.Native.Nat.{ℕ, _+_, _<_, _≤_, suc}
 use native.Mathlib.Numerals.{add-one}
 use native.Mathlib.Omega.{arith}
+use mathlib.Core.List.{List}
 use lib.Dec.{ltb}
 use lib.ListN.{length, getD}
 use lib.Seq.{slice}
 use borrow.Author.Tests.{lt-ltb}
 use Rattle.laws.specs.Sets.{any}
-use Rattle.laws.specs.Starts.{startOf}
-use Rattle.laws.proofs.Starts.{start-next}
-use Rattle.model.specs.Tables.{Tables, Lists}
-use Rattle.model.specs.Places.{startIn, listAt, firstOutcome, outcomesAt}
-use Rattle.tables.specs.declared.Row.{Row}
-use Rattle.tables.specs.declared.Size.{Size}
-use Rattle.tables.specs.Meaning.{held}
-use Rattle.tables.specs.Spans.{commandsOf}
-use Rattle.tables.specs.Ready.{Ready}
-use Rattle.tables.proofs.Readiness.{ready-below}
-use Rattle.choice.specs.Within.{clear}
+use Rattle.laws.specs.Starts.{Parts}
+use Rattle.laws.proofs.Starts.{start-next, start-le}
+use Rattle.model.specs.Tables.{Lists}
+use Rattle.model.specs.Places.{startIn, listAt}
+use Rattle.tables.specs.Ready.{States, Ready}
+use Rattle.choice.specs.Within.{commandHits, clear}
+
+-- states below n are below more
+pub states-below : {n k end : ℕ} {entries : List ℕ} → n ≤ k → States n end entries → States k end entries
+states-below h v = record { few = v .few; long = v .long; inside = λ j l. omega (arith, v .inside j l) }
 
 -- a list whose entries are read from place `from` up to place `end`
-pub outcomes-read : (L : Lists) (c from end : ℕ) → from ≡ startIn L c → end ≡ startIn L (c + 1) → slice from end (L .entries) ≡ listAt L c
-unfolding listAt
-outcomes-read L c from end p q = rw (p, q, add-one c)
+module _ (L : Lists) (i from end : ℕ) (p : from ≡ startIn L i) (q : end ≡ startIn L (i + 1)) where
+  pub outcomes-read : slice from end (L .entries) ≡ listAt L i
+  unfolding listAt
+  outcomes-read = rw (p, q, add-one i)
 
-pub hit-read : (L : Lists) (K : ℕ → Bool) (c from end : ℕ) (r : Bool) → from ≡ startIn L c → end ≡ startIn L (c + 1)
-    → r ≡ any K (slice from end (L .entries)) → r ≡ any K (listAt L c)
-hit-read L K c from end r p q e = e ∙ rw (outcomes-read L c from end p q)
+  pub hit-read : (K : ℕ → Bool) (r : Bool) → r ≡ any K (slice from end (L .entries)) → r ≡ commandHits L K i
+  unfolding commandHits
+  hit-read K r e = e ∙ rw outcomes-read
 
--- they are in range, and so is what they name in a table of n places
-pub outcomes-inside : {size : Size} {firsts outcomes : List ℕ} → Ready (commandsOf size firsts outcomes) → (R : List Row) (c from end places : ℕ) → c < size .m
-    → from ≡ firstOutcome (held size R firsts outcomes) c → end ≡ firstOutcome (held size R firsts outcomes) (c + 1) → size .n ≤ places
-    → (from ≤ end) × (end ≤ length outcomes) × ((j : ℕ) → j < end → getD outcomes j 0 < places)
-outcomes-inside {size} {firsts} ready R c from end places l p q h =
-    let rises = ready .parts .rises c l in
-    let below = ready-below ready c l in
-    let next : end ≡ startOf firsts (size .m) (size .t) (suc c) = q ∙ start-next firsts (size .m) (size .t) c in
-    (omega arith, omega (arith, ready .states .long), λ j k. omega (arith, ready .states .inside j (omega arith)))
+  -- they are in range, and so is what they name in a table of so many places
+  pub entries-inside : {places : ℕ} → i < L .count → Parts (L .firsts) (L .count) (L .end) → States places (L .end) (L .entries)
+      → (from ≤ end) × (end ≤ length (L .entries)) × ((j : ℕ) → j < end → getD (L .entries) j 0 < places)
+  entries-inside l parts states =
+      let rises = parts .rises i l in
+      let below = start-le (L .firsts) (L .count) (L .end) parts (suc i) l in
+      let next : end ≡ startIn L (suc i) = q ∙ start-next (L .firsts) (L .count) (L .end) i in
+      (omega arith, omega (arith, states .long), λ j k. omega (arith, states .inside j (omega arith)))
 
--- a command that was tried
-module _ (T : Tables) (K : ℕ → Bool) (first c : ℕ) (t : Bool) (p : t ≡ any K (outcomesAt T (first + c))) where
-  pub clear-is : not t ≡ clear T K first c
-  unfolding clear
-  clear-is = rw p
+pub outcomes-inside : {n : ℕ} {L : Lists} → Ready n L → (i from end places : ℕ) → i < L .count → from ≡ startIn L i → end ≡ startIn L (i + 1)
+    → n ≤ places → (from ≤ end) × (end ≤ length (L .entries)) × ((j : ℕ) → j < end → getD (L .entries) j 0 < places)
+outcomes-inside {L = L} ready i from end places l p q h =
+    entries-inside L i from end p q l (ready .parts) (states-below h (ready .states))
 
-  pub practice-is : (count : ℕ) → c < count → not t ≡ (ltb c count && clear T K first c)
-  practice-is count l = rw (lt-ltb c count l) clear-is
+-- a practice that was tried
+pub practice-is : (L : Lists) (K : ℕ → Bool) (first c : ℕ) (t : Bool) → t ≡ commandHits L K (first + c) → (count : ℕ) → c < count
+    → not t ≡ (ltb c count && clear L K first c)
+unfolding clear
+practice-is L K first c t p count l = rw (lt-ltb c count l, p)

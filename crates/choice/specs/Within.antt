@@ -5,13 +5,17 @@ use Prim.Native.Nat.{ℕ, _+_}
 use lib.Dec.{leb}
 use lib.ListN.{getD}
 use Rattle.laws.specs.Sets.{any}
-use Rattle.model.specs.Tables.{Tables}
-use Rattle.model.specs.Places.{outcomesAt}
+use Rattle.model.specs.Tables.{Lists}
+use Rattle.model.specs.Places.{listAt}
 
 -- the states whose entry is at most the limit
 abbrev pub within : List ℕ → ℕ → ℕ → Bool
 within table limit x = leb (getD table x 0) limit
 
+-- the command c, whose outcomes are list c, has one in K
+unfoldable pub commandHits : Lists → (ℕ → Bool) → ℕ → Bool
+commandHits L K c = any K (listAt L c)
+
 -- of a state whose commands begin at place `first`: its command c has no outcome in K
-unfoldable pub clear : Tables → (ℕ → Bool) → ℕ → ℕ → Bool
-clear T K first c = not (any K (outcomesAt T (first + c)))
+unfoldable pub clear : Lists → (ℕ → Bool) → ℕ → ℕ → Bool
+clear L K first c = not (commandHits L K (first + c))

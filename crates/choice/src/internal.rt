@@ -7,22 +7,23 @@ ghost use Prim.Native.Nat.{ℕ, _<_, _≤_, _+_};
 ghost use lib.Dec.{ltb};
 ghost use lib.ListN.{length, getD};
 ghost use lib.Seq.{slice};
-ghost use Rattle.laws.specs.Sets.{any, lowest};
+ghost use Rattle.laws.specs.Sets.{any};
+ghost use Rattle.laws.specs.First.{FirstNot};
+ghost use Rattle.laws.specs.Starts.{Parts};
 ghost use Rattle.laws.specs.Entry.{entry};
-ghost use Rattle.model.specs.Places.{outcomesAt};
 ghost use Rattle.model.specs.SoundTest.{sound};
 ghost use Rattle.model.specs.Held.{planIn};
 ghost use Rattle.model.specs.Command.{choice};
 ghost use Rattle.tables.specs.declared.Row.{Row};
 ghost use Rattle.tables.specs.Meaning.{held};
 ghost use Rattle.tables.specs.Spans.{spanAt, commandsOf};
-ghost use Rattle.tables.specs.Ready.{Ready};
-ghost use Rattle.choice.specs.Within.{within, clear};
+ghost use Rattle.tables.specs.Ready.{listTable, States, Ready};
+ghost use Rattle.choice.specs.Within.{within, commandHits, clear};
 use tables::Size;
 use tables::internal::NONE;
 use tables::internal::Span;
 use tables::internal::at;
-use tables::internal::first_outcome;
+use tables::internal::start_of;
 
 // Whether some outcome at the places from `from` up to `end` is in the set.
 fn some_within(outcomes: &[u16], table: &[u16], limit: usize, from: usize, end: usize) -> bool
@@ -39,6 +40,24 @@ fn some_within(outcomes: &[u16], table: &[u16], limit: usize, from: usize, end: 
     false
 }
 
+// Whether list i has an entry in the set.
+fn list_hit(
+    count: usize,
+    end: usize,
+    firsts: &[u16],
+    entries: &[u16],
+    table: &[u16],
+    limit: usize,
+    i: usize,
+) -> bool
+    requires { ⌜ (i < count) × (count ≤ length (now firsts)) × Parts (now firsts) count end × States (length (now table)) end (now entries) ⌝ }
+    ensures { λ r. ⌜ r ≡ commandHits (listTable count end (now (firsts .entry)) (now (entries .entry))) (within (now (table .entry)) limit) i ⌝ }
+{
+    let from = start_of(firsts, count, end, i);
+    let to = start_of(firsts, count, end, i + 1);
+    some_within(entries, table, limit, from, to)
+}
+
 // Whether command c, counted over the whole plan, has an outcome in the set.
 pub fn command_hit(
     size: Size,
@@ -48,13 +67,11 @@ pub fn command_hit(
     limit: usize,
     c: usize,
 ) -> bool
-    requires { ⌜ Ready (commandsOf size (now firsts) (now outcomes)) ⌝ }
+    requires { ⌜ Ready (size .n) (commandsOf size (now firsts) (now outcomes)) ⌝ }
     requires { ⌜ (c < size .m) × (size .n ≤ length (now table)) ⌝ }
-    ensures { λ r. ⌜ ((R : List Row) → r ≡ any (within (now (table .entry)) limit) (outcomesAt (held size R (now (firsts .entry)) (now (outcomes .entry))) c)) ⌝ }
+    ensures { λ r. ⌜ r ≡ commandHits (commandsOf size (now (firsts .entry)) (now (outcomes .entry))) (within (now (table .entry)) limit) c ⌝ }
 {
-    let from = first_outcome(size, firsts, c);
-    let end = first_outcome(size, firsts, c + 1);
-    some_within(outcomes, table, limit, from, end)
+    list_hit(size.m, size.t, firsts, outcomes, table, limit, c)
 }
 
 // Whether the practice is one of the `count` commands from place `first` on, and has no outcome in the set.
@@ -68,9 +85,9 @@ fn practice_clear(
     count: usize,
     practice: usize,
 ) -> bool
-    requires { ⌜ Ready (commandsOf size (now firsts) (now outcomes)) ⌝ }
+    requires { ⌜ Ready (size .n) (commandsOf size (now firsts) (now outcomes)) ⌝ }
     requires { ⌜ (first + count ≤ size .m) × (size .n ≤ length (now table)) ⌝ }
-    ensures { λ r. ⌜ ((R : List Row) → r ≡ (ltb practice count && clear (held size R (now (firsts .entry)) (now (outcomes .entry))) (within (now (table .entry)) limit) first practice)) ⌝ }
+    ensures { λ r. ⌜ r ≡ (ltb practice count && clear (commandsOf size (now (firsts .entry)) (now (outcomes .entry))) (within (now (table .entry)) limit) first practice) ⌝ }
 {
     if count <= practice {
         return false;
@@ -78,29 +95,28 @@ fn practice_clear(
     !command_hit(size, firsts, outcomes, table, limit, first + practice)
 }
 
-// The lowest of the `count` commands from place `first` on that has no outcome in the set, or the entry FFFF.
-fn lowest_clear(
+// The first command from place `from` on, below place `to`, that has no outcome in the set; or `to`.
+pub fn first_clear(
     size: Size,
     firsts: &[u16],
     outcomes: &[u16],
     table: &[u16],
     limit: usize,
-    first: usize,
-    count: usize,
+    from: usize,
+    to: usize,
 ) -> usize
-    requires { ⌜ Ready (commandsOf size (now firsts) (now outcomes)) ⌝ }
-    requires { ⌜ (first + count ≤ size .m) × (size .n ≤ length (now table)) ⌝ }
-    ensures { λ r. ⌜ ((R : List Row) → r ≡ entry (lowest (clear (held size R (now (firsts .entry)) (now (outcomes .entry))) (within (now (table .entry)) limit) first) count)) ⌝ }
+    requires { ⌜ Ready (size .n) (commandsOf size (now firsts) (now outcomes)) ⌝ }
+    requires { ⌜ (from ≤ to) × (to ≤ size .m) × (size .n ≤ length (now table)) ⌝ }
+    ensures { λ r. ⌜ FirstNot (commandHits (commandsOf size (now (firsts .entry)) (now (outcomes .entry))) (within (now (table .entry)) limit)) from to r ⌝ }
 {
-    let mut left = count;
-    while 0 < left {
-        let c = count - left;
-        if !command_hit(size, firsts, outcomes, table, limit, first + c) {
+    let mut c = from;
+    while c < to {
+        if !command_hit(size, firsts, outcomes, table, limit, c) {
             return c;
         }
-        left -= 1;
+        c += 1;
     }
-    NONE
+    c
 }
 
 // The first command tried, the practice and then the lowest first, that has no outcome in the set, or the entry FFFF. What was read of the
@@ -113,7 +129,7 @@ pub fn choose(
     table: &[u16],
     limit: usize,
 ) -> usize
-    requires { ⌜ Ready (commandsOf size (now firsts) (now outcomes)) ⌝ }
+    requires { ⌜ Ready (size .n) (commandsOf size (now firsts) (now outcomes)) ⌝ }
     requires { ⌜ (span .first ≤ span .end) × (span .end ≤ size .m) × (size .n ≤ length (now table)) ⌝ }
     ensures { λ r. ⌜ ((R : List Row) (s : ℕ) → sound (held size R (now (firsts .entry)) (now (outcomes .entry))) ≡ true → s < size .n → span ≡ spanAt (held size R (now (firsts .entry)) (now (outcomes .entry))) s → r ≡ entry (choice (planIn (held size R (now (firsts .entry)) (now (outcomes .entry)))) (within (now (table .entry)) limit) s)) ⌝ }
 {
@@ -130,5 +146,9 @@ pub fn choose(
     ) {
         return span.practice;
     }
-    lowest_clear(size, firsts, outcomes, table, limit, span.first, count)
+    let c = first_clear(size, firsts, outcomes, table, limit, span.first, span.end);
+    if c < span.end {
+        return c - span.first;
+    }
+    NONE
 }

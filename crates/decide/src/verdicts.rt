@@ -51,7 +51,7 @@ fn is_fault(
     ranks: &[u16],
     lost: bool,
 ) -> bool
-    requires { ⌜ Ready (commandsOf size (now firsts) (now outcomes)) ⌝ }
+    requires { ⌜ Ready (size .n) (commandsOf size (now firsts) (now outcomes)) ⌝ }
     requires { ⌜ (span .first ≤ span .end) × (span .end ≤ size .m) × (size .n ≤ length (now ranks)) ⌝ }
     ensures { λ r. ⌜
         ((R : List Row) (s : ℕ) → s < size .n →
@@ -115,7 +115,7 @@ fn judge(
     marks: &mut [u16],
     s: usize,
 ) -> Place
-    requires { ⌜ Ready (commandsOf size (now firsts) (now outcomes)) ⌝ }
+    requires { ⌜ Ready (size .n) (commandsOf size (now firsts) (now outcomes)) ⌝ }
     requires { ⌜ Seen size (now firsts) (now outcomes) s span ⌝ }
     requires { ⌜ (size .n ≤ length (now ranks)) × (size .n ≤ length (now commands)) × (size .n ≤ length (now marks)) ⌝ }
     ensures { λ r. ⌜

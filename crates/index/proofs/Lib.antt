@@ -1,4 +1,3 @@
-pub mod Fills
 pub mod Owners
 pub mod Counting
 pub mod Sums

@@ -7,3 +7,4 @@ pub mod Writes
 pub mod Filled
 pub mod Wrote
 pub mod Starts
+pub mod First

@@ -72,17 +72,17 @@ module _ (size : Size) (rows : List Row) (firsts outcomes : List ℕ) (sounds : 
         rw (getD-inside r s 1 0 (omega (arith, v .seeded .same)), v .seeded .low s l) (zero-test (failingSpan (spanAt T s)))
         ∙ span-failing T s l
 
-    module _ (r′ : List ℕ) (found : r′ ≡ depthTable (netOf (commandsOf size firsts outcomes) w e) r) where
-      filled : Filled (size .n) (λ s. entry (depth (netOf (commandsOf size firsts outcomes) w e) (seeds r) s)) r₀ r′
+    module _ (r′ : List ℕ) (found : r′ ≡ depthTable (netOf (size .n) (commandsOf size firsts outcomes) w e) r) where
+      filled : Filled (size .n) (λ s. entry (depth (netOf (size .n) (commandsOf size firsts outcomes) w e) (seeds r) s)) r₀ r′
       filled = filled-over (v .seeded) (filled-of (omega (arith, v .seeded .same)) found)
 
       -- ---- all commands
 
-      depth-rank : alone ≡ false → (s : ℕ) → s < size .n → depth (netOf (commandsOf size firsts outcomes) w e) (seeds r) s ≡ rank P s
+      depth-rank : alone ≡ false → (s : ℕ) → s < size .n → depth (netOf (size .n) (commandsOf size firsts outcomes) w e) (seeds r) s ≡ rank P s
       unfolding depth rank
       depth-rank z s l =
           lowest-same _ _ (suc (size .n)) (λ k _.
-          grow-same (size .n) (losing (netOf (commandsOf size firsts outcomes) w e)) (forced P)
+          grow-same (size .n) (losing (netOf (size .n) (commandsOf size firsts outcomes) w e)) (forced P)
           (λ A B h x g. losing-all size rows firsts outcomes w e alone sounds (v .begins .low) (v .stops .low) A B h x g z)
           (seeds r) (failing P) seeds-are k s l)
           ∙ ap (λ (j : ℕ). lowest (λ k. layer P k s) (suc j)) (sym (states-held T))
@@ -92,7 +92,7 @@ module _ (size : Size) (rows : List Row) (firsts outcomes : List ℕ) (sounds : 
 
       -- ---- the practice alone
 
-      depth-small : (s i : ℕ) → depth (netOf (commandsOf size firsts outcomes) w e) (seeds r) s ≡ some i → i ≤ highest
+      depth-small : (s i : ℕ) → depth (netOf (size .n) (commandsOf size firsts outcomes) w e) (seeds r) s ≡ some i → i ≤ highest
       unfolding depth
       depth-small s i q = omega (arith, lowest-some _ (suc (size .n)) i q .0, few)
 
@@ -100,8 +100,8 @@ module _ (size : Size) (rows : List Row) (firsts outcomes : List ℕ) (sounds : 
       unfolding depth policyFails
       fails-found z s l =
           rw (filled .low s l)
-          (entry-found (depth (netOf (commandsOf size firsts outcomes) w e) (seeds r) s) (depth-small s)
-          ∙ grow-found (losing (netOf (commandsOf size firsts outcomes) w e)) (seeds r) (size .n) s
+          (entry-found (depth (netOf (size .n) (commandsOf size firsts outcomes) w e) (seeds r) s) (depth-small s)
+          ∙ grow-found (losing (netOf (size .n) (commandsOf size firsts outcomes) w e)) (seeds r) (size .n) s
           ∙ grow-same (size .n) _ (policyHits P)
           (λ A B h x g. losing-practice size rows firsts outcomes w e alone sounds (v .begins .low) (v .stops .low) A B h x g z)
           (seeds r) (failing P) seeds-are (size .n) s l

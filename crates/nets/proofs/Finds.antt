@@ -19,8 +19,8 @@ module _ (size : Size) (rows : List Row) (firsts outcomes : List ℕ) (sounds : 
   pub found : {rs ts ms ss ws r w t ps qs m p q r′ m′ s′ : List ℕ} → size .n ≤ length rs → size .n ≤ length ms
       → Initialized (held size rows firsts outcomes) false (size .n) rs ws ts r w t
       → Initialized (held size rows firsts outcomes) true (size .n) ms ps qs m p q
-      → r′ ≡ depthTable (netOf (commandsOf size firsts outcomes) w t) r
-      → m′ ≡ depthTable (netOf (commandsOf size firsts outcomes) p q) m
+      → r′ ≡ depthTable (netOf (size .n) (commandsOf size firsts outcomes) w t) r
+      → m′ ≡ depthTable (netOf (size .n) (commandsOf size firsts outcomes) p q) m
       → Filled (size .n) (λ i. getD s′ i 0) ss s′
       → Found (held size rows firsts outcomes) rs ts ms ss r′ t m′ s′
   found {r′ = r′} {m′ = m′} lr lm v u a b z = record {

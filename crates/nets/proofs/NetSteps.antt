@@ -29,7 +29,7 @@ use Rattle.tables.specs.declared.Size.{Size}
 use Rattle.tables.specs.Meaning.{held}
 use Rattle.tables.specs.Spans.{spanAt, commandsOf}
 use Rattle.propagate.specs.Net.{netOf, from, to, losing}
-use Rattle.propagate.specs.Net.{commandHits}
+use Rattle.choice.specs.Within.{commandHits}
 use Rattle.nets.specs.Nets.{practised, practiceRange, rangeOf}
 use Rattle.nets.proofs.PlanHits.{hits-agree, hits-place}
 
@@ -59,7 +59,7 @@ module _ (size : Size) (rows : List Row) (firsts outcomes watch ends : List ℕ)
 
   -- of a net whose range at s is known
   losing-words : (a b : ℕ) → getD watch s 0 ≡ a → getD ends s 0 ≡ b
-      → losing (netOf (commandsOf size firsts outcomes) watch ends) A s ≡ (ltb a b && every (λ i. commandHits (commandsOf size firsts outcomes) A (a + i)) (b - a))
+      → losing (netOf (size .n) (commandsOf size firsts outcomes) watch ends) A s ≡ (ltb a b && every (λ i. commandHits (commandsOf size firsts outcomes) A (a + i)) (b - a))
   unfolding losing from to
   losing-words a b p q = rw (p, q)
 
@@ -72,7 +72,7 @@ module _ (size : Size) (rows : List Row) (firsts outcomes watch ends : List ℕ)
       (λ e. command-active P s (sound-valid T sounds) (rw (states-held T) l) 0 (omega (arith, ltb-true (firstCommand T s) (firstCommand T (suc s)) e, commands-held T s l)))
       (λ e. lt-ltb (firstCommand T s) (firstCommand T (suc s)) (omega (arith, active-is P s e .1, commands-held T s l)))
 
-  pub losing-all : alone ≡ false → losing (netOf (commandsOf size firsts outcomes) watch ends) A s ≡ forced P B s
+  pub losing-all : alone ≡ false → losing (netOf (size .n) (commandsOf size firsts outcomes) watch ends) A s ≡ forced P B s
   unfolding forced rangeOf commandCount
   losing-all z =
       losing-words (firstCommand T s) (firstCommand T (suc s)) (begins s l ∙ rw z) (stops s l ∙ rw (z, add-one s))
@@ -81,16 +81,16 @@ module _ (size : Size) (rows : List Row) (firsts outcomes watch ends : List ℕ)
 
   -- ---- the practice alone
 
-  pub losing-practice : alone ≡ true → losing (netOf (commandsOf size firsts outcomes) watch ends) A s ≡ policyHits P B s
+  pub losing-practice : alone ≡ true → losing (netOf (size .n) (commandsOf size firsts outcomes) watch ends) A s ≡ policyHits P B s
   unfolding policyHits rangeOf practiceRange every
   losing-practice z = ⊎-elim given none (true-or-false (practised (spanAt T s)))
     where
-      none : practised (spanAt T s) ≡ false → losing (netOf (commandsOf size firsts outcomes) watch ends) A s ≡ (hasPolicy P s && hits P B s (P .policy s))
+      none : practised (spanAt T s) ≡ false → losing (netOf (size .n) (commandsOf size firsts outcomes) watch ends) A s ≡ (hasPolicy P s && hits P B s (P .policy s))
       none e =
           losing-words (firstCommand T s) (firstCommand T s) (begins s l ∙ rw (z, e)) (stops s l ∙ rw (z, e))
           ∙ rw (le-ltb (firstCommand T s) (firstCommand T s) (omega arith), ← practised-is T s l, e)
 
-      given : practised (spanAt T s) ≡ true → losing (netOf (commandsOf size firsts outcomes) watch ends) A s ≡ (hasPolicy P s && hits P B s (P .policy s))
+      given : practised (spanAt T s) ≡ true → losing (netOf (size .n) (commandsOf size firsts outcomes) watch ends) A s ≡ (hasPolicy P s && hits P B s (P .policy s))
       given e =
           let p = rowAt T s .policy in
           let f = firstCommand T s in

@@ -24,7 +24,7 @@ use Rattle.tables.specs.declared.Row.{Row}
 use Rattle.tables.specs.declared.Size.{Size}
 use Rattle.tables.specs.Meaning.{held}
 use Rattle.tables.specs.Spans.{commandsOf}
-use Rattle.propagate.specs.Net.{commandHits}
+use Rattle.choice.specs.Within.{commandHits}
 
 module _ (T : Tables) (sounds : sound T ≡ true) (A B : ℕ → Bool) (same : Agree (T .size .n) A B) (s : ℕ) (l : s < T .size .n) where
   -- outcomes are states

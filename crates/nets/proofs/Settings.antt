@@ -91,7 +91,7 @@ module _ (size : Size) (rows : List Row) (firsts outcomes : List ℕ) where
       pub both-ready : size .n ≤ length r₀ → size .n ≤ length w₀ → size .n ≤ length e₀
           → {u₀ x₀ y₀ u x y : List ℕ} → Initialized T true (size .n) u₀ x₀ y₀ u x y → size .n ≤ length u₀ → size .n ≤ length x₀ → size .n ≤ length y₀
           → (places : ℕ) → size .n ≤ places
-          → Ready (commandsOf size firsts outcomes) × (Parts starts (size .n) (size .m)
+          → Ready (size .n) (commandsOf size firsts outcomes) × (Parts starts (size .n) (size .m)
           × (OwnRanges (size .n) (size .m) starts starts e × (OwnRanges (size .n) (size .m) starts x y
           × (((size .n ≤ length r) × (size .n ≤ length u) × (size .n ≤ places)) × (Seeded (size .n) r × Seeded (size .n) u)))))
       both-ready lr lw le w lu lx ly places lq = (

@@ -16,7 +16,7 @@ use Rattle.propagate.specs.Net.{Net, depth, seeds}
 
 -- a table of seeds, with the number of steps in which each state is lost, or FFFF, in their place
 abbrev pub depthTable : Net → List ℕ → List ℕ
-depthTable N ranks = overwrite (tabulate (λ (s : ℕ). entry (depth N (seeds ranks) s)) 0 (N .commands .size .n)) ranks
+depthTable N ranks = overwrite (tabulate (λ (s : ℕ). entry (depth N (seeds ranks) s)) 0 (N .states)) ranks
 
 -- the commands that count at each of n states are among its own, which start where `starts` says, the last ending at m
 pub record OwnRanges (n m : ℕ) (starts froms tos : List ℕ) : Type 0 where

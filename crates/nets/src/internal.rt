@@ -74,14 +74,14 @@ pub fn index_all(
     offsets: &mut [u16],
     users: &mut [u16],
 )
-    requires { ⌜ Ready (commandsOf size (now firsts) (now outcomes)) ⌝ }
+    requires { ⌜ Ready (size .n) (commandsOf size (now firsts) (now outcomes)) ⌝ }
     requires { ⌜ Parts (now starts) (size .n) (size .m) ⌝ }
     requires { ⌜ (size .n ≤ length (now starts)) × ((size .m ≤ length (now owner)) × ((size .n ≤ length (now offsets)) × (size .t ≤ length (now users)))) ⌝ }
-    ensures indexed { λ _. ⌜ Indexed (commandsOf size (now (firsts .entry)) (now (outcomes .entry))) (now (offsets .exit)) (now (users .exit)) (now (owner .exit)) ⌝ }
+    ensures indexed { λ _. ⌜ Indexed (size .n) (commandsOf size (now (firsts .entry)) (now (outcomes .entry))) (now (offsets .exit)) (now (users .exit)) (now (owner .exit)) ⌝ }
     ensures owned { λ _. ⌜ Owned (now (starts .entry)) (size .n) (size .m) (now (owner .exit)) ⌝ }
 {
     own(size, starts, owner);
-    group(size, firsts, outcomes, offsets, users);
+    group(size.n, size.m, size.t, firsts, outcomes, offsets, users);
 }
 
 // A propagation whose queue is in the first n places of scratch: what they have afterwards is free, and what is behind them is as it was.
@@ -97,14 +97,14 @@ pub fn propagate_in(
     froms: &mut [u16],
     scratch: &mut [u16],
 )
-    requires { ⌜ Ready (commandsOf size (now firsts) (now outcomes)) ⌝ }
-    requires { ⌜ Ranges (commandsOf size (now firsts) (now outcomes)) (now tos) ⌝ }
-    requires { ⌜ Indexed (commandsOf size (now firsts) (now outcomes)) (now offsets) (now users) (now owner) ⌝ }
-    requires { ⌜ Owns (netOf (commandsOf size (now firsts) (now outcomes)) (now froms) (now tos)) (now owner) ⌝ }
+    requires { ⌜ Ready (size .n) (commandsOf size (now firsts) (now outcomes)) ⌝ }
+    requires { ⌜ Ranges (size .n) (size .m) (now tos) ⌝ }
+    requires { ⌜ Indexed (size .n) (commandsOf size (now firsts) (now outcomes)) (now offsets) (now users) (now owner) ⌝ }
+    requires { ⌜ Owns (netOf (size .n) (commandsOf size (now firsts) (now outcomes)) (now froms) (now tos)) (now owner) ⌝ }
     requires { ⌜ (size .n ≤ length (now ranks)) × ((size .n ≤ length (now froms)) × ((size .n ≤ length (now scratch)) × Seeded (size .n) (now ranks))) ⌝ }
     ensures ranked { λ _. ⌜
         now (ranks .exit)
-        ≡ depthTable (netOf (commandsOf size (now (firsts .entry)) (now (outcomes .entry))) (now (froms .entry)) (now (tos .entry))) (now (ranks .entry))
+        ≡ depthTable (netOf (size .n) (commandsOf size (now (firsts .entry)) (now (outcomes .entry))) (now (froms .entry)) (now (tos .entry))) (now (ranks .entry))
         ⌝ }
     ensures queued { λ _. ⌜ Filled (size .n) (λ i. getD (now (scratch .exit)) i 0) (now (scratch .entry)) (now (scratch .exit)) ⌝ }
 {
@@ -138,7 +138,7 @@ pub fn propagate_both(
     practices: &mut [u16],
     scratch: &mut [u16],
 )
-    requires { ⌜ Ready (commandsOf size (now firsts) (now outcomes)) ⌝ }
+    requires { ⌜ Ready (size .n) (commandsOf size (now firsts) (now outcomes)) ⌝ }
     requires { ⌜ Parts (now froms) (size .n) (size .m) ⌝ }
     requires { ⌜ OwnRanges (size .n) (size .m) (now froms) (now froms) (now tos) ⌝ }
     requires { ⌜ OwnRanges (size .n) (size .m) (now froms) (now practices) (now ends) ⌝ }
@@ -146,11 +146,11 @@ pub fn propagate_both(
     requires { ⌜ Seeded (size .n) (now ranks) × Seeded (size .n) (now fails) ⌝ }
     ensures ranked { λ _. ⌜
         now (ranks .exit)
-        ≡ depthTable (netOf (commandsOf size (now (firsts .entry)) (now (outcomes .entry))) (now (froms .entry)) (now (tos .entry))) (now (ranks .entry))
+        ≡ depthTable (netOf (size .n) (commandsOf size (now (firsts .entry)) (now (outcomes .entry))) (now (froms .entry)) (now (tos .entry))) (now (ranks .entry))
         ⌝ }
     ensures failed { λ _. ⌜
         now (fails .exit)
-        ≡ depthTable (netOf (commandsOf size (now (firsts .entry)) (now (outcomes .entry))) (now (practices .entry)) (now (ends .entry))) (now (fails .entry))
+        ≡ depthTable (netOf (size .n) (commandsOf size (now (firsts .entry)) (now (outcomes .entry))) (now (practices .entry)) (now (ends .entry))) (now (fails .entry))
         ⌝ }
     ensures queued { λ _. ⌜ Filled (size .n) (λ i. getD (now (scratch .exit)) i 0) (now (scratch .entry)) (now (scratch .exit)) ⌝ }
 {

@@ -16,7 +16,7 @@ use Rattle.laws.proofs.Tests.{clash, refute}
 use Rattle.laws.proofs.Sets.{Part, lowest-eq}
 use Rattle.laws.proofs.Grow.{grow-step, still-all}
 use Rattle.laws.proofs.Overwrites.{overwrite-is}
-use Rattle.model.specs.Tables.{Tables}
+use Rattle.model.specs.Tables.{Lists}
 use Rattle.tables.specs.Ready.{Ready}
 use Rattle.propagate.specs.Net.{Net, netOf, losing, netLayer, depth, seeds, Ranges, Owns}
 use Rattle.propagate.specs.Work.{Work, work, QueueBound, AtLayer, Layered}
@@ -25,10 +25,10 @@ use Rattle.propagate.proofs.Counting.{count-le}
 use Rattle.propagate.proofs.LayerSteps.{none-waits, lost-waits}
 
 -- when no state waits, the ranks are the depths
-module _ (N : Net) (R : Ready (N .commands)) (ends : Ranges (N .commands) (N .tos)) (K : ℕ → Bool) (k lo : ℕ) (small : k ≤ N .commands .size .n) (X : Work)
+module _ (N : Net) (R : Ready (N .states) (N .commands)) (ends : Ranges (N .states) (N .commands .count) (N .tos)) (K : ℕ → Bool) (k lo : ℕ) (small : k ≤ N .states) (X : Work)
     (u : AtLayer N K k lo X) (over : X .end ≤ lo) where
   abbrev n : ℕ
-  n = N .commands .size .n
+  n = N .states
 
   abbrev r : ℕ → ℕ
   r s = getD (X .ranks) s 0
@@ -63,19 +63,19 @@ module _ (N : Net) (R : Ready (N .commands)) (ends : Ranges (N .commands) (N .to
           before l j g = sym (u .towards .ranked j s (omega arith) h) ∙ lt-leb (r s) j g
 
 -- The loop at layer k, from the tables r₀, w₀, q₀. As many states wait or have waited as layers are done, so there are no more than n.
-pub record Going (C : Tables) (tos r₀ w₀ q₀ : List ℕ) (r w q : List ℕ) (lo hi k : ℕ) : Type 0 where
+pub record Going (n : ℕ) (C : Lists) (tos r₀ w₀ q₀ : List ℕ) (r w q : List ℕ) (lo hi k : ℕ) : Type 0 where
   pub order : lo ≤ hi
   pub layers : k ≤ lo
-  pub bound : QueueBound (C .size .n) (work r w q hi)
-  pub rest : (i : ℕ) → C .size .n ≤ i → getD r i 0 ≡ getD r₀ i 0
-  pub at-layer : AtLayer (netOf C w₀ tos) (seeds r₀) k lo (work r w q hi)
+  pub bound : QueueBound (n) (work r w q hi)
+  pub rest : (i : ℕ) → n ≤ i → getD r i 0 ≡ getD r₀ i 0
+  pub at-layer : AtLayer (netOf n C w₀ tos) (seeds r₀) k lo (work r w q hi)
   pub long : length r ≡ length r₀
   pub wlong : length w ≡ length w₀
   pub qlong : length q ≡ length q₀
 
-module _ (C : Tables) (tos r₀ w₀ : List ℕ) where
-  pub going-start : (q₀ q : List ℕ) (e : ℕ) → QueueBound (C .size .n) (work r₀ w₀ q e) → AtLayer (netOf C w₀ tos) (seeds r₀) 0 0 (work r₀ w₀ q e) → length q ≡ length q₀
-      → Going C tos r₀ w₀ q₀ r₀ w₀ q 0 e 0
+module _ {n : ℕ} (C : Lists) (tos r₀ w₀ : List ℕ) where
+  pub going-start : (q₀ q : List ℕ) (e : ℕ) → QueueBound (n) (work r₀ w₀ q e) → AtLayer (netOf n C w₀ tos) (seeds r₀) 0 0 (work r₀ w₀ q e) → length q ≡ length q₀
+      → Going n C tos r₀ w₀ q₀ r₀ w₀ q 0 e 0
   going-start q₀ q e bound u l = record {
     order = omega arith;
     layers = omega arith;
@@ -87,12 +87,12 @@ module _ (C : Tables) (tos r₀ w₀ : List ℕ) where
     qlong = l;
   }
 
-  module _ (q₀ r w q : List ℕ) (lo hi k : ℕ) (v : Going C tos r₀ w₀ q₀ r w q lo hi k) where
-    pub going-few : hi ≤ C .size .n
-    going-few = omega (arith, v .bound .few, count-le (C .size .n) r)
+  module _ (q₀ r w q : List ℕ) (lo hi k : ℕ) (v : Going n C tos r₀ w₀ q₀ r w q lo hi k) where
+    pub going-few : hi ≤ n
+    going-few = omega (arith, v .bound .few, count-le (n) r)
 
-    pub going-next : (owner : List ℕ) → Owns (netOf C w₀ tos) owner → lo < hi → (r′ w′ q′ : List ℕ) (e : ℕ) → Layered C tos owner k lo (work r w q hi) (work r′ w′ q′ e)
-        → length r′ ≡ length r → length w′ ≡ length w → length q′ ≡ length q → Going C tos r₀ w₀ q₀ r′ w′ q′ hi e (k + 1)
+    pub going-next : (owner : List ℕ) → Owns (netOf n C w₀ tos) owner → lo < hi → (r′ w′ q′ : List ℕ) (e : ℕ) → Layered n C tos owner k lo (work r w q hi) (work r′ w′ q′ e)
+        → length r′ ≡ length r → length w′ ≡ length w → length q′ ≡ length q → Going n C tos r₀ w₀ q₀ r′ w′ q′ hi e (k + 1)
     going-next owner own h r′ w′ q′ e L lr lw lq = record {
       order = L .more;
       layers = omega (arith, v .layers);
@@ -104,8 +104,8 @@ module _ (C : Tables) (tos r₀ w₀ : List ℕ) where
       qlong = lq ∙ v .qlong;
     }
 
-    pub going-done : Ready C → Ranges C tos → C .size .n ≤ length r₀ → hi ≤ lo
-        → r ≡ overwrite (tabulate (λ (s : ℕ). entry (depth (netOf C w₀ tos) (seeds r₀) s)) 0 (C .size .n)) r₀
+    pub going-done : Ready n C → Ranges n (C .count) tos → n ≤ length r₀ → hi ≤ lo
+        → r ≡ overwrite (tabulate (λ (s : ℕ). entry (depth (netOf n C w₀ tos) (seeds r₀) s)) 0 (n)) r₀
     going-done R ends long h =
-        overwrite-is (λ (s : ℕ). entry (depth (netOf C w₀ tos) (seeds r₀) s)) (C .size .n) r₀ long r (v .long)
-        (depth-is (netOf C w₀ tos) R ends (seeds r₀) k lo (omega (arith, v .layers, v .order, going-few)) (work r w q hi) (v .at-layer) h) (v .rest)
+        overwrite-is (λ (s : ℕ). entry (depth (netOf n C w₀ tos) (seeds r₀) s)) (n) r₀ long r (v .long)
+        (depth-is (netOf n C w₀ tos) R ends (seeds r₀) k lo (omega (arith, v .layers, v .order, going-few)) (work r w q hi) (v .at-layer) h) (v .rest)

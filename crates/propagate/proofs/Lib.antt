@@ -1,6 +1,4 @@
 pub mod Hits
-pub mod Scans
-pub mod CommandHits
 pub mod Counting
 pub mod Visits
 pub mod Spreads

@@ -12,15 +12,15 @@ use lib.ListN.{length, getD}
 use Rattle.laws.specs.Starts.{startOf}
 use Rattle.laws.proofs.Tests.{or-cases, or-left, or-right}
 use Rattle.laws.proofs.Starts.{start-next}
-use Rattle.model.specs.Tables.{Tables}
+use Rattle.model.specs.Tables.{Lists}
 use Rattle.propagate.specs.Net.{netOf, netLayer, Ranges, Indexed}
 use Rattle.propagate.specs.Work.{Work, QueueBound, Moved, Among}
 use Rattle.propagate.proofs.Hits.{to-in}
 use Rattle.propagate.proofs.Visits.{watch-more}
 
-module _ (C : Tables) (tos owner : List ℕ) (k : ℕ) where
+module _ {n : ℕ} (C : Lists) (tos owner : List ℕ) (k : ℕ) where
   -- nothing is looked at yet
-  pub moved-none : Ranges C tos → (D : ℕ → Type 0) (X : Work) → QueueBound (C .size .n) X → ((c : ℕ) → D c → ⊥) → Moved C tos owner k D X X
+  pub moved-none : Ranges n (C .count) tos → (D : ℕ → Type 0) (X : Work) → QueueBound (n) X → ((c : ℕ) → D c → ⊥) → Moved n C tos owner k D X X
   moved-none ends D X bound none = record {
     towards = λ froms K G G′ hi low own left v.
         record {
@@ -28,7 +28,7 @@ module _ (C : Tables) (tos owner : List ℕ) (k : ℕ) where
           fresh = v .fresh;
           queued = v .queued;
           watches = λ s h e.
-              let N = netOf C froms tos in
+              let N = netOf n C froms tos in
               let c = getD (X .watch) s 0 in
               watch-more N (netLayer N K k) G G′ s c (v .watches s h e) (λ l t. left c (omega (arith, to-in N ends s h)) t (none c));
         };
@@ -39,8 +39,8 @@ module _ (C : Tables) (tos owner : List ℕ) (k : ℕ) where
   }
 
   -- one command more
-  pub moved-next : (D E : ℕ → Type 0) (X Y Z : Work) (c : ℕ) → Moved C tos owner k D X Y → Moved C tos owner k (λ (d : ℕ). d ≡ c) Y Z
-      → ((d : ℕ) → E d → D d ⊎ (d ≡ c)) → Moved C tos owner k E X Z
+  pub moved-next : (D E : ℕ → Type 0) (X Y Z : Work) (c : ℕ) → Moved n C tos owner k D X Y → Moved n C tos owner k (λ (d : ℕ). d ≡ c) Y Z
+      → ((d : ℕ) → E d → D d ⊎ (d ≡ c)) → Moved n C tos owner k E X Z
   moved-next D E X Y Z c M P sub = record {
     towards = λ froms K G G′ hi low own left v.
         P .towards froms K (λ d. G′ d || eqb d c) G′ hi (omega (arith, M .more)) own (λ d l t n. drop G′ d t n)
@@ -54,18 +54,18 @@ module _ (C : Tables) (tos owner : List ℕ) (k : ℕ) where
       drop : (G′ : ℕ → Bool) (d : ℕ) → G′ d || eqb d c ≡ true → (d ≡ c → ⊥) → G′ d ≡ true
       drop G′ d t n = ⊎-elim (λ e. e) (λ e. absurd (n (eqb-true d c e))) (or-cases (G′ d) (eqb d c) t)
 
-      keep : (G G′ : ℕ → Bool) → ((d : ℕ) → d < C .size .m → G d ≡ true → (E d → ⊥) → G′ d ≡ true) → (d : ℕ) → d < C .size .m → G d ≡ true → (D d → ⊥)
+      keep : (G G′ : ℕ → Bool) → ((d : ℕ) → d < C .count → G d ≡ true → (E d → ⊥) → G′ d ≡ true) → (d : ℕ) → d < C .count → G d ≡ true → (D d → ⊥)
           → Dec (d ≡ c) → G′ d || eqb d c ≡ true
       keep G G′ left d l t n (yes e) = or-right (G′ d) (eqb d c) (eq-eqb d c e)
       keep G G′ left d l t n (no e) = or-left (G′ d) (eqb d c) (left d l t (λ x. ⊎-elim n e (sub d x)))
 
 -- The walk over the users from place a on, at place p.
-module _ (C : Tables) (tos owner : List ℕ) (k : ℕ) (users : List ℕ) (a : ℕ) (X : Work) where
-  pub spread-start : Ranges C tos → QueueBound (C .size .n) X → Moved C tos owner k (Among users a a) X X
+module _ {n : ℕ} (C : Lists) (tos owner : List ℕ) (k : ℕ) (users : List ℕ) (a : ℕ) (X : Work) where
+  pub spread-start : Ranges n (C .count) tos → QueueBound (n) X → Moved n C tos owner k (Among users a a) X X
   spread-start ends bound = moved-none C tos owner k ends (Among users a a) X bound (λ c t. omega (arith, t .since, t .below))
 
-  pub spread-next : (p : ℕ) (Y Z : Work) (c : ℕ) → c ≡ getD users p 0 → Moved C tos owner k (Among users a p) X Y
-      → Moved C tos owner k (λ (d : ℕ). d ≡ c) Y Z → Moved C tos owner k (Among users a (p + 1)) X Z
+  pub spread-next : (p : ℕ) (Y Z : Work) (c : ℕ) → c ≡ getD users p 0 → Moved n C tos owner k (Among users a p) X Y
+      → Moved n C tos owner k (λ (d : ℕ). d ≡ c) Y Z → Moved n C tos owner k (Among users a (p + 1)) X Z
   spread-next p Y Z c e M P =
       moved-next C tos owner k (Among users a p) (Among users a (p + 1)) X Y Z c M P (λ d t. go d t (decLt (t .place) p))
     where
@@ -73,15 +73,15 @@ module _ (C : Tables) (tos owner : List ℕ) (k : ℕ) (users : List ℕ) (a : �
       go d t (yes h) = inl (record { place = t .place; since = t .since; below = h; stands = t .stands })
       go d t (no h) = let z : t .place ≡ p = omega (arith, t .below) in inr (sym (t .stands) ∙ rw z (sym e))
 
-  pub spread-done : (p z : ℕ) (Y : Work) → Moved C tos owner k (Among users a p) X Y → p ≤ z → z ≤ p → (b e : ℕ) → a ≡ b → z ≡ e
-      → Moved C tos owner k (Among users b e) X Y
+  pub spread-done : (p z : ℕ) (Y : Work) → Moved n C tos owner k (Among users a p) X Y → p ≤ z → z ≤ p → (b e : ℕ) → a ≡ b → z ≡ e
+      → Moved n C tos owner k (Among users b e) X Y
   spread-done p z Y M g h b e q f = let y : p ≡ e = omega arith in rw (← q, ← y) M
 
 -- the places of a group, and the command that is read there
-module _ (C : Tables) (offsets users owner : List ℕ) (I : Indexed C offsets users owner) (o : ℕ) (h : o < C .size .n) (a z : ℕ)
-    (q : a ≡ startOf offsets (C .size .n) (C .size .t) o) (r : z ≡ startOf offsets (C .size .n) (C .size .t) (o + 1)) where
-  top : z ≡ startOf offsets (C .size .n) (C .size .t) (suc o)
-  top = r ∙ start-next offsets (C .size .n) (C .size .t) o
+module _ {n : ℕ} (C : Lists) (offsets users owner : List ℕ) (I : Indexed n C offsets users owner) (o : ℕ) (h : o < n) (a z : ℕ)
+    (q : a ≡ startOf offsets (n) (C .end) o) (r : z ≡ startOf offsets (n) (C .end) (o + 1)) where
+  top : z ≡ startOf offsets (n) (C .end) (suc o)
+  top = r ∙ start-next offsets (n) (C .end) o
 
   pub group-order : a ≤ z
   group-order = omega (arith, top, I .grouped .rises o h)
@@ -90,11 +90,11 @@ module _ (C : Tables) (offsets users owner : List ℕ) (I : Indexed C offsets us
     pub group-place : p < length users
     group-place = omega (arith, top, I .grouped .within o h, I .users-long)
 
-    pub group-end : p < C .size .t
+    pub group-end : p < C .end
     group-end = omega (arith, top, I .grouped .within o h)
 
-    pub group-command : (c : ℕ) → c ≡ getD users p 0 → c < C .size .m
+    pub group-command : (c : ℕ) → c ≡ getD users p 0 → c < C .count
     group-command c e = omega (arith, e, I .grouped .inside o p h (omega arith) (omega (arith, top)))
 
-    pub group-owner : (c : ℕ) → c ≡ getD users p 0 → (c < length owner) × (getD owner c 0 < C .size .n)
+    pub group-owner : (c : ℕ) → c ≡ getD users p 0 → (c < length owner) × (getD owner c 0 < n)
     group-owner c e = let m = group-command c e in (omega (arith, I .owner-long), I .inside c m)

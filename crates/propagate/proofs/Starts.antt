@@ -15,10 +15,11 @@ use Rattle.laws.specs.Entry.{FFFF}
 use Rattle.laws.specs.Sets.{grow}
 use Rattle.laws.proofs.Counts.{many-yes, many-upto}
 use Rattle.laws.proofs.Defaults.{getD-inside}
-use Rattle.model.specs.Tables.{Tables}
+use Rattle.model.specs.Tables.{Lists}
 use Rattle.tables.specs.Ready.{Ready}
-use Rattle.index.proofs.Groups.{outcome-in}
-use Rattle.propagate.specs.Net.{Net, netOf, from, commandHits, netLayer, seeds, Seeded, Ranges}
+use Rattle.index.proofs.Groups.{entry-in}
+use Rattle.choice.specs.Within.{commandHits}
+use Rattle.propagate.specs.Net.{Net, netOf, from, netLayer, seeds, Seeded, Ranges}
 use Rattle.propagate.specs.Work.{work, rankCount, QueueBound, waiting, AtLayer, SeedsQueued}
 use Rattle.propagate.proofs.Hits.{hit-some, hit-of, to-in}
 use Rattle.propagate.proofs.Counting.{has-rank, count-le}
@@ -69,25 +70,25 @@ module _ (r q : List ℕ) (s e : ℕ) (v : SeedsQueued r q s e) (x : ℕ) (p : x
       find u l y (yes d) = let (i, a, b) = v .found u d y in (i, omega arith, old i a ∙ b)
       find u l y (no d) = let t : u ≡ s = omega arith in (e, omega arith, new ∙ sym t)
 
-module _ (C : Tables) (R : Ready C) (tos : List ℕ) (ends : Ranges C tos) (r w q : List ℕ) (long : C .size .n ≤ length r) (a : Seeded (C .size .n) r) (e : ℕ) (v : SeedsQueued r q (C .size .n) e) where
+module _ {n : ℕ} (C : Lists) (R : Ready n C) (tos : List ℕ) (ends : Ranges n (C .count) tos) (r w q : List ℕ) (long : n ≤ length r) (a : Seeded (n) r) (e : ℕ) (v : SeedsQueued r q (n) e) where
   abbrev N : Net
-  N = netOf C w tos
+  N = netOf n C w tos
 
-  pub start-bound : QueueBound (C .size .n) (work r w q e)
+  pub start-bound : QueueBound (n) (work r w q e)
   start-bound = record { few = v .few; states = v .states }
 
-  low : (s : ℕ) → s < C .size .n → (getD r s 0 ≡ FFFF → ⊥) → getD r s 0 ≤ 0
+  low : (s : ℕ) → s < n → (getD r s 0 ≡ FFFF → ⊥) → getD r s 0 ≤ 0
   low s h n = go (a .seeded s h)
     where
       go : (getD r s 0 ≡ 0) ⊎ (getD r s 0 ≡ FFFF) → getD r s 0 ≤ 0
       go (inl z) = omega arith
       go (inr z) = absurd (n z)
 
-  zero-rank : (s : ℕ) → s < C .size .n → netLayer N (seeds r) 0 s ≡ true → getD r s 0 ≡ 0
+  zero-rank : (s : ℕ) → s < n → netLayer N (seeds r) 0 s ≡ true → getD r s 0 ≡ 0
   unfolding grow
   zero-rank s h t = getD-inside r s 0 1 (omega arith) ∙ eqb-true (getD r s 1) 0 t
 
-  ranked : (s : ℕ) → s < C .size .n → leb (getD r s 0) 0 ≡ netLayer N (seeds r) 0 s
+  ranked : (s : ℕ) → s < n → leb (getD r s 0) 0 ≡ netLayer N (seeds r) 0 s
   unfolding grow
   ranked s h = go (a .seeded s h)
     where
@@ -98,10 +99,10 @@ module _ (C : Tables) (R : Ready C) (tos : List ℕ) (ends : Ranges C tos) (r w 
       go (inl z) = le-leb (getD r s 0) 0 (omega arith) ∙ sym (eq-eqb (getD r s 1) 0 (here ∙ z))
       go (inr z) = lt-leb (getD r s 0) 0 (omega arith) ∙ sym (ne-eqb (getD r s 1) 0 (λ y. omega (arith, here)))
 
-  waits : (c : ℕ) → c < C .size .m → commandHits C (netLayer N (seeds r) 0) c ≡ true → commandHits C (waiting q 0 e) c ≡ true
+  waits : (c : ℕ) → c < C .count → commandHits C (netLayer N (seeds r) 0) c ≡ true → commandHits C (waiting q 0 e) c ≡ true
   waits c l t =
       let (o, m, f) = hit-some C (netLayer N (seeds r) 0) c t in
-      let h = outcome-in C R c o l m in
+      let h = entry-in C R c o l m in
       let (i, b, d) = v .found o h (zero-rank o h f) in
       hit-of C (waiting q 0 e) c o m (wait-of q 0 e o i (omega arith) b d)
 

@@ -10,37 +10,13 @@ ghost use Rattle.model.specs.File.{maxStates};
 ghost use Rattle.tables.specs.Spans.{commandsOf};
 ghost use Rattle.tables.specs.Ready.{Ready};
 ghost use Rattle.propagate.specs.Net.{netOf, depth, seeds, Seeded, Ranges, Indexed, Owns};
-ghost use Rattle.propagate.specs.Work.{work, Advanced, QueueBound, Moved, Among, Layered, SeedsQueued};
-use choice::internal::command_hit;
+ghost use Rattle.propagate.specs.Work.{work, QueueBound, Moved, Among, Layered, SeedsQueued};
+use choice::internal::first_clear;
 use tables::Size;
 use tables::internal::NONE;
 use tables::internal::at;
 use tables::internal::put;
 use tables::internal::start_of;
-
-// The first command from a on, below e, that has no outcome of a rank of at most k; or e.
-fn advance(
-    size: Size,
-    firsts: &[u16],
-    outcomes: &[u16],
-    ranks: &[u16],
-    a: usize,
-    e: usize,
-    k: usize,
-) -> usize
-    requires { ⌜ Ready (commandsOf size (now firsts) (now outcomes)) ⌝ }
-    requires { ⌜ (a ≤ e) × ((e ≤ size .m) × (size .n ≤ length (now ranks))) ⌝ }
-    ensures { λ r. ⌜ Advanced (commandsOf size (now (firsts .entry)) (now (outcomes .entry))) (now (ranks .entry)) k a e r ⌝ }
-{
-    let mut c = a;
-    while c < e {
-        if !command_hit(size, firsts, outcomes, ranks, k, c) {
-            return c;
-        }
-        c += 1;
-    }
-    c
-}
 
 // The command c, which may have an outcome of rank k, is looked at: if its state watches it, the state goes on to the next command
 // that has no outcome of a rank of at most k; if there is none, the state has rank k + 1 and waits at the end of the queue.
@@ -57,11 +33,11 @@ fn visit(
     end: usize,
     k: usize,
 ) -> usize
-    requires { ⌜ Ready (commandsOf size (now firsts) (now outcomes)) ⌝ }
-    requires { ⌜ Ranges (commandsOf size (now firsts) (now outcomes)) (now tos) ⌝ }
+    requires { ⌜ Ready (size .n) (commandsOf size (now firsts) (now outcomes)) ⌝ }
+    requires { ⌜ Ranges (size .n) (size .m) (now tos) ⌝ }
     requires { ⌜ (c < length (now owner)) × ((getD (now owner) c 0 < size .n) × ((size .n ≤ length (now ranks)) × ((size .n ≤ length (now watch)) × ((size .n ≤ length (now queue)) × (k < maxStates))))) ⌝ }
     requires { ⌜ QueueBound (size .n) (work (now ranks) (now watch) (now queue) end) ⌝ }
-    ensures { λ r. ⌜ Moved (commandsOf size (now (firsts .entry)) (now (outcomes .entry))) (now (tos .entry)) (now (owner .entry)) k (λ (d : ℕ). d ≡ c) (work (now (ranks .entry)) (now (watch .entry)) (now (queue .entry)) end) (work (now (ranks .exit)) (now (watch .exit)) (now (queue .exit)) r) ⌝ }
+    ensures { λ r. ⌜ Moved (size .n) (commandsOf size (now (firsts .entry)) (now (outcomes .entry))) (now (tos .entry)) (now (owner .entry)) k (λ (d : ℕ). d ≡ c) (work (now (ranks .entry)) (now (watch .entry)) (now (queue .entry)) end) (work (now (ranks .exit)) (now (watch .exit)) (now (queue .exit)) r) ⌝ }
 {
     let s = at(owner, c);
     if at(ranks, s) != NONE {
@@ -75,7 +51,7 @@ fn visit(
         return end;
     }
     let next = k + 1;
-    let x = advance(size, firsts, outcomes, ranks, c, e, k);
+    let x = first_clear(size, firsts, outcomes, ranks, k, c, e);
     put(watch, s, x);
     if x < e {
         return end;
@@ -101,12 +77,12 @@ fn spread(
     end: usize,
     k: usize,
 ) -> usize
-    requires { ⌜ Ready (commandsOf size (now firsts) (now outcomes)) ⌝ }
-    requires { ⌜ Ranges (commandsOf size (now firsts) (now outcomes)) (now tos) ⌝ }
-    requires { ⌜ Indexed (commandsOf size (now firsts) (now outcomes)) (now offsets) (now users) (now owner) ⌝ }
+    requires { ⌜ Ready (size .n) (commandsOf size (now firsts) (now outcomes)) ⌝ }
+    requires { ⌜ Ranges (size .n) (size .m) (now tos) ⌝ }
+    requires { ⌜ Indexed (size .n) (commandsOf size (now firsts) (now outcomes)) (now offsets) (now users) (now owner) ⌝ }
     requires { ⌜ (o < size .n) × ((size .n ≤ length (now ranks)) × ((size .n ≤ length (now watch)) × ((size .n ≤ length (now queue)) × (k < maxStates)))) ⌝ }
     requires { ⌜ QueueBound (size .n) (work (now ranks) (now watch) (now queue) end) ⌝ }
-    ensures { λ r. ⌜ Moved (commandsOf size (now (firsts .entry)) (now (outcomes .entry))) (now (tos .entry)) (now (owner .entry)) k (Among (now (users .entry)) (startOf (now (offsets .entry)) (size .n) (size .t) o) (startOf (now (offsets .entry)) (size .n) (size .t) (o + 1))) (work (now (ranks .entry)) (now (watch .entry)) (now (queue .entry)) end) (work (now (ranks .exit)) (now (watch .exit)) (now (queue .exit)) r) ⌝ }
+    ensures { λ r. ⌜ Moved (size .n) (commandsOf size (now (firsts .entry)) (now (outcomes .entry))) (now (tos .entry)) (now (owner .entry)) k (Among (now (users .entry)) (startOf (now (offsets .entry)) (size .n) (size .t) o) (startOf (now (offsets .entry)) (size .n) (size .t) (o + 1))) (work (now (ranks .entry)) (now (watch .entry)) (now (queue .entry)) end) (work (now (ranks .exit)) (now (watch .exit)) (now (queue .exit)) r) ⌝ }
 {
     let mut e = end;
     let mut p = start_of(offsets, size.n, size.t, o);
@@ -147,12 +123,12 @@ fn add_layer(
     hi: usize,
     k: usize,
 ) -> usize
-    requires { ⌜ Ready (commandsOf size (now firsts) (now outcomes)) ⌝ }
-    requires { ⌜ Ranges (commandsOf size (now firsts) (now outcomes)) (now tos) ⌝ }
-    requires { ⌜ Indexed (commandsOf size (now firsts) (now outcomes)) (now offsets) (now users) (now owner) ⌝ }
+    requires { ⌜ Ready (size .n) (commandsOf size (now firsts) (now outcomes)) ⌝ }
+    requires { ⌜ Ranges (size .n) (size .m) (now tos) ⌝ }
+    requires { ⌜ Indexed (size .n) (commandsOf size (now firsts) (now outcomes)) (now offsets) (now users) (now owner) ⌝ }
     requires { ⌜ (lo ≤ hi) × ((size .n ≤ length (now ranks)) × ((size .n ≤ length (now watch)) × ((size .n ≤ length (now queue)) × (k < maxStates)))) ⌝ }
     requires { ⌜ QueueBound (size .n) (work (now ranks) (now watch) (now queue) hi) ⌝ }
-    ensures { λ r. ⌜ Layered (commandsOf size (now (firsts .entry)) (now (outcomes .entry))) (now (tos .entry)) (now (owner .entry)) k lo (work (now (ranks .entry)) (now (watch .entry)) (now (queue .entry)) hi) (work (now (ranks .exit)) (now (watch .exit)) (now (queue .exit)) r) ⌝ }
+    ensures { λ r. ⌜ Layered (size .n) (commandsOf size (now (firsts .entry)) (now (outcomes .entry))) (now (tos .entry)) (now (owner .entry)) k lo (work (now (ranks .entry)) (now (watch .entry)) (now (queue .entry)) hi) (work (now (ranks .exit)) (now (watch .exit)) (now (queue .exit)) r) ⌝ }
 {
     let mut e = hi;
     let mut h = lo;
@@ -219,12 +195,12 @@ pub fn propagate(
     watch: &mut [u16],
     queue: &mut [u16],
 )
-    requires { ⌜ Ready (commandsOf size (now firsts) (now outcomes)) ⌝ }
-    requires { ⌜ Ranges (commandsOf size (now firsts) (now outcomes)) (now tos) ⌝ }
-    requires { ⌜ Indexed (commandsOf size (now firsts) (now outcomes)) (now offsets) (now users) (now owner) ⌝ }
-    requires { ⌜ Owns (netOf (commandsOf size (now firsts) (now outcomes)) (now watch) (now tos)) (now owner) ⌝ }
+    requires { ⌜ Ready (size .n) (commandsOf size (now firsts) (now outcomes)) ⌝ }
+    requires { ⌜ Ranges (size .n) (size .m) (now tos) ⌝ }
+    requires { ⌜ Indexed (size .n) (commandsOf size (now firsts) (now outcomes)) (now offsets) (now users) (now owner) ⌝ }
+    requires { ⌜ Owns (netOf (size .n) (commandsOf size (now firsts) (now outcomes)) (now watch) (now tos)) (now owner) ⌝ }
     requires { ⌜ (size .n ≤ length (now ranks)) × ((size .n ≤ length (now watch)) × ((size .n ≤ length (now queue)) × Seeded (size .n) (now ranks))) ⌝ }
-    ensures { λ _. ⌜ now (ranks .exit) ≡ overwrite (tabulate (λ (s : ℕ). entry (depth (netOf (commandsOf size (now (firsts .entry)) (now (outcomes .entry))) (now (watch .entry)) (now (tos .entry))) (seeds (now (ranks .entry))) s)) 0 (size .n)) (now (ranks .entry)) ⌝ }
+    ensures { λ _. ⌜ now (ranks .exit) ≡ overwrite (tabulate (λ (s : ℕ). entry (depth (netOf (size .n) (commandsOf size (now (firsts .entry)) (now (outcomes .entry))) (now (watch .entry)) (now (tos .entry))) (seeds (now (ranks .entry))) s)) 0 (size .n)) (now (ranks .entry)) ⌝ }
 {
     let mut lo = 0;
     let mut hi = enqueue_seeds(size.n, ranks, queue);

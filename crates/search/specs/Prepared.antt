@@ -24,7 +24,7 @@ pub record Prepared (size : Size) (rows : List Row) (firsts outcomes : List ℕ)
   pub sounds : sound (held size rows firsts outcomes) ≡ true
   pub few : size .n ≤ maxStates
   pub long-rows : size .n ≤ length rows
-  pub ready : Ready (commandsOf size firsts outcomes)
+  pub ready : Ready (size .n) (commandsOf size firsts outcomes)
   pub inside : start < size .n
   pub long-commands : size .n ≤ length commands
   pub long-scratch : size .n ≤ length scratch

@@ -46,7 +46,7 @@ fn expand(
     q: usize,
     s: usize,
 ) -> usize
-    requires { ⌜ Ready (commandsOf size (now firsts) (now outcomes)) ⌝ }
+    requires { ⌜ Ready (size .n) (commandsOf size (now firsts) (now outcomes)) ⌝ }
     requires { ⌜ Seen size (now firsts) (now outcomes) s span ⌝ }
     requires { ⌜ (size .n ≤ length (now commands)) × (size .n ≤ length (now scratch)) × (size .n ≤ length (now queue)) ⌝ }
     requires { ⌜ Queued (size .n) q (now scratch) (now queue) ⌝ }

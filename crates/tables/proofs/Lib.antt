@@ -2,7 +2,7 @@ pub mod Reading
 pub mod RowPlaces
 pub mod Made
 pub mod Spans
-pub mod CommandTest
+pub mod ListTest
 pub mod LongTest
 pub mod StoredRows
 pub mod Filling

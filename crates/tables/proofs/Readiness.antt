@@ -1,33 +1,41 @@
--- The commands of a sound plan are ready, and where each one's outcomes are.
+-- The list tables of a sound plan are ready, and where each list is.
 use mathlib.Core.Path.{_≡_}
 use mathlib.Core.Bool.{true}
 use mathlib.Core.List.{List}
 use Prim.Native.Nat.{ℕ, suc, _<_, _≤_}
-use native.Mathlib.Nat.{le-of-lt}
 use Rattle.laws.proofs.Starts.{start-le}
-use Rattle.model.specs.Tables.{Tables}
-use Rattle.model.specs.Places.{firstOutcome}
+use Rattle.model.specs.File.{maxStates, maxCommands, maxOutcomes}
+use Rattle.model.specs.Tables.{Lists}
+use Rattle.model.specs.Places.{startIn}
+use Rattle.model.specs.Sound.{LongLists}
 use Rattle.model.specs.SoundTest.{sound}
-use Rattle.model.proofs.SoundFacts.{Fits, sound-facts}
+use Rattle.model.proofs.ListTable.{ListsFit, lists-ordered}
+use Rattle.model.proofs.SoundFacts.{sound-facts}
 use Rattle.tables.specs.declared.Row.{Row}
 use Rattle.tables.specs.declared.Size.{Size}
 use Rattle.tables.specs.Meaning.{held}
 use Rattle.tables.specs.Spans.{commandsOf}
 use Rattle.tables.specs.Ready.{Ready}
 
-module _ (size : Size) (rows : List Row) (firsts outcomes : List ℕ) where
-  pub fits-ready : Fits (held size rows firsts outcomes) → Ready (commandsOf size firsts outcomes)
-  fits-ready f = record {
-    few = f .size .few;
-    few-commands = f .size .few-commands;
-    long-firsts = f .long .lists .firsts;
-    parts = record { zero = f .lists .start; rises = λ c l. le-of-lt (f .lists .lists c l .rises) };
-    states = record { few = f .size .few-outcomes; long = f .long .lists .entries; inside = f .lists .entries };
-  }
+-- any list table within the limits that the test passes
+pub lists-ready : {least n : ℕ} {L : Lists} → n ≤ maxStates → L .count ≤ maxCommands → L .end ≤ maxOutcomes → LongLists L → ListsFit least n L
+    → Ready n L
+lists-ready few few-commands few-entries long f =
+    let rise = lists-ordered long f .rise in
+    record {
+      few = few;
+      few-commands = few-commands;
+      long-firsts = long .firsts;
+      parts = record { zero = rise .start; rises = rise .step };
+      states = record { few = few-entries; long = long .entries; inside = f .entries };
+    }
 
-  pub sound-ready : sound (held size rows firsts outcomes) ≡ true → Ready (commandsOf size firsts outcomes)
-  sound-ready e = fits-ready (sound-facts _ .0 e)
+pub sound-ready : (size : Size) (rows : List Row) (firsts outcomes : List ℕ) → sound (held size rows firsts outcomes) ≡ true
+    → Ready (size .n) (commandsOf size firsts outcomes)
+sound-ready size rows firsts outcomes e =
+    let f = sound-facts (held size rows firsts outcomes) .0 e in
+    lists-ready (f .size .few) (f .size .few-commands) (f .size .few-outcomes) (f .long .lists) (f .lists)
 
--- the outcomes of a command end by t
-pub ready-below : {T : Tables} → Ready T → (c : ℕ) → c < T .size .m → firstOutcome T (suc c) ≤ T .size .t
-ready-below {T} r c l = start-le (T .firsts) (T .size .m) (T .size .t) (r .parts) (suc c) l
+-- a list ends by the end of all
+pub ready-below : {n : ℕ} {L : Lists} → Ready n L → (i : ℕ) → i < L .count → startIn L (suc i) ≤ L .end
+ready-below {n} {L} r i l = start-le (L .firsts) (L .count) (L .end) (r .parts) (suc i) l

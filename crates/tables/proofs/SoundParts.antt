@@ -2,36 +2,35 @@
 use mathlib.Core.Path.{_≡_, refl, sym, _∙_, ap, subst}
 use mathlib.Core.Bool.{Bool, true, false, _&&_}
 use mathlib.Core.Logic.{_↔_}
-use borrow.Author.Tests.{leb-true}
+use borrow.Author.Tests.{leb-true, eq-eqb, ne-eqb}
 use Prim.Native.Nat.{_<_}
-use lib.Dec.{leb}
+use lib.Dec.{leb, eqb}
 use Rattle.laws.specs.Sets.{every}
 use Rattle.laws.proofs.Tests.{and-both}
-use Rattle.model.specs.Tables.{Size, Tables}
+use Rattle.model.specs.Tables.{Size, Tables, listsIn}
 use Rattle.model.specs.File.{maxStates, maxCommands, maxOutcomes}
 use Rattle.model.specs.Places.{firstCommand}
 use Rattle.model.specs.Sound.{Sound}
 use Rattle.model.specs.SoundTest.{sizeSound, tablesLong, rowSound, listsSound, sound}
 use Rattle.model.proofs.Soundness.{sound-iff}
 use Rattle.tables.specs.declared.internal.Span.{Span}
-use Rattle.tables.specs.Spans.{spanAt, startsSound, outcomesSound}
-
-regroup : (x c d e f g : Bool) → (x && c && e && (d && f && g)) ≡ (x && (c && d) && e && (f && g))
-regroup false c d e f g = refl
-regroup true false d e f g = refl
-regroup true true false false f g = refl
-regroup true true false true f g = refl
-regroup true true true false f g = refl
-regroup true true true true f g = refl
+use Rattle.tables.specs.Spans.{spanAt}
 
 pub sound-parts : (T : Tables)
-    → sound T ≡ (sizeSound (T .size) && tablesLong T && startsSound (firstCommand T 0) T && every (rowSound T) (T .size .n) && outcomesSound T)
-unfolding sound listsSound startsSound outcomesSound
-sound-parts T = regroup (sizeSound (T .size) && tablesLong T) _ _ _ _ _
+    → sound T ≡ (sizeSound (T .size) && tablesLong T && eqb (firstCommand T 0) 0 && every (rowSound T) (T .size .n) && listsSound 1 (T .size .n) (listsIn T))
+unfolding sound
+sound-parts T = refl
 
 -- the first command, as it is read of state 0
-pub starts-read : (T : Tables) (q : Span) (t : Bool) → q ≡ spanAt T 0 → t ≡ startsSound (q .first) T → t ≡ startsSound (firstCommand T 0) T
-starts-read T q t p e = e ∙ ap (λ (x : Span). startsSound (x .first) T) p
+module _ (T : Tables) (q : Span) (p : q ≡ spanAt T 0) where
+  first-read : q .first ≡ firstCommand T 0
+  first-read = ap (λ (x : Span). x .first) p
+
+  pub starts-at : q .first ≡ 0 → eqb (firstCommand T 0) 0 ≡ true
+  starts-at e = eq-eqb _ _ (sym first-read ∙ e)
+
+  pub starts-past : (q .first ≡ 0 → ⊥) → eqb (firstCommand T 0) 0 ≡ false
+  starts-past n = ne-eqb _ _ (λ e. n (first-read ∙ e))
 
 -- a sound size record has a state
 pub some-state : (z : Size) → sizeSound z ≡ true → 0 < z .n

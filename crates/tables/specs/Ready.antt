@@ -1,20 +1,25 @@
--- What the first outcomes and the outcomes of a sound plan have, whatever its rows are: every place that they name is in range.
+-- What a list table of a sound plan has, whatever the rows are: every place that it names is in range.
 use mathlib.Core.List.{List}
 use Prim.Native.Nat.{ℕ, _<_, _≤_}
 use lib.ListN.{length, getD}
 use Rattle.laws.specs.Starts.{Parts}
 use Rattle.model.specs.File.{maxStates, maxCommands, maxOutcomes}
-use Rattle.model.specs.Tables.{Tables}
+use Rattle.model.specs.Tables.{Lists}
 
--- the first t outcomes are states below n
-pub record States (n t : ℕ) (outcomes : List ℕ) : Type 0 where
-  pub few : t ≤ maxOutcomes
-  pub long : t ≤ length outcomes
-  pub inside : (j : ℕ) → j < t → getD outcomes j 0 < n
+-- numbers and lent slices as a list table
+abbrev pub listTable : ℕ → ℕ → List ℕ → List ℕ → Lists
+listTable count end firsts entries = record { count = count; end = end; firsts = firsts; entries = entries }
 
-pub record Ready (T : Tables) : Type 0 where
-  pub few : T .size .n ≤ maxStates
-  pub few-commands : T .size .m ≤ maxCommands
-  pub long-firsts : T .size .m ≤ length (T .firsts)
-  pub parts : Parts (T .firsts) (T .size .m) (T .size .t)
-  pub states : States (T .size .n) (T .size .t) (T .outcomes)
+-- the first entries are states below n
+pub record States (n end : ℕ) (entries : List ℕ) : Type 0 where
+  pub few : end ≤ maxOutcomes
+  pub long : end ≤ length entries
+  pub inside : (j : ℕ) → j < end → getD entries j 0 < n
+
+-- a list of states below n for each command
+pub record Ready (n : ℕ) (L : Lists) : Type 0 where
+  pub few : n ≤ maxStates
+  pub few-commands : L .count ≤ maxCommands
+  pub long-firsts : L .count ≤ length (L .firsts)
+  pub parts : Parts (L .firsts) (L .count) (L .end)
+  pub states : States n (L .end) (L .entries)

@@ -1,21 +1,20 @@
 -- What the inner functions read of a state at once, and how they say that a call goes on.
 use mathlib.Core.Bool.{Bool, _&&_}
-use mathlib.Core.List.{List, []}
+use mathlib.Core.List.{List}
 use Prim.Native.Nat.{ℕ, _+_, _-_}
-use lib.Dec.{leb, eqb}
-use Rattle.laws.specs.Sets.{every}
+use lib.Dec.{leb}
 use Rattle.model.specs.Plan.{failingAt}
 use Rattle.model.specs.Refusal.{Answer, given, refused}
-use Rattle.model.specs.Tables.{Row as ModelRow, Tables, listsIn}
+use Rattle.model.specs.Tables.{Row as ModelRow, Tables, Lists}
 use Rattle.model.specs.File.{StateField, notIdle}
-use Rattle.model.specs.Places.{noRow as noModelRow, rowAt, firstCommand, firstOutcome}
-use Rattle.model.specs.SoundTest.{listSound, entrySound}
+use Rattle.model.specs.Places.{noRow as noModelRow, rowAt, firstCommand}
 use Rattle.tables.specs.declared.Size.{Size}
 use Rattle.tables.specs.declared.Row.{Row}
 use Rattle.tables.specs.declared.internal.Span.{Span}
 use Rattle.tables.specs.declared.internal.Admission.{Admission}
 use Rattle.tables.specs.declared.internal.Admission.the-variants.{Granted, Denied}
-use Rattle.tables.specs.Meaning.{refusalOf, rowOf, held}
+use Rattle.tables.specs.Meaning.{refusalOf, rowOf}
+use Rattle.tables.specs.Ready.{listTable}
 
 -- a call answers a where it goes on, else the refusal
 abbrev pub admitted : {A : Type 0} → Admission → A → Answer A
@@ -30,9 +29,9 @@ asRow w = record { kind = w .kind; first = w .first; practice = w .policy }
 abbrev pub noRow : Row
 noRow = asRow noModelRow
 
--- the commands of a plan, without its rows
-abbrev pub commandsOf : Size → List ℕ → List ℕ → Tables
-commandsOf z firsts outcomes = held z [] firsts outcomes
+-- the outcomes of a plan's commands, a list for each
+abbrev pub commandsOf : Size → List ℕ → List ℕ → Lists
+commandsOf z firsts outcomes = listTable (z .m) (z .t) firsts outcomes
 
 -- a row, and where the state's commands begin and end
 abbrev pub spanFor : ModelRow → ℕ → ℕ → Span
@@ -59,11 +58,3 @@ fieldWith kind count practice = record { kind = kind; count = count; policy = pr
 -- a state's row is sound, m being the number of commands
 unfoldable pub spanSound : Span → ℕ → Bool
 spanSound q m = leb (q .first) (q .end) && leb (q .end) m && leb (q .kind) 2 && notIdle (fieldIn q)
-
--- the first command, a number that was read, and the first outcome stand at place 0
-unfoldable pub startsSound : ℕ → Tables → Bool
-startsSound first T = eqb first 0 && eqb (firstOutcome T 0) 0
-
--- the commands and their outcomes are sound
-unfoldable pub outcomesSound : Tables → Bool
-outcomesSound T = every (listSound 1 (listsIn T)) (T .size .m) && every (entrySound (T .size .n) (T .outcomes)) (T .size .t)

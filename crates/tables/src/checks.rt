@@ -2,20 +2,21 @@
 ghost use mathlib.Core.Path.{_≡_};
 ghost use mathlib.Core.List.{List};
 ghost use Prim.Native.Nat.{ℕ, _<_, _≤_, _+_, _-_};
+ghost use lib.Dec.{leb};
 ghost use lib.ListN.{length};
 ghost use Rattle.laws.specs.Sets.{every};
-ghost use Rattle.model.specs.Tables.{listsIn};
-ghost use Rattle.model.specs.SoundTest.{sizeSound, tablesLong, rowSound, risesAt, listSound, entrySound};
+ghost use Rattle.model.specs.SoundTest.{sizeSound, tablesLong, rowSound, risesAt, after, listSound, entrySound, listsSound};
 ghost use Rattle.tables.specs.declared.Row.{Row};
 ghost use Rattle.tables.specs.Meaning.{held, numbers};
-ghost use Rattle.tables.specs.Spans.{commandsOf, spanSound, startsSound, outcomesSound};
+ghost use Rattle.tables.specs.Spans.{spanSound};
+ghost use Rattle.tables.specs.Ready.{listTable};
 use crate::Row;
 use crate::Size;
 use crate::internal::Span;
 use crate::internal::at;
-use crate::internal::first_outcome;
 use crate::internal::not_idle;
 use crate::internal::span_at;
+use crate::internal::start_of;
 
 pub fn size_sound(size: Size) -> bool
     ensures { λ r. ⌜ r ≡ sizeSound (numbers size) ⌝ }
@@ -78,14 +79,14 @@ pub fn rows_sound(size: Size, rows: &[Row]) -> bool
     true
 }
 
-// The outcomes at the k + 1 places from `from` on rise.
-fn rises(outcomes: &[u16], from: usize, k: usize) -> bool
-    requires { ⌜ (k < length (now outcomes) - from) ⌝ }
-    ensures { λ r. ⌜ r ≡ every (λ i. risesAt (now (outcomes .entry)) (from + i)) k ⌝ }
+// The entries at the k + 1 places from `from` on rise.
+fn rises(entries: &[u16], from: usize, k: usize) -> bool
+    requires { ⌜ (k < length (now entries) - from) ⌝ }
+    ensures { λ r. ⌜ r ≡ every (λ i. risesAt (now (entries .entry)) (from + i)) k ⌝ }
 {
     let mut i = 0;
     while i < k {
-        if at(outcomes, from + i + 1) <= at(outcomes, from + i) {
+        if at(entries, from + i + 1) <= at(entries, from + i) {
             return false;
         }
         i += 1;
@@ -93,42 +94,64 @@ fn rises(outcomes: &[u16], from: usize, k: usize) -> bool
     true
 }
 
-fn command_sound(size: Size, firsts: &[u16], outcomes: &[u16], c: usize) -> bool
-    requires { ⌜ (size .m ≤ length (now firsts)) × (size .t ≤ length (now outcomes)) × (c < size .m) ⌝ }
-    ensures { λ r. ⌜ r ≡ listSound 1 (listsIn (commandsOf size (now (firsts .entry)) (now (outcomes .entry)))) c ⌝ }
+// At least so many places from `from` up to `to`.
+fn at_least(least: usize, from: usize, to: usize) -> bool
+    ensures { λ r. ⌜ r ≡ leb (after least from) to ⌝ }
 {
-    let from = first_outcome(size, firsts, c);
-    let end = first_outcome(size, firsts, c + 1);
-    if end <= from {
+    if to < from {
         return false;
     }
-    if size.t < end {
-        return false;
-    }
-    rises(outcomes, from, end - from - 1)
+    least <= to - from
 }
 
-fn commands_sound(size: Size, firsts: &[u16], outcomes: &[u16]) -> bool
-    requires { ⌜ (size .m ≤ length (now firsts)) × (size .t ≤ length (now outcomes)) ⌝ }
-    ensures { λ r. ⌜ r ≡ every (listSound 1 (listsIn (commandsOf size (now (firsts .entry)) (now (outcomes .entry))))) (size .m) ⌝ }
+// List i has at least so many entries, and they rise.
+fn list_sound(
+    least: usize,
+    count: usize,
+    end: usize,
+    firsts: &[u16],
+    entries: &[u16],
+    i: usize,
+) -> bool
+    requires { ⌜ (count ≤ length (now firsts)) × (end ≤ length (now entries)) × (i < count) ⌝ }
+    ensures { λ r. ⌜ r ≡ listSound least (listTable count end (now (firsts .entry)) (now (entries .entry))) i ⌝ }
 {
-    let mut c = 0;
-    while c < size.m {
-        if !command_sound(size, firsts, outcomes, c) {
+    let from = start_of(firsts, count, end, i);
+    let to = start_of(firsts, count, end, i + 1);
+    if !at_least(least, from, to) {
+        return false;
+    }
+    if end < to {
+        return false;
+    }
+    if to <= from {
+        return true;
+    }
+    rises(entries, from, to - from - 1)
+}
+
+fn each_list_sound(least: usize, count: usize, end: usize, firsts: &[u16], entries: &[u16]) -> bool
+    requires { ⌜ (count ≤ length (now firsts)) × (end ≤ length (now entries)) ⌝ }
+    ensures { λ r. ⌜ r ≡ every (listSound least (listTable count end (now (firsts .entry)) (now (entries .entry)))) count ⌝ }
+{
+    let mut i = 0;
+    while i < count {
+        if !list_sound(least, count, end, firsts, entries, i) {
             return false;
         }
-        c += 1;
+        i += 1;
     }
     true
 }
 
-fn outcomes_sound(size: Size, outcomes: &[u16]) -> bool
-    requires { ⌜ size .t ≤ length (now outcomes) ⌝ }
-    ensures { λ r. ⌜ r ≡ every (entrySound (size .n) (now (outcomes .entry))) (size .t) ⌝ }
+// The entries up to place `end` are below n.
+fn entries_sound(n: usize, end: usize, entries: &[u16]) -> bool
+    requires { ⌜ end ≤ length (now entries) ⌝ }
+    ensures { λ r. ⌜ r ≡ every (entrySound n (now (entries .entry))) end ⌝ }
 {
     let mut j = 0;
-    while j < size.t {
-        if size.n <= at(outcomes, j) {
+    while j < end {
+        if n <= at(entries, j) {
             return false;
         }
         j += 1;
@@ -136,24 +159,23 @@ fn outcomes_sound(size: Size, outcomes: &[u16]) -> bool
     true
 }
 
-// The first command, which is at place `first`, and the first outcome stand at place 0.
-pub fn starts_sound(size: Size, first: usize, firsts: &[u16]) -> bool
-    requires { ⌜ size .m ≤ length (now firsts) ⌝ }
-    ensures { λ r. ⌜ ((R : List Row) (O : List ℕ) → r ≡ startsSound first (held size R (now (firsts .entry)) O)) ⌝ }
+// A list table whose lists begin at place 0, have at least so many entries each, and rise; the entries are below n.
+pub fn lists_sound(
+    least: usize,
+    n: usize,
+    count: usize,
+    end: usize,
+    firsts: &[u16],
+    entries: &[u16],
+) -> bool
+    requires { ⌜ (count ≤ length (now firsts)) × (end ≤ length (now entries)) ⌝ }
+    ensures { λ r. ⌜ r ≡ listsSound least n (listTable count end (now (firsts .entry)) (now (entries .entry))) ⌝ }
 {
-    if first != 0 {
+    if start_of(firsts, count, end, 0) != 0 {
         return false;
     }
-    first_outcome(size, firsts, 0) == 0
-}
-
-// The commands and their outcomes are sound.
-pub fn lists_sound(size: Size, firsts: &[u16], outcomes: &[u16]) -> bool
-    requires { ⌜ (size .m ≤ length (now firsts)) × (size .t ≤ length (now outcomes)) ⌝ }
-    ensures { λ r. ⌜ ((R : List Row) → r ≡ outcomesSound (held size R (now (firsts .entry)) (now (outcomes .entry)))) ⌝ }
-{
-    if !commands_sound(size, firsts, outcomes) {
+    if !each_list_sound(least, count, end, firsts, entries) {
         return false;
     }
-    outcomes_sound(size, outcomes)
+    entries_sound(n, end, entries)
 }

@@ -6,7 +6,7 @@ ghost use Prim.Native.Nat.{ℕ, _+_, _*_, _<_, _≤_};
 ghost use lib.Dec.{ltb, eqb};
 ghost use lib.ListN.{length, getD, set};
 ghost use Rattle.laws.specs.Entry.{FFFF};
-ghost use Rattle.laws.specs.Filled.{Filled};
+ghost use Rattle.laws.specs.Filled.{Filled, FilledRange};
 ghost use Rattle.laws.specs.Starts.{startOf};
 ghost use Rattle.model.specs.File.{notIdle};
 ghost use Rattle.model.specs.Places.{firstOutcome};
@@ -71,16 +71,24 @@ pub fn put(table: &mut [u16], i: usize, x: usize)
     table[i] = x as u16;
 }
 
+// Stores x at each place from a on, below e.
+pub fn fill_range(table: &mut [u16], a: usize, e: usize, x: usize)
+    requires { ⌜ (a ≤ e) × (e ≤ length (now table)) × (x < 65536) ⌝ }
+    ensures { λ _. ⌜ FilledRange a e x (now (table .entry)) (now (table .exit)) ⌝ }
+{
+    let mut i = a;
+    while i < e {
+        put(table, i, x);
+        i += 1;
+    }
+}
+
 // Stores x at each place below n.
 pub fn fill(table: &mut [u16], n: usize, x: usize)
     requires { ⌜ (n ≤ length (now table)) × (x < 65536) ⌝ }
     ensures { λ _. ⌜ Filled n (λ _. x) (now (table .entry)) (now (table .exit)) ⌝ }
 {
-    let mut i = 0;
-    while i < n {
-        put(table, i, x);
-        i += 1;
-    }
+    fill_range(table, 0, n, x);
 }
 
 // The row of state s.

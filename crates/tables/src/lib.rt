@@ -114,11 +114,11 @@ pub fn sound(size: Size, rows: &[Row], firsts: &[u16], outcomes: &[u16]) -> bool
         return false;
     }
     let span = span_at(size, rows, 0);
-    if !checks::starts_sound(size, span.first, firsts) {
+    if span.first != 0 {
         return false;
     }
     if !checks::rows_sound(size, rows) {
         return false;
     }
-    checks::lists_sound(size, firsts, outcomes)
+    checks::lists_sound(1, size.n, size.m, size.t, firsts, outcomes)
 }

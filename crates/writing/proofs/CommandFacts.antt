@@ -1,4 +1,4 @@
--- A command of sound tables: where its outcomes are, and its bytes.
+-- A command of a list table that is ready: where its outcomes are, and its bytes.
 use mathlib.Core.Path.{_≡_, ap}
 use mathlib.Core.List.{List, [], _∷_}
 use Prim.Native.Nat.{ℕ, _+_, _-_, _*_, _<_, _≤_}
@@ -12,9 +12,8 @@ use Rattle.laws.specs.Wrote.{Wrote}
 use Rattle.laws.proofs.Entry.{length-twos}
 use Rattle.model.specs.File.{commandTag}
 use Rattle.model.specs.Bytes.{commandsBytes}
-use Rattle.model.specs.Places.{firstOutcome, listAt, outcomesAt}
-use Rattle.tables.specs.declared.Size.{Size}
-use Rattle.tables.specs.Spans.{commandsOf}
+use Rattle.model.specs.Tables.{Lists}
+use Rattle.model.specs.Places.{startIn, listAt}
 use Rattle.tables.specs.Ready.{Ready}
 use Rattle.tables.proofs.Readiness.{ready-below}
 
@@ -33,31 +32,31 @@ module _ (outcomes : List ℕ) (from end : ℕ) (h : end ≤ length outcomes) wh
       → Wrote before place (commandsBytes (slice from end outcomes ∷ []) []) after next
   command-wrote w = rw command-bytes w
 
-module _ {z : Size} {firsts outcomes : List ℕ} (k : Ready (commandsOf z firsts outcomes)) where
+module _ {n : ℕ} {L : Lists} (k : Ready n L) where
   -- the command c, with the places that are read of it
-  module _ {c last from end : ℕ} (h : c < last) (l : last ≤ z .m) (p : from ≡ firstOutcome (commandsOf z firsts outcomes) c)
-      (q : end ≡ firstOutcome (commandsOf z firsts outcomes) (c + 1)) where
+  module _ {c last from end : ℕ} (h : c < last) (l : last ≤ L .count) (p : from ≡ startIn L c)
+      (q : end ≡ startIn L (c + 1)) where
     rises : from ≤ end
     rises = omega (arith, p, rw add-one at q, k .parts .rises c (lt-of-lt-of-le h l))
 
-    below : end ≤ z .t
+    below : end ≤ L .end
     below = omega (arith, rw add-one at q, ready-below k c (lt-of-lt-of-le h l))
 
-    inside : end ≤ length outcomes
+    inside : end ≤ length (L .entries)
     inside = omega (arith, below, k .states .long)
 
-    outcomes-are : outcomesAt (commandsOf z firsts outcomes) c ≡ slice from end outcomes
+    outcomes-are : listAt L c ≡ slice from end (L .entries)
     unfolding listAt
     outcomes-are = rw (p, q, add-one c)
 
     pub command-ready : (place size : ℕ)
-        → place + length (commandsBytes (outcomesAt (commandsOf z firsts outcomes) c ∷ []) []) ≤ size
-        → (from ≤ end) × (end ≤ length outcomes) × (end < 32768) × (place + 3 + (end - from) * 2 ≤ size)
+        → place + length (commandsBytes (listAt L c ∷ []) []) ≤ size
+        → (from ≤ end) × (end ≤ length (L .entries)) × (end < 32768) × (place + 3 + (end - from) * 2 ≤ size)
     command-ready place size room =
-        let r : place + length (commandsBytes (slice from end outcomes ∷ []) []) ≤ size = rw outcomes-are at room in
-        (rises, inside, omega (arith, below, k .states .few), omega (arith, r, command-length outcomes from end inside))
+        let r : place + length (commandsBytes (slice from end (L .entries) ∷ []) []) ≤ size = rw outcomes-are at room in
+        (rises, inside, omega (arith, below, k .states .few), omega (arith, r, command-length (L .entries) from end inside))
 
     pub command-stored : {place next : ℕ} {before after : List ℕ}
-        → Wrote before place (commandsBytes (slice from end outcomes ∷ []) []) after next
-        → Wrote before place (commandsBytes (outcomesAt (commandsOf z firsts outcomes) c ∷ []) []) after next
+        → Wrote before place (commandsBytes (slice from end (L .entries) ∷ []) []) after next
+        → Wrote before place (commandsBytes (listAt L c ∷ []) []) after next
     command-stored w = rw outcomes-are w

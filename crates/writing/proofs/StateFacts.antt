@@ -12,7 +12,7 @@ use Rattle.laws.proofs.Lists.{length-tabulate}
 use Rattle.laws.proofs.Wrote.{wrote-length}
 use Rattle.model.specs.Bytes.{commandsBytes, statesBytes}
 use Rattle.model.specs.SoundTest.{sound}
-use Rattle.model.specs.Tables.{Tables}
+use Rattle.model.specs.Tables.{Tables, Lists}
 use Rattle.model.specs.Places.{firstCommand, commandCount, fieldAt, listAt, outcomesAt}
 use Rattle.model.specs.Held.{stateAt}
 use Rattle.model.proofs.Good.{policy-fits}
@@ -31,7 +31,7 @@ module _ (z : Size) (rows : List Row) (firsts outcomes : List ℕ) (s : ℕ) whe
   abbrev T : Tables
   T = held z rows firsts outcomes
 
-  pub state-bytes : spanBytes z firsts outcomes (spanAt T s) ≡ statesBytes (stateAt T s ∷ []) []
+  pub state-bytes : spanBytes (commandsOf z firsts outcomes) (spanAt T s) ≡ statesBytes (stateAt T s ∷ []) []
   unfolding statesBytes stateAt commandCount commandsFrom listAt startOf
   state-bytes = rw (length-tabulate (outcomesAt T) (firstCommand T s) (commandCount T s), add-one s)
 
@@ -46,11 +46,11 @@ module _ (z : Size) (rows : List Row) (firsts outcomes : List ℕ) (s : ℕ) whe
       row : RowFits T s
       row = fits .rows s h
 
-      bytes : statesBytes (stateAt T s ∷ []) [] ≡ spanBytes z firsts outcomes span
+      bytes : statesBytes (stateAt T s ∷ []) [] ≡ spanBytes (commandsOf z firsts outcomes) span
       bytes = rw q (sym state-bytes)
 
       pub state-ready : (place size : ℕ) → place + length (statesBytes (stateAt T s ∷ []) []) ≤ size
-          → Ready (commandsOf z firsts outcomes) × FitsBytes (z .m) span × (place + length (spanBytes z firsts outcomes span) ≤ size)
+          → Ready (z .n) (commandsOf z firsts outcomes) × FitsBytes (z .m) span × (place + length (spanBytes (commandsOf z firsts outcomes) span) ≤ size)
       unfolding commandCount
       state-ready place size room =
           let few = fits .size .few-commands in (
@@ -65,20 +65,19 @@ module _ (z : Size) (rows : List Row) (firsts outcomes : List ℕ) (s : ℕ) whe
             rw bytes at room,
           )
 
-      pub state-stored : {before after : List ℕ} {place next : ℕ} → Wrote before place (spanBytes z firsts outcomes span) after next
+      pub state-stored : {before after : List ℕ} {place next : ℕ} → Wrote before place (spanBytes (commandsOf z firsts outcomes) span) after next
           → Wrote before place (statesBytes (stateAt T s ∷ []) []) after next
       state-stored w = rw bytes w
 
 -- the parts of what is written of a state
-module _ (z : Size) (firsts outcomes : List ℕ) (span : Span) (f : FitsBytes (z .m) span) where
+module _ (L : Lists) (span : Span) (f : FitsBytes (L .count) span) where
   abbrev commandBytes : List ℕ
-  commandBytes = commandsBytes (commandsFrom z firsts outcomes (span .first) (span .end)) []
+  commandBytes = commandsBytes (commandsFrom L (span .first) (span .end)) []
 
-  pub row-ready : (place size : ℕ) → place + length (spanBytes z firsts outcomes span) ≤ size
+  pub row-ready : (place size : ℕ) → place + length (spanBytes L span) ≤ size
       → (place + 8 ≤ size) × (span .kind < 256) × (span .first ≤ span .end) × (span .end < 65536) × (span .practice < 65536)
   row-ready place size room = (omega (arith, room, length-append (fieldBytes span) commandBytes), f .0, f .1, omega (arith, f .2, f .3), f .4)
 
-  pub commands-ready : {before after : List ℕ} {place next : ℕ} → Ready (commandsOf z firsts outcomes) → place + length (spanBytes z firsts outcomes span) ≤ length before
-      → Wrote before place (fieldBytes span) after next
-      → Ready (commandsOf z firsts outcomes) × (span .end ≤ z .m) × (next + length commandBytes ≤ length after)
+  pub commands-ready : {n : ℕ} {before after : List ℕ} {place next : ℕ} → Ready n L → place + length (spanBytes L span) ≤ length before
+      → Wrote before place (fieldBytes span) after next → Ready n L × (span .end ≤ L .count) × (next + length commandBytes ≤ length after)
   commands-ready l room w = (l, f .2, omega (arith, room, w .past, wrote-length w, length-append (fieldBytes span) commandBytes))

@@ -3,22 +3,22 @@ use mathlib.Core.List.{List, [], _++_}
 use Prim.Native.Nat.{ℕ, _-_, _<_, _≤_}
 use Rattle.laws.specs.Lists.{tabulate}
 use Rattle.model.specs.Bytes.{stateBytes, commandsBytes}
-use Rattle.model.specs.Places.{outcomesAt}
-use Rattle.tables.specs.declared.Size.{Size}
+use Rattle.model.specs.Tables.{Lists}
+use Rattle.model.specs.Places.{listAt}
 use Rattle.tables.specs.declared.internal.Span.{Span}
-use Rattle.tables.specs.Spans.{commandsOf, fieldIn}
+use Rattle.tables.specs.Spans.{fieldIn}
 
 -- the commands from first up to end
-unfoldable pub commandsFrom : Size → List ℕ → List ℕ → ℕ → ℕ → List (List ℕ)
-commandsFrom z firsts outcomes first end = tabulate (outcomesAt (commandsOf z firsts outcomes)) first (end - first)
+unfoldable pub commandsFrom : Lists → ℕ → ℕ → List (List ℕ)
+commandsFrom L first end = tabulate (listAt L) first (end - first)
 
 -- the state field of what was read of a state
 abbrev pub fieldBytes : Span → List ℕ
 fieldBytes q = stateBytes (fieldIn q) []
 
 -- with the state's commands
-abbrev pub spanBytes : Size → List ℕ → List ℕ → Span → List ℕ
-spanBytes z firsts outcomes q = fieldBytes q ++ commandsBytes (commandsFrom z firsts outcomes (q .first) (q .end)) []
+abbrev pub spanBytes : Lists → Span → List ℕ
+spanBytes L q = fieldBytes q ++ commandsBytes (commandsFrom L (q .first) (q .end)) []
 
 -- its commands are in order and end by m, and its numbers fit the bytes that hold them
 abbrev pub FitsBytes : ℕ → Span → Type 0

@@ -1,7 +1,7 @@
--- The parts of the test are called one after another: where one stops the whole test fails, and each part that passed gives the next what it asks for.
+-- The test is the model's, part after part: the first that fails makes it fail, and what has passed puts the next one's indices in range.
 mod Tie
 use mathlib.Core.Path.{refl}
-use Rattle.tables.proofs.SoundParts.{sound-parts, starts-read, some-state, told}
+use Rattle.tables.proofs.SoundParts.{sound-parts, starts-at, starts-past, some-state, told}
 use Rattle.tables.proofs.LongTest.{all-long}
 use Rattle.laws.proofs.Loops.{stopped, passed}
 use mathlib.Core.Bool.{and-false}
@@ -28,16 +28,10 @@ span-at-requires c κs =
       all-long _ R _ _ (passed (c .before .long .ensures R refl) (c .if2 .left)) .0,
     )
 
-starts-sound-requires : tie.Need-starts-sound-requires
-starts-sound-requires c κs =
-    let R = c .before .before .before .before .before .before .before .args .rows .now in
-    all-long _ R _ _ (passed (c .before .before .long .ensures R refl) (c .before .if2 .left)) .1
-
 returns-3 : tie.Need-returns-3
 returns-3 c =
     let a = c .before .before .before .before .before .before .before .before .before .args in
-    told _ (rw (sound-parts _)
-    (simp (stopped (starts-read _ _ _ (c .before .before .span-at .ensures (a .firsts .now) (a .outcomes .now)) (c .before .starts-sound .ensures (a .rows .now) (a .outcomes .now))) (c .if3 .taken), and-false)))
+    told _ (rw (sound-parts _) (simp (starts-past _ _ (c .before .before .span-at .ensures (a .firsts .now) (a .outcomes .now)) (c .if3 .taken), and-false)))
 
 rows-sound-requires : tie.Need-rows-sound-requires
 rows-sound-requires c κs =
@@ -62,10 +56,10 @@ returns-5 c =
     (rw (
       passed (c .before .before .before .before .before .before .before .before .before .size-sound .ensures) (c .before .before .before .before .before .before .before .before .if1 .left),
       passed (c .before .before .before .before .before .before .before .long .ensures (a .rows .now) refl) (c .before .before .before .before .before .before .if2 .left),
-      passed (starts-read _ _ _ (c .before .before .before .before .before .span-at .ensures (a .firsts .now) (a .outcomes .now)) (c .before .before .before .before .starts-sound .ensures (a .rows .now) (a .outcomes .now))) (c .before .before .before .if3 .left),
+      starts-at _ _ (c .before .before .before .before .before .span-at .ensures (a .firsts .now) (a .outcomes .now)) (c .before .before .before .if3 .left),
       passed (c .before .before .rows-sound .ensures (a .firsts .now) (a .outcomes .now)) (c .before .if4 .left),
     )
-    (c .lists-sound .ensures (a .rows .now))))
+    (c .lists-sound .ensures)))
 
 pub sound-spec : {M : Type 1} → statement M
 sound-spec =
@@ -76,7 +70,6 @@ sound-spec =
     long-requires
     returns-2
     span-at-requires
-    starts-sound-requires
     returns-3
     rows-sound-requires
     returns-4

@@ -1,3 +1,4 @@
+-- The refusals are tried in the model's order, and what is granted has room for the file that the sound tables give.
 use borrow.Author.Tests.{not-false}
 use Rattle.writing.proofs.FileFacts.{denies-unsound, denies-cramped, grants}
 use Rattle.writing.proofs.admit.Statement.{statement}

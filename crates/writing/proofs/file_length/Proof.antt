@@ -1,3 +1,4 @@
+-- Within the limits no sum overflows, so the sum is the one that the definition computes.
 use mathlib.Core.Path.{refl}
 use borrow.Author.Needs.{needs}
 use Rattle.model.specs.Tables.{sizeLength}

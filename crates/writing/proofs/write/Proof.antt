@@ -1,3 +1,4 @@
+-- Head, states and end are stored one behind the other, and that is the file of the plan; a refusal stores nothing.
 mod Tie
 use Rattle.writing.proofs.FileFacts.{head-ready, states-ready, end-ready, file-stored, size-ready, refuses, file-ready, written}
 use Rattle.tables.specs.Meaning.{held}

@@ -1,6 +1,7 @@
+-- In a sound plan the choice is the practice if it is clear, else the lowest command that is.
 use mathlib.Core.Path.{refl}
 use borrow.Author.Needs.{needs}
-use Rattle.choice.proofs.Choosing.{practice-chosen, lowest-chosen}
+use Rattle.choice.proofs.Choosing.{practice-chosen, first-chosen, none-chosen}
 use Rattle.choice.proofs.internal.choose.Statement.{statement}
 use Rattle.choice.proofs.internal.choose.Tie as tie
 
@@ -11,14 +12,20 @@ practice-clear-requires : tie.Need-practice-clear-requires
 practice-clear-requires c κs = search needs
 
 returns : tie.Need-returns
-returns c = λ R s sounds l e. practice-chosen _ _ _ _ s refl _ (c .before .practice-clear .ensures R) sounds l e (c .if1 .taken)
+returns c = λ R s sounds l e. practice-chosen _ _ _ _ s refl _ (c .before .practice-clear .ensures) sounds l e (c .if1 .taken)
 
-lowest-clear-requires : tie.Need-lowest-clear-requires
-lowest-clear-requires c κs = search needs
+first-clear-requires : tie.Need-first-clear-requires
+first-clear-requires c κs = search needs
+
+sub-result : tie.Need-sub-result
+sub-result c = search needs
 
 returns-2 : tie.Need-returns-2
-returns-2 c = λ R s sounds l e. lowest-chosen _ _ _ _ s refl _ (c .before .before .practice-clear .ensures R) sounds l e (c .before .if1 .left) _ (c .lowest-clear .ensures R)
+returns-2 c = λ R s sounds l e. first-chosen _ _ _ _ s refl _ (c .before .before .before .before .before .practice-clear .ensures) sounds l e (c .before .before .before .before .if1 .left) _ (c .before .before .before .first-clear .ensures) (c .before .if2 .taken)
+
+returns-3 : tie.Need-returns-3
+returns-3 c = λ R s sounds l e. none-chosen _ _ _ _ s refl _ (c .before .before .before .before .practice-clear .ensures) sounds l e (c .before .before .before .if1 .left) _ (c .before .before .first-clear .ensures) (c .if2 .left)
 
 pub choose-spec : {M : Type 1} → statement M
 choose-spec =
-    tie.close (tie.spec sub-count practice-clear-requires returns lowest-clear-requires returns-2)
+    tie.close (tie.spec sub-count practice-clear-requires returns first-clear-requires sub-result returns-2 returns-3)

@@ -1,3 +1,4 @@
+-- No entry before the one that is read is in the set, so the first that is answers for all places.
 use Prim.Native.Nat.{_-_}
 use native.Mathlib.Omega.{arith}
 use Rattle.laws.proofs.Scans.{Looking, looking-start, looking-done, looking-found, looking-next}

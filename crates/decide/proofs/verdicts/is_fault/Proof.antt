@@ -1,4 +1,5 @@
 use Rattle.decide.proofs.StateVerdicts.{lost-fault, idle-fault, hit-fault}
+use Rattle.choice.specs.Within.{commandHits}
 use Rattle.nets.proofs.Initializing.{practice-place}
 use native.Mathlib.Omega.{arith}
 use borrow.Author.Needs.{needs}
@@ -24,7 +25,8 @@ command-hit-requires c κs =
     (c .before .before .before .before .before .before .before .pre .0, (omega (arith, p, c .before .before .before .before .before .before .before .pre .1 .1), c .before .before .before .before .before .before .before .pre .1 .2))
 
 returns-3 : tie.Need-returns-3
-returns-3 c = λ R s l e. hit-fault _ _ (c .before .before .before .before .if1 .left) _ (c .before .before .before .has-practice .ensures) _ _ s l e (c .before .before .if2 .left) _ (c .command-hit .ensures R)
+unfolding commandHits
+returns-3 c = λ R s l e. hit-fault _ _ (c .before .before .before .before .if1 .left) _ (c .before .before .before .has-practice .ensures) _ _ s l e (c .before .before .if2 .left) _ (c .command-hit .ensures)
 
 pub is-fault-spec : {M : Type 1} → statement M
 is-fault-spec =

@@ -1,3 +1,4 @@
+-- What the two parts of the index leave is what the propagation asks of it.
 use Rattle.propagate.proofs.Indexes.{index-fits}
 use native.Mathlib.Omega.{arith}
 use borrow.Author.Needs.{needs}

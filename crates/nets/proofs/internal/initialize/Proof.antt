@@ -1,3 +1,4 @@
+-- When the loop comes to state s, the states before it are initialized in all six tables.
 mod Tie
 use Rattle.nets.proofs.Initializing.{initialized-start, initialized-next, initialized-done, read-inside}
 use Rattle.nets.specs.Nets.{Initialized}

@@ -1,3 +1,4 @@
+-- The ranges of both propagations are among the states' own commands, so one index serves both.
 use Rattle.laws.proofs.Fills.{filled-over}
 use native.Mathlib.Omega.{arith}
 use Rattle.tables.specs.Spans.{commandsOf}

@@ -1,3 +1,4 @@
+-- The queue is the first part of scratch, so what is behind it stays.
 use Rattle.laws.proofs.Fills.{filled-front}
 use mathlib.Core.Path.{sym, _∙_}
 use lib.Seq.{length-take-le}

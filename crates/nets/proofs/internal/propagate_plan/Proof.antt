@@ -1,3 +1,4 @@
+-- What is read off a sound plan's rows is what both propagations ask; they find the plan's ranks, and where its practice fails.
 mod Tie
 use mathlib.Core.Path.{_∙_}
 use mathlib.Core.List.{[]}

@@ -1,3 +1,4 @@
+-- Each of the three tables gets one entry, which fits it.
 use Rattle.nets.proofs.Initializing.{seed-small, range-inside}
 use native.Mathlib.Omega.{arith}
 use borrow.Author.Needs.{needs}

@@ -1,3 +1,4 @@
+-- A practice that is given is one of the state's commands, so its range is too; else the range is empty.
 use Rattle.nets.proofs.Initializing.{practice-none, practice-some, practice-place}
 use native.Mathlib.Omega.{arith}
 use borrow.Author.Needs.{needs}

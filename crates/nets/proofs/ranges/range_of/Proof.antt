@@ -1,3 +1,4 @@
+-- The range is the one that is asked for, by cases.
 use Rattle.nets.proofs.Initializing.{range-practice, range-all}
 use borrow.Author.Needs.{needs}
 use Rattle.nets.proofs.ranges.range_of.Statement.{statement}

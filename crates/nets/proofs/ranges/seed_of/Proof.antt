@@ -1,3 +1,4 @@
+-- The seed is 0 at a failing state and none elsewhere, by cases.
 use mathlib.Core.Path.{sym, _∙_}
 use borrow.Author.Needs.{needs}
 use Rattle.nets.proofs.Initializing.{seed-failing, seed-other}

@@ -1,3 +1,4 @@
+-- When the walk comes to place h of the queue, the states that waited before it have been spread, and what they lose has its rank.
 use Rattle.propagate.proofs.LayerSteps.{LayerStep, layer-start, layer-at, layer-state, layer-next, layer-done}
 use Rattle.propagate.specs.Work.{work}
 use lib.ListN.{length}
@@ -11,7 +12,7 @@ use Rattle.propagate.proofs.internal.add_layer.Tie as tie
 abbrev Inv-loop : tie.InvT-loop
 Inv-loop size tos firsts outcomes offsets users owner ranks₀ watch₀ queue₀ lo hi k e₀ h₀ ranks watch queue e h =
     (length ranks ≡ length ranks₀) × (length watch ≡ length watch₀) × (length queue ≡ length queue₀)
-    × LayerStep (commandsOf size firsts outcomes) tos owner k lo (work ranks₀ watch₀ queue₀ hi) h (work ranks watch queue e)
+    × LayerStep (size .n) (commandsOf size firsts outcomes) tos owner k lo (work ranks₀ watch₀ queue₀ hi) h (work ranks watch queue e)
 
 abbrev μ-loop : tie.MeasureT-loop
 μ-loop size tos firsts outcomes offsets users owner ranks₀ watch₀ queue₀ lo hi k e₀ h₀ ranks watch queue e h = hi - h

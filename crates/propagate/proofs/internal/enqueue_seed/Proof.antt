@@ -1,3 +1,4 @@
+-- A state of another rank leaves the queue as it is, and one of rank 0 stands at its end.
 use Rattle.propagate.proofs.Starts.{seeds-end, seeds-skip, seeds-add}
 use native.Mathlib.Omega.{arith}
 use borrow.Author.Needs.{needs}

@@ -1,3 +1,4 @@
+-- When the loop comes to state s, the states of rank 0 before it wait in the queue.
 use Rattle.propagate.proofs.Starts.{seeds-start, seeds-done}
 use Rattle.propagate.specs.Work.{SeedsQueued}
 use lib.ListN.{length}

@@ -1,3 +1,4 @@
+-- After each turn one layer more has its ranks, and its new states wait in the queue; when none waits, no further layer adds one.
 use Rattle.propagate.proofs.Ends.{Going, going-start, going-few, going-next, going-done}
 use Rattle.propagate.proofs.Starts.{start-bound, start-at-layer}
 use native.Mathlib.Omega.{arith}
@@ -9,7 +10,7 @@ use Rattle.propagate.proofs.internal.propagate.Tie as tie
 
 abbrev Inv-loop : tie.InvT-loop
 Inv-loop size tos firsts outcomes offsets users owner ranks₀ watch₀ queue₀ lo₀ hi₀ k₀ ranks watch queue lo hi k =
-    Going (commandsOf size firsts outcomes) tos ranks₀ watch₀ queue₀ ranks watch queue lo hi k
+    Going (size .n) (commandsOf size firsts outcomes) tos ranks₀ watch₀ queue₀ ranks watch queue lo hi k
 
 abbrev μ-loop : tie.MeasureT-loop
 μ-loop size tos firsts outcomes offsets users owner ranks₀ watch₀ queue₀ lo₀ hi₀ k₀ ranks watch queue lo hi k = size .n - lo

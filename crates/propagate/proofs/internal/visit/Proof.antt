@@ -1,3 +1,4 @@
+-- A look at a command that its state does not watch changes nothing; else the state watches the next clear command, or is lost.
 use Rattle.propagate.proofs.Counting.{queue-room}
 use Rattle.propagate.proofs.Visits.{range-in, look-ranked, look-other, look-past, look-moved, look-lost}
 use native.Mathlib.Omega.{arith}
@@ -55,19 +56,19 @@ returns-3 c =
 add-next : tie.Need-add-next
 add-next c = omega (arith, c .before .before .before .before .before .before .before .before .before .before .before .before .before .before .before .before .pre .1 .1 .0)
 
-advance-requires : tie.Need-advance-requires
-advance-requires c κs =
+first-clear-requires : tie.Need-first-clear-requires
+first-clear-requires c κs =
     let f = c .before .before .before .before .before .before .before .before .before .before .before .before .before .before .before .before .before .pre in
     let l = f .1 .1 .0 .1 in
-    let m = range-in _ _ (f .1 .0) (c .before .before .before .before .before .before .before .before .before .at .result) _ (omega (arith, c .before .before .before .before .before .before .before .before .before .at .ensures, l .0)) (c .before .before .at4 .ensures) in
-    (f .0, (omega (arith, c .before .if3 .left), (m, l .1 .0)))
+    let m = range-in _ (f .1 .0) (c .before .before .before .before .before .before .before .before .before .at .result) _ (omega (arith, c .before .before .before .before .before .before .before .before .before .at .ensures, l .0)) (c .before .before .at4 .ensures) in
+    (f .0, (omega (arith, c .before .if3 .left), m, l .1 .0))
 
 put-requires : tie.Need-put-requires
 put-requires c κs =
     let f = c .before .before .before .before .before .before .before .before .before .before .before .before .before .before .before .before .before .before .before .pre in
     let l = f .1 .1 .0 .1 in
-    let m = range-in _ _ (f .1 .0) (c .before .before .before .before .before .before .before .before .before .before .before .at .result) _ (omega (arith, c .before .before .before .before .before .before .before .before .before .before .before .at .ensures, l .0)) (c .before .before .before .before .at4 .ensures) in
-    (omega (arith, c .before .before .before .before .before .before .before .before .before .before .before .at .ensures, l), omega (arith, m, c .before .advance .ensures .until, f .0 .few-commands))
+    let m = range-in _ (f .1 .0) (c .before .before .before .before .before .before .before .before .before .before .before .at .result) _ (omega (arith, c .before .before .before .before .before .before .before .before .before .before .before .at .ensures, l .0)) (c .before .before .before .before .at4 .ensures) in
+    (omega (arith, c .before .before .before .before .before .before .before .before .before .before .before .at .ensures, l), omega (arith, m, c .before .first-clear .ensures .until, f .0 .few-commands))
 
 same-length-6 : tie.Need-same-length-6
 same-length-6 c = search needs
@@ -80,7 +81,7 @@ returns-4 c =
     let f = c .before .before .before .before .before .before .before .before .before .before .before .before .before .before .before .before .before .before .before .before .before .before .before .pre in
     let l = f .1 .1 .0 .1 in
     look-moved _ (f .0) _ _ (f .1 .0) _ (l .1 .1 .1 .1) _ _ _ _ (f .1 .1 .1) _ _ (c .before .before .before .before .before .before .before .before .before .before .before .before .before .before .before .at .ensures) (l .0) _ (c .before .before .before .before .before .before .before .before .before .before .before .before .before .at2 .ensures) (c .before .before .before .before .before .before .before .before .before .before .before .before .if1 .left) _ (c .before .before .before .before .before .before .before .before .before .before .at3 .ensures)
-    (c .before .before .before .before .before .before .before .before .before .if2 .left) _ (c .before .before .before .before .before .before .before .before .at4 .ensures) (c .before .before .before .before .before .before .before .if3 .left) _ (c .before .before .before .before .before .advance .ensures) (l .1 .1 .0) (c .if4 .taken) _ (c .before .before .before .put .ensures)
+    (c .before .before .before .before .before .before .before .before .before .if2 .left) _ (c .before .before .before .before .before .before .before .before .at4 .ensures) (c .before .before .before .before .before .before .before .if3 .left) _ (c .before .before .before .before .before .first-clear .ensures) (l .1 .1 .0) (c .if4 .taken) _ (c .before .before .before .put .ensures)
 
 put-requires-2 : tie.Need-put-requires-2
 put-requires-2 c κs = omega (arith, c .before .before .before .before .before .before .before .before .before .before .before .before .before .before .before .before .at .ensures, c .before .before .before .before .before .before .before .before .before .before .before .before .before .before .before .before .before .before .before .before .before .before .before .before .pre .1 .1 .0)
@@ -113,7 +114,7 @@ returns-5 c =
     let f = c .before .before .before .before .before .before .before .before .before .before .before .before .before .before .before .before .before .before .before .before .before .before .before .before .before .before .before .before .before .before .before .pre in
     let l = f .1 .1 .0 .1 in
     look-lost _ (f .0) _ _ (f .1 .0) _ (l .1 .1 .1 .1) _ _ _ _ (f .1 .1 .1) _ _ (c .before .before .before .before .before .before .before .before .before .before .before .before .before .before .before .before .before .before .before .before .before .before .before .at .ensures) (l .0) _ (c .before .before .before .before .before .before .before .before .before .before .before .before .before .before .before .before .before .before .before .before .before .at2 .ensures) (c .before .before .before .before .before .before .before .before .before .before .before .before .before .before .before .before .before .before .before .before .if1 .left) _ (c .before .before .before .before .before .before .before .before .before .before .before .before .before .before .before .before .before .before .at3 .ensures)
-    (c .before .before .before .before .before .before .before .before .before .before .before .before .before .before .before .before .before .if2 .left) _ (c .before .before .before .before .before .before .before .before .before .before .before .before .before .before .before .before .at4 .ensures) (c .before .before .before .before .before .before .before .before .before .before .before .before .before .before .before .if3 .left) _ (c .before .before .before .before .before .before .before .before .before .before .before .before .before .advance .ensures) (l .1 .1 .0) (c .before .before .before .before .before .before .before .before .if4 .left) (l .1 .0) (l .1 .1 .1 .0) _ _ _ (c .before .before .before .before .before .before .before .before .before .before .before .put .ensures) (c .before .before .before .before .before .before .put2 .ensures) (c .before .before .put3 .ensures)
+    (c .before .before .before .before .before .before .before .before .before .before .before .before .before .before .before .before .before .if2 .left) _ (c .before .before .before .before .before .before .before .before .before .before .before .before .before .before .before .before .at4 .ensures) (c .before .before .before .before .before .before .before .before .before .before .before .before .before .before .before .if3 .left) _ (c .before .before .before .before .before .before .before .before .before .before .before .before .before .first-clear .ensures) (l .1 .1 .0) (c .before .before .before .before .before .before .before .before .if4 .left) (l .1 .0) (l .1 .1 .1 .0) _ _ _ (c .before .before .before .before .before .before .before .before .before .before .before .put .ensures) (c .before .before .before .before .before .before .put2 .ensures) (c .before .before .put3 .ensures)
 
 pub visit-spec : {M : Type 1} → statement M
 visit-spec =
@@ -132,7 +133,7 @@ visit-spec =
     same-length-5
     returns-3
     add-next
-    advance-requires
+    first-clear-requires
     put-requires
     same-length-6
     same-length-7

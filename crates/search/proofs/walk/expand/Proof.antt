@@ -58,7 +58,7 @@ spread-requires c κs =
       p .1 .1 .1,
       (
         (p .0 .few, p .1 .1 .0 .1, p .1 .1 .0 .2, omega arith, omega arith),
-        outcomes-inside (p .0) (v .rows) _ _ _ _ (expand-place _ (v .sounds) _ (v .inside) _ (v .is) (c .before .before .before .before .before .before .before .before .before .before .before .before .before .before .before .before .before .args .scratch .now) _ e (c .before .before .before .before .before .if1 .left)) from end (omega arith),
+        outcomes-inside (p .0) _ _ _ _ (expand-place _ (v .sounds) _ (v .inside) _ (v .is) (c .before .before .before .before .before .before .before .before .before .before .before .before .before .before .before .before .before .args .scratch .now) _ e (c .before .before .before .before .before .if1 .left)) from end (omega arith),
       ),
     )
 

@@ -1,3 +1,4 @@
+-- Each table is held to its count, in the order of the test; the lent rows are as many as the model's.
 use mathlib.Core.Bool.{and-false}
 use lib.ListN.{length-map}
 use borrow.Author.Tests.{lt-leb, le-leb}

@@ -1,3 +1,4 @@
+-- Each pair of neighbours before place i rises, so the first that does not is the answer for all.
 use mathlib.Core.Path.{_≡_, _∙_}
 use mathlib.Core.Bool.{true}
 use Prim.Native.Nat.{_+_, _-_}
@@ -6,15 +7,15 @@ use borrow.Author.Tests.{lt-ltb, le-ltb}
 use Rattle.laws.specs.Sets.{every}
 use Rattle.laws.proofs.Loops.{every-none, every-next, every-stop, every-done}
 use Rattle.model.specs.SoundTest.{risesAt}
-use Rattle.tables.proofs.CommandTest.{rises-test}
+use Rattle.tables.proofs.ListTest.{rises-test}
 use Rattle.tables.proofs.checks.rises.Statement.{statement}
 use Rattle.tables.proofs.checks.rises.Tie as tie
 
 abbrev Inv-loop : tie.InvT-loop
-Inv-loop outcomes from k i₀ i = every (λ j. risesAt outcomes (from + j)) i ≡ true
+Inv-loop entries from k i₀ i = every (λ j. risesAt entries (from + j)) i ≡ true
 
 abbrev μ-loop : tie.MeasureT-loop
-μ-loop outcomes from k i₀ i = k - i
+μ-loop entries from k i₀ i = k - i
 
 loop-holds : tie.Need-loop-holds Inv-loop μ-loop
 loop-holds c = every-none _

@@ -1,3 +1,4 @@
+-- The rows before row s pass the test, so the first that does not is the answer for all, whatever the other tables hold.
 mod Tie
 use mathlib.Core.Path.{_≡_}
 use mathlib.Core.Bool.{true}

@@ -1,3 +1,4 @@
+-- Each limit of the size record is one comparison, in the order of the test.
 use mathlib.Core.Bool.{and-false}
 use borrow.Author.Tests.{lt-leb, le-leb}
 use Rattle.model.specs.SoundTest.{sizeSound}

@@ -1,3 +1,4 @@
+-- What is read of a state passes the four parts of the row test, in the order of the test.
 use mathlib.Core.Bool.{and-false}
 use borrow.Author.Needs.{needs}
 use borrow.Author.Tests.{lt-leb, le-leb}

@@ -1,3 +1,4 @@
+-- Two bytes stored one behind the other are the two in a row.
 use borrow.Author.Needs.{needs}
 use Rattle.laws.proofs.Wrote.{wrote-then}
 use Rattle.writing.proofs.bytes.put_both.Statement.{statement}

@@ -1,3 +1,4 @@
+-- One byte stored at its place is written there, and nothing else changes.
 use borrow.Author.Needs.{needs}
 use Rattle.laws.proofs.Wrote.{wrote-one}
 use Rattle.writing.proofs.bytes.put_byte.Statement.{statement}

@@ -1,3 +1,4 @@
+-- Two numbers stored one behind the other are their four bytes in a row.
 use borrow.Author.Needs.{needs}
 use Rattle.laws.proofs.Wrote.{wrote-then}
 use Rattle.writing.proofs.bytes.put_pair.Statement.{statement}

@@ -1,3 +1,4 @@
+-- The two bytes of a number are its quotient and its remainder by 256.
 use borrow.Author.Needs.{needs}
 use Rattle.writing.proofs.bytes.put_two.Statement.{statement}
 use Rattle.writing.proofs.bytes.put_two.Tie as tie

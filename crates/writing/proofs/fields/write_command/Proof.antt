@@ -1,3 +1,4 @@
+-- Tag, length and outcomes are stored one behind the other, and that is the field of a command with these outcomes.
 use borrow.Author.Needs.{needs}
 use Rattle.laws.proofs.Wrote.{wrote-then}
 use Rattle.writing.proofs.CommandFacts.{command-wrote}

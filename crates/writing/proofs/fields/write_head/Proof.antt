@@ -1,3 +1,4 @@
+-- Tag, length and the two numbers are stored one behind the other.
 use borrow.Author.Needs.{needs}
 use Rattle.laws.proofs.Wrote.{wrote-then}
 use Rattle.writing.proofs.fields.write_head.Statement.{statement}

@@ -1,3 +1,4 @@
+-- When the loop comes to place j, the bytes of the outcomes before it are written, and there is room for the rest.
 use Prim.Native.Nat.{_-_}
 use native.Mathlib.Omega.{arith}
 use lib.ListN.{getD}

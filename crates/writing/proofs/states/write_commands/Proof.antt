@@ -1,10 +1,11 @@
+-- When the loop comes to command c, the fields of the commands before it are written, and there is room for the rest.
 use mathlib.Core.List.{[]}
 use Prim.Native.Nat.{_-_}
 use native.Mathlib.Omega.{arith}
 use Rattle.laws.proofs.Turns.{Turn, turn-start, turn-room, turn-next, turn-done}
-use Rattle.model.specs.Places.{outcomesAt}
+use Rattle.model.specs.Places.{listAt}
 use Rattle.model.specs.Bytes.{commandsBytes}
-use Rattle.tables.specs.Meaning.{held}
+use Rattle.tables.specs.Spans.{commandsOf}
 use Rattle.writing.specs.SpanBytes.{commandsFrom}
 use Rattle.writing.proofs.CommandFacts.{command-ready, command-stored}
 use Rattle.writing.proofs.Spreads.{commands-spread}
@@ -13,7 +14,7 @@ use Rattle.writing.proofs.states.write_commands.Tie as tie
 
 abbrev Inv-loop : tie.InvT-loop
 Inv-loop size firsts outcomes first end out₀ place next₀ c₀ out next c =
-    Turn commandsBytes (outcomesAt (held size [] firsts outcomes)) end first out₀ place out next c
+    Turn commandsBytes (listAt (commandsOf size firsts outcomes)) end first out₀ place out next c
 
 abbrev μ-loop : tie.MeasureT-loop
 μ-loop size firsts outcomes first end out₀ place next₀ c₀ out next c = end - c

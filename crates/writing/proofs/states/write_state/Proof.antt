@@ -1,14 +1,16 @@
+-- The state field and the fields of its commands are stored one behind the other.
 use borrow.Author.Needs.{needs}
+use Rattle.tables.specs.Spans.{commandsOf}
 use Rattle.laws.proofs.Wrote.{wrote-then}
 use Rattle.writing.proofs.StateFacts.{row-ready, commands-ready}
 use Rattle.writing.proofs.states.write_state.Statement.{statement}
 use Rattle.writing.proofs.states.write_state.Tie as tie
 
 write-row-requires : tie.Need-write-row-requires
-write-row-requires c κs = let k = c .before .before .before .before .pre in row-ready _ _ _ _ (k .1) _ _ (k .2)
+write-row-requires c κs = let k = c .before .before .before .before .pre in row-ready (commandsOf (c .before .before .before .before .args .size) (c .before .before .before .before .args .firsts .now) (c .before .before .before .before .args .outcomes .now)) _ (k .1) _ _ (k .2)
 
 write-commands-requires : tie.Need-write-commands-requires
-write-commands-requires c κs = let k = c .before .before .before .before .before .before .before .before .pre in commands-ready _ _ _ _ (k .1) (k .0) (k .2) (c .before .before .before .write-row .ensures)
+write-commands-requires c κs = let k = c .before .before .before .before .before .before .before .before .pre in commands-ready _ _ (k .1) (k .0) (k .2) (c .before .before .before .write-row .ensures)
 
 same-length : tie.Need-same-length
 same-length c = search needs

@@ -1,3 +1,4 @@
+-- When the loop comes to state s, the fields of the states before it and of their commands are written, and there is room for the rest.
 mod Tie
 use Prim.Native.Nat.{_-_}
 use native.Mathlib.Nat.{sub-zero}

@@ -1,3 +1,4 @@
+-- The entries before the one that is read pass the test, so the first that does not is the answer for all.
 use mathlib.Core.Path.{_≡_, _∙_}
 use mathlib.Core.Bool.{true}
 use Prim.Native.Nat.{_-_}
@@ -6,15 +7,15 @@ use borrow.Author.Tests.{lt-ltb, le-ltb}
 use Rattle.laws.specs.Sets.{every}
 use Rattle.laws.proofs.Loops.{every-none, every-next, every-stop, every-done}
 use Rattle.model.specs.SoundTest.{entrySound}
-use Rattle.tables.proofs.CommandTest.{outcome-test}
-use Rattle.tables.proofs.checks.outcomes_sound.Statement.{statement}
-use Rattle.tables.proofs.checks.outcomes_sound.Tie as tie
+use Rattle.tables.proofs.ListTest.{entry-test}
+use Rattle.tables.proofs.checks.entries_sound.Statement.{statement}
+use Rattle.tables.proofs.checks.entries_sound.Tie as tie
 
 abbrev Inv-loop : tie.InvT-loop
-Inv-loop size outcomes j₀ j = every (entrySound (size .n) outcomes) j ≡ true
+Inv-loop n end entries j₀ j = every (entrySound n entries) j ≡ true
 
 abbrev μ-loop : tie.MeasureT-loop
-μ-loop size outcomes j₀ j = size .t - j
+μ-loop n end entries j₀ j = end - j
 
 loop-holds : tie.Need-loop-holds Inv-loop μ-loop
 loop-holds c = every-none _
@@ -24,7 +25,7 @@ at-requires c κs = omega arith
 
 returns : tie.Need-returns Inv-loop μ-loop
 returns c =
-    every-stop _ (c .before .before .before .if1 .taken) (outcome-test _ _ _ _ (c .before .before .at .ensures) ∙ le-ltb _ _ (c .if2 .taken))
+    every-stop _ (c .before .before .loop-test .taken) (entry-test _ _ _ _ (c .before .at .ensures) ∙ le-ltb _ _ (c .if1 .taken))
 
 add-j : tie.Need-add-j Inv-loop μ-loop
 add-j c = omega arith
@@ -34,12 +35,12 @@ loop-less c = omega arith
 
 loop-again : tie.Need-loop-again Inv-loop μ-loop
 loop-again c =
-    every-next _ _ (c .before .before .before .before .before .loop .inv) (outcome-test _ _ _ _ (c .before .before .at .ensures) ∙ lt-ltb _ _ (c .if2 .left))
+    every-next _ _ (c .before .before .before .loop .inv) (entry-test _ _ _ _ (c .before .at .ensures) ∙ lt-ltb _ _ (c .if1 .left))
 
 returns-2 : tie.Need-returns-2 Inv-loop μ-loop
-returns-2 c = every-done _ (c .before .before .loop .inv) (c .if1 .left)
+returns-2 c = every-done _ (c .before .loop .inv) (c .loop-test .left)
 
-pub outcomes-sound-spec : {M : Type 1} → statement M
-outcomes-sound-spec =
+pub entries-sound-spec : {M : Type 1} → statement M
+entries-sound-spec =
     tie.close
     (tie.spec Inv-loop μ-loop loop-holds at-requires returns add-j loop-less loop-again returns-2)

@@ -1,0 +1,48 @@
+-- The tests of a list and of an entry, by what is read of them.
+use mathlib.Core.Path.{_≡_, sym, ap, _∙_}
+use mathlib.Core.Bool.{Bool, true, false, _&&_}
+use mathlib.Core.List.{List}
+use Prim.Native.Nat.{ℕ, _+_, _-_, _<_, _≤_}
+use native.Mathlib.Numerals.{add-one}
+use native.Mathlib.Omega.{arith}
+use native.Mathlib.Decide.{decLe}
+use borrow.Author.Tests.{lt-leb, le-leb}
+use lib.Dec.{leb, ltb}
+use lib.ListN.{getD}
+use Rattle.laws.specs.Sets.{every}
+use Rattle.laws.proofs.Loops.{every-none}
+use Rattle.model.specs.Tables.{Lists}
+use Rattle.model.specs.Places.{startIn}
+use Rattle.model.specs.SoundTest.{risesAt, after, listSound, entrySound}
+use Rattle.model.proofs.ListTable.{after-is}
+
+pub entry-test : (n : ℕ) (entries : List ℕ) (j x : ℕ) → x ≡ getD entries j 0 → entrySound n entries j ≡ ltb x n
+unfolding entrySound
+entry-test n entries j x p = rw p
+
+-- two entries in a row, at the places j and j + 1
+pub rises-test : (entries : List ℕ) (j x y : ℕ) → x ≡ getD entries j 0 → y ≡ getD entries (j + 1) 0 → risesAt entries j ≡ ltb x y
+unfolding risesAt
+rises-test entries j x y p q = rw (p, q, add-one j)
+
+-- a list whose entries are from place a up to place e
+pub list-test : (least : ℕ) (L : Lists) (i a e : ℕ) → a ≡ startIn L i → e ≡ startIn L (i + 1)
+    → listSound least L i ≡ (leb (after least a) e && leb e (L .end) && every (λ k. risesAt (L .entries) (a + k)) (e - a - 1))
+unfolding listSound
+list-test least L i a e p q = rw (p, q, add-one i)
+
+-- one without entries
+pub no-entries : (f : ℕ → Bool) (a e : ℕ) → e ≤ a → every f (e - a - 1) ≡ true
+no-entries f a e h = let none : e - a - 1 ≡ 0 = omega arith in ap (every f) none ∙ every-none f
+
+-- how many places there are
+module _ (least from to : ℕ) where
+  pub least-order : to < from → leb (after least from) to ≡ false
+  least-order h = rw (after-is least from) (lt-leb (least + from) to (omega arith))
+
+  pub least-room : from ≤ to → leb least (to - from) ≡ leb (after least from) to
+  least-room h = rw (after-is least from) (go (decLe least (to - from)))
+    where
+      go : Dec (least ≤ to - from) → leb least (to - from) ≡ leb (least + from) to
+      go (yes l) = le-leb least (to - from) l ∙ sym (le-leb (least + from) to (omega arith))
+      go (no l) = lt-leb least (to - from) (omega arith) ∙ sym (lt-leb (least + from) to (omega arith))
