@@ -6,7 +6,7 @@
 # make lib       the C library, target/staticlib/libgate.a (header: include/gate.h)
 # make c-test    the C library's tests and examples, and the header's in C and C++
 # make compare   hold the C library to a planner in Rust, byte for byte over COUNT inputs made from SEED
-# make bench     time the two beside each other: the best of RUNS runs
+# make bench     time the two beside each other: the best of RUNS runs (4 are enough)
 # make rows      check that every machine-made proof file is what tools/rows makes (some minutes)
 # make trace     check that all that docs/TRACE.md names is there
 
@@ -129,8 +129,11 @@ compare: kit need-gcc need-cargo $(LIB)
 
 RUNS ?= 1
 
+# Times change with where code lies within 64 bytes, so each run has all code 16 bytes further than the one before.
 bench: kit need-gcc need-cargo $(LIB)
-	cd compare && cargo run --release --offline --locked --quiet -- bench $(RUNS)
+	cd compare && rm -rf target/runs && mkdir -p target/runs && for run in $$(seq $(RUNS)); do \
+	    SHIFT=$$((16 * run)) cargo build --release --offline --locked --quiet && cp target/release/compare target/runs/$$run || exit 1; \
+	done && target/runs/1 bench target/runs/*
 
 rows: kit need-python3
 	python3 -B tools/rows --check

@@ -14,4 +14,17 @@ fn main() {
     }
     println!("cargo:rustc-link-search=native={}", folder.display());
     println!("cargo:rustc-link-lib=static=gate");
+    place_code();
+}
+
+// With SHIFT, all code lies so many bytes further: for runs that differ in this.
+fn place_code() {
+    println!("cargo:rerun-if-env-changed=SHIFT");
+    let shift = env::var("SHIFT")
+        .ok()
+        .and_then(|bytes| bytes.parse::<u32>().ok());
+    if let Some(bytes) = shift {
+        let address = 0x100_0000 + bytes;
+        println!("cargo:rustc-link-arg-bins=-Wl,--section-start=.text={address:#x}");
+    }
 }

@@ -4,7 +4,6 @@ mod run;
 use crate::calls::Peer;
 use crate::case::CALLS;
 use run::{verified, Verified, BATCH, BATCHES};
-use std::env;
 use std::process::{Command, Stdio};
 
 /// From how many states on a ratio is marked, and above what, call by call.
@@ -22,25 +21,28 @@ pub fn times() -> Result<(), String> {
     Ok(())
 }
 
-/// The times of a run in a process of its own, since where memory lies may differ from process to process.
-fn run_apart() -> Result<Vec<f64>, String> {
-    let program = env::current_exe().map_err(|error| error.to_string())?;
+/// The times of a run of a program that has the same plans.
+fn times_of(program: &str) -> Result<Vec<f64>, String> {
     let mut command = Command::new(program);
     let output = command.arg("times").stderr(Stdio::inherit()).output();
-    let output = output.map_err(|error| error.to_string())?;
+    let output = output.map_err(|error| format!("{program}: {error}"))?;
     if !output.status.success() {
-        return Err("a run has failed".to_string());
+        return Err(format!("{program} has failed"));
     }
     let text = String::from_utf8_lossy(&output.stdout);
     let times: Result<_, _> = text.split_whitespace().map(str::parse).collect();
-    times.map_err(|_| "a run printed something else than times".to_string())
+    times.map_err(|_| format!("{program} printed something else than times"))
 }
 
-/// The least of each time over the runs, six times a plan.
-fn least(runs: u64) -> Result<Vec<f64>, String> {
-    let mut least = run_apart()?;
-    for _ in 1..runs {
-        for (least, time) in least.iter_mut().zip(run_apart()?) {
+/// The least of each time over the programs, six times a plan.
+fn least(programs: &[String], plans: usize) -> Result<Vec<f64>, String> {
+    let mut least = vec![f64::MAX; 2 * CALLS.len() * plans];
+    for program in programs {
+        let times = times_of(program)?;
+        if times.len() != least.len() {
+            return Err(format!("{program} has other plans"));
+        }
+        for (least, time) in least.iter_mut().zip(times) {
             *least = least.min(time);
         }
     }
@@ -72,10 +74,11 @@ fn head() -> String {
     plan + &calls.concat()
 }
 
-pub fn bench(runs: u64) -> Result<(), String> {
+/// Runs each of the programs once.
+pub fn bench(programs: &[String]) -> Result<(), String> {
     let plans = verified(&mut Peer::new())?;
-    let runs = runs.max(1);
-    let least = least(runs)?;
+    let least = least(programs, plans.len())?;
+    let runs = programs.len();
     println!("microseconds a call: library, peer, and library / peer; the best of {BATCHES} batches of each, by turns, in {runs} run(s);");
     println!("a batch repeats the call for about {} microseconds; buffers are warm and not cleared in between;", BATCH.as_micros());
     let bounds = CALLS.iter().zip(MARKED_ABOVE);

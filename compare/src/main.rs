@@ -1,5 +1,5 @@
-//! The library beside a planner of its own: `check` compares them byte for byte, `bench` times them, in
-//! runs of `times`.
+//! The library beside a planner of its own: `check` compares them byte for byte, `times` times them, and
+//! `bench` makes a table of the times of several builds of this program.
 mod bench;
 mod calls;
 mod case;
@@ -13,7 +13,7 @@ use std::env;
 use std::process::ExitCode;
 
 const USAGE: &str =
-    "usage: compare check [COUNT] [SEED] | replay SEED INDEX | bench [RUNS] | times";
+    "usage: compare check [COUNT] [SEED] | replay SEED INDEX | bench PROGRAM... | times";
 const COUNT: u64 = 200_000;
 const SEED: u64 = 1;
 
@@ -37,7 +37,7 @@ fn run(words: &[String]) -> Result<(), String> {
             let index = number(words.get(2), 0)?;
             check::replay(seed, index)
         }
-        (Some("bench"), 1..=2) => bench::bench(number(words.get(1), 1)?),
+        (Some("bench"), 2..) => bench::bench(&words[1..]),
         (Some("times"), 1) => bench::times(),
         _ => Err(USAGE.to_string()),
     }
