@@ -1,6 +1,9 @@
 pub mod Made
 pub mod Expanding
 pub mod Walking
+pub mod WalkSteps
+pub mod WalkEnds
+pub mod Resuming
 pub mod Settling
 pub mod SameSets
 pub mod ReadStates

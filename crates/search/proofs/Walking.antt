@@ -12,7 +12,7 @@ use borrow.Author.Tests.{eqb-true, eq-eqb}
 use Rattle.laws.specs.Entry.{FFFF, entry}
 use Rattle.laws.specs.Filled.{Filled}
 use Rattle.laws.proofs.Tests.{clash, true-or-false, refute, same-test, or-cases, or-left, or-right}
-use Rattle.laws.proofs.Sets.{below-suc, many-bound}
+use Rattle.laws.proofs.Sets.{below-suc}
 use Rattle.laws.proofs.Stores.{entry-after}
 use Rattle.laws.proofs.Fills.{filled-from, filled-over}
 use Rattle.model.specs.Plan.{Plan, Valid}
@@ -25,6 +25,7 @@ use Rattle.walks.specs.Queued.{Queued}
 use Rattle.walks.specs.Spread.{Spread}
 use Rattle.search.specs.Phases.{Expanded, walkFlag, taken, Walked}
 use Rattle.walks.proofs.FlagValues.{known-value, unknown-value, walked-value, unwalked-value}
+use Rattle.walks.proofs.Room.{queued-few}
 use Rattle.walks.proofs.Spreads.{flag-cases, flag-past, spread-known, spread-walked}
 
 -- The walk has reached q states, and has gone on from the first h of the queue. K is the known set, and c₀, s₀, u₀ are the tables when
@@ -90,7 +91,7 @@ module _ (P : Plan) {n : ℕ} (a : ℕ) {c₀ s₀ u₀ : List ℕ} (flags : (x 
 
 module _ {P : Plan} {n : ℕ} {K : ℕ → Bool} {a : ℕ} {c₀ s₀ u₀ : List ℕ} {h q : ℕ} {cs s u : List ℕ} (w : Walking P n K a c₀ s₀ u₀ h q cs s u) where
   pub walking-room : q ≤ n
-  walking-room = omega (arith, w .queued .fits, many-bound (walkedIn s) n)
+  walking-room = queued-few (w .queued)
 
   pub walking-state : h < q → (x : ℕ) → x ≡ getD u h 0 → x < n
   walking-state k x p = rw p (w .queued .states h k)

@@ -11,12 +11,12 @@ use lib.ListN.{length, getD, set, length-set}
 use lib.Seq.{getD-set-same, getD-set-other}
 use borrow.Author.Tests.{eqb-true, eqb-false, eq-eqb}
 use Rattle.laws.proofs.Tests.{clash, true-or-false, refute}
-use Rattle.laws.proofs.Sets.{many-bound, many-lt}
 use Rattle.laws.proofs.Stores.{entry-after}
 use Rattle.walks.specs.Flags.{walkedIn, newIn}
 use Rattle.walks.specs.Queued.{Queued}
 use Rattle.walks.specs.Spread.{Spread}
 use Rattle.walks.proofs.FlagValues.{walked-value, value-walked, value-unwalked, new-value}
+use Rattle.walks.proofs.Room.{queued-room}
 use Rattle.walks.proofs.Spreads.{spread-none}
 
 -- state x, of which the flag r was read
@@ -37,10 +37,7 @@ module _ {n q : ℕ} {s u : List ℕ} (L : Queued n q s u) (x : ℕ) (l : x < n)
     out = value-unwalked s x (omega arith)
 
     pub reach-room : q < n
-    reach-room =
-        let a = many-lt (walkedIn s) (λ y. true) n (λ i k t. refl) x l out refl in
-        let b = many-bound (λ y. true) n in
-        omega (arith, L .fits)
+    reach-room = queued-room L x l out
 
     flag-after : (y : ℕ) → getD (set s x mark) y 0 ≡ cond (eqb y x) mark (getD s y 0)
     flag-after y = entry-after s x mark y (omega arith)
@@ -93,9 +90,6 @@ module _ {n q : ℕ} {s u : List ℕ} (L : Queued n q s u) (x : ℕ) (l : x < n)
           (λ z. listed-still y k (value-walked s y (rw (old-flag y z) at (walked-value (set s x mark) y t))))
           (true-or-false (eqb y x));
       once = λ i j k m z. once-more i j k m (ℕ-discrete i q) (ℕ-discrete j q) z;
-      fits =
-          let a = many-lt (walkedIn s) (walkedIn (set s x mark)) n (λ i k t. still i t) x l out now-in in
-          omega (arith, L .fits);
     }
 
     new-is : (y : ℕ) → newIn s One y ≡ eqb y x

@@ -22,7 +22,6 @@ queued-none {s = s} u h = record {
   placed = λ i l. absurd (omega arith);
   listed = λ x l t. absurd (omega (arith, h x l, walked-value s x t));
   once = λ i j l m. absurd (omega arith);
-  fits = omega arith;
 }
 
 -- no state of X is new
