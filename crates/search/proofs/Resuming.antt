@@ -5,8 +5,9 @@ use mathlib.Core.Bool.{Bool, true, false, cond, _||_, or-false}
 use mathlib.Core.Logic.{_⊎_, inl, inr, ⊎-elim}
 use mathlib.Core.List.{List, List·Memᴰ}
 use mathlib.Core.Option.{some}
-use Prim.Native.Nat.{ℕ, _+_, _<_, _≤_}
+use Prim.Native.Nat.{ℕ, zero, suc, _+_, _<_, _≤_}
 use native.Mathlib.Decide.{decLt}
+use native.Mathlib.Numerals.{add-one}
 use native.Mathlib.Omega.{arith}
 use lib.Dec.{leb}
 use lib.ListN.{getD}
@@ -23,23 +24,30 @@ use Rattle.walks.specs.Flags.{knownIn, walkedIn}
 use Rattle.walks.specs.Queued.{Queued}
 use Rattle.walks.proofs.FlagValues.{walked-value, unwalked-value, value-walked, value-unwalked}
 use Rattle.search.specs.Underway.{leads, Underway}
-use Rattle.search.specs.Settled.{Settled}
+use Rattle.search.specs.Marks.{noneLeft}
+use Rattle.search.specs.Walked.{Lowest}
+use Rattle.search.specs.Settled.{Cut, Settled}
 
--- the first q′ places of the queue stay: those of states that were reached from places before `low`, and the start's
-pub record Stays (low q′ q : ℕ) (flags queue : List ℕ) : Type 0 where
-  pub some : 0 < q′
-  pub part : q′ ≤ q
-  pub below : (i : ℕ) → 0 < i → i < q′ → getD flags (getD queue i 0) 0 < low + 2
-  pub above : (i : ℕ) → q′ ≤ i → i < q → low + 2 ≤ getD flags (getD queue i 0) 0
+last-place : (q : ℕ) → 0 < q → (i : ℕ) × (i + 1 ≡ q)
+last-place zero l = absurd (omega arith)
+last-place (suc q) l = (q, add-one q)
 
 -- M is the set of the marked states
 module _ {P : Plan} {n : ℕ} {K M : ℕ → Bool} {a q : ℕ} {cs s u : List ℕ} (w : Underway P n K a q q cs s u) (S : Valid P) (count : P .states ≡ n)
     (low : ℕ) (place : low < q) (late : (x : ℕ) → x < n → M x ≡ true → low + 2 ≤ getD s x 0) (fresh : M a ≡ false)
-    {q′ : ℕ} (r : Stays low q′ q s u) {cs′ s′ : List ℕ} (d : Settled q′ q M u cs s cs′ s′) where
+    {q′ : ℕ} (r : Cut low q′ q s u) {cs′ s′ : List ℕ} (d : Settled q′ q M u cs s cs′ s′) where
   abbrev K′ : ℕ → Bool
   K′ y = K y || M y
 
   -- ---- which states stay
+
+  -- the flags rise along the queue, so those of all places that stay are low
+  below : (i : ℕ) → 0 < i → i < q′ → getD s (getD u i 0) 0 < low + 2
+  below i z k = go (decLt (i + 1) q′)
+    where
+      go : Dec (i + 1 < q′) → getD s (getD u i 0) 0 < low + 2
+      go (no l) = r .last i z (omega arith)
+      go (yes l) = let (j, e) = last-place q′ (r .some) in omega (arith, w .rising i j (omega arith) (omega (arith, r .part)), r .last j (omega arith) e)
 
   abbrev Popped : ℕ → Type 0
   Popped y = (i : ℕ) × (q′ ≤ i) × (i < q) × (getD u i 0 ≡ y)
@@ -89,7 +97,7 @@ module _ {P : Plan} {n : ℕ} {K M : ℕ → Bool} {a q : ℕ} {cs s u : List �
       go t i m e (yes l) = first (decLt 0 i)
         where
           first : Dec (0 < i) → ⊥
-          first (yes z) = omega (arith, late y k t, rw e at (r .below i z l))
+          first (yes z) = omega (arith, late y k t, rw e at (below i z l))
           first (no z) = let b : i ≡ 0 = omega arith in let is : y ≡ a = sym e ∙ ap (λ j. getD u j 0) b ∙ w .start in clash t (rw is fresh)
 
   -- ---- the known set, and the commands that stay
@@ -151,7 +159,7 @@ module _ {P : Plan} {n : ℕ} {K M : ℕ → Bool} {a q : ℕ} {cs s u : List �
   from-still : (i : ℕ) → 0 < i → i < q′ → (j : ℕ) × (j < i) × (j < low) × (getD s′ (getD u i 0) 0 ≡ j + 2) × (leads P K′ u j (getD u i 0) ≡ true)
   from-still i z k =
       let (j, before, gone, e, t) = w .from i z (omega (arith, r .part)) in
-      let early : j < low = omega (arith, r .below i z k) in
+      let early : j < low = omega (arith, below i z k) in
       (j, before, early, flag-stays i k ∙ e, leads-stays j (getD u i 0) early ∙ t)
 
   closed-still : (j y : ℕ) → j < low → leads P K′ u j y ≡ true → (walkedIn s′ y ≡ true) × (getD s′ y 0 ≤ j + 2)
@@ -179,3 +187,15 @@ module _ {P : Plan} {n : ℕ} {K M : ℕ → Bool} {a q : ℕ} {cs s u : List �
         (λ out. unmoved y out .1 ∙ w .blank y k (value-unwalked s y (rw (unmoved y out .0) at (unwalked-value s′ y t))))
         (sort y k);
   }
+
+  -- no state before that place is marked, with the new known set either
+  pub resumed-clear : Lowest P K low q s u → (i : ℕ) → i < low → noneLeft P K′ (getD u i 0) ≡ false
+  unfolding noneLeft
+  resumed-clear e i k = rw (← choice-stays i k) (refute (noneLeft P K (getD u i 0)) (λ t. early t (decLt 0 i)))
+    where
+      early : noneLeft P K (getD u i 0) ≡ true → Dec (0 < i) → ⊥
+      early t (yes z) = let (j, before, gone, f, b) = w .from i z (omega (arith, place)) in omega (arith, e .each i (omega (arith, place)) t)
+      early t (no z) =
+          let o : i ≡ 0 = omega arith in
+          let is : getD u i 0 ≡ a = ap (λ j. getD u j 0) o ∙ w .start in
+          omega (arith, rw is at (e .each i (omega (arith, place)) t), w .start-flag)

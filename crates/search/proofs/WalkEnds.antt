@@ -16,8 +16,11 @@ use Rattle.model.proofs.Choices.{choice-some}
 use Rattle.model.proofs.Walks.{lands-is, lands-of, start-reached, goes-on, reached-all}
 use Rattle.walks.specs.Flags.{walkedIn}
 use Rattle.walks.proofs.FlagValues.{value-walked}
-use Rattle.search.specs.Phases.{taken}
 use Rattle.search.specs.Underway.{leads, Underway}
+
+-- the entry of x in the command table after a round from a
+unfoldable pub taken : Plan → (ℕ → Bool) → ℕ → ℕ → ℕ
+taken P K a x = cond (reached P K a x) (entry (choice P K x)) FFFF
 
 module _ {P : Plan} {n : ℕ} {K : ℕ → Bool} {a h q : ℕ} {cs s u : List ℕ} (w : Underway P n K a h q cs s u) (S : Valid P) (count : P .states ≡ n) where
   -- every place holds a state that the round reaches: the start, or one that an earlier place leads to

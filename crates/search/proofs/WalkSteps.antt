@@ -25,12 +25,15 @@ use Rattle.walks.specs.Spread.{Spread}
 use Rattle.walks.proofs.FlagValues.{unknown-value, walked-value, value-walked, new-value, value-new}
 use Rattle.walks.proofs.Spreads.{flag-new, flag-old, flag-cases, flag-reached, spread-known, spread-walked}
 use Rattle.search.specs.Underway.{leads, Underway}
+use Rattle.search.specs.Walked.{Expanded}
+use Rattle.search.proofs.SameSets.{choice-over}
 
 -- the start is reached, over flags of no earlier walk
-module _ (P : Plan) {n : ℕ} (a : ℕ) (l : a < n) {s₀ u₀ : List ℕ} (flags : (x : ℕ) → x < n → getD s₀ x 0 < 2) (fresh : knownIn s₀ a ≡ false)
+module _ (P : Plan) {n : ℕ} {K : ℕ → Bool} (a : ℕ) (l : a < n) {s₀ u₀ : List ℕ} (flags : (x : ℕ) → x < n → getD s₀ x 0 < 2)
+    (same : (y : ℕ) → y < n → knownIn s₀ y ≡ K y) (fresh : K a ≡ false)
     {q : ℕ} {c₀ cs s u : List ℕ} (v : Spread n 0 (λ y. eqb y a) 2 s₀ u₀ q s u) (f : Filled n (λ _. FFFF) c₀ cs) where
   start-new : newIn s₀ (λ y. eqb y a) a ≡ true
-  start-new = value-new s₀ a (λ y. eqb y a) (omega (arith, flags a l, unknown-value s₀ a fresh)) (eq-eqb a a refl)
+  start-new = value-new s₀ a (λ y. eqb y a) (omega (arith, flags a l, unknown-value s₀ a (same a l ∙ fresh))) (eq-eqb a a refl)
 
   alone : (i : ℕ) → i < q → getD u i 0 ≡ a
   alone i k = eqb-true (getD u i 0) a (new-value s₀ (getD u i 0) (λ y. eqb y a) (v .added i (omega arith) k) .1)
@@ -38,12 +41,12 @@ module _ (P : Plan) {n : ℕ} (a : ℕ) (l : a < n) {s₀ u₀ : List ℕ} (flag
   some : 0 < q
   some = let (i, z, k, e) = v .all a start-new in omega arith
 
-  pub underway-start : Underway P n (knownIn s₀) a 0 q cs s u
+  pub underway-start : Underway P n K a 0 q cs s u
   underway-start = record {
     queued = v .queued;
     begun = some;
     ahead = omega arith;
-    known = λ y k. spread-known v (omega arith) y;
+    known = λ y k. spread-known v (omega arith) y ∙ same y k;
     start = alone 0 some;
     start-flag = flag-new v a start-new;
     from = λ i z k. absurd (omega (arith, v .queued .once i 0 k some (alone i k ∙ sym (alone 0 some))));
@@ -153,7 +156,7 @@ module _ {P : Plan} {n : ℕ} {K : ℕ → Bool} {a h q : ℕ} {cs s u : List �
           (λ z. rw z (w .blank y m (refute (walkedIn s y) (λ g. clash (still y g) t))))
           (true-or-false (eqb y x))
 
-      pub underway-next : Underway P n K a (h + 1) q′ cs′ s′ u′
+      underway-next : Underway P n K a (h + 1) q′ cs′ s′ u′
       underway-next = record {
         queued = v .queued;
         begun = omega (arith, v .more);
@@ -167,3 +170,13 @@ module _ {P : Plan} {n : ℕ} {K : ℕ → Bool} {a h q : ℕ} {cs s u : List �
         took = λ i m. below-suc (λ j. getD cs′ (getD u′ j 0) 0 ≡ entry (choice P K (getD u′ j 0))) h old-took new-took i (omega arith);
         blank = λ y m t. rw (cs-is, entry-after cs x (entry (choice P K x)) y in-cs) (still-blank y m t);
       }
+
+    module _ (k : h < q) (x : ℕ) (p : x ≡ getD u h 0) (long : n ≤ length cs) {q′ : ℕ} {cs′ s′ u′ : List ℕ} (g : Expanded P n q x (h + 2) cs s u q′ cs′ s′ u′) where
+      in-plan : x < n
+      in-plan = rw p (w .queued .states h k)
+
+      pub expanded-choice : choice P (knownIn s) x ≡ choice P K x
+      expanded-choice = choice-over P S (knownIn s) K (λ y l. w .known y (rw count at l)) x (rw count in-plan)
+
+      pub underway-expanded : Underway P n K a (h + 1) q′ cs′ s′ u′
+      underway-expanded = underway-next k x p (omega (arith, in-plan)) (rw expanded-choice at (g .took)) (rw expanded-choice at (g .spreads))
