@@ -43,7 +43,8 @@ use Rattle.search.proofs.Walking.{Clear, past-none, past-then}
 use Rattle.search.proofs.Settling.{settled-as}
 use Rattle.search.proofs.Resuming.{resumed, resumed-clear}
 use Rattle.search.proofs.RoundEnds.{walked-flag, marked-found, marked-late, low-place, low-none, end-told}
-use Rattle.search.proofs.LastRound.{known-next, unmarked-ends, start-ends, goes-on-after, not-past, few-rounds, last-lost, last-rounds, last-command}
+use Rattle.search.proofs.LastRound.{known-next, unmarked-ends, start-ends, goes-on-after, not-past, few-rounds}
+use Rattle.search.proofs.LastRound.{last-lost, last-rounds, last-command}
 
 -- another round is due: a walk with the known set is under way, and no round so far was the last
 pub record Due (P : Plan) (n a j h q : ℕ) (cs s u : List ℕ) : Type 0 where
@@ -75,7 +76,8 @@ pub record AfterRounds (P : Plan) (n a : ℕ) (c₀ s₀ u₀ : List ℕ) (end j
 
 -- ---- before the first round
 
-module _ (T : Tables) (sounds : sound T ≡ true) (a : ℕ) (l : a < T .size .n) {c₋ s₋ cs s₀ : List ℕ} (f : Filled (T .size .n) (λ _. FFFF) c₋ cs)
+module _ (T : Tables) (sounds : sound T ≡ true) (a : ℕ) (l : a < T .size .n) {c₋ s₋ cs s₀ : List ℕ}
+    (f : Filled (T .size .n) (λ _. FFFF) c₋ cs)
     (g : Filled (T .size .n) (λ x. startFlag (spanAt T x)) s₋ s₀) where
   first-flag : (x : ℕ) → x < T .size .n → getD s₀ x 0 ≡ cond (failing (planIn T) x) 0 1
   first-flag x k = g .low x k ∙ start-flag-is T x k
@@ -110,14 +112,16 @@ module _ (T : Tables) (sounds : sound T ≡ true) (a : ℕ) (l : a < T .size .n)
     unfolding atOnce entry
     lost-first e = record { verdict = rw e; counted = rw e; blank = λ x. rw e }
 
-    pub rounds-start : (p : Span) → p ≡ spanAt T a → (end : ℕ) → end ≡ startEnd p → AfterRounds (planIn T) (T .size .n) a cs s u end 0 0 q cs s u
+    pub rounds-start : (p : Span) → p ≡ spanAt T a → (end : ℕ) → end ≡ startEnd p
+        → AfterRounds (planIn T) (T .size .n) a cs s u end 0 0 q cs s u
     unfolding search
     rounds-start p is end e = go (kind-of (planIn T) a (sound-valid T sounds) (rw (states-held T) l))
       where
         end-is : end ≡ cond (failing (planIn T) a) 1 (cond (active (planIn T) a) 2 0)
         end-is = e ∙ ap startEnd is ∙ start-end-is T a l
 
-        begun : end ≤ 2 → (end ≡ 2 → Due (planIn T) (T .size .n) a 0 0 q cs s u) → (end ≡ 0 → Safe (planIn T) (T .size .n) a 0 cs) → (end ≡ 1 → Lost (planIn T) a 0)
+        begun : end ≤ 2 → (end ≡ 2 → Due (planIn T) (T .size .n) a 0 0 q cs s u) → (end ≡ 0 → Safe (planIn T) (T .size .n) a 0 cs)
+            → (end ≡ 1 → Lost (planIn T) a 0)
             → AfterRounds (planIn T) (T .size .n) a cs s u end 0 0 q cs s u
         begun b d v w = record {
           low = b;
@@ -184,7 +188,8 @@ module _ (T : Tables) (sounds : sound T ≡ true) (few : T .size .n ≤ maxState
   due-few = rw (states-held T) at (few-rounds P S a (in-plan l) (d .act) j (d .unended))
 
   -- the round was walked, and its last places settled
-  module _ {r : Progress} {cs₁ s₁ u₁ : List ℕ} (w : Walked P (T .size .n) K a r cs₁ s₁ u₁) {end : ℕ} (e : end ≡ endOf (r .low) (getD cs₁ a 0))
+  module _ {r : Progress} {cs₁ s₁ u₁ : List ℕ} (w : Walked P (T .size .n) K a r cs₁ s₁ u₁) {end : ℕ}
+      (e : end ≡ endOf (r .low) (getD cs₁ a 0))
       {q′ : ℕ} (c : Cut (r .low) q′ (r .reached) s₁ u₁) {cs₂ s₂ : List ℕ}
       (z : Settled q′ (r .reached) (λ x. markedAt (spanAt T x) cs₁ s₁ x) u₁ cs₁ s₁ cs₂ s₂) where
     end-is : end ≡ cond (withoutMarks P a j) 0 (cond (marked P K a a) 1 2)
@@ -210,7 +215,8 @@ module _ (T : Tables) (sounds : sound T ≡ true) (few : T .size .n ≤ maxState
 
     -- where there are no marks nothing was settled
     as-walked : withoutMarks P a j ≡ true → (x : ℕ) → getD cs₂ x 0 ≡ getD cs₁ x 0
-    as-walked none-marked x = z .kept x (λ i b k y. omega (arith, c .above i b k, low-none T sounds few a j w none-marked, walked-flag T sounds few a j w i k)) .1
+    as-walked none-marked x =
+        z .kept x (λ i b k y. omega (arith, c .above i b k, low-none T sounds few a j w none-marked, walked-flag T sounds few a j w i k)) .1
 
     took : known P a (suc j) a ≡ false → ends P a j ≡ true → (x : ℕ) → taken P K a x ≡ entry (search P a .command x)
     unfolding taken entry
@@ -247,14 +253,16 @@ module _ (T : Tables) (sounds : sound T ≡ true) (few : T .size .n ≤ maxState
     beyond : (y : ℕ) → T .size .n ≤ y → (getD s₂ y 0 ≡ getD s₁ y 0) × (getD cs₂ y 0 ≡ getD cs₁ y 0)
     beyond y k = z .kept y (λ i b m e′. omega (arith, w .done .queued .states i m))
 
-    pub rounds-next : {c₀ s₀ u₀ : List ℕ} {end₀ : ℕ} → AfterRounds P (T .size .n) a c₀ s₀ u₀ end₀ j h q cs s u → Past (T .size .n) cs cs₁ → Past (T .size .n) s s₁
+    pub rounds-next : {c₀ s₀ u₀ : List ℕ} {end₀ : ℕ} → AfterRounds P (T .size .n) a c₀ s₀ u₀ end₀ j h q cs s u → Past (T .size .n) cs cs₁
+        → Past (T .size .n) s s₁
         → length u₁ ≡ length u → AfterRounds P (T .size .n) a c₀ s₀ u₀ end (j + 1) (r .low) q′ cs₂ s₂ u₁
     rounds-next v pc ps pu = rw (add-one j) (record {
       low = rw end-is (end-low (withoutMarks P a j) (marked P K a a));
       due = due-next;
       safe = safe-next;
       lost = lost-next;
-      commands = past-then (past-then (v .commands) pc) (record { same = z .same-commands; low = λ x k. refl; high = λ y k. beyond y k .1 });
+      commands =
+          past-then (past-then (v .commands) pc) (record { same = z .same-commands; low = λ x k. refl; high = λ y k. beyond y k .1 });
       flags = past-then (past-then (v .flags) ps) (record { same = z .same-flags; low = λ x k. refl; high = λ y k. beyond y k .0 });
       same-queue = pu ∙ v .same-queue;
     })

@@ -17,7 +17,8 @@ module _ {n end j : ℕ} {cs s s′ : List ℕ} (f : Filled n (λ _. 0) s s′) 
   pub finished-safe : end ≡ 0 → Finished n end j cs s (record { lost = false; rounds = j }) cs s′
   finished-safe e = record { counted = refl; safe = λ _. (refl, refl); lost = λ h. absurd (h e); clean = f }
 
-  pub finished-lost : (end ≡ 0 → ⊥) → {cs′ : List ℕ} → Filled n (λ _. FFFF) cs cs′ → Finished n end j cs s (record { lost = true; rounds = j }) cs′ s′
+  pub finished-lost : (end ≡ 0 → ⊥) → {cs′ : List ℕ} → Filled n (λ _. FFFF) cs cs′
+      → Finished n end j cs s (record { lost = true; rounds = j }) cs′ s′
   finished-lost h g = record { counted = refl; safe = λ e. absurd (h e); lost = λ _. (refl, g); clean = f }
 
 module _ {P : Plan} {n a : ℕ} {f g : ℕ → ℕ} {c₋ s₋ c₀ s₀ u₀ : List ℕ} (blank : Filled n f c₋ c₀) (known : Filled n g s₋ s₀)

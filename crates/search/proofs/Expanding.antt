@@ -30,12 +30,14 @@ use Rattle.search.specs.Walked.{Expanded}
 use Rattle.walks.proofs.FlagValues.{not-taken}
 use Rattle.walks.proofs.Spreads.{spread-none, spread-as}
 
-known-choice : (P : Plan) (scratch : List ℕ) (s c : ℕ) → c ≡ entry (choice P (within scratch 0) s) → c ≡ entry (choice P (knownIn scratch) s)
+known-choice : (P : Plan) (scratch : List ℕ) (s c : ℕ) → c ≡ entry (choice P (within scratch 0) s)
+    → c ≡ entry (choice P (knownIn scratch) s)
 unfolding knownIn
 known-choice P scratch s c e = e
 
 -- c is the entry that choosing answered at s, of which `span` was read
-module _ (T : Tables) (sounds : sound T ≡ true) (s : ℕ) (l : s < T .size .n) (span : Span) (is : span ≡ spanAt T s) (scratch : List ℕ) (c : ℕ)
+module _ (T : Tables) (sounds : sound T ≡ true) (s : ℕ) (l : s < T .size .n) (span : Span) (is : span ≡ spanAt T s) (scratch : List ℕ)
+    (c : ℕ)
     (e : c ≡ entry (choice (planIn T) (within scratch 0) s)) where
   known : c ≡ entry (choice (planIn T) (knownIn scratch) s)
   known = known-choice (planIn T) scratch s c e
@@ -70,5 +72,6 @@ module _ (T : Tables) (sounds : sound T ≡ true) (s : ℕ) (l : s < T .size .n)
           rw choice-is (ap (any (eqb y)) (part-is ∙ sym (outcomes-held T s l c (rw (commands-held T s l) at own))))
 
       pub expand-some : {n k k′ mark : ℕ} {u scratch′ u′ : List ℕ} (cs cs′ : List ℕ) → cs′ ≡ set cs s c
-          → Spread n k (λ y. any (eqb y) (slice from end (T .outcomes))) mark scratch u k′ scratch′ u′ → Expanded (planIn T) n k s mark cs scratch u k′ cs′ scratch′ u′
+          → Spread n k (λ y. any (eqb y) (slice from end (T .outcomes))) mark scratch u k′ scratch′ u′
+          → Expanded (planIn T) n k s mark cs scratch u k′ cs′ scratch′ u′
       expand-some cs cs′ z w = record { took = z ∙ ap (set cs s) known; spreads = spread-as lands-are w }

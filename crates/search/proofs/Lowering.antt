@@ -28,18 +28,21 @@ pub marked-left : (T : Tables) → sound T ≡ true → (K : ℕ → Bool) (x : 
     → getD cs x 0 ≡ entry (choice (planIn T) K x) → markedAt (spanAt T x) cs s x ≡ noneLeft (planIn T) K x
 unfolding markedAt noneLeft
 marked-left T sounds K x l cs s t e =
-    rw (t, span-active T x l, e) (ap (λ (b : Bool). active (planIn T) x && b) (entry-none (choice (planIn T) K x) (few-commands T sounds x l K)))
+    rw (t, span-active T x l, e)
+    (ap (λ (b : Bool). active (planIn T) x && b) (entry-none (choice (planIn T) K x) (few-commands T sounds x l K)))
 
 -- ---- the lower of two places
 
 lower-low : (m : Bool) (f low : ℕ) → lowerOf m f low ≤ low
 unfolding lowerOf
-lower-low true f low = ⊎-elim (λ t. rw t (omega (arith, ltb-true (f - 2) low t))) (λ t. rw t (omega arith)) (true-or-false (ltb (f - 2) low))
+lower-low true f low =
+    ⊎-elim (λ t. rw t (omega (arith, ltb-true (f - 2) low t))) (λ t. rw t (omega arith)) (true-or-false (ltb (f - 2) low))
 lower-low false f low = omega arith
 
 lower-flag : (m : Bool) (f low : ℕ) → m ≡ true → 2 ≤ f → lowerOf m f low + 2 ≤ f
 unfolding lowerOf
-lower-flag true f low e h = ⊎-elim (λ t. rw t (omega arith)) (λ t. rw t (omega (arith, ltb-false (f - 2) low t))) (true-or-false (ltb (f - 2) low))
+lower-flag true f low e h =
+    ⊎-elim (λ t. rw t (omega arith)) (λ t. rw t (omega (arith, ltb-false (f - 2) low t))) (true-or-false (ltb (f - 2) low))
 lower-flag false f low e h = clash e refl
 
 lower-is : (m : Bool) (f low : ℕ) → 2 ≤ f → (lowerOf m f low ≡ low) ⊎ ((m ≡ true) × (f ≡ lowerOf m f low + 2))
@@ -50,13 +53,15 @@ lower-is false f low h = inl refl
 -- ---- in the walk
 
 -- none of the states that the walk has gone on from is marked
-pub lowest-start : {P : Plan} {K : ℕ → Bool} {h : ℕ} {s u : List ℕ} → ((i : ℕ) → i < h → noneLeft P K (getD u i 0) ≡ false) → Lowest P K FFFF h s u
+pub lowest-start : {P : Plan} {K : ℕ → Bool} {h : ℕ} {s u : List ℕ} → ((i : ℕ) → i < h → noneLeft P K (getD u i 0) ≡ false)
+    → Lowest P K FFFF h s u
 lowest-start clear = record { each = λ i k t. clash t (clear i k); one = inl refl }
 
 -- the state x at place h was gone on from, and the places before are as they were
 module _ {P : Plan} {K : ℕ → Bool} {low h : ℕ} {s u : List ℕ} (w : Lowest P K low h s u) (s′ u′ : List ℕ)
     (stay : (i : ℕ) → i < h → getD u′ i 0 ≡ getD u i 0) (flag : (i : ℕ) → i < h → getD s′ (getD u′ i 0) 0 ≡ getD s (getD u i 0) 0)
-    (x : ℕ) (is : getD u′ h 0 ≡ x) (high : 2 ≤ getD s′ x 0) (m : Bool) (left : m ≡ noneLeft P K x) (v : ℕ) (e : v ≡ lowerOf m (getD s′ x 0) low) where
+    (x : ℕ) (is : getD u′ h 0 ≡ x) (high : 2 ≤ getD s′ x 0) (m : Bool) (left : m ≡ noneLeft P K x) (v : ℕ)
+    (e : v ≡ lowerOf m (getD s′ x 0) low) where
   old-each : (i : ℕ) → i < h → noneLeft P K (getD u′ i 0) ≡ true → v + 2 ≤ getD s′ (getD u′ i 0) 0
   old-each i k t = rw (flag i k) (omega (arith, e, lower-low m (getD s′ x 0) low, w .each i k (rw (stay i k) at t)))
 
@@ -69,7 +74,8 @@ module _ {P : Plan} {K : ℕ → Bool} {low h : ℕ} {s u : List ℕ} (w : Lowes
     one = ⊎-elim older (λ t. inr (h, omega arith, rw is (sym left ∙ t .0), rw (is, e) (t .1))) (lower-is m (getD s′ x 0) low high);
   }
     where
-      older : lowerOf m (getD s′ x 0) low ≡ low → (v ≡ FFFF) ⊎ ((i : ℕ) × (i < h + 1) × (noneLeft P K (getD u′ i 0) ≡ true) × (getD s′ (getD u′ i 0) 0 ≡ v + 2))
+      older : lowerOf m (getD s′ x 0) low ≡ low
+          → (v ≡ FFFF) ⊎ ((i : ℕ) × (i < h + 1) × (noneLeft P K (getD u′ i 0) ≡ true) × (getD s′ (getD u′ i 0) 0 ≡ v + 2))
       older z =
           let same : v ≡ low = e ∙ z in
           ⊎-elim

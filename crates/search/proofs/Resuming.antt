@@ -1,6 +1,7 @@
--- When a round is over and its marked states become known, what of its walk came before them is a walk under way with the new known set. Each marked
--- state was reached from place `low` of the queue or a later one, so no command taken before that place has a marked outcome.
-use mathlib.Core.Path.{_≡_, refl, sym, _∙_, ap}
+-- When a round is over and its marked states become known, what of its walk came before them is a walk under way with the new known
+-- set. Each marked state was reached from place `low` of the queue or a later one, so no command taken before that place has a marked
+-- outcome.
+use mathlib.Core.Path.{_≡_, sym, _∙_, ap}
 use mathlib.Core.Bool.{Bool, true, false, cond, _||_, or-false}
 use mathlib.Core.Logic.{_⊎_, inl, inr, ⊎-elim}
 use mathlib.Core.List.{List, List·Memᴰ}
@@ -12,12 +13,12 @@ use native.Mathlib.Omega.{arith}
 use lib.Dec.{leb}
 use lib.ListN.{getD}
 use borrow.Author.Tests.{lt-leb}
-use Rattle.laws.specs.Entry.{FFFF, entry}
+use Rattle.laws.specs.Entry.{entry}
 use Rattle.laws.proofs.Tests.{clash, true-or-false, refute, or-cases, or-left}
 use Rattle.model.specs.Plan.{Plan, Valid}
 use Rattle.model.specs.Verdict.{hits}
 use Rattle.model.specs.Command.{choice}
-use Rattle.model.specs.Search.{lands, marked}
+use Rattle.model.specs.Search.{marked}
 use Rattle.model.proofs.Choices.{hits-is, hits-of, misses, choice-some, choice-same}
 use Rattle.model.proofs.Walks.{lands-of}
 use Rattle.walks.specs.Flags.{knownIn, walkedIn}
@@ -33,7 +34,8 @@ last-place zero l = absurd (omega arith)
 last-place (suc q) l = (q, add-one q)
 
 -- M is the set of the marked states
-module _ {P : Plan} {n : ℕ} {K M : ℕ → Bool} {a q : ℕ} {cs s u : List ℕ} (w : Underway P n K a q q cs s u) (S : Valid P) (count : P .states ≡ n)
+module _ {P : Plan} {n : ℕ} {K M : ℕ → Bool} {a q : ℕ} {cs s u : List ℕ} (w : Underway P n K a q q cs s u) (S : Valid P)
+    (count : P .states ≡ n)
     (low : ℕ) (place : low < q) (late : (x : ℕ) → x < n → M x ≡ true → low + 2 ≤ getD s x 0) (fresh : M a ≡ false)
     {q′ : ℕ} (r : Cut low q′ q s u) {cs′ s′ : List ℕ} (d : Settled q′ q M u cs s cs′ s′) where
   abbrev K′ : ℕ → Bool
@@ -47,7 +49,9 @@ module _ {P : Plan} {n : ℕ} {K M : ℕ → Bool} {a q : ℕ} {cs s u : List �
     where
       go : Dec (i + 1 < q′) → getD s (getD u i 0) 0 < low + 2
       go (no l) = r .last i z (omega arith)
-      go (yes l) = let (j, e) = last-place q′ (r .some) in omega (arith, w .rising i j (omega arith) (omega (arith, r .part)), r .last j (omega arith) e)
+      go (yes l) =
+          let (j, e) = last-place q′ (r .some) in
+          omega (arith, w .rising i j (omega arith) (omega (arith, r .part)), r .last j (omega arith) e)
 
   abbrev Popped : ℕ → Type 0
   Popped y = (i : ℕ) × (q′ ≤ i) × (i < q) × (getD u i 0 ≡ y)
@@ -60,7 +64,9 @@ module _ {P : Plan} {n : ℕ} {K M : ℕ → Bool} {a q : ℕ} {cs s u : List �
     where
       go : Dec (low < q′) → low < q′
       go (yes l) = l
-      go (no l) = let (j, before, gone, e, t) = w .from low (omega (arith, r .some)) place in absurd (omega (arith, r .above low (omega arith) place))
+      go (no l) =
+          let (j, before, gone, e, t) = w .from low (omega (arith, r .some)) place in
+          absurd (omega (arith, r .above low (omega arith) place))
 
   in-front : (i : ℕ) → i < q′ → Popped (getD u i 0) → ⊥
   in-front i k p = let (j, l, m, e) = p in omega (arith, w .queued .once j i m (omega (arith, r .part)) e)
@@ -73,7 +79,9 @@ module _ {P : Plan} {n : ℕ} {K M : ℕ → Bool} {a q : ℕ} {cs s u : List �
 
   -- a state is at a place that goes, or it stays as it is
   sort : (y : ℕ) → y < n → Popped y ⊎ (Popped y → ⊥)
-  sort y k = ⊎-elim reached-before (λ t. inr (λ p. let (i, l, m, e) = p in clash (rw e at (w .queued .placed i m)) t)) (true-or-false (walkedIn s y))
+  sort y k =
+      ⊎-elim reached-before (λ t. inr (λ p. let (i, l, m, e) = p in clash (rw e at (w .queued .placed i m)) t))
+      (true-or-false (walkedIn s y))
     where
       reached-before : walkedIn s y ≡ true → Popped y ⊎ (Popped y → ⊥)
       reached-before t = let (i, m, e) = w .queued .listed y k t in go i m e (decLt i q′)
@@ -90,7 +98,8 @@ module _ {P : Plan} {n : ℕ} {K M : ℕ → Bool} {a q : ℕ} {cs s u : List �
 
   -- the marked states are among those that go
   unmarked : (y : ℕ) → y < n → (Popped y → ⊥) → M y ≡ false
-  unmarked y k out = refute (M y) (λ t. let (i, m, e) = w .queued .listed y k (value-walked s y (omega (arith, late y k t))) in go t i m e (decLt i q′))
+  unmarked y k out =
+      refute (M y) (λ t. let (i, m, e) = w .queued .listed y k (value-walked s y (omega (arith, late y k t))) in go t i m e (decLt i q′))
     where
       go : M y ≡ true → (i : ℕ) → i < q → getD u i 0 ≡ y → Dec (i < q′) → ⊥
       go t i m e (no l) = out (i, omega arith, m, e)
@@ -109,7 +118,8 @@ module _ {P : Plan} {n : ℕ} {K M : ℕ → Bool} {a q : ℕ} {cs s u : List �
       gone : Popped y → leb (getD s′ y 0) 0 ≡ K y || M y
       gone p =
           let (i, l, m, e) = p in
-          let unknown : K y ≡ false = sym (w .known y k) ∙ lt-leb (getD s y 0) 0 (omega (arith, walked-value s y (rw e at (w .queued .placed i m)))) in
+          let high = walked-value s y (rw e at (w .queued .placed i m)) in
+          let unknown : K y ≡ false = sym (w .known y k) ∙ lt-leb (getD s y 0) 0 (omega arith) in
           rw (popped-flag y p, unknown) (⊎-elim (λ t. rw t) (λ t. rw t) (true-or-false (M y)))
 
       stay : (Popped y → ⊥) → leb (getD s′ y 0) 0 ≡ K y || M y
@@ -130,9 +140,10 @@ module _ {P : Plan} {n : ℕ} {K M : ℕ → Bool} {a q : ℕ} {cs s u : List �
       hit c e x m b =
           let (act, own, clear) = choice-some P K (getD u j 0) c e in
           let here : getD u j 0 < n = w .queued .states j (omega arith) in
+          let state : x < n = rw count at (S .inside (getD u j 0) c x (rw count here) own m) in
           ⊎-elim
           (λ z. clash z (misses P K (getD u j 0) c x clear m))
-          (λ z. clash z (apart j x k (rw e (lands-of P (getD u j 0) c x m)) (rw count at (S .inside (getD u j 0) c x (rw count here) own m))))
+          (λ z. clash z (apart j x k (rw e (lands-of P (getD u j 0) c x m)) state))
           (or-cases (K x) (M x) b)
 
   leads-stays : (j y : ℕ) → j < low → leads P K′ u j y ≡ leads P K u j y
@@ -144,19 +155,22 @@ module _ {P : Plan} {n : ℕ} {K M : ℕ → Bool} {a q : ℕ} {cs s u : List �
   queued-still : Queued n q′ s′ u
   queued-still = record {
     states = λ i k. w .queued .states i (omega (arith, r .part));
-    placed = λ i k. value-walked s′ (getD u i 0) (rw (flag-stays i k) (walked-value s (getD u i 0) (w .queued .placed i (omega (arith, r .part)))));
+    placed = λ i k.
+        value-walked s′ (getD u i 0) (rw (flag-stays i k) (walked-value s (getD u i 0) (w .queued .placed i (omega (arith, r .part)))));
     listed = λ y k t. ⊎-elim (λ p. absurd (omega (arith, popped-low y p, walked-value s′ y t))) (there y k t) (sort y k);
     once = λ i j k m. w .queued .once i j (omega (arith, r .part)) (omega (arith, r .part));
   }
     where
       there : (y : ℕ) → y < n → walkedIn s′ y ≡ true → (Popped y → ⊥) → (i : ℕ) × (i < q′) × (getD u i 0 ≡ y)
-      there y k t out = let (i, m, e) = w .queued .listed y k (value-walked s y (rw (unmoved y out .0) at (walked-value s′ y t))) in go i m e (decLt i q′)
+      there y k t out =
+          let (i, m, e) = w .queued .listed y k (value-walked s y (rw (unmoved y out .0) at (walked-value s′ y t))) in go i m e (decLt i q′)
         where
           go : (i : ℕ) → i < q → getD u i 0 ≡ y → Dec (i < q′) → (i : ℕ) × (i < q′) × (getD u i 0 ≡ y)
           go i m e (yes l) = (i, l, e)
           go i m e (no l) = absurd (out (i, omega arith, m, e))
 
-  from-still : (i : ℕ) → 0 < i → i < q′ → (j : ℕ) × (j < i) × (j < low) × (getD s′ (getD u i 0) 0 ≡ j + 2) × (leads P K′ u j (getD u i 0) ≡ true)
+  from-still : (i : ℕ) → 0 < i → i < q′
+      → (j : ℕ) × (j < i) × (j < low) × (getD s′ (getD u i 0) 0 ≡ j + 2) × (leads P K′ u j (getD u i 0) ≡ true)
   from-still i z k =
       let (j, before, gone, e, t) = w .from i z (omega (arith, r .part)) in
       let early : j < low = omega (arith, below i z k) in
@@ -194,7 +208,8 @@ module _ {P : Plan} {n : ℕ} {K M : ℕ → Bool} {a q : ℕ} {cs s u : List �
   resumed-clear e i k = rw (← choice-stays i k) (refute (noneLeft P K (getD u i 0)) (λ t. early t (decLt 0 i)))
     where
       early : noneLeft P K (getD u i 0) ≡ true → Dec (0 < i) → ⊥
-      early t (yes z) = let (j, before, gone, f, b) = w .from i z (omega (arith, place)) in omega (arith, e .each i (omega (arith, place)) t)
+      early t (yes z) =
+          let (j, before, gone, f, b) = w .from i z (omega (arith, place)) in omega (arith, e .each i (omega (arith, place)) t)
       early t (no z) =
           let o : i ≡ 0 = omega arith in
           let is : getD u i 0 ≡ a = ap (λ j. getD u j 0) o ∙ w .start in

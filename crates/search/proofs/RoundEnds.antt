@@ -1,5 +1,5 @@
 -- A round is walked to its end: which states it marks, whether there are any, and whether the start is one.
-use mathlib.Core.Path.{_≡_, refl, sym, _∙_, ap, subst}
+use mathlib.Core.Path.{_≡_, sym, _∙_, ap, subst}
 use mathlib.Core.Bool.{Bool, true, false, not, cond, _&&_}
 use mathlib.Core.Logic.{_⊎_, inl, inr, ⊎-elim}
 use mathlib.Core.List.{List}
@@ -9,11 +9,11 @@ use native.Mathlib.Omega.{arith}
 use lib.Dec.{eqb}
 use lib.ListN.{getD}
 use borrow.Author.Tests.{eq-eqb, ne-eqb}
-use Rattle.laws.specs.Sets.{every, found}
+use Rattle.laws.specs.Sets.{found}
 use Rattle.laws.specs.Entry.{FFFF, entry}
 use Rattle.laws.proofs.Tests.{clash, true-or-false, refute, and-both}
 use Rattle.laws.proofs.Sets.{every-of}
-use Rattle.model.specs.Plan.{Plan, Valid, active}
+use Rattle.model.specs.Plan.{Plan, active}
 use Rattle.model.specs.Command.{choice}
 use Rattle.model.specs.Search.{reached, marked, known, withoutMarks}
 use Rattle.model.specs.File.{maxStates}
@@ -97,13 +97,15 @@ module _ (T : Tables) (sounds : sound T ≡ true) (few : T .size .n ≤ maxState
 
   none-marked : r .low ≡ FFFF → withoutMarks P a j ≡ true
   unfolding withoutMarks
-  none-marked e = every-of (λ x. not (marked P K a x)) (P .states) (λ x k. ap not (refute (marked P K a x) (λ t. none x (rw (states-held T) at k) t)))
+  none-marked e =
+      every-of (λ x. not (marked P K a x)) (P .states) (λ x k. ap not (refute (marked P K a x) (λ t. none x (rw (states-held T) at k) t)))
     where
       none : (x : ℕ) → x < T .size .n → marked P K a x ≡ true → ⊥
       none x k t = let (i, l, z, b) = marked-place x k t in omega (arith, marked-late x k t, rw z at (walked-flag i l))
 
   some-marked : (i : ℕ) → i < r .reached → noneLeft P K (getD u i 0) ≡ true → getD s (getD u i 0) 0 ≡ r .low + 2 → Marks
-  some-marked i k t e = (place (decLt 0 i), refute (withoutMarks P a j) (λ b. clash is-marked (unmarked-is P a j b (getD u i 0) (rw (states-held T) state))))
+  some-marked i k t e =
+      (place (decLt 0 i), refute (withoutMarks P a j) (λ b. clash is-marked (unmarked-is P a j b (getD u i 0) (rw (states-held T) state))))
     where
       state : getD u i 0 < T .size .n
       state = w .done .queued .states i k

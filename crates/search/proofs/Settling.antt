@@ -41,9 +41,13 @@ module _ {n q′ q i : ℕ} (T : Tables) {u c₀ s₀ cs s : List ℕ} (L : Queu
   unfolding markedAt walkedIn
   marked-same p = rw (untouched .0, untouched .1)
 
-  module _ (y : ℕ) (is : y ≡ x) (p : Span) (e : p ≡ spanAt T y) {cs′ s′ : List ℕ} (c-is : cs′ ≡ set cs y FFFF) (s-is : s′ ≡ set s y (cond (markedAt p cs s y) 0 1)) where
+  module _ (y : ℕ) (is : y ≡ x) (p : Span) (e : p ≡ spanAt T y) {cs′ s′ : List ℕ} (c-is : cs′ ≡ set cs y FFFF)
+      (s-is : s′ ≡ set s y (cond (markedAt p cs s y) 0 1)) where
     flag-here : getD s′ x 0 ≡ cond (markedAt (spanAt T x) c₀ s₀ x) 0 1
-    flag-here = rw (s-is, is, e, is) (getD-set-same s x (cond (markedAt (spanAt T x) cs s x) 0 1) 0 (omega (arith, state, w .same-flags)) ∙ rw (marked-same (spanAt T x)))
+    flag-here =
+        rw (s-is, is, e, is)
+        (getD-set-same s x (cond (markedAt (spanAt T x) cs s x) 0 1) 0 (omega (arith, state, w .same-flags))
+        ∙ rw (marked-same (spanAt T x)))
 
     blank-here : getD cs′ x 0 ≡ FFFF
     blank-here = rw (c-is, is) (getD-set-same cs x FFFF 0 (omega (arith, state, w .same-commands)))
@@ -71,11 +75,13 @@ module _ {n q′ q i : ℕ} (T : Tables) {u c₀ s₀ cs s : List ℕ} (L : Queu
       same-commands = ap length c-is ∙ length-set cs y FFFF ∙ w .same-commands;
     }
 
-pub settled-done : {q′ i q : ℕ} {M : ℕ → Bool} {u cs s cs′ s′ : List ℕ} → Settled q′ i M u cs s cs′ s′ → i ≤ q → q ≤ i → Settled q′ q M u cs s cs′ s′
+pub settled-done : {q′ i q : ℕ} {M : ℕ → Bool} {u cs s cs′ s′ : List ℕ} → Settled q′ i M u cs s cs′ s′ → i ≤ q → q ≤ i
+    → Settled q′ q M u cs s cs′ s′
 settled-done {i = i} {q} w h k = let e : i ≡ q = omega arith in rw e at w
 
 -- the same marked states
-pub settled-as : {n q′ q : ℕ} {M N : ℕ → Bool} {f u cs s cs′ s′ : List ℕ} → Queued n q f u → ((x : ℕ) → x < n → M x ≡ N x) → Settled q′ q M u cs s cs′ s′
+pub settled-as : {n q′ q : ℕ} {M N : ℕ → Bool} {f u cs s cs′ s′ : List ℕ} → Queued n q f u → ((x : ℕ) → x < n → M x ≡ N x)
+    → Settled q′ q M u cs s cs′ s′
     → Settled q′ q N u cs s cs′ s′
 settled-as L h w = record {
   flag = λ i l k. w .flag i l k ∙ ap (λ b. cond b 0 1) (h _ (L .states i k));

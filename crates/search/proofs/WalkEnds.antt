@@ -1,5 +1,5 @@
 -- A walk that has gone on from all it has reached: that is what a round reaches, and its commands are those that the round takes.
-use mathlib.Core.Path.{_≡_, refl, sym, _∙_, subst}
+use mathlib.Core.Path.{_≡_, refl, subst}
 use mathlib.Core.Bool.{Bool, true, false, cond}
 use mathlib.Core.List.{List}
 use Prim.Native.Nat.{ℕ, zero, suc, _<_, _≤_}
@@ -11,23 +11,24 @@ use Rattle.laws.proofs.Tests.{same-test}
 use Rattle.laws.proofs.Sets.{below-suc}
 use Rattle.model.specs.Plan.{Plan, Valid}
 use Rattle.model.specs.Command.{choice}
-use Rattle.model.specs.Search.{lands, reached}
+use Rattle.model.specs.Search.{reached}
 use Rattle.model.proofs.Choices.{choice-some}
 use Rattle.model.proofs.Walks.{lands-is, lands-of, start-reached, goes-on, reached-all}
 use Rattle.walks.specs.Flags.{walkedIn}
-use Rattle.walks.proofs.FlagValues.{value-walked}
 use Rattle.search.specs.Underway.{leads, Underway}
 
 -- the entry of x in the command table after a round from a
 unfoldable pub taken : Plan → (ℕ → Bool) → ℕ → ℕ → ℕ
 taken P K a x = cond (reached P K a x) (entry (choice P K x)) FFFF
 
-module _ {P : Plan} {n : ℕ} {K : ℕ → Bool} {a h q : ℕ} {cs s u : List ℕ} (w : Underway P n K a h q cs s u) (S : Valid P) (count : P .states ≡ n) where
+module _ {P : Plan} {n : ℕ} {K : ℕ → Bool} {a h q : ℕ} {cs s u : List ℕ} (w : Underway P n K a h q cs s u) (S : Valid P)
+    (count : P .states ≡ n) where
   -- every place holds a state that the round reaches: the start, or one that an earlier place leads to
   sofar : (m i : ℕ) → i < m → i < q → reached P K a (getD u i 0) ≡ true
   unfolding leads
   sofar zero i l k = absurd (omega arith)
-  sofar (suc m) i l k = let below = sofar m in below-suc (λ j. j < q → reached P K a (getD u j 0) ≡ true) m below (λ z. last below z (decLt 0 m)) i l k
+  sofar (suc m) i l k =
+      let below = sofar m in below-suc (λ j. j < q → reached P K a (getD u j 0) ≡ true) m below (λ z. last below z (decLt 0 m)) i l k
     where
       last : ((j : ℕ) → j < m → j < q → reached P K a (getD u j 0) ≡ true) → m < q → Dec (0 < m) → reached P K a (getD u m 0) ≡ true
       last below z (no b) = let e : m ≡ 0 = omega arith in rw (e, w .start) (start-reached P K a)
@@ -62,7 +63,8 @@ module _ {P : Plan} {n : ℕ} {K : ℕ → Bool} {a h q : ℕ} {cs s u : List �
     reached-is x k = same-test (reached P K a x) (walkedIn s x) (λ e. covers x e .1) (underway-only x k)
 
     entry-is : (x : ℕ) → x < n → (t : Bool) → walkedIn s x ≡ t → getD cs x 0 ≡ cond t (entry (choice P K x)) FFFF
-    entry-is x k true f = let (i, l, z) = w .queued .listed x k f in subst (λ y. getD cs y 0 ≡ entry (choice P K y)) z (w .took i (omega arith))
+    entry-is x k true f =
+        let (i, l, z) = w .queued .listed x k f in subst (λ y. getD cs y 0 ≡ entry (choice P K y)) z (w .took i (omega arith))
     entry-is x k false f = w .blank x k f
 
     pub takes-is : (x : ℕ) → x < n → getD cs x 0 ≡ taken P K a x

@@ -1,11 +1,10 @@
 -- A walk under way: how it begins, and that it stays one where it goes on from the next state of the queue.
-use mathlib.Core.Path.{_≡_, refl, sym, _∙_, ap}
+use mathlib.Core.Path.{_≡_, refl, sym, _∙_}
 use mathlib.Core.Bool.{Bool, true, false, cond, _||_}
 use mathlib.Core.Logic.{⊎-elim}
 use mathlib.Core.List.{List}
-use Prim.Native.Nat.{ℕ, suc, _+_, _<_, _≤_}
-use native.Mathlib.Decide.{decLt, ℕ-discrete}
-use native.Mathlib.Numerals.{add-one}
+use Prim.Native.Nat.{ℕ, _+_, _<_, _≤_}
+use native.Mathlib.Decide.{decLt}
 use native.Mathlib.Omega.{arith}
 use lib.Dec.{eqb}
 use lib.ListN.{length, getD, set}
@@ -115,7 +114,8 @@ module _ {P : Plan} {n : ℕ} {K : ℕ → Bool} {a h q : ℕ} {cs s u : List �
           let (j, before, gone, e, t) = w .from i z old in
           (j, before, omega arith, place-flag i old ∙ e, rw (v .kept i old) (leads-same j (getD u i 0) (omega arith) ∙ t))
       from-next i z m (no new) =
-          (h, omega arith, omega arith, new-flag i (omega arith) m, leads-here (getD u′ i 0) ∙ new-value s (getD u′ i 0) X (v .added i (omega arith) m) .1)
+          let lands-there = new-value s (getD u′ i 0) X (v .added i (omega arith) m) .1 in
+          (h, omega arith, omega arith, new-flag i (omega arith) m, leads-here (getD u′ i 0) ∙ lands-there)
 
       old-closed : (y j : ℕ) → j < h → leads P K u′ j y ≡ true → (walkedIn s′ y ≡ true) × (getD s′ y 0 ≤ j + 2)
       old-closed y j m t =
@@ -126,7 +126,8 @@ module _ {P : Plan} {n : ℕ} {K : ℕ → Bool} {a h q : ℕ} {cs s u : List �
       new-closed y t =
           let lands-there : X y ≡ true = sym (leads-here y) ∙ t in
           let now : walkedIn s′ y ≡ true = walked y ∙ or-right (walkedIn s y) (X y) lands-there in
-          (now, flag-cases v (λ f. f ≤ h + 2) y (λ z. omega arith) (λ z. not-higher y lands-there (rw (flag-old v y z) at (walked-value s′ y now))))
+          let old : newIn s X y ≡ false → getD s y 0 ≤ h + 2 = λ z. not-higher y lands-there (rw (flag-old v y z) at (walked-value s′ y now)) in
+          (now, flag-cases v (λ f. f ≤ h + 2) y (λ z. omega arith) old)
         where
           not-higher : (y : ℕ) → X y ≡ true → 2 ≤ getD s y 0 → getD s y 0 ≤ h + 2
           not-higher y in-x two =
@@ -165,13 +166,16 @@ module _ {P : Plan} {n : ℕ} {K : ℕ → Bool} {a h q : ℕ} {cs s u : List �
         start = v .kept 0 (w .begun) ∙ w .start;
         start-flag = rw (w .start) at (rw (v .kept 0 (w .begun)) at (place-flag 0 (w .begun))) ∙ w .start-flag;
         from = λ i z m. from-next i z m (decLt i q);
-        closed = λ j y m. below-suc (λ i. leads P K u′ i y ≡ true → (walkedIn s′ y ≡ true) × (getD s′ y 0 ≤ i + 2)) h (old-closed y) (new-closed y) j (omega arith);
+        closed = λ j y m.
+            below-suc (λ i. leads P K u′ i y ≡ true → (walkedIn s′ y ≡ true) × (getD s′ y 0 ≤ i + 2)) h (old-closed y) (new-closed y) j
+            (omega arith);
         rising = λ i j l m. rising-next i j l m (decLt i q) (decLt j q);
         took = λ i m. below-suc (λ j. getD cs′ (getD u′ j 0) 0 ≡ entry (choice P K (getD u′ j 0))) h old-took new-took i (omega arith);
         blank = λ y m t. rw (cs-is, entry-after cs x (entry (choice P K x)) y in-cs) (still-blank y m t);
       }
 
-    module _ (k : h < q) (x : ℕ) (p : x ≡ getD u h 0) (long : n ≤ length cs) {q′ : ℕ} {cs′ s′ u′ : List ℕ} (g : Expanded P n q x (h + 2) cs s u q′ cs′ s′ u′) where
+    module _ (k : h < q) (x : ℕ) (p : x ≡ getD u h 0) (long : n ≤ length cs) {q′ : ℕ} {cs′ s′ u′ : List ℕ}
+        (g : Expanded P n q x (h + 2) cs s u q′ cs′ s′ u′) where
       in-plan : x < n
       in-plan = rw p (w .queued .states h k)
 
@@ -179,4 +183,5 @@ module _ {P : Plan} {n : ℕ} {K : ℕ → Bool} {a h q : ℕ} {cs s u : List �
       expanded-choice = choice-over P S (knownIn s) K (λ y l. w .known y (rw count at l)) x (rw count in-plan)
 
       pub underway-expanded : Underway P n K a (h + 1) q′ cs′ s′ u′
-      underway-expanded = underway-next k x p (omega (arith, in-plan)) (rw expanded-choice at (g .took)) (rw expanded-choice at (g .spreads))
+      underway-expanded =
+          underway-next k x p (omega (arith, in-plan)) (rw expanded-choice at (g .took)) (rw expanded-choice at (g .spreads))

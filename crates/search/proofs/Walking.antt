@@ -20,7 +20,6 @@ use Rattle.walks.specs.Queued.{Queued}
 use Rattle.walks.specs.Spread.{Spread}
 use Rattle.walks.proofs.FlagValues.{walked-value}
 use Rattle.walks.proofs.Spreads.{flag-reached, flag-past}
-use Rattle.search.specs.declared.walk.Progress.{Progress}
 use Rattle.search.specs.Past.{Past}
 use Rattle.search.specs.Marks.{markedAt, noneLeft, lowerOf}
 use Rattle.search.specs.Underway.{Underway}
@@ -37,7 +36,8 @@ past-then v w = record { same = w .same ∙ v .same; low = λ x k. refl; high = 
 pub past-filled : {n : ℕ} {f : ℕ → ℕ} {l₀ l : List ℕ} → Filled n f l₀ l → Past n l₀ l
 past-filled w = record { same = w .same; low = λ x k. refl; high = w .high }
 
-pub past-spread : {n q : ℕ} {X : ℕ → Bool} {mark : ℕ} {s u : List ℕ} {q′ : ℕ} {s′ u′ : List ℕ} → Spread n q X mark s u q′ s′ u′ → Past n s s′
+pub past-spread : {n q : ℕ} {X : ℕ → Bool} {mark : ℕ} {s u : List ℕ} {q′ : ℕ} {s′ u′ : List ℕ} → Spread n q X mark s u q′ s′ u′
+    → Past n s s′
 past-spread v = record { same = v .same-flags; low = λ x k. refl; high = flag-past v }
 
 past-set : {n : ℕ} {l₀ l : List ℕ} (x v : ℕ) → x < n → Past n l₀ l → (l′ : List ℕ) → l′ ≡ set l x v → Past n l₀ l′
@@ -57,10 +57,13 @@ pub record Walking (P : Plan) (n from reached : ℕ) (c₀ s₀ u₀ : List ℕ)
   pub commands : Past n c₀ cs
   pub flags : Past n s₀ s
   pub same-queue : length u ≡ length u₀
-  pub goes : (K : ℕ → Bool) (a : ℕ) → Underway P n K a from reached c₀ s₀ u₀ → Clear P K from u₀ → Underway P n K a h q cs s u × Lowest P K low h s u
+  pub goes : (K : ℕ → Bool) (a : ℕ) → Underway P n K a from reached c₀ s₀ u₀ → Clear P K from u₀
+      → Underway P n K a h q cs s u × Lowest P K low h s u
 
-pub walking-start : (P : Plan) {n from reached : ℕ} {c₀ s₀ u₀ : List ℕ} → Queued n reached s₀ u₀ → Walking P n from reached c₀ s₀ u₀ from reached FFFF c₀ s₀ u₀
-walking-start P L = record { queued = L; commands = past-none; flags = past-none; same-queue = refl; goes = λ K a d clear. (d, lowest-start clear) }
+pub walking-start : (P : Plan) {n from reached : ℕ} {c₀ s₀ u₀ : List ℕ} → Queued n reached s₀ u₀
+    → Walking P n from reached c₀ s₀ u₀ from reached FFFF c₀ s₀ u₀
+walking-start P L =
+    record { queued = L; commands = past-none; flags = past-none; same-queue = refl; goes = λ K a d clear. (d, lowest-start clear) }
 
 module _ (T : Tables) (sounds : sound T ≡ true) {from reached : ℕ} {c₀ s₀ u₀ : List ℕ} {h q low : ℕ} {cs s u : List ℕ}
     (w : Walking (planIn T) (T .size .n) from reached c₀ s₀ u₀ h q low cs s u) where
@@ -84,7 +87,8 @@ module _ (T : Tables) (sounds : sound T ≡ true) {from reached : ℕ} {c₀ s�
       left : markedAt span cs′ s′ x ≡ noneLeft (planIn T) K x
       left =
           ap (λ (t : Span). markedAt t cs′ s′ x) is
-          ∙ marked-left T sounds K x state cs′ s′ (rw here at (next .queued .placed h (omega (arith, next .ahead)))) (rw here at (next .took h (omega arith)))
+          ∙ marked-left T sounds K x state cs′ s′ (rw here at (next .queued .placed h (omega (arith, next .ahead))))
+          (rw here at (next .took h (omega arith)))
 
       lowest-then : Lowest (planIn T) K v (h + 1) s′ u′
       lowest-then =
@@ -101,9 +105,13 @@ module _ (T : Tables) (sounds : sound T ≡ true) {from reached : ℕ} {c₀ s�
     }
 
   -- all are gone on from
-  pub walking-done : q ≤ h → (K : ℕ → Bool) (a : ℕ) → Underway (planIn T) (T .size .n) K a from reached c₀ s₀ u₀ → Clear (planIn T) K from u₀
+  pub walking-done : q ≤ h → (K : ℕ → Bool) (a : ℕ) → Underway (planIn T) (T .size .n) K a from reached c₀ s₀ u₀
+      → Clear (planIn T) K from u₀
       → Walked (planIn T) (T .size .n) K a (record { reached = q; low = low }) cs s u
   walking-done z K a d clear =
       let (now, lowest) = w .goes K a d clear in
       let e : h ≡ q = omega (arith, now .ahead) in
-      record { done = subst (λ i. Underway (planIn T) (T .size .n) K a i q cs s u) e now; lowest = subst (λ i. Lowest (planIn T) K low i s u) e lowest }
+      record {
+        done = subst (λ i. Underway (planIn T) (T .size .n) K a i q cs s u) e now;
+        lowest = subst (λ i. Lowest (planIn T) K low i s u) e lowest;
+      }

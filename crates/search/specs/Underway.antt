@@ -1,5 +1,6 @@
--- A walk under way from a, with the known set K: the queue has the q states that it has reached, the start first, and it has gone on from the
--- first h of them. The flag of a reached state is 2 more than the place of the queue from which it was reached; that of the start is 2.
+-- A walk under way from a, with the known set K: the queue has the q states that it has reached, the start first, and it has gone on
+-- from the first h of them. The flag of a reached state is 2 more than the place of the queue from which it was reached; that of the
+-- start is 2.
 use mathlib.Core.Path.{_≡_}
 use mathlib.Core.Bool.{Bool, true, false}
 use mathlib.Core.List.{List}
@@ -24,7 +25,8 @@ pub record Underway (P : Plan) (n : ℕ) (K : ℕ → Bool) (a h q : ℕ) (comma
   pub start : getD queue 0 0 ≡ a
   pub start-flag : getD flags a 0 ≡ 2
   -- each further state was reached from an earlier place
-  pub from : (i : ℕ) → 0 < i → i < q → (j : ℕ) × (j < i) × (j < h) × (getD flags (getD queue i 0) 0 ≡ j + 2) × (leads P K queue j (getD queue i 0) ≡ true)
+  pub from : (i : ℕ) → 0 < i → i < q
+      → (j : ℕ) × (j < i) × (j < h) × (getD flags (getD queue i 0) 0 ≡ j + 2) × (leads P K queue j (getD queue i 0) ≡ true)
   -- and from the first place that leads there; closed, but for the places that are still to be gone on from
   pub closed : (j y : ℕ) → j < h → leads P K queue j y ≡ true → (walkedIn flags y ≡ true) × (getD flags y 0 ≤ j + 2)
   pub rising : (i j : ℕ) → i < j → j < q → getD flags (getD queue i 0) 0 ≤ getD flags (getD queue j 0) 0

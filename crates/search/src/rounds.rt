@@ -50,8 +50,8 @@ fn finish(n: usize, end: usize, rounds: usize, commands: &mut [u16], scratch: &m
     Found { lost: true, rounds }
 }
 
-// Walks rounds from the start until one is the last, each on from where the one before could not have gone otherwise. Where the start is
-// failing, rest or without commands there are none.
+// Walks rounds from the start until one is the last. A round takes over from the one before what it would walk in the same way, and walks
+// on from there. Where the start is failing, rest or without commands there are none.
 pub fn walk_rounds(
     size: Size,
     rows: &[Row],

@@ -1,6 +1,7 @@
-// The walk of one round. The queue has the states that the walk has reached, each once, and the walk goes on from each once, so a round reads
-// no state and no outcome more than a few times. Scratch has the flags of the crate `walks`: the mark of a reached state is 2 more than the
-// place of the queue from which it was reached, so that the next round need not walk again what comes before the marked states.
+// The walk of one round. The queue has the states that the walk has reached, each once, and the walk goes on from each once, so a round
+// reads no state and no outcome more than a few times. Scratch has the flags of the crate `walks`: the mark of a reached state is 2 more
+// than the place of the queue from which it was reached. So it is known which part of a walk its marked states cast no doubt on, and the
+// next round need not walk it again.
 ghost use mathlib.Core.Path.{_≡_};
 ghost use mathlib.Core.Bool.{Bool, true, false};
 ghost use mathlib.Core.List.{List};
@@ -82,7 +83,8 @@ fn expand(
     spread(size.n, outcomes, scratch, queue, q, from, end, mark)
 }
 
-// Walks on from place `from` of the queue, where `reached` states are reached: whatever start and known set it is a walk of, it is done then.
+// Walks on from place `from` of the queue, where `reached` states are reached. Whatever start and known set it is a walk of, of those it is
+// done then.
 pub fn walk(
     size: Size,
     rows: &[Row],

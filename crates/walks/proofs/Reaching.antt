@@ -20,7 +20,8 @@ use Rattle.walks.proofs.Room.{queued-room}
 use Rattle.walks.proofs.Spreads.{spread-none}
 
 -- state x, of which the flag r was read
-module _ {n q : ℕ} {s u : List ℕ} (L : Queued n q s u) (x : ℕ) (l : x < n) (ls : n ≤ length s) (lu : n ≤ length u) (mark : ℕ) (high : 2 ≤ mark)
+module _ {n q : ℕ} {s u : List ℕ} (L : Queued n q s u) (x : ℕ) (l : x < n) (ls : n ≤ length s) (lu : n ≤ length u) (mark : ℕ)
+    (high : 2 ≤ mark)
     (r : ℕ) (e : r ≡ getD s x 0) where
   abbrev One : ℕ → Bool
   One y = eqb y x
@@ -72,7 +73,8 @@ module _ {n q : ℕ} {s u : List ℕ} (L : Queued n q s u) (x : ℕ) (l : x < n)
 
     once-more : (i j : ℕ) → i < q + 1 → j < q + 1 → Dec (i ≡ q) → Dec (j ≡ q) → getD (set u q x) i 0 ≡ getD (set u q x) j 0 → i ≡ j
     once-more i j k m (yes a) (yes b) z = a ∙ sym b
-    once-more i j k m (yes a) (no b) z = absurd (other j (omega (arith, b)) (sym (old-place j (omega (arith, b))) ∙ sym z ∙ rw a last-place))
+    once-more i j k m (yes a) (no b) z =
+        absurd (other j (omega (arith, b)) (sym (old-place j (omega (arith, b))) ∙ sym z ∙ rw a last-place))
     once-more i j k m (no a) (yes b) z = absurd (other i (omega (arith, a)) (sym (old-place i (omega (arith, a))) ∙ z ∙ rw b last-place))
     once-more i j k m (no a) (no b) z =
         L .once i j (omega (arith, a)) (omega (arith, b)) (sym (old-place i (omega (arith, a))) ∙ z ∙ old-place j (omega (arith, b)))
@@ -94,7 +96,8 @@ module _ {n q : ℕ} {s u : List ℕ} (L : Queued n q s u) (x : ℕ) (l : x < n)
 
     new-is : (y : ℕ) → newIn s One y ≡ eqb y x
     unfolding newIn
-    new-is y = ⊎-elim (λ z. rw z (rw (eqb-true y x z) (rw (sym e ∙ h)))) (λ z. rw z (and-false (eqb (getD s y 0) 1))) (true-or-false (eqb y x))
+    new-is y =
+        ⊎-elim (λ z. rw z (rw (eqb-true y x z) (rw (sym e ∙ h)))) (λ z. rw z (and-false (eqb (getD s y 0) 1))) (true-or-false (eqb y x))
 
     -- after the two stores
     pub reach-new : (s′ u′ : List ℕ) → s′ ≡ set s x mark → u′ ≡ set u q x → Spread n q One mark s u (q + 1) s′ u′

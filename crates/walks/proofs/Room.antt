@@ -43,4 +43,6 @@ module _ {n q : ℕ} {s u : List ℕ} (L : Queued n q s u) where
       omega (arith, places, many-bound (λ y. true) n)
     where
       absent : has u q x ≡ false
-      absent = refute (has u q x) (λ t. let (i, k, e) = exists-at (λ j. eqb (getD u j 0) x) q t in clash (rw (eqb-true (getD u i 0) x e) at (L .placed i k)) out)
+      absent =
+          refute (has u q x)
+          (λ t. let (i, k, e) = exists-at (λ j. eqb (getD u j 0) x) q t in clash (rw (eqb-true (getD u i 0) x e) at (L .placed i k)) out)

@@ -1,3 +1,4 @@
+-- The loop holds that all places from q on go; it stops at the first from the end that stays, or at the start.
 use native.Mathlib.Omega.{arith}
 use Rattle.search.proofs.Cutting.{Cutting, cutting-start, cut-first, cut-here, cutting-next}
 use Rattle.search.proofs.marks.kept.Statement.{statement}

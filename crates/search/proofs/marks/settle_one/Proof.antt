@@ -1,3 +1,4 @@
+-- The entry is cleared in any case, and each branch stores the flag that the definition gives for its case.
 use Rattle.search.proofs.MarkTests.{swept-marked, swept-other}
 use borrow.Author.Needs.{needs}
 use Rattle.search.proofs.marks.settle_one.Statement.{statement}

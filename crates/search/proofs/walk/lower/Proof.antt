@@ -1,3 +1,4 @@
+-- A marked state is reached, so its flag is 2 at least, and the two tests are those of the definition.
 use native.Mathlib.Omega.{arith}
 use mathlib.Core.Path.{refl}
 use Rattle.search.proofs.MarkTests.{lower-unmarked, marked-high, lower-here, lower-before}
