@@ -26,26 +26,29 @@ use Rattle.choice.proofs.Taken.{taken-place, none-taken, some-taken}
 use Rattle.walks.specs.Flags.{knownIn}
 use Rattle.walks.specs.Queued.{Queued}
 use Rattle.walks.specs.Spread.{Spread}
-use Rattle.search.specs.Phases.{Expanded}
+use Rattle.search.specs.Walked.{Expanded}
 use Rattle.walks.proofs.FlagValues.{not-taken}
 use Rattle.walks.proofs.Spreads.{spread-none, spread-as}
 
-known-choice : (P : Plan) (scratch : List ℕ) (s c : ℕ) → c ≡ entry (choice P (within scratch 0) s) → c ≡ entry (choice P (knownIn scratch) s)
+known-choice : (P : Plan) (scratch : List ℕ) (s c : ℕ) → c ≡ entry (choice P (within scratch 0) s)
+    → c ≡ entry (choice P (knownIn scratch) s)
 unfolding knownIn
 known-choice P scratch s c e = e
 
 -- c is the entry that choosing answered at s, of which `span` was read
-module _ (T : Tables) (sounds : sound T ≡ true) (s : ℕ) (l : s < T .size .n) (span : Span) (is : span ≡ spanAt T s) (scratch : List ℕ) (c : ℕ)
+module _ (T : Tables) (sounds : sound T ≡ true) (s : ℕ) (l : s < T .size .n) (span : Span) (is : span ≡ spanAt T s) (scratch : List ℕ)
+    (c : ℕ)
     (e : c ≡ entry (choice (planIn T) (within scratch 0) s)) where
   known : c ≡ entry (choice (planIn T) (knownIn scratch) s)
   known = known-choice (planIn T) scratch s c e
 
   -- none is left: the walk does not pass s
-  pub expand-none : c ≡ FFFF → {n q : ℕ} {u : List ℕ} (cs cs′ : List ℕ) → cs′ ≡ set cs s c → Queued n q scratch u → Expanded (planIn T) n q s cs scratch u q cs′ scratch u
+  pub expand-none : c ≡ FFFF → {n q : ℕ} (mark : ℕ) {u : List ℕ} (cs cs′ : List ℕ) → cs′ ≡ set cs s c → Queued n q scratch u
+      → Expanded (planIn T) n q s mark cs scratch u q cs′ scratch u
   unfolding lands
-  expand-none h cs cs′ p L = record {
+  expand-none h mark cs cs′ p L = record {
     took = p ∙ ap (set cs s) known;
-    spreads = spread-none 2 L _ (λ y. not-taken scratch y _ (rw (none-taken T sounds s l (knownIn scratch) c known h)));
+    spreads = spread-none mark L _ (λ y. not-taken scratch y _ (rw (none-taken T sounds s l (knownIn scratch) c known h)));
   }
 
   module _ (h : c ≡ FFFF → ⊥) where
@@ -68,6 +71,7 @@ module _ (T : Tables) (sounds : sound T ≡ true) (s : ℕ) (l : s < T .size .n)
           let own = choice-some (planIn T) (knownIn scratch) s c choice-is .1 in
           rw choice-is (ap (any (eqb y)) (part-is ∙ sym (outcomes-held T s l c (rw (commands-held T s l) at own))))
 
-      pub expand-some : {n k k′ : ℕ} {u scratch′ u′ : List ℕ} (cs cs′ : List ℕ) → cs′ ≡ set cs s c
-          → Spread n k (λ y. any (eqb y) (slice from end (T .outcomes))) 2 scratch u k′ scratch′ u′ → Expanded (planIn T) n k s cs scratch u k′ cs′ scratch′ u′
+      pub expand-some : {n k k′ mark : ℕ} {u scratch′ u′ : List ℕ} (cs cs′ : List ℕ) → cs′ ≡ set cs s c
+          → Spread n k (λ y. any (eqb y) (slice from end (T .outcomes))) mark scratch u k′ scratch′ u′
+          → Expanded (planIn T) n k s mark cs scratch u k′ cs′ scratch′ u′
       expand-some cs cs′ z w = record { took = z ∙ ap (set cs s) known; spreads = spread-as lands-are w }

@@ -32,7 +32,8 @@ module _ (P : Plan) (a j : ℕ) where
   goes-on-after e f = rw (e, f)
 
 -- no round so far was the last
-module _ (P : Plan) (S : Valid P) (a : ℕ) (l : a < P .states) (act : active P a ≡ true) (j : ℕ) (unended : (i : ℕ) → i < j → ends P a i ≡ false) where
+module _ (P : Plan) (S : Valid P) (a : ℕ) (l : a < P .states) (act : active P a ≡ true) (j : ℕ)
+    (unended : (i : ℕ) → i < j → ends P a i ≡ false) where
   last : (before P a < P .states) × (ends P a (before P a) ≡ true) × ((i : ℕ) → i < before P a → ends P a i ≡ false)
   last = lowest-some (ends P a) (P .states) (before P a) (last-round P S a l act)
 
@@ -63,6 +64,7 @@ module _ (P : Plan) (S : Valid P) (a : ℕ) (l : a < P .states) (act : active P 
     unfolding inRounds
     last-rounds = rw search-is
 
-    pub last-command : (x : ℕ) → search P a .command x ≡ cond (not (known P a (suc j) a) && reached P (known P a j) a x) (choice P (known P a j) x) none
+    pub last-command : (x : ℕ)
+        → search P a .command x ≡ cond (not (known P a (suc j) a) && reached P (known P a j) a x) (choice P (known P a j) x) none
     unfolding inRounds
     last-command x = rw search-is

@@ -17,8 +17,7 @@ use Rattle.model.specs.Held.{planIn}
 use Rattle.model.proofs.HeldPlan.{kind-held, commands-held}
 use Rattle.tables.specs.Spans.{spanAt}
 use Rattle.tables.proofs.Spans.{span-failing}
-use Rattle.search.specs.Prepared.{activeSpan}
-use Rattle.search.specs.Phases.{startFlag, startEnd}
+use Rattle.search.specs.Marks.{activeSpan, startFlag, startEnd}
 
 module _ (T : Tables) (s : ℕ) (l : s < T .size .n) where
   pub span-active : activeSpan (spanAt T s) ≡ active (planIn T) s

@@ -2,7 +2,7 @@
 use mathlib.Core.Path.{_≡_, _∙_, ap, subst, sym}
 use mathlib.Core.Bool.{Bool}
 use mathlib.Core.List.{List}
-use Prim.Native.Nat.{ℕ, _≤_}
+use Prim.Native.Nat.{ℕ, _<_, _≤_}
 use lib.ListN.{length}
 use Rattle.laws.specs.Lists.{overwrite}
 use Rattle.laws.proofs.Fills.{filled-is, tabulate-constant}
@@ -26,7 +26,7 @@ use Rattle.tables.specs.declared.internal.Admission.the-variants.{Granted, Deni
 use Rattle.search.specs.declared.SearchAnswer.{SearchAnswer}
 use Rattle.search.specs.declared.SearchAnswer.the-variants.{Given, Refused}
 use Rattle.search.specs.Prepared.{Prepared}
-use Rattle.search.specs.Phases.{Answered}
+use Rattle.search.specs.Ends.{Answered}
 use Rattle.search.specs.Answers.{answerOf, afterSearch}
 use Rattle.search.proofs.Preparing.{prepared}
 
@@ -64,13 +64,15 @@ module _ (T : Tables) (a : ℕ) (c s : List ℕ) where
       gives f c′ s′ w =
           let z : found ≡ given (search (planIn T) a) = answers ∙ rw q in
           let cs : c′ ≡ overwrite (resultTable (T .size .n) (search (planIn T) a)) c = filled-is (tests .long-commands) (w .takes) in
-          let ss : s′ ≡ overwrite (cleared (T .size .n)) s = filled-is (tests .long-scratch) (w .clean) ∙ ap (λ (r : List ℕ). overwrite r s) (tabulate-constant 0 0 (T .size .n)) in
+          let ss : s′ ≡ overwrite (cleared (T .size .n)) s = filled-is (tests .long-scratch) (w .clean)
+          ∙ ap (λ (r : List ℕ). overwrite r s) (tabulate-constant 0 0 (T .size .n)) in
           replied (Given f) c′ s′ (rw (z, w .verdict, w .counted, cs, ss))
 
 -- what the rounds ask for, of an admitted call
 pub admitted-prepared : (size : Size) (rows : List Row) (firsts outcomes : List ℕ) (a : ℕ) (c s u : List ℕ) (g : Admission)
-    → searching (held size rows firsts outcomes) a (length c) (length s) ≡ admitted g (search (planIn (held size rows firsts outcomes)) a) → g ≡ Granted
-    → maxStates ≤ length u → Prepared size rows firsts outcomes a c s u
+    → searching (held size rows firsts outcomes) a (length c) (length s) ≡ admitted g (search (planIn (held size rows firsts outcomes)) a)
+    → g ≡ Granted
+    → maxStates ≤ length u → Prepared size rows firsts outcomes c s u × (a < size .n)
 admitted-prepared size rows firsts outcomes a c s u g h q lu =
     let w = tests (held size rows firsts outcomes) a c s g h q in
-    prepared size rows firsts outcomes (w .sounds) a (w .inside) c s u (w .long-commands) (w .long-scratch) lu
+    (prepared size rows firsts outcomes (w .sounds) c s u (w .long-commands) (w .long-scratch) lu, w .inside)

@@ -1,116 +1,92 @@
--- The known states before the first round, and the sweep that ends a round.
+-- The loop that ends a round at the places of the queue whose states are reached no more: what is done at place i.
 use mathlib.Core.Path.{_≡_, refl, sym, _∙_, ap}
-use mathlib.Core.Bool.{Bool, true, false, not, _&&_, and-false, and-true}
+use mathlib.Core.Bool.{Bool, cond}
 use mathlib.Core.List.{List}
 use Prim.Native.Nat.{ℕ, _+_, _<_, _≤_}
-use native.Mathlib.Numerals.{add-one}
 use native.Mathlib.Omega.{arith}
-use lib.Dec.{eqb, ltb}
-use lib.ListN.{length, getD, set}
-use lib.Seq.{set-getD}
-use borrow.Author.Tests.{not-true, not-false, eq-eqb, ne-eqb, le-leb, lt-leb}
-use Rattle.laws.specs.Sets.{every}
+use lib.ListN.{length, getD, set, length-set}
+use lib.Seq.{getD-set-same, getD-set-other}
 use Rattle.laws.specs.Entry.{FFFF}
-use Rattle.laws.specs.Filled.{Filled}
-use Rattle.laws.proofs.Fills.{filled-none, filled-next}
+use Rattle.laws.proofs.Sets.{below-suc}
 use Rattle.model.specs.Tables.{Tables}
 use Rattle.tables.specs.declared.internal.Span.{Span}
-use Rattle.tables.specs.Spans.{spanAt, failingSpan}
+use Rattle.tables.specs.Spans.{spanAt}
 use Rattle.walks.specs.Flags.{walkedIn}
-use Rattle.search.specs.Prepared.{activeSpan}
-use Rattle.search.specs.Phases.{startFlag, startEnd, markedAt, settledAt}
+use Rattle.walks.specs.Queued.{Queued}
+use Rattle.search.specs.Marks.{markedAt}
+use Rattle.search.specs.Settled.{Settled}
 
--- ---- tests of a state by what was read of it
+pub settled-none : {q : ℕ} {M : ℕ → Bool} {u cs s : List ℕ} → Settled q q M u cs s cs s
+settled-none = record {
+  flag = λ i l k. absurd (omega arith);
+  blank = λ i l k. absurd (omega arith);
+  kept = λ y h. (refl, refl);
+  same-flags = refl;
+  same-commands = refl;
+}
 
-module _ (q : Span) where
-  pub not-active : (q .kind ≡ 0 → ⊥) → false ≡ activeSpan q
-  unfolding activeSpan
-  not-active h = rw (ne-eqb (q .kind) 0 h)
+module _ {n q′ q i : ℕ} (T : Tables) {u c₀ s₀ cs s : List ℕ} (L : Queued n q s₀ u) (lc : n ≤ length c₀) (ls : n ≤ length s₀)
+    (w : Settled q′ i (λ x. markedAt (spanAt T x) c₀ s₀ x) u c₀ s₀ cs s) (from : q′ ≤ i) (l : i < q) where
+  abbrev x : ℕ
+  x = getD u i 0
 
-  pub active-count : q .kind ≡ 0 → ltb (q .first) (q .end) ≡ activeSpan q
-  unfolding activeSpan
-  active-count h = rw (eq-eqb (q .kind) 0 h)
+  state : x < n
+  state = L .states i l
 
-  pub flag-failing : failingSpan q ≡ true → 0 ≡ startFlag q
-  unfolding startFlag
-  flag-failing h = rw h
+  -- the state is as it was
+  untouched : (getD s x 0 ≡ getD s₀ x 0) × (getD cs x 0 ≡ getD c₀ x 0)
+  untouched = w .kept x (λ j k m e. omega (arith, L .once j i (omega arith) l e))
 
-  pub flag-other : failingSpan q ≡ false → 1 ≡ startFlag q
-  unfolding startFlag
-  flag-other h = rw h
-
-  pub end-failing : failingSpan q ≡ true → 1 ≡ startEnd q
-  unfolding startEnd
-  end-failing h = rw h
-
-  module _ (h : failingSpan q ≡ false) (t : Bool) (e : t ≡ activeSpan q) where
-    pub end-active : t ≡ true → 2 ≡ startEnd q
-    unfolding startEnd
-    end-active z = rw (h, ← e, z)
-
-    pub end-rest : t ≡ false → 0 ≡ startEnd q
-    unfolding startEnd
-    end-rest z = rw (h, ← e, z)
-
--- ---- the sweep at one state, whose flag r was read
-
-module _ (q : Span) (cs s : List ℕ) (x r : ℕ) (p : r ≡ getD s x 0) where
-  pub not-reached : r < 2 → false ≡ markedAt q cs s x
+  marked-same : (p : Span) → markedAt p cs s x ≡ markedAt p c₀ s₀ x
   unfolding markedAt walkedIn
-  not-reached h = rw (← p, lt-leb 2 r h)
+  marked-same p = rw (untouched .0, untouched .1)
 
-  module _ (h : 2 ≤ r) (t : Bool) (e : t ≡ activeSpan q) where
-    pub nothing-to-take : not t ≡ true → false ≡ markedAt q cs s x
-    unfolding markedAt walkedIn
-    nothing-to-take z = rw (← p, le-leb 2 r h, ← e, not-true t z)
+  module _ (y : ℕ) (is : y ≡ x) (p : Span) (e : p ≡ spanAt T y) {cs′ s′ : List ℕ} (c-is : cs′ ≡ set cs y FFFF)
+      (s-is : s′ ≡ set s y (cond (markedAt p cs s y) 0 1)) where
+    flag-here : getD s′ x 0 ≡ cond (markedAt (spanAt T x) c₀ s₀ x) 0 1
+    flag-here =
+        rw (s-is, is, e, is)
+        (getD-set-same s x (cond (markedAt (spanAt T x) cs s x) 0 1) 0 (omega (arith, state, w .same-flags))
+        ∙ rw (marked-same (spanAt T x)))
 
-    pub nothing-taken : not t ≡ false → (v : ℕ) → v ≡ getD cs x 0 → eqb v FFFF ≡ markedAt q cs s x
-    unfolding markedAt walkedIn
-    nothing-taken z v u = rw (← p, le-leb 2 r h, ← e, not-false t z, u)
+    blank-here : getD cs′ x 0 ≡ FFFF
+    blank-here = rw (c-is, is) (getD-set-same cs x FFFF 0 (omega (arith, state, w .same-commands)))
 
-module _ (q : Span) (cs s : List ℕ) (x : ℕ) (unmarked t : Bool) (p : t ≡ markedAt q cs s x) where
-  pub swept-marked : t ≡ true → (s′ : List ℕ) → s′ ≡ set s x 0 → (false ≡ (unmarked && not (markedAt q cs s x))) × (s′ ≡ set s x (settledAt q cs s x))
-  unfolding settledAt
-  swept-marked h s′ e = (rw (← p, h) (sym (and-false unmarked)), rw (← p, h) e)
+    other-flag : (z : ℕ) → (z ≡ x → ⊥) → getD s′ z 0 ≡ getD s z 0
+    other-flag z h = rw (s-is, is) (getD-set-other s x z (cond (markedAt p cs s x) 0 1) 0 h)
 
-  module _ (h : t ≡ false) (r : ℕ) (u : r ≡ getD s x 0) where
-    still-unmarked : unmarked ≡ (unmarked && not (markedAt q cs s x))
-    still-unmarked = rw (← p, h) (sym (and-true unmarked))
+    other-entry : (z : ℕ) → (z ≡ x → ⊥) → getD cs′ z 0 ≡ getD cs z 0
+    other-entry z h = rw (c-is, is) (getD-set-other cs x z FFFF 0 h)
 
-    pub swept-reached : 2 ≤ r → (s′ : List ℕ) → s′ ≡ set s x 1 → (unmarked ≡ (unmarked && not (markedAt q cs s x))) × (s′ ≡ set s x (settledAt q cs s x))
-    unfolding settledAt walkedIn
-    swept-reached z s′ e = (still-unmarked, rw (← p, h, ← u, le-leb 2 r z) e)
+    apart : (j : ℕ) → j < i → getD u j 0 ≡ x → ⊥
+    apart j k e = omega (arith, L .once j i (omega arith) l e)
 
-    pub swept-other : r < 2 → (unmarked ≡ (unmarked && not (markedAt q cs s x))) × (s ≡ set s x (settledAt q cs s x))
-    unfolding settledAt walkedIn
-    swept-other z = (still-unmarked, rw (← p, h, lt-leb 2 (getD s x 0) (rw (← u) z)) (sym (set-getD s x 0)))
+    pub settled-next : Settled q′ (i + 1) (λ z. markedAt (spanAt T z) c₀ s₀ z) u c₀ s₀ cs′ s′
+    settled-next = record {
+      flag = λ j a b. below-suc (λ k. q′ ≤ k → getD s′ (getD u k 0) 0 ≡ cond (markedAt (spanAt T (getD u k 0)) c₀ s₀ (getD u k 0)) 0 1) i
+          (λ k m g. other-flag (getD u k 0) (apart k m) ∙ w .flag k g m) (λ g. flag-here) j (omega arith) a;
+      blank = λ j a b. below-suc (λ k. q′ ≤ k → getD cs′ (getD u k 0) 0 ≡ FFFF) i
+          (λ k m g. other-entry (getD u k 0) (apart k m) ∙ w .blank k g m) (λ g. blank-here) j (omega arith) a;
+      kept = λ z h.
+          let old = w .kept z (λ j a b. h j a (omega arith)) in
+          let far : z ≡ x → ⊥ = λ g. h i from (omega arith) (sym g) in
+          (other-flag z far ∙ old .0, other-entry z far ∙ old .1);
+      same-flags = ap length s-is ∙ length-set s y (cond (markedAt p cs s y) 0 1) ∙ w .same-flags;
+      same-commands = ap length c-is ∙ length-set cs y FFFF ∙ w .same-commands;
+    }
 
--- ---- the sweep, at place i
+pub settled-done : {q′ i q : ℕ} {M : ℕ → Bool} {u cs s cs′ s′ : List ℕ} → Settled q′ i M u cs s cs′ s′ → i ≤ q → q ≤ i
+    → Settled q′ q M u cs s cs′ s′
+settled-done {i = i} {q} w h k = let e : i ≡ q = omega arith in rw e at w
 
-pub record Settling (T : Tables) (cs s₀ s : List ℕ) (unmarked : Bool) (i : ℕ) : Type 0 where
-  pub flags : Filled i (λ x. settledAt (spanAt T x) cs s₀ x) s₀ s
-  pub unmarks : unmarked ≡ every (λ x. not (markedAt (spanAt T x) cs s₀ x)) i
-
-pub settling-start : {T : Tables} {cs s : List ℕ} → Settling T cs s s true 0
-unfolding every
-settling-start = record { flags = filled-none; unmarks = refl }
-
-module _ {T : Tables} {cs s₀ s : List ℕ} {unmarked : Bool} {i : ℕ} (w : Settling T cs s₀ s unmarked i) where
-  marked-as : (q : Span) → markedAt q cs s i ≡ markedAt q cs s₀ i
-  unfolding markedAt walkedIn
-  marked-as q = rw (w .flags .high i (omega arith))
-
-  settled-as : (q : Span) → settledAt q cs s i ≡ settledAt q cs s₀ i
-  unfolding settledAt markedAt walkedIn
-  settled-as q = rw (w .flags .high i (omega arith))
-
-  pub settling-next : i < length s₀ → (q : Span) → q ≡ spanAt T i → (r : Bool) (s′ : List ℕ)
-      → r ≡ (unmarked && not (markedAt q cs s i)) → s′ ≡ set s i (settledAt q cs s i) → Settling T cs s₀ s′ r (i + 1)
-  unfolding every
-  settling-next l q is r s′ e f = record {
-    flags = filled-next (w .flags) l _ (settled-as q ∙ ap (λ (p : Span). settledAt p cs s₀ i) is) s′ f;
-    unmarks = rw (add-one i) (e ∙ rw (marked-as q, is, w .unmarks));
-  }
-
-  pub settling-done : {n : ℕ} → i ≤ n → n ≤ i → Settling T cs s₀ s unmarked n
-  settling-done {n} h k = let e : i ≡ n = omega arith in rw e at w
+-- the same marked states
+pub settled-as : {n q′ q : ℕ} {M N : ℕ → Bool} {f u cs s cs′ s′ : List ℕ} → Queued n q f u → ((x : ℕ) → x < n → M x ≡ N x)
+    → Settled q′ q M u cs s cs′ s′
+    → Settled q′ q N u cs s cs′ s′
+settled-as L h w = record {
+  flag = λ i l k. w .flag i l k ∙ ap (λ b. cond b 0 1) (h _ (L .states i k));
+  blank = w .blank;
+  kept = w .kept;
+  same-flags = w .same-flags;
+  same-commands = w .same-commands;
+}

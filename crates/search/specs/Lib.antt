@@ -1,3 +1,8 @@
 pub mod Prepared
-pub mod Phases
+pub mod Past
+pub mod Marks
+pub mod Underway
+pub mod Walked
+pub mod Settled
+pub mod Ends
 pub mod Answers

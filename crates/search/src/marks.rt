@@ -1,15 +1,16 @@
 // The known states: those before the first round, and those that a round marks, which become known when it is over.
 ghost use mathlib.Core.Path.{_≡_};
-ghost use mathlib.Core.Bool.{true, not, _&&_};
+ghost use mathlib.Core.Bool.{cond};
 ghost use mathlib.Core.List.{List};
-ghost use Prim.Native.Nat.{ℕ, _<_, _≤_};
-ghost use lib.ListN.{length, set};
-ghost use Rattle.laws.specs.Sets.{every};
+ghost use Prim.Native.Nat.{ℕ, _+_, _<_, _≤_};
+ghost use lib.ListN.{length, getD, set};
+ghost use Rattle.laws.specs.Entry.{FFFF};
 ghost use Rattle.laws.specs.Filled.{Filled};
 ghost use Rattle.tables.specs.Meaning.{held};
 ghost use Rattle.tables.specs.Spans.{spanAt};
-ghost use Rattle.search.specs.Prepared.{activeSpan};
-ghost use Rattle.search.specs.Phases.{startFlag, startEnd, markedAt, settledAt};
+ghost use Rattle.walks.specs.Queued.{Queued};
+ghost use Rattle.search.specs.Marks.{activeSpan, startFlag, startEnd, markedAt};
+ghost use Rattle.search.specs.Settled.{Cut, Settled};
 use tables::Row;
 use tables::Size;
 use tables::internal::NONE;
@@ -65,7 +66,7 @@ pub fn start_known(size: Size, rows: &[Row], scratch: &mut [u16])
 }
 
 // Whether state s is marked: the walk reached it and took none of the commands that it has.
-fn is_marked(span: Span, commands: &[u16], scratch: &[u16], s: usize) -> bool
+pub fn is_marked(span: Span, commands: &[u16], scratch: &[u16], s: usize) -> bool
     requires { ⌜ (s < length (now commands)) × (s < length (now scratch)) ⌝ }
     ensures { λ r. ⌜ r ≡ markedAt span (now (commands .entry)) (now (scratch .entry)) s ⌝ }
 {
@@ -78,36 +79,57 @@ fn is_marked(span: Span, commands: &[u16], scratch: &[u16], s: usize) -> bool
     at(commands, s) == NONE
 }
 
-// Ends the round at state s: if it is marked it becomes known, and if the walk only reached it, it is not reached any more.
-// Answers whether there are no marks yet.
-fn settle_one(span: Span, commands: &[u16], scratch: &mut [u16], s: usize, unmarked: bool) -> bool
-    requires { ⌜ (s < length (now commands)) × (s < length (now scratch)) ⌝ }
-    ensures { λ r. ⌜ r ≡ (unmarked && not (markedAt span (now (commands .entry)) (now (scratch .entry)) s)) ⌝ }
-    ensures { λ _. ⌜ now (scratch .exit) ≡ set (now (scratch .entry)) s (settledAt span (now (commands .entry)) (now (scratch .entry)) s) ⌝ }
+// How many places of the queue stay when a round is over: the start's, and those of states that were reached from places before `low`.
+pub fn kept(scratch: &[u16], queue: &[u16], reached: usize, low: usize) -> usize
+    requires { ⌜ (0 < reached) × (reached ≤ length (now queue)) × (low < 65536) ⌝ }
+    requires { ⌜ ((i : ℕ) → i < reached → getD (now queue) i 0 < length (now scratch)) ⌝ }
+    ensures { λ r. ⌜ Cut low r reached (now (scratch .entry)) (now (queue .entry)) ⌝ }
 {
-    if is_marked(span, commands, scratch, s) {
-        put(scratch, s, 0);
-        return false;
+    let mut q = reached;
+    while 1 < q {
+        if at(scratch, at(queue, q - 1)) < low + 2 {
+            return q;
+        }
+        q -= 1;
     }
-    if 2 <= at(scratch, s) {
-        put(scratch, s, 1);
-        return unmarked;
-    }
-    unmarked
+    q
 }
 
-// Ends the round, and answers whether it has no marks.
-pub fn settle(size: Size, rows: &[Row], commands: &[u16], scratch: &mut [u16]) -> bool
-    requires { ⌜ (size .n ≤ length (now rows)) × (size .n ≤ length (now commands)) × (size .n ≤ length (now scratch)) ⌝ }
-    ensures { λ r. ⌜ ((F O : List ℕ) → r ≡ every (λ s. not (markedAt (spanAt (held size (now (rows .entry)) F O) s) (now (commands .entry)) (now (scratch .entry)) s)) (size .n)) ⌝ }
-    ensures { λ _. ⌜ ((F O : List ℕ) → Filled (size .n) (λ s. settledAt (spanAt (held size (now (rows .entry)) F O) s) (now (commands .entry)) (now (scratch .entry)) s) (now (scratch .entry)) (now (scratch .exit))) ⌝ }
+// Ends the round at state s: it is not reached any more, has no command, and if it was marked it is known.
+fn settle_one(span: Span, commands: &mut [u16], scratch: &mut [u16], s: usize)
+    requires { ⌜ (s < length (now commands)) × (s < length (now scratch)) ⌝ }
+    ensures { λ _. ⌜ now (commands .exit) ≡ set (now (commands .entry)) s FFFF ⌝ }
+    ensures { λ _. ⌜ now (scratch .exit) ≡ set (now (scratch .entry)) s (cond (markedAt span (now (commands .entry)) (now (scratch .entry)) s) 0 1) ⌝ }
 {
-    let mut unmarked = true;
-    let mut s = 0;
-    while s < size.n {
-        let span = span_at(size, rows, s);
-        unmarked = settle_one(span, commands, scratch, s, unmarked);
-        s += 1;
+    let marked = is_marked(span, commands, scratch, s);
+    put(commands, s, NONE);
+    if marked {
+        put(scratch, s, 0);
+        return;
     }
-    unmarked
+    put(scratch, s, 1);
+}
+
+// Ends the round at the places of the queue from `from` up to `reached`.
+pub fn settle(
+    size: Size,
+    rows: &[Row],
+    commands: &mut [u16],
+    scratch: &mut [u16],
+    queue: &[u16],
+    from: usize,
+    reached: usize,
+)
+    requires { ⌜ (size .n ≤ length (now rows)) × (size .n ≤ length (now commands)) × (size .n ≤ length (now scratch)) × (size .n ≤ length (now queue)) ⌝ }
+    requires { ⌜ from ≤ reached ⌝ }
+    requires { ⌜ Queued (size .n) reached (now scratch) (now queue) ⌝ }
+    ensures { λ _. ⌜ ((F O : List ℕ) → Settled from reached (λ x. markedAt (spanAt (held size (now (rows .entry)) F O) x) (now (commands .entry)) (now (scratch .entry)) x) (now (queue .entry)) (now (commands .entry)) (now (scratch .entry)) (now (commands .exit)) (now (scratch .exit))) ⌝ }
+{
+    let mut i = from;
+    while i < reached {
+        let s = at(queue, i);
+        let span = span_at(size, rows, s);
+        settle_one(span, commands, scratch, s);
+        i += 1;
+    }
 }

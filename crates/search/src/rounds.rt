@@ -5,8 +5,9 @@ ghost use lib.ListN.{length, getD};
 ghost use Rattle.model.specs.Held.{planIn};
 ghost use Rattle.tables.specs.Meaning.{held};
 ghost use Rattle.search.specs.Prepared.{Prepared};
-ghost use Rattle.search.specs.Phases.{endOf, Finished, Answered};
+ghost use Rattle.search.specs.Ends.{endOf, Finished, Answered};
 use crate::Found;
+use crate::marks::kept;
 use crate::marks::settle;
 use crate::marks::start_end;
 use crate::marks::start_known;
@@ -17,16 +18,17 @@ use tables::internal::NONE;
 use tables::internal::at;
 use tables::internal::fill;
 use tables::internal::span_at;
+use walks::queue::reach;
 
-// How a round ends: 0 if it has no marks, 1 if the start is known by then, else 2.
-fn round_end(unmarked: bool, scratch: &[u16], start: usize) -> usize
-    requires { ⌜ start < length (now scratch) ⌝ }
-    ensures { λ r. ⌜ r ≡ endOf unmarked (getD (now (scratch .entry)) start 0) ⌝ }
+// How a round ends: 0 if it has no marks, 1 if the start is marked, which no command is then taken at, else 2.
+fn round_end(commands: &[u16], start: usize, low: usize) -> usize
+    requires { ⌜ start < length (now commands) ⌝ }
+    ensures { λ r. ⌜ r ≡ endOf low (getD (now (commands .entry)) start 0) ⌝ }
 {
-    if unmarked {
+    if low == NONE {
         return 0;
     }
-    if at(scratch, start) == 0 {
+    if at(commands, start) == NONE {
         return 1;
     }
     2
@@ -48,7 +50,8 @@ fn finish(n: usize, end: usize, rounds: usize, commands: &mut [u16], scratch: &m
     Found { lost: true, rounds }
 }
 
-// Walks rounds from the start until one is the last. Where the start is failing, rest or without commands there are none.
+// Walks rounds from the start until one is the last. A round takes over from the one before what it would walk in the same way, and walks
+// on from there. Where the start is failing, rest or without commands there are none.
 pub fn walk_rounds(
     size: Size,
     rows: &[Row],
@@ -59,27 +62,23 @@ pub fn walk_rounds(
     scratch: &mut [u16],
     queue: &mut [u16],
 ) -> Found
-    requires { ⌜ Prepared size (now rows) (now firsts) (now outcomes) start (now commands) (now scratch) (now queue) ⌝ }
+    requires { ⌜ Prepared size (now rows) (now firsts) (now outcomes) (now commands) (now scratch) (now queue) ⌝ }
+    requires { ⌜ start < size .n ⌝ }
     ensures { λ r. ⌜ Answered (planIn (held size (now (rows .entry)) (now (firsts .entry)) (now (outcomes .entry)))) (size .n) start (now (commands .entry)) (now (scratch .entry)) r (now (commands .exit)) (now (scratch .exit)) ⌝ }
 {
     fill(commands, size.n, NONE);
     start_known(size, rows, scratch);
     let span = span_at(size, rows, start);
     let mut end = start_end(span);
+    let mut q = reach(size.n, scratch, queue, 0, start, 2);
+    let mut h = 0;
     let mut count = 0;
     while end == 2 {
-        walk(
-            size,
-            rows,
-            firsts,
-            outcomes,
-            start,
-            commands,
-            scratch,
-            queue,
-        );
-        let unmarked = settle(size, rows, commands, scratch);
-        end = round_end(unmarked, scratch, start);
+        let walked = walk(size, rows, firsts, outcomes, commands, scratch, queue, h, q);
+        h = walked.low;
+        end = round_end(commands, start, h);
+        q = kept(scratch, queue, walked.reached, h);
+        settle(size, rows, commands, scratch, queue, q, walked.reached);
         count += 1;
     }
     finish(size.n, end, count, commands, scratch)

@@ -1,15 +1,12 @@
-// The walk of one round. The queue has the states that the walk has reached, each once, and the walk goes on from each once, so a round reads
-// no state and no outcome more than a few times. Scratch has the flags of the crate `walks`, with the mark 2 at a reached state. In what order
-// the states are reached is free: no contract here tells it.
+// The walk of one round. The queue has the states that the walk has reached, each once, and the walk goes on from each once, so a round
+// reads no state and no outcome more than a few times. Scratch has the flags of the crate `walks`: the mark of a reached state is 2 more
+// than the place of the queue from which it was reached. So it is known which part of a walk its marked states cast no doubt on, and the
+// next round need not walk it again.
 ghost use mathlib.Core.Path.{_≡_};
-ghost use mathlib.Core.Bool.{true};
+ghost use mathlib.Core.Bool.{Bool, true, false};
 ghost use mathlib.Core.List.{List};
 ghost use Prim.Native.Nat.{ℕ, _<_, _≤_};
-ghost use lib.Dec.{eqb};
-ghost use lib.ListN.{length};
-ghost use Rattle.laws.specs.Entry.{FFFF};
-ghost use Rattle.laws.specs.Filled.{Filled};
-ghost use Rattle.model.specs.File.{maxStates};
+ghost use lib.ListN.{length, getD};
 ghost use Rattle.model.specs.SoundTest.{sound};
 ghost use Rattle.model.specs.Held.{planIn};
 ghost use Rattle.tables.specs.declared.Row.{Row};
@@ -18,23 +15,45 @@ ghost use Rattle.tables.specs.Spans.{spanAt, commandsOf};
 ghost use Rattle.tables.specs.Seen.{Seen};
 ghost use Rattle.tables.specs.Ready.{Ready};
 ghost use Rattle.walks.specs.Queued.{Queued};
-ghost use Rattle.walks.specs.Spread.{Spread};
-ghost use Rattle.search.specs.Prepared.{Prepared, RoundStart};
-ghost use Rattle.search.specs.Phases.{Expanded, Walked};
+ghost use Rattle.search.specs.Prepared.{Prepared};
+ghost use Rattle.search.specs.Past.{Past};
+ghost use Rattle.search.specs.Marks.{markedAt, lowerOf, noneLeft};
+ghost use Rattle.search.specs.Underway.{Underway};
+ghost use Rattle.search.specs.Walked.{Expanded, Walked};
+use crate::marks::is_marked;
 use choice::internal::choose;
 use tables::Row;
 use tables::Size;
 use tables::internal::NONE;
 use tables::internal::Span;
 use tables::internal::at;
-use tables::internal::fill;
 use tables::internal::first_outcome;
 use tables::internal::put;
 use tables::internal::span_at;
-use walks::queue::reach;
 use walks::queue::spread;
 
-// Goes on from state s, of which `span` was read: takes the command there, and the command's outcomes into the walk.
+// How many states a walk has reached, and the lowest place of the queue from which a marked state was reached, NONE if none is marked.
+pub struct Progress {
+    pub reached: usize,
+    pub low: usize,
+}
+
+// The lower of `low` and the place from which s was reached, if s is marked.
+fn lower(span: Span, commands: &[u16], scratch: &[u16], s: usize, low: usize) -> usize
+    requires { ⌜ (s < length (now commands)) × (s < length (now scratch)) ⌝ }
+    ensures { λ r. ⌜ r ≡ lowerOf (markedAt span (now (commands .entry)) (now (scratch .entry)) s) (getD (now (scratch .entry)) s 0) low ⌝ }
+{
+    if !is_marked(span, commands, scratch, s) {
+        return low;
+    }
+    let place = at(scratch, s) - 2;
+    if place < low {
+        return place;
+    }
+    low
+}
+
+// Goes on from state s, of which `span` was read: takes the command there, and the command's outcomes into the walk under the mark.
 fn expand(
     size: Size,
     span: Span,
@@ -45,12 +64,13 @@ fn expand(
     queue: &mut [u16],
     q: usize,
     s: usize,
+    mark: usize,
 ) -> usize
     requires { ⌜ Ready (size .n) (commandsOf size (now firsts) (now outcomes)) ⌝ }
     requires { ⌜ Seen size (now firsts) (now outcomes) s span ⌝ }
-    requires { ⌜ (size .n ≤ length (now commands)) × (size .n ≤ length (now scratch)) × (size .n ≤ length (now queue)) ⌝ }
+    requires { ⌜ (size .n ≤ length (now commands)) × (size .n ≤ length (now scratch)) × (size .n ≤ length (now queue)) × (2 ≤ mark) × (mark < 65536) ⌝ }
     requires { ⌜ Queued (size .n) q (now scratch) (now queue) ⌝ }
-    ensures { λ r. ⌜ ((R : List Row) → sound (held size R (now (firsts .entry)) (now (outcomes .entry))) ≡ true → span ≡ spanAt (held size R (now (firsts .entry)) (now (outcomes .entry))) s → Expanded (planIn (held size R (now (firsts .entry)) (now (outcomes .entry)))) (size .n) q s (now (commands .entry)) (now (scratch .entry)) (now (queue .entry)) r (now (commands .exit)) (now (scratch .exit)) (now (queue .exit))) ⌝ }
+    ensures { λ r. ⌜ ((R : List Row) → sound (held size R (now (firsts .entry)) (now (outcomes .entry))) ≡ true → span ≡ spanAt (held size R (now (firsts .entry)) (now (outcomes .entry))) s → Expanded (planIn (held size R (now (firsts .entry)) (now (outcomes .entry)))) (size .n) q s mark (now (commands .entry)) (now (scratch .entry)) (now (queue .entry)) r (now (commands .exit)) (now (scratch .exit)) (now (queue .exit))) ⌝ }
 {
     let c = choose(size, span, firsts, outcomes, scratch, 0);
     put(commands, s, c);
@@ -60,47 +80,49 @@ fn expand(
     let g = span.first + c;
     let from = first_outcome(size, firsts, g);
     let end = first_outcome(size, firsts, g + 1);
-    spread(size.n, outcomes, scratch, queue, q, from, end, 2)
+    spread(size.n, outcomes, scratch, queue, q, from, end, mark)
 }
 
-// Begins a walk: no command is taken yet, and the start is reached. Answers how many states are reached.
-fn begin(
-    n: usize,
-    start: usize,
-    commands: &mut [u16],
-    scratch: &mut [u16],
-    queue: &mut [u16],
-) -> usize
-    requires { ⌜ (start < n) × (n ≤ maxStates) × (n ≤ length (now commands)) × (n ≤ length (now scratch)) × (n ≤ length (now queue)) ⌝ }
-    requires { ⌜ RoundStart n start (now scratch) ⌝ }
-    ensures { λ _. ⌜ Filled n (λ _. FFFF) (now (commands .entry)) (now (commands .exit)) ⌝ }
-    ensures { λ r. ⌜ Spread n 0 (λ y. eqb y start) 2 (now (scratch .entry)) (now (queue .entry)) r (now (scratch .exit)) (now (queue .exit)) ⌝ }
-{
-    fill(commands, n, NONE);
-    reach(n, scratch, queue, 0, start, 2)
-}
-
-// Walks from the start.
+// Walks on from place `from` of the queue, where `reached` states are reached. Whatever start and known set it is a walk of, of those it is
+// done then.
 pub fn walk(
     size: Size,
     rows: &[Row],
     firsts: &[u16],
     outcomes: &[u16],
-    start: usize,
     commands: &mut [u16],
     scratch: &mut [u16],
     queue: &mut [u16],
-)
-    requires { ⌜ Prepared size (now rows) (now firsts) (now outcomes) start (now commands) (now scratch) (now queue) ⌝ }
-    requires { ⌜ RoundStart (size .n) start (now scratch) ⌝ }
-    ensures { λ _. ⌜ Walked (planIn (held size (now (rows .entry)) (now (firsts .entry)) (now (outcomes .entry)))) (size .n) start (now (commands .entry)) (now (scratch .entry)) (now (commands .exit)) (now (scratch .exit)) ⌝ }
+    from: usize,
+    reached: usize,
+) -> Progress
+    requires { ⌜ Prepared size (now rows) (now firsts) (now outcomes) (now commands) (now scratch) (now queue) ⌝ }
+    requires { ⌜ Queued (size .n) reached (now scratch) (now queue) ⌝ }
+    ensures { λ _. ⌜ Past (size .n) (now (commands .entry)) (now (commands .exit)) ⌝ }
+    ensures { λ _. ⌜ Past (size .n) (now (scratch .entry)) (now (scratch .exit)) ⌝ }
+    ensures { λ r. ⌜ Queued (size .n) (r .reached) (now (scratch .exit)) (now (queue .exit)) ⌝ }
+    ensures { λ r. ⌜ ((K : ℕ → Bool) (a : ℕ) → Underway (planIn (held size (now (rows .entry)) (now (firsts .entry)) (now (outcomes .entry)))) (size .n) K a from reached (now (commands .entry)) (now (scratch .entry)) (now (queue .entry)) → ((i : ℕ) → i < from → noneLeft (planIn (held size (now (rows .entry)) (now (firsts .entry)) (now (outcomes .entry)))) K (getD (now (queue .entry)) i 0) ≡ false) → Walked (planIn (held size (now (rows .entry)) (now (firsts .entry)) (now (outcomes .entry)))) (size .n) K a r (now (commands .exit)) (now (scratch .exit)) (now (queue .exit))) ⌝ }
 {
-    let mut q = begin(size.n, start, commands, scratch, queue);
-    let mut h = 0;
+    let mut q = reached;
+    let mut low = NONE;
+    let mut h = from;
     while h < q {
         let s = at(queue, h);
         let span = span_at(size, rows, s);
-        q = expand(size, span, firsts, outcomes, commands, scratch, queue, q, s);
+        q = expand(
+            size,
+            span,
+            firsts,
+            outcomes,
+            commands,
+            scratch,
+            queue,
+            q,
+            s,
+            h + 2,
+        );
+        low = lower(span, commands, scratch, s, low);
         h += 1;
     }
+    Progress { reached: q, low }
 }

@@ -1,4 +1,5 @@
 pub mod FlagValues
+pub mod Room
 pub mod Spreads
 pub mod Reaching
 pub mod Spreading

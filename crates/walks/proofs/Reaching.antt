@@ -11,16 +11,17 @@ use lib.ListN.{length, getD, set, length-set}
 use lib.Seq.{getD-set-same, getD-set-other}
 use borrow.Author.Tests.{eqb-true, eqb-false, eq-eqb}
 use Rattle.laws.proofs.Tests.{clash, true-or-false, refute}
-use Rattle.laws.proofs.Sets.{many-bound, many-lt}
 use Rattle.laws.proofs.Stores.{entry-after}
 use Rattle.walks.specs.Flags.{walkedIn, newIn}
 use Rattle.walks.specs.Queued.{Queued}
 use Rattle.walks.specs.Spread.{Spread}
 use Rattle.walks.proofs.FlagValues.{walked-value, value-walked, value-unwalked, new-value}
+use Rattle.walks.proofs.Room.{queued-room}
 use Rattle.walks.proofs.Spreads.{spread-none}
 
 -- state x, of which the flag r was read
-module _ {n q : ℕ} {s u : List ℕ} (L : Queued n q s u) (x : ℕ) (l : x < n) (ls : n ≤ length s) (lu : n ≤ length u) (mark : ℕ) (high : 2 ≤ mark)
+module _ {n q : ℕ} {s u : List ℕ} (L : Queued n q s u) (x : ℕ) (l : x < n) (ls : n ≤ length s) (lu : n ≤ length u) (mark : ℕ)
+    (high : 2 ≤ mark)
     (r : ℕ) (e : r ≡ getD s x 0) where
   abbrev One : ℕ → Bool
   One y = eqb y x
@@ -37,10 +38,7 @@ module _ {n q : ℕ} {s u : List ℕ} (L : Queued n q s u) (x : ℕ) (l : x < n)
     out = value-unwalked s x (omega arith)
 
     pub reach-room : q < n
-    reach-room =
-        let a = many-lt (walkedIn s) (λ y. true) n (λ i k t. refl) x l out refl in
-        let b = many-bound (λ y. true) n in
-        omega (arith, L .fits)
+    reach-room = queued-room L x l out
 
     flag-after : (y : ℕ) → getD (set s x mark) y 0 ≡ cond (eqb y x) mark (getD s y 0)
     flag-after y = entry-after s x mark y (omega arith)
@@ -75,7 +73,8 @@ module _ {n q : ℕ} {s u : List ℕ} (L : Queued n q s u) (x : ℕ) (l : x < n)
 
     once-more : (i j : ℕ) → i < q + 1 → j < q + 1 → Dec (i ≡ q) → Dec (j ≡ q) → getD (set u q x) i 0 ≡ getD (set u q x) j 0 → i ≡ j
     once-more i j k m (yes a) (yes b) z = a ∙ sym b
-    once-more i j k m (yes a) (no b) z = absurd (other j (omega (arith, b)) (sym (old-place j (omega (arith, b))) ∙ sym z ∙ rw a last-place))
+    once-more i j k m (yes a) (no b) z =
+        absurd (other j (omega (arith, b)) (sym (old-place j (omega (arith, b))) ∙ sym z ∙ rw a last-place))
     once-more i j k m (no a) (yes b) z = absurd (other i (omega (arith, a)) (sym (old-place i (omega (arith, a))) ∙ z ∙ rw b last-place))
     once-more i j k m (no a) (no b) z =
         L .once i j (omega (arith, a)) (omega (arith, b)) (sym (old-place i (omega (arith, a))) ∙ z ∙ old-place j (omega (arith, b)))
@@ -93,14 +92,12 @@ module _ {n q : ℕ} {s u : List ℕ} (L : Queued n q s u) (x : ℕ) (l : x < n)
           (λ z. listed-still y k (value-walked s y (rw (old-flag y z) at (walked-value (set s x mark) y t))))
           (true-or-false (eqb y x));
       once = λ i j k m z. once-more i j k m (ℕ-discrete i q) (ℕ-discrete j q) z;
-      fits =
-          let a = many-lt (walkedIn s) (walkedIn (set s x mark)) n (λ i k t. still i t) x l out now-in in
-          omega (arith, L .fits);
     }
 
     new-is : (y : ℕ) → newIn s One y ≡ eqb y x
     unfolding newIn
-    new-is y = ⊎-elim (λ z. rw z (rw (eqb-true y x z) (rw (sym e ∙ h)))) (λ z. rw z (and-false (eqb (getD s y 0) 1))) (true-or-false (eqb y x))
+    new-is y =
+        ⊎-elim (λ z. rw z (rw (eqb-true y x z) (rw (sym e ∙ h)))) (λ z. rw z (and-false (eqb (getD s y 0) 1))) (true-or-false (eqb y x))
 
     -- after the two stores
     pub reach-new : (s′ u′ : List ℕ) → s′ ≡ set s x mark → u′ ≡ set u q x → Spread n q One mark s u (q + 1) s′ u′

@@ -21,7 +21,8 @@ pub record Spreading (n from end mark q : ℕ) (outs s₀ u₀ : List ℕ) (i e 
   pub done : Spread n q so-far mark s₀ u₀ e s u
   pub left : (y : ℕ) → so-far y || any (eqb y) (slice i end outs) ≡ any (eqb y) (slice from end outs)
 
-pub spreading-start : {n from end mark q : ℕ} (outs : List ℕ) {s u : List ℕ} → Queued n q s u → from ≤ end → Spreading n from end mark q outs s u from q s u
+pub spreading-start : {n from end mark q : ℕ} (outs : List ℕ) {s u : List ℕ} → Queued n q s u → from ≤ end
+    → Spreading n from end mark q outs s u from q s u
 spreading-start {mark = mark} outs {s} L h = record {
   before = h;
   so-far = λ y. false;
@@ -46,5 +47,6 @@ module _ {n from end mark q : ℕ} {outs s₀ u₀ : List ℕ} {i e : ℕ} {s u 
       before = omega arith;
       so-far = λ y. w .so-far y || eqb y x;
       done = spread-then high (w .done) v;
-      left = λ y. or-assoc (w .so-far y) (eqb y x) (any (eqb y) (slice (i + 1) end outs)) ∙ ap (λ t. w .so-far y || t) (sym (here y)) ∙ w .left y;
+      left = λ y.
+          or-assoc (w .so-far y) (eqb y x) (any (eqb y) (slice (i + 1) end outs)) ∙ ap (λ t. w .so-far y || t) (sym (here y)) ∙ w .left y;
     }

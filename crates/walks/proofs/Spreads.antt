@@ -13,7 +13,7 @@ use Rattle.laws.proofs.Tests.{clash, true-or-false, refute, same-test, or-cases
 use Rattle.walks.specs.Flags.{knownIn, walkedIn, newIn}
 use Rattle.walks.specs.Queued.{Queued}
 use Rattle.walks.specs.Spread.{Spread}
-use Rattle.walks.proofs.FlagValues.{unknown-value, walked-value, unwalked-value, value-walked, new-value, value-new, value-old, not-taken}
+use Rattle.walks.proofs.FlagValues.{unknown-value, walked-value, unwalked-value, value-walked, new-value, value-new, value-old}
 
 -- an empty walk
 pub queued-none : {n : ℕ} {s : List ℕ} (u : List ℕ) → ((x : ℕ) → x < n → getD s x 0 < 2) → Queued n 0 s u
@@ -22,11 +22,11 @@ queued-none {s = s} u h = record {
   placed = λ i l. absurd (omega arith);
   listed = λ x l t. absurd (omega (arith, h x l, walked-value s x t));
   once = λ i j l m. absurd (omega arith);
-  fits = omega arith;
 }
 
 -- no state of X is new
-pub spread-none : {n q : ℕ} {s u : List ℕ} (mark : ℕ) → Queued n q s u → (X : ℕ → Bool) → ((y : ℕ) → newIn s X y ≡ false) → Spread n q X mark s u q s u
+pub spread-none : {n q : ℕ} {s u : List ℕ} (mark : ℕ) → Queued n q s u → (X : ℕ → Bool) → ((y : ℕ) → newIn s X y ≡ false)
+    → Spread n q X mark s u q s u
 spread-none mark L X h = record {
   queued = L;
   flagged = λ y. rw (h y);
@@ -146,7 +146,9 @@ module _ {n q₁ q₂ q₃ : ℕ} {X Y : ℕ → Bool} {mark : ℕ} {s₁ u₁ s
     more = omega (arith, v .more, w .more);
     kept = λ i l. w .kept i (omega (arith, v .more)) ∙ v .kept i l;
     added = λ i l m. placed i l m (decLt i q₂);
-    all = λ y t. ⊎-elim (there y) (λ a. let (i, l, m, e) = w .all y (sym (split y a) ∙ t) in (i, omega (arith, v .more), m, e)) (true-or-false (newIn s₁ X y));
+    all = λ y t.
+        ⊎-elim (there y) (λ a. let (i, l, m, e) = w .all y (sym (split y a) ∙ t) in (i, omega (arith, v .more), m, e))
+        (true-or-false (newIn s₁ X y));
     after = λ i l. w .after i l ∙ v .after i (omega (arith, w .more));
     same-flags = w .same-flags ∙ v .same-flags;
     same-queue = w .same-queue ∙ v .same-queue;

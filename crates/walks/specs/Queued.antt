@@ -2,9 +2,8 @@
 use mathlib.Core.Path.{_≡_}
 use mathlib.Core.Bool.{true}
 use mathlib.Core.List.{List}
-use Prim.Native.Nat.{ℕ, _<_, _≤_}
+use Prim.Native.Nat.{ℕ, _<_}
 use lib.ListN.{getD}
-use Rattle.laws.specs.Sets.{howMany}
 use Rattle.walks.specs.Flags.{walkedIn}
 
 pub record Queued (n q : ℕ) (flags queue : List ℕ) : Type 0 where
@@ -12,5 +11,3 @@ pub record Queued (n q : ℕ) (flags queue : List ℕ) : Type 0 where
   pub placed : (i : ℕ) → i < q → walkedIn flags (getD queue i 0) ≡ true
   pub listed : (x : ℕ) → x < n → walkedIn flags x ≡ true → (i : ℕ) × (i < q) × (getD queue i 0 ≡ x)
   pub once : (i j : ℕ) → i < q → j < q → getD queue i 0 ≡ getD queue j 0 → i ≡ j
-  -- so q is at most n
-  pub fits : q ≤ howMany (walkedIn flags) n

@@ -1,5 +1,5 @@
-// What only the planner's own crates call: each function here asks that the flags and the queue of a walk belong together. The queue has the
-// states that the walk has reached, each once, in the order in which they were reached.
+// What only the planner's own crates call: each function here asks that the flags and the queue of a walk belong together. The queue has
+// the states that the walk has reached, each once, in the order in which they were reached.
 ghost use Prim.Native.Nat.{ℕ, _<_, _≤_};
 ghost use lib.Dec.{eqb};
 ghost use lib.ListN.{length, getD};
@@ -11,8 +11,8 @@ ghost use Rattle.walks.specs.Spread.{Spread};
 use tables::internal::at;
 use tables::internal::put;
 
-// Takes state x into the walk, under the mark, if its flag says that it is not reached. The walk has reached q states before; answers how many it
-// has reached then.
+// Takes state x into the walk, under the mark, if its flag says that it is not reached. The walk has reached q states before; answers how
+// many it has reached then.
 pub fn reach(
     n: usize,
     flags: &mut [u16],

@@ -1,5 +1,5 @@
 -- Both tests of an ordinary state with commands are made, one by the branch and one by the answer.
-use Rattle.search.proofs.Settling.{not-active, active-count}
+use Rattle.search.proofs.MarkTests.{not-active, active-count}
 use Rattle.search.proofs.marks.has_commands.Statement.{statement}
 use Rattle.search.proofs.marks.has_commands.Tie as tie
 

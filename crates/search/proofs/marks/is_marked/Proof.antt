@@ -1,6 +1,6 @@
 -- The three tests of a marked state are made one after another, and the first that fails decides.
 use borrow.Author.Needs.{needs}
-use Rattle.search.proofs.Settling.{not-reached, nothing-to-take, nothing-taken}
+use Rattle.search.proofs.MarkTests.{not-reached, nothing-to-take, nothing-taken}
 use Rattle.search.proofs.marks.is_marked.Statement.{statement}
 use Rattle.search.proofs.marks.is_marked.Tie as tie
 

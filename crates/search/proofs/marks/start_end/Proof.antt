@@ -1,7 +1,7 @@
 -- A failing start, one with commands and any other are told apart by two tests, as in the definition.
 use mathlib.Core.Path.{sym, _∙_}
 use borrow.Author.Needs.{needs}
-use Rattle.search.proofs.Settling.{end-failing, end-active, end-rest}
+use Rattle.search.proofs.MarkTests.{end-failing, end-active, end-rest}
 use Rattle.search.proofs.marks.start_end.Statement.{statement}
 use Rattle.search.proofs.marks.start_end.Tie as tie
 

@@ -2,7 +2,7 @@
 use mathlib.Core.Path.{sym, _∙_}
 use native.Mathlib.Omega.{arith}
 use borrow.Author.Needs.{needs}
-use Rattle.search.proofs.Settling.{flag-failing, flag-other}
+use Rattle.search.proofs.MarkTests.{flag-failing, flag-other}
 use Rattle.search.proofs.marks.start_flag.Statement.{statement}
 use Rattle.search.proofs.marks.start_flag.Tie as tie
 

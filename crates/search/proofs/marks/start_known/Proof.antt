@@ -9,7 +9,7 @@ use Rattle.laws.specs.Filled.{Filled}
 use Rattle.laws.proofs.Fills.{filled-none, filled-next, filled-done}
 use Rattle.tables.specs.Meaning.{held}
 use Rattle.tables.specs.Spans.{spanAt}
-use Rattle.search.specs.Phases.{startFlag}
+use Rattle.search.specs.Marks.{startFlag}
 use Rattle.search.proofs.marks.start_known.Statement.{statement}
 use Rattle.search.proofs.marks.start_known.Proof.Tie as tie
 

@@ -1,20 +1,20 @@
 -- The two tests are those of the definition, in its order.
 use borrow.Author.Needs.{needs}
-use Rattle.search.proofs.Rounding.{ends-unmarked, ends-known, ends-open}
+use Rattle.search.proofs.RoundEnds.{ends-unmarked, ends-lost, ends-due}
 use Rattle.search.proofs.rounds.round_end.Statement.{statement}
 use Rattle.search.proofs.rounds.round_end.Tie as tie
 
 returns : tie.Need-returns
-returns c = ends-unmarked _ (c .before .before .args .scratch .now) (c .before .before .args .start) (c .if1 .taken)
+returns c = ends-unmarked _ (c .before .before .args .commands .now) (c .before .before .args .start) (c .if1 .taken)
 
 at-requires : tie.Need-at-requires
 at-requires c κs = search needs
 
 returns-2 : tie.Need-returns-2
-returns-2 c = ends-known _ (c .before .before .before .before .args .scratch .now) (c .before .before .before .before .args .start) (c .before .before .if1 .left) _ (c .before .at .ensures) (c .if2 .taken)
+returns-2 c = ends-lost _ (c .before .before .before .before .args .commands .now) (c .before .before .before .before .args .start) (c .before .before .if1 .left) _ (c .before .at .ensures) (c .if2 .taken)
 
 returns-3 : tie.Need-returns-3
-returns-3 c = ends-open _ (c .before .before .before .before .args .scratch .now) (c .before .before .before .before .args .start) (c .before .before .if1 .left) _ (c .before .at .ensures) (c .if2 .left)
+returns-3 c = ends-due _ (c .before .before .before .before .args .commands .now) (c .before .before .before .before .args .start) (c .before .before .if1 .left) _ (c .before .at .ensures) (c .if2 .left)
 
 pub round-end-spec : {M : Type 1} → statement M
 round-end-spec = tie.close (tie.spec returns at-requires returns-2 returns-3)

@@ -29,7 +29,7 @@ same-length-2 c = search needs
 returns : tie.Need-returns
 returns c =
     let p = c .before .before .before .before .before .before .before .before .before .before .before .before .pre in
-    λ R sounds is. expand-none _ sounds _ (p .1 .0 .inside) _ is _ _ (c .before .before .before .before .before .choose .ensures R _ sounds (p .1 .0 .inside) is) (c .if1 .taken) _ _ (c .before .before .before .put .ensures) (p .1 .1 .1)
+    λ R sounds is. expand-none _ sounds _ (p .1 .0 .inside) _ is _ _ (c .before .before .before .before .before .choose .ensures R _ sounds (p .1 .0 .inside) is) (c .if1 .taken) _ _ _ (c .before .before .before .put .ensures) (p .1 .1 .1)
 
 add-g : tie.Need-add-g
 add-g c =
@@ -57,7 +57,7 @@ spread-requires c κs =
     let end = c .before .before .first-outcome2 .ensures (v .rows) O in (
       p .1 .1 .1,
       (
-        (p .0 .few, p .1 .1 .0 .1, p .1 .1 .0 .2, omega arith, omega arith),
+        (p .0 .few, p .1 .1 .0 .1, p .1 .1 .0 .2, p .1 .1 .0 .3, p .1 .1 .0 .4),
         outcomes-inside (p .0) _ _ _ _ (expand-place _ (v .sounds) _ (v .inside) _ (v .is) (c .before .before .before .before .before .before .before .before .before .before .before .before .before .before .before .before .before .args .scratch .now) _ e (c .before .before .before .before .before .if1 .left)) from end (omega arith),
       ),
     )
