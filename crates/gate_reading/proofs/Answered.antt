@@ -1,5 +1,5 @@
 -- A reading by way of tables of the limits' lengths: what it leaves in the slices lent, by the way that it ends.
-use mathlib.Core.Path.{_≡_, refl, sym, ap, _∙_}
+use mathlib.Core.Path.{_≡_, sym, ap, _∙_}
 use mathlib.Core.List.{List}
 use Prim.Native.Nat.{ℕ, _*_, _<_, _≤_}
 use native.Mathlib.Omega.{arith}
@@ -23,8 +23,7 @@ use Rattle.reading.specs.Answers.{answerOf, afterRead}
 use Rattle.reading.proofs.Passing.{refused-inv}
 use Rattle.gate_reading.specs.Lent.{admitted, afterGateRead}
 
-module _ (file : List ℕ) (states : List Row) (commands entries size rows firsts outcomes : List ℕ)
-    (limits : (maxStates ≤ length states) × (maxCommands ≤ length commands) × (maxOutcomes ≤ length entries)) where
+module _ (file : List ℕ) (states : List ModelRow) (commands entries size rows firsts outcomes : List ℕ) where
   abbrev gate : Answer Tables
   gate = gateRead file (length size) (length rows) (length firsts) (length outcomes)
 
@@ -32,18 +31,15 @@ module _ (file : List ℕ) (states : List Row) (commands entries size rows first
   abbrev pub Leaves : ℕ → List ℕ → List ℕ → List ℕ → List ℕ → Type 0
   Leaves r size′ rows′ firsts′ outcomes′ = afterGateRead r size′ rows′ firsts′ outcomes′ ≡ gateReadCall file size rows firsts outcomes
 
-  -- the tables' limits, for rows as the model has them
-  all-rows : maxStates ≤ length (rowsOf states)
-  all-rows = omega (arith, limits .0, length-map states rowOf)
-
   module _ (plan admission : ReadAnswer) (states′ : List Row) {commands′ entries′ : List ℕ}
-      (reads : afterRead plan states′ commands′ entries′ ≡ readCall file (rowsOf states) commands entries)
-      (admits : answerOf admission ≡ admitted (answerOf plan) (length size) (length rows) (length firsts) (length outcomes)) where
+      (reads : afterRead plan states′ commands′ entries′ ≡ readCall file states commands entries)
+      (admits : answerOf admission ≡ admitted (answerOf plan) (length size) (length rows) (length firsts) (length outcomes))
+      (limits : (maxStates ≤ length states) × (maxCommands ≤ length commands) × (maxOutcomes ≤ length entries)) where
     answers : answerOf admission ≡ answer (λ T. T .size) gate
     answers =
         admits
         ∙ ap (λ (a : Answer ModelSize). admitted a (length size) (length rows) (length firsts) (length outcomes)) (ap (λ (x : AfterRead). x .answers) reads)
-        ∙ sym (gate-read-size file all-rows (limits .1) (limits .2) (length size) (length rows) (length firsts) (length outcomes))
+        ∙ sym (gate-read-size file (limits .0) (limits .1) (limits .2) (length size) (length rows) (length firsts) (length outcomes))
 
     pub refuses : {w : Refusal} {r : ℕ} → admission ≡ Refused w → r ≡ number (refusalOf w) → Leaves r size rows firsts outcomes
     unfolding left code
@@ -53,8 +49,8 @@ module _ (file : List ℕ) (states : List Row) (commands entries size rows first
       tables : (T : Tables) × (gate ≡ given T) × (T .size ≡ numbers z)
       tables = answer-inv (λ T. T .size) gate (numbers z) (sym answers ∙ ap answerOf told)
 
-      gated : Gated file all-rows (limits .1) (limits .2) (length size) (length rows) (length firsts) (length outcomes) (tables .0)
-      gated = gate-read-inv file all-rows (limits .1) (limits .2) (length size) (length rows) (length firsts) (length outcomes) (tables .0) (tables .1)
+      gated : Gated file (limits .0) (limits .1) (limits .2) (length size) (length rows) (length firsts) (length outcomes) (tables .0)
+      gated = gate-read-inv file (limits .0) (limits .1) (limits .2) (length size) (length rows) (length firsts) (length outcomes) (tables .0) (tables .1)
 
       -- the tables' counts are those of the size record
       n-is : tables .0 .size .n ≡ z .n
@@ -67,7 +63,7 @@ module _ (file : List ℕ) (states : List Row) (commands entries size rows first
       t-is = ap (λ (y : ModelSize). y .t) (tables .2)
 
       -- what was read into each table
-      in-states : (rowsOf states′ ≡ overwrite (tables .0 .rows) (rowsOf states)) × (length (tables .0 .rows) ≡ z .n)
+      in-states : (rowsOf states′ ≡ overwrite (tables .0 .rows) states) × (length (tables .0 .rows) ≡ z .n)
       unfolding left
       in-states = (rw (gated .reads) at (ap (λ (x : AfterRead). x .rows) reads), gated .small .rows ∙ n-is)
 
@@ -81,8 +77,8 @@ module _ (file : List ℕ) (states : List Row) (commands entries size rows first
 
       pub rows-ready : (z .n ≤ length states′) × (z .n * rowBytes ≤ length rows)
       rows-ready =
-          let few : z .n ≤ length (rowsOf states) = omega (arith, limits .0, gated .small .few-states, n-is, length-map states rowOf) in
-          let l = overwrite-long (tables .0 .rows) (rowsOf states) (in-states .0) (in-states .1) few in
+          let few : z .n ≤ length states = omega (arith, limits .0, gated .small .few-states, n-is) in
+          let l = overwrite-long (tables .0 .rows) states (in-states .0) (in-states .1) few in
           (omega (arith, length-map states′ rowOf), omega (arith, gated .long-rows, n-is))
 
       pub lists-ready : ((sizeBytes ≤ length size) × (z .n < 65536) × (z .m < 65536) × (z .t < 65536) × (z .start < 65536))
@@ -106,7 +102,7 @@ module _ (file : List ℕ) (states : List Row) (commands entries size rows first
       unfolding left code
       gives r l =
           let size-is = l .0 ∙ ap (λ (y : ModelSize). overwrite (bytesFor (sizeEntries y)) size) (sym (tables .2)) in
-          let rows-is = r ∙ ap (λ (y : List ModelRow). overwrite (bytesFor (rowEntries y)) rows) (overwrite-holds (tables .0 .rows) (rowsOf states) (in-states .0) (in-states .1)) in
+          let rows-is = r ∙ ap (λ (y : List ModelRow). overwrite (bytesFor (rowEntries y)) rows) (overwrite-holds (tables .0 .rows) states (in-states .0) (in-states .1)) in
           let firsts-is = l .1 .0 ∙ ap (λ (y : List ℕ). overwrite (bytesFor y) firsts) (overwrite-holds (tables .0 .firsts) commands (in-commands .0) (in-commands .1)) in
           let outcomes-is = l .1 .1 ∙ ap (λ (y : List ℕ). overwrite (bytesFor y) outcomes) (overwrite-holds (tables .0 .outcomes) entries (in-entries .0) (in-entries .1)) in
           rw (tables .1) (λ i. afterGateRead 0 (size-is i) (rows-is i) (firsts-is i) (outcomes-is i))

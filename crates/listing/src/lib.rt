@@ -5,7 +5,7 @@ ghost use lib.ListN.{length};
 ghost use Rattle.laws.specs.Wrote.{Wrote};
 ghost use Rattle.model.specs.Listing.{maxListing, listing};
 ghost use Rattle.listing.specs.Texts.{textOf};
-use crate::file::lend;
+use crate::file::list_file;
 use listing_text::internal::put_refusal;
 use tables::Refusal;
 
@@ -35,7 +35,7 @@ fn write_listing(input: &[u8], out: &mut [u8]) -> usize
     if LIMIT < input.len() {
         return put_refusal(out, 0, Refusal::Limit);
     }
-    lend(input, out)
+    list_file(input, out)
 }
 
 // What the listing program prints for an input. Ruled out: text that begins as a listing though reading refuses the file, and a

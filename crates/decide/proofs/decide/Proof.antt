@@ -77,7 +77,7 @@ returns-2 c =
     let a = c .before .before .before .before .before .before .before .before .before .before .before .before .before .before .before .before .before .before .before .before .before .before .before .before .before .before .before .before .before .before .before .before .before .before .before .before .args in
     let (sounds, long) = granted (c .before .before .before .before .before .before .before .before .before .before .before .before .before .before .before .before .before .before .before .before .before .before .before .before .before .before) in
     let leaves = plan-decided _ (a .rows .now) (a .firsts .now) (a .outcomes .now) sounds (long .0) (long .1 .0) (long .1 .1 .0) (long .1 .1 .1)
-        (c .before .before .before .before .before .before .before .before .before .before .before .before .before .before .before .before .before .before .before .before .before .propagate-plan .ensures) (c .before .before .before .before .before .before .before .before .before .judge-all .ensures) (c .before .before .before .fill .ensures) in
+    (c .before .before .before .before .before .before .before .before .before .before .before .before .before .before .before .before .before .before .before .before .before .propagate-plan .ensures) (c .before .before .before .before .before .before .before .before .before .judge-all .ensures) (c .before .before .before .fill .ensures) in
     decides (held (a .size) (a .rows .now) (a .firsts .now) (a .outcomes .now)) (a .ranks .now) (a .commands .now) (a .marks .now) (a .scratch .now)
     _ (c .before .before .before .before .before .before .before .before .before .before .before .before .before .before .before .before .before .before .before .before .before .before .before .before .before .before .before .before .admit .ensures _ (c .before .before .before .before .before .before .before .before .before .before .before .before .before .before .before .before .before .before .before .before .before .before .before .before .before .before .before .before .before .sound .ensures .0) refl) (c .before .before .before .before .before .before .before .before .before .before .before .before .before .before .before .before .before .before .before .before .before .before .before .before .before .before .enum-told .given .1) leaves _ (c .answer-with .ensures)
 

@@ -1,3 +1,4 @@
+-- An input over the limit is refused, and any other is listed: those are the two cases of `listing`.
 use borrow.Author.Needs.{needs}
 use Rattle.listing.proofs.Files.{over-limit, in-limit}
 use Rattle.listing.proofs.write_listing.Statement.{statement}
@@ -12,16 +13,16 @@ same-length c = search needs
 returns : tie.Need-returns
 returns c = rw (over-limit (c .before .before .before .before .before .before .before .args .input .now) (c .before .before .before .before .if1 .taken)) (c .before .before .put-refusal .ensures .0)
 
-lend-requires : tie.Need-lend-requires
-lend-requires c κs = search needs
+list-file-requires : tie.Need-list-file-requires
+list-file-requires c κs = search needs
 
 same-length-2 : tie.Need-same-length-2
 same-length-2 c = search needs
 
 returns-2 : tie.Need-returns-2
-returns-2 c = rw (in-limit (c .before .before .before .before .before .before .before .args .input .now) (c .before .before .before .before .if1 .left)) (c .before .before .lend .ensures)
+returns-2 c = rw (in-limit (c .before .before .before .before .before .before .before .args .input .now) (c .before .before .before .before .if1 .left)) (c .before .before .list-file .ensures)
 
 pub write-listing-spec : {M : Type 1} → statement M
 write-listing-spec =
     tie.close
-    (tie.spec put-refusal-requires same-length returns lend-requires same-length-2 returns-2)
+    (tie.spec put-refusal-requires same-length returns list-file-requires same-length-2 returns-2)

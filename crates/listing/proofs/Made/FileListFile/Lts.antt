@@ -5,6 +5,7 @@ use Rattle.reading.proofs.ReadAnswer.Laws
 use Rattle.tables.proofs.Refusal
 use Rattle.tables.proofs.Refusal.Laws as Laws'
 use Rattle.tables.proofs.Row as T
+use Rattle.tables.proofs.Row.Laws as RowLaws
 use Rattle.tables.proofs.Size
 use Rattle.tables.proofs.Size.Laws as Laws''
 use borrow.Author.Called
@@ -22,29 +23,41 @@ use borrow.Kind.MutSlice
 use borrow.Kind.Num
 use borrow.Kind.ShrSlice
 use borrow.Kind.Value
+use borrow.Rule.Array.Borrow
+use borrow.Rule.Array.Gives
+use borrow.Rule.Array.Init
+use borrow.Rule.Array.Repeat
+use borrow.Rule.Array.Rows
+use borrow.Rule.Array.Share
+use borrow.Rule.AtSlots
 use borrow.Rule.Lifetime
 use borrow.Rule.Local
 use borrow.Rule.Scalar
 use borrow.Rule.Slice.Know
 use borrow.Rule.Slice.Mut
 use borrow.Rule.Slice.Relend
-use borrow.Rule.Slice.Reshare
 use borrow.Rule.Slice.Shared
 use borrow.Rule.Switch
 use borrow.Rule.Yields
+use borrow.Struct.Apart as Apart
 use borrow.Struct.CopyOut
 use borrow.Struct.Make
+use borrow.Struct.Reads as SReads
 use borrow.Table.Copies
+use borrow.Table.Own
 use borrow.Table.Reads
 use borrow.Table.Referent
 use borrow.Table.Row
-use borrow.Table.Rows
+use borrow.Table.Rows as Rows'
 use borrow.Table.Typed
 use contract.Lifetimes
+use denote.Array as Array'
 use denote.Enum.Declared
 use denote.Enum.Laws as Laws'3
 use denote.Exit
 use denote.Memory
+use denote.Plain as Plain'
+use denote.Steps
 use denote.Struct.Declared as Declared'
 use denote.Struct.Laws as Laws'4
 use denote.Triple.Clauses
@@ -62,67 +75,88 @@ use types.Kit
 use types.Run
 
 abbrev ty·0 : Syntax.Ty
-ty·0 = Syntax.tyRef Syntax.erased Syntax.mut (Syntax.tyInt Syntax.w8)
+ty·0 = Syntax.tyArray (Syntax.tyInt Syntax.w16) 4096
 
 abbrev ty·1 : Syntax.Ty
-ty·1 = Syntax.tyRef Syntax.erased Syntax.mut (Syntax.tyInt Syntax.w16)
+ty·1 = Syntax.tyArray (Syntax.tyInt Syntax.w16) 16384
 
 abbrev ty·2 : Syntax.Ty
-ty·2 = Syntax.tyRef Syntax.erased Syntax.imm (Syntax.tyInt Syntax.w16)
+ty·2 = Syntax.tyArray (Memory.lone (T.the-row .mir)) 1024
 
 abbrev ty·3 : Syntax.Ty
-ty·3 = Syntax.tyRef (Syntax.named 0) Syntax.imm (Syntax.tyInt Syntax.w8)
+ty·3 = Syntax.tyArray (Memory.pointee (T.the-row .written)) 1024
 
 abbrev ty·4 : Syntax.Ty
-ty·4 = Syntax.tyRef (Syntax.named 4) Syntax.mut (Syntax.tyInt Syntax.w8)
+ty·4 = Syntax.tyRef Syntax.erased Syntax.mut (Syntax.tyInt Syntax.w8)
 
 abbrev ty·5 : Syntax.Ty
-ty·5 = Syntax.tyRef (Syntax.named 2) Syntax.mut (Syntax.tyInt Syntax.w16)
+ty·5 = Syntax.tyRef Syntax.erased Syntax.mut (Syntax.tyInt Syntax.w16)
 
 abbrev ty·6 : Syntax.Ty
-ty·6 = Syntax.tyRef (Syntax.named 3) Syntax.mut (Syntax.tyInt Syntax.w16)
+ty·6 = Syntax.tyRef Syntax.erased Syntax.imm (Syntax.tyInt Syntax.w16)
 
 abbrev ty·7 : Syntax.Ty
-ty·7 = Syntax.tyRef Syntax.erased Syntax.mut (Memory.pointee (T.the-row .written))
+ty·7 = Syntax.tyRef (Syntax.named 0) Syntax.imm (Syntax.tyInt Syntax.w8)
 
 abbrev ty·8 : Syntax.Ty
-ty·8 = Syntax.tyRef Syntax.erased Syntax.imm (Memory.pointee (T.the-row .written))
+ty·8 = Syntax.tyRef (Syntax.named 1) Syntax.mut (Syntax.tyInt Syntax.w8)
 
 abbrev ty·9 : Syntax.Ty
-ty·9 = Syntax.tyRef (Syntax.named 1) Syntax.mut (Memory.pointee (T.the-row .written))
+ty·9 = Syntax.tyRef Syntax.erased Syntax.mut (Memory.pointee (T.the-row .written))
 
 abbrev ty·10 : Syntax.Ty
-ty·10 = Syntax.tyStruct (List._∷_ 38 (List._∷_ 91 (List._∷_ 93 List.[]))) (Syntax.tcons ty·0 (Syntax.tcons (Syntax.tyInt Syntax.w64) Syntax.tnil))
+ty·10 = Syntax.tyRef Syntax.erased Syntax.imm (Memory.pointee (T.the-row .written))
 
 abbrev ty·11 : Syntax.Ty
-ty·11 = Syntax.tyStruct (List._∷_ 38 (List._∷_ 91 (List._∷_ 93 List.[]))) (Syntax.tcons ty·1 (Syntax.tcons (Syntax.tyInt Syntax.w64) Syntax.tnil))
+ty·11 = Syntax.tyRef Syntax.erased Syntax.mut ty·0
 
 abbrev ty·12 : Syntax.Ty
-ty·12 = Syntax.tyStruct (List._∷_ 38 (List._∷_ 91 (List._∷_ 93 List.[]))) (Syntax.tcons ty·2 (Syntax.tcons (Syntax.tyInt Syntax.w64) Syntax.tnil))
+ty·12 = Syntax.tyRef Syntax.erased Syntax.imm ty·0
 
 abbrev ty·13 : Syntax.Ty
-ty·13 = Syntax.tyStruct (List._∷_ 38 (List._∷_ 91 (List._∷_ 93 List.[]))) (Syntax.tcons ty·7 (Syntax.tcons (Syntax.tyInt Syntax.w64) Syntax.tnil))
+ty·13 = Syntax.tyRef Syntax.erased Syntax.mut ty·1
 
 abbrev ty·14 : Syntax.Ty
-ty·14 = Syntax.tyStruct (List._∷_ 38 (List._∷_ 91 (List._∷_ 93 List.[]))) (Syntax.tcons ty·8 (Syntax.tcons (Syntax.tyInt Syntax.w64) Syntax.tnil))
+ty·14 = Syntax.tyRef Syntax.erased Syntax.imm ty·1
 
 abbrev ty·15 : Syntax.Ty
-ty·15 = Syntax.tyStruct (List._∷_ 116 (List._∷_ 97 (List._∷_ 98 (List._∷_ 108 (List._∷_ 101 (List._∷_ 115 (List._∷_ 58 (List._∷_ 58 (List._∷_ 83 (List._∷_ 105 (List._∷_ 122 (List._∷_ 101 List.[])))))))))))) (Syntax.tcons (Syntax.tyInt Syntax.w64) (Syntax.tcons (Syntax.tyInt Syntax.w64) (Syntax.tcons (Syntax.tyInt Syntax.w64) (Syntax.tcons (Syntax.tyInt Syntax.w64) Syntax.tnil))))
+ty·15 = Syntax.tyRef Syntax.erased Syntax.mut ty·3
 
 abbrev ty·16 : Syntax.Ty
-ty·16 = Syntax.tyEnum (List._∷_ 116 (List._∷_ 97 (List._∷_ 98 (List._∷_ 108 (List._∷_ 101 (List._∷_ 115 (List._∷_ 58 (List._∷_ 58 (List._∷_ 82 (List._∷_ 101 (List._∷_ 102 (List._∷_ 117 (List._∷_ 115 (List._∷_ 97 (List._∷_ 108 List.[]))))))))))))))) (Syntax.ttcons Syntax.tnil (Syntax.ttcons Syntax.tnil (Syntax.ttcons Syntax.tnil (Syntax.ttcons Syntax.tnil (Syntax.ttcons Syntax.tnil (Syntax.ttcons Syntax.tnil (Syntax.ttcons Syntax.tnil (Syntax.ttcons Syntax.tnil (Syntax.ttcons Syntax.tnil (Syntax.ttcons Syntax.tnil (Syntax.ttcons Syntax.tnil (Syntax.ttcons Syntax.tnil (Syntax.ttcons Syntax.tnil (Syntax.ttcons Syntax.tnil (Syntax.ttcons Syntax.tnil (Syntax.ttcons Syntax.tnil (Syntax.ttcons Syntax.tnil (Syntax.ttcons Syntax.tnil Syntax.ttnil))))))))))))))))))
+ty·16 = Syntax.tyRef Syntax.erased Syntax.imm ty·3
 
 abbrev ty·17 : Syntax.Ty
-ty·17 = Syntax.tyEnum (List._∷_ 114 (List._∷_ 101 (List._∷_ 97 (List._∷_ 100 (List._∷_ 105 (List._∷_ 110 (List._∷_ 103 (List._∷_ 58 (List._∷_ 58 (List._∷_ 82 (List._∷_ 101 (List._∷_ 97 (List._∷_ 100 (List._∷_ 65 (List._∷_ 110 (List._∷_ 115 (List._∷_ 119 (List._∷_ 101 (List._∷_ 114 List.[]))))))))))))))))))) (Syntax.ttcons (Syntax.tcons ty·15 Syntax.tnil) (Syntax.ttcons (Syntax.tcons ty·16 Syntax.tnil) Syntax.ttnil))
+ty·17 = Syntax.tyStruct (List._∷_ 38 (List._∷_ 91 (List._∷_ 93 List.[]))) (Syntax.tcons ty·4 (Syntax.tcons (Syntax.tyInt Syntax.w64) Syntax.tnil))
 
-abbrev pub ps : List.List (Kinds.PK 5)
-ps = List._∷_ (ShrSlice.pShrS (Referent.rtF (Referent.fInt Syntax.w8)) 0 tt) (List._∷_ (MutSlice.pMutS T.the-row 1 tt) (List._∷_ (MutSlice.pMutS (Referent.rtF (Referent.fInt Syntax.w16)) 2 tt) (List._∷_ (MutSlice.pMutS (Referent.rtF (Referent.fInt Syntax.w16)) 3 tt) (List._∷_ (MutSlice.pMutS (Referent.rtF (Referent.fInt Syntax.w8)) 4 tt) List.[]))))
+abbrev ty·18 : Syntax.Ty
+ty·18 = Syntax.tyStruct (List._∷_ 38 (List._∷_ 91 (List._∷_ 93 List.[]))) (Syntax.tcons ty·5 (Syntax.tcons (Syntax.tyInt Syntax.w64) Syntax.tnil))
 
-abbrev pub r : Kinds.RK 5
+abbrev ty·19 : Syntax.Ty
+ty·19 = Syntax.tyStruct (List._∷_ 38 (List._∷_ 91 (List._∷_ 93 List.[]))) (Syntax.tcons ty·6 (Syntax.tcons (Syntax.tyInt Syntax.w64) Syntax.tnil))
+
+abbrev ty·20 : Syntax.Ty
+ty·20 = Syntax.tyStruct (List._∷_ 38 (List._∷_ 91 (List._∷_ 93 List.[]))) (Syntax.tcons ty·9 (Syntax.tcons (Syntax.tyInt Syntax.w64) Syntax.tnil))
+
+abbrev ty·21 : Syntax.Ty
+ty·21 = Syntax.tyStruct (List._∷_ 38 (List._∷_ 91 (List._∷_ 93 List.[]))) (Syntax.tcons ty·10 (Syntax.tcons (Syntax.tyInt Syntax.w64) Syntax.tnil))
+
+abbrev ty·22 : Syntax.Ty
+ty·22 = Syntax.tyStruct (List._∷_ 116 (List._∷_ 97 (List._∷_ 98 (List._∷_ 108 (List._∷_ 101 (List._∷_ 115 (List._∷_ 58 (List._∷_ 58 (List._∷_ 83 (List._∷_ 105 (List._∷_ 122 (List._∷_ 101 List.[])))))))))))) (Syntax.tcons (Syntax.tyInt Syntax.w64) (Syntax.tcons (Syntax.tyInt Syntax.w64) (Syntax.tcons (Syntax.tyInt Syntax.w64) (Syntax.tcons (Syntax.tyInt Syntax.w64) Syntax.tnil))))
+
+abbrev ty·23 : Syntax.Ty
+ty·23 = Syntax.tyEnum (List._∷_ 116 (List._∷_ 97 (List._∷_ 98 (List._∷_ 108 (List._∷_ 101 (List._∷_ 115 (List._∷_ 58 (List._∷_ 58 (List._∷_ 82 (List._∷_ 101 (List._∷_ 102 (List._∷_ 117 (List._∷_ 115 (List._∷_ 97 (List._∷_ 108 List.[]))))))))))))))) (Syntax.ttcons Syntax.tnil (Syntax.ttcons Syntax.tnil (Syntax.ttcons Syntax.tnil (Syntax.ttcons Syntax.tnil (Syntax.ttcons Syntax.tnil (Syntax.ttcons Syntax.tnil (Syntax.ttcons Syntax.tnil (Syntax.ttcons Syntax.tnil (Syntax.ttcons Syntax.tnil (Syntax.ttcons Syntax.tnil (Syntax.ttcons Syntax.tnil (Syntax.ttcons Syntax.tnil (Syntax.ttcons Syntax.tnil (Syntax.ttcons Syntax.tnil (Syntax.ttcons Syntax.tnil (Syntax.ttcons Syntax.tnil (Syntax.ttcons Syntax.tnil (Syntax.ttcons Syntax.tnil Syntax.ttnil))))))))))))))))))
+
+abbrev ty·24 : Syntax.Ty
+ty·24 = Syntax.tyEnum (List._∷_ 114 (List._∷_ 101 (List._∷_ 97 (List._∷_ 100 (List._∷_ 105 (List._∷_ 110 (List._∷_ 103 (List._∷_ 58 (List._∷_ 58 (List._∷_ 82 (List._∷_ 101 (List._∷_ 97 (List._∷_ 100 (List._∷_ 65 (List._∷_ 110 (List._∷_ 115 (List._∷_ 119 (List._∷_ 101 (List._∷_ 114 List.[]))))))))))))))))))) (Syntax.ttcons (Syntax.tcons ty·22 Syntax.tnil) (Syntax.ttcons (Syntax.tcons ty·23 Syntax.tnil) Syntax.ttnil))
+
+abbrev pub ps : List.List (Kinds.PK 2)
+ps = List._∷_ (ShrSlice.pShrS (Referent.rtF (Referent.fInt Syntax.w8)) 0 tt) (List._∷_ (MutSlice.pMutS (Referent.rtF (Referent.fInt Syntax.w8)) 1 tt) List.[])
+
+abbrev pub r : Kinds.RK 2
 r = Num.rNum Syntax.w64
 
 abbrev pub xs : List.List Syntax.Ty
-xs = List._∷_ ty·17 (List._∷_ ty·16 (List._∷_ ty·15 (List._∷_ ty·7 (List._∷_ ty·13 (List._∷_ ty·1 (List._∷_ ty·11 (List._∷_ ty·1 (List._∷_ ty·11 (List._∷_ (Syntax.tyInt Syntax.w64) (List._∷_ ty·0 (List._∷_ ty·10 (List._∷_ ty·8 (List._∷_ ty·14 (List._∷_ ty·2 (List._∷_ ty·12 (List._∷_ ty·2 (List._∷_ ty·12 (List._∷_ ty·0 (List._∷_ ty·10 List.[])))))))))))))))))))
+xs = List._∷_ ty·2 (List._∷_ ty·0 (List._∷_ ty·1 (List._∷_ ty·24 (List._∷_ ty·23 (List._∷_ ty·22 (List._∷_ (Memory.lone (T.the-row .mir)) (List._∷_ ty·15 (List._∷_ ty·20 (List._∷_ ty·11 (List._∷_ ty·18 (List._∷_ ty·13 (List._∷_ ty·18 (List._∷_ (Syntax.tyInt Syntax.w64) (List._∷_ ty·4 (List._∷_ ty·17 (List._∷_ ty·16 (List._∷_ ty·21 (List._∷_ ty·12 (List._∷_ ty·19 (List._∷_ ty·14 (List._∷_ ty·19 (List._∷_ ty·4 (List._∷_ ty·17 List.[])))))))))))))))))))))))
 
 abbrev pub m : Nat.ℕ
 m = 8
@@ -131,307 +165,367 @@ abbrev pub ps·0 : List.List (Kinds.PK 4)
 ps·0 = List._∷_ (ShrSlice.pShrS (Referent.rtF (Referent.fInt Syntax.w8)) 0 tt) (List._∷_ (MutSlice.pMutS T.the-row 1 tt) (List._∷_ (MutSlice.pMutS (Referent.rtF (Referent.fInt Syntax.w16)) 2 tt) (List._∷_ (MutSlice.pMutS (Referent.rtF (Referent.fInt Syntax.w16)) 3 tt) List.[])))
 
 abbrev pub r·0 : Kinds.RK 4
-r·0 = Value.rVal record { ty = Declared.row ReadAnswer.the-type; one = Path'.refl; val = Laws'3.val ReadAnswer.the-type Laws.the-laws; tells = Laws'3.tells ReadAnswer.the-type Laws.the-laws; still = Laws'3.still ReadAnswer.the-type Laws.the-copy Exit.yes; row = Rows.whole (Declared.row ReadAnswer.the-type); rd = λ x. x; mk = λ x. x } λ M 𝓤 H A W. record { copies = Laws'3.copy ReadAnswer.the-type Laws.the-copy 𝓤 H A W; lawful = Laws'3.lawful ReadAnswer.the-type Laws.the-laws 𝓤 H A W tt; makes = Laws'3.makes ReadAnswer.the-type Laws.the-plain 𝓤 H A; in-mem = Local.mem-whole 𝓤 H A W (Declared.row ReadAnswer.the-type); of-mem = Local.whole-mem 𝓤 H A W (Declared.row ReadAnswer.the-type) }
+r·0 = Value.rVal record { ty = Declared.row ReadAnswer.the-type; one = Path'.refl; val = Laws'3.val ReadAnswer.the-type Laws.the-laws; tells = Laws'3.tells ReadAnswer.the-type Laws.the-laws; still = Laws'3.still ReadAnswer.the-type Laws.the-copy Exit.yes; row = Rows'.whole (Declared.row ReadAnswer.the-type); rd = λ x. x; mk = λ x. x } λ M 𝓤 H A W. record { copies = Laws'3.copy ReadAnswer.the-type Laws.the-copy 𝓤 H A W; lawful = Laws'3.lawful ReadAnswer.the-type Laws.the-laws 𝓤 H A W tt; makes = Laws'3.makes ReadAnswer.the-type Laws.the-plain 𝓤 H A; in-mem = Local.mem-whole 𝓤 H A W (Declared.row ReadAnswer.the-type); of-mem = Local.whole-mem 𝓤 H A W (Declared.row ReadAnswer.the-type) }
 
 abbrev pub ps·1 : List.List (Kinds.PK 1)
-ps·1 = List._∷_ (MutSlice.pMutS (Referent.rtF (Referent.fInt Syntax.w8)) 0 tt) (List._∷_ (Num.pNum Syntax.w64) (List._∷_ (Value.pVal record { ty = Declared.row Refusal.the-type; one = Path'.refl; val = Laws'3.val Refusal.the-type Laws'.the-laws; tells = Laws'3.tells Refusal.the-type Laws'.the-laws; still = Laws'3.still Refusal.the-type Laws'.the-copy Exit.yes; row = Rows.whole (Declared.row Refusal.the-type); rd = λ x. x; mk = λ x. x } λ M 𝓤 H A W. record { copies = Laws'3.copy Refusal.the-type Laws'.the-copy 𝓤 H A W; lawful = Laws'3.lawful Refusal.the-type Laws'.the-laws 𝓤 H A W tt; makes = Laws'3.makes Refusal.the-type Laws'.the-plain 𝓤 H A; in-mem = Local.mem-whole 𝓤 H A W (Declared.row Refusal.the-type); of-mem = Local.whole-mem 𝓤 H A W (Declared.row Refusal.the-type) }) List.[]))
+ps·1 = List._∷_ (MutSlice.pMutS (Referent.rtF (Referent.fInt Syntax.w8)) 0 tt) (List._∷_ (Num.pNum Syntax.w64) (List._∷_ (Value.pVal record { ty = Declared.row Refusal.the-type; one = Path'.refl; val = Laws'3.val Refusal.the-type Laws'.the-laws; tells = Laws'3.tells Refusal.the-type Laws'.the-laws; still = Laws'3.still Refusal.the-type Laws'.the-copy Exit.yes; row = Rows'.whole (Declared.row Refusal.the-type); rd = λ x. x; mk = λ x. x } λ M 𝓤 H A W. record { copies = Laws'3.copy Refusal.the-type Laws'.the-copy 𝓤 H A W; lawful = Laws'3.lawful Refusal.the-type Laws'.the-laws 𝓤 H A W tt; makes = Laws'3.makes Refusal.the-type Laws'.the-plain 𝓤 H A; in-mem = Local.mem-whole 𝓤 H A W (Declared.row Refusal.the-type); of-mem = Local.whole-mem 𝓤 H A W (Declared.row Refusal.the-type) }) List.[]))
 
 abbrev pub r·1 : Kinds.RK 1
 r·1 = Num.rNum Syntax.w64
 
 abbrev pub ps·2 : List.List (Kinds.PK 4)
-ps·2 = List._∷_ (Value.pVal record { ty = Declared'.row Size.the-type; one = Path'.refl; val = Laws'4.val Size.the-type Laws''.the-laws; tells = Laws'4.tells Size.the-type Laws''.the-laws; still = Laws'4.still Size.the-type Laws''.the-copy Exit.yes; row = Rows.whole (Declared'.row Size.the-type); rd = λ x. x; mk = λ x. x } λ M 𝓤 H A W. record { copies = Laws'4.copy Size.the-type Laws''.the-copy 𝓤 H A W; lawful = Laws'4.lawful Size.the-type Laws''.the-laws 𝓤 H A W; makes = Laws'4.makes Size.the-type Laws''.the-plain 𝓤 H A; in-mem = Local.mem-whole 𝓤 H A W (Declared'.row Size.the-type); of-mem = Local.whole-mem 𝓤 H A W (Declared'.row Size.the-type) }) (List._∷_ (ShrSlice.pShrS T.the-row 0 tt) (List._∷_ (ShrSlice.pShrS (Referent.rtF (Referent.fInt Syntax.w16)) 1 tt) (List._∷_ (ShrSlice.pShrS (Referent.rtF (Referent.fInt Syntax.w16)) 2 tt) (List._∷_ (MutSlice.pMutS (Referent.rtF (Referent.fInt Syntax.w8)) 3 tt) List.[]))))
+ps·2 = List._∷_ (Value.pVal record { ty = Declared'.row Size.the-type; one = Path'.refl; val = Laws'4.val Size.the-type Laws''.the-laws; tells = Laws'4.tells Size.the-type Laws''.the-laws; still = Laws'4.still Size.the-type Laws''.the-copy Exit.yes; row = Rows'.whole (Declared'.row Size.the-type); rd = λ x. x; mk = λ x. x } λ M 𝓤 H A W. record { copies = Laws'4.copy Size.the-type Laws''.the-copy 𝓤 H A W; lawful = Laws'4.lawful Size.the-type Laws''.the-laws 𝓤 H A W; makes = Laws'4.makes Size.the-type Laws''.the-plain 𝓤 H A; in-mem = Local.mem-whole 𝓤 H A W (Declared'.row Size.the-type); of-mem = Local.whole-mem 𝓤 H A W (Declared'.row Size.the-type) }) (List._∷_ (ShrSlice.pShrS T.the-row 0 tt) (List._∷_ (ShrSlice.pShrS (Referent.rtF (Referent.fInt Syntax.w16)) 1 tt) (List._∷_ (ShrSlice.pShrS (Referent.rtF (Referent.fInt Syntax.w16)) 2 tt) (List._∷_ (MutSlice.pMutS (Referent.rtF (Referent.fInt Syntax.w8)) 3 tt) List.[]))))
 
 abbrev pub r·2 : Kinds.RK 4
 r·2 = Num.rNum Syntax.w64
 
 abbrev pub hs : List.List Syntax.Home
-hs = List._∷_ Syntax.valueLocal (List._∷_ Syntax.valueLocal (List._∷_ Syntax.valueLocal (List._∷_ Syntax.valueLocal (List._∷_ Syntax.valueLocal (List._∷_ Syntax.valueLocal (List._∷_ Syntax.valueLocal (List._∷_ Syntax.valueLocal (List._∷_ Syntax.valueLocal (List._∷_ Syntax.valueLocal (List._∷_ Syntax.valueLocal (List._∷_ Syntax.valueLocal (List._∷_ Syntax.valueLocal (List._∷_ Syntax.valueLocal (List._∷_ Syntax.valueLocal (List._∷_ Syntax.valueLocal (List._∷_ Syntax.valueLocal (List._∷_ Syntax.valueLocal (List._∷_ Syntax.valueLocal (List._∷_ Syntax.valueLocal (List._∷_ Syntax.valueLocal (List._∷_ Syntax.valueLocal (List._∷_ Syntax.valueLocal (List._∷_ Syntax.valueLocal (List._∷_ Syntax.valueLocal (List._∷_ Syntax.valueLocal List.[])))))))))))))))))))))))))
+hs = List._∷_ Syntax.valueLocal (List._∷_ Syntax.valueLocal (List._∷_ Syntax.valueLocal (List._∷_ Syntax.memorySlot (List._∷_ Syntax.memorySlot (List._∷_ Syntax.memorySlot (List._∷_ Syntax.valueLocal (List._∷_ Syntax.valueLocal (List._∷_ Syntax.valueLocal (List._∷_ Syntax.valueLocal (List._∷_ Syntax.valueLocal (List._∷_ Syntax.valueLocal (List._∷_ Syntax.valueLocal (List._∷_ Syntax.valueLocal (List._∷_ Syntax.valueLocal (List._∷_ Syntax.valueLocal (List._∷_ Syntax.valueLocal (List._∷_ Syntax.valueLocal (List._∷_ Syntax.valueLocal (List._∷_ Syntax.valueLocal (List._∷_ Syntax.valueLocal (List._∷_ Syntax.valueLocal (List._∷_ Syntax.valueLocal (List._∷_ Syntax.valueLocal (List._∷_ Syntax.valueLocal (List._∷_ Syntax.valueLocal (List._∷_ Syntax.valueLocal List.[]))))))))))))))))))))))))))
 
 abbrev b0 : Syntax.Body
-b0 = Syntax.assign (Syntax.place 9 List.[]) (Syntax.addrOf (Syntax.place 2 (List._∷_ (Syntax.field 0) (List._∷_ (Syntax.deref (Memory.lone (T.the-row .mir))) List.[]))))
+b0 = Syntax.assign (Syntax.place 9 List.[]) (Syntax.aggregate (List._∷_ (Syntax.int Syntax.w16 0) (List._∷_ (Syntax.int Syntax.w16 0) (List._∷_ (Syntax.int Syntax.w16 0) List.[]))))
 
 abbrev b1 : Syntax.Body
-b1 = Syntax.assign (Syntax.place 10 List.[]) (Syntax.aggregate (List._∷_ (Syntax.copy (Syntax.place 9 List.[])) (List._∷_ (Syntax.copy (Syntax.place 2 (List._∷_ (Syntax.field 1) List.[]))) List.[])))
+b1 = Syntax.assign (Syntax.place 3 List.[]) (Syntax.repeat (Syntax.copy (Syntax.place 9 List.[])) 1024)
 
 abbrev b2 : Syntax.Body
-b2 = Syntax.assign (Syntax.place 11 List.[]) (Syntax.addrOf (Syntax.place 3 (List._∷_ (Syntax.field 0) (List._∷_ (Syntax.deref (Syntax.tyInt Syntax.w16)) List.[]))))
+b2 = Syntax.assign (Syntax.place 4 List.[]) (Syntax.repeat (Syntax.int Syntax.w16 0) 4096)
 
 abbrev b3 : Syntax.Body
-b3 = Syntax.assign (Syntax.place 12 List.[]) (Syntax.aggregate (List._∷_ (Syntax.copy (Syntax.place 11 List.[])) (List._∷_ (Syntax.copy (Syntax.place 3 (List._∷_ (Syntax.field 1) List.[]))) List.[])))
+b3 = Syntax.assign (Syntax.place 5 List.[]) (Syntax.repeat (Syntax.int Syntax.w16 0) 16384)
 
 abbrev b4 : Syntax.Body
-b4 = Syntax.assign (Syntax.place 13 List.[]) (Syntax.addrOf (Syntax.place 4 (List._∷_ (Syntax.field 0) (List._∷_ (Syntax.deref (Syntax.tyInt Syntax.w16)) List.[]))))
+b4 = Syntax.assign (Syntax.place 10 List.[]) (Syntax.addrOf (Syntax.place 3 List.[]))
 
 abbrev b5 : Syntax.Body
-b5 = Syntax.assign (Syntax.place 14 List.[]) (Syntax.aggregate (List._∷_ (Syntax.copy (Syntax.place 13 List.[])) (List._∷_ (Syntax.copy (Syntax.place 4 (List._∷_ (Syntax.field 1) List.[]))) List.[])))
+b5 = Syntax.assign (Syntax.place 11 List.[]) (Syntax.aggregate (List._∷_ (Syntax.copy (Syntax.place 10 List.[])) (List._∷_ (Syntax.intBig Syntax.w64 1024) List.[])))
 
 abbrev b6 : Syntax.Body
-b6 = Syntax.call "reading::read" (List._∷_ (Syntax.copy (Syntax.place 1 List.[])) (List._∷_ (Syntax.copy (Syntax.place 10 List.[])) (List._∷_ (Syntax.copy (Syntax.place 12 List.[])) (List._∷_ (Syntax.copy (Syntax.place 14 List.[])) List.[])))) (Syntax.place 6 List.[])
+b6 = Syntax.assign (Syntax.place 12 List.[]) (Syntax.addrOf (Syntax.place 4 List.[]))
 
 abbrev b7 : Syntax.Body
-b7 = Syntax.assign (Syntax.place 7 List.[]) (Syntax.rvOpd (Syntax.copy (Syntax.place 6 (List._∷_ (Syntax.variant 1) (List._∷_ (Syntax.field 1) List.[])))))
+b7 = Syntax.assign (Syntax.place 13 List.[]) (Syntax.aggregate (List._∷_ (Syntax.copy (Syntax.place 12 List.[])) (List._∷_ (Syntax.intBig Syntax.w64 4096) List.[])))
 
 abbrev b8 : Syntax.Body
-b8 = Syntax.assign (Syntax.place 16 List.[]) (Syntax.addrOf (Syntax.place 5 (List._∷_ (Syntax.field 0) (List._∷_ (Syntax.deref (Syntax.tyInt Syntax.w8)) List.[]))))
+b8 = Syntax.assign (Syntax.place 14 List.[]) (Syntax.addrOf (Syntax.place 5 List.[]))
 
 abbrev b9 : Syntax.Body
-b9 = Syntax.assign (Syntax.place 17 List.[]) (Syntax.aggregate (List._∷_ (Syntax.copy (Syntax.place 16 List.[])) (List._∷_ (Syntax.copy (Syntax.place 5 (List._∷_ (Syntax.field 1) List.[]))) List.[])))
+b9 = Syntax.assign (Syntax.place 15 List.[]) (Syntax.aggregate (List._∷_ (Syntax.copy (Syntax.place 14 List.[])) (List._∷_ (Syntax.intBig Syntax.w64 16384) List.[])))
 
 abbrev b10 : Syntax.Body
-b10 = Syntax.call "listing_text::internal::put_refusal" (List._∷_ (Syntax.copy (Syntax.place 17 List.[])) (List._∷_ (Syntax.int Syntax.w64 0) (List._∷_ (Syntax.copy (Syntax.place 7 List.[])) List.[]))) (Syntax.place 15 List.[])
+b10 = Syntax.call "reading::read" (List._∷_ (Syntax.copy (Syntax.place 1 List.[])) (List._∷_ (Syntax.copy (Syntax.place 11 List.[])) (List._∷_ (Syntax.copy (Syntax.place 13 List.[])) (List._∷_ (Syntax.copy (Syntax.place 15 List.[])) List.[])))) (Syntax.place 6 List.[])
 
 abbrev b11 : Syntax.Body
-b11 = Syntax.seq b9 b10
+b11 = Syntax.assign (Syntax.place 7 List.[]) (Syntax.rvOpd (Syntax.copy (Syntax.place 6 (List._∷_ (Syntax.variant 1) (List._∷_ (Syntax.field 1) List.[])))))
 
 abbrev b12 : Syntax.Body
-b12 = Syntax.seq b8 b11
+b12 = Syntax.assign (Syntax.place 17 List.[]) (Syntax.addrOf (Syntax.place 2 (List._∷_ (Syntax.field 0) (List._∷_ (Syntax.deref (Syntax.tyInt Syntax.w8)) List.[]))))
 
 abbrev b13 : Syntax.Body
-b13 = Syntax.seq b7 b12
+b13 = Syntax.assign (Syntax.place 18 List.[]) (Syntax.aggregate (List._∷_ (Syntax.copy (Syntax.place 17 List.[])) (List._∷_ (Syntax.copy (Syntax.place 2 (List._∷_ (Syntax.field 1) List.[]))) List.[])))
 
 abbrev b14 : Syntax.Body
-b14 = Syntax.assign (Syntax.place 8 List.[]) (Syntax.rvOpd (Syntax.copy (Syntax.place 6 (List._∷_ (Syntax.variant 0) (List._∷_ (Syntax.field 1) List.[])))))
+b14 = Syntax.call "listing_text::internal::put_refusal" (List._∷_ (Syntax.copy (Syntax.place 18 List.[])) (List._∷_ (Syntax.int Syntax.w64 0) (List._∷_ (Syntax.copy (Syntax.place 7 List.[])) List.[]))) (Syntax.place 16 List.[])
 
 abbrev b15 : Syntax.Body
-b15 = Syntax.assign (Syntax.place 18 List.[]) (Syntax.addrOf (Syntax.place 2 (List._∷_ (Syntax.field 0) (List._∷_ (Syntax.deref (Memory.lone (T.the-row .mir))) List.[]))))
+b15 = Syntax.seq b13 b14
 
 abbrev b16 : Syntax.Body
-b16 = Syntax.assign (Syntax.place 19 List.[]) (Syntax.aggregate (List._∷_ (Syntax.copy (Syntax.place 18 List.[])) (List._∷_ (Syntax.copy (Syntax.place 2 (List._∷_ (Syntax.field 1) List.[]))) List.[])))
+b16 = Syntax.seq b12 b15
 
 abbrev b17 : Syntax.Body
-b17 = Syntax.assign (Syntax.place 20 List.[]) (Syntax.addrOf (Syntax.place 3 (List._∷_ (Syntax.field 0) (List._∷_ (Syntax.deref (Syntax.tyInt Syntax.w16)) List.[]))))
+b17 = Syntax.seq b11 b16
 
 abbrev b18 : Syntax.Body
-b18 = Syntax.assign (Syntax.place 21 List.[]) (Syntax.aggregate (List._∷_ (Syntax.copy (Syntax.place 20 List.[])) (List._∷_ (Syntax.copy (Syntax.place 3 (List._∷_ (Syntax.field 1) List.[]))) List.[])))
+b18 = Syntax.assign (Syntax.place 8 List.[]) (Syntax.rvOpd (Syntax.copy (Syntax.place 6 (List._∷_ (Syntax.variant 0) (List._∷_ (Syntax.field 1) List.[])))))
 
 abbrev b19 : Syntax.Body
-b19 = Syntax.assign (Syntax.place 22 List.[]) (Syntax.addrOf (Syntax.place 4 (List._∷_ (Syntax.field 0) (List._∷_ (Syntax.deref (Syntax.tyInt Syntax.w16)) List.[]))))
+b19 = Syntax.assign (Syntax.place 19 List.[]) (Syntax.addrOf (Syntax.place 3 List.[]))
 
 abbrev b20 : Syntax.Body
-b20 = Syntax.assign (Syntax.place 23 List.[]) (Syntax.aggregate (List._∷_ (Syntax.copy (Syntax.place 22 List.[])) (List._∷_ (Syntax.copy (Syntax.place 4 (List._∷_ (Syntax.field 1) List.[]))) List.[])))
+b20 = Syntax.assign (Syntax.place 20 List.[]) (Syntax.aggregate (List._∷_ (Syntax.copy (Syntax.place 19 List.[])) (List._∷_ (Syntax.intBig Syntax.w64 1024) List.[])))
 
 abbrev b21 : Syntax.Body
-b21 = Syntax.assign (Syntax.place 24 List.[]) (Syntax.addrOf (Syntax.place 5 (List._∷_ (Syntax.field 0) (List._∷_ (Syntax.deref (Syntax.tyInt Syntax.w8)) List.[]))))
+b21 = Syntax.assign (Syntax.place 21 List.[]) (Syntax.addrOf (Syntax.place 4 List.[]))
 
 abbrev b22 : Syntax.Body
-b22 = Syntax.assign (Syntax.place 25 List.[]) (Syntax.aggregate (List._∷_ (Syntax.copy (Syntax.place 24 List.[])) (List._∷_ (Syntax.copy (Syntax.place 5 (List._∷_ (Syntax.field 1) List.[]))) List.[])))
+b22 = Syntax.assign (Syntax.place 22 List.[]) (Syntax.aggregate (List._∷_ (Syntax.copy (Syntax.place 21 List.[])) (List._∷_ (Syntax.intBig Syntax.w64 4096) List.[])))
 
 abbrev b23 : Syntax.Body
-b23 = Syntax.call "listing::plan::list_plan" (List._∷_ (Syntax.copy (Syntax.place 8 List.[])) (List._∷_ (Syntax.copy (Syntax.place 19 List.[])) (List._∷_ (Syntax.copy (Syntax.place 21 List.[])) (List._∷_ (Syntax.copy (Syntax.place 23 List.[])) (List._∷_ (Syntax.copy (Syntax.place 25 List.[])) List.[]))))) (Syntax.place 15 List.[])
+b23 = Syntax.assign (Syntax.place 23 List.[]) (Syntax.addrOf (Syntax.place 5 List.[]))
 
 abbrev b24 : Syntax.Body
-b24 = Syntax.seq b22 b23
+b24 = Syntax.assign (Syntax.place 24 List.[]) (Syntax.aggregate (List._∷_ (Syntax.copy (Syntax.place 23 List.[])) (List._∷_ (Syntax.intBig Syntax.w64 16384) List.[])))
 
 abbrev b25 : Syntax.Body
-b25 = Syntax.seq b21 b24
+b25 = Syntax.assign (Syntax.place 25 List.[]) (Syntax.addrOf (Syntax.place 2 (List._∷_ (Syntax.field 0) (List._∷_ (Syntax.deref (Syntax.tyInt Syntax.w8)) List.[]))))
 
 abbrev b26 : Syntax.Body
-b26 = Syntax.seq b20 b25
+b26 = Syntax.assign (Syntax.place 26 List.[]) (Syntax.aggregate (List._∷_ (Syntax.copy (Syntax.place 25 List.[])) (List._∷_ (Syntax.copy (Syntax.place 2 (List._∷_ (Syntax.field 1) List.[]))) List.[])))
 
 abbrev b27 : Syntax.Body
-b27 = Syntax.seq b19 b26
+b27 = Syntax.call "listing::plan::list_plan" (List._∷_ (Syntax.copy (Syntax.place 8 List.[])) (List._∷_ (Syntax.copy (Syntax.place 20 List.[])) (List._∷_ (Syntax.copy (Syntax.place 22 List.[])) (List._∷_ (Syntax.copy (Syntax.place 24 List.[])) (List._∷_ (Syntax.copy (Syntax.place 26 List.[])) List.[]))))) (Syntax.place 16 List.[])
 
 abbrev b28 : Syntax.Body
-b28 = Syntax.seq b18 b27
+b28 = Syntax.seq b26 b27
 
 abbrev b29 : Syntax.Body
-b29 = Syntax.seq b17 b28
+b29 = Syntax.seq b25 b28
 
 abbrev b30 : Syntax.Body
-b30 = Syntax.seq b16 b29
+b30 = Syntax.seq b24 b29
 
 abbrev b31 : Syntax.Body
-b31 = Syntax.seq b15 b30
+b31 = Syntax.seq b23 b30
 
 abbrev b32 : Syntax.Body
-b32 = Syntax.seq b14 b31
+b32 = Syntax.seq b22 b31
 
 abbrev b33 : Syntax.Body
-b33 = Syntax.switch (Syntax.copy (Syntax.place 6 (List._∷_ (Syntax.variant 0) (List._∷_ (Syntax.field 0) List.[])))) (Syntax.arm (List._∷_ 1 List.[]) b13 (Syntax.arm (List._∷_ 0 List.[]) b32 Syntax.noDefault))
+b33 = Syntax.seq b21 b32
 
 abbrev b34 : Syntax.Body
-b34 = Syntax.assign (Syntax.place 0 List.[]) (Syntax.rvOpd (Syntax.copy (Syntax.place 15 List.[])))
+b34 = Syntax.seq b20 b33
 
 abbrev b35 : Syntax.Body
-b35 = Syntax.return
+b35 = Syntax.seq b19 b34
 
 abbrev b36 : Syntax.Body
-b36 = Syntax.seq b34 b35
+b36 = Syntax.seq b18 b35
 
 abbrev b37 : Syntax.Body
-b37 = Syntax.seq b33 b36
+b37 = Syntax.switch (Syntax.copy (Syntax.place 6 (List._∷_ (Syntax.variant 0) (List._∷_ (Syntax.field 0) List.[])))) (Syntax.arm (List._∷_ 1 List.[]) b17 (Syntax.arm (List._∷_ 0 List.[]) b36 Syntax.noDefault))
 
 abbrev b38 : Syntax.Body
-b38 = Syntax.seq b6 b37
+b38 = Syntax.assign (Syntax.place 0 List.[]) (Syntax.rvOpd (Syntax.copy (Syntax.place 16 List.[])))
 
 abbrev b39 : Syntax.Body
-b39 = Syntax.seq b5 b38
+b39 = Syntax.return
 
 abbrev b40 : Syntax.Body
-b40 = Syntax.seq b4 b39
+b40 = Syntax.seq b38 b39
 
 abbrev b41 : Syntax.Body
-b41 = Syntax.seq b3 b40
+b41 = Syntax.seq b37 b40
 
 abbrev b42 : Syntax.Body
-b42 = Syntax.seq b2 b41
+b42 = Syntax.seq b10 b41
 
 abbrev b43 : Syntax.Body
-b43 = Syntax.seq b1 b42
+b43 = Syntax.seq b9 b42
 
 abbrev b44 : Syntax.Body
-b44 = Syntax.seq b0 b43
+b44 = Syntax.seq b8 b43
+
+abbrev b45 : Syntax.Body
+b45 = Syntax.seq b7 b44
+
+abbrev b46 : Syntax.Body
+b46 = Syntax.seq b6 b45
+
+abbrev b47 : Syntax.Body
+b47 = Syntax.seq b5 b46
+
+abbrev b48 : Syntax.Body
+b48 = Syntax.seq b4 b47
+
+abbrev b49 : Syntax.Body
+b49 = Syntax.seq b3 b48
+
+abbrev b50 : Syntax.Body
+b50 = Syntax.seq b2 b49
+
+abbrev b51 : Syntax.Body
+b51 = Syntax.seq b1 b50
+
+abbrev b52 : Syntax.Body
+b52 = Syntax.seq b0 b51
 
 abbrev pub body : Syntax.Body
-body = b44
+body = b52
 
 abbrev pub Claims : Type 1
 Claims = Kinds.In 4 ps·0 × Kinds.Out 4 ps·0 r·0 × Kinds.In 1 ps·1 × Kinds.Out 1 ps·1 r·1 × Kinds.In 4 ps·2 × Kinds.Out 4 ps·2 r·2
 
 abbrev pub t0 : List.List Row.Entry
-t0 = List._∷_ (0, Rows.any-gone (Syntax.tyInt Syntax.w64)) (List._∷_ (1, Rows.sslice (Referent.rtF (Referent.fInt Syntax.w8)) ty·3 0) (List._∷_ (2, Mut.mslice T.the-row ty·9 1) (List._∷_ (3, Mut.mslice (Referent.rtF (Referent.fInt Syntax.w16)) ty·5 2) (List._∷_ (4, Mut.mslice (Referent.rtF (Referent.fInt Syntax.w16)) ty·6 3) (List._∷_ (5, Mut.mslice (Referent.rtF (Referent.fInt Syntax.w8)) ty·4 4) (List._∷_ (6, Rows.any-gone ty·17) (List._∷_ (7, Rows.any-gone ty·16) (List._∷_ (8, Rows.any-gone ty·15) (List._∷_ (9, Rows.any-gone ty·7) (List._∷_ (10, Rows.any-gone ty·13) (List._∷_ (11, Rows.any-gone ty·1) (List._∷_ (12, Rows.any-gone ty·11) (List._∷_ (13, Rows.any-gone ty·1) (List._∷_ (14, Rows.any-gone ty·11) (List._∷_ (15, Rows.any-gone (Syntax.tyInt Syntax.w64)) List.[])))))))))))))))
+t0 = List._∷_ (0, Rows'.any-gone (Syntax.tyInt Syntax.w64)) (List._∷_ (1, Rows'.sslice (Referent.rtF (Referent.fInt Syntax.w8)) ty·7 0) (List._∷_ (2, Mut.mslice (Referent.rtF (Referent.fInt Syntax.w8)) ty·8 1) (List._∷_ (3, Rows'.any-gone ty·2) (List._∷_ (4, Rows'.any-gone ty·0) (List._∷_ (5, Rows'.any-gone ty·1) (List._∷_ (6, Rows'.any-gone ty·24) (List._∷_ (7, Rows'.any-gone ty·23) (List._∷_ (8, Rows'.any-gone ty·22) (List._∷_ (9, Rows'.any-gone (Memory.lone (T.the-row .mir))) (List._∷_ (10, Rows'.any-gone ty·15) (List._∷_ (11, Rows'.any-gone ty·20) (List._∷_ (12, Rows'.any-gone ty·11) (List._∷_ (13, Rows'.any-gone ty·18) (List._∷_ (14, Rows'.any-gone ty·13) (List._∷_ (15, Rows'.any-gone ty·18) List.[])))))))))))))))
 
 abbrev pub t1 : List.List Row.Entry
-t1 = List._∷_ (16, Rows.any-gone ty·0) (List._∷_ (17, Rows.any-gone ty·10) (List._∷_ (18, Rows.any-gone ty·8) (List._∷_ (19, Rows.any-gone ty·14) (List._∷_ (20, Rows.any-gone ty·2) (List._∷_ (21, Rows.any-gone ty·12) (List._∷_ (22, Rows.any-gone ty·2) (List._∷_ (23, Rows.any-gone ty·12) (List._∷_ (24, Rows.any-gone ty·0) (List._∷_ (25, Rows.any-gone ty·10) List.[])))))))))
+t1 = List._∷_ (16, Rows'.any-gone (Syntax.tyInt Syntax.w64)) (List._∷_ (17, Rows'.any-gone ty·4) (List._∷_ (18, Rows'.any-gone ty·17) (List._∷_ (19, Rows'.any-gone ty·16) (List._∷_ (20, Rows'.any-gone ty·21) (List._∷_ (21, Rows'.any-gone ty·12) (List._∷_ (22, Rows'.any-gone ty·19) (List._∷_ (23, Rows'.any-gone ty·14) (List._∷_ (24, Rows'.any-gone ty·19) (List._∷_ (25, Rows'.any-gone ty·4) (List._∷_ (26, Rows'.any-gone ty·17) List.[]))))))))))
 
 abbrev pub t2 : List.List Row.Entry
-t2 = Row.setRow 0 (0, Rows.sc-here (Row.sInt Syntax.w64)) t0
+t2 = Row.setRow 0 (0, Rows'.sc-here (Row.sInt Syntax.w64)) t0
 
 abbrev pub t3 : List.List Row.Entry
-t3 = Row.setRow 9 (9, Relend.msptr T.the-row ty·7 5) (Row.setRow 2 (2, Relend.mslice-owed T.the-row ty·9 1 5 Row.off) t0)
+t3 = Row.setRow 9 (9, Rows'.whole (Declared'.row (Apart.apartT T.the-type))) t0
 
 abbrev pub t4 : List.List Row.Entry
-t4 = Row.setRow 10 (10, Mut.mslice T.the-row ty·7 5) (Row.setRow 9 (9, Rows.any-gone ty·7) t3)
+t4 = Row.setRow 9 (9, Rows'.whole (Declared'.row T.the-type)) t0
 
 abbrev pub t5 : List.List Row.Entry
-t5 = Row.setRow 11 (11, Relend.msptr (Referent.rtF (Referent.fInt Syntax.w16)) ty·1 6) (Row.setRow 3 (3, Relend.mslice-owed (Referent.rtF (Referent.fInt Syntax.w16)) ty·5 2 6 Row.off) t4)
+t5 = Row.setRow 3 (3, Rows'.whole (Array'.Array T.the-row 1024)) t4
 
 abbrev pub t6 : List.List Row.Entry
-t6 = Row.setRow 12 (12, Mut.mslice (Referent.rtF (Referent.fInt Syntax.w16)) ty·1 6) (Row.setRow 11 (11, Rows.any-gone ty·1) t5)
+t6 = Row.setRow 3 (3, Rows.arrF T.the-row 1024 0) t4
 
 abbrev pub t7 : List.List Row.Entry
-t7 = Row.setRow 13 (13, Relend.msptr (Referent.rtF (Referent.fInt Syntax.w16)) ty·1 7) (Row.setRow 4 (4, Relend.mslice-owed (Referent.rtF (Referent.fInt Syntax.w16)) ty·6 3 7 Row.off) t6)
+t7 = Row.setRow 3 (3, Rows.arrF T.the-row 1024 0) t0
 
 abbrev pub t8 : List.List Row.Entry
-t8 = Row.setRow 14 (14, Mut.mslice (Referent.rtF (Referent.fInt Syntax.w16)) ty·1 7) (Row.setRow 13 (13, Rows.any-gone ty·1) t7)
+t8 = Row.setRow 4 (4, Rows'.whole (Array'.Array (Referent.rtF (Referent.fInt Syntax.w16)) 4096)) t7
 
 abbrev pub t9 : List.List Row.Entry
-t9 = Row.setRow 14 (14, Mut.msleft (Referent.rtF (Referent.fInt Syntax.w16)) ty·1) (Row.setRow 12 (12, Mut.msleft (Referent.rtF (Referent.fInt Syntax.w16)) ty·1) (Row.setRow 10 (10, Mut.msleft T.the-row ty·7) (Row.setRow 6 (6, Rows.whole (Declared.row ReadAnswer.the-type)) t8)))
+t9 = Row.setRow 4 (4, Rows.arrF (Referent.rtF (Referent.fInt Syntax.w16)) 4096 0) t7
 
 abbrev pub t10 : List.List Row.Entry
-t10 = Row.setRow 15 (15, Rows.sc-here (Row.sInt Syntax.w64)) t0
+t10 = Row.setRow 5 (5, Rows'.whole (Array'.Array (Referent.rtF (Referent.fInt Syntax.w16)) 16384)) t9
 
 abbrev pub t11 : List.List Row.Entry
-t11 = Row.setRow 10 (10, Rows.any-gone ty·13) (Row.setRow 2 (2, Mut.mslice T.the-row ty·9 1) t9)
+t11 = Row.setRow 5 (5, Rows.arrF (Referent.rtF (Referent.fInt Syntax.w16)) 16384 0) t9
 
 abbrev pub t12 : List.List Row.Entry
-t12 = Row.setRow 14 (14, Mut.msleft (Referent.rtF (Referent.fInt Syntax.w16)) ty·1) (Row.setRow 6 (6, Rows.whole (Declared.row ReadAnswer.the-type)) (Row.setRow 4 (4, Relend.mslice-owed (Referent.rtF (Referent.fInt Syntax.w16)) ty·6 3 7 Row.off) t0))
+t12 = Row.setRow 10 (10, Relend.msptr T.the-row ty·15 2) (Row.setRow 3 (3, Rows.arr-owed T.the-row 1024 2) t11)
 
 abbrev pub t13 : List.List Row.Entry
-t13 = Row.setRow 6 (6, Rows.whole (Declared.row ReadAnswer.the-type)) t0
+t13 = Row.setRow 11 (11, Mut.mslice T.the-row ty·9 2) (Row.setRow 3 (3, Rows.arr-owed T.the-row 1024 2) t11)
 
 abbrev pub t14 : List.List Row.Entry
-t14 = Row.setRow 6 (6, Rows.whole (Known.Known ReadAnswer.enum 1)) t0
+t14 = Row.setRow 12 (12, Relend.msptr (Referent.rtF (Referent.fInt Syntax.w16)) ty·11 3) (Row.setRow 4 (4, Rows.arr-owed (Referent.rtF (Referent.fInt Syntax.w16)) 4096 3) t13)
 
 abbrev pub t15 : List.List Row.Entry
-t15 = Row.setRow 7 (7, Rows.whole (Declared.row Refusal.the-type)) t14
+t15 = Row.setRow 13 (13, Mut.mslice (Referent.rtF (Referent.fInt Syntax.w16)) ty·5 3) (Row.setRow 4 (4, Rows.arr-owed (Referent.rtF (Referent.fInt Syntax.w16)) 4096 3) t13)
 
 abbrev pub t16 : List.List Row.Entry
-t16 = Row.setRow 7 (7, Rows.whole (Declared.row Refusal.the-type)) t0
+t16 = Row.setRow 14 (14, Relend.msptr (Referent.rtF (Referent.fInt Syntax.w16)) ty·13 4) (Row.setRow 5 (5, Rows.arr-owed (Referent.rtF (Referent.fInt Syntax.w16)) 16384 4) t15)
 
 abbrev pub t17 : List.List Row.Entry
-t17 = Row.setRow 5 (5, Relend.mslice-owed (Referent.rtF (Referent.fInt Syntax.w8)) ty·4 4 8 Row.off) t16
+t17 = Row.setRow 15 (15, Mut.mslice (Referent.rtF (Referent.fInt Syntax.w16)) ty·5 4) (Row.setRow 5 (5, Rows.arr-owed (Referent.rtF (Referent.fInt Syntax.w16)) 16384 4) t15)
 
 abbrev pub t18 : List.List Row.Entry
-t18 = Row.setRow 0 (16, Relend.msptr (Referent.rtF (Referent.fInt Syntax.w8)) ty·0 8) t1
+t18 = Row.setRow 15 (15, Mut.msleft (Referent.rtF (Referent.fInt Syntax.w16)) ty·5) (Row.setRow 13 (13, Mut.msleft (Referent.rtF (Referent.fInt Syntax.w16)) ty·5) (Row.setRow 11 (11, Mut.msleft T.the-row ty·9) (Row.setRow 6 (6, Rows'.whole (Declared.row ReadAnswer.the-type)) t17)))
 
 abbrev pub t19 : List.List Row.Entry
-t19 = Row.setRow 1 (17, Mut.mslice (Referent.rtF (Referent.fInt Syntax.w8)) ty·0 8) t1
+t19 = Row.setRow 0 (16, Rows'.sc-here (Row.sInt Syntax.w64)) t1
 
 abbrev pub t20 : List.List Row.Entry
-t20 = Row.setRow 15 (15, Rows.sc-here (Row.sInt Syntax.w64)) t17
+t20 = Row.setRow 11 (11, Rows'.any-gone ty·20) (Row.setRow 3 (3, Rows.arrF T.the-row 1024 0) t18)
 
 abbrev pub t21 : List.List Row.Entry
-t21 = Row.setRow 1 (17, Mut.msleft (Referent.rtF (Referent.fInt Syntax.w8)) ty·0) t1
+t21 = Row.setRow 15 (15, Mut.msleft (Referent.rtF (Referent.fInt Syntax.w16)) ty·5) (Row.setRow 6 (6, Rows'.whole (Declared.row ReadAnswer.the-type)) (Row.setRow 5 (5, Rows.arr-owed (Referent.rtF (Referent.fInt Syntax.w16)) 16384 4) t9))
 
 abbrev pub t22 : List.List Row.Entry
-t22 = Row.setRow 5 (5, Relend.mslice-owed (Referent.rtF (Referent.fInt Syntax.w8)) ty·4 4 8 Row.off) t10
+t22 = Row.setRow 6 (6, Rows'.whole (Declared.row ReadAnswer.the-type)) t11
 
 abbrev pub t23 : List.List Row.Entry
-t23 = Row.setRow 6 (6, Rows.whole (Known.Known ReadAnswer.enum 0)) t0
+t23 = Row.setRow 6 (6, Rows'.whole (Known.Known ReadAnswer.enum 1)) t11
 
 abbrev pub t24 : List.List Row.Entry
-t24 = Row.setRow 8 (8, Rows.whole (Declared'.row Size.the-type)) t23
+t24 = Row.setRow 3 (3, Rows'.any-gone ty·2) t23
 
 abbrev pub t25 : List.List Row.Entry
-t25 = Row.setRow 8 (8, Rows.whole (Declared'.row Size.the-type)) t0
+t25 = Row.setRow 4 (4, Rows'.any-gone ty·0) t24
 
 abbrev pub t26 : List.List Row.Entry
-t26 = Row.setRow 2 (2, Reshare.mslice-owedS T.the-row ty·9 1 9 Row.off) t25
+t26 = Row.setRow 6 (6, Rows'.whole (Known.Known ReadAnswer.enum 1)) t0
 
 abbrev pub t27 : List.List Row.Entry
-t27 = Row.setRow 2 (18, Relend.ssptr T.the-row ty·8 9) t1
+t27 = Row.setRow 7 (7, Rows'.whole (Declared.row Refusal.the-type)) t26
 
 abbrev pub t28 : List.List Row.Entry
-t28 = Row.setRow 3 (19, Rows.sslice T.the-row ty·8 9) t1
+t28 = Row.setRow 7 (7, Rows'.whole (Declared.row Refusal.the-type)) t0
 
 abbrev pub t29 : List.List Row.Entry
-t29 = Row.setRow 3 (3, Reshare.mslice-owedS (Referent.rtF (Referent.fInt Syntax.w16)) ty·5 2 10 Row.off) t26
+t29 = Row.setRow 2 (2, Relend.mslice-owed (Referent.rtF (Referent.fInt Syntax.w8)) ty·8 1 5 Row.off) t28
 
 abbrev pub t30 : List.List Row.Entry
-t30 = Row.setRow 4 (20, Relend.ssptr (Referent.rtF (Referent.fInt Syntax.w16)) ty·2 10) t28
+t30 = Row.setRow 1 (17, Relend.msptr (Referent.rtF (Referent.fInt Syntax.w8)) ty·4 5) t1
 
 abbrev pub t31 : List.List Row.Entry
-t31 = Row.setRow 5 (21, Rows.sslice (Referent.rtF (Referent.fInt Syntax.w16)) ty·2 10) t28
+t31 = Row.setRow 2 (18, Mut.mslice (Referent.rtF (Referent.fInt Syntax.w8)) ty·4 5) t1
 
 abbrev pub t32 : List.List Row.Entry
-t32 = Row.setRow 4 (4, Reshare.mslice-owedS (Referent.rtF (Referent.fInt Syntax.w16)) ty·6 3 11 Row.off) t29
+t32 = Row.setRow 2 (18, Mut.msleft (Referent.rtF (Referent.fInt Syntax.w8)) ty·4) t19
 
 abbrev pub t33 : List.List Row.Entry
-t33 = Row.setRow 6 (22, Relend.ssptr (Referent.rtF (Referent.fInt Syntax.w16)) ty·2 11) t31
+t33 = Row.setRow 2 (2, Relend.mslice-owed (Referent.rtF (Referent.fInt Syntax.w8)) ty·8 1 5 Row.off) t0
 
 abbrev pub t34 : List.List Row.Entry
-t34 = Row.setRow 7 (23, Rows.sslice (Referent.rtF (Referent.fInt Syntax.w16)) ty·2 11) t31
+t34 = Row.setRow 6 (6, Rows'.whole (Known.Known ReadAnswer.enum 0)) t11
 
 abbrev pub t35 : List.List Row.Entry
-t35 = Row.setRow 5 (5, Relend.mslice-owed (Referent.rtF (Referent.fInt Syntax.w8)) ty·4 4 12 Row.off) t32
+t35 = Row.setRow 8 (8, Rows'.whole (Declared'.row Size.the-type)) t34
 
 abbrev pub t36 : List.List Row.Entry
-t36 = Row.setRow 8 (24, Relend.msptr (Referent.rtF (Referent.fInt Syntax.w8)) ty·0 12) t34
+t36 = Row.setRow 8 (8, Rows'.whole (Declared'.row Size.the-type)) t11
 
 abbrev pub t37 : List.List Row.Entry
-t37 = Row.setRow 9 (25, Mut.mslice (Referent.rtF (Referent.fInt Syntax.w8)) ty·0 12) t34
+t37 = Row.setRow 3 (3, Rows.arr-shr T.the-row 1024 6) t36
 
 abbrev pub t38 : List.List Row.Entry
-t38 = Row.setRow 15 (15, Rows.sc-here (Row.sInt Syntax.w64)) t35
+t38 = Row.setRow 3 (19, Relend.ssptr T.the-row ty·16 6) t1
 
 abbrev pub t39 : List.List Row.Entry
-t39 = Row.setRow 9 (25, Mut.msleft (Referent.rtF (Referent.fInt Syntax.w8)) ty·0) t34
+t39 = Row.setRow 4 (20, Rows'.sslice T.the-row ty·10 6) t1
 
 abbrev pub t40 : List.List Row.Entry
-t40 = Row.setRow 3 (19, Rows.any-gone ty·14) t39
+t40 = Row.setRow 4 (4, Rows.arr-shr (Referent.rtF (Referent.fInt Syntax.w16)) 4096 7) t37
 
 abbrev pub t41 : List.List Row.Entry
-t41 = Row.setRow 5 (21, Rows.any-gone ty·12) t40
+t41 = Row.setRow 5 (21, Relend.ssptr (Referent.rtF (Referent.fInt Syntax.w16)) ty·12 7) t39
 
 abbrev pub t42 : List.List Row.Entry
-t42 = Row.setRow 9 (25, Mut.msleft (Referent.rtF (Referent.fInt Syntax.w8)) ty·0) t1
+t42 = Row.setRow 6 (22, Rows'.sslice (Referent.rtF (Referent.fInt Syntax.w16)) ty·6 7) t39
 
 abbrev pub t43 : List.List Row.Entry
-t43 = Row.setRow 8 (8, Rows.any-gone ty·15) t38
+t43 = Row.setRow 5 (5, Rows.arr-shr (Referent.rtF (Referent.fInt Syntax.w16)) 16384 8) t40
 
 abbrev pub t44 : List.List Row.Entry
-t44 = Row.setRow 2 (2, Mut.mslice T.the-row ty·9 1) t43
+t44 = Row.setRow 7 (23, Relend.ssptr (Referent.rtF (Referent.fInt Syntax.w16)) ty·14 8) t42
 
 abbrev pub t45 : List.List Row.Entry
-t45 = Row.setRow 3 (3, Mut.mslice (Referent.rtF (Referent.fInt Syntax.w16)) ty·5 2) t44
+t45 = Row.setRow 8 (24, Rows'.sslice (Referent.rtF (Referent.fInt Syntax.w16)) ty·6 8) t42
 
 abbrev pub t46 : List.List Row.Entry
-t46 = Row.setRow 4 (4, Mut.mslice (Referent.rtF (Referent.fInt Syntax.w16)) ty·6 3) t45
+t46 = Row.setRow 2 (2, Relend.mslice-owed (Referent.rtF (Referent.fInt Syntax.w8)) ty·8 1 9 Row.off) t43
 
 abbrev pub t47 : List.List Row.Entry
-t47 = Row.setRow 0 (0, Rows.sc-here (Row.sInt Syntax.w64)) t10
+t47 = Row.setRow 9 (25, Relend.msptr (Referent.rtF (Referent.fInt Syntax.w8)) ty·4 9) t45
+
+abbrev pub t48 : List.List Row.Entry
+t48 = Row.setRow 10 (26, Mut.mslice (Referent.rtF (Referent.fInt Syntax.w8)) ty·4 9) t45
+
+abbrev pub t49 : List.List Row.Entry
+t49 = Row.setRow 10 (26, Mut.msleft (Referent.rtF (Referent.fInt Syntax.w8)) ty·4) (Row.setRow 0 (16, Rows'.sc-here (Row.sInt Syntax.w64)) t45)
+
+abbrev pub t50 : List.List Row.Entry
+t50 = Row.setRow 4 (20, Rows'.any-gone ty·21) t49
+
+abbrev pub t51 : List.List Row.Entry
+t51 = Row.setRow 6 (22, Rows'.any-gone ty·19) t50
+
+abbrev pub t52 : List.List Row.Entry
+t52 = Row.setRow 10 (26, Mut.msleft (Referent.rtF (Referent.fInt Syntax.w8)) ty·4) t19
+
+abbrev pub t53 : List.List Row.Entry
+t53 = Row.setRow 5 (5, Rows.arr-shr (Referent.rtF (Referent.fInt Syntax.w16)) 16384 8) (Row.setRow 4 (4, Rows.arr-shr (Referent.rtF (Referent.fInt Syntax.w16)) 4096 7) (Row.setRow 3 (3, Rows.arr-shr T.the-row 1024 6) (Row.setRow 2 (2, Relend.mslice-owed (Referent.rtF (Referent.fInt Syntax.w8)) ty·8 1 9 Row.off) t0)))
+
+abbrev pub t54 : List.List Row.Entry
+t54 = Row.setRow 3 (3, Rows.arrF T.the-row 1024 0) t53
+
+abbrev pub t55 : List.List Row.Entry
+t55 = Row.setRow 3 (3, Rows'.any-gone ty·2) t53
+
+abbrev pub t56 : List.List Row.Entry
+t56 = Row.setRow 4 (4, Rows.arrF (Referent.rtF (Referent.fInt Syntax.w16)) 4096 0) t55
+
+abbrev pub t57 : List.List Row.Entry
+t57 = Row.setRow 4 (4, Rows'.any-gone ty·0) t55
+
+abbrev pub t58 : List.List Row.Entry
+t58 = Row.setRow 5 (5, Rows.arrF (Referent.rtF (Referent.fInt Syntax.w16)) 16384 0) t57
+
+abbrev pub t59 : List.List Row.Entry
+t59 = Row.setRow 5 (5, Rows'.any-gone ty·1) t57
 
 abbrev pub T0 : Row.Cx
 T0 = record { locals = List._++_ t0 t1; slots = List.[] }
@@ -446,1453 +540,1566 @@ abbrev pub T3 : Row.Cx
 T3 = record { locals = List._++_ t0 t1; slots = List.[] }
 
 abbrev pub T4 : Row.Cx
-T4 = record { locals = List._++_ t0 t1; slots = List.[] }
+T4 = record { locals = List._++_ t3 t1; slots = List.[] }
 
 abbrev pub T5 : Row.Cx
-T5 = record { locals = List._++_ t0 t1; slots = List.[] }
+T5 = record { locals = List._++_ t4 t1; slots = List.[] }
+
+abbrev pub T6 : Row.Cx
+T6 = record { locals = List._++_ t5 t1; slots = List.[] }
 
 abbrev pub T7 : Row.Cx
-T7 = record { locals = List._++_ t3 t1; slots = List.[] }
+T7 = record { locals = List._++_ t6 t1; slots = List.[] }
 
 abbrev pub T8 : Row.Cx
-T8 = record { locals = List._++_ t4 t1; slots = List.[] }
+T8 = record { locals = List._++_ t7 t1; slots = List.[] }
+
+abbrev pub T9 : Row.Cx
+T9 = record { locals = List._++_ t8 t1; slots = List.[] }
 
 abbrev pub T10 : Row.Cx
-T10 = record { locals = List._++_ t5 t1; slots = List.[] }
+T10 = record { locals = List._++_ t9 t1; slots = List.[] }
 
 abbrev pub T11 : Row.Cx
-T11 = record { locals = List._++_ t6 t1; slots = List.[] }
+T11 = record { locals = List._++_ t10 t1; slots = List.[] }
 
-abbrev pub T13 : Row.Cx
-T13 = record { locals = List._++_ t7 t1; slots = List.[] }
+abbrev pub T12 : Row.Cx
+T12 = record { locals = List._++_ t11 t1; slots = List.[] }
 
 abbrev pub T14 : Row.Cx
-T14 = record { locals = List._++_ t8 t1; slots = List.[] }
+T14 = record { locals = List._++_ t12 t1; slots = List.[] }
 
 abbrev pub T15 : Row.Cx
-T15 = record { locals = List._++_ t9 t1; slots = List.[] }
+T15 = record { locals = List._++_ t13 t1; slots = List.[] }
 
-abbrev pub T16 : Row.Cx
-T16 = record { locals = List._++_ t10 t1; slots = List.[] }
+abbrev pub T17 : Row.Cx
+T17 = record { locals = List._++_ t14 t1; slots = List.[] }
 
 abbrev pub T18 : Row.Cx
-T18 = record { locals = List._++_ t11 t1; slots = List.[] }
+T18 = record { locals = List._++_ t15 t1; slots = List.[] }
+
+abbrev pub T20 : Row.Cx
+T20 = record { locals = List._++_ t16 t1; slots = List.[] }
 
 abbrev pub T21 : Row.Cx
-T21 = record { locals = List._++_ t12 t1; slots = List.[] }
+T21 = record { locals = List._++_ t17 t1; slots = List.[] }
 
 abbrev pub T22 : Row.Cx
-T22 = record { locals = List._++_ t12 t1; slots = List.[] }
+T22 = record { locals = List._++_ t18 t1; slots = List.[] }
+
+abbrev pub T23 : Row.Cx
+T23 = record { locals = List._++_ t0 t19; slots = List.[] }
 
 abbrev pub T25 : Row.Cx
-T25 = record { locals = List._++_ t13 t1; slots = List.[] }
-
-abbrev pub T26 : Row.Cx
-T26 = record { locals = List._++_ t13 t1; slots = List.[] }
+T25 = record { locals = List._++_ t20 t1; slots = List.[] }
 
 abbrev pub T28 : Row.Cx
-T28 = record { locals = List._++_ t14 t1; slots = List.[] }
-
-abbrev pub T29 : Row.Cx
-T29 = record { locals = List._++_ t14 t1; slots = List.[] }
-
-abbrev pub T30 : Row.Cx
-T30 = record { locals = List._++_ t15 t1; slots = List.[] }
+T28 = record { locals = List._++_ t21 t1; slots = List.[] }
 
 abbrev pub T31 : Row.Cx
-T31 = record { locals = List._++_ t16 t1; slots = List.[] }
+T31 = record { locals = List._++_ t22 t1; slots = List.[] }
 
 abbrev pub T33 : Row.Cx
-T33 = record { locals = List._++_ t17 t18; slots = List.[] }
+T33 = record { locals = List._++_ t23 t1; slots = List.[] }
 
 abbrev pub T34 : Row.Cx
-T34 = record { locals = List._++_ t17 t19; slots = List.[] }
+T34 = record { locals = List._++_ t23 t1; slots = List.[] }
 
 abbrev pub T35 : Row.Cx
-T35 = record { locals = List._++_ t20 t21; slots = List.[] }
+T35 = record { locals = List._++_ t24 t1; slots = List.[] }
 
 abbrev pub T36 : Row.Cx
-T36 = record { locals = List._++_ t22 t21; slots = List.[] }
+T36 = record { locals = List._++_ t25 t1; slots = List.[] }
+
+abbrev pub T37 : Row.Cx
+T37 = record { locals = List._++_ t26 t1; slots = List.[] }
 
 abbrev pub T38 : Row.Cx
-T38 = record { locals = List._++_ t10 t1; slots = List.[] }
+T38 = record { locals = List._++_ t27 t1; slots = List.[] }
 
 abbrev pub T39 : Row.Cx
-T39 = record { locals = List._++_ t10 t1; slots = List.[] }
+T39 = record { locals = List._++_ t28 t1; slots = List.[] }
 
 abbrev pub T41 : Row.Cx
-T41 = record { locals = List._++_ t23 t1; slots = List.[] }
+T41 = record { locals = List._++_ t29 t30; slots = List.[] }
 
 abbrev pub T42 : Row.Cx
-T42 = record { locals = List._++_ t23 t1; slots = List.[] }
+T42 = record { locals = List._++_ t29 t31; slots = List.[] }
 
 abbrev pub T43 : Row.Cx
-T43 = record { locals = List._++_ t24 t1; slots = List.[] }
+T43 = record { locals = List._++_ t29 t32; slots = List.[] }
 
 abbrev pub T44 : Row.Cx
-T44 = record { locals = List._++_ t25 t1; slots = List.[] }
+T44 = record { locals = List._++_ t33 t32; slots = List.[] }
 
 abbrev pub T46 : Row.Cx
-T46 = record { locals = List._++_ t26 t27; slots = List.[] }
+T46 = record { locals = List._++_ t0 t19; slots = List.[] }
 
 abbrev pub T47 : Row.Cx
-T47 = record { locals = List._++_ t26 t28; slots = List.[] }
+T47 = record { locals = List._++_ t0 t19; slots = List.[] }
 
 abbrev pub T49 : Row.Cx
-T49 = record { locals = List._++_ t29 t30; slots = List.[] }
+T49 = record { locals = List._++_ t34 t1; slots = List.[] }
 
 abbrev pub T50 : Row.Cx
-T50 = record { locals = List._++_ t29 t31; slots = List.[] }
+T50 = record { locals = List._++_ t34 t1; slots = List.[] }
+
+abbrev pub T51 : Row.Cx
+T51 = record { locals = List._++_ t35 t1; slots = List.[] }
 
 abbrev pub T52 : Row.Cx
-T52 = record { locals = List._++_ t32 t33; slots = List.[] }
+T52 = record { locals = List._++_ t36 t1; slots = List.[] }
 
-abbrev pub T53 : Row.Cx
-T53 = record { locals = List._++_ t32 t34; slots = List.[] }
+abbrev pub T54 : Row.Cx
+T54 = record { locals = List._++_ t37 t38; slots = List.[] }
 
 abbrev pub T55 : Row.Cx
-T55 = record { locals = List._++_ t35 t36; slots = List.[] }
-
-abbrev pub T56 : Row.Cx
-T56 = record { locals = List._++_ t35 t37; slots = List.[] }
+T55 = record { locals = List._++_ t37 t39; slots = List.[] }
 
 abbrev pub T57 : Row.Cx
-T57 = record { locals = List._++_ t38 t39; slots = List.[] }
+T57 = record { locals = List._++_ t40 t41; slots = List.[] }
 
 abbrev pub T58 : Row.Cx
-T58 = record { locals = List._++_ t38 t40; slots = List.[] }
-
-abbrev pub T59 : Row.Cx
-T59 = record { locals = List._++_ t38 t41; slots = List.[] }
+T58 = record { locals = List._++_ t40 t42; slots = List.[] }
 
 abbrev pub T60 : Row.Cx
-T60 = record { locals = List._++_ t38 t42; slots = List.[] }
+T60 = record { locals = List._++_ t43 t44; slots = List.[] }
 
 abbrev pub T61 : Row.Cx
-T61 = record { locals = List._++_ t43 t42; slots = List.[] }
+T61 = record { locals = List._++_ t43 t45; slots = List.[] }
 
 abbrev pub T63 : Row.Cx
-T63 = record { locals = List._++_ t44 t42; slots = List.[] }
+T63 = record { locals = List._++_ t46 t47; slots = List.[] }
+
+abbrev pub T64 : Row.Cx
+T64 = record { locals = List._++_ t46 t48; slots = List.[] }
+
+abbrev pub T65 : Row.Cx
+T65 = record { locals = List._++_ t46 t49; slots = List.[] }
 
 abbrev pub T66 : Row.Cx
-T66 = record { locals = List._++_ t45 t42; slots = List.[] }
+T66 = record { locals = List._++_ t46 t50; slots = List.[] }
+
+abbrev pub T67 : Row.Cx
+T67 = record { locals = List._++_ t46 t51; slots = List.[] }
+
+abbrev pub T68 : Row.Cx
+T68 = record { locals = List._++_ t46 t52; slots = List.[] }
 
 abbrev pub T69 : Row.Cx
-T69 = record { locals = List._++_ t46 t42; slots = List.[] }
+T69 = record { locals = List._++_ t53 t52; slots = List.[] }
 
-abbrev pub T72 : Row.Cx
-T72 = record { locals = List._++_ t10 t1; slots = List.[] }
+abbrev pub T71 : Row.Cx
+T71 = record { locals = List._++_ t54 t52; slots = List.[] }
 
 abbrev pub T73 : Row.Cx
-T73 = record { locals = List._++_ t10 t1; slots = List.[] }
+T73 = record { locals = List._++_ t55 t52; slots = List.[] }
 
 abbrev pub T75 : Row.Cx
-T75 = record { locals = List._++_ t47 t1; slots = List.[] }
+T75 = record { locals = List._++_ t56 t52; slots = List.[] }
 
-abbrev pub T76 : Row.Cx
-T76 = record { locals = List._++_ t2 t1; slots = List.[] }
+abbrev pub T77 : Row.Cx
+T77 = record { locals = List._++_ t57 t52; slots = List.[] }
+
+abbrev pub T79 : Row.Cx
+T79 = record { locals = List._++_ t58 t52; slots = List.[] }
+
+abbrev pub T81 : Row.Cx
+T81 = record { locals = List._++_ t59 t52; slots = List.[] }
+
+abbrev pub T83 : Row.Cx
+T83 = record { locals = List._++_ t0 t19; slots = List.[] }
+
+abbrev pub T84 : Row.Cx
+T84 = record { locals = List._++_ t0 t19; slots = List.[] }
+
+abbrev pub T86 : Row.Cx
+T86 = record { locals = List._++_ t2 t19; slots = List.[] }
+
+abbrev pub T87 : Row.Cx
+T87 = record { locals = List._++_ t2 t1; slots = List.[] }
 
 abbrev pub O0 : Typed.Outs
 O0 = record { next = Option.none; exits = List.[]; returns = Option.some T1 }
 
 abbrev pub O1 : Typed.Outs
-O1 = Typed.withNext (Option.some T16) O0
+O1 = Typed.withNext (Option.some T23) O0
 
 module _ (claims· : Claims) where
-  abbrev s0 : Typed.Gives T0 T2
-  s0 = Know.k-shs-known (Referent.fInt Syntax.w8) T0 1 0 ty·3 Row.off 0 λ x. x
+  abbrev s0 : (bs : List.List Nat.ℕ) → Typed.Gives T0 T2
+  s0 = λ bs. Know.k-shs-known (Referent.fInt Syntax.w8) T0 1 0 ty·7 Row.off 0 λ x. x
 
-  abbrev s1 : Typed.Gives T2 T3
-  s1 = Know.k-sl-known (Referent.fInt Syntax.w16) T2 3 2 ty·5 Row.off 0 λ x. x
+  abbrev s1 : (bs : List.List Nat.ℕ) → Typed.Gives T2 T3
+  s1 = λ bs. Know.k-sl-known (Referent.fInt Syntax.w8) T2 2 1 ty·8 Row.off 0 λ x. x
 
-  abbrev s2 : Typed.Gives T3 T4
-  s2 = Know.k-sl-known (Referent.fInt Syntax.w16) T3 4 3 ty·6 Row.off 0 λ x. x
+  abbrev s2 : (bs : List.List Nat.ℕ) → Typed.Mo T3 → Typed.Mo T4
+  s2 = λ bs. Make.n-struct-make (Apart.apartT T.the-type) T3 9 λ m. (0, (0, (0, tt)))
 
-  abbrev s3 : Typed.Gives T4 T5
-  s3 = Know.k-sl-known (Referent.fInt Syntax.w8) T4 5 4 ty·4 Row.off 0 λ x. x
+  abbrev s3 : (bs : List.List Nat.ℕ) → Typed.Mo T4 → Typed.Mo T5
+  s3 = λ bs. AtSlots.n-as-by T4 9 (Rows'.whole (Declared'.row T.the-type)) λ v. T.struct .make v tt
 
-  abbrev s5 : Typed.Gives T5 T7
-  s5 = Relend.k-sl-relend T.the-row T5 2 9 1 5 ty·9 ty·7 Row.off λ x. x
+  abbrev s4 : (bs : List.List Nat.ℕ) → Typed.Mo T5 → Typed.Mo T6
+  s4 = λ bs. Repeat.n-repeat T.the-row 1024 T5 3 λ m. m .1 .1 .1 .1 .1 .1 .1 .1 .1 .0
 
-  abbrev s6 : Typed.Asks T7 T8
-  s6 = Relend.k-sl-aggregate T.the-row (Relend.asMut T.the-row) T7 9 10 5 ty·7 ty·7 (λ x. x) (Scalar.oFld 2 (List._∷_ (Syntax.field 1) List.[]) (Syntax.tyInt Syntax.w64) 8 λ v. Shared.lenV (v .0))
+  abbrev s5 : (bs : List.List Nat.ℕ) → Typed.Mo T6 → Typed.Mo T7
+  s5 = λ bs. AtSlots.n-as-by T6 3 (Rows.arrF T.the-row 1024 0) λ x. x
 
-  abbrev s8 : Typed.Gives T8 T10
-  s8 = Relend.k-sl-relend (Referent.rtF (Referent.fInt Syntax.w16)) T8 3 11 2 6 ty·5 ty·1 Row.off λ x. x
+  abbrev s6 : (bs : List.List Nat.ℕ) → Typed.Mo T7 → Typed.Mo T8
+  s6 = λ bs. Scalar.n-room T7 9 (Memory.lone (T.the-row .mir))
 
-  abbrev s9 : Typed.Asks T10 T11
-  s9 = Relend.k-sl-aggregate (Referent.rtF (Referent.fInt Syntax.w16)) (Relend.asMut (Referent.rtF (Referent.fInt Syntax.w16))) T10 11 12 6 ty·1 ty·1 (λ x. x) (Scalar.oFld 3 (List._∷_ (Syntax.field 1) List.[]) (Syntax.tyInt Syntax.w64) 8 λ v. Shared.lenV (v .0))
+  abbrev s7 : (bs : List.List Nat.ℕ) → Typed.Mo T8 → Typed.Mo T9
+  s7 = λ bs. Repeat.n-repeat (Referent.rtF (Referent.fInt Syntax.w16)) 4096 T8 4 λ m. 0
 
-  abbrev s11 : Typed.Gives T11 T13
-  s11 = Relend.k-sl-relend (Referent.rtF (Referent.fInt Syntax.w16)) T11 4 13 3 7 ty·6 ty·1 Row.off λ x. x
+  abbrev s8 : (bs : List.List Nat.ℕ) → Typed.Mo T9 → Typed.Mo T10
+  s8 = λ bs. AtSlots.n-as-by T9 4 (Rows.arrF (Referent.rtF (Referent.fInt Syntax.w16)) 4096 0) λ x. x
 
-  abbrev s12 : Typed.Asks T13 T14
-  s12 = Relend.k-sl-aggregate (Referent.rtF (Referent.fInt Syntax.w16)) (Relend.asMut (Referent.rtF (Referent.fInt Syntax.w16))) T13 13 14 7 ty·1 ty·1 (λ x. x) (Scalar.oFld 4 (List._∷_ (Syntax.field 1) List.[]) (Syntax.tyInt Syntax.w64) 8 λ v. Shared.lenV (v .0))
+  abbrev s9 : (bs : List.List Nat.ℕ) → Typed.Mo T10 → Typed.Mo T11
+  s9 = λ bs. Repeat.n-repeat (Referent.rtF (Referent.fInt Syntax.w16)) 16384 T10 5 λ m. 0
 
-  abbrev s13 : Typed.Both T14 T15
-  s13 = Call.callB ps·0 r·0 (claims· .0) (claims· .1) T14 (record { pos = 1; ty = Syntax.tyRef (Syntax.named 0) Syntax.imm (Syntax.tyInt Syntax.w8); ref = λ x. x }, (record { pos = 10; ty = Syntax.tyRef Syntax.erased Syntax.mut (Memory.pointee (T.the-row .written)); ref = λ x. x }, (record { pos = 12; ty = Syntax.tyRef Syntax.erased Syntax.mut (Syntax.tyInt Syntax.w16); ref = λ x. x }, (record { pos = 14; ty = Syntax.tyRef Syntax.erased Syntax.mut (Syntax.tyInt Syntax.w16); ref = λ x. x }, tt)))) 6 (List._∷_ 0 (List._∷_ 5 (List._∷_ 6 (List._∷_ 7 List.[])))) ty·17
+  abbrev s10 : (bs : List.List Nat.ℕ) → Typed.Mo T11 → Typed.Mo T12
+  s10 = λ bs. AtSlots.n-as-by T11 5 (Rows.arrF (Referent.rtF (Referent.fInt Syntax.w16)) 16384 0) λ x. x
 
-  abbrev s15 : Typed.Both T15 T18
-  s15 = Relend.k-back-sl T.the-row T15 10 2 1 5 ty·9 ty·7 Row.off (λ x. x) λ x. x
+  abbrev s12 : (bs : List.List Nat.ℕ) → Typed.Gives T12 T14
+  s12 = λ bs. Borrow.k-arr-borrow T.the-row T12 (Row.hd 0 (Row.tl (Row.tl (Row.tl bs)))) 3 10 1024 2 ty·15 λ x. x
 
-  abbrev s18 : Typed.Both T18 T21
-  s18 = Relend.k-back-sl (Referent.rtF (Referent.fInt Syntax.w16)) T18 12 3 2 6 ty·5 ty·1 Row.off (λ x. x) λ x. x
+  abbrev s13 : (bs : List.List Nat.ℕ) → Typed.Asks T14 T15
+  s13 = λ bs. Relend.k-sl-aggregate T.the-row (Relend.asMut T.the-row) T14 10 11 2 ty·15 ty·9 (λ x. x) (Scalar.oBig Syntax.w64 1024)
 
-  abbrev s19 : Typed.Gives T21 T22
-  s19 = Know.k-sl-known (Referent.fInt Syntax.w16) T21 3 2 ty·5 Row.off 0 λ x. x
+  abbrev s15 : (bs : List.List Nat.ℕ) → Typed.Gives T15 T17
+  s15 = λ bs. Borrow.k-arr-borrow (Referent.rtF (Referent.fInt Syntax.w16)) T15 (Row.hd 0 (Row.tl (Row.tl (Row.tl (Row.tl bs))))) 4 12 4096 3 ty·11 λ x. x
 
-  abbrev s22 : Typed.Both T22 T25
-  s22 = Relend.k-back-sl (Referent.rtF (Referent.fInt Syntax.w16)) T22 14 4 3 7 ty·6 ty·1 Row.off (λ x. x) λ x. x
+  abbrev s16 : (bs : List.List Nat.ℕ) → Typed.Asks T17 T18
+  s16 = λ bs. Relend.k-sl-aggregate (Referent.rtF (Referent.fInt Syntax.w16)) (Relend.asMut (Referent.rtF (Referent.fInt Syntax.w16))) T17 12 13 3 ty·11 ty·5 (λ x. x) (Scalar.oBig Syntax.w64 4096)
 
-  abbrev s23 : Typed.Gives T25 T26
-  s23 = Know.k-sl-known (Referent.fInt Syntax.w16) T25 4 3 ty·6 Row.off 0 λ x. x
+  abbrev s18 : (bs : List.List Nat.ℕ) → Typed.Gives T18 T20
+  s18 = λ bs. Borrow.k-arr-borrow (Referent.rtF (Referent.fInt Syntax.w16)) T18 (Row.hd 0 (Row.tl (Row.tl (Row.tl (Row.tl (Row.tl bs)))))) 5 14 16384 4 ty·13 λ x. x
 
-  abbrev s25 : Typed.Both T26 T28
-  s25 = Known.k-enum-known ReadAnswer.enum 1 T26 6 λ x. x
+  abbrev s19 : (bs : List.List Nat.ℕ) → Typed.Asks T20 T21
+  s19 = λ bs. Relend.k-sl-aggregate (Referent.rtF (Referent.fInt Syntax.w16)) (Relend.asMut (Referent.rtF (Referent.fInt Syntax.w16))) T20 14 15 4 ty·13 ty·5 (λ x. x) (Scalar.oBig Syntax.w64 16384)
 
-  abbrev s26 : Typed.Gives T28 T29
-  s26 = Known.k-known-told ReadAnswer.enum Laws.the-laws 1 T28 6 λ x. x
+  abbrev s20 : (bs : List.List Nat.ℕ) → Typed.Both T21 T22
+  s20 = λ bs. Call.callB ps·0 r·0 (claims· .0) (claims· .1) T21 (record { pos = 1; ty = Syntax.tyRef (Syntax.named 0) Syntax.imm (Syntax.tyInt Syntax.w8); ref = λ x. x }, (record { pos = 11; ty = Syntax.tyRef Syntax.erased Syntax.mut (Memory.pointee (T.the-row .written)); ref = λ x. x }, (record { pos = 13; ty = Syntax.tyRef Syntax.erased Syntax.mut (Syntax.tyInt Syntax.w16); ref = λ x. x }, (record { pos = 15; ty = Syntax.tyRef Syntax.erased Syntax.mut (Syntax.tyInt Syntax.w16); ref = λ x. x }, tt)))) 6 (List._∷_ 0 (List._∷_ 2 (List._∷_ 3 (List._∷_ 4 List.[])))) ty·24
 
-  abbrev s27 : Typed.Mo T29 → Typed.Mo T30
-  s27 = Make.n-make (Declared.row Refusal.the-type) T29 7 λ m. m .1 .1 .1 .1 .1 .1 .0 .0
+  abbrev s22 : (bs : List.List Nat.ℕ) → Typed.Both T22 T25
+  s22 = λ bs. Borrow.k-back-arr T.the-row T22 11 3 2 1024 ty·9 (λ x. x) λ x. x
 
-  abbrev s28 : Typed.Mo T30 → Typed.Mo T31
-  s28 = Scalar.n-room T30 6 ty·17
+  abbrev s25 : (bs : List.List Nat.ℕ) → Typed.Both T25 T28
+  s25 = λ bs. Borrow.k-back-arr (Referent.rtF (Referent.fInt Syntax.w16)) T25 13 4 3 4096 ty·5 (λ x. x) λ x. x
 
-  abbrev s30 : Typed.Gives T31 T33
-  s30 = Relend.k-sl-relend (Referent.rtF (Referent.fInt Syntax.w8)) T31 5 16 4 8 ty·4 ty·0 Row.off λ x. x
+  abbrev s28 : (bs : List.List Nat.ℕ) → Typed.Both T28 T31
+  s28 = λ bs. Borrow.k-back-arr (Referent.rtF (Referent.fInt Syntax.w16)) T28 15 5 4 16384 ty·5 (λ x. x) λ x. x
 
-  abbrev s31 : Typed.Asks T33 T34
-  s31 = Relend.k-sl-aggregate (Referent.rtF (Referent.fInt Syntax.w8)) (Relend.asMut (Referent.rtF (Referent.fInt Syntax.w8))) T33 16 17 8 ty·0 ty·0 (λ x. x) (Scalar.oFld 5 (List._∷_ (Syntax.field 1) List.[]) (Syntax.tyInt Syntax.w64) 8 λ v. Shared.lenV (v .0))
+  abbrev s30 : (bs : List.List Nat.ℕ) → Typed.Both T31 T33
+  s30 = λ bs. Known.k-enum-known ReadAnswer.enum 1 T31 6 λ x. x
 
-  abbrev s32 : Typed.Both T34 T35
-  s32 = Call.callB ps·1 r·1 (claims· .2) (claims· .3) T34 (record { pos = 17; ty = Syntax.tyRef Syntax.erased Syntax.mut (Syntax.tyInt Syntax.w8); ref = λ x. x }, (Num.vLit 0, (record { pos = 7; st = List.[]; d = 0; at = λ x. x }, tt))) 15 (List._∷_ 8 List.[]) (Syntax.tyInt Syntax.w64)
+  abbrev s31 : (bs : List.List Nat.ℕ) → Typed.Gives T33 T34
+  s31 = λ bs. Known.k-known-told ReadAnswer.enum Laws.the-laws 1 T33 6 λ x. x
 
-  abbrev s33 : Typed.Mo T35 → Typed.Mo T36
-  s33 = Scalar.n-room T35 7 ty·16
+  abbrev s32 : (bs : List.List Nat.ℕ) → Typed.Mo T34 → Typed.Mo T35
+  s32 = λ bs. Scalar.n-room T34 3 ty·2
 
-  abbrev s35 : Typed.Both T36 T38
-  s35 = Relend.k-back-sl (Referent.rtF (Referent.fInt Syntax.w8)) T36 17 5 4 8 ty·4 ty·0 Row.off (λ x. x) λ x. x
+  abbrev s33 : (bs : List.List Nat.ℕ) → Typed.Mo T35 → Typed.Mo T36
+  s33 = λ bs. Scalar.n-room T35 4 ty·0
 
-  abbrev s36 : Typed.Gives T38 T39
-  s36 = Know.k-sl-known (Referent.fInt Syntax.w8) T38 5 4 ty·4 Row.off 0 λ x. x
+  abbrev s34 : (bs : List.List Nat.ℕ) → Typed.Mo T36 → Typed.Mo T37
+  s34 = λ bs. Scalar.n-room T36 5 ty·1
 
-  abbrev s38 : Typed.Both T26 T41
-  s38 = Known.k-enum-known ReadAnswer.enum 0 T26 6 λ x. x
+  abbrev s35 : (bs : List.List Nat.ℕ) → Typed.Mo T37 → Typed.Mo T38
+  s35 = λ bs. Make.n-make (Declared.row Refusal.the-type) T37 7 λ m. m .1 .1 .1 .1 .1 .1 .0 .0
 
-  abbrev s39 : Typed.Gives T41 T42
-  s39 = Known.k-known-told ReadAnswer.enum Laws.the-laws 0 T41 6 λ x. x
+  abbrev s36 : (bs : List.List Nat.ℕ) → Typed.Mo T38 → Typed.Mo T39
+  s36 = λ bs. Scalar.n-room T38 6 ty·24
 
-  abbrev s40 : Typed.Mo T42 → Typed.Mo T43
-  s40 = Make.n-make (Declared'.row Size.the-type) T42 8 λ m. m .1 .1 .1 .1 .1 .1 .0 .0
+  abbrev s38 : (bs : List.List Nat.ℕ) → Typed.Gives T39 T41
+  s38 = λ bs. Relend.k-sl-relend (Referent.rtF (Referent.fInt Syntax.w8)) T39 2 17 1 5 ty·8 ty·4 Row.off λ x. x
 
-  abbrev s41 : Typed.Mo T43 → Typed.Mo T44
-  s41 = Scalar.n-room T43 6 ty·17
+  abbrev s39 : (bs : List.List Nat.ℕ) → Typed.Asks T41 T42
+  s39 = λ bs. Relend.k-sl-aggregate (Referent.rtF (Referent.fInt Syntax.w8)) (Relend.asMut (Referent.rtF (Referent.fInt Syntax.w8))) T41 17 18 5 ty·4 ty·4 (λ x. x) (Scalar.oFld 2 (List._∷_ (Syntax.field 1) List.[]) (Syntax.tyInt Syntax.w64) 8 λ v. Shared.lenV (v .0))
 
-  abbrev s43 : Typed.Gives T44 T46
-  s43 = Reshare.k-sl-reshare T.the-row T44 2 18 1 9 ty·9 ty·8 Row.off λ x. x
+  abbrev s40 : (bs : List.List Nat.ℕ) → Typed.Both T42 T43
+  s40 = λ bs. Call.callB ps·1 r·1 (claims· .2) (claims· .3) T42 (record { pos = 18; ty = Syntax.tyRef Syntax.erased Syntax.mut (Syntax.tyInt Syntax.w8); ref = λ x. x }, (Num.vLit 0, (record { pos = 7; st = List.[]; d = 0; at = λ x. x }, tt))) 16 (List._∷_ 5 List.[]) (Syntax.tyInt Syntax.w64)
 
-  abbrev s44 : Typed.Asks T46 T47
-  s44 = Relend.k-sl-aggregate T.the-row (Relend.asShr T.the-row) T46 18 19 9 ty·8 ty·8 (λ x. x) (Scalar.oFld 2 (List._∷_ (Syntax.field 1) List.[]) (Syntax.tyInt Syntax.w64) 8 λ v. Shared.lenV (v .0))
+  abbrev s41 : (bs : List.List Nat.ℕ) → Typed.Mo T43 → Typed.Mo T44
+  s41 = λ bs. Scalar.n-room T43 7 ty·23
 
-  abbrev s46 : Typed.Gives T47 T49
-  s46 = Reshare.k-sl-reshare (Referent.rtF (Referent.fInt Syntax.w16)) T47 3 20 2 10 ty·5 ty·2 Row.off λ x. x
+  abbrev s43 : (bs : List.List Nat.ℕ) → Typed.Both T44 T46
+  s43 = λ bs. Relend.k-back-sl (Referent.rtF (Referent.fInt Syntax.w8)) T44 18 2 1 5 ty·8 ty·4 Row.off (λ x. x) λ x. x
 
-  abbrev s47 : Typed.Asks T49 T50
-  s47 = Relend.k-sl-aggregate (Referent.rtF (Referent.fInt Syntax.w16)) (Relend.asShr (Referent.rtF (Referent.fInt Syntax.w16))) T49 20 21 10 ty·2 ty·2 (λ x. x) (Scalar.oFld 3 (List._∷_ (Syntax.field 1) List.[]) (Syntax.tyInt Syntax.w64) 8 λ v. Shared.lenV (v .0))
+  abbrev s44 : (bs : List.List Nat.ℕ) → Typed.Gives T46 T47
+  s44 = λ bs. Know.k-sl-known (Referent.fInt Syntax.w8) T46 2 1 ty·8 Row.off 0 λ x. x
 
-  abbrev s49 : Typed.Gives T50 T52
-  s49 = Reshare.k-sl-reshare (Referent.rtF (Referent.fInt Syntax.w16)) T50 4 22 3 11 ty·6 ty·2 Row.off λ x. x
+  abbrev s46 : (bs : List.List Nat.ℕ) → Typed.Both T31 T49
+  s46 = λ bs. Known.k-enum-known ReadAnswer.enum 0 T31 6 λ x. x
 
-  abbrev s50 : Typed.Asks T52 T53
-  s50 = Relend.k-sl-aggregate (Referent.rtF (Referent.fInt Syntax.w16)) (Relend.asShr (Referent.rtF (Referent.fInt Syntax.w16))) T52 22 23 11 ty·2 ty·2 (λ x. x) (Scalar.oFld 4 (List._∷_ (Syntax.field 1) List.[]) (Syntax.tyInt Syntax.w64) 8 λ v. Shared.lenV (v .0))
+  abbrev s47 : (bs : List.List Nat.ℕ) → Typed.Gives T49 T50
+  s47 = λ bs. Known.k-known-told ReadAnswer.enum Laws.the-laws 0 T49 6 λ x. x
 
-  abbrev s52 : Typed.Gives T53 T55
-  s52 = Relend.k-sl-relend (Referent.rtF (Referent.fInt Syntax.w8)) T53 5 24 4 12 ty·4 ty·0 Row.off λ x. x
+  abbrev s48 : (bs : List.List Nat.ℕ) → Typed.Mo T50 → Typed.Mo T51
+  s48 = λ bs. Make.n-make (Declared'.row Size.the-type) T50 8 λ m. m .1 .1 .1 .1 .1 .1 .0 .0
 
-  abbrev s53 : Typed.Asks T55 T56
-  s53 = Relend.k-sl-aggregate (Referent.rtF (Referent.fInt Syntax.w8)) (Relend.asMut (Referent.rtF (Referent.fInt Syntax.w8))) T55 24 25 12 ty·0 ty·0 (λ x. x) (Scalar.oFld 5 (List._∷_ (Syntax.field 1) List.[]) (Syntax.tyInt Syntax.w64) 8 λ v. Shared.lenV (v .0))
+  abbrev s49 : (bs : List.List Nat.ℕ) → Typed.Mo T51 → Typed.Mo T52
+  s49 = λ bs. Scalar.n-room T51 6 ty·24
 
-  abbrev s54 : Typed.Both T56 T57
-  s54 = Call.callB ps·2 r·2 (claims· .4) (claims· .5) T56 (record { pos = 8; st = List.[]; d = 0; at = λ x. x }, (record { pos = 19; ty = Syntax.tyRef Syntax.erased Syntax.imm (Memory.pointee (T.the-row .written)); ref = λ x. x }, (record { pos = 21; ty = Syntax.tyRef Syntax.erased Syntax.imm (Syntax.tyInt Syntax.w16); ref = λ x. x }, (record { pos = 23; ty = Syntax.tyRef Syntax.erased Syntax.imm (Syntax.tyInt Syntax.w16); ref = λ x. x }, (record { pos = 25; ty = Syntax.tyRef Syntax.erased Syntax.mut (Syntax.tyInt Syntax.w8); ref = λ x. x }, tt))))) 15 (List._∷_ 9 (List._∷_ 10 (List._∷_ 11 (List._∷_ 12 List.[])))) (Syntax.tyInt Syntax.w64)
+  abbrev s51 : (bs : List.List Nat.ℕ) → Typed.Gives T52 T54
+  s51 = λ bs. Share.k-arr-share T.the-row T52 3 19 1024 6 ty·16 λ x. x
 
-  abbrev s55 : Typed.Mo T57 → Typed.Mo T58
-  s55 = Scalar.n-room T57 19 ty·14
+  abbrev s52 : (bs : List.List Nat.ℕ) → Typed.Asks T54 T55
+  s52 = λ bs. Relend.k-sl-aggregate T.the-row (Relend.asShr T.the-row) T54 19 20 6 ty·16 ty·10 (λ x. x) (Scalar.oBig Syntax.w64 1024)
 
-  abbrev s56 : Typed.Mo T58 → Typed.Mo T59
-  s56 = Scalar.n-room T58 21 ty·12
+  abbrev s54 : (bs : List.List Nat.ℕ) → Typed.Gives T55 T57
+  s54 = λ bs. Share.k-arr-share (Referent.rtF (Referent.fInt Syntax.w16)) T55 4 21 4096 7 ty·12 λ x. x
 
-  abbrev s57 : Typed.Mo T59 → Typed.Mo T60
-  s57 = Scalar.n-room T59 23 ty·12
+  abbrev s55 : (bs : List.List Nat.ℕ) → Typed.Asks T57 T58
+  s55 = λ bs. Relend.k-sl-aggregate (Referent.rtF (Referent.fInt Syntax.w16)) (Relend.asShr (Referent.rtF (Referent.fInt Syntax.w16))) T57 21 22 7 ty·12 ty·6 (λ x. x) (Scalar.oBig Syntax.w64 4096)
 
-  abbrev s58 : Typed.Mo T60 → Typed.Mo T61
-  s58 = Scalar.n-room T60 8 ty·15
+  abbrev s57 : (bs : List.List Nat.ℕ) → Typed.Gives T58 T60
+  s57 = λ bs. Share.k-arr-share (Referent.rtF (Referent.fInt Syntax.w16)) T58 5 23 16384 8 ty·14 λ x. x
 
-  abbrev s60 : Typed.Mo T61 → Typed.Mo T63
-  s60 = Reshare.n-back-sl-shr T.the-row T61 2 1 9 ty·9 Row.off λ x. x
+  abbrev s58 : (bs : List.List Nat.ℕ) → Typed.Asks T60 T61
+  s58 = λ bs. Relend.k-sl-aggregate (Referent.rtF (Referent.fInt Syntax.w16)) (Relend.asShr (Referent.rtF (Referent.fInt Syntax.w16))) T60 23 24 8 ty·14 ty·6 (λ x. x) (Scalar.oBig Syntax.w64 16384)
 
-  abbrev s63 : Typed.Mo T63 → Typed.Mo T66
-  s63 = Reshare.n-back-sl-shr (Referent.rtF (Referent.fInt Syntax.w16)) T63 3 2 10 ty·5 Row.off λ x. x
+  abbrev s60 : (bs : List.List Nat.ℕ) → Typed.Gives T61 T63
+  s60 = λ bs. Relend.k-sl-relend (Referent.rtF (Referent.fInt Syntax.w8)) T61 2 25 1 9 ty·8 ty·4 Row.off λ x. x
 
-  abbrev s66 : Typed.Mo T66 → Typed.Mo T69
-  s66 = Reshare.n-back-sl-shr (Referent.rtF (Referent.fInt Syntax.w16)) T66 4 3 11 ty·6 Row.off λ x. x
+  abbrev s61 : (bs : List.List Nat.ℕ) → Typed.Asks T63 T64
+  s61 = λ bs. Relend.k-sl-aggregate (Referent.rtF (Referent.fInt Syntax.w8)) (Relend.asMut (Referent.rtF (Referent.fInt Syntax.w8))) T63 25 26 9 ty·4 ty·4 (λ x. x) (Scalar.oFld 2 (List._∷_ (Syntax.field 1) List.[]) (Syntax.tyInt Syntax.w64) 8 λ v. Shared.lenV (v .0))
 
-  abbrev s69 : Typed.Both T69 T72
-  s69 = Relend.k-back-sl (Referent.rtF (Referent.fInt Syntax.w8)) T69 25 5 4 12 ty·4 ty·0 Row.off (λ x. x) λ x. x
+  abbrev s62 : (bs : List.List Nat.ℕ) → Typed.Both T64 T65
+  s62 = λ bs. Call.callB ps·2 r·2 (claims· .4) (claims· .5) T64 (record { pos = 8; st = List.[]; d = 0; at = λ x. x }, (record { pos = 20; ty = Syntax.tyRef Syntax.erased Syntax.imm (Memory.pointee (T.the-row .written)); ref = λ x. x }, (record { pos = 22; ty = Syntax.tyRef Syntax.erased Syntax.imm (Syntax.tyInt Syntax.w16); ref = λ x. x }, (record { pos = 24; ty = Syntax.tyRef Syntax.erased Syntax.imm (Syntax.tyInt Syntax.w16); ref = λ x. x }, (record { pos = 26; ty = Syntax.tyRef Syntax.erased Syntax.mut (Syntax.tyInt Syntax.w8); ref = λ x. x }, tt))))) 16 (List._∷_ 6 (List._∷_ 7 (List._∷_ 8 (List._∷_ 9 List.[])))) (Syntax.tyInt Syntax.w64)
 
-  abbrev s70 : Typed.Gives T72 T73
-  s70 = Know.k-sl-known (Referent.fInt Syntax.w8) T72 5 4 ty·4 Row.off 0 λ x. x
+  abbrev s63 : (bs : List.List Nat.ℕ) → Typed.Mo T65 → Typed.Mo T66
+  s63 = λ bs. Scalar.n-room T65 20 ty·21
 
-  abbrev s72 : Typed.Mo T16 → Typed.Mo T75
-  s72 = Scalar.n-use T16 (Scalar.oAt 15 (Syntax.tyInt Syntax.w64) (Row.valS (Row.sInt Syntax.w64))) 0 (Rows.sc-here (Row.sInt Syntax.w64)) (Row.sInt Syntax.w64 .of)
+  abbrev s64 : (bs : List.List Nat.ℕ) → Typed.Mo T66 → Typed.Mo T67
+  s64 = λ bs. Scalar.n-room T66 22 ty·19
 
-  abbrev s73 : Typed.Mo T75 → Typed.Mo T76
-  s73 = Scalar.n-room T75 15 (Syntax.tyInt Syntax.w64)
+  abbrev s65 : (bs : List.List Nat.ℕ) → Typed.Mo T67 → Typed.Mo T68
+  s65 = λ bs. Scalar.n-room T67 24 ty·19
 
-  module _ (Pre· : (κs : Lifetimes.Lfts 5) → Kinds.Dens κs ps → Type 0) (Post· : (κs : Lifetimes.Lfts 5) → (a : Kinds.Dens κs ps) → Kinds.Plain 5 ps r κs) where
+  abbrev s66 : (bs : List.List Nat.ℕ) → Typed.Mo T68 → Typed.Mo T69
+  s66 = λ bs. Scalar.n-room T68 8 ty·22
+
+  abbrev s68 : (bs : List.List Nat.ℕ) → Typed.Mo T69 → Typed.Mo T71
+  s68 = λ bs. Share.n-back-arr-shr T.the-row T69 3 1024 6 λ x. x
+
+  abbrev s70 : (bs : List.List Nat.ℕ) → Typed.Mo T71 → Typed.Mo T73
+  s70 = λ bs. Scalar.n-room T71 3 ty·2
+
+  abbrev s72 : (bs : List.List Nat.ℕ) → Typed.Mo T73 → Typed.Mo T75
+  s72 = λ bs. Share.n-back-arr-shr (Referent.rtF (Referent.fInt Syntax.w16)) T73 4 4096 7 λ x. x
+
+  abbrev s74 : (bs : List.List Nat.ℕ) → Typed.Mo T75 → Typed.Mo T77
+  s74 = λ bs. Scalar.n-room T75 4 ty·0
+
+  abbrev s76 : (bs : List.List Nat.ℕ) → Typed.Mo T77 → Typed.Mo T79
+  s76 = λ bs. Share.n-back-arr-shr (Referent.rtF (Referent.fInt Syntax.w16)) T77 5 16384 8 λ x. x
+
+  abbrev s78 : (bs : List.List Nat.ℕ) → Typed.Mo T79 → Typed.Mo T81
+  s78 = λ bs. Scalar.n-room T79 5 ty·1
+
+  abbrev s80 : (bs : List.List Nat.ℕ) → Typed.Both T81 T83
+  s80 = λ bs. Relend.k-back-sl (Referent.rtF (Referent.fInt Syntax.w8)) T81 26 2 1 9 ty·8 ty·4 Row.off (λ x. x) λ x. x
+
+  abbrev s81 : (bs : List.List Nat.ℕ) → Typed.Gives T83 T84
+  s81 = λ bs. Know.k-sl-known (Referent.fInt Syntax.w8) T83 2 1 ty·8 Row.off 0 λ x. x
+
+  abbrev s83 : (bs : List.List Nat.ℕ) → Typed.Mo T23 → Typed.Mo T86
+  s83 = λ bs. Scalar.n-use T23 (Scalar.oAt 16 (Syntax.tyInt Syntax.w64) (Row.valS (Row.sInt Syntax.w64))) 0 (Rows'.sc-here (Row.sInt Syntax.w64)) (Row.sInt Syntax.w64 .of)
+
+  abbrev s84 : (bs : List.List Nat.ℕ) → Typed.Mo T86 → Typed.Mo T87
+  s84 = λ bs. Scalar.n-room T86 16 (Syntax.tyInt Syntax.w64)
+
+  module _ (Pre· : (κs : Lifetimes.Lfts 2) → Kinds.Dens κs ps → Type 0) (Post· : (κs : Lifetimes.Lfts 2) → (a : Kinds.Dens κs ps) → Kinds.Plain 2 ps r κs) where
     module _ (M : Type 1) where
       abbrev pub Closed : Type 2
-      Closed = (𝓤 : URA.URA M) (H : Wp.Heap 𝓤) (A : Atoms.Atoms 𝓤) (W : Kit.Given 𝓤 H A) (𝓣 : Wp.Tables 𝓤 H) (known0 : Plain.Known 𝓤 H A W 𝓣 4 ps·0 r·0 (claims· .0) (claims· .1) "reading::read") (known1 : Plain.Known 𝓤 H A W 𝓣 1 ps·1 r·1 (claims· .2) (claims· .3) "listing_text::internal::put_refusal") (known2 : Plain.Known 𝓤 H A W 𝓣 4 ps·2 r·2 (claims· .4) (claims· .5) "listing::plan::list_plan") → Statement.Triple 𝓤 (Wp.WpFn 𝓤 H (𝓣 .C) (𝓣 .Λ) (Function.fnOf 5 ps r xs m hs body)) (Function.plainOf 𝓤 H A 5 ps r Pre· Post·)
+      Closed = (𝓤 : URA.URA M) (H : Wp.Heap 𝓤) (A : Atoms.Atoms 𝓤) (W : Kit.Given 𝓤 H A) (𝓣 : Wp.Tables 𝓤 H) (known0 : Plain.Known 𝓤 H A W 𝓣 4 ps·0 r·0 (claims· .0) (claims· .1) "reading::read") (known1 : Plain.Known 𝓤 H A W 𝓣 1 ps·1 r·1 (claims· .2) (claims· .3) "listing_text::internal::put_refusal") (known2 : Plain.Known 𝓤 H A W 𝓣 4 ps·2 r·2 (claims· .4) (claims· .5) "listing::plan::list_plan") → Statement.Triple 𝓤 (Wp.WpFn 𝓤 H (𝓣 .C) (𝓣 .Λ) (Function.fnOf 2 ps r xs m hs body)) (Function.plainOf 𝓤 H A 2 ps r Pre· Post·)
 
     module _ where
-      abbrev at0 : Typed.TF T34 O1
-      at0 = λ Ψ. Typed.both s32 (Typed.pass T35 T36 s33 (Typed.both s35 (Typed.give s36 (Typed.atNext O1 Ψ))))
+      abbrev at0 : (bs : List.List Nat.ℕ) → Typed.TF T42 O1
+      at0 = λ bs. λ Ψ. Typed.both (s40 bs) (Typed.pass T43 T44 (s41 bs) (Typed.both (s43 bs) (Typed.give (s44 bs) (Typed.atNext O1 Ψ))))
 
-      abbrev at1 : Typed.TF T33 O1
-      at1 = λ Ψ. Typed.ask s31 (at0 Ψ)
+      abbrev at1 : (bs : List.List Nat.ℕ) → Typed.TF T41 O1
+      at1 = λ bs. λ Ψ. Typed.ask (s39 bs) (at0 bs Ψ)
 
-      abbrev at2 : Typed.TF T31 O1
-      at2 = λ Ψ. Typed.give s30 (at1 Ψ)
+      abbrev at2 : (bs : List.List Nat.ℕ) → Typed.TF T39 O1
+      at2 = λ bs. λ Ψ. Typed.give (s38 bs) (at1 bs Ψ)
 
-      abbrev at3 : Typed.TF T31 O1
-      at3 = λ Ψ. at2 Ψ
+      abbrev at3 : (bs : List.List Nat.ℕ) → Typed.TF T39 O1
+      at3 = λ bs. λ Ψ. at2 bs Ψ
 
-      abbrev at4 : Typed.TF T30 O1
-      at4 = λ Ψ. Typed.pass T30 T31 s28 (at3 Ψ)
+      abbrev at4 : (bs : List.List Nat.ℕ) → Typed.TF T38 O1
+      at4 = λ bs. λ Ψ. Typed.pass T38 T39 (s36 bs) (at3 bs Ψ)
 
-      abbrev at5 : Typed.TF T29 O1
-      at5 = λ Ψ. Typed.pass T29 T30 s27 (at4 Ψ)
+      abbrev at5 : (bs : List.List Nat.ℕ) → Typed.TF T37 O1
+      at5 = λ bs. λ Ψ. Typed.pass T37 T38 (s35 bs) (at4 bs Ψ)
 
-      abbrev at6 : Typed.TF T28 O1
-      at6 = λ Ψ. Typed.give s26 (at5 Ψ)
+      abbrev at6 : (bs : List.List Nat.ℕ) → Typed.TF T36 O1
+      at6 = λ bs. λ Ψ. Typed.pass T36 T37 (s34 bs) (at5 bs Ψ)
 
-      abbrev at7 : Typed.TF T26 O1
-      at7 = λ Ψ. Typed.both s25 (at6 Ψ)
+      abbrev at7 : (bs : List.List Nat.ℕ) → Typed.TF T35 O1
+      at7 = λ bs. λ Ψ. Typed.pass T35 T36 (s33 bs) (at6 bs Ψ)
 
-      abbrev at8 : Typed.TF T56 O1
-      at8 = λ Ψ. Typed.both s54 (Typed.pass T57 T58 s55 (Typed.pass T58 T59 s56 (Typed.pass T59 T60 s57 (Typed.pass T60 T61 s58 (Typed.pass T61 T63 s60 (Typed.pass T63 T66 s63 (Typed.pass T66 T69 s66 (Typed.both s69 (Typed.give s70 (Typed.atNext O1 Ψ))))))))))
+      abbrev at8 : (bs : List.List Nat.ℕ) → Typed.TF T34 O1
+      at8 = λ bs. λ Ψ. Typed.pass T34 T35 (s32 bs) (at7 bs Ψ)
 
-      abbrev at9 : Typed.TF T55 O1
-      at9 = λ Ψ. Typed.ask s53 (at8 Ψ)
+      abbrev at9 : (bs : List.List Nat.ℕ) → Typed.TF T33 O1
+      at9 = λ bs. λ Ψ. Typed.give (s31 bs) (at8 bs Ψ)
 
-      abbrev at10 : Typed.TF T53 O1
-      at10 = λ Ψ. Typed.give s52 (at9 Ψ)
+      abbrev at10 : (bs : List.List Nat.ℕ) → Typed.TF T31 O1
+      at10 = λ bs. λ Ψ. Typed.both (s30 bs) (at9 bs Ψ)
 
-      abbrev at11 : Typed.TF T53 O1
-      at11 = λ Ψ. at10 Ψ
+      abbrev at11 : (bs : List.List Nat.ℕ) → Typed.TF T64 O1
+      at11 = λ bs. λ Ψ. Typed.both (s62 bs) (Typed.pass T65 T66 (s63 bs) (Typed.pass T66 T67 (s64 bs) (Typed.pass T67 T68 (s65 bs) (Typed.pass T68 T69 (s66 bs) (Typed.pass T69 T71 (s68 bs) (Typed.pass T71 T73 (s70 bs) (Typed.pass T73 T75 (s72 bs) (Typed.pass T75 T77 (s74 bs) (Typed.pass T77 T79 (s76 bs) (Typed.pass T79 T81 (s78 bs) (Typed.both (s80 bs) (Typed.give (s81 bs) (Typed.atNext O1 Ψ)))))))))))))
 
-      abbrev at12 : Typed.TF T52 O1
-      at12 = λ Ψ. Typed.ask s50 (at11 Ψ)
+      abbrev at12 : (bs : List.List Nat.ℕ) → Typed.TF T63 O1
+      at12 = λ bs. λ Ψ. Typed.ask (s61 bs) (at11 bs Ψ)
 
-      abbrev at13 : Typed.TF T50 O1
-      at13 = λ Ψ. Typed.give s49 (at12 Ψ)
+      abbrev at13 : (bs : List.List Nat.ℕ) → Typed.TF T61 O1
+      at13 = λ bs. λ Ψ. Typed.give (s60 bs) (at12 bs Ψ)
 
-      abbrev at14 : Typed.TF T50 O1
-      at14 = λ Ψ. at13 Ψ
+      abbrev at14 : (bs : List.List Nat.ℕ) → Typed.TF T61 O1
+      at14 = λ bs. λ Ψ. at13 bs Ψ
 
-      abbrev at15 : Typed.TF T49 O1
-      at15 = λ Ψ. Typed.ask s47 (at14 Ψ)
+      abbrev at15 : (bs : List.List Nat.ℕ) → Typed.TF T60 O1
+      at15 = λ bs. λ Ψ. Typed.ask (s58 bs) (at14 bs Ψ)
 
-      abbrev at16 : Typed.TF T47 O1
-      at16 = λ Ψ. Typed.give s46 (at15 Ψ)
+      abbrev at16 : (bs : List.List Nat.ℕ) → Typed.TF T58 O1
+      at16 = λ bs. λ Ψ. Typed.give (s57 bs) (at15 bs Ψ)
 
-      abbrev at17 : Typed.TF T47 O1
-      at17 = λ Ψ. at16 Ψ
+      abbrev at17 : (bs : List.List Nat.ℕ) → Typed.TF T58 O1
+      at17 = λ bs. λ Ψ. at16 bs Ψ
 
-      abbrev at18 : Typed.TF T46 O1
-      at18 = λ Ψ. Typed.ask s44 (at17 Ψ)
+      abbrev at18 : (bs : List.List Nat.ℕ) → Typed.TF T57 O1
+      at18 = λ bs. λ Ψ. Typed.ask (s55 bs) (at17 bs Ψ)
 
-      abbrev at19 : Typed.TF T44 O1
-      at19 = λ Ψ. Typed.give s43 (at18 Ψ)
+      abbrev at19 : (bs : List.List Nat.ℕ) → Typed.TF T55 O1
+      at19 = λ bs. λ Ψ. Typed.give (s54 bs) (at18 bs Ψ)
 
-      abbrev at20 : Typed.TF T44 O1
-      at20 = λ Ψ. at19 Ψ
+      abbrev at20 : (bs : List.List Nat.ℕ) → Typed.TF T55 O1
+      at20 = λ bs. λ Ψ. at19 bs Ψ
 
-      abbrev at21 : Typed.TF T43 O1
-      at21 = λ Ψ. Typed.pass T43 T44 s41 (at20 Ψ)
+      abbrev at21 : (bs : List.List Nat.ℕ) → Typed.TF T54 O1
+      at21 = λ bs. λ Ψ. Typed.ask (s52 bs) (at20 bs Ψ)
 
-      abbrev at22 : Typed.TF T42 O1
-      at22 = λ Ψ. Typed.pass T42 T43 s40 (at21 Ψ)
+      abbrev at22 : (bs : List.List Nat.ℕ) → Typed.TF T52 O1
+      at22 = λ bs. λ Ψ. Typed.give (s51 bs) (at21 bs Ψ)
 
-      abbrev at23 : Typed.TF T41 O1
-      at23 = λ Ψ. Typed.give s39 (at22 Ψ)
+      abbrev at23 : (bs : List.List Nat.ℕ) → Typed.TF T52 O1
+      at23 = λ bs. λ Ψ. at22 bs Ψ
 
-      abbrev at24 : Typed.TF T26 O1
-      at24 = λ Ψ. Typed.both s38 (at23 Ψ)
+      abbrev at24 : (bs : List.List Nat.ℕ) → Typed.TF T51 O1
+      at24 = λ bs. λ Ψ. Typed.pass T51 T52 (s49 bs) (at23 bs Ψ)
 
-      abbrev at25 : Typed.TF T26 O1
-      at25 = Switch.Φswitch T26 O1 6 (λ x. Declared.tagOf ReadAnswer.the-type x) (Syntax.arm (List._∷_ 1 List.[]) b13 (Syntax.arm (List._∷_ 0 List.[]) b32 Syntax.noDefault)) (at7, (at24, tt))
+      abbrev at25 : (bs : List.List Nat.ℕ) → Typed.TF T50 O1
+      at25 = λ bs. λ Ψ. Typed.pass T50 T51 (s48 bs) (at24 bs Ψ)
 
-      abbrev at26 : Typed.TF T26 O1
-      at26 = λ Ψ. at25 Ψ
+      abbrev at26 : (bs : List.List Nat.ℕ) → Typed.TF T49 O1
+      at26 = λ bs. λ Ψ. Typed.give (s47 bs) (at25 bs Ψ)
 
-      abbrev at27 : Typed.TF T25 O1
-      at27 = λ Ψ. Typed.give s23 (at26 Ψ)
+      abbrev at27 : (bs : List.List Nat.ℕ) → Typed.TF T31 O1
+      at27 = λ bs. λ Ψ. Typed.both (s46 bs) (at26 bs Ψ)
 
-      abbrev at28 : Typed.TF T22 O1
-      at28 = λ Ψ. Typed.both s22 (at27 Ψ)
+      abbrev at28 : (bs : List.List Nat.ℕ) → Typed.TF T31 O1
+      at28 = λ bs. Switch.Φswitch T31 O1 6 (λ x. Declared.tagOf ReadAnswer.the-type x) (Syntax.arm (List._∷_ 1 List.[]) b17 (Syntax.arm (List._∷_ 0 List.[]) b36 Syntax.noDefault)) (at10 bs, (at27 bs, tt))
 
-      abbrev at29 : Typed.TF T22 O1
-      at29 = λ Ψ. at28 Ψ
+      abbrev at29 : (bs : List.List Nat.ℕ) → Typed.TF T31 O1
+      at29 = λ bs. λ Ψ. at28 bs Ψ
 
-      abbrev at30 : Typed.TF T22 O1
-      at30 = λ Ψ. at29 Ψ
+      abbrev at30 : (bs : List.List Nat.ℕ) → Typed.TF T28 O1
+      at30 = λ bs. λ Ψ. Typed.both (s28 bs) (at29 bs Ψ)
 
-      abbrev at31 : Typed.TF T21 O1
-      at31 = λ Ψ. Typed.give s19 (at30 Ψ)
+      abbrev at31 : (bs : List.List Nat.ℕ) → Typed.TF T28 O1
+      at31 = λ bs. λ Ψ. at30 bs Ψ
 
-      abbrev at32 : Typed.TF T18 O1
-      at32 = λ Ψ. Typed.both s18 (at31 Ψ)
+      abbrev at32 : (bs : List.List Nat.ℕ) → Typed.TF T28 O1
+      at32 = λ bs. λ Ψ. at31 bs Ψ
 
-      abbrev at33 : Typed.TF T18 O1
-      at33 = λ Ψ. at32 Ψ
+      abbrev at33 : (bs : List.List Nat.ℕ) → Typed.TF T25 O1
+      at33 = λ bs. λ Ψ. Typed.both (s25 bs) (at32 bs Ψ)
 
-      abbrev at34 : Typed.TF T18 O1
-      at34 = λ Ψ. at33 Ψ
+      abbrev at34 : (bs : List.List Nat.ℕ) → Typed.TF T25 O1
+      at34 = λ bs. λ Ψ. at33 bs Ψ
 
-      abbrev at35 : Typed.TF T15 O1
-      at35 = λ Ψ. Typed.both s15 (at34 Ψ)
+      abbrev at35 : (bs : List.List Nat.ℕ) → Typed.TF T25 O1
+      at35 = λ bs. λ Ψ. at34 bs Ψ
 
-      abbrev at36 : Typed.TF T15 O1
-      at36 = λ Ψ. at35 Ψ
+      abbrev at36 : (bs : List.List Nat.ℕ) → Typed.TF T22 O1
+      at36 = λ bs. λ Ψ. Typed.both (s22 bs) (at35 bs Ψ)
 
-      abbrev at37 : Typed.TF T76 O0
-      at37 = Typed.atRet O0
+      abbrev at37 : (bs : List.List Nat.ℕ) → Typed.TF T22 O1
+      at37 = λ bs. λ Ψ. at36 bs Ψ
 
-      abbrev at38 : Typed.TF T75 O0
-      at38 = λ Ψ. Typed.pass T75 T76 s73 (at37 Ψ)
+      abbrev at38 : (bs : List.List Nat.ℕ) → Typed.TF T87 O0
+      at38 = λ bs. Typed.atRet O0
 
-      abbrev at39 : Typed.TF T16 O0
-      at39 = λ Ψ. Typed.pass T16 T75 s72 (at38 Ψ)
+      abbrev at39 : (bs : List.List Nat.ℕ) → Typed.TF T86 O0
+      at39 = λ bs. λ Ψ. Typed.pass T86 T87 (s84 bs) (at38 bs Ψ)
 
-      abbrev at40 : Typed.TF T15 O0
-      at40 = λ Ψ. at36 (Typed.wantNext T16 O0 (at39 Ψ) Ψ)
+      abbrev at40 : (bs : List.List Nat.ℕ) → Typed.TF T23 O0
+      at40 = λ bs. λ Ψ. Typed.pass T23 T86 (s83 bs) (at39 bs Ψ)
 
-      abbrev at41 : Typed.TF T14 O0
-      at41 = λ Ψ. Typed.both s13 (at40 Ψ)
+      abbrev at41 : (bs : List.List Nat.ℕ) → Typed.TF T22 O0
+      at41 = λ bs. λ Ψ. at37 bs (Typed.wantNext T23 O0 (at40 bs Ψ) Ψ)
 
-      abbrev at42 : Typed.TF T13 O0
-      at42 = λ Ψ. Typed.ask s12 (at41 Ψ)
+      abbrev at42 : (bs : List.List Nat.ℕ) → Typed.TF T21 O0
+      at42 = λ bs. λ Ψ. Typed.both (s20 bs) (at41 bs Ψ)
 
-      abbrev at43 : Typed.TF T11 O0
-      at43 = λ Ψ. Typed.give s11 (at42 Ψ)
+      abbrev at43 : (bs : List.List Nat.ℕ) → Typed.TF T20 O0
+      at43 = λ bs. λ Ψ. Typed.ask (s19 bs) (at42 bs Ψ)
 
-      abbrev at44 : Typed.TF T11 O0
-      at44 = λ Ψ. at43 Ψ
+      abbrev at44 : (bs : List.List Nat.ℕ) → Typed.TF T18 O0
+      at44 = λ bs. λ Ψ. Typed.give (s18 bs) (at43 bs Ψ)
 
-      abbrev at45 : Typed.TF T10 O0
-      at45 = λ Ψ. Typed.ask s9 (at44 Ψ)
+      abbrev at45 : (bs : List.List Nat.ℕ) → Typed.TF T18 O0
+      at45 = λ bs. λ Ψ. at44 bs Ψ
 
-      abbrev at46 : Typed.TF T8 O0
-      at46 = λ Ψ. Typed.give s8 (at45 Ψ)
+      abbrev at46 : (bs : List.List Nat.ℕ) → Typed.TF T17 O0
+      at46 = λ bs. λ Ψ. Typed.ask (s16 bs) (at45 bs Ψ)
 
-      abbrev at47 : Typed.TF T8 O0
-      at47 = λ Ψ. at46 Ψ
+      abbrev at47 : (bs : List.List Nat.ℕ) → Typed.TF T15 O0
+      at47 = λ bs. λ Ψ. Typed.give (s15 bs) (at46 bs Ψ)
 
-      abbrev at48 : Typed.TF T7 O0
-      at48 = λ Ψ. Typed.ask s6 (at47 Ψ)
+      abbrev at48 : (bs : List.List Nat.ℕ) → Typed.TF T15 O0
+      at48 = λ bs. λ Ψ. at47 bs Ψ
 
-      abbrev at49 : Typed.TF T5 O0
-      at49 = λ Ψ. Typed.give s5 (at48 Ψ)
+      abbrev at49 : (bs : List.List Nat.ℕ) → Typed.TF T14 O0
+      at49 = λ bs. λ Ψ. Typed.ask (s13 bs) (at48 bs Ψ)
 
-      abbrev at50 : Typed.TF T5 O0
-      at50 = λ Ψ. at49 Ψ
+      abbrev at50 : (bs : List.List Nat.ℕ) → Typed.TF T12 O0
+      at50 = λ bs. λ Ψ. Typed.give (s12 bs) (at49 bs Ψ)
 
-      abbrev at51 : Typed.TF T4 O0
-      at51 = λ Ψ. Typed.give s3 (at50 Ψ)
+      abbrev at51 : (bs : List.List Nat.ℕ) → Typed.TF T12 O0
+      at51 = λ bs. λ Ψ. at50 bs Ψ
 
-      abbrev at52 : Typed.TF T3 O0
-      at52 = λ Ψ. Typed.give s2 (at51 Ψ)
+      abbrev at52 : (bs : List.List Nat.ℕ) → Typed.TF T11 O0
+      at52 = λ bs. λ Ψ. Typed.pass T11 T12 (s10 bs) (at51 bs Ψ)
 
-      abbrev at53 : Typed.TF T2 O0
-      at53 = λ Ψ. Typed.give s1 (at52 Ψ)
+      abbrev at53 : (bs : List.List Nat.ℕ) → Typed.TF T10 O0
+      at53 = λ bs. λ Ψ. Typed.pass T10 T11 (s9 bs) (at52 bs Ψ)
 
-      abbrev at54 : Typed.TF T0 O0
-      at54 = λ Ψ. Typed.give s0 (at53 Ψ)
+      abbrev at54 : (bs : List.List Nat.ℕ) → Typed.TF T9 O0
+      at54 = λ bs. λ Ψ. Typed.pass T9 T10 (s8 bs) (at53 bs Ψ)
 
-      abbrev pub Φ : Typed.TF T0 O0
-      Φ = at54
+      abbrev at55 : (bs : List.List Nat.ℕ) → Typed.TF T8 O0
+      at55 = λ bs. λ Ψ. Typed.pass T8 T9 (s7 bs) (at54 bs Ψ)
+
+      abbrev at56 : (bs : List.List Nat.ℕ) → Typed.TF T7 O0
+      at56 = λ bs. λ Ψ. Typed.pass T7 T8 (s6 bs) (at55 bs Ψ)
+
+      abbrev at57 : (bs : List.List Nat.ℕ) → Typed.TF T6 O0
+      at57 = λ bs. λ Ψ. Typed.pass T6 T7 (s5 bs) (at56 bs Ψ)
+
+      abbrev at58 : (bs : List.List Nat.ℕ) → Typed.TF T5 O0
+      at58 = λ bs. λ Ψ. Typed.pass T5 T6 (s4 bs) (at57 bs Ψ)
+
+      abbrev at59 : (bs : List.List Nat.ℕ) → Typed.TF T4 O0
+      at59 = λ bs. λ Ψ. Typed.pass T4 T5 (s3 bs) (at58 bs Ψ)
+
+      abbrev at60 : (bs : List.List Nat.ℕ) → Typed.TF T3 O0
+      at60 = λ bs. λ Ψ. Typed.pass T3 T4 (s2 bs) (at59 bs Ψ)
+
+      abbrev at61 : (bs : List.List Nat.ℕ) → Typed.TF T2 O0
+      at61 = λ bs. λ Ψ. Typed.give (s1 bs) (at60 bs Ψ)
+
+      abbrev at62 : (bs : List.List Nat.ℕ) → Typed.TF T0 O0
+      at62 = λ bs. λ Ψ. Typed.give (s0 bs) (at61 bs Ψ)
+
+      abbrev pub Φ : (bs : List.List Nat.ℕ) → Typed.TF T0 O0
+      Φ = λ bs. at62 bs
 
       module _ {M : Type 1} (𝓤 : URA.URA M) (H : Wp.Heap 𝓤) (A : Atoms.Atoms 𝓤) (W : Kit.Given 𝓤 H A) (𝓣 : Wp.Tables 𝓤 H) where
         abbrev Knowns : Type 1
         Knowns = Plain.Known 𝓤 H A W 𝓣 4 ps·0 r·0 (claims· .0) (claims· .1) "reading::read" × Plain.Known 𝓤 H A W 𝓣 1 ps·1 r·1 (claims· .2) (claims· .3) "listing_text::internal::put_refusal" × Plain.Known 𝓤 H A W 𝓣 4 ps·2 r·2 (claims· .4) (claims· .5) "listing::plan::list_plan"
 
-      module _ (κs : Lifetimes.Lfts 5) (qs : Lifetimes.Shares 5) where
-        abbrev g3 : List.List Row.Entry
-        g3 = Row.setRow 2 (2, Relend.mslice-owed T.the-row ty·9 1 5 (Row.lease (κs .1 .0) (qs .1 .0))) t3
-
-        abbrev g4 : List.List Row.Entry
-        g4 = Row.setRow 2 (2, Relend.mslice-owed T.the-row ty·9 1 5 (Row.lease (κs .1 .0) (qs .1 .0))) t4
-
-        abbrev g5 : List.List Row.Entry
-        g5 = Row.setRow 11 (11, Relend.msptr (Referent.rtF (Referent.fInt Syntax.w16)) ty·1 6) (Row.setRow 3 (3, Relend.mslice-owed (Referent.rtF (Referent.fInt Syntax.w16)) ty·5 2 6 (Row.lease (κs .1 .1 .0) (qs .1 .1 .0))) g4)
-
-        abbrev g6 : List.List Row.Entry
-        g6 = Row.setRow 12 (12, Mut.mslice (Referent.rtF (Referent.fInt Syntax.w16)) ty·1 6) (Row.setRow 11 (11, Rows.any-gone ty·1) g5)
-
-        abbrev g7 : List.List Row.Entry
-        g7 = Row.setRow 13 (13, Relend.msptr (Referent.rtF (Referent.fInt Syntax.w16)) ty·1 7) (Row.setRow 4 (4, Relend.mslice-owed (Referent.rtF (Referent.fInt Syntax.w16)) ty·6 3 7 (Row.lease (κs .1 .1 .1 .0) (qs .1 .1 .1 .0))) g6)
-
-        abbrev g8 : List.List Row.Entry
-        g8 = Row.setRow 14 (14, Mut.mslice (Referent.rtF (Referent.fInt Syntax.w16)) ty·1 7) (Row.setRow 13 (13, Rows.any-gone ty·1) g7)
-
-        abbrev g9 : List.List Row.Entry
-        g9 = Row.setRow 14 (14, Mut.msleft (Referent.rtF (Referent.fInt Syntax.w16)) ty·1) (Row.setRow 12 (12, Mut.msleft (Referent.rtF (Referent.fInt Syntax.w16)) ty·1) (Row.setRow 10 (10, Mut.msleft T.the-row ty·7) (Row.setRow 6 (6, Rows.whole (Declared.row ReadAnswer.the-type)) g8)))
-
-        abbrev g11 : List.List Row.Entry
-        g11 = Row.setRow 10 (10, Rows.any-gone ty·13) (Row.setRow 2 (2, Mut.mslice T.the-row ty·9 1) g9)
-
-        abbrev g12 : List.List Row.Entry
-        g12 = Row.setRow 4 (4, Relend.mslice-owed (Referent.rtF (Referent.fInt Syntax.w16)) ty·6 3 7 (Row.lease (κs .1 .1 .1 .0) (qs .1 .1 .1 .0))) t12
-
-        abbrev g17 : List.List Row.Entry
-        g17 = Row.setRow 5 (5, Relend.mslice-owed (Referent.rtF (Referent.fInt Syntax.w8)) ty·4 4 8 (Row.lease (κs .1 .1 .1 .1 .0) (qs .1 .1 .1 .1 .0))) t16
-
-        abbrev g20 : List.List Row.Entry
-        g20 = Row.setRow 15 (15, Rows.sc-here (Row.sInt Syntax.w64)) g17
-
-        abbrev g22 : List.List Row.Entry
-        g22 = Row.setRow 5 (5, Relend.mslice-owed (Referent.rtF (Referent.fInt Syntax.w8)) ty·4 4 8 (Row.lease (κs .1 .1 .1 .1 .0) (qs .1 .1 .1 .1 .0))) t10
-
-        abbrev g26 : List.List Row.Entry
-        g26 = Row.setRow 2 (2, Reshare.mslice-owedS T.the-row ty·9 1 9 (Row.lease (κs .1 .0) (qs .1 .0))) t25
-
+      module _ (κs : Lifetimes.Lfts 2) (qs : Lifetimes.Shares 2) where
         abbrev g29 : List.List Row.Entry
-        g29 = Row.setRow 3 (3, Reshare.mslice-owedS (Referent.rtF (Referent.fInt Syntax.w16)) ty·5 2 10 (Row.lease (κs .1 .1 .0) (qs .1 .1 .0))) g26
+        g29 = Row.setRow 2 (2, Relend.mslice-owed (Referent.rtF (Referent.fInt Syntax.w8)) ty·8 1 5 (Row.lease (κs .1 .0) (qs .1 .0))) t28
 
-        abbrev g32 : List.List Row.Entry
-        g32 = Row.setRow 4 (4, Reshare.mslice-owedS (Referent.rtF (Referent.fInt Syntax.w16)) ty·6 3 11 (Row.lease (κs .1 .1 .1 .0) (qs .1 .1 .1 .0))) g29
-
-        abbrev g35 : List.List Row.Entry
-        g35 = Row.setRow 5 (5, Relend.mslice-owed (Referent.rtF (Referent.fInt Syntax.w8)) ty·4 4 12 (Row.lease (κs .1 .1 .1 .1 .0) (qs .1 .1 .1 .1 .0))) g32
-
-        abbrev g38 : List.List Row.Entry
-        g38 = Row.setRow 15 (15, Rows.sc-here (Row.sInt Syntax.w64)) g35
-
-        abbrev g43 : List.List Row.Entry
-        g43 = Row.setRow 8 (8, Rows.any-gone ty·15) g38
-
-        abbrev g44 : List.List Row.Entry
-        g44 = Row.setRow 2 (2, Mut.mslice T.the-row ty·9 1) g43
-
-        abbrev g45 : List.List Row.Entry
-        g45 = Row.setRow 3 (3, Mut.mslice (Referent.rtF (Referent.fInt Syntax.w16)) ty·5 2) g44
+        abbrev g33 : List.List Row.Entry
+        g33 = Row.setRow 2 (2, Relend.mslice-owed (Referent.rtF (Referent.fInt Syntax.w8)) ty·8 1 5 (Row.lease (κs .1 .0) (qs .1 .0))) t0
 
         abbrev g46 : List.List Row.Entry
-        g46 = Row.setRow 4 (4, Mut.mslice (Referent.rtF (Referent.fInt Syntax.w16)) ty·6 3) g45
+        g46 = Row.setRow 2 (2, Relend.mslice-owed (Referent.rtF (Referent.fInt Syntax.w8)) ty·8 1 9 (Row.lease (κs .1 .0) (qs .1 .0))) t43
+
+        abbrev g53 : List.List Row.Entry
+        g53 = Row.setRow 2 (2, Relend.mslice-owed (Referent.rtF (Referent.fInt Syntax.w8)) ty·8 1 9 (Row.lease (κs .1 .0) (qs .1 .0))) t53
+
+        abbrev g54 : List.List Row.Entry
+        g54 = Row.setRow 3 (3, Rows.arrF T.the-row 1024 0) g53
+
+        abbrev g55 : List.List Row.Entry
+        g55 = Row.setRow 3 (3, Rows'.any-gone ty·2) g53
+
+        abbrev g56 : List.List Row.Entry
+        g56 = Row.setRow 4 (4, Rows.arrF (Referent.rtF (Referent.fInt Syntax.w16)) 4096 0) g55
+
+        abbrev g57 : List.List Row.Entry
+        g57 = Row.setRow 4 (4, Rows'.any-gone ty·0) g55
+
+        abbrev g58 : List.List Row.Entry
+        g58 = Row.setRow 5 (5, Rows.arrF (Referent.rtF (Referent.fInt Syntax.w16)) 16384 0) g57
+
+        abbrev g59 : List.List Row.Entry
+        g59 = Row.setRow 5 (5, Rows'.any-gone ty·1) g57
 
         abbrev G0 : Row.Cx
-        G0 = record { locals = List._++_ t0 t1; slots = List._∷_ (Row.lease (κs .0) (qs .0)) (List._∷_ (Row.lease (κs .1 .0) (qs .1 .0)) (List._∷_ (Row.lease (κs .1 .1 .0) (qs .1 .1 .0)) (List._∷_ (Row.lease (κs .1 .1 .1 .0) (qs .1 .1 .1 .0)) (List._∷_ (Row.lease (κs .1 .1 .1 .1 .0) (qs .1 .1 .1 .1 .0)) (List._∷_ Row.off (List._∷_ Row.off (List._∷_ Row.off (List._∷_ Row.off (List._∷_ Row.off (List._∷_ Row.off (List._∷_ Row.off (List._∷_ Row.off List.[])))))))))))) }
+        G0 = record { locals = List._++_ t0 t1; slots = List._∷_ (Row.lease (κs .0) (qs .0)) (List._∷_ (Row.lease (κs .1 .0) (qs .1 .0)) (List._∷_ Row.off (List._∷_ Row.off (List._∷_ Row.off (List._∷_ Row.off (List._∷_ Row.off (List._∷_ Row.off (List._∷_ Row.off (List._∷_ Row.off List.[]))))))))) }
 
         abbrev G1 : Row.Cx
-        G1 = record { locals = List._++_ t2 t1; slots = List._∷_ (Row.lease (κs .0) (qs .0)) (List._∷_ (Row.lease (κs .1 .0) (qs .1 .0)) (List._∷_ (Row.lease (κs .1 .1 .0) (qs .1 .1 .0)) (List._∷_ (Row.lease (κs .1 .1 .1 .0) (qs .1 .1 .1 .0)) (List._∷_ (Row.lease (κs .1 .1 .1 .1 .0) (qs .1 .1 .1 .1 .0)) (List._∷_ Row.off (List._∷_ Row.off (List._∷_ Row.off (List._∷_ Row.off (List._∷_ Row.off (List._∷_ Row.off (List._∷_ Row.off (List._∷_ Row.off List.[])))))))))))) }
+        G1 = record { locals = List._++_ t2 t1; slots = List._∷_ (Row.lease (κs .0) (qs .0)) (List._∷_ (Row.lease (κs .1 .0) (qs .1 .0)) (List._∷_ Row.off (List._∷_ Row.off (List._∷_ Row.off (List._∷_ Row.off (List._∷_ Row.off (List._∷_ Row.off (List._∷_ Row.off (List._∷_ Row.off List.[]))))))))) }
 
         abbrev G2 : Row.Cx
-        G2 = record { locals = List._++_ t0 t1; slots = List._∷_ (Row.lease (κs .0) (qs .0)) (List._∷_ (Row.lease (κs .1 .0) (qs .1 .0)) (List._∷_ (Row.lease (κs .1 .1 .0) (qs .1 .1 .0)) (List._∷_ (Row.lease (κs .1 .1 .1 .0) (qs .1 .1 .1 .0)) (List._∷_ (Row.lease (κs .1 .1 .1 .1 .0) (qs .1 .1 .1 .1 .0)) (List._∷_ Row.off (List._∷_ Row.off (List._∷_ Row.off (List._∷_ Row.off (List._∷_ Row.off (List._∷_ Row.off (List._∷_ Row.off (List._∷_ Row.off List.[])))))))))))) }
+        G2 = record { locals = List._++_ t0 t1; slots = List._∷_ (Row.lease (κs .0) (qs .0)) (List._∷_ (Row.lease (κs .1 .0) (qs .1 .0)) (List._∷_ Row.off (List._∷_ Row.off (List._∷_ Row.off (List._∷_ Row.off (List._∷_ Row.off (List._∷_ Row.off (List._∷_ Row.off (List._∷_ Row.off List.[]))))))))) }
 
         abbrev G3 : Row.Cx
-        G3 = record { locals = List._++_ t0 t1; slots = List._∷_ (Row.lease (κs .0) (qs .0)) (List._∷_ (Row.lease (κs .1 .0) (qs .1 .0)) (List._∷_ (Row.lease (κs .1 .1 .0) (qs .1 .1 .0)) (List._∷_ (Row.lease (κs .1 .1 .1 .0) (qs .1 .1 .1 .0)) (List._∷_ (Row.lease (κs .1 .1 .1 .1 .0) (qs .1 .1 .1 .1 .0)) (List._∷_ Row.off (List._∷_ Row.off (List._∷_ Row.off (List._∷_ Row.off (List._∷_ Row.off (List._∷_ Row.off (List._∷_ Row.off (List._∷_ Row.off List.[])))))))))))) }
+        G3 = record { locals = List._++_ t0 t1; slots = List._∷_ (Row.lease (κs .0) (qs .0)) (List._∷_ (Row.lease (κs .1 .0) (qs .1 .0)) (List._∷_ Row.off (List._∷_ Row.off (List._∷_ Row.off (List._∷_ Row.off (List._∷_ Row.off (List._∷_ Row.off (List._∷_ Row.off (List._∷_ Row.off List.[]))))))))) }
 
         abbrev G4 : Row.Cx
-        G4 = record { locals = List._++_ t0 t1; slots = List._∷_ (Row.lease (κs .0) (qs .0)) (List._∷_ (Row.lease (κs .1 .0) (qs .1 .0)) (List._∷_ (Row.lease (κs .1 .1 .0) (qs .1 .1 .0)) (List._∷_ (Row.lease (κs .1 .1 .1 .0) (qs .1 .1 .1 .0)) (List._∷_ (Row.lease (κs .1 .1 .1 .1 .0) (qs .1 .1 .1 .1 .0)) (List._∷_ Row.off (List._∷_ Row.off (List._∷_ Row.off (List._∷_ Row.off (List._∷_ Row.off (List._∷_ Row.off (List._∷_ Row.off (List._∷_ Row.off List.[])))))))))))) }
+        G4 = record { locals = List._++_ t3 t1; slots = List._∷_ (Row.lease (κs .0) (qs .0)) (List._∷_ (Row.lease (κs .1 .0) (qs .1 .0)) (List._∷_ Row.off (List._∷_ Row.off (List._∷_ Row.off (List._∷_ Row.off (List._∷_ Row.off (List._∷_ Row.off (List._∷_ Row.off (List._∷_ Row.off List.[]))))))))) }
 
         abbrev G5 : Row.Cx
-        G5 = record { locals = List._++_ t0 t1; slots = List._∷_ (Row.lease (κs .0) (qs .0)) (List._∷_ (Row.lease (κs .1 .0) (qs .1 .0)) (List._∷_ (Row.lease (κs .1 .1 .0) (qs .1 .1 .0)) (List._∷_ (Row.lease (κs .1 .1 .1 .0) (qs .1 .1 .1 .0)) (List._∷_ (Row.lease (κs .1 .1 .1 .1 .0) (qs .1 .1 .1 .1 .0)) (List._∷_ Row.off (List._∷_ Row.off (List._∷_ Row.off (List._∷_ Row.off (List._∷_ Row.off (List._∷_ Row.off (List._∷_ Row.off (List._∷_ Row.off List.[])))))))))))) }
+        G5 = record { locals = List._++_ t4 t1; slots = List._∷_ (Row.lease (κs .0) (qs .0)) (List._∷_ (Row.lease (κs .1 .0) (qs .1 .0)) (List._∷_ Row.off (List._∷_ Row.off (List._∷_ Row.off (List._∷_ Row.off (List._∷_ Row.off (List._∷_ Row.off (List._∷_ Row.off (List._∷_ Row.off List.[]))))))))) }
 
         abbrev G6 : Row.Cx
-        G6 = record { locals = List._++_ t0 t1; slots = List._∷_ (Row.lease (κs .0) (qs .0)) (List._∷_ (Row.lease (κs .1 .0) (qs .1 .0)) (List._∷_ (Row.lease (κs .1 .1 .0) (qs .1 .1 .0)) (List._∷_ (Row.lease (κs .1 .1 .1 .0) (qs .1 .1 .1 .0)) (List._∷_ (Row.lease (κs .1 .1 .1 .1 .0) (qs .1 .1 .1 .1 .0)) (List._∷_ Row.alive (List._∷_ Row.off (List._∷_ Row.off (List._∷_ Row.off (List._∷_ Row.off (List._∷_ Row.off (List._∷_ Row.off (List._∷_ Row.off List.[])))))))))))) }
+        G6 = record { locals = List._++_ t5 t1; slots = List._∷_ (Row.lease (κs .0) (qs .0)) (List._∷_ (Row.lease (κs .1 .0) (qs .1 .0)) (List._∷_ Row.off (List._∷_ Row.off (List._∷_ Row.off (List._∷_ Row.off (List._∷_ Row.off (List._∷_ Row.off (List._∷_ Row.off (List._∷_ Row.off List.[]))))))))) }
 
         abbrev G7 : Row.Cx
-        G7 = record { locals = List._++_ g3 t1; slots = List._∷_ (Row.lease (κs .0) (qs .0)) (List._∷_ Row.off (List._∷_ (Row.lease (κs .1 .1 .0) (qs .1 .1 .0)) (List._∷_ (Row.lease (κs .1 .1 .1 .0) (qs .1 .1 .1 .0)) (List._∷_ (Row.lease (κs .1 .1 .1 .1 .0) (qs .1 .1 .1 .1 .0)) (List._∷_ Row.alive (List._∷_ Row.off (List._∷_ Row.off (List._∷_ Row.off (List._∷_ Row.off (List._∷_ Row.off (List._∷_ Row.off (List._∷_ Row.off List.[])))))))))))) }
+        G7 = record { locals = List._++_ t6 t1; slots = List._∷_ (Row.lease (κs .0) (qs .0)) (List._∷_ (Row.lease (κs .1 .0) (qs .1 .0)) (List._∷_ Row.off (List._∷_ Row.off (List._∷_ Row.off (List._∷_ Row.off (List._∷_ Row.off (List._∷_ Row.off (List._∷_ Row.off (List._∷_ Row.off List.[]))))))))) }
 
         abbrev G8 : Row.Cx
-        G8 = record { locals = List._++_ g4 t1; slots = List._∷_ (Row.lease (κs .0) (qs .0)) (List._∷_ Row.off (List._∷_ (Row.lease (κs .1 .1 .0) (qs .1 .1 .0)) (List._∷_ (Row.lease (κs .1 .1 .1 .0) (qs .1 .1 .1 .0)) (List._∷_ (Row.lease (κs .1 .1 .1 .1 .0) (qs .1 .1 .1 .1 .0)) (List._∷_ Row.alive (List._∷_ Row.off (List._∷_ Row.off (List._∷_ Row.off (List._∷_ Row.off (List._∷_ Row.off (List._∷_ Row.off (List._∷_ Row.off List.[])))))))))))) }
+        G8 = record { locals = List._++_ t7 t1; slots = List._∷_ (Row.lease (κs .0) (qs .0)) (List._∷_ (Row.lease (κs .1 .0) (qs .1 .0)) (List._∷_ Row.off (List._∷_ Row.off (List._∷_ Row.off (List._∷_ Row.off (List._∷_ Row.off (List._∷_ Row.off (List._∷_ Row.off (List._∷_ Row.off List.[]))))))))) }
 
         abbrev G9 : Row.Cx
-        G9 = record { locals = List._++_ g4 t1; slots = List._∷_ (Row.lease (κs .0) (qs .0)) (List._∷_ Row.off (List._∷_ (Row.lease (κs .1 .1 .0) (qs .1 .1 .0)) (List._∷_ (Row.lease (κs .1 .1 .1 .0) (qs .1 .1 .1 .0)) (List._∷_ (Row.lease (κs .1 .1 .1 .1 .0) (qs .1 .1 .1 .1 .0)) (List._∷_ Row.alive (List._∷_ Row.alive (List._∷_ Row.off (List._∷_ Row.off (List._∷_ Row.off (List._∷_ Row.off (List._∷_ Row.off (List._∷_ Row.off List.[])))))))))))) }
+        G9 = record { locals = List._++_ t8 t1; slots = List._∷_ (Row.lease (κs .0) (qs .0)) (List._∷_ (Row.lease (κs .1 .0) (qs .1 .0)) (List._∷_ Row.off (List._∷_ Row.off (List._∷_ Row.off (List._∷_ Row.off (List._∷_ Row.off (List._∷_ Row.off (List._∷_ Row.off (List._∷_ Row.off List.[]))))))))) }
 
         abbrev G10 : Row.Cx
-        G10 = record { locals = List._++_ g5 t1; slots = List._∷_ (Row.lease (κs .0) (qs .0)) (List._∷_ Row.off (List._∷_ Row.off (List._∷_ (Row.lease (κs .1 .1 .1 .0) (qs .1 .1 .1 .0)) (List._∷_ (Row.lease (κs .1 .1 .1 .1 .0) (qs .1 .1 .1 .1 .0)) (List._∷_ Row.alive (List._∷_ Row.alive (List._∷_ Row.off (List._∷_ Row.off (List._∷_ Row.off (List._∷_ Row.off (List._∷_ Row.off (List._∷_ Row.off List.[])))))))))))) }
+        G10 = record { locals = List._++_ t9 t1; slots = List._∷_ (Row.lease (κs .0) (qs .0)) (List._∷_ (Row.lease (κs .1 .0) (qs .1 .0)) (List._∷_ Row.off (List._∷_ Row.off (List._∷_ Row.off (List._∷_ Row.off (List._∷_ Row.off (List._∷_ Row.off (List._∷_ Row.off (List._∷_ Row.off List.[]))))))))) }
 
         abbrev G11 : Row.Cx
-        G11 = record { locals = List._++_ g6 t1; slots = List._∷_ (Row.lease (κs .0) (qs .0)) (List._∷_ Row.off (List._∷_ Row.off (List._∷_ (Row.lease (κs .1 .1 .1 .0) (qs .1 .1 .1 .0)) (List._∷_ (Row.lease (κs .1 .1 .1 .1 .0) (qs .1 .1 .1 .1 .0)) (List._∷_ Row.alive (List._∷_ Row.alive (List._∷_ Row.off (List._∷_ Row.off (List._∷_ Row.off (List._∷_ Row.off (List._∷_ Row.off (List._∷_ Row.off List.[])))))))))))) }
+        G11 = record { locals = List._++_ t10 t1; slots = List._∷_ (Row.lease (κs .0) (qs .0)) (List._∷_ (Row.lease (κs .1 .0) (qs .1 .0)) (List._∷_ Row.off (List._∷_ Row.off (List._∷_ Row.off (List._∷_ Row.off (List._∷_ Row.off (List._∷_ Row.off (List._∷_ Row.off (List._∷_ Row.off List.[]))))))))) }
 
         abbrev G12 : Row.Cx
-        G12 = record { locals = List._++_ g6 t1; slots = List._∷_ (Row.lease (κs .0) (qs .0)) (List._∷_ Row.off (List._∷_ Row.off (List._∷_ (Row.lease (κs .1 .1 .1 .0) (qs .1 .1 .1 .0)) (List._∷_ (Row.lease (κs .1 .1 .1 .1 .0) (qs .1 .1 .1 .1 .0)) (List._∷_ Row.alive (List._∷_ Row.alive (List._∷_ Row.alive (List._∷_ Row.off (List._∷_ Row.off (List._∷_ Row.off (List._∷_ Row.off (List._∷_ Row.off List.[])))))))))))) }
+        G12 = record { locals = List._++_ t11 t1; slots = List._∷_ (Row.lease (κs .0) (qs .0)) (List._∷_ (Row.lease (κs .1 .0) (qs .1 .0)) (List._∷_ Row.off (List._∷_ Row.off (List._∷_ Row.off (List._∷_ Row.off (List._∷_ Row.off (List._∷_ Row.off (List._∷_ Row.off (List._∷_ Row.off List.[]))))))))) }
 
         abbrev G13 : Row.Cx
-        G13 = record { locals = List._++_ g7 t1; slots = List._∷_ (Row.lease (κs .0) (qs .0)) (List._∷_ Row.off (List._∷_ Row.off (List._∷_ Row.off (List._∷_ (Row.lease (κs .1 .1 .1 .1 .0) (qs .1 .1 .1 .1 .0)) (List._∷_ Row.alive (List._∷_ Row.alive (List._∷_ Row.alive (List._∷_ Row.off (List._∷_ Row.off (List._∷_ Row.off (List._∷_ Row.off (List._∷_ Row.off List.[])))))))))))) }
+        G13 = record { locals = List._++_ t11 t1; slots = List._∷_ (Row.lease (κs .0) (qs .0)) (List._∷_ (Row.lease (κs .1 .0) (qs .1 .0)) (List._∷_ Row.alive (List._∷_ Row.off (List._∷_ Row.off (List._∷_ Row.off (List._∷_ Row.off (List._∷_ Row.off (List._∷_ Row.off (List._∷_ Row.off List.[]))))))))) }
 
         abbrev G14 : Row.Cx
-        G14 = record { locals = List._++_ g8 t1; slots = List._∷_ (Row.lease (κs .0) (qs .0)) (List._∷_ Row.off (List._∷_ Row.off (List._∷_ Row.off (List._∷_ (Row.lease (κs .1 .1 .1 .1 .0) (qs .1 .1 .1 .1 .0)) (List._∷_ Row.alive (List._∷_ Row.alive (List._∷_ Row.alive (List._∷_ Row.off (List._∷_ Row.off (List._∷_ Row.off (List._∷_ Row.off (List._∷_ Row.off List.[])))))))))))) }
+        G14 = record { locals = List._++_ t12 t1; slots = List._∷_ (Row.lease (κs .0) (qs .0)) (List._∷_ (Row.lease (κs .1 .0) (qs .1 .0)) (List._∷_ Row.alive (List._∷_ Row.off (List._∷_ Row.off (List._∷_ Row.off (List._∷_ Row.off (List._∷_ Row.off (List._∷_ Row.off (List._∷_ Row.off List.[]))))))))) }
 
         abbrev G15 : Row.Cx
-        G15 = record { locals = List._++_ g9 t1; slots = List._∷_ (Row.lease (κs .0) (qs .0)) (List._∷_ Row.off (List._∷_ Row.off (List._∷_ Row.off (List._∷_ (Row.lease (κs .1 .1 .1 .1 .0) (qs .1 .1 .1 .1 .0)) (List._∷_ Row.alive (List._∷_ Row.alive (List._∷_ Row.alive (List._∷_ Row.off (List._∷_ Row.off (List._∷_ Row.off (List._∷_ Row.off (List._∷_ Row.off List.[])))))))))))) }
+        G15 = record { locals = List._++_ t13 t1; slots = List._∷_ (Row.lease (κs .0) (qs .0)) (List._∷_ (Row.lease (κs .1 .0) (qs .1 .0)) (List._∷_ Row.alive (List._∷_ Row.off (List._∷_ Row.off (List._∷_ Row.off (List._∷_ Row.off (List._∷_ Row.off (List._∷_ Row.off (List._∷_ Row.off List.[]))))))))) }
 
         abbrev G16 : Row.Cx
-        G16 = record { locals = List._++_ t10 t1; slots = List._∷_ (Row.lease (κs .0) (qs .0)) (List._∷_ (Row.lease (κs .1 .0) (qs .1 .0)) (List._∷_ (Row.lease (κs .1 .1 .0) (qs .1 .1 .0)) (List._∷_ (Row.lease (κs .1 .1 .1 .0) (qs .1 .1 .1 .0)) (List._∷_ (Row.lease (κs .1 .1 .1 .1 .0) (qs .1 .1 .1 .1 .0)) (List._∷_ Row.off (List._∷_ Row.off (List._∷_ Row.off (List._∷_ Row.off (List._∷_ Row.off (List._∷_ Row.off (List._∷_ Row.off (List._∷_ Row.off List.[])))))))))))) }
+        G16 = record { locals = List._++_ t13 t1; slots = List._∷_ (Row.lease (κs .0) (qs .0)) (List._∷_ (Row.lease (κs .1 .0) (qs .1 .0)) (List._∷_ Row.alive (List._∷_ Row.alive (List._∷_ Row.off (List._∷_ Row.off (List._∷_ Row.off (List._∷_ Row.off (List._∷_ Row.off (List._∷_ Row.off List.[]))))))))) }
 
         abbrev G17 : Row.Cx
-        G17 = record { locals = List._++_ g9 t1; slots = List._∷_ (Row.lease (κs .0) (qs .0)) (List._∷_ Row.off (List._∷_ Row.off (List._∷_ Row.off (List._∷_ (Row.lease (κs .1 .1 .1 .1 .0) (qs .1 .1 .1 .1 .0)) (List._∷_ Row.dead (List._∷_ Row.alive (List._∷_ Row.alive (List._∷_ Row.off (List._∷_ Row.off (List._∷_ Row.off (List._∷_ Row.off (List._∷_ Row.off List.[])))))))))))) }
+        G17 = record { locals = List._++_ t14 t1; slots = List._∷_ (Row.lease (κs .0) (qs .0)) (List._∷_ (Row.lease (κs .1 .0) (qs .1 .0)) (List._∷_ Row.alive (List._∷_ Row.alive (List._∷_ Row.off (List._∷_ Row.off (List._∷_ Row.off (List._∷_ Row.off (List._∷_ Row.off (List._∷_ Row.off List.[]))))))))) }
 
         abbrev G18 : Row.Cx
-        G18 = record { locals = List._++_ g11 t1; slots = List._∷_ (Row.lease (κs .0) (qs .0)) (List._∷_ (Row.lease (κs .1 .0) (qs .1 .0)) (List._∷_ Row.off (List._∷_ Row.off (List._∷_ (Row.lease (κs .1 .1 .1 .1 .0) (qs .1 .1 .1 .1 .0)) (List._∷_ Row.dead (List._∷_ Row.alive (List._∷_ Row.alive (List._∷_ Row.off (List._∷_ Row.off (List._∷_ Row.off (List._∷_ Row.off (List._∷_ Row.off List.[])))))))))))) }
+        G18 = record { locals = List._++_ t15 t1; slots = List._∷_ (Row.lease (κs .0) (qs .0)) (List._∷_ (Row.lease (κs .1 .0) (qs .1 .0)) (List._∷_ Row.alive (List._∷_ Row.alive (List._∷_ Row.off (List._∷_ Row.off (List._∷_ Row.off (List._∷_ Row.off (List._∷_ Row.off (List._∷_ Row.off List.[]))))))))) }
 
         abbrev G19 : Row.Cx
-        G19 = record { locals = List._++_ g11 t1; slots = List._∷_ (Row.lease (κs .0) (qs .0)) (List._∷_ (Row.lease (κs .1 .0) (qs .1 .0)) (List._∷_ Row.off (List._∷_ Row.off (List._∷_ (Row.lease (κs .1 .1 .1 .1 .0) (qs .1 .1 .1 .1 .0)) (List._∷_ Row.off (List._∷_ Row.alive (List._∷_ Row.alive (List._∷_ Row.off (List._∷_ Row.off (List._∷_ Row.off (List._∷_ Row.off (List._∷_ Row.off List.[])))))))))))) }
+        G19 = record { locals = List._++_ t15 t1; slots = List._∷_ (Row.lease (κs .0) (qs .0)) (List._∷_ (Row.lease (κs .1 .0) (qs .1 .0)) (List._∷_ Row.alive (List._∷_ Row.alive (List._∷_ Row.alive (List._∷_ Row.off (List._∷_ Row.off (List._∷_ Row.off (List._∷_ Row.off (List._∷_ Row.off List.[]))))))))) }
 
         abbrev G20 : Row.Cx
-        G20 = record { locals = List._++_ g11 t1; slots = List._∷_ (Row.lease (κs .0) (qs .0)) (List._∷_ (Row.lease (κs .1 .0) (qs .1 .0)) (List._∷_ Row.off (List._∷_ Row.off (List._∷_ (Row.lease (κs .1 .1 .1 .1 .0) (qs .1 .1 .1 .1 .0)) (List._∷_ Row.off (List._∷_ Row.dead (List._∷_ Row.alive (List._∷_ Row.off (List._∷_ Row.off (List._∷_ Row.off (List._∷_ Row.off (List._∷_ Row.off List.[])))))))))))) }
+        G20 = record { locals = List._++_ t16 t1; slots = List._∷_ (Row.lease (κs .0) (qs .0)) (List._∷_ (Row.lease (κs .1 .0) (qs .1 .0)) (List._∷_ Row.alive (List._∷_ Row.alive (List._∷_ Row.alive (List._∷_ Row.off (List._∷_ Row.off (List._∷_ Row.off (List._∷_ Row.off (List._∷_ Row.off List.[]))))))))) }
 
         abbrev G21 : Row.Cx
-        G21 = record { locals = List._++_ g12 t1; slots = List._∷_ (Row.lease (κs .0) (qs .0)) (List._∷_ (Row.lease (κs .1 .0) (qs .1 .0)) (List._∷_ (Row.lease (κs .1 .1 .0) (qs .1 .1 .0)) (List._∷_ Row.off (List._∷_ (Row.lease (κs .1 .1 .1 .1 .0) (qs .1 .1 .1 .1 .0)) (List._∷_ Row.off (List._∷_ Row.dead (List._∷_ Row.alive (List._∷_ Row.off (List._∷_ Row.off (List._∷_ Row.off (List._∷_ Row.off (List._∷_ Row.off List.[])))))))))))) }
+        G21 = record { locals = List._++_ t17 t1; slots = List._∷_ (Row.lease (κs .0) (qs .0)) (List._∷_ (Row.lease (κs .1 .0) (qs .1 .0)) (List._∷_ Row.alive (List._∷_ Row.alive (List._∷_ Row.alive (List._∷_ Row.off (List._∷_ Row.off (List._∷_ Row.off (List._∷_ Row.off (List._∷_ Row.off List.[]))))))))) }
 
         abbrev G22 : Row.Cx
-        G22 = record { locals = List._++_ g12 t1; slots = List._∷_ (Row.lease (κs .0) (qs .0)) (List._∷_ (Row.lease (κs .1 .0) (qs .1 .0)) (List._∷_ (Row.lease (κs .1 .1 .0) (qs .1 .1 .0)) (List._∷_ Row.off (List._∷_ (Row.lease (κs .1 .1 .1 .1 .0) (qs .1 .1 .1 .1 .0)) (List._∷_ Row.off (List._∷_ Row.dead (List._∷_ Row.alive (List._∷_ Row.off (List._∷_ Row.off (List._∷_ Row.off (List._∷_ Row.off (List._∷_ Row.off List.[])))))))))))) }
+        G22 = record { locals = List._++_ t18 t1; slots = List._∷_ (Row.lease (κs .0) (qs .0)) (List._∷_ (Row.lease (κs .1 .0) (qs .1 .0)) (List._∷_ Row.alive (List._∷_ Row.alive (List._∷_ Row.alive (List._∷_ Row.off (List._∷_ Row.off (List._∷_ Row.off (List._∷_ Row.off (List._∷_ Row.off List.[]))))))))) }
 
         abbrev G23 : Row.Cx
-        G23 = record { locals = List._++_ g12 t1; slots = List._∷_ (Row.lease (κs .0) (qs .0)) (List._∷_ (Row.lease (κs .1 .0) (qs .1 .0)) (List._∷_ (Row.lease (κs .1 .1 .0) (qs .1 .1 .0)) (List._∷_ Row.off (List._∷_ (Row.lease (κs .1 .1 .1 .1 .0) (qs .1 .1 .1 .1 .0)) (List._∷_ Row.off (List._∷_ Row.off (List._∷_ Row.alive (List._∷_ Row.off (List._∷_ Row.off (List._∷_ Row.off (List._∷_ Row.off (List._∷_ Row.off List.[])))))))))))) }
+        G23 = record { locals = List._++_ t0 t19; slots = List._∷_ (Row.lease (κs .0) (qs .0)) (List._∷_ (Row.lease (κs .1 .0) (qs .1 .0)) (List._∷_ Row.off (List._∷_ Row.off (List._∷_ Row.off (List._∷_ Row.off (List._∷_ Row.off (List._∷_ Row.off (List._∷_ Row.off (List._∷_ Row.off List.[]))))))))) }
 
         abbrev G24 : Row.Cx
-        G24 = record { locals = List._++_ g12 t1; slots = List._∷_ (Row.lease (κs .0) (qs .0)) (List._∷_ (Row.lease (κs .1 .0) (qs .1 .0)) (List._∷_ (Row.lease (κs .1 .1 .0) (qs .1 .1 .0)) (List._∷_ Row.off (List._∷_ (Row.lease (κs .1 .1 .1 .1 .0) (qs .1 .1 .1 .1 .0)) (List._∷_ Row.off (List._∷_ Row.off (List._∷_ Row.dead (List._∷_ Row.off (List._∷_ Row.off (List._∷_ Row.off (List._∷_ Row.off (List._∷_ Row.off List.[])))))))))))) }
+        G24 = record { locals = List._++_ t18 t1; slots = List._∷_ (Row.lease (κs .0) (qs .0)) (List._∷_ (Row.lease (κs .1 .0) (qs .1 .0)) (List._∷_ Row.dead (List._∷_ Row.alive (List._∷_ Row.alive (List._∷_ Row.off (List._∷_ Row.off (List._∷_ Row.off (List._∷_ Row.off (List._∷_ Row.off List.[]))))))))) }
 
         abbrev G25 : Row.Cx
-        G25 = record { locals = List._++_ t13 t1; slots = List._∷_ (Row.lease (κs .0) (qs .0)) (List._∷_ (Row.lease (κs .1 .0) (qs .1 .0)) (List._∷_ (Row.lease (κs .1 .1 .0) (qs .1 .1 .0)) (List._∷_ (Row.lease (κs .1 .1 .1 .0) (qs .1 .1 .1 .0)) (List._∷_ (Row.lease (κs .1 .1 .1 .1 .0) (qs .1 .1 .1 .1 .0)) (List._∷_ Row.off (List._∷_ Row.off (List._∷_ Row.dead (List._∷_ Row.off (List._∷_ Row.off (List._∷_ Row.off (List._∷_ Row.off (List._∷_ Row.off List.[])))))))))))) }
+        G25 = record { locals = List._++_ t20 t1; slots = List._∷_ (Row.lease (κs .0) (qs .0)) (List._∷_ (Row.lease (κs .1 .0) (qs .1 .0)) (List._∷_ Row.dead (List._∷_ Row.alive (List._∷_ Row.alive (List._∷_ Row.off (List._∷_ Row.off (List._∷_ Row.off (List._∷_ Row.off (List._∷_ Row.off List.[]))))))))) }
 
         abbrev G26 : Row.Cx
-        G26 = record { locals = List._++_ t13 t1; slots = List._∷_ (Row.lease (κs .0) (qs .0)) (List._∷_ (Row.lease (κs .1 .0) (qs .1 .0)) (List._∷_ (Row.lease (κs .1 .1 .0) (qs .1 .1 .0)) (List._∷_ (Row.lease (κs .1 .1 .1 .0) (qs .1 .1 .1 .0)) (List._∷_ (Row.lease (κs .1 .1 .1 .1 .0) (qs .1 .1 .1 .1 .0)) (List._∷_ Row.off (List._∷_ Row.off (List._∷_ Row.dead (List._∷_ Row.off (List._∷_ Row.off (List._∷_ Row.off (List._∷_ Row.off (List._∷_ Row.off List.[])))))))))))) }
+        G26 = record { locals = List._++_ t20 t1; slots = List._∷_ (Row.lease (κs .0) (qs .0)) (List._∷_ (Row.lease (κs .1 .0) (qs .1 .0)) (List._∷_ Row.off (List._∷_ Row.alive (List._∷_ Row.alive (List._∷_ Row.off (List._∷_ Row.off (List._∷_ Row.off (List._∷_ Row.off (List._∷_ Row.off List.[]))))))))) }
 
         abbrev G27 : Row.Cx
-        G27 = record { locals = List._++_ t13 t1; slots = List._∷_ (Row.lease (κs .0) (qs .0)) (List._∷_ (Row.lease (κs .1 .0) (qs .1 .0)) (List._∷_ (Row.lease (κs .1 .1 .0) (qs .1 .1 .0)) (List._∷_ (Row.lease (κs .1 .1 .1 .0) (qs .1 .1 .1 .0)) (List._∷_ (Row.lease (κs .1 .1 .1 .1 .0) (qs .1 .1 .1 .1 .0)) (List._∷_ Row.off (List._∷_ Row.off (List._∷_ Row.off (List._∷_ Row.off (List._∷_ Row.off (List._∷_ Row.off (List._∷_ Row.off (List._∷_ Row.off List.[])))))))))))) }
+        G27 = record { locals = List._++_ t20 t1; slots = List._∷_ (Row.lease (κs .0) (qs .0)) (List._∷_ (Row.lease (κs .1 .0) (qs .1 .0)) (List._∷_ Row.off (List._∷_ Row.dead (List._∷_ Row.alive (List._∷_ Row.off (List._∷_ Row.off (List._∷_ Row.off (List._∷_ Row.off (List._∷_ Row.off List.[]))))))))) }
 
         abbrev G28 : Row.Cx
-        G28 = record { locals = List._++_ t14 t1; slots = List._∷_ (Row.lease (κs .0) (qs .0)) (List._∷_ (Row.lease (κs .1 .0) (qs .1 .0)) (List._∷_ (Row.lease (κs .1 .1 .0) (qs .1 .1 .0)) (List._∷_ (Row.lease (κs .1 .1 .1 .0) (qs .1 .1 .1 .0)) (List._∷_ (Row.lease (κs .1 .1 .1 .1 .0) (qs .1 .1 .1 .1 .0)) (List._∷_ Row.off (List._∷_ Row.off (List._∷_ Row.off (List._∷_ Row.off (List._∷_ Row.off (List._∷_ Row.off (List._∷_ Row.off (List._∷_ Row.off List.[])))))))))))) }
+        G28 = record { locals = List._++_ t21 t1; slots = List._∷_ (Row.lease (κs .0) (qs .0)) (List._∷_ (Row.lease (κs .1 .0) (qs .1 .0)) (List._∷_ Row.off (List._∷_ Row.dead (List._∷_ Row.alive (List._∷_ Row.off (List._∷_ Row.off (List._∷_ Row.off (List._∷_ Row.off (List._∷_ Row.off List.[]))))))))) }
 
         abbrev G29 : Row.Cx
-        G29 = record { locals = List._++_ t14 t1; slots = List._∷_ (Row.lease (κs .0) (qs .0)) (List._∷_ (Row.lease (κs .1 .0) (qs .1 .0)) (List._∷_ (Row.lease (κs .1 .1 .0) (qs .1 .1 .0)) (List._∷_ (Row.lease (κs .1 .1 .1 .0) (qs .1 .1 .1 .0)) (List._∷_ (Row.lease (κs .1 .1 .1 .1 .0) (qs .1 .1 .1 .1 .0)) (List._∷_ Row.off (List._∷_ Row.off (List._∷_ Row.off (List._∷_ Row.off (List._∷_ Row.off (List._∷_ Row.off (List._∷_ Row.off (List._∷_ Row.off List.[])))))))))))) }
+        G29 = record { locals = List._++_ t21 t1; slots = List._∷_ (Row.lease (κs .0) (qs .0)) (List._∷_ (Row.lease (κs .1 .0) (qs .1 .0)) (List._∷_ Row.off (List._∷_ Row.off (List._∷_ Row.alive (List._∷_ Row.off (List._∷_ Row.off (List._∷_ Row.off (List._∷_ Row.off (List._∷_ Row.off List.[]))))))))) }
 
         abbrev G30 : Row.Cx
-        G30 = record { locals = List._++_ t15 t1; slots = List._∷_ (Row.lease (κs .0) (qs .0)) (List._∷_ (Row.lease (κs .1 .0) (qs .1 .0)) (List._∷_ (Row.lease (κs .1 .1 .0) (qs .1 .1 .0)) (List._∷_ (Row.lease (κs .1 .1 .1 .0) (qs .1 .1 .1 .0)) (List._∷_ (Row.lease (κs .1 .1 .1 .1 .0) (qs .1 .1 .1 .1 .0)) (List._∷_ Row.off (List._∷_ Row.off (List._∷_ Row.off (List._∷_ Row.off (List._∷_ Row.off (List._∷_ Row.off (List._∷_ Row.off (List._∷_ Row.off List.[])))))))))))) }
+        G30 = record { locals = List._++_ t21 t1; slots = List._∷_ (Row.lease (κs .0) (qs .0)) (List._∷_ (Row.lease (κs .1 .0) (qs .1 .0)) (List._∷_ Row.off (List._∷_ Row.off (List._∷_ Row.dead (List._∷_ Row.off (List._∷_ Row.off (List._∷_ Row.off (List._∷_ Row.off (List._∷_ Row.off List.[]))))))))) }
 
         abbrev G31 : Row.Cx
-        G31 = record { locals = List._++_ t16 t1; slots = List._∷_ (Row.lease (κs .0) (qs .0)) (List._∷_ (Row.lease (κs .1 .0) (qs .1 .0)) (List._∷_ (Row.lease (κs .1 .1 .0) (qs .1 .1 .0)) (List._∷_ (Row.lease (κs .1 .1 .1 .0) (qs .1 .1 .1 .0)) (List._∷_ (Row.lease (κs .1 .1 .1 .1 .0) (qs .1 .1 .1 .1 .0)) (List._∷_ Row.off (List._∷_ Row.off (List._∷_ Row.off (List._∷_ Row.off (List._∷_ Row.off (List._∷_ Row.off (List._∷_ Row.off (List._∷_ Row.off List.[])))))))))))) }
+        G31 = record { locals = List._++_ t22 t1; slots = List._∷_ (Row.lease (κs .0) (qs .0)) (List._∷_ (Row.lease (κs .1 .0) (qs .1 .0)) (List._∷_ Row.off (List._∷_ Row.off (List._∷_ Row.dead (List._∷_ Row.off (List._∷_ Row.off (List._∷_ Row.off (List._∷_ Row.off (List._∷_ Row.off List.[]))))))))) }
 
         abbrev G32 : Row.Cx
-        G32 = record { locals = List._++_ t16 t1; slots = List._∷_ (Row.lease (κs .0) (qs .0)) (List._∷_ (Row.lease (κs .1 .0) (qs .1 .0)) (List._∷_ (Row.lease (κs .1 .1 .0) (qs .1 .1 .0)) (List._∷_ (Row.lease (κs .1 .1 .1 .0) (qs .1 .1 .1 .0)) (List._∷_ (Row.lease (κs .1 .1 .1 .1 .0) (qs .1 .1 .1 .1 .0)) (List._∷_ Row.off (List._∷_ Row.off (List._∷_ Row.off (List._∷_ Row.alive (List._∷_ Row.off (List._∷_ Row.off (List._∷_ Row.off (List._∷_ Row.off List.[])))))))))))) }
+        G32 = record { locals = List._++_ t22 t1; slots = List._∷_ (Row.lease (κs .0) (qs .0)) (List._∷_ (Row.lease (κs .1 .0) (qs .1 .0)) (List._∷_ Row.off (List._∷_ Row.off (List._∷_ Row.off (List._∷_ Row.off (List._∷_ Row.off (List._∷_ Row.off (List._∷_ Row.off (List._∷_ Row.off List.[]))))))))) }
 
         abbrev G33 : Row.Cx
-        G33 = record { locals = List._++_ g17 t18; slots = List._∷_ (Row.lease (κs .0) (qs .0)) (List._∷_ (Row.lease (κs .1 .0) (qs .1 .0)) (List._∷_ (Row.lease (κs .1 .1 .0) (qs .1 .1 .0)) (List._∷_ (Row.lease (κs .1 .1 .1 .0) (qs .1 .1 .1 .0)) (List._∷_ Row.off (List._∷_ Row.off (List._∷_ Row.off (List._∷_ Row.off (List._∷_ Row.alive (List._∷_ Row.off (List._∷_ Row.off (List._∷_ Row.off (List._∷_ Row.off List.[])))))))))))) }
+        G33 = record { locals = List._++_ t23 t1; slots = List._∷_ (Row.lease (κs .0) (qs .0)) (List._∷_ (Row.lease (κs .1 .0) (qs .1 .0)) (List._∷_ Row.off (List._∷_ Row.off (List._∷_ Row.off (List._∷_ Row.off (List._∷_ Row.off (List._∷_ Row.off (List._∷_ Row.off (List._∷_ Row.off List.[]))))))))) }
 
         abbrev G34 : Row.Cx
-        G34 = record { locals = List._++_ g17 t19; slots = List._∷_ (Row.lease (κs .0) (qs .0)) (List._∷_ (Row.lease (κs .1 .0) (qs .1 .0)) (List._∷_ (Row.lease (κs .1 .1 .0) (qs .1 .1 .0)) (List._∷_ (Row.lease (κs .1 .1 .1 .0) (qs .1 .1 .1 .0)) (List._∷_ Row.off (List._∷_ Row.off (List._∷_ Row.off (List._∷_ Row.off (List._∷_ Row.alive (List._∷_ Row.off (List._∷_ Row.off (List._∷_ Row.off (List._∷_ Row.off List.[])))))))))))) }
+        G34 = record { locals = List._++_ t23 t1; slots = List._∷_ (Row.lease (κs .0) (qs .0)) (List._∷_ (Row.lease (κs .1 .0) (qs .1 .0)) (List._∷_ Row.off (List._∷_ Row.off (List._∷_ Row.off (List._∷_ Row.off (List._∷_ Row.off (List._∷_ Row.off (List._∷_ Row.off (List._∷_ Row.off List.[]))))))))) }
 
         abbrev G35 : Row.Cx
-        G35 = record { locals = List._++_ g20 t21; slots = List._∷_ (Row.lease (κs .0) (qs .0)) (List._∷_ (Row.lease (κs .1 .0) (qs .1 .0)) (List._∷_ (Row.lease (κs .1 .1 .0) (qs .1 .1 .0)) (List._∷_ (Row.lease (κs .1 .1 .1 .0) (qs .1 .1 .1 .0)) (List._∷_ Row.off (List._∷_ Row.off (List._∷_ Row.off (List._∷_ Row.off (List._∷_ Row.alive (List._∷_ Row.off (List._∷_ Row.off (List._∷_ Row.off (List._∷_ Row.off List.[])))))))))))) }
+        G35 = record { locals = List._++_ t24 t1; slots = List._∷_ (Row.lease (κs .0) (qs .0)) (List._∷_ (Row.lease (κs .1 .0) (qs .1 .0)) (List._∷_ Row.off (List._∷_ Row.off (List._∷_ Row.off (List._∷_ Row.off (List._∷_ Row.off (List._∷_ Row.off (List._∷_ Row.off (List._∷_ Row.off List.[]))))))))) }
 
         abbrev G36 : Row.Cx
-        G36 = record { locals = List._++_ g22 t21; slots = List._∷_ (Row.lease (κs .0) (qs .0)) (List._∷_ (Row.lease (κs .1 .0) (qs .1 .0)) (List._∷_ (Row.lease (κs .1 .1 .0) (qs .1 .1 .0)) (List._∷_ (Row.lease (κs .1 .1 .1 .0) (qs .1 .1 .1 .0)) (List._∷_ Row.off (List._∷_ Row.off (List._∷_ Row.off (List._∷_ Row.off (List._∷_ Row.alive (List._∷_ Row.off (List._∷_ Row.off (List._∷_ Row.off (List._∷_ Row.off List.[])))))))))))) }
+        G36 = record { locals = List._++_ t25 t1; slots = List._∷_ (Row.lease (κs .0) (qs .0)) (List._∷_ (Row.lease (κs .1 .0) (qs .1 .0)) (List._∷_ Row.off (List._∷_ Row.off (List._∷_ Row.off (List._∷_ Row.off (List._∷_ Row.off (List._∷_ Row.off (List._∷_ Row.off (List._∷_ Row.off List.[]))))))))) }
 
         abbrev G37 : Row.Cx
-        G37 = record { locals = List._++_ g22 t21; slots = List._∷_ (Row.lease (κs .0) (qs .0)) (List._∷_ (Row.lease (κs .1 .0) (qs .1 .0)) (List._∷_ (Row.lease (κs .1 .1 .0) (qs .1 .1 .0)) (List._∷_ (Row.lease (κs .1 .1 .1 .0) (qs .1 .1 .1 .0)) (List._∷_ Row.off (List._∷_ Row.off (List._∷_ Row.off (List._∷_ Row.off (List._∷_ Row.dead (List._∷_ Row.off (List._∷_ Row.off (List._∷_ Row.off (List._∷_ Row.off List.[])))))))))))) }
+        G37 = record { locals = List._++_ t26 t1; slots = List._∷_ (Row.lease (κs .0) (qs .0)) (List._∷_ (Row.lease (κs .1 .0) (qs .1 .0)) (List._∷_ Row.off (List._∷_ Row.off (List._∷_ Row.off (List._∷_ Row.off (List._∷_ Row.off (List._∷_ Row.off (List._∷_ Row.off (List._∷_ Row.off List.[]))))))))) }
 
         abbrev G38 : Row.Cx
-        G38 = record { locals = List._++_ t10 t1; slots = List._∷_ (Row.lease (κs .0) (qs .0)) (List._∷_ (Row.lease (κs .1 .0) (qs .1 .0)) (List._∷_ (Row.lease (κs .1 .1 .0) (qs .1 .1 .0)) (List._∷_ (Row.lease (κs .1 .1 .1 .0) (qs .1 .1 .1 .0)) (List._∷_ (Row.lease (κs .1 .1 .1 .1 .0) (qs .1 .1 .1 .1 .0)) (List._∷_ Row.off (List._∷_ Row.off (List._∷_ Row.off (List._∷_ Row.dead (List._∷_ Row.off (List._∷_ Row.off (List._∷_ Row.off (List._∷_ Row.off List.[])))))))))))) }
+        G38 = record { locals = List._++_ t27 t1; slots = List._∷_ (Row.lease (κs .0) (qs .0)) (List._∷_ (Row.lease (κs .1 .0) (qs .1 .0)) (List._∷_ Row.off (List._∷_ Row.off (List._∷_ Row.off (List._∷_ Row.off (List._∷_ Row.off (List._∷_ Row.off (List._∷_ Row.off (List._∷_ Row.off List.[]))))))))) }
 
         abbrev G39 : Row.Cx
-        G39 = record { locals = List._++_ t10 t1; slots = List._∷_ (Row.lease (κs .0) (qs .0)) (List._∷_ (Row.lease (κs .1 .0) (qs .1 .0)) (List._∷_ (Row.lease (κs .1 .1 .0) (qs .1 .1 .0)) (List._∷_ (Row.lease (κs .1 .1 .1 .0) (qs .1 .1 .1 .0)) (List._∷_ (Row.lease (κs .1 .1 .1 .1 .0) (qs .1 .1 .1 .1 .0)) (List._∷_ Row.off (List._∷_ Row.off (List._∷_ Row.off (List._∷_ Row.dead (List._∷_ Row.off (List._∷_ Row.off (List._∷_ Row.off (List._∷_ Row.off List.[])))))))))))) }
+        G39 = record { locals = List._++_ t28 t1; slots = List._∷_ (Row.lease (κs .0) (qs .0)) (List._∷_ (Row.lease (κs .1 .0) (qs .1 .0)) (List._∷_ Row.off (List._∷_ Row.off (List._∷_ Row.off (List._∷_ Row.off (List._∷_ Row.off (List._∷_ Row.off (List._∷_ Row.off (List._∷_ Row.off List.[]))))))))) }
 
         abbrev G40 : Row.Cx
-        G40 = record { locals = List._++_ t10 t1; slots = List._∷_ (Row.lease (κs .0) (qs .0)) (List._∷_ (Row.lease (κs .1 .0) (qs .1 .0)) (List._∷_ (Row.lease (κs .1 .1 .0) (qs .1 .1 .0)) (List._∷_ (Row.lease (κs .1 .1 .1 .0) (qs .1 .1 .1 .0)) (List._∷_ (Row.lease (κs .1 .1 .1 .1 .0) (qs .1 .1 .1 .1 .0)) (List._∷_ Row.off (List._∷_ Row.off (List._∷_ Row.off (List._∷_ Row.off (List._∷_ Row.off (List._∷_ Row.off (List._∷_ Row.off (List._∷_ Row.off List.[])))))))))))) }
+        G40 = record { locals = List._++_ t28 t1; slots = List._∷_ (Row.lease (κs .0) (qs .0)) (List._∷_ (Row.lease (κs .1 .0) (qs .1 .0)) (List._∷_ Row.off (List._∷_ Row.off (List._∷_ Row.off (List._∷_ Row.alive (List._∷_ Row.off (List._∷_ Row.off (List._∷_ Row.off (List._∷_ Row.off List.[]))))))))) }
 
         abbrev G41 : Row.Cx
-        G41 = record { locals = List._++_ t23 t1; slots = List._∷_ (Row.lease (κs .0) (qs .0)) (List._∷_ (Row.lease (κs .1 .0) (qs .1 .0)) (List._∷_ (Row.lease (κs .1 .1 .0) (qs .1 .1 .0)) (List._∷_ (Row.lease (κs .1 .1 .1 .0) (qs .1 .1 .1 .0)) (List._∷_ (Row.lease (κs .1 .1 .1 .1 .0) (qs .1 .1 .1 .1 .0)) (List._∷_ Row.off (List._∷_ Row.off (List._∷_ Row.off (List._∷_ Row.off (List._∷_ Row.off (List._∷_ Row.off (List._∷_ Row.off (List._∷_ Row.off List.[])))))))))))) }
+        G41 = record { locals = List._++_ g29 t30; slots = List._∷_ (Row.lease (κs .0) (qs .0)) (List._∷_ Row.off (List._∷_ Row.off (List._∷_ Row.off (List._∷_ Row.off (List._∷_ Row.alive (List._∷_ Row.off (List._∷_ Row.off (List._∷_ Row.off (List._∷_ Row.off List.[]))))))))) }
 
         abbrev G42 : Row.Cx
-        G42 = record { locals = List._++_ t23 t1; slots = List._∷_ (Row.lease (κs .0) (qs .0)) (List._∷_ (Row.lease (κs .1 .0) (qs .1 .0)) (List._∷_ (Row.lease (κs .1 .1 .0) (qs .1 .1 .0)) (List._∷_ (Row.lease (κs .1 .1 .1 .0) (qs .1 .1 .1 .0)) (List._∷_ (Row.lease (κs .1 .1 .1 .1 .0) (qs .1 .1 .1 .1 .0)) (List._∷_ Row.off (List._∷_ Row.off (List._∷_ Row.off (List._∷_ Row.off (List._∷_ Row.off (List._∷_ Row.off (List._∷_ Row.off (List._∷_ Row.off List.[])))))))))))) }
+        G42 = record { locals = List._++_ g29 t31; slots = List._∷_ (Row.lease (κs .0) (qs .0)) (List._∷_ Row.off (List._∷_ Row.off (List._∷_ Row.off (List._∷_ Row.off (List._∷_ Row.alive (List._∷_ Row.off (List._∷_ Row.off (List._∷_ Row.off (List._∷_ Row.off List.[]))))))))) }
 
         abbrev G43 : Row.Cx
-        G43 = record { locals = List._++_ t24 t1; slots = List._∷_ (Row.lease (κs .0) (qs .0)) (List._∷_ (Row.lease (κs .1 .0) (qs .1 .0)) (List._∷_ (Row.lease (κs .1 .1 .0) (qs .1 .1 .0)) (List._∷_ (Row.lease (κs .1 .1 .1 .0) (qs .1 .1 .1 .0)) (List._∷_ (Row.lease (κs .1 .1 .1 .1 .0) (qs .1 .1 .1 .1 .0)) (List._∷_ Row.off (List._∷_ Row.off (List._∷_ Row.off (List._∷_ Row.off (List._∷_ Row.off (List._∷_ Row.off (List._∷_ Row.off (List._∷_ Row.off List.[])))))))))))) }
+        G43 = record { locals = List._++_ g29 t32; slots = List._∷_ (Row.lease (κs .0) (qs .0)) (List._∷_ Row.off (List._∷_ Row.off (List._∷_ Row.off (List._∷_ Row.off (List._∷_ Row.alive (List._∷_ Row.off (List._∷_ Row.off (List._∷_ Row.off (List._∷_ Row.off List.[]))))))))) }
 
         abbrev G44 : Row.Cx
-        G44 = record { locals = List._++_ t25 t1; slots = List._∷_ (Row.lease (κs .0) (qs .0)) (List._∷_ (Row.lease (κs .1 .0) (qs .1 .0)) (List._∷_ (Row.lease (κs .1 .1 .0) (qs .1 .1 .0)) (List._∷_ (Row.lease (κs .1 .1 .1 .0) (qs .1 .1 .1 .0)) (List._∷_ (Row.lease (κs .1 .1 .1 .1 .0) (qs .1 .1 .1 .1 .0)) (List._∷_ Row.off (List._∷_ Row.off (List._∷_ Row.off (List._∷_ Row.off (List._∷_ Row.off (List._∷_ Row.off (List._∷_ Row.off (List._∷_ Row.off List.[])))))))))))) }
+        G44 = record { locals = List._++_ g33 t32; slots = List._∷_ (Row.lease (κs .0) (qs .0)) (List._∷_ Row.off (List._∷_ Row.off (List._∷_ Row.off (List._∷_ Row.off (List._∷_ Row.alive (List._∷_ Row.off (List._∷_ Row.off (List._∷_ Row.off (List._∷_ Row.off List.[]))))))))) }
 
         abbrev G45 : Row.Cx
-        G45 = record { locals = List._++_ t25 t1; slots = List._∷_ (Row.lease (κs .0) (qs .0)) (List._∷_ (Row.lease (κs .1 .0) (qs .1 .0)) (List._∷_ (Row.lease (κs .1 .1 .0) (qs .1 .1 .0)) (List._∷_ (Row.lease (κs .1 .1 .1 .0) (qs .1 .1 .1 .0)) (List._∷_ (Row.lease (κs .1 .1 .1 .1 .0) (qs .1 .1 .1 .1 .0)) (List._∷_ Row.off (List._∷_ Row.off (List._∷_ Row.off (List._∷_ Row.off (List._∷_ Row.alive (List._∷_ Row.off (List._∷_ Row.off (List._∷_ Row.off List.[])))))))))))) }
+        G45 = record { locals = List._++_ g33 t32; slots = List._∷_ (Row.lease (κs .0) (qs .0)) (List._∷_ Row.off (List._∷_ Row.off (List._∷_ Row.off (List._∷_ Row.off (List._∷_ Row.dead (List._∷_ Row.off (List._∷_ Row.off (List._∷_ Row.off (List._∷_ Row.off List.[]))))))))) }
 
         abbrev G46 : Row.Cx
-        G46 = record { locals = List._++_ g26 t27; slots = List._∷_ (Row.lease (κs .0) (qs .0)) (List._∷_ Row.off (List._∷_ (Row.lease (κs .1 .1 .0) (qs .1 .1 .0)) (List._∷_ (Row.lease (κs .1 .1 .1 .0) (qs .1 .1 .1 .0)) (List._∷_ (Row.lease (κs .1 .1 .1 .1 .0) (qs .1 .1 .1 .1 .0)) (List._∷_ Row.off (List._∷_ Row.off (List._∷_ Row.off (List._∷_ Row.off (List._∷_ Row.alive (List._∷_ Row.off (List._∷_ Row.off (List._∷_ Row.off List.[])))))))))))) }
+        G46 = record { locals = List._++_ t0 t19; slots = List._∷_ (Row.lease (κs .0) (qs .0)) (List._∷_ (Row.lease (κs .1 .0) (qs .1 .0)) (List._∷_ Row.off (List._∷_ Row.off (List._∷_ Row.off (List._∷_ Row.dead (List._∷_ Row.off (List._∷_ Row.off (List._∷_ Row.off (List._∷_ Row.off List.[]))))))))) }
 
         abbrev G47 : Row.Cx
-        G47 = record { locals = List._++_ g26 t28; slots = List._∷_ (Row.lease (κs .0) (qs .0)) (List._∷_ Row.off (List._∷_ (Row.lease (κs .1 .1 .0) (qs .1 .1 .0)) (List._∷_ (Row.lease (κs .1 .1 .1 .0) (qs .1 .1 .1 .0)) (List._∷_ (Row.lease (κs .1 .1 .1 .1 .0) (qs .1 .1 .1 .1 .0)) (List._∷_ Row.off (List._∷_ Row.off (List._∷_ Row.off (List._∷_ Row.off (List._∷_ Row.alive (List._∷_ Row.off (List._∷_ Row.off (List._∷_ Row.off List.[])))))))))))) }
+        G47 = record { locals = List._++_ t0 t19; slots = List._∷_ (Row.lease (κs .0) (qs .0)) (List._∷_ (Row.lease (κs .1 .0) (qs .1 .0)) (List._∷_ Row.off (List._∷_ Row.off (List._∷_ Row.off (List._∷_ Row.dead (List._∷_ Row.off (List._∷_ Row.off (List._∷_ Row.off (List._∷_ Row.off List.[]))))))))) }
 
         abbrev G48 : Row.Cx
-        G48 = record { locals = List._++_ g26 t28; slots = List._∷_ (Row.lease (κs .0) (qs .0)) (List._∷_ Row.off (List._∷_ (Row.lease (κs .1 .1 .0) (qs .1 .1 .0)) (List._∷_ (Row.lease (κs .1 .1 .1 .0) (qs .1 .1 .1 .0)) (List._∷_ (Row.lease (κs .1 .1 .1 .1 .0) (qs .1 .1 .1 .1 .0)) (List._∷_ Row.off (List._∷_ Row.off (List._∷_ Row.off (List._∷_ Row.off (List._∷_ Row.alive (List._∷_ Row.alive (List._∷_ Row.off (List._∷_ Row.off List.[])))))))))))) }
+        G48 = record { locals = List._++_ t0 t19; slots = List._∷_ (Row.lease (κs .0) (qs .0)) (List._∷_ (Row.lease (κs .1 .0) (qs .1 .0)) (List._∷_ Row.off (List._∷_ Row.off (List._∷_ Row.off (List._∷_ Row.off (List._∷_ Row.off (List._∷_ Row.off (List._∷_ Row.off (List._∷_ Row.off List.[]))))))))) }
 
         abbrev G49 : Row.Cx
-        G49 = record { locals = List._++_ g29 t30; slots = List._∷_ (Row.lease (κs .0) (qs .0)) (List._∷_ Row.off (List._∷_ Row.off (List._∷_ (Row.lease (κs .1 .1 .1 .0) (qs .1 .1 .1 .0)) (List._∷_ (Row.lease (κs .1 .1 .1 .1 .0) (qs .1 .1 .1 .1 .0)) (List._∷_ Row.off (List._∷_ Row.off (List._∷_ Row.off (List._∷_ Row.off (List._∷_ Row.alive (List._∷_ Row.alive (List._∷_ Row.off (List._∷_ Row.off List.[])))))))))))) }
+        G49 = record { locals = List._++_ t34 t1; slots = List._∷_ (Row.lease (κs .0) (qs .0)) (List._∷_ (Row.lease (κs .1 .0) (qs .1 .0)) (List._∷_ Row.off (List._∷_ Row.off (List._∷_ Row.off (List._∷_ Row.off (List._∷_ Row.off (List._∷_ Row.off (List._∷_ Row.off (List._∷_ Row.off List.[]))))))))) }
 
         abbrev G50 : Row.Cx
-        G50 = record { locals = List._++_ g29 t31; slots = List._∷_ (Row.lease (κs .0) (qs .0)) (List._∷_ Row.off (List._∷_ Row.off (List._∷_ (Row.lease (κs .1 .1 .1 .0) (qs .1 .1 .1 .0)) (List._∷_ (Row.lease (κs .1 .1 .1 .1 .0) (qs .1 .1 .1 .1 .0)) (List._∷_ Row.off (List._∷_ Row.off (List._∷_ Row.off (List._∷_ Row.off (List._∷_ Row.alive (List._∷_ Row.alive (List._∷_ Row.off (List._∷_ Row.off List.[])))))))))))) }
+        G50 = record { locals = List._++_ t34 t1; slots = List._∷_ (Row.lease (κs .0) (qs .0)) (List._∷_ (Row.lease (κs .1 .0) (qs .1 .0)) (List._∷_ Row.off (List._∷_ Row.off (List._∷_ Row.off (List._∷_ Row.off (List._∷_ Row.off (List._∷_ Row.off (List._∷_ Row.off (List._∷_ Row.off List.[]))))))))) }
 
         abbrev G51 : Row.Cx
-        G51 = record { locals = List._++_ g29 t31; slots = List._∷_ (Row.lease (κs .0) (qs .0)) (List._∷_ Row.off (List._∷_ Row.off (List._∷_ (Row.lease (κs .1 .1 .1 .0) (qs .1 .1 .1 .0)) (List._∷_ (Row.lease (κs .1 .1 .1 .1 .0) (qs .1 .1 .1 .1 .0)) (List._∷_ Row.off (List._∷_ Row.off (List._∷_ Row.off (List._∷_ Row.off (List._∷_ Row.alive (List._∷_ Row.alive (List._∷_ Row.alive (List._∷_ Row.off List.[])))))))))))) }
+        G51 = record { locals = List._++_ t35 t1; slots = List._∷_ (Row.lease (κs .0) (qs .0)) (List._∷_ (Row.lease (κs .1 .0) (qs .1 .0)) (List._∷_ Row.off (List._∷_ Row.off (List._∷_ Row.off (List._∷_ Row.off (List._∷_ Row.off (List._∷_ Row.off (List._∷_ Row.off (List._∷_ Row.off List.[]))))))))) }
 
         abbrev G52 : Row.Cx
-        G52 = record { locals = List._++_ g32 t33; slots = List._∷_ (Row.lease (κs .0) (qs .0)) (List._∷_ Row.off (List._∷_ Row.off (List._∷_ Row.off (List._∷_ (Row.lease (κs .1 .1 .1 .1 .0) (qs .1 .1 .1 .1 .0)) (List._∷_ Row.off (List._∷_ Row.off (List._∷_ Row.off (List._∷_ Row.off (List._∷_ Row.alive (List._∷_ Row.alive (List._∷_ Row.alive (List._∷_ Row.off List.[])))))))))))) }
+        G52 = record { locals = List._++_ t36 t1; slots = List._∷_ (Row.lease (κs .0) (qs .0)) (List._∷_ (Row.lease (κs .1 .0) (qs .1 .0)) (List._∷_ Row.off (List._∷_ Row.off (List._∷_ Row.off (List._∷_ Row.off (List._∷_ Row.off (List._∷_ Row.off (List._∷_ Row.off (List._∷_ Row.off List.[]))))))))) }
 
         abbrev G53 : Row.Cx
-        G53 = record { locals = List._++_ g32 t34; slots = List._∷_ (Row.lease (κs .0) (qs .0)) (List._∷_ Row.off (List._∷_ Row.off (List._∷_ Row.off (List._∷_ (Row.lease (κs .1 .1 .1 .1 .0) (qs .1 .1 .1 .1 .0)) (List._∷_ Row.off (List._∷_ Row.off (List._∷_ Row.off (List._∷_ Row.off (List._∷_ Row.alive (List._∷_ Row.alive (List._∷_ Row.alive (List._∷_ Row.off List.[])))))))))))) }
+        G53 = record { locals = List._++_ t36 t1; slots = List._∷_ (Row.lease (κs .0) (qs .0)) (List._∷_ (Row.lease (κs .1 .0) (qs .1 .0)) (List._∷_ Row.off (List._∷_ Row.off (List._∷_ Row.off (List._∷_ Row.off (List._∷_ Row.alive (List._∷_ Row.off (List._∷_ Row.off (List._∷_ Row.off List.[]))))))))) }
 
         abbrev G54 : Row.Cx
-        G54 = record { locals = List._++_ g32 t34; slots = List._∷_ (Row.lease (κs .0) (qs .0)) (List._∷_ Row.off (List._∷_ Row.off (List._∷_ Row.off (List._∷_ (Row.lease (κs .1 .1 .1 .1 .0) (qs .1 .1 .1 .1 .0)) (List._∷_ Row.off (List._∷_ Row.off (List._∷_ Row.off (List._∷_ Row.off (List._∷_ Row.alive (List._∷_ Row.alive (List._∷_ Row.alive (List._∷_ Row.alive List.[])))))))))))) }
+        G54 = record { locals = List._++_ t37 t38; slots = List._∷_ (Row.lease (κs .0) (qs .0)) (List._∷_ (Row.lease (κs .1 .0) (qs .1 .0)) (List._∷_ Row.off (List._∷_ Row.off (List._∷_ Row.off (List._∷_ Row.off (List._∷_ Row.alive (List._∷_ Row.off (List._∷_ Row.off (List._∷_ Row.off List.[]))))))))) }
 
         abbrev G55 : Row.Cx
-        G55 = record { locals = List._++_ g35 t36; slots = List._∷_ (Row.lease (κs .0) (qs .0)) (List._∷_ Row.off (List._∷_ Row.off (List._∷_ Row.off (List._∷_ Row.off (List._∷_ Row.off (List._∷_ Row.off (List._∷_ Row.off (List._∷_ Row.off (List._∷_ Row.alive (List._∷_ Row.alive (List._∷_ Row.alive (List._∷_ Row.alive List.[])))))))))))) }
+        G55 = record { locals = List._++_ t37 t39; slots = List._∷_ (Row.lease (κs .0) (qs .0)) (List._∷_ (Row.lease (κs .1 .0) (qs .1 .0)) (List._∷_ Row.off (List._∷_ Row.off (List._∷_ Row.off (List._∷_ Row.off (List._∷_ Row.alive (List._∷_ Row.off (List._∷_ Row.off (List._∷_ Row.off List.[]))))))))) }
 
         abbrev G56 : Row.Cx
-        G56 = record { locals = List._++_ g35 t37; slots = List._∷_ (Row.lease (κs .0) (qs .0)) (List._∷_ Row.off (List._∷_ Row.off (List._∷_ Row.off (List._∷_ Row.off (List._∷_ Row.off (List._∷_ Row.off (List._∷_ Row.off (List._∷_ Row.off (List._∷_ Row.alive (List._∷_ Row.alive (List._∷_ Row.alive (List._∷_ Row.alive List.[])))))))))))) }
+        G56 = record { locals = List._++_ t37 t39; slots = List._∷_ (Row.lease (κs .0) (qs .0)) (List._∷_ (Row.lease (κs .1 .0) (qs .1 .0)) (List._∷_ Row.off (List._∷_ Row.off (List._∷_ Row.off (List._∷_ Row.off (List._∷_ Row.alive (List._∷_ Row.alive (List._∷_ Row.off (List._∷_ Row.off List.[]))))))))) }
 
         abbrev G57 : Row.Cx
-        G57 = record { locals = List._++_ g38 t39; slots = List._∷_ (Row.lease (κs .0) (qs .0)) (List._∷_ Row.off (List._∷_ Row.off (List._∷_ Row.off (List._∷_ Row.off (List._∷_ Row.off (List._∷_ Row.off (List._∷_ Row.off (List._∷_ Row.off (List._∷_ Row.alive (List._∷_ Row.alive (List._∷_ Row.alive (List._∷_ Row.alive List.[])))))))))))) }
+        G57 = record { locals = List._++_ t40 t41; slots = List._∷_ (Row.lease (κs .0) (qs .0)) (List._∷_ (Row.lease (κs .1 .0) (qs .1 .0)) (List._∷_ Row.off (List._∷_ Row.off (List._∷_ Row.off (List._∷_ Row.off (List._∷_ Row.alive (List._∷_ Row.alive (List._∷_ Row.off (List._∷_ Row.off List.[]))))))))) }
 
         abbrev G58 : Row.Cx
-        G58 = record { locals = List._++_ g38 t40; slots = List._∷_ (Row.lease (κs .0) (qs .0)) (List._∷_ Row.off (List._∷_ Row.off (List._∷_ Row.off (List._∷_ Row.off (List._∷_ Row.off (List._∷_ Row.off (List._∷_ Row.off (List._∷_ Row.off (List._∷_ Row.alive (List._∷_ Row.alive (List._∷_ Row.alive (List._∷_ Row.alive List.[])))))))))))) }
+        G58 = record { locals = List._++_ t40 t42; slots = List._∷_ (Row.lease (κs .0) (qs .0)) (List._∷_ (Row.lease (κs .1 .0) (qs .1 .0)) (List._∷_ Row.off (List._∷_ Row.off (List._∷_ Row.off (List._∷_ Row.off (List._∷_ Row.alive (List._∷_ Row.alive (List._∷_ Row.off (List._∷_ Row.off List.[]))))))))) }
 
         abbrev G59 : Row.Cx
-        G59 = record { locals = List._++_ g38 t41; slots = List._∷_ (Row.lease (κs .0) (qs .0)) (List._∷_ Row.off (List._∷_ Row.off (List._∷_ Row.off (List._∷_ Row.off (List._∷_ Row.off (List._∷_ Row.off (List._∷_ Row.off (List._∷_ Row.off (List._∷_ Row.alive (List._∷_ Row.alive (List._∷_ Row.alive (List._∷_ Row.alive List.[])))))))))))) }
+        G59 = record { locals = List._++_ t40 t42; slots = List._∷_ (Row.lease (κs .0) (qs .0)) (List._∷_ (Row.lease (κs .1 .0) (qs .1 .0)) (List._∷_ Row.off (List._∷_ Row.off (List._∷_ Row.off (List._∷_ Row.off (List._∷_ Row.alive (List._∷_ Row.alive (List._∷_ Row.alive (List._∷_ Row.off List.[]))))))))) }
 
         abbrev G60 : Row.Cx
-        G60 = record { locals = List._++_ g38 t42; slots = List._∷_ (Row.lease (κs .0) (qs .0)) (List._∷_ Row.off (List._∷_ Row.off (List._∷_ Row.off (List._∷_ Row.off (List._∷_ Row.off (List._∷_ Row.off (List._∷_ Row.off (List._∷_ Row.off (List._∷_ Row.alive (List._∷_ Row.alive (List._∷_ Row.alive (List._∷_ Row.alive List.[])))))))))))) }
+        G60 = record { locals = List._++_ t43 t44; slots = List._∷_ (Row.lease (κs .0) (qs .0)) (List._∷_ (Row.lease (κs .1 .0) (qs .1 .0)) (List._∷_ Row.off (List._∷_ Row.off (List._∷_ Row.off (List._∷_ Row.off (List._∷_ Row.alive (List._∷_ Row.alive (List._∷_ Row.alive (List._∷_ Row.off List.[]))))))))) }
 
         abbrev G61 : Row.Cx
-        G61 = record { locals = List._++_ g43 t42; slots = List._∷_ (Row.lease (κs .0) (qs .0)) (List._∷_ Row.off (List._∷_ Row.off (List._∷_ Row.off (List._∷_ Row.off (List._∷_ Row.off (List._∷_ Row.off (List._∷_ Row.off (List._∷_ Row.off (List._∷_ Row.alive (List._∷_ Row.alive (List._∷_ Row.alive (List._∷_ Row.alive List.[])))))))))))) }
+        G61 = record { locals = List._++_ t43 t45; slots = List._∷_ (Row.lease (κs .0) (qs .0)) (List._∷_ (Row.lease (κs .1 .0) (qs .1 .0)) (List._∷_ Row.off (List._∷_ Row.off (List._∷_ Row.off (List._∷_ Row.off (List._∷_ Row.alive (List._∷_ Row.alive (List._∷_ Row.alive (List._∷_ Row.off List.[]))))))))) }
 
         abbrev G62 : Row.Cx
-        G62 = record { locals = List._++_ g43 t42; slots = List._∷_ (Row.lease (κs .0) (qs .0)) (List._∷_ Row.off (List._∷_ Row.off (List._∷_ Row.off (List._∷_ Row.off (List._∷_ Row.off (List._∷_ Row.off (List._∷_ Row.off (List._∷_ Row.off (List._∷_ Row.dead (List._∷_ Row.alive (List._∷_ Row.alive (List._∷_ Row.alive List.[])))))))))))) }
+        G62 = record { locals = List._++_ t43 t45; slots = List._∷_ (Row.lease (κs .0) (qs .0)) (List._∷_ (Row.lease (κs .1 .0) (qs .1 .0)) (List._∷_ Row.off (List._∷_ Row.off (List._∷_ Row.off (List._∷_ Row.off (List._∷_ Row.alive (List._∷_ Row.alive (List._∷_ Row.alive (List._∷_ Row.alive List.[]))))))))) }
 
         abbrev G63 : Row.Cx
-        G63 = record { locals = List._++_ g44 t42; slots = List._∷_ (Row.lease (κs .0) (qs .0)) (List._∷_ (Row.lease (κs .1 .0) (qs .1 .0)) (List._∷_ Row.off (List._∷_ Row.off (List._∷_ Row.off (List._∷_ Row.off (List._∷_ Row.off (List._∷_ Row.off (List._∷_ Row.off (List._∷_ Row.dead (List._∷_ Row.alive (List._∷_ Row.alive (List._∷_ Row.alive List.[])))))))))))) }
+        G63 = record { locals = List._++_ g46 t47; slots = List._∷_ (Row.lease (κs .0) (qs .0)) (List._∷_ Row.off (List._∷_ Row.off (List._∷_ Row.off (List._∷_ Row.off (List._∷_ Row.off (List._∷_ Row.alive (List._∷_ Row.alive (List._∷_ Row.alive (List._∷_ Row.alive List.[]))))))))) }
 
         abbrev G64 : Row.Cx
-        G64 = record { locals = List._++_ g44 t42; slots = List._∷_ (Row.lease (κs .0) (qs .0)) (List._∷_ (Row.lease (κs .1 .0) (qs .1 .0)) (List._∷_ Row.off (List._∷_ Row.off (List._∷_ Row.off (List._∷_ Row.off (List._∷_ Row.off (List._∷_ Row.off (List._∷_ Row.off (List._∷_ Row.off (List._∷_ Row.alive (List._∷_ Row.alive (List._∷_ Row.alive List.[])))))))))))) }
+        G64 = record { locals = List._++_ g46 t48; slots = List._∷_ (Row.lease (κs .0) (qs .0)) (List._∷_ Row.off (List._∷_ Row.off (List._∷_ Row.off (List._∷_ Row.off (List._∷_ Row.off (List._∷_ Row.alive (List._∷_ Row.alive (List._∷_ Row.alive (List._∷_ Row.alive List.[]))))))))) }
 
         abbrev G65 : Row.Cx
-        G65 = record { locals = List._++_ g44 t42; slots = List._∷_ (Row.lease (κs .0) (qs .0)) (List._∷_ (Row.lease (κs .1 .0) (qs .1 .0)) (List._∷_ Row.off (List._∷_ Row.off (List._∷_ Row.off (List._∷_ Row.off (List._∷_ Row.off (List._∷_ Row.off (List._∷_ Row.off (List._∷_ Row.off (List._∷_ Row.dead (List._∷_ Row.alive (List._∷_ Row.alive List.[])))))))))))) }
+        G65 = record { locals = List._++_ g46 t49; slots = List._∷_ (Row.lease (κs .0) (qs .0)) (List._∷_ Row.off (List._∷_ Row.off (List._∷_ Row.off (List._∷_ Row.off (List._∷_ Row.off (List._∷_ Row.alive (List._∷_ Row.alive (List._∷_ Row.alive (List._∷_ Row.alive List.[]))))))))) }
 
         abbrev G66 : Row.Cx
-        G66 = record { locals = List._++_ g45 t42; slots = List._∷_ (Row.lease (κs .0) (qs .0)) (List._∷_ (Row.lease (κs .1 .0) (qs .1 .0)) (List._∷_ (Row.lease (κs .1 .1 .0) (qs .1 .1 .0)) (List._∷_ Row.off (List._∷_ Row.off (List._∷_ Row.off (List._∷_ Row.off (List._∷_ Row.off (List._∷_ Row.off (List._∷_ Row.off (List._∷_ Row.dead (List._∷_ Row.alive (List._∷_ Row.alive List.[])))))))))))) }
+        G66 = record { locals = List._++_ g46 t50; slots = List._∷_ (Row.lease (κs .0) (qs .0)) (List._∷_ Row.off (List._∷_ Row.off (List._∷_ Row.off (List._∷_ Row.off (List._∷_ Row.off (List._∷_ Row.alive (List._∷_ Row.alive (List._∷_ Row.alive (List._∷_ Row.alive List.[]))))))))) }
 
         abbrev G67 : Row.Cx
-        G67 = record { locals = List._++_ g45 t42; slots = List._∷_ (Row.lease (κs .0) (qs .0)) (List._∷_ (Row.lease (κs .1 .0) (qs .1 .0)) (List._∷_ (Row.lease (κs .1 .1 .0) (qs .1 .1 .0)) (List._∷_ Row.off (List._∷_ Row.off (List._∷_ Row.off (List._∷_ Row.off (List._∷_ Row.off (List._∷_ Row.off (List._∷_ Row.off (List._∷_ Row.off (List._∷_ Row.alive (List._∷_ Row.alive List.[])))))))))))) }
+        G67 = record { locals = List._++_ g46 t51; slots = List._∷_ (Row.lease (κs .0) (qs .0)) (List._∷_ Row.off (List._∷_ Row.off (List._∷_ Row.off (List._∷_ Row.off (List._∷_ Row.off (List._∷_ Row.alive (List._∷_ Row.alive (List._∷_ Row.alive (List._∷_ Row.alive List.[]))))))))) }
 
         abbrev G68 : Row.Cx
-        G68 = record { locals = List._++_ g45 t42; slots = List._∷_ (Row.lease (κs .0) (qs .0)) (List._∷_ (Row.lease (κs .1 .0) (qs .1 .0)) (List._∷_ (Row.lease (κs .1 .1 .0) (qs .1 .1 .0)) (List._∷_ Row.off (List._∷_ Row.off (List._∷_ Row.off (List._∷_ Row.off (List._∷_ Row.off (List._∷_ Row.off (List._∷_ Row.off (List._∷_ Row.off (List._∷_ Row.dead (List._∷_ Row.alive List.[])))))))))))) }
+        G68 = record { locals = List._++_ g46 t52; slots = List._∷_ (Row.lease (κs .0) (qs .0)) (List._∷_ Row.off (List._∷_ Row.off (List._∷_ Row.off (List._∷_ Row.off (List._∷_ Row.off (List._∷_ Row.alive (List._∷_ Row.alive (List._∷_ Row.alive (List._∷_ Row.alive List.[]))))))))) }
 
         abbrev G69 : Row.Cx
-        G69 = record { locals = List._++_ g46 t42; slots = List._∷_ (Row.lease (κs .0) (qs .0)) (List._∷_ (Row.lease (κs .1 .0) (qs .1 .0)) (List._∷_ (Row.lease (κs .1 .1 .0) (qs .1 .1 .0)) (List._∷_ (Row.lease (κs .1 .1 .1 .0) (qs .1 .1 .1 .0)) (List._∷_ Row.off (List._∷_ Row.off (List._∷_ Row.off (List._∷_ Row.off (List._∷_ Row.off (List._∷_ Row.off (List._∷_ Row.off (List._∷_ Row.dead (List._∷_ Row.alive List.[])))))))))))) }
+        G69 = record { locals = List._++_ g53 t52; slots = List._∷_ (Row.lease (κs .0) (qs .0)) (List._∷_ Row.off (List._∷_ Row.off (List._∷_ Row.off (List._∷_ Row.off (List._∷_ Row.off (List._∷_ Row.alive (List._∷_ Row.alive (List._∷_ Row.alive (List._∷_ Row.alive List.[]))))))))) }
 
         abbrev G70 : Row.Cx
-        G70 = record { locals = List._++_ g46 t42; slots = List._∷_ (Row.lease (κs .0) (qs .0)) (List._∷_ (Row.lease (κs .1 .0) (qs .1 .0)) (List._∷_ (Row.lease (κs .1 .1 .0) (qs .1 .1 .0)) (List._∷_ (Row.lease (κs .1 .1 .1 .0) (qs .1 .1 .1 .0)) (List._∷_ Row.off (List._∷_ Row.off (List._∷_ Row.off (List._∷_ Row.off (List._∷_ Row.off (List._∷_ Row.off (List._∷_ Row.off (List._∷_ Row.off (List._∷_ Row.alive List.[])))))))))))) }
+        G70 = record { locals = List._++_ g53 t52; slots = List._∷_ (Row.lease (κs .0) (qs .0)) (List._∷_ Row.off (List._∷_ Row.off (List._∷_ Row.off (List._∷_ Row.off (List._∷_ Row.off (List._∷_ Row.dead (List._∷_ Row.alive (List._∷_ Row.alive (List._∷_ Row.alive List.[]))))))))) }
 
         abbrev G71 : Row.Cx
-        G71 = record { locals = List._++_ g46 t42; slots = List._∷_ (Row.lease (κs .0) (qs .0)) (List._∷_ (Row.lease (κs .1 .0) (qs .1 .0)) (List._∷_ (Row.lease (κs .1 .1 .0) (qs .1 .1 .0)) (List._∷_ (Row.lease (κs .1 .1 .1 .0) (qs .1 .1 .1 .0)) (List._∷_ Row.off (List._∷_ Row.off (List._∷_ Row.off (List._∷_ Row.off (List._∷_ Row.off (List._∷_ Row.off (List._∷_ Row.off (List._∷_ Row.off (List._∷_ Row.dead List.[])))))))))))) }
+        G71 = record { locals = List._++_ g54 t52; slots = List._∷_ (Row.lease (κs .0) (qs .0)) (List._∷_ Row.off (List._∷_ Row.off (List._∷_ Row.off (List._∷_ Row.off (List._∷_ Row.off (List._∷_ Row.dead (List._∷_ Row.alive (List._∷_ Row.alive (List._∷_ Row.alive List.[]))))))))) }
 
         abbrev G72 : Row.Cx
-        G72 = record { locals = List._++_ t10 t1; slots = List._∷_ (Row.lease (κs .0) (qs .0)) (List._∷_ (Row.lease (κs .1 .0) (qs .1 .0)) (List._∷_ (Row.lease (κs .1 .1 .0) (qs .1 .1 .0)) (List._∷_ (Row.lease (κs .1 .1 .1 .0) (qs .1 .1 .1 .0)) (List._∷_ (Row.lease (κs .1 .1 .1 .1 .0) (qs .1 .1 .1 .1 .0)) (List._∷_ Row.off (List._∷_ Row.off (List._∷_ Row.off (List._∷_ Row.off (List._∷_ Row.off (List._∷_ Row.off (List._∷_ Row.off (List._∷_ Row.dead List.[])))))))))))) }
+        G72 = record { locals = List._++_ g54 t52; slots = List._∷_ (Row.lease (κs .0) (qs .0)) (List._∷_ Row.off (List._∷_ Row.off (List._∷_ Row.off (List._∷_ Row.off (List._∷_ Row.off (List._∷_ Row.off (List._∷_ Row.alive (List._∷_ Row.alive (List._∷_ Row.alive List.[]))))))))) }
 
         abbrev G73 : Row.Cx
-        G73 = record { locals = List._++_ t10 t1; slots = List._∷_ (Row.lease (κs .0) (qs .0)) (List._∷_ (Row.lease (κs .1 .0) (qs .1 .0)) (List._∷_ (Row.lease (κs .1 .1 .0) (qs .1 .1 .0)) (List._∷_ (Row.lease (κs .1 .1 .1 .0) (qs .1 .1 .1 .0)) (List._∷_ (Row.lease (κs .1 .1 .1 .1 .0) (qs .1 .1 .1 .1 .0)) (List._∷_ Row.off (List._∷_ Row.off (List._∷_ Row.off (List._∷_ Row.off (List._∷_ Row.off (List._∷_ Row.off (List._∷_ Row.off (List._∷_ Row.dead List.[])))))))))))) }
+        G73 = record { locals = List._++_ g55 t52; slots = List._∷_ (Row.lease (κs .0) (qs .0)) (List._∷_ Row.off (List._∷_ Row.off (List._∷_ Row.off (List._∷_ Row.off (List._∷_ Row.off (List._∷_ Row.off (List._∷_ Row.alive (List._∷_ Row.alive (List._∷_ Row.alive List.[]))))))))) }
 
         abbrev G74 : Row.Cx
-        G74 = record { locals = List._++_ t10 t1; slots = List._∷_ (Row.lease (κs .0) (qs .0)) (List._∷_ (Row.lease (κs .1 .0) (qs .1 .0)) (List._∷_ (Row.lease (κs .1 .1 .0) (qs .1 .1 .0)) (List._∷_ (Row.lease (κs .1 .1 .1 .0) (qs .1 .1 .1 .0)) (List._∷_ (Row.lease (κs .1 .1 .1 .1 .0) (qs .1 .1 .1 .1 .0)) (List._∷_ Row.off (List._∷_ Row.off (List._∷_ Row.off (List._∷_ Row.off (List._∷_ Row.off (List._∷_ Row.off (List._∷_ Row.off (List._∷_ Row.off List.[])))))))))))) }
+        G74 = record { locals = List._++_ g55 t52; slots = List._∷_ (Row.lease (κs .0) (qs .0)) (List._∷_ Row.off (List._∷_ Row.off (List._∷_ Row.off (List._∷_ Row.off (List._∷_ Row.off (List._∷_ Row.off (List._∷_ Row.dead (List._∷_ Row.alive (List._∷_ Row.alive List.[]))))))))) }
 
         abbrev G75 : Row.Cx
-        G75 = record { locals = List._++_ t47 t1; slots = List._∷_ (Row.lease (κs .0) (qs .0)) (List._∷_ (Row.lease (κs .1 .0) (qs .1 .0)) (List._∷_ (Row.lease (κs .1 .1 .0) (qs .1 .1 .0)) (List._∷_ (Row.lease (κs .1 .1 .1 .0) (qs .1 .1 .1 .0)) (List._∷_ (Row.lease (κs .1 .1 .1 .1 .0) (qs .1 .1 .1 .1 .0)) (List._∷_ Row.off (List._∷_ Row.off (List._∷_ Row.off (List._∷_ Row.off (List._∷_ Row.off (List._∷_ Row.off (List._∷_ Row.off (List._∷_ Row.off List.[])))))))))))) }
+        G75 = record { locals = List._++_ g56 t52; slots = List._∷_ (Row.lease (κs .0) (qs .0)) (List._∷_ Row.off (List._∷_ Row.off (List._∷_ Row.off (List._∷_ Row.off (List._∷_ Row.off (List._∷_ Row.off (List._∷_ Row.dead (List._∷_ Row.alive (List._∷_ Row.alive List.[]))))))))) }
 
         abbrev G76 : Row.Cx
-        G76 = record { locals = List._++_ t2 t1; slots = List._∷_ (Row.lease (κs .0) (qs .0)) (List._∷_ (Row.lease (κs .1 .0) (qs .1 .0)) (List._∷_ (Row.lease (κs .1 .1 .0) (qs .1 .1 .0)) (List._∷_ (Row.lease (κs .1 .1 .1 .0) (qs .1 .1 .1 .0)) (List._∷_ (Row.lease (κs .1 .1 .1 .1 .0) (qs .1 .1 .1 .1 .0)) (List._∷_ Row.off (List._∷_ Row.off (List._∷_ Row.off (List._∷_ Row.off (List._∷_ Row.off (List._∷_ Row.off (List._∷_ Row.off (List._∷_ Row.off List.[])))))))))))) }
+        G76 = record { locals = List._++_ g56 t52; slots = List._∷_ (Row.lease (κs .0) (qs .0)) (List._∷_ Row.off (List._∷_ Row.off (List._∷_ Row.off (List._∷_ Row.off (List._∷_ Row.off (List._∷_ Row.off (List._∷_ Row.off (List._∷_ Row.alive (List._∷_ Row.alive List.[]))))))))) }
+
+        abbrev G77 : Row.Cx
+        G77 = record { locals = List._++_ g57 t52; slots = List._∷_ (Row.lease (κs .0) (qs .0)) (List._∷_ Row.off (List._∷_ Row.off (List._∷_ Row.off (List._∷_ Row.off (List._∷_ Row.off (List._∷_ Row.off (List._∷_ Row.off (List._∷_ Row.alive (List._∷_ Row.alive List.[]))))))))) }
+
+        abbrev G78 : Row.Cx
+        G78 = record { locals = List._++_ g57 t52; slots = List._∷_ (Row.lease (κs .0) (qs .0)) (List._∷_ Row.off (List._∷_ Row.off (List._∷_ Row.off (List._∷_ Row.off (List._∷_ Row.off (List._∷_ Row.off (List._∷_ Row.off (List._∷_ Row.dead (List._∷_ Row.alive List.[]))))))))) }
+
+        abbrev G79 : Row.Cx
+        G79 = record { locals = List._++_ g58 t52; slots = List._∷_ (Row.lease (κs .0) (qs .0)) (List._∷_ Row.off (List._∷_ Row.off (List._∷_ Row.off (List._∷_ Row.off (List._∷_ Row.off (List._∷_ Row.off (List._∷_ Row.off (List._∷_ Row.dead (List._∷_ Row.alive List.[]))))))))) }
+
+        abbrev G80 : Row.Cx
+        G80 = record { locals = List._++_ g58 t52; slots = List._∷_ (Row.lease (κs .0) (qs .0)) (List._∷_ Row.off (List._∷_ Row.off (List._∷_ Row.off (List._∷_ Row.off (List._∷_ Row.off (List._∷_ Row.off (List._∷_ Row.off (List._∷_ Row.off (List._∷_ Row.alive List.[]))))))))) }
+
+        abbrev G81 : Row.Cx
+        G81 = record { locals = List._++_ g59 t52; slots = List._∷_ (Row.lease (κs .0) (qs .0)) (List._∷_ Row.off (List._∷_ Row.off (List._∷_ Row.off (List._∷_ Row.off (List._∷_ Row.off (List._∷_ Row.off (List._∷_ Row.off (List._∷_ Row.off (List._∷_ Row.alive List.[]))))))))) }
+
+        abbrev G82 : Row.Cx
+        G82 = record { locals = List._++_ g59 t52; slots = List._∷_ (Row.lease (κs .0) (qs .0)) (List._∷_ Row.off (List._∷_ Row.off (List._∷_ Row.off (List._∷_ Row.off (List._∷_ Row.off (List._∷_ Row.off (List._∷_ Row.off (List._∷_ Row.off (List._∷_ Row.dead List.[]))))))))) }
+
+        abbrev G83 : Row.Cx
+        G83 = record { locals = List._++_ t0 t19; slots = List._∷_ (Row.lease (κs .0) (qs .0)) (List._∷_ (Row.lease (κs .1 .0) (qs .1 .0)) (List._∷_ Row.off (List._∷_ Row.off (List._∷_ Row.off (List._∷_ Row.off (List._∷_ Row.off (List._∷_ Row.off (List._∷_ Row.off (List._∷_ Row.dead List.[]))))))))) }
+
+        abbrev G84 : Row.Cx
+        G84 = record { locals = List._++_ t0 t19; slots = List._∷_ (Row.lease (κs .0) (qs .0)) (List._∷_ (Row.lease (κs .1 .0) (qs .1 .0)) (List._∷_ Row.off (List._∷_ Row.off (List._∷_ Row.off (List._∷_ Row.off (List._∷_ Row.off (List._∷_ Row.off (List._∷_ Row.off (List._∷_ Row.dead List.[]))))))))) }
+
+        abbrev G85 : Row.Cx
+        G85 = record { locals = List._++_ t0 t19; slots = List._∷_ (Row.lease (κs .0) (qs .0)) (List._∷_ (Row.lease (κs .1 .0) (qs .1 .0)) (List._∷_ Row.off (List._∷_ Row.off (List._∷_ Row.off (List._∷_ Row.off (List._∷_ Row.off (List._∷_ Row.off (List._∷_ Row.off (List._∷_ Row.off List.[]))))))))) }
+
+        abbrev G86 : Row.Cx
+        G86 = record { locals = List._++_ t2 t19; slots = List._∷_ (Row.lease (κs .0) (qs .0)) (List._∷_ (Row.lease (κs .1 .0) (qs .1 .0)) (List._∷_ Row.off (List._∷_ Row.off (List._∷_ Row.off (List._∷_ Row.off (List._∷_ Row.off (List._∷_ Row.off (List._∷_ Row.off (List._∷_ Row.off List.[]))))))))) }
+
+        abbrev G87 : Row.Cx
+        G87 = record { locals = List._++_ t2 t1; slots = List._∷_ (Row.lease (κs .0) (qs .0)) (List._∷_ (Row.lease (κs .1 .0) (qs .1 .0)) (List._∷_ Row.off (List._∷_ Row.off (List._∷_ Row.off (List._∷_ Row.off (List._∷_ Row.off (List._∷_ Row.off (List._∷_ Row.off (List._∷_ Row.off List.[]))))))))) }
 
         abbrev Δ0 : Typed.Outs
         Δ0 = record { next = Option.none; exits = List.[]; returns = Option.some G1 }
 
         abbrev Δ1 : Typed.Outs
-        Δ1 = Typed.withNext (Option.some G16) Δ0
+        Δ1 = Typed.withNext (Option.some G23) Δ0
 
-        module _ {M : Type 1} (𝓤 : URA.URA M) (H : Wp.Heap 𝓤) (A : Atoms.Atoms 𝓤) (W : Kit.Given 𝓤 H A) (𝓣 : Wp.Tables 𝓤 H) (known : Knowns 𝓤 H A W 𝓣) (bs : List.List Nat.ℕ) (bd : Lifetimes.AllOutlive 5 (Kinds.osR r) κs) where
+        module _ {M : Type 1} (𝓤 : URA.URA M) (H : Wp.Heap 𝓤) (A : Atoms.Atoms 𝓤) (W : Kit.Given 𝓤 H A) (𝓣 : Wp.Tables 𝓤 H) (known : Knowns 𝓤 H A W 𝓣) (bs : List.List Nat.ℕ) (bd : Lifetimes.AllOutlive 2 (Kinds.osR r) κs) where
           abbrev E : Wp.Env 𝓤 H
           E = Frame.EnvOf 𝓤 H (List._∷_ (Kinds.tyR r) (Enter.tysP ps xs)) bs
 
-          d0 : Typed.Typed 𝓤 H A 𝓣 E G34 b10 Δ1 at0
-          d0 = Typed.s-typed 𝓤 H A W 𝓣 E G34 b10 Δ1 (λ Ψ. Typed.both s32 (Typed.pass T35 T36 s33 (Typed.both s35 (Typed.give s36 Ψ)))) tt (Typed.g-post 𝓤 H A W 𝓣 E G34 G39 G40 b10 (λ Ψ. Typed.both s32 (Typed.pass T35 T36 s33 (Typed.both s35 (Typed.give s36 Ψ)))) (λ Ψ. Ψ) (Typed.g-post 𝓤 H A W 𝓣 E G34 G38 G39 b10 (λ Ψ. Typed.both s32 (Typed.pass T35 T36 s33 (Typed.both s35 Ψ))) (Typed.give s36) (Typed.g-post 𝓤 H A W 𝓣 E G34 G37 G38 b10 (λ Ψ. Typed.both s32 (Typed.pass T35 T36 s33 Ψ)) (Typed.both s35) (Typed.g-post 𝓤 H A W 𝓣 E G34 G36 G37 b10 (λ Ψ. Typed.both s32 (Typed.pass T35 T36 s33 Ψ)) (λ Ψ. Ψ) (Typed.g-post 𝓤 H A W 𝓣 E G34 G35 G36 b10 (Typed.both s32) (Typed.pass T35 T36 s33) (Plain.t-call-plain 𝓤 H A W 𝓣 1 ps·1 r·1 (claims· .2) (claims· .3) "listing_text::internal::put_refusal" (known .1) E (λ pos β. β) G34 (record { pos = 17; ty = Syntax.tyRef Syntax.erased Syntax.mut (Syntax.tyInt Syntax.w8); ref = λ x. x }, (Num.vLit 0, (record { pos = 7; st = List.[]; d = 0; at = λ x. x }, tt))) 15 (List._∷_ 8 List.[]) (Call.sub-id 𝓤 H A W (G34 .slots)) (Reads.as-is 𝓤 H A (Mut.mslice (Referent.rtF (Referent.fInt Syntax.w8)) ty·0 8), Mut.reads-mslice 𝓤 H A W (Referent.rtF (Referent.fInt Syntax.w8)) ty·0 8, Path'.refl, (tt, ((Yields.yields-copy 𝓤 H A W (λ ρ. Unit) (Declared.row Refusal.the-type) Path'.refl (Copies.cEnum Refusal.the-type Laws'.the-laws Laws'.the-copy .copy 𝓤 H A W) (Rows.whole (Declared.row Refusal.the-type)) (λ x. x) (λ x. x) (λ ρ told. Local.mem-whole 𝓤 H A W (Declared.row Refusal.the-type) ρ) λ ρ told. Local.whole-mem 𝓤 H A W (Declared.row Refusal.the-type) ρ, Path'.refl), tt))) (Reads.room-gone 𝓤 H A (Syntax.tyInt Syntax.w64)) (tt, tt) Path'.refl) (Scalar.g-room 𝓤 H A W E G35 7 ty·16 (Local.room-whole 𝓤 H A W (Declared.row Refusal.the-type) ty·16 Path'.refl))) (Lifetime.g-end 𝓤 H A W E G36 8 Path'.refl)) (Relend.g-back-sl 𝓤 H A W E (Referent.rtF (Referent.fInt Syntax.w8)) G37 17 5 4 8 ty·4 ty·0 (Row.lease (κs .1 .1 .1 .1 .0) (qs .1 .1 .1 .1 .0)) (λ x. x) (λ x. x) (Reads.as-is 𝓤 H A (Mut.msleft (Referent.rtF (Referent.fInt Syntax.w8)) ty·0)) (Reads.as-is 𝓤 H A (Relend.mslice-owed (Referent.rtF (Referent.fInt Syntax.w8)) ty·4 4 8 (Row.lease (κs .1 .1 .1 .1 .0) (qs .1 .1 .1 .1 .0)))) Path'.refl Path'.refl)) (Know.g-sl-known 𝓤 H A W (Referent.fInt Syntax.w8) E G38 5 4 ty·4 (Row.lease (κs .1 .1 .1 .1 .0) (qs .1 .1 .1 .1 .0)) 0 (λ x. x) record { fits = Dec'.lit< tt } (Reads.as-is 𝓤 H A (Mut.mslice (Referent.rtF (Referent.fInt Syntax.w8)) ty·4 4)) Path'.refl tt)) (Lifetime.g-forget 𝓤 H A W E G39 8 Row.dead Path'.refl))
+          d0 : Typed.Typed 𝓤 H A 𝓣 E G42 b14 Δ1 (at0 bs)
+          d0 = Typed.s-typed 𝓤 H A W 𝓣 E G42 b14 Δ1 (λ Ψ. Typed.both (s40 bs) (Typed.pass T43 T44 (s41 bs) (Typed.both (s43 bs) (Typed.give (s44 bs) Ψ)))) tt (Typed.g-post 𝓤 H A W 𝓣 E G42 G47 G48 b14 (λ Ψ. Typed.both (s40 bs) (Typed.pass T43 T44 (s41 bs) (Typed.both (s43 bs) (Typed.give (s44 bs) Ψ)))) (λ Ψ. Ψ) (Typed.g-post 𝓤 H A W 𝓣 E G42 G46 G47 b14 (λ Ψ. Typed.both (s40 bs) (Typed.pass T43 T44 (s41 bs) (Typed.both (s43 bs) Ψ))) (Typed.give (s44 bs)) (Typed.g-post 𝓤 H A W 𝓣 E G42 G45 G46 b14 (λ Ψ. Typed.both (s40 bs) (Typed.pass T43 T44 (s41 bs) Ψ)) (Typed.both (s43 bs)) (Typed.g-post 𝓤 H A W 𝓣 E G42 G44 G45 b14 (λ Ψ. Typed.both (s40 bs) (Typed.pass T43 T44 (s41 bs) Ψ)) (λ Ψ. Ψ) (Typed.g-post 𝓤 H A W 𝓣 E G42 G43 G44 b14 (Typed.both (s40 bs)) (Typed.pass T43 T44 (s41 bs)) (Plain.t-call-plain 𝓤 H A W 𝓣 1 ps·1 r·1 (claims· .2) (claims· .3) "listing_text::internal::put_refusal" (known .1) E (λ pos β. β) G42 (record { pos = 18; ty = Syntax.tyRef Syntax.erased Syntax.mut (Syntax.tyInt Syntax.w8); ref = λ x. x }, (Num.vLit 0, (record { pos = 7; st = List.[]; d = 0; at = λ x. x }, tt))) 16 (List._∷_ 5 List.[]) (Call.sub-id 𝓤 H A W (G42 .slots)) (Reads.as-is 𝓤 H A (Mut.mslice (Referent.rtF (Referent.fInt Syntax.w8)) ty·4 5), Mut.reads-mslice 𝓤 H A W (Referent.rtF (Referent.fInt Syntax.w8)) ty·4 5, Path'.refl, (tt, ((Yields.yields-copy 𝓤 H A W (λ ρ. Unit) (Declared.row Refusal.the-type) Path'.refl (Copies.cEnum Refusal.the-type Laws'.the-laws Laws'.the-copy .copy 𝓤 H A W) (Rows'.whole (Declared.row Refusal.the-type)) (λ x. x) (λ x. x) (λ ρ told. Local.mem-whole 𝓤 H A W (Declared.row Refusal.the-type) ρ) λ ρ told. Local.whole-mem 𝓤 H A W (Declared.row Refusal.the-type) ρ, Path'.refl), tt))) (Reads.room-gone 𝓤 H A (Syntax.tyInt Syntax.w64)) (tt, tt) Path'.refl) (Scalar.g-room 𝓤 H A W E G43 7 ty·23 (Local.room-whole 𝓤 H A W (Declared.row Refusal.the-type) ty·23 Path'.refl))) (Lifetime.g-end 𝓤 H A W E G44 5 Path'.refl)) (Relend.g-back-sl 𝓤 H A W E (Referent.rtF (Referent.fInt Syntax.w8)) G45 18 2 1 5 ty·8 ty·4 (Row.lease (κs .1 .0) (qs .1 .0)) (λ x. x) (λ x. x) (Reads.as-is 𝓤 H A (Mut.msleft (Referent.rtF (Referent.fInt Syntax.w8)) ty·4)) (Reads.as-is 𝓤 H A (Relend.mslice-owed (Referent.rtF (Referent.fInt Syntax.w8)) ty·8 1 5 (Row.lease (κs .1 .0) (qs .1 .0)))) Path'.refl Path'.refl)) (Know.g-sl-known 𝓤 H A W (Referent.fInt Syntax.w8) E G46 2 1 ty·8 (Row.lease (κs .1 .0) (qs .1 .0)) 0 (λ x. x) record { fits = Dec'.lit< tt } (Reads.as-is 𝓤 H A (Mut.mslice (Referent.rtF (Referent.fInt Syntax.w8)) ty·8 1)) Path'.refl tt)) (Lifetime.g-forget 𝓤 H A W E G47 5 Row.dead Path'.refl))
 
-          d1 : Typed.Typed 𝓤 H A 𝓣 E G33 b11 Δ1 at1
-          d1 = Typed.s-seq 𝓤 H A W 𝓣 E G33 G34 b9 b10 Δ1 (Typed.ask s31) at0 (Relend.t-sl-aggregate 𝓤 H A W E (Referent.rtF (Referent.fInt Syntax.w8)) 𝓣 (Relend.asMut (Referent.rtF (Referent.fInt Syntax.w8))) G33 16 17 8 ty·0 ty·0 (λ x. x) (Scalar.oFld 5 (List._∷_ (Syntax.field 1) List.[]) (Syntax.tyInt Syntax.w64) 8 λ v. Shared.lenV (v .0)) (Reads.as-is 𝓤 H A (Relend.msptr (Referent.rtF (Referent.fInt Syntax.w8)) ty·0 8)) (Reads.room-gone 𝓤 H A ty·10) (Relend.reads-owed-len 𝓤 H A W (Referent.rtF (Referent.fInt Syntax.w8)) ty·4 4 8 (Row.lease (κs .1 .1 .1 .1 .0) (qs .1 .1 .1 .1 .0)) 8 Path'.refl, Path'.refl) Path'.refl Path'.refl λ b o k. tt) d0
+          d1 : Typed.Typed 𝓤 H A 𝓣 E G41 b15 Δ1 (at1 bs)
+          d1 = Typed.s-seq 𝓤 H A W 𝓣 E G41 G42 b13 b14 Δ1 (Typed.ask (s39 bs)) (at0 bs) (Relend.t-sl-aggregate 𝓤 H A W E (Referent.rtF (Referent.fInt Syntax.w8)) 𝓣 (Relend.asMut (Referent.rtF (Referent.fInt Syntax.w8))) G41 17 18 5 ty·4 ty·4 (λ x. x) (Scalar.oFld 2 (List._∷_ (Syntax.field 1) List.[]) (Syntax.tyInt Syntax.w64) 8 λ v. Shared.lenV (v .0)) (Reads.as-is 𝓤 H A (Relend.msptr (Referent.rtF (Referent.fInt Syntax.w8)) ty·4 5)) (Reads.room-gone 𝓤 H A ty·17) (Relend.reads-owed-len 𝓤 H A W (Referent.rtF (Referent.fInt Syntax.w8)) ty·8 1 5 (Row.lease (κs .1 .0) (qs .1 .0)) 8 Path'.refl, Path'.refl) Path'.refl Path'.refl λ b o k. tt) d0
 
-          d2 : Typed.Typed 𝓤 H A 𝓣 E G32 b12 Δ1 at2
-          d2 = Typed.s-seq 𝓤 H A W 𝓣 E G32 G33 b8 b11 Δ1 (Typed.give s30) at1 (Relend.t-sl-relend 𝓤 H A W E (Referent.rtF (Referent.fInt Syntax.w8)) 𝓣 G32 5 16 4 8 ty·4 ty·0 (Row.lease (κs .1 .1 .1 .1 .0) (qs .1 .1 .1 .1 .0)) 0 (λ x. x) (Reads.as-is 𝓤 H A (Mut.mslice (Referent.rtF (Referent.fInt Syntax.w8)) ty·4 4)) (Reads.room-gone 𝓤 H A ty·0) Path'.refl tt Path'.refl Path'.refl Path'.refl λ b o. tt) d1
+          d2 : Typed.Typed 𝓤 H A 𝓣 E G40 b16 Δ1 (at2 bs)
+          d2 = Typed.s-seq 𝓤 H A W 𝓣 E G40 G41 b12 b15 Δ1 (Typed.give (s38 bs)) (at1 bs) (Relend.t-sl-relend 𝓤 H A W E (Referent.rtF (Referent.fInt Syntax.w8)) 𝓣 G40 2 17 1 5 ty·8 ty·4 (Row.lease (κs .1 .0) (qs .1 .0)) 0 (λ x. x) (Reads.as-is 𝓤 H A (Mut.mslice (Referent.rtF (Referent.fInt Syntax.w8)) ty·8 1)) (Reads.room-gone 𝓤 H A ty·4) Path'.refl tt Path'.refl Path'.refl Path'.refl λ b o. tt) d1
 
-          d3 : Typed.Typed 𝓤 H A 𝓣 E G31 b12 Δ1 at3
-          d3 = Typed.g-pre 𝓤 H A W 𝓣 E G31 G32 b12 Δ1 (λ Ψ. Ψ) at2 (Lifetime.g-begin 𝓤 H A W E G31 8 (tt, (tt, (tt, (tt, (tt, (tt, (tt, (tt, (tt, (tt, (tt, (tt, (tt, (tt, (tt, (tt, (tt, (tt, (tt, (tt, (tt, (tt, (tt, (tt, (tt, (tt, tt))))))))))))))))))))))))))) d2
+          d3 : Typed.Typed 𝓤 H A 𝓣 E G39 b16 Δ1 (at3 bs)
+          d3 = Typed.g-pre 𝓤 H A W 𝓣 E G39 G40 b16 Δ1 (λ Ψ. Ψ) (at2 bs) (Lifetime.g-begin 𝓤 H A W E G39 5 (tt, (tt, (tt, (tt, (tt, (tt, (tt, (tt, (tt, (tt, (tt, (tt, (tt, (tt, (tt, (tt, (tt, (tt, (tt, (tt, (tt, (tt, (tt, (tt, (tt, (tt, (tt, tt)))))))))))))))))))))))))))) d2
 
-          d4 : Typed.Typed 𝓤 H A 𝓣 E G30 b12 Δ1 at4
-          d4 = Typed.g-pre 𝓤 H A W 𝓣 E G30 G31 b12 Δ1 (Typed.pass T30 T31 s28) at3 (Scalar.g-room 𝓤 H A W E G30 6 ty·17 (Local.room-whole 𝓤 H A W (Known.Known ReadAnswer.enum 1) ty·17 Path'.refl)) d3
+          d4 : Typed.Typed 𝓤 H A 𝓣 E G38 b16 Δ1 (at4 bs)
+          d4 = Typed.g-pre 𝓤 H A W 𝓣 E G38 G39 b16 Δ1 (Typed.pass T38 T39 (s36 bs)) (at3 bs) (Scalar.g-room 𝓤 H A W E G38 6 ty·24 (Local.room-whole 𝓤 H A W (Known.Known ReadAnswer.enum 1) ty·24 Path'.refl)) d3
 
-          d5 : Typed.Typed 𝓤 H A 𝓣 E G29 b13 Δ1 at5
-          d5 = Typed.s-seq 𝓤 H A W 𝓣 E G29 G30 b7 b12 Δ1 (Typed.pass T29 T30 s27) at4 (CopyOut.t-copy-told 𝓤 H A W E 𝓣 (Declared.row Refusal.the-type) Path'.refl (Laws'3.val Refusal.the-type Laws'.the-laws) (Laws'3.lawful Refusal.the-type Laws'.the-laws 𝓤 H A W tt) (Laws'3.makes Refusal.the-type Laws'.the-plain 𝓤 H A) G29 7 (Scalar.oFld 6 (List._∷_ (Syntax.variant 1) (List._∷_ (Syntax.field 1) List.[])) ty·16 1 λ v. Laws'3.val Refusal.the-type Laws'.the-laws (v .0)) (λ m. m .1 .1 .1 .1 .1 .1 .0 .0) (λ m. Laws'3.Fields (Declared.variants ReadAnswer.the-type) (Laws'3.spellss (ReadAnswer.enum .parts) Laws.the-laws) (ReadAnswer.the-type .to (Known.at ReadAnswer.enum 1 (m .1 .1 .1 .1 .1 .1 .0)))) (Reads.room-gone 𝓤 H A ty·16) (Match.reads-payload 𝓤 H A W ReadAnswer.enum Laws.the-laws 1 Path'.refl Path'.refl (λ v. Val.vcons (Laws'3.val Refusal.the-type Laws'.the-laws (v .0)) Val.vnil) (λ v. Path'.refl) 0 ty·16 1 Path'.refl, Path'.refl) Path'.refl (λ ρ m. Make.tells-row 𝓤 H A W E ρ (Row.out 7 (G29 .locals)) m 6 (Laws'3.Fields (Declared.variants ReadAnswer.the-type) (Laws'3.spellss (ReadAnswer.enum .parts) Laws.the-laws) (ReadAnswer.the-type .to (Known.at ReadAnswer.enum 1 (m .1 .1 .1 .1 .1 .1 .0)))) (Known.known-is 𝓤 H A W E ReadAnswer.enum 1 Laws.the-laws ρ 6 (m .1 .1 .1 .1 .1 .1 .0))) (λ m k wa. Path'.refl) λ m k wa. k .0) d4
+          d5 : Typed.Typed 𝓤 H A 𝓣 E G37 b17 Δ1 (at5 bs)
+          d5 = Typed.s-seq 𝓤 H A W 𝓣 E G37 G38 b11 b16 Δ1 (Typed.pass T37 T38 (s35 bs)) (at4 bs) (CopyOut.t-copy-told 𝓤 H A W E 𝓣 (Declared.row Refusal.the-type) Path'.refl (Laws'3.val Refusal.the-type Laws'.the-laws) (Laws'3.lawful Refusal.the-type Laws'.the-laws 𝓤 H A W tt) (Laws'3.makes Refusal.the-type Laws'.the-plain 𝓤 H A) G37 7 (Scalar.oFld 6 (List._∷_ (Syntax.variant 1) (List._∷_ (Syntax.field 1) List.[])) ty·23 1 λ v. Laws'3.val Refusal.the-type Laws'.the-laws (v .0)) (λ m. m .1 .1 .1 .1 .1 .1 .0 .0) (λ m. Laws'3.Fields (Declared.variants ReadAnswer.the-type) (Laws'3.spellss (ReadAnswer.enum .parts) Laws.the-laws) (ReadAnswer.the-type .to (Known.at ReadAnswer.enum 1 (m .1 .1 .1 .1 .1 .1 .0)))) (Reads.room-gone 𝓤 H A ty·23) (Match.reads-payload 𝓤 H A W ReadAnswer.enum Laws.the-laws 1 Path'.refl Path'.refl (λ v. Val.vcons (Laws'3.val Refusal.the-type Laws'.the-laws (v .0)) Val.vnil) (λ v. Path'.refl) 0 ty·23 1 Path'.refl, Path'.refl) Path'.refl (λ ρ m. Make.tells-row 𝓤 H A W E ρ (Row.out 7 (G37 .locals)) m 6 (Laws'3.Fields (Declared.variants ReadAnswer.the-type) (Laws'3.spellss (ReadAnswer.enum .parts) Laws.the-laws) (ReadAnswer.the-type .to (Known.at ReadAnswer.enum 1 (m .1 .1 .1 .1 .1 .1 .0)))) (Known.known-is 𝓤 H A W E ReadAnswer.enum 1 Laws.the-laws ρ 6 (m .1 .1 .1 .1 .1 .1 .0))) (λ m k wa. Path'.refl) λ m k wa. k .0) d4
 
-          d6 : Typed.Typed 𝓤 H A 𝓣 E G28 b13 Δ1 at6
-          d6 = Typed.g-pre 𝓤 H A W 𝓣 E G28 G29 b13 Δ1 (Typed.give s26) at5 (Known.g-known-told 𝓤 H A W E ReadAnswer.enum 1 G28 6 Laws.the-laws (λ x. x) (Reads.as-is 𝓤 H A (Rows.whole (Known.Known ReadAnswer.enum 1)))) d5
+          d6 : Typed.Typed 𝓤 H A 𝓣 E G36 b17 Δ1 (at6 bs)
+          d6 = Typed.g-pre 𝓤 H A W 𝓣 E G36 G37 b17 Δ1 (Typed.pass T36 T37 (s34 bs)) (at5 bs) (Scalar.g-room 𝓤 H A W E G36 5 ty·1 (Init.room-arr 𝓤 H A W (Referent.rtF (Referent.fInt Syntax.w16)) 16384 0 16384 Path'.refl)) d5
 
-          d7 : Typed.Typed 𝓤 H A 𝓣 E G27 b13 Δ1 at7
-          d7 = Typed.g-pre 𝓤 H A W 𝓣 E G27 G28 b13 Δ1 (Typed.both s25) at6 (Known.g-enum-known 𝓤 H A W E ReadAnswer.enum 1 G27 6 (λ x. x) (Reads.as-is 𝓤 H A (Rows.whole (Declared.row ReadAnswer.the-type)))) d6
+          d7 : Typed.Typed 𝓤 H A 𝓣 E G35 b17 Δ1 (at7 bs)
+          d7 = Typed.g-pre 𝓤 H A W 𝓣 E G35 G36 b17 Δ1 (Typed.pass T35 T36 (s33 bs)) (at6 bs) (Scalar.g-room 𝓤 H A W E G35 4 ty·0 (Init.room-arr 𝓤 H A W (Referent.rtF (Referent.fInt Syntax.w16)) 4096 0 4096 Path'.refl)) d6
 
-          d8 : Typed.Typed 𝓤 H A 𝓣 E G56 b23 Δ1 at8
-          d8 = Typed.s-typed 𝓤 H A W 𝓣 E G56 b23 Δ1 (λ Ψ. Typed.both s54 (Typed.pass T57 T58 s55 (Typed.pass T58 T59 s56 (Typed.pass T59 T60 s57 (Typed.pass T60 T61 s58 (Typed.pass T61 T63 s60 (Typed.pass T63 T66 s63 (Typed.pass T66 T69 s66 (Typed.both s69 (Typed.give s70 Ψ)))))))))) tt (Typed.g-post 𝓤 H A W 𝓣 E G56 G73 G74 b23 (λ Ψ. Typed.both s54 (Typed.pass T57 T58 s55 (Typed.pass T58 T59 s56 (Typed.pass T59 T60 s57 (Typed.pass T60 T61 s58 (Typed.pass T61 T63 s60 (Typed.pass T63 T66 s63 (Typed.pass T66 T69 s66 (Typed.both s69 (Typed.give s70 Ψ)))))))))) (λ Ψ. Ψ) (Typed.g-post 𝓤 H A W 𝓣 E G56 G72 G73 b23 (λ Ψ. Typed.both s54 (Typed.pass T57 T58 s55 (Typed.pass T58 T59 s56 (Typed.pass T59 T60 s57 (Typed.pass T60 T61 s58 (Typed.pass T61 T63 s60 (Typed.pass T63 T66 s63 (Typed.pass T66 T69 s66 (Typed.both s69 Ψ))))))))) (Typed.give s70) (Typed.g-post 𝓤 H A W 𝓣 E G56 G71 G72 b23 (λ Ψ. Typed.both s54 (Typed.pass T57 T58 s55 (Typed.pass T58 T59 s56 (Typed.pass T59 T60 s57 (Typed.pass T60 T61 s58 (Typed.pass T61 T63 s60 (Typed.pass T63 T66 s63 (Typed.pass T66 T69 s66 Ψ)))))))) (Typed.both s69) (Typed.g-post 𝓤 H A W 𝓣 E G56 G70 G71 b23 (λ Ψ. Typed.both s54 (Typed.pass T57 T58 s55 (Typed.pass T58 T59 s56 (Typed.pass T59 T60 s57 (Typed.pass T60 T61 s58 (Typed.pass T61 T63 s60 (Typed.pass T63 T66 s63 (Typed.pass T66 T69 s66 Ψ)))))))) (λ Ψ. Ψ) (Typed.g-post 𝓤 H A W 𝓣 E G56 G69 G70 b23 (λ Ψ. Typed.both s54 (Typed.pass T57 T58 s55 (Typed.pass T58 T59 s56 (Typed.pass T59 T60 s57 (Typed.pass T60 T61 s58 (Typed.pass T61 T63 s60 (Typed.pass T63 T66 s63 (Typed.pass T66 T69 s66 Ψ)))))))) (λ Ψ. Ψ) (Typed.g-post 𝓤 H A W 𝓣 E G56 G68 G69 b23 (λ Ψ. Typed.both s54 (Typed.pass T57 T58 s55 (Typed.pass T58 T59 s56 (Typed.pass T59 T60 s57 (Typed.pass T60 T61 s58 (Typed.pass T61 T63 s60 (Typed.pass T63 T66 s63 Ψ))))))) (Typed.pass T66 T69 s66) (Typed.g-post 𝓤 H A W 𝓣 E G56 G67 G68 b23 (λ Ψ. Typed.both s54 (Typed.pass T57 T58 s55 (Typed.pass T58 T59 s56 (Typed.pass T59 T60 s57 (Typed.pass T60 T61 s58 (Typed.pass T61 T63 s60 (Typed.pass T63 T66 s63 Ψ))))))) (λ Ψ. Ψ) (Typed.g-post 𝓤 H A W 𝓣 E G56 G66 G67 b23 (λ Ψ. Typed.both s54 (Typed.pass T57 T58 s55 (Typed.pass T58 T59 s56 (Typed.pass T59 T60 s57 (Typed.pass T60 T61 s58 (Typed.pass T61 T63 s60 (Typed.pass T63 T66 s63 Ψ))))))) (λ Ψ. Ψ) (Typed.g-post 𝓤 H A W 𝓣 E G56 G65 G66 b23 (λ Ψ. Typed.both s54 (Typed.pass T57 T58 s55 (Typed.pass T58 T59 s56 (Typed.pass T59 T60 s57 (Typed.pass T60 T61 s58 (Typed.pass T61 T63 s60 Ψ)))))) (Typed.pass T63 T66 s63) (Typed.g-post 𝓤 H A W 𝓣 E G56 G64 G65 b23 (λ Ψ. Typed.both s54 (Typed.pass T57 T58 s55 (Typed.pass T58 T59 s56 (Typed.pass T59 T60 s57 (Typed.pass T60 T61 s58 (Typed.pass T61 T63 s60 Ψ)))))) (λ Ψ. Ψ) (Typed.g-post 𝓤 H A W 𝓣 E G56 G63 G64 b23 (λ Ψ. Typed.both s54 (Typed.pass T57 T58 s55 (Typed.pass T58 T59 s56 (Typed.pass T59 T60 s57 (Typed.pass T60 T61 s58 (Typed.pass T61 T63 s60 Ψ)))))) (λ Ψ. Ψ) (Typed.g-post 𝓤 H A W 𝓣 E G56 G62 G63 b23 (λ Ψ. Typed.both s54 (Typed.pass T57 T58 s55 (Typed.pass T58 T59 s56 (Typed.pass T59 T60 s57 (Typed.pass T60 T61 s58 Ψ))))) (Typed.pass T61 T63 s60) (Typed.g-post 𝓤 H A W 𝓣 E G56 G61 G62 b23 (λ Ψ. Typed.both s54 (Typed.pass T57 T58 s55 (Typed.pass T58 T59 s56 (Typed.pass T59 T60 s57 (Typed.pass T60 T61 s58 Ψ))))) (λ Ψ. Ψ) (Typed.g-post 𝓤 H A W 𝓣 E G56 G60 G61 b23 (λ Ψ. Typed.both s54 (Typed.pass T57 T58 s55 (Typed.pass T58 T59 s56 (Typed.pass T59 T60 s57 Ψ)))) (Typed.pass T60 T61 s58) (Typed.g-post 𝓤 H A W 𝓣 E G56 G59 G60 b23 (λ Ψ. Typed.both s54 (Typed.pass T57 T58 s55 (Typed.pass T58 T59 s56 Ψ))) (Typed.pass T59 T60 s57) (Typed.g-post 𝓤 H A W 𝓣 E G56 G58 G59 b23 (λ Ψ. Typed.both s54 (Typed.pass T57 T58 s55 Ψ)) (Typed.pass T58 T59 s56) (Typed.g-post 𝓤 H A W 𝓣 E G56 G57 G58 b23 (Typed.both s54) (Typed.pass T57 T58 s55) (Plain.t-call-plain 𝓤 H A W 𝓣 4 ps·2 r·2 (claims· .4) (claims· .5) "listing::plan::list_plan" (known .2) E (λ pos β. β) G56 (record { pos = 8; st = List.[]; d = 0; at = λ x. x }, (record { pos = 19; ty = Syntax.tyRef Syntax.erased Syntax.imm (Memory.pointee (T.the-row .written)); ref = λ x. x }, (record { pos = 21; ty = Syntax.tyRef Syntax.erased Syntax.imm (Syntax.tyInt Syntax.w16); ref = λ x. x }, (record { pos = 23; ty = Syntax.tyRef Syntax.erased Syntax.imm (Syntax.tyInt Syntax.w16); ref = λ x. x }, (record { pos = 25; ty = Syntax.tyRef Syntax.erased Syntax.mut (Syntax.tyInt Syntax.w8); ref = λ x. x }, tt))))) 15 (List._∷_ 9 (List._∷_ 10 (List._∷_ 11 (List._∷_ 12 List.[])))) (Call.sub-id 𝓤 H A W (G56 .slots)) ((Yields.yields-copy 𝓤 H A W (λ ρ. Unit) (Declared'.row Size.the-type) Path'.refl (Copies.cStruct Size.the-type Laws''.the-laws Laws''.the-copy .copy 𝓤 H A W) (Rows.whole (Declared'.row Size.the-type)) (λ x. x) (λ x. x) (λ ρ told. Local.mem-whole 𝓤 H A W (Declared'.row Size.the-type) ρ) λ ρ told. Local.whole-mem 𝓤 H A W (Declared'.row Size.the-type) ρ, Path'.refl), (ShrSlice.spares-sslice 𝓤 H A W T.the-row ty·8 9, Shared.reads-sslice 𝓤 H A W T.the-row ty·8 9, Path'.refl, (ShrSlice.spares-sslice 𝓤 H A W (Referent.rtF (Referent.fInt Syntax.w16)) ty·2 10, Shared.reads-sslice 𝓤 H A W (Referent.rtF (Referent.fInt Syntax.w16)) ty·2 10, Path'.refl, (ShrSlice.spares-sslice 𝓤 H A W (Referent.rtF (Referent.fInt Syntax.w16)) ty·2 11, Shared.reads-sslice 𝓤 H A W (Referent.rtF (Referent.fInt Syntax.w16)) ty·2 11, Path'.refl, (Reads.as-is 𝓤 H A (Mut.mslice (Referent.rtF (Referent.fInt Syntax.w8)) ty·0 12), Mut.reads-mslice 𝓤 H A W (Referent.rtF (Referent.fInt Syntax.w8)) ty·0 12, Path'.refl, tt))))) (Reads.room-gone 𝓤 H A (Syntax.tyInt Syntax.w64)) (tt, (tt, (tt, (tt, tt)))) Path'.refl) (Scalar.g-room 𝓤 H A W E G57 19 ty·14 (Shared.room-sslice 𝓤 H A W T.the-row ty·8 9))) (Scalar.g-room 𝓤 H A W E G58 21 ty·12 (Shared.room-sslice 𝓤 H A W (Referent.rtF (Referent.fInt Syntax.w16)) ty·2 10))) (Scalar.g-room 𝓤 H A W E G59 23 ty·12 (Shared.room-sslice 𝓤 H A W (Referent.rtF (Referent.fInt Syntax.w16)) ty·2 11))) (Scalar.g-room 𝓤 H A W E G60 8 ty·15 (Local.room-whole 𝓤 H A W (Declared'.row Size.the-type) ty·15 Path'.refl))) (Lifetime.g-end 𝓤 H A W E G61 9 Path'.refl)) (Reshare.g-back-sl-shr 𝓤 H A W E T.the-row G62 2 1 9 ty·9 (Row.lease (κs .1 .0) (qs .1 .0)) (λ x. x) (Reads.as-is 𝓤 H A (Reshare.mslice-owedS T.the-row ty·9 1 9 (Row.lease (κs .1 .0) (qs .1 .0)))) Path'.refl Path'.refl)) (Lifetime.g-forget 𝓤 H A W E G63 9 Row.dead Path'.refl)) (Lifetime.g-end 𝓤 H A W E G64 10 Path'.refl)) (Reshare.g-back-sl-shr 𝓤 H A W E (Referent.rtF (Referent.fInt Syntax.w16)) G65 3 2 10 ty·5 (Row.lease (κs .1 .1 .0) (qs .1 .1 .0)) (λ x. x) (Reads.as-is 𝓤 H A (Reshare.mslice-owedS (Referent.rtF (Referent.fInt Syntax.w16)) ty·5 2 10 (Row.lease (κs .1 .1 .0) (qs .1 .1 .0)))) Path'.refl Path'.refl)) (Lifetime.g-forget 𝓤 H A W E G66 10 Row.dead Path'.refl)) (Lifetime.g-end 𝓤 H A W E G67 11 Path'.refl)) (Reshare.g-back-sl-shr 𝓤 H A W E (Referent.rtF (Referent.fInt Syntax.w16)) G68 4 3 11 ty·6 (Row.lease (κs .1 .1 .1 .0) (qs .1 .1 .1 .0)) (λ x. x) (Reads.as-is 𝓤 H A (Reshare.mslice-owedS (Referent.rtF (Referent.fInt Syntax.w16)) ty·6 3 11 (Row.lease (κs .1 .1 .1 .0) (qs .1 .1 .1 .0)))) Path'.refl Path'.refl)) (Lifetime.g-forget 𝓤 H A W E G69 11 Row.dead Path'.refl)) (Lifetime.g-end 𝓤 H A W E G70 12 Path'.refl)) (Relend.g-back-sl 𝓤 H A W E (Referent.rtF (Referent.fInt Syntax.w8)) G71 25 5 4 12 ty·4 ty·0 (Row.lease (κs .1 .1 .1 .1 .0) (qs .1 .1 .1 .1 .0)) (λ x. x) (λ x. x) (Reads.as-is 𝓤 H A (Mut.msleft (Referent.rtF (Referent.fInt Syntax.w8)) ty·0)) (Reads.as-is 𝓤 H A (Relend.mslice-owed (Referent.rtF (Referent.fInt Syntax.w8)) ty·4 4 12 (Row.lease (κs .1 .1 .1 .1 .0) (qs .1 .1 .1 .1 .0)))) Path'.refl Path'.refl)) (Know.g-sl-known 𝓤 H A W (Referent.fInt Syntax.w8) E G72 5 4 ty·4 (Row.lease (κs .1 .1 .1 .1 .0) (qs .1 .1 .1 .1 .0)) 0 (λ x. x) record { fits = Dec'.lit< tt } (Reads.as-is 𝓤 H A (Mut.mslice (Referent.rtF (Referent.fInt Syntax.w8)) ty·4 4)) Path'.refl tt)) (Lifetime.g-forget 𝓤 H A W E G73 12 Row.dead Path'.refl))
+          d8 : Typed.Typed 𝓤 H A 𝓣 E G34 b17 Δ1 (at8 bs)
+          d8 = Typed.g-pre 𝓤 H A W 𝓣 E G34 G35 b17 Δ1 (Typed.pass T34 T35 (s32 bs)) (at7 bs) (Scalar.g-room 𝓤 H A W E G34 3 ty·2 (Init.room-arr 𝓤 H A W T.the-row 1024 0 1024 Path'.refl)) d7
 
-          d9 : Typed.Typed 𝓤 H A 𝓣 E G55 b24 Δ1 at9
-          d9 = Typed.s-seq 𝓤 H A W 𝓣 E G55 G56 b22 b23 Δ1 (Typed.ask s53) at8 (Relend.t-sl-aggregate 𝓤 H A W E (Referent.rtF (Referent.fInt Syntax.w8)) 𝓣 (Relend.asMut (Referent.rtF (Referent.fInt Syntax.w8))) G55 24 25 12 ty·0 ty·0 (λ x. x) (Scalar.oFld 5 (List._∷_ (Syntax.field 1) List.[]) (Syntax.tyInt Syntax.w64) 8 λ v. Shared.lenV (v .0)) (Reads.as-is 𝓤 H A (Relend.msptr (Referent.rtF (Referent.fInt Syntax.w8)) ty·0 12)) (Reads.room-gone 𝓤 H A ty·10) (Relend.reads-owed-len 𝓤 H A W (Referent.rtF (Referent.fInt Syntax.w8)) ty·4 4 12 (Row.lease (κs .1 .1 .1 .1 .0) (qs .1 .1 .1 .1 .0)) 8 Path'.refl, Path'.refl) Path'.refl Path'.refl λ b o k. tt) d8
+          d9 : Typed.Typed 𝓤 H A 𝓣 E G33 b17 Δ1 (at9 bs)
+          d9 = Typed.g-pre 𝓤 H A W 𝓣 E G33 G34 b17 Δ1 (Typed.give (s31 bs)) (at8 bs) (Known.g-known-told 𝓤 H A W E ReadAnswer.enum 1 G33 6 Laws.the-laws (λ x. x) (Reads.as-is 𝓤 H A (Rows'.whole (Known.Known ReadAnswer.enum 1)))) d8
 
-          d10 : Typed.Typed 𝓤 H A 𝓣 E G54 b25 Δ1 at10
-          d10 = Typed.s-seq 𝓤 H A W 𝓣 E G54 G55 b21 b24 Δ1 (Typed.give s52) at9 (Relend.t-sl-relend 𝓤 H A W E (Referent.rtF (Referent.fInt Syntax.w8)) 𝓣 G54 5 24 4 12 ty·4 ty·0 (Row.lease (κs .1 .1 .1 .1 .0) (qs .1 .1 .1 .1 .0)) 0 (λ x. x) (Reads.as-is 𝓤 H A (Mut.mslice (Referent.rtF (Referent.fInt Syntax.w8)) ty·4 4)) (Reads.room-gone 𝓤 H A ty·0) Path'.refl tt Path'.refl Path'.refl Path'.refl λ b o. tt) d9
+          d10 : Typed.Typed 𝓤 H A 𝓣 E G32 b17 Δ1 (at10 bs)
+          d10 = Typed.g-pre 𝓤 H A W 𝓣 E G32 G33 b17 Δ1 (Typed.both (s30 bs)) (at9 bs) (Known.g-enum-known 𝓤 H A W E ReadAnswer.enum 1 G32 6 (λ x. x) (Reads.as-is 𝓤 H A (Rows'.whole (Declared.row ReadAnswer.the-type)))) d9
 
-          d11 : Typed.Typed 𝓤 H A 𝓣 E G53 b25 Δ1 at11
-          d11 = Typed.g-pre 𝓤 H A W 𝓣 E G53 G54 b25 Δ1 (λ Ψ. Ψ) at10 (Lifetime.g-begin 𝓤 H A W E G53 12 (tt, (tt, ((tt, tt), ((tt, tt), ((tt, tt), (tt, (tt, (tt, (tt, (tt, (tt, (tt, (tt, (tt, (tt, (tt, (tt, (tt, (tt, (tt, (tt, (tt, (tt, (tt, (tt, (tt, tt))))))))))))))))))))))))))) d10
+          d11 : Typed.Typed 𝓤 H A 𝓣 E G64 b27 Δ1 (at11 bs)
+          d11 = Typed.s-typed 𝓤 H A W 𝓣 E G64 b27 Δ1 (λ Ψ. Typed.both (s62 bs) (Typed.pass T65 T66 (s63 bs) (Typed.pass T66 T67 (s64 bs) (Typed.pass T67 T68 (s65 bs) (Typed.pass T68 T69 (s66 bs) (Typed.pass T69 T71 (s68 bs) (Typed.pass T71 T73 (s70 bs) (Typed.pass T73 T75 (s72 bs) (Typed.pass T75 T77 (s74 bs) (Typed.pass T77 T79 (s76 bs) (Typed.pass T79 T81 (s78 bs) (Typed.both (s80 bs) (Typed.give (s81 bs) Ψ))))))))))))) tt (Typed.g-post 𝓤 H A W 𝓣 E G64 G84 G85 b27 (λ Ψ. Typed.both (s62 bs) (Typed.pass T65 T66 (s63 bs) (Typed.pass T66 T67 (s64 bs) (Typed.pass T67 T68 (s65 bs) (Typed.pass T68 T69 (s66 bs) (Typed.pass T69 T71 (s68 bs) (Typed.pass T71 T73 (s70 bs) (Typed.pass T73 T75 (s72 bs) (Typed.pass T75 T77 (s74 bs) (Typed.pass T77 T79 (s76 bs) (Typed.pass T79 T81 (s78 bs) (Typed.both (s80 bs) (Typed.give (s81 bs) Ψ))))))))))))) (λ Ψ. Ψ) (Typed.g-post 𝓤 H A W 𝓣 E G64 G83 G84 b27 (λ Ψ. Typed.both (s62 bs) (Typed.pass T65 T66 (s63 bs) (Typed.pass T66 T67 (s64 bs) (Typed.pass T67 T68 (s65 bs) (Typed.pass T68 T69 (s66 bs) (Typed.pass T69 T71 (s68 bs) (Typed.pass T71 T73 (s70 bs) (Typed.pass T73 T75 (s72 bs) (Typed.pass T75 T77 (s74 bs) (Typed.pass T77 T79 (s76 bs) (Typed.pass T79 T81 (s78 bs) (Typed.both (s80 bs) Ψ)))))))))))) (Typed.give (s81 bs)) (Typed.g-post 𝓤 H A W 𝓣 E G64 G82 G83 b27 (λ Ψ. Typed.both (s62 bs) (Typed.pass T65 T66 (s63 bs) (Typed.pass T66 T67 (s64 bs) (Typed.pass T67 T68 (s65 bs) (Typed.pass T68 T69 (s66 bs) (Typed.pass T69 T71 (s68 bs) (Typed.pass T71 T73 (s70 bs) (Typed.pass T73 T75 (s72 bs) (Typed.pass T75 T77 (s74 bs) (Typed.pass T77 T79 (s76 bs) (Typed.pass T79 T81 (s78 bs) Ψ))))))))))) (Typed.both (s80 bs)) (Typed.g-post 𝓤 H A W 𝓣 E G64 G81 G82 b27 (λ Ψ. Typed.both (s62 bs) (Typed.pass T65 T66 (s63 bs) (Typed.pass T66 T67 (s64 bs) (Typed.pass T67 T68 (s65 bs) (Typed.pass T68 T69 (s66 bs) (Typed.pass T69 T71 (s68 bs) (Typed.pass T71 T73 (s70 bs) (Typed.pass T73 T75 (s72 bs) (Typed.pass T75 T77 (s74 bs) (Typed.pass T77 T79 (s76 bs) (Typed.pass T79 T81 (s78 bs) Ψ))))))))))) (λ Ψ. Ψ) (Typed.g-post 𝓤 H A W 𝓣 E G64 G80 G81 b27 (λ Ψ. Typed.both (s62 bs) (Typed.pass T65 T66 (s63 bs) (Typed.pass T66 T67 (s64 bs) (Typed.pass T67 T68 (s65 bs) (Typed.pass T68 T69 (s66 bs) (Typed.pass T69 T71 (s68 bs) (Typed.pass T71 T73 (s70 bs) (Typed.pass T73 T75 (s72 bs) (Typed.pass T75 T77 (s74 bs) (Typed.pass T77 T79 (s76 bs) Ψ)))))))))) (Typed.pass T79 T81 (s78 bs)) (Typed.g-post 𝓤 H A W 𝓣 E G64 G79 G80 b27 (λ Ψ. Typed.both (s62 bs) (Typed.pass T65 T66 (s63 bs) (Typed.pass T66 T67 (s64 bs) (Typed.pass T67 T68 (s65 bs) (Typed.pass T68 T69 (s66 bs) (Typed.pass T69 T71 (s68 bs) (Typed.pass T71 T73 (s70 bs) (Typed.pass T73 T75 (s72 bs) (Typed.pass T75 T77 (s74 bs) (Typed.pass T77 T79 (s76 bs) Ψ)))))))))) (λ Ψ. Ψ) (Typed.g-post 𝓤 H A W 𝓣 E G64 G78 G79 b27 (λ Ψ. Typed.both (s62 bs) (Typed.pass T65 T66 (s63 bs) (Typed.pass T66 T67 (s64 bs) (Typed.pass T67 T68 (s65 bs) (Typed.pass T68 T69 (s66 bs) (Typed.pass T69 T71 (s68 bs) (Typed.pass T71 T73 (s70 bs) (Typed.pass T73 T75 (s72 bs) (Typed.pass T75 T77 (s74 bs) Ψ))))))))) (Typed.pass T77 T79 (s76 bs)) (Typed.g-post 𝓤 H A W 𝓣 E G64 G77 G78 b27 (λ Ψ. Typed.both (s62 bs) (Typed.pass T65 T66 (s63 bs) (Typed.pass T66 T67 (s64 bs) (Typed.pass T67 T68 (s65 bs) (Typed.pass T68 T69 (s66 bs) (Typed.pass T69 T71 (s68 bs) (Typed.pass T71 T73 (s70 bs) (Typed.pass T73 T75 (s72 bs) (Typed.pass T75 T77 (s74 bs) Ψ))))))))) (λ Ψ. Ψ) (Typed.g-post 𝓤 H A W 𝓣 E G64 G76 G77 b27 (λ Ψ. Typed.both (s62 bs) (Typed.pass T65 T66 (s63 bs) (Typed.pass T66 T67 (s64 bs) (Typed.pass T67 T68 (s65 bs) (Typed.pass T68 T69 (s66 bs) (Typed.pass T69 T71 (s68 bs) (Typed.pass T71 T73 (s70 bs) (Typed.pass T73 T75 (s72 bs) Ψ)))))))) (Typed.pass T75 T77 (s74 bs)) (Typed.g-post 𝓤 H A W 𝓣 E G64 G75 G76 b27 (λ Ψ. Typed.both (s62 bs) (Typed.pass T65 T66 (s63 bs) (Typed.pass T66 T67 (s64 bs) (Typed.pass T67 T68 (s65 bs) (Typed.pass T68 T69 (s66 bs) (Typed.pass T69 T71 (s68 bs) (Typed.pass T71 T73 (s70 bs) (Typed.pass T73 T75 (s72 bs) Ψ)))))))) (λ Ψ. Ψ) (Typed.g-post 𝓤 H A W 𝓣 E G64 G74 G75 b27 (λ Ψ. Typed.both (s62 bs) (Typed.pass T65 T66 (s63 bs) (Typed.pass T66 T67 (s64 bs) (Typed.pass T67 T68 (s65 bs) (Typed.pass T68 T69 (s66 bs) (Typed.pass T69 T71 (s68 bs) (Typed.pass T71 T73 (s70 bs) Ψ))))))) (Typed.pass T73 T75 (s72 bs)) (Typed.g-post 𝓤 H A W 𝓣 E G64 G73 G74 b27 (λ Ψ. Typed.both (s62 bs) (Typed.pass T65 T66 (s63 bs) (Typed.pass T66 T67 (s64 bs) (Typed.pass T67 T68 (s65 bs) (Typed.pass T68 T69 (s66 bs) (Typed.pass T69 T71 (s68 bs) (Typed.pass T71 T73 (s70 bs) Ψ))))))) (λ Ψ. Ψ) (Typed.g-post 𝓤 H A W 𝓣 E G64 G72 G73 b27 (λ Ψ. Typed.both (s62 bs) (Typed.pass T65 T66 (s63 bs) (Typed.pass T66 T67 (s64 bs) (Typed.pass T67 T68 (s65 bs) (Typed.pass T68 T69 (s66 bs) (Typed.pass T69 T71 (s68 bs) Ψ)))))) (Typed.pass T71 T73 (s70 bs)) (Typed.g-post 𝓤 H A W 𝓣 E G64 G71 G72 b27 (λ Ψ. Typed.both (s62 bs) (Typed.pass T65 T66 (s63 bs) (Typed.pass T66 T67 (s64 bs) (Typed.pass T67 T68 (s65 bs) (Typed.pass T68 T69 (s66 bs) (Typed.pass T69 T71 (s68 bs) Ψ)))))) (λ Ψ. Ψ) (Typed.g-post 𝓤 H A W 𝓣 E G64 G70 G71 b27 (λ Ψ. Typed.both (s62 bs) (Typed.pass T65 T66 (s63 bs) (Typed.pass T66 T67 (s64 bs) (Typed.pass T67 T68 (s65 bs) (Typed.pass T68 T69 (s66 bs) Ψ))))) (Typed.pass T69 T71 (s68 bs)) (Typed.g-post 𝓤 H A W 𝓣 E G64 G69 G70 b27 (λ Ψ. Typed.both (s62 bs) (Typed.pass T65 T66 (s63 bs) (Typed.pass T66 T67 (s64 bs) (Typed.pass T67 T68 (s65 bs) (Typed.pass T68 T69 (s66 bs) Ψ))))) (λ Ψ. Ψ) (Typed.g-post 𝓤 H A W 𝓣 E G64 G68 G69 b27 (λ Ψ. Typed.both (s62 bs) (Typed.pass T65 T66 (s63 bs) (Typed.pass T66 T67 (s64 bs) (Typed.pass T67 T68 (s65 bs) Ψ)))) (Typed.pass T68 T69 (s66 bs)) (Typed.g-post 𝓤 H A W 𝓣 E G64 G67 G68 b27 (λ Ψ. Typed.both (s62 bs) (Typed.pass T65 T66 (s63 bs) (Typed.pass T66 T67 (s64 bs) Ψ))) (Typed.pass T67 T68 (s65 bs)) (Typed.g-post 𝓤 H A W 𝓣 E G64 G66 G67 b27 (λ Ψ. Typed.both (s62 bs) (Typed.pass T65 T66 (s63 bs) Ψ)) (Typed.pass T66 T67 (s64 bs)) (Typed.g-post 𝓤 H A W 𝓣 E G64 G65 G66 b27 (Typed.both (s62 bs)) (Typed.pass T65 T66 (s63 bs)) (Plain.t-call-plain 𝓤 H A W 𝓣 4 ps·2 r·2 (claims· .4) (claims· .5) "listing::plan::list_plan" (known .2) E (λ pos β. β) G64 (record { pos = 8; st = List.[]; d = 0; at = λ x. x }, (record { pos = 20; ty = Syntax.tyRef Syntax.erased Syntax.imm (Memory.pointee (T.the-row .written)); ref = λ x. x }, (record { pos = 22; ty = Syntax.tyRef Syntax.erased Syntax.imm (Syntax.tyInt Syntax.w16); ref = λ x. x }, (record { pos = 24; ty = Syntax.tyRef Syntax.erased Syntax.imm (Syntax.tyInt Syntax.w16); ref = λ x. x }, (record { pos = 26; ty = Syntax.tyRef Syntax.erased Syntax.mut (Syntax.tyInt Syntax.w8); ref = λ x. x }, tt))))) 16 (List._∷_ 6 (List._∷_ 7 (List._∷_ 8 (List._∷_ 9 List.[])))) (Call.sub-id 𝓤 H A W (G64 .slots)) ((Yields.yields-copy 𝓤 H A W (λ ρ. Unit) (Declared'.row Size.the-type) Path'.refl (Copies.cStruct Size.the-type Laws''.the-laws Laws''.the-copy .copy 𝓤 H A W) (Rows'.whole (Declared'.row Size.the-type)) (λ x. x) (λ x. x) (λ ρ told. Local.mem-whole 𝓤 H A W (Declared'.row Size.the-type) ρ) λ ρ told. Local.whole-mem 𝓤 H A W (Declared'.row Size.the-type) ρ, Path'.refl), (ShrSlice.spares-sslice 𝓤 H A W T.the-row ty·10 6, Shared.reads-sslice 𝓤 H A W T.the-row ty·10 6, Path'.refl, (ShrSlice.spares-sslice 𝓤 H A W (Referent.rtF (Referent.fInt Syntax.w16)) ty·6 7, Shared.reads-sslice 𝓤 H A W (Referent.rtF (Referent.fInt Syntax.w16)) ty·6 7, Path'.refl, (ShrSlice.spares-sslice 𝓤 H A W (Referent.rtF (Referent.fInt Syntax.w16)) ty·6 8, Shared.reads-sslice 𝓤 H A W (Referent.rtF (Referent.fInt Syntax.w16)) ty·6 8, Path'.refl, (Reads.as-is 𝓤 H A (Mut.mslice (Referent.rtF (Referent.fInt Syntax.w8)) ty·4 9), Mut.reads-mslice 𝓤 H A W (Referent.rtF (Referent.fInt Syntax.w8)) ty·4 9, Path'.refl, tt))))) (Reads.room-gone 𝓤 H A (Syntax.tyInt Syntax.w64)) (tt, (tt, (tt, (tt, tt)))) Path'.refl) (Scalar.g-room 𝓤 H A W E G65 20 ty·21 (Shared.room-sslice 𝓤 H A W T.the-row ty·10 6))) (Scalar.g-room 𝓤 H A W E G66 22 ty·19 (Shared.room-sslice 𝓤 H A W (Referent.rtF (Referent.fInt Syntax.w16)) ty·6 7))) (Scalar.g-room 𝓤 H A W E G67 24 ty·19 (Shared.room-sslice 𝓤 H A W (Referent.rtF (Referent.fInt Syntax.w16)) ty·6 8))) (Scalar.g-room 𝓤 H A W E G68 8 ty·22 (Local.room-whole 𝓤 H A W (Declared'.row Size.the-type) ty·22 Path'.refl))) (Lifetime.g-end 𝓤 H A W E G69 6 Path'.refl)) (Share.g-back-arr-shr 𝓤 H A W E T.the-row G70 3 1024 6 (λ x. x) (Reads.as-is 𝓤 H A (Rows.arr-shr T.the-row 1024 6)) Path'.refl)) (Lifetime.g-forget 𝓤 H A W E G71 6 Row.dead Path'.refl)) (Scalar.g-room 𝓤 H A W E G72 3 ty·2 (Init.room-arr 𝓤 H A W T.the-row 1024 0 1024 Path'.refl))) (Lifetime.g-end 𝓤 H A W E G73 7 Path'.refl)) (Share.g-back-arr-shr 𝓤 H A W E (Referent.rtF (Referent.fInt Syntax.w16)) G74 4 4096 7 (λ x. x) (Reads.as-is 𝓤 H A (Rows.arr-shr (Referent.rtF (Referent.fInt Syntax.w16)) 4096 7)) Path'.refl)) (Lifetime.g-forget 𝓤 H A W E G75 7 Row.dead Path'.refl)) (Scalar.g-room 𝓤 H A W E G76 4 ty·0 (Init.room-arr 𝓤 H A W (Referent.rtF (Referent.fInt Syntax.w16)) 4096 0 4096 Path'.refl))) (Lifetime.g-end 𝓤 H A W E G77 8 Path'.refl)) (Share.g-back-arr-shr 𝓤 H A W E (Referent.rtF (Referent.fInt Syntax.w16)) G78 5 16384 8 (λ x. x) (Reads.as-is 𝓤 H A (Rows.arr-shr (Referent.rtF (Referent.fInt Syntax.w16)) 16384 8)) Path'.refl)) (Lifetime.g-forget 𝓤 H A W E G79 8 Row.dead Path'.refl)) (Scalar.g-room 𝓤 H A W E G80 5 ty·1 (Init.room-arr 𝓤 H A W (Referent.rtF (Referent.fInt Syntax.w16)) 16384 0 16384 Path'.refl))) (Lifetime.g-end 𝓤 H A W E G81 9 Path'.refl)) (Relend.g-back-sl 𝓤 H A W E (Referent.rtF (Referent.fInt Syntax.w8)) G82 26 2 1 9 ty·8 ty·4 (Row.lease (κs .1 .0) (qs .1 .0)) (λ x. x) (λ x. x) (Reads.as-is 𝓤 H A (Mut.msleft (Referent.rtF (Referent.fInt Syntax.w8)) ty·4)) (Reads.as-is 𝓤 H A (Relend.mslice-owed (Referent.rtF (Referent.fInt Syntax.w8)) ty·8 1 9 (Row.lease (κs .1 .0) (qs .1 .0)))) Path'.refl Path'.refl)) (Know.g-sl-known 𝓤 H A W (Referent.fInt Syntax.w8) E G83 2 1 ty·8 (Row.lease (κs .1 .0) (qs .1 .0)) 0 (λ x. x) record { fits = Dec'.lit< tt } (Reads.as-is 𝓤 H A (Mut.mslice (Referent.rtF (Referent.fInt Syntax.w8)) ty·8 1)) Path'.refl tt)) (Lifetime.g-forget 𝓤 H A W E G84 9 Row.dead Path'.refl))
 
-          d12 : Typed.Typed 𝓤 H A 𝓣 E G52 b26 Δ1 at12
-          d12 = Typed.s-seq 𝓤 H A W 𝓣 E G52 G53 b20 b25 Δ1 (Typed.ask s50) at11 (Relend.t-sl-aggregate 𝓤 H A W E (Referent.rtF (Referent.fInt Syntax.w16)) 𝓣 (Relend.asShr (Referent.rtF (Referent.fInt Syntax.w16))) G52 22 23 11 ty·2 ty·2 (λ x. x) (Scalar.oFld 4 (List._∷_ (Syntax.field 1) List.[]) (Syntax.tyInt Syntax.w64) 8 λ v. Shared.lenV (v .0)) (Reads.as-is 𝓤 H A (Relend.ssptr (Referent.rtF (Referent.fInt Syntax.w16)) ty·2 11)) (Reads.room-gone 𝓤 H A ty·12) (Reshare.reads-owedS-len 𝓤 H A W (Referent.rtF (Referent.fInt Syntax.w16)) ty·6 3 11 (Row.lease (κs .1 .1 .1 .0) (qs .1 .1 .1 .0)) 8 Path'.refl, Path'.refl) Path'.refl Path'.refl λ b o k. tt) d11
+          d12 : Typed.Typed 𝓤 H A 𝓣 E G63 b28 Δ1 (at12 bs)
+          d12 = Typed.s-seq 𝓤 H A W 𝓣 E G63 G64 b26 b27 Δ1 (Typed.ask (s61 bs)) (at11 bs) (Relend.t-sl-aggregate 𝓤 H A W E (Referent.rtF (Referent.fInt Syntax.w8)) 𝓣 (Relend.asMut (Referent.rtF (Referent.fInt Syntax.w8))) G63 25 26 9 ty·4 ty·4 (λ x. x) (Scalar.oFld 2 (List._∷_ (Syntax.field 1) List.[]) (Syntax.tyInt Syntax.w64) 8 λ v. Shared.lenV (v .0)) (Reads.as-is 𝓤 H A (Relend.msptr (Referent.rtF (Referent.fInt Syntax.w8)) ty·4 9)) (Reads.room-gone 𝓤 H A ty·17) (Relend.reads-owed-len 𝓤 H A W (Referent.rtF (Referent.fInt Syntax.w8)) ty·8 1 9 (Row.lease (κs .1 .0) (qs .1 .0)) 8 Path'.refl, Path'.refl) Path'.refl Path'.refl λ b o k. tt) d11
 
-          d13 : Typed.Typed 𝓤 H A 𝓣 E G51 b27 Δ1 at13
-          d13 = Typed.s-seq 𝓤 H A W 𝓣 E G51 G52 b19 b26 Δ1 (Typed.give s49) at12 (Reshare.t-sl-reshare 𝓤 H A W E (Referent.rtF (Referent.fInt Syntax.w16)) 𝓣 G51 4 22 3 11 ty·6 ty·2 (Row.lease (κs .1 .1 .1 .0) (qs .1 .1 .1 .0)) 0 (λ x. x) (Reads.as-is 𝓤 H A (Mut.mslice (Referent.rtF (Referent.fInt Syntax.w16)) ty·6 3)) (Reads.room-gone 𝓤 H A ty·2) Path'.refl tt Path'.refl Path'.refl Path'.refl λ b o. tt) d12
+          d13 : Typed.Typed 𝓤 H A 𝓣 E G62 b29 Δ1 (at13 bs)
+          d13 = Typed.s-seq 𝓤 H A W 𝓣 E G62 G63 b25 b28 Δ1 (Typed.give (s60 bs)) (at12 bs) (Relend.t-sl-relend 𝓤 H A W E (Referent.rtF (Referent.fInt Syntax.w8)) 𝓣 G62 2 25 1 9 ty·8 ty·4 (Row.lease (κs .1 .0) (qs .1 .0)) 0 (λ x. x) (Reads.as-is 𝓤 H A (Mut.mslice (Referent.rtF (Referent.fInt Syntax.w8)) ty·8 1)) (Reads.room-gone 𝓤 H A ty·4) Path'.refl tt Path'.refl Path'.refl Path'.refl λ b o. tt) d12
 
-          d14 : Typed.Typed 𝓤 H A 𝓣 E G50 b27 Δ1 at14
-          d14 = Typed.g-pre 𝓤 H A W 𝓣 E G50 G51 b27 Δ1 (λ Ψ. Ψ) at13 (Lifetime.g-begin 𝓤 H A W E G50 11 (tt, (tt, ((tt, tt), ((tt, tt), (tt, (tt, (tt, (tt, (tt, (tt, (tt, (tt, (tt, (tt, (tt, (tt, (tt, (tt, (tt, (tt, (tt, (tt, (tt, (tt, (tt, (tt, tt))))))))))))))))))))))))))) d13
+          d14 : Typed.Typed 𝓤 H A 𝓣 E G61 b29 Δ1 (at14 bs)
+          d14 = Typed.g-pre 𝓤 H A W 𝓣 E G61 G62 b29 Δ1 (λ Ψ. Ψ) (at13 bs) (Lifetime.g-begin 𝓤 H A W E G61 9 (tt, (tt, (tt, (tt, (tt, (tt, (tt, (tt, (tt, (tt, (tt, (tt, (tt, (tt, (tt, (tt, (tt, (tt, (tt, (tt, (tt, (tt, (tt, (tt, (tt, (tt, (tt, tt)))))))))))))))))))))))))))) d13
 
-          d15 : Typed.Typed 𝓤 H A 𝓣 E G49 b28 Δ1 at15
-          d15 = Typed.s-seq 𝓤 H A W 𝓣 E G49 G50 b18 b27 Δ1 (Typed.ask s47) at14 (Relend.t-sl-aggregate 𝓤 H A W E (Referent.rtF (Referent.fInt Syntax.w16)) 𝓣 (Relend.asShr (Referent.rtF (Referent.fInt Syntax.w16))) G49 20 21 10 ty·2 ty·2 (λ x. x) (Scalar.oFld 3 (List._∷_ (Syntax.field 1) List.[]) (Syntax.tyInt Syntax.w64) 8 λ v. Shared.lenV (v .0)) (Reads.as-is 𝓤 H A (Relend.ssptr (Referent.rtF (Referent.fInt Syntax.w16)) ty·2 10)) (Reads.room-gone 𝓤 H A ty·12) (Reshare.reads-owedS-len 𝓤 H A W (Referent.rtF (Referent.fInt Syntax.w16)) ty·5 2 10 (Row.lease (κs .1 .1 .0) (qs .1 .1 .0)) 8 Path'.refl, Path'.refl) Path'.refl Path'.refl λ b o k. tt) d14
+          d15 : Typed.Typed 𝓤 H A 𝓣 E G60 b30 Δ1 (at15 bs)
+          d15 = Typed.s-seq 𝓤 H A W 𝓣 E G60 G61 b24 b29 Δ1 (Typed.ask (s58 bs)) (at14 bs) (Relend.t-sl-aggregate 𝓤 H A W E (Referent.rtF (Referent.fInt Syntax.w16)) 𝓣 (Relend.asShr (Referent.rtF (Referent.fInt Syntax.w16))) G60 23 24 8 ty·14 ty·6 (λ x. x) (Scalar.oBig Syntax.w64 16384) (Reads.as-is 𝓤 H A (Relend.ssptr (Referent.rtF (Referent.fInt Syntax.w16)) ty·14 8)) (Reads.room-gone 𝓤 H A ty·19) record { lower = record { fits = Dec'.lit< tt } } Path'.refl Path'.refl λ b o k. tt) d14
 
-          d16 : Typed.Typed 𝓤 H A 𝓣 E G48 b29 Δ1 at16
-          d16 = Typed.s-seq 𝓤 H A W 𝓣 E G48 G49 b17 b28 Δ1 (Typed.give s46) at15 (Reshare.t-sl-reshare 𝓤 H A W E (Referent.rtF (Referent.fInt Syntax.w16)) 𝓣 G48 3 20 2 10 ty·5 ty·2 (Row.lease (κs .1 .1 .0) (qs .1 .1 .0)) 0 (λ x. x) (Reads.as-is 𝓤 H A (Mut.mslice (Referent.rtF (Referent.fInt Syntax.w16)) ty·5 2)) (Reads.room-gone 𝓤 H A ty·2) Path'.refl tt Path'.refl Path'.refl Path'.refl λ b o. tt) d15
+          d16 : Typed.Typed 𝓤 H A 𝓣 E G59 b31 Δ1 (at16 bs)
+          d16 = Typed.s-seq 𝓤 H A W 𝓣 E G59 G60 b23 b30 Δ1 (Typed.give (s57 bs)) (at15 bs) (Share.t-arr-share 𝓤 H A W E 𝓣 (Referent.rtF (Referent.fInt Syntax.w16)) G59 5 23 16384 8 ty·14 (λ x. x) (Reads.as-is 𝓤 H A (Rows.arrF (Referent.rtF (Referent.fInt Syntax.w16)) 16384 0)) (Reads.room-gone 𝓤 H A ty·14) Path'.refl (λ b o. tt) (Dec'.lit< tt, Dec'.lit< tt)) d15
 
-          d17 : Typed.Typed 𝓤 H A 𝓣 E G47 b29 Δ1 at17
-          d17 = Typed.g-pre 𝓤 H A W 𝓣 E G47 G48 b29 Δ1 (λ Ψ. Ψ) at16 (Lifetime.g-begin 𝓤 H A W E G47 10 (tt, (tt, ((tt, tt), (tt, (tt, (tt, (tt, (tt, (tt, (tt, (tt, (tt, (tt, (tt, (tt, (tt, (tt, (tt, (tt, (tt, (tt, (tt, (tt, (tt, (tt, (tt, tt))))))))))))))))))))))))))) d16
+          d17 : Typed.Typed 𝓤 H A 𝓣 E G58 b31 Δ1 (at17 bs)
+          d17 = Typed.g-pre 𝓤 H A W 𝓣 E G58 G59 b31 Δ1 (λ Ψ. Ψ) (at16 bs) (Lifetime.g-begin 𝓤 H A W E G58 8 (tt, (tt, (tt, (tt, (tt, (tt, (tt, (tt, (tt, (tt, (tt, (tt, (tt, (tt, (tt, (tt, (tt, (tt, (tt, (tt, (tt, (tt, (tt, (tt, (tt, (tt, (tt, tt)))))))))))))))))))))))))))) d16
 
-          d18 : Typed.Typed 𝓤 H A 𝓣 E G46 b30 Δ1 at18
-          d18 = Typed.s-seq 𝓤 H A W 𝓣 E G46 G47 b16 b29 Δ1 (Typed.ask s44) at17 (Relend.t-sl-aggregate 𝓤 H A W E T.the-row 𝓣 (Relend.asShr T.the-row) G46 18 19 9 ty·8 ty·8 (λ x. x) (Scalar.oFld 2 (List._∷_ (Syntax.field 1) List.[]) (Syntax.tyInt Syntax.w64) 8 λ v. Shared.lenV (v .0)) (Reads.as-is 𝓤 H A (Relend.ssptr T.the-row ty·8 9)) (Reads.room-gone 𝓤 H A ty·14) (Reshare.reads-owedS-len 𝓤 H A W T.the-row ty·9 1 9 (Row.lease (κs .1 .0) (qs .1 .0)) 8 Path'.refl, Path'.refl) Path'.refl Path'.refl λ b o k. tt) d17
+          d18 : Typed.Typed 𝓤 H A 𝓣 E G57 b32 Δ1 (at18 bs)
+          d18 = Typed.s-seq 𝓤 H A W 𝓣 E G57 G58 b22 b31 Δ1 (Typed.ask (s55 bs)) (at17 bs) (Relend.t-sl-aggregate 𝓤 H A W E (Referent.rtF (Referent.fInt Syntax.w16)) 𝓣 (Relend.asShr (Referent.rtF (Referent.fInt Syntax.w16))) G57 21 22 7 ty·12 ty·6 (λ x. x) (Scalar.oBig Syntax.w64 4096) (Reads.as-is 𝓤 H A (Relend.ssptr (Referent.rtF (Referent.fInt Syntax.w16)) ty·12 7)) (Reads.room-gone 𝓤 H A ty·19) record { lower = record { fits = Dec'.lit< tt } } Path'.refl Path'.refl λ b o k. tt) d17
 
-          d19 : Typed.Typed 𝓤 H A 𝓣 E G45 b31 Δ1 at19
-          d19 = Typed.s-seq 𝓤 H A W 𝓣 E G45 G46 b15 b30 Δ1 (Typed.give s43) at18 (Reshare.t-sl-reshare 𝓤 H A W E T.the-row 𝓣 G45 2 18 1 9 ty·9 ty·8 (Row.lease (κs .1 .0) (qs .1 .0)) 0 (λ x. x) (Reads.as-is 𝓤 H A (Mut.mslice T.the-row ty·9 1)) (Reads.room-gone 𝓤 H A ty·8) Path'.refl tt Path'.refl Path'.refl Path'.refl λ b o. tt) d18
+          d19 : Typed.Typed 𝓤 H A 𝓣 E G56 b33 Δ1 (at19 bs)
+          d19 = Typed.s-seq 𝓤 H A W 𝓣 E G56 G57 b21 b32 Δ1 (Typed.give (s54 bs)) (at18 bs) (Share.t-arr-share 𝓤 H A W E 𝓣 (Referent.rtF (Referent.fInt Syntax.w16)) G56 4 21 4096 7 ty·12 (λ x. x) (Reads.as-is 𝓤 H A (Rows.arrF (Referent.rtF (Referent.fInt Syntax.w16)) 4096 0)) (Reads.room-gone 𝓤 H A ty·12) Path'.refl (λ b o. tt) (Dec'.lit< tt, Dec'.lit< tt)) d18
 
-          d20 : Typed.Typed 𝓤 H A 𝓣 E G44 b31 Δ1 at20
-          d20 = Typed.g-pre 𝓤 H A W 𝓣 E G44 G45 b31 Δ1 (λ Ψ. Ψ) at19 (Lifetime.g-begin 𝓤 H A W E G44 9 (tt, (tt, (tt, (tt, (tt, (tt, (tt, (tt, (tt, (tt, (tt, (tt, (tt, (tt, (tt, (tt, (tt, (tt, (tt, (tt, (tt, (tt, (tt, (tt, (tt, (tt, tt))))))))))))))))))))))))))) d19
+          d20 : Typed.Typed 𝓤 H A 𝓣 E G55 b33 Δ1 (at20 bs)
+          d20 = Typed.g-pre 𝓤 H A W 𝓣 E G55 G56 b33 Δ1 (λ Ψ. Ψ) (at19 bs) (Lifetime.g-begin 𝓤 H A W E G55 7 (tt, (tt, (tt, (tt, (tt, (tt, (tt, (tt, (tt, (tt, (tt, (tt, (tt, (tt, (tt, (tt, (tt, (tt, (tt, (tt, (tt, (tt, (tt, (tt, (tt, (tt, (tt, tt)))))))))))))))))))))))))))) d19
 
-          d21 : Typed.Typed 𝓤 H A 𝓣 E G43 b31 Δ1 at21
-          d21 = Typed.g-pre 𝓤 H A W 𝓣 E G43 G44 b31 Δ1 (Typed.pass T43 T44 s41) at20 (Scalar.g-room 𝓤 H A W E G43 6 ty·17 (Local.room-whole 𝓤 H A W (Known.Known ReadAnswer.enum 0) ty·17 Path'.refl)) d20
+          d21 : Typed.Typed 𝓤 H A 𝓣 E G54 b34 Δ1 (at21 bs)
+          d21 = Typed.s-seq 𝓤 H A W 𝓣 E G54 G55 b20 b33 Δ1 (Typed.ask (s52 bs)) (at20 bs) (Relend.t-sl-aggregate 𝓤 H A W E T.the-row 𝓣 (Relend.asShr T.the-row) G54 19 20 6 ty·16 ty·10 (λ x. x) (Scalar.oBig Syntax.w64 1024) (Reads.as-is 𝓤 H A (Relend.ssptr T.the-row ty·16 6)) (Reads.room-gone 𝓤 H A ty·21) record { lower = record { fits = Dec'.lit< tt } } Path'.refl Path'.refl λ b o k. tt) d20
 
-          d22 : Typed.Typed 𝓤 H A 𝓣 E G42 b32 Δ1 at22
-          d22 = Typed.s-seq 𝓤 H A W 𝓣 E G42 G43 b14 b31 Δ1 (Typed.pass T42 T43 s40) at21 (CopyOut.t-copy-told 𝓤 H A W E 𝓣 (Declared'.row Size.the-type) Path'.refl (Laws'4.val Size.the-type Laws''.the-laws) (Laws'4.lawful Size.the-type Laws''.the-laws 𝓤 H A W) (Laws'4.makes Size.the-type Laws''.the-plain 𝓤 H A) G42 8 (Scalar.oFld 6 (List._∷_ (Syntax.variant 0) (List._∷_ (Syntax.field 1) List.[])) ty·15 8 λ v. Laws'4.val Size.the-type Laws''.the-laws (v .0)) (λ m. m .1 .1 .1 .1 .1 .1 .0 .0) (λ m. Laws'3.Fields (Declared.variants ReadAnswer.the-type) (Laws'3.spellss (ReadAnswer.enum .parts) Laws.the-laws) (ReadAnswer.the-type .to (Known.at ReadAnswer.enum 0 (m .1 .1 .1 .1 .1 .1 .0)))) (Reads.room-gone 𝓤 H A ty·15) (Match.reads-payload 𝓤 H A W ReadAnswer.enum Laws.the-laws 0 Path'.refl Path'.refl (λ v. Val.vcons (Laws'4.val Size.the-type Laws''.the-laws (v .0)) Val.vnil) (λ v. Path'.refl) 0 ty·15 8 Path'.refl, Path'.refl) Path'.refl (λ ρ m. Make.tells-row 𝓤 H A W E ρ (Row.out 8 (G42 .locals)) m 6 (Laws'3.Fields (Declared.variants ReadAnswer.the-type) (Laws'3.spellss (ReadAnswer.enum .parts) Laws.the-laws) (ReadAnswer.the-type .to (Known.at ReadAnswer.enum 0 (m .1 .1 .1 .1 .1 .1 .0)))) (Known.known-is 𝓤 H A W E ReadAnswer.enum 0 Laws.the-laws ρ 6 (m .1 .1 .1 .1 .1 .1 .0))) (λ m k wa. Path'.refl) λ m k wa. k .0) d21
+          d22 : Typed.Typed 𝓤 H A 𝓣 E G53 b35 Δ1 (at22 bs)
+          d22 = Typed.s-seq 𝓤 H A W 𝓣 E G53 G54 b19 b34 Δ1 (Typed.give (s51 bs)) (at21 bs) (Share.t-arr-share 𝓤 H A W E 𝓣 T.the-row G53 3 19 1024 6 ty·16 (λ x. x) (Reads.as-is 𝓤 H A (Rows.arrF T.the-row 1024 0)) (Reads.room-gone 𝓤 H A ty·16) Path'.refl (λ b o. tt) (Dec'.lit< tt, Dec'.lit< tt)) d21
 
-          d23 : Typed.Typed 𝓤 H A 𝓣 E G41 b32 Δ1 at23
-          d23 = Typed.g-pre 𝓤 H A W 𝓣 E G41 G42 b32 Δ1 (Typed.give s39) at22 (Known.g-known-told 𝓤 H A W E ReadAnswer.enum 0 G41 6 Laws.the-laws (λ x. x) (Reads.as-is 𝓤 H A (Rows.whole (Known.Known ReadAnswer.enum 0)))) d22
+          d23 : Typed.Typed 𝓤 H A 𝓣 E G52 b35 Δ1 (at23 bs)
+          d23 = Typed.g-pre 𝓤 H A W 𝓣 E G52 G53 b35 Δ1 (λ Ψ. Ψ) (at22 bs) (Lifetime.g-begin 𝓤 H A W E G52 6 (tt, (tt, (tt, (tt, (tt, (tt, (tt, (tt, (tt, (tt, (tt, (tt, (tt, (tt, (tt, (tt, (tt, (tt, (tt, (tt, (tt, (tt, (tt, (tt, (tt, (tt, (tt, tt)))))))))))))))))))))))))))) d22
 
-          d24 : Typed.Typed 𝓤 H A 𝓣 E G27 b32 Δ1 at24
-          d24 = Typed.g-pre 𝓤 H A W 𝓣 E G27 G41 b32 Δ1 (Typed.both s38) at23 (Known.g-enum-known 𝓤 H A W E ReadAnswer.enum 0 G27 6 (λ x. x) (Reads.as-is 𝓤 H A (Rows.whole (Declared.row ReadAnswer.the-type)))) d23
+          d24 : Typed.Typed 𝓤 H A 𝓣 E G51 b35 Δ1 (at24 bs)
+          d24 = Typed.g-pre 𝓤 H A W 𝓣 E G51 G52 b35 Δ1 (Typed.pass T51 T52 (s49 bs)) (at23 bs) (Scalar.g-room 𝓤 H A W E G51 6 ty·24 (Local.room-whole 𝓤 H A W (Known.Known ReadAnswer.enum 0) ty·24 Path'.refl)) d23
 
-          d25 : Typed.Typed 𝓤 H A 𝓣 E G27 b33 Δ1 at25
-          d25 = Switch.t-switch-on 𝓤 H A W E 𝓣 G27 (Scalar.oFld 6 (List._∷_ (Syntax.variant 0) (List._∷_ (Syntax.field 0) List.[])) (Syntax.tyInt Syntax.w8) 0 λ x. Val.vint Syntax.w8 (Declared.tagOf ReadAnswer.the-type x)) Syntax.w8 (λ u. Declared.tagOf ReadAnswer.the-type (u .1 .1 .1 .1 .1 .1 .0)) (Syntax.arm (List._∷_ 1 List.[]) b13 (Syntax.arm (List._∷_ 0 List.[]) b32 Syntax.noDefault)) Δ1 (at7, (at24, tt)) (Match.reads-tag 𝓤 H A W ReadAnswer.the-type Laws.the-laws (Rows.whole (Declared.row ReadAnswer.the-type)) 0 (λ x. x) (Whole.reads-enum 𝓤 H A W ReadAnswer.the-type Laws.the-laws), Path'.refl) (λ u. Path'.refl) (d7, (d24, tt))
+          d25 : Typed.Typed 𝓤 H A 𝓣 E G50 b36 Δ1 (at25 bs)
+          d25 = Typed.s-seq 𝓤 H A W 𝓣 E G50 G51 b18 b35 Δ1 (Typed.pass T50 T51 (s48 bs)) (at24 bs) (CopyOut.t-copy-told 𝓤 H A W E 𝓣 (Declared'.row Size.the-type) Path'.refl (Laws'4.val Size.the-type Laws''.the-laws) (Laws'4.lawful Size.the-type Laws''.the-laws 𝓤 H A W) (Laws'4.makes Size.the-type Laws''.the-plain 𝓤 H A) G50 8 (Scalar.oFld 6 (List._∷_ (Syntax.variant 0) (List._∷_ (Syntax.field 1) List.[])) ty·22 8 λ v. Laws'4.val Size.the-type Laws''.the-laws (v .0)) (λ m. m .1 .1 .1 .1 .1 .1 .0 .0) (λ m. Laws'3.Fields (Declared.variants ReadAnswer.the-type) (Laws'3.spellss (ReadAnswer.enum .parts) Laws.the-laws) (ReadAnswer.the-type .to (Known.at ReadAnswer.enum 0 (m .1 .1 .1 .1 .1 .1 .0)))) (Reads.room-gone 𝓤 H A ty·22) (Match.reads-payload 𝓤 H A W ReadAnswer.enum Laws.the-laws 0 Path'.refl Path'.refl (λ v. Val.vcons (Laws'4.val Size.the-type Laws''.the-laws (v .0)) Val.vnil) (λ v. Path'.refl) 0 ty·22 8 Path'.refl, Path'.refl) Path'.refl (λ ρ m. Make.tells-row 𝓤 H A W E ρ (Row.out 8 (G50 .locals)) m 6 (Laws'3.Fields (Declared.variants ReadAnswer.the-type) (Laws'3.spellss (ReadAnswer.enum .parts) Laws.the-laws) (ReadAnswer.the-type .to (Known.at ReadAnswer.enum 0 (m .1 .1 .1 .1 .1 .1 .0)))) (Known.known-is 𝓤 H A W E ReadAnswer.enum 0 Laws.the-laws ρ 6 (m .1 .1 .1 .1 .1 .1 .0))) (λ m k wa. Path'.refl) λ m k wa. k .0) d24
 
-          d26 : Typed.Typed 𝓤 H A 𝓣 E G26 b33 Δ1 at26
-          d26 = Typed.g-pre 𝓤 H A W 𝓣 E G26 G27 b33 Δ1 (λ Ψ. Ψ) at25 (Lifetime.g-forget 𝓤 H A W E G26 7 Row.dead Path'.refl) d25
+          d26 : Typed.Typed 𝓤 H A 𝓣 E G49 b36 Δ1 (at26 bs)
+          d26 = Typed.g-pre 𝓤 H A W 𝓣 E G49 G50 b36 Δ1 (Typed.give (s47 bs)) (at25 bs) (Known.g-known-told 𝓤 H A W E ReadAnswer.enum 0 G49 6 Laws.the-laws (λ x. x) (Reads.as-is 𝓤 H A (Rows'.whole (Known.Known ReadAnswer.enum 0)))) d25
 
-          d27 : Typed.Typed 𝓤 H A 𝓣 E G25 b33 Δ1 at27
-          d27 = Typed.g-pre 𝓤 H A W 𝓣 E G25 G26 b33 Δ1 (Typed.give s23) at26 (Know.g-sl-known 𝓤 H A W (Referent.fInt Syntax.w16) E G25 4 3 ty·6 (Row.lease (κs .1 .1 .1 .0) (qs .1 .1 .1 .0)) 0 (λ x. x) record { fits = Dec'.lit< tt } (Reads.as-is 𝓤 H A (Mut.mslice (Referent.rtF (Referent.fInt Syntax.w16)) ty·6 3)) Path'.refl tt) d26
+          d27 : Typed.Typed 𝓤 H A 𝓣 E G32 b36 Δ1 (at27 bs)
+          d27 = Typed.g-pre 𝓤 H A W 𝓣 E G32 G49 b36 Δ1 (Typed.both (s46 bs)) (at26 bs) (Known.g-enum-known 𝓤 H A W E ReadAnswer.enum 0 G32 6 (λ x. x) (Reads.as-is 𝓤 H A (Rows'.whole (Declared.row ReadAnswer.the-type)))) d26
 
-          d28 : Typed.Typed 𝓤 H A 𝓣 E G24 b33 Δ1 at28
-          d28 = Typed.g-pre 𝓤 H A W 𝓣 E G24 G25 b33 Δ1 (Typed.both s22) at27 (Relend.g-back-sl 𝓤 H A W E (Referent.rtF (Referent.fInt Syntax.w16)) G24 14 4 3 7 ty·6 ty·1 (Row.lease (κs .1 .1 .1 .0) (qs .1 .1 .1 .0)) (λ x. x) (λ x. x) (Reads.as-is 𝓤 H A (Mut.msleft (Referent.rtF (Referent.fInt Syntax.w16)) ty·1)) (Reads.as-is 𝓤 H A (Relend.mslice-owed (Referent.rtF (Referent.fInt Syntax.w16)) ty·6 3 7 (Row.lease (κs .1 .1 .1 .0) (qs .1 .1 .1 .0)))) Path'.refl Path'.refl) d27
+          d28 : Typed.Typed 𝓤 H A 𝓣 E G32 b37 Δ1 (at28 bs)
+          d28 = Switch.t-switch-on 𝓤 H A W E 𝓣 G32 (Scalar.oFld 6 (List._∷_ (Syntax.variant 0) (List._∷_ (Syntax.field 0) List.[])) (Syntax.tyInt Syntax.w8) 0 λ x. Val.vint Syntax.w8 (Declared.tagOf ReadAnswer.the-type x)) Syntax.w8 (λ u. Declared.tagOf ReadAnswer.the-type (u .1 .1 .1 .1 .1 .1 .0)) (Syntax.arm (List._∷_ 1 List.[]) b17 (Syntax.arm (List._∷_ 0 List.[]) b36 Syntax.noDefault)) Δ1 (at10 bs, (at27 bs, tt)) (Match.reads-tag 𝓤 H A W ReadAnswer.the-type Laws.the-laws (Rows'.whole (Declared.row ReadAnswer.the-type)) 0 (λ x. x) (Whole.reads-enum 𝓤 H A W ReadAnswer.the-type Laws.the-laws), Path'.refl) (λ u. Path'.refl) (d10, (d27, tt))
 
-          d29 : Typed.Typed 𝓤 H A 𝓣 E G23 b33 Δ1 at29
-          d29 = Typed.g-pre 𝓤 H A W 𝓣 E G23 G24 b33 Δ1 (λ Ψ. Ψ) at28 (Lifetime.g-end 𝓤 H A W E G23 7 Path'.refl) d28
+          d29 : Typed.Typed 𝓤 H A 𝓣 E G31 b37 Δ1 (at29 bs)
+          d29 = Typed.g-pre 𝓤 H A W 𝓣 E G31 G32 b37 Δ1 (λ Ψ. Ψ) (at28 bs) (Lifetime.g-forget 𝓤 H A W E G31 4 Row.dead Path'.refl) d28
 
-          d30 : Typed.Typed 𝓤 H A 𝓣 E G22 b33 Δ1 at30
-          d30 = Typed.g-pre 𝓤 H A W 𝓣 E G22 G23 b33 Δ1 (λ Ψ. Ψ) at29 (Lifetime.g-forget 𝓤 H A W E G22 6 Row.dead Path'.refl) d29
+          d30 : Typed.Typed 𝓤 H A 𝓣 E G30 b37 Δ1 (at30 bs)
+          d30 = Typed.g-pre 𝓤 H A W 𝓣 E G30 G31 b37 Δ1 (Typed.both (s28 bs)) (at29 bs) (Borrow.g-back-arr 𝓤 H A W E (Referent.rtF (Referent.fInt Syntax.w16)) G30 15 5 4 16384 ty·5 (λ x. x) (λ x. x) (Reads.as-is 𝓤 H A (Mut.msleft (Referent.rtF (Referent.fInt Syntax.w16)) ty·5)) (Reads.as-is 𝓤 H A (Rows.arr-owed (Referent.rtF (Referent.fInt Syntax.w16)) 16384 4)) Path'.refl) d29
 
-          d31 : Typed.Typed 𝓤 H A 𝓣 E G21 b33 Δ1 at31
-          d31 = Typed.g-pre 𝓤 H A W 𝓣 E G21 G22 b33 Δ1 (Typed.give s19) at30 (Know.g-sl-known 𝓤 H A W (Referent.fInt Syntax.w16) E G21 3 2 ty·5 (Row.lease (κs .1 .1 .0) (qs .1 .1 .0)) 0 (λ x. x) record { fits = Dec'.lit< tt } (Reads.as-is 𝓤 H A (Mut.mslice (Referent.rtF (Referent.fInt Syntax.w16)) ty·5 2)) Path'.refl tt) d30
+          d31 : Typed.Typed 𝓤 H A 𝓣 E G29 b37 Δ1 (at31 bs)
+          d31 = Typed.g-pre 𝓤 H A W 𝓣 E G29 G30 b37 Δ1 (λ Ψ. Ψ) (at30 bs) (Lifetime.g-end 𝓤 H A W E G29 4 Path'.refl) d30
 
-          d32 : Typed.Typed 𝓤 H A 𝓣 E G20 b33 Δ1 at32
-          d32 = Typed.g-pre 𝓤 H A W 𝓣 E G20 G21 b33 Δ1 (Typed.both s18) at31 (Relend.g-back-sl 𝓤 H A W E (Referent.rtF (Referent.fInt Syntax.w16)) G20 12 3 2 6 ty·5 ty·1 (Row.lease (κs .1 .1 .0) (qs .1 .1 .0)) (λ x. x) (λ x. x) (Reads.as-is 𝓤 H A (Mut.msleft (Referent.rtF (Referent.fInt Syntax.w16)) ty·1)) (Reads.as-is 𝓤 H A (Relend.mslice-owed (Referent.rtF (Referent.fInt Syntax.w16)) ty·5 2 6 (Row.lease (κs .1 .1 .0) (qs .1 .1 .0)))) Path'.refl Path'.refl) d31
+          d32 : Typed.Typed 𝓤 H A 𝓣 E G28 b37 Δ1 (at32 bs)
+          d32 = Typed.g-pre 𝓤 H A W 𝓣 E G28 G29 b37 Δ1 (λ Ψ. Ψ) (at31 bs) (Lifetime.g-forget 𝓤 H A W E G28 3 Row.dead Path'.refl) d31
 
-          d33 : Typed.Typed 𝓤 H A 𝓣 E G19 b33 Δ1 at33
-          d33 = Typed.g-pre 𝓤 H A W 𝓣 E G19 G20 b33 Δ1 (λ Ψ. Ψ) at32 (Lifetime.g-end 𝓤 H A W E G19 6 Path'.refl) d32
+          d33 : Typed.Typed 𝓤 H A 𝓣 E G27 b37 Δ1 (at33 bs)
+          d33 = Typed.g-pre 𝓤 H A W 𝓣 E G27 G28 b37 Δ1 (Typed.both (s25 bs)) (at32 bs) (Borrow.g-back-arr 𝓤 H A W E (Referent.rtF (Referent.fInt Syntax.w16)) G27 13 4 3 4096 ty·5 (λ x. x) (λ x. x) (Reads.as-is 𝓤 H A (Mut.msleft (Referent.rtF (Referent.fInt Syntax.w16)) ty·5)) (Reads.as-is 𝓤 H A (Rows.arr-owed (Referent.rtF (Referent.fInt Syntax.w16)) 4096 3)) Path'.refl) d32
 
-          d34 : Typed.Typed 𝓤 H A 𝓣 E G18 b33 Δ1 at34
-          d34 = Typed.g-pre 𝓤 H A W 𝓣 E G18 G19 b33 Δ1 (λ Ψ. Ψ) at33 (Lifetime.g-forget 𝓤 H A W E G18 5 Row.dead Path'.refl) d33
+          d34 : Typed.Typed 𝓤 H A 𝓣 E G26 b37 Δ1 (at34 bs)
+          d34 = Typed.g-pre 𝓤 H A W 𝓣 E G26 G27 b37 Δ1 (λ Ψ. Ψ) (at33 bs) (Lifetime.g-end 𝓤 H A W E G26 3 Path'.refl) d33
 
-          d35 : Typed.Typed 𝓤 H A 𝓣 E G17 b33 Δ1 at35
-          d35 = Typed.g-pre 𝓤 H A W 𝓣 E G17 G18 b33 Δ1 (Typed.both s15) at34 (Relend.g-back-sl 𝓤 H A W E T.the-row G17 10 2 1 5 ty·9 ty·7 (Row.lease (κs .1 .0) (qs .1 .0)) (λ x. x) (λ x. x) (Reads.as-is 𝓤 H A (Mut.msleft T.the-row ty·7)) (Reads.as-is 𝓤 H A (Relend.mslice-owed T.the-row ty·9 1 5 (Row.lease (κs .1 .0) (qs .1 .0)))) Path'.refl Path'.refl) d34
+          d35 : Typed.Typed 𝓤 H A 𝓣 E G25 b37 Δ1 (at35 bs)
+          d35 = Typed.g-pre 𝓤 H A W 𝓣 E G25 G26 b37 Δ1 (λ Ψ. Ψ) (at34 bs) (Lifetime.g-forget 𝓤 H A W E G25 2 Row.dead Path'.refl) d34
 
-          d36 : Typed.Typed 𝓤 H A 𝓣 E G15 b33 Δ1 at36
-          d36 = Typed.g-pre 𝓤 H A W 𝓣 E G15 G17 b33 Δ1 (λ Ψ. Ψ) at35 (Lifetime.g-end 𝓤 H A W E G15 5 Path'.refl) d35
+          d36 : Typed.Typed 𝓤 H A 𝓣 E G24 b37 Δ1 (at36 bs)
+          d36 = Typed.g-pre 𝓤 H A W 𝓣 E G24 G25 b37 Δ1 (Typed.both (s22 bs)) (at35 bs) (Borrow.g-back-arr 𝓤 H A W E T.the-row G24 11 3 2 1024 ty·9 (λ x. x) (λ x. x) (Reads.as-is 𝓤 H A (Mut.msleft T.the-row ty·9)) (Reads.as-is 𝓤 H A (Rows.arr-owed T.the-row 1024 2)) Path'.refl) d35
 
-          d37 : Typed.Typed 𝓤 H A 𝓣 E G76 b35 Δ0 at37
-          d37 = Typed.t-return 𝓤 H A W 𝓣 E Δ0 tt
+          d37 : Typed.Typed 𝓤 H A 𝓣 E G22 b37 Δ1 (at37 bs)
+          d37 = Typed.g-pre 𝓤 H A W 𝓣 E G22 G24 b37 Δ1 (λ Ψ. Ψ) (at36 bs) (Lifetime.g-end 𝓤 H A W E G22 2 Path'.refl) d36
 
-          d38 : Typed.Typed 𝓤 H A 𝓣 E G75 b35 Δ0 at38
-          d38 = Typed.g-pre 𝓤 H A W 𝓣 E G75 G76 b35 Δ0 (Typed.pass T75 T76 s73) at37 (Scalar.g-room 𝓤 H A W E G75 15 (Syntax.tyInt Syntax.w64) (Scalar.room-sc 𝓤 H A W (Row.sInt Syntax.w64))) d37
+          d38 : Typed.Typed 𝓤 H A 𝓣 E G87 b39 Δ0 (at38 bs)
+          d38 = Typed.t-return 𝓤 H A W 𝓣 E Δ0 tt
 
-          d39 : Typed.Typed 𝓤 H A 𝓣 E G16 b36 Δ0 at39
-          d39 = Typed.s-seq 𝓤 H A W 𝓣 E G16 G75 b34 b35 Δ0 (Typed.pass T16 T75 s72) at38 (Scalar.t-use 𝓤 H A W E 𝓣 G16 (Scalar.oAt 15 (Syntax.tyInt Syntax.w64) (Row.valS (Row.sInt Syntax.w64))) 0 (Rows.sc-here (Row.sInt Syntax.w64)) (Syntax.tyInt Syntax.w64) (Row.valS (Row.sInt Syntax.w64)) (Row.sInt Syntax.w64 .of) (Scalar.reads-sc 𝓤 H A W (Row.sInt Syntax.w64), Path'.refl) (Reads.room-gone 𝓤 H A (Syntax.tyInt Syntax.w64)) (Scalar.holds-sc 𝓤 H A W (Row.sInt Syntax.w64)) Path'.refl (λ u. Path'.refl) λ u. tt) d38
+          d39 : Typed.Typed 𝓤 H A 𝓣 E G86 b39 Δ0 (at39 bs)
+          d39 = Typed.g-pre 𝓤 H A W 𝓣 E G86 G87 b39 Δ0 (Typed.pass T86 T87 (s84 bs)) (at38 bs) (Scalar.g-room 𝓤 H A W E G86 16 (Syntax.tyInt Syntax.w64) (Scalar.room-sc 𝓤 H A W (Row.sInt Syntax.w64))) d38
 
-          d40 : Typed.Typed 𝓤 H A 𝓣 E G15 b37 Δ0 at40
-          d40 = Typed.t-seq 𝓤 H A W 𝓣 E G15 G16 b33 b36 Δ0 at36 at39 d36 d39
+          d40 : Typed.Typed 𝓤 H A 𝓣 E G23 b40 Δ0 (at40 bs)
+          d40 = Typed.s-seq 𝓤 H A W 𝓣 E G23 G86 b38 b39 Δ0 (Typed.pass T23 T86 (s83 bs)) (at39 bs) (Scalar.t-use 𝓤 H A W E 𝓣 G23 (Scalar.oAt 16 (Syntax.tyInt Syntax.w64) (Row.valS (Row.sInt Syntax.w64))) 0 (Rows'.sc-here (Row.sInt Syntax.w64)) (Syntax.tyInt Syntax.w64) (Row.valS (Row.sInt Syntax.w64)) (Row.sInt Syntax.w64 .of) (Scalar.reads-sc 𝓤 H A W (Row.sInt Syntax.w64), Path'.refl) (Reads.room-gone 𝓤 H A (Syntax.tyInt Syntax.w64)) (Scalar.holds-sc 𝓤 H A W (Row.sInt Syntax.w64)) Path'.refl (λ u. Path'.refl) λ u. tt) d39
 
-          d41 : Typed.Typed 𝓤 H A 𝓣 E G14 b38 Δ0 at41
-          d41 = Typed.s-seq 𝓤 H A W 𝓣 E G14 G15 b6 b37 Δ0 (Typed.both s13) at40 (Plain.t-call-plain 𝓤 H A W 𝓣 4 ps·0 r·0 (claims· .0) (claims· .1) "reading::read" (known .0) E (λ pos β. β) G14 (record { pos = 1; ty = Syntax.tyRef (Syntax.named 0) Syntax.imm (Syntax.tyInt Syntax.w8); ref = λ x. x }, (record { pos = 10; ty = Syntax.tyRef Syntax.erased Syntax.mut (Memory.pointee (T.the-row .written)); ref = λ x. x }, (record { pos = 12; ty = Syntax.tyRef Syntax.erased Syntax.mut (Syntax.tyInt Syntax.w16); ref = λ x. x }, (record { pos = 14; ty = Syntax.tyRef Syntax.erased Syntax.mut (Syntax.tyInt Syntax.w16); ref = λ x. x }, tt)))) 6 (List._∷_ 0 (List._∷_ 5 (List._∷_ 6 (List._∷_ 7 List.[])))) (Call.sub-id 𝓤 H A W (G14 .slots)) (ShrSlice.spares-sslice 𝓤 H A W (Referent.rtF (Referent.fInt Syntax.w8)) ty·3 0, Shared.reads-sslice 𝓤 H A W (Referent.rtF (Referent.fInt Syntax.w8)) ty·3 0, Path'.refl, (Reads.as-is 𝓤 H A (Mut.mslice T.the-row ty·7 5), Mut.reads-mslice 𝓤 H A W T.the-row ty·7 5, Path'.refl, (Reads.as-is 𝓤 H A (Mut.mslice (Referent.rtF (Referent.fInt Syntax.w16)) ty·1 6), Mut.reads-mslice 𝓤 H A W (Referent.rtF (Referent.fInt Syntax.w16)) ty·1 6, Path'.refl, (Reads.as-is 𝓤 H A (Mut.mslice (Referent.rtF (Referent.fInt Syntax.w16)) ty·1 7), Mut.reads-mslice 𝓤 H A W (Referent.rtF (Referent.fInt Syntax.w16)) ty·1 7, Path'.refl, tt)))) (Reads.room-gone 𝓤 H A ty·17) (tt, (tt, (tt, (tt, tt)))) Path'.refl) d40
+          d41 : Typed.Typed 𝓤 H A 𝓣 E G22 b41 Δ0 (at41 bs)
+          d41 = Typed.t-seq 𝓤 H A W 𝓣 E G22 G23 b37 b40 Δ0 (at37 bs) (at40 bs) d37 d40
 
-          d42 : Typed.Typed 𝓤 H A 𝓣 E G13 b39 Δ0 at42
-          d42 = Typed.s-seq 𝓤 H A W 𝓣 E G13 G14 b5 b38 Δ0 (Typed.ask s12) at41 (Relend.t-sl-aggregate 𝓤 H A W E (Referent.rtF (Referent.fInt Syntax.w16)) 𝓣 (Relend.asMut (Referent.rtF (Referent.fInt Syntax.w16))) G13 13 14 7 ty·1 ty·1 (λ x. x) (Scalar.oFld 4 (List._∷_ (Syntax.field 1) List.[]) (Syntax.tyInt Syntax.w64) 8 λ v. Shared.lenV (v .0)) (Reads.as-is 𝓤 H A (Relend.msptr (Referent.rtF (Referent.fInt Syntax.w16)) ty·1 7)) (Reads.room-gone 𝓤 H A ty·11) (Relend.reads-owed-len 𝓤 H A W (Referent.rtF (Referent.fInt Syntax.w16)) ty·6 3 7 (Row.lease (κs .1 .1 .1 .0) (qs .1 .1 .1 .0)) 8 Path'.refl, Path'.refl) Path'.refl Path'.refl λ b o k. tt) d41
+          d42 : Typed.Typed 𝓤 H A 𝓣 E G21 b42 Δ0 (at42 bs)
+          d42 = Typed.s-seq 𝓤 H A W 𝓣 E G21 G22 b10 b41 Δ0 (Typed.both (s20 bs)) (at41 bs) (Plain.t-call-plain 𝓤 H A W 𝓣 4 ps·0 r·0 (claims· .0) (claims· .1) "reading::read" (known .0) E (λ pos β. β) G21 (record { pos = 1; ty = Syntax.tyRef (Syntax.named 0) Syntax.imm (Syntax.tyInt Syntax.w8); ref = λ x. x }, (record { pos = 11; ty = Syntax.tyRef Syntax.erased Syntax.mut (Memory.pointee (T.the-row .written)); ref = λ x. x }, (record { pos = 13; ty = Syntax.tyRef Syntax.erased Syntax.mut (Syntax.tyInt Syntax.w16); ref = λ x. x }, (record { pos = 15; ty = Syntax.tyRef Syntax.erased Syntax.mut (Syntax.tyInt Syntax.w16); ref = λ x. x }, tt)))) 6 (List._∷_ 0 (List._∷_ 2 (List._∷_ 3 (List._∷_ 4 List.[])))) (Call.sub-id 𝓤 H A W (G21 .slots)) (ShrSlice.spares-sslice 𝓤 H A W (Referent.rtF (Referent.fInt Syntax.w8)) ty·7 0, Shared.reads-sslice 𝓤 H A W (Referent.rtF (Referent.fInt Syntax.w8)) ty·7 0, Path'.refl, (Reads.as-is 𝓤 H A (Mut.mslice T.the-row ty·9 2), Mut.reads-mslice 𝓤 H A W T.the-row ty·9 2, Path'.refl, (Reads.as-is 𝓤 H A (Mut.mslice (Referent.rtF (Referent.fInt Syntax.w16)) ty·5 3), Mut.reads-mslice 𝓤 H A W (Referent.rtF (Referent.fInt Syntax.w16)) ty·5 3, Path'.refl, (Reads.as-is 𝓤 H A (Mut.mslice (Referent.rtF (Referent.fInt Syntax.w16)) ty·5 4), Mut.reads-mslice 𝓤 H A W (Referent.rtF (Referent.fInt Syntax.w16)) ty·5 4, Path'.refl, tt)))) (Reads.room-gone 𝓤 H A ty·24) (tt, (tt, (tt, (tt, tt)))) Path'.refl) d41
 
-          d43 : Typed.Typed 𝓤 H A 𝓣 E G12 b40 Δ0 at43
-          d43 = Typed.s-seq 𝓤 H A W 𝓣 E G12 G13 b4 b39 Δ0 (Typed.give s11) at42 (Relend.t-sl-relend 𝓤 H A W E (Referent.rtF (Referent.fInt Syntax.w16)) 𝓣 G12 4 13 3 7 ty·6 ty·1 (Row.lease (κs .1 .1 .1 .0) (qs .1 .1 .1 .0)) 0 (λ x. x) (Reads.as-is 𝓤 H A (Mut.mslice (Referent.rtF (Referent.fInt Syntax.w16)) ty·6 3)) (Reads.room-gone 𝓤 H A ty·1) Path'.refl tt Path'.refl Path'.refl Path'.refl λ b o. tt) d42
+          d43 : Typed.Typed 𝓤 H A 𝓣 E G20 b43 Δ0 (at43 bs)
+          d43 = Typed.s-seq 𝓤 H A W 𝓣 E G20 G21 b9 b42 Δ0 (Typed.ask (s19 bs)) (at42 bs) (Relend.t-sl-aggregate 𝓤 H A W E (Referent.rtF (Referent.fInt Syntax.w16)) 𝓣 (Relend.asMut (Referent.rtF (Referent.fInt Syntax.w16))) G20 14 15 4 ty·13 ty·5 (λ x. x) (Scalar.oBig Syntax.w64 16384) (Reads.as-is 𝓤 H A (Relend.msptr (Referent.rtF (Referent.fInt Syntax.w16)) ty·13 4)) (Reads.room-gone 𝓤 H A ty·18) record { lower = record { fits = Dec'.lit< tt } } Path'.refl Path'.refl λ b o k. tt) d42
 
-          d44 : Typed.Typed 𝓤 H A 𝓣 E G11 b40 Δ0 at44
-          d44 = Typed.g-pre 𝓤 H A W 𝓣 E G11 G12 b40 Δ0 (λ Ψ. Ψ) at43 (Lifetime.g-begin 𝓤 H A W E G11 7 (tt, (tt, ((tt, tt), ((tt, tt), (tt, (tt, (tt, (tt, (tt, (tt, (tt, (tt, (tt, (tt, (tt, (tt, (tt, (tt, (tt, (tt, (tt, (tt, (tt, (tt, (tt, (tt, tt))))))))))))))))))))))))))) d43
+          d44 : Typed.Typed 𝓤 H A 𝓣 E G19 b44 Δ0 (at44 bs)
+          d44 = Typed.s-seq 𝓤 H A W 𝓣 E G19 G20 b8 b43 Δ0 (Typed.give (s18 bs)) (at43 bs) (Borrow.t-arr-borrow 𝓤 H A W E 𝓣 (Referent.rtF (Referent.fInt Syntax.w16)) G19 5 14 16384 4 ty·13 (λ x. x) (Reads.as-is 𝓤 H A (Rows.arrF (Referent.rtF (Referent.fInt Syntax.w16)) 16384 0)) (Reads.room-gone 𝓤 H A ty·13) Path'.refl (λ b o. tt) (Dec'.lit< tt, Dec'.lit< tt)) d43
 
-          d45 : Typed.Typed 𝓤 H A 𝓣 E G10 b41 Δ0 at45
-          d45 = Typed.s-seq 𝓤 H A W 𝓣 E G10 G11 b3 b40 Δ0 (Typed.ask s9) at44 (Relend.t-sl-aggregate 𝓤 H A W E (Referent.rtF (Referent.fInt Syntax.w16)) 𝓣 (Relend.asMut (Referent.rtF (Referent.fInt Syntax.w16))) G10 11 12 6 ty·1 ty·1 (λ x. x) (Scalar.oFld 3 (List._∷_ (Syntax.field 1) List.[]) (Syntax.tyInt Syntax.w64) 8 λ v. Shared.lenV (v .0)) (Reads.as-is 𝓤 H A (Relend.msptr (Referent.rtF (Referent.fInt Syntax.w16)) ty·1 6)) (Reads.room-gone 𝓤 H A ty·11) (Relend.reads-owed-len 𝓤 H A W (Referent.rtF (Referent.fInt Syntax.w16)) ty·5 2 6 (Row.lease (κs .1 .1 .0) (qs .1 .1 .0)) 8 Path'.refl, Path'.refl) Path'.refl Path'.refl λ b o k. tt) d44
+          d45 : Typed.Typed 𝓤 H A 𝓣 E G18 b44 Δ0 (at45 bs)
+          d45 = Typed.g-pre 𝓤 H A W 𝓣 E G18 G19 b44 Δ0 (λ Ψ. Ψ) (at44 bs) (Lifetime.g-begin 𝓤 H A W E G18 4 (tt, (tt, (tt, (tt, (tt, (tt, (tt, (tt, (tt, (tt, (tt, (tt, (tt, (tt, (tt, (tt, (tt, (tt, (tt, (tt, (tt, (tt, (tt, (tt, (tt, (tt, (tt, tt)))))))))))))))))))))))))))) d44
 
-          d46 : Typed.Typed 𝓤 H A 𝓣 E G9 b42 Δ0 at46
-          d46 = Typed.s-seq 𝓤 H A W 𝓣 E G9 G10 b2 b41 Δ0 (Typed.give s8) at45 (Relend.t-sl-relend 𝓤 H A W E (Referent.rtF (Referent.fInt Syntax.w16)) 𝓣 G9 3 11 2 6 ty·5 ty·1 (Row.lease (κs .1 .1 .0) (qs .1 .1 .0)) 0 (λ x. x) (Reads.as-is 𝓤 H A (Mut.mslice (Referent.rtF (Referent.fInt Syntax.w16)) ty·5 2)) (Reads.room-gone 𝓤 H A ty·1) Path'.refl tt Path'.refl Path'.refl Path'.refl λ b o. tt) d45
+          d46 : Typed.Typed 𝓤 H A 𝓣 E G17 b45 Δ0 (at46 bs)
+          d46 = Typed.s-seq 𝓤 H A W 𝓣 E G17 G18 b7 b44 Δ0 (Typed.ask (s16 bs)) (at45 bs) (Relend.t-sl-aggregate 𝓤 H A W E (Referent.rtF (Referent.fInt Syntax.w16)) 𝓣 (Relend.asMut (Referent.rtF (Referent.fInt Syntax.w16))) G17 12 13 3 ty·11 ty·5 (λ x. x) (Scalar.oBig Syntax.w64 4096) (Reads.as-is 𝓤 H A (Relend.msptr (Referent.rtF (Referent.fInt Syntax.w16)) ty·11 3)) (Reads.room-gone 𝓤 H A ty·18) record { lower = record { fits = Dec'.lit< tt } } Path'.refl Path'.refl λ b o k. tt) d45
 
-          d47 : Typed.Typed 𝓤 H A 𝓣 E G8 b42 Δ0 at47
-          d47 = Typed.g-pre 𝓤 H A W 𝓣 E G8 G9 b42 Δ0 (λ Ψ. Ψ) at46 (Lifetime.g-begin 𝓤 H A W E G8 6 (tt, (tt, ((tt, tt), (tt, (tt, (tt, (tt, (tt, (tt, (tt, (tt, (tt, (tt, (tt, (tt, (tt, (tt, (tt, (tt, (tt, (tt, (tt, (tt, (tt, (tt, (tt, tt))))))))))))))))))))))))))) d46
+          d47 : Typed.Typed 𝓤 H A 𝓣 E G16 b46 Δ0 (at47 bs)
+          d47 = Typed.s-seq 𝓤 H A W 𝓣 E G16 G17 b6 b45 Δ0 (Typed.give (s15 bs)) (at46 bs) (Borrow.t-arr-borrow 𝓤 H A W E 𝓣 (Referent.rtF (Referent.fInt Syntax.w16)) G16 4 12 4096 3 ty·11 (λ x. x) (Reads.as-is 𝓤 H A (Rows.arrF (Referent.rtF (Referent.fInt Syntax.w16)) 4096 0)) (Reads.room-gone 𝓤 H A ty·11) Path'.refl (λ b o. tt) (Dec'.lit< tt, Dec'.lit< tt)) d46
 
-          d48 : Typed.Typed 𝓤 H A 𝓣 E G7 b43 Δ0 at48
-          d48 = Typed.s-seq 𝓤 H A W 𝓣 E G7 G8 b1 b42 Δ0 (Typed.ask s6) at47 (Relend.t-sl-aggregate 𝓤 H A W E T.the-row 𝓣 (Relend.asMut T.the-row) G7 9 10 5 ty·7 ty·7 (λ x. x) (Scalar.oFld 2 (List._∷_ (Syntax.field 1) List.[]) (Syntax.tyInt Syntax.w64) 8 λ v. Shared.lenV (v .0)) (Reads.as-is 𝓤 H A (Relend.msptr T.the-row ty·7 5)) (Reads.room-gone 𝓤 H A ty·13) (Relend.reads-owed-len 𝓤 H A W T.the-row ty·9 1 5 (Row.lease (κs .1 .0) (qs .1 .0)) 8 Path'.refl, Path'.refl) Path'.refl Path'.refl λ b o k. tt) d47
+          d48 : Typed.Typed 𝓤 H A 𝓣 E G15 b46 Δ0 (at48 bs)
+          d48 = Typed.g-pre 𝓤 H A W 𝓣 E G15 G16 b46 Δ0 (λ Ψ. Ψ) (at47 bs) (Lifetime.g-begin 𝓤 H A W E G15 3 (tt, (tt, (tt, (tt, (tt, (tt, (tt, (tt, (tt, (tt, (tt, (tt, (tt, (tt, (tt, (tt, (tt, (tt, (tt, (tt, (tt, (tt, (tt, (tt, (tt, (tt, (tt, tt)))))))))))))))))))))))))))) d47
 
-          d49 : Typed.Typed 𝓤 H A 𝓣 E G6 b44 Δ0 at49
-          d49 = Typed.s-seq 𝓤 H A W 𝓣 E G6 G7 b0 b43 Δ0 (Typed.give s5) at48 (Relend.t-sl-relend 𝓤 H A W E T.the-row 𝓣 G6 2 9 1 5 ty·9 ty·7 (Row.lease (κs .1 .0) (qs .1 .0)) 0 (λ x. x) (Reads.as-is 𝓤 H A (Mut.mslice T.the-row ty·9 1)) (Reads.room-gone 𝓤 H A ty·7) Path'.refl tt Path'.refl Path'.refl Path'.refl λ b o. tt) d48
+          d49 : Typed.Typed 𝓤 H A 𝓣 E G14 b47 Δ0 (at49 bs)
+          d49 = Typed.s-seq 𝓤 H A W 𝓣 E G14 G15 b5 b46 Δ0 (Typed.ask (s13 bs)) (at48 bs) (Relend.t-sl-aggregate 𝓤 H A W E T.the-row 𝓣 (Relend.asMut T.the-row) G14 10 11 2 ty·15 ty·9 (λ x. x) (Scalar.oBig Syntax.w64 1024) (Reads.as-is 𝓤 H A (Relend.msptr T.the-row ty·15 2)) (Reads.room-gone 𝓤 H A ty·20) record { lower = record { fits = Dec'.lit< tt } } Path'.refl Path'.refl λ b o k. tt) d48
 
-          d50 : Typed.Typed 𝓤 H A 𝓣 E G5 b44 Δ0 at50
-          d50 = Typed.g-pre 𝓤 H A W 𝓣 E G5 G6 b44 Δ0 (λ Ψ. Ψ) at49 (Lifetime.g-begin 𝓤 H A W E G5 5 (tt, (tt, (tt, (tt, (tt, (tt, (tt, (tt, (tt, (tt, (tt, (tt, (tt, (tt, (tt, (tt, (tt, (tt, (tt, (tt, (tt, (tt, (tt, (tt, (tt, (tt, tt))))))))))))))))))))))))))) d49
+          d50 : Typed.Typed 𝓤 H A 𝓣 E G13 b48 Δ0 (at50 bs)
+          d50 = Typed.s-seq 𝓤 H A W 𝓣 E G13 G14 b4 b47 Δ0 (Typed.give (s12 bs)) (at49 bs) (Borrow.t-arr-borrow 𝓤 H A W E 𝓣 T.the-row G13 3 10 1024 2 ty·15 (λ x. x) (Reads.as-is 𝓤 H A (Rows.arrF T.the-row 1024 0)) (Reads.room-gone 𝓤 H A ty·15) Path'.refl (λ b o. tt) (Dec'.lit< tt, Dec'.lit< tt)) d49
 
-          d51 : Typed.Typed 𝓤 H A 𝓣 E G4 b44 Δ0 at51
-          d51 = Typed.g-pre 𝓤 H A W 𝓣 E G4 G5 b44 Δ0 (Typed.give s3) at50 (Know.g-sl-known 𝓤 H A W (Referent.fInt Syntax.w8) E G4 5 4 ty·4 (Row.lease (κs .1 .1 .1 .1 .0) (qs .1 .1 .1 .1 .0)) 0 (λ x. x) record { fits = Dec'.lit< tt } (Reads.as-is 𝓤 H A (Mut.mslice (Referent.rtF (Referent.fInt Syntax.w8)) ty·4 4)) Path'.refl tt) d50
+          d51 : Typed.Typed 𝓤 H A 𝓣 E G12 b48 Δ0 (at51 bs)
+          d51 = Typed.g-pre 𝓤 H A W 𝓣 E G12 G13 b48 Δ0 (λ Ψ. Ψ) (at50 bs) (Lifetime.g-begin 𝓤 H A W E G12 2 (tt, (tt, (tt, (tt, (tt, (tt, (tt, (tt, (tt, (tt, (tt, (tt, (tt, (tt, (tt, (tt, (tt, (tt, (tt, (tt, (tt, (tt, (tt, (tt, (tt, (tt, (tt, tt)))))))))))))))))))))))))))) d50
 
-          d52 : Typed.Typed 𝓤 H A 𝓣 E G3 b44 Δ0 at52
-          d52 = Typed.g-pre 𝓤 H A W 𝓣 E G3 G4 b44 Δ0 (Typed.give s2) at51 (Know.g-sl-known 𝓤 H A W (Referent.fInt Syntax.w16) E G3 4 3 ty·6 (Row.lease (κs .1 .1 .1 .0) (qs .1 .1 .1 .0)) 0 (λ x. x) record { fits = Dec'.lit< tt } (Reads.as-is 𝓤 H A (Mut.mslice (Referent.rtF (Referent.fInt Syntax.w16)) ty·6 3)) Path'.refl tt) d51
+          d52 : Typed.Typed 𝓤 H A 𝓣 E G11 b48 Δ0 (at52 bs)
+          d52 = Typed.g-pre 𝓤 H A W 𝓣 E G11 G12 b48 Δ0 (Typed.pass T11 T12 (s10 bs)) (at51 bs) (AtSlots.g-as-by 𝓤 H A W E (λ ρ. Unit) G11 5 (Rows.arrF (Referent.rtF (Referent.fInt Syntax.w16)) 16384 0) (λ x. x) (Own.told-none 𝓤 H A (G11 .slots)) λ ρ told. Repeat.whole-arr 𝓤 H A W (Referent.rtF (Referent.fInt Syntax.w16)) 16384 tt ρ) d51
 
-          d53 : Typed.Typed 𝓤 H A 𝓣 E G2 b44 Δ0 at53
-          d53 = Typed.g-pre 𝓤 H A W 𝓣 E G2 G3 b44 Δ0 (Typed.give s1) at52 (Know.g-sl-known 𝓤 H A W (Referent.fInt Syntax.w16) E G2 3 2 ty·5 (Row.lease (κs .1 .1 .0) (qs .1 .1 .0)) 0 (λ x. x) record { fits = Dec'.lit< tt } (Reads.as-is 𝓤 H A (Mut.mslice (Referent.rtF (Referent.fInt Syntax.w16)) ty·5 2)) Path'.refl tt) d52
+          d53 : Typed.Typed 𝓤 H A 𝓣 E G10 b49 Δ0 (at53 bs)
+          d53 = Typed.s-seq 𝓤 H A W 𝓣 E G10 G11 b3 b48 Δ0 (Typed.pass T10 T11 (s9 bs)) (at52 bs) (Repeat.t-repeat 𝓤 H A W E 𝓣 (Referent.rtF (Referent.fInt Syntax.w16)) (Plain'.uint-lawful 𝓤 H A W Syntax.w16) (Copies.cRf (Referent.fInt Syntax.w16) .copy 𝓤 H A W) (Plain'.uint-makes 𝓤 H A W Syntax.w16) 16384 G10 5 (Scalar.oInt Syntax.w16 0) (λ m. 0) (Reads.room-gone 𝓤 H A ty·1) tt Path'.refl λ m wa. (Path'.refl, Dec'.lit< tt)) d52
 
-          d54 : Typed.Typed 𝓤 H A 𝓣 E G0 b44 Δ0 at54
-          d54 = Typed.g-pre 𝓤 H A W 𝓣 E G0 G2 b44 Δ0 (Typed.give s0) at53 (Know.g-shs-known 𝓤 H A W (Referent.fInt Syntax.w8) E G0 1 0 ty·3 (Row.lease (κs .0) (qs .0)) 0 (λ x. x) record { fits = Dec'.lit< tt } (Reads.as-is 𝓤 H A (Rows.sslice (Referent.rtF (Referent.fInt Syntax.w8)) ty·3 0)) Path'.refl tt) d53
+          d54 : Typed.Typed 𝓤 H A 𝓣 E G9 b49 Δ0 (at54 bs)
+          d54 = Typed.g-pre 𝓤 H A W 𝓣 E G9 G10 b49 Δ0 (Typed.pass T9 T10 (s8 bs)) (at53 bs) (AtSlots.g-as-by 𝓤 H A W E (λ ρ. Unit) G9 4 (Rows.arrF (Referent.rtF (Referent.fInt Syntax.w16)) 4096 0) (λ x. x) (Own.told-none 𝓤 H A (G9 .slots)) λ ρ told. Repeat.whole-arr 𝓤 H A W (Referent.rtF (Referent.fInt Syntax.w16)) 4096 tt ρ) d53
 
-          pub typed : Typed.Typed 𝓤 H A 𝓣 E (Function.Γin 5 ps r xs m κs qs) b44 (Function.Δret 5 ps r xs m κs qs) Φ
-          typed = d54
+          d55 : Typed.Typed 𝓤 H A 𝓣 E G8 b50 Δ0 (at55 bs)
+          d55 = Typed.s-seq 𝓤 H A W 𝓣 E G8 G9 b2 b49 Δ0 (Typed.pass T8 T9 (s7 bs)) (at54 bs) (Repeat.t-repeat 𝓤 H A W E 𝓣 (Referent.rtF (Referent.fInt Syntax.w16)) (Plain'.uint-lawful 𝓤 H A W Syntax.w16) (Copies.cRf (Referent.fInt Syntax.w16) .copy 𝓤 H A W) (Plain'.uint-makes 𝓤 H A W Syntax.w16) 4096 G8 4 (Scalar.oInt Syntax.w16 0) (λ m. 0) (Reads.room-gone 𝓤 H A ty·0) tt Path'.refl λ m wa. (Path'.refl, Dec'.lit< tt)) d54
 
-      module _ (κs : Lifetimes.Lfts 5) where
+          d56 : Typed.Typed 𝓤 H A 𝓣 E G7 b50 Δ0 (at56 bs)
+          d56 = Typed.g-pre 𝓤 H A W 𝓣 E G7 G8 b50 Δ0 (Typed.pass T7 T8 (s6 bs)) (at55 bs) (Scalar.g-room 𝓤 H A W E G7 9 (Memory.lone (T.the-row .mir)) (Local.room-whole 𝓤 H A W (Declared'.row T.the-type) (Memory.lone (T.the-row .mir)) Path'.refl)) d55
+
+          d57 : Typed.Typed 𝓤 H A 𝓣 E G6 b50 Δ0 (at57 bs)
+          d57 = Typed.g-pre 𝓤 H A W 𝓣 E G6 G7 b50 Δ0 (Typed.pass T6 T7 (s5 bs)) (at56 bs) (AtSlots.g-as-by 𝓤 H A W E (λ ρ. Unit) G6 3 (Rows.arrF T.the-row 1024 0) (λ x. x) (Own.told-none 𝓤 H A (G6 .slots)) λ ρ told. Repeat.whole-arr 𝓤 H A W T.the-row 1024 tt ρ) d56
+
+          d58 : Typed.Typed 𝓤 H A 𝓣 E G5 b51 Δ0 (at58 bs)
+          d58 = Typed.s-seq 𝓤 H A W 𝓣 E G5 G6 b1 b50 Δ0 (Typed.pass T5 T6 (s4 bs)) (at57 bs) (Repeat.t-repeat-by 𝓤 H A W E 𝓣 T.the-row (Laws'4.lawful T.the-type RowLaws.the-laws 𝓤 H A W) (Copies.cStruct T.the-type RowLaws.the-laws RowLaws.the-copy .copy 𝓤 H A W) 1024 G5 3 (Scalar.oAt 9 (Memory.lone (T.the-row .mir)) λ x. Steps.only (Copies.cStruct T.the-type RowLaws.the-laws RowLaws.the-copy .vals x)) (λ m. m .1 .1 .1 .1 .1 .1 .1 .1 .1 .0) (λ ρ. Unit) (Reads.room-gone 𝓤 H A ty·2) (SReads.reads-struct 𝓤 H A W T.the-type RowLaws.the-laws, Path'.refl) Path'.refl (Own.told-none 𝓤 H A (G5 .slots)) λ ρ m pf wa. Gives.elem-local 𝓤 H A W E ρ T.the-row (λ x. Steps.only (Copies.cStruct T.the-type RowLaws.the-laws RowLaws.the-copy .vals x)) (Copies.cStruct T.the-type RowLaws.the-laws RowLaws.the-copy .tells) (Row.out 3 (G5 .locals)) m (λ ρ. Unit) pf 9 (Memory.lone (T.the-row .mir)) (λ x. x) (Yields.yields-copy 𝓤 H A W (λ ρ. Unit) T.the-row Path'.refl (Copies.cStruct T.the-type RowLaws.the-laws RowLaws.the-copy .copy 𝓤 H A W) (Rows'.whole (Declared'.row T.the-type)) (λ x. x) (λ x. x) (λ ρ told. Local.mem-whole 𝓤 H A W (Declared'.row T.the-type) ρ) λ ρ told. Local.whole-mem 𝓤 H A W (Declared'.row T.the-type) ρ)) d57
+
+          d59 : Typed.Typed 𝓤 H A 𝓣 E G4 b51 Δ0 (at59 bs)
+          d59 = Typed.g-pre 𝓤 H A W 𝓣 E G4 G5 b51 Δ0 (Typed.pass T4 T5 (s3 bs)) (at58 bs) (AtSlots.g-as-by 𝓤 H A W E (λ ρ. Unit) G4 9 (Rows'.whole (Declared'.row T.the-type)) (λ v. T.struct .make v tt) (Own.told-none 𝓤 H A (G4 .slots)) λ ρ told v b. Apart.folds 𝓤 H A T.the-type (T.struct .Ghost) (T.struct .make) (λ v g. Path'.refl) ρ v tt b) d58
+
+          d60 : Typed.Typed 𝓤 H A 𝓣 E G3 b52 Δ0 (at60 bs)
+          d60 = Typed.s-seq 𝓤 H A W 𝓣 E G3 G4 b0 b51 Δ0 (Typed.pass T3 T4 (s2 bs)) (at59 bs) (Make.t-struct-make 𝓤 H A W E 𝓣 (Apart.apartT T.the-type) RowLaws.the-laws RowLaws.the-plain G3 9 (List._∷_ (Scalar.oInt Syntax.w16 0) (List._∷_ (Scalar.oInt Syntax.w16 0) (List._∷_ (Scalar.oInt Syntax.w16 0) List.[]))) (λ m. (0, (0, (0, tt)))) (Reads.room-gone 𝓤 H A (Memory.lone (T.the-row .mir))) (tt, (tt, (tt, tt))) Path'.refl (λ u. Path'.refl) λ m. Make.is-wt (Apart.apartT T.the-type) RowLaws.the-laws (Make.u16-wt, (Make.u16-wt, (Make.u16-wt, tt))) (0, (0, (0, tt)))) d59
+
+          d61 : Typed.Typed 𝓤 H A 𝓣 E G2 b52 Δ0 (at61 bs)
+          d61 = Typed.g-pre 𝓤 H A W 𝓣 E G2 G3 b52 Δ0 (Typed.give (s1 bs)) (at60 bs) (Know.g-sl-known 𝓤 H A W (Referent.fInt Syntax.w8) E G2 2 1 ty·8 (Row.lease (κs .1 .0) (qs .1 .0)) 0 (λ x. x) record { fits = Dec'.lit< tt } (Reads.as-is 𝓤 H A (Mut.mslice (Referent.rtF (Referent.fInt Syntax.w8)) ty·8 1)) Path'.refl tt) d60
+
+          d62 : Typed.Typed 𝓤 H A 𝓣 E G0 b52 Δ0 (at62 bs)
+          d62 = Typed.g-pre 𝓤 H A W 𝓣 E G0 G2 b52 Δ0 (Typed.give (s0 bs)) (at61 bs) (Know.g-shs-known 𝓤 H A W (Referent.fInt Syntax.w8) E G0 1 0 ty·7 (Row.lease (κs .0) (qs .0)) 0 (λ x. x) record { fits = Dec'.lit< tt } (Reads.as-is 𝓤 H A (Rows'.sslice (Referent.rtF (Referent.fInt Syntax.w8)) ty·7 0)) Path'.refl tt) d61
+
+          pub typed : Typed.Typed 𝓤 H A 𝓣 E (Function.Γin 2 ps r xs m κs qs) b52 (Function.Δret 2 ps r xs m κs qs) (Φ bs)
+          typed = d62
+
+      module _ (κs : Lifetimes.Lfts 2) where
         pub record Args : Type 0 where
-          pub file : Kinds.Den {n = 5} κs (ShrSlice.pShrS (Referent.rtF (Referent.fInt Syntax.w8)) 0 tt)
-          pub rows : Kinds.Den {n = 5} κs (MutSlice.pMutS T.the-row 1 tt)
-          pub firsts : Kinds.Den {n = 5} κs (MutSlice.pMutS (Referent.rtF (Referent.fInt Syntax.w16)) 2 tt)
-          pub outcomes : Kinds.Den {n = 5} κs (MutSlice.pMutS (Referent.rtF (Referent.fInt Syntax.w16)) 3 tt)
-          pub out : Kinds.Den {n = 5} κs (MutSlice.pMutS (Referent.rtF (Referent.fInt Syntax.w8)) 4 tt)
+          pub file : Kinds.Den {n = 2} κs (ShrSlice.pShrS (Referent.rtF (Referent.fInt Syntax.w8)) 0 tt)
+          pub out : Kinds.Den {n = 2} κs (MutSlice.pMutS (Referent.rtF (Referent.fInt Syntax.w8)) 1 tt)
 
         abbrev pub dens : (a : Args) → Kinds.Dens κs ps
-        dens = λ a. (a .file, (a .rows, (a .firsts, (a .outcomes, (a .out, tt)))))
+        dens = λ a. (a .file, (a .out, tt))
 
-      abbrev pub m0 : (κs : Lifetimes.Lfts 5) → (args : Args κs) → Typed.Mo T0
-      m0 = λ κs args. (tt, Enter.partsP κs 1 ps xs (dens κs args))
+      abbrev pub m0 : (κs : Lifetimes.Lfts 2) → (args : Args κs) → (blocks : List.List Nat.ℕ) → Typed.Mo T0
+      m0 = λ κs args blocks. (tt, Enter.partsP κs 1 ps xs (dens κs args))
 
-      abbrev W0 : (κs : Lifetimes.Lfts 5) → (args : Args κs) → Typed.Want O0
-      W0 = λ κs args. (λ u. ⊥, tt, λ u. Enter.Fixs κs 1 ps xs (dens κs args) (u .1) × Post· κs (dens κs args) (Function.resV r κs (u .0)) (Clauses.atExit (Kinds.endedOf 5 ps r) κs (dens κs args) (Enter.lastsP κs 1 ps xs (dens κs args) (u .1))))
+      abbrev W0 : (κs : Lifetimes.Lfts 2) → (args : Args κs) → (blocks : List.List Nat.ℕ) → Typed.Want O0
+      W0 = λ κs args blocks. (λ u. ⊥, tt, λ u. Enter.Fixs κs 1 ps xs (dens κs args) (u .1) × Post· κs (dens κs args) (Function.resV r κs (u .0)) (Clauses.atExit (Kinds.endedOf 2 ps r) κs (dens κs args) (Enter.lastsP κs 1 ps xs (dens κs args) (u .1))))
 
       pub record Start : Type 0 where
-        pub κs : Lifetimes.Lfts 5
+        pub κs : Lifetimes.Lfts 2
         pub args : Args κs
+        pub blocks : List.List Nat.ℕ
         pub good : Kinds.GoodsP κs ps (dens κs args)
         pub pre : Pre· κs (dens κs args)
 
-      abbrev pub m1 : (before : Start) → (given : s0 .gives (m0 (before .κs) (before .args))) → Typed.Mo T2
-      m1 = λ before given. s0 .next (m0 (before .κs) (before .args)) given
+      abbrev pub m1 : (before : Start) → (given : s0 (before .blocks) .gives (m0 (before .κs) (before .args) (before .blocks))) → Typed.Mo T2
+      m1 = λ before given. s0 (before .blocks) .next (m0 (before .κs) (before .args) (before .blocks)) given
 
       module _ (before· : Start) where
         pub record After-shared-slice-known·own : Type 0 where
-          pub given : s0 .gives (m0 (before· .κs) (before· .args))
+          pub given : s0 (before· .blocks) .gives (m0 (before· .κs) (before· .args) (before· .blocks))
 
       pub record After-shared-slice-known : Type 0 where
         pub before : Start
         pub shared-slice-known : After-shared-slice-known·own before
 
-      abbrev pub m2 : (before : After-shared-slice-known) → (given : s1 .gives (m1 (before .before) (before .shared-slice-known .given))) → Typed.Mo T3
-      m2 = λ before given. s1 .next (m1 (before .before) (before .shared-slice-known .given)) given
+      abbrev pub m2 : (before : After-shared-slice-known) → (given : s1 (before .before .blocks) .gives (m1 (before .before) (before .shared-slice-known .given))) → Typed.Mo T3
+      m2 = λ before given. s1 (before .before .blocks) .next (m1 (before .before) (before .shared-slice-known .given)) given
+
+      abbrev pub m3 : (before : After-shared-slice-known) → (given : s1 (before .before .blocks) .gives (m1 (before .before) (before .shared-slice-known .given))) → Typed.Mo T4
+      m3 = λ before given. s2 (before .before .blocks) (m2 before given)
+
+      abbrev pub m4 : (before : After-shared-slice-known) → (given : s1 (before .before .blocks) .gives (m1 (before .before) (before .shared-slice-known .given))) → Typed.Mo T5
+      m4 = λ before given. s3 (before .before .blocks) (m3 before given)
+
+      abbrev pub m5 : (before : After-shared-slice-known) → (given : s1 (before .before .blocks) .gives (m1 (before .before) (before .shared-slice-known .given))) → Typed.Mo T6
+      m5 = λ before given. s4 (before .before .blocks) (m4 before given)
+
+      abbrev pub m6 : (before : After-shared-slice-known) → (given : s1 (before .before .blocks) .gives (m1 (before .before) (before .shared-slice-known .given))) → Typed.Mo T7
+      m6 = λ before given. s5 (before .before .blocks) (m5 before given)
+
+      abbrev pub m7 : (before : After-shared-slice-known) → (given : s1 (before .before .blocks) .gives (m1 (before .before) (before .shared-slice-known .given))) → Typed.Mo T8
+      m7 = λ before given. s6 (before .before .blocks) (m6 before given)
+
+      abbrev pub m8 : (before : After-shared-slice-known) → (given : s1 (before .before .blocks) .gives (m1 (before .before) (before .shared-slice-known .given))) → Typed.Mo T9
+      m8 = λ before given. s7 (before .before .blocks) (m7 before given)
+
+      abbrev pub m9 : (before : After-shared-slice-known) → (given : s1 (before .before .blocks) .gives (m1 (before .before) (before .shared-slice-known .given))) → Typed.Mo T10
+      m9 = λ before given. s8 (before .before .blocks) (m8 before given)
+
+      abbrev pub m10 : (before : After-shared-slice-known) → (given : s1 (before .before .blocks) .gives (m1 (before .before) (before .shared-slice-known .given))) → Typed.Mo T11
+      m10 = λ before given. s9 (before .before .blocks) (m9 before given)
+
+      abbrev pub m11 : (before : After-shared-slice-known) → (given : s1 (before .before .blocks) .gives (m1 (before .before) (before .shared-slice-known .given))) → Typed.Mo T12
+      m11 = λ before given. s10 (before .before .blocks) (m10 before given)
 
       module _ (before· : After-shared-slice-known) where
         pub record After-slice-known·own : Type 0 where
-          pub given : s1 .gives (m1 (before· .before) (before· .shared-slice-known .given))
+          pub given : s1 (before· .before .blocks) .gives (m1 (before· .before) (before· .shared-slice-known .given))
 
       pub record After-slice-known : Type 0 where
         pub before : After-shared-slice-known
         pub slice-known : After-slice-known·own before
 
-      abbrev pub m3 : (before : After-slice-known) → (given : s2 .gives (m2 (before .before) (before .slice-known .given))) → Typed.Mo T4
-      m3 = λ before given. s2 .next (m2 (before .before) (before .slice-known .given)) given
+      abbrev pub m12 : (before : After-slice-known) → (given : s12 (before .before .before .blocks) .gives (m11 (before .before) (before .slice-known .given))) → Typed.Mo T14
+      m12 = λ before given. s12 (before .before .before .blocks) .next (m11 (before .before) (before .slice-known .given)) given
 
       module _ (before· : After-slice-known) where
-        pub record After-slice-known2·own : Type 0 where
-          pub given : s2 .gives (m2 (before· .before) (before· .slice-known .given))
-
-      pub record After-slice-known2 : Type 0 where
-        pub before : After-slice-known
-        pub slice-known2 : After-slice-known2·own before
-
-      abbrev pub m4 : (before : After-slice-known2) → (given : s3 .gives (m3 (before .before) (before .slice-known2 .given))) → Typed.Mo T5
-      m4 = λ before given. s3 .next (m3 (before .before) (before .slice-known2 .given)) given
-
-      module _ (before· : After-slice-known2) where
-        pub record After-slice-known3·own : Type 0 where
-          pub given : s3 .gives (m3 (before· .before) (before· .slice-known2 .given))
-
-      pub record After-slice-known3 : Type 0 where
-        pub before : After-slice-known2
-        pub slice-known3 : After-slice-known3·own before
-
-      abbrev pub m5 : (before : After-slice-known3) → (given : s5 .gives (m4 (before .before) (before .slice-known3 .given))) → Typed.Mo T7
-      m5 = λ before given. s5 .next (m4 (before .before) (before .slice-known3 .given)) given
-
-      abbrev pub m6 : (before : After-slice-known3) → (given : s5 .gives (m4 (before .before) (before .slice-known3 .given))) → Typed.Mo T8
-      m6 = λ before given. s6 .next (m5 before given)
-
-      module _ (before· : After-slice-known3) where
-        pub record After-read-arg·own : Type 0 where
-          pub given : s5 .gives (m4 (before· .before) (before· .slice-known3 .given))
-
-      pub record After-read-arg : Type 0 where
-        pub before : After-slice-known3
-        pub read-arg : After-read-arg·own before
-
-      abbrev pub m7 : (before : After-read-arg) → (given : s8 .gives (m6 (before .before) (before .read-arg .given))) → Typed.Mo T10
-      m7 = λ before given. s8 .next (m6 (before .before) (before .read-arg .given)) given
-
-      abbrev pub m8 : (before : After-read-arg) → (given : s8 .gives (m6 (before .before) (before .read-arg .given))) → Typed.Mo T11
-      m8 = λ before given. s9 .next (m7 before given)
-
-      module _ (before· : After-read-arg) where
-        pub record After-read-arg2·own : Type 0 where
-          pub given : s8 .gives (m6 (before· .before) (before· .read-arg .given))
-
-      pub record After-read-arg2 : Type 0 where
-        pub before : After-read-arg
-        pub read-arg2 : After-read-arg2·own before
-
-      abbrev pub m9 : (before : After-read-arg2) → (given : s11 .gives (m8 (before .before) (before .read-arg2 .given))) → Typed.Mo T13
-      m9 = λ before given. s11 .next (m8 (before .before) (before .read-arg2 .given)) given
-
-      abbrev pub m10 : (before : After-read-arg2) → (given : s11 .gives (m8 (before .before) (before .read-arg2 .given))) → Typed.Mo T14
-      m10 = λ before given. s12 .next (m9 before given)
-
-      module _ (before· : After-read-arg2) where
-        pub record After-read-arg3·own : Type 0 where
-          pub given : s11 .gives (m8 (before· .before) (before· .read-arg2 .given))
-
-      pub record After-read-arg3 : Type 0 where
-        pub before : After-read-arg2
-        pub read-arg3 : After-read-arg3·own before
-
-      abbrev pub Need-read-requires : Type 0
-      Need-read-requires = (c : After-read-arg3) → s13 .asks (m10 (c .before) (c .read-arg3 .given))
-
-      abbrev pub m11 : (before : After-read-arg3) → (given : s13 .gives (m10 (before .before) (before .read-arg3 .given))) → Typed.Mo T15
-      m11 = λ before given. s13 .next (m10 (before .before) (before .read-arg3 .given)) given
-
-      module _ (before· : After-read-arg3) where
-        abbrev pub After-read·own : Type 0
-        After-read·own = Called.Called ps·0 r·0 (claims· .1) T14 (record { pos = 1; ty = Syntax.tyRef (Syntax.named 0) Syntax.imm (Syntax.tyInt Syntax.w8); ref = λ x. x }, (record { pos = 10; ty = Syntax.tyRef Syntax.erased Syntax.mut (Memory.pointee (T.the-row .written)); ref = λ x. x }, (record { pos = 12; ty = Syntax.tyRef Syntax.erased Syntax.mut (Syntax.tyInt Syntax.w16); ref = λ x. x }, (record { pos = 14; ty = Syntax.tyRef Syntax.erased Syntax.mut (Syntax.tyInt Syntax.w16); ref = λ x. x }, tt)))) (m10 (before· .before) (before· .read-arg3 .given))
-
-      pub record After-read : Type 0 where
-        pub before : After-read-arg3
-        pub read : After-read·own before
-
-      abbrev pub After-read·gave : (c : After-read) → s13 .gives (m10 (c .before .before) (c .before .read-arg3 .given))
-      After-read·gave = λ c. Called.given ps·0 r·0 (claims· .1) T14 (record { pos = 1; ty = Syntax.tyRef (Syntax.named 0) Syntax.imm (Syntax.tyInt Syntax.w8); ref = λ x. x }, (record { pos = 10; ty = Syntax.tyRef Syntax.erased Syntax.mut (Memory.pointee (T.the-row .written)); ref = λ x. x }, (record { pos = 12; ty = Syntax.tyRef Syntax.erased Syntax.mut (Syntax.tyInt Syntax.w16); ref = λ x. x }, (record { pos = 14; ty = Syntax.tyRef Syntax.erased Syntax.mut (Syntax.tyInt Syntax.w16); ref = λ x. x }, tt)))) (m10 (c .before .before) (c .before .read-arg3 .given)) (c .read)
-
-      abbrev W1 : (before : After-read-arg3) → (given : s13 .gives (m10 (before .before) (before .read-arg3 .given))) → Typed.Want O1
-      W1 = λ before given. Typed.wantNext T16 O0 (at39 (W0 (before .before .before .before .before .before .before .before .κs) (before .before .before .before .before .before .before .before .args))) (W0 (before .before .before .before .before .before .before .before .κs) (before .before .before .before .before .before .before .before .args))
-
-      abbrev pub m12 : (before : After-read) → (given : s15 .gives (m11 (before .before) (After-read·gave before))) → Typed.Mo T18
-      m12 = λ before given. s15 .next (m11 (before .before) (After-read·gave before)) given
-
-      module _ (before· : After-read) where
         pub record After-rows·own : Type 0 where
-          pub given : s15 .gives (m11 (before· .before) (After-read·gave before·))
+          pub given : s12 (before· .before .before .blocks) .gives (m11 (before· .before) (before· .slice-known .given))
 
       pub record After-rows : Type 0 where
-        pub before : After-read
+        pub before : After-slice-known
         pub rows : After-rows·own before
 
-      abbrev pub m13 : (before : After-rows) → (given : s18 .gives (m12 (before .before) (before .rows .given))) → Typed.Mo T21
-      m13 = λ before given. s18 .next (m12 (before .before) (before .rows .given)) given
+      abbrev pub Need-slice-aggregate-read : Type 0
+      Need-slice-aggregate-read = (c : After-rows) → Relend.CountIs T14 10 11 (λ x. x) (λ u. 1024) (m12 (c .before) (c .rows .given))
+
+      abbrev pub m13 : (before : After-slice-known) → (given : s12 (before .before .before .blocks) .gives (m11 (before .before) (before .slice-known .given))) → Typed.Mo T15
+      m13 = λ before given. s13 (before .before .before .blocks) .next (m12 before given)
+
+      abbrev pub m14 : (before : After-rows) → (given : s15 (before .before .before .before .blocks) .gives (m13 (before .before) (before .rows .given))) → Typed.Mo T17
+      m14 = λ before given. s15 (before .before .before .before .blocks) .next (m13 (before .before) (before .rows .given)) given
 
       module _ (before· : After-rows) where
         pub record After-firsts·own : Type 0 where
-          pub given : s18 .gives (m12 (before· .before) (before· .rows .given))
+          pub given : s15 (before· .before .before .before .blocks) .gives (m13 (before· .before) (before· .rows .given))
 
       pub record After-firsts : Type 0 where
         pub before : After-rows
         pub firsts : After-firsts·own before
 
-      abbrev pub m14 : (before : After-firsts) → (given : s19 .gives (m13 (before .before) (before .firsts .given))) → Typed.Mo T22
-      m14 = λ before given. s19 .next (m13 (before .before) (before .firsts .given)) given
+      abbrev pub Need-slice-aggregate-read-2 : Type 0
+      Need-slice-aggregate-read-2 = (c : After-firsts) → Relend.CountIs T17 12 13 (λ x. x) (λ u. 4096) (m14 (c .before) (c .firsts .given))
+
+      abbrev pub m15 : (before : After-rows) → (given : s15 (before .before .before .before .blocks) .gives (m13 (before .before) (before .rows .given))) → Typed.Mo T18
+      m15 = λ before given. s16 (before .before .before .before .blocks) .next (m14 before given)
+
+      abbrev pub m16 : (before : After-firsts) → (given : s18 (before .before .before .before .before .blocks) .gives (m15 (before .before) (before .firsts .given))) → Typed.Mo T20
+      m16 = λ before given. s18 (before .before .before .before .before .blocks) .next (m15 (before .before) (before .firsts .given)) given
 
       module _ (before· : After-firsts) where
-        pub record After-slice-known4·own : Type 0 where
-          pub given : s19 .gives (m13 (before· .before) (before· .firsts .given))
-
-      pub record After-slice-known4 : Type 0 where
-        pub before : After-firsts
-        pub slice-known4 : After-slice-known4·own before
-
-      abbrev pub m15 : (before : After-slice-known4) → (given : s22 .gives (m14 (before .before) (before .slice-known4 .given))) → Typed.Mo T25
-      m15 = λ before given. s22 .next (m14 (before .before) (before .slice-known4 .given)) given
-
-      module _ (before· : After-slice-known4) where
         pub record After-outcomes·own : Type 0 where
-          pub given : s22 .gives (m14 (before· .before) (before· .slice-known4 .given))
+          pub given : s18 (before· .before .before .before .before .blocks) .gives (m15 (before· .before) (before· .firsts .given))
 
       pub record After-outcomes : Type 0 where
-        pub before : After-slice-known4
+        pub before : After-firsts
         pub outcomes : After-outcomes·own before
 
-      abbrev pub m16 : (before : After-outcomes) → (given : s23 .gives (m15 (before .before) (before .outcomes .given))) → Typed.Mo T26
-      m16 = λ before given. s23 .next (m15 (before .before) (before .outcomes .given)) given
+      abbrev pub Need-slice-aggregate-read-3 : Type 0
+      Need-slice-aggregate-read-3 = (c : After-outcomes) → Relend.CountIs T20 14 15 (λ x. x) (λ u. 16384) (m16 (c .before) (c .outcomes .given))
+
+      abbrev pub m17 : (before : After-firsts) → (given : s18 (before .before .before .before .before .blocks) .gives (m15 (before .before) (before .firsts .given))) → Typed.Mo T21
+      m17 = λ before given. s19 (before .before .before .before .before .blocks) .next (m16 before given)
+
+      abbrev pub Need-read-requires : Type 0
+      Need-read-requires = (c : After-outcomes) → s20 (c .before .before .before .before .before .blocks) .asks (m17 (c .before) (c .outcomes .given))
+
+      abbrev pub m18 : (before : After-outcomes) → (given : s20 (before .before .before .before .before .before .blocks) .gives (m17 (before .before) (before .outcomes .given))) → Typed.Mo T22
+      m18 = λ before given. s20 (before .before .before .before .before .before .blocks) .next (m17 (before .before) (before .outcomes .given)) given
 
       module _ (before· : After-outcomes) where
-        pub record After-slice-known5·own : Type 0 where
-          pub given : s23 .gives (m15 (before· .before) (before· .outcomes .given))
+        abbrev pub After-read·own : Type 0
+        After-read·own = Called.Called ps·0 r·0 (claims· .1) T21 (record { pos = 1; ty = Syntax.tyRef (Syntax.named 0) Syntax.imm (Syntax.tyInt Syntax.w8); ref = λ x. x }, (record { pos = 11; ty = Syntax.tyRef Syntax.erased Syntax.mut (Memory.pointee (T.the-row .written)); ref = λ x. x }, (record { pos = 13; ty = Syntax.tyRef Syntax.erased Syntax.mut (Syntax.tyInt Syntax.w16); ref = λ x. x }, (record { pos = 15; ty = Syntax.tyRef Syntax.erased Syntax.mut (Syntax.tyInt Syntax.w16); ref = λ x. x }, tt)))) (m17 (before· .before) (before· .outcomes .given))
 
-      pub record After-slice-known5 : Type 0 where
+      pub record After-read : Type 0 where
         pub before : After-outcomes
-        pub slice-known5 : After-slice-known5·own before
+        pub read : After-read·own before
 
-      module _ (before· : After-slice-known5) where
+      abbrev pub After-read·gave : (c : After-read) → s20 (c .before .before .before .before .before .before .blocks) .gives (m17 (c .before .before) (c .before .outcomes .given))
+      After-read·gave = λ c. Called.given ps·0 r·0 (claims· .1) T21 (record { pos = 1; ty = Syntax.tyRef (Syntax.named 0) Syntax.imm (Syntax.tyInt Syntax.w8); ref = λ x. x }, (record { pos = 11; ty = Syntax.tyRef Syntax.erased Syntax.mut (Memory.pointee (T.the-row .written)); ref = λ x. x }, (record { pos = 13; ty = Syntax.tyRef Syntax.erased Syntax.mut (Syntax.tyInt Syntax.w16); ref = λ x. x }, (record { pos = 15; ty = Syntax.tyRef Syntax.erased Syntax.mut (Syntax.tyInt Syntax.w16); ref = λ x. x }, tt)))) (m17 (c .before .before) (c .before .outcomes .given)) (c .read)
+
+      abbrev W1 : (before : After-outcomes) → (given : s20 (before .before .before .before .before .before .blocks) .gives (m17 (before .before) (before .outcomes .given))) → Typed.Want O1
+      W1 = λ before given. Typed.wantNext T23 O0 (at40 (before .before .before .before .before .before .blocks) (W0 (before .before .before .before .before .before .κs) (before .before .before .before .before .before .args) (before .before .before .before .before .before .blocks))) (W0 (before .before .before .before .before .before .κs) (before .before .before .before .before .before .args) (before .before .before .before .before .before .blocks))
+
+      abbrev pub m19 : (before : After-read) → (given : s22 (before .before .before .before .before .before .before .blocks) .gives (m18 (before .before) (After-read·gave before))) → Typed.Mo T25
+      m19 = λ before given. s22 (before .before .before .before .before .before .before .blocks) .next (m18 (before .before) (After-read·gave before)) given
+
+      module _ (before· : After-read) where
+        pub record After-rows2·own : Type 0 where
+          pub given : s22 (before· .before .before .before .before .before .before .blocks) .gives (m18 (before· .before) (After-read·gave before·))
+
+      pub record After-rows2 : Type 0 where
+        pub before : After-read
+        pub rows2 : After-rows2·own before
+
+      abbrev pub m20 : (before : After-rows2) → (given : s25 (before .before .before .before .before .before .before .before .blocks) .gives (m19 (before .before) (before .rows2 .given))) → Typed.Mo T28
+      m20 = λ before given. s25 (before .before .before .before .before .before .before .before .blocks) .next (m19 (before .before) (before .rows2 .given)) given
+
+      module _ (before· : After-rows2) where
+        pub record After-firsts2·own : Type 0 where
+          pub given : s25 (before· .before .before .before .before .before .before .before .blocks) .gives (m19 (before· .before) (before· .rows2 .given))
+
+      pub record After-firsts2 : Type 0 where
+        pub before : After-rows2
+        pub firsts2 : After-firsts2·own before
+
+      abbrev pub m21 : (before : After-firsts2) → (given : s28 (before .before .before .before .before .before .before .before .before .blocks) .gives (m20 (before .before) (before .firsts2 .given))) → Typed.Mo T31
+      m21 = λ before given. s28 (before .before .before .before .before .before .before .before .before .blocks) .next (m20 (before .before) (before .firsts2 .given)) given
+
+      module _ (before· : After-firsts2) where
+        pub record After-outcomes2·own : Type 0 where
+          pub given : s28 (before· .before .before .before .before .before .before .before .before .blocks) .gives (m20 (before· .before) (before· .firsts2 .given))
+
+      pub record After-outcomes2 : Type 0 where
+        pub before : After-firsts2
+        pub outcomes2 : After-outcomes2·own before
+
+      module _ (before· : After-outcomes2) where
         pub record At-match-keys1·own : Type 0 where
-          pub keys1 : Run.OneOf (List._∷_ 1 List.[]) (Declared.tagOf ReadAnswer.the-type (Row.get 6 (T26 .locals) (m16 (before· .before) (before· .slice-known5 .given))))
+          pub keys1 : Run.OneOf (List._∷_ 1 List.[]) (Declared.tagOf ReadAnswer.the-type (Row.get 6 (T31 .locals) (m21 (before· .before) (before· .outcomes2 .given))))
 
       pub record At-match-keys1 : Type 0 where
-        pub before : After-slice-known5
+        pub before : After-outcomes2
         pub match : At-match-keys1·own before
 
       abbrev pub Need-enum-known-r : Type 0
-      Need-enum-known-r = (c : At-match-keys1) → s25 .asks (m16 (c .before .before) (c .before .slice-known5 .given))
+      Need-enum-known-r = (c : At-match-keys1) → s30 (c .before .before .before .before .before .before .before .before .before .before .blocks) .asks (m21 (c .before .before) (c .before .outcomes2 .given))
 
-      abbrev pub m17 : (before : At-match-keys1) → (given : s25 .gives (m16 (before .before .before) (before .before .slice-known5 .given))) → Typed.Mo T28
-      m17 = λ before given. s25 .next (m16 (before .before .before) (before .before .slice-known5 .given)) given
+      abbrev pub m22 : (before : At-match-keys1) → (given : s30 (before .before .before .before .before .before .before .before .before .before .before .blocks) .gives (m21 (before .before .before) (before .before .outcomes2 .given))) → Typed.Mo T33
+      m22 = λ before given. s30 (before .before .before .before .before .before .before .before .before .before .before .blocks) .next (m21 (before .before .before) (before .before .outcomes2 .given)) given
 
       module _ (before· : At-match-keys1) where
         pub record After-r·own : Type 0 where
-          pub given : s25 .gives (m16 (before· .before .before) (before· .before .slice-known5 .given))
+          pub given : s30 (before· .before .before .before .before .before .before .before .before .before .before .blocks) .gives (m21 (before· .before .before) (before· .before .outcomes2 .given))
 
       pub record After-r : Type 0 where
         pub before : At-match-keys1
         pub r : After-r·own before
 
-      abbrev pub m18 : (before : After-r) → (given : s26 .gives (m17 (before .before) (before .r .given))) → Typed.Mo T29
-      m18 = λ before given. s26 .next (m17 (before .before) (before .r .given)) given
+      abbrev pub m23 : (before : After-r) → (given : s31 (before .before .before .before .before .before .before .before .before .before .before .before .blocks) .gives (m22 (before .before) (before .r .given))) → Typed.Mo T34
+      m23 = λ before given. s31 (before .before .before .before .before .before .before .before .before .before .before .before .blocks) .next (m22 (before .before) (before .r .given)) given
 
-      abbrev pub m19 : (before : After-r) → (given : s26 .gives (m17 (before .before) (before .r .given))) → Typed.Mo T30
-      m19 = λ before given. s27 (m18 before given)
+      abbrev pub m24 : (before : After-r) → (given : s31 (before .before .before .before .before .before .before .before .before .before .before .before .blocks) .gives (m22 (before .before) (before .r .given))) → Typed.Mo T35
+      m24 = λ before given. s32 (before .before .before .before .before .before .before .before .before .before .before .before .blocks) (m23 before given)
 
-      abbrev pub m20 : (before : After-r) → (given : s26 .gives (m17 (before .before) (before .r .given))) → Typed.Mo T31
-      m20 = λ before given. s28 (m19 before given)
+      abbrev pub m25 : (before : After-r) → (given : s31 (before .before .before .before .before .before .before .before .before .before .before .before .blocks) .gives (m22 (before .before) (before .r .given))) → Typed.Mo T36
+      m25 = λ before given. s33 (before .before .before .before .before .before .before .before .before .before .before .before .blocks) (m24 before given)
+
+      abbrev pub m26 : (before : After-r) → (given : s31 (before .before .before .before .before .before .before .before .before .before .before .before .blocks) .gives (m22 (before .before) (before .r .given))) → Typed.Mo T37
+      m26 = λ before given. s34 (before .before .before .before .before .before .before .before .before .before .before .before .blocks) (m25 before given)
+
+      abbrev pub m27 : (before : After-r) → (given : s31 (before .before .before .before .before .before .before .before .before .before .before .before .blocks) .gives (m22 (before .before) (before .r .given))) → Typed.Mo T38
+      m27 = λ before given. s35 (before .before .before .before .before .before .before .before .before .before .before .before .blocks) (m26 before given)
+
+      abbrev pub m28 : (before : After-r) → (given : s31 (before .before .before .before .before .before .before .before .before .before .before .before .blocks) .gives (m22 (before .before) (before .r .given))) → Typed.Mo T39
+      m28 = λ before given. s36 (before .before .before .before .before .before .before .before .before .before .before .before .blocks) (m27 before given)
 
       module _ (before· : After-r) where
         pub record After-known-told·own : Type 0 where
-          pub given : s26 .gives (m17 (before· .before) (before· .r .given))
+          pub given : s31 (before· .before .before .before .before .before .before .before .before .before .before .before .blocks) .gives (m22 (before· .before) (before· .r .given))
 
       pub record After-known-told : Type 0 where
         pub before : After-r
         pub known-told : After-known-told·own before
 
-      abbrev pub m21 : (before : After-known-told) → (given : s30 .gives (m20 (before .before) (before .known-told .given))) → Typed.Mo T33
-      m21 = λ before given. s30 .next (m20 (before .before) (before .known-told .given)) given
+      abbrev pub m29 : (before : After-known-told) → (given : s38 (before .before .before .before .before .before .before .before .before .before .before .before .before .blocks) .gives (m28 (before .before) (before .known-told .given))) → Typed.Mo T41
+      m29 = λ before given. s38 (before .before .before .before .before .before .before .before .before .before .before .before .before .blocks) .next (m28 (before .before) (before .known-told .given)) given
 
-      abbrev pub m22 : (before : After-known-told) → (given : s30 .gives (m20 (before .before) (before .known-told .given))) → Typed.Mo T34
-      m22 = λ before given. s31 .next (m21 before given)
+      abbrev pub m30 : (before : After-known-told) → (given : s38 (before .before .before .before .before .before .before .before .before .before .before .before .before .blocks) .gives (m28 (before .before) (before .known-told .given))) → Typed.Mo T42
+      m30 = λ before given. s39 (before .before .before .before .before .before .before .before .before .before .before .before .before .blocks) .next (m29 before given)
 
       module _ (before· : After-known-told) where
         pub record After-put-refusal-arg·own : Type 0 where
-          pub given : s30 .gives (m20 (before· .before) (before· .known-told .given))
+          pub given : s38 (before· .before .before .before .before .before .before .before .before .before .before .before .before .blocks) .gives (m28 (before· .before) (before· .known-told .given))
 
       pub record After-put-refusal-arg : Type 0 where
         pub before : After-known-told
         pub put-refusal-arg : After-put-refusal-arg·own before
 
       abbrev pub Need-put-refusal-requires : Type 0
-      Need-put-refusal-requires = (c : After-put-refusal-arg) → s32 .asks (m22 (c .before) (c .put-refusal-arg .given))
+      Need-put-refusal-requires = (c : After-put-refusal-arg) → s40 (c .before .before .before .before .before .before .before .before .before .before .before .before .before .blocks) .asks (m30 (c .before) (c .put-refusal-arg .given))
 
-      abbrev pub m23 : (before : After-put-refusal-arg) → (given : s32 .gives (m22 (before .before) (before .put-refusal-arg .given))) → Typed.Mo T35
-      m23 = λ before given. s32 .next (m22 (before .before) (before .put-refusal-arg .given)) given
+      abbrev pub m31 : (before : After-put-refusal-arg) → (given : s40 (before .before .before .before .before .before .before .before .before .before .before .before .before .before .blocks) .gives (m30 (before .before) (before .put-refusal-arg .given))) → Typed.Mo T43
+      m31 = λ before given. s40 (before .before .before .before .before .before .before .before .before .before .before .before .before .before .blocks) .next (m30 (before .before) (before .put-refusal-arg .given)) given
 
-      abbrev pub m24 : (before : After-put-refusal-arg) → (given : s32 .gives (m22 (before .before) (before .put-refusal-arg .given))) → Typed.Mo T36
-      m24 = λ before given. s33 (m23 before given)
+      abbrev pub m32 : (before : After-put-refusal-arg) → (given : s40 (before .before .before .before .before .before .before .before .before .before .before .before .before .before .blocks) .gives (m30 (before .before) (before .put-refusal-arg .given))) → Typed.Mo T44
+      m32 = λ before given. s41 (before .before .before .before .before .before .before .before .before .before .before .before .before .before .blocks) (m31 before given)
 
       module _ (before· : After-put-refusal-arg) where
         abbrev pub After-put-refusal·own : Type 0
-        After-put-refusal·own = Called.Called ps·1 r·1 (claims· .3) T34 (record { pos = 17; ty = Syntax.tyRef Syntax.erased Syntax.mut (Syntax.tyInt Syntax.w8); ref = λ x. x }, (Num.vLit 0, (record { pos = 7; st = List.[]; d = 0; at = λ x. x }, tt))) (m22 (before· .before) (before· .put-refusal-arg .given))
+        After-put-refusal·own = Called.Called ps·1 r·1 (claims· .3) T42 (record { pos = 18; ty = Syntax.tyRef Syntax.erased Syntax.mut (Syntax.tyInt Syntax.w8); ref = λ x. x }, (Num.vLit 0, (record { pos = 7; st = List.[]; d = 0; at = λ x. x }, tt))) (m30 (before· .before) (before· .put-refusal-arg .given))
 
       pub record After-put-refusal : Type 0 where
         pub before : After-put-refusal-arg
         pub put-refusal : After-put-refusal·own before
 
-      abbrev pub After-put-refusal·gave : (c : After-put-refusal) → s32 .gives (m22 (c .before .before) (c .before .put-refusal-arg .given))
-      After-put-refusal·gave = λ c. Called.given ps·1 r·1 (claims· .3) T34 (record { pos = 17; ty = Syntax.tyRef Syntax.erased Syntax.mut (Syntax.tyInt Syntax.w8); ref = λ x. x }, (Num.vLit 0, (record { pos = 7; st = List.[]; d = 0; at = λ x. x }, tt))) (m22 (c .before .before) (c .before .put-refusal-arg .given)) (c .put-refusal)
+      abbrev pub After-put-refusal·gave : (c : After-put-refusal) → s40 (c .before .before .before .before .before .before .before .before .before .before .before .before .before .before .blocks) .gives (m30 (c .before .before) (c .before .put-refusal-arg .given))
+      After-put-refusal·gave = λ c. Called.given ps·1 r·1 (claims· .3) T42 (record { pos = 18; ty = Syntax.tyRef Syntax.erased Syntax.mut (Syntax.tyInt Syntax.w8); ref = λ x. x }, (Num.vLit 0, (record { pos = 7; st = List.[]; d = 0; at = λ x. x }, tt))) (m30 (c .before .before) (c .before .put-refusal-arg .given)) (c .put-refusal)
 
-      abbrev pub m25 : (before : After-put-refusal) → (given : s35 .gives (m24 (before .before) (After-put-refusal·gave before))) → Typed.Mo T38
-      m25 = λ before given. s35 .next (m24 (before .before) (After-put-refusal·gave before)) given
+      abbrev pub m33 : (before : After-put-refusal) → (given : s43 (before .before .before .before .before .before .before .before .before .before .before .before .before .before .before .blocks) .gives (m32 (before .before) (After-put-refusal·gave before))) → Typed.Mo T46
+      m33 = λ before given. s43 (before .before .before .before .before .before .before .before .before .before .before .before .before .before .before .blocks) .next (m32 (before .before) (After-put-refusal·gave before)) given
 
       module _ (before· : After-put-refusal) where
         pub record After-out·own : Type 0 where
-          pub given : s35 .gives (m24 (before· .before) (After-put-refusal·gave before·))
+          pub given : s43 (before· .before .before .before .before .before .before .before .before .before .before .before .before .before .before .blocks) .gives (m32 (before· .before) (After-put-refusal·gave before·))
 
       pub record After-out : Type 0 where
         pub before : After-put-refusal
         pub out : After-out·own before
 
-      abbrev pub m26 : (before : After-out) → (given : s36 .gives (m25 (before .before) (before .out .given))) → Typed.Mo T39
-      m26 = λ before given. s36 .next (m25 (before .before) (before .out .given)) given
+      abbrev pub m34 : (before : After-out) → (given : s44 (before .before .before .before .before .before .before .before .before .before .before .before .before .before .before .before .blocks) .gives (m33 (before .before) (before .out .given))) → Typed.Mo T47
+      m34 = λ before given. s44 (before .before .before .before .before .before .before .before .before .before .before .before .before .before .before .before .blocks) .next (m33 (before .before) (before .out .given)) given
 
       module _ (before· : After-out) where
-        pub record After-slice-known6·own : Type 0 where
-          pub given : s36 .gives (m25 (before· .before) (before· .out .given))
+        pub record After-slice-known2·own : Type 0 where
+          pub given : s44 (before· .before .before .before .before .before .before .before .before .before .before .before .before .before .before .before .blocks) .gives (m33 (before· .before) (before· .out .given))
 
-      pub record After-slice-known6 : Type 0 where
+      pub record After-slice-known2 : Type 0 where
         pub before : After-out
-        pub slice-known6 : After-slice-known6·own before
+        pub slice-known2 : After-slice-known2·own before
 
-      module _ (before· : After-slice-known5) where
+      module _ (before· : After-outcomes2) where
         pub record At-match-keys2·own : Type 0 where
-          pub keys2 : Run.OneOf (List._∷_ 0 List.[]) (Declared.tagOf ReadAnswer.the-type (Row.get 6 (T26 .locals) (m16 (before· .before) (before· .slice-known5 .given))))
+          pub keys2 : Run.OneOf (List._∷_ 0 List.[]) (Declared.tagOf ReadAnswer.the-type (Row.get 6 (T31 .locals) (m21 (before· .before) (before· .outcomes2 .given))))
 
       pub record At-match-keys2 : Type 0 where
-        pub before : After-slice-known5
+        pub before : After-outcomes2
         pub match : At-match-keys2·own before
 
       abbrev pub Need-enum-known-r-2 : Type 0
-      Need-enum-known-r-2 = (c : At-match-keys2) → s38 .asks (m16 (c .before .before) (c .before .slice-known5 .given))
+      Need-enum-known-r-2 = (c : At-match-keys2) → s46 (c .before .before .before .before .before .before .before .before .before .before .blocks) .asks (m21 (c .before .before) (c .before .outcomes2 .given))
 
-      abbrev pub m27 : (before : At-match-keys2) → (given : s38 .gives (m16 (before .before .before) (before .before .slice-known5 .given))) → Typed.Mo T41
-      m27 = λ before given. s38 .next (m16 (before .before .before) (before .before .slice-known5 .given)) given
+      abbrev pub m35 : (before : At-match-keys2) → (given : s46 (before .before .before .before .before .before .before .before .before .before .before .blocks) .gives (m21 (before .before .before) (before .before .outcomes2 .given))) → Typed.Mo T49
+      m35 = λ before given. s46 (before .before .before .before .before .before .before .before .before .before .before .blocks) .next (m21 (before .before .before) (before .before .outcomes2 .given)) given
 
       module _ (before· : At-match-keys2) where
         pub record After-r2·own : Type 0 where
-          pub given : s38 .gives (m16 (before· .before .before) (before· .before .slice-known5 .given))
+          pub given : s46 (before· .before .before .before .before .before .before .before .before .before .before .blocks) .gives (m21 (before· .before .before) (before· .before .outcomes2 .given))
 
       pub record After-r2 : Type 0 where
         pub before : At-match-keys2
         pub r2 : After-r2·own before
 
-      abbrev pub m28 : (before : After-r2) → (given : s39 .gives (m27 (before .before) (before .r2 .given))) → Typed.Mo T42
-      m28 = λ before given. s39 .next (m27 (before .before) (before .r2 .given)) given
+      abbrev pub m36 : (before : After-r2) → (given : s47 (before .before .before .before .before .before .before .before .before .before .before .before .blocks) .gives (m35 (before .before) (before .r2 .given))) → Typed.Mo T50
+      m36 = λ before given. s47 (before .before .before .before .before .before .before .before .before .before .before .before .blocks) .next (m35 (before .before) (before .r2 .given)) given
 
-      abbrev pub m29 : (before : After-r2) → (given : s39 .gives (m27 (before .before) (before .r2 .given))) → Typed.Mo T43
-      m29 = λ before given. s40 (m28 before given)
+      abbrev pub m37 : (before : After-r2) → (given : s47 (before .before .before .before .before .before .before .before .before .before .before .before .blocks) .gives (m35 (before .before) (before .r2 .given))) → Typed.Mo T51
+      m37 = λ before given. s48 (before .before .before .before .before .before .before .before .before .before .before .before .blocks) (m36 before given)
 
-      abbrev pub m30 : (before : After-r2) → (given : s39 .gives (m27 (before .before) (before .r2 .given))) → Typed.Mo T44
-      m30 = λ before given. s41 (m29 before given)
+      abbrev pub m38 : (before : After-r2) → (given : s47 (before .before .before .before .before .before .before .before .before .before .before .before .blocks) .gives (m35 (before .before) (before .r2 .given))) → Typed.Mo T52
+      m38 = λ before given. s49 (before .before .before .before .before .before .before .before .before .before .before .before .blocks) (m37 before given)
 
       module _ (before· : After-r2) where
         pub record After-known-told2·own : Type 0 where
-          pub given : s39 .gives (m27 (before· .before) (before· .r2 .given))
+          pub given : s47 (before· .before .before .before .before .before .before .before .before .before .before .before .blocks) .gives (m35 (before· .before) (before· .r2 .given))
 
       pub record After-known-told2 : Type 0 where
         pub before : After-r2
         pub known-told2 : After-known-told2·own before
 
-      abbrev pub m31 : (before : After-known-told2) → (given : s43 .gives (m30 (before .before) (before .known-told2 .given))) → Typed.Mo T46
-      m31 = λ before given. s43 .next (m30 (before .before) (before .known-told2 .given)) given
-
-      abbrev pub m32 : (before : After-known-told2) → (given : s43 .gives (m30 (before .before) (before .known-told2 .given))) → Typed.Mo T47
-      m32 = λ before given. s44 .next (m31 before given)
+      abbrev pub m39 : (before : After-known-told2) → (given : s51 (before .before .before .before .before .before .before .before .before .before .before .before .before .blocks) .gives (m38 (before .before) (before .known-told2 .given))) → Typed.Mo T54
+      m39 = λ before given. s51 (before .before .before .before .before .before .before .before .before .before .before .before .before .blocks) .next (m38 (before .before) (before .known-told2 .given)) given
 
       module _ (before· : After-known-told2) where
+        pub record After-rows3·own : Type 0 where
+          pub given : s51 (before· .before .before .before .before .before .before .before .before .before .before .before .before .blocks) .gives (m38 (before· .before) (before· .known-told2 .given))
+
+      pub record After-rows3 : Type 0 where
+        pub before : After-known-told2
+        pub rows3 : After-rows3·own before
+
+      abbrev pub Need-slice-aggregate-list-plan : Type 0
+      Need-slice-aggregate-list-plan = (c : After-rows3) → Relend.CountIs T54 19 20 (λ x. x) (λ u. 1024) (m39 (c .before) (c .rows3 .given))
+
+      abbrev pub m40 : (before : After-known-told2) → (given : s51 (before .before .before .before .before .before .before .before .before .before .before .before .before .blocks) .gives (m38 (before .before) (before .known-told2 .given))) → Typed.Mo T55
+      m40 = λ before given. s52 (before .before .before .before .before .before .before .before .before .before .before .before .before .blocks) .next (m39 before given)
+
+      abbrev pub m41 : (before : After-rows3) → (given : s54 (before .before .before .before .before .before .before .before .before .before .before .before .before .before .blocks) .gives (m40 (before .before) (before .rows3 .given))) → Typed.Mo T57
+      m41 = λ before given. s54 (before .before .before .before .before .before .before .before .before .before .before .before .before .before .blocks) .next (m40 (before .before) (before .rows3 .given)) given
+
+      module _ (before· : After-rows3) where
+        pub record After-firsts3·own : Type 0 where
+          pub given : s54 (before· .before .before .before .before .before .before .before .before .before .before .before .before .before .blocks) .gives (m40 (before· .before) (before· .rows3 .given))
+
+      pub record After-firsts3 : Type 0 where
+        pub before : After-rows3
+        pub firsts3 : After-firsts3·own before
+
+      abbrev pub Need-slice-aggregate-list-plan-2 : Type 0
+      Need-slice-aggregate-list-plan-2 = (c : After-firsts3) → Relend.CountIs T57 21 22 (λ x. x) (λ u. 4096) (m41 (c .before) (c .firsts3 .given))
+
+      abbrev pub m42 : (before : After-rows3) → (given : s54 (before .before .before .before .before .before .before .before .before .before .before .before .before .before .blocks) .gives (m40 (before .before) (before .rows3 .given))) → Typed.Mo T58
+      m42 = λ before given. s55 (before .before .before .before .before .before .before .before .before .before .before .before .before .before .blocks) .next (m41 before given)
+
+      abbrev pub m43 : (before : After-firsts3) → (given : s57 (before .before .before .before .before .before .before .before .before .before .before .before .before .before .before .blocks) .gives (m42 (before .before) (before .firsts3 .given))) → Typed.Mo T60
+      m43 = λ before given. s57 (before .before .before .before .before .before .before .before .before .before .before .before .before .before .before .blocks) .next (m42 (before .before) (before .firsts3 .given)) given
+
+      module _ (before· : After-firsts3) where
+        pub record After-outcomes3·own : Type 0 where
+          pub given : s57 (before· .before .before .before .before .before .before .before .before .before .before .before .before .before .before .blocks) .gives (m42 (before· .before) (before· .firsts3 .given))
+
+      pub record After-outcomes3 : Type 0 where
+        pub before : After-firsts3
+        pub outcomes3 : After-outcomes3·own before
+
+      abbrev pub Need-slice-aggregate-list-plan-3 : Type 0
+      Need-slice-aggregate-list-plan-3 = (c : After-outcomes3) → Relend.CountIs T60 23 24 (λ x. x) (λ u. 16384) (m43 (c .before) (c .outcomes3 .given))
+
+      abbrev pub m44 : (before : After-firsts3) → (given : s57 (before .before .before .before .before .before .before .before .before .before .before .before .before .before .before .blocks) .gives (m42 (before .before) (before .firsts3 .given))) → Typed.Mo T61
+      m44 = λ before given. s58 (before .before .before .before .before .before .before .before .before .before .before .before .before .before .before .blocks) .next (m43 before given)
+
+      abbrev pub m45 : (before : After-outcomes3) → (given : s60 (before .before .before .before .before .before .before .before .before .before .before .before .before .before .before .before .blocks) .gives (m44 (before .before) (before .outcomes3 .given))) → Typed.Mo T63
+      m45 = λ before given. s60 (before .before .before .before .before .before .before .before .before .before .before .before .before .before .before .before .blocks) .next (m44 (before .before) (before .outcomes3 .given)) given
+
+      abbrev pub m46 : (before : After-outcomes3) → (given : s60 (before .before .before .before .before .before .before .before .before .before .before .before .before .before .before .before .blocks) .gives (m44 (before .before) (before .outcomes3 .given))) → Typed.Mo T64
+      m46 = λ before given. s61 (before .before .before .before .before .before .before .before .before .before .before .before .before .before .before .before .blocks) .next (m45 before given)
+
+      module _ (before· : After-outcomes3) where
         pub record After-list-plan-arg·own : Type 0 where
-          pub given : s43 .gives (m30 (before· .before) (before· .known-told2 .given))
+          pub given : s60 (before· .before .before .before .before .before .before .before .before .before .before .before .before .before .before .before .blocks) .gives (m44 (before· .before) (before· .outcomes3 .given))
 
       pub record After-list-plan-arg : Type 0 where
-        pub before : After-known-told2
+        pub before : After-outcomes3
         pub list-plan-arg : After-list-plan-arg·own before
 
-      abbrev pub m33 : (before : After-list-plan-arg) → (given : s46 .gives (m32 (before .before) (before .list-plan-arg .given))) → Typed.Mo T49
-      m33 = λ before given. s46 .next (m32 (before .before) (before .list-plan-arg .given)) given
+      abbrev pub Need-list-plan-requires : Type 0
+      Need-list-plan-requires = (c : After-list-plan-arg) → s62 (c .before .before .before .before .before .before .before .before .before .before .before .before .before .before .before .before .blocks) .asks (m46 (c .before) (c .list-plan-arg .given))
 
-      abbrev pub m34 : (before : After-list-plan-arg) → (given : s46 .gives (m32 (before .before) (before .list-plan-arg .given))) → Typed.Mo T50
-      m34 = λ before given. s47 .next (m33 before given)
+      abbrev pub m47 : (before : After-list-plan-arg) → (given : s62 (before .before .before .before .before .before .before .before .before .before .before .before .before .before .before .before .before .blocks) .gives (m46 (before .before) (before .list-plan-arg .given))) → Typed.Mo T65
+      m47 = λ before given. s62 (before .before .before .before .before .before .before .before .before .before .before .before .before .before .before .before .before .blocks) .next (m46 (before .before) (before .list-plan-arg .given)) given
+
+      abbrev pub m48 : (before : After-list-plan-arg) → (given : s62 (before .before .before .before .before .before .before .before .before .before .before .before .before .before .before .before .before .blocks) .gives (m46 (before .before) (before .list-plan-arg .given))) → Typed.Mo T66
+      m48 = λ before given. s63 (before .before .before .before .before .before .before .before .before .before .before .before .before .before .before .before .before .blocks) (m47 before given)
+
+      abbrev pub m49 : (before : After-list-plan-arg) → (given : s62 (before .before .before .before .before .before .before .before .before .before .before .before .before .before .before .before .before .blocks) .gives (m46 (before .before) (before .list-plan-arg .given))) → Typed.Mo T67
+      m49 = λ before given. s64 (before .before .before .before .before .before .before .before .before .before .before .before .before .before .before .before .before .blocks) (m48 before given)
+
+      abbrev pub m50 : (before : After-list-plan-arg) → (given : s62 (before .before .before .before .before .before .before .before .before .before .before .before .before .before .before .before .before .blocks) .gives (m46 (before .before) (before .list-plan-arg .given))) → Typed.Mo T68
+      m50 = λ before given. s65 (before .before .before .before .before .before .before .before .before .before .before .before .before .before .before .before .before .blocks) (m49 before given)
+
+      abbrev pub m51 : (before : After-list-plan-arg) → (given : s62 (before .before .before .before .before .before .before .before .before .before .before .before .before .before .before .before .before .blocks) .gives (m46 (before .before) (before .list-plan-arg .given))) → Typed.Mo T69
+      m51 = λ before given. s66 (before .before .before .before .before .before .before .before .before .before .before .before .before .before .before .before .before .blocks) (m50 before given)
+
+      abbrev pub m52 : (before : After-list-plan-arg) → (given : s62 (before .before .before .before .before .before .before .before .before .before .before .before .before .before .before .before .before .blocks) .gives (m46 (before .before) (before .list-plan-arg .given))) → Typed.Mo T71
+      m52 = λ before given. s68 (before .before .before .before .before .before .before .before .before .before .before .before .before .before .before .before .before .blocks) (m51 before given)
+
+      abbrev pub m53 : (before : After-list-plan-arg) → (given : s62 (before .before .before .before .before .before .before .before .before .before .before .before .before .before .before .before .before .blocks) .gives (m46 (before .before) (before .list-plan-arg .given))) → Typed.Mo T73
+      m53 = λ before given. s70 (before .before .before .before .before .before .before .before .before .before .before .before .before .before .before .before .before .blocks) (m52 before given)
+
+      abbrev pub m54 : (before : After-list-plan-arg) → (given : s62 (before .before .before .before .before .before .before .before .before .before .before .before .before .before .before .before .before .blocks) .gives (m46 (before .before) (before .list-plan-arg .given))) → Typed.Mo T75
+      m54 = λ before given. s72 (before .before .before .before .before .before .before .before .before .before .before .before .before .before .before .before .before .blocks) (m53 before given)
+
+      abbrev pub m55 : (before : After-list-plan-arg) → (given : s62 (before .before .before .before .before .before .before .before .before .before .before .before .before .before .before .before .before .blocks) .gives (m46 (before .before) (before .list-plan-arg .given))) → Typed.Mo T77
+      m55 = λ before given. s74 (before .before .before .before .before .before .before .before .before .before .before .before .before .before .before .before .before .blocks) (m54 before given)
+
+      abbrev pub m56 : (before : After-list-plan-arg) → (given : s62 (before .before .before .before .before .before .before .before .before .before .before .before .before .before .before .before .before .blocks) .gives (m46 (before .before) (before .list-plan-arg .given))) → Typed.Mo T79
+      m56 = λ before given. s76 (before .before .before .before .before .before .before .before .before .before .before .before .before .before .before .before .before .blocks) (m55 before given)
+
+      abbrev pub m57 : (before : After-list-plan-arg) → (given : s62 (before .before .before .before .before .before .before .before .before .before .before .before .before .before .before .before .before .blocks) .gives (m46 (before .before) (before .list-plan-arg .given))) → Typed.Mo T81
+      m57 = λ before given. s78 (before .before .before .before .before .before .before .before .before .before .before .before .before .before .before .before .before .blocks) (m56 before given)
 
       module _ (before· : After-list-plan-arg) where
-        pub record After-list-plan-arg2·own : Type 0 where
-          pub given : s46 .gives (m32 (before· .before) (before· .list-plan-arg .given))
-
-      pub record After-list-plan-arg2 : Type 0 where
-        pub before : After-list-plan-arg
-        pub list-plan-arg2 : After-list-plan-arg2·own before
-
-      abbrev pub m35 : (before : After-list-plan-arg2) → (given : s49 .gives (m34 (before .before) (before .list-plan-arg2 .given))) → Typed.Mo T52
-      m35 = λ before given. s49 .next (m34 (before .before) (before .list-plan-arg2 .given)) given
-
-      abbrev pub m36 : (before : After-list-plan-arg2) → (given : s49 .gives (m34 (before .before) (before .list-plan-arg2 .given))) → Typed.Mo T53
-      m36 = λ before given. s50 .next (m35 before given)
-
-      module _ (before· : After-list-plan-arg2) where
-        pub record After-list-plan-arg3·own : Type 0 where
-          pub given : s49 .gives (m34 (before· .before) (before· .list-plan-arg2 .given))
-
-      pub record After-list-plan-arg3 : Type 0 where
-        pub before : After-list-plan-arg2
-        pub list-plan-arg3 : After-list-plan-arg3·own before
-
-      abbrev pub m37 : (before : After-list-plan-arg3) → (given : s52 .gives (m36 (before .before) (before .list-plan-arg3 .given))) → Typed.Mo T55
-      m37 = λ before given. s52 .next (m36 (before .before) (before .list-plan-arg3 .given)) given
-
-      abbrev pub m38 : (before : After-list-plan-arg3) → (given : s52 .gives (m36 (before .before) (before .list-plan-arg3 .given))) → Typed.Mo T56
-      m38 = λ before given. s53 .next (m37 before given)
-
-      module _ (before· : After-list-plan-arg3) where
-        pub record After-list-plan-arg4·own : Type 0 where
-          pub given : s52 .gives (m36 (before· .before) (before· .list-plan-arg3 .given))
-
-      pub record After-list-plan-arg4 : Type 0 where
-        pub before : After-list-plan-arg3
-        pub list-plan-arg4 : After-list-plan-arg4·own before
-
-      abbrev pub Need-list-plan-requires : Type 0
-      Need-list-plan-requires = (c : After-list-plan-arg4) → s54 .asks (m38 (c .before) (c .list-plan-arg4 .given))
-
-      abbrev pub m39 : (before : After-list-plan-arg4) → (given : s54 .gives (m38 (before .before) (before .list-plan-arg4 .given))) → Typed.Mo T57
-      m39 = λ before given. s54 .next (m38 (before .before) (before .list-plan-arg4 .given)) given
-
-      abbrev pub m40 : (before : After-list-plan-arg4) → (given : s54 .gives (m38 (before .before) (before .list-plan-arg4 .given))) → Typed.Mo T58
-      m40 = λ before given. s55 (m39 before given)
-
-      abbrev pub m41 : (before : After-list-plan-arg4) → (given : s54 .gives (m38 (before .before) (before .list-plan-arg4 .given))) → Typed.Mo T59
-      m41 = λ before given. s56 (m40 before given)
-
-      abbrev pub m42 : (before : After-list-plan-arg4) → (given : s54 .gives (m38 (before .before) (before .list-plan-arg4 .given))) → Typed.Mo T60
-      m42 = λ before given. s57 (m41 before given)
-
-      abbrev pub m43 : (before : After-list-plan-arg4) → (given : s54 .gives (m38 (before .before) (before .list-plan-arg4 .given))) → Typed.Mo T61
-      m43 = λ before given. s58 (m42 before given)
-
-      abbrev pub m44 : (before : After-list-plan-arg4) → (given : s54 .gives (m38 (before .before) (before .list-plan-arg4 .given))) → Typed.Mo T63
-      m44 = λ before given. s60 (m43 before given)
-
-      abbrev pub m45 : (before : After-list-plan-arg4) → (given : s54 .gives (m38 (before .before) (before .list-plan-arg4 .given))) → Typed.Mo T66
-      m45 = λ before given. s63 (m44 before given)
-
-      abbrev pub m46 : (before : After-list-plan-arg4) → (given : s54 .gives (m38 (before .before) (before .list-plan-arg4 .given))) → Typed.Mo T69
-      m46 = λ before given. s66 (m45 before given)
-
-      module _ (before· : After-list-plan-arg4) where
         abbrev pub After-list-plan·own : Type 0
-        After-list-plan·own = Called.Called ps·2 r·2 (claims· .5) T56 (record { pos = 8; st = List.[]; d = 0; at = λ x. x }, (record { pos = 19; ty = Syntax.tyRef Syntax.erased Syntax.imm (Memory.pointee (T.the-row .written)); ref = λ x. x }, (record { pos = 21; ty = Syntax.tyRef Syntax.erased Syntax.imm (Syntax.tyInt Syntax.w16); ref = λ x. x }, (record { pos = 23; ty = Syntax.tyRef Syntax.erased Syntax.imm (Syntax.tyInt Syntax.w16); ref = λ x. x }, (record { pos = 25; ty = Syntax.tyRef Syntax.erased Syntax.mut (Syntax.tyInt Syntax.w8); ref = λ x. x }, tt))))) (m38 (before· .before) (before· .list-plan-arg4 .given))
+        After-list-plan·own = Called.Called ps·2 r·2 (claims· .5) T64 (record { pos = 8; st = List.[]; d = 0; at = λ x. x }, (record { pos = 20; ty = Syntax.tyRef Syntax.erased Syntax.imm (Memory.pointee (T.the-row .written)); ref = λ x. x }, (record { pos = 22; ty = Syntax.tyRef Syntax.erased Syntax.imm (Syntax.tyInt Syntax.w16); ref = λ x. x }, (record { pos = 24; ty = Syntax.tyRef Syntax.erased Syntax.imm (Syntax.tyInt Syntax.w16); ref = λ x. x }, (record { pos = 26; ty = Syntax.tyRef Syntax.erased Syntax.mut (Syntax.tyInt Syntax.w8); ref = λ x. x }, tt))))) (m46 (before· .before) (before· .list-plan-arg .given))
 
       pub record After-list-plan : Type 0 where
-        pub before : After-list-plan-arg4
+        pub before : After-list-plan-arg
         pub list-plan : After-list-plan·own before
 
-      abbrev pub After-list-plan·gave : (c : After-list-plan) → s54 .gives (m38 (c .before .before) (c .before .list-plan-arg4 .given))
-      After-list-plan·gave = λ c. Called.given ps·2 r·2 (claims· .5) T56 (record { pos = 8; st = List.[]; d = 0; at = λ x. x }, (record { pos = 19; ty = Syntax.tyRef Syntax.erased Syntax.imm (Memory.pointee (T.the-row .written)); ref = λ x. x }, (record { pos = 21; ty = Syntax.tyRef Syntax.erased Syntax.imm (Syntax.tyInt Syntax.w16); ref = λ x. x }, (record { pos = 23; ty = Syntax.tyRef Syntax.erased Syntax.imm (Syntax.tyInt Syntax.w16); ref = λ x. x }, (record { pos = 25; ty = Syntax.tyRef Syntax.erased Syntax.mut (Syntax.tyInt Syntax.w8); ref = λ x. x }, tt))))) (m38 (c .before .before) (c .before .list-plan-arg4 .given)) (c .list-plan)
+      abbrev pub After-list-plan·gave : (c : After-list-plan) → s62 (c .before .before .before .before .before .before .before .before .before .before .before .before .before .before .before .before .before .blocks) .gives (m46 (c .before .before) (c .before .list-plan-arg .given))
+      After-list-plan·gave = λ c. Called.given ps·2 r·2 (claims· .5) T64 (record { pos = 8; st = List.[]; d = 0; at = λ x. x }, (record { pos = 20; ty = Syntax.tyRef Syntax.erased Syntax.imm (Memory.pointee (T.the-row .written)); ref = λ x. x }, (record { pos = 22; ty = Syntax.tyRef Syntax.erased Syntax.imm (Syntax.tyInt Syntax.w16); ref = λ x. x }, (record { pos = 24; ty = Syntax.tyRef Syntax.erased Syntax.imm (Syntax.tyInt Syntax.w16); ref = λ x. x }, (record { pos = 26; ty = Syntax.tyRef Syntax.erased Syntax.mut (Syntax.tyInt Syntax.w8); ref = λ x. x }, tt))))) (m46 (c .before .before) (c .before .list-plan-arg .given)) (c .list-plan)
 
-      abbrev pub m47 : (before : After-list-plan) → (given : s69 .gives (m46 (before .before) (After-list-plan·gave before))) → Typed.Mo T72
-      m47 = λ before given. s69 .next (m46 (before .before) (After-list-plan·gave before)) given
+      abbrev pub m58 : (before : After-list-plan) → (given : s80 (before .before .before .before .before .before .before .before .before .before .before .before .before .before .before .before .before .before .blocks) .gives (m57 (before .before) (After-list-plan·gave before))) → Typed.Mo T83
+      m58 = λ before given. s80 (before .before .before .before .before .before .before .before .before .before .before .before .before .before .before .before .before .before .blocks) .next (m57 (before .before) (After-list-plan·gave before)) given
 
       module _ (before· : After-list-plan) where
         pub record After-out2·own : Type 0 where
-          pub given : s69 .gives (m46 (before· .before) (After-list-plan·gave before·))
+          pub given : s80 (before· .before .before .before .before .before .before .before .before .before .before .before .before .before .before .before .before .before .blocks) .gives (m57 (before· .before) (After-list-plan·gave before·))
 
       pub record After-out2 : Type 0 where
         pub before : After-list-plan
         pub out2 : After-out2·own before
 
-      abbrev pub m48 : (before : After-out2) → (given : s70 .gives (m47 (before .before) (before .out2 .given))) → Typed.Mo T73
-      m48 = λ before given. s70 .next (m47 (before .before) (before .out2 .given)) given
+      abbrev pub m59 : (before : After-out2) → (given : s81 (before .before .before .before .before .before .before .before .before .before .before .before .before .before .before .before .before .before .before .blocks) .gives (m58 (before .before) (before .out2 .given))) → Typed.Mo T84
+      m59 = λ before given. s81 (before .before .before .before .before .before .before .before .before .before .before .before .before .before .before .before .before .before .before .blocks) .next (m58 (before .before) (before .out2 .given)) given
 
       module _ (before· : After-out2) where
-        pub record After-slice-known7·own : Type 0 where
-          pub given : s70 .gives (m47 (before· .before) (before· .out2 .given))
+        pub record After-slice-known3·own : Type 0 where
+          pub given : s81 (before· .before .before .before .before .before .before .before .before .before .before .before .before .before .before .before .before .before .before .blocks) .gives (m58 (before· .before) (before· .out2 .given))
 
-      pub record After-slice-known7 : Type 0 where
+      pub record After-slice-known3 : Type 0 where
         pub before : After-out2
-        pub slice-known7 : After-slice-known7·own before
+        pub slice-known3 : After-slice-known3·own before
 
-      abbrev pub m49 : (before : After-out) → (given : s36 .gives (m25 (before .before) (before .out .given))) → Typed.Mo T75
-      m49 = λ before given. s72 (m26 before given)
+      abbrev pub m60 : (before : After-out) → (given : s44 (before .before .before .before .before .before .before .before .before .before .before .before .before .before .before .before .blocks) .gives (m33 (before .before) (before .out .given))) → Typed.Mo T86
+      m60 = λ before given. s83 (before .before .before .before .before .before .before .before .before .before .before .before .before .before .before .before .blocks) (m34 before given)
 
-      abbrev pub m50 : (before : After-out) → (given : s36 .gives (m25 (before .before) (before .out .given))) → Typed.Mo T76
-      m50 = λ before given. s73 (m49 before given)
+      abbrev pub m61 : (before : After-out) → (given : s44 (before .before .before .before .before .before .before .before .before .before .before .before .before .before .before .before .blocks) .gives (m33 (before .before) (before .out .given))) → Typed.Mo T87
+      m61 = λ before given. s84 (before .before .before .before .before .before .before .before .before .before .before .before .before .before .before .before .blocks) (m60 before given)
 
       abbrev pub Need-same-length : Type 0
-      Need-same-length = (c : After-slice-known6) → MutSlice.SameLen (Row.get 2 (T76 .locals) (m50 (c .before) (c .slice-known6 .given))) (dens (c .before .before .before .before .before .before .before .before .before .before .before .before .before .before .before .before .before .before .before .before .κs) (c .before .before .before .before .before .before .before .before .before .before .before .before .before .before .before .before .before .before .before .before .args) .1 .0)
-
-      abbrev pub Need-same-length-2 : Type 0
-      Need-same-length-2 = (c : After-slice-known6) → MutSlice.SameLen (Row.get 3 (T76 .locals) (m50 (c .before) (c .slice-known6 .given))) (dens (c .before .before .before .before .before .before .before .before .before .before .before .before .before .before .before .before .before .before .before .before .κs) (c .before .before .before .before .before .before .before .before .before .before .before .before .before .before .before .before .before .before .before .before .args) .1 .1 .0)
-
-      abbrev pub Need-same-length-3 : Type 0
-      Need-same-length-3 = (c : After-slice-known6) → MutSlice.SameLen (Row.get 4 (T76 .locals) (m50 (c .before) (c .slice-known6 .given))) (dens (c .before .before .before .before .before .before .before .before .before .before .before .before .before .before .before .before .before .before .before .before .κs) (c .before .before .before .before .before .before .before .before .before .before .before .before .before .before .before .before .before .before .before .before .args) .1 .1 .1 .0)
-
-      abbrev pub Need-same-length-4 : Type 0
-      Need-same-length-4 = (c : After-slice-known6) → MutSlice.SameLen (Row.get 5 (T76 .locals) (m50 (c .before) (c .slice-known6 .given))) (dens (c .before .before .before .before .before .before .before .before .before .before .before .before .before .before .before .before .before .before .before .before .κs) (c .before .before .before .before .before .before .before .before .before .before .before .before .before .before .before .before .before .before .before .before .args) .1 .1 .1 .1 .0)
+      Need-same-length = (c : After-slice-known2) → MutSlice.SameLen (Row.get 2 (T87 .locals) (m61 (c .before) (c .slice-known2 .given))) (dens (c .before .before .before .before .before .before .before .before .before .before .before .before .before .before .before .before .κs) (c .before .before .before .before .before .before .before .before .before .before .before .before .before .before .before .before .args) .1 .0)
 
       abbrev pub Need-returns : Type 0
-      Need-returns = (c : After-slice-known6) → Post· (c .before .before .before .before .before .before .before .before .before .before .before .before .before .before .before .before .before .before .before .before .κs) (dens (c .before .before .before .before .before .before .before .before .before .before .before .before .before .before .before .before .before .before .before .before .κs) (c .before .before .before .before .before .before .before .before .before .before .before .before .before .before .before .before .before .before .before .before .args)) (Function.resV r (c .before .before .before .before .before .before .before .before .before .before .before .before .before .before .before .before .before .before .before .before .κs) (m50 (c .before) (c .slice-known6 .given) .0)) (Clauses.atExit (Kinds.endedOf 5 ps r) (c .before .before .before .before .before .before .before .before .before .before .before .before .before .before .before .before .before .before .before .before .κs) (dens (c .before .before .before .before .before .before .before .before .before .before .before .before .before .before .before .before .before .before .before .before .κs) (c .before .before .before .before .before .before .before .before .before .before .before .before .before .before .before .before .before .before .before .before .args)) (Enter.lastsP (c .before .before .before .before .before .before .before .before .before .before .before .before .before .before .before .before .before .before .before .before .κs) 1 ps xs (dens (c .before .before .before .before .before .before .before .before .before .before .before .before .before .before .before .before .before .before .before .before .κs) (c .before .before .before .before .before .before .before .before .before .before .before .before .before .before .before .before .before .before .before .before .args)) (m50 (c .before) (c .slice-known6 .given) .1)))
+      Need-returns = (c : After-slice-known2) → Post· (c .before .before .before .before .before .before .before .before .before .before .before .before .before .before .before .before .κs) (dens (c .before .before .before .before .before .before .before .before .before .before .before .before .before .before .before .before .κs) (c .before .before .before .before .before .before .before .before .before .before .before .before .before .before .before .before .args)) (Function.resV r (c .before .before .before .before .before .before .before .before .before .before .before .before .before .before .before .before .κs) (m61 (c .before) (c .slice-known2 .given) .0)) (Clauses.atExit (Kinds.endedOf 2 ps r) (c .before .before .before .before .before .before .before .before .before .before .before .before .before .before .before .before .κs) (dens (c .before .before .before .before .before .before .before .before .before .before .before .before .before .before .before .before .κs) (c .before .before .before .before .before .before .before .before .before .before .before .before .before .before .before .before .args)) (Enter.lastsP (c .before .before .before .before .before .before .before .before .before .before .before .before .before .before .before .before .κs) 1 ps xs (dens (c .before .before .before .before .before .before .before .before .before .before .before .before .before .before .before .before .κs) (c .before .before .before .before .before .before .before .before .before .before .before .before .before .before .before .before .args)) (m61 (c .before) (c .slice-known2 .given) .1)))
 
-      abbrev pub m51 : (before : After-out2) → (given : s70 .gives (m47 (before .before) (before .out2 .given))) → Typed.Mo T75
-      m51 = λ before given. s72 (m48 before given)
+      abbrev pub m62 : (before : After-out2) → (given : s81 (before .before .before .before .before .before .before .before .before .before .before .before .before .before .before .before .before .before .before .blocks) .gives (m58 (before .before) (before .out2 .given))) → Typed.Mo T86
+      m62 = λ before given. s83 (before .before .before .before .before .before .before .before .before .before .before .before .before .before .before .before .before .before .before .blocks) (m59 before given)
 
-      abbrev pub m52 : (before : After-out2) → (given : s70 .gives (m47 (before .before) (before .out2 .given))) → Typed.Mo T76
-      m52 = λ before given. s73 (m51 before given)
+      abbrev pub m63 : (before : After-out2) → (given : s81 (before .before .before .before .before .before .before .before .before .before .before .before .before .before .before .before .before .before .before .blocks) .gives (m58 (before .before) (before .out2 .given))) → Typed.Mo T87
+      m63 = λ before given. s84 (before .before .before .before .before .before .before .before .before .before .before .before .before .before .before .before .before .before .before .blocks) (m62 before given)
 
-      abbrev pub Need-same-length-5 : Type 0
-      Need-same-length-5 = (c : After-slice-known7) → MutSlice.SameLen (Row.get 2 (T76 .locals) (m52 (c .before) (c .slice-known7 .given))) (dens (c .before .before .before .before .before .before .before .before .before .before .before .before .before .before .before .before .before .before .before .before .before .before .before .κs) (c .before .before .before .before .before .before .before .before .before .before .before .before .before .before .before .before .before .before .before .before .before .before .before .args) .1 .0)
-
-      abbrev pub Need-same-length-6 : Type 0
-      Need-same-length-6 = (c : After-slice-known7) → MutSlice.SameLen (Row.get 3 (T76 .locals) (m52 (c .before) (c .slice-known7 .given))) (dens (c .before .before .before .before .before .before .before .before .before .before .before .before .before .before .before .before .before .before .before .before .before .before .before .κs) (c .before .before .before .before .before .before .before .before .before .before .before .before .before .before .before .before .before .before .before .before .before .before .before .args) .1 .1 .0)
-
-      abbrev pub Need-same-length-7 : Type 0
-      Need-same-length-7 = (c : After-slice-known7) → MutSlice.SameLen (Row.get 4 (T76 .locals) (m52 (c .before) (c .slice-known7 .given))) (dens (c .before .before .before .before .before .before .before .before .before .before .before .before .before .before .before .before .before .before .before .before .before .before .before .κs) (c .before .before .before .before .before .before .before .before .before .before .before .before .before .before .before .before .before .before .before .before .before .before .before .args) .1 .1 .1 .0)
-
-      abbrev pub Need-same-length-8 : Type 0
-      Need-same-length-8 = (c : After-slice-known7) → MutSlice.SameLen (Row.get 5 (T76 .locals) (m52 (c .before) (c .slice-known7 .given))) (dens (c .before .before .before .before .before .before .before .before .before .before .before .before .before .before .before .before .before .before .before .before .before .before .before .κs) (c .before .before .before .before .before .before .before .before .before .before .before .before .before .before .before .before .before .before .before .before .before .before .before .args) .1 .1 .1 .1 .0)
+      abbrev pub Need-same-length-2 : Type 0
+      Need-same-length-2 = (c : After-slice-known3) → MutSlice.SameLen (Row.get 2 (T87 .locals) (m63 (c .before) (c .slice-known3 .given))) (dens (c .before .before .before .before .before .before .before .before .before .before .before .before .before .before .before .before .before .before .before .κs) (c .before .before .before .before .before .before .before .before .before .before .before .before .before .before .before .before .before .before .before .args) .1 .0)
 
       abbrev pub Need-returns-2 : Type 0
-      Need-returns-2 = (c : After-slice-known7) → Post· (c .before .before .before .before .before .before .before .before .before .before .before .before .before .before .before .before .before .before .before .before .before .before .before .κs) (dens (c .before .before .before .before .before .before .before .before .before .before .before .before .before .before .before .before .before .before .before .before .before .before .before .κs) (c .before .before .before .before .before .before .before .before .before .before .before .before .before .before .before .before .before .before .before .before .before .before .before .args)) (Function.resV r (c .before .before .before .before .before .before .before .before .before .before .before .before .before .before .before .before .before .before .before .before .before .before .before .κs) (m52 (c .before) (c .slice-known7 .given) .0)) (Clauses.atExit (Kinds.endedOf 5 ps r) (c .before .before .before .before .before .before .before .before .before .before .before .before .before .before .before .before .before .before .before .before .before .before .before .κs) (dens (c .before .before .before .before .before .before .before .before .before .before .before .before .before .before .before .before .before .before .before .before .before .before .before .κs) (c .before .before .before .before .before .before .before .before .before .before .before .before .before .before .before .before .before .before .before .before .before .before .before .args)) (Enter.lastsP (c .before .before .before .before .before .before .before .before .before .before .before .before .before .before .before .before .before .before .before .before .before .before .before .κs) 1 ps xs (dens (c .before .before .before .before .before .before .before .before .before .before .before .before .before .before .before .before .before .before .before .before .before .before .before .κs) (c .before .before .before .before .before .before .before .before .before .before .before .before .before .before .before .before .before .before .before .before .before .before .before .args)) (m52 (c .before) (c .slice-known7 .given) .1)))
+      Need-returns-2 = (c : After-slice-known3) → Post· (c .before .before .before .before .before .before .before .before .before .before .before .before .before .before .before .before .before .before .before .κs) (dens (c .before .before .before .before .before .before .before .before .before .before .before .before .before .before .before .before .before .before .before .κs) (c .before .before .before .before .before .before .before .before .before .before .before .before .before .before .before .before .before .before .before .args)) (Function.resV r (c .before .before .before .before .before .before .before .before .before .before .before .before .before .before .before .before .before .before .before .κs) (m63 (c .before) (c .slice-known3 .given) .0)) (Clauses.atExit (Kinds.endedOf 2 ps r) (c .before .before .before .before .before .before .before .before .before .before .before .before .before .before .before .before .before .before .before .κs) (dens (c .before .before .before .before .before .before .before .before .before .before .before .before .before .before .before .before .before .before .before .κs) (c .before .before .before .before .before .before .before .before .before .before .before .before .before .before .before .before .before .before .before .args)) (Enter.lastsP (c .before .before .before .before .before .before .before .before .before .before .before .before .before .before .before .before .before .before .before .κs) 1 ps xs (dens (c .before .before .before .before .before .before .before .before .before .before .before .before .before .before .before .before .before .before .before .κs) (c .before .before .before .before .before .before .before .before .before .before .before .before .before .before .before .before .before .before .before .args)) (m63 (c .before) (c .slice-known3 .given) .1)))
 
-      module _ (read-requires : Need-read-requires) (enum-known-r : Need-enum-known-r) (put-refusal-requires : Need-put-refusal-requires) (enum-known-r-2 : Need-enum-known-r-2) (list-plan-requires : Need-list-plan-requires) (same-length : Need-same-length) (same-length-2 : Need-same-length-2) (same-length-3 : Need-same-length-3) (same-length-4 : Need-same-length-4) (returns : Need-returns) (same-length-5 : Need-same-length-5) (same-length-6 : Need-same-length-6) (same-length-7 : Need-same-length-7) (same-length-8 : Need-same-length-8) (returns-2 : Need-returns-2) where
-        lay3 : (c : After-slice-known7) → at39 (W0 (c .before .before .before .before .before .before .before .before .before .before .before .before .before .before .before .before .before .before .before .before .before .before .before .κs) (c .before .before .before .before .before .before .before .before .before .before .before .before .before .before .before .before .before .before .before .before .before .before .before .args)) (m48 (c .before) (c .slice-known7 .given))
-        lay3 = λ c. ((Path'.refl, (MutSlice.fix-len (Row.get 2 (T76 .locals) (m52 (c .before) (c .slice-known7 .given)) .ptr) (Row.get 2 (T76 .locals) (m52 (c .before) (c .slice-known7 .given)) .name) (Row.get 2 (T76 .locals) (m52 (c .before) (c .slice-known7 .given)) .now) (dens (c .before .before .before .before .before .before .before .before .before .before .before .before .before .before .before .before .before .before .before .before .before .before .before .κs) (c .before .before .before .before .before .before .before .before .before .before .before .before .before .before .before .before .before .before .before .before .before .before .before .args) .1 .0 .now) (same-length-5 record { before = c .before; slice-known7 = c .slice-known7 }), (MutSlice.fix-len (Row.get 3 (T76 .locals) (m52 (c .before) (c .slice-known7 .given)) .ptr) (Row.get 3 (T76 .locals) (m52 (c .before) (c .slice-known7 .given)) .name) (Row.get 3 (T76 .locals) (m52 (c .before) (c .slice-known7 .given)) .now) (dens (c .before .before .before .before .before .before .before .before .before .before .before .before .before .before .before .before .before .before .before .before .before .before .before .κs) (c .before .before .before .before .before .before .before .before .before .before .before .before .before .before .before .before .before .before .before .before .before .before .before .args) .1 .1 .0 .now) (same-length-6 record { before = c .before; slice-known7 = c .slice-known7 }), (MutSlice.fix-len (Row.get 4 (T76 .locals) (m52 (c .before) (c .slice-known7 .given)) .ptr) (Row.get 4 (T76 .locals) (m52 (c .before) (c .slice-known7 .given)) .name) (Row.get 4 (T76 .locals) (m52 (c .before) (c .slice-known7 .given)) .now) (dens (c .before .before .before .before .before .before .before .before .before .before .before .before .before .before .before .before .before .before .before .before .before .before .before .κs) (c .before .before .before .before .before .before .before .before .before .before .before .before .before .before .before .before .before .before .before .before .before .before .before .args) .1 .1 .1 .0 .now) (same-length-7 record { before = c .before; slice-known7 = c .slice-known7 }), (MutSlice.fix-len (Row.get 5 (T76 .locals) (m52 (c .before) (c .slice-known7 .given)) .ptr) (Row.get 5 (T76 .locals) (m52 (c .before) (c .slice-known7 .given)) .name) (Row.get 5 (T76 .locals) (m52 (c .before) (c .slice-known7 .given)) .now) (dens (c .before .before .before .before .before .before .before .before .before .before .before .before .before .before .before .before .before .before .before .before .before .before .before .κs) (c .before .before .before .before .before .before .before .before .before .before .before .before .before .before .before .before .before .before .before .before .before .before .before .args) .1 .1 .1 .1 .0 .now) (same-length-8 record { before = c .before; slice-known7 = c .slice-known7 }), tt))))), returns-2 record { before = c .before; slice-known7 = c .slice-known7 })
+      module _ (slice-aggregate-read : Need-slice-aggregate-read) (slice-aggregate-read-2 : Need-slice-aggregate-read-2) (slice-aggregate-read-3 : Need-slice-aggregate-read-3) (read-requires : Need-read-requires) (enum-known-r : Need-enum-known-r) (put-refusal-requires : Need-put-refusal-requires) (enum-known-r-2 : Need-enum-known-r-2) (slice-aggregate-list-plan : Need-slice-aggregate-list-plan) (slice-aggregate-list-plan-2 : Need-slice-aggregate-list-plan-2) (slice-aggregate-list-plan-3 : Need-slice-aggregate-list-plan-3) (list-plan-requires : Need-list-plan-requires) (same-length : Need-same-length) (returns : Need-returns) (same-length-2 : Need-same-length-2) (returns-2 : Need-returns-2) where
+        lay3 : (c : After-slice-known3) → at40 (c .before .before .before .before .before .before .before .before .before .before .before .before .before .before .before .before .before .before .before .blocks) (W0 (c .before .before .before .before .before .before .before .before .before .before .before .before .before .before .before .before .before .before .before .κs) (c .before .before .before .before .before .before .before .before .before .before .before .before .before .before .before .before .before .before .before .args) (c .before .before .before .before .before .before .before .before .before .before .before .before .before .before .before .before .before .before .before .blocks)) (m59 (c .before) (c .slice-known3 .given))
+        lay3 = λ c. ((Path'.refl, (MutSlice.fix-len (Row.get 2 (T87 .locals) (m63 (c .before) (c .slice-known3 .given)) .ptr) (Row.get 2 (T87 .locals) (m63 (c .before) (c .slice-known3 .given)) .name) (Row.get 2 (T87 .locals) (m63 (c .before) (c .slice-known3 .given)) .now) (dens (c .before .before .before .before .before .before .before .before .before .before .before .before .before .before .before .before .before .before .before .κs) (c .before .before .before .before .before .before .before .before .before .before .before .before .before .before .before .before .before .before .before .args) .1 .0 .now) (same-length-2 record { before = c .before; slice-known3 = c .slice-known3 }), tt)), returns-2 record { before = c .before; slice-known3 = c .slice-known3 })
 
-        lay2 : (c : After-slice-known6) → at39 (W0 (c .before .before .before .before .before .before .before .before .before .before .before .before .before .before .before .before .before .before .before .before .κs) (c .before .before .before .before .before .before .before .before .before .before .before .before .before .before .before .before .before .before .before .before .args)) (m26 (c .before) (c .slice-known6 .given))
-        lay2 = λ c. ((Path'.refl, (MutSlice.fix-len (Row.get 2 (T76 .locals) (m50 (c .before) (c .slice-known6 .given)) .ptr) (Row.get 2 (T76 .locals) (m50 (c .before) (c .slice-known6 .given)) .name) (Row.get 2 (T76 .locals) (m50 (c .before) (c .slice-known6 .given)) .now) (dens (c .before .before .before .before .before .before .before .before .before .before .before .before .before .before .before .before .before .before .before .before .κs) (c .before .before .before .before .before .before .before .before .before .before .before .before .before .before .before .before .before .before .before .before .args) .1 .0 .now) (same-length record { before = c .before; slice-known6 = c .slice-known6 }), (MutSlice.fix-len (Row.get 3 (T76 .locals) (m50 (c .before) (c .slice-known6 .given)) .ptr) (Row.get 3 (T76 .locals) (m50 (c .before) (c .slice-known6 .given)) .name) (Row.get 3 (T76 .locals) (m50 (c .before) (c .slice-known6 .given)) .now) (dens (c .before .before .before .before .before .before .before .before .before .before .before .before .before .before .before .before .before .before .before .before .κs) (c .before .before .before .before .before .before .before .before .before .before .before .before .before .before .before .before .before .before .before .before .args) .1 .1 .0 .now) (same-length-2 record { before = c .before; slice-known6 = c .slice-known6 }), (MutSlice.fix-len (Row.get 4 (T76 .locals) (m50 (c .before) (c .slice-known6 .given)) .ptr) (Row.get 4 (T76 .locals) (m50 (c .before) (c .slice-known6 .given)) .name) (Row.get 4 (T76 .locals) (m50 (c .before) (c .slice-known6 .given)) .now) (dens (c .before .before .before .before .before .before .before .before .before .before .before .before .before .before .before .before .before .before .before .before .κs) (c .before .before .before .before .before .before .before .before .before .before .before .before .before .before .before .before .before .before .before .before .args) .1 .1 .1 .0 .now) (same-length-3 record { before = c .before; slice-known6 = c .slice-known6 }), (MutSlice.fix-len (Row.get 5 (T76 .locals) (m50 (c .before) (c .slice-known6 .given)) .ptr) (Row.get 5 (T76 .locals) (m50 (c .before) (c .slice-known6 .given)) .name) (Row.get 5 (T76 .locals) (m50 (c .before) (c .slice-known6 .given)) .now) (dens (c .before .before .before .before .before .before .before .before .before .before .before .before .before .before .before .before .before .before .before .before .κs) (c .before .before .before .before .before .before .before .before .before .before .before .before .before .before .before .before .before .before .before .before .args) .1 .1 .1 .1 .0 .now) (same-length-4 record { before = c .before; slice-known6 = c .slice-known6 }), tt))))), returns record { before = c .before; slice-known6 = c .slice-known6 })
+        lay2 : (c : After-slice-known2) → at40 (c .before .before .before .before .before .before .before .before .before .before .before .before .before .before .before .before .blocks) (W0 (c .before .before .before .before .before .before .before .before .before .before .before .before .before .before .before .before .κs) (c .before .before .before .before .before .before .before .before .before .before .before .before .before .before .before .before .args) (c .before .before .before .before .before .before .before .before .before .before .before .before .before .before .before .before .blocks)) (m34 (c .before) (c .slice-known2 .given))
+        lay2 = λ c. ((Path'.refl, (MutSlice.fix-len (Row.get 2 (T87 .locals) (m61 (c .before) (c .slice-known2 .given)) .ptr) (Row.get 2 (T87 .locals) (m61 (c .before) (c .slice-known2 .given)) .name) (Row.get 2 (T87 .locals) (m61 (c .before) (c .slice-known2 .given)) .now) (dens (c .before .before .before .before .before .before .before .before .before .before .before .before .before .before .before .before .κs) (c .before .before .before .before .before .before .before .before .before .before .before .before .before .before .before .before .args) .1 .0 .now) (same-length record { before = c .before; slice-known2 = c .slice-known2 }), tt)), returns record { before = c .before; slice-known2 = c .slice-known2 })
 
-        lay1 : (c : After-read) → at40 (W0 (c .before .before .before .before .before .before .before .before .κs) (c .before .before .before .before .before .before .before .before .args)) (m11 (c .before) (After-read·gave c))
-        lay1 = λ c. (Path'.refl, λ g. (Path'.refl, λ g'. λ g''. (Path'.refl, λ g'3. λ g'4. (λ k. (enum-known-r record { before = record { before = record { before = record { before = record { before = record { before = record { before = c .before; read = c .read }; rows = record { given = g } }; firsts = record { given = g' } }; slice-known4 = record { given = g'' } }; outcomes = record { given = g'3 } }; slice-known5 = record { given = g'4 } }; match = record { keys1 = k } }, λ g'5. λ g'6. λ g'7. (Path'.refl, (put-refusal-requires record { before = record { before = record { before = record { before = record { before = record { before = record { before = record { before = record { before = record { before = c .before; read = c .read }; rows = record { given = g } }; firsts = record { given = g' } }; slice-known4 = record { given = g'' } }; outcomes = record { given = g'3 } }; slice-known5 = record { given = g'4 } }; match = record { keys1 = k } }; r = record { given = g'5 } }; known-told = record { given = g'6 } }; put-refusal-arg = record { given = g'7 } }, λ g'8. (Path'.refl, λ g'9. λ g'10. lay2 record { before = record { before = record { before = record { before = record { before = record { before = record { before = record { before = record { before = record { before = record { before = record { before = record { before = c .before; read = c .read }; rows = record { given = g } }; firsts = record { given = g' } }; slice-known4 = record { given = g'' } }; outcomes = record { given = g'3 } }; slice-known5 = record { given = g'4 } }; match = record { keys1 = k } }; r = record { given = g'5 } }; known-told = record { given = g'6 } }; put-refusal-arg = record { given = g'7 } }; put-refusal = Called.called ps·1 r·1 (claims· .3) T34 (record { pos = 17; ty = Syntax.tyRef Syntax.erased Syntax.mut (Syntax.tyInt Syntax.w8); ref = λ x. x }, (Num.vLit 0, (record { pos = 7; st = List.[]; d = 0; at = λ x. x }, tt))) (m22 record { before = record { before = record { before = record { before = record { before = record { before = record { before = record { before = record { before = c .before; read = c .read }; rows = record { given = g } }; firsts = record { given = g' } }; slice-known4 = record { given = g'' } }; outcomes = record { given = g'3 } }; slice-known5 = record { given = g'4 } }; match = record { keys1 = k } }; r = record { given = g'5 } }; known-told = record { given = g'6 } } g'7) g'8 }; out = record { given = g'9 } }; slice-known6 = record { given = g'10 } })))), (λ k. (enum-known-r-2 record { before = record { before = record { before = record { before = record { before = record { before = record { before = c .before; read = c .read }; rows = record { given = g } }; firsts = record { given = g' } }; slice-known4 = record { given = g'' } }; outcomes = record { given = g'3 } }; slice-known5 = record { given = g'4 } }; match = record { keys2 = k } }, λ g'11. λ g'12. λ g'13. (Path'.refl, λ g'14. (Path'.refl, λ g'15. (Path'.refl, λ g'16. (Path'.refl, (list-plan-requires record { before = record { before = record { before = record { before = record { before = record { before = record { before = record { before = record { before = record { before = record { before = record { before = record { before = c .before; read = c .read }; rows = record { given = g } }; firsts = record { given = g' } }; slice-known4 = record { given = g'' } }; outcomes = record { given = g'3 } }; slice-known5 = record { given = g'4 } }; match = record { keys2 = k } }; r2 = record { given = g'11 } }; known-told2 = record { given = g'12 } }; list-plan-arg = record { given = g'13 } }; list-plan-arg2 = record { given = g'14 } }; list-plan-arg3 = record { given = g'15 } }; list-plan-arg4 = record { given = g'16 } }, λ g'17. (Path'.refl, λ g'18. λ g'19. lay3 record { before = record { before = record { before = record { before = record { before = record { before = record { before = record { before = record { before = record { before = record { before = record { before = record { before = record { before = record { before = record { before = c .before; read = c .read }; rows = record { given = g } }; firsts = record { given = g' } }; slice-known4 = record { given = g'' } }; outcomes = record { given = g'3 } }; slice-known5 = record { given = g'4 } }; match = record { keys2 = k } }; r2 = record { given = g'11 } }; known-told2 = record { given = g'12 } }; list-plan-arg = record { given = g'13 } }; list-plan-arg2 = record { given = g'14 } }; list-plan-arg3 = record { given = g'15 } }; list-plan-arg4 = record { given = g'16 } }; list-plan = Called.called ps·2 r·2 (claims· .5) T56 (record { pos = 8; st = List.[]; d = 0; at = λ x. x }, (record { pos = 19; ty = Syntax.tyRef Syntax.erased Syntax.imm (Memory.pointee (T.the-row .written)); ref = λ x. x }, (record { pos = 21; ty = Syntax.tyRef Syntax.erased Syntax.imm (Syntax.tyInt Syntax.w16); ref = λ x. x }, (record { pos = 23; ty = Syntax.tyRef Syntax.erased Syntax.imm (Syntax.tyInt Syntax.w16); ref = λ x. x }, (record { pos = 25; ty = Syntax.tyRef Syntax.erased Syntax.mut (Syntax.tyInt Syntax.w8); ref = λ x. x }, tt))))) (m38 record { before = record { before = record { before = record { before = record { before = record { before = record { before = record { before = record { before = record { before = record { before = record { before = c .before; read = c .read }; rows = record { given = g } }; firsts = record { given = g' } }; slice-known4 = record { given = g'' } }; outcomes = record { given = g'3 } }; slice-known5 = record { given = g'4 } }; match = record { keys2 = k } }; r2 = record { given = g'11 } }; known-told2 = record { given = g'12 } }; list-plan-arg = record { given = g'13 } }; list-plan-arg2 = record { given = g'14 } }; list-plan-arg3 = record { given = g'15 } } g'16) g'17 }; out2 = record { given = g'18 } }; slice-known7 = record { given = g'19 } }))))))), Match.each-below 2 (λ j. (Unit {0} × (Run.OneOf (List._∷_ 1 List.[]) j → ⊥)) × (Run.OneOf (List._∷_ 0 List.[]) j → ⊥) → ⊥) (λ n. n .0 .1 Path'.refl, (λ n. n .1 Path'.refl, tt)) (Declared.tagOf ReadAnswer.the-type (Row.get 6 (T26 .locals) (m16 record { before = record { before = record { before = record { before = record { before = c .before; read = c .read }; rows = record { given = g } }; firsts = record { given = g' } }; slice-known4 = record { given = g'' } }; outcomes = record { given = g'3 } } g'4))) (Match.tag-small ReadAnswer.the-type (Row.get 6 (T26 .locals) (m16 record { before = record { before = record { before = record { before = record { before = c .before; read = c .read }; rows = record { given = g } }; firsts = record { given = g' } }; slice-known4 = record { given = g'' } }; outcomes = record { given = g'3 } } g'4))))))))
+        lay1 : (c : After-read) → at41 (c .before .before .before .before .before .before .blocks) (W0 (c .before .before .before .before .before .before .κs) (c .before .before .before .before .before .before .args) (c .before .before .before .before .before .before .blocks)) (m18 (c .before) (After-read·gave c))
+        lay1 = λ c. (Path'.refl, λ g. (Path'.refl, λ g'. (Path'.refl, λ g''. (λ k. (enum-known-r record { before = record { before = record { before = record { before = record { before = c .before; read = c .read }; rows2 = record { given = g } }; firsts2 = record { given = g' } }; outcomes2 = record { given = g'' } }; match = record { keys1 = k } }, λ g'3. λ g'4. λ g'5. (Path'.refl, (put-refusal-requires record { before = record { before = record { before = record { before = record { before = record { before = record { before = record { before = c .before; read = c .read }; rows2 = record { given = g } }; firsts2 = record { given = g' } }; outcomes2 = record { given = g'' } }; match = record { keys1 = k } }; r = record { given = g'3 } }; known-told = record { given = g'4 } }; put-refusal-arg = record { given = g'5 } }, λ g'6. (Path'.refl, λ g'7. λ g'8. lay2 record { before = record { before = record { before = record { before = record { before = record { before = record { before = record { before = record { before = record { before = record { before = c .before; read = c .read }; rows2 = record { given = g } }; firsts2 = record { given = g' } }; outcomes2 = record { given = g'' } }; match = record { keys1 = k } }; r = record { given = g'3 } }; known-told = record { given = g'4 } }; put-refusal-arg = record { given = g'5 } }; put-refusal = Called.called ps·1 r·1 (claims· .3) T42 (record { pos = 18; ty = Syntax.tyRef Syntax.erased Syntax.mut (Syntax.tyInt Syntax.w8); ref = λ x. x }, (Num.vLit 0, (record { pos = 7; st = List.[]; d = 0; at = λ x. x }, tt))) (m30 record { before = record { before = record { before = record { before = record { before = record { before = record { before = c .before; read = c .read }; rows2 = record { given = g } }; firsts2 = record { given = g' } }; outcomes2 = record { given = g'' } }; match = record { keys1 = k } }; r = record { given = g'3 } }; known-told = record { given = g'4 } } g'5) g'6 }; out = record { given = g'7 } }; slice-known2 = record { given = g'8 } })))), (λ k. (enum-known-r-2 record { before = record { before = record { before = record { before = record { before = c .before; read = c .read }; rows2 = record { given = g } }; firsts2 = record { given = g' } }; outcomes2 = record { given = g'' } }; match = record { keys2 = k } }, λ g'9. λ g'10. λ g'11. (Relend.count-is T54 19 20 (λ x. x) (λ u. 1024) (m39 record { before = record { before = record { before = record { before = record { before = record { before = record { before = c .before; read = c .read }; rows2 = record { given = g } }; firsts2 = record { given = g' } }; outcomes2 = record { given = g'' } }; match = record { keys2 = k } }; r2 = record { given = g'9 } }; known-told2 = record { given = g'10 } } g'11) (slice-aggregate-list-plan record { before = record { before = record { before = record { before = record { before = record { before = record { before = record { before = c .before; read = c .read }; rows2 = record { given = g } }; firsts2 = record { given = g' } }; outcomes2 = record { given = g'' } }; match = record { keys2 = k } }; r2 = record { given = g'9 } }; known-told2 = record { given = g'10 } }; rows3 = record { given = g'11 } }), λ g'12. (Relend.count-is T57 21 22 (λ x. x) (λ u. 4096) (m41 record { before = record { before = record { before = record { before = record { before = record { before = record { before = record { before = c .before; read = c .read }; rows2 = record { given = g } }; firsts2 = record { given = g' } }; outcomes2 = record { given = g'' } }; match = record { keys2 = k } }; r2 = record { given = g'9 } }; known-told2 = record { given = g'10 } }; rows3 = record { given = g'11 } } g'12) (slice-aggregate-list-plan-2 record { before = record { before = record { before = record { before = record { before = record { before = record { before = record { before = record { before = c .before; read = c .read }; rows2 = record { given = g } }; firsts2 = record { given = g' } }; outcomes2 = record { given = g'' } }; match = record { keys2 = k } }; r2 = record { given = g'9 } }; known-told2 = record { given = g'10 } }; rows3 = record { given = g'11 } }; firsts3 = record { given = g'12 } }), λ g'13. (Relend.count-is T60 23 24 (λ x. x) (λ u. 16384) (m43 record { before = record { before = record { before = record { before = record { before = record { before = record { before = record { before = record { before = c .before; read = c .read }; rows2 = record { given = g } }; firsts2 = record { given = g' } }; outcomes2 = record { given = g'' } }; match = record { keys2 = k } }; r2 = record { given = g'9 } }; known-told2 = record { given = g'10 } }; rows3 = record { given = g'11 } }; firsts3 = record { given = g'12 } } g'13) (slice-aggregate-list-plan-3 record { before = record { before = record { before = record { before = record { before = record { before = record { before = record { before = record { before = record { before = c .before; read = c .read }; rows2 = record { given = g } }; firsts2 = record { given = g' } }; outcomes2 = record { given = g'' } }; match = record { keys2 = k } }; r2 = record { given = g'9 } }; known-told2 = record { given = g'10 } }; rows3 = record { given = g'11 } }; firsts3 = record { given = g'12 } }; outcomes3 = record { given = g'13 } }), λ g'14. (Path'.refl, (list-plan-requires record { before = record { before = record { before = record { before = record { before = record { before = record { before = record { before = record { before = record { before = record { before = c .before; read = c .read }; rows2 = record { given = g } }; firsts2 = record { given = g' } }; outcomes2 = record { given = g'' } }; match = record { keys2 = k } }; r2 = record { given = g'9 } }; known-told2 = record { given = g'10 } }; rows3 = record { given = g'11 } }; firsts3 = record { given = g'12 } }; outcomes3 = record { given = g'13 } }; list-plan-arg = record { given = g'14 } }, λ g'15. (Path'.refl, λ g'16. λ g'17. lay3 record { before = record { before = record { before = record { before = record { before = record { before = record { before = record { before = record { before = record { before = record { before = record { before = record { before = record { before = c .before; read = c .read }; rows2 = record { given = g } }; firsts2 = record { given = g' } }; outcomes2 = record { given = g'' } }; match = record { keys2 = k } }; r2 = record { given = g'9 } }; known-told2 = record { given = g'10 } }; rows3 = record { given = g'11 } }; firsts3 = record { given = g'12 } }; outcomes3 = record { given = g'13 } }; list-plan-arg = record { given = g'14 } }; list-plan = Called.called ps·2 r·2 (claims· .5) T64 (record { pos = 8; st = List.[]; d = 0; at = λ x. x }, (record { pos = 20; ty = Syntax.tyRef Syntax.erased Syntax.imm (Memory.pointee (T.the-row .written)); ref = λ x. x }, (record { pos = 22; ty = Syntax.tyRef Syntax.erased Syntax.imm (Syntax.tyInt Syntax.w16); ref = λ x. x }, (record { pos = 24; ty = Syntax.tyRef Syntax.erased Syntax.imm (Syntax.tyInt Syntax.w16); ref = λ x. x }, (record { pos = 26; ty = Syntax.tyRef Syntax.erased Syntax.mut (Syntax.tyInt Syntax.w8); ref = λ x. x }, tt))))) (m46 record { before = record { before = record { before = record { before = record { before = record { before = record { before = record { before = record { before = record { before = c .before; read = c .read }; rows2 = record { given = g } }; firsts2 = record { given = g' } }; outcomes2 = record { given = g'' } }; match = record { keys2 = k } }; r2 = record { given = g'9 } }; known-told2 = record { given = g'10 } }; rows3 = record { given = g'11 } }; firsts3 = record { given = g'12 } }; outcomes3 = record { given = g'13 } } g'14) g'15 }; out2 = record { given = g'16 } }; slice-known3 = record { given = g'17 } }))))))), Match.each-below 2 (λ j. (Unit {0} × (Run.OneOf (List._∷_ 1 List.[]) j → ⊥)) × (Run.OneOf (List._∷_ 0 List.[]) j → ⊥) → ⊥) (λ n. n .0 .1 Path'.refl, (λ n. n .1 Path'.refl, tt)) (Declared.tagOf ReadAnswer.the-type (Row.get 6 (T31 .locals) (m21 record { before = record { before = record { before = c .before; read = c .read }; rows2 = record { given = g } }; firsts2 = record { given = g' } } g''))) (Match.tag-small ReadAnswer.the-type (Row.get 6 (T31 .locals) (m21 record { before = record { before = record { before = c .before; read = c .read }; rows2 = record { given = g } }; firsts2 = record { given = g' } } g''))))))))
 
-        pub laid : (c : Start) → at54 (W0 (c .κs) (c .args)) (m0 (c .κs) (c .args))
-        laid = λ c. λ g. λ g'. λ g''. λ g'3. λ g'4. (Path'.refl, λ g'5. (Path'.refl, λ g'6. (Path'.refl, (read-requires record { before = record { before = record { before = record { before = record { before = record { before = record { before = c; shared-slice-known = record { given = g } }; slice-known = record { given = g' } }; slice-known2 = record { given = g'' } }; slice-known3 = record { given = g'3 } }; read-arg = record { given = g'4 } }; read-arg2 = record { given = g'5 } }; read-arg3 = record { given = g'6 } }, λ g'7. lay1 record { before = record { before = record { before = record { before = record { before = record { before = record { before = record { before = c; shared-slice-known = record { given = g } }; slice-known = record { given = g' } }; slice-known2 = record { given = g'' } }; slice-known3 = record { given = g'3 } }; read-arg = record { given = g'4 } }; read-arg2 = record { given = g'5 } }; read-arg3 = record { given = g'6 } }; read = Called.called ps·0 r·0 (claims· .1) T14 (record { pos = 1; ty = Syntax.tyRef (Syntax.named 0) Syntax.imm (Syntax.tyInt Syntax.w8); ref = λ x. x }, (record { pos = 10; ty = Syntax.tyRef Syntax.erased Syntax.mut (Memory.pointee (T.the-row .written)); ref = λ x. x }, (record { pos = 12; ty = Syntax.tyRef Syntax.erased Syntax.mut (Syntax.tyInt Syntax.w16); ref = λ x. x }, (record { pos = 14; ty = Syntax.tyRef Syntax.erased Syntax.mut (Syntax.tyInt Syntax.w16); ref = λ x. x }, tt)))) (m10 record { before = record { before = record { before = record { before = record { before = record { before = c; shared-slice-known = record { given = g } }; slice-known = record { given = g' } }; slice-known2 = record { given = g'' } }; slice-known3 = record { given = g'3 } }; read-arg = record { given = g'4 } }; read-arg2 = record { given = g'5 } } g'6) g'7 }))))
+        pub laid : (c : Start) → at62 (c .blocks) (W0 (c .κs) (c .args) (c .blocks)) (m0 (c .κs) (c .args) (c .blocks))
+        laid = λ c. λ g. λ g'. λ g''. (Relend.count-is T14 10 11 (λ x. x) (λ u. 1024) (m12 record { before = record { before = c; shared-slice-known = record { given = g } }; slice-known = record { given = g' } } g'') (slice-aggregate-read record { before = record { before = record { before = c; shared-slice-known = record { given = g } }; slice-known = record { given = g' } }; rows = record { given = g'' } }), λ g'3. (Relend.count-is T17 12 13 (λ x. x) (λ u. 4096) (m14 record { before = record { before = record { before = c; shared-slice-known = record { given = g } }; slice-known = record { given = g' } }; rows = record { given = g'' } } g'3) (slice-aggregate-read-2 record { before = record { before = record { before = record { before = c; shared-slice-known = record { given = g } }; slice-known = record { given = g' } }; rows = record { given = g'' } }; firsts = record { given = g'3 } }), λ g'4. (Relend.count-is T20 14 15 (λ x. x) (λ u. 16384) (m16 record { before = record { before = record { before = record { before = c; shared-slice-known = record { given = g } }; slice-known = record { given = g' } }; rows = record { given = g'' } }; firsts = record { given = g'3 } } g'4) (slice-aggregate-read-3 record { before = record { before = record { before = record { before = record { before = c; shared-slice-known = record { given = g } }; slice-known = record { given = g' } }; rows = record { given = g'' } }; firsts = record { given = g'3 } }; outcomes = record { given = g'4 } }), (read-requires record { before = record { before = record { before = record { before = record { before = c; shared-slice-known = record { given = g } }; slice-known = record { given = g' } }; rows = record { given = g'' } }; firsts = record { given = g'3 } }; outcomes = record { given = g'4 } }, λ g'5. lay1 record { before = record { before = record { before = record { before = record { before = record { before = c; shared-slice-known = record { given = g } }; slice-known = record { given = g' } }; rows = record { given = g'' } }; firsts = record { given = g'3 } }; outcomes = record { given = g'4 } }; read = Called.called ps·0 r·0 (claims· .1) T21 (record { pos = 1; ty = Syntax.tyRef (Syntax.named 0) Syntax.imm (Syntax.tyInt Syntax.w8); ref = λ x. x }, (record { pos = 11; ty = Syntax.tyRef Syntax.erased Syntax.mut (Memory.pointee (T.the-row .written)); ref = λ x. x }, (record { pos = 13; ty = Syntax.tyRef Syntax.erased Syntax.mut (Syntax.tyInt Syntax.w16); ref = λ x. x }, (record { pos = 15; ty = Syntax.tyRef Syntax.erased Syntax.mut (Syntax.tyInt Syntax.w16); ref = λ x. x }, tt)))) (m17 record { before = record { before = record { before = record { before = c; shared-slice-known = record { given = g } }; slice-known = record { given = g' } }; rows = record { given = g'' } }; firsts = record { given = g'3 } } g'4) g'5 }))))
 
-        module _ (κs : Lifetimes.Lfts 5) (qs : Lifetimes.Shares 5) where
-          pub asked : (a : Kinds.Dens κs ps) → (good : Kinds.GoodsP κs ps a) → (pre : Pre· κs a) → (bs : List.List Nat.ℕ) → Φ (Any.wantQ 5 ps r xs m κs qs a (Post· κs a)) (Function.init 5 ps r xs m κs qs a)
-          asked = λ a good pre bs. laid record { κs = κs; args = record { file = a .0; rows = a .1 .0; firsts = a .1 .1 .0; outcomes = a .1 .1 .1 .0; out = a .1 .1 .1 .1 .0 }; good = good; pre = pre }
+        module _ (κs : Lifetimes.Lfts 2) (qs : Lifetimes.Shares 2) where
+          pub asked : (a : Kinds.Dens κs ps) → (good : Kinds.GoodsP κs ps a) → (pre : Pre· κs a) → (bs : List.List Nat.ℕ) → Φ bs (Any.wantQ 2 ps r xs m κs qs a (Post· κs a)) (Function.init 2 ps r xs m κs qs a)
+          asked = λ a good pre bs. laid record { κs = κs; args = record { file = a .0; out = a .1 .0 }; blocks = bs; good = good; pre = pre }
 
         module _ {M : Type 1} (𝓤 : URA.URA M) (H : Wp.Heap 𝓤) (A : Atoms.Atoms 𝓤) (W : Kit.Given 𝓤 H A) (𝓣 : Wp.Tables 𝓤 H) (known0 : Plain.Known 𝓤 H A W 𝓣 4 ps·0 r·0 (claims· .0) (claims· .1) "reading::read") (known1 : Plain.Known 𝓤 H A W 𝓣 1 ps·1 r·1 (claims· .2) (claims· .3) "listing_text::internal::put_refusal") (known2 : Plain.Known 𝓤 H A W 𝓣 4 ps·2 r·2 (claims· .4) (claims· .5) "listing::plan::list_plan") where
-          pub spec : Statement.Triple 𝓤 (Wp.WpFn 𝓤 H (𝓣 .C) (𝓣 .Λ) (Function.fnOf 5 ps r xs m hs body)) (Function.plainOf 𝓤 H A 5 ps r Pre· Post·)
-          spec = Plain.t-fn-plain 𝓤 H A W 𝓣 5 ps r xs m hs body (λ κs qs bs. Φ) (λ κs qs bs bd. typed κs qs 𝓤 H A W 𝓣 (known0, known1, known2) bs bd) Pre· Post· asked
+          pub spec : Statement.Triple 𝓤 (Wp.WpFn 𝓤 H (𝓣 .C) (𝓣 .Λ) (Function.fnOf 2 ps r xs m hs body)) (Function.plainOf 𝓤 H A 2 ps r Pre· Post·)
+          spec = Plain.t-fn-plain 𝓤 H A W 𝓣 2 ps r xs m hs body (λ κs qs bs. Φ bs) (λ κs qs bs bd. typed κs qs 𝓤 H A W 𝓣 (known0, known1, known2) bs bd) Pre· Post· asked

@@ -1,26 +1,21 @@
-// Reading by way of tables of the limits' lengths.
+// What was read, as bytes.
 ghost use mathlib.Core.Path.{_≡_};
 ghost use Prim.Native.Nat.{_*_, _<_, _≤_};
 ghost use lib.ListN.{length, take};
 ghost use Rattle.laws.specs.Lists.{overwrite};
-ghost use Rattle.model.specs.File.{maxStates, maxCommands, maxOutcomes};
-ghost use Rattle.model.specs.Boundary.{bytesFor, entryBytes, sizeBytes, sizeEntries, gateReadCall};
+ghost use Rattle.model.specs.Boundary.{bytesFor, entryBytes, sizeBytes, sizeEntries};
 ghost use Rattle.tables.specs.Meaning.{numbers};
 ghost use Rattle.reading.specs.Answers.{answerOf};
 ghost use Rattle.model.specs.Rooms.{readRoom};
-ghost use Rattle.gate_reading.specs.Lent.{admitted, afterGateRead};
+ghost use Rattle.gate_reading.specs.Lent.{admitted};
 use reading::ReadAnswer;
-use reading::read;
 use store::internal::store;
-use store::internal::store_rows;
 use store::internal::store_size;
 use tables::Refusal;
-use tables::Row;
 use tables::Size;
 use tables::internal::ENTRY_BYTES;
 use tables::internal::ROW_BYTES;
 use tables::internal::SIZE_BYTES;
-use tables::number;
 
 // Whether slices of these lengths have room for a plan.
 fn room(z: Size, size: usize, rows: usize, firsts: usize, outcomes: usize) -> bool
@@ -39,7 +34,13 @@ fn room(z: Size, size: usize, rows: usize, firsts: usize, outcomes: usize) -> bo
 }
 
 // Refusal 9 for a plan that slices of these lengths have no room for.
-fn admit(plan: ReadAnswer, size: usize, rows: usize, firsts: usize, outcomes: usize) -> ReadAnswer
+pub fn admit(
+    plan: ReadAnswer,
+    size: usize,
+    rows: usize,
+    firsts: usize,
+    outcomes: usize,
+) -> ReadAnswer
     ensures { λ r. ⌜ answerOf r ≡ admitted (answerOf plan) size rows firsts outcomes ⌝ }
 {
     let ReadAnswer::Given(z) = plan else {
@@ -52,7 +53,7 @@ fn admit(plan: ReadAnswer, size: usize, rows: usize, firsts: usize, outcomes: us
 }
 
 // Stores the size record, the first outcomes of the commands and the outcome entries.
-fn store_lists(
+pub fn store_lists(
     z: Size,
     commands: &[u16],
     entries: &[u16],
@@ -70,33 +71,4 @@ fn store_lists(
     store_size(z, size);
     store(commands, firsts, z.m);
     store(entries, outcomes, z.t);
-}
-
-// Reads a file by way of tables of the limits' lengths: the rows of states, the first outcomes of commands, the outcome entries.
-pub fn read_by(
-    file: &[u8],
-    states: &mut [Row],
-    commands: &mut [u16],
-    entries: &mut [u16],
-    size: &mut [u8],
-    rows: &mut [u8],
-    firsts: &mut [u8],
-    outcomes: &mut [u8],
-) -> u32
-    requires { ⌜ (maxStates ≤ length (now states)) × (maxCommands ≤ length (now commands)) × (maxOutcomes ≤ length (now entries)) ⌝ }
-    ensures call { λ r. ⌜
-        afterGateRead r (now (size .exit)) (now (rows .exit)) (now (firsts .exit)) (now (outcomes .exit))
-        ≡ gateReadCall (now (file .entry)) (now (size .entry)) (now (rows .entry)) (now (firsts .entry)) (now (outcomes .entry))
-        ⌝ }
-{
-    let plan = read(file, states, commands, entries);
-    let admitted = admit(plan, size.len(), rows.len(), firsts.len(), outcomes.len());
-    match admitted {
-        ReadAnswer::Refused(refusal) => number(refusal),
-        ReadAnswer::Given(z) => {
-            store_rows(states, rows, z.n);
-            store_lists(z, commands, entries, size, firsts, outcomes);
-            0
-        }
-    }
 }

@@ -1,7 +1,7 @@
 use borrow.Author.Tests.{lt-leb, le-leb}
 use mathlib.Core.Bool.{and-false}
-use Rattle.gate_reading.proofs.work.room.Statement.{statement}
-use Rattle.gate_reading.proofs.work.room.Tie as tie
+use Rattle.gate_reading.proofs.answers.room.Statement.{statement}
+use Rattle.gate_reading.proofs.answers.room.Tie as tie
 
 returns : tie.Need-returns
 returns c = rw (lt-leb _ _ (c .if1 .taken))

@@ -1,8 +1,8 @@
 use Rattle.laws.proofs.Loops.{stopped, passed}
 use Rattle.model.specs.Refusal.{need, _>>=_, _>>_}
 use borrow.Author.Needs.{needs}
-use Rattle.gate_reading.proofs.work.admit.Statement.{statement}
-use Rattle.gate_reading.proofs.work.admit.Tie as tie
+use Rattle.gate_reading.proofs.answers.admit.Statement.{statement}
+use Rattle.gate_reading.proofs.answers.admit.Tie as tie
 
 enum-known-plan : tie.Need-enum-known-plan
 enum-known-plan c = search needs
