@@ -4,9 +4,9 @@
  * A plan describes the works. It has n states, numbered from 0, one of which is the start. A state is
  * ordinary, failing or rest. In an ordinary state the controller may issue one of the state's commands,
  * numbered from 0 within the state; the works then land on one of the command's outcomes, and nobody can say
- * beforehand on which. The practice is the keeper's usual command in a state, or none. A state is lost if,
- * whatever is commanded, the works can bring about failure; else it is safe, and has a command that keeps it
- * so.
+ * beforehand on which. The practice is what the keeper usually commands in a state, if anything. A state is
+ * lost if, whatever is commanded, the works can bring about failure; else it is safe, and has a command that
+ * keeps it so.
  *
  *     gate_read     takes a plan file apart into tables
  *     gate_decide   judges every state of a plan, and chooses the commands
@@ -102,7 +102,7 @@ extern "C" {
 
 enum {
     GATE_OK = 0,
-    GATE_CUT = 1,       /* the file ends inside a field or before the end field */
+    GATE_CUT = 1,       /* the file ends before a field that is due does */
     GATE_SURPLUS = 2,   /* the file goes on after the end field */
     GATE_TAG = 3,       /* a field's tag is not the one due */
     GATE_LENGTH = 4,    /* a field's length is not allowed for its tag */
@@ -157,8 +157,8 @@ static inline const char *gate_refusal_text(uint32_t number)
  *   file      in    the whole file
  *   size      out   GATE_SIZE_BYTES: the entries n, m, t, start
  *   rows      out   GATE_ROWS_BYTES(n): for each state its kind, its first command and its practice
- *                   (GATE_NONE for none). A state's first command is the number of commands of all states
- *                   before it, also where it has none; its commands go on to the first command of the next
+ *                   (GATE_NONE for none). A state's first command is how many commands the states before it
+ *                   have, even if it has none itself; its commands go on to the first command of the next
  *                   state, those of the last state to m.
  *   firsts    out   GATE_FIRSTS_BYTES(m): for each command its first outcome, counted in the same way; the
  *                   last ends at t
@@ -190,8 +190,8 @@ uint32_t gate_read(const uint8_t *file, size_t file_length,
  *                   the works need to bring about failure against any way of commanding (0 for a failing
  *                   state)
  *   commands  out   GATE_STATES_BYTES(n): at a safe state with commands the command that keeps it safe: the
- *                   practice if it has no lost outcome, else the lowest-numbered command with none. Elsewhere
- *                   GATE_NONE.
+ *                   practice if none of its outcomes is lost, else the smallest number of a command of
+ *                   which that holds. GATE_NONE elsewhere.
  *   marks     out   GATE_STATES_BYTES(n): how the practice does: 0 holds, GATE_PRACTICE_FAILS, with
  *                   GATE_PRACTICE_FAULT added at a fault. Following the practice ends without failing where
  *                   there is none; a failing state has mark 1.

@@ -125,7 +125,7 @@ def ranks(plan):
 
 
 def choose(state, bad):
-    """The practice if it has no bad outcome, else the lowest-numbered command with none."""
+    """The practice if none of its outcomes is bad, else the smallest number of a command of which that holds."""
     order = ([state.practice] if state.practice != NONE else []) + list(range(len(state.commands)))
     for c in order:
         if not any(bad[o] for o in state.commands[c]):

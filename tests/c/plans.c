@@ -92,7 +92,7 @@ const struct plan plans[PLANS] = {
         .walked = { 1, NO },
     },
     {
-        .name = "0 to {1}, 1 to {2}, 2 failing",
+        .name = "0 leads to {1}, 1 to {2}, 2 fails",
         .file = { 1, 0, 4, 0, 3, 0, 0,
                   2, 0, 5, 0, 0, 1, 255, 255, 3, 0, 2, 0, 1,
                   2, 0, 5, 0, 0, 1, 255, 255, 3, 0, 2, 0, 2,

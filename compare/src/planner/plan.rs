@@ -28,7 +28,7 @@ pub struct Row {
     pub practice: u16,
 }
 
-/// The tables hold exactly n rows, m first outcomes and t outcomes.
+/// The tables are exactly as long as the counts of the size record say.
 #[derive(Clone, Copy)]
 pub struct Plan<'a> {
     pub size: Size,

@@ -24,7 +24,7 @@ oneIf b = cond b 1 0
 unfoldable pub markAt : Plan → (ℕ → Bool) → Bool → ℕ → ℕ
 markAt P L fails s = markOf fails (not (L s) && policyHits P L s)
 
--- the tally's columns: practice given and holding, given and failing, none
+-- rule V14: the tally's column, by whether there is a practice and whether it fails
 unfoldable pub columnOf : Bool → Bool → ℕ
 columnOf given fails = cond given (oneIf fails) 2
 

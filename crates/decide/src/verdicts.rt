@@ -84,7 +84,7 @@ fn one_if(b: bool) -> usize
     0
 }
 
-// 0 holds, 1 fails, with 2 added at a fault.
+// A state's practice mark (rule V13).
 fn mark_of(fails: bool, fault: bool) -> usize
     ensures { λ r. ⌜ r ≡ markOf fails fault ⌝ }
 {

@@ -6,7 +6,7 @@ use Rattle.model.specs.Tables.{Size as ModelSize}
 use Rattle.model.specs.Boundary.{AfterGateRead}
 use Rattle.model.specs.Rooms.{readRoom}
 
--- "A slice too short for such an answer is 9": the size record answered, if they have room
+-- rule G8: the size record answered, if they have room
 abbrev pub admitted : Answer ModelSize → ℕ → ℕ → ℕ → ℕ → Answer ModelSize
 admitted a size rows firsts outcomes = do
   z ← a

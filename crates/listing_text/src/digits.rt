@@ -1,4 +1,4 @@
-// Decimal digits, from a table of the pairs 00 to 99.
+// Decimal digits, copied in pairs out of a table (rule L5).
 ghost use mathlib.Core.List.{[], _∷_};
 ghost use mathlib.Core.Path.{_≡_};
 ghost use Prim.Native.Nat.{_+_, _*_, _<_, _≤_};

@@ -1,4 +1,4 @@
--- The starred bench plans, and case A's listing: what the definitions compute is what document 01 says.
+-- The bench plans of rules B3 to B12, and case A's listing: what the definitions compute is what the rules say.
 use mathlib.Core.Path.{_≡_, refl}
 use mathlib.Core.List.{map}
 use Rattle.laws.specs.Sets.{any, first, every, exists, orElse, lowest, found, howMany, grow}

@@ -1,5 +1,5 @@
--- Plans whose rounds tell when states become known: "all marked states become known at the round's end", and no others
--- (document 01, "Search from one start"; its wrong turn of "adding marks to the known set during a round, which alters the count").
+-- Plans whose rounds tell when states become known: those that a round marks, when it is over, and no others (rule S9; the wrong turn is
+-- rule B19).
 use mathlib.Core.Path.{_≡_, refl}
 use mathlib.Core.Bool.{true, false}
 use mathlib.Core.List.{[], _∷_, map}

@@ -61,17 +61,17 @@ case-a-search : gateSearchCall (tablesIn size rows firsts outcomes) 0 (lent 13) 
 unfolding any first every exists orElse lowest found howMany grow tabulate overwrite joined entry ordinary failing active terminal hasPolicy hits forced rank lost safe tryOrder choice chosen policyHits policyFails fault mark tallyRow tally lands next marked withoutMarks ends before atOnce inRounds search answer _>>=_ need _>>_ rowAt firstCommand commandCount listAt sizeSound tablesLong rowSound risesAt listSound entrySound listsSound sound stateAt treeOf stateOf planOf planIn rowsIn entriesIn entries tablesIn left deciding searching rankTable commandTable markTable resultTable cleared code gateDecide gateSearch tallyEntries resultEntries twos startOf
 case-a-search = refl
 
--- "Case A (94 bytes, hexadecimal)"
+-- rule L10
 case-a-length : length caseA ≡ 94
 case-a-length = refl
 
--- "One rest state (18 bytes)"
+-- rule B4
 one-rest-length : length oneRest ≡ 18
 one-rest-length = refl
 
 -- ---- a lost start
 
--- 0 to {1}, 1 to {2}, 2 failing
+-- the plan of rule B9
 abbrev chainIn : Answer Tables
 chainIn = tablesIn (0 ∷ 3 ∷ 0 ∷ 2 ∷ 0 ∷ 2 ∷ 0 ∷ 0 ∷ []) (0 ∷ 0 ∷ 0 ∷ 0 ∷ 255 ∷ 255 ∷ 0 ∷ 0 ∷ 0 ∷ 1 ∷ 255 ∷ 255 ∷ 0 ∷ 1 ∷ 0 ∷ 2 ∷ 255 ∷ 255 ∷ []) (0 ∷ 0 ∷ 0 ∷ 1 ∷ []) (0 ∷ 1 ∷ 0 ∷ 2 ∷ [])
 

@@ -54,7 +54,7 @@ write-unsound : writeCall (record { size = record { n = 1; m = 1; t = 1; start =
 unfolding answer left writing sizeSound sound need _>>_
 write-unsound = refl
 
--- "A file has 10 + 8n + 3m + 2t bytes.": case A, with its three counts 6, 6 and 9
+-- rule F8: case A, with its three counts 6, 6 and 9
 case-a-size : sizeLength (record { n = 6; m = 6; t = 9; start = 0 }) ≡ 94
 unfolding sizeLength
 case-a-size = refl

@@ -103,7 +103,7 @@ module _ (P : Plan) (K : ℕ → Bool) (s : ℕ) where
   order-words true p n = rw (first-lowest keeps n)
   order-words false p n = first-lowest keeps n
 
-  -- document 01's sentence: "the practice if it has no .. outcome" in K, "else the lowest-numbered command with none"
+  -- rules V6 and S4: the practice if it has no outcome in K, and otherwise the smallest number of a command that has none
   pub choice-words : active P s ≡ true
       → choice P K s
       ≡ cond (hasPolicy P s && not (hits P K s (P .policy s))) (some (P .policy s)) (lowest (λ c. not (hits P K s c)) (P .commands s))

@@ -1,4 +1,4 @@
--- A file has 10 + 8n + 3m + 2t bytes.
+-- The bytes of a tree are as many as rule F8 says, counted field by field.
 use mathlib.Core.Path.{_≡_, ap}
 use mathlib.Core.List.{List, [], _∷_}
 use Prim.Native.Nat.{ℕ, _+_, _*_}

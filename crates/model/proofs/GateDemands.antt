@@ -111,8 +111,7 @@ rounds-entry : (R : Result) (answer : List ℕ) → roundsIn (overwrite (bytesFo
 unfolding resultEntries overwrite twos
 rounds-entry R answer = be16-two (R .rounds) []
 
--- "The gate controller's C program calls reading, deciding and the search": of the bytes that each call leaves when it returns 0, on a plan
--- lent as bytes, whatever the slices held before
+-- rules G1 and D3: of the bytes that each call leaves when it returns 0, on a plan lent as bytes, whatever the slices held before
 module _ (lent : Answer Tables) (T : Tables) (is : lent ≡ given T) where
   pub gate-decide-demand3 : (ranks commands marks scratch tally : List ℕ) → gateDecideCall lent ranks commands marks scratch tally .returns ≡ 0
       → DecidingDemand3 T (entriesIn (gateDecideCall lent ranks commands marks scratch tally .ranks)) (entriesIn (gateDecideCall lent ranks commands marks scratch tally .commands))

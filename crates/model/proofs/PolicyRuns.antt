@@ -1,4 +1,4 @@
--- The practice is said to fail exactly where some run under it reaches a failing state.
+-- The practice is said to fail exactly from the states from which a run under it fails (rule V8).
 use mathlib.Core.Path.{_≡_, refl}
 use mathlib.Core.Bool.{Bool, true, false}
 use mathlib.Core.Logic.{⊎-elim, _↔_}

@@ -1,4 +1,4 @@
--- When each call refuses, and with what, in the order "10, then 11, then 9". That it refuses only then: OnlyRefused.antt.
+-- When each call refuses, and with what, in the order of rules E16 and E17. That it refuses only then: OnlyRefused.antt.
 use mathlib.Core.Path.{_≡_}
 use mathlib.Core.Bool.{Bool, true, false, _&&_}
 use mathlib.Core.Logic.{_⊎_, ⊎-elim}

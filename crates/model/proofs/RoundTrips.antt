@@ -43,8 +43,7 @@ module _ (file : List ℕ) (rows : List Row) (firsts outcomes : List ℕ) where
     };
   }))
 
-  -- "A plan file read without refusal and written again has the same bytes": they stand at the front of what was lent, and their
-  -- number is answered
+  -- rule D2c: the file's bytes stand at the front of what was lent, and their number is answered
   pub read-write : Bytes file → (z : Size) → readCall file rows firsts outcomes .answers ≡ given z
       → (bytes : List ℕ) → length file ≤ length bytes
       → writeCall (afterReading z file rows firsts outcomes) bytes ≡ record { answers = given (length file); bytes = overwrite file bytes }
@@ -67,7 +66,7 @@ front-is : (x : Answer (List ℕ)) (file bytes : List ℕ) (k : ℕ) → x ≡ g
 unfolding left
 front-is x file bytes k e count = rw (e, ← count) (take-overwrite file bytes)
 
--- "sound tables written and read again are the same tables": the file is what stands at the front of the bytes lent
+-- rule D2d: the file is what stands at the front of the bytes lent
 pub write-read : (T : Tables) (bytes : List ℕ) (k : ℕ) → writeCall T bytes .answers ≡ given k
     → (rows : List Row) (firsts outcomes : List ℕ) → T .size .n ≤ length rows → T .size .m ≤ length firsts → T .size .t ≤ length outcomes
     → (readCall (take k (writeCall T bytes .bytes)) rows firsts outcomes .answers ≡ given (T .size))

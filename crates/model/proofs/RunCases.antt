@@ -70,7 +70,7 @@ resting-under = ((tt, refl), refl)
 falling-not-under : Under turning falling → ⊥
 falling-not-under u = let q : _≡_ {A = Option ℕ} (some 1) (some 0) = u .1 in let e : _≡_ {A = ℕ} 1 0 = cc in omega (arith, e)
 
--- "FFFF being none": an entry, FFFF, and a place past the table
+-- rule R10: an entry, FFFF, and a place past the table
 entries-read : map (readEntry (0 ∷ FFFF ∷ [])) (0 ∷ 1 ∷ 2 ∷ []) ≡ some 0 ∷ none ∷ none ∷ []
 unfolding fromEntry readEntry
 entries-read = refl

@@ -1,4 +1,4 @@
--- "Entries are 16 bits wide.": what deciding and the search answer fits.
+-- What deciding and the search answer fits in 16 bits (rule T4).
 use mathlib.Core.Path.{_≡_, refl, sym, _∙_}
 use mathlib.Core.Bool.{Bool, true, false, cond}
 use mathlib.Core.Option.{Option, none, some}

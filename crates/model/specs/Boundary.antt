@@ -1,4 +1,4 @@
--- The calls of the gate controller's C program (document 01, "Refusal table"): numbers and byte slices.
+-- The calls for C (docs/SPECIFICATION.md, part G): numbers and byte slices.
 use mathlib.Core.Bool.{Bool, cond}
 use mathlib.Core.List.{List, [], _∷_, _++_}
 use Prim.Native.Nat.{ℕ, _+_, _*_, _/_}
@@ -38,7 +38,7 @@ answerBytes = 4
 
 -- ---- encodings
 
--- "An entry there is two bytes, highest first": the entries of a slice; a byte left over at its end is no entry
+-- rules G2 and G3: the entries of a slice; a byte left over at its end is no entry
 unfoldable pub entriesIn : List ℕ → List ℕ
 entriesIn s = entries (length s / entryBytes) s
 
@@ -46,7 +46,7 @@ entriesIn s = entries (length s / entryBytes) s
 abbrev pub bytesFor : List ℕ → List ℕ
 bytesFor es = twos es []
 
--- "and a row three entries": the row whose entries these are, by their places in it
+-- rule G2: the row whose entries these are, by their places in it
 abbrev pub rowFrom : (ℕ → ℕ) → Row
 rowFrom entry = record { kind = entry 0; first = entry 1; policy = entry 2 }
 
@@ -66,7 +66,7 @@ unfoldable pub rowEntries : List Row → List ℕ
 rowEntries [] = []
 rowEntries (w ∷ ws) = entriesOf w ++ rowEntries ws
 
--- "The size record is four entries (n, m, t, start)"
+-- rule G5: a size record
 unfoldable pub sizeEntries : Size → List ℕ
 sizeEntries z = z .n ∷ z .m ∷ z .t ∷ z .start ∷ []
 
@@ -74,11 +74,11 @@ sizeEntries z = z .n ∷ z .m ∷ z .t ∷ z .start ∷ []
 abbrev pub sizeIn : List ℕ → Size
 sizeIn s = record { n = be16 s 0; m = be16 s 2; t = be16 s 4; start = be16 s 6 }
 
--- "the tally six by rows"
+-- rule G6: a tally
 unfoldable pub tallyEntries : Plan → List ℕ
 tallyEntries P = joined (tally P)
 
--- "the search's answer two: 0 safe or 1 lost, then the rounds"
+-- rule G7: what the search answers
 unfoldable pub resultEntries : Bool × ℕ → List ℕ
 resultEntries (lost, rounds) = cond lost 1 0 ∷ rounds ∷ []
 
@@ -89,14 +89,14 @@ verdictIn s = eqb (be16 s 0) 1
 abbrev pub roundsIn : List ℕ → ℕ
 roundsIn s = be16 s 2
 
--- "Each call returns 0 or the refusal number."
+-- rule G4: what a call returns
 unfoldable pub code : {A : Type 0} → Answer A → ℕ
 code (given a) = 0
 code (refused r) = number r
 
 -- ---- the calls, on the slices lent in and the lengths in bytes of those written
 
--- the plan lent in: "one too short for the size record lent in is 10"
+-- the plan lent in; rule G9: it has a size record
 unfoldable pub tablesIn : List ℕ → List ℕ → List ℕ → List ℕ → Answer Tables
 tablesIn size rows firsts outcomes = do
   need Unsound (leb sizeBytes (length size))
@@ -107,8 +107,7 @@ tablesIn size rows firsts outcomes = do
     outcomes = entriesIn outcomes;
   })
 
--- "A slice too short for such an answer is 9": the library's call asks for room in the tables, so that only the size record, the tally and
--- the search's answer are new here
+-- rule G8: the library's call asks for room in the tables, so that only the size record, the tally and the search's answer are new here
 unfoldable pub gateRead : List ℕ → ℕ → ℕ → ℕ → ℕ → Answer Tables
 gateRead file size rows firsts outcomes = do
   T ← reading (rows / rowBytes) (firsts / entryBytes) (outcomes / entryBytes) file

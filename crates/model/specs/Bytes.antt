@@ -1,5 +1,4 @@
--- Writing a plan file (document 01, "Plan file"): "Fields: one-byte tag, two-byte length, value. All file numbers are unsigned,
--- highest byte first. Fields stand in this sequence.": head, states with their commands, end.
+-- Writing a plan file (docs/SPECIFICATION.md, rules F1 to F7): head, states with their commands, end.
 -- Each definition gives the bytes of its fields in front of further bytes r.
 use Prim.Native.Nat.{ℕ, _*_}
 use mathlib.Core.List.{List, [], _∷_}

@@ -1,4 +1,4 @@
--- What each call answers, and what it leaves in the tables it is lent (document 01, "Refusal table").
+-- What each call answers, and what it leaves in the tables it is lent (docs/SPECIFICATION.md, parts E and C).
 use mathlib.Core.Bool.{Bool, _&&_}
 use mathlib.Core.List.{List}
 use Prim.Native.Nat.{ℕ}
@@ -18,13 +18,12 @@ use Rattle.model.specs.Tables.{Size, Row, Tables, enough, tablesOf, file
 use Rattle.model.specs.SoundTest.{sound}
 use Rattle.model.specs.Held.{treeOf, planIn}
 
--- "A refusal returns its number only and every lent table is as it was. After an answer, places past those counts are
--- untouched": what a lent table holds after a call, where f gives what an answer writes to its first places
+-- rules C7 and E20: what a lent table holds after a call, where f gives what an answer writes to its first places
 unfoldable pub left : {A B : Type 0} → (A → List B) → Answer A → List B → List B
 left f (given a) table = overwrite (f a) table
 left f (refused r) table = table
 
--- "After the end field: 2, then 9." "Reading needs n rows, m first outcomes and t outcomes."
+-- rules C1 and E16: room is asked for when the file has been read to its end.
 -- Given are the tables that are filled; `readCall` has what is answered.
 unfoldable pub reading : ℕ → ℕ → ℕ → List ℕ → Answer Tables
 reading rows firsts outcomes file = do
@@ -32,7 +31,7 @@ reading rows firsts outcomes file = do
   need Cramped (enough (tablesOf p .size) rows firsts outcomes)
   given (tablesOf p)
 
--- "Other calls: 10, then 11, then 9." "writing needs the file's length".
+-- rules C2 and E17: the plan is sound, then there is room.
 -- Given are the file's bytes; `writeCall` has what is answered.
 unfoldable pub writing : Tables → ℕ → Answer (List ℕ)
 writing T bytes = do
@@ -40,7 +39,7 @@ writing T bytes = do
   need Cramped (leb (fileLength T) bytes)
   given (bytesOf (treeOf T))
 
--- "Deciding needs n places in each table of ranks .., commands .., practice marks .. and scratch"
+-- rules C3 and E17: the plan is sound, then there is room.
 -- Given is the plan that is decided; `decideCall` has what is answered.
 unfoldable pub deciding : Tables → ℕ → ℕ → ℕ → ℕ → Answer Plan
 deciding T ranks commands marks scratch = do
@@ -48,7 +47,7 @@ deciding T ranks commands marks scratch = do
   need Cramped (leb (T .size .n) ranks && leb (T .size .n) commands && leb (T .size .n) marks && leb (T .size .n) scratch)
   given (planIn T)
 
--- "the search needs n places in commands and scratch"
+-- rules C5 and E17: the plan is sound, then it has the start, then there is room.
 -- Given is all that the search finds; `searchCall` has what is answered.
 unfoldable pub searching : Tables → ℕ → ℕ → ℕ → Answer Result
 searching T start commands scratch = do
@@ -57,7 +56,7 @@ searching T start commands scratch = do
   need Cramped (leb (T .size .n) commands && leb (T .size .n) scratch)
   given (search (planIn T) start)
 
--- "ranks (FFFF for safe), commands (FFFF for none), practice marks"
+-- rule C4: the tables that deciding writes
 unfoldable pub rankTable : Plan → List ℕ
 rankTable P = tabulate (λ s. entry (rank P s)) 0 (P .states)
 
@@ -67,11 +66,11 @@ commandTable P = tabulate (λ s. entry (chosen P s)) 0 (P .states)
 unfoldable pub markTable : Plan → List ℕ
 markTable P = tabulate (mark P) 0 (P .states)
 
--- the search's command table, of n places
+-- rule S11: the search's command table, of n places
 unfoldable pub resultTable : ℕ → Result → List ℕ
 resultTable n R = tabulate (λ s. entry (R .command s)) 0 n
 
--- "scratch is zero in its first n places"
+-- rule C7: scratch after an answer
 unfoldable pub cleared : ℕ → List ℕ
 cleared n = replicate n 0
 
@@ -83,7 +82,7 @@ pub record AfterRead : Type 0 where
   pub firsts : List ℕ
   pub outcomes : List ℕ
 
--- "Reading answers the size record"
+-- rule C1: answered is the size record
 abbrev pub readCall : List ℕ → List Row → List ℕ → List ℕ → AfterRead
 readCall file rows firsts outcomes =
     let a = reading (length rows) (length firsts) (length outcomes) file in
@@ -104,7 +103,7 @@ pub record AfterWrite : Type 0 where
   pub answers : Answer ℕ
   pub bytes : List ℕ
 
--- "writing the file's length"
+-- rule C2: answered is how many bytes the file has
 abbrev pub writeCall : Tables → List ℕ → AfterWrite
 writeCall T bytes =
     let a = writing T (length bytes) in
@@ -117,7 +116,7 @@ pub record AfterDecide : Type 0 where
   pub marks : List ℕ
   pub scratch : List ℕ
 
--- "and answers the tally"
+-- rule C3: answered is the tally
 abbrev pub decideCall : Tables → List ℕ → List ℕ → List ℕ → List ℕ → AfterDecide
 decideCall T ranks commands marks scratch =
     let a = deciding T (length ranks) (length commands) (length marks) (length scratch) in
@@ -134,7 +133,7 @@ pub record AfterSearch : Type 0 where
   pub commands : List ℕ
   pub scratch : List ℕ
 
--- "The answer carries the verdict and the number of rounds"
+-- rule C5: answered are the verdict and the rounds
 abbrev pub searchCall : Tables → ℕ → List ℕ → List ℕ → AfterSearch
 searchCall T start commands scratch =
     let a = searching T start (length commands) (length scratch) in

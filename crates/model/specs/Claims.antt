@@ -30,7 +30,7 @@ use Rattle.model.specs.Boundary.{entriesIn, verdictIn, roundsIn, gateDec
 use Rattle.model.specs.Listing.{maxListing, listing}
 use Rattle.model.specs.Bench.{judged, benches, caseA, caseAListing}
 
--- ---- demand 1: each call answers, or is refused, exactly under the condition written for it
+-- ---- rule D1: each call answers, or is refused, exactly under the condition that part E has for it
 
 -- tables of so many places have too few for a plan of this size
 abbrev pub Short : Size → ℕ → ℕ → ℕ → Type 0
@@ -57,7 +57,7 @@ pub record Conditions : Type 0 where
       ↔ (((Sound T → ⊥) × (r ≡ Unsound)) ⊎ ((Sound T × (T .size .n ≤ start) × (r ≡ Stranger))
       ⊎ (Sound T × (start < T .size .n) × ((commands < T .size .n) ⊎ (scratch < T .size .n)) × (r ≡ Cramped))))
 
--- ---- demand 2: the definitions that compute say what the words say, and both round trips
+-- ---- rule D2: the definitions that compute say what the words say, and both round trips
 
 pub record Meanings : Type 0 where
   -- the test that the calls compute
@@ -75,22 +75,22 @@ pub record Meanings : Type 0 where
   -- some round is the last
   pub last-round : (T : Tables) → Sound T → (a : ℕ) → a < T .size .n → active (planIn T) a ≡ true
       → lowest (ends (planIn T) a) (T .size .n) ≡ some (before (planIn T) a)
-  -- a file that is read and written again has its own bytes; its length is the one that is written there
+  -- rule D2c: a file that is read and written again has its own bytes; its length is the one that is written there
   pub read-write : (file : List ℕ) (rows : List Row) (firsts outcomes : List ℕ) → Bytes file → (z : Size) → readCall file rows firsts outcomes .answers ≡ given z
       → (bytes : List ℕ) → length file ≤ length bytes
       → writeCall (afterReading z file rows firsts outcomes) bytes ≡ record { answers = given (length file); bytes = overwrite file bytes }
   pub file-length : (p : Tree) → length (bytesOf p) ≡ fileLength (tablesOf p)
-  -- sound tables that are written and read again, into tables that are long enough, are the same tables
+  -- rule D2d: a sound plan that is written and read again, into tables that are long enough, is the same
   pub write-read : (T : Tables) (bytes : List ℕ) → Sound T → fileLength T ≤ length bytes → (rows : List Row) (firsts outcomes : List ℕ)
       → T .size .n ≤ length rows → T .size .m ≤ length firsts → T .size .t ≤ length outcomes
       → let file = take (fileLength T) (writeCall T bytes .bytes) in
       (readCall file rows firsts outcomes .answers ≡ given (T .size)) × Same T (afterReading (T .size) file rows firsts outcomes)
-  -- the starred bench plans, and case A's listing
+  -- rules B1 and L11: the bench plans, and case A's listing
   pub bench-plans : map (λ b. judged (b .file)) benches ≡ map (λ b. b .says) benches
   pub case-A-listing : listing caseA ≡ caseAListing
   pub listing-length : (input : List ℕ) → length (listing input) ≤ maxListing
 
--- ---- demand 3: over all rules and whole runs, of the tables that the calls leave, and of the bytes that the C program's calls leave
+-- ---- rule D3: over all operating rules and whole runs, of the tables that the calls leave, and of the bytes that the C calls leave
 
 pub record Rules : Type 0 where
   pub decided : (T : Tables) (ranks commands marks scratch : List ℕ) (counts : List (List ℕ)) → let D = decideCall T ranks commands marks scratch in

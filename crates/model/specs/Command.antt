@@ -1,4 +1,4 @@
--- The command taken at a state (document 01, "Verdicts" and "Search from one start").
+-- The command taken at a state (docs/SPECIFICATION.md, parts V and S).
 use mathlib.Core.Bool.{Bool, not, cond}
 use mathlib.Core.List.{List, _∷_}
 use mathlib.Core.Option.{Option, none}
@@ -8,7 +8,7 @@ use Rattle.laws.specs.Lists.{tabulate}
 use Rattle.model.specs.Plan.{Plan, active, hasPolicy}
 use Rattle.model.specs.Verdict.{hits, lost, safe}
 
--- The order in which commands are tried: the practice, then the lowest-numbered first.
+-- The order in which commands are tried (rules V6, S4): the practice, then the lowest-numbered first.
 unfoldable pub tryOrder : Plan → ℕ → List ℕ
 tryOrder P s =
     let all = tabulate (λ c. c) 0 (P .commands s) in
@@ -18,7 +18,6 @@ tryOrder P s =
 unfoldable pub choice : Plan → (ℕ → Bool) → ℕ → Option ℕ
 choice P K s = cond (active P s) (first (λ c. not (hits P K s c)) (tryOrder P s)) none
 
--- "*Chosen command* at a safe ordinary state with commands: the practice if it has no lost outcome, else the
--- lowest-numbered command with none. Elsewhere there is none."
+-- rules V6 and V7: at a safe state the first command tried that has no lost outcome, and none at a lost one
 unfoldable pub chosen : Plan → ℕ → Option ℕ
 chosen P s = cond (safe P s) (choice P (lost P) s) none

@@ -1,4 +1,4 @@
--- Demand 3: one claim over all operating rules and whole runs, about the tables that are returned.
+-- Demand 3 (docs/SPECIFICATION.md, rules D3 and R11): one claim, of all operating rules and whole runs, about the tables that are returned.
 use mathlib.Core.Path.{_≡_}
 use mathlib.Core.Bool.{Bool, true}
 use mathlib.Core.List.{List}
@@ -21,28 +21,26 @@ use Rattle.model.specs.Calls.{decideCall, searchCall}
 unfoldable pub readEntry : List ℕ → ℕ → Option ℕ
 readEntry table s = fromEntry (getD table s FFFF)
 
--- What deciding's two tables say of the state s. "Deciding *calls* a state lost by a rank other than FFFF, and that entry is
--- the r of demand 3. The *returned commands* are its command table read as a rule: the entry at the present state, FFFF being none."
+-- What deciding's two tables say of the state s: rule R9 of its entry in the ranks, and rule R10 of the command table.
 pub record Decided (P : Plan) (ranks commands : List ℕ) (s : ℕ) : Type 0 where
-  -- "However much operating rules remember of the run so far, a state of a sound plan is called lost exactly when every rule that
-  -- commands wherever a command exists has a run from it into failure." Of a sound plan: the calls refuse every other.
+  -- rule D3a: it is called lost if and only if each total rule fails from it. The plan is sound: the calls refuse every other.
   pub lost-iff : (found (readEntry ranks s) ≡ true) ↔ ((ρ : Strategy) → Total P s ρ → Fails P s ρ)
-  -- "From every other state the returned commands, which look at the present state alone, are such a rule, .."
+  -- rule D3b: else the returned commands are a total rule
   pub returned : readEntry ranks s ≡ none → Total P s (positional (readEntry commands) s)
-  -- ".. and no run under them fails, however long it is and whichever outcomes the works give."
+  -- rule D3c: and survive every run
   pub holds : readEntry ranks s ≡ none → Survives P s (positional (readEntry commands) s) (λ w. Unit {0})
-  -- "Against any such rule a lost state of rank r has a failing run of at most r moves, .."
+  -- rule D3d: each total rule fails within r moves
   pub within : (r : ℕ) → readEntry ranks s ≡ some r → (ρ : Strategy) → Total P s ρ → (f : Fails P s ρ) × (moves (f .run) ≤ r)
-  -- ".. and for r above 0 some such rule survives every run of at most r - 1 moves."
+  -- rule D3e: and some total rule survives all shorter runs
   pub delays : (r : ℕ) → readEntry ranks s ≡ some r → 0 < r → (ρ : Strategy) × Total P s ρ × Survives P s ρ (λ w. moves w ≤ r - 1)
 
 -- What the search from a answers (its verdict, its rounds and its command table), beside deciding's tables.
 pub record Searched (P : Plan) (ranks commands : List ℕ) (a : ℕ) (verdict : Bool) (rounds : ℕ) (table : List ℕ) : Type 0 where
-  -- "Whatever state it starts from, the search gives that state's verdict .."
+  -- rule D3f: the verdict is deciding's
   pub same-verdict : verdict ≡ found (readEntry ranks a)
-  -- ".. and, when safe, the chosen command at each state its last walk reaches": "the entry .. with deciding's .., FFFF included"
+  -- rules D3g and S12: where the last walk comes, the command entries are deciding's, FFFF too
   pub same-commands : readEntry ranks a ≡ none → (s : ℕ) → search P a .reached s ≡ true → getD table s FFFF ≡ getD commands s FFFF
-  -- ".. and it reports no more rounds than there are ordinary states."
+  -- rule D3h: the rounds have a bound
   pub few-rounds : rounds ≤ ordinaries P
 
 -- Demand 3 whole: of every state of the plan, and of a search from a.

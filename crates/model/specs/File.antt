@@ -1,5 +1,4 @@
--- Reading a plan file (document 01, "Plan file" and "Refusal table"), in the document's order of checks:
--- "Reading goes field by field. In each: three bytes present (1), tag (3), length (4), value present (1)."
+-- Reading a plan file (docs/SPECIFICATION.md, parts F and E), in the order of tests of rules E12 to E16.
 -- Every definition is on the bytes from its field on.
 use Prim.Native.Nat.{ℕ, zero, suc, _+_, _*_, _/_, _%_}
 use mathlib.Core.Bool.{Bool, cond, _&&_, _||_}
@@ -9,7 +8,7 @@ use lib.Dec.{leb, ltb, eqb}
 use Rattle.laws.specs.Entry.{be16, FFFF}
 use Rattle.model.specs.Refusal.{Cut, Surplus, Tag, Length, Beyond, Unsorted, Idle, Limit, Answer, given, need, _>>=_, _>>_}
 
--- "Limits: n from 1 to 1,024; at most m = 4,096 commands and t = 16,384 outcome entries in the plan."
+-- rule P6: the most states, commands and outcomes that a plan may have
 abbrev pub maxStates : ℕ
 maxStates = 1024
 
@@ -42,7 +41,7 @@ pub record Tree : Type 0 where
   pub start : ℕ
   pub states : List State
 
--- the tags
+-- the tags (rules F4 to F7)
 abbrev pub headTag : ℕ
 headTag = 1
 
@@ -55,14 +54,14 @@ commandTag = 3
 abbrev pub endTag : ℕ
 endTag = 4
 
--- the lengths that the table of fields allows: head 4, state 5, end 0; a command's is "even, at least 2"
+-- the lengths that rules F4 to F7 allow: head 4, state 5, end 0; a command's is even and not 0
 abbrev pub fixedLength : ℕ → ℕ
 fixedLength tag = cond (eqb tag headTag) 4 (cond (eqb tag stateTag) 5 0)
 
 abbrev pub allowed : ℕ → ℕ → Bool
 allowed tag len = cond (eqb tag commandTag) (eqb (len % 2) 0 && leb 2 len) (eqb len (fixedLength tag))
 
--- a field with the tag that is due: its length
+-- rule E12: a field with the tag that is due, and its length
 unfoldable pub field : ℕ → List ℕ → Answer ℕ
 field tag s = do
   need Cut (leb 3 (length s))
@@ -71,7 +70,7 @@ field tag s = do
   need Cut (leb (3 + be16 s 1) (length s))
   given (be16 s 1)
 
--- "head: 5": n and the start
+-- rule E13: n and the start
 unfoldable pub head : List ℕ → Answer (ℕ × ℕ)
 head s = do
   _ ← field headTag s
@@ -79,7 +78,7 @@ head s = do
   need Beyond (ltb (be16 s 5) (be16 s 3))
   given (be16 s 3, be16 s 5)
 
--- no "commands under kind 1 or 2", and no "practice neither FFFF nor below the count"
+-- rule E7 does not apply: only an ordinary state has commands, and a practice is FFFF or one of them
 abbrev pub notIdle : StateField → Bool
 notIdle q = (eqb (q .kind) 0 || eqb (q .count) 0) && (eqb (q .policy) FFFF || ltb (q .policy) (q .count))
 
@@ -87,7 +86,7 @@ notIdle q = (eqb (q .kind) 0 || eqb (q .count) 0) && (eqb (q .policy) FFFF || lt
 abbrev pub stateValues : List ℕ → StateField
 stateValues s = record { kind = getD s 3 0; count = be16 s 4; policy = be16 s 6 }
 
--- "State: kind (5), 7, commands (8)", with m commands so far
+-- rule E14: a state field, with m commands so far
 unfoldable pub state : ℕ → List ℕ → Answer StateField
 state m s = do
   _ ← field stateTag s
@@ -101,7 +100,7 @@ unfoldable pub entries : ℕ → List ℕ → List ℕ
 entries zero s = []
 entries (suc k) s = be16 s 0 ∷ entries k (drop 2 s)
 
--- "each entry in turn, 5 before 6": it is below n, and at least `low`, one more than the entry before
+-- rule E15: each outcome is below n, and at least `low`, one more than the outcome before
 unfoldable pub rising : ℕ → ℕ → List ℕ → Answer (Unit {0})
 rising n low [] = given tt
 rising n low (o ∷ os) = do
@@ -109,7 +108,7 @@ rising n low (o ∷ os) = do
   need Unsorted (leb low o)
   rising n (o + 1) os
 
--- "Command: outcomes (8), then each entry in turn", with t outcomes so far: its outcomes
+-- rule E15: a command field, with t outcomes so far: its outcomes
 unfoldable pub command : ℕ → ℕ → List ℕ → Answer (List ℕ)
 command n t s = do
   len ← field commandTag s
@@ -125,8 +124,7 @@ commands n (suc k) t s = do
   (cs, t₁, s₁) ← commands n k (t + length os) (drop (3 + length os * 2) s)
   given (os ∷ cs, t₁, s₁)
 
--- "One state field per state in number order, each followed by exactly its count of command fields.":
--- k states, with m commands and t outcomes so far, and the bytes after them
+-- rule F3: k states, each with its commands, with m commands and t outcomes so far, and the bytes after them
 unfoldable pub states : ℕ → ℕ → ℕ → ℕ → List ℕ → Answer (List State × List ℕ)
 states n zero m t s = given ([], s)
 states n (suc k) m t s = do
@@ -135,7 +133,7 @@ states n (suc k) m t s = do
   (ss, s₂) ← states n k (m + q .count) t₁ s₁
   given (stateFrom q cs ∷ ss, s₂)
 
--- a file; "After the end field: 2"
+-- rule F3: a file; rule E16: nothing is behind the end
 unfoldable pub read : List ℕ → Answer Tree
 read s = do
   (n, start) ← head s

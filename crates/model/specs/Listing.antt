@@ -1,4 +1,4 @@
--- The text that the listing program prints (document 01, "The listing program"), as bytes.
+-- The text that the listing program prints (docs/SPECIFICATION.md, part L), as bytes.
 use mathlib.Core.Bool.{Bool, cond}
 use mathlib.Core.List.{List, [], _∷_, _++_}
 use mathlib.Core.Option.{Option, none, some}
@@ -16,7 +16,7 @@ use Rattle.model.specs.File.{Tree, read}
 use Rattle.model.specs.Tables.{Size, tablesOf}
 use Rattle.model.specs.Held.{planOf}
 
--- ---- numbers: "Decimal digits, without leading zeros, are taken from a table of the pairs 00 to 99."
+-- ---- numbers (rule L5)
 
 -- the digits of i, below 100, in two bytes
 unfoldable pub digitPair : ℕ → List ℕ
@@ -38,60 +38,60 @@ digits (suc k) x =
 unfoldable pub decimal : ℕ → List ℕ
 decimal x = digits 3 x
 
--- ---- lines: words with a space between them; "Lines end in byte 10."
+-- ---- lines (rule L4): words with a space between them, and byte 10
 
 unfoldable pub line : List (List ℕ) → List ℕ
 line [] = 10 ∷ []
 line (w ∷ []) = w ++ 10 ∷ []
 line (w ∷ v ∷ ws) = w ++ 32 ∷ line (v ∷ ws)
 
--- "A refusal prints `refused`, a space and the number."
+-- rule L3: the line of a refusal
 unfoldable pub refusalText : Refusal → List ℕ
 refusalText r =
     let refusedWord : List ℕ = 114 ∷ 101 ∷ 102 ∷ 117 ∷ 115 ∷ 101 ∷ 100 ∷ [] in
     line (refusedWord ∷ decimal (number r) ∷ [])
 
--- "kind o, f or r"
+-- rule L7: o, f or r
 unfoldable pub kindLetter : ℕ → List ℕ
 kindLetter kind = cond (eqb kind 0) 111 (cond (eqb kind 1) 102 114) ∷ []
 
--- "S safe or L lost"
+-- rules L7 and L9: S or L
 unfoldable pub verdictLetter : Bool → List ℕ
 verdictLetter isLost = cond isLost 76 83 ∷ []
 
--- "rank or -; chosen command or -"
+-- rule L7: a number, and - where there is none
 unfoldable pub numberOrDash : Option ℕ → List ℕ
 numberOrDash none = 45 ∷ []
 numberOrDash (some x) = decimal x
 
--- "practice H holds or F fails"
+-- rule L7: H or F
 unfoldable pub policyLetter : Bool → List ℕ
 policyLetter fails = cond fails 70 72 ∷ []
 
--- "! fault or . none"
+-- rule L7: ! at a fault
 unfoldable pub faultSign : Bool → List ℕ
 faultSign isFault = cond isFault 33 46 ∷ []
 
--- "First line: n, m, t."
+-- rule L6
 unfoldable pub planLine : Size → List ℕ
 planLine z =
     let planWord : List ℕ = 112 ∷ 108 ∷ 97 ∷ 110 ∷ [] in
     line (planWord ∷ decimal (z .n) ∷ decimal (z .m) ∷ decimal (z .t) ∷ [])
 
--- "State lines: number; kind ..; S safe or L lost; rank or -; chosen command or -; practice ..; ! fault or . none."
+-- rule L7
 unfoldable pub stateLine : Plan → ℕ → List ℕ
 stateLine P s =
     line (decimal s ∷ kindLetter (P .kind s) ∷ verdictLetter (lost P s) ∷ numberOrDash (rank P s) ∷ numberOrDash (chosen P s)
     ∷ policyLetter (policyFails P s) ∷ faultSign (fault P s) ∷ [])
 
--- the tally's rows with a slash between them
+-- rule L8: the tally's rows with a slash between them
 unfoldable pub tallyLine : List (List ℕ) → List ℕ
 tallyLine rows =
     let tallyWord : List ℕ = 116 ∷ 97 ∷ 108 ∷ 108 ∷ 121 ∷ [] in
     let at : ℕ → ℕ → List ℕ = λ r c. decimal (getD (getD rows r []) c 0) in
     line (tallyWord ∷ at 0 0 ∷ at 0 1 ∷ at 0 2 ∷ (47 ∷ []) ∷ at 1 0 ∷ at 1 1 ∷ at 1 2 ∷ [])
 
--- "Last: start, verdict, rounds."; "the listing takes the plan's own" start
+-- rule L9: the search is from the plan's own start
 unfoldable pub startLine : ℕ → Result → List ℕ
 startLine start R =
     let startWord : List ℕ = 115 ∷ 116 ∷ 97 ∷ 114 ∷ 116 ∷ [] in
@@ -106,7 +106,7 @@ unfoldable pub answerText : Answer Tree → List ℕ
 answerText (given p) = planText p
 answerText (refused r) = refusalText r
 
--- "Input above 65,536 bytes is refusal 8 before all else."
+-- rule L2: as many bytes of input are read
 abbrev pub maxInput : ℕ
 maxInput = 65536
 

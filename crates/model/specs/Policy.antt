@@ -1,4 +1,4 @@
--- The keeper's practice judged (document 01, "Verdicts").
+-- The keeper's practice judged (docs/SPECIFICATION.md, part V).
 use mathlib.Core.Bool.{Bool, not, cond, _&&_}
 use mathlib.Core.List.{List, [], _∷_}
 use mathlib.Core.Option.{Option, none, some}
@@ -7,7 +7,7 @@ use Rattle.laws.specs.Sets.{howMany, grow}
 use Rattle.model.specs.Plan.{Plan, failing, hasPolicy}
 use Rattle.model.specs.Verdict.{hits, lost, safe}
 
--- the practice as a table of commands: "A run also ends, without failing, where the practice is none."
+-- rules V8 and V9: the practice as a table of commands
 unfoldable pub followed : Plan → ℕ → Option ℕ
 followed P s = cond (hasPolicy P s) (some (P .policy s)) none
 
@@ -15,27 +15,26 @@ followed P s = cond (hasPolicy P s) (some (P .policy s)) none
 unfoldable pub policyHits : Plan → (ℕ → Bool) → ℕ → Bool
 policyHits P K s = hasPolicy P s && hits P K s (P .policy s)
 
--- "The practice *fails* from a state if some run under it reaches a failing state, of zero moves included."
--- That this is so is proofs/PolicyRuns.antt, `policy-judged`.
+-- rule V8. That it is so of runs under the practice is proofs/PolicyRuns.antt, `policy-judged`.
 unfoldable pub policyFails : Plan → ℕ → Bool
 policyFails P = grow (policyHits P) (failing P) (P .states)
 
--- "A *bug* is a safe state from which the practice fails."
+-- rule V10: safe, though the practice fails from there
 unfoldable pub bug : Plan → ℕ → Bool
 bug P s = safe P s && policyFails P s
 
--- "A *fault* is a safe state whose practice has a lost outcome."
+-- rule V11: safe, though the practice may land on a lost state
 unfoldable pub fault : Plan → ℕ → Bool
 fault P s = safe P s && policyHits P (lost P) s
 
--- "practice marks (0 holds, 1 fails, with 2 added at a fault)"
+-- rule V13: 1 if the practice fails, and 2 more at a fault
 abbrev pub markOf : Bool → Bool → ℕ
 markOf fails isFault = cond fails 1 0 + cond isFault 2 0
 
 unfoldable pub mark : Plan → ℕ → ℕ
 mark P s = markOf (policyFails P s) (fault P s)
 
--- "three columns: practice given and holding, given and failing, none", over those of the first n states that are in a row
+-- rule V14: the three counts of a row, over those of the first n states that are in it
 unfoldable pub tallyRow : (ℕ → Bool) → (ℕ → Bool) → (ℕ → Bool) → ℕ → List ℕ
 tallyRow row given fails n =
     howMany (λ s. row s && given s && not (fails s)) n
@@ -47,6 +46,6 @@ tallyRow row given fails n =
 abbrev pub tallyOf : (ℕ → Bool) → (ℕ → Bool) → (ℕ → Bool) → ℕ → List (List ℕ)
 tallyOf isLost given fails n = tallyRow (λ s. not (isLost s)) given fails n ∷ tallyRow isLost given fails n ∷ []
 
--- "The tally is an array of two rows, safe and lost"
+-- rules V14 and V15
 unfoldable pub tally : Plan → List (List ℕ)
 tally P = tallyOf (lost P) (hasPolicy P) (policyFails P) (P .states)

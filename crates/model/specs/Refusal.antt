@@ -1,4 +1,4 @@
--- The refusal tables of documents 01 and 02, and answers that may be refusals.
+-- The refusals (docs/SPECIFICATION.md, part E), and answers that may be refusals.
 use mathlib.Core.Bool.{Bool, true, false}
 use Prim.Native.Nat.{ℕ}
 
@@ -6,42 +6,42 @@ infixl 1 _>>=_
 infixr 1 _>>_
 -- the words, in the order of their numbers
 pub data Refusal : Type 0 where
-  -- bytes end inside a field or before the end field
+  -- rule E1: the bytes are at an end before the field that is due
   Cut : Refusal
-  -- bytes follow the end field
+  -- rule E2: there are bytes behind the end
   Surplus : Refusal
-  -- the tag is not the one due
+  -- rule E3: another field is due
   Tag : Refusal
-  -- the length is not allowed for the tag
+  -- rule E4: no field of this tag has such a length
   Length : Refusal
-  -- n is 0 or above 1,024; start or outcome not below n; kind above 2
+  -- rule E5: the number of states, the start, an outcome or a kind is out of range
   Beyond : Refusal
-  -- an outcome does not exceed the one before
+  -- rule E6: the outcomes of a command do not rise
   Unsorted : Refusal
-  -- commands under kind 1 or 2, or a practice neither FFFF nor below the count
+  -- rule E7: commands at a state that is not ordinary, or a practice that is no command of its state
   Idle : Refusal
-  -- more than 4,096 commands or 16,384 outcomes so far
+  -- rule E8: too many commands or outcomes
   Limit : Refusal
-  -- a lent table that the call writes is shorter than the count it must hold
+  -- rule E9: too little room in a table that is to be written
   Cramped : Refusal
-  -- size record and plan tables are no plan that a file can give, or a plan table is shorter than its count
+  -- rule E10: the plan that is lent is not sound
   Unsound : Refusal
-  -- a state number not below n
+  -- rule E11: there is no state of the number that is named
   Stranger : Refusal
-  -- document 02's, which give numbers only; the calls that give these come with their requests
-  -- T-02: a contest of more than 8 moves is asked for
+  -- rule E21: the rest is set aside for calls that come later
+  -- a contest of more than 8 moves is asked for
   Moves : Refusal
-  -- T-06: a move is said to last 0 seconds, or more than 3,600
+  -- a move is said to last 0 seconds, or more than 3,600
   Seconds : Refusal
-  -- T-09: a doubtful outcome of a command is one of its sure ones
+  -- a doubtful outcome of a command is one of its sure ones
   Doubtful : Refusal
-  -- T-13: more than 8 departures from the practice are asked for
+  -- more than 8 departures from the practice are asked for
   Departures : Refusal
-  -- T-14: a site without chambers, or of more than 16
+  -- a site without chambers, or of more than 16
   Chambers : Refusal
-  -- T-14: no grant is open, or the state reported is no outcome of the granted command
+  -- no grant is open, or the state reported is no outcome of the granted command
   Report : Refusal
-  -- T-14: a grant is open already, or no chamber's state has a chosen command
+  -- a grant is open already, or no chamber's state has a chosen command
   Grant : Refusal
 
 abbrev pub number : Refusal → ℕ

@@ -1,4 +1,4 @@
--- Moves and runs (document 01, "The plan").
+-- Moves and runs (docs/SPECIFICATION.md, part R).
 use mathlib.Core.Path.{_≡_}
 use mathlib.Core.Bool.{true, false}
 use mathlib.Core.List.{List·Memᴰ}
@@ -6,12 +6,12 @@ use Prim.Native.Nat.{ℕ, suc, _<_}
 use Rattle.model.specs.Plan.{Plan, ordinary, failing}
 
 infixl 40 _▸_
--- "A *move* issues a command and lands on any one of its outcomes."
+-- rule R1: the command that is issued, and the outcome on which the works land
 pub record Move : Type 0 where
   pub command : ℕ
   pub landing : ℕ
 
--- "A *run* is a finite sequence of moves, possibly of none": no move yet, or a run and the move that follows it.
+-- rule R2: no move yet, or a run and the move that follows it
 pub data Run : Type 0 where
   noMoves : Run
   _▸_ : Run → Move → Run
@@ -26,18 +26,18 @@ abbrev pub moves : Run → ℕ
 moves noMoves = 0
 moves (w ▸ m) = suc (moves w)
 
--- The move m can be made at t. "It stops at a failing or rest state": a move leaves an ordinary one.
+-- The move m can be made at t (rules R1, R3): t is ordinary and has the command, and the command has the landing.
 pub record CanMove (P : Plan) (t : ℕ) (m : Move) : Type 0 where
   pub leaves : ordinary P t ≡ true
   pub issued : m .command < P .commands t
   pub landed : List·Memᴰ (m .landing) (P .outcomes t (m .command))
 
--- "the first leaves the state the run is from, each later one the state where the last landed"
+-- rule R2: each move can be made where the moves before it have come to
 abbrev pub IsRun : Plan → ℕ → Run → Type 0
 IsRun P s noMoves = Unit {0}
 IsRun P s (w ▸ m) = IsRun P s w × CanMove P (present s w) m
 
--- "A run *fails*, or is into failure, if it ends at a failing state."
+-- rule R7: it has come to a failing state
 abbrev pub RunFails : Plan → ℕ → Run → Type 0
 RunFails P s w = failing P (present s w) ≡ true
 

@@ -1,4 +1,4 @@
--- Refusal 10 as a test that computes: the limits of the size record, every table's length, running firsts, kinds, idle states,
+-- Rule T7, soundness as a test that computes: the limits of the size record, every table's length, running firsts, kinds, idle states,
 -- practices, and outcomes that rise and are below n.
 use mathlib.Core.Bool.{Bool, _&&_}
 use mathlib.Core.List.{List}

@@ -1,5 +1,4 @@
--- A plan in memory (document 01, "Plan file"): "a size record (n, m, t, start), a lent table of rows with kind, first command
--- and practice, and tables of first outcomes and outcomes".
+-- A plan in memory (docs/SPECIFICATION.md, part T).
 use mathlib.Core.Path.{_≡_}
 use mathlib.Core.Bool.{Bool, _&&_}
 use Prim.Native.Nat.{ℕ, _+_, _*_}
@@ -9,7 +8,7 @@ use lib.ListN.{length, take}
 use Rattle.laws.specs.Lists.{joined}
 use Rattle.model.specs.File.{State, StateField, Tree, fieldOf}
 
--- "Entries are 16 bits wide.": that those which deciding and the search answer fit is proofs/Widths.antt
+-- rule T1. That the entries which deciding and the search answer fit in 16 bits (rule T4) is proofs/Widths.antt.
 pub record Size : Type 0 where
   pub n : ℕ
   pub m : ℕ
@@ -55,13 +54,12 @@ rowWith m q = record { kind = q .kind; first = m; policy = q .policy }
 abbrev pub rowFor : ℕ → State → Row
 rowFor m s = rowWith m (fieldOf s)
 
--- "A state's first command is the number of commands of all lower states, also where it has none": the rows of states that
--- m commands come before
+-- rule T2: the rows of states that m commands come before
 unfoldable pub rowsFrom : ℕ → List State → List Row
 rowsFrom m [] = []
 rowsFrom m (s ∷ ss) = rowFor m s ∷ rowsFrom (m + length (s .commands)) ss
 
--- "first outcomes count likewise over commands": those of commands that t outcomes come before
+-- rule T3: the first outcomes of commands that t outcomes come before
 unfoldable pub firstsFrom : ℕ → List (List ℕ) → List ℕ
 firstsFrom t [] = []
 firstsFrom t (c ∷ cs) = t ∷ firstsFrom (t + length c) cs
@@ -83,7 +81,7 @@ tablesOf p =
       outcomes = L .entries;
     }
 
--- "A file has 10 + 8n + 3m + 2t bytes."
+-- rule F8: how many bytes the file has
 unfoldable pub sizeLength : Size → ℕ
 sizeLength z = 10 + 8 * z .n + 3 * z .m + 2 * z .t
 
@@ -95,7 +93,7 @@ pub record SameLists (L M : Lists) : Type 0 where
   pub firsts : take (L .count) (L .firsts) ≡ take (M .count) (M .firsts)
   pub entries : take (L .end) (L .entries) ≡ take (M .end) (M .entries)
 
--- "Tables are the same if they agree up to their counts."
+-- rule T5: the same plan, whatever stands past its counts
 pub record Same (T U : Tables) : Type 0 where
   pub size : T .size ≡ U .size
   pub rows : take (T .size .n) (T .rows) ≡ take (U .size .n) (U .rows)

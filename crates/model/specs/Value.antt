@@ -1,4 +1,4 @@
--- Source 000's value equation: its Definition 1 with the policy's action replaced by the best one, as in its backup.
+-- Source 000's value equation (rule V5): its Definition 1 with the policy's action replaced by the best one, as in its backup.
 -- V(s) = 1 if s is a fail state, else the least, over a in A(s), of the largest V(s') with s' in T(s, a).
 use mathlib.Core.Path.{_≡_}
 use mathlib.Core.Bool.{cond}
@@ -33,7 +33,7 @@ Solves P v = (s : ℕ) → s < P .states → v s ≡ backup P v s
 unfoldable pub value : Plan → ℕ → ℕ
 value P s = cond (lost P s) 1 0
 
--- "This is the least solution of 000's value equation."
+-- rule V5: the verdicts solve the equation, and no solution is smaller at any state
 pub record LeastSolution (P : Plan) : Type 0 where
   pub solves : Solves P (value P)
   pub least : (v : ℕ → ℕ) → Solves P v → (s : ℕ) → s < P .states → value P s ≤ v s

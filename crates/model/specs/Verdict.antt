@@ -1,4 +1,4 @@
--- Layers, verdicts and ranks (document 01, "Verdicts").
+-- Layers, verdicts and ranks (docs/SPECIFICATION.md, part V).
 use mathlib.Core.Bool.{Bool, not, _&&_}
 use mathlib.Core.Option.{Option}
 use Prim.Native.Nat.{ℕ, suc}
@@ -9,19 +9,19 @@ use Rattle.model.specs.Plan.{Plan, failing, active}
 unfoldable pub hits : Plan → (ℕ → Bool) → ℕ → ℕ → Bool
 hits P K s c = any K (P .outcomes s c)
 
--- an "ordinary state with at least one command, every one of whose commands has an outcome in" K
+-- rule V2: an active state of which each command has an outcome in K
 unfoldable pub forced : Plan → (ℕ → Bool) → ℕ → Bool
 forced P K s = active P s && every (hits P K s) (P .commands s)
 
--- Layers 0 to k together. "Layer 0 is the failing states. Layer k + 1 adds" the states that layers 0 to k force.
+-- Layers 0 to k together (rules V1, V2): the failing states, and at each further layer the states that those before it force.
 abbrev pub layer : Plan → ℕ → ℕ → Bool
 layer P = grow (forced P) (failing P)
 
--- "Its *rank* is the first such k." No layer past n adds a state (proofs/Layers.antt, `layer-rank`), so none is looked at.
+-- rule V4. No layer past n adds a state (proofs/Layers.antt, `layer-rank`), so none is looked at.
 unfoldable pub rank : Plan → ℕ → Option ℕ
 rank P s = lowest (λ k. layer P k s) (suc (P .states))
 
--- "A state is *lost* if some layer holds it, else *safe*."
+-- rule V3: what is in a layer is lost, and all else safe
 unfoldable pub lost : Plan → ℕ → Bool
 lost P s = found (rank P s)
 

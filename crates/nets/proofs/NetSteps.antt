@@ -1,4 +1,4 @@
--- A propagation's step is the plan's: with all commands counting it is what document 01's layers add, with the practice alone what the
+-- A propagation's step is the plan's: with all commands counting it is what layers add (rule V2), with the practice alone what the
 -- practice risks.
 use mathlib.Core.Path.{_≡_, sym, ap, ap₂, _∙_}
 use mathlib.Core.Bool.{Bool, true, false, _&&_}

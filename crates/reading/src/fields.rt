@@ -1,4 +1,4 @@
-// Each field from a mark on, in document 01's order of checks: the mark past the field, or the refusal.
+// Each field from a mark on, in the order of rules E13 to E15: the mark past the field, or the refusal.
 ghost use Prim.Native.Nat.{_+_, _*_, _<_, _≤_};
 ghost use lib.ListN.{length, drop};
 ghost use Rattle.model.specs.Refusal.{answer};

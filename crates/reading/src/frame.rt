@@ -1,4 +1,4 @@
-// The frame of a field, in document 01's order of checks: three bytes present, the tag, the length, the value present.
+// The frame of a field, in the order of rule E12: three bytes are there, the tag, the length, the whole value is there.
 ghost use mathlib.Core.Path.{_≡_};
 ghost use Rattle.model.specs.Refusal.{answer};
 ghost use Rattle.model.specs.File.{fixedLength, allowed, field};

@@ -36,7 +36,7 @@ pub fn size_sound(size: Size) -> bool
     size.start < size.n
 }
 
-// No plan table is shorter than its count: `rows` says how many rows there are.
+// No table is too short: `rows` says how many rows there are.
 pub fn long(size: Size, rows: usize, firsts: &[u16], outcomes: &[u16]) -> bool
     ensures { λ r. ⌜ ((R : List Row) → rows ≡ length R → r ≡ tablesLong (held size R (now (firsts .entry)) (now (outcomes .entry)))) ⌝ }
 {

@@ -53,7 +53,7 @@ impl Row {
     };
 }
 
-// The words of the refusal tables. No call gives the last seven yet: they belong to requests of document 02.
+// The refusals, in the order of their numbers (rules E1 to E11). No call gives the last seven yet (rule E21).
 pub enum Refusal {
     Cut,
     Surplus,
@@ -75,7 +75,7 @@ pub enum Refusal {
     Grant,
 }
 
-// The table's number of a refusal. Ruled out: one number for two refusals, and a number that is not the table's.
+// The number of a refusal. Ruled out: one number for two refusals, and a number that is not the specification's.
 pub fn number(r: Refusal) -> u32
     ensures numbered { λ x. ⌜ x ≡ number (refusalOf r) ⌝ }
 {
