@@ -37,7 +37,7 @@ module _ {P : Plan} {n : ℕ} {K : ℕ → Bool} {a h q : ℕ} {cs s u : List �
           let (c, is, in-it) = lands-is P (getD u j 0) (getD u m 0) (choice P K (getD u j 0)) t in
           goes-on P K a S (getD u j 0) c (getD u m 0) (rw count (w .queued .states j (omega arith))) (below j before (omega arith)) is in-it
 
-  pub underway-only : (x : ℕ) → x < n → walkedIn s x ≡ true → reached P K a x ≡ true
+  underway-only : (x : ℕ) → x < n → walkedIn s x ≡ true → reached P K a x ≡ true
   underway-only x k t = let (i, l, e) = w .queued .listed x k t in subst (λ y. reached P K a y ≡ true) e (sofar q i l l)
 
   -- all places are gone on from

@@ -179,7 +179,7 @@ module _ {P : Plan} {n : ℕ} {K : ℕ → Bool} {a h q : ℕ} {cs s u : List �
       in-plan : x < n
       in-plan = rw p (w .queued .states h k)
 
-      pub expanded-choice : choice P (knownIn s) x ≡ choice P K x
+      expanded-choice : choice P (knownIn s) x ≡ choice P K x
       expanded-choice = choice-over P S (knownIn s) K (λ y l. w .known y (rw count at l)) x (rw count in-plan)
 
       pub underway-expanded : Underway P n K a (h + 1) q′ cs′ s′ u′

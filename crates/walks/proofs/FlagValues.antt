@@ -10,10 +10,6 @@ use Rattle.laws.proofs.Tests.{and-both, and-join, and-false-left, and-false-rig
 use Rattle.walks.specs.Flags.{knownIn, walkedIn, newIn}
 
 module _ (s : List ℕ) (x : ℕ) where
-  pub known-value : knownIn s x ≡ true → getD s x 0 ≤ 0
-  unfolding knownIn
-  known-value e = leb-true (getD s x 0) 0 e
-
   pub unknown-value : knownIn s x ≡ false → 0 < getD s x 0
   unfolding knownIn
   unknown-value e = leb-false (getD s x 0) 0 e
