@@ -14,7 +14,7 @@ use Rattle.laws.specs.Entry.{FFFF, entry}
 use Rattle.laws.specs.First.{FirstNot}
 use Rattle.laws.proofs.Tests.{clash, true-or-false}
 use Rattle.laws.proofs.Tries.{lowest-same, first-found, first-missing}
-use Rattle.model.specs.Plan.{active, hasPolicy}
+use Rattle.model.specs.Plan.{active, hasPractice}
 use Rattle.model.specs.Verdict.{hits}
 use Rattle.model.specs.Command.{choice}
 use Rattle.model.specs.Tables.{Tables, listsIn}
@@ -23,7 +23,7 @@ use Rattle.model.specs.SoundTest.{sound}
 use Rattle.model.specs.Held.{planIn}
 use Rattle.model.proofs.StateKinds.{command-active}
 use Rattle.model.proofs.Choices.{choice-idle, choice-words}
-use Rattle.model.proofs.HeldPlan.{states-held, policy-held, commands-held, outcomes-held}
+use Rattle.model.proofs.HeldPlan.{states-held, practice-held, commands-held, outcomes-held}
 use Rattle.model.proofs.Valid.{sound-valid}
 use Rattle.tables.specs.declared.internal.Span.{Span}
 use Rattle.tables.specs.Spans.{spanAt}
@@ -41,9 +41,9 @@ module _ (T : Tables) (K : ℕ → Bool) (s : ℕ) (l : s < T .size .n) where
 
   -- a state that is not active has no commands to try
   idle-words : planIn T .commands s ≡ 0
-      → none ≡ cond (hasPolicy (planIn T) s && not (hits (planIn T) K s (planIn T .policy s))) (some (planIn T .policy s)) (lowest (λ c. not (hits (planIn T) K s c)) (planIn T .commands s))
-  unfolding hasPolicy lowest
-  idle-words e = rw (e, le-ltb (planIn T .policy s) 0 (omega arith))
+      → none ≡ cond (hasPractice (planIn T) s && not (hits (planIn T) K s (planIn T .practice s))) (some (planIn T .practice s)) (lowest (λ c. not (hits (planIn T) K s c)) (planIn T .commands s))
+  unfolding hasPractice lowest
+  idle-words e = rw (e, le-ltb (planIn T .practice s) 0 (omega arith))
 
   module _ (sounds : sound T ≡ true) where
     no-commands : active (planIn T) s ≡ false → planIn T .commands s ≡ 0
@@ -54,20 +54,20 @@ module _ (T : Tables) (K : ℕ → Bool) (s : ℕ) (l : s < T .size .n) where
         go (no h) = omega arith
 
     any-words : choice (planIn T) K s
-        ≡ cond (hasPolicy (planIn T) s && not (hits (planIn T) K s (planIn T .policy s))) (some (planIn T .policy s)) (lowest (λ c. not (hits (planIn T) K s c)) (planIn T .commands s))
+        ≡ cond (hasPractice (planIn T) s && not (hits (planIn T) K s (planIn T .practice s))) (some (planIn T .practice s)) (lowest (λ c. not (hits (planIn T) K s c)) (planIn T .commands s))
     any-words =
         ⊎-elim (choice-words (planIn T) K s) (λ e. choice-idle (planIn T) K s e ∙ idle-words (no-commands e)) (true-or-false (active (planIn T) s))
 
     -- the practice if it is clear, else the lowest command that is
     choice-clear : choice (planIn T) K s
-        ≡ cond (ltb (rowAt T s .policy) (commandCount T s) && clear (listsIn T) K (firstCommand T s) (rowAt T s .policy)) (some (rowAt T s .policy)) (lowest (clear (listsIn T) K (firstCommand T s)) (commandCount T s))
-    unfolding hasPolicy
+        ≡ cond (ltb (rowAt T s .practice) (commandCount T s) && clear (listsIn T) K (firstCommand T s) (rowAt T s .practice)) (some (rowAt T s .practice)) (lowest (clear (listsIn T) K (firstCommand T s)) (commandCount T s))
+    unfolding hasPractice
     choice-clear =
-        any-words ∙ rw (policy-held T s l, commands-held T s l)
+        any-words ∙ rw (practice-held T s l, commands-held T s l)
         (go (ltb p n) refl ∙ ap (cond (ltb p n && clear (listsIn T) K (firstCommand T s) p) (some p)) (lowest-same _ _ n clear-held))
       where
         p : ℕ
-        p = rowAt T s .policy
+        p = rowAt T s .practice
 
         n : ℕ
         n = commandCount T s

@@ -9,10 +9,10 @@ use Rattle.laws.specs.Filled.{Filled}
 use Rattle.laws.specs.Lists.{tabulate, overwrite}
 use Rattle.laws.proofs.Fills.{filled-as, filled-over, filled-is, tabulate-constant}
 use Rattle.laws.proofs.Agree.{Agree}
-use Rattle.model.specs.Plan.{Plan, hasPolicy}
+use Rattle.model.specs.Plan.{Plan, hasPractice}
 use Rattle.model.specs.Verdict.{lost, safe}
 use Rattle.model.specs.Command.{choice, chosen}
-use Rattle.model.specs.Policy.{policyFails, fault, mark, tallyOf, tally}
+use Rattle.model.specs.Practice.{practiceFails, fault, mark, tallyOf, tally}
 use Rattle.model.specs.Tables.{Tables}
 use Rattle.model.specs.SoundTest.{sound}
 use Rattle.model.specs.Held.{planIn}
@@ -25,7 +25,7 @@ use Rattle.tables.specs.declared.Size.{Size}
 use Rattle.tables.specs.Meaning.{held}
 use Rattle.nets.specs.Found.{Found}
 use Rattle.decide.specs.Verdicts.{numbered, oneIf, markAt, StatesJudged}
-use Rattle.nets.proofs.PlanHits.{choice-agree, policy-hits-agree}
+use Rattle.nets.proofs.PlanHits.{choice-agree, practice-hits-agree}
 use Rattle.nets.proofs.Depths.{lost-found}
 use Rattle.decide.proofs.Tallies.{tally-same, tally-is}
 
@@ -42,7 +42,7 @@ pub record PlanDecided (T : Tables) (ranks commands marks scratch : List ℕ) (t
   pub clean : scratch′ ≡ overwrite (cleared (planIn T .states)) scratch
 
 -- the lost states and those from which the practice fails are found
-module _ (T : Tables) (sounds : sound T ≡ true) (L F : ℕ → Bool) (losts : Agree (T .size .n) L (lost (planIn T))) (fails : Agree (T .size .n) F (policyFails (planIn T))) where
+module _ (T : Tables) (sounds : sound T ≡ true) (L F : ℕ → Bool) (losts : Agree (T .size .n) L (lost (planIn T))) (fails : Agree (T .size .n) F (practiceFails (planIn T))) where
   abbrev P : Plan
   P = planIn T
 
@@ -51,12 +51,12 @@ module _ (T : Tables) (sounds : sound T ≡ true) (L F : ℕ → Bool) (losts : 
 
   mark-found : (s : ℕ) → s < T .size .n → markAt P L (F s) s ≡ mark P s
   unfolding markAt oneIf mark fault safe
-  mark-found s l = rw (fails s l, losts s l, policy-hits-agree T sounds L (lost P) losts s l)
+  mark-found s l = rw (fails s l, losts s l, practice-hits-agree T sounds L (lost P) losts s l)
 
-  tally-found : tallyOf L (hasPolicy P) F (T .size .n) ≡ tally P
+  tally-found : tallyOf L (hasPractice P) F (T .size .n) ≡ tally P
   tally-found =
-      tally-same (hasPolicy P) (T .size .n) F (policyFails P) fails L (lost P) losts
-      ∙ ap (tallyOf (lost P) (hasPolicy P) (policyFails P)) (sym (states-held T)) ∙ tally-is P
+      tally-same (hasPractice P) (T .size .n) F (practiceFails P) fails L (lost P) losts
+      ∙ ap (tallyOf (lost P) (hasPractice P) (practiceFails P)) (sym (states-held T)) ∙ tally-is P
 
 module _ (size : Size) (rows : List Row) (firsts outcomes : List ℕ) (sounds : sound (held size rows firsts outcomes) ≡ true) where
   pub plan-decided : {rs cs ms ss r₁ c₁ m₁ s₁ c₂ m₂ s₂ : List ℕ} {t : List (List ℕ)}

@@ -9,14 +9,14 @@ use lib.ListN.{set}
 use borrow.Author.Tests.{not-true, not-false}
 use Rattle.laws.specs.Sets.{any}
 use Rattle.laws.specs.Entry.{entry}
-use Rattle.model.specs.Plan.{hasPolicy}
+use Rattle.model.specs.Plan.{hasPractice}
 use Rattle.model.specs.Command.{choice}
-use Rattle.model.specs.Policy.{policyHits, markOf}
+use Rattle.model.specs.Practice.{practiceHits, markOf}
 use Rattle.model.specs.Tables.{Tables}
 use Rattle.model.specs.Places.{outcomesAt}
 use Rattle.model.specs.SoundTest.{sound}
 use Rattle.model.specs.Held.{planIn}
-use Rattle.model.proofs.HeldPlan.{policy-held, commands-held}
+use Rattle.model.proofs.HeldPlan.{practice-held, commands-held}
 use Rattle.choice.proofs.Choosing.{hits-held}
 use Rattle.choice.proofs.Taken.{span-inside, entry-fits}
 use Rattle.tables.specs.declared.Row.{Row}
@@ -48,17 +48,17 @@ lost-fault lost h b = rw h
 
 module _ (q : Span) (lost : Bool) where
   module _ (h : lost ≡ false) (t : Bool) (e : t ≡ practised q) (T : Tables) (K : ℕ → Bool) (s : ℕ) (l : s < T .size .n) (is : q ≡ spanAt T s) where
-    given-is : t ≡ hasPolicy (planIn T) s
+    given-is : t ≡ hasPractice (planIn T) s
     given-is = e ∙ ap practised is ∙ practised-is T s l
 
-    pub idle-fault : not t ≡ true → false ≡ (not lost && policyHits (planIn T) K s)
-    unfolding policyHits
+    pub idle-fault : not t ≡ true → false ≡ (not lost && practiceHits (planIn T) K s)
+    unfolding practiceHits
     idle-fault z = rw (h, ← given-is, not-true t z)
 
-    pub hit-fault : not t ≡ false → (r : Bool) → r ≡ any K (outcomesAt T (q .first + q .practice)) → r ≡ (not lost && policyHits (planIn T) K s)
-    unfolding policyHits
+    pub hit-fault : not t ≡ false → (r : Bool) → r ≡ any K (outcomesAt T (q .first + q .practice)) → r ≡ (not lost && practiceHits (planIn T) K s)
+    unfolding practiceHits
     hit-fault z r p =
-        rw (h, ← given-is, not-false t z, policy-held T s l)
+        rw (h, ← given-is, not-false t z, practice-held T s l)
         (p ∙ rw is (sym (hits-held T K s l _ (rw (← commands-held T s l) (practice-below T s l (sym given-is ∙ not-false t z))))))
 
 -- ---- marks and columns
@@ -110,7 +110,7 @@ column-small false fails = omega arith
 
 module _ (T : Tables) (s : ℕ) (l : s < T .size .n) (q : Span) (is : q ≡ spanAt T s) (L : ℕ → Bool) (F lost fails fault given : Bool)
     (a : lost ≡ L s) (b : fails ≡ F) where
-  pub judged : (fault ≡ (not lost && policyHits (planIn T) L s)) → given ≡ practised q → (c m r k : ℕ) → c ≡ entry (choice (planIn T) L s)
+  pub judged : (fault ≡ (not lost && practiceHits (planIn T) L s)) → given ≡ practised q → (c m r k : ℕ) → c ≡ entry (choice (planIn T) L s)
       → m ≡ markOf fails fault → r ≡ oneIf lost → k ≡ columnOf given fails
       → (cs ms cs′ ms′ : List ℕ) → cs′ ≡ set cs s c → ms′ ≡ set ms s m
       → StateJudged (planIn T) L F s cs ms (record { row = r; column = k }) cs′ ms′

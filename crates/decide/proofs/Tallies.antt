@@ -11,9 +11,9 @@ use Rattle.laws.specs.Sets.{howMany}
 use Rattle.laws.proofs.Sets.{many-bound}
 use Rattle.laws.proofs.Agree.{Agree, many-same}
 use Rattle.model.specs.File.{maxStates}
-use Rattle.model.specs.Plan.{Plan, hasPolicy}
+use Rattle.model.specs.Plan.{Plan, hasPractice}
 use Rattle.model.specs.Verdict.{lost, safe}
-use Rattle.model.specs.Policy.{policyFails, tallyRow, tallyOf, tally}
+use Rattle.model.specs.Practice.{practiceFails, tallyRow, tallyOf, tally}
 use Rattle.decide.specs.Verdicts.{oneIf, columnOf, added}
 
 module _ (L g f : ℕ → Bool) where
@@ -86,6 +86,6 @@ module _ (g : ℕ → Bool) (n : ℕ) (f f′ : ℕ → Bool) (fails : Agree n f
       ap₂ (λ (a : List ℕ) (t : List (List ℕ)). a ∷ t) (row-same (λ s. not (L s)) (λ s. not (L′ s)) (λ x l. rw (h x l)))
       (ap₂ (λ (a : List ℕ) (t : List (List ℕ)). a ∷ t) (row-same L L′ h) refl)
 
-pub tally-is : (P : Plan) → tallyOf (lost P) (hasPolicy P) (policyFails P) (P .states) ≡ tally P
+pub tally-is : (P : Plan) → tallyOf (lost P) (hasPractice P) (practiceFails P) (P .states) ≡ tally P
 unfolding tallyRow tally safe
 tally-is P = refl

@@ -7,9 +7,9 @@ use Prim.Native.Nat.{ℕ, _+_}
 use lib.ListN.{getD, set}
 use Rattle.laws.specs.Entry.{entry, highest}
 use Rattle.laws.specs.Filled.{Filled}
-use Rattle.model.specs.Plan.{Plan, hasPolicy}
+use Rattle.model.specs.Plan.{Plan, hasPractice}
 use Rattle.model.specs.Command.{choice}
-use Rattle.model.specs.Policy.{policyHits, markOf, tallyOf}
+use Rattle.model.specs.Practice.{practiceHits, markOf, tallyOf}
 use Rattle.choice.specs.Within.{within}
 use Rattle.decide.specs.declared.verdicts.Place.{Place}
 
@@ -22,7 +22,7 @@ oneIf b = cond b 1 0
 
 -- the mark of s, where the states of L are lost
 unfoldable pub markAt : Plan → (ℕ → Bool) → Bool → ℕ → ℕ
-markAt P L fails s = markOf fails (not (L s) && policyHits P L s)
+markAt P L fails s = markOf fails (not (L s) && practiceHits P L s)
 
 -- rule V14: the tally's column, by whether there is a practice and whether it fails
 unfoldable pub columnOf : Bool → Bool → ℕ
@@ -37,10 +37,10 @@ pub record StateJudged (P : Plan) (L : ℕ → Bool) (fails : Bool) (s : ℕ) (c
   pub took : commands′ ≡ set commands s (entry (choice P L s))
   pub marked : marks′ ≡ set marks s (markAt P L fails s)
   pub row : r .row ≡ oneIf (L s)
-  pub column : r .column ≡ columnOf (hasPolicy P s) fails
+  pub column : r .column ≡ columnOf (hasPractice P s) fails
 
 -- the first n states are judged
 pub record StatesJudged (P : Plan) (L : ℕ → Bool) (n : ℕ) (commands marks : List ℕ) (t : List (List ℕ)) (commands′ marks′ : List ℕ) : Type 0 where
   pub took : Filled n (λ s. entry (choice P L s)) commands commands′
   pub marked : Filled n (λ s. markAt P L (numbered marks s) s) marks marks′
-  pub counted : t ≡ tallyOf L (hasPolicy P) (numbered marks) n
+  pub counted : t ≡ tallyOf L (hasPractice P) (numbered marks) n

@@ -7,7 +7,7 @@ ghost use lib.ListN.{length, getD};
 ghost use Rattle.model.specs.File.{maxStates};
 ghost use Rattle.model.specs.SoundTest.{sound};
 ghost use Rattle.model.specs.Held.{planIn};
-ghost use Rattle.model.specs.Policy.{policyHits, markOf};
+ghost use Rattle.model.specs.Practice.{practiceHits, markOf};
 ghost use Rattle.tables.specs.declared.Row.{Row};
 ghost use Rattle.tables.specs.Meaning.{held};
 ghost use Rattle.tables.specs.Spans.{spanAt, commandsOf};
@@ -56,7 +56,7 @@ fn is_fault(
     ensures { λ r. ⌜
         ((R : List Row) (s : ℕ) → s < size .n →
         let T = held size R (now (firsts .entry)) (now (outcomes .entry)) in
-        span ≡ spanAt T s → r ≡ (not lost && policyHits (planIn T) (numbered (now (ranks .entry))) s))
+        span ≡ spanAt T s → r ≡ (not lost && practiceHits (planIn T) (numbered (now (ranks .entry))) s))
         ⌝ }
 {
     if lost {

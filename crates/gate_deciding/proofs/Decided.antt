@@ -7,7 +7,7 @@ use lib.ListN.{length, take, length-take, length-replicate}
 use Rattle.laws.specs.Lists.{joined}
 use Rattle.laws.proofs.Lists.{length-tabulate, take-overwritten}
 use Rattle.model.specs.Plan.{Plan}
-use Rattle.model.specs.Policy.{tally}
+use Rattle.model.specs.Practice.{tally}
 use Rattle.model.specs.Refusal.{Cramped, Unsound, Answer, given, answer, need, _>>=_, _>>_}
 use Rattle.model.specs.Tables.{Tables}
 use Rattle.model.specs.SoundTest.{sound}

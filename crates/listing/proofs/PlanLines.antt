@@ -10,7 +10,7 @@ use Rattle.laws.specs.Wrote.{Wrote}
 use Rattle.laws.proofs.Joins.{joined-bound}
 use Rattle.laws.proofs.Wrote.{wrote-then, wrote-length}
 use Rattle.model.specs.Plan.{Plan}
-use Rattle.model.specs.Policy.{tally}
+use Rattle.model.specs.Practice.{tally}
 use Rattle.model.specs.Search.{search}
 use Rattle.model.specs.Tables.{Size, Tables, tablesOf}
 use Rattle.model.specs.Held.{treeOf, planIn}

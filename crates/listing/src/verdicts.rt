@@ -7,7 +7,7 @@ ghost use lib.ListN.{length};
 ghost use Rattle.laws.specs.Lists.{tabulate, joined};
 ghost use Rattle.laws.specs.Wrote.{Wrote};
 ghost use Rattle.model.specs.Held.{planIn};
-ghost use Rattle.model.specs.Policy.{tally};
+ghost use Rattle.model.specs.Practice.{tally};
 ghost use Rattle.model.specs.Listing.{stateLine, tallyLine};
 ghost use Rattle.model.specs.SoundTest.{sound};
 ghost use Rattle.tables.specs.Meaning.{held};

@@ -11,7 +11,7 @@ use Rattle.laws.specs.Entry.{FFFF, fromEntry}
 use Rattle.laws.specs.Sets.{found}
 use Rattle.laws.proofs.Tests.{true-or-false}
 use Rattle.model.specs.Plan.{Plan}
-use Rattle.model.specs.Policy.{policyFails, fault, mark}
+use Rattle.model.specs.Practice.{practiceFails, fault, mark}
 use Rattle.model.specs.Refusal.{Refusal, number}
 use Rattle.model.specs.Listing.{decimal, numberOrDash}
 use Rattle.model.proofs.Numbers.{number-bound}
@@ -36,9 +36,9 @@ mark-parts true false = (refl, refl)
 mark-parts false true = (refl, refl)
 mark-parts false false = (refl, refl)
 
-pub mark-says : (P : Plan) (s m : ℕ) → mark P s ≡ m → (eqb (m % 2) 1 ≡ policyFails P s) × (leb 2 m ≡ fault P s)
+pub mark-says : (P : Plan) (s m : ℕ) → mark P s ≡ m → (eqb (m % 2) 1 ≡ practiceFails P s) × (leb 2 m ≡ fault P s)
 unfolding mark
-mark-says P s m e = rw (← e) (mark-parts (policyFails P s) (fault P s))
+mark-says P s m e = rw (← e) (mark-parts (practiceFails P s) (fault P s))
 
 pub number-small : (r : Refusal) → number r < 1000000
 number-small r = omega (arith, number-bound r .1)

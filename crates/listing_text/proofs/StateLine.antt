@@ -12,9 +12,9 @@ use Rattle.laws.proofs.Overwrites.{overwrite-at}
 use Rattle.model.specs.Plan.{Plan, Valid}
 use Rattle.model.specs.Verdict.{rank, lost}
 use Rattle.model.specs.Command.{chosen}
-use Rattle.model.specs.Policy.{mark}
+use Rattle.model.specs.Practice.{mark}
 use Rattle.model.specs.Calls.{rankTable, commandTable, markTable}
-use Rattle.model.specs.Listing.{decimal, line, kindLetter, verdictLetter, numberOrDash, policyLetter, faultSign, stateLine}
+use Rattle.model.specs.Listing.{decimal, line, kindLetter, verdictLetter, numberOrDash, practiceLetter, faultSign, stateLine}
 use Rattle.model.proofs.Demands.{rank-entry, chosen-entry}
 use Rattle.listing_text.specs.Words.{spaced}
 use Rattle.listing_text.specs.Listed.{Listed}
@@ -26,7 +26,7 @@ module _ {P : Plan} {s k r c m : ℕ} (q : Listed P s k r c m) where
   abbrev words : List (List ℕ)
   words =
       kindLetter k ∷ verdictLetter (found (fromEntry r)) ∷ numberOrDash (fromEntry r) ∷ numberOrDash (fromEntry c)
-      ∷ policyLetter (eqb (m % 2) 1) ∷ faultSign (leb 2 m) ∷ []
+      ∷ practiceLetter (eqb (m % 2) 1) ∷ faultSign (leb 2 m) ∷ []
 
   line-is : line (decimal s ∷ words) ≡ stateLine P s
   unfolding stateLine lost
@@ -38,7 +38,7 @@ module _ {P : Plan} {s k r c m : ℕ} (q : Listed P s k r c m) where
       → Wrote l₁ i₁ (spaced ((letter ∷ []) ∷ [])) l₂ i₂
       → Wrote l₂ i₂ (spaced (verdictLetter (found (fromEntry r)) ∷ numberOrDash (fromEntry r) ∷ [])) l₃ i₃
       → Wrote l₃ i₃ (spaced (numberOrDash (fromEntry c) ∷ [])) l₄ i₄
-      → Wrote l₄ i₄ (spaced (policyLetter (eqb (m % 2) 1) ∷ faultSign (leb 2 m) ∷ [])) l₅ i₅
+      → Wrote l₄ i₄ (spaced (practiceLetter (eqb (m % 2) 1) ∷ faultSign (leb 2 m) ∷ [])) l₅ i₅
       → Wrote l₅ i₅ (10 ∷ []) l₆ i₆ → Wrote l₀ i₀ (stateLine P s) l₆ i₆
   state-wrote e number kind verdict command marks end =
       rw (← line-is)

@@ -5,7 +5,7 @@ use Rattle.laws.specs.Entry.{fromEntry}
 use Rattle.model.specs.Plan.{Plan}
 use Rattle.model.specs.Verdict.{rank}
 use Rattle.model.specs.Command.{chosen}
-use Rattle.model.specs.Policy.{mark}
+use Rattle.model.specs.Practice.{mark}
 
 -- the state's kind and deciding's entries for it
 pub record Listed (P : Plan) (s kind rankEntry commandEntry markEntry : ℕ) : Type 0 where

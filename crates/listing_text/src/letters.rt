@@ -3,7 +3,7 @@ ghost use mathlib.Core.Path.{_≡_};
 ghost use mathlib.Core.List.{[], _∷_};
 ghost use Prim.Native.Nat.{_%_};
 ghost use lib.Dec.{eqb, leb};
-ghost use Rattle.model.specs.Listing.{kindLetter, verdictLetter, policyLetter, faultSign};
+ghost use Rattle.model.specs.Listing.{kindLetter, verdictLetter, practiceLetter, faultSign};
 
 pub fn kind_letter(kind: u16) -> u8
     ensures { λ r. ⌜ r ∷ [] ≡ kindLetter kind ⌝ }
@@ -27,8 +27,8 @@ pub fn verdict_letter(lost: bool) -> u8
 }
 
 // The practice fails where the mark is odd.
-pub fn policy_letter(mark: u16) -> u8
-    ensures { λ r. ⌜ r ∷ [] ≡ policyLetter (eqb (mark % 2) 1) ⌝ }
+pub fn practice_letter(mark: u16) -> u8
+    ensures { λ r. ⌜ r ∷ [] ≡ practiceLetter (eqb (mark % 2) 1) ⌝ }
 {
     if mark % 2 == 1 {
         return b'F';

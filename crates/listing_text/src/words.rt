@@ -6,13 +6,13 @@ ghost use lib.ListN.{length, getD};
 ghost use Rattle.laws.specs.Entry.{fromEntry};
 ghost use Rattle.laws.specs.Sets.{found};
 ghost use Rattle.laws.specs.Wrote.{Wrote};
-ghost use Rattle.model.specs.Listing.{decimal, verdictLetter, numberOrDash, policyLetter, faultSign};
+ghost use Rattle.model.specs.Listing.{decimal, verdictLetter, numberOrDash, practiceLetter, faultSign};
 ghost use Rattle.listing_text.specs.Words.{spaced};
 use crate::bytes::put_both;
 use crate::bytes::put_one;
 use crate::digits::put_decimal;
 use crate::letters::fault_sign;
-use crate::letters::policy_letter;
+use crate::letters::practice_letter;
 use crate::letters::verdict_letter;
 use tables::internal::wide;
 
@@ -82,9 +82,9 @@ pub fn put_verdict(out: &mut [u8], place: usize, rank: u16) -> usize
 // What a mark says of the practice.
 pub fn put_marks(out: &mut [u8], place: usize, mark: u16) -> usize
     requires { ⌜ place + 4 ≤ length (now out) ⌝ }
-    ensures wrote { λ r. ⌜ Wrote (now (out .entry)) place (spaced (policyLetter (eqb (mark % 2) 1) ∷ faultSign (leb 2 mark) ∷ [])) (now (out .exit)) r ⌝ }
+    ensures wrote { λ r. ⌜ Wrote (now (out .entry)) place (spaced (practiceLetter (eqb (mark % 2) 1) ∷ faultSign (leb 2 mark) ∷ [])) (now (out .exit)) r ⌝ }
     ensures ends { λ r. ⌜ r ≤ place + 4 ⌝ }
 {
-    let next = put_letter(out, place, policy_letter(mark));
+    let next = put_letter(out, place, practice_letter(mark));
     put_letter(out, next, fault_sign(mark))
 }

@@ -8,10 +8,10 @@ use Rattle.laws.specs.Sets.{any, first, every, exists, orElse, lowest, found, h
 use Rattle.laws.specs.Lists.{tabulate, joined, overwrite}
 use Rattle.laws.specs.Entry.{FFFF, entry}
 use Rattle.laws.specs.Starts.{startOf}
-use Rattle.model.specs.Plan.{ordinary, failing, active, terminal, hasPolicy}
+use Rattle.model.specs.Plan.{ordinary, failing, active, resting, hasPractice}
 use Rattle.model.specs.Verdict.{hits, forced, rank, lost, safe}
 use Rattle.model.specs.Command.{tryOrder, choice, chosen}
-use Rattle.model.specs.Policy.{policyHits, policyFails, fault, mark, tallyRow, tally}
+use Rattle.model.specs.Practice.{practiceHits, practiceFails, fault, mark, tallyRow, tally}
 use Rattle.model.specs.Search.{lands, next, marked, withoutMarks, ends, before, atOnce, inRounds, search}
 use Rattle.model.specs.Refusal.{Cut, Surplus, Tag, Length, Beyond, Unsorted, Idle, Limit, Cramped, Unsound, Stranger, given, refused, answer, _>>=_, need, _>>_}
 use Rattle.model.specs.File.{State, field, head, state, entries, rising, command, commands, states, read}
@@ -43,7 +43,7 @@ verdict-examples : map verdicts (
     ∷ ((3 ∷ 2 ∷ 1 ∷ 0 ∷ []) ∷ (FFFF ∷ FFFF ∷ FFFF ∷ FFFF ∷ []) ∷ (0 ∷ 0 ∷ 0 ∷ 1 ∷ []) ∷ [])
     ∷ ((FFFF ∷ 1 ∷ 0 ∷ []) ∷ (1 ∷ FFFF ∷ FFFF ∷ []) ∷ (2 ∷ 0 ∷ 1 ∷ []) ∷ [])
     ∷ []
-unfolding any first every orElse lowest found grow tabulate entry ordinary failing active hasPolicy hits forced rank lost safe tryOrder choice chosen policyHits policyFails fault mark stateOf planOf rankTable commandTable markTable
+unfolding any first every orElse lowest found grow tabulate entry ordinary failing active hasPractice hits forced rank lost safe tryOrder choice chosen practiceHits practiceFails fault mark stateOf planOf rankTable commandTable markTable
 verdict-examples = refl
 
 -- ---- the search: verdict, rounds and commands, from a start
@@ -58,7 +58,7 @@ search-examples : map (searched (acting FFFF ((1 ∷ []) ∷ []) ∷ acting FFFF
     ≡ (1 ∷ 3 ∷ FFFF ∷ FFFF ∷ FFFF ∷ FFFF ∷ []) ∷ (1 ∷ 2 ∷ FFFF ∷ FFFF ∷ FFFF ∷ FFFF ∷ []) ∷ (1 ∷ 1 ∷ FFFF ∷ FFFF ∷ FFFF ∷ FFFF ∷ []) ∷ (1 ∷ 0 ∷ FFFF ∷ FFFF ∷ FFFF ∷ FFFF ∷ [])
     ∷ (0 ∷ 1 ∷ 0 ∷ 0 ∷ FFFF ∷ FFFF ∷ []) ∷ (0 ∷ 0 ∷ FFFF ∷ FFFF ∷ FFFF ∷ FFFF ∷ []) ∷ (0 ∷ 0 ∷ FFFF ∷ FFFF ∷ FFFF ∷ FFFF ∷ [])
     ∷ []
-unfolding any first every exists orElse lowest found grow tabulate entry ordinary failing active terminal hasPolicy hits tryOrder choice lands next marked withoutMarks ends before atOnce inRounds search stateOf planOf resultTable
+unfolding any first every exists orElse lowest found grow tabulate entry ordinary failing active resting hasPractice hits tryOrder choice lands next marked withoutMarks ends before atOnce inRounds search stateOf planOf resultTable
 search-examples = refl
 
 -- ---- reading: the order of the checks
@@ -139,7 +139,7 @@ decide-example : decideCall fork (replicate 4 7) (replicate 4 7) (replicate 4 7)
   marks = 0 ∷ 0 ∷ 0 ∷ 7 ∷ [];
   scratch = 0 ∷ 0 ∷ 0 ∷ 7 ∷ [];
 }
-unfolding any first every orElse lowest found howMany grow tabulate overwrite entry ordinary failing active hasPolicy hits forced rank lost safe tryOrder choice chosen policyHits policyFails fault mark tallyRow tally answer _>>=_ need _>>_ rowAt firstCommand commandCount listAt sizeSound tablesLong rowSound risesAt listSound entrySound listsSound sound stateAt treeOf stateOf planOf planIn rowsIn left deciding rankTable commandTable markTable cleared startOf
+unfolding any first every orElse lowest found howMany grow tabulate overwrite entry ordinary failing active hasPractice hits forced rank lost safe tryOrder choice chosen practiceHits practiceFails fault mark tallyRow tally answer _>>=_ need _>>_ rowAt firstCommand commandCount listAt sizeSound tablesLong rowSound risesAt listSound entrySound listsSound sound stateAt treeOf stateOf planOf planIn rowsIn left deciding rankTable commandTable markTable cleared startOf
 decide-example = refl
 
 -- a state that steps to itself, with a table one place short
@@ -158,7 +158,7 @@ decide-cramped = refl
 
 search-example : searchCall fork 0 (replicate 4 7) (replicate 4 7)
     ≡ record { answers = given (false, 1); commands = 0 ∷ FFFF ∷ FFFF ∷ 7 ∷ []; scratch = 0 ∷ 0 ∷ 0 ∷ 7 ∷ [] }
-unfolding any first every exists orElse lowest found grow tabulate overwrite entry ordinary failing active terminal hasPolicy hits tryOrder choice lands next marked withoutMarks ends before atOnce inRounds search answer _>>=_ need _>>_ rowAt firstCommand commandCount listAt sizeSound tablesLong rowSound risesAt listSound entrySound listsSound sound stateAt treeOf stateOf planOf planIn rowsIn left searching resultTable cleared startOf
+unfolding any first every exists orElse lowest found grow tabulate overwrite entry ordinary failing active resting hasPractice hits tryOrder choice lands next marked withoutMarks ends before atOnce inRounds search answer _>>=_ need _>>_ rowAt firstCommand commandCount listAt sizeSound tablesLong rowSound risesAt listSound entrySound listsSound sound stateAt treeOf stateOf planOf planIn rowsIn left searching resultTable cleared startOf
 search-example = refl
 
 -- the order of refusals: an unsound plan, a stranger and a short table; then without the first; then the last alone

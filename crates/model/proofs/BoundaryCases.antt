@@ -8,10 +8,10 @@ use Rattle.laws.specs.Sets.{any, first, every, exists, orElse, lowest, found, h
 use Rattle.laws.specs.Lists.{tabulate, joined, overwrite}
 use Rattle.laws.specs.Entry.{entry, twos}
 use Rattle.laws.specs.Starts.{startOf}
-use Rattle.model.specs.Plan.{ordinary, failing, active, terminal, hasPolicy}
+use Rattle.model.specs.Plan.{ordinary, failing, active, resting, hasPractice}
 use Rattle.model.specs.Verdict.{hits, forced, rank, lost, safe}
 use Rattle.model.specs.Command.{tryOrder, choice, chosen}
-use Rattle.model.specs.Policy.{policyHits, policyFails, fault, mark, tallyRow, tally}
+use Rattle.model.specs.Practice.{practiceHits, practiceFails, fault, mark, tallyRow, tally}
 use Rattle.model.specs.Search.{lands, next, marked, withoutMarks, ends, before, atOnce, inRounds, search}
 use Rattle.model.specs.Refusal.{Answer, answer, _>>=_, need, _>>_}
 use Rattle.model.specs.File.{field, head, state, entries, rising, command, commands, states, read}
@@ -53,12 +53,12 @@ case-a-decide : gateDecideCall (tablesIn size rows firsts outcomes) (lent 13) (l
       scratch = replicate 12 0 ++ lent 1;
       tally = (0 ∷ 0 ∷ 0 ∷ 2 ∷ 0 ∷ 1 ∷ 0 ∷ 0 ∷ 0 ∷ 1 ∷ 0 ∷ 2 ∷ []) ++ lent 1;
     }
-unfolding any first every exists orElse lowest found howMany grow tabulate overwrite joined entry ordinary failing active terminal hasPolicy hits forced rank lost safe tryOrder choice chosen policyHits policyFails fault mark tallyRow tally lands next marked withoutMarks ends before atOnce inRounds search answer _>>=_ need _>>_ rowAt firstCommand commandCount listAt sizeSound tablesLong rowSound risesAt listSound entrySound listsSound sound stateAt treeOf stateOf planOf planIn rowsIn entriesIn entries tablesIn left deciding searching rankTable commandTable markTable resultTable cleared code gateDecide gateSearch tallyEntries resultEntries twos startOf
+unfolding any first every exists orElse lowest found howMany grow tabulate overwrite joined entry ordinary failing active resting hasPractice hits forced rank lost safe tryOrder choice chosen practiceHits practiceFails fault mark tallyRow tally lands next marked withoutMarks ends before atOnce inRounds search answer _>>=_ need _>>_ rowAt firstCommand commandCount listAt sizeSound tablesLong rowSound risesAt listSound entrySound listsSound sound stateAt treeOf stateOf planOf planIn rowsIn entriesIn entries tablesIn left deciding searching rankTable commandTable markTable resultTable cleared code gateDecide gateSearch tallyEntries resultEntries twos startOf
 case-a-decide = refl
 
 case-a-search : gateSearchCall (tablesIn size rows firsts outcomes) 0 (lent 13) (lent 13) (lent 5)
     ≡ record { returns = 0; commands = (0 ∷ 0 ∷ 0 ∷ 0 ∷ 255 ∷ 255 ∷ 255 ∷ 255 ∷ 255 ∷ 255 ∷ 255 ∷ 255 ∷ []) ++ lent 1; scratch = replicate 12 0 ++ lent 1; answer = 0 ∷ 0 ∷ 0 ∷ 2 ∷ lent 1 }
-unfolding any first every exists orElse lowest found howMany grow tabulate overwrite joined entry ordinary failing active terminal hasPolicy hits forced rank lost safe tryOrder choice chosen policyHits policyFails fault mark tallyRow tally lands next marked withoutMarks ends before atOnce inRounds search answer _>>=_ need _>>_ rowAt firstCommand commandCount listAt sizeSound tablesLong rowSound risesAt listSound entrySound listsSound sound stateAt treeOf stateOf planOf planIn rowsIn entriesIn entries tablesIn left deciding searching rankTable commandTable markTable resultTable cleared code gateDecide gateSearch tallyEntries resultEntries twos startOf
+unfolding any first every exists orElse lowest found howMany grow tabulate overwrite joined entry ordinary failing active resting hasPractice hits forced rank lost safe tryOrder choice chosen practiceHits practiceFails fault mark tallyRow tally lands next marked withoutMarks ends before atOnce inRounds search answer _>>=_ need _>>_ rowAt firstCommand commandCount listAt sizeSound tablesLong rowSound risesAt listSound entrySound listsSound sound stateAt treeOf stateOf planOf planIn rowsIn entriesIn entries tablesIn left deciding searching rankTable commandTable markTable resultTable cleared code gateDecide gateSearch tallyEntries resultEntries twos startOf
 case-a-search = refl
 
 -- rule L10
@@ -78,7 +78,7 @@ chainIn = tablesIn (0 ∷ 3 ∷ 0 ∷ 2 ∷ 0 ∷ 2 ∷ 0 ∷ 0 ∷ []) (0 ∷ 0
 -- lost is 1 (case A is safe), and no command is left in the table
 lost-search : gateSearchCall chainIn 0 (lent 6) (lent 6) (lent 4)
     ≡ record { returns = 0; commands = replicate 6 255; scratch = replicate 6 0; answer = 0 ∷ 1 ∷ 0 ∷ 2 ∷ [] }
-unfolding any first every exists orElse lowest found grow tabulate overwrite entry ordinary failing active terminal hasPolicy hits tryOrder choice lands next marked withoutMarks ends before atOnce inRounds search _>>=_ need _>>_ rowAt firstCommand commandCount listAt sizeSound tablesLong rowSound risesAt listSound entrySound listsSound sound stateAt treeOf stateOf planOf planIn rowsIn entriesIn entries tablesIn left searching resultTable cleared code gateSearch resultEntries twos startOf
+unfolding any first every exists orElse lowest found grow tabulate overwrite entry ordinary failing active resting hasPractice hits tryOrder choice lands next marked withoutMarks ends before atOnce inRounds search _>>=_ need _>>_ rowAt firstCommand commandCount listAt sizeSound tablesLong rowSound risesAt listSound entrySound listsSound sound stateAt treeOf stateOf planOf planIn rowsIn entriesIn entries tablesIn left searching resultTable cleared code gateSearch resultEntries twos startOf
 lost-search = refl
 
 -- ---- lengths in bytes: each slice just long enough, then in turn a byte less

@@ -17,10 +17,10 @@ use Rattle.model.specs.Calls.{left, reading, writing, readCall, writeCal
 use Rattle.model.specs.Bench.{toItself}
 
 abbrev seven : Row
-seven = record { kind = 7; first = 7; policy = 7 }
+seven = record { kind = 7; first = 7; practice = 7 }
 
 abbrev own : Row
-own = record { kind = 0; first = 0; policy = FFFF }
+own = record { kind = 0; first = 0; practice = FFFF }
 
 -- 0 to {0}, with a place to spare in every table: the counts are answered, and the last places are as they were
 read-example : readCall toItself (seven ∷ seven ∷ []) (7 ∷ 7 ∷ []) (7 ∷ 7 ∷ [])

@@ -7,13 +7,13 @@ use Rattle.model.specs.File.{State}
 use Rattle.model.specs.Held.{planOf}
 
 abbrev pub acting : ℕ → List (List ℕ) → State
-acting policy commands = record { kind = 0; policy = policy; commands = commands }
+acting practice commands = record { kind = 0; practice = practice; commands = commands }
 
 abbrev pub rest : State
-rest = record { kind = 2; policy = FFFF; commands = [] }
+rest = record { kind = 2; practice = FFFF; commands = [] }
 
 abbrev pub failed : State
-failed = record { kind = 1; policy = FFFF; commands = [] }
+failed = record { kind = 1; practice = FFFF; commands = [] }
 
 abbrev pub planned : List State → Plan
 planned ss = planOf (record { start = 0; states = ss })

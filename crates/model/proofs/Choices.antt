@@ -13,7 +13,7 @@ use Rattle.laws.proofs.Tests.{clash, true-or-false, refute, and-both, and-join}
 use Rattle.laws.proofs.Sets.{any-hit, any-of, any-none, every-at, every-of, first-some, first-none, first-same}
 use Rattle.laws.proofs.Lists.{mem-at, at-mem}
 use Rattle.laws.proofs.Ranges.{first-lowest}
-use Rattle.model.specs.Plan.{Plan, active, hasPolicy}
+use Rattle.model.specs.Plan.{Plan, active, hasPractice}
 use Rattle.model.specs.Verdict.{hits, forced}
 use Rattle.model.specs.Command.{tryOrder, choice}
 
@@ -25,17 +25,17 @@ module _ (P : Plan) (s : ℕ) where
 
   -- every number tried is a command
   pub tried-command : (c : ℕ) → List·Memᴰ c (tryOrder P s) → c < P .commands s
-  unfolding tryOrder hasPolicy
-  tried-command c m = ⊎-elim with-policy (λ e. numbered c (rw e at m)) (true-or-false (hasPolicy P s))
+  unfolding tryOrder hasPractice
+  tried-command c m = ⊎-elim with-practice (λ e. numbered c (rw e at m)) (true-or-false (hasPractice P s))
     where
-      with-policy : hasPolicy P s ≡ true → c < P .commands s
-      with-policy e =
-          ⊎-elim (λ q. rw q (ltb-true (P .policy s) (P .commands s) e)) (numbered c) (List·Memᴰ·cases-cons (rw e at m))
+      with-practice : hasPractice P s ≡ true → c < P .commands s
+      with-practice e =
+          ⊎-elim (λ q. rw q (ltb-true (P .practice s) (P .commands s) e)) (numbered c) (List·Memᴰ·cases-cons (rw e at m))
 
   -- every command is tried
   pub command-tried : (c : ℕ) → c < P .commands s → List·Memᴰ c (tryOrder P s)
   unfolding tryOrder
-  command-tried c l = ⊎-elim (λ e. rw e (List·Memᴰ·tail all)) (λ e. rw e all) (true-or-false (hasPolicy P s))
+  command-tried c l = ⊎-elim (λ e. rw e (List·Memᴰ·tail all)) (λ e. rw e all) (true-or-false (hasPractice P s))
     where
       all : List·Memᴰ c (tabulate (λ d. d) 0 (P .commands s))
       all = mem-at (λ d. d) (P .commands s) c l
@@ -96,7 +96,7 @@ module _ (P : Plan) (K : ℕ → Bool) (s : ℕ) where
   choice-none a e c l =
       not-false (hits P K s c) (first-none keeps (tryOrder P s) (sym (choice-first a) ∙ e) c (command-tried P s c l))
 
-  -- the first tried that keeps out of K, by whether there is a policy to try
+  -- the first tried that keeps out of K, by whether there is a practice to try
   order-words : (b : Bool) (p n : ℕ)
       → first keeps (cond b (p ∷ tabulate (λ c. c) 0 n) (tabulate (λ c. c) 0 n)) ≡ cond (b && keeps p) (some p) (lowest keeps n)
   unfolding first
@@ -106,9 +106,9 @@ module _ (P : Plan) (K : ℕ → Bool) (s : ℕ) where
   -- rules V6 and S4: the practice if it has no outcome in K, and otherwise the smallest number of a command that has none
   pub choice-words : active P s ≡ true
       → choice P K s
-      ≡ cond (hasPolicy P s && not (hits P K s (P .policy s))) (some (P .policy s)) (lowest (λ c. not (hits P K s c)) (P .commands s))
+      ≡ cond (hasPractice P s && not (hits P K s (P .practice s))) (some (P .practice s)) (lowest (λ c. not (hits P K s c)) (P .commands s))
   unfolding keeps tryOrder
-  choice-words a = choice-first a ∙ order-words (hasPolicy P s) (P .policy s) (P .commands s)
+  choice-words a = choice-first a ∙ order-words (hasPractice P s) (P .practice s) (P .commands s)
 
 -- A larger set L that the command taken under K stays out of: the same command is taken.
 module _ (P : Plan) (K L : ℕ → Bool) (s : ℕ)

@@ -28,7 +28,7 @@ use Rattle.model.proofs.OnlyRefused.{reading-only, writing-only, decidi
 use Rattle.model.proofs.Layers.{lost-iff-layer, rank-some, layer-rank}
 use Rattle.model.proofs.ValueEquation.{least-solution}
 use Rattle.model.proofs.Choices.{choice-words}
-use Rattle.model.proofs.PolicyRuns.{policy-judged}
+use Rattle.model.proofs.PracticeRuns.{practice-judged}
 use Rattle.model.proofs.Searching.{last-round}
 use Rattle.model.proofs.RoundTrips.{read-write, write-read, written-length}
 use Rattle.model.proofs.FileLength.{length-bytes}
@@ -152,7 +152,7 @@ meanings = record {
   );
   least-solution = λ T S. least-solution (planIn T) (valid T S);
   choice-words = choice-words;
-  practice-judged = λ T S s l. policy-judged (planIn T) (valid T S) s (in-plan T S s l);
+  practice-judged = λ T S s l. practice-judged (planIn T) (valid T S) s (in-plan T S s l);
   last-round = λ T S a l act.
       subst (λ (n : ℕ). lowest (ends (planIn T) a) n ≡ some (before (planIn T) a)) (states-held T) (last-round (planIn T) (valid T S) a (in-plan T S a l) act);
   read-write = read-write;

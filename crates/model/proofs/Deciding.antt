@@ -12,7 +12,7 @@ use Rattle.model.specs.Plan.{Plan, Valid}
 use Rattle.model.specs.Verdict.{forced, layer, rank, lost}
 use Rattle.model.specs.Command.{choice, chosen}
 use Rattle.model.specs.Run.{Move, Run, noMoves, _▸_, present, moves, CanMove, IsRun, RunHolds}
-use Rattle.model.specs.Strategy.{Strategy, Under, Total, Fails, Survives, positional}
+use Rattle.model.specs.Rule.{Rule, Under, Commanding, Fails, Survives, positional}
 use Rattle.model.specs.Demand3.{Decided, readEntry}
 use Rattle.model.proofs.StateKinds.{active-is, active-of}
 use Rattle.model.proofs.Choices.{hits-is, misses, forced-is, forced-of, choice-some, choice-none}
@@ -28,7 +28,7 @@ run-inside P S s l (w ▸ m) i =
 
 -- ---- a lost state: every rule that commands has a failing run, no longer than the layer's number
 
-module _ (P : Plan) (s : ℕ) (ρ : Strategy) (C : Total P s ρ) where
+module _ (P : Plan) (s : ℕ) (ρ : Rule) (C : Commanding P s ρ) where
   -- the rule has a failing run of at most k moves
   abbrev Within : ℕ → Type 0
   Within k = (f : Fails P s ρ) × (moves (f .run) ≤ k)
@@ -85,7 +85,7 @@ module _ (P : Plan) (S : Valid P) (C : ℕ → Option ℕ) (is-chosen : (t : ℕ
       let (act, own, out) = choice-some P (lost P) (present s w) (m .command) (sym (taken w (i .0)) ∙ u .1) in
       misses P (lost P) (present s w) (m .command) (m .landing) out (i .1 .landed)
 
-  chosen-total : Total P s (positional C s)
+  chosen-total : Commanding P s (positional C s)
   chosen-total = record {
     own = λ w c i e. choice-some P (lost P) (present s w) c (sym (taken w i) ∙ e) .1;
     acts = λ w i u a.
@@ -136,10 +136,10 @@ module _ (P : Plan) (s r : ℕ) where
   abbrev evading : Run → Option ℕ
   evading w = choice P (layer P (r - 2 - moves w)) (present s w)
 
-  unfoldable pub delaying : Strategy
+  unfoldable pub delaying : Rule
   delaying w = else-first (evading w) (P .commands (present s w))
 
-  delaying-total : Total P s delaying
+  delaying-total : Commanding P s delaying
   unfolding delaying
   delaying-total = record {
     own = λ w c i e.
@@ -182,7 +182,7 @@ module _ (P : Plan) (S : Valid P) (ranks commands : List ℕ)
     delays = λ r e pos. (delaying P s r, delaying-total P s r, delaying-survives P s r (ranked r e) pos);
   }
     where
-      rule : Strategy
+      rule : Rule
       rule = positional (readEntry commands) s
 
       ranked : (r : ℕ) → readEntry ranks s ≡ some r → rank P s ≡ some r
@@ -191,7 +191,7 @@ module _ (P : Plan) (S : Valid P) (ranks commands : List ℕ)
       kept : readEntry ranks s ≡ none → lost P s ≡ false
       kept e = rank-safe P s (sym (is-rank s l) ∙ e)
 
-      total : lost P s ≡ false → Total P s rule
+      total : lost P s ≡ false → Commanding P s rule
       total = chosen-total P S (readEntry commands) is-chosen s l
 
       spared : lost P s ≡ false → Fails P s rule → ⊥

@@ -11,7 +11,7 @@ use Rattle.laws.proofs.Lists.{length-tabulate, tabulate-at, getD-overwrite-belo
 use Rattle.model.specs.Plan.{Plan}
 use Rattle.model.specs.Verdict.{rank}
 use Rattle.model.specs.Command.{chosen}
-use Rattle.model.specs.Policy.{tally}
+use Rattle.model.specs.Practice.{tally}
 use Rattle.model.specs.Search.{Result, search}
 use Rattle.model.specs.Refusal.{given}
 use Rattle.model.specs.Tables.{Tables}

@@ -38,7 +38,7 @@ head-limits = refl
 
 -- a command more than 4,096, under kind 2 and under kind 0: idle comes before limit; the 4,096th
 state-limits : state 4096 (2 ∷ 0 ∷ 5 ∷ 2 ∷ 0 ∷ 1 ∷ 255 ∷ 255 ∷ []) ∷ state 4096 (2 ∷ 0 ∷ 5 ∷ 0 ∷ 0 ∷ 1 ∷ 255 ∷ 255 ∷ []) ∷ state 4095 (2 ∷ 0 ∷ 5 ∷ 0 ∷ 0 ∷ 1 ∷ 255 ∷ 255 ∷ []) ∷ []
-    ≡ refused Idle ∷ refused Limit ∷ given (record { kind = 0; count = 1; policy = FFFF }) ∷ []
+    ≡ refused Idle ∷ refused Limit ∷ given (record { kind = 0; count = 1; practice = FFFF }) ∷ []
 unfolding state field _>>=_ need _>>_
 state-limits = refl
 

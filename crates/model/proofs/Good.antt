@@ -101,11 +101,11 @@ bytes-commands {n} h (more {x = c} {xs = cs} g gs) l b =
     bytes-cons (omega arith) (bytes-two (length c * 2) (omega arith)
     (bytes-twos (omega arith) (rising-below n 0 c (g .rise)) (bytes-commands h gs (omega arith) b)))
 
--- a policy fits two bytes
-pub policy-fits : (q : StateField) → q .count ≤ maxCommands → notIdle q ≡ true → q .policy < 65536
-policy-fits q h e =
-    elim (or-cases (eqb (q .policy) FFFF) (ltb (q .policy) (q .count)) (and-both (eqb (q .kind) 0 || eqb (q .count) 0) _ e .1))
-    [ inl a ↦ omega (arith, eqb-true (q .policy) FFFF a) | inr a ↦ omega (arith, ltb-true (q .policy) (q .count) a) ]
+-- a practice fits two bytes
+pub practice-fits : (q : StateField) → q .count ≤ maxCommands → notIdle q ≡ true → q .practice < 65536
+practice-fits q h e =
+    elim (or-cases (eqb (q .practice) FFFF) (ltb (q .practice) (q .count)) (and-both (eqb (q .kind) 0 || eqb (q .count) 0) _ e .1))
+    [ inl a ↦ omega (arith, eqb-true (q .practice) FFFF a) | inr a ↦ omega (arith, ltb-true (q .practice) (q .count) a) ]
 
 bytes-states : {n : ℕ} {ss : List State} {r : List ℕ} → n ≤ maxStates → All (GoodState n) ss
     → length (allCommands ss) ≤ maxCommands → length (joined (allCommands ss)) ≤ maxOutcomes → Bytes r → Bytes (statesBytes ss r)
@@ -115,7 +115,7 @@ bytes-states h (more {x = s} {xs = ss} g gs) l k b =
     let d = length-append (s .commands) (allCommands ss) in
     let e = length-joined (s .commands) (allCommands ss) in
     bytes-cons (omega arith) (bytes-two 5 (omega arith) (bytes-cons (omega arith)
-    (bytes-two (length (s .commands)) (omega arith) (bytes-two (s .policy) (policy-fits (fieldOf s) (omega arith) (g .works))
+    (bytes-two (length (s .commands)) (omega arith) (bytes-two (s .practice) (practice-fits (fieldOf s) (omega arith) (g .works))
     (bytes-commands h (g .good) (omega arith) (bytes-states h gs (omega arith) (omega arith) b))))))
 
 pub bytes-good : (p : Tree) → Good p → Bytes (bytesOf p)

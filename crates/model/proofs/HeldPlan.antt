@@ -31,9 +31,9 @@ module _ (T : Tables) where
     unfolding planIn planOf stateAt
     kind-held = ap (λ (q : State). q .kind) state-held
 
-    pub policy-held : planIn T .policy s ≡ rowAt T s .policy
+    pub practice-held : planIn T .practice s ≡ rowAt T s .practice
     unfolding planIn planOf stateAt
-    policy-held = ap (λ (q : State). q .policy) state-held
+    practice-held = ap (λ (q : State). q .practice) state-held
 
     pub commands-held : planIn T .commands s ≡ commandCount T s
     unfolding planIn planOf stateAt

@@ -38,7 +38,7 @@ length-rows es = length-tabulate (λ s. rowFrom (λ i. getD es (s * rowWidth + i
 
 -- a row is what its entries are
 row-same : (f g : ℕ → ℕ) → ((i : ℕ) → i < rowWidth → f i ≡ g i) → rowFrom f ≡ rowFrom g
-row-same f g h = λ q. record { kind = h 0 (omega arith) q; first = h 1 (omega arith) q; policy = h 2 (omega arith) q }
+row-same f g h = λ q. record { kind = h 0 (omega arith) q; first = h 1 (omega arith) q; practice = h 2 (omega arith) q }
 
 -- the first n rows
 pub take-rows : (n : ℕ) (s : List ℕ) → n * rowBytes ≤ length s → take n (rowsIn (entriesIn s)) ≡ tabulate (rowIn s) 0 n

@@ -5,7 +5,7 @@ pub mod SameLayers
 pub mod Finer
 pub mod Renumbered
 pub mod ValueEquation
-pub mod PolicyRuns
+pub mod PracticeRuns
 pub mod Bugs
 pub mod Deciding
 pub mod Stays
@@ -54,7 +54,7 @@ pub mod ValueCases
 pub mod ListingCases
 pub mod FileCases
 pub mod CallCases
-pub mod PolicyCases
+pub mod PracticeCases
 pub mod RunCases
 pub mod Decimals
 pub mod ListingLength

@@ -11,7 +11,7 @@ use Rattle.laws.specs.Lists.{tabulate, joined}
 use Rattle.laws.proofs.Tests.{true-or-false}
 use Rattle.laws.proofs.Joins.{joined-bound}
 use Rattle.model.specs.Plan.{Plan}
-use Rattle.model.specs.Policy.{tally}
+use Rattle.model.specs.Practice.{tally}
 use Rattle.model.specs.Verdict.{rank}
 use Rattle.model.specs.Command.{chosen}
 use Rattle.model.specs.Search.{Result, search}
@@ -19,7 +19,7 @@ use Rattle.model.specs.Refusal.{Refusal, Limit, Answer, given, refused, 
 use Rattle.model.specs.File.{Tree, read}
 use Rattle.model.specs.Tables.{Size, tablesOf}
 use Rattle.model.specs.Held.{planOf}
-use Rattle.model.specs.Listing.{decimal, line, refusalText, kindLetter, verdictLetter, numberOrDash, policyLetter, faultSign, planLine, stateLine, tallyLine, startLine, planText, answerText, listing}
+use Rattle.model.specs.Listing.{decimal, line, refusalText, kindLetter, verdictLetter, numberOrDash, practiceLetter, faultSign, planLine, stateLine, tallyLine, startLine, planText, answerText, listing}
 use Rattle.model.proofs.Good.{read-good}
 use Rattle.model.proofs.Valid.{few-states}
 use Rattle.model.proofs.Decimals.{decimal-length}
@@ -38,7 +38,7 @@ unfolding planLine line
 plan-length z = simp length-append (omega (arith, decimal-length (z .n), decimal-length (z .m), decimal-length (z .t)))
 
 pub state-length : (P : Plan) (s : ℕ) → length (stateLine P s) ≤ 29
-unfolding stateLine line kindLetter verdictLetter policyLetter faultSign
+unfolding stateLine line kindLetter verdictLetter practiceLetter faultSign
 state-length P s = simp length-append (omega (arith, decimal-length s, dash-length (rank P s), dash-length (chosen P s)))
 
 pub tally-length : (rows : List (List ℕ)) → length (tallyLine rows) ≤ 50

@@ -36,8 +36,8 @@ head-forth n start r h l i = head-gives _ n start (record {
 state-forth : (m : ℕ) (q : StateField) (r : List ℕ) → q .kind ≤ 2 → notIdle q ≡ true → m + q .count ≤ maxCommands
     → state m (stateBytes q r) ≡ given q
 state-forth m q r h b l = state-gives m _ q (record {
-  framed = framed stateTag 5 (q .kind ∷ two (q .count) (two (q .policy) r)) refl (omega arith);
-  is = λ i. record { kind = q .kind; count = be16-two (q .count) r i; policy = be16-two (q .policy) r i };
+  framed = framed stateTag 5 (q .kind ∷ two (q .count) (two (q .practice) r)) refl (omega arith);
+  is = λ i. record { kind = q .kind; count = be16-two (q .count) r i; practice = be16-two (q .practice) r i };
   low = h;
   works = b;
   few = l;

@@ -11,7 +11,7 @@ use Rattle.laws.specs.Sets.{any, every, first, grow}
 use Rattle.laws.proofs.Sets.{first-some, first-same}
 use Rattle.laws.proofs.Agree.{every-same, any-same}
 use Rattle.laws.proofs.Maps.{map-is, map-same, any-map}
-use Rattle.model.specs.Plan.{Plan, Valid, ordinary, failing, failingAt, active, hasPolicy}
+use Rattle.model.specs.Plan.{Plan, Valid, ordinary, failing, failingAt, active, hasPractice}
 use Rattle.model.specs.Verdict.{hits, forced, layer, rank, lost, safe}
 use Rattle.model.specs.Command.{tryOrder, choice, chosen}
 use Rattle.model.proofs.Choices.{tried-command}
@@ -22,7 +22,7 @@ pub record PartOf (Q P : Plan) (old new : ℕ → ℕ) : Type 0 where
   pub inside : (i : ℕ) → i < Q .states → old i < P .states
   pub kinds : (i : ℕ) → i < Q .states → Q .kind i ≡ P .kind (old i)
   pub counts : (i : ℕ) → i < Q .states → Q .commands i ≡ P .commands (old i)
-  pub policies : (i : ℕ) → i < Q .states → Q .policy i ≡ P .policy (old i)
+  pub practices : (i : ℕ) → i < Q .states → Q .practice i ≡ P .practice (old i)
   pub outcomes : (i c : ℕ) → i < Q .states → Q .outcomes i c ≡ map new (P .outcomes (old i) c)
   -- its commands stay in it
   pub back : (i c x : ℕ) → i < Q .states → c < Q .commands i → List·Memᴰ x (P .outcomes (old i) c) → (new x < Q .states) × (old (new x) ≡ x)
@@ -47,14 +47,14 @@ module _ {Q P : Plan} {old new : ℕ → ℕ} (r : PartOf Q P old new) (i : ℕ)
   unfolding active
   part-active = ap₂ (λ (o : Bool) (n : ℕ). o && ltb 0 n) part-ordinary (r .counts i l)
 
-  part-policy : hasPolicy Q i ≡ hasPolicy P (old i)
-  unfolding hasPolicy
-  part-policy = ap₂ (λ (p n : ℕ). ltb p n) (r .policies i l) (r .counts i l)
+  part-practice : hasPractice Q i ≡ hasPractice P (old i)
+  unfolding hasPractice
+  part-practice = ap₂ (λ (p n : ℕ). ltb p n) (r .practices i l) (r .counts i l)
 
   -- commands are tried in the same order
   part-order : tryOrder Q i ≡ tryOrder P (old i)
   unfolding tryOrder
-  part-order = rw (part-policy, r .policies i l, r .counts i l)
+  part-order = rw (part-practice, r .practices i l, r .counts i l)
 
   -- its outcomes are the same under their old numbers
   pub part-outcomes : (c : ℕ) → c < Q .commands i → map old (Q .outcomes i c) ≡ P .outcomes (old i) c

@@ -9,7 +9,7 @@ use Rattle.laws.specs.Entry.{FFFF, fromEntry}
 use Rattle.laws.proofs.Tests.{clash}
 use Rattle.model.specs.Plan.{Plan, ordinary, failing}
 use Rattle.model.specs.Run.{Move, Run, noMoves, _▸_, present, moves, CanMove, IsRun, RunFails, RunHolds}
-use Rattle.model.specs.Strategy.{Strategy, Under}
+use Rattle.model.specs.Rule.{Rule, Under}
 use Rattle.model.specs.Demand3.{readEntry}
 use Rattle.model.specs.Held.{stateOf, planOf}
 use Rattle.model.proofs.CasePlans.{acting, rest, failed, planned}
@@ -59,7 +59,7 @@ unfolding stateOf planOf
 no-such-landing c = ⊎-elim (λ q. omega (arith, q)) List·Memᴰ·not-nil (List·Memᴰ·cases-cons (c .landed))
 
 -- a rule that remembers: command 0 first, then 1
-abbrev turning : Strategy
+abbrev turning : Rule
 turning noMoves = some 0
 turning (w ▸ m) = some 1
 

@@ -1,11 +1,11 @@
--- What a state counts as: a state of a valid plan is exactly one of failing, terminal and active.
+-- What a state counts as: a state of a valid plan is exactly one of failing, resting and active.
 use mathlib.Core.Path.{_≡_, refl}
 use mathlib.Core.Bool.{true, false}
 use Prim.Native.Nat.{ℕ, zero, suc, _<_, _≤_}
 use native.Mathlib.Omega.{arith}
 use lib.Dec.{ltb, eqb·suc-zero}
 use borrow.Author.Tests.{eqb-true, eq-eqb, ltb-true, lt-ltb}
-use Rattle.model.specs.Plan.{Plan, ordinary, failing, active, terminal, Valid}
+use Rattle.model.specs.Plan.{Plan, ordinary, failing, active, resting, Valid}
 use Rattle.laws.proofs.Tests.{refute, and-both, and-join}
 
 module _ (P : Plan) (s : ℕ) where
@@ -25,13 +25,13 @@ module _ (P : Plan) (s : ℕ) where
       apart p q = omega arith
 
   pub data Kind : Type 0 where
-    fails : failing P s ≡ true → terminal P s ≡ false → active P s ≡ false → Kind
-    rests : failing P s ≡ false → terminal P s ≡ true → active P s ≡ false → Kind
-    acts : failing P s ≡ false → terminal P s ≡ false → active P s ≡ true → Kind
+    fails : failing P s ≡ true → resting P s ≡ false → active P s ≡ false → Kind
+    rests : failing P s ≡ false → resting P s ≡ true → active P s ≡ false → Kind
+    acts : failing P s ≡ false → resting P s ≡ false → active P s ≡ true → Kind
 
   module _ (S : Valid P) (l : s < P .states) where
     pub kind-of : Kind
-    unfolding ordinary failing active terminal
+    unfolding ordinary failing active resting
     kind-of = go (P .kind s) (P .commands s) refl refl (S .kinds s l)
       where
         go : (k n : ℕ) → P .kind s ≡ k → P .commands s ≡ n → k ≤ 2 → Kind

@@ -10,7 +10,7 @@ use Rattle.laws.proofs.Sets.{Part}
 use Rattle.model.specs.Plan.{Plan, Valid}
 use Rattle.model.specs.Run.{Move, Run, noMoves, _▸_, present, IsRun, RunHolds}
 use Rattle.model.specs.Stays.{Stays}
-use Rattle.model.specs.Strategy.{Strategy, Under, positional}
+use Rattle.model.specs.Rule.{Rule, Under, positional}
 use Rattle.model.specs.Verdict.{lost, safe}
 use Rattle.model.specs.Command.{chosen}
 use Rattle.model.proofs.Choices.{misses, choice-some}
@@ -63,7 +63,7 @@ begins-all Q less v (w ▸ m) (inr b) q = begins-all Q less v w b (less w m q)
 pub begins-run : (P : Plan) (s : ℕ) (v w : Run) → Begins v w → IsRun P s w → IsRun P s v
 begins-run P s = begins-all (IsRun P s) (λ w m i. i .0)
 
-pub begins-under : (ρ : Strategy) (v w : Run) → Begins v w → Under ρ w → Under ρ v
+pub begins-under : (ρ : Rule) (v w : Run) → Begins v w → Under ρ w → Under ρ v
 begins-under ρ = begins-all (Under ρ) (λ w m u. u .0)
 
 module _ (K : ℕ → Bool) (s : ℕ) where
@@ -83,7 +83,7 @@ module _ (K : ℕ → Bool) (s : ℕ) where
 
 module _ (P : Plan) (K : ℕ → Bool) (s : ℕ) where
   -- a set where every run under a rule ends is one where every run under it stays
-  pub stays-under : (ρ : Strategy) → ((w : Run) → IsRun P s w → Under ρ w → K (present s w) ≡ true)
+  pub stays-under : (ρ : Rule) → ((w : Run) → IsRun P s w → Under ρ w → K (present s w) ≡ true)
       → (w : Run) → IsRun P s w → Under ρ w → Stays K s w
   stays-under ρ ends w i u = stays-iff K s w .1 (λ v b. ends v (begins-run P s v w b i) (begins-under ρ v w b u))
 

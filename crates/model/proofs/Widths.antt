@@ -13,7 +13,7 @@ use Rattle.laws.proofs.All.{All, none, more, all-tabulate}
 use Rattle.model.specs.Plan.{Plan, Valid, ordinary}
 use Rattle.model.specs.Verdict.{rank, lost}
 use Rattle.model.specs.Command.{chosen}
-use Rattle.model.specs.Policy.{policyFails, fault, mark, tallyRow, tally}
+use Rattle.model.specs.Practice.{practiceFails, fault, mark, tallyRow, tally}
 use Rattle.model.specs.Search.{search, ordinaries}
 use Rattle.model.specs.Calls.{rankTable, commandTable, markTable}
 use Rattle.model.specs.Boundary.{tallyEntries}
@@ -48,7 +48,7 @@ module _ (P : Plan) (S : Valid P) (few : P .states < 65536) (short : (s : ℕ) �
 
   pub marks-fit : All Fits (markTable P)
   unfolding markTable mark
-  marks-fit = table-fits (mark P) (P .states) (λ s l. small (policyFails P s) (fault P s))
+  marks-fit = table-fits (mark P) (P .states) (λ s l. small (practiceFails P s) (fault P s))
     where
       small : (a b : Bool) → cond a 1 0 + cond b 2 0 < 65536
       small true true = omega arith

@@ -4,7 +4,7 @@ use mathlib.Core.Bool.{Bool, true, false}
 use mathlib.Core.List.{List, [], _∷_}
 use Prim.Native.Nat.{ℕ}
 use Rattle.laws.specs.Entry.{FFFF}
-use Rattle.model.specs.Policy.{tally}
+use Rattle.model.specs.Practice.{tally}
 use Rattle.model.specs.Refusal.{Cut, Beyond, Answer, given, refused, _>>=_}
 use Rattle.model.specs.Calls.{reading, deciding, searching, rankTable, commandTable, markTable}
 

@@ -7,7 +7,7 @@ use lib.ListN.{length, getD}
 use Rattle.laws.specs.Lists.{tabulate, joined}
 use Rattle.laws.specs.Entry.{be16, twos}
 use Rattle.model.specs.Plan.{Plan}
-use Rattle.model.specs.Policy.{tally}
+use Rattle.model.specs.Practice.{tally}
 use Rattle.model.specs.Search.{Result}
 use Rattle.model.specs.Refusal.{Cramped, Unsound, Answer, given, refused, number, need, _>>=_, _>>_}
 use Rattle.model.specs.Tables.{Size, Row, Tables}
@@ -48,11 +48,11 @@ bytesFor es = twos es []
 
 -- rule G2: the row whose entries these are, by their places in it
 abbrev pub rowFrom : (ℕ → ℕ) → Row
-rowFrom entry = record { kind = entry 0; first = entry 1; policy = entry 2 }
+rowFrom entry = record { kind = entry 0; first = entry 1; practice = entry 2 }
 
 -- and the entries of a row
 abbrev pub entriesOf : Row → List ℕ
-entriesOf w = w .kind ∷ w .first ∷ w .policy ∷ []
+entriesOf w = w .kind ∷ w .first ∷ w .practice ∷ []
 
 -- the rows that entries hold, one behind another; entries left over are no row
 unfoldable pub rowsIn : List ℕ → List Row

@@ -12,7 +12,7 @@ commandsBytes (c ∷ cs) r = commandTag ∷ two (length c * 2) (twos c (commands
 
 -- a state field
 abbrev pub stateBytes : StateField → List ℕ → List ℕ
-stateBytes q r = stateTag ∷ two 5 (q .kind ∷ two (q .count) (two (q .policy) r))
+stateBytes q r = stateTag ∷ two 5 (q .kind ∷ two (q .count) (two (q .practice) r))
 
 unfoldable pub statesBytes : List State → List ℕ → List ℕ
 statesBytes [] r = r

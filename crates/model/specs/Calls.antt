@@ -9,7 +9,7 @@ use Rattle.laws.specs.Entry.{entry}
 use Rattle.model.specs.Plan.{Plan}
 use Rattle.model.specs.Verdict.{rank}
 use Rattle.model.specs.Command.{chosen}
-use Rattle.model.specs.Policy.{mark, tally}
+use Rattle.model.specs.Practice.{mark, tally}
 use Rattle.model.specs.Search.{Result, search}
 use Rattle.model.specs.Refusal.{Cramped, Unsound, Stranger, Answer, given, refused, answer, need, _>>=_, _>>_}
 use Rattle.model.specs.File.{read}

@@ -10,12 +10,12 @@ use lib.ListN.{length, take}
 use Rattle.laws.specs.Sets.{lowest}
 use Rattle.laws.specs.Lists.{overwrite}
 use Rattle.laws.specs.Entry.{Bytes}
-use Rattle.model.specs.Plan.{Plan, active, hasPolicy}
-use Rattle.model.specs.Strategy.{Fails, positional}
+use Rattle.model.specs.Plan.{Plan, active, hasPractice}
+use Rattle.model.specs.Rule.{Fails, positional}
 use Rattle.model.specs.Verdict.{hits, layer, rank, lost}
 use Rattle.model.specs.Value.{LeastSolution}
 use Rattle.model.specs.Command.{choice}
-use Rattle.model.specs.Policy.{followed, policyFails}
+use Rattle.model.specs.Practice.{followed, practiceFails}
 use Rattle.model.specs.Search.{Result, ends, before, search}
 use Rattle.model.specs.Refusal.{Refusal, Cramped, Unsound, Stranger, Answer, given, refused}
 use Rattle.model.specs.File.{Tree, read}
@@ -69,9 +69,9 @@ pub record Meanings : Type 0 where
   pub least-solution : (T : Tables) → Sound T → LeastSolution (planIn T)
   -- the practice if it has no outcome in K, else the lowest-numbered command that has none
   pub choice-words : (P : Plan) (K : ℕ → Bool) (s : ℕ) → active P s ≡ true → choice P K s
-      ≡ cond (hasPolicy P s && not (hits P K s (P .policy s))) (some (P .policy s)) (lowest (λ c. not (hits P K s c)) (P .commands s))
+      ≡ cond (hasPractice P s && not (hits P K s (P .practice s))) (some (P .practice s)) (lowest (λ c. not (hits P K s c)) (P .commands s))
   -- the practice fails: some run under it does
-  pub practice-judged : (T : Tables) → Sound T → (s : ℕ) → s < T .size .n → (policyFails (planIn T) s ≡ true) ↔ Fails (planIn T) s (positional (followed (planIn T)) s)
+  pub practice-judged : (T : Tables) → Sound T → (s : ℕ) → s < T .size .n → (practiceFails (planIn T) s ≡ true) ↔ Fails (planIn T) s (positional (followed (planIn T)) s)
   -- some round is the last
   pub last-round : (T : Tables) → Sound T → (a : ℕ) → a < T .size .n → active (planIn T) a ≡ true
       → lowest (ends (planIn T) a) (T .size .n) ≡ some (before (planIn T) a)

@@ -5,14 +5,14 @@ use mathlib.Core.Option.{Option, none}
 use Prim.Native.Nat.{ℕ}
 use Rattle.laws.specs.Sets.{first}
 use Rattle.laws.specs.Lists.{tabulate}
-use Rattle.model.specs.Plan.{Plan, active, hasPolicy}
+use Rattle.model.specs.Plan.{Plan, active, hasPractice}
 use Rattle.model.specs.Verdict.{hits, lost, safe}
 
 -- The order in which commands are tried (rules V6, S4): the practice, then the lowest-numbered first.
 unfoldable pub tryOrder : Plan → ℕ → List ℕ
 tryOrder P s =
     let all = tabulate (λ c. c) 0 (P .commands s) in
-    cond (hasPolicy P s) (P .policy s ∷ all) all
+    cond (hasPractice P s) (P .practice s ∷ all) all
 
 -- at an ordinary state with commands, the first command tried that has no outcome in K
 unfoldable pub choice : Plan → (ℕ → Bool) → ℕ → Option ℕ

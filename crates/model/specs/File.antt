@@ -21,21 +21,21 @@ maxOutcomes = 16384
 -- What a file describes: the states in number order, each with its commands, each of those with its outcomes.
 pub record State : Type 0 where
   pub kind : ℕ
-  pub policy : ℕ
+  pub practice : ℕ
   pub commands : List (List ℕ)
 
 -- what a state field says: kind, command count and practice
 pub record StateField : Type 0 where
   pub kind : ℕ
   pub count : ℕ
-  pub policy : ℕ
+  pub practice : ℕ
 
 -- the state that a state field and the commands after it describe, and the state field of a state
 abbrev pub stateFrom : StateField → List (List ℕ) → State
-stateFrom q cs = record { kind = q .kind; policy = q .policy; commands = cs }
+stateFrom q cs = record { kind = q .kind; practice = q .practice; commands = cs }
 
 abbrev pub fieldOf : State → StateField
-fieldOf s = record { kind = s .kind; count = length (s .commands); policy = s .policy }
+fieldOf s = record { kind = s .kind; count = length (s .commands); practice = s .practice }
 
 pub record Tree : Type 0 where
   pub start : ℕ
@@ -80,11 +80,11 @@ head s = do
 
 -- rule E7 does not apply: only an ordinary state has commands, and a practice is FFFF or one of them
 abbrev pub notIdle : StateField → Bool
-notIdle q = (eqb (q .kind) 0 || eqb (q .count) 0) && (eqb (q .policy) FFFF || ltb (q .policy) (q .count))
+notIdle q = (eqb (q .kind) 0 || eqb (q .count) 0) && (eqb (q .practice) FFFF || ltb (q .practice) (q .count))
 
 -- the values of a state field
 abbrev pub stateValues : List ℕ → StateField
-stateValues s = record { kind = getD s 3 0; count = be16 s 4; policy = be16 s 6 }
+stateValues s = record { kind = getD s 3 0; count = be16 s 4; practice = be16 s 6 }
 
 -- rule E14: a state field, with m commands so far
 unfoldable pub state : ℕ → List ℕ → Answer StateField

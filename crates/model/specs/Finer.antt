@@ -13,7 +13,7 @@ withOutcomes P os = record {
   kind = P .kind;
   commands = P .commands;
   outcomes = os;
-  policy = P .policy;
+  practice = P .practice;
 }
 
 -- the same states, of the same kinds and with as many commands; nothing is said of the start and of the practice

@@ -18,7 +18,7 @@ treeOf T = record { start = T .size .start; states = tabulate (stateAt T) 0 (T .
 
 -- the state s; past the last, a rest state
 unfoldable pub stateOf : Tree → ℕ → State
-stateOf p s = getD (p .states) s (record { kind = 2; policy = FFFF; commands = [] })
+stateOf p s = getD (p .states) s (record { kind = 2; practice = FFFF; commands = [] })
 
 -- the plan that a file describes
 unfoldable pub planOf : Tree → Plan
@@ -28,7 +28,7 @@ planOf p = record {
   kind = λ s. stateOf p s .kind;
   commands = λ s. length (stateOf p s .commands);
   outcomes = λ s c. getD (stateOf p s .commands) c [];
-  policy = λ s. stateOf p s .policy;
+  practice = λ s. stateOf p s .practice;
 }
 
 -- the plan that tables hold

@@ -1,11 +1,11 @@
 pub mod Plan
 pub mod Run
 pub mod Stays
-pub mod Strategy
+pub mod Rule
 pub mod Verdict
 pub mod Finer
 pub mod Command
-pub mod Policy
+pub mod Practice
 pub mod Search
 pub mod Value
 pub mod Refusal

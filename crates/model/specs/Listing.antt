@@ -9,7 +9,7 @@ use Rattle.laws.specs.Lists.{tabulate, joined}
 use Rattle.model.specs.Plan.{Plan}
 use Rattle.model.specs.Verdict.{rank, lost}
 use Rattle.model.specs.Command.{chosen}
-use Rattle.model.specs.Policy.{policyFails, fault, tally}
+use Rattle.model.specs.Practice.{practiceFails, fault, tally}
 use Rattle.model.specs.Search.{Result, search}
 use Rattle.model.specs.Refusal.{Refusal, Limit, Answer, given, refused, number}
 use Rattle.model.specs.File.{Tree, read}
@@ -65,8 +65,8 @@ numberOrDash none = 45 ∷ []
 numberOrDash (some x) = decimal x
 
 -- rule L7: H or F
-unfoldable pub policyLetter : Bool → List ℕ
-policyLetter fails = cond fails 70 72 ∷ []
+unfoldable pub practiceLetter : Bool → List ℕ
+practiceLetter fails = cond fails 70 72 ∷ []
 
 -- rule L7: ! at a fault
 unfoldable pub faultSign : Bool → List ℕ
@@ -82,7 +82,7 @@ planLine z =
 unfoldable pub stateLine : Plan → ℕ → List ℕ
 stateLine P s =
     line (decimal s ∷ kindLetter (P .kind s) ∷ verdictLetter (lost P s) ∷ numberOrDash (rank P s) ∷ numberOrDash (chosen P s)
-    ∷ policyLetter (policyFails P s) ∷ faultSign (fault P s) ∷ [])
+    ∷ practiceLetter (practiceFails P s) ∷ faultSign (fault P s) ∷ [])
 
 -- rule L8: the tally's rows with a slash between them
 unfoldable pub tallyLine : List (List ℕ) → List ℕ

@@ -12,7 +12,7 @@ use Rattle.model.specs.Tables.{Row, Tables, Lists, listsIn}
 
 -- what stands for a row past the table: a rest state's
 abbrev pub noRow : Row
-noRow = record { kind = 2; first = 0; policy = FFFF }
+noRow = record { kind = 2; first = 0; practice = FFFF }
 
 -- a state's row
 unfoldable pub rowAt : Tables → ℕ → Row
@@ -39,7 +39,7 @@ commandCount T s = firstCommand T (suc s) - firstCommand T s
 
 -- what a state field says where there is a row, and how many commands there are
 abbrev pub fieldFor : Row → ℕ → StateField
-fieldFor r count = record { kind = r .kind; count = count; policy = r .policy }
+fieldFor r count = record { kind = r .kind; count = count; practice = r .practice }
 
 abbrev pub fieldAt : Tables → ℕ → StateField
 fieldAt T s = fieldFor (rowAt T s) (commandCount T s)

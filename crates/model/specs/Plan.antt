@@ -16,7 +16,7 @@ pub record Plan : Type 0 where
   -- rule P4: on which states a command may land
   pub outcomes : ℕ → ℕ → List ℕ
   -- rule P5: the practice; a number not below `commands s` stands for none
-  pub policy : ℕ → ℕ
+  pub practice : ℕ → ℕ
 
 unfoldable pub ordinary : Plan → ℕ → Bool
 ordinary P s = eqb (P .kind s) 0
@@ -33,12 +33,12 @@ unfoldable pub active : Plan → ℕ → Bool
 active P s = ordinary P s && ltb 0 (P .commands s)
 
 -- what is at rest (rule P8): a rest state, and an ordinary one that has no command
-unfoldable pub terminal : Plan → ℕ → Bool
-terminal P s = eqb (P .kind s) 2 || (ordinary P s && eqb (P .commands s) 0)
+unfoldable pub resting : Plan → ℕ → Bool
+resting P s = eqb (P .kind s) 2 || (ordinary P s && eqb (P .commands s) 0)
 
--- the policy names a command
-unfoldable pub hasPolicy : Plan → ℕ → Bool
-hasPolicy P s = ltb (P .policy s) (P .commands s)
+-- the practice names a command
+unfoldable pub hasPractice : Plan → ℕ → Bool
+hasPractice P s = ltb (P .practice s) (P .commands s)
 
 -- What the theory asks of a plan. Every plan that a file gives has it (proofs/Valid.antt, `file-valid`).
 pub record Valid (P : Plan) : Type 0 where

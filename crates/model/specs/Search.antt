@@ -5,7 +5,7 @@ use mathlib.Core.Option.{Option, none, some, Option·getD}
 use Prim.Native.Nat.{ℕ, suc}
 use lib.Dec.{eqb}
 use Rattle.laws.specs.Sets.{any, every, exists, lowest, found, howMany, grow}
-use Rattle.model.specs.Plan.{Plan, ordinary, failing, active, terminal}
+use Rattle.model.specs.Plan.{Plan, ordinary, failing, active, resting}
 use Rattle.model.specs.Command.{choice}
 
 -- rule S4: x is an outcome of the command taken at t, where one is taken
@@ -64,7 +64,7 @@ inRounds P a j = record {
 
 -- rules S2 and S3: rounds are walked from an active start only
 unfoldable pub search : Plan → ℕ → Result
-search P a = cond (failing P a) (atOnce true) (cond (terminal P a) (atOnce false) (inRounds P a (before P a)))
+search P a = cond (failing P a) (atOnce true) (cond (resting P a) (atOnce false) (inRounds P a (before P a)))
 
 -- how many ordinary states there are
 unfoldable pub ordinaries : Plan → ℕ

@@ -18,7 +18,7 @@ pub record Size : Type 0 where
 pub record Row : Type 0 where
   pub kind : ℕ
   pub first : ℕ
-  pub policy : ℕ
+  pub practice : ℕ
 
 pub record Tables : Type 0 where
   pub size : Size
@@ -49,7 +49,7 @@ allCommands (s ∷ ss) = s .commands ++ allCommands ss
 
 -- the row of a state that m commands come before, by what its state field says
 abbrev pub rowWith : ℕ → StateField → Row
-rowWith m q = record { kind = q .kind; first = m; policy = q .policy }
+rowWith m q = record { kind = q .kind; first = m; practice = q .practice }
 
 abbrev pub rowFor : ℕ → State → Row
 rowFor m s = rowWith m (fieldOf s)

@@ -1,4 +1,4 @@
--- Source 000's value equation (rule V5): its Definition 1 with the policy's action replaced by the best one, as in its backup.
+-- Source 000's value equation (rule V5): its Definition 1 with the practice's action replaced by the best one, as in its backup.
 -- V(s) = 1 if s is a fail state, else the least, over a in A(s), of the largest V(s') with s' in T(s, a).
 use mathlib.Core.Path.{_≡_}
 use mathlib.Core.Bool.{cond}

@@ -21,7 +21,7 @@ use Rattle.laws.proofs.EntryFound.{entry-found}
 use Rattle.model.specs.File.{maxStates}
 use Rattle.model.specs.Plan.{Plan, failing}
 use Rattle.model.specs.Verdict.{forced, layer, rank, lost}
-use Rattle.model.specs.Policy.{policyHits, policyFails}
+use Rattle.model.specs.Practice.{practiceHits, practiceFails}
 use Rattle.model.specs.Tables.{Tables}
 use Rattle.model.specs.SoundTest.{sound}
 use Rattle.model.specs.Held.{planIn}
@@ -96,16 +96,16 @@ module _ (size : Size) (rows : List Row) (firsts outcomes : List ℕ) (sounds : 
       unfolding depth
       depth-small s i q = omega (arith, lowest-some _ (suc (size .n)) i q .0, few)
 
-      pub fails-found : alone ≡ true → Agree (size .n) (within r′ highest) (policyFails P)
-      unfolding depth policyFails
+      pub fails-found : alone ≡ true → Agree (size .n) (within r′ highest) (practiceFails P)
+      unfolding depth practiceFails
       fails-found z s l =
           rw (filled .low s l)
           (entry-found (depth (netOf (size .n) (commandsOf size firsts outcomes) w e) (seeds r) s) (depth-small s)
           ∙ grow-found (losing (netOf (size .n) (commandsOf size firsts outcomes) w e)) (seeds r) (size .n) s
-          ∙ grow-same (size .n) _ (policyHits P)
+          ∙ grow-same (size .n) _ (practiceHits P)
           (λ A B h x g. losing-practice size rows firsts outcomes w e alone sounds (v .begins .low) (v .stops .low) A B h x g z)
           (seeds r) (failing P) seeds-are (size .n) s l
-          ∙ ap (λ (j : ℕ). grow (policyHits P) (failing P) j s) (sym (states-held T)))
+          ∙ ap (λ (j : ℕ). grow (practiceHits P) (failing P) j s) (sym (states-held T)))
 
       pub fails-filled : Filled (size .n) (λ s. getD r′ s 0) r₀ r′
       fails-filled = filled-past filled

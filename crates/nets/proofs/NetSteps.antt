@@ -14,15 +14,15 @@ use borrow.Author.Tests.{lt-ltb, le-ltb, ltb-true}
 use Rattle.laws.specs.Sets.{every}
 use Rattle.laws.proofs.Agree.{Agree, every-same}
 use Rattle.laws.proofs.Tests.{same-test, true-or-false}
-use Rattle.model.specs.Plan.{Plan, active, hasPolicy}
+use Rattle.model.specs.Plan.{Plan, active, hasPractice}
 use Rattle.model.specs.Verdict.{hits, forced}
-use Rattle.model.specs.Policy.{policyHits}
+use Rattle.model.specs.Practice.{practiceHits}
 use Rattle.model.specs.Tables.{Tables}
 use Rattle.model.specs.Places.{rowAt, firstCommand, commandCount}
 use Rattle.model.specs.SoundTest.{sound}
 use Rattle.model.specs.Held.{planIn}
 use Rattle.model.proofs.StateKinds.{active-is, command-active}
-use Rattle.model.proofs.HeldPlan.{states-held, policy-held, commands-held}
+use Rattle.model.proofs.HeldPlan.{states-held, practice-held, commands-held}
 use Rattle.model.proofs.Valid.{sound-valid}
 use Rattle.tables.specs.declared.Row.{Row}
 use Rattle.tables.specs.declared.Size.{Size}
@@ -34,14 +34,14 @@ use Rattle.nets.specs.Nets.{practised, practiceRange, rangeOf}
 use Rattle.nets.proofs.PlanHits.{hits-agree, hits-place}
 
 -- whether a practice is given, by what was read
-pub practised-is : (T : Tables) (s : ℕ) → s < T .size .n → practised (spanAt T s) ≡ hasPolicy (planIn T) s
-unfolding hasPolicy commandCount
-practised-is T s l = rw (policy-held T s l, commands-held T s l, add-one s)
+pub practised-is : (T : Tables) (s : ℕ) → s < T .size .n → practised (spanAt T s) ≡ hasPractice (planIn T) s
+unfolding hasPractice commandCount
+practised-is T s l = rw (practice-held T s l, commands-held T s l, add-one s)
 
 -- a practice that is given is a command
-pub practice-below : (T : Tables) (s : ℕ) → s < T .size .n → hasPolicy (planIn T) s ≡ true → rowAt T s .policy < planIn T .commands s
-unfolding hasPolicy
-practice-below T s l e = rw (← policy-held T s l) (ltb-true (planIn T .policy s) (planIn T .commands s) e)
+pub practice-below : (T : Tables) (s : ℕ) → s < T .size .n → hasPractice (planIn T) s ≡ true → rowAt T s .practice < planIn T .commands s
+unfolding hasPractice
+practice-below T s l e = rw (← practice-held T s l) (ltb-true (planIn T .practice s) (planIn T .commands s) e)
 
 module _ (size : Size) (rows : List Row) (firsts outcomes watch ends : List ℕ) (alone : Bool) (sounds : sound (held size rows firsts outcomes) ≡ true)
     (begins : (s : ℕ) → s < size .n → getD watch s 0 ≡ rangeOf alone (spanAt (held size rows firsts outcomes) s) .from)
@@ -81,20 +81,20 @@ module _ (size : Size) (rows : List Row) (firsts outcomes watch ends : List ℕ)
 
   -- ---- the practice alone
 
-  pub losing-practice : alone ≡ true → losing (netOf (size .n) (commandsOf size firsts outcomes) watch ends) A s ≡ policyHits P B s
-  unfolding policyHits rangeOf practiceRange every
+  pub losing-practice : alone ≡ true → losing (netOf (size .n) (commandsOf size firsts outcomes) watch ends) A s ≡ practiceHits P B s
+  unfolding practiceHits rangeOf practiceRange every
   losing-practice z = ⊎-elim given none (true-or-false (practised (spanAt T s)))
     where
-      none : practised (spanAt T s) ≡ false → losing (netOf (size .n) (commandsOf size firsts outcomes) watch ends) A s ≡ (hasPolicy P s && hits P B s (P .policy s))
+      none : practised (spanAt T s) ≡ false → losing (netOf (size .n) (commandsOf size firsts outcomes) watch ends) A s ≡ (hasPractice P s && hits P B s (P .practice s))
       none e =
           losing-words (firstCommand T s) (firstCommand T s) (begins s l ∙ rw (z, e)) (stops s l ∙ rw (z, e))
           ∙ rw (le-ltb (firstCommand T s) (firstCommand T s) (omega arith), ← practised-is T s l, e)
 
-      given : practised (spanAt T s) ≡ true → losing (netOf (size .n) (commandsOf size firsts outcomes) watch ends) A s ≡ (hasPolicy P s && hits P B s (P .policy s))
+      given : practised (spanAt T s) ≡ true → losing (netOf (size .n) (commandsOf size firsts outcomes) watch ends) A s ≡ (hasPractice P s && hits P B s (P .practice s))
       given e =
-          let p = rowAt T s .policy in
+          let p = rowAt T s .practice in
           let f = firstCommand T s in
           let one : f + p + 1 - (f + p) ≡ suc zero = omega arith in
           losing-words (f + p) (f + p + 1) (begins s l ∙ rw (z, e)) (stops s l ∙ rw (z, e))
-          ∙ rw (lt-ltb (f + p) (f + p + 1) (omega arith), one, add-zero (f + p), ← practised-is T s l, e, policy-held T s l)
+          ∙ rw (lt-ltb (f + p) (f + p + 1) (omega arith), one, add-zero (f + p), ← practised-is T s l, e, practice-held T s l)
           (hit-is p (practice-below T s l (sym (practised-is T s l) ∙ e)))

@@ -8,9 +8,9 @@ use lib.Dec.{ltb}
 use borrow.Author.Tests.{ltb-true}
 use Rattle.laws.proofs.Agree.{Agree, any-same}
 use Rattle.laws.proofs.Tests.{true-or-false}
-use Rattle.model.specs.Plan.{hasPolicy}
+use Rattle.model.specs.Plan.{hasPractice}
 use Rattle.model.specs.Verdict.{hits}
-use Rattle.model.specs.Policy.{policyHits}
+use Rattle.model.specs.Practice.{practiceHits}
 use Rattle.model.specs.Command.{choice}
 use Rattle.model.specs.Places.{firstCommand, listAt}
 use Rattle.model.specs.SoundTest.{sound}
@@ -35,10 +35,10 @@ module _ (T : Tables) (sounds : sound T ≡ true) (A B : ℕ → Bool) (same : A
   pub choice-agree : choice (planIn T) A s ≡ choice (planIn T) B s
   choice-agree = choice-same (planIn T) A B s (λ c m e. sym (hits-agree c m) ∙ e) (λ c e. let t = choice-some (planIn T) A s c e in sym (hits-agree c (t .1)) ∙ t .2)
 
-  pub policy-hits-agree : policyHits (planIn T) A s ≡ policyHits (planIn T) B s
-  unfolding policyHits hasPolicy
-  policy-hits-agree =
-      ⊎-elim (λ e. rw e (hits-agree _ (ltb-true _ _ e))) (λ e. rw e) (true-or-false (ltb (planIn T .policy s) (planIn T .commands s)))
+  pub practice-hits-agree : practiceHits (planIn T) A s ≡ practiceHits (planIn T) B s
+  unfolding practiceHits hasPractice
+  practice-hits-agree =
+      ⊎-elim (λ e. rw e (hits-agree _ (ltb-true _ _ e))) (λ e. rw e) (true-or-false (ltb (planIn T .practice s) (planIn T .commands s)))
 
 module _ (size : Size) (rows : List Row) (firsts outcomes : List ℕ) where
   -- a state's command, by its place

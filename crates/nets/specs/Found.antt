@@ -8,7 +8,7 @@ use Rattle.laws.specs.Filled.{Filled}
 use Rattle.laws.specs.Lists.{tabulate, overwrite}
 use Rattle.laws.specs.Starts.{startOf}
 use Rattle.model.specs.Verdict.{rank}
-use Rattle.model.specs.Policy.{policyFails}
+use Rattle.model.specs.Practice.{practiceFails}
 use Rattle.model.specs.Tables.{Tables}
 use Rattle.model.specs.Held.{planIn}
 use Rattle.choice.specs.Within.{within}
@@ -27,7 +27,7 @@ pub record OwnRanges (n m : ℕ) (starts froms tos : List ℕ) : Type 0 where
 -- The rank of each state, and a number where the practice fails. In the first n places of the two tables that are worked in is left what may be.
 pub record Found (T : Tables) (ranks tos fails scratch ranks′ tos′ fails′ scratch′ : List ℕ) : Type 0 where
   pub ranked : Filled (T .size .n) (λ s. entry (rank (planIn T) s)) ranks ranks′
-  pub failed : (s : ℕ) → s < T .size .n → within fails′ highest s ≡ policyFails (planIn T) s
+  pub failed : (s : ℕ) → s < T .size .n → within fails′ highest s ≡ practiceFails (planIn T) s
   pub fails-past : Filled (T .size .n) (λ s. getD fails′ s 0) fails fails′
   pub tos-past : Filled (T .size .n) (λ s. getD tos′ s 0) tos tos′
   pub scratch-past : Filled (T .size .n) (λ i. getD scratch′ i 0) scratch scratch′

@@ -13,7 +13,7 @@ use Rattle.model.specs.Tables.{Row as ModelRow, Size as ModelSize}
 use Rattle.model.specs.Boundary.{entryBytes, rowWidth, rowBytes, sizeBytes, bytesFor, rowEntries, sizeEntries}
 
 pub row-stored : (w : ModelRow) (s : ℕ) (l₀ : List ℕ) {l₁ l₂ l₃ : List ℕ} → l₁ ≡ putAll l₀ (s * rowWidth * entryBytes) (two (w .kind) [])
-    → l₂ ≡ putAll l₁ ((s * rowWidth + 1) * entryBytes) (two (w .first) []) → l₃ ≡ putAll l₂ ((s * rowWidth + 2) * entryBytes) (two (w .policy) [])
+    → l₂ ≡ putAll l₁ ((s * rowWidth + 1) * entryBytes) (two (w .first) []) → l₃ ≡ putAll l₂ ((s * rowWidth + 2) * entryBytes) (two (w .practice) [])
     → l₃ ≡ putAll l₀ (s * rowBytes) (bytesFor (rowEntries (w ∷ [])))
 unfolding rowEntries twos
 row-stored w s l₀ p q r =
@@ -21,7 +21,7 @@ row-stored w s l₀ p q r =
     let f : List ℕ = two (w .first) [] in
     let e : s * rowWidth * entryBytes ≡ s * rowBytes = omega arith in
     let p′ = p ∙ ap (λ (i : ℕ). putAll l₀ i k) e in
-    put-then l₀ (s * rowBytes) (k ++ f) (two (w .policy) []) (put-then l₀ (s * rowBytes) k f p′ q (omega arith)) r (omega arith)
+    put-then l₀ (s * rowBytes) (k ++ f) (two (w .practice) []) (put-then l₀ (s * rowBytes) k f p′ q (omega arith)) r (omega arith)
 
 pub size-stored : (z : ModelSize) (l₀ : List ℕ) {l₁ l₂ l₃ l₄ : List ℕ} → sizeBytes ≤ length l₀ → l₁ ≡ putAll l₀ 0 (two (z .n) [])
     → l₂ ≡ putAll l₁ 2 (two (z .m) []) → l₃ ≡ putAll l₂ 4 (two (z .t) []) → l₄ ≡ putAll l₃ 6 (two (z .start) [])

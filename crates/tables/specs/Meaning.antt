@@ -35,7 +35,7 @@ refusalOf Report = ModelRefusal.Report
 refusalOf Grant = ModelRefusal.Grant
 
 abbrev pub rowOf : Row → ModelRow
-rowOf r = record { kind = r .kind; first = r .first; policy = r .practice }
+rowOf r = record { kind = r .kind; first = r .first; practice = r .practice }
 
 -- the rows of a lent table
 abbrev pub rowsOf : List Row → List ModelRow

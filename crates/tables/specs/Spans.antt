@@ -23,7 +23,7 @@ admitted (Denied r) a = refused (refusalOf r)
 
 -- the row that stands for one of the model's
 abbrev pub asRow : ModelRow → Row
-asRow w = record { kind = w .kind; first = w .first; practice = w .policy }
+asRow w = record { kind = w .kind; first = w .first; practice = w .practice }
 
 -- what stands for a row past the table
 abbrev pub noRow : Row
@@ -35,7 +35,7 @@ commandsOf z firsts outcomes = listTable (z .m) (z .t) firsts outcomes
 
 -- a row, and where the state's commands begin and end
 abbrev pub spanFor : ModelRow → ℕ → ℕ → Span
-spanFor w first end = record { kind = w .kind; first = first; end = end; practice = w .policy }
+spanFor w first end = record { kind = w .kind; first = first; end = end; practice = w .practice }
 
 abbrev pub spanOf : Row → ℕ → Span
 spanOf r end = spanFor (rowOf r) (r .first) end
@@ -50,10 +50,10 @@ failingSpan q = failingAt (q .kind)
 
 -- what a state field says of it
 abbrev pub fieldIn : Span → StateField
-fieldIn q = record { kind = q .kind; count = q .end - q .first; policy = q .practice }
+fieldIn q = record { kind = q .kind; count = q .end - q .first; practice = q .practice }
 
 abbrev pub fieldWith : ℕ → ℕ → ℕ → StateField
-fieldWith kind count practice = record { kind = kind; count = count; policy = practice }
+fieldWith kind count practice = record { kind = kind; count = count; practice = practice }
 
 -- a state's row is sound, m being the number of commands
 unfoldable pub spanSound : Span → ℕ → Bool

@@ -15,7 +15,7 @@ use Rattle.model.specs.SoundTest.{sound}
 use Rattle.model.specs.Tables.{Tables, Lists}
 use Rattle.model.specs.Places.{firstCommand, commandCount, fieldAt, listAt, outcomesAt}
 use Rattle.model.specs.Held.{stateAt}
-use Rattle.model.proofs.Good.{policy-fits}
+use Rattle.model.proofs.Good.{practice-fits}
 use Rattle.model.proofs.SoundFacts.{Fits, RowFits, sound-facts}
 use Rattle.tables.specs.declared.Row.{Row}
 use Rattle.tables.specs.declared.Size.{Size}
@@ -60,7 +60,7 @@ module _ (z : Size) (rows : List Row) (firsts outcomes : List ℕ) (s : ℕ) whe
               rw (q, add-one s) (row .rises),
               rw (q, add-one s) (row .below),
               omega arith,
-              rw q (policy-fits (fieldAt T s) (omega (arith, row .below)) (row .not-idle)),
+              rw q (practice-fits (fieldAt T s) (omega (arith, row .below)) (row .not-idle)),
             ),
             rw bytes at room,
           )

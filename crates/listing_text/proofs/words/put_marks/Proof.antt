@@ -5,8 +5,8 @@ use Rattle.listing_text.proofs.Lines.{words-wrote}
 use Rattle.listing_text.proofs.words.put_marks.Statement.{statement}
 use Rattle.listing_text.proofs.words.put_marks.Tie as tie
 
-policy-letter-requires : tie.Need-policy-letter-requires
-policy-letter-requires c κs = search needs
+practice-letter-requires : tie.Need-practice-letter-requires
+practice-letter-requires c κs = search needs
 
 put-letter-requires : tie.Need-put-letter-requires
 put-letter-requires c κs = search needs
@@ -24,13 +24,13 @@ returns : tie.Need-returns
 returns c =
     let practice = c .before .before .before .before .before .before .before .put-letter .ensures in
     let sign = c .before .before .put-letter2 .ensures in
-    (words-wrote (_ ∷ []) (_ ∷ []) (rw (c .before .before .before .before .before .before .before .before .policy-letter .ensures) at (practice .0)) (rw (c .before .before .before .fault-sign .ensures) at (sign .0)), omega arith)
+    (words-wrote (_ ∷ []) (_ ∷ []) (rw (c .before .before .before .before .before .before .before .before .practice-letter .ensures) at (practice .0)) (rw (c .before .before .before .fault-sign .ensures) at (sign .0)), omega arith)
 
 pub put-marks-spec : {M : Type 1} → statement M
 put-marks-spec =
     tie.close
     (tie.spec
-    policy-letter-requires
+    practice-letter-requires
     put-letter-requires
     fault-sign-requires
     put-letter-requires-2

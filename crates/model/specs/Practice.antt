@@ -4,35 +4,35 @@ use mathlib.Core.List.{List, [], _∷_}
 use mathlib.Core.Option.{Option, none, some}
 use Prim.Native.Nat.{ℕ, _+_}
 use Rattle.laws.specs.Sets.{howMany, grow}
-use Rattle.model.specs.Plan.{Plan, failing, hasPolicy}
+use Rattle.model.specs.Plan.{Plan, failing, hasPractice}
 use Rattle.model.specs.Verdict.{hits, lost, safe}
 
 -- rules V8 and V9: the practice as a table of commands
 unfoldable pub followed : Plan → ℕ → Option ℕ
-followed P s = cond (hasPolicy P s) (some (P .policy s)) none
+followed P s = cond (hasPractice P s) (some (P .practice s)) none
 
 -- the practice is given at s and has an outcome in K
-unfoldable pub policyHits : Plan → (ℕ → Bool) → ℕ → Bool
-policyHits P K s = hasPolicy P s && hits P K s (P .policy s)
+unfoldable pub practiceHits : Plan → (ℕ → Bool) → ℕ → Bool
+practiceHits P K s = hasPractice P s && hits P K s (P .practice s)
 
--- rule V8. That it is so of runs under the practice is proofs/PolicyRuns.antt, `policy-judged`.
-unfoldable pub policyFails : Plan → ℕ → Bool
-policyFails P = grow (policyHits P) (failing P) (P .states)
+-- rule V8. That it is so of runs under the practice is proofs/PracticeRuns.antt, `practice-judged`.
+unfoldable pub practiceFails : Plan → ℕ → Bool
+practiceFails P = grow (practiceHits P) (failing P) (P .states)
 
 -- rule V10: safe, though the practice fails from there
 unfoldable pub bug : Plan → ℕ → Bool
-bug P s = safe P s && policyFails P s
+bug P s = safe P s && practiceFails P s
 
 -- rule V11: safe, though the practice may land on a lost state
 unfoldable pub fault : Plan → ℕ → Bool
-fault P s = safe P s && policyHits P (lost P) s
+fault P s = safe P s && practiceHits P (lost P) s
 
 -- rule V13: 1 if the practice fails, and 2 more at a fault
 abbrev pub markOf : Bool → Bool → ℕ
 markOf fails isFault = cond fails 1 0 + cond isFault 2 0
 
 unfoldable pub mark : Plan → ℕ → ℕ
-mark P s = markOf (policyFails P s) (fault P s)
+mark P s = markOf (practiceFails P s) (fault P s)
 
 -- rule V14: the three counts of a row, over those of the first n states that are in it
 unfoldable pub tallyRow : (ℕ → Bool) → (ℕ → Bool) → (ℕ → Bool) → ℕ → List ℕ
@@ -48,4 +48,4 @@ tallyOf isLost given fails n = tallyRow (λ s. not (isLost s)) given fails n ∷
 
 -- rules V14 and V15
 unfoldable pub tally : Plan → List (List ℕ)
-tally P = tallyOf (lost P) (hasPolicy P) (policyFails P) (P .states)
+tally P = tallyOf (lost P) (hasPractice P) (practiceFails P) (P .states)

@@ -5,9 +5,9 @@ use mathlib.Core.List.{[], _∷_}
 use mathlib.Core.Option.{none, some}
 use Rattle.laws.specs.Sets.{any, every, orElse, lowest, found, grow}
 use Rattle.laws.specs.Lists.{tabulate}
-use Rattle.model.specs.Plan.{ordinary, failing, active, hasPolicy}
+use Rattle.model.specs.Plan.{ordinary, failing, active, hasPractice}
 use Rattle.model.specs.Verdict.{hits, forced, rank, lost, safe}
-use Rattle.model.specs.Policy.{followed, policyHits, policyFails, bug, fault}
+use Rattle.model.specs.Practice.{followed, practiceHits, practiceFails, bug, fault}
 use Rattle.model.specs.Refusal.{given, answer, _>>=_, need, _>>_}
 use Rattle.model.specs.File.{field, head, state, entries, rising, command, commands, states, read}
 use Rattle.model.specs.Held.{stateOf, planOf}
@@ -15,13 +15,13 @@ use Rattle.model.specs.Bench.{caseA}
 
 -- 0 and 1 are bugs, and of them only 0 is a fault: 1 is safe and its practice leads to 0 and 1, but by way of 0 into failure.
 -- The practice also fails from 3 and 4, which are lost.
-case-a-bugs : answer (λ p. tabulate (bug (planOf p)) 0 6 ∷ tabulate (fault (planOf p)) 0 6 ∷ tabulate (policyFails (planOf p)) 0 6 ∷ []) (read caseA)
+case-a-bugs : answer (λ p. tabulate (bug (planOf p)) 0 6 ∷ tabulate (fault (planOf p)) 0 6 ∷ tabulate (practiceFails (planOf p)) 0 6 ∷ []) (read caseA)
     ≡ given ((true ∷ true ∷ false ∷ false ∷ false ∷ false ∷ []) ∷ (true ∷ false ∷ false ∷ false ∷ false ∷ false ∷ []) ∷ (true ∷ true ∷ false ∷ true ∷ true ∷ false ∷ []) ∷ [])
-unfolding any every orElse lowest found grow tabulate ordinary failing active hasPolicy hits forced rank lost safe policyHits policyFails bug fault answer _>>=_ need _>>_ field head state entries rising command commands states read stateOf planOf
+unfolding any every orElse lowest found grow tabulate ordinary failing active hasPractice hits forced rank lost safe practiceHits practiceFails bug fault answer _>>=_ need _>>_ field head state entries rising command commands states read stateOf planOf
 case-a-bugs = refl
 
 -- the practice as a rule: none where the file has FFFF, not command 65,535
 case-a-followed : answer (λ p. tabulate (followed (planOf p)) 0 6) (read caseA)
     ≡ given (some 1 ∷ some 0 ∷ none ∷ some 0 ∷ none ∷ none ∷ [])
-unfolding tabulate hasPolicy followed answer _>>=_ need _>>_ field head state entries rising command commands states read stateOf planOf
+unfolding tabulate hasPractice followed answer _>>=_ need _>>_ field head state entries rising command commands states read stateOf planOf
 case-a-followed = refl
