@@ -19,7 +19,7 @@ class Function:
 
     @property
     def path(self):
-        """Where its modules are: internal/span_at."""
+        """Where its modules are: spans/span_at."""
         return f"{self.module}/{self.name}" if self.module else self.name
 
     @property

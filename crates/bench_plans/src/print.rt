@@ -1,6 +1,6 @@
 // Numbers, refusals and table entries, printed.
 use crate::numbers::least;
-use tables::internal::NONE;
+use tables::entries::NONE;
 
 // A space and a number.
 pub fn print_number(x: u64) {

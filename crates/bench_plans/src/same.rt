@@ -1,7 +1,7 @@
 // Whether tables are the same up to their counts.
 use tables::Row;
 use tables::Size;
-use tables::internal::row_at;
+use tables::rows::row_at;
 
 fn same_size(a: Size, b: Size) -> bool {
     if a.n != b.n {

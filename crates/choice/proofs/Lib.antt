@@ -1,4 +1,4 @@
 pub mod Members
 pub mod Outcomes
-pub mod Choosing
+pub mod Choices
 pub mod Taken

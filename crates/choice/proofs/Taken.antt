@@ -15,9 +15,9 @@ use Rattle.model.specs.Held.{planIn}
 use Rattle.model.proofs.Choices.{choice-some}
 use Rattle.model.proofs.HeldPlan.{commands-held}
 use Rattle.model.proofs.SoundFacts.{sound-facts}
-use Rattle.tables.specs.declared.internal.Span.{Span}
+use Rattle.tables.specs.declared.spans.Span.{Span}
 use Rattle.tables.specs.Spans.{spanAt}
-use Rattle.choice.proofs.Choosing.{hits-held}
+use Rattle.choice.proofs.Choices.{hits-held}
 
 module _ (T : Tables) (sounds : sound T ≡ true) (s : ℕ) (l : s < T .size .n) where
   -- the places of the commands of s are in range

@@ -1,2 +1,2 @@
 // Choosing a command, for deciding, for the search and for judging the practice.
-pub mod internal;
+pub mod choosing;

@@ -17,8 +17,8 @@ use Rattle.model.specs.Demand3.{DecidingDemand3}
 use Rattle.model.proofs.Answering.{deciding-iff}
 use Rattle.model.proofs.Delivered.{decide-demand3}
 use Rattle.tables.specs.declared.Refusal.{Refusal}
-use Rattle.tables.specs.declared.internal.Admission.{Admission}
-use Rattle.tables.specs.declared.internal.Admission.the-variants.{Granted, Denied}
+use Rattle.tables.specs.declared.admission.Admission.{Admission}
+use Rattle.tables.specs.declared.admission.Admission.the-variants.{Granted, Denied}
 use Rattle.tables.specs.Meaning.{refusalOf}
 use Rattle.tables.specs.Spans.{admitted}
 use Rattle.decide.specs.declared.Decision.{Decision}

@@ -17,11 +17,11 @@ use Rattle.model.specs.Places.{outcomesAt}
 use Rattle.model.specs.SoundTest.{sound}
 use Rattle.model.specs.Held.{planIn}
 use Rattle.model.proofs.HeldPlan.{practice-held, commands-held}
-use Rattle.choice.proofs.Choosing.{hits-held}
+use Rattle.choice.proofs.Choices.{hits-held}
 use Rattle.choice.proofs.Taken.{span-inside, entry-fits}
 use Rattle.tables.specs.declared.Row.{Row}
 use Rattle.tables.specs.declared.Size.{Size}
-use Rattle.tables.specs.declared.internal.Span.{Span}
+use Rattle.tables.specs.declared.spans.Span.{Span}
 use Rattle.tables.specs.Meaning.{held}
 use Rattle.tables.specs.Spans.{spanAt}
 use Rattle.tables.specs.Seen.{Seen}

@@ -12,12 +12,12 @@ ghost use Rattle.tables.specs.Spans.{admitted};
 ghost use Rattle.decide.specs.declared.DecideAnswer.the-variants.{Given};
 ghost use Rattle.decide.specs.Calls.{refusedWith, decided};
 ghost use Rattle.decide.specs.Answers.{noCounts, afterDecide};
-use nets::internal::propagate_plan;
+use nets::propagations::propagate_plan;
 use tables::Refusal;
 use tables::Row;
 use tables::Size;
-use tables::internal::Admission;
-use tables::internal::fill;
+use tables::admission::Admission;
+use tables::entries::fill;
 use verdicts::judge_all;
 
 mod verdicts;

@@ -14,16 +14,16 @@ ghost use Rattle.tables.specs.Spans.{spanAt, commandsOf};
 ghost use Rattle.tables.specs.Seen.{Seen};
 ghost use Rattle.tables.specs.Ready.{Ready};
 ghost use Rattle.decide.specs.Verdicts.{numbered, oneIf, columnOf, added, StateJudged, StatesJudged};
-use choice::internal::choose;
-use choice::internal::command_hit;
-use nets::internal::has_practice;
+use choice::choosing::choose;
+use choice::choosing::command_hit;
+use nets::propagations::has_practice;
 use tables::Row;
 use tables::Size;
-use tables::internal::NONE;
-use tables::internal::Span;
-use tables::internal::at;
-use tables::internal::put;
-use tables::internal::span_at;
+use tables::entries::NONE;
+use tables::entries::at;
+use tables::entries::put;
+use tables::spans::Span;
+use tables::spans::span_at;
 
 // The highest number that an entry holds beside FFFF. The states that have a number are those up to it.
 const HIGHEST: usize = NONE - 1;

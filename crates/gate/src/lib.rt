@@ -19,7 +19,7 @@ pub extern "C" fn gate_read(
         ≡ record { returns = r; size = now (size .exit); rows = now (rows .exit); firsts = now (firsts .exit); outcomes = now (outcomes .exit) }
         ⌝ }
 {
-    gate_reading::internal::read_call(file, size, rows, firsts, outcomes)
+    gate_reading::call::read_call(file, size, rows, firsts, outcomes)
 }
 
 // Decides a whole plan. Ruled out: a leaking ring called safe, and lack of room told as a verdict.
@@ -52,7 +52,7 @@ pub extern "C" fn gate_decide(
         (T : Tables) → lent ≡ given T → r ≡ 0 → DecidingDemand3 T (entriesIn (now (ranks .exit))) (entriesIn (now (commands .exit))))
         ⌝ }
 {
-    gate_deciding::internal::decide_call(
+    gate_deciding::call::decide_call(
         size,
         rows,
         firsts,
@@ -88,7 +88,7 @@ pub extern "C" fn gate_search(
         → SearchDemand3 T start (verdictIn (now (answer .exit))) (roundsIn (now (answer .exit))) (entriesIn (now (commands .exit))))
         ⌝ }
 {
-    gate_searching::internal::search_call(
+    gate_searching::call::search_call(
         size,
         rows,
         firsts,

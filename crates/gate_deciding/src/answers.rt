@@ -10,10 +10,10 @@ ghost use Rattle.model.specs.Rooms.{decideRoom};
 ghost use Rattle.gate_deciding.specs.Delivery.{afterGateDecide, deliveryCall, Deliverable};
 use decide::DecideAnswer;
 use decide::Decision;
-use store::internal::store;
-use store::internal::store_entry;
+use store::encoding::store;
+use store::encoding::store_entry;
 use tables::Refusal;
-use tables::internal::ENTRY_BYTES;
+use tables::entries::ENTRY_BYTES;
 use tables::number;
 
 // The bytes of a tally.

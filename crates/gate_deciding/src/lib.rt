@@ -1,3 +1,3 @@
 // Deciding, for the gate controller's C program.
 mod answers;
-pub mod internal;
+pub mod call;

@@ -9,13 +9,13 @@ ghost use Rattle.reading.specs.Answers.{answerOf};
 ghost use Rattle.model.specs.Rooms.{readRoom};
 ghost use Rattle.gate_reading.specs.Lent.{admitted};
 use reading::ReadAnswer;
-use store::internal::store;
-use store::internal::store_size;
+use store::encoding::store;
+use store::encoding::store_size;
 use tables::Refusal;
 use tables::Size;
-use tables::internal::ENTRY_BYTES;
-use tables::internal::ROW_BYTES;
-use tables::internal::SIZE_BYTES;
+use tables::entries::ENTRY_BYTES;
+use tables::rows::ROW_BYTES;
+use tables::rows::SIZE_BYTES;
 
 // Whether slices of these lengths have room for a plan.
 fn room(z: Size, size: usize, rows: usize, firsts: usize, outcomes: usize) -> bool

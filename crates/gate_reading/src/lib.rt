@@ -1,3 +1,3 @@
 // Reading for the gate controller's C program: a plan file into byte slices.
 mod answers;
-pub mod internal;
+pub mod call;

@@ -10,11 +10,11 @@ ghost use Rattle.model.specs.Rooms.{searchRoom};
 ghost use Rattle.gate_searching.specs.Delivery.{afterGateSearch, Deliverable, delivered};
 use search::Found;
 use search::SearchAnswer;
-use store::internal::store;
-use store::internal::store_entry;
+use store::encoding::store;
+use store::encoding::store_entry;
 use tables::Refusal;
-use tables::internal::ENTRY_BYTES;
-use tables::internal::narrow;
+use tables::entries::ENTRY_BYTES;
+use tables::entries::narrow;
 use tables::number;
 
 // The verdict and the rounds, an entry each.

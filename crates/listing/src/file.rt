@@ -5,7 +5,7 @@ ghost use Rattle.laws.specs.Wrote.{Wrote};
 ghost use Rattle.model.specs.File.{read};
 ghost use Rattle.model.specs.Listing.{maxListing, answerText};
 use crate::plan::list_plan;
-use listing_text::internal::put_refusal;
+use listing_text::lines::put_refusal;
 use reading::ReadAnswer;
 use tables::Row;
 use tables::Size;

@@ -6,7 +6,7 @@ ghost use Rattle.laws.specs.Wrote.{Wrote};
 ghost use Rattle.model.specs.Listing.{maxListing, listing};
 ghost use Rattle.listing.specs.Texts.{textOf};
 use crate::file::list_file;
-use listing_text::internal::put_refusal;
+use listing_text::lines::put_refusal;
 use tables::Refusal;
 
 mod file;

@@ -10,7 +10,7 @@ ghost use Rattle.model.specs.SoundTest.{sound};
 ghost use Rattle.tables.specs.Meaning.{held};
 use crate::start::list_start;
 use crate::verdicts::list_verdicts;
-use listing_text::internal::put_plan_line;
+use listing_text::lines::put_plan_line;
 use tables::Row;
 use tables::Size;
 

@@ -11,7 +11,7 @@ ghost use Rattle.model.specs.Listing.{startLine};
 ghost use Rattle.model.specs.SoundTest.{sound};
 ghost use Rattle.tables.specs.Meaning.{held};
 ghost use Rattle.search.specs.Answers.{answerOf};
-use listing_text::internal::put_start_line;
+use listing_text::lines::put_start_line;
 use search::SearchAnswer;
 use tables::Row;
 use tables::Size;

@@ -9,9 +9,9 @@ ghost use Rattle.model.specs.Plan.{Plan};
 ghost use Rattle.model.specs.Listing.{stateLine};
 ghost use Rattle.listing_text.specs.Listed.{Listed};
 ghost use Rattle.listing.specs.AllListed.{AllListed};
-use listing_text::internal::put_state_line;
+use listing_text::lines::put_state_line;
 use tables::Row;
-use tables::internal::row_at;
+use tables::rows::row_at;
 
 // The line of state s: its row was read, and the tables are deciding's.
 fn put_state(

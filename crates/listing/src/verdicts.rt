@@ -13,7 +13,7 @@ ghost use Rattle.model.specs.SoundTest.{sound};
 ghost use Rattle.tables.specs.Meaning.{held};
 use crate::states::list_states;
 use decide::Decision;
-use listing_text::internal::put_tally_line;
+use listing_text::lines::put_tally_line;
 use tables::Row;
 use tables::Size;
 

@@ -1,5 +1,5 @@
 pub mod Pairs
-pub mod Lines
+pub mod LineBytes
 pub mod Copies
 pub mod Entries
 pub mod StateLine

@@ -19,7 +19,7 @@ use Rattle.model.proofs.Demands.{rank-entry, chosen-entry}
 use Rattle.listing_text.specs.Words.{spaced}
 use Rattle.listing_text.specs.Listed.{Listed}
 use Rattle.listing_text.proofs.Entries.{mark-says}
-use Rattle.listing_text.proofs.Lines.{words-wrote, line-wrote}
+use Rattle.listing_text.proofs.LineBytes.{words-wrote, line-wrote}
 
 module _ {P : Plan} {s k r c m : ℕ} (q : Listed P s k r c m) where
   -- the words after the number

@@ -1,6 +1,6 @@
 // The text of the listing: its lines, written to bytes that the caller lends.
 mod bytes;
 mod digits;
-pub mod internal;
 mod letters;
+pub mod lines;
 mod words;

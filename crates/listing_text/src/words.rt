@@ -14,12 +14,12 @@ use crate::digits::put_decimal;
 use crate::letters::fault_sign;
 use crate::letters::practice_letter;
 use crate::letters::verdict_letter;
-use tables::internal::wide;
+use tables::entries::wide;
 
 const SPACE: u8 = 32;
 
 // The entry for none, as it stands in a table.
-const NONE: u16 = tables::internal::NONE as u16;
+const NONE: u16 = tables::entries::NONE as u16;
 
 pub fn put_letter(out: &mut [u8], place: usize, letter: u8) -> usize
     requires { ⌜ place + 2 ≤ length (now out) ⌝ }

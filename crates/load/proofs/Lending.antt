@@ -22,8 +22,8 @@ use Rattle.tables.specs.declared.Size.{Size}
 use Rattle.tables.specs.declared.Row.{Row}
 use Rattle.tables.specs.declared.Refusal.{Refusal}
 use Rattle.tables.specs.Meaning.{numbers, refusalOf, rowsOf, held}
-use Rattle.load.specs.declared.internal.PlanAnswer.{PlanAnswer}
-use Rattle.load.specs.declared.internal.PlanAnswer.the-variants.{Given, Refused}
+use Rattle.load.specs.declared.decoding.PlanAnswer.{PlanAnswer}
+use Rattle.load.specs.declared.decoding.PlanAnswer.the-variants.{Given, Refused}
 use Rattle.load.specs.Loading.{answerOf, few, loading}
 use Rattle.load.proofs.Planning.{sizeOf}
 use Rattle.load.proofs.Loaded.{Within, within, no-plan, lentWith}

@@ -20,8 +20,8 @@ use Rattle.model.proofs.Lent.{length-entries-in, length-rows-in}
 use Rattle.tables.specs.declared.Size.{Size}
 use Rattle.tables.specs.declared.Refusal.{Refusal}
 use Rattle.tables.specs.Meaning.{numbers, refusalOf}
-use Rattle.load.specs.declared.internal.PlanAnswer.{PlanAnswer}
-use Rattle.load.specs.declared.internal.PlanAnswer.the-variants.{Given, Refused}
+use Rattle.load.specs.declared.decoding.PlanAnswer.{PlanAnswer}
+use Rattle.load.specs.declared.decoding.PlanAnswer.the-variants.{Given, Refused}
 use Rattle.load.specs.Loading.{answerOf, few, loading}
 use Rattle.load.proofs.Planning.{sizeOf}
 

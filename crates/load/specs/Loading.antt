@@ -9,8 +9,8 @@ use Rattle.model.specs.Tables.{Size as ModelSize, Tables}
 use Rattle.model.specs.SoundTest.{tablesLong}
 use Rattle.model.specs.Boundary.{tablesIn}
 use Rattle.tables.specs.Meaning.{numbers, refusalOf}
-use Rattle.load.specs.declared.internal.PlanAnswer.{PlanAnswer}
-use Rattle.load.specs.declared.internal.PlanAnswer.the-variants.{Given, Refused}
+use Rattle.load.specs.declared.decoding.PlanAnswer.{PlanAnswer}
+use Rattle.load.specs.declared.decoding.PlanAnswer.the-variants.{Given, Refused}
 
 -- the size record, or the refusal
 abbrev pub answerOf : PlanAnswer → Answer ModelSize

@@ -1,2 +1,2 @@
 // A plan that is lent as bytes, read into tables.
-pub mod internal;
+pub mod decoding;

@@ -85,8 +85,8 @@ module _ (P : Plan) (S : Valid P) (C : ℕ → Option ℕ) (is-chosen : (t : ℕ
       let (act, own, out) = choice-some P (lost P) (present s w) (m .command) (sym (taken w (i .0)) ∙ u .1) in
       misses P (lost P) (present s w) (m .command) (m .landing) out (i .1 .landed)
 
-  chosen-total : Commanding P s (positional C s)
-  chosen-total = record {
+  chosen-commanding : Commanding P s (positional C s)
+  chosen-commanding = record {
     own = λ w c i e. choice-some P (lost P) (present s w) c (sym (taken w i) ∙ e) .1;
     acts = λ w i u a.
         let (c, e) = safe-takes P S (present s w) (run-inside P S s in-plan w i) a (stays w i u) in
@@ -139,9 +139,9 @@ module _ (P : Plan) (s r : ℕ) where
   unfoldable pub delaying : Rule
   delaying w = else-first (evading w) (P .commands (present s w))
 
-  delaying-total : Commanding P s delaying
+  delaying-commanding : Commanding P s delaying
   unfolding delaying
-  delaying-total = record {
+  delaying-commanding = record {
     own = λ w c i e.
         else-own (evading w) (P .commands (present s w)) c
         (λ d q. choice-some P (layer P (r - 2 - moves w)) (present s w) d q .1) e;
@@ -174,12 +174,12 @@ module _ (P : Plan) (S : Valid P) (ranks commands : List ℕ)
   decided = record {
     lost-iff = (
       λ e ρ T. let (r, q) = lost-rank P s (rw (is-rank s l) at e) in rank-within P s ρ T r q .0,
-      λ h. rw (is-rank s l) (⊎-elim (λ e. e) (λ e. absurd (spared e (h rule (total e)))) (true-or-false (lost P s))),
+      λ h. rw (is-rank s l) (⊎-elim (λ e. e) (λ e. absurd (spared e (h rule (commanding e)))) (true-or-false (lost P s))),
     );
-    returned = λ e. total (kept e);
+    returned = λ e. commanding (kept e);
     holds = λ e w i u k. chosen-holds P S (readEntry commands) is-chosen s l (kept e) w i u;
     within = λ r e ρ T. rank-within P s ρ T r (ranked r e);
-    delays = λ r e pos. (delaying P s r, delaying-total P s r, delaying-survives P s r (ranked r e) pos);
+    delays = λ r e pos. (delaying P s r, delaying-commanding P s r, delaying-survives P s r (ranked r e) pos);
   }
     where
       rule : Rule
@@ -191,8 +191,8 @@ module _ (P : Plan) (S : Valid P) (ranks commands : List ℕ)
       kept : readEntry ranks s ≡ none → lost P s ≡ false
       kept e = rank-safe P s (sym (is-rank s l) ∙ e)
 
-      total : lost P s ≡ false → Commanding P s rule
-      total = chosen-total P S (readEntry commands) is-chosen s l
+      commanding : lost P s ≡ false → Commanding P s rule
+      commanding = chosen-commanding P S (readEntry commands) is-chosen s l
 
       spared : lost P s ≡ false → Fails P s rule → ⊥
       spared = chosen-spared P S (readEntry commands) is-chosen s l

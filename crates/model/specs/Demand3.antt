@@ -23,15 +23,15 @@ readEntry table s = fromEntry (getD table s FFFF)
 
 -- What deciding's two tables say of the state s: rule R9 of its entry in the ranks, and rule R10 of the command table.
 pub record Decided (P : Plan) (ranks commands : List ℕ) (s : ℕ) : Type 0 where
-  -- rule D3a: it is called lost if and only if each total rule fails from it. The plan is sound: the calls refuse every other.
+  -- rule D3a: it is called lost if and only if each commanding rule fails from it. The plan is sound: the calls refuse every other.
   pub lost-iff : (found (readEntry ranks s) ≡ true) ↔ ((ρ : Rule) → Commanding P s ρ → Fails P s ρ)
-  -- rule D3b: else the returned commands are a total rule
+  -- rule D3b: else the returned commands are a commanding rule
   pub returned : readEntry ranks s ≡ none → Commanding P s (positional (readEntry commands) s)
   -- rule D3c: and survive every run
   pub holds : readEntry ranks s ≡ none → Survives P s (positional (readEntry commands) s) (λ w. Unit {0})
-  -- rule D3d: each total rule fails within r moves
+  -- rule D3d: each commanding rule fails within r moves
   pub within : (r : ℕ) → readEntry ranks s ≡ some r → (ρ : Rule) → Commanding P s ρ → (f : Fails P s ρ) × (moves (f .run) ≤ r)
-  -- rule D3e: and some total rule survives all shorter runs
+  -- rule D3e: and some commanding rule survives all shorter runs
   pub delays : (r : ℕ) → readEntry ranks s ≡ some r → 0 < r → (ρ : Rule) × Commanding P s ρ × Survives P s ρ (λ w. moves w ≤ r - 1)
 
 -- What the search from a answers (its verdict, its rounds and its command table), beside deciding's tables.

@@ -15,7 +15,7 @@ abbrev pub Under : Rule → Run → Type 0
 Under ρ noMoves = Unit {0}
 Under ρ (w ▸ m) = Under ρ w × (ρ w ≡ some (m .command))
 
--- rule R6: an operating rule, from the state s judged, that is total
+-- rule R6: an operating rule, from the state s judged, that is commanding
 pub record Commanding (P : Plan) (s : ℕ) (ρ : Rule) : Type 0 where
   -- rule R4: what it names is a command of the present state
   pub own : (w : Run) (c : ℕ) → IsRun P s w → ρ w ≡ some c → c < P .commands (present s w)

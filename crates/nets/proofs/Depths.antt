@@ -32,7 +32,7 @@ use Rattle.tables.specs.declared.Row.{Row}
 use Rattle.tables.specs.declared.Size.{Size}
 use Rattle.tables.specs.Meaning.{held}
 use Rattle.tables.specs.Spans.{spanAt, failingSpan, commandsOf}
-use Rattle.tables.proofs.Spans.{span-failing}
+use Rattle.tables.proofs.SpanFacts.{span-failing}
 use Rattle.choice.specs.Within.{within}
 use Rattle.propagate.specs.Net.{netOf, losing, depth, seeds, Seeded}
 use Rattle.nets.specs.Nets.{seedOf, Initialized}

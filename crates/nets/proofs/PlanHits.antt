@@ -19,7 +19,7 @@ use Rattle.model.specs.Tables.{Tables}
 use Rattle.model.proofs.Choices.{choice-some, choice-same}
 use Rattle.model.proofs.HeldPlan.{states-held, commands-held}
 use Rattle.model.proofs.Valid.{sound-valid}
-use Rattle.choice.proofs.Choosing.{hits-held}
+use Rattle.choice.proofs.Choices.{hits-held}
 use Rattle.tables.specs.declared.Row.{Row}
 use Rattle.tables.specs.declared.Size.{Size}
 use Rattle.tables.specs.Meaning.{held}

@@ -11,7 +11,7 @@ use Rattle.model.specs.File.{maxStates, maxCommands}
 use Rattle.model.specs.Tables.{Tables}
 use Rattle.tables.specs.declared.Row.{Row}
 use Rattle.tables.specs.declared.Size.{Size}
-use Rattle.tables.specs.declared.internal.Span.{Span}
+use Rattle.tables.specs.declared.spans.Span.{Span}
 use Rattle.tables.specs.Meaning.{held}
 use Rattle.tables.specs.Spans.{spanAt, failingSpan}
 use Rattle.nets.specs.declared.ranges.Range.{Range}

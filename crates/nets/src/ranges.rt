@@ -5,11 +5,11 @@ ghost use Prim.Native.Nat.{_<_, _≤_};
 ghost use lib.ListN.{length};
 ghost use Rattle.model.specs.File.{maxCommands};
 ghost use Rattle.nets.specs.Nets.{rangeOf, seedOf, practiceRange, StateInitialized};
-use crate::internal::has_practice;
-use tables::internal::NONE;
-use tables::internal::Span;
-use tables::internal::is_failing;
-use tables::internal::put;
+use crate::propagations::has_practice;
+use tables::entries::NONE;
+use tables::entries::put;
+use tables::spans::Span;
+use tables::spans::is_failing;
 
 // The commands that count at a state: those from place `from` on, below place `to`.
 pub struct Range {

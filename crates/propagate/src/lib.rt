@@ -1,2 +1,2 @@
 // Propagation of losing states from a set of states, layer by layer, in time linear in the plan.
-pub mod internal;
+pub mod layers;

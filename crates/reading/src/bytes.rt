@@ -4,8 +4,8 @@ ghost use Prim.Native.Nat.{_+_, _^_, _<_, _≤_};
 ghost use lib.ListN.{length, getD, drop};
 ghost use Rattle.laws.specs.Entry.{be16};
 ghost use Rattle.reading.specs.Meaning.{moved};
-use tables::internal::join;
-use tables::internal::wide;
+use tables::entries::join;
+use tables::entries::wide;
 
 // How far a reading has come: a place in the file, and the commands and the outcomes before it.
 pub struct Mark {

@@ -14,7 +14,7 @@ use crate::frame::STATE;
 use crate::walker::field;
 use tables::Refusal;
 use tables::Size;
-use tables::internal::not_idle;
+use tables::spans::not_idle;
 
 pub fn read_head(file: &[u8]) -> Passed
     ensures { λ r. ⌜ Walks (now (file .entry)) r (answer (λ x. afterField (now (file .entry)) headMark 4) (head (now (file .entry)))) ⌝ }

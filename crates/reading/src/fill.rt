@@ -15,9 +15,9 @@ use crate::bytes::entry;
 use crate::bytes::moved;
 use crate::bytes::number;
 use tables::Row;
-use tables::internal::narrow;
-use tables::internal::put;
-use tables::internal::put_row;
+use tables::entries::narrow;
+use tables::entries::put;
+use tables::rows::put_row;
 
 // The outcomes from place `at` of the file on, to the places from t on.
 fn fill_outcomes(file: &[u8], at: usize, count: usize, outcomes: &mut [u16], t: usize)

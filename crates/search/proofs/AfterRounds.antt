@@ -25,7 +25,7 @@ use Rattle.model.proofs.StateKinds.{Kind, fails, rests, acts, kind-of}
 use Rattle.model.proofs.HeldPlan.{states-held}
 use Rattle.model.proofs.Searching.{unmarked-is}
 use Rattle.model.proofs.Valid.{sound-valid}
-use Rattle.tables.specs.declared.internal.Span.{Span}
+use Rattle.tables.specs.declared.spans.Span.{Span}
 use Rattle.tables.specs.Spans.{spanAt}
 use Rattle.walks.specs.Flags.{knownIn}
 use Rattle.walks.specs.Spread.{Spread}

@@ -18,7 +18,7 @@ use Rattle.model.specs.SoundTest.{sound}
 use Rattle.model.specs.Held.{planIn}
 use Rattle.model.proofs.Choices.{choice-some}
 use Rattle.model.proofs.HeldPlan.{commands-held, outcomes-held}
-use Rattle.tables.specs.declared.internal.Span.{Span}
+use Rattle.tables.specs.declared.spans.Span.{Span}
 use Rattle.tables.specs.Spans.{spanAt}
 use Rattle.choice.specs.Within.{within}
 use Rattle.choice.proofs.Outcomes.{outcomes-read}

@@ -8,7 +8,7 @@ use lib.ListN.{getD, set}
 use borrow.Author.Tests.{not-true, not-false, eq-eqb, ne-eqb, le-leb, lt-leb, leb-true, lt-ltb, le-ltb}
 use Rattle.laws.specs.Entry.{FFFF}
 use Rattle.laws.proofs.Tests.{and-both}
-use Rattle.tables.specs.declared.internal.Span.{Span}
+use Rattle.tables.specs.declared.spans.Span.{Span}
 use Rattle.tables.specs.Spans.{failingSpan}
 use Rattle.walks.specs.Flags.{walkedIn}
 use Rattle.search.specs.Marks.{activeSpan, startFlag, startEnd, markedAt, lowerOf}

@@ -16,7 +16,7 @@ use Rattle.model.specs.Places.{firstCommand, commandCount}
 use Rattle.model.specs.Held.{planIn}
 use Rattle.model.proofs.HeldPlan.{kind-held, commands-held}
 use Rattle.tables.specs.Spans.{spanAt}
-use Rattle.tables.proofs.Spans.{span-failing}
+use Rattle.tables.proofs.SpanFacts.{span-failing}
 use Rattle.search.specs.Marks.{activeSpan, startFlag, startEnd}
 
 module _ (T : Tables) (s : ℕ) (l : s < T .size .n) where

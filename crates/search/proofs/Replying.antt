@@ -21,8 +21,8 @@ use Rattle.tables.specs.declared.Size.{Size}
 use Rattle.tables.specs.Meaning.{held, refusalOf}
 use Rattle.tables.specs.Spans.{admitted}
 use Rattle.search.specs.declared.Found.{Found}
-use Rattle.tables.specs.declared.internal.Admission.{Admission}
-use Rattle.tables.specs.declared.internal.Admission.the-variants.{Granted, Denied}
+use Rattle.tables.specs.declared.admission.Admission.{Admission}
+use Rattle.tables.specs.declared.admission.Admission.the-variants.{Granted, Denied}
 use Rattle.search.specs.declared.SearchAnswer.{SearchAnswer}
 use Rattle.search.specs.declared.SearchAnswer.the-variants.{Given, Refused}
 use Rattle.search.specs.Prepared.{Prepared}

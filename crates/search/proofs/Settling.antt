@@ -9,7 +9,7 @@ use lib.Seq.{getD-set-same, getD-set-other}
 use Rattle.laws.specs.Entry.{FFFF}
 use Rattle.laws.proofs.Sets.{below-suc}
 use Rattle.model.specs.Tables.{Tables}
-use Rattle.tables.specs.declared.internal.Span.{Span}
+use Rattle.tables.specs.declared.spans.Span.{Span}
 use Rattle.tables.specs.Spans.{spanAt}
 use Rattle.walks.specs.Flags.{walkedIn}
 use Rattle.walks.specs.Queued.{Queued}

@@ -14,7 +14,7 @@ use Rattle.model.specs.SoundTest.{sound}
 use Rattle.model.specs.Held.{planIn}
 use Rattle.model.proofs.HeldPlan.{states-held}
 use Rattle.model.proofs.Valid.{sound-valid}
-use Rattle.tables.specs.declared.internal.Span.{Span}
+use Rattle.tables.specs.declared.spans.Span.{Span}
 use Rattle.tables.specs.Spans.{spanAt}
 use Rattle.walks.specs.Queued.{Queued}
 use Rattle.walks.specs.Spread.{Spread}

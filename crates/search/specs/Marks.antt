@@ -8,7 +8,7 @@ use Rattle.laws.specs.Sets.{found}
 use Rattle.laws.specs.Entry.{FFFF}
 use Rattle.model.specs.Plan.{Plan, active}
 use Rattle.model.specs.Command.{choice}
-use Rattle.tables.specs.declared.internal.Span.{Span}
+use Rattle.tables.specs.declared.spans.Span.{Span}
 use Rattle.tables.specs.Spans.{failingSpan}
 use Rattle.walks.specs.Flags.{walkedIn}
 

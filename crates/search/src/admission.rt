@@ -7,7 +7,7 @@ ghost use Rattle.model.specs.Search.{search};
 ghost use Rattle.model.specs.Calls.{searching};
 ghost use Rattle.tables.specs.Spans.{admitted};
 use tables::Refusal;
-use tables::internal::Admission;
+use tables::admission::Admission;
 
 // Refusal 10, then 11, then 9: `sounds` says whether the plan is sound, `commands` and `scratch` how many places those tables have.
 pub fn admit(sounds: bool, n: usize, start: usize, commands: usize, scratch: usize) -> Admission

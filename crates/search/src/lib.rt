@@ -10,7 +10,7 @@ ghost use Rattle.search.specs.Answers.{answerOf, afterSearch};
 use tables::Refusal;
 use tables::Row;
 use tables::Size;
-use tables::internal::Admission;
+use tables::admission::Admission;
 
 mod admission;
 mod marks;

@@ -13,12 +13,12 @@ ghost use Rattle.search.specs.Marks.{activeSpan, startFlag, startEnd, ma
 ghost use Rattle.search.specs.Settled.{Cut, Settled};
 use tables::Row;
 use tables::Size;
-use tables::internal::NONE;
-use tables::internal::Span;
-use tables::internal::at;
-use tables::internal::is_failing;
-use tables::internal::put;
-use tables::internal::span_at;
+use tables::entries::NONE;
+use tables::entries::at;
+use tables::entries::put;
+use tables::spans::Span;
+use tables::spans::is_failing;
+use tables::spans::span_at;
 
 // Whether the state is ordinary and has commands.
 fn has_commands(span: Span) -> bool

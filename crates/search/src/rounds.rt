@@ -14,10 +14,10 @@ use crate::marks::start_known;
 use crate::walk::walk;
 use tables::Row;
 use tables::Size;
-use tables::internal::NONE;
-use tables::internal::at;
-use tables::internal::fill;
-use tables::internal::span_at;
+use tables::entries::NONE;
+use tables::entries::at;
+use tables::entries::fill;
+use tables::spans::span_at;
 use walks::queue::reach;
 
 // How a round ends: 0 if it has no marks, 1 if the start is marked, which no command is then taken at, else 2.

@@ -21,15 +21,15 @@ ghost use Rattle.search.specs.Marks.{markedAt, lowerOf, noneLeft};
 ghost use Rattle.search.specs.Underway.{Underway};
 ghost use Rattle.search.specs.Walked.{Expanded, Walked};
 use crate::marks::is_marked;
-use choice::internal::choose;
+use choice::choosing::choose;
 use tables::Row;
 use tables::Size;
-use tables::internal::NONE;
-use tables::internal::Span;
-use tables::internal::at;
-use tables::internal::first_outcome;
-use tables::internal::put;
-use tables::internal::span_at;
+use tables::entries::NONE;
+use tables::entries::at;
+use tables::entries::first_outcome;
+use tables::entries::put;
+use tables::spans::Span;
+use tables::spans::span_at;
 use walks::queue::spread;
 
 // How many states a walk has reached, and the lowest place of the queue from which a marked state was reached, NONE if none is marked.

@@ -1,2 +1,2 @@
 // Entries of tables as bytes, two each, highest first.
-pub mod internal;
+pub mod encoding;

@@ -1,7 +1,7 @@
 pub mod Reading
 pub mod RowPlaces
 pub mod Made
-pub mod Spans
+pub mod SpanFacts
 pub mod ListTest
 pub mod LongTest
 pub mod StoredRows

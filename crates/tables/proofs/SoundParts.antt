@@ -13,7 +13,7 @@ use Rattle.model.specs.Places.{firstCommand}
 use Rattle.model.specs.Sound.{Sound}
 use Rattle.model.specs.SoundTest.{sizeSound, tablesLong, rowSound, listsSound, sound}
 use Rattle.model.proofs.Soundness.{sound-iff}
-use Rattle.tables.specs.declared.internal.Span.{Span}
+use Rattle.tables.specs.declared.spans.Span.{Span}
 use Rattle.tables.specs.Spans.{spanAt}
 
 pub sound-parts : (T : Tables)

@@ -10,9 +10,9 @@ use Rattle.model.specs.File.{StateField, notIdle}
 use Rattle.model.specs.Places.{noRow as noModelRow, rowAt, firstCommand}
 use Rattle.tables.specs.declared.Size.{Size}
 use Rattle.tables.specs.declared.Row.{Row}
-use Rattle.tables.specs.declared.internal.Span.{Span}
-use Rattle.tables.specs.declared.internal.Admission.{Admission}
-use Rattle.tables.specs.declared.internal.Admission.the-variants.{Granted, Denied}
+use Rattle.tables.specs.declared.spans.Span.{Span}
+use Rattle.tables.specs.declared.admission.Admission.{Admission}
+use Rattle.tables.specs.declared.admission.Admission.the-variants.{Granted, Denied}
 use Rattle.tables.specs.Meaning.{refusalOf, rowOf}
 use Rattle.tables.specs.Ready.{listTable}
 
@@ -44,7 +44,7 @@ spanOf r end = spanFor (rowOf r) (r .first) end
 abbrev pub spanAt : Tables → ℕ → Span
 spanAt T s = spanFor (rowAt T s) (firstCommand T s) (firstCommand T (s + 1))
 
--- a state counts as failing: proofs/Spans.antt, `span-failing`, ties it to the plan's
+-- a state counts as failing: proofs/SpanFacts.antt, `span-failing`, ties it to the plan's
 unfoldable pub failingSpan : Span → Bool
 failingSpan q = failingAt (q .kind)
 

@@ -12,11 +12,11 @@ ghost use Rattle.tables.specs.Spans.{spanSound};
 ghost use Rattle.tables.specs.Ready.{listTable};
 use crate::Row;
 use crate::Size;
-use crate::internal::Span;
-use crate::internal::at;
-use crate::internal::not_idle;
-use crate::internal::span_at;
-use crate::internal::start_of;
+use crate::entries::at;
+use crate::entries::start_of;
+use crate::spans::Span;
+use crate::spans::not_idle;
+use crate::spans::span_at;
 
 pub fn size_sound(size: Size) -> bool
     ensures { λ r. ⌜ r ≡ sizeSound (numbers size) ⌝ }

@@ -6,10 +6,13 @@ ghost use Rattle.tables.specs.Meaning.{sized, refusalOf, held};
 ghost use Rattle.model.specs.Refusal.{number};
 ghost use Rattle.model.specs.Sound.{Sound};
 ghost use Rattle.model.specs.SoundTest.{sound};
-use internal::span_at;
+use spans::span_at;
 
+pub mod admission;
 mod checks;
-pub mod internal;
+pub mod entries;
+pub mod rows;
+pub mod spans;
 
 // The numbers of a plan: n states, m commands, t outcome entries, and the start.
 pub struct Size {

@@ -8,8 +8,8 @@ ghost use Rattle.laws.specs.Sets.{any};
 ghost use Rattle.model.specs.File.{maxStates};
 ghost use Rattle.walks.specs.Queued.{Queued};
 ghost use Rattle.walks.specs.Spread.{Spread};
-use tables::internal::at;
-use tables::internal::put;
+use tables::entries::at;
+use tables::entries::put;
 
 // Takes state x into the walk, under the mark, if its flag says that it is not reached. The walk has reached q states before; answers how
 // many it has reached then.

@@ -25,8 +25,8 @@ use Rattle.model.proofs.SoundFacts.{sound-facts}
 use Rattle.model.proofs.Answering.{writing-iff}
 use Rattle.model.proofs.RoundTrips.{written-length}
 use Rattle.tables.specs.declared.Refusal.{Refusal}
-use Rattle.tables.specs.declared.internal.Admission.{Admission}
-use Rattle.tables.specs.declared.internal.Admission.the-variants.{Granted, Denied}
+use Rattle.tables.specs.declared.admission.Admission.{Admission}
+use Rattle.tables.specs.declared.admission.Admission.the-variants.{Granted, Denied}
 use Rattle.tables.specs.Meaning.{refusalOf}
 use Rattle.tables.specs.Spans.{admitted}
 use Rattle.writing.specs.declared.WriteAnswer.the-variants.{Given, Refused}

@@ -19,7 +19,7 @@ use Rattle.model.proofs.Good.{practice-fits}
 use Rattle.model.proofs.SoundFacts.{Fits, RowFits, sound-facts}
 use Rattle.tables.specs.declared.Row.{Row}
 use Rattle.tables.specs.declared.Size.{Size}
-use Rattle.tables.specs.declared.internal.Span.{Span}
+use Rattle.tables.specs.declared.spans.Span.{Span}
 use Rattle.tables.specs.Meaning.{held}
 use Rattle.tables.specs.Spans.{spanAt, commandsOf}
 use Rattle.tables.specs.Ready.{Ready}

@@ -5,7 +5,7 @@ use Rattle.laws.specs.Lists.{tabulate}
 use Rattle.model.specs.Bytes.{stateBytes, commandsBytes}
 use Rattle.model.specs.Tables.{Lists}
 use Rattle.model.specs.Places.{listAt}
-use Rattle.tables.specs.declared.internal.Span.{Span}
+use Rattle.tables.specs.declared.spans.Span.{Span}
 use Rattle.tables.specs.Spans.{fieldIn}
 
 -- the commands from first up to end

@@ -12,8 +12,8 @@ use crate::bytes::put_byte;
 use crate::bytes::put_pair;
 use crate::bytes::put_two;
 use tables::Size;
-use tables::internal::Span;
-use tables::internal::at;
+use tables::entries::at;
+use tables::spans::Span;
 
 const HEAD: usize = 1;
 

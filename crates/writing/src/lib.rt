@@ -17,7 +17,7 @@ use crate::states::write_states;
 use tables::Refusal;
 use tables::Row;
 use tables::Size;
-use tables::internal::Admission;
+use tables::admission::Admission;
 use tables::sound;
 
 mod bytes;

@@ -17,9 +17,9 @@ use crate::fields::write_command;
 use crate::fields::write_row;
 use tables::Row;
 use tables::Size;
-use tables::internal::Span;
-use tables::internal::first_outcome;
-use tables::internal::span_at;
+use tables::entries::first_outcome;
+use tables::spans::Span;
+use tables::spans::span_at;
 
 // The commands from `first` up to `end`.
 fn write_commands(

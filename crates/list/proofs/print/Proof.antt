@@ -1,3 +1,4 @@
+-- The text of a listing fits the bytes answered, so the part that is written is there.
 use mathlib.Core.Path.{sym}
 use Rattle.listing.proofs.Files.{text-fits, text-room}
 use borrow.Author.Needs.{needs}

@@ -85,7 +85,7 @@ abbrev pub hs : List.List Syntax.Home
 hs = List._∷_ Syntax.valueLocal (List._∷_ Syntax.valueLocal (List._∷_ Syntax.valueLocal (List._∷_ Syntax.valueLocal (List._∷_ Syntax.valueLocal (List._∷_ Syntax.valueLocal (List._∷_ Syntax.valueLocal (List._∷_ Syntax.valueLocal (List._∷_ Syntax.valueLocal (List._∷_ Syntax.valueLocal (List._∷_ Syntax.valueLocal List.[]))))))))))
 
 abbrev b0 : Syntax.Body
-b0 = Syntax.call "tables::internal::row_count" (List._∷_ (Syntax.copy (Syntax.place 2 List.[])) List.[]) (Syntax.place 5 List.[])
+b0 = Syntax.call "tables::rows::row_count" (List._∷_ (Syntax.copy (Syntax.place 2 List.[])) List.[]) (Syntax.place 5 List.[])
 
 abbrev b1 : Syntax.Body
 b1 = Syntax.assign (Syntax.place 6 List.[]) (Syntax.op2 (Syntax.lt Syntax.unsigned) (Syntax.copy (Syntax.place 5 List.[])) (Syntax.copy (Syntax.place 1 List.[])))
@@ -106,7 +106,7 @@ abbrev b6 : Syntax.Body
 b6 = Syntax.cond (Syntax.copy (Syntax.place 6 List.[])) b4 b5
 
 abbrev b7 : Syntax.Body
-b7 = Syntax.call "tables::internal::row_count" (List._∷_ (Syntax.copy (Syntax.place 3 List.[])) List.[]) (Syntax.place 5 List.[])
+b7 = Syntax.call "tables::rows::row_count" (List._∷_ (Syntax.copy (Syntax.place 3 List.[])) List.[]) (Syntax.place 5 List.[])
 
 abbrev b8 : Syntax.Body
 b8 = Syntax.assign (Syntax.place 6 List.[]) (Syntax.op2 (Syntax.lt Syntax.unsigned) (Syntax.copy (Syntax.place 5 List.[])) (Syntax.copy (Syntax.place 1 List.[])))
@@ -142,10 +142,10 @@ abbrev b18 : Syntax.Body
 b18 = Syntax.cond (Syntax.copy (Syntax.place 7 List.[])) b16 b17
 
 abbrev b19 : Syntax.Body
-b19 = Syntax.call "tables::internal::row_at" (List._∷_ (Syntax.copy (Syntax.place 2 List.[])) (List._∷_ (Syntax.copy (Syntax.place 4 List.[])) List.[])) (Syntax.place 8 List.[])
+b19 = Syntax.call "tables::rows::row_at" (List._∷_ (Syntax.copy (Syntax.place 2 List.[])) (List._∷_ (Syntax.copy (Syntax.place 4 List.[])) List.[])) (Syntax.place 8 List.[])
 
 abbrev b20 : Syntax.Body
-b20 = Syntax.call "tables::internal::row_at" (List._∷_ (Syntax.copy (Syntax.place 3 List.[])) (List._∷_ (Syntax.copy (Syntax.place 4 List.[])) List.[])) (Syntax.place 9 List.[])
+b20 = Syntax.call "tables::rows::row_at" (List._∷_ (Syntax.copy (Syntax.place 3 List.[])) (List._∷_ (Syntax.copy (Syntax.place 4 List.[])) List.[])) (Syntax.place 9 List.[])
 
 abbrev b21 : Syntax.Body
 b21 = Syntax.call "bench_plans::same::same_row" (List._∷_ (Syntax.copy (Syntax.place 8 List.[])) (List._∷_ (Syntax.copy (Syntax.place 9 List.[])) List.[])) (Syntax.place 7 List.[])
@@ -547,7 +547,7 @@ module _ (claims· : Claims) where
   module _ (Pre· : (κs : Lifetimes.Lfts 2) → Kinds.Dens κs ps → Type 0) (Post· : (κs : Lifetimes.Lfts 2) → (a : Kinds.Dens κs ps) → Kinds.Plain 2 ps r κs) where
     module _ (M : Type 1) where
       abbrev pub Closed : Type 2
-      Closed = (𝓤 : URA.URA M) (H : Wp.Heap 𝓤) (A : Atoms.Atoms 𝓤) (W : Kit.Given 𝓤 H A) (𝓣 : Wp.Tables 𝓤 H) (known0 : Plain.Known 𝓤 H A W 𝓣 1 ps·0 r·0 (claims· .0) (claims· .1) "tables::internal::row_count") (known1 : Plain.Known 𝓤 H A W 𝓣 1 ps·1 r·1 (claims· .2) (claims· .3) "tables::internal::row_at") (known2 : Plain.Known 𝓤 H A W 𝓣 0 ps·2 r·2 (claims· .4) (claims· .5) "bench_plans::same::same_row") → Statement.Triple 𝓤 (Wp.WpFn 𝓤 H (𝓣 .C) (𝓣 .Λ) (Function.fnOf 2 ps r xs m hs body)) (Function.plainOf 𝓤 H A 2 ps r Pre· Post·)
+      Closed = (𝓤 : URA.URA M) (H : Wp.Heap 𝓤) (A : Atoms.Atoms 𝓤) (W : Kit.Given 𝓤 H A) (𝓣 : Wp.Tables 𝓤 H) (known0 : Plain.Known 𝓤 H A W 𝓣 1 ps·0 r·0 (claims· .0) (claims· .1) "tables::rows::row_count") (known1 : Plain.Known 𝓤 H A W 𝓣 1 ps·1 r·1 (claims· .2) (claims· .3) "tables::rows::row_at") (known2 : Plain.Known 𝓤 H A W 𝓣 0 ps·2 r·2 (claims· .4) (claims· .5) "bench_plans::same::same_row") → Statement.Triple 𝓤 (Wp.WpFn 𝓤 H (𝓣 .C) (𝓣 .Λ) (Function.fnOf 2 ps r xs m hs body)) (Function.plainOf 𝓤 H A 2 ps r Pre· Post·)
 
     module _ (Inv·0 : InvT-loop) (μ·0 : MeasureT-loop) where
       abbrev at0 : Typed.TF T8 O1
@@ -717,7 +717,7 @@ module _ (claims· : Claims) where
 
       module _ {M : Type 1} (𝓤 : URA.URA M) (H : Wp.Heap 𝓤) (A : Atoms.Atoms 𝓤) (W : Kit.Given 𝓤 H A) (𝓣 : Wp.Tables 𝓤 H) where
         abbrev Knowns : Type 1
-        Knowns = Plain.Known 𝓤 H A W 𝓣 1 ps·0 r·0 (claims· .0) (claims· .1) "tables::internal::row_count" × Plain.Known 𝓤 H A W 𝓣 1 ps·1 r·1 (claims· .2) (claims· .3) "tables::internal::row_at" × Plain.Known 𝓤 H A W 𝓣 0 ps·2 r·2 (claims· .4) (claims· .5) "bench_plans::same::same_row"
+        Knowns = Plain.Known 𝓤 H A W 𝓣 1 ps·0 r·0 (claims· .0) (claims· .1) "tables::rows::row_count" × Plain.Known 𝓤 H A W 𝓣 1 ps·1 r·1 (claims· .2) (claims· .3) "tables::rows::row_at" × Plain.Known 𝓤 H A W 𝓣 0 ps·2 r·2 (claims· .4) (claims· .5) "bench_plans::same::same_row"
 
       module _ (κs : Lifetimes.Lfts 2) (qs : Lifetimes.Shares 2) where
         abbrev G0 : Row'.Cx
@@ -980,10 +980,10 @@ module _ (claims· : Claims) where
           d35 = Typed.s-seq 𝓤 H A W 𝓣 E G25 G26 b21 b30 Δ5 (Typed.both s20) at34 (Plain.t-call-plain 𝓤 H A W 𝓣 0 ps·2 r·2 (claims· .4) (claims· .5) "bench_plans::same::same_row" (known .2) E (λ pos β. β) G25 (record { pos = 8; st = List.[]; d = 0; at = λ x. x }, (record { pos = 9; st = List.[]; d = 0; at = λ x. x }, tt)) 7 List.[] (Call.sub-id 𝓤 H A W (G25 .slots)) ((Yields.yields-copy 𝓤 H A W (λ ρ. Unit) (Declared.row Row.the-type) Path'.refl (Copies.cStruct Row.the-type Laws.the-laws Laws.the-copy .copy 𝓤 H A W) (Rows.whole (Declared.row Row.the-type)) (λ x. x) (λ x. x) (λ ρ told. Local.mem-whole 𝓤 H A W (Declared.row Row.the-type) ρ) λ ρ told. Local.whole-mem 𝓤 H A W (Declared.row Row.the-type) ρ, Path'.refl), ((Yields.yields-copy 𝓤 H A W (λ ρ. Unit) (Declared.row Row.the-type) Path'.refl (Copies.cStruct Row.the-type Laws.the-laws Laws.the-copy .copy 𝓤 H A W) (Rows.whole (Declared.row Row.the-type)) (λ x. x) (λ x. x) (λ ρ told. Local.mem-whole 𝓤 H A W (Declared.row Row.the-type) ρ) λ ρ told. Local.whole-mem 𝓤 H A W (Declared.row Row.the-type) ρ, Path'.refl), tt)) (Reads.room-gone 𝓤 H A Syntax.tyBool) tt Path'.refl) d34
 
           d36 : Typed.Typed 𝓤 H A 𝓣 E G24 b32 Δ5 at36
-          d36 = Typed.s-seq 𝓤 H A W 𝓣 E G24 G25 b20 b31 Δ5 (Typed.both s19) at35 (Plain.t-call-plain 𝓤 H A W 𝓣 1 ps·1 r·1 (claims· .2) (claims· .3) "tables::internal::row_at" (known .1) E (λ pos β. β) G24 (record { pos = 3; ty = Syntax.tyRef (Syntax.named 1) Syntax.imm (Memory.pointee (Row.the-row .written)); ref = λ x. x }, (Num.vAt 4 λ x. x, tt)) 9 (List._∷_ 1 List.[]) (Call.sub-id 𝓤 H A W (G24 .slots)) (ShrSlice.spares-sslice 𝓤 H A W Row.the-row ty·1 1, Shared.reads-sslice 𝓤 H A W Row.the-row ty·1 1, Path'.refl, ((Scalar.reads-sc 𝓤 H A W (Row'.sInt Syntax.w64), Path'.refl), tt)) (Reads.room-gone 𝓤 H A ty·2) (tt, tt) Path'.refl) d35
+          d36 = Typed.s-seq 𝓤 H A W 𝓣 E G24 G25 b20 b31 Δ5 (Typed.both s19) at35 (Plain.t-call-plain 𝓤 H A W 𝓣 1 ps·1 r·1 (claims· .2) (claims· .3) "tables::rows::row_at" (known .1) E (λ pos β. β) G24 (record { pos = 3; ty = Syntax.tyRef (Syntax.named 1) Syntax.imm (Memory.pointee (Row.the-row .written)); ref = λ x. x }, (Num.vAt 4 λ x. x, tt)) 9 (List._∷_ 1 List.[]) (Call.sub-id 𝓤 H A W (G24 .slots)) (ShrSlice.spares-sslice 𝓤 H A W Row.the-row ty·1 1, Shared.reads-sslice 𝓤 H A W Row.the-row ty·1 1, Path'.refl, ((Scalar.reads-sc 𝓤 H A W (Row'.sInt Syntax.w64), Path'.refl), tt)) (Reads.room-gone 𝓤 H A ty·2) (tt, tt) Path'.refl) d35
 
           d37 : Typed.Typed 𝓤 H A 𝓣 E G21 b33 Δ5 at37
-          d37 = Typed.s-seq 𝓤 H A W 𝓣 E G21 G24 b19 b32 Δ5 (Typed.both s18) at36 (Plain.t-call-plain 𝓤 H A W 𝓣 1 ps·1 r·1 (claims· .2) (claims· .3) "tables::internal::row_at" (known .1) E (λ pos β. β) G21 (record { pos = 2; ty = Syntax.tyRef (Syntax.named 0) Syntax.imm (Memory.pointee (Row.the-row .written)); ref = λ x. x }, (Num.vAt 4 λ x. x, tt)) 8 (List._∷_ 0 List.[]) (Call.sub-id 𝓤 H A W (G21 .slots)) (ShrSlice.spares-sslice 𝓤 H A W Row.the-row ty·0 0, Shared.reads-sslice 𝓤 H A W Row.the-row ty·0 0, Path'.refl, ((Scalar.reads-sc 𝓤 H A W (Row'.sInt Syntax.w64), Path'.refl), tt)) (Reads.room-gone 𝓤 H A ty·2) (tt, tt) Path'.refl) d36
+          d37 = Typed.s-seq 𝓤 H A W 𝓣 E G21 G24 b19 b32 Δ5 (Typed.both s18) at36 (Plain.t-call-plain 𝓤 H A W 𝓣 1 ps·1 r·1 (claims· .2) (claims· .3) "tables::rows::row_at" (known .1) E (λ pos β. β) G21 (record { pos = 2; ty = Syntax.tyRef (Syntax.named 0) Syntax.imm (Memory.pointee (Row.the-row .written)); ref = λ x. x }, (Num.vAt 4 λ x. x, tt)) 8 (List._∷_ 0 List.[]) (Call.sub-id 𝓤 H A W (G21 .slots)) (ShrSlice.spares-sslice 𝓤 H A W Row.the-row ty·0 0, Shared.reads-sslice 𝓤 H A W Row.the-row ty·0 0, Path'.refl, ((Scalar.reads-sc 𝓤 H A W (Row'.sInt Syntax.w64), Path'.refl), tt)) (Reads.room-gone 𝓤 H A ty·2) (tt, tt) Path'.refl) d36
 
           d38 : Typed.Typed 𝓤 H A 𝓣 E G20 b34 Δ5 at38
           d38 = Typed.t-seq 𝓤 H A W 𝓣 E G20 G21 b18 b33 Δ5 at20 at37 d20 d37
@@ -1022,7 +1022,7 @@ module _ (claims· : Claims) where
           d49 = Typed.s-seq 𝓤 H A W 𝓣 E G10 G11 b8 b43 Δ0 (Typed.ask s8) at48 (Scalar.t-op2 𝓤 H A W E 𝓣 G10 (Syntax.lt Syntax.unsigned) (Scalar.oAt 5 (Syntax.tyInt Syntax.w64) (Row'.valS (Row'.sInt Syntax.w64))) (Scalar.oAt 1 (Syntax.tyInt Syntax.w64) (Row'.valS (Row'.sInt Syntax.w64))) 6 (Rows.sc-here Row'.sBool) Syntax.tyBool (Row'.valS Row'.sBool) (Row'.sBool .of) (Scalar.reads-sc 𝓤 H A W (Row'.sInt Syntax.w64), Path'.refl) (Scalar.reads-sc 𝓤 H A W (Row'.sInt Syntax.w64), Path'.refl) (Reads.room-gone 𝓤 H A Syntax.tyBool) (Scalar.holds-sc 𝓤 H A W Row'.sBool) Path'.refl (λ u. Path'.refl) λ u. tt) d48
 
           d50 : Typed.Typed 𝓤 H A 𝓣 E G4 b45 Δ0 at50
-          d50 = Typed.s-seq 𝓤 H A W 𝓣 E G4 G10 b7 b44 Δ0 (Typed.both s7) at49 (Plain.t-call-plain 𝓤 H A W 𝓣 1 ps·0 r·0 (claims· .0) (claims· .1) "tables::internal::row_count" (known .0) E (λ pos β. β) G4 (record { pos = 3; ty = Syntax.tyRef (Syntax.named 1) Syntax.imm (Memory.pointee (Row.the-row .written)); ref = λ x. x }, tt) 5 (List._∷_ 1 List.[]) (Call.sub-id 𝓤 H A W (G4 .slots)) (ShrSlice.spares-sslice 𝓤 H A W Row.the-row ty·1 1, Shared.reads-sslice 𝓤 H A W Row.the-row ty·1 1, Path'.refl, tt) (Reads.room-gone 𝓤 H A (Syntax.tyInt Syntax.w64)) (tt, tt) Path'.refl) d49
+          d50 = Typed.s-seq 𝓤 H A W 𝓣 E G4 G10 b7 b44 Δ0 (Typed.both s7) at49 (Plain.t-call-plain 𝓤 H A W 𝓣 1 ps·0 r·0 (claims· .0) (claims· .1) "tables::rows::row_count" (known .0) E (λ pos β. β) G4 (record { pos = 3; ty = Syntax.tyRef (Syntax.named 1) Syntax.imm (Memory.pointee (Row.the-row .written)); ref = λ x. x }, tt) 5 (List._∷_ 1 List.[]) (Call.sub-id 𝓤 H A W (G4 .slots)) (ShrSlice.spares-sslice 𝓤 H A W Row.the-row ty·1 1, Shared.reads-sslice 𝓤 H A W Row.the-row ty·1 1, Path'.refl, tt) (Reads.room-gone 𝓤 H A (Syntax.tyInt Syntax.w64)) (tt, tt) Path'.refl) d49
 
           d51 : Typed.Typed 𝓤 H A 𝓣 E G3 b46 Δ0 at51
           d51 = Typed.t-seq 𝓤 H A W 𝓣 E G3 G4 b6 b45 Δ0 at7 at50 d7 d50
@@ -1031,7 +1031,7 @@ module _ (claims· : Claims) where
           d52 = Typed.s-seq 𝓤 H A W 𝓣 E G2 G3 b1 b46 Δ0 (Typed.ask s1) at51 (Scalar.t-op2 𝓤 H A W E 𝓣 G2 (Syntax.lt Syntax.unsigned) (Scalar.oAt 5 (Syntax.tyInt Syntax.w64) (Row'.valS (Row'.sInt Syntax.w64))) (Scalar.oAt 1 (Syntax.tyInt Syntax.w64) (Row'.valS (Row'.sInt Syntax.w64))) 6 (Rows.sc-here Row'.sBool) Syntax.tyBool (Row'.valS Row'.sBool) (Row'.sBool .of) (Scalar.reads-sc 𝓤 H A W (Row'.sInt Syntax.w64), Path'.refl) (Scalar.reads-sc 𝓤 H A W (Row'.sInt Syntax.w64), Path'.refl) (Reads.room-gone 𝓤 H A Syntax.tyBool) (Scalar.holds-sc 𝓤 H A W Row'.sBool) Path'.refl (λ u. Path'.refl) λ u. tt) d51
 
           d53 : Typed.Typed 𝓤 H A 𝓣 E G0 b48 Δ0 at53
-          d53 = Typed.s-seq 𝓤 H A W 𝓣 E G0 G2 b0 b47 Δ0 (Typed.both s0) at52 (Plain.t-call-plain 𝓤 H A W 𝓣 1 ps·0 r·0 (claims· .0) (claims· .1) "tables::internal::row_count" (known .0) E (λ pos β. β) G0 (record { pos = 2; ty = Syntax.tyRef (Syntax.named 0) Syntax.imm (Memory.pointee (Row.the-row .written)); ref = λ x. x }, tt) 5 (List._∷_ 0 List.[]) (Call.sub-id 𝓤 H A W (G0 .slots)) (ShrSlice.spares-sslice 𝓤 H A W Row.the-row ty·0 0, Shared.reads-sslice 𝓤 H A W Row.the-row ty·0 0, Path'.refl, tt) (Reads.room-gone 𝓤 H A (Syntax.tyInt Syntax.w64)) (tt, tt) Path'.refl) d52
+          d53 = Typed.s-seq 𝓤 H A W 𝓣 E G0 G2 b0 b47 Δ0 (Typed.both s0) at52 (Plain.t-call-plain 𝓤 H A W 𝓣 1 ps·0 r·0 (claims· .0) (claims· .1) "tables::rows::row_count" (known .0) E (λ pos β. β) G0 (record { pos = 2; ty = Syntax.tyRef (Syntax.named 0) Syntax.imm (Memory.pointee (Row.the-row .written)); ref = λ x. x }, tt) 5 (List._∷_ 0 List.[]) (Call.sub-id 𝓤 H A W (G0 .slots)) (ShrSlice.spares-sslice 𝓤 H A W Row.the-row ty·0 0, Shared.reads-sslice 𝓤 H A W Row.the-row ty·0 0, Path'.refl, tt) (Reads.room-gone 𝓤 H A (Syntax.tyInt Syntax.w64)) (tt, tt) Path'.refl) d52
 
           pub typed : Typed.Typed 𝓤 H A 𝓣 E (Function.Γin 2 ps r xs m κs qs) b48 (Function.Δret 2 ps r xs m κs qs) Φ
           typed = d53
@@ -1411,6 +1411,6 @@ module _ (claims· : Claims) where
           pub asked : (a : Kinds.Dens κs ps) → (good : Kinds.GoodsP κs ps a) → (pre : Pre· κs a) → (bs : List.List Nat.ℕ) → Φ (Any.wantQ 2 ps r xs m κs qs a (Post· κs a)) (Function.init 2 ps r xs m κs qs a)
           asked = λ a good pre bs. laid record { κs = κs; args = record { n = a .0; a = a .1 .0; b = a .1 .1 .0 }; good = good; fits = record { n = record { fits = good .0 .1 } }; pre = pre }
 
-        module _ {M : Type 1} (𝓤 : URA.URA M) (H : Wp.Heap 𝓤) (A : Atoms.Atoms 𝓤) (W : Kit.Given 𝓤 H A) (𝓣 : Wp.Tables 𝓤 H) (known0 : Plain.Known 𝓤 H A W 𝓣 1 ps·0 r·0 (claims· .0) (claims· .1) "tables::internal::row_count") (known1 : Plain.Known 𝓤 H A W 𝓣 1 ps·1 r·1 (claims· .2) (claims· .3) "tables::internal::row_at") (known2 : Plain.Known 𝓤 H A W 𝓣 0 ps·2 r·2 (claims· .4) (claims· .5) "bench_plans::same::same_row") where
+        module _ {M : Type 1} (𝓤 : URA.URA M) (H : Wp.Heap 𝓤) (A : Atoms.Atoms 𝓤) (W : Kit.Given 𝓤 H A) (𝓣 : Wp.Tables 𝓤 H) (known0 : Plain.Known 𝓤 H A W 𝓣 1 ps·0 r·0 (claims· .0) (claims· .1) "tables::rows::row_count") (known1 : Plain.Known 𝓤 H A W 𝓣 1 ps·1 r·1 (claims· .2) (claims· .3) "tables::rows::row_at") (known2 : Plain.Known 𝓤 H A W 𝓣 0 ps·2 r·2 (claims· .4) (claims· .5) "bench_plans::same::same_row") where
           pub spec : Statement.Triple 𝓤 (Wp.WpFn 𝓤 H (𝓣 .C) (𝓣 .Λ) (Function.fnOf 2 ps r xs m hs body)) (Function.plainOf 𝓤 H A 2 ps r Pre· Post·)
           spec = Plain.t-fn-plain 𝓤 H A W 𝓣 2 ps r xs m hs body (λ κs qs bs. Φ) (λ κs qs bs bd. typed κs qs 𝓤 H A W 𝓣 (known0, known1, known2) bs bd) Pre· Post· asked

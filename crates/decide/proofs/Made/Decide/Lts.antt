@@ -7,8 +7,8 @@ use Rattle.tables.proofs.Refusal.Laws as Laws'
 use Rattle.tables.proofs.Row as T
 use Rattle.tables.proofs.Size
 use Rattle.tables.proofs.Size.Laws as Laws''
-use Rattle.tables.proofs.internal.Admission
-use Rattle.tables.proofs.internal.Admission.Laws as Laws'3
+use Rattle.tables.proofs.admission.Admission
+use Rattle.tables.proofs.admission.Admission.Laws as Laws'3
 use borrow.Author.Called
 use borrow.Enum.Known
 use borrow.Enum.Match
@@ -235,7 +235,7 @@ abbrev b16 : Syntax.Body
 b16 = Syntax.assign (Syntax.place 26 List.[]) (Syntax.aggregate (List._∷_ (Syntax.copy (Syntax.place 25 List.[])) (List._∷_ (Syntax.copy (Syntax.place 8 (List._∷_ (Syntax.field 1) List.[]))) List.[])))
 
 abbrev b17 : Syntax.Body
-b17 = Syntax.call "nets::internal::propagate_plan" (List._∷_ (Syntax.copy (Syntax.place 1 List.[])) (List._∷_ (Syntax.copy (Syntax.place 2 List.[])) (List._∷_ (Syntax.copy (Syntax.place 3 List.[])) (List._∷_ (Syntax.copy (Syntax.place 4 List.[])) (List._∷_ (Syntax.copy (Syntax.place 20 List.[])) (List._∷_ (Syntax.copy (Syntax.place 22 List.[])) (List._∷_ (Syntax.copy (Syntax.place 24 List.[])) (List._∷_ (Syntax.copy (Syntax.place 26 List.[])) List.[])))))))) (Syntax.place 18 List.[])
+b17 = Syntax.call "nets::propagations::propagate_plan" (List._∷_ (Syntax.copy (Syntax.place 1 List.[])) (List._∷_ (Syntax.copy (Syntax.place 2 List.[])) (List._∷_ (Syntax.copy (Syntax.place 3 List.[])) (List._∷_ (Syntax.copy (Syntax.place 4 List.[])) (List._∷_ (Syntax.copy (Syntax.place 20 List.[])) (List._∷_ (Syntax.copy (Syntax.place 22 List.[])) (List._∷_ (Syntax.copy (Syntax.place 24 List.[])) (List._∷_ (Syntax.copy (Syntax.place 26 List.[])) List.[])))))))) (Syntax.place 18 List.[])
 
 abbrev b18 : Syntax.Body
 b18 = Syntax.assign (Syntax.place 27 List.[]) (Syntax.addrOf (Syntax.place 5 (List._∷_ (Syntax.field 0) (List._∷_ (Syntax.deref (Syntax.tyInt Syntax.w16)) List.[]))))
@@ -265,7 +265,7 @@ abbrev b26 : Syntax.Body
 b26 = Syntax.assign (Syntax.place 34 List.[]) (Syntax.aggregate (List._∷_ (Syntax.copy (Syntax.place 33 List.[])) (List._∷_ (Syntax.copy (Syntax.place 8 (List._∷_ (Syntax.field 1) List.[]))) List.[])))
 
 abbrev b27 : Syntax.Body
-b27 = Syntax.call "tables::internal::fill" (List._∷_ (Syntax.copy (Syntax.place 34 List.[])) (List._∷_ (Syntax.copy (Syntax.place 1 (List._∷_ (Syntax.field 0) List.[]))) (List._∷_ (Syntax.int Syntax.w64 0) List.[]))) (Syntax.place 18 List.[])
+b27 = Syntax.call "tables::entries::fill" (List._∷_ (Syntax.copy (Syntax.place 34 List.[])) (List._∷_ (Syntax.copy (Syntax.place 1 (List._∷_ (Syntax.field 0) List.[]))) (List._∷_ (Syntax.int Syntax.w64 0) List.[]))) (Syntax.place 18 List.[])
 
 abbrev b28 : Syntax.Body
 b28 = Syntax.call "decide::answer_with" (List._∷_ (Syntax.copy (Syntax.place 12 List.[])) List.[]) (Syntax.place 17 List.[])
@@ -982,7 +982,7 @@ module _ (claims· : Claims) where
   module _ (Pre· : (κs : Lifetimes.Lfts 7) → Kinds.Dens κs ps → Type 0) (Post· : (κs : Lifetimes.Lfts 7) → (a : Kinds.Dens κs ps) → Kinds.Plain 7 ps r κs) where
     module _ (M : Type 1) where
       abbrev pub Closed : Type 2
-      Closed = (𝓤 : URA.URA M) (H : Wp.Heap 𝓤) (A : Atoms.Atoms 𝓤) (W : Kit.Given 𝓤 H A) (𝓣 : Wp.Tables 𝓤 H) (known0 : Plain.Known 𝓤 H A W 𝓣 3 ps·0 r·0 (claims· .0) (claims· .1) "tables::sound") (known1 : Plain.Known 𝓤 H A W 𝓣 0 ps·1 r·1 (claims· .2) (claims· .3) "decide::admit") (known2 : Plain.Known 𝓤 H A W 𝓣 0 ps·2 r·2 (claims· .4) (claims· .5) "decide::refuse") (known3 : Plain.Known 𝓤 H A W 𝓣 7 ps·3 r·3 (claims· .6) (claims· .7) "nets::internal::propagate_plan") (known4 : Plain.Known 𝓤 H A W 𝓣 6 ps·4 r·4 (claims· .8) (claims· .9) "decide::verdicts::judge_all") (known5 : Plain.Known 𝓤 H A W 𝓣 1 ps·5 r·5 (claims· .10) (claims· .11) "tables::internal::fill") (known6 : Plain.Known 𝓤 H A W 𝓣 0 ps·6 r·6 (claims· .12) (claims· .13) "decide::answer_with") → Statement.Triple 𝓤 (Wp.WpFn 𝓤 H (𝓣 .C) (𝓣 .Λ) (Function.fnOf 7 ps r xs m hs body)) (Function.plainOf 𝓤 H A 7 ps r Pre· Post·)
+      Closed = (𝓤 : URA.URA M) (H : Wp.Heap 𝓤) (A : Atoms.Atoms 𝓤) (W : Kit.Given 𝓤 H A) (𝓣 : Wp.Tables 𝓤 H) (known0 : Plain.Known 𝓤 H A W 𝓣 3 ps·0 r·0 (claims· .0) (claims· .1) "tables::sound") (known1 : Plain.Known 𝓤 H A W 𝓣 0 ps·1 r·1 (claims· .2) (claims· .3) "decide::admit") (known2 : Plain.Known 𝓤 H A W 𝓣 0 ps·2 r·2 (claims· .4) (claims· .5) "decide::refuse") (known3 : Plain.Known 𝓤 H A W 𝓣 7 ps·3 r·3 (claims· .6) (claims· .7) "nets::propagations::propagate_plan") (known4 : Plain.Known 𝓤 H A W 𝓣 6 ps·4 r·4 (claims· .8) (claims· .9) "decide::verdicts::judge_all") (known5 : Plain.Known 𝓤 H A W 𝓣 1 ps·5 r·5 (claims· .10) (claims· .11) "tables::entries::fill") (known6 : Plain.Known 𝓤 H A W 𝓣 0 ps·6 r·6 (claims· .12) (claims· .13) "decide::answer_with") → Statement.Triple 𝓤 (Wp.WpFn 𝓤 H (𝓣 .C) (𝓣 .Λ) (Function.fnOf 7 ps r xs m hs body)) (Function.plainOf 𝓤 H A 7 ps r Pre· Post·)
 
     module _ where
       abbrev at0 : Typed.TF T23 O1
@@ -1269,7 +1269,7 @@ module _ (claims· : Claims) where
 
       module _ {M : Type 1} (𝓤 : URA.URA M) (H : Wp.Heap 𝓤) (A : Atoms.Atoms 𝓤) (W : Kit.Given 𝓤 H A) (𝓣 : Wp.Tables 𝓤 H) where
         abbrev Knowns : Type 1
-        Knowns = Plain.Known 𝓤 H A W 𝓣 3 ps·0 r·0 (claims· .0) (claims· .1) "tables::sound" × Plain.Known 𝓤 H A W 𝓣 0 ps·1 r·1 (claims· .2) (claims· .3) "decide::admit" × Plain.Known 𝓤 H A W 𝓣 0 ps·2 r·2 (claims· .4) (claims· .5) "decide::refuse" × Plain.Known 𝓤 H A W 𝓣 7 ps·3 r·3 (claims· .6) (claims· .7) "nets::internal::propagate_plan" × Plain.Known 𝓤 H A W 𝓣 6 ps·4 r·4 (claims· .8) (claims· .9) "decide::verdicts::judge_all" × Plain.Known 𝓤 H A W 𝓣 1 ps·5 r·5 (claims· .10) (claims· .11) "tables::internal::fill" × Plain.Known 𝓤 H A W 𝓣 0 ps·6 r·6 (claims· .12) (claims· .13) "decide::answer_with"
+        Knowns = Plain.Known 𝓤 H A W 𝓣 3 ps·0 r·0 (claims· .0) (claims· .1) "tables::sound" × Plain.Known 𝓤 H A W 𝓣 0 ps·1 r·1 (claims· .2) (claims· .3) "decide::admit" × Plain.Known 𝓤 H A W 𝓣 0 ps·2 r·2 (claims· .4) (claims· .5) "decide::refuse" × Plain.Known 𝓤 H A W 𝓣 7 ps·3 r·3 (claims· .6) (claims· .7) "nets::propagations::propagate_plan" × Plain.Known 𝓤 H A W 𝓣 6 ps·4 r·4 (claims· .8) (claims· .9) "decide::verdicts::judge_all" × Plain.Known 𝓤 H A W 𝓣 1 ps·5 r·5 (claims· .10) (claims· .11) "tables::entries::fill" × Plain.Known 𝓤 H A W 𝓣 0 ps·6 r·6 (claims· .12) (claims· .13) "decide::answer_with"
 
       module _ (κs : Lifetimes.Lfts 7) (qs : Lifetimes.Shares 7) where
         abbrev g19 : List.List Row.Entry
@@ -1652,7 +1652,7 @@ module _ (claims· : Claims) where
           d12 = Typed.g-pre 𝓤 H A W 𝓣 E G83 G84 b28 Δ1 (Typed.pass T83 T84 s81) at11 (Scalar.g-room 𝓤 H A W E G83 1 ty·13 (Local.room-whole 𝓤 H A W (Declared'.row Size.the-type) ty·13 Path'.refl)) d11
 
           d13 : Typed.Typed 𝓤 H A 𝓣 E G82 b29 Δ1 at13
-          d13 = Typed.s-seq 𝓤 H A W 𝓣 E G82 G83 b27 b28 Δ1 (Typed.both s80) at12 (Plain.t-call-plain 𝓤 H A W 𝓣 1 ps·5 r·5 (claims· .10) (claims· .11) "tables::internal::fill" (known .5) E (λ pos β. β) G82 (record { pos = 34; ty = Syntax.tyRef Syntax.erased Syntax.mut (Syntax.tyInt Syntax.w16); ref = λ x. x }, (Num.vFld 1 (List._∷_ (Syntax.field 0) List.[]) 0 λ x. Size.struct .as-values x .0, (Num.vLit 0, tt))) 18 (List._∷_ 14 List.[]) (Call.sub-id 𝓤 H A W (G82 .slots)) (Reads'.as-is 𝓤 H A (Mut.mslice (Referent.rtF (Referent.fInt Syntax.w16)) ty·2 14), Mut.reads-mslice 𝓤 H A W (Referent.rtF (Referent.fInt Syntax.w16)) ty·2 14, Path'.refl, ((Reads.reads-field 𝓤 H A W Size.the-type Laws''.the-laws 0 (Syntax.tyInt Syntax.w64) 0 Path'.refl, Path'.refl), (tt, tt))) (Reads'.room-gone 𝓤 H A Syntax.tyUnit) (tt, tt) Path'.refl) d12
+          d13 = Typed.s-seq 𝓤 H A W 𝓣 E G82 G83 b27 b28 Δ1 (Typed.both s80) at12 (Plain.t-call-plain 𝓤 H A W 𝓣 1 ps·5 r·5 (claims· .10) (claims· .11) "tables::entries::fill" (known .5) E (λ pos β. β) G82 (record { pos = 34; ty = Syntax.tyRef Syntax.erased Syntax.mut (Syntax.tyInt Syntax.w16); ref = λ x. x }, (Num.vFld 1 (List._∷_ (Syntax.field 0) List.[]) 0 λ x. Size.struct .as-values x .0, (Num.vLit 0, tt))) 18 (List._∷_ 14 List.[]) (Call.sub-id 𝓤 H A W (G82 .slots)) (Reads'.as-is 𝓤 H A (Mut.mslice (Referent.rtF (Referent.fInt Syntax.w16)) ty·2 14), Mut.reads-mslice 𝓤 H A W (Referent.rtF (Referent.fInt Syntax.w16)) ty·2 14, Path'.refl, ((Reads.reads-field 𝓤 H A W Size.the-type Laws''.the-laws 0 (Syntax.tyInt Syntax.w64) 0 Path'.refl, Path'.refl), (tt, tt))) (Reads'.room-gone 𝓤 H A Syntax.tyUnit) (tt, tt) Path'.refl) d12
 
           d14 : Typed.Typed 𝓤 H A 𝓣 E G81 b30 Δ1 at14
           d14 = Typed.s-seq 𝓤 H A W 𝓣 E G81 G82 b26 b29 Δ1 (Typed.ask s79) at13 (Relend.t-sl-aggregate 𝓤 H A W E (Referent.rtF (Referent.fInt Syntax.w16)) 𝓣 (Relend.asMut (Referent.rtF (Referent.fInt Syntax.w16))) G81 33 34 14 ty·2 ty·2 (λ x. x) (Scalar.oFld 8 (List._∷_ (Syntax.field 1) List.[]) (Syntax.tyInt Syntax.w64) 8 λ v. Shared.lenV (v .0)) (Reads'.as-is 𝓤 H A (Relend.msptr (Referent.rtF (Referent.fInt Syntax.w16)) ty·2 14)) (Reads'.room-gone 𝓤 H A ty·11) (Relend.reads-owed-len 𝓤 H A W (Referent.rtF (Referent.fInt Syntax.w16)) ty·9 6 14 (Row.lease (κs .1 .1 .1 .1 .1 .1 .0) (qs .1 .1 .1 .1 .1 .1 .0)) 8 Path'.refl, Path'.refl) Path'.refl Path'.refl λ b o k. tt) d13
@@ -1781,7 +1781,7 @@ module _ (claims· : Claims) where
           d55 = Typed.g-pre 𝓤 H A W 𝓣 E G40 G41 b38 Δ1 (Typed.pass T40 T41 s38) at54 (Scalar.g-room 𝓤 H A W E G40 18 Syntax.tyUnit (Scalar.room-sc 𝓤 H A W Row.sUnit)) d54
 
           d56 : Typed.Typed 𝓤 H A 𝓣 E G39 b39 Δ1 at56
-          d56 = Typed.s-seq 𝓤 H A W 𝓣 E G39 G40 b17 b38 Δ1 (Typed.both s37) at55 (Plain.t-call-plain 𝓤 H A W 𝓣 7 ps·3 r·3 (claims· .6) (claims· .7) "nets::internal::propagate_plan" (known .3) E (λ pos β. β) G39 (record { pos = 1; st = List.[]; d = 0; at = λ x. x }, (record { pos = 2; ty = Syntax.tyRef (Syntax.named 0) Syntax.imm (Memory.pointee (T.the-row .written)); ref = λ x. x }, (record { pos = 3; ty = Syntax.tyRef (Syntax.named 1) Syntax.imm (Syntax.tyInt Syntax.w16); ref = λ x. x }, (record { pos = 4; ty = Syntax.tyRef (Syntax.named 2) Syntax.imm (Syntax.tyInt Syntax.w16); ref = λ x. x }, (record { pos = 20; ty = Syntax.tyRef Syntax.erased Syntax.mut (Syntax.tyInt Syntax.w16); ref = λ x. x }, (record { pos = 22; ty = Syntax.tyRef Syntax.erased Syntax.mut (Syntax.tyInt Syntax.w16); ref = λ x. x }, (record { pos = 24; ty = Syntax.tyRef Syntax.erased Syntax.mut (Syntax.tyInt Syntax.w16); ref = λ x. x }, (record { pos = 26; ty = Syntax.tyRef Syntax.erased Syntax.mut (Syntax.tyInt Syntax.w16); ref = λ x. x }, tt)))))))) 18 (List._∷_ 0 (List._∷_ 1 (List._∷_ 2 (List._∷_ 7 (List._∷_ 8 (List._∷_ 9 (List._∷_ 10 List.[]))))))) (Call.sub-id 𝓤 H A W (G39 .slots)) ((Yields.yields-copy 𝓤 H A W (λ ρ. Unit) (Declared'.row Size.the-type) Path'.refl (Copies.cStruct Size.the-type Laws''.the-laws Laws''.the-copy .copy 𝓤 H A W) (Rows'.whole (Declared'.row Size.the-type)) (λ x. x) (λ x. x) (λ ρ told. Local.mem-whole 𝓤 H A W (Declared'.row Size.the-type) ρ) λ ρ told. Local.whole-mem 𝓤 H A W (Declared'.row Size.the-type) ρ, Path'.refl), (ShrSlice.spares-sslice 𝓤 H A W T.the-row ty·10 0, Shared.reads-sslice 𝓤 H A W T.the-row ty·10 0, Path'.refl, (ShrSlice.spares-sslice 𝓤 H A W (Referent.rtF (Referent.fInt Syntax.w16)) ty·4 1, Shared.reads-sslice 𝓤 H A W (Referent.rtF (Referent.fInt Syntax.w16)) ty·4 1, Path'.refl, (ShrSlice.spares-sslice 𝓤 H A W (Referent.rtF (Referent.fInt Syntax.w16)) ty·5 2, Shared.reads-sslice 𝓤 H A W (Referent.rtF (Referent.fInt Syntax.w16)) ty·5 2, Path'.refl, (Reads'.as-is 𝓤 H A (Mut.mslice (Referent.rtF (Referent.fInt Syntax.w16)) ty·2 7), Mut.reads-mslice 𝓤 H A W (Referent.rtF (Referent.fInt Syntax.w16)) ty·2 7, Path'.refl, (Reads'.as-is 𝓤 H A (Mut.mslice (Referent.rtF (Referent.fInt Syntax.w16)) ty·2 8), Mut.reads-mslice 𝓤 H A W (Referent.rtF (Referent.fInt Syntax.w16)) ty·2 8, Path'.refl, (Reads'.as-is 𝓤 H A (Mut.mslice (Referent.rtF (Referent.fInt Syntax.w16)) ty·2 9), Mut.reads-mslice 𝓤 H A W (Referent.rtF (Referent.fInt Syntax.w16)) ty·2 9, Path'.refl, (Reads'.as-is 𝓤 H A (Mut.mslice (Referent.rtF (Referent.fInt Syntax.w16)) ty·2 10), Mut.reads-mslice 𝓤 H A W (Referent.rtF (Referent.fInt Syntax.w16)) ty·2 10, Path'.refl, tt)))))))) (Reads'.room-gone 𝓤 H A Syntax.tyUnit) (tt, (tt, (tt, (tt, (tt, (tt, (tt, tt))))))) Path'.refl) d55
+          d56 = Typed.s-seq 𝓤 H A W 𝓣 E G39 G40 b17 b38 Δ1 (Typed.both s37) at55 (Plain.t-call-plain 𝓤 H A W 𝓣 7 ps·3 r·3 (claims· .6) (claims· .7) "nets::propagations::propagate_plan" (known .3) E (λ pos β. β) G39 (record { pos = 1; st = List.[]; d = 0; at = λ x. x }, (record { pos = 2; ty = Syntax.tyRef (Syntax.named 0) Syntax.imm (Memory.pointee (T.the-row .written)); ref = λ x. x }, (record { pos = 3; ty = Syntax.tyRef (Syntax.named 1) Syntax.imm (Syntax.tyInt Syntax.w16); ref = λ x. x }, (record { pos = 4; ty = Syntax.tyRef (Syntax.named 2) Syntax.imm (Syntax.tyInt Syntax.w16); ref = λ x. x }, (record { pos = 20; ty = Syntax.tyRef Syntax.erased Syntax.mut (Syntax.tyInt Syntax.w16); ref = λ x. x }, (record { pos = 22; ty = Syntax.tyRef Syntax.erased Syntax.mut (Syntax.tyInt Syntax.w16); ref = λ x. x }, (record { pos = 24; ty = Syntax.tyRef Syntax.erased Syntax.mut (Syntax.tyInt Syntax.w16); ref = λ x. x }, (record { pos = 26; ty = Syntax.tyRef Syntax.erased Syntax.mut (Syntax.tyInt Syntax.w16); ref = λ x. x }, tt)))))))) 18 (List._∷_ 0 (List._∷_ 1 (List._∷_ 2 (List._∷_ 7 (List._∷_ 8 (List._∷_ 9 (List._∷_ 10 List.[]))))))) (Call.sub-id 𝓤 H A W (G39 .slots)) ((Yields.yields-copy 𝓤 H A W (λ ρ. Unit) (Declared'.row Size.the-type) Path'.refl (Copies.cStruct Size.the-type Laws''.the-laws Laws''.the-copy .copy 𝓤 H A W) (Rows'.whole (Declared'.row Size.the-type)) (λ x. x) (λ x. x) (λ ρ told. Local.mem-whole 𝓤 H A W (Declared'.row Size.the-type) ρ) λ ρ told. Local.whole-mem 𝓤 H A W (Declared'.row Size.the-type) ρ, Path'.refl), (ShrSlice.spares-sslice 𝓤 H A W T.the-row ty·10 0, Shared.reads-sslice 𝓤 H A W T.the-row ty·10 0, Path'.refl, (ShrSlice.spares-sslice 𝓤 H A W (Referent.rtF (Referent.fInt Syntax.w16)) ty·4 1, Shared.reads-sslice 𝓤 H A W (Referent.rtF (Referent.fInt Syntax.w16)) ty·4 1, Path'.refl, (ShrSlice.spares-sslice 𝓤 H A W (Referent.rtF (Referent.fInt Syntax.w16)) ty·5 2, Shared.reads-sslice 𝓤 H A W (Referent.rtF (Referent.fInt Syntax.w16)) ty·5 2, Path'.refl, (Reads'.as-is 𝓤 H A (Mut.mslice (Referent.rtF (Referent.fInt Syntax.w16)) ty·2 7), Mut.reads-mslice 𝓤 H A W (Referent.rtF (Referent.fInt Syntax.w16)) ty·2 7, Path'.refl, (Reads'.as-is 𝓤 H A (Mut.mslice (Referent.rtF (Referent.fInt Syntax.w16)) ty·2 8), Mut.reads-mslice 𝓤 H A W (Referent.rtF (Referent.fInt Syntax.w16)) ty·2 8, Path'.refl, (Reads'.as-is 𝓤 H A (Mut.mslice (Referent.rtF (Referent.fInt Syntax.w16)) ty·2 9), Mut.reads-mslice 𝓤 H A W (Referent.rtF (Referent.fInt Syntax.w16)) ty·2 9, Path'.refl, (Reads'.as-is 𝓤 H A (Mut.mslice (Referent.rtF (Referent.fInt Syntax.w16)) ty·2 10), Mut.reads-mslice 𝓤 H A W (Referent.rtF (Referent.fInt Syntax.w16)) ty·2 10, Path'.refl, tt)))))))) (Reads'.room-gone 𝓤 H A Syntax.tyUnit) (tt, (tt, (tt, (tt, (tt, (tt, (tt, tt))))))) Path'.refl) d55
 
           d57 : Typed.Typed 𝓤 H A 𝓣 E G38 b40 Δ1 at57
           d57 = Typed.s-seq 𝓤 H A W 𝓣 E G38 G39 b16 b39 Δ1 (Typed.ask s36) at56 (Relend.t-sl-aggregate 𝓤 H A W E (Referent.rtF (Referent.fInt Syntax.w16)) 𝓣 (Relend.asMut (Referent.rtF (Referent.fInt Syntax.w16))) G38 25 26 10 ty·2 ty·2 (λ x. x) (Scalar.oFld 8 (List._∷_ (Syntax.field 1) List.[]) (Syntax.tyInt Syntax.w64) 8 λ v. Shared.lenV (v .0)) (Reads'.as-is 𝓤 H A (Relend.msptr (Referent.rtF (Referent.fInt Syntax.w16)) ty·2 10)) (Reads'.room-gone 𝓤 H A ty·11) (Relend.reads-owed-len 𝓤 H A W (Referent.rtF (Referent.fInt Syntax.w16)) ty·9 6 10 (Row.lease (κs .1 .1 .1 .1 .1 .1 .0) (qs .1 .1 .1 .1 .1 .1 .0)) 8 Path'.refl, Path'.refl) Path'.refl Path'.refl λ b o k. tt) d56
@@ -2551,6 +2551,6 @@ module _ (claims· : Claims) where
           pub asked : (a : Kinds.Dens κs ps) → (good : Kinds.GoodsP κs ps a) → (pre : Pre· κs a) → (bs : List.List Nat.ℕ) → Φ (Any.wantQ 7 ps r xs m κs qs a (Post· κs a)) (Function.init 7 ps r xs m κs qs a)
           asked = λ a good pre bs. laid record { κs = κs; args = record { size = a .0; rows = a .1 .0; firsts = a .1 .1 .0; outcomes = a .1 .1 .1 .0; ranks = a .1 .1 .1 .1 .0; commands = a .1 .1 .1 .1 .1 .0; marks = a .1 .1 .1 .1 .1 .1 .0; scratch = a .1 .1 .1 .1 .1 .1 .1 .0 }; good = good; pre = pre }
 
-        module _ {M : Type 1} (𝓤 : URA.URA M) (H : Wp.Heap 𝓤) (A : Atoms.Atoms 𝓤) (W : Kit.Given 𝓤 H A) (𝓣 : Wp.Tables 𝓤 H) (known0 : Plain.Known 𝓤 H A W 𝓣 3 ps·0 r·0 (claims· .0) (claims· .1) "tables::sound") (known1 : Plain.Known 𝓤 H A W 𝓣 0 ps·1 r·1 (claims· .2) (claims· .3) "decide::admit") (known2 : Plain.Known 𝓤 H A W 𝓣 0 ps·2 r·2 (claims· .4) (claims· .5) "decide::refuse") (known3 : Plain.Known 𝓤 H A W 𝓣 7 ps·3 r·3 (claims· .6) (claims· .7) "nets::internal::propagate_plan") (known4 : Plain.Known 𝓤 H A W 𝓣 6 ps·4 r·4 (claims· .8) (claims· .9) "decide::verdicts::judge_all") (known5 : Plain.Known 𝓤 H A W 𝓣 1 ps·5 r·5 (claims· .10) (claims· .11) "tables::internal::fill") (known6 : Plain.Known 𝓤 H A W 𝓣 0 ps·6 r·6 (claims· .12) (claims· .13) "decide::answer_with") where
+        module _ {M : Type 1} (𝓤 : URA.URA M) (H : Wp.Heap 𝓤) (A : Atoms.Atoms 𝓤) (W : Kit.Given 𝓤 H A) (𝓣 : Wp.Tables 𝓤 H) (known0 : Plain.Known 𝓤 H A W 𝓣 3 ps·0 r·0 (claims· .0) (claims· .1) "tables::sound") (known1 : Plain.Known 𝓤 H A W 𝓣 0 ps·1 r·1 (claims· .2) (claims· .3) "decide::admit") (known2 : Plain.Known 𝓤 H A W 𝓣 0 ps·2 r·2 (claims· .4) (claims· .5) "decide::refuse") (known3 : Plain.Known 𝓤 H A W 𝓣 7 ps·3 r·3 (claims· .6) (claims· .7) "nets::propagations::propagate_plan") (known4 : Plain.Known 𝓤 H A W 𝓣 6 ps·4 r·4 (claims· .8) (claims· .9) "decide::verdicts::judge_all") (known5 : Plain.Known 𝓤 H A W 𝓣 1 ps·5 r·5 (claims· .10) (claims· .11) "tables::entries::fill") (known6 : Plain.Known 𝓤 H A W 𝓣 0 ps·6 r·6 (claims· .12) (claims· .13) "decide::answer_with") where
           pub spec : Statement.Triple 𝓤 (Wp.WpFn 𝓤 H (𝓣 .C) (𝓣 .Λ) (Function.fnOf 7 ps r xs m hs body)) (Function.plainOf 𝓤 H A 7 ps r Pre· Post·)
           spec = Plain.t-fn-plain 𝓤 H A W 𝓣 7 ps r xs m hs body (λ κs qs bs. Φ) (λ κs qs bs bd. typed κs qs 𝓤 H A W 𝓣 (known0, known1, known2, known3, known4, known5, known6) bs bd) Pre· Post· asked

@@ -16,12 +16,12 @@ use Rattle.decide.proofs.refuse.Symbol as Symbol''
 use Rattle.decide.proofs.verdicts.judge_all.Met as Met'3
 use Rattle.decide.proofs.Made.VerdictsJudgeAll.Reads as Reads'4
 use Rattle.decide.proofs.verdicts.judge_all.Symbol as Symbol'3
-use Rattle.nets.proofs.internal.propagate_plan.Met as Met'4
-use Rattle.nets.proofs.Made.InternalPropagatePlan.Reads as Reads'5
-use Rattle.nets.proofs.internal.propagate_plan.Symbol as Symbol'4
-use Rattle.tables.proofs.internal.fill.Met as Met'5
-use Rattle.tables.proofs.internal.fill.Reads as Reads'6
-use Rattle.tables.proofs.internal.fill.Symbol as Symbol'5
+use Rattle.nets.proofs.propagations.propagate_plan.Met as Met'4
+use Rattle.nets.proofs.Made.PropagationsPropagatePlan.Reads as Reads'5
+use Rattle.nets.proofs.propagations.propagate_plan.Symbol as Symbol'4
+use Rattle.tables.proofs.entries.fill.Met as Met'5
+use Rattle.tables.proofs.entries.fill.Reads as Reads'6
+use Rattle.tables.proofs.entries.fill.Symbol as Symbol'5
 use Rattle.tables.proofs.sound.Met as Met'6
 use Rattle.tables.proofs.Made.Sound.Reads as Reads'7
 use Rattle.tables.proofs.sound.Symbol as Symbol'6
@@ -203,4 +203,4 @@ module _ {M : Type 1} where
 
   pub close : Lts.Closed (Reads'7.Asked, Reads'7.Learnt, Reads.Asked, Reads.Learnt, Reads'3.Asked, Reads'3.Learnt, Reads'5.Asked, Reads'5.Learnt, Reads'4.Asked, Reads'4.Learnt, Reads'6.Asked, Reads'6.Learnt, Reads'.Asked, Reads'.Learnt) Reads''.Pre Reads''.Post M → Statement.statement M
   unfolding Code.routine Running.tablesOf
-  close = λ closed 𝓤 H 𝓜 𝓖 𝓡. Written.close 7 Reads''.ps Reads''.r Reads''.Ghost Reads''.requires Reads''.ensures Reads''.pre-read Reads''.Pinned Reads''.Owned Reads''.post-read record { M = M; 𝓤 = 𝓤; H = H; 𝓜 = 𝓜; 𝓖 = 𝓖; 𝓡 = 𝓡 } Code.env Key.name Code.function (Code.unfolded 𝓤 H 𝓜 𝓡) (λ κs a g. tt) (λ κs. Reads''.owns κs record { M = M; 𝓤 = 𝓤; H = H; 𝓜 = 𝓜; 𝓖 = 𝓖; 𝓡 = 𝓡 }) (Reads''.passes record { M = M; 𝓤 = 𝓤; H = H; 𝓜 = 𝓜; 𝓖 = 𝓖; 𝓡 = 𝓡 }) λ g. closed 𝓤 H (𝓖 .A) (Running.givenOf 𝓤 H 𝓜 𝓖) (Run.Over 𝓤 H 𝓜 𝓖 𝓡 Code.env) (Reads'7.known record { M = M; 𝓤 = 𝓤; H = H; 𝓜 = 𝓜; 𝓖 = 𝓖; 𝓡 = 𝓡 } Code.env Symbol'6.name Symbol'6.routine Code.calls-tables·sound (Met'6.met 𝓤 H 𝓜 𝓖 𝓡)) (Reads.known record { M = M; 𝓤 = 𝓤; H = H; 𝓜 = 𝓜; 𝓖 = 𝓖; 𝓡 = 𝓡 } Code.env Symbol.name Symbol.routine Code.calls-decide·admit (Met.met 𝓤 H 𝓜 𝓖 𝓡)) (Reads'3.known record { M = M; 𝓤 = 𝓤; H = H; 𝓜 = 𝓜; 𝓖 = 𝓖; 𝓡 = 𝓡 } Code.env Symbol''.name Symbol''.routine Code.calls-decide·refuse (Met''.met 𝓤 H 𝓜 𝓖 𝓡)) (Reads'5.known record { M = M; 𝓤 = 𝓤; H = H; 𝓜 = 𝓜; 𝓖 = 𝓖; 𝓡 = 𝓡 } Code.env Symbol'4.name Symbol'4.routine Code.calls-nets·internal·propagate-plan (Met'4.met 𝓤 H 𝓜 𝓖 𝓡)) (Reads'4.known record { M = M; 𝓤 = 𝓤; H = H; 𝓜 = 𝓜; 𝓖 = 𝓖; 𝓡 = 𝓡 } Code.env Symbol'3.name Symbol'3.routine Code.calls-decide·verdicts·judge-all (Met'3.met 𝓤 H 𝓜 𝓖 𝓡)) (Reads'6.known record { M = M; 𝓤 = 𝓤; H = H; 𝓜 = 𝓜; 𝓖 = 𝓖; 𝓡 = 𝓡 } Code.env Symbol'5.name Symbol'5.routine Code.calls-tables·internal·fill (Met'5.met 𝓤 H 𝓜 𝓖 𝓡)) (Reads'.known record { M = M; 𝓤 = 𝓤; H = H; 𝓜 = 𝓜; 𝓖 = 𝓖; 𝓡 = 𝓡 } Code.env Symbol'.name Symbol'.routine Code.calls-decide·answer-with (Met'.met 𝓤 H 𝓜 𝓖 𝓡))
+  close = λ closed 𝓤 H 𝓜 𝓖 𝓡. Written.close 7 Reads''.ps Reads''.r Reads''.Ghost Reads''.requires Reads''.ensures Reads''.pre-read Reads''.Pinned Reads''.Owned Reads''.post-read record { M = M; 𝓤 = 𝓤; H = H; 𝓜 = 𝓜; 𝓖 = 𝓖; 𝓡 = 𝓡 } Code.env Key.name Code.function (Code.unfolded 𝓤 H 𝓜 𝓡) (λ κs a g. tt) (λ κs. Reads''.owns κs record { M = M; 𝓤 = 𝓤; H = H; 𝓜 = 𝓜; 𝓖 = 𝓖; 𝓡 = 𝓡 }) (Reads''.passes record { M = M; 𝓤 = 𝓤; H = H; 𝓜 = 𝓜; 𝓖 = 𝓖; 𝓡 = 𝓡 }) λ g. closed 𝓤 H (𝓖 .A) (Running.givenOf 𝓤 H 𝓜 𝓖) (Run.Over 𝓤 H 𝓜 𝓖 𝓡 Code.env) (Reads'7.known record { M = M; 𝓤 = 𝓤; H = H; 𝓜 = 𝓜; 𝓖 = 𝓖; 𝓡 = 𝓡 } Code.env Symbol'6.name Symbol'6.routine Code.calls-tables·sound (Met'6.met 𝓤 H 𝓜 𝓖 𝓡)) (Reads.known record { M = M; 𝓤 = 𝓤; H = H; 𝓜 = 𝓜; 𝓖 = 𝓖; 𝓡 = 𝓡 } Code.env Symbol.name Symbol.routine Code.calls-decide·admit (Met.met 𝓤 H 𝓜 𝓖 𝓡)) (Reads'3.known record { M = M; 𝓤 = 𝓤; H = H; 𝓜 = 𝓜; 𝓖 = 𝓖; 𝓡 = 𝓡 } Code.env Symbol''.name Symbol''.routine Code.calls-decide·refuse (Met''.met 𝓤 H 𝓜 𝓖 𝓡)) (Reads'5.known record { M = M; 𝓤 = 𝓤; H = H; 𝓜 = 𝓜; 𝓖 = 𝓖; 𝓡 = 𝓡 } Code.env Symbol'4.name Symbol'4.routine Code.calls-nets·propagations·propagate-plan (Met'4.met 𝓤 H 𝓜 𝓖 𝓡)) (Reads'4.known record { M = M; 𝓤 = 𝓤; H = H; 𝓜 = 𝓜; 𝓖 = 𝓖; 𝓡 = 𝓡 } Code.env Symbol'3.name Symbol'3.routine Code.calls-decide·verdicts·judge-all (Met'3.met 𝓤 H 𝓜 𝓖 𝓡)) (Reads'6.known record { M = M; 𝓤 = 𝓤; H = H; 𝓜 = 𝓜; 𝓖 = 𝓖; 𝓡 = 𝓡 } Code.env Symbol'5.name Symbol'5.routine Code.calls-tables·entries·fill (Met'5.met 𝓤 H 𝓜 𝓖 𝓡)) (Reads'.known record { M = M; 𝓤 = 𝓤; H = H; 𝓜 = 𝓜; 𝓖 = 𝓖; 𝓡 = 𝓡 } Code.env Symbol'.name Symbol'.routine Code.calls-decide·answer-with (Met'.met 𝓤 H 𝓜 𝓖 𝓡))

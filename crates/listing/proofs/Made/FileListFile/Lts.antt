@@ -225,7 +225,7 @@ abbrev b13 : Syntax.Body
 b13 = Syntax.assign (Syntax.place 18 List.[]) (Syntax.aggregate (List._∷_ (Syntax.copy (Syntax.place 17 List.[])) (List._∷_ (Syntax.copy (Syntax.place 2 (List._∷_ (Syntax.field 1) List.[]))) List.[])))
 
 abbrev b14 : Syntax.Body
-b14 = Syntax.call "listing_text::internal::put_refusal" (List._∷_ (Syntax.copy (Syntax.place 18 List.[])) (List._∷_ (Syntax.int Syntax.w64 0) (List._∷_ (Syntax.copy (Syntax.place 7 List.[])) List.[]))) (Syntax.place 16 List.[])
+b14 = Syntax.call "listing_text::lines::put_refusal" (List._∷_ (Syntax.copy (Syntax.place 18 List.[])) (List._∷_ (Syntax.int Syntax.w64 0) (List._∷_ (Syntax.copy (Syntax.place 7 List.[])) List.[]))) (Syntax.place 16 List.[])
 
 abbrev b15 : Syntax.Body
 b15 = Syntax.seq b13 b14
@@ -912,7 +912,7 @@ module _ (claims· : Claims) where
   module _ (Pre· : (κs : Lifetimes.Lfts 2) → Kinds.Dens κs ps → Type 0) (Post· : (κs : Lifetimes.Lfts 2) → (a : Kinds.Dens κs ps) → Kinds.Plain 2 ps r κs) where
     module _ (M : Type 1) where
       abbrev pub Closed : Type 2
-      Closed = (𝓤 : URA.URA M) (H : Wp.Heap 𝓤) (A : Atoms.Atoms 𝓤) (W : Kit.Given 𝓤 H A) (𝓣 : Wp.Tables 𝓤 H) (known0 : Plain.Known 𝓤 H A W 𝓣 4 ps·0 r·0 (claims· .0) (claims· .1) "reading::read") (known1 : Plain.Known 𝓤 H A W 𝓣 1 ps·1 r·1 (claims· .2) (claims· .3) "listing_text::internal::put_refusal") (known2 : Plain.Known 𝓤 H A W 𝓣 4 ps·2 r·2 (claims· .4) (claims· .5) "listing::plan::list_plan") → Statement.Triple 𝓤 (Wp.WpFn 𝓤 H (𝓣 .C) (𝓣 .Λ) (Function.fnOf 2 ps r xs m hs body)) (Function.plainOf 𝓤 H A 2 ps r Pre· Post·)
+      Closed = (𝓤 : URA.URA M) (H : Wp.Heap 𝓤) (A : Atoms.Atoms 𝓤) (W : Kit.Given 𝓤 H A) (𝓣 : Wp.Tables 𝓤 H) (known0 : Plain.Known 𝓤 H A W 𝓣 4 ps·0 r·0 (claims· .0) (claims· .1) "reading::read") (known1 : Plain.Known 𝓤 H A W 𝓣 1 ps·1 r·1 (claims· .2) (claims· .3) "listing_text::lines::put_refusal") (known2 : Plain.Known 𝓤 H A W 𝓣 4 ps·2 r·2 (claims· .4) (claims· .5) "listing::plan::list_plan") → Statement.Triple 𝓤 (Wp.WpFn 𝓤 H (𝓣 .C) (𝓣 .Λ) (Function.fnOf 2 ps r xs m hs body)) (Function.plainOf 𝓤 H A 2 ps r Pre· Post·)
 
     module _ where
       abbrev at0 : (bs : List.List Nat.ℕ) → Typed.TF T42 O1
@@ -1109,7 +1109,7 @@ module _ (claims· : Claims) where
 
       module _ {M : Type 1} (𝓤 : URA.URA M) (H : Wp.Heap 𝓤) (A : Atoms.Atoms 𝓤) (W : Kit.Given 𝓤 H A) (𝓣 : Wp.Tables 𝓤 H) where
         abbrev Knowns : Type 1
-        Knowns = Plain.Known 𝓤 H A W 𝓣 4 ps·0 r·0 (claims· .0) (claims· .1) "reading::read" × Plain.Known 𝓤 H A W 𝓣 1 ps·1 r·1 (claims· .2) (claims· .3) "listing_text::internal::put_refusal" × Plain.Known 𝓤 H A W 𝓣 4 ps·2 r·2 (claims· .4) (claims· .5) "listing::plan::list_plan"
+        Knowns = Plain.Known 𝓤 H A W 𝓣 4 ps·0 r·0 (claims· .0) (claims· .1) "reading::read" × Plain.Known 𝓤 H A W 𝓣 1 ps·1 r·1 (claims· .2) (claims· .3) "listing_text::lines::put_refusal" × Plain.Known 𝓤 H A W 𝓣 4 ps·2 r·2 (claims· .4) (claims· .5) "listing::plan::list_plan"
 
       module _ (κs : Lifetimes.Lfts 2) (qs : Lifetimes.Shares 2) where
         abbrev g29 : List.List Row.Entry
@@ -1417,7 +1417,7 @@ module _ (claims· : Claims) where
           E = Frame.EnvOf 𝓤 H (List._∷_ (Kinds.tyR r) (Enter.tysP ps xs)) bs
 
           d0 : Typed.Typed 𝓤 H A 𝓣 E G42 b14 Δ1 (at0 bs)
-          d0 = Typed.s-typed 𝓤 H A W 𝓣 E G42 b14 Δ1 (λ Ψ. Typed.both (s40 bs) (Typed.pass T43 T44 (s41 bs) (Typed.both (s43 bs) (Typed.give (s44 bs) Ψ)))) tt (Typed.g-post 𝓤 H A W 𝓣 E G42 G47 G48 b14 (λ Ψ. Typed.both (s40 bs) (Typed.pass T43 T44 (s41 bs) (Typed.both (s43 bs) (Typed.give (s44 bs) Ψ)))) (λ Ψ. Ψ) (Typed.g-post 𝓤 H A W 𝓣 E G42 G46 G47 b14 (λ Ψ. Typed.both (s40 bs) (Typed.pass T43 T44 (s41 bs) (Typed.both (s43 bs) Ψ))) (Typed.give (s44 bs)) (Typed.g-post 𝓤 H A W 𝓣 E G42 G45 G46 b14 (λ Ψ. Typed.both (s40 bs) (Typed.pass T43 T44 (s41 bs) Ψ)) (Typed.both (s43 bs)) (Typed.g-post 𝓤 H A W 𝓣 E G42 G44 G45 b14 (λ Ψ. Typed.both (s40 bs) (Typed.pass T43 T44 (s41 bs) Ψ)) (λ Ψ. Ψ) (Typed.g-post 𝓤 H A W 𝓣 E G42 G43 G44 b14 (Typed.both (s40 bs)) (Typed.pass T43 T44 (s41 bs)) (Plain.t-call-plain 𝓤 H A W 𝓣 1 ps·1 r·1 (claims· .2) (claims· .3) "listing_text::internal::put_refusal" (known .1) E (λ pos β. β) G42 (record { pos = 18; ty = Syntax.tyRef Syntax.erased Syntax.mut (Syntax.tyInt Syntax.w8); ref = λ x. x }, (Num.vLit 0, (record { pos = 7; st = List.[]; d = 0; at = λ x. x }, tt))) 16 (List._∷_ 5 List.[]) (Call.sub-id 𝓤 H A W (G42 .slots)) (Reads.as-is 𝓤 H A (Mut.mslice (Referent.rtF (Referent.fInt Syntax.w8)) ty·4 5), Mut.reads-mslice 𝓤 H A W (Referent.rtF (Referent.fInt Syntax.w8)) ty·4 5, Path'.refl, (tt, ((Yields.yields-copy 𝓤 H A W (λ ρ. Unit) (Declared.row Refusal.the-type) Path'.refl (Copies.cEnum Refusal.the-type Laws'.the-laws Laws'.the-copy .copy 𝓤 H A W) (Rows'.whole (Declared.row Refusal.the-type)) (λ x. x) (λ x. x) (λ ρ told. Local.mem-whole 𝓤 H A W (Declared.row Refusal.the-type) ρ) λ ρ told. Local.whole-mem 𝓤 H A W (Declared.row Refusal.the-type) ρ, Path'.refl), tt))) (Reads.room-gone 𝓤 H A (Syntax.tyInt Syntax.w64)) (tt, tt) Path'.refl) (Scalar.g-room 𝓤 H A W E G43 7 ty·23 (Local.room-whole 𝓤 H A W (Declared.row Refusal.the-type) ty·23 Path'.refl))) (Lifetime.g-end 𝓤 H A W E G44 5 Path'.refl)) (Relend.g-back-sl 𝓤 H A W E (Referent.rtF (Referent.fInt Syntax.w8)) G45 18 2 1 5 ty·8 ty·4 (Row.lease (κs .1 .0) (qs .1 .0)) (λ x. x) (λ x. x) (Reads.as-is 𝓤 H A (Mut.msleft (Referent.rtF (Referent.fInt Syntax.w8)) ty·4)) (Reads.as-is 𝓤 H A (Relend.mslice-owed (Referent.rtF (Referent.fInt Syntax.w8)) ty·8 1 5 (Row.lease (κs .1 .0) (qs .1 .0)))) Path'.refl Path'.refl)) (Know.g-sl-known 𝓤 H A W (Referent.fInt Syntax.w8) E G46 2 1 ty·8 (Row.lease (κs .1 .0) (qs .1 .0)) 0 (λ x. x) record { fits = Dec'.lit< tt } (Reads.as-is 𝓤 H A (Mut.mslice (Referent.rtF (Referent.fInt Syntax.w8)) ty·8 1)) Path'.refl tt)) (Lifetime.g-forget 𝓤 H A W E G47 5 Row.dead Path'.refl))
+          d0 = Typed.s-typed 𝓤 H A W 𝓣 E G42 b14 Δ1 (λ Ψ. Typed.both (s40 bs) (Typed.pass T43 T44 (s41 bs) (Typed.both (s43 bs) (Typed.give (s44 bs) Ψ)))) tt (Typed.g-post 𝓤 H A W 𝓣 E G42 G47 G48 b14 (λ Ψ. Typed.both (s40 bs) (Typed.pass T43 T44 (s41 bs) (Typed.both (s43 bs) (Typed.give (s44 bs) Ψ)))) (λ Ψ. Ψ) (Typed.g-post 𝓤 H A W 𝓣 E G42 G46 G47 b14 (λ Ψ. Typed.both (s40 bs) (Typed.pass T43 T44 (s41 bs) (Typed.both (s43 bs) Ψ))) (Typed.give (s44 bs)) (Typed.g-post 𝓤 H A W 𝓣 E G42 G45 G46 b14 (λ Ψ. Typed.both (s40 bs) (Typed.pass T43 T44 (s41 bs) Ψ)) (Typed.both (s43 bs)) (Typed.g-post 𝓤 H A W 𝓣 E G42 G44 G45 b14 (λ Ψ. Typed.both (s40 bs) (Typed.pass T43 T44 (s41 bs) Ψ)) (λ Ψ. Ψ) (Typed.g-post 𝓤 H A W 𝓣 E G42 G43 G44 b14 (Typed.both (s40 bs)) (Typed.pass T43 T44 (s41 bs)) (Plain.t-call-plain 𝓤 H A W 𝓣 1 ps·1 r·1 (claims· .2) (claims· .3) "listing_text::lines::put_refusal" (known .1) E (λ pos β. β) G42 (record { pos = 18; ty = Syntax.tyRef Syntax.erased Syntax.mut (Syntax.tyInt Syntax.w8); ref = λ x. x }, (Num.vLit 0, (record { pos = 7; st = List.[]; d = 0; at = λ x. x }, tt))) 16 (List._∷_ 5 List.[]) (Call.sub-id 𝓤 H A W (G42 .slots)) (Reads.as-is 𝓤 H A (Mut.mslice (Referent.rtF (Referent.fInt Syntax.w8)) ty·4 5), Mut.reads-mslice 𝓤 H A W (Referent.rtF (Referent.fInt Syntax.w8)) ty·4 5, Path'.refl, (tt, ((Yields.yields-copy 𝓤 H A W (λ ρ. Unit) (Declared.row Refusal.the-type) Path'.refl (Copies.cEnum Refusal.the-type Laws'.the-laws Laws'.the-copy .copy 𝓤 H A W) (Rows'.whole (Declared.row Refusal.the-type)) (λ x. x) (λ x. x) (λ ρ told. Local.mem-whole 𝓤 H A W (Declared.row Refusal.the-type) ρ) λ ρ told. Local.whole-mem 𝓤 H A W (Declared.row Refusal.the-type) ρ, Path'.refl), tt))) (Reads.room-gone 𝓤 H A (Syntax.tyInt Syntax.w64)) (tt, tt) Path'.refl) (Scalar.g-room 𝓤 H A W E G43 7 ty·23 (Local.room-whole 𝓤 H A W (Declared.row Refusal.the-type) ty·23 Path'.refl))) (Lifetime.g-end 𝓤 H A W E G44 5 Path'.refl)) (Relend.g-back-sl 𝓤 H A W E (Referent.rtF (Referent.fInt Syntax.w8)) G45 18 2 1 5 ty·8 ty·4 (Row.lease (κs .1 .0) (qs .1 .0)) (λ x. x) (λ x. x) (Reads.as-is 𝓤 H A (Mut.msleft (Referent.rtF (Referent.fInt Syntax.w8)) ty·4)) (Reads.as-is 𝓤 H A (Relend.mslice-owed (Referent.rtF (Referent.fInt Syntax.w8)) ty·8 1 5 (Row.lease (κs .1 .0) (qs .1 .0)))) Path'.refl Path'.refl)) (Know.g-sl-known 𝓤 H A W (Referent.fInt Syntax.w8) E G46 2 1 ty·8 (Row.lease (κs .1 .0) (qs .1 .0)) 0 (λ x. x) record { fits = Dec'.lit< tt } (Reads.as-is 𝓤 H A (Mut.mslice (Referent.rtF (Referent.fInt Syntax.w8)) ty·8 1)) Path'.refl tt)) (Lifetime.g-forget 𝓤 H A W E G47 5 Row.dead Path'.refl))
 
           d1 : Typed.Typed 𝓤 H A 𝓣 E G41 b15 Δ1 (at1 bs)
           d1 = Typed.s-seq 𝓤 H A W 𝓣 E G41 G42 b13 b14 Δ1 (Typed.ask (s39 bs)) (at0 bs) (Relend.t-sl-aggregate 𝓤 H A W E (Referent.rtF (Referent.fInt Syntax.w8)) 𝓣 (Relend.asMut (Referent.rtF (Referent.fInt Syntax.w8))) G41 17 18 5 ty·4 ty·4 (λ x. x) (Scalar.oFld 2 (List._∷_ (Syntax.field 1) List.[]) (Syntax.tyInt Syntax.w64) 8 λ v. Shared.lenV (v .0)) (Reads.as-is 𝓤 H A (Relend.msptr (Referent.rtF (Referent.fInt Syntax.w8)) ty·4 5)) (Reads.room-gone 𝓤 H A ty·17) (Relend.reads-owed-len 𝓤 H A W (Referent.rtF (Referent.fInt Syntax.w8)) ty·8 1 5 (Row.lease (κs .1 .0) (qs .1 .0)) 8 Path'.refl, Path'.refl) Path'.refl Path'.refl λ b o k. tt) d0
@@ -2100,6 +2100,6 @@ module _ (claims· : Claims) where
           pub asked : (a : Kinds.Dens κs ps) → (good : Kinds.GoodsP κs ps a) → (pre : Pre· κs a) → (bs : List.List Nat.ℕ) → Φ bs (Any.wantQ 2 ps r xs m κs qs a (Post· κs a)) (Function.init 2 ps r xs m κs qs a)
           asked = λ a good pre bs. laid record { κs = κs; args = record { file = a .0; out = a .1 .0 }; blocks = bs; good = good; pre = pre }
 
-        module _ {M : Type 1} (𝓤 : URA.URA M) (H : Wp.Heap 𝓤) (A : Atoms.Atoms 𝓤) (W : Kit.Given 𝓤 H A) (𝓣 : Wp.Tables 𝓤 H) (known0 : Plain.Known 𝓤 H A W 𝓣 4 ps·0 r·0 (claims· .0) (claims· .1) "reading::read") (known1 : Plain.Known 𝓤 H A W 𝓣 1 ps·1 r·1 (claims· .2) (claims· .3) "listing_text::internal::put_refusal") (known2 : Plain.Known 𝓤 H A W 𝓣 4 ps·2 r·2 (claims· .4) (claims· .5) "listing::plan::list_plan") where
+        module _ {M : Type 1} (𝓤 : URA.URA M) (H : Wp.Heap 𝓤) (A : Atoms.Atoms 𝓤) (W : Kit.Given 𝓤 H A) (𝓣 : Wp.Tables 𝓤 H) (known0 : Plain.Known 𝓤 H A W 𝓣 4 ps·0 r·0 (claims· .0) (claims· .1) "reading::read") (known1 : Plain.Known 𝓤 H A W 𝓣 1 ps·1 r·1 (claims· .2) (claims· .3) "listing_text::lines::put_refusal") (known2 : Plain.Known 𝓤 H A W 𝓣 4 ps·2 r·2 (claims· .4) (claims· .5) "listing::plan::list_plan") where
           pub spec : Statement.Triple 𝓤 (Wp.WpFn 𝓤 H (𝓣 .C) (𝓣 .Λ) (Function.fnOf 2 ps r xs m hs body)) (Function.plainOf 𝓤 H A 2 ps r Pre· Post·)
           spec = Plain.t-fn-plain 𝓤 H A W 𝓣 2 ps r xs m hs body (λ κs qs bs. Φ bs) (λ κs qs bs bd. typed κs qs 𝓤 H A W 𝓣 (known0, known1, known2) bs bd) Pre· Post· asked

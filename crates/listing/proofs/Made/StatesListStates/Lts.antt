@@ -117,7 +117,7 @@ abbrev b5 : Syntax.Body
 b5 = Syntax.cond (Syntax.copy (Syntax.place 11 List.[])) b3 b4
 
 abbrev b6 : Syntax.Body
-b6 = Syntax.call "tables::internal::row_at" (List._∷_ (Syntax.copy (Syntax.place 2 List.[])) (List._∷_ (Syntax.copy (Syntax.place 9 List.[])) List.[])) (Syntax.place 10 List.[])
+b6 = Syntax.call "tables::rows::row_at" (List._∷_ (Syntax.copy (Syntax.place 2 List.[])) (List._∷_ (Syntax.copy (Syntax.place 9 List.[])) List.[])) (Syntax.place 10 List.[])
 
 abbrev b7 : Syntax.Body
 b7 = Syntax.assign (Syntax.place 12 List.[]) (Syntax.addrOf (Syntax.place 6 (List._∷_ (Syntax.field 0) (List._∷_ (Syntax.deref (Syntax.tyInt Syntax.w8)) List.[]))))
@@ -393,7 +393,7 @@ module _ (claims· : Claims) where
   module _ (Pre· : (κs : Lifetimes.Lfts 5) → Kinds.Dens κs ps → Type 0) (Post· : (κs : Lifetimes.Lfts 5) → (a : Kinds.Dens κs ps) → Kinds.Plain 5 ps r κs) where
     module _ (M : Type 1) where
       abbrev pub Closed : Type 2
-      Closed = (𝓤 : URA.URA M) (H : Wp.Heap 𝓤) (A : Atoms.Atoms 𝓤) (W : Kit.Given 𝓤 H A) (𝓣 : Wp.Tables 𝓤 H) (known0 : Plain.Known 𝓤 H A W 𝓣 1 ps·0 r·0 (claims· .0) (claims· .1) "tables::internal::row_at") (known1 : Plain.Known 𝓤 H A W 𝓣 4 ps·1 r·1 (claims· .2) (claims· .3) "listing::states::put_state") → Statement.Triple 𝓤 (Wp.WpFn 𝓤 H (𝓣 .C) (𝓣 .Λ) (Function.fnOf 5 ps r xs m hs body)) (Function.plainOf 𝓤 H A 5 ps r Pre· Post·)
+      Closed = (𝓤 : URA.URA M) (H : Wp.Heap 𝓤) (A : Atoms.Atoms 𝓤) (W : Kit.Given 𝓤 H A) (𝓣 : Wp.Tables 𝓤 H) (known0 : Plain.Known 𝓤 H A W 𝓣 1 ps·0 r·0 (claims· .0) (claims· .1) "tables::rows::row_at") (known1 : Plain.Known 𝓤 H A W 𝓣 4 ps·1 r·1 (claims· .2) (claims· .3) "listing::states::put_state") → Statement.Triple 𝓤 (Wp.WpFn 𝓤 H (𝓣 .C) (𝓣 .Λ) (Function.fnOf 5 ps r xs m hs body)) (Function.plainOf 𝓤 H A 5 ps r Pre· Post·)
 
     module _ (Inv·0 : InvT-loop) (μ·0 : MeasureT-loop) where
       abbrev at0 : Typed.TF T11 O4
@@ -500,7 +500,7 @@ module _ (claims· : Claims) where
 
       module _ {M : Type 1} (𝓤 : URA.URA M) (H : Wp.Heap 𝓤) (A : Atoms.Atoms 𝓤) (W : Kit.Given 𝓤 H A) (𝓣 : Wp.Tables 𝓤 H) where
         abbrev Knowns : Type 1
-        Knowns = Plain.Known 𝓤 H A W 𝓣 1 ps·0 r·0 (claims· .0) (claims· .1) "tables::internal::row_at" × Plain.Known 𝓤 H A W 𝓣 4 ps·1 r·1 (claims· .2) (claims· .3) "listing::states::put_state"
+        Knowns = Plain.Known 𝓤 H A W 𝓣 1 ps·0 r·0 (claims· .0) (claims· .1) "tables::rows::row_at" × Plain.Known 𝓤 H A W 𝓣 4 ps·1 r·1 (claims· .2) (claims· .3) "listing::states::put_state"
 
       module _ (κs : Lifetimes.Lfts 5) (qs : Lifetimes.Shares 5) where
         abbrev g6 : List.List Row'.Entry
@@ -667,7 +667,7 @@ module _ (claims· : Claims) where
           d14 = Typed.g-pre 𝓤 H A W 𝓣 E G13 G14 b13 Δ3 (λ Ψ. Ψ) at13 (Lifetime.g-begin 𝓤 H A W E G13 5 (tt, (tt, (tt, (tt, (tt, (tt, (tt, (tt, (tt, (tt, (tt, (tt, (tt, (tt, tt))))))))))))))) d13
 
           d15 : Typed.Typed 𝓤 H A 𝓣 E G10 b14 Δ3 at15
-          d15 = Typed.s-seq 𝓤 H A W 𝓣 E G10 G13 b6 b13 Δ3 (Typed.both s9) at14 (Plain.t-call-plain 𝓤 H A W 𝓣 1 ps·0 r·0 (claims· .0) (claims· .1) "tables::internal::row_at" (known .0) E (λ pos β. β) G10 (record { pos = 2; ty = Syntax.tyRef (Syntax.named 0) Syntax.imm (Memory.pointee (Row.the-row .written)); ref = λ x. x }, (Num.vAt 9 λ x. x, tt)) 10 (List._∷_ 0 List.[]) (Call.sub-id 𝓤 H A W (G10 .slots)) (ShrSlice.spares-sslice 𝓤 H A W Row.the-row ty·5 0, Shared.reads-sslice 𝓤 H A W Row.the-row ty·5 0, Path'.refl, ((Scalar.reads-sc 𝓤 H A W (Row'.sInt Syntax.w64), Path'.refl), tt)) (Reads.room-gone 𝓤 H A ty·7) (tt, tt) Path'.refl) d14
+          d15 = Typed.s-seq 𝓤 H A W 𝓣 E G10 G13 b6 b13 Δ3 (Typed.both s9) at14 (Plain.t-call-plain 𝓤 H A W 𝓣 1 ps·0 r·0 (claims· .0) (claims· .1) "tables::rows::row_at" (known .0) E (λ pos β. β) G10 (record { pos = 2; ty = Syntax.tyRef (Syntax.named 0) Syntax.imm (Memory.pointee (Row.the-row .written)); ref = λ x. x }, (Num.vAt 9 λ x. x, tt)) 10 (List._∷_ 0 List.[]) (Call.sub-id 𝓤 H A W (G10 .slots)) (ShrSlice.spares-sslice 𝓤 H A W Row.the-row ty·5 0, Shared.reads-sslice 𝓤 H A W Row.the-row ty·5 0, Path'.refl, ((Scalar.reads-sc 𝓤 H A W (Row'.sInt Syntax.w64), Path'.refl), tt)) (Reads.room-gone 𝓤 H A ty·7) (tt, tt) Path'.refl) d14
 
           d16 : Typed.Typed 𝓤 H A 𝓣 E G9 b15 Δ3 at16
           d16 = Typed.t-seq 𝓤 H A W 𝓣 E G9 G10 b5 b14 Δ3 at4 at15 d4 d15
@@ -990,6 +990,6 @@ module _ (claims· : Claims) where
           pub asked : (a : Kinds.Dens κs ps) → (good : Kinds.GoodsP κs ps a) → (pre : Pre· κs a) → (bs : List.List Nat.ℕ) → Φ (Any.wantQ 5 ps r xs m κs qs a (Post· κs a)) (Function.init 5 ps r xs m κs qs a)
           asked = λ a good pre bs. laid record { κs = κs; args = record { n = a .0; rows = a .1 .0; ranks = a .1 .1 .0; commands = a .1 .1 .1 .0; marks = a .1 .1 .1 .1 .0; out = a .1 .1 .1 .1 .1 .0; place = a .1 .1 .1 .1 .1 .1 .0 }; good = good; fits = record { n = record { fits = good .0 .1 }; place = record { fits = good .1 .1 .1 .1 .1 .1 .0 .1 } }; pre = pre }
 
-        module _ {M : Type 1} (𝓤 : URA.URA M) (H : Wp.Heap 𝓤) (A : Atoms.Atoms 𝓤) (W : Kit.Given 𝓤 H A) (𝓣 : Wp.Tables 𝓤 H) (known0 : Plain.Known 𝓤 H A W 𝓣 1 ps·0 r·0 (claims· .0) (claims· .1) "tables::internal::row_at") (known1 : Plain.Known 𝓤 H A W 𝓣 4 ps·1 r·1 (claims· .2) (claims· .3) "listing::states::put_state") where
+        module _ {M : Type 1} (𝓤 : URA.URA M) (H : Wp.Heap 𝓤) (A : Atoms.Atoms 𝓤) (W : Kit.Given 𝓤 H A) (𝓣 : Wp.Tables 𝓤 H) (known0 : Plain.Known 𝓤 H A W 𝓣 1 ps·0 r·0 (claims· .0) (claims· .1) "tables::rows::row_at") (known1 : Plain.Known 𝓤 H A W 𝓣 4 ps·1 r·1 (claims· .2) (claims· .3) "listing::states::put_state") where
           pub spec : Statement.Triple 𝓤 (Wp.WpFn 𝓤 H (𝓣 .C) (𝓣 .Λ) (Function.fnOf 5 ps r xs m hs body)) (Function.plainOf 𝓤 H A 5 ps r Pre· Post·)
           spec = Plain.t-fn-plain 𝓤 H A W 𝓣 5 ps r xs m hs body (λ κs qs bs. Φ) (λ κs qs bs bd. typed κs qs 𝓤 H A W 𝓣 (known0, known1) bs bd) Pre· Post· asked

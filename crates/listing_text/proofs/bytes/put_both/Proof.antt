@@ -1,3 +1,4 @@
+-- The second byte is stored where the first one ends.
 use borrow.Author.Needs.{needs}
 use Rattle.laws.proofs.Wrote.{wrote-then}
 use Rattle.listing_text.proofs.bytes.put_both.Statement.{statement}

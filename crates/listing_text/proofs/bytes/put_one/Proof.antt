@@ -1,3 +1,4 @@
+-- One byte stored at its place, and the place behind it answered.
 use borrow.Author.Needs.{needs}
 use Rattle.laws.proofs.Wrote.{wrote-one}
 use Rattle.listing_text.proofs.bytes.put_one.Statement.{statement}

@@ -1,3 +1,4 @@
+-- A loop: after i turns the first i bytes of the word are stored, and the rest is left to store.
 use mathlib.Core.List.{List, _++_}
 use Prim.Native.Nat.{ℕ, _-_}
 use native.Mathlib.Omega.{arith}

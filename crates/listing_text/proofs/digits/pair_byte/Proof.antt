@@ -1,3 +1,4 @@
+-- The table is the definition's, byte by byte, so its entry at a place is the definition's at that place.
 use borrow.Author.Needs.{needs}
 use Rattle.laws.specs.Lists.{tabulate}
 use Rattle.laws.proofs.Lists.{tabulate-at}

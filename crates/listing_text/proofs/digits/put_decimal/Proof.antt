@@ -1,3 +1,5 @@
+-- One, two or three pairs, by how large the number is: each branch stores the pairs that the decimal of such a number has, one after
+-- another.
 use native.Mathlib.Omega.{arith}
 use borrow.Author.Needs.{needs}
 use Rattle.laws.proofs.Wrote.{wrote-then}

@@ -1,3 +1,4 @@
+-- The second digit of the pair of a number below ten is its digit.
 use borrow.Author.Needs.{needs}
 use Rattle.listing_text.proofs.Pairs.{second-digit}
 use Rattle.listing_text.proofs.digits.put_digit.Statement.{statement}

@@ -1,3 +1,4 @@
+-- The two bytes read from the table are the two digits of the number.
 use native.Mathlib.Omega.{arith}
 use borrow.Author.Needs.{needs}
 use Rattle.listing_text.proofs.Pairs.{both-digits}

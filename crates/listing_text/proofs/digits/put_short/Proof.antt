@@ -1,3 +1,4 @@
+-- A number below a hundred without a leading zero: one digit if it is below ten, else its pair.
 use native.Mathlib.Omega.{arith}
 use borrow.Author.Needs.{needs}
 use Rattle.model.proofs.Decimals.{digits-one, digits-two}

@@ -1,3 +1,4 @@
+-- Each branch of the code is the definition's case: a mark of at least 2 has the fault in it.
 use borrow.Author.Tests.{le-leb, lt-leb}
 use Rattle.model.specs.Listing.{faultSign}
 use Rattle.listing_text.proofs.letters.fault_sign.Statement.{statement}

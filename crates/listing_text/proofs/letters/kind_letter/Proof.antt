@@ -1,3 +1,4 @@
+-- Three branches, three cases of the definition: the tests before a branch rule out the others.
 use borrow.Author.Tests.{eq-eqb, ne-eqb}
 use Rattle.model.specs.Listing.{kindLetter}
 use Rattle.listing_text.proofs.letters.kind_letter.Statement.{statement}

@@ -1,3 +1,4 @@
+-- Each branch of the code is the definition's case: the test on the mark decides both.
 use borrow.Author.Tests.{eq-eqb, ne-eqb}
 use Rattle.model.specs.Listing.{practiceLetter}
 use Rattle.listing_text.proofs.letters.practice_letter.Statement.{statement}

@@ -1,3 +1,4 @@
+-- Each branch of the code is the definition's case: the test decides both.
 use Rattle.model.specs.Listing.{verdictLetter}
 use Rattle.listing_text.proofs.letters.verdict_letter.Statement.{statement}
 use Rattle.listing_text.proofs.letters.verdict_letter.Tie as tie

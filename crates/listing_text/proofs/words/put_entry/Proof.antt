@@ -1,3 +1,4 @@
+-- A dash where the entry is none, else a number: the test on the entry decides the word.
 use native.Mathlib.Omega.{arith}
 use borrow.Author.Needs.{needs}
 use Rattle.listing_text.proofs.Entries.{dash-word, number-word}

@@ -1,3 +1,4 @@
+-- A space and a letter, stored as two bytes, are a word.
 use native.Mathlib.Omega.{arith}
 use borrow.Author.Needs.{needs}
 use Rattle.listing_text.specs.Words.{spaced}

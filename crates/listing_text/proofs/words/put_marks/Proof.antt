@@ -1,7 +1,8 @@
+-- The practice's letter, then the fault's sign, each by what its function answers.
 use mathlib.Core.List.{[], _∷_}
 use native.Mathlib.Omega.{arith}
 use borrow.Author.Needs.{needs}
-use Rattle.listing_text.proofs.Lines.{words-wrote}
+use Rattle.listing_text.proofs.LineBytes.{words-wrote}
 use Rattle.listing_text.proofs.words.put_marks.Statement.{statement}
 use Rattle.listing_text.proofs.words.put_marks.Tie as tie
 

@@ -1,7 +1,8 @@
+-- A space, and behind it the decimal: together the word of the number.
 use native.Mathlib.Omega.{arith}
 use borrow.Author.Needs.{needs}
 use Rattle.laws.proofs.Wrote.{wrote-then}
-use Rattle.listing_text.proofs.Lines.{word-wrote}
+use Rattle.listing_text.proofs.LineBytes.{word-wrote}
 use Rattle.listing_text.proofs.words.put_number.Statement.{statement}
 use Rattle.listing_text.proofs.words.put_number.Tie as tie
 

@@ -1,3 +1,4 @@
+-- The three counts of a row of the tally are the three numbers, made wide.
 use borrow.Author.Needs.{needs}
 use Rattle.listing_text.proofs.words.put_row.Statement.{statement}
 use Rattle.listing_text.proofs.words.put_row.Tie as tie

@@ -1,7 +1,8 @@
+-- Three words one behind another: each is stored where the one before ends.
 use mathlib.Core.List.{[], _∷_}
 use native.Mathlib.Omega.{arith}
 use borrow.Author.Needs.{needs}
-use Rattle.listing_text.proofs.Lines.{words-wrote}
+use Rattle.listing_text.proofs.LineBytes.{words-wrote}
 use Rattle.listing_text.proofs.words.put_three.Statement.{statement}
 use Rattle.listing_text.proofs.words.put_three.Tie as tie
 

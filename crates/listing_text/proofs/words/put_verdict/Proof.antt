@@ -1,8 +1,9 @@
+-- The letter of the verdict, then the rank's word: a rank is there exactly if the state is lost.
 use mathlib.Core.List.{[], _∷_}
 use native.Mathlib.Omega.{arith}
 use borrow.Author.Needs.{needs}
 use Rattle.listing_text.proofs.Entries.{found-entry}
-use Rattle.listing_text.proofs.Lines.{words-wrote}
+use Rattle.listing_text.proofs.LineBytes.{words-wrote}
 use Rattle.listing_text.proofs.words.put_verdict.Statement.{statement}
 use Rattle.listing_text.proofs.words.put_verdict.Tie as tie
 

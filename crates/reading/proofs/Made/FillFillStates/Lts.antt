@@ -145,7 +145,7 @@ abbrev b8 : Syntax.Body
 b8 = Syntax.assign (Syntax.place 12 List.[]) (Syntax.aggregate (List._∷_ (Syntax.copy (Syntax.place 11 List.[])) (List._∷_ (Syntax.copy (Syntax.place 3 (List._∷_ (Syntax.field 1) List.[]))) List.[])))
 
 abbrev b9 : Syntax.Body
-b9 = Syntax.call "tables::internal::put_row" (List._∷_ (Syntax.copy (Syntax.place 12 List.[])) (List._∷_ (Syntax.copy (Syntax.place 7 List.[])) (List._∷_ (Syntax.copy (Syntax.place 8 List.[])) List.[]))) (Syntax.place 10 List.[])
+b9 = Syntax.call "tables::rows::put_row" (List._∷_ (Syntax.copy (Syntax.place 12 List.[])) (List._∷_ (Syntax.copy (Syntax.place 7 List.[])) (List._∷_ (Syntax.copy (Syntax.place 8 List.[])) List.[]))) (Syntax.place 10 List.[])
 
 abbrev b10 : Syntax.Body
 b10 = Syntax.assign (Syntax.place 13 List.[]) (Syntax.addrOf (Syntax.place 4 (List._∷_ (Syntax.field 0) (List._∷_ (Syntax.deref (Syntax.tyInt Syntax.w16)) List.[]))))
@@ -523,7 +523,7 @@ module _ (claims· : Claims) where
   module _ (Pre· : (κs : Lifetimes.Lfts 4) → Kinds.Dens κs ps → Type 0) (Post· : (κs : Lifetimes.Lfts 4) → (a : Kinds.Dens κs ps) → Kinds.Plain 4 ps r κs) where
     module _ (M : Type 1) where
       abbrev pub Closed : Type 2
-      Closed = (𝓤 : URA.URA M) (H : Wp.Heap 𝓤) (A : Atoms.Atoms 𝓤) (W : Kit.Given 𝓤 H A) (𝓣 : Wp.Tables 𝓤 H) (known0 : Plain.Known 𝓤 H A W 𝓣 1 ps·0 r·0 (claims· .0) (claims· .1) "reading::fill::row_in") (known1 : Plain.Known 𝓤 H A W 𝓣 1 ps·1 r·1 (claims· .2) (claims· .3) "tables::internal::put_row") (known2 : Plain.Known 𝓤 H A W 𝓣 3 ps·2 r·2 (claims· .4) (claims· .5) "reading::fill::fill_state") → Statement.Triple 𝓤 (Wp.WpFn 𝓤 H (𝓣 .C) (𝓣 .Λ) (Function.fnOf 4 ps r xs m hs body)) (Function.plainOf 𝓤 H A 4 ps r Pre· Post·)
+      Closed = (𝓤 : URA.URA M) (H : Wp.Heap 𝓤) (A : Atoms.Atoms 𝓤) (W : Kit.Given 𝓤 H A) (𝓣 : Wp.Tables 𝓤 H) (known0 : Plain.Known 𝓤 H A W 𝓣 1 ps·0 r·0 (claims· .0) (claims· .1) "reading::fill::row_in") (known1 : Plain.Known 𝓤 H A W 𝓣 1 ps·1 r·1 (claims· .2) (claims· .3) "tables::rows::put_row") (known2 : Plain.Known 𝓤 H A W 𝓣 3 ps·2 r·2 (claims· .4) (claims· .5) "reading::fill::fill_state") → Statement.Triple 𝓤 (Wp.WpFn 𝓤 H (𝓣 .C) (𝓣 .Λ) (Function.fnOf 4 ps r xs m hs body)) (Function.plainOf 𝓤 H A 4 ps r Pre· Post·)
 
     module _ (Inv·0 : InvT-loop) (μ·0 : MeasureT-loop) where
       abbrev at0 : Typed.TF T11 O4
@@ -672,7 +672,7 @@ module _ (claims· : Claims) where
 
       module _ {M : Type 1} (𝓤 : URA.URA M) (H : Wp.Heap 𝓤) (A : Atoms.Atoms 𝓤) (W : Kit.Given 𝓤 H A) (𝓣 : Wp.Tables 𝓤 H) where
         abbrev Knowns : Type 1
-        Knowns = Plain.Known 𝓤 H A W 𝓣 1 ps·0 r·0 (claims· .0) (claims· .1) "reading::fill::row_in" × Plain.Known 𝓤 H A W 𝓣 1 ps·1 r·1 (claims· .2) (claims· .3) "tables::internal::put_row" × Plain.Known 𝓤 H A W 𝓣 3 ps·2 r·2 (claims· .4) (claims· .5) "reading::fill::fill_state"
+        Knowns = Plain.Known 𝓤 H A W 𝓣 1 ps·0 r·0 (claims· .0) (claims· .1) "reading::fill::row_in" × Plain.Known 𝓤 H A W 𝓣 1 ps·1 r·1 (claims· .2) (claims· .3) "tables::rows::put_row" × Plain.Known 𝓤 H A W 𝓣 3 ps·2 r·2 (claims· .4) (claims· .5) "reading::fill::fill_state"
 
       module _ (κs : Lifetimes.Lfts 4) (qs : Lifetimes.Shares 4) where
         abbrev g10 : List.List Row'.Entry
@@ -938,7 +938,7 @@ module _ (claims· : Claims) where
           d26 = Typed.g-pre 𝓤 H A W 𝓣 E G18 G19 b20 Δ3 (Typed.pass T18 T19 s15) at25 (Scalar.g-room 𝓤 H A W E G18 8 ty·8 (Local.room-whole 𝓤 H A W (Declared.row Row.the-type) ty·8 Path'.refl)) d25
 
           d27 : Typed.Typed 𝓤 H A 𝓣 E G17 b21 Δ3 at27
-          d27 = Typed.s-seq 𝓤 H A W 𝓣 E G17 G18 b9 b20 Δ3 (Typed.both s14) at26 (Plain.t-call-plain 𝓤 H A W 𝓣 1 ps·1 r·1 (claims· .2) (claims· .3) "tables::internal::put_row" (known .1) E (λ pos β. β) G17 (record { pos = 12; ty = Syntax.tyRef Syntax.erased Syntax.mut (Memory.pointee (Row.the-row .written)); ref = λ x. x }, (Num.vAt 7 λ x. x, (record { pos = 8; st = List.[]; d = 0; at = λ x. x }, tt))) 10 (List._∷_ 4 List.[]) (Call.sub-id 𝓤 H A W (G17 .slots)) (Reads.as-is 𝓤 H A (Mut.mslice Row.the-row ty·4 4), Mut.reads-mslice 𝓤 H A W Row.the-row ty·4 4, Path'.refl, ((Scalar.reads-sc 𝓤 H A W (Row'.sInt Syntax.w64), Path'.refl), ((Yields.yields-copy 𝓤 H A W (λ ρ. Unit) (Declared.row Row.the-type) Path'.refl (Copies.cStruct Row.the-type Laws'.the-laws Laws'.the-copy .copy 𝓤 H A W) (Rows.whole (Declared.row Row.the-type)) (λ x. x) (λ x. x) (λ ρ told. Local.mem-whole 𝓤 H A W (Declared.row Row.the-type) ρ) λ ρ told. Local.whole-mem 𝓤 H A W (Declared.row Row.the-type) ρ, Path'.refl), tt))) (Reads.room-gone 𝓤 H A Syntax.tyUnit) (tt, tt) Path'.refl) d26
+          d27 = Typed.s-seq 𝓤 H A W 𝓣 E G17 G18 b9 b20 Δ3 (Typed.both s14) at26 (Plain.t-call-plain 𝓤 H A W 𝓣 1 ps·1 r·1 (claims· .2) (claims· .3) "tables::rows::put_row" (known .1) E (λ pos β. β) G17 (record { pos = 12; ty = Syntax.tyRef Syntax.erased Syntax.mut (Memory.pointee (Row.the-row .written)); ref = λ x. x }, (Num.vAt 7 λ x. x, (record { pos = 8; st = List.[]; d = 0; at = λ x. x }, tt))) 10 (List._∷_ 4 List.[]) (Call.sub-id 𝓤 H A W (G17 .slots)) (Reads.as-is 𝓤 H A (Mut.mslice Row.the-row ty·4 4), Mut.reads-mslice 𝓤 H A W Row.the-row ty·4 4, Path'.refl, ((Scalar.reads-sc 𝓤 H A W (Row'.sInt Syntax.w64), Path'.refl), ((Yields.yields-copy 𝓤 H A W (λ ρ. Unit) (Declared.row Row.the-type) Path'.refl (Copies.cStruct Row.the-type Laws'.the-laws Laws'.the-copy .copy 𝓤 H A W) (Rows.whole (Declared.row Row.the-type)) (λ x. x) (λ x. x) (λ ρ told. Local.mem-whole 𝓤 H A W (Declared.row Row.the-type) ρ) λ ρ told. Local.whole-mem 𝓤 H A W (Declared.row Row.the-type) ρ, Path'.refl), tt))) (Reads.room-gone 𝓤 H A Syntax.tyUnit) (tt, tt) Path'.refl) d26
 
           d28 : Typed.Typed 𝓤 H A 𝓣 E G16 b22 Δ3 at28
           d28 = Typed.s-seq 𝓤 H A W 𝓣 E G16 G17 b8 b21 Δ3 (Typed.ask s13) at27 (Relend.t-sl-aggregate 𝓤 H A W E Row.the-row 𝓣 (Relend.asMut Row.the-row) G16 11 12 4 ty·4 ty·4 (λ x. x) (Scalar.oFld 3 (List._∷_ (Syntax.field 1) List.[]) (Syntax.tyInt Syntax.w64) 8 λ v. Shared.lenV (v .0)) (Reads.as-is 𝓤 H A (Relend.msptr Row.the-row ty·4 4)) (Reads.room-gone 𝓤 H A ty·7) (Relend.reads-owed-len 𝓤 H A W Row.the-row ty·5 1 4 (Row'.lease (κs .1 .0) (qs .1 .0)) 8 Path'.refl, Path'.refl) Path'.refl Path'.refl λ b o k. tt) d27
@@ -1345,6 +1345,6 @@ module _ (claims· : Claims) where
           pub asked : (a : Kinds.Dens κs ps) → (good : Kinds.GoodsP κs ps a) → (pre : Pre· κs a) → (bs : List.List Nat.ℕ) → Φ (Any.wantQ 4 ps r xs m κs qs a (Post· κs a)) (Function.init 4 ps r xs m κs qs a)
           asked = λ a good pre bs. laid record { κs = κs; args = record { file = a .0; n = a .1 .0; rows = a .1 .1 .0; firsts = a .1 .1 .1 .0; outcomes = a .1 .1 .1 .1 .0 }; good = good; fits = record { n = record { fits = good .1 .0 .1 } }; pre = pre }
 
-        module _ {M : Type 1} (𝓤 : URA.URA M) (H : Wp.Heap 𝓤) (A : Atoms.Atoms 𝓤) (W : Kit.Given 𝓤 H A) (𝓣 : Wp.Tables 𝓤 H) (known0 : Plain.Known 𝓤 H A W 𝓣 1 ps·0 r·0 (claims· .0) (claims· .1) "reading::fill::row_in") (known1 : Plain.Known 𝓤 H A W 𝓣 1 ps·1 r·1 (claims· .2) (claims· .3) "tables::internal::put_row") (known2 : Plain.Known 𝓤 H A W 𝓣 3 ps·2 r·2 (claims· .4) (claims· .5) "reading::fill::fill_state") where
+        module _ {M : Type 1} (𝓤 : URA.URA M) (H : Wp.Heap 𝓤) (A : Atoms.Atoms 𝓤) (W : Kit.Given 𝓤 H A) (𝓣 : Wp.Tables 𝓤 H) (known0 : Plain.Known 𝓤 H A W 𝓣 1 ps·0 r·0 (claims· .0) (claims· .1) "reading::fill::row_in") (known1 : Plain.Known 𝓤 H A W 𝓣 1 ps·1 r·1 (claims· .2) (claims· .3) "tables::rows::put_row") (known2 : Plain.Known 𝓤 H A W 𝓣 3 ps·2 r·2 (claims· .4) (claims· .5) "reading::fill::fill_state") where
           pub spec : Statement.Triple 𝓤 (Wp.WpFn 𝓤 H (𝓣 .C) (𝓣 .Λ) (Function.fnOf 4 ps r xs m hs body)) (Function.plainOf 𝓤 H A 4 ps r Pre· Post·)
           spec = Plain.t-fn-plain 𝓤 H A W 𝓣 4 ps r xs m hs body (λ κs qs bs. Φ) (λ κs qs bs bd. typed κs qs 𝓤 H A W 𝓣 (known0, known1, known2) bs bd) Pre· Post· asked

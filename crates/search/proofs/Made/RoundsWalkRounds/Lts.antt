@@ -7,8 +7,8 @@ use Rattle.search.proofs.walk.Progress.Laws as Laws'
 use Rattle.tables.proofs.Row as T
 use Rattle.tables.proofs.Size
 use Rattle.tables.proofs.Size.Laws as Laws''
-use Rattle.tables.proofs.internal.Span
-use Rattle.tables.proofs.internal.Span.Laws as Laws'3
+use Rattle.tables.proofs.spans.Span
+use Rattle.tables.proofs.spans.Span.Laws as Laws'3
 use borrow.Author.Called
 use borrow.Author.Tests
 use borrow.Fn.Any
@@ -181,7 +181,7 @@ abbrev b1 : Syntax.Body
 b1 = Syntax.assign (Syntax.place 17 List.[]) (Syntax.aggregate (List._∷_ (Syntax.copy (Syntax.place 16 List.[])) (List._∷_ (Syntax.copy (Syntax.place 6 (List._∷_ (Syntax.field 1) List.[]))) List.[])))
 
 abbrev b2 : Syntax.Body
-b2 = Syntax.call "tables::internal::fill" (List._∷_ (Syntax.copy (Syntax.place 17 List.[])) (List._∷_ (Syntax.copy (Syntax.place 1 (List._∷_ (Syntax.field 0) List.[]))) (List._∷_ (Syntax.intBig Syntax.w64 65535) List.[]))) (Syntax.place 15 List.[])
+b2 = Syntax.call "tables::entries::fill" (List._∷_ (Syntax.copy (Syntax.place 17 List.[])) (List._∷_ (Syntax.copy (Syntax.place 1 (List._∷_ (Syntax.field 0) List.[]))) (List._∷_ (Syntax.intBig Syntax.w64 65535) List.[]))) (Syntax.place 15 List.[])
 
 abbrev b3 : Syntax.Body
 b3 = Syntax.assign (Syntax.place 18 List.[]) (Syntax.addrOf (Syntax.place 7 (List._∷_ (Syntax.field 0) (List._∷_ (Syntax.deref (Syntax.tyInt Syntax.w16)) List.[]))))
@@ -193,7 +193,7 @@ abbrev b5 : Syntax.Body
 b5 = Syntax.call "search::marks::start_known" (List._∷_ (Syntax.copy (Syntax.place 1 List.[])) (List._∷_ (Syntax.copy (Syntax.place 2 List.[])) (List._∷_ (Syntax.copy (Syntax.place 19 List.[])) List.[]))) (Syntax.place 15 List.[])
 
 abbrev b6 : Syntax.Body
-b6 = Syntax.call "tables::internal::span_at" (List._∷_ (Syntax.copy (Syntax.place 1 List.[])) (List._∷_ (Syntax.copy (Syntax.place 2 List.[])) (List._∷_ (Syntax.copy (Syntax.place 5 List.[])) List.[]))) (Syntax.place 9 List.[])
+b6 = Syntax.call "tables::spans::span_at" (List._∷_ (Syntax.copy (Syntax.place 1 List.[])) (List._∷_ (Syntax.copy (Syntax.place 2 List.[])) (List._∷_ (Syntax.copy (Syntax.place 5 List.[])) List.[]))) (Syntax.place 9 List.[])
 
 abbrev b7 : Syntax.Body
 b7 = Syntax.call "search::marks::start_end" (List._∷_ (Syntax.copy (Syntax.place 9 List.[])) List.[]) (Syntax.place 10 List.[])
@@ -1381,7 +1381,7 @@ module _ (claims· : Claims) where
   module _ (Pre· : (κs : Lifetimes.Lfts 6) → Kinds.Dens κs ps → Type 0) (Post· : (κs : Lifetimes.Lfts 6) → (a : Kinds.Dens κs ps) → Kinds.Plain 6 ps r κs) where
     module _ (M : Type 1) where
       abbrev pub Closed : Type 2
-      Closed = (𝓤 : URA.URA M) (H : Wp.Heap 𝓤) (A : Atoms.Atoms 𝓤) (W : Kit.Given 𝓤 H A) (𝓣 : Wp.Tables 𝓤 H) (known0 : Plain.Known 𝓤 H A W 𝓣 1 ps·0 r·0 (claims· .0) (claims· .1) "tables::internal::fill") (known1 : Plain.Known 𝓤 H A W 𝓣 2 ps·1 r·1 (claims· .2) (claims· .3) "search::marks::start_known") (known2 : Plain.Known 𝓤 H A W 𝓣 1 ps·2 r·2 (claims· .4) (claims· .5) "tables::internal::span_at") (known3 : Plain.Known 𝓤 H A W 𝓣 0 ps·3 r·3 (claims· .6) (claims· .7) "search::marks::start_end") (known4 : Plain.Known 𝓤 H A W 𝓣 2 ps·4 r·4 (claims· .8) (claims· .9) "walks::queue::reach") (known5 : Plain.Known 𝓤 H A W 𝓣 6 ps·5 r·5 (claims· .10) (claims· .11) "search::walk::walk") (known6 : Plain.Known 𝓤 H A W 𝓣 1 ps·6 r·6 (claims· .12) (claims· .13) "search::rounds::round_end") (known7 : Plain.Known 𝓤 H A W 𝓣 2 ps·7 r·7 (claims· .14) (claims· .15) "search::marks::kept") (known8 : Plain.Known 𝓤 H A W 𝓣 4 ps·8 r·8 (claims· .16) (claims· .17) "search::marks::settle") (known9 : Plain.Known 𝓤 H A W 𝓣 2 ps·9 r·9 (claims· .18) (claims· .19) "search::rounds::finish") → Statement.Triple 𝓤 (Wp.WpFn 𝓤 H (𝓣 .C) (𝓣 .Λ) (Function.fnOf 6 ps r xs m hs body)) (Function.plainOf 𝓤 H A 6 ps r Pre· Post·)
+      Closed = (𝓤 : URA.URA M) (H : Wp.Heap 𝓤) (A : Atoms.Atoms 𝓤) (W : Kit.Given 𝓤 H A) (𝓣 : Wp.Tables 𝓤 H) (known0 : Plain.Known 𝓤 H A W 𝓣 1 ps·0 r·0 (claims· .0) (claims· .1) "tables::entries::fill") (known1 : Plain.Known 𝓤 H A W 𝓣 2 ps·1 r·1 (claims· .2) (claims· .3) "search::marks::start_known") (known2 : Plain.Known 𝓤 H A W 𝓣 1 ps·2 r·2 (claims· .4) (claims· .5) "tables::spans::span_at") (known3 : Plain.Known 𝓤 H A W 𝓣 0 ps·3 r·3 (claims· .6) (claims· .7) "search::marks::start_end") (known4 : Plain.Known 𝓤 H A W 𝓣 2 ps·4 r·4 (claims· .8) (claims· .9) "walks::queue::reach") (known5 : Plain.Known 𝓤 H A W 𝓣 6 ps·5 r·5 (claims· .10) (claims· .11) "search::walk::walk") (known6 : Plain.Known 𝓤 H A W 𝓣 1 ps·6 r·6 (claims· .12) (claims· .13) "search::rounds::round_end") (known7 : Plain.Known 𝓤 H A W 𝓣 2 ps·7 r·7 (claims· .14) (claims· .15) "search::marks::kept") (known8 : Plain.Known 𝓤 H A W 𝓣 4 ps·8 r·8 (claims· .16) (claims· .17) "search::marks::settle") (known9 : Plain.Known 𝓤 H A W 𝓣 2 ps·9 r·9 (claims· .18) (claims· .19) "search::rounds::finish") → Statement.Triple 𝓤 (Wp.WpFn 𝓤 H (𝓣 .C) (𝓣 .Λ) (Function.fnOf 6 ps r xs m hs body)) (Function.plainOf 𝓤 H A 6 ps r Pre· Post·)
 
     module _ (Inv·0 : InvT-loop) (μ·0 : MeasureT-loop) where
       abbrev at0 : Typed.TF T49 O4
@@ -1836,7 +1836,7 @@ module _ (claims· : Claims) where
 
       module _ {M : Type 1} (𝓤 : URA.URA M) (H : Wp.Heap 𝓤) (A : Atoms.Atoms 𝓤) (W : Kit.Given 𝓤 H A) (𝓣 : Wp.Tables 𝓤 H) where
         abbrev Knowns : Type 1
-        Knowns = Plain.Known 𝓤 H A W 𝓣 1 ps·0 r·0 (claims· .0) (claims· .1) "tables::internal::fill" × Plain.Known 𝓤 H A W 𝓣 2 ps·1 r·1 (claims· .2) (claims· .3) "search::marks::start_known" × Plain.Known 𝓤 H A W 𝓣 1 ps·2 r·2 (claims· .4) (claims· .5) "tables::internal::span_at" × Plain.Known 𝓤 H A W 𝓣 0 ps·3 r·3 (claims· .6) (claims· .7) "search::marks::start_end" × Plain.Known 𝓤 H A W 𝓣 2 ps·4 r·4 (claims· .8) (claims· .9) "walks::queue::reach" × Plain.Known 𝓤 H A W 𝓣 6 ps·5 r·5 (claims· .10) (claims· .11) "search::walk::walk" × Plain.Known 𝓤 H A W 𝓣 1 ps·6 r·6 (claims· .12) (claims· .13) "search::rounds::round_end" × Plain.Known 𝓤 H A W 𝓣 2 ps·7 r·7 (claims· .14) (claims· .15) "search::marks::kept" × Plain.Known 𝓤 H A W 𝓣 4 ps·8 r·8 (claims· .16) (claims· .17) "search::marks::settle" × Plain.Known 𝓤 H A W 𝓣 2 ps·9 r·9 (claims· .18) (claims· .19) "search::rounds::finish"
+        Knowns = Plain.Known 𝓤 H A W 𝓣 1 ps·0 r·0 (claims· .0) (claims· .1) "tables::entries::fill" × Plain.Known 𝓤 H A W 𝓣 2 ps·1 r·1 (claims· .2) (claims· .3) "search::marks::start_known" × Plain.Known 𝓤 H A W 𝓣 1 ps·2 r·2 (claims· .4) (claims· .5) "tables::spans::span_at" × Plain.Known 𝓤 H A W 𝓣 0 ps·3 r·3 (claims· .6) (claims· .7) "search::marks::start_end" × Plain.Known 𝓤 H A W 𝓣 2 ps·4 r·4 (claims· .8) (claims· .9) "walks::queue::reach" × Plain.Known 𝓤 H A W 𝓣 6 ps·5 r·5 (claims· .10) (claims· .11) "search::walk::walk" × Plain.Known 𝓤 H A W 𝓣 1 ps·6 r·6 (claims· .12) (claims· .13) "search::rounds::round_end" × Plain.Known 𝓤 H A W 𝓣 2 ps·7 r·7 (claims· .14) (claims· .15) "search::marks::kept" × Plain.Known 𝓤 H A W 𝓣 4 ps·8 r·8 (claims· .16) (claims· .17) "search::marks::settle" × Plain.Known 𝓤 H A W 𝓣 2 ps·9 r·9 (claims· .18) (claims· .19) "search::rounds::finish"
 
       module _ (κs : Lifetimes.Lfts 6) (qs : Lifetimes.Shares 6) where
         abbrev g4 : List.List Row.Entry
@@ -2780,7 +2780,7 @@ module _ (claims· : Claims) where
           d124 = Typed.s-seq 𝓤 H A W 𝓣 E G25 G26 b7 b88 Δ0 (Typed.both s24) at123 (Plain.t-call-plain 𝓤 H A W 𝓣 0 ps·3 r·3 (claims· .6) (claims· .7) "search::marks::start_end" (known .3) E (λ pos β. β) G25 (record { pos = 9; st = List.[]; d = 0; at = λ x. x }, tt) 10 List.[] (Call.sub-id 𝓤 H A W (G25 .slots)) ((Yields.yields-copy 𝓤 H A W (λ ρ. Unit) (Declared.row Span.the-type) Path'.refl (Copies.cStruct Span.the-type Laws'3.the-laws Laws'3.the-copy .copy 𝓤 H A W) (Rows.whole (Declared.row Span.the-type)) (λ x. x) (λ x. x) (λ ρ told. Local.mem-whole 𝓤 H A W (Declared.row Span.the-type) ρ) λ ρ told. Local.whole-mem 𝓤 H A W (Declared.row Span.the-type) ρ, Path'.refl), tt) (Reads'.room-gone 𝓤 H A (Syntax.tyInt Syntax.w64)) tt Path'.refl) d123
 
           d125 : Typed.Typed 𝓤 H A 𝓣 E G24 b90 Δ0 at125
-          d125 = Typed.s-seq 𝓤 H A W 𝓣 E G24 G25 b6 b89 Δ0 (Typed.both s23) at124 (Plain.t-call-plain 𝓤 H A W 𝓣 1 ps·2 r·2 (claims· .4) (claims· .5) "tables::internal::span_at" (known .2) E (λ pos β. β) G24 (record { pos = 1; st = List.[]; d = 0; at = λ x. x }, (record { pos = 2; ty = Syntax.tyRef (Syntax.named 0) Syntax.imm (Memory.pointee (T.the-row .written)); ref = λ x. x }, (Num.vAt 5 λ x. x, tt))) 9 (List._∷_ 0 List.[]) (Call.sub-id 𝓤 H A W (G24 .slots)) ((Yields.yields-copy 𝓤 H A W (λ ρ. Unit) (Declared.row Size.the-type) Path'.refl (Copies.cStruct Size.the-type Laws''.the-laws Laws''.the-copy .copy 𝓤 H A W) (Rows.whole (Declared.row Size.the-type)) (λ x. x) (λ x. x) (λ ρ told. Local.mem-whole 𝓤 H A W (Declared.row Size.the-type) ρ) λ ρ told. Local.whole-mem 𝓤 H A W (Declared.row Size.the-type) ρ, Path'.refl), (ShrSlice.spares-sslice 𝓤 H A W T.the-row ty·7 0, Shared.reads-sslice 𝓤 H A W T.the-row ty·7 0, Path'.refl, ((Scalar.reads-sc 𝓤 H A W (Row.sInt Syntax.w64), Path'.refl), tt))) (Reads'.room-gone 𝓤 H A ty·13) (tt, tt) Path'.refl) d124
+          d125 = Typed.s-seq 𝓤 H A W 𝓣 E G24 G25 b6 b89 Δ0 (Typed.both s23) at124 (Plain.t-call-plain 𝓤 H A W 𝓣 1 ps·2 r·2 (claims· .4) (claims· .5) "tables::spans::span_at" (known .2) E (λ pos β. β) G24 (record { pos = 1; st = List.[]; d = 0; at = λ x. x }, (record { pos = 2; ty = Syntax.tyRef (Syntax.named 0) Syntax.imm (Memory.pointee (T.the-row .written)); ref = λ x. x }, (Num.vAt 5 λ x. x, tt))) 9 (List._∷_ 0 List.[]) (Call.sub-id 𝓤 H A W (G24 .slots)) ((Yields.yields-copy 𝓤 H A W (λ ρ. Unit) (Declared.row Size.the-type) Path'.refl (Copies.cStruct Size.the-type Laws''.the-laws Laws''.the-copy .copy 𝓤 H A W) (Rows.whole (Declared.row Size.the-type)) (λ x. x) (λ x. x) (λ ρ told. Local.mem-whole 𝓤 H A W (Declared.row Size.the-type) ρ) λ ρ told. Local.whole-mem 𝓤 H A W (Declared.row Size.the-type) ρ, Path'.refl), (ShrSlice.spares-sslice 𝓤 H A W T.the-row ty·7 0, Shared.reads-sslice 𝓤 H A W T.the-row ty·7 0, Path'.refl, ((Scalar.reads-sc 𝓤 H A W (Row.sInt Syntax.w64), Path'.refl), tt))) (Reads'.room-gone 𝓤 H A ty·13) (tt, tt) Path'.refl) d124
 
           d126 : Typed.Typed 𝓤 H A 𝓣 E G23 b90 Δ0 at126
           d126 = Typed.g-pre 𝓤 H A W 𝓣 E G23 G24 b90 Δ0 (λ Ψ. Ψ) at125 (Lifetime.g-forget 𝓤 H A W E G23 7 Row.dead Path'.refl) d125
@@ -2825,7 +2825,7 @@ module _ (claims· : Claims) where
           d139 = Typed.g-pre 𝓤 H A W 𝓣 E G10 G11 b93 Δ0 (Typed.pass T10 T11 s9) at138 (Scalar.g-room 𝓤 H A W E G10 15 Syntax.tyUnit (Scalar.room-sc 𝓤 H A W Row.sUnit)) d138
 
           d140 : Typed.Typed 𝓤 H A 𝓣 E G9 b94 Δ0 at140
-          d140 = Typed.s-seq 𝓤 H A W 𝓣 E G9 G10 b2 b93 Δ0 (Typed.both s8) at139 (Plain.t-call-plain 𝓤 H A W 𝓣 1 ps·0 r·0 (claims· .0) (claims· .1) "tables::internal::fill" (known .0) E (λ pos β. β) G9 (record { pos = 17; ty = Syntax.tyRef Syntax.erased Syntax.mut (Syntax.tyInt Syntax.w16); ref = λ x. x }, (Num.vFld 1 (List._∷_ (Syntax.field 0) List.[]) 0 λ x. Size.struct .as-values x .0, (Num.vBig 65535, tt))) 15 (List._∷_ 6 List.[]) (Call.sub-id 𝓤 H A W (G9 .slots)) (Reads'.as-is 𝓤 H A (Mut.mslice (Referent.rtF (Referent.fInt Syntax.w16)) ty·0 6), Mut.reads-mslice 𝓤 H A W (Referent.rtF (Referent.fInt Syntax.w16)) ty·0 6, Path'.refl, ((Reads.reads-field 𝓤 H A W Size.the-type Laws''.the-laws 0 (Syntax.tyInt Syntax.w64) 0 Path'.refl, Path'.refl), (record { lower = record { fits = Dec'.lit< tt } }, tt))) (Reads'.room-gone 𝓤 H A Syntax.tyUnit) (tt, tt) Path'.refl) d139
+          d140 = Typed.s-seq 𝓤 H A W 𝓣 E G9 G10 b2 b93 Δ0 (Typed.both s8) at139 (Plain.t-call-plain 𝓤 H A W 𝓣 1 ps·0 r·0 (claims· .0) (claims· .1) "tables::entries::fill" (known .0) E (λ pos β. β) G9 (record { pos = 17; ty = Syntax.tyRef Syntax.erased Syntax.mut (Syntax.tyInt Syntax.w16); ref = λ x. x }, (Num.vFld 1 (List._∷_ (Syntax.field 0) List.[]) 0 λ x. Size.struct .as-values x .0, (Num.vBig 65535, tt))) 15 (List._∷_ 6 List.[]) (Call.sub-id 𝓤 H A W (G9 .slots)) (Reads'.as-is 𝓤 H A (Mut.mslice (Referent.rtF (Referent.fInt Syntax.w16)) ty·0 6), Mut.reads-mslice 𝓤 H A W (Referent.rtF (Referent.fInt Syntax.w16)) ty·0 6, Path'.refl, ((Reads.reads-field 𝓤 H A W Size.the-type Laws''.the-laws 0 (Syntax.tyInt Syntax.w64) 0 Path'.refl, Path'.refl), (record { lower = record { fits = Dec'.lit< tt } }, tt))) (Reads'.room-gone 𝓤 H A Syntax.tyUnit) (tt, tt) Path'.refl) d139
 
           d141 : Typed.Typed 𝓤 H A 𝓣 E G8 b95 Δ0 at141
           d141 = Typed.s-seq 𝓤 H A W 𝓣 E G8 G9 b1 b94 Δ0 (Typed.ask s7) at140 (Relend.t-sl-aggregate 𝓤 H A W E (Referent.rtF (Referent.fInt Syntax.w16)) 𝓣 (Relend.asMut (Referent.rtF (Referent.fInt Syntax.w16))) G8 16 17 6 ty·0 ty·0 (λ x. x) (Scalar.oFld 6 (List._∷_ (Syntax.field 1) List.[]) (Syntax.tyInt Syntax.w64) 8 λ v. Shared.lenV (v .0)) (Reads'.as-is 𝓤 H A (Relend.msptr (Referent.rtF (Referent.fInt Syntax.w16)) ty·0 6)) (Reads'.room-gone 𝓤 H A ty·8) (Relend.reads-owed-len 𝓤 H A W (Referent.rtF (Referent.fInt Syntax.w16)) ty·4 3 6 (Row.lease (κs .1 .1 .1 .0) (qs .1 .1 .1 .0)) 8 Path'.refl, Path'.refl) Path'.refl Path'.refl λ b o k. tt) d140
@@ -3769,6 +3769,6 @@ module _ (claims· : Claims) where
           pub asked : (a : Kinds.Dens κs ps) → (good : Kinds.GoodsP κs ps a) → (pre : Pre· κs a) → (bs : List.List Nat.ℕ) → Φ (Any.wantQ 6 ps r xs m κs qs a (Post· κs a)) (Function.init 6 ps r xs m κs qs a)
           asked = λ a good pre bs. laid record { κs = κs; args = record { size = a .0; rows = a .1 .0; firsts = a .1 .1 .0; outcomes = a .1 .1 .1 .0; start = a .1 .1 .1 .1 .0; commands = a .1 .1 .1 .1 .1 .0; scratch = a .1 .1 .1 .1 .1 .1 .0; queue = a .1 .1 .1 .1 .1 .1 .1 .0 }; good = good; fits = record { start = record { fits = good .1 .1 .1 .1 .0 .1 } }; pre = pre }
 
-        module _ {M : Type 1} (𝓤 : URA.URA M) (H : Wp.Heap 𝓤) (A : Atoms.Atoms 𝓤) (W : Kit.Given 𝓤 H A) (𝓣 : Wp.Tables 𝓤 H) (known0 : Plain.Known 𝓤 H A W 𝓣 1 ps·0 r·0 (claims· .0) (claims· .1) "tables::internal::fill") (known1 : Plain.Known 𝓤 H A W 𝓣 2 ps·1 r·1 (claims· .2) (claims· .3) "search::marks::start_known") (known2 : Plain.Known 𝓤 H A W 𝓣 1 ps·2 r·2 (claims· .4) (claims· .5) "tables::internal::span_at") (known3 : Plain.Known 𝓤 H A W 𝓣 0 ps·3 r·3 (claims· .6) (claims· .7) "search::marks::start_end") (known4 : Plain.Known 𝓤 H A W 𝓣 2 ps·4 r·4 (claims· .8) (claims· .9) "walks::queue::reach") (known5 : Plain.Known 𝓤 H A W 𝓣 6 ps·5 r·5 (claims· .10) (claims· .11) "search::walk::walk") (known6 : Plain.Known 𝓤 H A W 𝓣 1 ps·6 r·6 (claims· .12) (claims· .13) "search::rounds::round_end") (known7 : Plain.Known 𝓤 H A W 𝓣 2 ps·7 r·7 (claims· .14) (claims· .15) "search::marks::kept") (known8 : Plain.Known 𝓤 H A W 𝓣 4 ps·8 r·8 (claims· .16) (claims· .17) "search::marks::settle") (known9 : Plain.Known 𝓤 H A W 𝓣 2 ps·9 r·9 (claims· .18) (claims· .19) "search::rounds::finish") where
+        module _ {M : Type 1} (𝓤 : URA.URA M) (H : Wp.Heap 𝓤) (A : Atoms.Atoms 𝓤) (W : Kit.Given 𝓤 H A) (𝓣 : Wp.Tables 𝓤 H) (known0 : Plain.Known 𝓤 H A W 𝓣 1 ps·0 r·0 (claims· .0) (claims· .1) "tables::entries::fill") (known1 : Plain.Known 𝓤 H A W 𝓣 2 ps·1 r·1 (claims· .2) (claims· .3) "search::marks::start_known") (known2 : Plain.Known 𝓤 H A W 𝓣 1 ps·2 r·2 (claims· .4) (claims· .5) "tables::spans::span_at") (known3 : Plain.Known 𝓤 H A W 𝓣 0 ps·3 r·3 (claims· .6) (claims· .7) "search::marks::start_end") (known4 : Plain.Known 𝓤 H A W 𝓣 2 ps·4 r·4 (claims· .8) (claims· .9) "walks::queue::reach") (known5 : Plain.Known 𝓤 H A W 𝓣 6 ps·5 r·5 (claims· .10) (claims· .11) "search::walk::walk") (known6 : Plain.Known 𝓤 H A W 𝓣 1 ps·6 r·6 (claims· .12) (claims· .13) "search::rounds::round_end") (known7 : Plain.Known 𝓤 H A W 𝓣 2 ps·7 r·7 (claims· .14) (claims· .15) "search::marks::kept") (known8 : Plain.Known 𝓤 H A W 𝓣 4 ps·8 r·8 (claims· .16) (claims· .17) "search::marks::settle") (known9 : Plain.Known 𝓤 H A W 𝓣 2 ps·9 r·9 (claims· .18) (claims· .19) "search::rounds::finish") where
           pub spec : Statement.Triple 𝓤 (Wp.WpFn 𝓤 H (𝓣 .C) (𝓣 .Λ) (Function.fnOf 6 ps r xs m hs body)) (Function.plainOf 𝓤 H A 6 ps r Pre· Post·)
           spec = Plain.t-fn-plain 𝓤 H A W 𝓣 6 ps r xs m hs body (λ κs qs bs. Φ) (λ κs qs bs bd. typed κs qs 𝓤 H A W 𝓣 (known0, known1, known2, known3, known4, known5, known6, known7, known8, known9) bs bd) Pre· Post· asked

@@ -9,8 +9,8 @@ use Rattle.tables.proofs.Refusal.Laws as Laws''
 use Rattle.tables.proofs.Row as T
 use Rattle.tables.proofs.Size
 use Rattle.tables.proofs.Size.Laws as Laws'3
-use Rattle.tables.proofs.internal.Admission
-use Rattle.tables.proofs.internal.Admission.Laws as Laws'4
+use Rattle.tables.proofs.admission.Admission
+use Rattle.tables.proofs.admission.Admission.Laws as Laws'4
 use borrow.Author.Called
 use borrow.Enum.Known
 use borrow.Enum.Make

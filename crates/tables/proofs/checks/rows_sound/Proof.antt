@@ -10,7 +10,7 @@ use Rattle.laws.specs.Sets.{every}
 use Rattle.laws.proofs.Loops.{stopped, passed, every-none, every-next, every-stop, every-done}
 use Rattle.model.specs.SoundTest.{rowSound}
 use Rattle.tables.specs.Meaning.{held}
-use Rattle.tables.proofs.Spans.{row-tested}
+use Rattle.tables.proofs.SpanFacts.{row-tested}
 use Rattle.tables.proofs.checks.rows_sound.Statement.{statement}
 use Rattle.tables.proofs.checks.rows_sound.Proof.Tie as tie
 

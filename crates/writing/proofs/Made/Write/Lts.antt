@@ -5,8 +5,8 @@ use Rattle.tables.proofs.Refusal.Laws
 use Rattle.tables.proofs.Row as T
 use Rattle.tables.proofs.Size
 use Rattle.tables.proofs.Size.Laws as Laws'
-use Rattle.tables.proofs.internal.Admission
-use Rattle.tables.proofs.internal.Admission.Laws as Laws''
+use Rattle.tables.proofs.admission.Admission
+use Rattle.tables.proofs.admission.Admission.Laws as Laws''
 use Rattle.writing.proofs.WriteAnswer
 use Rattle.writing.proofs.WriteAnswer.Laws as Laws'3
 use borrow.Author.Called

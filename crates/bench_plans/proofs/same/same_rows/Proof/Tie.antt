@@ -7,12 +7,12 @@ use Rattle.bench_plans.proofs.same.same_rows.Key
 use Rattle.bench_plans.proofs.Made.SameSameRows.Lts as Lts
 use Rattle.bench_plans.proofs.Made.SameSameRows.Reads as Reads'
 use Rattle.bench_plans.proofs.same.same_rows.Statement
-use Rattle.tables.proofs.internal.row_at.Met as Met'
-use Rattle.tables.proofs.Made.InternalRowAt.Reads as Reads''
-use Rattle.tables.proofs.internal.row_at.Symbol as Symbol'
-use Rattle.tables.proofs.internal.row_count.Met as Met''
-use Rattle.tables.proofs.Made.InternalRowCount.Reads as Reads'3
-use Rattle.tables.proofs.internal.row_count.Symbol as Symbol''
+use Rattle.tables.proofs.rows.row_at.Met as Met'
+use Rattle.tables.proofs.Made.RowsRowAt.Reads as Reads''
+use Rattle.tables.proofs.rows.row_at.Symbol as Symbol'
+use Rattle.tables.proofs.rows.row_count.Met as Met''
+use Rattle.tables.proofs.Made.RowsRowCount.Reads as Reads'3
+use Rattle.tables.proofs.rows.row_count.Symbol as Symbol''
 use borrow.Fn.Run
 use borrow.Fn.Written
 use contract.Running
@@ -113,4 +113,4 @@ module _ {M : Type 1} where
 
   pub close : Lts.Closed (Reads'3.Asked, Reads'3.Learnt, Reads''.Asked, Reads''.Learnt, Reads.Asked, Reads.Learnt) Reads'.Pre Reads'.Post M → Statement.statement M
   unfolding Code.routine Running.tablesOf
-  close = λ closed 𝓤 H 𝓜 𝓖 𝓡. Written.close 2 Reads'.ps Reads'.r Reads'.Ghost Reads'.requires Reads'.ensures Reads'.pre-read Reads'.Pinned Reads'.Owned Reads'.post-read record { M = M; 𝓤 = 𝓤; H = H; 𝓜 = 𝓜; 𝓖 = 𝓖; 𝓡 = 𝓡 } Code.env Key.name Code.function (Code.unfolded 𝓤 H 𝓜 𝓡) (λ κs a g. tt) (λ κs. Reads'.owns κs record { M = M; 𝓤 = 𝓤; H = H; 𝓜 = 𝓜; 𝓖 = 𝓖; 𝓡 = 𝓡 }) (Reads'.passes record { M = M; 𝓤 = 𝓤; H = H; 𝓜 = 𝓜; 𝓖 = 𝓖; 𝓡 = 𝓡 }) λ g. closed 𝓤 H (𝓖 .A) (Running.givenOf 𝓤 H 𝓜 𝓖) (Run.Over 𝓤 H 𝓜 𝓖 𝓡 Code.env) (Reads'3.known record { M = M; 𝓤 = 𝓤; H = H; 𝓜 = 𝓜; 𝓖 = 𝓖; 𝓡 = 𝓡 } Code.env Symbol''.name Symbol''.routine Code.calls-tables·internal·row-count (Met''.met 𝓤 H 𝓜 𝓖 𝓡)) (Reads''.known record { M = M; 𝓤 = 𝓤; H = H; 𝓜 = 𝓜; 𝓖 = 𝓖; 𝓡 = 𝓡 } Code.env Symbol'.name Symbol'.routine Code.calls-tables·internal·row-at (Met'.met 𝓤 H 𝓜 𝓖 𝓡)) (Reads.known record { M = M; 𝓤 = 𝓤; H = H; 𝓜 = 𝓜; 𝓖 = 𝓖; 𝓡 = 𝓡 } Code.env Symbol.name Symbol.routine Code.calls-bench-plans·same·same-row (Met.met 𝓤 H 𝓜 𝓖 𝓡))
+  close = λ closed 𝓤 H 𝓜 𝓖 𝓡. Written.close 2 Reads'.ps Reads'.r Reads'.Ghost Reads'.requires Reads'.ensures Reads'.pre-read Reads'.Pinned Reads'.Owned Reads'.post-read record { M = M; 𝓤 = 𝓤; H = H; 𝓜 = 𝓜; 𝓖 = 𝓖; 𝓡 = 𝓡 } Code.env Key.name Code.function (Code.unfolded 𝓤 H 𝓜 𝓡) (λ κs a g. tt) (λ κs. Reads'.owns κs record { M = M; 𝓤 = 𝓤; H = H; 𝓜 = 𝓜; 𝓖 = 𝓖; 𝓡 = 𝓡 }) (Reads'.passes record { M = M; 𝓤 = 𝓤; H = H; 𝓜 = 𝓜; 𝓖 = 𝓖; 𝓡 = 𝓡 }) λ g. closed 𝓤 H (𝓖 .A) (Running.givenOf 𝓤 H 𝓜 𝓖) (Run.Over 𝓤 H 𝓜 𝓖 𝓡 Code.env) (Reads'3.known record { M = M; 𝓤 = 𝓤; H = H; 𝓜 = 𝓜; 𝓖 = 𝓖; 𝓡 = 𝓡 } Code.env Symbol''.name Symbol''.routine Code.calls-tables·rows·row-count (Met''.met 𝓤 H 𝓜 𝓖 𝓡)) (Reads''.known record { M = M; 𝓤 = 𝓤; H = H; 𝓜 = 𝓜; 𝓖 = 𝓖; 𝓡 = 𝓡 } Code.env Symbol'.name Symbol'.routine Code.calls-tables·rows·row-at (Met'.met 𝓤 H 𝓜 𝓖 𝓡)) (Reads.known record { M = M; 𝓤 = 𝓤; H = H; 𝓜 = 𝓜; 𝓖 = 𝓖; 𝓡 = 𝓡 } Code.env Symbol.name Symbol.routine Code.calls-bench-plans·same·same-row (Met.met 𝓤 H 𝓜 𝓖 𝓡))

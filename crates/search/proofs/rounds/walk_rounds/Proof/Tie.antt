@@ -25,12 +25,12 @@ use Rattle.search.proofs.rounds.walk_rounds.Statement
 use Rattle.search.proofs.walk.walk.Met as Met'6
 use Rattle.search.proofs.Made.WalkWalk.Reads as Reads'7
 use Rattle.search.proofs.walk.walk.Symbol as Symbol'6
-use Rattle.tables.proofs.internal.fill.Met as Met'7
-use Rattle.tables.proofs.internal.fill.Reads as Reads'8
-use Rattle.tables.proofs.internal.fill.Symbol as Symbol'7
-use Rattle.tables.proofs.internal.span_at.Met as Met'8
-use Rattle.tables.proofs.Made.InternalSpanAt.Reads as Reads'9
-use Rattle.tables.proofs.internal.span_at.Symbol as Symbol'8
+use Rattle.tables.proofs.entries.fill.Met as Met'7
+use Rattle.tables.proofs.entries.fill.Reads as Reads'8
+use Rattle.tables.proofs.entries.fill.Symbol as Symbol'7
+use Rattle.tables.proofs.spans.span_at.Met as Met'8
+use Rattle.tables.proofs.Made.SpansSpanAt.Reads as Reads'9
+use Rattle.tables.proofs.spans.span_at.Symbol as Symbol'8
 use Rattle.walks.proofs.queue.reach.Met as Met'9
 use Rattle.walks.proofs.queue.reach.Reads as Reads'10
 use Rattle.walks.proofs.queue.reach.Symbol as Symbol'9
@@ -272,4 +272,4 @@ module _ {M : Type 1} where
 
   pub close : Lts.Closed (Reads'8.Asked, Reads'8.Learnt, Reads'3.Asked, Reads'3.Learnt, Reads'9.Asked, Reads'9.Learnt, Reads''.Asked, Reads''.Learnt, Reads'10.Asked, Reads'10.Learnt, Reads'7.Asked, Reads'7.Learnt, Reads'5.Asked, Reads'5.Learnt, Reads.Asked, Reads.Learnt, Reads'.Asked, Reads'.Learnt, Reads'4.Asked, Reads'4.Learnt) Reads'6.Pre Reads'6.Post M → Statement.statement M
   unfolding Code.routine Running.tablesOf
-  close = λ closed 𝓤 H 𝓜 𝓖 𝓡. Written.close 6 Reads'6.ps Reads'6.r Reads'6.Ghost Reads'6.requires Reads'6.ensures Reads'6.pre-read Reads'6.Pinned Reads'6.Owned Reads'6.post-read record { M = M; 𝓤 = 𝓤; H = H; 𝓜 = 𝓜; 𝓖 = 𝓖; 𝓡 = 𝓡 } Code.env Key.name Code.function (Code.unfolded 𝓤 H 𝓜 𝓡) (λ κs a g. tt) (λ κs. Reads'6.owns κs record { M = M; 𝓤 = 𝓤; H = H; 𝓜 = 𝓜; 𝓖 = 𝓖; 𝓡 = 𝓡 }) (Reads'6.passes record { M = M; 𝓤 = 𝓤; H = H; 𝓜 = 𝓜; 𝓖 = 𝓖; 𝓡 = 𝓡 }) λ g. closed 𝓤 H (𝓖 .A) (Running.givenOf 𝓤 H 𝓜 𝓖) (Run.Over 𝓤 H 𝓜 𝓖 𝓡 Code.env) (Reads'8.known record { M = M; 𝓤 = 𝓤; H = H; 𝓜 = 𝓜; 𝓖 = 𝓖; 𝓡 = 𝓡 } Code.env Symbol'7.name Symbol'7.routine Code.calls-tables·internal·fill (Met'7.met 𝓤 H 𝓜 𝓖 𝓡)) (Reads'3.known record { M = M; 𝓤 = 𝓤; H = H; 𝓜 = 𝓜; 𝓖 = 𝓖; 𝓡 = 𝓡 } Code.env Symbol'3.name Symbol'3.routine Code.calls-search·marks·start-known (Met'3.met 𝓤 H 𝓜 𝓖 𝓡)) (Reads'9.known record { M = M; 𝓤 = 𝓤; H = H; 𝓜 = 𝓜; 𝓖 = 𝓖; 𝓡 = 𝓡 } Code.env Symbol'8.name Symbol'8.routine Code.calls-tables·internal·span-at (Met'8.met 𝓤 H 𝓜 𝓖 𝓡)) (Reads''.known record { M = M; 𝓤 = 𝓤; H = H; 𝓜 = 𝓜; 𝓖 = 𝓖; 𝓡 = 𝓡 } Code.env Symbol''.name Symbol''.routine Code.calls-search·marks·start-end (Met''.met 𝓤 H 𝓜 𝓖 𝓡)) (Reads'10.known record { M = M; 𝓤 = 𝓤; H = H; 𝓜 = 𝓜; 𝓖 = 𝓖; 𝓡 = 𝓡 } Code.env Symbol'9.name Symbol'9.routine Code.calls-walks·queue·reach (Met'9.met 𝓤 H 𝓜 𝓖 𝓡)) (Reads'7.known record { M = M; 𝓤 = 𝓤; H = H; 𝓜 = 𝓜; 𝓖 = 𝓖; 𝓡 = 𝓡 } Code.env Symbol'6.name Symbol'6.routine Code.calls-search·walk·walk (Met'6.met 𝓤 H 𝓜 𝓖 𝓡)) (Reads'5.known record { M = M; 𝓤 = 𝓤; H = H; 𝓜 = 𝓜; 𝓖 = 𝓖; 𝓡 = 𝓡 } Code.env Symbol'5.name Symbol'5.routine Code.calls-search·rounds·round-end (Met'5.met 𝓤 H 𝓜 𝓖 𝓡)) (Reads.known record { M = M; 𝓤 = 𝓤; H = H; 𝓜 = 𝓜; 𝓖 = 𝓖; 𝓡 = 𝓡 } Code.env Symbol.name Symbol.routine Code.calls-search·marks·kept (Met.met 𝓤 H 𝓜 𝓖 𝓡)) (Reads'.known record { M = M; 𝓤 = 𝓤; H = H; 𝓜 = 𝓜; 𝓖 = 𝓖; 𝓡 = 𝓡 } Code.env Symbol'.name Symbol'.routine Code.calls-search·marks·settle (Met'.met 𝓤 H 𝓜 𝓖 𝓡)) (Reads'4.known record { M = M; 𝓤 = 𝓤; H = H; 𝓜 = 𝓜; 𝓖 = 𝓖; 𝓡 = 𝓡 } Code.env Symbol'4.name Symbol'4.routine Code.calls-search·rounds·finish (Met'4.met 𝓤 H 𝓜 𝓖 𝓡))
+  close = λ closed 𝓤 H 𝓜 𝓖 𝓡. Written.close 6 Reads'6.ps Reads'6.r Reads'6.Ghost Reads'6.requires Reads'6.ensures Reads'6.pre-read Reads'6.Pinned Reads'6.Owned Reads'6.post-read record { M = M; 𝓤 = 𝓤; H = H; 𝓜 = 𝓜; 𝓖 = 𝓖; 𝓡 = 𝓡 } Code.env Key.name Code.function (Code.unfolded 𝓤 H 𝓜 𝓡) (λ κs a g. tt) (λ κs. Reads'6.owns κs record { M = M; 𝓤 = 𝓤; H = H; 𝓜 = 𝓜; 𝓖 = 𝓖; 𝓡 = 𝓡 }) (Reads'6.passes record { M = M; 𝓤 = 𝓤; H = H; 𝓜 = 𝓜; 𝓖 = 𝓖; 𝓡 = 𝓡 }) λ g. closed 𝓤 H (𝓖 .A) (Running.givenOf 𝓤 H 𝓜 𝓖) (Run.Over 𝓤 H 𝓜 𝓖 𝓡 Code.env) (Reads'8.known record { M = M; 𝓤 = 𝓤; H = H; 𝓜 = 𝓜; 𝓖 = 𝓖; 𝓡 = 𝓡 } Code.env Symbol'7.name Symbol'7.routine Code.calls-tables·entries·fill (Met'7.met 𝓤 H 𝓜 𝓖 𝓡)) (Reads'3.known record { M = M; 𝓤 = 𝓤; H = H; 𝓜 = 𝓜; 𝓖 = 𝓖; 𝓡 = 𝓡 } Code.env Symbol'3.name Symbol'3.routine Code.calls-search·marks·start-known (Met'3.met 𝓤 H 𝓜 𝓖 𝓡)) (Reads'9.known record { M = M; 𝓤 = 𝓤; H = H; 𝓜 = 𝓜; 𝓖 = 𝓖; 𝓡 = 𝓡 } Code.env Symbol'8.name Symbol'8.routine Code.calls-tables·spans·span-at (Met'8.met 𝓤 H 𝓜 𝓖 𝓡)) (Reads''.known record { M = M; 𝓤 = 𝓤; H = H; 𝓜 = 𝓜; 𝓖 = 𝓖; 𝓡 = 𝓡 } Code.env Symbol''.name Symbol''.routine Code.calls-search·marks·start-end (Met''.met 𝓤 H 𝓜 𝓖 𝓡)) (Reads'10.known record { M = M; 𝓤 = 𝓤; H = H; 𝓜 = 𝓜; 𝓖 = 𝓖; 𝓡 = 𝓡 } Code.env Symbol'9.name Symbol'9.routine Code.calls-walks·queue·reach (Met'9.met 𝓤 H 𝓜 𝓖 𝓡)) (Reads'7.known record { M = M; 𝓤 = 𝓤; H = H; 𝓜 = 𝓜; 𝓖 = 𝓖; 𝓡 = 𝓡 } Code.env Symbol'6.name Symbol'6.routine Code.calls-search·walk·walk (Met'6.met 𝓤 H 𝓜 𝓖 𝓡)) (Reads'5.known record { M = M; 𝓤 = 𝓤; H = H; 𝓜 = 𝓜; 𝓖 = 𝓖; 𝓡 = 𝓡 } Code.env Symbol'5.name Symbol'5.routine Code.calls-search·rounds·round-end (Met'5.met 𝓤 H 𝓜 𝓖 𝓡)) (Reads.known record { M = M; 𝓤 = 𝓤; H = H; 𝓜 = 𝓜; 𝓖 = 𝓖; 𝓡 = 𝓡 } Code.env Symbol.name Symbol.routine Code.calls-search·marks·kept (Met.met 𝓤 H 𝓜 𝓖 𝓡)) (Reads'.known record { M = M; 𝓤 = 𝓤; H = H; 𝓜 = 𝓜; 𝓖 = 𝓖; 𝓡 = 𝓡 } Code.env Symbol'.name Symbol'.routine Code.calls-search·marks·settle (Met'.met 𝓤 H 𝓜 𝓖 𝓡)) (Reads'4.known record { M = M; 𝓤 = 𝓤; H = H; 𝓜 = 𝓜; 𝓖 = 𝓖; 𝓡 = 𝓡 } Code.env Symbol'4.name Symbol'4.routine Code.calls-search·rounds·finish (Met'4.met 𝓤 H 𝓜 𝓖 𝓡))

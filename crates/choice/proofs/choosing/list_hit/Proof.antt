@@ -1,0 +1,36 @@
+-- The list lies between where it begins and where the next one does, so the scan of these places answers for it.
+use borrow.Author.Needs.{needs}
+use Rattle.tables.specs.Ready.{listTable}
+use Rattle.choice.proofs.Outcomes.{entries-inside, hit-read}
+use Rattle.choice.proofs.choosing.list_hit.Statement.{statement}
+use Rattle.choice.proofs.choosing.list_hit.Tie as tie
+
+start-of-requires : tie.Need-start-of-requires
+start-of-requires c κs = search needs
+
+add-start-of : tie.Need-add-start-of
+add-start-of c = search needs
+
+start-of-requires-2 : tie.Need-start-of-requires-2
+start-of-requires-2 c κs = search needs
+
+some-within-requires : tie.Need-some-within-requires
+some-within-requires c κs =
+    let a = c .before .before .before .before .before .args in
+    let k = c .before .before .before .before .before .pre in
+    entries-inside (listTable (a .count) (a .end) (a .firsts .now) (a .entries .now)) _ _ _ (c .before .start-of .ensures) (c .start-of2 .ensures) (k .0) (k .2) (k .3)
+
+returns : tie.Need-returns
+returns c =
+    let a = c .before .before .before .before .before .before .args in
+    hit-read (listTable (a .count) (a .end) (a .firsts .now) (a .entries .now)) _ _ _ (c .before .before .start-of .ensures) (c .before .start-of2 .ensures) _ _ (c .some-within .ensures)
+
+pub list-hit-spec : {M : Type 1} → statement M
+list-hit-spec =
+    tie.close
+    (tie.spec
+    start-of-requires
+    add-start-of
+    start-of-requires-2
+    some-within-requires
+    returns)

@@ -1,0 +1,54 @@
+-- Number, kind, verdict and rank, command and marks, one behind another, are the line of a state of which the tables tell so.
+use native.Mathlib.Omega.{arith}
+use borrow.Author.Needs.{needs}
+use Rattle.listing_text.proofs.StateLine.{state-wrote}
+use Rattle.listing_text.proofs.lines.put_state_line.Statement.{statement}
+use Rattle.listing_text.proofs.lines.put_state_line.Tie as tie
+
+put-decimal-requires : tie.Need-put-decimal-requires
+put-decimal-requires c κs = search needs
+
+kind-letter-requires : tie.Need-kind-letter-requires
+kind-letter-requires c κs = search needs
+
+put-letter-requires : tie.Need-put-letter-requires
+put-letter-requires c κs = search needs
+
+put-verdict-requires : tie.Need-put-verdict-requires
+put-verdict-requires c κs = search needs
+
+put-entry-requires : tie.Need-put-entry-requires
+put-entry-requires c κs = search needs
+
+put-marks-requires : tie.Need-put-marks-requires
+put-marks-requires c κs = search needs
+
+put-one-requires : tie.Need-put-one-requires
+put-one-requires c κs = search needs
+
+same-length : tie.Need-same-length
+same-length c = search needs
+
+returns : tie.Need-returns
+returns c =
+    let number = c .before .before .before .before .before .before .before .before .before .before .before .before .before .before .before .before .before .before .before .before .before .before .before .put-decimal .ensures in
+    let kind = c .before .before .before .before .before .before .before .before .before .before .before .before .before .before .before .before .before .before .put-letter .ensures in
+    let verdict = c .before .before .before .before .before .before .before .before .before .before .before .before .before .before .put-verdict .ensures in
+    let command = c .before .before .before .before .before .before .before .before .before .before .put-entry .ensures in
+    let marks = c .before .before .before .before .before .before .put-marks .ensures in
+    let end = c .before .before .put-one .ensures in
+    (λ P tells. state-wrote tells (c .before .before .before .before .before .before .before .before .before .before .before .before .before .before .before .before .before .before .before .kind-letter .ensures) (number .0) (kind .0) (verdict .0) (command .0) (marks .0) end, omega arith)
+
+pub put-state-line-spec : {M : Type 1} → statement M
+put-state-line-spec =
+    tie.close
+    (tie.spec
+    put-decimal-requires
+    kind-letter-requires
+    put-letter-requires
+    put-verdict-requires
+    put-entry-requires
+    put-marks-requires
+    put-one-requires
+    same-length
+    returns)

@@ -1,0 +1,33 @@
+use Rattle.laws.proofs.Loops.{stopped, passed}
+use Rattle.load.proofs.Planning.{loading-short, loading-many, loading-long, loading-whole, size-answered, size-refused}
+use borrow.Author.Needs.{needs}
+use Rattle.load.proofs.decoding.plan_size.Statement.{statement}
+use Rattle.load.proofs.decoding.plan_size.Tie as tie
+
+returns : tie.Need-returns
+returns c = size-refused _ _ _ _ (loading-short _ _ _ _ (c .if1 .taken))
+
+size-in-requires : tie.Need-size-in-requires
+size-in-requires c κs = search needs
+
+few-requires : tie.Need-few-requires
+few-requires c κs = search needs
+
+returns-2 : tie.Need-returns-2
+returns-2 c = size-refused _ _ _ _ (loading-many _ _ _ _ (c .before .before .before .if1 .left) _ (c .before .before .size-in .ensures) (stopped (c .before .few .ensures) (c .if2 .taken)))
+
+long-requires : tie.Need-long-requires
+long-requires c κs = search needs
+
+returns-3 : tie.Need-returns-3
+returns-3 c = size-refused _ _ _ _ (loading-long _ _ _ _ (c .before .before .before .before .before .if1 .left) _ (c .before .before .before .before .size-in .ensures) (stopped (c .before .long .ensures) (c .if3 .taken)))
+
+returns-4 : tie.Need-returns-4
+returns-4 c =
+    size-answered _ _ _ _ (c .before .before .before .before .before .if1 .left) _ (c .before .before .before .before .size-in .ensures)
+    (loading-whole _ _ _ _ (c .before .before .before .before .before .if1 .left) _ (c .before .before .before .before .size-in .ensures) (passed (c .before .before .before .few .ensures) (c .before .before .if2 .left)) (passed (c .before .long .ensures) (c .if3 .left)))
+
+pub plan-size-spec : {M : Type 1} → statement M
+plan-size-spec =
+    tie.close
+    (tie.spec returns size-in-requires few-requires returns-2 long-requires returns-3 returns-4)

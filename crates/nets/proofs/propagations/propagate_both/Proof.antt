@@ -1,0 +1,105 @@
+-- The ranges of both propagations are among the states' own commands, so one index serves both.
+use Rattle.laws.proofs.Fills.{filled-over}
+use native.Mathlib.Omega.{arith}
+use Rattle.tables.specs.Spans.{commandsOf}
+use Rattle.nets.proofs.OwnIndex.{ranges-fit, owners-fit}
+use borrow.Author.Needs.{needs}
+use Rattle.nets.proofs.propagations.propagate_both.Statement.{statement}
+use Rattle.nets.proofs.propagations.propagate_both.Tie as tie
+
+slice-aggregate-index-all : tie.Need-slice-aggregate-index-all
+slice-aggregate-index-all c = search needs
+
+slice-aggregate-index-all-2 : tie.Need-slice-aggregate-index-all-2
+slice-aggregate-index-all-2 c = search needs
+
+slice-aggregate-index-all-3 : tie.Need-slice-aggregate-index-all-3
+slice-aggregate-index-all-3 c = search needs
+
+index-all-requires : tie.Need-index-all-requires
+index-all-requires c κs =
+    let p = c .before .before .before .before .before .before .before .before .before .before .before .before .before .pre in
+    let f = p .0 in
+    (f, (p .1 .0, (p .1 .1 .0 .long-froms, (f .few-commands, (f .few, f .states .few)))))
+
+slice-aggregate-propagate-in : tie.Need-slice-aggregate-propagate-in
+slice-aggregate-propagate-in c = search needs
+
+slice-aggregate-propagate-in-2 : tie.Need-slice-aggregate-propagate-in-2
+slice-aggregate-propagate-in-2 c = search needs
+
+slice-aggregate-propagate-in-3 : tie.Need-slice-aggregate-propagate-in-3
+slice-aggregate-propagate-in-3 c = search needs
+
+propagate-in-requires : tie.Need-propagate-in-requires
+propagate-in-requires c κs =
+    let a = c .before .before .before .before .before .before .before .before .before .before .before .before .before .before .before .before .before .before .before .before .before .before .before .args in
+    let C = commandsOf (a .size) (a .firsts .now) (a .outcomes .now) in
+    let p = c .before .before .before .before .before .before .before .before .before .before .before .before .before .before .before .before .before .before .before .before .before .before .before .pre in
+    let o = p .1 .1 .0 in
+    let l = p .1 .1 .1 .1 .0 in
+    let i = c .before .before .before .before .before .before .before .before .before .index-all .ensures in
+    (p .0, (ranges-fit C o (p .1 .0), (i .0, (owners-fit C o (i .1), (l .0, (o .long-froms, (l .2, p .1 .1 .1 .1 .1 .0)))))))
+
+slice-aggregate-propagate-in-4 : tie.Need-slice-aggregate-propagate-in-4
+slice-aggregate-propagate-in-4 c = search needs
+
+slice-aggregate-propagate-in-5 : tie.Need-slice-aggregate-propagate-in-5
+slice-aggregate-propagate-in-5 c = search needs
+
+slice-aggregate-propagate-in-6 : tie.Need-slice-aggregate-propagate-in-6
+slice-aggregate-propagate-in-6 c = search needs
+
+propagate-in-requires-2 : tie.Need-propagate-in-requires-2
+propagate-in-requires-2 c κs =
+    let a = c .before .before .before .before .before .before .before .before .before .before .before .before .before .before .before .before .before .before .before .before .before .before .before .before .before .before .before .before .before .before .before .before .before .before .before .before .args in
+    let C = commandsOf (a .size) (a .firsts .now) (a .outcomes .now) in
+    let p = c .before .before .before .before .before .before .before .before .before .before .before .before .before .before .before .before .before .before .before .before .before .before .before .before .before .before .before .before .before .before .before .before .before .before .before .before .pre in
+    let o = p .1 .1 .1 .0 in
+    let l = p .1 .1 .1 .1 .0 in
+    let i = c .before .before .before .before .before .before .before .before .before .before .before .before .before .before .before .before .before .before .before .before .before .before .index-all .ensures in
+    (p .0, (ranges-fit C o (p .1 .0), (i .0, (owners-fit C o (i .1), (l .1, (o .long-froms, (omega (arith, c .before .before .before .before .before .before .before .before .before .before .before .before .propagate-in .ensures .1 .same, l), p .1 .1 .1 .1 .1 .1)))))))
+
+same-length : tie.Need-same-length
+same-length c = search needs
+
+same-length-2 : tie.Need-same-length-2
+same-length-2 c = search needs
+
+same-length-3 : tie.Need-same-length-3
+same-length-3 c = search needs
+
+same-length-4 : tie.Need-same-length-4
+same-length-4 c = search needs
+
+same-length-5 : tie.Need-same-length-5
+same-length-5 c = search needs
+
+returns : tie.Need-returns
+returns c =
+    let x = c .before .before .before .before .before .before .before .before .before .before .before .before .before .before .before .before .before .before .before .propagate-in .ensures in
+    let y = c .before .before .before .before .before .before .propagate-in2 .ensures in
+    (x .0, (y .0, filled-over (x .1) (y .1)))
+
+pub propagate-both-spec : {M : Type 1} → statement M
+propagate-both-spec =
+    tie.close
+    (tie.spec
+    slice-aggregate-index-all
+    slice-aggregate-index-all-2
+    slice-aggregate-index-all-3
+    index-all-requires
+    slice-aggregate-propagate-in
+    slice-aggregate-propagate-in-2
+    slice-aggregate-propagate-in-3
+    propagate-in-requires
+    slice-aggregate-propagate-in-4
+    slice-aggregate-propagate-in-5
+    slice-aggregate-propagate-in-6
+    propagate-in-requires-2
+    same-length
+    same-length-2
+    same-length-3
+    same-length-4
+    same-length-5
+    returns)
