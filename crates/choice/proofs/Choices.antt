@@ -41,7 +41,8 @@ module _ (T : Tables) (K : ℕ → Bool) (s : ℕ) (l : s < T .size .n) where
 
   -- a state that is not active has no commands to try
   idle-words : planIn T .commands s ≡ 0
-      → none ≡ cond (hasPractice (planIn T) s && not (hits (planIn T) K s (planIn T .practice s))) (some (planIn T .practice s)) (lowest (λ c. not (hits (planIn T) K s c)) (planIn T .commands s))
+      → none ≡ cond (hasPractice (planIn T) s && not (hits (planIn T) K s (planIn T .practice s))) (some (planIn T .practice s))
+      (lowest (λ c. not (hits (planIn T) K s c)) (planIn T .commands s))
   unfolding hasPractice lowest
   idle-words e = rw (e, le-ltb (planIn T .practice s) 0 (omega arith))
 
@@ -54,13 +55,16 @@ module _ (T : Tables) (K : ℕ → Bool) (s : ℕ) (l : s < T .size .n) where
         go (no h) = omega arith
 
     any-words : choice (planIn T) K s
-        ≡ cond (hasPractice (planIn T) s && not (hits (planIn T) K s (planIn T .practice s))) (some (planIn T .practice s)) (lowest (λ c. not (hits (planIn T) K s c)) (planIn T .commands s))
+        ≡ cond (hasPractice (planIn T) s && not (hits (planIn T) K s (planIn T .practice s))) (some (planIn T .practice s))
+        (lowest (λ c. not (hits (planIn T) K s c)) (planIn T .commands s))
     any-words =
-        ⊎-elim (choice-words (planIn T) K s) (λ e. choice-idle (planIn T) K s e ∙ idle-words (no-commands e)) (true-or-false (active (planIn T) s))
+        ⊎-elim (choice-words (planIn T) K s) (λ e. choice-idle (planIn T) K s e ∙ idle-words (no-commands e))
+        (true-or-false (active (planIn T) s))
 
     -- the practice if it is clear, else the lowest command that is
     choice-clear : choice (planIn T) K s
-        ≡ cond (ltb (rowAt T s .practice) (commandCount T s) && clear (listsIn T) K (firstCommand T s) (rowAt T s .practice)) (some (rowAt T s .practice)) (lowest (clear (listsIn T) K (firstCommand T s)) (commandCount T s))
+        ≡ cond (ltb (rowAt T s .practice) (commandCount T s) && clear (listsIn T) K (firstCommand T s) (rowAt T s .practice))
+        (some (rowAt T s .practice)) (lowest (clear (listsIn T) K (firstCommand T s)) (commandCount T s))
     unfolding hasPractice
     choice-clear =
         any-words ∙ rw (practice-held T s l, commands-held T s l)
@@ -80,7 +84,8 @@ module _ (T : Tables) (K : ℕ → Bool) (s : ℕ) (l : s < T .size .n) where
 
 -- what was read of the state s, and the count of its commands
 module _ (T : Tables) (K : ℕ → Bool) (q : Span) (count s : ℕ) (c : count ≡ q .end - q .first) (t : Bool)
-    (practice : t ≡ (ltb (q .practice) count && clear (listsIn T) K (q .first) (q .practice))) (sounds : sound T ≡ true) (l : s < T .size .n) (e : q ≡ spanAt T s) where
+    (practice : t ≡ (ltb (q .practice) count && clear (listsIn T) K (q .first) (q .practice))) (sounds : sound T ≡ true)
+    (l : s < T .size .n) (e : q ≡ spanAt T s) where
   chosen-is : choice (planIn T) K s ≡ cond t (some (q .practice)) (lowest (clear (listsIn T) K (q .first)) count)
   unfolding commandCount
   chosen-is = choice-clear T K s l sounds ∙ rw (practice, c, e, add-one s)

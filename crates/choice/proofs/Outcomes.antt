@@ -40,7 +40,8 @@ module _ (L : Lists) (i from end : ℕ) (p : from ≡ startIn L i) (q : end ≡ 
       let next : end ≡ startIn L (suc i) = q ∙ start-next (L .firsts) (L .count) (L .end) i in
       (omega arith, omega (arith, states .long), λ j k. omega (arith, states .inside j (omega arith)))
 
-pub outcomes-inside : {n : ℕ} {L : Lists} → Ready n L → (i from end places : ℕ) → i < L .count → from ≡ startIn L i → end ≡ startIn L (i + 1)
+pub outcomes-inside : {n : ℕ} {L : Lists} → Ready n L → (i from end places : ℕ) → i < L .count → from ≡ startIn L i → end
+    ≡ startIn L (i + 1)
     → n ≤ places → (from ≤ end) × (end ≤ length (L .entries)) × ((j : ℕ) → j < end → getD (L .entries) j 0 < places)
 outcomes-inside {L = L} ready i from end places l p q h =
     entries-inside L i from end p q l (ready .parts) (states-below h (ready .states))

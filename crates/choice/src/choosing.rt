@@ -50,8 +50,10 @@ fn list_hit(
     limit: usize,
     i: usize,
 ) -> bool
-    requires { ⌜ (i < count) × (count ≤ length (now firsts)) × Parts (now firsts) count end × States (length (now table)) end (now entries) ⌝ }
-    ensures { λ r. ⌜ r ≡ commandHits (listTable count end (now (firsts .entry)) (now (entries .entry))) (within (now (table .entry)) limit) i ⌝ }
+    requires { ⌜ (i < count) × (count ≤ length (now firsts)) × Parts (now firsts) count end
+        × States (length (now table)) end (now entries) ⌝ }
+    ensures { λ r. ⌜ r ≡ commandHits (listTable count end (now (firsts .entry)) (now (entries .entry))) (within (now (table .entry)) limit)
+        i ⌝ }
 {
     let from = start_of(firsts, count, end, i);
     let to = start_of(firsts, count, end, i + 1);
@@ -87,7 +89,8 @@ fn practice_clear(
 ) -> bool
     requires { ⌜ Ready (size .n) (commandsOf size (now firsts) (now outcomes)) ⌝ }
     requires { ⌜ (first + count ≤ size .m) × (size .n ≤ length (now table)) ⌝ }
-    ensures { λ r. ⌜ r ≡ (ltb practice count && clear (commandsOf size (now (firsts .entry)) (now (outcomes .entry))) (within (now (table .entry)) limit) first practice) ⌝ }
+    ensures { λ r. ⌜ r ≡ (ltb practice count
+        && clear (commandsOf size (now (firsts .entry)) (now (outcomes .entry))) (within (now (table .entry)) limit) first practice) ⌝ }
 {
     if count <= practice {
         return false;
@@ -107,7 +110,8 @@ pub fn first_clear(
 ) -> usize
     requires { ⌜ Ready (size .n) (commandsOf size (now firsts) (now outcomes)) ⌝ }
     requires { ⌜ (from ≤ to) × (to ≤ size .m) × (size .n ≤ length (now table)) ⌝ }
-    ensures { λ r. ⌜ FirstNot (commandHits (commandsOf size (now (firsts .entry)) (now (outcomes .entry))) (within (now (table .entry)) limit)) from to r ⌝ }
+    ensures { λ r. ⌜ FirstNot
+        (commandHits (commandsOf size (now (firsts .entry)) (now (outcomes .entry))) (within (now (table .entry)) limit)) from to r ⌝ }
 {
     let mut c = from;
     while c < to {
@@ -131,7 +135,9 @@ pub fn choose(
 ) -> usize
     requires { ⌜ Ready (size .n) (commandsOf size (now firsts) (now outcomes)) ⌝ }
     requires { ⌜ (span .first ≤ span .end) × (span .end ≤ size .m) × (size .n ≤ length (now table)) ⌝ }
-    ensures { λ r. ⌜ ((R : List Row) (s : ℕ) → sound (held size R (now (firsts .entry)) (now (outcomes .entry))) ≡ true → s < size .n → span ≡ spanAt (held size R (now (firsts .entry)) (now (outcomes .entry))) s → r ≡ entry (choice (planIn (held size R (now (firsts .entry)) (now (outcomes .entry)))) (within (now (table .entry)) limit) s)) ⌝ }
+    ensures { λ r. ⌜ ((R : List Row) (s : ℕ) → sound (held size R (now (firsts .entry)) (now (outcomes .entry))) ≡ true → s < size .n → span
+        ≡ spanAt (held size R (now (firsts .entry)) (now (outcomes .entry))) s → r
+        ≡ entry (choice (planIn (held size R (now (firsts .entry)) (now (outcomes .entry)))) (within (now (table .entry)) limit) s)) ⌝ }
 {
     let count = span.end - span.first;
     if practice_clear(

@@ -54,13 +54,15 @@ module _ (T : Tables) (rs cs ms ss : List ℕ) where
       × (((d .answer ≡ Given → ⊥) → (d .safe ≡ noCounts) × (d .lost ≡ noCounts)) × (d .answer ≡ Given → DecidingDemand3 T r c))
 
   -- demand 3 follows from the equation
-  demanded : (d : Decision) {r c m s : List ℕ} → afterDecide d r c m s ≡ decideCall T rs cs ms ss → d .answer ≡ Given → DecidingDemand3 T r c
+  demanded : (d : Decision) {r c m s : List ℕ} → afterDecide d r c m s ≡ decideCall T rs cs ms ss → d .answer ≡ Given
+      → DecidingDemand3 T r c
   demanded d e g =
       subst (λ (x : AfterDecide). DecidingDemand3 T (x .ranks) (x .commands)) (sym e)
       (decide-demand3 T rs cs ms ss (d .safe ∷ d .lost ∷ []) (sym (ap (λ (x : AfterDecide). x .answers) e) ∙ rw g))
 
   -- a refusal leaves every table as it was
-  refused-with : (w : Refusal) → deciding T (length rs) (length cs) (length ms) (length ss) ≡ refused (refusalOf w) → (d : Decision) → d ≡ refusedWith w → Clauses d rs cs ms ss
+  refused-with : (w : Refusal) → deciding T (length rs) (length cs) (length ms) (length ss) ≡ refused (refusalOf w) → (d : Decision) → d
+      ≡ refusedWith w → Clauses d rs cs ms ss
   unfolding left answer
   refused-with w e d p =
       let is : afterDecide d rs cs ms ss ≡ decideCall T rs cs ms ss = rw (e, p) in
@@ -76,15 +78,18 @@ module _ (T : Tables) (rs cs ms ss : List ℕ) where
       answered = answers ∙ rw q
 
       -- what deciding it asks for
-      pub admits : (sound T ≡ true) × ((T .size .n ≤ length rs) × ((T .size .n ≤ length cs) × ((T .size .n ≤ length ms) × (T .size .n ≤ length ss))))
+      pub admits : (sound T ≡ true)
+          × ((T .size .n ≤ length rs) × ((T .size .n ≤ length cs) × ((T .size .n ≤ length ms) × (T .size .n ≤ length ss))))
       admits =
           let w = deciding-iff T (length rs) (length cs) (length ms) (length ss) (planIn T) .0 answered in
           (w .sounds, (w .long-ranks, (w .long-commands, (w .long-marks, w .long-scratch))))
 
-      pub decides : {v : List (List ℕ)} {r c m s : List ℕ} → PlanDecided T rs cs ms ss v r c m s → (d : Decision) → d ≡ decided v → Clauses d r c m s
+      pub decides : {v : List (List ℕ)} {r c m s : List ℕ} → PlanDecided T rs cs ms ss v r c m s → (d : Decision) → d ≡ decided v
+          → Clauses d r c m s
       unfolding left answer tally
       decides {v} {r} {c} {m} {s} w d p =
-          let is : afterDecide d r c m s ≡ decideCall T rs cs ms ss = rw (answered, p, w .tallied, w .ranked, w .chose, w .marked, w .clean) in
+          let is : afterDecide d r c m s
+          ≡ decideCall T rs cs ms ss = rw (answered, p, w .tallied, w .ranked, w .chose, w .marked, w .clean) in
           (is, (λ g. absurd (g (rw p)), demanded d is))
 
 -- ---- the tests in their order

@@ -30,11 +30,13 @@ use Rattle.nets.proofs.Depths.{lost-found}
 use Rattle.decide.proofs.Tallies.{tally-same, tally-is}
 
 -- a table of n places is one of a place for each state
-table-is : (T : Tables) {f : ℕ → ℕ} {l₀ l : List ℕ} → T .size .n ≤ length l₀ → Filled (T .size .n) f l₀ l → l ≡ overwrite (tabulate f 0 (planIn T .states)) l₀
+table-is : (T : Tables) {f : ℕ → ℕ} {l₀ l : List ℕ} → T .size .n ≤ length l₀ → Filled (T .size .n) f l₀ l → l
+    ≡ overwrite (tabulate f 0 (planIn T .states)) l₀
 table-is T {f} {l₀} h w = filled-is h w ∙ ap (λ (k : ℕ). overwrite (tabulate f 0 k) l₀) (sym (states-held T))
 
 -- the plan is decided: its tally, and the tables that hold its verdicts
-pub record PlanDecided (T : Tables) (ranks commands marks scratch : List ℕ) (t : List (List ℕ)) (ranks′ commands′ marks′ scratch′ : List ℕ) : Type 0 where
+pub record PlanDecided (T : Tables) (ranks commands marks scratch : List ℕ) (t : List (List ℕ)) (ranks′ commands′ marks′ scratch′ : List ℕ)
+    : Type 0 where
   pub tallied : t ≡ tally (planIn T)
   pub ranked : ranks′ ≡ overwrite (rankTable (planIn T)) ranks
   pub chose : commands′ ≡ overwrite (commandTable (planIn T)) commands
@@ -42,12 +44,14 @@ pub record PlanDecided (T : Tables) (ranks commands marks scratch : List ℕ) (t
   pub clean : scratch′ ≡ overwrite (cleared (planIn T .states)) scratch
 
 -- the lost states and those from which the practice fails are found
-module _ (T : Tables) (sounds : sound T ≡ true) (L F : ℕ → Bool) (losts : Agree (T .size .n) L (lost (planIn T))) (fails : Agree (T .size .n) F (practiceFails (planIn T))) where
+module _ (T : Tables) (sounds : sound T ≡ true) (L F : ℕ → Bool) (losts : Agree (T .size .n) L (lost (planIn T)))
+    (fails : Agree (T .size .n) F (practiceFails (planIn T))) where
   abbrev P : Plan
   P = planIn T
 
   chosen-found : (s : ℕ) → s < T .size .n → entry (choice P L s) ≡ entry (chosen P s)
-  chosen-found s l = ap entry (choice-agree T sounds L (lost P) losts s l ∙ sym (chosen-choice P (sound-valid T sounds) s (rw (states-held T) l)))
+  chosen-found s l = ap entry
+      (choice-agree T sounds L (lost P) losts s l ∙ sym (chosen-choice P (sound-valid T sounds) s (rw (states-held T) l)))
 
   mark-found : (s : ℕ) → s < T .size .n → markAt P L (F s) s ≡ mark P s
   unfolding markAt oneIf mark fault safe
@@ -71,7 +75,10 @@ module _ (size : Size) (rows : List Row) (firsts outcomes : List ℕ) (sounds : 
       record {
         tallied = j .counted ∙ tally-found T sounds (numbered r₁) (numbered m₁) losts (v .failed);
         ranked = table-is T lr (v .ranked);
-        chose = table-is T lc (filled-as (chosen-found T sounds (numbered r₁) (numbered m₁) losts (v .failed)) (filled-over (v .tos-past) (j .took)));
-        marked = table-is T lm (filled-as (mark-found T sounds (numbered r₁) (numbered m₁) losts (v .failed)) (filled-over (v .fails-past) (j .marked)));
-        clean = table-is T ls (filled-over (v .scratch-past) z) ∙ ap (λ (l : List ℕ). overwrite l ss) (tabulate-constant 0 0 (planIn T .states));
+        chose = table-is T lc (filled-as (chosen-found T sounds (numbered r₁) (numbered m₁) losts (v .failed))
+            (filled-over (v .tos-past) (j .took)));
+        marked = table-is T lm (filled-as (mark-found T sounds (numbered r₁) (numbered m₁) losts (v .failed))
+            (filled-over (v .fails-past) (j .marked)));
+        clean = table-is T ls (filled-over (v .scratch-past) z)
+            ∙ ap (λ (l : List ℕ). overwrite l ss) (tabulate-constant 0 0 (planIn T .states));
       }

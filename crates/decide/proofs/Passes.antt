@@ -25,10 +25,15 @@ module _ {P : Plan} {L : ℕ → Bool} {i : ℕ} {cs₀ ms₀ cs ms : List ℕ} 
     -- the count that grows fits
     pub pass-room : i < maxStates → (r .row < 2) × (r .column < 3) × (getD (getD t (r .row) []) (r .column) 0 < maxStates)
     pass-room h =
-        rw (j .row, j .column, w .counted)
-        (one-small (L i), column-small (hasPractice P i) (numbered ms i), counted-low L (hasPractice P) (numbered ms₀) i h (L i) (hasPractice P i) (numbered ms i))
+        rw (j .row, j .column, w .counted) (
+          one-small (L i),
+          column-small (hasPractice P i) (numbered ms i),
+          counted-low L (hasPractice P) (numbered ms₀) i h (L i)
+              (hasPractice P i) (numbered ms i),
+        )
 
-    pub pass-next : i < length cs₀ → i < length ms₀ → (t′ : List (List ℕ)) → t′ ≡ added t (r .row) (r .column) → StatesJudged P L (i + 1) cs₀ ms₀ t′ cs′ ms′
+    pub pass-next : i < length cs₀ → i < length ms₀ → (t′ : List (List ℕ)) → t′ ≡ added t (r .row) (r .column)
+        → StatesJudged P L (i + 1) cs₀ ms₀ t′ cs′ ms′
     pass-next lc lm t′ e = record {
       took = filled-next (w .took) lc _ refl cs′ (j .took);
       marked = filled-next (w .marked) lm _ (ap (λ (b : Bool). markAt P L b i) mark-read) ms′ (j .marked);

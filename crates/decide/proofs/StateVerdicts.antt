@@ -39,7 +39,8 @@ module _ {size : Size} {firsts outcomes : List ℕ} {s : ℕ} {q : Span} (w : Se
   pub seen-fits : (K : ℕ → Bool) (c : ℕ)
       → ((R : List Row) (x : ℕ) → sound (held size R firsts outcomes) ≡ true → x < size .n → q ≡ spanAt (held size R firsts outcomes) x
       → c ≡ entry (choice (planIn (held size R firsts outcomes)) K x)) → c < 65536
-  seen-fits K c h = entry-fits (held size (w .rows) firsts outcomes) (w .sounds) s (w .inside) K c (h (w .rows) s (w .sounds) (w .inside) (w .is))
+  seen-fits K c h = entry-fits (held size (w .rows) firsts outcomes) (w .sounds) s (w .inside) K c
+      (h (w .rows) s (w .sounds) (w .inside) (w .is))
 
 -- ---- whether a state is a fault
 
@@ -47,7 +48,8 @@ pub lost-fault : (lost : Bool) → lost ≡ true → (b : Bool) → false ≡ (n
 lost-fault lost h b = rw h
 
 module _ (q : Span) (lost : Bool) where
-  module _ (h : lost ≡ false) (t : Bool) (e : t ≡ practised q) (T : Tables) (K : ℕ → Bool) (s : ℕ) (l : s < T .size .n) (is : q ≡ spanAt T s) where
+  module _ (h : lost ≡ false) (t : Bool) (e : t ≡ practised q) (T : Tables) (K : ℕ → Bool) (s : ℕ) (l : s < T .size .n)
+      (is : q ≡ spanAt T s) where
     given-is : t ≡ hasPractice (planIn T) s
     given-is = e ∙ ap practised is ∙ practised-is T s l
 
@@ -55,7 +57,8 @@ module _ (q : Span) (lost : Bool) where
     unfolding practiceHits
     idle-fault z = rw (h, ← given-is, not-true t z)
 
-    pub hit-fault : not t ≡ false → (r : Bool) → r ≡ any K (outcomesAt T (q .first + q .practice)) → r ≡ (not lost && practiceHits (planIn T) K s)
+    pub hit-fault : not t ≡ false → (r : Bool) → r ≡ any K (outcomesAt T (q .first + q .practice)) → r
+        ≡ (not lost && practiceHits (planIn T) K s)
     unfolding practiceHits
     hit-fault z r p =
         rw (h, ← given-is, not-false t z, practice-held T s l)

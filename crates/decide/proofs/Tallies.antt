@@ -64,7 +64,8 @@ module _ (L g f : ℕ → Bool) where
       low : (k : ℕ → Bool) → howMany k s < maxStates
       low k = omega (arith, many-bound k s)
 
-      go : (a b c : Bool) → getD (getD (tallyRow (λ i. not (L i)) g f s ∷ tallyRow L g f s ∷ []) (cond a 1 0) []) (cond b (cond c 1 0) 2) 0 < maxStates
+      go : (a b c : Bool) → getD (getD (tallyRow (λ i. not (L i)) g f s ∷ tallyRow L g f s ∷ []) (cond a 1 0) []) (cond b (cond c 1 0) 2) 0
+          < maxStates
       go true true true = low _
       go true true false = low _
       go true false c = low _

@@ -33,14 +33,16 @@ abbrev pub added : List (List ℕ) → ℕ → ℕ → List (List ℕ)
 added t r c = set t r (set (getD t r []) c (getD (getD t r []) c 0 + 1))
 
 -- the state s is judged
-pub record StateJudged (P : Plan) (L : ℕ → Bool) (fails : Bool) (s : ℕ) (commands marks : List ℕ) (r : Place) (commands′ marks′ : List ℕ) : Type 0 where
+pub record StateJudged (P : Plan) (L : ℕ → Bool) (fails : Bool) (s : ℕ) (commands marks : List ℕ) (r : Place) (commands′ marks′ : List ℕ) :
+    Type 0 where
   pub took : commands′ ≡ set commands s (entry (choice P L s))
   pub marked : marks′ ≡ set marks s (markAt P L fails s)
   pub row : r .row ≡ oneIf (L s)
   pub column : r .column ≡ columnOf (hasPractice P s) fails
 
 -- the first n states are judged
-pub record StatesJudged (P : Plan) (L : ℕ → Bool) (n : ℕ) (commands marks : List ℕ) (t : List (List ℕ)) (commands′ marks′ : List ℕ) : Type 0 where
-  pub took : Filled n (λ s. entry (choice P L s)) commands commands′
-  pub marked : Filled n (λ s. markAt P L (numbered marks s) s) marks marks′
-  pub counted : t ≡ tallyOf L (hasPractice P) (numbered marks) n
+pub record StatesJudged (P : Plan) (L : ℕ → Bool) (n : ℕ) (commands marks : List ℕ) (t : List (List ℕ)) (commands′ marks′ : List ℕ) : Type 0
+  where
+    pub took : Filled n (λ s. entry (choice P L s)) commands commands′
+    pub marked : Filled n (λ s. markAt P L (numbered marks s) s) marks marks′
+    pub counted : t ≡ tallyOf L (hasPractice P) (numbered marks) n

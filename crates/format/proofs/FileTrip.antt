@@ -39,7 +39,8 @@ module _ (file : List ℕ) (rows : List Row) (firsts outcomes bytes : List ℕ) 
       → (writeAnswer w ≡ given (length file)) × (bytes′ ≡ overwrite file bytes))
 
   says : (w : WriteAnswer) (rows′ : List Row) (firsts′ outcomes′ bytes′ : List ℕ)
-      → afterReadWrite w rows′ firsts′ outcomes′ bytes′ ≡ readWriteCall file (rowsOf rows) firsts outcomes bytes → Says w rows′ firsts′ outcomes′ bytes′
+      → afterReadWrite w rows′ firsts′ outcomes′ bytes′ ≡ readWriteCall file (rowsOf rows) firsts outcomes bytes
+      → Says w rows′ firsts′ outcomes′ bytes′
   says w rows′ firsts′ outcomes′ bytes′ e = (
     e,
     λ z answers long.
@@ -50,10 +51,12 @@ module _ (file : List ℕ) (rows : List Row) (firsts outcomes bytes : List ℕ) 
   -- the equation of the reading's contract
   module _ (r : ReadAnswer) (rows′ : List Row) (firsts′ outcomes′ : List ℕ)
       (e : afterRead r rows′ firsts′ outcomes′ ≡ readCall file (rowsOf rows) firsts outcomes) where
-    pub file-refused : (x : Refusal) → r ≡ Refused x → (w : WriteAnswer) → writeAnswer w ≡ refused (refusalOf x) → Says w rows′ firsts′ outcomes′ bytes
+    pub file-refused : (x : Refusal) → r ≡ Refused x → (w : WriteAnswer) → writeAnswer w ≡ refused (refusalOf x)
+        → Says w rows′ firsts′ outcomes′ bytes
     unfolding thenWrite
     file-refused x q w a =
-        let d : readCall file (rowsOf rows) firsts outcomes .answers ≡ refused (refusalOf x) = ap (λ (y : AfterRead). y .answers) (sym e) ∙ ap readAnswer q in
+        let d : readCall file (rowsOf rows) firsts outcomes .answers ≡ refused (refusalOf x) = ap (λ (y : AfterRead). y .answers) (sym e)
+        ∙ ap readAnswer q in
         let answers : writeAnswer w ≡ readWriteCall file (rowsOf rows) firsts outcomes bytes .answers = rw d a in
         let kept : bytes ≡ readWriteCall file (rowsOf rows) firsts outcomes bytes .bytes = rw d refl in
         says w rows′ firsts′ outcomes′ bytes

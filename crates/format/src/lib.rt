@@ -32,7 +32,8 @@ fn not_written(why: Refusal) -> ReadAnswer
     ReadAnswer::Refused(why)
 }
 
-// Reads a file into lent tables, and writes what was read into lent bytes. The clause `again`: if it is read and as many bytes are lent as it has,
+// Reads a file into lent tables, and writes what was read into lent bytes. The clause `again`: if it is read and as many bytes are lent
+// as it has,
 // these are its bytes. Ruled out: other bytes than the file's, and bytes written though the file is refused.
 pub fn read_write(
     file: &[u8],
@@ -42,8 +43,10 @@ pub fn read_write(
     bytes: &mut [u8],
 ) -> WriteAnswer
     ensures call { λ r. ⌜ afterReadWrite r (now (rows .exit)) (now (firsts .exit)) (now (outcomes .exit)) (now (bytes .exit))
-        ≡ readWriteCall (now (file .entry)) (rowsOf (now (rows .entry))) (now (firsts .entry)) (now (outcomes .entry)) (now (bytes .entry)) ⌝ }
-    ensures again { λ r. ⌜ ((z : ModelSize) → readCall (now (file .entry)) (rowsOf (now (rows .entry))) (now (firsts .entry)) (now (outcomes .entry)) .answers ≡ given z
+        ≡ readWriteCall (now (file .entry)) (rowsOf (now (rows .entry))) (now (firsts .entry)) (now (outcomes .entry)) (now (bytes .entry))
+        ⌝ }
+    ensures again { λ r. ⌜ ((z : ModelSize)
+        → readCall (now (file .entry)) (rowsOf (now (rows .entry))) (now (firsts .entry)) (now (outcomes .entry)) .answers ≡ given z
         → length (now (file .entry)) ≤ length (now (bytes .entry))
         → (writeAnswer r ≡ given (length (now (file .entry)))) × (now (bytes .exit) ≡ overwrite (now (file .entry)) (now (bytes .entry)))) ⌝ }
 {
@@ -54,7 +57,8 @@ pub fn read_write(
     }
 }
 
-// Writes lent tables into lent bytes, and reads what was written into a second set of tables. The clause `again`: if the tables are sound, and
+// Writes lent tables into lent bytes, and reads what was written into a second set of tables. The clause `again`: if the tables are
+// sound, and
 // what is lent is long enough, the second are the same. Ruled out: a sound plan that does not come back, and reading past what was written.
 pub fn write_read(
     size: Size,

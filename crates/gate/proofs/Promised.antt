@@ -9,7 +9,8 @@ use Rattle.model.specs.Boundary.{AfterGateDecide, AfterGateSearch, entriesIn, v
 use Rattle.model.proofs.GateDemands.{gate-decide-demand3, gate-search-demand3}
 
 module _ (lent : Answer Tables) where
-  pub decides : (ranks commands marks scratch tally : List ℕ) {D : AfterGateDecide} → D ≡ gateDecideCall lent ranks commands marks scratch tally
+  pub decides : (ranks commands marks scratch tally : List ℕ) {D : AfterGateDecide} → D
+      ≡ gateDecideCall lent ranks commands marks scratch tally
       → (gateDecideCall lent ranks commands marks scratch tally ≡ D)
       × ((T : Tables) → lent ≡ given T → D .returns ≡ 0 → DecidingDemand3 T (entriesIn (D .ranks)) (entriesIn (D .commands)))
   decides ranks commands marks scratch tally e = (
@@ -19,12 +20,15 @@ module _ (lent : Answer Tables) where
         (gate-decide-demand3 lent T is ranks commands marks scratch tally (ap (λ (X : AfterGateDecide). X .returns) (sym e) ∙ zero)),
   )
 
-  pub searches : (start : ℕ) (commands scratch answer : List ℕ) {S : AfterGateSearch} → S ≡ gateSearchCall lent start commands scratch answer
+  pub searches : (start : ℕ) (commands scratch answer : List ℕ) {S : AfterGateSearch} → S
+      ≡ gateSearchCall lent start commands scratch answer
       → (gateSearchCall lent start commands scratch answer ≡ S)
-      × ((T : Tables) → lent ≡ given T → S .returns ≡ 0 → SearchDemand3 T start (verdictIn (S .answer)) (roundsIn (S .answer)) (entriesIn (S .commands)))
+      × ((T : Tables) → lent ≡ given T → S .returns ≡ 0
+      → SearchDemand3 T start (verdictIn (S .answer)) (roundsIn (S .answer)) (entriesIn (S .commands)))
   searches start commands scratch answer e = (
     sym e,
     λ T is zero.
-        subst (λ (X : AfterGateSearch). SearchDemand3 T start (verdictIn (X .answer)) (roundsIn (X .answer)) (entriesIn (X .commands))) (sym e)
+        subst (λ (X : AfterGateSearch). SearchDemand3 T start (verdictIn (X .answer)) (roundsIn (X .answer)) (entriesIn (X .commands)))
+        (sym e)
         (gate-search-demand3 lent T is start commands scratch answer (ap (λ (X : AfterGateSearch). X .returns) (sym e) ∙ zero)),
   )

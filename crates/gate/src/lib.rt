@@ -16,7 +16,14 @@ pub extern "C" fn gate_read(
 ) -> u32
     ensures call { λ r. ⌜
         gateReadCall (now (file .entry)) (now (size .entry)) (now (rows .entry)) (now (firsts .entry)) (now (outcomes .entry))
-        ≡ record { returns = r; size = now (size .exit); rows = now (rows .exit); firsts = now (firsts .exit); outcomes = now (outcomes .exit) }
+        ≡ record {
+          returns = r;
+          size = now (size .exit);
+          rows = now (rows .exit);
+          firsts = now (firsts .exit);
+          outcomes = now
+              (outcomes .exit);
+        }
         ⌝ }
 {
     gate_reading::call::read_call(file, size, rows, firsts, outcomes)

@@ -85,7 +85,8 @@ module _ (T : Tables) (zeros : List ℕ) where
     abbrev call : Answer Plan
     call = gateDecide (given T) (length R) (length C) (length M) (length X) (length Y)
 
-    call-is : call ≡ (wholeDeciding T >>= λ P. need Cramped (decideRoom n (length R) (length C) (length M) (length X) (length Y)) >> given P)
+    call-is : call ≡ (wholeDeciding T >>= λ P. need Cramped (decideRoom n (length R) (length C) (length M) (length X) (length Y)) >> given
+        P)
     call-is = gate-decide T (length R) (length C) (length M) (length X) (length Y)
 
     returns : code out ≡ code call
@@ -112,5 +113,6 @@ module _ (T : Tables) (zeros : List ℕ) where
       tally = leaves (λ t. bytesFor (joined t)) (λ P. bytesFor (tallyEntries P)) (λ P g. refl) Y i;
     }
 
-    pub decision-delivered : {y : AfterGateDecide} (x : AfterDecide) → x ≡ decided → y ≡ deliveryCall x n R C M X Y → y ≡ gateDecideCall (given T) R C M X Y
+    pub decision-delivered : {y : AfterGateDecide} (x : AfterDecide) → x ≡ decided → y ≡ deliveryCall x n R C M X Y → y
+        ≡ gateDecideCall (given T) R C M X Y
     decision-delivered x is e = e ∙ ap (λ (d : AfterDecide). deliveryCall d n R C M X Y) is ∙ delivers

@@ -29,9 +29,11 @@ module _ (R C M X Y : List ℕ) where
   abbrev call : Answer Tables → Answer Plan
   call lent = gateDecide lent (length R) (length C) (length M) (length X) (length Y)
 
-  pub decide-refused : (lent : Answer Tables) (r : Refusal) {k : ℕ} → call lent ≡ refused r → k ≡ number r → afterGateDecide k R C M X Y ≡ gateDecideCall lent R C M X Y
+  pub decide-refused : (lent : Answer Tables) (r : Refusal) {k : ℕ} → call lent ≡ refused r → k ≡ number r → afterGateDecide k R C M X Y
+      ≡ gateDecideCall lent R C M X Y
   unfolding code left
   decide-refused lent r e f = rw (e, f)
 
-  pub decide-moved : (lent lent′ : Answer Tables) → call lent ≡ call lent′ → {y : AfterGateDecide} → y ≡ gateDecideCall lent R C M X Y → y ≡ gateDecideCall lent′ R C M X Y
+  pub decide-moved : (lent lent′ : Answer Tables) → call lent ≡ call lent′ → {y : AfterGateDecide} → y ≡ gateDecideCall lent R C M X Y → y
+      ≡ gateDecideCall lent′ R C M X Y
   decide-moved lent lent′ e h = h ∙ ap after e

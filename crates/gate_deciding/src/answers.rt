@@ -69,7 +69,8 @@ pub fn deliver(
     ensures call { λ r. ⌜
         (let decided = afterDecide decision (now (ranked .entry)) (now (chosen .entry)) (now (marked .entry)) (now (clean .entry)) in
         afterGateDecide r (now (ranks .exit)) (now (commands .exit)) (now (marks .exit)) (now (scratch .exit)) (now (tally .exit))
-        ≡ deliveryCall decided n (now (ranks .entry)) (now (commands .entry)) (now (marks .entry)) (now (scratch .entry)) (now (tally .entry)))
+        ≡ deliveryCall decided n (now (ranks .entry)) (now (commands .entry)) (now (marks .entry)) (now (scratch .entry))
+        (now (tally .entry)))
         ⌝ }
 {
     let answer = decision.answer;

@@ -25,7 +25,8 @@ pub fn decide_loaded(
     ensures call { λ r. ⌜
         (let T = held size (now (rows .entry)) (now (firsts .entry)) (now (outcomes .entry)) in
         afterGateDecide r (now (ranks .exit)) (now (commands .exit)) (now (marks .exit)) (now (scratch .exit)) (now (tally .exit))
-        ≡ gateDecideCall (given T) (now (ranks .entry)) (now (commands .entry)) (now (marks .entry)) (now (scratch .entry)) (now (tally .entry)))
+        ≡ gateDecideCall (given T) (now (ranks .entry)) (now (commands .entry)) (now (marks .entry)) (now (scratch .entry))
+        (now (tally .entry)))
         ⌝ }
 {
     let mut ranked = [0u16; Size::STATES];

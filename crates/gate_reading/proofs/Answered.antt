@@ -38,7 +38,8 @@ module _ (file : List ℕ) (states : List ModelRow) (commands entries size rows 
     answers : answerOf admission ≡ answer (λ T. T .size) gate
     answers =
         admits
-        ∙ ap (λ (a : Answer ModelSize). admitted a (length size) (length rows) (length firsts) (length outcomes)) (ap (λ (x : AfterRead). x .answers) reads)
+        ∙ ap (λ (a : Answer ModelSize). admitted a (length size) (length rows) (length firsts) (length outcomes))
+        (ap (λ (x : AfterRead). x .answers) reads)
         ∙ sym (gate-read-size file (limits .0) (limits .1) (limits .2) (length size) (length rows) (length firsts) (length outcomes))
 
     pub refuses : {w : Refusal} {r : ℕ} → admission ≡ Refused w → r ≡ number (refusalOf w) → Leaves r size rows firsts outcomes
@@ -50,7 +51,8 @@ module _ (file : List ℕ) (states : List ModelRow) (commands entries size rows 
       tables = answer-inv (λ T. T .size) gate (numbers z) (sym answers ∙ ap answerOf told)
 
       gated : Gated file (limits .0) (limits .1) (limits .2) (length size) (length rows) (length firsts) (length outcomes) (tables .0)
-      gated = gate-read-inv file (limits .0) (limits .1) (limits .2) (length size) (length rows) (length firsts) (length outcomes) (tables .0) (tables .1)
+      gated = gate-read-inv file (limits .0) (limits .1) (limits .2) (length size) (length rows) (length firsts) (length outcomes)
+          (tables .0) (tables .1)
 
       -- the tables' counts are those of the size record
       n-is : tables .0 .size .n ≡ z .n
@@ -82,7 +84,8 @@ module _ (file : List ℕ) (states : List ModelRow) (commands entries size rows 
           (omega (arith, length-map states′ rowOf), omega (arith, gated .long-rows, n-is))
 
       pub lists-ready : ((sizeBytes ≤ length size) × (z .n < 65536) × (z .m < 65536) × (z .t < 65536) × (z .start < 65536))
-          × (((z .m ≤ length commands′) × (z .m * entryBytes ≤ length firsts)) × ((z .t ≤ length entries′) × (z .t * entryBytes ≤ length outcomes)))
+          × (((z .m ≤ length commands′) × (z .m * entryBytes ≤ length firsts))
+          × ((z .t ≤ length entries′) × (z .t * entryBytes ≤ length outcomes)))
       lists-ready =
           let s = gated .small in
           let start : tables .0 .size .start ≡ z .start = ap (λ (y : ModelSize). y .start) (tables .2) in
@@ -97,12 +100,17 @@ module _ (file : List ℕ) (states : List ModelRow) (commands entries size rows 
 
       pub gives : {size′ rows′ firsts′ outcomes′ : List ℕ} → rows′ ≡ overwrite (bytesFor (rowEntries (take (z .n) (rowsOf states′)))) rows
           → (size′ ≡ overwrite (bytesFor (sizeEntries (numbers z))) size)
-          × ((firsts′ ≡ overwrite (bytesFor (take (z .m) commands′)) firsts) × (outcomes′ ≡ overwrite (bytesFor (take (z .t) entries′)) outcomes))
+          × ((firsts′ ≡ overwrite (bytesFor (take (z .m) commands′)) firsts)
+          × (outcomes′ ≡ overwrite (bytesFor (take (z .t) entries′)) outcomes))
           → Leaves 0 size′ rows′ firsts′ outcomes′
       unfolding left code
       gives r l =
           let size-is = l .0 ∙ ap (λ (y : ModelSize). overwrite (bytesFor (sizeEntries y)) size) (sym (tables .2)) in
-          let rows-is = r ∙ ap (λ (y : List ModelRow). overwrite (bytesFor (rowEntries y)) rows) (overwrite-holds (tables .0 .rows) states (in-states .0) (in-states .1)) in
-          let firsts-is = l .1 .0 ∙ ap (λ (y : List ℕ). overwrite (bytesFor y) firsts) (overwrite-holds (tables .0 .firsts) commands (in-commands .0) (in-commands .1)) in
-          let outcomes-is = l .1 .1 ∙ ap (λ (y : List ℕ). overwrite (bytesFor y) outcomes) (overwrite-holds (tables .0 .outcomes) entries (in-entries .0) (in-entries .1)) in
+          let rows-is = r ∙ ap (λ (y : List ModelRow). overwrite (bytesFor (rowEntries y)) rows)
+          (overwrite-holds (tables .0 .rows) states (in-states .0) (in-states .1)) in
+          let firsts-is = l .1 .0 ∙ ap (λ (y : List ℕ). overwrite (bytesFor y) firsts)
+          (overwrite-holds (tables .0 .firsts) commands (in-commands .0) (in-commands .1)) in
+          let outcomes-is = l .1 .1
+          ∙ ap (λ (y : List ℕ). overwrite (bytesFor y) outcomes)
+          (overwrite-holds (tables .0 .outcomes) entries (in-entries .0) (in-entries .1)) in
           rw (tables .1) (λ i. afterGateRead 0 (size-is i) (rows-is i) (firsts-is i) (outcomes-is i))

@@ -10,7 +10,8 @@ use store::encoding::store_rows;
 use tables::Row;
 use tables::Size;
 
-// Reads a file by way of tables of the limits' lengths; the size record, the rows, the first outcomes and the outcomes are answered as entries of two bytes, highest first.
+// Reads a file by way of tables of the limits' lengths; the size record, the rows, the first outcomes and the outcomes are answered as
+// entries of two bytes, highest first.
 pub fn read_call(
     file: &[u8],
     size: &mut [u8],

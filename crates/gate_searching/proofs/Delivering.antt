@@ -46,7 +46,8 @@ module _ {A : Type 0} (x : Answer A) (f g h : A → List ℕ) (C X L : List ℕ)
     answer = given-left e h L l i;
   }
 
-pub found-stored : (v : Bool × ℕ) (l₀ : List ℕ) {l₁ l₂ : List ℕ} → answerBytes ≤ length l₀ → l₁ ≡ putAll l₀ 0 (two (cond (v .0) 1 0) []) → l₂ ≡ putAll l₁ 2 (two (v .1) [])
+pub found-stored : (v : Bool × ℕ) (l₀ : List ℕ) {l₁ l₂ : List ℕ} → answerBytes ≤ length l₀ → l₁ ≡ putAll l₀ 0 (two (cond (v .0) 1 0) [])
+    → l₂ ≡ putAll l₁ 2 (two (v .1) [])
     → l₂ ≡ overwrite (bytesFor (resultEntries v)) l₀
 unfolding twos resultEntries
 found-stored v l₀ h p q =
@@ -71,5 +72,7 @@ module _ (found : SearchAnswer) (n c x a : ℕ) where
     pub found-fits : {takes clean : ℕ} → Deliverable (answerOf found) n takes clean → (n ≤ takes) × (n ≤ clean) × (f .rounds < 65536)
     found-fits h = h (f .lost, f .rounds) (ap answerOf e)
 
-pub room-facts : (n c x a : ℕ) {told : Bool} → told ≡ searchRoom n c x a → not told ≡ false → (n * entryBytes ≤ c) × (n * entryBytes ≤ x) × (answerBytes ≤ a)
-room-facts n c x a says left = let h = simp (and-iff, leb-iff) at (passed says left) in (omega (arith, h .0 .0), omega (arith, h .0 .1), h .1)
+pub room-facts : (n c x a : ℕ) {told : Bool} → told ≡ searchRoom n c x a → not told ≡ false → (n * entryBytes ≤ c) × (n * entryBytes ≤ x)
+    × (answerBytes ≤ a)
+room-facts n c x a says left = let h = simp (and-iff, leb-iff) at (passed says left) in
+    (omega (arith, h .0 .0), omega (arith, h .0 .1), h .1)

@@ -12,7 +12,8 @@ use Rattle.gate_searching.proofs.Delivering.{afterAnswer}
 
 -- what the call returns and leaves, by what it answers
 abbrev searchAfter : Answer (ℕ × Result) → List ℕ → List ℕ → List ℕ → AfterGateSearch
-searchAfter q = afterAnswer q (λ x. bytesFor (resultTable (x .0) (x .1))) (λ x. bytesFor (cleared (x .0))) (λ x. bytesFor (resultEntries (x .1 .lost, x .1 .rounds)))
+searchAfter q = afterAnswer q (λ x. bytesFor (resultTable (x .0) (x .1))) (λ x. bytesFor (cleared (x .0)))
+    (λ x. bytesFor (resultEntries (x .1 .lost, x .1 .rounds)))
 
 pub search-call : (start commands scratch answer : ℕ) → PlanCall (λ lent. gateSearch lent start commands scratch answer)
 search-call start commands scratch answer = record {

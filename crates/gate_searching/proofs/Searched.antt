@@ -63,7 +63,8 @@ module _ (T : Tables) (start : ℕ) (zeros : List ℕ) where
         let (R, f, is) = answer-inv verdict (wholeSearch T start) w (sym answers ∙ e) in
         let q = searching-iff T start maxStates maxStates R .0 f in
         let good = sound-good T (q .sounds) in
-        let fits = rounds-fit (planIn T) (sound-valid T (q .sounds)) (omega (arith, few-states (treeOf T) good)) (λ x l. omega (arith, few-commands (treeOf T) good x l)) start (rw (states-held T) (q .inside)) in
+        let fits = rounds-fit (planIn T) (sound-valid T (q .sounds)) (omega (arith, few-states (treeOf T) good))
+        (λ x l. omega (arith, few-commands (treeOf T) good x l)) start (rw (states-held T) (q .inside)) in
         let rounds : search (planIn T) start .rounds ≡ w .1 = ap (λ (R : Result). R .rounds) (q .is) ∙ ap (λ (u : Bool × ℕ). u .1) is in (
           long-front _ _ _ (commands-taken R f) (length-tabulate _ 0 (T .size .n)),
           long-front _ _ _ (scratch-taken R f) (length-replicate (T .size .n) 0),
@@ -84,7 +85,8 @@ module _ (T : Tables) (start : ℕ) (zeros : List ℕ) where
           code-from (wholeSearch T start) verdict (answerOf found) answers (λ R. (T .size .n, R)) _
           ∙ sym (ap code (gate-search T start (length C) (length X) (length A)))
 
-      leaves : (f : Bool × ℕ → List ℕ) (g : ℕ × Result → List ℕ) → ((R : Result) → wholeSearch T start ≡ given R → f (verdict R) ≡ g (T .size .n, R)) → (l : List ℕ)
+      leaves : (f : Bool × ℕ → List ℕ) (g : ℕ × Result → List ℕ)
+          → ((R : Result) → wholeSearch T start ≡ given R → f (verdict R) ≡ g (T .size .n, R)) → (l : List ℕ)
           → left f out l ≡ left g call l
       unfolding delivery
       leaves f g same l =
@@ -94,7 +96,9 @@ module _ (T : Tables) (start : ℕ) (zeros : List ℕ) where
       pub search-delivered : delivered (answerOf found) (T .size .n) takes clean C X A ≡ gateSearchCall (given T) start C X A
       search-delivered = λ i. record {
         returns = returns i;
-        commands = leaves (λ _. bytesFor (take (T .size .n) takes)) (λ y. bytesFor (resultTable (y .0) (y .1))) (λ R f. ap bytesFor (commands-taken R f)) C i;
-        scratch = leaves (λ _. bytesFor (take (T .size .n) clean)) (λ y. bytesFor (cleared (y .0))) (λ R f. ap bytesFor (scratch-taken R f)) X i;
+        commands = leaves (λ _. bytesFor (take (T .size .n) takes)) (λ y. bytesFor (resultTable (y .0) (y .1)))
+            (λ R f. ap bytesFor (commands-taken R f)) C i;
+        scratch = leaves (λ _. bytesFor (take (T .size .n) clean)) (λ y. bytesFor (cleared (y .0))) (λ R f. ap bytesFor (scratch-taken R f))
+            X i;
         answer = leaves (λ w. bytesFor (resultEntries w)) (λ y. bytesFor (resultEntries (y .1 .lost, y .1 .rounds))) (λ R f. refl) A i;
       }

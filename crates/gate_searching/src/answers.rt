@@ -64,7 +64,8 @@ pub fn deliver(
     requires fits { ⌜ Deliverable (answerOf found) n (length (now takes)) (length (now clean)) ⌝ }
     ensures call { λ r. ⌜
         afterGateSearch r (now (commands .exit)) (now (scratch .exit)) (now (answer .exit))
-        ≡ delivered (answerOf found) n (now (takes .entry)) (now (clean .entry)) (now (commands .entry)) (now (scratch .entry)) (now (answer .entry)) ⌝ }
+        ≡ delivered (answerOf found) n (now (takes .entry)) (now (clean .entry)) (now (commands .entry)) (now (scratch .entry))
+        (now (answer .entry)) ⌝ }
 {
     match found {
         SearchAnswer::Refused(refusal) => number(refusal),

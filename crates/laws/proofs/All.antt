@@ -32,4 +32,5 @@ module _ {A : Type 0} {P : A → Type 0} where
   all-tabulate f a (suc k) h =
       let first : a + 0 ≡ a = omega arith in
       more (subst (λ (j : ℕ). P (f j)) first (h 0 (omega arith)))
-      (all-tabulate f (suc a) k (λ i l. let next : a + suc i ≡ suc a + i = omega arith in subst (λ (j : ℕ). P (f j)) next (h (suc i) (omega arith))))
+      (all-tabulate f (suc a) k
+      (λ i l. let next : a + suc i ≡ suc a + i = omega arith in subst (λ (j : ℕ). P (f j)) next (h (suc i) (omega arith))))

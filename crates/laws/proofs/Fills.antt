@@ -21,7 +21,8 @@ pub filled-next : {i : ℕ} {f : ℕ → ℕ} {l₀ l : List ℕ} → Filled i f
     → Filled (i + 1) f l₀ l′
 filled-next {i} {f} {l₀} {l} w h v p l′ q = rw (q, p, add-one i) (record {
   same = length-set l i (f i) ∙ w .same;
-  low = below-suc (λ x. getD (set l i (f i)) x 0 ≡ f x) i (λ x k. getD-set-other l i x (f i) 0 (λ e. omega arith) ∙ w .low x k) (getD-set-same l i (f i) 0 (omega (arith, w .same)));
+  low = below-suc (λ x. getD (set l i (f i)) x 0 ≡ f x) i (λ x k. getD-set-other l i x (f i) 0 (λ e. omega arith) ∙ w .low x k)
+      (getD-set-same l i (f i) 0 (omega (arith, w .same)));
   high = λ x k. getD-set-other l i x (f i) 0 (λ e. omega arith) ∙ w .high x (omega arith);
 })
 
@@ -30,7 +31,8 @@ pub filled-as : {n : ℕ} {f g : ℕ → ℕ} {l₀ l : List ℕ} → ((x : ℕ)
 filled-as h w = record { same = w .same; low = λ x k. w .low x k ∙ h x k; high = w .high }
 
 -- the places are written over a list that differs from l₀ in them only
-pub filled-from : {n : ℕ} {f : ℕ → ℕ} {l₀ l l′ : List ℕ} → length l ≡ length l₀ → ((x : ℕ) → n ≤ x → getD l x 0 ≡ getD l₀ x 0) → Filled n f l l′
+pub filled-from : {n : ℕ} {f : ℕ → ℕ} {l₀ l l′ : List ℕ} → length l ≡ length l₀ → ((x : ℕ) → n ≤ x → getD l x 0 ≡ getD l₀ x 0)
+    → Filled n f l l′
     → Filled n f l₀ l′
 filled-from e h w = record { same = w .same ∙ e; low = w .low; high = λ x k. w .high x k ∙ h x k }
 
@@ -41,7 +43,8 @@ filled-over v w = filled-from (v .same) (v .high) w
 pub filled-is : {n : ℕ} {f : ℕ → ℕ} {l₀ l : List ℕ} → n ≤ length l₀ → Filled n f l₀ l → l ≡ overwrite (tabulate f 0 n) l₀
 filled-is {n} {f} {l₀} {l} h w =
     let e = length-tabulate f 0 n in
-    ext-getD 0 l (overwrite (tabulate f 0 n) l₀) (w .same ∙ sym (length-overwrite (tabulate f 0 n) l₀ (omega arith))) (λ i k. go i (decLt i n))
+    ext-getD 0 l (overwrite (tabulate f 0 n) l₀) (w .same ∙ sym (length-overwrite (tabulate f 0 n) l₀ (omega arith)))
+    (λ i k. go i (decLt i n))
   where
     go : (i : ℕ) → Dec (i < n) → getD l i 0 ≡ getD (overwrite (tabulate f 0 n) l₀) i 0
     go i (yes p) =
@@ -60,7 +63,8 @@ tabulate-constant v a (suc n) = ap (λ (r : List ℕ). v ∷ r) (tabulate-consta
 
 -- a table that is known by an equation
 pub filled-of : {n : ℕ} {f : ℕ → ℕ} {l₀ l : List ℕ} → n ≤ length l₀ → l ≡ overwrite (tabulate f 0 n) l₀ → Filled n f l₀ l
-filled-of {n} {f} {l₀} h e = rw e (record { same = overwrite-length f n l₀ h; low = overwrite-low f n l₀ h; high = overwrite-high f n l₀ h })
+filled-of {n} {f} {l₀} h e = rw e
+    (record { same = overwrite-length f n l₀ h; low = overwrite-low f n l₀ h; high = overwrite-high f n l₀ h })
 
 -- xs in the first places
 pub filled-front : (n : ℕ) (xs l : List ℕ) → length xs ≡ n → n ≤ length l → Filled n (λ i. getD (xs ++ drop n l) i 0) l (xs ++ drop n l)

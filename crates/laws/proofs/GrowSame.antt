@@ -11,7 +11,8 @@ use Rattle.laws.proofs.Sets.{found-is, found-none, lowest-some, lowest-
 use Rattle.laws.proofs.Grow.{grow-upto}
 use Rattle.laws.proofs.Agree.{Agree}
 
-pub grow-same : (n : ℕ) (F G : (ℕ → Bool) → ℕ → Bool) → ((A B : ℕ → Bool) → Agree n A B → Agree n (F A) (G B)) → (K L : ℕ → Bool) → Agree n K L
+pub grow-same : (n : ℕ) (F G : (ℕ → Bool) → ℕ → Bool) → ((A B : ℕ → Bool) → Agree n A B → Agree n (F A) (G B)) → (K L : ℕ → Bool)
+    → Agree n K L
     → (k : ℕ) → Agree n (grow F K k) (grow G L k)
 unfolding grow
 grow-same n F G step K L h zero = h
@@ -33,4 +34,5 @@ grow-found F K n s = same-test (found o) (grow F K n s) there back
         grow-upto F K i n s (omega (arith, f .0)) (f .1)
 
     back : grow F K n s ≡ true → found o ≡ true
-    back e = ⊎-elim (λ t. t) (λ t. clash e (lowest-none (λ k. grow F K k s) (suc n) (found-none o t) n (omega arith))) (true-or-false (found o))
+    back e = ⊎-elim (λ t. t) (λ t. clash e (lowest-none (λ k. grow F K k s) (suc n) (found-none o t) n (omega arith)))
+        (true-or-false (found o))

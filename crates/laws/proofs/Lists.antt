@@ -6,7 +6,20 @@ use Prim.Native.Nat.{ℕ, zero, suc, _+_, _-_, _<_, _≤_}
 use native.Mathlib.Nat.{add-zero, add-suc, zero-add, suc-add, not-suc-le-zero, le-of-suc-le-suc, add-sub-of-le}
 use native.Mathlib.Omega.{arith}
 use lib.ListN.{length, getD, take, drop, length-append, length-take, length-drop, take-append-drop, List·getD-append}
-use lib.Seq.{take-append-seam, drop-append-seam, getD-append-add, getD-drop, getD-take, take-take, take-at, drop-at, drop-append-le, length-take-le, ext-getD, slice}
+use lib.Seq.{
+  take-append-seam,
+  drop-append-seam,
+  getD-append-add,
+  getD-drop,
+  getD-take,
+  take-take,
+  take-at,
+  drop-at,
+  drop-append-le,
+  length-take-le,
+  ext-getD,
+  slice,
+}
 use Rattle.laws.specs.Lists.{tabulate, overwrite}
 
 module _ {A : Type 0} where

@@ -16,7 +16,8 @@ map-is {A} f (x ∷ xs) {y} m =
 -- a change that leaves every member as it is
 pub map-same : {A : Type 0} (f : A → A) (l : List A) → ((x : A) → List·Memᴰ x l → f x ≡ x) → map f l ≡ l
 map-same f [] h = refl
-map-same {A} f (x ∷ xs) h = ap₂ (λ (y : A) (ys : List A). y ∷ ys) (h x (List·Memᴰ·head refl)) (map-same f xs (λ y m. h y (List·Memᴰ·tail m)))
+map-same {A} f (x ∷ xs) h = ap₂ (λ (y : A) (ys : List A). y ∷ ys) (h x (List·Memᴰ·head refl))
+    (map-same f xs (λ y m. h y (List·Memᴰ·tail m)))
 
 -- some changed member is in K
 pub any-map : (K : ℕ → Bool) (f : ℕ → ℕ) (l : List ℕ) → any K (map f l) ≡ any (λ x. K (f x)) l

@@ -1,4 +1,5 @@
--- Laws of the merge of two lists: its members are those of both, it rises strictly where both do and they share none, and a change of numbers
+-- Laws of the merge of two lists: its members are those of both, it rises strictly where both do and they share none, and a change of
+-- numbers
 -- that keeps their order may be made before it or after.
 use mathlib.Core.Path.{_≡_, refl, sym, ap, _∙_}
 use mathlib.Core.Bool.{Bool, true, false, cond, _||_}
@@ -111,7 +112,8 @@ merge-any f xs ys = same-test (any f (merge xs ys)) (any f xs || any f ys) there
     there : any f (merge xs ys) ≡ true → any f xs || any f ys ≡ true
     there e =
         let (z, m, t) = any-hit f (merge xs ys) e in
-        ⊎-elim (λ n. or-left (any f xs) (any f ys) (any-of f xs n t)) (λ n. or-right (any f xs) (any f ys) (any-of f ys n t)) (merge-is xs ys m)
+        ⊎-elim (λ n. or-left (any f xs) (any f ys) (any-of f xs n t)) (λ n. or-right (any f xs) (any f ys) (any-of f ys n t))
+        (merge-is xs ys m)
 
     back : any f xs || any f ys ≡ true → any f (merge xs ys) ≡ true
     back e =
@@ -176,7 +178,8 @@ module _ (f : ℕ → ℕ) (D : ℕ → Type 0) (rises : (x y : ℕ) → D x →
       (true-or-false (ltb x y))
 
   -- merged and then renumbered is renumbered and then merged
-  pub merge-map : (xs ys : List ℕ) → ((x : ℕ) → List·Memᴰ x xs → D x) → ((y : ℕ) → List·Memᴰ y ys → D y) → merge (map f xs) (map f ys) ≡ map f (merge xs ys)
+  pub merge-map : (xs ys : List ℕ) → ((x : ℕ) → List·Memᴰ x xs → D x) → ((y : ℕ) → List·Memᴰ y ys → D y) → merge (map f xs) (map f ys)
+      ≡ map f (merge xs ys)
   unfolding merge
   merge-map xs [] h k = refl
   merge-map xs (y ∷ ys) h k =

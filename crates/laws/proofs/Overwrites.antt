@@ -7,7 +7,14 @@ use native.Mathlib.Omega.{arith}
 use lib.ListN.{length, getD, take}
 use lib.Seq.{ext-getD}
 use Rattle.laws.specs.Lists.{tabulate, overwrite}
-use Rattle.laws.proofs.Lists.{length-tabulate, tabulate-at, length-overwrite, take-overwrite, getD-overwrite-below, getD-overwrite-above}
+use Rattle.laws.proofs.Lists.{
+  length-tabulate,
+  tabulate-at,
+  length-overwrite,
+  take-overwrite,
+  getD-overwrite-below,
+  getD-overwrite-above,
+}
 
 pub overwrite-at : (f : ℕ → ℕ) (n : ℕ) (table : List ℕ) (i : ℕ) → i < n → getD (overwrite (tabulate f 0 n) table) i 0 ≡ f i
 overwrite-at f n table i h = getD-overwrite-below (tabulate f 0 n) table i 0 (rw (length-tabulate f 0 n) h) ∙ tabulate-at f n i 0 h

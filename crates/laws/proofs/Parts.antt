@@ -3,7 +3,21 @@
 use mathlib.Core.Path.{_≡_, refl, sym, ap, ap₂, _∙_, subst}
 use mathlib.Core.Bool.{cond}
 use mathlib.Core.Logic.{⊎-elim}
-use mathlib.Core.List.{List, [], _∷_, _++_, append-assoc, append-nil, List·Memᴰ, List·Memᴰ·head, List·Memᴰ·tail, List·Memᴰ·not-nil, List·Memᴰ·append-cases, Memᴰ·append-left, Memᴰ·append-right}
+use mathlib.Core.List.{
+  List,
+  [],
+  _∷_,
+  _++_,
+  append-assoc,
+  append-nil,
+  List·Memᴰ,
+  List·Memᴰ·head,
+  List·Memᴰ·tail,
+  List·Memᴰ·not-nil,
+  List·Memᴰ·append-cases,
+  Memᴰ·append-left,
+  Memᴰ·append-right,
+}
 use Prim.Native.Nat.{ℕ, zero, suc, _+_, _<_, _≤_}
 use native.Mathlib.Nat.{add-zero, zero-add, add-assoc, not-suc-le-zero, le-of-suc-le-suc, le-of-eq, le-trans}
 use native.Mathlib.Omega.{arith}
@@ -59,7 +73,8 @@ module _ {A B C : Type 0} {L : Layout A B C} (lays : Lays L) where
   pub all-append : (xs ys : List B) → L .all (xs ++ ys) ≡ L .all xs ++ L .all ys
   all-append [] ys = rw (lays .all-nil)
   all-append (x ∷ xs) ys =
-      lays .all-cons x (xs ++ ys) ∙ ap (λ (r : List A). L .part x ++ r) (all-append xs ys) ∙ sym (append-assoc (L .part x) (L .all xs) (L .all ys))
+      lays .all-cons x (xs ++ ys) ∙ ap (λ (r : List A). L .part x ++ r) (all-append xs ys)
+      ∙ sym (append-assoc (L .part x) (L .all xs) (L .all ys))
       ∙ ap (λ (r : List A). r ++ L .all ys) (sym (lays .all-cons x xs))
 
   -- the members of all are the members of the lists
@@ -107,7 +122,8 @@ module _ {A B C : Type 0} {L : Layout A B C} (lays : Lays L) where
   }
 
   -- a place told by the table, or by the end past the last element, is the edge
-  pub edge-told : (xs : List B) (i start : ℕ) → (i < length xs → start ≡ edge L xs i) → cond (ltb i (length xs)) start (length (L .all xs)) ≡ edge L xs i
+  pub edge-told : (xs : List B) (i start : ℕ) → (i < length xs → start ≡ edge L xs i) → cond (ltb i (length xs)) start (length (L .all xs))
+      ≡ edge L xs i
   edge-told xs i start h =
       ⊎-elim (λ t. rw t (h (ltb-true _ _ t))) (λ t. rw t (sym (edge-end xs i (ltb-false _ _ t)))) (true-or-false (ltb i (length xs)))
 
@@ -127,15 +143,18 @@ module _ {A B C : Type 0} {L : Layout A B C} (lays : Lays L) where
   heads-append m [] ys = rw (lays .heads-nil m, lays .all-nil, add-zero m)
   heads-append m (x ∷ xs) ys =
       let n = m + length (L .part x) in
-      let e : n + length (L .all xs) ≡ m + length (L .all (x ∷ xs)) = rw (lays .all-cons x xs, length-append) (add-assoc m (length (L .part x)) (length (L .all xs))) in
+      let e : n + length (L .all xs) ≡ m
+      + length (L .all (x ∷ xs)) = rw (lays .all-cons x xs, length-append) (add-assoc m (length (L .part x)) (length (L .all xs))) in
       lays .heads-cons m x (xs ++ ys)
       ∙ ap (λ (r : List C). L .head m x ∷ r) (heads-append n xs ys ∙ ap (λ (j : ℕ). L .heads n xs ++ L .heads j ys) e)
       ∙ ap (λ (r : List C). r ++ L .heads (m + length (L .all (x ∷ xs))) ys) (sym (lays .heads-cons m x xs))
 
-  pub getD-heads : (m : ℕ) (xs : List B) (i : ℕ) (d : C) (e : B) → i < length xs → getD (L .heads m xs) i d ≡ L .head (m + edge L xs i) (getD xs i e)
+  pub getD-heads : (m : ℕ) (xs : List B) (i : ℕ) (d : C) (e : B) → i < length xs → getD (L .heads m xs) i d
+      ≡ L .head (m + edge L xs i) (getD xs i e)
   getD-heads m [] i d e h = absurd (not-suc-le-zero h)
   getD-heads m (x ∷ xs) zero d e h =
-      ap (λ (r : List C). getD r 0 d) (lays .heads-cons m x xs) ∙ ap (λ (j : ℕ). L .head j x) (sym (ap (λ (j : ℕ). m + j) (edge-zero xs) ∙ add-zero m))
+      ap (λ (r : List C). getD r 0 d) (lays .heads-cons m x xs)
+      ∙ ap (λ (j : ℕ). L .head j x) (sym (ap (λ (j : ℕ). m + j) (edge-zero xs) ∙ add-zero m))
   getD-heads m (x ∷ xs) (suc i) d e h =
       ap (λ (r : List C). getD r (suc i) d) (lays .heads-cons m x xs)
       ∙ getD-heads (m + length (L .part x)) xs i d e (le-of-suc-le-suc h)
@@ -170,5 +189,6 @@ module _ {A B C : Type 0} {L : Layout A B C} (lays : Lays L) where
         (λ i m.
         let m′ : i < k = omega arith in
         getD-take k table i d m′ ∙ t i m′
-        ∙ sym (getD-heads 0 xs i d e (omega arith) ∙ ap (λ (j : ℕ). L .head j (getD xs i e)) (zero-add (edge L xs i) ∙ edge-is i (omega arith))))
+        ∙ sym (getD-heads 0 xs i d e (omega arith)
+        ∙ ap (λ (j : ℕ). L .head j (getD xs i e)) (zero-add (edge L xs i) ∙ edge-is i (omega arith))))
         ∙ sym (take-all (length xs) (L .heads 0 xs) (le-of-eq (length-heads 0 xs)))

@@ -71,7 +71,8 @@ module _ (f : ℕ → Bool) where
     where
       go : (k < howMany f n → Stands n k (getD (passing f n) k d)) → Dec (k < howMany f n) → (f n ≡ true) ⊎ (f n ≡ false)
           → Stands (suc n) k (getD (passing f (suc n)) k d)
-      go below (yes l) t = let s = below l in rw (passing-below n d k l) (record { low = omega arith; passes = s .passes; before = s .before })
+      go below (yes l) t = let s = below l in rw (passing-below n d k l)
+          (record { low = omega arith; passes = s .passes; before = s .before })
       go below (no l) (inl e) =
           let q : k ≡ howMany f n = omega (arith, many-yes f n e) in
           rw q (rw (passing-yes n d e) (record { low = omega arith; passes = e; before = refl }))

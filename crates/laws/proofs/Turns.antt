@@ -39,7 +39,8 @@ module _ {A : Type 0} {g : List A → List ℕ → List ℕ} (p : Spread g) {f :
     pub turn-room : i < end → place + length (g (f i ∷ []) []) ≤ length out
     turn-room h = omega (arith, t .room, ap length (next-bytes p f end i h), length-append (g (f i ∷ []) []) (bytesFrom g f end (i + 1)))
 
-    pub turn-next : {after : List ℕ} {next : ℕ} → i < end → Wrote out place (g (f i ∷ []) []) after next → Turn g f end a out₀ place₀ after next (i + 1)
+    pub turn-next : {after : List ℕ} {next : ℕ} → i < end → Wrote out place (g (f i ∷ []) []) after next
+        → Turn g f end a out₀ place₀ after next (i + 1)
     turn-next {after} {next} h w =
         let n = length-append (g (f i ∷ []) []) (bytesFrom g f end (i + 1)) in
         let l = ap length (next-bytes p f end i h) in
@@ -48,7 +49,8 @@ module _ {A : Type 0} {g : List A → List ℕ → List ℕ} (p : Spread g) {f :
         record {
           same = s ∙ t .same;
           room = omega (arith, t .room);
-          stores = rw (w .stored, e, ← put-append out place (g (f i ∷ []) []) (bytesFrom g f end (i + 1)), ← next-bytes p f end i h) (t .stores);
+          stores = rw (w .stored, e, ← put-append out place (g (f i ∷ []) []) (bytesFrom g f end (i + 1)), ← next-bytes p f end i h)
+              (t .stores);
           past = omega (arith, t .past);
         }
 

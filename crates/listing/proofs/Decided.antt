@@ -65,14 +65,17 @@ module _ (z : Size) (rows : List Row) (firsts outcomes : List ℕ) (e : sound (h
       is = refl;
     })
 
-    pub all-listed : (rs cs ms : List ℕ) {rs′ cs′ ms′ : List ℕ} → rs′ ≡ left rankTable (deciding T R C M S) rs → cs′ ≡ left commandTable (deciding T R C M S) cs
+    pub all-listed : (rs cs ms : List ℕ) {rs′ cs′ ms′ : List ℕ} → rs′ ≡ left rankTable (deciding T R C M S) rs → cs′
+        ≡ left commandTable (deciding T R C M S) cs
         → ms′ ≡ left markTable (deciding T R C M S) ms → Long R C M S → AllListed (planIn T) (z .n) rows rs′ cs′ ms′
     unfolding left planIn
     all-listed rs cs ms er ec em long =
         let g = sound-good T e in
-        let entries = listed-tables (planIn T) (sound-valid T e) (omega (arith, few-states (treeOf T) g)) (λ s h. omega (arith, few-commands (treeOf T) g s h)) rs cs ms in
+        let entries = listed-tables (planIn T) (sound-valid T e) (omega (arith, few-states (treeOf T) g))
+        (λ s h. omega (arith, few-commands (treeOf T) g s h)) rs cs ms in
         rw (er, ec, em, answers long) (record { line = λ s h. rw (kind-read s h) at (entries s (rw (states-held T) h)) })
 
-    pub tallied : (d : Decision) → decisionOf d ≡ answer tally (deciding T R C M S) → Long R C M S → d .safe ∷ d .lost ∷ [] ≡ tally (planIn T)
+    pub tallied : (d : Decision) → decisionOf d ≡ answer tally (deciding T R C M S) → Long R C M S → d .safe ∷ d .lost ∷ []
+        ≡ tally (planIn T)
     unfolding answer
     tallied d q long = counts (d .answer) _ _ (q ∙ ap (answer tally) (answers long))

@@ -40,8 +40,10 @@ module _ (file : List ℕ) (rows : List Row) (firsts outcomes : List ℕ) (r : R
       → (sound (held z rows′ firsts′ outcomes′) ≡ true) × (answerText (read file) ≡ planText (treeOf (held z rows′ firsts′ outcomes′)))
   unfolding answerText
   plan-read z q =
-      let (sounds, reads) = reads-plan file (rowsOf rows) firsts outcomes (numbers z) (answered file rows firsts outcomes r rows′ firsts′ outcomes′ e z q) in
-      subst (λ (T : Tables). (sound T ≡ true) × (answerText (read file) ≡ planText (treeOf T))) (sym (leaves file rows firsts outcomes r rows′ firsts′ outcomes′ e z))
+      let (sounds, reads) = reads-plan file (rowsOf rows) firsts outcomes (numbers z)
+      (answered file rows firsts outcomes r rows′ firsts′ outcomes′ e z q) in
+      subst (λ (T : Tables). (sound T ≡ true) × (answerText (read file) ≡ planText (treeOf T)))
+      (sym (leaves file rows firsts outcomes r rows′ firsts′ outcomes′ e z))
       (sounds, ap answerText reads)
 
   pub refusal-read : (w : Refusal) → r ≡ Refused w → 1024 ≤ length rows → 4096 ≤ length firsts → 16384 ≤ length outcomes
@@ -51,7 +53,8 @@ module _ (file : List ℕ) (rows : List Row) (firsts outcomes : List ℕ) (r : R
       let size : Tables → ModelSize = λ T. T .size in
       let long : 1024 ≤ length (rowsOf rows) = rw (length-map rows rowOf) lr in
       ap answerText (refuses-file (length (rowsOf rows)) (length firsts) (length outcomes) long lf lo file (refusalOf w)
-      (refused-inv size (reading (length (rowsOf rows)) (length firsts) (length outcomes) file) (ap (λ (x : AfterRead). x .answers) (sym e) ∙ ap answerOf q)))
+      (refused-inv size (reading (length (rowsOf rows)) (length firsts) (length outcomes) file)
+      (ap (λ (x : AfterRead). x .answers) (sym e) ∙ ap answerOf q)))
 
 abbrev textWith : List ℕ → ℕ → Text
 textWith bytes length = record { bytes = bytes; length = length }
@@ -66,7 +69,8 @@ module _ (input : List ℕ) where
   in-limit h = rw (le-ltb maxInput (length input) h)
 
   -- the text stands at the front of zeros
-  pub text-stands : {after : List ℕ} {k : ℕ} → Wrote (replicate maxListing 0) 0 (listing input) after k → textWith after k ≡ textOf (listing input)
+  pub text-stands : {after : List ℕ} {k : ℕ} → Wrote (replicate maxListing 0) 0 (listing input) after k → textWith after k
+      ≡ textOf (listing input)
   text-stands w =
       let zeros : List ℕ = replicate maxListing 0 in
       let count = w .past ∙ zero-add _ in

@@ -37,7 +37,8 @@ module _ (T : Tables) (e : sound T ≡ true) where
   found = search (planIn T) (T .size .start)
 
   -- the lengths of the tables lent to it
-  module _ {C S : ℕ} (r : SearchAnswer) (q : answerOf r ≡ answer (λ R. (R .lost, R .rounds)) (searching T (T .size .start) C S)) (long : (1024 ≤ C) × (1024 ≤ S)) where
+  module _ {C S : ℕ} (r : SearchAnswer) (q : answerOf r ≡ answer (λ R. (R .lost, R .rounds)) (searching T (T .size .start) C S))
+      (long : (1024 ≤ C) × (1024 ≤ S)) where
     answers : searching T (T .size .start) C S ≡ given found
     answers = searching-iff T (T .size .start) C S found .1 (record {
       sounds = e;

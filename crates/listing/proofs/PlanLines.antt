@@ -26,7 +26,8 @@ module _ (P : Plan) (n : ℕ) where
   stateLines = joined (tabulate (stateLine P) 0 n)
 
   -- the tally's line, after the states'
-  pub tally-room : {l after : List ℕ} {place next : ℕ} → place + n * 29 + 50 ≤ length l → Wrote l place stateLines after next → next + 50 ≤ length after
+  pub tally-room : {l after : List ℕ} {place next : ℕ} → place + n * 29 + 50 ≤ length l → Wrote l place stateLines after next → next
+      + 50 ≤ length after
   tally-room room w = omega (arith, room, joined-bound (stateLine P) 0 n 29 (state-length P), w .past, wrote-length w)
 
 module _ (T : Tables) (e : sound T ≡ true) where
@@ -48,7 +49,8 @@ module _ (T : Tables) (e : sound T ≡ true) where
   text-is =
       text-of ∙ ap (λ (z : Size). textOf z (planIn T .states) (planIn T .start)) (sym (tables-back T e .size))
       ∙ ap₂ (textOf (T .size)) (states-held T) (start-held T)
-      ∙ ap (λ (l : List ℕ). l ++ lastLine) (append-assoc (planLine (T .size)) (stateLines (planIn T) (T .size .n)) (tallyLine (tally (planIn T))))
+      ∙ ap (λ (l : List ℕ). l ++ lastLine)
+      (append-assoc (planLine (T .size)) (stateLines (planIn T) (T .size .n)) (tallyLine (tally (planIn T))))
       ∙ append-assoc (planLine (T .size)) verdictLines lastLine
 
   pub numbers-small : (T .size .n < 1000000) × (T .size .m < 1000000) × (T .size .t < 1000000)

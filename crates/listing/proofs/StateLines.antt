@@ -38,7 +38,8 @@ module _ (n : ℕ) (rows : List Row) (ranks commands marks out₀ : List ℕ) (p
       below = omega arith;
       same = refl;
       turn = λ P _. turn-start joined-spread (
-          rw (sub-zero n, append-nil (joined (tabulate (stateLine P) 0 n))) (omega (arith, room, joined-bound (stateLine P) 0 n 29 (state-length P)))
+          rw (sub-zero n, append-nil (joined (tabulate (stateLine P) 0 n)))
+          (omega (arith, room, joined-bound (stateLine P) 0 n 29 (state-length P)))
           );
     }
 
@@ -47,7 +48,8 @@ module _ (n : ℕ) (rows : List Row) (ranks commands marks out₀ : List ℕ) (p
       lines-room h = omega (arith, room, l .below, l .same)
 
       pub lines-next : {after : List ℕ} {past : ℕ} {row : Row} → s < n → row ≡ getD rows s noRow
-          → ((P : Plan) → Listed P s (row .kind) (getD ranks s 0) (getD commands s 0) (getD marks s 0) → Wrote out next (stateLine P s) after past)
+          → ((P : Plan) → Listed P s (row .kind) (getD ranks s 0) (getD commands s 0) (getD marks s 0)
+          → Wrote out next (stateLine P s) after past)
           → past ≤ next + 29 → length after ≡ length out → Lines after past (s + 1)
       lines-next h e w b k = record {
         below = omega (arith, b, l .below);
@@ -55,5 +57,6 @@ module _ (n : ℕ) (rows : List Row) (ranks commands marks out₀ : List ℕ) (p
         turn = λ P t. turn-next joined-spread (l .turn P t) h (rw (one-line (stateLine P s)) (w P (rw e (t .line s h))));
       }
 
-      pub lines-done : n ≤ s → (P : Plan) → AllListed P n rows ranks commands marks → Wrote out₀ place (joined (tabulate (stateLine P) 0 n)) out next
+      pub lines-done : n ≤ s → (P : Plan) → AllListed P n rows ranks commands marks
+          → Wrote out₀ place (joined (tabulate (stateLine P) 0 n)) out next
       lines-done h P t = rw (sub-zero n, append-nil (joined (tabulate (stateLine P) 0 n))) at (turn-done joined-spread (l .turn P t) h)

@@ -22,7 +22,8 @@ pub fn list_plan(
     out: &mut [u8],
 ) -> usize
     requires { ⌜ (sound (held size (now rows) (now firsts) (now outcomes)) ≡ true) × (maxListing ≤ length (now out)) ⌝ }
-    ensures { λ r. ⌜ Wrote (now (out .entry)) 0 (planText (treeOf (held size (now (rows .entry)) (now (firsts .entry)) (now (outcomes .entry))))) (now (out .exit)) r ⌝ }
+    ensures { λ r. ⌜ Wrote (now (out .entry)) 0
+        (planText (treeOf (held size (now (rows .entry)) (now (firsts .entry)) (now (outcomes .entry))))) (now (out .exit)) r ⌝ }
 {
     let states = put_plan_line(out, 0, size);
     let start = list_verdicts(size, rows, firsts, outcomes, out, states);

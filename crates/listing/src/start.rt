@@ -18,8 +18,10 @@ use tables::Size;
 
 // The line of a search that answered. Nothing is said of one that refused: list_start's never does.
 fn put_answer(answer: SearchAnswer, start: usize, out: &mut [u8], place: usize) -> usize
-    requires { ⌜ (place + 22 ≤ length (now out)) × (start < 1000000) × ((lost : Bool) (rounds : ℕ) → answerOf answer ≡ given (lost, rounds) → rounds < 1000000) ⌝ }
-    ensures { λ r. ⌜ ((R : Result) → answerOf answer ≡ given (R .lost, R .rounds) → Wrote (now (out .entry)) place (startLine start R) (now (out .exit)) r) ⌝ }
+    requires { ⌜ (place + 22 ≤ length (now out)) × (start < 1000000)
+        × ((lost : Bool) (rounds : ℕ) → answerOf answer ≡ given (lost, rounds) → rounds < 1000000) ⌝ }
+    ensures { λ r. ⌜ ((R : Result) → answerOf answer ≡ given (R .lost, R .rounds)
+        → Wrote (now (out .entry)) place (startLine start R) (now (out .exit)) r) ⌝ }
 {
     let SearchAnswer::Given(found) = answer else {
         return place;
@@ -36,7 +38,9 @@ pub fn list_start(
     place: usize,
 ) -> usize
     requires { ⌜ (sound (held size (now rows) (now firsts) (now outcomes)) ≡ true) × (place + 22 ≤ length (now out)) ⌝ }
-    ensures { λ r. ⌜ Wrote (now (out .entry)) place (startLine (size .start) (search (planIn (held size (now (rows .entry)) (now (firsts .entry)) (now (outcomes .entry)))) (size .start))) (now (out .exit)) r ⌝ }
+    ensures { λ r. ⌜ Wrote (now (out .entry)) place
+        (startLine (size .start) (search (planIn (held size (now (rows .entry)) (now (firsts .entry)) (now (outcomes .entry))))
+        (size .start))) (now (out .exit)) r ⌝ }
 {
     let mut commands = [0u16; Size::STATES];
     let mut scratch = [0u16; Size::STATES];

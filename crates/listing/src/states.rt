@@ -23,8 +23,11 @@ fn put_state(
     out: &mut [u8],
     place: usize,
 ) -> usize
-    requires { ⌜ (s < maxStates) × (s < length (now ranks)) × (s < length (now commands)) × (s < length (now marks)) × (place + 29 ≤ length (now out)) ⌝ }
-    ensures wrote { λ r. ⌜ ((P : Plan) → Listed P s (row .kind) (getD (now (ranks .entry)) s 0) (getD (now (commands .entry)) s 0) (getD (now (marks .entry)) s 0) → Wrote (now (out .entry)) place (stateLine P s) (now (out .exit)) r) ⌝ }
+    requires { ⌜ (s < maxStates) × (s < length (now ranks)) × (s < length (now commands)) × (s < length (now marks))
+        × (place + 29 ≤ length (now out)) ⌝ }
+    ensures wrote { λ r. ⌜ ((P : Plan)
+        → Listed P s (row .kind) (getD (now (ranks .entry)) s 0) (getD (now (commands .entry)) s 0) (getD (now (marks .entry)) s 0)
+        → Wrote (now (out .entry)) place (stateLine P s) (now (out .exit)) r) ⌝ }
     ensures ends { λ r. ⌜ r ≤ place + 29 ⌝ }
     ensures same { λ _. ⌜ length (now (out .exit)) ≡ length (now (out .entry)) ⌝ }
 {
@@ -41,8 +44,10 @@ pub fn list_states(
     out: &mut [u8],
     place: usize,
 ) -> usize
-    requires { ⌜ (n ≤ maxStates) × (n ≤ length (now rows)) × (n ≤ length (now ranks)) × (n ≤ length (now commands)) × (n ≤ length (now marks)) × (place + n * 29 ≤ length (now out)) ⌝ }
-    ensures { λ r. ⌜ ((P : Plan) → AllListed P n (now (rows .entry)) (now (ranks .entry)) (now (commands .entry)) (now (marks .entry)) → Wrote (now (out .entry)) place (joined (tabulate (stateLine P) 0 n)) (now (out .exit)) r) ⌝ }
+    requires { ⌜ (n ≤ maxStates) × (n ≤ length (now rows)) × (n ≤ length (now ranks)) × (n ≤ length (now commands))
+        × (n ≤ length (now marks)) × (place + n * 29 ≤ length (now out)) ⌝ }
+    ensures { λ r. ⌜ ((P : Plan) → AllListed P n (now (rows .entry)) (now (ranks .entry)) (now (commands .entry)) (now (marks .entry))
+        → Wrote (now (out .entry)) place (joined (tabulate (stateLine P) 0 n)) (now (out .exit)) r) ⌝ }
 {
     let mut next = place;
     let mut s = 0;

@@ -35,7 +35,9 @@ pub fn list_verdicts(
     place: usize,
 ) -> usize
     requires { ⌜ (sound (held size (now rows) (now firsts) (now outcomes)) ≡ true) × (place + size .n * 29 + 50 ≤ length (now out)) ⌝ }
-    ensures { λ r. ⌜ Wrote (now (out .entry)) place (joined (tabulate (stateLine (planIn (held size (now (rows .entry)) (now (firsts .entry)) (now (outcomes .entry))))) 0 (size .n)) ++ tallyLine (tally (planIn (held size (now (rows .entry)) (now (firsts .entry)) (now (outcomes .entry)))))) (now (out .exit)) r ⌝ }
+    ensures { λ r. ⌜ Wrote (now (out .entry)) place
+        (joined (tabulate (stateLine (planIn (held size (now (rows .entry)) (now (firsts .entry)) (now (outcomes .entry))))) 0 (size .n))
+        ++ tallyLine (tally (planIn (held size (now (rows .entry)) (now (firsts .entry)) (now (outcomes .entry)))))) (now (out .exit)) r ⌝ }
 {
     let mut ranks = [0u16; Size::STATES];
     let mut commands = [0u16; Size::STATES];

@@ -16,5 +16,6 @@ pub copy-room : (word : List ℕ) (place size : ℕ) → place + length word ≤
     → place + length (tabulate (λ j. getD word j 0) 0 (length word - 0) ++ []) ≤ size
 copy-room word place size h = rw (word-is word) h
 
-pub copied : (word : List ℕ) {l m : List ℕ} {i k : ℕ} → Wrote l i (tabulate (λ j. getD word j 0) 0 (length word - 0) ++ []) m k → Wrote l i word m k
+pub copied : (word : List ℕ) {l m : List ℕ} {i k : ℕ} → Wrote l i (tabulate (λ j. getD word j 0) 0 (length word - 0) ++ []) m k
+    → Wrote l i word m k
 copied word w = rw (word-is word) at w

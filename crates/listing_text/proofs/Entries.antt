@@ -30,7 +30,8 @@ unfolding found fromEntry
 found-entry e = ⊎-elim (λ h. rw h) (λ h. rw h) (true-or-false (eqb e FFFF))
 
 -- the two parts of a mark
-mark-parts : (fails faulty : Bool) → (eqb ((cond fails 1 0 + cond faulty 2 0) % 2) 1 ≡ fails) × (leb 2 (cond fails 1 0 + cond faulty 2 0) ≡ faulty)
+mark-parts : (fails faulty : Bool) → (eqb ((cond fails 1 0 + cond faulty 2 0) % 2) 1 ≡ fails)
+    × (leb 2 (cond fails 1 0 + cond faulty 2 0) ≡ faulty)
 mark-parts true true = (refl, refl)
 mark-parts true false = (refl, refl)
 mark-parts false true = (refl, refl)

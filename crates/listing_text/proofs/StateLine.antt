@@ -49,7 +49,8 @@ module _ {P : Plan} {s k r c m : ℕ} (q : Listed P s k r c m) where
 
 module _ (P : Plan) (valid : Valid P) (few : P .states < 65535) (fit : (s : ℕ) → s < P .states → P .commands s < 65535) where
   -- the entries of a state hold what its line says
-  pub listed : {s k r c m : ℕ} → s < P .states → k ≡ P .kind s → r ≡ entry (rank P s) → c ≡ entry (chosen P s) → m ≡ mark P s → Listed P s k r c m
+  pub listed : {s k r c m : ℕ} → s < P .states → k ≡ P .kind s → r ≡ entry (rank P s) → c ≡ entry (chosen P s) → m ≡ mark P s
+      → Listed P s k r c m
   listed {s} h kind-of rank-of chosen-of mark-of = record {
     kind-is = sym kind-of;
     rank-is = sym (ap fromEntry rank-of ∙ rank-entry P valid few fit s);
@@ -59,7 +60,9 @@ module _ (P : Plan) (valid : Valid P) (few : P .states < 65535) (fit : (s : ℕ)
 
   -- and the tables that deciding leaves hold them
   pub listed-tables : (ranks commands marks : List ℕ) (s : ℕ) → s < P .states
-      → Listed P s (P .kind s) (getD (overwrite (rankTable P) ranks) s 0) (getD (overwrite (commandTable P) commands) s 0) (getD (overwrite (markTable P) marks) s 0)
+      → Listed P s (P .kind s) (getD (overwrite (rankTable P) ranks) s 0) (getD (overwrite (commandTable P) commands) s 0)
+      (getD (overwrite (markTable P) marks) s 0)
   unfolding rankTable commandTable markTable
   listed-tables ranks commands marks s h =
-      listed h refl (overwrite-at _ (P .states) ranks s h) (overwrite-at _ (P .states) commands s h) (overwrite-at (mark P) (P .states) marks s h)
+      listed h refl (overwrite-at _ (P .states) ranks s h) (overwrite-at _ (P .states) commands s h)
+      (overwrite-at (mark P) (P .states) marks s h)

@@ -58,7 +58,8 @@ pub fn put_state_line(
     mark: u16,
 ) -> usize
     requires { ⌜ (place + 29 ≤ length (now out)) × (s < 1000000) ⌝ }
-    ensures wrote { λ r. ⌜ ((P : Plan) → Listed P s kind rank command mark → Wrote (now (out .entry)) place (stateLine P s) (now (out .exit)) r) ⌝ }
+    ensures wrote { λ r. ⌜ ((P : Plan) → Listed P s kind rank command mark
+        → Wrote (now (out .entry)) place (stateLine P s) (now (out .exit)) r) ⌝ }
     ensures ends { λ r. ⌜ r ≤ place + 29 ⌝ }
 {
     let second = put_decimal(out, place, s);
@@ -90,7 +91,8 @@ pub fn put_start_line(
     rounds: usize,
 ) -> usize
     requires { ⌜ (place + 22 ≤ length (now out)) × (start < 1000000) × (rounds < 1000000) ⌝ }
-    ensures wrote { λ r. ⌜ ((R : Result) → R .lost ≡ lost → R .rounds ≡ rounds → Wrote (now (out .entry)) place (startLine start R) (now (out .exit)) r) ⌝ }
+    ensures wrote { λ r. ⌜ ((R : Result) → R .lost ≡ lost → R .rounds ≡ rounds
+        → Wrote (now (out .entry)) place (startLine start R) (now (out .exit)) r) ⌝ }
     ensures ends { λ r. ⌜ r ≤ place + 22 ⌝ }
 {
     let next = put_word(out, place, b"start");

@@ -51,7 +51,8 @@ pub fn put_three(out: &mut [u8], place: usize, x: usize, y: usize, z: usize) -> 
 // A row of the tally.
 pub fn put_row(out: &mut [u8], place: usize, row: [u16; 3]) -> usize
     requires { ⌜ place + 21 ≤ length (now out) ⌝ }
-    ensures wrote { λ r. ⌜ Wrote (now (out .entry)) place (spaced (decimal (getD row 0 0) ∷ decimal (getD row 1 0) ∷ decimal (getD row 2 0) ∷ [])) (now (out .exit)) r ⌝ }
+    ensures wrote { λ r. ⌜ Wrote (now (out .entry)) place
+        (spaced (decimal (getD row 0 0) ∷ decimal (getD row 1 0) ∷ decimal (getD row 2 0) ∷ [])) (now (out .exit)) r ⌝ }
     ensures ends { λ r. ⌜ r ≤ place + 21 ⌝ }
 {
     put_three(out, place, wide(row[0]), wide(row[1]), wide(row[2]))
@@ -72,7 +73,8 @@ pub fn put_entry(out: &mut [u8], place: usize, e: u16) -> usize
 // The verdict that follows from a rank's entry, and the rank.
 pub fn put_verdict(out: &mut [u8], place: usize, rank: u16) -> usize
     requires { ⌜ place + 9 ≤ length (now out) ⌝ }
-    ensures wrote { λ r. ⌜ Wrote (now (out .entry)) place (spaced (verdictLetter (found (fromEntry rank)) ∷ numberOrDash (fromEntry rank) ∷ [])) (now (out .exit)) r ⌝ }
+    ensures wrote { λ r. ⌜ Wrote (now (out .entry)) place
+        (spaced (verdictLetter (found (fromEntry rank)) ∷ numberOrDash (fromEntry rank) ∷ [])) (now (out .exit)) r ⌝ }
     ensures ends { λ r. ⌜ r ≤ place + 9 ⌝ }
 {
     let next = put_letter(out, place, verdict_letter(rank != NONE));
@@ -82,7 +84,8 @@ pub fn put_verdict(out: &mut [u8], place: usize, rank: u16) -> usize
 // What a mark says of the practice.
 pub fn put_marks(out: &mut [u8], place: usize, mark: u16) -> usize
     requires { ⌜ place + 4 ≤ length (now out) ⌝ }
-    ensures wrote { λ r. ⌜ Wrote (now (out .entry)) place (spaced (practiceLetter (eqb (mark % 2) 1) ∷ faultSign (leb 2 mark) ∷ [])) (now (out .exit)) r ⌝ }
+    ensures wrote { λ r. ⌜ Wrote (now (out .entry)) place (spaced (practiceLetter (eqb (mark % 2) 1) ∷ faultSign (leb 2 mark) ∷ []))
+        (now (out .exit)) r ⌝ }
     ensures ends { λ r. ⌜ r ≤ place + 4 ⌝ }
 {
     let next = put_letter(out, place, practice_letter(mark));

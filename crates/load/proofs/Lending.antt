@@ -43,15 +43,17 @@ sound-held T e =
     (((f .size .few, f .size .few-commands), f .size .few-outcomes), ((f .long .rows, f .long .lists .firsts), f .long .lists .entries))
 
 -- what is made of the lent plan, where that is refused with 10 if the plan is unsound
-module _ {A : Type 0} (make : Tables → Answer A) (unsound : (T : Tables) → sound T ≡ false → make T ≡ refused Unsound) (r : ModelRefusal) where
-  refused-with : (lent : Answer Tables) → (lent >>= λ T. need Unsound (few (T .size) && tablesLong T) >> given T) ≡ refused r → (lent >>= make) ≡ refused r
-  unfolding _>>=_ _>>_ need
-  refused-with (refused q) e = ap refused (refused-inj e)
-  refused-with (given T) e =
-      ⊎-elim
-      (λ h. absurd (not-both (sym (rw h at e))))
-      (λ h. unsound T (refute (sound T) (λ s. clash (sound-held T s) h)) ∙ ap refused (refused-inj (rw h at e)))
-      (true-or-false (few (T .size) && tablesLong T))
+module _ {A : Type 0} (make : Tables → Answer A) (unsound : (T : Tables) → sound T ≡ false → make T ≡ refused Unsound) (r : ModelRefusal)
+  where
+    refused-with : (lent : Answer Tables) → (lent >>= λ T. need Unsound (few (T .size) && tablesLong T) >> given T) ≡ refused r
+        → (lent >>= make) ≡ refused r
+    unfolding _>>=_ _>>_ need
+    refused-with (refused q) e = ap refused (refused-inj e)
+    refused-with (given T) e =
+        ⊎-elim
+        (λ h. absurd (not-both (sym (rw h at e))))
+        (λ h. unsound T (refute (sound T) (λ s. clash (sound-held T s) h)) ∙ ap refused (refused-inj (rw h at e)))
+        (true-or-false (few (T .size) && tablesLong T))
 
 module _ (S R F O : List ℕ) (p : PlanAnswer) (says : answerOf p ≡ answer sizeOf (loading S R F O)) where
   lent-refused : {A : Type 0} (make : Tables → Answer A) → ((T : Tables) → sound T ≡ false → make T ≡ refused Unsound)
@@ -80,10 +82,13 @@ module _ (S R F O : List ℕ) (p : PlanAnswer) (says : answerOf p ≡ answer siz
         → Same (held z rows₁ firsts₁ outcomes₁) (lentWith S R F O (numbers z))
     lent-same rows₀ rows₁ firsts₀ firsts₁ outcomes₀ outcomes₁ rs fs os = record {
       size = refl;
-      rows = front (λ T. take (T .size .n) (T .rows)) (z .n) (rowsIn (entriesIn R)) rows₀ (rowsOf rows₁) (omega (arith, w .rows, length-rows-in R)) refl rs;
+      rows = front (λ T. take (T .size .n) (T .rows)) (z .n) (rowsIn (entriesIn R)) rows₀ (rowsOf rows₁)
+          (omega (arith, w .rows, length-rows-in R)) refl rs;
       lists = record {
-        firsts = front (λ T. take (T .size .m) (T .firsts)) (z .m) (entriesIn F) firsts₀ firsts₁ (omega (arith, w .firsts, length-entries-in F)) refl fs;
-        entries = front (λ T. take (T .size .t) (T .outcomes)) (z .t) (entriesIn O) outcomes₀ outcomes₁ (omega (arith, w .outcomes, length-entries-in O)) refl os;
+        firsts = front (λ T. take (T .size .m) (T .firsts)) (z .m) (entriesIn F) firsts₀ firsts₁
+            (omega (arith, w .firsts, length-entries-in F)) refl fs;
+        entries = front (λ T. take (T .size .t) (T .outcomes)) (z .t) (entriesIn O) outcomes₀ outcomes₁
+            (omega (arith, w .outcomes, length-entries-in O)) refl os;
       };
     }
 

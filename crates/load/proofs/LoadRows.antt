@@ -28,7 +28,8 @@ module _ (bytes : List ℕ) (n s : ℕ) {rows₀ rows : List Row} (w : Rows byte
     put = rw (row-stored rows s r) (ruled-next (rowIn bytes) n s (rowsOf rows) h e ∙ w .put);
   })
 
-  pub rows-end : n * rowBytes ≤ length bytes → n ≤ length rows₀ → n ≤ s → rowsOf rows ≡ overwrite (take n (rowsIn (entriesIn bytes))) (rowsOf rows₀)
+  pub rows-end : n * rowBytes ≤ length bytes → n ≤ length rows₀ → n ≤ s → rowsOf rows
+      ≡ overwrite (take n (rowsIn (entriesIn bytes))) (rowsOf rows₀)
   rows-end h l k =
       sym (ruled-last (rowIn bytes) n s (rowsOf rows) k)
       ∙ w .put

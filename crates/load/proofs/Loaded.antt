@@ -81,7 +81,8 @@ module _ (S R F O : List ℕ) where
     unfolding answer
     answers = rw (w .loads)
 
-    pub fills : {A : Type 0} (f : Tables → List A) (l : List A) {l′ : List A} → l′ ≡ overwrite (f (lentWith (numbers z))) l → l′ ≡ left f (loading S R F O) l
+    pub fills : {A : Type 0} (f : Tables → List A) (l : List A) {l′ : List A} → l′ ≡ overwrite (f (lentWith (numbers z))) l → l′
+        ≡ left f (loading S R F O) l
     fills f l e = given-left (w .loads) f l e
 
   module _ {r : ModelRefusal} (e : loading S R F O ≡ refused r) where

@@ -36,7 +36,9 @@ module _ (S R F O : List ℕ) where
   unfolding tablesLong
   long-is = rw (length-rows-in R, length-entries-in F, length-entries-in O)
 
-  loading-is : sizeBytes ≤ length S → loading S R F O ≡ (need Unsound (few (sizeIn S) && enough (sizeIn S) (length R / rowBytes) (length F / entryBytes) (length O / entryBytes)) >> given lent)
+  loading-is : sizeBytes ≤ length S → loading S R F O
+      ≡ (need Unsound (few (sizeIn S) && enough (sizeIn S) (length R / rowBytes) (length F / entryBytes) (length O / entryBytes)) >> given
+      lent)
   unfolding loading _>>=_
   loading-is h = rw (lent-is h, long-is)
 
@@ -49,15 +51,19 @@ module _ (S R F O : List ℕ) where
     unfolding need _>>_
     loading-many f =
         let f′ : few (sizeIn S) ≡ false = rw e at f in
-        loading-is h ∙ rw (and-false-left (few (sizeIn S)) (enough (sizeIn S) (length R / rowBytes) (length F / entryBytes) (length O / entryBytes)) f′)
+        loading-is h ∙ rw (and-false-left (few (sizeIn S))
+        (enough (sizeIn S) (length R / rowBytes) (length F / entryBytes) (length O / entryBytes)) f′)
 
-    pub loading-long : enough (numbers z) (length R / rowBytes) (length F / entryBytes) (length O / entryBytes) ≡ false → loading S R F O ≡ refused Unsound
+    pub loading-long : enough (numbers z) (length R / rowBytes) (length F / entryBytes) (length O / entryBytes) ≡ false → loading S R F O
+        ≡ refused Unsound
     unfolding need _>>_
     loading-long f =
         let f′ : enough (sizeIn S) (length R / rowBytes) (length F / entryBytes) (length O / entryBytes) ≡ false = rw e at f in
-        loading-is h ∙ rw (and-false-right (few (sizeIn S)) (enough (sizeIn S) (length R / rowBytes) (length F / entryBytes) (length O / entryBytes)) f′)
+        loading-is h ∙ rw (and-false-right (few (sizeIn S))
+        (enough (sizeIn S) (length R / rowBytes) (length F / entryBytes) (length O / entryBytes)) f′)
 
-    pub loading-whole : few (numbers z) ≡ true → enough (numbers z) (length R / rowBytes) (length F / entryBytes) (length O / entryBytes) ≡ true → loading S R F O ≡ given lent
+    pub loading-whole : few (numbers z) ≡ true → enough (numbers z) (length R / rowBytes) (length F / entryBytes) (length O / entryBytes)
+        ≡ true → loading S R F O ≡ given lent
     unfolding need _>>_
     loading-whole f g =
         let f′ : few (sizeIn S) ≡ true = rw e at f in

@@ -64,7 +64,8 @@ fn row_in(bytes: &[u8], s: usize) -> Row
 // The first n rows, to the first n places of a table.
 pub fn load_rows(bytes: &[u8], rows: &mut [Row], n: usize)
     requires { ⌜ (n * rowBytes ≤ length (now bytes)) × (n ≤ length (now rows)) ⌝ }
-    ensures { λ _. ⌜ rowsOf (now (rows .exit)) ≡ overwrite (take n (rowsIn (entriesIn (now (bytes .entry))))) (rowsOf (now (rows .entry))) ⌝ }
+    ensures { λ _. ⌜ rowsOf (now (rows .exit))
+        ≡ overwrite (take n (rowsIn (entriesIn (now (bytes .entry))))) (rowsOf (now (rows .entry))) ⌝ }
 {
     let mut s = 0;
     while s < n {

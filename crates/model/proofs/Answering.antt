@@ -78,7 +78,14 @@ deciding-iff T ranks commands marks scratch P = (
       let (s, f) = need-iff _ _ _ _ .0 e in
       let (l, q) = need-iff _ _ _ _ .0 f in
       let h = simp (and-iff, leb-iff) at l in
-      record { sounds = s; long-ranks = h .0 .0 .0; long-commands = h .0 .0 .1; long-marks = h .0 .1; long-scratch = h .1; is = given-inj q },
+      record {
+        sounds = s;
+        long-ranks = h .0 .0 .0;
+        long-commands = h .0 .0 .1;
+        long-marks = h .0 .1;
+        long-scratch = h .1;
+        is = given-inj q;
+      },
   λ h.
       need-iff _ _ _ _ .1 (
         h .sounds,

@@ -13,13 +13,43 @@ use Rattle.model.specs.Verdict.{hits, forced, rank, lost, safe}
 use Rattle.model.specs.Command.{tryOrder, choice, chosen}
 use Rattle.model.specs.Practice.{practiceHits, practiceFails, fault, mark, tallyRow, tally}
 use Rattle.model.specs.Search.{lands, next, marked, withoutMarks, ends, before, atOnce, inRounds, search}
-use Rattle.model.specs.Refusal.{Cut, Surplus, Tag, Length, Beyond, Unsorted, Idle, Limit, Cramped, Unsound, Stranger, given, refused, answer, _>>=_, need, _>>_}
+use Rattle.model.specs.Refusal.{
+  Cut,
+  Surplus,
+  Tag,
+  Length,
+  Beyond,
+  Unsorted,
+  Idle,
+  Limit,
+  Cramped,
+  Unsound,
+  Stranger,
+  given,
+  refused,
+  answer,
+  _>>=_,
+  need,
+  _>>_,
+}
 use Rattle.model.specs.File.{State, field, head, state, entries, rising, command, commands, states, read}
 use Rattle.model.specs.Tables.{Tables, allCommands, rowsFrom, firstsFrom, tablesOf}
 use Rattle.model.specs.Places.{rowAt, firstCommand, commandCount, listAt}
 use Rattle.model.specs.SoundTest.{sizeSound, tablesLong, rowSound, risesAt, listSound, entrySound, listsSound, sound}
 use Rattle.model.specs.Held.{stateAt, treeOf, stateOf, planOf, planIn}
-use Rattle.model.specs.Calls.{left, reading, deciding, searching, rankTable, commandTable, markTable, resultTable, cleared, decideCall, searchCall}
+use Rattle.model.specs.Calls.{
+  left,
+  reading,
+  deciding,
+  searching,
+  rankTable,
+  commandTable,
+  markTable,
+  resultTable,
+  cleared,
+  decideCall,
+  searchCall,
+}
 use Rattle.model.specs.Boundary.{entriesIn, rowsIn, rowEntries, tablesIn, gateRead, code}
 use Rattle.model.specs.Bench.{oneRest}
 use Rattle.model.specs.Listing.{digitPair, digitPairs, pairAt, digits, decimal}
@@ -43,7 +73,8 @@ verdict-examples : map verdicts (
     ∷ ((3 ∷ 2 ∷ 1 ∷ 0 ∷ []) ∷ (FFFF ∷ FFFF ∷ FFFF ∷ FFFF ∷ []) ∷ (0 ∷ 0 ∷ 0 ∷ 1 ∷ []) ∷ [])
     ∷ ((FFFF ∷ 1 ∷ 0 ∷ []) ∷ (1 ∷ FFFF ∷ FFFF ∷ []) ∷ (2 ∷ 0 ∷ 1 ∷ []) ∷ [])
     ∷ []
-unfolding any first every orElse lowest found grow tabulate entry ordinary failing active hasPractice hits forced rank lost safe tryOrder choice chosen practiceHits practiceFails fault mark stateOf planOf rankTable commandTable markTable
+unfolding any first every orElse lowest found grow tabulate entry ordinary failing active hasPractice hits forced rank lost safe tryOrder
+    choice chosen practiceHits practiceFails fault mark stateOf planOf rankTable commandTable markTable
 verdict-examples = refl
 
 -- ---- the search: verdict, rounds and commands, from a start
@@ -53,12 +84,15 @@ searched ss a = let R = search (planned ss) a in cond (R .lost) 1 0 ∷ R .round
 
 -- The leaking ring of three is lost from each of its places, after 3, 2 and 1 rounds; the one that holds is safe after one round.
 -- A failing start, a rest start and a start without commands take no round.
-search-examples : map (searched (acting FFFF ((1 ∷ []) ∷ []) ∷ acting FFFF ((2 ∷ []) ∷ []) ∷ acting FFFF ((0 ∷ 3 ∷ []) ∷ []) ∷ failed ∷ [])) (0 ∷ 1 ∷ 2 ∷ 3 ∷ [])
+search-examples : map (searched (acting FFFF ((1 ∷ []) ∷ []) ∷ acting FFFF ((2 ∷ []) ∷ []) ∷ acting FFFF ((0 ∷ 3 ∷ []) ∷ []) ∷ failed ∷ []))
+    (0 ∷ 1 ∷ 2 ∷ 3 ∷ [])
     ++ map (searched (acting FFFF ((1 ∷ []) ∷ []) ∷ acting FFFF ((0 ∷ []) ∷ []) ∷ acting FFFF [] ∷ rest ∷ [])) (0 ∷ 2 ∷ 3 ∷ [])
-    ≡ (1 ∷ 3 ∷ FFFF ∷ FFFF ∷ FFFF ∷ FFFF ∷ []) ∷ (1 ∷ 2 ∷ FFFF ∷ FFFF ∷ FFFF ∷ FFFF ∷ []) ∷ (1 ∷ 1 ∷ FFFF ∷ FFFF ∷ FFFF ∷ FFFF ∷ []) ∷ (1 ∷ 0 ∷ FFFF ∷ FFFF ∷ FFFF ∷ FFFF ∷ [])
+    ≡ (1 ∷ 3 ∷ FFFF ∷ FFFF ∷ FFFF ∷ FFFF ∷ []) ∷ (1 ∷ 2 ∷ FFFF ∷ FFFF ∷ FFFF ∷ FFFF ∷ []) ∷ (1 ∷ 1 ∷ FFFF ∷ FFFF ∷ FFFF ∷ FFFF ∷ [])
+    ∷ (1 ∷ 0 ∷ FFFF ∷ FFFF ∷ FFFF ∷ FFFF ∷ [])
     ∷ (0 ∷ 1 ∷ 0 ∷ 0 ∷ FFFF ∷ FFFF ∷ []) ∷ (0 ∷ 0 ∷ FFFF ∷ FFFF ∷ FFFF ∷ FFFF ∷ []) ∷ (0 ∷ 0 ∷ FFFF ∷ FFFF ∷ FFFF ∷ FFFF ∷ [])
     ∷ []
-unfolding any first every exists orElse lowest found grow tabulate entry ordinary failing active resting hasPractice hits tryOrder choice lands next marked withoutMarks ends before atOnce inRounds search stateOf planOf resultTable
+unfolding any first every exists orElse lowest found grow tabulate entry ordinary failing active resting hasPractice hits tryOrder choice
+    lands next marked withoutMarks ends before atOnce inRounds search stateOf planOf resultTable
 search-examples = refl
 
 -- ---- reading: the order of the checks
@@ -90,13 +124,18 @@ reading-examples : map (λ file. answer (λ p. p .start) (read file)) (
     ∷ (0x01 ∷ 0x00 ∷ 0x04 ∷ 0x00 ∷ 0x01 ∷ 0x00 ∷ 0x00 ∷ 0x02 ∷ 0x00 ∷ 0x05 ∷ 0x00 ∷ 0x00 ∷ 0x01 ∷ 0x00 ∷ 0x01 ∷ [])
     ∷ (0x01 ∷ 0x00 ∷ 0x04 ∷ 0x00 ∷ 0x01 ∷ 0x00 ∷ 0x00 ∷ 0x02 ∷ 0x00 ∷ 0x05 ∷ 0x00 ∷ 0xff ∷ 0xff ∷ 0xff ∷ 0xff ∷ [])
     ∷ (0x01 ∷ 0x00 ∷ 0x04 ∷ 0x00 ∷ 0x01 ∷ 0x00 ∷ 0x00 ∷ 0x02 ∷ 0x00 ∷ 0x05 ∷ 0x00 ∷ 0x00 ∷ 0x01 ∷ 0xff ∷ 0xff ∷ 0x03 ∷ 0x00 ∷ 0x03 ∷ [])
-    ∷ (0x01 ∷ 0x00 ∷ 0x04 ∷ 0x00 ∷ 0x02 ∷ 0x00 ∷ 0x00 ∷ 0x02 ∷ 0x00 ∷ 0x05 ∷ 0x00 ∷ 0x00 ∷ 0x01 ∷ 0xff ∷ 0xff ∷ 0x03 ∷ 0x00 ∷ 0x04 ∷ 0x00 ∷ 0x01 ∷ 0x00 ∷ 0x01 ∷ [])
-    ∷ (0x01 ∷ 0x00 ∷ 0x04 ∷ 0x00 ∷ 0x02 ∷ 0x00 ∷ 0x00 ∷ 0x02 ∷ 0x00 ∷ 0x05 ∷ 0x00 ∷ 0x00 ∷ 0x01 ∷ 0xff ∷ 0xff ∷ 0x03 ∷ 0x00 ∷ 0x06 ∷ 0x00 ∷ 0x01 ∷ 0x00 ∷ 0x00 ∷ 0x00 ∷ 0x09 ∷ [])
-    ∷ (0x01 ∷ 0x00 ∷ 0x04 ∷ 0x00 ∷ 0x02 ∷ 0x00 ∷ 0x00 ∷ 0x02 ∷ 0x00 ∷ 0x05 ∷ 0x00 ∷ 0x00 ∷ 0x01 ∷ 0xff ∷ 0xff ∷ 0x03 ∷ 0x00 ∷ 0x06 ∷ 0x00 ∷ 0x01 ∷ 0x00 ∷ 0x09 ∷ 0x00 ∷ 0x00 ∷ [])
-    ∷ (0x01 ∷ 0x00 ∷ 0x04 ∷ 0x00 ∷ 0x01 ∷ 0x00 ∷ 0x00 ∷ 0x02 ∷ 0x00 ∷ 0x05 ∷ 0x02 ∷ 0x00 ∷ 0x00 ∷ 0xff ∷ 0xff ∷ 0x04 ∷ 0x00 ∷ 0x00 ∷ 0x00 ∷ [])
+    ∷ (0x01 ∷ 0x00 ∷ 0x04 ∷ 0x00 ∷ 0x02 ∷ 0x00 ∷ 0x00 ∷ 0x02 ∷ 0x00 ∷ 0x05 ∷ 0x00 ∷ 0x00 ∷ 0x01 ∷ 0xff ∷ 0xff ∷ 0x03 ∷ 0x00 ∷ 0x04 ∷ 0x00
+    ∷ 0x01 ∷ 0x00 ∷ 0x01 ∷ [])
+    ∷ (0x01 ∷ 0x00 ∷ 0x04 ∷ 0x00 ∷ 0x02 ∷ 0x00 ∷ 0x00 ∷ 0x02 ∷ 0x00 ∷ 0x05 ∷ 0x00 ∷ 0x00 ∷ 0x01 ∷ 0xff ∷ 0xff ∷ 0x03 ∷ 0x00 ∷ 0x06 ∷ 0x00
+    ∷ 0x01 ∷ 0x00 ∷ 0x00 ∷ 0x00 ∷ 0x09 ∷ [])
+    ∷ (0x01 ∷ 0x00 ∷ 0x04 ∷ 0x00 ∷ 0x02 ∷ 0x00 ∷ 0x00 ∷ 0x02 ∷ 0x00 ∷ 0x05 ∷ 0x00 ∷ 0x00 ∷ 0x01 ∷ 0xff ∷ 0xff ∷ 0x03 ∷ 0x00 ∷ 0x06 ∷ 0x00
+    ∷ 0x01 ∷ 0x00 ∷ 0x09 ∷ 0x00 ∷ 0x00 ∷ [])
+    ∷ (0x01 ∷ 0x00 ∷ 0x04 ∷ 0x00 ∷ 0x01 ∷ 0x00 ∷ 0x00 ∷ 0x02 ∷ 0x00 ∷ 0x05 ∷ 0x02 ∷ 0x00 ∷ 0x00 ∷ 0xff ∷ 0xff ∷ 0x04 ∷ 0x00 ∷ 0x00 ∷ 0x00
+    ∷ [])
     ∷ (0x01 ∷ 0x00 ∷ 0x04 ∷ 0x00 ∷ 0x01 ∷ 0x00 ∷ 0x00 ∷ 0x02 ∷ 0x00 ∷ 0x05 ∷ 0x02 ∷ 0x00 ∷ 0x00 ∷ 0xff ∷ 0xff ∷ 0x04 ∷ 0x00 ∷ 0x00 ∷ [])
     ∷ [])
-    ≡ refused Cut ∷ refused Tag ∷ refused Length ∷ refused Cut ∷ refused Beyond ∷ refused Beyond ∷ refused Idle ∷ refused Idle ∷ refused Limit ∷ refused Length ∷ refused Unsorted ∷ refused Unsorted ∷ refused Beyond ∷ refused Surplus ∷ given 0 ∷ []
+    ≡ refused Cut ∷ refused Tag ∷ refused Length ∷ refused Cut ∷ refused Beyond ∷ refused Beyond ∷ refused Idle ∷ refused Idle
+    ∷ refused Limit ∷ refused Length ∷ refused Unsorted ∷ refused Unsorted ∷ refused Beyond ∷ refused Surplus ∷ given 0 ∷ []
 unfolding answer _>>=_ need _>>_ read head field states state commands command entries rising
 reading-examples = refl
 
@@ -107,7 +146,8 @@ abbrev lent : ℕ → ℕ → ℕ → ℕ → List ℕ → List ℕ → List ℕ
 lent n m t start rows firsts outcomes =
     record { size = record { n = n; m = m; t = t; start = start }; rows = rowsIn rows; firsts = firsts; outcomes = outcomes }
 
--- One rest state is sound, also with more in the tables than their counts. Not sound: a kind of hexadecimal 0100; a first command that is not 0;
+-- One rest state is sound, also with more in the tables than their counts. Not sound: a kind of hexadecimal 0100; a first command that is
+-- not 0;
 -- an outcome that no command has; a start that is not below n; a row too few. Sound: a state that steps to itself; not with t one more,
 -- nor with its command past the table.
 sound-examples : map sound (
@@ -123,7 +163,8 @@ sound-examples : map sound (
     ∷ lent 1 1 1 0 (0 ∷ 0 ∷ 0 ∷ []) [] (0 ∷ [])
     ∷ [])
     ≡ true ∷ true ∷ false ∷ false ∷ false ∷ false ∷ false ∷ true ∷ false ∷ false ∷ []
-unfolding every rowAt firstCommand commandCount sizeSound tablesLong rowSound risesAt listSound entrySound listsSound sound rowsIn tabulate startOf
+unfolding every rowAt firstCommand commandCount sizeSound tablesLong rowSound risesAt listSound entrySound listsSound sound rowsIn tabulate
+    startOf
 sound-examples = refl
 
 -- ---- the calls: what is answered, and every lent table afterwards
@@ -139,7 +180,10 @@ decide-example : decideCall fork (replicate 4 7) (replicate 4 7) (replicate 4 7)
   marks = 0 ∷ 0 ∷ 0 ∷ 7 ∷ [];
   scratch = 0 ∷ 0 ∷ 0 ∷ 7 ∷ [];
 }
-unfolding any first every orElse lowest found howMany grow tabulate overwrite entry ordinary failing active hasPractice hits forced rank lost safe tryOrder choice chosen practiceHits practiceFails fault mark tallyRow tally answer _>>=_ need _>>_ rowAt firstCommand commandCount listAt sizeSound tablesLong rowSound risesAt listSound entrySound listsSound sound stateAt treeOf stateOf planOf planIn rowsIn left deciding rankTable commandTable markTable cleared startOf
+unfolding any first every orElse lowest found howMany grow tabulate overwrite entry ordinary failing active hasPractice hits forced rank
+    lost safe tryOrder choice chosen practiceHits practiceFails fault mark tallyRow tally answer _>>=_ need _>>_ rowAt firstCommand
+    commandCount listAt sizeSound tablesLong rowSound risesAt listSound entrySound listsSound sound stateAt treeOf stateOf planOf planIn
+    rowsIn left deciding rankTable commandTable markTable cleared startOf
 decide-example = refl
 
 -- a state that steps to itself, with a table one place short
@@ -153,18 +197,24 @@ decide-cramped : decideCall loop (7 ∷ []) (7 ∷ []) (7 ∷ []) [] ≡ record 
   marks = 7 ∷ [];
   scratch = [];
 }
-unfolding every answer need _>>_ rowAt firstCommand commandCount sizeSound tablesLong rowSound risesAt listSound entrySound listsSound sound rowsIn tabulate left deciding startOf
+unfolding every answer need _>>_ rowAt firstCommand commandCount sizeSound tablesLong rowSound risesAt listSound entrySound listsSound sound
+    rowsIn tabulate left deciding startOf
 decide-cramped = refl
 
 search-example : searchCall fork 0 (replicate 4 7) (replicate 4 7)
     ≡ record { answers = given (false, 1); commands = 0 ∷ FFFF ∷ FFFF ∷ 7 ∷ []; scratch = 0 ∷ 0 ∷ 0 ∷ 7 ∷ [] }
-unfolding any first every exists orElse lowest found grow tabulate overwrite entry ordinary failing active resting hasPractice hits tryOrder choice lands next marked withoutMarks ends before atOnce inRounds search answer _>>=_ need _>>_ rowAt firstCommand commandCount listAt sizeSound tablesLong rowSound risesAt listSound entrySound listsSound sound stateAt treeOf stateOf planOf planIn rowsIn left searching resultTable cleared startOf
+unfolding any first every exists orElse lowest found grow tabulate overwrite entry ordinary failing active resting hasPractice hits tryOrder
+    choice lands next marked withoutMarks ends before atOnce inRounds search answer _>>=_ need _>>_ rowAt firstCommand commandCount listAt
+    sizeSound tablesLong rowSound risesAt listSound entrySound listsSound sound stateAt treeOf stateOf planOf planIn rowsIn left searching
+    resultTable cleared startOf
 search-example = refl
 
 -- the order of refusals: an unsound plan, a stranger and a short table; then without the first; then the last alone
-search-refusals : searchCall (lent 1 1 2 0 (0 ∷ 0 ∷ 0 ∷ []) (0 ∷ []) (0 ∷ [])) 1 [] [] .answers ∷ searchCall loop 1 [] [] .answers ∷ searchCall loop 0 [] [] .answers ∷ []
+search-refusals : searchCall (lent 1 1 2 0 (0 ∷ 0 ∷ 0 ∷ []) (0 ∷ []) (0 ∷ [])) 1 [] [] .answers ∷ searchCall loop 1 [] [] .answers
+    ∷ searchCall loop 0 [] [] .answers ∷ []
     ≡ refused Unsound ∷ refused Stranger ∷ refused Cramped ∷ []
-unfolding every answer need _>>_ rowAt firstCommand commandCount sizeSound tablesLong rowSound risesAt listSound entrySound listsSound sound rowsIn tabulate searching startOf
+unfolding every answer need _>>_ rowAt firstCommand commandCount sizeSound tablesLong rowSound risesAt listSound entrySound listsSound sound
+    rowsIn tabulate searching startOf
 search-refusals = refl
 
 -- ---- the C boundary
@@ -178,11 +228,13 @@ rows-again : rowEntries (rowsIn (0 ∷ 1 ∷ FFFF ∷ 2 ∷ 3 ∷ 4 ∷ 5 ∷ []
 unfolding rowEntries rowsIn tabulate
 rows-again = refl
 
--- one rest state read with slices that hold it, with a row one byte short, and with a size record one byte short; a size record lent in one byte short
+-- one rest state read with slices that hold it, with a row one byte short, and with a size record one byte short; a size record lent in
+-- one byte short
 short-slices : code (gateRead oneRest 8 6 0 0) ∷ code (gateRead oneRest 8 5 0 0) ∷ code (gateRead oneRest 7 6 0 0)
     ∷ code (tablesIn (0 ∷ 1 ∷ 0 ∷ 0 ∷ 0 ∷ 0 ∷ 0 ∷ []) [] [] []) ∷ []
     ≡ 0 ∷ 9 ∷ 9 ∷ 10 ∷ []
-unfolding code gateRead tablesIn reading _>>=_ need _>>_ read head field states state commands allCommands rowsFrom firstsFrom tablesOf joined
+unfolding code gateRead tablesIn reading _>>=_ need _>>_ read head field states state commands allCommands rowsFrom firstsFrom tablesOf
+    joined
 short-slices = refl
 
 -- ---- decimal numbers

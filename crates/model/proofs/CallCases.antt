@@ -24,8 +24,15 @@ own = record { kind = 0; first = 0; practice = FFFF }
 
 -- 0 to {0}, with a place to spare in every table: the counts are answered, and the last places are as they were
 read-example : readCall toItself (seven ∷ seven ∷ []) (7 ∷ 7 ∷ []) (7 ∷ 7 ∷ [])
-    ≡ record { answers = given (record { n = 1; m = 1; t = 1; start = 0 }); rows = own ∷ seven ∷ []; firsts = 0 ∷ 7 ∷ []; outcomes = 0 ∷ 7 ∷ [] }
-unfolding answer left overwrite reading read head field states state commands command entries rising allCommands rowsFrom firstsFrom tablesOf joined _>>=_ need _>>_
+    ≡ record {
+      answers = given (record { n = 1; m = 1; t = 1; start = 0 });
+      rows = own ∷ seven ∷ [];
+      firsts = 0 ∷ 7 ∷ [];
+      outcomes = 0 ∷ 7
+          ∷ [];
+    }
+unfolding answer left overwrite reading read head field states state commands command entries rising allCommands rowsFrom firstsFrom
+    tablesOf joined _>>=_ need _>>_
 read-example = refl
 
 -- a byte too many: what was read of the plan before it is in no table
@@ -40,16 +47,19 @@ tables = record { size = record { n = 1; m = 1; t = 1; start = 0 }; rows = own �
 
 -- 10 + 8 + 3 + 2 bytes, with a byte to spare: the length is answered, nothing past the counts is written
 write-example : writeCall tables (replicate 24 7) ≡ record { answers = given 23; bytes = toItself ++ 7 ∷ [] }
-unfolding every answer left overwrite twos tabulate writing commandsBytes statesBytes bytesOf sizeLength rowAt firstCommand commandCount listAt sizeSound tablesLong rowSound risesAt listSound entrySound listsSound sound stateAt treeOf need _>>_ startOf
+unfolding every answer left overwrite twos tabulate writing commandsBytes statesBytes bytesOf sizeLength rowAt firstCommand commandCount
+    listAt sizeSound tablesLong rowSound risesAt listSound entrySound listsSound sound stateAt treeOf need _>>_ startOf
 write-example = refl
 
 -- a byte too few
 write-cramped : writeCall tables (replicate 22 7) ≡ record { answers = refused Cramped; bytes = replicate 22 7 }
-unfolding every answer left writing sizeLength rowAt firstCommand commandCount sizeSound tablesLong rowSound risesAt listSound entrySound listsSound sound need _>>_ startOf
+unfolding every answer left writing sizeLength rowAt firstCommand commandCount sizeSound tablesLong rowSound risesAt listSound entrySound
+    listsSound sound need _>>_ startOf
 write-cramped = refl
 
 -- a start that is no state, and no byte: unsound before cramped
-write-unsound : writeCall (record { size = record { n = 1; m = 1; t = 1; start = 1 }; rows = own ∷ []; firsts = 0 ∷ []; outcomes = 0 ∷ [] }) []
+write-unsound : writeCall (record { size = record { n = 1; m = 1; t = 1; start = 1 }; rows = own ∷ []; firsts = 0 ∷ []; outcomes = 0 ∷ [] })
+    []
     ≡ record { answers = refused Unsound; bytes = [] }
 unfolding answer left writing sizeSound sound need _>>_
 write-unsound = refl

@@ -54,7 +54,8 @@ module _ (T : Tables) where
   stops h = refute (sound T) (λ e. h (sounds e))
 
 -- tables that are not short are long enough
-long-enough : (z : Size) (rows firsts outcomes : ℕ) → (Short z rows firsts outcomes → ⊥) → (z .n ≤ rows) × (z .m ≤ firsts) × (z .t ≤ outcomes)
+long-enough : (z : Size) (rows firsts outcomes : ℕ) → (Short z rows firsts outcomes → ⊥) → (z .n ≤ rows) × (z .m ≤ firsts)
+    × (z .t ≤ outcomes)
 long-enough z rows firsts outcomes h = (not-less (λ l. h (inl l)), not-less (λ l. h (inr (inl l))), not-less (λ l. h (inr (inr l))))
   where
     not-less : {a b : ℕ} → (a < b → ⊥) → b ≤ a
@@ -71,11 +72,13 @@ conditions = record {
         (a .tree, a .reads, a .is, not-short (T .size) rows firsts outcomes (a .long-rows) (a .long-firsts) (a .long-outcomes)),
     λ (p, r, is, h).
         let (a, b, c) = long-enough (T .size) rows firsts outcomes h in
-        reading-iff rows firsts outcomes file T .1 (record { tree = p; reads = r; is = is; long-rows = a; long-firsts = b; long-outcomes = c }),
+        reading-iff rows firsts outcomes file T .1
+        (record { tree = p; reads = r; is = is; long-rows = a; long-firsts = b; long-outcomes = c }),
   );
   reading-refused = λ rows firsts outcomes file r. (
     reading-only rows firsts outcomes file r,
-    ⊎-elim (Refusing.reading-refused rows firsts outcomes file r) (λ (p, e, short, is). rw is (Refusing.reading-cramped rows firsts outcomes file p e short)),
+    ⊎-elim (Refusing.reading-refused rows firsts outcomes file r)
+        (λ (p, e, short, is). rw is (Refusing.reading-cramped rows firsts outcomes file p e short)),
   );
   writing-given = λ T bytes file. (
     λ e. let w = writing-iff T bytes file .0 e in (sounds T (w .sounds), w .long, w .is),
@@ -83,7 +86,8 @@ conditions = record {
   );
   writing-refused = λ T bytes r. (
     λ e. ⊎-elim (λ (u, is). inl (unsound T u, is)) (λ (s, short, is). inr (sounds T s, short, is)) (writing-only T bytes r e),
-    ⊎-elim (λ (u, is). rw is (Refusing.writing-unsound T (stops T u) bytes)) (λ (S, short, is). rw is (Refusing.writing-cramped T (passes T S) bytes short)),
+    ⊎-elim (λ (u, is). rw is (Refusing.writing-unsound T (stops T u) bytes))
+        (λ (S, short, is). rw is (Refusing.writing-cramped T (passes T S) bytes short)),
   );
   deciding-given = λ T ranks commands marks scratch P. (
     λ e.
@@ -100,7 +104,8 @@ conditions = record {
         }),
   );
   deciding-refused = λ T ranks commands marks scratch r. (
-    λ e. ⊎-elim (λ (u, is). inl (unsound T u, is)) (λ (s, short, is). inr (sounds T s, short, is)) (deciding-only T ranks commands marks scratch r e),
+    λ e. ⊎-elim (λ (u, is). inl (unsound T u, is)) (λ (s, short, is). inr (sounds T s, short, is))
+        (deciding-only T ranks commands marks scratch r e),
     ⊎-elim (λ (u, is). rw is (Refusing.deciding-unsound T (stops T u) ranks commands marks scratch))
         (λ (S, short, is). rw is (Refusing.deciding-cramped T (passes T S) ranks commands marks scratch short)),
   );
@@ -109,7 +114,8 @@ conditions = record {
         let w = searching-iff T start commands scratch R .0 e in
         (sounds T (w .sounds), w .inside, w .long-commands, w .long-scratch, w .is),
     λ (S, i, a, b, is).
-        searching-iff T start commands scratch R .1 (record { sounds = passes T S; inside = i; long-commands = a; long-scratch = b; is = is }),
+        searching-iff T start commands scratch R .1
+        (record { sounds = passes T S; inside = i; long-commands = a; long-scratch = b; is = is }),
   );
   searching-refused = λ T start commands scratch r. (
     λ e.
@@ -154,10 +160,12 @@ meanings = record {
   choice-words = choice-words;
   practice-judged = λ T S s l. practice-judged (planIn T) (valid T S) s (in-plan T S s l);
   last-round = λ T S a l act.
-      subst (λ (n : ℕ). lowest (ends (planIn T) a) n ≡ some (before (planIn T) a)) (states-held T) (last-round (planIn T) (valid T S) a (in-plan T S a l) act);
+      subst (λ (n : ℕ). lowest (ends (planIn T) a) n ≡ some (before (planIn T) a)) (states-held T)
+      (last-round (planIn T) (valid T S) a (in-plan T S a l) act);
   read-write = read-write;
   file-length = length-bytes;
-  write-read = λ T bytes S long rows firsts outcomes. write-read T bytes (fileLength T) (written-answers T bytes S long) rows firsts outcomes;
+  write-read = λ T bytes S long rows firsts outcomes. write-read T bytes (fileLength T) (written-answers T bytes S long) rows firsts
+      outcomes;
   bench-plans = bench-plans;
   case-A-listing = case-A-listing;
   listing-length = listing-length;

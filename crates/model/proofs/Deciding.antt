@@ -16,7 +16,17 @@ use Rattle.model.specs.Rule.{Rule, Under, Commanding, Fails, Survives, p
 use Rattle.model.specs.Demand3.{Decided, readEntry}
 use Rattle.model.proofs.StateKinds.{active-is, active-of}
 use Rattle.model.proofs.Choices.{hits-is, misses, forced-is, forced-of, choice-some, choice-none}
-use Rattle.model.proofs.Layers.{layer-step, not-failing, not-forced, rank-some, lost-rank, rank-safe, safe-stands, safe-takes, chosen-choice}
+use Rattle.model.proofs.Layers.{
+  layer-step,
+  not-failing,
+  not-forced,
+  rank-some,
+  lost-rank,
+  rank-safe,
+  safe-stands,
+  safe-takes,
+  chosen-choice,
+}
 
 -- a run stays in the plan
 pub run-inside : (P : Plan) → Valid P → (s : ℕ) → s < P .states → (w : Run) → IsRun P s w → present s w < P .states

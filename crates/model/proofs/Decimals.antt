@@ -77,4 +77,5 @@ module _ (x : ℕ) where
   unfolding decimal
   decimal-three l =
       let e : x / 100 / 100 ≡ x / 10000 = omega arith in
-      digits-more 2 x (omega arith) ∙ rw (digits-more 1 (x / 100) (omega arith), e) (append-assoc (digits 1 (x / 10000)) (pairAt (x / 100 % 100)) (pairAt (x % 100)))
+      digits-more 2 x (omega arith)
+      ∙ rw (digits-more 1 (x / 100) (omega arith), e) (append-assoc (digits 1 (x / 10000)) (pairAt (x / 100 % 100)) (pairAt (x % 100)))

@@ -40,23 +40,27 @@ module _ (T : Tables) (sounds : sound T ≡ true) where
   of-tables ranks commands a inside table =
       let g = sound-good T sounds in
       let n = states-held T in
-      demand3 (planIn T) (sound-valid T sounds) (omega (arith, few-states (treeOf T) g)) (λ s h. omega (arith, few-commands (treeOf T) g s h))
+      demand3 (planIn T) (sound-valid T sounds) (omega (arith, few-states (treeOf T) g))
+      (λ s h. omega (arith, few-commands (treeOf T) g s h))
       _ _ _
       (λ s h. entry-written (λ t. entry (rank (planIn T) t)) (planIn T .states) ranks s h)
       (λ s h. entry-written (λ t. entry (chosen (planIn T) t)) (planIn T .states) commands s h)
       a (rw n inside)
       (λ s h. entry-written (λ t. entry (search (planIn T) a .command t)) (T .size .n) table s (rw n at h))
 
-  pub tables-decided : (ranks commands : List ℕ) → DecidingDemand3 T (overwrite (rankTable (planIn T)) ranks) (overwrite (commandTable (planIn T)) commands)
+  pub tables-decided : (ranks commands : List ℕ)
+      → DecidingDemand3 T (overwrite (rankTable (planIn T)) ranks) (overwrite (commandTable (planIn T)) commands)
   unfolding left
   tables-decided ranks commands a table space verdict rounds e =
       let (R, found, q) = answer-inv (λ (x : Result). (x .lost, x .rounds)) _ (verdict, rounds) e in
       let S = searching-iff T a (length table) (length space) R .0 found in
-      rw found (subst (λ (v : Bool × ℕ). Demand3 (planIn T) (overwrite (rankTable (planIn T)) ranks) (overwrite (commandTable (planIn T)) commands) a (v .0) (v .1) (overwrite (resultTable (T .size .n) R) table)) q
+      rw found (subst (λ (v : Bool × ℕ). Demand3 (planIn T) (overwrite (rankTable (planIn T)) ranks)
+      (overwrite (commandTable (planIn T)) commands) a (v .0) (v .1) (overwrite (resultTable (T .size .n) R) table)) q
       (rw (← (S .is)) (of-tables ranks commands a (S .inside) table)))
 
   pub table-searched : (a : ℕ) → a < T .size .n → (table : List ℕ)
-      → SearchDemand3 T a (search (planIn T) a .lost) (search (planIn T) a .rounds) (overwrite (resultTable (T .size .n) (search (planIn T) a)) table)
+      → SearchDemand3 T a (search (planIn T) a .lost) (search (planIn T) a .rounds)
+      (overwrite (resultTable (T .size .n) (search (planIn T) a)) table)
   unfolding left
   table-searched a inside table ranks commands marks scratch counts e =
       let (P, decided, _) = answer-inv tally _ counts e in
@@ -75,7 +79,8 @@ decide-demand3 T ranks commands marks scratch counts e =
 
 -- of the search's, where it answers
 pub search-demand3 : (T : Tables) (a : ℕ) (table space : List ℕ) (verdict : Bool) (rounds : ℕ)
-    → searchCall T a table space .answers ≡ given (verdict, rounds) → SearchDemand3 T a verdict rounds (searchCall T a table space .commands)
+    → searchCall T a table space .answers ≡ given (verdict, rounds)
+    → SearchDemand3 T a verdict rounds (searchCall T a table space .commands)
 unfolding left
 search-demand3 T a table space verdict rounds e =
     let (R, found, q) = answer-inv (λ (x : Result). (x .lost, x .rounds)) _ (verdict, rounds) e in

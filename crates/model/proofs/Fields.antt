@@ -9,7 +9,24 @@ use borrow.Author.Tests.{leb-true, ltb-true, eqb-true, le-leb, lt-ltb, eq-eqb}
 use Rattle.laws.specs.Entry.{be16}
 use Rattle.laws.proofs.Tests.{and-both}
 use Rattle.model.specs.Refusal.{given, need, _>>=_, _>>_}
-use Rattle.model.specs.File.{maxStates, maxCommands, maxOutcomes, headTag, stateTag, commandTag, allowed, StateField, notIdle, stateValues, field, head, state, entries, rising, command}
+use Rattle.model.specs.File.{
+  maxStates,
+  maxCommands,
+  maxOutcomes,
+  headTag,
+  stateTag,
+  commandTag,
+  allowed,
+  StateField,
+  notIdle,
+  stateValues,
+  field,
+  head,
+  state,
+  entries,
+  rising,
+  command,
+}
 use Rattle.model.proofs.Answers.{given-inj, need-inv, then-inv, bind-inv}
 
 pub record Framed (tag : ℕ) (s : List ℕ) (len : ℕ) : Type 0 where
@@ -65,7 +82,15 @@ module _ (s : List ℕ) (n start : ℕ) where
 
   pub head-gives : Headed s n start → head s ≡ given (n, start)
   unfolding head need _>>_ _>>=_
-  head-gives h = rw (field-gives headTag s 4 (h .framed), h .counts, h .starts, le-leb _ _ (h .some), le-leb _ _ (h .few), lt-ltb _ _ (h .inside))
+  head-gives h = rw (
+    field-gives headTag s 4 (h .framed),
+    h .counts,
+    h .starts,
+    le-leb _ _ (h .some),
+    le-leb _ _ (h .few),
+    lt-ltb _ _
+        (h .inside),
+  )
 
 pub record Stated (m : ℕ) (s : List ℕ) (q : StateField) : Type 0 where
   pub framed : Framed stateTag s 5

@@ -4,8 +4,38 @@ use mathlib.Core.List.{List, [], _∷_, _++_, map}
 use Prim.Native.Nat.{ℕ}
 use Rattle.laws.specs.Lists.{joined}
 use Rattle.laws.specs.Entry.{FFFF}
-use Rattle.model.specs.Refusal.{Cut, Surplus, Tag, Length, Beyond, Unsorted, Idle, Limit, Cramped, given, refused, answer, _>>=_, need, _>>_}
-use Rattle.model.specs.File.{headTag, stateTag, commandTag, endTag, field, head, state, entries, rising, command, commands, states, read}
+use Rattle.model.specs.Refusal.{
+  Cut,
+  Surplus,
+  Tag,
+  Length,
+  Beyond,
+  Unsorted,
+  Idle,
+  Limit,
+  Cramped,
+  given,
+  refused,
+  answer,
+  _>>=_,
+  need,
+  _>>_,
+}
+use Rattle.model.specs.File.{
+  headTag,
+  stateTag,
+  commandTag,
+  endTag,
+  field,
+  head,
+  state,
+  entries,
+  rising,
+  command,
+  commands,
+  states,
+  read,
+}
 use Rattle.model.specs.Tables.{allCommands, rowsFrom, firstsFrom, tablesOf}
 use Rattle.model.specs.Calls.{reading}
 use Rattle.model.specs.Bench.{oneRest}
@@ -37,7 +67,8 @@ head-limits = refl
 -- ---- state: kind, idle, limit
 
 -- a command more than 4,096, under kind 2 and under kind 0: idle comes before limit; the 4,096th
-state-limits : state 4096 (2 ∷ 0 ∷ 5 ∷ 2 ∷ 0 ∷ 1 ∷ 255 ∷ 255 ∷ []) ∷ state 4096 (2 ∷ 0 ∷ 5 ∷ 0 ∷ 0 ∷ 1 ∷ 255 ∷ 255 ∷ []) ∷ state 4095 (2 ∷ 0 ∷ 5 ∷ 0 ∷ 0 ∷ 1 ∷ 255 ∷ 255 ∷ []) ∷ []
+state-limits : state 4096 (2 ∷ 0 ∷ 5 ∷ 2 ∷ 0 ∷ 1 ∷ 255 ∷ 255 ∷ []) ∷ state 4096 (2 ∷ 0 ∷ 5 ∷ 0 ∷ 0 ∷ 1 ∷ 255 ∷ 255 ∷ [])
+    ∷ state 4095 (2 ∷ 0 ∷ 5 ∷ 0 ∷ 0 ∷ 1 ∷ 255 ∷ 255 ∷ []) ∷ []
     ≡ refused Idle ∷ refused Limit ∷ given (record { kind = 0; count = 1; practice = FFFF }) ∷ []
 unfolding state field _>>=_ need _>>_
 state-limits = refl
@@ -45,12 +76,14 @@ state-limits = refl
 -- ---- command: limit, then each entry
 
 -- an outcome more than 16,384, which is not below n either: limit; the 16,384th; the same not below n
-command-limits : command 2 16384 (3 ∷ 0 ∷ 2 ∷ 0 ∷ 9 ∷ []) ∷ command 2 16383 (3 ∷ 0 ∷ 2 ∷ 0 ∷ 1 ∷ []) ∷ command 2 16383 (3 ∷ 0 ∷ 2 ∷ 0 ∷ 2 ∷ []) ∷ []
+command-limits : command 2 16384 (3 ∷ 0 ∷ 2 ∷ 0 ∷ 9 ∷ []) ∷ command 2 16383 (3 ∷ 0 ∷ 2 ∷ 0 ∷ 1 ∷ [])
+    ∷ command 2 16383 (3 ∷ 0 ∷ 2 ∷ 0 ∷ 2 ∷ []) ∷ []
     ≡ refused Limit ∷ given (1 ∷ []) ∷ refused Beyond ∷ []
 unfolding command field entries rising _>>=_ need _>>_
 command-limits = refl
 
--- 3 with n = 2 where at least 5 is due: beyond comes before unsorted. (No file has such an entry: the one before it would be 4, and is refused.)
+-- 3 with n = 2 where at least 5 is due: beyond comes before unsorted. (No file has such an entry: the one before it would be 4, and is
+-- refused.)
 entry-order : rising 2 5 (3 ∷ []) ∷ rising 4 5 (3 ∷ []) ∷ rising 4 3 (3 ∷ []) ∷ []
     ≡ refused Beyond ∷ refused Unsorted ∷ given tt ∷ []
 unfolding rising need _>>_

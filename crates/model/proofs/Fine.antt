@@ -34,4 +34,10 @@ module _ (T : Tables) (o : Ordered T) where
 
     pub fine-row : GoodState (T .size .n) (stateAt T s) → RowFits T s
     unfolding stateAt
-    fine-row g = record { rises = o .commands .step s h; below = o .commands .below s h; kinds = g .low; not-idle = rw (count-commands T s) at (g .works) }
+    fine-row g = record {
+      rises = o .commands .step s h;
+      below = o .commands .below s h;
+      kinds = g .low;
+      not-idle = rw (count-commands T s)
+          at (g .works);
+    }

@@ -1,4 +1,5 @@
--- Laws of plans that differ in their outcomes only: with fewer outcomes no more states are lost, and none sooner; with the same ones, in whatever
+-- Laws of plans that differ in their outcomes only: with fewer outcomes no more states are lost, and none sooner; with the same ones, in
+-- whatever
 -- order they are listed, the same states at the same rank.
 use mathlib.Core.Path.{_≡_, refl, sym, ap, _∙_}
 use mathlib.Core.Bool.{Bool, true}
@@ -51,7 +52,12 @@ module _ (P Q : Plan) (F : Finer P Q) (S : Valid Q) where
     kinds = λ s l. rw (F .shape .kinds s l) (S .kinds s (rw (← F .shape .states) l));
     idle = λ s c l m. F .shape .kinds s l ∙ S .idle s c (omega (arith, F .shape .states)) (omega (arith, F .shape .counts s l));
     inside = λ s c x l m out.
-        omega (arith, F .shape .states, S .inside s c x (omega (arith, F .shape .states)) (omega (arith, F .shape .counts s l)) (F .among s c x l m out));
+        omega (
+          arith,
+          F .shape .states,
+          S .inside s c x (omega (arith, F .shape .states)) (omega (arith, F .shape .counts s l))
+              (F .among s c x l m out),
+        );
   }
 
   -- what P forces by a set, Q forces by a larger one

@@ -1,4 +1,5 @@
--- Demand 3 over the bytes that the C program's calls leave: entries that were written are read as they were, so it is the claim of the tables.
+-- Demand 3 over the bytes that the C program's calls leave: entries that were written are read as they were, so it is the claim of the
+-- tables.
 use mathlib.Core.Path.{_≡_, refl, sym, ap, ap₂, _∙_}
 use mathlib.Core.Bool.{Bool, true, false, cond, _&&_}
 use mathlib.Core.List.{List, [], _∷_, _++_}
@@ -22,7 +23,20 @@ use Rattle.model.specs.Tables.{Tables}
 use Rattle.model.specs.File.{entries}
 use Rattle.model.specs.Held.{planIn}
 use Rattle.model.specs.Calls.{left, deciding, searching, rankTable, commandTable, resultTable}
-use Rattle.model.specs.Boundary.{entriesIn, bytesFor, resultEntries, tallyBytes, answerBytes, code, verdictIn, roundsIn, gateDecide, gateSearch, gateDecideCall, gateSearchCall}
+use Rattle.model.specs.Boundary.{
+  entriesIn,
+  bytesFor,
+  resultEntries,
+  tallyBytes,
+  answerBytes,
+  code,
+  verdictIn,
+  roundsIn,
+  gateDecide,
+  gateSearch,
+  gateDecideCall,
+  gateSearchCall,
+}
 use Rattle.model.specs.Demand3.{DecidingDemand3, SearchDemand3}
 use Rattle.model.proofs.Numbers.{number-bound}
 use Rattle.model.proofs.Answers.{bind-inv, need-inv, given-inj}
@@ -59,7 +73,8 @@ written-entries es s h =
     = omega (arith, length-append (twos es []) (drop (length (twos es [])) s), d, l, h) in
     let c : length es + k ≡ length s / 2 = omega (arith, h) in
     rw a (front-entries es k (drop (length (twos es [])) s)
-    ∙ ap (λ (r : List ℕ). es ++ r) (ap (λ (i : ℕ). entries k (drop i s)) l ∙ later-entries (length es) k s ∙ ap (λ (i : ℕ). drop (length es) (entries i s)) c))
+    ∙ ap (λ (r : List ℕ). es ++ r)
+    (ap (λ (i : ℕ). entries k (drop i s)) l ∙ later-entries (length es) k s ∙ ap (λ (i : ℕ). drop (length es) (entries i s)) c))
 
 -- of a table that is made by a rule
 written-table : (f : ℕ → ℕ) (n : ℕ) (s : List ℕ) → n ≤ length s / 2
@@ -113,11 +128,14 @@ rounds-entry R answer = be16-two (R .rounds) []
 
 -- rules G1 and D3: of the bytes that each call leaves when it returns 0, on a plan lent as bytes, whatever the slices held before
 module _ (lent : Answer Tables) (T : Tables) (is : lent ≡ given T) where
-  pub gate-decide-demand3 : (ranks commands marks scratch tally : List ℕ) → gateDecideCall lent ranks commands marks scratch tally .returns ≡ 0
-      → DecidingDemand3 T (entriesIn (gateDecideCall lent ranks commands marks scratch tally .ranks)) (entriesIn (gateDecideCall lent ranks commands marks scratch tally .commands))
+  pub gate-decide-demand3 : (ranks commands marks scratch tally : List ℕ) → gateDecideCall lent ranks commands marks scratch tally .returns
+      ≡ 0
+      → DecidingDemand3 T (entriesIn (gateDecideCall lent ranks commands marks scratch tally .ranks))
+      (entriesIn (gateDecideCall lent ranks commands marks scratch tally .commands))
   unfolding left rankTable commandTable
   gate-decide-demand3 ranks commands marks scratch tally e =
-      let (P, p) = answered (gateDecide (given T) (length ranks) (length commands) (length marks) (length scratch) (length tally)) (rw is at e) in
+      let (P, p) = answered (gateDecide (given T) (length ranks) (length commands) (length marks) (length scratch) (length tally))
+      (rw is at e) in
       let D = decided T (length ranks) (length commands) (length marks) (length scratch) (length tally) P p in
       let m = states-held T in
       rw (
@@ -130,7 +148,8 @@ module _ (lent : Answer Tables) (T : Tables) (is : lent ≡ given T) where
       (tables-decided T (D .sounds) (entriesIn ranks) (entriesIn commands))
 
   pub gate-search-demand3 : (a : ℕ) (table space answer : List ℕ) → gateSearchCall lent a table space answer .returns ≡ 0
-      → SearchDemand3 T a (verdictIn (gateSearchCall lent a table space answer .answer)) (roundsIn (gateSearchCall lent a table space answer .answer))
+      → SearchDemand3 T a (verdictIn (gateSearchCall lent a table space answer .answer))
+      (roundsIn (gateSearchCall lent a table space answer .answer))
       (entriesIn (gateSearchCall lent a table space answer .commands))
   unfolding left resultTable
   gate-search-demand3 a table space answer e =

@@ -17,7 +17,23 @@ use Rattle.model.specs.Refusal.{Cramped, Answer, given, need, _>>=_, _>>
 use Rattle.model.specs.File.{Tree, read}
 use Rattle.model.specs.Tables.{Size, Row, Tables, Same, allCommands, tablesOf}
 use Rattle.model.specs.Calls.{left, reading, afterReading}
-use Rattle.model.specs.Boundary.{entryBytes, rowWidth, rowBytes, entriesIn, bytesFor, rowFrom, entriesOf, rowsIn, rowEntries, sizeEntries, sizeBytes, sizeIn, tablesIn, gateRead, gateReadCall}
+use Rattle.model.specs.Boundary.{
+  entryBytes,
+  rowWidth,
+  rowBytes,
+  entriesIn,
+  bytesFor,
+  rowFrom,
+  entriesOf,
+  rowsIn,
+  rowEntries,
+  sizeEntries,
+  sizeBytes,
+  sizeIn,
+  tablesIn,
+  gateRead,
+  gateReadCall,
+}
 use Rattle.model.proofs.Answers.{bind-inv, need-inv}
 use Rattle.model.proofs.Answering.{reading-iff}
 use Rattle.model.proofs.Layouts.{by-state, by-command}
@@ -98,8 +114,10 @@ module _ (file size rows firsts outcomes : List ℕ) where
   abbrev lent : Tables → Tables
   lent T = afterReading (T .size) file (rowsIn (entriesIn rows)) (entriesIn firsts) (entriesIn outcomes)
 
-  module _ (T : Tables) (answers : reading (length (rowsIn (entriesIn rows))) (length (entriesIn firsts)) (length (entriesIn outcomes)) file ≡ given T)
-      (long-size : sizeBytes ≤ length size) (long-rows : length (T .rows) * rowBytes ≤ length rows) (long-firsts : length (T .firsts) * entryBytes ≤ length firsts)
+  module _ (T : Tables) (answers : reading (length (rowsIn (entriesIn rows))) (length (entriesIn firsts)) (length (entriesIn outcomes)) file
+      ≡ given T)
+      (long-size : sizeBytes ≤ length size) (long-rows : length (T .rows) * rowBytes ≤ length rows)
+      (long-firsts : length (T .firsts) * entryBytes ≤ length firsts)
       (long-outcomes : length (T .outcomes) * entryBytes ≤ length outcomes) where
     tables-back : tablesIn (overwrite (bytesFor (sizeEntries (T .size))) size) (overwrite (bytesFor (rowEntries (T .rows))) rows)
         (overwrite (bytesFor (T .firsts)) firsts) (overwrite (bytesFor (T .outcomes)) outcomes) ≡ given (lent T)
@@ -119,8 +137,10 @@ module _ (file size rows firsts outcomes : List ℕ) where
 
   -- of a call that returned 0, the slices that it left are the plan of the file, up to its counts
   pub gate-read-again : gateReadCall file size rows firsts outcomes .returns ≡ 0
-      → (p : Tree) × (read file ≡ given p) × (tablesIn (gateReadCall file size rows firsts outcomes .size) (gateReadCall file size rows firsts outcomes .rows)
-      (gateReadCall file size rows firsts outcomes .firsts) (gateReadCall file size rows firsts outcomes .outcomes) ≡ given (lent (tablesOf p)))
+      → (p : Tree) × (read file ≡ given p)
+      × (tablesIn (gateReadCall file size rows firsts outcomes .size) (gateReadCall file size rows firsts outcomes .rows)
+      (gateReadCall file size rows firsts outcomes .firsts) (gateReadCall file size rows firsts outcomes .outcomes)
+      ≡ given (lent (tablesOf p)))
       × Same (lent (tablesOf p)) (tablesOf p)
   unfolding gateRead tablesOf
   gate-read-again e =
@@ -131,7 +151,8 @@ module _ (file size rows firsts outcomes : List ℕ) where
       let p = a .tree in
       let back : given T ≡ given (tablesOf p) = ap given (sym (a .is)) in
       let size-is : T .size ≡ tablesOf p .size = ap (λ (W : Tables). W .size) (sym (a .is)) in
-      let answers : reading (length (rowsIn (entriesIn rows))) (length (entriesIn firsts)) (length (entriesIn outcomes)) file ≡ given (tablesOf p)
+      let answers : reading (length (rowsIn (entriesIn rows))) (length (entriesIn firsts)) (length (entriesIn outcomes)) file
+      ≡ given (tablesOf p)
       = rw (length-rows-in rows, length-entries-in firsts, length-entries-in outcomes) (r ∙ g ∙ back) in (
         p,
         a .reads,

@@ -20,7 +20,8 @@ use Rattle.model.proofs.SoundFacts.{sound-facts}
 use Rattle.model.proofs.SameSound.{deciding-same, searching-same}
 
 -- what comes behind a test, asked before and after it
-behind : {A B : Type 0} (r : Refusal) (b : Bool) (x : Answer B) (y : Answer A) (f : A → Answer B) → (b ≡ true → x ≡ (y >>= f)) → (need r b >> x) ≡ ((need r b >> y) >>= f)
+behind : {A B : Type 0} (r : Refusal) (b : Bool) (x : Answer B) (y : Answer A) (f : A → Answer B) → (b ≡ true → x ≡ (y >>= f))
+    → (need r b >> x) ≡ ((need r b >> y) >>= f)
 unfolding need _>>_ _>>=_
 behind r true x y f h = h refl
 behind r false x y f h = refl
@@ -43,7 +44,8 @@ module _ (T : Tables) where
 
   deciding-after : (a b c d : ℕ)
       → deciding T a b c d
-      ≡ (wholeDeciding >>= λ P. need Cramped (leb (T .size .n) a && leb (T .size .n) b && leb (T .size .n) c && leb (T .size .n) d) >> given P)
+      ≡ (wholeDeciding >>= λ P. need Cramped (leb (T .size .n) a && leb (T .size .n) b && leb (T .size .n) c && leb (T .size .n) d) >> given
+      P)
   unfolding deciding need _>>_ _>>=_
   deciding-after a b c d =
       behind Unsound (sound T) _ _ _ (λ e. let few = le-leb _ _ (sound-facts T .0 e .size .few) in rw few)
@@ -52,17 +54,21 @@ module _ (T : Tables) where
       → searching T start a b ≡ (wholeSearch start >>= λ R. need Cramped (leb (T .size .n) a && leb (T .size .n) b) >> given R)
   unfolding searching need _>>_ _>>=_
   searching-after start a b =
-      behind Unsound (sound T) _ _ _ (λ e. let few = le-leb _ _ (sound-facts T .0 e .size .few) in behind Stranger (ltb start (T .size .n)) _ _ _ (λ _. rw few))
+      behind Unsound (sound T) _ _ _
+      (λ e. let few = le-leb _ _ (sound-facts T .0 e .size .few) in behind Stranger (ltb start (T .size .n)) _ _ _ (λ _. rw few))
 
   pub gate-decide : (ranks commands marks scratch tally : ℕ) → gateDecide (given T) ranks commands marks scratch tally
       ≡ (wholeDeciding >>= λ P. need Cramped (decideRoom (T .size .n) ranks commands marks scratch tally) >> given P)
   unfolding gateDecide _>>=_
-  gate-decide ranks commands marks scratch tally = rw (deciding-after (ranks / entryBytes) (commands / entryBytes) (marks / entryBytes) (scratch / entryBytes)) (two-needs wholeDeciding (λ P. P) _ _)
+  gate-decide ranks commands marks scratch tally = rw
+      (deciding-after (ranks / entryBytes) (commands / entryBytes) (marks / entryBytes) (scratch / entryBytes))
+      (two-needs wholeDeciding (λ P. P) _ _)
 
   pub gate-search : (start commands scratch answer : ℕ) → gateSearch (given T) start commands scratch answer
       ≡ (wholeSearch start >>= λ R. need Cramped (searchRoom (T .size .n) commands scratch answer) >> given (T .size .n, R))
   unfolding gateSearch _>>=_
-  gate-search start commands scratch answer = rw (searching-after start (commands / entryBytes) (scratch / entryBytes)) (two-needs (wholeSearch start) (λ R. (T .size .n, R)) _ _)
+  gate-search start commands scratch answer = rw (searching-after start (commands / entryBytes) (scratch / entryBytes))
+      (two-needs (wholeSearch start) (λ R. (T .size .n, R)) _ _)
 
 -- what a call returns and what it leaves, where it is refused and where it answers
 module _ {A : Type 0} {x : Answer A} where
@@ -90,7 +96,8 @@ module _ {A B D : Type 0} (x : Answer A) (h : A → D) (v : Answer D) (from : v 
   unfolding code answer need _>>_ _>>=_
   code-from = rw from (go x q)
     where
-      go : (x : Answer A) (q : Bool) → code (answer h x >>= λ d. need Cramped q >> given d) ≡ code (x >>= λ a. need Cramped q >> given (k a))
+      go : (x : Answer A) (q : Bool) → code (answer h x >>= λ d. need Cramped q >> given d)
+          ≡ code (x >>= λ a. need Cramped q >> given (k a))
       go (given a) true = refl
       go (given a) false = refl
       go (refused r) q = refl
@@ -108,30 +115,36 @@ module _ {A B D : Type 0} (x : Answer A) (h : A → D) (v : Answer D) (from : v 
 
 -- tables that agree are answered the same
 module _ {T U : Tables} (same : Same T U) where
-  pub gate-decide-same : (ranks commands marks scratch tally : ℕ) → gateDecide (given T) ranks commands marks scratch tally ≡ gateDecide (given U) ranks commands marks scratch tally
+  pub gate-decide-same : (ranks commands marks scratch tally : ℕ) → gateDecide (given T) ranks commands marks scratch tally
+      ≡ gateDecide (given U) ranks commands marks scratch tally
   unfolding gateDecide _>>=_
   gate-decide-same a b c d e =
       rw (deciding-same same (a / entryBytes) (b / entryBytes) (c / entryBytes) (d / entryBytes))
 
-  pub gate-search-same : (start commands scratch answer : ℕ) → gateSearch (given T) start commands scratch answer ≡ gateSearch (given U) start commands scratch answer
+  pub gate-search-same : (start commands scratch answer : ℕ) → gateSearch (given T) start commands scratch answer
+      ≡ gateSearch (given U) start commands scratch answer
   unfolding gateSearch _>>=_
   gate-search-same start a b c =
       rw (searching-same same start (a / entryBytes) (b / entryBytes))
-      (ap (λ (z : Size). searching U start (a / entryBytes) (b / entryBytes) >>= λ R. need Cramped (leb answerBytes c) >> given (z .n, R)) (same .size))
+      (ap (λ (z : Size). searching U start (a / entryBytes) (b / entryBytes) >>= λ R. need Cramped (leb answerBytes c) >> given (z .n, R))
+      (same .size))
 
 -- the plan lent comes first
 module _ (lent : Answer Tables) where
-  pub gate-decide-lent : (ranks commands marks scratch tally : ℕ) → gateDecide lent ranks commands marks scratch tally ≡ (lent >>= λ T. gateDecide (given T) ranks commands marks scratch tally)
+  pub gate-decide-lent : (ranks commands marks scratch tally : ℕ) → gateDecide lent ranks commands marks scratch tally
+      ≡ (lent >>= λ T. gateDecide (given T) ranks commands marks scratch tally)
   unfolding gateDecide _>>=_
   gate-decide-lent a b c d t = refl
 
-  pub gate-search-lent : (start commands scratch answer : ℕ) → gateSearch lent start commands scratch answer ≡ (lent >>= λ T. gateSearch (given T) start commands scratch answer)
+  pub gate-search-lent : (start commands scratch answer : ℕ) → gateSearch lent start commands scratch answer
+      ≡ (lent >>= λ T. gateSearch (given T) start commands scratch answer)
   unfolding gateSearch _>>=_
   gate-search-lent start a b c = refl
 
 -- an unsound plan is refused with 10
 module _ (T : Tables) (e : sound T ≡ false) where
-  pub gate-decide-unsound : (ranks commands marks scratch tally : ℕ) → gateDecide (given T) ranks commands marks scratch tally ≡ refused Unsound
+  pub gate-decide-unsound : (ranks commands marks scratch tally : ℕ) → gateDecide (given T) ranks commands marks scratch tally
+      ≡ refused Unsound
   unfolding gateDecide deciding need _>>_ _>>=_
   gate-decide-unsound a b c d t = rw e
 

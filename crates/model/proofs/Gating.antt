@@ -78,10 +78,13 @@ module _ (file : List ℕ) {R F O : ℕ} (all-rows : maxStates ≤ R) (all-first
     gate-read-size = rw reading-all (go (read file))
       where
         go : (x : Answer Tree)
-            → answer (λ T. T .size) ((x >>= λ p. need Cramped (enough (tablesOf p .size) (rows / rowBytes) (firsts / entryBytes) (outcomes / entryBytes)) >> given (tablesOf p)) >>= λ T. need Cramped (leb sizeBytes size) >> given T)
+            → answer (λ T. T .size) ((x >>= λ p. need Cramped
+            (enough (tablesOf p .size) (rows / rowBytes) (firsts / entryBytes) (outcomes / entryBytes)) >> given (tablesOf p)) >>= λ T.
+            need Cramped (leb sizeBytes size) >> given T)
             ≡ (answer (λ T. T .size) (answer tablesOf x) >>= λ z. need Cramped (readRoom z size rows firsts outcomes) >> given z)
         go (refused r) = refl
-        go (given p) = both-tests (tablesOf p) (enough (tablesOf p .size) (rows / rowBytes) (firsts / entryBytes) (outcomes / entryBytes)) (leb sizeBytes size)
+        go (given p) = both-tests (tablesOf p) (enough (tablesOf p .size) (rows / rowBytes) (firsts / entryBytes) (outcomes / entryBytes))
+            (leb sizeBytes size)
 
     -- what was read, if the slices have room for it
     pub record Gated (T : Tables) : Type 0 where

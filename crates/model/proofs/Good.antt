@@ -20,7 +20,17 @@ use Rattle.model.specs.Bytes.{commandsBytes, statesBytes, bytesOf}
 use Rattle.model.specs.Tables.{allCommands}
 use Rattle.model.specs.Held.{stateOf}
 use Rattle.model.proofs.Answers.{need-inv}
-use Rattle.model.proofs.Readings.{CommandsRead, StatesRead, none, more, read-inv, commands-count, states-count, few-commands, few-outcomes}
+use Rattle.model.proofs.Readings.{
+  CommandsRead,
+  StatesRead,
+  none,
+  more,
+  read-inv,
+  commands-count,
+  states-count,
+  few-commands,
+  few-outcomes,
+}
 
 -- a list of at least so many states, which rise
 pub record GoodList (least n : ℕ) (c : List ℕ) : Type 0 where
@@ -122,4 +132,5 @@ pub bytes-good : (p : Tree) → Good p → Bytes (bytesOf p)
 unfolding bytesOf
 bytes-good p g =
     bytes-cons (omega arith) (bytes-two 4 (omega arith) (bytes-two (length (p .states)) (omega arith) (bytes-two (p .start) (omega arith)
-    (bytes-states (g .few) (g .good) (g .few-commands) (g .few-outcomes) (bytes-cons (omega arith) (bytes-two 0 (omega arith) bytes-nil))))))
+    (bytes-states (g .few) (g .good) (g .few-commands) (g .few-outcomes)
+    (bytes-cons (omega arith) (bytes-two 0 (omega arith) bytes-nil))))))

@@ -37,7 +37,8 @@ module _ (T : Tables) where
 
     pub commands-held : planIn T .commands s ≡ commandCount T s
     unfolding planIn planOf stateAt
-    commands-held = ap (λ (q : State). length (q .commands)) state-held ∙ length-tabulate (outcomesAt T) (firstCommand T s) (commandCount T s)
+    commands-held = ap (λ (q : State). length (q .commands)) state-held
+        ∙ length-tabulate (outcomesAt T) (firstCommand T s) (commandCount T s)
 
     pub outcomes-held : (c : ℕ) → c < commandCount T s → planIn T .outcomes s c ≡ outcomesAt T (firstCommand T s + c)
     unfolding planIn planOf stateAt

@@ -21,7 +21,8 @@ entry-at (suc k) s (suc i) h =
     let a : 2 + i * 2 ≡ suc i * 2 = omega arith in
     let b : 2 + (i * 2 + 1) ≡ suc i * 2 + 1 = omega arith in
     entry-at k (drop 2 s) i (omega arith)
-    ∙ ap₂ (λ (x y : ℕ). x * 256 + y) (getD-drop 2 s (i * 2) 0 ∙ ap (λ (j : ℕ). getD s j 0) a) (getD-drop 2 s (i * 2 + 1) 0 ∙ ap (λ (j : ℕ). getD s j 0) b)
+    ∙ ap₂ (λ (x y : ℕ). x * 256 + y) (getD-drop 2 s (i * 2) 0 ∙ ap (λ (j : ℕ). getD s j 0) a)
+    (getD-drop 2 s (i * 2 + 1) 0 ∙ ap (λ (j : ℕ). getD s j 0) b)
 
 -- the first n entries
 pub take-entries : (n : ℕ) (s : List ℕ) → n * entryBytes ≤ length s → take n (entriesIn s) ≡ tabulate (λ i. be16 s (i * entryBytes)) 0 n
@@ -30,7 +31,8 @@ take-entries n s h =
     let l : n ≤ length (entries (length s / 2) s) = omega (arith, length-entries (length s / 2) s) in
     let e : length (take n (entries (length s / 2) s)) ≡ n = length-take-le n _ l in
     ext-getD 0 _ _ (e ∙ sym (length-tabulate (λ i. be16 s (i * 2)) 0 n)) (λ i k.
-    getD-take n _ i 0 (rw e at k) ∙ entry-at (length s / 2) s i (omega (arith, e, k)) ∙ sym (tabulate-at (λ j. be16 s (j * 2)) n i 0 (rw e at k)))
+    getD-take n _ i 0 (rw e at k) ∙ entry-at (length s / 2) s i (omega (arith, e, k))
+    ∙ sym (tabulate-at (λ j. be16 s (j * 2)) n i 0 (rw e at k)))
 
 pub length-rows : (es : List ℕ) → length (rowsIn es) ≡ length es / rowWidth
 unfolding rowsIn

@@ -190,7 +190,8 @@ module _ (L M : Lists) (count : L .count ≡ M .count) (end : L .end ≡ M .end)
     list-same : (i : ℕ) → i < L .count → listAt L i ≡ listAt M i
     unfolding listAt
     list-same i h =
-        agree-slice _ _ (L .entries) (M .entries) end (same .entries) (startIn L i) (startIn L (suc i)) (lists-ordered-same .rise .below i h)
+        agree-slice _ _ (L .entries) (M .entries) end (same .entries) (startIn L i) (startIn L (suc i))
+        (lists-ordered-same .rise .below i h)
         ∙ ap₂ (λ (a b : ℕ). slice a b (M .entries)) (start-same i) (start-same (suc i))
 
     pub lists-same : listsHeld L ≡ listsHeld M

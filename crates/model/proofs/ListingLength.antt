@@ -19,7 +19,23 @@ use Rattle.model.specs.Refusal.{Refusal, Limit, Answer, given, refused, 
 use Rattle.model.specs.File.{Tree, read}
 use Rattle.model.specs.Tables.{Size, tablesOf}
 use Rattle.model.specs.Held.{planOf}
-use Rattle.model.specs.Listing.{decimal, line, refusalText, kindLetter, verdictLetter, numberOrDash, practiceLetter, faultSign, planLine, stateLine, tallyLine, startLine, planText, answerText, listing}
+use Rattle.model.specs.Listing.{
+  decimal,
+  line,
+  refusalText,
+  kindLetter,
+  verdictLetter,
+  numberOrDash,
+  practiceLetter,
+  faultSign,
+  planLine,
+  stateLine,
+  tallyLine,
+  startLine,
+  planText,
+  answerText,
+  listing,
+}
 use Rattle.model.proofs.Good.{read-good}
 use Rattle.model.proofs.Valid.{few-states}
 use Rattle.model.proofs.Decimals.{decimal-length}

@@ -1,7 +1,28 @@
 -- The refusals' numbers are 1 to 18: no call that refuses returns 0, and a number takes two digits.
 use Prim.Native.Nat.{_<_, _≤_}
 use native.Mathlib.Omega.{arith}
-use Rattle.model.specs.Refusal.{Refusal, Cut, Surplus, Tag, Length, Beyond, Unsorted, Idle, Limit, Cramped, Unsound, Stranger, Moves, Seconds, Doubtful, Departures, Chambers, Report, Grant, number}
+use Rattle.model.specs.Refusal.{
+  Refusal,
+  Cut,
+  Surplus,
+  Tag,
+  Length,
+  Beyond,
+  Unsorted,
+  Idle,
+  Limit,
+  Cramped,
+  Unsound,
+  Stranger,
+  Moves,
+  Seconds,
+  Doubtful,
+  Departures,
+  Chambers,
+  Report,
+  Grant,
+  number,
+}
 
 pub number-bound : (r : Refusal) → (0 < number r) × (number r ≤ 18)
 number-bound Cut = (omega arith, omega arith)

@@ -1,4 +1,5 @@
--- A refusal comes only under its condition: of a call that refuses, the word it refuses with and what holds then. With Refusing.antt, which has
+-- A refusal comes only under its condition: of a call that refuses, the word it refuses with and what holds then. With Refusing.antt,
+-- which has
 -- the other direction, each condition is exact, that of refusal 9 too (rule E19).
 use mathlib.Core.Path.{_≡_, refl, sym, ap}
 use mathlib.Core.Bool.{Bool, true, false, _&&_}
@@ -20,7 +21,8 @@ either false b e = inl refl
 either true b e = inr e
 
 -- a test on the way is the one that refused, or it held and what is behind it refused
-need-refused : {A : Type 0} (q r : Refusal) (t : Bool) (x : Answer A) → (need q t >> x) ≡ refused r → ((t ≡ false) × (r ≡ q)) ⊎ ((t ≡ true) × (x ≡ refused r))
+need-refused : {A : Type 0} (q r : Refusal) (t : Bool) (x : Answer A) → (need q t >> x) ≡ refused r
+    → ((t ≡ false) × (r ≡ q)) ⊎ ((t ≡ true) × (x ≡ refused r))
 unfolding need _>>_
 need-refused q r false x e = inl (refl, sym (refused-inj e))
 need-refused q r true x e = inr (refl, e)
@@ -35,11 +37,13 @@ two-short n a m b e = ⊎-elim (λ h. inl (leb-false n a h)) (λ h. inr (leb-fal
 
 three-short : (n a m b t c : ℕ) → (leb n a && leb m b && leb t c) ≡ false → (a < n) ⊎ ((b < m) ⊎ (c < t))
 three-short n a m b t c e =
-    ⊎-elim (λ h. ⊎-elim inl (λ l. inr (inl l)) (two-short n a m b h)) (λ h. inr (inr (leb-false t c h))) (either (leb n a && leb m b) (leb t c) e)
+    ⊎-elim (λ h. ⊎-elim inl (λ l. inr (inl l)) (two-short n a m b h)) (λ h. inr (inr (leb-false t c h)))
+    (either (leb n a && leb m b) (leb t c) e)
 
 four-short : (n a b c d : ℕ) → (leb n a && leb n b && leb n c && leb n d) ≡ false → (a < n) ⊎ ((b < n) ⊎ ((c < n) ⊎ (d < n)))
 four-short n a b c d e =
-    ⊎-elim (λ h. ⊎-elim inl (λ l. inr (⊎-elim inl (λ k. inr (inl k)) l)) (three-short n a n b n c h)) (λ h. inr (inr (inr (leb-false n d h))))
+    ⊎-elim (λ h. ⊎-elim inl (λ l. inr (⊎-elim inl (λ k. inr (inl k)) l)) (three-short n a n b n c h))
+    (λ h. inr (inr (inr (leb-false n d h))))
     (either (leb n a && leb n b && leb n c) (leb n d) e)
 
 -- reading refuses what the file is refused with, or with 9 where a table is shorter than its count
@@ -50,7 +54,9 @@ unfolding reading _>>=_
 reading-only rows firsts outcomes file r = go (read file)
   where
     go : (x : Answer Tree)
-        → (x >>= λ p. need Cramped (leb (tablesOf p .size .n) rows && leb (tablesOf p .size .m) firsts && leb (tablesOf p .size .t) outcomes) >> given (tablesOf p)) ≡ refused r
+        → (x >>= λ p. need Cramped
+        (leb (tablesOf p .size .n) rows && leb (tablesOf p .size .m) firsts && leb (tablesOf p .size .t) outcomes) >> given
+        (tablesOf p)) ≡ refused r
         → (x ≡ refused r) ⊎ ((p : Tree) × (x ≡ given p)
         × ((rows < tablesOf p .size .n) ⊎ ((firsts < tablesOf p .size .m) ⊎ (outcomes < tablesOf p .size .t))) × (r ≡ Cramped))
     go (refused q) e = inl (ap refused (refused-inj e))
@@ -63,14 +69,17 @@ module _ (T : Tables) where
       → ((sound T ≡ false) × (r ≡ Unsound)) ⊎ ((sound T ≡ true) × (bytes < fileLength T) × (r ≡ Cramped))
   unfolding writing
   writing-only bytes r e =
-      ⊎-elim inl (λ h. let (t, w) = last-refused Cramped r _ _ (h .1) in inr (h .0, leb-false (fileLength T) bytes t, w)) (need-refused Unsound r _ _ e)
+      ⊎-elim inl (λ h. let (t, w) = last-refused Cramped r _ _ (h .1) in inr (h .0, leb-false (fileLength T) bytes t, w))
+      (need-refused Unsound r _ _ e)
 
   pub deciding-only : (ranks commands marks scratch : ℕ) (r : Refusal) → deciding T ranks commands marks scratch ≡ refused r
       → ((sound T ≡ false) × (r ≡ Unsound))
-      ⊎ ((sound T ≡ true) × ((ranks < T .size .n) ⊎ ((commands < T .size .n) ⊎ ((marks < T .size .n) ⊎ (scratch < T .size .n)))) × (r ≡ Cramped))
+      ⊎ ((sound T ≡ true) × ((ranks < T .size .n) ⊎ ((commands < T .size .n) ⊎ ((marks < T .size .n) ⊎ (scratch < T .size .n))))
+      × (r ≡ Cramped))
   unfolding deciding
   deciding-only ranks commands marks scratch r e =
-      ⊎-elim inl (λ h. let (t, w) = last-refused Cramped r _ _ (h .1) in inr (h .0, four-short (T .size .n) ranks commands marks scratch t, w)) (need-refused Unsound r _ _ e)
+      ⊎-elim inl (λ h. let (t, w) = last-refused Cramped r _ _ (h .1) in inr
+      (h .0, four-short (T .size .n) ranks commands marks scratch t, w)) (need-refused Unsound r _ _ e)
 
   pub searching-only : (start commands scratch : ℕ) (r : Refusal) → searching T start commands scratch ≡ refused r
       → ((sound T ≡ false) × (r ≡ Unsound))

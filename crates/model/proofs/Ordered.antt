@@ -24,4 +24,5 @@ commandsIn T = listsHeld (listsIn T)
 pub commands-cut : (T : Tables) → Rises (firstCommand T) (T .size .n) (T .size .m) → (s : ℕ) → s < T .size .n
     → stateAt T s .commands ≡ slice (firstCommand T s) (firstCommand T (suc s)) (commandsIn T)
 unfolding stateAt commandCount
-commands-cut T r s h = sym (slice-tabulate (outcomesAt T) (firstCommand T s) (firstCommand T (suc s)) (T .size .m) (r .step s h) (r .below s h))
+commands-cut T r s h = sym
+    (slice-tabulate (outcomesAt T) (firstCommand T s) (firstCommand T (suc s)) (T .size .m) (r .step s h) (r .below s h))

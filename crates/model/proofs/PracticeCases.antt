@@ -15,9 +15,12 @@ use Rattle.model.specs.Bench.{caseA}
 
 -- 0 and 1 are bugs, and of them only 0 is a fault: 1 is safe and its practice leads to 0 and 1, but by way of 0 into failure.
 -- The practice also fails from 3 and 4, which are lost.
-case-a-bugs : answer (λ p. tabulate (bug (planOf p)) 0 6 ∷ tabulate (fault (planOf p)) 0 6 ∷ tabulate (practiceFails (planOf p)) 0 6 ∷ []) (read caseA)
-    ≡ given ((true ∷ true ∷ false ∷ false ∷ false ∷ false ∷ []) ∷ (true ∷ false ∷ false ∷ false ∷ false ∷ false ∷ []) ∷ (true ∷ true ∷ false ∷ true ∷ true ∷ false ∷ []) ∷ [])
-unfolding any every orElse lowest found grow tabulate ordinary failing active hasPractice hits forced rank lost safe practiceHits practiceFails bug fault answer _>>=_ need _>>_ field head state entries rising command commands states read stateOf planOf
+case-a-bugs : answer (λ p. tabulate (bug (planOf p)) 0 6 ∷ tabulate (fault (planOf p)) 0 6 ∷ tabulate (practiceFails (planOf p)) 0 6 ∷ [])
+    (read caseA)
+    ≡ given ((true ∷ true ∷ false ∷ false ∷ false ∷ false ∷ []) ∷ (true ∷ false ∷ false ∷ false ∷ false ∷ false ∷ [])
+    ∷ (true ∷ true ∷ false ∷ true ∷ true ∷ false ∷ []) ∷ [])
+unfolding any every orElse lowest found grow tabulate ordinary failing active hasPractice hits forced rank lost safe practiceHits
+    practiceFails bug fault answer _>>=_ need _>>_ field head state entries rising command commands states read stateOf planOf
 case-a-bugs = refl
 
 -- the practice as a rule: none where the file has FFFF, not command 65,535

@@ -79,7 +79,8 @@ module _ (P : Plan) (S : Valid P) where
         let (q, g) = followed-is P t (m .command) (u .1) in
         let hit = hits-of P (practiceFails P) t (m .command) (m .landing) (i .1 .landed) e in
         let l = run-inside P S s in-plan w (i .0) in
-        back w (i .0) (u .0) (closed (practiceHits P) (failing P) (P .states) practice-hits-more t l (practice-hits-of P (practiceFails P) t g (rw q hit)))
+        back w (i .0) (u .0) (closed (practiceHits P) (failing P) (P .states) practice-hits-more t l
+        (practice-hits-of P (practiceFails P) t g (rw q hit)))
 
     pub practice-judged : (practiceFails P s ≡ true) ↔ Fails P s (positional (followed P) s)
     unfolding ρ present practiceFails

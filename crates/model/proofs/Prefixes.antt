@@ -15,7 +15,8 @@ use Rattle.model.proofs.ListTable.{of-ordered, of-held}
 use Rattle.model.proofs.Ordered.{Ordered, commandsIn, commands-cut}
 
 module _ (p : Tree) where
-  pub row-of : (s : ℕ) → s < length (p .states) → rowAt (tablesOf p) s ≡ byState .head (length (allCommands (take s (p .states)))) (stateOf p s)
+  pub row-of : (s : ℕ) → s < length (p .states) → rowAt (tablesOf p) s
+      ≡ byState .head (length (allCommands (take s (p .states)))) (stateOf p s)
   unfolding rowAt tablesOf stateOf
   row-of s h = getD-heads by-state 0 (p .states) s _ _ h ∙ ap (λ (j : ℕ). byState .head j (stateOf p s)) (zero-add _)
 

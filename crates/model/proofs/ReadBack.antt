@@ -43,7 +43,8 @@ command-back {n} {t} {s} {os} b c =
     let r = entries-back (length os) (drop 3 s) (bytes-drop 3 s b) (rw length-drop (omega (arith, c .framed .fits))) in
     field-back b (c .framed) ∙ ap (λ (r : List ℕ). commandTag ∷ two (length os * 2) r) (rw (c .are, drop-drop) at r)
 
-commands-back : {n k t t₁ : ℕ} {s s₁ : List ℕ} {cs : List (List ℕ)} → Bytes s → CommandsRead n k t s cs t₁ s₁ → Bytes s₁ × (s ≡ commandsBytes cs s₁)
+commands-back : {n k t t₁ : ℕ} {s s₁ : List ℕ} {cs : List (List ℕ)} → Bytes s → CommandsRead n k t s cs t₁ s₁ → Bytes s₁
+    × (s ≡ commandsBytes cs s₁)
 unfolding commandsBytes
 commands-back b none = (b, refl)
 commands-back b (more {s} {os} c r) =
@@ -68,4 +69,5 @@ read-back s p b e =
     let (b₁, d) = states-back (bytes-drop 7 s b) (r .stated) in
     let end = field-back b₁ (r .ended) ∙ ap (λ (z : List ℕ). endTag ∷ two 0 z) (drop-of-length-le (r .rest) (r .last)) in
     sym (head-back b (r .headed)
-    ∙ rw (states-count (r .stated)) (ap (λ (z : List ℕ). headTag ∷ two 4 (two (r .n) (two (p .start) z))) (d ∙ ap (statesBytes (p .states)) end)))
+    ∙ rw (states-count (r .stated))
+    (ap (λ (z : List ℕ). headTag ∷ two 4 (two (r .n) (two (p .start) z))) (d ∙ ap (statesBytes (p .states)) end)))

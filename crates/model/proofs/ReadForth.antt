@@ -14,7 +14,28 @@ use Rattle.laws.proofs.All.{All, none, more}
 use Rattle.laws.proofs.Entry.{be16-two, length-twos, drop-twos}
 use Rattle.laws.proofs.Joins.{length-joined}
 use Rattle.model.specs.Refusal.{given, need, _>>=_, _>>_}
-use Rattle.model.specs.File.{maxStates, maxCommands, maxOutcomes, State, StateField, fieldOf, Tree, headTag, stateTag, commandTag, endTag, allowed, notIdle, head, state, entries, command, commands, states, read}
+use Rattle.model.specs.File.{
+  maxStates,
+  maxCommands,
+  maxOutcomes,
+  State,
+  StateField,
+  fieldOf,
+  Tree,
+  headTag,
+  stateTag,
+  commandTag,
+  endTag,
+  allowed,
+  notIdle,
+  head,
+  state,
+  entries,
+  command,
+  commands,
+  states,
+  read,
+}
 use Rattle.model.specs.Bytes.{stateBytes, commandsBytes, statesBytes, bytesOf}
 use Rattle.model.specs.Tables.{allCommands}
 use Rattle.model.proofs.Fields.{Framed, field-gives, head-gives, state-gives, command-gives}
@@ -23,7 +44,8 @@ use Rattle.model.proofs.Good.{GoodCommand, GoodState, Good}
 framed : (tag len : ℕ) (r : List ℕ) → allowed tag len ≡ true → len ≤ length r → Framed tag (tag ∷ two len r) len
 framed tag len r a l = record { tagged = refl; long = be16-two len r; right = a; fits = omega arith }
 
-head-forth : (n start : ℕ) (r : List ℕ) → 1 ≤ n → n ≤ maxStates → start < n → head (headTag ∷ two 4 (two n (two start r))) ≡ given (n, start)
+head-forth : (n start : ℕ) (r : List ℕ) → 1 ≤ n → n ≤ maxStates → start < n → head (headTag ∷ two 4 (two n (two start r)))
+    ≡ given (n, start)
 head-forth n start r h l i = head-gives _ n start (record {
   framed = framed headTag 4 (two n (two start r)) refl (omega arith);
   counts = be16-two n [];

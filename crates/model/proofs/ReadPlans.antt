@@ -20,15 +20,18 @@ use Rattle.model.proofs.Answering.{reading-iff}
 use Rattle.model.proofs.RoundTrips.{after-same}
 
 -- the plan is sound, and its tree is the file's
-pub reads-plan : (file : List ℕ) (rows : List Row) (firsts outcomes : List ℕ) (z : Size) → readCall file rows firsts outcomes .answers ≡ given z
+pub reads-plan : (file : List ℕ) (rows : List Row) (firsts outcomes : List ℕ) (z : Size) → readCall file rows firsts outcomes .answers
+    ≡ given z
     → (sound (afterReading z file rows firsts outcomes) ≡ true) × (read file ≡ given (treeOf (afterReading z file rows firsts outcomes)))
 reads-plan file rows firsts outcomes z e =
     let (T, answered, size) = answer-inv (λ (U : Tables). U .size) _ z e in
     let r = reading-iff (length rows) (length firsts) (length outcomes) file T .0 answered in
-    let same : Same (afterReading z file rows firsts outcomes) (tablesOf (r .tree)) = rw size at (after-same file rows firsts outcomes T answered (r .tree) (r .is)) in
+    let same : Same (afterReading z file rows firsts outcomes) (tablesOf (r .tree)) = rw size at
+    (after-same file rows firsts outcomes T answered (r .tree) (r .is)) in
     (good-sound _ (r .tree) (read-good file (r .tree) (r .reads)) same, rw (held _ (r .tree) same) (r .reads))
 
-module _ (rows firsts outcomes : ℕ) (long-rows : maxStates ≤ rows) (long-firsts : maxCommands ≤ firsts) (long-outcomes : maxOutcomes ≤ outcomes) where
+module _ (rows firsts outcomes : ℕ) (long-rows : maxStates ≤ rows) (long-firsts : maxCommands ≤ firsts)
+    (long-outcomes : maxOutcomes ≤ outcomes) where
   file-read : (file : List ℕ) (p : Tree) → read file ≡ given p → reading rows firsts outcomes file ≡ given (tablesOf p)
   unfolding tablesOf
   file-read file p e =

@@ -9,7 +9,22 @@ use borrow.Author.Tests.{leb-true, eqb-true}
 use Rattle.laws.specs.Lists.{joined}
 use Rattle.laws.proofs.Joins.{length-joined}
 use Rattle.model.specs.Refusal.{given}
-use Rattle.model.specs.File.{maxCommands, maxOutcomes, State, StateField, stateFrom, Tree, endTag, field, head, state, command, commands, states, read}
+use Rattle.model.specs.File.{
+  maxCommands,
+  maxOutcomes,
+  State,
+  StateField,
+  stateFrom,
+  Tree,
+  endTag,
+  field,
+  head,
+  state,
+  command,
+  commands,
+  states,
+  read,
+}
 use Rattle.model.specs.Tables.{allCommands}
 use Rattle.model.proofs.Answers.{given-inj, need-inv, bind-inv}
 use Rattle.model.proofs.Fields.{Framed, Headed, Stated, Commanded, field-inv, head-inv, state-inv, command-inv}
@@ -20,7 +35,8 @@ pub data CommandsRead (n : ℕ) : ℕ → ℕ → List ℕ → List (List ℕ) �
   more : {k t t₁ : ℕ} {s os s₁ : List ℕ} {cs : List (List ℕ)} → Commanded n t s os
       → CommandsRead n k (t + length os) (drop (3 + length os * 2) s) cs t₁ s₁ → CommandsRead n (suc k) t s (os ∷ cs) t₁ s₁
 
-pub commands-inv : (n k t : ℕ) (s : List ℕ) (x : List (List ℕ) × ℕ × List ℕ) → commands n k t s ≡ given x → CommandsRead n k t s (x .0) (x .1) (x .2)
+pub commands-inv : (n k t : ℕ) (s : List ℕ) (x : List (List ℕ) × ℕ × List ℕ) → commands n k t s ≡ given x
+    → CommandsRead n k t s (x .0) (x .1) (x .2)
 unfolding commands
 commands-inv n zero t s x e = rw (← (given-inj e)) none
 commands-inv n (suc k) t s x e =

@@ -74,12 +74,14 @@ module _ (T : Tables) (sounds : sound T ≡ true) where
       n : ℕ
       n = T .size .n
 
-      short : (ranks < n) ⊎ ((commands < n) ⊎ ((marks < n) ⊎ (scratch < n))) → leb n ranks && leb n commands && leb n marks && leb n scratch ≡ false
+      short : (ranks < n) ⊎ ((commands < n) ⊎ ((marks < n) ⊎ (scratch < n))) → leb n ranks && leb n commands && leb n marks && leb n scratch
+          ≡ false
       short = ⊎-elim (λ l. and-false-left (leb n ranks && leb n commands && leb n marks) (leb n scratch)
           (and-false-left (leb n ranks && leb n commands) (leb n marks) (first-short n ranks (leb n commands) l)))
           (⊎-elim (λ l. and-false-left (leb n ranks && leb n commands && leb n marks) (leb n scratch)
           (and-false-left (leb n ranks && leb n commands) (leb n marks) (last-short (leb n ranks) n commands l)))
-          (⊎-elim (λ l. and-false-left (leb n ranks && leb n commands && leb n marks) (leb n scratch) (last-short (leb n ranks && leb n commands) n marks l))
+          (⊎-elim (λ l. and-false-left (leb n ranks && leb n commands && leb n marks) (leb n scratch)
+          (last-short (leb n ranks && leb n commands) n marks l))
           (λ l. last-short (leb n ranks && leb n commands && leb n marks) n scratch l)))
 
   pub searching-stranger : (start commands scratch : ℕ) → T .size .n ≤ start → searching T start commands scratch ≡ refused Stranger

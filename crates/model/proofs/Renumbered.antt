@@ -1,4 +1,5 @@
--- A plan that is part of another, under other numbers: its states have their old verdicts, ranks and chosen commands. For trimmed plans, and
+-- A plan that is part of another, under other numbers: its states have their old verdicts, ranks and chosen commands. For trimmed plans,
+-- and
 -- for plans that stand one behind another.
 use mathlib.Core.Path.{_≡_, sym, ap, ap₂, _∙_}
 use mathlib.Core.Bool.{Bool, not, cond, _&&_, _||_}
@@ -80,7 +81,8 @@ module _ {Q P : Plan} {old new : ℕ → ℕ} (r : PartOf Q P old new) (i : ℕ)
     unfolding choice
     part-choice =
         ap₂ (λ (a : Bool) (o : Option ℕ). cond a o none) part-active
-        (first-same keeps keeps′ (tryOrder Q i) (λ c m e. agree c m ∙ e) (λ c e. let (m, k) = first-some keeps (tryOrder Q i) c e in sym (agree c m) ∙ k)
+        (first-same keeps keeps′ (tryOrder Q i) (λ c m e. agree c m ∙ e)
+        (λ c e. let (m, k) = first-some keeps (tryOrder Q i) c e in sym (agree c m) ∙ k)
         ∙ ap (first keeps′) part-order)
       where
         keeps : ℕ → Bool

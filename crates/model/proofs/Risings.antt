@@ -25,7 +25,8 @@ rising-step n low [] i e h = absurd (not-suc-le-zero h)
 rising-step n low (o ∷ os) zero e h = omega (arith, rising-first n (o + 1) os (rising-cons n low o os .0 e .1 .1) (omega arith))
 rising-step n low (o ∷ os) (suc i) e h = rising-step n (o + 1) os i (rising-cons n low o os .0 e .1 .1) (omega arith)
 
-pub rising-all : (n low : ℕ) (os : List ℕ) → ((i : ℕ) → i < length os → getD os i 0 < n) → ((i : ℕ) → suc i < length os → getD os i 0 < getD os (suc i) 0)
+pub rising-all : (n low : ℕ) (os : List ℕ) → ((i : ℕ) → i < length os → getD os i 0 < n)
+    → ((i : ℕ) → suc i < length os → getD os i 0 < getD os (suc i) 0)
     → (0 < length os → low ≤ getD os 0 0) → rising n low os ≡ given tt
 unfolding rising
 rising-all n low [] b s l = refl

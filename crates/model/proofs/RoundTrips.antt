@@ -54,7 +54,8 @@ module _ (file : List ℕ) (rows : List Row) (firsts outcomes : List ℕ) where
       let p = r .tree in
       let same : Same (afterReading z file rows firsts outcomes) (tablesOf p) = rw size at (after-same T answered p (r .is)) in
       let back : bytesOf p ≡ file = read-back file p b (r .reads) in
-      let count : fileLength (afterReading z file rows firsts outcomes) ≡ length file = length-same same ∙ sym (length-bytes p) ∙ ap length back in
+      let count : fileLength (afterReading z file rows firsts outcomes) ≡ length file = length-same same ∙ sym (length-bytes p)
+      ∙ ap length back in
       let written = writing-iff (afterReading z file rows firsts outcomes) (length bytes) file .1 (record {
         sounds = good-sound _ p (read-good file p (r .reads)) same;
         long = rw count h;
@@ -78,7 +79,8 @@ write-read T bytes k e rows firsts outcomes long-rows long-firsts long-outcomes 
     let p = treeOf T in
     let same = tables-back T (w .sounds) in
     let size : T .size ≡ tablesOf p .size = same .size in
-    let front : take k (left (λ f. f) (writing T (length bytes)) bytes) ≡ file = front-is (writing T (length bytes)) file bytes k written count in
+    let front : take k (left (λ f. f) (writing T (length bytes)) bytes)
+    ≡ file = front-is (writing T (length bytes)) file bytes k written count in
     let again : reading (length rows) (length firsts) (length outcomes) file ≡ given (tablesOf p)
     = reading-iff (length rows) (length firsts) (length outcomes) file (tablesOf p) .1 (record {
       tree = p;
@@ -89,8 +91,10 @@ write-read T bytes k e rows firsts outcomes long-rows long-firsts long-outcomes 
       long-outcomes = rw size at long-outcomes;
     }) in
     let after : Same (afterReading (T .size) file rows firsts outcomes) (tablesOf p)
-    = subst (λ (z : Size). Same (afterReading z file rows firsts outcomes) (tablesOf p)) (sym size) (after-same file rows firsts outcomes (tablesOf p) again p refl) in
-    subst (λ (f : List ℕ). (readCall f rows firsts outcomes .answers ≡ given (T .size)) × Same T (afterReading (T .size) f rows firsts outcomes)) (sym front)
+    = subst (λ (z : Size). Same (afterReading z file rows firsts outcomes) (tablesOf p)) (sym size)
+    (after-same file rows firsts outcomes (tablesOf p) again p refl) in
+    subst (λ (f : List ℕ). (readCall f rows firsts outcomes .answers ≡ given (T .size))
+    × Same T (afterReading (T .size) f rows firsts outcomes)) (sym front)
     (rw again (ap given (sym size)), same-on same (same-back after))
 
 -- the length answered is the file's

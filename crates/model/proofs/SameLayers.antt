@@ -20,7 +20,8 @@ module _ (P Q : Plan) (S : Valid Q) (s t : ℕ) (l : t < Q .states) (held : (k :
       let z : q ≡ j = cc in
       rw z h
 
-module _ (P Q : Plan) (R : Valid P) (S : Valid Q) (s t : ℕ) (k : s < P .states) (l : t < Q .states) (held : (i : ℕ) → layer P i s ≡ layer Q i t) where
+module _ (P Q : Plan) (R : Valid P) (S : Valid Q) (s t : ℕ) (k : s < P .states) (l : t < Q .states)
+    (held : (i : ℕ) → layer P i s ≡ layer Q i t) where
   pub layers-rank : rank P s ≡ rank Q t
   layers-rank = go (rank P s) (rank Q t) refl refl
     where

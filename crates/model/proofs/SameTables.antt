@@ -35,7 +35,8 @@ module _ (T U : Tables) (same : Same T U) where
     pub ordered-same : Ordered T
     ordered-same = record {
       rows = agree-long _ _ _ _ n-same (same .rows) (o .rows);
-      commands = subst (λ (z : Size). Rises (firstCommand T) (z .n) (z .m)) (sym (same .size)) (rises-same first-command-same (o .commands));
+      commands = subst (λ (z : Size). Rises (firstCommand T) (z .n) (z .m)) (sym (same .size))
+          (rises-same first-command-same (o .commands));
       lists = lists-ordered-same (listsIn T) (listsIn U) m-same t-same (same .lists) (o .lists);
     }
 

@@ -34,7 +34,8 @@ module _ (T : Tables) (o : Ordered T) where
   -- all commands of the tree held
   pub all-commands : allCommands (treeOf T .states) ≡ commandsIn T
   all-commands =
-      all-cut by-state states-cut ∙ rw (command-end T (T .size .n) (le-refl _)) (take-all _ _ (le-of-eq (length-tabulate (outcomesAt T) 0 (T .size .m))))
+      all-cut by-state states-cut
+      ∙ rw (command-end T (T .size .n) (le-refl _)) (take-all _ _ (le-of-eq (length-tabulate (outcomesAt T) 0 (T .size .m))))
 
   row-back : (s : ℕ) → s < T .size .n → rowAt T s ≡ byState .head (firstCommand T s) (getD (treeOf T .states) s (stateAt T 0))
   unfolding stateAt treeOf

@@ -61,7 +61,8 @@ module _ (P : Plan) (S : Valid P) (few : P .states < 65536) (short : (s : ℕ) �
 
   pub tally-fits : All Fits (tallyEntries P)
   unfolding tallyEntries tally tallyRow joined
-  tally-fits = more (count-fits _) (more (count-fits _) (more (count-fits _) (more (count-fits _) (more (count-fits _) (more (count-fits _) none)))))
+  tally-fits = more (count-fits _)
+      (more (count-fits _) (more (count-fits _) (more (count-fits _) (more (count-fits _) (more (count-fits _) none)))))
 
   pub rounds-fit : (a : ℕ) → a < P .states → Fits (search P a .rounds)
   unfolding ordinaries

@@ -23,7 +23,14 @@ judged file = do
   T ← reading 1024 4096 16384 file
   P ← deciding T 1024 1024 1024 1024
   R ← searching T (T .size .start) 1024 1024
-  given (record { ranks = rankTable P; commands = commandTable P; marks = markTable P; tally = tally P; lost = R .lost; rounds = R .rounds })
+  given (record {
+    ranks = rankTable P;
+    commands = commandTable P;
+    marks = markTable P;
+    tally = tally P;
+    lost = R .lost;
+    rounds = R .rounds;
+  })
 
 pub record Bench : Type 0 where
   pub file : List ℕ
@@ -31,7 +38,11 @@ pub record Bench : Type 0 where
 
 abbrev pub bench : List ℕ → List ℕ → List ℕ → List ℕ → List (List ℕ) → Bool → ℕ → Bench
 bench file ranks commands marks tally lost rounds =
-    record { file = file; says = given (record { ranks = ranks; commands = commands; marks = marks; tally = tally; lost = lost; rounds = rounds }) }
+    record {
+      file = file;
+      says = given
+          (record { ranks = ranks; commands = commands; marks = marks; tally = tally; lost = lost; rounds = rounds });
+    }
 
 abbrev pub refusal : List ℕ → Answer Judged → Bench
 refusal file r = record { file = file; says = r }

@@ -48,7 +48,8 @@ pub record Conditions : Type 0 where
       ↔ (((Sound T → ⊥) × (r ≡ Unsound)) ⊎ (Sound T × (bytes < fileLength T) × (r ≡ Cramped)))
   pub deciding-given : (T : Tables) (ranks commands marks scratch : ℕ) (P : Plan) → (deciding T ranks commands marks scratch ≡ given P)
       ↔ (Sound T × (T .size .n ≤ ranks) × (T .size .n ≤ commands) × (T .size .n ≤ marks) × (T .size .n ≤ scratch) × (planIn T ≡ P))
-  pub deciding-refused : (T : Tables) (ranks commands marks scratch : ℕ) (r : Refusal) → (deciding T ranks commands marks scratch ≡ refused r)
+  pub deciding-refused : (T : Tables) (ranks commands marks scratch : ℕ) (r : Refusal)
+      → (deciding T ranks commands marks scratch ≡ refused r)
       ↔ (((Sound T → ⊥) × (r ≡ Unsound))
       ⊎ (Sound T × ((ranks < T .size .n) ⊎ ((commands < T .size .n) ⊎ ((marks < T .size .n) ⊎ (scratch < T .size .n)))) × (r ≡ Cramped)))
   pub searching-given : (T : Tables) (start commands scratch : ℕ) (R : Result) → (searching T start commands scratch ≡ given R)
@@ -63,7 +64,8 @@ pub record Meanings : Type 0 where
   -- the test that the calls compute
   pub sound-computed : (T : Tables) → (sound T ≡ true) ↔ Sound T
   -- lost: some layer of all holds the state; rank: the first that does
-  pub lost-layer : (T : Tables) → Sound T → (s : ℕ) → s < T .size .n → (lost (planIn T) s ≡ true) ↔ ((k : ℕ) × (layer (planIn T) k s ≡ true))
+  pub lost-layer : (T : Tables) → Sound T → (s : ℕ) → s < T .size .n → (lost (planIn T) s ≡ true)
+      ↔ ((k : ℕ) × (layer (planIn T) k s ≡ true))
   pub first-layer : (T : Tables) → Sound T → (s : ℕ) → s < T .size .n → (r : ℕ) → (rank (planIn T) s ≡ some r)
       ↔ ((layer (planIn T) r s ≡ true) × ((k : ℕ) → k < r → layer (planIn T) k s ≡ false))
   pub least-solution : (T : Tables) → Sound T → LeastSolution (planIn T)
@@ -71,12 +73,14 @@ pub record Meanings : Type 0 where
   pub choice-words : (P : Plan) (K : ℕ → Bool) (s : ℕ) → active P s ≡ true → choice P K s
       ≡ cond (hasPractice P s && not (hits P K s (P .practice s))) (some (P .practice s)) (lowest (λ c. not (hits P K s c)) (P .commands s))
   -- the practice fails: some run under it does
-  pub practice-judged : (T : Tables) → Sound T → (s : ℕ) → s < T .size .n → (practiceFails (planIn T) s ≡ true) ↔ Fails (planIn T) s (positional (followed (planIn T)) s)
+  pub practice-judged : (T : Tables) → Sound T → (s : ℕ) → s < T .size .n → (practiceFails (planIn T) s ≡ true)
+      ↔ Fails (planIn T) s (positional (followed (planIn T)) s)
   -- some round is the last
   pub last-round : (T : Tables) → Sound T → (a : ℕ) → a < T .size .n → active (planIn T) a ≡ true
       → lowest (ends (planIn T) a) (T .size .n) ≡ some (before (planIn T) a)
   -- rule D2c: a file that is read and written again has its own bytes; its length is the one that is written there
-  pub read-write : (file : List ℕ) (rows : List Row) (firsts outcomes : List ℕ) → Bytes file → (z : Size) → readCall file rows firsts outcomes .answers ≡ given z
+  pub read-write : (file : List ℕ) (rows : List Row) (firsts outcomes : List ℕ) → Bytes file → (z : Size)
+      → readCall file rows firsts outcomes .answers ≡ given z
       → (bytes : List ℕ) → length file ≤ length bytes
       → writeCall (afterReading z file rows firsts outcomes) bytes ≡ record { answers = given (length file); bytes = overwrite file bytes }
   pub file-length : (p : Tree) → length (bytesOf p) ≡ fileLength (tablesOf p)
@@ -93,7 +97,8 @@ pub record Meanings : Type 0 where
 -- ---- rule D3: over all operating rules and whole runs, of the tables that the calls leave, and of the bytes that the C calls leave
 
 pub record Rules : Type 0 where
-  pub decided : (T : Tables) (ranks commands marks scratch : List ℕ) (counts : List (List ℕ)) → let D = decideCall T ranks commands marks scratch in
+  pub decided : (T : Tables) (ranks commands marks scratch : List ℕ) (counts : List (List ℕ))
+      → let D = decideCall T ranks commands marks scratch in
       D .answers ≡ given counts → DecidingDemand3 T (D .ranks) (D .commands)
   pub searched : (T : Tables) (a : ℕ) (table space : List ℕ) (verdict : Bool) (rounds : ℕ) → let S = searchCall T a table space in
       S .answers ≡ given (verdict, rounds) → SearchDemand3 T a verdict rounds (S .commands)

@@ -58,4 +58,5 @@ DecidingDemand3 T ranks commands = (a : ℕ) (table space : List ℕ) (verdict :
 abbrev pub SearchDemand3 : Tables → ℕ → Bool → ℕ → List ℕ → Type 0
 SearchDemand3 T a verdict rounds table = (ranks commands marks scratch : List ℕ) (counts : List (List ℕ))
     → decideCall T ranks commands marks scratch .answers ≡ given counts
-    → Demand3 (planIn T) (decideCall T ranks commands marks scratch .ranks) (decideCall T ranks commands marks scratch .commands) a verdict rounds table
+    → Demand3 (planIn T) (decideCall T ranks commands marks scratch .ranks) (decideCall T ranks commands marks scratch .commands) a verdict
+    rounds table

@@ -100,7 +100,8 @@ startLine start R =
 unfoldable pub planText : Tree → List ℕ
 planText p =
     let P = planOf p in
-    planLine (tablesOf p .size) ++ joined (tabulate (stateLine P) 0 (P .states)) ++ tallyLine (tally P) ++ startLine (P .start) (search P (P .start))
+    planLine (tablesOf p .size) ++ joined (tabulate (stateLine P) 0 (P .states)) ++ tallyLine (tally P)
+    ++ startLine (P .start) (search P (P .start))
 
 unfoldable pub answerText : Answer Tree → List ℕ
 answerText (given p) = planText p

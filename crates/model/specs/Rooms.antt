@@ -1,4 +1,5 @@
--- Whether slices of so many bytes have room for what a call of the C program answers: proofs/Gating.antt and proofs/Gates.antt show that this
+-- Whether slices of so many bytes have room for what a call of the C program answers: proofs/Gating.antt and proofs/Gates.antt show that
+-- this
 -- is what the calls ask for.
 use mathlib.Core.Bool.{Bool, _&&_}
 use Prim.Native.Nat.{ℕ, _/_}
@@ -13,7 +14,8 @@ readRoom z size rows firsts outcomes = enough z (rows / rowBytes) (firsts / entr
 -- for the verdicts on n states, and the tally
 abbrev pub decideRoom : ℕ → ℕ → ℕ → ℕ → ℕ → ℕ → Bool
 decideRoom n ranks commands marks scratch tally =
-    leb n (ranks / entryBytes) && leb n (commands / entryBytes) && leb n (marks / entryBytes) && leb n (scratch / entryBytes) && leb tallyBytes tally
+    leb n (ranks / entryBytes) && leb n (commands / entryBytes) && leb n (marks / entryBytes) && leb n (scratch / entryBytes)
+    && leb tallyBytes tally
 
 -- for the search's command table of n states, and its answer
 abbrev pub searchRoom : ℕ → ℕ → ℕ → ℕ → Bool

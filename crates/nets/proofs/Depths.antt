@@ -78,7 +78,8 @@ module _ (size : Size) (rows : List Row) (firsts outcomes : List ℕ) (sounds : 
 
       -- ---- all commands
 
-      depth-rank : alone ≡ false → (s : ℕ) → s < size .n → depth (netOf (size .n) (commandsOf size firsts outcomes) w e) (seeds r) s ≡ rank P s
+      depth-rank : alone ≡ false → (s : ℕ) → s < size .n → depth (netOf (size .n) (commandsOf size firsts outcomes) w e) (seeds r) s
+          ≡ rank P s
       unfolding depth rank
       depth-rank z s l =
           lowest-same _ _ (suc (size .n)) (λ k _.

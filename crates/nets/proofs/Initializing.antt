@@ -62,7 +62,8 @@ module _ (q : Span) where
     practice-inside =
         ⊎-elim (λ e. rw e (omega (arith, ltb-true (q .practice) _ e))) (λ e. rw e (omega arith)) (true-or-false (practised q))
 
-    pub range-inside : (alone : Bool) → (q .first ≤ rangeOf alone q .from) × (rangeOf alone q .from ≤ rangeOf alone q .to) × (rangeOf alone q .to ≤ q .end)
+    pub range-inside : (alone : Bool) → (q .first ≤ rangeOf alone q .from) × (rangeOf alone q .from ≤ rangeOf alone q .to)
+        × (rangeOf alone q .to ≤ q .end)
     unfolding rangeOf
     range-inside true = practice-inside
     range-inside false = omega arith
@@ -72,7 +73,8 @@ module _ (q : Span) where
 pub initialized-start : {T : Tables} {alone : Bool} {r w e : List ℕ} → Initialized T alone 0 r w e r w e
 initialized-start = record { seeded = filled-none; begins = filled-none; stops = filled-none }
 
-pub initialized-next : {T : Tables} {alone : Bool} {i : ℕ} {r₀ w₀ e₀ r w e : List ℕ} → Initialized T alone i r₀ w₀ e₀ r w e → (q : Span) → q ≡ spanAt T i
+pub initialized-next : {T : Tables} {alone : Bool} {i : ℕ} {r₀ w₀ e₀ r w e : List ℕ} → Initialized T alone i r₀ w₀ e₀ r w e → (q : Span) → q
+    ≡ spanAt T i
     → i < length r₀ → i < length w₀ → i < length e₀ → (r′ w′ e′ : List ℕ) → StateInitialized q alone i r w e r′ w′ e′
     → Initialized T alone (i + 1) r₀ w₀ e₀ r′ w′ e′
 initialized-next {alone = alone} v q is lr lw le r′ w′ e′ u = record {
@@ -81,11 +83,13 @@ initialized-next {alone = alone} v q is lr lw le r′ w′ e′ u = record {
   stops = filled-next (v .stops) le _ (ap (λ (p : Span). rangeOf alone p .to) is) e′ (u .stops);
 }
 
-pub initialized-done : {T : Tables} {alone : Bool} {i : ℕ} {r₀ w₀ e₀ r w e : List ℕ} → Initialized T alone i r₀ w₀ e₀ r w e → (n : ℕ) → i ≤ n → n ≤ i
+pub initialized-done : {T : Tables} {alone : Bool} {i : ℕ} {r₀ w₀ e₀ r w e : List ℕ} → Initialized T alone i r₀ w₀ e₀ r w e → (n : ℕ)
+    → i ≤ n → n ≤ i
     → Initialized T alone n r₀ w₀ e₀ r w e
 initialized-done {i = i} v n h k = let e : n ≡ i = omega arith in rw e v
 
 -- the places of the commands of a state that was read are in range
-pub read-inside : {size : Size} {rows : List Row} → Spans size rows → (F O : List ℕ) (s : ℕ) → s < size .n → (q : Span) → q ≡ spanAt (held size rows F O) s
+pub read-inside : {size : Size} {rows : List Row} → Spans size rows → (F O : List ℕ) (s : ℕ) → s < size .n → (q : Span) → q
+    ≡ spanAt (held size rows F O) s
     → (q .first ≤ q .end) × (q .end ≤ 4096)
 read-inside v F O s l q is = let i = v .inside F O s l in rw is (i .0, omega (arith, i .1, v .few-commands))

@@ -43,7 +43,8 @@ pub practice-below : (T : Tables) (s : ℕ) → s < T .size .n → hasPractice (
 unfolding hasPractice
 practice-below T s l e = rw (← practice-held T s l) (ltb-true (planIn T .practice s) (planIn T .commands s) e)
 
-module _ (size : Size) (rows : List Row) (firsts outcomes watch ends : List ℕ) (alone : Bool) (sounds : sound (held size rows firsts outcomes) ≡ true)
+module _ (size : Size) (rows : List Row) (firsts outcomes watch ends : List ℕ) (alone : Bool)
+    (sounds : sound (held size rows firsts outcomes) ≡ true)
     (begins : (s : ℕ) → s < size .n → getD watch s 0 ≡ rangeOf alone (spanAt (held size rows firsts outcomes) s) .from)
     (stops : (s : ℕ) → s < size .n → getD ends s 0 ≡ rangeOf alone (spanAt (held size rows firsts outcomes) s) .to)
     (A B : ℕ → Bool) (same : Agree (size .n) A B) (s : ℕ) (l : s < size .n) where
@@ -59,7 +60,8 @@ module _ (size : Size) (rows : List Row) (firsts outcomes watch ends : List ℕ)
 
   -- of a net whose range at s is known
   losing-words : (a b : ℕ) → getD watch s 0 ≡ a → getD ends s 0 ≡ b
-      → losing (netOf (size .n) (commandsOf size firsts outcomes) watch ends) A s ≡ (ltb a b && every (λ i. commandHits (commandsOf size firsts outcomes) A (a + i)) (b - a))
+      → losing (netOf (size .n) (commandsOf size firsts outcomes) watch ends) A s
+      ≡ (ltb a b && every (λ i. commandHits (commandsOf size firsts outcomes) A (a + i)) (b - a))
   unfolding losing from to
   losing-words a b p q = rw (p, q)
 
@@ -69,7 +71,8 @@ module _ (size : Size) (rows : List Row) (firsts outcomes watch ends : List ℕ)
   unfolding commandCount
   active-test =
       same-test (ltb (firstCommand T s) (firstCommand T (suc s))) (active P s)
-      (λ e. command-active P s (sound-valid T sounds) (rw (states-held T) l) 0 (omega (arith, ltb-true (firstCommand T s) (firstCommand T (suc s)) e, commands-held T s l)))
+      (λ e. command-active P s (sound-valid T sounds) (rw (states-held T) l) 0
+      (omega (arith, ltb-true (firstCommand T s) (firstCommand T (suc s)) e, commands-held T s l)))
       (λ e. lt-ltb (firstCommand T s) (firstCommand T (suc s)) (omega (arith, active-is P s e .1, commands-held T s l)))
 
   pub losing-all : alone ≡ false → losing (netOf (size .n) (commandsOf size firsts outcomes) watch ends) A s ≡ forced P B s
@@ -85,12 +88,14 @@ module _ (size : Size) (rows : List Row) (firsts outcomes watch ends : List ℕ)
   unfolding practiceHits rangeOf practiceRange every
   losing-practice z = ⊎-elim given none (true-or-false (practised (spanAt T s)))
     where
-      none : practised (spanAt T s) ≡ false → losing (netOf (size .n) (commandsOf size firsts outcomes) watch ends) A s ≡ (hasPractice P s && hits P B s (P .practice s))
+      none : practised (spanAt T s) ≡ false → losing (netOf (size .n) (commandsOf size firsts outcomes) watch ends) A s
+          ≡ (hasPractice P s && hits P B s (P .practice s))
       none e =
           losing-words (firstCommand T s) (firstCommand T s) (begins s l ∙ rw (z, e)) (stops s l ∙ rw (z, e))
           ∙ rw (le-ltb (firstCommand T s) (firstCommand T s) (omega arith), ← practised-is T s l, e)
 
-      given : practised (spanAt T s) ≡ true → losing (netOf (size .n) (commandsOf size firsts outcomes) watch ends) A s ≡ (hasPractice P s && hits P B s (P .practice s))
+      given : practised (spanAt T s) ≡ true → losing (netOf (size .n) (commandsOf size firsts outcomes) watch ends) A s
+          ≡ (hasPractice P s && hits P B s (P .practice s))
       given e =
           let p = rowAt T s .practice in
           let f = firstCommand T s in

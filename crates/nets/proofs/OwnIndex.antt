@@ -19,4 +19,5 @@ module _ {n : ℕ} (C : Lists) {starts froms tos : List ℕ} (own : OwnRanges n 
 
   pub owners-fit : {owner : List ℕ} → Owned starts (n) (C .count) owner → Owns (netOf n C froms tos) owner
   unfolding from to
-  owners-fit {owner} o = own-ranges (netOf n C froms tos) starts owner o (λ s c l p q. let i = own .inside s l in (omega (arith, i .0), omega (arith, i .1)))
+  owners-fit {owner} o = own-ranges (netOf n C froms tos) starts owner o
+      (λ s c l p q. let i = own .inside s l in (omega (arith, i .0), omega (arith, i .1)))

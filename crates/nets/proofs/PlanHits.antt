@@ -30,10 +30,12 @@ module _ (T : Tables) (sounds : sound T ≡ true) (A B : ℕ → Bool) (same : A
   -- outcomes are states
   pub hits-agree : (c : ℕ) → c < planIn T .commands s → hits (planIn T) A s c ≡ hits (planIn T) B s c
   unfolding hits
-  hits-agree c m = any-same A B _ (λ x mem. same x (rw (states-held T) at (sound-valid T sounds .inside s c x (rw (states-held T) l) m mem)))
+  hits-agree c m = any-same A B _
+      (λ x mem. same x (rw (states-held T) at (sound-valid T sounds .inside s c x (rw (states-held T) l) m mem)))
 
   pub choice-agree : choice (planIn T) A s ≡ choice (planIn T) B s
-  choice-agree = choice-same (planIn T) A B s (λ c m e. sym (hits-agree c m) ∙ e) (λ c e. let t = choice-some (planIn T) A s c e in sym (hits-agree c (t .1)) ∙ t .2)
+  choice-agree = choice-same (planIn T) A B s (λ c m e. sym (hits-agree c m) ∙ e)
+      (λ c e. let t = choice-some (planIn T) A s c e in sym (hits-agree c (t .1)) ∙ t .2)
 
   pub practice-hits-agree : practiceHits (planIn T) A s ≡ practiceHits (planIn T) B s
   unfolding practiceHits hasPractice
@@ -43,7 +45,8 @@ module _ (T : Tables) (sounds : sound T ≡ true) (A B : ℕ → Bool) (same : A
 module _ (size : Size) (rows : List Row) (firsts outcomes : List ℕ) where
   -- a state's command, by its place
   pub hits-place : (A : ℕ → Bool) (s c : ℕ) → s < size .n → c < planIn (held size rows firsts outcomes) .commands s
-      → commandHits (commandsOf size firsts outcomes) A (firstCommand (held size rows firsts outcomes) s + c) ≡ hits (planIn (held size rows firsts outcomes)) A s c
+      → commandHits (commandsOf size firsts outcomes) A (firstCommand (held size rows firsts outcomes) s + c)
+      ≡ hits (planIn (held size rows firsts outcomes)) A s c
   unfolding commandHits listAt
   hits-place A s c l m =
       sym (hits-held (held size rows firsts outcomes) A s l c (rw (commands-held (held size rows firsts outcomes) s l) at m))

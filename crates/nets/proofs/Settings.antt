@@ -56,7 +56,8 @@ module _ (size : Size) (rows : List Row) (firsts outcomes : List ℕ) where
 
     -- a range of commands that count is among the state's own
     own-inside : (alone : Bool) (s : ℕ) → s < size .n
-        → (firstCommand T s ≤ rangeOf alone (spanAt T s) .from) × (rangeOf alone (spanAt T s) .to ≤ firstCommand T (suc s)) × (firstCommand T (suc s) ≤ size .m)
+        → (firstCommand T s ≤ rangeOf alone (spanAt T s) .from) × (rangeOf alone (spanAt T s) .to ≤ firstCommand T (suc s))
+        × (firstCommand T (suc s) ≤ size .m)
     own-inside alone s l =
         let i = sound-spans .inside firsts outcomes s l in
         let r = range-inside (spanAt T s) (i .0) alone in
@@ -77,7 +78,8 @@ module _ (size : Size) (rows : List Row) (firsts outcomes : List ℕ) where
           let f = sound-facts T .0 sounds in
           record { zero = starts-are 0 ∙ f .commands-start; rises = λ s l. rw (starts-are s, starts-are (suc s)) (f .rows s l .rises) }
 
-      initialized-own : {alone : Bool} {u₀ x₀ y₀ u x y : List ℕ} → Initialized T alone (size .n) u₀ x₀ y₀ u x y → size .n ≤ length x₀ → size .n ≤ length y₀
+      initialized-own : {alone : Bool} {u₀ x₀ y₀ u x y : List ℕ} → Initialized T alone (size .n) u₀ x₀ y₀ u x y → size .n ≤ length x₀
+          → size .n ≤ length y₀
           → OwnRanges (size .n) (size .m) starts x y
       initialized-own {alone} {x = x} {y = y} w lx ly = record {
         long-froms = omega (arith, w .begins .same);
@@ -89,7 +91,8 @@ module _ (size : Size) (rows : List Row) (firsts outcomes : List ℕ) where
 
       -- all that the two propagations ask, with a queue of so many places
       pub both-ready : size .n ≤ length r₀ → size .n ≤ length w₀ → size .n ≤ length e₀
-          → {u₀ x₀ y₀ u x y : List ℕ} → Initialized T true (size .n) u₀ x₀ y₀ u x y → size .n ≤ length u₀ → size .n ≤ length x₀ → size .n ≤ length y₀
+          → {u₀ x₀ y₀ u x y : List ℕ} → Initialized T true (size .n) u₀ x₀ y₀ u x y → size .n ≤ length u₀ → size .n ≤ length x₀
+          → size .n ≤ length y₀
           → (places : ℕ) → size .n ≤ places
           → Ready (size .n) (commandsOf size firsts outcomes) × (Parts starts (size .n) (size .m)
           × (OwnRanges (size .n) (size .m) starts starts e × (OwnRanges (size .n) (size .m) starts x y

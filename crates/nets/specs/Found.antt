@@ -24,7 +24,8 @@ pub record OwnRanges (n m : ℕ) (starts froms tos : List ℕ) : Type 0 where
   pub long-tos : n ≤ length tos
   pub inside : (s : ℕ) → s < n → (startOf starts n m s ≤ getD froms s 0) × (getD tos s 0 ≤ startOf starts n m (suc s))
 
--- The rank of each state, and a number where the practice fails. In the first n places of the two tables that are worked in is left what may be.
+-- The rank of each state, and a number where the practice fails. In the first n places of the two tables that are worked in is left what
+-- may be.
 pub record Found (T : Tables) (ranks tos fails scratch ranks′ tos′ fails′ scratch′ : List ℕ) : Type 0 where
   pub ranked : Filled (T .size .n) (λ s. entry (rank (planIn T) s)) ranks ranks′
   pub failed : (s : ℕ) → s < T .size .n → within fails′ highest s ≡ practiceFails (planIn T) s

@@ -31,7 +31,8 @@ pub fn has_practice(span: Span) -> bool
     span.practice < span.end - span.first
 }
 
-// Initializes every state for both propagations, in one pass: its rank, 0 or none, and where the commands that count there begin and end. In
+// Initializes every state for both propagations, in one pass: its rank, 0 or none, and where the commands that count there begin and end.
+// In
 // the first three tables all its commands count, in the last three its practice alone.
 pub fn initialize(
     size: Size,
@@ -76,8 +77,10 @@ pub fn index_all(
 )
     requires { ⌜ Ready (size .n) (commandsOf size (now firsts) (now outcomes)) ⌝ }
     requires { ⌜ Parts (now starts) (size .n) (size .m) ⌝ }
-    requires { ⌜ (size .n ≤ length (now starts)) × ((size .m ≤ length (now owner)) × ((size .n ≤ length (now offsets)) × (size .t ≤ length (now users)))) ⌝ }
-    ensures indexed { λ _. ⌜ Indexed (size .n) (commandsOf size (now (firsts .entry)) (now (outcomes .entry))) (now (offsets .exit)) (now (users .exit)) (now (owner .exit)) ⌝ }
+    requires { ⌜ (size .n ≤ length (now starts))
+        × ((size .m ≤ length (now owner)) × ((size .n ≤ length (now offsets)) × (size .t ≤ length (now users)))) ⌝ }
+    ensures indexed { λ _. ⌜ Indexed (size .n) (commandsOf size (now (firsts .entry)) (now (outcomes .entry))) (now (offsets .exit))
+        (now (users .exit)) (now (owner .exit)) ⌝ }
     ensures owned { λ _. ⌜ Owned (now (starts .entry)) (size .n) (size .m) (now (owner .exit)) ⌝ }
 {
     own(size, starts, owner);
@@ -101,10 +104,12 @@ pub fn propagate_in(
     requires { ⌜ Ranges (size .n) (size .m) (now tos) ⌝ }
     requires { ⌜ Indexed (size .n) (commandsOf size (now firsts) (now outcomes)) (now offsets) (now users) (now owner) ⌝ }
     requires { ⌜ Owns (netOf (size .n) (commandsOf size (now firsts) (now outcomes)) (now froms) (now tos)) (now owner) ⌝ }
-    requires { ⌜ (size .n ≤ length (now ranks)) × ((size .n ≤ length (now froms)) × ((size .n ≤ length (now scratch)) × Seeded (size .n) (now ranks))) ⌝ }
+    requires { ⌜ (size .n ≤ length (now ranks))
+        × ((size .n ≤ length (now froms)) × ((size .n ≤ length (now scratch)) × Seeded (size .n) (now ranks))) ⌝ }
     ensures ranked { λ _. ⌜
         now (ranks .exit)
-        ≡ depthTable (netOf (size .n) (commandsOf size (now (firsts .entry)) (now (outcomes .entry))) (now (froms .entry)) (now (tos .entry))) (now (ranks .entry))
+        ≡ depthTable (netOf (size .n) (commandsOf size (now (firsts .entry)) (now (outcomes .entry))) (now (froms .entry))
+        (now (tos .entry))) (now (ranks .entry))
         ⌝ }
     ensures queued { λ _. ⌜ Filled (size .n) (λ i. getD (now (scratch .exit)) i 0) (now (scratch .entry)) (now (scratch .exit)) ⌝ }
 {
@@ -122,7 +127,8 @@ pub fn propagate_in(
     );
 }
 
-// Both propagations of a plan that is given in tables of numbers, over one index. At entry `ranks` and `fails` have the seeds, `froms` and `tos`
+// Both propagations of a plan that is given in tables of numbers, over one index. At entry `ranks` and `fails` have the seeds, `froms`
+// and `tos`
 // the ranges of all commands, and the other two tables those of the practice. What the tables of first commands and the first n places of
 // scratch have afterwards is free.
 // The local tables have 43,008 bytes whatever the plan is.
@@ -146,11 +152,13 @@ pub fn propagate_both(
     requires { ⌜ Seeded (size .n) (now ranks) × Seeded (size .n) (now fails) ⌝ }
     ensures ranked { λ _. ⌜
         now (ranks .exit)
-        ≡ depthTable (netOf (size .n) (commandsOf size (now (firsts .entry)) (now (outcomes .entry))) (now (froms .entry)) (now (tos .entry))) (now (ranks .entry))
+        ≡ depthTable (netOf (size .n) (commandsOf size (now (firsts .entry)) (now (outcomes .entry))) (now (froms .entry))
+        (now (tos .entry))) (now (ranks .entry))
         ⌝ }
     ensures failed { λ _. ⌜
         now (fails .exit)
-        ≡ depthTable (netOf (size .n) (commandsOf size (now (firsts .entry)) (now (outcomes .entry))) (now (practices .entry)) (now (ends .entry))) (now (fails .entry))
+        ≡ depthTable (netOf (size .n) (commandsOf size (now (firsts .entry)) (now (outcomes .entry))) (now (practices .entry))
+        (now (ends .entry))) (now (fails .entry))
         ⌝ }
     ensures queued { λ _. ⌜ Filled (size .n) (λ i. getD (now (scratch .exit)) i 0) (now (scratch .entry)) (now (scratch .exit)) ⌝ }
 {
@@ -205,7 +213,8 @@ pub fn propagate_plan(
     scratch: &mut [u16],
 )
     requires { ⌜ sound (held size (now rows) (now firsts) (now outcomes)) ≡ true ⌝ }
-    requires { ⌜ (size .n ≤ length (now ranks)) × ((size .n ≤ length (now tos)) × ((size .n ≤ length (now fails)) × (size .n ≤ length (now scratch)))) ⌝ }
+    requires { ⌜ (size .n ≤ length (now ranks))
+        × ((size .n ≤ length (now tos)) × ((size .n ≤ length (now fails)) × (size .n ≤ length (now scratch)))) ⌝ }
     ensures { λ _. ⌜
         Found (held size (now (rows .entry)) (now (firsts .entry)) (now (outcomes .entry)))
         (now (ranks .entry)) (now (tos .entry)) (now (fails .entry)) (now (scratch .entry))

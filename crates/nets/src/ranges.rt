@@ -68,7 +68,8 @@ fn initialize_state(
     requires { ⌜ (span .first ≤ span .end) × (span .end ≤ maxCommands) ⌝ }
     requires { ⌜ (s < length (now ranks)) × (s < length (now froms)) × (s < length (now tos)) ⌝ }
     ensures { λ _. ⌜
-        StateInitialized span alone s (now (ranks .entry)) (now (froms .entry)) (now (tos .entry)) (now (ranks .exit)) (now (froms .exit)) (now (tos .exit))
+        StateInitialized span alone s (now (ranks .entry)) (now (froms .entry)) (now (tos .entry)) (now (ranks .exit)) (now (froms .exit))
+        (now (tos .exit))
         ⌝ }
 {
     let range = range_of(span, alone);
@@ -92,7 +93,8 @@ pub fn initialize_both(
     requires { ⌜ (s < length (now ranks)) × (s < length (now froms)) × (s < length (now tos)) ⌝ }
     requires { ⌜ (s < length (now fails)) × (s < length (now practices)) × (s < length (now ends)) ⌝ }
     ensures ranks { λ _. ⌜
-        StateInitialized span false s (now (ranks .entry)) (now (froms .entry)) (now (tos .entry)) (now (ranks .exit)) (now (froms .exit)) (now (tos .exit))
+        StateInitialized span false s (now (ranks .entry)) (now (froms .entry)) (now (tos .entry)) (now (ranks .exit)) (now (froms .exit))
+        (now (tos .exit))
         ⌝ }
     ensures practice { λ _. ⌜
         StateInitialized span true s (now (fails .entry)) (now (practices .entry)) (now (ends .entry))

@@ -24,11 +24,16 @@ pub no-rank : (x : ℕ) → x ≡ FFFF → not (eqb x FFFF) ≡ false
 no-rank x h = rw (eq-eqb x FFFF h)
 
 -- while some state has no rank there is room in the queue
-pub queue-room : (n : ℕ) (r w q : List ℕ) (end : ℕ) → QueueBound n (work r w q end) → (s y : ℕ) → s < n → y ≡ getD r s 0 → y ≡ FFFF → end < n
+pub queue-room : (n : ℕ) (r w q : List ℕ) (end : ℕ) → QueueBound n (work r w q end) → (s y : ℕ) → s < n → y ≡ getD r s 0 → y ≡ FFFF
+    → end < n
 unfolding rankCount
 queue-room n r w q end v s y h p e =
     let l : rankCount n r < n =
-    omega (arith, many-lt (λ i. not (eqb (getD r i 0) FFFF)) (λ i. true) n (λ i g t. refl) s h (no-rank (getD r s 0) (sym p ∙ e)) refl, many-bound (λ i. true) n) in
+    omega (
+      arith,
+      many-lt (λ i. not (eqb (getD r i 0) FFFF)) (λ i. true) n (λ i g t. refl) s h (no-rank (getD r s 0) (sym p ∙ e)) refl,
+      many-bound (λ i. true) n,
+    ) in
     omega (arith, v .few)
 
 module _ (n : ℕ) (r : List ℕ) (s x : ℕ) (h : s < n) (long : n ≤ length r) (small : x < FFFF) (e : getD r s 0 ≡ FFFF) where

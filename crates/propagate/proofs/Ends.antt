@@ -25,7 +25,8 @@ use Rattle.propagate.proofs.Counting.{count-le}
 use Rattle.propagate.proofs.LayerSteps.{none-waits, lost-waits}
 
 -- when no state waits, the ranks are the depths
-module _ (N : Net) (R : Ready (N .states) (N .commands)) (ends : Ranges (N .states) (N .commands .count) (N .tos)) (K : ℕ → Bool) (k lo : ℕ) (small : k ≤ N .states) (X : Work)
+module _ (N : Net) (R : Ready (N .states) (N .commands)) (ends : Ranges (N .states) (N .commands .count) (N .tos)) (K : ℕ → Bool) (k lo : ℕ)
+    (small : k ≤ N .states) (X : Work)
     (u : AtLayer N K k lo X) (over : X .end ≤ lo) where
   abbrev n : ℕ
   n = N .states
@@ -38,7 +39,8 @@ module _ (N : Net) (R : Ready (N .states) (N .commands)) (ends : Ranges (N .stat
   still s h t = ⊎-elim (λ e. e) (λ e. go e (ℕ-discrete (r s) FFFF)) (grow-step (losing N) K k s t)
     where
       go : losing N (netLayer N K k) s ≡ true → Dec (r s ≡ FFFF) → netLayer N K k s ≡ true
-      go e (yes z) = absurd (none-waits (N .commands) (X .queue) lo (X .end) (getD (X .watch) s 0) over (lost-waits N K _ k (X .end) X (u .towards) s h e z))
+      go e (yes z) = absurd (none-waits (N .commands) (X .queue) lo (X .end) (getD (X .watch) s 0) over
+          (lost-waits N K _ k (X .end) X (u .towards) s h e z))
       go e (no z) = sym (u .towards .ranked k s (omega arith) h) ∙ le-leb (r s) k (u .low s h z)
 
   depth-is : (s : ℕ) → s < n → r s ≡ entry (depth N K s)
@@ -51,7 +53,8 @@ module _ (N : Net) (R : Ready (N .states) (N .commands)) (ends : Ranges (N .stat
           never : (j : ℕ) → netLayer N K j s ≡ false
           never j =
               refute (netLayer N K j s) (λ t.
-              clash (still-all (losing N) K n (lose-mono N R ends) k still j s h t) (sym (u .towards .ranked k s (omega arith) h) ∙ lt-leb (r s) k (omega arith)))
+              clash (still-all (losing N) K n (lose-mono N R ends) k still j s h t)
+              (sym (u .towards .ranked k s (omega arith) h) ∙ lt-leb (r s) k (omega arith)))
       go (no z) =
           let l : r s ≤ k = u .low s h z in
           rw (lowest-eq (λ j. netLayer N K j s) (suc n) (some (r s)) (omega arith, here l, before l)) refl
@@ -74,7 +77,8 @@ pub record Going (n : ℕ) (C : Lists) (tos r₀ w₀ q₀ : List ℕ) (r w q : 
   pub qlong : length q ≡ length q₀
 
 module _ {n : ℕ} (C : Lists) (tos r₀ w₀ : List ℕ) where
-  pub going-start : (q₀ q : List ℕ) (e : ℕ) → QueueBound (n) (work r₀ w₀ q e) → AtLayer (netOf n C w₀ tos) (seeds r₀) 0 0 (work r₀ w₀ q e) → length q ≡ length q₀
+  pub going-start : (q₀ q : List ℕ) (e : ℕ) → QueueBound (n) (work r₀ w₀ q e) → AtLayer (netOf n C w₀ tos) (seeds r₀) 0 0 (work r₀ w₀ q e)
+      → length q ≡ length q₀
       → Going n C tos r₀ w₀ q₀ r₀ w₀ q 0 e 0
   going-start q₀ q e bound u l = record {
     order = omega arith;
@@ -91,7 +95,8 @@ module _ {n : ℕ} (C : Lists) (tos r₀ w₀ : List ℕ) where
     pub going-few : hi ≤ n
     going-few = omega (arith, v .bound .few, count-le (n) r)
 
-    pub going-next : (owner : List ℕ) → Owns (netOf n C w₀ tos) owner → lo < hi → (r′ w′ q′ : List ℕ) (e : ℕ) → Layered n C tos owner k lo (work r w q hi) (work r′ w′ q′ e)
+    pub going-next : (owner : List ℕ) → Owns (netOf n C w₀ tos) owner → lo < hi → (r′ w′ q′ : List ℕ) (e : ℕ)
+        → Layered n C tos owner k lo (work r w q hi) (work r′ w′ q′ e)
         → length r′ ≡ length r → length w′ ≡ length w → length q′ ≡ length q → Going n C tos r₀ w₀ q₀ r′ w′ q′ hi e (k + 1)
     going-next owner own h r′ w′ q′ e L lr lw lq = record {
       order = L .more;
@@ -108,4 +113,5 @@ module _ {n : ℕ} (C : Lists) (tos r₀ w₀ : List ℕ) where
         → r ≡ overwrite (tabulate (λ (s : ℕ). entry (depth (netOf n C w₀ tos) (seeds r₀) s)) 0 (n)) r₀
     going-done R ends long h =
         overwrite-is (λ (s : ℕ). entry (depth (netOf n C w₀ tos) (seeds r₀) s)) (n) r₀ long r (v .long)
-        (depth-is (netOf n C w₀ tos) R ends (seeds r₀) k lo (omega (arith, v .layers, v .order, going-few)) (work r w q hi) (v .at-layer) h) (v .rest)
+        (depth-is (netOf n C w₀ tos) R ends (seeds r₀) k lo (omega (arith, v .layers, v .order, going-few)) (work r w q hi) (v .at-layer) h)
+        (v .rest)

@@ -45,7 +45,8 @@ module _ (N : Net) (K : ℕ → Bool) (s : ℕ) where
   lose-at t c p q =
       let e : from N s + (c - from N s) ≡ c = omega arith in
       subst (λ (d : ℕ). commandHits (N .commands) K d ≡ true) e
-      (every-at (λ i. commandHits (N .commands) K (from N s + i)) (to N s - from N s) (and-both (ltb (from N s) (to N s)) _ t .1) (c - from N s) (omega arith))
+      (every-at (λ i. commandHits (N .commands) K (from N s + i)) (to N s - from N s) (and-both (ltb (from N s) (to N s)) _ t .1)
+      (c - from N s) (omega arith))
 
   pub lose-of : from N s < to N s → ((c : ℕ) → from N s ≤ c → c < to N s → commandHits (N .commands) K c ≡ true) → losing N K s ≡ true
   unfolding losing
@@ -57,6 +58,7 @@ pub to-in : (N : Net) → Ranges (N .states) (N .commands .count) (N .tos) → (
 unfolding to
 to-in N R s h = R .inside s h
 
-pub lose-mono : (N : Net) → Ready (N .states) (N .commands) → Ranges (N .states) (N .commands .count) (N .tos) → Monotone (N .states) (losing N)
+pub lose-mono : (N : Net) → Ready (N .states) (N .commands) → Ranges (N .states) (N .commands .count) (N .tos)
+    → Monotone (N .states) (losing N)
 lose-mono N R G A B h s l t =
     lose-of N B s (lose-some N A s t) (λ c p q. hit-more (N .commands) R A B h c (omega (arith, to-in N G s l)) (lose-at N A s t c p q))

@@ -37,7 +37,8 @@ module _ (q : List ℕ) (lo hi o : ℕ) where
   pub wait-of : (i : ℕ) → lo ≤ i → i < hi → getD q i 0 ≡ o → waiting q lo hi o ≡ true
   unfolding waiting
   wait-of i p l e =
-      exists-of (λ i. leb lo i && eqb (getD q i 0) o) hi i l (and-join (leb lo i) (eqb (getD q i 0) o) (le-leb lo i p) (eq-eqb (getD q i 0) o e))
+      exists-of (λ i. leb lo i && eqb (getD q i 0) o) hi i l
+      (and-join (leb lo i) (eqb (getD q i 0) o) (le-leb lo i p) (eq-eqb (getD q i 0) o e))
 
 -- no command waits when the walk is over
 pub none-waits : (C : Lists) (q : List ℕ) (lo hi c : ℕ) → hi ≤ lo → commandHits C (waiting q lo hi) c ≡ true → ⊥
@@ -47,7 +48,8 @@ none-waits C q lo hi c h t =
     omega arith
 
 -- a state that layers 0 to k lose has a rank, or a command that it watches waits
-pub lost-waits : (N : Net) (K G : ℕ → Bool) (k hi : ℕ) (X : Work) → TowardsLayer N K k hi G X → (s : ℕ) → s < N .states → losing N (netLayer N K k) s ≡ true
+pub lost-waits : (N : Net) (K G : ℕ → Bool) (k hi : ℕ) (X : Work) → TowardsLayer N K k hi G X → (s : ℕ) → s < N .states
+    → losing N (netLayer N K k) s ≡ true
     → getD (X .ranks) s 0 ≡ FFFF → G (getD (X .watch) s 0) ≡ true
 lost-waits N K G k hi X v s h t e =
     let y = v .watches s h e in
@@ -82,8 +84,10 @@ module _ {n : ℕ} (C : Lists) (tos owner : List ℕ) (k lo : ℕ) (X : Work) wh
     pub layer-state : h < X .end → (o : ℕ) → o ≡ getD (Y .queue) h 0 → o < n
     layer-state g o e = omega (arith, e, v .bound .states h (omega (arith, v .more)))
 
-    pub layer-next : (offsets users : List ℕ) → Indexed n C offsets users owner → h < X .end → (o : ℕ) → o ≡ getD (Y .queue) h 0 → (Z : Work)
-        → Moved n C tos owner k (Among users (startOf offsets (n) (C .end) o) (startOf offsets (n) (C .end) (o + 1))) Y Z → LayerStep n C tos owner k lo X (h + 1) Z
+    pub layer-next : (offsets users : List ℕ) → Indexed n C offsets users owner → h < X .end → (o : ℕ) → o ≡ getD (Y .queue) h 0
+        → (Z : Work)
+        → Moved n C tos owner k (Among users (startOf offsets (n) (C .end) o) (startOf offsets (n) (C .end) (o + 1))) Y Z
+        → LayerStep n C tos owner k lo X (h + 1) Z
     layer-next offsets users I g o e Z M = record {
       order = omega arith;
       more = omega (arith, v .more, M .more);
@@ -91,19 +95,23 @@ module _ {n : ℕ} (C : Lists) (tos owner : List ℕ) (k lo : ℕ) (X : Work) wh
       kept = λ i l. M .kept i (omega (arith, v .more)) ∙ v .kept i l;
       rest = λ i l. M .rest i l ∙ v .rest i l;
       towards = λ froms K own u.
-          M .towards froms K (commandHits C (waiting (X .queue) h (X .end))) (commandHits C (waiting (X .queue) (h + 1) (X .end))) (X .end) (v .more) own left (v .towards froms K own u);
+          M .towards froms K (commandHits C (waiting (X .queue) h (X .end))) (commandHits C (waiting (X .queue) (h + 1) (X .end))) (X .end)
+          (v .more) own left (v .towards froms K own u);
     }
       where
         found : (c u i : ℕ) → c < C .count → List·Memᴰ u (listAt C c) → h ≤ i → i < X .end → getD (X .queue) i 0 ≡ u
-            → (Among users (startOf offsets (n) (C .end) o) (startOf offsets (n) (C .end) (o + 1)) c → ⊥) → Dec (i ≡ h) → commandHits C (waiting (X .queue) (h + 1) (X .end)) c ≡ true
-        found c u i l m p b f n (no d) = hit-of C (waiting (X .queue) (h + 1) (X .end)) c u m (wait-of (X .queue) (h + 1) (X .end) u i (omega arith) b f)
+            → (Among users (startOf offsets (n) (C .end) o) (startOf offsets (n) (C .end) (o + 1)) c → ⊥) → Dec (i ≡ h)
+            → commandHits C (waiting (X .queue) (h + 1) (X .end)) c ≡ true
+        found c u i l m p b f n (no d) = hit-of C (waiting (X .queue) (h + 1) (X .end)) c u m
+            (wait-of (X .queue) (h + 1) (X .end) u i (omega arith) b f)
         found c u i l m p b f out (yes d) =
             let z : u ≡ o = sym f ∙ rw d (sym (v .kept h g) ∙ sym e) in
             let (x, s, t, y) = I .grouped .has c u l m in
             absurd (out (rw (start-next offsets (n) (C .end) o, ← z) (record { place = x; since = s; below = t; stands = y })))
 
         left : (c : ℕ) → c < C .count → commandHits C (waiting (X .queue) h (X .end)) c ≡ true
-            → (Among users (startOf offsets (n) (C .end) o) (startOf offsets (n) (C .end) (o + 1)) c → ⊥) → commandHits C (waiting (X .queue) (h + 1) (X .end)) c ≡ true
+            → (Among users (startOf offsets (n) (C .end) o) (startOf offsets (n) (C .end) (o + 1)) c → ⊥)
+            → commandHits C (waiting (X .queue) (h + 1) (X .end)) c ≡ true
         left c l t n =
             let (u, m, w) = hit-some C (waiting (X .queue) h (X .end)) c t in
             let (i, p, b, f) = wait-at (X .queue) h (X .end) u w in
@@ -147,17 +155,20 @@ module _ {n : ℕ} (C : Lists) (tos owner : List ℕ) (k lo : ℕ) (X : Work) wh
 
                 new : losing N (netLayer N K k) s ≡ true → Dec (r s ≡ FFFF) → leb (r s) (suc k) ≡ true
                 new e (no n) = le-leb (r s) (suc k) (omega (arith, low s g n))
-                new e (yes z) = absurd (none-waits C (X .queue) h (X .end) (getD (Y .watch) s 0) over (lost-waits N K _ k (X .end) Y y s g e z))
+                new e (yes z) = absurd (none-waits C (X .queue) h (X .end) (getD (Y .watch) s 0) over
+                    (lost-waits N K _ k (X .end) Y y s g e z))
 
         -- a watched command that layers 0 to k + 1 hit has an outcome of rank k + 1, and that waits
-        waits : (c : ℕ) → c < C .count → (commandHits C (netLayer N K k) c ≡ true → ⊥) → commandHits C (netLayer N K (k + 1)) c ≡ true → commandHits C (waiting (Y .queue) (X .end) (Y .end)) c ≡ true
+        waits : (c : ℕ) → c < C .count → (commandHits C (netLayer N K k) c ≡ true → ⊥) → commandHits C (netLayer N K (k + 1)) c ≡ true
+            → commandHits C (waiting (Y .queue) (X .end) (Y .end)) c ≡ true
         waits c l new t =
             let (o, m, e) = hit-some C (netLayer N K (k + 1)) c t in
             let g = entry-in C R c o l m in
             let f = next o g ∙ e in
             go o m g (leb-true (r o) (k + 1) f) (decLe (r o) k)
           where
-            go : (o : ℕ) → List·Memᴰ o (listAt C c) → o < n → r o ≤ k + 1 → Dec (r o ≤ k) → commandHits C (waiting (Y .queue) (X .end) (Y .end)) c ≡ true
+            go : (o : ℕ) → List·Memᴰ o (listAt C c) → o < n → r o ≤ k + 1 → Dec (r o ≤ k)
+                → commandHits C (waiting (Y .queue) (X .end) (Y .end)) c ≡ true
             go o m g f (yes d) = absurd (new (hit-of C (netLayer N K k) c o m (sym (y .ranked k o (omega arith) g) ∙ le-leb (r o) k d)))
             go o m g f (no d) =
                 let (i, p, b, q) = y .queued o g (omega arith) in
@@ -176,7 +187,8 @@ module _ {n : ℕ} (C : Lists) (tos owner : List ℕ) (k lo : ℕ) (X : Work) wh
                   since = w .since;
                   until = w .until;
                   before = λ i p q d. more i (omega arith) (w .before i p q d);
-                  pending = λ l t. waits (getD (Y .watch) s 0) (omega arith) (λ f. none-waits C (X .queue) h (X .end) _ over (w .pending l f)) t;
+                  pending = λ l t. waits (getD (Y .watch) s 0) (omega arith)
+                      (λ f. none-waits C (X .queue) h (X .end) _ over (w .pending l f)) t;
                 };
             queued = λ s g e. absurd (omega (arith, low s g (λ z. omega arith)));
           };

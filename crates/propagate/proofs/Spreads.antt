@@ -20,7 +20,8 @@ use Rattle.propagate.proofs.Visits.{watch-more}
 
 module _ {n : ℕ} (C : Lists) (tos owner : List ℕ) (k : ℕ) where
   -- nothing is looked at yet
-  pub moved-none : Ranges n (C .count) tos → (D : ℕ → Type 0) (X : Work) → QueueBound (n) X → ((c : ℕ) → D c → ⊥) → Moved n C tos owner k D X X
+  pub moved-none : Ranges n (C .count) tos → (D : ℕ → Type 0) (X : Work) → QueueBound (n) X → ((c : ℕ) → D c → ⊥)
+      → Moved n C tos owner k D X X
   moved-none ends D X bound none = record {
     towards = λ froms K G G′ hi low own left v.
         record {
@@ -54,7 +55,8 @@ module _ {n : ℕ} (C : Lists) (tos owner : List ℕ) (k : ℕ) where
       drop : (G′ : ℕ → Bool) (d : ℕ) → G′ d || eqb d c ≡ true → (d ≡ c → ⊥) → G′ d ≡ true
       drop G′ d t n = ⊎-elim (λ e. e) (λ e. absurd (n (eqb-true d c e))) (or-cases (G′ d) (eqb d c) t)
 
-      keep : (G G′ : ℕ → Bool) → ((d : ℕ) → d < C .count → G d ≡ true → (E d → ⊥) → G′ d ≡ true) → (d : ℕ) → d < C .count → G d ≡ true → (D d → ⊥)
+      keep : (G G′ : ℕ → Bool) → ((d : ℕ) → d < C .count → G d ≡ true → (E d → ⊥) → G′ d ≡ true) → (d : ℕ) → d < C .count → G d ≡ true
+          → (D d → ⊥)
           → Dec (d ≡ c) → G′ d || eqb d c ≡ true
       keep G G′ left d l t n (yes e) = or-right (G′ d) (eqb d c) (eq-eqb d c e)
       keep G G′ left d l t n (no e) = or-left (G′ d) (eqb d c) (left d l t (λ x. ⊎-elim n e (sub d x)))

@@ -70,7 +70,8 @@ module _ (r q : List ℕ) (s e : ℕ) (v : SeedsQueued r q s e) (x : ℕ) (p : x
       find u l y (yes d) = let (i, a, b) = v .found u d y in (i, omega arith, old i a ∙ b)
       find u l y (no d) = let t : u ≡ s = omega arith in (e, omega arith, new ∙ sym t)
 
-module _ {n : ℕ} (C : Lists) (R : Ready n C) (tos : List ℕ) (ends : Ranges n (C .count) tos) (r w q : List ℕ) (long : n ≤ length r) (a : Seeded (n) r) (e : ℕ) (v : SeedsQueued r q (n) e) where
+module _ {n : ℕ} (C : Lists) (R : Ready n C) (tos : List ℕ) (ends : Ranges n (C .count) tos) (r w q : List ℕ) (long : n ≤ length r)
+    (a : Seeded (n) r) (e : ℕ) (v : SeedsQueued r q (n) e) where
   abbrev N : Net
   N = netOf n C w tos
 

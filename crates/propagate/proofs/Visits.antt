@@ -35,7 +35,8 @@ pub range-in : {n count : ℕ} (tos : List ℕ) → Ranges n count tos → (s f 
 range-in tos R s f h p = omega (arith, p, R .inside s h)
 
 -- The tables before the look, of the command c, whose owner is s.
-module _ {n : ℕ} (C : Lists) (R : Ready n C) (tos owner : List ℕ) (ends : Ranges n (C .count) tos) (k : ℕ) (small : k < 1024) (r w q : List ℕ) (end : ℕ)
+module _ {n : ℕ} (C : Lists) (R : Ready n C) (tos owner : List ℕ) (ends : Ranges n (C .count) tos) (k : ℕ) (small : k < 1024)
+    (r w q : List ℕ) (end : ℕ)
     (bound : QueueBound (n) (work r w q end)) (c s : ℕ) (p : s ≡ getD owner c 0) (inside : getD owner c 0 < n) where
   h : s < n
   h = omega (arith, p)
@@ -74,7 +75,8 @@ module _ {n : ℕ} (C : Lists) (R : Ready n C) (tos owner : List ℕ) (ends : Ra
         go u y e l z = idle (rw y at e) (rw y at z) (omega (arith, to-at n C froms tos s, rw y at l, rw y at z))
 
     -- s watches c, and goes on to x
-    module _ (wlong : n ≤ length w) (e : getD r s 0 ≡ FFFF) (z : getD w s 0 ≡ c) (l : c < getD tos s 0) (x : ℕ) (A : FirstNot (commandHits C (within r k)) c (getD tos s 0) x) where
+    module _ (wlong : n ≤ length w) (e : getD r s 0 ≡ FFFF) (z : getD w s 0 ≡ c) (l : c < getD tos s 0) (x : ℕ)
+        (A : FirstNot (commandHits C (within r k)) c (getD tos s 0) x) where
       y : Watch N (netLayer N K k) G s (getD w s 0)
       y = v .watches s h e
 
@@ -119,10 +121,12 @@ module _ {n : ℕ} (C : Lists) (R : Ready n C) (tos owner : List ℕ) (ends : Ra
 
       loses : getD tos s 0 ≤ x → losing N (netLayer N K k) s ≡ true
       loses b =
-          lose-of N (netLayer N K k) s (omega (arith, y .since, to-at n C froms tos s)) (λ i a d. passed i a (omega (arith, to-at n C froms tos s)) d)
+          lose-of N (netLayer N K k) s (omega (arith, y .since, to-at n C froms tos s))
+          (λ i a d. passed i a (omega (arith, to-at n C froms tos s)) d)
 
       -- it has none left, so it has rank k + 1 and waits in the queue
-      ends-up : getD tos s 0 ≤ x → n ≤ length r → n ≤ length q → hi ≤ end → TowardsLayer N K k hi G′ (work (set r s (k + 1)) (set w s x) (set q end s) (end + 1))
+      ends-up : getD tos s 0 ≤ x → n ≤ length r → n ≤ length q → hi ≤ end
+          → TowardsLayer N K k hi G′ (work (set r s (k + 1)) (set w s x) (set q end s) (end + 1))
       ends-up b rlong qlong low = record {
         ranked = λ j u a g. leq j u a g (ℕ-discrete u s);
         fresh = λ u g a n. new u g a n (ℕ-discrete u s);
@@ -142,7 +146,8 @@ module _ {n : ℕ} (C : Lists) (R : Ready n C) (tos owner : List ℕ) (ends : Ra
           leq : (j u : ℕ) → j ≤ k → u < n → Dec (u ≡ s) → leb (getD (set r s (k + 1)) u 0) j ≡ netLayer N K j u
           leq j u a g (no n) = ap (λ (d : ℕ). leb d j) (old u n) ∙ v .ranked j u a g
           leq j u a g (yes n) =
-              rw n (lt-leb (getD (set r s (k + 1)) s 0) j (omega (arith, now)) ∙ sym (lt-leb (getD r s 0) j (omega arith)) ∙ v .ranked j s a h)
+              rw n (lt-leb (getD (set r s (k + 1)) s 0) j (omega (arith, now)) ∙ sym (lt-leb (getD r s 0) j (omega arith))
+              ∙ v .ranked j s a h)
 
           new : (u : ℕ) → u < n → k < getD (set r s (k + 1)) u 0 → (getD (set r s (k + 1)) u 0 ≡ FFFF → ⊥) → Dec (u ≡ s)
               → (getD (set r s (k + 1)) u 0 ≡ k + 1) × (losing N (netLayer N K k) u ≡ true)
@@ -152,7 +157,8 @@ module _ {n : ℕ} (C : Lists) (R : Ready n C) (tos owner : List ℕ) (ends : Ra
           room : end < n
           room = queue-room (n) r w q end bound s (getD r s 0) h refl e
 
-          find : (u : ℕ) → u < n → getD (set r s (k + 1)) u 0 ≡ k + 1 → Dec (u ≡ s) → (i : ℕ) × (hi ≤ i) × (i < end + 1) × (getD (set q end s) i 0 ≡ u)
+          find : (u : ℕ) → u < n → getD (set r s (k + 1)) u 0 ≡ k + 1 → Dec (u ≡ s) → (i : ℕ) × (hi ≤ i) × (i < end + 1)
+              × (getD (set q end s) i 0 ≡ u)
           find u g a (yes n) = (end, low, omega arith, getD-set-same q end s 0 (omega (arith, room)) ∙ sym n)
           find u g a (no n) =
               let (i, x₁, x₂, x₃) = v .queued u g (sym (old u n) ∙ a) in
@@ -202,7 +208,8 @@ module _ {n : ℕ} (C : Lists) (R : Ready n C) (tos owner : List ℕ) (ends : Ra
           module _ (g : f ≤ x) (rlong : n ≤ length r) (qlong : n ≤ length q) where
             pub look-lost : (w′ r′ q′ : List ℕ) → w′ ≡ set w s x → r′ ≡ set r s (k + 1) → q′ ≡ set q end s → Look (work r′ w′ q′ (end + 1))
             look-lost w′ r′ q′ a₁ a₂ a₃ = rw (a₁, a₂, a₃) (record {
-              towards = λ froms K G G′ hi low own left v. ends-up froms K G G′ hi own left v wlong e z (omega arith) x B (omega arith) rlong qlong low;
+              towards = λ froms K G G′ hi low own left v. ends-up froms K G G′ hi own left v wlong e z (omega arith) x B (omega arith) rlong
+                  qlong low;
               bound = bound-next (n) r s (k + 1) h rlong (omega arith) e w q end bound qlong (set w s x);
               kept = λ i t. getD-set-other q end i s 0 (omega arith);
               rest = λ i t. getD-set-other r s i (k + 1) 0 (omega arith);

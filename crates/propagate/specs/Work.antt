@@ -51,7 +51,8 @@ pub record TowardsLayer (N : Net) (K : ℕ → Bool) (k hi : ℕ) (G : ℕ → B
 -- layer is told for all that it may have begun with.
 pub record Moved (n : ℕ) (C : Lists) (tos owner : List ℕ) (k : ℕ) (Done : ℕ → Type 0) (X Y : Work) : Type 0 where
   pub towards : (froms : List ℕ) (K G G′ : ℕ → Bool) (hi : ℕ) → hi ≤ X .end → Owns (netOf n C froms tos) owner
-      → ((c : ℕ) → c < C .count → G c ≡ true → (Done c → ⊥) → G′ c ≡ true) → TowardsLayer (netOf n C froms tos) K k hi G X → TowardsLayer (netOf n C froms tos) K k hi G′ Y
+      → ((c : ℕ) → c < C .count → G c ≡ true → (Done c → ⊥) → G′ c ≡ true) → TowardsLayer (netOf n C froms tos) K k hi G X
+      → TowardsLayer (netOf n C froms tos) K k hi G′ Y
   pub bound : QueueBound (n) Y
   pub kept : (i : ℕ) → i < X .end → getD (Y .queue) i 0 ≡ getD (X .queue) i 0
   pub rest : (i : ℕ) → n ≤ i → getD (Y .ranks) i 0 ≡ getD (X .ranks) i 0

@@ -35,9 +35,13 @@ fn visit(
 ) -> usize
     requires { ⌜ Ready (size .n) (commandsOf size (now firsts) (now outcomes)) ⌝ }
     requires { ⌜ Ranges (size .n) (size .m) (now tos) ⌝ }
-    requires { ⌜ (c < length (now owner)) × ((getD (now owner) c 0 < size .n) × ((size .n ≤ length (now ranks)) × ((size .n ≤ length (now watch)) × ((size .n ≤ length (now queue)) × (k < maxStates))))) ⌝ }
+    requires { ⌜ (c < length (now owner))
+        × ((getD (now owner) c 0 < size .n)
+        × ((size .n ≤ length (now ranks)) × ((size .n ≤ length (now watch)) × ((size .n ≤ length (now queue)) × (k < maxStates))))) ⌝ }
     requires { ⌜ QueueBound (size .n) (work (now ranks) (now watch) (now queue) end) ⌝ }
-    ensures { λ r. ⌜ Moved (size .n) (commandsOf size (now (firsts .entry)) (now (outcomes .entry))) (now (tos .entry)) (now (owner .entry)) k (λ (d : ℕ). d ≡ c) (work (now (ranks .entry)) (now (watch .entry)) (now (queue .entry)) end) (work (now (ranks .exit)) (now (watch .exit)) (now (queue .exit)) r) ⌝ }
+    ensures { λ r. ⌜ Moved (size .n) (commandsOf size (now (firsts .entry)) (now (outcomes .entry))) (now (tos .entry)) (now (owner .entry))
+        k (λ (d : ℕ). d ≡ c) (work (now (ranks .entry)) (now (watch .entry)) (now (queue .entry)) end)
+        (work (now (ranks .exit)) (now (watch .exit)) (now (queue .exit)) r) ⌝ }
 {
     let s = at(owner, c);
     if at(ranks, s) != NONE {
@@ -80,9 +84,14 @@ fn spread(
     requires { ⌜ Ready (size .n) (commandsOf size (now firsts) (now outcomes)) ⌝ }
     requires { ⌜ Ranges (size .n) (size .m) (now tos) ⌝ }
     requires { ⌜ Indexed (size .n) (commandsOf size (now firsts) (now outcomes)) (now offsets) (now users) (now owner) ⌝ }
-    requires { ⌜ (o < size .n) × ((size .n ≤ length (now ranks)) × ((size .n ≤ length (now watch)) × ((size .n ≤ length (now queue)) × (k < maxStates)))) ⌝ }
+    requires { ⌜ (o < size .n)
+        × ((size .n ≤ length (now ranks)) × ((size .n ≤ length (now watch)) × ((size .n ≤ length (now queue)) × (k < maxStates)))) ⌝ }
     requires { ⌜ QueueBound (size .n) (work (now ranks) (now watch) (now queue) end) ⌝ }
-    ensures { λ r. ⌜ Moved (size .n) (commandsOf size (now (firsts .entry)) (now (outcomes .entry))) (now (tos .entry)) (now (owner .entry)) k (Among (now (users .entry)) (startOf (now (offsets .entry)) (size .n) (size .t) o) (startOf (now (offsets .entry)) (size .n) (size .t) (o + 1))) (work (now (ranks .entry)) (now (watch .entry)) (now (queue .entry)) end) (work (now (ranks .exit)) (now (watch .exit)) (now (queue .exit)) r) ⌝ }
+    ensures { λ r. ⌜ Moved (size .n) (commandsOf size (now (firsts .entry)) (now (outcomes .entry))) (now (tos .entry)) (now (owner .entry))
+        k (Among (now (users .entry)) (startOf (now (offsets .entry)) (size .n) (size .t) o)
+        (startOf (now (offsets .entry)) (size .n) (size .t) (o + 1)))
+        (work (now (ranks .entry)) (now (watch .entry)) (now (queue .entry)) end)
+        (work (now (ranks .exit)) (now (watch .exit)) (now (queue .exit)) r) ⌝ }
 {
     let mut e = end;
     let mut p = start_of(offsets, size.n, size.t, o);
@@ -126,9 +135,12 @@ fn add_layer(
     requires { ⌜ Ready (size .n) (commandsOf size (now firsts) (now outcomes)) ⌝ }
     requires { ⌜ Ranges (size .n) (size .m) (now tos) ⌝ }
     requires { ⌜ Indexed (size .n) (commandsOf size (now firsts) (now outcomes)) (now offsets) (now users) (now owner) ⌝ }
-    requires { ⌜ (lo ≤ hi) × ((size .n ≤ length (now ranks)) × ((size .n ≤ length (now watch)) × ((size .n ≤ length (now queue)) × (k < maxStates)))) ⌝ }
+    requires { ⌜ (lo ≤ hi) × ((size .n ≤ length (now ranks))
+        × ((size .n ≤ length (now watch)) × ((size .n ≤ length (now queue)) × (k < maxStates)))) ⌝ }
     requires { ⌜ QueueBound (size .n) (work (now ranks) (now watch) (now queue) hi) ⌝ }
-    ensures { λ r. ⌜ Layered (size .n) (commandsOf size (now (firsts .entry)) (now (outcomes .entry))) (now (tos .entry)) (now (owner .entry)) k lo (work (now (ranks .entry)) (now (watch .entry)) (now (queue .entry)) hi) (work (now (ranks .exit)) (now (watch .exit)) (now (queue .exit)) r) ⌝ }
+    ensures { λ r. ⌜ Layered (size .n) (commandsOf size (now (firsts .entry)) (now (outcomes .entry))) (now (tos .entry))
+        (now (owner .entry)) k lo (work (now (ranks .entry)) (now (watch .entry)) (now (queue .entry)) hi)
+        (work (now (ranks .exit)) (now (watch .exit)) (now (queue .exit)) r) ⌝ }
 {
     let mut e = hi;
     let mut h = lo;
@@ -199,8 +211,12 @@ pub fn propagate(
     requires { ⌜ Ranges (size .n) (size .m) (now tos) ⌝ }
     requires { ⌜ Indexed (size .n) (commandsOf size (now firsts) (now outcomes)) (now offsets) (now users) (now owner) ⌝ }
     requires { ⌜ Owns (netOf (size .n) (commandsOf size (now firsts) (now outcomes)) (now watch) (now tos)) (now owner) ⌝ }
-    requires { ⌜ (size .n ≤ length (now ranks)) × ((size .n ≤ length (now watch)) × ((size .n ≤ length (now queue)) × Seeded (size .n) (now ranks))) ⌝ }
-    ensures { λ _. ⌜ now (ranks .exit) ≡ overwrite (tabulate (λ (s : ℕ). entry (depth (netOf (size .n) (commandsOf size (now (firsts .entry)) (now (outcomes .entry))) (now (watch .entry)) (now (tos .entry))) (seeds (now (ranks .entry))) s)) 0 (size .n)) (now (ranks .entry)) ⌝ }
+    requires { ⌜ (size .n ≤ length (now ranks))
+        × ((size .n ≤ length (now watch)) × ((size .n ≤ length (now queue)) × Seeded (size .n) (now ranks))) ⌝ }
+    ensures { λ _. ⌜ now (ranks .exit)
+        ≡ overwrite (tabulate (λ (s : ℕ). entry
+        (depth (netOf (size .n) (commandsOf size (now (firsts .entry)) (now (outcomes .entry))) (now (watch .entry)) (now (tos .entry)))
+        (seeds (now (ranks .entry))) s)) 0 (size .n)) (now (ranks .entry)) ⌝ }
 {
     let mut lo = 0;
     let mut hi = enqueue_seeds(size.n, ranks, queue);

@@ -55,7 +55,8 @@ states-stand (more {k} {q} {s} {s₁} {cs} {ss} g c r) =
     let lm = length-append cs (allCommands ss) in
     let lt = length-joined cs (allCommands ss) in
     let at : drop (8 + commandsLength cs) s ≡ s₁ = sym (b ∙ drop-drop (commandsLength cs) 8 s) in (
-      ap (λ (v : StateField). let xs = commandsIn (v .count) (drop 8 s) in stateFrom v xs ∷ statesIn k (drop (8 + commandsLength xs) s)) (g .is)
+      ap (λ (v : StateField). let xs = commandsIn (v .count) (drop 8 s) in stateFrom v xs ∷ statesIn k (drop (8 + commandsLength xs) s))
+          (g .is)
           ∙ rw (a, at) (ap (λ (z : List State). stateFrom q cs ∷ z) d),
       omega (arith, g .framed .fits, length-drop 8 s, ap length b, length-drop (commandsLength cs) (drop 8 s)),
     )
@@ -74,7 +75,13 @@ module _ (file : List ℕ) (rows : List Row) (firsts outs : List ℕ) where
 
   -- after an answer each begins with what was read
   written : (T : Tables) → reading (length rows) (length firsts) (length outs) file ≡ given T
-      → record { answers = given (T .size); rows = overwrite (T .rows) (rowsOf rows); firsts = overwrite (T .firsts) firsts; outcomes = overwrite (T .outcomes) outs }
+      → record {
+        answers = given (T .size);
+        rows = overwrite (T .rows) (rowsOf rows);
+        firsts = overwrite (T .firsts) firsts;
+        outcomes =
+            overwrite (T .outcomes) outs;
+      }
       ≡ readCall file (rowsOf rows) firsts outs
   unfolding answer left
   written T e = rw (length-map rows rowOf, e) refl

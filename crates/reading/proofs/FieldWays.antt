@@ -11,7 +11,24 @@ use borrow.Author.Tests.{le-ltb, lt-ltb, le-leb, lt-leb, eq-eqb, ne-eqb, eqb-tru
 use Rattle.laws.specs.Entry.{be16}
 use Rattle.laws.proofs.Tests.{and-both}
 use Rattle.model.specs.Refusal.{Answer, Cut, Tag, Length, Beyond, Unsorted, Idle, Limit, given, refused, answer, need, _>>=_, _>>_}
-use Rattle.model.specs.File.{maxStates, maxCommands, maxOutcomes, headTag, stateTag, commandTag, allowed, StateField, notIdle, stateValues, field, head, state, entries, rising, command}
+use Rattle.model.specs.File.{
+  maxStates,
+  maxCommands,
+  maxOutcomes,
+  headTag,
+  stateTag,
+  commandTag,
+  allowed,
+  StateField,
+  notIdle,
+  stateValues,
+  field,
+  head,
+  state,
+  entries,
+  rising,
+  command,
+}
 use Rattle.tables.specs.declared.Refusal.{Refusal}
 use Rattle.tables.specs.Meaning.{refusalOf}
 use Rattle.model.proofs.Fields.{field-inv, length-entries}
@@ -44,17 +61,24 @@ module _ (tag : ℕ) (s : List ℕ) where
 
 -- the field at a mark
 module _ (file : List ℕ) (k : Mark) (tag : ℕ) where
-  pub field-stops : (r : Refusal) → refused (refusalOf r) ≡ field tag (bytesFrom file k) → Walks file (Passed.Refused r) (answer (afterField file k) (field tag (bytesFrom file k)))
+  pub field-stops : (r : Refusal) → refused (refusalOf r) ≡ field tag (bytesFrom file k)
+      → Walks file (Passed.Refused r) (answer (afterField file k) (field tag (bytesFrom file k)))
   unfolding answer
   field-stops r e = refuses r (ap (answer (afterField file k)) e)
 
-  pub field-walks : {len : ℕ} {next : Mark} → given len ≡ field tag (bytesFrom file k) → Within file k → next ≡ moved k (3 + len) → Walks file (Passed.To next) (answer (afterField file k) (field tag (bytesFrom file k)))
+  pub field-walks : {len : ℕ} {next : Mark} → given len ≡ field tag (bytesFrom file k) → Within file k → next ≡ moved k (3 + len)
+      → Walks file (Passed.To next) (answer (afterField file k) (field tag (bytesFrom file k)))
   unfolding answer
   field-walks {len} e w q =
       let room : 3 + len ≤ length (bytesFrom file k) = field-inv tag (bytesFrom file k) len (sym e) .fits in
       rw (q, ← e) (record {
         answers = ap (λ (z : List ℕ). given (k .m, k .t, z)) (sym (drop-drop (3 + len) (k .at) file));
-        stays = record { inside = omega (arith, length-drop (k .at) file, w .inside, room); few-commands = w .few-commands; few-outcomes = w .few-outcomes };
+        stays = record {
+          inside = omega (arith, length-drop (k .at) file, w .inside, room);
+          few-commands = w .few-commands;
+          few-outcomes =
+              w .few-outcomes;
+        };
       })
 
 -- a field of fixed length that was passed
@@ -148,7 +172,8 @@ module _ (s : List ℕ) (k : ℕ) where
   entries-more i h =
       let e : k - i ≡ suc (k - (i + 1)) = omega arith in
       let a : i * 2 + 2 ≡ (i + 1) * 2 = omega arith in
-      rw e (ap₂ (λ (x : ℕ) (r : List ℕ). x ∷ entries (k - (i + 1)) r) (be16-drop (i * 2) s) (drop-drop 2 (i * 2) s ∙ ap (λ (z : ℕ). drop z s) a))
+      rw e (ap₂ (λ (x : ℕ) (r : List ℕ). x ∷ entries (k - (i + 1)) r) (be16-drop (i * 2) s)
+      (drop-drop 2 (i * 2) s ∙ ap (λ (z : ℕ). drop z s) a))
 
   pub entries-none : (i : ℕ) → k ≤ i → entriesFrom i ≡ []
   unfolding entries
@@ -231,5 +256,6 @@ command-walks file k next n c {r} e d few w =
     let past : (k .m + 1, k .t + c, bytesFrom file next) ≡ afterCommand file k os
     = rw (length-entries c (drop 3 s)) (ap (λ (z : List ℕ). (k .m + 1, k .t + c, z)) (sym at)) in
     let same : answer (λ x. (k .m + 1, k .t + c, bytesFrom file next)) (rising n 0 os) ≡ answer (afterCommand file k) (command n (k .t) s)
-    = ap (λ (z : ℕ × ℕ × List ℕ). answer (λ x. z) (rising n 0 os)) past ∙ command-as s (afterField file k) e n (k .t) (afterCommand file k) c d few in
+    = ap (λ (z : ℕ × ℕ × List ℕ). answer (λ x. z) (rising n 0 os)) past
+    ∙ command-as s (afterField file k) e n (k .t) (afterCommand file k) c d few in
     subst (Walks file r) same (rw (drop-drop 3 (k .at) file) w)

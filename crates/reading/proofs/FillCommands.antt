@@ -42,21 +42,25 @@ module _ (s : List ℕ) (k t : ℕ) where
 -- ---- commands
 
 -- the filling of both tables that began at the mark k₀, and the mark that it has come to in the file
-pub record Filling (bytes : ℕ) (firsts₀ outs₀ : List ℕ) (k₀ : Mark) (cs₀ : List (List ℕ)) (firsts outs : List ℕ) (k : Mark) (cs : List (List ℕ)) : Type 0 where
+pub record Filling (bytes : ℕ) (firsts₀ outs₀ : List ℕ) (k₀ : Mark) (cs₀ : List (List ℕ)) (firsts outs : List ℕ) (k : Mark)
+    (cs : List (List ℕ)) : Type 0 where
   pub room : Room bytes (length firsts₀) (length outs₀) k₀ cs₀
-  pub lists : Fills (putAll firsts₀ (k₀ .m) (firstsFrom (k₀ .t) cs₀)) (putAll outs₀ (k₀ .t) (joined cs₀)) (k₀ .m + length cs₀) (k₀ .t + length (joined cs₀))
+  pub lists : Fills (putAll firsts₀ (k₀ .m) (firstsFrom (k₀ .t) cs₀)) (putAll outs₀ (k₀ .t) (joined cs₀)) (k₀ .m + length cs₀)
+      (k₀ .t + length (joined cs₀))
       firsts outs (k .m) (k .t) cs
   pub in-file : k .at + commandsLength cs ≡ k₀ .at + commandsLength cs₀
 
 module _ {bytes : ℕ} {firsts₀ outs₀ : List ℕ} {k₀ : Mark} {cs₀ : List (List ℕ)} {firsts outs : List ℕ} {k : Mark} where
-  pub filling-same : {cs : List (List ℕ)} → Filling bytes firsts₀ outs₀ k₀ cs₀ firsts outs k cs → (length firsts ≡ length firsts₀) × (length outs ≡ length outs₀)
+  pub filling-same : {cs : List (List ℕ)} → Filling bytes firsts₀ outs₀ k₀ cs₀ firsts outs k cs → (length firsts ≡ length firsts₀)
+      × (length outs ≡ length outs₀)
   filling-same f =
       let (a, b) = filling-long (f .lists) in
       (a ∙ length-put firsts₀ (k₀ .m) (firstsFrom (k₀ .t) cs₀), b ∙ length-put outs₀ (k₀ .t) (joined cs₀))
 
   filling-one : {os : List ℕ} {cs : List (List ℕ)} (c : ℕ) → Filling bytes firsts₀ outs₀ k₀ cs₀ firsts outs k (os ∷ cs) → length os ≡ c
       → {outs′ : List ℕ} → outs′ ≡ putAll outs (k .t) os
-      → Filling bytes firsts₀ outs₀ k₀ cs₀ (set firsts (k .m) (k .t)) outs′ (record { at = k .at + (3 + c * 2); m = k .m + 1; t = k .t + c }) cs
+      → Filling bytes firsts₀ outs₀ k₀ cs₀ (set firsts (k .m) (k .t)) outs′
+      (record { at = k .at + (3 + c * 2); m = k .m + 1; t = k .t + c }) cs
   unfolding joined
   filling-one {os} {cs} c f e o = record {
     room = f .room;
@@ -65,7 +69,8 @@ module _ {bytes : ℕ} {firsts₀ outs₀ : List ℕ} {k₀ : Mark} {cs₀ : Lis
   }
 
   pub filling-over : Filling bytes firsts₀ outs₀ k₀ cs₀ firsts outs k []
-      → (firsts ≡ putAll firsts₀ (k₀ .m) (firstsFrom (k₀ .t) cs₀)) × ((outs ≡ putAll outs₀ (k₀ .t) (joined cs₀)) × (k ≡ pastCommands k₀ cs₀))
+      → (firsts ≡ putAll firsts₀ (k₀ .m) (firstsFrom (k₀ .t) cs₀))
+      × ((outs ≡ putAll outs₀ (k₀ .t) (joined cs₀)) × (k ≡ pastCommands k₀ cs₀))
   unfolding joined
   filling-over f =
       let (p, o, m, t) = filling-end (f .lists) in
@@ -99,7 +104,8 @@ module _ {firsts₀ outs₀ : List ℕ} {k₀ : Mark} {cs₀ : List (List ℕ)} 
 
   module _ (h : k .m < end) where
     opened : Filling (length file) firsts₀ outs₀ k₀ cs₀ firsts outs k
-        (entries (be16 (bytesFrom file k) 1 / 2) (drop 3 (bytesFrom file k)) ∷ commandsIn (end - (k .m + 1)) (drop (3 + be16 (bytesFrom file k) 1 / 2 * 2) (bytesFrom file k)))
+        (entries (be16 (bytesFrom file k) 1 / 2) (drop 3 (bytesFrom file k))
+        ∷ commandsIn (end - (k .m + 1)) (drop (3 + be16 (bytesFrom file k) 1 / 2 * 2) (bytesFrom file k)))
     opened = rw (commands-in (bytesFrom file k) end (k .m) h) at f
 
     pub filling-turn : Turn file firsts outs k
@@ -123,7 +129,8 @@ module _ {firsts₀ outs₀ : List ℕ} {k₀ : Mark} {cs₀ : List (List ℕ)} 
           places = omega (arith, r .in-outcomes, left .in-outs, same .1);
         }
 
-    pub filling-more : {c : ℕ} {firsts′ outs′ : List ℕ} → c ≡ be16 (bytesFrom file k) 1 / 2 → firsts′ ≡ set firsts (k .m) (k .t) → outs′ ≡ putAll outs (k .t) (entries c (drop (k .at + 3) file))
+    pub filling-more : {c : ℕ} {firsts′ outs′ : List ℕ} → c ≡ be16 (bytesFrom file k) 1 / 2 → firsts′ ≡ set firsts (k .m) (k .t) → outs′
+        ≡ putAll outs (k .t) (entries c (drop (k .at + 3) file))
         → let next : Mark = record { at = k .at + (3 + c * 2); m = k .m + 1; t = k .t + c } in
         Filling (length file) firsts₀ outs₀ k₀ cs₀ firsts′ outs′ next (commandsIn (end - next .m) (bytesFrom file next))
     filling-more {c} e p o =
@@ -134,8 +141,10 @@ module _ {firsts₀ outs₀ : List ℕ} {k₀ : Mark} {cs₀ : List (List ℕ)} 
 pub filling-all : (count m : ℕ) (s : List ℕ) → commandsIn (m + count - m) s ≡ commandsIn count s
 filling-all count m s = let e : m + count - m ≡ count = omega arith in rw e
 
-pub filling-begin : {firsts outs : List ℕ} (file : List ℕ) (k : Mark) (count : ℕ) → Room (length file) (length firsts) (length outs) k (commandsIn count (bytesFrom file k))
-    → let cs : List (List ℕ) = commandsIn (k .m + count - k .m) (bytesFrom file k) in Filling (length file) firsts outs k cs firsts outs k cs
+pub filling-begin : {firsts outs : List ℕ} (file : List ℕ) (k : Mark) (count : ℕ)
+    → Room (length file) (length firsts) (length outs) k (commandsIn count (bytesFrom file k))
+    → let cs : List (List ℕ) = commandsIn (k .m + count - k .m) (bytesFrom file k) in Filling (length file) firsts outs k cs firsts outs k
+    cs
 filling-begin {firsts} {outs} file k count r =
     rw (filling-all count (k .m) (bytesFrom file k))
     (record { room = r; lists = filling-start firsts outs (k .m) (k .t) (commandsIn count (bytesFrom file k)); in-file = refl })

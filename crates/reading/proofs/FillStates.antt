@@ -21,13 +21,16 @@ use Rattle.reading.specs.Meaning.{bytesFrom, moved}
 use Rattle.reading.specs.Filling.{commandsAt, commandsLength, statesIn, statesLength, statesMark, pastCommands, Room, StatesRoom}
 
 -- the filling of all three tables from the first state on, and the mark that it has come to in the file
-pub record Filling (bytes : ℕ) (rows₀ : List Row) (firsts₀ outs₀ : List ℕ) (ss₀ : List State) (rows : List Row) (firsts outs : List ℕ) (i : ℕ) (k : Mark) (ss : List State) : Type 0 where
+pub record Filling (bytes : ℕ) (rows₀ : List Row) (firsts₀ outs₀ : List ℕ) (ss₀ : List State) (rows : List Row) (firsts outs : List ℕ)
+    (i : ℕ) (k : Mark) (ss : List State) : Type 0 where
   pub room : StatesRoom bytes (length rows₀) (length firsts₀) (length outs₀) 0 statesMark ss₀
-  pub tables : StatesFilling (putAll (rowsOf rows₀) 0 (rowsFrom 0 ss₀)) (putAll firsts₀ 0 (firstsFrom 0 (allCommands ss₀))) (putAll outs₀ 0 (joined (allCommands ss₀)))
+  pub tables : StatesFilling (putAll (rowsOf rows₀) 0 (rowsFrom 0 ss₀)) (putAll firsts₀ 0 (firstsFrom 0 (allCommands ss₀)))
+      (putAll outs₀ 0 (joined (allCommands ss₀)))
       (0 + length ss₀) (0 + length (allCommands ss₀)) (0 + length (joined (allCommands ss₀))) rows firsts outs i (k .m) (k .t) ss
   pub in-file : k .at + statesLength ss ≡ statesMark .at + statesLength ss₀
 
-module _ {bytes : ℕ} {rows₀ : List Row} {firsts₀ outs₀ : List ℕ} {ss₀ : List State} {rows : List Row} {firsts outs : List ℕ} {i : ℕ} {k : Mark} where
+module _ {bytes : ℕ} {rows₀ : List Row} {firsts₀ outs₀ : List ℕ} {ss₀ : List State} {rows : List Row} {firsts outs : List ℕ} {i : ℕ}
+    {k : Mark} where
   pub filling-same : {ss : List State} → Filling bytes rows₀ firsts₀ outs₀ ss₀ rows firsts outs i k ss
       → (length rows ≡ length rows₀) × (length firsts ≡ length firsts₀) × (length outs ≡ length outs₀)
   filling-same f =
@@ -63,7 +66,8 @@ pub record Turn (file : List ℕ) (rows : List Row) (firsts outs : List ℕ) (i 
   pub row : i < length rows
   pub room : Room (length file) (length firsts) (length outs) (moved k 8) (commandsAt file k)
 
-module _ {rows₀ : List Row} {firsts₀ outs₀ : List ℕ} {ss₀ : List State} {rows : List Row} {firsts outs : List ℕ} (file : List ℕ) (n i : ℕ) (k : Mark)
+module _ {rows₀ : List Row} {firsts₀ outs₀ : List ℕ} {ss₀ : List State} {rows : List Row} {firsts outs : List ℕ} (file : List ℕ) (n i : ℕ)
+    (k : Mark)
     (f : Filling (length file) rows₀ firsts₀ outs₀ ss₀ rows firsts outs i k (statesIn (n - i) (bytesFrom file k))) where
   pub filling-left : n ≤ i → Filling (length file) rows₀ firsts₀ outs₀ ss₀ rows firsts outs i k []
   unfolding statesIn
@@ -115,12 +119,19 @@ module _ {rows₀ : List Row} {firsts₀ outs₀ : List ℕ} {ss₀ : List State
     filling-more r er ef eo en = rw en (record {
       room = opened .room;
       tables = states-next here after (opened .tables) r er ef eo;
-      in-file = omega (arith, opened .in-file, length-append (commandsAt file k) (allCommands after), length-joined (commandsAt file k) (allCommands after));
+      in-file = omega (
+        arith,
+        opened .in-file,
+        length-append (commandsAt file k) (allCommands after),
+        length-joined (commandsAt file k)
+            (allCommands after),
+      );
     })
 
 pub filling-begin : {rows : List Row} {firsts outs : List ℕ} (file : List ℕ) (n : ℕ)
     → StatesRoom (length file) (length rows) (length firsts) (length outs) 0 statesMark (statesIn n (drop 7 file))
-    → Filling (length file) rows firsts outs (statesIn n (drop 7 file)) rows firsts outs 0 statesMark (statesIn (n - 0) (bytesFrom file statesMark))
+    → Filling (length file) rows firsts outs (statesIn n (drop 7 file)) rows firsts outs 0 statesMark
+    (statesIn (n - 0) (bytesFrom file statesMark))
 filling-begin {rows} {firsts} {outs} file n r =
     let e : n - 0 ≡ n = omega arith in
     rw e (record { room = r; tables = states-start rows firsts outs 0 0 0 (statesIn n (drop 7 file)); in-file = refl })

@@ -30,7 +30,8 @@ module _ {file : List ℕ} where
   went told w = (sym (w .answers) ∙ ap (passedOf file) told, subst (Stays file) told (w .stays))
 
   -- a refusal ends the reading
-  pub ends : {f : Passed} {r : Refusal} {A B : Type 0} (g : A → ℕ × ℕ × List ℕ) (x : Answer A) (h : B → ℕ × ℕ × List ℕ) (next : A → Answer B)
+  pub ends : {f : Passed} {r : Refusal} {A B : Type 0} (g : A → ℕ × ℕ × List ℕ) (x : Answer A) (h : B → ℕ × ℕ × List ℕ)
+      (next : A → Answer B)
       → f ≡ Passed.Refused r → Walks file f (answer g x) → Walks file f (answer h (x >>= next))
   unfolding answer _>>=_
   ends g (given a) h next told w = absurd (not-both (sym (ap (passedOf file) told) ∙ w .answers))

@@ -19,7 +19,17 @@ use Rattle.tables.specs.Meaning.{refusalOf}
 use Rattle.tables.specs.declared.Refusal.{Refusal}
 use Rattle.reading.specs.declared.bytes.Mark.{Mark}
 use Rattle.reading.specs.declared.frame.Passed.{Passed}
-use Rattle.reading.specs.Meaning.{bytesFrom, passedOf, Walks, headMark, afterField, afterCommand, afterCommands, afterStates, afterFile}
+use Rattle.reading.specs.Meaning.{
+  bytesFrom,
+  passedOf,
+  Walks,
+  headMark,
+  afterField,
+  afterCommand,
+  afterCommands,
+  afterStates,
+  afterFile,
+}
 use Rattle.reading.proofs.Passing.{answer-inv, refused-inv, ends}
 use Rattle.reading.proofs.FieldWays.{fixed-inv}
 
@@ -38,17 +48,21 @@ module _ (file : List ℕ) (n end : ℕ) where
 
   pub commands-none : (k : Mark) → end ≤ k .m → given (k .m, k .t, bytesFrom file k) ≡ commandsLeft k
   unfolding commands answer
-  commands-none k h = let e : end - k .m ≡ 0 = omega arith in rw e (ap (λ (z : ℕ). given (z, k .t, bytesFrom file k)) (sym (add-zero (k .m))))
+  commands-none k h = let e : end - k .m
+      ≡ 0 = omega arith in rw e (ap (λ (z : ℕ). given (z, k .t, bytesFrom file k)) (sym (add-zero (k .m))))
 
   module _ (k : Mark) (h : k .m < end) where
-    pub commands-end : {f : Passed} {r : Refusal} → f ≡ Passed.Refused r → Walks file f (answer (afterCommand file k) (command n (k .t) (bytesFrom file k)))
+    pub commands-end : {f : Passed} {r : Refusal} → f ≡ Passed.Refused r
+        → Walks file f (answer (afterCommand file k) (command n (k .t) (bytesFrom file k)))
         → Walks file f (commandsLeft k)
     unfolding commands
     commands-end told w = let e : end - k .m ≡ suc (end - (k .m + 1)) = omega arith in rw e (ends _ _ _ _ told w)
 
-    module _ (next : Mark) (e : answer (afterCommand file k) (command n (k .t) (bytesFrom file k)) ≡ given (next .m, next .t, bytesFrom file next)) where
+    module _ (next : Mark) (e : answer (afterCommand file k) (command n (k .t) (bytesFrom file k))
+        ≡ given (next .m, next .t, bytesFrom file next)) where
       pub commands-step : next .m ≡ k .m + 1
-      commands-step = let (os, p, q) = answer-inv (afterCommand file k) (command n (k .t) (bytesFrom file k)) e in ap (λ (x : ℕ × ℕ × List ℕ). x .0) (sym q)
+      commands-step = let (os, p, q) = answer-inv (afterCommand file k) (command n (k .t) (bytesFrom file k)) e in ap
+          (λ (x : ℕ × ℕ × List ℕ). x .0) (sym q)
 
       pub commands-more : commandsLeft k ≡ commandsLeft next
       unfolding commands _>>=_
@@ -69,7 +83,8 @@ commands-all file n count k = let e : k .m + count - k .m ≡ count = omega arit
 -- ---- states
 
 -- a state that was passed
-module _ (file : List ℕ) (k next : Mark) (e : answer (λ x. afterField file k 5) (state (k .m) (bytesFrom file k)) ≡ given (next .m, next .t, bytesFrom file next)) where
+module _ (file : List ℕ) (k next : Mark)
+    (e : answer (λ x. afterField file k 5) (state (k .m) (bytesFrom file k)) ≡ given (next .m, next .t, bytesFrom file next)) where
   pub state-room : (8 ≤ length (bytesFrom file k)) × (next .m + be16 (bytesFrom file k) 4 ≤ maxCommands)
   state-room =
       let (v, p, q) = answer-inv (λ x. afterField file k 5) (state (k .m) (bytesFrom file k)) e in
@@ -89,12 +104,15 @@ unfolding states _>>=_ follow
 states-open n k m t s e = rw e
 
 -- a state and its commands are counted first
-state-counts : {c t₁ : ℕ} (cs : List (List ℕ)) (m t : ℕ) (v : StateField) → length cs ≡ c → t₁ ≡ t + length (joined cs) → (z : List State × List ℕ)
+state-counts : {c t₁ : ℕ} (cs : List (List ℕ)) (m t : ℕ) (v : StateField) → length cs ≡ c → t₁ ≡ t + length (joined cs)
+    → (z : List State × List ℕ)
     → afterStates (m + c) t₁ z ≡ afterStates m t (stateFrom v cs ∷ z .0, z .1)
 unfolding allCommands
 state-counts {c} {t₁} cs m t v d e z =
-    let a : m + c + length (allCommands (z .0)) ≡ m + length (cs ++ allCommands (z .0)) = omega (arith, length-append cs (allCommands (z .0))) in
-    let b : t₁ + length (joined (allCommands (z .0))) ≡ t + length (joined (cs ++ allCommands (z .0))) = omega (arith, length-joined cs (allCommands (z .0))) in
+    let a : m + c + length (allCommands (z .0)) ≡ m
+    + length (cs ++ allCommands (z .0)) = omega (arith, length-append cs (allCommands (z .0))) in
+    let b : t₁ + length (joined (allCommands (z .0))) ≡ t
+    + length (joined (cs ++ allCommands (z .0))) = omega (arith, length-joined cs (allCommands (z .0))) in
     ap₂ (λ (p q : ℕ). (p, q, z .1)) a b
 
 module _ (file : List ℕ) (n : ℕ) where
@@ -111,7 +129,8 @@ module _ (file : List ℕ) (n : ℕ) where
     more : n - i ≡ suc (n - (i + 1))
     more = omega arith
 
-    pub states-end : {f : Passed} {r : Refusal} → f ≡ Passed.Refused r → Walks file f (answer (λ x. afterField file k 5) (state (k .m) (bytesFrom file k)))
+    pub states-end : {f : Passed} {r : Refusal} → f ≡ Passed.Refused r
+        → Walks file f (answer (λ x. afterField file k 5) (state (k .m) (bytesFrom file k)))
         → Walks file f (statesLeft i k)
     unfolding states
     states-end told w = rw more (ends _ _ _ _ told w)
@@ -120,7 +139,8 @@ module _ (file : List ℕ) (n : ℕ) where
         (e : answer (λ x. afterField file k 5) (state (k .m) (bytesFrom file k)) ≡ given (next .m, next .t, bytesFrom file next)) where
       -- the state's commands come next
       opened : (v : StateField) × (statesLeft i k
-          ≡ answer (afterStates (next .m) (next .t)) (commands n c (next .t) (bytesFrom file next) >>= follow n (n - (i + 1)) (next .m + c) v))
+          ≡ answer (afterStates (next .m) (next .t))
+          (commands n c (next .t) (bytesFrom file next) >>= follow n (n - (i + 1)) (next .m + c) v))
       opened =
           let s : List ℕ = bytesFrom file k in
           let (v, p, q) = answer-inv (λ x. afterField file k 5) (state (k .m) s) e in
@@ -147,12 +167,14 @@ module _ (file : List ℕ) (n : ℕ) where
           let x : Answer (List State × List ℕ) = states n (n - (i + 1)) (next .m + c) (y .1) (y .2) in
           let at : _≡_ {A = ℕ × ℕ × List ℕ} (next .m + c, y .1, y .2) (past .m, past .t, bytesFrom file past)
           = ap (λ (z : ℕ). (next .m + z, y .1, y .2)) (sym (commands-count r)) ∙ q in
-          a ∙ ap (λ (z : Answer (List (List ℕ) × ℕ × List ℕ)). answer (afterStates (next .m) (next .t)) (z >>= follow n (n - (i + 1)) (next .m + c) v)) p
+          a ∙ ap (λ (z : Answer (List (List ℕ) × ℕ × List ℕ)). answer (afterStates (next .m) (next .t))
+          (z >>= follow n (n - (i + 1)) (next .m + c) v)) p
           ∙ one-more x _ (afterStates (next .m + c) (y .1)) (afterStates (next .m) (next .t))
           (λ z _. state-counts (y .0) (next .m) (next .t) v (commands-count r) (outcomes-count r) z)
           ∙ ap (λ (z : ℕ × ℕ × List ℕ). answer (afterStates (z .0) (z .1)) (states n (n - (i + 1)) (z .0) (z .1) (z .2))) at
 
-pub states-all : (file : List ℕ) (n : ℕ) (k : Mark) → statesLeft file n 0 k ≡ answer (afterStates (k .m) (k .t)) (states n n (k .m) (k .t) (bytesFrom file k))
+pub states-all : (file : List ℕ) (n : ℕ) (k : Mark) → statesLeft file n 0 k
+    ≡ answer (afterStates (k .m) (k .t)) (states n n (k .m) (k .t) (bytesFrom file k))
 states-all file n k = let e : n - 0 ≡ n = omega arith in rw e
 
 -- ---- the whole file
@@ -168,7 +190,8 @@ read-open : (s : List ℕ) {n start : ℕ} → head s ≡ given (n, start) → r
 unfolding read _>>=_ finish
 read-open s e = rw e
 
-module _ (file : List ℕ) (first : Mark) (e : answer (λ x. afterField file headMark 4) (head file) ≡ given (first .m, first .t, bytesFrom file first)) where
+module _ (file : List ℕ) (first : Mark)
+    (e : answer (λ x. afterField file headMark 4) (head file) ≡ given (first .m, first .t, bytesFrom file first)) where
   pub head-room : 7 ≤ length file
   head-room =
       let ((n, start), p, q) = answer-inv (λ x. afterField file headMark 4) (head file) e in
@@ -188,7 +211,8 @@ module _ (file : List ℕ) (first : Mark) (e : answer (λ x. afterField file hea
     file-stops told w = let (start, q) = begun in rw q (ends _ _ _ _ told w)
 
     module _ (last : Mark)
-        (w : answer (afterStates (first .m) (first .t)) (states n n (first .m) (first .t) (bytesFrom file first)) ≡ given (last .m, last .t, bytesFrom file last)) where
+        (w : answer (afterStates (first .m) (first .t)) (states n n (first .m) (first .t) (bytesFrom file first))
+        ≡ given (last .m, last .t, bytesFrom file last)) where
       record Stood : Type 0 where
         start : ℕ
         ss : List State
@@ -211,13 +235,16 @@ module _ (file : List ℕ) (first : Mark) (e : answer (λ x. afterField file hea
           = ap (λ (z : Answer (List State × List ℕ)). z >>= finish start) p ∙ ap (λ (z : List ℕ). finish start (x .0, z)) at in
           record { start = start; ss = x .0; is = a ∙ there; few = omega arith; outcomes = omega arith }
 
-      pub end-stops : {f : Passed} {r : Refusal} → f ≡ Passed.Refused r → Walks file f (answer (afterField file last) (field endTag (bytesFrom file last)))
+      pub end-stops : {f : Passed} {r : Refusal} → f ≡ Passed.Refused r
+          → Walks file f (answer (afterField file last) (field endTag (bytesFrom file last)))
           → Walks file f (answer afterFile (read file))
       unfolding finish
       end-stops told v = let t = stood in rw (t .is) (ends _ _ _ _ told v)
 
-      module _ (end : Mark) (v : answer (afterField file last) (field endTag (bytesFrom file last)) ≡ given (end .m, end .t, bytesFrom file end)) where
-        ended : (field endTag (bytesFrom file last) ≡ given 0) × (3 ≤ length (bytesFrom file last)) × (_≡_ {A = ℕ × ℕ × List ℕ} (end .m, end .t, bytesFrom file end) (afterField file last 0))
+      module _ (end : Mark) (v : answer (afterField file last) (field endTag (bytesFrom file last))
+          ≡ given (end .m, end .t, bytesFrom file end)) where
+        ended : (field endTag (bytesFrom file last) ≡ given 0) × (3 ≤ length (bytesFrom file last))
+            × (_≡_ {A = ℕ × ℕ × List ℕ} (end .m, end .t, bytesFrom file end) (afterField file last 0))
         ended = fixed-inv endTag 0 (bytesFrom file last) (afterField file last) (λ l t. eqb-true l 0 t) v
 
         over : length (bytesFrom file end) ≡ length (bytesFrom file last) - 3

@@ -38,7 +38,8 @@ pub fn read_head(file: &[u8]) -> Passed
 
 pub fn read_state(file: &[u8], k: Mark) -> Passed
     requires { ⌜ Within (now file) k ⌝ }
-    ensures { λ r. ⌜ Walks (now (file .entry)) r (answer (λ x. afterField (now (file .entry)) k 5) (state (k .m) (bytesFrom (now (file .entry)) k))) ⌝ }
+    ensures { λ r. ⌜ Walks (now (file .entry)) r
+        (answer (λ x. afterField (now (file .entry)) k 5) (state (k .m) (bytesFrom (now (file .entry)) k))) ⌝ }
 {
     let f = field(file, k, STATE);
     let Passed::To(next) = f else {
@@ -61,7 +62,8 @@ pub fn read_state(file: &[u8], k: Mark) -> Passed
 // The outcomes from place `at` on, each in turn, and then the mark past them.
 fn check_outcomes(file: &[u8], at: usize, n: usize, count: usize, past: Mark) -> Passed
     requires { ⌜ Within (now file) past × (count * 2 ≤ length (drop at (now file))) ⌝ }
-    ensures { λ r. ⌜ Walks (now (file .entry)) r (answer (λ x. (past .m, past .t, bytesFrom (now (file .entry)) past)) (rising n 0 (entries count (drop at (now (file .entry)))))) ⌝ }
+    ensures { λ r. ⌜ Walks (now (file .entry)) r
+        (answer (λ x. (past .m, past .t, bytesFrom (now (file .entry)) past)) (rising n 0 (entries count (drop at (now (file .entry)))))) ⌝ }
 {
     let mut low = 0;
     let mut i = 0;
@@ -81,7 +83,8 @@ fn check_outcomes(file: &[u8], at: usize, n: usize, count: usize, past: Mark) ->
 
 pub fn read_command(file: &[u8], n: usize, k: Mark) -> Passed
     requires { ⌜ Within (now file) k × (k .m < maxCommands) ⌝ }
-    ensures { λ r. ⌜ Walks (now (file .entry)) r (answer (afterCommand (now (file .entry)) k) (command n (k .t) (bytesFrom (now (file .entry)) k))) ⌝ }
+    ensures { λ r. ⌜ Walks (now (file .entry)) r
+        (answer (afterCommand (now (file .entry)) k) (command n (k .t) (bytesFrom (now (file .entry)) k))) ⌝ }
 {
     let f = field(file, k, COMMAND);
     let Passed::To(next) = f else {

@@ -38,9 +38,12 @@ fn fill_commands(
     firsts: &mut [u16],
     outcomes: &mut [u16],
 ) -> Mark
-    requires { ⌜ Room (length (now file)) (length (now firsts)) (length (now outcomes)) from (commandsIn count (bytesFrom (now file) from)) ⌝ }
-    ensures firsts { λ r. ⌜ now (firsts .exit) ≡ putAll (now (firsts .entry)) (from .m) (firstsFrom (from .t) (commandsIn count (bytesFrom (now (file .entry)) from))) ⌝ }
-    ensures outcomes { λ r. ⌜ now (outcomes .exit) ≡ putAll (now (outcomes .entry)) (from .t) (joined (commandsIn count (bytesFrom (now (file .entry)) from))) ⌝ }
+    requires { ⌜ Room (length (now file)) (length (now firsts)) (length (now outcomes)) from (commandsIn count (bytesFrom (now file) from))
+        ⌝ }
+    ensures firsts { λ r. ⌜ now (firsts .exit)
+        ≡ putAll (now (firsts .entry)) (from .m) (firstsFrom (from .t) (commandsIn count (bytesFrom (now (file .entry)) from))) ⌝ }
+    ensures outcomes { λ r. ⌜ now (outcomes .exit)
+        ≡ putAll (now (outcomes .entry)) (from .t) (joined (commandsIn count (bytesFrom (now (file .entry)) from))) ⌝ }
     ensures mark { λ r. ⌜ r ≡ pastCommands from (commandsIn count (bytesFrom (now (file .entry)) from)) ⌝ }
 {
     let end = from.m + count;
@@ -78,8 +81,10 @@ fn row_in(file: &[u8], k: Mark) -> Row
 
 // The commands of the state at a mark.
 fn fill_state(file: &[u8], k: Mark, firsts: &mut [u16], outcomes: &mut [u16]) -> Mark
-    requires { ⌜ (k .at + 8 ≤ length (now file)) × Room (length (now file)) (length (now firsts)) (length (now outcomes)) (moved k 8) (commandsAt (now file) k) ⌝ }
-    ensures firsts { λ r. ⌜ now (firsts .exit) ≡ putAll (now (firsts .entry)) (k .m) (firstsFrom (k .t) (commandsAt (now (file .entry)) k)) ⌝ }
+    requires { ⌜ (k .at + 8 ≤ length (now file))
+        × Room (length (now file)) (length (now firsts)) (length (now outcomes)) (moved k 8) (commandsAt (now file) k) ⌝ }
+    ensures firsts { λ r. ⌜ now (firsts .exit)
+        ≡ putAll (now (firsts .entry)) (k .m) (firstsFrom (k .t) (commandsAt (now (file .entry)) k)) ⌝ }
     ensures outcomes { λ r. ⌜ now (outcomes .exit) ≡ putAll (now (outcomes .entry)) (k .t) (joined (commandsAt (now (file .entry)) k)) ⌝ }
     ensures mark { λ r. ⌜ r ≡ pastCommands (moved k 8) (commandsAt (now (file .entry)) k) ⌝ }
 {
@@ -94,10 +99,14 @@ pub fn fill_states(
     firsts: &mut [u16],
     outcomes: &mut [u16],
 )
-    requires { ⌜ StatesRoom (length (now file)) (length (now rows)) (length (now firsts)) (length (now outcomes)) 0 statesMark (statesIn n (drop 7 (now file))) ⌝ }
-    ensures rows { λ r. ⌜ rowsOf (now (rows .exit)) ≡ putAll (rowsOf (now (rows .entry))) 0 (rowsFrom 0 (statesIn n (drop 7 (now (file .entry))))) ⌝ }
-    ensures firsts { λ r. ⌜ now (firsts .exit) ≡ putAll (now (firsts .entry)) 0 (firstsFrom 0 (allCommands (statesIn n (drop 7 (now (file .entry)))))) ⌝ }
-    ensures outcomes { λ r. ⌜ now (outcomes .exit) ≡ putAll (now (outcomes .entry)) 0 (joined (allCommands (statesIn n (drop 7 (now (file .entry)))))) ⌝ }
+    requires { ⌜ StatesRoom (length (now file)) (length (now rows)) (length (now firsts)) (length (now outcomes)) 0 statesMark
+        (statesIn n (drop 7 (now file))) ⌝ }
+    ensures rows { λ r. ⌜ rowsOf (now (rows .exit))
+        ≡ putAll (rowsOf (now (rows .entry))) 0 (rowsFrom 0 (statesIn n (drop 7 (now (file .entry))))) ⌝ }
+    ensures firsts { λ r. ⌜ now (firsts .exit)
+        ≡ putAll (now (firsts .entry)) 0 (firstsFrom 0 (allCommands (statesIn n (drop 7 (now (file .entry)))))) ⌝ }
+    ensures outcomes { λ r. ⌜ now (outcomes .exit)
+        ≡ putAll (now (outcomes .entry)) 0 (joined (allCommands (statesIn n (drop 7 (now (file .entry)))))) ⌝ }
 {
     let mut k = Mark { at: 7, m: 0, t: 0 };
     let mut i = 0;

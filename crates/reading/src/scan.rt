@@ -21,7 +21,8 @@ use tables::Size;
 
 fn scan_commands(file: &[u8], n: usize, count: usize, from: Mark) -> Passed
     requires { ⌜ Within (now file) from × (from .m + count ≤ maxCommands) ⌝ }
-    ensures { λ r. ⌜ Walks (now (file .entry)) r (answer (afterCommands (from .m)) (commands n count (from .t) (bytesFrom (now (file .entry)) from))) ⌝ }
+    ensures { λ r. ⌜ Walks (now (file .entry)) r
+        (answer (afterCommands (from .m)) (commands n count (from .t) (bytesFrom (now (file .entry)) from))) ⌝ }
 {
     let end = from.m + count;
     let mut k = from;
@@ -37,7 +38,8 @@ fn scan_commands(file: &[u8], n: usize, count: usize, from: Mark) -> Passed
 
 fn scan_states(file: &[u8], n: usize, from: Mark) -> Passed
     requires { ⌜ Within (now file) from ⌝ }
-    ensures { λ r. ⌜ Walks (now (file .entry)) r (answer (afterStates (from .m) (from .t)) (states n n (from .m) (from .t) (bytesFrom (now (file .entry)) from))) ⌝ }
+    ensures { λ r. ⌜ Walks (now (file .entry)) r
+        (answer (afterStates (from .m) (from .t)) (states n n (from .m) (from .t) (bytesFrom (now (file .entry)) from))) ⌝ }
 {
     let mut k = from;
     let mut i = 0;

@@ -21,7 +21,8 @@ fn walker_at<'a>(file: &'a [u8], k: Mark) -> FieldWalker<'a>
 // The field that the walker has come to, with the tag that is due: the mark past it, or the refusal.
 fn next<'a>(w: FieldWalker<'a>, due: u8) -> Passed
     requires { ⌜ Within (now (w .file)) (w .mark) ⌝ }
-    ensures { λ r. ⌜ Walks (now (w .entry .file)) r (answer (afterField (now (w .entry .file)) (w .entry .mark)) (field due (bytesFrom (now (w .entry .file)) (w .entry .mark)))) ⌝ }
+    ensures { λ r. ⌜ Walks (now (w .entry .file)) r
+        (answer (afterField (now (w .entry .file)) (w .entry .mark)) (field due (bytesFrom (now (w .entry .file)) (w .entry .mark)))) ⌝ }
 {
     check_frame(w.file, w.mark, due)
 }

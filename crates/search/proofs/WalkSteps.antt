@@ -126,7 +126,8 @@ module _ {P : Plan} {n : ℕ} {K : ℕ → Bool} {a h q : ℕ} {cs s u : List �
       new-closed y t =
           let lands-there : X y ≡ true = sym (leads-here y) ∙ t in
           let now : walkedIn s′ y ≡ true = walked y ∙ or-right (walkedIn s y) (X y) lands-there in
-          let old : newIn s X y ≡ false → getD s y 0 ≤ h + 2 = λ z. not-higher y lands-there (rw (flag-old v y z) at (walked-value s′ y now)) in
+          let old : newIn s X y ≡ false → getD s y 0 ≤ h
+          + 2 = λ z. not-higher y lands-there (rw (flag-old v y z) at (walked-value s′ y now)) in
           (now, flag-cases v (λ f. f ≤ h + 2) y (λ z. omega arith) old)
         where
           not-higher : (y : ℕ) → X y ≡ true → 2 ≤ getD s y 0 → getD s y 0 ≤ h + 2

@@ -11,7 +11,8 @@ use tables::admission::Admission;
 
 // Refusal 10, then 11, then 9: `sounds` says whether the plan is sound, `commands` and `scratch` how many places those tables have.
 pub fn admit(sounds: bool, n: usize, start: usize, commands: usize, scratch: usize) -> Admission
-    ensures { λ r. ⌜ ((T : Tables) → sounds ≡ sound T → n ≡ T .size .n → searching T start commands scratch ≡ admitted r (search (planIn T) start)) ⌝ }
+    ensures { λ r. ⌜ ((T : Tables) → sounds ≡ sound T → n ≡ T .size .n → searching T start commands scratch
+        ≡ admitted r (search (planIn T) start)) ⌝ }
 {
     if !sounds {
         return Admission::Denied(Refusal::Unsound);

@@ -55,7 +55,8 @@ pub fn start_end(span: Span) -> usize
 // Makes the failing states known, and no others.
 pub fn start_known(size: Size, rows: &[Row], scratch: &mut [u16])
     requires { ⌜ (size .n ≤ length (now rows)) × (size .n ≤ length (now scratch)) ⌝ }
-    ensures { λ _. ⌜ ((F O : List ℕ) → Filled (size .n) (λ s. startFlag (spanAt (held size (now (rows .entry)) F O) s)) (now (scratch .entry)) (now (scratch .exit))) ⌝ }
+    ensures { λ _. ⌜ ((F O : List ℕ)
+        → Filled (size .n) (λ s. startFlag (spanAt (held size (now (rows .entry)) F O) s)) (now (scratch .entry)) (now (scratch .exit))) ⌝ }
 {
     let mut s = 0;
     while s < size.n {
@@ -99,7 +100,8 @@ pub fn kept(scratch: &[u16], queue: &[u16], reached: usize, low: usize) -> usize
 fn settle_one(span: Span, commands: &mut [u16], scratch: &mut [u16], s: usize)
     requires { ⌜ (s < length (now commands)) × (s < length (now scratch)) ⌝ }
     ensures { λ _. ⌜ now (commands .exit) ≡ set (now (commands .entry)) s FFFF ⌝ }
-    ensures { λ _. ⌜ now (scratch .exit) ≡ set (now (scratch .entry)) s (cond (markedAt span (now (commands .entry)) (now (scratch .entry)) s) 0 1) ⌝ }
+    ensures { λ _. ⌜ now (scratch .exit)
+        ≡ set (now (scratch .entry)) s (cond (markedAt span (now (commands .entry)) (now (scratch .entry)) s) 0 1) ⌝ }
 {
     let marked = is_marked(span, commands, scratch, s);
     put(commands, s, NONE);
@@ -120,10 +122,13 @@ pub fn settle(
     from: usize,
     reached: usize,
 )
-    requires { ⌜ (size .n ≤ length (now rows)) × (size .n ≤ length (now commands)) × (size .n ≤ length (now scratch)) × (size .n ≤ length (now queue)) ⌝ }
+    requires { ⌜ (size .n ≤ length (now rows)) × (size .n ≤ length (now commands)) × (size .n ≤ length (now scratch))
+        × (size .n ≤ length (now queue)) ⌝ }
     requires { ⌜ from ≤ reached ⌝ }
     requires { ⌜ Queued (size .n) reached (now scratch) (now queue) ⌝ }
-    ensures { λ _. ⌜ ((F O : List ℕ) → Settled from reached (λ x. markedAt (spanAt (held size (now (rows .entry)) F O) x) (now (commands .entry)) (now (scratch .entry)) x) (now (queue .entry)) (now (commands .entry)) (now (scratch .entry)) (now (commands .exit)) (now (scratch .exit))) ⌝ }
+    ensures { λ _. ⌜ ((F O : List ℕ)
+        → Settled from reached (λ x. markedAt (spanAt (held size (now (rows .entry)) F O) x) (now (commands .entry)) (now (scratch .entry))
+        x) (now (queue .entry)) (now (commands .entry)) (now (scratch .entry)) (now (commands .exit)) (now (scratch .exit))) ⌝ }
 {
     let mut i = from;
     while i < reached {

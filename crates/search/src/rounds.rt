@@ -64,7 +64,8 @@ pub fn walk_rounds(
 ) -> Found
     requires { ⌜ Prepared size (now rows) (now firsts) (now outcomes) (now commands) (now scratch) (now queue) ⌝ }
     requires { ⌜ start < size .n ⌝ }
-    ensures { λ r. ⌜ Answered (planIn (held size (now (rows .entry)) (now (firsts .entry)) (now (outcomes .entry)))) (size .n) start (now (commands .entry)) (now (scratch .entry)) r (now (commands .exit)) (now (scratch .exit)) ⌝ }
+    ensures { λ r. ⌜ Answered (planIn (held size (now (rows .entry)) (now (firsts .entry)) (now (outcomes .entry)))) (size .n) start
+        (now (commands .entry)) (now (scratch .entry)) r (now (commands .exit)) (now (scratch .exit)) ⌝ }
 {
     fill(commands, size.n, NONE);
     start_known(size, rows, scratch);

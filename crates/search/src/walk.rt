@@ -68,9 +68,13 @@ fn expand(
 ) -> usize
     requires { ⌜ Ready (size .n) (commandsOf size (now firsts) (now outcomes)) ⌝ }
     requires { ⌜ Seen size (now firsts) (now outcomes) s span ⌝ }
-    requires { ⌜ (size .n ≤ length (now commands)) × (size .n ≤ length (now scratch)) × (size .n ≤ length (now queue)) × (2 ≤ mark) × (mark < 65536) ⌝ }
+    requires { ⌜ (size .n ≤ length (now commands)) × (size .n ≤ length (now scratch)) × (size .n ≤ length (now queue)) × (2 ≤ mark)
+        × (mark < 65536) ⌝ }
     requires { ⌜ Queued (size .n) q (now scratch) (now queue) ⌝ }
-    ensures { λ r. ⌜ ((R : List Row) → sound (held size R (now (firsts .entry)) (now (outcomes .entry))) ≡ true → span ≡ spanAt (held size R (now (firsts .entry)) (now (outcomes .entry))) s → Expanded (planIn (held size R (now (firsts .entry)) (now (outcomes .entry)))) (size .n) q s mark (now (commands .entry)) (now (scratch .entry)) (now (queue .entry)) r (now (commands .exit)) (now (scratch .exit)) (now (queue .exit))) ⌝ }
+    ensures { λ r. ⌜ ((R : List Row) → sound (held size R (now (firsts .entry)) (now (outcomes .entry))) ≡ true → span
+        ≡ spanAt (held size R (now (firsts .entry)) (now (outcomes .entry))) s
+        → Expanded (planIn (held size R (now (firsts .entry)) (now (outcomes .entry)))) (size .n) q s mark (now (commands .entry))
+        (now (scratch .entry)) (now (queue .entry)) r (now (commands .exit)) (now (scratch .exit)) (now (queue .exit))) ⌝ }
 {
     let c = choose(size, span, firsts, outcomes, scratch, 0);
     put(commands, s, c);
@@ -101,7 +105,13 @@ pub fn walk(
     ensures { λ _. ⌜ Past (size .n) (now (commands .entry)) (now (commands .exit)) ⌝ }
     ensures { λ _. ⌜ Past (size .n) (now (scratch .entry)) (now (scratch .exit)) ⌝ }
     ensures { λ r. ⌜ Queued (size .n) (r .reached) (now (scratch .exit)) (now (queue .exit)) ⌝ }
-    ensures { λ r. ⌜ ((K : ℕ → Bool) (a : ℕ) → Underway (planIn (held size (now (rows .entry)) (now (firsts .entry)) (now (outcomes .entry)))) (size .n) K a from reached (now (commands .entry)) (now (scratch .entry)) (now (queue .entry)) → ((i : ℕ) → i < from → noneLeft (planIn (held size (now (rows .entry)) (now (firsts .entry)) (now (outcomes .entry)))) K (getD (now (queue .entry)) i 0) ≡ false) → Walked (planIn (held size (now (rows .entry)) (now (firsts .entry)) (now (outcomes .entry)))) (size .n) K a r (now (commands .exit)) (now (scratch .exit)) (now (queue .exit))) ⌝ }
+    ensures { λ r. ⌜ ((K : ℕ → Bool) (a : ℕ)
+        → Underway (planIn (held size (now (rows .entry)) (now (firsts .entry)) (now (outcomes .entry)))) (size .n) K a from reached
+        (now (commands .entry)) (now (scratch .entry)) (now (queue .entry))
+        → ((i : ℕ) → i < from → noneLeft (planIn (held size (now (rows .entry)) (now (firsts .entry)) (now (outcomes .entry)))) K
+        (getD (now (queue .entry)) i 0) ≡ false)
+        → Walked (planIn (held size (now (rows .entry)) (now (firsts .entry)) (now (outcomes .entry)))) (size .n) K a r
+        (now (commands .exit)) (now (scratch .exit)) (now (queue .exit))) ⌝ }
 {
     let mut q = reached;
     let mut low = NONE;

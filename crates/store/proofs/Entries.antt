@@ -13,7 +13,8 @@ use Rattle.model.specs.Tables.{Row as ModelRow, Size as ModelSize}
 use Rattle.model.specs.Boundary.{entryBytes, rowWidth, rowBytes, sizeBytes, bytesFor, rowEntries, sizeEntries}
 
 pub row-stored : (w : ModelRow) (s : ℕ) (l₀ : List ℕ) {l₁ l₂ l₃ : List ℕ} → l₁ ≡ putAll l₀ (s * rowWidth * entryBytes) (two (w .kind) [])
-    → l₂ ≡ putAll l₁ ((s * rowWidth + 1) * entryBytes) (two (w .first) []) → l₃ ≡ putAll l₂ ((s * rowWidth + 2) * entryBytes) (two (w .practice) [])
+    → l₂ ≡ putAll l₁ ((s * rowWidth + 1) * entryBytes) (two (w .first) []) → l₃
+    ≡ putAll l₂ ((s * rowWidth + 2) * entryBytes) (two (w .practice) [])
     → l₃ ≡ putAll l₀ (s * rowBytes) (bytesFor (rowEntries (w ∷ [])))
 unfolding rowEntries twos
 row-stored w s l₀ p q r =

@@ -28,11 +28,15 @@ filling-start firsts outs m t cs = record { put-firsts = refl; put-outs = refl; 
 module _ {F O : List ℕ} {M N : ℕ} {firsts outs : List ℕ} {m t : ℕ} where
   -- the tables are as long as they will be
   pub filling-long : {cs : List (List ℕ)} → Filling F O M N firsts outs m t cs → (length firsts ≡ length F) × (length outs ≡ length O)
-  filling-long {cs} f =
-      (sym (length-put firsts m (firstsFrom t cs)) ∙ ap length (f .put-firsts), sym (length-put outs t (joined cs)) ∙ ap length (f .put-outs))
+  filling-long {cs} f = (
+    sym (length-put firsts m (firstsFrom t cs)) ∙ ap length (f .put-firsts),
+    sym (length-put outs t (joined cs))
+        ∙ ap length (f .put-outs),
+  )
 
   -- one command is written
-  pub filling-next : (os : List ℕ) (cs : List (List ℕ)) → Filling F O M N firsts outs m t (os ∷ cs) → {outs′ : List ℕ} → outs′ ≡ putAll outs t os
+  pub filling-next : (os : List ℕ) (cs : List (List ℕ)) → Filling F O M N firsts outs m t (os ∷ cs) → {outs′ : List ℕ} → outs′
+      ≡ putAll outs t os
       → Filling F O M N (set firsts m t) outs′ (m + 1) (t + length os) cs
   unfolding putAll firstsFrom joined
   filling-next os cs f o =

@@ -2,5 +2,5 @@
 pub mod ChecksRowsSound
 pub mod RowsPutRow
 pub mod RowsRowAt
-pub mod SpansSpanAt
 pub mod Sound
+pub mod SpansSpanAt

@@ -18,7 +18,8 @@ use Rattle.tables.specs.Spans.{commandsOf}
 use Rattle.tables.specs.Ready.{Ready}
 
 -- any list table within the limits that the test passes
-pub lists-ready : {least n : ℕ} {L : Lists} → n ≤ maxStates → L .count ≤ maxCommands → L .end ≤ maxOutcomes → LongLists L → ListsFit least n L
+pub lists-ready : {least n : ℕ} {L : Lists} → n ≤ maxStates → L .count ≤ maxCommands → L .end ≤ maxOutcomes → LongLists L
+    → ListsFit least n L
     → Ready n L
 lists-ready few few-commands few-entries long f =
     let rise = lists-ordered long f .rise in

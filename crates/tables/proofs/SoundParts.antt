@@ -17,7 +17,8 @@ use Rattle.tables.specs.declared.spans.Span.{Span}
 use Rattle.tables.specs.Spans.{spanAt}
 
 pub sound-parts : (T : Tables)
-    → sound T ≡ (sizeSound (T .size) && tablesLong T && eqb (firstCommand T 0) 0 && every (rowSound T) (T .size .n) && listsSound 1 (T .size .n) (listsIn T))
+    → sound T ≡ (sizeSound (T .size) && tablesLong T && eqb (firstCommand T 0) 0 && every (rowSound T) (T .size .n)
+    && listsSound 1 (T .size .n) (listsIn T))
 unfolding sound
 sound-parts T = refl
 

@@ -32,7 +32,8 @@ module _ (z : Size) (R : List Row) (F O : List ℕ) where
   span-to s end r h row last = rw (last, row, first-below s h, row-held s)
 
   -- the last state's
-  pub span-last : (s : ℕ) (q : Span) (r : Row) → s < z .n → z .n ≤ s + 1 → r ≡ getD R s noRow → q ≡ spanOf r (z .m) → q ≡ spanAt (held z R F O) s
+  pub span-last : (s : ℕ) (q : Span) (r : Row) → s < z .n → z .n ≤ s + 1 → r ≡ getD R s noRow → q ≡ spanOf r (z .m) → q
+      ≡ spanAt (held z R F O) s
   unfolding firstCommand
   span-last s q r h over row e = e ∙ span-to s (z .m) r h row (rw (le-ltb _ _ over))
 

@@ -15,7 +15,8 @@ use Rattle.tables.proofs.Filling.{Filling, filling-start, filling-some,
 use Rattle.tables.proofs.StoredRows.{row-stored}
 
 -- the filling has come to row i as well; when the states left are written it has come to row I, and the rows are R
-pub record StatesFilling (R : List ModelRow) (F O : List ℕ) (I M N : ℕ) (rows : List Row) (firsts outs : List ℕ) (i m t : ℕ) (ss : List State) : Type 0 where
+pub record StatesFilling (R : List ModelRow) (F O : List ℕ) (I M N : ℕ) (rows : List Row) (firsts outs : List ℕ) (i m t : ℕ)
+    (ss : List State) : Type 0 where
   pub put-rows : putAll (rowsOf rows) i (rowsFrom m ss) ≡ R
   pub in-rows : i + length ss ≡ I
   pub lists : Filling F O M N firsts outs m t (allCommands ss)

@@ -6,7 +6,26 @@ use Rattle.model.specs.Tables.{Size as ModelSize, Row as ModelRow, Tables}
 use Rattle.tables.specs.declared.Size.{Size}
 use Rattle.tables.specs.declared.Row.{Row}
 use Rattle.tables.specs.declared.Refusal.{Refusal}
-use Rattle.tables.specs.declared.Refusal.the-variants.{Cut, Surplus, Tag, Length, Beyond, Unsorted, Idle, Limit, Cramped, Unsound, Stranger, Moves, Seconds, Doubtful, Departures, Chambers, Report, Grant}
+use Rattle.tables.specs.declared.Refusal.the-variants.{
+  Cut,
+  Surplus,
+  Tag,
+  Length,
+  Beyond,
+  Unsorted,
+  Idle,
+  Limit,
+  Cramped,
+  Unsound,
+  Stranger,
+  Moves,
+  Seconds,
+  Doubtful,
+  Departures,
+  Chambers,
+  Report,
+  Grant,
+}
 
 abbrev pub sized : ℕ → ℕ → ℕ → ℕ → Size
 sized n m t start = record { n = n; m = m; t = t; start = start }

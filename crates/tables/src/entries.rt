@@ -8,13 +8,12 @@ ghost use Rattle.laws.specs.Starts.{startOf};
 ghost use Rattle.model.specs.Places.{firstOutcome};
 ghost use Rattle.tables.specs.declared.Row.{Row};
 ghost use Rattle.tables.specs.Meaning.{held};
-use crate::Row;
 use crate::Size;
 
 // The entry for none, hexadecimal FFFF.
 pub const NONE: usize = 65535;
 
-// Where a plan is lent as bytes: how many there are in an entry, a row, of so many entries, and a size record.
+// How many bytes an entry has where a plan is lent as bytes.
 pub const ENTRY_BYTES: usize = 2;
 
 pub fn wide(x: u16) -> usize

@@ -1,12 +1,13 @@
 // Rows: the only functions that touch one in its table. Only the planner's own crates call this.
 ghost use mathlib.Core.Path.{_≡_};
-ghost use Prim.Native.Nat.{_*_, _<_};
+ghost use Prim.Native.Nat.{_<_};
 ghost use lib.ListN.{length, getD, set};
 ghost use Rattle.tables.specs.declared.Row.{Row};
 ghost use Rattle.tables.specs.Spans.{noRow};
 use crate::Row;
 use crate::entries::ENTRY_BYTES;
 
+// Where a plan is lent as bytes: how many entries and bytes a row has, and how many bytes a size record.
 pub const ROW_ENTRIES: usize = 3;
 
 pub const ROW_BYTES: usize = ROW_ENTRIES * ENTRY_BYTES;

@@ -47,7 +47,8 @@ pub fn spread(
     requires { ⌜ Queued n q (now flags) (now queue) ⌝ }
     requires { ⌜ (n ≤ maxStates) × (n ≤ length (now flags)) × (n ≤ length (now queue)) × (2 ≤ mark) × (mark < 65536) ⌝ }
     requires { ⌜ (from ≤ end) × (end ≤ length (now outcomes)) × ((j : ℕ) → j < end → getD (now outcomes) j 0 < n) ⌝ }
-    ensures { λ r. ⌜ Spread n q (λ y. any (eqb y) (slice from end (now (outcomes .entry)))) mark (now (flags .entry)) (now (queue .entry)) r (now (flags .exit)) (now (queue .exit)) ⌝ }
+    ensures { λ r. ⌜ Spread n q (λ y. any (eqb y) (slice from end (now (outcomes .entry)))) mark (now (flags .entry)) (now (queue .entry)) r
+        (now (flags .exit)) (now (queue .exit)) ⌝ }
 {
     let mut i = from;
     let mut e = q;

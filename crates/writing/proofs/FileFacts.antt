@@ -50,21 +50,23 @@ module _ (T : Tables) where
   parts-length : length (bytesOf (treeOf T)) ≡ 7 + length allStates + 3
   parts-length = omega (arith, ap length file-bytes, length-append allStates endBytes)
 
-  pub head-ready : (size : ℕ) → sound T ≡ true → length (bytesOf (treeOf T)) ≤ size → (7 ≤ size) × (T .size .n < 65536) × (T .size .start < 65536)
+  pub head-ready : (size : ℕ) → sound T ≡ true → length (bytesOf (treeOf T)) ≤ size → (7 ≤ size) × (T .size .n < 65536)
+      × (T .size .start < 65536)
   head-ready size e room =
       let f = sound-facts T .0 e .size in
       (omega (arith, room, parts-length), omega (arith, f .few), omega (arith, f .few, f .starts))
 
-  module _ {before after : List ℕ} {next : ℕ} (room : length (bytesOf (treeOf T)) ≤ length before) (w : Wrote before 0 headBytes after next) where
-    pub states-ready : next + length allStates ≤ length after
-    states-ready = omega (arith, room, parts-length, w .past, wrote-length w)
+  module _ {before after : List ℕ} {next : ℕ} (room : length (bytesOf (treeOf T)) ≤ length before) (w : Wrote before 0 headBytes after next)
+    where
+      pub states-ready : next + length allStates ≤ length after
+      states-ready = omega (arith, room, parts-length, w .past, wrote-length w)
 
-    module _ {last : List ℕ} {end : ℕ} (v : Wrote after next allStates last end) where
-      pub end-ready : end + 3 ≤ length last
-      end-ready = omega (arith, room, parts-length, w .past, wrote-length w, v .past, wrote-length v)
+      module _ {last : List ℕ} {end : ℕ} (v : Wrote after next allStates last end) where
+        pub end-ready : end + 3 ≤ length last
+        end-ready = omega (arith, room, parts-length, w .past, wrote-length w, v .past, wrote-length v)
 
-      pub file-stored : {whole : List ℕ} {count : ℕ} → Wrote last end endBytes whole count → Wrote before 0 (bytesOf (treeOf T)) whole count
-      file-stored u = rw file-bytes (wrote-then w (wrote-then v u))
+        pub file-stored : {whole : List ℕ} {count : ℕ} → Wrote last end endBytes whole count → Wrote before 0 (bytesOf (treeOf T)) whole count
+        file-stored u = rw file-bytes (wrote-then w (wrote-then v u))
 
   pub size-ready : sound T ≡ true → (T .size .n ≤ maxStates) × (T .size .m ≤ maxCommands) × (T .size .t ≤ maxOutcomes)
   size-ready e = let f = sound-facts T .0 e .size in (f .few, f .few-commands, f .few-outcomes)
@@ -85,7 +87,8 @@ module _ (T : Tables) where
           let w = writing-iff T (length table) (bytesOf (treeOf T)) .0 gives in
           (w .sounds, omega (arith, w .long, written-length T (length table) (bytesOf (treeOf T)) gives))
 
-      pub written : {after : List ℕ} {next : ℕ} → Wrote table 0 (bytesOf (treeOf T)) after next → afterWrite (Given next) after ≡ writeCall T table
+      pub written : {after : List ℕ} {next : ℕ} → Wrote table 0 (bytesOf (treeOf T)) after next → afterWrite (Given next) after
+          ≡ writeCall T table
       unfolding answer left
       written w =
           let stored = w .stored ∙ put-front table (bytesOf (treeOf T)) (file-ready .1) in

@@ -50,7 +50,8 @@ module _ (z : Size) (rows : List Row) (firsts outcomes : List ℕ) (s : ℕ) whe
       bytes = rw q (sym state-bytes)
 
       pub state-ready : (place size : ℕ) → place + length (statesBytes (stateAt T s ∷ []) []) ≤ size
-          → Ready (z .n) (commandsOf z firsts outcomes) × FitsBytes (z .m) span × (place + length (spanBytes (commandsOf z firsts outcomes) span) ≤ size)
+          → Ready (z .n) (commandsOf z firsts outcomes) × FitsBytes (z .m) span
+          × (place + length (spanBytes (commandsOf z firsts outcomes) span) ≤ size)
       unfolding commandCount
       state-ready place size room =
           let few = fits .size .few-commands in (
@@ -65,7 +66,8 @@ module _ (z : Size) (rows : List Row) (firsts outcomes : List ℕ) (s : ℕ) whe
             rw bytes at room,
           )
 
-      pub state-stored : {before after : List ℕ} {place next : ℕ} → Wrote before place (spanBytes (commandsOf z firsts outcomes) span) after next
+      pub state-stored : {before after : List ℕ} {place next : ℕ}
+          → Wrote before place (spanBytes (commandsOf z firsts outcomes) span) after next
           → Wrote before place (statesBytes (stateAt T s ∷ []) []) after next
       state-stored w = rw bytes w
 
@@ -76,7 +78,8 @@ module _ (L : Lists) (span : Span) (f : FitsBytes (L .count) span) where
 
   pub row-ready : (place size : ℕ) → place + length (spanBytes L span) ≤ size
       → (place + 8 ≤ size) × (span .kind < 256) × (span .first ≤ span .end) × (span .end < 65536) × (span .practice < 65536)
-  row-ready place size room = (omega (arith, room, length-append (fieldBytes span) commandBytes), f .0, f .1, omega (arith, f .2, f .3), f .4)
+  row-ready place size room =
+      (omega (arith, room, length-append (fieldBytes span) commandBytes), f .0, f .1, omega (arith, f .2, f .3), f .4)
 
   pub commands-ready : {n : ℕ} {before after : List ℕ} {place next : ℕ} → Ready n L → place + length (spanBytes L span) ≤ length before
       → Wrote before place (fieldBytes span) after next → Ready n L × (span .end ≤ L .count) × (next + length commandBytes ≤ length after)

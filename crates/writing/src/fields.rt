@@ -34,7 +34,8 @@ pub fn write_head(size: Size, out: &mut [u8]) -> usize
 
 // A state field, without the state's commands.
 pub fn write_row(span: Span, out: &mut [u8], place: usize) -> usize
-    requires { ⌜ (place + 8 ≤ length (now out)) × (span .kind < 256) × (span .first ≤ span .end) × (span .end < 65536) × (span .practice < 65536) ⌝ }
+    requires { ⌜ (place + 8 ≤ length (now out)) × (span .kind < 256) × (span .first ≤ span .end) × (span .end < 65536)
+        × (span .practice < 65536) ⌝ }
     ensures { λ r. ⌜ Wrote (now (out .entry)) place (stateBytes (fieldIn span) []) (now (out .exit)) r ⌝ }
 {
     let length = put_byte(out, place, STATE);

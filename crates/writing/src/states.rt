@@ -31,8 +31,10 @@ fn write_commands(
     out: &mut [u8],
     place: usize,
 ) -> usize
-    requires { ⌜ Ready (size .n) (commandsOf size (now firsts) (now outcomes)) × (end ≤ size .m) × (place + length (commandsBytes (commandsFrom (commandsOf size (now firsts) (now outcomes)) first end) []) ≤ length (now out)) ⌝ }
-    ensures { λ r. ⌜ Wrote (now (out .entry)) place (commandsBytes (commandsFrom (commandsOf size (now (firsts .entry)) (now (outcomes .entry))) first end) []) (now (out .exit)) r ⌝ }
+    requires { ⌜ Ready (size .n) (commandsOf size (now firsts) (now outcomes)) × (end ≤ size .m)
+        × (place + length (commandsBytes (commandsFrom (commandsOf size (now firsts) (now outcomes)) first end) []) ≤ length (now out)) ⌝ }
+    ensures { λ r. ⌜ Wrote (now (out .entry)) place
+        (commandsBytes (commandsFrom (commandsOf size (now (firsts .entry)) (now (outcomes .entry))) first end) []) (now (out .exit)) r ⌝ }
 {
     let mut next = place;
     let mut c = first;
@@ -54,8 +56,10 @@ fn write_state(
     out: &mut [u8],
     place: usize,
 ) -> usize
-    requires { ⌜ Ready (size .n) (commandsOf size (now firsts) (now outcomes)) × FitsBytes (size .m) span × (place + length (spanBytes (commandsOf size (now firsts) (now outcomes)) span) ≤ length (now out)) ⌝ }
-    ensures { λ r. ⌜ Wrote (now (out .entry)) place (spanBytes (commandsOf size (now (firsts .entry)) (now (outcomes .entry))) span) (now (out .exit)) r ⌝ }
+    requires { ⌜ Ready (size .n) (commandsOf size (now firsts) (now outcomes)) × FitsBytes (size .m) span
+        × (place + length (spanBytes (commandsOf size (now firsts) (now outcomes)) span) ≤ length (now out)) ⌝ }
+    ensures { λ r. ⌜ Wrote (now (out .entry)) place (spanBytes (commandsOf size (now (firsts .entry)) (now (outcomes .entry))) span)
+        (now (out .exit)) r ⌝ }
 {
     let commands = write_row(span, out, place);
     write_commands(size, firsts, outcomes, span.first, span.end, out, commands)
@@ -70,8 +74,12 @@ pub fn write_states(
     out: &mut [u8],
     place: usize,
 ) -> usize
-    requires { ⌜ (sound (held size (now rows) (now firsts) (now outcomes)) ≡ true) × (place + length (statesBytes (tabulate (stateAt (held size (now rows) (now firsts) (now outcomes))) 0 (size .n)) []) ≤ length (now out)) ⌝ }
-    ensures { λ r. ⌜ Wrote (now (out .entry)) place (statesBytes (tabulate (stateAt (held size (now (rows .entry)) (now (firsts .entry)) (now (outcomes .entry)))) 0 (size .n)) []) (now (out .exit)) r ⌝ }
+    requires { ⌜ (sound (held size (now rows) (now firsts) (now outcomes)) ≡ true)
+        × (place + length (statesBytes (tabulate (stateAt (held size (now rows) (now firsts) (now outcomes))) 0 (size .n)) []) ≤ length
+        (now out)) ⌝ }
+    ensures { λ r. ⌜ Wrote (now (out .entry)) place
+        (statesBytes (tabulate (stateAt (held size (now (rows .entry)) (now (firsts .entry)) (now (outcomes .entry)))) 0 (size .n)) [])
+        (now (out .exit)) r ⌝ }
 {
     let mut next = place;
     let mut s = 0;

@@ -16,13 +16,17 @@ array-borrow-prefix-first-table : tie.Need-array-borrow-prefix-first-table
 array-borrow-prefix-first-table c = search needs
 
 slice-aggregate-try-file-2 : tie.Need-slice-aggregate-try-file-2
-slice-aggregate-try-file-2 c = sym (length-take-le _ _ (omega (arith, c .before .before .before .pre)))
+slice-aggregate-try-file-2 c =
+    let entry = c .before .before .before in
+    sym (length-take-le _ _ (omega (arith, entry .pre)))
 
 array-borrow-prefix-outcome-table : tie.Need-array-borrow-prefix-outcome-table
 array-borrow-prefix-outcome-table c = search needs
 
 slice-aggregate-try-file-3 : tie.Need-slice-aggregate-try-file-3
-slice-aggregate-try-file-3 c = sym (length-take-le _ _ (omega (arith, c .before .before .before .before .pre)))
+slice-aggregate-try-file-3 c =
+    let entry = c .before .before .before .before in
+    sym (length-take-le _ _ (omega (arith, entry .pre)))
 
 try-file-requires : tie.Need-try-file-requires
 try-file-requires c κs = search needs
@@ -31,4 +35,5 @@ returns : tie.Need-returns
 returns c = search needs
 
 pub lend-spec : {M : Type 1} → statement M
-lend-spec = tie.close (tie.spec array-borrow-prefix-row-table slice-aggregate-try-file array-borrow-prefix-first-table slice-aggregate-try-file-2 array-borrow-prefix-outcome-table slice-aggregate-try-file-3 try-file-requires returns)
+lend-spec = tie.close (tie.spec array-borrow-prefix-row-table slice-aggregate-try-file array-borrow-prefix-first-table
+    slice-aggregate-try-file-2 array-borrow-prefix-outcome-table slice-aggregate-try-file-3 try-file-requires returns)

@@ -38,10 +38,18 @@ read-full-requires : tie.Need-read-full-requires
 read-full-requires c κs = omega arith
 
 array-share-prefix-bytes : tie.Need-array-share-prefix-bytes
-array-share-prefix-bytes c = fits _ (c .before .read-full .last .1 .0) (drop (c .before .before .before .before .before .before .before .before .next .result) (c .before .before .before .large-buffer .result)) (c .before .read-full .ensures .0)
+array-share-prefix-bytes c =
+    let past-large-buffer = c .before .before .before in
+    let past-next = past-large-buffer .before .before .before .before .before in
+    fits _ (c .before .read-full .last .1 .0) (drop (past-next .next .result) (past-large-buffer .large-buffer .result))
+    (c .before .read-full .ensures .0)
 
 slice-aggregate-lend : tie.Need-slice-aggregate-lend
-slice-aggregate-lend c = sym (length-take-le _ _ (fits _ (c .before .before .read-full .last .1 .0) (drop (c .before .before .before .before .before .before .before .before .before .next .result) (c .before .before .before .before .large-buffer .result)) (c .before .before .read-full .ensures .0)))
+slice-aggregate-lend c =
+    let past-large-buffer = c .before .before .before .before in
+    let past-next = past-large-buffer .before .before .before .before .before in
+    sym (length-take-le _ _ (fits _ (c .before .before .read-full .last .1 .0)
+    (drop (past-next .next .result) (past-large-buffer .large-buffer .result)) (c .before .before .read-full .ensures .0)))
 
 least-requires : tie.Need-least-requires
 least-requires c κs = omega arith

@@ -4,6 +4,12 @@ use Rattle.format.proofs.FileTrip.{file-refused, file-written}
 use Rattle.format.proofs.read_write.Statement.{statement}
 use Rattle.format.proofs.read_write.Proof.Tie as tie
 
+abbrev past-read-to-past-shared-slice-known : tie.After-read → tie.After-shared-slice-known
+past-read-to-past-shared-slice-known c = c .before .before .before .before .before .before .before
+
+abbrev past-r2-to-past-read : tie.After-r2 → tie.After-read
+past-r2-to-past-read c = c .before .before .before .before .before .before .before
+
 read-requires : tie.Need-read-requires
 read-requires c κs = search needs
 
@@ -30,9 +36,14 @@ same-length-3 c = search needs
 
 returns : tie.Need-returns
 returns c =
-    let a = c .before .before .before .before .before .before .before .before .before .before .before .before .before .before .before .before .before .args in
-    let reads = c .before .before .before .before .before .before .before .before .before .read in
-    file-refused (a .file .now) (a .rows .now) (a .firsts .now) (a .outcomes .now) (a .bytes .now) (record { byte = λ i. c .before .before .before .before .before .before .before .before .before .before .before .before .before .before .before .before .shared-slice-known .given i .fits }) _ (reads .last .1 .0) _ _ (reads .ensures) _ (c .before .before .r .given .1) (c .not-read .result) (c .not-read .ensures)
+    let past-read = c .before .before .before .before .before .before .before .before .before in
+    let past-shared-slice-known = past-read-to-past-shared-slice-known past-read in
+    let entry = past-shared-slice-known .before in
+    let a = entry .args in
+    let reads = past-read .read in
+    file-refused (a .file .now) (a .rows .now) (a .firsts .now) (a .outcomes .now) (a .bytes .now)
+    (record { byte = λ i. past-shared-slice-known .shared-slice-known .given i .fits }) _ (reads .last .1 .0) _ _ (reads .ensures) _
+    (c .before .before .r .given .1) (c .not-read .result) (c .not-read .ensures)
 
 same-length-4 : tie.Need-same-length-4
 same-length-4 c = search needs
@@ -48,10 +59,18 @@ same-length-7 c = search needs
 
 returns-2 : tie.Need-returns-2
 returns-2 c =
-    let a = c .before .before .before .before .before .before .before .before .before .before .before .before .before .before .before .before .before .before .before .before .before .before .before .args in
-    let reads = c .before .before .before .before .before .before .before .before .before .before .before .before .before .before .before .read in
+    let past-r2 = c .before .before .before .before .before .before .before .before in
+    let past-read = past-r2-to-past-read past-r2 in
+    let past-shared-slice-known = past-read-to-past-shared-slice-known past-read in
+    let entry = past-shared-slice-known .before in
+    let a = entry .args in
+    let reads = past-read .read in
     let writes = c .before .before .write in
-    file-written (a .file .now) (a .rows .now) (a .firsts .now) (a .outcomes .now) (a .bytes .now) (record { byte = λ i. c .before .before .before .before .before .before .before .before .before .before .before .before .before .before .before .before .before .before .before .before .before .before .shared-slice-known .given i .fits }) _ (reads .last .1 .0) _ _ (reads .ensures) _ (c .before .before .before .before .before .before .before .before .r2 .given .1) (writes .result) _ (writes .ensures)
+    file-written (a .file .now) (a .rows .now) (a .firsts .now) (a .outcomes .now) (a .bytes .now)
+    (record { byte = λ i. past-shared-slice-known .shared-slice-known .given i .fits }) _ (reads .last .1 .0) _ _ (reads .ensures) _
+    (past-r2 .r2 .given .1) (writes .result) _ (writes .ensures)
 
 pub read-write-spec : {M : Type 1} → statement M
-read-write-spec = tie.close (tie.spec read-requires enum-known-r not-read-requires enum-known-r-2 write-requires same-length same-length-2 same-length-3 returns same-length-4 same-length-5 same-length-6 same-length-7 returns-2)
+read-write-spec = tie.close
+    (tie.spec read-requires enum-known-r not-read-requires enum-known-r-2 write-requires same-length same-length-2 same-length-3 returns
+    same-length-4 same-length-5 same-length-6 same-length-7 returns-2)

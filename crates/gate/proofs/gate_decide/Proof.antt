@@ -5,6 +5,10 @@ use borrow.Author.Needs.{needs}
 use Rattle.gate.proofs.gate_decide.Statement.{statement}
 use Rattle.gate.proofs.gate_decide.Tie as tie
 
+abbrev past-decide-call-to-entry : tie.After-decide-call → tie.Start
+past-decide-call-to-entry c =
+    c .before .before .before .before .before .before .before .before .before .before .before .before .before .before .before
+
 decide-call-requires : tie.Need-decide-call-requires
 decide-call-requires c κs = search needs
 
@@ -25,9 +29,12 @@ same-length-5 c = search needs
 
 returns : tie.Need-returns
 returns c =
-    let a = c .before .before .before .before .before .before .before .before .before .before .before .before .before .before .before .before .before .before .before .before .before .before .before .before .before .args in
-    decides (tablesIn (a .size .now) (a .rows .now) (a .firsts .now) (a .outcomes .now)) (a .ranks .now) (a .commands .now) (a .marks .now) (a .scratch .now) (a .tally .now)
-    (c .before .before .before .before .before .before .before .before .before .before .decide-call .ensures)
+    let past-decide-call = c .before .before .before .before .before .before .before .before .before .before in
+    let entry = past-decide-call-to-entry past-decide-call in
+    let a = entry .args in
+    decides (tablesIn (a .size .now) (a .rows .now) (a .firsts .now) (a .outcomes .now)) (a .ranks .now) (a .commands .now) (a .marks .now)
+    (a .scratch .now) (a .tally .now)
+    (past-decide-call .decide-call .ensures)
 
 pub gate-decide-spec : {M : Type 1} → statement M
 gate-decide-spec =

@@ -20,7 +20,9 @@ same-length-4 : tie.Need-same-length-4
 same-length-4 c = search needs
 
 returns : tie.Need-returns
-returns c = sym (c .before .before .before .before .before .before .before .before .read-call .ensures)
+returns c =
+    let past-read-call = c .before .before .before .before .before .before .before .before in
+    sym (past-read-call .read-call .ensures)
 
 pub gate-read-spec : {M : Type 1} → statement M
 gate-read-spec =

@@ -5,6 +5,9 @@ use borrow.Author.Needs.{needs}
 use Rattle.gate.proofs.gate_search.Statement.{statement}
 use Rattle.gate.proofs.gate_search.Tie as tie
 
+abbrev past-search-call-to-entry : tie.After-search-call → tie.Start
+past-search-call-to-entry c = c .before .before .before .before .before .before .before .before .before .before .before
+
 search-call-requires : tie.Need-search-call-requires
 search-call-requires c κs = search needs
 
@@ -19,9 +22,12 @@ same-length-3 c = search needs
 
 returns : tie.Need-returns
 returns c =
-    let a = c .before .before .before .before .before .before .before .before .before .before .before .before .before .before .before .before .before .args in
-    searches (tablesIn (a .size .now) (a .rows .now) (a .firsts .now) (a .outcomes .now)) (a .start) (a .commands .now) (a .scratch .now) (a .answer .now)
-    (c .before .before .before .before .before .before .search-call .ensures)
+    let past-search-call = c .before .before .before .before .before .before in
+    let entry = past-search-call-to-entry past-search-call in
+    let a = entry .args in
+    searches (tablesIn (a .size .now) (a .rows .now) (a .firsts .now) (a .outcomes .now)) (a .start) (a .commands .now) (a .scratch .now)
+    (a .answer .now)
+    (past-search-call .search-call .ensures)
 
 pub gate-search-spec : {M : Type 1} → statement M
 gate-search-spec =

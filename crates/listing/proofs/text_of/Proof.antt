@@ -11,7 +11,9 @@ write-listing-requires : tie.Need-write-listing-requires
 write-listing-requires c κs = search needs
 
 returns : tie.Need-returns
-returns c = text-stands (c .before .before .before .before .args .input .now) (c .before .write-listing .ensures)
+returns c =
+    let entry = c .before .before .before .before in
+    text-stands (entry .args .input .now) (c .before .write-listing .ensures)
 
 pub text-of-spec : {M : Type 1} → statement M
 text-of-spec = tie.close (tie.spec slice-aggregate-write-listing write-listing-requires returns)

@@ -11,7 +11,10 @@ same-length : tie.Need-same-length
 same-length c = search needs
 
 returns : tie.Need-returns
-returns c = rw (over-limit (c .before .before .before .before .before .before .before .args .input .now) (c .before .before .before .before .if1 .taken)) (c .before .before .put-refusal .ensures .0)
+returns c =
+    let branch1 = c .before .before .before .before in
+    let entry = branch1 .before .before .before in
+    rw (over-limit (entry .args .input .now) (branch1 .if1 .taken)) (c .before .before .put-refusal .ensures .0)
 
 list-file-requires : tie.Need-list-file-requires
 list-file-requires c κs = search needs
@@ -20,7 +23,10 @@ same-length-2 : tie.Need-same-length-2
 same-length-2 c = search needs
 
 returns-2 : tie.Need-returns-2
-returns-2 c = rw (in-limit (c .before .before .before .before .before .before .before .args .input .now) (c .before .before .before .before .if1 .left)) (c .before .before .list-file .ensures)
+returns-2 c =
+    let branch1 = c .before .before .before .before in
+    let entry = branch1 .before .before .before in
+    rw (in-limit (entry .args .input .now) (branch1 .if1 .left)) (c .before .before .list-file .ensures)
 
 pub write-listing-spec : {M : Type 1} → statement M
 write-listing-spec =

@@ -1,4 +1,5 @@
--- The judging pass answers the size record or the refusal; then the tables are tested for length, and what the filling pass leaves is what `readCall` gives.
+-- The judging pass answers the size record or the refusal; then the tables are tested for length, and what the filling pass leaves is
+-- what `readCall` gives.
 mod Tie
 use Rattle.reading.proofs.Calls.{unchanged, no-plan, cramped, all-long, room, filled}
 use Rattle.reading.specs.Answers.{answerOf}
@@ -20,25 +21,39 @@ enum-told c = search needs
 
 returns : tie.Need-returns
 returns c =
-    let a = c .before .before .before .before .before .before .args in
+    let entry = c .before .before .before .before .before .before in
+    let a = entry .args in
     rw (c .enum-told .given .1)
     (unchanged (a .file .now) (a .rows .now) (a .firsts .now) (a .outcomes .now)
-    (no-plan (length (a .rows .now)) (length (a .firsts .now)) (length (a .outcomes .now)) (a .file .now) (sym (c .before .before .scan .ensures) ∙ ap answerOf (c .enum-told .given .1))))
+    (no-plan (length (a .rows .now)) (length (a .firsts .now)) (length (a .outcomes .now)) (a .file .now)
+    (sym (c .before .before .scan .ensures) ∙ ap answerOf (c .enum-told .given .1))))
 
 long-enough-requires : tie.Need-long-enough-requires
 long-enough-requires c κs = search needs
 
 returns-2 : tie.Need-returns-2
 returns-2 c =
-    let a = c .before .before .before .before .before .before .before .before .before .args in
+    let past-s = c .before .before .before in
+    let past-scan = past-s .before .before in
+    let entry = past-scan .before .before .before .before in
+    let a = entry .args in
     unchanged (a .file .now) (a .rows .now) (a .firsts .now) (a .outcomes .now)
-    (cramped (c .before .before .before .s .given .0 .0) (length (a .rows .now)) (length (a .firsts .now)) (length (a .outcomes .now)) (c .before .long-enough .ensures) (a .file .now) (sym (c .before .before .before .before .before .scan .ensures) ∙ ap answerOf (c .before .before .before .s .given .1)) (c .if1 .taken))
+    (cramped (past-s .s .given .0 .0) (length (a .rows .now)) (length (a .firsts .now)) (length (a .outcomes .now))
+    (c .before .long-enough .ensures) (a .file .now) (sym (past-scan .scan .ensures) ∙ ap answerOf (past-s .s .given .1))
+    (c .if1 .taken))
 
 fill-states-requires : tie.Need-fill-states-requires
 fill-states-requires c κs =
-    let a = c .before .before .before .before .before .before .before .before .before .before .before .before .args in
-    let l = all-long (c .before .before .before .before .before .before .s .given .0 .0) (length (a .rows .now)) (length (a .firsts .now)) (length (a .outcomes .now)) (c .before .before .before .before .long-enough .ensures) (c .before .before .before .if1 .left) in
-    room (a .file .now) (numbers (c .before .before .before .before .before .before .s .given .0 .0)) (sym (c .before .before .before .before .before .before .before .before .scan .ensures) ∙ ap answerOf (c .before .before .before .before .before .before .s .given .1)) (l .0) (l .1) (l .2)
+    let branch1 = c .before .before .before in
+    let past-long-enough = branch1 .before in
+    let past-s = past-long-enough .before .before in
+    let past-scan = past-s .before .before in
+    let entry = past-scan .before .before .before .before in
+    let a = entry .args in
+    let l = all-long (past-s .s .given .0 .0) (length (a .rows .now)) (length (a .firsts .now)) (length (a .outcomes .now))
+    (past-long-enough .long-enough .ensures) (branch1 .if1 .left) in
+    room (a .file .now) (numbers (past-s .s .given .0 .0)) (sym (past-scan .scan .ensures) ∙ ap answerOf (past-s .s .given .1)) (l .0)
+    (l .1) (l .2)
 
 same-length : tie.Need-same-length
 same-length c = search needs
@@ -51,10 +66,20 @@ same-length-3 c = search needs
 
 returns-3 : tie.Need-returns-3
 returns-3 c =
-    let a = c .before .before .before .before .before .before .before .before .before .before .before .before .before .before .before .before .before .before .args in
-    let l = all-long (c .before .before .before .before .before .before .before .before .before .before .before .before .s .given .0 .0) (length (a .rows .now)) (length (a .firsts .now)) (length (a .outcomes .now)) (c .before .before .before .before .before .before .before .before .before .before .long-enough .ensures) (c .before .before .before .before .before .before .before .before .before .if1 .left) in
-    filled (a .file .now) (numbers (c .before .before .before .before .before .before .before .before .before .before .before .before .s .given .0 .0)) (sym (c .before .before .before .before .before .before .before .before .before .before .before .before .before .before .scan .ensures) ∙ ap answerOf (c .before .before .before .before .before .before .before .before .before .before .before .before .s .given .1)) (a .rows .now) (a .firsts .now) (a .outcomes .now)
-    (l .0) (l .1) (l .2) (c .before .before .before .before .before .fill-states .ensures .0) (c .before .before .before .before .before .fill-states .ensures .1 .0) (c .before .before .before .before .before .fill-states .ensures .1 .1)
+    let past-fill-states = c .before .before .before .before .before in
+    let branch1 = past-fill-states .before .before .before .before in
+    let past-long-enough = branch1 .before in
+    let past-s = past-long-enough .before .before in
+    let past-scan = past-s .before .before in
+    let entry = past-scan .before .before .before .before in
+    let a = entry .args in
+    let l = all-long (past-s .s .given .0 .0) (length (a .rows .now)) (length (a .firsts .now)) (length (a .outcomes .now))
+    (past-long-enough .long-enough .ensures) (branch1 .if1 .left) in
+    filled (a .file .now) (numbers (past-s .s .given .0 .0)) (sym (past-scan .scan .ensures) ∙ ap answerOf (past-s .s .given .1))
+    (a .rows .now) (a .firsts .now) (a .outcomes .now)
+    (l .0) (l .1) (l .2) (past-fill-states .fill-states .ensures .0) (past-fill-states .fill-states .ensures .1 .0)
+    (past-fill-states .fill-states .ensures .1 .1)
 
 pub read-spec : {M : Type 1} → statement M
-read-spec = tie.close (tie.spec scan-requires enum-known-s enum-told returns long-enough-requires returns-2 fill-states-requires same-length same-length-2 same-length-3 returns-3)
+read-spec = tie.close (tie.spec scan-requires enum-known-s enum-told returns long-enough-requires returns-2 fill-states-requires same-length
+    same-length-2 same-length-3 returns-3)

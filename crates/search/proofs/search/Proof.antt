@@ -24,12 +24,20 @@ slice-aggregate-walk-rounds c = search needs
 
 walk-rounds-requires : tie.Need-walk-rounds-requires
 walk-rounds-requires c κs =
-    admitted-prepared _ _ _ _ _ _ _ _ _ (c .before .before .before .before .before .admit .ensures _ (c .before .before .before .before .before .before .sound .ensures .0) refl) (c .before .before .before .enum-told .given .1) (omega arith)
+    let past-enum-told = c .before .before .before in
+    let past-admit = past-enum-told .before .before in
+    let past-sound = past-admit .before in
+    admitted-prepared _ _ _ _ _ _ _ _ _ (past-admit .admit .ensures _ (past-sound .sound .ensures .0) refl)
+    (past-enum-told .enum-told .given .1) (omega arith)
 
 returns : tie.Need-returns
 returns c =
-    let s = c .before .before .before .before .before .before .before .before .before .args in
-    refuses _ _ (s .commands .now) (s .scratch .now) _ (c .before .before .before .admit .ensures _ (c .before .before .before .before .sound .ensures .0) refl) _ (c .before .admission .given .1)
+    let past-admit = c .before .before .before in
+    let past-sound = past-admit .before in
+    let entry = past-sound .before .before .before .before .before in
+    let s = entry .args in
+    refuses _ _ (s .commands .now) (s .scratch .now) _ (past-admit .admit .ensures _ (past-sound .sound .ensures .0) refl) _
+    (c .before .admission .given .1)
 
 same-length : tie.Need-same-length
 same-length c = search needs
@@ -39,8 +47,14 @@ same-length-2 c = search needs
 
 returns-2 : tie.Need-returns-2
 returns-2 c =
-    let s = c .before .before .before .before .before .before .before .before .before .before .before .before .before .before .before .before .before .args in
-    gives _ _ (s .commands .now) (s .scratch .now) _ (c .before .before .before .before .before .before .before .before .before .before .before .admit .ensures _ (c .before .before .before .before .before .before .before .before .before .before .before .before .sound .ensures .0) refl) (c .before .before .before .before .before .before .before .before .before .enum-told .given .1) _ _ _ (c .before .before .before .before .before .walk-rounds .ensures)
+    let past-walk-rounds = c .before .before .before .before .before in
+    let past-enum-told = past-walk-rounds .before .before .before .before in
+    let past-admit = past-enum-told .before .before in
+    let past-sound = past-admit .before in
+    let entry = past-sound .before .before .before .before .before in
+    let s = entry .args in
+    gives _ _ (s .commands .now) (s .scratch .now) _ (past-admit .admit .ensures _ (past-sound .sound .ensures .0) refl)
+    (past-enum-told .enum-told .given .1) _ _ _ (past-walk-rounds .walk-rounds .ensures)
 
 pub search-spec : {M : Type 1} → statement M
 search-spec =

@@ -19,44 +19,65 @@ long-requires : tie.Need-long-requires
 long-requires c κs = search needs
 
 returns-2 : tie.Need-returns-2
-returns-2 c = told _ (rw (sound-parts _) (simp (stopped (c .before .long .ensures (c .before .before .before .before .before .before .args .rows .now) refl) (c .if2 .taken), and-false)))
+returns-2 c =
+    let entry = c .before .before .before .before .before .before in
+    told _ (rw (sound-parts _) (simp (stopped (c .before .long .ensures (entry .args .rows .now) refl) (c .if2 .taken), and-false)))
 
 span-at-requires : tie.Need-span-at-requires
 span-at-requires c κs =
-    let R = c .before .before .before .before .before .before .args .rows .now in (
-      some-state _ (passed (c .before .before .before .size-sound .ensures) (c .before .before .if1 .left)),
+    let past-size-sound = c .before .before .before in
+    let entry = past-size-sound .before .before .before in
+    let R = entry .args .rows .now in (
+      some-state _ (passed (past-size-sound .size-sound .ensures) (c .before .before .if1 .left)),
       all-long _ R _ _ (passed (c .before .long .ensures R refl) (c .if2 .left)) .0,
     )
 
 returns-3 : tie.Need-returns-3
 returns-3 c =
-    let a = c .before .before .before .before .before .before .before .before .before .args in
-    told _ (rw (sound-parts _) (simp (starts-past _ _ (c .before .before .span-at .ensures (a .firsts .now) (a .outcomes .now)) (c .if3 .taken), and-false)))
+    let entry = c .before .before .before .before .before .before .before .before .before in
+    let a = entry .args in
+    told _ (rw (sound-parts _)
+    (simp (starts-past _ _ (c .before .before .span-at .ensures (a .firsts .now) (a .outcomes .now)) (c .if3 .taken), and-false)))
 
 rows-sound-requires : tie.Need-rows-sound-requires
 rows-sound-requires c κs =
-    let R = c .before .before .before .before .before .before .before .before .before .args .rows .now in
-    all-long _ R _ _ (passed (c .before .before .before .before .long .ensures R refl) (c .before .before .before .if2 .left)) .0
+    let branch2 = c .before .before .before in
+    let past-long = branch2 .before in
+    let entry = past-long .before .before .before .before .before in
+    let R = entry .args .rows .now in
+    all-long _ R _ _ (passed (past-long .long .ensures R refl) (branch2 .if2 .left)) .0
 
 returns-4 : tie.Need-returns-4
 returns-4 c =
-    let a = c .before .before .before .before .before .before .before .before .before .before .before .args in
-    told _ (rw (sound-parts _) (simp (stopped (c .before .rows-sound .ensures (a .firsts .now) (a .outcomes .now)) (c .if4 .taken), and-false)))
+    let entry = c .before .before .before .before .before .before .before .before .before .before .before in
+    let a = entry .args in
+    told _ (rw (sound-parts _)
+    (simp (stopped (c .before .rows-sound .ensures (a .firsts .now) (a .outcomes .now)) (c .if4 .taken), and-false)))
 
 lists-sound-requires : tie.Need-lists-sound-requires
 lists-sound-requires c κs =
-    let R = c .before .before .before .before .before .before .before .before .before .before .before .args .rows .now in
-    let tables-long = all-long _ R _ _ (passed (c .before .before .before .before .before .before .long .ensures R refl) (c .before .before .before .before .before .if2 .left)) in
+    let branch2 = c .before .before .before .before .before in
+    let past-long = branch2 .before in
+    let entry = past-long .before .before .before .before .before in
+    let R = entry .args .rows .now in
+    let tables-long = all-long _ R _ _ (passed (past-long .long .ensures R refl) (branch2 .if2 .left)) in
     (tables-long .1, tables-long .2)
 
 returns-5 : tie.Need-returns-5
 returns-5 c =
-    let a = c .before .before .before .before .before .before .before .before .before .before .before .before .args in
+    let branch3 = c .before .before .before in
+    let past-span-at = branch3 .before .before in
+    let branch2 = past-span-at .before in
+    let past-long = branch2 .before in
+    let branch1 = past-long .before in
+    let past-size-sound = branch1 .before in
+    let entry = past-size-sound .before .before .before in
+    let a = entry .args in
     told _ (rw (sound-parts _)
     (rw (
-      passed (c .before .before .before .before .before .before .before .before .before .size-sound .ensures) (c .before .before .before .before .before .before .before .before .if1 .left),
-      passed (c .before .before .before .before .before .before .before .long .ensures (a .rows .now) refl) (c .before .before .before .before .before .before .if2 .left),
-      starts-at _ _ (c .before .before .before .before .before .span-at .ensures (a .firsts .now) (a .outcomes .now)) (c .before .before .before .if3 .left),
+      passed (past-size-sound .size-sound .ensures) (branch1 .if1 .left),
+      passed (past-long .long .ensures (a .rows .now) refl) (branch2 .if2 .left),
+      starts-at _ _ (past-span-at .span-at .ensures (a .firsts .now) (a .outcomes .now)) (branch3 .if3 .left),
       passed (c .before .before .rows-sound .ensures (a .firsts .now) (a .outcomes .now)) (c .before .if4 .left),
     )
     (c .lists-sound .ensures)))

@@ -28,4 +28,6 @@ returns : tie.Need-returns
 returns c = search needs
 
 pub write-again-spec : {M : Type 1} → statement M
-write-again-spec = tie.close (tie.spec slice-aggregate-read-write read-write-requires slice-aggregate-same-bytes same-bytes-requires same-length same-length-2 same-length-3 returns)
+write-again-spec = tie.close
+    (tie.spec slice-aggregate-read-write read-write-requires slice-aggregate-same-bytes same-bytes-requires same-length same-length-2
+    same-length-3 returns)

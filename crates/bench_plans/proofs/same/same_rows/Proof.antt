@@ -50,4 +50,6 @@ returns-4 : tie.Need-returns-4 Inv-loop μ-loop
 returns-4 c = search needs
 
 pub same-rows-spec : {M : Type 1} → statement M
-same-rows-spec = tie.close (tie.spec Inv-loop μ-loop row-count-requires returns row-count-requires-2 returns-2 loop-holds row-at-requires row-at-requires-2 same-row-requires returns-3 add-i loop-less loop-again returns-4)
+same-rows-spec = tie.close
+    (tie.spec Inv-loop μ-loop row-count-requires returns row-count-requires-2 returns-2 loop-holds row-at-requires row-at-requires-2
+    same-row-requires returns-3 add-i loop-less loop-again returns-4)

@@ -28,4 +28,5 @@ returns-4 : tie.Need-returns-4
 returns-4 c = search needs
 
 pub same-tables-spec : {M : Type 1} → statement M
-same-tables-spec = tie.close (tie.spec same-size-requires returns same-rows-requires returns-2 same-entries-requires returns-3 same-entries-requires-2 returns-4)
+same-tables-spec = tie.close
+    (tie.spec same-size-requires returns same-rows-requires returns-2 same-entries-requires returns-3 same-entries-requires-2 returns-4)

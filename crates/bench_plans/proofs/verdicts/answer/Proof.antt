@@ -43,4 +43,5 @@ returns-3 : tie.Need-returns-3
 returns-3 c = search needs
 
 pub answer-spec : {M : Type 1} → statement M
-answer-spec = tie.close (tie.spec decide-requires print-decision-requires same-length same-length-2 same-length-3 same-length-4 returns search-requires print-search-requires same-length-5 same-length-6 returns-2 returns-3)
+answer-spec = tie.close (tie.spec decide-requires print-decision-requires same-length same-length-2 same-length-3 same-length-4 returns
+    search-requires print-search-requires same-length-5 same-length-6 returns-2 returns-3)

@@ -40,4 +40,5 @@ returns : tie.Need-returns Inv-loop μ-loop
 returns c = omega arith
 
 pub ask-all-spec : {M : Type 1} → statement M
-ask-all-spec = tie.close (tie.spec Inv-loop μ-loop loop-holds next-requires next-requires-2 next-requires-3 least-requires ask-requires sub-left loop-less loop-again returns)
+ask-all-spec = tie.close (tie.spec Inv-loop μ-loop loop-holds next-requires next-requires-2 next-requires-3 least-requires ask-requires
+    sub-left loop-less loop-again returns)

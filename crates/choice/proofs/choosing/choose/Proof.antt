@@ -21,10 +21,19 @@ sub-result : tie.Need-sub-result
 sub-result c = search needs
 
 returns-2 : tie.Need-returns-2
-returns-2 c = λ R s sounds l e. first-chosen _ _ _ _ s refl _ (c .before .before .before .before .before .practice-clear .ensures) sounds l e (c .before .before .before .before .if1 .left) _ (c .before .before .before .first-clear .ensures) (c .before .if2 .taken)
+returns-2 c =
+    let past-first-clear = c .before .before .before in
+    let branch1 = past-first-clear .before in
+    let past-practice-clear = branch1 .before in
+    λ R s sounds l e. first-chosen _ _ _ _ s refl _ (past-practice-clear .practice-clear .ensures) sounds l e (branch1 .if1 .left) _
+    (past-first-clear .first-clear .ensures) (c .before .if2 .taken)
 
 returns-3 : tie.Need-returns-3
-returns-3 c = λ R s sounds l e. none-chosen _ _ _ _ s refl _ (c .before .before .before .before .practice-clear .ensures) sounds l e (c .before .before .before .if1 .left) _ (c .before .before .first-clear .ensures) (c .if2 .left)
+returns-3 c =
+    let branch1 = c .before .before .before in
+    let past-practice-clear = branch1 .before in
+    λ R s sounds l e. none-chosen _ _ _ _ s refl _ (past-practice-clear .practice-clear .ensures) sounds l e (branch1 .if1 .left) _
+    (c .before .before .first-clear .ensures) (c .if2 .left)
 
 pub choose-spec : {M : Type 1} → statement M
 choose-spec =

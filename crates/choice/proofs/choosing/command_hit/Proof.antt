@@ -5,7 +5,8 @@ use Rattle.choice.proofs.choosing.command_hit.Tie as tie
 
 list-hit-requires : tie.Need-list-hit-requires
 list-hit-requires c κs =
-    let k = c .before .before .before .pre in
+    let entry = c .before .before .before in
+    let k = entry .pre in
     (k .1 .0, k .0 .long-firsts, k .0 .parts, states-below (k .1 .1) (k .0 .states))
 
 returns : tie.Need-returns

@@ -21,19 +21,31 @@ loop-holds : tie.Need-loop-holds Inv-loop μ-loop
 loop-holds c = (omega arith, first-start)
 
 command-hit-requires : tie.Need-command-hit-requires Inv-loop μ-loop
-command-hit-requires c κs = (c .before .before .before .before .before .pre .0, (omega (arith, c .before .before .before .before .before .pre .1, c .loop-test .taken), c .before .before .before .before .before .pre .1 .2))
+command-hit-requires c κs =
+    let entry = c .before .before .before .before .before in
+    (entry .pre .0, (omega (arith, entry .pre .1, c .loop-test .taken), entry .pre .1 .2))
 
 returns : tie.Need-returns Inv-loop μ-loop
-returns c = first-stop (c .before .before .before .loop .inv .1) _ (c .before .before .loop-test .taken) (sym (c .before .command-hit .ensures) ∙ not-true _ (c .if1 .taken))
+returns c =
+    let turn = c .before .before .before in
+    first-stop (turn .loop .inv .1) _ (c .before .before .loop-test .taken)
+    (sym (c .before .command-hit .ensures) ∙ not-true _ (c .if1 .taken))
 
 add-c : tie.Need-add-c Inv-loop μ-loop
-add-c c = omega (arith, c .before .before .before .before .before .before .before .pre .0 .few-commands, c .before .before .before .before .before .before .before .pre .1, c .before .before .loop-test .taken)
+add-c c =
+    let entry = c .before .before .before .before .before .before .before in
+    omega (arith, entry .pre .0 .few-commands, entry .pre .1, c .before .before .loop-test .taken)
 
 loop-less : tie.Need-loop-less Inv-loop μ-loop
 loop-less c = omega (arith, c .before .before .loop-test .taken)
 
 loop-again : tie.Need-loop-again Inv-loop μ-loop
-loop-again c = (omega (arith, c .before .before .loop-test .taken), first-next (c .before .before .before .loop .inv .1) (sym (c .before .command-hit .ensures) ∙ not-false _ (c .if1 .left)))
+loop-again c =
+    let turn = c .before .before .before in (
+      omega (arith, c .before .before .loop-test .taken),
+      first-next (turn .loop .inv .1)
+          (sym (c .before .command-hit .ensures) ∙ not-false _ (c .if1 .left)),
+    )
 
 returns-2 : tie.Need-returns-2 Inv-loop μ-loop
 returns-2 c = first-done (c .before .loop .inv .1) _ (c .before .loop .inv .0) (c .loop-test .left)

@@ -16,14 +16,18 @@ start-of-requires-2 c κs = search needs
 
 some-within-requires : tie.Need-some-within-requires
 some-within-requires c κs =
-    let a = c .before .before .before .before .before .args in
-    let k = c .before .before .before .before .before .pre in
-    entries-inside (listTable (a .count) (a .end) (a .firsts .now) (a .entries .now)) _ _ _ (c .before .start-of .ensures) (c .start-of2 .ensures) (k .0) (k .2) (k .3)
+    let entry = c .before .before .before .before .before in
+    let a = entry .args in
+    let k = entry .pre in
+    entries-inside (listTable (a .count) (a .end) (a .firsts .now) (a .entries .now)) _ _ _ (c .before .start-of .ensures)
+    (c .start-of2 .ensures) (k .0) (k .2) (k .3)
 
 returns : tie.Need-returns
 returns c =
-    let a = c .before .before .before .before .before .before .args in
-    hit-read (listTable (a .count) (a .end) (a .firsts .now) (a .entries .now)) _ _ _ (c .before .before .start-of .ensures) (c .before .start-of2 .ensures) _ _ (c .some-within .ensures)
+    let entry = c .before .before .before .before .before .before in
+    let a = entry .args in
+    hit-read (listTable (a .count) (a .end) (a .firsts .now) (a .entries .now)) _ _ _ (c .before .before .start-of .ensures)
+    (c .before .start-of2 .ensures) _ _ (c .some-within .ensures)
 
 pub list-hit-spec : {M : Type 1} → statement M
 list-hit-spec =

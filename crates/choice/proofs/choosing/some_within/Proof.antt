@@ -20,10 +20,17 @@ at-requires : tie.Need-at-requires Inv-loop μ-loop
 at-requires c κs = omega arith
 
 at-requires-2 : tie.Need-at-requires-2 Inv-loop μ-loop
-at-requires-2 c κs = omega (arith, c .before .before .before .before .before .pre .2 _ (c .before .loop-test .taken))
+at-requires-2 c κs =
+    let entry = c .before .before .before .before .before in
+    omega (arith, entry .pre .2 _ (c .before .loop-test .taken))
 
 returns : tie.Need-returns Inv-loop μ-loop
-returns c = looking-found (c .before .before .before .before .loop .inv) (c .before .before .before .loop-test .taken) (c .before .before .before .before .before .before .before .pre .1) _ (c .before .before .at .ensures) (member (c .before .before .before .before .before .before .before .args .table .now) _ (c .before .before .at .result) _ (c .before .at2 .ensures) (c .if1 .taken))
+returns c =
+    let past-loop-test = c .before .before .before in
+    let turn = past-loop-test .before in
+    let entry = turn .before .before .before in
+    looking-found (turn .loop .inv) (past-loop-test .loop-test .taken) (entry .pre .1) _ (c .before .before .at .ensures)
+    (member (entry .args .table .now) _ (c .before .before .at .result) _ (c .before .at2 .ensures) (c .if1 .taken))
 
 add-i : tie.Need-add-i Inv-loop μ-loop
 add-i c = omega arith
@@ -32,7 +39,12 @@ loop-less : tie.Need-loop-less Inv-loop μ-loop
 loop-less c = omega arith
 
 loop-again : tie.Need-loop-again Inv-loop μ-loop
-loop-again c = looking-next (c .before .before .before .before .loop .inv) (c .before .before .before .loop-test .taken) (c .before .before .before .before .before .before .before .pre .1) _ (c .before .before .at .ensures) (not-member (c .before .before .before .before .before .before .before .args .table .now) _ (c .before .before .at .result) _ (c .before .at2 .ensures) (c .if1 .left))
+loop-again c =
+    let past-loop-test = c .before .before .before in
+    let turn = past-loop-test .before in
+    let entry = turn .before .before .before in
+    looking-next (turn .loop .inv) (past-loop-test .loop-test .taken) (entry .pre .1) _ (c .before .before .at .ensures)
+    (not-member (entry .args .table .now) _ (c .before .before .at .result) _ (c .before .at2 .ensures) (c .if1 .left))
 
 returns-2 : tie.Need-returns-2 Inv-loop μ-loop
 returns-2 c = looking-done (c .before .loop .inv) (c .loop-test .left)

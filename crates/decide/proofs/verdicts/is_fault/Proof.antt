@@ -17,16 +17,27 @@ returns-2 c = λ R s l e. idle-fault _ _ (c .before .before .if1 .left) _ (c .be
 
 add-command-hit : tie.Need-add-command-hit
 add-command-hit c =
-    omega (arith, practice-place (c .before .before .before .before .before .before .before .args .span) _ (c .before .before .has-practice .ensures) (c .before .if2 .left) (c .before .before .before .before .before .before .before .pre .1 .0), c .before .before .before .before .before .before .before .pre .1 .1, c .before .before .before .before .before .before .before .pre .0 .few-commands)
+    let entry = c .before .before .before .before .before .before .before in
+    omega (
+      arith,
+      practice-place (entry .args .span) _ (c .before .before .has-practice .ensures) (c .before .if2 .left) (entry .pre .1 .0),
+      entry .pre .1 .1,
+      entry .pre .0 .few-commands,
+    )
 
 command-hit-requires : tie.Need-command-hit-requires
 command-hit-requires c κs =
-    let p = practice-place (c .before .before .before .before .before .before .before .args .span) _ (c .before .before .has-practice .ensures) (c .before .if2 .left) (c .before .before .before .before .before .before .before .pre .1 .0) in
-    (c .before .before .before .before .before .before .before .pre .0, (omega (arith, p, c .before .before .before .before .before .before .before .pre .1 .1), c .before .before .before .before .before .before .before .pre .1 .2))
+    let entry = c .before .before .before .before .before .before .before in
+    let p = practice-place (entry .args .span) _ (c .before .before .has-practice .ensures) (c .before .if2 .left) (entry .pre .1 .0) in
+    (entry .pre .0, (omega (arith, p, entry .pre .1 .1), entry .pre .1 .2))
 
 returns-3 : tie.Need-returns-3
 unfolding commandHits
-returns-3 c = λ R s l e. hit-fault _ _ (c .before .before .before .before .if1 .left) _ (c .before .before .before .has-practice .ensures) _ _ s l e (c .before .before .if2 .left) _ (c .command-hit .ensures)
+returns-3 c =
+    let past-has-practice = c .before .before .before in
+    let branch1 = past-has-practice .before in
+    λ R s l e. hit-fault _ _ (branch1 .if1 .left) _ (past-has-practice .has-practice .ensures) _ _ s l e (c .before .before .if2 .left) _
+    (c .command-hit .ensures)
 
 pub is-fault-spec : {M : Type 1} → statement M
 is-fault-spec =

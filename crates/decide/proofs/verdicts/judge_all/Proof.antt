@@ -18,41 +18,67 @@ Inv-loop size rows firsts outcomes ranks commands₀ marks₀ tally₀ s₀ comm
 abbrev μ-loop : tie.MeasureT-loop
 μ-loop size rows firsts outcomes ranks commands₀ marks₀ tally₀ s₀ commands marks tally s = size .n - s
 
+abbrev turn-to-entry : tie.At-loop Inv-loop μ-loop → tie.Start Inv-loop μ-loop
+turn-to-entry c = c .before .before .before .before .before .before
+
 loop-holds : tie.Need-loop-holds Inv-loop μ-loop
 loop-holds c = (omega arith, pass-start)
 
 span-at-requires : tie.Need-span-at-requires Inv-loop μ-loop
-span-at-requires c κs = (c .if1 .taken, rows-long (c .before .before .before .before .before .before .before .before .args .rows .now) _ (sound-facts _ .0 (c .before .before .before .before .before .before .before .before .pre .0) .long .rows))
+span-at-requires c κs =
+    let entry = c .before .before .before .before .before .before .before .before in
+    (c .if1 .taken, rows-long (entry .args .rows .now) _ (sound-facts _ .0 (entry .pre .0) .long .rows))
 
 judge-requires : tie.Need-judge-requires Inv-loop μ-loop
 judge-requires c κs =
-    let e = c .before .before .before .before .before .before .before .before .before .before .before .pre .0 in
-    let v = c .before .before .before .before .before .loop .inv .1 in
-    let l = c .before .before .before .if1 .taken in (
-      sound-ready _ (c .before .before .before .before .before .before .before .before .before .before .before .args .rows .now) (c .before .before .before .before .before .before .before .before .before .before .before .args .firsts .now) (c .before .before .before .before .before .before .before .before .before .before .before .args .outcomes .now) e,
+    let branch1 = c .before .before .before in
+    let turn = branch1 .before .before in
+    let entry = turn-to-entry turn in
+    let e = entry .pre .0 in
+    let v = turn .loop .inv .1 in
+    let l = branch1 .if1 .taken in (
+      sound-ready _ (entry .args .rows .now) (entry .args .firsts .now) (entry .args .outcomes .now) e,
       (
-        record { rows = c .before .before .before .before .before .before .before .before .before .before .before .args .rows .now; sounds = e; inside = l; is = c .before .before .span-at .ensures _ _ },
-        (omega (arith, c .before .before .before .before .before .before .before .before .before .before .before .pre .1), omega (arith, v .took .same, c .before .before .before .before .before .before .before .before .before .before .before .pre .1), omega (arith, v .marked .same, c .before .before .before .before .before .before .before .before .before .before .before .pre .1)),
+        record { rows = entry .args .rows .now; sounds = e; inside = l; is = c .before .before .span-at .ensures _ _ },
+        (omega (arith, entry .pre .1), omega (arith, v .took .same, entry .pre .1), omega (arith, v .marked .same, entry .pre .1)),
       ),
     )
 
 add-requires : tie.Need-add-requires Inv-loop μ-loop
 add-requires c κs =
-    let e = c .before .before .before .before .before .before .before .before .before .before .before .before .before .before .before .before .pre .0 in
-    pass-room (c .before .before .before .before .before .before .before .before .before .before .loop .inv .1) (c .before .before .before .before .judge .ensures (c .before .before .before .before .before .before .before .before .before .before .before .before .before .before .before .before .args .rows .now) e (c .before .before .before .before .before .before .before .span-at .ensures _ _)) (omega (arith, c .before .before .before .before .before .before .before .before .if1 .taken, sound-facts _ .0 e .size .few))
+    let past-judge = c .before .before .before .before in
+    let past-span-at = past-judge .before .before .before in
+    let branch1 = past-span-at .before in
+    let turn = branch1 .before .before in
+    let entry = turn-to-entry turn in
+    let e = entry .pre .0 in
+    pass-room (turn .loop .inv .1) (past-judge .judge .ensures (entry .args .rows .now) e (past-span-at .span-at .ensures _ _))
+    (omega (arith, branch1 .if1 .taken, sound-facts _ .0 e .size .few))
 
 add-s : tie.Need-add-s Inv-loop μ-loop
-add-s c = omega (arith, c .before .before .before .before .before .before .before .before .before .if1 .taken, sound-facts _ .0 (c .before .before .before .before .before .before .before .before .before .before .before .before .before .before .before .before .before .pre .0) .size .few)
+add-s c =
+    let branch1 = c .before .before .before .before .before .before .before .before .before in
+    let entry = branch1 .before .before .before .before .before .before .before .before in
+    omega (arith, branch1 .if1 .taken, sound-facts _ .0 (entry .pre .0) .size .few)
 
 loop-less : tie.Need-loop-less Inv-loop μ-loop
-loop-less c = omega (arith, c .before .before .before .before .before .before .before .before .before .if1 .taken)
+loop-less c =
+    let branch1 = c .before .before .before .before .before .before .before .before .before in
+    omega (arith, branch1 .if1 .taken)
 
 loop-again : tie.Need-loop-again Inv-loop μ-loop
 loop-again c =
-    let h = c .before .before .before .before .before .before .before .before .before .before .before .before .before .before .before .before .before .pre .1 in
-    let l = c .before .before .before .before .before .before .before .before .before .if1 .taken in (
+    let past-judge = c .before .before .before .before .before in
+    let past-span-at = past-judge .before .before .before in
+    let branch1 = past-span-at .before in
+    let turn = branch1 .before .before in
+    let entry = turn-to-entry turn in
+    let h = entry .pre .1 in
+    let l = branch1 .if1 .taken in (
       omega arith,
-      pass-next (c .before .before .before .before .before .before .before .before .before .before .before .loop .inv .1) (c .before .before .before .before .before .judge .ensures (c .before .before .before .before .before .before .before .before .before .before .before .before .before .before .before .before .before .args .rows .now) (c .before .before .before .before .before .before .before .before .before .before .before .before .before .before .before .before .before .pre .0) (c .before .before .before .before .before .before .before .before .span-at .ensures _ _)) (omega arith) (omega arith) _ (c .add .ensures),
+      pass-next (turn .loop .inv .1)
+          (past-judge .judge .ensures (entry .args .rows .now) (entry .pre .0) (past-span-at .span-at .ensures _ _)) (omega arith)
+          (omega arith) _ (c .add .ensures),
     )
 
 same-length : tie.Need-same-length Inv-loop μ-loop

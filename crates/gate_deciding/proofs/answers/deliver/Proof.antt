@@ -5,6 +5,12 @@ use borrow.Author.Needs.{needs}
 use Rattle.gate_deciding.proofs.answers.deliver.Statement.{statement}
 use Rattle.gate_deciding.proofs.answers.deliver.Tie as tie
 
+abbrev past-enum-told-to-entry : tie.After-enum-told → tie.Start
+past-enum-told-to-entry c = c .before .before .before .before .before .before .before .before .before .before .before
+
+abbrev past-room-to-entry : tie.After-room → tie.Start
+past-room-to-entry c = c .before .before .before .before .before .before .before .before .before .before .before .before
+
 enum-known-answer : tie.Need-enum-known-answer
 enum-known-answer c = search needs
 
@@ -22,47 +28,78 @@ number-requires-2 c κs = search needs
 
 returns : tie.Need-returns
 returns c =
-    let a = c .before .before .before .before .before .before .before .before .before .before .before .before .before .before .args in
-    cramped (a .decision) (a .ranked .now) (a .chosen .now) (a .marked .now) (a .clean .now) (a .n) (a .ranks .now) (a .commands .now) (a .marks .now) (a .scratch .now) (a .tally .now)
-    (c .before .before .before .enum-told .given .1) (stopped (c .before .before .room .ensures) (c .before .if1 .taken)) (c .number2 .ensures)
+    let past-enum-told = c .before .before .before in
+    let entry = past-enum-told-to-entry past-enum-told in
+    let a = entry .args in
+    cramped (a .decision) (a .ranked .now) (a .chosen .now) (a .marked .now) (a .clean .now) (a .n) (a .ranks .now) (a .commands .now)
+    (a .marks .now) (a .scratch .now) (a .tally .now)
+    (past-enum-told .enum-told .given .1) (stopped (c .before .before .room .ensures) (c .before .if1 .taken)) (c .number2 .ensures)
 
 store-requires : tie.Need-store-requires
 store-requires c κs =
-    let a = c .before .before .before .before .before .before .before .before .before .before .before .before .before .before .args in (
-      decision-fits (a .decision) (a .ranked .now) (a .chosen .now) (a .marked .now) (a .clean .now) (a .n) (a .ranks .now) (a .commands .now) (a .marks .now) (a .scratch .now) (a .tally .now) (c .before .before .before .enum-told .given .1) (c .before .before .before .before .before .before .before .before .before .before .before .before .before .before .pre) .0,
-      room-facts (a .n) (length (a .ranks .now)) (length (a .commands .now)) (length (a .marks .now)) (length (a .scratch .now)) (length (a .tally .now)) (c .before .before .room .ensures) (c .before .if1 .left) .0,
+    let past-enum-told = c .before .before .before in
+    let entry = past-enum-told-to-entry past-enum-told in
+    let a = entry .args in (
+      decision-fits (a .decision) (a .ranked .now) (a .chosen .now) (a .marked .now) (a .clean .now) (a .n) (a .ranks .now)
+          (a .commands .now) (a .marks .now) (a .scratch .now) (a .tally .now) (past-enum-told .enum-told .given .1) (entry .pre) .0,
+      room-facts (a .n) (length (a .ranks .now)) (length (a .commands .now)) (length (a .marks .now)) (length (a .scratch .now))
+          (length (a .tally .now)) (c .before .before .room .ensures) (c .before .if1 .left) .0,
     )
 
 store-requires-2 : tie.Need-store-requires-2
 store-requires-2 c κs =
-    let a = c .before .before .before .before .before .before .before .before .before .before .before .before .before .before .before .before .before .before .args in (
-      decision-fits (a .decision) (a .ranked .now) (a .chosen .now) (a .marked .now) (a .clean .now) (a .n) (a .ranks .now) (a .commands .now) (a .marks .now) (a .scratch .now) (a .tally .now) (c .before .before .before .before .before .before .before .enum-told .given .1) (c .before .before .before .before .before .before .before .before .before .before .before .before .before .before .before .before .before .before .pre) .1,
-      room-facts (a .n) (length (a .ranks .now)) (length (a .commands .now)) (length (a .marks .now)) (length (a .scratch .now)) (length (a .tally .now)) (c .before .before .before .before .before .before .room .ensures) (c .before .before .before .before .before .if1 .left) .1,
+    let branch1 = c .before .before .before .before .before in
+    let past-room = branch1 .before in
+    let past-enum-told = past-room .before in
+    let entry = past-enum-told-to-entry past-enum-told in
+    let a = entry .args in (
+      decision-fits (a .decision) (a .ranked .now) (a .chosen .now) (a .marked .now) (a .clean .now) (a .n) (a .ranks .now)
+          (a .commands .now) (a .marks .now) (a .scratch .now) (a .tally .now) (past-enum-told .enum-told .given .1) (entry .pre) .1,
+      room-facts (a .n) (length (a .ranks .now)) (length (a .commands .now)) (length (a .marks .now)) (length (a .scratch .now))
+          (length (a .tally .now)) (past-room .room .ensures) (branch1 .if1 .left) .1,
     )
 
 store-requires-3 : tie.Need-store-requires-3
 store-requires-3 c κs =
-    let a = c .before .before .before .before .before .before .before .before .before .before .before .before .before .before .before .before .before .before .before .before .before .before .args in (
-      decision-fits (a .decision) (a .ranked .now) (a .chosen .now) (a .marked .now) (a .clean .now) (a .n) (a .ranks .now) (a .commands .now) (a .marks .now) (a .scratch .now) (a .tally .now) (c .before .before .before .before .before .before .before .before .before .before .before .enum-told .given .1) (c .before .before .before .before .before .before .before .before .before .before .before .before .before .before .before .before .before .before .before .before .before .before .pre) .2,
-      room-facts (a .n) (length (a .ranks .now)) (length (a .commands .now)) (length (a .marks .now)) (length (a .scratch .now)) (length (a .tally .now)) (c .before .before .before .before .before .before .before .before .before .before .room .ensures) (c .before .before .before .before .before .before .before .before .before .if1 .left) .2,
+    let branch1 = c .before .before .before .before .before .before .before .before .before in
+    let past-room = branch1 .before in
+    let past-enum-told = past-room .before in
+    let entry = past-enum-told-to-entry past-enum-told in
+    let a = entry .args in (
+      decision-fits (a .decision) (a .ranked .now) (a .chosen .now) (a .marked .now) (a .clean .now) (a .n) (a .ranks .now)
+          (a .commands .now) (a .marks .now) (a .scratch .now) (a .tally .now) (past-enum-told .enum-told .given .1) (entry .pre) .2,
+      room-facts (a .n) (length (a .ranks .now)) (length (a .commands .now)) (length (a .marks .now)) (length (a .scratch .now))
+          (length (a .tally .now)) (past-room .room .ensures) (branch1 .if1 .left) .2,
     )
 
 store-requires-4 : tie.Need-store-requires-4
 store-requires-4 c κs =
-    let a = c .before .before .before .before .before .before .before .before .before .before .before .before .before .before .before .before .before .before .before .before .before .before .before .before .before .before .args in (
-      decision-fits (a .decision) (a .ranked .now) (a .chosen .now) (a .marked .now) (a .clean .now) (a .n) (a .ranks .now) (a .commands .now) (a .marks .now) (a .scratch .now) (a .tally .now) (c .before .before .before .before .before .before .before .before .before .before .before .before .before .before .before .enum-told .given .1) (c .before .before .before .before .before .before .before .before .before .before .before .before .before .before .before .before .before .before .before .before .before .before .before .before .before .before .pre) .3,
-      room-facts (a .n) (length (a .ranks .now)) (length (a .commands .now)) (length (a .marks .now)) (length (a .scratch .now)) (length (a .tally .now)) (c .before .before .before .before .before .before .before .before .before .before .before .before .before .before .room .ensures) (c .before .before .before .before .before .before .before .before .before .before .before .before .before .if1 .left) .3,
+    let branch1 = c .before .before .before .before .before .before .before .before .before .before .before .before .before in
+    let past-room = branch1 .before in
+    let past-enum-told = past-room .before in
+    let entry = past-enum-told-to-entry past-enum-told in
+    let a = entry .args in (
+      decision-fits (a .decision) (a .ranked .now) (a .chosen .now) (a .marked .now) (a .clean .now) (a .n) (a .ranks .now)
+          (a .commands .now) (a .marks .now) (a .scratch .now) (a .tally .now) (past-enum-told .enum-told .given .1) (entry .pre) .3,
+      room-facts (a .n) (length (a .ranks .now)) (length (a .commands .now)) (length (a .marks .now)) (length (a .scratch .now))
+          (length (a .tally .now)) (past-room .room .ensures) (branch1 .if1 .left) .3,
     )
 
 store-tally-requires : tie.Need-store-tally-requires
 store-tally-requires c κs =
-    let a = c .before .before .before .before .before .before .before .before .before .before .before .before .before .before .before .before .before .before .before .before .before .before .before .before .before .before .before .before .before .before .before .before .args in
-    room-facts (a .n) (length (a .ranks .now)) (length (a .commands .now)) (length (a .marks .now)) (length (a .scratch .now)) (length (a .tally .now)) (c .before .before .before .before .before .before .before .before .before .before .before .before .before .before .before .before .before .before .before .before .room .ensures) (c .before .before .before .before .before .before .before .before .before .before .before .before .before .before .before .before .before .before .before .if1 .left) .4
+    let branch1 = c .before .before .before .before .before .before .before .before .before .before .before .before .before .before .before .before .before .before .before in
+    let past-room = branch1 .before in
+    let entry = past-room-to-entry past-room in
+    let a = entry .args in
+    room-facts (a .n) (length (a .ranks .now)) (length (a .commands .now)) (length (a .marks .now)) (length (a .scratch .now))
+    (length (a .tally .now)) (past-room .room .ensures) (branch1 .if1 .left) .4
 
 returns-2 : tie.Need-returns-2
 returns-2 c =
-    let a = c .before .before .before .before .before .before .before .before .before .before .before .before .before .args in
-    not-decided (a .decision) (a .ranked .now) (a .chosen .now) (a .marked .now) (a .clean .now) (a .n) (a .ranks .now) (a .commands .now) (a .marks .now) (a .scratch .now) (a .tally .now)
+    let entry = c .before .before .before .before .before .before .before .before .before .before .before .before .before in
+    let a = entry .args in
+    not-decided (a .decision) (a .ranked .now) (a .chosen .now) (a .marked .now) (a .clean .now) (a .n) (a .ranks .now) (a .commands .now)
+    (a .marks .now) (a .scratch .now) (a .tally .now)
     _ (c .before .before .answer .given .1) (c .number .ensures)
 
 same-length : tie.Need-same-length
@@ -82,10 +119,20 @@ same-length-5 c = search needs
 
 returns-3 : tie.Need-returns-3
 returns-3 c =
-    let a = c .before .before .before .before .before .before .before .before .before .before .before .before .before .before .before .before .before .before .before .before .before .before .before .before .before .before .before .before .before .before .before .before .before .before .before .args in
-    delivered (a .decision) (a .ranked .now) (a .chosen .now) (a .marked .now) (a .clean .now) (a .n) (a .ranks .now) (a .commands .now) (a .marks .now) (a .scratch .now) (a .tally .now)
-    (c .before .before .before .before .before .before .before .before .before .before .before .before .before .before .before .before .before .before .before .before .before .before .before .before .enum-told .given .1) (passed (c .before .before .before .before .before .before .before .before .before .before .before .before .before .before .before .before .before .before .before .before .before .before .before .room .ensures) (c .before .before .before .before .before .before .before .before .before .before .before .before .before .before .before .before .before .before .before .before .before .before .if1 .left))
-    (c .before .before .before .before .before .before .before .before .before .before .before .before .before .before .before .before .before .before .before .before .store .ensures) (c .before .before .before .before .before .before .before .before .before .before .before .before .before .before .before .before .store2 .ensures) (c .before .before .before .before .before .before .before .before .before .before .before .before .store3 .ensures) (c .before .before .before .before .before .before .before .before .store4 .ensures) (c .before .before .store-tally .ensures)
+    let past-store4 = c .before .before .before .before .before .before .before .before in
+    let past-store3 = past-store4 .before .before .before .before in
+    let past-store2 = past-store3 .before .before .before .before in
+    let past-store = past-store2 .before .before .before .before in
+    let branch1 = past-store .before .before in
+    let past-room = branch1 .before in
+    let past-enum-told = past-room .before in
+    let entry = past-enum-told-to-entry past-enum-told in
+    let a = entry .args in
+    delivered (a .decision) (a .ranked .now) (a .chosen .now) (a .marked .now) (a .clean .now) (a .n) (a .ranks .now) (a .commands .now)
+    (a .marks .now) (a .scratch .now) (a .tally .now)
+    (past-enum-told .enum-told .given .1) (passed (past-room .room .ensures) (branch1 .if1 .left))
+    (past-store .store .ensures) (past-store2 .store2 .ensures) (past-store3 .store3 .ensures) (past-store4 .store4 .ensures)
+    (c .before .before .store-tally .ensures)
 
 pub deliver-spec : {M : Type 1} → statement M
 deliver-spec =

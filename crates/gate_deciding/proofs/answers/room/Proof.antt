@@ -16,7 +16,15 @@ returns-4 : tie.Need-returns-4
 returns-4 c = simp (lt-leb _ _ (c .if4 .taken), and-false)
 
 returns-5 : tie.Need-returns-5
-returns-5 c = rw (le-leb _ _ (c .before .before .before .if1 .left), le-leb _ _ (c .before .before .if2 .left), le-leb _ _ (c .before .if3 .left), le-leb _ _ (c .if4 .left))
+returns-5 c =
+    let branch1 = c .before .before .before in
+    rw (
+      le-leb _ _ (branch1 .if1 .left),
+      le-leb _ _ (c .before .before .if2 .left),
+      le-leb _ _ (c .before .if3 .left),
+      le-leb _ _
+          (c .if4 .left),
+    )
 
 pub room-spec : {M : Type 1} → statement M
 room-spec = tie.close (tie.spec returns returns-2 returns-3 returns-4 returns-5)

@@ -46,9 +46,17 @@ same-length c = search needs
 
 returns : tie.Need-returns
 returns c =
-    let a = c .before .before .before .before .before .before .before .before .before .before .before .before .before .before .before .before .before .before .before .before .before .before .before .before .before .args in
-    tally-stored (a .t1) (a .t2) _ (good-length (eInt w16) 3 (a .t1) _ (c .before .before .before .before .before .before .before .before .before .before .before .before .before .before .before .before .before .before .before .before .before .before .before .before .before .good .0)) (good-length (eInt w16) 3 (a .t2) _ (c .before .before .before .before .before .before .before .before .before .before .before .before .before .before .before .before .before .before .before .before .before .before .before .before .before .good .1 .0)) (c .before .before .before .before .before .before .before .before .before .before .before .before .before .before .before .before .before .before .before .before .before .before .before .before .before .pre)
-    (c .before .before .before .before .before .before .before .before .before .before .before .before .before .before .before .before .before .before .before .before .before .before .store-entry .ensures) (c .before .before .before .before .before .before .before .before .before .before .before .before .before .before .before .before .before .before .store-entry2 .ensures) (c .before .before .before .before .before .before .before .before .before .before .before .before .before .before .store-entry3 .ensures) (c .before .before .before .before .before .before .before .before .before .before .store-entry4 .ensures) (c .before .before .before .before .before .before .store-entry5 .ensures) (c .before .before .store-entry6 .ensures)
+    let past-store-entry5 = c .before .before .before .before .before .before in
+    let past-store-entry4 = past-store-entry5 .before .before .before .before in
+    let past-store-entry3 = past-store-entry4 .before .before .before .before in
+    let past-store-entry2 = past-store-entry3 .before .before .before .before in
+    let past-store-entry = past-store-entry2 .before .before .before .before in
+    let entry = past-store-entry .before .before .before in
+    let a = entry .args in
+    tally-stored (a .t1) (a .t2) _ (good-length (eInt w16) 3 (a .t1) _ (entry .good .0))
+    (good-length (eInt w16) 3 (a .t2) _ (entry .good .1 .0)) (entry .pre)
+    (past-store-entry .store-entry .ensures) (past-store-entry2 .store-entry2 .ensures) (past-store-entry3 .store-entry3 .ensures)
+    (past-store-entry4 .store-entry4 .ensures) (past-store-entry5 .store-entry5 .ensures) (c .before .before .store-entry6 .ensures)
 
 pub store-tally-spec : {M : Type 1} → statement M
 store-tally-spec =

@@ -19,11 +19,15 @@ room-requires c κs = search needs
 
 returns-2 : tie.Need-returns-2
 unfolding need _>>=_ _>>_
-returns-2 c = rw (c .before .before .before .plan .given .1, stopped (c .before .room .ensures) (c .if1 .taken))
+returns-2 c =
+    let past-plan = c .before .before .before in
+    rw (past-plan .plan .given .1, stopped (c .before .room .ensures) (c .if1 .taken))
 
 returns-3 : tie.Need-returns-3
 unfolding need _>>=_ _>>_
-returns-3 c = rw (c .before .before .before .plan .given .1, passed (c .before .room .ensures) (c .if1 .left))
+returns-3 c =
+    let past-plan = c .before .before .before in
+    rw (past-plan .plan .given .1, passed (c .before .room .ensures) (c .if1 .left))
 
 pub admit-spec : {M : Type 1} → statement M
 admit-spec =

@@ -13,7 +13,9 @@ returns-3 : tie.Need-returns-3
 returns-3 c = simp (lt-leb _ _ (c .if3 .taken), and-false)
 
 returns-4 : tie.Need-returns-4
-returns-4 c = rw (le-leb _ _ (c .before .before .before .before .if1 .left), le-leb _ _ (c .before .before .if2 .left), le-leb _ _ (c .if3 .left))
+returns-4 c =
+    let branch1 = c .before .before .before .before in
+    rw (le-leb _ _ (branch1 .if1 .left), le-leb _ _ (c .before .before .if2 .left), le-leb _ _ (c .if3 .left))
 
 pub room-spec : {M : Type 1} → statement M
 room-spec = tie.close (tie.spec returns returns-2 returns-3 returns-4)

@@ -5,6 +5,9 @@ use borrow.Author.Needs.{needs}
 use Rattle.gate_searching.proofs.answers.deliver.Statement.{statement}
 use Rattle.gate_searching.proofs.answers.deliver.Tie as tie
 
+abbrev past-found2-to-entry : tie.After-found2 → tie.Start
+past-found2-to-entry c = c .before .before .before .before .before .before .before
+
 enum-known-found : tie.Need-enum-known-found
 enum-known-found c = search needs
 
@@ -22,34 +25,50 @@ number-requires-2 c κs = search needs
 
 returns : tie.Need-returns
 returns c =
-    let e = cramped _ _ _ _ _ _ (c .before .before .before .before .found2 .given .1) (stopped (c .before .before .room .ensures) (c .before .if1 .taken)) in
+    let past-found2 = c .before .before .before .before in
+    let e = cramped _ _ _ _ _ _ (past-found2 .found2 .given .1) (stopped (c .before .before .room .ensures) (c .before .if1 .taken)) in
     refused-after _ _ _ _ _ _ _ e (c .number2 .ensures)
 
 store-requires : tie.Need-store-requires
 store-requires c κs =
-    let a = c .before .before .before .before .before .before .before .before .before .before .before .args in (
-      found-fits (a .found) (a .n) 0 0 0 _ (c .before .before .before .before .found2 .given .1) (c .before .before .before .before .before .before .before .before .before .before .before .pre) .0,
-      room-facts (a .n) (length (a .commands .now)) (length (a .scratch .now)) (length (a .answer .now)) (c .before .before .room .ensures) (c .before .if1 .left) .0,
+    let past-found2 = c .before .before .before .before in
+    let entry = past-found2-to-entry past-found2 in
+    let a = entry .args in (
+      found-fits (a .found) (a .n) 0 0 0 _ (past-found2 .found2 .given .1) (entry .pre) .0,
+      room-facts (a .n) (length (a .commands .now)) (length (a .scratch .now)) (length (a .answer .now)) (c .before .before .room .ensures)
+          (c .before .if1 .left) .0,
     )
 
 store-requires-2 : tie.Need-store-requires-2
 store-requires-2 c κs =
-    let a = c .before .before .before .before .before .before .before .before .before .before .before .before .before .before .before .args in (
-      found-fits (a .found) (a .n) 0 0 0 _ (c .before .before .before .before .before .before .before .before .found2 .given .1) (c .before .before .before .before .before .before .before .before .before .before .before .before .before .before .before .pre) .1,
-      room-facts (a .n) (length (a .commands .now)) (length (a .scratch .now)) (length (a .answer .now)) (c .before .before .before .before .before .before .room .ensures) (c .before .before .before .before .before .if1 .left) .1,
+    let branch1 = c .before .before .before .before .before in
+    let past-room = branch1 .before in
+    let past-found2 = past-room .before .before in
+    let entry = past-found2-to-entry past-found2 in
+    let a = entry .args in (
+      found-fits (a .found) (a .n) 0 0 0 _ (past-found2 .found2 .given .1) (entry .pre) .1,
+      room-facts (a .n) (length (a .commands .now)) (length (a .scratch .now)) (length (a .answer .now)) (past-room .room .ensures)
+          (branch1 .if1 .left) .1,
     )
 
 store-found-requires : tie.Need-store-found-requires
 store-found-requires c κs =
-    let a = c .before .before .before .before .before .before .before .before .before .before .before .before .before .before .before .before .before .before .before .args in (
-      found-fits (a .found) (a .n) 0 0 0 _ (c .before .before .before .before .before .before .before .before .before .before .before .before .found2 .given .1) (c .before .before .before .before .before .before .before .before .before .before .before .before .before .before .before .before .before .before .before .pre) .2,
-      room-facts (a .n) (length (a .commands .now)) (length (a .scratch .now)) (length (a .answer .now)) (c .before .before .before .before .before .before .before .before .before .before .room .ensures) (c .before .before .before .before .before .before .before .before .before .if1 .left) .2,
+    let branch1 = c .before .before .before .before .before .before .before .before .before in
+    let past-room = branch1 .before in
+    let past-found2 = past-room .before .before in
+    let entry = past-found2-to-entry past-found2 in
+    let a = entry .args in (
+      found-fits (a .found) (a .n) 0 0 0 _ (past-found2 .found2 .given .1) (entry .pre) .2,
+      room-facts (a .n) (length (a .commands .now)) (length (a .scratch .now)) (length (a .answer .now)) (past-room .room .ensures)
+          (branch1 .if1 .left) .2,
     )
 
 returns-2 : tie.Need-returns-2
 returns-2 c =
-    let a = c .before .before .before .before .before .before .before .before .before .args in
-    let e = not-found (a .found) (a .n) (length (a .commands .now)) (length (a .scratch .now)) (length (a .answer .now)) _ (c .before .before .found .given .1) in
+    let entry = c .before .before .before .before .before .before .before .before .before in
+    let a = entry .args in
+    let e = not-found (a .found) (a .n) (length (a .commands .now)) (length (a .scratch .now)) (length (a .answer .now)) _
+    (c .before .before .found .given .1) in
     refused-after _ _ _ _ _ _ _ e (c .number .ensures)
 
 same-length : tie.Need-same-length
@@ -63,8 +82,13 @@ same-length-3 c = search needs
 
 returns-3 : tie.Need-returns-3
 returns-3 c =
-    let e = fits _ _ _ _ _ _ (c .before .before .before .before .before .before .before .before .before .before .before .before .before .before .before .found2 .given .1) (passed (c .before .before .before .before .before .before .before .before .before .before .before .before .before .room .ensures) (c .before .before .before .before .before .before .before .before .before .before .before .before .if1 .left)) in
-    given-after _ _ _ _ _ _ _ e (c .before .before .before .before .before .before .before .before .before .before .store .ensures) (c .before .before .before .before .before .before .store2 .ensures) (c .before .before .store-found .ensures)
+    let past-store2 = c .before .before .before .before .before .before in
+    let past-store = past-store2 .before .before .before .before in
+    let branch1 = past-store .before .before in
+    let past-room = branch1 .before in
+    let past-found2 = past-room .before .before in
+    let e = fits _ _ _ _ _ _ (past-found2 .found2 .given .1) (passed (past-room .room .ensures) (branch1 .if1 .left)) in
+    given-after _ _ _ _ _ _ _ e (past-store .store .ensures) (past-store2 .store2 .ensures) (c .before .before .store-found .ensures)
 
 pub deliver-spec : {M : Type 1} → statement M
 deliver-spec =

@@ -20,8 +20,13 @@ same-length c = search needs
 
 returns : tie.Need-returns
 returns c =
-    let f = c .before .before .before .before .before .before .before .before .before .before .before .args .found in
-    found-stored (f .lost, f .rounds) _ (c .before .before .before .before .before .before .before .before .before .before .before .pre .1) (rw (c .before .before .before .before .before .before .before .before .flag .ensures) at (c .before .before .before .before .before .before .before .store-entry .ensures)) (rw (c .before .before .before .narrow .ensures) at (c .before .before .store-entry2 .ensures))
+    let past-narrow = c .before .before .before in
+    let past-store-entry = past-narrow .before .before .before .before in
+    let past-flag = past-store-entry .before in
+    let entry = past-flag .before .before .before in
+    let f = entry .args .found in
+    found-stored (f .lost, f .rounds) _ (entry .pre .1) (rw (past-flag .flag .ensures) at (past-store-entry .store-entry .ensures))
+    (rw (past-narrow .narrow .ensures) at (c .before .before .store-entry2 .ensures))
 
 pub store-found-spec : {M : Type 1} → statement M
 store-found-spec =

@@ -8,30 +8,43 @@ use Rattle.listing.proofs.plan.list_plan.Proof.Tie as tie
 
 put-plan-line-requires : tie.Need-put-plan-line-requires
 put-plan-line-requires c κs =
-    let a = c .before .before .before .before .args in
-    let small = numbers-small (held (a .size) (a .rows .now) (a .firsts .now) (a .outcomes .now)) (c .before .before .before .before .pre .0) in
-    (omega (arith, c .before .before .before .before .pre .1), small .0, small .1, small .2)
+    let entry = c .before .before .before .before in
+    let a = entry .args in
+    let small = numbers-small (held (a .size) (a .rows .now) (a .firsts .now) (a .outcomes .now)) (entry .pre .0) in
+    (omega (arith, entry .pre .1), small .0, small .1, small .2)
 
 list-verdicts-requires : tie.Need-list-verdicts-requires
 list-verdicts-requires c κs =
-    let a = c .before .before .before .before .before .before .before .before .args in
+    let past-put-plan-line = c .before .before .before in
+    let entry = past-put-plan-line .before .before .before .before .before in
+    let a = entry .args in
     let T = held (a .size) (a .rows .now) (a .firsts .now) (a .outcomes .now) in
-    (c .before .before .before .before .before .before .before .before .pre .0, verdicts-room T (c .before .before .before .before .before .before .before .before .pre .0) (c .before .before .before .before .before .before .before .before .pre .1) (c .before .before .before .put-plan-line .ensures .0))
+    (entry .pre .0, verdicts-room T (entry .pre .0) (entry .pre .1) (past-put-plan-line .put-plan-line .ensures .0))
 
 list-start-requires : tie.Need-list-start-requires
 list-start-requires c κs =
-    let a = c .before .before .before .before .before .before .before .before .before .before .before .before .args in
-    let T = held (a .size) (a .rows .now) (a .firsts .now) (a .outcomes .now) in
-    (c .before .before .before .before .before .before .before .before .before .before .before .before .pre .0, start-room T (c .before .before .before .before .before .before .before .before .before .before .before .before .pre .0) (c .before .before .before .before .before .before .before .before .before .before .before .before .pre .1) (c .before .before .before .before .before .before .before .put-plan-line .ensures .0) (c .before .before .before .list-verdicts .ensures))
+    let past-list-verdicts = c .before .before .before in
+    let past-put-plan-line = past-list-verdicts .before .before .before .before in
+    let entry = past-put-plan-line .before .before .before .before .before in
+    let a = entry .args in
+    let T = held (a .size) (a .rows .now) (a .firsts .now) (a .outcomes .now) in (
+      entry .pre .0,
+      start-room T (entry .pre .0) (entry .pre .1) (past-put-plan-line .put-plan-line .ensures .0)
+          (past-list-verdicts .list-verdicts .ensures),
+    )
 
 same-length : tie.Need-same-length
 same-length c = search needs
 
 returns : tie.Need-returns
 returns c =
-    let a = c .before .before .before .before .before .before .before .before .before .before .before .before .before .before .before .args in
+    let past-list-verdicts = c .before .before .before .before .before .before in
+    let past-put-plan-line = past-list-verdicts .before .before .before .before in
+    let entry = past-put-plan-line .before .before .before .before .before in
+    let a = entry .args in
     let T = held (a .size) (a .rows .now) (a .firsts .now) (a .outcomes .now) in
-    plan-wrote T (c .before .before .before .before .before .before .before .before .before .before .before .before .before .before .before .pre .0) (c .before .before .before .before .before .before .before .before .before .before .before .before .before .before .before .pre .1) (c .before .before .before .before .before .before .before .before .before .before .put-plan-line .ensures .0) (c .before .before .before .before .before .before .list-verdicts .ensures) (c .before .before .list-start .ensures)
+    plan-wrote T (entry .pre .0) (entry .pre .1) (past-put-plan-line .put-plan-line .ensures .0)
+    (past-list-verdicts .list-verdicts .ensures) (c .before .before .list-start .ensures)
 
 pub list-plan-spec : {M : Type 1} → statement M
 list-plan-spec = tie.close (tie.spec put-plan-line-requires list-verdicts-requires list-start-requires same-length returns)

@@ -10,6 +10,9 @@ use Rattle.listing.proofs.Found.{start-small, found-answer, few-rounds}
 use Rattle.listing.proofs.start.list_start.Statement.{statement}
 use Rattle.listing.proofs.start.list_start.Proof.Tie as tie
 
+abbrev past-search-to-entry : tie.After-search → tie.Start
+past-search-to-entry c = c .before .before .before .before .before .before
+
 slice-aggregate-search : tie.Need-slice-aggregate-search
 slice-aggregate-search c = search needs
 
@@ -21,19 +24,30 @@ search-requires c κs = search needs
 
 put-answer-requires : tie.Need-put-answer-requires
 put-answer-requires c κs =
-    let a = c .before .before .before .before .before .before .before .before .before .args in
-    let sounds = c .before .before .before .before .before .before .before .before .before .pre .0 in
-    let T = held (a .size) (a .rows .now) (a .firsts .now) (a .outcomes .now) in
-    (c .before .before .before .before .before .before .before .before .before .pre .1, start-small T sounds, few-rounds T sounds (c .before .before .before .search .result) (ap (λ (x : AfterSearch). x .answers) (c .before .before .before .search .ensures .0)) (omega arith, omega arith))
+    let past-search = c .before .before .before in
+    let entry = past-search-to-entry past-search in
+    let a = entry .args in
+    let sounds = entry .pre .0 in
+    let T = held (a .size) (a .rows .now) (a .firsts .now) (a .outcomes .now) in (
+      entry .pre .1,
+      start-small T sounds,
+      few-rounds T sounds (past-search .search .result)
+          (ap (λ (x : AfterSearch). x .answers) (past-search .search .ensures .0)) (omega arith, omega arith),
+    )
 
 same-length : tie.Need-same-length
 same-length c = search needs
 
 returns : tie.Need-returns
 returns c =
-    let a = c .before .before .before .before .before .before .before .before .before .before .before .before .args in
+    let past-search = c .before .before .before .before .before .before in
+    let entry = past-search-to-entry past-search in
+    let a = entry .args in
     let T = held (a .size) (a .rows .now) (a .firsts .now) (a .outcomes .now) in
-    c .before .before .put-answer .ensures (Model.search (planIn T) (a .size .start)) (found-answer T (c .before .before .before .before .before .before .before .before .before .before .before .before .pre .0) (c .before .before .before .before .before .before .search .result) (ap (λ (x : AfterSearch). x .answers) (c .before .before .before .before .before .before .search .ensures .0)) (omega arith, omega arith))
+    c .before .before .put-answer .ensures (Model.search (planIn T) (a .size .start))
+    (found-answer T (entry .pre .0) (past-search .search .result)
+    (ap (λ (x : AfterSearch). x .answers) (past-search .search .ensures .0)) (omega arith, omega arith))
 
 pub list-start-spec : {M : Type 1} → statement M
-list-start-spec = tie.close (tie.spec slice-aggregate-search slice-aggregate-search-2 search-requires put-answer-requires same-length returns)
+list-start-spec = tie.close
+    (tie.spec slice-aggregate-search slice-aggregate-search-2 search-requires put-answer-requires same-length returns)

@@ -15,7 +15,8 @@ same-length c = search needs
 
 returns : tie.Need-returns
 returns c =
-    let first = c .before .before .before .before .before .before .put-one .ensures in
+    let past-put-one = c .before .before .before .before .before .before in
+    let first = past-put-one .put-one .ensures in
     let second = c .before .before .put-one2 .ensures in
     wrote-then first second
 

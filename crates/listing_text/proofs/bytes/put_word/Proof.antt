@@ -23,7 +23,9 @@ shared-slice-read-put-one : tie.Need-shared-slice-read-put-one Inv-loop μ-loop
 shared-slice-read-put-one c = search needs
 
 put-one-requires : tie.Need-put-one-requires Inv-loop μ-loop
-put-one-requires c κs = omega (arith, turn-room bytes-spread (c .before .before .before .loop .inv) (c .before .before .loop-test .taken))
+put-one-requires c κs =
+    let turn = c .before .before .before in
+    omega (arith, turn-room bytes-spread (turn .loop .inv) (c .before .before .loop-test .taken))
 
 add-i : tie.Need-add-i Inv-loop μ-loop
 add-i c = search needs
@@ -32,7 +34,10 @@ loop-less : tie.Need-loop-less Inv-loop μ-loop
 loop-less c = search needs
 
 loop-again : tie.Need-loop-again Inv-loop μ-loop
-loop-again c = turn-next bytes-spread (c .before .before .before .before .before .before .loop .inv) (c .before .before .before .before .before .loop-test .taken) (c .before .before .put-one .ensures)
+loop-again c =
+    let past-loop-test = c .before .before .before .before .before in
+    let turn = past-loop-test .before in
+    turn-next bytes-spread (turn .loop .inv) (past-loop-test .loop-test .taken) (c .before .before .put-one .ensures)
 
 same-length : tie.Need-same-length Inv-loop μ-loop
 same-length c = c .before .loop .inv .same

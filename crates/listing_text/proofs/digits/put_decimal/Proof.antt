@@ -14,7 +14,9 @@ same-length : tie.Need-same-length
 same-length c = search needs
 
 returns : tie.Need-returns
-returns c = let short = c .before .before .put-short .ensures in (rw (decimal-one _ (c .before .before .before .before .if1 .taken)) (short .0), omega arith)
+returns c =
+    let branch1 = c .before .before .before .before in
+    let short = c .before .before .put-short .ensures in (rw (decimal-one _ (branch1 .if1 .taken)) (short .0), omega arith)
 
 put-short-requires-2 : tie.Need-put-short-requires-2
 put-short-requires-2 c κs = search needs
@@ -27,9 +29,12 @@ same-length-2 c = search needs
 
 returns-2 : tie.Need-returns-2
 returns-2 c =
-    let high = c .before .before .before .before .before .before .put-short2 .ensures in
+    let past-put-short2 = c .before .before .before .before .before .before in
+    let branch2 = past-put-short2 .before .before in
+    let branch1 = branch2 .before in
+    let high = past-put-short2 .put-short2 .ensures in
     let low = c .before .before .put-pair .ensures in
-    (rw (decimal-two _ (c .before .before .before .before .before .before .before .before .before .if1 .left) (c .before .before .before .before .before .before .before .before .if2 .taken)) (wrote-then (high .0) (low .0)), omega arith)
+    (rw (decimal-two _ (branch1 .if1 .left) (branch2 .if2 .taken)) (wrote-then (high .0) (low .0)), omega arith)
 
 put-short-requires-3 : tie.Need-put-short-requires-3
 put-short-requires-3 c κs = search needs
@@ -45,10 +50,13 @@ same-length-3 c = search needs
 
 returns-3 : tie.Need-returns-3
 returns-3 c =
-    let high = c .before .before .before .before .before .before .before .before .before .before .put-short3 .ensures in
-    let middle = c .before .before .before .before .before .before .put-pair2 .ensures in
+    let past-put-pair2 = c .before .before .before .before .before .before in
+    let past-put-short3 = past-put-pair2 .before .before .before .before in
+    let branch2 = past-put-short3 .before .before in
+    let high = past-put-short3 .put-short3 .ensures in
+    let middle = past-put-pair2 .put-pair2 .ensures in
     let low = c .before .before .put-pair3 .ensures in
-    (rw (decimal-three _ (c .before .before .before .before .before .before .before .before .before .before .before .before .if2 .left)) (wrote-then (high .0) (wrote-then (middle .0) (low .0))), omega arith)
+    (rw (decimal-three _ (branch2 .if2 .left)) (wrote-then (high .0) (wrote-then (middle .0) (low .0))), omega arith)
 
 pub put-decimal-spec : {M : Type 1} → statement M
 put-decimal-spec =

@@ -20,7 +20,9 @@ same-length : tie.Need-same-length
 same-length c = search needs
 
 returns : tie.Need-returns
-returns c = rw (c .before .before .before .pair-byte .ensures, second-digit) at (c .before .before .put-one .ensures)
+returns c =
+    let past-pair-byte = c .before .before .before in
+    rw (past-pair-byte .pair-byte .ensures, second-digit) at (c .before .before .put-one .ensures)
 
 pub put-digit-spec : {M : Type 1} → statement M
 put-digit-spec =

@@ -28,8 +28,11 @@ same-length c = search needs
 
 returns : tie.Need-returns
 returns c =
+    let past-pair-byte2 = c .before .before .before in
+    let past-pair-byte = past-pair-byte2 .before in
+    let entry = past-pair-byte .before .before .before in
     let pair = c .before .before .put-both .ensures in
-    (rw (c .before .before .before .before .pair-byte .ensures, c .before .before .before .pair-byte2 .ensures, both-digits _ (c .before .before .before .before .before .before .before .pre .1)) at pair, omega arith)
+    (rw (past-pair-byte .pair-byte .ensures, past-pair-byte2 .pair-byte2 .ensures, both-digits _ (entry .pre .1)) at pair, omega arith)
 
 pub put-pair-spec : {M : Type 1} → statement M
 put-pair-spec =

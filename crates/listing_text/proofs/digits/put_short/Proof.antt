@@ -12,7 +12,9 @@ same-length : tie.Need-same-length
 same-length c = search needs
 
 returns : tie.Need-returns
-returns c = let digit = c .before .before .put-digit .ensures in (rw (digits-one 0 (c .before .before .before .before .before .before .args .x) (omega arith)) digit, omega arith)
+returns c =
+    let entry = c .before .before .before .before .before .before in
+    let digit = c .before .before .put-digit .ensures in (rw (digits-one 0 (entry .args .x) (omega arith)) digit, omega arith)
 
 put-pair-requires : tie.Need-put-pair-requires
 put-pair-requires c κs = search needs
@@ -21,7 +23,9 @@ same-length-2 : tie.Need-same-length-2
 same-length-2 c = search needs
 
 returns-2 : tie.Need-returns-2
-returns-2 c = let pair = c .before .before .put-pair .ensures in (rw (digits-two 0 (c .before .before .before .before .before .before .args .x) (omega arith) (omega arith)) (pair .0), pair .1)
+returns-2 c =
+    let entry = c .before .before .before .before .before .before in
+    let pair = c .before .before .put-pair .ensures in (rw (digits-two 0 (entry .args .x) (omega arith) (omega arith)) (pair .0), pair .1)
 
 pub put-short-spec : {M : Type 1} → statement M
 put-short-spec =

@@ -25,8 +25,10 @@ same-length c = search needs
 returns : tie.Need-returns
 unfolding planLine
 returns c =
-    let word = c .before .before .before .before .before .before .before .before .before .before .put-word .ensures in
-    let numbers = c .before .before .before .before .before .before .put-three .ensures in
+    let past-put-three = c .before .before .before .before .before .before in
+    let past-put-word = past-put-three .before .before .before .before in
+    let word = past-put-word .put-word .ensures in
+    let numbers = past-put-three .put-three .ensures in
     let end = c .before .before .put-one .ensures in
     (line-wrote (_ ∷ _ ∷ _ ∷ []) word (numbers .0) end, omega arith)
 

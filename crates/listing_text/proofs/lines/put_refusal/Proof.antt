@@ -22,7 +22,9 @@ cast-put-number : tie.Need-cast-put-number
 cast-put-number c = search needs
 
 put-number-requires : tie.Need-put-number-requires
-put-number-requires c κs = (search needs, rw (c .number .ensures) (number-small (refusalOf (c .before .before .before .before .before .before .before .before .args .refusal))))
+put-number-requires c κs =
+    let entry = c .before .before .before .before .before .before .before .before in
+    (search needs, rw (c .number .ensures) (number-small (refusalOf (entry .args .refusal))))
 
 put-one-requires : tie.Need-put-one-requires
 put-one-requires c κs = search needs
@@ -33,10 +35,13 @@ same-length c = search needs
 returns : tie.Need-returns
 unfolding refusalText
 returns c =
-    let word = c .before .before .before .before .before .before .before .before .before .before .before .put-word .ensures in
-    let number = c .before .before .before .before .before .before .put-number .ensures in
+    let past-put-number = c .before .before .before .before .before .before in
+    let past-number = past-put-number .before in
+    let past-put-word = past-number .before .before .before .before in
+    let word = past-put-word .put-word .ensures in
+    let number = past-put-number .put-number .ensures in
     let end = c .before .before .put-one .ensures in
-    (rw (← c .before .before .before .before .before .before .before .number .ensures) (line-wrote (_ ∷ []) word (number .0) end), omega arith)
+    (rw (← past-number .number .ensures) (line-wrote (_ ∷ []) word (number .0) end), omega arith)
 
 pub put-refusal-spec : {M : Type 1} → statement M
 put-refusal-spec =

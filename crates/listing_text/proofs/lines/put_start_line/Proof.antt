@@ -34,15 +34,21 @@ same-length c = search needs
 returns : tie.Need-returns
 unfolding startLine
 returns c =
-    let word = c .before .before .before .before .before .before .before .before .before .before .before .before .before .before .before .before .before .before .before .put-word .ensures in
-    let start = c .before .before .before .before .before .before .before .before .before .before .before .before .before .before .before .put-number .ensures in
-    let verdict = c .before .before .before .before .before .before .before .before .before .before .put-letter .ensures in
-    let rounds = c .before .before .before .before .before .before .put-number2 .ensures in
+    let past-put-number2 = c .before .before .before .before .before .before in
+    let past-put-letter = past-put-number2 .before .before .before .before in
+    let past-verdict-letter = past-put-letter .before in
+    let past-put-number = past-verdict-letter .before .before .before .before in
+    let past-put-word = past-put-number .before .before .before .before in
+    let word = past-put-word .put-word .ensures in
+    let start = past-put-number .put-number .ensures in
+    let verdict = past-put-letter .put-letter .ensures in
+    let rounds = past-put-number2 .put-number2 .ensures in
     let end = c .before .before .put-one .ensures in (
       λ R is-lost is-rounds.
           rw (is-lost, is-rounds)
           (line-wrote (_ ∷ _ ∷ _ ∷ []) word
-          (words-wrote (_ ∷ []) (_ ∷ _ ∷ []) (start .0) (words-wrote (_ ∷ []) (_ ∷ []) (rw (c .before .before .before .before .before .before .before .before .before .before .before .verdict-letter .ensures) at (verdict .0)) (rounds .0))) end),
+          (words-wrote (_ ∷ []) (_ ∷ _ ∷ []) (start .0)
+          (words-wrote (_ ∷ []) (_ ∷ []) (rw (past-verdict-letter .verdict-letter .ensures) at (verdict .0)) (rounds .0))) end),
       omega arith,
     )
 

@@ -31,13 +31,21 @@ same-length c = search needs
 
 returns : tie.Need-returns
 returns c =
-    let number = c .before .before .before .before .before .before .before .before .before .before .before .before .before .before .before .before .before .before .before .before .before .before .before .put-decimal .ensures in
-    let kind = c .before .before .before .before .before .before .before .before .before .before .before .before .before .before .before .before .before .before .put-letter .ensures in
-    let verdict = c .before .before .before .before .before .before .before .before .before .before .before .before .before .before .put-verdict .ensures in
-    let command = c .before .before .before .before .before .before .before .before .before .before .put-entry .ensures in
-    let marks = c .before .before .before .before .before .before .put-marks .ensures in
-    let end = c .before .before .put-one .ensures in
-    (λ P tells. state-wrote tells (c .before .before .before .before .before .before .before .before .before .before .before .before .before .before .before .before .before .before .before .kind-letter .ensures) (number .0) (kind .0) (verdict .0) (command .0) (marks .0) end, omega arith)
+    let past-put-marks = c .before .before .before .before .before .before in
+    let past-put-entry = past-put-marks .before .before .before .before in
+    let past-put-verdict = past-put-entry .before .before .before .before in
+    let past-put-letter = past-put-verdict .before .before .before .before in
+    let past-kind-letter = past-put-letter .before in
+    let past-put-decimal = past-kind-letter .before .before .before .before in
+    let number = past-put-decimal .put-decimal .ensures in
+    let kind = past-put-letter .put-letter .ensures in
+    let verdict = past-put-verdict .put-verdict .ensures in
+    let command = past-put-entry .put-entry .ensures in
+    let marks = past-put-marks .put-marks .ensures in
+    let end = c .before .before .put-one .ensures in (
+      λ P tells. state-wrote tells (past-kind-letter .kind-letter .ensures) (number .0) (kind .0) (verdict .0) (command .0) (marks .0) end,
+      omega arith,
+    )
 
 pub put-state-line-spec : {M : Type 1} → statement M
 put-state-line-spec =

@@ -31,10 +31,14 @@ same-length c = search needs
 returns : tie.Need-returns
 unfolding tallyLine
 returns c =
-    let word = c .before .before .before .before .before .before .before .before .before .before .before .before .before .before .before .before .before .before .put-word .ensures in
-    let safe = c .before .before .before .before .before .before .before .before .before .before .before .before .before .before .put-row .ensures in
-    let slash = c .before .before .before .before .before .before .before .before .before .before .put-letter .ensures in
-    let lost = c .before .before .before .before .before .before .put-row2 .ensures in
+    let past-put-row2 = c .before .before .before .before .before .before in
+    let past-put-letter = past-put-row2 .before .before .before .before in
+    let past-put-row = past-put-letter .before .before .before .before in
+    let past-put-word = past-put-row .before .before .before .before in
+    let word = past-put-word .put-word .ensures in
+    let safe = past-put-row .put-row .ensures in
+    let slash = past-put-letter .put-letter .ensures in
+    let lost = past-put-row2 .put-row2 .ensures in
     let end = c .before .before .put-one .ensures in (
       line-wrote (_ ∷ _ ∷ _ ∷ _ ∷ _ ∷ _ ∷ _ ∷ []) word
           (words-wrote (_ ∷ _ ∷ _ ∷ []) (_ ∷ _ ∷ _ ∷ _ ∷ []) (safe .0) (words-wrote (_ ∷ []) (_ ∷ _ ∷ _ ∷ []) (slash .0) (lost .0))) end,

@@ -12,7 +12,9 @@ same-length : tie.Need-same-length
 same-length c = search needs
 
 returns : tie.Need-returns
-returns c = let dash = c .before .before .put-letter .ensures in (rw (dash-word _ (c .before .before .before .before .if1 .taken)) (dash .0), omega arith)
+returns c =
+    let branch1 = c .before .before .before .before in
+    let dash = c .before .before .put-letter .ensures in (rw (dash-word _ (branch1 .if1 .taken)) (dash .0), omega arith)
 
 put-number-requires : tie.Need-put-number-requires
 put-number-requires c κs = search needs
@@ -21,7 +23,9 @@ same-length-2 : tie.Need-same-length-2
 same-length-2 c = search needs
 
 returns-2 : tie.Need-returns-2
-returns-2 c = let number = c .before .before .put-number .ensures in (rw (number-word _ (c .before .before .before .before .if1 .left)) (number .0), number .1)
+returns-2 c =
+    let branch1 = c .before .before .before .before in
+    let number = c .before .before .put-number .ensures in (rw (number-word _ (branch1 .if1 .left)) (number .0), number .1)
 
 pub put-entry-spec : {M : Type 1} → statement M
 put-entry-spec =

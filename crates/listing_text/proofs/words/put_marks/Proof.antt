@@ -23,9 +23,15 @@ same-length c = search needs
 
 returns : tie.Need-returns
 returns c =
-    let practice = c .before .before .before .before .before .before .before .put-letter .ensures in
-    let sign = c .before .before .put-letter2 .ensures in
-    (words-wrote (_ ∷ []) (_ ∷ []) (rw (c .before .before .before .before .before .before .before .before .practice-letter .ensures) at (practice .0)) (rw (c .before .before .before .fault-sign .ensures) at (sign .0)), omega arith)
+    let past-fault-sign = c .before .before .before in
+    let past-put-letter = past-fault-sign .before .before .before .before in
+    let past-practice-letter = past-put-letter .before in
+    let practice = past-put-letter .put-letter .ensures in
+    let sign = c .before .before .put-letter2 .ensures in (
+      words-wrote (_ ∷ []) (_ ∷ []) (rw (past-practice-letter .practice-letter .ensures) at (practice .0))
+          (rw (past-fault-sign .fault-sign .ensures) at (sign .0)),
+      omega arith,
+    )
 
 pub put-marks-spec : {M : Type 1} → statement M
 put-marks-spec =

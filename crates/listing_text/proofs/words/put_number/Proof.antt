@@ -17,7 +17,8 @@ same-length c = search needs
 
 returns : tie.Need-returns
 returns c =
-    let space = c .before .before .before .before .before .before .put-one .ensures in
+    let past-put-one = c .before .before .before .before .before .before in
+    let space = past-put-one .put-one .ensures in
     let number = c .before .before .put-decimal .ensures in
     (word-wrote (wrote-then space (number .0)), omega arith)
 

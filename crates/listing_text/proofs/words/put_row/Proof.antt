@@ -29,8 +29,11 @@ same-length c = search needs
 
 returns : tie.Need-returns
 returns c =
+    let past-wide3 = c .before .before .before in
+    let past-wide2 = past-wide3 .before in
+    let past-wide = past-wide2 .before in
     let numbers = c .before .before .put-three .ensures in
-    (rw (c .before .before .before .before .before .wide .ensures .0, c .before .before .before .before .wide2 .ensures .0, c .before .before .before .wide3 .ensures .0) at (numbers .0), numbers .1)
+    (rw (past-wide .wide .ensures .0, past-wide2 .wide2 .ensures .0, past-wide3 .wide3 .ensures .0) at (numbers .0), numbers .1)
 
 pub put-row-spec : {M : Type 1} → statement M
 put-row-spec =

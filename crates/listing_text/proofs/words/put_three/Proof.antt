@@ -20,8 +20,10 @@ same-length c = search needs
 
 returns : tie.Need-returns
 returns c =
-    let x = c .before .before .before .before .before .before .before .before .before .before .put-number .ensures in
-    let y = c .before .before .before .before .before .before .put-number2 .ensures in
+    let past-put-number2 = c .before .before .before .before .before .before in
+    let past-put-number = past-put-number2 .before .before .before .before in
+    let x = past-put-number .put-number .ensures in
+    let y = past-put-number2 .put-number2 .ensures in
     let z = c .before .before .put-number3 .ensures in
     (words-wrote (_ ∷ []) (_ ∷ _ ∷ []) (x .0) (words-wrote (_ ∷ []) (_ ∷ []) (y .0) (z .0)), omega arith)
 

@@ -21,9 +21,14 @@ same-length c = search needs
 
 returns : tie.Need-returns
 returns c =
-    let verdict = c .before .before .before .before .before .before .put-letter .ensures in
-    let rank = c .before .before .put-entry .ensures in
-    (rw found-entry (words-wrote (_ ∷ []) (_ ∷ []) (rw (c .before .before .before .before .before .before .before .verdict-letter .ensures) at (verdict .0)) (rank .0)), omega arith)
+    let past-put-letter = c .before .before .before .before .before .before in
+    let past-verdict-letter = past-put-letter .before in
+    let verdict = past-put-letter .put-letter .ensures in
+    let rank = c .before .before .put-entry .ensures in (
+      rw found-entry (words-wrote (_ ∷ []) (_ ∷ []) (rw (past-verdict-letter .verdict-letter .ensures) at (verdict .0)) (rank .0)),
+      omega
+          arith,
+    )
 
 pub put-verdict-spec : {M : Type 1} → statement M
 put-verdict-spec =

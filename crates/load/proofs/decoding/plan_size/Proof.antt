@@ -14,18 +14,29 @@ few-requires : tie.Need-few-requires
 few-requires c κs = search needs
 
 returns-2 : tie.Need-returns-2
-returns-2 c = size-refused _ _ _ _ (loading-many _ _ _ _ (c .before .before .before .if1 .left) _ (c .before .before .size-in .ensures) (stopped (c .before .few .ensures) (c .if2 .taken)))
+returns-2 c =
+    let branch1 = c .before .before .before in
+    size-refused _ _ _ _ (loading-many _ _ _ _ (branch1 .if1 .left) _ (c .before .before .size-in .ensures)
+    (stopped (c .before .few .ensures) (c .if2 .taken)))
 
 long-requires : tie.Need-long-requires
 long-requires c κs = search needs
 
 returns-3 : tie.Need-returns-3
-returns-3 c = size-refused _ _ _ _ (loading-long _ _ _ _ (c .before .before .before .before .before .if1 .left) _ (c .before .before .before .before .size-in .ensures) (stopped (c .before .long .ensures) (c .if3 .taken)))
+returns-3 c =
+    let past-size-in = c .before .before .before .before in
+    let branch1 = past-size-in .before in
+    size-refused _ _ _ _ (loading-long _ _ _ _ (branch1 .if1 .left) _ (past-size-in .size-in .ensures)
+    (stopped (c .before .long .ensures) (c .if3 .taken)))
 
 returns-4 : tie.Need-returns-4
 returns-4 c =
-    size-answered _ _ _ _ (c .before .before .before .before .before .if1 .left) _ (c .before .before .before .before .size-in .ensures)
-    (loading-whole _ _ _ _ (c .before .before .before .before .before .if1 .left) _ (c .before .before .before .before .size-in .ensures) (passed (c .before .before .before .few .ensures) (c .before .before .if2 .left)) (passed (c .before .long .ensures) (c .if3 .left)))
+    let past-few = c .before .before .before in
+    let past-size-in = past-few .before in
+    let branch1 = past-size-in .before in
+    size-answered _ _ _ _ (branch1 .if1 .left) _ (past-size-in .size-in .ensures)
+    (loading-whole _ _ _ _ (branch1 .if1 .left) _ (past-size-in .size-in .ensures)
+    (passed (past-few .few .ensures) (c .before .before .if2 .left)) (passed (c .before .long .ensures) (c .if3 .left)))
 
 pub plan-size-spec : {M : Type 1} → statement M
 plan-size-spec =

@@ -26,7 +26,8 @@ entry-at-requires-3 c κs = search needs
 
 returns : tie.Need-returns
 returns c =
-    let s = c .before .before .before .before .args .s in
+    let entry = c .before .before .before .before in
+    let s = entry .args .s in
     rw (c .before .before .entry-at .ensures, c .before .entry-at2 .ensures, c .entry-at3 .ensures, add-zero (s * rowWidth))
 
 pub row-in-spec : {M : Type 1} → statement M

@@ -31,8 +31,25 @@ new-requires c κs = search needs
 
 returns : tie.Need-returns
 returns c =
-    rw (c .new .ensures, c .before .before .before .before .wide .ensures .0, c .before .before .before .wide2 .ensures .0, c .before .before .wide3 .ensures .0, c .before .wide4 .ensures .0)
-    (rw (c .before .before .before .before .before .before .before .before .entry-at .ensures, c .before .before .before .before .before .before .before .entry-at2 .ensures, c .before .before .before .before .before .before .entry-at3 .ensures, c .before .before .before .before .before .entry-at4 .ensures))
+    let past-wide2 = c .before .before .before in
+    let past-wide = past-wide2 .before in
+    let past-entry-at4 = past-wide .before in
+    let past-entry-at3 = past-entry-at4 .before in
+    let past-entry-at2 = past-entry-at3 .before in
+    let past-entry-at = past-entry-at2 .before in
+    rw (
+      c .new .ensures,
+      past-wide .wide .ensures .0,
+      past-wide2 .wide2 .ensures .0,
+      c .before .before .wide3 .ensures .0,
+      c .before .wide4 .ensures .0,
+    )
+    (rw (
+      past-entry-at .entry-at .ensures,
+      past-entry-at2 .entry-at2 .ensures,
+      past-entry-at3 .entry-at3 .ensures,
+      past-entry-at4 .entry-at4 .ensures,
+    ))
 
 pub size-in-spec : {M : Type 1} → statement M
 size-in-spec =

@@ -5,6 +5,9 @@ use borrow.Author.Needs.{needs}
 use Rattle.nets.proofs.propagations.index_all.Statement.{statement}
 use Rattle.nets.proofs.propagations.index_all.Tie as tie
 
+abbrev past-own-to-entry : tie.After-own → tie.Start
+past-own-to-entry c = c .before .before .before .before .before .before .before .before
+
 own-requires : tie.Need-own-requires
 own-requires c κs = search needs
 
@@ -22,8 +25,13 @@ same-length-3 c = search needs
 
 returns : tie.Need-returns
 returns c =
-    let l = c .before .before .before .before .before .before .before .before .before .before .before .before .before .before .before .before .before .pre .1 .1 in
-    (index-fits _ _ _ _ _ (omega arith) (omega arith) (omega arith) (c .before .before .before .before .group .ensures) (c .before .before .before .before .before .before .before .before .before .own .ensures), c .before .before .before .before .before .before .before .before .before .own .ensures)
+    let past-group = c .before .before .before .before in
+    let past-own = past-group .before .before .before .before .before in
+    let entry = past-own-to-entry past-own in
+    let l = entry .pre .1 .1 in (
+      index-fits _ _ _ _ _ (omega arith) (omega arith) (omega arith) (past-group .group .ensures) (past-own .own .ensures),
+      past-own .own .ensures,
+    )
 
 pub index-all-spec : {M : Type 1} → statement M
 index-all-spec =

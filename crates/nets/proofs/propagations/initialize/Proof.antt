@@ -18,20 +18,32 @@ Inv-loop size rows ranks₀ froms₀ tos₀ fails₀ practices₀ ends₀ s₀ r
 abbrev μ-loop : tie.MeasureT-loop
 μ-loop size rows ranks₀ froms₀ tos₀ fails₀ practices₀ ends₀ s₀ ranks froms tos fails practices ends s = size .n - s
 
+abbrev turn-to-entry : tie.At-loop Inv-loop μ-loop → tie.Start Inv-loop μ-loop
+turn-to-entry c = c .before .before .before .before .before .before .before
+
+abbrev past-initialize-both-to-past-span-at : tie.After-initialize-both Inv-loop μ-loop → tie.After-span-at Inv-loop μ-loop
+past-initialize-both-to-past-span-at c = c .before .before .before .before .before .before .before
+
 loop-holds : tie.Need-loop-holds Inv-loop μ-loop
 loop-holds c = (omega arith, (λ F O. initialized-start, λ F O. initialized-start))
 
 span-at-requires : tie.Need-span-at-requires Inv-loop μ-loop
-span-at-requires c κs = omega (arith, c .before .before .before .before .before .before .before .before .before .pre .0 .long, c .if1 .taken)
+span-at-requires c κs =
+    let entry = c .before .before .before .before .before .before .before .before .before in
+    omega (arith, entry .pre .0 .long, c .if1 .taken)
 
 initialize-both-requires : tie.Need-initialize-both-requires Inv-loop μ-loop
 initialize-both-requires c κs =
-    let v = c .before .before .before .before .before .before .before .before .before .loop .inv .1 .0 [] [] in
-    let u = c .before .before .before .before .before .before .before .before .before .loop .inv .1 .1 [] [] in
-    let h = c .before .before .before .before .before .before .before .before .before .before .before .before .before .before .before .before .pre .1 .0 in
-    let k = c .before .before .before .before .before .before .before .before .before .before .before .before .before .before .before .before .pre .1 .1 in
-    let l = c .before .before .before .before .before .before .before .if1 .taken in (
-      read-inside (c .before .before .before .before .before .before .before .before .before .before .before .before .before .before .before .before .pre .0) [] [] _ l _ (c .before .before .before .before .before .before .span-at .ensures [] []),
+    let past-span-at = c .before .before .before .before .before .before in
+    let branch1 = past-span-at .before in
+    let turn = branch1 .before .before in
+    let entry = turn-to-entry turn in
+    let v = turn .loop .inv .1 .0 [] [] in
+    let u = turn .loop .inv .1 .1 [] [] in
+    let h = entry .pre .1 .0 in
+    let k = entry .pre .1 .1 in
+    let l = branch1 .if1 .taken in (
+      read-inside (entry .pre .0) [] [] _ l _ (past-span-at .span-at .ensures [] []),
       (
         (omega (arith, v .seeded .same, l, h), omega (arith, v .begins .same, l, h), omega (arith, v .stops .same, l, h)),
         (omega (arith, u .seeded .same, l, k), omega (arith, u .begins .same, l, k), omega (arith, u .stops .same, l, k)),
@@ -39,21 +51,33 @@ initialize-both-requires c κs =
     )
 
 add-s : tie.Need-add-s Inv-loop μ-loop
-add-s c = omega (arith, c .before .before .before .before .before .before .before .before .before .before .before .before .before .before .before .before .before .before .before .before .if1 .taken, c .before .before .before .before .before .before .before .before .before .before .before .before .before .before .before .before .before .before .before .before .before .before .before .before .before .before .before .before .before .pre .0 .few)
+add-s c =
+    let branch1 = c .before .before .before .before .before .before .before .before .before .before .before .before .before .before .before .before .before .before .before .before in
+    let entry = branch1 .before .before .before .before .before .before .before .before .before in
+    omega (arith, branch1 .if1 .taken, entry .pre .0 .few)
 
 loop-less : tie.Need-loop-less Inv-loop μ-loop
-loop-less c = omega (arith, c .before .before .before .before .before .before .before .before .before .before .before .before .before .before .before .before .before .before .before .before .if1 .taken)
+loop-less c =
+    let branch1 = c .before .before .before .before .before .before .before .before .before .before .before .before .before .before .before .before .before .before .before .before in
+    omega (arith, branch1 .if1 .taken)
 
 loop-again : tie.Need-loop-again Inv-loop μ-loop
 loop-again c =
-    let p = c .before .before .before .before .before .before .before .before .before .before .before .before .before .before .before .before .before .before .before .before .before .before .before .before .before .before .before .before .before .pre .1 in
-    let l = c .before .before .before .before .before .before .before .before .before .before .before .before .before .before .before .before .before .before .before .before .if1 .taken in
-    let i = c .before .before .before .before .before .before .before .before .before .before .before .before .before .before .before .before .before .before .before .before .before .before .loop .inv .1 in
-    let e = c .before .before .before .before .before .before .before .before .before .before .before .before .initialize-both .ensures in (
+    let past-initialize-both = c .before .before .before .before .before .before .before .before .before .before .before .before in
+    let past-span-at = past-initialize-both-to-past-span-at past-initialize-both in
+    let branch1 = past-span-at .before in
+    let turn = branch1 .before .before in
+    let entry = turn-to-entry turn in
+    let p = entry .pre .1 in
+    let l = branch1 .if1 .taken in
+    let i = turn .loop .inv .1 in
+    let e = past-initialize-both .initialize-both .ensures in (
       omega (arith, l),
       (
-        λ F O. initialized-next (i .0 F O) _ (c .before .before .before .before .before .before .before .before .before .before .before .before .before .before .before .before .before .before .before .span-at .ensures F O) (omega (arith, l, p .0)) (omega (arith, l, p .0)) (omega (arith, l, p .0)) _ _ _ (e .0),
-        λ F O. initialized-next (i .1 F O) _ (c .before .before .before .before .before .before .before .before .before .before .before .before .before .before .before .before .before .before .before .span-at .ensures F O) (omega (arith, l, p .1)) (omega (arith, l, p .1)) (omega (arith, l, p .1)) _ _ _ (e .1),
+        λ F O. initialized-next (i .0 F O) _ (past-span-at .span-at .ensures F O) (omega (arith, l, p .0)) (omega (arith, l, p .0))
+            (omega (arith, l, p .0)) _ _ _ (e .0),
+        λ F O. initialized-next (i .1 F O) _ (past-span-at .span-at .ensures F O) (omega (arith, l, p .1)) (omega (arith, l, p .1))
+            (omega (arith, l, p .1)) _ _ _ (e .1),
       ),
     )
 

@@ -7,6 +7,17 @@ use borrow.Author.Needs.{needs}
 use Rattle.nets.proofs.propagations.propagate_both.Statement.{statement}
 use Rattle.nets.proofs.propagations.propagate_both.Tie as tie
 
+abbrev past-index-all-to-entry : tie.After-index-all → tie.Start
+past-index-all-to-entry c =
+    c .before .before .before .before .before .before .before .before .before .before .before .before .before .before
+
+abbrev past-propagate-in-to-past-index-all : tie.After-propagate-in → tie.After-index-all
+past-propagate-in-to-past-index-all c = c .before .before .before .before .before .before .before .before .before .before
+
+abbrev past-propagate-in2-to-past-propagate-in : tie.After-propagate-in2 → tie.After-propagate-in
+past-propagate-in2-to-past-propagate-in c =
+    c .before .before .before .before .before .before .before .before .before .before .before .before .before
+
 slice-aggregate-index-all : tie.Need-slice-aggregate-index-all
 slice-aggregate-index-all c = search needs
 
@@ -18,7 +29,8 @@ slice-aggregate-index-all-3 c = search needs
 
 index-all-requires : tie.Need-index-all-requires
 index-all-requires c κs =
-    let p = c .before .before .before .before .before .before .before .before .before .before .before .before .before .pre in
+    let entry = c .before .before .before .before .before .before .before .before .before .before .before .before .before in
+    let p = entry .pre in
     let f = p .0 in
     (f, (p .1 .0, (p .1 .1 .0 .long-froms, (f .few-commands, (f .few, f .states .few)))))
 
@@ -33,12 +45,14 @@ slice-aggregate-propagate-in-3 c = search needs
 
 propagate-in-requires : tie.Need-propagate-in-requires
 propagate-in-requires c κs =
-    let a = c .before .before .before .before .before .before .before .before .before .before .before .before .before .before .before .before .before .before .before .before .before .before .before .args in
+    let past-index-all = c .before .before .before .before .before .before .before .before .before in
+    let entry = past-index-all-to-entry past-index-all in
+    let a = entry .args in
     let C = commandsOf (a .size) (a .firsts .now) (a .outcomes .now) in
-    let p = c .before .before .before .before .before .before .before .before .before .before .before .before .before .before .before .before .before .before .before .before .before .before .before .pre in
+    let p = entry .pre in
     let o = p .1 .1 .0 in
     let l = p .1 .1 .1 .1 .0 in
-    let i = c .before .before .before .before .before .before .before .before .before .index-all .ensures in
+    let i = past-index-all .index-all .ensures in
     (p .0, (ranges-fit C o (p .1 .0), (i .0, (owners-fit C o (i .1), (l .0, (o .long-froms, (l .2, p .1 .1 .1 .1 .1 .0)))))))
 
 slice-aggregate-propagate-in-4 : tie.Need-slice-aggregate-propagate-in-4
@@ -52,13 +66,27 @@ slice-aggregate-propagate-in-6 c = search needs
 
 propagate-in-requires-2 : tie.Need-propagate-in-requires-2
 propagate-in-requires-2 c κs =
-    let a = c .before .before .before .before .before .before .before .before .before .before .before .before .before .before .before .before .before .before .before .before .before .before .before .before .before .before .before .before .before .before .before .before .before .before .before .before .args in
+    let past-propagate-in = c .before .before .before .before .before .before .before .before .before .before .before .before in
+    let past-index-all = past-propagate-in-to-past-index-all past-propagate-in in
+    let entry = past-index-all-to-entry past-index-all in
+    let a = entry .args in
     let C = commandsOf (a .size) (a .firsts .now) (a .outcomes .now) in
-    let p = c .before .before .before .before .before .before .before .before .before .before .before .before .before .before .before .before .before .before .before .before .before .before .before .before .before .before .before .before .before .before .before .before .before .before .before .before .pre in
+    let p = entry .pre in
     let o = p .1 .1 .1 .0 in
     let l = p .1 .1 .1 .1 .0 in
-    let i = c .before .before .before .before .before .before .before .before .before .before .before .before .before .before .before .before .before .before .before .before .before .before .index-all .ensures in
-    (p .0, (ranges-fit C o (p .1 .0), (i .0, (owners-fit C o (i .1), (l .1, (o .long-froms, (omega (arith, c .before .before .before .before .before .before .before .before .before .before .before .before .propagate-in .ensures .1 .same, l), p .1 .1 .1 .1 .1 .1)))))))
+    let i = past-index-all .index-all .ensures in (
+      p .0,
+      (
+        ranges-fit C o (p .1 .0),
+        (
+          i .0,
+          (
+            owners-fit C o (i .1),
+            (l .1, (o .long-froms, (omega (arith, past-propagate-in .propagate-in .ensures .1 .same, l), p .1 .1 .1 .1 .1 .1))),
+          ),
+        ),
+      ),
+    )
 
 same-length : tie.Need-same-length
 same-length c = search needs
@@ -77,8 +105,10 @@ same-length-5 c = search needs
 
 returns : tie.Need-returns
 returns c =
-    let x = c .before .before .before .before .before .before .before .before .before .before .before .before .before .before .before .before .before .before .before .propagate-in .ensures in
-    let y = c .before .before .before .before .before .before .propagate-in2 .ensures in
+    let past-propagate-in2 = c .before .before .before .before .before .before in
+    let past-propagate-in = past-propagate-in2-to-past-propagate-in past-propagate-in2 in
+    let x = past-propagate-in .propagate-in .ensures in
+    let y = past-propagate-in2 .propagate-in2 .ensures in
     (x .0, (y .0, filled-over (x .1) (y .1)))
 
 pub propagate-both-spec : {M : Type 1} → statement M

@@ -12,17 +12,23 @@ seed-of-requires : tie.Need-seed-of-requires
 seed-of-requires c κs = search needs
 
 put-requires : tie.Need-put-requires
-put-requires c κs = (c .before .before .before .before .before .before .pre .1 .0, rw (c .seed-of .ensures) (seed-small _))
+put-requires c κs =
+    let entry = c .before .before .before .before .before .before in
+    (entry .pre .1 .0, rw (c .seed-of .ensures) (seed-small _))
 
 put-requires-2 : tie.Need-put-requires-2
 put-requires-2 c κs =
-    let i = range-inside (c .before .before .before .before .before .before .before .before .before .before .args .span) (c .before .before .before .before .before .before .before .before .before .before .pre .0 .0) (c .before .before .before .before .before .before .before .before .before .before .args .alone) in
-    (c .before .before .before .before .before .before .before .before .before .before .pre .1 .1, rw (c .before .before .before .before .before .before .range-of .ensures) (omega (arith, i, c .before .before .before .before .before .before .before .before .before .before .pre .0)))
+    let past-range-of = c .before .before .before .before .before .before in
+    let entry = past-range-of .before .before .before .before in
+    let i = range-inside (entry .args .span) (entry .pre .0 .0) (entry .args .alone) in
+    (entry .pre .1 .1, rw (past-range-of .range-of .ensures) (omega (arith, i, entry .pre .0)))
 
 put-requires-3 : tie.Need-put-requires-3
 put-requires-3 c κs =
-    let i = range-inside (c .before .before .before .before .before .before .before .before .before .before .before .before .before .before .args .span) (c .before .before .before .before .before .before .before .before .before .before .before .before .before .before .pre .0 .0) (c .before .before .before .before .before .before .before .before .before .before .before .before .before .before .args .alone) in
-    (c .before .before .before .before .before .before .before .before .before .before .before .before .before .before .pre .1 .2, rw (c .before .before .before .before .before .before .before .before .before .before .range-of .ensures) (omega (arith, i, c .before .before .before .before .before .before .before .before .before .before .before .before .before .before .pre .0)))
+    let past-range-of = c .before .before .before .before .before .before .before .before .before .before in
+    let entry = past-range-of .before .before .before .before in
+    let i = range-inside (entry .args .span) (entry .pre .0 .0) (entry .args .alone) in
+    (entry .pre .1 .2, rw (past-range-of .range-of .ensures) (omega (arith, i, entry .pre .0)))
 
 same-length : tie.Need-same-length
 same-length c = search needs
@@ -34,11 +40,16 @@ same-length-3 : tie.Need-same-length-3
 same-length-3 c = search needs
 
 returns : tie.Need-returns
-returns c = record {
-  seeded = rw (← c .before .before .before .before .before .before .before .before .before .before .before .seed-of .ensures) (c .before .before .before .before .before .before .before .before .before .before .put .ensures);
-  begins = rw (← c .before .before .before .before .before .before .before .before .before .before .before .before .before .range-of .ensures) (c .before .before .before .before .before .before .put2 .ensures);
-  stops = rw (← c .before .before .before .before .before .before .before .before .before .before .before .before .before .range-of .ensures) (c .before .before .put3 .ensures);
-}
+returns c =
+    let past-put2 = c .before .before .before .before .before .before in
+    let past-put = past-put2 .before .before .before .before in
+    let past-seed-of = past-put .before in
+    let past-range-of = past-seed-of .before .before in
+    record {
+      seeded = rw (← past-seed-of .seed-of .ensures) (past-put .put .ensures);
+      begins = rw (← past-range-of .range-of .ensures) (past-put2 .put2 .ensures);
+      stops = rw (← past-range-of .range-of .ensures) (c .before .before .put3 .ensures);
+    }
 
 pub initialize-state-spec : {M : Type 1} → statement M
 initialize-state-spec =

@@ -12,10 +12,14 @@ returns : tie.Need-returns
 returns c = practice-none _ _ (c .before .has-practice .ensures) (c .if1 .taken)
 
 add-from : tie.Need-add-from
-add-from c = omega (arith, practice-place (c .before .before .before .args .span) _ (c .before .before .has-practice .ensures) (c .before .if1 .left) (c .before .before .before .pre .0))
+add-from c =
+    let entry = c .before .before .before in
+    omega (arith, practice-place (entry .args .span) _ (c .before .before .has-practice .ensures) (c .before .if1 .left) (entry .pre .0))
 
 add-t5 : tie.Need-add-t5
-add-t5 c = omega (arith, practice-place (c .before .before .before .args .span) _ (c .before .before .has-practice .ensures) (c .before .if1 .left) (c .before .before .before .pre .0))
+add-t5 c =
+    let entry = c .before .before .before in
+    omega (arith, practice-place (entry .args .span) _ (c .before .before .has-practice .ensures) (c .before .if1 .left) (entry .pre .0))
 
 returns-2 : tie.Need-returns-2
 returns-2 c = practice-some _ _ (c .before .before .has-practice .ensures) (c .before .if1 .left)

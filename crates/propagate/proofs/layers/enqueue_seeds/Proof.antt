@@ -18,16 +18,30 @@ loop-holds : tie.Need-loop-holds Inv-loop μ-loop
 loop-holds c = (omega arith, refl, seeds-start _ _)
 
 enqueue-seed-requires : tie.Need-enqueue-seed-requires Inv-loop μ-loop
-enqueue-seed-requires c κs = (omega (arith, c .before .before .loop .inv .1, c .before .before .before .before .before .pre, c .before .loop-test .taken), c .before .before .loop .inv .2)
+enqueue-seed-requires c κs =
+    let entry = c .before .before .before .before .before in
+    (omega (arith, c .before .before .loop .inv .1, entry .pre, c .before .loop-test .taken), c .before .before .loop .inv .2)
 
 add-s : tie.Need-add-s Inv-loop μ-loop
-add-s c = omega (arith, c .before .before .before .before .before .before .before .before .pre, c .before .before .before .before .loop-test .taken)
+add-s c =
+    let past-loop-test = c .before .before .before .before in
+    let entry = past-loop-test .before .before .before .before in
+    omega (arith, entry .pre, past-loop-test .loop-test .taken)
 
 loop-less : tie.Need-loop-less Inv-loop μ-loop
-loop-less c = omega (arith, c .before .before .before .before .loop-test .taken)
+loop-less c =
+    let past-loop-test = c .before .before .before .before in
+    omega (arith, past-loop-test .loop-test .taken)
 
 loop-again : tie.Need-loop-again Inv-loop μ-loop
-loop-again c = (omega (arith, c .before .before .before .before .loop-test .taken), c .before .before .enqueue-seed .kept .1 .0 ∙ c .before .before .before .before .before .loop .inv .1, c .before .before .enqueue-seed .ensures)
+loop-again c =
+    let past-loop-test = c .before .before .before .before in
+    let turn = past-loop-test .before in (
+      omega (arith, past-loop-test .loop-test .taken),
+      c .before .before .enqueue-seed .kept .1 .0
+          ∙ turn .loop .inv .1,
+      c .before .before .enqueue-seed .ensures,
+    )
 
 same-length : tie.Need-same-length Inv-loop μ-loop
 same-length c = c .before .loop .inv .1

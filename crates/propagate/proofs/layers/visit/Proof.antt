@@ -6,6 +6,12 @@ use borrow.Author.Needs.{needs}
 use Rattle.propagate.proofs.layers.visit.Statement.{statement}
 use Rattle.propagate.proofs.layers.visit.Tie as tie
 
+abbrev past-at-to-entry : tie.After-at → tie.Start
+past-at-to-entry c = c .before .before .before .before .before .before .before .before
+
+abbrev past-at4-to-past-at : tie.After-at4 → tie.After-at
+past-at4-to-past-at c = c .before .before .before .before .before .before .before
+
 at-requires : tie.Need-at-requires
 at-requires c κs = search needs
 
@@ -17,9 +23,12 @@ same-length c = search needs
 
 returns : tie.Need-returns
 returns c =
-    let f = c .before .before .before .before .before .before .before .before .before .before .before .pre in
+    let past-at = c .before .before .before in
+    let entry = past-at-to-entry past-at in
+    let f = entry .pre in
     let l = f .1 .1 .0 .1 in
-    look-ranked _ (f .0) _ _ (f .1 .0) _ (l .1 .1 .1 .1) _ _ _ _ (f .1 .1 .1) _ _ (c .before .before .before .at .ensures) (l .0) _ (c .before .at2 .ensures) (c .if1 .taken)
+    look-ranked _ (f .0) _ _ (f .1 .0) _ (l .1 .1 .1 .1) _ _ _ _ (f .1 .1 .1) _ _ (past-at .at .ensures) (l .0) _ (c .before .at2 .ensures)
+    (c .if1 .taken)
 
 at-requires-3 : tie.Need-at-requires-3
 at-requires-3 c κs = search needs
@@ -32,9 +41,14 @@ same-length-3 c = search needs
 
 returns-2 : tie.Need-returns-2
 returns-2 c =
-    let f = c .before .before .before .before .before .before .before .before .before .before .before .before .before .before .pre in
+    let branch1 = c .before .before .before in
+    let past-at2 = branch1 .before in
+    let past-at = past-at2 .before .before in
+    let entry = past-at-to-entry past-at in
+    let f = entry .pre in
     let l = f .1 .1 .0 .1 in
-    look-other _ (f .0) _ _ (f .1 .0) _ (l .1 .1 .1 .1) _ _ _ _ (f .1 .1 .1) _ _ (c .before .before .before .before .before .before .at .ensures) (l .0) _ (c .before .before .before .before .at2 .ensures) (c .before .before .before .if1 .left) _ (c .before .at3 .ensures)
+    look-other _ (f .0) _ _ (f .1 .0) _ (l .1 .1 .1 .1) _ _ _ _ (f .1 .1 .1) _ _ (past-at .at .ensures) (l .0) _ (past-at2 .at2 .ensures)
+    (branch1 .if1 .left) _ (c .before .at3 .ensures)
     (c .if2 .taken)
 
 at-requires-4 : tie.Need-at-requires-4
@@ -48,27 +62,40 @@ same-length-5 c = search needs
 
 returns-3 : tie.Need-returns-3
 returns-3 c =
-    let f = c .before .before .before .before .before .before .before .before .before .before .before .before .before .before .before .before .pre in
+    let past-at3 = c .before .before .before in
+    let branch1 = past-at3 .before .before in
+    let past-at2 = branch1 .before in
+    let past-at = past-at2 .before .before in
+    let entry = past-at-to-entry past-at in
+    let f = entry .pre in
     let l = f .1 .1 .0 .1 in
-    look-past _ (f .0) _ _ (f .1 .0) _ (l .1 .1 .1 .1) _ _ _ _ (f .1 .1 .1) _ _ (c .before .before .before .before .before .before .before .before .at .ensures) (l .0) _ (c .before .before .before .before .before .before .at2 .ensures) (c .before .before .before .before .before .if1 .left) _ (c .before .before .before .at3 .ensures)
+    look-past _ (f .0) _ _ (f .1 .0) _ (l .1 .1 .1 .1) _ _ _ _ (f .1 .1 .1) _ _ (past-at .at .ensures) (l .0) _ (past-at2 .at2 .ensures)
+    (branch1 .if1 .left) _ (past-at3 .at3 .ensures)
     (c .before .before .if2 .left) _ (c .before .at4 .ensures) (c .if3 .taken)
 
 add-next : tie.Need-add-next
-add-next c = omega (arith, c .before .before .before .before .before .before .before .before .before .before .before .before .before .before .before .before .pre .1 .1 .0)
+add-next c =
+    let entry = c .before .before .before .before .before .before .before .before .before .before .before .before .before .before .before .before in
+    omega (arith, entry .pre .1 .1 .0)
 
 first-clear-requires : tie.Need-first-clear-requires
 first-clear-requires c κs =
-    let f = c .before .before .before .before .before .before .before .before .before .before .before .before .before .before .before .before .before .pre in
+    let past-at = c .before .before .before .before .before .before .before .before .before in
+    let entry = past-at-to-entry past-at in
+    let f = entry .pre in
     let l = f .1 .1 .0 .1 in
-    let m = range-in _ (f .1 .0) (c .before .before .before .before .before .before .before .before .before .at .result) _ (omega (arith, c .before .before .before .before .before .before .before .before .before .at .ensures, l .0)) (c .before .before .at4 .ensures) in
+    let m = range-in _ (f .1 .0) (past-at .at .result) _ (omega (arith, past-at .at .ensures, l .0)) (c .before .before .at4 .ensures) in
     (f .0, (omega (arith, c .before .if3 .left), m, l .1 .0))
 
 put-requires : tie.Need-put-requires
 put-requires c κs =
-    let f = c .before .before .before .before .before .before .before .before .before .before .before .before .before .before .before .before .before .before .before .pre in
+    let past-at4 = c .before .before .before .before in
+    let past-at = past-at4-to-past-at past-at4 in
+    let entry = past-at-to-entry past-at in
+    let f = entry .pre in
     let l = f .1 .1 .0 .1 in
-    let m = range-in _ (f .1 .0) (c .before .before .before .before .before .before .before .before .before .before .before .at .result) _ (omega (arith, c .before .before .before .before .before .before .before .before .before .before .before .at .ensures, l .0)) (c .before .before .before .before .at4 .ensures) in
-    (omega (arith, c .before .before .before .before .before .before .before .before .before .before .before .at .ensures, l), omega (arith, m, c .before .first-clear .ensures .until, f .0 .few-commands))
+    let m = range-in _ (f .1 .0) (past-at .at .result) _ (omega (arith, past-at .at .ensures, l .0)) (past-at4 .at4 .ensures) in
+    (omega (arith, past-at .at .ensures, l), omega (arith, m, c .before .first-clear .ensures .until, f .0 .few-commands))
 
 same-length-6 : tie.Need-same-length-6
 same-length-6 c = search needs
@@ -78,26 +105,51 @@ same-length-7 c = search needs
 
 returns-4 : tie.Need-returns-4
 returns-4 c =
-    let f = c .before .before .before .before .before .before .before .before .before .before .before .before .before .before .before .before .before .before .before .before .before .before .before .pre in
+    let past-put = c .before .before .before in
+    let past-first-clear = past-put .before .before in
+    let branch3 = past-first-clear .before .before in
+    let past-at4 = branch3 .before in
+    let branch2 = past-at4 .before in
+    let past-at3 = branch2 .before in
+    let branch1 = past-at3 .before .before in
+    let past-at2 = branch1 .before in
+    let past-at = past-at2 .before .before in
+    let entry = past-at-to-entry past-at in
+    let f = entry .pre in
     let l = f .1 .1 .0 .1 in
-    look-moved _ (f .0) _ _ (f .1 .0) _ (l .1 .1 .1 .1) _ _ _ _ (f .1 .1 .1) _ _ (c .before .before .before .before .before .before .before .before .before .before .before .before .before .before .before .at .ensures) (l .0) _ (c .before .before .before .before .before .before .before .before .before .before .before .before .before .at2 .ensures) (c .before .before .before .before .before .before .before .before .before .before .before .before .if1 .left) _ (c .before .before .before .before .before .before .before .before .before .before .at3 .ensures)
-    (c .before .before .before .before .before .before .before .before .before .if2 .left) _ (c .before .before .before .before .before .before .before .before .at4 .ensures) (c .before .before .before .before .before .before .before .if3 .left) _ (c .before .before .before .before .before .first-clear .ensures) (l .1 .1 .0) (c .if4 .taken) _ (c .before .before .before .put .ensures)
+    look-moved _ (f .0) _ _ (f .1 .0) _ (l .1 .1 .1 .1) _ _ _ _ (f .1 .1 .1) _ _ (past-at .at .ensures) (l .0) _ (past-at2 .at2 .ensures)
+    (branch1 .if1 .left) _ (past-at3 .at3 .ensures)
+    (branch2 .if2 .left) _ (past-at4 .at4 .ensures) (branch3 .if3 .left) _ (past-first-clear .first-clear .ensures) (l .1 .1 .0)
+    (c .if4 .taken) _ (past-put .put .ensures)
 
 put-requires-2 : tie.Need-put-requires-2
-put-requires-2 c κs = omega (arith, c .before .before .before .before .before .before .before .before .before .before .before .before .before .before .before .before .at .ensures, c .before .before .before .before .before .before .before .before .before .before .before .before .before .before .before .before .before .before .before .before .before .before .before .before .pre .1 .1 .0)
+put-requires-2 c κs =
+    let past-at = c .before .before .before .before .before .before .before .before .before .before .before .before .before .before .before .before in
+    let entry = past-at-to-entry past-at in
+    omega (arith, past-at .at .ensures, entry .pre .1 .1 .0)
 
 put-requires-3 : tie.Need-put-requires-3
 put-requires-3 c κs =
-    let f = c .before .before .before .before .before .before .before .before .before .before .before .before .before .before .before .before .before .before .before .before .before .before .before .before .before .before .before .before .pre in
+    let branch1 = c .before .before .before .before .before .before .before .before .before .before .before .before .before .before .before .before .before in
+    let past-at2 = branch1 .before in
+    let past-at = past-at2 .before .before in
+    let entry = past-at-to-entry past-at in
+    let f = entry .pre in
     let l = f .1 .1 .0 .1 in
-    let m = queue-room _ _ _ _ _ (f .1 .1 .1) (c .before .before .before .before .before .before .before .before .before .before .before .before .before .before .before .before .before .before .before .before .at .result) _ (omega (arith, c .before .before .before .before .before .before .before .before .before .before .before .before .before .before .before .before .before .before .before .before .at .ensures, l .0)) (c .before .before .before .before .before .before .before .before .before .before .before .before .before .before .before .before .before .before .at2 .ensures) (c .before .before .before .before .before .before .before .before .before .before .before .before .before .before .before .before .before .if1 .left) in
-    omega (arith, m, l, c .before .before .before .before .before .before .before .before .before .before .before .before .before .before .before .before .before .before .before .before .at .ensures, f .0 .few)
+    let m = queue-room _ _ _ _ _ (f .1 .1 .1) (past-at .at .result) _ (omega (arith, past-at .at .ensures, l .0)) (past-at2 .at2 .ensures)
+    (branch1 .if1 .left) in
+    omega (arith, m, l, past-at .at .ensures, f .0 .few)
 
 add-result : tie.Need-add-result
 add-result c =
-    let f = c .before .before .before .before .before .before .before .before .before .before .before .before .before .before .before .before .before .before .before .before .before .before .before .before .before .before .before .before .before .before .before .pre in
+    let branch1 = c .before .before .before .before .before .before .before .before .before .before .before .before .before .before .before .before .before .before .before .before in
+    let past-at2 = branch1 .before in
+    let past-at = past-at2 .before .before in
+    let entry = past-at-to-entry past-at in
+    let f = entry .pre in
     let l = f .1 .1 .0 .1 in
-    let m = queue-room _ _ _ _ _ (f .1 .1 .1) (c .before .before .before .before .before .before .before .before .before .before .before .before .before .before .before .before .before .before .before .before .before .before .before .at .result) _ (omega (arith, c .before .before .before .before .before .before .before .before .before .before .before .before .before .before .before .before .before .before .before .before .before .before .before .at .ensures, l .0)) (c .before .before .before .before .before .before .before .before .before .before .before .before .before .before .before .before .before .before .before .before .before .at2 .ensures) (c .before .before .before .before .before .before .before .before .before .before .before .before .before .before .before .before .before .before .before .before .if1 .left) in
+    let m = queue-room _ _ _ _ _ (f .1 .1 .1) (past-at .at .result) _ (omega (arith, past-at .at .ensures, l .0)) (past-at2 .at2 .ensures)
+    (branch1 .if1 .left) in
     omega (arith, m, f .0 .few)
 
 same-length-8 : tie.Need-same-length-8
@@ -111,10 +163,25 @@ same-length-10 c = search needs
 
 returns-5 : tie.Need-returns-5
 returns-5 c =
-    let f = c .before .before .before .before .before .before .before .before .before .before .before .before .before .before .before .before .before .before .before .before .before .before .before .before .before .before .before .before .before .before .before .pre in
+    let past-put2 = c .before .before .before .before .before .before in
+    let branch4 = past-put2 .before .before in
+    let past-put = branch4 .before .before .before in
+    let past-first-clear = past-put .before .before in
+    let branch3 = past-first-clear .before .before in
+    let past-at4 = branch3 .before in
+    let branch2 = past-at4 .before in
+    let past-at3 = branch2 .before in
+    let branch1 = past-at3 .before .before in
+    let past-at2 = branch1 .before in
+    let past-at = past-at2 .before .before in
+    let entry = past-at-to-entry past-at in
+    let f = entry .pre in
     let l = f .1 .1 .0 .1 in
-    look-lost _ (f .0) _ _ (f .1 .0) _ (l .1 .1 .1 .1) _ _ _ _ (f .1 .1 .1) _ _ (c .before .before .before .before .before .before .before .before .before .before .before .before .before .before .before .before .before .before .before .before .before .before .before .at .ensures) (l .0) _ (c .before .before .before .before .before .before .before .before .before .before .before .before .before .before .before .before .before .before .before .before .before .at2 .ensures) (c .before .before .before .before .before .before .before .before .before .before .before .before .before .before .before .before .before .before .before .before .if1 .left) _ (c .before .before .before .before .before .before .before .before .before .before .before .before .before .before .before .before .before .before .at3 .ensures)
-    (c .before .before .before .before .before .before .before .before .before .before .before .before .before .before .before .before .before .if2 .left) _ (c .before .before .before .before .before .before .before .before .before .before .before .before .before .before .before .before .at4 .ensures) (c .before .before .before .before .before .before .before .before .before .before .before .before .before .before .before .if3 .left) _ (c .before .before .before .before .before .before .before .before .before .before .before .before .before .first-clear .ensures) (l .1 .1 .0) (c .before .before .before .before .before .before .before .before .if4 .left) (l .1 .0) (l .1 .1 .1 .0) _ _ _ (c .before .before .before .before .before .before .before .before .before .before .before .put .ensures) (c .before .before .before .before .before .before .put2 .ensures) (c .before .before .put3 .ensures)
+    look-lost _ (f .0) _ _ (f .1 .0) _ (l .1 .1 .1 .1) _ _ _ _ (f .1 .1 .1) _ _ (past-at .at .ensures) (l .0) _ (past-at2 .at2 .ensures)
+    (branch1 .if1 .left) _ (past-at3 .at3 .ensures)
+    (branch2 .if2 .left) _ (past-at4 .at4 .ensures) (branch3 .if3 .left) _ (past-first-clear .first-clear .ensures) (l .1 .1 .0)
+    (branch4 .if4 .left) (l .1 .0) (l .1 .1 .1 .0) _ _ _ (past-put .put .ensures) (past-put2 .put2 .ensures)
+    (c .before .before .put3 .ensures)
 
 pub visit-spec : {M : Type 1} → statement M
 visit-spec =

@@ -26,8 +26,10 @@ returns c = ends _ _ _ _ (c .enum-told .given .1) (c .before .before .field .ens
 
 number-requires : tie.Need-number-requires
 number-requires c κs =
-    let a = c .before .before .before .before .before .args in
-    let w = went (c .before .f .given .1) (c .before .before .before .field .ensures) in
+    let past-field = c .before .before .before in
+    let entry = past-field .before .before in
+    let a = entry .args in
+    let w = went (c .before .f .given .1) (past-field .field .ensures) in
     omega (arith, command-long (bytesFrom (a .file .now) (a .k)) (afterField (a .file .now) (a .k)) (w .0))
 
 sub-if1 : tie.Need-sub-if1
@@ -35,9 +37,13 @@ sub-if1 c = search needs
 
 returns-2 : tie.Need-returns-2
 returns-2 c =
-    let a = c .before .before .before .before .before .before .before .before .args in
-    let w = went (c .before .before .before .before .f .given .1) (c .before .before .before .before .before .before .field .ensures) in
-    refuses Limit (command-limit (bytesFrom (a .file .now) (a .k)) (afterField (a .file .now) (a .k)) (w .0) _ _ _ (omega (arith, c .before .before .number .ensures, c .before .before .before .before .before .before .before .before .pre)))
+    let past-f = c .before .before .before .before in
+    let past-field = past-f .before .before in
+    let entry = past-field .before .before in
+    let a = entry .args in
+    let w = went (past-f .f .given .1) (past-field .field .ensures) in
+    refuses Limit (command-limit (bytesFrom (a .file .now) (a .k)) (afterField (a .file .now) (a .k)) (w .0) _ _ _
+    (omega (arith, c .before .before .number .ensures, entry .pre)))
 
 add-check-outcomes : tie.Need-add-check-outcomes
 add-check-outcomes c = search needs
@@ -50,15 +56,34 @@ add-check-outcomes-2 c = search needs
 
 check-outcomes-requires : tie.Need-check-outcomes-requires
 check-outcomes-requires c κs =
-    let a = c .before .before .before .before .before .before .before .before .before .before .before .args in
-    let w = went (c .before .before .before .before .before .before .before .f .given .1) (c .before .before .before .before .before .before .before .before .before .field .ensures) in
-    omega (arith, w .1, c .before .before .before .before .before .before .before .before .before .before .before .pre, c .before .before .before .before .before .number .ensures, command-long (bytesFrom (a .file .now) (a .k)) (afterField (a .file .now) (a .k)) (w .0), length-drop (a .k .at) (a .file .now), length-drop (a .k .at + 3) (a .file .now))
+    let past-number = c .before .before .before .before .before in
+    let past-f = past-number .before .before in
+    let past-field = past-f .before .before in
+    let entry = past-field .before .before in
+    let a = entry .args in
+    let w = went (past-f .f .given .1) (past-field .field .ensures) in
+    omega (
+      arith,
+      w .1,
+      entry .pre,
+      past-number .number .ensures,
+      command-long (bytesFrom (a .file .now) (a .k))
+          (afterField (a .file .now) (a .k)) (w .0),
+      length-drop (a .k .at) (a .file .now),
+      length-drop (a .k .at + 3) (a .file .now),
+    )
 
 returns-3 : tie.Need-returns-3
 returns-3 c =
-    let a = c .before .before .before .before .before .before .before .before .before .before .before .before .args in
-    let w = went (c .before .before .before .before .before .before .before .before .f .given .1) (c .before .before .before .before .before .before .before .before .before .before .field .ensures) in
-    command-walks (a .file .now) (a .k) (c .before .before .before .before .before .before .before .before .f .given .0 .0) (a .n) _ (w .0) (ap (λ (z : ℕ). z / 2) (c .before .before .before .before .before .before .number .ensures)) (omega (arith, c .before .before .before .before .if1 .left, c .before .before .before .before .before .before .before .before .before .before .before .before .pre)) (c .check-outcomes .ensures)
+    let branch1 = c .before .before .before .before in
+    let past-number = branch1 .before .before in
+    let past-f = past-number .before .before in
+    let past-field = past-f .before .before in
+    let entry = past-field .before .before in
+    let a = entry .args in
+    let w = went (past-f .f .given .1) (past-field .field .ensures) in
+    command-walks (a .file .now) (a .k) (past-f .f .given .0 .0) (a .n) _ (w .0) (ap (λ (z : ℕ). z / 2) (past-number .number .ensures))
+    (omega (arith, branch1 .if1 .left, entry .pre)) (c .check-outcomes .ensures)
 
 pub read-command-spec : {M : Type 1} → statement M
 read-command-spec =

@@ -23,39 +23,70 @@ returns c = ends _ _ _ _ (c .enum-told .given .1) (c .before .before .field .ens
 
 number-requires : tie.Need-number-requires
 number-requires c κs =
-    let a = c .before .before .before .before .before .args in
-    let w = went (c .before .f .given .1) (c .before .before .before .field .ensures) in
+    let past-field = c .before .before .before in
+    let entry = past-field .before .before in
+    let a = entry .args in
+    let w = went (c .before .f .given .1) (past-field .field .ensures) in
     omega (arith, head-long (a .file .now) (afterField (a .file .now) headMark) (w .0))
 
 returns-2 : tie.Need-returns-2
 returns-2 c =
-    let a = c .before .before .before .before .before .before .before .args in
-    let w = went (c .before .before .before .f .given .1) (c .before .before .before .before .before .field .ensures) in
+    let past-f = c .before .before .before in
+    let past-field = past-f .before .before in
+    let entry = past-field .before .before in
+    let a = entry .args in
+    let w = went (past-f .f .given .1) (past-field .field .ensures) in
     refuses Beyond (head-none (a .file .now) (afterField (a .file .now) headMark) (w .0) _ (omega (arith, c .before .number .ensures)))
 
 returns-3 : tie.Need-returns-3
 returns-3 c =
-    let a = c .before .before .before .before .before .before .before .before .args in
-    let w = went (c .before .before .before .before .f .given .1) (c .before .before .before .before .before .before .field .ensures) in
-    refuses Beyond (head-many (a .file .now) (afterField (a .file .now) headMark) (w .0) _ (omega (arith, c .before .before .number .ensures, c .before .if1 .left)) (omega (arith, c .before .before .number .ensures)))
+    let past-f = c .before .before .before .before in
+    let past-field = past-f .before .before in
+    let entry = past-field .before .before in
+    let a = entry .args in
+    let w = went (past-f .f .given .1) (past-field .field .ensures) in
+    refuses Beyond (head-many (a .file .now) (afterField (a .file .now) headMark) (w .0) _
+    (omega (arith, c .before .before .number .ensures, c .before .if1 .left)) (omega (arith, c .before .before .number .ensures)))
 
 number-requires-2 : tie.Need-number-requires-2
 number-requires-2 c κs =
-    let a = c .before .before .before .before .before .before .before .before .args in
-    let w = went (c .before .before .before .before .f .given .1) (c .before .before .before .before .before .before .field .ensures) in
+    let past-f = c .before .before .before .before in
+    let past-field = past-f .before .before in
+    let entry = past-field .before .before in
+    let a = entry .args in
+    let w = went (past-f .f .given .1) (past-field .field .ensures) in
     omega (arith, head-long (a .file .now) (afterField (a .file .now) headMark) (w .0))
 
 returns-4 : tie.Need-returns-4
 returns-4 c =
-    let a = c .before .before .before .before .before .before .before .before .before .before .args in
-    let w = went (c .before .before .before .before .before .before .f .given .1) (c .before .before .before .before .before .before .before .before .field .ensures) in
-    refuses Beyond (head-start (a .file .now) (afterField (a .file .now) headMark) (w .0) _ (omega (arith, c .before .before .before .before .number .ensures, c .before .before .before .if1 .left)) (omega (arith, c .before .before .before .before .number .ensures, c .before .before .if2 .left)) (omega (arith, c .before .before .before .before .number .ensures, c .before .number2 .ensures)))
+    let branch1 = c .before .before .before in
+    let past-number = branch1 .before in
+    let past-f = past-number .before .before in
+    let past-field = past-f .before .before in
+    let entry = past-field .before .before in
+    let a = entry .args in
+    let w = went (past-f .f .given .1) (past-field .field .ensures) in
+    refuses Beyond (head-start (a .file .now) (afterField (a .file .now) headMark) (w .0) _
+    (omega (arith, past-number .number .ensures, branch1 .if1 .left))
+    (omega (arith, past-number .number .ensures, c .before .before .if2 .left))
+    (omega (arith, past-number .number .ensures, c .before .number2 .ensures)))
 
 returns-5 : tie.Need-returns-5
 returns-5 c =
-    let a = c .before .before .before .before .before .before .before .before .before .before .args in
-    let w = went (c .before .before .before .before .before .before .f .given .1) (c .before .before .before .before .before .before .before .before .field .ensures) in
-    record { answers = head-passes (a .file .now) (afterField (a .file .now) headMark) (w .0) (omega (arith, c .before .before .before .before .number .ensures, c .before .before .before .if1 .left)) (omega (arith, c .before .before .before .before .number .ensures, c .before .before .if2 .left)) (omega (arith, c .before .before .before .before .number .ensures, c .before .number2 .ensures)); stays = w .1 }
+    let branch1 = c .before .before .before in
+    let past-number = branch1 .before in
+    let past-f = past-number .before .before in
+    let past-field = past-f .before .before in
+    let entry = past-field .before .before in
+    let a = entry .args in
+    let w = went (past-f .f .given .1) (past-field .field .ensures) in
+    record {
+      answers = head-passes (a .file .now) (afterField (a .file .now) headMark) (w .0)
+          (omega (arith, past-number .number .ensures, branch1 .if1 .left))
+          (omega (arith, past-number .number .ensures, c .before .before .if2 .left))
+          (omega (arith, past-number .number .ensures, c .before .number2 .ensures));
+      stays = w .1;
+    }
 
 pub read-head-spec : {M : Type 1} → statement M
 read-head-spec =

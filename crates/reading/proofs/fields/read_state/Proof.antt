@@ -25,26 +25,37 @@ returns c = ends _ _ _ _ (c .enum-told .given .1) (c .before .before .field .ens
 
 small-requires : tie.Need-small-requires
 small-requires c κs =
-    let a = c .before .before .before .before .before .args in
-    let w = went (c .before .f .given .1) (c .before .before .before .field .ensures) in
+    let past-field = c .before .before .before in
+    let entry = past-field .before .before in
+    let a = entry .args in
+    let w = went (c .before .f .given .1) (past-field .field .ensures) in
     omega (arith, state-long (a .k .m) (bytesFrom (a .file .now) (a .k)) (afterField (a .file .now) (a .k)) (w .0))
 
 number-requires : tie.Need-number-requires
 number-requires c κs =
-    let a = c .before .before .before .before .before .before .args in
-    let w = went (c .before .before .f .given .1) (c .before .before .before .before .field .ensures) in
+    let past-field = c .before .before .before .before in
+    let entry = past-field .before .before in
+    let a = entry .args in
+    let w = went (c .before .before .f .given .1) (past-field .field .ensures) in
     omega (arith, state-long (a .k .m) (bytesFrom (a .file .now) (a .k)) (afterField (a .file .now) (a .k)) (w .0))
 
 returns-2 : tie.Need-returns-2
 returns-2 c =
-    let a = c .before .before .before .before .before .before .before .before .args in
-    let w = went (c .before .before .before .before .f .given .1) (c .before .before .before .before .before .before .field .ensures) in
-    refuses Beyond (state-kind (a .k .m) (bytesFrom (a .file .now) (a .k)) (afterField (a .file .now) (a .k)) (w .0) _ (omega (arith, c .before .before .small .ensures)))
+    let past-f = c .before .before .before .before in
+    let past-field = past-f .before .before in
+    let entry = past-field .before .before in
+    let a = entry .args in
+    let w = went (past-f .f .given .1) (past-field .field .ensures) in
+    refuses Beyond (state-kind (a .k .m) (bytesFrom (a .file .now) (a .k)) (afterField (a .file .now) (a .k)) (w .0) _
+    (omega (arith, c .before .before .small .ensures)))
 
 number-requires-2 : tie.Need-number-requires-2
 number-requires-2 c κs =
-    let a = c .before .before .before .before .before .before .before .before .args in
-    let w = went (c .before .before .before .before .f .given .1) (c .before .before .before .before .before .before .field .ensures) in
+    let past-f = c .before .before .before .before in
+    let past-field = past-f .before .before in
+    let entry = past-field .before .before in
+    let a = entry .args in
+    let w = went (past-f .f .given .1) (past-field .field .ensures) in
     omega (arith, state-long (a .k .m) (bytesFrom (a .file .now) (a .k)) (afterField (a .file .now) (a .k)) (w .0))
 
 not-idle-requires : tie.Need-not-idle-requires
@@ -52,24 +63,60 @@ not-idle-requires c κs = search needs
 
 returns-3 : tie.Need-returns-3
 returns-3 c =
-    let a = c .before .before .before .before .before .before .before .before .before .before .before .args in
-    let w = went (c .before .before .before .before .before .before .before .f .given .1) (c .before .before .before .before .before .before .before .before .before .field .ensures) in
-    refuses Idle (state-idle (a .k .m) (bytesFrom (a .file .now) (a .k)) (afterField (a .file .now) (a .k)) (w .0) _ (omega (arith, c .before .before .before .before .before .small .ensures, c .before .before .before .if1 .left)) (sym (rw (c .before .before .before .before .before .small .ensures, c .before .before .before .before .number .ensures, c .before .before .number2 .ensures) at (c .before .not-idle .ensures)) ∙ not-true _ (c .if2 .taken)))
+    let branch1 = c .before .before .before in
+    let past-number = branch1 .before in
+    let past-small = past-number .before in
+    let past-f = past-small .before .before in
+    let past-field = past-f .before .before in
+    let entry = past-field .before .before in
+    let a = entry .args in
+    let w = went (past-f .f .given .1) (past-field .field .ensures) in
+    refuses Idle (state-idle (a .k .m) (bytesFrom (a .file .now) (a .k)) (afterField (a .file .now) (a .k)) (w .0) _
+    (omega (arith, past-small .small .ensures, branch1 .if1 .left))
+    (sym (rw (past-small .small .ensures, past-number .number .ensures, c .before .before .number2 .ensures) at
+    (c .before .not-idle .ensures)) ∙ not-true _ (c .if2 .taken)))
 
 sub-if3 : tie.Need-sub-if3
 sub-if3 c = search needs
 
 returns-4 : tie.Need-returns-4
 returns-4 c =
-    let a = c .before .before .before .before .before .before .before .before .before .before .before .before .before .args in
-    let w = went (c .before .before .before .before .before .before .before .before .before .f .given .1) (c .before .before .before .before .before .before .before .before .before .before .before .field .ensures) in
-    refuses Limit (state-limit (a .k .m) (bytesFrom (a .file .now) (a .k)) (afterField (a .file .now) (a .k)) (w .0) _ (omega (arith, c .before .before .before .before .before .before .before .small .ensures, c .before .before .before .before .before .if1 .left)) (sym (rw (c .before .before .before .before .before .before .before .small .ensures, c .before .before .before .before .before .before .number .ensures, c .before .before .before .before .number2 .ensures) at (c .before .before .before .not-idle .ensures)) ∙ not-false _ (c .before .before .if2 .left)) (omega (arith, c .before .before .before .before .before .before .number .ensures, c .before .before .before .before .before .before .before .before .before .before .before .before .before .pre)))
+    let past-not-idle = c .before .before .before in
+    let past-number2 = past-not-idle .before in
+    let branch1 = past-number2 .before in
+    let past-number = branch1 .before in
+    let past-small = past-number .before in
+    let past-f = past-small .before .before in
+    let past-field = past-f .before .before in
+    let entry = past-field .before .before in
+    let a = entry .args in
+    let w = went (past-f .f .given .1) (past-field .field .ensures) in
+    refuses Limit (state-limit (a .k .m) (bytesFrom (a .file .now) (a .k)) (afterField (a .file .now) (a .k)) (w .0) _
+    (omega (arith, past-small .small .ensures, branch1 .if1 .left))
+    (sym (rw (past-small .small .ensures, past-number .number .ensures, past-number2 .number2 .ensures) at
+    (past-not-idle .not-idle .ensures)) ∙ not-false _ (c .before .before .if2 .left))
+    (omega (arith, past-number .number .ensures, entry .pre)))
 
 returns-5 : tie.Need-returns-5
 returns-5 c =
-    let a = c .before .before .before .before .before .before .before .before .before .before .before .before .before .args in
-    let w = went (c .before .before .before .before .before .before .before .before .before .f .given .1) (c .before .before .before .before .before .before .before .before .before .before .before .field .ensures) in
-    record { answers = state-passes (a .k .m) (bytesFrom (a .file .now) (a .k)) (afterField (a .file .now) (a .k)) (w .0) (omega (arith, c .before .before .before .before .before .before .before .small .ensures, c .before .before .before .before .before .if1 .left)) (sym (rw (c .before .before .before .before .before .before .before .small .ensures, c .before .before .before .before .before .before .number .ensures, c .before .before .before .before .number2 .ensures) at (c .before .before .before .not-idle .ensures)) ∙ not-false _ (c .before .before .if2 .left)) (omega (arith, c .before .before .before .before .before .before .number .ensures, c .before .before .before .before .before .before .before .before .before .before .before .before .before .pre)); stays = w .1 }
+    let past-not-idle = c .before .before .before in
+    let past-number2 = past-not-idle .before in
+    let branch1 = past-number2 .before in
+    let past-number = branch1 .before in
+    let past-small = past-number .before in
+    let past-f = past-small .before .before in
+    let past-field = past-f .before .before in
+    let entry = past-field .before .before in
+    let a = entry .args in
+    let w = went (past-f .f .given .1) (past-field .field .ensures) in
+    record {
+      answers = state-passes (a .k .m) (bytesFrom (a .file .now) (a .k)) (afterField (a .file .now) (a .k)) (w .0)
+          (omega (arith, past-small .small .ensures, branch1 .if1 .left))
+          (sym (rw (past-small .small .ensures, past-number .number .ensures, past-number2 .number2 .ensures) at
+          (past-not-idle .not-idle .ensures)) ∙ not-false _ (c .before .before .if2 .left))
+          (omega (arith, past-number .number .ensures, entry .pre));
+      stays = w .1;
+    }
 
 pub read-state-spec : {M : Type 1} → statement M
 read-state-spec =

@@ -15,7 +15,9 @@ entry-requires : tie.Need-entry-requires
 entry-requires c κs = search needs
 
 returns : tie.Need-returns
-returns c = rw (c .before .before .wide .ensures, c .before .before .before .byte .ensures, c .before .narrow .ensures, c .entry .ensures)
+returns c =
+    let past-byte = c .before .before .before in
+    rw (c .before .before .wide .ensures, past-byte .byte .ensures, c .before .narrow .ensures, c .entry .ensures)
 
 pub row-in-spec : {M : Type 1} → statement M
 row-in-spec =

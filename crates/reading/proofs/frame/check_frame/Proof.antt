@@ -15,16 +15,22 @@ remaining-requires c κs = search needs
 
 returns : tie.Need-returns
 returns c =
-    let a = c .before .before .before .args in
-    field-stops (a .file .now) (a .k) (a .due) Cut (field-cut (a .due) (bytesFrom (a .file .now) (a .k)) (omega (arith, c .before .remaining .ensures)))
+    let entry = c .before .before .before in
+    let a = entry .args in
+    field-stops (a .file .now) (a .k) (a .due) Cut
+    (field-cut (a .due) (bytesFrom (a .file .now) (a .k)) (omega (arith, c .before .remaining .ensures)))
 
 byte-requires : tie.Need-byte-requires
 byte-requires c κs = search needs
 
 returns-2 : tie.Need-returns-2
 returns-2 c =
-    let a = c .before .before .before .before .before .args in
-    field-stops (a .file .now) (a .k) (a .due) Tag (field-tag (a .due) (bytesFrom (a .file .now) (a .k)) (omega (arith, c .before .before .before .remaining .ensures)) (λ q. c .if2 .taken (c .before .byte .ensures ∙ q)))
+    let past-remaining = c .before .before .before in
+    let entry = past-remaining .before .before in
+    let a = entry .args in
+    field-stops (a .file .now) (a .k) (a .due) Tag
+    (field-tag (a .due) (bytesFrom (a .file .now) (a .k)) (omega (arith, past-remaining .remaining .ensures))
+    (λ q. c .if2 .taken (c .before .byte .ensures ∙ q)))
 
 number-requires : tie.Need-number-requires
 number-requires c κs = search needs
@@ -34,26 +40,56 @@ allowed-requires c κs = search needs
 
 returns-3 : tie.Need-returns-3
 returns-3 c =
-    let a = c .before .before .before .before .before .before .before .before .args in
-    field-stops (a .file .now) (a .k) (a .due) Length (field-length (a .due) (bytesFrom (a .file .now) (a .k)) (omega (arith, c .before .before .before .before .before .before .remaining .ensures)) (sym (c .before .before .before .before .byte .ensures) ∙ c .before .before .before .if2 .left) (sym (c .before .allowed .ensures ∙ ap (allowed (a .due)) (c .before .before .number .ensures)) ∙ not-true _ (c .if3 .taken)))
+    let branch2 = c .before .before .before in
+    let past-byte = branch2 .before in
+    let past-remaining = past-byte .before .before in
+    let entry = past-remaining .before .before in
+    let a = entry .args in
+    field-stops (a .file .now) (a .k) (a .due) Length
+    (field-length (a .due) (bytesFrom (a .file .now) (a .k)) (omega (arith, past-remaining .remaining .ensures))
+    (sym (past-byte .byte .ensures) ∙ branch2 .if2 .left)
+    (sym (c .before .allowed .ensures ∙ ap (allowed (a .due)) (c .before .before .number .ensures)) ∙ not-true _ (c .if3 .taken)))
 
 returns-4 : tie.Need-returns-4
 returns-4 c =
-    let a = c .before .before .before .before .before .before .before .before .before .args in
-    field-stops (a .file .now) (a .k) (a .due) Cut (field-short (a .due) (bytesFrom (a .file .now) (a .k)) (omega (arith, c .before .before .before .before .before .before .before .remaining .ensures)) (sym (c .before .before .before .before .before .byte .ensures) ∙ c .before .before .before .before .if2 .left) (sym (c .before .before .allowed .ensures ∙ ap (allowed (a .due)) (c .before .before .before .number .ensures)) ∙ not-false _ (c .before .if3 .left)) (omega (arith, c .before .before .before .before .before .before .before .remaining .ensures, c .before .before .before .number .ensures)))
+    let past-number = c .before .before .before in
+    let branch2 = past-number .before in
+    let past-byte = branch2 .before in
+    let past-remaining = past-byte .before .before in
+    let entry = past-remaining .before .before in
+    let a = entry .args in
+    field-stops (a .file .now) (a .k) (a .due) Cut
+    (field-short (a .due) (bytesFrom (a .file .now) (a .k)) (omega (arith, past-remaining .remaining .ensures))
+    (sym (past-byte .byte .ensures) ∙ branch2 .if2 .left)
+    (sym (c .before .before .allowed .ensures ∙ ap (allowed (a .due)) (past-number .number .ensures))
+    ∙ not-false _ (c .before .if3 .left)) (omega (arith, past-remaining .remaining .ensures, past-number .number .ensures)))
 
 add-moved : tie.Need-add-moved
-add-moved c = let s = c .before .before .before .before .before .before .before .before .before in omega (arith, c .before .before .before .before .before .before .before .remaining .ensures, length-drop (s .args .k .at) (s .args .file .now), s .good)
+add-moved c =
+    let past-remaining = c .before .before .before .before .before .before .before in
+    let s = c .before .before .before .before .before .before .before .before .before in omega
+    (arith, past-remaining .remaining .ensures, length-drop (s .args .k .at) (s .args .file .now), s .good)
 
 moved-requires : tie.Need-moved-requires
-moved-requires c κs = let s = c .before .before .before .before .before .before .before .before .before in omega (arith, c .before .before .before .before .before .before .before .remaining .ensures, length-drop (s .args .k .at) (s .args .file .now), s .pre, s .good)
+moved-requires c κs =
+    let past-remaining = c .before .before .before .before .before .before .before in
+    let s = c .before .before .before .before .before .before .before .before .before in omega
+    (arith, past-remaining .remaining .ensures, length-drop (s .args .k .at) (s .args .file .now), s .pre, s .good)
 
 returns-5 : tie.Need-returns-5
 returns-5 c =
+    let past-allowed = c .before .before .before in
+    let past-number = past-allowed .before in
+    let branch2 = past-number .before in
+    let past-byte = branch2 .before in
+    let past-remaining = past-byte .before .before in
     let s = c .before .before .before .before .before .before .before .before .before .before in
     let a = s .args in
-    let given-len = field-given (a .due) (bytesFrom (a .file .now) (a .k)) (omega (arith, c .before .before .before .before .before .before .before .before .remaining .ensures)) (sym (c .before .before .before .before .before .before .byte .ensures) ∙ c .before .before .before .before .before .if2 .left) (sym (c .before .before .before .allowed .ensures ∙ ap (allowed (a .due)) (c .before .before .before .before .number .ensures)) ∙ not-false _ (c .before .before .if3 .left)) (omega (arith, c .before .before .before .before .before .before .before .before .remaining .ensures, c .before .before .before .before .number .ensures)) in
-    field-walks (a .file .now) (a .k) (a .due) (rw (← c .before .before .before .before .number .ensures) at given-len) (s .pre) (c .moved .ensures)
+    let given-len = field-given (a .due) (bytesFrom (a .file .now) (a .k)) (omega (arith, past-remaining .remaining .ensures))
+    (sym (past-byte .byte .ensures) ∙ branch2 .if2 .left)
+    (sym (past-allowed .allowed .ensures ∙ ap (allowed (a .due)) (past-number .number .ensures))
+    ∙ not-false _ (c .before .before .if3 .left)) (omega (arith, past-remaining .remaining .ensures, past-number .number .ensures)) in
+    field-walks (a .file .now) (a .k) (a .due) (rw (← past-number .number .ensures) at given-len) (s .pre) (c .moved .ensures)
 
 pub check-frame-spec : {M : Type 1} → statement M
 check-frame-spec =

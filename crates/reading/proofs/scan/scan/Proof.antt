@@ -15,10 +15,24 @@ enum-known-k : tie.Need-enum-known-k
 enum-known-k c = search needs
 
 number-requires : tie.Need-number-requires
-number-requires c κs = omega (arith, read-long (c .before .before .before .before .before .args .file .now) (c .before .k .given .0 .0) (went (c .before .k .given .1) (c .before .before .before .judge .ensures) .0))
+number-requires c κs =
+    let past-judge = c .before .before .before in
+    let entry = past-judge .before .before in
+    omega (
+      arith,
+      read-long (entry .args .file .now) (c .before .k .given .0 .0)
+          (went (c .before .k .given .1) (past-judge .judge .ensures) .0),
+    )
 
 number-requires-2 : tie.Need-number-requires-2
-number-requires-2 c κs = omega (arith, read-long (c .before .before .before .before .before .before .args .file .now) (c .before .before .k .given .0 .0) (went (c .before .before .k .given .1) (c .before .before .before .before .judge .ensures) .0))
+number-requires-2 c κs =
+    let past-judge = c .before .before .before .before in
+    let entry = past-judge .before .before in
+    omega (
+      arith,
+      read-long (entry .args .file .now) (c .before .before .k .given .0 .0)
+          (went (c .before .before .k .given .1) (past-judge .judge .ensures) .0),
+    )
 
 new-requires : tie.Need-new-requires
 new-requires c κs = search needs
@@ -27,10 +41,18 @@ enum-known-r : tie.Need-enum-known-r
 enum-known-r c = search needs
 
 returns : tie.Need-returns
-returns c = ap (λ z. given (numbers z)) (c .new .ensures) ∙ read-size (c .before .before .before .before .before .before .before .before .args .file .now) (c .before .before .before .before .k .given .0 .0) (went (c .before .before .before .before .k .given .1) (c .before .before .before .before .before .before .judge .ensures) .0) (c .before .before .number .ensures) (c .before .number2 .ensures)
+returns c =
+    let past-k = c .before .before .before .before in
+    let past-judge = past-k .before .before in
+    let entry = past-judge .before .before in
+    ap (λ z. given (numbers z)) (c .new .ensures)
+    ∙ read-size (entry .args .file .now) (past-k .k .given .0 .0) (went (past-k .k .given .1) (past-judge .judge .ensures) .0)
+    (c .before .before .number .ensures) (c .before .number2 .ensures)
 
 returns-2 : tie.Need-returns-2
-returns-2 c = read-refused (c .before .r .given .1) (c .before .before .before .judge .ensures)
+returns-2 c =
+    let past-judge = c .before .before .before in
+    read-refused (c .before .r .given .1) (past-judge .judge .ensures)
 
 pub scan-spec : {M : Type 1} → statement M
 scan-spec =

@@ -28,19 +28,30 @@ enum-told c = search needs
 
 returns : tie.Need-returns Inv-loop μ-loop
 returns c =
-    let a = c .before .before .before .before .before .before .args in
-    subst (Walks (a .file .now) _) (c .before .before .before .before .loop .inv .2 ∙ states-all (a .file .now) (a .n) (a .from)) (states-end (a .file .now) (a .n) (c .before .before .before .before .loop .i) (c .before .before .before .before .loop .k) (c .before .before .before .loop-test .taken) (c .enum-told .given .1) (c .before .before .read-state .ensures))
+    let past-loop-test = c .before .before .before in
+    let turn = past-loop-test .before in
+    let entry = turn .before .before in
+    let a = entry .args in
+    subst (Walks (a .file .now) _) (turn .loop .inv .2 ∙ states-all (a .file .now) (a .n) (a .from))
+    (states-end (a .file .now) (a .n) (turn .loop .i) (turn .loop .k) (past-loop-test .loop-test .taken) (c .enum-told .given .1)
+    (c .before .before .read-state .ensures))
 
 number-requires : tie.Need-number-requires Inv-loop μ-loop
 number-requires c κs =
-    let w = went (c .before .f .given .1) (c .before .before .before .read-state .ensures) in
-    let r = state-room (c .before .before .before .before .before .before .before .args .file .now) (c .before .before .before .before .before .loop .k) (c .before .f .given .0 .0) (w .0) in
+    let past-read-state = c .before .before .before in
+    let turn = past-read-state .before .before in
+    let entry = turn .before .before in
+    let w = went (c .before .f .given .1) (past-read-state .read-state .ensures) in
+    let r = state-room (entry .args .file .now) (turn .loop .k) (c .before .f .given .0 .0) (w .0) in
     omega (arith, r)
 
 scan-commands-requires : tie.Need-scan-commands-requires Inv-loop μ-loop
 scan-commands-requires c κs =
-    let w = went (c .before .before .f .given .1) (c .before .before .before .before .read-state .ensures) in
-    let r = state-room (c .before .before .before .before .before .before .before .before .args .file .now) (c .before .before .before .before .before .before .loop .k) (c .before .before .f .given .0 .0) (w .0) in
+    let past-read-state = c .before .before .before .before in
+    let turn = past-read-state .before .before in
+    let entry = turn .before .before in
+    let w = went (c .before .before .f .given .1) (past-read-state .read-state .ensures) in
+    let r = state-room (entry .args .file .now) (turn .loop .k) (c .before .before .f .given .0 .0) (w .0) in
     (w .1, rw (c .number .ensures) (r .1))
 
 enum-known-c : tie.Need-enum-known-c Inv-loop μ-loop
@@ -51,9 +62,17 @@ enum-told-2 c = search needs
 
 returns-2 : tie.Need-returns-2 Inv-loop μ-loop
 returns-2 c =
-    let a = c .before .before .before .before .before .before .before .before .before .before .before .args in
-    let w = went (c .before .before .before .before .before .f .given .1) (c .before .before .before .before .before .before .before .read-state .ensures) in
-    subst (Walks (a .file .now) _) (c .before .before .before .before .before .before .before .before .before .loop .inv .2 ∙ states-all (a .file .now) (a .n) (a .from)) (states-stop (a .file .now) (a .n) (c .before .before .before .before .before .before .before .before .before .loop .i) (c .before .before .before .before .before .before .before .before .before .loop .k) (c .before .before .before .before .before .before .before .before .loop-test .taken) (c .before .before .before .before .before .f .given .0 .0) _ (c .before .before .before .number .ensures) (w .0) (c .enum-told2 .given .1) (c .before .before .scan-commands .ensures))
+    let past-number = c .before .before .before in
+    let past-f = past-number .before .before in
+    let past-read-state = past-f .before .before in
+    let past-loop-test = past-read-state .before in
+    let turn = past-loop-test .before in
+    let entry = turn .before .before in
+    let a = entry .args in
+    let w = went (past-f .f .given .1) (past-read-state .read-state .ensures) in
+    subst (Walks (a .file .now) _) (turn .loop .inv .2 ∙ states-all (a .file .now) (a .n) (a .from))
+    (states-stop (a .file .now) (a .n) (turn .loop .i) (turn .loop .k) (past-loop-test .loop-test .taken) (past-f .f .given .0 .0) _
+    (past-number .number .ensures) (w .0) (c .enum-told2 .given .1) (c .before .before .scan-commands .ensures))
 
 add-i : tie.Need-add-i Inv-loop μ-loop
 add-i c = omega arith
@@ -63,15 +82,31 @@ loop-less c = omega arith
 
 loop-again : tie.Need-loop-again Inv-loop μ-loop
 loop-again c =
-    let a = c .before .before .before .before .before .before .before .before .before .before .before .before .args in
-    let w = went (c .before .before .before .before .before .before .f .given .1) (c .before .before .before .before .before .before .before .before .read-state .ensures) in
-    let v = went (c .before .c .given .1) (c .before .before .before .scan-commands .ensures) in
-    (v .1, omega arith, sym (states-more (a .file .now) (a .n) (c .before .before .before .before .before .before .before .before .before .before .loop .i) (c .before .before .before .before .before .before .before .before .before .before .loop .k) (c .before .before .before .before .before .before .before .before .before .loop-test .taken) (c .before .before .before .before .before .before .f .given .0 .0) _ (c .before .before .before .before .number .ensures) (w .0) (c .before .c .given .0 .0) (v .0)) ∙ c .before .before .before .before .before .before .before .before .before .before .loop .inv .2)
+    let past-scan-commands = c .before .before .before in
+    let past-number = past-scan-commands .before in
+    let past-f = past-number .before .before in
+    let past-read-state = past-f .before .before in
+    let past-loop-test = past-read-state .before in
+    let turn = past-loop-test .before in
+    let entry = turn .before .before in
+    let a = entry .args in
+    let w = went (past-f .f .given .1) (past-read-state .read-state .ensures) in
+    let v = went (c .before .c .given .1) (past-scan-commands .scan-commands .ensures) in (
+      v .1,
+      omega arith,
+      sym (states-more (a .file .now) (a .n) (turn .loop .i) (turn .loop .k) (past-loop-test .loop-test .taken)
+          (past-f .f .given .0 .0) _ (past-number .number .ensures) (w .0) (c .before .c .given .0 .0) (v .0)) ∙ turn .loop .inv .2,
+    )
 
 returns-3 : tie.Need-returns-3 Inv-loop μ-loop
 returns-3 c =
-    let a = c .before .before .before .args in
-    record { answers = states-none (a .file .now) (a .n) (c .before .loop .i) (c .before .loop .k) (c .loop-test .left) ∙ c .before .loop .inv .2 ∙ states-all (a .file .now) (a .n) (a .from); stays = c .before .loop .inv .0 }
+    let entry = c .before .before .before in
+    let a = entry .args in
+    record {
+      answers = states-none (a .file .now) (a .n) (c .before .loop .i) (c .before .loop .k) (c .loop-test .left)
+          ∙ c .before .loop .inv .2 ∙ states-all (a .file .now) (a .n) (a .from);
+      stays = c .before .loop .inv .0;
+    }
 
 pub scan-states-spec : {M : Type 1} → statement M
 scan-states-spec =

@@ -13,10 +13,14 @@ returns-3 : tie.Need-returns-3
 returns-3 c = λ T. denies-commands T _ _ _ (c .before .before .if1 .left) (c .before .if2 .left) (c .if3 .taken)
 
 returns-4 : tie.Need-returns-4
-returns-4 c = λ T. denies-scratch T _ _ _ (c .before .before .before .if1 .left) (c .before .before .if2 .left) (c .before .if3 .left) (c .if4 .taken)
+returns-4 c =
+    let branch1 = c .before .before .before in
+    λ T. denies-scratch T _ _ _ (branch1 .if1 .left) (c .before .before .if2 .left) (c .before .if3 .left) (c .if4 .taken)
 
 returns-5 : tie.Need-returns-5
-returns-5 c = λ T. grants T _ _ _ (c .before .before .before .if1 .left) (c .before .before .if2 .left) (c .before .if3 .left) (c .if4 .left)
+returns-5 c =
+    let branch1 = c .before .before .before in
+    λ T. grants T _ _ _ (branch1 .if1 .left) (c .before .before .if2 .left) (c .before .if3 .left) (c .if4 .left)
 
 pub admit-spec : {M : Type 1} → statement M
 admit-spec = tie.close (tie.spec returns returns-2 returns-3 returns-4 returns-5)

@@ -20,13 +20,17 @@ at-requires : tie.Need-at-requires Inv-loop μ-loop
 at-requires c κs = omega (arith, c .before .loop .inv .part)
 
 at-requires-2 : tie.Need-at-requires-2 Inv-loop μ-loop
-at-requires-2 c κs = rw (c .at .ensures) (c .before .before .before .before .before .pre .1 _ (omega (arith, c .before .before .loop .inv .part)))
+at-requires-2 c κs =
+    let entry = c .before .before .before .before .before in
+    rw (c .at .ensures) (entry .pre .1 _ (omega (arith, c .before .before .loop .inv .part)))
 
 add-if1 : tie.Need-add-if1 Inv-loop μ-loop
 add-if1 c = omega arith
 
 returns : tie.Need-returns Inv-loop μ-loop
-returns c = cut-here (c .before .before .before .before .loop .inv) _ (omega arith) _ (c .before .before .at .ensures) _ (c .before .at2 .ensures) (c .if1 .taken)
+returns c =
+    let turn = c .before .before .before .before in
+    cut-here (turn .loop .inv) _ (omega arith) _ (c .before .before .at .ensures) _ (c .before .at2 .ensures) (c .if1 .taken)
 
 sub-q : tie.Need-sub-q Inv-loop μ-loop
 sub-q c = omega arith
@@ -35,7 +39,10 @@ loop-less : tie.Need-loop-less Inv-loop μ-loop
 loop-less c = omega arith
 
 loop-again : tie.Need-loop-again Inv-loop μ-loop
-loop-again c = cutting-next (c .before .before .before .before .loop .inv) _ (omega arith) _ (c .before .before .at .ensures) _ (c .before .at2 .ensures) (omega arith) (c .if1 .left)
+loop-again c =
+    let turn = c .before .before .before .before in
+    cutting-next (turn .loop .inv) _ (omega arith) _ (c .before .before .at .ensures) _ (c .before .at2 .ensures) (omega arith)
+    (c .if1 .left)
 
 returns-2 : tie.Need-returns-2 Inv-loop μ-loop
 returns-2 c = cut-first (c .before .loop .inv) (c .loop-test .left)

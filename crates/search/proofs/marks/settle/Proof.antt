@@ -14,36 +14,68 @@ use Rattle.search.proofs.marks.settle.Proof.Tie as tie
 
 abbrev Inv-loop : tie.InvT-loop
 Inv-loop size rows commands₀ scratch₀ queue from reached i₀ commands scratch i =
-    (from ≤ i) × (i ≤ reached) × ((F O : List ℕ) → Settled from i (λ x. markedAt (spanAt (held size rows F O) x) commands₀ scratch₀ x) queue commands₀ scratch₀ commands scratch)
+    (from ≤ i) × (i ≤ reached)
+    × ((F O : List ℕ) → Settled from i (λ x. markedAt (spanAt (held size rows F O) x) commands₀ scratch₀ x) queue commands₀ scratch₀
+    commands scratch)
 
 abbrev μ-loop : tie.MeasureT-loop
 μ-loop size rows commands₀ scratch₀ queue from reached i₀ commands scratch i = reached - i
 
 loop-holds : tie.Need-loop-holds Inv-loop μ-loop
-loop-holds c = (omega arith, c .before .before .before .pre .1 .0, λ F O. settled-none)
+loop-holds c =
+    let entry = c .before .before .before in
+    (omega arith, entry .pre .1 .0, λ F O. settled-none)
 
 at-requires : tie.Need-at-requires Inv-loop μ-loop
-at-requires c κs = omega (arith, c .before .before .before .before .before .pre .0, queued-few (c .before .before .before .before .before .pre .1 .1))
+at-requires c κs =
+    let entry = c .before .before .before .before .before in
+    omega (arith, entry .pre .0, queued-few (entry .pre .1 .1))
 
 span-at-requires : tie.Need-span-at-requires Inv-loop μ-loop
-span-at-requires c κs = (rw (c .at .ensures) (c .before .before .before .before .before .before .pre .1 .1 .states _ (c .before .loop-test .taken)), c .before .before .before .before .before .before .pre .0 .0)
+span-at-requires c κs =
+    let entry = c .before .before .before .before .before .before in
+    (rw (c .at .ensures) (entry .pre .1 .1 .states _ (c .before .loop-test .taken)), entry .pre .0 .0)
 
 settle-one-requires : tie.Need-settle-one-requires Inv-loop μ-loop
 settle-one-requires c κs =
-    let w = c .before .before .before .before .before .loop .inv .2 [] [] in
-    omega (arith, c .before .before .before .before .before .before .before .before .before .pre .0, c .before .before .before .before .before .before .before .before .before .pre .1 .1 .states _ (c .before .before .before .before .loop-test .taken), c .before .before .before .at .ensures, w .same-flags, w .same-commands)
+    let past-at = c .before .before .before in
+    let past-loop-test = past-at .before in
+    let turn = past-loop-test .before in
+    let entry = turn .before .before .before .before in
+    let w = turn .loop .inv .2 [] [] in
+    omega (
+      arith,
+      entry .pre .0,
+      entry .pre .1 .1 .states _ (past-loop-test .loop-test .taken),
+      past-at .at .ensures,
+      w .same-flags,
+      w .same-commands,
+    )
 
 add-i : tie.Need-add-i Inv-loop μ-loop
-add-i c = omega (arith, c .before .before .before .before .before .before .before .before .before .before .before .before .before .before .pre .0, queued-few (c .before .before .before .before .before .before .before .before .before .before .before .before .before .before .pre .1 .1))
+add-i c =
+    let entry = c .before .before .before .before .before .before .before .before .before .before .before .before .before .before in
+    omega (arith, entry .pre .0, queued-few (entry .pre .1 .1))
 
 loop-less : tie.Need-loop-less Inv-loop μ-loop
 loop-less c = omega arith
 
 loop-again : tie.Need-loop-again Inv-loop μ-loop
 loop-again c =
-    let p = c .before .before .before .before .before .before .before .before .before .before .before .before .before .before .pre in
-    let w = c .before .before .before .before .before .before .before .before .before .before .loop .inv in
-    (omega (arith, w .0), omega arith, λ F O. settled-next _ (p .1 .1) (p .0 .1) (p .0 .2) (w .2 F O) (w .0) (c .before .before .before .before .before .before .before .before .before .loop-test .taken) _ (c .before .before .before .before .before .before .before .before .at .ensures) _ (c .before .before .before .before .before .before .before .span-at .ensures F O) (c .before .before .before .before .settle-one .ensures .0) (c .before .before .before .before .settle-one .ensures .1))
+    let past-settle-one = c .before .before .before .before in
+    let past-span-at = past-settle-one .before .before .before in
+    let past-at = past-span-at .before in
+    let past-loop-test = past-at .before in
+    let turn = past-loop-test .before in
+    let entry = turn .before .before .before .before in
+    let p = entry .pre in
+    let w = turn .loop .inv in (
+      omega (arith, w .0),
+      omega arith,
+      λ F O. settled-next _ (p .1 .1) (p .0 .1) (p .0 .2) (w .2 F O) (w .0)
+          (past-loop-test .loop-test .taken) _ (past-at .at .ensures) _ (past-span-at .span-at .ensures F O)
+          (past-settle-one .settle-one .ensures .0) (past-settle-one .settle-one .ensures .1),
+    )
 
 same-length : tie.Need-same-length Inv-loop μ-loop
 same-length c = c .before .loop .inv .2 [] [] .same-commands
@@ -55,4 +87,5 @@ returns : tie.Need-returns Inv-loop μ-loop
 returns c = λ F O. settled-done (c .before .loop .inv .2 F O) (c .before .loop .inv .1) (c .loop-test .left)
 
 pub settle-spec : {M : Type 1} → statement M
-settle-spec = tie.close (tie.spec Inv-loop μ-loop loop-holds at-requires span-at-requires settle-one-requires add-i loop-less loop-again same-length same-length-2 returns)
+settle-spec = tie.close (tie.spec Inv-loop μ-loop loop-holds at-requires span-at-requires settle-one-requires add-i loop-less loop-again
+    same-length same-length-2 returns)

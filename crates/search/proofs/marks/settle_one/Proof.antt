@@ -20,7 +20,14 @@ same-length-2 : tie.Need-same-length-2
 same-length-2 c = search needs
 
 returns : tie.Need-returns
-returns c = (c .before .before .before .before .before .before .before .put .ensures, swept-marked _ _ _ _ _ (c .before .before .before .before .before .before .before .before .before .is-marked .ensures) _ (c .before .before .before .before .if1 .taken) (c .before .before .put2 .ensures))
+returns c =
+    let branch1 = c .before .before .before .before in
+    let past-put = branch1 .before .before .before in
+    let past-is-marked = past-put .before .before in (
+      past-put .put .ensures,
+      swept-marked _ _ _ _ _ (past-is-marked .is-marked .ensures) _ (branch1 .if1 .taken)
+          (c .before .before .put2 .ensures),
+    )
 
 put-requires-3 : tie.Need-put-requires-3
 put-requires-3 c κs = search needs
@@ -32,7 +39,14 @@ same-length-4 : tie.Need-same-length-4
 same-length-4 c = search needs
 
 returns-2 : tie.Need-returns-2
-returns-2 c = (c .before .before .before .before .before .before .before .put .ensures, swept-other _ _ _ _ _ (c .before .before .before .before .before .before .before .before .before .is-marked .ensures) _ (c .before .before .before .before .if1 .left) (c .before .before .put3 .ensures))
+returns-2 c =
+    let branch1 = c .before .before .before .before in
+    let past-put = branch1 .before .before .before in
+    let past-is-marked = past-put .before .before in (
+      past-put .put .ensures,
+      swept-other _ _ _ _ _ (past-is-marked .is-marked .ensures) _ (branch1 .if1 .left)
+          (c .before .before .put3 .ensures),
+    )
 
 pub settle-one-spec : {M : Type 1} → statement M
 settle-one-spec =

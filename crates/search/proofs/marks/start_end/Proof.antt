@@ -15,10 +15,16 @@ has-commands-requires : tie.Need-has-commands-requires
 has-commands-requires c κs = search needs
 
 returns-2 : tie.Need-returns-2
-returns-2 c = end-active _ (sym (c .before .before .before .is-failing .ensures) ∙ c .before .before .if1 .left) _ (c .before .has-commands .ensures) (c .if2 .taken)
+returns-2 c =
+    let past-is-failing = c .before .before .before in
+    end-active _ (sym (past-is-failing .is-failing .ensures) ∙ c .before .before .if1 .left) _ (c .before .has-commands .ensures)
+    (c .if2 .taken)
 
 returns-3 : tie.Need-returns-3
-returns-3 c = end-rest _ (sym (c .before .before .before .is-failing .ensures) ∙ c .before .before .if1 .left) _ (c .before .has-commands .ensures) (c .if2 .left)
+returns-3 c =
+    let past-is-failing = c .before .before .before in
+    end-rest _ (sym (past-is-failing .is-failing .ensures) ∙ c .before .before .if1 .left) _ (c .before .has-commands .ensures)
+    (c .if2 .left)
 
 pub start-end-spec : {M : Type 1} → statement M
 start-end-spec = tie.close (tie.spec is-failing-requires returns has-commands-requires returns-2 returns-3)

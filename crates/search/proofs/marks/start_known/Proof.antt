@@ -14,7 +14,8 @@ use Rattle.search.proofs.marks.start_known.Statement.{statement}
 use Rattle.search.proofs.marks.start_known.Proof.Tie as tie
 
 abbrev Inv-loop : tie.InvT-loop
-Inv-loop size rows scratch₀ s₀ scratch s = (s ≤ size .n) × ((F O : List ℕ) → Filled s (λ x. startFlag (spanAt (held size rows F O) x)) scratch₀ scratch)
+Inv-loop size rows scratch₀ s₀ scratch s = (s ≤ size .n)
+    × ((F O : List ℕ) → Filled s (λ x. startFlag (spanAt (held size rows F O) x)) scratch₀ scratch)
 
 abbrev μ-loop : tie.MeasureT-loop
 μ-loop size rows scratch₀ s₀ scratch s = size .n - s
@@ -29,7 +30,9 @@ start-flag-requires : tie.Need-start-flag-requires Inv-loop μ-loop
 start-flag-requires c κs = search needs
 
 put-requires : tie.Need-put-requires Inv-loop μ-loop
-put-requires c κs = omega (arith, c .before .before .before .before .before .loop .inv .1 [] [] .same)
+put-requires c κs =
+    let turn = c .before .before .before .before .before in
+    omega (arith, turn .loop .inv .1 [] [] .same)
 
 add-s : tie.Need-add-s Inv-loop μ-loop
 add-s c = omega arith
@@ -38,7 +41,14 @@ loop-less : tie.Need-loop-less Inv-loop μ-loop
 loop-less c = omega arith
 
 loop-again : tie.Need-loop-again Inv-loop μ-loop
-loop-again c = (omega arith, λ F O. filled-next (c .before .before .before .before .before .before .before .before .loop .inv .1 F O) (omega arith) _ (c .before .before .before .start-flag .ensures .0 ∙ ap startFlag (c .before .before .before .before .before .span-at .ensures F O)) _ (c .before .before .put .ensures))
+loop-again c =
+    let past-start-flag = c .before .before .before in
+    let past-span-at = past-start-flag .before .before in
+    let turn = past-span-at .before .before .before in (
+      omega arith,
+      λ F O. filled-next (turn .loop .inv .1 F O) (omega arith) _
+          (past-start-flag .start-flag .ensures .0 ∙ ap startFlag (past-span-at .span-at .ensures F O)) _ (c .before .before .put .ensures),
+    )
 
 same-length : tie.Need-same-length Inv-loop μ-loop
 same-length c = c .before .before .loop .inv .1 [] [] .same

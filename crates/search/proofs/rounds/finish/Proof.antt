@@ -11,7 +11,9 @@ same-length : tie.Need-same-length
 same-length c = search needs
 
 returns : tie.Need-returns
-returns c = finished-safe (c .before .before .before .fill .ensures) (c .if1 .taken)
+returns c =
+    let past-fill = c .before .before .before in
+    finished-safe (past-fill .fill .ensures) (c .if1 .taken)
 
 fill-requires-2 : tie.Need-fill-requires-2
 fill-requires-2 c κs = search needs
@@ -23,7 +25,10 @@ same-length-3 : tie.Need-same-length-3
 same-length-3 c = search needs
 
 returns-2 : tie.Need-returns-2
-returns-2 c = finished-lost (c .before .before .before .before .before .before .before .fill .ensures) (c .before .before .before .before .if1 .left) (c .before .before .fill2 .ensures)
+returns-2 c =
+    let branch1 = c .before .before .before .before in
+    let past-fill = branch1 .before .before .before in
+    finished-lost (past-fill .fill .ensures) (branch1 .if1 .left) (c .before .before .fill2 .ensures)
 
 pub finish-spec : {M : Type 1} → statement M
 finish-spec =

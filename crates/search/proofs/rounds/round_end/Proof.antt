@@ -11,10 +11,14 @@ at-requires : tie.Need-at-requires
 at-requires c κs = search needs
 
 returns-2 : tie.Need-returns-2
-returns-2 c = ends-lost _ (c .before .before .before .before .args .commands .now) (c .before .before .before .before .args .start) (c .before .before .if1 .left) _ (c .before .at .ensures) (c .if2 .taken)
+returns-2 c =
+    let entry = c .before .before .before .before in
+    ends-lost _ (entry .args .commands .now) (entry .args .start) (c .before .before .if1 .left) _ (c .before .at .ensures) (c .if2 .taken)
 
 returns-3 : tie.Need-returns-3
-returns-3 c = ends-due _ (c .before .before .before .before .args .commands .now) (c .before .before .before .before .args .start) (c .before .before .if1 .left) _ (c .before .at .ensures) (c .if2 .left)
+returns-3 c =
+    let entry = c .before .before .before .before in
+    ends-due _ (entry .args .commands .now) (entry .args .start) (c .before .before .if1 .left) _ (c .before .at .ensures) (c .if2 .left)
 
 pub round-end-spec : {M : Type 1} → statement M
 round-end-spec = tie.close (tie.spec returns at-requires returns-2 returns-3)

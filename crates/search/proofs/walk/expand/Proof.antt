@@ -7,16 +7,21 @@ use Rattle.search.proofs.Expanding.{expand-none, expand-place, expand-s
 use Rattle.search.proofs.walk.expand.Statement.{statement}
 use Rattle.search.proofs.walk.expand.Tie as tie
 
+abbrev past-choose-to-entry : tie.After-choose → tie.Start
+past-choose-to-entry c = c .before .before .before .before .before .before .before
+
 choose-requires : tie.Need-choose-requires
 choose-requires c κs =
-    let p = c .before .before .before .before .before .before .pre in
+    let entry = c .before .before .before .before .before .before in
+    let p = entry .pre in
     let v = p .1 .0 in
     let i = span-inside _ (v .sounds) _ (v .inside) _ (v .is) in
     (p .0, (i .0, i .1, p .1 .1 .0 .1))
 
 put-requires : tie.Need-put-requires
 put-requires c κs =
-    let v = c .before .before .before .before .before .before .before .before .pre .1 .0 in
+    let entry = c .before .before .before .before .before .before .before .before in
+    let v = entry .pre .1 .0 in
     let e = entry-fits _ (v .sounds) _ (v .inside) _ _ (c .before .choose .ensures (v .rows) _ (v .sounds) (v .inside) (v .is)) in
     omega arith
 
@@ -28,37 +33,61 @@ same-length-2 c = search needs
 
 returns : tie.Need-returns
 returns c =
-    let p = c .before .before .before .before .before .before .before .before .before .before .before .before .pre in
-    λ R sounds is. expand-none _ sounds _ (p .1 .0 .inside) _ is _ _ (c .before .before .before .before .before .choose .ensures R _ sounds (p .1 .0 .inside) is) (c .if1 .taken) _ _ _ (c .before .before .before .put .ensures) (p .1 .1 .1)
+    let past-put = c .before .before .before in
+    let past-choose = past-put .before .before in
+    let entry = past-choose-to-entry past-choose in
+    let p = entry .pre in
+    λ R sounds is. expand-none _ sounds _ (p .1 .0 .inside) _ is _ _ (past-choose .choose .ensures R _ sounds (p .1 .0 .inside) is)
+    (c .if1 .taken) _ _ _ (past-put .put .ensures) (p .1 .1 .1)
 
 add-g : tie.Need-add-g
 add-g c =
-    let v = c .before .before .before .before .before .before .before .before .before .before .before .before .before .pre .1 .0 in
-    omega (arith, c .before .before .before .before .before .before .before .before .before .before .before .before .before .pre .0 .few-commands, expand-place _ (v .sounds) _ (v .inside) _ (v .is) (c .before .before .before .before .before .before .before .before .before .before .before .before .before .args .scratch .now) _ (c .before .before .before .before .before .before .choose .ensures (v .rows) _ (v .sounds) (v .inside) (v .is)) (c .before .if1 .left))
+    let past-choose = c .before .before .before .before .before .before in
+    let entry = past-choose-to-entry past-choose in
+    let v = entry .pre .1 .0 in
+    omega (
+      arith,
+      entry .pre .0 .few-commands,
+      expand-place _ (v .sounds) _ (v .inside) _ (v .is) (entry .args .scratch .now) _
+          (past-choose .choose .ensures (v .rows) _ (v .sounds) (v .inside) (v .is)) (c .before .if1 .left),
+    )
 
 first-outcome-requires : tie.Need-first-outcome-requires
 first-outcome-requires c κs = search needs
 
 add-first-outcome : tie.Need-add-first-outcome
 add-first-outcome c =
-    let v = c .before .before .before .before .before .before .before .before .before .before .before .before .before .before .pre .1 .0 in
-    omega (arith, c .before .before .before .before .before .before .before .before .before .before .before .before .before .before .pre .0 .few-commands, expand-place _ (v .sounds) _ (v .inside) _ (v .is) (c .before .before .before .before .before .before .before .before .before .before .before .before .before .before .args .scratch .now) _ (c .before .before .before .before .before .before .before .choose .ensures (v .rows) _ (v .sounds) (v .inside) (v .is)) (c .before .before .if1 .left))
+    let past-choose = c .before .before .before .before .before .before .before in
+    let entry = past-choose-to-entry past-choose in
+    let v = entry .pre .1 .0 in
+    omega (
+      arith,
+      entry .pre .0 .few-commands,
+      expand-place _ (v .sounds) _ (v .inside) _ (v .is) (entry .args .scratch .now) _
+          (past-choose .choose .ensures (v .rows) _ (v .sounds) (v .inside) (v .is)) (c .before .before .if1 .left),
+    )
 
 first-outcome-requires-2 : tie.Need-first-outcome-requires-2
 first-outcome-requires-2 c κs = search needs
 
 spread-requires : tie.Need-spread-requires
 spread-requires c κs =
-    let p = c .before .before .before .before .before .before .before .before .before .before .before .before .before .before .before .before .before .pre in
+    let past-first-outcome = c .before .before .before in
+    let branch1 = past-first-outcome .before .before in
+    let past-choose = branch1 .before .before .before .before .before in
+    let entry = past-choose-to-entry past-choose in
+    let p = entry .pre in
     let v = p .1 .0 in
-    let O = c .before .before .before .before .before .before .before .before .before .before .before .before .before .before .before .before .before .args .outcomes .now in
-    let e = c .before .before .before .before .before .before .before .before .before .before .choose .ensures (v .rows) _ (v .sounds) (v .inside) (v .is) in
-    let from = c .before .before .before .first-outcome .ensures (v .rows) O in
+    let O = entry .args .outcomes .now in
+    let e = past-choose .choose .ensures (v .rows) _ (v .sounds) (v .inside) (v .is) in
+    let from = past-first-outcome .first-outcome .ensures (v .rows) O in
     let end = c .before .before .first-outcome2 .ensures (v .rows) O in (
       p .1 .1 .1,
       (
         (p .0 .few, p .1 .1 .0 .1, p .1 .1 .0 .2, p .1 .1 .0 .3, p .1 .1 .0 .4),
-        outcomes-inside (p .0) _ _ _ _ (expand-place _ (v .sounds) _ (v .inside) _ (v .is) (c .before .before .before .before .before .before .before .before .before .before .before .before .before .before .before .before .before .args .scratch .now) _ e (c .before .before .before .before .before .if1 .left)) from end (omega arith),
+        outcomes-inside (p .0) _ _ _ _
+            (expand-place _ (v .sounds) _ (v .inside) _ (v .is) (entry .args .scratch .now) _ e (branch1 .if1 .left)) from end
+            (omega arith),
       ),
     )
 
@@ -73,10 +102,19 @@ same-length-5 c = search needs
 
 returns-2 : tie.Need-returns-2
 returns-2 c =
-    let p = c .before .before .before .before .before .before .before .before .before .before .before .before .before .before .before .before .before .before .before .before .before .before .pre in
-    let O = c .before .before .before .before .before .before .before .before .before .before .before .before .before .before .before .before .before .before .before .before .before .before .args .outcomes .now in
-    λ R sounds is. expand-some _ sounds _ (p .1 .0 .inside) _ is _ _ (c .before .before .before .before .before .before .before .before .before .before .before .before .before .before .before .choose .ensures R _ sounds (p .1 .0 .inside) is) (c .before .before .before .before .before .before .before .before .before .before .if1 .left)
-    _ _ (c .before .before .before .before .before .before .before .before .first-outcome .ensures R O) (c .before .before .before .before .before .before .before .first-outcome2 .ensures R O) _ _ (c .before .before .before .before .before .before .before .before .before .before .before .before .before .put .ensures) (c .before .before .before .before .spread .ensures)
+    let past-spread = c .before .before .before .before in
+    let past-first-outcome2 = past-spread .before .before .before in
+    let past-first-outcome = past-first-outcome2 .before in
+    let branch1 = past-first-outcome .before .before in
+    let past-put = branch1 .before .before .before in
+    let past-choose = past-put .before .before in
+    let entry = past-choose-to-entry past-choose in
+    let p = entry .pre in
+    let O = entry .args .outcomes .now in
+    λ R sounds is. expand-some _ sounds _ (p .1 .0 .inside) _ is _ _ (past-choose .choose .ensures R _ sounds (p .1 .0 .inside) is)
+    (branch1 .if1 .left)
+    _ _ (past-first-outcome .first-outcome .ensures R O) (past-first-outcome2 .first-outcome2 .ensures R O) _ _ (past-put .put .ensures)
+    (past-spread .spread .ensures)
 
 pub expand-spec : {M : Type 1} → statement M
 expand-spec =

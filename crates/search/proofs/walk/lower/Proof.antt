@@ -16,13 +16,25 @@ at-requires : tie.Need-at-requires
 at-requires c κs = search needs
 
 sub-place : tie.Need-sub-place
-sub-place c = omega (arith, marked-high _ _ _ _ (c .before .before .before .before .before .args .low) _ (c .before .before .is-marked .ensures) (c .before .if1 .left) _ (c .at .ensures))
+sub-place c =
+    let entry = c .before .before .before .before .before in
+    omega (
+      arith,
+      marked-high _ _ _ _ (entry .args .low) _ (c .before .before .is-marked .ensures) (c .before .if1 .left) _
+          (c .at .ensures),
+    )
 
 returns-2 : tie.Need-returns-2
-returns-2 c = lower-here _ _ _ _ _ _ (c .before .before .before .is-marked .ensures) (c .before .before .if1 .left) _ (c .before .at .ensures) _ refl (c .if2 .taken)
+returns-2 c =
+    let past-is-marked = c .before .before .before in
+    lower-here _ _ _ _ _ _ (past-is-marked .is-marked .ensures) (c .before .before .if1 .left) _ (c .before .at .ensures) _ refl
+    (c .if2 .taken)
 
 returns-3 : tie.Need-returns-3
-returns-3 c = lower-before _ _ _ _ _ _ (c .before .before .before .is-marked .ensures) (c .before .before .if1 .left) _ (c .before .at .ensures) _ refl (c .if2 .left)
+returns-3 c =
+    let past-is-marked = c .before .before .before in
+    lower-before _ _ _ _ _ _ (past-is-marked .is-marked .ensures) (c .before .before .if1 .left) _ (c .before .at .ensures) _ refl
+    (c .if2 .left)
 
 pub lower-spec : {M : Type 1} → statement M
 lower-spec =

@@ -16,30 +16,53 @@ Inv-loop size rows firsts outcomes commands₀ scratch₀ queue₀ from reached 
 abbrev μ-loop : tie.MeasureT-loop
 μ-loop size rows firsts outcomes commands₀ scratch₀ queue₀ from reached q₀ low₀ h₀ commands scratch queue q low h = size .n - h
 
+abbrev past-lower-to-turn : tie.After-lower Inv-loop μ-loop → tie.At-loop Inv-loop μ-loop
+past-lower-to-turn c =
+    c .before .before .before .before .before .before .before .before .before .before .before .before .before .before .before .before
+    .before
+
+abbrev turn-to-entry : tie.At-loop Inv-loop μ-loop → tie.Start Inv-loop μ-loop
+turn-to-entry c = c .before .before .before .before .before .before
+
 loop-holds : tie.Need-loop-holds Inv-loop μ-loop
-loop-holds c = walking-start _ (c .before .before .before .before .before .pre .1)
+loop-holds c =
+    let entry = c .before .before .before .before .before in
+    walking-start _ (entry .pre .1)
 
 at-requires : tie.Need-at-requires Inv-loop μ-loop
-at-requires c κs = omega (arith, c .before .before .before .before .before .before .before .before .pre .0 .long-queue, c .before .before .loop .inv .same-queue, queued-few (c .before .before .loop .inv .queued))
+at-requires c κs =
+    let entry = c .before .before .before .before .before .before .before .before in
+    omega (arith, entry .pre .0 .long-queue, c .before .before .loop .inv .same-queue, queued-few (c .before .before .loop .inv .queued))
 
 span-at-requires : tie.Need-span-at-requires Inv-loop μ-loop
-span-at-requires c κs = (rw (c .at .ensures) (c .before .before .before .loop .inv .queued .states _ (c .before .before .loop-test .taken)), c .before .before .before .before .before .before .before .before .before .pre .0 .long-rows)
+span-at-requires c κs =
+    let turn = c .before .before .before in
+    let entry = turn-to-entry turn in
+    (rw (c .at .ensures) (turn .loop .inv .queued .states _ (c .before .before .loop-test .taken)), entry .pre .0 .long-rows)
 
 add-expand : tie.Need-add-expand Inv-loop μ-loop
-add-expand c = omega (arith, c .before .before .before .before .before .before .before .before .before .before .before .before .before .pre .0 .few, queued-few (c .before .before .before .before .before .before .before .loop .inv .queued))
+add-expand c =
+    let turn = c .before .before .before .before .before .before .before in
+    let entry = turn-to-entry turn in
+    omega (arith, entry .pre .0 .few, queued-few (turn .loop .inv .queued))
 
 expand-requires : tie.Need-expand-requires Inv-loop μ-loop
 expand-requires c κs =
-    let p = c .before .before .before .before .before .before .before .before .before .before .before .before .before .pre .0 in
-    let s = c .before .before .before .before .before .before .before .before .before .before .before .before .before .args in
-    let w = c .before .before .before .before .before .before .before .loop .inv in (
+    let past-span-at = c .before .before .before in
+    let past-at = past-span-at .before in
+    let past-loop-test = past-at .before .before in
+    let turn = past-loop-test .before in
+    let entry = turn-to-entry turn in
+    let p = entry .pre .0 in
+    let s = entry .args in
+    let w = turn .loop .inv in (
       p .ready,
       (
         record {
           rows = s .rows .now;
           sounds = p .sounds;
-          inside = rw (c .before .before .before .before .at .ensures) (w .queued .states _ (c .before .before .before .before .before .before .loop-test .taken));
-          is = c .before .before .before .span-at .ensures (s .firsts .now) (s .outcomes .now);
+          inside = rw (past-at .at .ensures) (w .queued .states _ (past-loop-test .loop-test .taken));
+          is = past-span-at .span-at .ensures (s .firsts .now) (s .outcomes .now);
         },
         (
           (
@@ -56,23 +79,45 @@ expand-requires c κs =
 
 lower-requires : tie.Need-lower-requires Inv-loop μ-loop
 lower-requires c κs =
-    let p = c .before .before .before .before .before .before .before .before .before .before .before .before .before .before .before .before .before .before .before .before .before .before .pre .0 in
-    let w = c .before .before .before .before .before .before .before .before .before .before .before .before .before .before .before .before .loop .inv in
-    omega (arith, w .queued .states _ (c .before .before .before .before .before .before .before .before .before .before .before .before .before .before .before .loop-test .taken), c .before .before .before .before .before .before .before .before .before .before .before .before .before .at .ensures, p .long-commands, w .commands .same, p .long-scratch, w .flags .same, c .before .before .before .before .before .before .before .before .expand .kept)
+    let past-expand = c .before .before .before .before .before .before .before .before in
+    let past-at = past-expand .before .before .before .before .before in
+    let past-loop-test = past-at .before .before in
+    let turn = past-loop-test .before in
+    let entry = turn-to-entry turn in
+    let p = entry .pre .0 in
+    let w = turn .loop .inv in
+    omega (
+      arith,
+      w .queued .states _ (past-loop-test .loop-test .taken),
+      past-at .at .ensures,
+      p .long-commands,
+      w .commands .same,
+      p .long-scratch,
+      w .flags .same,
+      past-expand .expand .kept,
+    )
 
 add-h : tie.Need-add-h Inv-loop μ-loop
-add-h c = omega (arith, c .before .before .before .before .before .before .before .before .before .before .before .before .before .before .before .before .before .before .before .before .before .before .before .pre .0 .few, queued-few (c .before .before .before .before .before .before .before .before .before .before .before .before .before .before .before .before .before .loop .inv .queued))
+add-h c = omega (arith, turn-to-entry (past-lower-to-turn c) .pre .0 .few, queued-few (past-lower-to-turn c .loop .inv .queued))
 
 loop-less : tie.Need-loop-less Inv-loop μ-loop
-loop-less c = omega (arith, queued-few (c .before .before .before .before .before .before .before .before .before .before .before .before .before .before .before .before .before .loop .inv .queued))
+loop-less c = omega (arith, queued-few (past-lower-to-turn c .loop .inv .queued))
 
 loop-again : tie.Need-loop-again Inv-loop μ-loop
 loop-again c =
-    let p = c .before .before .before .before .before .before .before .before .before .before .before .before .before .before .before .before .before .before .before .before .before .before .before .pre .0 in
-    let s = c .before .before .before .before .before .before .before .before .before .before .before .before .before .before .before .before .before .before .before .before .before .before .before .args in
-    let w = c .before .before .before .before .before .before .before .before .before .before .before .before .before .before .before .before .before .loop .inv in
-    let is = c .before .before .before .before .before .before .before .before .before .before .before .before .before .span-at .ensures (s .firsts .now) (s .outcomes .now) in
-    walking-next _ (p .sounds) w (c .before .before .before .before .before .before .before .before .before .before .before .before .before .before .before .before .loop-test .taken) _ (c .before .before .before .before .before .before .before .before .before .before .before .before .before .before .at .ensures) (omega (arith, p .long-commands, w .commands .same)) (c .before .before .before .before .before .before .before .before .before .expand .ensures (s .rows .now) (p .sounds) is) _ is _ (c .lower .ensures)
+    let past-expand = c .before .before .before .before .before .before .before .before .before in
+    let past-span-at = past-expand .before .before .before .before in
+    let past-at = past-span-at .before in
+    let past-loop-test = past-at .before .before in
+    let turn = past-loop-test .before in
+    let entry = turn-to-entry turn in
+    let p = entry .pre .0 in
+    let s = entry .args in
+    let w = turn .loop .inv in
+    let is = past-span-at .span-at .ensures (s .firsts .now) (s .outcomes .now) in
+    walking-next _ (p .sounds) w (past-loop-test .loop-test .taken) _ (past-at .at .ensures)
+    (omega (arith, p .long-commands, w .commands .same)) (past-expand .expand .ensures (s .rows .now) (p .sounds) is) _ is _
+    (c .lower .ensures)
 
 same-length : tie.Need-same-length Inv-loop μ-loop
 same-length c = c .before .loop .inv .commands .same
@@ -85,8 +130,10 @@ same-length-3 c = c .before .loop .inv .same-queue
 
 returns : tie.Need-returns Inv-loop μ-loop
 returns c =
+    let entry = c .before .before .before .before .before .before .before in
     let w = c .before .loop .inv in
-    (w .commands, (w .flags, (w .queued, walking-done _ (c .before .before .before .before .before .before .before .pre .0 .sounds) w (c .loop-test .left))))
+    (w .commands, (w .flags, (w .queued, walking-done _ (entry .pre .0 .sounds) w (c .loop-test .left))))
 
 pub walk-spec : {M : Type 1} → statement M
-walk-spec = tie.close (tie.spec Inv-loop μ-loop loop-holds at-requires span-at-requires add-expand expand-requires lower-requires add-h loop-less loop-again same-length same-length-2 same-length-3 returns)
+walk-spec = tie.close (tie.spec Inv-loop μ-loop loop-holds at-requires span-at-requires add-expand expand-requires lower-requires add-h
+    loop-less loop-again same-length same-length-2 same-length-3 returns)

@@ -20,26 +20,42 @@ mul-store-entry : tie.Need-mul-store-entry Inv-loop μ-loop
 mul-store-entry c = search needs
 
 shared-slice-read-store-entry : tie.Need-shared-slice-read-store-entry Inv-loop μ-loop
-shared-slice-read-store-entry c = omega (arith, c .before .before .before .before .before .before .pre, c .before .before .loop-test .taken)
+shared-slice-read-store-entry c =
+    let entry = c .before .before .before .before .before .before in
+    omega (arith, entry .pre, c .before .before .loop-test .taken)
 
 store-entry-requires : tie.Need-store-entry-requires Inv-loop μ-loop
-store-entry-requires c κs = omega (arith, c .before .before .before .before .before .before .pre, c .before .before .loop-test .taken, c .before .before .before .loop .inv .1 .same)
+store-entry-requires c κs =
+    let turn = c .before .before .before in
+    let entry = turn .before .before .before in
+    omega (arith, entry .pre, c .before .before .loop-test .taken, turn .loop .inv .1 .same)
 
 add-i : tie.Need-add-i Inv-loop μ-loop
 add-i c = search needs
 
 loop-less : tie.Need-loop-less Inv-loop μ-loop
-loop-less c = omega (arith, c .before .before .before .before .before .loop-test .taken)
+loop-less c =
+    let past-loop-test = c .before .before .before .before .before in
+    omega (arith, past-loop-test .loop-test .taken)
 
 loop-again : tie.Need-loop-again Inv-loop μ-loop
 unfolding twos
-loop-again c = (omega (arith, c .before .before .before .before .before .loop-test .taken), stored-next twos-blocks 0 (c .before .before .before .before .before .before .loop .inv .1) (omega (arith, c .before .before .before .before .before .before .before .before .before .pre, c .before .before .before .before .before .loop-test .taken)) _ (c .before .before .store-entry .ensures))
+loop-again c =
+    let past-loop-test = c .before .before .before .before .before in
+    let turn = past-loop-test .before in
+    let entry = turn .before .before .before in (
+      omega (arith, past-loop-test .loop-test .taken),
+      stored-next twos-blocks 0 (turn .loop .inv .1)
+          (omega (arith, entry .pre, past-loop-test .loop-test .taken)) _ (c .before .before .store-entry .ensures),
+    )
 
 same-length : tie.Need-same-length Inv-loop μ-loop
 same-length c = c .before .loop .inv .1 .same
 
 returns : tie.Need-returns Inv-loop μ-loop
-returns c = stored-done twos-blocks (c .before .loop .inv .1) (c .before .loop .inv .0) (c .loop-test .left) (c .before .before .before .before .pre .0) (c .before .before .before .before .pre .1)
+returns c =
+    let entry = c .before .before .before .before in
+    stored-done twos-blocks (c .before .loop .inv .1) (c .before .loop .inv .0) (c .loop-test .left) (entry .pre .0) (entry .pre .1)
 
 pub store-spec : {M : Type 1} → statement M
 store-spec =

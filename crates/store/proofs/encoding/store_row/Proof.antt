@@ -28,8 +28,12 @@ same-length c = search needs
 
 returns : tie.Need-returns
 returns c =
-    let a = c .before .before .before .before .before .before .before .before .before .before .before .before .before .args in
-    row-stored (rowOf (a .row)) (a .s) _ (c .before .before .before .before .before .before .before .before .before .before .store-entry .ensures) (c .before .before .before .before .before .before .store-entry2 .ensures) (c .before .before .store-entry3 .ensures)
+    let past-store-entry2 = c .before .before .before .before .before .before in
+    let past-store-entry = past-store-entry2 .before .before .before .before in
+    let entry = past-store-entry .before .before .before in
+    let a = entry .args in
+    row-stored (rowOf (a .row)) (a .s) _ (past-store-entry .store-entry .ensures) (past-store-entry2 .store-entry2 .ensures)
+    (c .before .before .store-entry3 .ensures)
 
 pub store-row-spec : {M : Type 1} → statement M
 store-row-spec =

@@ -24,24 +24,41 @@ loop-holds : tie.Need-loop-holds Inv-loop μ-loop
 loop-holds c = (omega arith, stored-none rows-blocks _ _)
 
 row-at-requires : tie.Need-row-at-requires Inv-loop μ-loop
-row-at-requires c κs = omega (arith, c .before .before .before .pre, c .loop-test .taken)
+row-at-requires c κs =
+    let entry = c .before .before .before in
+    omega (arith, entry .pre, c .loop-test .taken)
 
 store-row-requires : tie.Need-store-row-requires Inv-loop μ-loop
-store-row-requires c κs = omega (arith, c .before .before .before .before .before .pre, c .before .before .loop-test .taken, c .before .before .before .loop .inv .1 .same)
+store-row-requires c κs =
+    let turn = c .before .before .before in
+    let entry = turn .before .before in
+    omega (arith, entry .pre, c .before .before .loop-test .taken, turn .loop .inv .1 .same)
 
 add-s : tie.Need-add-s Inv-loop μ-loop
-add-s c = omega (arith, c .before .before .before .before .before .loop-test .taken, c .before .before .before .before .before .before .before .before .fits)
+add-s c =
+    let past-loop-test = c .before .before .before .before .before in
+    let past-fits = past-loop-test .before .before .before in
+    omega (arith, past-loop-test .loop-test .taken, past-fits .fits)
 
 loop-less : tie.Need-loop-less Inv-loop μ-loop
-loop-less c = omega (arith, c .before .before .before .before .before .loop-test .taken)
+loop-less c =
+    let past-loop-test = c .before .before .before .before .before in
+    omega (arith, past-loop-test .loop-test .taken)
 
 loop-again : tie.Need-loop-again Inv-loop μ-loop
 loop-again c =
-    let R = c .before .before .before .before .before .before .before .before .args .rows .now in
-    let s = c .before .before .before .before .before .before .loop .s in (
-      omega (arith, c .before .before .before .before .before .loop-test .taken),
-      stored-next rows-blocks (rowOf noRow) (c .before .before .before .before .before .before .loop .inv .1) (omega (arith, c .before .before .before .before .before .before .before .before .pre, c .before .before .before .before .before .loop-test .taken, length-map R rowOf)) _
-          (c .before .before .store-row .ensures ∙ ap (λ (w : ModelRow). putAll (c .before .before .before .before .before .before .loop .bytes) (s * rowBytes) (bytesFor (rowEntries (w ∷ [])))) (ap rowOf (c .before .before .before .before .row-at .ensures) ∙ sym (List·getD-map rowOf R s noRow))),
+    let past-row-at = c .before .before .before .before in
+    let past-loop-test = past-row-at .before in
+    let turn = past-loop-test .before in
+    let entry = turn .before .before in
+    let R = entry .args .rows .now in
+    let s = turn .loop .s in (
+      omega (arith, past-loop-test .loop-test .taken),
+      stored-next rows-blocks (rowOf noRow) (turn .loop .inv .1)
+          (omega (arith, entry .pre, past-loop-test .loop-test .taken, length-map R rowOf)) _
+          (c .before .before .store-row .ensures
+          ∙ ap (λ (w : ModelRow). putAll (turn .loop .bytes) (s * rowBytes) (bytesFor (rowEntries (w ∷ []))))
+          (ap rowOf (past-row-at .row-at .ensures) ∙ sym (List·getD-map rowOf R s noRow))),
     )
 
 same-length : tie.Need-same-length Inv-loop μ-loop
@@ -49,8 +66,11 @@ same-length c = c .before .loop .inv .1 .same
 
 returns : tie.Need-returns Inv-loop μ-loop
 returns c =
-    let R = c .before .before .before .args .rows .now in
-    stored-done rows-blocks (c .before .loop .inv .1) (c .before .loop .inv .0) (c .loop-test .left) (omega (arith, c .before .before .before .pre, length-map R rowOf)) (c .before .before .before .pre .1)
+    let entry = c .before .before .before in
+    let R = entry .args .rows .now in
+    stored-done rows-blocks (c .before .loop .inv .1) (c .before .loop .inv .0) (c .loop-test .left)
+    (omega (arith, entry .pre, length-map R rowOf)) (entry .pre .1)
 
 pub store-rows-spec : {M : Type 1} → statement M
-store-rows-spec = tie.close (tie.spec Inv-loop μ-loop loop-holds row-at-requires store-row-requires add-s loop-less loop-again same-length returns)
+store-rows-spec = tie.close
+    (tie.spec Inv-loop μ-loop loop-holds row-at-requires store-row-requires add-s loop-less loop-again same-length returns)

@@ -33,8 +33,19 @@ same-length c = search needs
 
 returns : tie.Need-returns
 returns c =
-    size-stored (numbers (c .before .before .before .before .before .before .before .before .before .before .before .before .before .before .before .before .before .before .before .before .before .args .size)) _ (c .before .before .before .before .before .before .before .before .before .before .before .before .before .before .before .before .before .before .before .before .before .pre .0) (rw (c .before .before .before .before .before .before .before .before .before .before .before .before .before .before .before .before .before .before .narrow .ensures) at (c .before .before .before .before .before .before .before .before .before .before .before .before .before .before .before .before .before .store-entry .ensures)) (rw (c .before .before .before .before .before .before .before .before .before .before .before .before .before .narrow2 .ensures) at (c .before .before .before .before .before .before .before .before .before .before .before .before .store-entry2 .ensures))
-    (rw (c .before .before .before .before .before .before .before .before .narrow3 .ensures) at (c .before .before .before .before .before .before .before .store-entry3 .ensures)) (rw (c .before .before .before .narrow4 .ensures) at (c .before .before .store-entry4 .ensures))
+    let past-narrow4 = c .before .before .before in
+    let past-store-entry3 = past-narrow4 .before .before .before .before in
+    let past-narrow3 = past-store-entry3 .before in
+    let past-store-entry2 = past-narrow3 .before .before .before .before in
+    let past-narrow2 = past-store-entry2 .before in
+    let past-store-entry = past-narrow2 .before .before .before .before in
+    let past-narrow = past-store-entry .before in
+    let entry = past-narrow .before .before .before in
+    size-stored (numbers (entry .args .size)) _ (entry .pre .0)
+    (rw (past-narrow .narrow .ensures) at (past-store-entry .store-entry .ensures))
+    (rw (past-narrow2 .narrow2 .ensures) at (past-store-entry2 .store-entry2 .ensures))
+    (rw (past-narrow3 .narrow3 .ensures) at (past-store-entry3 .store-entry3 .ensures))
+    (rw (past-narrow4 .narrow4 .ensures) at (c .before .before .store-entry4 .ensures))
 
 pub store-size-spec : {M : Type 1} → statement M
 store-size-spec =

@@ -35,7 +35,8 @@ loop-less c = omega arith
 
 loop-again : tie.Need-loop-again Inv-loop μ-loop
 loop-again c =
-    every-next _ _ (c .before .before .before .loop .inv) (entry-test _ _ _ _ (c .before .at .ensures) ∙ lt-ltb _ _ (c .if1 .left))
+    let turn = c .before .before .before in
+    every-next _ _ (turn .loop .inv) (entry-test _ _ _ _ (c .before .at .ensures) ∙ lt-ltb _ _ (c .if1 .left))
 
 returns-2 : tie.Need-returns-2 Inv-loop μ-loop
 returns-2 c = every-done _ (c .before .loop .inv) (c .loop-test .left)

@@ -22,21 +22,38 @@ at-least-requires c κs = search needs
 
 returns : tie.Need-returns
 returns c =
-    let a = c .before .before .before .before .before .before .args in
-    rw (list-test (a .least) (listTable (a .count) (a .end) (a .firsts .now) (a .entries .now)) _ _ _ (c .before .before .before .start-of .ensures) (c .before .before .start-of2 .ensures))
+    let past-start-of = c .before .before .before in
+    let entry = past-start-of .before .before .before in
+    let a = entry .args in
+    rw (list-test (a .least) (listTable (a .count) (a .end) (a .firsts .now) (a .entries .now)) _ _ _ (past-start-of .start-of .ensures)
+    (c .before .before .start-of2 .ensures))
     (simp (stopped (c .before .at-least .ensures) (c .if1 .taken)))
 
 returns-2 : tie.Need-returns-2
 returns-2 c =
-    let a = c .before .before .before .before .before .before .before .args in
-    rw (list-test (a .least) (listTable (a .count) (a .end) (a .firsts .now) (a .entries .now)) _ _ _ (c .before .before .before .before .start-of .ensures) (c .before .before .before .start-of2 .ensures))
+    let past-start-of2 = c .before .before .before in
+    let past-start-of = past-start-of2 .before in
+    let entry = past-start-of .before .before .before in
+    let a = entry .args in
+    rw (list-test (a .least) (listTable (a .count) (a .end) (a .firsts .now) (a .entries .now)) _ _ _ (past-start-of .start-of .ensures)
+    (past-start-of2 .start-of2 .ensures))
     (simp (lt-leb _ _ (c .if2 .taken), and-false))
 
 returns-3 : tie.Need-returns-3
 returns-3 c =
-    let a = c .before .before .before .before .before .before .before .before .args in
-    rw (list-test (a .least) (listTable (a .count) (a .end) (a .firsts .now) (a .entries .now)) _ _ _ (c .before .before .before .before .before .start-of .ensures) (c .before .before .before .before .start-of2 .ensures))
-    (rw (passed (c .before .before .before .at-least .ensures) (c .before .before .if1 .left), le-leb _ _ (c .before .if2 .left), no-entries _ _ _ (c .if3 .taken)))
+    let past-at-least = c .before .before .before in
+    let past-start-of2 = past-at-least .before in
+    let past-start-of = past-start-of2 .before in
+    let entry = past-start-of .before .before .before in
+    let a = entry .args in
+    rw (list-test (a .least) (listTable (a .count) (a .end) (a .firsts .now) (a .entries .now)) _ _ _ (past-start-of .start-of .ensures)
+    (past-start-of2 .start-of2 .ensures))
+    (rw (
+      passed (past-at-least .at-least .ensures) (c .before .before .if1 .left),
+      le-leb _ _ (c .before .if2 .left),
+      no-entries _ _ _
+          (c .if3 .taken),
+    ))
 
 sub-rises : tie.Need-sub-rises
 sub-rises c = search needs
@@ -49,9 +66,15 @@ rises-requires c κs = search needs
 
 returns-4 : tie.Need-returns-4
 returns-4 c =
-    let a = c .before .before .before .before .before .before .before .before .before .args in
-    rw (list-test (a .least) (listTable (a .count) (a .end) (a .firsts .now) (a .entries .now)) _ _ _ (c .before .before .before .before .before .before .start-of .ensures) (c .before .before .before .before .before .start-of2 .ensures))
-    (rw (passed (c .before .before .before .before .at-least .ensures) (c .before .before .before .if1 .left), le-leb _ _ (c .before .before .if2 .left)) (c .rises .ensures))
+    let branch1 = c .before .before .before in
+    let past-at-least = branch1 .before in
+    let past-start-of2 = past-at-least .before in
+    let past-start-of = past-start-of2 .before in
+    let entry = past-start-of .before .before .before in
+    let a = entry .args in
+    rw (list-test (a .least) (listTable (a .count) (a .end) (a .firsts .now) (a .entries .now)) _ _ _ (past-start-of .start-of .ensures)
+    (past-start-of2 .start-of2 .ensures))
+    (rw (passed (past-at-least .at-least .ensures) (branch1 .if1 .left), le-leb _ _ (c .before .before .if2 .left)) (c .rises .ensures))
 
 pub list-sound-spec : {M : Type 1} → statement M
 list-sound-spec =

@@ -28,8 +28,10 @@ entries-sound-requires c κs = search needs
 returns-3 : tie.Need-returns-3
 unfolding listsSound
 returns-3 c =
+    let branch1 = c .before .before .before in
+    let past-start-of = branch1 .before in
     rw (
-      eq-eqb _ _ (sym (c .before .before .before .before .start-of .ensures) ∙ c .before .before .before .if1 .left),
+      eq-eqb _ _ (sym (past-start-of .start-of .ensures) ∙ branch1 .if1 .left),
       passed (c .before .before .each-list-sound .ensures) (c .before .if2 .left),
     )
     (c .entries-sound .ensures)

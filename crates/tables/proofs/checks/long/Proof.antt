@@ -17,7 +17,9 @@ returns-2 c = λ R e. simp (lt-leb _ _ (c .if2 .taken), and-false)
 
 returns-3 : tie.Need-returns-3
 unfolding tablesLong
-returns-3 c = λ R e. rw (length-map R rowOf, ← e, le-leb _ _ (c .before .before .before .if1 .left), le-leb _ _ (c .before .if2 .left))
+returns-3 c =
+    let branch1 = c .before .before .before in
+    λ R e. rw (length-map R rowOf, ← e, le-leb _ _ (branch1 .if1 .left), le-leb _ _ (c .before .if2 .left))
 
 pub long-spec : {M : Type 1} → statement M
 long-spec = tie.close (tie.spec returns returns-2 returns-3)

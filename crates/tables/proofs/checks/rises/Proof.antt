@@ -37,7 +37,9 @@ at-requires-2 c κs = omega arith
 
 returns : tie.Need-returns Inv-loop μ-loop
 returns c =
-    every-stop _ (c .before .before .before .loop-test .taken) (rises-test _ _ _ _ (c .before .at2 .ensures) (c .before .before .at .ensures) ∙ le-ltb _ _ (c .if1 .taken))
+    let past-loop-test = c .before .before .before in
+    every-stop _ (past-loop-test .loop-test .taken)
+    (rises-test _ _ _ _ (c .before .at2 .ensures) (c .before .before .at .ensures) ∙ le-ltb _ _ (c .if1 .taken))
 
 add-i : tie.Need-add-i Inv-loop μ-loop
 add-i c = omega arith
@@ -47,7 +49,8 @@ loop-less c = omega arith
 
 loop-again : tie.Need-loop-again Inv-loop μ-loop
 loop-again c =
-    every-next _ _ (c .before .before .before .before .loop .inv)
+    let turn = c .before .before .before .before in
+    every-next _ _ (turn .loop .inv)
     (rises-test _ _ _ _ (c .before .at2 .ensures) (c .before .before .at .ensures) ∙ lt-ltb _ _ (c .if1 .left))
 
 returns-2 : tie.Need-returns-2 Inv-loop μ-loop

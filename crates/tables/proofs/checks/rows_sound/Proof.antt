@@ -30,8 +30,10 @@ span-sound-requires : tie.Need-span-sound-requires Inv-loop μ-loop
 span-sound-requires c κs = search needs
 
 returns : tie.Need-returns Inv-loop μ-loop
-returns c = λ F O.
-    every-stop _ (c .before .before .before .if1 .taken)
+returns c =
+    let branch1 = c .before .before .before in
+    λ F O.
+    every-stop _ (branch1 .if1 .taken)
     (stopped (row-tested _ _ _ _ (c .before .before .span-at .ensures F O) (c .before .span-sound .ensures)) (c .if2 .taken))
 
 add-s : tie.Need-add-s Inv-loop μ-loop
@@ -41,8 +43,10 @@ loop-less : tie.Need-loop-less Inv-loop μ-loop
 loop-less c = omega arith
 
 loop-again : tie.Need-loop-again Inv-loop μ-loop
-loop-again c = λ F O.
-    every-next _ _ (c .before .before .before .before .before .loop .inv F O)
+loop-again c =
+    let turn = c .before .before .before .before .before in
+    λ F O.
+    every-next _ _ (turn .loop .inv F O)
     (passed (row-tested _ _ _ _ (c .before .before .span-at .ensures F O) (c .before .span-sound .ensures)) (c .if2 .left))
 
 returns-2 : tie.Need-returns-2 Inv-loop μ-loop

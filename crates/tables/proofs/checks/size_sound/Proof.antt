@@ -24,8 +24,11 @@ returns-4 c = simp (lt-leb _ _ (c .if4 .taken), and-false)
 returns-5 : tie.Need-returns-5
 unfolding sizeSound
 returns-5 c =
-    rw (le-leb _ _ (c .before .before .before .before .before .before .before .if1 .left), le-leb _ _ (c .before .before .before .before .before .if2 .left))
-    (rw (le-leb _ _ (c .before .before .before .if3 .left), le-leb _ _ (c .before .if4 .left)))
+    let branch3 = c .before .before .before in
+    let branch2 = branch3 .before .before in
+    let branch1 = branch2 .before .before in
+    rw (le-leb _ _ (branch1 .if1 .left), le-leb _ _ (branch2 .if2 .left))
+    (rw (le-leb _ _ (branch3 .if3 .left), le-leb _ _ (c .before .if4 .left)))
 
 pub size-sound-spec : {M : Type 1} → statement M
 size-sound-spec = tie.close (tie.spec returns returns-2 returns-3 returns-4 returns-5)

@@ -24,7 +24,9 @@ not-idle-requires c κs = search needs
 returns-4 : tie.Need-returns-4
 unfolding spanSound
 returns-4 c =
-    rw (le-leb _ _ (c .before .before .before .before .before .before .if1 .left), le-leb _ _ (c .before .before .before .before .if2 .left))
+    let branch2 = c .before .before .before .before in
+    let branch1 = branch2 .before .before in
+    rw (le-leb _ _ (branch1 .if1 .left), le-leb _ _ (branch2 .if2 .left))
     (rw (le-leb _ _ (c .before .before .if3 .left)) (c .not-idle .ensures))
 
 pub span-sound-spec : {M : Type 1} → statement M

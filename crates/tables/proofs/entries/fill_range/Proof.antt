@@ -26,7 +26,8 @@ loop-less c = omega arith
 
 loop-again : tie.Need-loop-again Inv-loop μ-loop
 loop-again c =
-    let v = c .before .before .before .before .before .loop .inv in
+    let turn = c .before .before .before .before .before in
+    let v = turn .loop .inv in
     (omega arith, omega arith, range-next (v .2) (v .0) (omega arith) _ (c .before .before .put .ensures))
 
 same-length : tie.Need-same-length Inv-loop μ-loop

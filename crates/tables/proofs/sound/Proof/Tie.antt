@@ -11,103 +11,103 @@ use Rattle.tables.proofs.checks.rows_sound.Symbol as Symbol''
 use Rattle.tables.proofs.checks.size_sound.Met as Met'3
 use Rattle.tables.proofs.checks.size_sound.Reads as Reads'3
 use Rattle.tables.proofs.checks.size_sound.Symbol as Symbol'3
-use Rattle.tables.proofs.spans.span_at.Met as Met'4
-use Rattle.tables.proofs.Made.SpansSpanAt.Reads as Reads'4
-use Rattle.tables.proofs.spans.span_at.Symbol as Symbol'4
 use Rattle.tables.proofs.sound.Code
 use Rattle.tables.proofs.sound.Key
 use Rattle.tables.proofs.Made.Sound.Lts as Lts
-use Rattle.tables.proofs.Made.Sound.Reads as Reads'5
+use Rattle.tables.proofs.Made.Sound.Reads as Reads'4
 use Rattle.tables.proofs.sound.Statement
+use Rattle.tables.proofs.spans.span_at.Met as Met'4
+use Rattle.tables.proofs.Made.SpansSpanAt.Reads as Reads'5
+use Rattle.tables.proofs.spans.span_at.Symbol as Symbol'4
 use borrow.Fn.Run
 use borrow.Fn.Written
 use contract.Running
 
 abbrev pub Start : Type 0
-Start = Lts.Start (Reads'3.Asked, Reads'3.Learnt, Reads'.Asked, Reads'.Learnt, Reads'4.Asked, Reads'4.Learnt, Reads''.Asked, Reads''.Learnt, Reads.Asked, Reads.Learnt) Reads'5.Pre Reads'5.Post
+Start = Lts.Start (Reads'3.Asked, Reads'3.Learnt, Reads'.Asked, Reads'.Learnt, Reads'5.Asked, Reads'5.Learnt, Reads''.Asked, Reads''.Learnt, Reads.Asked, Reads.Learnt) Reads'4.Pre Reads'4.Post
 
 abbrev pub After-shared-slice-known : Type 0
-After-shared-slice-known = Lts.After-shared-slice-known (Reads'3.Asked, Reads'3.Learnt, Reads'.Asked, Reads'.Learnt, Reads'4.Asked, Reads'4.Learnt, Reads''.Asked, Reads''.Learnt, Reads.Asked, Reads.Learnt) Reads'5.Pre Reads'5.Post
+After-shared-slice-known = Lts.After-shared-slice-known (Reads'3.Asked, Reads'3.Learnt, Reads'.Asked, Reads'.Learnt, Reads'5.Asked, Reads'5.Learnt, Reads''.Asked, Reads''.Learnt, Reads.Asked, Reads.Learnt) Reads'4.Pre Reads'4.Post
 
 abbrev pub After-shared-slice-known2 : Type 0
-After-shared-slice-known2 = Lts.After-shared-slice-known2 (Reads'3.Asked, Reads'3.Learnt, Reads'.Asked, Reads'.Learnt, Reads'4.Asked, Reads'4.Learnt, Reads''.Asked, Reads''.Learnt, Reads.Asked, Reads.Learnt) Reads'5.Pre Reads'5.Post
+After-shared-slice-known2 = Lts.After-shared-slice-known2 (Reads'3.Asked, Reads'3.Learnt, Reads'.Asked, Reads'.Learnt, Reads'5.Asked, Reads'5.Learnt, Reads''.Asked, Reads''.Learnt, Reads.Asked, Reads.Learnt) Reads'4.Pre Reads'4.Post
 
 abbrev pub After-size-sound : Type 0
-After-size-sound = Lts.After-size-sound (Reads'3.Asked, Reads'3.Learnt, Reads'.Asked, Reads'.Learnt, Reads'4.Asked, Reads'4.Learnt, Reads''.Asked, Reads''.Learnt, Reads.Asked, Reads.Learnt) Reads'5.Pre Reads'5.Post
+After-size-sound = Lts.After-size-sound (Reads'3.Asked, Reads'3.Learnt, Reads'.Asked, Reads'.Learnt, Reads'5.Asked, Reads'5.Learnt, Reads''.Asked, Reads''.Learnt, Reads.Asked, Reads.Learnt) Reads'4.Pre Reads'4.Post
 
 abbrev pub Then1 : Type 0
-Then1 = Lts.Then1 (Reads'3.Asked, Reads'3.Learnt, Reads'.Asked, Reads'.Learnt, Reads'4.Asked, Reads'4.Learnt, Reads''.Asked, Reads''.Learnt, Reads.Asked, Reads.Learnt) Reads'5.Pre Reads'5.Post
+Then1 = Lts.Then1 (Reads'3.Asked, Reads'3.Learnt, Reads'.Asked, Reads'.Learnt, Reads'5.Asked, Reads'5.Learnt, Reads''.Asked, Reads''.Learnt, Reads.Asked, Reads.Learnt) Reads'4.Pre Reads'4.Post
 
 abbrev pub Else1 : Type 0
-Else1 = Lts.Else1 (Reads'3.Asked, Reads'3.Learnt, Reads'.Asked, Reads'.Learnt, Reads'4.Asked, Reads'4.Learnt, Reads''.Asked, Reads''.Learnt, Reads.Asked, Reads.Learnt) Reads'5.Pre Reads'5.Post
+Else1 = Lts.Else1 (Reads'3.Asked, Reads'3.Learnt, Reads'.Asked, Reads'.Learnt, Reads'5.Asked, Reads'5.Learnt, Reads''.Asked, Reads''.Learnt, Reads.Asked, Reads.Learnt) Reads'4.Pre Reads'4.Post
 
 abbrev pub After-long : Type 0
-After-long = Lts.After-long (Reads'3.Asked, Reads'3.Learnt, Reads'.Asked, Reads'.Learnt, Reads'4.Asked, Reads'4.Learnt, Reads''.Asked, Reads''.Learnt, Reads.Asked, Reads.Learnt) Reads'5.Pre Reads'5.Post
+After-long = Lts.After-long (Reads'3.Asked, Reads'3.Learnt, Reads'.Asked, Reads'.Learnt, Reads'5.Asked, Reads'5.Learnt, Reads''.Asked, Reads''.Learnt, Reads.Asked, Reads.Learnt) Reads'4.Pre Reads'4.Post
 
 abbrev pub Then2 : Type 0
-Then2 = Lts.Then2 (Reads'3.Asked, Reads'3.Learnt, Reads'.Asked, Reads'.Learnt, Reads'4.Asked, Reads'4.Learnt, Reads''.Asked, Reads''.Learnt, Reads.Asked, Reads.Learnt) Reads'5.Pre Reads'5.Post
+Then2 = Lts.Then2 (Reads'3.Asked, Reads'3.Learnt, Reads'.Asked, Reads'.Learnt, Reads'5.Asked, Reads'5.Learnt, Reads''.Asked, Reads''.Learnt, Reads.Asked, Reads.Learnt) Reads'4.Pre Reads'4.Post
 
 abbrev pub Else2 : Type 0
-Else2 = Lts.Else2 (Reads'3.Asked, Reads'3.Learnt, Reads'.Asked, Reads'.Learnt, Reads'4.Asked, Reads'4.Learnt, Reads''.Asked, Reads''.Learnt, Reads.Asked, Reads.Learnt) Reads'5.Pre Reads'5.Post
+Else2 = Lts.Else2 (Reads'3.Asked, Reads'3.Learnt, Reads'.Asked, Reads'.Learnt, Reads'5.Asked, Reads'5.Learnt, Reads''.Asked, Reads''.Learnt, Reads.Asked, Reads.Learnt) Reads'4.Pre Reads'4.Post
 
 abbrev pub After-span-at : Type 0
-After-span-at = Lts.After-span-at (Reads'3.Asked, Reads'3.Learnt, Reads'.Asked, Reads'.Learnt, Reads'4.Asked, Reads'4.Learnt, Reads''.Asked, Reads''.Learnt, Reads.Asked, Reads.Learnt) Reads'5.Pre Reads'5.Post
+After-span-at = Lts.After-span-at (Reads'3.Asked, Reads'3.Learnt, Reads'.Asked, Reads'.Learnt, Reads'5.Asked, Reads'5.Learnt, Reads''.Asked, Reads''.Learnt, Reads.Asked, Reads.Learnt) Reads'4.Pre Reads'4.Post
 
 abbrev pub After-struct-known : Type 0
-After-struct-known = Lts.After-struct-known (Reads'3.Asked, Reads'3.Learnt, Reads'.Asked, Reads'.Learnt, Reads'4.Asked, Reads'4.Learnt, Reads''.Asked, Reads''.Learnt, Reads.Asked, Reads.Learnt) Reads'5.Pre Reads'5.Post
+After-struct-known = Lts.After-struct-known (Reads'3.Asked, Reads'3.Learnt, Reads'.Asked, Reads'.Learnt, Reads'5.Asked, Reads'5.Learnt, Reads''.Asked, Reads''.Learnt, Reads.Asked, Reads.Learnt) Reads'4.Pre Reads'4.Post
 
 abbrev pub Then3 : Type 0
-Then3 = Lts.Then3 (Reads'3.Asked, Reads'3.Learnt, Reads'.Asked, Reads'.Learnt, Reads'4.Asked, Reads'4.Learnt, Reads''.Asked, Reads''.Learnt, Reads.Asked, Reads.Learnt) Reads'5.Pre Reads'5.Post
+Then3 = Lts.Then3 (Reads'3.Asked, Reads'3.Learnt, Reads'.Asked, Reads'.Learnt, Reads'5.Asked, Reads'5.Learnt, Reads''.Asked, Reads''.Learnt, Reads.Asked, Reads.Learnt) Reads'4.Pre Reads'4.Post
 
 abbrev pub Else3 : Type 0
-Else3 = Lts.Else3 (Reads'3.Asked, Reads'3.Learnt, Reads'.Asked, Reads'.Learnt, Reads'4.Asked, Reads'4.Learnt, Reads''.Asked, Reads''.Learnt, Reads.Asked, Reads.Learnt) Reads'5.Pre Reads'5.Post
+Else3 = Lts.Else3 (Reads'3.Asked, Reads'3.Learnt, Reads'.Asked, Reads'.Learnt, Reads'5.Asked, Reads'5.Learnt, Reads''.Asked, Reads''.Learnt, Reads.Asked, Reads.Learnt) Reads'4.Pre Reads'4.Post
 
 abbrev pub After-rows-sound : Type 0
-After-rows-sound = Lts.After-rows-sound (Reads'3.Asked, Reads'3.Learnt, Reads'.Asked, Reads'.Learnt, Reads'4.Asked, Reads'4.Learnt, Reads''.Asked, Reads''.Learnt, Reads.Asked, Reads.Learnt) Reads'5.Pre Reads'5.Post
+After-rows-sound = Lts.After-rows-sound (Reads'3.Asked, Reads'3.Learnt, Reads'.Asked, Reads'.Learnt, Reads'5.Asked, Reads'5.Learnt, Reads''.Asked, Reads''.Learnt, Reads.Asked, Reads.Learnt) Reads'4.Pre Reads'4.Post
 
 abbrev pub Then4 : Type 0
-Then4 = Lts.Then4 (Reads'3.Asked, Reads'3.Learnt, Reads'.Asked, Reads'.Learnt, Reads'4.Asked, Reads'4.Learnt, Reads''.Asked, Reads''.Learnt, Reads.Asked, Reads.Learnt) Reads'5.Pre Reads'5.Post
+Then4 = Lts.Then4 (Reads'3.Asked, Reads'3.Learnt, Reads'.Asked, Reads'.Learnt, Reads'5.Asked, Reads'5.Learnt, Reads''.Asked, Reads''.Learnt, Reads.Asked, Reads.Learnt) Reads'4.Pre Reads'4.Post
 
 abbrev pub Else4 : Type 0
-Else4 = Lts.Else4 (Reads'3.Asked, Reads'3.Learnt, Reads'.Asked, Reads'.Learnt, Reads'4.Asked, Reads'4.Learnt, Reads''.Asked, Reads''.Learnt, Reads.Asked, Reads.Learnt) Reads'5.Pre Reads'5.Post
+Else4 = Lts.Else4 (Reads'3.Asked, Reads'3.Learnt, Reads'.Asked, Reads'.Learnt, Reads'5.Asked, Reads'5.Learnt, Reads''.Asked, Reads''.Learnt, Reads.Asked, Reads.Learnt) Reads'4.Pre Reads'4.Post
 
 abbrev pub After-lists-sound : Type 0
-After-lists-sound = Lts.After-lists-sound (Reads'3.Asked, Reads'3.Learnt, Reads'.Asked, Reads'.Learnt, Reads'4.Asked, Reads'4.Learnt, Reads''.Asked, Reads''.Learnt, Reads.Asked, Reads.Learnt) Reads'5.Pre Reads'5.Post
+After-lists-sound = Lts.After-lists-sound (Reads'3.Asked, Reads'3.Learnt, Reads'.Asked, Reads'.Learnt, Reads'5.Asked, Reads'5.Learnt, Reads''.Asked, Reads''.Learnt, Reads.Asked, Reads.Learnt) Reads'4.Pre Reads'4.Post
 
 abbrev pub Need-size-sound-requires : Type 0
-Need-size-sound-requires = Lts.Need-size-sound-requires (Reads'3.Asked, Reads'3.Learnt, Reads'.Asked, Reads'.Learnt, Reads'4.Asked, Reads'4.Learnt, Reads''.Asked, Reads''.Learnt, Reads.Asked, Reads.Learnt) Reads'5.Pre Reads'5.Post
+Need-size-sound-requires = Lts.Need-size-sound-requires (Reads'3.Asked, Reads'3.Learnt, Reads'.Asked, Reads'.Learnt, Reads'5.Asked, Reads'5.Learnt, Reads''.Asked, Reads''.Learnt, Reads.Asked, Reads.Learnt) Reads'4.Pre Reads'4.Post
 
 abbrev pub Need-returns : Type 0
-Need-returns = Lts.Need-returns (Reads'3.Asked, Reads'3.Learnt, Reads'.Asked, Reads'.Learnt, Reads'4.Asked, Reads'4.Learnt, Reads''.Asked, Reads''.Learnt, Reads.Asked, Reads.Learnt) Reads'5.Pre Reads'5.Post
+Need-returns = Lts.Need-returns (Reads'3.Asked, Reads'3.Learnt, Reads'.Asked, Reads'.Learnt, Reads'5.Asked, Reads'5.Learnt, Reads''.Asked, Reads''.Learnt, Reads.Asked, Reads.Learnt) Reads'4.Pre Reads'4.Post
 
 abbrev pub Need-long-requires : Type 0
-Need-long-requires = Lts.Need-long-requires (Reads'3.Asked, Reads'3.Learnt, Reads'.Asked, Reads'.Learnt, Reads'4.Asked, Reads'4.Learnt, Reads''.Asked, Reads''.Learnt, Reads.Asked, Reads.Learnt) Reads'5.Pre Reads'5.Post
+Need-long-requires = Lts.Need-long-requires (Reads'3.Asked, Reads'3.Learnt, Reads'.Asked, Reads'.Learnt, Reads'5.Asked, Reads'5.Learnt, Reads''.Asked, Reads''.Learnt, Reads.Asked, Reads.Learnt) Reads'4.Pre Reads'4.Post
 
 abbrev pub Need-returns-2 : Type 0
-Need-returns-2 = Lts.Need-returns-2 (Reads'3.Asked, Reads'3.Learnt, Reads'.Asked, Reads'.Learnt, Reads'4.Asked, Reads'4.Learnt, Reads''.Asked, Reads''.Learnt, Reads.Asked, Reads.Learnt) Reads'5.Pre Reads'5.Post
+Need-returns-2 = Lts.Need-returns-2 (Reads'3.Asked, Reads'3.Learnt, Reads'.Asked, Reads'.Learnt, Reads'5.Asked, Reads'5.Learnt, Reads''.Asked, Reads''.Learnt, Reads.Asked, Reads.Learnt) Reads'4.Pre Reads'4.Post
 
 abbrev pub Need-span-at-requires : Type 0
-Need-span-at-requires = Lts.Need-span-at-requires (Reads'3.Asked, Reads'3.Learnt, Reads'.Asked, Reads'.Learnt, Reads'4.Asked, Reads'4.Learnt, Reads''.Asked, Reads''.Learnt, Reads.Asked, Reads.Learnt) Reads'5.Pre Reads'5.Post
+Need-span-at-requires = Lts.Need-span-at-requires (Reads'3.Asked, Reads'3.Learnt, Reads'.Asked, Reads'.Learnt, Reads'5.Asked, Reads'5.Learnt, Reads''.Asked, Reads''.Learnt, Reads.Asked, Reads.Learnt) Reads'4.Pre Reads'4.Post
 
 abbrev pub Need-returns-3 : Type 0
-Need-returns-3 = Lts.Need-returns-3 (Reads'3.Asked, Reads'3.Learnt, Reads'.Asked, Reads'.Learnt, Reads'4.Asked, Reads'4.Learnt, Reads''.Asked, Reads''.Learnt, Reads.Asked, Reads.Learnt) Reads'5.Pre Reads'5.Post
+Need-returns-3 = Lts.Need-returns-3 (Reads'3.Asked, Reads'3.Learnt, Reads'.Asked, Reads'.Learnt, Reads'5.Asked, Reads'5.Learnt, Reads''.Asked, Reads''.Learnt, Reads.Asked, Reads.Learnt) Reads'4.Pre Reads'4.Post
 
 abbrev pub Need-rows-sound-requires : Type 0
-Need-rows-sound-requires = Lts.Need-rows-sound-requires (Reads'3.Asked, Reads'3.Learnt, Reads'.Asked, Reads'.Learnt, Reads'4.Asked, Reads'4.Learnt, Reads''.Asked, Reads''.Learnt, Reads.Asked, Reads.Learnt) Reads'5.Pre Reads'5.Post
+Need-rows-sound-requires = Lts.Need-rows-sound-requires (Reads'3.Asked, Reads'3.Learnt, Reads'.Asked, Reads'.Learnt, Reads'5.Asked, Reads'5.Learnt, Reads''.Asked, Reads''.Learnt, Reads.Asked, Reads.Learnt) Reads'4.Pre Reads'4.Post
 
 abbrev pub Need-returns-4 : Type 0
-Need-returns-4 = Lts.Need-returns-4 (Reads'3.Asked, Reads'3.Learnt, Reads'.Asked, Reads'.Learnt, Reads'4.Asked, Reads'4.Learnt, Reads''.Asked, Reads''.Learnt, Reads.Asked, Reads.Learnt) Reads'5.Pre Reads'5.Post
+Need-returns-4 = Lts.Need-returns-4 (Reads'3.Asked, Reads'3.Learnt, Reads'.Asked, Reads'.Learnt, Reads'5.Asked, Reads'5.Learnt, Reads''.Asked, Reads''.Learnt, Reads.Asked, Reads.Learnt) Reads'4.Pre Reads'4.Post
 
 abbrev pub Need-lists-sound-requires : Type 0
-Need-lists-sound-requires = Lts.Need-lists-sound-requires (Reads'3.Asked, Reads'3.Learnt, Reads'.Asked, Reads'.Learnt, Reads'4.Asked, Reads'4.Learnt, Reads''.Asked, Reads''.Learnt, Reads.Asked, Reads.Learnt) Reads'5.Pre Reads'5.Post
+Need-lists-sound-requires = Lts.Need-lists-sound-requires (Reads'3.Asked, Reads'3.Learnt, Reads'.Asked, Reads'.Learnt, Reads'5.Asked, Reads'5.Learnt, Reads''.Asked, Reads''.Learnt, Reads.Asked, Reads.Learnt) Reads'4.Pre Reads'4.Post
 
 abbrev pub Need-returns-5 : Type 0
-Need-returns-5 = Lts.Need-returns-5 (Reads'3.Asked, Reads'3.Learnt, Reads'.Asked, Reads'.Learnt, Reads'4.Asked, Reads'4.Learnt, Reads''.Asked, Reads''.Learnt, Reads.Asked, Reads.Learnt) Reads'5.Pre Reads'5.Post
+Need-returns-5 = Lts.Need-returns-5 (Reads'3.Asked, Reads'3.Learnt, Reads'.Asked, Reads'.Learnt, Reads'5.Asked, Reads'5.Learnt, Reads''.Asked, Reads''.Learnt, Reads.Asked, Reads.Learnt) Reads'4.Pre Reads'4.Post
 
 module _ {M : Type 1} where
-  pub spec : (answer : Need-size-sound-requires) → (answer : Need-returns) → (answer : Need-long-requires) → (answer : Need-returns-2) → (answer : Need-span-at-requires) → (answer : Need-returns-3) → (answer : Need-rows-sound-requires) → (answer : Need-returns-4) → (answer : Need-lists-sound-requires) → (answer : Need-returns-5) → Lts.Closed (Reads'3.Asked, Reads'3.Learnt, Reads'.Asked, Reads'.Learnt, Reads'4.Asked, Reads'4.Learnt, Reads''.Asked, Reads''.Learnt, Reads.Asked, Reads.Learnt) Reads'5.Pre Reads'5.Post M
-  spec = λ answer answer' answer'' answer'3 answer'4 answer'5 answer'6 answer'7 answer'8 answer'9. Lts.spec (Reads'3.Asked, Reads'3.Learnt, Reads'.Asked, Reads'.Learnt, Reads'4.Asked, Reads'4.Learnt, Reads''.Asked, Reads''.Learnt, Reads.Asked, Reads.Learnt) Reads'5.Pre Reads'5.Post answer answer' answer'' answer'3 answer'4 answer'5 answer'6 answer'7 answer'8 answer'9
+  pub spec : (answer : Need-size-sound-requires) → (answer : Need-returns) → (answer : Need-long-requires) → (answer : Need-returns-2) → (answer : Need-span-at-requires) → (answer : Need-returns-3) → (answer : Need-rows-sound-requires) → (answer : Need-returns-4) → (answer : Need-lists-sound-requires) → (answer : Need-returns-5) → Lts.Closed (Reads'3.Asked, Reads'3.Learnt, Reads'.Asked, Reads'.Learnt, Reads'5.Asked, Reads'5.Learnt, Reads''.Asked, Reads''.Learnt, Reads.Asked, Reads.Learnt) Reads'4.Pre Reads'4.Post M
+  spec = λ answer answer' answer'' answer'3 answer'4 answer'5 answer'6 answer'7 answer'8 answer'9. Lts.spec (Reads'3.Asked, Reads'3.Learnt, Reads'.Asked, Reads'.Learnt, Reads'5.Asked, Reads'5.Learnt, Reads''.Asked, Reads''.Learnt, Reads.Asked, Reads.Learnt) Reads'4.Pre Reads'4.Post answer answer' answer'' answer'3 answer'4 answer'5 answer'6 answer'7 answer'8 answer'9
 
-  pub close : Lts.Closed (Reads'3.Asked, Reads'3.Learnt, Reads'.Asked, Reads'.Learnt, Reads'4.Asked, Reads'4.Learnt, Reads''.Asked, Reads''.Learnt, Reads.Asked, Reads.Learnt) Reads'5.Pre Reads'5.Post M → Statement.statement M
+  pub close : Lts.Closed (Reads'3.Asked, Reads'3.Learnt, Reads'.Asked, Reads'.Learnt, Reads'5.Asked, Reads'5.Learnt, Reads''.Asked, Reads''.Learnt, Reads.Asked, Reads.Learnt) Reads'4.Pre Reads'4.Post M → Statement.statement M
   unfolding Code.routine Running.tablesOf
-  close = λ closed 𝓤 H 𝓜 𝓖 𝓡. Written.close 3 Reads'5.ps Reads'5.r Reads'5.Ghost Reads'5.requires Reads'5.ensures Reads'5.pre-read Reads'5.Pinned Reads'5.Owned Reads'5.post-read record { M = M; 𝓤 = 𝓤; H = H; 𝓜 = 𝓜; 𝓖 = 𝓖; 𝓡 = 𝓡 } Code.env Key.name Code.function (Code.unfolded 𝓤 H 𝓜 𝓡) (λ κs a g. tt) (λ κs. Reads'5.owns κs record { M = M; 𝓤 = 𝓤; H = H; 𝓜 = 𝓜; 𝓖 = 𝓖; 𝓡 = 𝓡 }) (Reads'5.passes record { M = M; 𝓤 = 𝓤; H = H; 𝓜 = 𝓜; 𝓖 = 𝓖; 𝓡 = 𝓡 }) λ g. closed 𝓤 H (𝓖 .A) (Running.givenOf 𝓤 H 𝓜 𝓖) (Run.Over 𝓤 H 𝓜 𝓖 𝓡 Code.env) (Reads'3.known record { M = M; 𝓤 = 𝓤; H = H; 𝓜 = 𝓜; 𝓖 = 𝓖; 𝓡 = 𝓡 } Code.env Symbol'3.name Symbol'3.routine Code.calls-tables·checks·size-sound (Met'3.met 𝓤 H 𝓜 𝓖 𝓡)) (Reads'.known record { M = M; 𝓤 = 𝓤; H = H; 𝓜 = 𝓜; 𝓖 = 𝓖; 𝓡 = 𝓡 } Code.env Symbol'.name Symbol'.routine Code.calls-tables·checks·long (Met'.met 𝓤 H 𝓜 𝓖 𝓡)) (Reads'4.known record { M = M; 𝓤 = 𝓤; H = H; 𝓜 = 𝓜; 𝓖 = 𝓖; 𝓡 = 𝓡 } Code.env Symbol'4.name Symbol'4.routine Code.calls-tables·spans·span-at (Met'4.met 𝓤 H 𝓜 𝓖 𝓡)) (Reads''.known record { M = M; 𝓤 = 𝓤; H = H; 𝓜 = 𝓜; 𝓖 = 𝓖; 𝓡 = 𝓡 } Code.env Symbol''.name Symbol''.routine Code.calls-tables·checks·rows-sound (Met''.met 𝓤 H 𝓜 𝓖 𝓡)) (Reads.known record { M = M; 𝓤 = 𝓤; H = H; 𝓜 = 𝓜; 𝓖 = 𝓖; 𝓡 = 𝓡 } Code.env Symbol.name Symbol.routine Code.calls-tables·checks·lists-sound (Met.met 𝓤 H 𝓜 𝓖 𝓡))
+  close = λ closed 𝓤 H 𝓜 𝓖 𝓡. Written.close 3 Reads'4.ps Reads'4.r Reads'4.Ghost Reads'4.requires Reads'4.ensures Reads'4.pre-read Reads'4.Pinned Reads'4.Owned Reads'4.post-read record { M = M; 𝓤 = 𝓤; H = H; 𝓜 = 𝓜; 𝓖 = 𝓖; 𝓡 = 𝓡 } Code.env Key.name Code.function (Code.unfolded 𝓤 H 𝓜 𝓡) (λ κs a g. tt) (λ κs. Reads'4.owns κs record { M = M; 𝓤 = 𝓤; H = H; 𝓜 = 𝓜; 𝓖 = 𝓖; 𝓡 = 𝓡 }) (Reads'4.passes record { M = M; 𝓤 = 𝓤; H = H; 𝓜 = 𝓜; 𝓖 = 𝓖; 𝓡 = 𝓡 }) λ g. closed 𝓤 H (𝓖 .A) (Running.givenOf 𝓤 H 𝓜 𝓖) (Run.Over 𝓤 H 𝓜 𝓖 𝓡 Code.env) (Reads'3.known record { M = M; 𝓤 = 𝓤; H = H; 𝓜 = 𝓜; 𝓖 = 𝓖; 𝓡 = 𝓡 } Code.env Symbol'3.name Symbol'3.routine Code.calls-tables·checks·size-sound (Met'3.met 𝓤 H 𝓜 𝓖 𝓡)) (Reads'.known record { M = M; 𝓤 = 𝓤; H = H; 𝓜 = 𝓜; 𝓖 = 𝓖; 𝓡 = 𝓡 } Code.env Symbol'.name Symbol'.routine Code.calls-tables·checks·long (Met'.met 𝓤 H 𝓜 𝓖 𝓡)) (Reads'5.known record { M = M; 𝓤 = 𝓤; H = H; 𝓜 = 𝓜; 𝓖 = 𝓖; 𝓡 = 𝓡 } Code.env Symbol'4.name Symbol'4.routine Code.calls-tables·spans·span-at (Met'4.met 𝓤 H 𝓜 𝓖 𝓡)) (Reads''.known record { M = M; 𝓤 = 𝓤; H = H; 𝓜 = 𝓜; 𝓖 = 𝓖; 𝓡 = 𝓡 } Code.env Symbol''.name Symbol''.routine Code.calls-tables·checks·rows-sound (Met''.met 𝓤 H 𝓜 𝓖 𝓡)) (Reads.known record { M = M; 𝓤 = 𝓤; H = H; 𝓜 = 𝓜; 𝓖 = 𝓖; 𝓡 = 𝓡 } Code.env Symbol.name Symbol.routine Code.calls-tables·checks·lists-sound (Met.met 𝓤 H 𝓜 𝓖 𝓡))

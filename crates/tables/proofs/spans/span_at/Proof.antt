@@ -15,8 +15,12 @@ span-of-requires : tie.Need-span-of-requires
 span-of-requires c κs = search needs
 
 returns : tie.Need-returns
-returns c = λ F O.
-    span-last _ (c .before .before .before .before .args .rows .now) F O _ _ _ (c .before .before .before .before .pre .0) (c .before .if1 .taken) (c .before .before .before .row-at .ensures) (c .span-of .ensures)
+returns c =
+    let past-row-at = c .before .before .before in
+    let entry = past-row-at .before in
+    λ F O.
+    span-last _ (entry .args .rows .now) F O _ _ _ (entry .pre .0) (c .before .if1 .taken) (past-row-at .row-at .ensures)
+    (c .span-of .ensures)
 
 add-row-at : tie.Need-add-row-at
 add-row-at c = search needs
@@ -31,8 +35,12 @@ span-of-requires-2 : tie.Need-span-of-requires-2
 span-of-requires-2 c κs = search needs
 
 returns-2 : tie.Need-returns-2
-returns-2 c = λ F O.
-    span-inner _ (c .before .before .before .before .before .before .args .rows .now) F O _ _ _ _ _ (c .before .before .before .before .before .before .pre .0) (omega (arith, c .before .before .before .if1 .left)) (c .before .before .before .before .before .row-at .ensures)
+returns-2 c =
+    let branch1 = c .before .before .before in
+    let past-row-at = branch1 .before .before in
+    let entry = past-row-at .before in
+    λ F O.
+    span-inner _ (entry .args .rows .now) F O _ _ _ _ _ (entry .pre .0) (omega (arith, branch1 .if1 .left)) (past-row-at .row-at .ensures)
     (c .before .before .row-at2 .ensures) (c .before .wide .ensures .0) (c .span-of2 .ensures)
 
 pub span-at-spec : {M : Type 1} → statement M

@@ -22,13 +22,27 @@ put-requires c κs = search needs
 
 put-requires-2 : tie.Need-put-requires-2
 put-requires-2 c κs =
+    let branch1 = c .before .before .before .before .before in
+    let past-at = branch1 .before in
     let s = c .before .before .before .before .before .before .before .before .before .before in
-    omega (arith, s .pre .1, reach-room (s .pre .0) _ (s .pre .1 .0) (s .pre .1 .2) (s .pre .1 .3) _ (s .pre .1 .4) _ (c .before .before .before .before .before .before .at .ensures) (c .before .before .before .before .before .if1 .left))
+    omega (
+      arith,
+      s .pre .1,
+      reach-room (s .pre .0) _ (s .pre .1 .0) (s .pre .1 .2) (s .pre .1 .3) _ (s .pre .1 .4) _ (past-at .at .ensures)
+          (branch1 .if1 .left),
+    )
 
 add-result : tie.Need-add-result
 add-result c =
+    let branch1 = c .before .before .before .before .before .before .before .before in
+    let past-at = branch1 .before in
     let s = c .before .before .before .before .before .before .before .before .before .before .before .before .before in
-    omega (arith, s .pre .1, reach-room (s .pre .0) _ (s .pre .1 .0) (s .pre .1 .2) (s .pre .1 .3) _ (s .pre .1 .4) _ (c .before .before .before .before .before .before .before .before .before .at .ensures) (c .before .before .before .before .before .before .before .before .if1 .left))
+    omega (
+      arith,
+      s .pre .1,
+      reach-room (s .pre .0) _ (s .pre .1 .0) (s .pre .1 .2) (s .pre .1 .3) _ (s .pre .1 .4) _ (past-at .at .ensures)
+          (branch1 .if1 .left),
+    )
 
 same-length-2 : tie.Need-same-length-2
 same-length-2 c = search needs
@@ -38,8 +52,12 @@ same-length-3 c = search needs
 
 returns-2 : tie.Need-returns-2
 returns-2 c =
+    let past-put = c .before .before .before .before .before .before in
+    let branch1 = past-put .before .before in
+    let past-at = branch1 .before in
     let s = c .before .before .before .before .before .before .before .before .before .before .before .before .before in
-    reach-new (s .pre .0) _ (s .pre .1 .0) (s .pre .1 .2) (s .pre .1 .3) _ (s .pre .1 .4) _ (c .before .before .before .before .before .before .before .before .before .at .ensures) (c .before .before .before .before .before .before .before .before .if1 .left) _ _ (c .before .before .before .before .before .before .put .ensures) (c .before .before .put2 .ensures)
+    reach-new (s .pre .0) _ (s .pre .1 .0) (s .pre .1 .2) (s .pre .1 .3) _ (s .pre .1 .4) _ (past-at .at .ensures) (branch1 .if1 .left) _ _
+    (past-put .put .ensures) (c .before .before .put2 .ensures)
 
 pub reach-spec : {M : Type 1} → statement M
 reach-spec =

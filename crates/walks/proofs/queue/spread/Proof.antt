@@ -13,18 +13,22 @@ abbrev μ-loop : tie.MeasureT-loop
 μ-loop n outcomes flags₀ queue₀ q from end mark i₀ e₀ flags queue i e = end - i
 
 loop-holds : tie.Need-loop-holds Inv-loop μ-loop
-loop-holds c = let p = c .before .before .before .pre in spreading-start _ (p .0) (p .1 .1 .0)
+loop-holds c =
+    let entry = c .before .before .before in
+    let p = entry .pre in spreading-start _ (p .0) (p .1 .1 .0)
 
 at-requires : tie.Need-at-requires Inv-loop μ-loop
 at-requires c κs = omega arith
 
 reach-requires : tie.Need-reach-requires Inv-loop μ-loop
 reach-requires c κs =
+    let past-loop-test = c .before .before .before in
+    let turn = past-loop-test .before in
     let s = c .before .before .before .before .before .before .before .before in
-    let w = c .before .before .before .before .loop .inv in (
+    let w = turn .loop .inv in (
       w .done .queued,
       (
-        subst⁻¹ (λ (x : ℕ). x < s .args .n) (c .at .ensures) (s .pre .1 .1 .2 _ (c .before .before .before .loop-test .taken)),
+        subst⁻¹ (λ (x : ℕ). x < s .args .n) (c .at .ensures) (s .pre .1 .1 .2 _ (past-loop-test .loop-test .taken)),
         s .pre .1 .0 .0,
         omega (arith, w .done .same-flags, s .pre .1 .0),
         omega (arith, w .done .same-queue, s .pre .1 .0),
@@ -40,7 +44,14 @@ loop-less : tie.Need-loop-less Inv-loop μ-loop
 loop-less c = omega arith
 
 loop-again : tie.Need-loop-again Inv-loop μ-loop
-loop-again c = spreading-next (c .before .before .before .before .before .before .before .before .before .loop .inv) (c .before .before .before .before .before .before .before .before .loop-test .taken) (c .before .before .before .before .before .before .before .before .before .before .before .before .before .pre .1 .1 .1) _ (c .before .before .before .before .before .at .ensures) (c .before .before .before .before .before .before .before .before .before .before .before .before .before .pre .1 .0 .3) _ _ _ (c .before .before .before .before .reach .ensures)
+loop-again c =
+    let past-reach = c .before .before .before .before in
+    let past-at = past-reach .before in
+    let past-loop-test = past-at .before .before .before in
+    let turn = past-loop-test .before in
+    let entry = turn .before .before .before .before in
+    spreading-next (turn .loop .inv) (past-loop-test .loop-test .taken) (entry .pre .1 .1 .1) _ (past-at .at .ensures) (entry .pre .1 .0 .3)
+    _ _ _ (past-reach .reach .ensures)
 
 same-length : tie.Need-same-length Inv-loop μ-loop
 same-length c = c .before .loop .inv .done .same-flags

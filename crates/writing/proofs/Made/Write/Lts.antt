@@ -97,7 +97,7 @@ abbrev ty·8 : Syntax.Ty
 ty·8 = Syntax.tyEnum (List._∷_ 119 (List._∷_ 114 (List._∷_ 105 (List._∷_ 116 (List._∷_ 105 (List._∷_ 110 (List._∷_ 103 (List._∷_ 58 (List._∷_ 58 (List._∷_ 87 (List._∷_ 114 (List._∷_ 105 (List._∷_ 116 (List._∷_ 101 (List._∷_ 65 (List._∷_ 110 (List._∷_ 115 (List._∷_ 119 (List._∷_ 101 (List._∷_ 114 List.[])))))))))))))))))))) (Syntax.ttcons (Syntax.tcons (Syntax.tyInt Syntax.w64) Syntax.tnil) (Syntax.ttcons (Syntax.tcons ty·7 Syntax.tnil) Syntax.ttnil))
 
 abbrev ty·9 : Syntax.Ty
-ty·9 = Syntax.tyEnum (List._∷_ 116 (List._∷_ 97 (List._∷_ 98 (List._∷_ 108 (List._∷_ 101 (List._∷_ 115 (List._∷_ 58 (List._∷_ 58 (List._∷_ 105 (List._∷_ 110 (List._∷_ 116 (List._∷_ 101 (List._∷_ 114 (List._∷_ 110 (List._∷_ 97 (List._∷_ 108 (List._∷_ 58 (List._∷_ 58 (List._∷_ 65 (List._∷_ 100 (List._∷_ 109 (List._∷_ 105 (List._∷_ 115 (List._∷_ 115 (List._∷_ 105 (List._∷_ 111 (List._∷_ 110 List.[]))))))))))))))))))))))))))) (Syntax.ttcons Syntax.tnil (Syntax.ttcons (Syntax.tcons ty·7 Syntax.tnil) Syntax.ttnil))
+ty·9 = Syntax.tyEnum (List._∷_ 116 (List._∷_ 97 (List._∷_ 98 (List._∷_ 108 (List._∷_ 101 (List._∷_ 115 (List._∷_ 58 (List._∷_ 58 (List._∷_ 97 (List._∷_ 100 (List._∷_ 109 (List._∷_ 105 (List._∷_ 115 (List._∷_ 115 (List._∷_ 105 (List._∷_ 111 (List._∷_ 110 (List._∷_ 58 (List._∷_ 58 (List._∷_ 65 (List._∷_ 100 (List._∷_ 109 (List._∷_ 105 (List._∷_ 115 (List._∷_ 115 (List._∷_ 105 (List._∷_ 111 (List._∷_ 110 List.[])))))))))))))))))))))))))))) (Syntax.ttcons Syntax.tnil (Syntax.ttcons (Syntax.tcons ty·7 Syntax.tnil) Syntax.ttnil))
 
 abbrev pub ps : List.List (Kinds.PK 4)
 ps = List._∷_ (Value.pVal record { ty = Declared'.row Size.the-type; one = Path'.refl; val = Laws'5.val Size.the-type Laws'.the-laws; tells = Laws'5.tells Size.the-type Laws'.the-laws; still = Laws'5.still Size.the-type Laws'.the-copy Exit.yes; row = Rows.whole (Declared'.row Size.the-type); rd = λ x. x; mk = λ x. x } λ M 𝓤 H A W. record { copies = Laws'5.copy Size.the-type Laws'.the-copy 𝓤 H A W; lawful = Laws'5.lawful Size.the-type Laws'.the-laws 𝓤 H A W; makes = Laws'5.makes Size.the-type Laws'.the-plain 𝓤 H A; in-mem = Local.mem-whole 𝓤 H A W (Declared'.row Size.the-type); of-mem = Local.whole-mem 𝓤 H A W (Declared'.row Size.the-type) }) (List._∷_ (ShrSlice.pShrS T.the-row 0 tt) (List._∷_ (ShrSlice.pShrS (Referent.rtF (Referent.fInt Syntax.w16)) 1 tt) (List._∷_ (ShrSlice.pShrS (Referent.rtF (Referent.fInt Syntax.w16)) 2 tt) (List._∷_ (MutSlice.pMutS (Referent.rtF (Referent.fInt Syntax.w8)) 3 tt) List.[]))))

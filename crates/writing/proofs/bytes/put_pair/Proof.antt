@@ -14,7 +14,9 @@ same-length : tie.Need-same-length
 same-length c = search needs
 
 returns : tie.Need-returns
-returns c = wrote-then (c .before .before .before .before .before .before .put-two .ensures) (c .before .before .put-two2 .ensures)
+returns c =
+    let past-put-two = c .before .before .before .before .before .before in
+    wrote-then (past-put-two .put-two .ensures) (c .before .before .put-two2 .ensures)
 
 pub put-pair-spec : {M : Type 1} → statement M
 put-pair-spec = tie.close (tie.spec put-two-requires put-two-requires-2 same-length returns)

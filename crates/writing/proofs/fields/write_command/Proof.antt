@@ -25,8 +25,12 @@ same-length c = search needs
 
 returns : tie.Need-returns
 returns c =
-    command-wrote _ _ _ (c .before .before .before .before .before .before .before .before .before .before .before .before .before .before .pre .1)
-    (wrote-then (c .before .before .before .before .before .before .before .before .before .before .put-byte .ensures) (wrote-then (c .before .before .before .before .before .before .put-two .ensures) (c .before .before .write-outcomes .ensures)))
+    let past-put-two = c .before .before .before .before .before .before in
+    let past-put-byte = past-put-two .before .before .before .before in
+    let entry = past-put-byte .before .before .before .before in
+    command-wrote _ _ _ (entry .pre .1)
+    (wrote-then (past-put-byte .put-byte .ensures)
+    (wrote-then (past-put-two .put-two .ensures) (c .before .before .write-outcomes .ensures)))
 
 pub write-command-spec : {M : Type 1} → statement M
 write-command-spec =

@@ -14,7 +14,9 @@ same-length : tie.Need-same-length
 same-length c = search needs
 
 returns : tie.Need-returns
-returns c = wrote-then (c .before .before .before .before .before .before .put-byte .ensures) (c .before .before .put-two .ensures)
+returns c =
+    let past-put-byte = c .before .before .before .before .before .before in
+    wrote-then (past-put-byte .put-byte .ensures) (c .before .before .put-two .ensures)
 
 pub write-end-spec : {M : Type 1} → statement M
 write-end-spec = tie.close (tie.spec put-byte-requires put-two-requires same-length returns)

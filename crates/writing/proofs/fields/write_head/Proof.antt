@@ -17,7 +17,10 @@ same-length : tie.Need-same-length
 same-length c = search needs
 
 returns : tie.Need-returns
-returns c = wrote-then (c .before .before .before .before .before .before .before .before .before .before .put-byte .ensures) (wrote-then (c .before .before .before .before .before .before .put-two .ensures) (c .before .before .put-pair .ensures))
+returns c =
+    let past-put-two = c .before .before .before .before .before .before in
+    let past-put-byte = past-put-two .before .before .before .before in
+    wrote-then (past-put-byte .put-byte .ensures) (wrote-then (past-put-two .put-two .ensures) (c .before .before .put-pair .ensures))
 
 pub write-head-spec : {M : Type 1} → statement M
 write-head-spec =

@@ -24,8 +24,11 @@ same-length c = search needs
 
 returns : tie.Need-returns
 returns c =
-    wrote-then (c .before .before .before .before .before .before .before .before .before .before .before .before .before .before .before .put-byte .ensures)
-    (wrote-then (c .before .before .before .before .before .before .before .before .before .before .before .put-two .ensures) (wrote-then (c .before .before .before .before .before .before .before .put-byte2 .ensures) (c .before .before .put-pair .ensures)))
+    let past-put-byte2 = c .before .before .before .before .before .before .before in
+    let past-put-two = past-put-byte2 .before .before .before .before in
+    let past-put-byte = past-put-two .before .before .before .before in
+    wrote-then (past-put-byte .put-byte .ensures)
+    (wrote-then (past-put-two .put-two .ensures) (wrote-then (past-put-byte2 .put-byte2 .ensures) (c .before .before .put-pair .ensures)))
 
 pub write-row-spec : {M : Type 1} → statement M
 write-row-spec =

@@ -21,35 +21,58 @@ abbrev μ-loop : tie.MeasureT-loop
 
 loop-holds : tie.Need-loop-holds Inv-loop μ-loop
 unfolding commandsFrom
-loop-holds c = turn-start commands-spread (c .before .before .before .pre .2)
+loop-holds c =
+    let entry = c .before .before .before in
+    turn-start commands-spread (entry .pre .2)
 
 first-outcome-requires : tie.Need-first-outcome-requires Inv-loop μ-loop
-first-outcome-requires c κs = c .before .before .before .before .before .pre .0 .long-firsts
+first-outcome-requires c κs =
+    let entry = c .before .before .before .before .before in
+    entry .pre .0 .long-firsts
 
 add-first-outcome : tie.Need-add-first-outcome Inv-loop μ-loop
-add-first-outcome c = omega (arith, c .before .loop-test .taken, c .before .before .before .before .before .before .fits)
+add-first-outcome c =
+    let past-fits = c .before .before .before .before .before .before in
+    omega (arith, c .before .loop-test .taken, past-fits .fits)
 
 first-outcome-requires-2 : tie.Need-first-outcome-requires-2 Inv-loop μ-loop
-first-outcome-requires-2 c κs = c .before .before .before .before .before .before .pre .0 .long-firsts
+first-outcome-requires-2 c κs =
+    let entry = c .before .before .before .before .before .before in
+    entry .pre .0 .long-firsts
 
 write-command-requires : tie.Need-write-command-requires Inv-loop μ-loop
 write-command-requires c κs =
-    let k = c .before .before .before .before .before .before .before .before .pre in
-    let more = c .before .before .before .loop-test .taken in
-    command-ready (k .0) more (k .1) (c .before .before .first-outcome .ensures [] []) (c .before .first-outcome2 .ensures [] []) _ _ (turn-room commands-spread (c .before .before .before .before .loop .inv) more)
+    let past-loop-test = c .before .before .before in
+    let turn = past-loop-test .before in
+    let entry = turn .before .before .before .before in
+    let k = entry .pre in
+    let more = past-loop-test .loop-test .taken in
+    command-ready (k .0) more (k .1) (c .before .before .first-outcome .ensures [] []) (c .before .first-outcome2 .ensures [] []) _ _
+    (turn-room commands-spread (turn .loop .inv) more)
 
 add-c : tie.Need-add-c Inv-loop μ-loop
-add-c c = omega (arith, c .before .before .before .before .before .before .loop-test .taken, c .before .before .before .before .before .before .before .before .before .before .before .fits)
+add-c c =
+    let past-loop-test = c .before .before .before .before .before .before in
+    let past-fits = past-loop-test .before .before .before .before .before in
+    omega (arith, past-loop-test .loop-test .taken, past-fits .fits)
 
 loop-less : tie.Need-loop-less Inv-loop μ-loop
-loop-less c = omega (arith, c .before .before .before .before .before .before .loop-test .taken)
+loop-less c =
+    let past-loop-test = c .before .before .before .before .before .before in
+    omega (arith, past-loop-test .loop-test .taken)
 
 loop-again : tie.Need-loop-again Inv-loop μ-loop
 loop-again c =
-    let k = c .before .before .before .before .before .before .before .before .before .before .before .pre in
-    let more = c .before .before .before .before .before .before .loop-test .taken in
-    turn-next commands-spread (c .before .before .before .before .before .before .before .loop .inv) more
-    (command-stored (k .0) more (k .1) (c .before .before .before .before .before .first-outcome .ensures [] []) (c .before .before .before .before .first-outcome2 .ensures [] []) (c .before .before .write-command .ensures))
+    let past-first-outcome2 = c .before .before .before .before in
+    let past-first-outcome = past-first-outcome2 .before in
+    let past-loop-test = past-first-outcome .before in
+    let turn = past-loop-test .before in
+    let entry = turn .before .before .before .before in
+    let k = entry .pre in
+    let more = past-loop-test .loop-test .taken in
+    turn-next commands-spread (turn .loop .inv) more
+    (command-stored (k .0) more (k .1) (past-first-outcome .first-outcome .ensures [] [])
+    (past-first-outcome2 .first-outcome2 .ensures [] []) (c .before .before .write-command .ensures))
 
 same-length : tie.Need-same-length Inv-loop μ-loop
 same-length c = c .before .loop .inv .same

@@ -20,31 +20,46 @@ abbrev μ-loop : tie.MeasureT-loop
 μ-loop size rows firsts outcomes out₀ place next₀ s₀ out next s = size .n - s
 
 loop-holds : tie.Need-loop-holds Inv-loop μ-loop
-loop-holds c = turn-start states-spread (rw sub-zero (c .before .before .before .pre .1))
+loop-holds c =
+    let entry = c .before .before .before in
+    turn-start states-spread (rw sub-zero (entry .pre .1))
 
 span-at-requires : tie.Need-span-at-requires Inv-loop μ-loop
 span-at-requires c κs =
-    let a = c .before .before .before .before .before .before .args in
-    span-ready _ (a .rows .now) (a .firsts .now) (a .outcomes .now) _ (c .before .before .before .before .before .before .pre .0) (c .if1 .taken)
+    let entry = c .before .before .before .before .before .before in
+    let a = entry .args in
+    span-ready _ (a .rows .now) (a .firsts .now) (a .outcomes .now) _ (entry .pre .0) (c .if1 .taken)
 
 write-state-requires : tie.Need-write-state-requires Inv-loop μ-loop
 write-state-requires c κs =
-    let a = c .before .before .before .before .before .before .before .before .args in
-    state-ready _ (a .rows .now) (a .firsts .now) (a .outcomes .now) _ (c .before .before .before .before .before .before .before .before .pre .0) (c .before .before .if1 .taken)
-    (c .before .span-at .ensures (a .firsts .now) (a .outcomes .now)) _ _ (turn-room states-spread (c .before .before .before .before .loop .inv) (c .before .before .if1 .taken))
+    let turn = c .before .before .before .before in
+    let entry = turn .before .before .before .before in
+    let a = entry .args in
+    state-ready _ (a .rows .now) (a .firsts .now) (a .outcomes .now) _ (entry .pre .0) (c .before .before .if1 .taken)
+    (c .before .span-at .ensures (a .firsts .now) (a .outcomes .now)) _ _
+    (turn-room states-spread (turn .loop .inv) (c .before .before .if1 .taken))
 
 add-s : tie.Need-add-s Inv-loop μ-loop
-add-s c = omega (arith, c .before .before .before .before .before .if1 .taken, c .before .before .before .before .before .before .before .before .before .before .before .fits)
+add-s c =
+    let branch1 = c .before .before .before .before .before in
+    let past-fits = branch1 .before .before .before .before .before .before in
+    omega (arith, branch1 .if1 .taken, past-fits .fits)
 
 loop-less : tie.Need-loop-less Inv-loop μ-loop
-loop-less c = omega (arith, c .before .before .before .before .before .if1 .taken)
+loop-less c =
+    let branch1 = c .before .before .before .before .before in
+    omega (arith, branch1 .if1 .taken)
 
 loop-again : tie.Need-loop-again Inv-loop μ-loop
 loop-again c =
-    let a = c .before .before .before .before .before .before .before .before .before .before .before .args in
-    turn-next states-spread (c .before .before .before .before .before .before .before .loop .inv) (c .before .before .before .before .before .if1 .taken)
-    (state-stored _ (a .rows .now) (a .firsts .now) (a .outcomes .now) _ (c .before .before .before .before .before .before .before .before .before .before .before .pre .0) (c .before .before .before .before .before .if1 .taken)
-    (c .before .before .before .before .span-at .ensures (a .firsts .now) (a .outcomes .now)) (c .before .before .write-state .ensures))
+    let past-span-at = c .before .before .before .before in
+    let branch1 = past-span-at .before in
+    let turn = branch1 .before .before in
+    let entry = turn .before .before .before .before in
+    let a = entry .args in
+    turn-next states-spread (turn .loop .inv) (branch1 .if1 .taken)
+    (state-stored _ (a .rows .now) (a .firsts .now) (a .outcomes .now) _ (entry .pre .0) (branch1 .if1 .taken)
+    (past-span-at .span-at .ensures (a .firsts .now) (a .outcomes .now)) (c .before .before .write-state .ensures))
 
 same-length : tie.Need-same-length Inv-loop μ-loop
 same-length c = c .before .before .loop .inv .same
