@@ -2,7 +2,6 @@
 pub mod FilesReadAgain
 pub mod FilesWriteAgain
 pub mod Lend
-pub mod SameSameRows
 pub mod SameSameTables
 pub mod TryFile
 pub mod VerdictsAnswer

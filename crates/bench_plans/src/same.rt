@@ -26,23 +26,6 @@ fn same_row(a: Row, b: Row) -> bool {
     a.practice == b.practice
 }
 
-pub fn same_rows(n: usize, a: &[Row], b: &[Row]) -> bool {
-    if a.len() < n {
-        return false;
-    }
-    if b.len() < n {
-        return false;
-    }
-    let mut i = 0;
-    while i < n {
-        if !same_row(row_at(a, i), row_at(b, i)) {
-            return false;
-        }
-        i += 1;
-    }
-    true
-}
-
 fn same_entries(n: usize, a: &[u16], b: &[u16]) -> bool {
     if a.len() < n {
         return false;
@@ -73,11 +56,24 @@ pub fn same_tables(
     if !same_size(size, size2) {
         return false;
     }
-    if !same_rows(size.n, rows, rows2) {
-        return false;
-    }
     if !same_entries(size.m, firsts, firsts2) {
         return false;
     }
-    same_entries(size.t, outcomes, outcomes2)
+    if !same_entries(size.t, outcomes, outcomes2) {
+        return false;
+    }
+    if rows.len() < size.n {
+        return false;
+    }
+    if rows2.len() < size.n {
+        return false;
+    }
+    let mut s = 0;
+    while s < size.n {
+        if !same_row(row_at(rows, s), row_at(rows2, s)) {
+            return false;
+        }
+        s += 1;
+    }
+    true
 }

@@ -1,3 +1,4 @@
+-- It is only shown that each part lent is in range.
 mod Tie
 use mathlib.Core.Path.{sym}
 use native.Mathlib.Omega.{arith}

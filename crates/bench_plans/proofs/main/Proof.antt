@@ -1,3 +1,4 @@
+-- It is only shown that the loop ends, since the cases left grow fewer.
 use native.Mathlib.Omega.{arith}
 use Rattle.bench_plans.proofs.main.Statement.{statement}
 use Rattle.bench_plans.proofs.main.Tie as tie

@@ -1,3 +1,4 @@
+-- It is only shown that each part lent is in range.
 use mathlib.Core.Path.{sym}
 use native.Mathlib.Omega.{arith}
 use mathlib.Core.List.{List, _++_}

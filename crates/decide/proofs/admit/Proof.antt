@@ -1,3 +1,4 @@
+-- The tests come in the order of the refusals: each that fails is the refusal of `deciding`, and where both hold it goes on.
 use borrow.Author.Needs.{needs}
 use Rattle.decide.proofs.Decisions.{denies-unsound, denies-cramped, grants}
 use Rattle.decide.proofs.admit.Statement.{statement}

@@ -1,3 +1,4 @@
+-- The four comparisons are the four parts of the test; the first that fails makes it false.
 use Rattle.decide.proofs.Decisions.{short-ranks, short-commands, short-marks, last-test}
 use Rattle.decide.proofs.long_enough.Statement.{statement}
 use Rattle.decide.proofs.long_enough.Tie as tie

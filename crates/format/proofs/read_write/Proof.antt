@@ -1,3 +1,4 @@
+-- What was read is written again by the model's round trip; a file that is refused leaves the bytes as they were.
 mod Tie
 use borrow.Author.Needs.{needs}
 use Rattle.format.proofs.FileTrip.{file-refused, file-written}

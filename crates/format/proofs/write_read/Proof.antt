@@ -1,3 +1,4 @@
+-- What was written is read again by the model's round trip; tables that are refused leave the second ones as they were.
 mod Tie
 use lib.Seq.{length-take-le}
 use mathlib.Core.Path.{sym}

@@ -1,3 +1,4 @@
+-- The three comparisons are the three parts of `enough`; the first that fails makes it false.
 use mathlib.Core.Bool.{and-false}
 use borrow.Author.Tests.{lt-leb, le-leb}
 use Rattle.reading.proofs.long_enough.Statement.{statement}

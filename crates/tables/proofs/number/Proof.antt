@@ -1,3 +1,4 @@
+-- Each variant has its own number in the refusal table, by computing in each branch.
 use borrow.Author.Needs.{needs}
 use Rattle.tables.proofs.number.Statement.{statement}
 use Rattle.tables.proofs.number.Tie as tie

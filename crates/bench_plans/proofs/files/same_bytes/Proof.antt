@@ -1,3 +1,4 @@
+-- It is only shown that the part compared is in range.
 use mathlib.Core.Path.{sym}
 use native.Mathlib.Omega.{arith}
 use lib.Seq.{length-take-le}

@@ -1,3 +1,4 @@
+-- It is only shown that the bytes lent are whole: nothing is said of the answer.
 mod Tie
 use borrow.Author.Needs.{needs}
 use Rattle.bench_plans.proofs.files.write_again.Statement.{statement}

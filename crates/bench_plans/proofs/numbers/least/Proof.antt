@@ -1,3 +1,4 @@
+-- The two branches are the two cases of the comparison.
 use native.Mathlib.Omega.{arith}
 use borrow.Author.Tests.{lt-ltb, le-ltb}
 use Rattle.bench_plans.proofs.numbers.least.Statement.{statement}

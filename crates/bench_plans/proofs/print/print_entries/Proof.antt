@@ -1,3 +1,4 @@
+-- It is only shown that every index is in range and the loop ends.
 use native.Mathlib.Omega.{arith}
 use borrow.Author.Needs.{needs}
 use lib.ListN.{length}

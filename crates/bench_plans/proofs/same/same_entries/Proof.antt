@@ -1,3 +1,4 @@
+-- It is only shown that every index is in range and the loop ends: nothing is said of the answer.
 use Prim.Native.Nat.{_-_}
 use borrow.Author.Needs.{needs}
 use Rattle.bench_plans.proofs.same.same_entries.Statement.{statement}

@@ -1,3 +1,4 @@
+-- It is only shown that what the calls ask for holds: nothing is said of what is printed.
 mod Tie
 use borrow.Author.Needs.{needs}
 use Rattle.bench_plans.proofs.verdicts.answer.Statement.{statement}

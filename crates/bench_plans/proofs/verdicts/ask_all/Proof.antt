@@ -1,3 +1,4 @@
+-- It is only shown that the loop ends and that no more places are asked for than the tables have.
 mod Tie
 use native.Mathlib.Omega.{arith}
 use Rattle.bench_plans.proofs.verdicts.ask_all.Statement.{statement}

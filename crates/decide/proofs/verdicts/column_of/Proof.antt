@@ -1,3 +1,4 @@
+-- The two branches are the two cases of the definition.
 use Rattle.decide.proofs.StateVerdicts.{column-none, column-given}
 use borrow.Author.Needs.{needs}
 use Rattle.decide.proofs.verdicts.column_of.Statement.{statement}

@@ -1,3 +1,4 @@
+-- An entry is a number exactly if it is at most the highest one.
 use borrow.Author.Needs.{needs}
 use Rattle.decide.proofs.verdicts.has_number.Statement.{statement}
 use Rattle.decide.proofs.verdicts.has_number.Tie as tie

@@ -1,3 +1,4 @@
+-- A lost state and one without a practice are no fault; any other is one exactly if its practice has a lost outcome.
 use Rattle.decide.proofs.StateVerdicts.{lost-fault, idle-fault, hit-fault}
 use Rattle.choice.specs.Within.{commandHits}
 use Rattle.nets.proofs.Initializing.{practice-place}

@@ -1,3 +1,4 @@
+-- Command, mark and place in the tally are each what the callees' contracts say of the state, of which the span was read.
 use native.Mathlib.Omega.{arith}
 use Rattle.decide.proofs.StateVerdicts.{seen-inside, seen-fits, mark-small, judged}
 use borrow.Author.Needs.{needs}

@@ -1,3 +1,4 @@
+-- The invariant is that the states before s are judged and counted; a turn judges one more.
 mod Tie
 use Rattle.tables.proofs.LongTest.{rows-long}
 use Rattle.decide.proofs.Passes.{pass-start, pass-room, pass-next, pass-done}

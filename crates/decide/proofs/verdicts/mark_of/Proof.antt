@@ -1,3 +1,4 @@
+-- The two branches are the two cases of the definition.
 use Rattle.decide.proofs.StateVerdicts.{one-small, mark-fault, mark-plain}
 use native.Mathlib.Omega.{arith}
 use borrow.Author.Needs.{needs}

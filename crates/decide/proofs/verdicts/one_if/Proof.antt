@@ -1,3 +1,4 @@
+-- The two branches are the two cases of the definition.
 use Rattle.decide.proofs.StateVerdicts.{one-yes, one-no}
 use Rattle.decide.proofs.verdicts.one_if.Statement.{statement}
 use Rattle.decide.proofs.verdicts.one_if.Tie as tie

@@ -1,3 +1,4 @@
+-- A refusal and a lack of room leave the slices as they were; else each slice begins with what deciding left.
 use Rattle.gate_deciding.proofs.Delivering.{not-decided, cramped, delivered, decision-fits, room-facts}
 use Rattle.laws.proofs.Loops.{stopped, passed}
 use lib.ListN.{length}

@@ -1,3 +1,4 @@
+-- The five comparisons are the five parts of `decideRoom`; the first that fails makes it false.
 use borrow.Author.Tests.{lt-leb, le-leb}
 use mathlib.Core.Bool.{and-false}
 use Rattle.gate_deciding.proofs.answers.room.Statement.{statement}

@@ -1,3 +1,4 @@
+-- Each entry is stored behind the one before it; together they are the bytes of the tally.
 use mir.Syntax.{w16}
 use borrow.Kind.Array.{eInt, good-length}
 use Rattle.gate_deciding.proofs.Delivering.{tally-stored}

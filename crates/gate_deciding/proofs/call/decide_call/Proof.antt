@@ -1,3 +1,4 @@
+-- A plan that is not loaded is unsound; one that is loaded agrees with the plan lent, so that deciding it answers the same.
 use Rattle.gate_deciding.proofs.LentDeciding.{decide-call, decide-refused, decide-moved}
 use Rattle.load.proofs.Lending.{call-refused, call-given}
 use lib.ListN.{length}

@@ -1,3 +1,4 @@
+-- Deciding in tables of the limit's length is cramped nowhere, so that only the room in the slices is left to ask for.
 use Rattle.gate_deciding.proofs.Decided.{deliverable, decision-delivered}
 use Rattle.tables.specs.Meaning.{held}
 mod Tie

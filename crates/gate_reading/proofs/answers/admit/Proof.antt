@@ -1,3 +1,4 @@
+-- A refusal is handed on; a plan is refused as cramped where the slices have no room for it.
 use Rattle.laws.proofs.Loops.{stopped, passed}
 use Rattle.model.specs.Refusal.{need, _>>=_, _>>_}
 use borrow.Author.Needs.{needs}

@@ -1,3 +1,4 @@
+-- The four comparisons are the four parts of `readRoom`; the first that fails makes it false.
 use borrow.Author.Tests.{lt-leb, le-leb}
 use mathlib.Core.Bool.{and-false}
 use Rattle.gate_reading.proofs.answers.room.Statement.{statement}

@@ -1,3 +1,4 @@
+-- A refusal and a lack of room leave the slices as they were; else each slice begins with what the search left.
 use Rattle.gate_searching.proofs.Delivering.{not-found, cramped, fits, found-fits, room-facts, refused-after, given-after}
 use Rattle.laws.proofs.Loops.{stopped, passed}
 use lib.ListN.{length}

@@ -1,3 +1,4 @@
+-- The three comparisons are the three parts of `searchRoom`; the first that fails makes it false.
 use borrow.Author.Tests.{lt-leb, le-leb}
 use mathlib.Core.Bool.{and-false}
 use Rattle.gate_searching.proofs.answers.room.Statement.{statement}

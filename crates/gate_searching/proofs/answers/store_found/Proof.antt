@@ -1,3 +1,4 @@
+-- The verdict and the rounds are stored one behind the other; together they are the bytes of the answer.
 use Rattle.gate_searching.proofs.Delivering.{found-stored}
 use borrow.Author.Needs.{needs}
 use Rattle.gate_searching.proofs.answers.store_found.Statement.{statement}

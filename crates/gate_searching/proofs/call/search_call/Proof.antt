@@ -1,3 +1,4 @@
+-- A plan that is not loaded is unsound; one that is loaded agrees with the plan lent, so that the search on it answers the same.
 use Rattle.load.proofs.Lending.{call-refused, call-given}
 use Rattle.gate_searching.proofs.LentSearch.{search-call, search-moved}
 use lib.ListN.{length}

@@ -1,3 +1,4 @@
+-- The search in tables of the limit's length is cramped nowhere, so that only the room in the slices is left to ask for.
 use mathlib.Core.Path.{_∙_}
 use Rattle.gate_searching.proofs.Searched.{deliverable, search-delivered}
 use Rattle.tables.specs.Meaning.{held}

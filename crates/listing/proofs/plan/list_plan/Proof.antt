@@ -1,3 +1,4 @@
+-- The lines are written one behind another, and together they are the text of the plan.
 mod Tie
 use native.Mathlib.Omega.{arith}
 use borrow.Author.Needs.{needs}

@@ -1,3 +1,4 @@
+-- A sound plan's own start is a state and the tables are long enough, so that the search answers, and its line is written.
 mod Tie
 use native.Mathlib.Omega.{arith}
 use borrow.Author.Needs.{needs}

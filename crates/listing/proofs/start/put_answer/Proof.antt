@@ -1,3 +1,4 @@
+-- A search that answered has its line; of one that refused nothing is asked.
 use mathlib.Core.Path.{ap}
 use borrow.Author.Needs.{needs}
 use Rattle.search.specs.Answers.{answerOf}

@@ -1,3 +1,4 @@
+-- The invariant is that the lines of the states before s are written; a turn writes one more.
 mod Tie
 use Prim.Native.Nat.{_-_}
 use native.Mathlib.Omega.{arith}

@@ -1,3 +1,4 @@
+-- What the tables hold of the state is listed, so that the line written is the state's.
 use borrow.Author.Needs.{needs}
 use Rattle.listing.proofs.states.put_state.Statement.{statement}
 use Rattle.listing.proofs.states.put_state.Tie as tie

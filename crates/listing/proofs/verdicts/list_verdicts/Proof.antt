@@ -1,3 +1,4 @@
+-- A sound plan is decided, so that the tables list every state; the states' lines and the tally's are written one behind another.
 mod Tie
 use native.Mathlib.Omega.{arith}
 use borrow.Author.Needs.{needs}

@@ -1,3 +1,4 @@
+-- The tally's two rows are taken out of the decision and written as its line.
 use borrow.Author.Needs.{needs}
 use Rattle.listing.proofs.verdicts.put_tally.Statement.{statement}
 use Rattle.listing.proofs.verdicts.put_tally.Tie as tie

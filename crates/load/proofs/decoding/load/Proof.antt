@@ -1,3 +1,4 @@
+-- The invariant is that the entries left to load make the table what all of them make it.
 use mathlib.Core.List.{List}
 use Prim.Native.Nat.{ℕ, _-_, _*_, _≤_}
 use Rattle.model.proofs.Lent.{take-entries}

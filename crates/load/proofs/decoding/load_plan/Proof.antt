@@ -1,3 +1,5 @@
+-- A plan that is refused leaves the tables as they were; one that is given is within their lengths, and each table is loaded as far as its
+-- count says.
 use Rattle.load.proofs.Loaded.{within, no-plan, answers, fills, refuses, keeps}
 use native.Mathlib.Omega.{arith}
 mod Tie

@@ -1,3 +1,4 @@
+-- The invariant is that the rows left to load make the table what all of them make it.
 use Rattle.load.proofs.LoadRows.{Rows, rows-begin, rows-more, rows-end}
 use Prim.Native.Nat.{_-_, _≤_}
 use native.Mathlib.Omega.{arith}

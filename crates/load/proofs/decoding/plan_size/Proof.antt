@@ -1,3 +1,4 @@
+-- Each test that fails is a plan that tables of the limits' lengths do not hold, and one that passes them all is held.
 use Rattle.laws.proofs.Loops.{stopped, passed}
 use Rattle.load.proofs.Planning.{loading-short, loading-many, loading-long, loading-whole, size-answered, size-refused}
 use borrow.Author.Needs.{needs}

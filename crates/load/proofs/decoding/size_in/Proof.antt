@@ -1,3 +1,4 @@
+-- The record has the first four entries, each widened without a change.
 use borrow.Author.Needs.{needs}
 use Rattle.load.proofs.decoding.size_in.Statement.{statement}
 use Rattle.load.proofs.decoding.size_in.Tie as tie

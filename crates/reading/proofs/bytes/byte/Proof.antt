@@ -1,3 +1,4 @@
+-- A byte of the file from a place on is the file's byte so much further on.
 use lib.Seq.{getD-drop}
 use lib.ListN.{length-drop}
 use mathlib.Core.Path.{sym}

@@ -1,3 +1,4 @@
+-- Both bytes are in the file, and joined they are the number there.
 use lib.ListN.{length-drop}
 use native.Mathlib.Omega.{arith}
 use borrow.Author.Needs.{needs}

@@ -1,3 +1,4 @@
+-- The bytes from a place on are as many as the file has past it.
 use lib.ListN.{length-drop}
 use mathlib.Core.Path.{sym}
 use borrow.Author.Needs.{needs}

@@ -1,3 +1,5 @@
+-- The invariant is that the entries left rise from the last one on exactly if all entries rise; each refusal is that of the entry looked
+-- at.
 use Rattle.reading.proofs.FieldWays.{entriesFrom, entries-all, outcomes-beyond, outcomes-unsorted, outcomes-more, outcomes-rise}
 use Rattle.reading.proofs.Passing.{refuses}
 use Rattle.tables.specs.declared.Refusal.the-variants.{Beyond, Unsorted}

@@ -1,3 +1,4 @@
+-- Behind the frame the limit is tested, and then the outcomes, as in `command`.
 use Prim.Native.Nat.{ℕ, _+_, _/_}
 use Rattle.reading.proofs.FieldWays.{command-long, command-limit, command-walks}
 use Rattle.reading.proofs.Passing.{refuses, ends, went}

@@ -1,3 +1,4 @@
+-- Behind the frame the tests come in the order of `head`: each that fails is refused as beyond, and a head that passes them all is given.
 use Rattle.reading.proofs.FieldWays.{head-long, head-none, head-many, head-start, head-passes}
 use Rattle.reading.proofs.Passing.{refuses, ends, went}
 use Rattle.reading.specs.Meaning.{headMark, afterField}

@@ -1,3 +1,4 @@
+-- Behind the frame the tests come in the order of `state`: each that fails is its refusal, and a field that passes them all is given.
 use Rattle.reading.proofs.FieldWays.{state-long, state-kind, state-idle, state-limit, state-passes}
 use Rattle.reading.proofs.Passing.{refuses, ends, went}
 use Rattle.reading.specs.Meaning.{bytesFrom, afterField}

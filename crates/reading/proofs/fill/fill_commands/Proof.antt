@@ -1,3 +1,4 @@
+-- The invariant is that what is left to fill makes the tables what all the commands make them; a turn takes one command off what is left.
 use Rattle.reading.proofs.FillCommands.{
   Filling,
   filling-begin,

@@ -1,3 +1,4 @@
+-- The invariant is that the entries left to write make the table what all entries make it; a turn writes one of them.
 use Rattle.reading.proofs.FillCommands.{outcomesLeft, outcomes-all, outcomes-put, outcomes-done}
 use lib.ListN.{length, drop, length-set, length-drop}
 use native.Mathlib.Omega.{arith}

@@ -1,3 +1,4 @@
+-- The commands stand behind the state field, so that the contract of `fill_commands` is this one's at the mark moved past it.
 use native.Mathlib.Omega.{arith}
 use lib.ListN.{length-drop}
 use borrow.Author.Needs.{needs}

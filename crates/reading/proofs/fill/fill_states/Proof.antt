@@ -1,3 +1,4 @@
+-- The invariant is that the states left to fill make the tables what all the states make them; a turn takes one state off what is left.
 mod Tie
 use Rattle.reading.proofs.FillStates.{
   Filling,

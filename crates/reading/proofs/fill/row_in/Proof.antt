@@ -1,3 +1,4 @@
+-- The row's entries are the bytes of the state field and the count of commands so far, by the callees' contracts.
 use borrow.Author.Needs.{needs}
 use Rattle.reading.proofs.fill.row_in.Statement.{statement}
 use Rattle.reading.proofs.fill.row_in.Tie as tie

@@ -1,3 +1,4 @@
+-- Each branch is a case of the definition: a command's length is even and at least 2, any other tag's is fixed.
 use borrow.Author.Tests.{eq-eqb, ne-eqb}
 use borrow.Author.Needs.{needs}
 use Rattle.reading.proofs.frame.allowed.Statement.{statement}

@@ -1,3 +1,4 @@
+-- Each test of the frame that fails is the refusal that `field` gives there, and a frame that passes them all is the field's length.
 use Rattle.reading.proofs.FieldWays.{field-cut, field-tag, field-length, field-short, field-given, field-stops, field-walks}
 use Rattle.reading.specs.Meaning.{bytesFrom}
 use Rattle.tables.specs.declared.Refusal.the-variants.{Cut, Tag, Length}

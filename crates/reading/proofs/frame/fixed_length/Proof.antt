@@ -1,3 +1,4 @@
+-- Each branch is a case of the definition, by comparing the tag.
 use borrow.Author.Tests.{eq-eqb, ne-eqb}
 use Rattle.reading.proofs.frame.fixed_length.Statement.{statement}
 use Rattle.reading.proofs.frame.fixed_length.Tie as tie

@@ -1,3 +1,4 @@
+-- Head, states and end field come one after another as in `read`: each refusal is its own, and what is past the end is a surplus.
 use Rattle.reading.proofs.Scanning.{head-room, file-stops, end-stops, file-surplus, file-read}
 use Rattle.reading.proofs.Passing.{went, ends, refuses}
 use Rattle.tables.specs.declared.Refusal.the-variants.{Surplus}

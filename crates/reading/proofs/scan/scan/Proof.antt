@@ -1,3 +1,4 @@
+-- The mark behind a file that was read has its counts, and a refusal is handed on.
 use Rattle.reading.proofs.Scanning.{read-long, read-size, read-refused}
 use Rattle.reading.proofs.Passing.{went}
 use Rattle.tables.specs.Meaning.{numbers}

@@ -1,3 +1,4 @@
+-- The invariant is that reading the commands left from the mark on answers what reading all of them does.
 use Rattle.reading.proofs.Scanning.{commandsLeft, commands-all, commands-none, commands-end, commands-step, commands-more}
 use Rattle.reading.proofs.Passing.{went}
 use Rattle.reading.specs.Meaning.{Within, Walks}

@@ -1,3 +1,4 @@
+-- The invariant is that reading the states left from the mark on answers what reading all of them does.
 use Rattle.reading.proofs.Scanning.{statesLeft, states-all, states-none, states-end, states-stop, states-more, state-room}
 use Rattle.reading.proofs.Passing.{went}
 use Rattle.reading.specs.Meaning.{Within, Walks}

@@ -1,3 +1,4 @@
+-- The invariant is that the bytes of the first i entries stand in front; a turn stores one block of two more.
 use Prim.Native.Nat.{ℕ, _-_, _≤_}
 use mathlib.Core.List.{List, []}
 use native.Mathlib.Omega.{arith}

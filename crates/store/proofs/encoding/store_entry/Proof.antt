@@ -1,3 +1,4 @@
+-- The two bytes written are those of the number, by the definition of writing them one after another.
 use lib.ListN.{length-set}
 use mathlib.Core.Path.{refl}
 use native.Mathlib.Omega.{arith}

@@ -1,3 +1,4 @@
+-- The invariant is that the bytes of the first rows stand in front; a turn stores one row's block more.
 use Prim.Native.Nat.{_-_, _≤_, _*_}
 use mathlib.Core.Path.{_∙_, sym, ap}
 use mathlib.Core.List.{List, [], _∷_}

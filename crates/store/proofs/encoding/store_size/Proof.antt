@@ -1,3 +1,4 @@
+-- Each entry is stored behind the one before it; together they are the bytes of the size record.
 use Rattle.tables.specs.Meaning.{numbers}
 use Rattle.store.proofs.Entries.{size-stored}
 use borrow.Author.Needs.{needs}

@@ -1,3 +1,4 @@
+-- The first outcomes are starts of parts, so that `start_of` says where a command's outcomes begin.
 use borrow.Author.Needs.{needs}
 use Rattle.tables.proofs.entries.first_outcome.Statement.{statement}
 use Rattle.tables.proofs.entries.first_outcome.Tie as tie

@@ -1,3 +1,4 @@
+-- The comparison is the definition of a failing span, unfolded.
 use mathlib.Core.Path.{refl}
 use Rattle.tables.specs.Spans.{failingSpan}
 use Rattle.tables.proofs.spans.is_failing.Statement.{statement}

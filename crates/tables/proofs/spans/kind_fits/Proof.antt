@@ -1,3 +1,4 @@
+-- The two branches are the two cases of the test whether the kind is 0.
 use borrow.Author.Tests.{eq-eqb, ne-eqb}
 use Rattle.tables.proofs.spans.kind_fits.Statement.{statement}
 use Rattle.tables.proofs.spans.kind_fits.Tie as tie

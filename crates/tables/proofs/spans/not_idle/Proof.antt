@@ -1,3 +1,4 @@
+-- The test is that of the kind and then that of the practice: where the first fails the whole does.
 use borrow.Author.Needs.{needs}
 use Rattle.laws.proofs.Loops.{stopped, passed}
 use Rattle.tables.proofs.spans.not_idle.Statement.{statement}

@@ -1,3 +1,4 @@
+-- The two branches are the two cases of the test whether the practice is none.
 use borrow.Author.Tests.{eq-eqb, ne-eqb}
 use Rattle.tables.proofs.spans.practice_fits.Statement.{statement}
 use Rattle.tables.proofs.spans.practice_fits.Tie as tie

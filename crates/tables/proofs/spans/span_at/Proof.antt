@@ -1,3 +1,4 @@
+-- Where the commands end is the next row's first command, or m for the last state: one law for each way.
 mod Tie
 use native.Mathlib.Omega.{arith}
 use borrow.Author.Needs.{needs}

@@ -1,3 +1,4 @@
+-- The span has the row's entries, each widened without a change.
 use borrow.Author.Needs.{needs}
 use Rattle.tables.proofs.spans.span_of.Statement.{statement}
 use Rattle.tables.proofs.spans.span_of.Tie as tie

@@ -2,9 +2,9 @@
 use Rattle.bench_plans.proofs.same.same_entries.Met
 use Rattle.bench_plans.proofs.same.same_entries.Reads
 use Rattle.bench_plans.proofs.same.same_entries.Symbol
-use Rattle.bench_plans.proofs.same.same_rows.Met as Met'
-use Rattle.bench_plans.proofs.Made.SameSameRows.Reads as Reads'
-use Rattle.bench_plans.proofs.same.same_rows.Symbol as Symbol'
+use Rattle.bench_plans.proofs.same.same_row.Met as Met'
+use Rattle.bench_plans.proofs.same.same_row.Reads as Reads'
+use Rattle.bench_plans.proofs.same.same_row.Symbol as Symbol'
 use Rattle.bench_plans.proofs.same.same_size.Met as Met''
 use Rattle.bench_plans.proofs.same.same_size.Reads as Reads''
 use Rattle.bench_plans.proofs.same.same_size.Symbol as Symbol''
@@ -13,83 +13,161 @@ use Rattle.bench_plans.proofs.same.same_tables.Key
 use Rattle.bench_plans.proofs.Made.SameSameTables.Lts as Lts
 use Rattle.bench_plans.proofs.Made.SameSameTables.Reads as Reads'3
 use Rattle.bench_plans.proofs.same.same_tables.Statement
+use Rattle.tables.proofs.internal.row_at.Met as Met'3
+use Rattle.tables.proofs.Made.InternalRowAt.Reads as Reads'4
+use Rattle.tables.proofs.internal.row_at.Symbol as Symbol'3
 use borrow.Fn.Run
 use borrow.Fn.Written
 use contract.Running
 
-abbrev pub Start : Type 0
-Start = Lts.Start (Reads''.Asked, Reads''.Learnt, Reads'.Asked, Reads'.Learnt, Reads.Asked, Reads.Learnt) Reads'3.Pre Reads'3.Post
+abbrev pub InvT-loop : Type 1
+InvT-loop = Lts.InvT-loop
 
-abbrev pub After-shared-slice-known : Type 0
-After-shared-slice-known = Lts.After-shared-slice-known (Reads''.Asked, Reads''.Learnt, Reads'.Asked, Reads'.Learnt, Reads.Asked, Reads.Learnt) Reads'3.Pre Reads'3.Post
+abbrev pub MeasureT-loop : Type 0
+MeasureT-loop = Lts.MeasureT-loop
 
-abbrev pub After-shared-slice-known2 : Type 0
-After-shared-slice-known2 = Lts.After-shared-slice-known2 (Reads''.Asked, Reads''.Learnt, Reads'.Asked, Reads'.Learnt, Reads.Asked, Reads.Learnt) Reads'3.Pre Reads'3.Post
+abbrev pub Start : (Inv : InvT-loop) → (μ : MeasureT-loop) → Type 0
+Start = λ Inv μ. Lts.Start (Reads''.Asked, Reads''.Learnt, Reads.Asked, Reads.Learnt, Reads'4.Asked, Reads'4.Learnt, Reads'.Asked, Reads'.Learnt) Reads'3.Pre Reads'3.Post Inv μ
 
-abbrev pub After-shared-slice-known3 : Type 0
-After-shared-slice-known3 = Lts.After-shared-slice-known3 (Reads''.Asked, Reads''.Learnt, Reads'.Asked, Reads'.Learnt, Reads.Asked, Reads.Learnt) Reads'3.Pre Reads'3.Post
+abbrev pub After-shared-slice-known : (Inv : InvT-loop) → (μ : MeasureT-loop) → Type 0
+After-shared-slice-known = λ Inv μ. Lts.After-shared-slice-known (Reads''.Asked, Reads''.Learnt, Reads.Asked, Reads.Learnt, Reads'4.Asked, Reads'4.Learnt, Reads'.Asked, Reads'.Learnt) Reads'3.Pre Reads'3.Post Inv μ
 
-abbrev pub After-shared-slice-known4 : Type 0
-After-shared-slice-known4 = Lts.After-shared-slice-known4 (Reads''.Asked, Reads''.Learnt, Reads'.Asked, Reads'.Learnt, Reads.Asked, Reads.Learnt) Reads'3.Pre Reads'3.Post
+abbrev pub After-shared-slice-known2 : (Inv : InvT-loop) → (μ : MeasureT-loop) → Type 0
+After-shared-slice-known2 = λ Inv μ. Lts.After-shared-slice-known2 (Reads''.Asked, Reads''.Learnt, Reads.Asked, Reads.Learnt, Reads'4.Asked, Reads'4.Learnt, Reads'.Asked, Reads'.Learnt) Reads'3.Pre Reads'3.Post Inv μ
 
-abbrev pub After-same-size : Type 0
-After-same-size = Lts.After-same-size (Reads''.Asked, Reads''.Learnt, Reads'.Asked, Reads'.Learnt, Reads.Asked, Reads.Learnt) Reads'3.Pre Reads'3.Post
+abbrev pub After-shared-slice-known3 : (Inv : InvT-loop) → (μ : MeasureT-loop) → Type 0
+After-shared-slice-known3 = λ Inv μ. Lts.After-shared-slice-known3 (Reads''.Asked, Reads''.Learnt, Reads.Asked, Reads.Learnt, Reads'4.Asked, Reads'4.Learnt, Reads'.Asked, Reads'.Learnt) Reads'3.Pre Reads'3.Post Inv μ
 
-abbrev pub Then1 : Type 0
-Then1 = Lts.Then1 (Reads''.Asked, Reads''.Learnt, Reads'.Asked, Reads'.Learnt, Reads.Asked, Reads.Learnt) Reads'3.Pre Reads'3.Post
+abbrev pub After-shared-slice-known4 : (Inv : InvT-loop) → (μ : MeasureT-loop) → Type 0
+After-shared-slice-known4 = λ Inv μ. Lts.After-shared-slice-known4 (Reads''.Asked, Reads''.Learnt, Reads.Asked, Reads.Learnt, Reads'4.Asked, Reads'4.Learnt, Reads'.Asked, Reads'.Learnt) Reads'3.Pre Reads'3.Post Inv μ
 
-abbrev pub Else1 : Type 0
-Else1 = Lts.Else1 (Reads''.Asked, Reads''.Learnt, Reads'.Asked, Reads'.Learnt, Reads.Asked, Reads.Learnt) Reads'3.Pre Reads'3.Post
+abbrev pub After-same-size : (Inv : InvT-loop) → (μ : MeasureT-loop) → Type 0
+After-same-size = λ Inv μ. Lts.After-same-size (Reads''.Asked, Reads''.Learnt, Reads.Asked, Reads.Learnt, Reads'4.Asked, Reads'4.Learnt, Reads'.Asked, Reads'.Learnt) Reads'3.Pre Reads'3.Post Inv μ
 
-abbrev pub After-same-rows : Type 0
-After-same-rows = Lts.After-same-rows (Reads''.Asked, Reads''.Learnt, Reads'.Asked, Reads'.Learnt, Reads.Asked, Reads.Learnt) Reads'3.Pre Reads'3.Post
+abbrev pub Then1 : (Inv : InvT-loop) → (μ : MeasureT-loop) → Type 0
+Then1 = λ Inv μ. Lts.Then1 (Reads''.Asked, Reads''.Learnt, Reads.Asked, Reads.Learnt, Reads'4.Asked, Reads'4.Learnt, Reads'.Asked, Reads'.Learnt) Reads'3.Pre Reads'3.Post Inv μ
 
-abbrev pub Then2 : Type 0
-Then2 = Lts.Then2 (Reads''.Asked, Reads''.Learnt, Reads'.Asked, Reads'.Learnt, Reads.Asked, Reads.Learnt) Reads'3.Pre Reads'3.Post
+abbrev pub Else1 : (Inv : InvT-loop) → (μ : MeasureT-loop) → Type 0
+Else1 = λ Inv μ. Lts.Else1 (Reads''.Asked, Reads''.Learnt, Reads.Asked, Reads.Learnt, Reads'4.Asked, Reads'4.Learnt, Reads'.Asked, Reads'.Learnt) Reads'3.Pre Reads'3.Post Inv μ
 
-abbrev pub Else2 : Type 0
-Else2 = Lts.Else2 (Reads''.Asked, Reads''.Learnt, Reads'.Asked, Reads'.Learnt, Reads.Asked, Reads.Learnt) Reads'3.Pre Reads'3.Post
+abbrev pub After-same-entries : (Inv : InvT-loop) → (μ : MeasureT-loop) → Type 0
+After-same-entries = λ Inv μ. Lts.After-same-entries (Reads''.Asked, Reads''.Learnt, Reads.Asked, Reads.Learnt, Reads'4.Asked, Reads'4.Learnt, Reads'.Asked, Reads'.Learnt) Reads'3.Pre Reads'3.Post Inv μ
 
-abbrev pub After-same-entries : Type 0
-After-same-entries = Lts.After-same-entries (Reads''.Asked, Reads''.Learnt, Reads'.Asked, Reads'.Learnt, Reads.Asked, Reads.Learnt) Reads'3.Pre Reads'3.Post
+abbrev pub Then2 : (Inv : InvT-loop) → (μ : MeasureT-loop) → Type 0
+Then2 = λ Inv μ. Lts.Then2 (Reads''.Asked, Reads''.Learnt, Reads.Asked, Reads.Learnt, Reads'4.Asked, Reads'4.Learnt, Reads'.Asked, Reads'.Learnt) Reads'3.Pre Reads'3.Post Inv μ
 
-abbrev pub Then3 : Type 0
-Then3 = Lts.Then3 (Reads''.Asked, Reads''.Learnt, Reads'.Asked, Reads'.Learnt, Reads.Asked, Reads.Learnt) Reads'3.Pre Reads'3.Post
+abbrev pub Else2 : (Inv : InvT-loop) → (μ : MeasureT-loop) → Type 0
+Else2 = λ Inv μ. Lts.Else2 (Reads''.Asked, Reads''.Learnt, Reads.Asked, Reads.Learnt, Reads'4.Asked, Reads'4.Learnt, Reads'.Asked, Reads'.Learnt) Reads'3.Pre Reads'3.Post Inv μ
 
-abbrev pub Else3 : Type 0
-Else3 = Lts.Else3 (Reads''.Asked, Reads''.Learnt, Reads'.Asked, Reads'.Learnt, Reads.Asked, Reads.Learnt) Reads'3.Pre Reads'3.Post
+abbrev pub After-same-entries2 : (Inv : InvT-loop) → (μ : MeasureT-loop) → Type 0
+After-same-entries2 = λ Inv μ. Lts.After-same-entries2 (Reads''.Asked, Reads''.Learnt, Reads.Asked, Reads.Learnt, Reads'4.Asked, Reads'4.Learnt, Reads'.Asked, Reads'.Learnt) Reads'3.Pre Reads'3.Post Inv μ
 
-abbrev pub After-same-entries2 : Type 0
-After-same-entries2 = Lts.After-same-entries2 (Reads''.Asked, Reads''.Learnt, Reads'.Asked, Reads'.Learnt, Reads.Asked, Reads.Learnt) Reads'3.Pre Reads'3.Post
+abbrev pub Then3 : (Inv : InvT-loop) → (μ : MeasureT-loop) → Type 0
+Then3 = λ Inv μ. Lts.Then3 (Reads''.Asked, Reads''.Learnt, Reads.Asked, Reads.Learnt, Reads'4.Asked, Reads'4.Learnt, Reads'.Asked, Reads'.Learnt) Reads'3.Pre Reads'3.Post Inv μ
 
-abbrev pub Need-same-size-requires : Type 0
-Need-same-size-requires = Lts.Need-same-size-requires (Reads''.Asked, Reads''.Learnt, Reads'.Asked, Reads'.Learnt, Reads.Asked, Reads.Learnt) Reads'3.Pre Reads'3.Post
+abbrev pub Else3 : (Inv : InvT-loop) → (μ : MeasureT-loop) → Type 0
+Else3 = λ Inv μ. Lts.Else3 (Reads''.Asked, Reads''.Learnt, Reads.Asked, Reads.Learnt, Reads'4.Asked, Reads'4.Learnt, Reads'.Asked, Reads'.Learnt) Reads'3.Pre Reads'3.Post Inv μ
 
-abbrev pub Need-returns : Type 0
-Need-returns = Lts.Need-returns (Reads''.Asked, Reads''.Learnt, Reads'.Asked, Reads'.Learnt, Reads.Asked, Reads.Learnt) Reads'3.Pre Reads'3.Post
+abbrev pub After-struct-known : (Inv : InvT-loop) → (μ : MeasureT-loop) → Type 0
+After-struct-known = λ Inv μ. Lts.After-struct-known (Reads''.Asked, Reads''.Learnt, Reads.Asked, Reads.Learnt, Reads'4.Asked, Reads'4.Learnt, Reads'.Asked, Reads'.Learnt) Reads'3.Pre Reads'3.Post Inv μ
 
-abbrev pub Need-same-rows-requires : Type 0
-Need-same-rows-requires = Lts.Need-same-rows-requires (Reads''.Asked, Reads''.Learnt, Reads'.Asked, Reads'.Learnt, Reads.Asked, Reads.Learnt) Reads'3.Pre Reads'3.Post
+abbrev pub Then4 : (Inv : InvT-loop) → (μ : MeasureT-loop) → Type 0
+Then4 = λ Inv μ. Lts.Then4 (Reads''.Asked, Reads''.Learnt, Reads.Asked, Reads.Learnt, Reads'4.Asked, Reads'4.Learnt, Reads'.Asked, Reads'.Learnt) Reads'3.Pre Reads'3.Post Inv μ
 
-abbrev pub Need-returns-2 : Type 0
-Need-returns-2 = Lts.Need-returns-2 (Reads''.Asked, Reads''.Learnt, Reads'.Asked, Reads'.Learnt, Reads.Asked, Reads.Learnt) Reads'3.Pre Reads'3.Post
+abbrev pub Else4 : (Inv : InvT-loop) → (μ : MeasureT-loop) → Type 0
+Else4 = λ Inv μ. Lts.Else4 (Reads''.Asked, Reads''.Learnt, Reads.Asked, Reads.Learnt, Reads'4.Asked, Reads'4.Learnt, Reads'.Asked, Reads'.Learnt) Reads'3.Pre Reads'3.Post Inv μ
 
-abbrev pub Need-same-entries-requires : Type 0
-Need-same-entries-requires = Lts.Need-same-entries-requires (Reads''.Asked, Reads''.Learnt, Reads'.Asked, Reads'.Learnt, Reads.Asked, Reads.Learnt) Reads'3.Pre Reads'3.Post
+abbrev pub After-struct-known2 : (Inv : InvT-loop) → (μ : MeasureT-loop) → Type 0
+After-struct-known2 = λ Inv μ. Lts.After-struct-known2 (Reads''.Asked, Reads''.Learnt, Reads.Asked, Reads.Learnt, Reads'4.Asked, Reads'4.Learnt, Reads'.Asked, Reads'.Learnt) Reads'3.Pre Reads'3.Post Inv μ
 
-abbrev pub Need-returns-3 : Type 0
-Need-returns-3 = Lts.Need-returns-3 (Reads''.Asked, Reads''.Learnt, Reads'.Asked, Reads'.Learnt, Reads.Asked, Reads.Learnt) Reads'3.Pre Reads'3.Post
+abbrev pub Then5 : (Inv : InvT-loop) → (μ : MeasureT-loop) → Type 0
+Then5 = λ Inv μ. Lts.Then5 (Reads''.Asked, Reads''.Learnt, Reads.Asked, Reads.Learnt, Reads'4.Asked, Reads'4.Learnt, Reads'.Asked, Reads'.Learnt) Reads'3.Pre Reads'3.Post Inv μ
 
-abbrev pub Need-same-entries-requires-2 : Type 0
-Need-same-entries-requires-2 = Lts.Need-same-entries-requires-2 (Reads''.Asked, Reads''.Learnt, Reads'.Asked, Reads'.Learnt, Reads.Asked, Reads.Learnt) Reads'3.Pre Reads'3.Post
+abbrev pub Else5 : (Inv : InvT-loop) → (μ : MeasureT-loop) → Type 0
+Else5 = λ Inv μ. Lts.Else5 (Reads''.Asked, Reads''.Learnt, Reads.Asked, Reads.Learnt, Reads'4.Asked, Reads'4.Learnt, Reads'.Asked, Reads'.Learnt) Reads'3.Pre Reads'3.Post Inv μ
 
-abbrev pub Need-returns-4 : Type 0
-Need-returns-4 = Lts.Need-returns-4 (Reads''.Asked, Reads''.Learnt, Reads'.Asked, Reads'.Learnt, Reads.Asked, Reads.Learnt) Reads'3.Pre Reads'3.Post
+abbrev pub At-loop : (Inv : InvT-loop) → (μ : MeasureT-loop) → Type 0
+At-loop = λ Inv μ. Lts.At-loop (Reads''.Asked, Reads''.Learnt, Reads.Asked, Reads.Learnt, Reads'4.Asked, Reads'4.Learnt, Reads'.Asked, Reads'.Learnt) Reads'3.Pre Reads'3.Post Inv μ
+
+abbrev pub After-struct-known3 : (Inv : InvT-loop) → (μ : MeasureT-loop) → Type 0
+After-struct-known3 = λ Inv μ. Lts.After-struct-known3 (Reads''.Asked, Reads''.Learnt, Reads.Asked, Reads.Learnt, Reads'4.Asked, Reads'4.Learnt, Reads'.Asked, Reads'.Learnt) Reads'3.Pre Reads'3.Post Inv μ
+
+abbrev pub Then6 : (Inv : InvT-loop) → (μ : MeasureT-loop) → Type 0
+Then6 = λ Inv μ. Lts.Then6 (Reads''.Asked, Reads''.Learnt, Reads.Asked, Reads.Learnt, Reads'4.Asked, Reads'4.Learnt, Reads'.Asked, Reads'.Learnt) Reads'3.Pre Reads'3.Post Inv μ
+
+abbrev pub Else6 : (Inv : InvT-loop) → (μ : MeasureT-loop) → Type 0
+Else6 = λ Inv μ. Lts.Else6 (Reads''.Asked, Reads''.Learnt, Reads.Asked, Reads.Learnt, Reads'4.Asked, Reads'4.Learnt, Reads'.Asked, Reads'.Learnt) Reads'3.Pre Reads'3.Post Inv μ
+
+abbrev pub After-row-at : (Inv : InvT-loop) → (μ : MeasureT-loop) → Type 0
+After-row-at = λ Inv μ. Lts.After-row-at (Reads''.Asked, Reads''.Learnt, Reads.Asked, Reads.Learnt, Reads'4.Asked, Reads'4.Learnt, Reads'.Asked, Reads'.Learnt) Reads'3.Pre Reads'3.Post Inv μ
+
+abbrev pub After-row-at2 : (Inv : InvT-loop) → (μ : MeasureT-loop) → Type 0
+After-row-at2 = λ Inv μ. Lts.After-row-at2 (Reads''.Asked, Reads''.Learnt, Reads.Asked, Reads.Learnt, Reads'4.Asked, Reads'4.Learnt, Reads'.Asked, Reads'.Learnt) Reads'3.Pre Reads'3.Post Inv μ
+
+abbrev pub After-same-row : (Inv : InvT-loop) → (μ : MeasureT-loop) → Type 0
+After-same-row = λ Inv μ. Lts.After-same-row (Reads''.Asked, Reads''.Learnt, Reads.Asked, Reads.Learnt, Reads'4.Asked, Reads'4.Learnt, Reads'.Asked, Reads'.Learnt) Reads'3.Pre Reads'3.Post Inv μ
+
+abbrev pub Then7 : (Inv : InvT-loop) → (μ : MeasureT-loop) → Type 0
+Then7 = λ Inv μ. Lts.Then7 (Reads''.Asked, Reads''.Learnt, Reads.Asked, Reads.Learnt, Reads'4.Asked, Reads'4.Learnt, Reads'.Asked, Reads'.Learnt) Reads'3.Pre Reads'3.Post Inv μ
+
+abbrev pub Else7 : (Inv : InvT-loop) → (μ : MeasureT-loop) → Type 0
+Else7 = λ Inv μ. Lts.Else7 (Reads''.Asked, Reads''.Learnt, Reads.Asked, Reads.Learnt, Reads'4.Asked, Reads'4.Learnt, Reads'.Asked, Reads'.Learnt) Reads'3.Pre Reads'3.Post Inv μ
+
+abbrev pub Need-same-size-requires : (Inv : InvT-loop) → (μ : MeasureT-loop) → Type 0
+Need-same-size-requires = λ Inv μ. Lts.Need-same-size-requires (Reads''.Asked, Reads''.Learnt, Reads.Asked, Reads.Learnt, Reads'4.Asked, Reads'4.Learnt, Reads'.Asked, Reads'.Learnt) Reads'3.Pre Reads'3.Post Inv μ
+
+abbrev pub Need-returns : (Inv : InvT-loop) → (μ : MeasureT-loop) → Type 0
+Need-returns = λ Inv μ. Lts.Need-returns (Reads''.Asked, Reads''.Learnt, Reads.Asked, Reads.Learnt, Reads'4.Asked, Reads'4.Learnt, Reads'.Asked, Reads'.Learnt) Reads'3.Pre Reads'3.Post Inv μ
+
+abbrev pub Need-same-entries-requires : (Inv : InvT-loop) → (μ : MeasureT-loop) → Type 0
+Need-same-entries-requires = λ Inv μ. Lts.Need-same-entries-requires (Reads''.Asked, Reads''.Learnt, Reads.Asked, Reads.Learnt, Reads'4.Asked, Reads'4.Learnt, Reads'.Asked, Reads'.Learnt) Reads'3.Pre Reads'3.Post Inv μ
+
+abbrev pub Need-returns-2 : (Inv : InvT-loop) → (μ : MeasureT-loop) → Type 0
+Need-returns-2 = λ Inv μ. Lts.Need-returns-2 (Reads''.Asked, Reads''.Learnt, Reads.Asked, Reads.Learnt, Reads'4.Asked, Reads'4.Learnt, Reads'.Asked, Reads'.Learnt) Reads'3.Pre Reads'3.Post Inv μ
+
+abbrev pub Need-same-entries-requires-2 : (Inv : InvT-loop) → (μ : MeasureT-loop) → Type 0
+Need-same-entries-requires-2 = λ Inv μ. Lts.Need-same-entries-requires-2 (Reads''.Asked, Reads''.Learnt, Reads.Asked, Reads.Learnt, Reads'4.Asked, Reads'4.Learnt, Reads'.Asked, Reads'.Learnt) Reads'3.Pre Reads'3.Post Inv μ
+
+abbrev pub Need-returns-3 : (Inv : InvT-loop) → (μ : MeasureT-loop) → Type 0
+Need-returns-3 = λ Inv μ. Lts.Need-returns-3 (Reads''.Asked, Reads''.Learnt, Reads.Asked, Reads.Learnt, Reads'4.Asked, Reads'4.Learnt, Reads'.Asked, Reads'.Learnt) Reads'3.Pre Reads'3.Post Inv μ
+
+abbrev pub Need-returns-4 : (Inv : InvT-loop) → (μ : MeasureT-loop) → Type 0
+Need-returns-4 = λ Inv μ. Lts.Need-returns-4 (Reads''.Asked, Reads''.Learnt, Reads.Asked, Reads.Learnt, Reads'4.Asked, Reads'4.Learnt, Reads'.Asked, Reads'.Learnt) Reads'3.Pre Reads'3.Post Inv μ
+
+abbrev pub Need-returns-5 : (Inv : InvT-loop) → (μ : MeasureT-loop) → Type 0
+Need-returns-5 = λ Inv μ. Lts.Need-returns-5 (Reads''.Asked, Reads''.Learnt, Reads.Asked, Reads.Learnt, Reads'4.Asked, Reads'4.Learnt, Reads'.Asked, Reads'.Learnt) Reads'3.Pre Reads'3.Post Inv μ
+
+abbrev pub Need-loop-holds : (Inv : InvT-loop) → (μ : MeasureT-loop) → Type 0
+Need-loop-holds = λ Inv μ. Lts.Need-loop-holds (Reads''.Asked, Reads''.Learnt, Reads.Asked, Reads.Learnt, Reads'4.Asked, Reads'4.Learnt, Reads'.Asked, Reads'.Learnt) Reads'3.Pre Reads'3.Post Inv μ
+
+abbrev pub Need-row-at-requires : (Inv : InvT-loop) → (μ : MeasureT-loop) → Type 0
+Need-row-at-requires = λ Inv μ. Lts.Need-row-at-requires (Reads''.Asked, Reads''.Learnt, Reads.Asked, Reads.Learnt, Reads'4.Asked, Reads'4.Learnt, Reads'.Asked, Reads'.Learnt) Reads'3.Pre Reads'3.Post Inv μ
+
+abbrev pub Need-row-at-requires-2 : (Inv : InvT-loop) → (μ : MeasureT-loop) → Type 0
+Need-row-at-requires-2 = λ Inv μ. Lts.Need-row-at-requires-2 (Reads''.Asked, Reads''.Learnt, Reads.Asked, Reads.Learnt, Reads'4.Asked, Reads'4.Learnt, Reads'.Asked, Reads'.Learnt) Reads'3.Pre Reads'3.Post Inv μ
+
+abbrev pub Need-same-row-requires : (Inv : InvT-loop) → (μ : MeasureT-loop) → Type 0
+Need-same-row-requires = λ Inv μ. Lts.Need-same-row-requires (Reads''.Asked, Reads''.Learnt, Reads.Asked, Reads.Learnt, Reads'4.Asked, Reads'4.Learnt, Reads'.Asked, Reads'.Learnt) Reads'3.Pre Reads'3.Post Inv μ
+
+abbrev pub Need-returns-6 : (Inv : InvT-loop) → (μ : MeasureT-loop) → Type 0
+Need-returns-6 = λ Inv μ. Lts.Need-returns-6 (Reads''.Asked, Reads''.Learnt, Reads.Asked, Reads.Learnt, Reads'4.Asked, Reads'4.Learnt, Reads'.Asked, Reads'.Learnt) Reads'3.Pre Reads'3.Post Inv μ
+
+abbrev pub Need-add-s : (Inv : InvT-loop) → (μ : MeasureT-loop) → Type 0
+Need-add-s = λ Inv μ. Lts.Need-add-s (Reads''.Asked, Reads''.Learnt, Reads.Asked, Reads.Learnt, Reads'4.Asked, Reads'4.Learnt, Reads'.Asked, Reads'.Learnt) Reads'3.Pre Reads'3.Post Inv μ
+
+abbrev pub Need-loop-less : (Inv : InvT-loop) → (μ : MeasureT-loop) → Type 0
+Need-loop-less = λ Inv μ. Lts.Need-loop-less (Reads''.Asked, Reads''.Learnt, Reads.Asked, Reads.Learnt, Reads'4.Asked, Reads'4.Learnt, Reads'.Asked, Reads'.Learnt) Reads'3.Pre Reads'3.Post Inv μ
+
+abbrev pub Need-loop-again : (Inv : InvT-loop) → (μ : MeasureT-loop) → Type 0
+Need-loop-again = λ Inv μ. Lts.Need-loop-again (Reads''.Asked, Reads''.Learnt, Reads.Asked, Reads.Learnt, Reads'4.Asked, Reads'4.Learnt, Reads'.Asked, Reads'.Learnt) Reads'3.Pre Reads'3.Post Inv μ
+
+abbrev pub Need-returns-7 : (Inv : InvT-loop) → (μ : MeasureT-loop) → Type 0
+Need-returns-7 = λ Inv μ. Lts.Need-returns-7 (Reads''.Asked, Reads''.Learnt, Reads.Asked, Reads.Learnt, Reads'4.Asked, Reads'4.Learnt, Reads'.Asked, Reads'.Learnt) Reads'3.Pre Reads'3.Post Inv μ
 
 module _ {M : Type 1} where
-  pub spec : (answer : Need-same-size-requires) → (answer : Need-returns) → (answer : Need-same-rows-requires) → (answer : Need-returns-2) → (answer : Need-same-entries-requires) → (answer : Need-returns-3) → (answer : Need-same-entries-requires-2) → (answer : Need-returns-4) → Lts.Closed (Reads''.Asked, Reads''.Learnt, Reads'.Asked, Reads'.Learnt, Reads.Asked, Reads.Learnt) Reads'3.Pre Reads'3.Post M
-  spec = λ answer answer' answer'' answer'3 answer'4 answer'5 answer'6 answer'7. Lts.spec (Reads''.Asked, Reads''.Learnt, Reads'.Asked, Reads'.Learnt, Reads.Asked, Reads.Learnt) Reads'3.Pre Reads'3.Post answer answer' answer'' answer'3 answer'4 answer'5 answer'6 answer'7
+  pub spec : (Inv : InvT-loop) → (μ : MeasureT-loop) → (answer : Need-same-size-requires Inv μ) → (answer : Need-returns Inv μ) → (answer : Need-same-entries-requires Inv μ) → (answer : Need-returns-2 Inv μ) → (answer : Need-same-entries-requires-2 Inv μ) → (answer : Need-returns-3 Inv μ) → (answer : Need-returns-4 Inv μ) → (answer : Need-returns-5 Inv μ) → (answer : Need-loop-holds Inv μ) → (answer : Need-row-at-requires Inv μ) → (answer : Need-row-at-requires-2 Inv μ) → (answer : Need-same-row-requires Inv μ) → (answer : Need-returns-6 Inv μ) → (answer : Need-add-s Inv μ) → (answer : Need-loop-less Inv μ) → (answer : Need-loop-again Inv μ) → (answer : Need-returns-7 Inv μ) → Lts.Closed (Reads''.Asked, Reads''.Learnt, Reads.Asked, Reads.Learnt, Reads'4.Asked, Reads'4.Learnt, Reads'.Asked, Reads'.Learnt) Reads'3.Pre Reads'3.Post M
+  spec = λ Inv μ answer answer' answer'' answer'3 answer'4 answer'5 answer'6 answer'7 answer'8 answer'9 answer'10 answer'11 answer'12 answer'13 answer'14 answer'15 answer'16. Lts.spec (Reads''.Asked, Reads''.Learnt, Reads.Asked, Reads.Learnt, Reads'4.Asked, Reads'4.Learnt, Reads'.Asked, Reads'.Learnt) Reads'3.Pre Reads'3.Post Inv μ answer answer' answer'' answer'3 answer'4 answer'5 answer'6 answer'7 answer'8 answer'9 answer'10 answer'11 answer'12 answer'13 answer'14 answer'15 answer'16
 
-  pub close : Lts.Closed (Reads''.Asked, Reads''.Learnt, Reads'.Asked, Reads'.Learnt, Reads.Asked, Reads.Learnt) Reads'3.Pre Reads'3.Post M → Statement.statement M
+  pub close : Lts.Closed (Reads''.Asked, Reads''.Learnt, Reads.Asked, Reads.Learnt, Reads'4.Asked, Reads'4.Learnt, Reads'.Asked, Reads'.Learnt) Reads'3.Pre Reads'3.Post M → Statement.statement M
   unfolding Code.routine Running.tablesOf
-  close = λ closed 𝓤 H 𝓜 𝓖 𝓡. Written.close 6 Reads'3.ps Reads'3.r Reads'3.Ghost Reads'3.requires Reads'3.ensures Reads'3.pre-read Reads'3.Pinned Reads'3.Owned Reads'3.post-read record { M = M; 𝓤 = 𝓤; H = H; 𝓜 = 𝓜; 𝓖 = 𝓖; 𝓡 = 𝓡 } Code.env Key.name Code.function (Code.unfolded 𝓤 H 𝓜 𝓡) (λ κs a g. tt) (λ κs. Reads'3.owns κs record { M = M; 𝓤 = 𝓤; H = H; 𝓜 = 𝓜; 𝓖 = 𝓖; 𝓡 = 𝓡 }) (Reads'3.passes record { M = M; 𝓤 = 𝓤; H = H; 𝓜 = 𝓜; 𝓖 = 𝓖; 𝓡 = 𝓡 }) λ g. closed 𝓤 H (𝓖 .A) (Running.givenOf 𝓤 H 𝓜 𝓖) (Run.Over 𝓤 H 𝓜 𝓖 𝓡 Code.env) (Reads''.known record { M = M; 𝓤 = 𝓤; H = H; 𝓜 = 𝓜; 𝓖 = 𝓖; 𝓡 = 𝓡 } Code.env Symbol''.name Symbol''.routine Code.calls-bench-plans·same·same-size (Met''.met 𝓤 H 𝓜 𝓖 𝓡)) (Reads'.known record { M = M; 𝓤 = 𝓤; H = H; 𝓜 = 𝓜; 𝓖 = 𝓖; 𝓡 = 𝓡 } Code.env Symbol'.name Symbol'.routine Code.calls-bench-plans·same·same-rows (Met'.met 𝓤 H 𝓜 𝓖 𝓡)) (Reads.known record { M = M; 𝓤 = 𝓤; H = H; 𝓜 = 𝓜; 𝓖 = 𝓖; 𝓡 = 𝓡 } Code.env Symbol.name Symbol.routine Code.calls-bench-plans·same·same-entries (Met.met 𝓤 H 𝓜 𝓖 𝓡))
+  close = λ closed 𝓤 H 𝓜 𝓖 𝓡. Written.close 6 Reads'3.ps Reads'3.r Reads'3.Ghost Reads'3.requires Reads'3.ensures Reads'3.pre-read Reads'3.Pinned Reads'3.Owned Reads'3.post-read record { M = M; 𝓤 = 𝓤; H = H; 𝓜 = 𝓜; 𝓖 = 𝓖; 𝓡 = 𝓡 } Code.env Key.name Code.function (Code.unfolded 𝓤 H 𝓜 𝓡) (λ κs a g. tt) (λ κs. Reads'3.owns κs record { M = M; 𝓤 = 𝓤; H = H; 𝓜 = 𝓜; 𝓖 = 𝓖; 𝓡 = 𝓡 }) (Reads'3.passes record { M = M; 𝓤 = 𝓤; H = H; 𝓜 = 𝓜; 𝓖 = 𝓖; 𝓡 = 𝓡 }) λ g. closed 𝓤 H (𝓖 .A) (Running.givenOf 𝓤 H 𝓜 𝓖) (Run.Over 𝓤 H 𝓜 𝓖 𝓡 Code.env) (Reads''.known record { M = M; 𝓤 = 𝓤; H = H; 𝓜 = 𝓜; 𝓖 = 𝓖; 𝓡 = 𝓡 } Code.env Symbol''.name Symbol''.routine Code.calls-bench-plans·same·same-size (Met''.met 𝓤 H 𝓜 𝓖 𝓡)) (Reads.known record { M = M; 𝓤 = 𝓤; H = H; 𝓜 = 𝓜; 𝓖 = 𝓖; 𝓡 = 𝓡 } Code.env Symbol.name Symbol.routine Code.calls-bench-plans·same·same-entries (Met.met 𝓤 H 𝓜 𝓖 𝓡)) (Reads'4.known record { M = M; 𝓤 = 𝓤; H = H; 𝓜 = 𝓜; 𝓖 = 𝓖; 𝓡 = 𝓡 } Code.env Symbol'3.name Symbol'3.routine Code.calls-tables·internal·row-at (Met'3.met 𝓤 H 𝓜 𝓖 𝓡)) (Reads'.known record { M = M; 𝓤 = 𝓤; H = H; 𝓜 = 𝓜; 𝓖 = 𝓖; 𝓡 = 𝓡 } Code.env Symbol'.name Symbol'.routine Code.calls-bench-plans·same·same-row (Met'.met 𝓤 H 𝓜 𝓖 𝓡))
