@@ -16,6 +16,7 @@ def lines_of(path):
     text = (REPO / path).read_text()
     if path.endswith(".rt"):
         text = heads(text)
+    text = re.sub(r"^use [^{\n]*\{[^}]*\}$", "", text, flags=re.M)
     return sum(1 for line in text.split("\n") if line.strip() and not line.strip().startswith(("--", "//", "use ")))
 
 

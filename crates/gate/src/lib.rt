@@ -29,7 +29,7 @@ pub extern "C" fn gate_read(
     gate_reading::call::read_call(file, size, rows, firsts, outcomes)
 }
 
-// Decides a whole plan. Ruled out: a leaking ring called safe, and lack of room told as a verdict.
+// Decides a whole plan. Ruled out: a leaking ring called safe, and a verdict where room was lacking.
 #[no_mangle]
 pub extern "C" fn gate_decide(
     size: &[u8],

@@ -121,7 +121,7 @@ abbrev ty·15 : Syntax.Ty
 ty·15 = Syntax.tyEnum (List._∷_ 100 (List._∷_ 101 (List._∷_ 99 (List._∷_ 105 (List._∷_ 100 (List._∷_ 101 (List._∷_ 58 (List._∷_ 58 (List._∷_ 68 (List._∷_ 101 (List._∷_ 99 (List._∷_ 105 (List._∷_ 100 (List._∷_ 101 (List._∷_ 65 (List._∷_ 110 (List._∷_ 115 (List._∷_ 119 (List._∷_ 101 (List._∷_ 114 List.[])))))))))))))))))))) (Syntax.ttcons Syntax.tnil (Syntax.ttcons (Syntax.tcons ty·14 Syntax.tnil) Syntax.ttnil))
 
 abbrev ty·16 : Syntax.Ty
-ty·16 = Syntax.tyEnum (List._∷_ 116 (List._∷_ 97 (List._∷_ 98 (List._∷_ 108 (List._∷_ 101 (List._∷_ 115 (List._∷_ 58 (List._∷_ 58 (List._∷_ 105 (List._∷_ 110 (List._∷_ 116 (List._∷_ 101 (List._∷_ 114 (List._∷_ 110 (List._∷_ 97 (List._∷_ 108 (List._∷_ 58 (List._∷_ 58 (List._∷_ 65 (List._∷_ 100 (List._∷_ 109 (List._∷_ 105 (List._∷_ 115 (List._∷_ 115 (List._∷_ 105 (List._∷_ 111 (List._∷_ 110 List.[]))))))))))))))))))))))))))) (Syntax.ttcons Syntax.tnil (Syntax.ttcons (Syntax.tcons ty·14 Syntax.tnil) Syntax.ttnil))
+ty·16 = Syntax.tyEnum (List._∷_ 116 (List._∷_ 97 (List._∷_ 98 (List._∷_ 108 (List._∷_ 101 (List._∷_ 115 (List._∷_ 58 (List._∷_ 58 (List._∷_ 97 (List._∷_ 100 (List._∷_ 109 (List._∷_ 105 (List._∷_ 115 (List._∷_ 115 (List._∷_ 105 (List._∷_ 111 (List._∷_ 110 (List._∷_ 58 (List._∷_ 58 (List._∷_ 65 (List._∷_ 100 (List._∷_ 109 (List._∷_ 105 (List._∷_ 115 (List._∷_ 115 (List._∷_ 105 (List._∷_ 111 (List._∷_ 110 List.[])))))))))))))))))))))))))))) (Syntax.ttcons Syntax.tnil (Syntax.ttcons (Syntax.tcons ty·14 Syntax.tnil) Syntax.ttnil))
 
 abbrev ty·17 : Syntax.Ty
 ty·17 = Syntax.tyStruct (List._∷_ 100 (List._∷_ 101 (List._∷_ 99 (List._∷_ 105 (List._∷_ 100 (List._∷_ 101 (List._∷_ 58 (List._∷_ 58 (List._∷_ 68 (List._∷_ 101 (List._∷_ 99 (List._∷_ 105 (List._∷_ 115 (List._∷_ 105 (List._∷_ 111 (List._∷_ 110 List.[])))))))))))))))) (Syntax.tcons ty·15 (Syntax.tcons ty·0 (Syntax.tcons ty·0 Syntax.tnil)))

@@ -102,7 +102,7 @@ abbrev ty·11 : Syntax.Ty
 ty·11 = Syntax.tyStruct (List._∷_ 100 (List._∷_ 101 (List._∷_ 99 (List._∷_ 105 (List._∷_ 100 (List._∷_ 101 (List._∷_ 58 (List._∷_ 58 (List._∷_ 118 (List._∷_ 101 (List._∷_ 114 (List._∷_ 100 (List._∷_ 105 (List._∷_ 99 (List._∷_ 116 (List._∷_ 115 (List._∷_ 58 (List._∷_ 58 (List._∷_ 80 (List._∷_ 108 (List._∷_ 97 (List._∷_ 99 (List._∷_ 101 List.[]))))))))))))))))))))))) (Syntax.tcons (Syntax.tyInt Syntax.w64) (Syntax.tcons (Syntax.tyInt Syntax.w64) Syntax.tnil))
 
 abbrev ty·12 : Syntax.Ty
-ty·12 = Syntax.tyStruct (List._∷_ 116 (List._∷_ 97 (List._∷_ 98 (List._∷_ 108 (List._∷_ 101 (List._∷_ 115 (List._∷_ 58 (List._∷_ 58 (List._∷_ 105 (List._∷_ 110 (List._∷_ 116 (List._∷_ 101 (List._∷_ 114 (List._∷_ 110 (List._∷_ 97 (List._∷_ 108 (List._∷_ 58 (List._∷_ 58 (List._∷_ 83 (List._∷_ 112 (List._∷_ 97 (List._∷_ 110 List.[])))))))))))))))))))))) (Syntax.tcons (Syntax.tyInt Syntax.w64) (Syntax.tcons (Syntax.tyInt Syntax.w64) (Syntax.tcons (Syntax.tyInt Syntax.w64) (Syntax.tcons (Syntax.tyInt Syntax.w64) Syntax.tnil))))
+ty·12 = Syntax.tyStruct (List._∷_ 116 (List._∷_ 97 (List._∷_ 98 (List._∷_ 108 (List._∷_ 101 (List._∷_ 115 (List._∷_ 58 (List._∷_ 58 (List._∷_ 115 (List._∷_ 112 (List._∷_ 97 (List._∷_ 110 (List._∷_ 115 (List._∷_ 58 (List._∷_ 58 (List._∷_ 83 (List._∷_ 112 (List._∷_ 97 (List._∷_ 110 List.[]))))))))))))))))))) (Syntax.tcons (Syntax.tyInt Syntax.w64) (Syntax.tcons (Syntax.tyInt Syntax.w64) (Syntax.tcons (Syntax.tyInt Syntax.w64) (Syntax.tcons (Syntax.tyInt Syntax.w64) Syntax.tnil))))
 
 abbrev pub ps : List.List (Kinds.PK 6)
 ps = List._∷_ (Value.pVal record { ty = Declared.row Size.the-type; one = Path'.refl; val = Laws'3.val Size.the-type Laws'.the-laws; tells = Laws'3.tells Size.the-type Laws'.the-laws; still = Laws'3.still Size.the-type Laws'.the-copy Exit.yes; row = Rows'.whole (Declared.row Size.the-type); rd = λ x. x; mk = λ x. x } λ M 𝓤 H A W. record { copies = Laws'3.copy Size.the-type Laws'.the-copy 𝓤 H A W; lawful = Laws'3.lawful Size.the-type Laws'.the-laws 𝓤 H A W; makes = Laws'3.makes Size.the-type Laws'.the-plain 𝓤 H A; in-mem = Local.mem-whole 𝓤 H A W (Declared.row Size.the-type); of-mem = Local.whole-mem 𝓤 H A W (Declared.row Size.the-type) }) (List._∷_ (ShrSlice.pShrS T.the-row 0 tt) (List._∷_ (ShrSlice.pShrS (Referent.rtF (Referent.fInt Syntax.w16)) 1 tt) (List._∷_ (ShrSlice.pShrS (Referent.rtF (Referent.fInt Syntax.w16)) 2 tt) (List._∷_ (ShrSlice.pShrS (Referent.rtF (Referent.fInt Syntax.w16)) 3 tt) (List._∷_ (MutSlice.pMutS (Referent.rtF (Referent.fInt Syntax.w16)) 4 tt) (List._∷_ (MutSlice.pMutS (Referent.rtF (Referent.fInt Syntax.w16)) 5 tt) List.[]))))))
