@@ -2,11 +2,11 @@
  * gate.h: deciding which states of a lock or weir can be held clear of failure.
  *
  * A plan describes the works. It has n states, numbered from 0, one of which is the start. A state is
- * ordinary, failing or rest. In an ordinary state the controller may issue one of the state's commands,
+ * ordinary, failing or rest. In an ordinary state the keeper may issue one of the state's commands,
  * numbered from 0 within the state; the works then land on one of the command's outcomes, and nobody can say
  * beforehand on which. The practice is what the keeper usually commands in a state, if anything. A state is
- * lost if, whatever is commanded, the works can bring about failure; else it is safe, and has a command that
- * keeps it so.
+ * lost if, whatever is commanded, the works can bring about failure; else it is safe, and if it has commands,
+ * one of them keeps it so.
  *
  *     gate_read     takes a plan file apart into tables
  *     gate_decide   judges every state of a plan, and chooses the commands
@@ -121,7 +121,7 @@ enum {
     GATE_DEPARTURES = 15, /* more than 8 departures from the practice */
     GATE_CHAMBERS = 16,   /* no chamber, or more than 16 */
     GATE_REPORT = 17,     /* no grant is open, or the state reported is no outcome of the granted command */
-    GATE_GRANT = 18       /* a grant is open already, or no chamber's state has a command */
+    GATE_GRANT = 18       /* a grant is open already, or no chamber's state has a chosen command */
 };
 
 /* What a call returned, in words; up to the colon it is the refusal's name. Every number has a text. */
@@ -190,8 +190,8 @@ uint32_t gate_read(const uint8_t *file, size_t file_length,
  *                   the works need to bring about failure against any way of commanding (0 for a failing
  *                   state)
  *   commands  out   GATE_STATES_BYTES(n): at a safe state with commands the command that keeps it safe: the
- *                   practice if none of its outcomes is lost, else the smallest number of a command of
- *                   which that holds. GATE_NONE elsewhere.
+ *                   practice if none of its outcomes is lost, else the lowest-numbered command of which
+ *                   that holds. GATE_NONE elsewhere.
  *   marks     out   GATE_STATES_BYTES(n): how the practice does: 0 holds, GATE_PRACTICE_FAILS, with
  *                   GATE_PRACTICE_FAULT added at a fault. Following the practice ends without failing where
  *                   there is none; a failing state has mark 1.

@@ -33,8 +33,7 @@ fn not_written(why: Refusal) -> ReadAnswer
 }
 
 // Reads a file into lent tables, and writes what was read into lent bytes. The clause `again`: if it is read and as many bytes are lent
-// as it has,
-// these are its bytes. Ruled out: other bytes than the file's, and bytes written though the file is refused.
+// as it has, these are its bytes. Ruled out: other bytes than the file's, and bytes written though the file is refused.
 pub fn read_write(
     file: &[u8],
     rows: &mut [Row],
@@ -58,8 +57,8 @@ pub fn read_write(
 }
 
 // Writes lent tables into lent bytes, and reads what was written into a second set of tables. The clause `again`: if the tables are
-// sound, and
-// what is lent is long enough, the second are the same. Ruled out: a sound plan that does not come back, and reading past what was written.
+// sound, and what is lent is long enough, the second are the same. Ruled out: a sound plan that does not come back, and reading past what
+// was written.
 pub fn write_read(
     size: Size,
     rows: &[Row],

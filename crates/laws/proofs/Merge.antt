@@ -1,6 +1,5 @@
 -- Laws of the merge of two lists: its members are those of both, it rises strictly where both do and they share none, and a change of
--- numbers
--- that keeps their order may be made before it or after.
+-- numbers that keeps their order may be made before it or after.
 use mathlib.Core.Path.{_≡_, refl, sym, ap, _∙_}
 use mathlib.Core.Bool.{Bool, true, false, cond, _||_}
 use mathlib.Core.Logic.{_⊎_, inl, inr, ⊎-elim}

@@ -1,6 +1,5 @@
 -- Where the parts of a table start that is cut into parts, one after another. The outcomes of each command are such parts of the
--- outcomes, and
--- the commands of each state such parts of the commands.
+-- outcomes, and the commands of each state such parts of the commands.
 use mathlib.Core.Path.{_≡_}
 use mathlib.Core.Bool.{cond}
 use mathlib.Core.List.{List}

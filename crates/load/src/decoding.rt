@@ -1,4 +1,4 @@
-// What the calls of the gate controller's C program read the lent plan with.
+// What the calls of the gate controller's C program read the lent plan with. Only the planner's own crates call this.
 ghost use mathlib.Core.Path.{_≡_};
 ghost use Prim.Native.Nat.{_+_, _*_, _/_, _<_, _≤_};
 ghost use lib.ListN.{length, take};

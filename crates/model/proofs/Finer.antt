@@ -1,6 +1,5 @@
 -- Laws of plans that differ in their outcomes only: with fewer outcomes no more states are lost, and none sooner; with the same ones, in
--- whatever
--- order they are listed, the same states at the same rank.
+-- whatever order they are listed, the same states at the same rank.
 use mathlib.Core.Path.{_≡_, refl, sym, ap, _∙_}
 use mathlib.Core.Bool.{Bool, true}
 use mathlib.Core.Logic.{⊎-elim}

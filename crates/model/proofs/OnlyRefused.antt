@@ -1,6 +1,5 @@
 -- A refusal comes only under its condition: of a call that refuses, the word it refuses with and what holds then. With Refusing.antt,
--- which has
--- the other direction, each condition is exact, that of refusal 9 too (rule E19).
+-- which has the other direction, each condition is exact, that of refusal 9 too (rule E19).
 use mathlib.Core.Path.{_≡_, refl, sym, ap}
 use mathlib.Core.Bool.{Bool, true, false, _&&_}
 use mathlib.Core.List.{List}

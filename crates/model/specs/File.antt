@@ -139,5 +139,6 @@ read s = do
   (n, start) ← head s
   (ss, s₁) ← states n n 0 0 (drop 7 s)
   _ ← field endTag s₁
+  -- rule E2: the end has three bytes, and none is behind it
   need Surplus (leb (length s₁) 3)
   given (record { start = start; states = ss })

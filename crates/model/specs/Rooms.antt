@@ -1,6 +1,5 @@
 -- Whether slices of so many bytes have room for what a call of the C program answers: proofs/Gating.antt and proofs/Gates.antt show that
--- this
--- is what the calls ask for.
+-- this is what the calls ask for.
 use mathlib.Core.Bool.{Bool, _&&_}
 use Prim.Native.Nat.{ℕ, _/_}
 use lib.Dec.{leb}

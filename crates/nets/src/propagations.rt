@@ -1,4 +1,4 @@
-// Reading what the propagations start from, and the propagations over one index.
+// Reading what the propagations start from, and the propagations over one index. Only the planner's own crates call this.
 ghost use mathlib.Core.Path.{_≡_};
 ghost use mathlib.Core.Bool.{true, false};
 ghost use mathlib.Core.List.{List};
@@ -32,8 +32,7 @@ pub fn has_practice(span: Span) -> bool
 }
 
 // Initializes every state for both propagations, in one pass: its rank, 0 or none, and where the commands that count there begin and end.
-// In
-// the first three tables all its commands count, in the last three its practice alone.
+// In the first three tables all its commands count, in the last three its practice alone.
 pub fn initialize(
     size: Size,
     rows: &[Row],
@@ -128,9 +127,8 @@ pub fn propagate_in(
 }
 
 // Both propagations of a plan that is given in tables of numbers, over one index. At entry `ranks` and `fails` have the seeds, `froms`
-// and `tos`
-// the ranges of all commands, and the other two tables those of the practice. What the tables of first commands and the first n places of
-// scratch have afterwards is free.
+// and `tos` the ranges of all commands, and the other two tables those of the practice. What the tables of first commands and the first n
+// places of scratch have afterwards is free.
 // The local tables have 43,008 bytes whatever the plan is.
 pub fn propagate_both(
     size: Size,

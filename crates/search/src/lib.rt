@@ -29,12 +29,9 @@ pub enum SearchAnswer {
 }
 
 // The search from `start`, which leaves its commands in the first n places of `commands` and zero in the first n places of `scratch`.
-// Refused
-// with 10, then 11, then 9, before a table is written. Free is the order in which a round walks, and what commands and scratch hold
-// during the
-// call: when it is over neither the answer nor a table shows it. Ruled out: a start called safe before all that its commands lead to is
-// walked, and a count of
-// rounds that were not walked.
+// Refused with 10, then 11, then 9, before a table is written. Free is the order in which a round walks, and what commands and scratch hold
+// during the call: when it is over neither the answer nor a table shows it. Ruled out: a start called safe before all that its commands
+// lead to is walked, and a count of rounds that were not walked.
 pub fn search(
     size: Size,
     rows: &[Row],

@@ -1,6 +1,5 @@
 -- What is refused leaves every table as it was; where the plan is admitted it is sound and the tables are long enough, and then the
--- propagations, the
--- last pass over the states and the clearing of scratch leave what `decideCall` gives.
+-- propagations, the last pass over the states and the clearing of scratch leave what `decideCall` gives.
 mod Tie
 use mathlib.Core.Path.{_≡_, refl, _∙_}
 use mathlib.Core.Bool.{true}

@@ -1,4 +1,4 @@
--- The equation of the call that is made.
+-- The clause `call` is the contract of `read_call`.
 use mathlib.Core.Path.{sym}
 use borrow.Author.Needs.{needs}
 use Rattle.gate.proofs.gate_read.Statement.{statement}

@@ -1,4 +1,4 @@
--- The equation of the call that is made, and demand 3 from it.
+-- The clause `call` is the contract of `search_call`; the clause `demand3` follows from it (Promised.antt, `searches`).
 use Rattle.model.specs.Boundary.{tablesIn}
 use Rattle.gate.proofs.Promised.{searches}
 use borrow.Author.Needs.{needs}

@@ -232,10 +232,10 @@ abbrev b39 : Syntax.Body
 b39 = Syntax.cond (Syntax.copy (Syntax.place 13 List.[])) b37 b38
 
 abbrev b40 : Syntax.Body
-b40 = Syntax.call "tables::internal::row_at" (List._∷_ (Syntax.copy (Syntax.place 2 List.[])) (List._∷_ (Syntax.copy (Syntax.place 9 List.[])) List.[])) (Syntax.place 14 List.[])
+b40 = Syntax.call "tables::rows::row_at" (List._∷_ (Syntax.copy (Syntax.place 2 List.[])) (List._∷_ (Syntax.copy (Syntax.place 9 List.[])) List.[])) (Syntax.place 14 List.[])
 
 abbrev b41 : Syntax.Body
-b41 = Syntax.call "tables::internal::row_at" (List._∷_ (Syntax.copy (Syntax.place 6 List.[])) (List._∷_ (Syntax.copy (Syntax.place 9 List.[])) List.[])) (Syntax.place 15 List.[])
+b41 = Syntax.call "tables::rows::row_at" (List._∷_ (Syntax.copy (Syntax.place 6 List.[])) (List._∷_ (Syntax.copy (Syntax.place 9 List.[])) List.[])) (Syntax.place 15 List.[])
 
 abbrev b42 : Syntax.Body
 b42 = Syntax.call "bench_plans::same::same_row" (List._∷_ (Syntax.copy (Syntax.place 14 List.[])) (List._∷_ (Syntax.copy (Syntax.place 15 List.[])) List.[])) (Syntax.place 13 List.[])
@@ -880,7 +880,7 @@ module _ (claims· : Claims) where
   module _ (Pre· : (κs : Lifetimes.Lfts 6) → Kinds.Dens κs ps → Type 0) (Post· : (κs : Lifetimes.Lfts 6) → (a : Kinds.Dens κs ps) → Kinds.Plain 6 ps r κs) where
     module _ (M : Type 1) where
       abbrev pub Closed : Type 2
-      Closed = (𝓤 : URA.URA M) (H : Wp.Heap 𝓤) (A : Atoms.Atoms 𝓤) (W : Kit.Given 𝓤 H A) (𝓣 : Wp.Tables 𝓤 H) (known0 : Plain.Known 𝓤 H A W 𝓣 0 ps·0 r·0 (claims· .0) (claims· .1) "bench_plans::same::same_size") (known1 : Plain.Known 𝓤 H A W 𝓣 2 ps·1 r·1 (claims· .2) (claims· .3) "bench_plans::same::same_entries") (known2 : Plain.Known 𝓤 H A W 𝓣 1 ps·2 r·2 (claims· .4) (claims· .5) "tables::internal::row_at") (known3 : Plain.Known 𝓤 H A W 𝓣 0 ps·3 r·3 (claims· .6) (claims· .7) "bench_plans::same::same_row") → Statement.Triple 𝓤 (Wp.WpFn 𝓤 H (𝓣 .C) (𝓣 .Λ) (Function.fnOf 6 ps r xs m hs body)) (Function.plainOf 𝓤 H A 6 ps r Pre· Post·)
+      Closed = (𝓤 : URA.URA M) (H : Wp.Heap 𝓤) (A : Atoms.Atoms 𝓤) (W : Kit.Given 𝓤 H A) (𝓣 : Wp.Tables 𝓤 H) (known0 : Plain.Known 𝓤 H A W 𝓣 0 ps·0 r·0 (claims· .0) (claims· .1) "bench_plans::same::same_size") (known1 : Plain.Known 𝓤 H A W 𝓣 2 ps·1 r·1 (claims· .2) (claims· .3) "bench_plans::same::same_entries") (known2 : Plain.Known 𝓤 H A W 𝓣 1 ps·2 r·2 (claims· .4) (claims· .5) "tables::rows::row_at") (known3 : Plain.Known 𝓤 H A W 𝓣 0 ps·3 r·3 (claims· .6) (claims· .7) "bench_plans::same::same_row") → Statement.Triple 𝓤 (Wp.WpFn 𝓤 H (𝓣 .C) (𝓣 .Λ) (Function.fnOf 6 ps r xs m hs body)) (Function.plainOf 𝓤 H A 6 ps r Pre· Post·)
 
     module _ (Inv·0 : InvT-loop) (μ·0 : MeasureT-loop) where
       abbrev at0 : Typed.TF T13 O1
@@ -1173,7 +1173,7 @@ module _ (claims· : Claims) where
 
       module _ {M : Type 1} (𝓤 : URA.URA M) (H : Wp.Heap 𝓤) (A : Atoms.Atoms 𝓤) (W : Kit.Given 𝓤 H A) (𝓣 : Wp.Tables 𝓤 H) where
         abbrev Knowns : Type 1
-        Knowns = Plain.Known 𝓤 H A W 𝓣 0 ps·0 r·0 (claims· .0) (claims· .1) "bench_plans::same::same_size" × Plain.Known 𝓤 H A W 𝓣 2 ps·1 r·1 (claims· .2) (claims· .3) "bench_plans::same::same_entries" × Plain.Known 𝓤 H A W 𝓣 1 ps·2 r·2 (claims· .4) (claims· .5) "tables::internal::row_at" × Plain.Known 𝓤 H A W 𝓣 0 ps·3 r·3 (claims· .6) (claims· .7) "bench_plans::same::same_row"
+        Knowns = Plain.Known 𝓤 H A W 𝓣 0 ps·0 r·0 (claims· .0) (claims· .1) "bench_plans::same::same_size" × Plain.Known 𝓤 H A W 𝓣 2 ps·1 r·1 (claims· .2) (claims· .3) "bench_plans::same::same_entries" × Plain.Known 𝓤 H A W 𝓣 1 ps·2 r·2 (claims· .4) (claims· .5) "tables::rows::row_at" × Plain.Known 𝓤 H A W 𝓣 0 ps·3 r·3 (claims· .6) (claims· .7) "bench_plans::same::same_row"
 
       module _ (κs : Lifetimes.Lfts 6) (qs : Lifetimes.Shares 6) where
         abbrev G0 : Row'.Cx
@@ -1616,10 +1616,10 @@ module _ (claims· : Claims) where
           d60 = Typed.s-seq 𝓤 H A W 𝓣 E G58 G59 b42 b51 Δ8 (Typed.both s50) at59 (Plain.t-call-plain 𝓤 H A W 𝓣 0 ps·3 r·3 (claims· .6) (claims· .7) "bench_plans::same::same_row" (known .3) E (λ pos β. β) G58 (record { pos = 14; st = List.[]; d = 0; at = λ x. x }, (record { pos = 15; st = List.[]; d = 0; at = λ x. x }, tt)) 13 List.[] (Call.sub-id 𝓤 H A W (G58 .slots)) ((Yields.yields-copy 𝓤 H A W (λ ρ. Unit) (Declared.row Row.the-type) Path'.refl (Copies.cStruct Row.the-type Laws.the-laws Laws.the-copy .copy 𝓤 H A W) (Rows.whole (Declared.row Row.the-type)) (λ x. x) (λ x. x) (λ ρ told. Local.mem-whole 𝓤 H A W (Declared.row Row.the-type) ρ) λ ρ told. Local.whole-mem 𝓤 H A W (Declared.row Row.the-type) ρ, Path'.refl), ((Yields.yields-copy 𝓤 H A W (λ ρ. Unit) (Declared.row Row.the-type) Path'.refl (Copies.cStruct Row.the-type Laws.the-laws Laws.the-copy .copy 𝓤 H A W) (Rows.whole (Declared.row Row.the-type)) (λ x. x) (λ x. x) (λ ρ told. Local.mem-whole 𝓤 H A W (Declared.row Row.the-type) ρ) λ ρ told. Local.whole-mem 𝓤 H A W (Declared.row Row.the-type) ρ, Path'.refl), tt)) (Reads'.room-gone 𝓤 H A Syntax.tyBool) tt Path'.refl) d59
 
           d61 : Typed.Typed 𝓤 H A 𝓣 E G57 b53 Δ8 at61
-          d61 = Typed.s-seq 𝓤 H A W 𝓣 E G57 G58 b41 b52 Δ8 (Typed.both s49) at60 (Plain.t-call-plain 𝓤 H A W 𝓣 1 ps·2 r·2 (claims· .4) (claims· .5) "tables::internal::row_at" (known .2) E (λ pos β. β) G57 (record { pos = 6; ty = Syntax.tyRef (Syntax.named 3) Syntax.imm (Memory.pointee (Row.the-row .written)); ref = λ x. x }, (Num.vAt 9 λ x. x, tt)) 15 (List._∷_ 3 List.[]) (Call.sub-id 𝓤 H A W (G57 .slots)) (ShrSlice.spares-sslice 𝓤 H A W Row.the-row ty·5 3, Shared.reads-sslice 𝓤 H A W Row.the-row ty·5 3, Path'.refl, ((Scalar.reads-sc 𝓤 H A W (Row'.sInt Syntax.w64), Path'.refl), tt)) (Reads'.room-gone 𝓤 H A ty·6) (tt, tt) Path'.refl) d60
+          d61 = Typed.s-seq 𝓤 H A W 𝓣 E G57 G58 b41 b52 Δ8 (Typed.both s49) at60 (Plain.t-call-plain 𝓤 H A W 𝓣 1 ps·2 r·2 (claims· .4) (claims· .5) "tables::rows::row_at" (known .2) E (λ pos β. β) G57 (record { pos = 6; ty = Syntax.tyRef (Syntax.named 3) Syntax.imm (Memory.pointee (Row.the-row .written)); ref = λ x. x }, (Num.vAt 9 λ x. x, tt)) 15 (List._∷_ 3 List.[]) (Call.sub-id 𝓤 H A W (G57 .slots)) (ShrSlice.spares-sslice 𝓤 H A W Row.the-row ty·5 3, Shared.reads-sslice 𝓤 H A W Row.the-row ty·5 3, Path'.refl, ((Scalar.reads-sc 𝓤 H A W (Row'.sInt Syntax.w64), Path'.refl), tt)) (Reads'.room-gone 𝓤 H A ty·6) (tt, tt) Path'.refl) d60
 
           d62 : Typed.Typed 𝓤 H A 𝓣 E G53 b54 Δ8 at62
-          d62 = Typed.s-seq 𝓤 H A W 𝓣 E G53 G57 b40 b53 Δ8 (Typed.both s48) at61 (Plain.t-call-plain 𝓤 H A W 𝓣 1 ps·2 r·2 (claims· .4) (claims· .5) "tables::internal::row_at" (known .2) E (λ pos β. β) G53 (record { pos = 2; ty = Syntax.tyRef (Syntax.named 0) Syntax.imm (Memory.pointee (Row.the-row .written)); ref = λ x. x }, (Num.vAt 9 λ x. x, tt)) 14 (List._∷_ 0 List.[]) (Call.sub-id 𝓤 H A W (G53 .slots)) (ShrSlice.spares-sslice 𝓤 H A W Row.the-row ty·4 0, Shared.reads-sslice 𝓤 H A W Row.the-row ty·4 0, Path'.refl, ((Scalar.reads-sc 𝓤 H A W (Row'.sInt Syntax.w64), Path'.refl), tt)) (Reads'.room-gone 𝓤 H A ty·6) (tt, tt) Path'.refl) d61
+          d62 = Typed.s-seq 𝓤 H A W 𝓣 E G53 G57 b40 b53 Δ8 (Typed.both s48) at61 (Plain.t-call-plain 𝓤 H A W 𝓣 1 ps·2 r·2 (claims· .4) (claims· .5) "tables::rows::row_at" (known .2) E (λ pos β. β) G53 (record { pos = 2; ty = Syntax.tyRef (Syntax.named 0) Syntax.imm (Memory.pointee (Row.the-row .written)); ref = λ x. x }, (Num.vAt 9 λ x. x, tt)) 14 (List._∷_ 0 List.[]) (Call.sub-id 𝓤 H A W (G53 .slots)) (ShrSlice.spares-sslice 𝓤 H A W Row.the-row ty·4 0, Shared.reads-sslice 𝓤 H A W Row.the-row ty·4 0, Path'.refl, ((Scalar.reads-sc 𝓤 H A W (Row'.sInt Syntax.w64), Path'.refl), tt)) (Reads'.room-gone 𝓤 H A ty·6) (tt, tt) Path'.refl) d61
 
           d63 : Typed.Typed 𝓤 H A 𝓣 E G52 b55 Δ8 at63
           d63 = Typed.t-seq 𝓤 H A W 𝓣 E G52 G53 b39 b54 Δ8 at45 at62 d45 d62
@@ -2330,6 +2330,6 @@ module _ (claims· : Claims) where
           pub asked : (a : Kinds.Dens κs ps) → (good : Kinds.GoodsP κs ps a) → (pre : Pre· κs a) → (bs : List.List Nat.ℕ) → Φ (Any.wantQ 6 ps r xs m κs qs a (Post· κs a)) (Function.init 6 ps r xs m κs qs a)
           asked = λ a good pre bs. laid record { κs = κs; args = record { size = a .0; rows = a .1 .0; firsts = a .1 .1 .0; outcomes = a .1 .1 .1 .0; size2 = a .1 .1 .1 .1 .0; rows2 = a .1 .1 .1 .1 .1 .0; firsts2 = a .1 .1 .1 .1 .1 .1 .0; outcomes2 = a .1 .1 .1 .1 .1 .1 .1 .0 }; good = good; pre = pre }
 
-        module _ {M : Type 1} (𝓤 : URA.URA M) (H : Wp.Heap 𝓤) (A : Atoms.Atoms 𝓤) (W : Kit.Given 𝓤 H A) (𝓣 : Wp.Tables 𝓤 H) (known0 : Plain.Known 𝓤 H A W 𝓣 0 ps·0 r·0 (claims· .0) (claims· .1) "bench_plans::same::same_size") (known1 : Plain.Known 𝓤 H A W 𝓣 2 ps·1 r·1 (claims· .2) (claims· .3) "bench_plans::same::same_entries") (known2 : Plain.Known 𝓤 H A W 𝓣 1 ps·2 r·2 (claims· .4) (claims· .5) "tables::internal::row_at") (known3 : Plain.Known 𝓤 H A W 𝓣 0 ps·3 r·3 (claims· .6) (claims· .7) "bench_plans::same::same_row") where
+        module _ {M : Type 1} (𝓤 : URA.URA M) (H : Wp.Heap 𝓤) (A : Atoms.Atoms 𝓤) (W : Kit.Given 𝓤 H A) (𝓣 : Wp.Tables 𝓤 H) (known0 : Plain.Known 𝓤 H A W 𝓣 0 ps·0 r·0 (claims· .0) (claims· .1) "bench_plans::same::same_size") (known1 : Plain.Known 𝓤 H A W 𝓣 2 ps·1 r·1 (claims· .2) (claims· .3) "bench_plans::same::same_entries") (known2 : Plain.Known 𝓤 H A W 𝓣 1 ps·2 r·2 (claims· .4) (claims· .5) "tables::rows::row_at") (known3 : Plain.Known 𝓤 H A W 𝓣 0 ps·3 r·3 (claims· .6) (claims· .7) "bench_plans::same::same_row") where
           pub spec : Statement.Triple 𝓤 (Wp.WpFn 𝓤 H (𝓣 .C) (𝓣 .Λ) (Function.fnOf 6 ps r xs m hs body)) (Function.plainOf 𝓤 H A 6 ps r Pre· Post·)
           spec = Plain.t-fn-plain 𝓤 H A W 𝓣 6 ps r xs m hs body (λ κs qs bs. Φ) (λ κs qs bs bd. typed κs qs 𝓤 H A W 𝓣 (known0, known1, known2, known3) bs bd) Pre· Post· asked

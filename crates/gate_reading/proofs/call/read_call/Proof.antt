@@ -1,6 +1,5 @@
 -- The file is read into tables of the limits' lengths, which hold every plan: what is refused there or for want of room leaves every
--- slice as it was, and
--- what is stored from the tables is what `gateReadCall` gives.
+-- slice as it was, and what is stored from the tables is what `gateReadCall` gives.
 use native.Mathlib.Omega.{arith}
 use mathlib.Core.List.{map}
 use lib.ListN.{replicate}

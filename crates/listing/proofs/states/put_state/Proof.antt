@@ -1,4 +1,4 @@
--- What the tables hold of the state is listed, so that the line written is the state's.
+-- The three entries are in range, and the line is the contract of `put_state_line` for what they hold.
 use borrow.Author.Needs.{needs}
 use Rattle.listing.proofs.states.put_state.Statement.{statement}
 use Rattle.listing.proofs.states.put_state.Tie as tie

@@ -1,4 +1,4 @@
--- Both tests of an ordinary state with commands are made, one by the branch and one by the answer.
+-- `activeSpan` is two tests: the branch makes that of the kind, and the answer is that of the count.
 use Rattle.search.proofs.MarkTests.{not-active, active-count}
 use Rattle.search.proofs.marks.has_commands.Statement.{statement}
 use Rattle.search.proofs.marks.has_commands.Tie as tie

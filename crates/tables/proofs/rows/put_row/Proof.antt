@@ -1,7 +1,6 @@
 -- `tables::rows::put_row` meets its contract: a walk of its MIR, by hand. The place of `rows[i]` is i times a row's width past the
--- slice's pointer, the borrow is opened,
--- row i is taken out of it, stored to and put back, and the borrow is closed at the new list. The code has no check of the bound: it is
--- the contract's to ask.
+-- slice's pointer, the borrow is opened, row i is taken out of it, stored to and put back, and the borrow is closed at the new list. The
+-- code has no check of the bound: it is the contract's to ask.
 -- Assumes nothing.
 use mathlib.Core.Path.{refl, sym, ap, subst}
 use Prim.Native.Nat.{ℕ, _<_, _^_}
