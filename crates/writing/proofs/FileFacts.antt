@@ -65,7 +65,8 @@ module _ (T : Tables) where
         pub end-ready : end + 3 ≤ length last
         end-ready = omega (arith, room, parts-length, w .past, wrote-length w, v .past, wrote-length v)
 
-        pub file-stored : {whole : List ℕ} {count : ℕ} → Wrote last end endBytes whole count → Wrote before 0 (bytesOf (treeOf T)) whole count
+        pub file-stored : {whole : List ℕ} {count : ℕ} → Wrote last end endBytes whole count
+            → Wrote before 0 (bytesOf (treeOf T)) whole count
         file-stored u = rw file-bytes (wrote-then w (wrote-then v u))
 
   pub size-ready : sound T ≡ true → (T .size .n ≤ maxStates) × (T .size .m ≤ maxCommands) × (T .size .t ≤ maxOutcomes)

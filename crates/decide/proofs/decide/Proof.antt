@@ -22,7 +22,8 @@ past-judge-all-to-past-propagate-plan c = c .before .before .before .before .bef
 
 abbrev past-fill-to-past-propagate-plan : tie.After-fill → tie.After-propagate-plan
 past-fill-to-past-propagate-plan c =
-    c .before .before .before .before .before .before .before .before .before .before .before .before .before .before .before .before .before .before
+    c .before .before .before .before .before .before .before .before .before .before .before .before .before
+    .before .before .before .before .before
 
 abbrev past-fill-to-past-judge-all : tie.After-fill → tie.After-judge-all
 past-fill-to-past-judge-all c = c .before .before .before .before .before .before
@@ -68,12 +69,14 @@ judge-all-requires c κs =
 fill-requires : tie.Need-fill-requires
 fill-requires c κs =
     let past-propagate-plan =
-    c .before .before .before .before .before .before .before .before .before .before .before .before .before .before .before .before .before in
+    c .before .before .before .before .before .before .before .before .before .before .before .before .before
+    .before .before .before .before in
     omega (
       arith,
       past-propagate-plan .propagate-plan .ensures .scratch-past .same,
       granted
-          (c .before .before .before .before .before .before .before .before .before .before .before .before .before .before .before .before .before .before .before .before .before .before) .1,
+          (c .before .before .before .before .before .before .before .before .before .before .before .before .before
+          .before .before .before .before .before .before .before .before .before) .1,
     )
 
 answer-with-requires : tie.Need-answer-with-requires
@@ -92,7 +95,8 @@ returns c =
 same-length : tie.Need-same-length
 same-length c =
     let past-propagate-plan =
-    c .before .before .before .before .before .before .before .before .before .before .before .before .before .before .before .before .before .before .before .before .before in
+    c .before .before .before .before .before .before .before .before .before .before .before .before .before
+    .before .before .before .before .before .before .before .before in
     past-propagate-plan .propagate-plan .ensures .ranked .same
 
 same-length-2 : tie.Need-same-length-2
@@ -124,7 +128,8 @@ returns-2 c =
     let entry = past-sound-to-entry past-sound in
     let a = entry .args in
     let (sounds, long) = granted
-    (c .before .before .before .before .before .before .before .before .before .before .before .before .before .before .before .before .before .before .before .before .before .before .before .before .before .before) in
+    (c .before .before .before .before .before .before .before .before .before .before .before .before .before
+    .before .before .before .before .before .before .before .before .before .before .before .before .before) in
     let leaves = plan-decided _ (a .rows .now) (a .firsts .now) (a .outcomes .now) sounds (long .0) (long .1 .0) (long .1 .1 .0)
     (long .1 .1 .1)
     (past-propagate-plan .propagate-plan .ensures) (past-judge-all .judge-all .ensures) (past-fill .fill .ensures) in

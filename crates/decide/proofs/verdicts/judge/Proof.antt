@@ -49,7 +49,8 @@ one-if-requires c κs = search needs
 
 has-practice-requires : tie.Need-has-practice-requires
 has-practice-requires c κs =
-    let entry = c .before .before .before .before .before .before .before .before .before .before .before .before .before .before .before .before .before .before .before .before in
+    let entry = c .before .before .before .before .before .before .before .before .before .before .before .before
+    .before .before .before .before .before .before .before .before in
     seen-inside (entry .pre .1 .0) .0
 
 column-of-requires : tie.Need-column-of-requires

@@ -88,7 +88,8 @@ store-requires-4 c κs =
 
 store-tally-requires : tie.Need-store-tally-requires
 store-tally-requires c κs =
-    let branch1 = c .before .before .before .before .before .before .before .before .before .before .before .before .before .before .before .before .before .before .before in
+    let branch1 = c .before .before .before .before .before .before .before .before .before .before .before .before
+    .before .before .before .before .before .before .before in
     let past-room = branch1 .before in
     let entry = past-room-to-entry past-room in
     let a = entry .args in

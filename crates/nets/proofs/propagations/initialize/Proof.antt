@@ -52,13 +52,15 @@ initialize-both-requires c κs =
 
 add-s : tie.Need-add-s Inv-loop μ-loop
 add-s c =
-    let branch1 = c .before .before .before .before .before .before .before .before .before .before .before .before .before .before .before .before .before .before .before .before in
+    let branch1 = c .before .before .before .before .before .before .before .before .before .before .before .before
+    .before .before .before .before .before .before .before .before in
     let entry = branch1 .before .before .before .before .before .before .before .before .before in
     omega (arith, branch1 .if1 .taken, entry .pre .0 .few)
 
 loop-less : tie.Need-loop-less Inv-loop μ-loop
 loop-less c =
-    let branch1 = c .before .before .before .before .before .before .before .before .before .before .before .before .before .before .before .before .before .before .before .before in
+    let branch1 = c .before .before .before .before .before .before .before .before .before .before .before .before
+    .before .before .before .before .before .before .before .before in
     omega (arith, branch1 .if1 .taken)
 
 loop-again : tie.Need-loop-again Inv-loop μ-loop

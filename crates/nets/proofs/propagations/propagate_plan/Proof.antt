@@ -13,7 +13,8 @@ past-initialize-to-entry c = c .before .before .before .before .before .before .
 
 abbrev past-propagate-both-to-past-initialize : tie.After-propagate-both → tie.After-initialize
 past-propagate-both-to-past-initialize c =
-    c .before .before .before .before .before .before .before .before .before .before .before .before .before .before .before .before .before
+    c .before .before .before .before .before .before .before .before .before .before .before .before .before
+    .before .before .before .before
 
 slice-aggregate-initialize : tie.Need-slice-aggregate-initialize
 slice-aggregate-initialize c = search needs
@@ -42,7 +43,8 @@ slice-aggregate-propagate-both-3 c = search needs
 
 propagate-both-requires : tie.Need-propagate-both-requires
 propagate-both-requires c κs =
-    let past-initialize = c .before .before .before .before .before .before .before .before .before .before .before .before .before .before .before .before in
+    let past-initialize = c .before .before .before .before .before .before .before .before .before .before .before
+    .before .before .before .before .before in
     let entry = past-initialize-to-entry past-initialize in
     let a = entry .args in
     let e = entry .pre .0 in
@@ -60,7 +62,8 @@ same-length c =
 
 same-length-2 : tie.Need-same-length-2
 same-length-2 c =
-    let past-initialize = c .before .before .before .before .before .before .before .before .before .before .before .before .before .before .before .before .before .before .before .before .before .before .before .before .before in
+    let past-initialize = c .before .before .before .before .before .before .before .before .before .before .before
+    .before .before .before .before .before .before .before .before .before .before .before .before .before .before in
     past-initialize .initialize .ensures .0 [] [] .stops .same
 
 same-length-3 : tie.Need-same-length-3

@@ -51,7 +51,19 @@ add-layer-requires c κs =
         (
           f .1 .1 .0,
           (
-            omega (arith, v .order, v .layers, v .long, v .wlong, v .qlong, q, n, past-loop-test .loop-test .taken, f .0 .few, f .1 .1 .1 .1),
+            omega (
+              arith,
+              v .order,
+              v .layers,
+              v .long,
+              v .wlong,
+              v .qlong,
+              q,
+              n,
+              past-loop-test .loop-test .taken,
+              f .0 .few,
+              f .1 .1 .1 .1,
+            ),
             v .bound,
           ),
         ),
@@ -94,7 +106,8 @@ same-length-3 c =
 
 returns : tie.Need-returns Inv-loop μ-loop
 returns c =
-    let entry = c .before .before .before .before .before .before .before .before .before .before .before .before .before .before .before .before in
+    let entry = c .before .before .before .before .before .before .before .before .before .before .before .before
+    .before .before .before .before in
     let f = entry .pre in
     going-done _ _ _ _ _ _ _ _ _ _ _ (c .before .loop .inv) (f .0) (f .1 .0) (f .1 .1 .1 .1 .0) (c .loop-test .left)
 

@@ -75,7 +75,8 @@ returns-3 c =
 
 add-next : tie.Need-add-next
 add-next c =
-    let entry = c .before .before .before .before .before .before .before .before .before .before .before .before .before .before .before .before in
+    let entry = c .before .before .before .before .before .before .before .before .before .before .before .before
+    .before .before .before .before in
     omega (arith, entry .pre .1 .1 .0)
 
 first-clear-requires : tie.Need-first-clear-requires
@@ -124,13 +125,15 @@ returns-4 c =
 
 put-requires-2 : tie.Need-put-requires-2
 put-requires-2 c κs =
-    let past-at = c .before .before .before .before .before .before .before .before .before .before .before .before .before .before .before .before in
+    let past-at = c .before .before .before .before .before .before .before .before .before .before .before .before
+    .before .before .before .before in
     let entry = past-at-to-entry past-at in
     omega (arith, past-at .at .ensures, entry .pre .1 .1 .0)
 
 put-requires-3 : tie.Need-put-requires-3
 put-requires-3 c κs =
-    let branch1 = c .before .before .before .before .before .before .before .before .before .before .before .before .before .before .before .before .before in
+    let branch1 = c .before .before .before .before .before .before .before .before .before .before .before .before
+    .before .before .before .before .before in
     let past-at2 = branch1 .before in
     let past-at = past-at2 .before .before in
     let entry = past-at-to-entry past-at in
@@ -142,7 +145,8 @@ put-requires-3 c κs =
 
 add-result : tie.Need-add-result
 add-result c =
-    let branch1 = c .before .before .before .before .before .before .before .before .before .before .before .before .before .before .before .before .before .before .before .before in
+    let branch1 = c .before .before .before .before .before .before .before .before .before .before .before .before
+    .before .before .before .before .before .before .before .before in
     let past-at2 = branch1 .before in
     let past-at = past-at2 .before .before in
     let entry = past-at-to-entry past-at in

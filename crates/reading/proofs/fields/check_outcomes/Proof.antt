@@ -84,7 +84,8 @@ returns-3 c =
     let a = entry .args in
     record {
       answers = sym (ap (answer _)
-          (outcomes-rise (a .n) (drop (a .at) (a .file .now)) (a .count) (c .before .loop .low) (c .before .loop .i) (c .before .loop .inv .1)
+          (outcomes-rise (a .n) (drop (a .at) (a .file .now)) (a .count) (c .before .loop .low) (c .before .loop .i)
+          (c .before .loop .inv .1)
           (c .loop-test .left)));
       stays = entry .pre .0;
     }

@@ -32,7 +32,8 @@ abbrev past-reach-to-past-start-known : tie.After-reach Inv-loop μ-loop → tie
 past-reach-to-past-start-known c = c .before .before .before .before .before .before .before
 
 abbrev turn-to-past-fill : tie.At-loop Inv-loop μ-loop → tie.After-fill Inv-loop μ-loop
-turn-to-past-fill c = c .before .before .before .before .before .before .before .before .before .before .before .before .before .before .before .before
+turn-to-past-fill c = c .before .before .before .before .before .before .before .before .before .before .before
+    .before .before .before .before .before
 
 abbrev past-start-known-to-entry : tie.After-start-known Inv-loop μ-loop → tie.Start Inv-loop μ-loop
 past-start-known-to-entry c = c .before .before .before .before .before .before .before .before .before .before .before
@@ -41,7 +42,8 @@ abbrev past-kept-to-past-walk : tie.After-kept Inv-loop μ-loop → tie.After-wa
 past-kept-to-past-walk c = c .before .before .before .before .before .before .before .before .before .before .before
 
 abbrev turn-to-entry : tie.At-loop Inv-loop μ-loop → tie.Start Inv-loop μ-loop
-turn-to-entry c = c .before .before .before .before .before .before .before .before .before .before .before .before .before .before .before .before .before .before .before .before .before .before .before
+turn-to-entry c = c .before .before .before .before .before .before .before .before .before .before .before .before
+    .before .before .before .before .before .before .before .before .before .before .before
 
 abbrev past-round-end-to-past-walk : tie.After-round-end Inv-loop μ-loop → tie.After-walk Inv-loop μ-loop
 past-round-end-to-past-walk c = c .before .before .before .before .before .before .before .before
@@ -175,7 +177,8 @@ settle-requires c κs =
 
 add-count : tie.Need-add-count Inv-loop μ-loop
 add-count c =
-    let past-loop-test = c .before .before .before .before .before .before .before .before .before .before .before .before .before .before .before .before .before .before .before .before .before .before .before in
+    let past-loop-test = c .before .before .before .before .before .before .before .before .before .before .before
+    .before .before .before .before .before .before .before .before .before .before .before .before in
     let turn = past-loop-test .before in
     let entry = turn-to-entry turn in
     let p = entry .pre in
@@ -183,7 +186,8 @@ add-count c =
 
 loop-less : tie.Need-loop-less Inv-loop μ-loop
 loop-less c =
-    let past-loop-test = c .before .before .before .before .before .before .before .before .before .before .before .before .before .before .before .before .before .before .before .before .before .before .before in
+    let past-loop-test = c .before .before .before .before .before .before .before .before .before .before .before
+    .before .before .before .before .before .before .before .before .before .before .before .before in
     let turn = past-loop-test .before in
     let entry = turn-to-entry turn in
     let p = entry .pre in
