@@ -1,26 +1,9 @@
-// Bytes stored at a place: each function answers the place past what it stored.
-ghost use mathlib.Core.List.{[], _∷_};
-ghost use Prim.Native.Nat.{_+_, _<_, _≤_};
+// A word, byte by byte.
+ghost use Prim.Native.Nat.{_+_, _≤_};
 ghost use lib.ListN.{length};
 ghost use Rattle.laws.specs.Wrote.{Wrote};
+use tables::bytes::put_one;
 
-pub fn put_one(out: &mut [u8], place: usize, a: u8) -> usize
-    requires { ⌜ place < length (now out) ⌝ }
-    ensures { λ r. ⌜ Wrote (now (out .entry)) place (a ∷ []) (now (out .exit)) r ⌝ }
-{
-    out[place] = a;
-    place + 1
-}
-
-pub fn put_both(out: &mut [u8], place: usize, a: u8, b: u8) -> usize
-    requires { ⌜ place + 2 ≤ length (now out) ⌝ }
-    ensures { λ r. ⌜ Wrote (now (out .entry)) place (a ∷ b ∷ []) (now (out .exit)) r ⌝ }
-{
-    let next = put_one(out, place, a);
-    put_one(out, next, b)
-}
-
-// A word, byte by byte.
 pub fn put_word(out: &mut [u8], place: usize, word: &[u8]) -> usize
     requires { ⌜ place + length (now word) ≤ length (now out) ⌝ }
     ensures { λ r. ⌜ Wrote (now (out .entry)) place (now (word .entry)) (now (out .exit)) r ⌝ }

@@ -6,8 +6,8 @@ ghost use lib.ListN.{length, getD};
 ghost use Rattle.laws.specs.Wrote.{Wrote};
 ghost use Rattle.model.specs.Listing.{pairAt, digits, decimal};
 ghost use Rattle.listing_text.specs.Pairs.{pairByte};
-use crate::bytes::put_both;
-use crate::bytes::put_one;
+use tables::bytes::put_both;
+use tables::bytes::put_one;
 
 const PAIRS: [u8; 200] =
     *b"00010203040506070809101112131415161718192021222324252627282930313233343536373839404142434445464748495051525354555657585960616263646566676869707172737475767778798081828384858687888990919293949596979899";

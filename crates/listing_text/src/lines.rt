@@ -9,7 +9,6 @@ ghost use Rattle.model.specs.Search.{Result};
 ghost use Rattle.model.specs.Listing.{refusalText, planLine, stateLine, tallyLine, startLine};
 ghost use Rattle.tables.specs.Meaning.{numbers, refusalOf};
 ghost use Rattle.listing_text.specs.Listed.{Listed};
-use crate::bytes::put_one;
 use crate::bytes::put_word;
 use crate::digits::put_decimal;
 use crate::letters::kind_letter;
@@ -23,6 +22,7 @@ use crate::words::put_three;
 use crate::words::put_verdict;
 use tables::Refusal;
 use tables::Size;
+use tables::bytes::put_one;
 use tables::number;
 
 const END: u8 = 10;

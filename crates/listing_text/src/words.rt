@@ -8,12 +8,12 @@ ghost use Rattle.laws.specs.Sets.{found};
 ghost use Rattle.laws.specs.Wrote.{Wrote};
 ghost use Rattle.model.specs.Listing.{decimal, verdictLetter, numberOrDash, practiceLetter, faultSign};
 ghost use Rattle.listing_text.specs.Words.{spaced};
-use crate::bytes::put_both;
-use crate::bytes::put_one;
 use crate::digits::put_decimal;
 use crate::letters::fault_sign;
 use crate::letters::practice_letter;
 use crate::letters::verdict_letter;
+use tables::bytes::put_both;
+use tables::bytes::put_one;
 use tables::entries::wide;
 
 const SPACE: u8 = 32;

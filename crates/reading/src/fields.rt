@@ -7,14 +7,14 @@ ghost use Rattle.reading.specs.Meaning.{Within, Walks, bytesFrom, headMa
 use crate::bytes::Mark;
 use crate::bytes::number;
 use crate::bytes::small;
-use crate::frame::COMMAND;
-use crate::frame::HEAD;
 use crate::frame::Passed;
-use crate::frame::STATE;
 use crate::walker::field;
 use tables::Refusal;
 use tables::Size;
 use tables::spans::not_idle;
+use tables::tags::COMMAND;
+use tables::tags::HEAD;
+use tables::tags::STATE;
 
 pub fn read_head(file: &[u8]) -> Passed
     ensures { λ r. ⌜ Walks (now (file .entry)) r (answer (λ x. afterField (now (file .entry)) headMark 4) (head (now (file .entry)))) ⌝ }

@@ -9,14 +9,9 @@ use crate::bytes::moved;
 use crate::bytes::number;
 use crate::bytes::remaining;
 use tables::Refusal;
-
-pub const HEAD: u8 = 1;
-
-pub const STATE: u8 = 2;
-
-pub const COMMAND: u8 = 3;
-
-pub const END: u8 = 4;
+use tables::tags::COMMAND;
+use tables::tags::HEAD;
+use tables::tags::STATE;
 
 // The answer to every field: the mark past it, or the refusal, which ends the reading.
 pub enum Passed {

@@ -13,11 +13,11 @@ use crate::bytes::remaining;
 use crate::fields::read_command;
 use crate::fields::read_head;
 use crate::fields::read_state;
-use crate::frame::END;
 use crate::frame::Passed;
 use crate::walker::field;
 use tables::Refusal;
 use tables::Size;
+use tables::tags::END;
 
 fn scan_commands(file: &[u8], n: usize, count: usize, from: Mark) -> Passed
     requires { ⌜ Within (now file) from × (from .m + count ≤ maxCommands) ⌝ }

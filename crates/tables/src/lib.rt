@@ -9,10 +9,12 @@ ghost use Rattle.model.specs.SoundTest.{sound};
 use spans::span_at;
 
 pub mod admission;
+pub mod bytes;
 mod checks;
 pub mod entries;
 pub mod rows;
 pub mod spans;
+pub mod tags;
 
 // The numbers of a plan: n states, m commands, t outcome entries, and the start.
 pub struct Size {

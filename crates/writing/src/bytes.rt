@@ -1,33 +1,17 @@
-// Bytes stored at a place: each function answers the place past what it stored.
-ghost use mathlib.Core.List.{[], _∷_};
+// Numbers stored at a place, two bytes each: each function answers the place past what it stored.
+ghost use mathlib.Core.List.{[]};
 ghost use Prim.Native.Nat.{_+_, _<_, _≤_};
 ghost use lib.ListN.{length};
 ghost use Rattle.laws.specs.Entry.{two};
 ghost use Rattle.laws.specs.Wrote.{Wrote};
-
-pub fn put_byte(out: &mut [u8], place: usize, x: usize) -> usize
-    requires { ⌜ (place < length (now out)) × (x < 256) ⌝ }
-    ensures { λ r. ⌜ Wrote (now (out .entry)) place (x ∷ []) (now (out .exit)) r ⌝ }
-{
-    out[place] = x as u8;
-    place + 1
-}
-
-// Two bytes.
-fn put_both(out: &mut [u8], place: usize, a: usize, b: usize) -> usize
-    requires { ⌜ (place + 2 ≤ length (now out)) × (a < 256) × (b < 256) ⌝ }
-    ensures { λ r. ⌜ Wrote (now (out .entry)) place (a ∷ b ∷ []) (now (out .exit)) r ⌝ }
-{
-    let next = put_byte(out, place, a);
-    put_byte(out, next, b)
-}
+use tables::bytes::put_both;
 
 // A number in two bytes, highest byte first.
 pub fn put_two(out: &mut [u8], place: usize, x: usize) -> usize
     requires { ⌜ (place + 2 ≤ length (now out)) × (x < 65536) ⌝ }
     ensures { λ r. ⌜ Wrote (now (out .entry)) place (two x []) (now (out .exit)) r ⌝ }
 {
-    put_both(out, place, x / 256, x % 256)
+    put_both(out, place, (x / 256) as u8, (x % 256) as u8)
 }
 
 // Two numbers.

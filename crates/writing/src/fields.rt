@@ -8,26 +8,22 @@ ghost use Rattle.laws.specs.Wrote.{Wrote};
 ghost use Rattle.model.specs.File.{headTag, endTag};
 ghost use Rattle.model.specs.Bytes.{stateBytes, commandsBytes};
 ghost use Rattle.tables.specs.Spans.{fieldIn};
-use crate::bytes::put_byte;
 use crate::bytes::put_pair;
 use crate::bytes::put_two;
 use tables::Size;
+use tables::bytes::put_one;
 use tables::entries::at;
 use tables::spans::Span;
-
-const HEAD: usize = 1;
-
-const STATE: usize = 2;
-
-const COMMAND: usize = 3;
-
-const END: usize = 4;
+use tables::tags::COMMAND;
+use tables::tags::END;
+use tables::tags::HEAD;
+use tables::tags::STATE;
 
 pub fn write_head(size: Size, out: &mut [u8]) -> usize
     requires { ⌜ (7 ≤ length (now out)) × (size .n < 65536) × (size .start < 65536) ⌝ }
     ensures { λ r. ⌜ Wrote (now (out .entry)) 0 (headTag ∷ two 4 (two (size .n) (two (size .start) []))) (now (out .exit)) r ⌝ }
 {
-    let length = put_byte(out, 0, HEAD);
+    let length = put_one(out, 0, HEAD);
     let n = put_two(out, length, 4);
     put_pair(out, n, size.n, size.start)
 }
@@ -38,9 +34,9 @@ pub fn write_row(span: Span, out: &mut [u8], place: usize) -> usize
         × (span .practice < 65536) ⌝ }
     ensures { λ r. ⌜ Wrote (now (out .entry)) place (stateBytes (fieldIn span) []) (now (out .exit)) r ⌝ }
 {
-    let length = put_byte(out, place, STATE);
+    let length = put_one(out, place, STATE);
     let kind = put_two(out, length, 5);
-    let count = put_byte(out, kind, span.kind);
+    let count = put_one(out, kind, span.kind as u8);
     put_pair(out, count, span.end - span.first, span.practice)
 }
 
@@ -69,7 +65,7 @@ pub fn write_command(
     requires { ⌜ (from ≤ end) × (end ≤ length (now outcomes)) × (end < 32768) × (place + 3 + (end - from) * 2 ≤ length (now out)) ⌝ }
     ensures { λ r. ⌜ Wrote (now (out .entry)) place (commandsBytes (slice from end (now (outcomes .entry)) ∷ []) []) (now (out .exit)) r ⌝ }
 {
-    let length = put_byte(out, place, COMMAND);
+    let length = put_one(out, place, COMMAND);
     let first = put_two(out, length, (end - from) * 2);
     write_outcomes(outcomes, from, end, out, first)
 }
@@ -78,6 +74,6 @@ pub fn write_end(out: &mut [u8], place: usize) -> usize
     requires { ⌜ place + 3 ≤ length (now out) ⌝ }
     ensures { λ r. ⌜ Wrote (now (out .entry)) place (endTag ∷ two 0 []) (now (out .exit)) r ⌝ }
 {
-    let length = put_byte(out, place, END);
+    let length = put_one(out, place, END);
     put_two(out, length, 0)
 }

@@ -5,8 +5,8 @@ use Rattle.writing.proofs.CommandFacts.{command-wrote}
 use Rattle.writing.proofs.fields.write_command.Statement.{statement}
 use Rattle.writing.proofs.fields.write_command.Tie as tie
 
-put-byte-requires : tie.Need-put-byte-requires
-put-byte-requires c κs = search needs
+put-one-requires : tie.Need-put-one-requires
+put-one-requires c κs = search needs
 
 sub-put-two : tie.Need-sub-put-two
 sub-put-two c = search needs
@@ -26,17 +26,17 @@ same-length c = search needs
 returns : tie.Need-returns
 returns c =
     let past-put-two = c .before .before .before .before .before .before in
-    let past-put-byte = past-put-two .before .before .before .before in
-    let entry = past-put-byte .before .before .before .before in
+    let past-put-one = past-put-two .before .before .before .before in
+    let entry = past-put-one .before .before .before .before in
     command-wrote _ _ _ (entry .pre .1)
-    (wrote-then (past-put-byte .put-byte .ensures)
+    (wrote-then (past-put-one .put-one .ensures)
     (wrote-then (past-put-two .put-two .ensures) (c .before .before .write-outcomes .ensures)))
 
 pub write-command-spec : {M : Type 1} → statement M
 write-command-spec =
     tie.close
     (tie.spec
-    put-byte-requires
+    put-one-requires
     sub-put-two
     mul-put-two
     put-two-requires

@@ -1,8 +1,8 @@
--- The second byte is stored where the first one ends.
+-- Two bytes stored are the two in a row, since the second is stored where the first one ends.
 use borrow.Author.Needs.{needs}
 use Rattle.laws.proofs.Wrote.{wrote-then}
-use Rattle.listing_text.proofs.bytes.put_both.Statement.{statement}
-use Rattle.listing_text.proofs.bytes.put_both.Tie as tie
+use Rattle.tables.proofs.bytes.put_both.Statement.{statement}
+use Rattle.tables.proofs.bytes.put_both.Tie as tie
 
 put-one-requires : tie.Need-put-one-requires
 put-one-requires c κs = search needs

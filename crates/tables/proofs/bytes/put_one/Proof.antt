@@ -1,8 +1,8 @@
--- One byte stored at its place, and the place behind it answered.
+-- One byte stored at its place is written there and nothing else changes, by the law of one write.
 use borrow.Author.Needs.{needs}
 use Rattle.laws.proofs.Wrote.{wrote-one}
-use Rattle.listing_text.proofs.bytes.put_one.Statement.{statement}
-use Rattle.listing_text.proofs.bytes.put_one.Tie as tie
+use Rattle.tables.proofs.bytes.put_one.Statement.{statement}
+use Rattle.tables.proofs.bytes.put_one.Tie as tie
 
 slice-write-out : tie.Need-slice-write-out
 slice-write-out c = search needs
