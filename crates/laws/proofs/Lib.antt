@@ -24,6 +24,7 @@ pub mod GrowSame
 pub mod Overwrites
 pub mod Rising
 pub mod Slices
+pub mod Least
 pub mod Wrote
 pub mod Spreads
 pub mod Turns

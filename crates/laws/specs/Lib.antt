@@ -8,3 +8,4 @@ pub mod Filled
 pub mod Wrote
 pub mod Starts
 pub mod First
+pub mod Rising

@@ -3,6 +3,7 @@ use mathlib.Core.Bool.{Bool, true, false, cond, _&&_, _||_}
 use mathlib.Core.List.{List, [], _∷_}
 use mathlib.Core.Option.{Option, none, some}
 use Prim.Native.Nat.{ℕ, zero, suc, _+_}
+use lib.Dec.{ltb}
 
 -- some member of the list passes the test
 unfoldable pub any : (ℕ → Bool) → List ℕ → Bool
@@ -13,6 +14,16 @@ any f (x ∷ xs) = f x || any f xs
 unfoldable pub first : (ℕ → Bool) → List ℕ → Option ℕ
 first f [] = none
 first f (x ∷ xs) = cond (f x) (some x) (first f xs)
+
+-- a number, or another one that is less
+unfoldable pub lesser : ℕ → Option ℕ → ℕ
+lesser x none = x
+lesser x (some y) = cond (ltb y x) y x
+
+-- the least member of the list that passes, wherever it stands
+unfoldable pub least : (ℕ → Bool) → List ℕ → Option ℕ
+least f [] = none
+least f (x ∷ xs) = cond (f x) (some (lesser x (least f xs))) (least f xs)
 
 -- every number below the bound passes
 unfoldable pub every : (ℕ → Bool) → ℕ → Bool

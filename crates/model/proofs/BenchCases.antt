@@ -4,12 +4,12 @@ use mathlib.Core.Bool.{true, false, cond}
 use mathlib.Core.List.{List, [], _∷_, _++_, map}
 use Prim.Native.Nat.{ℕ}
 use lib.ListN.{length, replicate}
-use Rattle.laws.specs.Sets.{any, first, every, exists, orElse, lowest, found, howMany, grow}
+use Rattle.laws.specs.Sets.{any, first, lesser, least, every, exists, orElse, lowest, found, howMany, grow}
 use Rattle.laws.specs.Lists.{tabulate, joined, overwrite}
 use Rattle.laws.specs.Entry.{FFFF, entry}
 use Rattle.laws.specs.Starts.{startOf}
 use Rattle.model.specs.Plan.{ordinary, failing, active, resting, hasPractice}
-use Rattle.model.specs.Verdict.{hits, forced, rank, lost, safe}
+use Rattle.model.specs.Verdict.{hit, hits, forced, rank, lost, safe}
 use Rattle.model.specs.Command.{tryOrder, choice, chosen}
 use Rattle.model.specs.Practice.{practiceHits, practiceFails, fault, mark, tallyRow, tally}
 use Rattle.model.specs.Search.{lands, next, marked, withoutMarks, ends, before, atOnce, inRounds, search}
@@ -73,7 +73,7 @@ verdict-examples : map verdicts (
     ∷ ((3 ∷ 2 ∷ 1 ∷ 0 ∷ []) ∷ (FFFF ∷ FFFF ∷ FFFF ∷ FFFF ∷ []) ∷ (0 ∷ 0 ∷ 0 ∷ 1 ∷ []) ∷ [])
     ∷ ((FFFF ∷ 1 ∷ 0 ∷ []) ∷ (1 ∷ FFFF ∷ FFFF ∷ []) ∷ (2 ∷ 0 ∷ 1 ∷ []) ∷ [])
     ∷ []
-unfolding any first every orElse lowest found grow tabulate entry ordinary failing active hasPractice hits forced rank lost safe tryOrder
+unfolding any first every orElse lowest found grow tabulate entry ordinary failing active hasPractice lesser least hit hits forced rank lost safe tryOrder
     choice chosen practiceHits practiceFails fault mark stateOf planOf rankTable commandTable markTable
 verdict-examples = refl
 
@@ -91,7 +91,7 @@ search-examples : map (searched (acting FFFF ((1 ∷ []) ∷ []) ∷ acting FFFF
     ∷ (1 ∷ 0 ∷ FFFF ∷ FFFF ∷ FFFF ∷ FFFF ∷ [])
     ∷ (0 ∷ 1 ∷ 0 ∷ 0 ∷ FFFF ∷ FFFF ∷ []) ∷ (0 ∷ 0 ∷ FFFF ∷ FFFF ∷ FFFF ∷ FFFF ∷ []) ∷ (0 ∷ 0 ∷ FFFF ∷ FFFF ∷ FFFF ∷ FFFF ∷ [])
     ∷ []
-unfolding any first every exists orElse lowest found grow tabulate entry ordinary failing active resting hasPractice hits tryOrder choice
+unfolding any first every exists orElse lowest found grow tabulate entry ordinary failing active resting hasPractice lesser least hit hits tryOrder choice
     lands next marked withoutMarks ends before atOnce inRounds search stateOf planOf resultTable
 search-examples = refl
 
@@ -180,7 +180,7 @@ decide-example : decideCall fork (replicate 4 7) (replicate 4 7) (replicate 4 7)
   marks = 0 ∷ 0 ∷ 0 ∷ 7 ∷ [];
   scratch = 0 ∷ 0 ∷ 0 ∷ 7 ∷ [];
 }
-unfolding any first every orElse lowest found howMany grow tabulate overwrite entry ordinary failing active hasPractice hits forced rank
+unfolding any first every orElse lowest found howMany grow tabulate overwrite entry ordinary failing active hasPractice lesser least hit hits forced rank
     lost safe tryOrder choice chosen practiceHits practiceFails fault mark tallyRow tally answer _>>=_ need _>>_ rowAt firstCommand
     commandCount listAt sizeSound tablesLong rowSound risesAt listSound entrySound listsSound sound stateAt treeOf stateOf planOf planIn
     rowsIn left deciding rankTable commandTable markTable cleared startOf
@@ -203,7 +203,7 @@ decide-cramped = refl
 
 search-example : searchCall fork 0 (replicate 4 7) (replicate 4 7)
     ≡ record { answers = given (false, 1); commands = 0 ∷ FFFF ∷ FFFF ∷ 7 ∷ []; scratch = 0 ∷ 0 ∷ 0 ∷ 7 ∷ [] }
-unfolding any first every exists orElse lowest found grow tabulate overwrite entry ordinary failing active resting hasPractice hits tryOrder
+unfolding any first every exists orElse lowest found grow tabulate overwrite entry ordinary failing active resting hasPractice lesser least hit hits tryOrder
     choice lands next marked withoutMarks ends before atOnce inRounds search answer _>>=_ need _>>_ rowAt firstCommand commandCount listAt
     sizeSound tablesLong rowSound risesAt listSound entrySound listsSound sound stateAt treeOf stateOf planOf planIn rowsIn left searching
     resultTable cleared startOf

@@ -4,12 +4,12 @@ use mathlib.Core.Path.{_≡_, refl}
 use mathlib.Core.List.{List, [], _∷_, _++_}
 use Prim.Native.Nat.{ℕ}
 use lib.ListN.{length, replicate}
-use Rattle.laws.specs.Sets.{any, first, every, exists, orElse, lowest, found, howMany, grow}
+use Rattle.laws.specs.Sets.{any, first, lesser, least, every, exists, orElse, lowest, found, howMany, grow}
 use Rattle.laws.specs.Lists.{tabulate, joined, overwrite}
 use Rattle.laws.specs.Entry.{entry, twos}
 use Rattle.laws.specs.Starts.{startOf}
 use Rattle.model.specs.Plan.{ordinary, failing, active, resting, hasPractice}
-use Rattle.model.specs.Verdict.{hits, forced, rank, lost, safe}
+use Rattle.model.specs.Verdict.{hit, hits, forced, rank, lost, safe}
 use Rattle.model.specs.Command.{tryOrder, choice, chosen}
 use Rattle.model.specs.Practice.{practiceHits, practiceFails, fault, mark, tallyRow, tally}
 use Rattle.model.specs.Search.{lands, next, marked, withoutMarks, ends, before, atOnce, inRounds, search}
@@ -71,7 +71,7 @@ case-a-decide : gateDecideCall (tablesIn size rows firsts outcomes) (lent 13) (l
       tally = (0 ∷ 0 ∷ 0 ∷ 2 ∷ 0 ∷ 1 ∷ 0 ∷ 0 ∷ 0 ∷ 1 ∷ 0 ∷ 2 ∷ []) ++ lent 1;
     }
 unfolding any first every exists orElse lowest found howMany grow tabulate overwrite joined entry ordinary failing active resting
-    hasPractice hits forced rank lost safe tryOrder choice chosen practiceHits practiceFails fault mark tallyRow tally lands next marked
+    hasPractice lesser least hit hits forced rank lost safe tryOrder choice chosen practiceHits practiceFails fault mark tallyRow tally lands next marked
     withoutMarks ends before atOnce inRounds search answer _>>=_ need _>>_ rowAt firstCommand commandCount listAt sizeSound tablesLong
     rowSound risesAt listSound entrySound listsSound sound stateAt treeOf stateOf planOf planIn rowsIn entriesIn entries tablesIn left
     deciding searching rankTable commandTable markTable resultTable cleared code gateDecide gateSearch tallyEntries resultEntries twos
@@ -87,7 +87,7 @@ case-a-search : gateSearchCall (tablesIn size rows firsts outcomes) 0 (lent 13) 
       answer = 0 ∷ 0 ∷ 0 ∷ 2 ∷ lent 1;
     }
 unfolding any first every exists orElse lowest found howMany grow tabulate overwrite joined entry ordinary failing active resting
-    hasPractice hits forced rank lost safe tryOrder choice chosen practiceHits practiceFails fault mark tallyRow tally lands next marked
+    hasPractice lesser least hit hits forced rank lost safe tryOrder choice chosen practiceHits practiceFails fault mark tallyRow tally lands next marked
     withoutMarks ends before atOnce inRounds search answer _>>=_ need _>>_ rowAt firstCommand commandCount listAt sizeSound tablesLong
     rowSound risesAt listSound entrySound listsSound sound stateAt treeOf stateOf planOf planIn rowsIn entriesIn entries tablesIn left
     deciding searching rankTable commandTable markTable resultTable cleared code gateDecide gateSearch tallyEntries resultEntries twos
@@ -112,7 +112,7 @@ chainIn = tablesIn (0 ∷ 3 ∷ 0 ∷ 2 ∷ 0 ∷ 2 ∷ 0 ∷ 0 ∷ [])
 -- lost is 1 (case A is safe), and no command is left in the table
 lost-search : gateSearchCall chainIn 0 (lent 6) (lent 6) (lent 4)
     ≡ record { returns = 0; commands = replicate 6 255; scratch = replicate 6 0; answer = 0 ∷ 1 ∷ 0 ∷ 2 ∷ [] }
-unfolding any first every exists orElse lowest found grow tabulate overwrite entry ordinary failing active resting hasPractice hits tryOrder
+unfolding any first every exists orElse lowest found grow tabulate overwrite entry ordinary failing active resting hasPractice lesser least hit hits tryOrder
     choice lands next marked withoutMarks ends before atOnce inRounds search _>>=_ need _>>_ rowAt firstCommand commandCount listAt
     sizeSound tablesLong rowSound risesAt listSound entrySound listsSound sound stateAt treeOf stateOf planOf planIn rowsIn entriesIn
     entries tablesIn left searching resultTable cleared code gateSearch resultEntries twos startOf

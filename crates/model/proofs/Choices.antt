@@ -7,14 +7,15 @@ use mathlib.Core.Option.{none, some}
 use Prim.Native.Nat.{ℕ, _<_}
 use native.Mathlib.Omega.{arith}
 use borrow.Author.Tests.{ltb-true, not-true, not-false}
-use Rattle.laws.specs.Sets.{every, first, lowest}
+use Rattle.laws.specs.Sets.{any, every, first, lowest}
 use Rattle.laws.specs.Lists.{tabulate}
 use Rattle.laws.proofs.Tests.{clash, true-or-false, refute, and-both, and-join}
 use Rattle.laws.proofs.Sets.{any-hit, any-of, any-none, every-at, every-of, first-some, first-none, first-same}
+use Rattle.laws.proofs.Least.{found-least}
 use Rattle.laws.proofs.Lists.{mem-at, at-mem}
 use Rattle.laws.proofs.Ranges.{first-lowest}
 use Rattle.model.specs.Plan.{Plan, active, hasPractice}
-use Rattle.model.specs.Verdict.{hits, forced}
+use Rattle.model.specs.Verdict.{hit, hits, forced}
 use Rattle.model.specs.Command.{tryOrder, choice}
 
 -- ---- the order of trying
@@ -43,17 +44,19 @@ module _ (P : Plan) (s : ℕ) where
 -- ---- outcomes in a set
 
 module _ (P : Plan) (K : ℕ → Bool) (s : ℕ) where
+  -- it has one if some of its outcomes is in the set
+  pub hits-any : (c : ℕ) → hits P K s c ≡ any K (P .outcomes s c)
+  unfolding hit hits
+  hits-any c = found-least K (P .outcomes s c)
+
   pub hits-is : (c : ℕ) → hits P K s c ≡ true → (x : ℕ) × List·Memᴰ x (P .outcomes s c) × (K x ≡ true)
-  unfolding hits
-  hits-is c e = any-hit K (P .outcomes s c) e
+  hits-is c e = any-hit K (P .outcomes s c) (sym (hits-any c) ∙ e)
 
   pub hits-of : (c x : ℕ) → List·Memᴰ x (P .outcomes s c) → K x ≡ true → hits P K s c ≡ true
-  unfolding hits
-  hits-of c x m e = any-of K (P .outcomes s c) m e
+  hits-of c x m e = hits-any c ∙ any-of K (P .outcomes s c) m e
 
   pub misses : (c x : ℕ) → hits P K s c ≡ false → List·Memᴰ x (P .outcomes s c) → K x ≡ false
-  unfolding hits
-  misses c x e m = any-none K (P .outcomes s c) e m
+  misses c x e m = any-none K (P .outcomes s c) (sym (hits-any c) ∙ e) m
 
   pub forced-is : forced P K s ≡ true → (active P s ≡ true) × ((c : ℕ) → c < P .commands s → hits P K s c ≡ true)
   unfolding forced

@@ -12,6 +12,7 @@ use Rattle.laws.proofs.Tests.{clash, refute}
 use Rattle.model.specs.Plan.{Valid}
 use Rattle.model.specs.Search.{ends, before}
 use Rattle.model.specs.Refusal.{given, answer}
+use Rattle.model.specs.File.{maxStates}
 use Rattle.model.specs.Bytes.{bytesOf}
 use Rattle.model.specs.Tables.{Size, Tables, fileLength}
 use Rattle.model.specs.Sound.{Sound}
@@ -20,6 +21,7 @@ use Rattle.model.specs.Held.{treeOf, planIn}
 use Rattle.model.specs.Calls.{writing, writeCall}
 use Rattle.model.specs.Claims.{Short, Conditions, Meanings, Rules}
 use Rattle.model.proofs.HeldPlan.{states-held}
+use Rattle.model.proofs.SoundFacts.{sound-facts}
 use Rattle.model.proofs.Soundness.{sound-iff}
 use Rattle.model.proofs.Valid.{sound-valid}
 use Rattle.model.proofs.Answering.{reading-iff, writing-iff, deciding-iff, searching-iff}
@@ -29,6 +31,7 @@ use Rattle.model.proofs.Layers.{lost-iff-layer, rank-some, layer-rank}
 use Rattle.model.proofs.ValueEquation.{least-solution}
 use Rattle.model.proofs.Choices.{choice-words}
 use Rattle.model.proofs.PracticeRuns.{practice-judged}
+use Rattle.model.proofs.Faults.{fault-named, named-at-faults, fault-printed}
 use Rattle.model.proofs.Searching.{last-round}
 use Rattle.model.proofs.RoundTrips.{read-write, write-read, written-length}
 use Rattle.model.proofs.FileLength.{length-bytes}
@@ -134,6 +137,9 @@ module _ (T : Tables) (S : Sound T) where
   valid : Valid (planIn T)
   valid = sound-valid T (passes T S)
 
+  few : planIn T .states ≤ maxStates
+  few = rw (states-held T) (sound-facts T .0 (passes T S) .size .few)
+
   in-plan : (s : ℕ) → s < T .size .n → s < planIn T .states
   in-plan s l = rw (states-held T) l
 
@@ -159,6 +165,9 @@ meanings = record {
   least-solution = λ T S. least-solution (planIn T) (valid T S);
   choice-words = choice-words;
   practice-judged = λ T S s l. practice-judged (planIn T) (valid T S) s (in-plan T S s l);
+  fault-named = fault-named;
+  named-at-faults = named-at-faults;
+  fault-printed = λ T S s x l h. fault-printed (planIn T) (valid T S) (few T S) s x (in-plan T S s l) (in-plan T S x h);
   last-round = λ T S a l act.
       subst (λ (n : ℕ). lowest (ends (planIn T) a) n ≡ some (before (planIn T) a)) (states-held T)
       (last-round (planIn T) (valid T S) a (in-plan T S a l) act);

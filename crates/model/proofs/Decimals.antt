@@ -1,8 +1,9 @@
 -- The digits of a number, pair by pair.
-use mathlib.Core.Path.{_≡_, ap, _∙_}
+use mathlib.Core.Path.{_≡_, refl, sym, ap, _∙_}
+use mathlib.Core.Bool.{true, false}
 use mathlib.Core.Logic.{⊎-elim}
 use mathlib.Core.List.{List, [], _∷_, _++_, append-assoc}
-use Prim.Native.Nat.{ℕ, zero, suc, _+_, _*_, _/_, _%_, _<_, _≤_}
+use Prim.Native.Nat.{ℕ, zero, suc, _+_, _-_, _*_, _/_, _%_, _<_, _≤_}
 use native.Mathlib.Omega.{arith}
 use lib.Dec.{ltb}
 use lib.ListN.{length, getD, length-append}
@@ -79,3 +80,52 @@ module _ (x : ℕ) where
       let e : x / 100 / 100 ≡ x / 10000 = omega arith in
       digits-more 2 x (omega arith)
       ∙ rw (digits-more 1 (x / 100) (omega arith), e) (append-assoc (digits 1 (x / 10000)) (pairAt (x / 100 % 100)) (pairAt (x % 100)))
+
+-- ---- what digits tell
+
+-- the number whose last digits these are, behind the digits of a
+unfoldable told : ℕ → List ℕ → ℕ
+told a [] = a
+told a (d ∷ ds) = told (a * 10 + (d - 48)) ds
+
+told-append : (a : ℕ) (xs ys : List ℕ) → told a (xs ++ ys) ≡ told (told a xs) ys
+unfolding told
+told-append a [] ys = refl
+told-append a (x ∷ xs) ys = told-append (a * 10 + (x - 48)) xs ys
+
+told-pair : (a i : ℕ) → i < 100 → told a (pairAt i) ≡ a * 100 + i
+unfolding told digitPair
+told-pair a i h = rw (pair-is i h) (omega arith)
+
+told-short : (x : ℕ) → x < 100 → told 0 (digits 1 x) ≡ x
+unfolding told digitPair
+told-short x h =
+    ⊎-elim (λ e. let l = ltb-true x 10 e in rw (digits-one 0 x l, pair-is x h) (omega (arith, l)))
+    (λ e. rw (digits-two 0 x (ltb-false x 10 e) h) (told-pair 0 x h ∙ omega arith))
+    (true-or-false (ltb x 10))
+
+told-decimal : (x : ℕ) → x < 1000000 → told 0 (decimal x) ≡ x
+told-decimal x h =
+    ⊎-elim (λ e. let l = ltb-true x 100 e in rw (decimal-one x l) (told-short x l))
+    (λ e. ⊎-elim (two (ltb-false x 100 e)) three (true-or-false (ltb x 10000)))
+    (true-or-false (ltb x 100))
+  where
+    two : 100 ≤ x → ltb x 10000 ≡ true → told 0 (decimal x) ≡ x
+    two l e =
+        let k = ltb-true x 10000 e in
+        rw (decimal-two x l k, told-append 0 (digits 1 (x / 100)) (pairAt (x % 100)), told-short (x / 100) (omega (arith, k)))
+        (told-pair (x / 100) (x % 100) (omega arith) ∙ omega arith)
+
+    three : ltb x 10000 ≡ false → told 0 (decimal x) ≡ x
+    three e =
+        let l = ltb-false x 10000 e in
+        let high = digits 1 (x / 10000) in
+        let middle = pairAt (x / 100 % 100) in
+        rw (decimal-three x l, told-append 0 high (middle ++ pairAt (x % 100)), told-short (x / 10000) (omega arith))
+        (told-append (x / 10000) middle (pairAt (x % 100))
+        ∙ rw (told-pair (x / 10000) (x / 100 % 100) (omega arith))
+        (told-pair (x / 10000 * 100 + x / 100 % 100) (x % 100) (omega arith) ∙ omega arith))
+
+-- so no two numbers are printed alike
+pub decimal-inj : (x y : ℕ) → x < 1000000 → y < 1000000 → decimal x ≡ decimal y → x ≡ y
+decimal-inj x y h k e = sym (told-decimal x h) ∙ ap (told 0) e ∙ told-decimal y k

@@ -11,7 +11,7 @@ use Rattle.laws.specs.Lists.{tabulate, joined}
 use Rattle.laws.proofs.Tests.{true-or-false}
 use Rattle.laws.proofs.Joins.{joined-bound}
 use Rattle.model.specs.Plan.{Plan}
-use Rattle.model.specs.Practice.{tally}
+use Rattle.model.specs.Practice.{faultOutcome, tally}
 use Rattle.model.specs.Verdict.{rank}
 use Rattle.model.specs.Command.{chosen}
 use Rattle.model.specs.Search.{Result, search}
@@ -45,6 +45,11 @@ unfolding numberOrDash
 dash-length none = omega arith
 dash-length (some x) = decimal-length x
 
+sign-length : (o : Option ℕ) → length (faultSign o) ≤ 7
+unfolding faultSign
+sign-length none = omega arith
+sign-length (some x) = omega (arith, decimal-length x)
+
 pub refusal-length : (r : Refusal) → length (refusalText r) ≤ 15
 unfolding refusalText line
 refusal-length r = simp length-append (omega (arith, decimal-length (number r)))
@@ -53,9 +58,11 @@ pub plan-length : (z : Size) → length (planLine z) ≤ 26
 unfolding planLine line
 plan-length z = simp length-append (omega (arith, decimal-length (z .n), decimal-length (z .m), decimal-length (z .t)))
 
-pub state-length : (P : Plan) (s : ℕ) → length (stateLine P s) ≤ 29
-unfolding stateLine line kindLetter verdictLetter practiceLetter faultSign
-state-length P s = simp length-append (omega (arith, decimal-length s, dash-length (rank P s), dash-length (chosen P s)))
+pub state-length : (P : Plan) (s : ℕ) → length (stateLine P s) ≤ 35
+unfolding stateLine line kindLetter verdictLetter practiceLetter
+state-length P s =
+    simp length-append
+    (omega (arith, decimal-length s, dash-length (rank P s), dash-length (chosen P s), sign-length (faultOutcome P s)))
 
 pub tally-length : (rows : List (List ℕ)) → length (tallyLine rows) ≤ 50
 unfolding tallyLine line
@@ -80,7 +87,7 @@ plan-text-length p few =
     omega (
       arith,
       plan-length (tablesOf p .size),
-      joined-bound (stateLine P) 0 (P .states) 29 (state-length P),
+      joined-bound (stateLine P) 0 (P .states) 35 (state-length P),
       tally-length (tally P),
       start-length (P .start) (search P (P .start)),
       ap length text,

@@ -3,10 +3,10 @@ use mathlib.Core.Path.{_≡_, refl}
 use mathlib.Core.Bool.{true, false}
 use mathlib.Core.List.{[], _∷_}
 use mathlib.Core.Option.{none, some}
-use Rattle.laws.specs.Sets.{any, every, orElse, lowest, found, grow}
+use Rattle.laws.specs.Sets.{lesser, least, every, orElse, lowest, found, grow}
 use Rattle.laws.specs.Lists.{tabulate}
 use Rattle.model.specs.Plan.{ordinary, failing, active, hasPractice}
-use Rattle.model.specs.Verdict.{hits, forced, rank, lost, safe}
+use Rattle.model.specs.Verdict.{hit, hits, forced, rank, lost, safe}
 use Rattle.model.specs.Practice.{followed, practiceHits, practiceFails, bug, fault}
 use Rattle.model.specs.Refusal.{given, answer, _>>=_, need, _>>_}
 use Rattle.model.specs.File.{field, head, state, entries, rising, command, commands, states, read}
@@ -19,7 +19,7 @@ case-a-bugs : answer (λ p. tabulate (bug (planOf p)) 0 6 ∷ tabulate (fault (p
     (read caseA)
     ≡ given ((true ∷ true ∷ false ∷ false ∷ false ∷ false ∷ []) ∷ (true ∷ false ∷ false ∷ false ∷ false ∷ false ∷ [])
     ∷ (true ∷ true ∷ false ∷ true ∷ true ∷ false ∷ []) ∷ [])
-unfolding any every orElse lowest found grow tabulate ordinary failing active hasPractice hits forced rank lost safe practiceHits
+unfolding every orElse lowest found grow tabulate ordinary failing active hasPractice lesser least hit hits forced rank lost safe practiceHits
     practiceFails bug fault answer _>>=_ need _>>_ field head state entries rising command commands states read stateOf planOf
 case-a-bugs = refl
 

@@ -14,7 +14,7 @@ use Rattle.laws.proofs.Maps.{map-is, map-same, any-map}
 use Rattle.model.specs.Plan.{Plan, Valid, ordinary, failing, failingAt, active, hasPractice}
 use Rattle.model.specs.Verdict.{hits, forced, layer, rank, lost, safe}
 use Rattle.model.specs.Command.{tryOrder, choice, chosen}
-use Rattle.model.proofs.Choices.{tried-command}
+use Rattle.model.proofs.Choices.{tried-command, hits-any}
 use Rattle.model.proofs.SameLayers.{layers-rank, layers-verdict}
 
 -- Q is part of P: its state i is the state `old i` of P, and `new` gives an outcome its number in Q
@@ -65,10 +65,10 @@ module _ {Q P : Plan} {old new : ℕ → ℕ} (r : PartOf Q P old new) (i : ℕ)
   module _ (A B : ℕ → Bool) (h : AgreeAt (Q .states) old A B) where
     -- of sets that agree: outcomes in them, and the command that keeps out of them
     part-hits : (c : ℕ) → c < Q .commands i → hits Q A i c ≡ hits P B (old i) c
-    unfolding hits
     part-hits c k =
-        ap (any A) (r .outcomes i c l) ∙ any-map A new (P .outcomes (old i) c)
+        hits-any Q A i c ∙ ap (any A) (r .outcomes i c l) ∙ any-map A new (P .outcomes (old i) c)
         ∙ any-same (λ x. A (new x)) B (P .outcomes (old i) c) (λ x m. let (n, q) = r .back i c x l k m in h (new x) n ∙ ap B q)
+        ∙ sym (hits-any P B (old i) c)
 
     part-forced : forced Q A i ≡ forced P B (old i)
     unfolding forced

@@ -2,11 +2,11 @@
 use mathlib.Core.Path.{_≡_, refl}
 use mathlib.Core.List.{[], _∷_, map}
 use Prim.Native.Nat.{_+_}
-use Rattle.laws.specs.Sets.{any, every, orElse, lowest, found, grow}
+use Rattle.laws.specs.Sets.{lesser, least, every, orElse, lowest, found, grow}
 use Rattle.laws.specs.Lists.{tabulate}
 use Rattle.laws.specs.Entry.{FFFF}
 use Rattle.model.specs.Plan.{Plan, ordinary, failing, active}
-use Rattle.model.specs.Verdict.{hits, forced, rank, lost}
+use Rattle.model.specs.Verdict.{hit, hits, forced, rank, lost}
 use Rattle.model.specs.Value.{successors, maximum, minimum, backup, value}
 use Rattle.model.specs.Held.{stateOf, planOf}
 use Rattle.model.proofs.CasePlans.{acting, rest, failed, planned}
@@ -23,5 +23,5 @@ backups = refl
 
 -- 1 is lost, 0 safe
 values : map (value four) (0 ∷ 1 ∷ 2 ∷ 3 ∷ []) ≡ 0 ∷ 0 ∷ 1 ∷ 0 ∷ []
-unfolding any every orElse lowest found grow ordinary failing active hits forced rank lost stateOf planOf value
+unfolding every orElse lowest found grow ordinary failing active lesser least hit hits forced rank lost stateOf planOf value
 values = refl

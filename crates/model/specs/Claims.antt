@@ -2,12 +2,12 @@
 -- code, that it answers and leaves what the definitions say, stands in the calls' contracts.
 use mathlib.Core.Path.{_≡_}
 use mathlib.Core.Bool.{Bool, true, false, not, cond, _&&_}
-use mathlib.Core.List.{List, map}
+use mathlib.Core.List.{List, _∷_, map}
 use mathlib.Core.Logic.{_⊎_, _↔_}
 use mathlib.Core.Option.{some}
 use Prim.Native.Nat.{ℕ, _<_, _≤_}
 use lib.ListN.{length, take}
-use Rattle.laws.specs.Sets.{lowest}
+use Rattle.laws.specs.Sets.{lowest, found}
 use Rattle.laws.specs.Lists.{overwrite}
 use Rattle.laws.specs.Entry.{Bytes}
 use Rattle.model.specs.Plan.{Plan, active, hasPractice}
@@ -15,7 +15,7 @@ use Rattle.model.specs.Rule.{Fails, positional}
 use Rattle.model.specs.Verdict.{hits, layer, rank, lost}
 use Rattle.model.specs.Value.{LeastSolution}
 use Rattle.model.specs.Command.{choice}
-use Rattle.model.specs.Practice.{followed, practiceFails}
+use Rattle.model.specs.Practice.{followed, practiceFails, fault, faultOutcome, LowestLost}
 use Rattle.model.specs.Search.{Result, ends, before, search}
 use Rattle.model.specs.Refusal.{Refusal, Cramped, Unsound, Stranger, Answer, given, refused}
 use Rattle.model.specs.File.{Tree, read}
@@ -27,7 +27,7 @@ use Rattle.model.specs.Held.{treeOf, planIn}
 use Rattle.model.specs.Calls.{reading, writing, deciding, searching, readCall, afterReading, writeCall, decideCall, searchCall}
 use Rattle.model.specs.Demand3.{DecidingDemand3, SearchDemand3}
 use Rattle.model.specs.Boundary.{entriesIn, verdictIn, roundsIn, gateDecideCall, gateSearchCall}
-use Rattle.model.specs.Listing.{maxListing, listing}
+use Rattle.model.specs.Listing.{decimal, faultSign, maxListing, listing}
 use Rattle.model.specs.Bench.{judged, benches, caseA, caseAListing}
 
 -- ---- rule D1: each call answers, or is refused, exactly under the condition that part E has for it
@@ -75,6 +75,11 @@ pub record Meanings : Type 0 where
   -- the practice fails: some run under it does
   pub practice-judged : (T : Tables) → Sound T → (s : ℕ) → s < T .size .n → (practiceFails (planIn T) s ≡ true)
       ↔ Fails (planIn T) s (positional (followed (planIn T)) s)
+  -- rule V16: what is named at a fault, and that it is named there alone; the listing prints it (rule L7)
+  pub fault-named : (P : Plan) (s x : ℕ) → (faultOutcome P s ≡ some x) ↔ ((fault P s ≡ true) × LowestLost P s x)
+  pub named-at-faults : (P : Plan) (s : ℕ) → found (faultOutcome P s) ≡ fault P s
+  pub fault-printed : (T : Tables) → Sound T → (s x : ℕ) → s < T .size .n → x < T .size .n
+      → (faultSign (faultOutcome (planIn T) s) ≡ 33 ∷ decimal x) ↔ ((fault (planIn T) s ≡ true) × LowestLost (planIn T) s x)
   -- some round is the last
   pub last-round : (T : Tables) → Sound T → (a : ℕ) → a < T .size .n → active (planIn T) a ≡ true
       → lowest (ends (planIn T) a) (T .size .n) ≡ some (before (planIn T) a)

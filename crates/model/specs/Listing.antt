@@ -9,7 +9,7 @@ use Rattle.laws.specs.Lists.{tabulate, joined}
 use Rattle.model.specs.Plan.{Plan}
 use Rattle.model.specs.Verdict.{rank, lost}
 use Rattle.model.specs.Command.{chosen}
-use Rattle.model.specs.Practice.{practiceFails, fault, tally}
+use Rattle.model.specs.Practice.{practiceFails, faultOutcome, tally}
 use Rattle.model.specs.Search.{Result, search}
 use Rattle.model.specs.Refusal.{Refusal, Limit, Answer, given, refused, number}
 use Rattle.model.specs.File.{Tree, read}
@@ -68,9 +68,10 @@ numberOrDash (some x) = decimal x
 unfoldable pub practiceLetter : Bool → List ℕ
 practiceLetter fails = cond fails 70 72 ∷ []
 
--- rule L7: ! at a fault
-unfoldable pub faultSign : Bool → List ℕ
-faultSign isFault = cond isFault 33 46 ∷ []
+-- rule L7: ! and the outcome at a fault, and . where there is none
+unfoldable pub faultSign : Option ℕ → List ℕ
+faultSign none = 46 ∷ []
+faultSign (some x) = 33 ∷ decimal x
 
 -- rule L6
 unfoldable pub planLine : Size → List ℕ
@@ -82,7 +83,7 @@ planLine z =
 unfoldable pub stateLine : Plan → ℕ → List ℕ
 stateLine P s =
     line (decimal s ∷ kindLetter (P .kind s) ∷ verdictLetter (lost P s) ∷ numberOrDash (rank P s) ∷ numberOrDash (chosen P s)
-    ∷ practiceLetter (practiceFails P s) ∷ faultSign (fault P s) ∷ [])
+    ∷ practiceLetter (practiceFails P s) ∷ faultSign (faultOutcome P s) ∷ [])
 
 -- rule L8: the tally's rows with a slash between them
 unfoldable pub tallyLine : List (List ℕ) → List ℕ

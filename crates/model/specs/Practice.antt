@@ -1,11 +1,12 @@
 -- The keeper's practice judged (docs/SPECIFICATION.md, part V).
-use mathlib.Core.Bool.{Bool, not, cond, _&&_}
-use mathlib.Core.List.{List, [], _∷_}
+use mathlib.Core.Path.{_≡_}
+use mathlib.Core.Bool.{Bool, true, false, not, cond, _&&_}
+use mathlib.Core.List.{List, [], _∷_, List·Memᴰ}
 use mathlib.Core.Option.{Option, none, some}
-use Prim.Native.Nat.{ℕ, _+_}
+use Prim.Native.Nat.{ℕ, _+_, _<_}
 use Rattle.laws.specs.Sets.{howMany, grow}
 use Rattle.model.specs.Plan.{Plan, failing, hasPractice}
-use Rattle.model.specs.Verdict.{hits, lost, safe}
+use Rattle.model.specs.Verdict.{hit, hits, lost, safe}
 
 -- rules V8 and V9: the practice as a table of commands
 unfoldable pub followed : Plan → ℕ → Option ℕ
@@ -26,6 +27,16 @@ bug P s = safe P s && practiceFails P s
 -- rule V11: safe, though the practice may land on a lost state
 unfoldable pub fault : Plan → ℕ → Bool
 fault P s = safe P s && practiceHits P (lost P) s
+
+-- rule V16: at a fault, the lowest lost outcome that the practice has
+unfoldable pub faultOutcome : Plan → ℕ → Option ℕ
+faultOutcome P s = cond (fault P s) (hit P (lost P) s (P .practice s)) none
+
+-- what rule V16 says of it: an outcome of the practice that is lost, and none below it is
+pub record LowestLost (P : Plan) (s x : ℕ) : Type 0 where
+  pub outcome : List·Memᴰ x (P .outcomes s (P .practice s))
+  pub is-lost : lost P x ≡ true
+  pub lowest : (y : ℕ) → y < x → List·Memᴰ y (P .outcomes s (P .practice s)) → lost P y ≡ false
 
 -- rule V13: 1 if the practice fails, and 2 more at a fault
 abbrev pub markOf : Bool → Bool → ℕ

@@ -2,12 +2,16 @@
 use mathlib.Core.Bool.{Bool, not, _&&_}
 use mathlib.Core.Option.{Option}
 use Prim.Native.Nat.{ℕ, suc}
-use Rattle.laws.specs.Sets.{any, every, lowest, found, grow}
+use Rattle.laws.specs.Sets.{least, every, lowest, found, grow}
 use Rattle.model.specs.Plan.{Plan, failing, active}
+
+-- the lowest outcome in K that the command c of s has
+unfoldable pub hit : Plan → (ℕ → Bool) → ℕ → ℕ → Option ℕ
+hit P K s c = least K (P .outcomes s c)
 
 -- the command c of s has an outcome in K
 unfoldable pub hits : Plan → (ℕ → Bool) → ℕ → ℕ → Bool
-hits P K s c = any K (P .outcomes s c)
+hits P K s c = found (hit P K s c)
 
 -- rule V2: an active state of which each command has an outcome in K
 unfoldable pub forced : Plan → (ℕ → Bool) → ℕ → Bool
