@@ -2,42 +2,45 @@
 use mathlib.Core.Path.{_≡_, refl, sym, ap, _∙_}
 use mathlib.Core.Bool.{Bool, true, false, not, cond, _&&_}
 use mathlib.Core.Logic.{⊎-elim}
-use mathlib.Core.Option.{none, some}
+use mathlib.Core.Option.{Option, none, some}
 use Prim.Native.Nat.{ℕ, _+_, _-_, _<_, _≤_}
 use native.Mathlib.Numerals.{add-one}
 use native.Mathlib.Omega.{arith}
 use native.Mathlib.Decide.{decLt}
 use lib.Dec.{ltb}
 use borrow.Author.Tests.{le-ltb, ltb-true}
-use Rattle.laws.specs.Sets.{any, lowest}
+use Rattle.laws.specs.Sets.{any, least, lowest, found}
 use Rattle.laws.specs.Entry.{FFFF, entry}
 use Rattle.laws.specs.First.{FirstNot}
 use Rattle.laws.proofs.Tests.{clash, true-or-false}
 use Rattle.laws.proofs.Tries.{lowest-same, first-found, first-missing}
 use Rattle.model.specs.Plan.{active, hasPractice}
-use Rattle.model.specs.Verdict.{hits}
+use Rattle.model.specs.Verdict.{hit, hits}
 use Rattle.model.specs.Command.{choice}
 use Rattle.model.specs.Tables.{Tables, listsIn}
 use Rattle.model.specs.Places.{rowAt, firstCommand, commandCount, outcomesAt}
 use Rattle.model.specs.SoundTest.{sound}
 use Rattle.model.specs.Held.{planIn}
 use Rattle.model.proofs.StateKinds.{command-active}
-use Rattle.model.proofs.Choices.{choice-idle, choice-words}
+use Rattle.model.proofs.Choices.{hits-any, choice-idle, choice-words}
 use Rattle.model.proofs.HeldPlan.{states-held, practice-held, commands-held, outcomes-held}
 use Rattle.model.proofs.Valid.{sound-valid}
 use Rattle.tables.specs.declared.spans.Span.{Span}
 use Rattle.tables.specs.Spans.{spanAt}
-use Rattle.choice.specs.Within.{commandHits, clear}
+use Rattle.choice.specs.Within.{commandHit, commandHits, clear}
 
 module _ (T : Tables) (K : ℕ → Bool) (s : ℕ) (l : s < T .size .n) where
   -- a command's outcomes, by its place
+  pub hit-held : (c : ℕ) → c < commandCount T s → hit (planIn T) K s c ≡ commandHit (listsIn T) K (firstCommand T s + c)
+  unfolding hit commandHit
+  hit-held c h = ap (least K) (outcomes-held T s l c h)
+
   pub hits-held : (c : ℕ) → c < commandCount T s → hits (planIn T) K s c ≡ any K (outcomesAt T (firstCommand T s + c))
-  unfolding hits
-  hits-held c h = ap (any K) (outcomes-held T s l c h)
+  hits-held c h = hits-any (planIn T) K s c ∙ ap (any K) (outcomes-held T s l c h)
 
   clear-held : (c : ℕ) → c < commandCount T s → not (hits (planIn T) K s c) ≡ clear (listsIn T) K (firstCommand T s) c
-  unfolding clear commandHits
-  clear-held c h = ap not (hits-held c h)
+  unfolding hits clear commandHits
+  clear-held c h = ap (λ (o : Option ℕ). not (found o)) (hit-held c h)
 
   -- a state that is not active has no commands to try
   idle-words : planIn T .commands s ≡ 0

@@ -1,21 +1,26 @@
 -- The places of a list, and whether a command has an outcome in a set by what is read there.
-use mathlib.Core.Path.{_≡_, _∙_}
-use mathlib.Core.Bool.{Bool, not, _&&_}
+use mathlib.Core.Path.{_≡_, refl, sym, ap, _∙_}
+use mathlib.Core.Bool.{Bool, true, false, not, _&&_}
 use Prim.Native.Nat.{ℕ, _+_, _<_, _≤_, suc}
 use native.Mathlib.Numerals.{add-one}
 use native.Mathlib.Omega.{arith}
 use mathlib.Core.List.{List}
-use lib.Dec.{ltb}
+use mathlib.Core.Option.{Option, none, some}
+use lib.Dec.{eqb, ltb}
 use lib.ListN.{length, getD}
 use lib.Seq.{slice}
-use borrow.Author.Tests.{lt-ltb}
-use Rattle.laws.specs.Sets.{any}
+use borrow.Author.Tests.{lt-ltb, ne-eqb, not-true, not-false}
+use Rattle.laws.specs.Sets.{least, found}
+use Rattle.laws.specs.Entry.{FFFF, entry}
+use Rattle.laws.specs.Rising.{RisesIn}
 use Rattle.laws.specs.Starts.{Parts}
+use Rattle.laws.proofs.Least.{least-some}
+use Rattle.laws.proofs.Slices.{slice-at}
 use Rattle.laws.proofs.Starts.{start-next, start-le}
 use Rattle.model.specs.Tables.{Lists}
 use Rattle.model.specs.Places.{startIn, listAt}
 use Rattle.tables.specs.Ready.{States, Ready}
-use Rattle.choice.specs.Within.{commandHits, clear}
+use Rattle.choice.specs.Within.{commandHit, commandHits, clear}
 
 -- states below n are below more
 pub states-below : {n k end : ℕ} {entries : List ℕ} → n ≤ k → States n end entries → States k end entries
@@ -27,9 +32,12 @@ module _ (L : Lists) (i from end : ℕ) (p : from ≡ startIn L i) (q : end ≡ 
   unfolding listAt
   outcomes-read = rw (p, q, add-one i)
 
-  pub hit-read : (K : ℕ → Bool) (r : Bool) → r ≡ any K (slice from end (L .entries)) → r ≡ commandHits L K i
-  unfolding commandHits
+  pub hit-read : (K : ℕ → Bool) (r : ℕ) → r ≡ entry (least K (slice from end (L .entries))) → r ≡ entry (commandHit L K i)
+  unfolding commandHit
   hit-read K r e = e ∙ rw outcomes-read
+
+  pub rises-read : RisesIn (L .entries) (startIn L i) (startIn L (suc i)) → RisesIn (L .entries) from end
+  rises-read r = rw (p, q, add-one i) r
 
   -- they are in range, and so is what they name in a table of so many places
   pub entries-inside : {places : ℕ} → i < L .count → Parts (L .firsts) (L .count) (L .end) → States places (L .end) (L .entries)
@@ -46,8 +54,35 @@ pub outcomes-inside : {n : ℕ} {L : Lists} → Ready n L → (i from end places
 outcomes-inside {L = L} ready i from end places l p q h =
     entries-inside L i from end p q l (ready .parts) (states-below h (ready .states))
 
+-- what was answered for command i says whether it has an outcome in the set: no state has the number FFFF
+module _ {n : ℕ} {L : Lists} (ready : Ready n L) (K : ℕ → Bool) (i : ℕ) (l : i < L .count) where
+  few-hit : (x : ℕ) → commandHit L K i ≡ some x → x < FFFF
+  unfolding commandHit listAt
+  few-hit x e =
+      let rises = ready .parts .rises i l in
+      let below = start-le (L .firsts) (L .count) (L .end) (ready .parts) (suc i) l in
+      let member = least-some K _ x e .0 in
+      let long = ready .states .long in
+      let (j, a, b, q) = slice-at (L .entries) (startIn L (suc i)) (omega (arith, below, long)) (startIn L i) x rises member in
+      omega (arith, ready .few, ready .states .inside j (omega (arith, below)), q)
+
+  pub hit-told : (r : ℕ) → r ≡ entry (commandHit L K i) → eqb r FFFF ≡ not (commandHits L K i)
+  unfolding commandHits entry found
+  hit-told r e = go (commandHit L K i) refl
+    where
+      go : (o : Option ℕ) → commandHit L K i ≡ o → eqb r FFFF ≡ not (found o)
+      go none q = rw (e ∙ ap entry q)
+      go (some x) q = rw (e ∙ ap entry q) (ne-eqb x FFFF (λ z. absurd (omega (arith, few-hit x q))))
+
+  module _ (r : ℕ) (e : r ≡ entry (commandHit L K i)) where
+    pub told-clear : r ≡ FFFF → commandHits L K i ≡ false
+    told-clear h = not-true _ (sym (hit-told r e) ∙ rw h)
+
+    pub told-hit : (r ≡ FFFF → ⊥) → commandHits L K i ≡ true
+    told-hit h = not-false _ (sym (hit-told r e) ∙ ne-eqb r FFFF h)
+
 -- a practice that was tried
-pub practice-is : (L : Lists) (K : ℕ → Bool) (first c : ℕ) (t : Bool) → t ≡ commandHits L K (first + c) → (count : ℕ) → c < count
-    → not t ≡ (ltb c count && clear L K first c)
+pub practice-is : {n : ℕ} (L : Lists) → Ready n L → (K : ℕ → Bool) (first c r : ℕ) → first + c < L .count
+    → r ≡ entry (commandHit L K (first + c)) → (count : ℕ) → c < count → eqb r FFFF ≡ (ltb c count && clear L K first c)
 unfolding clear
-practice-is L K first c t p count l = rw (lt-ltb c count l, p)
+practice-is L ready K first c r inside p count l = rw (lt-ltb c count l, hit-told ready K (first + c) inside r p)

@@ -1,10 +1,11 @@
 -- A set of states that a table holds, and the commands that stay out of it.
 use mathlib.Core.Bool.{Bool, not}
 use mathlib.Core.List.{List}
+use mathlib.Core.Option.{Option}
 use Prim.Native.Nat.{ℕ, _+_}
 use lib.Dec.{leb}
 use lib.ListN.{getD}
-use Rattle.laws.specs.Sets.{any}
+use Rattle.laws.specs.Sets.{least, found}
 use Rattle.model.specs.Tables.{Lists}
 use Rattle.model.specs.Places.{listAt}
 
@@ -12,9 +13,13 @@ use Rattle.model.specs.Places.{listAt}
 abbrev pub within : List ℕ → ℕ → ℕ → Bool
 within table limit x = leb (getD table x 0) limit
 
--- the command c, whose outcomes are list c, has one in K
+-- the lowest outcome in K of the command c, whose outcomes are list c
+unfoldable pub commandHit : Lists → (ℕ → Bool) → ℕ → Option ℕ
+commandHit L K c = least K (listAt L c)
+
+-- it has one
 unfoldable pub commandHits : Lists → (ℕ → Bool) → ℕ → Bool
-commandHits L K c = any K (listAt L c)
+commandHits L K c = found (commandHit L K c)
 
 -- of a state whose commands begin at place `first`: its command c has no outcome in K
 unfoldable pub clear : Lists → (ℕ → Bool) → ℕ → ℕ → Bool

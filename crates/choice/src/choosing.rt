@@ -3,14 +3,16 @@
 ghost use mathlib.Core.Path.{_≡_};
 ghost use mathlib.Core.Bool.{true, _&&_};
 ghost use mathlib.Core.List.{List};
-ghost use Prim.Native.Nat.{ℕ, _<_, _≤_, _+_};
+ghost use Prim.Native.Nat.{ℕ, suc, _<_, _≤_, _+_};
 ghost use lib.Dec.{ltb};
 ghost use lib.ListN.{length, getD};
 ghost use lib.Seq.{slice};
-ghost use Rattle.laws.specs.Sets.{any};
+ghost use Rattle.laws.specs.Sets.{least};
 ghost use Rattle.laws.specs.First.{FirstNot};
 ghost use Rattle.laws.specs.Starts.{Parts};
+ghost use Rattle.laws.specs.Rising.{RisesIn};
 ghost use Rattle.laws.specs.Entry.{entry};
+ghost use Rattle.model.specs.Places.{startIn};
 ghost use Rattle.model.specs.SoundTest.{sound};
 ghost use Rattle.model.specs.Held.{planIn};
 ghost use Rattle.model.specs.Command.{choice};
@@ -18,29 +20,37 @@ ghost use Rattle.tables.specs.declared.Row.{Row};
 ghost use Rattle.tables.specs.Meaning.{held};
 ghost use Rattle.tables.specs.Spans.{spanAt, commandsOf};
 ghost use Rattle.tables.specs.Ready.{listTable, States, Ready};
-ghost use Rattle.choice.specs.Within.{within, commandHits, clear};
+ghost use Rattle.choice.specs.Within.{within, commandHit, commandHits, clear};
 use tables::Size;
 use tables::entries::NONE;
 use tables::entries::at;
 use tables::entries::start_of;
 use tables::spans::Span;
 
-// Whether some outcome at the places from `from` up to `end` is in the set.
-fn some_within(outcomes: &[u16], table: &[u16], limit: usize, from: usize, end: usize) -> bool
+// The lowest outcome in the set at the places from `from` up to `end`, or the entry FFFF. They rise, so it is the first that is found.
+fn lowest_within(
+    outcomes: &[u16],
+    table: &[u16],
+    limit: usize,
+    from: usize,
+    end: usize,
+) -> usize
     requires { ⌜ (from ≤ end) × (end ≤ length (now outcomes)) × ((j : ℕ) → j < end → getD (now outcomes) j 0 < length (now table)) ⌝ }
-    ensures { λ r. ⌜ r ≡ any (within (now (table .entry)) limit) (slice from end (now (outcomes .entry))) ⌝ }
+    requires { ⌜ RisesIn (now outcomes) from end ⌝ }
+    ensures { λ r. ⌜ r ≡ entry (least (within (now (table .entry)) limit) (slice from end (now (outcomes .entry)))) ⌝ }
 {
     let mut i = from;
     while i < end {
-        if at(table, at(outcomes, i)) <= limit {
-            return true;
+        let x = at(outcomes, i);
+        if at(table, x) <= limit {
+            return x;
         }
         i += 1;
     }
-    false
+    NONE
 }
 
-// Whether list i has an entry in the set.
+// The lowest entry of list i that is in the set, or the entry FFFF.
 fn list_hit(
     count: usize,
     end: usize,
@@ -49,18 +59,19 @@ fn list_hit(
     table: &[u16],
     limit: usize,
     i: usize,
-) -> bool
+) -> usize
     requires { ⌜ (i < count) × (count ≤ length (now firsts)) × Parts (now firsts) count end
         × States (length (now table)) end (now entries) ⌝ }
-    ensures { λ r. ⌜ r ≡ commandHits (listTable count end (now (firsts .entry)) (now (entries .entry))) (within (now (table .entry)) limit)
-        i ⌝ }
+    requires { ⌜ (let L = listTable count end (now firsts) (now entries) in RisesIn (now entries) (startIn L i) (startIn L (suc i))) ⌝ }
+    ensures { λ r. ⌜ r ≡ entry
+        (commandHit (listTable count end (now (firsts .entry)) (now (entries .entry))) (within (now (table .entry)) limit) i) ⌝ }
 {
     let from = start_of(firsts, count, end, i);
     let to = start_of(firsts, count, end, i + 1);
-    some_within(entries, table, limit, from, to)
+    lowest_within(entries, table, limit, from, to)
 }
 
-// Whether command c, counted over the whole plan, has an outcome in the set.
+// The lowest outcome in the set that command c has, counted over the whole plan, or the entry FFFF.
 pub fn command_hit(
     size: Size,
     firsts: &[u16],
@@ -68,10 +79,11 @@ pub fn command_hit(
     table: &[u16],
     limit: usize,
     c: usize,
-) -> bool
+) -> usize
     requires { ⌜ Ready (size .n) (commandsOf size (now firsts) (now outcomes)) ⌝ }
     requires { ⌜ (c < size .m) × (size .n ≤ length (now table)) ⌝ }
-    ensures { λ r. ⌜ r ≡ commandHits (commandsOf size (now (firsts .entry)) (now (outcomes .entry))) (within (now (table .entry)) limit) c ⌝ }
+    ensures { λ r. ⌜ r ≡ entry
+        (commandHit (commandsOf size (now (firsts .entry)) (now (outcomes .entry))) (within (now (table .entry)) limit) c) ⌝ }
 {
     list_hit(size.m, size.t, firsts, outcomes, table, limit, c)
 }
@@ -95,7 +107,7 @@ fn practice_clear(
     if count <= practice {
         return false;
     }
-    !command_hit(size, firsts, outcomes, table, limit, first + practice)
+    command_hit(size, firsts, outcomes, table, limit, first + practice) == NONE
 }
 
 // The first command from place `from` on, below place `to`, that has no outcome in the set; or `to`.
@@ -115,7 +127,7 @@ pub fn first_clear(
 {
     let mut c = from;
     while c < to {
-        if !command_hit(size, firsts, outcomes, table, limit, c) {
+        if command_hit(size, firsts, outcomes, table, limit, c) == NONE {
             return c;
         }
         c += 1;

@@ -2,20 +2,30 @@
 use mathlib.Core.Path.{_≡_}
 use mathlib.Core.Bool.{true}
 use mathlib.Core.List.{List}
-use Prim.Native.Nat.{ℕ, suc, _<_, _≤_}
+use Prim.Native.Nat.{ℕ, suc, _+_, _-_, _<_, _≤_}
+use native.Mathlib.Omega.{arith}
+use Rattle.laws.specs.Rising.{RisesIn}
 use Rattle.laws.proofs.Starts.{start-le}
 use Rattle.model.specs.File.{maxStates, maxCommands, maxOutcomes}
 use Rattle.model.specs.Tables.{Lists}
 use Rattle.model.specs.Places.{startIn}
 use Rattle.model.specs.Sound.{LongLists}
 use Rattle.model.specs.SoundTest.{sound}
-use Rattle.model.proofs.ListTable.{ListsFit, lists-ordered}
+use Rattle.model.proofs.ListTable.{ListFits, ListsFit, lists-ordered}
 use Rattle.model.proofs.SoundFacts.{sound-facts}
 use Rattle.tables.specs.declared.Row.{Row}
 use Rattle.tables.specs.declared.Size.{Size}
 use Rattle.tables.specs.Meaning.{held}
 use Rattle.tables.specs.Spans.{commandsOf}
 use Rattle.tables.specs.Ready.{Ready}
+
+-- a list rises from place to place
+list-rises : {least : ℕ} {L : Lists} {i : ℕ} → ListFits least L i → RisesIn (L .entries) (startIn L i) (startIn L (suc i))
+list-rises {L = L} {i = i} f = record {
+  next = λ j p q.
+      let back : startIn L i + (j - startIn L i) ≡ j = omega arith in
+      rw back at (f .sorted (j - startIn L i) (omega arith));
+}
 
 -- any list table within the limits that the test passes
 pub lists-ready : {least n : ℕ} {L : Lists} → n ≤ maxStates → L .count ≤ maxCommands → L .end ≤ maxOutcomes → LongLists L
@@ -29,6 +39,7 @@ lists-ready few few-commands few-entries long f =
       long-firsts = long .firsts;
       parts = record { zero = rise .start; rises = rise .step };
       states = record { few = few-entries; long = long .entries; inside = f .entries };
+      rising = λ i h. list-rises (f .lists i h);
     }
 
 pub sound-ready : (size : Size) (rows : List Row) (firsts outcomes : List ℕ) → sound (held size rows firsts outcomes) ≡ true

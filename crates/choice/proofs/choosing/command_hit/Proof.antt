@@ -7,7 +7,7 @@ list-hit-requires : tie.Need-list-hit-requires
 list-hit-requires c κs =
     let entry = c .before .before .before in
     let k = entry .pre in
-    (k .1 .0, k .0 .long-firsts, k .0 .parts, states-below (k .1 .1) (k .0 .states))
+    ((k .1 .0, k .0 .long-firsts, k .0 .parts, states-below (k .1 .1) (k .0 .states)), k .0 .rising _ (k .1 .0))
 
 returns : tie.Need-returns
 returns c = c .list-hit .ensures

@@ -1,12 +1,11 @@
 -- Every command from the first on has an outcome in the set when the loop comes to c, so the first that has none is the answer.
-use mathlib.Core.Path.{sym, _∙_}
 use Prim.Native.Nat.{_-_, _≤_}
 use native.Mathlib.Omega.{arith}
-use borrow.Author.Tests.{not-true, not-false}
 use Rattle.laws.specs.First.{FirstNot}
 use Rattle.laws.proofs.Tries.{first-start, first-next, first-stop, first-done}
 use Rattle.tables.specs.Spans.{commandsOf}
 use Rattle.choice.specs.Within.{within, commandHits}
+use Rattle.choice.proofs.Outcomes.{told-clear, told-hit}
 use Rattle.choice.proofs.choosing.first_clear.Statement.{statement}
 use Rattle.choice.proofs.choosing.first_clear.Tie as tie
 
@@ -28,8 +27,10 @@ command-hit-requires c κs =
 returns : tie.Need-returns Inv-loop μ-loop
 returns c =
     let turn = c .before .before .before in
-    first-stop (turn .loop .inv .1) _ (c .before .before .loop-test .taken)
-    (sym (c .before .command-hit .ensures) ∙ not-true _ (c .if1 .taken))
+    let entry = turn .before .before .before .before in
+    let below = c .before .before .loop-test .taken in
+    first-stop (turn .loop .inv .1) _ below
+    (told-clear (entry .pre .0) _ _ (omega (arith, entry .pre .1 .1, below)) _ (c .before .command-hit .ensures) (c .if1 .taken))
 
 add-c : tie.Need-add-c Inv-loop μ-loop
 add-c c =
@@ -41,10 +42,12 @@ loop-less c = omega (arith, c .before .before .loop-test .taken)
 
 loop-again : tie.Need-loop-again Inv-loop μ-loop
 loop-again c =
-    let turn = c .before .before .before in (
-      omega (arith, c .before .before .loop-test .taken),
+    let turn = c .before .before .before in
+    let entry = turn .before .before .before .before in
+    let below = c .before .before .loop-test .taken in (
+      omega (arith, below),
       first-next (turn .loop .inv .1)
-          (sym (c .before .command-hit .ensures) ∙ not-false _ (c .if1 .left)),
+          (told-hit (entry .pre .0) _ _ (omega (arith, entry .pre .1 .1, below)) _ (c .before .command-hit .ensures) (c .if1 .left)),
     )
 
 returns-2 : tie.Need-returns-2 Inv-loop μ-loop
