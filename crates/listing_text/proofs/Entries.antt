@@ -13,12 +13,20 @@ use Rattle.laws.proofs.Tests.{true-or-false}
 use Rattle.model.specs.Plan.{Plan}
 use Rattle.model.specs.Practice.{practiceFails, fault, mark}
 use Rattle.model.specs.Refusal.{Refusal, number}
-use Rattle.model.specs.Listing.{decimal, numberOrDash}
+use Rattle.model.specs.Listing.{decimal, numberOrDash, faultSign}
 use Rattle.model.proofs.Numbers.{number-bound}
 
 pub dash-word : (e : ℕ) → e ≡ FFFF → numberOrDash (fromEntry e) ≡ 45 ∷ []
 unfolding numberOrDash fromEntry
 dash-word e h = rw h
+
+pub dot-word : (e : ℕ) → e ≡ FFFF → faultSign (fromEntry e) ≡ 46 ∷ []
+unfolding faultSign fromEntry
+dot-word e h = rw h
+
+pub fault-word : (e : ℕ) → (e ≡ FFFF → ⊥) → faultSign (fromEntry e) ≡ 33 ∷ decimal e
+unfolding faultSign fromEntry
+fault-word e h = rw (ne-eqb e FFFF h)
 
 pub number-word : (e : ℕ) → (e ≡ FFFF → ⊥) → numberOrDash (fromEntry e) ≡ decimal e
 unfolding numberOrDash fromEntry

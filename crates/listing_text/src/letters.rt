@@ -3,9 +3,9 @@ ghost use mathlib.Core.Path.{_≡_};
 ghost use mathlib.Core.List.{[], _∷_};
 ghost use Prim.Native.Nat.{_%_};
 ghost use lib.Dec.{eqb, leb};
-ghost use Rattle.model.specs.Listing.{kindLetter, verdictLetter, practiceLetter, faultSign};
+ghost use Rattle.model.specs.Listing.{kindLetter, verdictLetter, practiceLetter};
 
-pub fn kind_letter(kind: u16) -> u8
+pub fn kind_letter(kind: usize) -> u8
     ensures { λ r. ⌜ r ∷ [] ≡ kindLetter kind ⌝ }
 {
     if kind == 0 {
@@ -34,14 +34,4 @@ pub fn practice_letter(mark: u16) -> u8
         return b'F';
     }
     b'H'
-}
-
-// A fault is where 2 was added to the mark.
-pub fn fault_sign(mark: u16) -> u8
-    ensures { λ r. ⌜ r ∷ [] ≡ faultSign (leb 2 mark) ⌝ }
-{
-    if 2 <= mark {
-        return b'!';
-    }
-    b'.'
 }

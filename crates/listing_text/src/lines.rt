@@ -47,26 +47,27 @@ pub fn put_plan_line(out: &mut [u8], place: usize, size: Size) -> usize
     put_one(out, end, END)
 }
 
-// The line of state s, from its kind and deciding's entries for it.
+// The line of state s, from its kind, deciding's entries for it, and the outcome that is named if it is a fault.
 pub fn put_state_line(
     out: &mut [u8],
     place: usize,
     s: usize,
-    kind: u16,
+    kind: usize,
     rank: u16,
     command: u16,
     mark: u16,
+    outcome: usize,
 ) -> usize
-    requires { ⌜ (place + 29 ≤ length (now out)) × (s < 1000000) ⌝ }
-    ensures wrote { λ r. ⌜ ((P : Plan) → Listed P s kind rank command mark
+    requires { ⌜ (place + 35 ≤ length (now out)) × (s < 1000000) × (outcome < 1000000) ⌝ }
+    ensures wrote { λ r. ⌜ ((P : Plan) → Listed P s kind rank command mark outcome
         → Wrote (now (out .entry)) place (stateLine P s) (now (out .exit)) r) ⌝ }
-    ensures ends { λ r. ⌜ r ≤ place + 29 ⌝ }
+    ensures ends { λ r. ⌜ r ≤ place + 35 ⌝ }
 {
     let second = put_decimal(out, place, s);
     let third = put_letter(out, second, kind_letter(kind));
     let fifth = put_verdict(out, third, rank);
     let sixth = put_entry(out, fifth, command);
-    let end = put_marks(out, sixth, mark);
+    let end = put_marks(out, sixth, mark, outcome);
     put_one(out, end, END)
 }
 

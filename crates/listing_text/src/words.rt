@@ -1,7 +1,7 @@
 // Words with a space before each.
 ghost use mathlib.Core.List.{[], _∷_};
 ghost use Prim.Native.Nat.{_+_, _%_, _<_, _≤_};
-ghost use lib.Dec.{eqb, leb};
+ghost use lib.Dec.{eqb};
 ghost use lib.ListN.{length, getD};
 ghost use Rattle.laws.specs.Entry.{fromEntry};
 ghost use Rattle.laws.specs.Sets.{found};
@@ -9,7 +9,6 @@ ghost use Rattle.laws.specs.Wrote.{Wrote};
 ghost use Rattle.model.specs.Listing.{decimal, verdictLetter, numberOrDash, practiceLetter, faultSign};
 ghost use Rattle.listing_text.specs.Words.{spaced};
 use crate::digits::put_decimal;
-use crate::letters::fault_sign;
 use crate::letters::practice_letter;
 use crate::letters::verdict_letter;
 use tables::bytes::put_both;
@@ -81,13 +80,26 @@ pub fn put_verdict(out: &mut [u8], place: usize, rank: u16) -> usize
     put_entry(out, next, rank)
 }
 
-// What a mark says of the practice.
-pub fn put_marks(out: &mut [u8], place: usize, mark: u16) -> usize
-    requires { ⌜ place + 4 ≤ length (now out) ⌝ }
-    ensures wrote { λ r. ⌜ Wrote (now (out .entry)) place (spaced (practiceLetter (eqb (mark % 2) 1) ∷ faultSign (leb 2 mark) ∷ []))
-        (now (out .exit)) r ⌝ }
-    ensures ends { λ r. ⌜ r ≤ place + 4 ⌝ }
+// The sign of a fault and the outcome that is named there, or a dot where none is.
+fn put_fault(out: &mut [u8], place: usize, outcome: usize) -> usize
+    requires { ⌜ (place + 8 ≤ length (now out)) × (outcome < 1000000) ⌝ }
+    ensures wrote { λ r. ⌜ Wrote (now (out .entry)) place (spaced (faultSign (fromEntry outcome) ∷ [])) (now (out .exit)) r ⌝ }
+    ensures ends { λ r. ⌜ r ≤ place + 8 ⌝ }
+{
+    if outcome == tables::entries::NONE {
+        return put_letter(out, place, b'.');
+    }
+    let next = put_both(out, place, SPACE, b'!');
+    put_decimal(out, next, outcome)
+}
+
+// What is said of the practice: whether it fails, by the mark, and the fault.
+pub fn put_marks(out: &mut [u8], place: usize, mark: u16, outcome: usize) -> usize
+    requires { ⌜ (place + 10 ≤ length (now out)) × (outcome < 1000000) ⌝ }
+    ensures wrote { λ r. ⌜ Wrote (now (out .entry)) place
+        (spaced (practiceLetter (eqb (mark % 2) 1) ∷ faultSign (fromEntry outcome) ∷ [])) (now (out .exit)) r ⌝ }
+    ensures ends { λ r. ⌜ r ≤ place + 10 ⌝ }
 {
     let next = put_letter(out, place, practice_letter(mark));
-    put_letter(out, next, fault_sign(mark))
+    put_fault(out, next, outcome)
 }

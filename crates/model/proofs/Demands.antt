@@ -6,8 +6,8 @@ use mathlib.Core.Option.{Option, none, some}
 use Prim.Native.Nat.{ℕ, _<_}
 use native.Mathlib.Omega.{arith}
 use lib.ListN.{getD}
-use borrow.Author.Tests.{ne-eqb}
 use Rattle.laws.specs.Entry.{FFFF, entry, fromEntry}
+use Rattle.laws.proofs.EntryFound.{from-entry}
 use Rattle.model.specs.Plan.{Plan, Valid}
 use Rattle.model.specs.Verdict.{rank, lost}
 use Rattle.model.specs.Command.{chosen}
@@ -17,16 +17,6 @@ use Rattle.model.proofs.Choices.{choice-some}
 use Rattle.model.proofs.Layers.{rank-bound, rank-safe, chosen-choice}
 use Rattle.model.proofs.Deciding.{decided}
 use Rattle.model.proofs.Searching.{Answers, search-answers}
-
-from-number : (i : ℕ) → i < 65535 → fromEntry i ≡ some i
-unfolding fromEntry
-from-number i l = rw (ne-eqb i 65535 (λ q. omega arith))
-
--- an entry is read as what it holds
-from-entry : (o : Option ℕ) → ((i : ℕ) → o ≡ some i → i < 65535) → fromEntry (entry o) ≡ o
-unfolding entry fromEntry
-from-entry none h = refl
-from-entry (some i) h = from-number i (h i refl)
 
 -- the entries of deciding's tables are read as what they hold
 module _ (P : Plan) (S : Valid P) (few : P .states < 65535) (fit : (s : ℕ) → s < P .states → P .commands s < 65535) where

@@ -10,8 +10,10 @@ use native.Mathlib.Omega.{arith}
 use lib.ListN.{getD, drop}
 use borrow.Author.Tests.{ltb-true}
 use Rattle.laws.specs.Sets.{least, found}
+use Rattle.laws.specs.Entry.{FFFF, entry, fromEntry}
 use Rattle.laws.proofs.Tests.{clash, true-or-false, refute, and-both}
 use Rattle.laws.proofs.Sets.{found-is}
+use Rattle.laws.proofs.EntryFound.{from-entry}
 use Rattle.laws.proofs.Least.{least-some, least-eq}
 use Rattle.model.specs.Plan.{Plan, Valid, hasPractice}
 use Rattle.model.specs.Verdict.{hit, hits, lost, safe}
@@ -77,13 +79,19 @@ module _ (P : Plan) (s : ℕ) where
           not-below y m t (yes h) = clash t (q .lowest y h m)
           not-below y m t (no h) = omega arith
 
--- in print: of a plan of few states, whose numbers are printed apart
-module _ (P : Plan) (valid : Valid P) (few : P .states ≤ maxStates) (s x : ℕ) (l : s < P .states) (h : x < P .states) where
-  inside : (y : ℕ) → faultOutcome P s ≡ some y → y < P .states
-  inside y e =
+-- it is a state
+module _ (P : Plan) (valid : Valid P) (s : ℕ) (l : s < P .states) where
+  pub named-inside : (y : ℕ) → faultOutcome P s ≡ some y → y < P .states
+  named-inside y e =
       let (f, q) = fault-named P s y .0 e in
       valid .inside s (P .practice s) y l (fault-given P s f) (q .outcome)
 
+  -- so an entry holds it
+  pub named-entry : P .states < FFFF → fromEntry (entry (faultOutcome P s)) ≡ faultOutcome P s
+  named-entry few = from-entry (faultOutcome P s) (λ y e. omega (arith, named-inside y e))
+
+-- in print: of a plan of few states, whose numbers are printed apart
+module _ (P : Plan) (valid : Valid P) (few : P .states ≤ maxStates) (s x : ℕ) (l : s < P .states) (h : x < P .states) where
   -- a sign that names a number is that number's
   same-sign : (o : Option ℕ) → ((y : ℕ) → o ≡ some y → y < P .states) → faultSign o ≡ 33 ∷ decimal x → o ≡ some x
   unfolding faultSign
@@ -95,6 +103,6 @@ module _ (P : Plan) (valid : Valid P) (few : P .states ≤ maxStates) (s x : ℕ
   pub fault-printed : (faultSign (faultOutcome P s) ≡ 33 ∷ decimal x) ↔ ((fault P s ≡ true) × LowestLost P s x)
   unfolding faultSign
   fault-printed = (
-    λ e. fault-named P s x .0 (same-sign (faultOutcome P s) inside e),
+    λ e. fault-named P s x .0 (same-sign (faultOutcome P s) (named-inside P valid s l) e),
     λ q. ap faultSign (fault-named P s x .1 q),
   )
