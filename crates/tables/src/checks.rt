@@ -129,7 +129,8 @@ fn list_sound(
     if to <= from {
         return true;
     }
-    if n <= at(entries, to - 1) {
+    let last = to - 1;
+    if n <= at(entries, last) {
         return false;
     }
     rises(entries, from, to - from - 1)

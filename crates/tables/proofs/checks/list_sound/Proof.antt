@@ -56,8 +56,8 @@ returns-3 c =
       last-none _ _ _ _ (c .if3 .taken),
     ))
 
-sub-at : tie.Need-sub-at
-sub-at c = search needs
+sub-last : tie.Need-sub-last
+sub-last c = search needs
 
 at-requires : tie.Need-at-requires
 at-requires c κs = search needs
@@ -112,7 +112,7 @@ list-sound-spec =
     returns
     returns-2
     returns-3
-    sub-at
+    sub-last
     at-requires
     returns-4
     sub-rises
