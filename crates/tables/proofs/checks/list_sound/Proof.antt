@@ -1,6 +1,8 @@
 -- Where the list begins and ends decides the first two parts of the test; without entries the other two hold, else they are read.
 use mathlib.Core.Path.{_∙_}
 use mathlib.Core.Bool.{and-true, and-false}
+use Prim.Native.Nat.{_≤_}
+use native.Mathlib.Omega.{arith}
 use borrow.Author.Needs.{needs}
 use borrow.Author.Tests.{lt-leb, le-leb, lt-ltb, le-ltb}
 use Rattle.laws.proofs.Loops.{stopped, passed}
@@ -47,13 +49,14 @@ returns-3 c =
     let past-start-of = past-start-of2 .before in
     let entry = past-start-of .before .before .before in
     let a = entry .args in
+    let none : past-start-of2 .start-of2 .result ≤ past-start-of .start-of .result = omega arith in
     rw (list-test (a .least) (a .n) (listTable (a .count) (a .end) (a .firsts .now) (a .entries .now)) _ _ _
     (past-start-of .start-of .ensures) (past-start-of2 .start-of2 .ensures))
     (rw (
       passed (past-at-least .at-least .ensures) (c .before .before .if1 .left),
       le-leb _ _ (c .before .if2 .left),
-      no-entries _ _ _ (c .if3 .taken),
-      last-none _ _ _ _ (c .if3 .taken),
+      no-entries _ _ _ none,
+      last-none _ _ _ _ none,
     ))
 
 sub-last : tie.Need-sub-last
@@ -71,7 +74,7 @@ returns-4 c =
     let a = entry .args in
     rw (list-test (a .least) (a .n) (listTable (a .count) (a .end) (a .firsts .now) (a .entries .now)) _ _ _
     (past-start-of .start-of .ensures) (past-start-of2 .start-of2 .ensures))
-    (simp (last-test _ (a .entries .now) _ _ _ (branch3 .if3 .left) (c .before .at .ensures) ∙ le-ltb _ _ (c .if4 .taken), and-false))
+    (simp (last-test _ (a .entries .now) _ _ _ (branch3 .if3 .left) (c .before .at .ensures) ∙ le-ltb _ (a .n) (omega arith), and-false))
 
 sub-rises : tie.Need-sub-rises
 sub-rises c = search needs
