@@ -6,7 +6,7 @@ use native.Mathlib.Numerals.{add-one}
 use native.Mathlib.Omega.{arith}
 use borrow.Author.Tests.{lt-ltb, le-ltb}
 use lib.ListN.{getD}
-use Rattle.laws.proofs.Rising.{rises}
+use Rattle.laws.proofs.Rising.{rises, between}
 use Rattle.laws.specs.Starts.{startOf, Parts}
 
 module _ (starts : List ℕ) (count end : ℕ) where
@@ -21,6 +21,11 @@ module _ (starts : List ℕ) (count end : ℕ) where
   -- of the code's i + 1
   pub start-next : (i : ℕ) → startOf starts count end (i + 1) ≡ startOf starts count end (suc i)
   start-next i = ap (startOf starts count end) (add-one i)
+
+  -- where the parts begin at 0, each place up to the end is in one
+  pub part-of : startOf starts count end 0 ≡ 0 → (j : ℕ) → j < end
+      → (i : ℕ) × (i < count) × (startOf starts count end i ≤ j) × (j < startOf starts count end (suc i))
+  part-of z j h = between (startOf starts count end) j count (omega arith) (omega (arith, start-out count (omega arith)))
 
   module _ (P : Parts starts count end) where
     pub start-order : (i j : ℕ) → i ≤ j → j ≤ count → startOf starts count end i ≤ startOf starts count end j

@@ -39,7 +39,7 @@ pub record ListsFit (least n : ℕ) (L : Lists) : Type 0 where
   pub lists : (i : ℕ) → i < L .count → ListFits least L i
   pub entries : (j : ℕ) → j < L .end → getD (L .entries) j 0 < n
 
-list-iff : (least : ℕ) (L : Lists) (i : ℕ) → (listSound least L i ≡ true) ↔ ListFits least L i
+pub list-iff : (least : ℕ) (L : Lists) (i : ℕ) → (listSound least L i ≡ true) ↔ ListFits least L i
 unfolding listSound risesAt
 list-iff least L i = (
   λ e.
@@ -48,7 +48,7 @@ list-iff least L i = (
   λ f. simp (and-iff, leb-iff, every-iff) ((f .rises, f .below), f .sorted),
 )
 
-entry-iff : (n : ℕ) (entries : List ℕ) (j : ℕ) → (entrySound n entries j ≡ true) ↔ (getD entries j 0 < n)
+pub entry-iff : (n : ℕ) (entries : List ℕ) (j : ℕ) → (entrySound n entries j ≡ true) ↔ (getD entries j 0 < n)
 unfolding entrySound
 entry-iff n entries j = leb-iff _ _
 

@@ -3,6 +3,7 @@ pub mod RowPlaces
 pub mod Made
 pub mod SpanFacts
 pub mod ListTest
+pub mod Lasts
 pub mod LongTest
 pub mod StoredRows
 pub mod Filling

@@ -1,4 +1,4 @@
--- The tests of a list and of an entry, by what is read of them.
+-- The test of a list, by what is read of it.
 use mathlib.Core.Path.{_≡_, sym, ap, _∙_}
 use mathlib.Core.Bool.{Bool, true, false, _&&_}
 use mathlib.Core.List.{List}
@@ -15,10 +15,7 @@ use Rattle.model.specs.Tables.{Lists}
 use Rattle.model.specs.Places.{startIn}
 use Rattle.model.specs.SoundTest.{risesAt, after, listSound, entrySound}
 use Rattle.model.proofs.ListTable.{after-is}
-
-pub entry-test : (n : ℕ) (entries : List ℕ) (j x : ℕ) → x ≡ getD entries j 0 → entrySound n entries j ≡ ltb x n
-unfolding entrySound
-entry-test n entries j x p = rw p
+use Rattle.tables.specs.Lasts.{lastBelow, listBelow}
 
 -- two entries in a row, at the places j and j + 1
 pub rises-test : (entries : List ℕ) (j x y : ℕ) → x ≡ getD entries j 0 → y ≡ getD entries (j + 1) 0 → risesAt entries j ≡ ltb x y
@@ -26,14 +23,24 @@ unfolding risesAt
 rises-test entries j x y p q = rw (p, q, add-one j)
 
 -- a list whose entries are from place a up to place e
-pub list-test : (least : ℕ) (L : Lists) (i a e : ℕ) → a ≡ startIn L i → e ≡ startIn L (i + 1)
-    → listSound least L i ≡ (leb (after least a) e && leb e (L .end) && every (λ k. risesAt (L .entries) (a + k)) (e - a - 1))
-unfolding listSound
-list-test least L i a e p q = rw (p, q, add-one i)
+pub list-test : (least n : ℕ) (L : Lists) (i a e : ℕ) → a ≡ startIn L i → e ≡ startIn L (i + 1)
+    → listBelow least n L i ≡ (leb (after least a) e && leb e (L .end) && every (λ k. risesAt (L .entries) (a + k)) (e - a - 1)
+    && lastBelow n (L .entries) a e)
+unfolding listBelow listSound
+list-test least n L i a e p q = rw (p, q, add-one i)
 
 -- one without entries
 pub no-entries : (f : ℕ → Bool) (a e : ℕ) → e ≤ a → every f (e - a - 1) ≡ true
 no-entries f a e h = let none : e - a - 1 ≡ 0 = omega arith in ap (every f) none ∙ every-none f
+
+pub last-none : (n : ℕ) (entries : List ℕ) (a e : ℕ) → e ≤ a → lastBelow n entries a e ≡ true
+unfolding lastBelow
+last-none n entries a e h = rw (le-leb e a h)
+
+-- one whose last entry is x
+pub last-test : (n : ℕ) (entries : List ℕ) (a e x : ℕ) → a < e → x ≡ getD entries (e - 1) 0 → lastBelow n entries a e ≡ ltb x n
+unfolding lastBelow entrySound
+last-test n entries a e x h p = rw (lt-leb e a h, p)
 
 -- how many places there are
 module _ (least from to : ℕ) where

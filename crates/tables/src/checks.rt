@@ -5,11 +5,12 @@ ghost use Prim.Native.Nat.{ℕ, _<_, _≤_, _+_, _-_};
 ghost use lib.Dec.{leb};
 ghost use lib.ListN.{length};
 ghost use Rattle.laws.specs.Sets.{every};
-ghost use Rattle.model.specs.SoundTest.{sizeSound, tablesLong, rowSound, risesAt, after, listSound, entrySound, listsSound};
+ghost use Rattle.model.specs.SoundTest.{sizeSound, tablesLong, rowSound, risesAt, after, listsSound};
 ghost use Rattle.tables.specs.declared.Row.{Row};
 ghost use Rattle.tables.specs.Meaning.{held, numbers};
 ghost use Rattle.tables.specs.Spans.{spanSound};
 ghost use Rattle.tables.specs.Ready.{listTable};
+ghost use Rattle.tables.specs.Lasts.{listBelow};
 use crate::Row;
 use crate::Size;
 use crate::entries::at;
@@ -104,9 +105,10 @@ fn at_least(least: usize, from: usize, to: usize) -> bool
     least <= to - from
 }
 
-// List i has at least so many entries, and they rise.
+// List i has at least so many entries, they rise, and the last is below n, if there is one: then all are.
 fn list_sound(
     least: usize,
+    n: usize,
     count: usize,
     end: usize,
     firsts: &[u16],
@@ -114,7 +116,7 @@ fn list_sound(
     i: usize,
 ) -> bool
     requires { ⌜ (count ≤ length (now firsts)) × (end ≤ length (now entries)) × (i < count) ⌝ }
-    ensures { λ r. ⌜ r ≡ listSound least (listTable count end (now (firsts .entry)) (now (entries .entry))) i ⌝ }
+    ensures { λ r. ⌜ r ≡ listBelow least n (listTable count end (now (firsts .entry)) (now (entries .entry))) i ⌝ }
 {
     let from = start_of(firsts, count, end, i);
     let to = start_of(firsts, count, end, i + 1);
@@ -127,34 +129,30 @@ fn list_sound(
     if to <= from {
         return true;
     }
+    let last = to - 1;
+    if n <= at(entries, last) {
+        return false;
+    }
     rises(entries, from, to - from - 1)
 }
 
-fn each_list_sound(least: usize, count: usize, end: usize, firsts: &[u16], entries: &[u16]) -> bool
+fn each_list_sound(
+    least: usize,
+    n: usize,
+    count: usize,
+    end: usize,
+    firsts: &[u16],
+    entries: &[u16],
+) -> bool
     requires { ⌜ (count ≤ length (now firsts)) × (end ≤ length (now entries)) ⌝ }
-    ensures { λ r. ⌜ r ≡ every (listSound least (listTable count end (now (firsts .entry)) (now (entries .entry)))) count ⌝ }
+    ensures { λ r. ⌜ r ≡ every (listBelow least n (listTable count end (now (firsts .entry)) (now (entries .entry)))) count ⌝ }
 {
     let mut i = 0;
     while i < count {
-        if !list_sound(least, count, end, firsts, entries, i) {
+        if !list_sound(least, n, count, end, firsts, entries, i) {
             return false;
         }
         i += 1;
-    }
-    true
-}
-
-// The entries up to place `end` are below n.
-fn entries_sound(n: usize, end: usize, entries: &[u16]) -> bool
-    requires { ⌜ end ≤ length (now entries) ⌝ }
-    ensures { λ r. ⌜ r ≡ every (entrySound n (now (entries .entry))) end ⌝ }
-{
-    let mut j = 0;
-    while j < end {
-        if n <= at(entries, j) {
-            return false;
-        }
-        j += 1;
     }
     true
 }
@@ -174,8 +172,5 @@ pub fn lists_sound(
     if start_of(firsts, count, end, 0) != 0 {
         return false;
     }
-    if !each_list_sound(least, count, end, firsts, entries) {
-        return false;
-    }
-    entries_sound(n, end, entries)
+    each_list_sound(least, n, count, end, firsts, entries)
 }

@@ -5,16 +5,16 @@ use Prim.Native.Nat.{_-_}
 use native.Mathlib.Omega.{arith}
 use Rattle.laws.specs.Sets.{every}
 use Rattle.laws.proofs.Loops.{stopped, passed, every-none, every-next, every-stop, every-done}
-use Rattle.model.specs.SoundTest.{listSound}
+use Rattle.tables.specs.Lasts.{listBelow}
 use Rattle.tables.specs.Ready.{listTable}
 use Rattle.tables.proofs.checks.each_list_sound.Statement.{statement}
 use Rattle.tables.proofs.checks.each_list_sound.Tie as tie
 
 abbrev Inv-loop : tie.InvT-loop
-Inv-loop least count end firsts entries i₀ i = every (listSound least (listTable count end firsts entries)) i ≡ true
+Inv-loop least n count end firsts entries i₀ i = every (listBelow least n (listTable count end firsts entries)) i ≡ true
 
 abbrev μ-loop : tie.MeasureT-loop
-μ-loop least count end firsts entries i₀ i = count - i
+μ-loop least n count end firsts entries i₀ i = count - i
 
 loop-holds : tie.Need-loop-holds Inv-loop μ-loop
 loop-holds c = every-none _
