@@ -10,17 +10,22 @@ use lib.Dec.{eqb, ltb}
 use lib.ListN.{length, getD}
 use lib.Seq.{slice}
 use borrow.Author.Tests.{lt-ltb, ne-eqb, not-true, not-false}
-use Rattle.laws.specs.Sets.{least, found}
+use Rattle.laws.specs.Sets.{any, least, found}
 use Rattle.laws.specs.Entry.{FFFF, entry}
 use Rattle.laws.specs.Rising.{RisesIn}
 use Rattle.laws.specs.Starts.{Parts}
-use Rattle.laws.proofs.Least.{least-some}
+use Rattle.laws.proofs.Least.{least-some, found-least}
 use Rattle.laws.proofs.Slices.{slice-at}
 use Rattle.laws.proofs.Starts.{start-next, start-le}
 use Rattle.model.specs.Tables.{Lists}
 use Rattle.model.specs.Places.{startIn, listAt}
 use Rattle.tables.specs.Ready.{States, Ready}
 use Rattle.choice.specs.Within.{commandHit, commandHits, clear}
+
+-- a command has an outcome in the set if some entry of its list is in it
+pub command-hits-any : (L : Lists) (K : ℕ → Bool) (c : ℕ) → commandHits L K c ≡ any K (listAt L c)
+unfolding commandHits commandHit
+command-hits-any L K c = found-least K (listAt L c)
 
 -- states below n are below more
 pub states-below : {n k end : ℕ} {entries : List ℕ} → n ≤ k → States n end entries → States k end entries

@@ -1,6 +1,6 @@
 -- Laws of the least member of a list that passes a test: what it is, that there is one exactly if some member passes, and that in a part of
 -- a table whose entries rise it is the first.
-use mathlib.Core.Path.{_≡_, refl, sym, ap, _∙_, subst}
+use mathlib.Core.Path.{_≡_, refl, sym, ap, ap₂, _∙_, subst}
 use mathlib.Core.Bool.{Bool, true, false, not, cond}
 use mathlib.Core.Logic.{⊎-elim}
 use mathlib.Core.List.{List, [], _∷_, List·Memᴰ, List·Memᴰ·head, List·Memᴰ·tail, List·Memᴰ·not-nil, List·Memᴰ·cases-cons}
@@ -92,6 +92,14 @@ module _ (f : ℕ → Bool) where
       go none e = same-test false (any f xs) (λ t. clash t refl)
           (λ t. let (x, m, h) = any-hit f xs t in clash h (least-none xs e x m))
       go (some x) e = let (m, h, low) = least-some xs x e in sym (any-of f xs m h)
+
+-- tests that agree on the members have the same least
+pub least-same : (f g : ℕ → Bool) (xs : List ℕ) → ((x : ℕ) → List·Memᴰ x xs → f x ≡ g x) → least f xs ≡ least g xs
+unfolding least
+least-same f g [] h = refl
+least-same f g (x ∷ xs) h =
+    ap₂ (λ (b : Bool) (o : Option ℕ). cond b (some (lesser x o)) o) (h x (List·Memᴰ·head refl))
+    (least-same f g xs (λ y m. h y (List·Memᴰ·tail m)))
 
 -- ---- in a part of a table
 

@@ -1,14 +1,17 @@
 -- What deciding leaves of a sound plan: tables that hold what the lines of the states say, and the tally.
-use mathlib.Core.Path.{_≡_, refl, ap, _∙_}
+use mathlib.Core.Path.{_≡_, refl, sym, ap, _∙_}
 use mathlib.Core.Bool.{true}
 use mathlib.Core.List.{List, [], _∷_}
 use Prim.Native.Nat.{ℕ, _<_, _≤_}
 use native.Mathlib.Omega.{arith}
-use lib.ListN.{length, getD, List·getD-map}
-use Rattle.model.specs.Practice.{tally}
+use lib.ListN.{length, getD}
+use Rattle.laws.specs.Entry.{entry}
+use Rattle.laws.specs.Lists.{overwrite}
+use Rattle.laws.proofs.Overwrites.{overwrite-at}
+use Rattle.model.specs.Verdict.{rank}
+use Rattle.model.specs.Practice.{mark, faultOutcome, tally}
 use Rattle.model.specs.Refusal.{given, answer}
-use Rattle.model.specs.Tables.{Row as ModelRow, Tables}
-use Rattle.model.specs.Places.{rowAt}
+use Rattle.model.specs.Tables.{Tables}
 use Rattle.model.specs.Held.{treeOf, planIn}
 use Rattle.model.specs.SoundTest.{sound}
 use Rattle.model.specs.Calls.{left, deciding, rankTable, commandTable, markTable}
@@ -20,15 +23,16 @@ use Rattle.model.proofs.SoundFacts.{sound-facts}
 use Rattle.model.proofs.Valid.{sound-valid, few-states, few-commands}
 use Rattle.tables.specs.declared.Row.{Row}
 use Rattle.tables.specs.declared.Size.{Size}
-use Rattle.tables.specs.Meaning.{rowOf, held}
-use Rattle.tables.specs.Spans.{noRow}
+use Rattle.tables.specs.Meaning.{held}
 use Rattle.tables.proofs.LongTest.{rows-long}
 use Rattle.decide.specs.declared.Decision.{Decision}
 use Rattle.decide.specs.declared.DecideAnswer.{DecideAnswer}
 use Rattle.decide.specs.declared.DecideAnswer.the-variants.{Given, Refused}
 use Rattle.decide.specs.Answers.{answerWith, decisionOf}
+use Rattle.listing_text.specs.Listed.{Listed}
 use Rattle.listing_text.proofs.StateLine.{listed-tables}
 use Rattle.listing.specs.AllListed.{AllListed}
+use Rattle.listing.proofs.Named.{named-is, named-given}
 
 -- tables of these lengths hold every plan's entries
 abbrev pub Long : ℕ → ℕ → ℕ → ℕ → Type 0
@@ -39,6 +43,36 @@ counts : (a : DecideAnswer) (t u : List (List ℕ)) → answerWith t a ≡ given
 counts Given t u e = given-inj e
 counts (Refused r) t u e = absurd (not-both e)
 
+-- the tables that deciding leaves list every state
+decided-listed : (T : Tables) → sound T ≡ true → (ranks commands marks : List ℕ)
+    → AllListed T (overwrite (rankTable (planIn T)) ranks) (overwrite (commandTable (planIn T)) commands)
+    (overwrite (markTable (planIn T)) marks)
+unfolding rankTable markTable planIn
+decided-listed T e ranks commands marks = record {
+  line = λ s h.
+      let l = in-plan h in
+      rw (kind-held T s h, ap entry (sym (named-is T e _ is-rank s _ h (is-mark s l)))) at (entries s l);
+  given = λ s h. named-given T e _ is-rank s _ h (is-mark s (in-plan h));
+}
+  where
+    in-plan : {s : ℕ} → s < T .size .n → s < planIn T .states
+    in-plan h = rw (states-held T) h
+
+    is-rank : (x : ℕ) → x < planIn T .states → getD (overwrite (rankTable (planIn T)) ranks) x 0 ≡ entry (rank (planIn T) x)
+    is-rank x h = overwrite-at _ (planIn T .states) ranks x h
+
+    is-mark : (s : ℕ) → s < planIn T .states → getD (overwrite (markTable (planIn T)) marks) s 0 ≡ mark (planIn T) s
+    is-mark s h = overwrite-at (mark (planIn T)) (planIn T .states) marks s h
+
+    entries : (s : ℕ) → s < planIn T .states
+        → Listed (planIn T) s (planIn T .kind s) (getD (overwrite (rankTable (planIn T)) ranks) s 0)
+        (getD (overwrite (commandTable (planIn T)) commands) s 0) (getD (overwrite (markTable (planIn T)) marks) s 0)
+        (entry (faultOutcome (planIn T) s))
+    entries =
+        let g = sound-good T e in
+        listed-tables (planIn T) (sound-valid T e) (omega (arith, few-states (treeOf T) g))
+        (λ s h. omega (arith, few-commands (treeOf T) g s h)) ranks commands marks
+
 module _ (z : Size) (rows : List Row) (firsts outcomes : List ℕ) (e : sound (held z rows firsts outcomes) ≡ true) where
   abbrev T : Tables
   T = held z rows firsts outcomes
@@ -48,10 +82,6 @@ module _ (z : Size) (rows : List Row) (firsts outcomes : List ℕ) (e : sound (h
 
   pub long-rows : z .n ≤ length rows
   long-rows = rows-long rows (z .n) (sound-facts T .0 e .long .rows)
-
-  kind-read : (s : ℕ) → s < z .n → planIn T .kind s ≡ getD rows s noRow .kind
-  unfolding rowAt
-  kind-read s h = kind-held T s h ∙ ap (λ (r : ModelRow). r .kind) (List·getD-map rowOf rows s noRow)
 
   -- the lengths of the tables lent to it
   module _ {R C M S : ℕ} where
@@ -67,13 +97,9 @@ module _ (z : Size) (rows : List Row) (firsts outcomes : List ℕ) (e : sound (h
 
     pub all-listed : (rs cs ms : List ℕ) {rs′ cs′ ms′ : List ℕ} → rs′ ≡ left rankTable (deciding T R C M S) rs → cs′
         ≡ left commandTable (deciding T R C M S) cs
-        → ms′ ≡ left markTable (deciding T R C M S) ms → Long R C M S → AllListed (planIn T) (z .n) rows rs′ cs′ ms′
-    unfolding left planIn
-    all-listed rs cs ms er ec em long =
-        let g = sound-good T e in
-        let entries = listed-tables (planIn T) (sound-valid T e) (omega (arith, few-states (treeOf T) g))
-        (λ s h. omega (arith, few-commands (treeOf T) g s h)) rs cs ms in
-        rw (er, ec, em, answers long) (record { line = λ s h. rw (kind-read s h) at (entries s (rw (states-held T) h)) })
+        → ms′ ≡ left markTable (deciding T R C M S) ms → Long R C M S → AllListed T rs′ cs′ ms′
+    unfolding left
+    all-listed rs cs ms er ec em long = rw (er, ec, em, answers long) (decided-listed T e rs cs ms)
 
     pub tallied : (d : Decision) → decisionOf d ≡ answer tally (deciding T R C M S) → Long R C M S → d .safe ∷ d .lost ∷ []
         ≡ tally (planIn T)

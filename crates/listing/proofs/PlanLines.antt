@@ -26,9 +26,9 @@ module _ (P : Plan) (n : ℕ) where
   stateLines = joined (tabulate (stateLine P) 0 n)
 
   -- the tally's line, after the states'
-  pub tally-room : {l after : List ℕ} {place next : ℕ} → place + n * 29 + 50 ≤ length l → Wrote l place stateLines after next → next
+  pub tally-room : {l after : List ℕ} {place next : ℕ} → place + n * 35 + 50 ≤ length l → Wrote l place stateLines after next → next
       + 50 ≤ length after
-  tally-room room w = omega (arith, room, joined-bound (stateLine P) 0 n 29 (state-length P), w .past, wrote-length w)
+  tally-room room w = omega (arith, room, joined-bound (stateLine P) 0 n 35 (state-length P), w .past, wrote-length w)
 
 module _ (T : Tables) (e : sound T ≡ true) where
   abbrev verdictLines : List ℕ
@@ -59,7 +59,7 @@ module _ (T : Tables) (e : sound T ≡ true) where
       (omega (arith, f .few), omega (arith, f .few-commands), omega (arith, f .few-outcomes))
 
   module _ {l₀ l₁ : List ℕ} {i₁ : ℕ} (long : 65536 ≤ length l₀) (first : Wrote l₀ 0 (planLine (T .size)) l₁ i₁) where
-    pub verdicts-room : i₁ + T .size .n * 29 + 50 ≤ length l₁
+    pub verdicts-room : i₁ + T .size .n * 35 + 50 ≤ length l₁
     verdicts-room = omega (arith, long, sound-facts T .0 e .size .few, plan-length (T .size), first .past, wrote-length first)
 
     module _ {l₂ : List ℕ} {i₂ : ℕ} (verdicts : Wrote l₁ i₁ verdictLines l₂ i₂) where
@@ -72,7 +72,7 @@ module _ (T : Tables) (e : sound T ≡ true) where
             plan-length (T .size),
             first .past,
             wrote-length first,
-            joined-bound (stateLine (planIn T)) 0 (T .size .n) 29 (state-length (planIn T)),
+            joined-bound (stateLine (planIn T)) 0 (T .size .n) 35 (state-length (planIn T)),
             tally-length (tally (planIn T)),
             length-append (stateLines (planIn T) (T .size .n)) (tallyLine (tally (planIn T))),
             verdicts .past,

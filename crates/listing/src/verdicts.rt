@@ -34,7 +34,7 @@ pub fn list_verdicts(
     out: &mut [u8],
     place: usize,
 ) -> usize
-    requires { ⌜ (sound (held size (now rows) (now firsts) (now outcomes)) ≡ true) × (place + size .n * 29 + 50 ≤ length (now out)) ⌝ }
+    requires { ⌜ (sound (held size (now rows) (now firsts) (now outcomes)) ≡ true) × (place + size .n * 35 + 50 ≤ length (now out)) ⌝ }
     ensures { λ r. ⌜ Wrote (now (out .entry)) place
         (joined (tabulate (stateLine (planIn (held size (now (rows .entry)) (now (firsts .entry)) (now (outcomes .entry))))) 0 (size .n))
         ++ tallyLine (tally (planIn (held size (now (rows .entry)) (now (firsts .entry)) (now (outcomes .entry)))))) (now (out .exit)) r ⌝ }
@@ -53,6 +53,16 @@ pub fn list_verdicts(
         &mut marks,
         &mut scratch,
     );
-    let tally = list_states(size.n, rows, &ranks, &commands, &marks, out, place);
+    let tally = list_states(
+        size,
+        rows,
+        firsts,
+        outcomes,
+        &ranks,
+        &commands,
+        &marks,
+        out,
+        place,
+    );
     put_tally(d, out, tally)
 }

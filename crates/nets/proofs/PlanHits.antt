@@ -20,6 +20,7 @@ use Rattle.model.proofs.Choices.{choice-some, choice-same}
 use Rattle.model.proofs.HeldPlan.{states-held, commands-held}
 use Rattle.model.proofs.Valid.{sound-valid}
 use Rattle.choice.proofs.Choices.{hits-held}
+use Rattle.choice.proofs.Outcomes.{command-hits-any}
 use Rattle.tables.specs.declared.Row.{Row}
 use Rattle.tables.specs.declared.Size.{Size}
 use Rattle.tables.specs.Meaning.{held}
@@ -47,6 +48,6 @@ module _ (size : Size) (rows : List Row) (firsts outcomes : List ℕ) where
   pub hits-place : (A : ℕ → Bool) (s c : ℕ) → s < size .n → c < planIn (held size rows firsts outcomes) .commands s
       → commandHits (commandsOf size firsts outcomes) A (firstCommand (held size rows firsts outcomes) s + c)
       ≡ hits (planIn (held size rows firsts outcomes)) A s c
-  unfolding commandHits listAt
   hits-place A s c l m =
-      sym (hits-held (held size rows firsts outcomes) A s l c (rw (commands-held (held size rows firsts outcomes) s l) at m))
+      let T = held size rows firsts outcomes in
+      command-hits-any (commandsOf size firsts outcomes) A _ ∙ sym (hits-held T A s l c (rw (commands-held T s l) at m))

@@ -14,16 +14,15 @@ use Rattle.model.specs.Places.{listAt}
 use Rattle.tables.specs.Ready.{Ready}
 use Rattle.index.proofs.Groups.{entry-in}
 use Rattle.choice.specs.Within.{commandHits}
+use Rattle.choice.proofs.Outcomes.{command-hits-any}
 use Rattle.propagate.specs.Net.{Net, from, to, losing, Ranges}
 
 module _ (C : Lists) where
   pub hit-some : (K : ℕ → Bool) (c : ℕ) → commandHits C K c ≡ true → (o : ℕ) × List·Memᴰ o (listAt C c) × (K o ≡ true)
-  unfolding commandHits
-  hit-some K c t = any-hit K (listAt C c) t
+  hit-some K c t = any-hit K (listAt C c) (sym (command-hits-any C K c) ∙ t)
 
   pub hit-of : (K : ℕ → Bool) (c o : ℕ) → List·Memᴰ o (listAt C c) → K o ≡ true → commandHits C K c ≡ true
-  unfolding commandHits
-  hit-of K c o m t = any-of K (listAt C c) m t
+  hit-of K c o m t = command-hits-any C K c ∙ any-of K (listAt C c) m t
 
   module _ {n : ℕ} (R : Ready n C) where
     -- a larger set is hit by no fewer commands

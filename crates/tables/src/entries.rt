@@ -13,6 +13,9 @@ use crate::Size;
 // The entry for none, hexadecimal FFFF.
 pub const NONE: usize = 65535;
 
+// The highest number that an entry holds beside it. A set that a table holds up to this limit is of the states that have a number.
+pub const HIGHEST: usize = NONE - 1;
+
 // How many bytes an entry has where a plan is lent as bytes.
 pub const ENTRY_BYTES: usize = 2;
 
