@@ -1,15 +1,15 @@
 -- The places of a list, and whether a command has an outcome in a set by what is read there.
 use mathlib.Core.Path.{_≡_, refl, sym, ap, _∙_}
-use mathlib.Core.Bool.{Bool, true, false, not, _&&_}
+use mathlib.Core.Bool.{Bool, true, false, not}
 use Prim.Native.Nat.{ℕ, _+_, _<_, _≤_, suc}
 use native.Mathlib.Numerals.{add-one}
 use native.Mathlib.Omega.{arith}
 use mathlib.Core.List.{List}
 use mathlib.Core.Option.{Option, none, some}
-use lib.Dec.{eqb, ltb}
+use lib.Dec.{eqb}
 use lib.ListN.{length, getD}
 use lib.Seq.{slice}
-use borrow.Author.Tests.{lt-ltb, ne-eqb, not-true, not-false}
+use borrow.Author.Tests.{ne-eqb, not-true, not-false}
 use Rattle.laws.specs.Sets.{any, least, found}
 use Rattle.laws.specs.Entry.{FFFF, entry}
 use Rattle.laws.specs.Rising.{RisesIn}
@@ -20,7 +20,7 @@ use Rattle.laws.proofs.Starts.{start-next, start-le}
 use Rattle.model.specs.Tables.{Lists}
 use Rattle.model.specs.Places.{startIn, listAt}
 use Rattle.tables.specs.Ready.{States, Ready}
-use Rattle.choice.specs.Within.{commandHit, commandHits, clear}
+use Rattle.choice.specs.Within.{commandHit, commandHits}
 
 -- a command has an outcome in the set if some entry of its list is in it
 pub command-hits-any : (L : Lists) (K : ℕ → Bool) (c : ℕ) → commandHits L K c ≡ any K (listAt L c)
@@ -85,9 +85,3 @@ module _ {n : ℕ} {L : Lists} (ready : Ready n L) (K : ℕ → Bool) (i : ℕ) 
 
     pub told-hit : (r ≡ FFFF → ⊥) → commandHits L K i ≡ true
     told-hit h = not-false _ (sym (hit-told r e) ∙ ne-eqb r FFFF h)
-
--- a practice that was tried
-pub practice-is : {n : ℕ} (L : Lists) → Ready n L → (K : ℕ → Bool) (first c r : ℕ) → first + c < L .count
-    → r ≡ entry (commandHit L K (first + c)) → (count : ℕ) → c < count → eqb r FFFF ≡ (ltb c count && clear L K first c)
-unfolding clear
-practice-is L ready K first c r inside p count l = rw (lt-ltb c count l, hit-told ready K (first + c) inside r p)

@@ -1,8 +1,8 @@
 -- A set of states that a table holds, and the commands that stay out of it.
-use mathlib.Core.Bool.{Bool, not}
+use mathlib.Core.Bool.{Bool}
 use mathlib.Core.List.{List}
 use mathlib.Core.Option.{Option}
-use Prim.Native.Nat.{ℕ, _+_}
+use Prim.Native.Nat.{ℕ}
 use lib.Dec.{leb}
 use lib.ListN.{getD}
 use Rattle.laws.specs.Sets.{least, found}
@@ -20,7 +20,3 @@ commandHit L K c = least K (listAt L c)
 -- it has one
 unfoldable pub commandHits : Lists → (ℕ → Bool) → ℕ → Bool
 commandHits L K c = found (commandHit L K c)
-
--- of a state whose commands begin at place `first`: its command c has no outcome in K
-unfoldable pub clear : Lists → (ℕ → Bool) → ℕ → ℕ → Bool
-clear L K first c = not (commandHits L K (first + c))
