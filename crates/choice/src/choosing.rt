@@ -30,13 +30,7 @@ use tables::entries::start_of;
 use tables::spans::Span;
 
 // The lowest outcome in the set at the places from `from` up to `end`, or the entry FFFF. They rise, so it is the first that is found.
-fn lowest_within(
-    outcomes: &[u16],
-    table: &[u16],
-    limit: usize,
-    from: usize,
-    end: usize,
-) -> usize
+fn lowest_within(outcomes: &[u16], table: &[u16], limit: usize, from: usize, end: usize) -> usize
     requires { ⌜ (from ≤ end) × (end ≤ length (now outcomes)) × ((j : ℕ) → j < end → getD (now outcomes) j 0 < length (now table)) ⌝ }
     requires { ⌜ RisesIn (now outcomes) from end ⌝ }
     ensures { λ r. ⌜ r ≡ entry (least (within (now (table .entry)) limit) (slice from end (now (outcomes .entry)))) ⌝ }

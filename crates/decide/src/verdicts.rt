@@ -22,14 +22,12 @@ use choice::choosing::choose;
 use nets::propagations::has_practice;
 use tables::Row;
 use tables::Size;
+use tables::entries::HIGHEST;
 use tables::entries::NONE;
 use tables::entries::at;
 use tables::entries::put;
 use tables::spans::Span;
 use tables::spans::span_at;
-
-// The highest number that an entry holds beside FFFF. The states that have a number are those up to it.
-const HIGHEST: usize = NONE - 1;
 
 // A place of the tally.
 pub struct Place {

@@ -1,18 +1,20 @@
 -- The plan's steps on sets that agree below n, and its commands' outcomes as the propagation reads them.
-use mathlib.Core.Path.{_≡_, sym, _∙_}
+use mathlib.Core.Path.{_≡_, sym, ap, _∙_}
 use mathlib.Core.Bool.{Bool, true}
 use mathlib.Core.Logic.{⊎-elim}
 use mathlib.Core.List.{List}
 use Prim.Native.Nat.{ℕ, _+_, _<_}
 use lib.Dec.{ltb}
 use borrow.Author.Tests.{ltb-true}
-use Rattle.laws.proofs.Agree.{Agree, any-same}
+use Rattle.laws.specs.Sets.{found}
+use Rattle.laws.proofs.Agree.{Agree}
+use Rattle.laws.proofs.Least.{least-same}
 use Rattle.laws.proofs.Tests.{true-or-false}
 use Rattle.model.specs.Plan.{hasPractice}
-use Rattle.model.specs.Verdict.{hits}
+use Rattle.model.specs.Verdict.{hit, hits}
 use Rattle.model.specs.Practice.{practiceHits}
 use Rattle.model.specs.Command.{choice}
-use Rattle.model.specs.Places.{firstCommand, listAt}
+use Rattle.model.specs.Places.{firstCommand}
 use Rattle.model.specs.SoundTest.{sound}
 use Rattle.model.specs.Held.{planIn}
 use Rattle.model.specs.Tables.{Tables}
@@ -30,9 +32,9 @@ use Rattle.choice.specs.Within.{commandHits}
 module _ (T : Tables) (sounds : sound T ≡ true) (A B : ℕ → Bool) (same : Agree (T .size .n) A B) (s : ℕ) (l : s < T .size .n) where
   -- outcomes are states
   pub hits-agree : (c : ℕ) → c < planIn T .commands s → hits (planIn T) A s c ≡ hits (planIn T) B s c
-  unfolding hits
-  hits-agree c m = any-same A B _
-      (λ x mem. same x (rw (states-held T) at (sound-valid T sounds .inside s c x (rw (states-held T) l) m mem)))
+  unfolding hits hit
+  hits-agree c m = ap found (least-same A B _
+      (λ x mem. same x (rw (states-held T) at (sound-valid T sounds .inside s c x (rw (states-held T) l) m mem))))
 
   pub choice-agree : choice (planIn T) A s ≡ choice (planIn T) B s
   choice-agree = choice-same (planIn T) A B s (λ c m e. sym (hits-agree c m) ∙ e)
