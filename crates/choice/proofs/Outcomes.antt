@@ -83,5 +83,13 @@ module _ {n : ℕ} {L : Lists} (ready : Ready n L) (K : ℕ → Bool) (i : ℕ) 
     pub told-clear : r ≡ FFFF → commandHits L K i ≡ false
     told-clear h = not-true _ (sym (hit-told r e) ∙ rw h)
 
+    pub hit-fits : r < 65536
+    unfolding entry
+    hit-fits = go (commandHit L K i) refl
+      where
+        go : (o : Option ℕ) → commandHit L K i ≡ o → r < 65536
+        go none q = omega (arith, e ∙ ap entry q)
+        go (some x) q = omega (arith, e ∙ ap entry q, few-hit x q)
+
     pub told-hit : (r ≡ FFFF → ⊥) → commandHits L K i ≡ true
     told-hit h = not-false _ (sym (hit-told r e) ∙ ne-eqb r FFFF h)

@@ -51,10 +51,13 @@ unfolding rankTable markTable planIn
 decided-listed T e ranks commands marks = record {
   line = λ s h.
       let l = in-plan h in
-      rw (kind-held T s h, ap entry (sym (named-is T e _ is-rank s _ h (is-mark s l)))) at (entries s l);
-  given = λ s h. named-given T e _ is-rank s _ h (is-mark s (in-plan h));
+      rw (kind-held T s h, ap entry (sym (named-is T e ranked is-rank s _ h (is-mark s l)))) at (entries s l);
+  given = λ s h. named-given T e ranked is-rank s _ h (is-mark s (in-plan h));
 }
   where
+    ranked : List ℕ
+    ranked = overwrite (rankTable (planIn T)) ranks
+
     in-plan : {s : ℕ} → s < T .size .n → s < planIn T .states
     in-plan h = rw (states-held T) h
 

@@ -8,15 +8,15 @@ use Prim.Native.Nat.{ℕ, _+_, _<_, _≤_}
 use native.Mathlib.Omega.{arith}
 use lib.Dec.{leb}
 use lib.ListN.{getD}
-use borrow.Author.Tests.{le-leb}
-use Rattle.laws.specs.Entry.{highest, entry}
+use borrow.Author.Tests.{le-leb, lt-leb}
+use Rattle.laws.specs.Entry.{FFFF, highest, entry}
 use Rattle.laws.proofs.Tests.{true-or-false}
 use Rattle.laws.proofs.EntryFound.{entry-found}
 use Rattle.laws.proofs.Least.{least-same}
 use Rattle.model.specs.Plan.{Plan, Valid}
 use Rattle.model.specs.Verdict.{hit, rank, lost}
 use Rattle.model.specs.Practice.{fault, mark, faultOutcome}
-use Rattle.model.specs.Tables.{Tables, listsIn}
+use Rattle.model.specs.Tables.{Tables, Lists, listsIn}
 use Rattle.model.specs.Places.{rowAt, firstCommand, commandCount}
 use Rattle.model.specs.Held.{planIn}
 use Rattle.model.specs.SoundTest.{sound}
@@ -25,11 +25,26 @@ use Rattle.model.proofs.HeldPlan.{states-held, practice-held, commands-held}
 use Rattle.model.proofs.Layers.{rank-bound}
 use Rattle.model.proofs.SoundFacts.{sound-facts}
 use Rattle.model.proofs.Valid.{sound-valid}
+use Rattle.tables.specs.declared.spans.Span.{Span}
 use Rattle.tables.specs.Spans.{spanAt}
 use Rattle.choice.specs.Within.{within, commandHit}
 use Rattle.choice.proofs.Choices.{hit-held}
 use Rattle.listing_text.proofs.Entries.{mark-says}
 use Rattle.listing.specs.Named.{namedAt}
+
+-- by the mark
+module _ (L : Lists) (ranks : List ℕ) (q : Span) (m : ℕ) where
+  pub none-named : m < 2 → FFFF ≡ entry (namedAt L ranks q m)
+  unfolding entry
+  none-named h = rw (lt-leb 2 m h)
+
+  pub some-named : 2 ≤ m → {r : ℕ} → r ≡ entry (commandHit L (within ranks highest) (q .first + q .practice)) → r
+      ≡ entry (namedAt L ranks q m)
+  some-named h e = rw (le-leb 2 m h) e
+
+  -- a mark that was read
+  pub read-named : {r k : ℕ} → r ≡ entry (namedAt L ranks q m) → m ≡ k → r ≡ entry (namedAt L ranks q k)
+  read-named e h = e ∙ rw h
 
 -- the entries of a table of ranks that are numbers tell of the lost states
 module _ (P : Plan) (few : P .states < highest) (ranks : List ℕ)

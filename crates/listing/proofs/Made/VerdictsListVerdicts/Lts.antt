@@ -31,10 +31,9 @@ use borrow.Rule.Slice.Mut
 use borrow.Rule.Slice.Relend
 use borrow.Rule.Slice.Shared
 use borrow.Rule.Yields
-use borrow.Struct.Reads
 use borrow.Table.Copies
 use borrow.Table.Own
-use borrow.Table.Reads as Reads'
+use borrow.Table.Reads
 use borrow.Table.Referent
 use borrow.Table.Row
 use borrow.Table.Rows as Rows'
@@ -131,10 +130,10 @@ ps·0 = List._∷_ (Value.pVal record { ty = Declared.row Size.the-type; one = P
 abbrev pub r·0 : Kinds.RK 7
 r·0 = Value.rVal record { ty = Declared.row Decision.the-type; one = Path'.refl; val = Laws''.val Decision.the-type Laws.the-laws; tells = Laws''.tells Decision.the-type Laws.the-laws; still = Laws''.still Decision.the-type Laws.the-copy Exit.yes; row = Rows'.whole (Declared.row Decision.the-type); rd = λ x. x; mk = λ x. x } λ M 𝓤 H A W. record { copies = Laws''.copy Decision.the-type Laws.the-copy 𝓤 H A W; lawful = Laws''.lawful Decision.the-type Laws.the-laws 𝓤 H A W; makes = Laws''.makes Decision.the-type Laws.the-plain 𝓤 H A; in-mem = Local.mem-whole 𝓤 H A W (Declared.row Decision.the-type); of-mem = Local.whole-mem 𝓤 H A W (Declared.row Decision.the-type) }
 
-abbrev pub ps·1 : List.List (Kinds.PK 5)
-ps·1 = List._∷_ (Num.pNum Syntax.w64) (List._∷_ (ShrSlice.pShrS T.the-row 0 tt) (List._∷_ (ShrSlice.pShrS (Referent.rtF (Referent.fInt Syntax.w16)) 1 tt) (List._∷_ (ShrSlice.pShrS (Referent.rtF (Referent.fInt Syntax.w16)) 2 tt) (List._∷_ (ShrSlice.pShrS (Referent.rtF (Referent.fInt Syntax.w16)) 3 tt) (List._∷_ (MutSlice.pMutS (Referent.rtF (Referent.fInt Syntax.w8)) 4 tt) (List._∷_ (Num.pNum Syntax.w64) List.[]))))))
+abbrev pub ps·1 : List.List (Kinds.PK 7)
+ps·1 = List._∷_ (Value.pVal record { ty = Declared.row Size.the-type; one = Path'.refl; val = Laws''.val Size.the-type Laws'.the-laws; tells = Laws''.tells Size.the-type Laws'.the-laws; still = Laws''.still Size.the-type Laws'.the-copy Exit.yes; row = Rows'.whole (Declared.row Size.the-type); rd = λ x. x; mk = λ x. x } λ M 𝓤 H A W. record { copies = Laws''.copy Size.the-type Laws'.the-copy 𝓤 H A W; lawful = Laws''.lawful Size.the-type Laws'.the-laws 𝓤 H A W; makes = Laws''.makes Size.the-type Laws'.the-plain 𝓤 H A; in-mem = Local.mem-whole 𝓤 H A W (Declared.row Size.the-type); of-mem = Local.whole-mem 𝓤 H A W (Declared.row Size.the-type) }) (List._∷_ (ShrSlice.pShrS T.the-row 0 tt) (List._∷_ (ShrSlice.pShrS (Referent.rtF (Referent.fInt Syntax.w16)) 1 tt) (List._∷_ (ShrSlice.pShrS (Referent.rtF (Referent.fInt Syntax.w16)) 2 tt) (List._∷_ (ShrSlice.pShrS (Referent.rtF (Referent.fInt Syntax.w16)) 3 tt) (List._∷_ (ShrSlice.pShrS (Referent.rtF (Referent.fInt Syntax.w16)) 4 tt) (List._∷_ (ShrSlice.pShrS (Referent.rtF (Referent.fInt Syntax.w16)) 5 tt) (List._∷_ (MutSlice.pMutS (Referent.rtF (Referent.fInt Syntax.w8)) 6 tt) (List._∷_ (Num.pNum Syntax.w64) List.[]))))))))
 
-abbrev pub r·1 : Kinds.RK 5
+abbrev pub r·1 : Kinds.RK 7
 r·1 = Num.rNum Syntax.w64
 
 abbrev pub ps·2 : List.List (Kinds.PK 1)
@@ -210,7 +209,7 @@ abbrev b20 : Syntax.Body
 b20 = Syntax.assign (Syntax.place 28 List.[]) (Syntax.aggregate (List._∷_ (Syntax.copy (Syntax.place 27 List.[])) (List._∷_ (Syntax.copy (Syntax.place 5 (List._∷_ (Syntax.field 1) List.[]))) List.[])))
 
 abbrev b21 : Syntax.Body
-b21 = Syntax.call "listing::states::list_states" (List._∷_ (Syntax.copy (Syntax.place 1 (List._∷_ (Syntax.field 0) List.[]))) (List._∷_ (Syntax.copy (Syntax.place 2 List.[])) (List._∷_ (Syntax.copy (Syntax.place 22 List.[])) (List._∷_ (Syntax.copy (Syntax.place 24 List.[])) (List._∷_ (Syntax.copy (Syntax.place 26 List.[])) (List._∷_ (Syntax.copy (Syntax.place 28 List.[])) (List._∷_ (Syntax.copy (Syntax.place 6 List.[])) List.[]))))))) (Syntax.place 12 List.[])
+b21 = Syntax.call "listing::states::list_states" (List._∷_ (Syntax.copy (Syntax.place 1 List.[])) (List._∷_ (Syntax.copy (Syntax.place 2 List.[])) (List._∷_ (Syntax.copy (Syntax.place 3 List.[])) (List._∷_ (Syntax.copy (Syntax.place 4 List.[])) (List._∷_ (Syntax.copy (Syntax.place 22 List.[])) (List._∷_ (Syntax.copy (Syntax.place 24 List.[])) (List._∷_ (Syntax.copy (Syntax.place 26 List.[])) (List._∷_ (Syntax.copy (Syntax.place 28 List.[])) (List._∷_ (Syntax.copy (Syntax.place 6 List.[])) List.[]))))))))) (Syntax.place 12 List.[])
 
 abbrev b22 : Syntax.Body
 b22 = Syntax.assign (Syntax.place 29 List.[]) (Syntax.addrOf (Syntax.place 5 (List._∷_ (Syntax.field 0) (List._∷_ (Syntax.deref (Syntax.tyInt Syntax.w8)) List.[]))))
@@ -303,7 +302,7 @@ abbrev pub body : Syntax.Body
 body = b50
 
 abbrev pub Claims : Type 1
-Claims = Kinds.In 7 ps·0 × Kinds.Out 7 ps·0 r·0 × Kinds.In 5 ps·1 × Kinds.Out 5 ps·1 r·1 × Kinds.In 1 ps·2 × Kinds.Out 1 ps·2 r·2
+Claims = Kinds.In 7 ps·0 × Kinds.Out 7 ps·0 r·0 × Kinds.In 7 ps·1 × Kinds.Out 7 ps·1 r·1 × Kinds.In 1 ps·2 × Kinds.Out 1 ps·2 r·2
 
 abbrev pub t0 : List.List Row.Entry
 t0 = List._∷_ (0, Rows'.any-gone (Syntax.tyInt Syntax.w64)) (List._∷_ (1, Rows'.whole (Declared.row Size.the-type)) (List._∷_ (2, Rows'.sslice T.the-row ty·8 0) (List._∷_ (3, Rows'.sslice (Referent.rtF (Referent.fInt Syntax.w16)) ty·6 1) (List._∷_ (4, Rows'.sslice (Referent.rtF (Referent.fInt Syntax.w16)) ty·7 2) (List._∷_ (5, Mut.mslice (Referent.rtF (Referent.fInt Syntax.w8)) ty·5 3) (List._∷_ (6, Rows'.sc-here (Row.sInt Syntax.w64)) (List._∷_ (7, Rows'.any-gone ty·1) (List._∷_ (8, Rows'.any-gone ty·1) (List._∷_ (9, Rows'.any-gone ty·1) (List._∷_ (10, Rows'.any-gone ty·1) (List._∷_ (11, Rows'.any-gone ty·17) (List._∷_ (12, Rows'.any-gone (Syntax.tyInt Syntax.w64)) (List._∷_ (13, Rows'.any-gone ty·9) (List._∷_ (14, Rows'.any-gone ty·12) (List._∷_ (15, Rows'.any-gone ty·9) List.[])))))))))))))))
@@ -769,7 +768,7 @@ module _ (claims· : Claims) where
   s48 = λ bs. Relend.k-sl-aggregate (Referent.rtF (Referent.fInt Syntax.w8)) (Relend.asMut (Referent.rtF (Referent.fInt Syntax.w8))) T49 27 28 11 ty·2 ty·2 (λ x. x) (Scalar.oFld 5 (List._∷_ (Syntax.field 1) List.[]) (Syntax.tyInt Syntax.w64) 8 λ v. Shared.lenV (v .0))
 
   abbrev s49 : (bs : List.List Nat.ℕ) → Typed.Both T50 T51
-  s49 = λ bs. Call.callB ps·1 r·1 (claims· .2) (claims· .3) T50 (Num.vFld 1 (List._∷_ (Syntax.field 0) List.[]) 0 λ x. Size.struct .as-values x .0, (record { pos = 2; ty = Syntax.tyRef (Syntax.named 0) Syntax.imm (Memory.pointee (T.the-row .written)); ref = λ x. x }, (record { pos = 22; ty = Syntax.tyRef Syntax.erased Syntax.imm (Syntax.tyInt Syntax.w16); ref = λ x. x }, (record { pos = 24; ty = Syntax.tyRef Syntax.erased Syntax.imm (Syntax.tyInt Syntax.w16); ref = λ x. x }, (record { pos = 26; ty = Syntax.tyRef Syntax.erased Syntax.imm (Syntax.tyInt Syntax.w16); ref = λ x. x }, (record { pos = 28; ty = Syntax.tyRef Syntax.erased Syntax.mut (Syntax.tyInt Syntax.w8); ref = λ x. x }, (Num.vAt 6 λ x. x, tt))))))) 12 (List._∷_ 0 (List._∷_ 8 (List._∷_ 9 (List._∷_ 10 (List._∷_ 11 List.[]))))) (Syntax.tyInt Syntax.w64)
+  s49 = λ bs. Call.callB ps·1 r·1 (claims· .2) (claims· .3) T50 (record { pos = 1; st = List.[]; d = 0; at = λ x. x }, (record { pos = 2; ty = Syntax.tyRef (Syntax.named 0) Syntax.imm (Memory.pointee (T.the-row .written)); ref = λ x. x }, (record { pos = 3; ty = Syntax.tyRef (Syntax.named 1) Syntax.imm (Syntax.tyInt Syntax.w16); ref = λ x. x }, (record { pos = 4; ty = Syntax.tyRef (Syntax.named 2) Syntax.imm (Syntax.tyInt Syntax.w16); ref = λ x. x }, (record { pos = 22; ty = Syntax.tyRef Syntax.erased Syntax.imm (Syntax.tyInt Syntax.w16); ref = λ x. x }, (record { pos = 24; ty = Syntax.tyRef Syntax.erased Syntax.imm (Syntax.tyInt Syntax.w16); ref = λ x. x }, (record { pos = 26; ty = Syntax.tyRef Syntax.erased Syntax.imm (Syntax.tyInt Syntax.w16); ref = λ x. x }, (record { pos = 28; ty = Syntax.tyRef Syntax.erased Syntax.mut (Syntax.tyInt Syntax.w8); ref = λ x. x }, (Num.vAt 6 λ x. x, tt))))))))) 12 (List._∷_ 0 (List._∷_ 1 (List._∷_ 2 (List._∷_ 8 (List._∷_ 9 (List._∷_ 10 (List._∷_ 11 List.[]))))))) (Syntax.tyInt Syntax.w64)
 
   abbrev s50 : (bs : List.List Nat.ℕ) → Typed.Mo T51 → Typed.Mo T52
   s50 = λ bs. Scalar.n-room T51 22 ty·13
@@ -834,7 +833,7 @@ module _ (claims· : Claims) where
   module _ (Pre· : (κs : Lifetimes.Lfts 4) → Kinds.Dens κs ps → Type 0) (Post· : (κs : Lifetimes.Lfts 4) → (a : Kinds.Dens κs ps) → Kinds.Plain 4 ps r κs) where
     module _ (M : Type 1) where
       abbrev pub Closed : Type 2
-      Closed = (𝓤 : URA.URA M) (H : Wp.Heap 𝓤) (A : Atoms.Atoms 𝓤) (W : Kit.Given 𝓤 H A) (𝓣 : Wp.Tables 𝓤 H) (known0 : Plain.Known 𝓤 H A W 𝓣 7 ps·0 r·0 (claims· .0) (claims· .1) "decide::decide") (known1 : Plain.Known 𝓤 H A W 𝓣 5 ps·1 r·1 (claims· .2) (claims· .3) "listing::states::list_states") (known2 : Plain.Known 𝓤 H A W 𝓣 1 ps·2 r·2 (claims· .4) (claims· .5) "listing::verdicts::put_tally") → Statement.Triple 𝓤 (Wp.WpFn 𝓤 H (𝓣 .C) (𝓣 .Λ) (Function.fnOf 4 ps r xs m hs body)) (Function.plainOf 𝓤 H A 4 ps r Pre· Post·)
+      Closed = (𝓤 : URA.URA M) (H : Wp.Heap 𝓤) (A : Atoms.Atoms 𝓤) (W : Kit.Given 𝓤 H A) (𝓣 : Wp.Tables 𝓤 H) (known0 : Plain.Known 𝓤 H A W 𝓣 7 ps·0 r·0 (claims· .0) (claims· .1) "decide::decide") (known1 : Plain.Known 𝓤 H A W 𝓣 7 ps·1 r·1 (claims· .2) (claims· .3) "listing::states::list_states") (known2 : Plain.Known 𝓤 H A W 𝓣 1 ps·2 r·2 (claims· .4) (claims· .5) "listing::verdicts::put_tally") → Statement.Triple 𝓤 (Wp.WpFn 𝓤 H (𝓣 .C) (𝓣 .Λ) (Function.fnOf 4 ps r xs m hs body)) (Function.plainOf 𝓤 H A 4 ps r Pre· Post·)
 
     module _ where
       abbrev at0 : (bs : List.List Nat.ℕ) → Typed.TF T82 O0
@@ -1088,7 +1087,7 @@ module _ (claims· : Claims) where
 
       module _ {M : Type 1} (𝓤 : URA.URA M) (H : Wp.Heap 𝓤) (A : Atoms.Atoms 𝓤) (W : Kit.Given 𝓤 H A) (𝓣 : Wp.Tables 𝓤 H) where
         abbrev Knowns : Type 1
-        Knowns = Plain.Known 𝓤 H A W 𝓣 7 ps·0 r·0 (claims· .0) (claims· .1) "decide::decide" × Plain.Known 𝓤 H A W 𝓣 5 ps·1 r·1 (claims· .2) (claims· .3) "listing::states::list_states" × Plain.Known 𝓤 H A W 𝓣 1 ps·2 r·2 (claims· .4) (claims· .5) "listing::verdicts::put_tally"
+        Knowns = Plain.Known 𝓤 H A W 𝓣 7 ps·0 r·0 (claims· .0) (claims· .1) "decide::decide" × Plain.Known 𝓤 H A W 𝓣 7 ps·1 r·1 (claims· .2) (claims· .3) "listing::states::list_states" × Plain.Known 𝓤 H A W 𝓣 1 ps·2 r·2 (claims· .4) (claims· .5) "listing::verdicts::put_tally"
 
       module _ (κs : Lifetimes.Lfts 4) (qs : Lifetimes.Shares 4) where
         abbrev g40 : List.List Row.Entry
@@ -1396,10 +1395,10 @@ module _ (claims· : Claims) where
           d2 = Typed.g-pre 𝓤 H A W 𝓣 E G80 G81 b25 Δ0 (λ Ψ. Ψ) (at1 bs) (Lifetime.g-forget 𝓤 H A W E G80 12 Row.dead Path'.refl) d1
 
           d3 : Typed.Typed 𝓤 H A 𝓣 E G79 b25 Δ0 (at3 bs)
-          d3 = Typed.g-pre 𝓤 H A W 𝓣 E G79 G80 b25 Δ0 (Typed.give (s78 bs)) (at2 bs) (Know.g-sl-known 𝓤 H A W (Referent.fInt Syntax.w8) E G79 5 3 ty·5 (Row.lease (κs .1 .1 .1 .0) (qs .1 .1 .1 .0)) 0 (λ x. x) record { fits = Dec'.lit< tt } (Reads'.as-is 𝓤 H A (Mut.mslice (Referent.rtF (Referent.fInt Syntax.w8)) ty·5 3)) Path'.refl tt) d2
+          d3 = Typed.g-pre 𝓤 H A W 𝓣 E G79 G80 b25 Δ0 (Typed.give (s78 bs)) (at2 bs) (Know.g-sl-known 𝓤 H A W (Referent.fInt Syntax.w8) E G79 5 3 ty·5 (Row.lease (κs .1 .1 .1 .0) (qs .1 .1 .1 .0)) 0 (λ x. x) record { fits = Dec'.lit< tt } (Reads.as-is 𝓤 H A (Mut.mslice (Referent.rtF (Referent.fInt Syntax.w8)) ty·5 3)) Path'.refl tt) d2
 
           d4 : Typed.Typed 𝓤 H A 𝓣 E G78 b25 Δ0 (at4 bs)
-          d4 = Typed.g-pre 𝓤 H A W 𝓣 E G78 G79 b25 Δ0 (Typed.both (s77 bs)) (at3 bs) (Relend.g-back-sl 𝓤 H A W E (Referent.rtF (Referent.fInt Syntax.w8)) G78 30 5 3 12 ty·5 ty·2 (Row.lease (κs .1 .1 .1 .0) (qs .1 .1 .1 .0)) (λ x. x) (λ x. x) (Reads'.as-is 𝓤 H A (Mut.msleft (Referent.rtF (Referent.fInt Syntax.w8)) ty·2)) (Reads'.as-is 𝓤 H A (Relend.mslice-owed (Referent.rtF (Referent.fInt Syntax.w8)) ty·5 3 12 (Row.lease (κs .1 .1 .1 .0) (qs .1 .1 .1 .0)))) Path'.refl Path'.refl) d3
+          d4 = Typed.g-pre 𝓤 H A W 𝓣 E G78 G79 b25 Δ0 (Typed.both (s77 bs)) (at3 bs) (Relend.g-back-sl 𝓤 H A W E (Referent.rtF (Referent.fInt Syntax.w8)) G78 30 5 3 12 ty·5 ty·2 (Row.lease (κs .1 .1 .1 .0) (qs .1 .1 .1 .0)) (λ x. x) (λ x. x) (Reads.as-is 𝓤 H A (Mut.msleft (Referent.rtF (Referent.fInt Syntax.w8)) ty·2)) (Reads.as-is 𝓤 H A (Relend.mslice-owed (Referent.rtF (Referent.fInt Syntax.w8)) ty·5 3 12 (Row.lease (κs .1 .1 .1 .0) (qs .1 .1 .1 .0)))) Path'.refl Path'.refl) d3
 
           d5 : Typed.Typed 𝓤 H A 𝓣 E G77 b25 Δ0 (at5 bs)
           d5 = Typed.g-pre 𝓤 H A W 𝓣 E G77 G78 b25 Δ0 (λ Ψ. Ψ) (at4 bs) (Lifetime.g-end 𝓤 H A W E G77 12 Path'.refl) d4
@@ -1411,13 +1410,13 @@ module _ (claims· : Claims) where
           d7 = Typed.g-pre 𝓤 H A W 𝓣 E G75 G76 b25 Δ0 (Typed.pass T75 T76 (s74 bs)) (at6 bs) (Scalar.g-room 𝓤 H A W E G75 11 ty·17 (Local.room-whole 𝓤 H A W (Declared.row Decision.the-type) ty·17 Path'.refl)) d6
 
           d8 : Typed.Typed 𝓤 H A 𝓣 E G74 b26 Δ0 (at8 bs)
-          d8 = Typed.s-seq 𝓤 H A W 𝓣 E G74 G75 b24 b25 Δ0 (Typed.both (s73 bs)) (at7 bs) (Plain.t-call-plain 𝓤 H A W 𝓣 1 ps·2 r·2 (claims· .4) (claims· .5) "listing::verdicts::put_tally" (known .2) E (λ pos β. β) G74 (record { pos = 11; st = List.[]; d = 0; at = λ x. x }, (record { pos = 30; ty = Syntax.tyRef Syntax.erased Syntax.mut (Syntax.tyInt Syntax.w8); ref = λ x. x }, (Num.vAt 12 λ x. x, tt))) 0 (List._∷_ 12 List.[]) (Call.sub-id 𝓤 H A W (G74 .slots)) ((Yields.yields-copy 𝓤 H A W (λ ρ. Unit) (Declared.row Decision.the-type) Path'.refl (Copies.cStruct Decision.the-type Laws.the-laws Laws.the-copy .copy 𝓤 H A W) (Rows'.whole (Declared.row Decision.the-type)) (λ x. x) (λ x. x) (λ ρ told. Local.mem-whole 𝓤 H A W (Declared.row Decision.the-type) ρ) λ ρ told. Local.whole-mem 𝓤 H A W (Declared.row Decision.the-type) ρ, Path'.refl), (Reads'.as-is 𝓤 H A (Mut.mslice (Referent.rtF (Referent.fInt Syntax.w8)) ty·2 12), Mut.reads-mslice 𝓤 H A W (Referent.rtF (Referent.fInt Syntax.w8)) ty·2 12, Path'.refl, ((Scalar.reads-sc 𝓤 H A W (Row.sInt Syntax.w64), Path'.refl), tt))) (Reads'.room-gone 𝓤 H A (Syntax.tyInt Syntax.w64)) (tt, tt) Path'.refl) d7
+          d8 = Typed.s-seq 𝓤 H A W 𝓣 E G74 G75 b24 b25 Δ0 (Typed.both (s73 bs)) (at7 bs) (Plain.t-call-plain 𝓤 H A W 𝓣 1 ps·2 r·2 (claims· .4) (claims· .5) "listing::verdicts::put_tally" (known .2) E (λ pos β. β) G74 (record { pos = 11; st = List.[]; d = 0; at = λ x. x }, (record { pos = 30; ty = Syntax.tyRef Syntax.erased Syntax.mut (Syntax.tyInt Syntax.w8); ref = λ x. x }, (Num.vAt 12 λ x. x, tt))) 0 (List._∷_ 12 List.[]) (Call.sub-id 𝓤 H A W (G74 .slots)) ((Yields.yields-copy 𝓤 H A W (λ ρ. Unit) (Declared.row Decision.the-type) Path'.refl (Copies.cStruct Decision.the-type Laws.the-laws Laws.the-copy .copy 𝓤 H A W) (Rows'.whole (Declared.row Decision.the-type)) (λ x. x) (λ x. x) (λ ρ told. Local.mem-whole 𝓤 H A W (Declared.row Decision.the-type) ρ) λ ρ told. Local.whole-mem 𝓤 H A W (Declared.row Decision.the-type) ρ, Path'.refl), (Reads.as-is 𝓤 H A (Mut.mslice (Referent.rtF (Referent.fInt Syntax.w8)) ty·2 12), Mut.reads-mslice 𝓤 H A W (Referent.rtF (Referent.fInt Syntax.w8)) ty·2 12, Path'.refl, ((Scalar.reads-sc 𝓤 H A W (Row.sInt Syntax.w64), Path'.refl), tt))) (Reads.room-gone 𝓤 H A (Syntax.tyInt Syntax.w64)) (tt, tt) Path'.refl) d7
 
           d9 : Typed.Typed 𝓤 H A 𝓣 E G73 b27 Δ0 (at9 bs)
-          d9 = Typed.s-seq 𝓤 H A W 𝓣 E G73 G74 b23 b26 Δ0 (Typed.ask (s72 bs)) (at8 bs) (Relend.t-sl-aggregate 𝓤 H A W E (Referent.rtF (Referent.fInt Syntax.w8)) 𝓣 (Relend.asMut (Referent.rtF (Referent.fInt Syntax.w8))) G73 29 30 12 ty·2 ty·2 (λ x. x) (Scalar.oFld 5 (List._∷_ (Syntax.field 1) List.[]) (Syntax.tyInt Syntax.w64) 8 λ v. Shared.lenV (v .0)) (Reads'.as-is 𝓤 H A (Relend.msptr (Referent.rtF (Referent.fInt Syntax.w8)) ty·2 12)) (Reads'.room-gone 𝓤 H A ty·11) (Relend.reads-owed-len 𝓤 H A W (Referent.rtF (Referent.fInt Syntax.w8)) ty·5 3 12 (Row.lease (κs .1 .1 .1 .0) (qs .1 .1 .1 .0)) 8 Path'.refl, Path'.refl) Path'.refl Path'.refl λ b o k. tt) d8
+          d9 = Typed.s-seq 𝓤 H A W 𝓣 E G73 G74 b23 b26 Δ0 (Typed.ask (s72 bs)) (at8 bs) (Relend.t-sl-aggregate 𝓤 H A W E (Referent.rtF (Referent.fInt Syntax.w8)) 𝓣 (Relend.asMut (Referent.rtF (Referent.fInt Syntax.w8))) G73 29 30 12 ty·2 ty·2 (λ x. x) (Scalar.oFld 5 (List._∷_ (Syntax.field 1) List.[]) (Syntax.tyInt Syntax.w64) 8 λ v. Shared.lenV (v .0)) (Reads.as-is 𝓤 H A (Relend.msptr (Referent.rtF (Referent.fInt Syntax.w8)) ty·2 12)) (Reads.room-gone 𝓤 H A ty·11) (Relend.reads-owed-len 𝓤 H A W (Referent.rtF (Referent.fInt Syntax.w8)) ty·5 3 12 (Row.lease (κs .1 .1 .1 .0) (qs .1 .1 .1 .0)) 8 Path'.refl, Path'.refl) Path'.refl Path'.refl λ b o k. tt) d8
 
           d10 : Typed.Typed 𝓤 H A 𝓣 E G72 b28 Δ0 (at10 bs)
-          d10 = Typed.s-seq 𝓤 H A W 𝓣 E G72 G73 b22 b27 Δ0 (Typed.give (s71 bs)) (at9 bs) (Relend.t-sl-relend 𝓤 H A W E (Referent.rtF (Referent.fInt Syntax.w8)) 𝓣 G72 5 29 3 12 ty·5 ty·2 (Row.lease (κs .1 .1 .1 .0) (qs .1 .1 .1 .0)) 0 (λ x. x) (Reads'.as-is 𝓤 H A (Mut.mslice (Referent.rtF (Referent.fInt Syntax.w8)) ty·5 3)) (Reads'.room-gone 𝓤 H A ty·2) Path'.refl tt Path'.refl Path'.refl Path'.refl λ b o. tt) d9
+          d10 = Typed.s-seq 𝓤 H A W 𝓣 E G72 G73 b22 b27 Δ0 (Typed.give (s71 bs)) (at9 bs) (Relend.t-sl-relend 𝓤 H A W E (Referent.rtF (Referent.fInt Syntax.w8)) 𝓣 G72 5 29 3 12 ty·5 ty·2 (Row.lease (κs .1 .1 .1 .0) (qs .1 .1 .1 .0)) 0 (λ x. x) (Reads.as-is 𝓤 H A (Mut.mslice (Referent.rtF (Referent.fInt Syntax.w8)) ty·5 3)) (Reads.room-gone 𝓤 H A ty·2) Path'.refl tt Path'.refl Path'.refl Path'.refl λ b o. tt) d9
 
           d11 : Typed.Typed 𝓤 H A 𝓣 E G71 b28 Δ0 (at11 bs)
           d11 = Typed.g-pre 𝓤 H A W 𝓣 E G71 G72 b28 Δ0 (λ Ψ. Ψ) (at10 bs) (Lifetime.g-begin 𝓤 H A W E G71 12 (tt, (tt, (tt, (tt, (tt, (tt, (tt, (tt, (tt, (tt, (tt, (tt, (tt, (tt, (tt, (tt, (tt, (tt, (tt, (tt, (tt, (tt, (tt, (tt, (tt, (tt, (tt, (tt, (tt, (tt, (tt, tt)))))))))))))))))))))))))))))))) d10
@@ -1426,10 +1425,10 @@ module _ (claims· : Claims) where
           d12 = Typed.g-pre 𝓤 H A W 𝓣 E G70 G71 b28 Δ0 (λ Ψ. Ψ) (at11 bs) (Lifetime.g-forget 𝓤 H A W E G70 11 Row.dead Path'.refl) d11
 
           d13 : Typed.Typed 𝓤 H A 𝓣 E G69 b28 Δ0 (at13 bs)
-          d13 = Typed.g-pre 𝓤 H A W 𝓣 E G69 G70 b28 Δ0 (Typed.give (s68 bs)) (at12 bs) (Know.g-sl-known 𝓤 H A W (Referent.fInt Syntax.w8) E G69 5 3 ty·5 (Row.lease (κs .1 .1 .1 .0) (qs .1 .1 .1 .0)) 0 (λ x. x) record { fits = Dec'.lit< tt } (Reads'.as-is 𝓤 H A (Mut.mslice (Referent.rtF (Referent.fInt Syntax.w8)) ty·5 3)) Path'.refl tt) d12
+          d13 = Typed.g-pre 𝓤 H A W 𝓣 E G69 G70 b28 Δ0 (Typed.give (s68 bs)) (at12 bs) (Know.g-sl-known 𝓤 H A W (Referent.fInt Syntax.w8) E G69 5 3 ty·5 (Row.lease (κs .1 .1 .1 .0) (qs .1 .1 .1 .0)) 0 (λ x. x) record { fits = Dec'.lit< tt } (Reads.as-is 𝓤 H A (Mut.mslice (Referent.rtF (Referent.fInt Syntax.w8)) ty·5 3)) Path'.refl tt) d12
 
           d14 : Typed.Typed 𝓤 H A 𝓣 E G68 b28 Δ0 (at14 bs)
-          d14 = Typed.g-pre 𝓤 H A W 𝓣 E G68 G69 b28 Δ0 (Typed.both (s67 bs)) (at13 bs) (Relend.g-back-sl 𝓤 H A W E (Referent.rtF (Referent.fInt Syntax.w8)) G68 28 5 3 11 ty·5 ty·2 (Row.lease (κs .1 .1 .1 .0) (qs .1 .1 .1 .0)) (λ x. x) (λ x. x) (Reads'.as-is 𝓤 H A (Mut.msleft (Referent.rtF (Referent.fInt Syntax.w8)) ty·2)) (Reads'.as-is 𝓤 H A (Relend.mslice-owed (Referent.rtF (Referent.fInt Syntax.w8)) ty·5 3 11 (Row.lease (κs .1 .1 .1 .0) (qs .1 .1 .1 .0)))) Path'.refl Path'.refl) d13
+          d14 = Typed.g-pre 𝓤 H A W 𝓣 E G68 G69 b28 Δ0 (Typed.both (s67 bs)) (at13 bs) (Relend.g-back-sl 𝓤 H A W E (Referent.rtF (Referent.fInt Syntax.w8)) G68 28 5 3 11 ty·5 ty·2 (Row.lease (κs .1 .1 .1 .0) (qs .1 .1 .1 .0)) (λ x. x) (λ x. x) (Reads.as-is 𝓤 H A (Mut.msleft (Referent.rtF (Referent.fInt Syntax.w8)) ty·2)) (Reads.as-is 𝓤 H A (Relend.mslice-owed (Referent.rtF (Referent.fInt Syntax.w8)) ty·5 3 11 (Row.lease (κs .1 .1 .1 .0) (qs .1 .1 .1 .0)))) Path'.refl Path'.refl) d13
 
           d15 : Typed.Typed 𝓤 H A 𝓣 E G67 b28 Δ0 (at15 bs)
           d15 = Typed.g-pre 𝓤 H A W 𝓣 E G67 G68 b28 Δ0 (λ Ψ. Ψ) (at14 bs) (Lifetime.g-end 𝓤 H A W E G67 11 Path'.refl) d14
@@ -1441,7 +1440,7 @@ module _ (claims· : Claims) where
           d17 = Typed.g-pre 𝓤 H A W 𝓣 E G65 G66 b28 Δ0 (λ Ψ. Ψ) (at16 bs) (Lifetime.g-forget 𝓤 H A W E G65 10 Row.dead Path'.refl) d16
 
           d18 : Typed.Typed 𝓤 H A 𝓣 E G64 b28 Δ0 (at18 bs)
-          d18 = Typed.g-pre 𝓤 H A W 𝓣 E G64 G65 b28 Δ0 (Typed.pass T63 T65 (s63 bs)) (at17 bs) (Share.g-back-arr-shr 𝓤 H A W E (Referent.rtF (Referent.fInt Syntax.w16)) G64 9 1024 10 (λ x. x) (Reads'.as-is 𝓤 H A (Rows.arr-shr (Referent.rtF (Referent.fInt Syntax.w16)) 1024 10)) Path'.refl) d17
+          d18 = Typed.g-pre 𝓤 H A W 𝓣 E G64 G65 b28 Δ0 (Typed.pass T63 T65 (s63 bs)) (at17 bs) (Share.g-back-arr-shr 𝓤 H A W E (Referent.rtF (Referent.fInt Syntax.w16)) G64 9 1024 10 (λ x. x) (Reads.as-is 𝓤 H A (Rows.arr-shr (Referent.rtF (Referent.fInt Syntax.w16)) 1024 10)) Path'.refl) d17
 
           d19 : Typed.Typed 𝓤 H A 𝓣 E G63 b28 Δ0 (at19 bs)
           d19 = Typed.g-pre 𝓤 H A W 𝓣 E G63 G64 b28 Δ0 (λ Ψ. Ψ) (at18 bs) (Lifetime.g-end 𝓤 H A W E G63 10 Path'.refl) d18
@@ -1453,7 +1452,7 @@ module _ (claims· : Claims) where
           d21 = Typed.g-pre 𝓤 H A W 𝓣 E G61 G62 b28 Δ0 (λ Ψ. Ψ) (at20 bs) (Lifetime.g-forget 𝓤 H A W E G61 9 Row.dead Path'.refl) d20
 
           d22 : Typed.Typed 𝓤 H A 𝓣 E G60 b28 Δ0 (at22 bs)
-          d22 = Typed.g-pre 𝓤 H A W 𝓣 E G60 G61 b28 Δ0 (Typed.pass T59 T61 (s59 bs)) (at21 bs) (Share.g-back-arr-shr 𝓤 H A W E (Referent.rtF (Referent.fInt Syntax.w16)) G60 8 1024 9 (λ x. x) (Reads'.as-is 𝓤 H A (Rows.arr-shr (Referent.rtF (Referent.fInt Syntax.w16)) 1024 9)) Path'.refl) d21
+          d22 = Typed.g-pre 𝓤 H A W 𝓣 E G60 G61 b28 Δ0 (Typed.pass T59 T61 (s59 bs)) (at21 bs) (Share.g-back-arr-shr 𝓤 H A W E (Referent.rtF (Referent.fInt Syntax.w16)) G60 8 1024 9 (λ x. x) (Reads.as-is 𝓤 H A (Rows.arr-shr (Referent.rtF (Referent.fInt Syntax.w16)) 1024 9)) Path'.refl) d21
 
           d23 : Typed.Typed 𝓤 H A 𝓣 E G59 b28 Δ0 (at23 bs)
           d23 = Typed.g-pre 𝓤 H A W 𝓣 E G59 G60 b28 Δ0 (λ Ψ. Ψ) (at22 bs) (Lifetime.g-end 𝓤 H A W E G59 9 Path'.refl) d22
@@ -1465,7 +1464,7 @@ module _ (claims· : Claims) where
           d25 = Typed.g-pre 𝓤 H A W 𝓣 E G57 G58 b28 Δ0 (λ Ψ. Ψ) (at24 bs) (Lifetime.g-forget 𝓤 H A W E G57 8 Row.dead Path'.refl) d24
 
           d26 : Typed.Typed 𝓤 H A 𝓣 E G56 b28 Δ0 (at26 bs)
-          d26 = Typed.g-pre 𝓤 H A W 𝓣 E G56 G57 b28 Δ0 (Typed.pass T55 T57 (s55 bs)) (at25 bs) (Share.g-back-arr-shr 𝓤 H A W E (Referent.rtF (Referent.fInt Syntax.w16)) G56 7 1024 8 (λ x. x) (Reads'.as-is 𝓤 H A (Rows.arr-shr (Referent.rtF (Referent.fInt Syntax.w16)) 1024 8)) Path'.refl) d25
+          d26 = Typed.g-pre 𝓤 H A W 𝓣 E G56 G57 b28 Δ0 (Typed.pass T55 T57 (s55 bs)) (at25 bs) (Share.g-back-arr-shr 𝓤 H A W E (Referent.rtF (Referent.fInt Syntax.w16)) G56 7 1024 8 (λ x. x) (Reads.as-is 𝓤 H A (Rows.arr-shr (Referent.rtF (Referent.fInt Syntax.w16)) 1024 8)) Path'.refl) d25
 
           d27 : Typed.Typed 𝓤 H A 𝓣 E G55 b28 Δ0 (at27 bs)
           d27 = Typed.g-pre 𝓤 H A W 𝓣 E G55 G56 b28 Δ0 (λ Ψ. Ψ) (at26 bs) (Lifetime.g-end 𝓤 H A W E G55 8 Path'.refl) d26
@@ -1483,40 +1482,40 @@ module _ (claims· : Claims) where
           d31 = Typed.g-pre 𝓤 H A W 𝓣 E G51 G52 b28 Δ0 (Typed.pass T51 T52 (s50 bs)) (at30 bs) (Scalar.g-room 𝓤 H A W E G51 22 ty·13 (Shared.room-sslice 𝓤 H A W (Referent.rtF (Referent.fInt Syntax.w16)) ty·4 8)) d30
 
           d32 : Typed.Typed 𝓤 H A 𝓣 E G50 b29 Δ0 (at32 bs)
-          d32 = Typed.s-seq 𝓤 H A W 𝓣 E G50 G51 b21 b28 Δ0 (Typed.both (s49 bs)) (at31 bs) (Plain.t-call-plain 𝓤 H A W 𝓣 5 ps·1 r·1 (claims· .2) (claims· .3) "listing::states::list_states" (known .1) E (λ pos β. β) G50 (Num.vFld 1 (List._∷_ (Syntax.field 0) List.[]) 0 λ x. Size.struct .as-values x .0, (record { pos = 2; ty = Syntax.tyRef (Syntax.named 0) Syntax.imm (Memory.pointee (T.the-row .written)); ref = λ x. x }, (record { pos = 22; ty = Syntax.tyRef Syntax.erased Syntax.imm (Syntax.tyInt Syntax.w16); ref = λ x. x }, (record { pos = 24; ty = Syntax.tyRef Syntax.erased Syntax.imm (Syntax.tyInt Syntax.w16); ref = λ x. x }, (record { pos = 26; ty = Syntax.tyRef Syntax.erased Syntax.imm (Syntax.tyInt Syntax.w16); ref = λ x. x }, (record { pos = 28; ty = Syntax.tyRef Syntax.erased Syntax.mut (Syntax.tyInt Syntax.w8); ref = λ x. x }, (Num.vAt 6 λ x. x, tt))))))) 12 (List._∷_ 0 (List._∷_ 8 (List._∷_ 9 (List._∷_ 10 (List._∷_ 11 List.[]))))) (Call.sub-id 𝓤 H A W (G50 .slots)) ((Reads.reads-field 𝓤 H A W Size.the-type Laws'.the-laws 0 (Syntax.tyInt Syntax.w64) 0 Path'.refl, Path'.refl), (ShrSlice.spares-sslice 𝓤 H A W T.the-row ty·8 0, Shared.reads-sslice 𝓤 H A W T.the-row ty·8 0, Path'.refl, (ShrSlice.spares-sslice 𝓤 H A W (Referent.rtF (Referent.fInt Syntax.w16)) ty·4 8, Shared.reads-sslice 𝓤 H A W (Referent.rtF (Referent.fInt Syntax.w16)) ty·4 8, Path'.refl, (ShrSlice.spares-sslice 𝓤 H A W (Referent.rtF (Referent.fInt Syntax.w16)) ty·4 9, Shared.reads-sslice 𝓤 H A W (Referent.rtF (Referent.fInt Syntax.w16)) ty·4 9, Path'.refl, (ShrSlice.spares-sslice 𝓤 H A W (Referent.rtF (Referent.fInt Syntax.w16)) ty·4 10, Shared.reads-sslice 𝓤 H A W (Referent.rtF (Referent.fInt Syntax.w16)) ty·4 10, Path'.refl, (Reads'.as-is 𝓤 H A (Mut.mslice (Referent.rtF (Referent.fInt Syntax.w8)) ty·2 11), Mut.reads-mslice 𝓤 H A W (Referent.rtF (Referent.fInt Syntax.w8)) ty·2 11, Path'.refl, ((Scalar.reads-sc 𝓤 H A W (Row.sInt Syntax.w64), Path'.refl), tt))))))) (Reads'.room-gone 𝓤 H A (Syntax.tyInt Syntax.w64)) (tt, (tt, (tt, (tt, (tt, tt))))) Path'.refl) d31
+          d32 = Typed.s-seq 𝓤 H A W 𝓣 E G50 G51 b21 b28 Δ0 (Typed.both (s49 bs)) (at31 bs) (Plain.t-call-plain 𝓤 H A W 𝓣 7 ps·1 r·1 (claims· .2) (claims· .3) "listing::states::list_states" (known .1) E (λ pos β. β) G50 (record { pos = 1; st = List.[]; d = 0; at = λ x. x }, (record { pos = 2; ty = Syntax.tyRef (Syntax.named 0) Syntax.imm (Memory.pointee (T.the-row .written)); ref = λ x. x }, (record { pos = 3; ty = Syntax.tyRef (Syntax.named 1) Syntax.imm (Syntax.tyInt Syntax.w16); ref = λ x. x }, (record { pos = 4; ty = Syntax.tyRef (Syntax.named 2) Syntax.imm (Syntax.tyInt Syntax.w16); ref = λ x. x }, (record { pos = 22; ty = Syntax.tyRef Syntax.erased Syntax.imm (Syntax.tyInt Syntax.w16); ref = λ x. x }, (record { pos = 24; ty = Syntax.tyRef Syntax.erased Syntax.imm (Syntax.tyInt Syntax.w16); ref = λ x. x }, (record { pos = 26; ty = Syntax.tyRef Syntax.erased Syntax.imm (Syntax.tyInt Syntax.w16); ref = λ x. x }, (record { pos = 28; ty = Syntax.tyRef Syntax.erased Syntax.mut (Syntax.tyInt Syntax.w8); ref = λ x. x }, (Num.vAt 6 λ x. x, tt))))))))) 12 (List._∷_ 0 (List._∷_ 1 (List._∷_ 2 (List._∷_ 8 (List._∷_ 9 (List._∷_ 10 (List._∷_ 11 List.[]))))))) (Call.sub-id 𝓤 H A W (G50 .slots)) ((Yields.yields-copy 𝓤 H A W (λ ρ. Unit) (Declared.row Size.the-type) Path'.refl (Copies.cStruct Size.the-type Laws'.the-laws Laws'.the-copy .copy 𝓤 H A W) (Rows'.whole (Declared.row Size.the-type)) (λ x. x) (λ x. x) (λ ρ told. Local.mem-whole 𝓤 H A W (Declared.row Size.the-type) ρ) λ ρ told. Local.whole-mem 𝓤 H A W (Declared.row Size.the-type) ρ, Path'.refl), (ShrSlice.spares-sslice 𝓤 H A W T.the-row ty·8 0, Shared.reads-sslice 𝓤 H A W T.the-row ty·8 0, Path'.refl, (ShrSlice.spares-sslice 𝓤 H A W (Referent.rtF (Referent.fInt Syntax.w16)) ty·6 1, Shared.reads-sslice 𝓤 H A W (Referent.rtF (Referent.fInt Syntax.w16)) ty·6 1, Path'.refl, (ShrSlice.spares-sslice 𝓤 H A W (Referent.rtF (Referent.fInt Syntax.w16)) ty·7 2, Shared.reads-sslice 𝓤 H A W (Referent.rtF (Referent.fInt Syntax.w16)) ty·7 2, Path'.refl, (ShrSlice.spares-sslice 𝓤 H A W (Referent.rtF (Referent.fInt Syntax.w16)) ty·4 8, Shared.reads-sslice 𝓤 H A W (Referent.rtF (Referent.fInt Syntax.w16)) ty·4 8, Path'.refl, (ShrSlice.spares-sslice 𝓤 H A W (Referent.rtF (Referent.fInt Syntax.w16)) ty·4 9, Shared.reads-sslice 𝓤 H A W (Referent.rtF (Referent.fInt Syntax.w16)) ty·4 9, Path'.refl, (ShrSlice.spares-sslice 𝓤 H A W (Referent.rtF (Referent.fInt Syntax.w16)) ty·4 10, Shared.reads-sslice 𝓤 H A W (Referent.rtF (Referent.fInt Syntax.w16)) ty·4 10, Path'.refl, (Reads.as-is 𝓤 H A (Mut.mslice (Referent.rtF (Referent.fInt Syntax.w8)) ty·2 11), Mut.reads-mslice 𝓤 H A W (Referent.rtF (Referent.fInt Syntax.w8)) ty·2 11, Path'.refl, ((Scalar.reads-sc 𝓤 H A W (Row.sInt Syntax.w64), Path'.refl), tt))))))))) (Reads.room-gone 𝓤 H A (Syntax.tyInt Syntax.w64)) (tt, (tt, (tt, (tt, (tt, (tt, (tt, tt))))))) Path'.refl) d31
 
           d33 : Typed.Typed 𝓤 H A 𝓣 E G49 b30 Δ0 (at33 bs)
-          d33 = Typed.s-seq 𝓤 H A W 𝓣 E G49 G50 b20 b29 Δ0 (Typed.ask (s48 bs)) (at32 bs) (Relend.t-sl-aggregate 𝓤 H A W E (Referent.rtF (Referent.fInt Syntax.w8)) 𝓣 (Relend.asMut (Referent.rtF (Referent.fInt Syntax.w8))) G49 27 28 11 ty·2 ty·2 (λ x. x) (Scalar.oFld 5 (List._∷_ (Syntax.field 1) List.[]) (Syntax.tyInt Syntax.w64) 8 λ v. Shared.lenV (v .0)) (Reads'.as-is 𝓤 H A (Relend.msptr (Referent.rtF (Referent.fInt Syntax.w8)) ty·2 11)) (Reads'.room-gone 𝓤 H A ty·11) (Relend.reads-owed-len 𝓤 H A W (Referent.rtF (Referent.fInt Syntax.w8)) ty·5 3 11 (Row.lease (κs .1 .1 .1 .0) (qs .1 .1 .1 .0)) 8 Path'.refl, Path'.refl) Path'.refl Path'.refl λ b o k. tt) d32
+          d33 = Typed.s-seq 𝓤 H A W 𝓣 E G49 G50 b20 b29 Δ0 (Typed.ask (s48 bs)) (at32 bs) (Relend.t-sl-aggregate 𝓤 H A W E (Referent.rtF (Referent.fInt Syntax.w8)) 𝓣 (Relend.asMut (Referent.rtF (Referent.fInt Syntax.w8))) G49 27 28 11 ty·2 ty·2 (λ x. x) (Scalar.oFld 5 (List._∷_ (Syntax.field 1) List.[]) (Syntax.tyInt Syntax.w64) 8 λ v. Shared.lenV (v .0)) (Reads.as-is 𝓤 H A (Relend.msptr (Referent.rtF (Referent.fInt Syntax.w8)) ty·2 11)) (Reads.room-gone 𝓤 H A ty·11) (Relend.reads-owed-len 𝓤 H A W (Referent.rtF (Referent.fInt Syntax.w8)) ty·5 3 11 (Row.lease (κs .1 .1 .1 .0) (qs .1 .1 .1 .0)) 8 Path'.refl, Path'.refl) Path'.refl Path'.refl λ b o k. tt) d32
 
           d34 : Typed.Typed 𝓤 H A 𝓣 E G48 b31 Δ0 (at34 bs)
-          d34 = Typed.s-seq 𝓤 H A W 𝓣 E G48 G49 b19 b30 Δ0 (Typed.give (s47 bs)) (at33 bs) (Relend.t-sl-relend 𝓤 H A W E (Referent.rtF (Referent.fInt Syntax.w8)) 𝓣 G48 5 27 3 11 ty·5 ty·2 (Row.lease (κs .1 .1 .1 .0) (qs .1 .1 .1 .0)) 0 (λ x. x) (Reads'.as-is 𝓤 H A (Mut.mslice (Referent.rtF (Referent.fInt Syntax.w8)) ty·5 3)) (Reads'.room-gone 𝓤 H A ty·2) Path'.refl tt Path'.refl Path'.refl Path'.refl λ b o. tt) d33
+          d34 = Typed.s-seq 𝓤 H A W 𝓣 E G48 G49 b19 b30 Δ0 (Typed.give (s47 bs)) (at33 bs) (Relend.t-sl-relend 𝓤 H A W E (Referent.rtF (Referent.fInt Syntax.w8)) 𝓣 G48 5 27 3 11 ty·5 ty·2 (Row.lease (κs .1 .1 .1 .0) (qs .1 .1 .1 .0)) 0 (λ x. x) (Reads.as-is 𝓤 H A (Mut.mslice (Referent.rtF (Referent.fInt Syntax.w8)) ty·5 3)) (Reads.room-gone 𝓤 H A ty·2) Path'.refl tt Path'.refl Path'.refl Path'.refl λ b o. tt) d33
 
           d35 : Typed.Typed 𝓤 H A 𝓣 E G47 b31 Δ0 (at35 bs)
           d35 = Typed.g-pre 𝓤 H A W 𝓣 E G47 G48 b31 Δ0 (λ Ψ. Ψ) (at34 bs) (Lifetime.g-begin 𝓤 H A W E G47 11 (tt, (tt, (tt, (tt, (tt, (tt, (tt, (tt, (tt, (tt, (tt, (tt, (tt, (tt, (tt, (tt, (tt, (tt, (tt, (tt, (tt, (tt, (tt, (tt, (tt, (tt, (tt, (tt, (tt, (tt, (tt, tt)))))))))))))))))))))))))))))))) d34
 
           d36 : Typed.Typed 𝓤 H A 𝓣 E G46 b32 Δ0 (at36 bs)
-          d36 = Typed.s-seq 𝓤 H A W 𝓣 E G46 G47 b18 b31 Δ0 (Typed.ask (s45 bs)) (at35 bs) (Relend.t-sl-aggregate 𝓤 H A W E (Referent.rtF (Referent.fInt Syntax.w16)) 𝓣 (Relend.asShr (Referent.rtF (Referent.fInt Syntax.w16))) G46 25 26 10 ty·10 ty·4 (λ x. x) (Scalar.oBig Syntax.w64 1024) (Reads'.as-is 𝓤 H A (Relend.ssptr (Referent.rtF (Referent.fInt Syntax.w16)) ty·10 10)) (Reads'.room-gone 𝓤 H A ty·13) record { lower = record { fits = Dec'.lit< tt } } Path'.refl Path'.refl λ b o k. tt) d35
+          d36 = Typed.s-seq 𝓤 H A W 𝓣 E G46 G47 b18 b31 Δ0 (Typed.ask (s45 bs)) (at35 bs) (Relend.t-sl-aggregate 𝓤 H A W E (Referent.rtF (Referent.fInt Syntax.w16)) 𝓣 (Relend.asShr (Referent.rtF (Referent.fInt Syntax.w16))) G46 25 26 10 ty·10 ty·4 (λ x. x) (Scalar.oBig Syntax.w64 1024) (Reads.as-is 𝓤 H A (Relend.ssptr (Referent.rtF (Referent.fInt Syntax.w16)) ty·10 10)) (Reads.room-gone 𝓤 H A ty·13) record { lower = record { fits = Dec'.lit< tt } } Path'.refl Path'.refl λ b o k. tt) d35
 
           d37 : Typed.Typed 𝓤 H A 𝓣 E G45 b33 Δ0 (at37 bs)
-          d37 = Typed.s-seq 𝓤 H A W 𝓣 E G45 G46 b17 b32 Δ0 (Typed.give (s44 bs)) (at36 bs) (Share.t-arr-share 𝓤 H A W E 𝓣 (Referent.rtF (Referent.fInt Syntax.w16)) G45 9 25 1024 10 ty·10 (λ x. x) (Reads'.as-is 𝓤 H A (Rows.arrF (Referent.rtF (Referent.fInt Syntax.w16)) 1024 0)) (Reads'.room-gone 𝓤 H A ty·10) Path'.refl (λ b o. tt) (Dec'.lit< tt, Dec'.lit< tt)) d36
+          d37 = Typed.s-seq 𝓤 H A W 𝓣 E G45 G46 b17 b32 Δ0 (Typed.give (s44 bs)) (at36 bs) (Share.t-arr-share 𝓤 H A W E 𝓣 (Referent.rtF (Referent.fInt Syntax.w16)) G45 9 25 1024 10 ty·10 (λ x. x) (Reads.as-is 𝓤 H A (Rows.arrF (Referent.rtF (Referent.fInt Syntax.w16)) 1024 0)) (Reads.room-gone 𝓤 H A ty·10) Path'.refl (λ b o. tt) (Dec'.lit< tt, Dec'.lit< tt)) d36
 
           d38 : Typed.Typed 𝓤 H A 𝓣 E G44 b33 Δ0 (at38 bs)
           d38 = Typed.g-pre 𝓤 H A W 𝓣 E G44 G45 b33 Δ0 (λ Ψ. Ψ) (at37 bs) (Lifetime.g-begin 𝓤 H A W E G44 10 (tt, (tt, (tt, (tt, (tt, (tt, (tt, (tt, (tt, (tt, (tt, (tt, (tt, (tt, (tt, (tt, (tt, (tt, (tt, (tt, (tt, (tt, (tt, (tt, (tt, (tt, (tt, (tt, (tt, (tt, (tt, tt)))))))))))))))))))))))))))))))) d37
 
           d39 : Typed.Typed 𝓤 H A 𝓣 E G43 b34 Δ0 (at39 bs)
-          d39 = Typed.s-seq 𝓤 H A W 𝓣 E G43 G44 b16 b33 Δ0 (Typed.ask (s42 bs)) (at38 bs) (Relend.t-sl-aggregate 𝓤 H A W E (Referent.rtF (Referent.fInt Syntax.w16)) 𝓣 (Relend.asShr (Referent.rtF (Referent.fInt Syntax.w16))) G43 23 24 9 ty·10 ty·4 (λ x. x) (Scalar.oBig Syntax.w64 1024) (Reads'.as-is 𝓤 H A (Relend.ssptr (Referent.rtF (Referent.fInt Syntax.w16)) ty·10 9)) (Reads'.room-gone 𝓤 H A ty·13) record { lower = record { fits = Dec'.lit< tt } } Path'.refl Path'.refl λ b o k. tt) d38
+          d39 = Typed.s-seq 𝓤 H A W 𝓣 E G43 G44 b16 b33 Δ0 (Typed.ask (s42 bs)) (at38 bs) (Relend.t-sl-aggregate 𝓤 H A W E (Referent.rtF (Referent.fInt Syntax.w16)) 𝓣 (Relend.asShr (Referent.rtF (Referent.fInt Syntax.w16))) G43 23 24 9 ty·10 ty·4 (λ x. x) (Scalar.oBig Syntax.w64 1024) (Reads.as-is 𝓤 H A (Relend.ssptr (Referent.rtF (Referent.fInt Syntax.w16)) ty·10 9)) (Reads.room-gone 𝓤 H A ty·13) record { lower = record { fits = Dec'.lit< tt } } Path'.refl Path'.refl λ b o k. tt) d38
 
           d40 : Typed.Typed 𝓤 H A 𝓣 E G42 b35 Δ0 (at40 bs)
-          d40 = Typed.s-seq 𝓤 H A W 𝓣 E G42 G43 b15 b34 Δ0 (Typed.give (s41 bs)) (at39 bs) (Share.t-arr-share 𝓤 H A W E 𝓣 (Referent.rtF (Referent.fInt Syntax.w16)) G42 8 23 1024 9 ty·10 (λ x. x) (Reads'.as-is 𝓤 H A (Rows.arrF (Referent.rtF (Referent.fInt Syntax.w16)) 1024 0)) (Reads'.room-gone 𝓤 H A ty·10) Path'.refl (λ b o. tt) (Dec'.lit< tt, Dec'.lit< tt)) d39
+          d40 = Typed.s-seq 𝓤 H A W 𝓣 E G42 G43 b15 b34 Δ0 (Typed.give (s41 bs)) (at39 bs) (Share.t-arr-share 𝓤 H A W E 𝓣 (Referent.rtF (Referent.fInt Syntax.w16)) G42 8 23 1024 9 ty·10 (λ x. x) (Reads.as-is 𝓤 H A (Rows.arrF (Referent.rtF (Referent.fInt Syntax.w16)) 1024 0)) (Reads.room-gone 𝓤 H A ty·10) Path'.refl (λ b o. tt) (Dec'.lit< tt, Dec'.lit< tt)) d39
 
           d41 : Typed.Typed 𝓤 H A 𝓣 E G41 b35 Δ0 (at41 bs)
           d41 = Typed.g-pre 𝓤 H A W 𝓣 E G41 G42 b35 Δ0 (λ Ψ. Ψ) (at40 bs) (Lifetime.g-begin 𝓤 H A W E G41 9 (tt, (tt, (tt, (tt, (tt, (tt, (tt, (tt, (tt, (tt, (tt, (tt, (tt, (tt, (tt, (tt, (tt, (tt, (tt, (tt, (tt, (tt, (tt, (tt, (tt, (tt, (tt, (tt, (tt, (tt, (tt, tt)))))))))))))))))))))))))))))))) d40
 
           d42 : Typed.Typed 𝓤 H A 𝓣 E G40 b36 Δ0 (at42 bs)
-          d42 = Typed.s-seq 𝓤 H A W 𝓣 E G40 G41 b14 b35 Δ0 (Typed.ask (s39 bs)) (at41 bs) (Relend.t-sl-aggregate 𝓤 H A W E (Referent.rtF (Referent.fInt Syntax.w16)) 𝓣 (Relend.asShr (Referent.rtF (Referent.fInt Syntax.w16))) G40 21 22 8 ty·10 ty·4 (λ x. x) (Scalar.oBig Syntax.w64 1024) (Reads'.as-is 𝓤 H A (Relend.ssptr (Referent.rtF (Referent.fInt Syntax.w16)) ty·10 8)) (Reads'.room-gone 𝓤 H A ty·13) record { lower = record { fits = Dec'.lit< tt } } Path'.refl Path'.refl λ b o k. tt) d41
+          d42 = Typed.s-seq 𝓤 H A W 𝓣 E G40 G41 b14 b35 Δ0 (Typed.ask (s39 bs)) (at41 bs) (Relend.t-sl-aggregate 𝓤 H A W E (Referent.rtF (Referent.fInt Syntax.w16)) 𝓣 (Relend.asShr (Referent.rtF (Referent.fInt Syntax.w16))) G40 21 22 8 ty·10 ty·4 (λ x. x) (Scalar.oBig Syntax.w64 1024) (Reads.as-is 𝓤 H A (Relend.ssptr (Referent.rtF (Referent.fInt Syntax.w16)) ty·10 8)) (Reads.room-gone 𝓤 H A ty·13) record { lower = record { fits = Dec'.lit< tt } } Path'.refl Path'.refl λ b o k. tt) d41
 
           d43 : Typed.Typed 𝓤 H A 𝓣 E G39 b37 Δ0 (at43 bs)
-          d43 = Typed.s-seq 𝓤 H A W 𝓣 E G39 G40 b13 b36 Δ0 (Typed.give (s38 bs)) (at42 bs) (Share.t-arr-share 𝓤 H A W E 𝓣 (Referent.rtF (Referent.fInt Syntax.w16)) G39 7 21 1024 8 ty·10 (λ x. x) (Reads'.as-is 𝓤 H A (Rows.arrF (Referent.rtF (Referent.fInt Syntax.w16)) 1024 0)) (Reads'.room-gone 𝓤 H A ty·10) Path'.refl (λ b o. tt) (Dec'.lit< tt, Dec'.lit< tt)) d42
+          d43 = Typed.s-seq 𝓤 H A W 𝓣 E G39 G40 b13 b36 Δ0 (Typed.give (s38 bs)) (at42 bs) (Share.t-arr-share 𝓤 H A W E 𝓣 (Referent.rtF (Referent.fInt Syntax.w16)) G39 7 21 1024 8 ty·10 (λ x. x) (Reads.as-is 𝓤 H A (Rows.arrF (Referent.rtF (Referent.fInt Syntax.w16)) 1024 0)) (Reads.room-gone 𝓤 H A ty·10) Path'.refl (λ b o. tt) (Dec'.lit< tt, Dec'.lit< tt)) d42
 
           d44 : Typed.Typed 𝓤 H A 𝓣 E G38 b37 Δ0 (at44 bs)
           d44 = Typed.g-pre 𝓤 H A W 𝓣 E G38 G39 b37 Δ0 (λ Ψ. Ψ) (at43 bs) (Lifetime.g-begin 𝓤 H A W E G38 8 (tt, (tt, (tt, (tt, (tt, (tt, (tt, (tt, (tt, (tt, (tt, (tt, (tt, (tt, (tt, (tt, (tt, (tt, (tt, (tt, (tt, (tt, (tt, (tt, (tt, (tt, (tt, (tt, (tt, (tt, (tt, tt)))))))))))))))))))))))))))))))) d43
@@ -1528,7 +1527,7 @@ module _ (claims· : Claims) where
           d46 = Typed.g-pre 𝓤 H A W 𝓣 E G36 G37 b37 Δ0 (λ Ψ. Ψ) (at45 bs) (Lifetime.g-forget 𝓤 H A W E G36 7 Row.dead Path'.refl) d45
 
           d47 : Typed.Typed 𝓤 H A 𝓣 E G35 b37 Δ0 (at47 bs)
-          d47 = Typed.g-pre 𝓤 H A W 𝓣 E G35 G36 b37 Δ0 (Typed.both (s34 bs)) (at46 bs) (Borrow.g-back-arr 𝓤 H A W E (Referent.rtF (Referent.fInt Syntax.w16)) G35 20 10 7 1024 ty·3 (λ x. x) (λ x. x) (Reads'.as-is 𝓤 H A (Mut.msleft (Referent.rtF (Referent.fInt Syntax.w16)) ty·3)) (Reads'.as-is 𝓤 H A (Rows.arr-owed (Referent.rtF (Referent.fInt Syntax.w16)) 1024 7)) Path'.refl) d46
+          d47 = Typed.g-pre 𝓤 H A W 𝓣 E G35 G36 b37 Δ0 (Typed.both (s34 bs)) (at46 bs) (Borrow.g-back-arr 𝓤 H A W E (Referent.rtF (Referent.fInt Syntax.w16)) G35 20 10 7 1024 ty·3 (λ x. x) (λ x. x) (Reads.as-is 𝓤 H A (Mut.msleft (Referent.rtF (Referent.fInt Syntax.w16)) ty·3)) (Reads.as-is 𝓤 H A (Rows.arr-owed (Referent.rtF (Referent.fInt Syntax.w16)) 1024 7)) Path'.refl) d46
 
           d48 : Typed.Typed 𝓤 H A 𝓣 E G34 b37 Δ0 (at48 bs)
           d48 = Typed.g-pre 𝓤 H A W 𝓣 E G34 G35 b37 Δ0 (λ Ψ. Ψ) (at47 bs) (Lifetime.g-end 𝓤 H A W E G34 7 Path'.refl) d47
@@ -1537,7 +1536,7 @@ module _ (claims· : Claims) where
           d49 = Typed.g-pre 𝓤 H A W 𝓣 E G33 G34 b37 Δ0 (λ Ψ. Ψ) (at48 bs) (Lifetime.g-forget 𝓤 H A W E G33 6 Row.dead Path'.refl) d48
 
           d50 : Typed.Typed 𝓤 H A 𝓣 E G32 b37 Δ0 (at50 bs)
-          d50 = Typed.g-pre 𝓤 H A W 𝓣 E G32 G33 b37 Δ0 (Typed.both (s31 bs)) (at49 bs) (Borrow.g-back-arr 𝓤 H A W E (Referent.rtF (Referent.fInt Syntax.w16)) G32 18 9 6 1024 ty·3 (λ x. x) (λ x. x) (Reads'.as-is 𝓤 H A (Mut.msleft (Referent.rtF (Referent.fInt Syntax.w16)) ty·3)) (Reads'.as-is 𝓤 H A (Rows.arr-owed (Referent.rtF (Referent.fInt Syntax.w16)) 1024 6)) Path'.refl) d49
+          d50 = Typed.g-pre 𝓤 H A W 𝓣 E G32 G33 b37 Δ0 (Typed.both (s31 bs)) (at49 bs) (Borrow.g-back-arr 𝓤 H A W E (Referent.rtF (Referent.fInt Syntax.w16)) G32 18 9 6 1024 ty·3 (λ x. x) (λ x. x) (Reads.as-is 𝓤 H A (Mut.msleft (Referent.rtF (Referent.fInt Syntax.w16)) ty·3)) (Reads.as-is 𝓤 H A (Rows.arr-owed (Referent.rtF (Referent.fInt Syntax.w16)) 1024 6)) Path'.refl) d49
 
           d51 : Typed.Typed 𝓤 H A 𝓣 E G31 b37 Δ0 (at51 bs)
           d51 = Typed.g-pre 𝓤 H A W 𝓣 E G31 G32 b37 Δ0 (λ Ψ. Ψ) (at50 bs) (Lifetime.g-end 𝓤 H A W E G31 6 Path'.refl) d50
@@ -1546,7 +1545,7 @@ module _ (claims· : Claims) where
           d52 = Typed.g-pre 𝓤 H A W 𝓣 E G30 G31 b37 Δ0 (λ Ψ. Ψ) (at51 bs) (Lifetime.g-forget 𝓤 H A W E G30 5 Row.dead Path'.refl) d51
 
           d53 : Typed.Typed 𝓤 H A 𝓣 E G29 b37 Δ0 (at53 bs)
-          d53 = Typed.g-pre 𝓤 H A W 𝓣 E G29 G30 b37 Δ0 (Typed.both (s28 bs)) (at52 bs) (Borrow.g-back-arr 𝓤 H A W E (Referent.rtF (Referent.fInt Syntax.w16)) G29 16 8 5 1024 ty·3 (λ x. x) (λ x. x) (Reads'.as-is 𝓤 H A (Mut.msleft (Referent.rtF (Referent.fInt Syntax.w16)) ty·3)) (Reads'.as-is 𝓤 H A (Rows.arr-owed (Referent.rtF (Referent.fInt Syntax.w16)) 1024 5)) Path'.refl) d52
+          d53 = Typed.g-pre 𝓤 H A W 𝓣 E G29 G30 b37 Δ0 (Typed.both (s28 bs)) (at52 bs) (Borrow.g-back-arr 𝓤 H A W E (Referent.rtF (Referent.fInt Syntax.w16)) G29 16 8 5 1024 ty·3 (λ x. x) (λ x. x) (Reads.as-is 𝓤 H A (Mut.msleft (Referent.rtF (Referent.fInt Syntax.w16)) ty·3)) (Reads.as-is 𝓤 H A (Rows.arr-owed (Referent.rtF (Referent.fInt Syntax.w16)) 1024 5)) Path'.refl) d52
 
           d54 : Typed.Typed 𝓤 H A 𝓣 E G28 b37 Δ0 (at54 bs)
           d54 = Typed.g-pre 𝓤 H A W 𝓣 E G28 G29 b37 Δ0 (λ Ψ. Ψ) (at53 bs) (Lifetime.g-end 𝓤 H A W E G28 5 Path'.refl) d53
@@ -1555,46 +1554,46 @@ module _ (claims· : Claims) where
           d55 = Typed.g-pre 𝓤 H A W 𝓣 E G27 G28 b37 Δ0 (λ Ψ. Ψ) (at54 bs) (Lifetime.g-forget 𝓤 H A W E G27 4 Row.dead Path'.refl) d54
 
           d56 : Typed.Typed 𝓤 H A 𝓣 E G26 b37 Δ0 (at56 bs)
-          d56 = Typed.g-pre 𝓤 H A W 𝓣 E G26 G27 b37 Δ0 (Typed.both (s25 bs)) (at55 bs) (Borrow.g-back-arr 𝓤 H A W E (Referent.rtF (Referent.fInt Syntax.w16)) G26 14 7 4 1024 ty·3 (λ x. x) (λ x. x) (Reads'.as-is 𝓤 H A (Mut.msleft (Referent.rtF (Referent.fInt Syntax.w16)) ty·3)) (Reads'.as-is 𝓤 H A (Rows.arr-owed (Referent.rtF (Referent.fInt Syntax.w16)) 1024 4)) Path'.refl) d55
+          d56 = Typed.g-pre 𝓤 H A W 𝓣 E G26 G27 b37 Δ0 (Typed.both (s25 bs)) (at55 bs) (Borrow.g-back-arr 𝓤 H A W E (Referent.rtF (Referent.fInt Syntax.w16)) G26 14 7 4 1024 ty·3 (λ x. x) (λ x. x) (Reads.as-is 𝓤 H A (Mut.msleft (Referent.rtF (Referent.fInt Syntax.w16)) ty·3)) (Reads.as-is 𝓤 H A (Rows.arr-owed (Referent.rtF (Referent.fInt Syntax.w16)) 1024 4)) Path'.refl) d55
 
           d57 : Typed.Typed 𝓤 H A 𝓣 E G25 b37 Δ0 (at57 bs)
           d57 = Typed.g-pre 𝓤 H A W 𝓣 E G25 G26 b37 Δ0 (λ Ψ. Ψ) (at56 bs) (Lifetime.g-end 𝓤 H A W E G25 4 Path'.refl) d56
 
           d58 : Typed.Typed 𝓤 H A 𝓣 E G24 b38 Δ0 (at58 bs)
-          d58 = Typed.s-seq 𝓤 H A W 𝓣 E G24 G25 b12 b37 Δ0 (Typed.both (s23 bs)) (at57 bs) (Plain.t-call-plain 𝓤 H A W 𝓣 7 ps·0 r·0 (claims· .0) (claims· .1) "decide::decide" (known .0) E (λ pos β. β) G24 (record { pos = 1; st = List.[]; d = 0; at = λ x. x }, (record { pos = 2; ty = Syntax.tyRef (Syntax.named 0) Syntax.imm (Memory.pointee (T.the-row .written)); ref = λ x. x }, (record { pos = 3; ty = Syntax.tyRef (Syntax.named 1) Syntax.imm (Syntax.tyInt Syntax.w16); ref = λ x. x }, (record { pos = 4; ty = Syntax.tyRef (Syntax.named 2) Syntax.imm (Syntax.tyInt Syntax.w16); ref = λ x. x }, (record { pos = 14; ty = Syntax.tyRef Syntax.erased Syntax.mut (Syntax.tyInt Syntax.w16); ref = λ x. x }, (record { pos = 16; ty = Syntax.tyRef Syntax.erased Syntax.mut (Syntax.tyInt Syntax.w16); ref = λ x. x }, (record { pos = 18; ty = Syntax.tyRef Syntax.erased Syntax.mut (Syntax.tyInt Syntax.w16); ref = λ x. x }, (record { pos = 20; ty = Syntax.tyRef Syntax.erased Syntax.mut (Syntax.tyInt Syntax.w16); ref = λ x. x }, tt)))))))) 11 (List._∷_ 0 (List._∷_ 1 (List._∷_ 2 (List._∷_ 4 (List._∷_ 5 (List._∷_ 6 (List._∷_ 7 List.[]))))))) (Call.sub-id 𝓤 H A W (G24 .slots)) ((Yields.yields-copy 𝓤 H A W (λ ρ. Unit) (Declared.row Size.the-type) Path'.refl (Copies.cStruct Size.the-type Laws'.the-laws Laws'.the-copy .copy 𝓤 H A W) (Rows'.whole (Declared.row Size.the-type)) (λ x. x) (λ x. x) (λ ρ told. Local.mem-whole 𝓤 H A W (Declared.row Size.the-type) ρ) λ ρ told. Local.whole-mem 𝓤 H A W (Declared.row Size.the-type) ρ, Path'.refl), (ShrSlice.spares-sslice 𝓤 H A W T.the-row ty·8 0, Shared.reads-sslice 𝓤 H A W T.the-row ty·8 0, Path'.refl, (ShrSlice.spares-sslice 𝓤 H A W (Referent.rtF (Referent.fInt Syntax.w16)) ty·6 1, Shared.reads-sslice 𝓤 H A W (Referent.rtF (Referent.fInt Syntax.w16)) ty·6 1, Path'.refl, (ShrSlice.spares-sslice 𝓤 H A W (Referent.rtF (Referent.fInt Syntax.w16)) ty·7 2, Shared.reads-sslice 𝓤 H A W (Referent.rtF (Referent.fInt Syntax.w16)) ty·7 2, Path'.refl, (Reads'.as-is 𝓤 H A (Mut.mslice (Referent.rtF (Referent.fInt Syntax.w16)) ty·3 4), Mut.reads-mslice 𝓤 H A W (Referent.rtF (Referent.fInt Syntax.w16)) ty·3 4, Path'.refl, (Reads'.as-is 𝓤 H A (Mut.mslice (Referent.rtF (Referent.fInt Syntax.w16)) ty·3 5), Mut.reads-mslice 𝓤 H A W (Referent.rtF (Referent.fInt Syntax.w16)) ty·3 5, Path'.refl, (Reads'.as-is 𝓤 H A (Mut.mslice (Referent.rtF (Referent.fInt Syntax.w16)) ty·3 6), Mut.reads-mslice 𝓤 H A W (Referent.rtF (Referent.fInt Syntax.w16)) ty·3 6, Path'.refl, (Reads'.as-is 𝓤 H A (Mut.mslice (Referent.rtF (Referent.fInt Syntax.w16)) ty·3 7), Mut.reads-mslice 𝓤 H A W (Referent.rtF (Referent.fInt Syntax.w16)) ty·3 7, Path'.refl, tt)))))))) (Reads'.room-gone 𝓤 H A ty·17) (tt, (tt, (tt, (tt, (tt, (tt, (tt, tt))))))) Path'.refl) d57
+          d58 = Typed.s-seq 𝓤 H A W 𝓣 E G24 G25 b12 b37 Δ0 (Typed.both (s23 bs)) (at57 bs) (Plain.t-call-plain 𝓤 H A W 𝓣 7 ps·0 r·0 (claims· .0) (claims· .1) "decide::decide" (known .0) E (λ pos β. β) G24 (record { pos = 1; st = List.[]; d = 0; at = λ x. x }, (record { pos = 2; ty = Syntax.tyRef (Syntax.named 0) Syntax.imm (Memory.pointee (T.the-row .written)); ref = λ x. x }, (record { pos = 3; ty = Syntax.tyRef (Syntax.named 1) Syntax.imm (Syntax.tyInt Syntax.w16); ref = λ x. x }, (record { pos = 4; ty = Syntax.tyRef (Syntax.named 2) Syntax.imm (Syntax.tyInt Syntax.w16); ref = λ x. x }, (record { pos = 14; ty = Syntax.tyRef Syntax.erased Syntax.mut (Syntax.tyInt Syntax.w16); ref = λ x. x }, (record { pos = 16; ty = Syntax.tyRef Syntax.erased Syntax.mut (Syntax.tyInt Syntax.w16); ref = λ x. x }, (record { pos = 18; ty = Syntax.tyRef Syntax.erased Syntax.mut (Syntax.tyInt Syntax.w16); ref = λ x. x }, (record { pos = 20; ty = Syntax.tyRef Syntax.erased Syntax.mut (Syntax.tyInt Syntax.w16); ref = λ x. x }, tt)))))))) 11 (List._∷_ 0 (List._∷_ 1 (List._∷_ 2 (List._∷_ 4 (List._∷_ 5 (List._∷_ 6 (List._∷_ 7 List.[]))))))) (Call.sub-id 𝓤 H A W (G24 .slots)) ((Yields.yields-copy 𝓤 H A W (λ ρ. Unit) (Declared.row Size.the-type) Path'.refl (Copies.cStruct Size.the-type Laws'.the-laws Laws'.the-copy .copy 𝓤 H A W) (Rows'.whole (Declared.row Size.the-type)) (λ x. x) (λ x. x) (λ ρ told. Local.mem-whole 𝓤 H A W (Declared.row Size.the-type) ρ) λ ρ told. Local.whole-mem 𝓤 H A W (Declared.row Size.the-type) ρ, Path'.refl), (ShrSlice.spares-sslice 𝓤 H A W T.the-row ty·8 0, Shared.reads-sslice 𝓤 H A W T.the-row ty·8 0, Path'.refl, (ShrSlice.spares-sslice 𝓤 H A W (Referent.rtF (Referent.fInt Syntax.w16)) ty·6 1, Shared.reads-sslice 𝓤 H A W (Referent.rtF (Referent.fInt Syntax.w16)) ty·6 1, Path'.refl, (ShrSlice.spares-sslice 𝓤 H A W (Referent.rtF (Referent.fInt Syntax.w16)) ty·7 2, Shared.reads-sslice 𝓤 H A W (Referent.rtF (Referent.fInt Syntax.w16)) ty·7 2, Path'.refl, (Reads.as-is 𝓤 H A (Mut.mslice (Referent.rtF (Referent.fInt Syntax.w16)) ty·3 4), Mut.reads-mslice 𝓤 H A W (Referent.rtF (Referent.fInt Syntax.w16)) ty·3 4, Path'.refl, (Reads.as-is 𝓤 H A (Mut.mslice (Referent.rtF (Referent.fInt Syntax.w16)) ty·3 5), Mut.reads-mslice 𝓤 H A W (Referent.rtF (Referent.fInt Syntax.w16)) ty·3 5, Path'.refl, (Reads.as-is 𝓤 H A (Mut.mslice (Referent.rtF (Referent.fInt Syntax.w16)) ty·3 6), Mut.reads-mslice 𝓤 H A W (Referent.rtF (Referent.fInt Syntax.w16)) ty·3 6, Path'.refl, (Reads.as-is 𝓤 H A (Mut.mslice (Referent.rtF (Referent.fInt Syntax.w16)) ty·3 7), Mut.reads-mslice 𝓤 H A W (Referent.rtF (Referent.fInt Syntax.w16)) ty·3 7, Path'.refl, tt)))))))) (Reads.room-gone 𝓤 H A ty·17) (tt, (tt, (tt, (tt, (tt, (tt, (tt, tt))))))) Path'.refl) d57
 
           d59 : Typed.Typed 𝓤 H A 𝓣 E G23 b39 Δ0 (at59 bs)
-          d59 = Typed.s-seq 𝓤 H A W 𝓣 E G23 G24 b11 b38 Δ0 (Typed.ask (s22 bs)) (at58 bs) (Relend.t-sl-aggregate 𝓤 H A W E (Referent.rtF (Referent.fInt Syntax.w16)) 𝓣 (Relend.asMut (Referent.rtF (Referent.fInt Syntax.w16))) G23 19 20 7 ty·9 ty·3 (λ x. x) (Scalar.oBig Syntax.w64 1024) (Reads'.as-is 𝓤 H A (Relend.msptr (Referent.rtF (Referent.fInt Syntax.w16)) ty·9 7)) (Reads'.room-gone 𝓤 H A ty·12) record { lower = record { fits = Dec'.lit< tt } } Path'.refl Path'.refl λ b o k. tt) d58
+          d59 = Typed.s-seq 𝓤 H A W 𝓣 E G23 G24 b11 b38 Δ0 (Typed.ask (s22 bs)) (at58 bs) (Relend.t-sl-aggregate 𝓤 H A W E (Referent.rtF (Referent.fInt Syntax.w16)) 𝓣 (Relend.asMut (Referent.rtF (Referent.fInt Syntax.w16))) G23 19 20 7 ty·9 ty·3 (λ x. x) (Scalar.oBig Syntax.w64 1024) (Reads.as-is 𝓤 H A (Relend.msptr (Referent.rtF (Referent.fInt Syntax.w16)) ty·9 7)) (Reads.room-gone 𝓤 H A ty·12) record { lower = record { fits = Dec'.lit< tt } } Path'.refl Path'.refl λ b o k. tt) d58
 
           d60 : Typed.Typed 𝓤 H A 𝓣 E G22 b40 Δ0 (at60 bs)
-          d60 = Typed.s-seq 𝓤 H A W 𝓣 E G22 G23 b10 b39 Δ0 (Typed.give (s21 bs)) (at59 bs) (Borrow.t-arr-borrow 𝓤 H A W E 𝓣 (Referent.rtF (Referent.fInt Syntax.w16)) G22 10 19 1024 7 ty·9 (λ x. x) (Reads'.as-is 𝓤 H A (Rows.arrF (Referent.rtF (Referent.fInt Syntax.w16)) 1024 0)) (Reads'.room-gone 𝓤 H A ty·9) Path'.refl (λ b o. tt) (Dec'.lit< tt, Dec'.lit< tt)) d59
+          d60 = Typed.s-seq 𝓤 H A W 𝓣 E G22 G23 b10 b39 Δ0 (Typed.give (s21 bs)) (at59 bs) (Borrow.t-arr-borrow 𝓤 H A W E 𝓣 (Referent.rtF (Referent.fInt Syntax.w16)) G22 10 19 1024 7 ty·9 (λ x. x) (Reads.as-is 𝓤 H A (Rows.arrF (Referent.rtF (Referent.fInt Syntax.w16)) 1024 0)) (Reads.room-gone 𝓤 H A ty·9) Path'.refl (λ b o. tt) (Dec'.lit< tt, Dec'.lit< tt)) d59
 
           d61 : Typed.Typed 𝓤 H A 𝓣 E G21 b40 Δ0 (at61 bs)
           d61 = Typed.g-pre 𝓤 H A W 𝓣 E G21 G22 b40 Δ0 (λ Ψ. Ψ) (at60 bs) (Lifetime.g-begin 𝓤 H A W E G21 7 (tt, (tt, (tt, (tt, (tt, (tt, (tt, (tt, (tt, (tt, (tt, (tt, (tt, (tt, (tt, (tt, (tt, (tt, (tt, (tt, (tt, (tt, (tt, (tt, (tt, (tt, (tt, (tt, (tt, (tt, (tt, tt)))))))))))))))))))))))))))))))) d60
 
           d62 : Typed.Typed 𝓤 H A 𝓣 E G20 b41 Δ0 (at62 bs)
-          d62 = Typed.s-seq 𝓤 H A W 𝓣 E G20 G21 b9 b40 Δ0 (Typed.ask (s19 bs)) (at61 bs) (Relend.t-sl-aggregate 𝓤 H A W E (Referent.rtF (Referent.fInt Syntax.w16)) 𝓣 (Relend.asMut (Referent.rtF (Referent.fInt Syntax.w16))) G20 17 18 6 ty·9 ty·3 (λ x. x) (Scalar.oBig Syntax.w64 1024) (Reads'.as-is 𝓤 H A (Relend.msptr (Referent.rtF (Referent.fInt Syntax.w16)) ty·9 6)) (Reads'.room-gone 𝓤 H A ty·12) record { lower = record { fits = Dec'.lit< tt } } Path'.refl Path'.refl λ b o k. tt) d61
+          d62 = Typed.s-seq 𝓤 H A W 𝓣 E G20 G21 b9 b40 Δ0 (Typed.ask (s19 bs)) (at61 bs) (Relend.t-sl-aggregate 𝓤 H A W E (Referent.rtF (Referent.fInt Syntax.w16)) 𝓣 (Relend.asMut (Referent.rtF (Referent.fInt Syntax.w16))) G20 17 18 6 ty·9 ty·3 (λ x. x) (Scalar.oBig Syntax.w64 1024) (Reads.as-is 𝓤 H A (Relend.msptr (Referent.rtF (Referent.fInt Syntax.w16)) ty·9 6)) (Reads.room-gone 𝓤 H A ty·12) record { lower = record { fits = Dec'.lit< tt } } Path'.refl Path'.refl λ b o k. tt) d61
 
           d63 : Typed.Typed 𝓤 H A 𝓣 E G19 b42 Δ0 (at63 bs)
-          d63 = Typed.s-seq 𝓤 H A W 𝓣 E G19 G20 b8 b41 Δ0 (Typed.give (s18 bs)) (at62 bs) (Borrow.t-arr-borrow 𝓤 H A W E 𝓣 (Referent.rtF (Referent.fInt Syntax.w16)) G19 9 17 1024 6 ty·9 (λ x. x) (Reads'.as-is 𝓤 H A (Rows.arrF (Referent.rtF (Referent.fInt Syntax.w16)) 1024 0)) (Reads'.room-gone 𝓤 H A ty·9) Path'.refl (λ b o. tt) (Dec'.lit< tt, Dec'.lit< tt)) d62
+          d63 = Typed.s-seq 𝓤 H A W 𝓣 E G19 G20 b8 b41 Δ0 (Typed.give (s18 bs)) (at62 bs) (Borrow.t-arr-borrow 𝓤 H A W E 𝓣 (Referent.rtF (Referent.fInt Syntax.w16)) G19 9 17 1024 6 ty·9 (λ x. x) (Reads.as-is 𝓤 H A (Rows.arrF (Referent.rtF (Referent.fInt Syntax.w16)) 1024 0)) (Reads.room-gone 𝓤 H A ty·9) Path'.refl (λ b o. tt) (Dec'.lit< tt, Dec'.lit< tt)) d62
 
           d64 : Typed.Typed 𝓤 H A 𝓣 E G18 b42 Δ0 (at64 bs)
           d64 = Typed.g-pre 𝓤 H A W 𝓣 E G18 G19 b42 Δ0 (λ Ψ. Ψ) (at63 bs) (Lifetime.g-begin 𝓤 H A W E G18 6 (tt, (tt, (tt, (tt, (tt, (tt, (tt, (tt, (tt, (tt, (tt, (tt, (tt, (tt, (tt, (tt, (tt, (tt, (tt, (tt, (tt, (tt, (tt, (tt, (tt, (tt, (tt, (tt, (tt, (tt, (tt, tt)))))))))))))))))))))))))))))))) d63
 
           d65 : Typed.Typed 𝓤 H A 𝓣 E G17 b43 Δ0 (at65 bs)
-          d65 = Typed.s-seq 𝓤 H A W 𝓣 E G17 G18 b7 b42 Δ0 (Typed.ask (s16 bs)) (at64 bs) (Relend.t-sl-aggregate 𝓤 H A W E (Referent.rtF (Referent.fInt Syntax.w16)) 𝓣 (Relend.asMut (Referent.rtF (Referent.fInt Syntax.w16))) G17 15 16 5 ty·9 ty·3 (λ x. x) (Scalar.oBig Syntax.w64 1024) (Reads'.as-is 𝓤 H A (Relend.msptr (Referent.rtF (Referent.fInt Syntax.w16)) ty·9 5)) (Reads'.room-gone 𝓤 H A ty·12) record { lower = record { fits = Dec'.lit< tt } } Path'.refl Path'.refl λ b o k. tt) d64
+          d65 = Typed.s-seq 𝓤 H A W 𝓣 E G17 G18 b7 b42 Δ0 (Typed.ask (s16 bs)) (at64 bs) (Relend.t-sl-aggregate 𝓤 H A W E (Referent.rtF (Referent.fInt Syntax.w16)) 𝓣 (Relend.asMut (Referent.rtF (Referent.fInt Syntax.w16))) G17 15 16 5 ty·9 ty·3 (λ x. x) (Scalar.oBig Syntax.w64 1024) (Reads.as-is 𝓤 H A (Relend.msptr (Referent.rtF (Referent.fInt Syntax.w16)) ty·9 5)) (Reads.room-gone 𝓤 H A ty·12) record { lower = record { fits = Dec'.lit< tt } } Path'.refl Path'.refl λ b o k. tt) d64
 
           d66 : Typed.Typed 𝓤 H A 𝓣 E G16 b44 Δ0 (at66 bs)
-          d66 = Typed.s-seq 𝓤 H A W 𝓣 E G16 G17 b6 b43 Δ0 (Typed.give (s15 bs)) (at65 bs) (Borrow.t-arr-borrow 𝓤 H A W E 𝓣 (Referent.rtF (Referent.fInt Syntax.w16)) G16 8 15 1024 5 ty·9 (λ x. x) (Reads'.as-is 𝓤 H A (Rows.arrF (Referent.rtF (Referent.fInt Syntax.w16)) 1024 0)) (Reads'.room-gone 𝓤 H A ty·9) Path'.refl (λ b o. tt) (Dec'.lit< tt, Dec'.lit< tt)) d65
+          d66 = Typed.s-seq 𝓤 H A W 𝓣 E G16 G17 b6 b43 Δ0 (Typed.give (s15 bs)) (at65 bs) (Borrow.t-arr-borrow 𝓤 H A W E 𝓣 (Referent.rtF (Referent.fInt Syntax.w16)) G16 8 15 1024 5 ty·9 (λ x. x) (Reads.as-is 𝓤 H A (Rows.arrF (Referent.rtF (Referent.fInt Syntax.w16)) 1024 0)) (Reads.room-gone 𝓤 H A ty·9) Path'.refl (λ b o. tt) (Dec'.lit< tt, Dec'.lit< tt)) d65
 
           d67 : Typed.Typed 𝓤 H A 𝓣 E G15 b44 Δ0 (at67 bs)
           d67 = Typed.g-pre 𝓤 H A W 𝓣 E G15 G16 b44 Δ0 (λ Ψ. Ψ) (at66 bs) (Lifetime.g-begin 𝓤 H A W E G15 5 (tt, (tt, (tt, (tt, (tt, (tt, (tt, (tt, (tt, (tt, (tt, (tt, (tt, (tt, (tt, (tt, (tt, (tt, (tt, (tt, (tt, (tt, (tt, (tt, (tt, (tt, (tt, (tt, (tt, (tt, (tt, tt)))))))))))))))))))))))))))))))) d66
 
           d68 : Typed.Typed 𝓤 H A 𝓣 E G14 b45 Δ0 (at68 bs)
-          d68 = Typed.s-seq 𝓤 H A W 𝓣 E G14 G15 b5 b44 Δ0 (Typed.ask (s13 bs)) (at67 bs) (Relend.t-sl-aggregate 𝓤 H A W E (Referent.rtF (Referent.fInt Syntax.w16)) 𝓣 (Relend.asMut (Referent.rtF (Referent.fInt Syntax.w16))) G14 13 14 4 ty·9 ty·3 (λ x. x) (Scalar.oBig Syntax.w64 1024) (Reads'.as-is 𝓤 H A (Relend.msptr (Referent.rtF (Referent.fInt Syntax.w16)) ty·9 4)) (Reads'.room-gone 𝓤 H A ty·12) record { lower = record { fits = Dec'.lit< tt } } Path'.refl Path'.refl λ b o k. tt) d67
+          d68 = Typed.s-seq 𝓤 H A W 𝓣 E G14 G15 b5 b44 Δ0 (Typed.ask (s13 bs)) (at67 bs) (Relend.t-sl-aggregate 𝓤 H A W E (Referent.rtF (Referent.fInt Syntax.w16)) 𝓣 (Relend.asMut (Referent.rtF (Referent.fInt Syntax.w16))) G14 13 14 4 ty·9 ty·3 (λ x. x) (Scalar.oBig Syntax.w64 1024) (Reads.as-is 𝓤 H A (Relend.msptr (Referent.rtF (Referent.fInt Syntax.w16)) ty·9 4)) (Reads.room-gone 𝓤 H A ty·12) record { lower = record { fits = Dec'.lit< tt } } Path'.refl Path'.refl λ b o k. tt) d67
 
           d69 : Typed.Typed 𝓤 H A 𝓣 E G13 b46 Δ0 (at69 bs)
-          d69 = Typed.s-seq 𝓤 H A W 𝓣 E G13 G14 b4 b45 Δ0 (Typed.give (s12 bs)) (at68 bs) (Borrow.t-arr-borrow 𝓤 H A W E 𝓣 (Referent.rtF (Referent.fInt Syntax.w16)) G13 7 13 1024 4 ty·9 (λ x. x) (Reads'.as-is 𝓤 H A (Rows.arrF (Referent.rtF (Referent.fInt Syntax.w16)) 1024 0)) (Reads'.room-gone 𝓤 H A ty·9) Path'.refl (λ b o. tt) (Dec'.lit< tt, Dec'.lit< tt)) d68
+          d69 = Typed.s-seq 𝓤 H A W 𝓣 E G13 G14 b4 b45 Δ0 (Typed.give (s12 bs)) (at68 bs) (Borrow.t-arr-borrow 𝓤 H A W E 𝓣 (Referent.rtF (Referent.fInt Syntax.w16)) G13 7 13 1024 4 ty·9 (λ x. x) (Reads.as-is 𝓤 H A (Rows.arrF (Referent.rtF (Referent.fInt Syntax.w16)) 1024 0)) (Reads.room-gone 𝓤 H A ty·9) Path'.refl (λ b o. tt) (Dec'.lit< tt, Dec'.lit< tt)) d68
 
           d70 : Typed.Typed 𝓤 H A 𝓣 E G12 b46 Δ0 (at70 bs)
           d70 = Typed.g-pre 𝓤 H A W 𝓣 E G12 G13 b46 Δ0 (λ Ψ. Ψ) (at69 bs) (Lifetime.g-begin 𝓤 H A W E G12 4 (tt, (tt, (tt, (tt, (tt, (tt, (tt, (tt, (tt, (tt, (tt, (tt, (tt, (tt, (tt, (tt, (tt, (tt, (tt, (tt, (tt, (tt, (tt, (tt, (tt, (tt, (tt, (tt, (tt, (tt, (tt, tt)))))))))))))))))))))))))))))))) d69
@@ -1603,34 +1602,34 @@ module _ (claims· : Claims) where
           d71 = Typed.g-pre 𝓤 H A W 𝓣 E G11 G12 b46 Δ0 (Typed.pass T11 T12 (s10 bs)) (at70 bs) (AtSlots.g-as-by 𝓤 H A W E (λ ρ. Unit) G11 10 (Rows.arrF (Referent.rtF (Referent.fInt Syntax.w16)) 1024 0) (λ x. x) (Own.told-none 𝓤 H A (G11 .slots)) λ ρ told. Repeat.whole-arr 𝓤 H A W (Referent.rtF (Referent.fInt Syntax.w16)) 1024 tt ρ) d70
 
           d72 : Typed.Typed 𝓤 H A 𝓣 E G10 b47 Δ0 (at72 bs)
-          d72 = Typed.s-seq 𝓤 H A W 𝓣 E G10 G11 b3 b46 Δ0 (Typed.pass T10 T11 (s9 bs)) (at71 bs) (Repeat.t-repeat 𝓤 H A W E 𝓣 (Referent.rtF (Referent.fInt Syntax.w16)) (Plain'.uint-lawful 𝓤 H A W Syntax.w16) (Copies.cRf (Referent.fInt Syntax.w16) .copy 𝓤 H A W) (Plain'.uint-makes 𝓤 H A W Syntax.w16) 1024 G10 10 (Scalar.oInt Syntax.w16 0) (λ m. 0) (Reads'.room-gone 𝓤 H A ty·1) tt Path'.refl λ m wa. (Path'.refl, Dec'.lit< tt)) d71
+          d72 = Typed.s-seq 𝓤 H A W 𝓣 E G10 G11 b3 b46 Δ0 (Typed.pass T10 T11 (s9 bs)) (at71 bs) (Repeat.t-repeat 𝓤 H A W E 𝓣 (Referent.rtF (Referent.fInt Syntax.w16)) (Plain'.uint-lawful 𝓤 H A W Syntax.w16) (Copies.cRf (Referent.fInt Syntax.w16) .copy 𝓤 H A W) (Plain'.uint-makes 𝓤 H A W Syntax.w16) 1024 G10 10 (Scalar.oInt Syntax.w16 0) (λ m. 0) (Reads.room-gone 𝓤 H A ty·1) tt Path'.refl λ m wa. (Path'.refl, Dec'.lit< tt)) d71
 
           d73 : Typed.Typed 𝓤 H A 𝓣 E G9 b47 Δ0 (at73 bs)
           d73 = Typed.g-pre 𝓤 H A W 𝓣 E G9 G10 b47 Δ0 (Typed.pass T9 T10 (s8 bs)) (at72 bs) (AtSlots.g-as-by 𝓤 H A W E (λ ρ. Unit) G9 9 (Rows.arrF (Referent.rtF (Referent.fInt Syntax.w16)) 1024 0) (λ x. x) (Own.told-none 𝓤 H A (G9 .slots)) λ ρ told. Repeat.whole-arr 𝓤 H A W (Referent.rtF (Referent.fInt Syntax.w16)) 1024 tt ρ) d72
 
           d74 : Typed.Typed 𝓤 H A 𝓣 E G8 b48 Δ0 (at74 bs)
-          d74 = Typed.s-seq 𝓤 H A W 𝓣 E G8 G9 b2 b47 Δ0 (Typed.pass T8 T9 (s7 bs)) (at73 bs) (Repeat.t-repeat 𝓤 H A W E 𝓣 (Referent.rtF (Referent.fInt Syntax.w16)) (Plain'.uint-lawful 𝓤 H A W Syntax.w16) (Copies.cRf (Referent.fInt Syntax.w16) .copy 𝓤 H A W) (Plain'.uint-makes 𝓤 H A W Syntax.w16) 1024 G8 9 (Scalar.oInt Syntax.w16 0) (λ m. 0) (Reads'.room-gone 𝓤 H A ty·1) tt Path'.refl λ m wa. (Path'.refl, Dec'.lit< tt)) d73
+          d74 = Typed.s-seq 𝓤 H A W 𝓣 E G8 G9 b2 b47 Δ0 (Typed.pass T8 T9 (s7 bs)) (at73 bs) (Repeat.t-repeat 𝓤 H A W E 𝓣 (Referent.rtF (Referent.fInt Syntax.w16)) (Plain'.uint-lawful 𝓤 H A W Syntax.w16) (Copies.cRf (Referent.fInt Syntax.w16) .copy 𝓤 H A W) (Plain'.uint-makes 𝓤 H A W Syntax.w16) 1024 G8 9 (Scalar.oInt Syntax.w16 0) (λ m. 0) (Reads.room-gone 𝓤 H A ty·1) tt Path'.refl λ m wa. (Path'.refl, Dec'.lit< tt)) d73
 
           d75 : Typed.Typed 𝓤 H A 𝓣 E G7 b48 Δ0 (at75 bs)
           d75 = Typed.g-pre 𝓤 H A W 𝓣 E G7 G8 b48 Δ0 (Typed.pass T7 T8 (s6 bs)) (at74 bs) (AtSlots.g-as-by 𝓤 H A W E (λ ρ. Unit) G7 8 (Rows.arrF (Referent.rtF (Referent.fInt Syntax.w16)) 1024 0) (λ x. x) (Own.told-none 𝓤 H A (G7 .slots)) λ ρ told. Repeat.whole-arr 𝓤 H A W (Referent.rtF (Referent.fInt Syntax.w16)) 1024 tt ρ) d74
 
           d76 : Typed.Typed 𝓤 H A 𝓣 E G6 b49 Δ0 (at76 bs)
-          d76 = Typed.s-seq 𝓤 H A W 𝓣 E G6 G7 b1 b48 Δ0 (Typed.pass T6 T7 (s5 bs)) (at75 bs) (Repeat.t-repeat 𝓤 H A W E 𝓣 (Referent.rtF (Referent.fInt Syntax.w16)) (Plain'.uint-lawful 𝓤 H A W Syntax.w16) (Copies.cRf (Referent.fInt Syntax.w16) .copy 𝓤 H A W) (Plain'.uint-makes 𝓤 H A W Syntax.w16) 1024 G6 8 (Scalar.oInt Syntax.w16 0) (λ m. 0) (Reads'.room-gone 𝓤 H A ty·1) tt Path'.refl λ m wa. (Path'.refl, Dec'.lit< tt)) d75
+          d76 = Typed.s-seq 𝓤 H A W 𝓣 E G6 G7 b1 b48 Δ0 (Typed.pass T6 T7 (s5 bs)) (at75 bs) (Repeat.t-repeat 𝓤 H A W E 𝓣 (Referent.rtF (Referent.fInt Syntax.w16)) (Plain'.uint-lawful 𝓤 H A W Syntax.w16) (Copies.cRf (Referent.fInt Syntax.w16) .copy 𝓤 H A W) (Plain'.uint-makes 𝓤 H A W Syntax.w16) 1024 G6 8 (Scalar.oInt Syntax.w16 0) (λ m. 0) (Reads.room-gone 𝓤 H A ty·1) tt Path'.refl λ m wa. (Path'.refl, Dec'.lit< tt)) d75
 
           d77 : Typed.Typed 𝓤 H A 𝓣 E G5 b49 Δ0 (at77 bs)
           d77 = Typed.g-pre 𝓤 H A W 𝓣 E G5 G6 b49 Δ0 (Typed.pass T5 T6 (s4 bs)) (at76 bs) (AtSlots.g-as-by 𝓤 H A W E (λ ρ. Unit) G5 7 (Rows.arrF (Referent.rtF (Referent.fInt Syntax.w16)) 1024 0) (λ x. x) (Own.told-none 𝓤 H A (G5 .slots)) λ ρ told. Repeat.whole-arr 𝓤 H A W (Referent.rtF (Referent.fInt Syntax.w16)) 1024 tt ρ) d76
 
           d78 : Typed.Typed 𝓤 H A 𝓣 E G4 b50 Δ0 (at78 bs)
-          d78 = Typed.s-seq 𝓤 H A W 𝓣 E G4 G5 b0 b49 Δ0 (Typed.pass T4 T5 (s3 bs)) (at77 bs) (Repeat.t-repeat 𝓤 H A W E 𝓣 (Referent.rtF (Referent.fInt Syntax.w16)) (Plain'.uint-lawful 𝓤 H A W Syntax.w16) (Copies.cRf (Referent.fInt Syntax.w16) .copy 𝓤 H A W) (Plain'.uint-makes 𝓤 H A W Syntax.w16) 1024 G4 7 (Scalar.oInt Syntax.w16 0) (λ m. 0) (Reads'.room-gone 𝓤 H A ty·1) tt Path'.refl λ m wa. (Path'.refl, Dec'.lit< tt)) d77
+          d78 = Typed.s-seq 𝓤 H A W 𝓣 E G4 G5 b0 b49 Δ0 (Typed.pass T4 T5 (s3 bs)) (at77 bs) (Repeat.t-repeat 𝓤 H A W E 𝓣 (Referent.rtF (Referent.fInt Syntax.w16)) (Plain'.uint-lawful 𝓤 H A W Syntax.w16) (Copies.cRf (Referent.fInt Syntax.w16) .copy 𝓤 H A W) (Plain'.uint-makes 𝓤 H A W Syntax.w16) 1024 G4 7 (Scalar.oInt Syntax.w16 0) (λ m. 0) (Reads.room-gone 𝓤 H A ty·1) tt Path'.refl λ m wa. (Path'.refl, Dec'.lit< tt)) d77
 
           d79 : Typed.Typed 𝓤 H A 𝓣 E G3 b50 Δ0 (at79 bs)
-          d79 = Typed.g-pre 𝓤 H A W 𝓣 E G3 G4 b50 Δ0 (Typed.give (s2 bs)) (at78 bs) (Know.g-sl-known 𝓤 H A W (Referent.fInt Syntax.w8) E G3 5 3 ty·5 (Row.lease (κs .1 .1 .1 .0) (qs .1 .1 .1 .0)) 0 (λ x. x) record { fits = Dec'.lit< tt } (Reads'.as-is 𝓤 H A (Mut.mslice (Referent.rtF (Referent.fInt Syntax.w8)) ty·5 3)) Path'.refl tt) d78
+          d79 = Typed.g-pre 𝓤 H A W 𝓣 E G3 G4 b50 Δ0 (Typed.give (s2 bs)) (at78 bs) (Know.g-sl-known 𝓤 H A W (Referent.fInt Syntax.w8) E G3 5 3 ty·5 (Row.lease (κs .1 .1 .1 .0) (qs .1 .1 .1 .0)) 0 (λ x. x) record { fits = Dec'.lit< tt } (Reads.as-is 𝓤 H A (Mut.mslice (Referent.rtF (Referent.fInt Syntax.w8)) ty·5 3)) Path'.refl tt) d78
 
           d80 : Typed.Typed 𝓤 H A 𝓣 E G2 b50 Δ0 (at80 bs)
-          d80 = Typed.g-pre 𝓤 H A W 𝓣 E G2 G3 b50 Δ0 (Typed.give (s1 bs)) (at79 bs) (Know.g-shs-known 𝓤 H A W (Referent.fInt Syntax.w16) E G2 4 2 ty·7 (Row.lease (κs .1 .1 .0) (qs .1 .1 .0)) 0 (λ x. x) record { fits = Dec'.lit< tt } (Reads'.as-is 𝓤 H A (Rows'.sslice (Referent.rtF (Referent.fInt Syntax.w16)) ty·7 2)) Path'.refl tt) d79
+          d80 = Typed.g-pre 𝓤 H A W 𝓣 E G2 G3 b50 Δ0 (Typed.give (s1 bs)) (at79 bs) (Know.g-shs-known 𝓤 H A W (Referent.fInt Syntax.w16) E G2 4 2 ty·7 (Row.lease (κs .1 .1 .0) (qs .1 .1 .0)) 0 (λ x. x) record { fits = Dec'.lit< tt } (Reads.as-is 𝓤 H A (Rows'.sslice (Referent.rtF (Referent.fInt Syntax.w16)) ty·7 2)) Path'.refl tt) d79
 
           d81 : Typed.Typed 𝓤 H A 𝓣 E G0 b50 Δ0 (at81 bs)
-          d81 = Typed.g-pre 𝓤 H A W 𝓣 E G0 G2 b50 Δ0 (Typed.give (s0 bs)) (at80 bs) (Know.g-shs-known 𝓤 H A W (Referent.fInt Syntax.w16) E G0 3 1 ty·6 (Row.lease (κs .1 .0) (qs .1 .0)) 0 (λ x. x) record { fits = Dec'.lit< tt } (Reads'.as-is 𝓤 H A (Rows'.sslice (Referent.rtF (Referent.fInt Syntax.w16)) ty·6 1)) Path'.refl tt) d80
+          d81 = Typed.g-pre 𝓤 H A W 𝓣 E G0 G2 b50 Δ0 (Typed.give (s0 bs)) (at80 bs) (Know.g-shs-known 𝓤 H A W (Referent.fInt Syntax.w16) E G0 3 1 ty·6 (Row.lease (κs .1 .0) (qs .1 .0)) 0 (λ x. x) record { fits = Dec'.lit< tt } (Reads.as-is 𝓤 H A (Rows'.sslice (Referent.rtF (Referent.fInt Syntax.w16)) ty·6 1)) Path'.refl tt) d80
 
           pub typed : Typed.Typed 𝓤 H A 𝓣 E (Function.Γin 4 ps r xs m κs qs) b50 (Function.Δret 4 ps r xs m κs qs) (Φ bs)
           typed = d81
@@ -1927,14 +1926,14 @@ module _ (claims· : Claims) where
 
       module _ (before· : After-list-states-arg) where
         abbrev pub After-list-states·own : Type 0
-        After-list-states·own = Called.Called ps·1 r·1 (claims· .3) T50 (Num.vFld 1 (List._∷_ (Syntax.field 0) List.[]) 0 λ x. Size.struct .as-values x .0, (record { pos = 2; ty = Syntax.tyRef (Syntax.named 0) Syntax.imm (Memory.pointee (T.the-row .written)); ref = λ x. x }, (record { pos = 22; ty = Syntax.tyRef Syntax.erased Syntax.imm (Syntax.tyInt Syntax.w16); ref = λ x. x }, (record { pos = 24; ty = Syntax.tyRef Syntax.erased Syntax.imm (Syntax.tyInt Syntax.w16); ref = λ x. x }, (record { pos = 26; ty = Syntax.tyRef Syntax.erased Syntax.imm (Syntax.tyInt Syntax.w16); ref = λ x. x }, (record { pos = 28; ty = Syntax.tyRef Syntax.erased Syntax.mut (Syntax.tyInt Syntax.w8); ref = λ x. x }, (Num.vAt 6 λ x. x, tt))))))) (m33 (before· .before) (before· .list-states-arg .given))
+        After-list-states·own = Called.Called ps·1 r·1 (claims· .3) T50 (record { pos = 1; st = List.[]; d = 0; at = λ x. x }, (record { pos = 2; ty = Syntax.tyRef (Syntax.named 0) Syntax.imm (Memory.pointee (T.the-row .written)); ref = λ x. x }, (record { pos = 3; ty = Syntax.tyRef (Syntax.named 1) Syntax.imm (Syntax.tyInt Syntax.w16); ref = λ x. x }, (record { pos = 4; ty = Syntax.tyRef (Syntax.named 2) Syntax.imm (Syntax.tyInt Syntax.w16); ref = λ x. x }, (record { pos = 22; ty = Syntax.tyRef Syntax.erased Syntax.imm (Syntax.tyInt Syntax.w16); ref = λ x. x }, (record { pos = 24; ty = Syntax.tyRef Syntax.erased Syntax.imm (Syntax.tyInt Syntax.w16); ref = λ x. x }, (record { pos = 26; ty = Syntax.tyRef Syntax.erased Syntax.imm (Syntax.tyInt Syntax.w16); ref = λ x. x }, (record { pos = 28; ty = Syntax.tyRef Syntax.erased Syntax.mut (Syntax.tyInt Syntax.w8); ref = λ x. x }, (Num.vAt 6 λ x. x, tt))))))))) (m33 (before· .before) (before· .list-states-arg .given))
 
       pub record After-list-states : Type 0 where
         pub before : After-list-states-arg
         pub list-states : After-list-states·own before
 
       abbrev pub After-list-states·gave : (c : After-list-states) → s49 (c .before .before .before .before .before .before .before .before .before .before .before .before .before .before .before .before .before .blocks) .gives (m33 (c .before .before) (c .before .list-states-arg .given))
-      After-list-states·gave = λ c. Called.given ps·1 r·1 (claims· .3) T50 (Num.vFld 1 (List._∷_ (Syntax.field 0) List.[]) 0 λ x. Size.struct .as-values x .0, (record { pos = 2; ty = Syntax.tyRef (Syntax.named 0) Syntax.imm (Memory.pointee (T.the-row .written)); ref = λ x. x }, (record { pos = 22; ty = Syntax.tyRef Syntax.erased Syntax.imm (Syntax.tyInt Syntax.w16); ref = λ x. x }, (record { pos = 24; ty = Syntax.tyRef Syntax.erased Syntax.imm (Syntax.tyInt Syntax.w16); ref = λ x. x }, (record { pos = 26; ty = Syntax.tyRef Syntax.erased Syntax.imm (Syntax.tyInt Syntax.w16); ref = λ x. x }, (record { pos = 28; ty = Syntax.tyRef Syntax.erased Syntax.mut (Syntax.tyInt Syntax.w8); ref = λ x. x }, (Num.vAt 6 λ x. x, tt))))))) (m33 (c .before .before) (c .before .list-states-arg .given)) (c .list-states)
+      After-list-states·gave = λ c. Called.given ps·1 r·1 (claims· .3) T50 (record { pos = 1; st = List.[]; d = 0; at = λ x. x }, (record { pos = 2; ty = Syntax.tyRef (Syntax.named 0) Syntax.imm (Memory.pointee (T.the-row .written)); ref = λ x. x }, (record { pos = 3; ty = Syntax.tyRef (Syntax.named 1) Syntax.imm (Syntax.tyInt Syntax.w16); ref = λ x. x }, (record { pos = 4; ty = Syntax.tyRef (Syntax.named 2) Syntax.imm (Syntax.tyInt Syntax.w16); ref = λ x. x }, (record { pos = 22; ty = Syntax.tyRef Syntax.erased Syntax.imm (Syntax.tyInt Syntax.w16); ref = λ x. x }, (record { pos = 24; ty = Syntax.tyRef Syntax.erased Syntax.imm (Syntax.tyInt Syntax.w16); ref = λ x. x }, (record { pos = 26; ty = Syntax.tyRef Syntax.erased Syntax.imm (Syntax.tyInt Syntax.w16); ref = λ x. x }, (record { pos = 28; ty = Syntax.tyRef Syntax.erased Syntax.mut (Syntax.tyInt Syntax.w8); ref = λ x. x }, (Num.vAt 6 λ x. x, tt))))))))) (m33 (c .before .before) (c .before .list-states-arg .given)) (c .list-states)
 
       abbrev pub m35 : (before : After-list-states-arg) → (given : s49 (before .before .before .before .before .before .before .before .before .before .before .before .before .before .before .before .before .blocks) .gives (m33 (before .before) (before .list-states-arg .given))) → Typed.Mo T52
       m35 = λ before given. s50 (before .before .before .before .before .before .before .before .before .before .before .before .before .before .before .before .before .blocks) (m34 before given)
@@ -2064,7 +2063,7 @@ module _ (claims· : Claims) where
         lay2 = λ c. (Path'.refl, λ g. λ g'. λ g''. (Path'.refl, (put-tally-requires record { before = record { before = record { before = record { before = c .before; list-states = c .list-states }; out = record { given = g } }; slice-known2 = record { given = g' } }; put-tally-arg = record { given = g'' } }, λ g'3. lay3 record { before = record { before = record { before = record { before = record { before = c .before; list-states = c .list-states }; out = record { given = g } }; slice-known2 = record { given = g' } }; put-tally-arg = record { given = g'' } }; put-tally = Called.called ps·2 r·2 (claims· .5) T74 (record { pos = 11; st = List.[]; d = 0; at = λ x. x }, (record { pos = 30; ty = Syntax.tyRef Syntax.erased Syntax.mut (Syntax.tyInt Syntax.w8); ref = λ x. x }, (Num.vAt 12 λ x. x, tt))) (m48 record { before = record { before = record { before = c .before; list-states = c .list-states }; out = record { given = g } }; slice-known2 = record { given = g' } } g'') g'3 })))
 
         lay1 : (c : After-decide) → at57 (c .before .before .before .before .before .before .before .before .blocks) (W0 (c .before .before .before .before .before .before .before .before .κs) (c .before .before .before .before .before .before .before .before .args) (c .before .before .before .before .before .before .before .before .blocks)) (m20 (c .before) (After-decide·gave c))
-        lay1 = λ c. (Path'.refl, λ g. (Path'.refl, λ g'. (Path'.refl, λ g''. (Path'.refl, λ g'3. λ g'4. (Relend.count-is T40 21 22 (λ x. x) (λ u. 1024) (m26 record { before = record { before = record { before = record { before = record { before = c .before; decide = c .decide }; ranks2 = record { given = g } }; commands2 = record { given = g' } }; marks2 = record { given = g'' } }; scratch2 = record { given = g'3 } } g'4) (slice-aggregate-list-states record { before = record { before = record { before = record { before = record { before = record { before = c .before; decide = c .decide }; ranks2 = record { given = g } }; commands2 = record { given = g' } }; marks2 = record { given = g'' } }; scratch2 = record { given = g'3 } }; ranks3 = record { given = g'4 } }), λ g'5. (Relend.count-is T43 23 24 (λ x. x) (λ u. 1024) (m28 record { before = record { before = record { before = record { before = record { before = record { before = c .before; decide = c .decide }; ranks2 = record { given = g } }; commands2 = record { given = g' } }; marks2 = record { given = g'' } }; scratch2 = record { given = g'3 } }; ranks3 = record { given = g'4 } } g'5) (slice-aggregate-list-states-2 record { before = record { before = record { before = record { before = record { before = record { before = record { before = c .before; decide = c .decide }; ranks2 = record { given = g } }; commands2 = record { given = g' } }; marks2 = record { given = g'' } }; scratch2 = record { given = g'3 } }; ranks3 = record { given = g'4 } }; commands3 = record { given = g'5 } }), λ g'6. (Relend.count-is T46 25 26 (λ x. x) (λ u. 1024) (m30 record { before = record { before = record { before = record { before = record { before = record { before = record { before = c .before; decide = c .decide }; ranks2 = record { given = g } }; commands2 = record { given = g' } }; marks2 = record { given = g'' } }; scratch2 = record { given = g'3 } }; ranks3 = record { given = g'4 } }; commands3 = record { given = g'5 } } g'6) (slice-aggregate-list-states-3 record { before = record { before = record { before = record { before = record { before = record { before = record { before = record { before = c .before; decide = c .decide }; ranks2 = record { given = g } }; commands2 = record { given = g' } }; marks2 = record { given = g'' } }; scratch2 = record { given = g'3 } }; ranks3 = record { given = g'4 } }; commands3 = record { given = g'5 } }; marks3 = record { given = g'6 } }), λ g'7. (Path'.refl, (list-states-requires record { before = record { before = record { before = record { before = record { before = record { before = record { before = record { before = record { before = c .before; decide = c .decide }; ranks2 = record { given = g } }; commands2 = record { given = g' } }; marks2 = record { given = g'' } }; scratch2 = record { given = g'3 } }; ranks3 = record { given = g'4 } }; commands3 = record { given = g'5 } }; marks3 = record { given = g'6 } }; list-states-arg = record { given = g'7 } }, λ g'8. lay2 record { before = record { before = record { before = record { before = record { before = record { before = record { before = record { before = record { before = record { before = c .before; decide = c .decide }; ranks2 = record { given = g } }; commands2 = record { given = g' } }; marks2 = record { given = g'' } }; scratch2 = record { given = g'3 } }; ranks3 = record { given = g'4 } }; commands3 = record { given = g'5 } }; marks3 = record { given = g'6 } }; list-states-arg = record { given = g'7 } }; list-states = Called.called ps·1 r·1 (claims· .3) T50 (Num.vFld 1 (List._∷_ (Syntax.field 0) List.[]) 0 λ x. Size.struct .as-values x .0, (record { pos = 2; ty = Syntax.tyRef (Syntax.named 0) Syntax.imm (Memory.pointee (T.the-row .written)); ref = λ x. x }, (record { pos = 22; ty = Syntax.tyRef Syntax.erased Syntax.imm (Syntax.tyInt Syntax.w16); ref = λ x. x }, (record { pos = 24; ty = Syntax.tyRef Syntax.erased Syntax.imm (Syntax.tyInt Syntax.w16); ref = λ x. x }, (record { pos = 26; ty = Syntax.tyRef Syntax.erased Syntax.imm (Syntax.tyInt Syntax.w16); ref = λ x. x }, (record { pos = 28; ty = Syntax.tyRef Syntax.erased Syntax.mut (Syntax.tyInt Syntax.w8); ref = λ x. x }, (Num.vAt 6 λ x. x, tt))))))) (m33 record { before = record { before = record { before = record { before = record { before = record { before = record { before = record { before = c .before; decide = c .decide }; ranks2 = record { given = g } }; commands2 = record { given = g' } }; marks2 = record { given = g'' } }; scratch2 = record { given = g'3 } }; ranks3 = record { given = g'4 } }; commands3 = record { given = g'5 } }; marks3 = record { given = g'6 } } g'7) g'8 })))))))))
+        lay1 = λ c. (Path'.refl, λ g. (Path'.refl, λ g'. (Path'.refl, λ g''. (Path'.refl, λ g'3. λ g'4. (Relend.count-is T40 21 22 (λ x. x) (λ u. 1024) (m26 record { before = record { before = record { before = record { before = record { before = c .before; decide = c .decide }; ranks2 = record { given = g } }; commands2 = record { given = g' } }; marks2 = record { given = g'' } }; scratch2 = record { given = g'3 } } g'4) (slice-aggregate-list-states record { before = record { before = record { before = record { before = record { before = record { before = c .before; decide = c .decide }; ranks2 = record { given = g } }; commands2 = record { given = g' } }; marks2 = record { given = g'' } }; scratch2 = record { given = g'3 } }; ranks3 = record { given = g'4 } }), λ g'5. (Relend.count-is T43 23 24 (λ x. x) (λ u. 1024) (m28 record { before = record { before = record { before = record { before = record { before = record { before = c .before; decide = c .decide }; ranks2 = record { given = g } }; commands2 = record { given = g' } }; marks2 = record { given = g'' } }; scratch2 = record { given = g'3 } }; ranks3 = record { given = g'4 } } g'5) (slice-aggregate-list-states-2 record { before = record { before = record { before = record { before = record { before = record { before = record { before = c .before; decide = c .decide }; ranks2 = record { given = g } }; commands2 = record { given = g' } }; marks2 = record { given = g'' } }; scratch2 = record { given = g'3 } }; ranks3 = record { given = g'4 } }; commands3 = record { given = g'5 } }), λ g'6. (Relend.count-is T46 25 26 (λ x. x) (λ u. 1024) (m30 record { before = record { before = record { before = record { before = record { before = record { before = record { before = c .before; decide = c .decide }; ranks2 = record { given = g } }; commands2 = record { given = g' } }; marks2 = record { given = g'' } }; scratch2 = record { given = g'3 } }; ranks3 = record { given = g'4 } }; commands3 = record { given = g'5 } } g'6) (slice-aggregate-list-states-3 record { before = record { before = record { before = record { before = record { before = record { before = record { before = record { before = c .before; decide = c .decide }; ranks2 = record { given = g } }; commands2 = record { given = g' } }; marks2 = record { given = g'' } }; scratch2 = record { given = g'3 } }; ranks3 = record { given = g'4 } }; commands3 = record { given = g'5 } }; marks3 = record { given = g'6 } }), λ g'7. (Path'.refl, (list-states-requires record { before = record { before = record { before = record { before = record { before = record { before = record { before = record { before = record { before = c .before; decide = c .decide }; ranks2 = record { given = g } }; commands2 = record { given = g' } }; marks2 = record { given = g'' } }; scratch2 = record { given = g'3 } }; ranks3 = record { given = g'4 } }; commands3 = record { given = g'5 } }; marks3 = record { given = g'6 } }; list-states-arg = record { given = g'7 } }, λ g'8. lay2 record { before = record { before = record { before = record { before = record { before = record { before = record { before = record { before = record { before = record { before = c .before; decide = c .decide }; ranks2 = record { given = g } }; commands2 = record { given = g' } }; marks2 = record { given = g'' } }; scratch2 = record { given = g'3 } }; ranks3 = record { given = g'4 } }; commands3 = record { given = g'5 } }; marks3 = record { given = g'6 } }; list-states-arg = record { given = g'7 } }; list-states = Called.called ps·1 r·1 (claims· .3) T50 (record { pos = 1; st = List.[]; d = 0; at = λ x. x }, (record { pos = 2; ty = Syntax.tyRef (Syntax.named 0) Syntax.imm (Memory.pointee (T.the-row .written)); ref = λ x. x }, (record { pos = 3; ty = Syntax.tyRef (Syntax.named 1) Syntax.imm (Syntax.tyInt Syntax.w16); ref = λ x. x }, (record { pos = 4; ty = Syntax.tyRef (Syntax.named 2) Syntax.imm (Syntax.tyInt Syntax.w16); ref = λ x. x }, (record { pos = 22; ty = Syntax.tyRef Syntax.erased Syntax.imm (Syntax.tyInt Syntax.w16); ref = λ x. x }, (record { pos = 24; ty = Syntax.tyRef Syntax.erased Syntax.imm (Syntax.tyInt Syntax.w16); ref = λ x. x }, (record { pos = 26; ty = Syntax.tyRef Syntax.erased Syntax.imm (Syntax.tyInt Syntax.w16); ref = λ x. x }, (record { pos = 28; ty = Syntax.tyRef Syntax.erased Syntax.mut (Syntax.tyInt Syntax.w8); ref = λ x. x }, (Num.vAt 6 λ x. x, tt))))))))) (m33 record { before = record { before = record { before = record { before = record { before = record { before = record { before = record { before = c .before; decide = c .decide }; ranks2 = record { given = g } }; commands2 = record { given = g' } }; marks2 = record { given = g'' } }; scratch2 = record { given = g'3 } }; ranks3 = record { given = g'4 } }; commands3 = record { given = g'5 } }; marks3 = record { given = g'6 } } g'7) g'8 })))))))))
 
         pub laid : (c : Start) → at81 (c .blocks) (W0 (c .κs) (c .args) (c .blocks)) (m0 (c .κs) (c .args) (c .blocks))
         laid = λ c. λ g. λ g'. λ g''. λ g'3. (Relend.count-is T14 13 14 (λ x. x) (λ u. 1024) (m12 record { before = record { before = record { before = c; shared-slice-known = record { given = g } }; shared-slice-known2 = record { given = g' } }; slice-known = record { given = g'' } } g'3) (slice-aggregate-decide record { before = record { before = record { before = record { before = c; shared-slice-known = record { given = g } }; shared-slice-known2 = record { given = g' } }; slice-known = record { given = g'' } }; ranks = record { given = g'3 } }), λ g'4. (Relend.count-is T17 15 16 (λ x. x) (λ u. 1024) (m14 record { before = record { before = record { before = record { before = c; shared-slice-known = record { given = g } }; shared-slice-known2 = record { given = g' } }; slice-known = record { given = g'' } }; ranks = record { given = g'3 } } g'4) (slice-aggregate-decide-2 record { before = record { before = record { before = record { before = record { before = c; shared-slice-known = record { given = g } }; shared-slice-known2 = record { given = g' } }; slice-known = record { given = g'' } }; ranks = record { given = g'3 } }; commands = record { given = g'4 } }), λ g'5. (Relend.count-is T20 17 18 (λ x. x) (λ u. 1024) (m16 record { before = record { before = record { before = record { before = record { before = c; shared-slice-known = record { given = g } }; shared-slice-known2 = record { given = g' } }; slice-known = record { given = g'' } }; ranks = record { given = g'3 } }; commands = record { given = g'4 } } g'5) (slice-aggregate-decide-3 record { before = record { before = record { before = record { before = record { before = record { before = c; shared-slice-known = record { given = g } }; shared-slice-known2 = record { given = g' } }; slice-known = record { given = g'' } }; ranks = record { given = g'3 } }; commands = record { given = g'4 } }; marks = record { given = g'5 } }), λ g'6. (Relend.count-is T23 19 20 (λ x. x) (λ u. 1024) (m18 record { before = record { before = record { before = record { before = record { before = record { before = c; shared-slice-known = record { given = g } }; shared-slice-known2 = record { given = g' } }; slice-known = record { given = g'' } }; ranks = record { given = g'3 } }; commands = record { given = g'4 } }; marks = record { given = g'5 } } g'6) (slice-aggregate-decide-4 record { before = record { before = record { before = record { before = record { before = record { before = record { before = c; shared-slice-known = record { given = g } }; shared-slice-known2 = record { given = g' } }; slice-known = record { given = g'' } }; ranks = record { given = g'3 } }; commands = record { given = g'4 } }; marks = record { given = g'5 } }; scratch = record { given = g'6 } }), (decide-requires record { before = record { before = record { before = record { before = record { before = record { before = record { before = c; shared-slice-known = record { given = g } }; shared-slice-known2 = record { given = g' } }; slice-known = record { given = g'' } }; ranks = record { given = g'3 } }; commands = record { given = g'4 } }; marks = record { given = g'5 } }; scratch = record { given = g'6 } }, λ g'7. lay1 record { before = record { before = record { before = record { before = record { before = record { before = record { before = record { before = c; shared-slice-known = record { given = g } }; shared-slice-known2 = record { given = g' } }; slice-known = record { given = g'' } }; ranks = record { given = g'3 } }; commands = record { given = g'4 } }; marks = record { given = g'5 } }; scratch = record { given = g'6 } }; decide = Called.called ps·0 r·0 (claims· .1) T24 (record { pos = 1; st = List.[]; d = 0; at = λ x. x }, (record { pos = 2; ty = Syntax.tyRef (Syntax.named 0) Syntax.imm (Memory.pointee (T.the-row .written)); ref = λ x. x }, (record { pos = 3; ty = Syntax.tyRef (Syntax.named 1) Syntax.imm (Syntax.tyInt Syntax.w16); ref = λ x. x }, (record { pos = 4; ty = Syntax.tyRef (Syntax.named 2) Syntax.imm (Syntax.tyInt Syntax.w16); ref = λ x. x }, (record { pos = 14; ty = Syntax.tyRef Syntax.erased Syntax.mut (Syntax.tyInt Syntax.w16); ref = λ x. x }, (record { pos = 16; ty = Syntax.tyRef Syntax.erased Syntax.mut (Syntax.tyInt Syntax.w16); ref = λ x. x }, (record { pos = 18; ty = Syntax.tyRef Syntax.erased Syntax.mut (Syntax.tyInt Syntax.w16); ref = λ x. x }, (record { pos = 20; ty = Syntax.tyRef Syntax.erased Syntax.mut (Syntax.tyInt Syntax.w16); ref = λ x. x }, tt)))))))) (m19 record { before = record { before = record { before = record { before = record { before = record { before = c; shared-slice-known = record { given = g } }; shared-slice-known2 = record { given = g' } }; slice-known = record { given = g'' } }; ranks = record { given = g'3 } }; commands = record { given = g'4 } }; marks = record { given = g'5 } } g'6) g'7 })))))
@@ -2073,6 +2072,6 @@ module _ (claims· : Claims) where
           pub asked : (a : Kinds.Dens κs ps) → (good : Kinds.GoodsP κs ps a) → (pre : Pre· κs a) → (bs : List.List Nat.ℕ) → Φ bs (Any.wantQ 4 ps r xs m κs qs a (Post· κs a)) (Function.init 4 ps r xs m κs qs a)
           asked = λ a good pre bs. laid record { κs = κs; args = record { size = a .0; rows = a .1 .0; firsts = a .1 .1 .0; outcomes = a .1 .1 .1 .0; out = a .1 .1 .1 .1 .0; place = a .1 .1 .1 .1 .1 .0 }; blocks = bs; good = good; fits = record { place = record { fits = good .1 .1 .1 .1 .1 .0 .1 } }; pre = pre }
 
-        module _ {M : Type 1} (𝓤 : URA.URA M) (H : Wp.Heap 𝓤) (A : Atoms.Atoms 𝓤) (W : Kit.Given 𝓤 H A) (𝓣 : Wp.Tables 𝓤 H) (known0 : Plain.Known 𝓤 H A W 𝓣 7 ps·0 r·0 (claims· .0) (claims· .1) "decide::decide") (known1 : Plain.Known 𝓤 H A W 𝓣 5 ps·1 r·1 (claims· .2) (claims· .3) "listing::states::list_states") (known2 : Plain.Known 𝓤 H A W 𝓣 1 ps·2 r·2 (claims· .4) (claims· .5) "listing::verdicts::put_tally") where
+        module _ {M : Type 1} (𝓤 : URA.URA M) (H : Wp.Heap 𝓤) (A : Atoms.Atoms 𝓤) (W : Kit.Given 𝓤 H A) (𝓣 : Wp.Tables 𝓤 H) (known0 : Plain.Known 𝓤 H A W 𝓣 7 ps·0 r·0 (claims· .0) (claims· .1) "decide::decide") (known1 : Plain.Known 𝓤 H A W 𝓣 7 ps·1 r·1 (claims· .2) (claims· .3) "listing::states::list_states") (known2 : Plain.Known 𝓤 H A W 𝓣 1 ps·2 r·2 (claims· .4) (claims· .5) "listing::verdicts::put_tally") where
           pub spec : Statement.Triple 𝓤 (Wp.WpFn 𝓤 H (𝓣 .C) (𝓣 .Λ) (Function.fnOf 4 ps r xs m hs body)) (Function.plainOf 𝓤 H A 4 ps r Pre· Post·)
           spec = Plain.t-fn-plain 𝓤 H A W 𝓣 4 ps r xs m hs body (λ κs qs bs. Φ bs) (λ κs qs bs bd. typed κs qs 𝓤 H A W 𝓣 (known0, known1, known2) bs bd) Pre· Post· asked

@@ -7,6 +7,7 @@ use Rattle.model.specs.Calls.{AfterDecide}
 use Rattle.laws.proofs.Wrote.{wrote-then}
 use Rattle.model.specs.Held.{planIn}
 use Rattle.tables.specs.Meaning.{held}
+use Rattle.tables.proofs.Readiness.{sound-ready}
 use Rattle.listing.proofs.PlanLines.{tally-room}
 use Rattle.listing.proofs.Decided.{few, long-rows, all-listed, tallied}
 use Rattle.listing.proofs.verdicts.list_verdicts.Statement.{statement}
@@ -50,16 +51,25 @@ list-states-requires c κs =
     let past-marks2 = c .before .before .before .before .before in
     let past-commands2 = past-marks2 .before in
     let past-ranks2 = past-commands2 .before in
-    let entry = past-ranks2-to-entry past-ranks2 in
+    let past-decide = past-ranks2 .before in
+    let entry = past-decide-to-entry past-decide in
     let a = entry .args in
     let sounds = entry .pre .0 in
+    let d = past-decide .decide .ensures .0 in
     let states = few (a .size) (a .rows .now) (a .firsts .now) (a .outcomes .now) sounds in (
-      states,
-      long-rows (a .size) (a .rows .now) (a .firsts .now) (a .outcomes .now) sounds,
-      omega (arith, states, past-ranks2 .ranks2),
-      omega (arith, states, past-commands2 .commands2),
-      omega (arith, states, past-marks2 .marks2),
-      omega (arith, entry .pre .1),
+      sound-ready (a .size) (a .rows .now) (a .firsts .now) (a .outcomes .now) sounds,
+      (
+        all-listed (a .size) (a .rows .now) (a .firsts .now) (a .outcomes .now) sounds _ _ _
+            (ap (λ (x : AfterDecide). x .ranks) d) (ap (λ (x : AfterDecide). x .commands) d) (ap (λ (x : AfterDecide). x .marks) d)
+            (omega arith, omega arith, omega arith, omega arith),
+        (
+          long-rows (a .size) (a .rows .now) (a .firsts .now) (a .outcomes .now) sounds,
+          omega (arith, states, past-ranks2 .ranks2),
+          omega (arith, states, past-commands2 .commands2),
+          omega (arith, states, past-marks2 .marks2),
+          omega (arith, entry .pre .1),
+        ),
+      ),
     )
 
 put-tally-requires : tie.Need-put-tally-requires
@@ -69,11 +79,7 @@ put-tally-requires c κs =
     let entry = past-decide-to-entry past-decide in
     let a = entry .args in
     let T = held (a .size) (a .rows .now) (a .firsts .now) (a .outcomes .now) in
-    let d = past-decide .decide .ensures .0 in
-    let listed = all-listed (a .size) (a .rows .now) (a .firsts .now) (a .outcomes .now) (entry .pre .0) _ _ _
-    (ap (λ (x : AfterDecide). x .ranks) d) (ap (λ (x : AfterDecide). x .commands) d) (ap (λ (x : AfterDecide). x .marks) d)
-    (omega arith, omega arith, omega arith, omega arith) in
-    tally-room (planIn T) (a .size .n) (entry .pre .1) (past-list-states .list-states .ensures (planIn T) listed)
+    tally-room (planIn T) (a .size .n) (entry .pre .1) (past-list-states .list-states .ensures)
 
 same-length : tie.Need-same-length
 same-length c = search needs
@@ -84,14 +90,10 @@ returns c =
     let past-decide = past-list-states-to-past-decide past-list-states in
     let entry = past-decide-to-entry past-decide in
     let a = entry .args in
-    let T = held (a .size) (a .rows .now) (a .firsts .now) (a .outcomes .now) in
     let d = past-decide .decide .ensures .0 in
-    let listed = all-listed (a .size) (a .rows .now) (a .firsts .now) (a .outcomes .now) (entry .pre .0) _ _ _
-    (ap (λ (x : AfterDecide). x .ranks) d) (ap (λ (x : AfterDecide). x .commands) d) (ap (λ (x : AfterDecide). x .marks) d)
-    (omega arith, omega arith, omega arith, omega arith) in
     let counts = tallied (a .size) (a .rows .now) (a .firsts .now) (a .outcomes .now) (entry .pre .0) (past-decide .decide .result)
     (ap (λ (x : AfterDecide). x .answers) d) (omega arith, omega arith, omega arith, omega arith) in
-    wrote-then (past-list-states .list-states .ensures (planIn T) listed) (rw counts at (c .before .before .put-tally .ensures))
+    wrote-then (past-list-states .list-states .ensures) (rw counts at (c .before .before .put-tally .ensures))
 
 pub list-verdicts-spec : {M : Type 1} → statement M
 list-verdicts-spec = tie.close
