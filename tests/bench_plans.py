@@ -52,7 +52,7 @@ def numbers(name, values):
 
 def decided(plan):
     """Ranks, commands and marks of all states, and the tally."""
-    rank, chosen, marks, tally = reference.decide(plan)
+    rank, chosen, marks, tally, _ = reference.decide(plan)
     return numbers("ranks", rank) + numbers("commands", chosen) + numbers("marks", marks) + numbers("tally", tally[0] + tally[1])
 
 

@@ -124,17 +124,22 @@ def ranks(plan):
             rank[i] = k
 
 
+def lowest_hit(outcomes, bad):
+    """The lowest outcome that is bad, or None."""
+    return min((o for o in outcomes if bad[o]), default=None)
+
+
 def choose(state, bad):
     """The practice if none of its outcomes is bad, else the smallest number of a command of which that holds."""
     order = ([state.practice] if state.practice != NONE else []) + list(range(len(state.commands)))
     for c in order:
-        if not any(bad[o] for o in state.commands[c]):
+        if lowest_hit(state.commands[c], bad) is None:
             return c
     return None
 
 
 def decide(plan):
-    """Ranks, chosen commands, practice marks and the tally."""
+    """Ranks, chosen commands, practice marks, the tally, and the outcome named at each fault."""
     rank = ranks(plan)
     lost = [r is not None for r in rank]
     fails = [s.kind == 1 for s in plan.states]
@@ -142,16 +147,16 @@ def decide(plan):
     while changed:
         changed = False
         for i, s in enumerate(plan.states):
-            if not fails[i] and s.practice != NONE and any(fails[o] for o in s.commands[s.practice]):
+            if not fails[i] and s.practice != NONE and lowest_hit(s.commands[s.practice], fails) is not None:
                 fails[i] = changed = True
-    chosen, marks, tally = [], [], [[0, 0, 0], [0, 0, 0]]
+    chosen, marks, named, tally = [], [], [], [[0, 0, 0], [0, 0, 0]]
     for i, s in enumerate(plan.states):
         chosen.append(None if lost[i] else choose(s, lost))
         given = s.practice != NONE
-        fault = not lost[i] and given and any(lost[o] for o in s.commands[s.practice])
-        marks.append((1 if fails[i] else 0) + (2 if fault else 0))
+        named.append(lowest_hit(s.commands[s.practice], lost) if given and not lost[i] else None)
+        marks.append((1 if fails[i] else 0) + (0 if named[i] is None else 2))
         tally[1 if lost[i] else 0][2 if not given else 1 if fails[i] else 0] += 1
-    return rank, chosen, marks, tally
+    return rank, chosen, marks, tally, named
 
 
 def search(plan, start):
@@ -196,13 +201,13 @@ def listing(data):
         plan = read(data)
     except Refused as r:
         return f"refused {r.number}\n"
-    rank, chosen, marks, tally = decide(plan)
+    rank, chosen, marks, tally, named = decide(plan)
     lost, rounds, _ = search(plan, plan.start)
     dash = lambda x: "-" if x is None else str(x)
     out = [f"plan {plan.n} {plan.m} {plan.t}"]
     for i, s in enumerate(plan.states):
         out.append(f"{i} {'ofr'[s.kind]} {'S' if rank[i] is None else 'L'} {dash(rank[i])} {dash(chosen[i])} "
-                   f"{'F' if marks[i] & 1 else 'H'} {'!' if marks[i] & 2 else '.'}")
+                   f"{'F' if marks[i] & 1 else 'H'} {'.' if named[i] is None else f'!{named[i]}'}")
     out.append("tally " + " / ".join(" ".join(map(str, row)) for row in tally))
     out.append(f"start {plan.start} {'L' if lost else 'S'} {rounds}")
     return "\n".join(out) + "\n"

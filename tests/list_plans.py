@@ -1,0 +1,46 @@
+"""The listing program, whose path is the argument, on plans of many shapes: whether it prints what the reference prints."""
+import subprocess
+import sys
+
+import reference
+from plans import failing, longest, rest, scattered, shapes
+from reference import STATES, Plan, State, write
+
+
+def faults(n, named):
+    """n states, of which the last are failing and named[0] is the lowest lost outcome of the practice of state 0; all others are at rest."""
+    states = [State(0, [[1], sorted({1} | set(named))], 1)] + [rest() for _ in range(n - 1)]
+    for x in named:
+        states[x] = failing()
+    return Plan(states)
+
+
+def plans():
+    yield from shapes()
+    yield longest()
+    for named in [2], [9], [10, 11], [99], [100], [101, 500], [999, 1000], [1000], [1023], [3, 4, 5, 1023]:
+        yield faults(STATES, named)
+    yield Plan([State(0, [[1], [2]], 1), rest(), State(0, [[3]]), failing()])  # a fault whose practice holds
+    yield Plan([State(0, [[0], [0, 1]], 1), failing(), State(0, [[1]], 0)])  # of two hits, only that at the safe state is a fault
+    for seed in range(100, 160):
+        yield scattered(seed, 6 + seed % 7, 3, 4, (9, 1, 2))
+    for seed in range(160, 170):
+        yield scattered(seed, 200, 5, 5, (30, 1, 3))
+    yield scattered(170, STATES, 4, 4, (60, 1, 3))
+
+
+def main():
+    tried = signs = 0
+    for plan in plans():
+        file = write(plan)
+        want = reference.listing(file)
+        got = subprocess.run([sys.argv[1]], input=file, capture_output=True, check=True).stdout.decode()
+        if got != want:
+            line = next((pair for pair in zip(got.split("\n"), want.split("\n")) if pair[0] != pair[1]), (got, want))
+            sys.exit(f"list_plans: plan {tried}: {line[0]!r} for {line[1]!r}")
+        tried += 1
+        signs += sum(" !" in line for line in want.split("\n"))
+    print(f"listed {tried} plans, {signs} faults")
+
+
+main()
