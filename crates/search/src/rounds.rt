@@ -77,7 +77,18 @@ pub fn walk_rounds(
     let mut h = 0;
     let mut count = 0;
     while end == 2 {
-        let walked = walk(size, rows, firsts, outcomes, commands, scratch, queue, tried, h, q);
+        let walked = walk(
+            size,
+            rows,
+            firsts,
+            outcomes,
+            commands,
+            scratch,
+            queue,
+            tried,
+            h,
+            q,
+        );
         h = walked.low;
         end = round_end(commands, start, h);
         q = kept(scratch, queue, walked.reached, h);
