@@ -79,7 +79,14 @@ reach-requires c κs =
     let s = entry .args in (
       queued-none _ (first-low _ (p .0 .sounds) _ (p .1 .0) (past-fill .fill .ensures)
           (past-start-known .start-known .ensures (s .firsts .now) (s .outcomes .now))),
-      (p .1 .0, p .0 .few, omega (arith, p .0 .long-scratch, past-start-known .start-known .kept), p .0 .long-queue, omega arith, omega arith),
+      (
+        p .1 .0,
+        p .0 .few,
+        omega (arith, p .0 .long-scratch, past-start-known .start-known .kept),
+        p .0 .long-queue,
+        omega arith,
+        omega arith,
+      ),
     )
 
 loop-holds : tie.Need-loop-holds Inv-loop μ-loop
@@ -215,8 +222,8 @@ loop-again c =
     let d = w .due (past-loop-test .loop-test .taken) in
     rounds-next _ (p .0 .sounds) (p .0 .few) (p .1 .0) d (past-walk .walk .ensures .1 .1 .1 .1 _ _ (d .walks) (d .clear))
     (past-round-end .round-end .ensures) (past-kept .kept .ensures) (past-settle .settle .ensures (s .firsts .now) (s .outcomes .now)) w
-    (past-walk .walk .ensures .0) (past-walk .walk .ensures .1 .0) (omega (arith, past-walk .walk .kept)) (past-walk .walk .ensures .1 .1 .1 .0)
-    (omega (arith, past-walk .walk .kept))
+    (past-walk .walk .ensures .0) (past-walk .walk .ensures .1 .0) (omega (arith, past-walk .walk .kept))
+    (past-walk .walk .ensures .1 .1 .1 .0) (omega (arith, past-walk .walk .kept))
 
 finish-requires : tie.Need-finish-requires Inv-loop μ-loop
 finish-requires c κs =

@@ -55,7 +55,8 @@ returns c =
     let past-choose-from = past-put .before .before in
     let entry = past-choose-from-to-entry past-choose-from in
     let p = entry .pre in
-    let first = take-first (entry .args .scratch .now) (p .1 .1 .1) (past-choose-from .before .at .ensures) (past-choose-from .choose-from .ensures) in (
+    let first = take-first (entry .args .scratch .now) (p .1 .1 .1) (past-choose-from .before .at .ensures)
+    (past-choose-from .choose-from .ensures) in (
       λ R sounds is. first-chosen _ _ _ (p .1 .0 .inside) is _ sounds first (c .tried-at .ensures _),
       retried (entry .args .tried .now) _ (p .1 .1 .0 .1) first (past-put .put .ensures),
     )
