@@ -1,50 +1,41 @@
--- The choice at a state of a sound plan, by what is read of the state.
-use mathlib.Core.Path.{_≡_, refl, sym, ap, _∙_}
-use mathlib.Core.Bool.{Bool, true, false, not, cond, _&&_}
+-- The choice at a state of a sound plan, by what is read of the state: the command at the first place of the trying order that is clear.
+use mathlib.Core.Path.{_≡_, sym, ap, _∙_}
+use mathlib.Core.Bool.{Bool, true, false, not}
+use mathlib.Core.List.{[]}
 use mathlib.Core.Logic.{⊎-elim}
-use mathlib.Core.Option.{none, some}
-use Prim.Native.Nat.{ℕ, _+_, _-_, _<_, _≤_}
+use Prim.Native.Nat.{ℕ, _+_, _<_}
 use native.Mathlib.Numerals.{add-one}
 use native.Mathlib.Omega.{arith}
 use native.Mathlib.Decide.{decLt}
-use lib.Dec.{ltb}
-use borrow.Author.Tests.{le-ltb, ltb-true}
-use Rattle.laws.specs.Sets.{any, lowest}
-use Rattle.laws.specs.Entry.{FFFF, entry}
+use lib.ListN.{length}
+use borrow.Author.Tests.{le-ltb}
+use Rattle.laws.specs.Sets.{any, first}
+use Rattle.laws.specs.Lists.{tabulate}
+use Rattle.laws.specs.Entry.{entry}
 use Rattle.laws.specs.First.{FirstNot}
 use Rattle.laws.proofs.Tests.{clash, true-or-false}
-use Rattle.laws.proofs.Tries.{lowest-same, first-found, first-missing}
+use Rattle.laws.proofs.Tries.{first-at}
 use Rattle.model.specs.Plan.{active, hasPractice}
 use Rattle.model.specs.Verdict.{hits}
-use Rattle.model.specs.Command.{choice}
+use Rattle.model.specs.Command.{tryOrder, choice}
 use Rattle.model.specs.Tables.{Tables, listsIn}
-use Rattle.model.specs.Places.{rowAt, firstCommand, commandCount, outcomesAt}
+use Rattle.model.specs.Places.{firstCommand, commandCount, outcomesAt}
 use Rattle.model.specs.SoundTest.{sound}
 use Rattle.model.specs.Held.{planIn}
 use Rattle.model.proofs.StateKinds.{command-active}
-use Rattle.model.proofs.Choices.{choice-idle, choice-words}
+use Rattle.model.proofs.Choices.{choice-idle}
 use Rattle.model.proofs.HeldPlan.{states-held, practice-held, commands-held, outcomes-held}
 use Rattle.model.proofs.Valid.{sound-valid}
 use Rattle.tables.specs.declared.spans.Span.{Span}
 use Rattle.tables.specs.Spans.{spanAt}
-use Rattle.choice.specs.Within.{commandHits, clear}
+use Rattle.choice.specs.Order.{alone, places, triedAt, hitAt, AllHit}
+use Rattle.choice.proofs.Orders.{tried-below}
 
 module _ (T : Tables) (K : ℕ → Bool) (s : ℕ) (l : s < T .size .n) where
   -- a command's outcomes, by its place
   pub hits-held : (c : ℕ) → c < commandCount T s → hits (planIn T) K s c ≡ any K (outcomesAt T (firstCommand T s + c))
   unfolding hits
   hits-held c h = ap (any K) (outcomes-held T s l c h)
-
-  clear-held : (c : ℕ) → c < commandCount T s → not (hits (planIn T) K s c) ≡ clear (listsIn T) K (firstCommand T s) c
-  unfolding clear commandHits
-  clear-held c h = ap not (hits-held c h)
-
-  -- a state that is not active has no commands to try
-  idle-words : planIn T .commands s ≡ 0
-      → none ≡ cond (hasPractice (planIn T) s && not (hits (planIn T) K s (planIn T .practice s))) (some (planIn T .practice s))
-      (lowest (λ c. not (hits (planIn T) K s c)) (planIn T .commands s))
-  unfolding hasPractice lowest
-  idle-words e = rw (e, le-ltb (planIn T .practice s) 0 (omega arith))
 
   module _ (sounds : sound T ≡ true) where
     no-commands : active (planIn T) s ≡ false → planIn T .commands s ≡ 0
@@ -54,54 +45,65 @@ module _ (T : Tables) (K : ℕ → Bool) (s : ℕ) (l : s < T .size .n) where
         go (yes h) = clash (command-active (planIn T) s (sound-valid T sounds) (rw (states-held T) l) 0 h) e
         go (no h) = omega arith
 
-    any-words : choice (planIn T) K s
-        ≡ cond (hasPractice (planIn T) s && not (hits (planIn T) K s (planIn T .practice s))) (some (planIn T .practice s))
-        (lowest (λ c. not (hits (planIn T) K s c)) (planIn T .commands s))
-    any-words =
-        ⊎-elim (choice-words (planIn T) K s) (λ e. choice-idle (planIn T) K s e ∙ idle-words (no-commands e))
-        (true-or-false (active (planIn T) s))
+    -- a state that is not active has no commands to try
+    none-tried : planIn T .commands s ≡ 0 → tryOrder (planIn T) s ≡ []
+    unfolding tryOrder hasPractice tabulate
+    none-tried e = rw (e, le-ltb (planIn T .practice s) 0 (omega arith))
 
-    -- the practice if it is clear, else the lowest command that is
-    choice-clear : choice (planIn T) K s
-        ≡ cond (ltb (rowAt T s .practice) (commandCount T s) && clear (listsIn T) K (firstCommand T s) (rowAt T s .practice))
-        (some (rowAt T s .practice)) (lowest (clear (listsIn T) K (firstCommand T s)) (commandCount T s))
-    unfolding hasPractice
-    choice-clear =
-        any-words ∙ rw (practice-held T s l, commands-held T s l)
-        (go (ltb p n) refl ∙ ap (cond (ltb p n && clear (listsIn T) K (firstCommand T s) p) (some p)) (lowest-same _ _ n clear-held))
-      where
-        p : ℕ
-        p = rowAt T s .practice
+    choice-first : choice (planIn T) K s ≡ first (λ c. not (hits (planIn T) K s c)) (tryOrder (planIn T) s)
+    unfolding choice first
+    choice-first =
+        ⊎-elim (λ e. rw e) (λ e. choice-idle (planIn T) K s e ∙ rw (none-tried (no-commands e))) (true-or-false (active (planIn T) s))
 
-        n : ℕ
-        n = commandCount T s
+    choice-at : (r : ℕ) → FirstNot (hitAt (planIn T) K s) 0 (places (planIn T) s) r → triedAt (planIn T) s r ≡ entry (choice (planIn T) K s)
+    unfolding places triedAt hitAt
+    choice-at r v = first-at (hits (planIn T) K s) (tryOrder (planIn T) s) r v ∙ ap entry (sym choice-first)
 
-        go : (b : Bool) → ltb p n ≡ b
-            → cond (b && not (hits (planIn T) K s p)) (some p) (lowest (λ c. not (hits (planIn T) K s c)) n)
-            ≡ cond (b && clear (listsIn T) K (firstCommand T s) p) (some p) (lowest (λ c. not (hits (planIn T) K s c)) n)
-        go true e = rw (clear-held p (ltb-true p n e))
-        go false e = refl
+-- what was read of the state s, as a plan of its own
+module _ (T : Tables) (q : Span) (s : ℕ) (l : s < T .size .n) (e : q ≡ spanAt T s) where
+  order-read : tryOrder (alone (listsIn T) q) 0 ≡ tryOrder (planIn T) s
+  unfolding tryOrder hasPractice commandCount
+  order-read = rw (commands-held T s l, practice-held T s l, e, add-one s)
 
--- what was read of the state s, and the count of its commands
-module _ (T : Tables) (K : ℕ → Bool) (q : Span) (count s : ℕ) (c : count ≡ q .end - q .first) (t : Bool)
-    (practice : t ≡ (ltb (q .practice) count && clear (listsIn T) K (q .first) (q .practice))) (sounds : sound T ≡ true)
-    (l : s < T .size .n) (e : q ≡ spanAt T s) where
-  chosen-is : choice (planIn T) K s ≡ cond t (some (q .practice)) (lowest (clear (listsIn T) K (q .first)) count)
-  unfolding commandCount
-  chosen-is = choice-clear T K s l sounds ∙ rw (practice, c, e, add-one s)
+  places-read : places (alone (listsIn T) q) 0 ≡ places (planIn T) s
+  unfolding places
+  places-read = ap length order-read
 
-  pub practice-chosen : t ≡ true → q .practice ≡ entry (choice (planIn T) K s)
-  unfolding entry
-  practice-chosen h = sym (rw (chosen-is, h))
+  tried-read : (i : ℕ) → triedAt (alone (listsIn T) q) 0 i ≡ triedAt (planIn T) s i
+  unfolding triedAt
+  tried-read i = rw order-read
 
-  -- the first of its commands that is clear, where the practice is not
-  module _ (h : t ≡ false) (r : ℕ) (v : FirstNot (commandHits (listsIn T) K) (q .first) (q .end) r) where
-    lowest-is : entry (choice (planIn T) K s) ≡ entry (lowest (λ i. not (commandHits (listsIn T) K (q .first + i))) (q .end - q .first))
-    unfolding clear
-    lowest-is = rw (chosen-is, h, c)
+  module _ (K : ℕ → Bool) where
+    hit-read : (i : ℕ) → i < places (planIn T) s → hitAt (alone (listsIn T) q) K 0 i ≡ hitAt (planIn T) K s i
+    unfolding hitAt hits
+    hit-read i k =
+        let c = triedAt (planIn T) s i in
+        let first-is : q .first ≡ firstCommand T s = ap (λ (p : Span). p .first) e in
+        rw (tried-read i, first-is) (sym (hits-held T K s l c (rw (commands-held T s l) at (tried-below (planIn T) s i k))))
 
-    pub first-chosen : r < q .end → r - q .first ≡ entry (choice (planIn T) K s)
-    first-chosen l = first-found v l ∙ sym lowest-is
+    pub all-alone : {k : ℕ} → AllHit (planIn T) K s k → AllHit (alone (listsIn T) q) K 0 k
+    all-alone v = record {
+      part = rw places-read (v .part);
+      hit = λ i m. hit-read i (omega (arith, v .part)) ∙ v .hit i m;
+    }
 
-    pub none-chosen : q .end ≤ r → FFFF ≡ entry (choice (planIn T) K s)
-    none-chosen l = first-missing v l ∙ sym lowest-is
+    pub all-placed : {k : ℕ} → AllHit (alone (listsIn T) q) K 0 k → AllHit (planIn T) K s k
+    all-placed v =
+        let p = rw places-read at (v .part) in
+        record { part = p; hit = λ i m. sym (hit-read i (omega (arith, p))) ∙ v .hit i m }
+
+    first-read : {r : ℕ} → FirstNot (hitAt (alone (listsIn T) q) K 0) 0 (places (alone (listsIn T) q) 0) r
+        → FirstNot (hitAt (planIn T) K s) 0 (places (planIn T) s) r
+    first-read v =
+        let u = rw places-read at (v .until) in
+        record {
+          since = v .since;
+          until = u;
+          before = λ i p k. sym (hit-read i (omega (arith, u))) ∙ v .before i p k;
+          stops = λ k. sym (hit-read _ k) ∙ v .stops (rw places-read k);
+        }
+
+    -- the command at the first place that is clear
+    pub first-chosen : sound T ≡ true → {r c : ℕ} → FirstNot (hitAt (alone (listsIn T) q) K 0) 0 (places (alone (listsIn T) q) 0) r
+        → c ≡ triedAt (alone (listsIn T) q) 0 r → c ≡ entry (choice (planIn T) K s)
+    first-chosen sounds {r} v z = z ∙ tried-read r ∙ choice-at T K s l sounds r (first-read v)

@@ -1,4 +1,5 @@
 pub mod Members
 pub mod Outcomes
+pub mod Orders
 pub mod Choices
 pub mod Taken

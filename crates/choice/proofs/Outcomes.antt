@@ -1,21 +1,19 @@
 -- The places of a list, and whether a command has an outcome in a set by what is read there.
 use mathlib.Core.Path.{_≡_, _∙_}
-use mathlib.Core.Bool.{Bool, not, _&&_}
+use mathlib.Core.Bool.{Bool}
 use Prim.Native.Nat.{ℕ, _+_, _<_, _≤_, suc}
 use native.Mathlib.Numerals.{add-one}
 use native.Mathlib.Omega.{arith}
 use mathlib.Core.List.{List}
-use lib.Dec.{ltb}
 use lib.ListN.{length, getD}
 use lib.Seq.{slice}
-use borrow.Author.Tests.{lt-ltb}
 use Rattle.laws.specs.Sets.{any}
 use Rattle.laws.specs.Starts.{Parts}
 use Rattle.laws.proofs.Starts.{start-next, start-le}
 use Rattle.model.specs.Tables.{Lists}
 use Rattle.model.specs.Places.{startIn, listAt}
 use Rattle.tables.specs.Ready.{States, Ready}
-use Rattle.choice.specs.Within.{commandHits, clear}
+use Rattle.choice.specs.Within.{commandHits}
 
 -- states below n are below more
 pub states-below : {n k end : ℕ} {entries : List ℕ} → n ≤ k → States n end entries → States k end entries
@@ -45,9 +43,3 @@ pub outcomes-inside : {n : ℕ} {L : Lists} → Ready n L → (i from end places
     → n ≤ places → (from ≤ end) × (end ≤ length (L .entries)) × ((j : ℕ) → j < end → getD (L .entries) j 0 < places)
 outcomes-inside {L = L} ready i from end places l p q h =
     entries-inside L i from end p q l (ready .parts) (states-below h (ready .states))
-
--- a practice that was tried
-pub practice-is : (L : Lists) (K : ℕ → Bool) (first c : ℕ) (t : Bool) → t ≡ commandHits L K (first + c) → (count : ℕ) → c < count
-    → not t ≡ (ltb c count && clear L K first c)
-unfolding clear
-practice-is L K first c t p count l = rw (lt-ltb c count l, p)

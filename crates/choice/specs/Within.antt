@@ -1,7 +1,7 @@
 -- A set of states that a table holds, and the commands that stay out of it.
-use mathlib.Core.Bool.{Bool, not}
+use mathlib.Core.Bool.{Bool}
 use mathlib.Core.List.{List}
-use Prim.Native.Nat.{ℕ, _+_}
+use Prim.Native.Nat.{ℕ}
 use lib.Dec.{leb}
 use lib.ListN.{getD}
 use Rattle.laws.specs.Sets.{any}
@@ -15,7 +15,3 @@ within table limit x = leb (getD table x 0) limit
 -- the command c, whose outcomes are list c, has one in K
 unfoldable pub commandHits : Lists → (ℕ → Bool) → ℕ → Bool
 commandHits L K c = any K (listAt L c)
-
--- of a state whose commands begin at place `first`: its command c has no outcome in K
-unfoldable pub clear : Lists → (ℕ → Bool) → ℕ → ℕ → Bool
-clear L K first c = not (commandHits L K (first + c))

@@ -1,10 +1,9 @@
 // What only the planner's own crates call: each function here asks that the plan is sound. A set of states is held by a table: the
 // states whose entry is at most a limit. So one test serves the layers (ranks up to k), the lost (ranks up to 65534) and the known.
 ghost use mathlib.Core.Path.{_≡_};
-ghost use mathlib.Core.Bool.{true, _&&_};
+ghost use mathlib.Core.Bool.{true};
 ghost use mathlib.Core.List.{List};
-ghost use Prim.Native.Nat.{ℕ, _<_, _≤_, _+_};
-ghost use lib.Dec.{ltb};
+ghost use Prim.Native.Nat.{ℕ, _<_, _≤_};
 ghost use lib.ListN.{length, getD};
 ghost use lib.Seq.{slice};
 ghost use Rattle.laws.specs.Sets.{any};
@@ -18,9 +17,11 @@ ghost use Rattle.tables.specs.declared.Row.{Row};
 ghost use Rattle.tables.specs.Meaning.{held};
 ghost use Rattle.tables.specs.Spans.{spanAt, commandsOf};
 ghost use Rattle.tables.specs.Ready.{listTable, States, Ready};
-ghost use Rattle.choice.specs.Within.{within, commandHits, clear};
+ghost use Rattle.choice.specs.Within.{within, commandHits};
+ghost use Rattle.choice.specs.Order.{alone, places, hitAt};
+use crate::order::tried_at;
+use crate::order::tries;
 use tables::Size;
-use tables::entries::NONE;
 use tables::entries::at;
 use tables::entries::start_of;
 use tables::spans::Span;
@@ -76,28 +77,6 @@ pub fn command_hit(
     list_hit(size.m, size.t, firsts, outcomes, table, limit, c)
 }
 
-// Whether the practice is one of the `count` commands from place `first` on, and has no outcome in the set.
-fn practice_clear(
-    size: Size,
-    firsts: &[u16],
-    outcomes: &[u16],
-    table: &[u16],
-    limit: usize,
-    first: usize,
-    count: usize,
-    practice: usize,
-) -> bool
-    requires { ⌜ Ready (size .n) (commandsOf size (now firsts) (now outcomes)) ⌝ }
-    requires { ⌜ (first + count ≤ size .m) × (size .n ≤ length (now table)) ⌝ }
-    ensures { λ r. ⌜ r ≡ (ltb practice count
-        && clear (commandsOf size (now (firsts .entry)) (now (outcomes .entry))) (within (now (table .entry)) limit) first practice) ⌝ }
-{
-    if count <= practice {
-        return false;
-    }
-    !command_hit(size, firsts, outcomes, table, limit, first + practice)
-}
-
 // The first command from place `from` on, below place `to`, that has no outcome in the set; or `to`.
 pub fn first_clear(
     size: Size,
@@ -123,8 +102,37 @@ pub fn first_clear(
     c
 }
 
-// The first command tried, the practice and then the lowest first, that has no outcome in the set, or the entry FFFF. What was read of the
+// The first place of the trying order from `from` on whose command has no outcome in the set, or the number of places. What was read of the
 // state is `span`: a state that may have no commands has none there, so its kind is not asked for.
+pub fn choose_from(
+    size: Size,
+    span: Span,
+    firsts: &[u16],
+    outcomes: &[u16],
+    table: &[u16],
+    limit: usize,
+    from: usize,
+) -> usize
+    requires { ⌜ Ready (size .n) (commandsOf size (now firsts) (now outcomes)) ⌝ }
+    requires { ⌜ (span .first ≤ span .end) × (span .end ≤ size .m) × (size .n ≤ length (now table)) ⌝ }
+    requires { ⌜ from ≤ places (alone (commandsOf size (now firsts) (now outcomes)) span) 0 ⌝ }
+    ensures { λ r. ⌜
+        (let P = alone (commandsOf size (now (firsts .entry)) (now (outcomes .entry))) span in
+        FirstNot (hitAt P (within (now (table .entry)) limit) 0) from (places P 0) r) ⌝ }
+{
+    let end = tries(span);
+    let mut place = from;
+    while place < end {
+        let c = span.first + tried_at(span, place);
+        if !command_hit(size, firsts, outcomes, table, limit, c) {
+            return place;
+        }
+        place += 1;
+    }
+    place
+}
+
+// The first command tried that has no outcome in the set, or the entry FFFF.
 pub fn choose(
     size: Size,
     span: Span,
@@ -139,22 +147,6 @@ pub fn choose(
         ≡ spanAt (held size R (now (firsts .entry)) (now (outcomes .entry))) s → r
         ≡ entry (choice (planIn (held size R (now (firsts .entry)) (now (outcomes .entry)))) (within (now (table .entry)) limit) s)) ⌝ }
 {
-    let count = span.end - span.first;
-    if practice_clear(
-        size,
-        firsts,
-        outcomes,
-        table,
-        limit,
-        span.first,
-        count,
-        span.practice,
-    ) {
-        return span.practice;
-    }
-    let c = first_clear(size, firsts, outcomes, table, limit, span.first, span.end);
-    if c < span.end {
-        return c - span.first;
-    }
-    NONE
+    let place = choose_from(size, span, firsts, outcomes, table, limit, 0);
+    tried_at(span, place)
 }

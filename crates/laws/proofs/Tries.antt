@@ -1,12 +1,14 @@
 -- A loop that tries the numbers of a range, one after another, and stops at the first of which a test does not hold: its answer, counted
--- from where the range begins, is the lowest, as a table holds it.
-use mathlib.Core.Path.{_≡_, sym, ap, _∙_}
+-- from where the range begins, is the lowest, as a table holds it; where the numbers are places of a list, the first member is found there.
+use mathlib.Core.Path.{_≡_, refl, sym, ap, _∙_}
 use mathlib.Core.Bool.{Bool, true, false, not}
+use mathlib.Core.List.{List, [], _∷_}
 use mathlib.Core.Option.{Option, none, some}
-use Prim.Native.Nat.{ℕ, _+_, _-_, _<_, _≤_}
+use Prim.Native.Nat.{ℕ, zero, suc, _+_, _-_, _<_, _≤_}
 use native.Mathlib.Decide.{decLt}
 use native.Mathlib.Omega.{arith}
-use Rattle.laws.specs.Sets.{lowest}
+use lib.ListN.{length, getD}
+use Rattle.laws.specs.Sets.{first, lowest}
 use Rattle.laws.specs.Entry.{FFFF, entry}
 use Rattle.laws.specs.First.{FirstNot}
 use Rattle.laws.proofs.Sets.{IsLowest, lowest-is, lowest-eq}
@@ -48,6 +50,32 @@ module _ {f : ℕ → Bool} {a e r : ℕ} (v : FirstNot f a e r) where
   pub first-missing : e ≤ r → FFFF ≡ entry (lowest (λ i. not (f (a + i))) (e - a))
   unfolding entry
   first-missing l = sym (ap entry (lowest-eq (λ i. not (f (a + i))) (e - a) none (λ i k. before-first i (omega arith))))
+
+-- ---- the members of a list, tried by their places
+
+-- where the test holds of all numbers before the range, its first number is the first of all
+pub first-earlier : {f : ℕ → Bool} {a e r : ℕ} → ((i : ℕ) → i < a → f i ≡ true) → FirstNot f a e r → FirstNot f 0 e r
+first-earlier {f} {a} {e} {r} all v =
+    record { since = omega arith; until = v .until; before = λ i p q. go i q (decLt i a); stops = v .stops }
+  where
+    go : (i : ℕ) → i < r → Dec (i < a) → f i ≡ true
+    go i q (yes l) = all i l
+    go i q (no l) = v .before i (omega arith) q
+
+-- the first member of which f does not hold stands at the first place of which it does not; FFFF where it holds of all
+pub first-at : (f : ℕ → Bool) (l : List ℕ) (r : ℕ) → FirstNot (λ i. f (getD l i FFFF)) 0 (length l) r
+    → getD l r FFFF ≡ entry (first (λ x. not (f x)) l)
+unfolding first entry
+first-at f [] r v = refl
+first-at f (x ∷ xs) zero v = let e : f x ≡ false = v .stops (omega arith) in rw e
+first-at f (x ∷ xs) (suc r) v =
+    let e : f x ≡ true = v .before 0 (omega arith) (omega arith) in
+    rw e (first-at f xs r (record {
+      since = omega arith;
+      until = omega (arith, v .until);
+      before = λ i p q. v .before (suc i) (omega arith) (omega arith);
+      stops = λ q. v .stops (omega arith);
+    }))
 
 -- tests that agree below the bound have the same lowest
 pub lowest-same : (f g : ℕ → Bool) (n : ℕ) → ((i : ℕ) → i < n → f i ≡ g i) → lowest f n ≡ lowest g n
