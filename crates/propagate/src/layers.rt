@@ -1,6 +1,6 @@
 // The propagation. Only the planner's own crates call this. Each state watches one command, the first of those that count that has no
-// outcome of a rank of at most k: a look
-// at a command that is not watched costs nothing, and each command is scanned when its state comes to watch it and when it is hit.
+// outcome of a rank of at most k: a look at a command that is not watched costs nothing, and each command is scanned when its state comes
+// to watch it and when it is hit.
 ghost use mathlib.Core.Path.{_≡_};
 ghost use Prim.Native.Nat.{ℕ, _+_, _≤_, _<_};
 ghost use lib.ListN.{length, getD};
