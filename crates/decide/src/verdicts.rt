@@ -59,7 +59,8 @@ fn command_of(
     ensures { λ r. ⌜
         ((R : List Row) (s : ℕ) →
         let T = held size R (now (firsts .entry)) (now (outcomes .entry)) in
-        sound T ≡ true → s < size .n → span ≡ spanAt T s → r ≡ entry (unlessLost lost (choice (planIn T) (numbered (now (ranks .entry))) s)))
+        sound T ≡ true → s < size .n → span ≡ spanAt T s
+        → r ≡ entry (unlessLost lost (choice (planIn T) (numbered (now (ranks .entry))) s)))
         ⌝ }
 {
     if lost {
