@@ -1,7 +1,8 @@
 -- What all steps of the work give together.
-use mathlib.Core.Path.{_≡_, sym, ap, _∙_}
-use mathlib.Core.Bool.{Bool, true}
+use mathlib.Core.Path.{_≡_, refl, sym, ap, _∙_}
+use mathlib.Core.Bool.{Bool, true, false, not, cond}
 use mathlib.Core.List.{List}
+use mathlib.Core.Option.{Option, none}
 use Prim.Native.Nat.{ℕ, _<_, _≤_}
 use lib.ListN.{length}
 use Rattle.laws.specs.Entry.{entry}
@@ -18,13 +19,11 @@ use Rattle.model.specs.SoundTest.{sound}
 use Rattle.model.specs.Held.{planIn}
 use Rattle.model.specs.Calls.{rankTable, commandTable, markTable, cleared}
 use Rattle.model.proofs.HeldPlan.{states-held}
-use Rattle.model.proofs.Layers.{chosen-choice}
-use Rattle.model.proofs.Valid.{sound-valid}
 use Rattle.tables.specs.declared.Row.{Row}
 use Rattle.tables.specs.declared.Size.{Size}
 use Rattle.tables.specs.Meaning.{held}
 use Rattle.nets.specs.Found.{Found}
-use Rattle.decide.specs.Verdicts.{numbered, oneIf, markAt, StatesJudged}
+use Rattle.decide.specs.Verdicts.{numbered, unlessLost, oneIf, markAt, StatesJudged}
 use Rattle.nets.proofs.PlanHits.{choice-agree, practice-hits-agree}
 use Rattle.nets.proofs.Depths.{lost-found}
 use Rattle.decide.proofs.Tallies.{tally-same, tally-is}
@@ -43,15 +42,20 @@ pub record PlanDecided (T : Tables) (ranks commands marks scratch : List ℕ) (t
   pub marked : marks′ ≡ overwrite (markTable (planIn T)) marks
   pub clean : scratch′ ≡ overwrite (cleared (planIn T .states)) scratch
 
+lost-or-safe : (b : Bool) (x y : Option ℕ) → cond b x y ≡ cond (not b) y x
+lost-or-safe true x y = refl
+lost-or-safe false x y = refl
+
 -- the lost states and those from which the practice fails are found
 module _ (T : Tables) (sounds : sound T ≡ true) (L F : ℕ → Bool) (losts : Agree (T .size .n) L (lost (planIn T)))
     (fails : Agree (T .size .n) F (practiceFails (planIn T))) where
   abbrev P : Plan
   P = planIn T
 
-  chosen-found : (s : ℕ) → s < T .size .n → entry (choice P L s) ≡ entry (chosen P s)
-  chosen-found s l = ap entry
-      (choice-agree T sounds L (lost P) losts s l ∙ sym (chosen-choice P (sound-valid T sounds) s (rw (states-held T) l)))
+  chosen-found : (s : ℕ) → s < T .size .n → entry (unlessLost (L s) (choice P L s)) ≡ entry (chosen P s)
+  unfolding unlessLost chosen safe
+  chosen-found s l = rw (losts s l, choice-agree T sounds L (lost P) losts s l)
+      (ap entry (lost-or-safe (lost P s) none (choice P (lost P) s)))
 
   mark-found : (s : ℕ) → s < T .size .n → markAt P L (F s) s ≡ mark P s
   unfolding markAt oneIf mark fault safe

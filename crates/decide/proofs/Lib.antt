@@ -1,4 +1,5 @@
 pub mod Made
+pub mod PracticeChosen
 pub mod StateVerdicts
 pub mod Tallies
 pub mod Passes

@@ -1,23 +1,22 @@
--- One state judged: whether it is a fault, its mark and its place in the tally.
-use mathlib.Core.Path.{_≡_, sym, ap, _∙_}
+-- One state judged: its command, whether it is a fault, its mark and its place in the tally.
+use mathlib.Core.Path.{_≡_, refl, ap, _∙_}
 use mathlib.Core.Bool.{Bool, true, false, not, cond, _&&_}
 use mathlib.Core.List.{List}
+use mathlib.Core.Option.{Option}
 use Prim.Native.Nat.{ℕ, _+_, _<_, _≤_}
 use native.Mathlib.Nat.{add-zero}
 use native.Mathlib.Omega.{arith}
+use lib.Dec.{eqb}
 use lib.ListN.{set}
 use borrow.Author.Tests.{not-true, not-false}
-use Rattle.laws.specs.Sets.{any}
-use Rattle.laws.specs.Entry.{entry}
+use Rattle.laws.specs.Entry.{FFFF, entry}
 use Rattle.model.specs.Plan.{hasPractice}
 use Rattle.model.specs.Command.{choice}
 use Rattle.model.specs.Practice.{practiceHits, markOf}
 use Rattle.model.specs.Tables.{Tables}
-use Rattle.model.specs.Places.{outcomesAt}
 use Rattle.model.specs.SoundTest.{sound}
 use Rattle.model.specs.Held.{planIn}
-use Rattle.model.proofs.HeldPlan.{practice-held, commands-held}
-use Rattle.choice.proofs.Choices.{hits-held}
+use Rattle.model.proofs.HeldPlan.{practice-held}
 use Rattle.choice.proofs.Taken.{span-inside, entry-fits}
 use Rattle.tables.specs.declared.Row.{Row}
 use Rattle.tables.specs.declared.Size.{Size}
@@ -26,8 +25,9 @@ use Rattle.tables.specs.Meaning.{held}
 use Rattle.tables.specs.Spans.{spanAt}
 use Rattle.tables.specs.Seen.{Seen}
 use Rattle.nets.specs.Nets.{practised}
-use Rattle.decide.specs.Verdicts.{oneIf, markAt, columnOf, StateJudged}
-use Rattle.nets.proofs.NetSteps.{practised-is, practice-below}
+use Rattle.nets.proofs.NetSteps.{practised-is}
+use Rattle.decide.specs.Verdicts.{unlessLost, oneIf, markAt, columnOf, StateJudged}
+use Rattle.decide.proofs.PracticeChosen.{not-practice}
 
 -- ---- a state that some sound plan has
 
@@ -35,34 +35,54 @@ module _ {size : Size} {firsts outcomes : List ℕ} {s : ℕ} {q : Span} (w : Se
   pub seen-inside : (q .first ≤ q .end) × (q .end ≤ size .m)
   seen-inside = span-inside (held size (w .rows) firsts outcomes) (w .sounds) s (w .inside) q (w .is)
 
-  -- what choosing answers fits an entry
-  pub seen-fits : (K : ℕ → Bool) (c : ℕ)
+  -- the command of the state fits an entry
+  pub seen-fits : (K : ℕ → Bool) (lost : Bool) (c : ℕ)
       → ((R : List Row) (x : ℕ) → sound (held size R firsts outcomes) ≡ true → x < size .n → q ≡ spanAt (held size R firsts outcomes) x
-      → c ≡ entry (choice (planIn (held size R firsts outcomes)) K x)) → c < 65536
-  seen-fits K c h = entry-fits (held size (w .rows) firsts outcomes) (w .sounds) s (w .inside) K c
+      → c ≡ entry (unlessLost lost (choice (planIn (held size R firsts outcomes)) K x))) → c < 65536
+  unfolding unlessLost entry
+  seen-fits K true c h = let e : c ≡ FFFF = h (w .rows) s (w .sounds) (w .inside) (w .is) in omega arith
+  seen-fits K false c h = entry-fits (held size (w .rows) firsts outcomes) (w .sounds) s (w .inside) K c
       (h (w .rows) s (w .sounds) (w .inside) (w .is))
 
--- ---- whether a state is a fault
+-- ---- the command, and whether the state is a fault
 
-pub lost-fault : (lost : Bool) → lost ≡ true → (b : Bool) → false ≡ (not lost && b)
-lost-fault lost h b = rw h
+pub command-lost : (lost : Bool) → lost ≡ true → (o : Option ℕ) → FFFF ≡ entry (unlessLost lost o)
+unfolding unlessLost entry
+command-lost lost h o = rw h
 
-module _ (q : Span) (lost : Bool) where
-  module _ (h : lost ≡ false) (t : Bool) (e : t ≡ practised q) (T : Tables) (K : ℕ → Bool) (s : ℕ) (l : s < T .size .n)
-      (is : q ≡ spanAt T s) where
-    given-is : t ≡ hasPractice (planIn T) s
-    given-is = e ∙ ap practised is ∙ practised-is T s l
+pub command-safe : (lost : Bool) → lost ≡ false → (o : Option ℕ) (r : ℕ) → r ≡ entry o → r ≡ entry (unlessLost lost o)
+unfolding unlessLost
+command-safe lost h o r e = rw h e
 
-    pub idle-fault : not t ≡ true → false ≡ (not lost && practiceHits (planIn T) K s)
-    unfolding practiceHits
-    idle-fault z = rw (h, ← given-is, not-true t z)
+module _ (lost : Bool) where
+  pub fault-lost : lost ≡ true → (b : Bool) → false ≡ (not lost && b)
+  fault-lost h b = rw h
 
-    pub hit-fault : not t ≡ false → (r : Bool) → r ≡ any K (outcomesAt T (q .first + q .practice)) → r
-        ≡ (not lost && practiceHits (planIn T) K s)
-    unfolding practiceHits
-    hit-fault z r p =
-        rw (h, ← given-is, not-false t z, practice-held T s l)
-        (p ∙ rw is (sym (hits-held T K s l _ (rw (← commands-held T s l) (practice-below T s l (sym given-is ∙ not-false t z))))))
+  module _ (h : lost ≡ false) (t given : Bool) (e : t ≡ given) (b : Bool) where
+    pub fault-idle : not t ≡ true → false ≡ (not lost && (given && b))
+    fault-idle z = rw (h, ← e, not-true t z)
+
+    pub fault-given : not t ≡ false → b ≡ (not lost && (given && b))
+    fault-given z = rw (h, ← e, not-false t z)
+
+and-when : (a b x y : Bool) → a ≡ b → (b ≡ true → x ≡ y) → (a && x) ≡ (b && y)
+and-when a true x y e h = rw e (h refl)
+and-when a false x y e h = rw e
+
+-- the fault is read off the command chosen
+module _ (T : Tables) (sounds : sound T ≡ true) (s : ℕ) (l : s < T .size .n) (q : Span) (is : q ≡ spanAt T s) (L : ℕ → Bool) where
+  given-is : practised q ≡ hasPractice (planIn T) s
+  given-is = ap practised is ∙ practised-is T s l
+
+  practice-is : q .practice ≡ planIn T .practice s
+  practice-is = rw (is, practice-held T s l)
+
+  pub fault-read : (lost : Bool) (c : ℕ) → c ≡ entry (unlessLost lost (choice (planIn T) L s))
+      → (not lost && (practised q && not (eqb c (q .practice)))) ≡ (not lost && practiceHits (planIn T) L s)
+  unfolding practiceHits unlessLost
+  fault-read true c e = refl
+  fault-read false c e = and-when (practised q) (hasPractice (planIn T) s) _ _ given-is
+      (λ g. rw practice-is (not-practice T sounds s l g L c e))
 
 -- ---- marks and columns
 
@@ -111,16 +131,17 @@ column-small false fails = omega arith
 
 -- ---- all that is said of a state
 
-module _ (T : Tables) (s : ℕ) (l : s < T .size .n) (q : Span) (is : q ≡ spanAt T s) (L : ℕ → Bool) (F lost fails fault given : Bool)
-    (a : lost ≡ L s) (b : fails ≡ F) where
-  pub judged : (fault ≡ (not lost && practiceHits (planIn T) L s)) → given ≡ practised q → (c m r k : ℕ) → c ≡ entry (choice (planIn T) L s)
+module _ (T : Tables) (sounds : sound T ≡ true) (s : ℕ) (l : s < T .size .n) (q : Span) (is : q ≡ spanAt T s) (L : ℕ → Bool)
+    (F lost fails fault given : Bool) (a : lost ≡ L s) (b : fails ≡ F) where
+  pub judged : (c m r k : ℕ) → c ≡ entry (unlessLost lost (choice (planIn T) L s))
+      → fault ≡ (not lost && (practised q && not (eqb c (q .practice)))) → given ≡ practised q
       → m ≡ markOf fails fault → r ≡ oneIf lost → k ≡ columnOf given fails
       → (cs ms cs′ ms′ : List ℕ) → cs′ ≡ set cs s c → ms′ ≡ set ms s m
       → StateJudged (planIn T) L F s cs ms (record { row = r; column = k }) cs′ ms′
   unfolding markAt
-  judged f g c m r k ec em er ek cs ms cs′ ms′ x y = record {
-    took = x ∙ ap (set cs s) ec;
-    marked = y ∙ ap (set ms s) (em ∙ rw (f, a, b));
+  judged c m r k ec f g em er ek cs ms cs′ ms′ x y = record {
+    took = x ∙ ap (set cs s) (ec ∙ rw a);
+    marked = y ∙ ap (set ms s) (em ∙ rw (f ∙ fault-read T sounds s l q is L lost c ec, a, b));
     row = er ∙ rw a;
     column = ek ∙ rw (g, is, practised-is T s l, b);
   }

@@ -1,21 +1,24 @@
 // The last pass over the states: commands, practice marks and the tally.
 ghost use mathlib.Core.Path.{_≡_};
 ghost use mathlib.Core.Bool.{true, not, _&&_};
-ghost use mathlib.Core.List.{List, []};
+ghost use mathlib.Core.List.{List};
 ghost use Prim.Native.Nat.{ℕ, _+_, _<_, _≤_};
-ghost use lib.ListN.{length, getD};
+ghost use lib.Dec.{eqb};
+ghost use lib.ListN.{length};
+ghost use Rattle.laws.specs.Entry.{entry};
 ghost use Rattle.model.specs.File.{maxStates};
 ghost use Rattle.model.specs.SoundTest.{sound};
 ghost use Rattle.model.specs.Held.{planIn};
-ghost use Rattle.model.specs.Practice.{practiceHits, markOf};
+ghost use Rattle.model.specs.Command.{choice};
+ghost use Rattle.model.specs.Practice.{markOf};
 ghost use Rattle.tables.specs.declared.Row.{Row};
 ghost use Rattle.tables.specs.Meaning.{held};
 ghost use Rattle.tables.specs.Spans.{spanAt, commandsOf};
 ghost use Rattle.tables.specs.Seen.{Seen};
 ghost use Rattle.tables.specs.Ready.{Ready};
-ghost use Rattle.decide.specs.Verdicts.{numbered, oneIf, columnOf, added, StateJudged, StatesJudged};
+ghost use Rattle.nets.specs.Nets.{practised};
+ghost use Rattle.decide.specs.Verdicts.{numbered, unlessLost, oneIf, columnOf, added, Counts, StateJudged, StatesJudged};
 use choice::choosing::choose;
-use choice::choosing::command_hit;
 use nets::propagations::has_practice;
 use tables::Row;
 use tables::Size;
@@ -42,22 +45,34 @@ fn has_number(table: &[u16], s: usize) -> bool
     at(table, s) <= HIGHEST
 }
 
-// Whether the state, of which `span` was read, is a fault.
-fn is_fault(
+// The command of a state, of which `span` was read: none where it is lost.
+fn command_of(
     size: Size,
     span: Span,
     firsts: &[u16],
     outcomes: &[u16],
     ranks: &[u16],
     lost: bool,
-) -> bool
+) -> usize
     requires { ⌜ Ready (size .n) (commandsOf size (now firsts) (now outcomes)) ⌝ }
     requires { ⌜ (span .first ≤ span .end) × (span .end ≤ size .m) × (size .n ≤ length (now ranks)) ⌝ }
     ensures { λ r. ⌜
-        ((R : List Row) (s : ℕ) → s < size .n →
+        ((R : List Row) (s : ℕ) →
         let T = held size R (now (firsts .entry)) (now (outcomes .entry)) in
-        span ≡ spanAt T s → r ≡ (not lost && practiceHits (planIn T) (numbered (now (ranks .entry))) s))
+        sound T ≡ true → s < size .n → span ≡ spanAt T s
+        → r ≡ entry (unlessLost lost (choice (planIn T) (numbered (now (ranks .entry))) s)))
         ⌝ }
+{
+    if lost {
+        return NONE;
+    }
+    choose(size, span, firsts, outcomes, ranks, HIGHEST)
+}
+
+// Whether the state, of which `span` was read, is a fault: it is safe, and the command chosen there is not the practice that it has.
+fn is_fault(span: Span, lost: bool, command: usize) -> bool
+    requires { ⌜ span .first ≤ span .end ⌝ }
+    ensures { λ r. ⌜ r ≡ (not lost && (practised span && not (eqb command (span .practice)))) ⌝ }
 {
     if lost {
         return false;
@@ -65,14 +80,7 @@ fn is_fault(
     if !has_practice(span) {
         return false;
     }
-    command_hit(
-        size,
-        firsts,
-        outcomes,
-        ranks,
-        HIGHEST,
-        span.first + span.practice,
-    )
+    command != span.practice
 }
 
 fn one_if(b: bool) -> usize
@@ -128,12 +136,9 @@ fn judge(
 {
     let lost = has_number(ranks, s);
     let fails = has_number(marks, s);
-    put(
-        commands,
-        s,
-        choose(size, span, firsts, outcomes, ranks, HIGHEST),
-    );
-    let fault = is_fault(size, span, firsts, outcomes, ranks, lost);
+    let command = command_of(size, span, firsts, outcomes, ranks, lost);
+    put(commands, s, command);
+    let fault = is_fault(span, lost, command);
     put(marks, s, mark_of(fails, fault));
     Place {
         row: one_if(lost),
@@ -141,14 +146,35 @@ fn judge(
     }
 }
 
-// One more at a place of the tally.
+// A count, with one more where the state belongs to it.
+fn more_if(count: u16, here: bool) -> u16
+    requires { ⌜ count < maxStates ⌝ }
+    ensures { λ r. ⌜ r ≡ count + oneIf here ⌝ }
+{
+    if here {
+        return count + 1;
+    }
+    count
+}
+
+// One more at a place of the tally. Each count is made anew at a place of its own: a store at a place that is known only when the code runs
+// would have every turn wait for the copy of the one before.
 fn add(t: [[u16; 3]; 2], r: usize, c: usize) -> [[u16; 3]; 2]
-    requires { ⌜ (r < 2) × (c < 3) × (getD (getD t r []) c 0 < maxStates) ⌝ }
+    requires { ⌜ (r < 2) × (c < 3) × Counts t ⌝ }
     ensures { λ x. ⌜ x ≡ added t r c ⌝ }
 {
-    let mut u = t;
-    u[r][c] = u[r][c] + 1;
-    u
+    let k = r * 3 + c;
+    let safe = [
+        more_if(t[0][0], k == 0),
+        more_if(t[0][1], k == 1),
+        more_if(t[0][2], k == 2),
+    ];
+    let lost = [
+        more_if(t[1][0], k == 3),
+        more_if(t[1][1], k == 4),
+        more_if(t[1][2], k == 5),
+    ];
+    [safe, lost]
 }
 
 // Judges every state, and answers the tally.

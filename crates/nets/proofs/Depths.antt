@@ -14,7 +14,7 @@ use Rattle.laws.specs.Sets.{lowest, grow}
 use Rattle.laws.proofs.Defaults.{getD-inside}
 use Rattle.laws.proofs.Tries.{lowest-same}
 use Rattle.laws.proofs.Sets.{lowest-some}
-use Rattle.laws.proofs.Fills.{filled-as, filled-over, filled-of}
+use Rattle.laws.proofs.Fills.{filled-as, filled-of}
 use Rattle.laws.proofs.Agree.{Agree}
 use Rattle.laws.proofs.GrowSame.{grow-same, grow-found}
 use Rattle.laws.proofs.EntryFound.{entry-found}
@@ -35,7 +35,7 @@ use Rattle.tables.specs.Spans.{spanAt, failingSpan, commandsOf}
 use Rattle.tables.proofs.SpanFacts.{span-failing}
 use Rattle.choice.specs.Within.{within}
 use Rattle.propagate.specs.Net.{netOf, losing, depth, seeds, Seeded}
-use Rattle.nets.specs.Nets.{seedOf, Initialized}
+use Rattle.nets.specs.Nets.{practicePlace, seedOf, oneEnd}
 use Rattle.nets.specs.Found.{depthTable}
 use Rattle.nets.proofs.NetSteps.{losing-all, losing-practice}
 
@@ -61,35 +61,38 @@ module _ (size : Size) (rows : List Row) (firsts outcomes : List ℕ) (sounds : 
   few : size .n ≤ maxStates
   few = sound-facts T .0 sounds .size .few
 
-  module _ {alone : Bool} {r₀ w₀ e₀ r w e : List ℕ} (v : Initialized T alone (size .n) r₀ w₀ e₀ r w e) (long : size .n ≤ length r₀) where
-    pub initialized-seeded : Seeded (size .n) r
+  -- a table of seeds
+  module _ (r : List ℕ) (long : size .n ≤ length r) (sown : (s : ℕ) → s < size .n → getD r s 0 ≡ seedOf (spanAt T s)) where
+    pub sown-seeded : Seeded (size .n) r
     unfolding seedOf
-    initialized-seeded = record { seeded = λ s l. rw (v .seeded .low s l) (zero-or-none (failingSpan (spanAt T s))) }
+    sown-seeded = record { seeded = λ s l. rw (sown s l) (zero-or-none (failingSpan (spanAt T s))) }
 
     seeds-are : Agree (size .n) (seeds r) (failing P)
     unfolding seedOf
-    seeds-are s l =
-        rw (getD-inside r s 1 0 (omega (arith, v .seeded .same)), v .seeded .low s l) (zero-test (failingSpan (spanAt T s)))
-        ∙ span-failing T s l
+    seeds-are s l = rw (getD-inside r s 1 0 (omega arith), sown s l) (zero-test (failingSpan (spanAt T s))) ∙ span-failing T s l
 
-    module _ (r′ : List ℕ) (found : r′ ≡ depthTable (netOf (size .n) (commandsOf size firsts outcomes) w e) r) where
-      filled : Filled (size .n) (λ s. entry (depth (netOf (size .n) (commandsOf size firsts outcomes) w e) (seeds r) s)) r₀ r′
-      filled = filled-over (v .seeded) (filled-of (omega (arith, v .seeded .same)) found)
+    module _ (w e : List ℕ) {r′ : List ℕ} (found : r′ ≡ depthTable (netOf (size .n) (commandsOf size firsts outcomes) w e) r) where
+      filled : Filled (size .n) (λ s. entry (depth (netOf (size .n) (commandsOf size firsts outcomes) w e) (seeds r) s)) r r′
+      filled = filled-of long found
+
+      pub depths-filled : Filled (size .n) (λ s. getD r′ s 0) r r′
+      depths-filled = filled-past filled
 
       -- ---- all commands
 
-      depth-rank : alone ≡ false → (s : ℕ) → s < size .n → depth (netOf (size .n) (commandsOf size firsts outcomes) w e) (seeds r) s
-          ≡ rank P s
-      unfolding depth rank
-      depth-rank z s l =
-          lowest-same _ _ (suc (size .n)) (λ k _.
-          grow-same (size .n) (losing (netOf (size .n) (commandsOf size firsts outcomes) w e)) (forced P)
-          (λ A B h x g. losing-all size rows firsts outcomes w e alone sounds (v .begins .low) (v .stops .low) A B h x g z)
-          (seeds r) (failing P) seeds-are k s l)
-          ∙ ap (λ (j : ℕ). lowest (λ k. layer P k s) (suc j)) (sym (states-held T))
+      module _ (begins : (s : ℕ) → s < size .n → getD w s 0 ≡ spanAt T s .first)
+          (stops : (s : ℕ) → s < size .n → getD e s 0 ≡ spanAt T s .end) where
+        depth-rank : (s : ℕ) → s < size .n → depth (netOf (size .n) (commandsOf size firsts outcomes) w e) (seeds r) s ≡ rank P s
+        unfolding depth rank
+        depth-rank s l =
+            lowest-same _ _ (suc (size .n)) (λ k _.
+            grow-same (size .n) (losing (netOf (size .n) (commandsOf size firsts outcomes) w e)) (forced P)
+            (λ A B h x g. losing-all size rows firsts outcomes w e sounds A B h x g (begins x g) (stops x g))
+            (seeds r) (failing P) seeds-are k s l)
+            ∙ ap (λ (j : ℕ). lowest (λ k. layer P k s) (suc j)) (sym (states-held T))
 
-      pub ranks-found : alone ≡ false → Filled (size .n) (λ s. entry (rank P s)) r₀ r′
-      ranks-found z = filled-as (λ s l. ap entry (depth-rank z s l)) filled
+        pub ranks-found : Filled (size .n) (λ s. entry (rank P s)) r r′
+        ranks-found = filled-as (λ s l. ap entry (depth-rank s l)) filled
 
       -- ---- the practice alone
 
@@ -97,19 +100,18 @@ module _ (size : Size) (rows : List Row) (firsts outcomes : List ℕ) (sounds : 
       unfolding depth
       depth-small s i q = omega (arith, lowest-some _ (suc (size .n)) i q .0, few)
 
-      pub fails-found : alone ≡ true → Agree (size .n) (within r′ highest) (practiceFails P)
-      unfolding depth practiceFails
-      fails-found z s l =
-          rw (filled .low s l)
-          (entry-found (depth (netOf (size .n) (commandsOf size firsts outcomes) w e) (seeds r) s) (depth-small s)
-          ∙ grow-found (losing (netOf (size .n) (commandsOf size firsts outcomes) w e)) (seeds r) (size .n) s
-          ∙ grow-same (size .n) _ (practiceHits P)
-          (λ A B h x g. losing-practice size rows firsts outcomes w e alone sounds (v .begins .low) (v .stops .low) A B h x g z)
-          (seeds r) (failing P) seeds-are (size .n) s l
-          ∙ ap (λ (j : ℕ). grow (practiceHits P) (failing P) j s) (sym (states-held T)))
-
-      pub fails-filled : Filled (size .n) (λ s. getD r′ s 0) r₀ r′
-      fails-filled = filled-past filled
+      module _ (begins : (s : ℕ) → s < size .n → getD w s 0 ≡ practicePlace (spanAt T s))
+          (stops : (s : ℕ) → s < size .n → getD e s 0 ≡ oneEnd (practicePlace (spanAt T s)) (spanAt T s .end)) where
+        pub fails-found : Agree (size .n) (within r′ highest) (practiceFails P)
+        unfolding depth practiceFails
+        fails-found s l =
+            rw (filled .low s l)
+            (entry-found (depth (netOf (size .n) (commandsOf size firsts outcomes) w e) (seeds r) s) (depth-small s)
+            ∙ grow-found (losing (netOf (size .n) (commandsOf size firsts outcomes) w e)) (seeds r) (size .n) s
+            ∙ grow-same (size .n) _ (practiceHits P)
+            (λ A B h x g. losing-practice size rows firsts outcomes w e sounds A B h x g (begins x g) (stops x g))
+            (seeds r) (failing P) seeds-are (size .n) s l
+            ∙ ap (λ (j : ℕ). grow (practiceHits P) (failing P) j s) (sym (states-held T)))
 
   -- the lost states are those of a rank
   pub lost-found : {r₀ r′ : List ℕ} → Filled (size .n) (λ s. entry (rank P s)) r₀ r′ → Agree (size .n) (within r′ highest) (lost P)

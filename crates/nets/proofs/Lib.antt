@@ -1,6 +1,7 @@
 pub mod Made
 pub mod PlanHits
 pub mod Initializing
+pub mod Keeping
 pub mod NetSteps
 pub mod Depths
 pub mod Settings

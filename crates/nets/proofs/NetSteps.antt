@@ -30,7 +30,8 @@ use Rattle.tables.specs.Meaning.{held}
 use Rattle.tables.specs.Spans.{spanAt, commandsOf}
 use Rattle.propagate.specs.Net.{netOf, from, to, losing}
 use Rattle.choice.specs.Within.{commandHits}
-use Rattle.nets.specs.Nets.{practised, practiceRange, rangeOf}
+use Rattle.nets.specs.Nets.{practised, practicePlace, oneEnd}
+use Rattle.nets.proofs.Keeping.{end-one, end-none}
 use Rattle.nets.proofs.PlanHits.{hits-agree, hits-place}
 
 -- whether a practice is given, by what was read
@@ -43,11 +44,8 @@ pub practice-below : (T : Tables) (s : ℕ) → s < T .size .n → hasPractice (
 unfolding hasPractice
 practice-below T s l e = rw (← practice-held T s l) (ltb-true (planIn T .practice s) (planIn T .commands s) e)
 
-module _ (size : Size) (rows : List Row) (firsts outcomes watch ends : List ℕ) (alone : Bool)
-    (sounds : sound (held size rows firsts outcomes) ≡ true)
-    (begins : (s : ℕ) → s < size .n → getD watch s 0 ≡ rangeOf alone (spanAt (held size rows firsts outcomes) s) .from)
-    (stops : (s : ℕ) → s < size .n → getD ends s 0 ≡ rangeOf alone (spanAt (held size rows firsts outcomes) s) .to)
-    (A B : ℕ → Bool) (same : Agree (size .n) A B) (s : ℕ) (l : s < size .n) where
+module _ (size : Size) (rows : List Row) (firsts outcomes watch ends : List ℕ)
+    (sounds : sound (held size rows firsts outcomes) ≡ true) (A B : ℕ → Bool) (same : Agree (size .n) A B) (s : ℕ) (l : s < size .n) where
   abbrev T : Tables
   T = held size rows firsts outcomes
 
@@ -75,31 +73,39 @@ module _ (size : Size) (rows : List Row) (firsts outcomes watch ends : List ℕ)
       (omega (arith, ltb-true (firstCommand T s) (firstCommand T (suc s)) e, commands-held T s l)))
       (λ e. lt-ltb (firstCommand T s) (firstCommand T (suc s)) (omega (arith, active-is P s e .1, commands-held T s l)))
 
-  pub losing-all : alone ≡ false → losing (netOf (size .n) (commandsOf size firsts outcomes) watch ends) A s ≡ forced P B s
-  unfolding forced rangeOf commandCount
-  losing-all z =
-      losing-words (firstCommand T s) (firstCommand T (suc s)) (begins s l ∙ rw z) (stops s l ∙ rw (z, add-one s))
+  pub losing-all : getD watch s 0 ≡ spanAt T s .first → getD ends s 0 ≡ spanAt T s .end
+      → losing (netOf (size .n) (commandsOf size firsts outcomes) watch ends) A s ≡ forced P B s
+  unfolding forced commandCount
+  losing-all begins stops =
+      losing-words (firstCommand T s) (firstCommand T (suc s)) begins (stops ∙ rw (add-one s))
       ∙ ap₂ (λ (a b : Bool). a && b) active-test
       (every-same _ _ _ (λ c m. hit-is c (rw (commands-held T s l) m)) ∙ ap (every (hits P B s)) (sym (commands-held T s l)))
 
   -- ---- the practice alone
 
-  pub losing-practice : alone ≡ true → losing (netOf (size .n) (commandsOf size firsts outcomes) watch ends) A s ≡ practiceHits P B s
-  unfolding practiceHits rangeOf practiceRange every
-  losing-practice z = ⊎-elim given none (true-or-false (practised (spanAt T s)))
-    where
-      none : practised (spanAt T s) ≡ false → losing (netOf (size .n) (commandsOf size firsts outcomes) watch ends) A s
-          ≡ (hasPractice P s && hits P B s (P .practice s))
-      none e =
-          losing-words (firstCommand T s) (firstCommand T s) (begins s l ∙ rw (z, e)) (stops s l ∙ rw (z, e))
-          ∙ rw (le-ltb (firstCommand T s) (firstCommand T s) (omega arith), ← practised-is T s l, e)
+  module _ (begins : getD watch s 0 ≡ practicePlace (spanAt T s))
+      (stops : getD ends s 0 ≡ oneEnd (practicePlace (spanAt T s)) (spanAt T s .end)) where
+    none : practised (spanAt T s) ≡ false → losing (netOf (size .n) (commandsOf size firsts outcomes) watch ends) A s
+        ≡ (hasPractice P s && hits P B s (P .practice s))
+    unfolding practicePlace
+    none e =
+        let f = spanAt T s .end in
+        losing-words f f (begins ∙ rw e) (stops ∙ rw e (sym (end-none f f (omega arith))))
+        ∙ rw (le-ltb f f (omega arith), ← practised-is T s l, e)
 
-      given : practised (spanAt T s) ≡ true → losing (netOf (size .n) (commandsOf size firsts outcomes) watch ends) A s
-          ≡ (hasPractice P s && hits P B s (P .practice s))
-      given e =
-          let p = rowAt T s .practice in
-          let f = firstCommand T s in
-          let one : f + p + 1 - (f + p) ≡ suc zero = omega arith in
-          losing-words (f + p) (f + p + 1) (begins s l ∙ rw (z, e)) (stops s l ∙ rw (z, e))
-          ∙ rw (lt-ltb (f + p) (f + p + 1) (omega arith), one, add-zero (f + p), ← practised-is T s l, e, practice-held T s l)
-          (hit-is p (practice-below T s l (sym (practised-is T s l) ∙ e)))
+    given : practised (spanAt T s) ≡ true → losing (netOf (size .n) (commandsOf size firsts outcomes) watch ends) A s
+        ≡ (hasPractice P s && hits P B s (P .practice s))
+    unfolding practicePlace every commandCount
+    given e =
+        let p = rowAt T s .practice in
+        let f = firstCommand T s in
+        let one : f + p + 1 - (f + p) ≡ suc zero = omega arith in
+        let below = practice-below T s l (sym (practised-is T s l) ∙ e) in
+        let inside : f + p < spanAt T s .end = rw (add-one s) (omega (arith, below, commands-held T s l)) in
+        losing-words (f + p) (f + p + 1) (begins ∙ rw e) (stops ∙ rw e (sym (end-one (f + p) (spanAt T s .end) inside)))
+        ∙ rw (lt-ltb (f + p) (f + p + 1) (omega arith), one, add-zero (f + p), ← practised-is T s l, e, practice-held T s l)
+        (hit-is p below)
+
+    pub losing-practice : losing (netOf (size .n) (commandsOf size firsts outcomes) watch ends) A s ≡ practiceHits P B s
+    unfolding practiceHits
+    losing-practice = ⊎-elim given none (true-or-false (practised (spanAt T s)))

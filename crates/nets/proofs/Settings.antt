@@ -1,6 +1,6 @@
 -- What sound tables and the ranges read off them give to the propagations.
 use mathlib.Core.Path.{_≡_, refl, sym, _∙_}
-use mathlib.Core.Bool.{Bool, true, false}
+use mathlib.Core.Bool.{true}
 use mathlib.Core.List.{List}
 use Prim.Native.Nat.{ℕ, suc, _+_, _<_, _≤_}
 use native.Mathlib.Decide.{decLt}
@@ -8,6 +8,7 @@ use native.Mathlib.Numerals.{add-one}
 use native.Mathlib.Omega.{arith}
 use lib.ListN.{length}
 use borrow.Author.Tests.{le-ltb}
+use Rattle.laws.specs.Filled.{Filled}
 use Rattle.laws.specs.Starts.{startOf, Parts}
 use Rattle.laws.proofs.Starts.{start-in, start-out}
 use Rattle.model.specs.Tables.{Tables}
@@ -22,10 +23,10 @@ use Rattle.tables.specs.Ready.{Ready}
 use Rattle.tables.proofs.LongTest.{rows-long}
 use Rattle.tables.proofs.Readiness.{sound-ready}
 use Rattle.propagate.specs.Net.{Seeded}
-use Rattle.nets.specs.Nets.{rangeOf, Spans, Initialized}
+use Rattle.nets.specs.Nets.{Spans, Initialized}
 use Rattle.nets.specs.Found.{OwnRanges}
-use Rattle.nets.proofs.Initializing.{range-inside}
-use Rattle.nets.proofs.Depths.{initialized-seeded}
+use Rattle.nets.proofs.Initializing.{place-inside}
+use Rattle.nets.proofs.Depths.{sown-seeded}
 
 -- past the last state, where the last commands end
 first-past : (T : Tables) (s : ℕ) → T .size .n ≤ s → firstCommand T s ≡ T .size .m
@@ -54,19 +55,14 @@ module _ (size : Size) (rows : List Row) (firsts outcomes : List ℕ) where
     pub sound-spans : Spans size rows
     sound-spans = fits-spans (sound-facts T .0 sounds)
 
-    -- a range of commands that count is among the state's own
-    own-inside : (alone : Bool) (s : ℕ) → s < size .n
-        → (firstCommand T s ≤ rangeOf alone (spanAt T s) .from) × (rangeOf alone (spanAt T s) .to ≤ firstCommand T (suc s))
-        × (firstCommand T (suc s) ≤ size .m)
-    own-inside alone s l =
-        let i = sound-spans .inside firsts outcomes s l in
-        let r = range-inside (spanAt T s) (i .0) alone in
-        rw (← add-one s) (r .0, r .2, i .1)
+    -- the state's own commands
+    own-inside : (s : ℕ) → s < size .n
+        → (firstCommand T s ≤ firstCommand T (s + 1)) × (firstCommand T (s + 1) ≡ firstCommand T (suc s))
+    own-inside s l = (sound-spans .inside firsts outcomes s l .0, rw (add-one s))
 
-    -- the layout of all commands, by which the index is made
-    module _ {r₀ w₀ e₀ r starts e : List ℕ} (v : Initialized T false (size .n) r₀ w₀ e₀ r starts e) where
+    module _ {r₀ w₀ e₀ m₀ r starts e m : List ℕ} (v : Initialized T (size .n) r₀ w₀ e₀ m₀ r starts e m) where
+      -- the layout of all commands, by which the index is made
       starts-are : (s : ℕ) → startOf starts (size .n) (size .m) s ≡ firstCommand T s
-      unfolding rangeOf
       starts-are s = go (decLt s (size .n))
         where
           go : Dec (s < size .n) → startOf starts (size .n) (size .m) s ≡ firstCommand T s
@@ -78,38 +74,35 @@ module _ (size : Size) (rows : List Row) (firsts outcomes : List ℕ) where
           let f = sound-facts T .0 sounds in
           record { zero = starts-are 0 ∙ f .commands-start; rises = λ s l. rw (starts-are s, starts-are (suc s)) (f .rows s l .rises) }
 
-      initialized-own : {alone : Bool} {u₀ x₀ y₀ u x y : List ℕ} → Initialized T alone (size .n) u₀ x₀ y₀ u x y → size .n ≤ length x₀
-          → size .n ≤ length y₀
-          → OwnRanges (size .n) (size .m) starts x y
-      initialized-own {alone} {x = x} {y = y} w lx ly = record {
-        long-froms = omega (arith, w .begins .same);
-        long-tos = omega (arith, w .stops .same);
+      -- ranges from a place among the state's own commands on
+      initialized-own : {x₀ x : List ℕ} {f : ℕ → ℕ} → Filled (size .n) f x₀ x
+          → ((s : ℕ) → s < size .n → (firstCommand T s ≤ f s) × (f s ≤ firstCommand T (s + 1)))
+          → size .n ≤ length x₀ → size .n ≤ length e₀ → OwnRanges (size .n) (size .m) starts x e
+      initialized-own w among lx le = record {
+        long-froms = omega (arith, w .same);
+        long-tos = omega (arith, v .stops .same);
         inside = λ s l.
-            let i = own-inside alone s l in
-            rw (starts-are s, starts-are (suc s)) (omega (arith, w .begins .low s l), omega (arith, w .stops .low s l));
+            let i = own-inside s l in
+            rw (starts-are s, starts-are (suc s), w .low s l, v .stops .low s l) (among s l .0, among s l .1, omega (arith, i .1));
       }
 
       -- all that the two propagations ask, with a queue of so many places
-      pub both-ready : size .n ≤ length r₀ → size .n ≤ length w₀ → size .n ≤ length e₀
-          → {u₀ x₀ y₀ u x y : List ℕ} → Initialized T true (size .n) u₀ x₀ y₀ u x y → size .n ≤ length u₀ → size .n ≤ length x₀
-          → size .n ≤ length y₀
+      pub both-ready : size .n ≤ length r₀ → size .n ≤ length w₀ → size .n ≤ length e₀ → size .n ≤ length m₀
           → (places : ℕ) → size .n ≤ places
           → Ready (size .n) (commandsOf size firsts outcomes) × (Parts starts (size .n) (size .m)
-          × (OwnRanges (size .n) (size .m) starts starts e × (OwnRanges (size .n) (size .m) starts x y
-          × (((size .n ≤ length r) × (size .n ≤ length u) × (size .n ≤ places)) × (Seeded (size .n) r × Seeded (size .n) u)))))
-      both-ready lr lw le w lu lx ly places lq = (
-        sound-ready size rows firsts outcomes sounds,
-        (
-          initialized-parts,
-          (
-            initialized-own v lw le,
+          × (OwnRanges (size .n) (size .m) starts starts e × (OwnRanges (size .n) (size .m) starts m e
+          × ((size .n ≤ length r) × (size .n ≤ places) × Seeded (size .n) r))))
+      both-ready lr lw le lm places lq =
+          let long : size .n ≤ length r = omega (arith, v .seeded .same) in (
+            sound-ready size rows firsts outcomes sounds,
             (
-              initialized-own w lx ly,
+              initialized-parts,
               (
-                (omega (arith, v .seeded .same), omega (arith, w .seeded .same), lq),
-                (initialized-seeded size rows firsts outcomes sounds v lr, initialized-seeded size rows firsts outcomes sounds w lu),
+                initialized-own (v .begins) (λ s l. (omega arith, own-inside s l .0)) lw le,
+                (
+                  initialized-own (v .placed) (λ s l. place-inside (spanAt T s) (own-inside s l .0)) lm le,
+                  (long, lq, sown-seeded size rows firsts outcomes sounds r long (v .seeded .low)),
+                ),
               ),
             ),
-          ),
-        ),
-      )
+          )

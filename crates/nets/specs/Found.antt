@@ -9,20 +9,34 @@ use Rattle.laws.specs.Lists.{tabulate, overwrite}
 use Rattle.laws.specs.Starts.{startOf}
 use Rattle.model.specs.Verdict.{rank}
 use Rattle.model.specs.Practice.{practiceFails}
-use Rattle.model.specs.Tables.{Tables}
+use Rattle.model.specs.Tables.{Lists, Tables}
 use Rattle.model.specs.Held.{planIn}
 use Rattle.choice.specs.Within.{within}
-use Rattle.propagate.specs.Net.{Net, depth, seeds}
+use Rattle.propagate.specs.Net.{Net, netOf, depth, seeds}
+use Rattle.nets.specs.Nets.{oneEnd}
 
 -- a table of seeds, with the number of steps in which each state is lost, or FFFF, in their place
 abbrev pub depthTable : Net → List ℕ → List ℕ
 depthTable N ranks = overwrite (tabulate (λ (s : ℕ). entry (depth N (seeds ranks) s)) 0 (N .states)) ranks
 
+-- a table with the first n entries of another
+abbrev pub copied : ℕ → List ℕ → List ℕ → List ℕ
+copied n from table = overwrite (tabulate (λ (s : ℕ). getD from s 0) 0 n) table
+
 -- the commands that count at each of n states are among its own, which start where `starts` says, the last ending at m
 pub record OwnRanges (n m : ℕ) (starts froms tos : List ℕ) : Type 0 where
   pub long-froms : n ≤ length froms
   pub long-tos : n ≤ length tos
-  pub inside : (s : ℕ) → s < n → (startOf starts n m s ≤ getD froms s 0) × (getD tos s 0 ≤ startOf starts n m (suc s))
+  pub inside : (s : ℕ) → s < n
+      → (startOf starts n m s ≤ getD froms s 0) × (getD froms s 0 ≤ getD tos s 0) × (getD tos s 0 ≤ startOf starts n m (suc s))
+
+-- What the propagation of the practice leaves, from the seeds in `ranks`, the ends of all commands and, in `fails`, where the practice
+-- stands: it counts alone, in the ranges from `froms` to tos′.
+pub record PracticeFound (n : ℕ) (C : Lists) (ranks tos fails tos′ fails′ : List ℕ) : Type 0 where
+  pub froms : List ℕ
+  pub begins : (s : ℕ) → s < n → getD froms s 0 ≡ getD fails s 0
+  pub stops : Filled n (λ s. oneEnd (getD fails s 0) (getD tos s 0)) tos tos′
+  pub failed : fails′ ≡ depthTable (netOf n C froms tos′) (copied n ranks fails)
 
 -- The rank of each state, and a number where the practice fails. In the first n places of the two tables that are worked in is left what
 -- may be.

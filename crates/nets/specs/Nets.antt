@@ -1,10 +1,10 @@
--- Where a propagation starts: which states are in layer 0, and which commands count at each state, all its own or its practice alone.
+-- Where the propagations start: which states are in layer 0, and which commands count at each state, all its own, then its practice alone.
 use mathlib.Core.Path.{_≡_}
 use mathlib.Core.Bool.{Bool, cond}
 use mathlib.Core.List.{List}
 use Prim.Native.Nat.{ℕ, _+_, _-_, _<_, _≤_}
-use lib.Dec.{ltb}
-use lib.ListN.{length, set}
+use lib.Dec.{eqb, ltb}
+use lib.ListN.{length, getD, set}
 use Rattle.laws.specs.Entry.{FFFF}
 use Rattle.laws.specs.Filled.{Filled}
 use Rattle.model.specs.File.{maxStates, maxCommands}
@@ -14,21 +14,14 @@ use Rattle.tables.specs.declared.Size.{Size}
 use Rattle.tables.specs.declared.spans.Span.{Span}
 use Rattle.tables.specs.Meaning.{held}
 use Rattle.tables.specs.Spans.{spanAt, failingSpan}
-use Rattle.nets.specs.declared.ranges.Range.{Range}
 
 -- a practice is given
 abbrev pub practised : Span → Bool
 practised q = ltb (q .practice) (q .end - q .first)
 
-abbrev pub rangeFrom : ℕ → ℕ → Range
-rangeFrom from to = record { from = from; to = to }
-
--- the practice alone, or no command where none is given
-unfoldable pub practiceRange : Span → Range
-practiceRange q = cond (practised q) (rangeFrom (q .first + q .practice) (q .first + q .practice + 1)) (rangeFrom (q .first) (q .first))
-
-unfoldable pub rangeOf : Bool → Span → Range
-rangeOf alone q = cond alone (practiceRange q) (rangeFrom (q .first) (q .end))
+-- where the practice stands among all commands, or where the state's commands end if none is given
+unfoldable pub practicePlace : Span → ℕ
+practicePlace q = cond (practised q) (q .first + q .practice) (q .end)
 
 -- failing states are in layer 0
 unfoldable pub seedOf : Span → ℕ
@@ -43,13 +36,35 @@ pub record Spans (size : Size) (rows : List Row) : Type 0 where
       → (spanAt (held size rows F O) s .first ≤ spanAt (held size rows F O) s .end) × (spanAt (held size rows F O) s .end ≤ size .m)
 
 -- the state s, of which q was read, is initialized
-pub record StateInitialized (q : Span) (alone : Bool) (s : ℕ) (ranks froms tos ranks′ froms′ tos′ : List ℕ) : Type 0 where
+pub record StateInitialized (q : Span) (s : ℕ) (ranks froms tos places ranks′ froms′ tos′ places′ : List ℕ) : Type 0 where
   pub seeded : ranks′ ≡ set ranks s (seedOf q)
-  pub begins : froms′ ≡ set froms s (rangeOf alone q .from)
-  pub stops : tos′ ≡ set tos s (rangeOf alone q .to)
+  pub begins : froms′ ≡ set froms s (q .first)
+  pub stops : tos′ ≡ set tos s (q .end)
+  pub placed : places′ ≡ set places s (practicePlace q)
 
--- layer 0, and where the commands that count begin and end, of the first n states
-pub record Initialized (T : Tables) (alone : Bool) (n : ℕ) (ranks froms tos ranks′ froms′ tos′ : List ℕ) : Type 0 where
+-- layer 0, where the commands begin and end, and where the practice stands, of the first n states
+pub record Initialized (T : Tables) (n : ℕ) (ranks froms tos places ranks′ froms′ tos′ places′ : List ℕ) : Type 0 where
   pub seeded : Filled n (λ s. seedOf (spanAt T s)) ranks ranks′
-  pub begins : Filled n (λ s. rangeOf alone (spanAt T s) .from) froms froms′
-  pub stops : Filled n (λ s. rangeOf alone (spanAt T s) .to) tos tos′
+  pub begins : Filled n (λ s. spanAt T s .first) froms froms′
+  pub stops : Filled n (λ s. spanAt T s .end) tos tos′
+  pub placed : Filled n (λ s. practicePlace (spanAt T s)) places places′
+
+-- where a range ends that begins at `from`, and of the commands below `to` has no more than the first
+unfoldable pub oneEnd : ℕ → ℕ → ℕ
+oneEnd from to = cond (ltb from to) (from + 1) to
+
+-- a seed, by the rank of its state
+unfoldable pub seedAgain : ℕ → ℕ
+seedAgain rank = cond (eqb rank 0) 0 FFFF
+
+-- at the state s the practice alone counts, which stands where `fails` says; the seeds are those of the ranks
+pub record StateKept (s : ℕ) (ranks froms tos fails froms′ tos′ fails′ : List ℕ) : Type 0 where
+  pub begins : froms′ ≡ set froms s (getD fails s 0)
+  pub stops : tos′ ≡ set tos s (oneEnd (getD fails s 0) (getD tos s 0))
+  pub seeded : fails′ ≡ set fails s (seedAgain (getD ranks s 0))
+
+-- so at the first n states
+pub record PracticeKept (n : ℕ) (ranks froms tos fails froms′ tos′ fails′ : List ℕ) : Type 0 where
+  pub begins : Filled n (λ s. getD fails s 0) froms froms′
+  pub stops : Filled n (λ s. oneEnd (getD fails s 0) (getD tos s 0)) tos tos′
+  pub seeded : Filled n (λ s. seedAgain (getD ranks s 0)) fails fails′

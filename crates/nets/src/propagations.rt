@@ -1,6 +1,6 @@
 // Reading what the propagations start from, and the propagations over one index. Only the planner's own crates call this.
 ghost use mathlib.Core.Path.{_≡_};
-ghost use mathlib.Core.Bool.{true, false};
+ghost use mathlib.Core.Bool.{true};
 ghost use mathlib.Core.List.{List};
 ghost use Prim.Native.Nat.{ℕ, _≤_};
 ghost use lib.ListN.{length, getD};
@@ -13,8 +13,9 @@ ghost use Rattle.tables.specs.Ready.{Ready};
 ghost use Rattle.index.specs.Parts.{Owned};
 ghost use Rattle.propagate.specs.Net.{netOf, Seeded, Ranges, Indexed, Owns};
 ghost use Rattle.nets.specs.Nets.{practised, Spans, Initialized};
-ghost use Rattle.nets.specs.Found.{depthTable, OwnRanges, Found};
-use crate::ranges::initialize_both;
+ghost use Rattle.nets.specs.Found.{depthTable, OwnRanges, PracticeFound, Found};
+use crate::ranges::initialize_state;
+use crate::ranges::keep_practice;
 use index::grouping::group;
 use index::grouping::own;
 use propagate::layers::propagate;
@@ -31,35 +32,29 @@ pub fn has_practice(span: Span) -> bool
     span.practice < span.end - span.first
 }
 
-// Initializes every state for both propagations, in one pass: its rank, 0 or none, and where the commands that count there begin and end.
-// In the first three tables all its commands count, in the last three its practice alone.
+// Initializes every state for both propagations, in one pass: its rank, 0 or none, where its commands begin and end, and where its practice
+// stands among all commands.
 pub fn initialize(
     size: Size,
     rows: &[Row],
     ranks: &mut [u16],
     froms: &mut [u16],
     tos: &mut [u16],
-    fails: &mut [u16],
-    practices: &mut [u16],
-    ends: &mut [u16],
+    places: &mut [u16],
 )
     requires { ⌜ Spans size (now rows) ⌝ }
-    requires { ⌜ (size .n ≤ length (now ranks)) × (size .n ≤ length (now froms)) × (size .n ≤ length (now tos)) ⌝ }
-    requires { ⌜ (size .n ≤ length (now fails)) × (size .n ≤ length (now practices)) × (size .n ≤ length (now ends)) ⌝ }
-    ensures ranks { λ _. ⌜
-        ((F O : List ℕ) → Initialized (held size (now (rows .entry)) F O) false (size .n)
-        (now (ranks .entry)) (now (froms .entry)) (now (tos .entry)) (now (ranks .exit)) (now (froms .exit)) (now (tos .exit)))
-        ⌝ }
-    ensures practice { λ _. ⌜
-        ((F O : List ℕ) → Initialized (held size (now (rows .entry)) F O) true (size .n)
-        (now (fails .entry)) (now (practices .entry)) (now (ends .entry))
-        (now (fails .exit)) (now (practices .exit)) (now (ends .exit)))
+    requires { ⌜ (size .n ≤ length (now ranks)) × (size .n ≤ length (now froms))
+        × (size .n ≤ length (now tos)) × (size .n ≤ length (now places)) ⌝ }
+    ensures { λ _. ⌜
+        ((F O : List ℕ) → Initialized (held size (now (rows .entry)) F O) (size .n)
+        (now (ranks .entry)) (now (froms .entry)) (now (tos .entry)) (now (places .entry))
+        (now (ranks .exit)) (now (froms .exit)) (now (tos .exit)) (now (places .exit)))
         ⌝ }
 {
     let mut s = 0;
     while s < size.n {
         let span = span_at(size, rows, s);
-        initialize_both(span, ranks, froms, tos, fails, practices, ends, s);
+        initialize_state(span, ranks, froms, tos, places, s);
         s += 1;
     }
 }
@@ -126,37 +121,33 @@ pub fn propagate_in(
     );
 }
 
-// Both propagations of a plan that is given in tables of numbers, over one index. At entry `ranks` and `fails` have the seeds, `froms`
-// and `tos` the ranges of all commands, and the other two tables those of the practice. What the tables of first commands and the first n
-// places of scratch have afterwards is free.
+// Both propagations of a plan that is given in tables of numbers, over one index. At entry `ranks` has the seeds, `froms` and `tos` the
+// ranges of all commands, and `fails`, which the propagation of ranks leaves alone, where the practice of each state stands. What `froms`
+// and the first n places of scratch have afterwards is free.
 // The local tables have 43,008 bytes whatever the plan is.
 pub fn propagate_both(
     size: Size,
     firsts: &[u16],
     outcomes: &[u16],
-    tos: &[u16],
-    ends: &[u16],
     ranks: &mut [u16],
     froms: &mut [u16],
+    tos: &mut [u16],
     fails: &mut [u16],
-    practices: &mut [u16],
     scratch: &mut [u16],
 )
     requires { ⌜ Ready (size .n) (commandsOf size (now firsts) (now outcomes)) ⌝ }
     requires { ⌜ Parts (now froms) (size .n) (size .m) ⌝ }
     requires { ⌜ OwnRanges (size .n) (size .m) (now froms) (now froms) (now tos) ⌝ }
-    requires { ⌜ OwnRanges (size .n) (size .m) (now froms) (now practices) (now ends) ⌝ }
-    requires { ⌜ (size .n ≤ length (now ranks)) × (size .n ≤ length (now fails)) × (size .n ≤ length (now scratch)) ⌝ }
-    requires { ⌜ Seeded (size .n) (now ranks) × Seeded (size .n) (now fails) ⌝ }
+    requires { ⌜ OwnRanges (size .n) (size .m) (now froms) (now fails) (now tos) ⌝ }
+    requires { ⌜ (size .n ≤ length (now ranks)) × (size .n ≤ length (now scratch)) × Seeded (size .n) (now ranks) ⌝ }
     ensures ranked { λ _. ⌜
         now (ranks .exit)
         ≡ depthTable (netOf (size .n) (commandsOf size (now (firsts .entry)) (now (outcomes .entry))) (now (froms .entry))
         (now (tos .entry))) (now (ranks .entry))
         ⌝ }
     ensures failed { λ _. ⌜
-        now (fails .exit)
-        ≡ depthTable (netOf (size .n) (commandsOf size (now (firsts .entry)) (now (outcomes .entry))) (now (practices .entry))
-        (now (ends .entry))) (now (fails .entry))
+        PracticeFound (size .n) (commandsOf size (now (firsts .entry)) (now (outcomes .entry))) (now (ranks .entry)) (now (tos .entry))
+        (now (fails .entry)) (now (tos .exit)) (now (fails .exit))
         ⌝ }
     ensures queued { λ _. ⌜ Filled (size .n) (λ i. getD (now (scratch .exit)) i 0) (now (scratch .entry)) (now (scratch .exit)) ⌝ }
 {
@@ -184,22 +175,23 @@ pub fn propagate_both(
         froms,
         scratch,
     );
+    keep_practice(size.n, ranks, froms, tos, fails);
     propagate_in(
         size,
-        ends,
+        tos,
         firsts,
         outcomes,
         &offsets,
         &users,
         &owner,
         fails,
-        practices,
+        froms,
         scratch,
     );
 }
 
 // Both propagations of a sound plan: leaves the rank of each state, and a number where the practice fails. `tos` and scratch are worked in.
-// The local tables have 6,144 bytes whatever the plan is.
+// The local table has 2,048 bytes whatever the plan is.
 pub fn propagate_plan(
     size: Size,
     rows: &[Row],
@@ -220,28 +212,15 @@ pub fn propagate_plan(
         ⌝ }
 {
     let mut froms = [0u16; Size::STATES];
-    let mut practices = [0u16; Size::STATES];
-    let mut ends = [0u16; Size::STATES];
-    initialize(
-        size,
-        rows,
-        ranks,
-        &mut froms,
-        tos,
-        fails,
-        &mut practices,
-        &mut ends,
-    );
+    initialize(size, rows, ranks, &mut froms, tos, fails);
     propagate_both(
         size,
         firsts,
         outcomes,
-        tos,
-        &ends,
         ranks,
         &mut froms,
+        tos,
         fails,
-        &mut practices,
         scratch,
     );
 }

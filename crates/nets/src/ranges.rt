@@ -1,49 +1,25 @@
-// What the propagations start from at one state.
+// What the propagations start from, state by state.
 ghost use mathlib.Core.Path.{_≡_};
-ghost use mathlib.Core.Bool.{true, false};
-ghost use Prim.Native.Nat.{_<_, _≤_};
-ghost use lib.ListN.{length};
-ghost use Rattle.model.specs.File.{maxCommands};
-ghost use Rattle.nets.specs.Nets.{rangeOf, seedOf, practiceRange, StateInitialized};
+ghost use Prim.Native.Nat.{ℕ, _<_, _≤_};
+ghost use lib.ListN.{length, getD};
+ghost use Rattle.model.specs.File.{maxStates, maxCommands};
+ghost use Rattle.nets.specs.Nets.{practicePlace, seedOf, oneEnd, seedAgain, StateInitialized, StateKept, PracticeKept};
 use crate::propagations::has_practice;
 use tables::entries::NONE;
+use tables::entries::at;
 use tables::entries::put;
 use tables::spans::Span;
 use tables::spans::is_failing;
 
-// The commands that count at a state: those from place `from` on, below place `to`.
-pub struct Range {
-    pub from: usize,
-    pub to: usize,
-}
-
-// The practice alone, or an empty range.
-fn practice_range(span: Span) -> Range
+// Where the practice stands among all commands, or where the state's commands end.
+fn practice_place(span: Span) -> usize
     requires { ⌜ (span .first ≤ span .end) × (span .end ≤ maxCommands) ⌝ }
-    ensures { λ r. ⌜ r ≡ practiceRange span ⌝ }
+    ensures { λ r. ⌜ r ≡ practicePlace span ⌝ }
 {
     if !has_practice(span) {
-        return Range {
-            from: span.first,
-            to: span.first,
-        };
+        return span.end;
     }
-    let from = span.first + span.practice;
-    Range { from, to: from + 1 }
-}
-
-// All commands of the state, or the practice alone.
-fn range_of(span: Span, alone: bool) -> Range
-    requires { ⌜ (span .first ≤ span .end) × (span .end ≤ maxCommands) ⌝ }
-    ensures { λ r. ⌜ r ≡ rangeOf alone span ⌝ }
-{
-    if alone {
-        return practice_range(span);
-    }
-    Range {
-        from: span.first,
-        to: span.end,
-    }
+    span.first + span.practice
 }
 
 // Rank 0 at a failing state, else none.
@@ -56,51 +32,79 @@ fn seed_of(span: Span) -> usize
     NONE
 }
 
-// Initializes state s, of which `span` was read, for one propagation.
-fn initialize_state(
+// Initializes state s, of which `span` was read.
+pub fn initialize_state(
     span: Span,
-    alone: bool,
     ranks: &mut [u16],
     froms: &mut [u16],
     tos: &mut [u16],
+    places: &mut [u16],
     s: usize,
 )
     requires { ⌜ (span .first ≤ span .end) × (span .end ≤ maxCommands) ⌝ }
-    requires { ⌜ (s < length (now ranks)) × (s < length (now froms)) × (s < length (now tos)) ⌝ }
+    requires { ⌜ (s < length (now ranks)) × (s < length (now froms)) × (s < length (now tos)) × (s < length (now places)) ⌝ }
     ensures { λ _. ⌜
-        StateInitialized span alone s (now (ranks .entry)) (now (froms .entry)) (now (tos .entry)) (now (ranks .exit)) (now (froms .exit))
-        (now (tos .exit))
+        StateInitialized span s (now (ranks .entry)) (now (froms .entry)) (now (tos .entry)) (now (places .entry))
+        (now (ranks .exit)) (now (froms .exit)) (now (tos .exit)) (now (places .exit))
         ⌝ }
 {
-    let range = range_of(span, alone);
     put(ranks, s, seed_of(span));
-    put(froms, s, range.from);
-    put(tos, s, range.to);
+    put(froms, s, span.first);
+    put(tos, s, span.end);
+    put(places, s, practice_place(span));
 }
 
-// Initializes state s, of which `span` was read, for the propagation of ranks and for that of the practice.
-pub fn initialize_both(
-    span: Span,
-    ranks: &mut [u16],
-    froms: &mut [u16],
-    tos: &mut [u16],
-    fails: &mut [u16],
-    practices: &mut [u16],
-    ends: &mut [u16],
-    s: usize,
-)
-    requires { ⌜ (span .first ≤ span .end) × (span .end ≤ maxCommands) ⌝ }
-    requires { ⌜ (s < length (now ranks)) × (s < length (now froms)) × (s < length (now tos)) ⌝ }
-    requires { ⌜ (s < length (now fails)) × (s < length (now practices)) × (s < length (now ends)) ⌝ }
-    ensures ranks { λ _. ⌜
-        StateInitialized span false s (now (ranks .entry)) (now (froms .entry)) (now (tos .entry)) (now (ranks .exit)) (now (froms .exit))
-        (now (tos .exit))
-        ⌝ }
-    ensures practice { λ _. ⌜
-        StateInitialized span true s (now (fails .entry)) (now (practices .entry)) (now (ends .entry))
-        (now (fails .exit)) (now (practices .exit)) (now (ends .exit))
+// Where a range ends that begins at `from`, and of the commands below `to` has no more than the first.
+fn one_end(from: usize, to: usize) -> usize
+    requires { ⌜ to ≤ maxCommands ⌝ }
+    ensures { λ r. ⌜ r ≡ oneEnd from to ⌝ }
+{
+    if from < to {
+        return from + 1;
+    }
+    to
+}
+
+// A state's seed, by its rank: only where the seed is 0 is the rank 0.
+fn seed_again(rank: usize) -> usize
+    ensures { λ r. ⌜ r ≡ seedAgain rank ⌝ }
+{
+    if rank != 0 {
+        return NONE;
+    }
+    0
+}
+
+// Of the commands that count at state s, keeps the practice alone.
+fn keep_practice_at(ranks: &[u16], froms: &mut [u16], tos: &mut [u16], fails: &mut [u16], s: usize)
+    requires { ⌜ (s < length (now ranks)) × (s < length (now froms)) × (s < length (now tos)) × (s < length (now fails)) ⌝ }
+    requires { ⌜ (getD (now fails) s 0 ≤ getD (now tos) s 0) × (getD (now tos) s 0 ≤ maxCommands) ⌝ }
+    ensures { λ _. ⌜
+        StateKept s (now (ranks .entry)) (now (froms .entry)) (now (tos .entry)) (now (fails .entry))
+        (now (froms .exit)) (now (tos .exit)) (now (fails .exit))
         ⌝ }
 {
-    initialize_state(span, false, ranks, froms, tos, s);
-    initialize_state(span, true, fails, practices, ends, s);
+    let place = at(fails, s);
+    let end = one_end(place, at(tos, s));
+    put(froms, s, place);
+    put(tos, s, end);
+    put(fails, s, seed_again(at(ranks, s)));
+}
+
+// Of the commands that count at each state, keeps the practice alone. At entry `fails` says where it stands; afterwards it has the seeds,
+// made again from the ranks.
+pub fn keep_practice(n: usize, ranks: &[u16], froms: &mut [u16], tos: &mut [u16], fails: &mut [u16])
+    requires { ⌜ (n ≤ maxStates)
+        × (n ≤ length (now ranks)) × (n ≤ length (now froms)) × (n ≤ length (now tos)) × (n ≤ length (now fails)) ⌝ }
+    requires { ⌜ ((s : ℕ) → s < n → (getD (now fails) s 0 ≤ getD (now tos) s 0) × (getD (now tos) s 0 ≤ maxCommands)) ⌝ }
+    ensures { λ _. ⌜
+        PracticeKept n (now (ranks .entry)) (now (froms .entry)) (now (tos .entry)) (now (fails .entry))
+        (now (froms .exit)) (now (tos .exit)) (now (fails .exit))
+        ⌝ }
+{
+    let mut s = 0;
+    while s < n {
+        keep_practice_at(ranks, froms, tos, fails, s);
+        s += 1;
+    }
 }

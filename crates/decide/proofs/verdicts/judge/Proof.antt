@@ -17,20 +17,20 @@ has-number-requires c κs = search needs
 has-number-requires-2 : tie.Need-has-number-requires-2
 has-number-requires-2 c κs = search needs
 
-choose-requires : tie.Need-choose-requires
-choose-requires c κs =
-    let entry = c .before .before .before .before .before .before .before .before .before in
+command-of-requires : tie.Need-command-of-requires
+command-of-requires c κs =
+    let entry = c .before .before .before .before .before .before .before .before in
     let i = seen-inside (entry .pre .1 .0) in (entry .pre .0, (i .0, i .1, entry .pre .1 .1 .0))
 
 put-requires : tie.Need-put-requires
 put-requires c κs =
     let entry = c .before .before .before .before .before .before .before .before .before .before in
-    (omega (arith, entry .pre .1 .0 .inside, entry .pre .1 .1), seen-fits (entry .pre .1 .0) _ _ (c .choose .ensures))
+    (omega (arith, entry .pre .1 .0 .inside, entry .pre .1 .1), seen-fits (entry .pre .1 .0) _ _ _ (c .before .command-of .ensures))
 
 is-fault-requires : tie.Need-is-fault-requires
 is-fault-requires c κs =
     let entry = c .before .before .before .before .before .before .before .before .before .before .before .before .before in
-    let i = seen-inside (entry .pre .1 .0) in (entry .pre .0, (i .0, i .1, entry .pre .1 .1 .0))
+    seen-inside (entry .pre .1 .0) .0
 
 mark-of-requires : tie.Need-mark-of-requires
 mark-of-requires c κs = search needs
@@ -68,16 +68,16 @@ returns c =
     let past-mark-of = past-put2 .before in
     let past-is-fault = past-mark-of .before .before in
     let past-put = past-is-fault .before .before .before in
-    let past-choose = past-put .before in
-    let past-has-number2 = past-choose .before .before in
+    let past-command-of = past-put .before .before in
+    let past-has-number2 = past-command-of .before in
     let past-has-number = past-has-number2 .before .before in
     let entry = past-has-number-to-entry past-has-number in
     λ R sounds e.
     let l = entry .pre .1 .0 .inside in
-    judged _ _ l _ e _ _ _ _ _ _ (past-has-number .has-number .ensures) (past-has-number2 .has-number2 .ensures)
-    (past-is-fault .is-fault .ensures R _ l e) (c .before .has-practice .ensures) _ _ _ _
-    (past-choose .choose .ensures R _ sounds l e) (past-mark-of .mark-of .ensures) (c .before .before .one-if .ensures)
-    (c .column-of .ensures) _ _ _ _ (past-put .put .ensures) (past-put2 .put2 .ensures)
+    judged _ sounds _ l _ e _ _ _ _ _ _ (past-has-number .has-number .ensures) (past-has-number2 .has-number2 .ensures) _ _ _ _
+    (past-command-of .command-of .ensures R _ sounds l e) (past-is-fault .is-fault .ensures) (c .before .has-practice .ensures)
+    (past-mark-of .mark-of .ensures) (c .before .before .one-if .ensures) (c .column-of .ensures) _ _ _ _ (past-put .put .ensures)
+    (past-put2 .put2 .ensures)
 
 pub judge-spec : {M : Type 1} → statement M
 judge-spec =
@@ -85,7 +85,7 @@ judge-spec =
     (tie.spec
     has-number-requires
     has-number-requires-2
-    choose-requires
+    command-of-requires
     put-requires
     is-fault-requires
     mark-of-requires

@@ -47,12 +47,6 @@ After-initialize-arg2 = Lts.After-initialize-arg2 (Reads.Asked, Reads.Learnt, Re
 abbrev pub After-initialize-arg3 : Type 0
 After-initialize-arg3 = Lts.After-initialize-arg3 (Reads.Asked, Reads.Learnt, Reads'.Asked, Reads'.Learnt) Reads''.Pre Reads''.Post
 
-abbrev pub After-practices : Type 0
-After-practices = Lts.After-practices (Reads.Asked, Reads.Learnt, Reads'.Asked, Reads'.Learnt) Reads''.Pre Reads''.Post
-
-abbrev pub After-ends : Type 0
-After-ends = Lts.After-ends (Reads.Asked, Reads.Learnt, Reads'.Asked, Reads'.Learnt) Reads''.Pre Reads''.Post
-
 abbrev pub After-initialize : Type 0
 After-initialize = Lts.After-initialize (Reads.Asked, Reads.Learnt, Reads'.Asked, Reads'.Learnt) Reads''.Pre Reads''.Post
 
@@ -77,29 +71,17 @@ After-fails = Lts.After-fails (Reads.Asked, Reads.Learnt, Reads'.Asked, Reads'.L
 abbrev pub After-slice-known7 : Type 0
 After-slice-known7 = Lts.After-slice-known7 (Reads.Asked, Reads.Learnt, Reads'.Asked, Reads'.Learnt) Reads''.Pre Reads''.Post
 
-abbrev pub After-practices2 : Type 0
-After-practices2 = Lts.After-practices2 (Reads.Asked, Reads.Learnt, Reads'.Asked, Reads'.Learnt) Reads''.Pre Reads''.Post
-
-abbrev pub After-ends2 : Type 0
-After-ends2 = Lts.After-ends2 (Reads.Asked, Reads.Learnt, Reads'.Asked, Reads'.Learnt) Reads''.Pre Reads''.Post
-
 abbrev pub After-propagate-both-arg : Type 0
 After-propagate-both-arg = Lts.After-propagate-both-arg (Reads.Asked, Reads.Learnt, Reads'.Asked, Reads'.Learnt) Reads''.Pre Reads''.Post
-
-abbrev pub After-ends3 : Type 0
-After-ends3 = Lts.After-ends3 (Reads.Asked, Reads.Learnt, Reads'.Asked, Reads'.Learnt) Reads''.Pre Reads''.Post
-
-abbrev pub After-propagate-both-arg2 : Type 0
-After-propagate-both-arg2 = Lts.After-propagate-both-arg2 (Reads.Asked, Reads.Learnt, Reads'.Asked, Reads'.Learnt) Reads''.Pre Reads''.Post
 
 abbrev pub After-froms3 : Type 0
 After-froms3 = Lts.After-froms3 (Reads.Asked, Reads.Learnt, Reads'.Asked, Reads'.Learnt) Reads''.Pre Reads''.Post
 
+abbrev pub After-propagate-both-arg2 : Type 0
+After-propagate-both-arg2 = Lts.After-propagate-both-arg2 (Reads.Asked, Reads.Learnt, Reads'.Asked, Reads'.Learnt) Reads''.Pre Reads''.Post
+
 abbrev pub After-propagate-both-arg3 : Type 0
 After-propagate-both-arg3 = Lts.After-propagate-both-arg3 (Reads.Asked, Reads.Learnt, Reads'.Asked, Reads'.Learnt) Reads''.Pre Reads''.Post
-
-abbrev pub After-practices3 : Type 0
-After-practices3 = Lts.After-practices3 (Reads.Asked, Reads.Learnt, Reads'.Asked, Reads'.Learnt) Reads''.Pre Reads''.Post
 
 abbrev pub After-propagate-both-arg4 : Type 0
 After-propagate-both-arg4 = Lts.After-propagate-both-arg4 (Reads.Asked, Reads.Learnt, Reads'.Asked, Reads'.Learnt) Reads''.Pre Reads''.Post
@@ -116,41 +98,32 @@ After-slice-known8 = Lts.After-slice-known8 (Reads.Asked, Reads.Learnt, Reads'.A
 abbrev pub After-froms4 : Type 0
 After-froms4 = Lts.After-froms4 (Reads.Asked, Reads.Learnt, Reads'.Asked, Reads'.Learnt) Reads''.Pre Reads''.Post
 
-abbrev pub After-fails2 : Type 0
-After-fails2 = Lts.After-fails2 (Reads.Asked, Reads.Learnt, Reads'.Asked, Reads'.Learnt) Reads''.Pre Reads''.Post
+abbrev pub After-tos2 : Type 0
+After-tos2 = Lts.After-tos2 (Reads.Asked, Reads.Learnt, Reads'.Asked, Reads'.Learnt) Reads''.Pre Reads''.Post
 
 abbrev pub After-slice-known9 : Type 0
 After-slice-known9 = Lts.After-slice-known9 (Reads.Asked, Reads.Learnt, Reads'.Asked, Reads'.Learnt) Reads''.Pre Reads''.Post
 
-abbrev pub After-practices4 : Type 0
-After-practices4 = Lts.After-practices4 (Reads.Asked, Reads.Learnt, Reads'.Asked, Reads'.Learnt) Reads''.Pre Reads''.Post
-
-abbrev pub After-scratch : Type 0
-After-scratch = Lts.After-scratch (Reads.Asked, Reads.Learnt, Reads'.Asked, Reads'.Learnt) Reads''.Pre Reads''.Post
+abbrev pub After-fails2 : Type 0
+After-fails2 = Lts.After-fails2 (Reads.Asked, Reads.Learnt, Reads'.Asked, Reads'.Learnt) Reads''.Pre Reads''.Post
 
 abbrev pub After-slice-known10 : Type 0
 After-slice-known10 = Lts.After-slice-known10 (Reads.Asked, Reads.Learnt, Reads'.Asked, Reads'.Learnt) Reads''.Pre Reads''.Post
 
+abbrev pub After-scratch : Type 0
+After-scratch = Lts.After-scratch (Reads.Asked, Reads.Learnt, Reads'.Asked, Reads'.Learnt) Reads''.Pre Reads''.Post
+
+abbrev pub After-slice-known11 : Type 0
+After-slice-known11 = Lts.After-slice-known11 (Reads.Asked, Reads.Learnt, Reads'.Asked, Reads'.Learnt) Reads''.Pre Reads''.Post
+
 abbrev pub Need-slice-aggregate-initialize : Type 0
 Need-slice-aggregate-initialize = Lts.Need-slice-aggregate-initialize (Reads.Asked, Reads.Learnt, Reads'.Asked, Reads'.Learnt) Reads''.Pre Reads''.Post
-
-abbrev pub Need-slice-aggregate-initialize-2 : Type 0
-Need-slice-aggregate-initialize-2 = Lts.Need-slice-aggregate-initialize-2 (Reads.Asked, Reads.Learnt, Reads'.Asked, Reads'.Learnt) Reads''.Pre Reads''.Post
-
-abbrev pub Need-slice-aggregate-initialize-3 : Type 0
-Need-slice-aggregate-initialize-3 = Lts.Need-slice-aggregate-initialize-3 (Reads.Asked, Reads.Learnt, Reads'.Asked, Reads'.Learnt) Reads''.Pre Reads''.Post
 
 abbrev pub Need-initialize-requires : Type 0
 Need-initialize-requires = Lts.Need-initialize-requires (Reads.Asked, Reads.Learnt, Reads'.Asked, Reads'.Learnt) Reads''.Pre Reads''.Post
 
 abbrev pub Need-slice-aggregate-propagate-both : Type 0
 Need-slice-aggregate-propagate-both = Lts.Need-slice-aggregate-propagate-both (Reads.Asked, Reads.Learnt, Reads'.Asked, Reads'.Learnt) Reads''.Pre Reads''.Post
-
-abbrev pub Need-slice-aggregate-propagate-both-2 : Type 0
-Need-slice-aggregate-propagate-both-2 = Lts.Need-slice-aggregate-propagate-both-2 (Reads.Asked, Reads.Learnt, Reads'.Asked, Reads'.Learnt) Reads''.Pre Reads''.Post
-
-abbrev pub Need-slice-aggregate-propagate-both-3 : Type 0
-Need-slice-aggregate-propagate-both-3 = Lts.Need-slice-aggregate-propagate-both-3 (Reads.Asked, Reads.Learnt, Reads'.Asked, Reads'.Learnt) Reads''.Pre Reads''.Post
 
 abbrev pub Need-propagate-both-requires : Type 0
 Need-propagate-both-requires = Lts.Need-propagate-both-requires (Reads.Asked, Reads.Learnt, Reads'.Asked, Reads'.Learnt) Reads''.Pre Reads''.Post
@@ -171,8 +144,8 @@ abbrev pub Need-returns : Type 0
 Need-returns = Lts.Need-returns (Reads.Asked, Reads.Learnt, Reads'.Asked, Reads'.Learnt) Reads''.Pre Reads''.Post
 
 module _ {M : Type 1} where
-  pub spec : (answer : Need-slice-aggregate-initialize) → (answer : Need-slice-aggregate-initialize-2) → (answer : Need-slice-aggregate-initialize-3) → (answer : Need-initialize-requires) → (answer : Need-slice-aggregate-propagate-both) → (answer : Need-slice-aggregate-propagate-both-2) → (answer : Need-slice-aggregate-propagate-both-3) → (answer : Need-propagate-both-requires) → (answer : Need-same-length) → (answer : Need-same-length-2) → (answer : Need-same-length-3) → (answer : Need-same-length-4) → (answer : Need-returns) → Lts.Closed (Reads.Asked, Reads.Learnt, Reads'.Asked, Reads'.Learnt) Reads''.Pre Reads''.Post M
-  spec = λ answer answer' answer'' answer'3 answer'4 answer'5 answer'6 answer'7 answer'8 answer'9 answer'10 answer'11 answer'12. Lts.spec (Reads.Asked, Reads.Learnt, Reads'.Asked, Reads'.Learnt) Reads''.Pre Reads''.Post answer answer' answer'' answer'3 answer'4 answer'5 answer'6 answer'7 answer'8 answer'9 answer'10 answer'11 answer'12
+  pub spec : (answer : Need-slice-aggregate-initialize) → (answer : Need-initialize-requires) → (answer : Need-slice-aggregate-propagate-both) → (answer : Need-propagate-both-requires) → (answer : Need-same-length) → (answer : Need-same-length-2) → (answer : Need-same-length-3) → (answer : Need-same-length-4) → (answer : Need-returns) → Lts.Closed (Reads.Asked, Reads.Learnt, Reads'.Asked, Reads'.Learnt) Reads''.Pre Reads''.Post M
+  spec = λ answer answer' answer'' answer'3 answer'4 answer'5 answer'6 answer'7 answer'8. Lts.spec (Reads.Asked, Reads.Learnt, Reads'.Asked, Reads'.Learnt) Reads''.Pre Reads''.Post answer answer' answer'' answer'3 answer'4 answer'5 answer'6 answer'7 answer'8
 
   pub close : Lts.Closed (Reads.Asked, Reads.Learnt, Reads'.Asked, Reads'.Learnt) Reads''.Pre Reads''.Post M → Statement.statement M
   unfolding Code.routine Running.tablesOf
