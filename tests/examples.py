@@ -1,4 +1,4 @@
-"""The example plans: the file and the listing of each, made from its annotated hexadecimal. With --check: whether they are what this makes."""
+"""The example plans: the file and the listing of each, made from its annotated hexadecimal. With --check: whether they are that."""
 import pathlib
 import sys
 

@@ -1,6 +1,6 @@
 #!/usr/bin/env bash
-# Tries every edit that must be refused: those of crates/*/must-fail, which the gate tries too, and those of crates/*/wrong, for which it has no
-# time. They are put together in a copy of the repository; what is proved there is kept for the next time.
+# Tries every edit that must be refused: those of crates/*/must-fail, which the gate tries too, and those of crates/*/wrong, for which it
+# has no time. They are put together in a copy of the repository; what is proved there is kept for the next time.
 set -euo pipefail
 cd "$(dirname "$0")/.."
 

@@ -15,8 +15,8 @@ static bool decides(const struct tables *p, const struct image *want)
 {
     struct image got = { .scratch = { 0 } };
     uint32_t r = gate_decide(p->size, GATE_SIZE_BYTES, p->rows, GATE_ROWS_BYTES(p->n), p->firsts, GATE_FIRSTS_BYTES(p->m), p->outcomes,
-                             GATE_OUTCOMES_BYTES(p->t), got.ranks, GATE_STATES_BYTES(p->n), got.commands, GATE_STATES_BYTES(p->n), got.marks,
-                             GATE_STATES_BYTES(p->n), got.scratch, GATE_STATES_BYTES(p->n), got.tally, GATE_TALLY_BYTES);
+                             GATE_OUTCOMES_BYTES(p->t), got.ranks, GATE_STATES_BYTES(p->n), got.commands, GATE_STATES_BYTES(p->n),
+                             got.marks, GATE_STATES_BYTES(p->n), got.scratch, GATE_STATES_BYTES(p->n), got.tally, GATE_TALLY_BYTES);
     return r == 0 && memcmp(got.ranks, want->ranks, sizeof got.ranks) == 0 && memcmp(got.tally, want->tally, sizeof got.tally) == 0;
 }
 
@@ -24,8 +24,8 @@ static bool searches(const struct tables *p, const struct image *want)
 {
     struct image got = { .scratch = { 0 } };
     uint32_t r = gate_search(p->size, GATE_SIZE_BYTES, p->rows, GATE_ROWS_BYTES(p->n), p->firsts, GATE_FIRSTS_BYTES(p->m), p->outcomes,
-                             GATE_OUTCOMES_BYTES(p->t), p->start, got.commands, GATE_STATES_BYTES(p->n), got.scratch, GATE_STATES_BYTES(p->n),
-                             got.answer, GATE_ANSWER_BYTES);
+                             GATE_OUTCOMES_BYTES(p->t), p->start, got.commands, GATE_STATES_BYTES(p->n), got.scratch,
+                             GATE_STATES_BYTES(p->n), got.answer, GATE_ANSWER_BYTES);
     return r == 0 && memcmp(got.answer, want->answer, sizeof got.answer) == 0;
 }
 

@@ -37,15 +37,20 @@ def derivation(path, element, row):
     return shorter(over_rows(one_line_each(path), element, row))
 
 
+def used_from(text, printed, kept, name):
+    """The text with the module `printed` taken from where it is kept, under the name that it has there."""
+    return re.sub(rf"^use {re.escape(printed)}(?: as (\S+))?$", lambda m: f"use {kept} as " + (m.group(1) or name), text, flags=re.M)
+
+
 def tie(path, own, here, readings):
     """The needs at the contract. `own` and `here` are the modules of the derivation, printed and kept; `readings` says, of each function
     over rows, where its reading is printed and where it is kept."""
     text = one_line_each(path)
     for printed, kept in readings:
-        text = re.sub(rf"^use {re.escape(printed)}\.Reads(?: as (\S+))?$", lambda m: f"use {kept} as " + (m.group(1) or "Reads"), text, flags=re.M)
+        text = used_from(text, f"{printed}.Reads", kept, "Reads")
         kinds = re.search(rf"^use {re.escape(printed)}\.Kinds(?: as (\S+))?\n", text, flags=re.M)
         if kinds:
             name, _ = alias_of(text, kept, "Reads")
             text = text.replace(kinds.group(0), "")
             text = re.sub(r"(?<![\w'·.-])" + re.escape(kinds.group(1) or "Kinds") + r"\.(ps|r)\b", name + r".\1", text)
-    return re.sub(rf"^use {re.escape(own)}(?: as (\S+))?$", lambda m: f"use {here} as " + (m.group(1) or "Lts"), text, flags=re.M).lstrip("\n")
+    return used_from(text, own, here, "Lts").lstrip("\n")

@@ -46,8 +46,9 @@ def local_rows(text, element, row):
         values = tuple_of(m.group(4))
         fits = f"({make}.u{element.width}-wt, " * count + "tt" + ")" * count
         return (
-            f"{make}.t-struct-make 𝓤 H A W E 𝓣 {parts} {laws}.the-laws {laws}.the-plain {m.group(1)} {m.group(2)} {m.group(3)} (λ m. {values}) "
-            f"({reads}.room-gone 𝓤 H A ({element.mir})) {m.group(5)} Path'.refl (λ u. Path'.refl) λ m. {make}.is-wt {parts} {laws}.the-laws {fits} {values}) d"
+            f"{make}.t-struct-make 𝓤 H A W E 𝓣 {parts} {laws}.the-laws {laws}.the-plain {m.group(1)} {m.group(2)} {m.group(3)} "
+            f"(λ m. {values}) ({reads}.room-gone 𝓤 H A ({element.mir})) {m.group(5)} Path'.refl (λ u. Path'.refl) "
+            f"λ m. {make}.is-wt {parts} {laws}.the-laws {fits} {values}) d"
         )
 
     def fold(m):
@@ -59,13 +60,19 @@ def local_rows(text, element, row):
     text = re.sub(rf"Make\.n-make \({array}\) (\S+) (\d+) λ m\. (List\._∷_ .*)$", make_value, text, flags=re.M)
     text = text.replace(f"{rows}.whole (Array'.Array {number} {count})", f"{rows}.whole ({declared}.row {parts})")
     arr = rf"\(Rows\.arrF {made} {count} 0\)"
-    text = re.sub(rf"AtSlots\.n-as-by (\S+) (\d+) {arr} λ x\. x", rf"AtSlots.n-as-by \1 \2 ({rows}.whole {whole}) λ v. {t}.struct .make v tt", text)
     text = re.sub(
-        rf"{arr} \(λ x\. x\) (\(Own\.told-none 𝓤 H A \(\S+ \.slots\)\)) λ ρ told\. Repeat\.whole-arr 𝓤 H A W {made} {count} tt ρ", fold, text
+        rf"AtSlots\.n-as-by (\S+) (\d+) {arr} λ x\. x", rf"AtSlots.n-as-by \1 \2 ({rows}.whole {whole}) λ v. {t}.struct .make v tt", text
+    )
+    text = re.sub(
+        rf"{arr} \(λ x\. x\) (\(Own\.told-none 𝓤 H A \(\S+ \.slots\)\)) "
+        rf"λ ρ told\. Repeat\.whole-arr 𝓤 H A W {made} {count} tt ρ",
+        fold,
+        text,
     )
     text = text.replace(f"Rows.arrF {number} {count} 0", f"{rows}.whole {whole}")
     text = text.replace(
-        f"Init.room-arr 𝓤 H A W {number} {count} 0 {count} Path'.refl", f"{local}.room-whole 𝓤 H A W {whole} (Memory.lone ({t}.the-row .mir)) Path'.refl"
+        f"Init.room-arr 𝓤 H A W {number} {count} 0 {count} Path'.refl",
+        f"{local}.room-whole 𝓤 H A W {whole} (Memory.lone ({t}.the-row .mir)) Path'.refl",
     )
     text = re.sub(
         rf"Make\.t-make-wt 𝓤 H A W E 𝓣 \({array}\) Path'\.refl .*? (G\d+) (\d+) (\(List\._∷_ \(Scalar.*?List\.\[\]\)*\)) "
@@ -77,7 +84,8 @@ def local_rows(text, element, row):
     )
     for name in ("Array'", "Array"):
         text = text.replace(
-            f"{name}.array-lawful 𝓤 H A W {number} (Plain'.uint-lawful 𝓤 H A W {width}) {count}", f"{struct_laws}.lawful {t}.the-type {laws}.the-laws 𝓤 H A W"
+            f"{name}.array-lawful 𝓤 H A W {number} (Plain'.uint-lawful 𝓤 H A W {width}) {count}",
+            f"{struct_laws}.lawful {t}.the-type {laws}.the-laws 𝓤 H A W",
         )
     text = text.replace(
         f"Array.arr-reads 𝓤 H A W (Array.eInt {width}) (Array.eInt-laws {width}) {count}",

@@ -1,5 +1,5 @@
-"""A twin repository: the same functions over slices of an array of numbers, which the borrow checker covers, where the crates have slices of
-rows. Contracts are left out, and a function is a stub of its signature unless its derivation is asked for: a derivation has the body of
+"""A twin repository: the same functions over slices of an array of numbers, which the borrow checker covers, where the crates have slices
+of rows. Contracts are left out, and a function is a stub of its signature unless its derivation is asked for: a derivation has the body of
 its own function and the signatures of those that are called, and nothing else of the sources."""
 import os
 import re

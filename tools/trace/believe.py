@@ -1,5 +1,5 @@
-"""The section of README that lists what to read: each line `N PATH ..` says how many lines the file has, comments, imports and blank lines left out. Of code
-the heads of public functions count, with their contracts."""
+"""The section of README that lists what to read: each line `N PATH ..` says how many lines the file has, comments, imports and blank lines
+left out. Of code the heads of public functions count, with their contracts."""
 import re
 
 from defined import REPO

@@ -1,21 +1,21 @@
 -- The choice at a state of a sound plan, by what is read of the state: the command at the first place of the trying order that is clear.
-use mathlib.Core.Path.{_≡_, refl, sym, ap, _∙_}
+use mathlib.Core.Path.{_≡_, sym, ap, _∙_}
 use mathlib.Core.Bool.{Bool, true, false, not}
 use mathlib.Core.List.{List, []}
 use mathlib.Core.Logic.{⊎-elim}
-use Prim.Native.Nat.{ℕ, _+_, _<_, _≤_}
+use Prim.Native.Nat.{ℕ, _+_, _<_}
 use native.Mathlib.Numerals.{add-one}
 use native.Mathlib.Omega.{arith}
 use native.Mathlib.Decide.{decLt}
-use lib.ListN.{length, getD}
+use lib.ListN.{length}
 use borrow.Author.Tests.{le-ltb}
 use Rattle.laws.specs.Sets.{any, least, first, found}
 use Rattle.laws.specs.Lists.{tabulate}
-use Rattle.laws.specs.Entry.{FFFF, entry}
+use Rattle.laws.specs.Entry.{entry}
 use Rattle.laws.specs.First.{FirstNot}
 use Rattle.laws.proofs.Tests.{clash, true-or-false}
 use Rattle.laws.proofs.Tries.{first-at}
-use Rattle.model.specs.Plan.{Plan, active, hasPractice}
+use Rattle.model.specs.Plan.{active, hasPractice}
 use Rattle.model.specs.Verdict.{hit, hits}
 use Rattle.model.specs.Command.{tryOrder, choice}
 use Rattle.model.specs.Tables.{Tables, listsIn}

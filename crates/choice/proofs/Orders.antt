@@ -54,7 +54,8 @@ module _ (P : Plan) (s : ℕ) where
     unfolding triedAt tryOrder hasPractice
     tried-then zero z l = absurd (z (omega arith))
     tried-then (suc i) z l =
-        rw (lt-ltb (P .practice s) (P .commands s) h) (back ∙ sym (tabulate-at (λ c. c) (P .commands s) i FFFF (omega (arith, places-more))))
+        rw (lt-ltb (P .practice s) (P .commands s) h)
+        (back ∙ sym (tabulate-at (λ c. c) (P .commands s) i FFFF (omega (arith, places-more))))
       where
         back : suc i - 1 ≡ i
         back = omega arith

@@ -4,12 +4,12 @@ use mathlib.Core.Bool.{Bool}
 use mathlib.Core.List.{List, [], _∷_}
 use Prim.Native.Nat.{ℕ, _+_, _<_, _≤_}
 use native.Mathlib.Omega.{arith}
-use lib.ListN.{length, getD}
+use lib.ListN.{length}
 use Rattle.laws.proofs.Fills.{filled-none, filled-next}
 use Rattle.model.specs.File.{maxStates}
 use Rattle.model.specs.Plan.{Plan, hasPractice}
 use Rattle.decide.specs.declared.verdicts.Place.{Place}
-use Rattle.decide.specs.Verdicts.{numbered, markAt, added, StateJudged, StatesJudged}
+use Rattle.decide.specs.Verdicts.{numbered, markAt, added, Counts, StateJudged, StatesJudged}
 use Rattle.decide.proofs.StateVerdicts.{one-small, column-small}
 use Rattle.decide.proofs.Tallies.{counted-none, counted-next, counted-low}
 
@@ -22,15 +22,13 @@ module _ {P : Plan} {L : ℕ → Bool} {i : ℕ} {cs₀ ms₀ cs ms : List ℕ} 
   mark-read = rw (w .marked .high i (omega arith))
 
   module _ {r : Place} {cs′ ms′ : List ℕ} (j : StateJudged P L (numbered ms i) i cs ms r cs′ ms′) where
-    -- the count that grows fits
-    pub pass-room : i < maxStates → (r .row < 2) × (r .column < 3) × (getD (getD t (r .row) []) (r .column) 0 < maxStates)
-    pass-room h =
-        rw (j .row, j .column, w .counted) (
-          one-small (L i),
-          column-small (hasPractice P i) (numbered ms i),
-          counted-low L (hasPractice P) (numbered ms₀) i h (L i)
-              (hasPractice P i) (numbered ms i),
-        )
+    -- the place is one of the tally's, whose counts fit
+    pub pass-room : i < maxStates → (r .row < 2) × (r .column < 3) × Counts t
+    pass-room h = (
+      rw (j .row) (one-small (L i)),
+      rw (j .column) (column-small (hasPractice P i) (numbered ms i)),
+      counted-low L (hasPractice P) (numbered ms₀) i h t (w .counted),
+    )
 
     pub pass-next : i < length cs₀ → i < length ms₀ → (t′ : List (List ℕ)) → t′ ≡ added t (r .row) (r .column)
         → StatesJudged P L (i + 1) cs₀ ms₀ t′ cs′ ms′

@@ -2,10 +2,11 @@
 use mathlib.Core.Path.{_≡_, refl, ap₂}
 use mathlib.Core.Bool.{Bool, true, false, not, cond, _&&_}
 use mathlib.Core.List.{List, [], _∷_}
-use Prim.Native.Nat.{ℕ, _+_, _<_}
-use native.Mathlib.Nat.{zero-add}
+use Prim.Native.Nat.{ℕ, zero, suc, _+_, _*_, _<_}
+use native.Mathlib.Nat.{zero-add, add-zero}
 use native.Mathlib.Numerals.{add-one, one-add}
 use native.Mathlib.Omega.{arith}
+use lib.Dec.{eqb}
 use lib.ListN.{getD}
 use Rattle.laws.specs.Sets.{howMany}
 use Rattle.laws.proofs.Sets.{many-bound}
@@ -14,7 +15,7 @@ use Rattle.model.specs.File.{maxStates}
 use Rattle.model.specs.Plan.{Plan, hasPractice}
 use Rattle.model.specs.Verdict.{lost, safe}
 use Rattle.model.specs.Practice.{practiceFails, tallyRow, tallyOf, tally}
-use Rattle.decide.specs.Verdicts.{oneIf, columnOf, added}
+use Rattle.decide.specs.Verdicts.{oneIf, columnOf, added, Counts}
 
 module _ (L g f : ℕ → Bool) where
   pub counted-none : _≡_ {A = List (List ℕ)} ((0 ∷ 0 ∷ 0 ∷ []) ∷ (0 ∷ 0 ∷ 0 ∷ []) ∷ []) (tallyOf L g f 0)
@@ -57,21 +58,75 @@ module _ (L g f : ℕ → Bool) where
       go false false false = simp (zero-add, one-add, add-one)
 
   -- no count is above that of the states
-  pub counted-low : (s : ℕ) → s < maxStates → (a b c : Bool) → getD (getD (tallyOf L g f s) (oneIf a) []) (columnOf b c) 0 < maxStates
-  unfolding tallyRow oneIf columnOf
-  counted-low s h = go
+  pub counted-low : (s : ℕ) → s < maxStates → (t : List (List ℕ)) → t ≡ tallyOf L g f s → Counts t
+  unfolding tallyRow
+  counted-low s h t e = record {
+    safe-holds = howMany (λ x. not (L x) && g x && not (f x)) s;
+    safe-fails = howMany (λ x. not (L x) && g x && f x) s;
+    safe-none = howMany (λ x. not (L x) && not (g x)) s;
+    lost-holds = howMany (λ x. L x && g x && not (f x)) s;
+    lost-fails = howMany (λ x. L x && g x && f x) s;
+    lost-none = howMany (λ x. L x && not (g x)) s;
+    is = e;
+    low-safe = (low _, low _, low _);
+    low-lost = (low _, low _, low _);
+  }
     where
       low : (k : ℕ → Bool) → howMany k s < maxStates
       low k = omega (arith, many-bound k s)
 
-      go : (a b c : Bool) → getD (getD (tallyRow (λ i. not (L i)) g f s ∷ tallyRow L g f s ∷ []) (cond a 1 0) []) (cond b (cond c 1 0) 2) 0
-          < maxStates
-      go true true true = low _
-      go true true false = low _
-      go true false c = low _
-      go false true true = low _
-      go false true false = low _
-      go false false c = low _
+-- ---- one count more
+
+pub more-here : (b : Bool) (x : ℕ) → b ≡ true → x + 1 ≡ x + oneIf b
+unfolding oneIf
+more-here b x h = rw h
+
+pub more-none : (b : Bool) (x : ℕ) → b ≡ false → x ≡ x + oneIf b
+unfolding oneIf
+more-none b x h = rw (h, add-zero)
+
+-- the place of row r, column k is the one that its number tells
+each-place : (a b c d e f r k : ℕ) → r < 2 → k < 3
+    → ((a + oneIf (eqb (r * 3 + k) 0)) ∷ (b + oneIf (eqb (r * 3 + k) 1)) ∷ (c + oneIf (eqb (r * 3 + k) 2)) ∷ [])
+    ∷ ((d + oneIf (eqb (r * 3 + k) 3)) ∷ (e + oneIf (eqb (r * 3 + k) 4)) ∷ (f + oneIf (eqb (r * 3 + k) 5)) ∷ []) ∷ []
+    ≡ added ((a ∷ b ∷ c ∷ []) ∷ (d ∷ e ∷ f ∷ []) ∷ []) r k
+unfolding oneIf
+each-place a b c d e f zero zero h l = simp (add-zero)
+each-place a b c d e f zero (suc zero) h l = simp (add-zero)
+each-place a b c d e f zero (suc (suc zero)) h l = simp (add-zero)
+each-place a b c d e f zero (suc (suc (suc k))) h l = absurd (omega arith)
+each-place a b c d e f (suc zero) zero h l = simp (add-zero)
+each-place a b c d e f (suc zero) (suc zero) h l = simp (add-zero)
+each-place a b c d e f (suc zero) (suc (suc zero)) h l = simp (add-zero)
+each-place a b c d e f (suc zero) (suc (suc (suc k))) h l = absurd (omega arith)
+each-place a b c d e f (suc (suc r)) k h l = absurd (omega arith)
+
+module _ {t : List (List ℕ)} (v : Counts t) where
+  abbrev counts : List (List ℕ)
+  counts = (v .safe-holds ∷ v .safe-fails ∷ v .safe-none ∷ []) ∷ (v .lost-holds ∷ v .lost-fails ∷ v .lost-none ∷ []) ∷ []
+
+  pub count-low : (i j : ℕ) → i < 2 → j < 3 → getD (getD t i []) j 0 < maxStates
+  count-low i j h l = rw (v .is) (go i j h l)
+    where
+      go : (i j : ℕ) → i < 2 → j < 3 → getD (getD counts i []) j 0 < maxStates
+      go zero zero h l = v .low-safe .0
+      go zero (suc zero) h l = v .low-safe .1
+      go zero (suc (suc zero)) h l = v .low-safe .2
+      go zero (suc (suc (suc j))) h l = absurd (omega arith)
+      go (suc zero) zero h l = v .low-lost .0
+      go (suc zero) (suc zero) h l = v .low-lost .1
+      go (suc zero) (suc (suc zero)) h l = v .low-lost .2
+      go (suc zero) (suc (suc (suc j))) h l = absurd (omega arith)
+      go (suc (suc i)) j h l = absurd (omega arith)
+
+  pub added-is : (r k : ℕ) → r < 2 → k < 3 → (u x y z p q : ℕ)
+      → u ≡ getD (getD t 0 []) 0 0 + oneIf (eqb (r * 3 + k) 0) → x ≡ getD (getD t 0 []) 1 0 + oneIf (eqb (r * 3 + k) 1)
+      → y ≡ getD (getD t 0 []) 2 0 + oneIf (eqb (r * 3 + k) 2) → z ≡ getD (getD t 1 []) 0 0 + oneIf (eqb (r * 3 + k) 3)
+      → p ≡ getD (getD t 1 []) 1 0 + oneIf (eqb (r * 3 + k) 4) → q ≡ getD (getD t 1 []) 2 0 + oneIf (eqb (r * 3 + k) 5)
+      → (u ∷ x ∷ y ∷ []) ∷ (z ∷ p ∷ q ∷ []) ∷ [] ≡ added t r k
+  added-is r k h l u x y z p q eu ex ey ez ep eq =
+      rw (eu, ex, ey, ez, ep, eq, v .is)
+      (each-place (v .safe-holds) (v .safe-fails) (v .safe-none) (v .lost-holds) (v .lost-fails) (v .lost-none) r k h l)
 
 -- tests that agree on the states counted
 module _ (g : ℕ → Bool) (n : ℕ) (f f′ : ℕ → Bool) (fails : Agree n f f′) where

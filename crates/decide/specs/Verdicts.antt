@@ -2,12 +2,13 @@
 -- practice fails from those that the practice's own propagation gives a number.
 use mathlib.Core.Path.{_≡_}
 use mathlib.Core.Bool.{Bool, not, cond, _&&_}
-use mathlib.Core.List.{List, []}
+use mathlib.Core.List.{List, [], _∷_}
 use mathlib.Core.Option.{Option, none}
-use Prim.Native.Nat.{ℕ, _+_}
+use Prim.Native.Nat.{ℕ, _+_, _<_}
 use lib.ListN.{getD, set}
 use Rattle.laws.specs.Entry.{entry, highest}
 use Rattle.laws.specs.Filled.{Filled}
+use Rattle.model.specs.File.{maxStates}
 use Rattle.model.specs.Plan.{Plan, hasPractice}
 use Rattle.model.specs.Command.{choice}
 use Rattle.model.specs.Practice.{practiceHits, markOf, tallyOf}
@@ -36,6 +37,18 @@ columnOf given fails = cond given (oneIf fails) 2
 -- one more at a place of the tally
 abbrev pub added : List (List ℕ) → ℕ → ℕ → List (List ℕ)
 added t r c = set t r (set (getD t r []) c (getD (getD t r []) c 0 + 1))
+
+-- two rows of three counts, each below the most states that a plan may have
+pub record Counts (t : List (List ℕ)) : Type 0 where
+  pub safe-holds : ℕ
+  pub safe-fails : ℕ
+  pub safe-none : ℕ
+  pub lost-holds : ℕ
+  pub lost-fails : ℕ
+  pub lost-none : ℕ
+  pub is : t ≡ (safe-holds ∷ safe-fails ∷ safe-none ∷ []) ∷ (lost-holds ∷ lost-fails ∷ lost-none ∷ []) ∷ []
+  pub low-safe : (safe-holds < maxStates) × (safe-fails < maxStates) × (safe-none < maxStates)
+  pub low-lost : (lost-holds < maxStates) × (lost-fails < maxStates) × (lost-none < maxStates)
 
 -- the state s is judged
 pub record StateJudged (P : Plan) (L : ℕ → Bool) (fails : Bool) (s : ℕ) (commands marks : List ℕ) (r : Place) (commands′ marks′ : List ℕ) :

@@ -1,10 +1,10 @@
 // The last pass over the states: commands, practice marks and the tally.
 ghost use mathlib.Core.Path.{_≡_};
 ghost use mathlib.Core.Bool.{true, not, _&&_};
-ghost use mathlib.Core.List.{List, []};
+ghost use mathlib.Core.List.{List};
 ghost use Prim.Native.Nat.{ℕ, _+_, _<_, _≤_};
 ghost use lib.Dec.{eqb};
-ghost use lib.ListN.{length, getD};
+ghost use lib.ListN.{length};
 ghost use Rattle.laws.specs.Entry.{entry};
 ghost use Rattle.model.specs.File.{maxStates};
 ghost use Rattle.model.specs.SoundTest.{sound};
@@ -17,7 +17,7 @@ ghost use Rattle.tables.specs.Spans.{spanAt, commandsOf};
 ghost use Rattle.tables.specs.Seen.{Seen};
 ghost use Rattle.tables.specs.Ready.{Ready};
 ghost use Rattle.nets.specs.Nets.{practised};
-ghost use Rattle.decide.specs.Verdicts.{numbered, unlessLost, oneIf, columnOf, added, StateJudged, StatesJudged};
+ghost use Rattle.decide.specs.Verdicts.{numbered, unlessLost, oneIf, columnOf, added, Counts, StateJudged, StatesJudged};
 use choice::choosing::choose;
 use nets::propagations::has_practice;
 use tables::Row;
@@ -57,7 +57,8 @@ fn command_of(
     ensures { λ r. ⌜
         ((R : List Row) (s : ℕ) →
         let T = held size R (now (firsts .entry)) (now (outcomes .entry)) in
-        sound T ≡ true → s < size .n → span ≡ spanAt T s → r ≡ entry (unlessLost lost (choice (planIn T) (numbered (now (ranks .entry))) s)))
+        sound T ≡ true → s < size .n → span ≡ spanAt T s
+        → r ≡ entry (unlessLost lost (choice (planIn T) (numbered (now (ranks .entry))) s)))
         ⌝ }
 {
     if lost {
@@ -143,14 +144,35 @@ fn judge(
     }
 }
 
-// One more at a place of the tally.
+// A count, with one more where the state belongs to it.
+fn more_if(count: u16, here: bool) -> u16
+    requires { ⌜ count < maxStates ⌝ }
+    ensures { λ r. ⌜ r ≡ count + oneIf here ⌝ }
+{
+    if here {
+        return count + 1;
+    }
+    count
+}
+
+// One more at a place of the tally. Each count is made anew at a place of its own: a store at a place that is known only when the code runs
+// would have every turn wait for the copy of the one before.
 fn add(t: [[u16; 3]; 2], r: usize, c: usize) -> [[u16; 3]; 2]
-    requires { ⌜ (r < 2) × (c < 3) × (getD (getD t r []) c 0 < maxStates) ⌝ }
+    requires { ⌜ (r < 2) × (c < 3) × Counts t ⌝ }
     ensures { λ x. ⌜ x ≡ added t r c ⌝ }
 {
-    let mut u = t;
-    u[r][c] = u[r][c] + 1;
-    u
+    let k = r * 3 + c;
+    let safe = [
+        more_if(t[0][0], k == 0),
+        more_if(t[0][1], k == 1),
+        more_if(t[0][2], k == 2),
+    ];
+    let lost = [
+        more_if(t[1][0], k == 3),
+        more_if(t[1][1], k == 4),
+        more_if(t[1][2], k == 5),
+    ];
+    [safe, lost]
 }
 
 // Judges every state, and answers the tally.

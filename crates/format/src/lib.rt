@@ -46,8 +46,8 @@ pub fn read_write(
         ⌝ }
     ensures again { λ r. ⌜ ((z : ModelSize)
         → readCall (now (file .entry)) (rowsOf (now (rows .entry))) (now (firsts .entry)) (now (outcomes .entry)) .answers ≡ given z
-        → length (now (file .entry)) ≤ length (now (bytes .entry))
-        → (writeAnswer r ≡ given (length (now (file .entry)))) × (now (bytes .exit) ≡ overwrite (now (file .entry)) (now (bytes .entry)))) ⌝ }
+        → length (now (file .entry)) ≤ length (now (bytes .entry)) → (writeAnswer r ≡ given (length (now (file .entry))))
+        × (now (bytes .exit) ≡ overwrite (now (file .entry)) (now (bytes .entry)))) ⌝ }
 {
     let r = reading::read(file, rows, firsts, outcomes);
     match r {

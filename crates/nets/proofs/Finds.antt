@@ -28,11 +28,12 @@ module _ (size : Size) (rows : List Row) (firsts outcomes : List ℕ) (sounds : 
       let T = held size rows firsts outcomes in
       let long : size .n ≤ length m = omega (arith, v .placed .same) in
       let again : Filled (size .n) (λ s. getD r s 0) m (copied (size .n) r m) = filled-of long refl in
-      let sown : (s : ℕ) → s < size .n → getD (copied (size .n) r m) s 0 ≡ seedOf (spanAt T s) = λ s l. again .low s l ∙ v .seeded .low s l in
+      let sown : (s : ℕ) → s < size .n → getD (copied (size .n) r m) s 0 ≡ seedOf (spanAt T s) =
+      λ s l. again .low s l ∙ v .seeded .low s l in
       let wide : size .n ≤ length (copied (size .n) r m) = omega (arith, again .same) in
       record {
-        ranked = filled-over (v .seeded) (ranks-found size rows firsts outcomes sounds r (omega (arith, v .seeded .same)) (v .seeded .low) w t
-            a (v .begins .low) (v .stops .low));
+        ranked = filled-over (v .seeded)
+            (ranks-found size rows firsts outcomes sounds r (omega (arith, v .seeded .same)) (v .seeded .low) w t a (v .begins .low) (v .stops .low));
         failed = fails-found size rows firsts outcomes sounds (copied (size .n) r m) wide sown (p .froms) t′ (p .failed)
             (λ s l. p .begins s l ∙ v .placed .low s l) (λ s l. p .stops .low s l ∙ rw (v .placed .low s l, v .stops .low s l));
         fails-past = filled-over (v .placed)

@@ -56,8 +56,8 @@ module _ (q : Span) where
 pub initialized-start : {T : Tables} {r w e p : List ℕ} → Initialized T 0 r w e p r w e p
 initialized-start = record { seeded = filled-none; begins = filled-none; stops = filled-none; placed = filled-none }
 
-pub initialized-next : {T : Tables} {i : ℕ} {r₀ w₀ e₀ p₀ r w e p : List ℕ} → Initialized T i r₀ w₀ e₀ p₀ r w e p → (q : Span) → q ≡ spanAt T i
-    → i < length r₀ → i < length w₀ → i < length e₀ → i < length p₀ → (r′ w′ e′ p′ : List ℕ)
+pub initialized-next : {T : Tables} {i : ℕ} {r₀ w₀ e₀ p₀ r w e p : List ℕ} → Initialized T i r₀ w₀ e₀ p₀ r w e p
+    → (q : Span) → q ≡ spanAt T i → i < length r₀ → i < length w₀ → i < length e₀ → i < length p₀ → (r′ w′ e′ p′ : List ℕ)
     → StateInitialized q i r w e p r′ w′ e′ p′
     → Initialized T (i + 1) r₀ w₀ e₀ p₀ r′ w′ e′ p′
 initialized-next v q is lr lw le lp r′ w′ e′ p′ u = record {

@@ -13,7 +13,7 @@ use borrow.Author.Tests.{lt-ltb, le-ltb, eq-eqb, ne-eqb}
 use Rattle.laws.specs.Entry.{FFFF, entry}
 use Rattle.laws.specs.Sets.{grow}
 use Rattle.laws.proofs.Defaults.{getD-inside}
-use Rattle.laws.proofs.Fills.{filled-none, filled-next, filled-done, filled-as, filled-is, filled-of}
+use Rattle.laws.proofs.Fills.{filled-none, filled-next, filled-as, filled-is, filled-of}
 use Rattle.laws.proofs.Sets.{lowest-some, lowest-eq}
 use Rattle.laws.proofs.Tests.{clash}
 use Rattle.model.specs.Tables.{Lists}
@@ -112,7 +112,8 @@ module _ (N : Net) {r r′ : List ℕ} (sown : Seeded (N .states) r) (long : N .
 
       zero-there : getD r s 0 ≡ 0 → seedAgain (entry (depth N (seeds r) s)) ≡ getD r s 0
       zero-there z =
-          ap (λ (o : Option ℕ). seedAgain (entry o)) (depth-seed N (seeds r) s (seed-is ∙ eq-eqb (getD r s 0) 0 z)) ∙ sym (again-seed 0 refl) ∙ sym z
+          ap (λ (o : Option ℕ). seedAgain (entry o)) (depth-seed N (seeds r) s (seed-is ∙ eq-eqb (getD r s 0) 0 z))
+          ∙ sym (again-seed 0 refl) ∙ sym z
 
       none-there : getD r s 0 ≡ FFFF → seedAgain (entry (depth N (seeds r) s)) ≡ getD r s 0
       none-there z = sym (depth-later N (seeds r) s (seed-is ∙ ne-eqb (getD r s 0) 0 (λ (q : getD r s 0 ≡ 0). omega arith))) ∙ sym z

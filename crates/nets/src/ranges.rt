@@ -69,10 +69,10 @@ fn one_end(from: usize, to: usize) -> usize
 fn seed_again(rank: usize) -> usize
     ensures { λ r. ⌜ r ≡ seedAgain rank ⌝ }
 {
-    if rank == 0 {
-        return 0;
+    if rank != 0 {
+        return NONE;
     }
-    NONE
+    0
 }
 
 // Of the commands that count at state s, keeps the practice alone.

@@ -11,7 +11,7 @@ use lib.ListN.{length, getD, set}
 use lib.Seq.{getD-set-same, getD-set-other}
 use Rattle.laws.specs.Entry.{FFFF}
 use Rattle.laws.proofs.Sets.{many-bound, many-lt}
-use Rattle.propagate.specs.Work.{work, rankCount, QueueBound}
+use Rattle.propagate.specs.Progress.{progress, rankCount, QueueBound}
 
 pub count-le : (n : ℕ) (r : List ℕ) → rankCount n r ≤ n
 unfolding rankCount
@@ -24,7 +24,7 @@ pub no-rank : (x : ℕ) → x ≡ FFFF → not (eqb x FFFF) ≡ false
 no-rank x h = rw (eq-eqb x FFFF h)
 
 -- while some state has no rank there is room in the queue
-pub queue-room : (n : ℕ) (r w q : List ℕ) (end : ℕ) → QueueBound n (work r w q end) → (s y : ℕ) → s < n → y ≡ getD r s 0 → y ≡ FFFF
+pub queue-room : (n : ℕ) (r w q : List ℕ) (end : ℕ) → QueueBound n (progress r w q end) → (s y : ℕ) → s < n → y ≡ getD r s 0 → y ≡ FFFF
     → end < n
 unfolding rankCount
 queue-room n r w q end v s y h p e =
@@ -49,11 +49,11 @@ module _ (n : ℕ) (r : List ℕ) (s x : ℕ) (h : s < n) (long : n ≤ length r
       keep i t (yes y) = rw y here
       keep i t (no y) = ap (λ (z : ℕ). not (eqb z FFFF)) (getD-set-other r s i x 0 y) ∙ t
 
-  module _ (w q : List ℕ) (end : ℕ) (v : QueueBound n (work r w q end)) (qlong : n ≤ length q) where
+  module _ (w q : List ℕ) (end : ℕ) (v : QueueBound n (progress r w q end)) (qlong : n ≤ length q) where
     room : end < n
     room = queue-room n r w q end v s (getD r s 0) h refl e
 
-    pub bound-next : (w′ : List ℕ) → QueueBound n (work (set r s x) w′ (set q end s) (end + 1))
+    pub bound-next : (w′ : List ℕ) → QueueBound n (progress (set r s x) w′ (set q end s) (end + 1))
     bound-next w′ = record { few = omega (arith, v .few, count-more); states = λ i g. go i g (decLt i end) }
       where
         go : (i : ℕ) → i < end + 1 → Dec (i < end) → getD (set q end s) i 0 < n

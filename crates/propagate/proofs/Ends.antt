@@ -19,14 +19,14 @@ use Rattle.laws.proofs.Overwrites.{overwrite-is}
 use Rattle.model.specs.Tables.{Lists}
 use Rattle.tables.specs.Ready.{Ready}
 use Rattle.propagate.specs.Net.{Net, netOf, losing, netLayer, depth, seeds, Ranges, Owns}
-use Rattle.propagate.specs.Work.{Work, work, QueueBound, AtLayer, Layered}
+use Rattle.propagate.specs.Progress.{Progress, progress, QueueBound, AtLayer, Layered}
 use Rattle.propagate.proofs.Hits.{lose-mono}
 use Rattle.propagate.proofs.Counting.{count-le}
 use Rattle.propagate.proofs.LayerSteps.{none-waits, lost-waits}
 
 -- when no state waits, the ranks are the depths
 module _ (N : Net) (R : Ready (N .states) (N .commands)) (ends : Ranges (N .states) (N .commands .count) (N .tos)) (K : ℕ → Bool) (k lo : ℕ)
-    (small : k ≤ N .states) (X : Work)
+    (small : k ≤ N .states) (X : Progress)
     (u : AtLayer N K k lo X) (over : X .end ≤ lo) where
   abbrev n : ℕ
   n = N .states
@@ -69,15 +69,16 @@ module _ (N : Net) (R : Ready (N .states) (N .commands)) (ends : Ranges (N .stat
 pub record Going (n : ℕ) (C : Lists) (tos r₀ w₀ q₀ : List ℕ) (r w q : List ℕ) (lo hi k : ℕ) : Type 0 where
   pub order : lo ≤ hi
   pub layers : k ≤ lo
-  pub bound : QueueBound (n) (work r w q hi)
+  pub bound : QueueBound (n) (progress r w q hi)
   pub rest : (i : ℕ) → n ≤ i → getD r i 0 ≡ getD r₀ i 0
-  pub at-layer : AtLayer (netOf n C w₀ tos) (seeds r₀) k lo (work r w q hi)
+  pub at-layer : AtLayer (netOf n C w₀ tos) (seeds r₀) k lo (progress r w q hi)
   pub long : length r ≡ length r₀
   pub wlong : length w ≡ length w₀
   pub qlong : length q ≡ length q₀
 
 module _ {n : ℕ} (C : Lists) (tos r₀ w₀ : List ℕ) where
-  pub going-start : (q₀ q : List ℕ) (e : ℕ) → QueueBound (n) (work r₀ w₀ q e) → AtLayer (netOf n C w₀ tos) (seeds r₀) 0 0 (work r₀ w₀ q e)
+  pub going-start : (q₀ q : List ℕ) (e : ℕ) → QueueBound (n) (progress r₀ w₀ q e)
+      → AtLayer (netOf n C w₀ tos) (seeds r₀) 0 0 (progress r₀ w₀ q e)
       → length q ≡ length q₀
       → Going n C tos r₀ w₀ q₀ r₀ w₀ q 0 e 0
   going-start q₀ q e bound u l = record {
@@ -96,7 +97,7 @@ module _ {n : ℕ} (C : Lists) (tos r₀ w₀ : List ℕ) where
     going-few = omega (arith, v .bound .few, count-le (n) r)
 
     pub going-next : (owner : List ℕ) → Owns (netOf n C w₀ tos) owner → lo < hi → (r′ w′ q′ : List ℕ) (e : ℕ)
-        → Layered n C tos owner k lo (work r w q hi) (work r′ w′ q′ e)
+        → Layered n C tos owner k lo (progress r w q hi) (progress r′ w′ q′ e)
         → length r′ ≡ length r → length w′ ≡ length w → length q′ ≡ length q → Going n C tos r₀ w₀ q₀ r′ w′ q′ hi e (k + 1)
     going-next owner own h r′ w′ q′ e L lr lw lq = record {
       order = L .more;
@@ -113,5 +114,6 @@ module _ {n : ℕ} (C : Lists) (tos r₀ w₀ : List ℕ) where
         → r ≡ overwrite (tabulate (λ (s : ℕ). entry (depth (netOf n C w₀ tos) (seeds r₀) s)) 0 (n)) r₀
     going-done R ends long h =
         overwrite-is (λ (s : ℕ). entry (depth (netOf n C w₀ tos) (seeds r₀) s)) (n) r₀ long r (v .long)
-        (depth-is (netOf n C w₀ tos) R ends (seeds r₀) k lo (omega (arith, v .layers, v .order, going-few)) (work r w q hi) (v .at-layer) h)
+        (depth-is (netOf n C w₀ tos) R ends (seeds r₀) k lo (omega (arith, v .layers, v .order, going-few)) (progress r w q hi)
+        (v .at-layer) h)
         (v .rest)

@@ -22,7 +22,7 @@ use Rattle.tables.specs.Ready.{Ready}
 use Rattle.index.proofs.Groups.{entry-in}
 use Rattle.choice.specs.Within.{commandHits}
 use Rattle.propagate.specs.Net.{Net, netOf, losing, netLayer, Ranges, Indexed, Owns}
-use Rattle.propagate.specs.Work.{Work, QueueBound, TowardsLayer, Moved, Among, waiting, AtLayer, Layered}
+use Rattle.propagate.specs.Progress.{Progress, QueueBound, TowardsLayer, Moved, Among, waiting, AtLayer, Layered}
 use Rattle.propagate.proofs.Hits.{hit-some, hit-of, hit-more, lose-some, lose-at, to-in}
 use Rattle.propagate.proofs.Counting.{count-le}
 
@@ -48,7 +48,7 @@ none-waits C q lo hi c h t =
     omega arith
 
 -- a state that layers 0 to k lose has a rank, or a command that it watches waits
-pub lost-waits : (N : Net) (K G : ℕ → Bool) (k hi : ℕ) (X : Work) → TowardsLayer N K k hi G X → (s : ℕ) → s < N .states
+pub lost-waits : (N : Net) (K G : ℕ → Bool) (k hi : ℕ) (X : Progress) → TowardsLayer N K k hi G X → (s : ℕ) → s < N .states
     → losing N (netLayer N K k) s ≡ true
     → getD (X .ranks) s 0 ≡ FFFF → G (getD (X .watch) s 0) ≡ true
 lost-waits N K G k hi X v s h t e =
@@ -57,7 +57,7 @@ lost-waits N K G k hi X v s h t e =
     y .pending l (lose-at N (netLayer N K k) s t (getD (X .watch) s 0) (y .since) l)
 
 -- the walk at place h
-pub record LayerStep (n : ℕ) (C : Lists) (tos owner : List ℕ) (k lo : ℕ) (X : Work) (h : ℕ) (Y : Work) : Type 0 where
+pub record LayerStep (n : ℕ) (C : Lists) (tos owner : List ℕ) (k lo : ℕ) (X : Progress) (h : ℕ) (Y : Progress) : Type 0 where
   pub order : h ≤ X .end
   pub more : X .end ≤ Y .end
   pub bound : QueueBound (n) Y
@@ -66,7 +66,7 @@ pub record LayerStep (n : ℕ) (C : Lists) (tos owner : List ℕ) (k lo : ℕ) (
   pub towards : (froms : List ℕ) (K : ℕ → Bool) → Owns (netOf n C froms tos) owner → AtLayer (netOf n C froms tos) K k lo X
       → TowardsLayer (netOf n C froms tos) K k (X .end) (commandHits C (waiting (X .queue) h (X .end))) Y
 
-module _ {n : ℕ} (C : Lists) (tos owner : List ℕ) (k lo : ℕ) (X : Work) where
+module _ {n : ℕ} (C : Lists) (tos owner : List ℕ) (k lo : ℕ) (X : Progress) where
   pub layer-start : lo ≤ X .end → QueueBound (n) X → LayerStep n C tos owner k lo X lo X
   layer-start h bound = record {
     order = h;
@@ -77,7 +77,7 @@ module _ {n : ℕ} (C : Lists) (tos owner : List ℕ) (k lo : ℕ) (X : Work) wh
     towards = λ froms K own u. u .towards;
   }
 
-  module _ (h : ℕ) (Y : Work) (v : LayerStep n C tos owner k lo X h Y) where
+  module _ (h : ℕ) (Y : Progress) (v : LayerStep n C tos owner k lo X h Y) where
     pub layer-at : (len : ℕ) → n ≤ len → h < X .end → h < len
     layer-at len l g = omega (arith, v .more, v .bound .few, count-le (n) (Y .ranks))
 
@@ -85,7 +85,7 @@ module _ {n : ℕ} (C : Lists) (tos owner : List ℕ) (k lo : ℕ) (X : Work) wh
     layer-state g o e = omega (arith, e, v .bound .states h (omega (arith, v .more)))
 
     pub layer-next : (offsets users : List ℕ) → Indexed n C offsets users owner → h < X .end → (o : ℕ) → o ≡ getD (Y .queue) h 0
-        → (Z : Work)
+        → (Z : Progress)
         → Moved n C tos owner k (Among users (startOf offsets (n) (C .end) o) (startOf offsets (n) (C .end) (o + 1))) Y Z
         → LayerStep n C tos owner k lo X (h + 1) Z
     layer-next offsets users I g o e Z M = record {

@@ -14,13 +14,13 @@ use Rattle.laws.proofs.Tests.{or-cases, or-left, or-right}
 use Rattle.laws.proofs.Starts.{start-next}
 use Rattle.model.specs.Tables.{Lists}
 use Rattle.propagate.specs.Net.{netOf, netLayer, Ranges, Indexed}
-use Rattle.propagate.specs.Work.{Work, QueueBound, Moved, Among}
+use Rattle.propagate.specs.Progress.{Progress, QueueBound, Moved, Among}
 use Rattle.propagate.proofs.Hits.{to-in}
 use Rattle.propagate.proofs.Visits.{watch-more}
 
 module _ {n : ℕ} (C : Lists) (tos owner : List ℕ) (k : ℕ) where
   -- nothing is looked at yet
-  pub moved-none : Ranges n (C .count) tos → (D : ℕ → Type 0) (X : Work) → QueueBound (n) X → ((c : ℕ) → D c → ⊥)
+  pub moved-none : Ranges n (C .count) tos → (D : ℕ → Type 0) (X : Progress) → QueueBound (n) X → ((c : ℕ) → D c → ⊥)
       → Moved n C tos owner k D X X
   moved-none ends D X bound none = record {
     towards = λ froms K G G′ hi low own left v.
@@ -40,7 +40,8 @@ module _ {n : ℕ} (C : Lists) (tos owner : List ℕ) (k : ℕ) where
   }
 
   -- one command more
-  pub moved-next : (D E : ℕ → Type 0) (X Y Z : Work) (c : ℕ) → Moved n C tos owner k D X Y → Moved n C tos owner k (λ (d : ℕ). d ≡ c) Y Z
+  pub moved-next : (D E : ℕ → Type 0) (X Y Z : Progress) (c : ℕ) → Moved n C tos owner k D X Y
+      → Moved n C tos owner k (λ (d : ℕ). d ≡ c) Y Z
       → ((d : ℕ) → E d → D d ⊎ (d ≡ c)) → Moved n C tos owner k E X Z
   moved-next D E X Y Z c M P sub = record {
     towards = λ froms K G G′ hi low own left v.
@@ -62,11 +63,11 @@ module _ {n : ℕ} (C : Lists) (tos owner : List ℕ) (k : ℕ) where
       keep G G′ left d l t n (no e) = or-left (G′ d) (eqb d c) (left d l t (λ x. ⊎-elim n e (sub d x)))
 
 -- The walk over the users from place a on, at place p.
-module _ {n : ℕ} (C : Lists) (tos owner : List ℕ) (k : ℕ) (users : List ℕ) (a : ℕ) (X : Work) where
+module _ {n : ℕ} (C : Lists) (tos owner : List ℕ) (k : ℕ) (users : List ℕ) (a : ℕ) (X : Progress) where
   pub spread-start : Ranges n (C .count) tos → QueueBound (n) X → Moved n C tos owner k (Among users a a) X X
   spread-start ends bound = moved-none C tos owner k ends (Among users a a) X bound (λ c t. omega (arith, t .since, t .below))
 
-  pub spread-next : (p : ℕ) (Y Z : Work) (c : ℕ) → c ≡ getD users p 0 → Moved n C tos owner k (Among users a p) X Y
+  pub spread-next : (p : ℕ) (Y Z : Progress) (c : ℕ) → c ≡ getD users p 0 → Moved n C tos owner k (Among users a p) X Y
       → Moved n C tos owner k (λ (d : ℕ). d ≡ c) Y Z → Moved n C tos owner k (Among users a (p + 1)) X Z
   spread-next p Y Z c e M P =
       moved-next C tos owner k (Among users a p) (Among users a (p + 1)) X Y Z c M P (λ d t. go d t (decLt (t .place) p))
@@ -75,7 +76,7 @@ module _ {n : ℕ} (C : Lists) (tos owner : List ℕ) (k : ℕ) (users : List �
       go d t (yes h) = inl (record { place = t .place; since = t .since; below = h; stands = t .stands })
       go d t (no h) = let z : t .place ≡ p = omega (arith, t .below) in inr (sym (t .stands) ∙ rw z (sym e))
 
-  pub spread-done : (p z : ℕ) (Y : Work) → Moved n C tos owner k (Among users a p) X Y → p ≤ z → z ≤ p → (b e : ℕ) → a ≡ b → z ≡ e
+  pub spread-done : (p z : ℕ) (Y : Progress) → Moved n C tos owner k (Among users a p) X Y → p ≤ z → z ≤ p → (b e : ℕ) → a ≡ b → z ≡ e
       → Moved n C tos owner k (Among users b e) X Y
   spread-done p z Y M g h b e q f = let y : p ≡ e = omega arith in rw (← q, ← y) M
 

@@ -20,7 +20,7 @@ use Rattle.tables.specs.Ready.{Ready}
 use Rattle.index.proofs.Groups.{entry-in}
 use Rattle.choice.specs.Within.{commandHits}
 use Rattle.propagate.specs.Net.{Net, netOf, from, netLayer, seeds, Seeded, Ranges}
-use Rattle.propagate.specs.Work.{work, rankCount, QueueBound, waiting, AtLayer, SeedsQueued}
+use Rattle.propagate.specs.Progress.{progress, rankCount, QueueBound, waiting, AtLayer, SeedsQueued}
 use Rattle.propagate.proofs.Hits.{hit-some, hit-of, to-in}
 use Rattle.propagate.proofs.Counting.{has-rank, count-le}
 use Rattle.propagate.proofs.LayerSteps.{wait-of}
@@ -75,7 +75,7 @@ module _ {n : ℕ} (C : Lists) (R : Ready n C) (tos : List ℕ) (ends : Ranges n
   abbrev N : Net
   N = netOf n C w tos
 
-  pub start-bound : QueueBound (n) (work r w q e)
+  pub start-bound : QueueBound (n) (progress r w q e)
   start-bound = record { few = v .few; states = v .states }
 
   low : (s : ℕ) → s < n → (getD r s 0 ≡ FFFF → ⊥) → getD r s 0 ≤ 0
@@ -111,7 +111,7 @@ module _ {n : ℕ} (C : Lists) (R : Ready n C) (tos : List ℕ) (ends : Ranges n
   unfolding from
   first s = refl
 
-  pub start-at-layer : AtLayer N (seeds r) 0 0 (work r w q e)
+  pub start-at-layer : AtLayer N (seeds r) 0 0 (progress r w q e)
   start-at-layer = record {
     low = low;
     towards = record {

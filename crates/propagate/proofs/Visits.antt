@@ -16,7 +16,7 @@ use Rattle.model.specs.Tables.{Lists}
 use Rattle.tables.specs.Ready.{Ready}
 use Rattle.choice.specs.Within.{within, commandHits}
 use Rattle.propagate.specs.Net.{Net, netOf, from, to, losing, netLayer, Ranges, Owns}
-use Rattle.propagate.specs.Work.{Work, work, QueueBound, Watch, TowardsLayer, Moved}
+use Rattle.propagate.specs.Progress.{Progress, progress, QueueBound, Watch, TowardsLayer, Moved}
 use Rattle.propagate.proofs.Hits.{hit-same, lose-of, to-in}
 use Rattle.propagate.proofs.Counting.{queue-room, bound-next}
 
@@ -37,14 +37,14 @@ range-in tos R s f h p = omega (arith, p, R .inside s h)
 -- The tables before the look, of the command c, whose owner is s.
 module _ {n : ℕ} (C : Lists) (R : Ready n C) (tos owner : List ℕ) (ends : Ranges n (C .count) tos) (k : ℕ) (small : k < 1024)
     (r w q : List ℕ) (end : ℕ)
-    (bound : QueueBound (n) (work r w q end)) (c s : ℕ) (p : s ≡ getD owner c 0) (inside : getD owner c 0 < n) where
+    (bound : QueueBound (n) (progress r w q end)) (c s : ℕ) (p : s ≡ getD owner c 0) (inside : getD owner c 0 < n) where
   h : s < n
   h = omega (arith, p)
 
-  abbrev X : Work
-  X = work r w q end
+  abbrev X : Progress
+  X = progress r w q end
 
-  abbrev Look : Work → Type 0
+  abbrev Look : Progress → Type 0
   Look = Moved n C tos owner k (λ (d : ℕ). d ≡ c) X
 
   module _ (froms : List ℕ) (K G G′ : ℕ → Bool) (hi : ℕ) (own : Owns (netOf n C froms tos) owner)
@@ -99,7 +99,7 @@ module _ {n : ℕ} (C : Lists) (R : Ready n C) (tos owner : List ℕ) (ends : Ra
       others u g a n =
           subst (λ (d : ℕ). Watch N (netLayer N K k) G′ u d) (sym (getD-set-other w s u x 0 n)) (goes-on u g a (λ b t. n (mine u g a b t)))
 
-      moves : x < getD tos s 0 → TowardsLayer N K k hi G′ (work r (set w s x) q end)
+      moves : x < getD tos s 0 → TowardsLayer N K k hi G′ (progress r (set w s x) q end)
       moves b = record {
         ranked = v .ranked;
         fresh = v .fresh;
@@ -126,7 +126,7 @@ module _ {n : ℕ} (C : Lists) (R : Ready n C) (tos owner : List ℕ) (ends : Ra
 
       -- it has none left, so it has rank k + 1 and waits in the queue
       ends-up : getD tos s 0 ≤ x → n ≤ length r → n ≤ length q → hi ≤ end
-          → TowardsLayer N K k hi G′ (work (set r s (k + 1)) (set w s x) (set q end s) (end + 1))
+          → TowardsLayer N K k hi G′ (progress (set r s (k + 1)) (set w s x) (set q end s) (end + 1))
       ends-up b rlong qlong low = record {
         ranked = λ j u a g. leq j u a g (ℕ-discrete u s);
         fresh = λ u g a n. new u g a n (ℕ-discrete u s);
@@ -196,7 +196,7 @@ module _ {n : ℕ} (C : Lists) (R : Ready n C) (tos owner : List ℕ) (ends : Ra
           B : FirstNot (commandHits C (within r k)) c (getD tos s 0) x
           B = rw d at A
 
-          pub look-moved : x < f → (w′ : List ℕ) → w′ ≡ set w s x → Look (work r w′ q end)
+          pub look-moved : x < f → (w′ : List ℕ) → w′ ≡ set w s x → Look (progress r w′ q end)
           look-moved g w′ m = rw m (record {
             towards = λ froms K G G′ hi low own left v. moves froms K G G′ hi own left v wlong e z (omega arith) x B (omega arith);
             bound = record { few = bound .few; states = bound .states };
@@ -206,7 +206,8 @@ module _ {n : ℕ} (C : Lists) (R : Ready n C) (tos owner : List ℕ) (ends : Ra
           })
 
           module _ (g : f ≤ x) (rlong : n ≤ length r) (qlong : n ≤ length q) where
-            pub look-lost : (w′ r′ q′ : List ℕ) → w′ ≡ set w s x → r′ ≡ set r s (k + 1) → q′ ≡ set q end s → Look (work r′ w′ q′ (end + 1))
+            pub look-lost : (w′ r′ q′ : List ℕ) → w′ ≡ set w s x → r′ ≡ set r s (k + 1) → q′ ≡ set q end s
+                → Look (progress r′ w′ q′ (end + 1))
             look-lost w′ r′ q′ a₁ a₂ a₃ = rw (a₁, a₂, a₃) (record {
               towards = λ froms K G G′ hi low own left v. ends-up froms K G G′ hi own left v wlong e z (omega arith) x B (omega arith) rlong
                   qlong low;

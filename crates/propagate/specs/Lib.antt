@@ -1,2 +1,2 @@
 pub mod Net
-pub mod Work
+pub mod Progress

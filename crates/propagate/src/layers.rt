@@ -1,6 +1,6 @@
 // The propagation. Only the planner's own crates call this. Each state watches one command, the first of those that count that has no
-// outcome of a rank of at most k: a look
-// at a command that is not watched costs nothing, and each command is scanned when its state comes to watch it and when it is hit.
+// outcome of a rank of at most k: a look at a command that is not watched costs nothing, and each command is scanned when its state comes
+// to watch it and when it is hit.
 ghost use mathlib.Core.Path.{_≡_};
 ghost use Prim.Native.Nat.{ℕ, _+_, _≤_, _<_};
 ghost use lib.ListN.{length, getD};
@@ -11,7 +11,7 @@ ghost use Rattle.model.specs.File.{maxStates};
 ghost use Rattle.tables.specs.Spans.{commandsOf};
 ghost use Rattle.tables.specs.Ready.{Ready};
 ghost use Rattle.propagate.specs.Net.{netOf, depth, seeds, Seeded, Ranges, Indexed, Owns};
-ghost use Rattle.propagate.specs.Work.{work, QueueBound, Moved, Among, Layered, SeedsQueued};
+ghost use Rattle.propagate.specs.Progress.{progress, QueueBound, Moved, Among, Layered, SeedsQueued};
 use choice::choosing::first_clear;
 use tables::Size;
 use tables::entries::NONE;
@@ -39,10 +39,10 @@ fn visit(
     requires { ⌜ (c < length (now owner))
         × ((getD (now owner) c 0 < size .n)
         × ((size .n ≤ length (now ranks)) × ((size .n ≤ length (now watch)) × ((size .n ≤ length (now queue)) × (k < maxStates))))) ⌝ }
-    requires { ⌜ QueueBound (size .n) (work (now ranks) (now watch) (now queue) end) ⌝ }
+    requires { ⌜ QueueBound (size .n) (progress (now ranks) (now watch) (now queue) end) ⌝ }
     ensures { λ r. ⌜ Moved (size .n) (commandsOf size (now (firsts .entry)) (now (outcomes .entry))) (now (tos .entry)) (now (owner .entry))
-        k (λ (d : ℕ). d ≡ c) (work (now (ranks .entry)) (now (watch .entry)) (now (queue .entry)) end)
-        (work (now (ranks .exit)) (now (watch .exit)) (now (queue .exit)) r) ⌝ }
+        k (λ (d : ℕ). d ≡ c) (progress (now (ranks .entry)) (now (watch .entry)) (now (queue .entry)) end)
+        (progress (now (ranks .exit)) (now (watch .exit)) (now (queue .exit)) r) ⌝ }
 {
     let s = at(owner, c);
     if at(ranks, s) != NONE {
@@ -87,12 +87,12 @@ fn spread(
     requires { ⌜ Indexed (size .n) (commandsOf size (now firsts) (now outcomes)) (now offsets) (now users) (now owner) ⌝ }
     requires { ⌜ (o < size .n)
         × ((size .n ≤ length (now ranks)) × ((size .n ≤ length (now watch)) × ((size .n ≤ length (now queue)) × (k < maxStates)))) ⌝ }
-    requires { ⌜ QueueBound (size .n) (work (now ranks) (now watch) (now queue) end) ⌝ }
+    requires { ⌜ QueueBound (size .n) (progress (now ranks) (now watch) (now queue) end) ⌝ }
     ensures { λ r. ⌜ Moved (size .n) (commandsOf size (now (firsts .entry)) (now (outcomes .entry))) (now (tos .entry)) (now (owner .entry))
         k (Among (now (users .entry)) (startOf (now (offsets .entry)) (size .n) (size .t) o)
         (startOf (now (offsets .entry)) (size .n) (size .t) (o + 1)))
-        (work (now (ranks .entry)) (now (watch .entry)) (now (queue .entry)) end)
-        (work (now (ranks .exit)) (now (watch .exit)) (now (queue .exit)) r) ⌝ }
+        (progress (now (ranks .entry)) (now (watch .entry)) (now (queue .entry)) end)
+        (progress (now (ranks .exit)) (now (watch .exit)) (now (queue .exit)) r) ⌝ }
 {
     let mut e = end;
     let mut p = start_of(offsets, size.n, size.t, o);
@@ -138,10 +138,10 @@ fn add_layer(
     requires { ⌜ Indexed (size .n) (commandsOf size (now firsts) (now outcomes)) (now offsets) (now users) (now owner) ⌝ }
     requires { ⌜ (lo ≤ hi) × ((size .n ≤ length (now ranks))
         × ((size .n ≤ length (now watch)) × ((size .n ≤ length (now queue)) × (k < maxStates)))) ⌝ }
-    requires { ⌜ QueueBound (size .n) (work (now ranks) (now watch) (now queue) hi) ⌝ }
+    requires { ⌜ QueueBound (size .n) (progress (now ranks) (now watch) (now queue) hi) ⌝ }
     ensures { λ r. ⌜ Layered (size .n) (commandsOf size (now (firsts .entry)) (now (outcomes .entry))) (now (tos .entry))
-        (now (owner .entry)) k lo (work (now (ranks .entry)) (now (watch .entry)) (now (queue .entry)) hi)
-        (work (now (ranks .exit)) (now (watch .exit)) (now (queue .exit)) r) ⌝ }
+        (now (owner .entry)) k lo (progress (now (ranks .entry)) (now (watch .entry)) (now (queue .entry)) hi)
+        (progress (now (ranks .exit)) (now (watch .exit)) (now (queue .exit)) r) ⌝ }
 {
     let mut e = hi;
     let mut h = lo;

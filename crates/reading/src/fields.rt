@@ -63,7 +63,8 @@ pub fn read_state(file: &[u8], k: Mark) -> Passed
 fn check_outcomes(file: &[u8], at: usize, n: usize, count: usize, past: Mark) -> Passed
     requires { ⌜ Within (now file) past × (count * 2 ≤ length (drop at (now file))) ⌝ }
     ensures { λ r. ⌜ Walks (now (file .entry)) r
-        (answer (λ x. (past .m, past .t, bytesFrom (now (file .entry)) past)) (rising n 0 (entries count (drop at (now (file .entry)))))) ⌝ }
+        (answer (λ x. (past .m, past .t, bytesFrom (now (file .entry)) past))
+        (rising n 0 (entries count (drop at (now (file .entry)))))) ⌝ }
 {
     let mut low = 0;
     let mut i = 0;

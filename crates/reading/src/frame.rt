@@ -46,7 +46,8 @@ fn allowed(tag: u8, len: usize) -> bool
 // The field at a mark, with the tag that is due.
 pub fn check_frame(file: &[u8], k: Mark, due: u8) -> Passed
     requires { ⌜ Within (now file) k ⌝ }
-    ensures { λ r. ⌜ Walks (now (file .entry)) r (answer (afterField (now (file .entry)) k) (field due (bytesFrom (now (file .entry)) k))) ⌝ }
+    ensures { λ r. ⌜ Walks (now (file .entry)) r
+        (answer (afterField (now (file .entry)) k) (field due (bytesFrom (now (file .entry)) k))) ⌝ }
 {
     let left = remaining(file, k.at);
     if left < 3 {

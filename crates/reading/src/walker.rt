@@ -30,7 +30,8 @@ fn next<'a>(w: FieldWalker<'a>, due: u8) -> Passed
 // A walker that has come to a mark, asked for the field there: the way to every field.
 pub fn field(file: &[u8], k: Mark, due: u8) -> Passed
     requires { ⌜ Within (now file) k ⌝ }
-    ensures { λ r. ⌜ Walks (now (file .entry)) r (answer (afterField (now (file .entry)) k) (field due (bytesFrom (now (file .entry)) k))) ⌝ }
+    ensures { λ r. ⌜ Walks (now (file .entry)) r
+        (answer (afterField (now (file .entry)) k) (field due (bytesFrom (now (file .entry)) k))) ⌝ }
 {
     next(walker_at(file, k), due)
 }

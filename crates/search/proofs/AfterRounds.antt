@@ -36,7 +36,9 @@ use Rattle.search.specs.Underway.{Underway}
 use Rattle.search.specs.Walked.{Walked}
 use Rattle.search.specs.Settled.{Cut, Settled}
 use Rattle.search.specs.Ends.{endOf}
+use Rattle.search.specs.Tried.{Tried}
 use Rattle.search.proofs.ReadStates.{start-flag-is, start-end-is}
+use Rattle.search.proofs.Trying.{tried-start, tried-more, settled-known}
 use Rattle.search.proofs.WalkSteps.{underway-start}
 use Rattle.search.proofs.WalkEnds.{taken, takes-is}
 use Rattle.search.proofs.Walking.{Clear, past-none, past-then}
@@ -64,15 +66,17 @@ pub record Lost (P : Plan) (a j : ℕ) : Type 0 where
   pub counted : search P a .rounds ≡ j
   pub blank : (x : ℕ) → FFFF ≡ entry (search P a .command x)
 
--- c₀, s₀ and u₀ are the tables when the loop begins
-pub record AfterRounds (P : Plan) (n a : ℕ) (c₀ s₀ u₀ : List ℕ) (end j h q : ℕ) (cs s u : List ℕ) : Type 0 where
+-- c₀, s₀, u₀ and t₀ are the tables when the loop begins
+pub record AfterRounds (P : Plan) (n a : ℕ) (c₀ s₀ u₀ t₀ : List ℕ) (end j h q : ℕ) (cs s u t : List ℕ) : Type 0 where
   pub low : end ≤ 2
   pub due : end ≡ 2 → Due P n a j h q cs s u
   pub safe : end ≡ 0 → Safe P n a j cs
   pub lost : end ≡ 1 → Lost P a j
+  pub tried : Tried P n (knownIn s) t
   pub commands : Past n c₀ cs
   pub flags : Past n s₀ s
   pub same-queue : length u ≡ length u₀
+  pub same-tried : length t ≡ length t₀
 
 -- ---- before the first round
 
@@ -112,35 +116,37 @@ module _ (T : Tables) (sounds : sound T ≡ true) (a : ℕ) (l : a < T .size .n)
     unfolding atOnce entry
     lost-first e = record { verdict = rw e; counted = rw e; blank = λ x. rw e }
 
-    pub rounds-start : (p : Span) → p ≡ spanAt T a → (end : ℕ) → end ≡ startEnd p
-        → AfterRounds (planIn T) (T .size .n) a cs s u end 0 0 q cs s u
+    pub rounds-start : (p : Span) → p ≡ spanAt T a → (end : ℕ) → end ≡ startEnd p → {t : List ℕ} → T .size .n ≤ length t
+        → ((x : ℕ) → x < T .size .n → getD t x 0 ≡ 0) → AfterRounds (planIn T) (T .size .n) a cs s u t end 0 0 q cs s u t
     unfolding search
-    rounds-start p is end e = go (kind-of (planIn T) a (sound-valid T sounds) (rw (states-held T) l))
+    rounds-start p is end e {t} long zeros = go (kind-of (planIn T) a (sound-valid T sounds) (rw (states-held T) l))
       where
         end-is : end ≡ cond (failing (planIn T) a) 1 (cond (active (planIn T) a) 2 0)
         end-is = e ∙ ap startEnd is ∙ start-end-is T a l
 
         begun : end ≤ 2 → (end ≡ 2 → Due (planIn T) (T .size .n) a 0 0 q cs s u) → (end ≡ 0 → Safe (planIn T) (T .size .n) a 0 cs)
             → (end ≡ 1 → Lost (planIn T) a 0)
-            → AfterRounds (planIn T) (T .size .n) a cs s u end 0 0 q cs s u
+            → AfterRounds (planIn T) (T .size .n) a cs s u t end 0 0 q cs s u t
         begun b d v w = record {
           low = b;
           due = d;
           safe = v;
           lost = w;
+          tried = tried-start long zeros;
           commands = past-none;
           flags = past-none;
           same-queue = refl;
+          same-tried = refl;
         }
 
-        go : Kind (planIn T) a → AfterRounds (planIn T) (T .size .n) a cs s u end 0 0 q cs s u
-        go (fails failed t i) =
+        go : Kind (planIn T) a → AfterRounds (planIn T) (T .size .n) a cs s u t end 0 0 q cs s u t
+        go (fails failed r i) =
             let z : end ≡ 1 = end-is ∙ rw failed in
             begun (omega arith) (λ k. absurd (omega arith)) (λ k. absurd (omega arith)) (λ k. lost-first (rw failed))
-        go (rests stands t i) =
+        go (rests stands r i) =
             let z : end ≡ 0 = end-is ∙ rw (stands, i) in
-            begun (omega arith) (λ k. absurd (omega arith)) (λ k. safe-first stands (rw (stands, t))) (λ k. absurd (omega arith))
-        go (acts stands t i) =
+            begun (omega arith) (λ k. absurd (omega arith)) (λ k. safe-first stands (rw (stands, r))) (λ k. absurd (omega arith))
+        go (acts stands r i) =
             let z : end ≡ 2 = end-is ∙ rw (stands, i) in
             begun (omega arith) (λ k. due-first stands i) (λ k. absurd (omega arith)) (λ k. absurd (omega arith))
 
@@ -253,16 +259,19 @@ module _ (T : Tables) (sounds : sound T ≡ true) (few : T .size .n ≤ maxState
     beyond : (y : ℕ) → T .size .n ≤ y → (getD s₂ y 0 ≡ getD s₁ y 0) × (getD cs₂ y 0 ≡ getD cs₁ y 0)
     beyond y k = z .kept y (λ i b m e′. omega (arith, w .done .queued .states i m))
 
-    pub rounds-next : {c₀ s₀ u₀ : List ℕ} {end₀ : ℕ} → AfterRounds P (T .size .n) a c₀ s₀ u₀ end₀ j h q cs s u → Past (T .size .n) cs cs₁
-        → Past (T .size .n) s s₁
-        → length u₁ ≡ length u → AfterRounds P (T .size .n) a c₀ s₀ u₀ end (j + 1) (r .low) q′ cs₂ s₂ u₁
-    rounds-next v pc ps pu = rw (add-one j) (record {
+    pub rounds-next : {c₀ s₀ u₀ t₀ : List ℕ} {end₀ : ℕ} {t t₁ : List ℕ} → AfterRounds P (T .size .n) a c₀ s₀ u₀ t₀ end₀ j h q cs s u t
+        → Past (T .size .n) cs cs₁ → Past (T .size .n) s s₁
+        → length u₁ ≡ length u → Tried P (T .size .n) (knownIn s₁) t₁ → length t₁ ≡ length t
+        → AfterRounds P (T .size .n) a c₀ s₀ u₀ t₀ end (j + 1) (r .low) q′ cs₂ s₂ u₁ t₁
+    rounds-next v pc ps pu y pt = rw (add-one j) (record {
       low = rw end-is (end-low (withoutMarks P a j) (marked P K a a));
       due = due-next;
       safe = safe-next;
       lost = lost-next;
+      tried = tried-more (settled-known (w .done .queued) z) y;
       commands =
           past-then (past-then (v .commands) pc) (record { same = z .same-commands; low = λ x k. refl; high = λ y k. beyond y k .1 });
       flags = past-then (past-then (v .flags) ps) (record { same = z .same-flags; low = λ x k. refl; high = λ y k. beyond y k .0 });
       same-queue = pu ∙ v .same-queue;
+      same-tried = pt ∙ v .same-tried;
     })

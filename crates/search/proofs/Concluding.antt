@@ -21,8 +21,8 @@ module _ {n end j : ℕ} {cs s s′ : List ℕ} (f : Filled n (λ _. 0) s s′) 
       → Finished n end j cs s (record { lost = true; rounds = j }) cs′ s′
   finished-lost h g = record { counted = refl; safe = λ e. absurd (h e); lost = λ _. (refl, g); clean = f }
 
-module _ {P : Plan} {n a : ℕ} {f g : ℕ → ℕ} {c₋ s₋ c₀ s₀ u₀ : List ℕ} (blank : Filled n f c₋ c₀) (known : Filled n g s₋ s₀)
-    {end j h q : ℕ} {cs s u : List ℕ} (w : AfterRounds P n a c₀ s₀ u₀ end j h q cs s u) (over : end ≡ 2 → ⊥)
+module _ {P : Plan} {n a : ℕ} {f g : ℕ → ℕ} {c₋ s₋ c₀ s₀ u₀ t₀ : List ℕ} (blank : Filled n f c₋ c₀) (known : Filled n g s₋ s₀)
+    {end j h q : ℕ} {cs s u t : List ℕ} (w : AfterRounds P n a c₀ s₀ u₀ t₀ end j h q cs s u t) (over : end ≡ 2 → ⊥)
     {r : Found} {c′ s′ : List ℕ} (z : Finished n end j cs s r c′ s′) where
   clean : Filled n (λ _. 0) s₋ s′
   clean = filled-over known (filled-over (w .flags) (z .clean))

@@ -9,7 +9,6 @@ use lib.ListN.{set}
 use lib.Seq.{slice}
 use Rattle.laws.specs.Sets.{any}
 use Rattle.laws.specs.Entry.{FFFF, entry}
-use Rattle.model.specs.Plan.{Plan}
 use Rattle.model.specs.Command.{choice}
 use Rattle.model.specs.Search.{lands}
 use Rattle.model.specs.Tables.{Tables, listsIn}
@@ -20,7 +19,6 @@ use Rattle.model.proofs.Choices.{choice-some}
 use Rattle.model.proofs.HeldPlan.{commands-held, outcomes-held}
 use Rattle.tables.specs.declared.spans.Span.{Span}
 use Rattle.tables.specs.Spans.{spanAt}
-use Rattle.choice.specs.Within.{within}
 use Rattle.choice.proofs.Outcomes.{outcomes-read}
 use Rattle.choice.proofs.Taken.{taken-place, none-taken, some-taken}
 use Rattle.walks.specs.Flags.{knownIn}
@@ -30,18 +28,10 @@ use Rattle.search.specs.Walked.{Expanded}
 use Rattle.walks.proofs.FlagValues.{not-taken}
 use Rattle.walks.proofs.Spreads.{spread-none, spread-as}
 
-known-choice : (P : Plan) (scratch : List ℕ) (s c : ℕ) → c ≡ entry (choice P (within scratch 0) s)
-    → c ≡ entry (choice P (knownIn scratch) s)
-unfolding knownIn
-known-choice P scratch s c e = e
-
 -- c is the entry that choosing answered at s, of which `span` was read
 module _ (T : Tables) (sounds : sound T ≡ true) (s : ℕ) (l : s < T .size .n) (span : Span) (is : span ≡ spanAt T s) (scratch : List ℕ)
     (c : ℕ)
-    (e : c ≡ entry (choice (planIn T) (within scratch 0) s)) where
-  known : c ≡ entry (choice (planIn T) (knownIn scratch) s)
-  known = known-choice (planIn T) scratch s c e
-
+    (known : c ≡ entry (choice (planIn T) (knownIn scratch) s)) where
   -- none is left: the walk does not pass s
   pub expand-none : c ≡ FFFF → {n q : ℕ} (mark : ℕ) {u : List ℕ} (cs cs′ : List ℕ) → cs′ ≡ set cs s c → Queued n q scratch u
       → Expanded (planIn T) n q s mark cs scratch u q cs′ scratch u

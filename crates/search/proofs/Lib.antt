@@ -3,6 +3,7 @@ pub mod SameSets
 pub mod ReadStates
 pub mod MarkTests
 pub mod Expanding
+pub mod Trying
 pub mod WalkSteps
 pub mod WalkEnds
 pub mod Lowering

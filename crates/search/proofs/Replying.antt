@@ -3,7 +3,8 @@ use mathlib.Core.Path.{_≡_, _∙_, ap, subst, sym}
 use mathlib.Core.Bool.{Bool}
 use mathlib.Core.List.{List}
 use Prim.Native.Nat.{ℕ, _<_, _≤_}
-use lib.ListN.{length}
+use native.Mathlib.Omega.{arith}
+use lib.ListN.{length, getD, replicate, getD-replicate}
 use Rattle.laws.specs.Lists.{overwrite}
 use Rattle.laws.proofs.Fills.{filled-is, tabulate-constant}
 use Rattle.model.specs.Search.{Result, search}
@@ -68,11 +69,17 @@ module _ (T : Tables) (a : ℕ) (c s : List ℕ) where
           ∙ ap (λ (r : List ℕ). overwrite r s) (tabulate-constant 0 0 (T .size .n)) in
           replied (Given f) c′ s′ (rw (z, w .verdict, w .counted, cs, ss))
 
+-- the tables that the call makes, before the first round
+abbrev empty : List ℕ
+empty = replicate maxStates 0
+
 -- what the rounds ask for, of an admitted call
-pub admitted-prepared : (size : Size) (rows : List Row) (firsts outcomes : List ℕ) (a : ℕ) (c s u : List ℕ) (g : Admission)
+pub admitted-prepared : (size : Size) (rows : List Row) (firsts outcomes : List ℕ) (a : ℕ) (c s : List ℕ) (g : Admission)
     → searching (held size rows firsts outcomes) a (length c) (length s) ≡ admitted g (search (planIn (held size rows firsts outcomes)) a)
     → g ≡ Granted
-    → maxStates ≤ length u → Prepared size rows firsts outcomes c s u × (a < size .n)
-admitted-prepared size rows firsts outcomes a c s u g h q lu =
+    → Prepared size rows firsts outcomes c s empty
+    × ((a < size .n) × (size .n ≤ length empty) × ((x : ℕ) → x < size .n → getD empty x 0 ≡ 0))
+admitted-prepared size rows firsts outcomes a c s g h q =
     let w = tests (held size rows firsts outcomes) a c s g h q in
-    (prepared size rows firsts outcomes (w .sounds) c s u (w .long-commands) (w .long-scratch) lu, w .inside)
+    let p = prepared size rows firsts outcomes (w .sounds) c s empty (w .long-commands) (w .long-scratch) (omega arith) in
+    (p, (w .inside, omega (arith, p .few), λ x l. getD-replicate maxStates x 0 0 (omega (arith, p .few))))

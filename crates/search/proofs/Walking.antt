@@ -9,21 +9,25 @@ use lib.Seq.{getD-set-other}
 use Rattle.laws.specs.Entry.{FFFF}
 use Rattle.laws.specs.Filled.{Filled}
 use Rattle.model.specs.Plan.{Plan}
-use Rattle.model.specs.Tables.{Tables}
+use Rattle.model.specs.Tables.{Tables, listsIn}
 use Rattle.model.specs.SoundTest.{sound}
 use Rattle.model.specs.Held.{planIn}
 use Rattle.model.proofs.HeldPlan.{states-held}
 use Rattle.model.proofs.Valid.{sound-valid}
 use Rattle.tables.specs.declared.spans.Span.{Span}
 use Rattle.tables.specs.Spans.{spanAt}
+use Rattle.choice.specs.Order.{alone}
+use Rattle.walks.specs.Flags.{knownIn}
 use Rattle.walks.specs.Queued.{Queued}
 use Rattle.walks.specs.Spread.{Spread}
 use Rattle.walks.proofs.FlagValues.{walked-value}
-use Rattle.walks.proofs.Spreads.{flag-reached, flag-past}
+use Rattle.walks.proofs.Spreads.{flag-reached, flag-past, spread-known}
 use Rattle.search.specs.Past.{Past}
 use Rattle.search.specs.Marks.{markedAt, noneLeft, lowerOf}
 use Rattle.search.specs.Underway.{Underway}
 use Rattle.search.specs.Walked.{Expanded, Lowest, Walked}
+use Rattle.search.specs.Tried.{Tried, Retried}
+use Rattle.search.proofs.Trying.{tried-more, tried-next}
 use Rattle.search.proofs.WalkSteps.{underway-expanded}
 use Rattle.search.proofs.Lowering.{marked-left, lowest-start, lowest-next}
 
@@ -51,22 +55,31 @@ past-set {l = l} x v k w l′ e = rw e (record {
 abbrev pub Clear : Plan → (ℕ → Bool) → ℕ → List ℕ → Type 0
 Clear P K h u = (i : ℕ) → i < h → noneLeft P K (getD u i 0) ≡ false
 
--- `from`, `reached`, c₀, s₀ and u₀ are as when the loop begins
-pub record Walking (P : Plan) (n from reached : ℕ) (c₀ s₀ u₀ : List ℕ) (h q low : ℕ) (cs s u : List ℕ) : Type 0 where
+-- `from`, `reached`, c₀, s₀, u₀ and t₀ are as when the loop begins
+pub record Walking (P : Plan) (n from reached : ℕ) (c₀ s₀ u₀ t₀ : List ℕ) (h q low : ℕ) (cs s u t : List ℕ) : Type 0 where
   pub queued : Queued n q s u
+  pub tried : Tried P n (knownIn s) t
   pub commands : Past n c₀ cs
   pub flags : Past n s₀ s
   pub same-queue : length u ≡ length u₀
+  pub same-tried : length t ≡ length t₀
   pub goes : (K : ℕ → Bool) (a : ℕ) → Underway P n K a from reached c₀ s₀ u₀ → Clear P K from u₀
       → Underway P n K a h q cs s u × Lowest P K low h s u
 
-pub walking-start : (P : Plan) {n from reached : ℕ} {c₀ s₀ u₀ : List ℕ} → Queued n reached s₀ u₀
-    → Walking P n from reached c₀ s₀ u₀ from reached FFFF c₀ s₀ u₀
-walking-start P L =
-    record { queued = L; commands = past-none; flags = past-none; same-queue = refl; goes = λ K a d clear. (d, lowest-start clear) }
+pub walking-start : (P : Plan) {n from reached : ℕ} {c₀ s₀ u₀ t₀ : List ℕ} → Queued n reached s₀ u₀ → Tried P n (knownIn s₀) t₀
+    → Walking P n from reached c₀ s₀ u₀ t₀ from reached FFFF c₀ s₀ u₀ t₀
+walking-start P L v = record {
+  queued = L;
+  tried = v;
+  commands = past-none;
+  flags = past-none;
+  same-queue = refl;
+  same-tried = refl;
+  goes = λ K a d clear. (d, lowest-start clear);
+}
 
-module _ (T : Tables) (sounds : sound T ≡ true) {from reached : ℕ} {c₀ s₀ u₀ : List ℕ} {h q low : ℕ} {cs s u : List ℕ}
-    (w : Walking (planIn T) (T .size .n) from reached c₀ s₀ u₀ h q low cs s u) where
+module _ (T : Tables) (sounds : sound T ≡ true) {from reached : ℕ} {c₀ s₀ u₀ t₀ : List ℕ} {h q low : ℕ} {cs s u t : List ℕ}
+    (w : Walking (planIn T) (T .size .n) from reached c₀ s₀ u₀ t₀ h q low cs s u t) where
   -- the next state of the queue was gone on from
   module _ (k : h < q) (x : ℕ) (p : x ≡ getD u h 0) (long : T .size .n ≤ length cs) {q′ : ℕ} {cs′ s′ u′ : List ℕ}
       (g : Expanded (planIn T) (T .size .n) q x (h + 2) cs s u q′ cs′ s′ u′) (span : Span) (is : span ≡ spanAt T x)
@@ -95,12 +108,15 @@ module _ (T : Tables) (sounds : sound T ≡ true) {from reached : ℕ} {c₀ s�
           lowest-next lowest s′ u′ (λ i m. g .spreads .kept i (omega arith)) flag-stays x here
           (walked-value s′ x (rw here at (next .queued .placed h (omega (arith, next .ahead))))) _ left v e
 
-    pub walking-next : Walking (planIn T) (T .size .n) from reached c₀ s₀ u₀ (h + 1) q′ v cs′ s′ u′
-    walking-next = record {
+    pub walking-next : {t′ : List ℕ} → Retried (alone (listsIn T) span) (knownIn s) x t t′ → length t′ ≡ length t
+        → Walking (planIn T) (T .size .n) from reached c₀ s₀ u₀ t₀ (h + 1) q′ v cs′ s′ u′ t′
+    walking-next y z = record {
       queued = g .spreads .queued;
+      tried = tried-more (λ r b. spread-known (g .spreads) (omega arith) r ∙ b) (tried-next T x state span is y z (w .tried));
       commands = past-set x _ state (w .commands) cs′ (g .took);
       flags = past-then (w .flags) (past-spread (g .spreads));
       same-queue = g .spreads .same-queue ∙ w .same-queue;
+      same-tried = z ∙ w .same-tried;
       goes = λ K a d clear. let (now, lowest) = w .goes K a d clear in (next K a now lowest, lowest-then K a now lowest);
     }
 

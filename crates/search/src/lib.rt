@@ -54,6 +54,7 @@ pub fn search(
         Admission::Denied(refusal) => SearchAnswer::Refused(refusal),
         Admission::Granted => {
             let mut queue = [0u16; Size::STATES];
+            let mut tried = [0u16; Size::STATES];
             let found = rounds::walk_rounds(
                 size,
                 rows,
@@ -63,6 +64,7 @@ pub fn search(
                 commands,
                 scratch,
                 &mut queue,
+                &mut tried,
             );
             SearchAnswer::Given(found)
         }

@@ -1,6 +1,6 @@
 // The rounds of the search.
 ghost use mathlib.Core.Path.{_≡_};
-ghost use Prim.Native.Nat.{_<_, _≤_};
+ghost use Prim.Native.Nat.{ℕ, _<_, _≤_};
 ghost use lib.ListN.{length, getD};
 ghost use Rattle.model.specs.Held.{planIn};
 ghost use Rattle.tables.specs.Meaning.{held};
@@ -51,7 +51,8 @@ fn finish(n: usize, end: usize, rounds: usize, commands: &mut [u16], scratch: &m
 }
 
 // Walks rounds from the start until one is the last. A round takes over from the one before what it would walk in the same way, and walks
-// on from there. Where the start is failing, rest or without commands there are none.
+// on from there; `tried`, at first all zero, says which commands need not be tried again. Where the start is failing, rest or without
+// commands there are none.
 pub fn walk_rounds(
     size: Size,
     rows: &[Row],
@@ -61,9 +62,10 @@ pub fn walk_rounds(
     commands: &mut [u16],
     scratch: &mut [u16],
     queue: &mut [u16],
+    tried: &mut [u16],
 ) -> Found
     requires { ⌜ Prepared size (now rows) (now firsts) (now outcomes) (now commands) (now scratch) (now queue) ⌝ }
-    requires { ⌜ start < size .n ⌝ }
+    requires { ⌜ (start < size .n) × (size .n ≤ length (now tried)) × ((s : ℕ) → s < size .n → getD (now tried) s 0 ≡ 0) ⌝ }
     ensures { λ r. ⌜ Answered (planIn (held size (now (rows .entry)) (now (firsts .entry)) (now (outcomes .entry)))) (size .n) start
         (now (commands .entry)) (now (scratch .entry)) r (now (commands .exit)) (now (scratch .exit)) ⌝ }
 {
@@ -75,7 +77,18 @@ pub fn walk_rounds(
     let mut h = 0;
     let mut count = 0;
     while end == 2 {
-        let walked = walk(size, rows, firsts, outcomes, commands, scratch, queue, h, q);
+        let walked = walk(
+            size,
+            rows,
+            firsts,
+            outcomes,
+            commands,
+            scratch,
+            queue,
+            tried,
+            h,
+            q,
+        );
         h = walked.low;
         end = round_end(commands, start, h);
         q = kept(scratch, queue, walked.reached, h);

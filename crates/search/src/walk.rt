@@ -7,6 +7,8 @@ ghost use mathlib.Core.Bool.{Bool, true, false};
 ghost use mathlib.Core.List.{List};
 ghost use Prim.Native.Nat.{ℕ, _<_, _≤_};
 ghost use lib.ListN.{length, getD};
+ghost use Rattle.laws.specs.Entry.{entry};
+ghost use Rattle.model.specs.Command.{choice};
 ghost use Rattle.model.specs.SoundTest.{sound};
 ghost use Rattle.model.specs.Held.{planIn};
 ghost use Rattle.tables.specs.declared.Row.{Row};
@@ -14,14 +16,18 @@ ghost use Rattle.tables.specs.Meaning.{held};
 ghost use Rattle.tables.specs.Spans.{spanAt, commandsOf};
 ghost use Rattle.tables.specs.Seen.{Seen};
 ghost use Rattle.tables.specs.Ready.{Ready};
+ghost use Rattle.choice.specs.Order.{alone, AllHit};
+ghost use Rattle.walks.specs.Flags.{knownIn};
 ghost use Rattle.walks.specs.Queued.{Queued};
 ghost use Rattle.search.specs.Prepared.{Prepared};
 ghost use Rattle.search.specs.Past.{Past};
 ghost use Rattle.search.specs.Marks.{markedAt, lowerOf, noneLeft};
 ghost use Rattle.search.specs.Underway.{Underway};
 ghost use Rattle.search.specs.Walked.{Expanded, Walked};
+ghost use Rattle.search.specs.Tried.{Tried, Retried};
 use crate::marks::is_marked;
-use choice::choosing::choose;
+use choice::choosing::choose_from;
+use choice::order::tried_at;
 use tables::Row;
 use tables::Size;
 use tables::entries::NONE;
@@ -53,6 +59,33 @@ fn lower(span: Span, commands: &[u16], scratch: &[u16], s: usize, low: usize) ->
     low
 }
 
+// The command taken at state s, of which `span` was read. No command that was found hit is tried again: `tried` has the place of the trying
+// order to go on from.
+fn take(
+    size: Size,
+    span: Span,
+    firsts: &[u16],
+    outcomes: &[u16],
+    scratch: &[u16],
+    tried: &mut [u16],
+    s: usize,
+) -> usize
+    requires { ⌜ Ready (size .n) (commandsOf size (now firsts) (now outcomes)) ⌝ }
+    requires { ⌜ Seen size (now firsts) (now outcomes) s span ⌝ }
+    requires { ⌜ (size .n ≤ length (now scratch)) × (s < length (now tried)) ⌝ }
+    requires { ⌜ AllHit (alone (commandsOf size (now firsts) (now outcomes)) span) (knownIn (now scratch)) 0 (getD (now tried) s 0) ⌝ }
+    ensures { λ r. ⌜ ((R : List Row) → sound (held size R (now (firsts .entry)) (now (outcomes .entry))) ≡ true → span
+        ≡ spanAt (held size R (now (firsts .entry)) (now (outcomes .entry))) s → r
+        ≡ entry (choice (planIn (held size R (now (firsts .entry)) (now (outcomes .entry)))) (knownIn (now (scratch .entry))) s)) ⌝ }
+    ensures { λ _. ⌜ Retried (alone (commandsOf size (now (firsts .entry)) (now (outcomes .entry))) span) (knownIn (now (scratch .entry))) s
+        (now (tried .entry)) (now (tried .exit)) ⌝ }
+{
+    let from = at(tried, s);
+    let place = choose_from(size, span, firsts, outcomes, scratch, 0, from);
+    put(tried, s, place);
+    tried_at(span, place)
+}
+
 // Goes on from state s, of which `span` was read: takes the command there, and the command's outcomes into the walk under the mark.
 fn expand(
     size: Size,
@@ -62,6 +95,7 @@ fn expand(
     commands: &mut [u16],
     scratch: &mut [u16],
     queue: &mut [u16],
+    tried: &mut [u16],
     q: usize,
     s: usize,
     mark: usize,
@@ -71,12 +105,16 @@ fn expand(
     requires { ⌜ (size .n ≤ length (now commands)) × (size .n ≤ length (now scratch)) × (size .n ≤ length (now queue)) × (2 ≤ mark)
         × (mark < 65536) ⌝ }
     requires { ⌜ Queued (size .n) q (now scratch) (now queue) ⌝ }
+    requires { ⌜ s < length (now tried) ⌝ }
+    requires { ⌜ AllHit (alone (commandsOf size (now firsts) (now outcomes)) span) (knownIn (now scratch)) 0 (getD (now tried) s 0) ⌝ }
     ensures { λ r. ⌜ ((R : List Row) → sound (held size R (now (firsts .entry)) (now (outcomes .entry))) ≡ true → span
         ≡ spanAt (held size R (now (firsts .entry)) (now (outcomes .entry))) s
         → Expanded (planIn (held size R (now (firsts .entry)) (now (outcomes .entry)))) (size .n) q s mark (now (commands .entry))
         (now (scratch .entry)) (now (queue .entry)) r (now (commands .exit)) (now (scratch .exit)) (now (queue .exit))) ⌝ }
+    ensures { λ _. ⌜ Retried (alone (commandsOf size (now (firsts .entry)) (now (outcomes .entry))) span) (knownIn (now (scratch .entry))) s
+        (now (tried .entry)) (now (tried .exit)) ⌝ }
 {
-    let c = choose(size, span, firsts, outcomes, scratch, 0);
+    let c = take(size, span, firsts, outcomes, scratch, tried, s);
     put(commands, s, c);
     if c == NONE {
         return q;
@@ -97,14 +135,18 @@ pub fn walk(
     commands: &mut [u16],
     scratch: &mut [u16],
     queue: &mut [u16],
+    tried: &mut [u16],
     from: usize,
     reached: usize,
 ) -> Progress
     requires { ⌜ Prepared size (now rows) (now firsts) (now outcomes) (now commands) (now scratch) (now queue) ⌝ }
     requires { ⌜ Queued (size .n) reached (now scratch) (now queue) ⌝ }
+    requires { ⌜ Tried (planIn (held size (now rows) (now firsts) (now outcomes))) (size .n) (knownIn (now scratch)) (now tried) ⌝ }
     ensures { λ _. ⌜ Past (size .n) (now (commands .entry)) (now (commands .exit)) ⌝ }
     ensures { λ _. ⌜ Past (size .n) (now (scratch .entry)) (now (scratch .exit)) ⌝ }
     ensures { λ r. ⌜ Queued (size .n) (r .reached) (now (scratch .exit)) (now (queue .exit)) ⌝ }
+    ensures { λ _. ⌜ Tried (planIn (held size (now (rows .entry)) (now (firsts .entry)) (now (outcomes .entry)))) (size .n)
+        (knownIn (now (scratch .exit))) (now (tried .exit)) ⌝ }
     ensures { λ r. ⌜ ((K : ℕ → Bool) (a : ℕ)
         → Underway (planIn (held size (now (rows .entry)) (now (firsts .entry)) (now (outcomes .entry)))) (size .n) K a from reached
         (now (commands .entry)) (now (scratch .entry)) (now (queue .entry))
@@ -127,6 +169,7 @@ pub fn walk(
             commands,
             scratch,
             queue,
+            tried,
             q,
             s,
             h + 2,

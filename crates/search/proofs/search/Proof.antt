@@ -1,6 +1,5 @@
 -- Admission decides as the definition does; where it is granted, all that the rounds ask for follows from the tests that were passed.
 mod Tie
-use native.Mathlib.Omega.{arith}
 use mathlib.Core.Path.{refl}
 use borrow.Author.Needs.{needs}
 use Rattle.search.proofs.Replying.{refuses, gives, admitted-prepared}
@@ -22,13 +21,16 @@ enum-told c = search needs
 slice-aggregate-walk-rounds : tie.Need-slice-aggregate-walk-rounds
 slice-aggregate-walk-rounds c = search needs
 
+slice-aggregate-walk-rounds-2 : tie.Need-slice-aggregate-walk-rounds-2
+slice-aggregate-walk-rounds-2 c = search needs
+
 walk-rounds-requires : tie.Need-walk-rounds-requires
 walk-rounds-requires c κs =
-    let past-enum-told = c .before .before .before in
+    let past-enum-told = c .before .before .before .before in
     let past-admit = past-enum-told .before .before in
     let past-sound = past-admit .before in
-    admitted-prepared _ _ _ _ _ _ _ _ _ (past-admit .admit .ensures _ (past-sound .sound .ensures .0) refl)
-    (past-enum-told .enum-told .given .1) (omega arith)
+    admitted-prepared _ _ _ _ _ _ _ _ (past-admit .admit .ensures _ (past-sound .sound .ensures .0) refl)
+    (past-enum-told .enum-told .given .1)
 
 returns : tie.Need-returns
 returns c =
@@ -47,8 +49,8 @@ same-length-2 c = search needs
 
 returns-2 : tie.Need-returns-2
 returns-2 c =
-    let past-walk-rounds = c .before .before .before .before .before in
-    let past-enum-told = past-walk-rounds .before .before .before .before in
+    let past-walk-rounds = c .before .before .before .before .before .before in
+    let past-enum-told = past-walk-rounds .before .before .before .before .before in
     let past-admit = past-enum-told .before .before in
     let past-sound = past-admit .before in
     let entry = past-sound .before .before .before .before .before in
@@ -65,6 +67,7 @@ search-spec =
     enum-known-admission
     enum-told
     slice-aggregate-walk-rounds
+    slice-aggregate-walk-rounds-2
     walk-rounds-requires
     returns
     same-length

@@ -20,7 +20,8 @@ abbrev past-keep-practice-to-past-propagate-in : tie.After-keep-practice → tie
 past-keep-practice-to-past-propagate-in c = c .before .before .before .before .before .before .before .before .before .before .before
 
 abbrev past-propagate-in2-to-past-keep-practice : tie.After-propagate-in2 → tie.After-keep-practice
-past-propagate-in2-to-past-keep-practice c = c .before .before .before .before .before .before .before .before .before .before .before .before .before .before
+past-propagate-in2-to-past-keep-practice c =
+    c .before .before .before .before .before .before .before .before .before .before .before .before .before .before
 
 slice-aggregate-index-all : tie.Need-slice-aggregate-index-all
 slice-aggregate-index-all c = search needs
@@ -97,7 +98,8 @@ propagate-in-requires-2 c κs =
     let p = entry .pre in
     let l = p .1 .1 .1 .1 in
     let k = past-keep-practice .keep-practice .ensures in
-    let o = kept-own k (p .1 .1 .1 .0) (omega (arith, past-propagate-in .propagate-in .kept .1 .1 .1 .1 .1 .1 .1 .1 .0, p .1 .1 .0 .long-froms)) in
+    let o = kept-own k (p .1 .1 .1 .0)
+    (omega (arith, past-propagate-in .propagate-in .kept .1 .1 .1 .1 .1 .1 .1 .1 .0, p .1 .1 .0 .long-froms)) in
     let i = past-index-all .index-all .ensures in (
       p .0,
       (

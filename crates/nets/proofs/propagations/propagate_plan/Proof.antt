@@ -12,7 +12,8 @@ abbrev past-initialize-to-entry : tie.After-initialize → tie.Start
 past-initialize-to-entry c = c .before .before .before .before .before .before .before .before .before .before .before
 
 abbrev past-propagate-both-to-past-initialize : tie.After-propagate-both → tie.After-initialize
-past-propagate-both-to-past-initialize c = c .before .before .before .before .before .before .before .before .before .before .before .before .before
+past-propagate-both-to-past-initialize c =
+    c .before .before .before .before .before .before .before .before .before .before .before .before .before
 
 slice-aggregate-initialize : tie.Need-slice-aggregate-initialize
 slice-aggregate-initialize c = search needs
@@ -69,10 +70,10 @@ returns c =
     let a = entry .args in
     let h = entry .pre .1 in
     let p = past-propagate-both .propagate-both .ensures in
-    found _ (a .rows .now) (a .firsts .now) (a .outcomes .now) (entry .pre .0) (h .0) (h .1 .1 .0) (past-initialize .initialize .ensures _ _)
-    (p .0) (p .1 .0) (p .1 .1)
+    found _ (a .rows .now) (a .firsts .now) (a .outcomes .now) (entry .pre .0) (h .0) (h .1 .1 .0)
+    (past-initialize .initialize .ensures _ _) (p .0) (p .1 .0) (p .1 .1)
 
 pub propagate-plan-spec : {M : Type 1} → statement M
 propagate-plan-spec = tie.close
-    (tie.spec slice-aggregate-initialize initialize-requires slice-aggregate-propagate-both propagate-both-requires same-length same-length-2
-    same-length-3 same-length-4 returns)
+    (tie.spec slice-aggregate-initialize initialize-requires slice-aggregate-propagate-both propagate-both-requires same-length
+    same-length-2 same-length-3 same-length-4 returns)

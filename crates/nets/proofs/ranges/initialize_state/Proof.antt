@@ -24,8 +24,9 @@ practice-place-requires c κs = search needs
 
 put-requires-4 : tie.Need-put-requires-4
 put-requires-4 c κs =
-    let entry = c .before .before .before .before .before .before .before .before .before .before .before .before .before .before .before .before .before .before .before in (
-      entry .pre .1 .3,
+    let entry = c .before .before .before .before .before .before .before .before .before .before .before .before .before
+    .before .before .before .before .before .before in (
+      omega (arith, entry .pre .1),
       rw (c .practice-place .ensures) (omega (arith, place-inside (entry .args .span) (entry .pre .0 .0), entry .pre .0)),
     )
 
@@ -44,7 +45,8 @@ same-length-4 c = search needs
 returns : tie.Need-returns
 returns c =
     let past-put4 = c .before .before in
-    let past-put = c .before .before .before .before .before .before .before .before .before .before .before .before .before .before .before in
+    let past-put = c .before .before .before .before .before .before .before .before .before .before .before .before .before
+    .before .before in
     record {
       seeded = rw (← past-put .before .seed-of .ensures) (past-put .put .ensures);
       begins = c .before .before .before .before .before .before .before .before .before .before .before .put2 .ensures;

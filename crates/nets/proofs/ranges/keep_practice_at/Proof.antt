@@ -34,7 +34,9 @@ seed-again-requires c κs = search needs
 
 put-requires-3 : tie.Need-put-requires-3
 put-requires-3 c κs =
-    let entry = c .before .before .before .before .before .before .before .before .before .before .before .before .before .before .before .before .before .before .before .before in (entry .pre .0 .3, rw (c .seed-again .ensures) (again-small _))
+    let entry = c .before .before .before .before .before .before .before .before .before .before .before .before .before
+    .before .before .before .before .before .before .before in
+    (entry .pre .0 .3, rw (c .seed-again .ensures) (again-small _))
 
 same-length : tie.Need-same-length
 same-length c = search needs
@@ -54,7 +56,8 @@ returns c =
     let past-at = past-one-end .before .before .before in
     record {
       begins = rw (← past-at .at .ensures) (past-put .put .ensures);
-      stops = rw (← past-at .at .ensures, ← past-one-end .before .at2 .ensures, ← past-one-end .one-end .ensures) (past-put2 .put2 .ensures);
+      stops = rw (← past-at .at .ensures, ← past-one-end .before .at2 .ensures, ← past-one-end .one-end .ensures)
+          (past-put2 .put2 .ensures);
       seeded = rw (← past-seed-again .before .at3 .ensures, ← past-seed-again .seed-again .ensures) (c .before .before .put3 .ensures);
     }
 

@@ -1,6 +1,6 @@
 -- When the loop comes to state s, the states of rank 0 before it wait in the queue.
 use Rattle.propagate.proofs.Starts.{seeds-start, seeds-done}
-use Rattle.propagate.specs.Work.{SeedsQueued}
+use Rattle.propagate.specs.Progress.{SeedsQueued}
 use lib.ListN.{length}
 use native.Mathlib.Omega.{arith}
 use mathlib.Core.Path.{_≡_, refl, _∙_}

@@ -1,6 +1,6 @@
 -- When the walk comes to place p of the group, the commands before it have been looked at, and each look leads on towards the layer.
 use Rattle.propagate.proofs.Spreads.{spread-start, spread-next, spread-done, group-order, group-place, group-end, group-owner}
-use Rattle.propagate.specs.Work.{work, Moved, Among}
+use Rattle.propagate.specs.Progress.{progress, Moved, Among}
 use lib.ListN.{length}
 use native.Mathlib.Omega.{arith}
 use mathlib.Core.Path.{_≡_, refl, _∙_}
@@ -12,8 +12,8 @@ use Rattle.propagate.proofs.layers.spread.Tie as tie
 abbrev Inv-loop : tie.InvT-loop
 Inv-loop size tos firsts outcomes offsets users owner ranks₀ watch₀ queue₀ o end k e₀ p₀ z ranks watch queue e p =
     (p₀ ≤ p) × (p ≤ z) × (length ranks ≡ length ranks₀) × (length watch ≡ length watch₀) × (length queue ≡ length queue₀)
-    × Moved (size .n) (commandsOf size firsts outcomes) tos owner k (Among users p₀ p) (work ranks₀ watch₀ queue₀ end)
-    (work ranks watch queue e)
+    × Moved (size .n) (commandsOf size firsts outcomes) tos owner k (Among users p₀ p) (progress ranks₀ watch₀ queue₀ end)
+    (progress ranks watch queue e)
 
 abbrev μ-loop : tie.MeasureT-loop
 μ-loop size tos firsts outcomes offsets users owner ranks₀ watch₀ queue₀ o end k e₀ p₀ z ranks watch queue e p = z - p

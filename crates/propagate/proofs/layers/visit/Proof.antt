@@ -2,6 +2,7 @@
 use Rattle.propagate.proofs.Counting.{queue-room}
 use Rattle.propagate.proofs.Visits.{range-in, look-ranked, look-other, look-past, look-moved, look-lost}
 use native.Mathlib.Omega.{arith}
+use Prim.Native.Nat.{_<_, _≤_}
 use borrow.Author.Needs.{needs}
 use Rattle.propagate.proofs.layers.visit.Statement.{statement}
 use Rattle.propagate.proofs.layers.visit.Tie as tie
@@ -11,6 +12,27 @@ past-at-to-entry c = c .before .before .before .before .before .before .before .
 
 abbrev past-at4-to-past-at : tie.After-at4 → tie.After-at
 past-at4-to-past-at c = c .before .before .before .before .before .before .before
+
+abbrev branch4-to-branch1 : tie.Else4 → tie.Else1
+branch4-to-branch1 c = c .before .before .before .before .before .before .before .before .before .before .before .before
+
+-- the commands that count end within the plan's
+range-end : (c : tie.After-at4) → c .at4 .result ≤ past-at-to-entry (past-at4-to-past-at c) .args .size .m
+range-end c =
+    let past-at = past-at4-to-past-at c in
+    let entry = past-at-to-entry past-at in
+    let f = entry .pre in
+    range-in _ (f .1 .0) (past-at .at .result) _ (omega (arith, past-at .at .ensures, f .1 .1 .0 .1 .0)) (c .at4 .ensures)
+
+-- a state without a rank has a place in the queue
+place-left : (c : tie.Else1) → let a = past-at-to-entry (c .before .before .before) .args in a .end < a .size .n
+place-left c =
+    let past-at2 = c .before in
+    let past-at = past-at2 .before .before in
+    let entry = past-at-to-entry past-at in
+    let f = entry .pre in
+    queue-room _ _ _ _ _ (f .1 .1 .1) (past-at .at .result) _ (omega (arith, past-at .at .ensures, f .1 .1 .0 .1 .0))
+    (past-at2 .at2 .ensures) (c .if1 .left)
 
 at-requires : tie.Need-at-requires
 at-requires c κs = search needs
@@ -75,28 +97,23 @@ returns-3 c =
 
 add-next : tie.Need-add-next
 add-next c =
-    let entry = c .before .before .before .before .before .before .before .before .before .before .before .before
-    .before .before .before .before in
+    let entry = past-at-to-entry (past-at4-to-past-at (c .before)) in
     omega (arith, entry .pre .1 .1 .0)
 
 first-clear-requires : tie.Need-first-clear-requires
 first-clear-requires c κs =
-    let past-at = c .before .before .before .before .before .before .before .before .before in
-    let entry = past-at-to-entry past-at in
-    let f = entry .pre in
-    let l = f .1 .1 .0 .1 in
-    let m = range-in _ (f .1 .0) (past-at .at .result) _ (omega (arith, past-at .at .ensures, l .0)) (c .before .before .at4 .ensures) in
-    (f .0, (omega (arith, c .before .if3 .left), m, l .1 .0))
+    let past-at4 = c .before .before in
+    let f = past-at-to-entry (past-at4-to-past-at past-at4) .pre in
+    (f .0, (omega (arith, c .before .if3 .left), range-end past-at4, f .1 .1 .0 .1 .1 .0))
 
 put-requires : tie.Need-put-requires
 put-requires c κs =
     let past-at4 = c .before .before .before .before in
     let past-at = past-at4-to-past-at past-at4 in
-    let entry = past-at-to-entry past-at in
-    let f = entry .pre in
-    let l = f .1 .1 .0 .1 in
-    let m = range-in _ (f .1 .0) (past-at .at .result) _ (omega (arith, past-at .at .ensures, l .0)) (past-at4 .at4 .ensures) in
-    (omega (arith, past-at .at .ensures, l), omega (arith, m, c .before .first-clear .ensures .until, f .0 .few-commands))
+    let f = past-at-to-entry past-at .pre in (
+      omega (arith, past-at .at .ensures, f .1 .1 .0 .1),
+      omega (arith, range-end past-at4, c .before .first-clear .ensures .until, f .0 .few-commands),
+    )
 
 same-length-6 : tie.Need-same-length-6
 same-length-6 c = search needs
@@ -125,36 +142,22 @@ returns-4 c =
 
 put-requires-2 : tie.Need-put-requires-2
 put-requires-2 c κs =
-    let past-at = c .before .before .before .before .before .before .before .before .before .before .before .before
-    .before .before .before .before in
+    let past-at = branch4-to-branch1 (c .before) .before .before .before in
     let entry = past-at-to-entry past-at in
     omega (arith, past-at .at .ensures, entry .pre .1 .1 .0)
 
 put-requires-3 : tie.Need-put-requires-3
 put-requires-3 c κs =
-    let branch1 = c .before .before .before .before .before .before .before .before .before .before .before .before
-    .before .before .before .before .before in
-    let past-at2 = branch1 .before in
-    let past-at = past-at2 .before .before in
-    let entry = past-at-to-entry past-at in
-    let f = entry .pre in
-    let l = f .1 .1 .0 .1 in
-    let m = queue-room _ _ _ _ _ (f .1 .1 .1) (past-at .at .result) _ (omega (arith, past-at .at .ensures, l .0)) (past-at2 .at2 .ensures)
-    (branch1 .if1 .left) in
-    omega (arith, m, l, past-at .at .ensures, f .0 .few)
+    let branch1 = branch4-to-branch1 (c .before .before .before .before .before) in
+    let past-at = branch1 .before .before .before in
+    let f = past-at-to-entry past-at .pre in
+    omega (arith, place-left branch1, f .1 .1 .0 .1, past-at .at .ensures, f .0 .few)
 
 add-result : tie.Need-add-result
 add-result c =
-    let branch1 = c .before .before .before .before .before .before .before .before .before .before .before .before
-    .before .before .before .before .before .before .before .before in
-    let past-at2 = branch1 .before in
-    let past-at = past-at2 .before .before in
-    let entry = past-at-to-entry past-at in
-    let f = entry .pre in
-    let l = f .1 .1 .0 .1 in
-    let m = queue-room _ _ _ _ _ (f .1 .1 .1) (past-at .at .result) _ (omega (arith, past-at .at .ensures, l .0)) (past-at2 .at2 .ensures)
-    (branch1 .if1 .left) in
-    omega (arith, m, f .0 .few)
+    let branch1 = branch4-to-branch1 (c .before .before .before .before .before .before .before .before) in
+    let entry = past-at-to-entry (branch1 .before .before .before) in
+    omega (arith, place-left branch1, entry .pre .0 .few)
 
 same-length-8 : tie.Need-same-length-8
 same-length-8 c = search needs

@@ -79,37 +79,40 @@ abbrev ty·6 : Syntax.Ty
 ty·6 = Syntax.tyRef (Syntax.named 5) Syntax.mut (Syntax.tyInt Syntax.w16)
 
 abbrev ty·7 : Syntax.Ty
-ty·7 = Syntax.tyRef (Syntax.named 0) Syntax.imm (Memory.pointee (T.the-row .written))
+ty·7 = Syntax.tyRef (Syntax.named 6) Syntax.mut (Syntax.tyInt Syntax.w16)
 
 abbrev ty·8 : Syntax.Ty
-ty·8 = Syntax.tyStruct (List._∷_ 38 (List._∷_ 91 (List._∷_ 93 List.[]))) (Syntax.tcons ty·0 (Syntax.tcons (Syntax.tyInt Syntax.w64) Syntax.tnil))
+ty·8 = Syntax.tyRef (Syntax.named 0) Syntax.imm (Memory.pointee (T.the-row .written))
 
 abbrev ty·9 : Syntax.Ty
-ty·9 = Syntax.tyStruct (List._∷_ 38 (List._∷_ 91 (List._∷_ 93 List.[]))) (Syntax.tcons ty·1 (Syntax.tcons (Syntax.tyInt Syntax.w64) Syntax.tnil))
+ty·9 = Syntax.tyStruct (List._∷_ 38 (List._∷_ 91 (List._∷_ 93 List.[]))) (Syntax.tcons ty·0 (Syntax.tcons (Syntax.tyInt Syntax.w64) Syntax.tnil))
 
 abbrev ty·10 : Syntax.Ty
-ty·10 = Syntax.tyStruct (List._∷_ 115 (List._∷_ 101 (List._∷_ 97 (List._∷_ 114 (List._∷_ 99 (List._∷_ 104 (List._∷_ 58 (List._∷_ 58 (List._∷_ 70 (List._∷_ 111 (List._∷_ 117 (List._∷_ 110 (List._∷_ 100 List.[]))))))))))))) (Syntax.tcons Syntax.tyBool (Syntax.tcons (Syntax.tyInt Syntax.w64) Syntax.tnil))
+ty·10 = Syntax.tyStruct (List._∷_ 38 (List._∷_ 91 (List._∷_ 93 List.[]))) (Syntax.tcons ty·1 (Syntax.tcons (Syntax.tyInt Syntax.w64) Syntax.tnil))
 
 abbrev ty·11 : Syntax.Ty
-ty·11 = Syntax.tyStruct (List._∷_ 116 (List._∷_ 97 (List._∷_ 98 (List._∷_ 108 (List._∷_ 101 (List._∷_ 115 (List._∷_ 58 (List._∷_ 58 (List._∷_ 83 (List._∷_ 105 (List._∷_ 122 (List._∷_ 101 List.[])))))))))))) (Syntax.tcons (Syntax.tyInt Syntax.w64) (Syntax.tcons (Syntax.tyInt Syntax.w64) (Syntax.tcons (Syntax.tyInt Syntax.w64) (Syntax.tcons (Syntax.tyInt Syntax.w64) Syntax.tnil))))
+ty·11 = Syntax.tyStruct (List._∷_ 115 (List._∷_ 101 (List._∷_ 97 (List._∷_ 114 (List._∷_ 99 (List._∷_ 104 (List._∷_ 58 (List._∷_ 58 (List._∷_ 70 (List._∷_ 111 (List._∷_ 117 (List._∷_ 110 (List._∷_ 100 List.[]))))))))))))) (Syntax.tcons Syntax.tyBool (Syntax.tcons (Syntax.tyInt Syntax.w64) Syntax.tnil))
 
 abbrev ty·12 : Syntax.Ty
-ty·12 = Syntax.tyStruct (List._∷_ 115 (List._∷_ 101 (List._∷_ 97 (List._∷_ 114 (List._∷_ 99 (List._∷_ 104 (List._∷_ 58 (List._∷_ 58 (List._∷_ 119 (List._∷_ 97 (List._∷_ 108 (List._∷_ 107 (List._∷_ 58 (List._∷_ 58 (List._∷_ 80 (List._∷_ 114 (List._∷_ 111 (List._∷_ 103 (List._∷_ 114 (List._∷_ 101 (List._∷_ 115 (List._∷_ 115 List.[])))))))))))))))))))))) (Syntax.tcons (Syntax.tyInt Syntax.w64) (Syntax.tcons (Syntax.tyInt Syntax.w64) Syntax.tnil))
+ty·12 = Syntax.tyStruct (List._∷_ 116 (List._∷_ 97 (List._∷_ 98 (List._∷_ 108 (List._∷_ 101 (List._∷_ 115 (List._∷_ 58 (List._∷_ 58 (List._∷_ 83 (List._∷_ 105 (List._∷_ 122 (List._∷_ 101 List.[])))))))))))) (Syntax.tcons (Syntax.tyInt Syntax.w64) (Syntax.tcons (Syntax.tyInt Syntax.w64) (Syntax.tcons (Syntax.tyInt Syntax.w64) (Syntax.tcons (Syntax.tyInt Syntax.w64) Syntax.tnil))))
 
 abbrev ty·13 : Syntax.Ty
-ty·13 = Syntax.tyStruct (List._∷_ 116 (List._∷_ 97 (List._∷_ 98 (List._∷_ 108 (List._∷_ 101 (List._∷_ 115 (List._∷_ 58 (List._∷_ 58 (List._∷_ 115 (List._∷_ 112 (List._∷_ 97 (List._∷_ 110 (List._∷_ 115 (List._∷_ 58 (List._∷_ 58 (List._∷_ 83 (List._∷_ 112 (List._∷_ 97 (List._∷_ 110 List.[]))))))))))))))))))) (Syntax.tcons (Syntax.tyInt Syntax.w64) (Syntax.tcons (Syntax.tyInt Syntax.w64) (Syntax.tcons (Syntax.tyInt Syntax.w64) (Syntax.tcons (Syntax.tyInt Syntax.w64) Syntax.tnil))))
+ty·13 = Syntax.tyStruct (List._∷_ 115 (List._∷_ 101 (List._∷_ 97 (List._∷_ 114 (List._∷_ 99 (List._∷_ 104 (List._∷_ 58 (List._∷_ 58 (List._∷_ 119 (List._∷_ 97 (List._∷_ 108 (List._∷_ 107 (List._∷_ 58 (List._∷_ 58 (List._∷_ 80 (List._∷_ 114 (List._∷_ 111 (List._∷_ 103 (List._∷_ 114 (List._∷_ 101 (List._∷_ 115 (List._∷_ 115 List.[])))))))))))))))))))))) (Syntax.tcons (Syntax.tyInt Syntax.w64) (Syntax.tcons (Syntax.tyInt Syntax.w64) Syntax.tnil))
 
-abbrev pub ps : List.List (Kinds.PK 6)
-ps = List._∷_ (Value.pVal record { ty = Declared.row Size.the-type; one = Path'.refl; val = Laws'4.val Size.the-type Laws''.the-laws; tells = Laws'4.tells Size.the-type Laws''.the-laws; still = Laws'4.still Size.the-type Laws''.the-copy Exit.yes; row = Rows.whole (Declared.row Size.the-type); rd = λ x. x; mk = λ x. x } λ M 𝓤 H A W. record { copies = Laws'4.copy Size.the-type Laws''.the-copy 𝓤 H A W; lawful = Laws'4.lawful Size.the-type Laws''.the-laws 𝓤 H A W; makes = Laws'4.makes Size.the-type Laws''.the-plain 𝓤 H A; in-mem = Local.mem-whole 𝓤 H A W (Declared.row Size.the-type); of-mem = Local.whole-mem 𝓤 H A W (Declared.row Size.the-type) }) (List._∷_ (ShrSlice.pShrS T.the-row 0 tt) (List._∷_ (ShrSlice.pShrS (Referent.rtF (Referent.fInt Syntax.w16)) 1 tt) (List._∷_ (ShrSlice.pShrS (Referent.rtF (Referent.fInt Syntax.w16)) 2 tt) (List._∷_ (Num.pNum Syntax.w64) (List._∷_ (MutSlice.pMutS (Referent.rtF (Referent.fInt Syntax.w16)) 3 tt) (List._∷_ (MutSlice.pMutS (Referent.rtF (Referent.fInt Syntax.w16)) 4 tt) (List._∷_ (MutSlice.pMutS (Referent.rtF (Referent.fInt Syntax.w16)) 5 tt) List.[])))))))
+abbrev ty·14 : Syntax.Ty
+ty·14 = Syntax.tyStruct (List._∷_ 116 (List._∷_ 97 (List._∷_ 98 (List._∷_ 108 (List._∷_ 101 (List._∷_ 115 (List._∷_ 58 (List._∷_ 58 (List._∷_ 115 (List._∷_ 112 (List._∷_ 97 (List._∷_ 110 (List._∷_ 115 (List._∷_ 58 (List._∷_ 58 (List._∷_ 83 (List._∷_ 112 (List._∷_ 97 (List._∷_ 110 List.[]))))))))))))))))))) (Syntax.tcons (Syntax.tyInt Syntax.w64) (Syntax.tcons (Syntax.tyInt Syntax.w64) (Syntax.tcons (Syntax.tyInt Syntax.w64) (Syntax.tcons (Syntax.tyInt Syntax.w64) Syntax.tnil))))
 
-abbrev pub r : Kinds.RK 6
+abbrev pub ps : List.List (Kinds.PK 7)
+ps = List._∷_ (Value.pVal record { ty = Declared.row Size.the-type; one = Path'.refl; val = Laws'4.val Size.the-type Laws''.the-laws; tells = Laws'4.tells Size.the-type Laws''.the-laws; still = Laws'4.still Size.the-type Laws''.the-copy Exit.yes; row = Rows.whole (Declared.row Size.the-type); rd = λ x. x; mk = λ x. x } λ M 𝓤 H A W. record { copies = Laws'4.copy Size.the-type Laws''.the-copy 𝓤 H A W; lawful = Laws'4.lawful Size.the-type Laws''.the-laws 𝓤 H A W; makes = Laws'4.makes Size.the-type Laws''.the-plain 𝓤 H A; in-mem = Local.mem-whole 𝓤 H A W (Declared.row Size.the-type); of-mem = Local.whole-mem 𝓤 H A W (Declared.row Size.the-type) }) (List._∷_ (ShrSlice.pShrS T.the-row 0 tt) (List._∷_ (ShrSlice.pShrS (Referent.rtF (Referent.fInt Syntax.w16)) 1 tt) (List._∷_ (ShrSlice.pShrS (Referent.rtF (Referent.fInt Syntax.w16)) 2 tt) (List._∷_ (Num.pNum Syntax.w64) (List._∷_ (MutSlice.pMutS (Referent.rtF (Referent.fInt Syntax.w16)) 3 tt) (List._∷_ (MutSlice.pMutS (Referent.rtF (Referent.fInt Syntax.w16)) 4 tt) (List._∷_ (MutSlice.pMutS (Referent.rtF (Referent.fInt Syntax.w16)) 5 tt) (List._∷_ (MutSlice.pMutS (Referent.rtF (Referent.fInt Syntax.w16)) 6 tt) List.[]))))))))
+
+abbrev pub r : Kinds.RK 7
 r = Value.rVal record { ty = Declared.row Found.the-type; one = Path'.refl; val = Laws'4.val Found.the-type Laws.the-laws; tells = Laws'4.tells Found.the-type Laws.the-laws; still = Laws'4.still Found.the-type Laws.the-copy Exit.yes; row = Rows.whole (Declared.row Found.the-type); rd = λ x. x; mk = λ x. x } λ M 𝓤 H A W. record { copies = Laws'4.copy Found.the-type Laws.the-copy 𝓤 H A W; lawful = Laws'4.lawful Found.the-type Laws.the-laws 𝓤 H A W; makes = Laws'4.makes Found.the-type Laws.the-plain 𝓤 H A; in-mem = Local.mem-whole 𝓤 H A W (Declared.row Found.the-type); of-mem = Local.whole-mem 𝓤 H A W (Declared.row Found.the-type) }
 
 abbrev pub xs : List.List Syntax.Ty
-xs = List._∷_ ty·13 (List._∷_ (Syntax.tyInt Syntax.w64) (List._∷_ (Syntax.tyInt Syntax.w64) (List._∷_ (Syntax.tyInt Syntax.w64) (List._∷_ (Syntax.tyInt Syntax.w64) (List._∷_ ty·12 (List._∷_ Syntax.tyUnit (List._∷_ ty·0 (List._∷_ ty·8 (List._∷_ ty·0 (List._∷_ ty·8 (List._∷_ ty·0 (List._∷_ ty·8 (List._∷_ ty·0 (List._∷_ ty·8 (List._∷_ Syntax.tyBool (List._∷_ ty·0 (List._∷_ ty·8 (List._∷_ ty·0 (List._∷_ ty·8 (List._∷_ ty·0 (List._∷_ ty·8 (List._∷_ ty·1 (List._∷_ ty·9 (List._∷_ ty·1 (List._∷_ ty·9 (List._∷_ ty·1 (List._∷_ ty·9 (List._∷_ Syntax.tyUnit (List._∷_ ty·0 (List._∷_ ty·8 (List._∷_ ty·0 (List._∷_ ty·8 (List._∷_ ty·1 (List._∷_ ty·9 (List._∷_ ty·0 (List._∷_ ty·8 (List._∷_ ty·0 (List._∷_ ty·8 List.[]))))))))))))))))))))))))))))))))))))))
+xs = List._∷_ ty·14 (List._∷_ (Syntax.tyInt Syntax.w64) (List._∷_ (Syntax.tyInt Syntax.w64) (List._∷_ (Syntax.tyInt Syntax.w64) (List._∷_ (Syntax.tyInt Syntax.w64) (List._∷_ ty·13 (List._∷_ Syntax.tyUnit (List._∷_ ty·0 (List._∷_ ty·9 (List._∷_ ty·0 (List._∷_ ty·9 (List._∷_ ty·0 (List._∷_ ty·9 (List._∷_ ty·0 (List._∷_ ty·9 (List._∷_ Syntax.tyBool (List._∷_ ty·0 (List._∷_ ty·9 (List._∷_ ty·0 (List._∷_ ty·9 (List._∷_ ty·0 (List._∷_ ty·9 (List._∷_ ty·0 (List._∷_ ty·9 (List._∷_ ty·1 (List._∷_ ty·10 (List._∷_ ty·1 (List._∷_ ty·10 (List._∷_ ty·1 (List._∷_ ty·10 (List._∷_ Syntax.tyUnit (List._∷_ ty·0 (List._∷_ ty·9 (List._∷_ ty·0 (List._∷_ ty·9 (List._∷_ ty·1 (List._∷_ ty·10 (List._∷_ ty·0 (List._∷_ ty·9 (List._∷_ ty·0 (List._∷_ ty·9 List.[]))))))))))))))))))))))))))))))))))))))))
 
 abbrev pub m : Nat.ℕ
-m = 15
+m = 16
 
 abbrev pub ps·0 : List.List (Kinds.PK 1)
 ps·0 = List._∷_ (MutSlice.pMutS (Referent.rtF (Referent.fInt Syntax.w16)) 0 tt) (List._∷_ (Num.pNum Syntax.w64) (List._∷_ (Num.pNum Syntax.w64) List.[]))
@@ -141,10 +144,10 @@ ps·4 = List._∷_ (Num.pNum Syntax.w64) (List._∷_ (MutSlice.pMutS (Referent.r
 abbrev pub r·4 : Kinds.RK 2
 r·4 = Num.rNum Syntax.w64
 
-abbrev pub ps·5 : List.List (Kinds.PK 6)
-ps·5 = List._∷_ (Value.pVal record { ty = Declared.row Size.the-type; one = Path'.refl; val = Laws'4.val Size.the-type Laws''.the-laws; tells = Laws'4.tells Size.the-type Laws''.the-laws; still = Laws'4.still Size.the-type Laws''.the-copy Exit.yes; row = Rows.whole (Declared.row Size.the-type); rd = λ x. x; mk = λ x. x } λ M 𝓤 H A W. record { copies = Laws'4.copy Size.the-type Laws''.the-copy 𝓤 H A W; lawful = Laws'4.lawful Size.the-type Laws''.the-laws 𝓤 H A W; makes = Laws'4.makes Size.the-type Laws''.the-plain 𝓤 H A; in-mem = Local.mem-whole 𝓤 H A W (Declared.row Size.the-type); of-mem = Local.whole-mem 𝓤 H A W (Declared.row Size.the-type) }) (List._∷_ (ShrSlice.pShrS T.the-row 0 tt) (List._∷_ (ShrSlice.pShrS (Referent.rtF (Referent.fInt Syntax.w16)) 1 tt) (List._∷_ (ShrSlice.pShrS (Referent.rtF (Referent.fInt Syntax.w16)) 2 tt) (List._∷_ (MutSlice.pMutS (Referent.rtF (Referent.fInt Syntax.w16)) 3 tt) (List._∷_ (MutSlice.pMutS (Referent.rtF (Referent.fInt Syntax.w16)) 4 tt) (List._∷_ (MutSlice.pMutS (Referent.rtF (Referent.fInt Syntax.w16)) 5 tt) (List._∷_ (Num.pNum Syntax.w64) (List._∷_ (Num.pNum Syntax.w64) List.[]))))))))
+abbrev pub ps·5 : List.List (Kinds.PK 7)
+ps·5 = List._∷_ (Value.pVal record { ty = Declared.row Size.the-type; one = Path'.refl; val = Laws'4.val Size.the-type Laws''.the-laws; tells = Laws'4.tells Size.the-type Laws''.the-laws; still = Laws'4.still Size.the-type Laws''.the-copy Exit.yes; row = Rows.whole (Declared.row Size.the-type); rd = λ x. x; mk = λ x. x } λ M 𝓤 H A W. record { copies = Laws'4.copy Size.the-type Laws''.the-copy 𝓤 H A W; lawful = Laws'4.lawful Size.the-type Laws''.the-laws 𝓤 H A W; makes = Laws'4.makes Size.the-type Laws''.the-plain 𝓤 H A; in-mem = Local.mem-whole 𝓤 H A W (Declared.row Size.the-type); of-mem = Local.whole-mem 𝓤 H A W (Declared.row Size.the-type) }) (List._∷_ (ShrSlice.pShrS T.the-row 0 tt) (List._∷_ (ShrSlice.pShrS (Referent.rtF (Referent.fInt Syntax.w16)) 1 tt) (List._∷_ (ShrSlice.pShrS (Referent.rtF (Referent.fInt Syntax.w16)) 2 tt) (List._∷_ (MutSlice.pMutS (Referent.rtF (Referent.fInt Syntax.w16)) 3 tt) (List._∷_ (MutSlice.pMutS (Referent.rtF (Referent.fInt Syntax.w16)) 4 tt) (List._∷_ (MutSlice.pMutS (Referent.rtF (Referent.fInt Syntax.w16)) 5 tt) (List._∷_ (MutSlice.pMutS (Referent.rtF (Referent.fInt Syntax.w16)) 6 tt) (List._∷_ (Num.pNum Syntax.w64) (List._∷_ (Num.pNum Syntax.w64) List.[])))))))))
 
-abbrev pub r·5 : Kinds.RK 6
+abbrev pub r·5 : Kinds.RK 7
 r·5 = Value.rVal record { ty = Declared.row Progress.the-type; one = Path'.refl; val = Laws'4.val Progress.the-type Laws'.the-laws; tells = Laws'4.tells Progress.the-type Laws'.the-laws; still = Laws'4.still Progress.the-type Laws'.the-copy Exit.yes; row = Rows.whole (Declared.row Progress.the-type); rd = λ x. x; mk = λ x. x } λ M 𝓤 H A W. record { copies = Laws'4.copy Progress.the-type Laws'.the-copy 𝓤 H A W; lawful = Laws'4.lawful Progress.the-type Laws'.the-laws 𝓤 H A W; makes = Laws'4.makes Progress.the-type Laws'.the-plain 𝓤 H A; in-mem = Local.mem-whole 𝓤 H A W (Declared.row Progress.the-type); of-mem = Local.whole-mem 𝓤 H A W (Declared.row Progress.the-type) }
 
 abbrev pub ps·6 : List.List (Kinds.PK 1)
@@ -172,55 +175,55 @@ abbrev pub r·9 : Kinds.RK 2
 r·9 = Value.rVal record { ty = Declared.row Found.the-type; one = Path'.refl; val = Laws'4.val Found.the-type Laws.the-laws; tells = Laws'4.tells Found.the-type Laws.the-laws; still = Laws'4.still Found.the-type Laws.the-copy Exit.yes; row = Rows.whole (Declared.row Found.the-type); rd = λ x. x; mk = λ x. x } λ M 𝓤 H A W. record { copies = Laws'4.copy Found.the-type Laws.the-copy 𝓤 H A W; lawful = Laws'4.lawful Found.the-type Laws.the-laws 𝓤 H A W; makes = Laws'4.makes Found.the-type Laws.the-plain 𝓤 H A; in-mem = Local.mem-whole 𝓤 H A W (Declared.row Found.the-type); of-mem = Local.whole-mem 𝓤 H A W (Declared.row Found.the-type) }
 
 abbrev pub hs : List.List Syntax.Home
-hs = List._∷_ Syntax.valueLocal (List._∷_ Syntax.valueLocal (List._∷_ Syntax.valueLocal (List._∷_ Syntax.valueLocal (List._∷_ Syntax.valueLocal (List._∷_ Syntax.valueLocal (List._∷_ Syntax.valueLocal (List._∷_ Syntax.valueLocal (List._∷_ Syntax.valueLocal (List._∷_ Syntax.valueLocal (List._∷_ Syntax.valueLocal (List._∷_ Syntax.valueLocal (List._∷_ Syntax.valueLocal (List._∷_ Syntax.valueLocal (List._∷_ Syntax.valueLocal (List._∷_ Syntax.valueLocal (List._∷_ Syntax.valueLocal (List._∷_ Syntax.valueLocal (List._∷_ Syntax.valueLocal (List._∷_ Syntax.valueLocal (List._∷_ Syntax.valueLocal (List._∷_ Syntax.valueLocal (List._∷_ Syntax.valueLocal (List._∷_ Syntax.valueLocal (List._∷_ Syntax.valueLocal (List._∷_ Syntax.valueLocal (List._∷_ Syntax.valueLocal (List._∷_ Syntax.valueLocal (List._∷_ Syntax.valueLocal (List._∷_ Syntax.valueLocal (List._∷_ Syntax.valueLocal (List._∷_ Syntax.valueLocal (List._∷_ Syntax.valueLocal (List._∷_ Syntax.valueLocal (List._∷_ Syntax.valueLocal (List._∷_ Syntax.valueLocal (List._∷_ Syntax.valueLocal (List._∷_ Syntax.valueLocal (List._∷_ Syntax.valueLocal (List._∷_ Syntax.valueLocal (List._∷_ Syntax.valueLocal (List._∷_ Syntax.valueLocal (List._∷_ Syntax.valueLocal (List._∷_ Syntax.valueLocal (List._∷_ Syntax.valueLocal (List._∷_ Syntax.valueLocal (List._∷_ Syntax.valueLocal (List._∷_ Syntax.valueLocal List.[])))))))))))))))))))))))))))))))))))))))))))))))
+hs = List._∷_ Syntax.valueLocal (List._∷_ Syntax.valueLocal (List._∷_ Syntax.valueLocal (List._∷_ Syntax.valueLocal (List._∷_ Syntax.valueLocal (List._∷_ Syntax.valueLocal (List._∷_ Syntax.valueLocal (List._∷_ Syntax.valueLocal (List._∷_ Syntax.valueLocal (List._∷_ Syntax.valueLocal (List._∷_ Syntax.valueLocal (List._∷_ Syntax.valueLocal (List._∷_ Syntax.valueLocal (List._∷_ Syntax.valueLocal (List._∷_ Syntax.valueLocal (List._∷_ Syntax.valueLocal (List._∷_ Syntax.valueLocal (List._∷_ Syntax.valueLocal (List._∷_ Syntax.valueLocal (List._∷_ Syntax.valueLocal (List._∷_ Syntax.valueLocal (List._∷_ Syntax.valueLocal (List._∷_ Syntax.valueLocal (List._∷_ Syntax.valueLocal (List._∷_ Syntax.valueLocal (List._∷_ Syntax.valueLocal (List._∷_ Syntax.valueLocal (List._∷_ Syntax.valueLocal (List._∷_ Syntax.valueLocal (List._∷_ Syntax.valueLocal (List._∷_ Syntax.valueLocal (List._∷_ Syntax.valueLocal (List._∷_ Syntax.valueLocal (List._∷_ Syntax.valueLocal (List._∷_ Syntax.valueLocal (List._∷_ Syntax.valueLocal (List._∷_ Syntax.valueLocal (List._∷_ Syntax.valueLocal (List._∷_ Syntax.valueLocal (List._∷_ Syntax.valueLocal (List._∷_ Syntax.valueLocal (List._∷_ Syntax.valueLocal (List._∷_ Syntax.valueLocal (List._∷_ Syntax.valueLocal (List._∷_ Syntax.valueLocal (List._∷_ Syntax.valueLocal (List._∷_ Syntax.valueLocal (List._∷_ Syntax.valueLocal (List._∷_ Syntax.valueLocal (List._∷_ Syntax.valueLocal (List._∷_ Syntax.valueLocal List.[]))))))))))))))))))))))))))))))))))))))))))))))))))
 
 abbrev b0 : Syntax.Body
-b0 = Syntax.assign (Syntax.place 16 List.[]) (Syntax.addrOf (Syntax.place 6 (List._∷_ (Syntax.field 0) (List._∷_ (Syntax.deref (Syntax.tyInt Syntax.w16)) List.[]))))
+b0 = Syntax.assign (Syntax.place 17 List.[]) (Syntax.addrOf (Syntax.place 6 (List._∷_ (Syntax.field 0) (List._∷_ (Syntax.deref (Syntax.tyInt Syntax.w16)) List.[]))))
 
 abbrev b1 : Syntax.Body
-b1 = Syntax.assign (Syntax.place 17 List.[]) (Syntax.aggregate (List._∷_ (Syntax.copy (Syntax.place 16 List.[])) (List._∷_ (Syntax.copy (Syntax.place 6 (List._∷_ (Syntax.field 1) List.[]))) List.[])))
+b1 = Syntax.assign (Syntax.place 18 List.[]) (Syntax.aggregate (List._∷_ (Syntax.copy (Syntax.place 17 List.[])) (List._∷_ (Syntax.copy (Syntax.place 6 (List._∷_ (Syntax.field 1) List.[]))) List.[])))
 
 abbrev b2 : Syntax.Body
-b2 = Syntax.call "tables::entries::fill" (List._∷_ (Syntax.copy (Syntax.place 17 List.[])) (List._∷_ (Syntax.copy (Syntax.place 1 (List._∷_ (Syntax.field 0) List.[]))) (List._∷_ (Syntax.intBig Syntax.w64 65535) List.[]))) (Syntax.place 15 List.[])
+b2 = Syntax.call "tables::entries::fill" (List._∷_ (Syntax.copy (Syntax.place 18 List.[])) (List._∷_ (Syntax.copy (Syntax.place 1 (List._∷_ (Syntax.field 0) List.[]))) (List._∷_ (Syntax.intBig Syntax.w64 65535) List.[]))) (Syntax.place 16 List.[])
 
 abbrev b3 : Syntax.Body
-b3 = Syntax.assign (Syntax.place 18 List.[]) (Syntax.addrOf (Syntax.place 7 (List._∷_ (Syntax.field 0) (List._∷_ (Syntax.deref (Syntax.tyInt Syntax.w16)) List.[]))))
+b3 = Syntax.assign (Syntax.place 19 List.[]) (Syntax.addrOf (Syntax.place 7 (List._∷_ (Syntax.field 0) (List._∷_ (Syntax.deref (Syntax.tyInt Syntax.w16)) List.[]))))
 
 abbrev b4 : Syntax.Body
-b4 = Syntax.assign (Syntax.place 19 List.[]) (Syntax.aggregate (List._∷_ (Syntax.copy (Syntax.place 18 List.[])) (List._∷_ (Syntax.copy (Syntax.place 7 (List._∷_ (Syntax.field 1) List.[]))) List.[])))
+b4 = Syntax.assign (Syntax.place 20 List.[]) (Syntax.aggregate (List._∷_ (Syntax.copy (Syntax.place 19 List.[])) (List._∷_ (Syntax.copy (Syntax.place 7 (List._∷_ (Syntax.field 1) List.[]))) List.[])))
 
 abbrev b5 : Syntax.Body
-b5 = Syntax.call "search::marks::start_known" (List._∷_ (Syntax.copy (Syntax.place 1 List.[])) (List._∷_ (Syntax.copy (Syntax.place 2 List.[])) (List._∷_ (Syntax.copy (Syntax.place 19 List.[])) List.[]))) (Syntax.place 15 List.[])
+b5 = Syntax.call "search::marks::start_known" (List._∷_ (Syntax.copy (Syntax.place 1 List.[])) (List._∷_ (Syntax.copy (Syntax.place 2 List.[])) (List._∷_ (Syntax.copy (Syntax.place 20 List.[])) List.[]))) (Syntax.place 16 List.[])
 
 abbrev b6 : Syntax.Body
-b6 = Syntax.call "tables::spans::span_at" (List._∷_ (Syntax.copy (Syntax.place 1 List.[])) (List._∷_ (Syntax.copy (Syntax.place 2 List.[])) (List._∷_ (Syntax.copy (Syntax.place 5 List.[])) List.[]))) (Syntax.place 9 List.[])
+b6 = Syntax.call "tables::spans::span_at" (List._∷_ (Syntax.copy (Syntax.place 1 List.[])) (List._∷_ (Syntax.copy (Syntax.place 2 List.[])) (List._∷_ (Syntax.copy (Syntax.place 5 List.[])) List.[]))) (Syntax.place 10 List.[])
 
 abbrev b7 : Syntax.Body
-b7 = Syntax.call "search::marks::start_end" (List._∷_ (Syntax.copy (Syntax.place 9 List.[])) List.[]) (Syntax.place 10 List.[])
+b7 = Syntax.call "search::marks::start_end" (List._∷_ (Syntax.copy (Syntax.place 10 List.[])) List.[]) (Syntax.place 11 List.[])
 
 abbrev b8 : Syntax.Body
-b8 = Syntax.assign (Syntax.place 20 List.[]) (Syntax.addrOf (Syntax.place 7 (List._∷_ (Syntax.field 0) (List._∷_ (Syntax.deref (Syntax.tyInt Syntax.w16)) List.[]))))
+b8 = Syntax.assign (Syntax.place 21 List.[]) (Syntax.addrOf (Syntax.place 7 (List._∷_ (Syntax.field 0) (List._∷_ (Syntax.deref (Syntax.tyInt Syntax.w16)) List.[]))))
 
 abbrev b9 : Syntax.Body
-b9 = Syntax.assign (Syntax.place 21 List.[]) (Syntax.aggregate (List._∷_ (Syntax.copy (Syntax.place 20 List.[])) (List._∷_ (Syntax.copy (Syntax.place 7 (List._∷_ (Syntax.field 1) List.[]))) List.[])))
+b9 = Syntax.assign (Syntax.place 22 List.[]) (Syntax.aggregate (List._∷_ (Syntax.copy (Syntax.place 21 List.[])) (List._∷_ (Syntax.copy (Syntax.place 7 (List._∷_ (Syntax.field 1) List.[]))) List.[])))
 
 abbrev b10 : Syntax.Body
-b10 = Syntax.assign (Syntax.place 22 List.[]) (Syntax.addrOf (Syntax.place 8 (List._∷_ (Syntax.field 0) (List._∷_ (Syntax.deref (Syntax.tyInt Syntax.w16)) List.[]))))
+b10 = Syntax.assign (Syntax.place 23 List.[]) (Syntax.addrOf (Syntax.place 8 (List._∷_ (Syntax.field 0) (List._∷_ (Syntax.deref (Syntax.tyInt Syntax.w16)) List.[]))))
 
 abbrev b11 : Syntax.Body
-b11 = Syntax.assign (Syntax.place 23 List.[]) (Syntax.aggregate (List._∷_ (Syntax.copy (Syntax.place 22 List.[])) (List._∷_ (Syntax.copy (Syntax.place 8 (List._∷_ (Syntax.field 1) List.[]))) List.[])))
+b11 = Syntax.assign (Syntax.place 24 List.[]) (Syntax.aggregate (List._∷_ (Syntax.copy (Syntax.place 23 List.[])) (List._∷_ (Syntax.copy (Syntax.place 8 (List._∷_ (Syntax.field 1) List.[]))) List.[])))
 
 abbrev b12 : Syntax.Body
-b12 = Syntax.call "walks::queue::reach" (List._∷_ (Syntax.copy (Syntax.place 1 (List._∷_ (Syntax.field 0) List.[]))) (List._∷_ (Syntax.copy (Syntax.place 21 List.[])) (List._∷_ (Syntax.copy (Syntax.place 23 List.[])) (List._∷_ (Syntax.int Syntax.w64 0) (List._∷_ (Syntax.copy (Syntax.place 5 List.[])) (List._∷_ (Syntax.int Syntax.w64 2) List.[])))))) (Syntax.place 11 List.[])
+b12 = Syntax.call "walks::queue::reach" (List._∷_ (Syntax.copy (Syntax.place 1 (List._∷_ (Syntax.field 0) List.[]))) (List._∷_ (Syntax.copy (Syntax.place 22 List.[])) (List._∷_ (Syntax.copy (Syntax.place 24 List.[])) (List._∷_ (Syntax.int Syntax.w64 0) (List._∷_ (Syntax.copy (Syntax.place 5 List.[])) (List._∷_ (Syntax.int Syntax.w64 2) List.[])))))) (Syntax.place 12 List.[])
 
 abbrev b13 : Syntax.Body
-b13 = Syntax.assign (Syntax.place 12 List.[]) (Syntax.rvOpd (Syntax.int Syntax.w64 0))
+b13 = Syntax.assign (Syntax.place 13 List.[]) (Syntax.rvOpd (Syntax.int Syntax.w64 0))
 
 abbrev b14 : Syntax.Body
-b14 = Syntax.assign (Syntax.place 13 List.[]) (Syntax.rvOpd (Syntax.int Syntax.w64 0))
+b14 = Syntax.assign (Syntax.place 14 List.[]) (Syntax.rvOpd (Syntax.int Syntax.w64 0))
 
 abbrev b15 : Syntax.Body
-b15 = Syntax.assign (Syntax.place 24 List.[]) (Syntax.op2 Syntax.eq (Syntax.copy (Syntax.place 10 List.[])) (Syntax.int Syntax.w64 2))
+b15 = Syntax.assign (Syntax.place 25 List.[]) (Syntax.op2 Syntax.eq (Syntax.copy (Syntax.place 11 List.[])) (Syntax.int Syntax.w64 2))
 
 abbrev b16 : Syntax.Body
 b16 = Syntax.skip
@@ -229,862 +232,907 @@ abbrev b17 : Syntax.Body
 b17 = Syntax.exit 1
 
 abbrev b18 : Syntax.Body
-b18 = Syntax.cond (Syntax.copy (Syntax.place 24 List.[])) b16 b17
+b18 = Syntax.cond (Syntax.copy (Syntax.place 25 List.[])) b16 b17
 
 abbrev b19 : Syntax.Body
-b19 = Syntax.assign (Syntax.place 25 List.[]) (Syntax.addrOf (Syntax.place 6 (List._∷_ (Syntax.field 0) (List._∷_ (Syntax.deref (Syntax.tyInt Syntax.w16)) List.[]))))
+b19 = Syntax.assign (Syntax.place 26 List.[]) (Syntax.addrOf (Syntax.place 6 (List._∷_ (Syntax.field 0) (List._∷_ (Syntax.deref (Syntax.tyInt Syntax.w16)) List.[]))))
 
 abbrev b20 : Syntax.Body
-b20 = Syntax.assign (Syntax.place 26 List.[]) (Syntax.aggregate (List._∷_ (Syntax.copy (Syntax.place 25 List.[])) (List._∷_ (Syntax.copy (Syntax.place 6 (List._∷_ (Syntax.field 1) List.[]))) List.[])))
+b20 = Syntax.assign (Syntax.place 27 List.[]) (Syntax.aggregate (List._∷_ (Syntax.copy (Syntax.place 26 List.[])) (List._∷_ (Syntax.copy (Syntax.place 6 (List._∷_ (Syntax.field 1) List.[]))) List.[])))
 
 abbrev b21 : Syntax.Body
-b21 = Syntax.assign (Syntax.place 27 List.[]) (Syntax.addrOf (Syntax.place 7 (List._∷_ (Syntax.field 0) (List._∷_ (Syntax.deref (Syntax.tyInt Syntax.w16)) List.[]))))
+b21 = Syntax.assign (Syntax.place 28 List.[]) (Syntax.addrOf (Syntax.place 7 (List._∷_ (Syntax.field 0) (List._∷_ (Syntax.deref (Syntax.tyInt Syntax.w16)) List.[]))))
 
 abbrev b22 : Syntax.Body
-b22 = Syntax.assign (Syntax.place 28 List.[]) (Syntax.aggregate (List._∷_ (Syntax.copy (Syntax.place 27 List.[])) (List._∷_ (Syntax.copy (Syntax.place 7 (List._∷_ (Syntax.field 1) List.[]))) List.[])))
+b22 = Syntax.assign (Syntax.place 29 List.[]) (Syntax.aggregate (List._∷_ (Syntax.copy (Syntax.place 28 List.[])) (List._∷_ (Syntax.copy (Syntax.place 7 (List._∷_ (Syntax.field 1) List.[]))) List.[])))
 
 abbrev b23 : Syntax.Body
-b23 = Syntax.assign (Syntax.place 29 List.[]) (Syntax.addrOf (Syntax.place 8 (List._∷_ (Syntax.field 0) (List._∷_ (Syntax.deref (Syntax.tyInt Syntax.w16)) List.[]))))
+b23 = Syntax.assign (Syntax.place 30 List.[]) (Syntax.addrOf (Syntax.place 8 (List._∷_ (Syntax.field 0) (List._∷_ (Syntax.deref (Syntax.tyInt Syntax.w16)) List.[]))))
 
 abbrev b24 : Syntax.Body
-b24 = Syntax.assign (Syntax.place 30 List.[]) (Syntax.aggregate (List._∷_ (Syntax.copy (Syntax.place 29 List.[])) (List._∷_ (Syntax.copy (Syntax.place 8 (List._∷_ (Syntax.field 1) List.[]))) List.[])))
+b24 = Syntax.assign (Syntax.place 31 List.[]) (Syntax.aggregate (List._∷_ (Syntax.copy (Syntax.place 30 List.[])) (List._∷_ (Syntax.copy (Syntax.place 8 (List._∷_ (Syntax.field 1) List.[]))) List.[])))
 
 abbrev b25 : Syntax.Body
-b25 = Syntax.call "search::walk::walk" (List._∷_ (Syntax.copy (Syntax.place 1 List.[])) (List._∷_ (Syntax.copy (Syntax.place 2 List.[])) (List._∷_ (Syntax.copy (Syntax.place 3 List.[])) (List._∷_ (Syntax.copy (Syntax.place 4 List.[])) (List._∷_ (Syntax.copy (Syntax.place 26 List.[])) (List._∷_ (Syntax.copy (Syntax.place 28 List.[])) (List._∷_ (Syntax.copy (Syntax.place 30 List.[])) (List._∷_ (Syntax.copy (Syntax.place 12 List.[])) (List._∷_ (Syntax.copy (Syntax.place 11 List.[])) List.[]))))))))) (Syntax.place 14 List.[])
+b25 = Syntax.assign (Syntax.place 32 List.[]) (Syntax.addrOf (Syntax.place 9 (List._∷_ (Syntax.field 0) (List._∷_ (Syntax.deref (Syntax.tyInt Syntax.w16)) List.[]))))
 
 abbrev b26 : Syntax.Body
-b26 = Syntax.assign (Syntax.place 12 List.[]) (Syntax.rvOpd (Syntax.copy (Syntax.place 14 (List._∷_ (Syntax.field 1) List.[]))))
+b26 = Syntax.assign (Syntax.place 33 List.[]) (Syntax.aggregate (List._∷_ (Syntax.copy (Syntax.place 32 List.[])) (List._∷_ (Syntax.copy (Syntax.place 9 (List._∷_ (Syntax.field 1) List.[]))) List.[])))
 
 abbrev b27 : Syntax.Body
-b27 = Syntax.assign (Syntax.place 31 List.[]) (Syntax.addrOf (Syntax.place 6 (List._∷_ (Syntax.field 0) (List._∷_ (Syntax.deref (Syntax.tyInt Syntax.w16)) List.[]))))
+b27 = Syntax.call "search::walk::walk" (List._∷_ (Syntax.copy (Syntax.place 1 List.[])) (List._∷_ (Syntax.copy (Syntax.place 2 List.[])) (List._∷_ (Syntax.copy (Syntax.place 3 List.[])) (List._∷_ (Syntax.copy (Syntax.place 4 List.[])) (List._∷_ (Syntax.copy (Syntax.place 27 List.[])) (List._∷_ (Syntax.copy (Syntax.place 29 List.[])) (List._∷_ (Syntax.copy (Syntax.place 31 List.[])) (List._∷_ (Syntax.copy (Syntax.place 33 List.[])) (List._∷_ (Syntax.copy (Syntax.place 13 List.[])) (List._∷_ (Syntax.copy (Syntax.place 12 List.[])) List.[])))))))))) (Syntax.place 15 List.[])
 
 abbrev b28 : Syntax.Body
-b28 = Syntax.assign (Syntax.place 32 List.[]) (Syntax.aggregate (List._∷_ (Syntax.copy (Syntax.place 31 List.[])) (List._∷_ (Syntax.copy (Syntax.place 6 (List._∷_ (Syntax.field 1) List.[]))) List.[])))
+b28 = Syntax.assign (Syntax.place 13 List.[]) (Syntax.rvOpd (Syntax.copy (Syntax.place 15 (List._∷_ (Syntax.field 1) List.[]))))
 
 abbrev b29 : Syntax.Body
-b29 = Syntax.call "search::rounds::round_end" (List._∷_ (Syntax.copy (Syntax.place 32 List.[])) (List._∷_ (Syntax.copy (Syntax.place 5 List.[])) (List._∷_ (Syntax.copy (Syntax.place 12 List.[])) List.[]))) (Syntax.place 10 List.[])
+b29 = Syntax.assign (Syntax.place 34 List.[]) (Syntax.addrOf (Syntax.place 6 (List._∷_ (Syntax.field 0) (List._∷_ (Syntax.deref (Syntax.tyInt Syntax.w16)) List.[]))))
 
 abbrev b30 : Syntax.Body
-b30 = Syntax.assign (Syntax.place 33 List.[]) (Syntax.addrOf (Syntax.place 7 (List._∷_ (Syntax.field 0) (List._∷_ (Syntax.deref (Syntax.tyInt Syntax.w16)) List.[]))))
+b30 = Syntax.assign (Syntax.place 35 List.[]) (Syntax.aggregate (List._∷_ (Syntax.copy (Syntax.place 34 List.[])) (List._∷_ (Syntax.copy (Syntax.place 6 (List._∷_ (Syntax.field 1) List.[]))) List.[])))
 
 abbrev b31 : Syntax.Body
-b31 = Syntax.assign (Syntax.place 34 List.[]) (Syntax.aggregate (List._∷_ (Syntax.copy (Syntax.place 33 List.[])) (List._∷_ (Syntax.copy (Syntax.place 7 (List._∷_ (Syntax.field 1) List.[]))) List.[])))
+b31 = Syntax.call "search::rounds::round_end" (List._∷_ (Syntax.copy (Syntax.place 35 List.[])) (List._∷_ (Syntax.copy (Syntax.place 5 List.[])) (List._∷_ (Syntax.copy (Syntax.place 13 List.[])) List.[]))) (Syntax.place 11 List.[])
 
 abbrev b32 : Syntax.Body
-b32 = Syntax.assign (Syntax.place 35 List.[]) (Syntax.addrOf (Syntax.place 8 (List._∷_ (Syntax.field 0) (List._∷_ (Syntax.deref (Syntax.tyInt Syntax.w16)) List.[]))))
+b32 = Syntax.assign (Syntax.place 36 List.[]) (Syntax.addrOf (Syntax.place 7 (List._∷_ (Syntax.field 0) (List._∷_ (Syntax.deref (Syntax.tyInt Syntax.w16)) List.[]))))
 
 abbrev b33 : Syntax.Body
-b33 = Syntax.assign (Syntax.place 36 List.[]) (Syntax.aggregate (List._∷_ (Syntax.copy (Syntax.place 35 List.[])) (List._∷_ (Syntax.copy (Syntax.place 8 (List._∷_ (Syntax.field 1) List.[]))) List.[])))
+b33 = Syntax.assign (Syntax.place 37 List.[]) (Syntax.aggregate (List._∷_ (Syntax.copy (Syntax.place 36 List.[])) (List._∷_ (Syntax.copy (Syntax.place 7 (List._∷_ (Syntax.field 1) List.[]))) List.[])))
 
 abbrev b34 : Syntax.Body
-b34 = Syntax.call "search::marks::kept" (List._∷_ (Syntax.copy (Syntax.place 34 List.[])) (List._∷_ (Syntax.copy (Syntax.place 36 List.[])) (List._∷_ (Syntax.copy (Syntax.place 14 (List._∷_ (Syntax.field 0) List.[]))) (List._∷_ (Syntax.copy (Syntax.place 12 List.[])) List.[])))) (Syntax.place 11 List.[])
+b34 = Syntax.assign (Syntax.place 38 List.[]) (Syntax.addrOf (Syntax.place 8 (List._∷_ (Syntax.field 0) (List._∷_ (Syntax.deref (Syntax.tyInt Syntax.w16)) List.[]))))
 
 abbrev b35 : Syntax.Body
-b35 = Syntax.assign (Syntax.place 38 List.[]) (Syntax.addrOf (Syntax.place 6 (List._∷_ (Syntax.field 0) (List._∷_ (Syntax.deref (Syntax.tyInt Syntax.w16)) List.[]))))
+b35 = Syntax.assign (Syntax.place 39 List.[]) (Syntax.aggregate (List._∷_ (Syntax.copy (Syntax.place 38 List.[])) (List._∷_ (Syntax.copy (Syntax.place 8 (List._∷_ (Syntax.field 1) List.[]))) List.[])))
 
 abbrev b36 : Syntax.Body
-b36 = Syntax.assign (Syntax.place 39 List.[]) (Syntax.aggregate (List._∷_ (Syntax.copy (Syntax.place 38 List.[])) (List._∷_ (Syntax.copy (Syntax.place 6 (List._∷_ (Syntax.field 1) List.[]))) List.[])))
+b36 = Syntax.call "search::marks::kept" (List._∷_ (Syntax.copy (Syntax.place 37 List.[])) (List._∷_ (Syntax.copy (Syntax.place 39 List.[])) (List._∷_ (Syntax.copy (Syntax.place 15 (List._∷_ (Syntax.field 0) List.[]))) (List._∷_ (Syntax.copy (Syntax.place 13 List.[])) List.[])))) (Syntax.place 12 List.[])
 
 abbrev b37 : Syntax.Body
-b37 = Syntax.assign (Syntax.place 40 List.[]) (Syntax.addrOf (Syntax.place 7 (List._∷_ (Syntax.field 0) (List._∷_ (Syntax.deref (Syntax.tyInt Syntax.w16)) List.[]))))
+b37 = Syntax.assign (Syntax.place 41 List.[]) (Syntax.addrOf (Syntax.place 6 (List._∷_ (Syntax.field 0) (List._∷_ (Syntax.deref (Syntax.tyInt Syntax.w16)) List.[]))))
 
 abbrev b38 : Syntax.Body
-b38 = Syntax.assign (Syntax.place 41 List.[]) (Syntax.aggregate (List._∷_ (Syntax.copy (Syntax.place 40 List.[])) (List._∷_ (Syntax.copy (Syntax.place 7 (List._∷_ (Syntax.field 1) List.[]))) List.[])))
+b38 = Syntax.assign (Syntax.place 42 List.[]) (Syntax.aggregate (List._∷_ (Syntax.copy (Syntax.place 41 List.[])) (List._∷_ (Syntax.copy (Syntax.place 6 (List._∷_ (Syntax.field 1) List.[]))) List.[])))
 
 abbrev b39 : Syntax.Body
-b39 = Syntax.assign (Syntax.place 42 List.[]) (Syntax.addrOf (Syntax.place 8 (List._∷_ (Syntax.field 0) (List._∷_ (Syntax.deref (Syntax.tyInt Syntax.w16)) List.[]))))
+b39 = Syntax.assign (Syntax.place 43 List.[]) (Syntax.addrOf (Syntax.place 7 (List._∷_ (Syntax.field 0) (List._∷_ (Syntax.deref (Syntax.tyInt Syntax.w16)) List.[]))))
 
 abbrev b40 : Syntax.Body
-b40 = Syntax.assign (Syntax.place 43 List.[]) (Syntax.aggregate (List._∷_ (Syntax.copy (Syntax.place 42 List.[])) (List._∷_ (Syntax.copy (Syntax.place 8 (List._∷_ (Syntax.field 1) List.[]))) List.[])))
+b40 = Syntax.assign (Syntax.place 44 List.[]) (Syntax.aggregate (List._∷_ (Syntax.copy (Syntax.place 43 List.[])) (List._∷_ (Syntax.copy (Syntax.place 7 (List._∷_ (Syntax.field 1) List.[]))) List.[])))
 
 abbrev b41 : Syntax.Body
-b41 = Syntax.call "search::marks::settle" (List._∷_ (Syntax.copy (Syntax.place 1 List.[])) (List._∷_ (Syntax.copy (Syntax.place 2 List.[])) (List._∷_ (Syntax.copy (Syntax.place 39 List.[])) (List._∷_ (Syntax.copy (Syntax.place 41 List.[])) (List._∷_ (Syntax.copy (Syntax.place 43 List.[])) (List._∷_ (Syntax.copy (Syntax.place 11 List.[])) (List._∷_ (Syntax.copy (Syntax.place 14 (List._∷_ (Syntax.field 0) List.[]))) List.[]))))))) (Syntax.place 37 List.[])
+b41 = Syntax.assign (Syntax.place 45 List.[]) (Syntax.addrOf (Syntax.place 8 (List._∷_ (Syntax.field 0) (List._∷_ (Syntax.deref (Syntax.tyInt Syntax.w16)) List.[]))))
 
 abbrev b42 : Syntax.Body
-b42 = Syntax.assign (Syntax.place 13 List.[]) (Syntax.op2 (Syntax.add Syntax.unsigned) (Syntax.copy (Syntax.place 13 List.[])) (Syntax.int Syntax.w64 1))
+b42 = Syntax.assign (Syntax.place 46 List.[]) (Syntax.aggregate (List._∷_ (Syntax.copy (Syntax.place 45 List.[])) (List._∷_ (Syntax.copy (Syntax.place 8 (List._∷_ (Syntax.field 1) List.[]))) List.[])))
 
 abbrev b43 : Syntax.Body
-b43 = Syntax.seq b41 b42
+b43 = Syntax.call "search::marks::settle" (List._∷_ (Syntax.copy (Syntax.place 1 List.[])) (List._∷_ (Syntax.copy (Syntax.place 2 List.[])) (List._∷_ (Syntax.copy (Syntax.place 42 List.[])) (List._∷_ (Syntax.copy (Syntax.place 44 List.[])) (List._∷_ (Syntax.copy (Syntax.place 46 List.[])) (List._∷_ (Syntax.copy (Syntax.place 12 List.[])) (List._∷_ (Syntax.copy (Syntax.place 15 (List._∷_ (Syntax.field 0) List.[]))) List.[]))))))) (Syntax.place 40 List.[])
 
 abbrev b44 : Syntax.Body
-b44 = Syntax.seq b40 b43
+b44 = Syntax.assign (Syntax.place 14 List.[]) (Syntax.op2 (Syntax.add Syntax.unsigned) (Syntax.copy (Syntax.place 14 List.[])) (Syntax.int Syntax.w64 1))
 
 abbrev b45 : Syntax.Body
-b45 = Syntax.seq b39 b44
+b45 = Syntax.seq b43 b44
 
 abbrev b46 : Syntax.Body
-b46 = Syntax.seq b38 b45
+b46 = Syntax.seq b42 b45
 
 abbrev b47 : Syntax.Body
-b47 = Syntax.seq b37 b46
+b47 = Syntax.seq b41 b46
 
 abbrev b48 : Syntax.Body
-b48 = Syntax.seq b36 b47
+b48 = Syntax.seq b40 b47
 
 abbrev b49 : Syntax.Body
-b49 = Syntax.seq b35 b48
+b49 = Syntax.seq b39 b48
 
 abbrev b50 : Syntax.Body
-b50 = Syntax.seq b34 b49
+b50 = Syntax.seq b38 b49
 
 abbrev b51 : Syntax.Body
-b51 = Syntax.seq b33 b50
+b51 = Syntax.seq b37 b50
 
 abbrev b52 : Syntax.Body
-b52 = Syntax.seq b32 b51
+b52 = Syntax.seq b36 b51
 
 abbrev b53 : Syntax.Body
-b53 = Syntax.seq b31 b52
+b53 = Syntax.seq b35 b52
 
 abbrev b54 : Syntax.Body
-b54 = Syntax.seq b30 b53
+b54 = Syntax.seq b34 b53
 
 abbrev b55 : Syntax.Body
-b55 = Syntax.seq b29 b54
+b55 = Syntax.seq b33 b54
 
 abbrev b56 : Syntax.Body
-b56 = Syntax.seq b28 b55
+b56 = Syntax.seq b32 b55
 
 abbrev b57 : Syntax.Body
-b57 = Syntax.seq b27 b56
+b57 = Syntax.seq b31 b56
 
 abbrev b58 : Syntax.Body
-b58 = Syntax.seq b26 b57
+b58 = Syntax.seq b30 b57
 
 abbrev b59 : Syntax.Body
-b59 = Syntax.seq b25 b58
+b59 = Syntax.seq b29 b58
 
 abbrev b60 : Syntax.Body
-b60 = Syntax.seq b24 b59
+b60 = Syntax.seq b28 b59
 
 abbrev b61 : Syntax.Body
-b61 = Syntax.seq b23 b60
+b61 = Syntax.seq b27 b60
 
 abbrev b62 : Syntax.Body
-b62 = Syntax.seq b22 b61
+b62 = Syntax.seq b26 b61
 
 abbrev b63 : Syntax.Body
-b63 = Syntax.seq b21 b62
+b63 = Syntax.seq b25 b62
 
 abbrev b64 : Syntax.Body
-b64 = Syntax.seq b20 b63
+b64 = Syntax.seq b24 b63
 
 abbrev b65 : Syntax.Body
-b65 = Syntax.seq b19 b64
+b65 = Syntax.seq b23 b64
 
 abbrev b66 : Syntax.Body
-b66 = Syntax.seq b18 b65
+b66 = Syntax.seq b22 b65
 
 abbrev b67 : Syntax.Body
-b67 = Syntax.seq b15 b66
+b67 = Syntax.seq b21 b66
 
 abbrev b68 : Syntax.Body
-b68 = Syntax.loop b67
+b68 = Syntax.seq b20 b67
 
 abbrev b69 : Syntax.Body
-b69 = Syntax.block b68
+b69 = Syntax.seq b19 b68
 
 abbrev b70 : Syntax.Body
-b70 = Syntax.assign (Syntax.place 44 List.[]) (Syntax.addrOf (Syntax.place 6 (List._∷_ (Syntax.field 0) (List._∷_ (Syntax.deref (Syntax.tyInt Syntax.w16)) List.[]))))
+b70 = Syntax.seq b18 b69
 
 abbrev b71 : Syntax.Body
-b71 = Syntax.assign (Syntax.place 45 List.[]) (Syntax.aggregate (List._∷_ (Syntax.copy (Syntax.place 44 List.[])) (List._∷_ (Syntax.copy (Syntax.place 6 (List._∷_ (Syntax.field 1) List.[]))) List.[])))
+b71 = Syntax.seq b15 b70
 
 abbrev b72 : Syntax.Body
-b72 = Syntax.assign (Syntax.place 46 List.[]) (Syntax.addrOf (Syntax.place 7 (List._∷_ (Syntax.field 0) (List._∷_ (Syntax.deref (Syntax.tyInt Syntax.w16)) List.[]))))
+b72 = Syntax.loop b71
 
 abbrev b73 : Syntax.Body
-b73 = Syntax.assign (Syntax.place 47 List.[]) (Syntax.aggregate (List._∷_ (Syntax.copy (Syntax.place 46 List.[])) (List._∷_ (Syntax.copy (Syntax.place 7 (List._∷_ (Syntax.field 1) List.[]))) List.[])))
+b73 = Syntax.block b72
 
 abbrev b74 : Syntax.Body
-b74 = Syntax.call "search::rounds::finish" (List._∷_ (Syntax.copy (Syntax.place 1 (List._∷_ (Syntax.field 0) List.[]))) (List._∷_ (Syntax.copy (Syntax.place 10 List.[])) (List._∷_ (Syntax.copy (Syntax.place 13 List.[])) (List._∷_ (Syntax.copy (Syntax.place 45 List.[])) (List._∷_ (Syntax.copy (Syntax.place 47 List.[])) List.[]))))) (Syntax.place 0 List.[])
+b74 = Syntax.assign (Syntax.place 47 List.[]) (Syntax.addrOf (Syntax.place 6 (List._∷_ (Syntax.field 0) (List._∷_ (Syntax.deref (Syntax.tyInt Syntax.w16)) List.[]))))
 
 abbrev b75 : Syntax.Body
-b75 = Syntax.return
+b75 = Syntax.assign (Syntax.place 48 List.[]) (Syntax.aggregate (List._∷_ (Syntax.copy (Syntax.place 47 List.[])) (List._∷_ (Syntax.copy (Syntax.place 6 (List._∷_ (Syntax.field 1) List.[]))) List.[])))
 
 abbrev b76 : Syntax.Body
-b76 = Syntax.seq b74 b75
+b76 = Syntax.assign (Syntax.place 49 List.[]) (Syntax.addrOf (Syntax.place 7 (List._∷_ (Syntax.field 0) (List._∷_ (Syntax.deref (Syntax.tyInt Syntax.w16)) List.[]))))
 
 abbrev b77 : Syntax.Body
-b77 = Syntax.seq b73 b76
+b77 = Syntax.assign (Syntax.place 50 List.[]) (Syntax.aggregate (List._∷_ (Syntax.copy (Syntax.place 49 List.[])) (List._∷_ (Syntax.copy (Syntax.place 7 (List._∷_ (Syntax.field 1) List.[]))) List.[])))
 
 abbrev b78 : Syntax.Body
-b78 = Syntax.seq b72 b77
+b78 = Syntax.call "search::rounds::finish" (List._∷_ (Syntax.copy (Syntax.place 1 (List._∷_ (Syntax.field 0) List.[]))) (List._∷_ (Syntax.copy (Syntax.place 11 List.[])) (List._∷_ (Syntax.copy (Syntax.place 14 List.[])) (List._∷_ (Syntax.copy (Syntax.place 48 List.[])) (List._∷_ (Syntax.copy (Syntax.place 50 List.[])) List.[]))))) (Syntax.place 0 List.[])
 
 abbrev b79 : Syntax.Body
-b79 = Syntax.seq b71 b78
+b79 = Syntax.return
 
 abbrev b80 : Syntax.Body
-b80 = Syntax.seq b70 b79
+b80 = Syntax.seq b78 b79
 
 abbrev b81 : Syntax.Body
-b81 = Syntax.seq b69 b80
+b81 = Syntax.seq b77 b80
 
 abbrev b82 : Syntax.Body
-b82 = Syntax.seq b14 b81
+b82 = Syntax.seq b76 b81
 
 abbrev b83 : Syntax.Body
-b83 = Syntax.seq b13 b82
+b83 = Syntax.seq b75 b82
 
 abbrev b84 : Syntax.Body
-b84 = Syntax.seq b12 b83
+b84 = Syntax.seq b74 b83
 
 abbrev b85 : Syntax.Body
-b85 = Syntax.seq b11 b84
+b85 = Syntax.seq b73 b84
 
 abbrev b86 : Syntax.Body
-b86 = Syntax.seq b10 b85
+b86 = Syntax.seq b14 b85
 
 abbrev b87 : Syntax.Body
-b87 = Syntax.seq b9 b86
+b87 = Syntax.seq b13 b86
 
 abbrev b88 : Syntax.Body
-b88 = Syntax.seq b8 b87
+b88 = Syntax.seq b12 b87
 
 abbrev b89 : Syntax.Body
-b89 = Syntax.seq b7 b88
+b89 = Syntax.seq b11 b88
 
 abbrev b90 : Syntax.Body
-b90 = Syntax.seq b6 b89
+b90 = Syntax.seq b10 b89
 
 abbrev b91 : Syntax.Body
-b91 = Syntax.seq b5 b90
+b91 = Syntax.seq b9 b90
 
 abbrev b92 : Syntax.Body
-b92 = Syntax.seq b4 b91
+b92 = Syntax.seq b8 b91
 
 abbrev b93 : Syntax.Body
-b93 = Syntax.seq b3 b92
+b93 = Syntax.seq b7 b92
 
 abbrev b94 : Syntax.Body
-b94 = Syntax.seq b2 b93
+b94 = Syntax.seq b6 b93
 
 abbrev b95 : Syntax.Body
-b95 = Syntax.seq b1 b94
+b95 = Syntax.seq b5 b94
 
 abbrev b96 : Syntax.Body
-b96 = Syntax.seq b0 b95
+b96 = Syntax.seq b4 b95
+
+abbrev b97 : Syntax.Body
+b97 = Syntax.seq b3 b96
+
+abbrev b98 : Syntax.Body
+b98 = Syntax.seq b2 b97
+
+abbrev b99 : Syntax.Body
+b99 = Syntax.seq b1 b98
+
+abbrev b100 : Syntax.Body
+b100 = Syntax.seq b0 b99
 
 abbrev pub body : Syntax.Body
-body = b96
+body = b100
 
 abbrev pub Claims : Type 1
-Claims = Kinds.In 1 ps·0 × Kinds.Out 1 ps·0 r·0 × Kinds.In 2 ps·1 × Kinds.Out 2 ps·1 r·1 × Kinds.In 1 ps·2 × Kinds.Out 1 ps·2 r·2 × Kinds.In 0 ps·3 × Kinds.Out 0 ps·3 r·3 × Kinds.In 2 ps·4 × Kinds.Out 2 ps·4 r·4 × Kinds.In 6 ps·5 × Kinds.Out 6 ps·5 r·5 × Kinds.In 1 ps·6 × Kinds.Out 1 ps·6 r·6 × Kinds.In 2 ps·7 × Kinds.Out 2 ps·7 r·7 × Kinds.In 4 ps·8 × Kinds.Out 4 ps·8 r·8 × Kinds.In 2 ps·9 × Kinds.Out 2 ps·9 r·9
+Claims = Kinds.In 1 ps·0 × Kinds.Out 1 ps·0 r·0 × Kinds.In 2 ps·1 × Kinds.Out 2 ps·1 r·1 × Kinds.In 1 ps·2 × Kinds.Out 1 ps·2 r·2 × Kinds.In 0 ps·3 × Kinds.Out 0 ps·3 r·3 × Kinds.In 2 ps·4 × Kinds.Out 2 ps·4 r·4 × Kinds.In 7 ps·5 × Kinds.Out 7 ps·5 r·5 × Kinds.In 1 ps·6 × Kinds.Out 1 ps·6 r·6 × Kinds.In 2 ps·7 × Kinds.Out 2 ps·7 r·7 × Kinds.In 4 ps·8 × Kinds.Out 4 ps·8 r·8 × Kinds.In 2 ps·9 × Kinds.Out 2 ps·9 r·9
 
 abbrev pub t0 : List.List Row.Entry
-t0 = List._∷_ (0, Rows.any-gone ty·10) (List._∷_ (1, Rows.whole (Declared.row Size.the-type)) (List._∷_ (2, Rows.sslice T.the-row ty·7 0) (List._∷_ (3, Rows.sslice (Referent.rtF (Referent.fInt Syntax.w16)) ty·2 1) (List._∷_ (4, Rows.sslice (Referent.rtF (Referent.fInt Syntax.w16)) ty·3 2) (List._∷_ (5, Rows.sc-here (Row.sInt Syntax.w64)) (List._∷_ (6, Mut.mslice (Referent.rtF (Referent.fInt Syntax.w16)) ty·4 3) (List._∷_ (7, Mut.mslice (Referent.rtF (Referent.fInt Syntax.w16)) ty·5 4) (List._∷_ (8, Mut.mslice (Referent.rtF (Referent.fInt Syntax.w16)) ty·6 5) (List._∷_ (9, Rows.any-gone ty·13) (List._∷_ (10, Rows.any-gone (Syntax.tyInt Syntax.w64)) (List._∷_ (11, Rows.any-gone (Syntax.tyInt Syntax.w64)) (List._∷_ (12, Rows.any-gone (Syntax.tyInt Syntax.w64)) (List._∷_ (13, Rows.any-gone (Syntax.tyInt Syntax.w64)) (List._∷_ (14, Rows.any-gone ty·12) (List._∷_ (15, Rows.any-gone Syntax.tyUnit) List.[])))))))))))))))
+t0 = List._∷_ (0, Rows.any-gone ty·11) (List._∷_ (1, Rows.whole (Declared.row Size.the-type)) (List._∷_ (2, Rows.sslice T.the-row ty·8 0) (List._∷_ (3, Rows.sslice (Referent.rtF (Referent.fInt Syntax.w16)) ty·2 1) (List._∷_ (4, Rows.sslice (Referent.rtF (Referent.fInt Syntax.w16)) ty·3 2) (List._∷_ (5, Rows.sc-here (Row.sInt Syntax.w64)) (List._∷_ (6, Mut.mslice (Referent.rtF (Referent.fInt Syntax.w16)) ty·4 3) (List._∷_ (7, Mut.mslice (Referent.rtF (Referent.fInt Syntax.w16)) ty·5 4) (List._∷_ (8, Mut.mslice (Referent.rtF (Referent.fInt Syntax.w16)) ty·6 5) (List._∷_ (9, Mut.mslice (Referent.rtF (Referent.fInt Syntax.w16)) ty·7 6) (List._∷_ (10, Rows.any-gone ty·14) (List._∷_ (11, Rows.any-gone (Syntax.tyInt Syntax.w64)) (List._∷_ (12, Rows.any-gone (Syntax.tyInt Syntax.w64)) (List._∷_ (13, Rows.any-gone (Syntax.tyInt Syntax.w64)) (List._∷_ (14, Rows.any-gone (Syntax.tyInt Syntax.w64)) (List._∷_ (15, Rows.any-gone ty·13) List.[])))))))))))))))
 
 abbrev pub t1 : List.List Row.Entry
-t1 = List._∷_ (16, Rows.any-gone ty·0) (List._∷_ (17, Rows.any-gone ty·8) (List._∷_ (18, Rows.any-gone ty·0) (List._∷_ (19, Rows.any-gone ty·8) (List._∷_ (20, Rows.any-gone ty·0) (List._∷_ (21, Rows.any-gone ty·8) (List._∷_ (22, Rows.any-gone ty·0) (List._∷_ (23, Rows.any-gone ty·8) (List._∷_ (24, Rows.any-gone Syntax.tyBool) (List._∷_ (25, Rows.any-gone ty·0) (List._∷_ (26, Rows.any-gone ty·8) (List._∷_ (27, Rows.any-gone ty·0) (List._∷_ (28, Rows.any-gone ty·8) (List._∷_ (29, Rows.any-gone ty·0) (List._∷_ (30, Rows.any-gone ty·8) (List._∷_ (31, Rows.any-gone ty·1) List.[])))))))))))))))
+t1 = List._∷_ (16, Rows.any-gone Syntax.tyUnit) (List._∷_ (17, Rows.any-gone ty·0) (List._∷_ (18, Rows.any-gone ty·9) (List._∷_ (19, Rows.any-gone ty·0) (List._∷_ (20, Rows.any-gone ty·9) (List._∷_ (21, Rows.any-gone ty·0) (List._∷_ (22, Rows.any-gone ty·9) (List._∷_ (23, Rows.any-gone ty·0) (List._∷_ (24, Rows.any-gone ty·9) (List._∷_ (25, Rows.any-gone Syntax.tyBool) (List._∷_ (26, Rows.any-gone ty·0) (List._∷_ (27, Rows.any-gone ty·9) (List._∷_ (28, Rows.any-gone ty·0) (List._∷_ (29, Rows.any-gone ty·9) (List._∷_ (30, Rows.any-gone ty·0) (List._∷_ (31, Rows.any-gone ty·9) List.[])))))))))))))))
 
 abbrev pub t2 : List.List Row.Entry
-t2 = List._∷_ (32, Rows.any-gone ty·9) (List._∷_ (33, Rows.any-gone ty·1) (List._∷_ (34, Rows.any-gone ty·9) (List._∷_ (35, Rows.any-gone ty·1) (List._∷_ (36, Rows.any-gone ty·9) (List._∷_ (37, Rows.any-gone Syntax.tyUnit) (List._∷_ (38, Rows.any-gone ty·0) (List._∷_ (39, Rows.any-gone ty·8) (List._∷_ (40, Rows.any-gone ty·0) (List._∷_ (41, Rows.any-gone ty·8) (List._∷_ (42, Rows.any-gone ty·1) (List._∷_ (43, Rows.any-gone ty·9) (List._∷_ (44, Rows.any-gone ty·0) (List._∷_ (45, Rows.any-gone ty·8) (List._∷_ (46, Rows.any-gone ty·0) (List._∷_ (47, Rows.any-gone ty·8) List.[])))))))))))))))
+t2 = List._∷_ (32, Rows.any-gone ty·0) (List._∷_ (33, Rows.any-gone ty·9) (List._∷_ (34, Rows.any-gone ty·1) (List._∷_ (35, Rows.any-gone ty·10) (List._∷_ (36, Rows.any-gone ty·1) (List._∷_ (37, Rows.any-gone ty·10) (List._∷_ (38, Rows.any-gone ty·1) (List._∷_ (39, Rows.any-gone ty·10) (List._∷_ (40, Rows.any-gone Syntax.tyUnit) (List._∷_ (41, Rows.any-gone ty·0) (List._∷_ (42, Rows.any-gone ty·9) (List._∷_ (43, Rows.any-gone ty·0) (List._∷_ (44, Rows.any-gone ty·9) (List._∷_ (45, Rows.any-gone ty·1) (List._∷_ (46, Rows.any-gone ty·10) (List._∷_ (47, Rows.any-gone ty·0) List.[])))))))))))))))
 
 abbrev pub t3 : List.List Row.Entry
-t3 = Row.setRow 5 (5, Rows.any-gone (Syntax.tyInt Syntax.w64)) (Row.setRow 1 (1, Rows.any-gone ty·11) (Row.setRow 0 (0, Rows.whole (Declared.row Found.the-type)) t0))
+t3 = List._∷_ (48, Rows.any-gone ty·9) (List._∷_ (49, Rows.any-gone ty·0) (List._∷_ (50, Rows.any-gone ty·9) List.[]))
 
 abbrev pub t4 : List.List Row.Entry
-t4 = Row.setRow 6 (6, Relend.mslice-owed (Referent.rtF (Referent.fInt Syntax.w16)) ty·4 3 6 Row.off) t0
+t4 = Row.setRow 5 (5, Rows.any-gone (Syntax.tyInt Syntax.w64)) (Row.setRow 1 (1, Rows.any-gone ty·12) (Row.setRow 0 (0, Rows.whole (Declared.row Found.the-type)) t0))
 
 abbrev pub t5 : List.List Row.Entry
-t5 = Row.setRow 0 (16, Relend.msptr (Referent.rtF (Referent.fInt Syntax.w16)) ty·0 6) t1
+t5 = Row.setRow 6 (6, Relend.mslice-owed (Referent.rtF (Referent.fInt Syntax.w16)) ty·4 3 7 Row.off) t0
 
 abbrev pub t6 : List.List Row.Entry
-t6 = Row.setRow 1 (17, Mut.mslice (Referent.rtF (Referent.fInt Syntax.w16)) ty·0 6) t1
+t6 = Row.setRow 1 (17, Relend.msptr (Referent.rtF (Referent.fInt Syntax.w16)) ty·0 7) t1
 
 abbrev pub t7 : List.List Row.Entry
-t7 = Row.setRow 15 (15, Rows.sc-here Row.sUnit) t4
+t7 = Row.setRow 2 (18, Mut.mslice (Referent.rtF (Referent.fInt Syntax.w16)) ty·0 7) t1
 
 abbrev pub t8 : List.List Row.Entry
-t8 = Row.setRow 1 (17, Mut.msleft (Referent.rtF (Referent.fInt Syntax.w16)) ty·0) t1
+t8 = Row.setRow 2 (18, Mut.msleft (Referent.rtF (Referent.fInt Syntax.w16)) ty·0) (Row.setRow 0 (16, Rows.sc-here Row.sUnit) t1)
 
 abbrev pub t9 : List.List Row.Entry
-t9 = Row.setRow 7 (7, Relend.mslice-owed (Referent.rtF (Referent.fInt Syntax.w16)) ty·5 4 7 Row.off) t0
+t9 = Row.setRow 0 (16, Rows.any-gone Syntax.tyUnit) t8
 
 abbrev pub t10 : List.List Row.Entry
-t10 = Row.setRow 2 (18, Relend.msptr (Referent.rtF (Referent.fInt Syntax.w16)) ty·0 7) t1
+t10 = Row.setRow 7 (7, Relend.mslice-owed (Referent.rtF (Referent.fInt Syntax.w16)) ty·5 4 8 Row.off) t0
 
 abbrev pub t11 : List.List Row.Entry
-t11 = Row.setRow 3 (19, Mut.mslice (Referent.rtF (Referent.fInt Syntax.w16)) ty·0 7) t1
+t11 = Row.setRow 3 (19, Relend.msptr (Referent.rtF (Referent.fInt Syntax.w16)) ty·0 8) t1
 
 abbrev pub t12 : List.List Row.Entry
-t12 = Row.setRow 15 (15, Rows.sc-here Row.sUnit) t9
+t12 = Row.setRow 4 (20, Mut.mslice (Referent.rtF (Referent.fInt Syntax.w16)) ty·0 8) t1
 
 abbrev pub t13 : List.List Row.Entry
-t13 = Row.setRow 3 (19, Mut.msleft (Referent.rtF (Referent.fInt Syntax.w16)) ty·0) t1
+t13 = Row.setRow 4 (20, Mut.msleft (Referent.rtF (Referent.fInt Syntax.w16)) ty·0) (Row.setRow 0 (16, Rows.sc-here Row.sUnit) t1)
 
 abbrev pub t14 : List.List Row.Entry
-t14 = Row.setRow 9 (9, Rows.whole (Declared.row Span.the-type)) t0
+t14 = Row.setRow 0 (16, Rows.any-gone Syntax.tyUnit) t13
 
 abbrev pub t15 : List.List Row.Entry
-t15 = Row.setRow 10 (10, Rows.sc-here (Row.sInt Syntax.w64)) t14
+t15 = Row.setRow 10 (10, Rows.whole (Declared.row Span.the-type)) t0
 
 abbrev pub t16 : List.List Row.Entry
-t16 = Row.setRow 10 (10, Rows.sc-here (Row.sInt Syntax.w64)) t0
+t16 = Row.setRow 11 (11, Rows.sc-here (Row.sInt Syntax.w64)) t15
 
 abbrev pub t17 : List.List Row.Entry
-t17 = Row.setRow 7 (7, Relend.mslice-owed (Referent.rtF (Referent.fInt Syntax.w16)) ty·5 4 8 Row.off) t16
+t17 = Row.setRow 11 (11, Rows.sc-here (Row.sInt Syntax.w64)) t0
 
 abbrev pub t18 : List.List Row.Entry
-t18 = Row.setRow 4 (20, Relend.msptr (Referent.rtF (Referent.fInt Syntax.w16)) ty·0 8) t1
+t18 = Row.setRow 7 (7, Relend.mslice-owed (Referent.rtF (Referent.fInt Syntax.w16)) ty·5 4 9 Row.off) t17
 
 abbrev pub t19 : List.List Row.Entry
-t19 = Row.setRow 5 (21, Mut.mslice (Referent.rtF (Referent.fInt Syntax.w16)) ty·0 8) t1
+t19 = Row.setRow 5 (21, Relend.msptr (Referent.rtF (Referent.fInt Syntax.w16)) ty·0 9) t1
 
 abbrev pub t20 : List.List Row.Entry
-t20 = Row.setRow 8 (8, Relend.mslice-owed (Referent.rtF (Referent.fInt Syntax.w16)) ty·6 5 9 Row.off) t17
+t20 = Row.setRow 6 (22, Mut.mslice (Referent.rtF (Referent.fInt Syntax.w16)) ty·0 9) t1
 
 abbrev pub t21 : List.List Row.Entry
-t21 = Row.setRow 6 (22, Relend.msptr (Referent.rtF (Referent.fInt Syntax.w16)) ty·0 9) t19
+t21 = Row.setRow 8 (8, Relend.mslice-owed (Referent.rtF (Referent.fInt Syntax.w16)) ty·6 5 10 Row.off) t18
 
 abbrev pub t22 : List.List Row.Entry
-t22 = Row.setRow 7 (23, Mut.mslice (Referent.rtF (Referent.fInt Syntax.w16)) ty·0 9) t19
+t22 = Row.setRow 7 (23, Relend.msptr (Referent.rtF (Referent.fInt Syntax.w16)) ty·0 10) t20
 
 abbrev pub t23 : List.List Row.Entry
-t23 = Row.setRow 11 (11, Rows.sc-here (Row.sInt Syntax.w64)) t20
+t23 = Row.setRow 8 (24, Mut.mslice (Referent.rtF (Referent.fInt Syntax.w16)) ty·0 10) t20
 
 abbrev pub t24 : List.List Row.Entry
-t24 = Row.setRow 7 (23, Mut.msleft (Referent.rtF (Referent.fInt Syntax.w16)) ty·0) (Row.setRow 5 (21, Mut.msleft (Referent.rtF (Referent.fInt Syntax.w16)) ty·0) t1)
+t24 = Row.setRow 12 (12, Rows.sc-here (Row.sInt Syntax.w64)) t21
 
 abbrev pub t25 : List.List Row.Entry
-t25 = Row.setRow 7 (7, Mut.mslice (Referent.rtF (Referent.fInt Syntax.w16)) ty·5 4) t23
+t25 = Row.setRow 8 (24, Mut.msleft (Referent.rtF (Referent.fInt Syntax.w16)) ty·0) (Row.setRow 6 (22, Mut.msleft (Referent.rtF (Referent.fInt Syntax.w16)) ty·0) t1)
 
 abbrev pub t26 : List.List Row.Entry
-t26 = Row.setRow 7 (23, Mut.msleft (Referent.rtF (Referent.fInt Syntax.w16)) ty·0) t1
+t26 = Row.setRow 7 (7, Mut.mslice (Referent.rtF (Referent.fInt Syntax.w16)) ty·5 4) t24
 
 abbrev pub t27 : List.List Row.Entry
-t27 = Row.setRow 11 (11, Rows.sc-here (Row.sInt Syntax.w64)) t16
+t27 = Row.setRow 8 (24, Mut.msleft (Referent.rtF (Referent.fInt Syntax.w16)) ty·0) t1
 
 abbrev pub t28 : List.List Row.Entry
-t28 = Row.setRow 12 (12, Rows.sc-here (Row.sInt Syntax.w64)) t27
+t28 = Row.setRow 12 (12, Rows.sc-here (Row.sInt Syntax.w64)) t17
 
 abbrev pub t29 : List.List Row.Entry
 t29 = Row.setRow 13 (13, Rows.sc-here (Row.sInt Syntax.w64)) t28
 
 abbrev pub t30 : List.List Row.Entry
-t30 = Row.setRow 8 (24, Rows.sc-here Row.sBool) t1
+t30 = Row.setRow 14 (14, Rows.sc-here (Row.sInt Syntax.w64)) t29
 
 abbrev pub t31 : List.List Row.Entry
-t31 = Row.setRow 10 (10, Rows.any-gone (Syntax.tyInt Syntax.w64)) t29
+t31 = Row.setRow 9 (25, Rows.sc-here Row.sBool) t1
 
 abbrev pub t32 : List.List Row.Entry
-t32 = Row.setRow 6 (6, Relend.mslice-owed (Referent.rtF (Referent.fInt Syntax.w16)) ty·4 3 10 Row.off) t31
+t32 = Row.setRow 11 (11, Rows.any-gone (Syntax.tyInt Syntax.w64)) t30
 
 abbrev pub t33 : List.List Row.Entry
-t33 = Row.setRow 9 (25, Relend.msptr (Referent.rtF (Referent.fInt Syntax.w16)) ty·0 10) t1
+t33 = Row.setRow 6 (6, Relend.mslice-owed (Referent.rtF (Referent.fInt Syntax.w16)) ty·4 3 11 Row.off) t32
 
 abbrev pub t34 : List.List Row.Entry
-t34 = Row.setRow 10 (26, Mut.mslice (Referent.rtF (Referent.fInt Syntax.w16)) ty·0 10) t1
+t34 = Row.setRow 10 (26, Relend.msptr (Referent.rtF (Referent.fInt Syntax.w16)) ty·0 11) t1
 
 abbrev pub t35 : List.List Row.Entry
-t35 = Row.setRow 7 (7, Relend.mslice-owed (Referent.rtF (Referent.fInt Syntax.w16)) ty·5 4 11 Row.off) t32
+t35 = Row.setRow 11 (27, Mut.mslice (Referent.rtF (Referent.fInt Syntax.w16)) ty·0 11) t1
 
 abbrev pub t36 : List.List Row.Entry
-t36 = Row.setRow 11 (27, Relend.msptr (Referent.rtF (Referent.fInt Syntax.w16)) ty·0 11) t34
+t36 = Row.setRow 7 (7, Relend.mslice-owed (Referent.rtF (Referent.fInt Syntax.w16)) ty·5 4 12 Row.off) t33
 
 abbrev pub t37 : List.List Row.Entry
-t37 = Row.setRow 12 (28, Mut.mslice (Referent.rtF (Referent.fInt Syntax.w16)) ty·0 11) t34
+t37 = Row.setRow 12 (28, Relend.msptr (Referent.rtF (Referent.fInt Syntax.w16)) ty·0 12) t35
 
 abbrev pub t38 : List.List Row.Entry
-t38 = Row.setRow 8 (8, Relend.mslice-owed (Referent.rtF (Referent.fInt Syntax.w16)) ty·6 5 12 Row.off) t35
+t38 = Row.setRow 13 (29, Mut.mslice (Referent.rtF (Referent.fInt Syntax.w16)) ty·0 12) t35
 
 abbrev pub t39 : List.List Row.Entry
-t39 = Row.setRow 13 (29, Relend.msptr (Referent.rtF (Referent.fInt Syntax.w16)) ty·0 12) t37
+t39 = Row.setRow 8 (8, Relend.mslice-owed (Referent.rtF (Referent.fInt Syntax.w16)) ty·6 5 13 Row.off) t36
 
 abbrev pub t40 : List.List Row.Entry
-t40 = Row.setRow 14 (30, Mut.mslice (Referent.rtF (Referent.fInt Syntax.w16)) ty·0 12) t37
+t40 = Row.setRow 14 (30, Relend.msptr (Referent.rtF (Referent.fInt Syntax.w16)) ty·0 13) t38
 
 abbrev pub t41 : List.List Row.Entry
-t41 = Row.setRow 14 (14, Rows.whole (Declared.row Progress.the-type)) t38
+t41 = Row.setRow 15 (31, Mut.mslice (Referent.rtF (Referent.fInt Syntax.w16)) ty·0 13) t38
 
 abbrev pub t42 : List.List Row.Entry
-t42 = Row.setRow 14 (30, Mut.msleft (Referent.rtF (Referent.fInt Syntax.w16)) ty·0) (Row.setRow 12 (28, Mut.msleft (Referent.rtF (Referent.fInt Syntax.w16)) ty·0) (Row.setRow 10 (26, Mut.msleft (Referent.rtF (Referent.fInt Syntax.w16)) ty·0) t1))
+t42 = Row.setRow 9 (9, Relend.mslice-owed (Referent.rtF (Referent.fInt Syntax.w16)) ty·7 6 14 Row.off) t39
 
 abbrev pub t43 : List.List Row.Entry
-t43 = Row.setRow 11 (11, Rows.any-gone (Syntax.tyInt Syntax.w64)) t41
+t43 = Row.setRow 0 (32, Relend.msptr (Referent.rtF (Referent.fInt Syntax.w16)) ty·0 14) t2
 
 abbrev pub t44 : List.List Row.Entry
-t44 = Row.setRow 12 (12, Rows.any-gone (Syntax.tyInt Syntax.w64)) t43
+t44 = Row.setRow 1 (33, Mut.mslice (Referent.rtF (Referent.fInt Syntax.w16)) ty·0 14) t2
 
 abbrev pub t45 : List.List Row.Entry
-t45 = Row.setRow 6 (6, Mut.mslice (Referent.rtF (Referent.fInt Syntax.w16)) ty·4 3) t44
+t45 = Row.setRow 15 (15, Rows.whole (Declared.row Progress.the-type)) t42
 
 abbrev pub t46 : List.List Row.Entry
-t46 = Row.setRow 10 (26, Rows.any-gone ty·8) t42
+t46 = Row.setRow 15 (31, Mut.msleft (Referent.rtF (Referent.fInt Syntax.w16)) ty·0) (Row.setRow 13 (29, Mut.msleft (Referent.rtF (Referent.fInt Syntax.w16)) ty·0) (Row.setRow 11 (27, Mut.msleft (Referent.rtF (Referent.fInt Syntax.w16)) ty·0) t1))
 
 abbrev pub t47 : List.List Row.Entry
-t47 = Row.setRow 7 (7, Mut.mslice (Referent.rtF (Referent.fInt Syntax.w16)) ty·5 4) t45
+t47 = Row.setRow 1 (33, Mut.msleft (Referent.rtF (Referent.fInt Syntax.w16)) ty·0) t2
 
 abbrev pub t48 : List.List Row.Entry
-t48 = Row.setRow 14 (30, Mut.msleft (Referent.rtF (Referent.fInt Syntax.w16)) ty·0) t1
+t48 = Row.setRow 12 (12, Rows.any-gone (Syntax.tyInt Syntax.w64)) t45
 
 abbrev pub t49 : List.List Row.Entry
-t49 = Row.setRow 14 (14, Rows.whole (Declared.row Progress.the-type)) (Row.setRow 13 (13, Rows.sc-here (Row.sInt Syntax.w64)) t0)
+t49 = Row.setRow 13 (13, Rows.any-gone (Syntax.tyInt Syntax.w64)) t48
 
 abbrev pub t50 : List.List Row.Entry
-t50 = Row.setRow 12 (12, Rows.sc-here (Row.sInt Syntax.w64)) t49
+t50 = Row.setRow 6 (6, Mut.mslice (Referent.rtF (Referent.fInt Syntax.w16)) ty·4 3) t49
 
 abbrev pub t51 : List.List Row.Entry
-t51 = Row.setRow 6 (6, Reshare.mslice-owedS (Referent.rtF (Referent.fInt Syntax.w16)) ty·4 3 13 Row.off) t50
+t51 = Row.setRow 11 (27, Rows.any-gone ty·9) t46
 
 abbrev pub t52 : List.List Row.Entry
-t52 = Row.setRow 15 (31, Relend.ssptr (Referent.rtF (Referent.fInt Syntax.w16)) ty·1 13) t1
+t52 = Row.setRow 7 (7, Mut.mslice (Referent.rtF (Referent.fInt Syntax.w16)) ty·5 4) t50
 
 abbrev pub t53 : List.List Row.Entry
-t53 = Row.setRow 0 (32, Rows.sslice (Referent.rtF (Referent.fInt Syntax.w16)) ty·1 13) t2
+t53 = Row.setRow 15 (31, Mut.msleft (Referent.rtF (Referent.fInt Syntax.w16)) ty·0) t1
 
 abbrev pub t54 : List.List Row.Entry
-t54 = Row.setRow 10 (10, Rows.sc-here (Row.sInt Syntax.w64)) t51
+t54 = Row.setRow 8 (8, Mut.mslice (Referent.rtF (Referent.fInt Syntax.w16)) ty·6 5) t52
 
 abbrev pub t55 : List.List Row.Entry
-t55 = Row.setRow 10 (10, Rows.sc-here (Row.sInt Syntax.w64)) t50
+t55 = Row.setRow 15 (15, Rows.whole (Declared.row Progress.the-type)) (Row.setRow 14 (14, Rows.sc-here (Row.sInt Syntax.w64)) t0)
 
 abbrev pub t56 : List.List Row.Entry
-t56 = Row.setRow 7 (7, Reshare.mslice-owedS (Referent.rtF (Referent.fInt Syntax.w16)) ty·5 4 14 Row.off) t55
+t56 = Row.setRow 13 (13, Rows.sc-here (Row.sInt Syntax.w64)) t55
 
 abbrev pub t57 : List.List Row.Entry
-t57 = Row.setRow 1 (33, Relend.ssptr (Referent.rtF (Referent.fInt Syntax.w16)) ty·1 14) t2
+t57 = Row.setRow 6 (6, Reshare.mslice-owedS (Referent.rtF (Referent.fInt Syntax.w16)) ty·4 3 15 Row.off) t56
 
 abbrev pub t58 : List.List Row.Entry
-t58 = Row.setRow 2 (34, Rows.sslice (Referent.rtF (Referent.fInt Syntax.w16)) ty·1 14) t2
+t58 = Row.setRow 2 (34, Relend.ssptr (Referent.rtF (Referent.fInt Syntax.w16)) ty·1 15) t2
 
 abbrev pub t59 : List.List Row.Entry
-t59 = Row.setRow 8 (8, Reshare.mslice-owedS (Referent.rtF (Referent.fInt Syntax.w16)) ty·6 5 15 Row.off) t56
+t59 = Row.setRow 3 (35, Rows.sslice (Referent.rtF (Referent.fInt Syntax.w16)) ty·1 15) t2
 
 abbrev pub t60 : List.List Row.Entry
-t60 = Row.setRow 3 (35, Relend.ssptr (Referent.rtF (Referent.fInt Syntax.w16)) ty·1 15) t58
+t60 = Row.setRow 11 (11, Rows.sc-here (Row.sInt Syntax.w64)) t57
 
 abbrev pub t61 : List.List Row.Entry
-t61 = Row.setRow 4 (36, Rows.sslice (Referent.rtF (Referent.fInt Syntax.w16)) ty·1 15) t58
+t61 = Row.setRow 11 (11, Rows.sc-here (Row.sInt Syntax.w64)) t56
 
 abbrev pub t62 : List.List Row.Entry
-t62 = Row.setRow 11 (11, Rows.sc-here (Row.sInt Syntax.w64)) t59
+t62 = Row.setRow 7 (7, Reshare.mslice-owedS (Referent.rtF (Referent.fInt Syntax.w16)) ty·5 4 16 Row.off) t61
 
 abbrev pub t63 : List.List Row.Entry
-t63 = Row.setRow 4 (36, Rows.sslice (Referent.rtF (Referent.fInt Syntax.w16)) ty·1 15) t2
+t63 = Row.setRow 4 (36, Relend.ssptr (Referent.rtF (Referent.fInt Syntax.w16)) ty·1 16) t2
 
 abbrev pub t64 : List.List Row.Entry
-t64 = Row.setRow 7 (7, Mut.mslice (Referent.rtF (Referent.fInt Syntax.w16)) ty·5 4) t62
+t64 = Row.setRow 5 (37, Rows.sslice (Referent.rtF (Referent.fInt Syntax.w16)) ty·1 16) t2
 
 abbrev pub t65 : List.List Row.Entry
-t65 = Row.setRow 11 (11, Rows.sc-here (Row.sInt Syntax.w64)) t55
+t65 = Row.setRow 8 (8, Reshare.mslice-owedS (Referent.rtF (Referent.fInt Syntax.w16)) ty·6 5 17 Row.off) t62
 
 abbrev pub t66 : List.List Row.Entry
-t66 = Row.setRow 6 (6, Relend.mslice-owed (Referent.rtF (Referent.fInt Syntax.w16)) ty·4 3 16 Row.off) t65
+t66 = Row.setRow 6 (38, Relend.ssptr (Referent.rtF (Referent.fInt Syntax.w16)) ty·1 17) t64
 
 abbrev pub t67 : List.List Row.Entry
-t67 = Row.setRow 6 (38, Relend.msptr (Referent.rtF (Referent.fInt Syntax.w16)) ty·0 16) t2
+t67 = Row.setRow 7 (39, Rows.sslice (Referent.rtF (Referent.fInt Syntax.w16)) ty·1 17) t64
 
 abbrev pub t68 : List.List Row.Entry
-t68 = Row.setRow 7 (39, Mut.mslice (Referent.rtF (Referent.fInt Syntax.w16)) ty·0 16) t2
+t68 = Row.setRow 12 (12, Rows.sc-here (Row.sInt Syntax.w64)) t65
 
 abbrev pub t69 : List.List Row.Entry
-t69 = Row.setRow 7 (7, Relend.mslice-owed (Referent.rtF (Referent.fInt Syntax.w16)) ty·5 4 17 Row.off) t66
+t69 = Row.setRow 7 (39, Rows.sslice (Referent.rtF (Referent.fInt Syntax.w16)) ty·1 17) t2
 
 abbrev pub t70 : List.List Row.Entry
-t70 = Row.setRow 8 (40, Relend.msptr (Referent.rtF (Referent.fInt Syntax.w16)) ty·0 17) t68
+t70 = Row.setRow 7 (7, Mut.mslice (Referent.rtF (Referent.fInt Syntax.w16)) ty·5 4) t68
 
 abbrev pub t71 : List.List Row.Entry
-t71 = Row.setRow 9 (41, Mut.mslice (Referent.rtF (Referent.fInt Syntax.w16)) ty·0 17) t68
+t71 = Row.setRow 12 (12, Rows.sc-here (Row.sInt Syntax.w64)) t61
 
 abbrev pub t72 : List.List Row.Entry
-t72 = Row.setRow 8 (8, Reshare.mslice-owedS (Referent.rtF (Referent.fInt Syntax.w16)) ty·6 5 18 Row.off) t69
+t72 = Row.setRow 6 (6, Relend.mslice-owed (Referent.rtF (Referent.fInt Syntax.w16)) ty·4 3 18 Row.off) t71
 
 abbrev pub t73 : List.List Row.Entry
-t73 = Row.setRow 10 (42, Relend.ssptr (Referent.rtF (Referent.fInt Syntax.w16)) ty·1 18) t71
+t73 = Row.setRow 9 (41, Relend.msptr (Referent.rtF (Referent.fInt Syntax.w16)) ty·0 18) t2
 
 abbrev pub t74 : List.List Row.Entry
-t74 = Row.setRow 11 (43, Rows.sslice (Referent.rtF (Referent.fInt Syntax.w16)) ty·1 18) t71
+t74 = Row.setRow 10 (42, Mut.mslice (Referent.rtF (Referent.fInt Syntax.w16)) ty·0 18) t2
 
 abbrev pub t75 : List.List Row.Entry
-t75 = Row.setRow 9 (41, Mut.msleft (Referent.rtF (Referent.fInt Syntax.w16)) ty·0) (Row.setRow 7 (39, Mut.msleft (Referent.rtF (Referent.fInt Syntax.w16)) ty·0) (Row.setRow 5 (37, Rows.sc-here Row.sUnit) t74))
+t75 = Row.setRow 7 (7, Relend.mslice-owed (Referent.rtF (Referent.fInt Syntax.w16)) ty·5 4 19 Row.off) t72
 
 abbrev pub t76 : List.List Row.Entry
-t76 = Row.setRow 11 (43, Rows.any-gone ty·9) t75
+t76 = Row.setRow 11 (43, Relend.msptr (Referent.rtF (Referent.fInt Syntax.w16)) ty·0 19) t74
 
 abbrev pub t77 : List.List Row.Entry
-t77 = Row.setRow 14 (14, Rows.any-gone ty·12) t72
+t77 = Row.setRow 12 (44, Mut.mslice (Referent.rtF (Referent.fInt Syntax.w16)) ty·0 19) t74
 
 abbrev pub t78 : List.List Row.Entry
-t78 = Row.setRow 5 (37, Rows.any-gone Syntax.tyUnit) t76
+t78 = Row.setRow 8 (8, Reshare.mslice-owedS (Referent.rtF (Referent.fInt Syntax.w16)) ty·6 5 20 Row.off) t75
 
 abbrev pub t79 : List.List Row.Entry
-t79 = Row.setRow 6 (6, Mut.mslice (Referent.rtF (Referent.fInt Syntax.w16)) ty·4 3) t77
+t79 = Row.setRow 13 (45, Relend.ssptr (Referent.rtF (Referent.fInt Syntax.w16)) ty·1 20) t77
 
 abbrev pub t80 : List.List Row.Entry
-t80 = Row.setRow 9 (41, Mut.msleft (Referent.rtF (Referent.fInt Syntax.w16)) ty·0) t2
+t80 = Row.setRow 14 (46, Rows.sslice (Referent.rtF (Referent.fInt Syntax.w16)) ty·1 20) t77
 
 abbrev pub t81 : List.List Row.Entry
-t81 = Row.setRow 7 (7, Mut.mslice (Referent.rtF (Referent.fInt Syntax.w16)) ty·5 4) t79
+t81 = Row.setRow 12 (44, Mut.msleft (Referent.rtF (Referent.fInt Syntax.w16)) ty·0) (Row.setRow 10 (42, Mut.msleft (Referent.rtF (Referent.fInt Syntax.w16)) ty·0) (Row.setRow 8 (40, Rows.sc-here Row.sUnit) t80))
 
 abbrev pub t82 : List.List Row.Entry
-t82 = Row.setRow 6 (6, Relend.mslice-owed (Referent.rtF (Referent.fInt Syntax.w16)) ty·4 3 19 Row.off) t29
+t82 = Row.setRow 14 (46, Rows.any-gone ty·10) t81
 
 abbrev pub t83 : List.List Row.Entry
-t83 = Row.setRow 12 (44, Relend.msptr (Referent.rtF (Referent.fInt Syntax.w16)) ty·0 19) t2
+t83 = Row.setRow 15 (15, Rows.any-gone ty·13) t78
 
 abbrev pub t84 : List.List Row.Entry
-t84 = Row.setRow 13 (45, Mut.mslice (Referent.rtF (Referent.fInt Syntax.w16)) ty·0 19) t2
+t84 = Row.setRow 8 (40, Rows.any-gone Syntax.tyUnit) t82
 
 abbrev pub t85 : List.List Row.Entry
-t85 = Row.setRow 7 (7, Relend.mslice-owed (Referent.rtF (Referent.fInt Syntax.w16)) ty·5 4 20 Row.off) t82
+t85 = Row.setRow 6 (6, Mut.mslice (Referent.rtF (Referent.fInt Syntax.w16)) ty·4 3) t83
 
 abbrev pub t86 : List.List Row.Entry
-t86 = Row.setRow 14 (46, Relend.msptr (Referent.rtF (Referent.fInt Syntax.w16)) ty·0 20) t84
+t86 = Row.setRow 12 (44, Mut.msleft (Referent.rtF (Referent.fInt Syntax.w16)) ty·0) t2
 
 abbrev pub t87 : List.List Row.Entry
-t87 = Row.setRow 15 (47, Mut.mslice (Referent.rtF (Referent.fInt Syntax.w16)) ty·0 20) t84
+t87 = Row.setRow 7 (7, Mut.mslice (Referent.rtF (Referent.fInt Syntax.w16)) ty·5 4) t85
 
 abbrev pub t88 : List.List Row.Entry
-t88 = Row.setRow 0 (0, Rows.whole (Declared.row Found.the-type)) t85
+t88 = Row.setRow 6 (6, Relend.mslice-owed (Referent.rtF (Referent.fInt Syntax.w16)) ty·4 3 21 Row.off) t30
 
 abbrev pub t89 : List.List Row.Entry
-t89 = Row.setRow 15 (47, Mut.msleft (Referent.rtF (Referent.fInt Syntax.w16)) ty·0) (Row.setRow 13 (45, Mut.msleft (Referent.rtF (Referent.fInt Syntax.w16)) ty·0) t2)
+t89 = Row.setRow 15 (47, Relend.msptr (Referent.rtF (Referent.fInt Syntax.w16)) ty·0 21) t2
 
 abbrev pub t90 : List.List Row.Entry
-t90 = Row.setRow 1 (1, Rows.any-gone ty·11) t88
+t90 = Row.setRow 0 (48, Mut.mslice (Referent.rtF (Referent.fInt Syntax.w16)) ty·0 21) t3
 
 abbrev pub t91 : List.List Row.Entry
-t91 = Row.setRow 10 (10, Rows.any-gone (Syntax.tyInt Syntax.w64)) t90
+t91 = Row.setRow 7 (7, Relend.mslice-owed (Referent.rtF (Referent.fInt Syntax.w16)) ty·5 4 22 Row.off) t88
 
 abbrev pub t92 : List.List Row.Entry
-t92 = Row.setRow 11 (11, Rows.any-gone (Syntax.tyInt Syntax.w64)) t91
+t92 = Row.setRow 1 (49, Relend.msptr (Referent.rtF (Referent.fInt Syntax.w16)) ty·0 22) t90
 
 abbrev pub t93 : List.List Row.Entry
-t93 = Row.setRow 12 (12, Rows.any-gone (Syntax.tyInt Syntax.w64)) t92
+t93 = Row.setRow 2 (50, Mut.mslice (Referent.rtF (Referent.fInt Syntax.w16)) ty·0 22) t90
 
 abbrev pub t94 : List.List Row.Entry
-t94 = Row.setRow 13 (13, Rows.any-gone (Syntax.tyInt Syntax.w64)) t93
+t94 = Row.setRow 0 (0, Rows.whole (Declared.row Found.the-type)) t91
 
 abbrev pub t95 : List.List Row.Entry
-t95 = Row.setRow 6 (6, Mut.mslice (Referent.rtF (Referent.fInt Syntax.w16)) ty·4 3) t94
+t95 = Row.setRow 2 (50, Mut.msleft (Referent.rtF (Referent.fInt Syntax.w16)) ty·0) (Row.setRow 0 (48, Mut.msleft (Referent.rtF (Referent.fInt Syntax.w16)) ty·0) t3)
 
 abbrev pub t96 : List.List Row.Entry
-t96 = Row.setRow 15 (47, Mut.msleft (Referent.rtF (Referent.fInt Syntax.w16)) ty·0) t2
+t96 = Row.setRow 1 (1, Rows.any-gone ty·12) t94
 
 abbrev pub t97 : List.List Row.Entry
-t97 = Row.setRow 5 (5, Rows.sc-here (Row.sInt Syntax.w64)) t3
+t97 = Row.setRow 11 (11, Rows.any-gone (Syntax.tyInt Syntax.w64)) t96
+
+abbrev pub t98 : List.List Row.Entry
+t98 = Row.setRow 12 (12, Rows.any-gone (Syntax.tyInt Syntax.w64)) t97
+
+abbrev pub t99 : List.List Row.Entry
+t99 = Row.setRow 13 (13, Rows.any-gone (Syntax.tyInt Syntax.w64)) t98
+
+abbrev pub t100 : List.List Row.Entry
+t100 = Row.setRow 14 (14, Rows.any-gone (Syntax.tyInt Syntax.w64)) t99
+
+abbrev pub t101 : List.List Row.Entry
+t101 = Row.setRow 6 (6, Mut.mslice (Referent.rtF (Referent.fInt Syntax.w16)) ty·4 3) t100
+
+abbrev pub t102 : List.List Row.Entry
+t102 = Row.setRow 2 (50, Mut.msleft (Referent.rtF (Referent.fInt Syntax.w16)) ty·0) t3
+
+abbrev pub t103 : List.List Row.Entry
+t103 = Row.setRow 5 (5, Rows.sc-here (Row.sInt Syntax.w64)) t4
 
 abbrev pub T0 : Row.Cx
-T0 = record { locals = List._++_ t0 (List._++_ t1 t2); slots = List.[] }
+T0 = record { locals = List._++_ t0 (List._++_ t1 (List._++_ t2 t3)); slots = List.[] }
 
 abbrev pub T1 : Row.Cx
-T1 = record { locals = List._++_ t3 (List._++_ t1 t2); slots = List.[] }
+T1 = record { locals = List._++_ t4 (List._++_ t1 (List._++_ t2 t3)); slots = List.[] }
 
 abbrev pub T2 : Row.Cx
-T2 = record { locals = List._++_ t0 (List._++_ t1 t2); slots = List.[] }
+T2 = record { locals = List._++_ t0 (List._++_ t1 (List._++_ t2 t3)); slots = List.[] }
 
 abbrev pub T3 : Row.Cx
-T3 = record { locals = List._++_ t0 (List._++_ t1 t2); slots = List.[] }
+T3 = record { locals = List._++_ t0 (List._++_ t1 (List._++_ t2 t3)); slots = List.[] }
 
 abbrev pub T4 : Row.Cx
-T4 = record { locals = List._++_ t0 (List._++_ t1 t2); slots = List.[] }
+T4 = record { locals = List._++_ t0 (List._++_ t1 (List._++_ t2 t3)); slots = List.[] }
 
 abbrev pub T5 : Row.Cx
-T5 = record { locals = List._++_ t0 (List._++_ t1 t2); slots = List.[] }
+T5 = record { locals = List._++_ t0 (List._++_ t1 (List._++_ t2 t3)); slots = List.[] }
 
 abbrev pub T6 : Row.Cx
-T6 = record { locals = List._++_ t0 (List._++_ t1 t2); slots = List.[] }
+T6 = record { locals = List._++_ t0 (List._++_ t1 (List._++_ t2 t3)); slots = List.[] }
 
-abbrev pub T8 : Row.Cx
-T8 = record { locals = List._++_ t4 (List._++_ t5 t2); slots = List.[] }
+abbrev pub T7 : Row.Cx
+T7 = record { locals = List._++_ t0 (List._++_ t1 (List._++_ t2 t3)); slots = List.[] }
 
 abbrev pub T9 : Row.Cx
-T9 = record { locals = List._++_ t4 (List._++_ t6 t2); slots = List.[] }
+T9 = record { locals = List._++_ t5 (List._++_ t6 (List._++_ t2 t3)); slots = List.[] }
 
 abbrev pub T10 : Row.Cx
-T10 = record { locals = List._++_ t7 (List._++_ t8 t2); slots = List.[] }
+T10 = record { locals = List._++_ t5 (List._++_ t7 (List._++_ t2 t3)); slots = List.[] }
 
 abbrev pub T11 : Row.Cx
-T11 = record { locals = List._++_ t4 (List._++_ t8 t2); slots = List.[] }
+T11 = record { locals = List._++_ t5 (List._++_ t8 (List._++_ t2 t3)); slots = List.[] }
 
-abbrev pub T13 : Row.Cx
-T13 = record { locals = List._++_ t0 (List._++_ t1 t2); slots = List.[] }
+abbrev pub T12 : Row.Cx
+T12 = record { locals = List._++_ t5 (List._++_ t9 (List._++_ t2 t3)); slots = List.[] }
 
 abbrev pub T14 : Row.Cx
-T14 = record { locals = List._++_ t0 (List._++_ t1 t2); slots = List.[] }
+T14 = record { locals = List._++_ t0 (List._++_ t1 (List._++_ t2 t3)); slots = List.[] }
 
-abbrev pub T17 : Row.Cx
-T17 = record { locals = List._++_ t9 (List._++_ t10 t2); slots = List.[] }
+abbrev pub T15 : Row.Cx
+T15 = record { locals = List._++_ t0 (List._++_ t1 (List._++_ t2 t3)); slots = List.[] }
 
 abbrev pub T18 : Row.Cx
-T18 = record { locals = List._++_ t9 (List._++_ t11 t2); slots = List.[] }
+T18 = record { locals = List._++_ t10 (List._++_ t11 (List._++_ t2 t3)); slots = List.[] }
 
 abbrev pub T19 : Row.Cx
-T19 = record { locals = List._++_ t12 (List._++_ t13 t2); slots = List.[] }
+T19 = record { locals = List._++_ t10 (List._++_ t12 (List._++_ t2 t3)); slots = List.[] }
 
 abbrev pub T20 : Row.Cx
-T20 = record { locals = List._++_ t9 (List._++_ t13 t2); slots = List.[] }
+T20 = record { locals = List._++_ t10 (List._++_ t13 (List._++_ t2 t3)); slots = List.[] }
 
-abbrev pub T22 : Row.Cx
-T22 = record { locals = List._++_ t0 (List._++_ t1 t2); slots = List.[] }
+abbrev pub T21 : Row.Cx
+T21 = record { locals = List._++_ t10 (List._++_ t14 (List._++_ t2 t3)); slots = List.[] }
 
 abbrev pub T23 : Row.Cx
-T23 = record { locals = List._++_ t0 (List._++_ t1 t2); slots = List.[] }
+T23 = record { locals = List._++_ t0 (List._++_ t1 (List._++_ t2 t3)); slots = List.[] }
 
-abbrev pub T25 : Row.Cx
-T25 = record { locals = List._++_ t14 (List._++_ t1 t2); slots = List.[] }
+abbrev pub T24 : Row.Cx
+T24 = record { locals = List._++_ t0 (List._++_ t1 (List._++_ t2 t3)); slots = List.[] }
 
 abbrev pub T26 : Row.Cx
-T26 = record { locals = List._++_ t15 (List._++_ t1 t2); slots = List.[] }
+T26 = record { locals = List._++_ t15 (List._++_ t1 (List._++_ t2 t3)); slots = List.[] }
 
 abbrev pub T27 : Row.Cx
-T27 = record { locals = List._++_ t16 (List._++_ t1 t2); slots = List.[] }
+T27 = record { locals = List._++_ t16 (List._++_ t1 (List._++_ t2 t3)); slots = List.[] }
 
-abbrev pub T29 : Row.Cx
-T29 = record { locals = List._++_ t17 (List._++_ t18 t2); slots = List.[] }
+abbrev pub T28 : Row.Cx
+T28 = record { locals = List._++_ t17 (List._++_ t1 (List._++_ t2 t3)); slots = List.[] }
 
 abbrev pub T30 : Row.Cx
-T30 = record { locals = List._++_ t17 (List._++_ t19 t2); slots = List.[] }
+T30 = record { locals = List._++_ t18 (List._++_ t19 (List._++_ t2 t3)); slots = List.[] }
 
-abbrev pub T32 : Row.Cx
-T32 = record { locals = List._++_ t20 (List._++_ t21 t2); slots = List.[] }
+abbrev pub T31 : Row.Cx
+T31 = record { locals = List._++_ t18 (List._++_ t20 (List._++_ t2 t3)); slots = List.[] }
 
 abbrev pub T33 : Row.Cx
-T33 = record { locals = List._++_ t20 (List._++_ t22 t2); slots = List.[] }
+T33 = record { locals = List._++_ t21 (List._++_ t22 (List._++_ t2 t3)); slots = List.[] }
 
 abbrev pub T34 : Row.Cx
-T34 = record { locals = List._++_ t23 (List._++_ t24 t2); slots = List.[] }
+T34 = record { locals = List._++_ t21 (List._++_ t23 (List._++_ t2 t3)); slots = List.[] }
 
-abbrev pub T36 : Row.Cx
-T36 = record { locals = List._++_ t25 (List._++_ t26 t2); slots = List.[] }
+abbrev pub T35 : Row.Cx
+T35 = record { locals = List._++_ t24 (List._++_ t25 (List._++_ t2 t3)); slots = List.[] }
 
 abbrev pub T37 : Row.Cx
-T37 = record { locals = List._++_ t25 (List._++_ t26 t2); slots = List.[] }
+T37 = record { locals = List._++_ t26 (List._++_ t27 (List._++_ t2 t3)); slots = List.[] }
 
-abbrev pub T40 : Row.Cx
-T40 = record { locals = List._++_ t27 (List._++_ t1 t2); slots = List.[] }
+abbrev pub T38 : Row.Cx
+T38 = record { locals = List._++_ t26 (List._++_ t27 (List._++_ t2 t3)); slots = List.[] }
 
 abbrev pub T41 : Row.Cx
-T41 = record { locals = List._++_ t27 (List._++_ t1 t2); slots = List.[] }
+T41 = record { locals = List._++_ t28 (List._++_ t1 (List._++_ t2 t3)); slots = List.[] }
 
-abbrev pub T43 : Row.Cx
-T43 = record { locals = List._++_ t28 (List._++_ t1 t2); slots = List.[] }
+abbrev pub T42 : Row.Cx
+T42 = record { locals = List._++_ t28 (List._++_ t1 (List._++_ t2 t3)); slots = List.[] }
 
 abbrev pub T44 : Row.Cx
-T44 = record { locals = List._++_ t29 (List._++_ t1 t2); slots = List.[] }
+T44 = record { locals = List._++_ t29 (List._++_ t1 (List._++_ t2 t3)); slots = List.[] }
 
 abbrev pub T45 : Row.Cx
-T45 = record { locals = List._++_ t29 (List._++_ t1 t2); slots = List.[] }
+T45 = record { locals = List._++_ t30 (List._++_ t1 (List._++_ t2 t3)); slots = List.[] }
 
 abbrev pub T46 : Row.Cx
-T46 = record { locals = List._++_ t29 (List._++_ t30 t2); slots = List.[] }
+T46 = record { locals = List._++_ t30 (List._++_ t1 (List._++_ t2 t3)); slots = List.[] }
 
 abbrev pub T47 : Row.Cx
-T47 = record { locals = List._++_ t31 (List._++_ t1 t2); slots = List.[] }
+T47 = record { locals = List._++_ t30 (List._++_ t31 (List._++_ t2 t3)); slots = List.[] }
 
 abbrev pub T48 : Row.Cx
-T48 = record { locals = List._++_ t31 (List._++_ t30 t2); slots = List.[] }
+T48 = record { locals = List._++_ t32 (List._++_ t1 (List._++_ t2 t3)); slots = List.[] }
 
 abbrev pub T49 : Row.Cx
-T49 = record { locals = List._++_ t31 (List._++_ t1 t2); slots = List.[] }
+T49 = record { locals = List._++_ t32 (List._++_ t31 (List._++_ t2 t3)); slots = List.[] }
 
 abbrev pub T50 : Row.Cx
-T50 = record { locals = List._++_ t29 (List._++_ t1 t2); slots = List.[] }
+T50 = record { locals = List._++_ t32 (List._++_ t1 (List._++_ t2 t3)); slots = List.[] }
 
-abbrev pub T52 : Row.Cx
-T52 = record { locals = List._++_ t32 (List._++_ t33 t2); slots = List.[] }
+abbrev pub T51 : Row.Cx
+T51 = record { locals = List._++_ t30 (List._++_ t1 (List._++_ t2 t3)); slots = List.[] }
 
 abbrev pub T53 : Row.Cx
-T53 = record { locals = List._++_ t32 (List._++_ t34 t2); slots = List.[] }
+T53 = record { locals = List._++_ t33 (List._++_ t34 (List._++_ t2 t3)); slots = List.[] }
 
-abbrev pub T55 : Row.Cx
-T55 = record { locals = List._++_ t35 (List._++_ t36 t2); slots = List.[] }
+abbrev pub T54 : Row.Cx
+T54 = record { locals = List._++_ t33 (List._++_ t35 (List._++_ t2 t3)); slots = List.[] }
 
 abbrev pub T56 : Row.Cx
-T56 = record { locals = List._++_ t35 (List._++_ t37 t2); slots = List.[] }
+T56 = record { locals = List._++_ t36 (List._++_ t37 (List._++_ t2 t3)); slots = List.[] }
 
-abbrev pub T58 : Row.Cx
-T58 = record { locals = List._++_ t38 (List._++_ t39 t2); slots = List.[] }
+abbrev pub T57 : Row.Cx
+T57 = record { locals = List._++_ t36 (List._++_ t38 (List._++_ t2 t3)); slots = List.[] }
 
 abbrev pub T59 : Row.Cx
-T59 = record { locals = List._++_ t38 (List._++_ t40 t2); slots = List.[] }
+T59 = record { locals = List._++_ t39 (List._++_ t40 (List._++_ t2 t3)); slots = List.[] }
 
 abbrev pub T60 : Row.Cx
-T60 = record { locals = List._++_ t41 (List._++_ t42 t2); slots = List.[] }
-
-abbrev pub T61 : Row.Cx
-T61 = record { locals = List._++_ t43 (List._++_ t42 t2); slots = List.[] }
+T60 = record { locals = List._++_ t39 (List._++_ t41 (List._++_ t2 t3)); slots = List.[] }
 
 abbrev pub T62 : Row.Cx
-T62 = record { locals = List._++_ t44 (List._++_ t42 t2); slots = List.[] }
+T62 = record { locals = List._++_ t42 (List._++_ t41 (List._++_ t43 t3)); slots = List.[] }
+
+abbrev pub T63 : Row.Cx
+T63 = record { locals = List._++_ t42 (List._++_ t41 (List._++_ t44 t3)); slots = List.[] }
 
 abbrev pub T64 : Row.Cx
-T64 = record { locals = List._++_ t45 (List._++_ t46 t2); slots = List.[] }
+T64 = record { locals = List._++_ t45 (List._++_ t46 (List._++_ t47 t3)); slots = List.[] }
 
 abbrev pub T65 : Row.Cx
-T65 = record { locals = List._++_ t45 (List._++_ t46 t2); slots = List.[] }
+T65 = record { locals = List._++_ t48 (List._++_ t46 (List._++_ t47 t3)); slots = List.[] }
+
+abbrev pub T66 : Row.Cx
+T66 = record { locals = List._++_ t49 (List._++_ t46 (List._++_ t47 t3)); slots = List.[] }
 
 abbrev pub T68 : Row.Cx
-T68 = record { locals = List._++_ t47 (List._++_ t48 t2); slots = List.[] }
+T68 = record { locals = List._++_ t50 (List._++_ t51 (List._++_ t47 t3)); slots = List.[] }
 
 abbrev pub T69 : Row.Cx
-T69 = record { locals = List._++_ t47 (List._++_ t48 t2); slots = List.[] }
+T69 = record { locals = List._++_ t50 (List._++_ t51 (List._++_ t47 t3)); slots = List.[] }
 
 abbrev pub T72 : Row.Cx
-T72 = record { locals = List._++_ t49 (List._++_ t1 t2); slots = List.[] }
+T72 = record { locals = List._++_ t52 (List._++_ t53 (List._++_ t47 t3)); slots = List.[] }
 
 abbrev pub T73 : Row.Cx
-T73 = record { locals = List._++_ t49 (List._++_ t1 t2); slots = List.[] }
+T73 = record { locals = List._++_ t52 (List._++_ t53 (List._++_ t47 t3)); slots = List.[] }
 
-abbrev pub T75 : Row.Cx
-T75 = record { locals = List._++_ t50 (List._++_ t1 t2); slots = List.[] }
+abbrev pub T76 : Row.Cx
+T76 = record { locals = List._++_ t54 (List._++_ t1 (List._++_ t47 t3)); slots = List.[] }
 
 abbrev pub T77 : Row.Cx
-T77 = record { locals = List._++_ t51 (List._++_ t52 t2); slots = List.[] }
-
-abbrev pub T78 : Row.Cx
-T78 = record { locals = List._++_ t51 (List._++_ t1 t53); slots = List.[] }
-
-abbrev pub T79 : Row.Cx
-T79 = record { locals = List._++_ t54 (List._++_ t1 t53); slots = List.[] }
+T77 = record { locals = List._++_ t54 (List._++_ t1 (List._++_ t47 t3)); slots = List.[] }
 
 abbrev pub T80 : Row.Cx
-T80 = record { locals = List._++_ t54 (List._++_ t1 t2); slots = List.[] }
+T80 = record { locals = List._++_ t55 (List._++_ t1 (List._++_ t2 t3)); slots = List.[] }
 
-abbrev pub T82 : Row.Cx
-T82 = record { locals = List._++_ t55 (List._++_ t1 t2); slots = List.[] }
+abbrev pub T81 : Row.Cx
+T81 = record { locals = List._++_ t55 (List._++_ t1 (List._++_ t2 t3)); slots = List.[] }
+
+abbrev pub T83 : Row.Cx
+T83 = record { locals = List._++_ t56 (List._++_ t1 (List._++_ t2 t3)); slots = List.[] }
 
 abbrev pub T85 : Row.Cx
-T85 = record { locals = List._++_ t56 (List._++_ t1 t57); slots = List.[] }
+T85 = record { locals = List._++_ t57 (List._++_ t1 (List._++_ t58 t3)); slots = List.[] }
 
 abbrev pub T86 : Row.Cx
-T86 = record { locals = List._++_ t56 (List._++_ t1 t58); slots = List.[] }
+T86 = record { locals = List._++_ t57 (List._++_ t1 (List._++_ t59 t3)); slots = List.[] }
+
+abbrev pub T87 : Row.Cx
+T87 = record { locals = List._++_ t60 (List._++_ t1 (List._++_ t59 t3)); slots = List.[] }
 
 abbrev pub T88 : Row.Cx
-T88 = record { locals = List._++_ t59 (List._++_ t1 t60); slots = List.[] }
-
-abbrev pub T89 : Row.Cx
-T89 = record { locals = List._++_ t59 (List._++_ t1 t61); slots = List.[] }
+T88 = record { locals = List._++_ t60 (List._++_ t1 (List._++_ t2 t3)); slots = List.[] }
 
 abbrev pub T90 : Row.Cx
-T90 = record { locals = List._++_ t62 (List._++_ t1 t61); slots = List.[] }
+T90 = record { locals = List._++_ t61 (List._++_ t1 (List._++_ t2 t3)); slots = List.[] }
 
-abbrev pub T91 : Row.Cx
-T91 = record { locals = List._++_ t62 (List._++_ t1 t63); slots = List.[] }
-
-abbrev pub T92 : Row.Cx
-T92 = record { locals = List._++_ t62 (List._++_ t1 t2); slots = List.[] }
+abbrev pub T93 : Row.Cx
+T93 = record { locals = List._++_ t62 (List._++_ t1 (List._++_ t63 t3)); slots = List.[] }
 
 abbrev pub T94 : Row.Cx
-T94 = record { locals = List._++_ t64 (List._++_ t1 t2); slots = List.[] }
+T94 = record { locals = List._++_ t62 (List._++_ t1 (List._++_ t64 t3)); slots = List.[] }
+
+abbrev pub T96 : Row.Cx
+T96 = record { locals = List._++_ t65 (List._++_ t1 (List._++_ t66 t3)); slots = List.[] }
 
 abbrev pub T97 : Row.Cx
-T97 = record { locals = List._++_ t65 (List._++_ t1 t2); slots = List.[] }
+T97 = record { locals = List._++_ t65 (List._++_ t1 (List._++_ t67 t3)); slots = List.[] }
+
+abbrev pub T98 : Row.Cx
+T98 = record { locals = List._++_ t68 (List._++_ t1 (List._++_ t67 t3)); slots = List.[] }
+
+abbrev pub T99 : Row.Cx
+T99 = record { locals = List._++_ t68 (List._++_ t1 (List._++_ t69 t3)); slots = List.[] }
 
 abbrev pub T100 : Row.Cx
-T100 = record { locals = List._++_ t66 (List._++_ t1 t67); slots = List.[] }
+T100 = record { locals = List._++_ t68 (List._++_ t1 (List._++_ t2 t3)); slots = List.[] }
 
-abbrev pub T101 : Row.Cx
-T101 = record { locals = List._++_ t66 (List._++_ t1 t68); slots = List.[] }
+abbrev pub T102 : Row.Cx
+T102 = record { locals = List._++_ t70 (List._++_ t1 (List._++_ t2 t3)); slots = List.[] }
 
-abbrev pub T103 : Row.Cx
-T103 = record { locals = List._++_ t69 (List._++_ t1 t70); slots = List.[] }
-
-abbrev pub T104 : Row.Cx
-T104 = record { locals = List._++_ t69 (List._++_ t1 t71); slots = List.[] }
-
-abbrev pub T106 : Row.Cx
-T106 = record { locals = List._++_ t72 (List._++_ t1 t73); slots = List.[] }
-
-abbrev pub T107 : Row.Cx
-T107 = record { locals = List._++_ t72 (List._++_ t1 t74); slots = List.[] }
+abbrev pub T105 : Row.Cx
+T105 = record { locals = List._++_ t71 (List._++_ t1 (List._++_ t2 t3)); slots = List.[] }
 
 abbrev pub T108 : Row.Cx
-T108 = record { locals = List._++_ t72 (List._++_ t1 t75); slots = List.[] }
+T108 = record { locals = List._++_ t72 (List._++_ t1 (List._++_ t73 t3)); slots = List.[] }
 
 abbrev pub T109 : Row.Cx
-T109 = record { locals = List._++_ t72 (List._++_ t1 t76); slots = List.[] }
-
-abbrev pub T110 : Row.Cx
-T110 = record { locals = List._++_ t77 (List._++_ t1 t76); slots = List.[] }
+T109 = record { locals = List._++_ t72 (List._++_ t1 (List._++_ t74 t3)); slots = List.[] }
 
 abbrev pub T111 : Row.Cx
-T111 = record { locals = List._++_ t77 (List._++_ t1 t78); slots = List.[] }
+T111 = record { locals = List._++_ t75 (List._++_ t1 (List._++_ t76 t3)); slots = List.[] }
 
-abbrev pub T113 : Row.Cx
-T113 = record { locals = List._++_ t79 (List._++_ t1 t80); slots = List.[] }
+abbrev pub T112 : Row.Cx
+T112 = record { locals = List._++_ t75 (List._++_ t1 (List._++_ t77 t3)); slots = List.[] }
 
 abbrev pub T114 : Row.Cx
-T114 = record { locals = List._++_ t79 (List._++_ t1 t80); slots = List.[] }
+T114 = record { locals = List._++_ t78 (List._++_ t1 (List._++_ t79 t3)); slots = List.[] }
+
+abbrev pub T115 : Row.Cx
+T115 = record { locals = List._++_ t78 (List._++_ t1 (List._++_ t80 t3)); slots = List.[] }
+
+abbrev pub T116 : Row.Cx
+T116 = record { locals = List._++_ t78 (List._++_ t1 (List._++_ t81 t3)); slots = List.[] }
 
 abbrev pub T117 : Row.Cx
-T117 = record { locals = List._++_ t81 (List._++_ t1 t2); slots = List.[] }
+T117 = record { locals = List._++_ t78 (List._++_ t1 (List._++_ t82 t3)); slots = List.[] }
 
 abbrev pub T118 : Row.Cx
-T118 = record { locals = List._++_ t81 (List._++_ t1 t2); slots = List.[] }
+T118 = record { locals = List._++_ t83 (List._++_ t1 (List._++_ t82 t3)); slots = List.[] }
+
+abbrev pub T119 : Row.Cx
+T119 = record { locals = List._++_ t83 (List._++_ t1 (List._++_ t84 t3)); slots = List.[] }
 
 abbrev pub T121 : Row.Cx
-T121 = record { locals = List._++_ t29 (List._++_ t1 t2); slots = List.[] }
+T121 = record { locals = List._++_ t85 (List._++_ t1 (List._++_ t86 t3)); slots = List.[] }
 
-abbrev pub T123 : Row.Cx
-T123 = record { locals = List._++_ t29 (List._++_ t1 t2); slots = List.[] }
+abbrev pub T122 : Row.Cx
+T122 = record { locals = List._++_ t85 (List._++_ t1 (List._++_ t86 t3)); slots = List.[] }
 
 abbrev pub T125 : Row.Cx
-T125 = record { locals = List._++_ t82 (List._++_ t1 t83); slots = List.[] }
+T125 = record { locals = List._++_ t87 (List._++_ t1 (List._++_ t2 t3)); slots = List.[] }
 
 abbrev pub T126 : Row.Cx
-T126 = record { locals = List._++_ t82 (List._++_ t1 t84); slots = List.[] }
-
-abbrev pub T128 : Row.Cx
-T128 = record { locals = List._++_ t85 (List._++_ t1 t86); slots = List.[] }
+T126 = record { locals = List._++_ t87 (List._++_ t1 (List._++_ t2 t3)); slots = List.[] }
 
 abbrev pub T129 : Row.Cx
-T129 = record { locals = List._++_ t85 (List._++_ t1 t87); slots = List.[] }
-
-abbrev pub T130 : Row.Cx
-T130 = record { locals = List._++_ t88 (List._++_ t1 t89); slots = List.[] }
+T129 = record { locals = List._++_ t30 (List._++_ t1 (List._++_ t2 t3)); slots = List.[] }
 
 abbrev pub T131 : Row.Cx
-T131 = record { locals = List._++_ t90 (List._++_ t1 t89); slots = List.[] }
-
-abbrev pub T132 : Row.Cx
-T132 = record { locals = List._++_ t91 (List._++_ t1 t89); slots = List.[] }
+T131 = record { locals = List._++_ t30 (List._++_ t1 (List._++_ t2 t3)); slots = List.[] }
 
 abbrev pub T133 : Row.Cx
-T133 = record { locals = List._++_ t92 (List._++_ t1 t89); slots = List.[] }
+T133 = record { locals = List._++_ t88 (List._++_ t1 (List._++_ t89 t3)); slots = List.[] }
 
 abbrev pub T134 : Row.Cx
-T134 = record { locals = List._++_ t93 (List._++_ t1 t89); slots = List.[] }
+T134 = record { locals = List._++_ t88 (List._++_ t1 (List._++_ t2 t90)); slots = List.[] }
 
-abbrev pub T135 : Row.Cx
-T135 = record { locals = List._++_ t94 (List._++_ t1 t89); slots = List.[] }
+abbrev pub T136 : Row.Cx
+T136 = record { locals = List._++_ t91 (List._++_ t1 (List._++_ t2 t92)); slots = List.[] }
 
 abbrev pub T137 : Row.Cx
-T137 = record { locals = List._++_ t95 (List._++_ t1 t96); slots = List.[] }
+T137 = record { locals = List._++_ t91 (List._++_ t1 (List._++_ t2 t93)); slots = List.[] }
 
 abbrev pub T138 : Row.Cx
-T138 = record { locals = List._++_ t95 (List._++_ t1 t96); slots = List.[] }
+T138 = record { locals = List._++_ t94 (List._++_ t1 (List._++_ t2 t95)); slots = List.[] }
+
+abbrev pub T139 : Row.Cx
+T139 = record { locals = List._++_ t96 (List._++_ t1 (List._++_ t2 t95)); slots = List.[] }
+
+abbrev pub T140 : Row.Cx
+T140 = record { locals = List._++_ t97 (List._++_ t1 (List._++_ t2 t95)); slots = List.[] }
 
 abbrev pub T141 : Row.Cx
-T141 = record { locals = List._++_ t97 (List._++_ t1 t2); slots = List.[] }
+T141 = record { locals = List._++_ t98 (List._++_ t1 (List._++_ t2 t95)); slots = List.[] }
 
 abbrev pub T142 : Row.Cx
-T142 = record { locals = List._++_ t97 (List._++_ t1 t2); slots = List.[] }
+T142 = record { locals = List._++_ t99 (List._++_ t1 (List._++_ t2 t95)); slots = List.[] }
 
-abbrev pub T144 : Row.Cx
-T144 = record { locals = List._++_ t3 (List._++_ t1 t2); slots = List.[] }
+abbrev pub T143 : Row.Cx
+T143 = record { locals = List._++_ t100 (List._++_ t1 (List._++_ t2 t95)); slots = List.[] }
+
+abbrev pub T145 : Row.Cx
+T145 = record { locals = List._++_ t101 (List._++_ t1 (List._++_ t2 t102)); slots = List.[] }
+
+abbrev pub T146 : Row.Cx
+T146 = record { locals = List._++_ t101 (List._++_ t1 (List._++_ t2 t102)); slots = List.[] }
+
+abbrev pub T149 : Row.Cx
+T149 = record { locals = List._++_ t103 (List._++_ t1 (List._++_ t2 t3)); slots = List.[] }
+
+abbrev pub T150 : Row.Cx
+T150 = record { locals = List._++_ t103 (List._++_ t1 (List._++_ t2 t3)); slots = List.[] }
+
+abbrev pub T152 : Row.Cx
+T152 = record { locals = List._++_ t4 (List._++_ t1 (List._++_ t2 t3)); slots = List.[] }
 
 abbrev pub O0 : Typed.Outs
 O0 = record { next = Option.none; exits = List.[]; returns = Option.some T1 }
 
 abbrev pub O1 : Typed.Outs
-O1 = Typed.withNext (Option.some T45) O0
+O1 = Typed.withNext (Option.some T46) O0
 
 abbrev pub O2 : Typed.Outs
 O2 = Typed.inBlock₀ O1
 
 abbrev pub O3 : Typed.Outs
-O3 = Typed.inLoop₀ T44 O2
+O3 = Typed.inLoop₀ T45 O2
 
 abbrev pub O4 : Typed.Outs
-O4 = Typed.withNext (Option.some T47) O3
+O4 = Typed.withNext (Option.some T48) O3
 
 abbrev pub InvT-loop : Type 1
-InvT-loop = Rows.whole (Declared.row Size.the-type) .Mod → List.List (T.the-row .Denot) → List.List (Referent.rtF (Referent.fInt Syntax.w16) .Denot) → List.List (Referent.rtF (Referent.fInt Syntax.w16) .Denot) → Rows.sc-here (Row.sInt Syntax.w64) .Mod → List.List (Referent.rtF (Referent.fInt Syntax.w16) .Denot) → List.List (Referent.rtF (Referent.fInt Syntax.w16) .Denot) → List.List (Referent.rtF (Referent.fInt Syntax.w16) .Denot) → Rows.sc-here (Row.sInt Syntax.w64) .Mod → Rows.sc-here (Row.sInt Syntax.w64) .Mod → Rows.sc-here (Row.sInt Syntax.w64) .Mod → Rows.sc-here (Row.sInt Syntax.w64) .Mod → List.List (Referent.rtF (Referent.fInt Syntax.w16) .Denot) → List.List (Referent.rtF (Referent.fInt Syntax.w16) .Denot) → List.List (Referent.rtF (Referent.fInt Syntax.w16) .Denot) → Rows.sc-here (Row.sInt Syntax.w64) .Mod → Rows.sc-here (Row.sInt Syntax.w64) .Mod → Rows.sc-here (Row.sInt Syntax.w64) .Mod → Rows.sc-here (Row.sInt Syntax.w64) .Mod → Type 0
+InvT-loop = Rows.whole (Declared.row Size.the-type) .Mod → List.List (T.the-row .Denot) → List.List (Referent.rtF (Referent.fInt Syntax.w16) .Denot) → List.List (Referent.rtF (Referent.fInt Syntax.w16) .Denot) → Rows.sc-here (Row.sInt Syntax.w64) .Mod → List.List (Referent.rtF (Referent.fInt Syntax.w16) .Denot) → List.List (Referent.rtF (Referent.fInt Syntax.w16) .Denot) → List.List (Referent.rtF (Referent.fInt Syntax.w16) .Denot) → List.List (Referent.rtF (Referent.fInt Syntax.w16) .Denot) → Rows.sc-here (Row.sInt Syntax.w64) .Mod → Rows.sc-here (Row.sInt Syntax.w64) .Mod → Rows.sc-here (Row.sInt Syntax.w64) .Mod → Rows.sc-here (Row.sInt Syntax.w64) .Mod → List.List (Referent.rtF (Referent.fInt Syntax.w16) .Denot) → List.List (Referent.rtF (Referent.fInt Syntax.w16) .Denot) → List.List (Referent.rtF (Referent.fInt Syntax.w16) .Denot) → List.List (Referent.rtF (Referent.fInt Syntax.w16) .Denot) → Rows.sc-here (Row.sInt Syntax.w64) .Mod → Rows.sc-here (Row.sInt Syntax.w64) .Mod → Rows.sc-here (Row.sInt Syntax.w64) .Mod → Rows.sc-here (Row.sInt Syntax.w64) .Mod → Type 0
 
 abbrev pub MeasureT-loop : Type 0
-MeasureT-loop = Rows.whole (Declared.row Size.the-type) .Mod → List.List (T.the-row .Denot) → List.List (Referent.rtF (Referent.fInt Syntax.w16) .Denot) → List.List (Referent.rtF (Referent.fInt Syntax.w16) .Denot) → Rows.sc-here (Row.sInt Syntax.w64) .Mod → List.List (Referent.rtF (Referent.fInt Syntax.w16) .Denot) → List.List (Referent.rtF (Referent.fInt Syntax.w16) .Denot) → List.List (Referent.rtF (Referent.fInt Syntax.w16) .Denot) → Rows.sc-here (Row.sInt Syntax.w64) .Mod → Rows.sc-here (Row.sInt Syntax.w64) .Mod → Rows.sc-here (Row.sInt Syntax.w64) .Mod → Rows.sc-here (Row.sInt Syntax.w64) .Mod → List.List (Referent.rtF (Referent.fInt Syntax.w16) .Denot) → List.List (Referent.rtF (Referent.fInt Syntax.w16) .Denot) → List.List (Referent.rtF (Referent.fInt Syntax.w16) .Denot) → Rows.sc-here (Row.sInt Syntax.w64) .Mod → Rows.sc-here (Row.sInt Syntax.w64) .Mod → Rows.sc-here (Row.sInt Syntax.w64) .Mod → Rows.sc-here (Row.sInt Syntax.w64) .Mod → Nat.ℕ
+MeasureT-loop = Rows.whole (Declared.row Size.the-type) .Mod → List.List (T.the-row .Denot) → List.List (Referent.rtF (Referent.fInt Syntax.w16) .Denot) → List.List (Referent.rtF (Referent.fInt Syntax.w16) .Denot) → Rows.sc-here (Row.sInt Syntax.w64) .Mod → List.List (Referent.rtF (Referent.fInt Syntax.w16) .Denot) → List.List (Referent.rtF (Referent.fInt Syntax.w16) .Denot) → List.List (Referent.rtF (Referent.fInt Syntax.w16) .Denot) → List.List (Referent.rtF (Referent.fInt Syntax.w16) .Denot) → Rows.sc-here (Row.sInt Syntax.w64) .Mod → Rows.sc-here (Row.sInt Syntax.w64) .Mod → Rows.sc-here (Row.sInt Syntax.w64) .Mod → Rows.sc-here (Row.sInt Syntax.w64) .Mod → List.List (Referent.rtF (Referent.fInt Syntax.w16) .Denot) → List.List (Referent.rtF (Referent.fInt Syntax.w16) .Denot) → List.List (Referent.rtF (Referent.fInt Syntax.w16) .Denot) → List.List (Referent.rtF (Referent.fInt Syntax.w16) .Denot) → Rows.sc-here (Row.sInt Syntax.w64) .Mod → Rows.sc-here (Row.sInt Syntax.w64) .Mod → Rows.sc-here (Row.sInt Syntax.w64) .Mod → Rows.sc-here (Row.sInt Syntax.w64) .Mod → Nat.ℕ
 
 module _ (claims· : Claims) where
   abbrev s0 : Typed.Gives T0 T2
@@ -1102,1784 +1150,1872 @@ module _ (claims· : Claims) where
   abbrev s4 : Typed.Gives T5 T6
   s4 = Know.k-sl-known (Referent.fInt Syntax.w16) T5 8 5 ty·6 Row.off 0 λ x. x
 
-  abbrev s6 : Typed.Gives T6 T8
-  s6 = Relend.k-sl-relend (Referent.rtF (Referent.fInt Syntax.w16)) T6 6 16 3 6 ty·4 ty·0 Row.off λ x. x
+  abbrev s5 : Typed.Gives T6 T7
+  s5 = Know.k-sl-known (Referent.fInt Syntax.w16) T6 9 6 ty·7 Row.off 0 λ x. x
 
-  abbrev s7 : Typed.Asks T8 T9
-  s7 = Relend.k-sl-aggregate (Referent.rtF (Referent.fInt Syntax.w16)) (Relend.asMut (Referent.rtF (Referent.fInt Syntax.w16))) T8 16 17 6 ty·0 ty·0 (λ x. x) (Scalar.oFld 6 (List._∷_ (Syntax.field 1) List.[]) (Syntax.tyInt Syntax.w64) 8 λ v. Shared.lenV (v .0))
+  abbrev s7 : Typed.Gives T7 T9
+  s7 = Relend.k-sl-relend (Referent.rtF (Referent.fInt Syntax.w16)) T7 6 17 3 7 ty·4 ty·0 Row.off λ x. x
 
-  abbrev s8 : Typed.Both T9 T10
-  s8 = Call.callB ps·0 r·0 (claims· .0) (claims· .1) T9 (record { pos = 17; ty = Syntax.tyRef Syntax.erased Syntax.mut (Syntax.tyInt Syntax.w16); ref = λ x. x }, (Num.vFld 1 (List._∷_ (Syntax.field 0) List.[]) 0 λ x. Size.struct .as-values x .0, (Num.vBig 65535, tt))) 15 (List._∷_ 6 List.[]) Syntax.tyUnit
+  abbrev s8 : Typed.Asks T9 T10
+  s8 = Relend.k-sl-aggregate (Referent.rtF (Referent.fInt Syntax.w16)) (Relend.asMut (Referent.rtF (Referent.fInt Syntax.w16))) T9 17 18 7 ty·0 ty·0 (λ x. x) (Scalar.oFld 6 (List._∷_ (Syntax.field 1) List.[]) (Syntax.tyInt Syntax.w64) 8 λ v. Shared.lenV (v .0))
 
-  abbrev s9 : Typed.Mo T10 → Typed.Mo T11
-  s9 = Scalar.n-room T10 15 Syntax.tyUnit
+  abbrev s9 : Typed.Both T10 T11
+  s9 = Call.callB ps·0 r·0 (claims· .0) (claims· .1) T10 (record { pos = 18; ty = Syntax.tyRef Syntax.erased Syntax.mut (Syntax.tyInt Syntax.w16); ref = λ x. x }, (Num.vFld 1 (List._∷_ (Syntax.field 0) List.[]) 0 λ x. Size.struct .as-values x .0, (Num.vBig 65535, tt))) 16 (List._∷_ 7 List.[]) Syntax.tyUnit
 
-  abbrev s11 : Typed.Both T11 T13
-  s11 = Relend.k-back-sl (Referent.rtF (Referent.fInt Syntax.w16)) T11 17 6 3 6 ty·4 ty·0 Row.off (λ x. x) λ x. x
+  abbrev s10 : Typed.Mo T11 → Typed.Mo T12
+  s10 = Scalar.n-room T11 16 Syntax.tyUnit
 
-  abbrev s12 : Typed.Gives T13 T14
-  s12 = Know.k-sl-known (Referent.fInt Syntax.w16) T13 6 3 ty·4 Row.off 0 λ x. x
+  abbrev s12 : Typed.Both T12 T14
+  s12 = Relend.k-back-sl (Referent.rtF (Referent.fInt Syntax.w16)) T12 18 6 3 7 ty·4 ty·0 Row.off (λ x. x) λ x. x
 
-  abbrev s15 : Typed.Gives T14 T17
-  s15 = Relend.k-sl-relend (Referent.rtF (Referent.fInt Syntax.w16)) T14 7 18 4 7 ty·5 ty·0 Row.off λ x. x
+  abbrev s13 : Typed.Gives T14 T15
+  s13 = Know.k-sl-known (Referent.fInt Syntax.w16) T14 6 3 ty·4 Row.off 0 λ x. x
 
-  abbrev s16 : Typed.Asks T17 T18
-  s16 = Relend.k-sl-aggregate (Referent.rtF (Referent.fInt Syntax.w16)) (Relend.asMut (Referent.rtF (Referent.fInt Syntax.w16))) T17 18 19 7 ty·0 ty·0 (λ x. x) (Scalar.oFld 7 (List._∷_ (Syntax.field 1) List.[]) (Syntax.tyInt Syntax.w64) 8 λ v. Shared.lenV (v .0))
+  abbrev s16 : Typed.Gives T15 T18
+  s16 = Relend.k-sl-relend (Referent.rtF (Referent.fInt Syntax.w16)) T15 7 19 4 8 ty·5 ty·0 Row.off λ x. x
 
-  abbrev s17 : Typed.Both T18 T19
-  s17 = Call.callB ps·1 r·1 (claims· .2) (claims· .3) T18 (record { pos = 1; st = List.[]; d = 0; at = λ x. x }, (record { pos = 2; ty = Syntax.tyRef (Syntax.named 0) Syntax.imm (Memory.pointee (T.the-row .written)); ref = λ x. x }, (record { pos = 19; ty = Syntax.tyRef Syntax.erased Syntax.mut (Syntax.tyInt Syntax.w16); ref = λ x. x }, tt))) 15 (List._∷_ 0 (List._∷_ 7 List.[])) Syntax.tyUnit
+  abbrev s17 : Typed.Asks T18 T19
+  s17 = Relend.k-sl-aggregate (Referent.rtF (Referent.fInt Syntax.w16)) (Relend.asMut (Referent.rtF (Referent.fInt Syntax.w16))) T18 19 20 8 ty·0 ty·0 (λ x. x) (Scalar.oFld 7 (List._∷_ (Syntax.field 1) List.[]) (Syntax.tyInt Syntax.w64) 8 λ v. Shared.lenV (v .0))
 
-  abbrev s18 : Typed.Mo T19 → Typed.Mo T20
-  s18 = Scalar.n-room T19 15 Syntax.tyUnit
+  abbrev s18 : Typed.Both T19 T20
+  s18 = Call.callB ps·1 r·1 (claims· .2) (claims· .3) T19 (record { pos = 1; st = List.[]; d = 0; at = λ x. x }, (record { pos = 2; ty = Syntax.tyRef (Syntax.named 0) Syntax.imm (Memory.pointee (T.the-row .written)); ref = λ x. x }, (record { pos = 20; ty = Syntax.tyRef Syntax.erased Syntax.mut (Syntax.tyInt Syntax.w16); ref = λ x. x }, tt))) 16 (List._∷_ 0 (List._∷_ 8 List.[])) Syntax.tyUnit
 
-  abbrev s20 : Typed.Both T20 T22
-  s20 = Relend.k-back-sl (Referent.rtF (Referent.fInt Syntax.w16)) T20 19 7 4 7 ty·5 ty·0 Row.off (λ x. x) λ x. x
+  abbrev s19 : Typed.Mo T20 → Typed.Mo T21
+  s19 = Scalar.n-room T20 16 Syntax.tyUnit
 
-  abbrev s21 : Typed.Gives T22 T23
-  s21 = Know.k-sl-known (Referent.fInt Syntax.w16) T22 7 4 ty·5 Row.off 0 λ x. x
+  abbrev s21 : Typed.Both T21 T23
+  s21 = Relend.k-back-sl (Referent.rtF (Referent.fInt Syntax.w16)) T21 20 7 4 8 ty·5 ty·0 Row.off (λ x. x) λ x. x
 
-  abbrev s23 : Typed.Both T23 T25
-  s23 = Call.callB ps·2 r·2 (claims· .4) (claims· .5) T23 (record { pos = 1; st = List.[]; d = 0; at = λ x. x }, (record { pos = 2; ty = Syntax.tyRef (Syntax.named 0) Syntax.imm (Memory.pointee (T.the-row .written)); ref = λ x. x }, (Num.vAt 5 λ x. x, tt))) 9 (List._∷_ 0 List.[]) ty·13
+  abbrev s22 : Typed.Gives T23 T24
+  s22 = Know.k-sl-known (Referent.fInt Syntax.w16) T23 7 4 ty·5 Row.off 0 λ x. x
 
-  abbrev s24 : Typed.Both T25 T26
-  s24 = Call.callB ps·3 r·3 (claims· .6) (claims· .7) T25 (record { pos = 9; st = List.[]; d = 0; at = λ x. x }, tt) 10 List.[] (Syntax.tyInt Syntax.w64)
+  abbrev s24 : Typed.Both T24 T26
+  s24 = Call.callB ps·2 r·2 (claims· .4) (claims· .5) T24 (record { pos = 1; st = List.[]; d = 0; at = λ x. x }, (record { pos = 2; ty = Syntax.tyRef (Syntax.named 0) Syntax.imm (Memory.pointee (T.the-row .written)); ref = λ x. x }, (Num.vAt 5 λ x. x, tt))) 10 (List._∷_ 0 List.[]) ty·14
 
-  abbrev s25 : Typed.Mo T26 → Typed.Mo T27
-  s25 = Scalar.n-room T26 9 ty·13
+  abbrev s25 : Typed.Both T26 T27
+  s25 = Call.callB ps·3 r·3 (claims· .6) (claims· .7) T26 (record { pos = 10; st = List.[]; d = 0; at = λ x. x }, tt) 11 List.[] (Syntax.tyInt Syntax.w64)
 
-  abbrev s27 : Typed.Gives T27 T29
-  s27 = Relend.k-sl-relend (Referent.rtF (Referent.fInt Syntax.w16)) T27 7 20 4 8 ty·5 ty·0 Row.off λ x. x
+  abbrev s26 : Typed.Mo T27 → Typed.Mo T28
+  s26 = Scalar.n-room T27 10 ty·14
 
-  abbrev s28 : Typed.Asks T29 T30
-  s28 = Relend.k-sl-aggregate (Referent.rtF (Referent.fInt Syntax.w16)) (Relend.asMut (Referent.rtF (Referent.fInt Syntax.w16))) T29 20 21 8 ty·0 ty·0 (λ x. x) (Scalar.oFld 7 (List._∷_ (Syntax.field 1) List.[]) (Syntax.tyInt Syntax.w64) 8 λ v. Shared.lenV (v .0))
+  abbrev s28 : Typed.Gives T28 T30
+  s28 = Relend.k-sl-relend (Referent.rtF (Referent.fInt Syntax.w16)) T28 7 21 4 9 ty·5 ty·0 Row.off λ x. x
 
-  abbrev s30 : Typed.Gives T30 T32
-  s30 = Relend.k-sl-relend (Referent.rtF (Referent.fInt Syntax.w16)) T30 8 22 5 9 ty·6 ty·0 Row.off λ x. x
+  abbrev s29 : Typed.Asks T30 T31
+  s29 = Relend.k-sl-aggregate (Referent.rtF (Referent.fInt Syntax.w16)) (Relend.asMut (Referent.rtF (Referent.fInt Syntax.w16))) T30 21 22 9 ty·0 ty·0 (λ x. x) (Scalar.oFld 7 (List._∷_ (Syntax.field 1) List.[]) (Syntax.tyInt Syntax.w64) 8 λ v. Shared.lenV (v .0))
 
-  abbrev s31 : Typed.Asks T32 T33
-  s31 = Relend.k-sl-aggregate (Referent.rtF (Referent.fInt Syntax.w16)) (Relend.asMut (Referent.rtF (Referent.fInt Syntax.w16))) T32 22 23 9 ty·0 ty·0 (λ x. x) (Scalar.oFld 8 (List._∷_ (Syntax.field 1) List.[]) (Syntax.tyInt Syntax.w64) 8 λ v. Shared.lenV (v .0))
+  abbrev s31 : Typed.Gives T31 T33
+  s31 = Relend.k-sl-relend (Referent.rtF (Referent.fInt Syntax.w16)) T31 8 23 5 10 ty·6 ty·0 Row.off λ x. x
 
-  abbrev s32 : Typed.Both T33 T34
-  s32 = Call.callB ps·4 r·4 (claims· .8) (claims· .9) T33 (Num.vFld 1 (List._∷_ (Syntax.field 0) List.[]) 0 λ x. Size.struct .as-values x .0, (record { pos = 21; ty = Syntax.tyRef Syntax.erased Syntax.mut (Syntax.tyInt Syntax.w16); ref = λ x. x }, (record { pos = 23; ty = Syntax.tyRef Syntax.erased Syntax.mut (Syntax.tyInt Syntax.w16); ref = λ x. x }, (Num.vLit 0, (Num.vAt 5 λ x. x, (Num.vLit 2, tt)))))) 11 (List._∷_ 8 (List._∷_ 9 List.[])) (Syntax.tyInt Syntax.w64)
+  abbrev s32 : Typed.Asks T33 T34
+  s32 = Relend.k-sl-aggregate (Referent.rtF (Referent.fInt Syntax.w16)) (Relend.asMut (Referent.rtF (Referent.fInt Syntax.w16))) T33 23 24 10 ty·0 ty·0 (λ x. x) (Scalar.oFld 8 (List._∷_ (Syntax.field 1) List.[]) (Syntax.tyInt Syntax.w64) 8 λ v. Shared.lenV (v .0))
 
-  abbrev s34 : Typed.Both T34 T36
-  s34 = Relend.k-back-sl (Referent.rtF (Referent.fInt Syntax.w16)) T34 21 7 4 8 ty·5 ty·0 Row.off (λ x. x) λ x. x
+  abbrev s33 : Typed.Both T34 T35
+  s33 = Call.callB ps·4 r·4 (claims· .8) (claims· .9) T34 (Num.vFld 1 (List._∷_ (Syntax.field 0) List.[]) 0 λ x. Size.struct .as-values x .0, (record { pos = 22; ty = Syntax.tyRef Syntax.erased Syntax.mut (Syntax.tyInt Syntax.w16); ref = λ x. x }, (record { pos = 24; ty = Syntax.tyRef Syntax.erased Syntax.mut (Syntax.tyInt Syntax.w16); ref = λ x. x }, (Num.vLit 0, (Num.vAt 5 λ x. x, (Num.vLit 2, tt)))))) 12 (List._∷_ 9 (List._∷_ 10 List.[])) (Syntax.tyInt Syntax.w64)
 
-  abbrev s35 : Typed.Gives T36 T37
-  s35 = Know.k-sl-known (Referent.fInt Syntax.w16) T36 7 4 ty·5 Row.off 0 λ x. x
+  abbrev s35 : Typed.Both T35 T37
+  s35 = Relend.k-back-sl (Referent.rtF (Referent.fInt Syntax.w16)) T35 22 7 4 9 ty·5 ty·0 Row.off (λ x. x) λ x. x
 
-  abbrev s38 : Typed.Both T37 T40
-  s38 = Relend.k-back-sl (Referent.rtF (Referent.fInt Syntax.w16)) T37 23 8 5 9 ty·6 ty·0 Row.off (λ x. x) λ x. x
+  abbrev s36 : Typed.Gives T37 T38
+  s36 = Know.k-sl-known (Referent.fInt Syntax.w16) T37 7 4 ty·5 Row.off 0 λ x. x
 
-  abbrev s39 : Typed.Gives T40 T41
-  s39 = Know.k-sl-known (Referent.fInt Syntax.w16) T40 8 5 ty·6 Row.off 0 λ x. x
+  abbrev s39 : Typed.Both T38 T41
+  s39 = Relend.k-back-sl (Referent.rtF (Referent.fInt Syntax.w16)) T38 24 8 5 10 ty·6 ty·0 Row.off (λ x. x) λ x. x
 
-  abbrev s41 : Typed.Mo T41 → Typed.Mo T43
-  s41 = Scalar.n-use T41 (Scalar.oInt Syntax.w64 0) 12 (Rows.sc-here (Row.sInt Syntax.w64)) (Row.sInt Syntax.w64 .of)
+  abbrev s40 : Typed.Gives T41 T42
+  s40 = Know.k-sl-known (Referent.fInt Syntax.w16) T41 8 5 ty·6 Row.off 0 λ x. x
 
-  abbrev s42 : Typed.Mo T43 → Typed.Mo T44
-  s42 = Scalar.n-use T43 (Scalar.oInt Syntax.w64 0) 13 (Rows.sc-here (Row.sInt Syntax.w64)) (Row.sInt Syntax.w64 .of)
+  abbrev s42 : Typed.Mo T42 → Typed.Mo T44
+  s42 = Scalar.n-use T42 (Scalar.oInt Syntax.w64 0) 13 (Rows.sc-here (Row.sInt Syntax.w64)) (Row.sInt Syntax.w64 .of)
 
-  abbrev s43 : Typed.Asks T44 T46
-  s43 = Scalar.k-op2 T44 Syntax.eq (Scalar.oAt 10 (Syntax.tyInt Syntax.w64) (Row.valS (Row.sInt Syntax.w64))) (Scalar.oInt Syntax.w64 2) 24 (Rows.sc-here Row.sBool) (Row.sBool .of)
+  abbrev s43 : Typed.Mo T44 → Typed.Mo T45
+  s43 = Scalar.n-use T44 (Scalar.oInt Syntax.w64 0) 14 (Rows.sc-here (Row.sInt Syntax.w64)) (Row.sInt Syntax.w64 .of)
 
-  abbrev s44 : Typed.Mo T46 → Typed.Mo T48
-  s44 = Scalar.n-room T46 10 (Syntax.tyInt Syntax.w64)
+  abbrev s44 : Typed.Asks T45 T47
+  s44 = Scalar.k-op2 T45 Syntax.eq (Scalar.oAt 11 (Syntax.tyInt Syntax.w64) (Row.valS (Row.sInt Syntax.w64))) (Scalar.oInt Syntax.w64 2) 25 (Rows.sc-here Row.sBool) (Row.sBool .of)
 
-  abbrev s45 : Typed.Mo T48 → Typed.Mo T49
-  s45 = Scalar.n-room T48 24 Syntax.tyBool
+  abbrev s45 : Typed.Mo T47 → Typed.Mo T49
+  s45 = Scalar.n-room T47 11 (Syntax.tyInt Syntax.w64)
 
-  abbrev s46 : Typed.Mo T46 → Typed.Mo T50
-  s46 = Scalar.n-room T46 24 Syntax.tyBool
+  abbrev s46 : Typed.Mo T49 → Typed.Mo T50
+  s46 = Scalar.n-room T49 25 Syntax.tyBool
 
-  abbrev s48 : Typed.Gives T47 T52
-  s48 = Relend.k-sl-relend (Referent.rtF (Referent.fInt Syntax.w16)) T47 6 25 3 10 ty·4 ty·0 Row.off λ x. x
+  abbrev s47 : Typed.Mo T47 → Typed.Mo T51
+  s47 = Scalar.n-room T47 25 Syntax.tyBool
 
-  abbrev s49 : Typed.Asks T52 T53
-  s49 = Relend.k-sl-aggregate (Referent.rtF (Referent.fInt Syntax.w16)) (Relend.asMut (Referent.rtF (Referent.fInt Syntax.w16))) T52 25 26 10 ty·0 ty·0 (λ x. x) (Scalar.oFld 6 (List._∷_ (Syntax.field 1) List.[]) (Syntax.tyInt Syntax.w64) 8 λ v. Shared.lenV (v .0))
+  abbrev s49 : Typed.Gives T48 T53
+  s49 = Relend.k-sl-relend (Referent.rtF (Referent.fInt Syntax.w16)) T48 6 26 3 11 ty·4 ty·0 Row.off λ x. x
 
-  abbrev s51 : Typed.Gives T53 T55
-  s51 = Relend.k-sl-relend (Referent.rtF (Referent.fInt Syntax.w16)) T53 7 27 4 11 ty·5 ty·0 Row.off λ x. x
+  abbrev s50 : Typed.Asks T53 T54
+  s50 = Relend.k-sl-aggregate (Referent.rtF (Referent.fInt Syntax.w16)) (Relend.asMut (Referent.rtF (Referent.fInt Syntax.w16))) T53 26 27 11 ty·0 ty·0 (λ x. x) (Scalar.oFld 6 (List._∷_ (Syntax.field 1) List.[]) (Syntax.tyInt Syntax.w64) 8 λ v. Shared.lenV (v .0))
 
-  abbrev s52 : Typed.Asks T55 T56
-  s52 = Relend.k-sl-aggregate (Referent.rtF (Referent.fInt Syntax.w16)) (Relend.asMut (Referent.rtF (Referent.fInt Syntax.w16))) T55 27 28 11 ty·0 ty·0 (λ x. x) (Scalar.oFld 7 (List._∷_ (Syntax.field 1) List.[]) (Syntax.tyInt Syntax.w64) 8 λ v. Shared.lenV (v .0))
+  abbrev s52 : Typed.Gives T54 T56
+  s52 = Relend.k-sl-relend (Referent.rtF (Referent.fInt Syntax.w16)) T54 7 28 4 12 ty·5 ty·0 Row.off λ x. x
 
-  abbrev s54 : Typed.Gives T56 T58
-  s54 = Relend.k-sl-relend (Referent.rtF (Referent.fInt Syntax.w16)) T56 8 29 5 12 ty·6 ty·0 Row.off λ x. x
+  abbrev s53 : Typed.Asks T56 T57
+  s53 = Relend.k-sl-aggregate (Referent.rtF (Referent.fInt Syntax.w16)) (Relend.asMut (Referent.rtF (Referent.fInt Syntax.w16))) T56 28 29 12 ty·0 ty·0 (λ x. x) (Scalar.oFld 7 (List._∷_ (Syntax.field 1) List.[]) (Syntax.tyInt Syntax.w64) 8 λ v. Shared.lenV (v .0))
 
-  abbrev s55 : Typed.Asks T58 T59
-  s55 = Relend.k-sl-aggregate (Referent.rtF (Referent.fInt Syntax.w16)) (Relend.asMut (Referent.rtF (Referent.fInt Syntax.w16))) T58 29 30 12 ty·0 ty·0 (λ x. x) (Scalar.oFld 8 (List._∷_ (Syntax.field 1) List.[]) (Syntax.tyInt Syntax.w64) 8 λ v. Shared.lenV (v .0))
+  abbrev s55 : Typed.Gives T57 T59
+  s55 = Relend.k-sl-relend (Referent.rtF (Referent.fInt Syntax.w16)) T57 8 30 5 13 ty·6 ty·0 Row.off λ x. x
 
-  abbrev s56 : Typed.Both T59 T60
-  s56 = Call.callB ps·5 r·5 (claims· .10) (claims· .11) T59 (record { pos = 1; st = List.[]; d = 0; at = λ x. x }, (record { pos = 2; ty = Syntax.tyRef (Syntax.named 0) Syntax.imm (Memory.pointee (T.the-row .written)); ref = λ x. x }, (record { pos = 3; ty = Syntax.tyRef (Syntax.named 1) Syntax.imm (Syntax.tyInt Syntax.w16); ref = λ x. x }, (record { pos = 4; ty = Syntax.tyRef (Syntax.named 2) Syntax.imm (Syntax.tyInt Syntax.w16); ref = λ x. x }, (record { pos = 26; ty = Syntax.tyRef Syntax.erased Syntax.mut (Syntax.tyInt Syntax.w16); ref = λ x. x }, (record { pos = 28; ty = Syntax.tyRef Syntax.erased Syntax.mut (Syntax.tyInt Syntax.w16); ref = λ x. x }, (record { pos = 30; ty = Syntax.tyRef Syntax.erased Syntax.mut (Syntax.tyInt Syntax.w16); ref = λ x. x }, (Num.vAt 12 λ x. x, (Num.vAt 11 λ x. x, tt))))))))) 14 (List._∷_ 0 (List._∷_ 1 (List._∷_ 2 (List._∷_ 10 (List._∷_ 11 (List._∷_ 12 List.[])))))) ty·12
+  abbrev s56 : Typed.Asks T59 T60
+  s56 = Relend.k-sl-aggregate (Referent.rtF (Referent.fInt Syntax.w16)) (Relend.asMut (Referent.rtF (Referent.fInt Syntax.w16))) T59 30 31 13 ty·0 ty·0 (λ x. x) (Scalar.oFld 8 (List._∷_ (Syntax.field 1) List.[]) (Syntax.tyInt Syntax.w64) 8 λ v. Shared.lenV (v .0))
 
-  abbrev s57 : Typed.Mo T60 → Typed.Mo T61
-  s57 = Scalar.n-room T60 11 (Syntax.tyInt Syntax.w64)
+  abbrev s58 : Typed.Gives T60 T62
+  s58 = Relend.k-sl-relend (Referent.rtF (Referent.fInt Syntax.w16)) T60 9 32 6 14 ty·7 ty·0 Row.off λ x. x
 
-  abbrev s58 : Typed.Mo T61 → Typed.Mo T62
-  s58 = Scalar.n-room T61 12 (Syntax.tyInt Syntax.w64)
+  abbrev s59 : Typed.Asks T62 T63
+  s59 = Relend.k-sl-aggregate (Referent.rtF (Referent.fInt Syntax.w16)) (Relend.asMut (Referent.rtF (Referent.fInt Syntax.w16))) T62 32 33 14 ty·0 ty·0 (λ x. x) (Scalar.oFld 9 (List._∷_ (Syntax.field 1) List.[]) (Syntax.tyInt Syntax.w64) 8 λ v. Shared.lenV (v .0))
 
-  abbrev s60 : Typed.Both T62 T64
-  s60 = Relend.k-back-sl (Referent.rtF (Referent.fInt Syntax.w16)) T62 26 6 3 10 ty·4 ty·0 Row.off (λ x. x) λ x. x
+  abbrev s60 : Typed.Both T63 T64
+  s60 = Call.callB ps·5 r·5 (claims· .10) (claims· .11) T63 (record { pos = 1; st = List.[]; d = 0; at = λ x. x }, (record { pos = 2; ty = Syntax.tyRef (Syntax.named 0) Syntax.imm (Memory.pointee (T.the-row .written)); ref = λ x. x }, (record { pos = 3; ty = Syntax.tyRef (Syntax.named 1) Syntax.imm (Syntax.tyInt Syntax.w16); ref = λ x. x }, (record { pos = 4; ty = Syntax.tyRef (Syntax.named 2) Syntax.imm (Syntax.tyInt Syntax.w16); ref = λ x. x }, (record { pos = 27; ty = Syntax.tyRef Syntax.erased Syntax.mut (Syntax.tyInt Syntax.w16); ref = λ x. x }, (record { pos = 29; ty = Syntax.tyRef Syntax.erased Syntax.mut (Syntax.tyInt Syntax.w16); ref = λ x. x }, (record { pos = 31; ty = Syntax.tyRef Syntax.erased Syntax.mut (Syntax.tyInt Syntax.w16); ref = λ x. x }, (record { pos = 33; ty = Syntax.tyRef Syntax.erased Syntax.mut (Syntax.tyInt Syntax.w16); ref = λ x. x }, (Num.vAt 13 λ x. x, (Num.vAt 12 λ x. x, tt)))))))))) 15 (List._∷_ 0 (List._∷_ 1 (List._∷_ 2 (List._∷_ 11 (List._∷_ 12 (List._∷_ 13 (List._∷_ 14 List.[]))))))) ty·13
 
-  abbrev s61 : Typed.Gives T64 T65
-  s61 = Know.k-sl-known (Referent.fInt Syntax.w16) T64 6 3 ty·4 Row.off 0 λ x. x
+  abbrev s61 : Typed.Mo T64 → Typed.Mo T65
+  s61 = Scalar.n-room T64 12 (Syntax.tyInt Syntax.w64)
 
-  abbrev s64 : Typed.Both T65 T68
-  s64 = Relend.k-back-sl (Referent.rtF (Referent.fInt Syntax.w16)) T65 28 7 4 11 ty·5 ty·0 Row.off (λ x. x) λ x. x
+  abbrev s62 : Typed.Mo T65 → Typed.Mo T66
+  s62 = Scalar.n-room T65 13 (Syntax.tyInt Syntax.w64)
+
+  abbrev s64 : Typed.Both T66 T68
+  s64 = Relend.k-back-sl (Referent.rtF (Referent.fInt Syntax.w16)) T66 27 6 3 11 ty·4 ty·0 Row.off (λ x. x) λ x. x
 
   abbrev s65 : Typed.Gives T68 T69
-  s65 = Know.k-sl-known (Referent.fInt Syntax.w16) T68 7 4 ty·5 Row.off 0 λ x. x
+  s65 = Know.k-sl-known (Referent.fInt Syntax.w16) T68 6 3 ty·4 Row.off 0 λ x. x
 
   abbrev s68 : Typed.Both T69 T72
-  s68 = Relend.k-back-sl (Referent.rtF (Referent.fInt Syntax.w16)) T69 30 8 5 12 ty·6 ty·0 Row.off (λ x. x) λ x. x
+  s68 = Relend.k-back-sl (Referent.rtF (Referent.fInt Syntax.w16)) T69 29 7 4 12 ty·5 ty·0 Row.off (λ x. x) λ x. x
 
   abbrev s69 : Typed.Gives T72 T73
-  s69 = Know.k-sl-known (Referent.fInt Syntax.w16) T72 8 5 ty·6 Row.off 0 λ x. x
+  s69 = Know.k-sl-known (Referent.fInt Syntax.w16) T72 7 4 ty·5 Row.off 0 λ x. x
 
-  abbrev s71 : Typed.Mo T73 → Typed.Mo T75
-  s71 = Scalar.n-use T73 (Scalar.oFld 14 (List._∷_ (Syntax.field 1) List.[]) (Syntax.tyInt Syntax.w64) 8 (Reads.fieldV Progress.the-type Laws'.the-laws 1)) 12 (Rows.sc-here (Row.sInt Syntax.w64)) (Row.sInt Syntax.w64 .of)
+  abbrev s72 : Typed.Both T73 T76
+  s72 = Relend.k-back-sl (Referent.rtF (Referent.fInt Syntax.w16)) T73 31 8 5 13 ty·6 ty·0 Row.off (λ x. x) λ x. x
 
-  abbrev s73 : Typed.Gives T75 T77
-  s73 = Reshare.k-sl-reshare (Referent.rtF (Referent.fInt Syntax.w16)) T75 6 31 3 13 ty·4 ty·1 Row.off λ x. x
+  abbrev s73 : Typed.Gives T76 T77
+  s73 = Know.k-sl-known (Referent.fInt Syntax.w16) T76 8 5 ty·6 Row.off 0 λ x. x
 
-  abbrev s74 : Typed.Asks T77 T78
-  s74 = Relend.k-sl-aggregate (Referent.rtF (Referent.fInt Syntax.w16)) (Relend.asShr (Referent.rtF (Referent.fInt Syntax.w16))) T77 31 32 13 ty·1 ty·1 (λ x. x) (Scalar.oFld 6 (List._∷_ (Syntax.field 1) List.[]) (Syntax.tyInt Syntax.w64) 8 λ v. Shared.lenV (v .0))
+  abbrev s76 : Typed.Both T77 T80
+  s76 = Relend.k-back-sl (Referent.rtF (Referent.fInt Syntax.w16)) T77 33 9 6 14 ty·7 ty·0 Row.off (λ x. x) λ x. x
 
-  abbrev s75 : Typed.Both T78 T79
-  s75 = Call.callB ps·6 r·6 (claims· .12) (claims· .13) T78 (record { pos = 32; ty = Syntax.tyRef Syntax.erased Syntax.imm (Syntax.tyInt Syntax.w16); ref = λ x. x }, (Num.vAt 5 λ x. x, (Num.vAt 12 λ x. x, tt))) 10 (List._∷_ 13 List.[]) (Syntax.tyInt Syntax.w64)
+  abbrev s77 : Typed.Gives T80 T81
+  s77 = Know.k-sl-known (Referent.fInt Syntax.w16) T80 9 6 ty·7 Row.off 0 λ x. x
 
-  abbrev s76 : Typed.Mo T79 → Typed.Mo T80
-  s76 = Scalar.n-room T79 32 ty·9
+  abbrev s79 : Typed.Mo T81 → Typed.Mo T83
+  s79 = Scalar.n-use T81 (Scalar.oFld 15 (List._∷_ (Syntax.field 1) List.[]) (Syntax.tyInt Syntax.w64) 8 (Reads.fieldV Progress.the-type Laws'.the-laws 1)) 13 (Rows.sc-here (Row.sInt Syntax.w64)) (Row.sInt Syntax.w64 .of)
 
-  abbrev s78 : Typed.Mo T80 → Typed.Mo T82
-  s78 = Reshare.n-back-sl-shr (Referent.rtF (Referent.fInt Syntax.w16)) T80 6 3 13 ty·4 Row.off λ x. x
-
-  abbrev s81 : Typed.Gives T82 T85
-  s81 = Reshare.k-sl-reshare (Referent.rtF (Referent.fInt Syntax.w16)) T82 7 33 4 14 ty·5 ty·1 Row.off λ x. x
+  abbrev s81 : Typed.Gives T83 T85
+  s81 = Reshare.k-sl-reshare (Referent.rtF (Referent.fInt Syntax.w16)) T83 6 34 3 15 ty·4 ty·1 Row.off λ x. x
 
   abbrev s82 : Typed.Asks T85 T86
-  s82 = Relend.k-sl-aggregate (Referent.rtF (Referent.fInt Syntax.w16)) (Relend.asShr (Referent.rtF (Referent.fInt Syntax.w16))) T85 33 34 14 ty·1 ty·1 (λ x. x) (Scalar.oFld 7 (List._∷_ (Syntax.field 1) List.[]) (Syntax.tyInt Syntax.w64) 8 λ v. Shared.lenV (v .0))
+  s82 = Relend.k-sl-aggregate (Referent.rtF (Referent.fInt Syntax.w16)) (Relend.asShr (Referent.rtF (Referent.fInt Syntax.w16))) T85 34 35 15 ty·1 ty·1 (λ x. x) (Scalar.oFld 6 (List._∷_ (Syntax.field 1) List.[]) (Syntax.tyInt Syntax.w64) 8 λ v. Shared.lenV (v .0))
 
-  abbrev s84 : Typed.Gives T86 T88
-  s84 = Reshare.k-sl-reshare (Referent.rtF (Referent.fInt Syntax.w16)) T86 8 35 5 15 ty·6 ty·1 Row.off λ x. x
+  abbrev s83 : Typed.Both T86 T87
+  s83 = Call.callB ps·6 r·6 (claims· .12) (claims· .13) T86 (record { pos = 35; ty = Syntax.tyRef Syntax.erased Syntax.imm (Syntax.tyInt Syntax.w16); ref = λ x. x }, (Num.vAt 5 λ x. x, (Num.vAt 13 λ x. x, tt))) 11 (List._∷_ 15 List.[]) (Syntax.tyInt Syntax.w64)
 
-  abbrev s85 : Typed.Asks T88 T89
-  s85 = Relend.k-sl-aggregate (Referent.rtF (Referent.fInt Syntax.w16)) (Relend.asShr (Referent.rtF (Referent.fInt Syntax.w16))) T88 35 36 15 ty·1 ty·1 (λ x. x) (Scalar.oFld 8 (List._∷_ (Syntax.field 1) List.[]) (Syntax.tyInt Syntax.w64) 8 λ v. Shared.lenV (v .0))
+  abbrev s84 : Typed.Mo T87 → Typed.Mo T88
+  s84 = Scalar.n-room T87 35 ty·10
 
-  abbrev s86 : Typed.Both T89 T90
-  s86 = Call.callB ps·7 r·7 (claims· .14) (claims· .15) T89 (record { pos = 34; ty = Syntax.tyRef Syntax.erased Syntax.imm (Syntax.tyInt Syntax.w16); ref = λ x. x }, (record { pos = 36; ty = Syntax.tyRef Syntax.erased Syntax.imm (Syntax.tyInt Syntax.w16); ref = λ x. x }, (Num.vFld 14 (List._∷_ (Syntax.field 0) List.[]) 0 λ x. Progress.struct .as-values x .0, (Num.vAt 12 λ x. x, tt)))) 11 (List._∷_ 14 (List._∷_ 15 List.[])) (Syntax.tyInt Syntax.w64)
+  abbrev s86 : Typed.Mo T88 → Typed.Mo T90
+  s86 = Reshare.n-back-sl-shr (Referent.rtF (Referent.fInt Syntax.w16)) T88 6 3 15 ty·4 Row.off λ x. x
 
-  abbrev s87 : Typed.Mo T90 → Typed.Mo T91
-  s87 = Scalar.n-room T90 34 ty·9
+  abbrev s89 : Typed.Gives T90 T93
+  s89 = Reshare.k-sl-reshare (Referent.rtF (Referent.fInt Syntax.w16)) T90 7 36 4 16 ty·5 ty·1 Row.off λ x. x
 
-  abbrev s88 : Typed.Mo T91 → Typed.Mo T92
-  s88 = Scalar.n-room T91 36 ty·9
+  abbrev s90 : Typed.Asks T93 T94
+  s90 = Relend.k-sl-aggregate (Referent.rtF (Referent.fInt Syntax.w16)) (Relend.asShr (Referent.rtF (Referent.fInt Syntax.w16))) T93 36 37 16 ty·1 ty·1 (λ x. x) (Scalar.oFld 7 (List._∷_ (Syntax.field 1) List.[]) (Syntax.tyInt Syntax.w64) 8 λ v. Shared.lenV (v .0))
 
-  abbrev s90 : Typed.Mo T92 → Typed.Mo T94
-  s90 = Reshare.n-back-sl-shr (Referent.rtF (Referent.fInt Syntax.w16)) T92 7 4 14 ty·5 Row.off λ x. x
+  abbrev s92 : Typed.Gives T94 T96
+  s92 = Reshare.k-sl-reshare (Referent.rtF (Referent.fInt Syntax.w16)) T94 8 38 5 17 ty·6 ty·1 Row.off λ x. x
 
-  abbrev s93 : Typed.Mo T94 → Typed.Mo T97
-  s93 = Reshare.n-back-sl-shr (Referent.rtF (Referent.fInt Syntax.w16)) T94 8 5 15 ty·6 Row.off λ x. x
+  abbrev s93 : Typed.Asks T96 T97
+  s93 = Relend.k-sl-aggregate (Referent.rtF (Referent.fInt Syntax.w16)) (Relend.asShr (Referent.rtF (Referent.fInt Syntax.w16))) T96 38 39 17 ty·1 ty·1 (λ x. x) (Scalar.oFld 8 (List._∷_ (Syntax.field 1) List.[]) (Syntax.tyInt Syntax.w64) 8 λ v. Shared.lenV (v .0))
 
-  abbrev s96 : Typed.Gives T97 T100
-  s96 = Relend.k-sl-relend (Referent.rtF (Referent.fInt Syntax.w16)) T97 6 38 3 16 ty·4 ty·0 Row.off λ x. x
+  abbrev s94 : Typed.Both T97 T98
+  s94 = Call.callB ps·7 r·7 (claims· .14) (claims· .15) T97 (record { pos = 37; ty = Syntax.tyRef Syntax.erased Syntax.imm (Syntax.tyInt Syntax.w16); ref = λ x. x }, (record { pos = 39; ty = Syntax.tyRef Syntax.erased Syntax.imm (Syntax.tyInt Syntax.w16); ref = λ x. x }, (Num.vFld 15 (List._∷_ (Syntax.field 0) List.[]) 0 λ x. Progress.struct .as-values x .0, (Num.vAt 13 λ x. x, tt)))) 12 (List._∷_ 16 (List._∷_ 17 List.[])) (Syntax.tyInt Syntax.w64)
 
-  abbrev s97 : Typed.Asks T100 T101
-  s97 = Relend.k-sl-aggregate (Referent.rtF (Referent.fInt Syntax.w16)) (Relend.asMut (Referent.rtF (Referent.fInt Syntax.w16))) T100 38 39 16 ty·0 ty·0 (λ x. x) (Scalar.oFld 6 (List._∷_ (Syntax.field 1) List.[]) (Syntax.tyInt Syntax.w64) 8 λ v. Shared.lenV (v .0))
+  abbrev s95 : Typed.Mo T98 → Typed.Mo T99
+  s95 = Scalar.n-room T98 37 ty·10
 
-  abbrev s99 : Typed.Gives T101 T103
-  s99 = Relend.k-sl-relend (Referent.rtF (Referent.fInt Syntax.w16)) T101 7 40 4 17 ty·5 ty·0 Row.off λ x. x
+  abbrev s96 : Typed.Mo T99 → Typed.Mo T100
+  s96 = Scalar.n-room T99 39 ty·10
 
-  abbrev s100 : Typed.Asks T103 T104
-  s100 = Relend.k-sl-aggregate (Referent.rtF (Referent.fInt Syntax.w16)) (Relend.asMut (Referent.rtF (Referent.fInt Syntax.w16))) T103 40 41 17 ty·0 ty·0 (λ x. x) (Scalar.oFld 7 (List._∷_ (Syntax.field 1) List.[]) (Syntax.tyInt Syntax.w64) 8 λ v. Shared.lenV (v .0))
+  abbrev s98 : Typed.Mo T100 → Typed.Mo T102
+  s98 = Reshare.n-back-sl-shr (Referent.rtF (Referent.fInt Syntax.w16)) T100 7 4 16 ty·5 Row.off λ x. x
 
-  abbrev s102 : Typed.Gives T104 T106
-  s102 = Reshare.k-sl-reshare (Referent.rtF (Referent.fInt Syntax.w16)) T104 8 42 5 18 ty·6 ty·1 Row.off λ x. x
+  abbrev s101 : Typed.Mo T102 → Typed.Mo T105
+  s101 = Reshare.n-back-sl-shr (Referent.rtF (Referent.fInt Syntax.w16)) T102 8 5 17 ty·6 Row.off λ x. x
 
-  abbrev s103 : Typed.Asks T106 T107
-  s103 = Relend.k-sl-aggregate (Referent.rtF (Referent.fInt Syntax.w16)) (Relend.asShr (Referent.rtF (Referent.fInt Syntax.w16))) T106 42 43 18 ty·1 ty·1 (λ x. x) (Scalar.oFld 8 (List._∷_ (Syntax.field 1) List.[]) (Syntax.tyInt Syntax.w64) 8 λ v. Shared.lenV (v .0))
+  abbrev s104 : Typed.Gives T105 T108
+  s104 = Relend.k-sl-relend (Referent.rtF (Referent.fInt Syntax.w16)) T105 6 41 3 18 ty·4 ty·0 Row.off λ x. x
 
-  abbrev s104 : Typed.Both T107 T108
-  s104 = Call.callB ps·8 r·8 (claims· .16) (claims· .17) T107 (record { pos = 1; st = List.[]; d = 0; at = λ x. x }, (record { pos = 2; ty = Syntax.tyRef (Syntax.named 0) Syntax.imm (Memory.pointee (T.the-row .written)); ref = λ x. x }, (record { pos = 39; ty = Syntax.tyRef Syntax.erased Syntax.mut (Syntax.tyInt Syntax.w16); ref = λ x. x }, (record { pos = 41; ty = Syntax.tyRef Syntax.erased Syntax.mut (Syntax.tyInt Syntax.w16); ref = λ x. x }, (record { pos = 43; ty = Syntax.tyRef Syntax.erased Syntax.imm (Syntax.tyInt Syntax.w16); ref = λ x. x }, (Num.vAt 11 λ x. x, (Num.vFld 14 (List._∷_ (Syntax.field 0) List.[]) 0 λ x. Progress.struct .as-values x .0, tt))))))) 37 (List._∷_ 0 (List._∷_ 16 (List._∷_ 17 (List._∷_ 18 List.[])))) Syntax.tyUnit
+  abbrev s105 : Typed.Asks T108 T109
+  s105 = Relend.k-sl-aggregate (Referent.rtF (Referent.fInt Syntax.w16)) (Relend.asMut (Referent.rtF (Referent.fInt Syntax.w16))) T108 41 42 18 ty·0 ty·0 (λ x. x) (Scalar.oFld 6 (List._∷_ (Syntax.field 1) List.[]) (Syntax.tyInt Syntax.w64) 8 λ v. Shared.lenV (v .0))
 
-  abbrev s105 : Typed.Mo T108 → Typed.Mo T109
-  s105 = Scalar.n-room T108 43 ty·9
+  abbrev s107 : Typed.Gives T109 T111
+  s107 = Relend.k-sl-relend (Referent.rtF (Referent.fInt Syntax.w16)) T109 7 43 4 19 ty·5 ty·0 Row.off λ x. x
 
-  abbrev s106 : Typed.Mo T109 → Typed.Mo T110
-  s106 = Scalar.n-room T109 14 ty·12
+  abbrev s108 : Typed.Asks T111 T112
+  s108 = Relend.k-sl-aggregate (Referent.rtF (Referent.fInt Syntax.w16)) (Relend.asMut (Referent.rtF (Referent.fInt Syntax.w16))) T111 43 44 19 ty·0 ty·0 (λ x. x) (Scalar.oFld 7 (List._∷_ (Syntax.field 1) List.[]) (Syntax.tyInt Syntax.w64) 8 λ v. Shared.lenV (v .0))
 
-  abbrev s107 : Typed.Mo T110 → Typed.Mo T111
-  s107 = Scalar.n-room T110 37 Syntax.tyUnit
+  abbrev s110 : Typed.Gives T112 T114
+  s110 = Reshare.k-sl-reshare (Referent.rtF (Referent.fInt Syntax.w16)) T112 8 45 5 20 ty·6 ty·1 Row.off λ x. x
 
-  abbrev s109 : Typed.Both T111 T113
-  s109 = Relend.k-back-sl (Referent.rtF (Referent.fInt Syntax.w16)) T111 39 6 3 16 ty·4 ty·0 Row.off (λ x. x) λ x. x
+  abbrev s111 : Typed.Asks T114 T115
+  s111 = Relend.k-sl-aggregate (Referent.rtF (Referent.fInt Syntax.w16)) (Relend.asShr (Referent.rtF (Referent.fInt Syntax.w16))) T114 45 46 20 ty·1 ty·1 (λ x. x) (Scalar.oFld 8 (List._∷_ (Syntax.field 1) List.[]) (Syntax.tyInt Syntax.w64) 8 λ v. Shared.lenV (v .0))
 
-  abbrev s110 : Typed.Gives T113 T114
-  s110 = Know.k-sl-known (Referent.fInt Syntax.w16) T113 6 3 ty·4 Row.off 0 λ x. x
+  abbrev s112 : Typed.Both T115 T116
+  s112 = Call.callB ps·8 r·8 (claims· .16) (claims· .17) T115 (record { pos = 1; st = List.[]; d = 0; at = λ x. x }, (record { pos = 2; ty = Syntax.tyRef (Syntax.named 0) Syntax.imm (Memory.pointee (T.the-row .written)); ref = λ x. x }, (record { pos = 42; ty = Syntax.tyRef Syntax.erased Syntax.mut (Syntax.tyInt Syntax.w16); ref = λ x. x }, (record { pos = 44; ty = Syntax.tyRef Syntax.erased Syntax.mut (Syntax.tyInt Syntax.w16); ref = λ x. x }, (record { pos = 46; ty = Syntax.tyRef Syntax.erased Syntax.imm (Syntax.tyInt Syntax.w16); ref = λ x. x }, (Num.vAt 12 λ x. x, (Num.vFld 15 (List._∷_ (Syntax.field 0) List.[]) 0 λ x. Progress.struct .as-values x .0, tt))))))) 40 (List._∷_ 0 (List._∷_ 18 (List._∷_ 19 (List._∷_ 20 List.[])))) Syntax.tyUnit
 
-  abbrev s113 : Typed.Both T114 T117
-  s113 = Relend.k-back-sl (Referent.rtF (Referent.fInt Syntax.w16)) T114 41 7 4 17 ty·5 ty·0 Row.off (λ x. x) λ x. x
+  abbrev s113 : Typed.Mo T116 → Typed.Mo T117
+  s113 = Scalar.n-room T116 46 ty·10
 
-  abbrev s114 : Typed.Gives T117 T118
-  s114 = Know.k-sl-known (Referent.fInt Syntax.w16) T117 7 4 ty·5 Row.off 0 λ x. x
+  abbrev s114 : Typed.Mo T117 → Typed.Mo T118
+  s114 = Scalar.n-room T117 15 ty·13
 
-  abbrev s117 : Typed.Mo T118 → Typed.Mo T121
-  s117 = Reshare.n-back-sl-shr (Referent.rtF (Referent.fInt Syntax.w16)) T118 8 5 18 ty·6 Row.off λ x. x
+  abbrev s115 : Typed.Mo T118 → Typed.Mo T119
+  s115 = Scalar.n-room T118 40 Syntax.tyUnit
 
-  abbrev s119 : Typed.Asks T121 T123
-  s119 = Scalar.k-op2 T121 (Syntax.add Syntax.unsigned) (Scalar.oAt 13 (Syntax.tyInt Syntax.w64) (Row.valS (Row.sInt Syntax.w64))) (Scalar.oInt Syntax.w64 1) 13 (Rows.sc-here (Row.sInt Syntax.w64)) (Row.sInt Syntax.w64 .of)
+  abbrev s117 : Typed.Both T119 T121
+  s117 = Relend.k-back-sl (Referent.rtF (Referent.fInt Syntax.w16)) T119 42 6 3 18 ty·4 ty·0 Row.off (λ x. x) λ x. x
 
-  abbrev s121 : Typed.Gives T45 T125
-  s121 = Relend.k-sl-relend (Referent.rtF (Referent.fInt Syntax.w16)) T45 6 44 3 19 ty·4 ty·0 Row.off λ x. x
+  abbrev s118 : Typed.Gives T121 T122
+  s118 = Know.k-sl-known (Referent.fInt Syntax.w16) T121 6 3 ty·4 Row.off 0 λ x. x
 
-  abbrev s122 : Typed.Asks T125 T126
-  s122 = Relend.k-sl-aggregate (Referent.rtF (Referent.fInt Syntax.w16)) (Relend.asMut (Referent.rtF (Referent.fInt Syntax.w16))) T125 44 45 19 ty·0 ty·0 (λ x. x) (Scalar.oFld 6 (List._∷_ (Syntax.field 1) List.[]) (Syntax.tyInt Syntax.w64) 8 λ v. Shared.lenV (v .0))
+  abbrev s121 : Typed.Both T122 T125
+  s121 = Relend.k-back-sl (Referent.rtF (Referent.fInt Syntax.w16)) T122 44 7 4 19 ty·5 ty·0 Row.off (λ x. x) λ x. x
 
-  abbrev s124 : Typed.Gives T126 T128
-  s124 = Relend.k-sl-relend (Referent.rtF (Referent.fInt Syntax.w16)) T126 7 46 4 20 ty·5 ty·0 Row.off λ x. x
+  abbrev s122 : Typed.Gives T125 T126
+  s122 = Know.k-sl-known (Referent.fInt Syntax.w16) T125 7 4 ty·5 Row.off 0 λ x. x
 
-  abbrev s125 : Typed.Asks T128 T129
-  s125 = Relend.k-sl-aggregate (Referent.rtF (Referent.fInt Syntax.w16)) (Relend.asMut (Referent.rtF (Referent.fInt Syntax.w16))) T128 46 47 20 ty·0 ty·0 (λ x. x) (Scalar.oFld 7 (List._∷_ (Syntax.field 1) List.[]) (Syntax.tyInt Syntax.w64) 8 λ v. Shared.lenV (v .0))
+  abbrev s125 : Typed.Mo T126 → Typed.Mo T129
+  s125 = Reshare.n-back-sl-shr (Referent.rtF (Referent.fInt Syntax.w16)) T126 8 5 20 ty·6 Row.off λ x. x
 
-  abbrev s126 : Typed.Both T129 T130
-  s126 = Call.callB ps·9 r·9 (claims· .18) (claims· .19) T129 (Num.vFld 1 (List._∷_ (Syntax.field 0) List.[]) 0 λ x. Size.struct .as-values x .0, (Num.vAt 10 λ x. x, (Num.vAt 13 λ x. x, (record { pos = 45; ty = Syntax.tyRef Syntax.erased Syntax.mut (Syntax.tyInt Syntax.w16); ref = λ x. x }, (record { pos = 47; ty = Syntax.tyRef Syntax.erased Syntax.mut (Syntax.tyInt Syntax.w16); ref = λ x. x }, tt))))) 0 (List._∷_ 19 (List._∷_ 20 List.[])) ty·10
+  abbrev s127 : Typed.Asks T129 T131
+  s127 = Scalar.k-op2 T129 (Syntax.add Syntax.unsigned) (Scalar.oAt 14 (Syntax.tyInt Syntax.w64) (Row.valS (Row.sInt Syntax.w64))) (Scalar.oInt Syntax.w64 1) 14 (Rows.sc-here (Row.sInt Syntax.w64)) (Row.sInt Syntax.w64 .of)
 
-  abbrev s127 : Typed.Mo T130 → Typed.Mo T131
-  s127 = Scalar.n-room T130 1 ty·11
+  abbrev s129 : Typed.Gives T46 T133
+  s129 = Relend.k-sl-relend (Referent.rtF (Referent.fInt Syntax.w16)) T46 6 47 3 21 ty·4 ty·0 Row.off λ x. x
 
-  abbrev s128 : Typed.Mo T131 → Typed.Mo T132
-  s128 = Scalar.n-room T131 10 (Syntax.tyInt Syntax.w64)
+  abbrev s130 : Typed.Asks T133 T134
+  s130 = Relend.k-sl-aggregate (Referent.rtF (Referent.fInt Syntax.w16)) (Relend.asMut (Referent.rtF (Referent.fInt Syntax.w16))) T133 47 48 21 ty·0 ty·0 (λ x. x) (Scalar.oFld 6 (List._∷_ (Syntax.field 1) List.[]) (Syntax.tyInt Syntax.w64) 8 λ v. Shared.lenV (v .0))
 
-  abbrev s129 : Typed.Mo T132 → Typed.Mo T133
-  s129 = Scalar.n-room T132 11 (Syntax.tyInt Syntax.w64)
+  abbrev s132 : Typed.Gives T134 T136
+  s132 = Relend.k-sl-relend (Referent.rtF (Referent.fInt Syntax.w16)) T134 7 49 4 22 ty·5 ty·0 Row.off λ x. x
 
-  abbrev s130 : Typed.Mo T133 → Typed.Mo T134
-  s130 = Scalar.n-room T133 12 (Syntax.tyInt Syntax.w64)
+  abbrev s133 : Typed.Asks T136 T137
+  s133 = Relend.k-sl-aggregate (Referent.rtF (Referent.fInt Syntax.w16)) (Relend.asMut (Referent.rtF (Referent.fInt Syntax.w16))) T136 49 50 22 ty·0 ty·0 (λ x. x) (Scalar.oFld 7 (List._∷_ (Syntax.field 1) List.[]) (Syntax.tyInt Syntax.w64) 8 λ v. Shared.lenV (v .0))
 
-  abbrev s131 : Typed.Mo T134 → Typed.Mo T135
-  s131 = Scalar.n-room T134 13 (Syntax.tyInt Syntax.w64)
+  abbrev s134 : Typed.Both T137 T138
+  s134 = Call.callB ps·9 r·9 (claims· .18) (claims· .19) T137 (Num.vFld 1 (List._∷_ (Syntax.field 0) List.[]) 0 λ x. Size.struct .as-values x .0, (Num.vAt 11 λ x. x, (Num.vAt 14 λ x. x, (record { pos = 48; ty = Syntax.tyRef Syntax.erased Syntax.mut (Syntax.tyInt Syntax.w16); ref = λ x. x }, (record { pos = 50; ty = Syntax.tyRef Syntax.erased Syntax.mut (Syntax.tyInt Syntax.w16); ref = λ x. x }, tt))))) 0 (List._∷_ 21 (List._∷_ 22 List.[])) ty·11
 
-  abbrev s133 : Typed.Both T135 T137
-  s133 = Relend.k-back-sl (Referent.rtF (Referent.fInt Syntax.w16)) T135 45 6 3 19 ty·4 ty·0 Row.off (λ x. x) λ x. x
+  abbrev s135 : Typed.Mo T138 → Typed.Mo T139
+  s135 = Scalar.n-room T138 1 ty·12
 
-  abbrev s134 : Typed.Gives T137 T138
-  s134 = Know.k-sl-known (Referent.fInt Syntax.w16) T137 6 3 ty·4 Row.off 0 λ x. x
+  abbrev s136 : Typed.Mo T139 → Typed.Mo T140
+  s136 = Scalar.n-room T139 11 (Syntax.tyInt Syntax.w64)
 
-  abbrev s137 : Typed.Both T138 T141
-  s137 = Relend.k-back-sl (Referent.rtF (Referent.fInt Syntax.w16)) T138 47 7 4 20 ty·5 ty·0 Row.off (λ x. x) λ x. x
+  abbrev s137 : Typed.Mo T140 → Typed.Mo T141
+  s137 = Scalar.n-room T140 12 (Syntax.tyInt Syntax.w64)
 
-  abbrev s138 : Typed.Gives T141 T142
-  s138 = Know.k-sl-known (Referent.fInt Syntax.w16) T141 7 4 ty·5 Row.off 0 λ x. x
+  abbrev s138 : Typed.Mo T141 → Typed.Mo T142
+  s138 = Scalar.n-room T141 13 (Syntax.tyInt Syntax.w64)
 
-  abbrev s140 : Typed.Mo T142 → Typed.Mo T144
-  s140 = Scalar.n-room T142 5 (Syntax.tyInt Syntax.w64)
+  abbrev s139 : Typed.Mo T142 → Typed.Mo T143
+  s139 = Scalar.n-room T142 14 (Syntax.tyInt Syntax.w64)
 
-  abbrev put0 : List.List (Referent.rtF (Referent.fInt Syntax.w16) .Denot) × List.List (Referent.rtF (Referent.fInt Syntax.w16) .Denot) × List.List (Referent.rtF (Referent.fInt Syntax.w16) .Denot) × Rows.sc-here (Row.sInt Syntax.w64) .Mod × Rows.sc-here (Row.sInt Syntax.w64) .Mod × Rows.sc-here (Row.sInt Syntax.w64) .Mod × Rows.sc-here (Row.sInt Syntax.w64) .Mod → Typed.Mo T44 → Typed.Mo T44
-  put0 = λ vs u. Row.set 13 (13, Rows.sc-here (Row.sInt Syntax.w64)) (vs .6) (T44 .locals) (Row.set 12 (12, Rows.sc-here (Row.sInt Syntax.w64)) (vs .5) (T44 .locals) (Row.set 11 (11, Rows.sc-here (Row.sInt Syntax.w64)) (vs .4) (T44 .locals) (Row.set 10 (10, Rows.sc-here (Row.sInt Syntax.w64)) (vs .3) (T44 .locals) (Row.set 8 (8, Mut.mslice (Referent.rtF (Referent.fInt Syntax.w16)) ty·6 5) record { ptr = Row.get 8 (T44 .locals) u .ptr; name = Row.get 8 (T44 .locals) u .name; now = vs .2 } (T44 .locals) (Row.set 7 (7, Mut.mslice (Referent.rtF (Referent.fInt Syntax.w16)) ty·5 4) record { ptr = Row.get 7 (T44 .locals) u .ptr; name = Row.get 7 (T44 .locals) u .name; now = vs .1 } (T44 .locals) (Row.set 6 (6, Mut.mslice (Referent.rtF (Referent.fInt Syntax.w16)) ty·4 3) record { ptr = Row.get 6 (T44 .locals) u .ptr; name = Row.get 6 (T44 .locals) u .name; now = vs .0 } (T44 .locals) u))))))
+  abbrev s141 : Typed.Both T143 T145
+  s141 = Relend.k-back-sl (Referent.rtF (Referent.fInt Syntax.w16)) T143 48 6 3 21 ty·4 ty·0 Row.off (λ x. x) λ x. x
 
-  module _ (Pre· : (κs : Lifetimes.Lfts 6) → Kinds.Dens κs ps → Type 0) (Post· : (κs : Lifetimes.Lfts 6) → (a : Kinds.Dens κs ps) → Kinds.Plain 6 ps r κs) where
+  abbrev s142 : Typed.Gives T145 T146
+  s142 = Know.k-sl-known (Referent.fInt Syntax.w16) T145 6 3 ty·4 Row.off 0 λ x. x
+
+  abbrev s145 : Typed.Both T146 T149
+  s145 = Relend.k-back-sl (Referent.rtF (Referent.fInt Syntax.w16)) T146 50 7 4 22 ty·5 ty·0 Row.off (λ x. x) λ x. x
+
+  abbrev s146 : Typed.Gives T149 T150
+  s146 = Know.k-sl-known (Referent.fInt Syntax.w16) T149 7 4 ty·5 Row.off 0 λ x. x
+
+  abbrev s148 : Typed.Mo T150 → Typed.Mo T152
+  s148 = Scalar.n-room T150 5 (Syntax.tyInt Syntax.w64)
+
+  abbrev put0 : List.List (Referent.rtF (Referent.fInt Syntax.w16) .Denot) × List.List (Referent.rtF (Referent.fInt Syntax.w16) .Denot) × List.List (Referent.rtF (Referent.fInt Syntax.w16) .Denot) × List.List (Referent.rtF (Referent.fInt Syntax.w16) .Denot) × Rows.sc-here (Row.sInt Syntax.w64) .Mod × Rows.sc-here (Row.sInt Syntax.w64) .Mod × Rows.sc-here (Row.sInt Syntax.w64) .Mod × Rows.sc-here (Row.sInt Syntax.w64) .Mod → Typed.Mo T45 → Typed.Mo T45
+  put0 = λ vs u. Row.set 14 (14, Rows.sc-here (Row.sInt Syntax.w64)) (vs .7) (T45 .locals) (Row.set 13 (13, Rows.sc-here (Row.sInt Syntax.w64)) (vs .6) (T45 .locals) (Row.set 12 (12, Rows.sc-here (Row.sInt Syntax.w64)) (vs .5) (T45 .locals) (Row.set 11 (11, Rows.sc-here (Row.sInt Syntax.w64)) (vs .4) (T45 .locals) (Row.set 9 (9, Mut.mslice (Referent.rtF (Referent.fInt Syntax.w16)) ty·7 6) record { ptr = Row.get 9 (T45 .locals) u .ptr; name = Row.get 9 (T45 .locals) u .name; now = vs .3 } (T45 .locals) (Row.set 8 (8, Mut.mslice (Referent.rtF (Referent.fInt Syntax.w16)) ty·6 5) record { ptr = Row.get 8 (T45 .locals) u .ptr; name = Row.get 8 (T45 .locals) u .name; now = vs .2 } (T45 .locals) (Row.set 7 (7, Mut.mslice (Referent.rtF (Referent.fInt Syntax.w16)) ty·5 4) record { ptr = Row.get 7 (T45 .locals) u .ptr; name = Row.get 7 (T45 .locals) u .name; now = vs .1 } (T45 .locals) (Row.set 6 (6, Mut.mslice (Referent.rtF (Referent.fInt Syntax.w16)) ty·4 3) record { ptr = Row.get 6 (T45 .locals) u .ptr; name = Row.get 6 (T45 .locals) u .name; now = vs .0 } (T45 .locals) u)))))))
+
+  module _ (Pre· : (κs : Lifetimes.Lfts 7) → Kinds.Dens κs ps → Type 0) (Post· : (κs : Lifetimes.Lfts 7) → (a : Kinds.Dens κs ps) → Kinds.Plain 7 ps r κs) where
     module _ (M : Type 1) where
       abbrev pub Closed : Type 2
-      Closed = (𝓤 : URA.URA M) (H : Wp.Heap 𝓤) (A : Atoms.Atoms 𝓤) (W : Kit.Given 𝓤 H A) (𝓣 : Wp.Tables 𝓤 H) (known0 : Plain.Known 𝓤 H A W 𝓣 1 ps·0 r·0 (claims· .0) (claims· .1) "tables::entries::fill") (known1 : Plain.Known 𝓤 H A W 𝓣 2 ps·1 r·1 (claims· .2) (claims· .3) "search::marks::start_known") (known2 : Plain.Known 𝓤 H A W 𝓣 1 ps·2 r·2 (claims· .4) (claims· .5) "tables::spans::span_at") (known3 : Plain.Known 𝓤 H A W 𝓣 0 ps·3 r·3 (claims· .6) (claims· .7) "search::marks::start_end") (known4 : Plain.Known 𝓤 H A W 𝓣 2 ps·4 r·4 (claims· .8) (claims· .9) "walks::queue::reach") (known5 : Plain.Known 𝓤 H A W 𝓣 6 ps·5 r·5 (claims· .10) (claims· .11) "search::walk::walk") (known6 : Plain.Known 𝓤 H A W 𝓣 1 ps·6 r·6 (claims· .12) (claims· .13) "search::rounds::round_end") (known7 : Plain.Known 𝓤 H A W 𝓣 2 ps·7 r·7 (claims· .14) (claims· .15) "search::marks::kept") (known8 : Plain.Known 𝓤 H A W 𝓣 4 ps·8 r·8 (claims· .16) (claims· .17) "search::marks::settle") (known9 : Plain.Known 𝓤 H A W 𝓣 2 ps·9 r·9 (claims· .18) (claims· .19) "search::rounds::finish") → Statement.Triple 𝓤 (Wp.WpFn 𝓤 H (𝓣 .C) (𝓣 .Λ) (Function.fnOf 6 ps r xs m hs body)) (Function.plainOf 𝓤 H A 6 ps r Pre· Post·)
+      Closed = (𝓤 : URA.URA M) (H : Wp.Heap 𝓤) (A : Atoms.Atoms 𝓤) (W : Kit.Given 𝓤 H A) (𝓣 : Wp.Tables 𝓤 H) (known0 : Plain.Known 𝓤 H A W 𝓣 1 ps·0 r·0 (claims· .0) (claims· .1) "tables::entries::fill") (known1 : Plain.Known 𝓤 H A W 𝓣 2 ps·1 r·1 (claims· .2) (claims· .3) "search::marks::start_known") (known2 : Plain.Known 𝓤 H A W 𝓣 1 ps·2 r·2 (claims· .4) (claims· .5) "tables::spans::span_at") (known3 : Plain.Known 𝓤 H A W 𝓣 0 ps·3 r·3 (claims· .6) (claims· .7) "search::marks::start_end") (known4 : Plain.Known 𝓤 H A W 𝓣 2 ps·4 r·4 (claims· .8) (claims· .9) "walks::queue::reach") (known5 : Plain.Known 𝓤 H A W 𝓣 7 ps·5 r·5 (claims· .10) (claims· .11) "search::walk::walk") (known6 : Plain.Known 𝓤 H A W 𝓣 1 ps·6 r·6 (claims· .12) (claims· .13) "search::rounds::round_end") (known7 : Plain.Known 𝓤 H A W 𝓣 2 ps·7 r·7 (claims· .14) (claims· .15) "search::marks::kept") (known8 : Plain.Known 𝓤 H A W 𝓣 4 ps·8 r·8 (claims· .16) (claims· .17) "search::marks::settle") (known9 : Plain.Known 𝓤 H A W 𝓣 2 ps·9 r·9 (claims· .18) (claims· .19) "search::rounds::finish") → Statement.Triple 𝓤 (Wp.WpFn 𝓤 H (𝓣 .C) (𝓣 .Λ) (Function.fnOf 7 ps r xs m hs body)) (Function.plainOf 𝓤 H A 7 ps r Pre· Post·)
 
     module _ (Inv·0 : InvT-loop) (μ·0 : MeasureT-loop) where
-      abbrev at0 : Typed.TF T49 O4
+      abbrev at0 : Typed.TF T50 O4
       at0 = Typed.atNext O4
 
-      abbrev at1 : Typed.TF T48 O4
-      at1 = λ Ψ. Typed.pass T48 T49 s45 (at0 Ψ)
+      abbrev at1 : Typed.TF T49 O4
+      at1 = λ Ψ. Typed.pass T49 T50 s46 (at0 Ψ)
 
-      abbrev at2 : Typed.TF T46 O4
-      at2 = λ Ψ. Typed.pass T46 T48 s44 (at1 Ψ)
+      abbrev at2 : Typed.TF T47 O4
+      at2 = λ Ψ. Typed.pass T47 T49 s45 (at1 Ψ)
 
-      abbrev at3 : Typed.TF T50 O4
+      abbrev at3 : Typed.TF T51 O4
       at3 = Typed.atExit 1 O4
 
-      abbrev at4 : Typed.TF T46 O4
-      at4 = λ Ψ. Typed.pass T46 T50 s46 (at3 Ψ)
+      abbrev at4 : Typed.TF T47 O4
+      at4 = λ Ψ. Typed.pass T47 T51 s47 (at3 Ψ)
 
-      abbrev at5 : Typed.TF T46 O4
-      at5 = Scalar.Φcond T46 O4 24 (λ x. x) at2 at4
+      abbrev at5 : Typed.TF T47 O4
+      at5 = Scalar.Φcond T47 O4 25 (λ x. x) at2 at4
 
-      abbrev at6 : Typed.TF T121 O3
-      at6 = λ Ψ. Typed.ask s119 (Typed.atNext O3 Ψ)
+      abbrev at6 : Typed.TF T129 O3
+      at6 = λ Ψ. Typed.ask s127 (Typed.atNext O3 Ψ)
 
-      abbrev at7 : Typed.TF T121 O3
+      abbrev at7 : Typed.TF T129 O3
       at7 = λ Ψ. at6 Ψ
 
-      abbrev at8 : Typed.TF T118 O3
-      at8 = λ Ψ. Typed.pass T118 T121 s117 (at7 Ψ)
+      abbrev at8 : Typed.TF T126 O3
+      at8 = λ Ψ. Typed.pass T126 T129 s125 (at7 Ψ)
 
-      abbrev at9 : Typed.TF T118 O3
+      abbrev at9 : Typed.TF T126 O3
       at9 = λ Ψ. at8 Ψ
 
-      abbrev at10 : Typed.TF T118 O3
+      abbrev at10 : Typed.TF T126 O3
       at10 = λ Ψ. at9 Ψ
 
-      abbrev at11 : Typed.TF T117 O3
-      at11 = λ Ψ. Typed.give s114 (at10 Ψ)
+      abbrev at11 : Typed.TF T125 O3
+      at11 = λ Ψ. Typed.give s122 (at10 Ψ)
 
-      abbrev at12 : Typed.TF T114 O3
-      at12 = λ Ψ. Typed.both s113 (at11 Ψ)
+      abbrev at12 : Typed.TF T122 O3
+      at12 = λ Ψ. Typed.both s121 (at11 Ψ)
 
-      abbrev at13 : Typed.TF T114 O3
+      abbrev at13 : Typed.TF T122 O3
       at13 = λ Ψ. at12 Ψ
 
-      abbrev at14 : Typed.TF T114 O3
+      abbrev at14 : Typed.TF T122 O3
       at14 = λ Ψ. at13 Ψ
 
-      abbrev at15 : Typed.TF T113 O3
-      at15 = λ Ψ. Typed.give s110 (at14 Ψ)
+      abbrev at15 : Typed.TF T121 O3
+      at15 = λ Ψ. Typed.give s118 (at14 Ψ)
 
-      abbrev at16 : Typed.TF T111 O3
-      at16 = λ Ψ. Typed.both s109 (at15 Ψ)
+      abbrev at16 : Typed.TF T119 O3
+      at16 = λ Ψ. Typed.both s117 (at15 Ψ)
 
-      abbrev at17 : Typed.TF T111 O3
+      abbrev at17 : Typed.TF T119 O3
       at17 = λ Ψ. at16 Ψ
 
-      abbrev at18 : Typed.TF T110 O3
-      at18 = λ Ψ. Typed.pass T110 T111 s107 (at17 Ψ)
+      abbrev at18 : Typed.TF T118 O3
+      at18 = λ Ψ. Typed.pass T118 T119 s115 (at17 Ψ)
 
-      abbrev at19 : Typed.TF T109 O3
-      at19 = λ Ψ. Typed.pass T109 T110 s106 (at18 Ψ)
+      abbrev at19 : Typed.TF T117 O3
+      at19 = λ Ψ. Typed.pass T117 T118 s114 (at18 Ψ)
 
-      abbrev at20 : Typed.TF T108 O3
-      at20 = λ Ψ. Typed.pass T108 T109 s105 (at19 Ψ)
+      abbrev at20 : Typed.TF T116 O3
+      at20 = λ Ψ. Typed.pass T116 T117 s113 (at19 Ψ)
 
-      abbrev at21 : Typed.TF T107 O3
-      at21 = λ Ψ. Typed.both s104 (at20 Ψ)
+      abbrev at21 : Typed.TF T115 O3
+      at21 = λ Ψ. Typed.both s112 (at20 Ψ)
 
-      abbrev at22 : Typed.TF T106 O3
-      at22 = λ Ψ. Typed.ask s103 (at21 Ψ)
+      abbrev at22 : Typed.TF T114 O3
+      at22 = λ Ψ. Typed.ask s111 (at21 Ψ)
 
-      abbrev at23 : Typed.TF T104 O3
-      at23 = λ Ψ. Typed.give s102 (at22 Ψ)
+      abbrev at23 : Typed.TF T112 O3
+      at23 = λ Ψ. Typed.give s110 (at22 Ψ)
 
-      abbrev at24 : Typed.TF T104 O3
+      abbrev at24 : Typed.TF T112 O3
       at24 = λ Ψ. at23 Ψ
 
-      abbrev at25 : Typed.TF T103 O3
-      at25 = λ Ψ. Typed.ask s100 (at24 Ψ)
+      abbrev at25 : Typed.TF T111 O3
+      at25 = λ Ψ. Typed.ask s108 (at24 Ψ)
 
-      abbrev at26 : Typed.TF T101 O3
-      at26 = λ Ψ. Typed.give s99 (at25 Ψ)
+      abbrev at26 : Typed.TF T109 O3
+      at26 = λ Ψ. Typed.give s107 (at25 Ψ)
 
-      abbrev at27 : Typed.TF T101 O3
+      abbrev at27 : Typed.TF T109 O3
       at27 = λ Ψ. at26 Ψ
 
-      abbrev at28 : Typed.TF T100 O3
-      at28 = λ Ψ. Typed.ask s97 (at27 Ψ)
+      abbrev at28 : Typed.TF T108 O3
+      at28 = λ Ψ. Typed.ask s105 (at27 Ψ)
 
-      abbrev at29 : Typed.TF T97 O3
-      at29 = λ Ψ. Typed.give s96 (at28 Ψ)
+      abbrev at29 : Typed.TF T105 O3
+      at29 = λ Ψ. Typed.give s104 (at28 Ψ)
 
-      abbrev at30 : Typed.TF T97 O3
+      abbrev at30 : Typed.TF T105 O3
       at30 = λ Ψ. at29 Ψ
 
-      abbrev at31 : Typed.TF T97 O3
+      abbrev at31 : Typed.TF T105 O3
       at31 = λ Ψ. at30 Ψ
 
-      abbrev at32 : Typed.TF T94 O3
-      at32 = λ Ψ. Typed.pass T94 T97 s93 (at31 Ψ)
+      abbrev at32 : Typed.TF T102 O3
+      at32 = λ Ψ. Typed.pass T102 T105 s101 (at31 Ψ)
 
-      abbrev at33 : Typed.TF T94 O3
+      abbrev at33 : Typed.TF T102 O3
       at33 = λ Ψ. at32 Ψ
 
-      abbrev at34 : Typed.TF T94 O3
+      abbrev at34 : Typed.TF T102 O3
       at34 = λ Ψ. at33 Ψ
 
-      abbrev at35 : Typed.TF T92 O3
-      at35 = λ Ψ. Typed.pass T92 T94 s90 (at34 Ψ)
+      abbrev at35 : Typed.TF T100 O3
+      at35 = λ Ψ. Typed.pass T100 T102 s98 (at34 Ψ)
 
-      abbrev at36 : Typed.TF T92 O3
+      abbrev at36 : Typed.TF T100 O3
       at36 = λ Ψ. at35 Ψ
 
-      abbrev at37 : Typed.TF T91 O3
-      at37 = λ Ψ. Typed.pass T91 T92 s88 (at36 Ψ)
+      abbrev at37 : Typed.TF T99 O3
+      at37 = λ Ψ. Typed.pass T99 T100 s96 (at36 Ψ)
 
-      abbrev at38 : Typed.TF T90 O3
-      at38 = λ Ψ. Typed.pass T90 T91 s87 (at37 Ψ)
+      abbrev at38 : Typed.TF T98 O3
+      at38 = λ Ψ. Typed.pass T98 T99 s95 (at37 Ψ)
 
-      abbrev at39 : Typed.TF T89 O3
-      at39 = λ Ψ. Typed.both s86 (at38 Ψ)
+      abbrev at39 : Typed.TF T97 O3
+      at39 = λ Ψ. Typed.both s94 (at38 Ψ)
 
-      abbrev at40 : Typed.TF T88 O3
-      at40 = λ Ψ. Typed.ask s85 (at39 Ψ)
+      abbrev at40 : Typed.TF T96 O3
+      at40 = λ Ψ. Typed.ask s93 (at39 Ψ)
 
-      abbrev at41 : Typed.TF T86 O3
-      at41 = λ Ψ. Typed.give s84 (at40 Ψ)
+      abbrev at41 : Typed.TF T94 O3
+      at41 = λ Ψ. Typed.give s92 (at40 Ψ)
 
-      abbrev at42 : Typed.TF T86 O3
+      abbrev at42 : Typed.TF T94 O3
       at42 = λ Ψ. at41 Ψ
 
-      abbrev at43 : Typed.TF T85 O3
-      at43 = λ Ψ. Typed.ask s82 (at42 Ψ)
+      abbrev at43 : Typed.TF T93 O3
+      at43 = λ Ψ. Typed.ask s90 (at42 Ψ)
 
-      abbrev at44 : Typed.TF T82 O3
-      at44 = λ Ψ. Typed.give s81 (at43 Ψ)
+      abbrev at44 : Typed.TF T90 O3
+      at44 = λ Ψ. Typed.give s89 (at43 Ψ)
 
-      abbrev at45 : Typed.TF T82 O3
+      abbrev at45 : Typed.TF T90 O3
       at45 = λ Ψ. at44 Ψ
 
-      abbrev at46 : Typed.TF T82 O3
+      abbrev at46 : Typed.TF T90 O3
       at46 = λ Ψ. at45 Ψ
 
-      abbrev at47 : Typed.TF T80 O3
-      at47 = λ Ψ. Typed.pass T80 T82 s78 (at46 Ψ)
+      abbrev at47 : Typed.TF T88 O3
+      at47 = λ Ψ. Typed.pass T88 T90 s86 (at46 Ψ)
 
-      abbrev at48 : Typed.TF T80 O3
+      abbrev at48 : Typed.TF T88 O3
       at48 = λ Ψ. at47 Ψ
 
-      abbrev at49 : Typed.TF T79 O3
-      at49 = λ Ψ. Typed.pass T79 T80 s76 (at48 Ψ)
+      abbrev at49 : Typed.TF T87 O3
+      at49 = λ Ψ. Typed.pass T87 T88 s84 (at48 Ψ)
 
-      abbrev at50 : Typed.TF T78 O3
-      at50 = λ Ψ. Typed.both s75 (at49 Ψ)
+      abbrev at50 : Typed.TF T86 O3
+      at50 = λ Ψ. Typed.both s83 (at49 Ψ)
 
-      abbrev at51 : Typed.TF T77 O3
-      at51 = λ Ψ. Typed.ask s74 (at50 Ψ)
+      abbrev at51 : Typed.TF T85 O3
+      at51 = λ Ψ. Typed.ask s82 (at50 Ψ)
 
-      abbrev at52 : Typed.TF T75 O3
-      at52 = λ Ψ. Typed.give s73 (at51 Ψ)
+      abbrev at52 : Typed.TF T83 O3
+      at52 = λ Ψ. Typed.give s81 (at51 Ψ)
 
-      abbrev at53 : Typed.TF T75 O3
+      abbrev at53 : Typed.TF T83 O3
       at53 = λ Ψ. at52 Ψ
 
-      abbrev at54 : Typed.TF T73 O3
-      at54 = λ Ψ. Typed.pass T73 T75 s71 (at53 Ψ)
+      abbrev at54 : Typed.TF T81 O3
+      at54 = λ Ψ. Typed.pass T81 T83 s79 (at53 Ψ)
 
-      abbrev at55 : Typed.TF T73 O3
+      abbrev at55 : Typed.TF T81 O3
       at55 = λ Ψ. at54 Ψ
 
-      abbrev at56 : Typed.TF T72 O3
-      at56 = λ Ψ. Typed.give s69 (at55 Ψ)
+      abbrev at56 : Typed.TF T80 O3
+      at56 = λ Ψ. Typed.give s77 (at55 Ψ)
 
-      abbrev at57 : Typed.TF T69 O3
-      at57 = λ Ψ. Typed.both s68 (at56 Ψ)
+      abbrev at57 : Typed.TF T77 O3
+      at57 = λ Ψ. Typed.both s76 (at56 Ψ)
 
-      abbrev at58 : Typed.TF T69 O3
+      abbrev at58 : Typed.TF T77 O3
       at58 = λ Ψ. at57 Ψ
 
-      abbrev at59 : Typed.TF T69 O3
+      abbrev at59 : Typed.TF T77 O3
       at59 = λ Ψ. at58 Ψ
 
-      abbrev at60 : Typed.TF T68 O3
-      at60 = λ Ψ. Typed.give s65 (at59 Ψ)
+      abbrev at60 : Typed.TF T76 O3
+      at60 = λ Ψ. Typed.give s73 (at59 Ψ)
 
-      abbrev at61 : Typed.TF T65 O3
-      at61 = λ Ψ. Typed.both s64 (at60 Ψ)
+      abbrev at61 : Typed.TF T73 O3
+      at61 = λ Ψ. Typed.both s72 (at60 Ψ)
 
-      abbrev at62 : Typed.TF T65 O3
+      abbrev at62 : Typed.TF T73 O3
       at62 = λ Ψ. at61 Ψ
 
-      abbrev at63 : Typed.TF T65 O3
+      abbrev at63 : Typed.TF T73 O3
       at63 = λ Ψ. at62 Ψ
 
-      abbrev at64 : Typed.TF T64 O3
-      at64 = λ Ψ. Typed.give s61 (at63 Ψ)
+      abbrev at64 : Typed.TF T72 O3
+      at64 = λ Ψ. Typed.give s69 (at63 Ψ)
 
-      abbrev at65 : Typed.TF T62 O3
-      at65 = λ Ψ. Typed.both s60 (at64 Ψ)
+      abbrev at65 : Typed.TF T69 O3
+      at65 = λ Ψ. Typed.both s68 (at64 Ψ)
 
-      abbrev at66 : Typed.TF T62 O3
+      abbrev at66 : Typed.TF T69 O3
       at66 = λ Ψ. at65 Ψ
 
-      abbrev at67 : Typed.TF T61 O3
-      at67 = λ Ψ. Typed.pass T61 T62 s58 (at66 Ψ)
+      abbrev at67 : Typed.TF T69 O3
+      at67 = λ Ψ. at66 Ψ
 
-      abbrev at68 : Typed.TF T60 O3
-      at68 = λ Ψ. Typed.pass T60 T61 s57 (at67 Ψ)
+      abbrev at68 : Typed.TF T68 O3
+      at68 = λ Ψ. Typed.give s65 (at67 Ψ)
 
-      abbrev at69 : Typed.TF T59 O3
-      at69 = λ Ψ. Typed.both s56 (at68 Ψ)
+      abbrev at69 : Typed.TF T66 O3
+      at69 = λ Ψ. Typed.both s64 (at68 Ψ)
 
-      abbrev at70 : Typed.TF T58 O3
-      at70 = λ Ψ. Typed.ask s55 (at69 Ψ)
+      abbrev at70 : Typed.TF T66 O3
+      at70 = λ Ψ. at69 Ψ
 
-      abbrev at71 : Typed.TF T56 O3
-      at71 = λ Ψ. Typed.give s54 (at70 Ψ)
+      abbrev at71 : Typed.TF T65 O3
+      at71 = λ Ψ. Typed.pass T65 T66 s62 (at70 Ψ)
 
-      abbrev at72 : Typed.TF T56 O3
-      at72 = λ Ψ. at71 Ψ
+      abbrev at72 : Typed.TF T64 O3
+      at72 = λ Ψ. Typed.pass T64 T65 s61 (at71 Ψ)
 
-      abbrev at73 : Typed.TF T55 O3
-      at73 = λ Ψ. Typed.ask s52 (at72 Ψ)
+      abbrev at73 : Typed.TF T63 O3
+      at73 = λ Ψ. Typed.both s60 (at72 Ψ)
 
-      abbrev at74 : Typed.TF T53 O3
-      at74 = λ Ψ. Typed.give s51 (at73 Ψ)
+      abbrev at74 : Typed.TF T62 O3
+      at74 = λ Ψ. Typed.ask s59 (at73 Ψ)
 
-      abbrev at75 : Typed.TF T53 O3
-      at75 = λ Ψ. at74 Ψ
+      abbrev at75 : Typed.TF T60 O3
+      at75 = λ Ψ. Typed.give s58 (at74 Ψ)
 
-      abbrev at76 : Typed.TF T52 O3
-      at76 = λ Ψ. Typed.ask s49 (at75 Ψ)
+      abbrev at76 : Typed.TF T60 O3
+      at76 = λ Ψ. at75 Ψ
 
-      abbrev at77 : Typed.TF T47 O3
-      at77 = λ Ψ. Typed.give s48 (at76 Ψ)
+      abbrev at77 : Typed.TF T59 O3
+      at77 = λ Ψ. Typed.ask s56 (at76 Ψ)
 
-      abbrev at78 : Typed.TF T47 O3
-      at78 = λ Ψ. at77 Ψ
+      abbrev at78 : Typed.TF T57 O3
+      at78 = λ Ψ. Typed.give s55 (at77 Ψ)
 
-      abbrev at79 : Typed.TF T46 O3
-      at79 = λ Ψ. at5 (Typed.wantNext T47 O3 (at78 Ψ) Ψ)
+      abbrev at79 : Typed.TF T57 O3
+      at79 = λ Ψ. at78 Ψ
 
-      abbrev at80 : Typed.TF T44 O3
-      at80 = λ Ψ. Typed.ask s43 (at79 Ψ)
+      abbrev at80 : Typed.TF T56 O3
+      at80 = λ Ψ. Typed.ask s53 (at79 Ψ)
 
-      abbrev at81 : Typed.TF T44 O2
-      at81 = Typed.LoopBy T44 O2 put0 (λ u vs. Inv·0 (Row.get 1 (T44 .locals) u) (Row.get 2 (T44 .locals) u .now) (Row.get 3 (T44 .locals) u .now) (Row.get 4 (T44 .locals) u .now) (Row.get 5 (T44 .locals) u) (Row.get 6 (T44 .locals) u .now) (Row.get 7 (T44 .locals) u .now) (Row.get 8 (T44 .locals) u .now) (Row.get 10 (T44 .locals) u) (Row.get 11 (T44 .locals) u) (Row.get 12 (T44 .locals) u) (Row.get 13 (T44 .locals) u) (vs .0) (vs .1) (vs .2) (vs .3) (vs .4) (vs .5) (vs .6)) (λ u vs. μ·0 (Row.get 1 (T44 .locals) u) (Row.get 2 (T44 .locals) u .now) (Row.get 3 (T44 .locals) u .now) (Row.get 4 (T44 .locals) u .now) (Row.get 5 (T44 .locals) u) (Row.get 6 (T44 .locals) u .now) (Row.get 7 (T44 .locals) u .now) (Row.get 8 (T44 .locals) u .now) (Row.get 10 (T44 .locals) u) (Row.get 11 (T44 .locals) u) (Row.get 12 (T44 .locals) u) (Row.get 13 (T44 .locals) u) (vs .0) (vs .1) (vs .2) (vs .3) (vs .4) (vs .5) (vs .6)) at80
+      abbrev at81 : Typed.TF T54 O3
+      at81 = λ Ψ. Typed.give s52 (at80 Ψ)
 
-      abbrev at82 : Typed.TF T44 O1
-      at82 = λ Ψ. at81 (Typed.inBlock O1 Ψ)
+      abbrev at82 : Typed.TF T54 O3
+      at82 = λ Ψ. at81 Ψ
 
-      abbrev at83 : Typed.TF T144 O0
-      at83 = Typed.atRet O0
+      abbrev at83 : Typed.TF T53 O3
+      at83 = λ Ψ. Typed.ask s50 (at82 Ψ)
 
-      abbrev at84 : Typed.TF T142 O0
-      at84 = λ Ψ. Typed.pass T142 T144 s140 (at83 Ψ)
+      abbrev at84 : Typed.TF T48 O3
+      at84 = λ Ψ. Typed.give s49 (at83 Ψ)
 
-      abbrev at85 : Typed.TF T142 O0
+      abbrev at85 : Typed.TF T48 O3
       at85 = λ Ψ. at84 Ψ
 
-      abbrev at86 : Typed.TF T141 O0
-      at86 = λ Ψ. Typed.give s138 (at85 Ψ)
+      abbrev at86 : Typed.TF T47 O3
+      at86 = λ Ψ. at5 (Typed.wantNext T48 O3 (at85 Ψ) Ψ)
 
-      abbrev at87 : Typed.TF T138 O0
-      at87 = λ Ψ. Typed.both s137 (at86 Ψ)
+      abbrev at87 : Typed.TF T45 O3
+      at87 = λ Ψ. Typed.ask s44 (at86 Ψ)
 
-      abbrev at88 : Typed.TF T138 O0
-      at88 = λ Ψ. at87 Ψ
+      abbrev at88 : Typed.TF T45 O2
+      at88 = Typed.LoopBy T45 O2 put0 (λ u vs. Inv·0 (Row.get 1 (T45 .locals) u) (Row.get 2 (T45 .locals) u .now) (Row.get 3 (T45 .locals) u .now) (Row.get 4 (T45 .locals) u .now) (Row.get 5 (T45 .locals) u) (Row.get 6 (T45 .locals) u .now) (Row.get 7 (T45 .locals) u .now) (Row.get 8 (T45 .locals) u .now) (Row.get 9 (T45 .locals) u .now) (Row.get 11 (T45 .locals) u) (Row.get 12 (T45 .locals) u) (Row.get 13 (T45 .locals) u) (Row.get 14 (T45 .locals) u) (vs .0) (vs .1) (vs .2) (vs .3) (vs .4) (vs .5) (vs .6) (vs .7)) (λ u vs. μ·0 (Row.get 1 (T45 .locals) u) (Row.get 2 (T45 .locals) u .now) (Row.get 3 (T45 .locals) u .now) (Row.get 4 (T45 .locals) u .now) (Row.get 5 (T45 .locals) u) (Row.get 6 (T45 .locals) u .now) (Row.get 7 (T45 .locals) u .now) (Row.get 8 (T45 .locals) u .now) (Row.get 9 (T45 .locals) u .now) (Row.get 11 (T45 .locals) u) (Row.get 12 (T45 .locals) u) (Row.get 13 (T45 .locals) u) (Row.get 14 (T45 .locals) u) (vs .0) (vs .1) (vs .2) (vs .3) (vs .4) (vs .5) (vs .6) (vs .7)) at87
 
-      abbrev at89 : Typed.TF T138 O0
-      at89 = λ Ψ. at88 Ψ
+      abbrev at89 : Typed.TF T45 O1
+      at89 = λ Ψ. at88 (Typed.inBlock O1 Ψ)
 
-      abbrev at90 : Typed.TF T137 O0
-      at90 = λ Ψ. Typed.give s134 (at89 Ψ)
+      abbrev at90 : Typed.TF T152 O0
+      at90 = Typed.atRet O0
 
-      abbrev at91 : Typed.TF T135 O0
-      at91 = λ Ψ. Typed.both s133 (at90 Ψ)
+      abbrev at91 : Typed.TF T150 O0
+      at91 = λ Ψ. Typed.pass T150 T152 s148 (at90 Ψ)
 
-      abbrev at92 : Typed.TF T135 O0
+      abbrev at92 : Typed.TF T150 O0
       at92 = λ Ψ. at91 Ψ
 
-      abbrev at93 : Typed.TF T134 O0
-      at93 = λ Ψ. Typed.pass T134 T135 s131 (at92 Ψ)
+      abbrev at93 : Typed.TF T149 O0
+      at93 = λ Ψ. Typed.give s146 (at92 Ψ)
 
-      abbrev at94 : Typed.TF T133 O0
-      at94 = λ Ψ. Typed.pass T133 T134 s130 (at93 Ψ)
+      abbrev at94 : Typed.TF T146 O0
+      at94 = λ Ψ. Typed.both s145 (at93 Ψ)
 
-      abbrev at95 : Typed.TF T132 O0
-      at95 = λ Ψ. Typed.pass T132 T133 s129 (at94 Ψ)
+      abbrev at95 : Typed.TF T146 O0
+      at95 = λ Ψ. at94 Ψ
 
-      abbrev at96 : Typed.TF T131 O0
-      at96 = λ Ψ. Typed.pass T131 T132 s128 (at95 Ψ)
+      abbrev at96 : Typed.TF T146 O0
+      at96 = λ Ψ. at95 Ψ
 
-      abbrev at97 : Typed.TF T130 O0
-      at97 = λ Ψ. Typed.pass T130 T131 s127 (at96 Ψ)
+      abbrev at97 : Typed.TF T145 O0
+      at97 = λ Ψ. Typed.give s142 (at96 Ψ)
 
-      abbrev at98 : Typed.TF T129 O0
-      at98 = λ Ψ. Typed.both s126 (at97 Ψ)
+      abbrev at98 : Typed.TF T143 O0
+      at98 = λ Ψ. Typed.both s141 (at97 Ψ)
 
-      abbrev at99 : Typed.TF T128 O0
-      at99 = λ Ψ. Typed.ask s125 (at98 Ψ)
+      abbrev at99 : Typed.TF T143 O0
+      at99 = λ Ψ. at98 Ψ
 
-      abbrev at100 : Typed.TF T126 O0
-      at100 = λ Ψ. Typed.give s124 (at99 Ψ)
+      abbrev at100 : Typed.TF T142 O0
+      at100 = λ Ψ. Typed.pass T142 T143 s139 (at99 Ψ)
 
-      abbrev at101 : Typed.TF T126 O0
-      at101 = λ Ψ. at100 Ψ
+      abbrev at101 : Typed.TF T141 O0
+      at101 = λ Ψ. Typed.pass T141 T142 s138 (at100 Ψ)
 
-      abbrev at102 : Typed.TF T125 O0
-      at102 = λ Ψ. Typed.ask s122 (at101 Ψ)
+      abbrev at102 : Typed.TF T140 O0
+      at102 = λ Ψ. Typed.pass T140 T141 s137 (at101 Ψ)
 
-      abbrev at103 : Typed.TF T45 O0
-      at103 = λ Ψ. Typed.give s121 (at102 Ψ)
+      abbrev at103 : Typed.TF T139 O0
+      at103 = λ Ψ. Typed.pass T139 T140 s136 (at102 Ψ)
 
-      abbrev at104 : Typed.TF T45 O0
-      at104 = λ Ψ. at103 Ψ
+      abbrev at104 : Typed.TF T138 O0
+      at104 = λ Ψ. Typed.pass T138 T139 s135 (at103 Ψ)
 
-      abbrev at105 : Typed.TF T44 O0
-      at105 = λ Ψ. at82 (Typed.wantNext T45 O0 (at104 Ψ) Ψ)
+      abbrev at105 : Typed.TF T137 O0
+      at105 = λ Ψ. Typed.both s134 (at104 Ψ)
 
-      abbrev at106 : Typed.TF T43 O0
-      at106 = λ Ψ. Typed.pass T43 T44 s42 (at105 Ψ)
+      abbrev at106 : Typed.TF T136 O0
+      at106 = λ Ψ. Typed.ask s133 (at105 Ψ)
 
-      abbrev at107 : Typed.TF T41 O0
-      at107 = λ Ψ. Typed.pass T41 T43 s41 (at106 Ψ)
+      abbrev at107 : Typed.TF T134 O0
+      at107 = λ Ψ. Typed.give s132 (at106 Ψ)
 
-      abbrev at108 : Typed.TF T41 O0
+      abbrev at108 : Typed.TF T134 O0
       at108 = λ Ψ. at107 Ψ
 
-      abbrev at109 : Typed.TF T40 O0
-      at109 = λ Ψ. Typed.give s39 (at108 Ψ)
+      abbrev at109 : Typed.TF T133 O0
+      at109 = λ Ψ. Typed.ask s130 (at108 Ψ)
 
-      abbrev at110 : Typed.TF T37 O0
-      at110 = λ Ψ. Typed.both s38 (at109 Ψ)
+      abbrev at110 : Typed.TF T46 O0
+      at110 = λ Ψ. Typed.give s129 (at109 Ψ)
 
-      abbrev at111 : Typed.TF T37 O0
+      abbrev at111 : Typed.TF T46 O0
       at111 = λ Ψ. at110 Ψ
 
-      abbrev at112 : Typed.TF T37 O0
-      at112 = λ Ψ. at111 Ψ
+      abbrev at112 : Typed.TF T45 O0
+      at112 = λ Ψ. at89 (Typed.wantNext T46 O0 (at111 Ψ) Ψ)
 
-      abbrev at113 : Typed.TF T36 O0
-      at113 = λ Ψ. Typed.give s35 (at112 Ψ)
+      abbrev at113 : Typed.TF T44 O0
+      at113 = λ Ψ. Typed.pass T44 T45 s43 (at112 Ψ)
 
-      abbrev at114 : Typed.TF T34 O0
-      at114 = λ Ψ. Typed.both s34 (at113 Ψ)
+      abbrev at114 : Typed.TF T42 O0
+      at114 = λ Ψ. Typed.pass T42 T44 s42 (at113 Ψ)
 
-      abbrev at115 : Typed.TF T34 O0
+      abbrev at115 : Typed.TF T42 O0
       at115 = λ Ψ. at114 Ψ
 
-      abbrev at116 : Typed.TF T33 O0
-      at116 = λ Ψ. Typed.both s32 (at115 Ψ)
+      abbrev at116 : Typed.TF T41 O0
+      at116 = λ Ψ. Typed.give s40 (at115 Ψ)
 
-      abbrev at117 : Typed.TF T32 O0
-      at117 = λ Ψ. Typed.ask s31 (at116 Ψ)
+      abbrev at117 : Typed.TF T38 O0
+      at117 = λ Ψ. Typed.both s39 (at116 Ψ)
 
-      abbrev at118 : Typed.TF T30 O0
-      at118 = λ Ψ. Typed.give s30 (at117 Ψ)
+      abbrev at118 : Typed.TF T38 O0
+      at118 = λ Ψ. at117 Ψ
 
-      abbrev at119 : Typed.TF T30 O0
+      abbrev at119 : Typed.TF T38 O0
       at119 = λ Ψ. at118 Ψ
 
-      abbrev at120 : Typed.TF T29 O0
-      at120 = λ Ψ. Typed.ask s28 (at119 Ψ)
+      abbrev at120 : Typed.TF T37 O0
+      at120 = λ Ψ. Typed.give s36 (at119 Ψ)
 
-      abbrev at121 : Typed.TF T27 O0
-      at121 = λ Ψ. Typed.give s27 (at120 Ψ)
+      abbrev at121 : Typed.TF T35 O0
+      at121 = λ Ψ. Typed.both s35 (at120 Ψ)
 
-      abbrev at122 : Typed.TF T27 O0
+      abbrev at122 : Typed.TF T35 O0
       at122 = λ Ψ. at121 Ψ
 
-      abbrev at123 : Typed.TF T26 O0
-      at123 = λ Ψ. Typed.pass T26 T27 s25 (at122 Ψ)
+      abbrev at123 : Typed.TF T34 O0
+      at123 = λ Ψ. Typed.both s33 (at122 Ψ)
 
-      abbrev at124 : Typed.TF T25 O0
-      at124 = λ Ψ. Typed.both s24 (at123 Ψ)
+      abbrev at124 : Typed.TF T33 O0
+      at124 = λ Ψ. Typed.ask s32 (at123 Ψ)
 
-      abbrev at125 : Typed.TF T23 O0
-      at125 = λ Ψ. Typed.both s23 (at124 Ψ)
+      abbrev at125 : Typed.TF T31 O0
+      at125 = λ Ψ. Typed.give s31 (at124 Ψ)
 
-      abbrev at126 : Typed.TF T23 O0
+      abbrev at126 : Typed.TF T31 O0
       at126 = λ Ψ. at125 Ψ
 
-      abbrev at127 : Typed.TF T22 O0
-      at127 = λ Ψ. Typed.give s21 (at126 Ψ)
+      abbrev at127 : Typed.TF T30 O0
+      at127 = λ Ψ. Typed.ask s29 (at126 Ψ)
 
-      abbrev at128 : Typed.TF T20 O0
-      at128 = λ Ψ. Typed.both s20 (at127 Ψ)
+      abbrev at128 : Typed.TF T28 O0
+      at128 = λ Ψ. Typed.give s28 (at127 Ψ)
 
-      abbrev at129 : Typed.TF T20 O0
+      abbrev at129 : Typed.TF T28 O0
       at129 = λ Ψ. at128 Ψ
 
-      abbrev at130 : Typed.TF T19 O0
-      at130 = λ Ψ. Typed.pass T19 T20 s18 (at129 Ψ)
+      abbrev at130 : Typed.TF T27 O0
+      at130 = λ Ψ. Typed.pass T27 T28 s26 (at129 Ψ)
 
-      abbrev at131 : Typed.TF T18 O0
-      at131 = λ Ψ. Typed.both s17 (at130 Ψ)
+      abbrev at131 : Typed.TF T26 O0
+      at131 = λ Ψ. Typed.both s25 (at130 Ψ)
 
-      abbrev at132 : Typed.TF T17 O0
-      at132 = λ Ψ. Typed.ask s16 (at131 Ψ)
+      abbrev at132 : Typed.TF T24 O0
+      at132 = λ Ψ. Typed.both s24 (at131 Ψ)
 
-      abbrev at133 : Typed.TF T14 O0
-      at133 = λ Ψ. Typed.give s15 (at132 Ψ)
+      abbrev at133 : Typed.TF T24 O0
+      at133 = λ Ψ. at132 Ψ
 
-      abbrev at134 : Typed.TF T14 O0
-      at134 = λ Ψ. at133 Ψ
+      abbrev at134 : Typed.TF T23 O0
+      at134 = λ Ψ. Typed.give s22 (at133 Ψ)
 
-      abbrev at135 : Typed.TF T14 O0
-      at135 = λ Ψ. at134 Ψ
+      abbrev at135 : Typed.TF T21 O0
+      at135 = λ Ψ. Typed.both s21 (at134 Ψ)
 
-      abbrev at136 : Typed.TF T13 O0
-      at136 = λ Ψ. Typed.give s12 (at135 Ψ)
+      abbrev at136 : Typed.TF T21 O0
+      at136 = λ Ψ. at135 Ψ
 
-      abbrev at137 : Typed.TF T11 O0
-      at137 = λ Ψ. Typed.both s11 (at136 Ψ)
+      abbrev at137 : Typed.TF T20 O0
+      at137 = λ Ψ. Typed.pass T20 T21 s19 (at136 Ψ)
 
-      abbrev at138 : Typed.TF T11 O0
-      at138 = λ Ψ. at137 Ψ
+      abbrev at138 : Typed.TF T19 O0
+      at138 = λ Ψ. Typed.both s18 (at137 Ψ)
 
-      abbrev at139 : Typed.TF T10 O0
-      at139 = λ Ψ. Typed.pass T10 T11 s9 (at138 Ψ)
+      abbrev at139 : Typed.TF T18 O0
+      at139 = λ Ψ. Typed.ask s17 (at138 Ψ)
 
-      abbrev at140 : Typed.TF T9 O0
-      at140 = λ Ψ. Typed.both s8 (at139 Ψ)
+      abbrev at140 : Typed.TF T15 O0
+      at140 = λ Ψ. Typed.give s16 (at139 Ψ)
 
-      abbrev at141 : Typed.TF T8 O0
-      at141 = λ Ψ. Typed.ask s7 (at140 Ψ)
+      abbrev at141 : Typed.TF T15 O0
+      at141 = λ Ψ. at140 Ψ
 
-      abbrev at142 : Typed.TF T6 O0
-      at142 = λ Ψ. Typed.give s6 (at141 Ψ)
+      abbrev at142 : Typed.TF T15 O0
+      at142 = λ Ψ. at141 Ψ
 
-      abbrev at143 : Typed.TF T6 O0
-      at143 = λ Ψ. at142 Ψ
+      abbrev at143 : Typed.TF T14 O0
+      at143 = λ Ψ. Typed.give s13 (at142 Ψ)
 
-      abbrev at144 : Typed.TF T5 O0
-      at144 = λ Ψ. Typed.give s4 (at143 Ψ)
+      abbrev at144 : Typed.TF T12 O0
+      at144 = λ Ψ. Typed.both s12 (at143 Ψ)
 
-      abbrev at145 : Typed.TF T4 O0
-      at145 = λ Ψ. Typed.give s3 (at144 Ψ)
+      abbrev at145 : Typed.TF T12 O0
+      at145 = λ Ψ. at144 Ψ
 
-      abbrev at146 : Typed.TF T3 O0
-      at146 = λ Ψ. Typed.give s2 (at145 Ψ)
+      abbrev at146 : Typed.TF T11 O0
+      at146 = λ Ψ. Typed.pass T11 T12 s10 (at145 Ψ)
 
-      abbrev at147 : Typed.TF T2 O0
-      at147 = λ Ψ. Typed.give s1 (at146 Ψ)
+      abbrev at147 : Typed.TF T10 O0
+      at147 = λ Ψ. Typed.both s9 (at146 Ψ)
 
-      abbrev at148 : Typed.TF T0 O0
-      at148 = λ Ψ. Typed.give s0 (at147 Ψ)
+      abbrev at148 : Typed.TF T9 O0
+      at148 = λ Ψ. Typed.ask s8 (at147 Ψ)
+
+      abbrev at149 : Typed.TF T7 O0
+      at149 = λ Ψ. Typed.give s7 (at148 Ψ)
+
+      abbrev at150 : Typed.TF T7 O0
+      at150 = λ Ψ. at149 Ψ
+
+      abbrev at151 : Typed.TF T6 O0
+      at151 = λ Ψ. Typed.give s5 (at150 Ψ)
+
+      abbrev at152 : Typed.TF T5 O0
+      at152 = λ Ψ. Typed.give s4 (at151 Ψ)
+
+      abbrev at153 : Typed.TF T4 O0
+      at153 = λ Ψ. Typed.give s3 (at152 Ψ)
+
+      abbrev at154 : Typed.TF T3 O0
+      at154 = λ Ψ. Typed.give s2 (at153 Ψ)
+
+      abbrev at155 : Typed.TF T2 O0
+      at155 = λ Ψ. Typed.give s1 (at154 Ψ)
+
+      abbrev at156 : Typed.TF T0 O0
+      at156 = λ Ψ. Typed.give s0 (at155 Ψ)
 
       abbrev pub Φ : Typed.TF T0 O0
-      Φ = at148
+      Φ = at156
 
       module _ {M : Type 1} (𝓤 : URA.URA M) (H : Wp.Heap 𝓤) (A : Atoms.Atoms 𝓤) (W : Kit.Given 𝓤 H A) (𝓣 : Wp.Tables 𝓤 H) where
         abbrev Knowns : Type 1
-        Knowns = Plain.Known 𝓤 H A W 𝓣 1 ps·0 r·0 (claims· .0) (claims· .1) "tables::entries::fill" × Plain.Known 𝓤 H A W 𝓣 2 ps·1 r·1 (claims· .2) (claims· .3) "search::marks::start_known" × Plain.Known 𝓤 H A W 𝓣 1 ps·2 r·2 (claims· .4) (claims· .5) "tables::spans::span_at" × Plain.Known 𝓤 H A W 𝓣 0 ps·3 r·3 (claims· .6) (claims· .7) "search::marks::start_end" × Plain.Known 𝓤 H A W 𝓣 2 ps·4 r·4 (claims· .8) (claims· .9) "walks::queue::reach" × Plain.Known 𝓤 H A W 𝓣 6 ps·5 r·5 (claims· .10) (claims· .11) "search::walk::walk" × Plain.Known 𝓤 H A W 𝓣 1 ps·6 r·6 (claims· .12) (claims· .13) "search::rounds::round_end" × Plain.Known 𝓤 H A W 𝓣 2 ps·7 r·7 (claims· .14) (claims· .15) "search::marks::kept" × Plain.Known 𝓤 H A W 𝓣 4 ps·8 r·8 (claims· .16) (claims· .17) "search::marks::settle" × Plain.Known 𝓤 H A W 𝓣 2 ps·9 r·9 (claims· .18) (claims· .19) "search::rounds::finish"
+        Knowns = Plain.Known 𝓤 H A W 𝓣 1 ps·0 r·0 (claims· .0) (claims· .1) "tables::entries::fill" × Plain.Known 𝓤 H A W 𝓣 2 ps·1 r·1 (claims· .2) (claims· .3) "search::marks::start_known" × Plain.Known 𝓤 H A W 𝓣 1 ps·2 r·2 (claims· .4) (claims· .5) "tables::spans::span_at" × Plain.Known 𝓤 H A W 𝓣 0 ps·3 r·3 (claims· .6) (claims· .7) "search::marks::start_end" × Plain.Known 𝓤 H A W 𝓣 2 ps·4 r·4 (claims· .8) (claims· .9) "walks::queue::reach" × Plain.Known 𝓤 H A W 𝓣 7 ps·5 r·5 (claims· .10) (claims· .11) "search::walk::walk" × Plain.Known 𝓤 H A W 𝓣 1 ps·6 r·6 (claims· .12) (claims· .13) "search::rounds::round_end" × Plain.Known 𝓤 H A W 𝓣 2 ps·7 r·7 (claims· .14) (claims· .15) "search::marks::kept" × Plain.Known 𝓤 H A W 𝓣 4 ps·8 r·8 (claims· .16) (claims· .17) "search::marks::settle" × Plain.Known 𝓤 H A W 𝓣 2 ps·9 r·9 (claims· .18) (claims· .19) "search::rounds::finish"
 
-      module _ (κs : Lifetimes.Lfts 6) (qs : Lifetimes.Shares 6) where
-        abbrev g4 : List.List Row.Entry
-        g4 = Row.setRow 6 (6, Relend.mslice-owed (Referent.rtF (Referent.fInt Syntax.w16)) ty·4 3 6 (Row.lease (κs .1 .1 .1 .0) (qs .1 .1 .1 .0))) t0
+      module _ (κs : Lifetimes.Lfts 7) (qs : Lifetimes.Shares 7) where
+        abbrev g5 : List.List Row.Entry
+        g5 = Row.setRow 6 (6, Relend.mslice-owed (Referent.rtF (Referent.fInt Syntax.w16)) ty·4 3 7 (Row.lease (κs .1 .1 .1 .0) (qs .1 .1 .1 .0))) t0
 
-        abbrev g7 : List.List Row.Entry
-        g7 = Row.setRow 15 (15, Rows.sc-here Row.sUnit) g4
+        abbrev g10 : List.List Row.Entry
+        g10 = Row.setRow 7 (7, Relend.mslice-owed (Referent.rtF (Referent.fInt Syntax.w16)) ty·5 4 8 (Row.lease (κs .1 .1 .1 .1 .0) (qs .1 .1 .1 .1 .0))) t0
 
-        abbrev g9 : List.List Row.Entry
-        g9 = Row.setRow 7 (7, Relend.mslice-owed (Referent.rtF (Referent.fInt Syntax.w16)) ty·5 4 7 (Row.lease (κs .1 .1 .1 .1 .0) (qs .1 .1 .1 .1 .0))) t0
+        abbrev g18 : List.List Row.Entry
+        g18 = Row.setRow 7 (7, Relend.mslice-owed (Referent.rtF (Referent.fInt Syntax.w16)) ty·5 4 9 (Row.lease (κs .1 .1 .1 .1 .0) (qs .1 .1 .1 .1 .0))) t17
 
-        abbrev g12 : List.List Row.Entry
-        g12 = Row.setRow 15 (15, Rows.sc-here Row.sUnit) g9
+        abbrev g21 : List.List Row.Entry
+        g21 = Row.setRow 8 (8, Relend.mslice-owed (Referent.rtF (Referent.fInt Syntax.w16)) ty·6 5 10 (Row.lease (κs .1 .1 .1 .1 .1 .0) (qs .1 .1 .1 .1 .1 .0))) g18
 
-        abbrev g17 : List.List Row.Entry
-        g17 = Row.setRow 7 (7, Relend.mslice-owed (Referent.rtF (Referent.fInt Syntax.w16)) ty·5 4 8 (Row.lease (κs .1 .1 .1 .1 .0) (qs .1 .1 .1 .1 .0))) t16
+        abbrev g24 : List.List Row.Entry
+        g24 = Row.setRow 12 (12, Rows.sc-here (Row.sInt Syntax.w64)) g21
 
-        abbrev g20 : List.List Row.Entry
-        g20 = Row.setRow 8 (8, Relend.mslice-owed (Referent.rtF (Referent.fInt Syntax.w16)) ty·6 5 9 (Row.lease (κs .1 .1 .1 .1 .1 .0) (qs .1 .1 .1 .1 .1 .0))) g17
+        abbrev g26 : List.List Row.Entry
+        g26 = Row.setRow 7 (7, Mut.mslice (Referent.rtF (Referent.fInt Syntax.w16)) ty·5 4) g24
 
-        abbrev g23 : List.List Row.Entry
-        g23 = Row.setRow 11 (11, Rows.sc-here (Row.sInt Syntax.w64)) g20
+        abbrev g33 : List.List Row.Entry
+        g33 = Row.setRow 6 (6, Relend.mslice-owed (Referent.rtF (Referent.fInt Syntax.w16)) ty·4 3 11 (Row.lease (κs .1 .1 .1 .0) (qs .1 .1 .1 .0))) t32
 
-        abbrev g25 : List.List Row.Entry
-        g25 = Row.setRow 7 (7, Mut.mslice (Referent.rtF (Referent.fInt Syntax.w16)) ty·5 4) g23
+        abbrev g36 : List.List Row.Entry
+        g36 = Row.setRow 7 (7, Relend.mslice-owed (Referent.rtF (Referent.fInt Syntax.w16)) ty·5 4 12 (Row.lease (κs .1 .1 .1 .1 .0) (qs .1 .1 .1 .1 .0))) g33
 
-        abbrev g32 : List.List Row.Entry
-        g32 = Row.setRow 6 (6, Relend.mslice-owed (Referent.rtF (Referent.fInt Syntax.w16)) ty·4 3 10 (Row.lease (κs .1 .1 .1 .0) (qs .1 .1 .1 .0))) t31
+        abbrev g39 : List.List Row.Entry
+        g39 = Row.setRow 8 (8, Relend.mslice-owed (Referent.rtF (Referent.fInt Syntax.w16)) ty·6 5 13 (Row.lease (κs .1 .1 .1 .1 .1 .0) (qs .1 .1 .1 .1 .1 .0))) g36
 
-        abbrev g35 : List.List Row.Entry
-        g35 = Row.setRow 7 (7, Relend.mslice-owed (Referent.rtF (Referent.fInt Syntax.w16)) ty·5 4 11 (Row.lease (κs .1 .1 .1 .1 .0) (qs .1 .1 .1 .1 .0))) g32
-
-        abbrev g38 : List.List Row.Entry
-        g38 = Row.setRow 8 (8, Relend.mslice-owed (Referent.rtF (Referent.fInt Syntax.w16)) ty·6 5 12 (Row.lease (κs .1 .1 .1 .1 .1 .0) (qs .1 .1 .1 .1 .1 .0))) g35
-
-        abbrev g41 : List.List Row.Entry
-        g41 = Row.setRow 14 (14, Rows.whole (Declared.row Progress.the-type)) g38
-
-        abbrev g43 : List.List Row.Entry
-        g43 = Row.setRow 11 (11, Rows.any-gone (Syntax.tyInt Syntax.w64)) g41
-
-        abbrev g44 : List.List Row.Entry
-        g44 = Row.setRow 12 (12, Rows.any-gone (Syntax.tyInt Syntax.w64)) g43
+        abbrev g42 : List.List Row.Entry
+        g42 = Row.setRow 9 (9, Relend.mslice-owed (Referent.rtF (Referent.fInt Syntax.w16)) ty·7 6 14 (Row.lease (κs .1 .1 .1 .1 .1 .1 .0) (qs .1 .1 .1 .1 .1 .1 .0))) g39
 
         abbrev g45 : List.List Row.Entry
-        g45 = Row.setRow 6 (6, Mut.mslice (Referent.rtF (Referent.fInt Syntax.w16)) ty·4 3) g44
+        g45 = Row.setRow 15 (15, Rows.whole (Declared.row Progress.the-type)) g42
 
-        abbrev g47 : List.List Row.Entry
-        g47 = Row.setRow 7 (7, Mut.mslice (Referent.rtF (Referent.fInt Syntax.w16)) ty·5 4) g45
+        abbrev g48 : List.List Row.Entry
+        g48 = Row.setRow 12 (12, Rows.any-gone (Syntax.tyInt Syntax.w64)) g45
 
-        abbrev g51 : List.List Row.Entry
-        g51 = Row.setRow 6 (6, Reshare.mslice-owedS (Referent.rtF (Referent.fInt Syntax.w16)) ty·4 3 13 (Row.lease (κs .1 .1 .1 .0) (qs .1 .1 .1 .0))) t50
+        abbrev g49 : List.List Row.Entry
+        g49 = Row.setRow 13 (13, Rows.any-gone (Syntax.tyInt Syntax.w64)) g48
+
+        abbrev g50 : List.List Row.Entry
+        g50 = Row.setRow 6 (6, Mut.mslice (Referent.rtF (Referent.fInt Syntax.w16)) ty·4 3) g49
+
+        abbrev g52 : List.List Row.Entry
+        g52 = Row.setRow 7 (7, Mut.mslice (Referent.rtF (Referent.fInt Syntax.w16)) ty·5 4) g50
 
         abbrev g54 : List.List Row.Entry
-        g54 = Row.setRow 10 (10, Rows.sc-here (Row.sInt Syntax.w64)) g51
+        g54 = Row.setRow 8 (8, Mut.mslice (Referent.rtF (Referent.fInt Syntax.w16)) ty·6 5) g52
 
-        abbrev g56 : List.List Row.Entry
-        g56 = Row.setRow 7 (7, Reshare.mslice-owedS (Referent.rtF (Referent.fInt Syntax.w16)) ty·5 4 14 (Row.lease (κs .1 .1 .1 .1 .0) (qs .1 .1 .1 .1 .0))) t55
+        abbrev g57 : List.List Row.Entry
+        g57 = Row.setRow 6 (6, Reshare.mslice-owedS (Referent.rtF (Referent.fInt Syntax.w16)) ty·4 3 15 (Row.lease (κs .1 .1 .1 .0) (qs .1 .1 .1 .0))) t56
 
-        abbrev g59 : List.List Row.Entry
-        g59 = Row.setRow 8 (8, Reshare.mslice-owedS (Referent.rtF (Referent.fInt Syntax.w16)) ty·6 5 15 (Row.lease (κs .1 .1 .1 .1 .1 .0) (qs .1 .1 .1 .1 .1 .0))) g56
+        abbrev g60 : List.List Row.Entry
+        g60 = Row.setRow 11 (11, Rows.sc-here (Row.sInt Syntax.w64)) g57
 
         abbrev g62 : List.List Row.Entry
-        g62 = Row.setRow 11 (11, Rows.sc-here (Row.sInt Syntax.w64)) g59
+        g62 = Row.setRow 7 (7, Reshare.mslice-owedS (Referent.rtF (Referent.fInt Syntax.w16)) ty·5 4 16 (Row.lease (κs .1 .1 .1 .1 .0) (qs .1 .1 .1 .1 .0))) t61
 
-        abbrev g64 : List.List Row.Entry
-        g64 = Row.setRow 7 (7, Mut.mslice (Referent.rtF (Referent.fInt Syntax.w16)) ty·5 4) g62
+        abbrev g65 : List.List Row.Entry
+        g65 = Row.setRow 8 (8, Reshare.mslice-owedS (Referent.rtF (Referent.fInt Syntax.w16)) ty·6 5 17 (Row.lease (κs .1 .1 .1 .1 .1 .0) (qs .1 .1 .1 .1 .1 .0))) g62
 
-        abbrev g66 : List.List Row.Entry
-        g66 = Row.setRow 6 (6, Relend.mslice-owed (Referent.rtF (Referent.fInt Syntax.w16)) ty·4 3 16 (Row.lease (κs .1 .1 .1 .0) (qs .1 .1 .1 .0))) t65
+        abbrev g68 : List.List Row.Entry
+        g68 = Row.setRow 12 (12, Rows.sc-here (Row.sInt Syntax.w64)) g65
 
-        abbrev g69 : List.List Row.Entry
-        g69 = Row.setRow 7 (7, Relend.mslice-owed (Referent.rtF (Referent.fInt Syntax.w16)) ty·5 4 17 (Row.lease (κs .1 .1 .1 .1 .0) (qs .1 .1 .1 .1 .0))) g66
+        abbrev g70 : List.List Row.Entry
+        g70 = Row.setRow 7 (7, Mut.mslice (Referent.rtF (Referent.fInt Syntax.w16)) ty·5 4) g68
 
         abbrev g72 : List.List Row.Entry
-        g72 = Row.setRow 8 (8, Reshare.mslice-owedS (Referent.rtF (Referent.fInt Syntax.w16)) ty·6 5 18 (Row.lease (κs .1 .1 .1 .1 .1 .0) (qs .1 .1 .1 .1 .1 .0))) g69
+        g72 = Row.setRow 6 (6, Relend.mslice-owed (Referent.rtF (Referent.fInt Syntax.w16)) ty·4 3 18 (Row.lease (κs .1 .1 .1 .0) (qs .1 .1 .1 .0))) t71
 
-        abbrev g77 : List.List Row.Entry
-        g77 = Row.setRow 14 (14, Rows.any-gone ty·12) g72
+        abbrev g75 : List.List Row.Entry
+        g75 = Row.setRow 7 (7, Relend.mslice-owed (Referent.rtF (Referent.fInt Syntax.w16)) ty·5 4 19 (Row.lease (κs .1 .1 .1 .1 .0) (qs .1 .1 .1 .1 .0))) g72
 
-        abbrev g79 : List.List Row.Entry
-        g79 = Row.setRow 6 (6, Mut.mslice (Referent.rtF (Referent.fInt Syntax.w16)) ty·4 3) g77
+        abbrev g78 : List.List Row.Entry
+        g78 = Row.setRow 8 (8, Reshare.mslice-owedS (Referent.rtF (Referent.fInt Syntax.w16)) ty·6 5 20 (Row.lease (κs .1 .1 .1 .1 .1 .0) (qs .1 .1 .1 .1 .1 .0))) g75
 
-        abbrev g81 : List.List Row.Entry
-        g81 = Row.setRow 7 (7, Mut.mslice (Referent.rtF (Referent.fInt Syntax.w16)) ty·5 4) g79
-
-        abbrev g82 : List.List Row.Entry
-        g82 = Row.setRow 6 (6, Relend.mslice-owed (Referent.rtF (Referent.fInt Syntax.w16)) ty·4 3 19 (Row.lease (κs .1 .1 .1 .0) (qs .1 .1 .1 .0))) t29
+        abbrev g83 : List.List Row.Entry
+        g83 = Row.setRow 15 (15, Rows.any-gone ty·13) g78
 
         abbrev g85 : List.List Row.Entry
-        g85 = Row.setRow 7 (7, Relend.mslice-owed (Referent.rtF (Referent.fInt Syntax.w16)) ty·5 4 20 (Row.lease (κs .1 .1 .1 .1 .0) (qs .1 .1 .1 .1 .0))) g82
+        g85 = Row.setRow 6 (6, Mut.mslice (Referent.rtF (Referent.fInt Syntax.w16)) ty·4 3) g83
+
+        abbrev g87 : List.List Row.Entry
+        g87 = Row.setRow 7 (7, Mut.mslice (Referent.rtF (Referent.fInt Syntax.w16)) ty·5 4) g85
 
         abbrev g88 : List.List Row.Entry
-        g88 = Row.setRow 0 (0, Rows.whole (Declared.row Found.the-type)) g85
-
-        abbrev g90 : List.List Row.Entry
-        g90 = Row.setRow 1 (1, Rows.any-gone ty·11) g88
+        g88 = Row.setRow 6 (6, Relend.mslice-owed (Referent.rtF (Referent.fInt Syntax.w16)) ty·4 3 21 (Row.lease (κs .1 .1 .1 .0) (qs .1 .1 .1 .0))) t30
 
         abbrev g91 : List.List Row.Entry
-        g91 = Row.setRow 10 (10, Rows.any-gone (Syntax.tyInt Syntax.w64)) g90
-
-        abbrev g92 : List.List Row.Entry
-        g92 = Row.setRow 11 (11, Rows.any-gone (Syntax.tyInt Syntax.w64)) g91
-
-        abbrev g93 : List.List Row.Entry
-        g93 = Row.setRow 12 (12, Rows.any-gone (Syntax.tyInt Syntax.w64)) g92
+        g91 = Row.setRow 7 (7, Relend.mslice-owed (Referent.rtF (Referent.fInt Syntax.w16)) ty·5 4 22 (Row.lease (κs .1 .1 .1 .1 .0) (qs .1 .1 .1 .1 .0))) g88
 
         abbrev g94 : List.List Row.Entry
-        g94 = Row.setRow 13 (13, Rows.any-gone (Syntax.tyInt Syntax.w64)) g93
+        g94 = Row.setRow 0 (0, Rows.whole (Declared.row Found.the-type)) g91
 
-        abbrev g95 : List.List Row.Entry
-        g95 = Row.setRow 6 (6, Mut.mslice (Referent.rtF (Referent.fInt Syntax.w16)) ty·4 3) g94
+        abbrev g96 : List.List Row.Entry
+        g96 = Row.setRow 1 (1, Rows.any-gone ty·12) g94
+
+        abbrev g97 : List.List Row.Entry
+        g97 = Row.setRow 11 (11, Rows.any-gone (Syntax.tyInt Syntax.w64)) g96
+
+        abbrev g98 : List.List Row.Entry
+        g98 = Row.setRow 12 (12, Rows.any-gone (Syntax.tyInt Syntax.w64)) g97
+
+        abbrev g99 : List.List Row.Entry
+        g99 = Row.setRow 13 (13, Rows.any-gone (Syntax.tyInt Syntax.w64)) g98
+
+        abbrev g100 : List.List Row.Entry
+        g100 = Row.setRow 14 (14, Rows.any-gone (Syntax.tyInt Syntax.w64)) g99
+
+        abbrev g101 : List.List Row.Entry
+        g101 = Row.setRow 6 (6, Mut.mslice (Referent.rtF (Referent.fInt Syntax.w16)) ty·4 3) g100
 
         abbrev G0 : Row.Cx
-        G0 = record { locals = List._++_ t0 (List._++_ t1 t2); slots = List._∷_ (Row.lease (κs .0) (qs .0)) (List._∷_ (Row.lease (κs .1 .0) (qs .1 .0)) (List._∷_ (Row.lease (κs .1 .1 .0) (qs .1 .1 .0)) (List._∷_ (Row.lease (κs .1 .1 .1 .0) (qs .1 .1 .1 .0)) (List._∷_ (Row.lease (κs .1 .1 .1 .1 .0) (qs .1 .1 .1 .1 .0)) (List._∷_ (Row.lease (κs .1 .1 .1 .1 .1 .0) (qs .1 .1 .1 .1 .1 .0)) (List._∷_ Row.off (List._∷_ Row.off (List._∷_ Row.off (List._∷_ Row.off (List._∷_ Row.off (List._∷_ Row.off (List._∷_ Row.off (List._∷_ Row.off (List._∷_ Row.off (List._∷_ Row.off (List._∷_ Row.off (List._∷_ Row.off (List._∷_ Row.off (List._∷_ Row.off (List._∷_ Row.off List.[])))))))))))))))))))) }
+        G0 = record { locals = List._++_ t0 (List._++_ t1 (List._++_ t2 t3)); slots = List._∷_ (Row.lease (κs .0) (qs .0)) (List._∷_ (Row.lease (κs .1 .0) (qs .1 .0)) (List._∷_ (Row.lease (κs .1 .1 .0) (qs .1 .1 .0)) (List._∷_ (Row.lease (κs .1 .1 .1 .0) (qs .1 .1 .1 .0)) (List._∷_ (Row.lease (κs .1 .1 .1 .1 .0) (qs .1 .1 .1 .1 .0)) (List._∷_ (Row.lease (κs .1 .1 .1 .1 .1 .0) (qs .1 .1 .1 .1 .1 .0)) (List._∷_ (Row.lease (κs .1 .1 .1 .1 .1 .1 .0) (qs .1 .1 .1 .1 .1 .1 .0)) (List._∷_ Row.off (List._∷_ Row.off (List._∷_ Row.off (List._∷_ Row.off (List._∷_ Row.off (List._∷_ Row.off (List._∷_ Row.off (List._∷_ Row.off (List._∷_ Row.off (List._∷_ Row.off (List._∷_ Row.off (List._∷_ Row.off (List._∷_ Row.off (List._∷_ Row.off (List._∷_ Row.off (List._∷_ Row.off List.[])))))))))))))))))))))) }
 
         abbrev G1 : Row.Cx
-        G1 = record { locals = List._++_ t3 (List._++_ t1 t2); slots = List._∷_ (Row.lease (κs .0) (qs .0)) (List._∷_ (Row.lease (κs .1 .0) (qs .1 .0)) (List._∷_ (Row.lease (κs .1 .1 .0) (qs .1 .1 .0)) (List._∷_ (Row.lease (κs .1 .1 .1 .0) (qs .1 .1 .1 .0)) (List._∷_ (Row.lease (κs .1 .1 .1 .1 .0) (qs .1 .1 .1 .1 .0)) (List._∷_ (Row.lease (κs .1 .1 .1 .1 .1 .0) (qs .1 .1 .1 .1 .1 .0)) (List._∷_ Row.off (List._∷_ Row.off (List._∷_ Row.off (List._∷_ Row.off (List._∷_ Row.off (List._∷_ Row.off (List._∷_ Row.off (List._∷_ Row.off (List._∷_ Row.off (List._∷_ Row.off (List._∷_ Row.off (List._∷_ Row.off (List._∷_ Row.off (List._∷_ Row.off (List._∷_ Row.off List.[])))))))))))))))))))) }
+        G1 = record { locals = List._++_ t4 (List._++_ t1 (List._++_ t2 t3)); slots = List._∷_ (Row.lease (κs .0) (qs .0)) (List._∷_ (Row.lease (κs .1 .0) (qs .1 .0)) (List._∷_ (Row.lease (κs .1 .1 .0) (qs .1 .1 .0)) (List._∷_ (Row.lease (κs .1 .1 .1 .0) (qs .1 .1 .1 .0)) (List._∷_ (Row.lease (κs .1 .1 .1 .1 .0) (qs .1 .1 .1 .1 .0)) (List._∷_ (Row.lease (κs .1 .1 .1 .1 .1 .0) (qs .1 .1 .1 .1 .1 .0)) (List._∷_ (Row.lease (κs .1 .1 .1 .1 .1 .1 .0) (qs .1 .1 .1 .1 .1 .1 .0)) (List._∷_ Row.off (List._∷_ Row.off (List._∷_ Row.off (List._∷_ Row.off (List._∷_ Row.off (List._∷_ Row.off (List._∷_ Row.off (List._∷_ Row.off (List._∷_ Row.off (List._∷_ Row.off (List._∷_ Row.off (List._∷_ Row.off (List._∷_ Row.off (List._∷_ Row.off (List._∷_ Row.off (List._∷_ Row.off List.[])))))))))))))))))))))) }
 
         abbrev G2 : Row.Cx
-        G2 = record { locals = List._++_ t0 (List._++_ t1 t2); slots = List._∷_ (Row.lease (κs .0) (qs .0)) (List._∷_ (Row.lease (κs .1 .0) (qs .1 .0)) (List._∷_ (Row.lease (κs .1 .1 .0) (qs .1 .1 .0)) (List._∷_ (Row.lease (κs .1 .1 .1 .0) (qs .1 .1 .1 .0)) (List._∷_ (Row.lease (κs .1 .1 .1 .1 .0) (qs .1 .1 .1 .1 .0)) (List._∷_ (Row.lease (κs .1 .1 .1 .1 .1 .0) (qs .1 .1 .1 .1 .1 .0)) (List._∷_ Row.off (List._∷_ Row.off (List._∷_ Row.off (List._∷_ Row.off (List._∷_ Row.off (List._∷_ Row.off (List._∷_ Row.off (List._∷_ Row.off (List._∷_ Row.off (List._∷_ Row.off (List._∷_ Row.off (List._∷_ Row.off (List._∷_ Row.off (List._∷_ Row.off (List._∷_ Row.off List.[])))))))))))))))))))) }
+        G2 = record { locals = List._++_ t0 (List._++_ t1 (List._++_ t2 t3)); slots = List._∷_ (Row.lease (κs .0) (qs .0)) (List._∷_ (Row.lease (κs .1 .0) (qs .1 .0)) (List._∷_ (Row.lease (κs .1 .1 .0) (qs .1 .1 .0)) (List._∷_ (Row.lease (κs .1 .1 .1 .0) (qs .1 .1 .1 .0)) (List._∷_ (Row.lease (κs .1 .1 .1 .1 .0) (qs .1 .1 .1 .1 .0)) (List._∷_ (Row.lease (κs .1 .1 .1 .1 .1 .0) (qs .1 .1 .1 .1 .1 .0)) (List._∷_ (Row.lease (κs .1 .1 .1 .1 .1 .1 .0) (qs .1 .1 .1 .1 .1 .1 .0)) (List._∷_ Row.off (List._∷_ Row.off (List._∷_ Row.off (List._∷_ Row.off (List._∷_ Row.off (List._∷_ Row.off (List._∷_ Row.off (List._∷_ Row.off (List._∷_ Row.off (List._∷_ Row.off (List._∷_ Row.off (List._∷_ Row.off (List._∷_ Row.off (List._∷_ Row.off (List._∷_ Row.off (List._∷_ Row.off List.[])))))))))))))))))))))) }
 
         abbrev G3 : Row.Cx
-        G3 = record { locals = List._++_ t0 (List._++_ t1 t2); slots = List._∷_ (Row.lease (κs .0) (qs .0)) (List._∷_ (Row.lease (κs .1 .0) (qs .1 .0)) (List._∷_ (Row.lease (κs .1 .1 .0) (qs .1 .1 .0)) (List._∷_ (Row.lease (κs .1 .1 .1 .0) (qs .1 .1 .1 .0)) (List._∷_ (Row.lease (κs .1 .1 .1 .1 .0) (qs .1 .1 .1 .1 .0)) (List._∷_ (Row.lease (κs .1 .1 .1 .1 .1 .0) (qs .1 .1 .1 .1 .1 .0)) (List._∷_ Row.off (List._∷_ Row.off (List._∷_ Row.off (List._∷_ Row.off (List._∷_ Row.off (List._∷_ Row.off (List._∷_ Row.off (List._∷_ Row.off (List._∷_ Row.off (List._∷_ Row.off (List._∷_ Row.off (List._∷_ Row.off (List._∷_ Row.off (List._∷_ Row.off (List._∷_ Row.off List.[])))))))))))))))))))) }
+        G3 = record { locals = List._++_ t0 (List._++_ t1 (List._++_ t2 t3)); slots = List._∷_ (Row.lease (κs .0) (qs .0)) (List._∷_ (Row.lease (κs .1 .0) (qs .1 .0)) (List._∷_ (Row.lease (κs .1 .1 .0) (qs .1 .1 .0)) (List._∷_ (Row.lease (κs .1 .1 .1 .0) (qs .1 .1 .1 .0)) (List._∷_ (Row.lease (κs .1 .1 .1 .1 .0) (qs .1 .1 .1 .1 .0)) (List._∷_ (Row.lease (κs .1 .1 .1 .1 .1 .0) (qs .1 .1 .1 .1 .1 .0)) (List._∷_ (Row.lease (κs .1 .1 .1 .1 .1 .1 .0) (qs .1 .1 .1 .1 .1 .1 .0)) (List._∷_ Row.off (List._∷_ Row.off (List._∷_ Row.off (List._∷_ Row.off (List._∷_ Row.off (List._∷_ Row.off (List._∷_ Row.off (List._∷_ Row.off (List._∷_ Row.off (List._∷_ Row.off (List._∷_ Row.off (List._∷_ Row.off (List._∷_ Row.off (List._∷_ Row.off (List._∷_ Row.off (List._∷_ Row.off List.[])))))))))))))))))))))) }
 
         abbrev G4 : Row.Cx
-        G4 = record { locals = List._++_ t0 (List._++_ t1 t2); slots = List._∷_ (Row.lease (κs .0) (qs .0)) (List._∷_ (Row.lease (κs .1 .0) (qs .1 .0)) (List._∷_ (Row.lease (κs .1 .1 .0) (qs .1 .1 .0)) (List._∷_ (Row.lease (κs .1 .1 .1 .0) (qs .1 .1 .1 .0)) (List._∷_ (Row.lease (κs .1 .1 .1 .1 .0) (qs .1 .1 .1 .1 .0)) (List._∷_ (Row.lease (κs .1 .1 .1 .1 .1 .0) (qs .1 .1 .1 .1 .1 .0)) (List._∷_ Row.off (List._∷_ Row.off (List._∷_ Row.off (List._∷_ Row.off (List._∷_ Row.off (List._∷_ Row.off (List._∷_ Row.off (List._∷_ Row.off (List._∷_ Row.off (List._∷_ Row.off (List._∷_ Row.off (List._∷_ Row.off (List._∷_ Row.off (List._∷_ Row.off (List._∷_ Row.off List.[])))))))))))))))))))) }
+        G4 = record { locals = List._++_ t0 (List._++_ t1 (List._++_ t2 t3)); slots = List._∷_ (Row.lease (κs .0) (qs .0)) (List._∷_ (Row.lease (κs .1 .0) (qs .1 .0)) (List._∷_ (Row.lease (κs .1 .1 .0) (qs .1 .1 .0)) (List._∷_ (Row.lease (κs .1 .1 .1 .0) (qs .1 .1 .1 .0)) (List._∷_ (Row.lease (κs .1 .1 .1 .1 .0) (qs .1 .1 .1 .1 .0)) (List._∷_ (Row.lease (κs .1 .1 .1 .1 .1 .0) (qs .1 .1 .1 .1 .1 .0)) (List._∷_ (Row.lease (κs .1 .1 .1 .1 .1 .1 .0) (qs .1 .1 .1 .1 .1 .1 .0)) (List._∷_ Row.off (List._∷_ Row.off (List._∷_ Row.off (List._∷_ Row.off (List._∷_ Row.off (List._∷_ Row.off (List._∷_ Row.off (List._∷_ Row.off (List._∷_ Row.off (List._∷_ Row.off (List._∷_ Row.off (List._∷_ Row.off (List._∷_ Row.off (List._∷_ Row.off (List._∷_ Row.off (List._∷_ Row.off List.[])))))))))))))))))))))) }
 
         abbrev G5 : Row.Cx
-        G5 = record { locals = List._++_ t0 (List._++_ t1 t2); slots = List._∷_ (Row.lease (κs .0) (qs .0)) (List._∷_ (Row.lease (κs .1 .0) (qs .1 .0)) (List._∷_ (Row.lease (κs .1 .1 .0) (qs .1 .1 .0)) (List._∷_ (Row.lease (κs .1 .1 .1 .0) (qs .1 .1 .1 .0)) (List._∷_ (Row.lease (κs .1 .1 .1 .1 .0) (qs .1 .1 .1 .1 .0)) (List._∷_ (Row.lease (κs .1 .1 .1 .1 .1 .0) (qs .1 .1 .1 .1 .1 .0)) (List._∷_ Row.off (List._∷_ Row.off (List._∷_ Row.off (List._∷_ Row.off (List._∷_ Row.off (List._∷_ Row.off (List._∷_ Row.off (List._∷_ Row.off (List._∷_ Row.off (List._∷_ Row.off (List._∷_ Row.off (List._∷_ Row.off (List._∷_ Row.off (List._∷_ Row.off (List._∷_ Row.off List.[])))))))))))))))))))) }
+        G5 = record { locals = List._++_ t0 (List._++_ t1 (List._++_ t2 t3)); slots = List._∷_ (Row.lease (κs .0) (qs .0)) (List._∷_ (Row.lease (κs .1 .0) (qs .1 .0)) (List._∷_ (Row.lease (κs .1 .1 .0) (qs .1 .1 .0)) (List._∷_ (Row.lease (κs .1 .1 .1 .0) (qs .1 .1 .1 .0)) (List._∷_ (Row.lease (κs .1 .1 .1 .1 .0) (qs .1 .1 .1 .1 .0)) (List._∷_ (Row.lease (κs .1 .1 .1 .1 .1 .0) (qs .1 .1 .1 .1 .1 .0)) (List._∷_ (Row.lease (κs .1 .1 .1 .1 .1 .1 .0) (qs .1 .1 .1 .1 .1 .1 .0)) (List._∷_ Row.off (List._∷_ Row.off (List._∷_ Row.off (List._∷_ Row.off (List._∷_ Row.off (List._∷_ Row.off (List._∷_ Row.off (List._∷_ Row.off (List._∷_ Row.off (List._∷_ Row.off (List._∷_ Row.off (List._∷_ Row.off (List._∷_ Row.off (List._∷_ Row.off (List._∷_ Row.off (List._∷_ Row.off List.[])))))))))))))))))))))) }
 
         abbrev G6 : Row.Cx
-        G6 = record { locals = List._++_ t0 (List._++_ t1 t2); slots = List._∷_ (Row.lease (κs .0) (qs .0)) (List._∷_ (Row.lease (κs .1 .0) (qs .1 .0)) (List._∷_ (Row.lease (κs .1 .1 .0) (qs .1 .1 .0)) (List._∷_ (Row.lease (κs .1 .1 .1 .0) (qs .1 .1 .1 .0)) (List._∷_ (Row.lease (κs .1 .1 .1 .1 .0) (qs .1 .1 .1 .1 .0)) (List._∷_ (Row.lease (κs .1 .1 .1 .1 .1 .0) (qs .1 .1 .1 .1 .1 .0)) (List._∷_ Row.off (List._∷_ Row.off (List._∷_ Row.off (List._∷_ Row.off (List._∷_ Row.off (List._∷_ Row.off (List._∷_ Row.off (List._∷_ Row.off (List._∷_ Row.off (List._∷_ Row.off (List._∷_ Row.off (List._∷_ Row.off (List._∷_ Row.off (List._∷_ Row.off (List._∷_ Row.off List.[])))))))))))))))))))) }
+        G6 = record { locals = List._++_ t0 (List._++_ t1 (List._++_ t2 t3)); slots = List._∷_ (Row.lease (κs .0) (qs .0)) (List._∷_ (Row.lease (κs .1 .0) (qs .1 .0)) (List._∷_ (Row.lease (κs .1 .1 .0) (qs .1 .1 .0)) (List._∷_ (Row.lease (κs .1 .1 .1 .0) (qs .1 .1 .1 .0)) (List._∷_ (Row.lease (κs .1 .1 .1 .1 .0) (qs .1 .1 .1 .1 .0)) (List._∷_ (Row.lease (κs .1 .1 .1 .1 .1 .0) (qs .1 .1 .1 .1 .1 .0)) (List._∷_ (Row.lease (κs .1 .1 .1 .1 .1 .1 .0) (qs .1 .1 .1 .1 .1 .1 .0)) (List._∷_ Row.off (List._∷_ Row.off (List._∷_ Row.off (List._∷_ Row.off (List._∷_ Row.off (List._∷_ Row.off (List._∷_ Row.off (List._∷_ Row.off (List._∷_ Row.off (List._∷_ Row.off (List._∷_ Row.off (List._∷_ Row.off (List._∷_ Row.off (List._∷_ Row.off (List._∷_ Row.off (List._∷_ Row.off List.[])))))))))))))))))))))) }
 
         abbrev G7 : Row.Cx
-        G7 = record { locals = List._++_ t0 (List._++_ t1 t2); slots = List._∷_ (Row.lease (κs .0) (qs .0)) (List._∷_ (Row.lease (κs .1 .0) (qs .1 .0)) (List._∷_ (Row.lease (κs .1 .1 .0) (qs .1 .1 .0)) (List._∷_ (Row.lease (κs .1 .1 .1 .0) (qs .1 .1 .1 .0)) (List._∷_ (Row.lease (κs .1 .1 .1 .1 .0) (qs .1 .1 .1 .1 .0)) (List._∷_ (Row.lease (κs .1 .1 .1 .1 .1 .0) (qs .1 .1 .1 .1 .1 .0)) (List._∷_ Row.alive (List._∷_ Row.off (List._∷_ Row.off (List._∷_ Row.off (List._∷_ Row.off (List._∷_ Row.off (List._∷_ Row.off (List._∷_ Row.off (List._∷_ Row.off (List._∷_ Row.off (List._∷_ Row.off (List._∷_ Row.off (List._∷_ Row.off (List._∷_ Row.off (List._∷_ Row.off List.[])))))))))))))))))))) }
+        G7 = record { locals = List._++_ t0 (List._++_ t1 (List._++_ t2 t3)); slots = List._∷_ (Row.lease (κs .0) (qs .0)) (List._∷_ (Row.lease (κs .1 .0) (qs .1 .0)) (List._∷_ (Row.lease (κs .1 .1 .0) (qs .1 .1 .0)) (List._∷_ (Row.lease (κs .1 .1 .1 .0) (qs .1 .1 .1 .0)) (List._∷_ (Row.lease (κs .1 .1 .1 .1 .0) (qs .1 .1 .1 .1 .0)) (List._∷_ (Row.lease (κs .1 .1 .1 .1 .1 .0) (qs .1 .1 .1 .1 .1 .0)) (List._∷_ (Row.lease (κs .1 .1 .1 .1 .1 .1 .0) (qs .1 .1 .1 .1 .1 .1 .0)) (List._∷_ Row.off (List._∷_ Row.off (List._∷_ Row.off (List._∷_ Row.off (List._∷_ Row.off (List._∷_ Row.off (List._∷_ Row.off (List._∷_ Row.off (List._∷_ Row.off (List._∷_ Row.off (List._∷_ Row.off (List._∷_ Row.off (List._∷_ Row.off (List._∷_ Row.off (List._∷_ Row.off (List._∷_ Row.off List.[])))))))))))))))))))))) }
 
         abbrev G8 : Row.Cx
-        G8 = record { locals = List._++_ g4 (List._++_ t5 t2); slots = List._∷_ (Row.lease (κs .0) (qs .0)) (List._∷_ (Row.lease (κs .1 .0) (qs .1 .0)) (List._∷_ (Row.lease (κs .1 .1 .0) (qs .1 .1 .0)) (List._∷_ Row.off (List._∷_ (Row.lease (κs .1 .1 .1 .1 .0) (qs .1 .1 .1 .1 .0)) (List._∷_ (Row.lease (κs .1 .1 .1 .1 .1 .0) (qs .1 .1 .1 .1 .1 .0)) (List._∷_ Row.alive (List._∷_ Row.off (List._∷_ Row.off (List._∷_ Row.off (List._∷_ Row.off (List._∷_ Row.off (List._∷_ Row.off (List._∷_ Row.off (List._∷_ Row.off (List._∷_ Row.off (List._∷_ Row.off (List._∷_ Row.off (List._∷_ Row.off (List._∷_ Row.off (List._∷_ Row.off List.[])))))))))))))))))))) }
+        G8 = record { locals = List._++_ t0 (List._++_ t1 (List._++_ t2 t3)); slots = List._∷_ (Row.lease (κs .0) (qs .0)) (List._∷_ (Row.lease (κs .1 .0) (qs .1 .0)) (List._∷_ (Row.lease (κs .1 .1 .0) (qs .1 .1 .0)) (List._∷_ (Row.lease (κs .1 .1 .1 .0) (qs .1 .1 .1 .0)) (List._∷_ (Row.lease (κs .1 .1 .1 .1 .0) (qs .1 .1 .1 .1 .0)) (List._∷_ (Row.lease (κs .1 .1 .1 .1 .1 .0) (qs .1 .1 .1 .1 .1 .0)) (List._∷_ (Row.lease (κs .1 .1 .1 .1 .1 .1 .0) (qs .1 .1 .1 .1 .1 .1 .0)) (List._∷_ Row.alive (List._∷_ Row.off (List._∷_ Row.off (List._∷_ Row.off (List._∷_ Row.off (List._∷_ Row.off (List._∷_ Row.off (List._∷_ Row.off (List._∷_ Row.off (List._∷_ Row.off (List._∷_ Row.off (List._∷_ Row.off (List._∷_ Row.off (List._∷_ Row.off (List._∷_ Row.off (List._∷_ Row.off List.[])))))))))))))))))))))) }
 
         abbrev G9 : Row.Cx
-        G9 = record { locals = List._++_ g4 (List._++_ t6 t2); slots = List._∷_ (Row.lease (κs .0) (qs .0)) (List._∷_ (Row.lease (κs .1 .0) (qs .1 .0)) (List._∷_ (Row.lease (κs .1 .1 .0) (qs .1 .1 .0)) (List._∷_ Row.off (List._∷_ (Row.lease (κs .1 .1 .1 .1 .0) (qs .1 .1 .1 .1 .0)) (List._∷_ (Row.lease (κs .1 .1 .1 .1 .1 .0) (qs .1 .1 .1 .1 .1 .0)) (List._∷_ Row.alive (List._∷_ Row.off (List._∷_ Row.off (List._∷_ Row.off (List._∷_ Row.off (List._∷_ Row.off (List._∷_ Row.off (List._∷_ Row.off (List._∷_ Row.off (List._∷_ Row.off (List._∷_ Row.off (List._∷_ Row.off (List._∷_ Row.off (List._∷_ Row.off (List._∷_ Row.off List.[])))))))))))))))))))) }
+        G9 = record { locals = List._++_ g5 (List._++_ t6 (List._++_ t2 t3)); slots = List._∷_ (Row.lease (κs .0) (qs .0)) (List._∷_ (Row.lease (κs .1 .0) (qs .1 .0)) (List._∷_ (Row.lease (κs .1 .1 .0) (qs .1 .1 .0)) (List._∷_ Row.off (List._∷_ (Row.lease (κs .1 .1 .1 .1 .0) (qs .1 .1 .1 .1 .0)) (List._∷_ (Row.lease (κs .1 .1 .1 .1 .1 .0) (qs .1 .1 .1 .1 .1 .0)) (List._∷_ (Row.lease (κs .1 .1 .1 .1 .1 .1 .0) (qs .1 .1 .1 .1 .1 .1 .0)) (List._∷_ Row.alive (List._∷_ Row.off (List._∷_ Row.off (List._∷_ Row.off (List._∷_ Row.off (List._∷_ Row.off (List._∷_ Row.off (List._∷_ Row.off (List._∷_ Row.off (List._∷_ Row.off (List._∷_ Row.off (List._∷_ Row.off (List._∷_ Row.off (List._∷_ Row.off (List._∷_ Row.off (List._∷_ Row.off List.[])))))))))))))))))))))) }
 
         abbrev G10 : Row.Cx
-        G10 = record { locals = List._++_ g7 (List._++_ t8 t2); slots = List._∷_ (Row.lease (κs .0) (qs .0)) (List._∷_ (Row.lease (κs .1 .0) (qs .1 .0)) (List._∷_ (Row.lease (κs .1 .1 .0) (qs .1 .1 .0)) (List._∷_ Row.off (List._∷_ (Row.lease (κs .1 .1 .1 .1 .0) (qs .1 .1 .1 .1 .0)) (List._∷_ (Row.lease (κs .1 .1 .1 .1 .1 .0) (qs .1 .1 .1 .1 .1 .0)) (List._∷_ Row.alive (List._∷_ Row.off (List._∷_ Row.off (List._∷_ Row.off (List._∷_ Row.off (List._∷_ Row.off (List._∷_ Row.off (List._∷_ Row.off (List._∷_ Row.off (List._∷_ Row.off (List._∷_ Row.off (List._∷_ Row.off (List._∷_ Row.off (List._∷_ Row.off (List._∷_ Row.off List.[])))))))))))))))))))) }
+        G10 = record { locals = List._++_ g5 (List._++_ t7 (List._++_ t2 t3)); slots = List._∷_ (Row.lease (κs .0) (qs .0)) (List._∷_ (Row.lease (κs .1 .0) (qs .1 .0)) (List._∷_ (Row.lease (κs .1 .1 .0) (qs .1 .1 .0)) (List._∷_ Row.off (List._∷_ (Row.lease (κs .1 .1 .1 .1 .0) (qs .1 .1 .1 .1 .0)) (List._∷_ (Row.lease (κs .1 .1 .1 .1 .1 .0) (qs .1 .1 .1 .1 .1 .0)) (List._∷_ (Row.lease (κs .1 .1 .1 .1 .1 .1 .0) (qs .1 .1 .1 .1 .1 .1 .0)) (List._∷_ Row.alive (List._∷_ Row.off (List._∷_ Row.off (List._∷_ Row.off (List._∷_ Row.off (List._∷_ Row.off (List._∷_ Row.off (List._∷_ Row.off (List._∷_ Row.off (List._∷_ Row.off (List._∷_ Row.off (List._∷_ Row.off (List._∷_ Row.off (List._∷_ Row.off (List._∷_ Row.off (List._∷_ Row.off List.[])))))))))))))))))))))) }
 
         abbrev G11 : Row.Cx
-        G11 = record { locals = List._++_ g4 (List._++_ t8 t2); slots = List._∷_ (Row.lease (κs .0) (qs .0)) (List._∷_ (Row.lease (κs .1 .0) (qs .1 .0)) (List._∷_ (Row.lease (κs .1 .1 .0) (qs .1 .1 .0)) (List._∷_ Row.off (List._∷_ (Row.lease (κs .1 .1 .1 .1 .0) (qs .1 .1 .1 .1 .0)) (List._∷_ (Row.lease (κs .1 .1 .1 .1 .1 .0) (qs .1 .1 .1 .1 .1 .0)) (List._∷_ Row.alive (List._∷_ Row.off (List._∷_ Row.off (List._∷_ Row.off (List._∷_ Row.off (List._∷_ Row.off (List._∷_ Row.off (List._∷_ Row.off (List._∷_ Row.off (List._∷_ Row.off (List._∷_ Row.off (List._∷_ Row.off (List._∷_ Row.off (List._∷_ Row.off (List._∷_ Row.off List.[])))))))))))))))))))) }
+        G11 = record { locals = List._++_ g5 (List._++_ t8 (List._++_ t2 t3)); slots = List._∷_ (Row.lease (κs .0) (qs .0)) (List._∷_ (Row.lease (κs .1 .0) (qs .1 .0)) (List._∷_ (Row.lease (κs .1 .1 .0) (qs .1 .1 .0)) (List._∷_ Row.off (List._∷_ (Row.lease (κs .1 .1 .1 .1 .0) (qs .1 .1 .1 .1 .0)) (List._∷_ (Row.lease (κs .1 .1 .1 .1 .1 .0) (qs .1 .1 .1 .1 .1 .0)) (List._∷_ (Row.lease (κs .1 .1 .1 .1 .1 .1 .0) (qs .1 .1 .1 .1 .1 .1 .0)) (List._∷_ Row.alive (List._∷_ Row.off (List._∷_ Row.off (List._∷_ Row.off (List._∷_ Row.off (List._∷_ Row.off (List._∷_ Row.off (List._∷_ Row.off (List._∷_ Row.off (List._∷_ Row.off (List._∷_ Row.off (List._∷_ Row.off (List._∷_ Row.off (List._∷_ Row.off (List._∷_ Row.off (List._∷_ Row.off List.[])))))))))))))))))))))) }
 
         abbrev G12 : Row.Cx
-        G12 = record { locals = List._++_ g4 (List._++_ t8 t2); slots = List._∷_ (Row.lease (κs .0) (qs .0)) (List._∷_ (Row.lease (κs .1 .0) (qs .1 .0)) (List._∷_ (Row.lease (κs .1 .1 .0) (qs .1 .1 .0)) (List._∷_ Row.off (List._∷_ (Row.lease (κs .1 .1 .1 .1 .0) (qs .1 .1 .1 .1 .0)) (List._∷_ (Row.lease (κs .1 .1 .1 .1 .1 .0) (qs .1 .1 .1 .1 .1 .0)) (List._∷_ Row.dead (List._∷_ Row.off (List._∷_ Row.off (List._∷_ Row.off (List._∷_ Row.off (List._∷_ Row.off (List._∷_ Row.off (List._∷_ Row.off (List._∷_ Row.off (List._∷_ Row.off (List._∷_ Row.off (List._∷_ Row.off (List._∷_ Row.off (List._∷_ Row.off (List._∷_ Row.off List.[])))))))))))))))))))) }
+        G12 = record { locals = List._++_ g5 (List._++_ t9 (List._++_ t2 t3)); slots = List._∷_ (Row.lease (κs .0) (qs .0)) (List._∷_ (Row.lease (κs .1 .0) (qs .1 .0)) (List._∷_ (Row.lease (κs .1 .1 .0) (qs .1 .1 .0)) (List._∷_ Row.off (List._∷_ (Row.lease (κs .1 .1 .1 .1 .0) (qs .1 .1 .1 .1 .0)) (List._∷_ (Row.lease (κs .1 .1 .1 .1 .1 .0) (qs .1 .1 .1 .1 .1 .0)) (List._∷_ (Row.lease (κs .1 .1 .1 .1 .1 .1 .0) (qs .1 .1 .1 .1 .1 .1 .0)) (List._∷_ Row.alive (List._∷_ Row.off (List._∷_ Row.off (List._∷_ Row.off (List._∷_ Row.off (List._∷_ Row.off (List._∷_ Row.off (List._∷_ Row.off (List._∷_ Row.off (List._∷_ Row.off (List._∷_ Row.off (List._∷_ Row.off (List._∷_ Row.off (List._∷_ Row.off (List._∷_ Row.off (List._∷_ Row.off List.[])))))))))))))))))))))) }
 
         abbrev G13 : Row.Cx
-        G13 = record { locals = List._++_ t0 (List._++_ t1 t2); slots = List._∷_ (Row.lease (κs .0) (qs .0)) (List._∷_ (Row.lease (κs .1 .0) (qs .1 .0)) (List._∷_ (Row.lease (κs .1 .1 .0) (qs .1 .1 .0)) (List._∷_ (Row.lease (κs .1 .1 .1 .0) (qs .1 .1 .1 .0)) (List._∷_ (Row.lease (κs .1 .1 .1 .1 .0) (qs .1 .1 .1 .1 .0)) (List._∷_ (Row.lease (κs .1 .1 .1 .1 .1 .0) (qs .1 .1 .1 .1 .1 .0)) (List._∷_ Row.dead (List._∷_ Row.off (List._∷_ Row.off (List._∷_ Row.off (List._∷_ Row.off (List._∷_ Row.off (List._∷_ Row.off (List._∷_ Row.off (List._∷_ Row.off (List._∷_ Row.off (List._∷_ Row.off (List._∷_ Row.off (List._∷_ Row.off (List._∷_ Row.off (List._∷_ Row.off List.[])))))))))))))))))))) }
+        G13 = record { locals = List._++_ g5 (List._++_ t9 (List._++_ t2 t3)); slots = List._∷_ (Row.lease (κs .0) (qs .0)) (List._∷_ (Row.lease (κs .1 .0) (qs .1 .0)) (List._∷_ (Row.lease (κs .1 .1 .0) (qs .1 .1 .0)) (List._∷_ Row.off (List._∷_ (Row.lease (κs .1 .1 .1 .1 .0) (qs .1 .1 .1 .1 .0)) (List._∷_ (Row.lease (κs .1 .1 .1 .1 .1 .0) (qs .1 .1 .1 .1 .1 .0)) (List._∷_ (Row.lease (κs .1 .1 .1 .1 .1 .1 .0) (qs .1 .1 .1 .1 .1 .1 .0)) (List._∷_ Row.dead (List._∷_ Row.off (List._∷_ Row.off (List._∷_ Row.off (List._∷_ Row.off (List._∷_ Row.off (List._∷_ Row.off (List._∷_ Row.off (List._∷_ Row.off (List._∷_ Row.off (List._∷_ Row.off (List._∷_ Row.off (List._∷_ Row.off (List._∷_ Row.off (List._∷_ Row.off (List._∷_ Row.off List.[])))))))))))))))))))))) }
 
         abbrev G14 : Row.Cx
-        G14 = record { locals = List._++_ t0 (List._++_ t1 t2); slots = List._∷_ (Row.lease (κs .0) (qs .0)) (List._∷_ (Row.lease (κs .1 .0) (qs .1 .0)) (List._∷_ (Row.lease (κs .1 .1 .0) (qs .1 .1 .0)) (List._∷_ (Row.lease (κs .1 .1 .1 .0) (qs .1 .1 .1 .0)) (List._∷_ (Row.lease (κs .1 .1 .1 .1 .0) (qs .1 .1 .1 .1 .0)) (List._∷_ (Row.lease (κs .1 .1 .1 .1 .1 .0) (qs .1 .1 .1 .1 .1 .0)) (List._∷_ Row.dead (List._∷_ Row.off (List._∷_ Row.off (List._∷_ Row.off (List._∷_ Row.off (List._∷_ Row.off (List._∷_ Row.off (List._∷_ Row.off (List._∷_ Row.off (List._∷_ Row.off (List._∷_ Row.off (List._∷_ Row.off (List._∷_ Row.off (List._∷_ Row.off (List._∷_ Row.off List.[])))))))))))))))))))) }
+        G14 = record { locals = List._++_ t0 (List._++_ t1 (List._++_ t2 t3)); slots = List._∷_ (Row.lease (κs .0) (qs .0)) (List._∷_ (Row.lease (κs .1 .0) (qs .1 .0)) (List._∷_ (Row.lease (κs .1 .1 .0) (qs .1 .1 .0)) (List._∷_ (Row.lease (κs .1 .1 .1 .0) (qs .1 .1 .1 .0)) (List._∷_ (Row.lease (κs .1 .1 .1 .1 .0) (qs .1 .1 .1 .1 .0)) (List._∷_ (Row.lease (κs .1 .1 .1 .1 .1 .0) (qs .1 .1 .1 .1 .1 .0)) (List._∷_ (Row.lease (κs .1 .1 .1 .1 .1 .1 .0) (qs .1 .1 .1 .1 .1 .1 .0)) (List._∷_ Row.dead (List._∷_ Row.off (List._∷_ Row.off (List._∷_ Row.off (List._∷_ Row.off (List._∷_ Row.off (List._∷_ Row.off (List._∷_ Row.off (List._∷_ Row.off (List._∷_ Row.off (List._∷_ Row.off (List._∷_ Row.off (List._∷_ Row.off (List._∷_ Row.off (List._∷_ Row.off (List._∷_ Row.off List.[])))))))))))))))))))))) }
 
         abbrev G15 : Row.Cx
-        G15 = record { locals = List._++_ t0 (List._++_ t1 t2); slots = List._∷_ (Row.lease (κs .0) (qs .0)) (List._∷_ (Row.lease (κs .1 .0) (qs .1 .0)) (List._∷_ (Row.lease (κs .1 .1 .0) (qs .1 .1 .0)) (List._∷_ (Row.lease (κs .1 .1 .1 .0) (qs .1 .1 .1 .0)) (List._∷_ (Row.lease (κs .1 .1 .1 .1 .0) (qs .1 .1 .1 .1 .0)) (List._∷_ (Row.lease (κs .1 .1 .1 .1 .1 .0) (qs .1 .1 .1 .1 .1 .0)) (List._∷_ Row.off (List._∷_ Row.off (List._∷_ Row.off (List._∷_ Row.off (List._∷_ Row.off (List._∷_ Row.off (List._∷_ Row.off (List._∷_ Row.off (List._∷_ Row.off (List._∷_ Row.off (List._∷_ Row.off (List._∷_ Row.off (List._∷_ Row.off (List._∷_ Row.off (List._∷_ Row.off List.[])))))))))))))))))))) }
+        G15 = record { locals = List._++_ t0 (List._++_ t1 (List._++_ t2 t3)); slots = List._∷_ (Row.lease (κs .0) (qs .0)) (List._∷_ (Row.lease (κs .1 .0) (qs .1 .0)) (List._∷_ (Row.lease (κs .1 .1 .0) (qs .1 .1 .0)) (List._∷_ (Row.lease (κs .1 .1 .1 .0) (qs .1 .1 .1 .0)) (List._∷_ (Row.lease (κs .1 .1 .1 .1 .0) (qs .1 .1 .1 .1 .0)) (List._∷_ (Row.lease (κs .1 .1 .1 .1 .1 .0) (qs .1 .1 .1 .1 .1 .0)) (List._∷_ (Row.lease (κs .1 .1 .1 .1 .1 .1 .0) (qs .1 .1 .1 .1 .1 .1 .0)) (List._∷_ Row.dead (List._∷_ Row.off (List._∷_ Row.off (List._∷_ Row.off (List._∷_ Row.off (List._∷_ Row.off (List._∷_ Row.off (List._∷_ Row.off (List._∷_ Row.off (List._∷_ Row.off (List._∷_ Row.off (List._∷_ Row.off (List._∷_ Row.off (List._∷_ Row.off (List._∷_ Row.off (List._∷_ Row.off List.[])))))))))))))))))))))) }
 
         abbrev G16 : Row.Cx
-        G16 = record { locals = List._++_ t0 (List._++_ t1 t2); slots = List._∷_ (Row.lease (κs .0) (qs .0)) (List._∷_ (Row.lease (κs .1 .0) (qs .1 .0)) (List._∷_ (Row.lease (κs .1 .1 .0) (qs .1 .1 .0)) (List._∷_ (Row.lease (κs .1 .1 .1 .0) (qs .1 .1 .1 .0)) (List._∷_ (Row.lease (κs .1 .1 .1 .1 .0) (qs .1 .1 .1 .1 .0)) (List._∷_ (Row.lease (κs .1 .1 .1 .1 .1 .0) (qs .1 .1 .1 .1 .1 .0)) (List._∷_ Row.off (List._∷_ Row.alive (List._∷_ Row.off (List._∷_ Row.off (List._∷_ Row.off (List._∷_ Row.off (List._∷_ Row.off (List._∷_ Row.off (List._∷_ Row.off (List._∷_ Row.off (List._∷_ Row.off (List._∷_ Row.off (List._∷_ Row.off (List._∷_ Row.off (List._∷_ Row.off List.[])))))))))))))))))))) }
+        G16 = record { locals = List._++_ t0 (List._++_ t1 (List._++_ t2 t3)); slots = List._∷_ (Row.lease (κs .0) (qs .0)) (List._∷_ (Row.lease (κs .1 .0) (qs .1 .0)) (List._∷_ (Row.lease (κs .1 .1 .0) (qs .1 .1 .0)) (List._∷_ (Row.lease (κs .1 .1 .1 .0) (qs .1 .1 .1 .0)) (List._∷_ (Row.lease (κs .1 .1 .1 .1 .0) (qs .1 .1 .1 .1 .0)) (List._∷_ (Row.lease (κs .1 .1 .1 .1 .1 .0) (qs .1 .1 .1 .1 .1 .0)) (List._∷_ (Row.lease (κs .1 .1 .1 .1 .1 .1 .0) (qs .1 .1 .1 .1 .1 .1 .0)) (List._∷_ Row.off (List._∷_ Row.off (List._∷_ Row.off (List._∷_ Row.off (List._∷_ Row.off (List._∷_ Row.off (List._∷_ Row.off (List._∷_ Row.off (List._∷_ Row.off (List._∷_ Row.off (List._∷_ Row.off (List._∷_ Row.off (List._∷_ Row.off (List._∷_ Row.off (List._∷_ Row.off (List._∷_ Row.off List.[])))))))))))))))))))))) }
 
         abbrev G17 : Row.Cx
-        G17 = record { locals = List._++_ g9 (List._++_ t10 t2); slots = List._∷_ (Row.lease (κs .0) (qs .0)) (List._∷_ (Row.lease (κs .1 .0) (qs .1 .0)) (List._∷_ (Row.lease (κs .1 .1 .0) (qs .1 .1 .0)) (List._∷_ (Row.lease (κs .1 .1 .1 .0) (qs .1 .1 .1 .0)) (List._∷_ Row.off (List._∷_ (Row.lease (κs .1 .1 .1 .1 .1 .0) (qs .1 .1 .1 .1 .1 .0)) (List._∷_ Row.off (List._∷_ Row.alive (List._∷_ Row.off (List._∷_ Row.off (List._∷_ Row.off (List._∷_ Row.off (List._∷_ Row.off (List._∷_ Row.off (List._∷_ Row.off (List._∷_ Row.off (List._∷_ Row.off (List._∷_ Row.off (List._∷_ Row.off (List._∷_ Row.off (List._∷_ Row.off List.[])))))))))))))))))))) }
+        G17 = record { locals = List._++_ t0 (List._++_ t1 (List._++_ t2 t3)); slots = List._∷_ (Row.lease (κs .0) (qs .0)) (List._∷_ (Row.lease (κs .1 .0) (qs .1 .0)) (List._∷_ (Row.lease (κs .1 .1 .0) (qs .1 .1 .0)) (List._∷_ (Row.lease (κs .1 .1 .1 .0) (qs .1 .1 .1 .0)) (List._∷_ (Row.lease (κs .1 .1 .1 .1 .0) (qs .1 .1 .1 .1 .0)) (List._∷_ (Row.lease (κs .1 .1 .1 .1 .1 .0) (qs .1 .1 .1 .1 .1 .0)) (List._∷_ (Row.lease (κs .1 .1 .1 .1 .1 .1 .0) (qs .1 .1 .1 .1 .1 .1 .0)) (List._∷_ Row.off (List._∷_ Row.alive (List._∷_ Row.off (List._∷_ Row.off (List._∷_ Row.off (List._∷_ Row.off (List._∷_ Row.off (List._∷_ Row.off (List._∷_ Row.off (List._∷_ Row.off (List._∷_ Row.off (List._∷_ Row.off (List._∷_ Row.off (List._∷_ Row.off (List._∷_ Row.off (List._∷_ Row.off List.[])))))))))))))))))))))) }
 
         abbrev G18 : Row.Cx
-        G18 = record { locals = List._++_ g9 (List._++_ t11 t2); slots = List._∷_ (Row.lease (κs .0) (qs .0)) (List._∷_ (Row.lease (κs .1 .0) (qs .1 .0)) (List._∷_ (Row.lease (κs .1 .1 .0) (qs .1 .1 .0)) (List._∷_ (Row.lease (κs .1 .1 .1 .0) (qs .1 .1 .1 .0)) (List._∷_ Row.off (List._∷_ (Row.lease (κs .1 .1 .1 .1 .1 .0) (qs .1 .1 .1 .1 .1 .0)) (List._∷_ Row.off (List._∷_ Row.alive (List._∷_ Row.off (List._∷_ Row.off (List._∷_ Row.off (List._∷_ Row.off (List._∷_ Row.off (List._∷_ Row.off (List._∷_ Row.off (List._∷_ Row.off (List._∷_ Row.off (List._∷_ Row.off (List._∷_ Row.off (List._∷_ Row.off (List._∷_ Row.off List.[])))))))))))))))))))) }
+        G18 = record { locals = List._++_ g10 (List._++_ t11 (List._++_ t2 t3)); slots = List._∷_ (Row.lease (κs .0) (qs .0)) (List._∷_ (Row.lease (κs .1 .0) (qs .1 .0)) (List._∷_ (Row.lease (κs .1 .1 .0) (qs .1 .1 .0)) (List._∷_ (Row.lease (κs .1 .1 .1 .0) (qs .1 .1 .1 .0)) (List._∷_ Row.off (List._∷_ (Row.lease (κs .1 .1 .1 .1 .1 .0) (qs .1 .1 .1 .1 .1 .0)) (List._∷_ (Row.lease (κs .1 .1 .1 .1 .1 .1 .0) (qs .1 .1 .1 .1 .1 .1 .0)) (List._∷_ Row.off (List._∷_ Row.alive (List._∷_ Row.off (List._∷_ Row.off (List._∷_ Row.off (List._∷_ Row.off (List._∷_ Row.off (List._∷_ Row.off (List._∷_ Row.off (List._∷_ Row.off (List._∷_ Row.off (List._∷_ Row.off (List._∷_ Row.off (List._∷_ Row.off (List._∷_ Row.off (List._∷_ Row.off List.[])))))))))))))))))))))) }
 
         abbrev G19 : Row.Cx
-        G19 = record { locals = List._++_ g12 (List._++_ t13 t2); slots = List._∷_ (Row.lease (κs .0) (qs .0)) (List._∷_ (Row.lease (κs .1 .0) (qs .1 .0)) (List._∷_ (Row.lease (κs .1 .1 .0) (qs .1 .1 .0)) (List._∷_ (Row.lease (κs .1 .1 .1 .0) (qs .1 .1 .1 .0)) (List._∷_ Row.off (List._∷_ (Row.lease (κs .1 .1 .1 .1 .1 .0) (qs .1 .1 .1 .1 .1 .0)) (List._∷_ Row.off (List._∷_ Row.alive (List._∷_ Row.off (List._∷_ Row.off (List._∷_ Row.off (List._∷_ Row.off (List._∷_ Row.off (List._∷_ Row.off (List._∷_ Row.off (List._∷_ Row.off (List._∷_ Row.off (List._∷_ Row.off (List._∷_ Row.off (List._∷_ Row.off (List._∷_ Row.off List.[])))))))))))))))))))) }
+        G19 = record { locals = List._++_ g10 (List._++_ t12 (List._++_ t2 t3)); slots = List._∷_ (Row.lease (κs .0) (qs .0)) (List._∷_ (Row.lease (κs .1 .0) (qs .1 .0)) (List._∷_ (Row.lease (κs .1 .1 .0) (qs .1 .1 .0)) (List._∷_ (Row.lease (κs .1 .1 .1 .0) (qs .1 .1 .1 .0)) (List._∷_ Row.off (List._∷_ (Row.lease (κs .1 .1 .1 .1 .1 .0) (qs .1 .1 .1 .1 .1 .0)) (List._∷_ (Row.lease (κs .1 .1 .1 .1 .1 .1 .0) (qs .1 .1 .1 .1 .1 .1 .0)) (List._∷_ Row.off (List._∷_ Row.alive (List._∷_ Row.off (List._∷_ Row.off (List._∷_ Row.off (List._∷_ Row.off (List._∷_ Row.off (List._∷_ Row.off (List._∷_ Row.off (List._∷_ Row.off (List._∷_ Row.off (List._∷_ Row.off (List._∷_ Row.off (List._∷_ Row.off (List._∷_ Row.off (List._∷_ Row.off List.[])))))))))))))))))))))) }
 
         abbrev G20 : Row.Cx
-        G20 = record { locals = List._++_ g9 (List._++_ t13 t2); slots = List._∷_ (Row.lease (κs .0) (qs .0)) (List._∷_ (Row.lease (κs .1 .0) (qs .1 .0)) (List._∷_ (Row.lease (κs .1 .1 .0) (qs .1 .1 .0)) (List._∷_ (Row.lease (κs .1 .1 .1 .0) (qs .1 .1 .1 .0)) (List._∷_ Row.off (List._∷_ (Row.lease (κs .1 .1 .1 .1 .1 .0) (qs .1 .1 .1 .1 .1 .0)) (List._∷_ Row.off (List._∷_ Row.alive (List._∷_ Row.off (List._∷_ Row.off (List._∷_ Row.off (List._∷_ Row.off (List._∷_ Row.off (List._∷_ Row.off (List._∷_ Row.off (List._∷_ Row.off (List._∷_ Row.off (List._∷_ Row.off (List._∷_ Row.off (List._∷_ Row.off (List._∷_ Row.off List.[])))))))))))))))))))) }
+        G20 = record { locals = List._++_ g10 (List._++_ t13 (List._++_ t2 t3)); slots = List._∷_ (Row.lease (κs .0) (qs .0)) (List._∷_ (Row.lease (κs .1 .0) (qs .1 .0)) (List._∷_ (Row.lease (κs .1 .1 .0) (qs .1 .1 .0)) (List._∷_ (Row.lease (κs .1 .1 .1 .0) (qs .1 .1 .1 .0)) (List._∷_ Row.off (List._∷_ (Row.lease (κs .1 .1 .1 .1 .1 .0) (qs .1 .1 .1 .1 .1 .0)) (List._∷_ (Row.lease (κs .1 .1 .1 .1 .1 .1 .0) (qs .1 .1 .1 .1 .1 .1 .0)) (List._∷_ Row.off (List._∷_ Row.alive (List._∷_ Row.off (List._∷_ Row.off (List._∷_ Row.off (List._∷_ Row.off (List._∷_ Row.off (List._∷_ Row.off (List._∷_ Row.off (List._∷_ Row.off (List._∷_ Row.off (List._∷_ Row.off (List._∷_ Row.off (List._∷_ Row.off (List._∷_ Row.off (List._∷_ Row.off List.[])))))))))))))))))))))) }
 
         abbrev G21 : Row.Cx
-        G21 = record { locals = List._++_ g9 (List._++_ t13 t2); slots = List._∷_ (Row.lease (κs .0) (qs .0)) (List._∷_ (Row.lease (κs .1 .0) (qs .1 .0)) (List._∷_ (Row.lease (κs .1 .1 .0) (qs .1 .1 .0)) (List._∷_ (Row.lease (κs .1 .1 .1 .0) (qs .1 .1 .1 .0)) (List._∷_ Row.off (List._∷_ (Row.lease (κs .1 .1 .1 .1 .1 .0) (qs .1 .1 .1 .1 .1 .0)) (List._∷_ Row.off (List._∷_ Row.dead (List._∷_ Row.off (List._∷_ Row.off (List._∷_ Row.off (List._∷_ Row.off (List._∷_ Row.off (List._∷_ Row.off (List._∷_ Row.off (List._∷_ Row.off (List._∷_ Row.off (List._∷_ Row.off (List._∷_ Row.off (List._∷_ Row.off (List._∷_ Row.off List.[])))))))))))))))))))) }
+        G21 = record { locals = List._++_ g10 (List._++_ t14 (List._++_ t2 t3)); slots = List._∷_ (Row.lease (κs .0) (qs .0)) (List._∷_ (Row.lease (κs .1 .0) (qs .1 .0)) (List._∷_ (Row.lease (κs .1 .1 .0) (qs .1 .1 .0)) (List._∷_ (Row.lease (κs .1 .1 .1 .0) (qs .1 .1 .1 .0)) (List._∷_ Row.off (List._∷_ (Row.lease (κs .1 .1 .1 .1 .1 .0) (qs .1 .1 .1 .1 .1 .0)) (List._∷_ (Row.lease (κs .1 .1 .1 .1 .1 .1 .0) (qs .1 .1 .1 .1 .1 .1 .0)) (List._∷_ Row.off (List._∷_ Row.alive (List._∷_ Row.off (List._∷_ Row.off (List._∷_ Row.off (List._∷_ Row.off (List._∷_ Row.off (List._∷_ Row.off (List._∷_ Row.off (List._∷_ Row.off (List._∷_ Row.off (List._∷_ Row.off (List._∷_ Row.off (List._∷_ Row.off (List._∷_ Row.off (List._∷_ Row.off List.[])))))))))))))))))))))) }
 
         abbrev G22 : Row.Cx
-        G22 = record { locals = List._++_ t0 (List._++_ t1 t2); slots = List._∷_ (Row.lease (κs .0) (qs .0)) (List._∷_ (Row.lease (κs .1 .0) (qs .1 .0)) (List._∷_ (Row.lease (κs .1 .1 .0) (qs .1 .1 .0)) (List._∷_ (Row.lease (κs .1 .1 .1 .0) (qs .1 .1 .1 .0)) (List._∷_ (Row.lease (κs .1 .1 .1 .1 .0) (qs .1 .1 .1 .1 .0)) (List._∷_ (Row.lease (κs .1 .1 .1 .1 .1 .0) (qs .1 .1 .1 .1 .1 .0)) (List._∷_ Row.off (List._∷_ Row.dead (List._∷_ Row.off (List._∷_ Row.off (List._∷_ Row.off (List._∷_ Row.off (List._∷_ Row.off (List._∷_ Row.off (List._∷_ Row.off (List._∷_ Row.off (List._∷_ Row.off (List._∷_ Row.off (List._∷_ Row.off (List._∷_ Row.off (List._∷_ Row.off List.[])))))))))))))))))))) }
+        G22 = record { locals = List._++_ g10 (List._++_ t14 (List._++_ t2 t3)); slots = List._∷_ (Row.lease (κs .0) (qs .0)) (List._∷_ (Row.lease (κs .1 .0) (qs .1 .0)) (List._∷_ (Row.lease (κs .1 .1 .0) (qs .1 .1 .0)) (List._∷_ (Row.lease (κs .1 .1 .1 .0) (qs .1 .1 .1 .0)) (List._∷_ Row.off (List._∷_ (Row.lease (κs .1 .1 .1 .1 .1 .0) (qs .1 .1 .1 .1 .1 .0)) (List._∷_ (Row.lease (κs .1 .1 .1 .1 .1 .1 .0) (qs .1 .1 .1 .1 .1 .1 .0)) (List._∷_ Row.off (List._∷_ Row.dead (List._∷_ Row.off (List._∷_ Row.off (List._∷_ Row.off (List._∷_ Row.off (List._∷_ Row.off (List._∷_ Row.off (List._∷_ Row.off (List._∷_ Row.off (List._∷_ Row.off (List._∷_ Row.off (List._∷_ Row.off (List._∷_ Row.off (List._∷_ Row.off (List._∷_ Row.off List.[])))))))))))))))))))))) }
 
         abbrev G23 : Row.Cx
-        G23 = record { locals = List._++_ t0 (List._++_ t1 t2); slots = List._∷_ (Row.lease (κs .0) (qs .0)) (List._∷_ (Row.lease (κs .1 .0) (qs .1 .0)) (List._∷_ (Row.lease (κs .1 .1 .0) (qs .1 .1 .0)) (List._∷_ (Row.lease (κs .1 .1 .1 .0) (qs .1 .1 .1 .0)) (List._∷_ (Row.lease (κs .1 .1 .1 .1 .0) (qs .1 .1 .1 .1 .0)) (List._∷_ (Row.lease (κs .1 .1 .1 .1 .1 .0) (qs .1 .1 .1 .1 .1 .0)) (List._∷_ Row.off (List._∷_ Row.dead (List._∷_ Row.off (List._∷_ Row.off (List._∷_ Row.off (List._∷_ Row.off (List._∷_ Row.off (List._∷_ Row.off (List._∷_ Row.off (List._∷_ Row.off (List._∷_ Row.off (List._∷_ Row.off (List._∷_ Row.off (List._∷_ Row.off (List._∷_ Row.off List.[])))))))))))))))))))) }
+        G23 = record { locals = List._++_ t0 (List._++_ t1 (List._++_ t2 t3)); slots = List._∷_ (Row.lease (κs .0) (qs .0)) (List._∷_ (Row.lease (κs .1 .0) (qs .1 .0)) (List._∷_ (Row.lease (κs .1 .1 .0) (qs .1 .1 .0)) (List._∷_ (Row.lease (κs .1 .1 .1 .0) (qs .1 .1 .1 .0)) (List._∷_ (Row.lease (κs .1 .1 .1 .1 .0) (qs .1 .1 .1 .1 .0)) (List._∷_ (Row.lease (κs .1 .1 .1 .1 .1 .0) (qs .1 .1 .1 .1 .1 .0)) (List._∷_ (Row.lease (κs .1 .1 .1 .1 .1 .1 .0) (qs .1 .1 .1 .1 .1 .1 .0)) (List._∷_ Row.off (List._∷_ Row.dead (List._∷_ Row.off (List._∷_ Row.off (List._∷_ Row.off (List._∷_ Row.off (List._∷_ Row.off (List._∷_ Row.off (List._∷_ Row.off (List._∷_ Row.off (List._∷_ Row.off (List._∷_ Row.off (List._∷_ Row.off (List._∷_ Row.off (List._∷_ Row.off (List._∷_ Row.off List.[])))))))))))))))))))))) }
 
         abbrev G24 : Row.Cx
-        G24 = record { locals = List._++_ t0 (List._++_ t1 t2); slots = List._∷_ (Row.lease (κs .0) (qs .0)) (List._∷_ (Row.lease (κs .1 .0) (qs .1 .0)) (List._∷_ (Row.lease (κs .1 .1 .0) (qs .1 .1 .0)) (List._∷_ (Row.lease (κs .1 .1 .1 .0) (qs .1 .1 .1 .0)) (List._∷_ (Row.lease (κs .1 .1 .1 .1 .0) (qs .1 .1 .1 .1 .0)) (List._∷_ (Row.lease (κs .1 .1 .1 .1 .1 .0) (qs .1 .1 .1 .1 .1 .0)) (List._∷_ Row.off (List._∷_ Row.off (List._∷_ Row.off (List._∷_ Row.off (List._∷_ Row.off (List._∷_ Row.off (List._∷_ Row.off (List._∷_ Row.off (List._∷_ Row.off (List._∷_ Row.off (List._∷_ Row.off (List._∷_ Row.off (List._∷_ Row.off (List._∷_ Row.off (List._∷_ Row.off List.[])))))))))))))))))))) }
+        G24 = record { locals = List._++_ t0 (List._++_ t1 (List._++_ t2 t3)); slots = List._∷_ (Row.lease (κs .0) (qs .0)) (List._∷_ (Row.lease (κs .1 .0) (qs .1 .0)) (List._∷_ (Row.lease (κs .1 .1 .0) (qs .1 .1 .0)) (List._∷_ (Row.lease (κs .1 .1 .1 .0) (qs .1 .1 .1 .0)) (List._∷_ (Row.lease (κs .1 .1 .1 .1 .0) (qs .1 .1 .1 .1 .0)) (List._∷_ (Row.lease (κs .1 .1 .1 .1 .1 .0) (qs .1 .1 .1 .1 .1 .0)) (List._∷_ (Row.lease (κs .1 .1 .1 .1 .1 .1 .0) (qs .1 .1 .1 .1 .1 .1 .0)) (List._∷_ Row.off (List._∷_ Row.dead (List._∷_ Row.off (List._∷_ Row.off (List._∷_ Row.off (List._∷_ Row.off (List._∷_ Row.off (List._∷_ Row.off (List._∷_ Row.off (List._∷_ Row.off (List._∷_ Row.off (List._∷_ Row.off (List._∷_ Row.off (List._∷_ Row.off (List._∷_ Row.off (List._∷_ Row.off List.[])))))))))))))))))))))) }
 
         abbrev G25 : Row.Cx
-        G25 = record { locals = List._++_ t14 (List._++_ t1 t2); slots = List._∷_ (Row.lease (κs .0) (qs .0)) (List._∷_ (Row.lease (κs .1 .0) (qs .1 .0)) (List._∷_ (Row.lease (κs .1 .1 .0) (qs .1 .1 .0)) (List._∷_ (Row.lease (κs .1 .1 .1 .0) (qs .1 .1 .1 .0)) (List._∷_ (Row.lease (κs .1 .1 .1 .1 .0) (qs .1 .1 .1 .1 .0)) (List._∷_ (Row.lease (κs .1 .1 .1 .1 .1 .0) (qs .1 .1 .1 .1 .1 .0)) (List._∷_ Row.off (List._∷_ Row.off (List._∷_ Row.off (List._∷_ Row.off (List._∷_ Row.off (List._∷_ Row.off (List._∷_ Row.off (List._∷_ Row.off (List._∷_ Row.off (List._∷_ Row.off (List._∷_ Row.off (List._∷_ Row.off (List._∷_ Row.off (List._∷_ Row.off (List._∷_ Row.off List.[])))))))))))))))))))) }
+        G25 = record { locals = List._++_ t0 (List._++_ t1 (List._++_ t2 t3)); slots = List._∷_ (Row.lease (κs .0) (qs .0)) (List._∷_ (Row.lease (κs .1 .0) (qs .1 .0)) (List._∷_ (Row.lease (κs .1 .1 .0) (qs .1 .1 .0)) (List._∷_ (Row.lease (κs .1 .1 .1 .0) (qs .1 .1 .1 .0)) (List._∷_ (Row.lease (κs .1 .1 .1 .1 .0) (qs .1 .1 .1 .1 .0)) (List._∷_ (Row.lease (κs .1 .1 .1 .1 .1 .0) (qs .1 .1 .1 .1 .1 .0)) (List._∷_ (Row.lease (κs .1 .1 .1 .1 .1 .1 .0) (qs .1 .1 .1 .1 .1 .1 .0)) (List._∷_ Row.off (List._∷_ Row.off (List._∷_ Row.off (List._∷_ Row.off (List._∷_ Row.off (List._∷_ Row.off (List._∷_ Row.off (List._∷_ Row.off (List._∷_ Row.off (List._∷_ Row.off (List._∷_ Row.off (List._∷_ Row.off (List._∷_ Row.off (List._∷_ Row.off (List._∷_ Row.off (List._∷_ Row.off List.[])))))))))))))))))))))) }
 
         abbrev G26 : Row.Cx
-        G26 = record { locals = List._++_ t15 (List._++_ t1 t2); slots = List._∷_ (Row.lease (κs .0) (qs .0)) (List._∷_ (Row.lease (κs .1 .0) (qs .1 .0)) (List._∷_ (Row.lease (κs .1 .1 .0) (qs .1 .1 .0)) (List._∷_ (Row.lease (κs .1 .1 .1 .0) (qs .1 .1 .1 .0)) (List._∷_ (Row.lease (κs .1 .1 .1 .1 .0) (qs .1 .1 .1 .1 .0)) (List._∷_ (Row.lease (κs .1 .1 .1 .1 .1 .0) (qs .1 .1 .1 .1 .1 .0)) (List._∷_ Row.off (List._∷_ Row.off (List._∷_ Row.off (List._∷_ Row.off (List._∷_ Row.off (List._∷_ Row.off (List._∷_ Row.off (List._∷_ Row.off (List._∷_ Row.off (List._∷_ Row.off (List._∷_ Row.off (List._∷_ Row.off (List._∷_ Row.off (List._∷_ Row.off (List._∷_ Row.off List.[])))))))))))))))))))) }
+        G26 = record { locals = List._++_ t15 (List._++_ t1 (List._++_ t2 t3)); slots = List._∷_ (Row.lease (κs .0) (qs .0)) (List._∷_ (Row.lease (κs .1 .0) (qs .1 .0)) (List._∷_ (Row.lease (κs .1 .1 .0) (qs .1 .1 .0)) (List._∷_ (Row.lease (κs .1 .1 .1 .0) (qs .1 .1 .1 .0)) (List._∷_ (Row.lease (κs .1 .1 .1 .1 .0) (qs .1 .1 .1 .1 .0)) (List._∷_ (Row.lease (κs .1 .1 .1 .1 .1 .0) (qs .1 .1 .1 .1 .1 .0)) (List._∷_ (Row.lease (κs .1 .1 .1 .1 .1 .1 .0) (qs .1 .1 .1 .1 .1 .1 .0)) (List._∷_ Row.off (List._∷_ Row.off (List._∷_ Row.off (List._∷_ Row.off (List._∷_ Row.off (List._∷_ Row.off (List._∷_ Row.off (List._∷_ Row.off (List._∷_ Row.off (List._∷_ Row.off (List._∷_ Row.off (List._∷_ Row.off (List._∷_ Row.off (List._∷_ Row.off (List._∷_ Row.off (List._∷_ Row.off List.[])))))))))))))))))))))) }
 
         abbrev G27 : Row.Cx
-        G27 = record { locals = List._++_ t16 (List._++_ t1 t2); slots = List._∷_ (Row.lease (κs .0) (qs .0)) (List._∷_ (Row.lease (κs .1 .0) (qs .1 .0)) (List._∷_ (Row.lease (κs .1 .1 .0) (qs .1 .1 .0)) (List._∷_ (Row.lease (κs .1 .1 .1 .0) (qs .1 .1 .1 .0)) (List._∷_ (Row.lease (κs .1 .1 .1 .1 .0) (qs .1 .1 .1 .1 .0)) (List._∷_ (Row.lease (κs .1 .1 .1 .1 .1 .0) (qs .1 .1 .1 .1 .1 .0)) (List._∷_ Row.off (List._∷_ Row.off (List._∷_ Row.off (List._∷_ Row.off (List._∷_ Row.off (List._∷_ Row.off (List._∷_ Row.off (List._∷_ Row.off (List._∷_ Row.off (List._∷_ Row.off (List._∷_ Row.off (List._∷_ Row.off (List._∷_ Row.off (List._∷_ Row.off (List._∷_ Row.off List.[])))))))))))))))))))) }
+        G27 = record { locals = List._++_ t16 (List._++_ t1 (List._++_ t2 t3)); slots = List._∷_ (Row.lease (κs .0) (qs .0)) (List._∷_ (Row.lease (κs .1 .0) (qs .1 .0)) (List._∷_ (Row.lease (κs .1 .1 .0) (qs .1 .1 .0)) (List._∷_ (Row.lease (κs .1 .1 .1 .0) (qs .1 .1 .1 .0)) (List._∷_ (Row.lease (κs .1 .1 .1 .1 .0) (qs .1 .1 .1 .1 .0)) (List._∷_ (Row.lease (κs .1 .1 .1 .1 .1 .0) (qs .1 .1 .1 .1 .1 .0)) (List._∷_ (Row.lease (κs .1 .1 .1 .1 .1 .1 .0) (qs .1 .1 .1 .1 .1 .1 .0)) (List._∷_ Row.off (List._∷_ Row.off (List._∷_ Row.off (List._∷_ Row.off (List._∷_ Row.off (List._∷_ Row.off (List._∷_ Row.off (List._∷_ Row.off (List._∷_ Row.off (List._∷_ Row.off (List._∷_ Row.off (List._∷_ Row.off (List._∷_ Row.off (List._∷_ Row.off (List._∷_ Row.off (List._∷_ Row.off List.[])))))))))))))))))))))) }
 
         abbrev G28 : Row.Cx
-        G28 = record { locals = List._++_ t16 (List._++_ t1 t2); slots = List._∷_ (Row.lease (κs .0) (qs .0)) (List._∷_ (Row.lease (κs .1 .0) (qs .1 .0)) (List._∷_ (Row.lease (κs .1 .1 .0) (qs .1 .1 .0)) (List._∷_ (Row.lease (κs .1 .1 .1 .0) (qs .1 .1 .1 .0)) (List._∷_ (Row.lease (κs .1 .1 .1 .1 .0) (qs .1 .1 .1 .1 .0)) (List._∷_ (Row.lease (κs .1 .1 .1 .1 .1 .0) (qs .1 .1 .1 .1 .1 .0)) (List._∷_ Row.off (List._∷_ Row.off (List._∷_ Row.alive (List._∷_ Row.off (List._∷_ Row.off (List._∷_ Row.off (List._∷_ Row.off (List._∷_ Row.off (List._∷_ Row.off (List._∷_ Row.off (List._∷_ Row.off (List._∷_ Row.off (List._∷_ Row.off (List._∷_ Row.off (List._∷_ Row.off List.[])))))))))))))))))))) }
+        G28 = record { locals = List._++_ t17 (List._++_ t1 (List._++_ t2 t3)); slots = List._∷_ (Row.lease (κs .0) (qs .0)) (List._∷_ (Row.lease (κs .1 .0) (qs .1 .0)) (List._∷_ (Row.lease (κs .1 .1 .0) (qs .1 .1 .0)) (List._∷_ (Row.lease (κs .1 .1 .1 .0) (qs .1 .1 .1 .0)) (List._∷_ (Row.lease (κs .1 .1 .1 .1 .0) (qs .1 .1 .1 .1 .0)) (List._∷_ (Row.lease (κs .1 .1 .1 .1 .1 .0) (qs .1 .1 .1 .1 .1 .0)) (List._∷_ (Row.lease (κs .1 .1 .1 .1 .1 .1 .0) (qs .1 .1 .1 .1 .1 .1 .0)) (List._∷_ Row.off (List._∷_ Row.off (List._∷_ Row.off (List._∷_ Row.off (List._∷_ Row.off (List._∷_ Row.off (List._∷_ Row.off (List._∷_ Row.off (List._∷_ Row.off (List._∷_ Row.off (List._∷_ Row.off (List._∷_ Row.off (List._∷_ Row.off (List._∷_ Row.off (List._∷_ Row.off (List._∷_ Row.off List.[])))))))))))))))))))))) }
 
         abbrev G29 : Row.Cx
-        G29 = record { locals = List._++_ g17 (List._++_ t18 t2); slots = List._∷_ (Row.lease (κs .0) (qs .0)) (List._∷_ (Row.lease (κs .1 .0) (qs .1 .0)) (List._∷_ (Row.lease (κs .1 .1 .0) (qs .1 .1 .0)) (List._∷_ (Row.lease (κs .1 .1 .1 .0) (qs .1 .1 .1 .0)) (List._∷_ Row.off (List._∷_ (Row.lease (κs .1 .1 .1 .1 .1 .0) (qs .1 .1 .1 .1 .1 .0)) (List._∷_ Row.off (List._∷_ Row.off (List._∷_ Row.alive (List._∷_ Row.off (List._∷_ Row.off (List._∷_ Row.off (List._∷_ Row.off (List._∷_ Row.off (List._∷_ Row.off (List._∷_ Row.off (List._∷_ Row.off (List._∷_ Row.off (List._∷_ Row.off (List._∷_ Row.off (List._∷_ Row.off List.[])))))))))))))))))))) }
+        G29 = record { locals = List._++_ t17 (List._++_ t1 (List._++_ t2 t3)); slots = List._∷_ (Row.lease (κs .0) (qs .0)) (List._∷_ (Row.lease (κs .1 .0) (qs .1 .0)) (List._∷_ (Row.lease (κs .1 .1 .0) (qs .1 .1 .0)) (List._∷_ (Row.lease (κs .1 .1 .1 .0) (qs .1 .1 .1 .0)) (List._∷_ (Row.lease (κs .1 .1 .1 .1 .0) (qs .1 .1 .1 .1 .0)) (List._∷_ (Row.lease (κs .1 .1 .1 .1 .1 .0) (qs .1 .1 .1 .1 .1 .0)) (List._∷_ (Row.lease (κs .1 .1 .1 .1 .1 .1 .0) (qs .1 .1 .1 .1 .1 .1 .0)) (List._∷_ Row.off (List._∷_ Row.off (List._∷_ Row.alive (List._∷_ Row.off (List._∷_ Row.off (List._∷_ Row.off (List._∷_ Row.off (List._∷_ Row.off (List._∷_ Row.off (List._∷_ Row.off (List._∷_ Row.off (List._∷_ Row.off (List._∷_ Row.off (List._∷_ Row.off (List._∷_ Row.off (List._∷_ Row.off List.[])))))))))))))))))))))) }
 
         abbrev G30 : Row.Cx
-        G30 = record { locals = List._++_ g17 (List._++_ t19 t2); slots = List._∷_ (Row.lease (κs .0) (qs .0)) (List._∷_ (Row.lease (κs .1 .0) (qs .1 .0)) (List._∷_ (Row.lease (κs .1 .1 .0) (qs .1 .1 .0)) (List._∷_ (Row.lease (κs .1 .1 .1 .0) (qs .1 .1 .1 .0)) (List._∷_ Row.off (List._∷_ (Row.lease (κs .1 .1 .1 .1 .1 .0) (qs .1 .1 .1 .1 .1 .0)) (List._∷_ Row.off (List._∷_ Row.off (List._∷_ Row.alive (List._∷_ Row.off (List._∷_ Row.off (List._∷_ Row.off (List._∷_ Row.off (List._∷_ Row.off (List._∷_ Row.off (List._∷_ Row.off (List._∷_ Row.off (List._∷_ Row.off (List._∷_ Row.off (List._∷_ Row.off (List._∷_ Row.off List.[])))))))))))))))))))) }
+        G30 = record { locals = List._++_ g18 (List._++_ t19 (List._++_ t2 t3)); slots = List._∷_ (Row.lease (κs .0) (qs .0)) (List._∷_ (Row.lease (κs .1 .0) (qs .1 .0)) (List._∷_ (Row.lease (κs .1 .1 .0) (qs .1 .1 .0)) (List._∷_ (Row.lease (κs .1 .1 .1 .0) (qs .1 .1 .1 .0)) (List._∷_ Row.off (List._∷_ (Row.lease (κs .1 .1 .1 .1 .1 .0) (qs .1 .1 .1 .1 .1 .0)) (List._∷_ (Row.lease (κs .1 .1 .1 .1 .1 .1 .0) (qs .1 .1 .1 .1 .1 .1 .0)) (List._∷_ Row.off (List._∷_ Row.off (List._∷_ Row.alive (List._∷_ Row.off (List._∷_ Row.off (List._∷_ Row.off (List._∷_ Row.off (List._∷_ Row.off (List._∷_ Row.off (List._∷_ Row.off (List._∷_ Row.off (List._∷_ Row.off (List._∷_ Row.off (List._∷_ Row.off (List._∷_ Row.off (List._∷_ Row.off List.[])))))))))))))))))))))) }
 
         abbrev G31 : Row.Cx
-        G31 = record { locals = List._++_ g17 (List._++_ t19 t2); slots = List._∷_ (Row.lease (κs .0) (qs .0)) (List._∷_ (Row.lease (κs .1 .0) (qs .1 .0)) (List._∷_ (Row.lease (κs .1 .1 .0) (qs .1 .1 .0)) (List._∷_ (Row.lease (κs .1 .1 .1 .0) (qs .1 .1 .1 .0)) (List._∷_ Row.off (List._∷_ (Row.lease (κs .1 .1 .1 .1 .1 .0) (qs .1 .1 .1 .1 .1 .0)) (List._∷_ Row.off (List._∷_ Row.off (List._∷_ Row.alive (List._∷_ Row.alive (List._∷_ Row.off (List._∷_ Row.off (List._∷_ Row.off (List._∷_ Row.off (List._∷_ Row.off (List._∷_ Row.off (List._∷_ Row.off (List._∷_ Row.off (List._∷_ Row.off (List._∷_ Row.off (List._∷_ Row.off List.[])))))))))))))))))))) }
+        G31 = record { locals = List._++_ g18 (List._++_ t20 (List._++_ t2 t3)); slots = List._∷_ (Row.lease (κs .0) (qs .0)) (List._∷_ (Row.lease (κs .1 .0) (qs .1 .0)) (List._∷_ (Row.lease (κs .1 .1 .0) (qs .1 .1 .0)) (List._∷_ (Row.lease (κs .1 .1 .1 .0) (qs .1 .1 .1 .0)) (List._∷_ Row.off (List._∷_ (Row.lease (κs .1 .1 .1 .1 .1 .0) (qs .1 .1 .1 .1 .1 .0)) (List._∷_ (Row.lease (κs .1 .1 .1 .1 .1 .1 .0) (qs .1 .1 .1 .1 .1 .1 .0)) (List._∷_ Row.off (List._∷_ Row.off (List._∷_ Row.alive (List._∷_ Row.off (List._∷_ Row.off (List._∷_ Row.off (List._∷_ Row.off (List._∷_ Row.off (List._∷_ Row.off (List._∷_ Row.off (List._∷_ Row.off (List._∷_ Row.off (List._∷_ Row.off (List._∷_ Row.off (List._∷_ Row.off (List._∷_ Row.off List.[])))))))))))))))))))))) }
 
         abbrev G32 : Row.Cx
-        G32 = record { locals = List._++_ g20 (List._++_ t21 t2); slots = List._∷_ (Row.lease (κs .0) (qs .0)) (List._∷_ (Row.lease (κs .1 .0) (qs .1 .0)) (List._∷_ (Row.lease (κs .1 .1 .0) (qs .1 .1 .0)) (List._∷_ (Row.lease (κs .1 .1 .1 .0) (qs .1 .1 .1 .0)) (List._∷_ Row.off (List._∷_ Row.off (List._∷_ Row.off (List._∷_ Row.off (List._∷_ Row.alive (List._∷_ Row.alive (List._∷_ Row.off (List._∷_ Row.off (List._∷_ Row.off (List._∷_ Row.off (List._∷_ Row.off (List._∷_ Row.off (List._∷_ Row.off (List._∷_ Row.off (List._∷_ Row.off (List._∷_ Row.off (List._∷_ Row.off List.[])))))))))))))))))))) }
+        G32 = record { locals = List._++_ g18 (List._++_ t20 (List._++_ t2 t3)); slots = List._∷_ (Row.lease (κs .0) (qs .0)) (List._∷_ (Row.lease (κs .1 .0) (qs .1 .0)) (List._∷_ (Row.lease (κs .1 .1 .0) (qs .1 .1 .0)) (List._∷_ (Row.lease (κs .1 .1 .1 .0) (qs .1 .1 .1 .0)) (List._∷_ Row.off (List._∷_ (Row.lease (κs .1 .1 .1 .1 .1 .0) (qs .1 .1 .1 .1 .1 .0)) (List._∷_ (Row.lease (κs .1 .1 .1 .1 .1 .1 .0) (qs .1 .1 .1 .1 .1 .1 .0)) (List._∷_ Row.off (List._∷_ Row.off (List._∷_ Row.alive (List._∷_ Row.alive (List._∷_ Row.off (List._∷_ Row.off (List._∷_ Row.off (List._∷_ Row.off (List._∷_ Row.off (List._∷_ Row.off (List._∷_ Row.off (List._∷_ Row.off (List._∷_ Row.off (List._∷_ Row.off (List._∷_ Row.off (List._∷_ Row.off List.[])))))))))))))))))))))) }
 
         abbrev G33 : Row.Cx
-        G33 = record { locals = List._++_ g20 (List._++_ t22 t2); slots = List._∷_ (Row.lease (κs .0) (qs .0)) (List._∷_ (Row.lease (κs .1 .0) (qs .1 .0)) (List._∷_ (Row.lease (κs .1 .1 .0) (qs .1 .1 .0)) (List._∷_ (Row.lease (κs .1 .1 .1 .0) (qs .1 .1 .1 .0)) (List._∷_ Row.off (List._∷_ Row.off (List._∷_ Row.off (List._∷_ Row.off (List._∷_ Row.alive (List._∷_ Row.alive (List._∷_ Row.off (List._∷_ Row.off (List._∷_ Row.off (List._∷_ Row.off (List._∷_ Row.off (List._∷_ Row.off (List._∷_ Row.off (List._∷_ Row.off (List._∷_ Row.off (List._∷_ Row.off (List._∷_ Row.off List.[])))))))))))))))))))) }
+        G33 = record { locals = List._++_ g21 (List._++_ t22 (List._++_ t2 t3)); slots = List._∷_ (Row.lease (κs .0) (qs .0)) (List._∷_ (Row.lease (κs .1 .0) (qs .1 .0)) (List._∷_ (Row.lease (κs .1 .1 .0) (qs .1 .1 .0)) (List._∷_ (Row.lease (κs .1 .1 .1 .0) (qs .1 .1 .1 .0)) (List._∷_ Row.off (List._∷_ Row.off (List._∷_ (Row.lease (κs .1 .1 .1 .1 .1 .1 .0) (qs .1 .1 .1 .1 .1 .1 .0)) (List._∷_ Row.off (List._∷_ Row.off (List._∷_ Row.alive (List._∷_ Row.alive (List._∷_ Row.off (List._∷_ Row.off (List._∷_ Row.off (List._∷_ Row.off (List._∷_ Row.off (List._∷_ Row.off (List._∷_ Row.off (List._∷_ Row.off (List._∷_ Row.off (List._∷_ Row.off (List._∷_ Row.off (List._∷_ Row.off List.[])))))))))))))))))))))) }
 
         abbrev G34 : Row.Cx
-        G34 = record { locals = List._++_ g23 (List._++_ t24 t2); slots = List._∷_ (Row.lease (κs .0) (qs .0)) (List._∷_ (Row.lease (κs .1 .0) (qs .1 .0)) (List._∷_ (Row.lease (κs .1 .1 .0) (qs .1 .1 .0)) (List._∷_ (Row.lease (κs .1 .1 .1 .0) (qs .1 .1 .1 .0)) (List._∷_ Row.off (List._∷_ Row.off (List._∷_ Row.off (List._∷_ Row.off (List._∷_ Row.alive (List._∷_ Row.alive (List._∷_ Row.off (List._∷_ Row.off (List._∷_ Row.off (List._∷_ Row.off (List._∷_ Row.off (List._∷_ Row.off (List._∷_ Row.off (List._∷_ Row.off (List._∷_ Row.off (List._∷_ Row.off (List._∷_ Row.off List.[])))))))))))))))))))) }
+        G34 = record { locals = List._++_ g21 (List._++_ t23 (List._++_ t2 t3)); slots = List._∷_ (Row.lease (κs .0) (qs .0)) (List._∷_ (Row.lease (κs .1 .0) (qs .1 .0)) (List._∷_ (Row.lease (κs .1 .1 .0) (qs .1 .1 .0)) (List._∷_ (Row.lease (κs .1 .1 .1 .0) (qs .1 .1 .1 .0)) (List._∷_ Row.off (List._∷_ Row.off (List._∷_ (Row.lease (κs .1 .1 .1 .1 .1 .1 .0) (qs .1 .1 .1 .1 .1 .1 .0)) (List._∷_ Row.off (List._∷_ Row.off (List._∷_ Row.alive (List._∷_ Row.alive (List._∷_ Row.off (List._∷_ Row.off (List._∷_ Row.off (List._∷_ Row.off (List._∷_ Row.off (List._∷_ Row.off (List._∷_ Row.off (List._∷_ Row.off (List._∷_ Row.off (List._∷_ Row.off (List._∷_ Row.off (List._∷_ Row.off List.[])))))))))))))))))))))) }
 
         abbrev G35 : Row.Cx
-        G35 = record { locals = List._++_ g23 (List._++_ t24 t2); slots = List._∷_ (Row.lease (κs .0) (qs .0)) (List._∷_ (Row.lease (κs .1 .0) (qs .1 .0)) (List._∷_ (Row.lease (κs .1 .1 .0) (qs .1 .1 .0)) (List._∷_ (Row.lease (κs .1 .1 .1 .0) (qs .1 .1 .1 .0)) (List._∷_ Row.off (List._∷_ Row.off (List._∷_ Row.off (List._∷_ Row.off (List._∷_ Row.dead (List._∷_ Row.alive (List._∷_ Row.off (List._∷_ Row.off (List._∷_ Row.off (List._∷_ Row.off (List._∷_ Row.off (List._∷_ Row.off (List._∷_ Row.off (List._∷_ Row.off (List._∷_ Row.off (List._∷_ Row.off (List._∷_ Row.off List.[])))))))))))))))))))) }
+        G35 = record { locals = List._++_ g24 (List._++_ t25 (List._++_ t2 t3)); slots = List._∷_ (Row.lease (κs .0) (qs .0)) (List._∷_ (Row.lease (κs .1 .0) (qs .1 .0)) (List._∷_ (Row.lease (κs .1 .1 .0) (qs .1 .1 .0)) (List._∷_ (Row.lease (κs .1 .1 .1 .0) (qs .1 .1 .1 .0)) (List._∷_ Row.off (List._∷_ Row.off (List._∷_ (Row.lease (κs .1 .1 .1 .1 .1 .1 .0) (qs .1 .1 .1 .1 .1 .1 .0)) (List._∷_ Row.off (List._∷_ Row.off (List._∷_ Row.alive (List._∷_ Row.alive (List._∷_ Row.off (List._∷_ Row.off (List._∷_ Row.off (List._∷_ Row.off (List._∷_ Row.off (List._∷_ Row.off (List._∷_ Row.off (List._∷_ Row.off (List._∷_ Row.off (List._∷_ Row.off (List._∷_ Row.off (List._∷_ Row.off List.[])))))))))))))))))))))) }
 
         abbrev G36 : Row.Cx
-        G36 = record { locals = List._++_ g25 (List._++_ t26 t2); slots = List._∷_ (Row.lease (κs .0) (qs .0)) (List._∷_ (Row.lease (κs .1 .0) (qs .1 .0)) (List._∷_ (Row.lease (κs .1 .1 .0) (qs .1 .1 .0)) (List._∷_ (Row.lease (κs .1 .1 .1 .0) (qs .1 .1 .1 .0)) (List._∷_ (Row.lease (κs .1 .1 .1 .1 .0) (qs .1 .1 .1 .1 .0)) (List._∷_ Row.off (List._∷_ Row.off (List._∷_ Row.off (List._∷_ Row.dead (List._∷_ Row.alive (List._∷_ Row.off (List._∷_ Row.off (List._∷_ Row.off (List._∷_ Row.off (List._∷_ Row.off (List._∷_ Row.off (List._∷_ Row.off (List._∷_ Row.off (List._∷_ Row.off (List._∷_ Row.off (List._∷_ Row.off List.[])))))))))))))))))))) }
+        G36 = record { locals = List._++_ g24 (List._++_ t25 (List._++_ t2 t3)); slots = List._∷_ (Row.lease (κs .0) (qs .0)) (List._∷_ (Row.lease (κs .1 .0) (qs .1 .0)) (List._∷_ (Row.lease (κs .1 .1 .0) (qs .1 .1 .0)) (List._∷_ (Row.lease (κs .1 .1 .1 .0) (qs .1 .1 .1 .0)) (List._∷_ Row.off (List._∷_ Row.off (List._∷_ (Row.lease (κs .1 .1 .1 .1 .1 .1 .0) (qs .1 .1 .1 .1 .1 .1 .0)) (List._∷_ Row.off (List._∷_ Row.off (List._∷_ Row.dead (List._∷_ Row.alive (List._∷_ Row.off (List._∷_ Row.off (List._∷_ Row.off (List._∷_ Row.off (List._∷_ Row.off (List._∷_ Row.off (List._∷_ Row.off (List._∷_ Row.off (List._∷_ Row.off (List._∷_ Row.off (List._∷_ Row.off (List._∷_ Row.off List.[])))))))))))))))))))))) }
 
         abbrev G37 : Row.Cx
-        G37 = record { locals = List._++_ g25 (List._++_ t26 t2); slots = List._∷_ (Row.lease (κs .0) (qs .0)) (List._∷_ (Row.lease (κs .1 .0) (qs .1 .0)) (List._∷_ (Row.lease (κs .1 .1 .0) (qs .1 .1 .0)) (List._∷_ (Row.lease (κs .1 .1 .1 .0) (qs .1 .1 .1 .0)) (List._∷_ (Row.lease (κs .1 .1 .1 .1 .0) (qs .1 .1 .1 .1 .0)) (List._∷_ Row.off (List._∷_ Row.off (List._∷_ Row.off (List._∷_ Row.dead (List._∷_ Row.alive (List._∷_ Row.off (List._∷_ Row.off (List._∷_ Row.off (List._∷_ Row.off (List._∷_ Row.off (List._∷_ Row.off (List._∷_ Row.off (List._∷_ Row.off (List._∷_ Row.off (List._∷_ Row.off (List._∷_ Row.off List.[])))))))))))))))))))) }
+        G37 = record { locals = List._++_ g26 (List._++_ t27 (List._++_ t2 t3)); slots = List._∷_ (Row.lease (κs .0) (qs .0)) (List._∷_ (Row.lease (κs .1 .0) (qs .1 .0)) (List._∷_ (Row.lease (κs .1 .1 .0) (qs .1 .1 .0)) (List._∷_ (Row.lease (κs .1 .1 .1 .0) (qs .1 .1 .1 .0)) (List._∷_ (Row.lease (κs .1 .1 .1 .1 .0) (qs .1 .1 .1 .1 .0)) (List._∷_ Row.off (List._∷_ (Row.lease (κs .1 .1 .1 .1 .1 .1 .0) (qs .1 .1 .1 .1 .1 .1 .0)) (List._∷_ Row.off (List._∷_ Row.off (List._∷_ Row.dead (List._∷_ Row.alive (List._∷_ Row.off (List._∷_ Row.off (List._∷_ Row.off (List._∷_ Row.off (List._∷_ Row.off (List._∷_ Row.off (List._∷_ Row.off (List._∷_ Row.off (List._∷_ Row.off (List._∷_ Row.off (List._∷_ Row.off (List._∷_ Row.off List.[])))))))))))))))))))))) }
 
         abbrev G38 : Row.Cx
-        G38 = record { locals = List._++_ g25 (List._++_ t26 t2); slots = List._∷_ (Row.lease (κs .0) (qs .0)) (List._∷_ (Row.lease (κs .1 .0) (qs .1 .0)) (List._∷_ (Row.lease (κs .1 .1 .0) (qs .1 .1 .0)) (List._∷_ (Row.lease (κs .1 .1 .1 .0) (qs .1 .1 .1 .0)) (List._∷_ (Row.lease (κs .1 .1 .1 .1 .0) (qs .1 .1 .1 .1 .0)) (List._∷_ Row.off (List._∷_ Row.off (List._∷_ Row.off (List._∷_ Row.off (List._∷_ Row.alive (List._∷_ Row.off (List._∷_ Row.off (List._∷_ Row.off (List._∷_ Row.off (List._∷_ Row.off (List._∷_ Row.off (List._∷_ Row.off (List._∷_ Row.off (List._∷_ Row.off (List._∷_ Row.off (List._∷_ Row.off List.[])))))))))))))))))))) }
+        G38 = record { locals = List._++_ g26 (List._++_ t27 (List._++_ t2 t3)); slots = List._∷_ (Row.lease (κs .0) (qs .0)) (List._∷_ (Row.lease (κs .1 .0) (qs .1 .0)) (List._∷_ (Row.lease (κs .1 .1 .0) (qs .1 .1 .0)) (List._∷_ (Row.lease (κs .1 .1 .1 .0) (qs .1 .1 .1 .0)) (List._∷_ (Row.lease (κs .1 .1 .1 .1 .0) (qs .1 .1 .1 .1 .0)) (List._∷_ Row.off (List._∷_ (Row.lease (κs .1 .1 .1 .1 .1 .1 .0) (qs .1 .1 .1 .1 .1 .1 .0)) (List._∷_ Row.off (List._∷_ Row.off (List._∷_ Row.dead (List._∷_ Row.alive (List._∷_ Row.off (List._∷_ Row.off (List._∷_ Row.off (List._∷_ Row.off (List._∷_ Row.off (List._∷_ Row.off (List._∷_ Row.off (List._∷_ Row.off (List._∷_ Row.off (List._∷_ Row.off (List._∷_ Row.off (List._∷_ Row.off List.[])))))))))))))))))))))) }
 
         abbrev G39 : Row.Cx
-        G39 = record { locals = List._++_ g25 (List._++_ t26 t2); slots = List._∷_ (Row.lease (κs .0) (qs .0)) (List._∷_ (Row.lease (κs .1 .0) (qs .1 .0)) (List._∷_ (Row.lease (κs .1 .1 .0) (qs .1 .1 .0)) (List._∷_ (Row.lease (κs .1 .1 .1 .0) (qs .1 .1 .1 .0)) (List._∷_ (Row.lease (κs .1 .1 .1 .1 .0) (qs .1 .1 .1 .1 .0)) (List._∷_ Row.off (List._∷_ Row.off (List._∷_ Row.off (List._∷_ Row.off (List._∷_ Row.dead (List._∷_ Row.off (List._∷_ Row.off (List._∷_ Row.off (List._∷_ Row.off (List._∷_ Row.off (List._∷_ Row.off (List._∷_ Row.off (List._∷_ Row.off (List._∷_ Row.off (List._∷_ Row.off (List._∷_ Row.off List.[])))))))))))))))))))) }
+        G39 = record { locals = List._++_ g26 (List._++_ t27 (List._++_ t2 t3)); slots = List._∷_ (Row.lease (κs .0) (qs .0)) (List._∷_ (Row.lease (κs .1 .0) (qs .1 .0)) (List._∷_ (Row.lease (κs .1 .1 .0) (qs .1 .1 .0)) (List._∷_ (Row.lease (κs .1 .1 .1 .0) (qs .1 .1 .1 .0)) (List._∷_ (Row.lease (κs .1 .1 .1 .1 .0) (qs .1 .1 .1 .1 .0)) (List._∷_ Row.off (List._∷_ (Row.lease (κs .1 .1 .1 .1 .1 .1 .0) (qs .1 .1 .1 .1 .1 .1 .0)) (List._∷_ Row.off (List._∷_ Row.off (List._∷_ Row.off (List._∷_ Row.alive (List._∷_ Row.off (List._∷_ Row.off (List._∷_ Row.off (List._∷_ Row.off (List._∷_ Row.off (List._∷_ Row.off (List._∷_ Row.off (List._∷_ Row.off (List._∷_ Row.off (List._∷_ Row.off (List._∷_ Row.off (List._∷_ Row.off List.[])))))))))))))))))))))) }
 
         abbrev G40 : Row.Cx
-        G40 = record { locals = List._++_ t27 (List._++_ t1 t2); slots = List._∷_ (Row.lease (κs .0) (qs .0)) (List._∷_ (Row.lease (κs .1 .0) (qs .1 .0)) (List._∷_ (Row.lease (κs .1 .1 .0) (qs .1 .1 .0)) (List._∷_ (Row.lease (κs .1 .1 .1 .0) (qs .1 .1 .1 .0)) (List._∷_ (Row.lease (κs .1 .1 .1 .1 .0) (qs .1 .1 .1 .1 .0)) (List._∷_ (Row.lease (κs .1 .1 .1 .1 .1 .0) (qs .1 .1 .1 .1 .1 .0)) (List._∷_ Row.off (List._∷_ Row.off (List._∷_ Row.off (List._∷_ Row.dead (List._∷_ Row.off (List._∷_ Row.off (List._∷_ Row.off (List._∷_ Row.off (List._∷_ Row.off (List._∷_ Row.off (List._∷_ Row.off (List._∷_ Row.off (List._∷_ Row.off (List._∷_ Row.off (List._∷_ Row.off List.[])))))))))))))))))))) }
+        G40 = record { locals = List._++_ g26 (List._++_ t27 (List._++_ t2 t3)); slots = List._∷_ (Row.lease (κs .0) (qs .0)) (List._∷_ (Row.lease (κs .1 .0) (qs .1 .0)) (List._∷_ (Row.lease (κs .1 .1 .0) (qs .1 .1 .0)) (List._∷_ (Row.lease (κs .1 .1 .1 .0) (qs .1 .1 .1 .0)) (List._∷_ (Row.lease (κs .1 .1 .1 .1 .0) (qs .1 .1 .1 .1 .0)) (List._∷_ Row.off (List._∷_ (Row.lease (κs .1 .1 .1 .1 .1 .1 .0) (qs .1 .1 .1 .1 .1 .1 .0)) (List._∷_ Row.off (List._∷_ Row.off (List._∷_ Row.off (List._∷_ Row.dead (List._∷_ Row.off (List._∷_ Row.off (List._∷_ Row.off (List._∷_ Row.off (List._∷_ Row.off (List._∷_ Row.off (List._∷_ Row.off (List._∷_ Row.off (List._∷_ Row.off (List._∷_ Row.off (List._∷_ Row.off (List._∷_ Row.off List.[])))))))))))))))))))))) }
 
         abbrev G41 : Row.Cx
-        G41 = record { locals = List._++_ t27 (List._++_ t1 t2); slots = List._∷_ (Row.lease (κs .0) (qs .0)) (List._∷_ (Row.lease (κs .1 .0) (qs .1 .0)) (List._∷_ (Row.lease (κs .1 .1 .0) (qs .1 .1 .0)) (List._∷_ (Row.lease (κs .1 .1 .1 .0) (qs .1 .1 .1 .0)) (List._∷_ (Row.lease (κs .1 .1 .1 .1 .0) (qs .1 .1 .1 .1 .0)) (List._∷_ (Row.lease (κs .1 .1 .1 .1 .1 .0) (qs .1 .1 .1 .1 .1 .0)) (List._∷_ Row.off (List._∷_ Row.off (List._∷_ Row.off (List._∷_ Row.dead (List._∷_ Row.off (List._∷_ Row.off (List._∷_ Row.off (List._∷_ Row.off (List._∷_ Row.off (List._∷_ Row.off (List._∷_ Row.off (List._∷_ Row.off (List._∷_ Row.off (List._∷_ Row.off (List._∷_ Row.off List.[])))))))))))))))))))) }
+        G41 = record { locals = List._++_ t28 (List._++_ t1 (List._++_ t2 t3)); slots = List._∷_ (Row.lease (κs .0) (qs .0)) (List._∷_ (Row.lease (κs .1 .0) (qs .1 .0)) (List._∷_ (Row.lease (κs .1 .1 .0) (qs .1 .1 .0)) (List._∷_ (Row.lease (κs .1 .1 .1 .0) (qs .1 .1 .1 .0)) (List._∷_ (Row.lease (κs .1 .1 .1 .1 .0) (qs .1 .1 .1 .1 .0)) (List._∷_ (Row.lease (κs .1 .1 .1 .1 .1 .0) (qs .1 .1 .1 .1 .1 .0)) (List._∷_ (Row.lease (κs .1 .1 .1 .1 .1 .1 .0) (qs .1 .1 .1 .1 .1 .1 .0)) (List._∷_ Row.off (List._∷_ Row.off (List._∷_ Row.off (List._∷_ Row.dead (List._∷_ Row.off (List._∷_ Row.off (List._∷_ Row.off (List._∷_ Row.off (List._∷_ Row.off (List._∷_ Row.off (List._∷_ Row.off (List._∷_ Row.off (List._∷_ Row.off (List._∷_ Row.off (List._∷_ Row.off (List._∷_ Row.off List.[])))))))))))))))))))))) }
 
         abbrev G42 : Row.Cx
-        G42 = record { locals = List._++_ t27 (List._++_ t1 t2); slots = List._∷_ (Row.lease (κs .0) (qs .0)) (List._∷_ (Row.lease (κs .1 .0) (qs .1 .0)) (List._∷_ (Row.lease (κs .1 .1 .0) (qs .1 .1 .0)) (List._∷_ (Row.lease (κs .1 .1 .1 .0) (qs .1 .1 .1 .0)) (List._∷_ (Row.lease (κs .1 .1 .1 .1 .0) (qs .1 .1 .1 .1 .0)) (List._∷_ (Row.lease (κs .1 .1 .1 .1 .1 .0) (qs .1 .1 .1 .1 .1 .0)) (List._∷_ Row.off (List._∷_ Row.off (List._∷_ Row.off (List._∷_ Row.off (List._∷_ Row.off (List._∷_ Row.off (List._∷_ Row.off (List._∷_ Row.off (List._∷_ Row.off (List._∷_ Row.off (List._∷_ Row.off (List._∷_ Row.off (List._∷_ Row.off (List._∷_ Row.off (List._∷_ Row.off List.[])))))))))))))))))))) }
+        G42 = record { locals = List._++_ t28 (List._++_ t1 (List._++_ t2 t3)); slots = List._∷_ (Row.lease (κs .0) (qs .0)) (List._∷_ (Row.lease (κs .1 .0) (qs .1 .0)) (List._∷_ (Row.lease (κs .1 .1 .0) (qs .1 .1 .0)) (List._∷_ (Row.lease (κs .1 .1 .1 .0) (qs .1 .1 .1 .0)) (List._∷_ (Row.lease (κs .1 .1 .1 .1 .0) (qs .1 .1 .1 .1 .0)) (List._∷_ (Row.lease (κs .1 .1 .1 .1 .1 .0) (qs .1 .1 .1 .1 .1 .0)) (List._∷_ (Row.lease (κs .1 .1 .1 .1 .1 .1 .0) (qs .1 .1 .1 .1 .1 .1 .0)) (List._∷_ Row.off (List._∷_ Row.off (List._∷_ Row.off (List._∷_ Row.dead (List._∷_ Row.off (List._∷_ Row.off (List._∷_ Row.off (List._∷_ Row.off (List._∷_ Row.off (List._∷_ Row.off (List._∷_ Row.off (List._∷_ Row.off (List._∷_ Row.off (List._∷_ Row.off (List._∷_ Row.off (List._∷_ Row.off List.[])))))))))))))))))))))) }
 
         abbrev G43 : Row.Cx
-        G43 = record { locals = List._++_ t28 (List._++_ t1 t2); slots = List._∷_ (Row.lease (κs .0) (qs .0)) (List._∷_ (Row.lease (κs .1 .0) (qs .1 .0)) (List._∷_ (Row.lease (κs .1 .1 .0) (qs .1 .1 .0)) (List._∷_ (Row.lease (κs .1 .1 .1 .0) (qs .1 .1 .1 .0)) (List._∷_ (Row.lease (κs .1 .1 .1 .1 .0) (qs .1 .1 .1 .1 .0)) (List._∷_ (Row.lease (κs .1 .1 .1 .1 .1 .0) (qs .1 .1 .1 .1 .1 .0)) (List._∷_ Row.off (List._∷_ Row.off (List._∷_ Row.off (List._∷_ Row.off (List._∷_ Row.off (List._∷_ Row.off (List._∷_ Row.off (List._∷_ Row.off (List._∷_ Row.off (List._∷_ Row.off (List._∷_ Row.off (List._∷_ Row.off (List._∷_ Row.off (List._∷_ Row.off (List._∷_ Row.off List.[])))))))))))))))))))) }
+        G43 = record { locals = List._++_ t28 (List._++_ t1 (List._++_ t2 t3)); slots = List._∷_ (Row.lease (κs .0) (qs .0)) (List._∷_ (Row.lease (κs .1 .0) (qs .1 .0)) (List._∷_ (Row.lease (κs .1 .1 .0) (qs .1 .1 .0)) (List._∷_ (Row.lease (κs .1 .1 .1 .0) (qs .1 .1 .1 .0)) (List._∷_ (Row.lease (κs .1 .1 .1 .1 .0) (qs .1 .1 .1 .1 .0)) (List._∷_ (Row.lease (κs .1 .1 .1 .1 .1 .0) (qs .1 .1 .1 .1 .1 .0)) (List._∷_ (Row.lease (κs .1 .1 .1 .1 .1 .1 .0) (qs .1 .1 .1 .1 .1 .1 .0)) (List._∷_ Row.off (List._∷_ Row.off (List._∷_ Row.off (List._∷_ Row.off (List._∷_ Row.off (List._∷_ Row.off (List._∷_ Row.off (List._∷_ Row.off (List._∷_ Row.off (List._∷_ Row.off (List._∷_ Row.off (List._∷_ Row.off (List._∷_ Row.off (List._∷_ Row.off (List._∷_ Row.off (List._∷_ Row.off List.[])))))))))))))))))))))) }
 
         abbrev G44 : Row.Cx
-        G44 = record { locals = List._++_ t29 (List._++_ t1 t2); slots = List._∷_ (Row.lease (κs .0) (qs .0)) (List._∷_ (Row.lease (κs .1 .0) (qs .1 .0)) (List._∷_ (Row.lease (κs .1 .1 .0) (qs .1 .1 .0)) (List._∷_ (Row.lease (κs .1 .1 .1 .0) (qs .1 .1 .1 .0)) (List._∷_ (Row.lease (κs .1 .1 .1 .1 .0) (qs .1 .1 .1 .1 .0)) (List._∷_ (Row.lease (κs .1 .1 .1 .1 .1 .0) (qs .1 .1 .1 .1 .1 .0)) (List._∷_ Row.off (List._∷_ Row.off (List._∷_ Row.off (List._∷_ Row.off (List._∷_ Row.off (List._∷_ Row.off (List._∷_ Row.off (List._∷_ Row.off (List._∷_ Row.off (List._∷_ Row.off (List._∷_ Row.off (List._∷_ Row.off (List._∷_ Row.off (List._∷_ Row.off (List._∷_ Row.off List.[])))))))))))))))))))) }
+        G44 = record { locals = List._++_ t29 (List._++_ t1 (List._++_ t2 t3)); slots = List._∷_ (Row.lease (κs .0) (qs .0)) (List._∷_ (Row.lease (κs .1 .0) (qs .1 .0)) (List._∷_ (Row.lease (κs .1 .1 .0) (qs .1 .1 .0)) (List._∷_ (Row.lease (κs .1 .1 .1 .0) (qs .1 .1 .1 .0)) (List._∷_ (Row.lease (κs .1 .1 .1 .1 .0) (qs .1 .1 .1 .1 .0)) (List._∷_ (Row.lease (κs .1 .1 .1 .1 .1 .0) (qs .1 .1 .1 .1 .1 .0)) (List._∷_ (Row.lease (κs .1 .1 .1 .1 .1 .1 .0) (qs .1 .1 .1 .1 .1 .1 .0)) (List._∷_ Row.off (List._∷_ Row.off (List._∷_ Row.off (List._∷_ Row.off (List._∷_ Row.off (List._∷_ Row.off (List._∷_ Row.off (List._∷_ Row.off (List._∷_ Row.off (List._∷_ Row.off (List._∷_ Row.off (List._∷_ Row.off (List._∷_ Row.off (List._∷_ Row.off (List._∷_ Row.off (List._∷_ Row.off List.[])))))))))))))))))))))) }
 
         abbrev G45 : Row.Cx
-        G45 = record { locals = List._++_ t29 (List._++_ t1 t2); slots = List._∷_ (Row.lease (κs .0) (qs .0)) (List._∷_ (Row.lease (κs .1 .0) (qs .1 .0)) (List._∷_ (Row.lease (κs .1 .1 .0) (qs .1 .1 .0)) (List._∷_ (Row.lease (κs .1 .1 .1 .0) (qs .1 .1 .1 .0)) (List._∷_ (Row.lease (κs .1 .1 .1 .1 .0) (qs .1 .1 .1 .1 .0)) (List._∷_ (Row.lease (κs .1 .1 .1 .1 .1 .0) (qs .1 .1 .1 .1 .1 .0)) (List._∷_ Row.off (List._∷_ Row.off (List._∷_ Row.off (List._∷_ Row.off (List._∷_ Row.off (List._∷_ Row.off (List._∷_ Row.off (List._∷_ Row.off (List._∷_ Row.off (List._∷_ Row.off (List._∷_ Row.off (List._∷_ Row.off (List._∷_ Row.off (List._∷_ Row.off (List._∷_ Row.off List.[])))))))))))))))))))) }
+        G45 = record { locals = List._++_ t30 (List._++_ t1 (List._++_ t2 t3)); slots = List._∷_ (Row.lease (κs .0) (qs .0)) (List._∷_ (Row.lease (κs .1 .0) (qs .1 .0)) (List._∷_ (Row.lease (κs .1 .1 .0) (qs .1 .1 .0)) (List._∷_ (Row.lease (κs .1 .1 .1 .0) (qs .1 .1 .1 .0)) (List._∷_ (Row.lease (κs .1 .1 .1 .1 .0) (qs .1 .1 .1 .1 .0)) (List._∷_ (Row.lease (κs .1 .1 .1 .1 .1 .0) (qs .1 .1 .1 .1 .1 .0)) (List._∷_ (Row.lease (κs .1 .1 .1 .1 .1 .1 .0) (qs .1 .1 .1 .1 .1 .1 .0)) (List._∷_ Row.off (List._∷_ Row.off (List._∷_ Row.off (List._∷_ Row.off (List._∷_ Row.off (List._∷_ Row.off (List._∷_ Row.off (List._∷_ Row.off (List._∷_ Row.off (List._∷_ Row.off (List._∷_ Row.off (List._∷_ Row.off (List._∷_ Row.off (List._∷_ Row.off (List._∷_ Row.off (List._∷_ Row.off List.[])))))))))))))))))))))) }
 
         abbrev G46 : Row.Cx
-        G46 = record { locals = List._++_ t29 (List._++_ t30 t2); slots = List._∷_ (Row.lease (κs .0) (qs .0)) (List._∷_ (Row.lease (κs .1 .0) (qs .1 .0)) (List._∷_ (Row.lease (κs .1 .1 .0) (qs .1 .1 .0)) (List._∷_ (Row.lease (κs .1 .1 .1 .0) (qs .1 .1 .1 .0)) (List._∷_ (Row.lease (κs .1 .1 .1 .1 .0) (qs .1 .1 .1 .1 .0)) (List._∷_ (Row.lease (κs .1 .1 .1 .1 .1 .0) (qs .1 .1 .1 .1 .1 .0)) (List._∷_ Row.off (List._∷_ Row.off (List._∷_ Row.off (List._∷_ Row.off (List._∷_ Row.off (List._∷_ Row.off (List._∷_ Row.off (List._∷_ Row.off (List._∷_ Row.off (List._∷_ Row.off (List._∷_ Row.off (List._∷_ Row.off (List._∷_ Row.off (List._∷_ Row.off (List._∷_ Row.off List.[])))))))))))))))))))) }
+        G46 = record { locals = List._++_ t30 (List._++_ t1 (List._++_ t2 t3)); slots = List._∷_ (Row.lease (κs .0) (qs .0)) (List._∷_ (Row.lease (κs .1 .0) (qs .1 .0)) (List._∷_ (Row.lease (κs .1 .1 .0) (qs .1 .1 .0)) (List._∷_ (Row.lease (κs .1 .1 .1 .0) (qs .1 .1 .1 .0)) (List._∷_ (Row.lease (κs .1 .1 .1 .1 .0) (qs .1 .1 .1 .1 .0)) (List._∷_ (Row.lease (κs .1 .1 .1 .1 .1 .0) (qs .1 .1 .1 .1 .1 .0)) (List._∷_ (Row.lease (κs .1 .1 .1 .1 .1 .1 .0) (qs .1 .1 .1 .1 .1 .1 .0)) (List._∷_ Row.off (List._∷_ Row.off (List._∷_ Row.off (List._∷_ Row.off (List._∷_ Row.off (List._∷_ Row.off (List._∷_ Row.off (List._∷_ Row.off (List._∷_ Row.off (List._∷_ Row.off (List._∷_ Row.off (List._∷_ Row.off (List._∷_ Row.off (List._∷_ Row.off (List._∷_ Row.off (List._∷_ Row.off List.[])))))))))))))))))))))) }
 
         abbrev G47 : Row.Cx
-        G47 = record { locals = List._++_ t31 (List._++_ t1 t2); slots = List._∷_ (Row.lease (κs .0) (qs .0)) (List._∷_ (Row.lease (κs .1 .0) (qs .1 .0)) (List._∷_ (Row.lease (κs .1 .1 .0) (qs .1 .1 .0)) (List._∷_ (Row.lease (κs .1 .1 .1 .0) (qs .1 .1 .1 .0)) (List._∷_ (Row.lease (κs .1 .1 .1 .1 .0) (qs .1 .1 .1 .1 .0)) (List._∷_ (Row.lease (κs .1 .1 .1 .1 .1 .0) (qs .1 .1 .1 .1 .1 .0)) (List._∷_ Row.off (List._∷_ Row.off (List._∷_ Row.off (List._∷_ Row.off (List._∷_ Row.off (List._∷_ Row.off (List._∷_ Row.off (List._∷_ Row.off (List._∷_ Row.off (List._∷_ Row.off (List._∷_ Row.off (List._∷_ Row.off (List._∷_ Row.off (List._∷_ Row.off (List._∷_ Row.off List.[])))))))))))))))))))) }
+        G47 = record { locals = List._++_ t30 (List._++_ t31 (List._++_ t2 t3)); slots = List._∷_ (Row.lease (κs .0) (qs .0)) (List._∷_ (Row.lease (κs .1 .0) (qs .1 .0)) (List._∷_ (Row.lease (κs .1 .1 .0) (qs .1 .1 .0)) (List._∷_ (Row.lease (κs .1 .1 .1 .0) (qs .1 .1 .1 .0)) (List._∷_ (Row.lease (κs .1 .1 .1 .1 .0) (qs .1 .1 .1 .1 .0)) (List._∷_ (Row.lease (κs .1 .1 .1 .1 .1 .0) (qs .1 .1 .1 .1 .1 .0)) (List._∷_ (Row.lease (κs .1 .1 .1 .1 .1 .1 .0) (qs .1 .1 .1 .1 .1 .1 .0)) (List._∷_ Row.off (List._∷_ Row.off (List._∷_ Row.off (List._∷_ Row.off (List._∷_ Row.off (List._∷_ Row.off (List._∷_ Row.off (List._∷_ Row.off (List._∷_ Row.off (List._∷_ Row.off (List._∷_ Row.off (List._∷_ Row.off (List._∷_ Row.off (List._∷_ Row.off (List._∷_ Row.off (List._∷_ Row.off List.[])))))))))))))))))))))) }
 
         abbrev G48 : Row.Cx
-        G48 = record { locals = List._++_ t31 (List._++_ t30 t2); slots = List._∷_ (Row.lease (κs .0) (qs .0)) (List._∷_ (Row.lease (κs .1 .0) (qs .1 .0)) (List._∷_ (Row.lease (κs .1 .1 .0) (qs .1 .1 .0)) (List._∷_ (Row.lease (κs .1 .1 .1 .0) (qs .1 .1 .1 .0)) (List._∷_ (Row.lease (κs .1 .1 .1 .1 .0) (qs .1 .1 .1 .1 .0)) (List._∷_ (Row.lease (κs .1 .1 .1 .1 .1 .0) (qs .1 .1 .1 .1 .1 .0)) (List._∷_ Row.off (List._∷_ Row.off (List._∷_ Row.off (List._∷_ Row.off (List._∷_ Row.off (List._∷_ Row.off (List._∷_ Row.off (List._∷_ Row.off (List._∷_ Row.off (List._∷_ Row.off (List._∷_ Row.off (List._∷_ Row.off (List._∷_ Row.off (List._∷_ Row.off (List._∷_ Row.off List.[])))))))))))))))))))) }
+        G48 = record { locals = List._++_ t32 (List._++_ t1 (List._++_ t2 t3)); slots = List._∷_ (Row.lease (κs .0) (qs .0)) (List._∷_ (Row.lease (κs .1 .0) (qs .1 .0)) (List._∷_ (Row.lease (κs .1 .1 .0) (qs .1 .1 .0)) (List._∷_ (Row.lease (κs .1 .1 .1 .0) (qs .1 .1 .1 .0)) (List._∷_ (Row.lease (κs .1 .1 .1 .1 .0) (qs .1 .1 .1 .1 .0)) (List._∷_ (Row.lease (κs .1 .1 .1 .1 .1 .0) (qs .1 .1 .1 .1 .1 .0)) (List._∷_ (Row.lease (κs .1 .1 .1 .1 .1 .1 .0) (qs .1 .1 .1 .1 .1 .1 .0)) (List._∷_ Row.off (List._∷_ Row.off (List._∷_ Row.off (List._∷_ Row.off (List._∷_ Row.off (List._∷_ Row.off (List._∷_ Row.off (List._∷_ Row.off (List._∷_ Row.off (List._∷_ Row.off (List._∷_ Row.off (List._∷_ Row.off (List._∷_ Row.off (List._∷_ Row.off (List._∷_ Row.off (List._∷_ Row.off List.[])))))))))))))))))))))) }
 
         abbrev G49 : Row.Cx
-        G49 = record { locals = List._++_ t31 (List._++_ t1 t2); slots = List._∷_ (Row.lease (κs .0) (qs .0)) (List._∷_ (Row.lease (κs .1 .0) (qs .1 .0)) (List._∷_ (Row.lease (κs .1 .1 .0) (qs .1 .1 .0)) (List._∷_ (Row.lease (κs .1 .1 .1 .0) (qs .1 .1 .1 .0)) (List._∷_ (Row.lease (κs .1 .1 .1 .1 .0) (qs .1 .1 .1 .1 .0)) (List._∷_ (Row.lease (κs .1 .1 .1 .1 .1 .0) (qs .1 .1 .1 .1 .1 .0)) (List._∷_ Row.off (List._∷_ Row.off (List._∷_ Row.off (List._∷_ Row.off (List._∷_ Row.off (List._∷_ Row.off (List._∷_ Row.off (List._∷_ Row.off (List._∷_ Row.off (List._∷_ Row.off (List._∷_ Row.off (List._∷_ Row.off (List._∷_ Row.off (List._∷_ Row.off (List._∷_ Row.off List.[])))))))))))))))))))) }
+        G49 = record { locals = List._++_ t32 (List._++_ t31 (List._++_ t2 t3)); slots = List._∷_ (Row.lease (κs .0) (qs .0)) (List._∷_ (Row.lease (κs .1 .0) (qs .1 .0)) (List._∷_ (Row.lease (κs .1 .1 .0) (qs .1 .1 .0)) (List._∷_ (Row.lease (κs .1 .1 .1 .0) (qs .1 .1 .1 .0)) (List._∷_ (Row.lease (κs .1 .1 .1 .1 .0) (qs .1 .1 .1 .1 .0)) (List._∷_ (Row.lease (κs .1 .1 .1 .1 .1 .0) (qs .1 .1 .1 .1 .1 .0)) (List._∷_ (Row.lease (κs .1 .1 .1 .1 .1 .1 .0) (qs .1 .1 .1 .1 .1 .1 .0)) (List._∷_ Row.off (List._∷_ Row.off (List._∷_ Row.off (List._∷_ Row.off (List._∷_ Row.off (List._∷_ Row.off (List._∷_ Row.off (List._∷_ Row.off (List._∷_ Row.off (List._∷_ Row.off (List._∷_ Row.off (List._∷_ Row.off (List._∷_ Row.off (List._∷_ Row.off (List._∷_ Row.off (List._∷_ Row.off List.[])))))))))))))))))))))) }
 
         abbrev G50 : Row.Cx
-        G50 = record { locals = List._++_ t29 (List._++_ t1 t2); slots = List._∷_ (Row.lease (κs .0) (qs .0)) (List._∷_ (Row.lease (κs .1 .0) (qs .1 .0)) (List._∷_ (Row.lease (κs .1 .1 .0) (qs .1 .1 .0)) (List._∷_ (Row.lease (κs .1 .1 .1 .0) (qs .1 .1 .1 .0)) (List._∷_ (Row.lease (κs .1 .1 .1 .1 .0) (qs .1 .1 .1 .1 .0)) (List._∷_ (Row.lease (κs .1 .1 .1 .1 .1 .0) (qs .1 .1 .1 .1 .1 .0)) (List._∷_ Row.off (List._∷_ Row.off (List._∷_ Row.off (List._∷_ Row.off (List._∷_ Row.off (List._∷_ Row.off (List._∷_ Row.off (List._∷_ Row.off (List._∷_ Row.off (List._∷_ Row.off (List._∷_ Row.off (List._∷_ Row.off (List._∷_ Row.off (List._∷_ Row.off (List._∷_ Row.off List.[])))))))))))))))))))) }
+        G50 = record { locals = List._++_ t32 (List._++_ t1 (List._++_ t2 t3)); slots = List._∷_ (Row.lease (κs .0) (qs .0)) (List._∷_ (Row.lease (κs .1 .0) (qs .1 .0)) (List._∷_ (Row.lease (κs .1 .1 .0) (qs .1 .1 .0)) (List._∷_ (Row.lease (κs .1 .1 .1 .0) (qs .1 .1 .1 .0)) (List._∷_ (Row.lease (κs .1 .1 .1 .1 .0) (qs .1 .1 .1 .1 .0)) (List._∷_ (Row.lease (κs .1 .1 .1 .1 .1 .0) (qs .1 .1 .1 .1 .1 .0)) (List._∷_ (Row.lease (κs .1 .1 .1 .1 .1 .1 .0) (qs .1 .1 .1 .1 .1 .1 .0)) (List._∷_ Row.off (List._∷_ Row.off (List._∷_ Row.off (List._∷_ Row.off (List._∷_ Row.off (List._∷_ Row.off (List._∷_ Row.off (List._∷_ Row.off (List._∷_ Row.off (List._∷_ Row.off (List._∷_ Row.off (List._∷_ Row.off (List._∷_ Row.off (List._∷_ Row.off (List._∷_ Row.off (List._∷_ Row.off List.[])))))))))))))))))))))) }
 
         abbrev G51 : Row.Cx
-        G51 = record { locals = List._++_ t31 (List._++_ t1 t2); slots = List._∷_ (Row.lease (κs .0) (qs .0)) (List._∷_ (Row.lease (κs .1 .0) (qs .1 .0)) (List._∷_ (Row.lease (κs .1 .1 .0) (qs .1 .1 .0)) (List._∷_ (Row.lease (κs .1 .1 .1 .0) (qs .1 .1 .1 .0)) (List._∷_ (Row.lease (κs .1 .1 .1 .1 .0) (qs .1 .1 .1 .1 .0)) (List._∷_ (Row.lease (κs .1 .1 .1 .1 .1 .0) (qs .1 .1 .1 .1 .1 .0)) (List._∷_ Row.off (List._∷_ Row.off (List._∷_ Row.off (List._∷_ Row.off (List._∷_ Row.alive (List._∷_ Row.off (List._∷_ Row.off (List._∷_ Row.off (List._∷_ Row.off (List._∷_ Row.off (List._∷_ Row.off (List._∷_ Row.off (List._∷_ Row.off (List._∷_ Row.off (List._∷_ Row.off List.[])))))))))))))))))))) }
+        G51 = record { locals = List._++_ t30 (List._++_ t1 (List._++_ t2 t3)); slots = List._∷_ (Row.lease (κs .0) (qs .0)) (List._∷_ (Row.lease (κs .1 .0) (qs .1 .0)) (List._∷_ (Row.lease (κs .1 .1 .0) (qs .1 .1 .0)) (List._∷_ (Row.lease (κs .1 .1 .1 .0) (qs .1 .1 .1 .0)) (List._∷_ (Row.lease (κs .1 .1 .1 .1 .0) (qs .1 .1 .1 .1 .0)) (List._∷_ (Row.lease (κs .1 .1 .1 .1 .1 .0) (qs .1 .1 .1 .1 .1 .0)) (List._∷_ (Row.lease (κs .1 .1 .1 .1 .1 .1 .0) (qs .1 .1 .1 .1 .1 .1 .0)) (List._∷_ Row.off (List._∷_ Row.off (List._∷_ Row.off (List._∷_ Row.off (List._∷_ Row.off (List._∷_ Row.off (List._∷_ Row.off (List._∷_ Row.off (List._∷_ Row.off (List._∷_ Row.off (List._∷_ Row.off (List._∷_ Row.off (List._∷_ Row.off (List._∷_ Row.off (List._∷_ Row.off (List._∷_ Row.off List.[])))))))))))))))))))))) }
 
         abbrev G52 : Row.Cx
-        G52 = record { locals = List._++_ g32 (List._++_ t33 t2); slots = List._∷_ (Row.lease (κs .0) (qs .0)) (List._∷_ (Row.lease (κs .1 .0) (qs .1 .0)) (List._∷_ (Row.lease (κs .1 .1 .0) (qs .1 .1 .0)) (List._∷_ Row.off (List._∷_ (Row.lease (κs .1 .1 .1 .1 .0) (qs .1 .1 .1 .1 .0)) (List._∷_ (Row.lease (κs .1 .1 .1 .1 .1 .0) (qs .1 .1 .1 .1 .1 .0)) (List._∷_ Row.off (List._∷_ Row.off (List._∷_ Row.off (List._∷_ Row.off (List._∷_ Row.alive (List._∷_ Row.off (List._∷_ Row.off (List._∷_ Row.off (List._∷_ Row.off (List._∷_ Row.off (List._∷_ Row.off (List._∷_ Row.off (List._∷_ Row.off (List._∷_ Row.off (List._∷_ Row.off List.[])))))))))))))))))))) }
+        G52 = record { locals = List._++_ t32 (List._++_ t1 (List._++_ t2 t3)); slots = List._∷_ (Row.lease (κs .0) (qs .0)) (List._∷_ (Row.lease (κs .1 .0) (qs .1 .0)) (List._∷_ (Row.lease (κs .1 .1 .0) (qs .1 .1 .0)) (List._∷_ (Row.lease (κs .1 .1 .1 .0) (qs .1 .1 .1 .0)) (List._∷_ (Row.lease (κs .1 .1 .1 .1 .0) (qs .1 .1 .1 .1 .0)) (List._∷_ (Row.lease (κs .1 .1 .1 .1 .1 .0) (qs .1 .1 .1 .1 .1 .0)) (List._∷_ (Row.lease (κs .1 .1 .1 .1 .1 .1 .0) (qs .1 .1 .1 .1 .1 .1 .0)) (List._∷_ Row.off (List._∷_ Row.off (List._∷_ Row.off (List._∷_ Row.off (List._∷_ Row.alive (List._∷_ Row.off (List._∷_ Row.off (List._∷_ Row.off (List._∷_ Row.off (List._∷_ Row.off (List._∷_ Row.off (List._∷_ Row.off (List._∷_ Row.off (List._∷_ Row.off (List._∷_ Row.off (List._∷_ Row.off List.[])))))))))))))))))))))) }
 
         abbrev G53 : Row.Cx
-        G53 = record { locals = List._++_ g32 (List._++_ t34 t2); slots = List._∷_ (Row.lease (κs .0) (qs .0)) (List._∷_ (Row.lease (κs .1 .0) (qs .1 .0)) (List._∷_ (Row.lease (κs .1 .1 .0) (qs .1 .1 .0)) (List._∷_ Row.off (List._∷_ (Row.lease (κs .1 .1 .1 .1 .0) (qs .1 .1 .1 .1 .0)) (List._∷_ (Row.lease (κs .1 .1 .1 .1 .1 .0) (qs .1 .1 .1 .1 .1 .0)) (List._∷_ Row.off (List._∷_ Row.off (List._∷_ Row.off (List._∷_ Row.off (List._∷_ Row.alive (List._∷_ Row.off (List._∷_ Row.off (List._∷_ Row.off (List._∷_ Row.off (List._∷_ Row.off (List._∷_ Row.off (List._∷_ Row.off (List._∷_ Row.off (List._∷_ Row.off (List._∷_ Row.off List.[])))))))))))))))))))) }
+        G53 = record { locals = List._++_ g33 (List._++_ t34 (List._++_ t2 t3)); slots = List._∷_ (Row.lease (κs .0) (qs .0)) (List._∷_ (Row.lease (κs .1 .0) (qs .1 .0)) (List._∷_ (Row.lease (κs .1 .1 .0) (qs .1 .1 .0)) (List._∷_ Row.off (List._∷_ (Row.lease (κs .1 .1 .1 .1 .0) (qs .1 .1 .1 .1 .0)) (List._∷_ (Row.lease (κs .1 .1 .1 .1 .1 .0) (qs .1 .1 .1 .1 .1 .0)) (List._∷_ (Row.lease (κs .1 .1 .1 .1 .1 .1 .0) (qs .1 .1 .1 .1 .1 .1 .0)) (List._∷_ Row.off (List._∷_ Row.off (List._∷_ Row.off (List._∷_ Row.off (List._∷_ Row.alive (List._∷_ Row.off (List._∷_ Row.off (List._∷_ Row.off (List._∷_ Row.off (List._∷_ Row.off (List._∷_ Row.off (List._∷_ Row.off (List._∷_ Row.off (List._∷_ Row.off (List._∷_ Row.off (List._∷_ Row.off List.[])))))))))))))))))))))) }
 
         abbrev G54 : Row.Cx
-        G54 = record { locals = List._++_ g32 (List._++_ t34 t2); slots = List._∷_ (Row.lease (κs .0) (qs .0)) (List._∷_ (Row.lease (κs .1 .0) (qs .1 .0)) (List._∷_ (Row.lease (κs .1 .1 .0) (qs .1 .1 .0)) (List._∷_ Row.off (List._∷_ (Row.lease (κs .1 .1 .1 .1 .0) (qs .1 .1 .1 .1 .0)) (List._∷_ (Row.lease (κs .1 .1 .1 .1 .1 .0) (qs .1 .1 .1 .1 .1 .0)) (List._∷_ Row.off (List._∷_ Row.off (List._∷_ Row.off (List._∷_ Row.off (List._∷_ Row.alive (List._∷_ Row.alive (List._∷_ Row.off (List._∷_ Row.off (List._∷_ Row.off (List._∷_ Row.off (List._∷_ Row.off (List._∷_ Row.off (List._∷_ Row.off (List._∷_ Row.off (List._∷_ Row.off List.[])))))))))))))))))))) }
+        G54 = record { locals = List._++_ g33 (List._++_ t35 (List._++_ t2 t3)); slots = List._∷_ (Row.lease (κs .0) (qs .0)) (List._∷_ (Row.lease (κs .1 .0) (qs .1 .0)) (List._∷_ (Row.lease (κs .1 .1 .0) (qs .1 .1 .0)) (List._∷_ Row.off (List._∷_ (Row.lease (κs .1 .1 .1 .1 .0) (qs .1 .1 .1 .1 .0)) (List._∷_ (Row.lease (κs .1 .1 .1 .1 .1 .0) (qs .1 .1 .1 .1 .1 .0)) (List._∷_ (Row.lease (κs .1 .1 .1 .1 .1 .1 .0) (qs .1 .1 .1 .1 .1 .1 .0)) (List._∷_ Row.off (List._∷_ Row.off (List._∷_ Row.off (List._∷_ Row.off (List._∷_ Row.alive (List._∷_ Row.off (List._∷_ Row.off (List._∷_ Row.off (List._∷_ Row.off (List._∷_ Row.off (List._∷_ Row.off (List._∷_ Row.off (List._∷_ Row.off (List._∷_ Row.off (List._∷_ Row.off (List._∷_ Row.off List.[])))))))))))))))))))))) }
 
         abbrev G55 : Row.Cx
-        G55 = record { locals = List._++_ g35 (List._++_ t36 t2); slots = List._∷_ (Row.lease (κs .0) (qs .0)) (List._∷_ (Row.lease (κs .1 .0) (qs .1 .0)) (List._∷_ (Row.lease (κs .1 .1 .0) (qs .1 .1 .0)) (List._∷_ Row.off (List._∷_ Row.off (List._∷_ (Row.lease (κs .1 .1 .1 .1 .1 .0) (qs .1 .1 .1 .1 .1 .0)) (List._∷_ Row.off (List._∷_ Row.off (List._∷_ Row.off (List._∷_ Row.off (List._∷_ Row.alive (List._∷_ Row.alive (List._∷_ Row.off (List._∷_ Row.off (List._∷_ Row.off (List._∷_ Row.off (List._∷_ Row.off (List._∷_ Row.off (List._∷_ Row.off (List._∷_ Row.off (List._∷_ Row.off List.[])))))))))))))))))))) }
+        G55 = record { locals = List._++_ g33 (List._++_ t35 (List._++_ t2 t3)); slots = List._∷_ (Row.lease (κs .0) (qs .0)) (List._∷_ (Row.lease (κs .1 .0) (qs .1 .0)) (List._∷_ (Row.lease (κs .1 .1 .0) (qs .1 .1 .0)) (List._∷_ Row.off (List._∷_ (Row.lease (κs .1 .1 .1 .1 .0) (qs .1 .1 .1 .1 .0)) (List._∷_ (Row.lease (κs .1 .1 .1 .1 .1 .0) (qs .1 .1 .1 .1 .1 .0)) (List._∷_ (Row.lease (κs .1 .1 .1 .1 .1 .1 .0) (qs .1 .1 .1 .1 .1 .1 .0)) (List._∷_ Row.off (List._∷_ Row.off (List._∷_ Row.off (List._∷_ Row.off (List._∷_ Row.alive (List._∷_ Row.alive (List._∷_ Row.off (List._∷_ Row.off (List._∷_ Row.off (List._∷_ Row.off (List._∷_ Row.off (List._∷_ Row.off (List._∷_ Row.off (List._∷_ Row.off (List._∷_ Row.off (List._∷_ Row.off List.[])))))))))))))))))))))) }
 
         abbrev G56 : Row.Cx
-        G56 = record { locals = List._++_ g35 (List._++_ t37 t2); slots = List._∷_ (Row.lease (κs .0) (qs .0)) (List._∷_ (Row.lease (κs .1 .0) (qs .1 .0)) (List._∷_ (Row.lease (κs .1 .1 .0) (qs .1 .1 .0)) (List._∷_ Row.off (List._∷_ Row.off (List._∷_ (Row.lease (κs .1 .1 .1 .1 .1 .0) (qs .1 .1 .1 .1 .1 .0)) (List._∷_ Row.off (List._∷_ Row.off (List._∷_ Row.off (List._∷_ Row.off (List._∷_ Row.alive (List._∷_ Row.alive (List._∷_ Row.off (List._∷_ Row.off (List._∷_ Row.off (List._∷_ Row.off (List._∷_ Row.off (List._∷_ Row.off (List._∷_ Row.off (List._∷_ Row.off (List._∷_ Row.off List.[])))))))))))))))))))) }
+        G56 = record { locals = List._++_ g36 (List._++_ t37 (List._++_ t2 t3)); slots = List._∷_ (Row.lease (κs .0) (qs .0)) (List._∷_ (Row.lease (κs .1 .0) (qs .1 .0)) (List._∷_ (Row.lease (κs .1 .1 .0) (qs .1 .1 .0)) (List._∷_ Row.off (List._∷_ Row.off (List._∷_ (Row.lease (κs .1 .1 .1 .1 .1 .0) (qs .1 .1 .1 .1 .1 .0)) (List._∷_ (Row.lease (κs .1 .1 .1 .1 .1 .1 .0) (qs .1 .1 .1 .1 .1 .1 .0)) (List._∷_ Row.off (List._∷_ Row.off (List._∷_ Row.off (List._∷_ Row.off (List._∷_ Row.alive (List._∷_ Row.alive (List._∷_ Row.off (List._∷_ Row.off (List._∷_ Row.off (List._∷_ Row.off (List._∷_ Row.off (List._∷_ Row.off (List._∷_ Row.off (List._∷_ Row.off (List._∷_ Row.off (List._∷_ Row.off List.[])))))))))))))))))))))) }
 
         abbrev G57 : Row.Cx
-        G57 = record { locals = List._++_ g35 (List._++_ t37 t2); slots = List._∷_ (Row.lease (κs .0) (qs .0)) (List._∷_ (Row.lease (κs .1 .0) (qs .1 .0)) (List._∷_ (Row.lease (κs .1 .1 .0) (qs .1 .1 .0)) (List._∷_ Row.off (List._∷_ Row.off (List._∷_ (Row.lease (κs .1 .1 .1 .1 .1 .0) (qs .1 .1 .1 .1 .1 .0)) (List._∷_ Row.off (List._∷_ Row.off (List._∷_ Row.off (List._∷_ Row.off (List._∷_ Row.alive (List._∷_ Row.alive (List._∷_ Row.alive (List._∷_ Row.off (List._∷_ Row.off (List._∷_ Row.off (List._∷_ Row.off (List._∷_ Row.off (List._∷_ Row.off (List._∷_ Row.off (List._∷_ Row.off List.[])))))))))))))))))))) }
+        G57 = record { locals = List._++_ g36 (List._++_ t38 (List._++_ t2 t3)); slots = List._∷_ (Row.lease (κs .0) (qs .0)) (List._∷_ (Row.lease (κs .1 .0) (qs .1 .0)) (List._∷_ (Row.lease (κs .1 .1 .0) (qs .1 .1 .0)) (List._∷_ Row.off (List._∷_ Row.off (List._∷_ (Row.lease (κs .1 .1 .1 .1 .1 .0) (qs .1 .1 .1 .1 .1 .0)) (List._∷_ (Row.lease (κs .1 .1 .1 .1 .1 .1 .0) (qs .1 .1 .1 .1 .1 .1 .0)) (List._∷_ Row.off (List._∷_ Row.off (List._∷_ Row.off (List._∷_ Row.off (List._∷_ Row.alive (List._∷_ Row.alive (List._∷_ Row.off (List._∷_ Row.off (List._∷_ Row.off (List._∷_ Row.off (List._∷_ Row.off (List._∷_ Row.off (List._∷_ Row.off (List._∷_ Row.off (List._∷_ Row.off (List._∷_ Row.off List.[])))))))))))))))))))))) }
 
         abbrev G58 : Row.Cx
-        G58 = record { locals = List._++_ g38 (List._++_ t39 t2); slots = List._∷_ (Row.lease (κs .0) (qs .0)) (List._∷_ (Row.lease (κs .1 .0) (qs .1 .0)) (List._∷_ (Row.lease (κs .1 .1 .0) (qs .1 .1 .0)) (List._∷_ Row.off (List._∷_ Row.off (List._∷_ Row.off (List._∷_ Row.off (List._∷_ Row.off (List._∷_ Row.off (List._∷_ Row.off (List._∷_ Row.alive (List._∷_ Row.alive (List._∷_ Row.alive (List._∷_ Row.off (List._∷_ Row.off (List._∷_ Row.off (List._∷_ Row.off (List._∷_ Row.off (List._∷_ Row.off (List._∷_ Row.off (List._∷_ Row.off List.[])))))))))))))))))))) }
+        G58 = record { locals = List._++_ g36 (List._++_ t38 (List._++_ t2 t3)); slots = List._∷_ (Row.lease (κs .0) (qs .0)) (List._∷_ (Row.lease (κs .1 .0) (qs .1 .0)) (List._∷_ (Row.lease (κs .1 .1 .0) (qs .1 .1 .0)) (List._∷_ Row.off (List._∷_ Row.off (List._∷_ (Row.lease (κs .1 .1 .1 .1 .1 .0) (qs .1 .1 .1 .1 .1 .0)) (List._∷_ (Row.lease (κs .1 .1 .1 .1 .1 .1 .0) (qs .1 .1 .1 .1 .1 .1 .0)) (List._∷_ Row.off (List._∷_ Row.off (List._∷_ Row.off (List._∷_ Row.off (List._∷_ Row.alive (List._∷_ Row.alive (List._∷_ Row.alive (List._∷_ Row.off (List._∷_ Row.off (List._∷_ Row.off (List._∷_ Row.off (List._∷_ Row.off (List._∷_ Row.off (List._∷_ Row.off (List._∷_ Row.off (List._∷_ Row.off List.[])))))))))))))))))))))) }
 
         abbrev G59 : Row.Cx
-        G59 = record { locals = List._++_ g38 (List._++_ t40 t2); slots = List._∷_ (Row.lease (κs .0) (qs .0)) (List._∷_ (Row.lease (κs .1 .0) (qs .1 .0)) (List._∷_ (Row.lease (κs .1 .1 .0) (qs .1 .1 .0)) (List._∷_ Row.off (List._∷_ Row.off (List._∷_ Row.off (List._∷_ Row.off (List._∷_ Row.off (List._∷_ Row.off (List._∷_ Row.off (List._∷_ Row.alive (List._∷_ Row.alive (List._∷_ Row.alive (List._∷_ Row.off (List._∷_ Row.off (List._∷_ Row.off (List._∷_ Row.off (List._∷_ Row.off (List._∷_ Row.off (List._∷_ Row.off (List._∷_ Row.off List.[])))))))))))))))))))) }
+        G59 = record { locals = List._++_ g39 (List._++_ t40 (List._++_ t2 t3)); slots = List._∷_ (Row.lease (κs .0) (qs .0)) (List._∷_ (Row.lease (κs .1 .0) (qs .1 .0)) (List._∷_ (Row.lease (κs .1 .1 .0) (qs .1 .1 .0)) (List._∷_ Row.off (List._∷_ Row.off (List._∷_ Row.off (List._∷_ (Row.lease (κs .1 .1 .1 .1 .1 .1 .0) (qs .1 .1 .1 .1 .1 .1 .0)) (List._∷_ Row.off (List._∷_ Row.off (List._∷_ Row.off (List._∷_ Row.off (List._∷_ Row.alive (List._∷_ Row.alive (List._∷_ Row.alive (List._∷_ Row.off (List._∷_ Row.off (List._∷_ Row.off (List._∷_ Row.off (List._∷_ Row.off (List._∷_ Row.off (List._∷_ Row.off (List._∷_ Row.off (List._∷_ Row.off List.[])))))))))))))))))))))) }
 
         abbrev G60 : Row.Cx
-        G60 = record { locals = List._++_ g41 (List._++_ t42 t2); slots = List._∷_ (Row.lease (κs .0) (qs .0)) (List._∷_ (Row.lease (κs .1 .0) (qs .1 .0)) (List._∷_ (Row.lease (κs .1 .1 .0) (qs .1 .1 .0)) (List._∷_ Row.off (List._∷_ Row.off (List._∷_ Row.off (List._∷_ Row.off (List._∷_ Row.off (List._∷_ Row.off (List._∷_ Row.off (List._∷_ Row.alive (List._∷_ Row.alive (List._∷_ Row.alive (List._∷_ Row.off (List._∷_ Row.off (List._∷_ Row.off (List._∷_ Row.off (List._∷_ Row.off (List._∷_ Row.off (List._∷_ Row.off (List._∷_ Row.off List.[])))))))))))))))))))) }
+        G60 = record { locals = List._++_ g39 (List._++_ t41 (List._++_ t2 t3)); slots = List._∷_ (Row.lease (κs .0) (qs .0)) (List._∷_ (Row.lease (κs .1 .0) (qs .1 .0)) (List._∷_ (Row.lease (κs .1 .1 .0) (qs .1 .1 .0)) (List._∷_ Row.off (List._∷_ Row.off (List._∷_ Row.off (List._∷_ (Row.lease (κs .1 .1 .1 .1 .1 .1 .0) (qs .1 .1 .1 .1 .1 .1 .0)) (List._∷_ Row.off (List._∷_ Row.off (List._∷_ Row.off (List._∷_ Row.off (List._∷_ Row.alive (List._∷_ Row.alive (List._∷_ Row.alive (List._∷_ Row.off (List._∷_ Row.off (List._∷_ Row.off (List._∷_ Row.off (List._∷_ Row.off (List._∷_ Row.off (List._∷_ Row.off (List._∷_ Row.off (List._∷_ Row.off List.[])))))))))))))))))))))) }
 
         abbrev G61 : Row.Cx
-        G61 = record { locals = List._++_ g43 (List._++_ t42 t2); slots = List._∷_ (Row.lease (κs .0) (qs .0)) (List._∷_ (Row.lease (κs .1 .0) (qs .1 .0)) (List._∷_ (Row.lease (κs .1 .1 .0) (qs .1 .1 .0)) (List._∷_ Row.off (List._∷_ Row.off (List._∷_ Row.off (List._∷_ Row.off (List._∷_ Row.off (List._∷_ Row.off (List._∷_ Row.off (List._∷_ Row.alive (List._∷_ Row.alive (List._∷_ Row.alive (List._∷_ Row.off (List._∷_ Row.off (List._∷_ Row.off (List._∷_ Row.off (List._∷_ Row.off (List._∷_ Row.off (List._∷_ Row.off (List._∷_ Row.off List.[])))))))))))))))))))) }
+        G61 = record { locals = List._++_ g39 (List._++_ t41 (List._++_ t2 t3)); slots = List._∷_ (Row.lease (κs .0) (qs .0)) (List._∷_ (Row.lease (κs .1 .0) (qs .1 .0)) (List._∷_ (Row.lease (κs .1 .1 .0) (qs .1 .1 .0)) (List._∷_ Row.off (List._∷_ Row.off (List._∷_ Row.off (List._∷_ (Row.lease (κs .1 .1 .1 .1 .1 .1 .0) (qs .1 .1 .1 .1 .1 .1 .0)) (List._∷_ Row.off (List._∷_ Row.off (List._∷_ Row.off (List._∷_ Row.off (List._∷_ Row.alive (List._∷_ Row.alive (List._∷_ Row.alive (List._∷_ Row.alive (List._∷_ Row.off (List._∷_ Row.off (List._∷_ Row.off (List._∷_ Row.off (List._∷_ Row.off (List._∷_ Row.off (List._∷_ Row.off (List._∷_ Row.off List.[])))))))))))))))))))))) }
 
         abbrev G62 : Row.Cx
-        G62 = record { locals = List._++_ g44 (List._++_ t42 t2); slots = List._∷_ (Row.lease (κs .0) (qs .0)) (List._∷_ (Row.lease (κs .1 .0) (qs .1 .0)) (List._∷_ (Row.lease (κs .1 .1 .0) (qs .1 .1 .0)) (List._∷_ Row.off (List._∷_ Row.off (List._∷_ Row.off (List._∷_ Row.off (List._∷_ Row.off (List._∷_ Row.off (List._∷_ Row.off (List._∷_ Row.alive (List._∷_ Row.alive (List._∷_ Row.alive (List._∷_ Row.off (List._∷_ Row.off (List._∷_ Row.off (List._∷_ Row.off (List._∷_ Row.off (List._∷_ Row.off (List._∷_ Row.off (List._∷_ Row.off List.[])))))))))))))))))))) }
+        G62 = record { locals = List._++_ g42 (List._++_ t41 (List._++_ t43 t3)); slots = List._∷_ (Row.lease (κs .0) (qs .0)) (List._∷_ (Row.lease (κs .1 .0) (qs .1 .0)) (List._∷_ (Row.lease (κs .1 .1 .0) (qs .1 .1 .0)) (List._∷_ Row.off (List._∷_ Row.off (List._∷_ Row.off (List._∷_ Row.off (List._∷_ Row.off (List._∷_ Row.off (List._∷_ Row.off (List._∷_ Row.off (List._∷_ Row.alive (List._∷_ Row.alive (List._∷_ Row.alive (List._∷_ Row.alive (List._∷_ Row.off (List._∷_ Row.off (List._∷_ Row.off (List._∷_ Row.off (List._∷_ Row.off (List._∷_ Row.off (List._∷_ Row.off (List._∷_ Row.off List.[])))))))))))))))))))))) }
 
         abbrev G63 : Row.Cx
-        G63 = record { locals = List._++_ g44 (List._++_ t42 t2); slots = List._∷_ (Row.lease (κs .0) (qs .0)) (List._∷_ (Row.lease (κs .1 .0) (qs .1 .0)) (List._∷_ (Row.lease (κs .1 .1 .0) (qs .1 .1 .0)) (List._∷_ Row.off (List._∷_ Row.off (List._∷_ Row.off (List._∷_ Row.off (List._∷_ Row.off (List._∷_ Row.off (List._∷_ Row.off (List._∷_ Row.dead (List._∷_ Row.alive (List._∷_ Row.alive (List._∷_ Row.off (List._∷_ Row.off (List._∷_ Row.off (List._∷_ Row.off (List._∷_ Row.off (List._∷_ Row.off (List._∷_ Row.off (List._∷_ Row.off List.[])))))))))))))))))))) }
+        G63 = record { locals = List._++_ g42 (List._++_ t41 (List._++_ t44 t3)); slots = List._∷_ (Row.lease (κs .0) (qs .0)) (List._∷_ (Row.lease (κs .1 .0) (qs .1 .0)) (List._∷_ (Row.lease (κs .1 .1 .0) (qs .1 .1 .0)) (List._∷_ Row.off (List._∷_ Row.off (List._∷_ Row.off (List._∷_ Row.off (List._∷_ Row.off (List._∷_ Row.off (List._∷_ Row.off (List._∷_ Row.off (List._∷_ Row.alive (List._∷_ Row.alive (List._∷_ Row.alive (List._∷_ Row.alive (List._∷_ Row.off (List._∷_ Row.off (List._∷_ Row.off (List._∷_ Row.off (List._∷_ Row.off (List._∷_ Row.off (List._∷_ Row.off (List._∷_ Row.off List.[])))))))))))))))))))))) }
 
         abbrev G64 : Row.Cx
-        G64 = record { locals = List._++_ g45 (List._++_ t46 t2); slots = List._∷_ (Row.lease (κs .0) (qs .0)) (List._∷_ (Row.lease (κs .1 .0) (qs .1 .0)) (List._∷_ (Row.lease (κs .1 .1 .0) (qs .1 .1 .0)) (List._∷_ (Row.lease (κs .1 .1 .1 .0) (qs .1 .1 .1 .0)) (List._∷_ Row.off (List._∷_ Row.off (List._∷_ Row.off (List._∷_ Row.off (List._∷_ Row.off (List._∷_ Row.off (List._∷_ Row.dead (List._∷_ Row.alive (List._∷_ Row.alive (List._∷_ Row.off (List._∷_ Row.off (List._∷_ Row.off (List._∷_ Row.off (List._∷_ Row.off (List._∷_ Row.off (List._∷_ Row.off (List._∷_ Row.off List.[])))))))))))))))))))) }
+        G64 = record { locals = List._++_ g45 (List._++_ t46 (List._++_ t47 t3)); slots = List._∷_ (Row.lease (κs .0) (qs .0)) (List._∷_ (Row.lease (κs .1 .0) (qs .1 .0)) (List._∷_ (Row.lease (κs .1 .1 .0) (qs .1 .1 .0)) (List._∷_ Row.off (List._∷_ Row.off (List._∷_ Row.off (List._∷_ Row.off (List._∷_ Row.off (List._∷_ Row.off (List._∷_ Row.off (List._∷_ Row.off (List._∷_ Row.alive (List._∷_ Row.alive (List._∷_ Row.alive (List._∷_ Row.alive (List._∷_ Row.off (List._∷_ Row.off (List._∷_ Row.off (List._∷_ Row.off (List._∷_ Row.off (List._∷_ Row.off (List._∷_ Row.off (List._∷_ Row.off List.[])))))))))))))))))))))) }
 
         abbrev G65 : Row.Cx
-        G65 = record { locals = List._++_ g45 (List._++_ t46 t2); slots = List._∷_ (Row.lease (κs .0) (qs .0)) (List._∷_ (Row.lease (κs .1 .0) (qs .1 .0)) (List._∷_ (Row.lease (κs .1 .1 .0) (qs .1 .1 .0)) (List._∷_ (Row.lease (κs .1 .1 .1 .0) (qs .1 .1 .1 .0)) (List._∷_ Row.off (List._∷_ Row.off (List._∷_ Row.off (List._∷_ Row.off (List._∷_ Row.off (List._∷_ Row.off (List._∷_ Row.dead (List._∷_ Row.alive (List._∷_ Row.alive (List._∷_ Row.off (List._∷_ Row.off (List._∷_ Row.off (List._∷_ Row.off (List._∷_ Row.off (List._∷_ Row.off (List._∷_ Row.off (List._∷_ Row.off List.[])))))))))))))))))))) }
+        G65 = record { locals = List._++_ g48 (List._++_ t46 (List._++_ t47 t3)); slots = List._∷_ (Row.lease (κs .0) (qs .0)) (List._∷_ (Row.lease (κs .1 .0) (qs .1 .0)) (List._∷_ (Row.lease (κs .1 .1 .0) (qs .1 .1 .0)) (List._∷_ Row.off (List._∷_ Row.off (List._∷_ Row.off (List._∷_ Row.off (List._∷_ Row.off (List._∷_ Row.off (List._∷_ Row.off (List._∷_ Row.off (List._∷_ Row.alive (List._∷_ Row.alive (List._∷_ Row.alive (List._∷_ Row.alive (List._∷_ Row.off (List._∷_ Row.off (List._∷_ Row.off (List._∷_ Row.off (List._∷_ Row.off (List._∷_ Row.off (List._∷_ Row.off (List._∷_ Row.off List.[])))))))))))))))))))))) }
 
         abbrev G66 : Row.Cx
-        G66 = record { locals = List._++_ g45 (List._++_ t46 t2); slots = List._∷_ (Row.lease (κs .0) (qs .0)) (List._∷_ (Row.lease (κs .1 .0) (qs .1 .0)) (List._∷_ (Row.lease (κs .1 .1 .0) (qs .1 .1 .0)) (List._∷_ (Row.lease (κs .1 .1 .1 .0) (qs .1 .1 .1 .0)) (List._∷_ Row.off (List._∷_ Row.off (List._∷_ Row.off (List._∷_ Row.off (List._∷_ Row.off (List._∷_ Row.off (List._∷_ Row.off (List._∷_ Row.alive (List._∷_ Row.alive (List._∷_ Row.off (List._∷_ Row.off (List._∷_ Row.off (List._∷_ Row.off (List._∷_ Row.off (List._∷_ Row.off (List._∷_ Row.off (List._∷_ Row.off List.[])))))))))))))))))))) }
+        G66 = record { locals = List._++_ g49 (List._++_ t46 (List._++_ t47 t3)); slots = List._∷_ (Row.lease (κs .0) (qs .0)) (List._∷_ (Row.lease (κs .1 .0) (qs .1 .0)) (List._∷_ (Row.lease (κs .1 .1 .0) (qs .1 .1 .0)) (List._∷_ Row.off (List._∷_ Row.off (List._∷_ Row.off (List._∷_ Row.off (List._∷_ Row.off (List._∷_ Row.off (List._∷_ Row.off (List._∷_ Row.off (List._∷_ Row.alive (List._∷_ Row.alive (List._∷_ Row.alive (List._∷_ Row.alive (List._∷_ Row.off (List._∷_ Row.off (List._∷_ Row.off (List._∷_ Row.off (List._∷_ Row.off (List._∷_ Row.off (List._∷_ Row.off (List._∷_ Row.off List.[])))))))))))))))))))))) }
 
         abbrev G67 : Row.Cx
-        G67 = record { locals = List._++_ g45 (List._++_ t46 t2); slots = List._∷_ (Row.lease (κs .0) (qs .0)) (List._∷_ (Row.lease (κs .1 .0) (qs .1 .0)) (List._∷_ (Row.lease (κs .1 .1 .0) (qs .1 .1 .0)) (List._∷_ (Row.lease (κs .1 .1 .1 .0) (qs .1 .1 .1 .0)) (List._∷_ Row.off (List._∷_ Row.off (List._∷_ Row.off (List._∷_ Row.off (List._∷_ Row.off (List._∷_ Row.off (List._∷_ Row.off (List._∷_ Row.dead (List._∷_ Row.alive (List._∷_ Row.off (List._∷_ Row.off (List._∷_ Row.off (List._∷_ Row.off (List._∷_ Row.off (List._∷_ Row.off (List._∷_ Row.off (List._∷_ Row.off List.[])))))))))))))))))))) }
+        G67 = record { locals = List._++_ g49 (List._++_ t46 (List._++_ t47 t3)); slots = List._∷_ (Row.lease (κs .0) (qs .0)) (List._∷_ (Row.lease (κs .1 .0) (qs .1 .0)) (List._∷_ (Row.lease (κs .1 .1 .0) (qs .1 .1 .0)) (List._∷_ Row.off (List._∷_ Row.off (List._∷_ Row.off (List._∷_ Row.off (List._∷_ Row.off (List._∷_ Row.off (List._∷_ Row.off (List._∷_ Row.off (List._∷_ Row.dead (List._∷_ Row.alive (List._∷_ Row.alive (List._∷_ Row.alive (List._∷_ Row.off (List._∷_ Row.off (List._∷_ Row.off (List._∷_ Row.off (List._∷_ Row.off (List._∷_ Row.off (List._∷_ Row.off (List._∷_ Row.off List.[])))))))))))))))))))))) }
 
         abbrev G68 : Row.Cx
-        G68 = record { locals = List._++_ g47 (List._++_ t48 t2); slots = List._∷_ (Row.lease (κs .0) (qs .0)) (List._∷_ (Row.lease (κs .1 .0) (qs .1 .0)) (List._∷_ (Row.lease (κs .1 .1 .0) (qs .1 .1 .0)) (List._∷_ (Row.lease (κs .1 .1 .1 .0) (qs .1 .1 .1 .0)) (List._∷_ (Row.lease (κs .1 .1 .1 .1 .0) (qs .1 .1 .1 .1 .0)) (List._∷_ Row.off (List._∷_ Row.off (List._∷_ Row.off (List._∷_ Row.off (List._∷_ Row.off (List._∷_ Row.off (List._∷_ Row.dead (List._∷_ Row.alive (List._∷_ Row.off (List._∷_ Row.off (List._∷_ Row.off (List._∷_ Row.off (List._∷_ Row.off (List._∷_ Row.off (List._∷_ Row.off (List._∷_ Row.off List.[])))))))))))))))))))) }
+        G68 = record { locals = List._++_ g50 (List._++_ t51 (List._++_ t47 t3)); slots = List._∷_ (Row.lease (κs .0) (qs .0)) (List._∷_ (Row.lease (κs .1 .0) (qs .1 .0)) (List._∷_ (Row.lease (κs .1 .1 .0) (qs .1 .1 .0)) (List._∷_ (Row.lease (κs .1 .1 .1 .0) (qs .1 .1 .1 .0)) (List._∷_ Row.off (List._∷_ Row.off (List._∷_ Row.off (List._∷_ Row.off (List._∷_ Row.off (List._∷_ Row.off (List._∷_ Row.off (List._∷_ Row.dead (List._∷_ Row.alive (List._∷_ Row.alive (List._∷_ Row.alive (List._∷_ Row.off (List._∷_ Row.off (List._∷_ Row.off (List._∷_ Row.off (List._∷_ Row.off (List._∷_ Row.off (List._∷_ Row.off (List._∷_ Row.off List.[])))))))))))))))))))))) }
 
         abbrev G69 : Row.Cx
-        G69 = record { locals = List._++_ g47 (List._++_ t48 t2); slots = List._∷_ (Row.lease (κs .0) (qs .0)) (List._∷_ (Row.lease (κs .1 .0) (qs .1 .0)) (List._∷_ (Row.lease (κs .1 .1 .0) (qs .1 .1 .0)) (List._∷_ (Row.lease (κs .1 .1 .1 .0) (qs .1 .1 .1 .0)) (List._∷_ (Row.lease (κs .1 .1 .1 .1 .0) (qs .1 .1 .1 .1 .0)) (List._∷_ Row.off (List._∷_ Row.off (List._∷_ Row.off (List._∷_ Row.off (List._∷_ Row.off (List._∷_ Row.off (List._∷_ Row.dead (List._∷_ Row.alive (List._∷_ Row.off (List._∷_ Row.off (List._∷_ Row.off (List._∷_ Row.off (List._∷_ Row.off (List._∷_ Row.off (List._∷_ Row.off (List._∷_ Row.off List.[])))))))))))))))))))) }
+        G69 = record { locals = List._++_ g50 (List._++_ t51 (List._++_ t47 t3)); slots = List._∷_ (Row.lease (κs .0) (qs .0)) (List._∷_ (Row.lease (κs .1 .0) (qs .1 .0)) (List._∷_ (Row.lease (κs .1 .1 .0) (qs .1 .1 .0)) (List._∷_ (Row.lease (κs .1 .1 .1 .0) (qs .1 .1 .1 .0)) (List._∷_ Row.off (List._∷_ Row.off (List._∷_ Row.off (List._∷_ Row.off (List._∷_ Row.off (List._∷_ Row.off (List._∷_ Row.off (List._∷_ Row.dead (List._∷_ Row.alive (List._∷_ Row.alive (List._∷_ Row.alive (List._∷_ Row.off (List._∷_ Row.off (List._∷_ Row.off (List._∷_ Row.off (List._∷_ Row.off (List._∷_ Row.off (List._∷_ Row.off (List._∷_ Row.off List.[])))))))))))))))))))))) }
 
         abbrev G70 : Row.Cx
-        G70 = record { locals = List._++_ g47 (List._++_ t48 t2); slots = List._∷_ (Row.lease (κs .0) (qs .0)) (List._∷_ (Row.lease (κs .1 .0) (qs .1 .0)) (List._∷_ (Row.lease (κs .1 .1 .0) (qs .1 .1 .0)) (List._∷_ (Row.lease (κs .1 .1 .1 .0) (qs .1 .1 .1 .0)) (List._∷_ (Row.lease (κs .1 .1 .1 .1 .0) (qs .1 .1 .1 .1 .0)) (List._∷_ Row.off (List._∷_ Row.off (List._∷_ Row.off (List._∷_ Row.off (List._∷_ Row.off (List._∷_ Row.off (List._∷_ Row.off (List._∷_ Row.alive (List._∷_ Row.off (List._∷_ Row.off (List._∷_ Row.off (List._∷_ Row.off (List._∷_ Row.off (List._∷_ Row.off (List._∷_ Row.off (List._∷_ Row.off List.[])))))))))))))))))))) }
+        G70 = record { locals = List._++_ g50 (List._++_ t51 (List._++_ t47 t3)); slots = List._∷_ (Row.lease (κs .0) (qs .0)) (List._∷_ (Row.lease (κs .1 .0) (qs .1 .0)) (List._∷_ (Row.lease (κs .1 .1 .0) (qs .1 .1 .0)) (List._∷_ (Row.lease (κs .1 .1 .1 .0) (qs .1 .1 .1 .0)) (List._∷_ Row.off (List._∷_ Row.off (List._∷_ Row.off (List._∷_ Row.off (List._∷_ Row.off (List._∷_ Row.off (List._∷_ Row.off (List._∷_ Row.off (List._∷_ Row.alive (List._∷_ Row.alive (List._∷_ Row.alive (List._∷_ Row.off (List._∷_ Row.off (List._∷_ Row.off (List._∷_ Row.off (List._∷_ Row.off (List._∷_ Row.off (List._∷_ Row.off (List._∷_ Row.off List.[])))))))))))))))))))))) }
 
         abbrev G71 : Row.Cx
-        G71 = record { locals = List._++_ g47 (List._++_ t48 t2); slots = List._∷_ (Row.lease (κs .0) (qs .0)) (List._∷_ (Row.lease (κs .1 .0) (qs .1 .0)) (List._∷_ (Row.lease (κs .1 .1 .0) (qs .1 .1 .0)) (List._∷_ (Row.lease (κs .1 .1 .1 .0) (qs .1 .1 .1 .0)) (List._∷_ (Row.lease (κs .1 .1 .1 .1 .0) (qs .1 .1 .1 .1 .0)) (List._∷_ Row.off (List._∷_ Row.off (List._∷_ Row.off (List._∷_ Row.off (List._∷_ Row.off (List._∷_ Row.off (List._∷_ Row.off (List._∷_ Row.dead (List._∷_ Row.off (List._∷_ Row.off (List._∷_ Row.off (List._∷_ Row.off (List._∷_ Row.off (List._∷_ Row.off (List._∷_ Row.off (List._∷_ Row.off List.[])))))))))))))))))))) }
+        G71 = record { locals = List._++_ g50 (List._++_ t51 (List._++_ t47 t3)); slots = List._∷_ (Row.lease (κs .0) (qs .0)) (List._∷_ (Row.lease (κs .1 .0) (qs .1 .0)) (List._∷_ (Row.lease (κs .1 .1 .0) (qs .1 .1 .0)) (List._∷_ (Row.lease (κs .1 .1 .1 .0) (qs .1 .1 .1 .0)) (List._∷_ Row.off (List._∷_ Row.off (List._∷_ Row.off (List._∷_ Row.off (List._∷_ Row.off (List._∷_ Row.off (List._∷_ Row.off (List._∷_ Row.off (List._∷_ Row.dead (List._∷_ Row.alive (List._∷_ Row.alive (List._∷_ Row.off (List._∷_ Row.off (List._∷_ Row.off (List._∷_ Row.off (List._∷_ Row.off (List._∷_ Row.off (List._∷_ Row.off (List._∷_ Row.off List.[])))))))))))))))))))))) }
 
         abbrev G72 : Row.Cx
-        G72 = record { locals = List._++_ t49 (List._++_ t1 t2); slots = List._∷_ (Row.lease (κs .0) (qs .0)) (List._∷_ (Row.lease (κs .1 .0) (qs .1 .0)) (List._∷_ (Row.lease (κs .1 .1 .0) (qs .1 .1 .0)) (List._∷_ (Row.lease (κs .1 .1 .1 .0) (qs .1 .1 .1 .0)) (List._∷_ (Row.lease (κs .1 .1 .1 .1 .0) (qs .1 .1 .1 .1 .0)) (List._∷_ (Row.lease (κs .1 .1 .1 .1 .1 .0) (qs .1 .1 .1 .1 .1 .0)) (List._∷_ Row.off (List._∷_ Row.off (List._∷_ Row.off (List._∷_ Row.off (List._∷_ Row.off (List._∷_ Row.off (List._∷_ Row.dead (List._∷_ Row.off (List._∷_ Row.off (List._∷_ Row.off (List._∷_ Row.off (List._∷_ Row.off (List._∷_ Row.off (List._∷_ Row.off (List._∷_ Row.off List.[])))))))))))))))))))) }
+        G72 = record { locals = List._++_ g52 (List._++_ t53 (List._++_ t47 t3)); slots = List._∷_ (Row.lease (κs .0) (qs .0)) (List._∷_ (Row.lease (κs .1 .0) (qs .1 .0)) (List._∷_ (Row.lease (κs .1 .1 .0) (qs .1 .1 .0)) (List._∷_ (Row.lease (κs .1 .1 .1 .0) (qs .1 .1 .1 .0)) (List._∷_ (Row.lease (κs .1 .1 .1 .1 .0) (qs .1 .1 .1 .1 .0)) (List._∷_ Row.off (List._∷_ Row.off (List._∷_ Row.off (List._∷_ Row.off (List._∷_ Row.off (List._∷_ Row.off (List._∷_ Row.off (List._∷_ Row.dead (List._∷_ Row.alive (List._∷_ Row.alive (List._∷_ Row.off (List._∷_ Row.off (List._∷_ Row.off (List._∷_ Row.off (List._∷_ Row.off (List._∷_ Row.off (List._∷_ Row.off (List._∷_ Row.off List.[])))))))))))))))))))))) }
 
         abbrev G73 : Row.Cx
-        G73 = record { locals = List._++_ t49 (List._++_ t1 t2); slots = List._∷_ (Row.lease (κs .0) (qs .0)) (List._∷_ (Row.lease (κs .1 .0) (qs .1 .0)) (List._∷_ (Row.lease (κs .1 .1 .0) (qs .1 .1 .0)) (List._∷_ (Row.lease (κs .1 .1 .1 .0) (qs .1 .1 .1 .0)) (List._∷_ (Row.lease (κs .1 .1 .1 .1 .0) (qs .1 .1 .1 .1 .0)) (List._∷_ (Row.lease (κs .1 .1 .1 .1 .1 .0) (qs .1 .1 .1 .1 .1 .0)) (List._∷_ Row.off (List._∷_ Row.off (List._∷_ Row.off (List._∷_ Row.off (List._∷_ Row.off (List._∷_ Row.off (List._∷_ Row.dead (List._∷_ Row.off (List._∷_ Row.off (List._∷_ Row.off (List._∷_ Row.off (List._∷_ Row.off (List._∷_ Row.off (List._∷_ Row.off (List._∷_ Row.off List.[])))))))))))))))))))) }
+        G73 = record { locals = List._++_ g52 (List._++_ t53 (List._++_ t47 t3)); slots = List._∷_ (Row.lease (κs .0) (qs .0)) (List._∷_ (Row.lease (κs .1 .0) (qs .1 .0)) (List._∷_ (Row.lease (κs .1 .1 .0) (qs .1 .1 .0)) (List._∷_ (Row.lease (κs .1 .1 .1 .0) (qs .1 .1 .1 .0)) (List._∷_ (Row.lease (κs .1 .1 .1 .1 .0) (qs .1 .1 .1 .1 .0)) (List._∷_ Row.off (List._∷_ Row.off (List._∷_ Row.off (List._∷_ Row.off (List._∷_ Row.off (List._∷_ Row.off (List._∷_ Row.off (List._∷_ Row.dead (List._∷_ Row.alive (List._∷_ Row.alive (List._∷_ Row.off (List._∷_ Row.off (List._∷_ Row.off (List._∷_ Row.off (List._∷_ Row.off (List._∷_ Row.off (List._∷_ Row.off (List._∷_ Row.off List.[])))))))))))))))))))))) }
 
         abbrev G74 : Row.Cx
-        G74 = record { locals = List._++_ t49 (List._++_ t1 t2); slots = List._∷_ (Row.lease (κs .0) (qs .0)) (List._∷_ (Row.lease (κs .1 .0) (qs .1 .0)) (List._∷_ (Row.lease (κs .1 .1 .0) (qs .1 .1 .0)) (List._∷_ (Row.lease (κs .1 .1 .1 .0) (qs .1 .1 .1 .0)) (List._∷_ (Row.lease (κs .1 .1 .1 .1 .0) (qs .1 .1 .1 .1 .0)) (List._∷_ (Row.lease (κs .1 .1 .1 .1 .1 .0) (qs .1 .1 .1 .1 .1 .0)) (List._∷_ Row.off (List._∷_ Row.off (List._∷_ Row.off (List._∷_ Row.off (List._∷_ Row.off (List._∷_ Row.off (List._∷_ Row.off (List._∷_ Row.off (List._∷_ Row.off (List._∷_ Row.off (List._∷_ Row.off (List._∷_ Row.off (List._∷_ Row.off (List._∷_ Row.off (List._∷_ Row.off List.[])))))))))))))))))))) }
+        G74 = record { locals = List._++_ g52 (List._++_ t53 (List._++_ t47 t3)); slots = List._∷_ (Row.lease (κs .0) (qs .0)) (List._∷_ (Row.lease (κs .1 .0) (qs .1 .0)) (List._∷_ (Row.lease (κs .1 .1 .0) (qs .1 .1 .0)) (List._∷_ (Row.lease (κs .1 .1 .1 .0) (qs .1 .1 .1 .0)) (List._∷_ (Row.lease (κs .1 .1 .1 .1 .0) (qs .1 .1 .1 .1 .0)) (List._∷_ Row.off (List._∷_ Row.off (List._∷_ Row.off (List._∷_ Row.off (List._∷_ Row.off (List._∷_ Row.off (List._∷_ Row.off (List._∷_ Row.off (List._∷_ Row.alive (List._∷_ Row.alive (List._∷_ Row.off (List._∷_ Row.off (List._∷_ Row.off (List._∷_ Row.off (List._∷_ Row.off (List._∷_ Row.off (List._∷_ Row.off (List._∷_ Row.off List.[])))))))))))))))))))))) }
 
         abbrev G75 : Row.Cx
-        G75 = record { locals = List._++_ t50 (List._++_ t1 t2); slots = List._∷_ (Row.lease (κs .0) (qs .0)) (List._∷_ (Row.lease (κs .1 .0) (qs .1 .0)) (List._∷_ (Row.lease (κs .1 .1 .0) (qs .1 .1 .0)) (List._∷_ (Row.lease (κs .1 .1 .1 .0) (qs .1 .1 .1 .0)) (List._∷_ (Row.lease (κs .1 .1 .1 .1 .0) (qs .1 .1 .1 .1 .0)) (List._∷_ (Row.lease (κs .1 .1 .1 .1 .1 .0) (qs .1 .1 .1 .1 .1 .0)) (List._∷_ Row.off (List._∷_ Row.off (List._∷_ Row.off (List._∷_ Row.off (List._∷_ Row.off (List._∷_ Row.off (List._∷_ Row.off (List._∷_ Row.off (List._∷_ Row.off (List._∷_ Row.off (List._∷_ Row.off (List._∷_ Row.off (List._∷_ Row.off (List._∷_ Row.off (List._∷_ Row.off List.[])))))))))))))))))))) }
+        G75 = record { locals = List._++_ g52 (List._++_ t53 (List._++_ t47 t3)); slots = List._∷_ (Row.lease (κs .0) (qs .0)) (List._∷_ (Row.lease (κs .1 .0) (qs .1 .0)) (List._∷_ (Row.lease (κs .1 .1 .0) (qs .1 .1 .0)) (List._∷_ (Row.lease (κs .1 .1 .1 .0) (qs .1 .1 .1 .0)) (List._∷_ (Row.lease (κs .1 .1 .1 .1 .0) (qs .1 .1 .1 .1 .0)) (List._∷_ Row.off (List._∷_ Row.off (List._∷_ Row.off (List._∷_ Row.off (List._∷_ Row.off (List._∷_ Row.off (List._∷_ Row.off (List._∷_ Row.off (List._∷_ Row.dead (List._∷_ Row.alive (List._∷_ Row.off (List._∷_ Row.off (List._∷_ Row.off (List._∷_ Row.off (List._∷_ Row.off (List._∷_ Row.off (List._∷_ Row.off (List._∷_ Row.off List.[])))))))))))))))))))))) }
 
         abbrev G76 : Row.Cx
-        G76 = record { locals = List._++_ t50 (List._++_ t1 t2); slots = List._∷_ (Row.lease (κs .0) (qs .0)) (List._∷_ (Row.lease (κs .1 .0) (qs .1 .0)) (List._∷_ (Row.lease (κs .1 .1 .0) (qs .1 .1 .0)) (List._∷_ (Row.lease (κs .1 .1 .1 .0) (qs .1 .1 .1 .0)) (List._∷_ (Row.lease (κs .1 .1 .1 .1 .0) (qs .1 .1 .1 .1 .0)) (List._∷_ (Row.lease (κs .1 .1 .1 .1 .1 .0) (qs .1 .1 .1 .1 .1 .0)) (List._∷_ Row.off (List._∷_ Row.off (List._∷_ Row.off (List._∷_ Row.off (List._∷_ Row.off (List._∷_ Row.off (List._∷_ Row.off (List._∷_ Row.alive (List._∷_ Row.off (List._∷_ Row.off (List._∷_ Row.off (List._∷_ Row.off (List._∷_ Row.off (List._∷_ Row.off (List._∷_ Row.off List.[])))))))))))))))))))) }
+        G76 = record { locals = List._++_ g54 (List._++_ t1 (List._++_ t47 t3)); slots = List._∷_ (Row.lease (κs .0) (qs .0)) (List._∷_ (Row.lease (κs .1 .0) (qs .1 .0)) (List._∷_ (Row.lease (κs .1 .1 .0) (qs .1 .1 .0)) (List._∷_ (Row.lease (κs .1 .1 .1 .0) (qs .1 .1 .1 .0)) (List._∷_ (Row.lease (κs .1 .1 .1 .1 .0) (qs .1 .1 .1 .1 .0)) (List._∷_ (Row.lease (κs .1 .1 .1 .1 .1 .0) (qs .1 .1 .1 .1 .1 .0)) (List._∷_ Row.off (List._∷_ Row.off (List._∷_ Row.off (List._∷_ Row.off (List._∷_ Row.off (List._∷_ Row.off (List._∷_ Row.off (List._∷_ Row.dead (List._∷_ Row.alive (List._∷_ Row.off (List._∷_ Row.off (List._∷_ Row.off (List._∷_ Row.off (List._∷_ Row.off (List._∷_ Row.off (List._∷_ Row.off (List._∷_ Row.off List.[])))))))))))))))))))))) }
 
         abbrev G77 : Row.Cx
-        G77 = record { locals = List._++_ g51 (List._++_ t52 t2); slots = List._∷_ (Row.lease (κs .0) (qs .0)) (List._∷_ (Row.lease (κs .1 .0) (qs .1 .0)) (List._∷_ (Row.lease (κs .1 .1 .0) (qs .1 .1 .0)) (List._∷_ Row.off (List._∷_ (Row.lease (κs .1 .1 .1 .1 .0) (qs .1 .1 .1 .1 .0)) (List._∷_ (Row.lease (κs .1 .1 .1 .1 .1 .0) (qs .1 .1 .1 .1 .1 .0)) (List._∷_ Row.off (List._∷_ Row.off (List._∷_ Row.off (List._∷_ Row.off (List._∷_ Row.off (List._∷_ Row.off (List._∷_ Row.off (List._∷_ Row.alive (List._∷_ Row.off (List._∷_ Row.off (List._∷_ Row.off (List._∷_ Row.off (List._∷_ Row.off (List._∷_ Row.off (List._∷_ Row.off List.[])))))))))))))))))))) }
+        G77 = record { locals = List._++_ g54 (List._++_ t1 (List._++_ t47 t3)); slots = List._∷_ (Row.lease (κs .0) (qs .0)) (List._∷_ (Row.lease (κs .1 .0) (qs .1 .0)) (List._∷_ (Row.lease (κs .1 .1 .0) (qs .1 .1 .0)) (List._∷_ (Row.lease (κs .1 .1 .1 .0) (qs .1 .1 .1 .0)) (List._∷_ (Row.lease (κs .1 .1 .1 .1 .0) (qs .1 .1 .1 .1 .0)) (List._∷_ (Row.lease (κs .1 .1 .1 .1 .1 .0) (qs .1 .1 .1 .1 .1 .0)) (List._∷_ Row.off (List._∷_ Row.off (List._∷_ Row.off (List._∷_ Row.off (List._∷_ Row.off (List._∷_ Row.off (List._∷_ Row.off (List._∷_ Row.dead (List._∷_ Row.alive (List._∷_ Row.off (List._∷_ Row.off (List._∷_ Row.off (List._∷_ Row.off (List._∷_ Row.off (List._∷_ Row.off (List._∷_ Row.off (List._∷_ Row.off List.[])))))))))))))))))))))) }
 
         abbrev G78 : Row.Cx
-        G78 = record { locals = List._++_ g51 (List._++_ t1 t53); slots = List._∷_ (Row.lease (κs .0) (qs .0)) (List._∷_ (Row.lease (κs .1 .0) (qs .1 .0)) (List._∷_ (Row.lease (κs .1 .1 .0) (qs .1 .1 .0)) (List._∷_ Row.off (List._∷_ (Row.lease (κs .1 .1 .1 .1 .0) (qs .1 .1 .1 .1 .0)) (List._∷_ (Row.lease (κs .1 .1 .1 .1 .1 .0) (qs .1 .1 .1 .1 .1 .0)) (List._∷_ Row.off (List._∷_ Row.off (List._∷_ Row.off (List._∷_ Row.off (List._∷_ Row.off (List._∷_ Row.off (List._∷_ Row.off (List._∷_ Row.alive (List._∷_ Row.off (List._∷_ Row.off (List._∷_ Row.off (List._∷_ Row.off (List._∷_ Row.off (List._∷_ Row.off (List._∷_ Row.off List.[])))))))))))))))))))) }
+        G78 = record { locals = List._++_ g54 (List._++_ t1 (List._++_ t47 t3)); slots = List._∷_ (Row.lease (κs .0) (qs .0)) (List._∷_ (Row.lease (κs .1 .0) (qs .1 .0)) (List._∷_ (Row.lease (κs .1 .1 .0) (qs .1 .1 .0)) (List._∷_ (Row.lease (κs .1 .1 .1 .0) (qs .1 .1 .1 .0)) (List._∷_ (Row.lease (κs .1 .1 .1 .1 .0) (qs .1 .1 .1 .1 .0)) (List._∷_ (Row.lease (κs .1 .1 .1 .1 .1 .0) (qs .1 .1 .1 .1 .1 .0)) (List._∷_ Row.off (List._∷_ Row.off (List._∷_ Row.off (List._∷_ Row.off (List._∷_ Row.off (List._∷_ Row.off (List._∷_ Row.off (List._∷_ Row.off (List._∷_ Row.alive (List._∷_ Row.off (List._∷_ Row.off (List._∷_ Row.off (List._∷_ Row.off (List._∷_ Row.off (List._∷_ Row.off (List._∷_ Row.off (List._∷_ Row.off List.[])))))))))))))))))))))) }
 
         abbrev G79 : Row.Cx
-        G79 = record { locals = List._++_ g54 (List._++_ t1 t53); slots = List._∷_ (Row.lease (κs .0) (qs .0)) (List._∷_ (Row.lease (κs .1 .0) (qs .1 .0)) (List._∷_ (Row.lease (κs .1 .1 .0) (qs .1 .1 .0)) (List._∷_ Row.off (List._∷_ (Row.lease (κs .1 .1 .1 .1 .0) (qs .1 .1 .1 .1 .0)) (List._∷_ (Row.lease (κs .1 .1 .1 .1 .1 .0) (qs .1 .1 .1 .1 .1 .0)) (List._∷_ Row.off (List._∷_ Row.off (List._∷_ Row.off (List._∷_ Row.off (List._∷_ Row.off (List._∷_ Row.off (List._∷_ Row.off (List._∷_ Row.alive (List._∷_ Row.off (List._∷_ Row.off (List._∷_ Row.off (List._∷_ Row.off (List._∷_ Row.off (List._∷_ Row.off (List._∷_ Row.off List.[])))))))))))))))))))) }
+        G79 = record { locals = List._++_ g54 (List._++_ t1 (List._++_ t47 t3)); slots = List._∷_ (Row.lease (κs .0) (qs .0)) (List._∷_ (Row.lease (κs .1 .0) (qs .1 .0)) (List._∷_ (Row.lease (κs .1 .1 .0) (qs .1 .1 .0)) (List._∷_ (Row.lease (κs .1 .1 .1 .0) (qs .1 .1 .1 .0)) (List._∷_ (Row.lease (κs .1 .1 .1 .1 .0) (qs .1 .1 .1 .1 .0)) (List._∷_ (Row.lease (κs .1 .1 .1 .1 .1 .0) (qs .1 .1 .1 .1 .1 .0)) (List._∷_ Row.off (List._∷_ Row.off (List._∷_ Row.off (List._∷_ Row.off (List._∷_ Row.off (List._∷_ Row.off (List._∷_ Row.off (List._∷_ Row.off (List._∷_ Row.dead (List._∷_ Row.off (List._∷_ Row.off (List._∷_ Row.off (List._∷_ Row.off (List._∷_ Row.off (List._∷_ Row.off (List._∷_ Row.off (List._∷_ Row.off List.[])))))))))))))))))))))) }
 
         abbrev G80 : Row.Cx
-        G80 = record { locals = List._++_ g54 (List._++_ t1 t2); slots = List._∷_ (Row.lease (κs .0) (qs .0)) (List._∷_ (Row.lease (κs .1 .0) (qs .1 .0)) (List._∷_ (Row.lease (κs .1 .1 .0) (qs .1 .1 .0)) (List._∷_ Row.off (List._∷_ (Row.lease (κs .1 .1 .1 .1 .0) (qs .1 .1 .1 .1 .0)) (List._∷_ (Row.lease (κs .1 .1 .1 .1 .1 .0) (qs .1 .1 .1 .1 .1 .0)) (List._∷_ Row.off (List._∷_ Row.off (List._∷_ Row.off (List._∷_ Row.off (List._∷_ Row.off (List._∷_ Row.off (List._∷_ Row.off (List._∷_ Row.alive (List._∷_ Row.off (List._∷_ Row.off (List._∷_ Row.off (List._∷_ Row.off (List._∷_ Row.off (List._∷_ Row.off (List._∷_ Row.off List.[])))))))))))))))))))) }
+        G80 = record { locals = List._++_ t55 (List._++_ t1 (List._++_ t2 t3)); slots = List._∷_ (Row.lease (κs .0) (qs .0)) (List._∷_ (Row.lease (κs .1 .0) (qs .1 .0)) (List._∷_ (Row.lease (κs .1 .1 .0) (qs .1 .1 .0)) (List._∷_ (Row.lease (κs .1 .1 .1 .0) (qs .1 .1 .1 .0)) (List._∷_ (Row.lease (κs .1 .1 .1 .1 .0) (qs .1 .1 .1 .1 .0)) (List._∷_ (Row.lease (κs .1 .1 .1 .1 .1 .0) (qs .1 .1 .1 .1 .1 .0)) (List._∷_ (Row.lease (κs .1 .1 .1 .1 .1 .1 .0) (qs .1 .1 .1 .1 .1 .1 .0)) (List._∷_ Row.off (List._∷_ Row.off (List._∷_ Row.off (List._∷_ Row.off (List._∷_ Row.off (List._∷_ Row.off (List._∷_ Row.off (List._∷_ Row.dead (List._∷_ Row.off (List._∷_ Row.off (List._∷_ Row.off (List._∷_ Row.off (List._∷_ Row.off (List._∷_ Row.off (List._∷_ Row.off (List._∷_ Row.off List.[])))))))))))))))))))))) }
 
         abbrev G81 : Row.Cx
-        G81 = record { locals = List._++_ g54 (List._++_ t1 t2); slots = List._∷_ (Row.lease (κs .0) (qs .0)) (List._∷_ (Row.lease (κs .1 .0) (qs .1 .0)) (List._∷_ (Row.lease (κs .1 .1 .0) (qs .1 .1 .0)) (List._∷_ Row.off (List._∷_ (Row.lease (κs .1 .1 .1 .1 .0) (qs .1 .1 .1 .1 .0)) (List._∷_ (Row.lease (κs .1 .1 .1 .1 .1 .0) (qs .1 .1 .1 .1 .1 .0)) (List._∷_ Row.off (List._∷_ Row.off (List._∷_ Row.off (List._∷_ Row.off (List._∷_ Row.off (List._∷_ Row.off (List._∷_ Row.off (List._∷_ Row.dead (List._∷_ Row.off (List._∷_ Row.off (List._∷_ Row.off (List._∷_ Row.off (List._∷_ Row.off (List._∷_ Row.off (List._∷_ Row.off List.[])))))))))))))))))))) }
+        G81 = record { locals = List._++_ t55 (List._++_ t1 (List._++_ t2 t3)); slots = List._∷_ (Row.lease (κs .0) (qs .0)) (List._∷_ (Row.lease (κs .1 .0) (qs .1 .0)) (List._∷_ (Row.lease (κs .1 .1 .0) (qs .1 .1 .0)) (List._∷_ (Row.lease (κs .1 .1 .1 .0) (qs .1 .1 .1 .0)) (List._∷_ (Row.lease (κs .1 .1 .1 .1 .0) (qs .1 .1 .1 .1 .0)) (List._∷_ (Row.lease (κs .1 .1 .1 .1 .1 .0) (qs .1 .1 .1 .1 .1 .0)) (List._∷_ (Row.lease (κs .1 .1 .1 .1 .1 .1 .0) (qs .1 .1 .1 .1 .1 .1 .0)) (List._∷_ Row.off (List._∷_ Row.off (List._∷_ Row.off (List._∷_ Row.off (List._∷_ Row.off (List._∷_ Row.off (List._∷_ Row.off (List._∷_ Row.dead (List._∷_ Row.off (List._∷_ Row.off (List._∷_ Row.off (List._∷_ Row.off (List._∷_ Row.off (List._∷_ Row.off (List._∷_ Row.off (List._∷_ Row.off List.[])))))))))))))))))))))) }
 
         abbrev G82 : Row.Cx
-        G82 = record { locals = List._++_ t55 (List._++_ t1 t2); slots = List._∷_ (Row.lease (κs .0) (qs .0)) (List._∷_ (Row.lease (κs .1 .0) (qs .1 .0)) (List._∷_ (Row.lease (κs .1 .1 .0) (qs .1 .1 .0)) (List._∷_ (Row.lease (κs .1 .1 .1 .0) (qs .1 .1 .1 .0)) (List._∷_ (Row.lease (κs .1 .1 .1 .1 .0) (qs .1 .1 .1 .1 .0)) (List._∷_ (Row.lease (κs .1 .1 .1 .1 .1 .0) (qs .1 .1 .1 .1 .1 .0)) (List._∷_ Row.off (List._∷_ Row.off (List._∷_ Row.off (List._∷_ Row.off (List._∷_ Row.off (List._∷_ Row.off (List._∷_ Row.off (List._∷_ Row.dead (List._∷_ Row.off (List._∷_ Row.off (List._∷_ Row.off (List._∷_ Row.off (List._∷_ Row.off (List._∷_ Row.off (List._∷_ Row.off List.[])))))))))))))))))))) }
+        G82 = record { locals = List._++_ t55 (List._++_ t1 (List._++_ t2 t3)); slots = List._∷_ (Row.lease (κs .0) (qs .0)) (List._∷_ (Row.lease (κs .1 .0) (qs .1 .0)) (List._∷_ (Row.lease (κs .1 .1 .0) (qs .1 .1 .0)) (List._∷_ (Row.lease (κs .1 .1 .1 .0) (qs .1 .1 .1 .0)) (List._∷_ (Row.lease (κs .1 .1 .1 .1 .0) (qs .1 .1 .1 .1 .0)) (List._∷_ (Row.lease (κs .1 .1 .1 .1 .1 .0) (qs .1 .1 .1 .1 .1 .0)) (List._∷_ (Row.lease (κs .1 .1 .1 .1 .1 .1 .0) (qs .1 .1 .1 .1 .1 .1 .0)) (List._∷_ Row.off (List._∷_ Row.off (List._∷_ Row.off (List._∷_ Row.off (List._∷_ Row.off (List._∷_ Row.off (List._∷_ Row.off (List._∷_ Row.off (List._∷_ Row.off (List._∷_ Row.off (List._∷_ Row.off (List._∷_ Row.off (List._∷_ Row.off (List._∷_ Row.off (List._∷_ Row.off (List._∷_ Row.off List.[])))))))))))))))))))))) }
 
         abbrev G83 : Row.Cx
-        G83 = record { locals = List._++_ t55 (List._++_ t1 t2); slots = List._∷_ (Row.lease (κs .0) (qs .0)) (List._∷_ (Row.lease (κs .1 .0) (qs .1 .0)) (List._∷_ (Row.lease (κs .1 .1 .0) (qs .1 .1 .0)) (List._∷_ (Row.lease (κs .1 .1 .1 .0) (qs .1 .1 .1 .0)) (List._∷_ (Row.lease (κs .1 .1 .1 .1 .0) (qs .1 .1 .1 .1 .0)) (List._∷_ (Row.lease (κs .1 .1 .1 .1 .1 .0) (qs .1 .1 .1 .1 .1 .0)) (List._∷_ Row.off (List._∷_ Row.off (List._∷_ Row.off (List._∷_ Row.off (List._∷_ Row.off (List._∷_ Row.off (List._∷_ Row.off (List._∷_ Row.off (List._∷_ Row.off (List._∷_ Row.off (List._∷_ Row.off (List._∷_ Row.off (List._∷_ Row.off (List._∷_ Row.off (List._∷_ Row.off List.[])))))))))))))))))))) }
+        G83 = record { locals = List._++_ t56 (List._++_ t1 (List._++_ t2 t3)); slots = List._∷_ (Row.lease (κs .0) (qs .0)) (List._∷_ (Row.lease (κs .1 .0) (qs .1 .0)) (List._∷_ (Row.lease (κs .1 .1 .0) (qs .1 .1 .0)) (List._∷_ (Row.lease (κs .1 .1 .1 .0) (qs .1 .1 .1 .0)) (List._∷_ (Row.lease (κs .1 .1 .1 .1 .0) (qs .1 .1 .1 .1 .0)) (List._∷_ (Row.lease (κs .1 .1 .1 .1 .1 .0) (qs .1 .1 .1 .1 .1 .0)) (List._∷_ (Row.lease (κs .1 .1 .1 .1 .1 .1 .0) (qs .1 .1 .1 .1 .1 .1 .0)) (List._∷_ Row.off (List._∷_ Row.off (List._∷_ Row.off (List._∷_ Row.off (List._∷_ Row.off (List._∷_ Row.off (List._∷_ Row.off (List._∷_ Row.off (List._∷_ Row.off (List._∷_ Row.off (List._∷_ Row.off (List._∷_ Row.off (List._∷_ Row.off (List._∷_ Row.off (List._∷_ Row.off (List._∷_ Row.off List.[])))))))))))))))))))))) }
 
         abbrev G84 : Row.Cx
-        G84 = record { locals = List._++_ t55 (List._++_ t1 t2); slots = List._∷_ (Row.lease (κs .0) (qs .0)) (List._∷_ (Row.lease (κs .1 .0) (qs .1 .0)) (List._∷_ (Row.lease (κs .1 .1 .0) (qs .1 .1 .0)) (List._∷_ (Row.lease (κs .1 .1 .1 .0) (qs .1 .1 .1 .0)) (List._∷_ (Row.lease (κs .1 .1 .1 .1 .0) (qs .1 .1 .1 .1 .0)) (List._∷_ (Row.lease (κs .1 .1 .1 .1 .1 .0) (qs .1 .1 .1 .1 .1 .0)) (List._∷_ Row.off (List._∷_ Row.off (List._∷_ Row.off (List._∷_ Row.off (List._∷_ Row.off (List._∷_ Row.off (List._∷_ Row.off (List._∷_ Row.off (List._∷_ Row.alive (List._∷_ Row.off (List._∷_ Row.off (List._∷_ Row.off (List._∷_ Row.off (List._∷_ Row.off (List._∷_ Row.off List.[])))))))))))))))))))) }
+        G84 = record { locals = List._++_ t56 (List._++_ t1 (List._++_ t2 t3)); slots = List._∷_ (Row.lease (κs .0) (qs .0)) (List._∷_ (Row.lease (κs .1 .0) (qs .1 .0)) (List._∷_ (Row.lease (κs .1 .1 .0) (qs .1 .1 .0)) (List._∷_ (Row.lease (κs .1 .1 .1 .0) (qs .1 .1 .1 .0)) (List._∷_ (Row.lease (κs .1 .1 .1 .1 .0) (qs .1 .1 .1 .1 .0)) (List._∷_ (Row.lease (κs .1 .1 .1 .1 .1 .0) (qs .1 .1 .1 .1 .1 .0)) (List._∷_ (Row.lease (κs .1 .1 .1 .1 .1 .1 .0) (qs .1 .1 .1 .1 .1 .1 .0)) (List._∷_ Row.off (List._∷_ Row.off (List._∷_ Row.off (List._∷_ Row.off (List._∷_ Row.off (List._∷_ Row.off (List._∷_ Row.off (List._∷_ Row.off (List._∷_ Row.alive (List._∷_ Row.off (List._∷_ Row.off (List._∷_ Row.off (List._∷_ Row.off (List._∷_ Row.off (List._∷_ Row.off (List._∷_ Row.off List.[])))))))))))))))))))))) }
 
         abbrev G85 : Row.Cx
-        G85 = record { locals = List._++_ g56 (List._++_ t1 t57); slots = List._∷_ (Row.lease (κs .0) (qs .0)) (List._∷_ (Row.lease (κs .1 .0) (qs .1 .0)) (List._∷_ (Row.lease (κs .1 .1 .0) (qs .1 .1 .0)) (List._∷_ (Row.lease (κs .1 .1 .1 .0) (qs .1 .1 .1 .0)) (List._∷_ Row.off (List._∷_ (Row.lease (κs .1 .1 .1 .1 .1 .0) (qs .1 .1 .1 .1 .1 .0)) (List._∷_ Row.off (List._∷_ Row.off (List._∷_ Row.off (List._∷_ Row.off (List._∷_ Row.off (List._∷_ Row.off (List._∷_ Row.off (List._∷_ Row.off (List._∷_ Row.alive (List._∷_ Row.off (List._∷_ Row.off (List._∷_ Row.off (List._∷_ Row.off (List._∷_ Row.off (List._∷_ Row.off List.[])))))))))))))))))))) }
+        G85 = record { locals = List._++_ g57 (List._++_ t1 (List._++_ t58 t3)); slots = List._∷_ (Row.lease (κs .0) (qs .0)) (List._∷_ (Row.lease (κs .1 .0) (qs .1 .0)) (List._∷_ (Row.lease (κs .1 .1 .0) (qs .1 .1 .0)) (List._∷_ Row.off (List._∷_ (Row.lease (κs .1 .1 .1 .1 .0) (qs .1 .1 .1 .1 .0)) (List._∷_ (Row.lease (κs .1 .1 .1 .1 .1 .0) (qs .1 .1 .1 .1 .1 .0)) (List._∷_ (Row.lease (κs .1 .1 .1 .1 .1 .1 .0) (qs .1 .1 .1 .1 .1 .1 .0)) (List._∷_ Row.off (List._∷_ Row.off (List._∷_ Row.off (List._∷_ Row.off (List._∷_ Row.off (List._∷_ Row.off (List._∷_ Row.off (List._∷_ Row.off (List._∷_ Row.alive (List._∷_ Row.off (List._∷_ Row.off (List._∷_ Row.off (List._∷_ Row.off (List._∷_ Row.off (List._∷_ Row.off (List._∷_ Row.off List.[])))))))))))))))))))))) }
 
         abbrev G86 : Row.Cx
-        G86 = record { locals = List._++_ g56 (List._++_ t1 t58); slots = List._∷_ (Row.lease (κs .0) (qs .0)) (List._∷_ (Row.lease (κs .1 .0) (qs .1 .0)) (List._∷_ (Row.lease (κs .1 .1 .0) (qs .1 .1 .0)) (List._∷_ (Row.lease (κs .1 .1 .1 .0) (qs .1 .1 .1 .0)) (List._∷_ Row.off (List._∷_ (Row.lease (κs .1 .1 .1 .1 .1 .0) (qs .1 .1 .1 .1 .1 .0)) (List._∷_ Row.off (List._∷_ Row.off (List._∷_ Row.off (List._∷_ Row.off (List._∷_ Row.off (List._∷_ Row.off (List._∷_ Row.off (List._∷_ Row.off (List._∷_ Row.alive (List._∷_ Row.off (List._∷_ Row.off (List._∷_ Row.off (List._∷_ Row.off (List._∷_ Row.off (List._∷_ Row.off List.[])))))))))))))))))))) }
+        G86 = record { locals = List._++_ g57 (List._++_ t1 (List._++_ t59 t3)); slots = List._∷_ (Row.lease (κs .0) (qs .0)) (List._∷_ (Row.lease (κs .1 .0) (qs .1 .0)) (List._∷_ (Row.lease (κs .1 .1 .0) (qs .1 .1 .0)) (List._∷_ Row.off (List._∷_ (Row.lease (κs .1 .1 .1 .1 .0) (qs .1 .1 .1 .1 .0)) (List._∷_ (Row.lease (κs .1 .1 .1 .1 .1 .0) (qs .1 .1 .1 .1 .1 .0)) (List._∷_ (Row.lease (κs .1 .1 .1 .1 .1 .1 .0) (qs .1 .1 .1 .1 .1 .1 .0)) (List._∷_ Row.off (List._∷_ Row.off (List._∷_ Row.off (List._∷_ Row.off (List._∷_ Row.off (List._∷_ Row.off (List._∷_ Row.off (List._∷_ Row.off (List._∷_ Row.alive (List._∷_ Row.off (List._∷_ Row.off (List._∷_ Row.off (List._∷_ Row.off (List._∷_ Row.off (List._∷_ Row.off (List._∷_ Row.off List.[])))))))))))))))))))))) }
 
         abbrev G87 : Row.Cx
-        G87 = record { locals = List._++_ g56 (List._++_ t1 t58); slots = List._∷_ (Row.lease (κs .0) (qs .0)) (List._∷_ (Row.lease (κs .1 .0) (qs .1 .0)) (List._∷_ (Row.lease (κs .1 .1 .0) (qs .1 .1 .0)) (List._∷_ (Row.lease (κs .1 .1 .1 .0) (qs .1 .1 .1 .0)) (List._∷_ Row.off (List._∷_ (Row.lease (κs .1 .1 .1 .1 .1 .0) (qs .1 .1 .1 .1 .1 .0)) (List._∷_ Row.off (List._∷_ Row.off (List._∷_ Row.off (List._∷_ Row.off (List._∷_ Row.off (List._∷_ Row.off (List._∷_ Row.off (List._∷_ Row.off (List._∷_ Row.alive (List._∷_ Row.alive (List._∷_ Row.off (List._∷_ Row.off (List._∷_ Row.off (List._∷_ Row.off (List._∷_ Row.off List.[])))))))))))))))))))) }
+        G87 = record { locals = List._++_ g60 (List._++_ t1 (List._++_ t59 t3)); slots = List._∷_ (Row.lease (κs .0) (qs .0)) (List._∷_ (Row.lease (κs .1 .0) (qs .1 .0)) (List._∷_ (Row.lease (κs .1 .1 .0) (qs .1 .1 .0)) (List._∷_ Row.off (List._∷_ (Row.lease (κs .1 .1 .1 .1 .0) (qs .1 .1 .1 .1 .0)) (List._∷_ (Row.lease (κs .1 .1 .1 .1 .1 .0) (qs .1 .1 .1 .1 .1 .0)) (List._∷_ (Row.lease (κs .1 .1 .1 .1 .1 .1 .0) (qs .1 .1 .1 .1 .1 .1 .0)) (List._∷_ Row.off (List._∷_ Row.off (List._∷_ Row.off (List._∷_ Row.off (List._∷_ Row.off (List._∷_ Row.off (List._∷_ Row.off (List._∷_ Row.off (List._∷_ Row.alive (List._∷_ Row.off (List._∷_ Row.off (List._∷_ Row.off (List._∷_ Row.off (List._∷_ Row.off (List._∷_ Row.off (List._∷_ Row.off List.[])))))))))))))))))))))) }
 
         abbrev G88 : Row.Cx
-        G88 = record { locals = List._++_ g59 (List._++_ t1 t60); slots = List._∷_ (Row.lease (κs .0) (qs .0)) (List._∷_ (Row.lease (κs .1 .0) (qs .1 .0)) (List._∷_ (Row.lease (κs .1 .1 .0) (qs .1 .1 .0)) (List._∷_ (Row.lease (κs .1 .1 .1 .0) (qs .1 .1 .1 .0)) (List._∷_ Row.off (List._∷_ Row.off (List._∷_ Row.off (List._∷_ Row.off (List._∷_ Row.off (List._∷_ Row.off (List._∷_ Row.off (List._∷_ Row.off (List._∷_ Row.off (List._∷_ Row.off (List._∷_ Row.alive (List._∷_ Row.alive (List._∷_ Row.off (List._∷_ Row.off (List._∷_ Row.off (List._∷_ Row.off (List._∷_ Row.off List.[])))))))))))))))))))) }
+        G88 = record { locals = List._++_ g60 (List._++_ t1 (List._++_ t2 t3)); slots = List._∷_ (Row.lease (κs .0) (qs .0)) (List._∷_ (Row.lease (κs .1 .0) (qs .1 .0)) (List._∷_ (Row.lease (κs .1 .1 .0) (qs .1 .1 .0)) (List._∷_ Row.off (List._∷_ (Row.lease (κs .1 .1 .1 .1 .0) (qs .1 .1 .1 .1 .0)) (List._∷_ (Row.lease (κs .1 .1 .1 .1 .1 .0) (qs .1 .1 .1 .1 .1 .0)) (List._∷_ (Row.lease (κs .1 .1 .1 .1 .1 .1 .0) (qs .1 .1 .1 .1 .1 .1 .0)) (List._∷_ Row.off (List._∷_ Row.off (List._∷_ Row.off (List._∷_ Row.off (List._∷_ Row.off (List._∷_ Row.off (List._∷_ Row.off (List._∷_ Row.off (List._∷_ Row.alive (List._∷_ Row.off (List._∷_ Row.off (List._∷_ Row.off (List._∷_ Row.off (List._∷_ Row.off (List._∷_ Row.off (List._∷_ Row.off List.[])))))))))))))))))))))) }
 
         abbrev G89 : Row.Cx
-        G89 = record { locals = List._++_ g59 (List._++_ t1 t61); slots = List._∷_ (Row.lease (κs .0) (qs .0)) (List._∷_ (Row.lease (κs .1 .0) (qs .1 .0)) (List._∷_ (Row.lease (κs .1 .1 .0) (qs .1 .1 .0)) (List._∷_ (Row.lease (κs .1 .1 .1 .0) (qs .1 .1 .1 .0)) (List._∷_ Row.off (List._∷_ Row.off (List._∷_ Row.off (List._∷_ Row.off (List._∷_ Row.off (List._∷_ Row.off (List._∷_ Row.off (List._∷_ Row.off (List._∷_ Row.off (List._∷_ Row.off (List._∷_ Row.alive (List._∷_ Row.alive (List._∷_ Row.off (List._∷_ Row.off (List._∷_ Row.off (List._∷_ Row.off (List._∷_ Row.off List.[])))))))))))))))))))) }
+        G89 = record { locals = List._++_ g60 (List._++_ t1 (List._++_ t2 t3)); slots = List._∷_ (Row.lease (κs .0) (qs .0)) (List._∷_ (Row.lease (κs .1 .0) (qs .1 .0)) (List._∷_ (Row.lease (κs .1 .1 .0) (qs .1 .1 .0)) (List._∷_ Row.off (List._∷_ (Row.lease (κs .1 .1 .1 .1 .0) (qs .1 .1 .1 .1 .0)) (List._∷_ (Row.lease (κs .1 .1 .1 .1 .1 .0) (qs .1 .1 .1 .1 .1 .0)) (List._∷_ (Row.lease (κs .1 .1 .1 .1 .1 .1 .0) (qs .1 .1 .1 .1 .1 .1 .0)) (List._∷_ Row.off (List._∷_ Row.off (List._∷_ Row.off (List._∷_ Row.off (List._∷_ Row.off (List._∷_ Row.off (List._∷_ Row.off (List._∷_ Row.off (List._∷_ Row.dead (List._∷_ Row.off (List._∷_ Row.off (List._∷_ Row.off (List._∷_ Row.off (List._∷_ Row.off (List._∷_ Row.off (List._∷_ Row.off List.[])))))))))))))))))))))) }
 
         abbrev G90 : Row.Cx
-        G90 = record { locals = List._++_ g62 (List._++_ t1 t61); slots = List._∷_ (Row.lease (κs .0) (qs .0)) (List._∷_ (Row.lease (κs .1 .0) (qs .1 .0)) (List._∷_ (Row.lease (κs .1 .1 .0) (qs .1 .1 .0)) (List._∷_ (Row.lease (κs .1 .1 .1 .0) (qs .1 .1 .1 .0)) (List._∷_ Row.off (List._∷_ Row.off (List._∷_ Row.off (List._∷_ Row.off (List._∷_ Row.off (List._∷_ Row.off (List._∷_ Row.off (List._∷_ Row.off (List._∷_ Row.off (List._∷_ Row.off (List._∷_ Row.alive (List._∷_ Row.alive (List._∷_ Row.off (List._∷_ Row.off (List._∷_ Row.off (List._∷_ Row.off (List._∷_ Row.off List.[])))))))))))))))))))) }
+        G90 = record { locals = List._++_ t61 (List._++_ t1 (List._++_ t2 t3)); slots = List._∷_ (Row.lease (κs .0) (qs .0)) (List._∷_ (Row.lease (κs .1 .0) (qs .1 .0)) (List._∷_ (Row.lease (κs .1 .1 .0) (qs .1 .1 .0)) (List._∷_ (Row.lease (κs .1 .1 .1 .0) (qs .1 .1 .1 .0)) (List._∷_ (Row.lease (κs .1 .1 .1 .1 .0) (qs .1 .1 .1 .1 .0)) (List._∷_ (Row.lease (κs .1 .1 .1 .1 .1 .0) (qs .1 .1 .1 .1 .1 .0)) (List._∷_ (Row.lease (κs .1 .1 .1 .1 .1 .1 .0) (qs .1 .1 .1 .1 .1 .1 .0)) (List._∷_ Row.off (List._∷_ Row.off (List._∷_ Row.off (List._∷_ Row.off (List._∷_ Row.off (List._∷_ Row.off (List._∷_ Row.off (List._∷_ Row.off (List._∷_ Row.dead (List._∷_ Row.off (List._∷_ Row.off (List._∷_ Row.off (List._∷_ Row.off (List._∷_ Row.off (List._∷_ Row.off (List._∷_ Row.off List.[])))))))))))))))))))))) }
 
         abbrev G91 : Row.Cx
-        G91 = record { locals = List._++_ g62 (List._++_ t1 t63); slots = List._∷_ (Row.lease (κs .0) (qs .0)) (List._∷_ (Row.lease (κs .1 .0) (qs .1 .0)) (List._∷_ (Row.lease (κs .1 .1 .0) (qs .1 .1 .0)) (List._∷_ (Row.lease (κs .1 .1 .1 .0) (qs .1 .1 .1 .0)) (List._∷_ Row.off (List._∷_ Row.off (List._∷_ Row.off (List._∷_ Row.off (List._∷_ Row.off (List._∷_ Row.off (List._∷_ Row.off (List._∷_ Row.off (List._∷_ Row.off (List._∷_ Row.off (List._∷_ Row.alive (List._∷_ Row.alive (List._∷_ Row.off (List._∷_ Row.off (List._∷_ Row.off (List._∷_ Row.off (List._∷_ Row.off List.[])))))))))))))))))))) }
+        G91 = record { locals = List._++_ t61 (List._++_ t1 (List._++_ t2 t3)); slots = List._∷_ (Row.lease (κs .0) (qs .0)) (List._∷_ (Row.lease (κs .1 .0) (qs .1 .0)) (List._∷_ (Row.lease (κs .1 .1 .0) (qs .1 .1 .0)) (List._∷_ (Row.lease (κs .1 .1 .1 .0) (qs .1 .1 .1 .0)) (List._∷_ (Row.lease (κs .1 .1 .1 .1 .0) (qs .1 .1 .1 .1 .0)) (List._∷_ (Row.lease (κs .1 .1 .1 .1 .1 .0) (qs .1 .1 .1 .1 .1 .0)) (List._∷_ (Row.lease (κs .1 .1 .1 .1 .1 .1 .0) (qs .1 .1 .1 .1 .1 .1 .0)) (List._∷_ Row.off (List._∷_ Row.off (List._∷_ Row.off (List._∷_ Row.off (List._∷_ Row.off (List._∷_ Row.off (List._∷_ Row.off (List._∷_ Row.off (List._∷_ Row.off (List._∷_ Row.off (List._∷_ Row.off (List._∷_ Row.off (List._∷_ Row.off (List._∷_ Row.off (List._∷_ Row.off (List._∷_ Row.off List.[])))))))))))))))))))))) }
 
         abbrev G92 : Row.Cx
-        G92 = record { locals = List._++_ g62 (List._++_ t1 t2); slots = List._∷_ (Row.lease (κs .0) (qs .0)) (List._∷_ (Row.lease (κs .1 .0) (qs .1 .0)) (List._∷_ (Row.lease (κs .1 .1 .0) (qs .1 .1 .0)) (List._∷_ (Row.lease (κs .1 .1 .1 .0) (qs .1 .1 .1 .0)) (List._∷_ Row.off (List._∷_ Row.off (List._∷_ Row.off (List._∷_ Row.off (List._∷_ Row.off (List._∷_ Row.off (List._∷_ Row.off (List._∷_ Row.off (List._∷_ Row.off (List._∷_ Row.off (List._∷_ Row.alive (List._∷_ Row.alive (List._∷_ Row.off (List._∷_ Row.off (List._∷_ Row.off (List._∷_ Row.off (List._∷_ Row.off List.[])))))))))))))))))))) }
+        G92 = record { locals = List._++_ t61 (List._++_ t1 (List._++_ t2 t3)); slots = List._∷_ (Row.lease (κs .0) (qs .0)) (List._∷_ (Row.lease (κs .1 .0) (qs .1 .0)) (List._∷_ (Row.lease (κs .1 .1 .0) (qs .1 .1 .0)) (List._∷_ (Row.lease (κs .1 .1 .1 .0) (qs .1 .1 .1 .0)) (List._∷_ (Row.lease (κs .1 .1 .1 .1 .0) (qs .1 .1 .1 .1 .0)) (List._∷_ (Row.lease (κs .1 .1 .1 .1 .1 .0) (qs .1 .1 .1 .1 .1 .0)) (List._∷_ (Row.lease (κs .1 .1 .1 .1 .1 .1 .0) (qs .1 .1 .1 .1 .1 .1 .0)) (List._∷_ Row.off (List._∷_ Row.off (List._∷_ Row.off (List._∷_ Row.off (List._∷_ Row.off (List._∷_ Row.off (List._∷_ Row.off (List._∷_ Row.off (List._∷_ Row.off (List._∷_ Row.alive (List._∷_ Row.off (List._∷_ Row.off (List._∷_ Row.off (List._∷_ Row.off (List._∷_ Row.off (List._∷_ Row.off List.[])))))))))))))))))))))) }
 
         abbrev G93 : Row.Cx
-        G93 = record { locals = List._++_ g62 (List._++_ t1 t2); slots = List._∷_ (Row.lease (κs .0) (qs .0)) (List._∷_ (Row.lease (κs .1 .0) (qs .1 .0)) (List._∷_ (Row.lease (κs .1 .1 .0) (qs .1 .1 .0)) (List._∷_ (Row.lease (κs .1 .1 .1 .0) (qs .1 .1 .1 .0)) (List._∷_ Row.off (List._∷_ Row.off (List._∷_ Row.off (List._∷_ Row.off (List._∷_ Row.off (List._∷_ Row.off (List._∷_ Row.off (List._∷_ Row.off (List._∷_ Row.off (List._∷_ Row.off (List._∷_ Row.dead (List._∷_ Row.alive (List._∷_ Row.off (List._∷_ Row.off (List._∷_ Row.off (List._∷_ Row.off (List._∷_ Row.off List.[])))))))))))))))))))) }
+        G93 = record { locals = List._++_ g62 (List._++_ t1 (List._++_ t63 t3)); slots = List._∷_ (Row.lease (κs .0) (qs .0)) (List._∷_ (Row.lease (κs .1 .0) (qs .1 .0)) (List._∷_ (Row.lease (κs .1 .1 .0) (qs .1 .1 .0)) (List._∷_ (Row.lease (κs .1 .1 .1 .0) (qs .1 .1 .1 .0)) (List._∷_ Row.off (List._∷_ (Row.lease (κs .1 .1 .1 .1 .1 .0) (qs .1 .1 .1 .1 .1 .0)) (List._∷_ (Row.lease (κs .1 .1 .1 .1 .1 .1 .0) (qs .1 .1 .1 .1 .1 .1 .0)) (List._∷_ Row.off (List._∷_ Row.off (List._∷_ Row.off (List._∷_ Row.off (List._∷_ Row.off (List._∷_ Row.off (List._∷_ Row.off (List._∷_ Row.off (List._∷_ Row.off (List._∷_ Row.alive (List._∷_ Row.off (List._∷_ Row.off (List._∷_ Row.off (List._∷_ Row.off (List._∷_ Row.off (List._∷_ Row.off List.[])))))))))))))))))))))) }
 
         abbrev G94 : Row.Cx
-        G94 = record { locals = List._++_ g64 (List._++_ t1 t2); slots = List._∷_ (Row.lease (κs .0) (qs .0)) (List._∷_ (Row.lease (κs .1 .0) (qs .1 .0)) (List._∷_ (Row.lease (κs .1 .1 .0) (qs .1 .1 .0)) (List._∷_ (Row.lease (κs .1 .1 .1 .0) (qs .1 .1 .1 .0)) (List._∷_ (Row.lease (κs .1 .1 .1 .1 .0) (qs .1 .1 .1 .1 .0)) (List._∷_ Row.off (List._∷_ Row.off (List._∷_ Row.off (List._∷_ Row.off (List._∷_ Row.off (List._∷_ Row.off (List._∷_ Row.off (List._∷_ Row.off (List._∷_ Row.off (List._∷_ Row.dead (List._∷_ Row.alive (List._∷_ Row.off (List._∷_ Row.off (List._∷_ Row.off (List._∷_ Row.off (List._∷_ Row.off List.[])))))))))))))))))))) }
+        G94 = record { locals = List._++_ g62 (List._++_ t1 (List._++_ t64 t3)); slots = List._∷_ (Row.lease (κs .0) (qs .0)) (List._∷_ (Row.lease (κs .1 .0) (qs .1 .0)) (List._∷_ (Row.lease (κs .1 .1 .0) (qs .1 .1 .0)) (List._∷_ (Row.lease (κs .1 .1 .1 .0) (qs .1 .1 .1 .0)) (List._∷_ Row.off (List._∷_ (Row.lease (κs .1 .1 .1 .1 .1 .0) (qs .1 .1 .1 .1 .1 .0)) (List._∷_ (Row.lease (κs .1 .1 .1 .1 .1 .1 .0) (qs .1 .1 .1 .1 .1 .1 .0)) (List._∷_ Row.off (List._∷_ Row.off (List._∷_ Row.off (List._∷_ Row.off (List._∷_ Row.off (List._∷_ Row.off (List._∷_ Row.off (List._∷_ Row.off (List._∷_ Row.off (List._∷_ Row.alive (List._∷_ Row.off (List._∷_ Row.off (List._∷_ Row.off (List._∷_ Row.off (List._∷_ Row.off (List._∷_ Row.off List.[])))))))))))))))))))))) }
 
         abbrev G95 : Row.Cx
-        G95 = record { locals = List._++_ g64 (List._++_ t1 t2); slots = List._∷_ (Row.lease (κs .0) (qs .0)) (List._∷_ (Row.lease (κs .1 .0) (qs .1 .0)) (List._∷_ (Row.lease (κs .1 .1 .0) (qs .1 .1 .0)) (List._∷_ (Row.lease (κs .1 .1 .1 .0) (qs .1 .1 .1 .0)) (List._∷_ (Row.lease (κs .1 .1 .1 .1 .0) (qs .1 .1 .1 .1 .0)) (List._∷_ Row.off (List._∷_ Row.off (List._∷_ Row.off (List._∷_ Row.off (List._∷_ Row.off (List._∷_ Row.off (List._∷_ Row.off (List._∷_ Row.off (List._∷_ Row.off (List._∷_ Row.off (List._∷_ Row.alive (List._∷_ Row.off (List._∷_ Row.off (List._∷_ Row.off (List._∷_ Row.off (List._∷_ Row.off List.[])))))))))))))))))))) }
+        G95 = record { locals = List._++_ g62 (List._++_ t1 (List._++_ t64 t3)); slots = List._∷_ (Row.lease (κs .0) (qs .0)) (List._∷_ (Row.lease (κs .1 .0) (qs .1 .0)) (List._∷_ (Row.lease (κs .1 .1 .0) (qs .1 .1 .0)) (List._∷_ (Row.lease (κs .1 .1 .1 .0) (qs .1 .1 .1 .0)) (List._∷_ Row.off (List._∷_ (Row.lease (κs .1 .1 .1 .1 .1 .0) (qs .1 .1 .1 .1 .1 .0)) (List._∷_ (Row.lease (κs .1 .1 .1 .1 .1 .1 .0) (qs .1 .1 .1 .1 .1 .1 .0)) (List._∷_ Row.off (List._∷_ Row.off (List._∷_ Row.off (List._∷_ Row.off (List._∷_ Row.off (List._∷_ Row.off (List._∷_ Row.off (List._∷_ Row.off (List._∷_ Row.off (List._∷_ Row.alive (List._∷_ Row.alive (List._∷_ Row.off (List._∷_ Row.off (List._∷_ Row.off (List._∷_ Row.off (List._∷_ Row.off List.[])))))))))))))))))))))) }
 
         abbrev G96 : Row.Cx
-        G96 = record { locals = List._++_ g64 (List._++_ t1 t2); slots = List._∷_ (Row.lease (κs .0) (qs .0)) (List._∷_ (Row.lease (κs .1 .0) (qs .1 .0)) (List._∷_ (Row.lease (κs .1 .1 .0) (qs .1 .1 .0)) (List._∷_ (Row.lease (κs .1 .1 .1 .0) (qs .1 .1 .1 .0)) (List._∷_ (Row.lease (κs .1 .1 .1 .1 .0) (qs .1 .1 .1 .1 .0)) (List._∷_ Row.off (List._∷_ Row.off (List._∷_ Row.off (List._∷_ Row.off (List._∷_ Row.off (List._∷_ Row.off (List._∷_ Row.off (List._∷_ Row.off (List._∷_ Row.off (List._∷_ Row.off (List._∷_ Row.dead (List._∷_ Row.off (List._∷_ Row.off (List._∷_ Row.off (List._∷_ Row.off (List._∷_ Row.off List.[])))))))))))))))))))) }
+        G96 = record { locals = List._++_ g65 (List._++_ t1 (List._++_ t66 t3)); slots = List._∷_ (Row.lease (κs .0) (qs .0)) (List._∷_ (Row.lease (κs .1 .0) (qs .1 .0)) (List._∷_ (Row.lease (κs .1 .1 .0) (qs .1 .1 .0)) (List._∷_ (Row.lease (κs .1 .1 .1 .0) (qs .1 .1 .1 .0)) (List._∷_ Row.off (List._∷_ Row.off (List._∷_ (Row.lease (κs .1 .1 .1 .1 .1 .1 .0) (qs .1 .1 .1 .1 .1 .1 .0)) (List._∷_ Row.off (List._∷_ Row.off (List._∷_ Row.off (List._∷_ Row.off (List._∷_ Row.off (List._∷_ Row.off (List._∷_ Row.off (List._∷_ Row.off (List._∷_ Row.off (List._∷_ Row.alive (List._∷_ Row.alive (List._∷_ Row.off (List._∷_ Row.off (List._∷_ Row.off (List._∷_ Row.off (List._∷_ Row.off List.[])))))))))))))))))))))) }
 
         abbrev G97 : Row.Cx
-        G97 = record { locals = List._++_ t65 (List._++_ t1 t2); slots = List._∷_ (Row.lease (κs .0) (qs .0)) (List._∷_ (Row.lease (κs .1 .0) (qs .1 .0)) (List._∷_ (Row.lease (κs .1 .1 .0) (qs .1 .1 .0)) (List._∷_ (Row.lease (κs .1 .1 .1 .0) (qs .1 .1 .1 .0)) (List._∷_ (Row.lease (κs .1 .1 .1 .1 .0) (qs .1 .1 .1 .1 .0)) (List._∷_ (Row.lease (κs .1 .1 .1 .1 .1 .0) (qs .1 .1 .1 .1 .1 .0)) (List._∷_ Row.off (List._∷_ Row.off (List._∷_ Row.off (List._∷_ Row.off (List._∷_ Row.off (List._∷_ Row.off (List._∷_ Row.off (List._∷_ Row.off (List._∷_ Row.off (List._∷_ Row.dead (List._∷_ Row.off (List._∷_ Row.off (List._∷_ Row.off (List._∷_ Row.off (List._∷_ Row.off List.[])))))))))))))))))))) }
+        G97 = record { locals = List._++_ g65 (List._++_ t1 (List._++_ t67 t3)); slots = List._∷_ (Row.lease (κs .0) (qs .0)) (List._∷_ (Row.lease (κs .1 .0) (qs .1 .0)) (List._∷_ (Row.lease (κs .1 .1 .0) (qs .1 .1 .0)) (List._∷_ (Row.lease (κs .1 .1 .1 .0) (qs .1 .1 .1 .0)) (List._∷_ Row.off (List._∷_ Row.off (List._∷_ (Row.lease (κs .1 .1 .1 .1 .1 .1 .0) (qs .1 .1 .1 .1 .1 .1 .0)) (List._∷_ Row.off (List._∷_ Row.off (List._∷_ Row.off (List._∷_ Row.off (List._∷_ Row.off (List._∷_ Row.off (List._∷_ Row.off (List._∷_ Row.off (List._∷_ Row.off (List._∷_ Row.alive (List._∷_ Row.alive (List._∷_ Row.off (List._∷_ Row.off (List._∷_ Row.off (List._∷_ Row.off (List._∷_ Row.off List.[])))))))))))))))))))))) }
 
         abbrev G98 : Row.Cx
-        G98 = record { locals = List._++_ t65 (List._++_ t1 t2); slots = List._∷_ (Row.lease (κs .0) (qs .0)) (List._∷_ (Row.lease (κs .1 .0) (qs .1 .0)) (List._∷_ (Row.lease (κs .1 .1 .0) (qs .1 .1 .0)) (List._∷_ (Row.lease (κs .1 .1 .1 .0) (qs .1 .1 .1 .0)) (List._∷_ (Row.lease (κs .1 .1 .1 .1 .0) (qs .1 .1 .1 .1 .0)) (List._∷_ (Row.lease (κs .1 .1 .1 .1 .1 .0) (qs .1 .1 .1 .1 .1 .0)) (List._∷_ Row.off (List._∷_ Row.off (List._∷_ Row.off (List._∷_ Row.off (List._∷_ Row.off (List._∷_ Row.off (List._∷_ Row.off (List._∷_ Row.off (List._∷_ Row.off (List._∷_ Row.off (List._∷_ Row.off (List._∷_ Row.off (List._∷_ Row.off (List._∷_ Row.off (List._∷_ Row.off List.[])))))))))))))))))))) }
+        G98 = record { locals = List._++_ g68 (List._++_ t1 (List._++_ t67 t3)); slots = List._∷_ (Row.lease (κs .0) (qs .0)) (List._∷_ (Row.lease (κs .1 .0) (qs .1 .0)) (List._∷_ (Row.lease (κs .1 .1 .0) (qs .1 .1 .0)) (List._∷_ (Row.lease (κs .1 .1 .1 .0) (qs .1 .1 .1 .0)) (List._∷_ Row.off (List._∷_ Row.off (List._∷_ (Row.lease (κs .1 .1 .1 .1 .1 .1 .0) (qs .1 .1 .1 .1 .1 .1 .0)) (List._∷_ Row.off (List._∷_ Row.off (List._∷_ Row.off (List._∷_ Row.off (List._∷_ Row.off (List._∷_ Row.off (List._∷_ Row.off (List._∷_ Row.off (List._∷_ Row.off (List._∷_ Row.alive (List._∷_ Row.alive (List._∷_ Row.off (List._∷_ Row.off (List._∷_ Row.off (List._∷_ Row.off (List._∷_ Row.off List.[])))))))))))))))))))))) }
 
         abbrev G99 : Row.Cx
-        G99 = record { locals = List._++_ t65 (List._++_ t1 t2); slots = List._∷_ (Row.lease (κs .0) (qs .0)) (List._∷_ (Row.lease (κs .1 .0) (qs .1 .0)) (List._∷_ (Row.lease (κs .1 .1 .0) (qs .1 .1 .0)) (List._∷_ (Row.lease (κs .1 .1 .1 .0) (qs .1 .1 .1 .0)) (List._∷_ (Row.lease (κs .1 .1 .1 .1 .0) (qs .1 .1 .1 .1 .0)) (List._∷_ (Row.lease (κs .1 .1 .1 .1 .1 .0) (qs .1 .1 .1 .1 .1 .0)) (List._∷_ Row.off (List._∷_ Row.off (List._∷_ Row.off (List._∷_ Row.off (List._∷_ Row.off (List._∷_ Row.off (List._∷_ Row.off (List._∷_ Row.off (List._∷_ Row.off (List._∷_ Row.off (List._∷_ Row.alive (List._∷_ Row.off (List._∷_ Row.off (List._∷_ Row.off (List._∷_ Row.off List.[])))))))))))))))))))) }
+        G99 = record { locals = List._++_ g68 (List._++_ t1 (List._++_ t69 t3)); slots = List._∷_ (Row.lease (κs .0) (qs .0)) (List._∷_ (Row.lease (κs .1 .0) (qs .1 .0)) (List._∷_ (Row.lease (κs .1 .1 .0) (qs .1 .1 .0)) (List._∷_ (Row.lease (κs .1 .1 .1 .0) (qs .1 .1 .1 .0)) (List._∷_ Row.off (List._∷_ Row.off (List._∷_ (Row.lease (κs .1 .1 .1 .1 .1 .1 .0) (qs .1 .1 .1 .1 .1 .1 .0)) (List._∷_ Row.off (List._∷_ Row.off (List._∷_ Row.off (List._∷_ Row.off (List._∷_ Row.off (List._∷_ Row.off (List._∷_ Row.off (List._∷_ Row.off (List._∷_ Row.off (List._∷_ Row.alive (List._∷_ Row.alive (List._∷_ Row.off (List._∷_ Row.off (List._∷_ Row.off (List._∷_ Row.off (List._∷_ Row.off List.[])))))))))))))))))))))) }
 
         abbrev G100 : Row.Cx
-        G100 = record { locals = List._++_ g66 (List._++_ t1 t67); slots = List._∷_ (Row.lease (κs .0) (qs .0)) (List._∷_ (Row.lease (κs .1 .0) (qs .1 .0)) (List._∷_ (Row.lease (κs .1 .1 .0) (qs .1 .1 .0)) (List._∷_ Row.off (List._∷_ (Row.lease (κs .1 .1 .1 .1 .0) (qs .1 .1 .1 .1 .0)) (List._∷_ (Row.lease (κs .1 .1 .1 .1 .1 .0) (qs .1 .1 .1 .1 .1 .0)) (List._∷_ Row.off (List._∷_ Row.off (List._∷_ Row.off (List._∷_ Row.off (List._∷_ Row.off (List._∷_ Row.off (List._∷_ Row.off (List._∷_ Row.off (List._∷_ Row.off (List._∷_ Row.off (List._∷_ Row.alive (List._∷_ Row.off (List._∷_ Row.off (List._∷_ Row.off (List._∷_ Row.off List.[])))))))))))))))))))) }
+        G100 = record { locals = List._++_ g68 (List._++_ t1 (List._++_ t2 t3)); slots = List._∷_ (Row.lease (κs .0) (qs .0)) (List._∷_ (Row.lease (κs .1 .0) (qs .1 .0)) (List._∷_ (Row.lease (κs .1 .1 .0) (qs .1 .1 .0)) (List._∷_ (Row.lease (κs .1 .1 .1 .0) (qs .1 .1 .1 .0)) (List._∷_ Row.off (List._∷_ Row.off (List._∷_ (Row.lease (κs .1 .1 .1 .1 .1 .1 .0) (qs .1 .1 .1 .1 .1 .1 .0)) (List._∷_ Row.off (List._∷_ Row.off (List._∷_ Row.off (List._∷_ Row.off (List._∷_ Row.off (List._∷_ Row.off (List._∷_ Row.off (List._∷_ Row.off (List._∷_ Row.off (List._∷_ Row.alive (List._∷_ Row.alive (List._∷_ Row.off (List._∷_ Row.off (List._∷_ Row.off (List._∷_ Row.off (List._∷_ Row.off List.[])))))))))))))))))))))) }
 
         abbrev G101 : Row.Cx
-        G101 = record { locals = List._++_ g66 (List._++_ t1 t68); slots = List._∷_ (Row.lease (κs .0) (qs .0)) (List._∷_ (Row.lease (κs .1 .0) (qs .1 .0)) (List._∷_ (Row.lease (κs .1 .1 .0) (qs .1 .1 .0)) (List._∷_ Row.off (List._∷_ (Row.lease (κs .1 .1 .1 .1 .0) (qs .1 .1 .1 .1 .0)) (List._∷_ (Row.lease (κs .1 .1 .1 .1 .1 .0) (qs .1 .1 .1 .1 .1 .0)) (List._∷_ Row.off (List._∷_ Row.off (List._∷_ Row.off (List._∷_ Row.off (List._∷_ Row.off (List._∷_ Row.off (List._∷_ Row.off (List._∷_ Row.off (List._∷_ Row.off (List._∷_ Row.off (List._∷_ Row.alive (List._∷_ Row.off (List._∷_ Row.off (List._∷_ Row.off (List._∷_ Row.off List.[])))))))))))))))))))) }
+        G101 = record { locals = List._++_ g68 (List._++_ t1 (List._++_ t2 t3)); slots = List._∷_ (Row.lease (κs .0) (qs .0)) (List._∷_ (Row.lease (κs .1 .0) (qs .1 .0)) (List._∷_ (Row.lease (κs .1 .1 .0) (qs .1 .1 .0)) (List._∷_ (Row.lease (κs .1 .1 .1 .0) (qs .1 .1 .1 .0)) (List._∷_ Row.off (List._∷_ Row.off (List._∷_ (Row.lease (κs .1 .1 .1 .1 .1 .1 .0) (qs .1 .1 .1 .1 .1 .1 .0)) (List._∷_ Row.off (List._∷_ Row.off (List._∷_ Row.off (List._∷_ Row.off (List._∷_ Row.off (List._∷_ Row.off (List._∷_ Row.off (List._∷_ Row.off (List._∷_ Row.off (List._∷_ Row.dead (List._∷_ Row.alive (List._∷_ Row.off (List._∷_ Row.off (List._∷_ Row.off (List._∷_ Row.off (List._∷_ Row.off List.[])))))))))))))))))))))) }
 
         abbrev G102 : Row.Cx
-        G102 = record { locals = List._++_ g66 (List._++_ t1 t68); slots = List._∷_ (Row.lease (κs .0) (qs .0)) (List._∷_ (Row.lease (κs .1 .0) (qs .1 .0)) (List._∷_ (Row.lease (κs .1 .1 .0) (qs .1 .1 .0)) (List._∷_ Row.off (List._∷_ (Row.lease (κs .1 .1 .1 .1 .0) (qs .1 .1 .1 .1 .0)) (List._∷_ (Row.lease (κs .1 .1 .1 .1 .1 .0) (qs .1 .1 .1 .1 .1 .0)) (List._∷_ Row.off (List._∷_ Row.off (List._∷_ Row.off (List._∷_ Row.off (List._∷_ Row.off (List._∷_ Row.off (List._∷_ Row.off (List._∷_ Row.off (List._∷_ Row.off (List._∷_ Row.off (List._∷_ Row.alive (List._∷_ Row.alive (List._∷_ Row.off (List._∷_ Row.off (List._∷_ Row.off List.[])))))))))))))))))))) }
+        G102 = record { locals = List._++_ g70 (List._++_ t1 (List._++_ t2 t3)); slots = List._∷_ (Row.lease (κs .0) (qs .0)) (List._∷_ (Row.lease (κs .1 .0) (qs .1 .0)) (List._∷_ (Row.lease (κs .1 .1 .0) (qs .1 .1 .0)) (List._∷_ (Row.lease (κs .1 .1 .1 .0) (qs .1 .1 .1 .0)) (List._∷_ (Row.lease (κs .1 .1 .1 .1 .0) (qs .1 .1 .1 .1 .0)) (List._∷_ Row.off (List._∷_ (Row.lease (κs .1 .1 .1 .1 .1 .1 .0) (qs .1 .1 .1 .1 .1 .1 .0)) (List._∷_ Row.off (List._∷_ Row.off (List._∷_ Row.off (List._∷_ Row.off (List._∷_ Row.off (List._∷_ Row.off (List._∷_ Row.off (List._∷_ Row.off (List._∷_ Row.off (List._∷_ Row.dead (List._∷_ Row.alive (List._∷_ Row.off (List._∷_ Row.off (List._∷_ Row.off (List._∷_ Row.off (List._∷_ Row.off List.[])))))))))))))))))))))) }
 
         abbrev G103 : Row.Cx
-        G103 = record { locals = List._++_ g69 (List._++_ t1 t70); slots = List._∷_ (Row.lease (κs .0) (qs .0)) (List._∷_ (Row.lease (κs .1 .0) (qs .1 .0)) (List._∷_ (Row.lease (κs .1 .1 .0) (qs .1 .1 .0)) (List._∷_ Row.off (List._∷_ Row.off (List._∷_ (Row.lease (κs .1 .1 .1 .1 .1 .0) (qs .1 .1 .1 .1 .1 .0)) (List._∷_ Row.off (List._∷_ Row.off (List._∷_ Row.off (List._∷_ Row.off (List._∷_ Row.off (List._∷_ Row.off (List._∷_ Row.off (List._∷_ Row.off (List._∷_ Row.off (List._∷_ Row.off (List._∷_ Row.alive (List._∷_ Row.alive (List._∷_ Row.off (List._∷_ Row.off (List._∷_ Row.off List.[])))))))))))))))))))) }
+        G103 = record { locals = List._++_ g70 (List._++_ t1 (List._++_ t2 t3)); slots = List._∷_ (Row.lease (κs .0) (qs .0)) (List._∷_ (Row.lease (κs .1 .0) (qs .1 .0)) (List._∷_ (Row.lease (κs .1 .1 .0) (qs .1 .1 .0)) (List._∷_ (Row.lease (κs .1 .1 .1 .0) (qs .1 .1 .1 .0)) (List._∷_ (Row.lease (κs .1 .1 .1 .1 .0) (qs .1 .1 .1 .1 .0)) (List._∷_ Row.off (List._∷_ (Row.lease (κs .1 .1 .1 .1 .1 .1 .0) (qs .1 .1 .1 .1 .1 .1 .0)) (List._∷_ Row.off (List._∷_ Row.off (List._∷_ Row.off (List._∷_ Row.off (List._∷_ Row.off (List._∷_ Row.off (List._∷_ Row.off (List._∷_ Row.off (List._∷_ Row.off (List._∷_ Row.off (List._∷_ Row.alive (List._∷_ Row.off (List._∷_ Row.off (List._∷_ Row.off (List._∷_ Row.off (List._∷_ Row.off List.[])))))))))))))))))))))) }
 
         abbrev G104 : Row.Cx
-        G104 = record { locals = List._++_ g69 (List._++_ t1 t71); slots = List._∷_ (Row.lease (κs .0) (qs .0)) (List._∷_ (Row.lease (κs .1 .0) (qs .1 .0)) (List._∷_ (Row.lease (κs .1 .1 .0) (qs .1 .1 .0)) (List._∷_ Row.off (List._∷_ Row.off (List._∷_ (Row.lease (κs .1 .1 .1 .1 .1 .0) (qs .1 .1 .1 .1 .1 .0)) (List._∷_ Row.off (List._∷_ Row.off (List._∷_ Row.off (List._∷_ Row.off (List._∷_ Row.off (List._∷_ Row.off (List._∷_ Row.off (List._∷_ Row.off (List._∷_ Row.off (List._∷_ Row.off (List._∷_ Row.alive (List._∷_ Row.alive (List._∷_ Row.off (List._∷_ Row.off (List._∷_ Row.off List.[])))))))))))))))))))) }
+        G104 = record { locals = List._++_ g70 (List._++_ t1 (List._++_ t2 t3)); slots = List._∷_ (Row.lease (κs .0) (qs .0)) (List._∷_ (Row.lease (κs .1 .0) (qs .1 .0)) (List._∷_ (Row.lease (κs .1 .1 .0) (qs .1 .1 .0)) (List._∷_ (Row.lease (κs .1 .1 .1 .0) (qs .1 .1 .1 .0)) (List._∷_ (Row.lease (κs .1 .1 .1 .1 .0) (qs .1 .1 .1 .1 .0)) (List._∷_ Row.off (List._∷_ (Row.lease (κs .1 .1 .1 .1 .1 .1 .0) (qs .1 .1 .1 .1 .1 .1 .0)) (List._∷_ Row.off (List._∷_ Row.off (List._∷_ Row.off (List._∷_ Row.off (List._∷_ Row.off (List._∷_ Row.off (List._∷_ Row.off (List._∷_ Row.off (List._∷_ Row.off (List._∷_ Row.off (List._∷_ Row.dead (List._∷_ Row.off (List._∷_ Row.off (List._∷_ Row.off (List._∷_ Row.off (List._∷_ Row.off List.[])))))))))))))))))))))) }
 
         abbrev G105 : Row.Cx
-        G105 = record { locals = List._++_ g69 (List._++_ t1 t71); slots = List._∷_ (Row.lease (κs .0) (qs .0)) (List._∷_ (Row.lease (κs .1 .0) (qs .1 .0)) (List._∷_ (Row.lease (κs .1 .1 .0) (qs .1 .1 .0)) (List._∷_ Row.off (List._∷_ Row.off (List._∷_ (Row.lease (κs .1 .1 .1 .1 .1 .0) (qs .1 .1 .1 .1 .1 .0)) (List._∷_ Row.off (List._∷_ Row.off (List._∷_ Row.off (List._∷_ Row.off (List._∷_ Row.off (List._∷_ Row.off (List._∷_ Row.off (List._∷_ Row.off (List._∷_ Row.off (List._∷_ Row.off (List._∷_ Row.alive (List._∷_ Row.alive (List._∷_ Row.alive (List._∷_ Row.off (List._∷_ Row.off List.[])))))))))))))))))))) }
+        G105 = record { locals = List._++_ t71 (List._++_ t1 (List._++_ t2 t3)); slots = List._∷_ (Row.lease (κs .0) (qs .0)) (List._∷_ (Row.lease (κs .1 .0) (qs .1 .0)) (List._∷_ (Row.lease (κs .1 .1 .0) (qs .1 .1 .0)) (List._∷_ (Row.lease (κs .1 .1 .1 .0) (qs .1 .1 .1 .0)) (List._∷_ (Row.lease (κs .1 .1 .1 .1 .0) (qs .1 .1 .1 .1 .0)) (List._∷_ (Row.lease (κs .1 .1 .1 .1 .1 .0) (qs .1 .1 .1 .1 .1 .0)) (List._∷_ (Row.lease (κs .1 .1 .1 .1 .1 .1 .0) (qs .1 .1 .1 .1 .1 .1 .0)) (List._∷_ Row.off (List._∷_ Row.off (List._∷_ Row.off (List._∷_ Row.off (List._∷_ Row.off (List._∷_ Row.off (List._∷_ Row.off (List._∷_ Row.off (List._∷_ Row.off (List._∷_ Row.off (List._∷_ Row.dead (List._∷_ Row.off (List._∷_ Row.off (List._∷_ Row.off (List._∷_ Row.off (List._∷_ Row.off List.[])))))))))))))))))))))) }
 
         abbrev G106 : Row.Cx
-        G106 = record { locals = List._++_ g72 (List._++_ t1 t73); slots = List._∷_ (Row.lease (κs .0) (qs .0)) (List._∷_ (Row.lease (κs .1 .0) (qs .1 .0)) (List._∷_ (Row.lease (κs .1 .1 .0) (qs .1 .1 .0)) (List._∷_ Row.off (List._∷_ Row.off (List._∷_ Row.off (List._∷_ Row.off (List._∷_ Row.off (List._∷_ Row.off (List._∷_ Row.off (List._∷_ Row.off (List._∷_ Row.off (List._∷_ Row.off (List._∷_ Row.off (List._∷_ Row.off (List._∷_ Row.off (List._∷_ Row.alive (List._∷_ Row.alive (List._∷_ Row.alive (List._∷_ Row.off (List._∷_ Row.off List.[])))))))))))))))))))) }
+        G106 = record { locals = List._++_ t71 (List._++_ t1 (List._++_ t2 t3)); slots = List._∷_ (Row.lease (κs .0) (qs .0)) (List._∷_ (Row.lease (κs .1 .0) (qs .1 .0)) (List._∷_ (Row.lease (κs .1 .1 .0) (qs .1 .1 .0)) (List._∷_ (Row.lease (κs .1 .1 .1 .0) (qs .1 .1 .1 .0)) (List._∷_ (Row.lease (κs .1 .1 .1 .1 .0) (qs .1 .1 .1 .1 .0)) (List._∷_ (Row.lease (κs .1 .1 .1 .1 .1 .0) (qs .1 .1 .1 .1 .1 .0)) (List._∷_ (Row.lease (κs .1 .1 .1 .1 .1 .1 .0) (qs .1 .1 .1 .1 .1 .1 .0)) (List._∷_ Row.off (List._∷_ Row.off (List._∷_ Row.off (List._∷_ Row.off (List._∷_ Row.off (List._∷_ Row.off (List._∷_ Row.off (List._∷_ Row.off (List._∷_ Row.off (List._∷_ Row.off (List._∷_ Row.off (List._∷_ Row.off (List._∷_ Row.off (List._∷_ Row.off (List._∷_ Row.off (List._∷_ Row.off List.[])))))))))))))))))))))) }
 
         abbrev G107 : Row.Cx
-        G107 = record { locals = List._++_ g72 (List._++_ t1 t74); slots = List._∷_ (Row.lease (κs .0) (qs .0)) (List._∷_ (Row.lease (κs .1 .0) (qs .1 .0)) (List._∷_ (Row.lease (κs .1 .1 .0) (qs .1 .1 .0)) (List._∷_ Row.off (List._∷_ Row.off (List._∷_ Row.off (List._∷_ Row.off (List._∷_ Row.off (List._∷_ Row.off (List._∷_ Row.off (List._∷_ Row.off (List._∷_ Row.off (List._∷_ Row.off (List._∷_ Row.off (List._∷_ Row.off (List._∷_ Row.off (List._∷_ Row.alive (List._∷_ Row.alive (List._∷_ Row.alive (List._∷_ Row.off (List._∷_ Row.off List.[])))))))))))))))))))) }
+        G107 = record { locals = List._++_ t71 (List._++_ t1 (List._++_ t2 t3)); slots = List._∷_ (Row.lease (κs .0) (qs .0)) (List._∷_ (Row.lease (κs .1 .0) (qs .1 .0)) (List._∷_ (Row.lease (κs .1 .1 .0) (qs .1 .1 .0)) (List._∷_ (Row.lease (κs .1 .1 .1 .0) (qs .1 .1 .1 .0)) (List._∷_ (Row.lease (κs .1 .1 .1 .1 .0) (qs .1 .1 .1 .1 .0)) (List._∷_ (Row.lease (κs .1 .1 .1 .1 .1 .0) (qs .1 .1 .1 .1 .1 .0)) (List._∷_ (Row.lease (κs .1 .1 .1 .1 .1 .1 .0) (qs .1 .1 .1 .1 .1 .1 .0)) (List._∷_ Row.off (List._∷_ Row.off (List._∷_ Row.off (List._∷_ Row.off (List._∷_ Row.off (List._∷_ Row.off (List._∷_ Row.off (List._∷_ Row.off (List._∷_ Row.off (List._∷_ Row.off (List._∷_ Row.off (List._∷_ Row.alive (List._∷_ Row.off (List._∷_ Row.off (List._∷_ Row.off (List._∷_ Row.off List.[])))))))))))))))))))))) }
 
         abbrev G108 : Row.Cx
-        G108 = record { locals = List._++_ g72 (List._++_ t1 t75); slots = List._∷_ (Row.lease (κs .0) (qs .0)) (List._∷_ (Row.lease (κs .1 .0) (qs .1 .0)) (List._∷_ (Row.lease (κs .1 .1 .0) (qs .1 .1 .0)) (List._∷_ Row.off (List._∷_ Row.off (List._∷_ Row.off (List._∷_ Row.off (List._∷_ Row.off (List._∷_ Row.off (List._∷_ Row.off (List._∷_ Row.off (List._∷_ Row.off (List._∷_ Row.off (List._∷_ Row.off (List._∷_ Row.off (List._∷_ Row.off (List._∷_ Row.alive (List._∷_ Row.alive (List._∷_ Row.alive (List._∷_ Row.off (List._∷_ Row.off List.[])))))))))))))))))))) }
+        G108 = record { locals = List._++_ g72 (List._++_ t1 (List._++_ t73 t3)); slots = List._∷_ (Row.lease (κs .0) (qs .0)) (List._∷_ (Row.lease (κs .1 .0) (qs .1 .0)) (List._∷_ (Row.lease (κs .1 .1 .0) (qs .1 .1 .0)) (List._∷_ Row.off (List._∷_ (Row.lease (κs .1 .1 .1 .1 .0) (qs .1 .1 .1 .1 .0)) (List._∷_ (Row.lease (κs .1 .1 .1 .1 .1 .0) (qs .1 .1 .1 .1 .1 .0)) (List._∷_ (Row.lease (κs .1 .1 .1 .1 .1 .1 .0) (qs .1 .1 .1 .1 .1 .1 .0)) (List._∷_ Row.off (List._∷_ Row.off (List._∷_ Row.off (List._∷_ Row.off (List._∷_ Row.off (List._∷_ Row.off (List._∷_ Row.off (List._∷_ Row.off (List._∷_ Row.off (List._∷_ Row.off (List._∷_ Row.off (List._∷_ Row.alive (List._∷_ Row.off (List._∷_ Row.off (List._∷_ Row.off (List._∷_ Row.off List.[])))))))))))))))))))))) }
 
         abbrev G109 : Row.Cx
-        G109 = record { locals = List._++_ g72 (List._++_ t1 t76); slots = List._∷_ (Row.lease (κs .0) (qs .0)) (List._∷_ (Row.lease (κs .1 .0) (qs .1 .0)) (List._∷_ (Row.lease (κs .1 .1 .0) (qs .1 .1 .0)) (List._∷_ Row.off (List._∷_ Row.off (List._∷_ Row.off (List._∷_ Row.off (List._∷_ Row.off (List._∷_ Row.off (List._∷_ Row.off (List._∷_ Row.off (List._∷_ Row.off (List._∷_ Row.off (List._∷_ Row.off (List._∷_ Row.off (List._∷_ Row.off (List._∷_ Row.alive (List._∷_ Row.alive (List._∷_ Row.alive (List._∷_ Row.off (List._∷_ Row.off List.[])))))))))))))))))))) }
+        G109 = record { locals = List._++_ g72 (List._++_ t1 (List._++_ t74 t3)); slots = List._∷_ (Row.lease (κs .0) (qs .0)) (List._∷_ (Row.lease (κs .1 .0) (qs .1 .0)) (List._∷_ (Row.lease (κs .1 .1 .0) (qs .1 .1 .0)) (List._∷_ Row.off (List._∷_ (Row.lease (κs .1 .1 .1 .1 .0) (qs .1 .1 .1 .1 .0)) (List._∷_ (Row.lease (κs .1 .1 .1 .1 .1 .0) (qs .1 .1 .1 .1 .1 .0)) (List._∷_ (Row.lease (κs .1 .1 .1 .1 .1 .1 .0) (qs .1 .1 .1 .1 .1 .1 .0)) (List._∷_ Row.off (List._∷_ Row.off (List._∷_ Row.off (List._∷_ Row.off (List._∷_ Row.off (List._∷_ Row.off (List._∷_ Row.off (List._∷_ Row.off (List._∷_ Row.off (List._∷_ Row.off (List._∷_ Row.off (List._∷_ Row.alive (List._∷_ Row.off (List._∷_ Row.off (List._∷_ Row.off (List._∷_ Row.off List.[])))))))))))))))))))))) }
 
         abbrev G110 : Row.Cx
-        G110 = record { locals = List._++_ g77 (List._++_ t1 t76); slots = List._∷_ (Row.lease (κs .0) (qs .0)) (List._∷_ (Row.lease (κs .1 .0) (qs .1 .0)) (List._∷_ (Row.lease (κs .1 .1 .0) (qs .1 .1 .0)) (List._∷_ Row.off (List._∷_ Row.off (List._∷_ Row.off (List._∷_ Row.off (List._∷_ Row.off (List._∷_ Row.off (List._∷_ Row.off (List._∷_ Row.off (List._∷_ Row.off (List._∷_ Row.off (List._∷_ Row.off (List._∷_ Row.off (List._∷_ Row.off (List._∷_ Row.alive (List._∷_ Row.alive (List._∷_ Row.alive (List._∷_ Row.off (List._∷_ Row.off List.[])))))))))))))))))))) }
+        G110 = record { locals = List._++_ g72 (List._++_ t1 (List._++_ t74 t3)); slots = List._∷_ (Row.lease (κs .0) (qs .0)) (List._∷_ (Row.lease (κs .1 .0) (qs .1 .0)) (List._∷_ (Row.lease (κs .1 .1 .0) (qs .1 .1 .0)) (List._∷_ Row.off (List._∷_ (Row.lease (κs .1 .1 .1 .1 .0) (qs .1 .1 .1 .1 .0)) (List._∷_ (Row.lease (κs .1 .1 .1 .1 .1 .0) (qs .1 .1 .1 .1 .1 .0)) (List._∷_ (Row.lease (κs .1 .1 .1 .1 .1 .1 .0) (qs .1 .1 .1 .1 .1 .1 .0)) (List._∷_ Row.off (List._∷_ Row.off (List._∷_ Row.off (List._∷_ Row.off (List._∷_ Row.off (List._∷_ Row.off (List._∷_ Row.off (List._∷_ Row.off (List._∷_ Row.off (List._∷_ Row.off (List._∷_ Row.off (List._∷_ Row.alive (List._∷_ Row.alive (List._∷_ Row.off (List._∷_ Row.off (List._∷_ Row.off List.[])))))))))))))))))))))) }
 
         abbrev G111 : Row.Cx
-        G111 = record { locals = List._++_ g77 (List._++_ t1 t78); slots = List._∷_ (Row.lease (κs .0) (qs .0)) (List._∷_ (Row.lease (κs .1 .0) (qs .1 .0)) (List._∷_ (Row.lease (κs .1 .1 .0) (qs .1 .1 .0)) (List._∷_ Row.off (List._∷_ Row.off (List._∷_ Row.off (List._∷_ Row.off (List._∷_ Row.off (List._∷_ Row.off (List._∷_ Row.off (List._∷_ Row.off (List._∷_ Row.off (List._∷_ Row.off (List._∷_ Row.off (List._∷_ Row.off (List._∷_ Row.off (List._∷_ Row.alive (List._∷_ Row.alive (List._∷_ Row.alive (List._∷_ Row.off (List._∷_ Row.off List.[])))))))))))))))))))) }
+        G111 = record { locals = List._++_ g75 (List._++_ t1 (List._++_ t76 t3)); slots = List._∷_ (Row.lease (κs .0) (qs .0)) (List._∷_ (Row.lease (κs .1 .0) (qs .1 .0)) (List._∷_ (Row.lease (κs .1 .1 .0) (qs .1 .1 .0)) (List._∷_ Row.off (List._∷_ Row.off (List._∷_ (Row.lease (κs .1 .1 .1 .1 .1 .0) (qs .1 .1 .1 .1 .1 .0)) (List._∷_ (Row.lease (κs .1 .1 .1 .1 .1 .1 .0) (qs .1 .1 .1 .1 .1 .1 .0)) (List._∷_ Row.off (List._∷_ Row.off (List._∷_ Row.off (List._∷_ Row.off (List._∷_ Row.off (List._∷_ Row.off (List._∷_ Row.off (List._∷_ Row.off (List._∷_ Row.off (List._∷_ Row.off (List._∷_ Row.off (List._∷_ Row.alive (List._∷_ Row.alive (List._∷_ Row.off (List._∷_ Row.off (List._∷_ Row.off List.[])))))))))))))))))))))) }
 
         abbrev G112 : Row.Cx
-        G112 = record { locals = List._++_ g77 (List._++_ t1 t78); slots = List._∷_ (Row.lease (κs .0) (qs .0)) (List._∷_ (Row.lease (κs .1 .0) (qs .1 .0)) (List._∷_ (Row.lease (κs .1 .1 .0) (qs .1 .1 .0)) (List._∷_ Row.off (List._∷_ Row.off (List._∷_ Row.off (List._∷_ Row.off (List._∷_ Row.off (List._∷_ Row.off (List._∷_ Row.off (List._∷_ Row.off (List._∷_ Row.off (List._∷_ Row.off (List._∷_ Row.off (List._∷_ Row.off (List._∷_ Row.off (List._∷_ Row.dead (List._∷_ Row.alive (List._∷_ Row.alive (List._∷_ Row.off (List._∷_ Row.off List.[])))))))))))))))))))) }
+        G112 = record { locals = List._++_ g75 (List._++_ t1 (List._++_ t77 t3)); slots = List._∷_ (Row.lease (κs .0) (qs .0)) (List._∷_ (Row.lease (κs .1 .0) (qs .1 .0)) (List._∷_ (Row.lease (κs .1 .1 .0) (qs .1 .1 .0)) (List._∷_ Row.off (List._∷_ Row.off (List._∷_ (Row.lease (κs .1 .1 .1 .1 .1 .0) (qs .1 .1 .1 .1 .1 .0)) (List._∷_ (Row.lease (κs .1 .1 .1 .1 .1 .1 .0) (qs .1 .1 .1 .1 .1 .1 .0)) (List._∷_ Row.off (List._∷_ Row.off (List._∷_ Row.off (List._∷_ Row.off (List._∷_ Row.off (List._∷_ Row.off (List._∷_ Row.off (List._∷_ Row.off (List._∷_ Row.off (List._∷_ Row.off (List._∷_ Row.off (List._∷_ Row.alive (List._∷_ Row.alive (List._∷_ Row.off (List._∷_ Row.off (List._∷_ Row.off List.[])))))))))))))))))))))) }
 
         abbrev G113 : Row.Cx
-        G113 = record { locals = List._++_ g79 (List._++_ t1 t80); slots = List._∷_ (Row.lease (κs .0) (qs .0)) (List._∷_ (Row.lease (κs .1 .0) (qs .1 .0)) (List._∷_ (Row.lease (κs .1 .1 .0) (qs .1 .1 .0)) (List._∷_ (Row.lease (κs .1 .1 .1 .0) (qs .1 .1 .1 .0)) (List._∷_ Row.off (List._∷_ Row.off (List._∷_ Row.off (List._∷_ Row.off (List._∷_ Row.off (List._∷_ Row.off (List._∷_ Row.off (List._∷_ Row.off (List._∷_ Row.off (List._∷_ Row.off (List._∷_ Row.off (List._∷_ Row.off (List._∷_ Row.dead (List._∷_ Row.alive (List._∷_ Row.alive (List._∷_ Row.off (List._∷_ Row.off List.[])))))))))))))))))))) }
+        G113 = record { locals = List._++_ g75 (List._++_ t1 (List._++_ t77 t3)); slots = List._∷_ (Row.lease (κs .0) (qs .0)) (List._∷_ (Row.lease (κs .1 .0) (qs .1 .0)) (List._∷_ (Row.lease (κs .1 .1 .0) (qs .1 .1 .0)) (List._∷_ Row.off (List._∷_ Row.off (List._∷_ (Row.lease (κs .1 .1 .1 .1 .1 .0) (qs .1 .1 .1 .1 .1 .0)) (List._∷_ (Row.lease (κs .1 .1 .1 .1 .1 .1 .0) (qs .1 .1 .1 .1 .1 .1 .0)) (List._∷_ Row.off (List._∷_ Row.off (List._∷_ Row.off (List._∷_ Row.off (List._∷_ Row.off (List._∷_ Row.off (List._∷_ Row.off (List._∷_ Row.off (List._∷_ Row.off (List._∷_ Row.off (List._∷_ Row.off (List._∷_ Row.alive (List._∷_ Row.alive (List._∷_ Row.alive (List._∷_ Row.off (List._∷_ Row.off List.[])))))))))))))))))))))) }
 
         abbrev G114 : Row.Cx
-        G114 = record { locals = List._++_ g79 (List._++_ t1 t80); slots = List._∷_ (Row.lease (κs .0) (qs .0)) (List._∷_ (Row.lease (κs .1 .0) (qs .1 .0)) (List._∷_ (Row.lease (κs .1 .1 .0) (qs .1 .1 .0)) (List._∷_ (Row.lease (κs .1 .1 .1 .0) (qs .1 .1 .1 .0)) (List._∷_ Row.off (List._∷_ Row.off (List._∷_ Row.off (List._∷_ Row.off (List._∷_ Row.off (List._∷_ Row.off (List._∷_ Row.off (List._∷_ Row.off (List._∷_ Row.off (List._∷_ Row.off (List._∷_ Row.off (List._∷_ Row.off (List._∷_ Row.dead (List._∷_ Row.alive (List._∷_ Row.alive (List._∷_ Row.off (List._∷_ Row.off List.[])))))))))))))))))))) }
+        G114 = record { locals = List._++_ g78 (List._++_ t1 (List._++_ t79 t3)); slots = List._∷_ (Row.lease (κs .0) (qs .0)) (List._∷_ (Row.lease (κs .1 .0) (qs .1 .0)) (List._∷_ (Row.lease (κs .1 .1 .0) (qs .1 .1 .0)) (List._∷_ Row.off (List._∷_ Row.off (List._∷_ Row.off (List._∷_ (Row.lease (κs .1 .1 .1 .1 .1 .1 .0) (qs .1 .1 .1 .1 .1 .1 .0)) (List._∷_ Row.off (List._∷_ Row.off (List._∷_ Row.off (List._∷_ Row.off (List._∷_ Row.off (List._∷_ Row.off (List._∷_ Row.off (List._∷_ Row.off (List._∷_ Row.off (List._∷_ Row.off (List._∷_ Row.off (List._∷_ Row.alive (List._∷_ Row.alive (List._∷_ Row.alive (List._∷_ Row.off (List._∷_ Row.off List.[])))))))))))))))))))))) }
 
         abbrev G115 : Row.Cx
-        G115 = record { locals = List._++_ g79 (List._++_ t1 t80); slots = List._∷_ (Row.lease (κs .0) (qs .0)) (List._∷_ (Row.lease (κs .1 .0) (qs .1 .0)) (List._∷_ (Row.lease (κs .1 .1 .0) (qs .1 .1 .0)) (List._∷_ (Row.lease (κs .1 .1 .1 .0) (qs .1 .1 .1 .0)) (List._∷_ Row.off (List._∷_ Row.off (List._∷_ Row.off (List._∷_ Row.off (List._∷_ Row.off (List._∷_ Row.off (List._∷_ Row.off (List._∷_ Row.off (List._∷_ Row.off (List._∷_ Row.off (List._∷_ Row.off (List._∷_ Row.off (List._∷_ Row.off (List._∷_ Row.alive (List._∷_ Row.alive (List._∷_ Row.off (List._∷_ Row.off List.[])))))))))))))))))))) }
+        G115 = record { locals = List._++_ g78 (List._++_ t1 (List._++_ t80 t3)); slots = List._∷_ (Row.lease (κs .0) (qs .0)) (List._∷_ (Row.lease (κs .1 .0) (qs .1 .0)) (List._∷_ (Row.lease (κs .1 .1 .0) (qs .1 .1 .0)) (List._∷_ Row.off (List._∷_ Row.off (List._∷_ Row.off (List._∷_ (Row.lease (κs .1 .1 .1 .1 .1 .1 .0) (qs .1 .1 .1 .1 .1 .1 .0)) (List._∷_ Row.off (List._∷_ Row.off (List._∷_ Row.off (List._∷_ Row.off (List._∷_ Row.off (List._∷_ Row.off (List._∷_ Row.off (List._∷_ Row.off (List._∷_ Row.off (List._∷_ Row.off (List._∷_ Row.off (List._∷_ Row.alive (List._∷_ Row.alive (List._∷_ Row.alive (List._∷_ Row.off (List._∷_ Row.off List.[])))))))))))))))))))))) }
 
         abbrev G116 : Row.Cx
-        G116 = record { locals = List._++_ g79 (List._++_ t1 t80); slots = List._∷_ (Row.lease (κs .0) (qs .0)) (List._∷_ (Row.lease (κs .1 .0) (qs .1 .0)) (List._∷_ (Row.lease (κs .1 .1 .0) (qs .1 .1 .0)) (List._∷_ (Row.lease (κs .1 .1 .1 .0) (qs .1 .1 .1 .0)) (List._∷_ Row.off (List._∷_ Row.off (List._∷_ Row.off (List._∷_ Row.off (List._∷_ Row.off (List._∷_ Row.off (List._∷_ Row.off (List._∷_ Row.off (List._∷_ Row.off (List._∷_ Row.off (List._∷_ Row.off (List._∷_ Row.off (List._∷_ Row.off (List._∷_ Row.dead (List._∷_ Row.alive (List._∷_ Row.off (List._∷_ Row.off List.[])))))))))))))))))))) }
+        G116 = record { locals = List._++_ g78 (List._++_ t1 (List._++_ t81 t3)); slots = List._∷_ (Row.lease (κs .0) (qs .0)) (List._∷_ (Row.lease (κs .1 .0) (qs .1 .0)) (List._∷_ (Row.lease (κs .1 .1 .0) (qs .1 .1 .0)) (List._∷_ Row.off (List._∷_ Row.off (List._∷_ Row.off (List._∷_ (Row.lease (κs .1 .1 .1 .1 .1 .1 .0) (qs .1 .1 .1 .1 .1 .1 .0)) (List._∷_ Row.off (List._∷_ Row.off (List._∷_ Row.off (List._∷_ Row.off (List._∷_ Row.off (List._∷_ Row.off (List._∷_ Row.off (List._∷_ Row.off (List._∷_ Row.off (List._∷_ Row.off (List._∷_ Row.off (List._∷_ Row.alive (List._∷_ Row.alive (List._∷_ Row.alive (List._∷_ Row.off (List._∷_ Row.off List.[])))))))))))))))))))))) }
 
         abbrev G117 : Row.Cx
-        G117 = record { locals = List._++_ g81 (List._++_ t1 t2); slots = List._∷_ (Row.lease (κs .0) (qs .0)) (List._∷_ (Row.lease (κs .1 .0) (qs .1 .0)) (List._∷_ (Row.lease (κs .1 .1 .0) (qs .1 .1 .0)) (List._∷_ (Row.lease (κs .1 .1 .1 .0) (qs .1 .1 .1 .0)) (List._∷_ (Row.lease (κs .1 .1 .1 .1 .0) (qs .1 .1 .1 .1 .0)) (List._∷_ Row.off (List._∷_ Row.off (List._∷_ Row.off (List._∷_ Row.off (List._∷_ Row.off (List._∷_ Row.off (List._∷_ Row.off (List._∷_ Row.off (List._∷_ Row.off (List._∷_ Row.off (List._∷_ Row.off (List._∷_ Row.off (List._∷_ Row.dead (List._∷_ Row.alive (List._∷_ Row.off (List._∷_ Row.off List.[])))))))))))))))))))) }
+        G117 = record { locals = List._++_ g78 (List._++_ t1 (List._++_ t82 t3)); slots = List._∷_ (Row.lease (κs .0) (qs .0)) (List._∷_ (Row.lease (κs .1 .0) (qs .1 .0)) (List._∷_ (Row.lease (κs .1 .1 .0) (qs .1 .1 .0)) (List._∷_ Row.off (List._∷_ Row.off (List._∷_ Row.off (List._∷_ (Row.lease (κs .1 .1 .1 .1 .1 .1 .0) (qs .1 .1 .1 .1 .1 .1 .0)) (List._∷_ Row.off (List._∷_ Row.off (List._∷_ Row.off (List._∷_ Row.off (List._∷_ Row.off (List._∷_ Row.off (List._∷_ Row.off (List._∷_ Row.off (List._∷_ Row.off (List._∷_ Row.off (List._∷_ Row.off (List._∷_ Row.alive (List._∷_ Row.alive (List._∷_ Row.alive (List._∷_ Row.off (List._∷_ Row.off List.[])))))))))))))))))))))) }
 
         abbrev G118 : Row.Cx
-        G118 = record { locals = List._++_ g81 (List._++_ t1 t2); slots = List._∷_ (Row.lease (κs .0) (qs .0)) (List._∷_ (Row.lease (κs .1 .0) (qs .1 .0)) (List._∷_ (Row.lease (κs .1 .1 .0) (qs .1 .1 .0)) (List._∷_ (Row.lease (κs .1 .1 .1 .0) (qs .1 .1 .1 .0)) (List._∷_ (Row.lease (κs .1 .1 .1 .1 .0) (qs .1 .1 .1 .1 .0)) (List._∷_ Row.off (List._∷_ Row.off (List._∷_ Row.off (List._∷_ Row.off (List._∷_ Row.off (List._∷_ Row.off (List._∷_ Row.off (List._∷_ Row.off (List._∷_ Row.off (List._∷_ Row.off (List._∷_ Row.off (List._∷_ Row.off (List._∷_ Row.dead (List._∷_ Row.alive (List._∷_ Row.off (List._∷_ Row.off List.[])))))))))))))))))))) }
+        G118 = record { locals = List._++_ g83 (List._++_ t1 (List._++_ t82 t3)); slots = List._∷_ (Row.lease (κs .0) (qs .0)) (List._∷_ (Row.lease (κs .1 .0) (qs .1 .0)) (List._∷_ (Row.lease (κs .1 .1 .0) (qs .1 .1 .0)) (List._∷_ Row.off (List._∷_ Row.off (List._∷_ Row.off (List._∷_ (Row.lease (κs .1 .1 .1 .1 .1 .1 .0) (qs .1 .1 .1 .1 .1 .1 .0)) (List._∷_ Row.off (List._∷_ Row.off (List._∷_ Row.off (List._∷_ Row.off (List._∷_ Row.off (List._∷_ Row.off (List._∷_ Row.off (List._∷_ Row.off (List._∷_ Row.off (List._∷_ Row.off (List._∷_ Row.off (List._∷_ Row.alive (List._∷_ Row.alive (List._∷_ Row.alive (List._∷_ Row.off (List._∷_ Row.off List.[])))))))))))))))))))))) }
 
         abbrev G119 : Row.Cx
-        G119 = record { locals = List._++_ g81 (List._++_ t1 t2); slots = List._∷_ (Row.lease (κs .0) (qs .0)) (List._∷_ (Row.lease (κs .1 .0) (qs .1 .0)) (List._∷_ (Row.lease (κs .1 .1 .0) (qs .1 .1 .0)) (List._∷_ (Row.lease (κs .1 .1 .1 .0) (qs .1 .1 .1 .0)) (List._∷_ (Row.lease (κs .1 .1 .1 .1 .0) (qs .1 .1 .1 .1 .0)) (List._∷_ Row.off (List._∷_ Row.off (List._∷_ Row.off (List._∷_ Row.off (List._∷_ Row.off (List._∷_ Row.off (List._∷_ Row.off (List._∷_ Row.off (List._∷_ Row.off (List._∷_ Row.off (List._∷_ Row.off (List._∷_ Row.off (List._∷_ Row.off (List._∷_ Row.alive (List._∷_ Row.off (List._∷_ Row.off List.[])))))))))))))))))))) }
+        G119 = record { locals = List._++_ g83 (List._++_ t1 (List._++_ t84 t3)); slots = List._∷_ (Row.lease (κs .0) (qs .0)) (List._∷_ (Row.lease (κs .1 .0) (qs .1 .0)) (List._∷_ (Row.lease (κs .1 .1 .0) (qs .1 .1 .0)) (List._∷_ Row.off (List._∷_ Row.off (List._∷_ Row.off (List._∷_ (Row.lease (κs .1 .1 .1 .1 .1 .1 .0) (qs .1 .1 .1 .1 .1 .1 .0)) (List._∷_ Row.off (List._∷_ Row.off (List._∷_ Row.off (List._∷_ Row.off (List._∷_ Row.off (List._∷_ Row.off (List._∷_ Row.off (List._∷_ Row.off (List._∷_ Row.off (List._∷_ Row.off (List._∷_ Row.off (List._∷_ Row.alive (List._∷_ Row.alive (List._∷_ Row.alive (List._∷_ Row.off (List._∷_ Row.off List.[])))))))))))))))))))))) }
 
         abbrev G120 : Row.Cx
-        G120 = record { locals = List._++_ g81 (List._++_ t1 t2); slots = List._∷_ (Row.lease (κs .0) (qs .0)) (List._∷_ (Row.lease (κs .1 .0) (qs .1 .0)) (List._∷_ (Row.lease (κs .1 .1 .0) (qs .1 .1 .0)) (List._∷_ (Row.lease (κs .1 .1 .1 .0) (qs .1 .1 .1 .0)) (List._∷_ (Row.lease (κs .1 .1 .1 .1 .0) (qs .1 .1 .1 .1 .0)) (List._∷_ Row.off (List._∷_ Row.off (List._∷_ Row.off (List._∷_ Row.off (List._∷_ Row.off (List._∷_ Row.off (List._∷_ Row.off (List._∷_ Row.off (List._∷_ Row.off (List._∷_ Row.off (List._∷_ Row.off (List._∷_ Row.off (List._∷_ Row.off (List._∷_ Row.dead (List._∷_ Row.off (List._∷_ Row.off List.[])))))))))))))))))))) }
+        G120 = record { locals = List._++_ g83 (List._++_ t1 (List._++_ t84 t3)); slots = List._∷_ (Row.lease (κs .0) (qs .0)) (List._∷_ (Row.lease (κs .1 .0) (qs .1 .0)) (List._∷_ (Row.lease (κs .1 .1 .0) (qs .1 .1 .0)) (List._∷_ Row.off (List._∷_ Row.off (List._∷_ Row.off (List._∷_ (Row.lease (κs .1 .1 .1 .1 .1 .1 .0) (qs .1 .1 .1 .1 .1 .1 .0)) (List._∷_ Row.off (List._∷_ Row.off (List._∷_ Row.off (List._∷_ Row.off (List._∷_ Row.off (List._∷_ Row.off (List._∷_ Row.off (List._∷_ Row.off (List._∷_ Row.off (List._∷_ Row.off (List._∷_ Row.off (List._∷_ Row.dead (List._∷_ Row.alive (List._∷_ Row.alive (List._∷_ Row.off (List._∷_ Row.off List.[])))))))))))))))))))))) }
 
         abbrev G121 : Row.Cx
-        G121 = record { locals = List._++_ t29 (List._++_ t1 t2); slots = List._∷_ (Row.lease (κs .0) (qs .0)) (List._∷_ (Row.lease (κs .1 .0) (qs .1 .0)) (List._∷_ (Row.lease (κs .1 .1 .0) (qs .1 .1 .0)) (List._∷_ (Row.lease (κs .1 .1 .1 .0) (qs .1 .1 .1 .0)) (List._∷_ (Row.lease (κs .1 .1 .1 .1 .0) (qs .1 .1 .1 .1 .0)) (List._∷_ (Row.lease (κs .1 .1 .1 .1 .1 .0) (qs .1 .1 .1 .1 .1 .0)) (List._∷_ Row.off (List._∷_ Row.off (List._∷_ Row.off (List._∷_ Row.off (List._∷_ Row.off (List._∷_ Row.off (List._∷_ Row.off (List._∷_ Row.off (List._∷_ Row.off (List._∷_ Row.off (List._∷_ Row.off (List._∷_ Row.off (List._∷_ Row.dead (List._∷_ Row.off (List._∷_ Row.off List.[])))))))))))))))))))) }
+        G121 = record { locals = List._++_ g85 (List._++_ t1 (List._++_ t86 t3)); slots = List._∷_ (Row.lease (κs .0) (qs .0)) (List._∷_ (Row.lease (κs .1 .0) (qs .1 .0)) (List._∷_ (Row.lease (κs .1 .1 .0) (qs .1 .1 .0)) (List._∷_ (Row.lease (κs .1 .1 .1 .0) (qs .1 .1 .1 .0)) (List._∷_ Row.off (List._∷_ Row.off (List._∷_ (Row.lease (κs .1 .1 .1 .1 .1 .1 .0) (qs .1 .1 .1 .1 .1 .1 .0)) (List._∷_ Row.off (List._∷_ Row.off (List._∷_ Row.off (List._∷_ Row.off (List._∷_ Row.off (List._∷_ Row.off (List._∷_ Row.off (List._∷_ Row.off (List._∷_ Row.off (List._∷_ Row.off (List._∷_ Row.off (List._∷_ Row.dead (List._∷_ Row.alive (List._∷_ Row.alive (List._∷_ Row.off (List._∷_ Row.off List.[])))))))))))))))))))))) }
 
         abbrev G122 : Row.Cx
-        G122 = record { locals = List._++_ t29 (List._++_ t1 t2); slots = List._∷_ (Row.lease (κs .0) (qs .0)) (List._∷_ (Row.lease (κs .1 .0) (qs .1 .0)) (List._∷_ (Row.lease (κs .1 .1 .0) (qs .1 .1 .0)) (List._∷_ (Row.lease (κs .1 .1 .1 .0) (qs .1 .1 .1 .0)) (List._∷_ (Row.lease (κs .1 .1 .1 .1 .0) (qs .1 .1 .1 .1 .0)) (List._∷_ (Row.lease (κs .1 .1 .1 .1 .1 .0) (qs .1 .1 .1 .1 .1 .0)) (List._∷_ Row.off (List._∷_ Row.off (List._∷_ Row.off (List._∷_ Row.off (List._∷_ Row.off (List._∷_ Row.off (List._∷_ Row.off (List._∷_ Row.off (List._∷_ Row.off (List._∷_ Row.off (List._∷_ Row.off (List._∷_ Row.off (List._∷_ Row.off (List._∷_ Row.off (List._∷_ Row.off List.[])))))))))))))))))))) }
+        G122 = record { locals = List._++_ g85 (List._++_ t1 (List._++_ t86 t3)); slots = List._∷_ (Row.lease (κs .0) (qs .0)) (List._∷_ (Row.lease (κs .1 .0) (qs .1 .0)) (List._∷_ (Row.lease (κs .1 .1 .0) (qs .1 .1 .0)) (List._∷_ (Row.lease (κs .1 .1 .1 .0) (qs .1 .1 .1 .0)) (List._∷_ Row.off (List._∷_ Row.off (List._∷_ (Row.lease (κs .1 .1 .1 .1 .1 .1 .0) (qs .1 .1 .1 .1 .1 .1 .0)) (List._∷_ Row.off (List._∷_ Row.off (List._∷_ Row.off (List._∷_ Row.off (List._∷_ Row.off (List._∷_ Row.off (List._∷_ Row.off (List._∷_ Row.off (List._∷_ Row.off (List._∷_ Row.off (List._∷_ Row.off (List._∷_ Row.dead (List._∷_ Row.alive (List._∷_ Row.alive (List._∷_ Row.off (List._∷_ Row.off List.[])))))))))))))))))))))) }
 
         abbrev G123 : Row.Cx
-        G123 = record { locals = List._++_ t29 (List._++_ t1 t2); slots = List._∷_ (Row.lease (κs .0) (qs .0)) (List._∷_ (Row.lease (κs .1 .0) (qs .1 .0)) (List._∷_ (Row.lease (κs .1 .1 .0) (qs .1 .1 .0)) (List._∷_ (Row.lease (κs .1 .1 .1 .0) (qs .1 .1 .1 .0)) (List._∷_ (Row.lease (κs .1 .1 .1 .1 .0) (qs .1 .1 .1 .1 .0)) (List._∷_ (Row.lease (κs .1 .1 .1 .1 .1 .0) (qs .1 .1 .1 .1 .1 .0)) (List._∷_ Row.off (List._∷_ Row.off (List._∷_ Row.off (List._∷_ Row.off (List._∷_ Row.off (List._∷_ Row.off (List._∷_ Row.off (List._∷_ Row.off (List._∷_ Row.off (List._∷_ Row.off (List._∷_ Row.off (List._∷_ Row.off (List._∷_ Row.off (List._∷_ Row.off (List._∷_ Row.off List.[])))))))))))))))))))) }
+        G123 = record { locals = List._++_ g85 (List._++_ t1 (List._++_ t86 t3)); slots = List._∷_ (Row.lease (κs .0) (qs .0)) (List._∷_ (Row.lease (κs .1 .0) (qs .1 .0)) (List._∷_ (Row.lease (κs .1 .1 .0) (qs .1 .1 .0)) (List._∷_ (Row.lease (κs .1 .1 .1 .0) (qs .1 .1 .1 .0)) (List._∷_ Row.off (List._∷_ Row.off (List._∷_ (Row.lease (κs .1 .1 .1 .1 .1 .1 .0) (qs .1 .1 .1 .1 .1 .1 .0)) (List._∷_ Row.off (List._∷_ Row.off (List._∷_ Row.off (List._∷_ Row.off (List._∷_ Row.off (List._∷_ Row.off (List._∷_ Row.off (List._∷_ Row.off (List._∷_ Row.off (List._∷_ Row.off (List._∷_ Row.off (List._∷_ Row.off (List._∷_ Row.alive (List._∷_ Row.alive (List._∷_ Row.off (List._∷_ Row.off List.[])))))))))))))))))))))) }
 
         abbrev G124 : Row.Cx
-        G124 = record { locals = List._++_ t29 (List._++_ t1 t2); slots = List._∷_ (Row.lease (κs .0) (qs .0)) (List._∷_ (Row.lease (κs .1 .0) (qs .1 .0)) (List._∷_ (Row.lease (κs .1 .1 .0) (qs .1 .1 .0)) (List._∷_ (Row.lease (κs .1 .1 .1 .0) (qs .1 .1 .1 .0)) (List._∷_ (Row.lease (κs .1 .1 .1 .1 .0) (qs .1 .1 .1 .1 .0)) (List._∷_ (Row.lease (κs .1 .1 .1 .1 .1 .0) (qs .1 .1 .1 .1 .1 .0)) (List._∷_ Row.off (List._∷_ Row.off (List._∷_ Row.off (List._∷_ Row.off (List._∷_ Row.off (List._∷_ Row.off (List._∷_ Row.off (List._∷_ Row.off (List._∷_ Row.off (List._∷_ Row.off (List._∷_ Row.off (List._∷_ Row.off (List._∷_ Row.off (List._∷_ Row.alive (List._∷_ Row.off List.[])))))))))))))))))))) }
+        G124 = record { locals = List._++_ g85 (List._++_ t1 (List._++_ t86 t3)); slots = List._∷_ (Row.lease (κs .0) (qs .0)) (List._∷_ (Row.lease (κs .1 .0) (qs .1 .0)) (List._∷_ (Row.lease (κs .1 .1 .0) (qs .1 .1 .0)) (List._∷_ (Row.lease (κs .1 .1 .1 .0) (qs .1 .1 .1 .0)) (List._∷_ Row.off (List._∷_ Row.off (List._∷_ (Row.lease (κs .1 .1 .1 .1 .1 .1 .0) (qs .1 .1 .1 .1 .1 .1 .0)) (List._∷_ Row.off (List._∷_ Row.off (List._∷_ Row.off (List._∷_ Row.off (List._∷_ Row.off (List._∷_ Row.off (List._∷_ Row.off (List._∷_ Row.off (List._∷_ Row.off (List._∷_ Row.off (List._∷_ Row.off (List._∷_ Row.off (List._∷_ Row.dead (List._∷_ Row.alive (List._∷_ Row.off (List._∷_ Row.off List.[])))))))))))))))))))))) }
 
         abbrev G125 : Row.Cx
-        G125 = record { locals = List._++_ g82 (List._++_ t1 t83); slots = List._∷_ (Row.lease (κs .0) (qs .0)) (List._∷_ (Row.lease (κs .1 .0) (qs .1 .0)) (List._∷_ (Row.lease (κs .1 .1 .0) (qs .1 .1 .0)) (List._∷_ Row.off (List._∷_ (Row.lease (κs .1 .1 .1 .1 .0) (qs .1 .1 .1 .1 .0)) (List._∷_ (Row.lease (κs .1 .1 .1 .1 .1 .0) (qs .1 .1 .1 .1 .1 .0)) (List._∷_ Row.off (List._∷_ Row.off (List._∷_ Row.off (List._∷_ Row.off (List._∷_ Row.off (List._∷_ Row.off (List._∷_ Row.off (List._∷_ Row.off (List._∷_ Row.off (List._∷_ Row.off (List._∷_ Row.off (List._∷_ Row.off (List._∷_ Row.off (List._∷_ Row.alive (List._∷_ Row.off List.[])))))))))))))))))))) }
+        G125 = record { locals = List._++_ g87 (List._++_ t1 (List._++_ t2 t3)); slots = List._∷_ (Row.lease (κs .0) (qs .0)) (List._∷_ (Row.lease (κs .1 .0) (qs .1 .0)) (List._∷_ (Row.lease (κs .1 .1 .0) (qs .1 .1 .0)) (List._∷_ (Row.lease (κs .1 .1 .1 .0) (qs .1 .1 .1 .0)) (List._∷_ (Row.lease (κs .1 .1 .1 .1 .0) (qs .1 .1 .1 .1 .0)) (List._∷_ Row.off (List._∷_ (Row.lease (κs .1 .1 .1 .1 .1 .1 .0) (qs .1 .1 .1 .1 .1 .1 .0)) (List._∷_ Row.off (List._∷_ Row.off (List._∷_ Row.off (List._∷_ Row.off (List._∷_ Row.off (List._∷_ Row.off (List._∷_ Row.off (List._∷_ Row.off (List._∷_ Row.off (List._∷_ Row.off (List._∷_ Row.off (List._∷_ Row.off (List._∷_ Row.dead (List._∷_ Row.alive (List._∷_ Row.off (List._∷_ Row.off List.[])))))))))))))))))))))) }
 
         abbrev G126 : Row.Cx
-        G126 = record { locals = List._++_ g82 (List._++_ t1 t84); slots = List._∷_ (Row.lease (κs .0) (qs .0)) (List._∷_ (Row.lease (κs .1 .0) (qs .1 .0)) (List._∷_ (Row.lease (κs .1 .1 .0) (qs .1 .1 .0)) (List._∷_ Row.off (List._∷_ (Row.lease (κs .1 .1 .1 .1 .0) (qs .1 .1 .1 .1 .0)) (List._∷_ (Row.lease (κs .1 .1 .1 .1 .1 .0) (qs .1 .1 .1 .1 .1 .0)) (List._∷_ Row.off (List._∷_ Row.off (List._∷_ Row.off (List._∷_ Row.off (List._∷_ Row.off (List._∷_ Row.off (List._∷_ Row.off (List._∷_ Row.off (List._∷_ Row.off (List._∷_ Row.off (List._∷_ Row.off (List._∷_ Row.off (List._∷_ Row.off (List._∷_ Row.alive (List._∷_ Row.off List.[])))))))))))))))))))) }
+        G126 = record { locals = List._++_ g87 (List._++_ t1 (List._++_ t2 t3)); slots = List._∷_ (Row.lease (κs .0) (qs .0)) (List._∷_ (Row.lease (κs .1 .0) (qs .1 .0)) (List._∷_ (Row.lease (κs .1 .1 .0) (qs .1 .1 .0)) (List._∷_ (Row.lease (κs .1 .1 .1 .0) (qs .1 .1 .1 .0)) (List._∷_ (Row.lease (κs .1 .1 .1 .1 .0) (qs .1 .1 .1 .1 .0)) (List._∷_ Row.off (List._∷_ (Row.lease (κs .1 .1 .1 .1 .1 .1 .0) (qs .1 .1 .1 .1 .1 .1 .0)) (List._∷_ Row.off (List._∷_ Row.off (List._∷_ Row.off (List._∷_ Row.off (List._∷_ Row.off (List._∷_ Row.off (List._∷_ Row.off (List._∷_ Row.off (List._∷_ Row.off (List._∷_ Row.off (List._∷_ Row.off (List._∷_ Row.off (List._∷_ Row.dead (List._∷_ Row.alive (List._∷_ Row.off (List._∷_ Row.off List.[])))))))))))))))))))))) }
 
         abbrev G127 : Row.Cx
-        G127 = record { locals = List._++_ g82 (List._++_ t1 t84); slots = List._∷_ (Row.lease (κs .0) (qs .0)) (List._∷_ (Row.lease (κs .1 .0) (qs .1 .0)) (List._∷_ (Row.lease (κs .1 .1 .0) (qs .1 .1 .0)) (List._∷_ Row.off (List._∷_ (Row.lease (κs .1 .1 .1 .1 .0) (qs .1 .1 .1 .1 .0)) (List._∷_ (Row.lease (κs .1 .1 .1 .1 .1 .0) (qs .1 .1 .1 .1 .1 .0)) (List._∷_ Row.off (List._∷_ Row.off (List._∷_ Row.off (List._∷_ Row.off (List._∷_ Row.off (List._∷_ Row.off (List._∷_ Row.off (List._∷_ Row.off (List._∷_ Row.off (List._∷_ Row.off (List._∷_ Row.off (List._∷_ Row.off (List._∷_ Row.off (List._∷_ Row.alive (List._∷_ Row.alive List.[])))))))))))))))))))) }
+        G127 = record { locals = List._++_ g87 (List._++_ t1 (List._++_ t2 t3)); slots = List._∷_ (Row.lease (κs .0) (qs .0)) (List._∷_ (Row.lease (κs .1 .0) (qs .1 .0)) (List._∷_ (Row.lease (κs .1 .1 .0) (qs .1 .1 .0)) (List._∷_ (Row.lease (κs .1 .1 .1 .0) (qs .1 .1 .1 .0)) (List._∷_ (Row.lease (κs .1 .1 .1 .1 .0) (qs .1 .1 .1 .1 .0)) (List._∷_ Row.off (List._∷_ (Row.lease (κs .1 .1 .1 .1 .1 .1 .0) (qs .1 .1 .1 .1 .1 .1 .0)) (List._∷_ Row.off (List._∷_ Row.off (List._∷_ Row.off (List._∷_ Row.off (List._∷_ Row.off (List._∷_ Row.off (List._∷_ Row.off (List._∷_ Row.off (List._∷_ Row.off (List._∷_ Row.off (List._∷_ Row.off (List._∷_ Row.off (List._∷_ Row.off (List._∷_ Row.alive (List._∷_ Row.off (List._∷_ Row.off List.[])))))))))))))))))))))) }
 
         abbrev G128 : Row.Cx
-        G128 = record { locals = List._++_ g85 (List._++_ t1 t86); slots = List._∷_ (Row.lease (κs .0) (qs .0)) (List._∷_ (Row.lease (κs .1 .0) (qs .1 .0)) (List._∷_ (Row.lease (κs .1 .1 .0) (qs .1 .1 .0)) (List._∷_ Row.off (List._∷_ Row.off (List._∷_ (Row.lease (κs .1 .1 .1 .1 .1 .0) (qs .1 .1 .1 .1 .1 .0)) (List._∷_ Row.off (List._∷_ Row.off (List._∷_ Row.off (List._∷_ Row.off (List._∷_ Row.off (List._∷_ Row.off (List._∷_ Row.off (List._∷_ Row.off (List._∷_ Row.off (List._∷_ Row.off (List._∷_ Row.off (List._∷_ Row.off (List._∷_ Row.off (List._∷_ Row.alive (List._∷_ Row.alive List.[])))))))))))))))))))) }
+        G128 = record { locals = List._++_ g87 (List._++_ t1 (List._++_ t2 t3)); slots = List._∷_ (Row.lease (κs .0) (qs .0)) (List._∷_ (Row.lease (κs .1 .0) (qs .1 .0)) (List._∷_ (Row.lease (κs .1 .1 .0) (qs .1 .1 .0)) (List._∷_ (Row.lease (κs .1 .1 .1 .0) (qs .1 .1 .1 .0)) (List._∷_ (Row.lease (κs .1 .1 .1 .1 .0) (qs .1 .1 .1 .1 .0)) (List._∷_ Row.off (List._∷_ (Row.lease (κs .1 .1 .1 .1 .1 .1 .0) (qs .1 .1 .1 .1 .1 .1 .0)) (List._∷_ Row.off (List._∷_ Row.off (List._∷_ Row.off (List._∷_ Row.off (List._∷_ Row.off (List._∷_ Row.off (List._∷_ Row.off (List._∷_ Row.off (List._∷_ Row.off (List._∷_ Row.off (List._∷_ Row.off (List._∷_ Row.off (List._∷_ Row.off (List._∷_ Row.dead (List._∷_ Row.off (List._∷_ Row.off List.[])))))))))))))))))))))) }
 
         abbrev G129 : Row.Cx
-        G129 = record { locals = List._++_ g85 (List._++_ t1 t87); slots = List._∷_ (Row.lease (κs .0) (qs .0)) (List._∷_ (Row.lease (κs .1 .0) (qs .1 .0)) (List._∷_ (Row.lease (κs .1 .1 .0) (qs .1 .1 .0)) (List._∷_ Row.off (List._∷_ Row.off (List._∷_ (Row.lease (κs .1 .1 .1 .1 .1 .0) (qs .1 .1 .1 .1 .1 .0)) (List._∷_ Row.off (List._∷_ Row.off (List._∷_ Row.off (List._∷_ Row.off (List._∷_ Row.off (List._∷_ Row.off (List._∷_ Row.off (List._∷_ Row.off (List._∷_ Row.off (List._∷_ Row.off (List._∷_ Row.off (List._∷_ Row.off (List._∷_ Row.off (List._∷_ Row.alive (List._∷_ Row.alive List.[])))))))))))))))))))) }
+        G129 = record { locals = List._++_ t30 (List._++_ t1 (List._++_ t2 t3)); slots = List._∷_ (Row.lease (κs .0) (qs .0)) (List._∷_ (Row.lease (κs .1 .0) (qs .1 .0)) (List._∷_ (Row.lease (κs .1 .1 .0) (qs .1 .1 .0)) (List._∷_ (Row.lease (κs .1 .1 .1 .0) (qs .1 .1 .1 .0)) (List._∷_ (Row.lease (κs .1 .1 .1 .1 .0) (qs .1 .1 .1 .1 .0)) (List._∷_ (Row.lease (κs .1 .1 .1 .1 .1 .0) (qs .1 .1 .1 .1 .1 .0)) (List._∷_ (Row.lease (κs .1 .1 .1 .1 .1 .1 .0) (qs .1 .1 .1 .1 .1 .1 .0)) (List._∷_ Row.off (List._∷_ Row.off (List._∷_ Row.off (List._∷_ Row.off (List._∷_ Row.off (List._∷_ Row.off (List._∷_ Row.off (List._∷_ Row.off (List._∷_ Row.off (List._∷_ Row.off (List._∷_ Row.off (List._∷_ Row.off (List._∷_ Row.off (List._∷_ Row.dead (List._∷_ Row.off (List._∷_ Row.off List.[])))))))))))))))))))))) }
 
         abbrev G130 : Row.Cx
-        G130 = record { locals = List._++_ g88 (List._++_ t1 t89); slots = List._∷_ (Row.lease (κs .0) (qs .0)) (List._∷_ (Row.lease (κs .1 .0) (qs .1 .0)) (List._∷_ (Row.lease (κs .1 .1 .0) (qs .1 .1 .0)) (List._∷_ Row.off (List._∷_ Row.off (List._∷_ (Row.lease (κs .1 .1 .1 .1 .1 .0) (qs .1 .1 .1 .1 .1 .0)) (List._∷_ Row.off (List._∷_ Row.off (List._∷_ Row.off (List._∷_ Row.off (List._∷_ Row.off (List._∷_ Row.off (List._∷_ Row.off (List._∷_ Row.off (List._∷_ Row.off (List._∷_ Row.off (List._∷_ Row.off (List._∷_ Row.off (List._∷_ Row.off (List._∷_ Row.alive (List._∷_ Row.alive List.[])))))))))))))))))))) }
+        G130 = record { locals = List._++_ t30 (List._++_ t1 (List._++_ t2 t3)); slots = List._∷_ (Row.lease (κs .0) (qs .0)) (List._∷_ (Row.lease (κs .1 .0) (qs .1 .0)) (List._∷_ (Row.lease (κs .1 .1 .0) (qs .1 .1 .0)) (List._∷_ (Row.lease (κs .1 .1 .1 .0) (qs .1 .1 .1 .0)) (List._∷_ (Row.lease (κs .1 .1 .1 .1 .0) (qs .1 .1 .1 .1 .0)) (List._∷_ (Row.lease (κs .1 .1 .1 .1 .1 .0) (qs .1 .1 .1 .1 .1 .0)) (List._∷_ (Row.lease (κs .1 .1 .1 .1 .1 .1 .0) (qs .1 .1 .1 .1 .1 .1 .0)) (List._∷_ Row.off (List._∷_ Row.off (List._∷_ Row.off (List._∷_ Row.off (List._∷_ Row.off (List._∷_ Row.off (List._∷_ Row.off (List._∷_ Row.off (List._∷_ Row.off (List._∷_ Row.off (List._∷_ Row.off (List._∷_ Row.off (List._∷_ Row.off (List._∷_ Row.off (List._∷_ Row.off (List._∷_ Row.off List.[])))))))))))))))))))))) }
 
         abbrev G131 : Row.Cx
-        G131 = record { locals = List._++_ g90 (List._++_ t1 t89); slots = List._∷_ (Row.lease (κs .0) (qs .0)) (List._∷_ (Row.lease (κs .1 .0) (qs .1 .0)) (List._∷_ (Row.lease (κs .1 .1 .0) (qs .1 .1 .0)) (List._∷_ Row.off (List._∷_ Row.off (List._∷_ (Row.lease (κs .1 .1 .1 .1 .1 .0) (qs .1 .1 .1 .1 .1 .0)) (List._∷_ Row.off (List._∷_ Row.off (List._∷_ Row.off (List._∷_ Row.off (List._∷_ Row.off (List._∷_ Row.off (List._∷_ Row.off (List._∷_ Row.off (List._∷_ Row.off (List._∷_ Row.off (List._∷_ Row.off (List._∷_ Row.off (List._∷_ Row.off (List._∷_ Row.alive (List._∷_ Row.alive List.[])))))))))))))))))))) }
+        G131 = record { locals = List._++_ t30 (List._++_ t1 (List._++_ t2 t3)); slots = List._∷_ (Row.lease (κs .0) (qs .0)) (List._∷_ (Row.lease (κs .1 .0) (qs .1 .0)) (List._∷_ (Row.lease (κs .1 .1 .0) (qs .1 .1 .0)) (List._∷_ (Row.lease (κs .1 .1 .1 .0) (qs .1 .1 .1 .0)) (List._∷_ (Row.lease (κs .1 .1 .1 .1 .0) (qs .1 .1 .1 .1 .0)) (List._∷_ (Row.lease (κs .1 .1 .1 .1 .1 .0) (qs .1 .1 .1 .1 .1 .0)) (List._∷_ (Row.lease (κs .1 .1 .1 .1 .1 .1 .0) (qs .1 .1 .1 .1 .1 .1 .0)) (List._∷_ Row.off (List._∷_ Row.off (List._∷_ Row.off (List._∷_ Row.off (List._∷_ Row.off (List._∷_ Row.off (List._∷_ Row.off (List._∷_ Row.off (List._∷_ Row.off (List._∷_ Row.off (List._∷_ Row.off (List._∷_ Row.off (List._∷_ Row.off (List._∷_ Row.off (List._∷_ Row.off (List._∷_ Row.off List.[])))))))))))))))))))))) }
 
         abbrev G132 : Row.Cx
-        G132 = record { locals = List._++_ g91 (List._++_ t1 t89); slots = List._∷_ (Row.lease (κs .0) (qs .0)) (List._∷_ (Row.lease (κs .1 .0) (qs .1 .0)) (List._∷_ (Row.lease (κs .1 .1 .0) (qs .1 .1 .0)) (List._∷_ Row.off (List._∷_ Row.off (List._∷_ (Row.lease (κs .1 .1 .1 .1 .1 .0) (qs .1 .1 .1 .1 .1 .0)) (List._∷_ Row.off (List._∷_ Row.off (List._∷_ Row.off (List._∷_ Row.off (List._∷_ Row.off (List._∷_ Row.off (List._∷_ Row.off (List._∷_ Row.off (List._∷_ Row.off (List._∷_ Row.off (List._∷_ Row.off (List._∷_ Row.off (List._∷_ Row.off (List._∷_ Row.alive (List._∷_ Row.alive List.[])))))))))))))))))))) }
+        G132 = record { locals = List._++_ t30 (List._++_ t1 (List._++_ t2 t3)); slots = List._∷_ (Row.lease (κs .0) (qs .0)) (List._∷_ (Row.lease (κs .1 .0) (qs .1 .0)) (List._∷_ (Row.lease (κs .1 .1 .0) (qs .1 .1 .0)) (List._∷_ (Row.lease (κs .1 .1 .1 .0) (qs .1 .1 .1 .0)) (List._∷_ (Row.lease (κs .1 .1 .1 .1 .0) (qs .1 .1 .1 .1 .0)) (List._∷_ (Row.lease (κs .1 .1 .1 .1 .1 .0) (qs .1 .1 .1 .1 .1 .0)) (List._∷_ (Row.lease (κs .1 .1 .1 .1 .1 .1 .0) (qs .1 .1 .1 .1 .1 .1 .0)) (List._∷_ Row.off (List._∷_ Row.off (List._∷_ Row.off (List._∷_ Row.off (List._∷_ Row.off (List._∷_ Row.off (List._∷_ Row.off (List._∷_ Row.off (List._∷_ Row.off (List._∷_ Row.off (List._∷_ Row.off (List._∷_ Row.off (List._∷_ Row.off (List._∷_ Row.off (List._∷_ Row.alive (List._∷_ Row.off List.[])))))))))))))))))))))) }
 
         abbrev G133 : Row.Cx
-        G133 = record { locals = List._++_ g92 (List._++_ t1 t89); slots = List._∷_ (Row.lease (κs .0) (qs .0)) (List._∷_ (Row.lease (κs .1 .0) (qs .1 .0)) (List._∷_ (Row.lease (κs .1 .1 .0) (qs .1 .1 .0)) (List._∷_ Row.off (List._∷_ Row.off (List._∷_ (Row.lease (κs .1 .1 .1 .1 .1 .0) (qs .1 .1 .1 .1 .1 .0)) (List._∷_ Row.off (List._∷_ Row.off (List._∷_ Row.off (List._∷_ Row.off (List._∷_ Row.off (List._∷_ Row.off (List._∷_ Row.off (List._∷_ Row.off (List._∷_ Row.off (List._∷_ Row.off (List._∷_ Row.off (List._∷_ Row.off (List._∷_ Row.off (List._∷_ Row.alive (List._∷_ Row.alive List.[])))))))))))))))))))) }
+        G133 = record { locals = List._++_ g88 (List._++_ t1 (List._++_ t89 t3)); slots = List._∷_ (Row.lease (κs .0) (qs .0)) (List._∷_ (Row.lease (κs .1 .0) (qs .1 .0)) (List._∷_ (Row.lease (κs .1 .1 .0) (qs .1 .1 .0)) (List._∷_ Row.off (List._∷_ (Row.lease (κs .1 .1 .1 .1 .0) (qs .1 .1 .1 .1 .0)) (List._∷_ (Row.lease (κs .1 .1 .1 .1 .1 .0) (qs .1 .1 .1 .1 .1 .0)) (List._∷_ (Row.lease (κs .1 .1 .1 .1 .1 .1 .0) (qs .1 .1 .1 .1 .1 .1 .0)) (List._∷_ Row.off (List._∷_ Row.off (List._∷_ Row.off (List._∷_ Row.off (List._∷_ Row.off (List._∷_ Row.off (List._∷_ Row.off (List._∷_ Row.off (List._∷_ Row.off (List._∷_ Row.off (List._∷_ Row.off (List._∷_ Row.off (List._∷_ Row.off (List._∷_ Row.off (List._∷_ Row.alive (List._∷_ Row.off List.[])))))))))))))))))))))) }
 
         abbrev G134 : Row.Cx
-        G134 = record { locals = List._++_ g93 (List._++_ t1 t89); slots = List._∷_ (Row.lease (κs .0) (qs .0)) (List._∷_ (Row.lease (κs .1 .0) (qs .1 .0)) (List._∷_ (Row.lease (κs .1 .1 .0) (qs .1 .1 .0)) (List._∷_ Row.off (List._∷_ Row.off (List._∷_ (Row.lease (κs .1 .1 .1 .1 .1 .0) (qs .1 .1 .1 .1 .1 .0)) (List._∷_ Row.off (List._∷_ Row.off (List._∷_ Row.off (List._∷_ Row.off (List._∷_ Row.off (List._∷_ Row.off (List._∷_ Row.off (List._∷_ Row.off (List._∷_ Row.off (List._∷_ Row.off (List._∷_ Row.off (List._∷_ Row.off (List._∷_ Row.off (List._∷_ Row.alive (List._∷_ Row.alive List.[])))))))))))))))))))) }
+        G134 = record { locals = List._++_ g88 (List._++_ t1 (List._++_ t2 t90)); slots = List._∷_ (Row.lease (κs .0) (qs .0)) (List._∷_ (Row.lease (κs .1 .0) (qs .1 .0)) (List._∷_ (Row.lease (κs .1 .1 .0) (qs .1 .1 .0)) (List._∷_ Row.off (List._∷_ (Row.lease (κs .1 .1 .1 .1 .0) (qs .1 .1 .1 .1 .0)) (List._∷_ (Row.lease (κs .1 .1 .1 .1 .1 .0) (qs .1 .1 .1 .1 .1 .0)) (List._∷_ (Row.lease (κs .1 .1 .1 .1 .1 .1 .0) (qs .1 .1 .1 .1 .1 .1 .0)) (List._∷_ Row.off (List._∷_ Row.off (List._∷_ Row.off (List._∷_ Row.off (List._∷_ Row.off (List._∷_ Row.off (List._∷_ Row.off (List._∷_ Row.off (List._∷_ Row.off (List._∷_ Row.off (List._∷_ Row.off (List._∷_ Row.off (List._∷_ Row.off (List._∷_ Row.off (List._∷_ Row.alive (List._∷_ Row.off List.[])))))))))))))))))))))) }
 
         abbrev G135 : Row.Cx
-        G135 = record { locals = List._++_ g94 (List._++_ t1 t89); slots = List._∷_ (Row.lease (κs .0) (qs .0)) (List._∷_ (Row.lease (κs .1 .0) (qs .1 .0)) (List._∷_ (Row.lease (κs .1 .1 .0) (qs .1 .1 .0)) (List._∷_ Row.off (List._∷_ Row.off (List._∷_ (Row.lease (κs .1 .1 .1 .1 .1 .0) (qs .1 .1 .1 .1 .1 .0)) (List._∷_ Row.off (List._∷_ Row.off (List._∷_ Row.off (List._∷_ Row.off (List._∷_ Row.off (List._∷_ Row.off (List._∷_ Row.off (List._∷_ Row.off (List._∷_ Row.off (List._∷_ Row.off (List._∷_ Row.off (List._∷_ Row.off (List._∷_ Row.off (List._∷_ Row.alive (List._∷_ Row.alive List.[])))))))))))))))))))) }
+        G135 = record { locals = List._++_ g88 (List._++_ t1 (List._++_ t2 t90)); slots = List._∷_ (Row.lease (κs .0) (qs .0)) (List._∷_ (Row.lease (κs .1 .0) (qs .1 .0)) (List._∷_ (Row.lease (κs .1 .1 .0) (qs .1 .1 .0)) (List._∷_ Row.off (List._∷_ (Row.lease (κs .1 .1 .1 .1 .0) (qs .1 .1 .1 .1 .0)) (List._∷_ (Row.lease (κs .1 .1 .1 .1 .1 .0) (qs .1 .1 .1 .1 .1 .0)) (List._∷_ (Row.lease (κs .1 .1 .1 .1 .1 .1 .0) (qs .1 .1 .1 .1 .1 .1 .0)) (List._∷_ Row.off (List._∷_ Row.off (List._∷_ Row.off (List._∷_ Row.off (List._∷_ Row.off (List._∷_ Row.off (List._∷_ Row.off (List._∷_ Row.off (List._∷_ Row.off (List._∷_ Row.off (List._∷_ Row.off (List._∷_ Row.off (List._∷_ Row.off (List._∷_ Row.off (List._∷_ Row.alive (List._∷_ Row.alive List.[])))))))))))))))))))))) }
 
         abbrev G136 : Row.Cx
-        G136 = record { locals = List._++_ g94 (List._++_ t1 t89); slots = List._∷_ (Row.lease (κs .0) (qs .0)) (List._∷_ (Row.lease (κs .1 .0) (qs .1 .0)) (List._∷_ (Row.lease (κs .1 .1 .0) (qs .1 .1 .0)) (List._∷_ Row.off (List._∷_ Row.off (List._∷_ (Row.lease (κs .1 .1 .1 .1 .1 .0) (qs .1 .1 .1 .1 .1 .0)) (List._∷_ Row.off (List._∷_ Row.off (List._∷_ Row.off (List._∷_ Row.off (List._∷_ Row.off (List._∷_ Row.off (List._∷_ Row.off (List._∷_ Row.off (List._∷_ Row.off (List._∷_ Row.off (List._∷_ Row.off (List._∷_ Row.off (List._∷_ Row.off (List._∷_ Row.dead (List._∷_ Row.alive List.[])))))))))))))))))))) }
+        G136 = record { locals = List._++_ g91 (List._++_ t1 (List._++_ t2 t92)); slots = List._∷_ (Row.lease (κs .0) (qs .0)) (List._∷_ (Row.lease (κs .1 .0) (qs .1 .0)) (List._∷_ (Row.lease (κs .1 .1 .0) (qs .1 .1 .0)) (List._∷_ Row.off (List._∷_ Row.off (List._∷_ (Row.lease (κs .1 .1 .1 .1 .1 .0) (qs .1 .1 .1 .1 .1 .0)) (List._∷_ (Row.lease (κs .1 .1 .1 .1 .1 .1 .0) (qs .1 .1 .1 .1 .1 .1 .0)) (List._∷_ Row.off (List._∷_ Row.off (List._∷_ Row.off (List._∷_ Row.off (List._∷_ Row.off (List._∷_ Row.off (List._∷_ Row.off (List._∷_ Row.off (List._∷_ Row.off (List._∷_ Row.off (List._∷_ Row.off (List._∷_ Row.off (List._∷_ Row.off (List._∷_ Row.off (List._∷_ Row.alive (List._∷_ Row.alive List.[])))))))))))))))))))))) }
 
         abbrev G137 : Row.Cx
-        G137 = record { locals = List._++_ g95 (List._++_ t1 t96); slots = List._∷_ (Row.lease (κs .0) (qs .0)) (List._∷_ (Row.lease (κs .1 .0) (qs .1 .0)) (List._∷_ (Row.lease (κs .1 .1 .0) (qs .1 .1 .0)) (List._∷_ (Row.lease (κs .1 .1 .1 .0) (qs .1 .1 .1 .0)) (List._∷_ Row.off (List._∷_ (Row.lease (κs .1 .1 .1 .1 .1 .0) (qs .1 .1 .1 .1 .1 .0)) (List._∷_ Row.off (List._∷_ Row.off (List._∷_ Row.off (List._∷_ Row.off (List._∷_ Row.off (List._∷_ Row.off (List._∷_ Row.off (List._∷_ Row.off (List._∷_ Row.off (List._∷_ Row.off (List._∷_ Row.off (List._∷_ Row.off (List._∷_ Row.off (List._∷_ Row.dead (List._∷_ Row.alive List.[])))))))))))))))))))) }
+        G137 = record { locals = List._++_ g91 (List._++_ t1 (List._++_ t2 t93)); slots = List._∷_ (Row.lease (κs .0) (qs .0)) (List._∷_ (Row.lease (κs .1 .0) (qs .1 .0)) (List._∷_ (Row.lease (κs .1 .1 .0) (qs .1 .1 .0)) (List._∷_ Row.off (List._∷_ Row.off (List._∷_ (Row.lease (κs .1 .1 .1 .1 .1 .0) (qs .1 .1 .1 .1 .1 .0)) (List._∷_ (Row.lease (κs .1 .1 .1 .1 .1 .1 .0) (qs .1 .1 .1 .1 .1 .1 .0)) (List._∷_ Row.off (List._∷_ Row.off (List._∷_ Row.off (List._∷_ Row.off (List._∷_ Row.off (List._∷_ Row.off (List._∷_ Row.off (List._∷_ Row.off (List._∷_ Row.off (List._∷_ Row.off (List._∷_ Row.off (List._∷_ Row.off (List._∷_ Row.off (List._∷_ Row.off (List._∷_ Row.alive (List._∷_ Row.alive List.[])))))))))))))))))))))) }
 
         abbrev G138 : Row.Cx
-        G138 = record { locals = List._++_ g95 (List._++_ t1 t96); slots = List._∷_ (Row.lease (κs .0) (qs .0)) (List._∷_ (Row.lease (κs .1 .0) (qs .1 .0)) (List._∷_ (Row.lease (κs .1 .1 .0) (qs .1 .1 .0)) (List._∷_ (Row.lease (κs .1 .1 .1 .0) (qs .1 .1 .1 .0)) (List._∷_ Row.off (List._∷_ (Row.lease (κs .1 .1 .1 .1 .1 .0) (qs .1 .1 .1 .1 .1 .0)) (List._∷_ Row.off (List._∷_ Row.off (List._∷_ Row.off (List._∷_ Row.off (List._∷_ Row.off (List._∷_ Row.off (List._∷_ Row.off (List._∷_ Row.off (List._∷_ Row.off (List._∷_ Row.off (List._∷_ Row.off (List._∷_ Row.off (List._∷_ Row.off (List._∷_ Row.dead (List._∷_ Row.alive List.[])))))))))))))))))))) }
+        G138 = record { locals = List._++_ g94 (List._++_ t1 (List._++_ t2 t95)); slots = List._∷_ (Row.lease (κs .0) (qs .0)) (List._∷_ (Row.lease (κs .1 .0) (qs .1 .0)) (List._∷_ (Row.lease (κs .1 .1 .0) (qs .1 .1 .0)) (List._∷_ Row.off (List._∷_ Row.off (List._∷_ (Row.lease (κs .1 .1 .1 .1 .1 .0) (qs .1 .1 .1 .1 .1 .0)) (List._∷_ (Row.lease (κs .1 .1 .1 .1 .1 .1 .0) (qs .1 .1 .1 .1 .1 .1 .0)) (List._∷_ Row.off (List._∷_ Row.off (List._∷_ Row.off (List._∷_ Row.off (List._∷_ Row.off (List._∷_ Row.off (List._∷_ Row.off (List._∷_ Row.off (List._∷_ Row.off (List._∷_ Row.off (List._∷_ Row.off (List._∷_ Row.off (List._∷_ Row.off (List._∷_ Row.off (List._∷_ Row.alive (List._∷_ Row.alive List.[])))))))))))))))))))))) }
 
         abbrev G139 : Row.Cx
-        G139 = record { locals = List._++_ g95 (List._++_ t1 t96); slots = List._∷_ (Row.lease (κs .0) (qs .0)) (List._∷_ (Row.lease (κs .1 .0) (qs .1 .0)) (List._∷_ (Row.lease (κs .1 .1 .0) (qs .1 .1 .0)) (List._∷_ (Row.lease (κs .1 .1 .1 .0) (qs .1 .1 .1 .0)) (List._∷_ Row.off (List._∷_ (Row.lease (κs .1 .1 .1 .1 .1 .0) (qs .1 .1 .1 .1 .1 .0)) (List._∷_ Row.off (List._∷_ Row.off (List._∷_ Row.off (List._∷_ Row.off (List._∷_ Row.off (List._∷_ Row.off (List._∷_ Row.off (List._∷_ Row.off (List._∷_ Row.off (List._∷_ Row.off (List._∷_ Row.off (List._∷_ Row.off (List._∷_ Row.off (List._∷_ Row.off (List._∷_ Row.alive List.[])))))))))))))))))))) }
+        G139 = record { locals = List._++_ g96 (List._++_ t1 (List._++_ t2 t95)); slots = List._∷_ (Row.lease (κs .0) (qs .0)) (List._∷_ (Row.lease (κs .1 .0) (qs .1 .0)) (List._∷_ (Row.lease (κs .1 .1 .0) (qs .1 .1 .0)) (List._∷_ Row.off (List._∷_ Row.off (List._∷_ (Row.lease (κs .1 .1 .1 .1 .1 .0) (qs .1 .1 .1 .1 .1 .0)) (List._∷_ (Row.lease (κs .1 .1 .1 .1 .1 .1 .0) (qs .1 .1 .1 .1 .1 .1 .0)) (List._∷_ Row.off (List._∷_ Row.off (List._∷_ Row.off (List._∷_ Row.off (List._∷_ Row.off (List._∷_ Row.off (List._∷_ Row.off (List._∷_ Row.off (List._∷_ Row.off (List._∷_ Row.off (List._∷_ Row.off (List._∷_ Row.off (List._∷_ Row.off (List._∷_ Row.off (List._∷_ Row.alive (List._∷_ Row.alive List.[])))))))))))))))))))))) }
 
         abbrev G140 : Row.Cx
-        G140 = record { locals = List._++_ g95 (List._++_ t1 t96); slots = List._∷_ (Row.lease (κs .0) (qs .0)) (List._∷_ (Row.lease (κs .1 .0) (qs .1 .0)) (List._∷_ (Row.lease (κs .1 .1 .0) (qs .1 .1 .0)) (List._∷_ (Row.lease (κs .1 .1 .1 .0) (qs .1 .1 .1 .0)) (List._∷_ Row.off (List._∷_ (Row.lease (κs .1 .1 .1 .1 .1 .0) (qs .1 .1 .1 .1 .1 .0)) (List._∷_ Row.off (List._∷_ Row.off (List._∷_ Row.off (List._∷_ Row.off (List._∷_ Row.off (List._∷_ Row.off (List._∷_ Row.off (List._∷_ Row.off (List._∷_ Row.off (List._∷_ Row.off (List._∷_ Row.off (List._∷_ Row.off (List._∷_ Row.off (List._∷_ Row.off (List._∷_ Row.dead List.[])))))))))))))))))))) }
+        G140 = record { locals = List._++_ g97 (List._++_ t1 (List._++_ t2 t95)); slots = List._∷_ (Row.lease (κs .0) (qs .0)) (List._∷_ (Row.lease (κs .1 .0) (qs .1 .0)) (List._∷_ (Row.lease (κs .1 .1 .0) (qs .1 .1 .0)) (List._∷_ Row.off (List._∷_ Row.off (List._∷_ (Row.lease (κs .1 .1 .1 .1 .1 .0) (qs .1 .1 .1 .1 .1 .0)) (List._∷_ (Row.lease (κs .1 .1 .1 .1 .1 .1 .0) (qs .1 .1 .1 .1 .1 .1 .0)) (List._∷_ Row.off (List._∷_ Row.off (List._∷_ Row.off (List._∷_ Row.off (List._∷_ Row.off (List._∷_ Row.off (List._∷_ Row.off (List._∷_ Row.off (List._∷_ Row.off (List._∷_ Row.off (List._∷_ Row.off (List._∷_ Row.off (List._∷_ Row.off (List._∷_ Row.off (List._∷_ Row.alive (List._∷_ Row.alive List.[])))))))))))))))))))))) }
 
         abbrev G141 : Row.Cx
-        G141 = record { locals = List._++_ t97 (List._++_ t1 t2); slots = List._∷_ (Row.lease (κs .0) (qs .0)) (List._∷_ (Row.lease (κs .1 .0) (qs .1 .0)) (List._∷_ (Row.lease (κs .1 .1 .0) (qs .1 .1 .0)) (List._∷_ (Row.lease (κs .1 .1 .1 .0) (qs .1 .1 .1 .0)) (List._∷_ (Row.lease (κs .1 .1 .1 .1 .0) (qs .1 .1 .1 .1 .0)) (List._∷_ (Row.lease (κs .1 .1 .1 .1 .1 .0) (qs .1 .1 .1 .1 .1 .0)) (List._∷_ Row.off (List._∷_ Row.off (List._∷_ Row.off (List._∷_ Row.off (List._∷_ Row.off (List._∷_ Row.off (List._∷_ Row.off (List._∷_ Row.off (List._∷_ Row.off (List._∷_ Row.off (List._∷_ Row.off (List._∷_ Row.off (List._∷_ Row.off (List._∷_ Row.off (List._∷_ Row.dead List.[])))))))))))))))))))) }
+        G141 = record { locals = List._++_ g98 (List._++_ t1 (List._++_ t2 t95)); slots = List._∷_ (Row.lease (κs .0) (qs .0)) (List._∷_ (Row.lease (κs .1 .0) (qs .1 .0)) (List._∷_ (Row.lease (κs .1 .1 .0) (qs .1 .1 .0)) (List._∷_ Row.off (List._∷_ Row.off (List._∷_ (Row.lease (κs .1 .1 .1 .1 .1 .0) (qs .1 .1 .1 .1 .1 .0)) (List._∷_ (Row.lease (κs .1 .1 .1 .1 .1 .1 .0) (qs .1 .1 .1 .1 .1 .1 .0)) (List._∷_ Row.off (List._∷_ Row.off (List._∷_ Row.off (List._∷_ Row.off (List._∷_ Row.off (List._∷_ Row.off (List._∷_ Row.off (List._∷_ Row.off (List._∷_ Row.off (List._∷_ Row.off (List._∷_ Row.off (List._∷_ Row.off (List._∷_ Row.off (List._∷_ Row.off (List._∷_ Row.alive (List._∷_ Row.alive List.[])))))))))))))))))))))) }
 
         abbrev G142 : Row.Cx
-        G142 = record { locals = List._++_ t97 (List._++_ t1 t2); slots = List._∷_ (Row.lease (κs .0) (qs .0)) (List._∷_ (Row.lease (κs .1 .0) (qs .1 .0)) (List._∷_ (Row.lease (κs .1 .1 .0) (qs .1 .1 .0)) (List._∷_ (Row.lease (κs .1 .1 .1 .0) (qs .1 .1 .1 .0)) (List._∷_ (Row.lease (κs .1 .1 .1 .1 .0) (qs .1 .1 .1 .1 .0)) (List._∷_ (Row.lease (κs .1 .1 .1 .1 .1 .0) (qs .1 .1 .1 .1 .1 .0)) (List._∷_ Row.off (List._∷_ Row.off (List._∷_ Row.off (List._∷_ Row.off (List._∷_ Row.off (List._∷_ Row.off (List._∷_ Row.off (List._∷_ Row.off (List._∷_ Row.off (List._∷_ Row.off (List._∷_ Row.off (List._∷_ Row.off (List._∷_ Row.off (List._∷_ Row.off (List._∷_ Row.dead List.[])))))))))))))))))))) }
+        G142 = record { locals = List._++_ g99 (List._++_ t1 (List._++_ t2 t95)); slots = List._∷_ (Row.lease (κs .0) (qs .0)) (List._∷_ (Row.lease (κs .1 .0) (qs .1 .0)) (List._∷_ (Row.lease (κs .1 .1 .0) (qs .1 .1 .0)) (List._∷_ Row.off (List._∷_ Row.off (List._∷_ (Row.lease (κs .1 .1 .1 .1 .1 .0) (qs .1 .1 .1 .1 .1 .0)) (List._∷_ (Row.lease (κs .1 .1 .1 .1 .1 .1 .0) (qs .1 .1 .1 .1 .1 .1 .0)) (List._∷_ Row.off (List._∷_ Row.off (List._∷_ Row.off (List._∷_ Row.off (List._∷_ Row.off (List._∷_ Row.off (List._∷_ Row.off (List._∷_ Row.off (List._∷_ Row.off (List._∷_ Row.off (List._∷_ Row.off (List._∷_ Row.off (List._∷_ Row.off (List._∷_ Row.off (List._∷_ Row.alive (List._∷_ Row.alive List.[])))))))))))))))))))))) }
 
         abbrev G143 : Row.Cx
-        G143 = record { locals = List._++_ t97 (List._++_ t1 t2); slots = List._∷_ (Row.lease (κs .0) (qs .0)) (List._∷_ (Row.lease (κs .1 .0) (qs .1 .0)) (List._∷_ (Row.lease (κs .1 .1 .0) (qs .1 .1 .0)) (List._∷_ (Row.lease (κs .1 .1 .1 .0) (qs .1 .1 .1 .0)) (List._∷_ (Row.lease (κs .1 .1 .1 .1 .0) (qs .1 .1 .1 .1 .0)) (List._∷_ (Row.lease (κs .1 .1 .1 .1 .1 .0) (qs .1 .1 .1 .1 .1 .0)) (List._∷_ Row.off (List._∷_ Row.off (List._∷_ Row.off (List._∷_ Row.off (List._∷_ Row.off (List._∷_ Row.off (List._∷_ Row.off (List._∷_ Row.off (List._∷_ Row.off (List._∷_ Row.off (List._∷_ Row.off (List._∷_ Row.off (List._∷_ Row.off (List._∷_ Row.off (List._∷_ Row.off List.[])))))))))))))))))))) }
+        G143 = record { locals = List._++_ g100 (List._++_ t1 (List._++_ t2 t95)); slots = List._∷_ (Row.lease (κs .0) (qs .0)) (List._∷_ (Row.lease (κs .1 .0) (qs .1 .0)) (List._∷_ (Row.lease (κs .1 .1 .0) (qs .1 .1 .0)) (List._∷_ Row.off (List._∷_ Row.off (List._∷_ (Row.lease (κs .1 .1 .1 .1 .1 .0) (qs .1 .1 .1 .1 .1 .0)) (List._∷_ (Row.lease (κs .1 .1 .1 .1 .1 .1 .0) (qs .1 .1 .1 .1 .1 .1 .0)) (List._∷_ Row.off (List._∷_ Row.off (List._∷_ Row.off (List._∷_ Row.off (List._∷_ Row.off (List._∷_ Row.off (List._∷_ Row.off (List._∷_ Row.off (List._∷_ Row.off (List._∷_ Row.off (List._∷_ Row.off (List._∷_ Row.off (List._∷_ Row.off (List._∷_ Row.off (List._∷_ Row.alive (List._∷_ Row.alive List.[])))))))))))))))))))))) }
 
         abbrev G144 : Row.Cx
-        G144 = record { locals = List._++_ t3 (List._++_ t1 t2); slots = List._∷_ (Row.lease (κs .0) (qs .0)) (List._∷_ (Row.lease (κs .1 .0) (qs .1 .0)) (List._∷_ (Row.lease (κs .1 .1 .0) (qs .1 .1 .0)) (List._∷_ (Row.lease (κs .1 .1 .1 .0) (qs .1 .1 .1 .0)) (List._∷_ (Row.lease (κs .1 .1 .1 .1 .0) (qs .1 .1 .1 .1 .0)) (List._∷_ (Row.lease (κs .1 .1 .1 .1 .1 .0) (qs .1 .1 .1 .1 .1 .0)) (List._∷_ Row.off (List._∷_ Row.off (List._∷_ Row.off (List._∷_ Row.off (List._∷_ Row.off (List._∷_ Row.off (List._∷_ Row.off (List._∷_ Row.off (List._∷_ Row.off (List._∷_ Row.off (List._∷_ Row.off (List._∷_ Row.off (List._∷_ Row.off (List._∷_ Row.off (List._∷_ Row.off List.[])))))))))))))))))))) }
+        G144 = record { locals = List._++_ g100 (List._++_ t1 (List._++_ t2 t95)); slots = List._∷_ (Row.lease (κs .0) (qs .0)) (List._∷_ (Row.lease (κs .1 .0) (qs .1 .0)) (List._∷_ (Row.lease (κs .1 .1 .0) (qs .1 .1 .0)) (List._∷_ Row.off (List._∷_ Row.off (List._∷_ (Row.lease (κs .1 .1 .1 .1 .1 .0) (qs .1 .1 .1 .1 .1 .0)) (List._∷_ (Row.lease (κs .1 .1 .1 .1 .1 .1 .0) (qs .1 .1 .1 .1 .1 .1 .0)) (List._∷_ Row.off (List._∷_ Row.off (List._∷_ Row.off (List._∷_ Row.off (List._∷_ Row.off (List._∷_ Row.off (List._∷_ Row.off (List._∷_ Row.off (List._∷_ Row.off (List._∷_ Row.off (List._∷_ Row.off (List._∷_ Row.off (List._∷_ Row.off (List._∷_ Row.off (List._∷_ Row.dead (List._∷_ Row.alive List.[])))))))))))))))))))))) }
+
+        abbrev G145 : Row.Cx
+        G145 = record { locals = List._++_ g101 (List._++_ t1 (List._++_ t2 t102)); slots = List._∷_ (Row.lease (κs .0) (qs .0)) (List._∷_ (Row.lease (κs .1 .0) (qs .1 .0)) (List._∷_ (Row.lease (κs .1 .1 .0) (qs .1 .1 .0)) (List._∷_ (Row.lease (κs .1 .1 .1 .0) (qs .1 .1 .1 .0)) (List._∷_ Row.off (List._∷_ (Row.lease (κs .1 .1 .1 .1 .1 .0) (qs .1 .1 .1 .1 .1 .0)) (List._∷_ (Row.lease (κs .1 .1 .1 .1 .1 .1 .0) (qs .1 .1 .1 .1 .1 .1 .0)) (List._∷_ Row.off (List._∷_ Row.off (List._∷_ Row.off (List._∷_ Row.off (List._∷_ Row.off (List._∷_ Row.off (List._∷_ Row.off (List._∷_ Row.off (List._∷_ Row.off (List._∷_ Row.off (List._∷_ Row.off (List._∷_ Row.off (List._∷_ Row.off (List._∷_ Row.off (List._∷_ Row.dead (List._∷_ Row.alive List.[])))))))))))))))))))))) }
+
+        abbrev G146 : Row.Cx
+        G146 = record { locals = List._++_ g101 (List._++_ t1 (List._++_ t2 t102)); slots = List._∷_ (Row.lease (κs .0) (qs .0)) (List._∷_ (Row.lease (κs .1 .0) (qs .1 .0)) (List._∷_ (Row.lease (κs .1 .1 .0) (qs .1 .1 .0)) (List._∷_ (Row.lease (κs .1 .1 .1 .0) (qs .1 .1 .1 .0)) (List._∷_ Row.off (List._∷_ (Row.lease (κs .1 .1 .1 .1 .1 .0) (qs .1 .1 .1 .1 .1 .0)) (List._∷_ (Row.lease (κs .1 .1 .1 .1 .1 .1 .0) (qs .1 .1 .1 .1 .1 .1 .0)) (List._∷_ Row.off (List._∷_ Row.off (List._∷_ Row.off (List._∷_ Row.off (List._∷_ Row.off (List._∷_ Row.off (List._∷_ Row.off (List._∷_ Row.off (List._∷_ Row.off (List._∷_ Row.off (List._∷_ Row.off (List._∷_ Row.off (List._∷_ Row.off (List._∷_ Row.off (List._∷_ Row.dead (List._∷_ Row.alive List.[])))))))))))))))))))))) }
+
+        abbrev G147 : Row.Cx
+        G147 = record { locals = List._++_ g101 (List._++_ t1 (List._++_ t2 t102)); slots = List._∷_ (Row.lease (κs .0) (qs .0)) (List._∷_ (Row.lease (κs .1 .0) (qs .1 .0)) (List._∷_ (Row.lease (κs .1 .1 .0) (qs .1 .1 .0)) (List._∷_ (Row.lease (κs .1 .1 .1 .0) (qs .1 .1 .1 .0)) (List._∷_ Row.off (List._∷_ (Row.lease (κs .1 .1 .1 .1 .1 .0) (qs .1 .1 .1 .1 .1 .0)) (List._∷_ (Row.lease (κs .1 .1 .1 .1 .1 .1 .0) (qs .1 .1 .1 .1 .1 .1 .0)) (List._∷_ Row.off (List._∷_ Row.off (List._∷_ Row.off (List._∷_ Row.off (List._∷_ Row.off (List._∷_ Row.off (List._∷_ Row.off (List._∷_ Row.off (List._∷_ Row.off (List._∷_ Row.off (List._∷_ Row.off (List._∷_ Row.off (List._∷_ Row.off (List._∷_ Row.off (List._∷_ Row.off (List._∷_ Row.alive List.[])))))))))))))))))))))) }
+
+        abbrev G148 : Row.Cx
+        G148 = record { locals = List._++_ g101 (List._++_ t1 (List._++_ t2 t102)); slots = List._∷_ (Row.lease (κs .0) (qs .0)) (List._∷_ (Row.lease (κs .1 .0) (qs .1 .0)) (List._∷_ (Row.lease (κs .1 .1 .0) (qs .1 .1 .0)) (List._∷_ (Row.lease (κs .1 .1 .1 .0) (qs .1 .1 .1 .0)) (List._∷_ Row.off (List._∷_ (Row.lease (κs .1 .1 .1 .1 .1 .0) (qs .1 .1 .1 .1 .1 .0)) (List._∷_ (Row.lease (κs .1 .1 .1 .1 .1 .1 .0) (qs .1 .1 .1 .1 .1 .1 .0)) (List._∷_ Row.off (List._∷_ Row.off (List._∷_ Row.off (List._∷_ Row.off (List._∷_ Row.off (List._∷_ Row.off (List._∷_ Row.off (List._∷_ Row.off (List._∷_ Row.off (List._∷_ Row.off (List._∷_ Row.off (List._∷_ Row.off (List._∷_ Row.off (List._∷_ Row.off (List._∷_ Row.off (List._∷_ Row.dead List.[])))))))))))))))))))))) }
+
+        abbrev G149 : Row.Cx
+        G149 = record { locals = List._++_ t103 (List._++_ t1 (List._++_ t2 t3)); slots = List._∷_ (Row.lease (κs .0) (qs .0)) (List._∷_ (Row.lease (κs .1 .0) (qs .1 .0)) (List._∷_ (Row.lease (κs .1 .1 .0) (qs .1 .1 .0)) (List._∷_ (Row.lease (κs .1 .1 .1 .0) (qs .1 .1 .1 .0)) (List._∷_ (Row.lease (κs .1 .1 .1 .1 .0) (qs .1 .1 .1 .1 .0)) (List._∷_ (Row.lease (κs .1 .1 .1 .1 .1 .0) (qs .1 .1 .1 .1 .1 .0)) (List._∷_ (Row.lease (κs .1 .1 .1 .1 .1 .1 .0) (qs .1 .1 .1 .1 .1 .1 .0)) (List._∷_ Row.off (List._∷_ Row.off (List._∷_ Row.off (List._∷_ Row.off (List._∷_ Row.off (List._∷_ Row.off (List._∷_ Row.off (List._∷_ Row.off (List._∷_ Row.off (List._∷_ Row.off (List._∷_ Row.off (List._∷_ Row.off (List._∷_ Row.off (List._∷_ Row.off (List._∷_ Row.off (List._∷_ Row.dead List.[])))))))))))))))))))))) }
+
+        abbrev G150 : Row.Cx
+        G150 = record { locals = List._++_ t103 (List._++_ t1 (List._++_ t2 t3)); slots = List._∷_ (Row.lease (κs .0) (qs .0)) (List._∷_ (Row.lease (κs .1 .0) (qs .1 .0)) (List._∷_ (Row.lease (κs .1 .1 .0) (qs .1 .1 .0)) (List._∷_ (Row.lease (κs .1 .1 .1 .0) (qs .1 .1 .1 .0)) (List._∷_ (Row.lease (κs .1 .1 .1 .1 .0) (qs .1 .1 .1 .1 .0)) (List._∷_ (Row.lease (κs .1 .1 .1 .1 .1 .0) (qs .1 .1 .1 .1 .1 .0)) (List._∷_ (Row.lease (κs .1 .1 .1 .1 .1 .1 .0) (qs .1 .1 .1 .1 .1 .1 .0)) (List._∷_ Row.off (List._∷_ Row.off (List._∷_ Row.off (List._∷_ Row.off (List._∷_ Row.off (List._∷_ Row.off (List._∷_ Row.off (List._∷_ Row.off (List._∷_ Row.off (List._∷_ Row.off (List._∷_ Row.off (List._∷_ Row.off (List._∷_ Row.off (List._∷_ Row.off (List._∷_ Row.off (List._∷_ Row.dead List.[])))))))))))))))))))))) }
+
+        abbrev G151 : Row.Cx
+        G151 = record { locals = List._++_ t103 (List._++_ t1 (List._++_ t2 t3)); slots = List._∷_ (Row.lease (κs .0) (qs .0)) (List._∷_ (Row.lease (κs .1 .0) (qs .1 .0)) (List._∷_ (Row.lease (κs .1 .1 .0) (qs .1 .1 .0)) (List._∷_ (Row.lease (κs .1 .1 .1 .0) (qs .1 .1 .1 .0)) (List._∷_ (Row.lease (κs .1 .1 .1 .1 .0) (qs .1 .1 .1 .1 .0)) (List._∷_ (Row.lease (κs .1 .1 .1 .1 .1 .0) (qs .1 .1 .1 .1 .1 .0)) (List._∷_ (Row.lease (κs .1 .1 .1 .1 .1 .1 .0) (qs .1 .1 .1 .1 .1 .1 .0)) (List._∷_ Row.off (List._∷_ Row.off (List._∷_ Row.off (List._∷_ Row.off (List._∷_ Row.off (List._∷_ Row.off (List._∷_ Row.off (List._∷_ Row.off (List._∷_ Row.off (List._∷_ Row.off (List._∷_ Row.off (List._∷_ Row.off (List._∷_ Row.off (List._∷_ Row.off (List._∷_ Row.off (List._∷_ Row.off List.[])))))))))))))))))))))) }
+
+        abbrev G152 : Row.Cx
+        G152 = record { locals = List._++_ t4 (List._++_ t1 (List._++_ t2 t3)); slots = List._∷_ (Row.lease (κs .0) (qs .0)) (List._∷_ (Row.lease (κs .1 .0) (qs .1 .0)) (List._∷_ (Row.lease (κs .1 .1 .0) (qs .1 .1 .0)) (List._∷_ (Row.lease (κs .1 .1 .1 .0) (qs .1 .1 .1 .0)) (List._∷_ (Row.lease (κs .1 .1 .1 .1 .0) (qs .1 .1 .1 .1 .0)) (List._∷_ (Row.lease (κs .1 .1 .1 .1 .1 .0) (qs .1 .1 .1 .1 .1 .0)) (List._∷_ (Row.lease (κs .1 .1 .1 .1 .1 .1 .0) (qs .1 .1 .1 .1 .1 .1 .0)) (List._∷_ Row.off (List._∷_ Row.off (List._∷_ Row.off (List._∷_ Row.off (List._∷_ Row.off (List._∷_ Row.off (List._∷_ Row.off (List._∷_ Row.off (List._∷_ Row.off (List._∷_ Row.off (List._∷_ Row.off (List._∷_ Row.off (List._∷_ Row.off (List._∷_ Row.off (List._∷_ Row.off (List._∷_ Row.off List.[])))))))))))))))))))))) }
 
         abbrev Δ0 : Typed.Outs
         Δ0 = record { next = Option.none; exits = List.[]; returns = Option.some G1 }
 
         abbrev Δ1 : Typed.Outs
-        Δ1 = Typed.withNext (Option.some G45) Δ0
+        Δ1 = Typed.withNext (Option.some G46) Δ0
 
         abbrev Δ2 : Typed.Outs
         Δ2 = Typed.inBlock₀ Δ1
 
         abbrev Δ3 : Typed.Outs
-        Δ3 = Typed.inLoop₀ G44 Δ2
+        Δ3 = Typed.inLoop₀ G45 Δ2
 
         abbrev Δ4 : Typed.Outs
-        Δ4 = Typed.withNext (Option.some G47) Δ3
+        Δ4 = Typed.withNext (Option.some G48) Δ3
 
-        module _ {M : Type 1} (𝓤 : URA.URA M) (H : Wp.Heap 𝓤) (A : Atoms.Atoms 𝓤) (W : Kit.Given 𝓤 H A) (𝓣 : Wp.Tables 𝓤 H) (known : Knowns 𝓤 H A W 𝓣) (bs : List.List Nat.ℕ) (bd : Lifetimes.AllOutlive 6 (Kinds.osR r) κs) where
+        module _ {M : Type 1} (𝓤 : URA.URA M) (H : Wp.Heap 𝓤) (A : Atoms.Atoms 𝓤) (W : Kit.Given 𝓤 H A) (𝓣 : Wp.Tables 𝓤 H) (known : Knowns 𝓤 H A W 𝓣) (bs : List.List Nat.ℕ) (bd : Lifetimes.AllOutlive 7 (Kinds.osR r) κs) where
           abbrev E : Wp.Env 𝓤 H
           E = Frame.EnvOf 𝓤 H (List._∷_ (Kinds.tyR r) (Enter.tysP ps xs)) bs
 
-          d0 : Typed.Typed 𝓤 H A 𝓣 E G49 b16 Δ4 at0
+          d0 : Typed.Typed 𝓤 H A 𝓣 E G50 b16 Δ4 at0
           d0 = Typed.t-skip 𝓤 H A W 𝓣 E Δ4 tt
 
-          d1 : Typed.Typed 𝓤 H A 𝓣 E G48 b16 Δ4 at1
-          d1 = Typed.g-pre 𝓤 H A W 𝓣 E G48 G49 b16 Δ4 (Typed.pass T48 T49 s45) at0 (Scalar.g-room 𝓤 H A W E G48 24 Syntax.tyBool (Scalar.room-sc 𝓤 H A W Row.sBool)) d0
+          d1 : Typed.Typed 𝓤 H A 𝓣 E G49 b16 Δ4 at1
+          d1 = Typed.g-pre 𝓤 H A W 𝓣 E G49 G50 b16 Δ4 (Typed.pass T49 T50 s46) at0 (Scalar.g-room 𝓤 H A W E G49 25 Syntax.tyBool (Scalar.room-sc 𝓤 H A W Row.sBool)) d0
 
-          d2 : Typed.Typed 𝓤 H A 𝓣 E G46 b16 Δ4 at2
-          d2 = Typed.g-pre 𝓤 H A W 𝓣 E G46 G48 b16 Δ4 (Typed.pass T46 T48 s44) at1 (Scalar.g-room 𝓤 H A W E G46 10 (Syntax.tyInt Syntax.w64) (Scalar.room-sc 𝓤 H A W (Row.sInt Syntax.w64))) d1
+          d2 : Typed.Typed 𝓤 H A 𝓣 E G47 b16 Δ4 at2
+          d2 = Typed.g-pre 𝓤 H A W 𝓣 E G47 G49 b16 Δ4 (Typed.pass T47 T49 s45) at1 (Scalar.g-room 𝓤 H A W E G47 11 (Syntax.tyInt Syntax.w64) (Scalar.room-sc 𝓤 H A W (Row.sInt Syntax.w64))) d1
 
-          d3 : Typed.Typed 𝓤 H A 𝓣 E G50 b17 Δ4 at3
+          d3 : Typed.Typed 𝓤 H A 𝓣 E G51 b17 Δ4 at3
           d3 = Typed.t-exit 𝓤 H A W 𝓣 E 1 Δ4 tt
 
-          d4 : Typed.Typed 𝓤 H A 𝓣 E G46 b17 Δ4 at4
-          d4 = Typed.g-pre 𝓤 H A W 𝓣 E G46 G50 b17 Δ4 (Typed.pass T46 T50 s46) at3 (Scalar.g-room 𝓤 H A W E G46 24 Syntax.tyBool (Scalar.room-sc 𝓤 H A W Row.sBool)) d3
+          d4 : Typed.Typed 𝓤 H A 𝓣 E G47 b17 Δ4 at4
+          d4 = Typed.g-pre 𝓤 H A W 𝓣 E G47 G51 b17 Δ4 (Typed.pass T47 T51 s47) at3 (Scalar.g-room 𝓤 H A W E G47 25 Syntax.tyBool (Scalar.room-sc 𝓤 H A W Row.sBool)) d3
 
-          d5 : Typed.Typed 𝓤 H A 𝓣 E G46 b18 Δ4 at5
-          d5 = Scalar.t-cond 𝓤 H A W E 𝓣 G46 24 (λ x. x) b16 b17 Δ4 at2 at4 (Scalar.reads-sc 𝓤 H A W Row.sBool) Path'.refl d2 d4
+          d5 : Typed.Typed 𝓤 H A 𝓣 E G47 b18 Δ4 at5
+          d5 = Scalar.t-cond 𝓤 H A W E 𝓣 G47 25 (λ x. x) b16 b17 Δ4 at2 at4 (Scalar.reads-sc 𝓤 H A W Row.sBool) Path'.refl d2 d4
 
-          d6 : Typed.Typed 𝓤 H A 𝓣 E G122 b42 Δ3 at6
-          d6 = Typed.s-typed 𝓤 H A W 𝓣 E G122 b42 Δ3 (Typed.ask s119) tt (Scalar.t-op2 𝓤 H A W E 𝓣 G122 (Syntax.add Syntax.unsigned) (Scalar.oAt 13 (Syntax.tyInt Syntax.w64) (Row.valS (Row.sInt Syntax.w64))) (Scalar.oInt Syntax.w64 1) 13 (Rows.sc-here (Row.sInt Syntax.w64)) (Syntax.tyInt Syntax.w64) (Row.valS (Row.sInt Syntax.w64)) (Row.sInt Syntax.w64 .of) (Scalar.reads-sc 𝓤 H A W (Row.sInt Syntax.w64), Path'.refl) tt (Scalar.room-sc 𝓤 H A W (Row.sInt Syntax.w64)) (Scalar.holds-sc 𝓤 H A W (Row.sInt Syntax.w64)) Path'.refl (λ u. Path'.refl) λ u. tt)
+          d6 : Typed.Typed 𝓤 H A 𝓣 E G130 b44 Δ3 at6
+          d6 = Typed.s-typed 𝓤 H A W 𝓣 E G130 b44 Δ3 (Typed.ask s127) tt (Scalar.t-op2 𝓤 H A W E 𝓣 G130 (Syntax.add Syntax.unsigned) (Scalar.oAt 14 (Syntax.tyInt Syntax.w64) (Row.valS (Row.sInt Syntax.w64))) (Scalar.oInt Syntax.w64 1) 14 (Rows.sc-here (Row.sInt Syntax.w64)) (Syntax.tyInt Syntax.w64) (Row.valS (Row.sInt Syntax.w64)) (Row.sInt Syntax.w64 .of) (Scalar.reads-sc 𝓤 H A W (Row.sInt Syntax.w64), Path'.refl) tt (Scalar.room-sc 𝓤 H A W (Row.sInt Syntax.w64)) (Scalar.holds-sc 𝓤 H A W (Row.sInt Syntax.w64)) Path'.refl (λ u. Path'.refl) λ u. tt)
 
-          d7 : Typed.Typed 𝓤 H A 𝓣 E G121 b42 Δ3 at7
-          d7 = Typed.g-pre 𝓤 H A W 𝓣 E G121 G122 b42 Δ3 (λ Ψ. Ψ) at6 (Lifetime.g-forget 𝓤 H A W E G121 18 Row.dead Path'.refl) d6
+          d7 : Typed.Typed 𝓤 H A 𝓣 E G129 b44 Δ3 at7
+          d7 = Typed.g-pre 𝓤 H A W 𝓣 E G129 G130 b44 Δ3 (λ Ψ. Ψ) at6 (Lifetime.g-forget 𝓤 H A W E G129 20 Row.dead Path'.refl) d6
 
-          d8 : Typed.Typed 𝓤 H A 𝓣 E G120 b42 Δ3 at8
-          d8 = Typed.g-pre 𝓤 H A W 𝓣 E G120 G121 b42 Δ3 (Typed.pass T118 T121 s117) at7 (Reshare.g-back-sl-shr 𝓤 H A W E (Referent.rtF (Referent.fInt Syntax.w16)) G120 8 5 18 ty·6 (Row.lease (κs .1 .1 .1 .1 .1 .0) (qs .1 .1 .1 .1 .1 .0)) (λ x. x) (Reads'.as-is 𝓤 H A (Reshare.mslice-owedS (Referent.rtF (Referent.fInt Syntax.w16)) ty·6 5 18 (Row.lease (κs .1 .1 .1 .1 .1 .0) (qs .1 .1 .1 .1 .1 .0)))) Path'.refl Path'.refl) d7
+          d8 : Typed.Typed 𝓤 H A 𝓣 E G128 b44 Δ3 at8
+          d8 = Typed.g-pre 𝓤 H A W 𝓣 E G128 G129 b44 Δ3 (Typed.pass T126 T129 s125) at7 (Reshare.g-back-sl-shr 𝓤 H A W E (Referent.rtF (Referent.fInt Syntax.w16)) G128 8 5 20 ty·6 (Row.lease (κs .1 .1 .1 .1 .1 .0) (qs .1 .1 .1 .1 .1 .0)) (λ x. x) (Reads'.as-is 𝓤 H A (Reshare.mslice-owedS (Referent.rtF (Referent.fInt Syntax.w16)) ty·6 5 20 (Row.lease (κs .1 .1 .1 .1 .1 .0) (qs .1 .1 .1 .1 .1 .0)))) Path'.refl Path'.refl) d7
 
-          d9 : Typed.Typed 𝓤 H A 𝓣 E G119 b42 Δ3 at9
-          d9 = Typed.g-pre 𝓤 H A W 𝓣 E G119 G120 b42 Δ3 (λ Ψ. Ψ) at8 (Lifetime.g-end 𝓤 H A W E G119 18 Path'.refl) d8
+          d9 : Typed.Typed 𝓤 H A 𝓣 E G127 b44 Δ3 at9
+          d9 = Typed.g-pre 𝓤 H A W 𝓣 E G127 G128 b44 Δ3 (λ Ψ. Ψ) at8 (Lifetime.g-end 𝓤 H A W E G127 20 Path'.refl) d8
 
-          d10 : Typed.Typed 𝓤 H A 𝓣 E G118 b42 Δ3 at10
-          d10 = Typed.g-pre 𝓤 H A W 𝓣 E G118 G119 b42 Δ3 (λ Ψ. Ψ) at9 (Lifetime.g-forget 𝓤 H A W E G118 17 Row.dead Path'.refl) d9
+          d10 : Typed.Typed 𝓤 H A 𝓣 E G126 b44 Δ3 at10
+          d10 = Typed.g-pre 𝓤 H A W 𝓣 E G126 G127 b44 Δ3 (λ Ψ. Ψ) at9 (Lifetime.g-forget 𝓤 H A W E G126 19 Row.dead Path'.refl) d9
 
-          d11 : Typed.Typed 𝓤 H A 𝓣 E G117 b42 Δ3 at11
-          d11 = Typed.g-pre 𝓤 H A W 𝓣 E G117 G118 b42 Δ3 (Typed.give s114) at10 (Know.g-sl-known 𝓤 H A W (Referent.fInt Syntax.w16) E G117 7 4 ty·5 (Row.lease (κs .1 .1 .1 .1 .0) (qs .1 .1 .1 .1 .0)) 0 (λ x. x) record { fits = Dec'.lit< tt } (Reads'.as-is 𝓤 H A (Mut.mslice (Referent.rtF (Referent.fInt Syntax.w16)) ty·5 4)) Path'.refl tt) d10
+          d11 : Typed.Typed 𝓤 H A 𝓣 E G125 b44 Δ3 at11
+          d11 = Typed.g-pre 𝓤 H A W 𝓣 E G125 G126 b44 Δ3 (Typed.give s122) at10 (Know.g-sl-known 𝓤 H A W (Referent.fInt Syntax.w16) E G125 7 4 ty·5 (Row.lease (κs .1 .1 .1 .1 .0) (qs .1 .1 .1 .1 .0)) 0 (λ x. x) record { fits = Dec'.lit< tt } (Reads'.as-is 𝓤 H A (Mut.mslice (Referent.rtF (Referent.fInt Syntax.w16)) ty·5 4)) Path'.refl tt) d10
 
-          d12 : Typed.Typed 𝓤 H A 𝓣 E G116 b42 Δ3 at12
-          d12 = Typed.g-pre 𝓤 H A W 𝓣 E G116 G117 b42 Δ3 (Typed.both s113) at11 (Relend.g-back-sl 𝓤 H A W E (Referent.rtF (Referent.fInt Syntax.w16)) G116 41 7 4 17 ty·5 ty·0 (Row.lease (κs .1 .1 .1 .1 .0) (qs .1 .1 .1 .1 .0)) (λ x. x) (λ x. x) (Reads'.as-is 𝓤 H A (Mut.msleft (Referent.rtF (Referent.fInt Syntax.w16)) ty·0)) (Reads'.as-is 𝓤 H A (Relend.mslice-owed (Referent.rtF (Referent.fInt Syntax.w16)) ty·5 4 17 (Row.lease (κs .1 .1 .1 .1 .0) (qs .1 .1 .1 .1 .0)))) Path'.refl Path'.refl) d11
+          d12 : Typed.Typed 𝓤 H A 𝓣 E G124 b44 Δ3 at12
+          d12 = Typed.g-pre 𝓤 H A W 𝓣 E G124 G125 b44 Δ3 (Typed.both s121) at11 (Relend.g-back-sl 𝓤 H A W E (Referent.rtF (Referent.fInt Syntax.w16)) G124 44 7 4 19 ty·5 ty·0 (Row.lease (κs .1 .1 .1 .1 .0) (qs .1 .1 .1 .1 .0)) (λ x. x) (λ x. x) (Reads'.as-is 𝓤 H A (Mut.msleft (Referent.rtF (Referent.fInt Syntax.w16)) ty·0)) (Reads'.as-is 𝓤 H A (Relend.mslice-owed (Referent.rtF (Referent.fInt Syntax.w16)) ty·5 4 19 (Row.lease (κs .1 .1 .1 .1 .0) (qs .1 .1 .1 .1 .0)))) Path'.refl Path'.refl) d11
 
-          d13 : Typed.Typed 𝓤 H A 𝓣 E G115 b42 Δ3 at13
-          d13 = Typed.g-pre 𝓤 H A W 𝓣 E G115 G116 b42 Δ3 (λ Ψ. Ψ) at12 (Lifetime.g-end 𝓤 H A W E G115 17 Path'.refl) d12
+          d13 : Typed.Typed 𝓤 H A 𝓣 E G123 b44 Δ3 at13
+          d13 = Typed.g-pre 𝓤 H A W 𝓣 E G123 G124 b44 Δ3 (λ Ψ. Ψ) at12 (Lifetime.g-end 𝓤 H A W E G123 19 Path'.refl) d12
 
-          d14 : Typed.Typed 𝓤 H A 𝓣 E G114 b42 Δ3 at14
-          d14 = Typed.g-pre 𝓤 H A W 𝓣 E G114 G115 b42 Δ3 (λ Ψ. Ψ) at13 (Lifetime.g-forget 𝓤 H A W E G114 16 Row.dead Path'.refl) d13
+          d14 : Typed.Typed 𝓤 H A 𝓣 E G122 b44 Δ3 at14
+          d14 = Typed.g-pre 𝓤 H A W 𝓣 E G122 G123 b44 Δ3 (λ Ψ. Ψ) at13 (Lifetime.g-forget 𝓤 H A W E G122 18 Row.dead Path'.refl) d13
 
-          d15 : Typed.Typed 𝓤 H A 𝓣 E G113 b42 Δ3 at15
-          d15 = Typed.g-pre 𝓤 H A W 𝓣 E G113 G114 b42 Δ3 (Typed.give s110) at14 (Know.g-sl-known 𝓤 H A W (Referent.fInt Syntax.w16) E G113 6 3 ty·4 (Row.lease (κs .1 .1 .1 .0) (qs .1 .1 .1 .0)) 0 (λ x. x) record { fits = Dec'.lit< tt } (Reads'.as-is 𝓤 H A (Mut.mslice (Referent.rtF (Referent.fInt Syntax.w16)) ty·4 3)) Path'.refl tt) d14
+          d15 : Typed.Typed 𝓤 H A 𝓣 E G121 b44 Δ3 at15
+          d15 = Typed.g-pre 𝓤 H A W 𝓣 E G121 G122 b44 Δ3 (Typed.give s118) at14 (Know.g-sl-known 𝓤 H A W (Referent.fInt Syntax.w16) E G121 6 3 ty·4 (Row.lease (κs .1 .1 .1 .0) (qs .1 .1 .1 .0)) 0 (λ x. x) record { fits = Dec'.lit< tt } (Reads'.as-is 𝓤 H A (Mut.mslice (Referent.rtF (Referent.fInt Syntax.w16)) ty·4 3)) Path'.refl tt) d14
 
-          d16 : Typed.Typed 𝓤 H A 𝓣 E G112 b42 Δ3 at16
-          d16 = Typed.g-pre 𝓤 H A W 𝓣 E G112 G113 b42 Δ3 (Typed.both s109) at15 (Relend.g-back-sl 𝓤 H A W E (Referent.rtF (Referent.fInt Syntax.w16)) G112 39 6 3 16 ty·4 ty·0 (Row.lease (κs .1 .1 .1 .0) (qs .1 .1 .1 .0)) (λ x. x) (λ x. x) (Reads'.as-is 𝓤 H A (Mut.msleft (Referent.rtF (Referent.fInt Syntax.w16)) ty·0)) (Reads'.as-is 𝓤 H A (Relend.mslice-owed (Referent.rtF (Referent.fInt Syntax.w16)) ty·4 3 16 (Row.lease (κs .1 .1 .1 .0) (qs .1 .1 .1 .0)))) Path'.refl Path'.refl) d15
+          d16 : Typed.Typed 𝓤 H A 𝓣 E G120 b44 Δ3 at16
+          d16 = Typed.g-pre 𝓤 H A W 𝓣 E G120 G121 b44 Δ3 (Typed.both s117) at15 (Relend.g-back-sl 𝓤 H A W E (Referent.rtF (Referent.fInt Syntax.w16)) G120 42 6 3 18 ty·4 ty·0 (Row.lease (κs .1 .1 .1 .0) (qs .1 .1 .1 .0)) (λ x. x) (λ x. x) (Reads'.as-is 𝓤 H A (Mut.msleft (Referent.rtF (Referent.fInt Syntax.w16)) ty·0)) (Reads'.as-is 𝓤 H A (Relend.mslice-owed (Referent.rtF (Referent.fInt Syntax.w16)) ty·4 3 18 (Row.lease (κs .1 .1 .1 .0) (qs .1 .1 .1 .0)))) Path'.refl Path'.refl) d15
 
-          d17 : Typed.Typed 𝓤 H A 𝓣 E G111 b42 Δ3 at17
-          d17 = Typed.g-pre 𝓤 H A W 𝓣 E G111 G112 b42 Δ3 (λ Ψ. Ψ) at16 (Lifetime.g-end 𝓤 H A W E G111 16 Path'.refl) d16
+          d17 : Typed.Typed 𝓤 H A 𝓣 E G119 b44 Δ3 at17
+          d17 = Typed.g-pre 𝓤 H A W 𝓣 E G119 G120 b44 Δ3 (λ Ψ. Ψ) at16 (Lifetime.g-end 𝓤 H A W E G119 18 Path'.refl) d16
 
-          d18 : Typed.Typed 𝓤 H A 𝓣 E G110 b42 Δ3 at18
-          d18 = Typed.g-pre 𝓤 H A W 𝓣 E G110 G111 b42 Δ3 (Typed.pass T110 T111 s107) at17 (Scalar.g-room 𝓤 H A W E G110 37 Syntax.tyUnit (Scalar.room-sc 𝓤 H A W Row.sUnit)) d17
+          d18 : Typed.Typed 𝓤 H A 𝓣 E G118 b44 Δ3 at18
+          d18 = Typed.g-pre 𝓤 H A W 𝓣 E G118 G119 b44 Δ3 (Typed.pass T118 T119 s115) at17 (Scalar.g-room 𝓤 H A W E G118 40 Syntax.tyUnit (Scalar.room-sc 𝓤 H A W Row.sUnit)) d17
 
-          d19 : Typed.Typed 𝓤 H A 𝓣 E G109 b42 Δ3 at19
-          d19 = Typed.g-pre 𝓤 H A W 𝓣 E G109 G110 b42 Δ3 (Typed.pass T109 T110 s106) at18 (Scalar.g-room 𝓤 H A W E G109 14 ty·12 (Local.room-whole 𝓤 H A W (Declared.row Progress.the-type) ty·12 Path'.refl)) d18
+          d19 : Typed.Typed 𝓤 H A 𝓣 E G117 b44 Δ3 at19
+          d19 = Typed.g-pre 𝓤 H A W 𝓣 E G117 G118 b44 Δ3 (Typed.pass T117 T118 s114) at18 (Scalar.g-room 𝓤 H A W E G117 15 ty·13 (Local.room-whole 𝓤 H A W (Declared.row Progress.the-type) ty·13 Path'.refl)) d18
 
-          d20 : Typed.Typed 𝓤 H A 𝓣 E G108 b42 Δ3 at20
-          d20 = Typed.g-pre 𝓤 H A W 𝓣 E G108 G109 b42 Δ3 (Typed.pass T108 T109 s105) at19 (Scalar.g-room 𝓤 H A W E G108 43 ty·9 (Shared.room-sslice 𝓤 H A W (Referent.rtF (Referent.fInt Syntax.w16)) ty·1 18)) d19
+          d20 : Typed.Typed 𝓤 H A 𝓣 E G116 b44 Δ3 at20
+          d20 = Typed.g-pre 𝓤 H A W 𝓣 E G116 G117 b44 Δ3 (Typed.pass T116 T117 s113) at19 (Scalar.g-room 𝓤 H A W E G116 46 ty·10 (Shared.room-sslice 𝓤 H A W (Referent.rtF (Referent.fInt Syntax.w16)) ty·1 20)) d19
 
-          d21 : Typed.Typed 𝓤 H A 𝓣 E G107 b43 Δ3 at21
-          d21 = Typed.s-seq 𝓤 H A W 𝓣 E G107 G108 b41 b42 Δ3 (Typed.both s104) at20 (Plain.t-call-plain 𝓤 H A W 𝓣 4 ps·8 r·8 (claims· .16) (claims· .17) "search::marks::settle" (known .8) E (λ pos β. β) G107 (record { pos = 1; st = List.[]; d = 0; at = λ x. x }, (record { pos = 2; ty = Syntax.tyRef (Syntax.named 0) Syntax.imm (Memory.pointee (T.the-row .written)); ref = λ x. x }, (record { pos = 39; ty = Syntax.tyRef Syntax.erased Syntax.mut (Syntax.tyInt Syntax.w16); ref = λ x. x }, (record { pos = 41; ty = Syntax.tyRef Syntax.erased Syntax.mut (Syntax.tyInt Syntax.w16); ref = λ x. x }, (record { pos = 43; ty = Syntax.tyRef Syntax.erased Syntax.imm (Syntax.tyInt Syntax.w16); ref = λ x. x }, (Num.vAt 11 λ x. x, (Num.vFld 14 (List._∷_ (Syntax.field 0) List.[]) 0 λ x. Progress.struct .as-values x .0, tt))))))) 37 (List._∷_ 0 (List._∷_ 16 (List._∷_ 17 (List._∷_ 18 List.[])))) (Call.sub-id 𝓤 H A W (G107 .slots)) ((Yields.yields-copy 𝓤 H A W (λ ρ. Unit) (Declared.row Size.the-type) Path'.refl (Copies.cStruct Size.the-type Laws''.the-laws Laws''.the-copy .copy 𝓤 H A W) (Rows.whole (Declared.row Size.the-type)) (λ x. x) (λ x. x) (λ ρ told. Local.mem-whole 𝓤 H A W (Declared.row Size.the-type) ρ) λ ρ told. Local.whole-mem 𝓤 H A W (Declared.row Size.the-type) ρ, Path'.refl), (ShrSlice.spares-sslice 𝓤 H A W T.the-row ty·7 0, Shared.reads-sslice 𝓤 H A W T.the-row ty·7 0, Path'.refl, (Reads'.as-is 𝓤 H A (Mut.mslice (Referent.rtF (Referent.fInt Syntax.w16)) ty·0 16), Mut.reads-mslice 𝓤 H A W (Referent.rtF (Referent.fInt Syntax.w16)) ty·0 16, Path'.refl, (Reads'.as-is 𝓤 H A (Mut.mslice (Referent.rtF (Referent.fInt Syntax.w16)) ty·0 17), Mut.reads-mslice 𝓤 H A W (Referent.rtF (Referent.fInt Syntax.w16)) ty·0 17, Path'.refl, (ShrSlice.spares-sslice 𝓤 H A W (Referent.rtF (Referent.fInt Syntax.w16)) ty·1 18, Shared.reads-sslice 𝓤 H A W (Referent.rtF (Referent.fInt Syntax.w16)) ty·1 18, Path'.refl, ((Scalar.reads-sc 𝓤 H A W (Row.sInt Syntax.w64), Path'.refl), ((Reads.reads-field 𝓤 H A W Progress.the-type Laws'.the-laws 0 (Syntax.tyInt Syntax.w64) 0 Path'.refl, Path'.refl), tt))))))) (Reads'.room-gone 𝓤 H A Syntax.tyUnit) (tt, (tt, (tt, (tt, tt)))) Path'.refl) d20
+          d21 : Typed.Typed 𝓤 H A 𝓣 E G115 b45 Δ3 at21
+          d21 = Typed.s-seq 𝓤 H A W 𝓣 E G115 G116 b43 b44 Δ3 (Typed.both s112) at20 (Plain.t-call-plain 𝓤 H A W 𝓣 4 ps·8 r·8 (claims· .16) (claims· .17) "search::marks::settle" (known .8) E (λ pos β. β) G115 (record { pos = 1; st = List.[]; d = 0; at = λ x. x }, (record { pos = 2; ty = Syntax.tyRef (Syntax.named 0) Syntax.imm (Memory.pointee (T.the-row .written)); ref = λ x. x }, (record { pos = 42; ty = Syntax.tyRef Syntax.erased Syntax.mut (Syntax.tyInt Syntax.w16); ref = λ x. x }, (record { pos = 44; ty = Syntax.tyRef Syntax.erased Syntax.mut (Syntax.tyInt Syntax.w16); ref = λ x. x }, (record { pos = 46; ty = Syntax.tyRef Syntax.erased Syntax.imm (Syntax.tyInt Syntax.w16); ref = λ x. x }, (Num.vAt 12 λ x. x, (Num.vFld 15 (List._∷_ (Syntax.field 0) List.[]) 0 λ x. Progress.struct .as-values x .0, tt))))))) 40 (List._∷_ 0 (List._∷_ 18 (List._∷_ 19 (List._∷_ 20 List.[])))) (Call.sub-id 𝓤 H A W (G115 .slots)) ((Yields.yields-copy 𝓤 H A W (λ ρ. Unit) (Declared.row Size.the-type) Path'.refl (Copies.cStruct Size.the-type Laws''.the-laws Laws''.the-copy .copy 𝓤 H A W) (Rows.whole (Declared.row Size.the-type)) (λ x. x) (λ x. x) (λ ρ told. Local.mem-whole 𝓤 H A W (Declared.row Size.the-type) ρ) λ ρ told. Local.whole-mem 𝓤 H A W (Declared.row Size.the-type) ρ, Path'.refl), (ShrSlice.spares-sslice 𝓤 H A W T.the-row ty·8 0, Shared.reads-sslice 𝓤 H A W T.the-row ty·8 0, Path'.refl, (Reads'.as-is 𝓤 H A (Mut.mslice (Referent.rtF (Referent.fInt Syntax.w16)) ty·0 18), Mut.reads-mslice 𝓤 H A W (Referent.rtF (Referent.fInt Syntax.w16)) ty·0 18, Path'.refl, (Reads'.as-is 𝓤 H A (Mut.mslice (Referent.rtF (Referent.fInt Syntax.w16)) ty·0 19), Mut.reads-mslice 𝓤 H A W (Referent.rtF (Referent.fInt Syntax.w16)) ty·0 19, Path'.refl, (ShrSlice.spares-sslice 𝓤 H A W (Referent.rtF (Referent.fInt Syntax.w16)) ty·1 20, Shared.reads-sslice 𝓤 H A W (Referent.rtF (Referent.fInt Syntax.w16)) ty·1 20, Path'.refl, ((Scalar.reads-sc 𝓤 H A W (Row.sInt Syntax.w64), Path'.refl), ((Reads.reads-field 𝓤 H A W Progress.the-type Laws'.the-laws 0 (Syntax.tyInt Syntax.w64) 0 Path'.refl, Path'.refl), tt))))))) (Reads'.room-gone 𝓤 H A Syntax.tyUnit) (tt, (tt, (tt, (tt, tt)))) Path'.refl) d20
 
-          d22 : Typed.Typed 𝓤 H A 𝓣 E G106 b44 Δ3 at22
-          d22 = Typed.s-seq 𝓤 H A W 𝓣 E G106 G107 b40 b43 Δ3 (Typed.ask s103) at21 (Relend.t-sl-aggregate 𝓤 H A W E (Referent.rtF (Referent.fInt Syntax.w16)) 𝓣 (Relend.asShr (Referent.rtF (Referent.fInt Syntax.w16))) G106 42 43 18 ty·1 ty·1 (λ x. x) (Scalar.oFld 8 (List._∷_ (Syntax.field 1) List.[]) (Syntax.tyInt Syntax.w64) 8 λ v. Shared.lenV (v .0)) (Reads'.as-is 𝓤 H A (Relend.ssptr (Referent.rtF (Referent.fInt Syntax.w16)) ty·1 18)) (Reads'.room-gone 𝓤 H A ty·9) (Reshare.reads-owedS-len 𝓤 H A W (Referent.rtF (Referent.fInt Syntax.w16)) ty·6 5 18 (Row.lease (κs .1 .1 .1 .1 .1 .0) (qs .1 .1 .1 .1 .1 .0)) 8 Path'.refl, Path'.refl) Path'.refl Path'.refl λ b o k. tt) d21
+          d22 : Typed.Typed 𝓤 H A 𝓣 E G114 b46 Δ3 at22
+          d22 = Typed.s-seq 𝓤 H A W 𝓣 E G114 G115 b42 b45 Δ3 (Typed.ask s111) at21 (Relend.t-sl-aggregate 𝓤 H A W E (Referent.rtF (Referent.fInt Syntax.w16)) 𝓣 (Relend.asShr (Referent.rtF (Referent.fInt Syntax.w16))) G114 45 46 20 ty·1 ty·1 (λ x. x) (Scalar.oFld 8 (List._∷_ (Syntax.field 1) List.[]) (Syntax.tyInt Syntax.w64) 8 λ v. Shared.lenV (v .0)) (Reads'.as-is 𝓤 H A (Relend.ssptr (Referent.rtF (Referent.fInt Syntax.w16)) ty·1 20)) (Reads'.room-gone 𝓤 H A ty·10) (Reshare.reads-owedS-len 𝓤 H A W (Referent.rtF (Referent.fInt Syntax.w16)) ty·6 5 20 (Row.lease (κs .1 .1 .1 .1 .1 .0) (qs .1 .1 .1 .1 .1 .0)) 8 Path'.refl, Path'.refl) Path'.refl Path'.refl λ b o k. tt) d21
 
-          d23 : Typed.Typed 𝓤 H A 𝓣 E G105 b45 Δ3 at23
-          d23 = Typed.s-seq 𝓤 H A W 𝓣 E G105 G106 b39 b44 Δ3 (Typed.give s102) at22 (Reshare.t-sl-reshare 𝓤 H A W E (Referent.rtF (Referent.fInt Syntax.w16)) 𝓣 G105 8 42 5 18 ty·6 ty·1 (Row.lease (κs .1 .1 .1 .1 .1 .0) (qs .1 .1 .1 .1 .1 .0)) 0 (λ x. x) (Reads'.as-is 𝓤 H A (Mut.mslice (Referent.rtF (Referent.fInt Syntax.w16)) ty·6 5)) (Reads'.room-gone 𝓤 H A ty·1) Path'.refl tt Path'.refl Path'.refl Path'.refl λ b o. tt) d22
+          d23 : Typed.Typed 𝓤 H A 𝓣 E G113 b47 Δ3 at23
+          d23 = Typed.s-seq 𝓤 H A W 𝓣 E G113 G114 b41 b46 Δ3 (Typed.give s110) at22 (Reshare.t-sl-reshare 𝓤 H A W E (Referent.rtF (Referent.fInt Syntax.w16)) 𝓣 G113 8 45 5 20 ty·6 ty·1 (Row.lease (κs .1 .1 .1 .1 .1 .0) (qs .1 .1 .1 .1 .1 .0)) 0 (λ x. x) (Reads'.as-is 𝓤 H A (Mut.mslice (Referent.rtF (Referent.fInt Syntax.w16)) ty·6 5)) (Reads'.room-gone 𝓤 H A ty·1) Path'.refl tt Path'.refl Path'.refl Path'.refl λ b o. tt) d22
 
-          d24 : Typed.Typed 𝓤 H A 𝓣 E G104 b45 Δ3 at24
-          d24 = Typed.g-pre 𝓤 H A W 𝓣 E G104 G105 b45 Δ3 (λ Ψ. Ψ) at23 (Lifetime.g-begin 𝓤 H A W E G104 18 (tt, (tt, (tt, (tt, (tt, (tt, ((tt, tt), ((tt, tt), (tt, (tt, (tt, (tt, (tt, (tt, (tt, (tt, (tt, (tt, (tt, (tt, (tt, (tt, (tt, (tt, (tt, (tt, (tt, (tt, (tt, (tt, (tt, (tt, (tt, (tt, (tt, (tt, (tt, (tt, (tt, (tt, (tt, (tt, (tt, (tt, (tt, (tt, (tt, (tt, tt))))))))))))))))))))))))))))))))))))))))))))))))) d23
+          d24 : Typed.Typed 𝓤 H A 𝓣 E G112 b47 Δ3 at24
+          d24 = Typed.g-pre 𝓤 H A W 𝓣 E G112 G113 b47 Δ3 (λ Ψ. Ψ) at23 (Lifetime.g-begin 𝓤 H A W E G112 20 (tt, (tt, (tt, (tt, (tt, (tt, ((tt, tt), ((tt, tt), (tt, (tt, (tt, (tt, (tt, (tt, (tt, (tt, (tt, (tt, (tt, (tt, (tt, (tt, (tt, (tt, (tt, (tt, (tt, (tt, (tt, (tt, (tt, (tt, (tt, (tt, (tt, (tt, (tt, (tt, (tt, (tt, (tt, (tt, (tt, (tt, (tt, (tt, (tt, (tt, (tt, (tt, (tt, tt)))))))))))))))))))))))))))))))))))))))))))))))))))) d23
 
-          d25 : Typed.Typed 𝓤 H A 𝓣 E G103 b46 Δ3 at25
-          d25 = Typed.s-seq 𝓤 H A W 𝓣 E G103 G104 b38 b45 Δ3 (Typed.ask s100) at24 (Relend.t-sl-aggregate 𝓤 H A W E (Referent.rtF (Referent.fInt Syntax.w16)) 𝓣 (Relend.asMut (Referent.rtF (Referent.fInt Syntax.w16))) G103 40 41 17 ty·0 ty·0 (λ x. x) (Scalar.oFld 7 (List._∷_ (Syntax.field 1) List.[]) (Syntax.tyInt Syntax.w64) 8 λ v. Shared.lenV (v .0)) (Reads'.as-is 𝓤 H A (Relend.msptr (Referent.rtF (Referent.fInt Syntax.w16)) ty·0 17)) (Reads'.room-gone 𝓤 H A ty·8) (Relend.reads-owed-len 𝓤 H A W (Referent.rtF (Referent.fInt Syntax.w16)) ty·5 4 17 (Row.lease (κs .1 .1 .1 .1 .0) (qs .1 .1 .1 .1 .0)) 8 Path'.refl, Path'.refl) Path'.refl Path'.refl λ b o k. tt) d24
+          d25 : Typed.Typed 𝓤 H A 𝓣 E G111 b48 Δ3 at25
+          d25 = Typed.s-seq 𝓤 H A W 𝓣 E G111 G112 b40 b47 Δ3 (Typed.ask s108) at24 (Relend.t-sl-aggregate 𝓤 H A W E (Referent.rtF (Referent.fInt Syntax.w16)) 𝓣 (Relend.asMut (Referent.rtF (Referent.fInt Syntax.w16))) G111 43 44 19 ty·0 ty·0 (λ x. x) (Scalar.oFld 7 (List._∷_ (Syntax.field 1) List.[]) (Syntax.tyInt Syntax.w64) 8 λ v. Shared.lenV (v .0)) (Reads'.as-is 𝓤 H A (Relend.msptr (Referent.rtF (Referent.fInt Syntax.w16)) ty·0 19)) (Reads'.room-gone 𝓤 H A ty·9) (Relend.reads-owed-len 𝓤 H A W (Referent.rtF (Referent.fInt Syntax.w16)) ty·5 4 19 (Row.lease (κs .1 .1 .1 .1 .0) (qs .1 .1 .1 .1 .0)) 8 Path'.refl, Path'.refl) Path'.refl Path'.refl λ b o k. tt) d24
 
-          d26 : Typed.Typed 𝓤 H A 𝓣 E G102 b47 Δ3 at26
-          d26 = Typed.s-seq 𝓤 H A W 𝓣 E G102 G103 b37 b46 Δ3 (Typed.give s99) at25 (Relend.t-sl-relend 𝓤 H A W E (Referent.rtF (Referent.fInt Syntax.w16)) 𝓣 G102 7 40 4 17 ty·5 ty·0 (Row.lease (κs .1 .1 .1 .1 .0) (qs .1 .1 .1 .1 .0)) 0 (λ x. x) (Reads'.as-is 𝓤 H A (Mut.mslice (Referent.rtF (Referent.fInt Syntax.w16)) ty·5 4)) (Reads'.room-gone 𝓤 H A ty·0) Path'.refl tt Path'.refl Path'.refl Path'.refl λ b o. tt) d25
+          d26 : Typed.Typed 𝓤 H A 𝓣 E G110 b49 Δ3 at26
+          d26 = Typed.s-seq 𝓤 H A W 𝓣 E G110 G111 b39 b48 Δ3 (Typed.give s107) at25 (Relend.t-sl-relend 𝓤 H A W E (Referent.rtF (Referent.fInt Syntax.w16)) 𝓣 G110 7 43 4 19 ty·5 ty·0 (Row.lease (κs .1 .1 .1 .1 .0) (qs .1 .1 .1 .1 .0)) 0 (λ x. x) (Reads'.as-is 𝓤 H A (Mut.mslice (Referent.rtF (Referent.fInt Syntax.w16)) ty·5 4)) (Reads'.room-gone 𝓤 H A ty·0) Path'.refl tt Path'.refl Path'.refl Path'.refl λ b o. tt) d25
 
-          d27 : Typed.Typed 𝓤 H A 𝓣 E G101 b47 Δ3 at27
-          d27 = Typed.g-pre 𝓤 H A W 𝓣 E G101 G102 b47 Δ3 (λ Ψ. Ψ) at26 (Lifetime.g-begin 𝓤 H A W E G101 17 (tt, (tt, (tt, (tt, (tt, (tt, ((tt, tt), (tt, (tt, (tt, (tt, (tt, (tt, (tt, (tt, (tt, (tt, (tt, (tt, (tt, (tt, (tt, (tt, (tt, (tt, (tt, (tt, (tt, (tt, (tt, (tt, (tt, (tt, (tt, (tt, (tt, (tt, (tt, (tt, (tt, (tt, (tt, (tt, (tt, (tt, (tt, (tt, (tt, tt))))))))))))))))))))))))))))))))))))))))))))))))) d26
+          d27 : Typed.Typed 𝓤 H A 𝓣 E G109 b49 Δ3 at27
+          d27 = Typed.g-pre 𝓤 H A W 𝓣 E G109 G110 b49 Δ3 (λ Ψ. Ψ) at26 (Lifetime.g-begin 𝓤 H A W E G109 19 (tt, (tt, (tt, (tt, (tt, (tt, ((tt, tt), (tt, (tt, (tt, (tt, (tt, (tt, (tt, (tt, (tt, (tt, (tt, (tt, (tt, (tt, (tt, (tt, (tt, (tt, (tt, (tt, (tt, (tt, (tt, (tt, (tt, (tt, (tt, (tt, (tt, (tt, (tt, (tt, (tt, (tt, (tt, (tt, (tt, (tt, (tt, (tt, (tt, (tt, (tt, (tt, tt)))))))))))))))))))))))))))))))))))))))))))))))))))) d26
 
-          d28 : Typed.Typed 𝓤 H A 𝓣 E G100 b48 Δ3 at28
-          d28 = Typed.s-seq 𝓤 H A W 𝓣 E G100 G101 b36 b47 Δ3 (Typed.ask s97) at27 (Relend.t-sl-aggregate 𝓤 H A W E (Referent.rtF (Referent.fInt Syntax.w16)) 𝓣 (Relend.asMut (Referent.rtF (Referent.fInt Syntax.w16))) G100 38 39 16 ty·0 ty·0 (λ x. x) (Scalar.oFld 6 (List._∷_ (Syntax.field 1) List.[]) (Syntax.tyInt Syntax.w64) 8 λ v. Shared.lenV (v .0)) (Reads'.as-is 𝓤 H A (Relend.msptr (Referent.rtF (Referent.fInt Syntax.w16)) ty·0 16)) (Reads'.room-gone 𝓤 H A ty·8) (Relend.reads-owed-len 𝓤 H A W (Referent.rtF (Referent.fInt Syntax.w16)) ty·4 3 16 (Row.lease (κs .1 .1 .1 .0) (qs .1 .1 .1 .0)) 8 Path'.refl, Path'.refl) Path'.refl Path'.refl λ b o k. tt) d27
+          d28 : Typed.Typed 𝓤 H A 𝓣 E G108 b50 Δ3 at28
+          d28 = Typed.s-seq 𝓤 H A W 𝓣 E G108 G109 b38 b49 Δ3 (Typed.ask s105) at27 (Relend.t-sl-aggregate 𝓤 H A W E (Referent.rtF (Referent.fInt Syntax.w16)) 𝓣 (Relend.asMut (Referent.rtF (Referent.fInt Syntax.w16))) G108 41 42 18 ty·0 ty·0 (λ x. x) (Scalar.oFld 6 (List._∷_ (Syntax.field 1) List.[]) (Syntax.tyInt Syntax.w64) 8 λ v. Shared.lenV (v .0)) (Reads'.as-is 𝓤 H A (Relend.msptr (Referent.rtF (Referent.fInt Syntax.w16)) ty·0 18)) (Reads'.room-gone 𝓤 H A ty·9) (Relend.reads-owed-len 𝓤 H A W (Referent.rtF (Referent.fInt Syntax.w16)) ty·4 3 18 (Row.lease (κs .1 .1 .1 .0) (qs .1 .1 .1 .0)) 8 Path'.refl, Path'.refl) Path'.refl Path'.refl λ b o k. tt) d27
 
-          d29 : Typed.Typed 𝓤 H A 𝓣 E G99 b49 Δ3 at29
-          d29 = Typed.s-seq 𝓤 H A W 𝓣 E G99 G100 b35 b48 Δ3 (Typed.give s96) at28 (Relend.t-sl-relend 𝓤 H A W E (Referent.rtF (Referent.fInt Syntax.w16)) 𝓣 G99 6 38 3 16 ty·4 ty·0 (Row.lease (κs .1 .1 .1 .0) (qs .1 .1 .1 .0)) 0 (λ x. x) (Reads'.as-is 𝓤 H A (Mut.mslice (Referent.rtF (Referent.fInt Syntax.w16)) ty·4 3)) (Reads'.room-gone 𝓤 H A ty·0) Path'.refl tt Path'.refl Path'.refl Path'.refl λ b o. tt) d28
+          d29 : Typed.Typed 𝓤 H A 𝓣 E G107 b51 Δ3 at29
+          d29 = Typed.s-seq 𝓤 H A W 𝓣 E G107 G108 b37 b50 Δ3 (Typed.give s104) at28 (Relend.t-sl-relend 𝓤 H A W E (Referent.rtF (Referent.fInt Syntax.w16)) 𝓣 G107 6 41 3 18 ty·4 ty·0 (Row.lease (κs .1 .1 .1 .0) (qs .1 .1 .1 .0)) 0 (λ x. x) (Reads'.as-is 𝓤 H A (Mut.mslice (Referent.rtF (Referent.fInt Syntax.w16)) ty·4 3)) (Reads'.room-gone 𝓤 H A ty·0) Path'.refl tt Path'.refl Path'.refl Path'.refl λ b o. tt) d28
 
-          d30 : Typed.Typed 𝓤 H A 𝓣 E G98 b49 Δ3 at30
-          d30 = Typed.g-pre 𝓤 H A W 𝓣 E G98 G99 b49 Δ3 (λ Ψ. Ψ) at29 (Lifetime.g-begin 𝓤 H A W E G98 16 (tt, (tt, (tt, (tt, (tt, (tt, (tt, (tt, (tt, (tt, (tt, (tt, (tt, (tt, (tt, (tt, (tt, (tt, (tt, (tt, (tt, (tt, (tt, (tt, (tt, (tt, (tt, (tt, (tt, (tt, (tt, (tt, (tt, (tt, (tt, (tt, (tt, (tt, (tt, (tt, (tt, (tt, (tt, (tt, (tt, (tt, (tt, (tt, tt))))))))))))))))))))))))))))))))))))))))))))))))) d29
+          d30 : Typed.Typed 𝓤 H A 𝓣 E G106 b51 Δ3 at30
+          d30 = Typed.g-pre 𝓤 H A W 𝓣 E G106 G107 b51 Δ3 (λ Ψ. Ψ) at29 (Lifetime.g-begin 𝓤 H A W E G106 18 (tt, (tt, (tt, (tt, (tt, (tt, (tt, (tt, (tt, (tt, (tt, (tt, (tt, (tt, (tt, (tt, (tt, (tt, (tt, (tt, (tt, (tt, (tt, (tt, (tt, (tt, (tt, (tt, (tt, (tt, (tt, (tt, (tt, (tt, (tt, (tt, (tt, (tt, (tt, (tt, (tt, (tt, (tt, (tt, (tt, (tt, (tt, (tt, (tt, (tt, (tt, tt)))))))))))))))))))))))))))))))))))))))))))))))))))) d29
 
-          d31 : Typed.Typed 𝓤 H A 𝓣 E G97 b49 Δ3 at31
-          d31 = Typed.g-pre 𝓤 H A W 𝓣 E G97 G98 b49 Δ3 (λ Ψ. Ψ) at30 (Lifetime.g-forget 𝓤 H A W E G97 15 Row.dead Path'.refl) d30
+          d31 : Typed.Typed 𝓤 H A 𝓣 E G105 b51 Δ3 at31
+          d31 = Typed.g-pre 𝓤 H A W 𝓣 E G105 G106 b51 Δ3 (λ Ψ. Ψ) at30 (Lifetime.g-forget 𝓤 H A W E G105 17 Row.dead Path'.refl) d30
 
-          d32 : Typed.Typed 𝓤 H A 𝓣 E G96 b49 Δ3 at32
-          d32 = Typed.g-pre 𝓤 H A W 𝓣 E G96 G97 b49 Δ3 (Typed.pass T94 T97 s93) at31 (Reshare.g-back-sl-shr 𝓤 H A W E (Referent.rtF (Referent.fInt Syntax.w16)) G96 8 5 15 ty·6 (Row.lease (κs .1 .1 .1 .1 .1 .0) (qs .1 .1 .1 .1 .1 .0)) (λ x. x) (Reads'.as-is 𝓤 H A (Reshare.mslice-owedS (Referent.rtF (Referent.fInt Syntax.w16)) ty·6 5 15 (Row.lease (κs .1 .1 .1 .1 .1 .0) (qs .1 .1 .1 .1 .1 .0)))) Path'.refl Path'.refl) d31
+          d32 : Typed.Typed 𝓤 H A 𝓣 E G104 b51 Δ3 at32
+          d32 = Typed.g-pre 𝓤 H A W 𝓣 E G104 G105 b51 Δ3 (Typed.pass T102 T105 s101) at31 (Reshare.g-back-sl-shr 𝓤 H A W E (Referent.rtF (Referent.fInt Syntax.w16)) G104 8 5 17 ty·6 (Row.lease (κs .1 .1 .1 .1 .1 .0) (qs .1 .1 .1 .1 .1 .0)) (λ x. x) (Reads'.as-is 𝓤 H A (Reshare.mslice-owedS (Referent.rtF (Referent.fInt Syntax.w16)) ty·6 5 17 (Row.lease (κs .1 .1 .1 .1 .1 .0) (qs .1 .1 .1 .1 .1 .0)))) Path'.refl Path'.refl) d31
 
-          d33 : Typed.Typed 𝓤 H A 𝓣 E G95 b49 Δ3 at33
-          d33 = Typed.g-pre 𝓤 H A W 𝓣 E G95 G96 b49 Δ3 (λ Ψ. Ψ) at32 (Lifetime.g-end 𝓤 H A W E G95 15 Path'.refl) d32
+          d33 : Typed.Typed 𝓤 H A 𝓣 E G103 b51 Δ3 at33
+          d33 = Typed.g-pre 𝓤 H A W 𝓣 E G103 G104 b51 Δ3 (λ Ψ. Ψ) at32 (Lifetime.g-end 𝓤 H A W E G103 17 Path'.refl) d32
 
-          d34 : Typed.Typed 𝓤 H A 𝓣 E G94 b49 Δ3 at34
-          d34 = Typed.g-pre 𝓤 H A W 𝓣 E G94 G95 b49 Δ3 (λ Ψ. Ψ) at33 (Lifetime.g-forget 𝓤 H A W E G94 14 Row.dead Path'.refl) d33
+          d34 : Typed.Typed 𝓤 H A 𝓣 E G102 b51 Δ3 at34
+          d34 = Typed.g-pre 𝓤 H A W 𝓣 E G102 G103 b51 Δ3 (λ Ψ. Ψ) at33 (Lifetime.g-forget 𝓤 H A W E G102 16 Row.dead Path'.refl) d33
 
-          d35 : Typed.Typed 𝓤 H A 𝓣 E G93 b49 Δ3 at35
-          d35 = Typed.g-pre 𝓤 H A W 𝓣 E G93 G94 b49 Δ3 (Typed.pass T92 T94 s90) at34 (Reshare.g-back-sl-shr 𝓤 H A W E (Referent.rtF (Referent.fInt Syntax.w16)) G93 7 4 14 ty·5 (Row.lease (κs .1 .1 .1 .1 .0) (qs .1 .1 .1 .1 .0)) (λ x. x) (Reads'.as-is 𝓤 H A (Reshare.mslice-owedS (Referent.rtF (Referent.fInt Syntax.w16)) ty·5 4 14 (Row.lease (κs .1 .1 .1 .1 .0) (qs .1 .1 .1 .1 .0)))) Path'.refl Path'.refl) d34
+          d35 : Typed.Typed 𝓤 H A 𝓣 E G101 b51 Δ3 at35
+          d35 = Typed.g-pre 𝓤 H A W 𝓣 E G101 G102 b51 Δ3 (Typed.pass T100 T102 s98) at34 (Reshare.g-back-sl-shr 𝓤 H A W E (Referent.rtF (Referent.fInt Syntax.w16)) G101 7 4 16 ty·5 (Row.lease (κs .1 .1 .1 .1 .0) (qs .1 .1 .1 .1 .0)) (λ x. x) (Reads'.as-is 𝓤 H A (Reshare.mslice-owedS (Referent.rtF (Referent.fInt Syntax.w16)) ty·5 4 16 (Row.lease (κs .1 .1 .1 .1 .0) (qs .1 .1 .1 .1 .0)))) Path'.refl Path'.refl) d34
 
-          d36 : Typed.Typed 𝓤 H A 𝓣 E G92 b49 Δ3 at36
-          d36 = Typed.g-pre 𝓤 H A W 𝓣 E G92 G93 b49 Δ3 (λ Ψ. Ψ) at35 (Lifetime.g-end 𝓤 H A W E G92 14 Path'.refl) d35
+          d36 : Typed.Typed 𝓤 H A 𝓣 E G100 b51 Δ3 at36
+          d36 = Typed.g-pre 𝓤 H A W 𝓣 E G100 G101 b51 Δ3 (λ Ψ. Ψ) at35 (Lifetime.g-end 𝓤 H A W E G100 16 Path'.refl) d35
 
-          d37 : Typed.Typed 𝓤 H A 𝓣 E G91 b49 Δ3 at37
-          d37 = Typed.g-pre 𝓤 H A W 𝓣 E G91 G92 b49 Δ3 (Typed.pass T91 T92 s88) at36 (Scalar.g-room 𝓤 H A W E G91 36 ty·9 (Shared.room-sslice 𝓤 H A W (Referent.rtF (Referent.fInt Syntax.w16)) ty·1 15)) d36
+          d37 : Typed.Typed 𝓤 H A 𝓣 E G99 b51 Δ3 at37
+          d37 = Typed.g-pre 𝓤 H A W 𝓣 E G99 G100 b51 Δ3 (Typed.pass T99 T100 s96) at36 (Scalar.g-room 𝓤 H A W E G99 39 ty·10 (Shared.room-sslice 𝓤 H A W (Referent.rtF (Referent.fInt Syntax.w16)) ty·1 17)) d36
 
-          d38 : Typed.Typed 𝓤 H A 𝓣 E G90 b49 Δ3 at38
-          d38 = Typed.g-pre 𝓤 H A W 𝓣 E G90 G91 b49 Δ3 (Typed.pass T90 T91 s87) at37 (Scalar.g-room 𝓤 H A W E G90 34 ty·9 (Shared.room-sslice 𝓤 H A W (Referent.rtF (Referent.fInt Syntax.w16)) ty·1 14)) d37
+          d38 : Typed.Typed 𝓤 H A 𝓣 E G98 b51 Δ3 at38
+          d38 = Typed.g-pre 𝓤 H A W 𝓣 E G98 G99 b51 Δ3 (Typed.pass T98 T99 s95) at37 (Scalar.g-room 𝓤 H A W E G98 37 ty·10 (Shared.room-sslice 𝓤 H A W (Referent.rtF (Referent.fInt Syntax.w16)) ty·1 16)) d37
 
-          d39 : Typed.Typed 𝓤 H A 𝓣 E G89 b50 Δ3 at39
-          d39 = Typed.s-seq 𝓤 H A W 𝓣 E G89 G90 b34 b49 Δ3 (Typed.both s86) at38 (Plain.t-call-plain 𝓤 H A W 𝓣 2 ps·7 r·7 (claims· .14) (claims· .15) "search::marks::kept" (known .7) E (λ pos β. β) G89 (record { pos = 34; ty = Syntax.tyRef Syntax.erased Syntax.imm (Syntax.tyInt Syntax.w16); ref = λ x. x }, (record { pos = 36; ty = Syntax.tyRef Syntax.erased Syntax.imm (Syntax.tyInt Syntax.w16); ref = λ x. x }, (Num.vFld 14 (List._∷_ (Syntax.field 0) List.[]) 0 λ x. Progress.struct .as-values x .0, (Num.vAt 12 λ x. x, tt)))) 11 (List._∷_ 14 (List._∷_ 15 List.[])) (Call.sub-id 𝓤 H A W (G89 .slots)) (ShrSlice.spares-sslice 𝓤 H A W (Referent.rtF (Referent.fInt Syntax.w16)) ty·1 14, Shared.reads-sslice 𝓤 H A W (Referent.rtF (Referent.fInt Syntax.w16)) ty·1 14, Path'.refl, (ShrSlice.spares-sslice 𝓤 H A W (Referent.rtF (Referent.fInt Syntax.w16)) ty·1 15, Shared.reads-sslice 𝓤 H A W (Referent.rtF (Referent.fInt Syntax.w16)) ty·1 15, Path'.refl, ((Reads.reads-field 𝓤 H A W Progress.the-type Laws'.the-laws 0 (Syntax.tyInt Syntax.w64) 0 Path'.refl, Path'.refl), ((Scalar.reads-sc 𝓤 H A W (Row.sInt Syntax.w64), Path'.refl), tt)))) (Reads'.room-gone 𝓤 H A (Syntax.tyInt Syntax.w64)) (tt, (tt, tt)) Path'.refl) d38
+          d39 : Typed.Typed 𝓤 H A 𝓣 E G97 b52 Δ3 at39
+          d39 = Typed.s-seq 𝓤 H A W 𝓣 E G97 G98 b36 b51 Δ3 (Typed.both s94) at38 (Plain.t-call-plain 𝓤 H A W 𝓣 2 ps·7 r·7 (claims· .14) (claims· .15) "search::marks::kept" (known .7) E (λ pos β. β) G97 (record { pos = 37; ty = Syntax.tyRef Syntax.erased Syntax.imm (Syntax.tyInt Syntax.w16); ref = λ x. x }, (record { pos = 39; ty = Syntax.tyRef Syntax.erased Syntax.imm (Syntax.tyInt Syntax.w16); ref = λ x. x }, (Num.vFld 15 (List._∷_ (Syntax.field 0) List.[]) 0 λ x. Progress.struct .as-values x .0, (Num.vAt 13 λ x. x, tt)))) 12 (List._∷_ 16 (List._∷_ 17 List.[])) (Call.sub-id 𝓤 H A W (G97 .slots)) (ShrSlice.spares-sslice 𝓤 H A W (Referent.rtF (Referent.fInt Syntax.w16)) ty·1 16, Shared.reads-sslice 𝓤 H A W (Referent.rtF (Referent.fInt Syntax.w16)) ty·1 16, Path'.refl, (ShrSlice.spares-sslice 𝓤 H A W (Referent.rtF (Referent.fInt Syntax.w16)) ty·1 17, Shared.reads-sslice 𝓤 H A W (Referent.rtF (Referent.fInt Syntax.w16)) ty·1 17, Path'.refl, ((Reads.reads-field 𝓤 H A W Progress.the-type Laws'.the-laws 0 (Syntax.tyInt Syntax.w64) 0 Path'.refl, Path'.refl), ((Scalar.reads-sc 𝓤 H A W (Row.sInt Syntax.w64), Path'.refl), tt)))) (Reads'.room-gone 𝓤 H A (Syntax.tyInt Syntax.w64)) (tt, (tt, tt)) Path'.refl) d38
 
-          d40 : Typed.Typed 𝓤 H A 𝓣 E G88 b51 Δ3 at40
-          d40 = Typed.s-seq 𝓤 H A W 𝓣 E G88 G89 b33 b50 Δ3 (Typed.ask s85) at39 (Relend.t-sl-aggregate 𝓤 H A W E (Referent.rtF (Referent.fInt Syntax.w16)) 𝓣 (Relend.asShr (Referent.rtF (Referent.fInt Syntax.w16))) G88 35 36 15 ty·1 ty·1 (λ x. x) (Scalar.oFld 8 (List._∷_ (Syntax.field 1) List.[]) (Syntax.tyInt Syntax.w64) 8 λ v. Shared.lenV (v .0)) (Reads'.as-is 𝓤 H A (Relend.ssptr (Referent.rtF (Referent.fInt Syntax.w16)) ty·1 15)) (Reads'.room-gone 𝓤 H A ty·9) (Reshare.reads-owedS-len 𝓤 H A W (Referent.rtF (Referent.fInt Syntax.w16)) ty·6 5 15 (Row.lease (κs .1 .1 .1 .1 .1 .0) (qs .1 .1 .1 .1 .1 .0)) 8 Path'.refl, Path'.refl) Path'.refl Path'.refl λ b o k. tt) d39
+          d40 : Typed.Typed 𝓤 H A 𝓣 E G96 b53 Δ3 at40
+          d40 = Typed.s-seq 𝓤 H A W 𝓣 E G96 G97 b35 b52 Δ3 (Typed.ask s93) at39 (Relend.t-sl-aggregate 𝓤 H A W E (Referent.rtF (Referent.fInt Syntax.w16)) 𝓣 (Relend.asShr (Referent.rtF (Referent.fInt Syntax.w16))) G96 38 39 17 ty·1 ty·1 (λ x. x) (Scalar.oFld 8 (List._∷_ (Syntax.field 1) List.[]) (Syntax.tyInt Syntax.w64) 8 λ v. Shared.lenV (v .0)) (Reads'.as-is 𝓤 H A (Relend.ssptr (Referent.rtF (Referent.fInt Syntax.w16)) ty·1 17)) (Reads'.room-gone 𝓤 H A ty·10) (Reshare.reads-owedS-len 𝓤 H A W (Referent.rtF (Referent.fInt Syntax.w16)) ty·6 5 17 (Row.lease (κs .1 .1 .1 .1 .1 .0) (qs .1 .1 .1 .1 .1 .0)) 8 Path'.refl, Path'.refl) Path'.refl Path'.refl λ b o k. tt) d39
 
-          d41 : Typed.Typed 𝓤 H A 𝓣 E G87 b52 Δ3 at41
-          d41 = Typed.s-seq 𝓤 H A W 𝓣 E G87 G88 b32 b51 Δ3 (Typed.give s84) at40 (Reshare.t-sl-reshare 𝓤 H A W E (Referent.rtF (Referent.fInt Syntax.w16)) 𝓣 G87 8 35 5 15 ty·6 ty·1 (Row.lease (κs .1 .1 .1 .1 .1 .0) (qs .1 .1 .1 .1 .1 .0)) 0 (λ x. x) (Reads'.as-is 𝓤 H A (Mut.mslice (Referent.rtF (Referent.fInt Syntax.w16)) ty·6 5)) (Reads'.room-gone 𝓤 H A ty·1) Path'.refl tt Path'.refl Path'.refl Path'.refl λ b o. tt) d40
+          d41 : Typed.Typed 𝓤 H A 𝓣 E G95 b54 Δ3 at41
+          d41 = Typed.s-seq 𝓤 H A W 𝓣 E G95 G96 b34 b53 Δ3 (Typed.give s92) at40 (Reshare.t-sl-reshare 𝓤 H A W E (Referent.rtF (Referent.fInt Syntax.w16)) 𝓣 G95 8 38 5 17 ty·6 ty·1 (Row.lease (κs .1 .1 .1 .1 .1 .0) (qs .1 .1 .1 .1 .1 .0)) 0 (λ x. x) (Reads'.as-is 𝓤 H A (Mut.mslice (Referent.rtF (Referent.fInt Syntax.w16)) ty·6 5)) (Reads'.room-gone 𝓤 H A ty·1) Path'.refl tt Path'.refl Path'.refl Path'.refl λ b o. tt) d40
 
-          d42 : Typed.Typed 𝓤 H A 𝓣 E G86 b52 Δ3 at42
-          d42 = Typed.g-pre 𝓤 H A W 𝓣 E G86 G87 b52 Δ3 (λ Ψ. Ψ) at41 (Lifetime.g-begin 𝓤 H A W E G86 15 (tt, (tt, (tt, (tt, (tt, (tt, (tt, ((tt, tt), (tt, (tt, (tt, (tt, (tt, (tt, (tt, (tt, (tt, (tt, (tt, (tt, (tt, (tt, (tt, (tt, (tt, (tt, (tt, (tt, (tt, (tt, (tt, (tt, (tt, (tt, (tt, (tt, (tt, (tt, (tt, (tt, (tt, (tt, (tt, (tt, (tt, (tt, (tt, (tt, tt))))))))))))))))))))))))))))))))))))))))))))))))) d41
+          d42 : Typed.Typed 𝓤 H A 𝓣 E G94 b54 Δ3 at42
+          d42 = Typed.g-pre 𝓤 H A W 𝓣 E G94 G95 b54 Δ3 (λ Ψ. Ψ) at41 (Lifetime.g-begin 𝓤 H A W E G94 17 (tt, (tt, (tt, (tt, (tt, (tt, (tt, ((tt, tt), (tt, (tt, (tt, (tt, (tt, (tt, (tt, (tt, (tt, (tt, (tt, (tt, (tt, (tt, (tt, (tt, (tt, (tt, (tt, (tt, (tt, (tt, (tt, (tt, (tt, (tt, (tt, (tt, (tt, (tt, (tt, (tt, (tt, (tt, (tt, (tt, (tt, (tt, (tt, (tt, (tt, (tt, (tt, tt)))))))))))))))))))))))))))))))))))))))))))))))))))) d41
 
-          d43 : Typed.Typed 𝓤 H A 𝓣 E G85 b53 Δ3 at43
-          d43 = Typed.s-seq 𝓤 H A W 𝓣 E G85 G86 b31 b52 Δ3 (Typed.ask s82) at42 (Relend.t-sl-aggregate 𝓤 H A W E (Referent.rtF (Referent.fInt Syntax.w16)) 𝓣 (Relend.asShr (Referent.rtF (Referent.fInt Syntax.w16))) G85 33 34 14 ty·1 ty·1 (λ x. x) (Scalar.oFld 7 (List._∷_ (Syntax.field 1) List.[]) (Syntax.tyInt Syntax.w64) 8 λ v. Shared.lenV (v .0)) (Reads'.as-is 𝓤 H A (Relend.ssptr (Referent.rtF (Referent.fInt Syntax.w16)) ty·1 14)) (Reads'.room-gone 𝓤 H A ty·9) (Reshare.reads-owedS-len 𝓤 H A W (Referent.rtF (Referent.fInt Syntax.w16)) ty·5 4 14 (Row.lease (κs .1 .1 .1 .1 .0) (qs .1 .1 .1 .1 .0)) 8 Path'.refl, Path'.refl) Path'.refl Path'.refl λ b o k. tt) d42
+          d43 : Typed.Typed 𝓤 H A 𝓣 E G93 b55 Δ3 at43
+          d43 = Typed.s-seq 𝓤 H A W 𝓣 E G93 G94 b33 b54 Δ3 (Typed.ask s90) at42 (Relend.t-sl-aggregate 𝓤 H A W E (Referent.rtF (Referent.fInt Syntax.w16)) 𝓣 (Relend.asShr (Referent.rtF (Referent.fInt Syntax.w16))) G93 36 37 16 ty·1 ty·1 (λ x. x) (Scalar.oFld 7 (List._∷_ (Syntax.field 1) List.[]) (Syntax.tyInt Syntax.w64) 8 λ v. Shared.lenV (v .0)) (Reads'.as-is 𝓤 H A (Relend.ssptr (Referent.rtF (Referent.fInt Syntax.w16)) ty·1 16)) (Reads'.room-gone 𝓤 H A ty·10) (Reshare.reads-owedS-len 𝓤 H A W (Referent.rtF (Referent.fInt Syntax.w16)) ty·5 4 16 (Row.lease (κs .1 .1 .1 .1 .0) (qs .1 .1 .1 .1 .0)) 8 Path'.refl, Path'.refl) Path'.refl Path'.refl λ b o k. tt) d42
 
-          d44 : Typed.Typed 𝓤 H A 𝓣 E G84 b54 Δ3 at44
-          d44 = Typed.s-seq 𝓤 H A W 𝓣 E G84 G85 b30 b53 Δ3 (Typed.give s81) at43 (Reshare.t-sl-reshare 𝓤 H A W E (Referent.rtF (Referent.fInt Syntax.w16)) 𝓣 G84 7 33 4 14 ty·5 ty·1 (Row.lease (κs .1 .1 .1 .1 .0) (qs .1 .1 .1 .1 .0)) 0 (λ x. x) (Reads'.as-is 𝓤 H A (Mut.mslice (Referent.rtF (Referent.fInt Syntax.w16)) ty·5 4)) (Reads'.room-gone 𝓤 H A ty·1) Path'.refl tt Path'.refl Path'.refl Path'.refl λ b o. tt) d43
+          d44 : Typed.Typed 𝓤 H A 𝓣 E G92 b56 Δ3 at44
+          d44 = Typed.s-seq 𝓤 H A W 𝓣 E G92 G93 b32 b55 Δ3 (Typed.give s89) at43 (Reshare.t-sl-reshare 𝓤 H A W E (Referent.rtF (Referent.fInt Syntax.w16)) 𝓣 G92 7 36 4 16 ty·5 ty·1 (Row.lease (κs .1 .1 .1 .1 .0) (qs .1 .1 .1 .1 .0)) 0 (λ x. x) (Reads'.as-is 𝓤 H A (Mut.mslice (Referent.rtF (Referent.fInt Syntax.w16)) ty·5 4)) (Reads'.room-gone 𝓤 H A ty·1) Path'.refl tt Path'.refl Path'.refl Path'.refl λ b o. tt) d43
 
-          d45 : Typed.Typed 𝓤 H A 𝓣 E G83 b54 Δ3 at45
-          d45 = Typed.g-pre 𝓤 H A W 𝓣 E G83 G84 b54 Δ3 (λ Ψ. Ψ) at44 (Lifetime.g-begin 𝓤 H A W E G83 14 (tt, (tt, (tt, (tt, (tt, (tt, (tt, (tt, (tt, (tt, (tt, (tt, (tt, (tt, (tt, (tt, (tt, (tt, (tt, (tt, (tt, (tt, (tt, (tt, (tt, (tt, (tt, (tt, (tt, (tt, (tt, (tt, (tt, (tt, (tt, (tt, (tt, (tt, (tt, (tt, (tt, (tt, (tt, (tt, (tt, (tt, (tt, (tt, tt))))))))))))))))))))))))))))))))))))))))))))))))) d44
+          d45 : Typed.Typed 𝓤 H A 𝓣 E G91 b56 Δ3 at45
+          d45 = Typed.g-pre 𝓤 H A W 𝓣 E G91 G92 b56 Δ3 (λ Ψ. Ψ) at44 (Lifetime.g-begin 𝓤 H A W E G91 16 (tt, (tt, (tt, (tt, (tt, (tt, (tt, (tt, (tt, (tt, (tt, (tt, (tt, (tt, (tt, (tt, (tt, (tt, (tt, (tt, (tt, (tt, (tt, (tt, (tt, (tt, (tt, (tt, (tt, (tt, (tt, (tt, (tt, (tt, (tt, (tt, (tt, (tt, (tt, (tt, (tt, (tt, (tt, (tt, (tt, (tt, (tt, (tt, (tt, (tt, (tt, tt)))))))))))))))))))))))))))))))))))))))))))))))))))) d44
 
-          d46 : Typed.Typed 𝓤 H A 𝓣 E G82 b54 Δ3 at46
-          d46 = Typed.g-pre 𝓤 H A W 𝓣 E G82 G83 b54 Δ3 (λ Ψ. Ψ) at45 (Lifetime.g-forget 𝓤 H A W E G82 13 Row.dead Path'.refl) d45
+          d46 : Typed.Typed 𝓤 H A 𝓣 E G90 b56 Δ3 at46
+          d46 = Typed.g-pre 𝓤 H A W 𝓣 E G90 G91 b56 Δ3 (λ Ψ. Ψ) at45 (Lifetime.g-forget 𝓤 H A W E G90 15 Row.dead Path'.refl) d45
 
-          d47 : Typed.Typed 𝓤 H A 𝓣 E G81 b54 Δ3 at47
-          d47 = Typed.g-pre 𝓤 H A W 𝓣 E G81 G82 b54 Δ3 (Typed.pass T80 T82 s78) at46 (Reshare.g-back-sl-shr 𝓤 H A W E (Referent.rtF (Referent.fInt Syntax.w16)) G81 6 3 13 ty·4 (Row.lease (κs .1 .1 .1 .0) (qs .1 .1 .1 .0)) (λ x. x) (Reads'.as-is 𝓤 H A (Reshare.mslice-owedS (Referent.rtF (Referent.fInt Syntax.w16)) ty·4 3 13 (Row.lease (κs .1 .1 .1 .0) (qs .1 .1 .1 .0)))) Path'.refl Path'.refl) d46
+          d47 : Typed.Typed 𝓤 H A 𝓣 E G89 b56 Δ3 at47
+          d47 = Typed.g-pre 𝓤 H A W 𝓣 E G89 G90 b56 Δ3 (Typed.pass T88 T90 s86) at46 (Reshare.g-back-sl-shr 𝓤 H A W E (Referent.rtF (Referent.fInt Syntax.w16)) G89 6 3 15 ty·4 (Row.lease (κs .1 .1 .1 .0) (qs .1 .1 .1 .0)) (λ x. x) (Reads'.as-is 𝓤 H A (Reshare.mslice-owedS (Referent.rtF (Referent.fInt Syntax.w16)) ty·4 3 15 (Row.lease (κs .1 .1 .1 .0) (qs .1 .1 .1 .0)))) Path'.refl Path'.refl) d46
 
-          d48 : Typed.Typed 𝓤 H A 𝓣 E G80 b54 Δ3 at48
-          d48 = Typed.g-pre 𝓤 H A W 𝓣 E G80 G81 b54 Δ3 (λ Ψ. Ψ) at47 (Lifetime.g-end 𝓤 H A W E G80 13 Path'.refl) d47
+          d48 : Typed.Typed 𝓤 H A 𝓣 E G88 b56 Δ3 at48
+          d48 = Typed.g-pre 𝓤 H A W 𝓣 E G88 G89 b56 Δ3 (λ Ψ. Ψ) at47 (Lifetime.g-end 𝓤 H A W E G88 15 Path'.refl) d47
 
-          d49 : Typed.Typed 𝓤 H A 𝓣 E G79 b54 Δ3 at49
-          d49 = Typed.g-pre 𝓤 H A W 𝓣 E G79 G80 b54 Δ3 (Typed.pass T79 T80 s76) at48 (Scalar.g-room 𝓤 H A W E G79 32 ty·9 (Shared.room-sslice 𝓤 H A W (Referent.rtF (Referent.fInt Syntax.w16)) ty·1 13)) d48
+          d49 : Typed.Typed 𝓤 H A 𝓣 E G87 b56 Δ3 at49
+          d49 = Typed.g-pre 𝓤 H A W 𝓣 E G87 G88 b56 Δ3 (Typed.pass T87 T88 s84) at48 (Scalar.g-room 𝓤 H A W E G87 35 ty·10 (Shared.room-sslice 𝓤 H A W (Referent.rtF (Referent.fInt Syntax.w16)) ty·1 15)) d48
 
-          d50 : Typed.Typed 𝓤 H A 𝓣 E G78 b55 Δ3 at50
-          d50 = Typed.s-seq 𝓤 H A W 𝓣 E G78 G79 b29 b54 Δ3 (Typed.both s75) at49 (Plain.t-call-plain 𝓤 H A W 𝓣 1 ps·6 r·6 (claims· .12) (claims· .13) "search::rounds::round_end" (known .6) E (λ pos β. β) G78 (record { pos = 32; ty = Syntax.tyRef Syntax.erased Syntax.imm (Syntax.tyInt Syntax.w16); ref = λ x. x }, (Num.vAt 5 λ x. x, (Num.vAt 12 λ x. x, tt))) 10 (List._∷_ 13 List.[]) (Call.sub-id 𝓤 H A W (G78 .slots)) (ShrSlice.spares-sslice 𝓤 H A W (Referent.rtF (Referent.fInt Syntax.w16)) ty·1 13, Shared.reads-sslice 𝓤 H A W (Referent.rtF (Referent.fInt Syntax.w16)) ty·1 13, Path'.refl, ((Scalar.reads-sc 𝓤 H A W (Row.sInt Syntax.w64), Path'.refl), ((Scalar.reads-sc 𝓤 H A W (Row.sInt Syntax.w64), Path'.refl), tt))) (Reads'.room-gone 𝓤 H A (Syntax.tyInt Syntax.w64)) (tt, tt) Path'.refl) d49
+          d50 : Typed.Typed 𝓤 H A 𝓣 E G86 b57 Δ3 at50
+          d50 = Typed.s-seq 𝓤 H A W 𝓣 E G86 G87 b31 b56 Δ3 (Typed.both s83) at49 (Plain.t-call-plain 𝓤 H A W 𝓣 1 ps·6 r·6 (claims· .12) (claims· .13) "search::rounds::round_end" (known .6) E (λ pos β. β) G86 (record { pos = 35; ty = Syntax.tyRef Syntax.erased Syntax.imm (Syntax.tyInt Syntax.w16); ref = λ x. x }, (Num.vAt 5 λ x. x, (Num.vAt 13 λ x. x, tt))) 11 (List._∷_ 15 List.[]) (Call.sub-id 𝓤 H A W (G86 .slots)) (ShrSlice.spares-sslice 𝓤 H A W (Referent.rtF (Referent.fInt Syntax.w16)) ty·1 15, Shared.reads-sslice 𝓤 H A W (Referent.rtF (Referent.fInt Syntax.w16)) ty·1 15, Path'.refl, ((Scalar.reads-sc 𝓤 H A W (Row.sInt Syntax.w64), Path'.refl), ((Scalar.reads-sc 𝓤 H A W (Row.sInt Syntax.w64), Path'.refl), tt))) (Reads'.room-gone 𝓤 H A (Syntax.tyInt Syntax.w64)) (tt, tt) Path'.refl) d49
 
-          d51 : Typed.Typed 𝓤 H A 𝓣 E G77 b56 Δ3 at51
-          d51 = Typed.s-seq 𝓤 H A W 𝓣 E G77 G78 b28 b55 Δ3 (Typed.ask s74) at50 (Relend.t-sl-aggregate 𝓤 H A W E (Referent.rtF (Referent.fInt Syntax.w16)) 𝓣 (Relend.asShr (Referent.rtF (Referent.fInt Syntax.w16))) G77 31 32 13 ty·1 ty·1 (λ x. x) (Scalar.oFld 6 (List._∷_ (Syntax.field 1) List.[]) (Syntax.tyInt Syntax.w64) 8 λ v. Shared.lenV (v .0)) (Reads'.as-is 𝓤 H A (Relend.ssptr (Referent.rtF (Referent.fInt Syntax.w16)) ty·1 13)) (Reads'.room-gone 𝓤 H A ty·9) (Reshare.reads-owedS-len 𝓤 H A W (Referent.rtF (Referent.fInt Syntax.w16)) ty·4 3 13 (Row.lease (κs .1 .1 .1 .0) (qs .1 .1 .1 .0)) 8 Path'.refl, Path'.refl) Path'.refl Path'.refl λ b o k. tt) d50
+          d51 : Typed.Typed 𝓤 H A 𝓣 E G85 b58 Δ3 at51
+          d51 = Typed.s-seq 𝓤 H A W 𝓣 E G85 G86 b30 b57 Δ3 (Typed.ask s82) at50 (Relend.t-sl-aggregate 𝓤 H A W E (Referent.rtF (Referent.fInt Syntax.w16)) 𝓣 (Relend.asShr (Referent.rtF (Referent.fInt Syntax.w16))) G85 34 35 15 ty·1 ty·1 (λ x. x) (Scalar.oFld 6 (List._∷_ (Syntax.field 1) List.[]) (Syntax.tyInt Syntax.w64) 8 λ v. Shared.lenV (v .0)) (Reads'.as-is 𝓤 H A (Relend.ssptr (Referent.rtF (Referent.fInt Syntax.w16)) ty·1 15)) (Reads'.room-gone 𝓤 H A ty·10) (Reshare.reads-owedS-len 𝓤 H A W (Referent.rtF (Referent.fInt Syntax.w16)) ty·4 3 15 (Row.lease (κs .1 .1 .1 .0) (qs .1 .1 .1 .0)) 8 Path'.refl, Path'.refl) Path'.refl Path'.refl λ b o k. tt) d50
 
-          d52 : Typed.Typed 𝓤 H A 𝓣 E G76 b57 Δ3 at52
-          d52 = Typed.s-seq 𝓤 H A W 𝓣 E G76 G77 b27 b56 Δ3 (Typed.give s73) at51 (Reshare.t-sl-reshare 𝓤 H A W E (Referent.rtF (Referent.fInt Syntax.w16)) 𝓣 G76 6 31 3 13 ty·4 ty·1 (Row.lease (κs .1 .1 .1 .0) (qs .1 .1 .1 .0)) 0 (λ x. x) (Reads'.as-is 𝓤 H A (Mut.mslice (Referent.rtF (Referent.fInt Syntax.w16)) ty·4 3)) (Reads'.room-gone 𝓤 H A ty·1) Path'.refl tt Path'.refl Path'.refl Path'.refl λ b o. tt) d51
+          d52 : Typed.Typed 𝓤 H A 𝓣 E G84 b59 Δ3 at52
+          d52 = Typed.s-seq 𝓤 H A W 𝓣 E G84 G85 b29 b58 Δ3 (Typed.give s81) at51 (Reshare.t-sl-reshare 𝓤 H A W E (Referent.rtF (Referent.fInt Syntax.w16)) 𝓣 G84 6 34 3 15 ty·4 ty·1 (Row.lease (κs .1 .1 .1 .0) (qs .1 .1 .1 .0)) 0 (λ x. x) (Reads'.as-is 𝓤 H A (Mut.mslice (Referent.rtF (Referent.fInt Syntax.w16)) ty·4 3)) (Reads'.room-gone 𝓤 H A ty·1) Path'.refl tt Path'.refl Path'.refl Path'.refl λ b o. tt) d51
 
-          d53 : Typed.Typed 𝓤 H A 𝓣 E G75 b57 Δ3 at53
-          d53 = Typed.g-pre 𝓤 H A W 𝓣 E G75 G76 b57 Δ3 (λ Ψ. Ψ) at52 (Lifetime.g-begin 𝓤 H A W E G75 13 (tt, (tt, (tt, (tt, (tt, (tt, (tt, (tt, (tt, (tt, (tt, (tt, (tt, (tt, (tt, (tt, (tt, (tt, (tt, (tt, (tt, (tt, (tt, (tt, (tt, (tt, (tt, (tt, (tt, (tt, (tt, (tt, (tt, (tt, (tt, (tt, (tt, (tt, (tt, (tt, (tt, (tt, (tt, (tt, (tt, (tt, (tt, (tt, tt))))))))))))))))))))))))))))))))))))))))))))))))) d52
+          d53 : Typed.Typed 𝓤 H A 𝓣 E G83 b59 Δ3 at53
+          d53 = Typed.g-pre 𝓤 H A W 𝓣 E G83 G84 b59 Δ3 (λ Ψ. Ψ) at52 (Lifetime.g-begin 𝓤 H A W E G83 15 (tt, (tt, (tt, (tt, (tt, (tt, (tt, (tt, (tt, (tt, (tt, (tt, (tt, (tt, (tt, (tt, (tt, (tt, (tt, (tt, (tt, (tt, (tt, (tt, (tt, (tt, (tt, (tt, (tt, (tt, (tt, (tt, (tt, (tt, (tt, (tt, (tt, (tt, (tt, (tt, (tt, (tt, (tt, (tt, (tt, (tt, (tt, (tt, (tt, (tt, (tt, tt)))))))))))))))))))))))))))))))))))))))))))))))))))) d52
 
-          d54 : Typed.Typed 𝓤 H A 𝓣 E G74 b58 Δ3 at54
-          d54 = Typed.s-seq 𝓤 H A W 𝓣 E G74 G75 b26 b57 Δ3 (Typed.pass T73 T75 s71) at53 (Scalar.t-use 𝓤 H A W E 𝓣 G74 (Scalar.oFld 14 (List._∷_ (Syntax.field 1) List.[]) (Syntax.tyInt Syntax.w64) 8 (Reads.fieldV Progress.the-type Laws'.the-laws 1)) 12 (Rows.sc-here (Row.sInt Syntax.w64)) (Syntax.tyInt Syntax.w64) (Row.valS (Row.sInt Syntax.w64)) (Row.sInt Syntax.w64 .of) (Reads.reads-field 𝓤 H A W Progress.the-type Laws'.the-laws 1 (Syntax.tyInt Syntax.w64) 8 Path'.refl, Path'.refl) (Reads'.room-gone 𝓤 H A (Syntax.tyInt Syntax.w64)) (Scalar.holds-sc 𝓤 H A W (Row.sInt Syntax.w64)) Path'.refl (λ u. Path'.refl) λ u. tt) d53
+          d54 : Typed.Typed 𝓤 H A 𝓣 E G82 b60 Δ3 at54
+          d54 = Typed.s-seq 𝓤 H A W 𝓣 E G82 G83 b28 b59 Δ3 (Typed.pass T81 T83 s79) at53 (Scalar.t-use 𝓤 H A W E 𝓣 G82 (Scalar.oFld 15 (List._∷_ (Syntax.field 1) List.[]) (Syntax.tyInt Syntax.w64) 8 (Reads.fieldV Progress.the-type Laws'.the-laws 1)) 13 (Rows.sc-here (Row.sInt Syntax.w64)) (Syntax.tyInt Syntax.w64) (Row.valS (Row.sInt Syntax.w64)) (Row.sInt Syntax.w64 .of) (Reads.reads-field 𝓤 H A W Progress.the-type Laws'.the-laws 1 (Syntax.tyInt Syntax.w64) 8 Path'.refl, Path'.refl) (Reads'.room-gone 𝓤 H A (Syntax.tyInt Syntax.w64)) (Scalar.holds-sc 𝓤 H A W (Row.sInt Syntax.w64)) Path'.refl (λ u. Path'.refl) λ u. tt) d53
 
-          d55 : Typed.Typed 𝓤 H A 𝓣 E G73 b58 Δ3 at55
-          d55 = Typed.g-pre 𝓤 H A W 𝓣 E G73 G74 b58 Δ3 (λ Ψ. Ψ) at54 (Lifetime.g-forget 𝓤 H A W E G73 12 Row.dead Path'.refl) d54
+          d55 : Typed.Typed 𝓤 H A 𝓣 E G81 b60 Δ3 at55
+          d55 = Typed.g-pre 𝓤 H A W 𝓣 E G81 G82 b60 Δ3 (λ Ψ. Ψ) at54 (Lifetime.g-forget 𝓤 H A W E G81 14 Row.dead Path'.refl) d54
 
-          d56 : Typed.Typed 𝓤 H A 𝓣 E G72 b58 Δ3 at56
-          d56 = Typed.g-pre 𝓤 H A W 𝓣 E G72 G73 b58 Δ3 (Typed.give s69) at55 (Know.g-sl-known 𝓤 H A W (Referent.fInt Syntax.w16) E G72 8 5 ty·6 (Row.lease (κs .1 .1 .1 .1 .1 .0) (qs .1 .1 .1 .1 .1 .0)) 0 (λ x. x) record { fits = Dec'.lit< tt } (Reads'.as-is 𝓤 H A (Mut.mslice (Referent.rtF (Referent.fInt Syntax.w16)) ty·6 5)) Path'.refl tt) d55
+          d56 : Typed.Typed 𝓤 H A 𝓣 E G80 b60 Δ3 at56
+          d56 = Typed.g-pre 𝓤 H A W 𝓣 E G80 G81 b60 Δ3 (Typed.give s77) at55 (Know.g-sl-known 𝓤 H A W (Referent.fInt Syntax.w16) E G80 9 6 ty·7 (Row.lease (κs .1 .1 .1 .1 .1 .1 .0) (qs .1 .1 .1 .1 .1 .1 .0)) 0 (λ x. x) record { fits = Dec'.lit< tt } (Reads'.as-is 𝓤 H A (Mut.mslice (Referent.rtF (Referent.fInt Syntax.w16)) ty·7 6)) Path'.refl tt) d55
 
-          d57 : Typed.Typed 𝓤 H A 𝓣 E G71 b58 Δ3 at57
-          d57 = Typed.g-pre 𝓤 H A W 𝓣 E G71 G72 b58 Δ3 (Typed.both s68) at56 (Relend.g-back-sl 𝓤 H A W E (Referent.rtF (Referent.fInt Syntax.w16)) G71 30 8 5 12 ty·6 ty·0 (Row.lease (κs .1 .1 .1 .1 .1 .0) (qs .1 .1 .1 .1 .1 .0)) (λ x. x) (λ x. x) (Reads'.as-is 𝓤 H A (Mut.msleft (Referent.rtF (Referent.fInt Syntax.w16)) ty·0)) (Reads'.as-is 𝓤 H A (Relend.mslice-owed (Referent.rtF (Referent.fInt Syntax.w16)) ty·6 5 12 (Row.lease (κs .1 .1 .1 .1 .1 .0) (qs .1 .1 .1 .1 .1 .0)))) Path'.refl Path'.refl) d56
+          d57 : Typed.Typed 𝓤 H A 𝓣 E G79 b60 Δ3 at57
+          d57 = Typed.g-pre 𝓤 H A W 𝓣 E G79 G80 b60 Δ3 (Typed.both s76) at56 (Relend.g-back-sl 𝓤 H A W E (Referent.rtF (Referent.fInt Syntax.w16)) G79 33 9 6 14 ty·7 ty·0 (Row.lease (κs .1 .1 .1 .1 .1 .1 .0) (qs .1 .1 .1 .1 .1 .1 .0)) (λ x. x) (λ x. x) (Reads'.as-is 𝓤 H A (Mut.msleft (Referent.rtF (Referent.fInt Syntax.w16)) ty·0)) (Reads'.as-is 𝓤 H A (Relend.mslice-owed (Referent.rtF (Referent.fInt Syntax.w16)) ty·7 6 14 (Row.lease (κs .1 .1 .1 .1 .1 .1 .0) (qs .1 .1 .1 .1 .1 .1 .0)))) Path'.refl Path'.refl) d56
 
-          d58 : Typed.Typed 𝓤 H A 𝓣 E G70 b58 Δ3 at58
-          d58 = Typed.g-pre 𝓤 H A W 𝓣 E G70 G71 b58 Δ3 (λ Ψ. Ψ) at57 (Lifetime.g-end 𝓤 H A W E G70 12 Path'.refl) d57
+          d58 : Typed.Typed 𝓤 H A 𝓣 E G78 b60 Δ3 at58
+          d58 = Typed.g-pre 𝓤 H A W 𝓣 E G78 G79 b60 Δ3 (λ Ψ. Ψ) at57 (Lifetime.g-end 𝓤 H A W E G78 14 Path'.refl) d57
 
-          d59 : Typed.Typed 𝓤 H A 𝓣 E G69 b58 Δ3 at59
-          d59 = Typed.g-pre 𝓤 H A W 𝓣 E G69 G70 b58 Δ3 (λ Ψ. Ψ) at58 (Lifetime.g-forget 𝓤 H A W E G69 11 Row.dead Path'.refl) d58
+          d59 : Typed.Typed 𝓤 H A 𝓣 E G77 b60 Δ3 at59
+          d59 = Typed.g-pre 𝓤 H A W 𝓣 E G77 G78 b60 Δ3 (λ Ψ. Ψ) at58 (Lifetime.g-forget 𝓤 H A W E G77 13 Row.dead Path'.refl) d58
 
-          d60 : Typed.Typed 𝓤 H A 𝓣 E G68 b58 Δ3 at60
-          d60 = Typed.g-pre 𝓤 H A W 𝓣 E G68 G69 b58 Δ3 (Typed.give s65) at59 (Know.g-sl-known 𝓤 H A W (Referent.fInt Syntax.w16) E G68 7 4 ty·5 (Row.lease (κs .1 .1 .1 .1 .0) (qs .1 .1 .1 .1 .0)) 0 (λ x. x) record { fits = Dec'.lit< tt } (Reads'.as-is 𝓤 H A (Mut.mslice (Referent.rtF (Referent.fInt Syntax.w16)) ty·5 4)) Path'.refl tt) d59
+          d60 : Typed.Typed 𝓤 H A 𝓣 E G76 b60 Δ3 at60
+          d60 = Typed.g-pre 𝓤 H A W 𝓣 E G76 G77 b60 Δ3 (Typed.give s73) at59 (Know.g-sl-known 𝓤 H A W (Referent.fInt Syntax.w16) E G76 8 5 ty·6 (Row.lease (κs .1 .1 .1 .1 .1 .0) (qs .1 .1 .1 .1 .1 .0)) 0 (λ x. x) record { fits = Dec'.lit< tt } (Reads'.as-is 𝓤 H A (Mut.mslice (Referent.rtF (Referent.fInt Syntax.w16)) ty·6 5)) Path'.refl tt) d59
 
-          d61 : Typed.Typed 𝓤 H A 𝓣 E G67 b58 Δ3 at61
-          d61 = Typed.g-pre 𝓤 H A W 𝓣 E G67 G68 b58 Δ3 (Typed.both s64) at60 (Relend.g-back-sl 𝓤 H A W E (Referent.rtF (Referent.fInt Syntax.w16)) G67 28 7 4 11 ty·5 ty·0 (Row.lease (κs .1 .1 .1 .1 .0) (qs .1 .1 .1 .1 .0)) (λ x. x) (λ x. x) (Reads'.as-is 𝓤 H A (Mut.msleft (Referent.rtF (Referent.fInt Syntax.w16)) ty·0)) (Reads'.as-is 𝓤 H A (Relend.mslice-owed (Referent.rtF (Referent.fInt Syntax.w16)) ty·5 4 11 (Row.lease (κs .1 .1 .1 .1 .0) (qs .1 .1 .1 .1 .0)))) Path'.refl Path'.refl) d60
+          d61 : Typed.Typed 𝓤 H A 𝓣 E G75 b60 Δ3 at61
+          d61 = Typed.g-pre 𝓤 H A W 𝓣 E G75 G76 b60 Δ3 (Typed.both s72) at60 (Relend.g-back-sl 𝓤 H A W E (Referent.rtF (Referent.fInt Syntax.w16)) G75 31 8 5 13 ty·6 ty·0 (Row.lease (κs .1 .1 .1 .1 .1 .0) (qs .1 .1 .1 .1 .1 .0)) (λ x. x) (λ x. x) (Reads'.as-is 𝓤 H A (Mut.msleft (Referent.rtF (Referent.fInt Syntax.w16)) ty·0)) (Reads'.as-is 𝓤 H A (Relend.mslice-owed (Referent.rtF (Referent.fInt Syntax.w16)) ty·6 5 13 (Row.lease (κs .1 .1 .1 .1 .1 .0) (qs .1 .1 .1 .1 .1 .0)))) Path'.refl Path'.refl) d60
 
-          d62 : Typed.Typed 𝓤 H A 𝓣 E G66 b58 Δ3 at62
-          d62 = Typed.g-pre 𝓤 H A W 𝓣 E G66 G67 b58 Δ3 (λ Ψ. Ψ) at61 (Lifetime.g-end 𝓤 H A W E G66 11 Path'.refl) d61
+          d62 : Typed.Typed 𝓤 H A 𝓣 E G74 b60 Δ3 at62
+          d62 = Typed.g-pre 𝓤 H A W 𝓣 E G74 G75 b60 Δ3 (λ Ψ. Ψ) at61 (Lifetime.g-end 𝓤 H A W E G74 13 Path'.refl) d61
 
-          d63 : Typed.Typed 𝓤 H A 𝓣 E G65 b58 Δ3 at63
-          d63 = Typed.g-pre 𝓤 H A W 𝓣 E G65 G66 b58 Δ3 (λ Ψ. Ψ) at62 (Lifetime.g-forget 𝓤 H A W E G65 10 Row.dead Path'.refl) d62
+          d63 : Typed.Typed 𝓤 H A 𝓣 E G73 b60 Δ3 at63
+          d63 = Typed.g-pre 𝓤 H A W 𝓣 E G73 G74 b60 Δ3 (λ Ψ. Ψ) at62 (Lifetime.g-forget 𝓤 H A W E G73 12 Row.dead Path'.refl) d62
 
-          d64 : Typed.Typed 𝓤 H A 𝓣 E G64 b58 Δ3 at64
-          d64 = Typed.g-pre 𝓤 H A W 𝓣 E G64 G65 b58 Δ3 (Typed.give s61) at63 (Know.g-sl-known 𝓤 H A W (Referent.fInt Syntax.w16) E G64 6 3 ty·4 (Row.lease (κs .1 .1 .1 .0) (qs .1 .1 .1 .0)) 0 (λ x. x) record { fits = Dec'.lit< tt } (Reads'.as-is 𝓤 H A (Mut.mslice (Referent.rtF (Referent.fInt Syntax.w16)) ty·4 3)) Path'.refl tt) d63
+          d64 : Typed.Typed 𝓤 H A 𝓣 E G72 b60 Δ3 at64
+          d64 = Typed.g-pre 𝓤 H A W 𝓣 E G72 G73 b60 Δ3 (Typed.give s69) at63 (Know.g-sl-known 𝓤 H A W (Referent.fInt Syntax.w16) E G72 7 4 ty·5 (Row.lease (κs .1 .1 .1 .1 .0) (qs .1 .1 .1 .1 .0)) 0 (λ x. x) record { fits = Dec'.lit< tt } (Reads'.as-is 𝓤 H A (Mut.mslice (Referent.rtF (Referent.fInt Syntax.w16)) ty·5 4)) Path'.refl tt) d63
 
-          d65 : Typed.Typed 𝓤 H A 𝓣 E G63 b58 Δ3 at65
-          d65 = Typed.g-pre 𝓤 H A W 𝓣 E G63 G64 b58 Δ3 (Typed.both s60) at64 (Relend.g-back-sl 𝓤 H A W E (Referent.rtF (Referent.fInt Syntax.w16)) G63 26 6 3 10 ty·4 ty·0 (Row.lease (κs .1 .1 .1 .0) (qs .1 .1 .1 .0)) (λ x. x) (λ x. x) (Reads'.as-is 𝓤 H A (Mut.msleft (Referent.rtF (Referent.fInt Syntax.w16)) ty·0)) (Reads'.as-is 𝓤 H A (Relend.mslice-owed (Referent.rtF (Referent.fInt Syntax.w16)) ty·4 3 10 (Row.lease (κs .1 .1 .1 .0) (qs .1 .1 .1 .0)))) Path'.refl Path'.refl) d64
+          d65 : Typed.Typed 𝓤 H A 𝓣 E G71 b60 Δ3 at65
+          d65 = Typed.g-pre 𝓤 H A W 𝓣 E G71 G72 b60 Δ3 (Typed.both s68) at64 (Relend.g-back-sl 𝓤 H A W E (Referent.rtF (Referent.fInt Syntax.w16)) G71 29 7 4 12 ty·5 ty·0 (Row.lease (κs .1 .1 .1 .1 .0) (qs .1 .1 .1 .1 .0)) (λ x. x) (λ x. x) (Reads'.as-is 𝓤 H A (Mut.msleft (Referent.rtF (Referent.fInt Syntax.w16)) ty·0)) (Reads'.as-is 𝓤 H A (Relend.mslice-owed (Referent.rtF (Referent.fInt Syntax.w16)) ty·5 4 12 (Row.lease (κs .1 .1 .1 .1 .0) (qs .1 .1 .1 .1 .0)))) Path'.refl Path'.refl) d64
 
-          d66 : Typed.Typed 𝓤 H A 𝓣 E G62 b58 Δ3 at66
-          d66 = Typed.g-pre 𝓤 H A W 𝓣 E G62 G63 b58 Δ3 (λ Ψ. Ψ) at65 (Lifetime.g-end 𝓤 H A W E G62 10 Path'.refl) d65
+          d66 : Typed.Typed 𝓤 H A 𝓣 E G70 b60 Δ3 at66
+          d66 = Typed.g-pre 𝓤 H A W 𝓣 E G70 G71 b60 Δ3 (λ Ψ. Ψ) at65 (Lifetime.g-end 𝓤 H A W E G70 12 Path'.refl) d65
 
-          d67 : Typed.Typed 𝓤 H A 𝓣 E G61 b58 Δ3 at67
-          d67 = Typed.g-pre 𝓤 H A W 𝓣 E G61 G62 b58 Δ3 (Typed.pass T61 T62 s58) at66 (Scalar.g-room 𝓤 H A W E G61 12 (Syntax.tyInt Syntax.w64) (Scalar.room-sc 𝓤 H A W (Row.sInt Syntax.w64))) d66
+          d67 : Typed.Typed 𝓤 H A 𝓣 E G69 b60 Δ3 at67
+          d67 = Typed.g-pre 𝓤 H A W 𝓣 E G69 G70 b60 Δ3 (λ Ψ. Ψ) at66 (Lifetime.g-forget 𝓤 H A W E G69 11 Row.dead Path'.refl) d66
 
-          d68 : Typed.Typed 𝓤 H A 𝓣 E G60 b58 Δ3 at68
-          d68 = Typed.g-pre 𝓤 H A W 𝓣 E G60 G61 b58 Δ3 (Typed.pass T60 T61 s57) at67 (Scalar.g-room 𝓤 H A W E G60 11 (Syntax.tyInt Syntax.w64) (Scalar.room-sc 𝓤 H A W (Row.sInt Syntax.w64))) d67
+          d68 : Typed.Typed 𝓤 H A 𝓣 E G68 b60 Δ3 at68
+          d68 = Typed.g-pre 𝓤 H A W 𝓣 E G68 G69 b60 Δ3 (Typed.give s65) at67 (Know.g-sl-known 𝓤 H A W (Referent.fInt Syntax.w16) E G68 6 3 ty·4 (Row.lease (κs .1 .1 .1 .0) (qs .1 .1 .1 .0)) 0 (λ x. x) record { fits = Dec'.lit< tt } (Reads'.as-is 𝓤 H A (Mut.mslice (Referent.rtF (Referent.fInt Syntax.w16)) ty·4 3)) Path'.refl tt) d67
 
-          d69 : Typed.Typed 𝓤 H A 𝓣 E G59 b59 Δ3 at69
-          d69 = Typed.s-seq 𝓤 H A W 𝓣 E G59 G60 b25 b58 Δ3 (Typed.both s56) at68 (Plain.t-call-plain 𝓤 H A W 𝓣 6 ps·5 r·5 (claims· .10) (claims· .11) "search::walk::walk" (known .5) E (λ pos β. β) G59 (record { pos = 1; st = List.[]; d = 0; at = λ x. x }, (record { pos = 2; ty = Syntax.tyRef (Syntax.named 0) Syntax.imm (Memory.pointee (T.the-row .written)); ref = λ x. x }, (record { pos = 3; ty = Syntax.tyRef (Syntax.named 1) Syntax.imm (Syntax.tyInt Syntax.w16); ref = λ x. x }, (record { pos = 4; ty = Syntax.tyRef (Syntax.named 2) Syntax.imm (Syntax.tyInt Syntax.w16); ref = λ x. x }, (record { pos = 26; ty = Syntax.tyRef Syntax.erased Syntax.mut (Syntax.tyInt Syntax.w16); ref = λ x. x }, (record { pos = 28; ty = Syntax.tyRef Syntax.erased Syntax.mut (Syntax.tyInt Syntax.w16); ref = λ x. x }, (record { pos = 30; ty = Syntax.tyRef Syntax.erased Syntax.mut (Syntax.tyInt Syntax.w16); ref = λ x. x }, (Num.vAt 12 λ x. x, (Num.vAt 11 λ x. x, tt))))))))) 14 (List._∷_ 0 (List._∷_ 1 (List._∷_ 2 (List._∷_ 10 (List._∷_ 11 (List._∷_ 12 List.[])))))) (Call.sub-id 𝓤 H A W (G59 .slots)) ((Yields.yields-copy 𝓤 H A W (λ ρ. Unit) (Declared.row Size.the-type) Path'.refl (Copies.cStruct Size.the-type Laws''.the-laws Laws''.the-copy .copy 𝓤 H A W) (Rows.whole (Declared.row Size.the-type)) (λ x. x) (λ x. x) (λ ρ told. Local.mem-whole 𝓤 H A W (Declared.row Size.the-type) ρ) λ ρ told. Local.whole-mem 𝓤 H A W (Declared.row Size.the-type) ρ, Path'.refl), (ShrSlice.spares-sslice 𝓤 H A W T.the-row ty·7 0, Shared.reads-sslice 𝓤 H A W T.the-row ty·7 0, Path'.refl, (ShrSlice.spares-sslice 𝓤 H A W (Referent.rtF (Referent.fInt Syntax.w16)) ty·2 1, Shared.reads-sslice 𝓤 H A W (Referent.rtF (Referent.fInt Syntax.w16)) ty·2 1, Path'.refl, (ShrSlice.spares-sslice 𝓤 H A W (Referent.rtF (Referent.fInt Syntax.w16)) ty·3 2, Shared.reads-sslice 𝓤 H A W (Referent.rtF (Referent.fInt Syntax.w16)) ty·3 2, Path'.refl, (Reads'.as-is 𝓤 H A (Mut.mslice (Referent.rtF (Referent.fInt Syntax.w16)) ty·0 10), Mut.reads-mslice 𝓤 H A W (Referent.rtF (Referent.fInt Syntax.w16)) ty·0 10, Path'.refl, (Reads'.as-is 𝓤 H A (Mut.mslice (Referent.rtF (Referent.fInt Syntax.w16)) ty·0 11), Mut.reads-mslice 𝓤 H A W (Referent.rtF (Referent.fInt Syntax.w16)) ty·0 11, Path'.refl, (Reads'.as-is 𝓤 H A (Mut.mslice (Referent.rtF (Referent.fInt Syntax.w16)) ty·0 12), Mut.reads-mslice 𝓤 H A W (Referent.rtF (Referent.fInt Syntax.w16)) ty·0 12, Path'.refl, ((Scalar.reads-sc 𝓤 H A W (Row.sInt Syntax.w64), Path'.refl), ((Scalar.reads-sc 𝓤 H A W (Row.sInt Syntax.w64), Path'.refl), tt))))))))) (Reads'.room-gone 𝓤 H A ty·12) (tt, (tt, (tt, (tt, (tt, (tt, tt)))))) Path'.refl) d68
+          d69 : Typed.Typed 𝓤 H A 𝓣 E G67 b60 Δ3 at69
+          d69 = Typed.g-pre 𝓤 H A W 𝓣 E G67 G68 b60 Δ3 (Typed.both s64) at68 (Relend.g-back-sl 𝓤 H A W E (Referent.rtF (Referent.fInt Syntax.w16)) G67 27 6 3 11 ty·4 ty·0 (Row.lease (κs .1 .1 .1 .0) (qs .1 .1 .1 .0)) (λ x. x) (λ x. x) (Reads'.as-is 𝓤 H A (Mut.msleft (Referent.rtF (Referent.fInt Syntax.w16)) ty·0)) (Reads'.as-is 𝓤 H A (Relend.mslice-owed (Referent.rtF (Referent.fInt Syntax.w16)) ty·4 3 11 (Row.lease (κs .1 .1 .1 .0) (qs .1 .1 .1 .0)))) Path'.refl Path'.refl) d68
 
-          d70 : Typed.Typed 𝓤 H A 𝓣 E G58 b60 Δ3 at70
-          d70 = Typed.s-seq 𝓤 H A W 𝓣 E G58 G59 b24 b59 Δ3 (Typed.ask s55) at69 (Relend.t-sl-aggregate 𝓤 H A W E (Referent.rtF (Referent.fInt Syntax.w16)) 𝓣 (Relend.asMut (Referent.rtF (Referent.fInt Syntax.w16))) G58 29 30 12 ty·0 ty·0 (λ x. x) (Scalar.oFld 8 (List._∷_ (Syntax.field 1) List.[]) (Syntax.tyInt Syntax.w64) 8 λ v. Shared.lenV (v .0)) (Reads'.as-is 𝓤 H A (Relend.msptr (Referent.rtF (Referent.fInt Syntax.w16)) ty·0 12)) (Reads'.room-gone 𝓤 H A ty·8) (Relend.reads-owed-len 𝓤 H A W (Referent.rtF (Referent.fInt Syntax.w16)) ty·6 5 12 (Row.lease (κs .1 .1 .1 .1 .1 .0) (qs .1 .1 .1 .1 .1 .0)) 8 Path'.refl, Path'.refl) Path'.refl Path'.refl λ b o k. tt) d69
+          d70 : Typed.Typed 𝓤 H A 𝓣 E G66 b60 Δ3 at70
+          d70 = Typed.g-pre 𝓤 H A W 𝓣 E G66 G67 b60 Δ3 (λ Ψ. Ψ) at69 (Lifetime.g-end 𝓤 H A W E G66 11 Path'.refl) d69
 
-          d71 : Typed.Typed 𝓤 H A 𝓣 E G57 b61 Δ3 at71
-          d71 = Typed.s-seq 𝓤 H A W 𝓣 E G57 G58 b23 b60 Δ3 (Typed.give s54) at70 (Relend.t-sl-relend 𝓤 H A W E (Referent.rtF (Referent.fInt Syntax.w16)) 𝓣 G57 8 29 5 12 ty·6 ty·0 (Row.lease (κs .1 .1 .1 .1 .1 .0) (qs .1 .1 .1 .1 .1 .0)) 0 (λ x. x) (Reads'.as-is 𝓤 H A (Mut.mslice (Referent.rtF (Referent.fInt Syntax.w16)) ty·6 5)) (Reads'.room-gone 𝓤 H A ty·0) Path'.refl tt Path'.refl Path'.refl Path'.refl λ b o. tt) d70
+          d71 : Typed.Typed 𝓤 H A 𝓣 E G65 b60 Δ3 at71
+          d71 = Typed.g-pre 𝓤 H A W 𝓣 E G65 G66 b60 Δ3 (Typed.pass T65 T66 s62) at70 (Scalar.g-room 𝓤 H A W E G65 13 (Syntax.tyInt Syntax.w64) (Scalar.room-sc 𝓤 H A W (Row.sInt Syntax.w64))) d70
 
-          d72 : Typed.Typed 𝓤 H A 𝓣 E G56 b61 Δ3 at72
-          d72 = Typed.g-pre 𝓤 H A W 𝓣 E G56 G57 b61 Δ3 (λ Ψ. Ψ) at71 (Lifetime.g-begin 𝓤 H A W E G56 12 (tt, (tt, (tt, (tt, (tt, (tt, ((tt, tt), ((tt, tt), (tt, (tt, (tt, (tt, (tt, (tt, (tt, (tt, (tt, (tt, (tt, (tt, (tt, (tt, (tt, (tt, (tt, (tt, (tt, (tt, (tt, (tt, (tt, (tt, (tt, (tt, (tt, (tt, (tt, (tt, (tt, (tt, (tt, (tt, (tt, (tt, (tt, (tt, (tt, (tt, tt))))))))))))))))))))))))))))))))))))))))))))))))) d71
+          d72 : Typed.Typed 𝓤 H A 𝓣 E G64 b60 Δ3 at72
+          d72 = Typed.g-pre 𝓤 H A W 𝓣 E G64 G65 b60 Δ3 (Typed.pass T64 T65 s61) at71 (Scalar.g-room 𝓤 H A W E G64 12 (Syntax.tyInt Syntax.w64) (Scalar.room-sc 𝓤 H A W (Row.sInt Syntax.w64))) d71
 
-          d73 : Typed.Typed 𝓤 H A 𝓣 E G55 b62 Δ3 at73
-          d73 = Typed.s-seq 𝓤 H A W 𝓣 E G55 G56 b22 b61 Δ3 (Typed.ask s52) at72 (Relend.t-sl-aggregate 𝓤 H A W E (Referent.rtF (Referent.fInt Syntax.w16)) 𝓣 (Relend.asMut (Referent.rtF (Referent.fInt Syntax.w16))) G55 27 28 11 ty·0 ty·0 (λ x. x) (Scalar.oFld 7 (List._∷_ (Syntax.field 1) List.[]) (Syntax.tyInt Syntax.w64) 8 λ v. Shared.lenV (v .0)) (Reads'.as-is 𝓤 H A (Relend.msptr (Referent.rtF (Referent.fInt Syntax.w16)) ty·0 11)) (Reads'.room-gone 𝓤 H A ty·8) (Relend.reads-owed-len 𝓤 H A W (Referent.rtF (Referent.fInt Syntax.w16)) ty·5 4 11 (Row.lease (κs .1 .1 .1 .1 .0) (qs .1 .1 .1 .1 .0)) 8 Path'.refl, Path'.refl) Path'.refl Path'.refl λ b o k. tt) d72
+          d73 : Typed.Typed 𝓤 H A 𝓣 E G63 b61 Δ3 at73
+          d73 = Typed.s-seq 𝓤 H A W 𝓣 E G63 G64 b27 b60 Δ3 (Typed.both s60) at72 (Plain.t-call-plain 𝓤 H A W 𝓣 7 ps·5 r·5 (claims· .10) (claims· .11) "search::walk::walk" (known .5) E (λ pos β. β) G63 (record { pos = 1; st = List.[]; d = 0; at = λ x. x }, (record { pos = 2; ty = Syntax.tyRef (Syntax.named 0) Syntax.imm (Memory.pointee (T.the-row .written)); ref = λ x. x }, (record { pos = 3; ty = Syntax.tyRef (Syntax.named 1) Syntax.imm (Syntax.tyInt Syntax.w16); ref = λ x. x }, (record { pos = 4; ty = Syntax.tyRef (Syntax.named 2) Syntax.imm (Syntax.tyInt Syntax.w16); ref = λ x. x }, (record { pos = 27; ty = Syntax.tyRef Syntax.erased Syntax.mut (Syntax.tyInt Syntax.w16); ref = λ x. x }, (record { pos = 29; ty = Syntax.tyRef Syntax.erased Syntax.mut (Syntax.tyInt Syntax.w16); ref = λ x. x }, (record { pos = 31; ty = Syntax.tyRef Syntax.erased Syntax.mut (Syntax.tyInt Syntax.w16); ref = λ x. x }, (record { pos = 33; ty = Syntax.tyRef Syntax.erased Syntax.mut (Syntax.tyInt Syntax.w16); ref = λ x. x }, (Num.vAt 13 λ x. x, (Num.vAt 12 λ x. x, tt)))))))))) 15 (List._∷_ 0 (List._∷_ 1 (List._∷_ 2 (List._∷_ 11 (List._∷_ 12 (List._∷_ 13 (List._∷_ 14 List.[]))))))) (Call.sub-id 𝓤 H A W (G63 .slots)) ((Yields.yields-copy 𝓤 H A W (λ ρ. Unit) (Declared.row Size.the-type) Path'.refl (Copies.cStruct Size.the-type Laws''.the-laws Laws''.the-copy .copy 𝓤 H A W) (Rows.whole (Declared.row Size.the-type)) (λ x. x) (λ x. x) (λ ρ told. Local.mem-whole 𝓤 H A W (Declared.row Size.the-type) ρ) λ ρ told. Local.whole-mem 𝓤 H A W (Declared.row Size.the-type) ρ, Path'.refl), (ShrSlice.spares-sslice 𝓤 H A W T.the-row ty·8 0, Shared.reads-sslice 𝓤 H A W T.the-row ty·8 0, Path'.refl, (ShrSlice.spares-sslice 𝓤 H A W (Referent.rtF (Referent.fInt Syntax.w16)) ty·2 1, Shared.reads-sslice 𝓤 H A W (Referent.rtF (Referent.fInt Syntax.w16)) ty·2 1, Path'.refl, (ShrSlice.spares-sslice 𝓤 H A W (Referent.rtF (Referent.fInt Syntax.w16)) ty·3 2, Shared.reads-sslice 𝓤 H A W (Referent.rtF (Referent.fInt Syntax.w16)) ty·3 2, Path'.refl, (Reads'.as-is 𝓤 H A (Mut.mslice (Referent.rtF (Referent.fInt Syntax.w16)) ty·0 11), Mut.reads-mslice 𝓤 H A W (Referent.rtF (Referent.fInt Syntax.w16)) ty·0 11, Path'.refl, (Reads'.as-is 𝓤 H A (Mut.mslice (Referent.rtF (Referent.fInt Syntax.w16)) ty·0 12), Mut.reads-mslice 𝓤 H A W (Referent.rtF (Referent.fInt Syntax.w16)) ty·0 12, Path'.refl, (Reads'.as-is 𝓤 H A (Mut.mslice (Referent.rtF (Referent.fInt Syntax.w16)) ty·0 13), Mut.reads-mslice 𝓤 H A W (Referent.rtF (Referent.fInt Syntax.w16)) ty·0 13, Path'.refl, (Reads'.as-is 𝓤 H A (Mut.mslice (Referent.rtF (Referent.fInt Syntax.w16)) ty·0 14), Mut.reads-mslice 𝓤 H A W (Referent.rtF (Referent.fInt Syntax.w16)) ty·0 14, Path'.refl, ((Scalar.reads-sc 𝓤 H A W (Row.sInt Syntax.w64), Path'.refl), ((Scalar.reads-sc 𝓤 H A W (Row.sInt Syntax.w64), Path'.refl), tt)))))))))) (Reads'.room-gone 𝓤 H A ty·13) (tt, (tt, (tt, (tt, (tt, (tt, (tt, tt))))))) Path'.refl) d72
 
-          d74 : Typed.Typed 𝓤 H A 𝓣 E G54 b63 Δ3 at74
-          d74 = Typed.s-seq 𝓤 H A W 𝓣 E G54 G55 b21 b62 Δ3 (Typed.give s51) at73 (Relend.t-sl-relend 𝓤 H A W E (Referent.rtF (Referent.fInt Syntax.w16)) 𝓣 G54 7 27 4 11 ty·5 ty·0 (Row.lease (κs .1 .1 .1 .1 .0) (qs .1 .1 .1 .1 .0)) 0 (λ x. x) (Reads'.as-is 𝓤 H A (Mut.mslice (Referent.rtF (Referent.fInt Syntax.w16)) ty·5 4)) (Reads'.room-gone 𝓤 H A ty·0) Path'.refl tt Path'.refl Path'.refl Path'.refl λ b o. tt) d73
+          d74 : Typed.Typed 𝓤 H A 𝓣 E G62 b62 Δ3 at74
+          d74 = Typed.s-seq 𝓤 H A W 𝓣 E G62 G63 b26 b61 Δ3 (Typed.ask s59) at73 (Relend.t-sl-aggregate 𝓤 H A W E (Referent.rtF (Referent.fInt Syntax.w16)) 𝓣 (Relend.asMut (Referent.rtF (Referent.fInt Syntax.w16))) G62 32 33 14 ty·0 ty·0 (λ x. x) (Scalar.oFld 9 (List._∷_ (Syntax.field 1) List.[]) (Syntax.tyInt Syntax.w64) 8 λ v. Shared.lenV (v .0)) (Reads'.as-is 𝓤 H A (Relend.msptr (Referent.rtF (Referent.fInt Syntax.w16)) ty·0 14)) (Reads'.room-gone 𝓤 H A ty·9) (Relend.reads-owed-len 𝓤 H A W (Referent.rtF (Referent.fInt Syntax.w16)) ty·7 6 14 (Row.lease (κs .1 .1 .1 .1 .1 .1 .0) (qs .1 .1 .1 .1 .1 .1 .0)) 8 Path'.refl, Path'.refl) Path'.refl Path'.refl λ b o k. tt) d73
 
-          d75 : Typed.Typed 𝓤 H A 𝓣 E G53 b63 Δ3 at75
-          d75 = Typed.g-pre 𝓤 H A W 𝓣 E G53 G54 b63 Δ3 (λ Ψ. Ψ) at74 (Lifetime.g-begin 𝓤 H A W E G53 11 (tt, (tt, (tt, (tt, (tt, (tt, ((tt, tt), (tt, (tt, (tt, (tt, (tt, (tt, (tt, (tt, (tt, (tt, (tt, (tt, (tt, (tt, (tt, (tt, (tt, (tt, (tt, (tt, (tt, (tt, (tt, (tt, (tt, (tt, (tt, (tt, (tt, (tt, (tt, (tt, (tt, (tt, (tt, (tt, (tt, (tt, (tt, (tt, (tt, tt))))))))))))))))))))))))))))))))))))))))))))))))) d74
+          d75 : Typed.Typed 𝓤 H A 𝓣 E G61 b63 Δ3 at75
+          d75 = Typed.s-seq 𝓤 H A W 𝓣 E G61 G62 b25 b62 Δ3 (Typed.give s58) at74 (Relend.t-sl-relend 𝓤 H A W E (Referent.rtF (Referent.fInt Syntax.w16)) 𝓣 G61 9 32 6 14 ty·7 ty·0 (Row.lease (κs .1 .1 .1 .1 .1 .1 .0) (qs .1 .1 .1 .1 .1 .1 .0)) 0 (λ x. x) (Reads'.as-is 𝓤 H A (Mut.mslice (Referent.rtF (Referent.fInt Syntax.w16)) ty·7 6)) (Reads'.room-gone 𝓤 H A ty·0) Path'.refl tt Path'.refl Path'.refl Path'.refl λ b o. tt) d74
 
-          d76 : Typed.Typed 𝓤 H A 𝓣 E G52 b64 Δ3 at76
-          d76 = Typed.s-seq 𝓤 H A W 𝓣 E G52 G53 b20 b63 Δ3 (Typed.ask s49) at75 (Relend.t-sl-aggregate 𝓤 H A W E (Referent.rtF (Referent.fInt Syntax.w16)) 𝓣 (Relend.asMut (Referent.rtF (Referent.fInt Syntax.w16))) G52 25 26 10 ty·0 ty·0 (λ x. x) (Scalar.oFld 6 (List._∷_ (Syntax.field 1) List.[]) (Syntax.tyInt Syntax.w64) 8 λ v. Shared.lenV (v .0)) (Reads'.as-is 𝓤 H A (Relend.msptr (Referent.rtF (Referent.fInt Syntax.w16)) ty·0 10)) (Reads'.room-gone 𝓤 H A ty·8) (Relend.reads-owed-len 𝓤 H A W (Referent.rtF (Referent.fInt Syntax.w16)) ty·4 3 10 (Row.lease (κs .1 .1 .1 .0) (qs .1 .1 .1 .0)) 8 Path'.refl, Path'.refl) Path'.refl Path'.refl λ b o k. tt) d75
+          d76 : Typed.Typed 𝓤 H A 𝓣 E G60 b63 Δ3 at76
+          d76 = Typed.g-pre 𝓤 H A W 𝓣 E G60 G61 b63 Δ3 (λ Ψ. Ψ) at75 (Lifetime.g-begin 𝓤 H A W E G60 14 (tt, (tt, (tt, (tt, (tt, (tt, ((tt, tt), ((tt, tt), ((tt, tt), (tt, (tt, (tt, (tt, (tt, (tt, (tt, (tt, (tt, (tt, (tt, (tt, (tt, (tt, (tt, (tt, (tt, (tt, (tt, (tt, (tt, (tt, (tt, (tt, (tt, (tt, (tt, (tt, (tt, (tt, (tt, (tt, (tt, (tt, (tt, (tt, (tt, (tt, (tt, (tt, (tt, (tt, tt)))))))))))))))))))))))))))))))))))))))))))))))))))) d75
 
-          d77 : Typed.Typed 𝓤 H A 𝓣 E G51 b65 Δ3 at77
-          d77 = Typed.s-seq 𝓤 H A W 𝓣 E G51 G52 b19 b64 Δ3 (Typed.give s48) at76 (Relend.t-sl-relend 𝓤 H A W E (Referent.rtF (Referent.fInt Syntax.w16)) 𝓣 G51 6 25 3 10 ty·4 ty·0 (Row.lease (κs .1 .1 .1 .0) (qs .1 .1 .1 .0)) 0 (λ x. x) (Reads'.as-is 𝓤 H A (Mut.mslice (Referent.rtF (Referent.fInt Syntax.w16)) ty·4 3)) (Reads'.room-gone 𝓤 H A ty·0) Path'.refl tt Path'.refl Path'.refl Path'.refl λ b o. tt) d76
+          d77 : Typed.Typed 𝓤 H A 𝓣 E G59 b64 Δ3 at77
+          d77 = Typed.s-seq 𝓤 H A W 𝓣 E G59 G60 b24 b63 Δ3 (Typed.ask s56) at76 (Relend.t-sl-aggregate 𝓤 H A W E (Referent.rtF (Referent.fInt Syntax.w16)) 𝓣 (Relend.asMut (Referent.rtF (Referent.fInt Syntax.w16))) G59 30 31 13 ty·0 ty·0 (λ x. x) (Scalar.oFld 8 (List._∷_ (Syntax.field 1) List.[]) (Syntax.tyInt Syntax.w64) 8 λ v. Shared.lenV (v .0)) (Reads'.as-is 𝓤 H A (Relend.msptr (Referent.rtF (Referent.fInt Syntax.w16)) ty·0 13)) (Reads'.room-gone 𝓤 H A ty·9) (Relend.reads-owed-len 𝓤 H A W (Referent.rtF (Referent.fInt Syntax.w16)) ty·6 5 13 (Row.lease (κs .1 .1 .1 .1 .1 .0) (qs .1 .1 .1 .1 .1 .0)) 8 Path'.refl, Path'.refl) Path'.refl Path'.refl λ b o k. tt) d76
 
-          d78 : Typed.Typed 𝓤 H A 𝓣 E G47 b65 Δ3 at78
-          d78 = Typed.g-pre 𝓤 H A W 𝓣 E G47 G51 b65 Δ3 (λ Ψ. Ψ) at77 (Lifetime.g-begin 𝓤 H A W E G47 10 (tt, (tt, (tt, (tt, (tt, (tt, (tt, (tt, (tt, (tt, (tt, (tt, (tt, (tt, (tt, (tt, (tt, (tt, (tt, (tt, (tt, (tt, (tt, (tt, (tt, (tt, (tt, (tt, (tt, (tt, (tt, (tt, (tt, (tt, (tt, (tt, (tt, (tt, (tt, (tt, (tt, (tt, (tt, (tt, (tt, (tt, (tt, (tt, tt))))))))))))))))))))))))))))))))))))))))))))))))) d77
+          d78 : Typed.Typed 𝓤 H A 𝓣 E G58 b65 Δ3 at78
+          d78 = Typed.s-seq 𝓤 H A W 𝓣 E G58 G59 b23 b64 Δ3 (Typed.give s55) at77 (Relend.t-sl-relend 𝓤 H A W E (Referent.rtF (Referent.fInt Syntax.w16)) 𝓣 G58 8 30 5 13 ty·6 ty·0 (Row.lease (κs .1 .1 .1 .1 .1 .0) (qs .1 .1 .1 .1 .1 .0)) 0 (λ x. x) (Reads'.as-is 𝓤 H A (Mut.mslice (Referent.rtF (Referent.fInt Syntax.w16)) ty·6 5)) (Reads'.room-gone 𝓤 H A ty·0) Path'.refl tt Path'.refl Path'.refl Path'.refl λ b o. tt) d77
 
-          d79 : Typed.Typed 𝓤 H A 𝓣 E G46 b66 Δ3 at79
-          d79 = Typed.t-seq 𝓤 H A W 𝓣 E G46 G47 b18 b65 Δ3 at5 at78 d5 d78
+          d79 : Typed.Typed 𝓤 H A 𝓣 E G57 b65 Δ3 at79
+          d79 = Typed.g-pre 𝓤 H A W 𝓣 E G57 G58 b65 Δ3 (λ Ψ. Ψ) at78 (Lifetime.g-begin 𝓤 H A W E G57 13 (tt, (tt, (tt, (tt, (tt, (tt, ((tt, tt), ((tt, tt), (tt, (tt, (tt, (tt, (tt, (tt, (tt, (tt, (tt, (tt, (tt, (tt, (tt, (tt, (tt, (tt, (tt, (tt, (tt, (tt, (tt, (tt, (tt, (tt, (tt, (tt, (tt, (tt, (tt, (tt, (tt, (tt, (tt, (tt, (tt, (tt, (tt, (tt, (tt, (tt, (tt, (tt, (tt, tt)))))))))))))))))))))))))))))))))))))))))))))))))))) d78
 
-          d80 : Typed.Typed 𝓤 H A 𝓣 E G44 b67 Δ3 at80
-          d80 = Typed.s-seq 𝓤 H A W 𝓣 E G44 G46 b15 b66 Δ3 (Typed.ask s43) at79 (Scalar.t-op2 𝓤 H A W E 𝓣 G44 Syntax.eq (Scalar.oAt 10 (Syntax.tyInt Syntax.w64) (Row.valS (Row.sInt Syntax.w64))) (Scalar.oInt Syntax.w64 2) 24 (Rows.sc-here Row.sBool) Syntax.tyBool (Row.valS Row.sBool) (Row.sBool .of) (Scalar.reads-sc 𝓤 H A W (Row.sInt Syntax.w64), Path'.refl) tt (Reads'.room-gone 𝓤 H A Syntax.tyBool) (Scalar.holds-sc 𝓤 H A W Row.sBool) Path'.refl (λ u. Path'.refl) λ u. tt) d79
+          d80 : Typed.Typed 𝓤 H A 𝓣 E G56 b66 Δ3 at80
+          d80 = Typed.s-seq 𝓤 H A W 𝓣 E G56 G57 b22 b65 Δ3 (Typed.ask s53) at79 (Relend.t-sl-aggregate 𝓤 H A W E (Referent.rtF (Referent.fInt Syntax.w16)) 𝓣 (Relend.asMut (Referent.rtF (Referent.fInt Syntax.w16))) G56 28 29 12 ty·0 ty·0 (λ x. x) (Scalar.oFld 7 (List._∷_ (Syntax.field 1) List.[]) (Syntax.tyInt Syntax.w64) 8 λ v. Shared.lenV (v .0)) (Reads'.as-is 𝓤 H A (Relend.msptr (Referent.rtF (Referent.fInt Syntax.w16)) ty·0 12)) (Reads'.room-gone 𝓤 H A ty·9) (Relend.reads-owed-len 𝓤 H A W (Referent.rtF (Referent.fInt Syntax.w16)) ty·5 4 12 (Row.lease (κs .1 .1 .1 .1 .0) (qs .1 .1 .1 .1 .0)) 8 Path'.refl, Path'.refl) Path'.refl Path'.refl λ b o k. tt) d79
 
-          d81 : Typed.Typed 𝓤 H A 𝓣 E G44 b68 Δ2 at81
-          d81 = Typed.t-loop-by 𝓤 H A W 𝓣 E G44 b67 Δ2 put0 (λ u vs. Inv·0 (Row.get 1 (T44 .locals) u) (Row.get 2 (T44 .locals) u .now) (Row.get 3 (T44 .locals) u .now) (Row.get 4 (T44 .locals) u .now) (Row.get 5 (T44 .locals) u) (Row.get 6 (T44 .locals) u .now) (Row.get 7 (T44 .locals) u .now) (Row.get 8 (T44 .locals) u .now) (Row.get 10 (T44 .locals) u) (Row.get 11 (T44 .locals) u) (Row.get 12 (T44 .locals) u) (Row.get 13 (T44 .locals) u) (vs .0) (vs .1) (vs .2) (vs .3) (vs .4) (vs .5) (vs .6)) (λ u vs. μ·0 (Row.get 1 (T44 .locals) u) (Row.get 2 (T44 .locals) u .now) (Row.get 3 (T44 .locals) u .now) (Row.get 4 (T44 .locals) u .now) (Row.get 5 (T44 .locals) u) (Row.get 6 (T44 .locals) u .now) (Row.get 7 (T44 .locals) u .now) (Row.get 8 (T44 .locals) u .now) (Row.get 10 (T44 .locals) u) (Row.get 11 (T44 .locals) u) (Row.get 12 (T44 .locals) u) (Row.get 13 (T44 .locals) u) (vs .0) (vs .1) (vs .2) (vs .3) (vs .4) (vs .5) (vs .6)) at80 d80
+          d81 : Typed.Typed 𝓤 H A 𝓣 E G55 b67 Δ3 at81
+          d81 = Typed.s-seq 𝓤 H A W 𝓣 E G55 G56 b21 b66 Δ3 (Typed.give s52) at80 (Relend.t-sl-relend 𝓤 H A W E (Referent.rtF (Referent.fInt Syntax.w16)) 𝓣 G55 7 28 4 12 ty·5 ty·0 (Row.lease (κs .1 .1 .1 .1 .0) (qs .1 .1 .1 .1 .0)) 0 (λ x. x) (Reads'.as-is 𝓤 H A (Mut.mslice (Referent.rtF (Referent.fInt Syntax.w16)) ty·5 4)) (Reads'.room-gone 𝓤 H A ty·0) Path'.refl tt Path'.refl Path'.refl Path'.refl λ b o. tt) d80
 
-          d82 : Typed.Typed 𝓤 H A 𝓣 E G44 b69 Δ1 at82
-          d82 = Typed.t-block 𝓤 H A W 𝓣 E G44 b68 Δ1 at81 d81
+          d82 : Typed.Typed 𝓤 H A 𝓣 E G54 b67 Δ3 at82
+          d82 = Typed.g-pre 𝓤 H A W 𝓣 E G54 G55 b67 Δ3 (λ Ψ. Ψ) at81 (Lifetime.g-begin 𝓤 H A W E G54 12 (tt, (tt, (tt, (tt, (tt, (tt, ((tt, tt), (tt, (tt, (tt, (tt, (tt, (tt, (tt, (tt, (tt, (tt, (tt, (tt, (tt, (tt, (tt, (tt, (tt, (tt, (tt, (tt, (tt, (tt, (tt, (tt, (tt, (tt, (tt, (tt, (tt, (tt, (tt, (tt, (tt, (tt, (tt, (tt, (tt, (tt, (tt, (tt, (tt, (tt, (tt, (tt, tt)))))))))))))))))))))))))))))))))))))))))))))))))))) d81
 
-          d83 : Typed.Typed 𝓤 H A 𝓣 E G144 b75 Δ0 at83
-          d83 = Typed.t-return 𝓤 H A W 𝓣 E Δ0 tt
+          d83 : Typed.Typed 𝓤 H A 𝓣 E G53 b68 Δ3 at83
+          d83 = Typed.s-seq 𝓤 H A W 𝓣 E G53 G54 b20 b67 Δ3 (Typed.ask s50) at82 (Relend.t-sl-aggregate 𝓤 H A W E (Referent.rtF (Referent.fInt Syntax.w16)) 𝓣 (Relend.asMut (Referent.rtF (Referent.fInt Syntax.w16))) G53 26 27 11 ty·0 ty·0 (λ x. x) (Scalar.oFld 6 (List._∷_ (Syntax.field 1) List.[]) (Syntax.tyInt Syntax.w64) 8 λ v. Shared.lenV (v .0)) (Reads'.as-is 𝓤 H A (Relend.msptr (Referent.rtF (Referent.fInt Syntax.w16)) ty·0 11)) (Reads'.room-gone 𝓤 H A ty·9) (Relend.reads-owed-len 𝓤 H A W (Referent.rtF (Referent.fInt Syntax.w16)) ty·4 3 11 (Row.lease (κs .1 .1 .1 .0) (qs .1 .1 .1 .0)) 8 Path'.refl, Path'.refl) Path'.refl Path'.refl λ b o k. tt) d82
 
-          d84 : Typed.Typed 𝓤 H A 𝓣 E G143 b75 Δ0 at84
-          d84 = Typed.g-pre 𝓤 H A W 𝓣 E G143 G144 b75 Δ0 (Typed.pass T142 T144 s140) at83 (Scalar.g-room 𝓤 H A W E G143 5 (Syntax.tyInt Syntax.w64) (Scalar.room-sc 𝓤 H A W (Row.sInt Syntax.w64))) d83
+          d84 : Typed.Typed 𝓤 H A 𝓣 E G52 b69 Δ3 at84
+          d84 = Typed.s-seq 𝓤 H A W 𝓣 E G52 G53 b19 b68 Δ3 (Typed.give s49) at83 (Relend.t-sl-relend 𝓤 H A W E (Referent.rtF (Referent.fInt Syntax.w16)) 𝓣 G52 6 26 3 11 ty·4 ty·0 (Row.lease (κs .1 .1 .1 .0) (qs .1 .1 .1 .0)) 0 (λ x. x) (Reads'.as-is 𝓤 H A (Mut.mslice (Referent.rtF (Referent.fInt Syntax.w16)) ty·4 3)) (Reads'.room-gone 𝓤 H A ty·0) Path'.refl tt Path'.refl Path'.refl Path'.refl λ b o. tt) d83
 
-          d85 : Typed.Typed 𝓤 H A 𝓣 E G142 b75 Δ0 at85
-          d85 = Typed.g-pre 𝓤 H A W 𝓣 E G142 G143 b75 Δ0 (λ Ψ. Ψ) at84 (Lifetime.g-forget 𝓤 H A W E G142 20 Row.dead Path'.refl) d84
+          d85 : Typed.Typed 𝓤 H A 𝓣 E G48 b69 Δ3 at85
+          d85 = Typed.g-pre 𝓤 H A W 𝓣 E G48 G52 b69 Δ3 (λ Ψ. Ψ) at84 (Lifetime.g-begin 𝓤 H A W E G48 11 (tt, (tt, (tt, (tt, (tt, (tt, (tt, (tt, (tt, (tt, (tt, (tt, (tt, (tt, (tt, (tt, (tt, (tt, (tt, (tt, (tt, (tt, (tt, (tt, (tt, (tt, (tt, (tt, (tt, (tt, (tt, (tt, (tt, (tt, (tt, (tt, (tt, (tt, (tt, (tt, (tt, (tt, (tt, (tt, (tt, (tt, (tt, (tt, (tt, (tt, (tt, tt)))))))))))))))))))))))))))))))))))))))))))))))))))) d84
 
-          d86 : Typed.Typed 𝓤 H A 𝓣 E G141 b75 Δ0 at86
-          d86 = Typed.g-pre 𝓤 H A W 𝓣 E G141 G142 b75 Δ0 (Typed.give s138) at85 (Know.g-sl-known 𝓤 H A W (Referent.fInt Syntax.w16) E G141 7 4 ty·5 (Row.lease (κs .1 .1 .1 .1 .0) (qs .1 .1 .1 .1 .0)) 0 (λ x. x) record { fits = Dec'.lit< tt } (Reads'.as-is 𝓤 H A (Mut.mslice (Referent.rtF (Referent.fInt Syntax.w16)) ty·5 4)) Path'.refl tt) d85
+          d86 : Typed.Typed 𝓤 H A 𝓣 E G47 b70 Δ3 at86
+          d86 = Typed.t-seq 𝓤 H A W 𝓣 E G47 G48 b18 b69 Δ3 at5 at85 d5 d85
 
-          d87 : Typed.Typed 𝓤 H A 𝓣 E G140 b75 Δ0 at87
-          d87 = Typed.g-pre 𝓤 H A W 𝓣 E G140 G141 b75 Δ0 (Typed.both s137) at86 (Relend.g-back-sl 𝓤 H A W E (Referent.rtF (Referent.fInt Syntax.w16)) G140 47 7 4 20 ty·5 ty·0 (Row.lease (κs .1 .1 .1 .1 .0) (qs .1 .1 .1 .1 .0)) (λ x. x) (λ x. x) (Reads'.as-is 𝓤 H A (Mut.msleft (Referent.rtF (Referent.fInt Syntax.w16)) ty·0)) (Reads'.as-is 𝓤 H A (Relend.mslice-owed (Referent.rtF (Referent.fInt Syntax.w16)) ty·5 4 20 (Row.lease (κs .1 .1 .1 .1 .0) (qs .1 .1 .1 .1 .0)))) Path'.refl Path'.refl) d86
+          d87 : Typed.Typed 𝓤 H A 𝓣 E G45 b71 Δ3 at87
+          d87 = Typed.s-seq 𝓤 H A W 𝓣 E G45 G47 b15 b70 Δ3 (Typed.ask s44) at86 (Scalar.t-op2 𝓤 H A W E 𝓣 G45 Syntax.eq (Scalar.oAt 11 (Syntax.tyInt Syntax.w64) (Row.valS (Row.sInt Syntax.w64))) (Scalar.oInt Syntax.w64 2) 25 (Rows.sc-here Row.sBool) Syntax.tyBool (Row.valS Row.sBool) (Row.sBool .of) (Scalar.reads-sc 𝓤 H A W (Row.sInt Syntax.w64), Path'.refl) tt (Reads'.room-gone 𝓤 H A Syntax.tyBool) (Scalar.holds-sc 𝓤 H A W Row.sBool) Path'.refl (λ u. Path'.refl) λ u. tt) d86
 
-          d88 : Typed.Typed 𝓤 H A 𝓣 E G139 b75 Δ0 at88
-          d88 = Typed.g-pre 𝓤 H A W 𝓣 E G139 G140 b75 Δ0 (λ Ψ. Ψ) at87 (Lifetime.g-end 𝓤 H A W E G139 20 Path'.refl) d87
+          d88 : Typed.Typed 𝓤 H A 𝓣 E G45 b72 Δ2 at88
+          d88 = Typed.t-loop-by 𝓤 H A W 𝓣 E G45 b71 Δ2 put0 (λ u vs. Inv·0 (Row.get 1 (T45 .locals) u) (Row.get 2 (T45 .locals) u .now) (Row.get 3 (T45 .locals) u .now) (Row.get 4 (T45 .locals) u .now) (Row.get 5 (T45 .locals) u) (Row.get 6 (T45 .locals) u .now) (Row.get 7 (T45 .locals) u .now) (Row.get 8 (T45 .locals) u .now) (Row.get 9 (T45 .locals) u .now) (Row.get 11 (T45 .locals) u) (Row.get 12 (T45 .locals) u) (Row.get 13 (T45 .locals) u) (Row.get 14 (T45 .locals) u) (vs .0) (vs .1) (vs .2) (vs .3) (vs .4) (vs .5) (vs .6) (vs .7)) (λ u vs. μ·0 (Row.get 1 (T45 .locals) u) (Row.get 2 (T45 .locals) u .now) (Row.get 3 (T45 .locals) u .now) (Row.get 4 (T45 .locals) u .now) (Row.get 5 (T45 .locals) u) (Row.get 6 (T45 .locals) u .now) (Row.get 7 (T45 .locals) u .now) (Row.get 8 (T45 .locals) u .now) (Row.get 9 (T45 .locals) u .now) (Row.get 11 (T45 .locals) u) (Row.get 12 (T45 .locals) u) (Row.get 13 (T45 .locals) u) (Row.get 14 (T45 .locals) u) (vs .0) (vs .1) (vs .2) (vs .3) (vs .4) (vs .5) (vs .6) (vs .7)) at87 d87
 
-          d89 : Typed.Typed 𝓤 H A 𝓣 E G138 b75 Δ0 at89
-          d89 = Typed.g-pre 𝓤 H A W 𝓣 E G138 G139 b75 Δ0 (λ Ψ. Ψ) at88 (Lifetime.g-forget 𝓤 H A W E G138 19 Row.dead Path'.refl) d88
+          d89 : Typed.Typed 𝓤 H A 𝓣 E G45 b73 Δ1 at89
+          d89 = Typed.t-block 𝓤 H A W 𝓣 E G45 b72 Δ1 at88 d88
 
-          d90 : Typed.Typed 𝓤 H A 𝓣 E G137 b75 Δ0 at90
-          d90 = Typed.g-pre 𝓤 H A W 𝓣 E G137 G138 b75 Δ0 (Typed.give s134) at89 (Know.g-sl-known 𝓤 H A W (Referent.fInt Syntax.w16) E G137 6 3 ty·4 (Row.lease (κs .1 .1 .1 .0) (qs .1 .1 .1 .0)) 0 (λ x. x) record { fits = Dec'.lit< tt } (Reads'.as-is 𝓤 H A (Mut.mslice (Referent.rtF (Referent.fInt Syntax.w16)) ty·4 3)) Path'.refl tt) d89
+          d90 : Typed.Typed 𝓤 H A 𝓣 E G152 b79 Δ0 at90
+          d90 = Typed.t-return 𝓤 H A W 𝓣 E Δ0 tt
 
-          d91 : Typed.Typed 𝓤 H A 𝓣 E G136 b75 Δ0 at91
-          d91 = Typed.g-pre 𝓤 H A W 𝓣 E G136 G137 b75 Δ0 (Typed.both s133) at90 (Relend.g-back-sl 𝓤 H A W E (Referent.rtF (Referent.fInt Syntax.w16)) G136 45 6 3 19 ty·4 ty·0 (Row.lease (κs .1 .1 .1 .0) (qs .1 .1 .1 .0)) (λ x. x) (λ x. x) (Reads'.as-is 𝓤 H A (Mut.msleft (Referent.rtF (Referent.fInt Syntax.w16)) ty·0)) (Reads'.as-is 𝓤 H A (Relend.mslice-owed (Referent.rtF (Referent.fInt Syntax.w16)) ty·4 3 19 (Row.lease (κs .1 .1 .1 .0) (qs .1 .1 .1 .0)))) Path'.refl Path'.refl) d90
+          d91 : Typed.Typed 𝓤 H A 𝓣 E G151 b79 Δ0 at91
+          d91 = Typed.g-pre 𝓤 H A W 𝓣 E G151 G152 b79 Δ0 (Typed.pass T150 T152 s148) at90 (Scalar.g-room 𝓤 H A W E G151 5 (Syntax.tyInt Syntax.w64) (Scalar.room-sc 𝓤 H A W (Row.sInt Syntax.w64))) d90
 
-          d92 : Typed.Typed 𝓤 H A 𝓣 E G135 b75 Δ0 at92
-          d92 = Typed.g-pre 𝓤 H A W 𝓣 E G135 G136 b75 Δ0 (λ Ψ. Ψ) at91 (Lifetime.g-end 𝓤 H A W E G135 19 Path'.refl) d91
+          d92 : Typed.Typed 𝓤 H A 𝓣 E G150 b79 Δ0 at92
+          d92 = Typed.g-pre 𝓤 H A W 𝓣 E G150 G151 b79 Δ0 (λ Ψ. Ψ) at91 (Lifetime.g-forget 𝓤 H A W E G150 22 Row.dead Path'.refl) d91
 
-          d93 : Typed.Typed 𝓤 H A 𝓣 E G134 b75 Δ0 at93
-          d93 = Typed.g-pre 𝓤 H A W 𝓣 E G134 G135 b75 Δ0 (Typed.pass T134 T135 s131) at92 (Scalar.g-room 𝓤 H A W E G134 13 (Syntax.tyInt Syntax.w64) (Scalar.room-sc 𝓤 H A W (Row.sInt Syntax.w64))) d92
+          d93 : Typed.Typed 𝓤 H A 𝓣 E G149 b79 Δ0 at93
+          d93 = Typed.g-pre 𝓤 H A W 𝓣 E G149 G150 b79 Δ0 (Typed.give s146) at92 (Know.g-sl-known 𝓤 H A W (Referent.fInt Syntax.w16) E G149 7 4 ty·5 (Row.lease (κs .1 .1 .1 .1 .0) (qs .1 .1 .1 .1 .0)) 0 (λ x. x) record { fits = Dec'.lit< tt } (Reads'.as-is 𝓤 H A (Mut.mslice (Referent.rtF (Referent.fInt Syntax.w16)) ty·5 4)) Path'.refl tt) d92
 
-          d94 : Typed.Typed 𝓤 H A 𝓣 E G133 b75 Δ0 at94
-          d94 = Typed.g-pre 𝓤 H A W 𝓣 E G133 G134 b75 Δ0 (Typed.pass T133 T134 s130) at93 (Scalar.g-room 𝓤 H A W E G133 12 (Syntax.tyInt Syntax.w64) (Scalar.room-sc 𝓤 H A W (Row.sInt Syntax.w64))) d93
+          d94 : Typed.Typed 𝓤 H A 𝓣 E G148 b79 Δ0 at94
+          d94 = Typed.g-pre 𝓤 H A W 𝓣 E G148 G149 b79 Δ0 (Typed.both s145) at93 (Relend.g-back-sl 𝓤 H A W E (Referent.rtF (Referent.fInt Syntax.w16)) G148 50 7 4 22 ty·5 ty·0 (Row.lease (κs .1 .1 .1 .1 .0) (qs .1 .1 .1 .1 .0)) (λ x. x) (λ x. x) (Reads'.as-is 𝓤 H A (Mut.msleft (Referent.rtF (Referent.fInt Syntax.w16)) ty·0)) (Reads'.as-is 𝓤 H A (Relend.mslice-owed (Referent.rtF (Referent.fInt Syntax.w16)) ty·5 4 22 (Row.lease (κs .1 .1 .1 .1 .0) (qs .1 .1 .1 .1 .0)))) Path'.refl Path'.refl) d93
 
-          d95 : Typed.Typed 𝓤 H A 𝓣 E G132 b75 Δ0 at95
-          d95 = Typed.g-pre 𝓤 H A W 𝓣 E G132 G133 b75 Δ0 (Typed.pass T132 T133 s129) at94 (Scalar.g-room 𝓤 H A W E G132 11 (Syntax.tyInt Syntax.w64) (Scalar.room-sc 𝓤 H A W (Row.sInt Syntax.w64))) d94
+          d95 : Typed.Typed 𝓤 H A 𝓣 E G147 b79 Δ0 at95
+          d95 = Typed.g-pre 𝓤 H A W 𝓣 E G147 G148 b79 Δ0 (λ Ψ. Ψ) at94 (Lifetime.g-end 𝓤 H A W E G147 22 Path'.refl) d94
 
-          d96 : Typed.Typed 𝓤 H A 𝓣 E G131 b75 Δ0 at96
-          d96 = Typed.g-pre 𝓤 H A W 𝓣 E G131 G132 b75 Δ0 (Typed.pass T131 T132 s128) at95 (Scalar.g-room 𝓤 H A W E G131 10 (Syntax.tyInt Syntax.w64) (Scalar.room-sc 𝓤 H A W (Row.sInt Syntax.w64))) d95
+          d96 : Typed.Typed 𝓤 H A 𝓣 E G146 b79 Δ0 at96
+          d96 = Typed.g-pre 𝓤 H A W 𝓣 E G146 G147 b79 Δ0 (λ Ψ. Ψ) at95 (Lifetime.g-forget 𝓤 H A W E G146 21 Row.dead Path'.refl) d95
 
-          d97 : Typed.Typed 𝓤 H A 𝓣 E G130 b75 Δ0 at97
-          d97 = Typed.g-pre 𝓤 H A W 𝓣 E G130 G131 b75 Δ0 (Typed.pass T130 T131 s127) at96 (Scalar.g-room 𝓤 H A W E G130 1 ty·11 (Local.room-whole 𝓤 H A W (Declared.row Size.the-type) ty·11 Path'.refl)) d96
+          d97 : Typed.Typed 𝓤 H A 𝓣 E G145 b79 Δ0 at97
+          d97 = Typed.g-pre 𝓤 H A W 𝓣 E G145 G146 b79 Δ0 (Typed.give s142) at96 (Know.g-sl-known 𝓤 H A W (Referent.fInt Syntax.w16) E G145 6 3 ty·4 (Row.lease (κs .1 .1 .1 .0) (qs .1 .1 .1 .0)) 0 (λ x. x) record { fits = Dec'.lit< tt } (Reads'.as-is 𝓤 H A (Mut.mslice (Referent.rtF (Referent.fInt Syntax.w16)) ty·4 3)) Path'.refl tt) d96
 
-          d98 : Typed.Typed 𝓤 H A 𝓣 E G129 b76 Δ0 at98
-          d98 = Typed.s-seq 𝓤 H A W 𝓣 E G129 G130 b74 b75 Δ0 (Typed.both s126) at97 (Plain.t-call-plain 𝓤 H A W 𝓣 2 ps·9 r·9 (claims· .18) (claims· .19) "search::rounds::finish" (known .9) E (λ pos β. β) G129 (Num.vFld 1 (List._∷_ (Syntax.field 0) List.[]) 0 λ x. Size.struct .as-values x .0, (Num.vAt 10 λ x. x, (Num.vAt 13 λ x. x, (record { pos = 45; ty = Syntax.tyRef Syntax.erased Syntax.mut (Syntax.tyInt Syntax.w16); ref = λ x. x }, (record { pos = 47; ty = Syntax.tyRef Syntax.erased Syntax.mut (Syntax.tyInt Syntax.w16); ref = λ x. x }, tt))))) 0 (List._∷_ 19 (List._∷_ 20 List.[])) (Call.sub-id 𝓤 H A W (G129 .slots)) ((Reads.reads-field 𝓤 H A W Size.the-type Laws''.the-laws 0 (Syntax.tyInt Syntax.w64) 0 Path'.refl, Path'.refl), ((Scalar.reads-sc 𝓤 H A W (Row.sInt Syntax.w64), Path'.refl), ((Scalar.reads-sc 𝓤 H A W (Row.sInt Syntax.w64), Path'.refl), (Reads'.as-is 𝓤 H A (Mut.mslice (Referent.rtF (Referent.fInt Syntax.w16)) ty·0 19), Mut.reads-mslice 𝓤 H A W (Referent.rtF (Referent.fInt Syntax.w16)) ty·0 19, Path'.refl, (Reads'.as-is 𝓤 H A (Mut.mslice (Referent.rtF (Referent.fInt Syntax.w16)) ty·0 20), Mut.reads-mslice 𝓤 H A W (Referent.rtF (Referent.fInt Syntax.w16)) ty·0 20, Path'.refl, tt))))) (Reads'.room-gone 𝓤 H A ty·10) (tt, (tt, tt)) Path'.refl) d97
+          d98 : Typed.Typed 𝓤 H A 𝓣 E G144 b79 Δ0 at98
+          d98 = Typed.g-pre 𝓤 H A W 𝓣 E G144 G145 b79 Δ0 (Typed.both s141) at97 (Relend.g-back-sl 𝓤 H A W E (Referent.rtF (Referent.fInt Syntax.w16)) G144 48 6 3 21 ty·4 ty·0 (Row.lease (κs .1 .1 .1 .0) (qs .1 .1 .1 .0)) (λ x. x) (λ x. x) (Reads'.as-is 𝓤 H A (Mut.msleft (Referent.rtF (Referent.fInt Syntax.w16)) ty·0)) (Reads'.as-is 𝓤 H A (Relend.mslice-owed (Referent.rtF (Referent.fInt Syntax.w16)) ty·4 3 21 (Row.lease (κs .1 .1 .1 .0) (qs .1 .1 .1 .0)))) Path'.refl Path'.refl) d97
 
-          d99 : Typed.Typed 𝓤 H A 𝓣 E G128 b77 Δ0 at99
-          d99 = Typed.s-seq 𝓤 H A W 𝓣 E G128 G129 b73 b76 Δ0 (Typed.ask s125) at98 (Relend.t-sl-aggregate 𝓤 H A W E (Referent.rtF (Referent.fInt Syntax.w16)) 𝓣 (Relend.asMut (Referent.rtF (Referent.fInt Syntax.w16))) G128 46 47 20 ty·0 ty·0 (λ x. x) (Scalar.oFld 7 (List._∷_ (Syntax.field 1) List.[]) (Syntax.tyInt Syntax.w64) 8 λ v. Shared.lenV (v .0)) (Reads'.as-is 𝓤 H A (Relend.msptr (Referent.rtF (Referent.fInt Syntax.w16)) ty·0 20)) (Reads'.room-gone 𝓤 H A ty·8) (Relend.reads-owed-len 𝓤 H A W (Referent.rtF (Referent.fInt Syntax.w16)) ty·5 4 20 (Row.lease (κs .1 .1 .1 .1 .0) (qs .1 .1 .1 .1 .0)) 8 Path'.refl, Path'.refl) Path'.refl Path'.refl λ b o k. tt) d98
+          d99 : Typed.Typed 𝓤 H A 𝓣 E G143 b79 Δ0 at99
+          d99 = Typed.g-pre 𝓤 H A W 𝓣 E G143 G144 b79 Δ0 (λ Ψ. Ψ) at98 (Lifetime.g-end 𝓤 H A W E G143 21 Path'.refl) d98
 
-          d100 : Typed.Typed 𝓤 H A 𝓣 E G127 b78 Δ0 at100
-          d100 = Typed.s-seq 𝓤 H A W 𝓣 E G127 G128 b72 b77 Δ0 (Typed.give s124) at99 (Relend.t-sl-relend 𝓤 H A W E (Referent.rtF (Referent.fInt Syntax.w16)) 𝓣 G127 7 46 4 20 ty·5 ty·0 (Row.lease (κs .1 .1 .1 .1 .0) (qs .1 .1 .1 .1 .0)) 0 (λ x. x) (Reads'.as-is 𝓤 H A (Mut.mslice (Referent.rtF (Referent.fInt Syntax.w16)) ty·5 4)) (Reads'.room-gone 𝓤 H A ty·0) Path'.refl tt Path'.refl Path'.refl Path'.refl λ b o. tt) d99
+          d100 : Typed.Typed 𝓤 H A 𝓣 E G142 b79 Δ0 at100
+          d100 = Typed.g-pre 𝓤 H A W 𝓣 E G142 G143 b79 Δ0 (Typed.pass T142 T143 s139) at99 (Scalar.g-room 𝓤 H A W E G142 14 (Syntax.tyInt Syntax.w64) (Scalar.room-sc 𝓤 H A W (Row.sInt Syntax.w64))) d99
 
-          d101 : Typed.Typed 𝓤 H A 𝓣 E G126 b78 Δ0 at101
-          d101 = Typed.g-pre 𝓤 H A W 𝓣 E G126 G127 b78 Δ0 (λ Ψ. Ψ) at100 (Lifetime.g-begin 𝓤 H A W E G126 20 (tt, (tt, (tt, (tt, (tt, (tt, ((tt, tt), (tt, (tt, (tt, (tt, (tt, (tt, (tt, (tt, (tt, (tt, (tt, (tt, (tt, (tt, (tt, (tt, (tt, (tt, (tt, (tt, (tt, (tt, (tt, (tt, (tt, (tt, (tt, (tt, (tt, (tt, (tt, (tt, (tt, (tt, (tt, (tt, (tt, (tt, (tt, (tt, (tt, tt))))))))))))))))))))))))))))))))))))))))))))))))) d100
+          d101 : Typed.Typed 𝓤 H A 𝓣 E G141 b79 Δ0 at101
+          d101 = Typed.g-pre 𝓤 H A W 𝓣 E G141 G142 b79 Δ0 (Typed.pass T141 T142 s138) at100 (Scalar.g-room 𝓤 H A W E G141 13 (Syntax.tyInt Syntax.w64) (Scalar.room-sc 𝓤 H A W (Row.sInt Syntax.w64))) d100
 
-          d102 : Typed.Typed 𝓤 H A 𝓣 E G125 b79 Δ0 at102
-          d102 = Typed.s-seq 𝓤 H A W 𝓣 E G125 G126 b71 b78 Δ0 (Typed.ask s122) at101 (Relend.t-sl-aggregate 𝓤 H A W E (Referent.rtF (Referent.fInt Syntax.w16)) 𝓣 (Relend.asMut (Referent.rtF (Referent.fInt Syntax.w16))) G125 44 45 19 ty·0 ty·0 (λ x. x) (Scalar.oFld 6 (List._∷_ (Syntax.field 1) List.[]) (Syntax.tyInt Syntax.w64) 8 λ v. Shared.lenV (v .0)) (Reads'.as-is 𝓤 H A (Relend.msptr (Referent.rtF (Referent.fInt Syntax.w16)) ty·0 19)) (Reads'.room-gone 𝓤 H A ty·8) (Relend.reads-owed-len 𝓤 H A W (Referent.rtF (Referent.fInt Syntax.w16)) ty·4 3 19 (Row.lease (κs .1 .1 .1 .0) (qs .1 .1 .1 .0)) 8 Path'.refl, Path'.refl) Path'.refl Path'.refl λ b o k. tt) d101
+          d102 : Typed.Typed 𝓤 H A 𝓣 E G140 b79 Δ0 at102
+          d102 = Typed.g-pre 𝓤 H A W 𝓣 E G140 G141 b79 Δ0 (Typed.pass T140 T141 s137) at101 (Scalar.g-room 𝓤 H A W E G140 12 (Syntax.tyInt Syntax.w64) (Scalar.room-sc 𝓤 H A W (Row.sInt Syntax.w64))) d101
 
-          d103 : Typed.Typed 𝓤 H A 𝓣 E G124 b80 Δ0 at103
-          d103 = Typed.s-seq 𝓤 H A W 𝓣 E G124 G125 b70 b79 Δ0 (Typed.give s121) at102 (Relend.t-sl-relend 𝓤 H A W E (Referent.rtF (Referent.fInt Syntax.w16)) 𝓣 G124 6 44 3 19 ty·4 ty·0 (Row.lease (κs .1 .1 .1 .0) (qs .1 .1 .1 .0)) 0 (λ x. x) (Reads'.as-is 𝓤 H A (Mut.mslice (Referent.rtF (Referent.fInt Syntax.w16)) ty·4 3)) (Reads'.room-gone 𝓤 H A ty·0) Path'.refl tt Path'.refl Path'.refl Path'.refl λ b o. tt) d102
+          d103 : Typed.Typed 𝓤 H A 𝓣 E G139 b79 Δ0 at103
+          d103 = Typed.g-pre 𝓤 H A W 𝓣 E G139 G140 b79 Δ0 (Typed.pass T139 T140 s136) at102 (Scalar.g-room 𝓤 H A W E G139 11 (Syntax.tyInt Syntax.w64) (Scalar.room-sc 𝓤 H A W (Row.sInt Syntax.w64))) d102
 
-          d104 : Typed.Typed 𝓤 H A 𝓣 E G45 b80 Δ0 at104
-          d104 = Typed.g-pre 𝓤 H A W 𝓣 E G45 G124 b80 Δ0 (λ Ψ. Ψ) at103 (Lifetime.g-begin 𝓤 H A W E G45 19 (tt, (tt, (tt, (tt, (tt, (tt, (tt, (tt, (tt, (tt, (tt, (tt, (tt, (tt, (tt, (tt, (tt, (tt, (tt, (tt, (tt, (tt, (tt, (tt, (tt, (tt, (tt, (tt, (tt, (tt, (tt, (tt, (tt, (tt, (tt, (tt, (tt, (tt, (tt, (tt, (tt, (tt, (tt, (tt, (tt, (tt, (tt, (tt, tt))))))))))))))))))))))))))))))))))))))))))))))))) d103
+          d104 : Typed.Typed 𝓤 H A 𝓣 E G138 b79 Δ0 at104
+          d104 = Typed.g-pre 𝓤 H A W 𝓣 E G138 G139 b79 Δ0 (Typed.pass T138 T139 s135) at103 (Scalar.g-room 𝓤 H A W E G138 1 ty·12 (Local.room-whole 𝓤 H A W (Declared.row Size.the-type) ty·12 Path'.refl)) d103
 
-          d105 : Typed.Typed 𝓤 H A 𝓣 E G44 b81 Δ0 at105
-          d105 = Typed.t-seq 𝓤 H A W 𝓣 E G44 G45 b69 b80 Δ0 at82 at104 d82 d104
+          d105 : Typed.Typed 𝓤 H A 𝓣 E G137 b80 Δ0 at105
+          d105 = Typed.s-seq 𝓤 H A W 𝓣 E G137 G138 b78 b79 Δ0 (Typed.both s134) at104 (Plain.t-call-plain 𝓤 H A W 𝓣 2 ps·9 r·9 (claims· .18) (claims· .19) "search::rounds::finish" (known .9) E (λ pos β. β) G137 (Num.vFld 1 (List._∷_ (Syntax.field 0) List.[]) 0 λ x. Size.struct .as-values x .0, (Num.vAt 11 λ x. x, (Num.vAt 14 λ x. x, (record { pos = 48; ty = Syntax.tyRef Syntax.erased Syntax.mut (Syntax.tyInt Syntax.w16); ref = λ x. x }, (record { pos = 50; ty = Syntax.tyRef Syntax.erased Syntax.mut (Syntax.tyInt Syntax.w16); ref = λ x. x }, tt))))) 0 (List._∷_ 21 (List._∷_ 22 List.[])) (Call.sub-id 𝓤 H A W (G137 .slots)) ((Reads.reads-field 𝓤 H A W Size.the-type Laws''.the-laws 0 (Syntax.tyInt Syntax.w64) 0 Path'.refl, Path'.refl), ((Scalar.reads-sc 𝓤 H A W (Row.sInt Syntax.w64), Path'.refl), ((Scalar.reads-sc 𝓤 H A W (Row.sInt Syntax.w64), Path'.refl), (Reads'.as-is 𝓤 H A (Mut.mslice (Referent.rtF (Referent.fInt Syntax.w16)) ty·0 21), Mut.reads-mslice 𝓤 H A W (Referent.rtF (Referent.fInt Syntax.w16)) ty·0 21, Path'.refl, (Reads'.as-is 𝓤 H A (Mut.mslice (Referent.rtF (Referent.fInt Syntax.w16)) ty·0 22), Mut.reads-mslice 𝓤 H A W (Referent.rtF (Referent.fInt Syntax.w16)) ty·0 22, Path'.refl, tt))))) (Reads'.room-gone 𝓤 H A ty·11) (tt, (tt, tt)) Path'.refl) d104
 
-          d106 : Typed.Typed 𝓤 H A 𝓣 E G43 b82 Δ0 at106
-          d106 = Typed.s-seq 𝓤 H A W 𝓣 E G43 G44 b14 b81 Δ0 (Typed.pass T43 T44 s42) at105 (Scalar.t-use 𝓤 H A W E 𝓣 G43 (Scalar.oInt Syntax.w64 0) 13 (Rows.sc-here (Row.sInt Syntax.w64)) (Syntax.tyInt Syntax.w64) (Row.valS (Row.sInt Syntax.w64)) (Row.sInt Syntax.w64 .of) tt (Reads'.room-gone 𝓤 H A (Syntax.tyInt Syntax.w64)) (Scalar.holds-sc 𝓤 H A W (Row.sInt Syntax.w64)) Path'.refl (λ u. Path'.refl) λ u. tt) d105
+          d106 : Typed.Typed 𝓤 H A 𝓣 E G136 b81 Δ0 at106
+          d106 = Typed.s-seq 𝓤 H A W 𝓣 E G136 G137 b77 b80 Δ0 (Typed.ask s133) at105 (Relend.t-sl-aggregate 𝓤 H A W E (Referent.rtF (Referent.fInt Syntax.w16)) 𝓣 (Relend.asMut (Referent.rtF (Referent.fInt Syntax.w16))) G136 49 50 22 ty·0 ty·0 (λ x. x) (Scalar.oFld 7 (List._∷_ (Syntax.field 1) List.[]) (Syntax.tyInt Syntax.w64) 8 λ v. Shared.lenV (v .0)) (Reads'.as-is 𝓤 H A (Relend.msptr (Referent.rtF (Referent.fInt Syntax.w16)) ty·0 22)) (Reads'.room-gone 𝓤 H A ty·9) (Relend.reads-owed-len 𝓤 H A W (Referent.rtF (Referent.fInt Syntax.w16)) ty·5 4 22 (Row.lease (κs .1 .1 .1 .1 .0) (qs .1 .1 .1 .1 .0)) 8 Path'.refl, Path'.refl) Path'.refl Path'.refl λ b o k. tt) d105
 
-          d107 : Typed.Typed 𝓤 H A 𝓣 E G42 b83 Δ0 at107
-          d107 = Typed.s-seq 𝓤 H A W 𝓣 E G42 G43 b13 b82 Δ0 (Typed.pass T41 T43 s41) at106 (Scalar.t-use 𝓤 H A W E 𝓣 G42 (Scalar.oInt Syntax.w64 0) 12 (Rows.sc-here (Row.sInt Syntax.w64)) (Syntax.tyInt Syntax.w64) (Row.valS (Row.sInt Syntax.w64)) (Row.sInt Syntax.w64 .of) tt (Reads'.room-gone 𝓤 H A (Syntax.tyInt Syntax.w64)) (Scalar.holds-sc 𝓤 H A W (Row.sInt Syntax.w64)) Path'.refl (λ u. Path'.refl) λ u. tt) d106
+          d107 : Typed.Typed 𝓤 H A 𝓣 E G135 b82 Δ0 at107
+          d107 = Typed.s-seq 𝓤 H A W 𝓣 E G135 G136 b76 b81 Δ0 (Typed.give s132) at106 (Relend.t-sl-relend 𝓤 H A W E (Referent.rtF (Referent.fInt Syntax.w16)) 𝓣 G135 7 49 4 22 ty·5 ty·0 (Row.lease (κs .1 .1 .1 .1 .0) (qs .1 .1 .1 .1 .0)) 0 (λ x. x) (Reads'.as-is 𝓤 H A (Mut.mslice (Referent.rtF (Referent.fInt Syntax.w16)) ty·5 4)) (Reads'.room-gone 𝓤 H A ty·0) Path'.refl tt Path'.refl Path'.refl Path'.refl λ b o. tt) d106
 
-          d108 : Typed.Typed 𝓤 H A 𝓣 E G41 b83 Δ0 at108
-          d108 = Typed.g-pre 𝓤 H A W 𝓣 E G41 G42 b83 Δ0 (λ Ψ. Ψ) at107 (Lifetime.g-forget 𝓤 H A W E G41 9 Row.dead Path'.refl) d107
+          d108 : Typed.Typed 𝓤 H A 𝓣 E G134 b82 Δ0 at108
+          d108 = Typed.g-pre 𝓤 H A W 𝓣 E G134 G135 b82 Δ0 (λ Ψ. Ψ) at107 (Lifetime.g-begin 𝓤 H A W E G134 22 (tt, (tt, (tt, (tt, (tt, (tt, ((tt, tt), (tt, (tt, (tt, (tt, (tt, (tt, (tt, (tt, (tt, (tt, (tt, (tt, (tt, (tt, (tt, (tt, (tt, (tt, (tt, (tt, (tt, (tt, (tt, (tt, (tt, (tt, (tt, (tt, (tt, (tt, (tt, (tt, (tt, (tt, (tt, (tt, (tt, (tt, (tt, (tt, (tt, (tt, (tt, (tt, tt)))))))))))))))))))))))))))))))))))))))))))))))))))) d107
 
-          d109 : Typed.Typed 𝓤 H A 𝓣 E G40 b83 Δ0 at109
-          d109 = Typed.g-pre 𝓤 H A W 𝓣 E G40 G41 b83 Δ0 (Typed.give s39) at108 (Know.g-sl-known 𝓤 H A W (Referent.fInt Syntax.w16) E G40 8 5 ty·6 (Row.lease (κs .1 .1 .1 .1 .1 .0) (qs .1 .1 .1 .1 .1 .0)) 0 (λ x. x) record { fits = Dec'.lit< tt } (Reads'.as-is 𝓤 H A (Mut.mslice (Referent.rtF (Referent.fInt Syntax.w16)) ty·6 5)) Path'.refl tt) d108
+          d109 : Typed.Typed 𝓤 H A 𝓣 E G133 b83 Δ0 at109
+          d109 = Typed.s-seq 𝓤 H A W 𝓣 E G133 G134 b75 b82 Δ0 (Typed.ask s130) at108 (Relend.t-sl-aggregate 𝓤 H A W E (Referent.rtF (Referent.fInt Syntax.w16)) 𝓣 (Relend.asMut (Referent.rtF (Referent.fInt Syntax.w16))) G133 47 48 21 ty·0 ty·0 (λ x. x) (Scalar.oFld 6 (List._∷_ (Syntax.field 1) List.[]) (Syntax.tyInt Syntax.w64) 8 λ v. Shared.lenV (v .0)) (Reads'.as-is 𝓤 H A (Relend.msptr (Referent.rtF (Referent.fInt Syntax.w16)) ty·0 21)) (Reads'.room-gone 𝓤 H A ty·9) (Relend.reads-owed-len 𝓤 H A W (Referent.rtF (Referent.fInt Syntax.w16)) ty·4 3 21 (Row.lease (κs .1 .1 .1 .0) (qs .1 .1 .1 .0)) 8 Path'.refl, Path'.refl) Path'.refl Path'.refl λ b o k. tt) d108
 
-          d110 : Typed.Typed 𝓤 H A 𝓣 E G39 b83 Δ0 at110
-          d110 = Typed.g-pre 𝓤 H A W 𝓣 E G39 G40 b83 Δ0 (Typed.both s38) at109 (Relend.g-back-sl 𝓤 H A W E (Referent.rtF (Referent.fInt Syntax.w16)) G39 23 8 5 9 ty·6 ty·0 (Row.lease (κs .1 .1 .1 .1 .1 .0) (qs .1 .1 .1 .1 .1 .0)) (λ x. x) (λ x. x) (Reads'.as-is 𝓤 H A (Mut.msleft (Referent.rtF (Referent.fInt Syntax.w16)) ty·0)) (Reads'.as-is 𝓤 H A (Relend.mslice-owed (Referent.rtF (Referent.fInt Syntax.w16)) ty·6 5 9 (Row.lease (κs .1 .1 .1 .1 .1 .0) (qs .1 .1 .1 .1 .1 .0)))) Path'.refl Path'.refl) d109
+          d110 : Typed.Typed 𝓤 H A 𝓣 E G132 b84 Δ0 at110
+          d110 = Typed.s-seq 𝓤 H A W 𝓣 E G132 G133 b74 b83 Δ0 (Typed.give s129) at109 (Relend.t-sl-relend 𝓤 H A W E (Referent.rtF (Referent.fInt Syntax.w16)) 𝓣 G132 6 47 3 21 ty·4 ty·0 (Row.lease (κs .1 .1 .1 .0) (qs .1 .1 .1 .0)) 0 (λ x. x) (Reads'.as-is 𝓤 H A (Mut.mslice (Referent.rtF (Referent.fInt Syntax.w16)) ty·4 3)) (Reads'.room-gone 𝓤 H A ty·0) Path'.refl tt Path'.refl Path'.refl Path'.refl λ b o. tt) d109
 
-          d111 : Typed.Typed 𝓤 H A 𝓣 E G38 b83 Δ0 at111
-          d111 = Typed.g-pre 𝓤 H A W 𝓣 E G38 G39 b83 Δ0 (λ Ψ. Ψ) at110 (Lifetime.g-end 𝓤 H A W E G38 9 Path'.refl) d110
+          d111 : Typed.Typed 𝓤 H A 𝓣 E G46 b84 Δ0 at111
+          d111 = Typed.g-pre 𝓤 H A W 𝓣 E G46 G132 b84 Δ0 (λ Ψ. Ψ) at110 (Lifetime.g-begin 𝓤 H A W E G46 21 (tt, (tt, (tt, (tt, (tt, (tt, (tt, (tt, (tt, (tt, (tt, (tt, (tt, (tt, (tt, (tt, (tt, (tt, (tt, (tt, (tt, (tt, (tt, (tt, (tt, (tt, (tt, (tt, (tt, (tt, (tt, (tt, (tt, (tt, (tt, (tt, (tt, (tt, (tt, (tt, (tt, (tt, (tt, (tt, (tt, (tt, (tt, (tt, (tt, (tt, (tt, tt)))))))))))))))))))))))))))))))))))))))))))))))))))) d110
 
-          d112 : Typed.Typed 𝓤 H A 𝓣 E G37 b83 Δ0 at112
-          d112 = Typed.g-pre 𝓤 H A W 𝓣 E G37 G38 b83 Δ0 (λ Ψ. Ψ) at111 (Lifetime.g-forget 𝓤 H A W E G37 8 Row.dead Path'.refl) d111
+          d112 : Typed.Typed 𝓤 H A 𝓣 E G45 b85 Δ0 at112
+          d112 = Typed.t-seq 𝓤 H A W 𝓣 E G45 G46 b73 b84 Δ0 at89 at111 d89 d111
 
-          d113 : Typed.Typed 𝓤 H A 𝓣 E G36 b83 Δ0 at113
-          d113 = Typed.g-pre 𝓤 H A W 𝓣 E G36 G37 b83 Δ0 (Typed.give s35) at112 (Know.g-sl-known 𝓤 H A W (Referent.fInt Syntax.w16) E G36 7 4 ty·5 (Row.lease (κs .1 .1 .1 .1 .0) (qs .1 .1 .1 .1 .0)) 0 (λ x. x) record { fits = Dec'.lit< tt } (Reads'.as-is 𝓤 H A (Mut.mslice (Referent.rtF (Referent.fInt Syntax.w16)) ty·5 4)) Path'.refl tt) d112
+          d113 : Typed.Typed 𝓤 H A 𝓣 E G44 b86 Δ0 at113
+          d113 = Typed.s-seq 𝓤 H A W 𝓣 E G44 G45 b14 b85 Δ0 (Typed.pass T44 T45 s43) at112 (Scalar.t-use 𝓤 H A W E 𝓣 G44 (Scalar.oInt Syntax.w64 0) 14 (Rows.sc-here (Row.sInt Syntax.w64)) (Syntax.tyInt Syntax.w64) (Row.valS (Row.sInt Syntax.w64)) (Row.sInt Syntax.w64 .of) tt (Reads'.room-gone 𝓤 H A (Syntax.tyInt Syntax.w64)) (Scalar.holds-sc 𝓤 H A W (Row.sInt Syntax.w64)) Path'.refl (λ u. Path'.refl) λ u. tt) d112
 
-          d114 : Typed.Typed 𝓤 H A 𝓣 E G35 b83 Δ0 at114
-          d114 = Typed.g-pre 𝓤 H A W 𝓣 E G35 G36 b83 Δ0 (Typed.both s34) at113 (Relend.g-back-sl 𝓤 H A W E (Referent.rtF (Referent.fInt Syntax.w16)) G35 21 7 4 8 ty·5 ty·0 (Row.lease (κs .1 .1 .1 .1 .0) (qs .1 .1 .1 .1 .0)) (λ x. x) (λ x. x) (Reads'.as-is 𝓤 H A (Mut.msleft (Referent.rtF (Referent.fInt Syntax.w16)) ty·0)) (Reads'.as-is 𝓤 H A (Relend.mslice-owed (Referent.rtF (Referent.fInt Syntax.w16)) ty·5 4 8 (Row.lease (κs .1 .1 .1 .1 .0) (qs .1 .1 .1 .1 .0)))) Path'.refl Path'.refl) d113
+          d114 : Typed.Typed 𝓤 H A 𝓣 E G43 b87 Δ0 at114
+          d114 = Typed.s-seq 𝓤 H A W 𝓣 E G43 G44 b13 b86 Δ0 (Typed.pass T42 T44 s42) at113 (Scalar.t-use 𝓤 H A W E 𝓣 G43 (Scalar.oInt Syntax.w64 0) 13 (Rows.sc-here (Row.sInt Syntax.w64)) (Syntax.tyInt Syntax.w64) (Row.valS (Row.sInt Syntax.w64)) (Row.sInt Syntax.w64 .of) tt (Reads'.room-gone 𝓤 H A (Syntax.tyInt Syntax.w64)) (Scalar.holds-sc 𝓤 H A W (Row.sInt Syntax.w64)) Path'.refl (λ u. Path'.refl) λ u. tt) d113
 
-          d115 : Typed.Typed 𝓤 H A 𝓣 E G34 b83 Δ0 at115
-          d115 = Typed.g-pre 𝓤 H A W 𝓣 E G34 G35 b83 Δ0 (λ Ψ. Ψ) at114 (Lifetime.g-end 𝓤 H A W E G34 8 Path'.refl) d114
+          d115 : Typed.Typed 𝓤 H A 𝓣 E G42 b87 Δ0 at115
+          d115 = Typed.g-pre 𝓤 H A W 𝓣 E G42 G43 b87 Δ0 (λ Ψ. Ψ) at114 (Lifetime.g-forget 𝓤 H A W E G42 10 Row.dead Path'.refl) d114
 
-          d116 : Typed.Typed 𝓤 H A 𝓣 E G33 b84 Δ0 at116
-          d116 = Typed.s-seq 𝓤 H A W 𝓣 E G33 G34 b12 b83 Δ0 (Typed.both s32) at115 (Plain.t-call-plain 𝓤 H A W 𝓣 2 ps·4 r·4 (claims· .8) (claims· .9) "walks::queue::reach" (known .4) E (λ pos β. β) G33 (Num.vFld 1 (List._∷_ (Syntax.field 0) List.[]) 0 λ x. Size.struct .as-values x .0, (record { pos = 21; ty = Syntax.tyRef Syntax.erased Syntax.mut (Syntax.tyInt Syntax.w16); ref = λ x. x }, (record { pos = 23; ty = Syntax.tyRef Syntax.erased Syntax.mut (Syntax.tyInt Syntax.w16); ref = λ x. x }, (Num.vLit 0, (Num.vAt 5 λ x. x, (Num.vLit 2, tt)))))) 11 (List._∷_ 8 (List._∷_ 9 List.[])) (Call.sub-id 𝓤 H A W (G33 .slots)) ((Reads.reads-field 𝓤 H A W Size.the-type Laws''.the-laws 0 (Syntax.tyInt Syntax.w64) 0 Path'.refl, Path'.refl), (Reads'.as-is 𝓤 H A (Mut.mslice (Referent.rtF (Referent.fInt Syntax.w16)) ty·0 8), Mut.reads-mslice 𝓤 H A W (Referent.rtF (Referent.fInt Syntax.w16)) ty·0 8, Path'.refl, (Reads'.as-is 𝓤 H A (Mut.mslice (Referent.rtF (Referent.fInt Syntax.w16)) ty·0 9), Mut.reads-mslice 𝓤 H A W (Referent.rtF (Referent.fInt Syntax.w16)) ty·0 9, Path'.refl, (tt, ((Scalar.reads-sc 𝓤 H A W (Row.sInt Syntax.w64), Path'.refl), (tt, tt)))))) (Reads'.room-gone 𝓤 H A (Syntax.tyInt Syntax.w64)) (tt, (tt, tt)) Path'.refl) d115
+          d116 : Typed.Typed 𝓤 H A 𝓣 E G41 b87 Δ0 at116
+          d116 = Typed.g-pre 𝓤 H A W 𝓣 E G41 G42 b87 Δ0 (Typed.give s40) at115 (Know.g-sl-known 𝓤 H A W (Referent.fInt Syntax.w16) E G41 8 5 ty·6 (Row.lease (κs .1 .1 .1 .1 .1 .0) (qs .1 .1 .1 .1 .1 .0)) 0 (λ x. x) record { fits = Dec'.lit< tt } (Reads'.as-is 𝓤 H A (Mut.mslice (Referent.rtF (Referent.fInt Syntax.w16)) ty·6 5)) Path'.refl tt) d115
 
-          d117 : Typed.Typed 𝓤 H A 𝓣 E G32 b85 Δ0 at117
-          d117 = Typed.s-seq 𝓤 H A W 𝓣 E G32 G33 b11 b84 Δ0 (Typed.ask s31) at116 (Relend.t-sl-aggregate 𝓤 H A W E (Referent.rtF (Referent.fInt Syntax.w16)) 𝓣 (Relend.asMut (Referent.rtF (Referent.fInt Syntax.w16))) G32 22 23 9 ty·0 ty·0 (λ x. x) (Scalar.oFld 8 (List._∷_ (Syntax.field 1) List.[]) (Syntax.tyInt Syntax.w64) 8 λ v. Shared.lenV (v .0)) (Reads'.as-is 𝓤 H A (Relend.msptr (Referent.rtF (Referent.fInt Syntax.w16)) ty·0 9)) (Reads'.room-gone 𝓤 H A ty·8) (Relend.reads-owed-len 𝓤 H A W (Referent.rtF (Referent.fInt Syntax.w16)) ty·6 5 9 (Row.lease (κs .1 .1 .1 .1 .1 .0) (qs .1 .1 .1 .1 .1 .0)) 8 Path'.refl, Path'.refl) Path'.refl Path'.refl λ b o k. tt) d116
+          d117 : Typed.Typed 𝓤 H A 𝓣 E G40 b87 Δ0 at117
+          d117 = Typed.g-pre 𝓤 H A W 𝓣 E G40 G41 b87 Δ0 (Typed.both s39) at116 (Relend.g-back-sl 𝓤 H A W E (Referent.rtF (Referent.fInt Syntax.w16)) G40 24 8 5 10 ty·6 ty·0 (Row.lease (κs .1 .1 .1 .1 .1 .0) (qs .1 .1 .1 .1 .1 .0)) (λ x. x) (λ x. x) (Reads'.as-is 𝓤 H A (Mut.msleft (Referent.rtF (Referent.fInt Syntax.w16)) ty·0)) (Reads'.as-is 𝓤 H A (Relend.mslice-owed (Referent.rtF (Referent.fInt Syntax.w16)) ty·6 5 10 (Row.lease (κs .1 .1 .1 .1 .1 .0) (qs .1 .1 .1 .1 .1 .0)))) Path'.refl Path'.refl) d116
 
-          d118 : Typed.Typed 𝓤 H A 𝓣 E G31 b86 Δ0 at118
-          d118 = Typed.s-seq 𝓤 H A W 𝓣 E G31 G32 b10 b85 Δ0 (Typed.give s30) at117 (Relend.t-sl-relend 𝓤 H A W E (Referent.rtF (Referent.fInt Syntax.w16)) 𝓣 G31 8 22 5 9 ty·6 ty·0 (Row.lease (κs .1 .1 .1 .1 .1 .0) (qs .1 .1 .1 .1 .1 .0)) 0 (λ x. x) (Reads'.as-is 𝓤 H A (Mut.mslice (Referent.rtF (Referent.fInt Syntax.w16)) ty·6 5)) (Reads'.room-gone 𝓤 H A ty·0) Path'.refl tt Path'.refl Path'.refl Path'.refl λ b o. tt) d117
+          d118 : Typed.Typed 𝓤 H A 𝓣 E G39 b87 Δ0 at118
+          d118 = Typed.g-pre 𝓤 H A W 𝓣 E G39 G40 b87 Δ0 (λ Ψ. Ψ) at117 (Lifetime.g-end 𝓤 H A W E G39 10 Path'.refl) d117
 
-          d119 : Typed.Typed 𝓤 H A 𝓣 E G30 b86 Δ0 at119
-          d119 = Typed.g-pre 𝓤 H A W 𝓣 E G30 G31 b86 Δ0 (λ Ψ. Ψ) at118 (Lifetime.g-begin 𝓤 H A W E G30 9 (tt, (tt, (tt, (tt, (tt, (tt, (tt, ((tt, tt), (tt, (tt, (tt, (tt, (tt, (tt, (tt, (tt, (tt, (tt, (tt, (tt, (tt, (tt, (tt, (tt, (tt, (tt, (tt, (tt, (tt, (tt, (tt, (tt, (tt, (tt, (tt, (tt, (tt, (tt, (tt, (tt, (tt, (tt, (tt, (tt, (tt, (tt, (tt, (tt, tt))))))))))))))))))))))))))))))))))))))))))))))))) d118
+          d119 : Typed.Typed 𝓤 H A 𝓣 E G38 b87 Δ0 at119
+          d119 = Typed.g-pre 𝓤 H A W 𝓣 E G38 G39 b87 Δ0 (λ Ψ. Ψ) at118 (Lifetime.g-forget 𝓤 H A W E G38 9 Row.dead Path'.refl) d118
 
-          d120 : Typed.Typed 𝓤 H A 𝓣 E G29 b87 Δ0 at120
-          d120 = Typed.s-seq 𝓤 H A W 𝓣 E G29 G30 b9 b86 Δ0 (Typed.ask s28) at119 (Relend.t-sl-aggregate 𝓤 H A W E (Referent.rtF (Referent.fInt Syntax.w16)) 𝓣 (Relend.asMut (Referent.rtF (Referent.fInt Syntax.w16))) G29 20 21 8 ty·0 ty·0 (λ x. x) (Scalar.oFld 7 (List._∷_ (Syntax.field 1) List.[]) (Syntax.tyInt Syntax.w64) 8 λ v. Shared.lenV (v .0)) (Reads'.as-is 𝓤 H A (Relend.msptr (Referent.rtF (Referent.fInt Syntax.w16)) ty·0 8)) (Reads'.room-gone 𝓤 H A ty·8) (Relend.reads-owed-len 𝓤 H A W (Referent.rtF (Referent.fInt Syntax.w16)) ty·5 4 8 (Row.lease (κs .1 .1 .1 .1 .0) (qs .1 .1 .1 .1 .0)) 8 Path'.refl, Path'.refl) Path'.refl Path'.refl λ b o k. tt) d119
+          d120 : Typed.Typed 𝓤 H A 𝓣 E G37 b87 Δ0 at120
+          d120 = Typed.g-pre 𝓤 H A W 𝓣 E G37 G38 b87 Δ0 (Typed.give s36) at119 (Know.g-sl-known 𝓤 H A W (Referent.fInt Syntax.w16) E G37 7 4 ty·5 (Row.lease (κs .1 .1 .1 .1 .0) (qs .1 .1 .1 .1 .0)) 0 (λ x. x) record { fits = Dec'.lit< tt } (Reads'.as-is 𝓤 H A (Mut.mslice (Referent.rtF (Referent.fInt Syntax.w16)) ty·5 4)) Path'.refl tt) d119
 
-          d121 : Typed.Typed 𝓤 H A 𝓣 E G28 b88 Δ0 at121
-          d121 = Typed.s-seq 𝓤 H A W 𝓣 E G28 G29 b8 b87 Δ0 (Typed.give s27) at120 (Relend.t-sl-relend 𝓤 H A W E (Referent.rtF (Referent.fInt Syntax.w16)) 𝓣 G28 7 20 4 8 ty·5 ty·0 (Row.lease (κs .1 .1 .1 .1 .0) (qs .1 .1 .1 .1 .0)) 0 (λ x. x) (Reads'.as-is 𝓤 H A (Mut.mslice (Referent.rtF (Referent.fInt Syntax.w16)) ty·5 4)) (Reads'.room-gone 𝓤 H A ty·0) Path'.refl tt Path'.refl Path'.refl Path'.refl λ b o. tt) d120
+          d121 : Typed.Typed 𝓤 H A 𝓣 E G36 b87 Δ0 at121
+          d121 = Typed.g-pre 𝓤 H A W 𝓣 E G36 G37 b87 Δ0 (Typed.both s35) at120 (Relend.g-back-sl 𝓤 H A W E (Referent.rtF (Referent.fInt Syntax.w16)) G36 22 7 4 9 ty·5 ty·0 (Row.lease (κs .1 .1 .1 .1 .0) (qs .1 .1 .1 .1 .0)) (λ x. x) (λ x. x) (Reads'.as-is 𝓤 H A (Mut.msleft (Referent.rtF (Referent.fInt Syntax.w16)) ty·0)) (Reads'.as-is 𝓤 H A (Relend.mslice-owed (Referent.rtF (Referent.fInt Syntax.w16)) ty·5 4 9 (Row.lease (κs .1 .1 .1 .1 .0) (qs .1 .1 .1 .1 .0)))) Path'.refl Path'.refl) d120
 
-          d122 : Typed.Typed 𝓤 H A 𝓣 E G27 b88 Δ0 at122
-          d122 = Typed.g-pre 𝓤 H A W 𝓣 E G27 G28 b88 Δ0 (λ Ψ. Ψ) at121 (Lifetime.g-begin 𝓤 H A W E G27 8 (tt, (tt, (tt, (tt, (tt, (tt, (tt, (tt, (tt, (tt, (tt, (tt, (tt, (tt, (tt, (tt, (tt, (tt, (tt, (tt, (tt, (tt, (tt, (tt, (tt, (tt, (tt, (tt, (tt, (tt, (tt, (tt, (tt, (tt, (tt, (tt, (tt, (tt, (tt, (tt, (tt, (tt, (tt, (tt, (tt, (tt, (tt, (tt, tt))))))))))))))))))))))))))))))))))))))))))))))))) d121
+          d122 : Typed.Typed 𝓤 H A 𝓣 E G35 b87 Δ0 at122
+          d122 = Typed.g-pre 𝓤 H A W 𝓣 E G35 G36 b87 Δ0 (λ Ψ. Ψ) at121 (Lifetime.g-end 𝓤 H A W E G35 9 Path'.refl) d121
 
-          d123 : Typed.Typed 𝓤 H A 𝓣 E G26 b88 Δ0 at123
-          d123 = Typed.g-pre 𝓤 H A W 𝓣 E G26 G27 b88 Δ0 (Typed.pass T26 T27 s25) at122 (Scalar.g-room 𝓤 H A W E G26 9 ty·13 (Local.room-whole 𝓤 H A W (Declared.row Span.the-type) ty·13 Path'.refl)) d122
+          d123 : Typed.Typed 𝓤 H A 𝓣 E G34 b88 Δ0 at123
+          d123 = Typed.s-seq 𝓤 H A W 𝓣 E G34 G35 b12 b87 Δ0 (Typed.both s33) at122 (Plain.t-call-plain 𝓤 H A W 𝓣 2 ps·4 r·4 (claims· .8) (claims· .9) "walks::queue::reach" (known .4) E (λ pos β. β) G34 (Num.vFld 1 (List._∷_ (Syntax.field 0) List.[]) 0 λ x. Size.struct .as-values x .0, (record { pos = 22; ty = Syntax.tyRef Syntax.erased Syntax.mut (Syntax.tyInt Syntax.w16); ref = λ x. x }, (record { pos = 24; ty = Syntax.tyRef Syntax.erased Syntax.mut (Syntax.tyInt Syntax.w16); ref = λ x. x }, (Num.vLit 0, (Num.vAt 5 λ x. x, (Num.vLit 2, tt)))))) 12 (List._∷_ 9 (List._∷_ 10 List.[])) (Call.sub-id 𝓤 H A W (G34 .slots)) ((Reads.reads-field 𝓤 H A W Size.the-type Laws''.the-laws 0 (Syntax.tyInt Syntax.w64) 0 Path'.refl, Path'.refl), (Reads'.as-is 𝓤 H A (Mut.mslice (Referent.rtF (Referent.fInt Syntax.w16)) ty·0 9), Mut.reads-mslice 𝓤 H A W (Referent.rtF (Referent.fInt Syntax.w16)) ty·0 9, Path'.refl, (Reads'.as-is 𝓤 H A (Mut.mslice (Referent.rtF (Referent.fInt Syntax.w16)) ty·0 10), Mut.reads-mslice 𝓤 H A W (Referent.rtF (Referent.fInt Syntax.w16)) ty·0 10, Path'.refl, (tt, ((Scalar.reads-sc 𝓤 H A W (Row.sInt Syntax.w64), Path'.refl), (tt, tt)))))) (Reads'.room-gone 𝓤 H A (Syntax.tyInt Syntax.w64)) (tt, (tt, tt)) Path'.refl) d122
 
-          d124 : Typed.Typed 𝓤 H A 𝓣 E G25 b89 Δ0 at124
-          d124 = Typed.s-seq 𝓤 H A W 𝓣 E G25 G26 b7 b88 Δ0 (Typed.both s24) at123 (Plain.t-call-plain 𝓤 H A W 𝓣 0 ps·3 r·3 (claims· .6) (claims· .7) "search::marks::start_end" (known .3) E (λ pos β. β) G25 (record { pos = 9; st = List.[]; d = 0; at = λ x. x }, tt) 10 List.[] (Call.sub-id 𝓤 H A W (G25 .slots)) ((Yields.yields-copy 𝓤 H A W (λ ρ. Unit) (Declared.row Span.the-type) Path'.refl (Copies.cStruct Span.the-type Laws'3.the-laws Laws'3.the-copy .copy 𝓤 H A W) (Rows.whole (Declared.row Span.the-type)) (λ x. x) (λ x. x) (λ ρ told. Local.mem-whole 𝓤 H A W (Declared.row Span.the-type) ρ) λ ρ told. Local.whole-mem 𝓤 H A W (Declared.row Span.the-type) ρ, Path'.refl), tt) (Reads'.room-gone 𝓤 H A (Syntax.tyInt Syntax.w64)) tt Path'.refl) d123
+          d124 : Typed.Typed 𝓤 H A 𝓣 E G33 b89 Δ0 at124
+          d124 = Typed.s-seq 𝓤 H A W 𝓣 E G33 G34 b11 b88 Δ0 (Typed.ask s32) at123 (Relend.t-sl-aggregate 𝓤 H A W E (Referent.rtF (Referent.fInt Syntax.w16)) 𝓣 (Relend.asMut (Referent.rtF (Referent.fInt Syntax.w16))) G33 23 24 10 ty·0 ty·0 (λ x. x) (Scalar.oFld 8 (List._∷_ (Syntax.field 1) List.[]) (Syntax.tyInt Syntax.w64) 8 λ v. Shared.lenV (v .0)) (Reads'.as-is 𝓤 H A (Relend.msptr (Referent.rtF (Referent.fInt Syntax.w16)) ty·0 10)) (Reads'.room-gone 𝓤 H A ty·9) (Relend.reads-owed-len 𝓤 H A W (Referent.rtF (Referent.fInt Syntax.w16)) ty·6 5 10 (Row.lease (κs .1 .1 .1 .1 .1 .0) (qs .1 .1 .1 .1 .1 .0)) 8 Path'.refl, Path'.refl) Path'.refl Path'.refl λ b o k. tt) d123
 
-          d125 : Typed.Typed 𝓤 H A 𝓣 E G24 b90 Δ0 at125
-          d125 = Typed.s-seq 𝓤 H A W 𝓣 E G24 G25 b6 b89 Δ0 (Typed.both s23) at124 (Plain.t-call-plain 𝓤 H A W 𝓣 1 ps·2 r·2 (claims· .4) (claims· .5) "tables::spans::span_at" (known .2) E (λ pos β. β) G24 (record { pos = 1; st = List.[]; d = 0; at = λ x. x }, (record { pos = 2; ty = Syntax.tyRef (Syntax.named 0) Syntax.imm (Memory.pointee (T.the-row .written)); ref = λ x. x }, (Num.vAt 5 λ x. x, tt))) 9 (List._∷_ 0 List.[]) (Call.sub-id 𝓤 H A W (G24 .slots)) ((Yields.yields-copy 𝓤 H A W (λ ρ. Unit) (Declared.row Size.the-type) Path'.refl (Copies.cStruct Size.the-type Laws''.the-laws Laws''.the-copy .copy 𝓤 H A W) (Rows.whole (Declared.row Size.the-type)) (λ x. x) (λ x. x) (λ ρ told. Local.mem-whole 𝓤 H A W (Declared.row Size.the-type) ρ) λ ρ told. Local.whole-mem 𝓤 H A W (Declared.row Size.the-type) ρ, Path'.refl), (ShrSlice.spares-sslice 𝓤 H A W T.the-row ty·7 0, Shared.reads-sslice 𝓤 H A W T.the-row ty·7 0, Path'.refl, ((Scalar.reads-sc 𝓤 H A W (Row.sInt Syntax.w64), Path'.refl), tt))) (Reads'.room-gone 𝓤 H A ty·13) (tt, tt) Path'.refl) d124
+          d125 : Typed.Typed 𝓤 H A 𝓣 E G32 b90 Δ0 at125
+          d125 = Typed.s-seq 𝓤 H A W 𝓣 E G32 G33 b10 b89 Δ0 (Typed.give s31) at124 (Relend.t-sl-relend 𝓤 H A W E (Referent.rtF (Referent.fInt Syntax.w16)) 𝓣 G32 8 23 5 10 ty·6 ty·0 (Row.lease (κs .1 .1 .1 .1 .1 .0) (qs .1 .1 .1 .1 .1 .0)) 0 (λ x. x) (Reads'.as-is 𝓤 H A (Mut.mslice (Referent.rtF (Referent.fInt Syntax.w16)) ty·6 5)) (Reads'.room-gone 𝓤 H A ty·0) Path'.refl tt Path'.refl Path'.refl Path'.refl λ b o. tt) d124
 
-          d126 : Typed.Typed 𝓤 H A 𝓣 E G23 b90 Δ0 at126
-          d126 = Typed.g-pre 𝓤 H A W 𝓣 E G23 G24 b90 Δ0 (λ Ψ. Ψ) at125 (Lifetime.g-forget 𝓤 H A W E G23 7 Row.dead Path'.refl) d125
+          d126 : Typed.Typed 𝓤 H A 𝓣 E G31 b90 Δ0 at126
+          d126 = Typed.g-pre 𝓤 H A W 𝓣 E G31 G32 b90 Δ0 (λ Ψ. Ψ) at125 (Lifetime.g-begin 𝓤 H A W E G31 10 (tt, (tt, (tt, (tt, (tt, (tt, (tt, ((tt, tt), (tt, (tt, (tt, (tt, (tt, (tt, (tt, (tt, (tt, (tt, (tt, (tt, (tt, (tt, (tt, (tt, (tt, (tt, (tt, (tt, (tt, (tt, (tt, (tt, (tt, (tt, (tt, (tt, (tt, (tt, (tt, (tt, (tt, (tt, (tt, (tt, (tt, (tt, (tt, (tt, (tt, (tt, (tt, tt)))))))))))))))))))))))))))))))))))))))))))))))))))) d125
 
-          d127 : Typed.Typed 𝓤 H A 𝓣 E G22 b90 Δ0 at127
-          d127 = Typed.g-pre 𝓤 H A W 𝓣 E G22 G23 b90 Δ0 (Typed.give s21) at126 (Know.g-sl-known 𝓤 H A W (Referent.fInt Syntax.w16) E G22 7 4 ty·5 (Row.lease (κs .1 .1 .1 .1 .0) (qs .1 .1 .1 .1 .0)) 0 (λ x. x) record { fits = Dec'.lit< tt } (Reads'.as-is 𝓤 H A (Mut.mslice (Referent.rtF (Referent.fInt Syntax.w16)) ty·5 4)) Path'.refl tt) d126
+          d127 : Typed.Typed 𝓤 H A 𝓣 E G30 b91 Δ0 at127
+          d127 = Typed.s-seq 𝓤 H A W 𝓣 E G30 G31 b9 b90 Δ0 (Typed.ask s29) at126 (Relend.t-sl-aggregate 𝓤 H A W E (Referent.rtF (Referent.fInt Syntax.w16)) 𝓣 (Relend.asMut (Referent.rtF (Referent.fInt Syntax.w16))) G30 21 22 9 ty·0 ty·0 (λ x. x) (Scalar.oFld 7 (List._∷_ (Syntax.field 1) List.[]) (Syntax.tyInt Syntax.w64) 8 λ v. Shared.lenV (v .0)) (Reads'.as-is 𝓤 H A (Relend.msptr (Referent.rtF (Referent.fInt Syntax.w16)) ty·0 9)) (Reads'.room-gone 𝓤 H A ty·9) (Relend.reads-owed-len 𝓤 H A W (Referent.rtF (Referent.fInt Syntax.w16)) ty·5 4 9 (Row.lease (κs .1 .1 .1 .1 .0) (qs .1 .1 .1 .1 .0)) 8 Path'.refl, Path'.refl) Path'.refl Path'.refl λ b o k. tt) d126
 
-          d128 : Typed.Typed 𝓤 H A 𝓣 E G21 b90 Δ0 at128
-          d128 = Typed.g-pre 𝓤 H A W 𝓣 E G21 G22 b90 Δ0 (Typed.both s20) at127 (Relend.g-back-sl 𝓤 H A W E (Referent.rtF (Referent.fInt Syntax.w16)) G21 19 7 4 7 ty·5 ty·0 (Row.lease (κs .1 .1 .1 .1 .0) (qs .1 .1 .1 .1 .0)) (λ x. x) (λ x. x) (Reads'.as-is 𝓤 H A (Mut.msleft (Referent.rtF (Referent.fInt Syntax.w16)) ty·0)) (Reads'.as-is 𝓤 H A (Relend.mslice-owed (Referent.rtF (Referent.fInt Syntax.w16)) ty·5 4 7 (Row.lease (κs .1 .1 .1 .1 .0) (qs .1 .1 .1 .1 .0)))) Path'.refl Path'.refl) d127
+          d128 : Typed.Typed 𝓤 H A 𝓣 E G29 b92 Δ0 at128
+          d128 = Typed.s-seq 𝓤 H A W 𝓣 E G29 G30 b8 b91 Δ0 (Typed.give s28) at127 (Relend.t-sl-relend 𝓤 H A W E (Referent.rtF (Referent.fInt Syntax.w16)) 𝓣 G29 7 21 4 9 ty·5 ty·0 (Row.lease (κs .1 .1 .1 .1 .0) (qs .1 .1 .1 .1 .0)) 0 (λ x. x) (Reads'.as-is 𝓤 H A (Mut.mslice (Referent.rtF (Referent.fInt Syntax.w16)) ty·5 4)) (Reads'.room-gone 𝓤 H A ty·0) Path'.refl tt Path'.refl Path'.refl Path'.refl λ b o. tt) d127
 
-          d129 : Typed.Typed 𝓤 H A 𝓣 E G20 b90 Δ0 at129
-          d129 = Typed.g-pre 𝓤 H A W 𝓣 E G20 G21 b90 Δ0 (λ Ψ. Ψ) at128 (Lifetime.g-end 𝓤 H A W E G20 7 Path'.refl) d128
+          d129 : Typed.Typed 𝓤 H A 𝓣 E G28 b92 Δ0 at129
+          d129 = Typed.g-pre 𝓤 H A W 𝓣 E G28 G29 b92 Δ0 (λ Ψ. Ψ) at128 (Lifetime.g-begin 𝓤 H A W E G28 9 (tt, (tt, (tt, (tt, (tt, (tt, (tt, (tt, (tt, (tt, (tt, (tt, (tt, (tt, (tt, (tt, (tt, (tt, (tt, (tt, (tt, (tt, (tt, (tt, (tt, (tt, (tt, (tt, (tt, (tt, (tt, (tt, (tt, (tt, (tt, (tt, (tt, (tt, (tt, (tt, (tt, (tt, (tt, (tt, (tt, (tt, (tt, (tt, (tt, (tt, (tt, tt)))))))))))))))))))))))))))))))))))))))))))))))))))) d128
 
-          d130 : Typed.Typed 𝓤 H A 𝓣 E G19 b90 Δ0 at130
-          d130 = Typed.g-pre 𝓤 H A W 𝓣 E G19 G20 b90 Δ0 (Typed.pass T19 T20 s18) at129 (Scalar.g-room 𝓤 H A W E G19 15 Syntax.tyUnit (Scalar.room-sc 𝓤 H A W Row.sUnit)) d129
+          d130 : Typed.Typed 𝓤 H A 𝓣 E G27 b92 Δ0 at130
+          d130 = Typed.g-pre 𝓤 H A W 𝓣 E G27 G28 b92 Δ0 (Typed.pass T27 T28 s26) at129 (Scalar.g-room 𝓤 H A W E G27 10 ty·14 (Local.room-whole 𝓤 H A W (Declared.row Span.the-type) ty·14 Path'.refl)) d129
 
-          d131 : Typed.Typed 𝓤 H A 𝓣 E G18 b91 Δ0 at131
-          d131 = Typed.s-seq 𝓤 H A W 𝓣 E G18 G19 b5 b90 Δ0 (Typed.both s17) at130 (Plain.t-call-plain 𝓤 H A W 𝓣 2 ps·1 r·1 (claims· .2) (claims· .3) "search::marks::start_known" (known .1) E (λ pos β. β) G18 (record { pos = 1; st = List.[]; d = 0; at = λ x. x }, (record { pos = 2; ty = Syntax.tyRef (Syntax.named 0) Syntax.imm (Memory.pointee (T.the-row .written)); ref = λ x. x }, (record { pos = 19; ty = Syntax.tyRef Syntax.erased Syntax.mut (Syntax.tyInt Syntax.w16); ref = λ x. x }, tt))) 15 (List._∷_ 0 (List._∷_ 7 List.[])) (Call.sub-id 𝓤 H A W (G18 .slots)) ((Yields.yields-copy 𝓤 H A W (λ ρ. Unit) (Declared.row Size.the-type) Path'.refl (Copies.cStruct Size.the-type Laws''.the-laws Laws''.the-copy .copy 𝓤 H A W) (Rows.whole (Declared.row Size.the-type)) (λ x. x) (λ x. x) (λ ρ told. Local.mem-whole 𝓤 H A W (Declared.row Size.the-type) ρ) λ ρ told. Local.whole-mem 𝓤 H A W (Declared.row Size.the-type) ρ, Path'.refl), (ShrSlice.spares-sslice 𝓤 H A W T.the-row ty·7 0, Shared.reads-sslice 𝓤 H A W T.the-row ty·7 0, Path'.refl, (Reads'.as-is 𝓤 H A (Mut.mslice (Referent.rtF (Referent.fInt Syntax.w16)) ty·0 7), Mut.reads-mslice 𝓤 H A W (Referent.rtF (Referent.fInt Syntax.w16)) ty·0 7, Path'.refl, tt))) (Reads'.room-gone 𝓤 H A Syntax.tyUnit) (tt, (tt, tt)) Path'.refl) d130
+          d131 : Typed.Typed 𝓤 H A 𝓣 E G26 b93 Δ0 at131
+          d131 = Typed.s-seq 𝓤 H A W 𝓣 E G26 G27 b7 b92 Δ0 (Typed.both s25) at130 (Plain.t-call-plain 𝓤 H A W 𝓣 0 ps·3 r·3 (claims· .6) (claims· .7) "search::marks::start_end" (known .3) E (λ pos β. β) G26 (record { pos = 10; st = List.[]; d = 0; at = λ x. x }, tt) 11 List.[] (Call.sub-id 𝓤 H A W (G26 .slots)) ((Yields.yields-copy 𝓤 H A W (λ ρ. Unit) (Declared.row Span.the-type) Path'.refl (Copies.cStruct Span.the-type Laws'3.the-laws Laws'3.the-copy .copy 𝓤 H A W) (Rows.whole (Declared.row Span.the-type)) (λ x. x) (λ x. x) (λ ρ told. Local.mem-whole 𝓤 H A W (Declared.row Span.the-type) ρ) λ ρ told. Local.whole-mem 𝓤 H A W (Declared.row Span.the-type) ρ, Path'.refl), tt) (Reads'.room-gone 𝓤 H A (Syntax.tyInt Syntax.w64)) tt Path'.refl) d130
 
-          d132 : Typed.Typed 𝓤 H A 𝓣 E G17 b92 Δ0 at132
-          d132 = Typed.s-seq 𝓤 H A W 𝓣 E G17 G18 b4 b91 Δ0 (Typed.ask s16) at131 (Relend.t-sl-aggregate 𝓤 H A W E (Referent.rtF (Referent.fInt Syntax.w16)) 𝓣 (Relend.asMut (Referent.rtF (Referent.fInt Syntax.w16))) G17 18 19 7 ty·0 ty·0 (λ x. x) (Scalar.oFld 7 (List._∷_ (Syntax.field 1) List.[]) (Syntax.tyInt Syntax.w64) 8 λ v. Shared.lenV (v .0)) (Reads'.as-is 𝓤 H A (Relend.msptr (Referent.rtF (Referent.fInt Syntax.w16)) ty·0 7)) (Reads'.room-gone 𝓤 H A ty·8) (Relend.reads-owed-len 𝓤 H A W (Referent.rtF (Referent.fInt Syntax.w16)) ty·5 4 7 (Row.lease (κs .1 .1 .1 .1 .0) (qs .1 .1 .1 .1 .0)) 8 Path'.refl, Path'.refl) Path'.refl Path'.refl λ b o k. tt) d131
+          d132 : Typed.Typed 𝓤 H A 𝓣 E G25 b94 Δ0 at132
+          d132 = Typed.s-seq 𝓤 H A W 𝓣 E G25 G26 b6 b93 Δ0 (Typed.both s24) at131 (Plain.t-call-plain 𝓤 H A W 𝓣 1 ps·2 r·2 (claims· .4) (claims· .5) "tables::spans::span_at" (known .2) E (λ pos β. β) G25 (record { pos = 1; st = List.[]; d = 0; at = λ x. x }, (record { pos = 2; ty = Syntax.tyRef (Syntax.named 0) Syntax.imm (Memory.pointee (T.the-row .written)); ref = λ x. x }, (Num.vAt 5 λ x. x, tt))) 10 (List._∷_ 0 List.[]) (Call.sub-id 𝓤 H A W (G25 .slots)) ((Yields.yields-copy 𝓤 H A W (λ ρ. Unit) (Declared.row Size.the-type) Path'.refl (Copies.cStruct Size.the-type Laws''.the-laws Laws''.the-copy .copy 𝓤 H A W) (Rows.whole (Declared.row Size.the-type)) (λ x. x) (λ x. x) (λ ρ told. Local.mem-whole 𝓤 H A W (Declared.row Size.the-type) ρ) λ ρ told. Local.whole-mem 𝓤 H A W (Declared.row Size.the-type) ρ, Path'.refl), (ShrSlice.spares-sslice 𝓤 H A W T.the-row ty·8 0, Shared.reads-sslice 𝓤 H A W T.the-row ty·8 0, Path'.refl, ((Scalar.reads-sc 𝓤 H A W (Row.sInt Syntax.w64), Path'.refl), tt))) (Reads'.room-gone 𝓤 H A ty·14) (tt, tt) Path'.refl) d131
 
-          d133 : Typed.Typed 𝓤 H A 𝓣 E G16 b93 Δ0 at133
-          d133 = Typed.s-seq 𝓤 H A W 𝓣 E G16 G17 b3 b92 Δ0 (Typed.give s15) at132 (Relend.t-sl-relend 𝓤 H A W E (Referent.rtF (Referent.fInt Syntax.w16)) 𝓣 G16 7 18 4 7 ty·5 ty·0 (Row.lease (κs .1 .1 .1 .1 .0) (qs .1 .1 .1 .1 .0)) 0 (λ x. x) (Reads'.as-is 𝓤 H A (Mut.mslice (Referent.rtF (Referent.fInt Syntax.w16)) ty·5 4)) (Reads'.room-gone 𝓤 H A ty·0) Path'.refl tt Path'.refl Path'.refl Path'.refl λ b o. tt) d132
+          d133 : Typed.Typed 𝓤 H A 𝓣 E G24 b94 Δ0 at133
+          d133 = Typed.g-pre 𝓤 H A W 𝓣 E G24 G25 b94 Δ0 (λ Ψ. Ψ) at132 (Lifetime.g-forget 𝓤 H A W E G24 8 Row.dead Path'.refl) d132
 
-          d134 : Typed.Typed 𝓤 H A 𝓣 E G15 b93 Δ0 at134
-          d134 = Typed.g-pre 𝓤 H A W 𝓣 E G15 G16 b93 Δ0 (λ Ψ. Ψ) at133 (Lifetime.g-begin 𝓤 H A W E G15 7 (tt, (tt, (tt, (tt, (tt, (tt, (tt, (tt, (tt, (tt, (tt, (tt, (tt, (tt, (tt, (tt, (tt, (tt, (tt, (tt, (tt, (tt, (tt, (tt, (tt, (tt, (tt, (tt, (tt, (tt, (tt, (tt, (tt, (tt, (tt, (tt, (tt, (tt, (tt, (tt, (tt, (tt, (tt, (tt, (tt, (tt, (tt, (tt, tt))))))))))))))))))))))))))))))))))))))))))))))))) d133
+          d134 : Typed.Typed 𝓤 H A 𝓣 E G23 b94 Δ0 at134
+          d134 = Typed.g-pre 𝓤 H A W 𝓣 E G23 G24 b94 Δ0 (Typed.give s22) at133 (Know.g-sl-known 𝓤 H A W (Referent.fInt Syntax.w16) E G23 7 4 ty·5 (Row.lease (κs .1 .1 .1 .1 .0) (qs .1 .1 .1 .1 .0)) 0 (λ x. x) record { fits = Dec'.lit< tt } (Reads'.as-is 𝓤 H A (Mut.mslice (Referent.rtF (Referent.fInt Syntax.w16)) ty·5 4)) Path'.refl tt) d133
 
-          d135 : Typed.Typed 𝓤 H A 𝓣 E G14 b93 Δ0 at135
-          d135 = Typed.g-pre 𝓤 H A W 𝓣 E G14 G15 b93 Δ0 (λ Ψ. Ψ) at134 (Lifetime.g-forget 𝓤 H A W E G14 6 Row.dead Path'.refl) d134
+          d135 : Typed.Typed 𝓤 H A 𝓣 E G22 b94 Δ0 at135
+          d135 = Typed.g-pre 𝓤 H A W 𝓣 E G22 G23 b94 Δ0 (Typed.both s21) at134 (Relend.g-back-sl 𝓤 H A W E (Referent.rtF (Referent.fInt Syntax.w16)) G22 20 7 4 8 ty·5 ty·0 (Row.lease (κs .1 .1 .1 .1 .0) (qs .1 .1 .1 .1 .0)) (λ x. x) (λ x. x) (Reads'.as-is 𝓤 H A (Mut.msleft (Referent.rtF (Referent.fInt Syntax.w16)) ty·0)) (Reads'.as-is 𝓤 H A (Relend.mslice-owed (Referent.rtF (Referent.fInt Syntax.w16)) ty·5 4 8 (Row.lease (κs .1 .1 .1 .1 .0) (qs .1 .1 .1 .1 .0)))) Path'.refl Path'.refl) d134
 
-          d136 : Typed.Typed 𝓤 H A 𝓣 E G13 b93 Δ0 at136
-          d136 = Typed.g-pre 𝓤 H A W 𝓣 E G13 G14 b93 Δ0 (Typed.give s12) at135 (Know.g-sl-known 𝓤 H A W (Referent.fInt Syntax.w16) E G13 6 3 ty·4 (Row.lease (κs .1 .1 .1 .0) (qs .1 .1 .1 .0)) 0 (λ x. x) record { fits = Dec'.lit< tt } (Reads'.as-is 𝓤 H A (Mut.mslice (Referent.rtF (Referent.fInt Syntax.w16)) ty·4 3)) Path'.refl tt) d135
+          d136 : Typed.Typed 𝓤 H A 𝓣 E G21 b94 Δ0 at136
+          d136 = Typed.g-pre 𝓤 H A W 𝓣 E G21 G22 b94 Δ0 (λ Ψ. Ψ) at135 (Lifetime.g-end 𝓤 H A W E G21 8 Path'.refl) d135
 
-          d137 : Typed.Typed 𝓤 H A 𝓣 E G12 b93 Δ0 at137
-          d137 = Typed.g-pre 𝓤 H A W 𝓣 E G12 G13 b93 Δ0 (Typed.both s11) at136 (Relend.g-back-sl 𝓤 H A W E (Referent.rtF (Referent.fInt Syntax.w16)) G12 17 6 3 6 ty·4 ty·0 (Row.lease (κs .1 .1 .1 .0) (qs .1 .1 .1 .0)) (λ x. x) (λ x. x) (Reads'.as-is 𝓤 H A (Mut.msleft (Referent.rtF (Referent.fInt Syntax.w16)) ty·0)) (Reads'.as-is 𝓤 H A (Relend.mslice-owed (Referent.rtF (Referent.fInt Syntax.w16)) ty·4 3 6 (Row.lease (κs .1 .1 .1 .0) (qs .1 .1 .1 .0)))) Path'.refl Path'.refl) d136
+          d137 : Typed.Typed 𝓤 H A 𝓣 E G20 b94 Δ0 at137
+          d137 = Typed.g-pre 𝓤 H A W 𝓣 E G20 G21 b94 Δ0 (Typed.pass T20 T21 s19) at136 (Scalar.g-room 𝓤 H A W E G20 16 Syntax.tyUnit (Scalar.room-sc 𝓤 H A W Row.sUnit)) d136
 
-          d138 : Typed.Typed 𝓤 H A 𝓣 E G11 b93 Δ0 at138
-          d138 = Typed.g-pre 𝓤 H A W 𝓣 E G11 G12 b93 Δ0 (λ Ψ. Ψ) at137 (Lifetime.g-end 𝓤 H A W E G11 6 Path'.refl) d137
+          d138 : Typed.Typed 𝓤 H A 𝓣 E G19 b95 Δ0 at138
+          d138 = Typed.s-seq 𝓤 H A W 𝓣 E G19 G20 b5 b94 Δ0 (Typed.both s18) at137 (Plain.t-call-plain 𝓤 H A W 𝓣 2 ps·1 r·1 (claims· .2) (claims· .3) "search::marks::start_known" (known .1) E (λ pos β. β) G19 (record { pos = 1; st = List.[]; d = 0; at = λ x. x }, (record { pos = 2; ty = Syntax.tyRef (Syntax.named 0) Syntax.imm (Memory.pointee (T.the-row .written)); ref = λ x. x }, (record { pos = 20; ty = Syntax.tyRef Syntax.erased Syntax.mut (Syntax.tyInt Syntax.w16); ref = λ x. x }, tt))) 16 (List._∷_ 0 (List._∷_ 8 List.[])) (Call.sub-id 𝓤 H A W (G19 .slots)) ((Yields.yields-copy 𝓤 H A W (λ ρ. Unit) (Declared.row Size.the-type) Path'.refl (Copies.cStruct Size.the-type Laws''.the-laws Laws''.the-copy .copy 𝓤 H A W) (Rows.whole (Declared.row Size.the-type)) (λ x. x) (λ x. x) (λ ρ told. Local.mem-whole 𝓤 H A W (Declared.row Size.the-type) ρ) λ ρ told. Local.whole-mem 𝓤 H A W (Declared.row Size.the-type) ρ, Path'.refl), (ShrSlice.spares-sslice 𝓤 H A W T.the-row ty·8 0, Shared.reads-sslice 𝓤 H A W T.the-row ty·8 0, Path'.refl, (Reads'.as-is 𝓤 H A (Mut.mslice (Referent.rtF (Referent.fInt Syntax.w16)) ty·0 8), Mut.reads-mslice 𝓤 H A W (Referent.rtF (Referent.fInt Syntax.w16)) ty·0 8, Path'.refl, tt))) (Reads'.room-gone 𝓤 H A Syntax.tyUnit) (tt, (tt, tt)) Path'.refl) d137
 
-          d139 : Typed.Typed 𝓤 H A 𝓣 E G10 b93 Δ0 at139
-          d139 = Typed.g-pre 𝓤 H A W 𝓣 E G10 G11 b93 Δ0 (Typed.pass T10 T11 s9) at138 (Scalar.g-room 𝓤 H A W E G10 15 Syntax.tyUnit (Scalar.room-sc 𝓤 H A W Row.sUnit)) d138
+          d139 : Typed.Typed 𝓤 H A 𝓣 E G18 b96 Δ0 at139
+          d139 = Typed.s-seq 𝓤 H A W 𝓣 E G18 G19 b4 b95 Δ0 (Typed.ask s17) at138 (Relend.t-sl-aggregate 𝓤 H A W E (Referent.rtF (Referent.fInt Syntax.w16)) 𝓣 (Relend.asMut (Referent.rtF (Referent.fInt Syntax.w16))) G18 19 20 8 ty·0 ty·0 (λ x. x) (Scalar.oFld 7 (List._∷_ (Syntax.field 1) List.[]) (Syntax.tyInt Syntax.w64) 8 λ v. Shared.lenV (v .0)) (Reads'.as-is 𝓤 H A (Relend.msptr (Referent.rtF (Referent.fInt Syntax.w16)) ty·0 8)) (Reads'.room-gone 𝓤 H A ty·9) (Relend.reads-owed-len 𝓤 H A W (Referent.rtF (Referent.fInt Syntax.w16)) ty·5 4 8 (Row.lease (κs .1 .1 .1 .1 .0) (qs .1 .1 .1 .1 .0)) 8 Path'.refl, Path'.refl) Path'.refl Path'.refl λ b o k. tt) d138
 
-          d140 : Typed.Typed 𝓤 H A 𝓣 E G9 b94 Δ0 at140
-          d140 = Typed.s-seq 𝓤 H A W 𝓣 E G9 G10 b2 b93 Δ0 (Typed.both s8) at139 (Plain.t-call-plain 𝓤 H A W 𝓣 1 ps·0 r·0 (claims· .0) (claims· .1) "tables::entries::fill" (known .0) E (λ pos β. β) G9 (record { pos = 17; ty = Syntax.tyRef Syntax.erased Syntax.mut (Syntax.tyInt Syntax.w16); ref = λ x. x }, (Num.vFld 1 (List._∷_ (Syntax.field 0) List.[]) 0 λ x. Size.struct .as-values x .0, (Num.vBig 65535, tt))) 15 (List._∷_ 6 List.[]) (Call.sub-id 𝓤 H A W (G9 .slots)) (Reads'.as-is 𝓤 H A (Mut.mslice (Referent.rtF (Referent.fInt Syntax.w16)) ty·0 6), Mut.reads-mslice 𝓤 H A W (Referent.rtF (Referent.fInt Syntax.w16)) ty·0 6, Path'.refl, ((Reads.reads-field 𝓤 H A W Size.the-type Laws''.the-laws 0 (Syntax.tyInt Syntax.w64) 0 Path'.refl, Path'.refl), (record { lower = record { fits = Dec'.lit< tt } }, tt))) (Reads'.room-gone 𝓤 H A Syntax.tyUnit) (tt, tt) Path'.refl) d139
+          d140 : Typed.Typed 𝓤 H A 𝓣 E G17 b97 Δ0 at140
+          d140 = Typed.s-seq 𝓤 H A W 𝓣 E G17 G18 b3 b96 Δ0 (Typed.give s16) at139 (Relend.t-sl-relend 𝓤 H A W E (Referent.rtF (Referent.fInt Syntax.w16)) 𝓣 G17 7 19 4 8 ty·5 ty·0 (Row.lease (κs .1 .1 .1 .1 .0) (qs .1 .1 .1 .1 .0)) 0 (λ x. x) (Reads'.as-is 𝓤 H A (Mut.mslice (Referent.rtF (Referent.fInt Syntax.w16)) ty·5 4)) (Reads'.room-gone 𝓤 H A ty·0) Path'.refl tt Path'.refl Path'.refl Path'.refl λ b o. tt) d139
 
-          d141 : Typed.Typed 𝓤 H A 𝓣 E G8 b95 Δ0 at141
-          d141 = Typed.s-seq 𝓤 H A W 𝓣 E G8 G9 b1 b94 Δ0 (Typed.ask s7) at140 (Relend.t-sl-aggregate 𝓤 H A W E (Referent.rtF (Referent.fInt Syntax.w16)) 𝓣 (Relend.asMut (Referent.rtF (Referent.fInt Syntax.w16))) G8 16 17 6 ty·0 ty·0 (λ x. x) (Scalar.oFld 6 (List._∷_ (Syntax.field 1) List.[]) (Syntax.tyInt Syntax.w64) 8 λ v. Shared.lenV (v .0)) (Reads'.as-is 𝓤 H A (Relend.msptr (Referent.rtF (Referent.fInt Syntax.w16)) ty·0 6)) (Reads'.room-gone 𝓤 H A ty·8) (Relend.reads-owed-len 𝓤 H A W (Referent.rtF (Referent.fInt Syntax.w16)) ty·4 3 6 (Row.lease (κs .1 .1 .1 .0) (qs .1 .1 .1 .0)) 8 Path'.refl, Path'.refl) Path'.refl Path'.refl λ b o k. tt) d140
+          d141 : Typed.Typed 𝓤 H A 𝓣 E G16 b97 Δ0 at141
+          d141 = Typed.g-pre 𝓤 H A W 𝓣 E G16 G17 b97 Δ0 (λ Ψ. Ψ) at140 (Lifetime.g-begin 𝓤 H A W E G16 8 (tt, (tt, (tt, (tt, (tt, (tt, (tt, (tt, (tt, (tt, (tt, (tt, (tt, (tt, (tt, (tt, (tt, (tt, (tt, (tt, (tt, (tt, (tt, (tt, (tt, (tt, (tt, (tt, (tt, (tt, (tt, (tt, (tt, (tt, (tt, (tt, (tt, (tt, (tt, (tt, (tt, (tt, (tt, (tt, (tt, (tt, (tt, (tt, (tt, (tt, (tt, tt)))))))))))))))))))))))))))))))))))))))))))))))))))) d140
 
-          d142 : Typed.Typed 𝓤 H A 𝓣 E G7 b96 Δ0 at142
-          d142 = Typed.s-seq 𝓤 H A W 𝓣 E G7 G8 b0 b95 Δ0 (Typed.give s6) at141 (Relend.t-sl-relend 𝓤 H A W E (Referent.rtF (Referent.fInt Syntax.w16)) 𝓣 G7 6 16 3 6 ty·4 ty·0 (Row.lease (κs .1 .1 .1 .0) (qs .1 .1 .1 .0)) 0 (λ x. x) (Reads'.as-is 𝓤 H A (Mut.mslice (Referent.rtF (Referent.fInt Syntax.w16)) ty·4 3)) (Reads'.room-gone 𝓤 H A ty·0) Path'.refl tt Path'.refl Path'.refl Path'.refl λ b o. tt) d141
+          d142 : Typed.Typed 𝓤 H A 𝓣 E G15 b97 Δ0 at142
+          d142 = Typed.g-pre 𝓤 H A W 𝓣 E G15 G16 b97 Δ0 (λ Ψ. Ψ) at141 (Lifetime.g-forget 𝓤 H A W E G15 7 Row.dead Path'.refl) d141
 
-          d143 : Typed.Typed 𝓤 H A 𝓣 E G6 b96 Δ0 at143
-          d143 = Typed.g-pre 𝓤 H A W 𝓣 E G6 G7 b96 Δ0 (λ Ψ. Ψ) at142 (Lifetime.g-begin 𝓤 H A W E G6 6 (tt, (tt, (tt, (tt, (tt, (tt, (tt, (tt, (tt, (tt, (tt, (tt, (tt, (tt, (tt, (tt, (tt, (tt, (tt, (tt, (tt, (tt, (tt, (tt, (tt, (tt, (tt, (tt, (tt, (tt, (tt, (tt, (tt, (tt, (tt, (tt, (tt, (tt, (tt, (tt, (tt, (tt, (tt, (tt, (tt, (tt, (tt, (tt, tt))))))))))))))))))))))))))))))))))))))))))))))))) d142
+          d143 : Typed.Typed 𝓤 H A 𝓣 E G14 b97 Δ0 at143
+          d143 = Typed.g-pre 𝓤 H A W 𝓣 E G14 G15 b97 Δ0 (Typed.give s13) at142 (Know.g-sl-known 𝓤 H A W (Referent.fInt Syntax.w16) E G14 6 3 ty·4 (Row.lease (κs .1 .1 .1 .0) (qs .1 .1 .1 .0)) 0 (λ x. x) record { fits = Dec'.lit< tt } (Reads'.as-is 𝓤 H A (Mut.mslice (Referent.rtF (Referent.fInt Syntax.w16)) ty·4 3)) Path'.refl tt) d142
 
-          d144 : Typed.Typed 𝓤 H A 𝓣 E G5 b96 Δ0 at144
-          d144 = Typed.g-pre 𝓤 H A W 𝓣 E G5 G6 b96 Δ0 (Typed.give s4) at143 (Know.g-sl-known 𝓤 H A W (Referent.fInt Syntax.w16) E G5 8 5 ty·6 (Row.lease (κs .1 .1 .1 .1 .1 .0) (qs .1 .1 .1 .1 .1 .0)) 0 (λ x. x) record { fits = Dec'.lit< tt } (Reads'.as-is 𝓤 H A (Mut.mslice (Referent.rtF (Referent.fInt Syntax.w16)) ty·6 5)) Path'.refl tt) d143
+          d144 : Typed.Typed 𝓤 H A 𝓣 E G13 b97 Δ0 at144
+          d144 = Typed.g-pre 𝓤 H A W 𝓣 E G13 G14 b97 Δ0 (Typed.both s12) at143 (Relend.g-back-sl 𝓤 H A W E (Referent.rtF (Referent.fInt Syntax.w16)) G13 18 6 3 7 ty·4 ty·0 (Row.lease (κs .1 .1 .1 .0) (qs .1 .1 .1 .0)) (λ x. x) (λ x. x) (Reads'.as-is 𝓤 H A (Mut.msleft (Referent.rtF (Referent.fInt Syntax.w16)) ty·0)) (Reads'.as-is 𝓤 H A (Relend.mslice-owed (Referent.rtF (Referent.fInt Syntax.w16)) ty·4 3 7 (Row.lease (κs .1 .1 .1 .0) (qs .1 .1 .1 .0)))) Path'.refl Path'.refl) d143
 
-          d145 : Typed.Typed 𝓤 H A 𝓣 E G4 b96 Δ0 at145
-          d145 = Typed.g-pre 𝓤 H A W 𝓣 E G4 G5 b96 Δ0 (Typed.give s3) at144 (Know.g-sl-known 𝓤 H A W (Referent.fInt Syntax.w16) E G4 7 4 ty·5 (Row.lease (κs .1 .1 .1 .1 .0) (qs .1 .1 .1 .1 .0)) 0 (λ x. x) record { fits = Dec'.lit< tt } (Reads'.as-is 𝓤 H A (Mut.mslice (Referent.rtF (Referent.fInt Syntax.w16)) ty·5 4)) Path'.refl tt) d144
+          d145 : Typed.Typed 𝓤 H A 𝓣 E G12 b97 Δ0 at145
+          d145 = Typed.g-pre 𝓤 H A W 𝓣 E G12 G13 b97 Δ0 (λ Ψ. Ψ) at144 (Lifetime.g-end 𝓤 H A W E G12 7 Path'.refl) d144
 
-          d146 : Typed.Typed 𝓤 H A 𝓣 E G3 b96 Δ0 at146
-          d146 = Typed.g-pre 𝓤 H A W 𝓣 E G3 G4 b96 Δ0 (Typed.give s2) at145 (Know.g-sl-known 𝓤 H A W (Referent.fInt Syntax.w16) E G3 6 3 ty·4 (Row.lease (κs .1 .1 .1 .0) (qs .1 .1 .1 .0)) 0 (λ x. x) record { fits = Dec'.lit< tt } (Reads'.as-is 𝓤 H A (Mut.mslice (Referent.rtF (Referent.fInt Syntax.w16)) ty·4 3)) Path'.refl tt) d145
+          d146 : Typed.Typed 𝓤 H A 𝓣 E G11 b97 Δ0 at146
+          d146 = Typed.g-pre 𝓤 H A W 𝓣 E G11 G12 b97 Δ0 (Typed.pass T11 T12 s10) at145 (Scalar.g-room 𝓤 H A W E G11 16 Syntax.tyUnit (Scalar.room-sc 𝓤 H A W Row.sUnit)) d145
 
-          d147 : Typed.Typed 𝓤 H A 𝓣 E G2 b96 Δ0 at147
-          d147 = Typed.g-pre 𝓤 H A W 𝓣 E G2 G3 b96 Δ0 (Typed.give s1) at146 (Know.g-shs-known 𝓤 H A W (Referent.fInt Syntax.w16) E G2 4 2 ty·3 (Row.lease (κs .1 .1 .0) (qs .1 .1 .0)) 0 (λ x. x) record { fits = Dec'.lit< tt } (Reads'.as-is 𝓤 H A (Rows.sslice (Referent.rtF (Referent.fInt Syntax.w16)) ty·3 2)) Path'.refl tt) d146
+          d147 : Typed.Typed 𝓤 H A 𝓣 E G10 b98 Δ0 at147
+          d147 = Typed.s-seq 𝓤 H A W 𝓣 E G10 G11 b2 b97 Δ0 (Typed.both s9) at146 (Plain.t-call-plain 𝓤 H A W 𝓣 1 ps·0 r·0 (claims· .0) (claims· .1) "tables::entries::fill" (known .0) E (λ pos β. β) G10 (record { pos = 18; ty = Syntax.tyRef Syntax.erased Syntax.mut (Syntax.tyInt Syntax.w16); ref = λ x. x }, (Num.vFld 1 (List._∷_ (Syntax.field 0) List.[]) 0 λ x. Size.struct .as-values x .0, (Num.vBig 65535, tt))) 16 (List._∷_ 7 List.[]) (Call.sub-id 𝓤 H A W (G10 .slots)) (Reads'.as-is 𝓤 H A (Mut.mslice (Referent.rtF (Referent.fInt Syntax.w16)) ty·0 7), Mut.reads-mslice 𝓤 H A W (Referent.rtF (Referent.fInt Syntax.w16)) ty·0 7, Path'.refl, ((Reads.reads-field 𝓤 H A W Size.the-type Laws''.the-laws 0 (Syntax.tyInt Syntax.w64) 0 Path'.refl, Path'.refl), (record { lower = record { fits = Dec'.lit< tt } }, tt))) (Reads'.room-gone 𝓤 H A Syntax.tyUnit) (tt, tt) Path'.refl) d146
 
-          d148 : Typed.Typed 𝓤 H A 𝓣 E G0 b96 Δ0 at148
-          d148 = Typed.g-pre 𝓤 H A W 𝓣 E G0 G2 b96 Δ0 (Typed.give s0) at147 (Know.g-shs-known 𝓤 H A W (Referent.fInt Syntax.w16) E G0 3 1 ty·2 (Row.lease (κs .1 .0) (qs .1 .0)) 0 (λ x. x) record { fits = Dec'.lit< tt } (Reads'.as-is 𝓤 H A (Rows.sslice (Referent.rtF (Referent.fInt Syntax.w16)) ty·2 1)) Path'.refl tt) d147
+          d148 : Typed.Typed 𝓤 H A 𝓣 E G9 b99 Δ0 at148
+          d148 = Typed.s-seq 𝓤 H A W 𝓣 E G9 G10 b1 b98 Δ0 (Typed.ask s8) at147 (Relend.t-sl-aggregate 𝓤 H A W E (Referent.rtF (Referent.fInt Syntax.w16)) 𝓣 (Relend.asMut (Referent.rtF (Referent.fInt Syntax.w16))) G9 17 18 7 ty·0 ty·0 (λ x. x) (Scalar.oFld 6 (List._∷_ (Syntax.field 1) List.[]) (Syntax.tyInt Syntax.w64) 8 λ v. Shared.lenV (v .0)) (Reads'.as-is 𝓤 H A (Relend.msptr (Referent.rtF (Referent.fInt Syntax.w16)) ty·0 7)) (Reads'.room-gone 𝓤 H A ty·9) (Relend.reads-owed-len 𝓤 H A W (Referent.rtF (Referent.fInt Syntax.w16)) ty·4 3 7 (Row.lease (κs .1 .1 .1 .0) (qs .1 .1 .1 .0)) 8 Path'.refl, Path'.refl) Path'.refl Path'.refl λ b o k. tt) d147
 
-          pub typed : Typed.Typed 𝓤 H A 𝓣 E (Function.Γin 6 ps r xs m κs qs) b96 (Function.Δret 6 ps r xs m κs qs) Φ
-          typed = d148
+          d149 : Typed.Typed 𝓤 H A 𝓣 E G8 b100 Δ0 at149
+          d149 = Typed.s-seq 𝓤 H A W 𝓣 E G8 G9 b0 b99 Δ0 (Typed.give s7) at148 (Relend.t-sl-relend 𝓤 H A W E (Referent.rtF (Referent.fInt Syntax.w16)) 𝓣 G8 6 17 3 7 ty·4 ty·0 (Row.lease (κs .1 .1 .1 .0) (qs .1 .1 .1 .0)) 0 (λ x. x) (Reads'.as-is 𝓤 H A (Mut.mslice (Referent.rtF (Referent.fInt Syntax.w16)) ty·4 3)) (Reads'.room-gone 𝓤 H A ty·0) Path'.refl tt Path'.refl Path'.refl Path'.refl λ b o. tt) d148
 
-      module _ (κs : Lifetimes.Lfts 6) where
+          d150 : Typed.Typed 𝓤 H A 𝓣 E G7 b100 Δ0 at150
+          d150 = Typed.g-pre 𝓤 H A W 𝓣 E G7 G8 b100 Δ0 (λ Ψ. Ψ) at149 (Lifetime.g-begin 𝓤 H A W E G7 7 (tt, (tt, (tt, (tt, (tt, (tt, (tt, (tt, (tt, (tt, (tt, (tt, (tt, (tt, (tt, (tt, (tt, (tt, (tt, (tt, (tt, (tt, (tt, (tt, (tt, (tt, (tt, (tt, (tt, (tt, (tt, (tt, (tt, (tt, (tt, (tt, (tt, (tt, (tt, (tt, (tt, (tt, (tt, (tt, (tt, (tt, (tt, (tt, (tt, (tt, (tt, tt)))))))))))))))))))))))))))))))))))))))))))))))))))) d149
+
+          d151 : Typed.Typed 𝓤 H A 𝓣 E G6 b100 Δ0 at151
+          d151 = Typed.g-pre 𝓤 H A W 𝓣 E G6 G7 b100 Δ0 (Typed.give s5) at150 (Know.g-sl-known 𝓤 H A W (Referent.fInt Syntax.w16) E G6 9 6 ty·7 (Row.lease (κs .1 .1 .1 .1 .1 .1 .0) (qs .1 .1 .1 .1 .1 .1 .0)) 0 (λ x. x) record { fits = Dec'.lit< tt } (Reads'.as-is 𝓤 H A (Mut.mslice (Referent.rtF (Referent.fInt Syntax.w16)) ty·7 6)) Path'.refl tt) d150
+
+          d152 : Typed.Typed 𝓤 H A 𝓣 E G5 b100 Δ0 at152
+          d152 = Typed.g-pre 𝓤 H A W 𝓣 E G5 G6 b100 Δ0 (Typed.give s4) at151 (Know.g-sl-known 𝓤 H A W (Referent.fInt Syntax.w16) E G5 8 5 ty·6 (Row.lease (κs .1 .1 .1 .1 .1 .0) (qs .1 .1 .1 .1 .1 .0)) 0 (λ x. x) record { fits = Dec'.lit< tt } (Reads'.as-is 𝓤 H A (Mut.mslice (Referent.rtF (Referent.fInt Syntax.w16)) ty·6 5)) Path'.refl tt) d151
+
+          d153 : Typed.Typed 𝓤 H A 𝓣 E G4 b100 Δ0 at153
+          d153 = Typed.g-pre 𝓤 H A W 𝓣 E G4 G5 b100 Δ0 (Typed.give s3) at152 (Know.g-sl-known 𝓤 H A W (Referent.fInt Syntax.w16) E G4 7 4 ty·5 (Row.lease (κs .1 .1 .1 .1 .0) (qs .1 .1 .1 .1 .0)) 0 (λ x. x) record { fits = Dec'.lit< tt } (Reads'.as-is 𝓤 H A (Mut.mslice (Referent.rtF (Referent.fInt Syntax.w16)) ty·5 4)) Path'.refl tt) d152
+
+          d154 : Typed.Typed 𝓤 H A 𝓣 E G3 b100 Δ0 at154
+          d154 = Typed.g-pre 𝓤 H A W 𝓣 E G3 G4 b100 Δ0 (Typed.give s2) at153 (Know.g-sl-known 𝓤 H A W (Referent.fInt Syntax.w16) E G3 6 3 ty·4 (Row.lease (κs .1 .1 .1 .0) (qs .1 .1 .1 .0)) 0 (λ x. x) record { fits = Dec'.lit< tt } (Reads'.as-is 𝓤 H A (Mut.mslice (Referent.rtF (Referent.fInt Syntax.w16)) ty·4 3)) Path'.refl tt) d153
+
+          d155 : Typed.Typed 𝓤 H A 𝓣 E G2 b100 Δ0 at155
+          d155 = Typed.g-pre 𝓤 H A W 𝓣 E G2 G3 b100 Δ0 (Typed.give s1) at154 (Know.g-shs-known 𝓤 H A W (Referent.fInt Syntax.w16) E G2 4 2 ty·3 (Row.lease (κs .1 .1 .0) (qs .1 .1 .0)) 0 (λ x. x) record { fits = Dec'.lit< tt } (Reads'.as-is 𝓤 H A (Rows.sslice (Referent.rtF (Referent.fInt Syntax.w16)) ty·3 2)) Path'.refl tt) d154
+
+          d156 : Typed.Typed 𝓤 H A 𝓣 E G0 b100 Δ0 at156
+          d156 = Typed.g-pre 𝓤 H A W 𝓣 E G0 G2 b100 Δ0 (Typed.give s0) at155 (Know.g-shs-known 𝓤 H A W (Referent.fInt Syntax.w16) E G0 3 1 ty·2 (Row.lease (κs .1 .0) (qs .1 .0)) 0 (λ x. x) record { fits = Dec'.lit< tt } (Reads'.as-is 𝓤 H A (Rows.sslice (Referent.rtF (Referent.fInt Syntax.w16)) ty·2 1)) Path'.refl tt) d155
+
+          pub typed : Typed.Typed 𝓤 H A 𝓣 E (Function.Γin 7 ps r xs m κs qs) b100 (Function.Δret 7 ps r xs m κs qs) Φ
+          typed = d156
+
+      module _ (κs : Lifetimes.Lfts 7) where
         pub record Args : Type 0 where
-          pub size : Kinds.Den {n = 6} κs (Value.pVal record { ty = Declared.row Size.the-type; one = Path'.refl; val = Laws'4.val Size.the-type Laws''.the-laws; tells = Laws'4.tells Size.the-type Laws''.the-laws; still = Laws'4.still Size.the-type Laws''.the-copy Exit.yes; row = Rows.whole (Declared.row Size.the-type); rd = λ x. x; mk = λ x. x } λ M 𝓤 H A W. record { copies = Laws'4.copy Size.the-type Laws''.the-copy 𝓤 H A W; lawful = Laws'4.lawful Size.the-type Laws''.the-laws 𝓤 H A W; makes = Laws'4.makes Size.the-type Laws''.the-plain 𝓤 H A; in-mem = Local.mem-whole 𝓤 H A W (Declared.row Size.the-type); of-mem = Local.whole-mem 𝓤 H A W (Declared.row Size.the-type) })
-          pub rows : Kinds.Den {n = 6} κs (ShrSlice.pShrS T.the-row 0 tt)
-          pub firsts : Kinds.Den {n = 6} κs (ShrSlice.pShrS (Referent.rtF (Referent.fInt Syntax.w16)) 1 tt)
-          pub outcomes : Kinds.Den {n = 6} κs (ShrSlice.pShrS (Referent.rtF (Referent.fInt Syntax.w16)) 2 tt)
-          pub start : Kinds.Den {n = 6} κs (Num.pNum Syntax.w64)
-          pub commands : Kinds.Den {n = 6} κs (MutSlice.pMutS (Referent.rtF (Referent.fInt Syntax.w16)) 3 tt)
-          pub scratch : Kinds.Den {n = 6} κs (MutSlice.pMutS (Referent.rtF (Referent.fInt Syntax.w16)) 4 tt)
-          pub queue : Kinds.Den {n = 6} κs (MutSlice.pMutS (Referent.rtF (Referent.fInt Syntax.w16)) 5 tt)
+          pub size : Kinds.Den {n = 7} κs (Value.pVal record { ty = Declared.row Size.the-type; one = Path'.refl; val = Laws'4.val Size.the-type Laws''.the-laws; tells = Laws'4.tells Size.the-type Laws''.the-laws; still = Laws'4.still Size.the-type Laws''.the-copy Exit.yes; row = Rows.whole (Declared.row Size.the-type); rd = λ x. x; mk = λ x. x } λ M 𝓤 H A W. record { copies = Laws'4.copy Size.the-type Laws''.the-copy 𝓤 H A W; lawful = Laws'4.lawful Size.the-type Laws''.the-laws 𝓤 H A W; makes = Laws'4.makes Size.the-type Laws''.the-plain 𝓤 H A; in-mem = Local.mem-whole 𝓤 H A W (Declared.row Size.the-type); of-mem = Local.whole-mem 𝓤 H A W (Declared.row Size.the-type) })
+          pub rows : Kinds.Den {n = 7} κs (ShrSlice.pShrS T.the-row 0 tt)
+          pub firsts : Kinds.Den {n = 7} κs (ShrSlice.pShrS (Referent.rtF (Referent.fInt Syntax.w16)) 1 tt)
+          pub outcomes : Kinds.Den {n = 7} κs (ShrSlice.pShrS (Referent.rtF (Referent.fInt Syntax.w16)) 2 tt)
+          pub start : Kinds.Den {n = 7} κs (Num.pNum Syntax.w64)
+          pub commands : Kinds.Den {n = 7} κs (MutSlice.pMutS (Referent.rtF (Referent.fInt Syntax.w16)) 3 tt)
+          pub scratch : Kinds.Den {n = 7} κs (MutSlice.pMutS (Referent.rtF (Referent.fInt Syntax.w16)) 4 tt)
+          pub queue : Kinds.Den {n = 7} κs (MutSlice.pMutS (Referent.rtF (Referent.fInt Syntax.w16)) 5 tt)
+          pub tried : Kinds.Den {n = 7} κs (MutSlice.pMutS (Referent.rtF (Referent.fInt Syntax.w16)) 6 tt)
 
         abbrev pub dens : (a : Args) → Kinds.Dens κs ps
-        dens = λ a. (a .size, (a .rows, (a .firsts, (a .outcomes, (a .start, (a .commands, (a .scratch, (a .queue, tt))))))))
+        dens = λ a. (a .size, (a .rows, (a .firsts, (a .outcomes, (a .start, (a .commands, (a .scratch, (a .queue, (a .tried, tt)))))))))
 
         module _ (args· : Args) where
           pub record Ranges : Type 0 where
             pub start : Val.Fits Syntax.w64 (args· .start)
 
-      abbrev pub m0 : (κs : Lifetimes.Lfts 6) → (args : Args κs) → Typed.Mo T0
+      abbrev pub m0 : (κs : Lifetimes.Lfts 7) → (args : Args κs) → Typed.Mo T0
       m0 = λ κs args. (tt, Enter.partsP κs 1 ps xs (dens κs args))
 
-      abbrev W0 : (κs : Lifetimes.Lfts 6) → (args : Args κs) → Typed.Want O0
-      W0 = λ κs args. (λ u. ⊥, tt, λ u. Enter.Fixs κs 1 ps xs (dens κs args) (u .1) × Post· κs (dens κs args) (Function.resV r κs (u .0)) (Clauses.atExit (Kinds.endedOf 6 ps r) κs (dens κs args) (Enter.lastsP κs 1 ps xs (dens κs args) (u .1))))
+      abbrev W0 : (κs : Lifetimes.Lfts 7) → (args : Args κs) → Typed.Want O0
+      W0 = λ κs args. (λ u. ⊥, tt, λ u. Enter.Fixs κs 1 ps xs (dens κs args) (u .1) × Post· κs (dens κs args) (Function.resV r κs (u .0)) (Clauses.atExit (Kinds.endedOf 7 ps r) κs (dens κs args) (Enter.lastsP κs 1 ps xs (dens κs args) (u .1))))
 
       pub record Start : Type 0 where
-        pub κs : Lifetimes.Lfts 6
+        pub κs : Lifetimes.Lfts 7
         pub args : Args κs
         pub good : Kinds.GoodsP κs ps (dens κs args)
         pub fits : Ranges κs args
@@ -2940,835 +3076,886 @@ module _ (claims· : Claims) where
         pub before : After-slice-known2
         pub slice-known3 : After-slice-known3·own before
 
-      abbrev pub m6 : (before : After-slice-known3) → (given : s6 .gives (m5 (before .before) (before .slice-known3 .given))) → Typed.Mo T8
-      m6 = λ before given. s6 .next (m5 (before .before) (before .slice-known3 .given)) given
-
-      abbrev pub m7 : (before : After-slice-known3) → (given : s6 .gives (m5 (before .before) (before .slice-known3 .given))) → Typed.Mo T9
-      m7 = λ before given. s7 .next (m6 before given)
+      abbrev pub m6 : (before : After-slice-known3) → (given : s5 .gives (m5 (before .before) (before .slice-known3 .given))) → Typed.Mo T7
+      m6 = λ before given. s5 .next (m5 (before .before) (before .slice-known3 .given)) given
 
       module _ (before· : After-slice-known3) where
+        pub record After-slice-known4·own : Type 0 where
+          pub given : s5 .gives (m5 (before· .before) (before· .slice-known3 .given))
+
+      pub record After-slice-known4 : Type 0 where
+        pub before : After-slice-known3
+        pub slice-known4 : After-slice-known4·own before
+
+      abbrev pub m7 : (before : After-slice-known4) → (given : s7 .gives (m6 (before .before) (before .slice-known4 .given))) → Typed.Mo T9
+      m7 = λ before given. s7 .next (m6 (before .before) (before .slice-known4 .given)) given
+
+      abbrev pub m8 : (before : After-slice-known4) → (given : s7 .gives (m6 (before .before) (before .slice-known4 .given))) → Typed.Mo T10
+      m8 = λ before given. s8 .next (m7 before given)
+
+      module _ (before· : After-slice-known4) where
         pub record After-fill-arg·own : Type 0 where
-          pub given : s6 .gives (m5 (before· .before) (before· .slice-known3 .given))
+          pub given : s7 .gives (m6 (before· .before) (before· .slice-known4 .given))
 
       pub record After-fill-arg : Type 0 where
-        pub before : After-slice-known3
+        pub before : After-slice-known4
         pub fill-arg : After-fill-arg·own before
 
       abbrev pub Need-fill-requires : Type 0
-      Need-fill-requires = (c : After-fill-arg) → s8 .asks (m7 (c .before) (c .fill-arg .given))
+      Need-fill-requires = (c : After-fill-arg) → s9 .asks (m8 (c .before) (c .fill-arg .given))
 
-      abbrev pub m8 : (before : After-fill-arg) → (given : s8 .gives (m7 (before .before) (before .fill-arg .given))) → Typed.Mo T10
-      m8 = λ before given. s8 .next (m7 (before .before) (before .fill-arg .given)) given
+      abbrev pub m9 : (before : After-fill-arg) → (given : s9 .gives (m8 (before .before) (before .fill-arg .given))) → Typed.Mo T11
+      m9 = λ before given. s9 .next (m8 (before .before) (before .fill-arg .given)) given
 
       module _ (before· : After-fill-arg) where
         abbrev pub After-fill·own : Type 0
-        After-fill·own = Called.Called ps·0 r·0 (claims· .1) T9 (record { pos = 17; ty = Syntax.tyRef Syntax.erased Syntax.mut (Syntax.tyInt Syntax.w16); ref = λ x. x }, (Num.vFld 1 (List._∷_ (Syntax.field 0) List.[]) 0 λ x. Size.struct .as-values x .0, (Num.vBig 65535, tt))) (m7 (before· .before) (before· .fill-arg .given))
+        After-fill·own = Called.Called ps·0 r·0 (claims· .1) T10 (record { pos = 18; ty = Syntax.tyRef Syntax.erased Syntax.mut (Syntax.tyInt Syntax.w16); ref = λ x. x }, (Num.vFld 1 (List._∷_ (Syntax.field 0) List.[]) 0 λ x. Size.struct .as-values x .0, (Num.vBig 65535, tt))) (m8 (before· .before) (before· .fill-arg .given))
 
       pub record After-fill : Type 0 where
         pub before : After-fill-arg
         pub fill : After-fill·own before
 
-      abbrev pub After-fill·gave : (c : After-fill) → s8 .gives (m7 (c .before .before) (c .before .fill-arg .given))
-      After-fill·gave = λ c. Called.given ps·0 r·0 (claims· .1) T9 (record { pos = 17; ty = Syntax.tyRef Syntax.erased Syntax.mut (Syntax.tyInt Syntax.w16); ref = λ x. x }, (Num.vFld 1 (List._∷_ (Syntax.field 0) List.[]) 0 λ x. Size.struct .as-values x .0, (Num.vBig 65535, tt))) (m7 (c .before .before) (c .before .fill-arg .given)) (c .fill)
+      abbrev pub After-fill·gave : (c : After-fill) → s9 .gives (m8 (c .before .before) (c .before .fill-arg .given))
+      After-fill·gave = λ c. Called.given ps·0 r·0 (claims· .1) T10 (record { pos = 18; ty = Syntax.tyRef Syntax.erased Syntax.mut (Syntax.tyInt Syntax.w16); ref = λ x. x }, (Num.vFld 1 (List._∷_ (Syntax.field 0) List.[]) 0 λ x. Size.struct .as-values x .0, (Num.vBig 65535, tt))) (m8 (c .before .before) (c .before .fill-arg .given)) (c .fill)
 
-      abbrev pub m9 : (before : After-fill-arg) → (given : s8 .gives (m7 (before .before) (before .fill-arg .given))) → Typed.Mo T11
-      m9 = λ before given. s9 (m8 before given)
+      abbrev pub m10 : (before : After-fill-arg) → (given : s9 .gives (m8 (before .before) (before .fill-arg .given))) → Typed.Mo T12
+      m10 = λ before given. s10 (m9 before given)
 
-      abbrev pub m10 : (before : After-fill) → (given : s11 .gives (m9 (before .before) (After-fill·gave before))) → Typed.Mo T13
-      m10 = λ before given. s11 .next (m9 (before .before) (After-fill·gave before)) given
+      abbrev pub m11 : (before : After-fill) → (given : s12 .gives (m10 (before .before) (After-fill·gave before))) → Typed.Mo T14
+      m11 = λ before given. s12 .next (m10 (before .before) (After-fill·gave before)) given
 
       module _ (before· : After-fill) where
         pub record After-commands·own : Type 0 where
-          pub given : s11 .gives (m9 (before· .before) (After-fill·gave before·))
+          pub given : s12 .gives (m10 (before· .before) (After-fill·gave before·))
 
       pub record After-commands : Type 0 where
         pub before : After-fill
         pub commands : After-commands·own before
 
-      abbrev pub m11 : (before : After-commands) → (given : s12 .gives (m10 (before .before) (before .commands .given))) → Typed.Mo T14
-      m11 = λ before given. s12 .next (m10 (before .before) (before .commands .given)) given
+      abbrev pub m12 : (before : After-commands) → (given : s13 .gives (m11 (before .before) (before .commands .given))) → Typed.Mo T15
+      m12 = λ before given. s13 .next (m11 (before .before) (before .commands .given)) given
 
       module _ (before· : After-commands) where
-        pub record After-slice-known4·own : Type 0 where
-          pub given : s12 .gives (m10 (before· .before) (before· .commands .given))
+        pub record After-slice-known5·own : Type 0 where
+          pub given : s13 .gives (m11 (before· .before) (before· .commands .given))
 
-      pub record After-slice-known4 : Type 0 where
+      pub record After-slice-known5 : Type 0 where
         pub before : After-commands
-        pub slice-known4 : After-slice-known4·own before
+        pub slice-known5 : After-slice-known5·own before
 
-      abbrev pub m12 : (before : After-slice-known4) → (given : s15 .gives (m11 (before .before) (before .slice-known4 .given))) → Typed.Mo T17
-      m12 = λ before given. s15 .next (m11 (before .before) (before .slice-known4 .given)) given
+      abbrev pub m13 : (before : After-slice-known5) → (given : s16 .gives (m12 (before .before) (before .slice-known5 .given))) → Typed.Mo T18
+      m13 = λ before given. s16 .next (m12 (before .before) (before .slice-known5 .given)) given
 
-      abbrev pub m13 : (before : After-slice-known4) → (given : s15 .gives (m11 (before .before) (before .slice-known4 .given))) → Typed.Mo T18
-      m13 = λ before given. s16 .next (m12 before given)
+      abbrev pub m14 : (before : After-slice-known5) → (given : s16 .gives (m12 (before .before) (before .slice-known5 .given))) → Typed.Mo T19
+      m14 = λ before given. s17 .next (m13 before given)
 
-      module _ (before· : After-slice-known4) where
+      module _ (before· : After-slice-known5) where
         pub record After-start-known-arg·own : Type 0 where
-          pub given : s15 .gives (m11 (before· .before) (before· .slice-known4 .given))
+          pub given : s16 .gives (m12 (before· .before) (before· .slice-known5 .given))
 
       pub record After-start-known-arg : Type 0 where
-        pub before : After-slice-known4
+        pub before : After-slice-known5
         pub start-known-arg : After-start-known-arg·own before
 
       abbrev pub Need-start-known-requires : Type 0
-      Need-start-known-requires = (c : After-start-known-arg) → s17 .asks (m13 (c .before) (c .start-known-arg .given))
+      Need-start-known-requires = (c : After-start-known-arg) → s18 .asks (m14 (c .before) (c .start-known-arg .given))
 
-      abbrev pub m14 : (before : After-start-known-arg) → (given : s17 .gives (m13 (before .before) (before .start-known-arg .given))) → Typed.Mo T19
-      m14 = λ before given. s17 .next (m13 (before .before) (before .start-known-arg .given)) given
+      abbrev pub m15 : (before : After-start-known-arg) → (given : s18 .gives (m14 (before .before) (before .start-known-arg .given))) → Typed.Mo T20
+      m15 = λ before given. s18 .next (m14 (before .before) (before .start-known-arg .given)) given
 
       module _ (before· : After-start-known-arg) where
         abbrev pub After-start-known·own : Type 0
-        After-start-known·own = Called.Called ps·1 r·1 (claims· .3) T18 (record { pos = 1; st = List.[]; d = 0; at = λ x. x }, (record { pos = 2; ty = Syntax.tyRef (Syntax.named 0) Syntax.imm (Memory.pointee (T.the-row .written)); ref = λ x. x }, (record { pos = 19; ty = Syntax.tyRef Syntax.erased Syntax.mut (Syntax.tyInt Syntax.w16); ref = λ x. x }, tt))) (m13 (before· .before) (before· .start-known-arg .given))
+        After-start-known·own = Called.Called ps·1 r·1 (claims· .3) T19 (record { pos = 1; st = List.[]; d = 0; at = λ x. x }, (record { pos = 2; ty = Syntax.tyRef (Syntax.named 0) Syntax.imm (Memory.pointee (T.the-row .written)); ref = λ x. x }, (record { pos = 20; ty = Syntax.tyRef Syntax.erased Syntax.mut (Syntax.tyInt Syntax.w16); ref = λ x. x }, tt))) (m14 (before· .before) (before· .start-known-arg .given))
 
       pub record After-start-known : Type 0 where
         pub before : After-start-known-arg
         pub start-known : After-start-known·own before
 
-      abbrev pub After-start-known·gave : (c : After-start-known) → s17 .gives (m13 (c .before .before) (c .before .start-known-arg .given))
-      After-start-known·gave = λ c. Called.given ps·1 r·1 (claims· .3) T18 (record { pos = 1; st = List.[]; d = 0; at = λ x. x }, (record { pos = 2; ty = Syntax.tyRef (Syntax.named 0) Syntax.imm (Memory.pointee (T.the-row .written)); ref = λ x. x }, (record { pos = 19; ty = Syntax.tyRef Syntax.erased Syntax.mut (Syntax.tyInt Syntax.w16); ref = λ x. x }, tt))) (m13 (c .before .before) (c .before .start-known-arg .given)) (c .start-known)
+      abbrev pub After-start-known·gave : (c : After-start-known) → s18 .gives (m14 (c .before .before) (c .before .start-known-arg .given))
+      After-start-known·gave = λ c. Called.given ps·1 r·1 (claims· .3) T19 (record { pos = 1; st = List.[]; d = 0; at = λ x. x }, (record { pos = 2; ty = Syntax.tyRef (Syntax.named 0) Syntax.imm (Memory.pointee (T.the-row .written)); ref = λ x. x }, (record { pos = 20; ty = Syntax.tyRef Syntax.erased Syntax.mut (Syntax.tyInt Syntax.w16); ref = λ x. x }, tt))) (m14 (c .before .before) (c .before .start-known-arg .given)) (c .start-known)
 
-      abbrev pub m15 : (before : After-start-known-arg) → (given : s17 .gives (m13 (before .before) (before .start-known-arg .given))) → Typed.Mo T20
-      m15 = λ before given. s18 (m14 before given)
+      abbrev pub m16 : (before : After-start-known-arg) → (given : s18 .gives (m14 (before .before) (before .start-known-arg .given))) → Typed.Mo T21
+      m16 = λ before given. s19 (m15 before given)
 
-      abbrev pub m16 : (before : After-start-known) → (given : s20 .gives (m15 (before .before) (After-start-known·gave before))) → Typed.Mo T22
-      m16 = λ before given. s20 .next (m15 (before .before) (After-start-known·gave before)) given
+      abbrev pub m17 : (before : After-start-known) → (given : s21 .gives (m16 (before .before) (After-start-known·gave before))) → Typed.Mo T23
+      m17 = λ before given. s21 .next (m16 (before .before) (After-start-known·gave before)) given
 
       module _ (before· : After-start-known) where
         pub record After-scratch·own : Type 0 where
-          pub given : s20 .gives (m15 (before· .before) (After-start-known·gave before·))
+          pub given : s21 .gives (m16 (before· .before) (After-start-known·gave before·))
 
       pub record After-scratch : Type 0 where
         pub before : After-start-known
         pub scratch : After-scratch·own before
 
-      abbrev pub m17 : (before : After-scratch) → (given : s21 .gives (m16 (before .before) (before .scratch .given))) → Typed.Mo T23
-      m17 = λ before given. s21 .next (m16 (before .before) (before .scratch .given)) given
+      abbrev pub m18 : (before : After-scratch) → (given : s22 .gives (m17 (before .before) (before .scratch .given))) → Typed.Mo T24
+      m18 = λ before given. s22 .next (m17 (before .before) (before .scratch .given)) given
 
       module _ (before· : After-scratch) where
-        pub record After-slice-known5·own : Type 0 where
-          pub given : s21 .gives (m16 (before· .before) (before· .scratch .given))
+        pub record After-slice-known6·own : Type 0 where
+          pub given : s22 .gives (m17 (before· .before) (before· .scratch .given))
 
-      pub record After-slice-known5 : Type 0 where
+      pub record After-slice-known6 : Type 0 where
         pub before : After-scratch
-        pub slice-known5 : After-slice-known5·own before
+        pub slice-known6 : After-slice-known6·own before
 
       abbrev pub Need-span-at-requires : Type 0
-      Need-span-at-requires = (c : After-slice-known5) → s23 .asks (m17 (c .before) (c .slice-known5 .given))
+      Need-span-at-requires = (c : After-slice-known6) → s24 .asks (m18 (c .before) (c .slice-known6 .given))
 
-      abbrev pub m18 : (before : After-slice-known5) → (given : s23 .gives (m17 (before .before) (before .slice-known5 .given))) → Typed.Mo T25
-      m18 = λ before given. s23 .next (m17 (before .before) (before .slice-known5 .given)) given
+      abbrev pub m19 : (before : After-slice-known6) → (given : s24 .gives (m18 (before .before) (before .slice-known6 .given))) → Typed.Mo T26
+      m19 = λ before given. s24 .next (m18 (before .before) (before .slice-known6 .given)) given
 
-      module _ (before· : After-slice-known5) where
+      module _ (before· : After-slice-known6) where
         abbrev pub After-span-at·own : Type 0
-        After-span-at·own = Called.Called ps·2 r·2 (claims· .5) T23 (record { pos = 1; st = List.[]; d = 0; at = λ x. x }, (record { pos = 2; ty = Syntax.tyRef (Syntax.named 0) Syntax.imm (Memory.pointee (T.the-row .written)); ref = λ x. x }, (Num.vAt 5 λ x. x, tt))) (m17 (before· .before) (before· .slice-known5 .given))
+        After-span-at·own = Called.Called ps·2 r·2 (claims· .5) T24 (record { pos = 1; st = List.[]; d = 0; at = λ x. x }, (record { pos = 2; ty = Syntax.tyRef (Syntax.named 0) Syntax.imm (Memory.pointee (T.the-row .written)); ref = λ x. x }, (Num.vAt 5 λ x. x, tt))) (m18 (before· .before) (before· .slice-known6 .given))
 
       pub record After-span-at : Type 0 where
-        pub before : After-slice-known5
+        pub before : After-slice-known6
         pub span-at : After-span-at·own before
 
-      abbrev pub After-span-at·gave : (c : After-span-at) → s23 .gives (m17 (c .before .before) (c .before .slice-known5 .given))
-      After-span-at·gave = λ c. Called.given ps·2 r·2 (claims· .5) T23 (record { pos = 1; st = List.[]; d = 0; at = λ x. x }, (record { pos = 2; ty = Syntax.tyRef (Syntax.named 0) Syntax.imm (Memory.pointee (T.the-row .written)); ref = λ x. x }, (Num.vAt 5 λ x. x, tt))) (m17 (c .before .before) (c .before .slice-known5 .given)) (c .span-at)
+      abbrev pub After-span-at·gave : (c : After-span-at) → s24 .gives (m18 (c .before .before) (c .before .slice-known6 .given))
+      After-span-at·gave = λ c. Called.given ps·2 r·2 (claims· .5) T24 (record { pos = 1; st = List.[]; d = 0; at = λ x. x }, (record { pos = 2; ty = Syntax.tyRef (Syntax.named 0) Syntax.imm (Memory.pointee (T.the-row .written)); ref = λ x. x }, (Num.vAt 5 λ x. x, tt))) (m18 (c .before .before) (c .before .slice-known6 .given)) (c .span-at)
 
       abbrev pub Need-start-end-requires : Type 0
-      Need-start-end-requires = (c : After-span-at) → s24 .asks (m18 (c .before) (After-span-at·gave c))
+      Need-start-end-requires = (c : After-span-at) → s25 .asks (m19 (c .before) (After-span-at·gave c))
 
-      abbrev pub m19 : (before : After-span-at) → (given : s24 .gives (m18 (before .before) (After-span-at·gave before))) → Typed.Mo T26
-      m19 = λ before given. s24 .next (m18 (before .before) (After-span-at·gave before)) given
+      abbrev pub m20 : (before : After-span-at) → (given : s25 .gives (m19 (before .before) (After-span-at·gave before))) → Typed.Mo T27
+      m20 = λ before given. s25 .next (m19 (before .before) (After-span-at·gave before)) given
 
       module _ (before· : After-span-at) where
         abbrev pub After-start-end·own : Type 0
-        After-start-end·own = Called.Called ps·3 r·3 (claims· .7) T25 (record { pos = 9; st = List.[]; d = 0; at = λ x. x }, tt) (m18 (before· .before) (After-span-at·gave before·))
+        After-start-end·own = Called.Called ps·3 r·3 (claims· .7) T26 (record { pos = 10; st = List.[]; d = 0; at = λ x. x }, tt) (m19 (before· .before) (After-span-at·gave before·))
 
       pub record After-start-end : Type 0 where
         pub before : After-span-at
         pub start-end : After-start-end·own before
 
-      abbrev pub After-start-end·gave : (c : After-start-end) → s24 .gives (m18 (c .before .before) (After-span-at·gave (c .before)))
-      After-start-end·gave = λ c. Called.given ps·3 r·3 (claims· .7) T25 (record { pos = 9; st = List.[]; d = 0; at = λ x. x }, tt) (m18 (c .before .before) (After-span-at·gave (c .before))) (c .start-end)
+      abbrev pub After-start-end·gave : (c : After-start-end) → s25 .gives (m19 (c .before .before) (After-span-at·gave (c .before)))
+      After-start-end·gave = λ c. Called.given ps·3 r·3 (claims· .7) T26 (record { pos = 10; st = List.[]; d = 0; at = λ x. x }, tt) (m19 (c .before .before) (After-span-at·gave (c .before))) (c .start-end)
 
-      abbrev pub m20 : (before : After-span-at) → (given : s24 .gives (m18 (before .before) (After-span-at·gave before))) → Typed.Mo T27
-      m20 = λ before given. s25 (m19 before given)
+      abbrev pub m21 : (before : After-span-at) → (given : s25 .gives (m19 (before .before) (After-span-at·gave before))) → Typed.Mo T28
+      m21 = λ before given. s26 (m20 before given)
 
-      abbrev pub m21 : (before : After-start-end) → (given : s27 .gives (m20 (before .before) (After-start-end·gave before))) → Typed.Mo T29
-      m21 = λ before given. s27 .next (m20 (before .before) (After-start-end·gave before)) given
+      abbrev pub m22 : (before : After-start-end) → (given : s28 .gives (m21 (before .before) (After-start-end·gave before))) → Typed.Mo T30
+      m22 = λ before given. s28 .next (m21 (before .before) (After-start-end·gave before)) given
 
-      abbrev pub m22 : (before : After-start-end) → (given : s27 .gives (m20 (before .before) (After-start-end·gave before))) → Typed.Mo T30
-      m22 = λ before given. s28 .next (m21 before given)
+      abbrev pub m23 : (before : After-start-end) → (given : s28 .gives (m21 (before .before) (After-start-end·gave before))) → Typed.Mo T31
+      m23 = λ before given. s29 .next (m22 before given)
 
       module _ (before· : After-start-end) where
         pub record After-reach-arg·own : Type 0 where
-          pub given : s27 .gives (m20 (before· .before) (After-start-end·gave before·))
+          pub given : s28 .gives (m21 (before· .before) (After-start-end·gave before·))
 
       pub record After-reach-arg : Type 0 where
         pub before : After-start-end
         pub reach-arg : After-reach-arg·own before
 
-      abbrev pub m23 : (before : After-reach-arg) → (given : s30 .gives (m22 (before .before) (before .reach-arg .given))) → Typed.Mo T32
-      m23 = λ before given. s30 .next (m22 (before .before) (before .reach-arg .given)) given
+      abbrev pub m24 : (before : After-reach-arg) → (given : s31 .gives (m23 (before .before) (before .reach-arg .given))) → Typed.Mo T33
+      m24 = λ before given. s31 .next (m23 (before .before) (before .reach-arg .given)) given
 
-      abbrev pub m24 : (before : After-reach-arg) → (given : s30 .gives (m22 (before .before) (before .reach-arg .given))) → Typed.Mo T33
-      m24 = λ before given. s31 .next (m23 before given)
+      abbrev pub m25 : (before : After-reach-arg) → (given : s31 .gives (m23 (before .before) (before .reach-arg .given))) → Typed.Mo T34
+      m25 = λ before given. s32 .next (m24 before given)
 
       module _ (before· : After-reach-arg) where
         pub record After-reach-arg2·own : Type 0 where
-          pub given : s30 .gives (m22 (before· .before) (before· .reach-arg .given))
+          pub given : s31 .gives (m23 (before· .before) (before· .reach-arg .given))
 
       pub record After-reach-arg2 : Type 0 where
         pub before : After-reach-arg
         pub reach-arg2 : After-reach-arg2·own before
 
       abbrev pub Need-reach-requires : Type 0
-      Need-reach-requires = (c : After-reach-arg2) → s32 .asks (m24 (c .before) (c .reach-arg2 .given))
+      Need-reach-requires = (c : After-reach-arg2) → s33 .asks (m25 (c .before) (c .reach-arg2 .given))
 
-      abbrev pub m25 : (before : After-reach-arg2) → (given : s32 .gives (m24 (before .before) (before .reach-arg2 .given))) → Typed.Mo T34
-      m25 = λ before given. s32 .next (m24 (before .before) (before .reach-arg2 .given)) given
+      abbrev pub m26 : (before : After-reach-arg2) → (given : s33 .gives (m25 (before .before) (before .reach-arg2 .given))) → Typed.Mo T35
+      m26 = λ before given. s33 .next (m25 (before .before) (before .reach-arg2 .given)) given
 
       module _ (before· : After-reach-arg2) where
         abbrev pub After-reach·own : Type 0
-        After-reach·own = Called.Called ps·4 r·4 (claims· .9) T33 (Num.vFld 1 (List._∷_ (Syntax.field 0) List.[]) 0 λ x. Size.struct .as-values x .0, (record { pos = 21; ty = Syntax.tyRef Syntax.erased Syntax.mut (Syntax.tyInt Syntax.w16); ref = λ x. x }, (record { pos = 23; ty = Syntax.tyRef Syntax.erased Syntax.mut (Syntax.tyInt Syntax.w16); ref = λ x. x }, (Num.vLit 0, (Num.vAt 5 λ x. x, (Num.vLit 2, tt)))))) (m24 (before· .before) (before· .reach-arg2 .given))
+        After-reach·own = Called.Called ps·4 r·4 (claims· .9) T34 (Num.vFld 1 (List._∷_ (Syntax.field 0) List.[]) 0 λ x. Size.struct .as-values x .0, (record { pos = 22; ty = Syntax.tyRef Syntax.erased Syntax.mut (Syntax.tyInt Syntax.w16); ref = λ x. x }, (record { pos = 24; ty = Syntax.tyRef Syntax.erased Syntax.mut (Syntax.tyInt Syntax.w16); ref = λ x. x }, (Num.vLit 0, (Num.vAt 5 λ x. x, (Num.vLit 2, tt)))))) (m25 (before· .before) (before· .reach-arg2 .given))
 
       pub record After-reach : Type 0 where
         pub before : After-reach-arg2
         pub reach : After-reach·own before
 
-      abbrev pub After-reach·gave : (c : After-reach) → s32 .gives (m24 (c .before .before) (c .before .reach-arg2 .given))
-      After-reach·gave = λ c. Called.given ps·4 r·4 (claims· .9) T33 (Num.vFld 1 (List._∷_ (Syntax.field 0) List.[]) 0 λ x. Size.struct .as-values x .0, (record { pos = 21; ty = Syntax.tyRef Syntax.erased Syntax.mut (Syntax.tyInt Syntax.w16); ref = λ x. x }, (record { pos = 23; ty = Syntax.tyRef Syntax.erased Syntax.mut (Syntax.tyInt Syntax.w16); ref = λ x. x }, (Num.vLit 0, (Num.vAt 5 λ x. x, (Num.vLit 2, tt)))))) (m24 (c .before .before) (c .before .reach-arg2 .given)) (c .reach)
+      abbrev pub After-reach·gave : (c : After-reach) → s33 .gives (m25 (c .before .before) (c .before .reach-arg2 .given))
+      After-reach·gave = λ c. Called.given ps·4 r·4 (claims· .9) T34 (Num.vFld 1 (List._∷_ (Syntax.field 0) List.[]) 0 λ x. Size.struct .as-values x .0, (record { pos = 22; ty = Syntax.tyRef Syntax.erased Syntax.mut (Syntax.tyInt Syntax.w16); ref = λ x. x }, (record { pos = 24; ty = Syntax.tyRef Syntax.erased Syntax.mut (Syntax.tyInt Syntax.w16); ref = λ x. x }, (Num.vLit 0, (Num.vAt 5 λ x. x, (Num.vLit 2, tt)))))) (m25 (c .before .before) (c .before .reach-arg2 .given)) (c .reach)
 
-      abbrev pub m26 : (before : After-reach) → (given : s34 .gives (m25 (before .before) (After-reach·gave before))) → Typed.Mo T36
-      m26 = λ before given. s34 .next (m25 (before .before) (After-reach·gave before)) given
+      abbrev pub m27 : (before : After-reach) → (given : s35 .gives (m26 (before .before) (After-reach·gave before))) → Typed.Mo T37
+      m27 = λ before given. s35 .next (m26 (before .before) (After-reach·gave before)) given
 
       module _ (before· : After-reach) where
         pub record After-scratch2·own : Type 0 where
-          pub given : s34 .gives (m25 (before· .before) (After-reach·gave before·))
+          pub given : s35 .gives (m26 (before· .before) (After-reach·gave before·))
 
       pub record After-scratch2 : Type 0 where
         pub before : After-reach
         pub scratch2 : After-scratch2·own before
 
-      abbrev pub m27 : (before : After-scratch2) → (given : s35 .gives (m26 (before .before) (before .scratch2 .given))) → Typed.Mo T37
-      m27 = λ before given. s35 .next (m26 (before .before) (before .scratch2 .given)) given
+      abbrev pub m28 : (before : After-scratch2) → (given : s36 .gives (m27 (before .before) (before .scratch2 .given))) → Typed.Mo T38
+      m28 = λ before given. s36 .next (m27 (before .before) (before .scratch2 .given)) given
 
       module _ (before· : After-scratch2) where
-        pub record After-slice-known6·own : Type 0 where
-          pub given : s35 .gives (m26 (before· .before) (before· .scratch2 .given))
+        pub record After-slice-known7·own : Type 0 where
+          pub given : s36 .gives (m27 (before· .before) (before· .scratch2 .given))
 
-      pub record After-slice-known6 : Type 0 where
+      pub record After-slice-known7 : Type 0 where
         pub before : After-scratch2
-        pub slice-known6 : After-slice-known6·own before
+        pub slice-known7 : After-slice-known7·own before
 
-      abbrev pub m28 : (before : After-slice-known6) → (given : s38 .gives (m27 (before .before) (before .slice-known6 .given))) → Typed.Mo T40
-      m28 = λ before given. s38 .next (m27 (before .before) (before .slice-known6 .given)) given
+      abbrev pub m29 : (before : After-slice-known7) → (given : s39 .gives (m28 (before .before) (before .slice-known7 .given))) → Typed.Mo T41
+      m29 = λ before given. s39 .next (m28 (before .before) (before .slice-known7 .given)) given
 
-      module _ (before· : After-slice-known6) where
+      module _ (before· : After-slice-known7) where
         pub record After-queue·own : Type 0 where
-          pub given : s38 .gives (m27 (before· .before) (before· .slice-known6 .given))
+          pub given : s39 .gives (m28 (before· .before) (before· .slice-known7 .given))
 
       pub record After-queue : Type 0 where
-        pub before : After-slice-known6
+        pub before : After-slice-known7
         pub queue : After-queue·own before
 
-      abbrev pub m29 : (before : After-queue) → (given : s39 .gives (m28 (before .before) (before .queue .given))) → Typed.Mo T41
-      m29 = λ before given. s39 .next (m28 (before .before) (before .queue .given)) given
+      abbrev pub m30 : (before : After-queue) → (given : s40 .gives (m29 (before .before) (before .queue .given))) → Typed.Mo T42
+      m30 = λ before given. s40 .next (m29 (before .before) (before .queue .given)) given
 
-      abbrev pub m30 : (before : After-queue) → (given : s39 .gives (m28 (before .before) (before .queue .given))) → Typed.Mo T43
-      m30 = λ before given. s41 (m29 before given)
-
-      abbrev pub m31 : (before : After-queue) → (given : s39 .gives (m28 (before .before) (before .queue .given))) → Typed.Mo T44
+      abbrev pub m31 : (before : After-queue) → (given : s40 .gives (m29 (before .before) (before .queue .given))) → Typed.Mo T44
       m31 = λ before given. s42 (m30 before given)
 
-      abbrev W1 : (before : After-queue) → (given : s39 .gives (m28 (before .before) (before .queue .given))) → Typed.Want O1
-      W1 = λ before given. Typed.wantNext T45 O0 (at104 (W0 (before .before .before .before .before .before .before .before .before .before .before .before .before .before .before .before .before .before .before .before .before .before .κs) (before .before .before .before .before .before .before .before .before .before .before .before .before .before .before .before .before .before .before .before .before .before .args))) (W0 (before .before .before .before .before .before .before .before .before .before .before .before .before .before .before .before .before .before .before .before .before .before .κs) (before .before .before .before .before .before .before .before .before .before .before .before .before .before .before .before .before .before .before .before .before .before .args))
+      abbrev pub m32 : (before : After-queue) → (given : s40 .gives (m29 (before .before) (before .queue .given))) → Typed.Mo T45
+      m32 = λ before given. s43 (m31 before given)
 
-      abbrev W2 : (before : After-queue) → (given : s39 .gives (m28 (before .before) (before .queue .given))) → Typed.Want O2
+      abbrev W1 : (before : After-queue) → (given : s40 .gives (m29 (before .before) (before .queue .given))) → Typed.Want O1
+      W1 = λ before given. Typed.wantNext T46 O0 (at111 (W0 (before .before .before .before .before .before .before .before .before .before .before .before .before .before .before .before .before .before .before .before .before .before .before .κs) (before .before .before .before .before .before .before .before .before .before .before .before .before .before .before .before .before .before .before .before .before .before .before .args))) (W0 (before .before .before .before .before .before .before .before .before .before .before .before .before .before .before .before .before .before .before .before .before .before .before .κs) (before .before .before .before .before .before .before .before .before .before .before .before .before .before .before .before .before .before .before .before .before .before .before .args))
+
+      abbrev W2 : (before : After-queue) → (given : s40 .gives (m29 (before .before) (before .queue .given))) → Typed.Want O2
       W2 = λ before given. Typed.inBlock O1 (W1 before given)
 
       module _ (before· : After-queue) where
-        pub record After-slice-known7·own : Type 0 where
-          pub given : s39 .gives (m28 (before· .before) (before· .queue .given))
+        pub record After-slice-known8·own : Type 0 where
+          pub given : s40 .gives (m29 (before· .before) (before· .queue .given))
 
-      pub record After-slice-known7 : Type 0 where
+      pub record After-slice-known8 : Type 0 where
         pub before : After-queue
-        pub slice-known7 : After-slice-known7·own before
+        pub slice-known8 : After-slice-known8·own before
 
       abbrev pub Need-loop-holds : Type 0
-      Need-loop-holds = (c : After-slice-known7) → Inv·0 (Row.get 1 (T44 .locals) (m31 (c .before) (c .slice-known7 .given))) (Row.get 2 (T44 .locals) (m31 (c .before) (c .slice-known7 .given)) .now) (Row.get 3 (T44 .locals) (m31 (c .before) (c .slice-known7 .given)) .now) (Row.get 4 (T44 .locals) (m31 (c .before) (c .slice-known7 .given)) .now) (Row.get 5 (T44 .locals) (m31 (c .before) (c .slice-known7 .given))) (Row.get 6 (T44 .locals) (m31 (c .before) (c .slice-known7 .given)) .now) (Row.get 7 (T44 .locals) (m31 (c .before) (c .slice-known7 .given)) .now) (Row.get 8 (T44 .locals) (m31 (c .before) (c .slice-known7 .given)) .now) (Row.get 10 (T44 .locals) (m31 (c .before) (c .slice-known7 .given))) (Row.get 11 (T44 .locals) (m31 (c .before) (c .slice-known7 .given))) (Row.get 12 (T44 .locals) (m31 (c .before) (c .slice-known7 .given))) (Row.get 13 (T44 .locals) (m31 (c .before) (c .slice-known7 .given))) (Row.get 6 (T44 .locals) (m31 (c .before) (c .slice-known7 .given)) .now) (Row.get 7 (T44 .locals) (m31 (c .before) (c .slice-known7 .given)) .now) (Row.get 8 (T44 .locals) (m31 (c .before) (c .slice-known7 .given)) .now) (Row.get 10 (T44 .locals) (m31 (c .before) (c .slice-known7 .given))) (Row.get 11 (T44 .locals) (m31 (c .before) (c .slice-known7 .given))) (Row.get 12 (T44 .locals) (m31 (c .before) (c .slice-known7 .given))) (Row.get 13 (T44 .locals) (m31 (c .before) (c .slice-known7 .given)))
+      Need-loop-holds = (c : After-slice-known8) → Inv·0 (Row.get 1 (T45 .locals) (m32 (c .before) (c .slice-known8 .given))) (Row.get 2 (T45 .locals) (m32 (c .before) (c .slice-known8 .given)) .now) (Row.get 3 (T45 .locals) (m32 (c .before) (c .slice-known8 .given)) .now) (Row.get 4 (T45 .locals) (m32 (c .before) (c .slice-known8 .given)) .now) (Row.get 5 (T45 .locals) (m32 (c .before) (c .slice-known8 .given))) (Row.get 6 (T45 .locals) (m32 (c .before) (c .slice-known8 .given)) .now) (Row.get 7 (T45 .locals) (m32 (c .before) (c .slice-known8 .given)) .now) (Row.get 8 (T45 .locals) (m32 (c .before) (c .slice-known8 .given)) .now) (Row.get 9 (T45 .locals) (m32 (c .before) (c .slice-known8 .given)) .now) (Row.get 11 (T45 .locals) (m32 (c .before) (c .slice-known8 .given))) (Row.get 12 (T45 .locals) (m32 (c .before) (c .slice-known8 .given))) (Row.get 13 (T45 .locals) (m32 (c .before) (c .slice-known8 .given))) (Row.get 14 (T45 .locals) (m32 (c .before) (c .slice-known8 .given))) (Row.get 6 (T45 .locals) (m32 (c .before) (c .slice-known8 .given)) .now) (Row.get 7 (T45 .locals) (m32 (c .before) (c .slice-known8 .given)) .now) (Row.get 8 (T45 .locals) (m32 (c .before) (c .slice-known8 .given)) .now) (Row.get 9 (T45 .locals) (m32 (c .before) (c .slice-known8 .given)) .now) (Row.get 11 (T45 .locals) (m32 (c .before) (c .slice-known8 .given))) (Row.get 12 (T45 .locals) (m32 (c .before) (c .slice-known8 .given))) (Row.get 13 (T45 .locals) (m32 (c .before) (c .slice-known8 .given))) (Row.get 14 (T45 .locals) (m32 (c .before) (c .slice-known8 .given)))
 
-      abbrev pub m32 : (before : After-slice-known7) → (commands : List.List (Referent.rtF (Referent.fInt Syntax.w16) .Denot)) → (scratch : List.List (Referent.rtF (Referent.fInt Syntax.w16) .Denot)) → (queue : List.List (Referent.rtF (Referent.fInt Syntax.w16) .Denot)) → (end : Rows.sc-here (Row.sInt Syntax.w64) .Mod) → (q : Rows.sc-here (Row.sInt Syntax.w64) .Mod) → (h : Rows.sc-here (Row.sInt Syntax.w64) .Mod) → (count : Rows.sc-here (Row.sInt Syntax.w64) .Mod) → Typed.Mo T44
-      m32 = λ before commands scratch queue end q h count. Row.set 13 (13, Rows.sc-here (Row.sInt Syntax.w64)) count (Row.setRow 12 (12, Rows.sc-here (Row.sInt Syntax.w64)) (Row.setRow 11 (11, Rows.sc-here (Row.sInt Syntax.w64)) (Row.setRow 10 (10, Rows.sc-here (Row.sInt Syntax.w64)) (Row.setRow 8 (8, Mut.mslice (Referent.rtF (Referent.fInt Syntax.w16)) ty·6 5) (Row.setRow 7 (7, Mut.mslice (Referent.rtF (Referent.fInt Syntax.w16)) ty·5 4) (Row.setRow 6 (6, Mut.mslice (Referent.rtF (Referent.fInt Syntax.w16)) ty·4 3) (T44 .locals))))))) (Row.set 12 (12, Rows.sc-here (Row.sInt Syntax.w64)) h (Row.setRow 11 (11, Rows.sc-here (Row.sInt Syntax.w64)) (Row.setRow 10 (10, Rows.sc-here (Row.sInt Syntax.w64)) (Row.setRow 8 (8, Mut.mslice (Referent.rtF (Referent.fInt Syntax.w16)) ty·6 5) (Row.setRow 7 (7, Mut.mslice (Referent.rtF (Referent.fInt Syntax.w16)) ty·5 4) (Row.setRow 6 (6, Mut.mslice (Referent.rtF (Referent.fInt Syntax.w16)) ty·4 3) (T44 .locals)))))) (Row.set 11 (11, Rows.sc-here (Row.sInt Syntax.w64)) q (Row.setRow 10 (10, Rows.sc-here (Row.sInt Syntax.w64)) (Row.setRow 8 (8, Mut.mslice (Referent.rtF (Referent.fInt Syntax.w16)) ty·6 5) (Row.setRow 7 (7, Mut.mslice (Referent.rtF (Referent.fInt Syntax.w16)) ty·5 4) (Row.setRow 6 (6, Mut.mslice (Referent.rtF (Referent.fInt Syntax.w16)) ty·4 3) (T44 .locals))))) (Row.set 10 (10, Rows.sc-here (Row.sInt Syntax.w64)) end (Row.setRow 8 (8, Mut.mslice (Referent.rtF (Referent.fInt Syntax.w16)) ty·6 5) (Row.setRow 7 (7, Mut.mslice (Referent.rtF (Referent.fInt Syntax.w16)) ty·5 4) (Row.setRow 6 (6, Mut.mslice (Referent.rtF (Referent.fInt Syntax.w16)) ty·4 3) (T44 .locals)))) (Row.set 8 (8, Mut.mslice (Referent.rtF (Referent.fInt Syntax.w16)) ty·6 5) record { ptr = Row.get 8 (T44 .locals) (m31 (before .before) (before .slice-known7 .given)) .ptr; name = Row.get 8 (T44 .locals) (m31 (before .before) (before .slice-known7 .given)) .name; now = queue } (Row.setRow 7 (7, Mut.mslice (Referent.rtF (Referent.fInt Syntax.w16)) ty·5 4) (Row.setRow 6 (6, Mut.mslice (Referent.rtF (Referent.fInt Syntax.w16)) ty·4 3) (T44 .locals))) (Row.set 7 (7, Mut.mslice (Referent.rtF (Referent.fInt Syntax.w16)) ty·5 4) record { ptr = Row.get 7 (T44 .locals) (m31 (before .before) (before .slice-known7 .given)) .ptr; name = Row.get 7 (T44 .locals) (m31 (before .before) (before .slice-known7 .given)) .name; now = scratch } (Row.setRow 6 (6, Mut.mslice (Referent.rtF (Referent.fInt Syntax.w16)) ty·4 3) (T44 .locals)) (Row.set 6 (6, Mut.mslice (Referent.rtF (Referent.fInt Syntax.w16)) ty·4 3) record { ptr = Row.get 6 (T44 .locals) (m31 (before .before) (before .slice-known7 .given)) .ptr; name = Row.get 6 (T44 .locals) (m31 (before .before) (before .slice-known7 .given)) .name; now = commands } (T44 .locals) (m31 (before .before) (before .slice-known7 .given))))))))
+      abbrev pub m33 : (before : After-slice-known8) → (commands : List.List (Referent.rtF (Referent.fInt Syntax.w16) .Denot)) → (scratch : List.List (Referent.rtF (Referent.fInt Syntax.w16) .Denot)) → (queue : List.List (Referent.rtF (Referent.fInt Syntax.w16) .Denot)) → (tried : List.List (Referent.rtF (Referent.fInt Syntax.w16) .Denot)) → (end : Rows.sc-here (Row.sInt Syntax.w64) .Mod) → (q : Rows.sc-here (Row.sInt Syntax.w64) .Mod) → (h : Rows.sc-here (Row.sInt Syntax.w64) .Mod) → (count : Rows.sc-here (Row.sInt Syntax.w64) .Mod) → Typed.Mo T45
+      m33 = λ before commands scratch queue tried end q h count. Row.set 14 (14, Rows.sc-here (Row.sInt Syntax.w64)) count (Row.setRow 13 (13, Rows.sc-here (Row.sInt Syntax.w64)) (Row.setRow 12 (12, Rows.sc-here (Row.sInt Syntax.w64)) (Row.setRow 11 (11, Rows.sc-here (Row.sInt Syntax.w64)) (Row.setRow 9 (9, Mut.mslice (Referent.rtF (Referent.fInt Syntax.w16)) ty·7 6) (Row.setRow 8 (8, Mut.mslice (Referent.rtF (Referent.fInt Syntax.w16)) ty·6 5) (Row.setRow 7 (7, Mut.mslice (Referent.rtF (Referent.fInt Syntax.w16)) ty·5 4) (Row.setRow 6 (6, Mut.mslice (Referent.rtF (Referent.fInt Syntax.w16)) ty·4 3) (T45 .locals)))))))) (Row.set 13 (13, Rows.sc-here (Row.sInt Syntax.w64)) h (Row.setRow 12 (12, Rows.sc-here (Row.sInt Syntax.w64)) (Row.setRow 11 (11, Rows.sc-here (Row.sInt Syntax.w64)) (Row.setRow 9 (9, Mut.mslice (Referent.rtF (Referent.fInt Syntax.w16)) ty·7 6) (Row.setRow 8 (8, Mut.mslice (Referent.rtF (Referent.fInt Syntax.w16)) ty·6 5) (Row.setRow 7 (7, Mut.mslice (Referent.rtF (Referent.fInt Syntax.w16)) ty·5 4) (Row.setRow 6 (6, Mut.mslice (Referent.rtF (Referent.fInt Syntax.w16)) ty·4 3) (T45 .locals))))))) (Row.set 12 (12, Rows.sc-here (Row.sInt Syntax.w64)) q (Row.setRow 11 (11, Rows.sc-here (Row.sInt Syntax.w64)) (Row.setRow 9 (9, Mut.mslice (Referent.rtF (Referent.fInt Syntax.w16)) ty·7 6) (Row.setRow 8 (8, Mut.mslice (Referent.rtF (Referent.fInt Syntax.w16)) ty·6 5) (Row.setRow 7 (7, Mut.mslice (Referent.rtF (Referent.fInt Syntax.w16)) ty·5 4) (Row.setRow 6 (6, Mut.mslice (Referent.rtF (Referent.fInt Syntax.w16)) ty·4 3) (T45 .locals)))))) (Row.set 11 (11, Rows.sc-here (Row.sInt Syntax.w64)) end (Row.setRow 9 (9, Mut.mslice (Referent.rtF (Referent.fInt Syntax.w16)) ty·7 6) (Row.setRow 8 (8, Mut.mslice (Referent.rtF (Referent.fInt Syntax.w16)) ty·6 5) (Row.setRow 7 (7, Mut.mslice (Referent.rtF (Referent.fInt Syntax.w16)) ty·5 4) (Row.setRow 6 (6, Mut.mslice (Referent.rtF (Referent.fInt Syntax.w16)) ty·4 3) (T45 .locals))))) (Row.set 9 (9, Mut.mslice (Referent.rtF (Referent.fInt Syntax.w16)) ty·7 6) record { ptr = Row.get 9 (T45 .locals) (m32 (before .before) (before .slice-known8 .given)) .ptr; name = Row.get 9 (T45 .locals) (m32 (before .before) (before .slice-known8 .given)) .name; now = tried } (Row.setRow 8 (8, Mut.mslice (Referent.rtF (Referent.fInt Syntax.w16)) ty·6 5) (Row.setRow 7 (7, Mut.mslice (Referent.rtF (Referent.fInt Syntax.w16)) ty·5 4) (Row.setRow 6 (6, Mut.mslice (Referent.rtF (Referent.fInt Syntax.w16)) ty·4 3) (T45 .locals)))) (Row.set 8 (8, Mut.mslice (Referent.rtF (Referent.fInt Syntax.w16)) ty·6 5) record { ptr = Row.get 8 (T45 .locals) (m32 (before .before) (before .slice-known8 .given)) .ptr; name = Row.get 8 (T45 .locals) (m32 (before .before) (before .slice-known8 .given)) .name; now = queue } (Row.setRow 7 (7, Mut.mslice (Referent.rtF (Referent.fInt Syntax.w16)) ty·5 4) (Row.setRow 6 (6, Mut.mslice (Referent.rtF (Referent.fInt Syntax.w16)) ty·4 3) (T45 .locals))) (Row.set 7 (7, Mut.mslice (Referent.rtF (Referent.fInt Syntax.w16)) ty·5 4) record { ptr = Row.get 7 (T45 .locals) (m32 (before .before) (before .slice-known8 .given)) .ptr; name = Row.get 7 (T45 .locals) (m32 (before .before) (before .slice-known8 .given)) .name; now = scratch } (Row.setRow 6 (6, Mut.mslice (Referent.rtF (Referent.fInt Syntax.w16)) ty·4 3) (T45 .locals)) (Row.set 6 (6, Mut.mslice (Referent.rtF (Referent.fInt Syntax.w16)) ty·4 3) record { ptr = Row.get 6 (T45 .locals) (m32 (before .before) (before .slice-known8 .given)) .ptr; name = Row.get 6 (T45 .locals) (m32 (before .before) (before .slice-known8 .given)) .name; now = commands } (T45 .locals) (m32 (before .before) (before .slice-known8 .given)))))))))
 
-      abbrev W3 : (before : After-slice-known7) → (commands : List.List (Referent.rtF (Referent.fInt Syntax.w16) .Denot)) → (scratch : List.List (Referent.rtF (Referent.fInt Syntax.w16) .Denot)) → (queue : List.List (Referent.rtF (Referent.fInt Syntax.w16) .Denot)) → (end : Rows.sc-here (Row.sInt Syntax.w64) .Mod) → (q : Rows.sc-here (Row.sInt Syntax.w64) .Mod) → (h : Rows.sc-here (Row.sInt Syntax.w64) .Mod) → (count : Rows.sc-here (Row.sInt Syntax.w64) .Mod) → Typed.Want O3
-      W3 = λ before commands scratch queue end q h count. Typed.inLoop T44 O2 (Typed.Round T44 O2 put0 (λ u vs. Inv·0 (Row.get 1 (T44 .locals) u) (Row.get 2 (T44 .locals) u .now) (Row.get 3 (T44 .locals) u .now) (Row.get 4 (T44 .locals) u .now) (Row.get 5 (T44 .locals) u) (Row.get 6 (T44 .locals) u .now) (Row.get 7 (T44 .locals) u .now) (Row.get 8 (T44 .locals) u .now) (Row.get 10 (T44 .locals) u) (Row.get 11 (T44 .locals) u) (Row.get 12 (T44 .locals) u) (Row.get 13 (T44 .locals) u) (vs .0) (vs .1) (vs .2) (vs .3) (vs .4) (vs .5) (vs .6)) (λ u vs. μ·0 (Row.get 1 (T44 .locals) u) (Row.get 2 (T44 .locals) u .now) (Row.get 3 (T44 .locals) u .now) (Row.get 4 (T44 .locals) u .now) (Row.get 5 (T44 .locals) u) (Row.get 6 (T44 .locals) u .now) (Row.get 7 (T44 .locals) u .now) (Row.get 8 (T44 .locals) u .now) (Row.get 10 (T44 .locals) u) (Row.get 11 (T44 .locals) u) (Row.get 12 (T44 .locals) u) (Row.get 13 (T44 .locals) u) (vs .0) (vs .1) (vs .2) (vs .3) (vs .4) (vs .5) (vs .6)) at80 (m31 (before .before) (before .slice-known7 .given)) (commands, scratch, queue, end, q, h, count)) (W2 (before .before) (before .slice-known7 .given))
+      abbrev W3 : (before : After-slice-known8) → (commands : List.List (Referent.rtF (Referent.fInt Syntax.w16) .Denot)) → (scratch : List.List (Referent.rtF (Referent.fInt Syntax.w16) .Denot)) → (queue : List.List (Referent.rtF (Referent.fInt Syntax.w16) .Denot)) → (tried : List.List (Referent.rtF (Referent.fInt Syntax.w16) .Denot)) → (end : Rows.sc-here (Row.sInt Syntax.w64) .Mod) → (q : Rows.sc-here (Row.sInt Syntax.w64) .Mod) → (h : Rows.sc-here (Row.sInt Syntax.w64) .Mod) → (count : Rows.sc-here (Row.sInt Syntax.w64) .Mod) → Typed.Want O3
+      W3 = λ before commands scratch queue tried end q h count. Typed.inLoop T45 O2 (Typed.Round T45 O2 put0 (λ u vs. Inv·0 (Row.get 1 (T45 .locals) u) (Row.get 2 (T45 .locals) u .now) (Row.get 3 (T45 .locals) u .now) (Row.get 4 (T45 .locals) u .now) (Row.get 5 (T45 .locals) u) (Row.get 6 (T45 .locals) u .now) (Row.get 7 (T45 .locals) u .now) (Row.get 8 (T45 .locals) u .now) (Row.get 9 (T45 .locals) u .now) (Row.get 11 (T45 .locals) u) (Row.get 12 (T45 .locals) u) (Row.get 13 (T45 .locals) u) (Row.get 14 (T45 .locals) u) (vs .0) (vs .1) (vs .2) (vs .3) (vs .4) (vs .5) (vs .6) (vs .7)) (λ u vs. μ·0 (Row.get 1 (T45 .locals) u) (Row.get 2 (T45 .locals) u .now) (Row.get 3 (T45 .locals) u .now) (Row.get 4 (T45 .locals) u .now) (Row.get 5 (T45 .locals) u) (Row.get 6 (T45 .locals) u .now) (Row.get 7 (T45 .locals) u .now) (Row.get 8 (T45 .locals) u .now) (Row.get 9 (T45 .locals) u .now) (Row.get 11 (T45 .locals) u) (Row.get 12 (T45 .locals) u) (Row.get 13 (T45 .locals) u) (Row.get 14 (T45 .locals) u) (vs .0) (vs .1) (vs .2) (vs .3) (vs .4) (vs .5) (vs .6) (vs .7)) at87 (m32 (before .before) (before .slice-known8 .given)) (commands, scratch, queue, tried, end, q, h, count)) (W2 (before .before) (before .slice-known8 .given))
 
-      abbrev pub m33 : (before : After-slice-known7) → (commands : List.List (Referent.rtF (Referent.fInt Syntax.w16) .Denot)) → (scratch : List.List (Referent.rtF (Referent.fInt Syntax.w16) .Denot)) → (queue : List.List (Referent.rtF (Referent.fInt Syntax.w16) .Denot)) → (end : Rows.sc-here (Row.sInt Syntax.w64) .Mod) → (q : Rows.sc-here (Row.sInt Syntax.w64) .Mod) → (h : Rows.sc-here (Row.sInt Syntax.w64) .Mod) → (count : Rows.sc-here (Row.sInt Syntax.w64) .Mod) → Typed.Mo T46
-      m33 = λ before commands scratch queue end q h count. s43 .next (m32 before commands scratch queue end q h count)
+      abbrev pub m34 : (before : After-slice-known8) → (commands : List.List (Referent.rtF (Referent.fInt Syntax.w16) .Denot)) → (scratch : List.List (Referent.rtF (Referent.fInt Syntax.w16) .Denot)) → (queue : List.List (Referent.rtF (Referent.fInt Syntax.w16) .Denot)) → (tried : List.List (Referent.rtF (Referent.fInt Syntax.w16) .Denot)) → (end : Rows.sc-here (Row.sInt Syntax.w64) .Mod) → (q : Rows.sc-here (Row.sInt Syntax.w64) .Mod) → (h : Rows.sc-here (Row.sInt Syntax.w64) .Mod) → (count : Rows.sc-here (Row.sInt Syntax.w64) .Mod) → Typed.Mo T47
+      m34 = λ before commands scratch queue tried end q h count. s44 .next (m33 before commands scratch queue tried end q h count)
 
-      abbrev W4 : (before : After-slice-known7) → (commands : List.List (Referent.rtF (Referent.fInt Syntax.w16) .Denot)) → (scratch : List.List (Referent.rtF (Referent.fInt Syntax.w16) .Denot)) → (queue : List.List (Referent.rtF (Referent.fInt Syntax.w16) .Denot)) → (end : Rows.sc-here (Row.sInt Syntax.w64) .Mod) → (q : Rows.sc-here (Row.sInt Syntax.w64) .Mod) → (h : Rows.sc-here (Row.sInt Syntax.w64) .Mod) → (count : Rows.sc-here (Row.sInt Syntax.w64) .Mod) → Typed.Want O4
-      W4 = λ before commands scratch queue end q h count. Typed.wantNext T47 O3 (at78 (W3 before commands scratch queue end q h count)) (W3 before commands scratch queue end q h count)
+      abbrev W4 : (before : After-slice-known8) → (commands : List.List (Referent.rtF (Referent.fInt Syntax.w16) .Denot)) → (scratch : List.List (Referent.rtF (Referent.fInt Syntax.w16) .Denot)) → (queue : List.List (Referent.rtF (Referent.fInt Syntax.w16) .Denot)) → (tried : List.List (Referent.rtF (Referent.fInt Syntax.w16) .Denot)) → (end : Rows.sc-here (Row.sInt Syntax.w64) .Mod) → (q : Rows.sc-here (Row.sInt Syntax.w64) .Mod) → (h : Rows.sc-here (Row.sInt Syntax.w64) .Mod) → (count : Rows.sc-here (Row.sInt Syntax.w64) .Mod) → Typed.Want O4
+      W4 = λ before commands scratch queue tried end q h count. Typed.wantNext T48 O3 (at85 (W3 before commands scratch queue tried end q h count)) (W3 before commands scratch queue tried end q h count)
 
-      module _ (before· : After-slice-known7) where
+      module _ (before· : After-slice-known8) where
         pub record At-loop·own : Type 0 where
           pub commands : List.List (Referent.rtF (Referent.fInt Syntax.w16) .Denot)
           pub scratch : List.List (Referent.rtF (Referent.fInt Syntax.w16) .Denot)
           pub queue : List.List (Referent.rtF (Referent.fInt Syntax.w16) .Denot)
+          pub tried : List.List (Referent.rtF (Referent.fInt Syntax.w16) .Denot)
           pub end : Rows.sc-here (Row.sInt Syntax.w64) .Mod
           pub q : Rows.sc-here (Row.sInt Syntax.w64) .Mod
           pub h : Rows.sc-here (Row.sInt Syntax.w64) .Mod
           pub count : Rows.sc-here (Row.sInt Syntax.w64) .Mod
-          pub inv : Inv·0 (Row.get 1 (T44 .locals) (m31 (before· .before) (before· .slice-known7 .given))) (Row.get 2 (T44 .locals) (m31 (before· .before) (before· .slice-known7 .given)) .now) (Row.get 3 (T44 .locals) (m31 (before· .before) (before· .slice-known7 .given)) .now) (Row.get 4 (T44 .locals) (m31 (before· .before) (before· .slice-known7 .given)) .now) (Row.get 5 (T44 .locals) (m31 (before· .before) (before· .slice-known7 .given))) (Row.get 6 (T44 .locals) (m31 (before· .before) (before· .slice-known7 .given)) .now) (Row.get 7 (T44 .locals) (m31 (before· .before) (before· .slice-known7 .given)) .now) (Row.get 8 (T44 .locals) (m31 (before· .before) (before· .slice-known7 .given)) .now) (Row.get 10 (T44 .locals) (m31 (before· .before) (before· .slice-known7 .given))) (Row.get 11 (T44 .locals) (m31 (before· .before) (before· .slice-known7 .given))) (Row.get 12 (T44 .locals) (m31 (before· .before) (before· .slice-known7 .given))) (Row.get 13 (T44 .locals) (m31 (before· .before) (before· .slice-known7 .given))) commands scratch queue end q h count
+          pub inv : Inv·0 (Row.get 1 (T45 .locals) (m32 (before· .before) (before· .slice-known8 .given))) (Row.get 2 (T45 .locals) (m32 (before· .before) (before· .slice-known8 .given)) .now) (Row.get 3 (T45 .locals) (m32 (before· .before) (before· .slice-known8 .given)) .now) (Row.get 4 (T45 .locals) (m32 (before· .before) (before· .slice-known8 .given)) .now) (Row.get 5 (T45 .locals) (m32 (before· .before) (before· .slice-known8 .given))) (Row.get 6 (T45 .locals) (m32 (before· .before) (before· .slice-known8 .given)) .now) (Row.get 7 (T45 .locals) (m32 (before· .before) (before· .slice-known8 .given)) .now) (Row.get 8 (T45 .locals) (m32 (before· .before) (before· .slice-known8 .given)) .now) (Row.get 9 (T45 .locals) (m32 (before· .before) (before· .slice-known8 .given)) .now) (Row.get 11 (T45 .locals) (m32 (before· .before) (before· .slice-known8 .given))) (Row.get 12 (T45 .locals) (m32 (before· .before) (before· .slice-known8 .given))) (Row.get 13 (T45 .locals) (m32 (before· .before) (before· .slice-known8 .given))) (Row.get 14 (T45 .locals) (m32 (before· .before) (before· .slice-known8 .given))) commands scratch queue tried end q h count
 
       pub record At-loop : Type 0 where
-        pub before : After-slice-known7
+        pub before : After-slice-known8
         pub loop : At-loop·own before
 
       module _ (before· : At-loop) where
         pub record In-loop·own : Type 0 where
-          pub taken : Path'._≡_ {A = Nat.ℕ} (Row.get 10 (T44 .locals) (m32 (before· .before) (before· .loop .commands) (before· .loop .scratch) (before· .loop .queue) (before· .loop .end) (before· .loop .q) (before· .loop .h) (before· .loop .count))) 2
+          pub taken : Path'._≡_ {A = Nat.ℕ} (Row.get 11 (T45 .locals) (m33 (before· .before) (before· .loop .commands) (before· .loop .scratch) (before· .loop .queue) (before· .loop .tried) (before· .loop .end) (before· .loop .q) (before· .loop .h) (before· .loop .count))) 2
 
       pub record In-loop : Type 0 where
         pub before : At-loop
         pub loop-test : In-loop·own before
 
-      abbrev pub m34 : (before : At-loop) → Typed.Mo T48
-      m34 = λ before. s44 (m33 (before .before) (before .loop .commands) (before .loop .scratch) (before .loop .queue) (before .loop .end) (before .loop .q) (before .loop .h) (before .loop .count))
-
       abbrev pub m35 : (before : At-loop) → Typed.Mo T49
-      m35 = λ before. s45 (m34 before)
+      m35 = λ before. s45 (m34 (before .before) (before .loop .commands) (before .loop .scratch) (before .loop .queue) (before .loop .tried) (before .loop .end) (before .loop .q) (before .loop .h) (before .loop .count))
+
+      abbrev pub m36 : (before : At-loop) → Typed.Mo T50
+      m36 = λ before. s46 (m35 before)
 
       module _ (before· : At-loop) where
         pub record After-loop·own : Type 0 where
-          pub left : Path'._≡_ {A = Nat.ℕ} (Row.get 10 (T44 .locals) (m32 (before· .before) (before· .loop .commands) (before· .loop .scratch) (before· .loop .queue) (before· .loop .end) (before· .loop .q) (before· .loop .h) (before· .loop .count))) 2 → ⊥
+          pub left : Path'._≡_ {A = Nat.ℕ} (Row.get 11 (T45 .locals) (m33 (before· .before) (before· .loop .commands) (before· .loop .scratch) (before· .loop .queue) (before· .loop .tried) (before· .loop .end) (before· .loop .q) (before· .loop .h) (before· .loop .count))) 2 → ⊥
 
       pub record After-loop : Type 0 where
         pub before : At-loop
         pub loop-test : After-loop·own before
 
-      abbrev pub m36 : (before : At-loop) → Typed.Mo T50
-      m36 = λ before. s46 (m33 (before .before) (before .loop .commands) (before .loop .scratch) (before .loop .queue) (before .loop .end) (before .loop .q) (before .loop .h) (before .loop .count))
+      abbrev pub m37 : (before : At-loop) → Typed.Mo T51
+      m37 = λ before. s47 (m34 (before .before) (before .loop .commands) (before .loop .scratch) (before .loop .queue) (before .loop .tried) (before .loop .end) (before .loop .q) (before .loop .h) (before .loop .count))
 
-      abbrev pub m37 : (before : In-loop) → (given : s48 .gives (m35 (before .before))) → Typed.Mo T52
-      m37 = λ before given. s48 .next (m35 (before .before)) given
+      abbrev pub m38 : (before : In-loop) → (given : s49 .gives (m36 (before .before))) → Typed.Mo T53
+      m38 = λ before given. s49 .next (m36 (before .before)) given
 
-      abbrev pub m38 : (before : In-loop) → (given : s48 .gives (m35 (before .before))) → Typed.Mo T53
-      m38 = λ before given. s49 .next (m37 before given)
+      abbrev pub m39 : (before : In-loop) → (given : s49 .gives (m36 (before .before))) → Typed.Mo T54
+      m39 = λ before given. s50 .next (m38 before given)
 
       module _ (before· : In-loop) where
         pub record After-walk-arg·own : Type 0 where
-          pub given : s48 .gives (m35 (before· .before))
+          pub given : s49 .gives (m36 (before· .before))
 
       pub record After-walk-arg : Type 0 where
         pub before : In-loop
         pub walk-arg : After-walk-arg·own before
 
-      abbrev pub m39 : (before : After-walk-arg) → (given : s51 .gives (m38 (before .before) (before .walk-arg .given))) → Typed.Mo T55
-      m39 = λ before given. s51 .next (m38 (before .before) (before .walk-arg .given)) given
+      abbrev pub m40 : (before : After-walk-arg) → (given : s52 .gives (m39 (before .before) (before .walk-arg .given))) → Typed.Mo T56
+      m40 = λ before given. s52 .next (m39 (before .before) (before .walk-arg .given)) given
 
-      abbrev pub m40 : (before : After-walk-arg) → (given : s51 .gives (m38 (before .before) (before .walk-arg .given))) → Typed.Mo T56
-      m40 = λ before given. s52 .next (m39 before given)
+      abbrev pub m41 : (before : After-walk-arg) → (given : s52 .gives (m39 (before .before) (before .walk-arg .given))) → Typed.Mo T57
+      m41 = λ before given. s53 .next (m40 before given)
 
       module _ (before· : After-walk-arg) where
         pub record After-walk-arg2·own : Type 0 where
-          pub given : s51 .gives (m38 (before· .before) (before· .walk-arg .given))
+          pub given : s52 .gives (m39 (before· .before) (before· .walk-arg .given))
 
       pub record After-walk-arg2 : Type 0 where
         pub before : After-walk-arg
         pub walk-arg2 : After-walk-arg2·own before
 
-      abbrev pub m41 : (before : After-walk-arg2) → (given : s54 .gives (m40 (before .before) (before .walk-arg2 .given))) → Typed.Mo T58
-      m41 = λ before given. s54 .next (m40 (before .before) (before .walk-arg2 .given)) given
+      abbrev pub m42 : (before : After-walk-arg2) → (given : s55 .gives (m41 (before .before) (before .walk-arg2 .given))) → Typed.Mo T59
+      m42 = λ before given. s55 .next (m41 (before .before) (before .walk-arg2 .given)) given
 
-      abbrev pub m42 : (before : After-walk-arg2) → (given : s54 .gives (m40 (before .before) (before .walk-arg2 .given))) → Typed.Mo T59
-      m42 = λ before given. s55 .next (m41 before given)
+      abbrev pub m43 : (before : After-walk-arg2) → (given : s55 .gives (m41 (before .before) (before .walk-arg2 .given))) → Typed.Mo T60
+      m43 = λ before given. s56 .next (m42 before given)
 
       module _ (before· : After-walk-arg2) where
         pub record After-walk-arg3·own : Type 0 where
-          pub given : s54 .gives (m40 (before· .before) (before· .walk-arg2 .given))
+          pub given : s55 .gives (m41 (before· .before) (before· .walk-arg2 .given))
 
       pub record After-walk-arg3 : Type 0 where
         pub before : After-walk-arg2
         pub walk-arg3 : After-walk-arg3·own before
 
-      abbrev pub Need-walk-requires : Type 0
-      Need-walk-requires = (c : After-walk-arg3) → s56 .asks (m42 (c .before) (c .walk-arg3 .given))
+      abbrev pub m44 : (before : After-walk-arg3) → (given : s58 .gives (m43 (before .before) (before .walk-arg3 .given))) → Typed.Mo T62
+      m44 = λ before given. s58 .next (m43 (before .before) (before .walk-arg3 .given)) given
 
-      abbrev pub m43 : (before : After-walk-arg3) → (given : s56 .gives (m42 (before .before) (before .walk-arg3 .given))) → Typed.Mo T60
-      m43 = λ before given. s56 .next (m42 (before .before) (before .walk-arg3 .given)) given
+      abbrev pub m45 : (before : After-walk-arg3) → (given : s58 .gives (m43 (before .before) (before .walk-arg3 .given))) → Typed.Mo T63
+      m45 = λ before given. s59 .next (m44 before given)
 
       module _ (before· : After-walk-arg3) where
+        pub record After-walk-arg4·own : Type 0 where
+          pub given : s58 .gives (m43 (before· .before) (before· .walk-arg3 .given))
+
+      pub record After-walk-arg4 : Type 0 where
+        pub before : After-walk-arg3
+        pub walk-arg4 : After-walk-arg4·own before
+
+      abbrev pub Need-walk-requires : Type 0
+      Need-walk-requires = (c : After-walk-arg4) → s60 .asks (m45 (c .before) (c .walk-arg4 .given))
+
+      abbrev pub m46 : (before : After-walk-arg4) → (given : s60 .gives (m45 (before .before) (before .walk-arg4 .given))) → Typed.Mo T64
+      m46 = λ before given. s60 .next (m45 (before .before) (before .walk-arg4 .given)) given
+
+      module _ (before· : After-walk-arg4) where
         abbrev pub After-walk·own : Type 0
-        After-walk·own = Called.Called ps·5 r·5 (claims· .11) T59 (record { pos = 1; st = List.[]; d = 0; at = λ x. x }, (record { pos = 2; ty = Syntax.tyRef (Syntax.named 0) Syntax.imm (Memory.pointee (T.the-row .written)); ref = λ x. x }, (record { pos = 3; ty = Syntax.tyRef (Syntax.named 1) Syntax.imm (Syntax.tyInt Syntax.w16); ref = λ x. x }, (record { pos = 4; ty = Syntax.tyRef (Syntax.named 2) Syntax.imm (Syntax.tyInt Syntax.w16); ref = λ x. x }, (record { pos = 26; ty = Syntax.tyRef Syntax.erased Syntax.mut (Syntax.tyInt Syntax.w16); ref = λ x. x }, (record { pos = 28; ty = Syntax.tyRef Syntax.erased Syntax.mut (Syntax.tyInt Syntax.w16); ref = λ x. x }, (record { pos = 30; ty = Syntax.tyRef Syntax.erased Syntax.mut (Syntax.tyInt Syntax.w16); ref = λ x. x }, (Num.vAt 12 λ x. x, (Num.vAt 11 λ x. x, tt))))))))) (m42 (before· .before) (before· .walk-arg3 .given))
+        After-walk·own = Called.Called ps·5 r·5 (claims· .11) T63 (record { pos = 1; st = List.[]; d = 0; at = λ x. x }, (record { pos = 2; ty = Syntax.tyRef (Syntax.named 0) Syntax.imm (Memory.pointee (T.the-row .written)); ref = λ x. x }, (record { pos = 3; ty = Syntax.tyRef (Syntax.named 1) Syntax.imm (Syntax.tyInt Syntax.w16); ref = λ x. x }, (record { pos = 4; ty = Syntax.tyRef (Syntax.named 2) Syntax.imm (Syntax.tyInt Syntax.w16); ref = λ x. x }, (record { pos = 27; ty = Syntax.tyRef Syntax.erased Syntax.mut (Syntax.tyInt Syntax.w16); ref = λ x. x }, (record { pos = 29; ty = Syntax.tyRef Syntax.erased Syntax.mut (Syntax.tyInt Syntax.w16); ref = λ x. x }, (record { pos = 31; ty = Syntax.tyRef Syntax.erased Syntax.mut (Syntax.tyInt Syntax.w16); ref = λ x. x }, (record { pos = 33; ty = Syntax.tyRef Syntax.erased Syntax.mut (Syntax.tyInt Syntax.w16); ref = λ x. x }, (Num.vAt 13 λ x. x, (Num.vAt 12 λ x. x, tt)))))))))) (m45 (before· .before) (before· .walk-arg4 .given))
 
       pub record After-walk : Type 0 where
-        pub before : After-walk-arg3
+        pub before : After-walk-arg4
         pub walk : After-walk·own before
 
-      abbrev pub After-walk·gave : (c : After-walk) → s56 .gives (m42 (c .before .before) (c .before .walk-arg3 .given))
-      After-walk·gave = λ c. Called.given ps·5 r·5 (claims· .11) T59 (record { pos = 1; st = List.[]; d = 0; at = λ x. x }, (record { pos = 2; ty = Syntax.tyRef (Syntax.named 0) Syntax.imm (Memory.pointee (T.the-row .written)); ref = λ x. x }, (record { pos = 3; ty = Syntax.tyRef (Syntax.named 1) Syntax.imm (Syntax.tyInt Syntax.w16); ref = λ x. x }, (record { pos = 4; ty = Syntax.tyRef (Syntax.named 2) Syntax.imm (Syntax.tyInt Syntax.w16); ref = λ x. x }, (record { pos = 26; ty = Syntax.tyRef Syntax.erased Syntax.mut (Syntax.tyInt Syntax.w16); ref = λ x. x }, (record { pos = 28; ty = Syntax.tyRef Syntax.erased Syntax.mut (Syntax.tyInt Syntax.w16); ref = λ x. x }, (record { pos = 30; ty = Syntax.tyRef Syntax.erased Syntax.mut (Syntax.tyInt Syntax.w16); ref = λ x. x }, (Num.vAt 12 λ x. x, (Num.vAt 11 λ x. x, tt))))))))) (m42 (c .before .before) (c .before .walk-arg3 .given)) (c .walk)
+      abbrev pub After-walk·gave : (c : After-walk) → s60 .gives (m45 (c .before .before) (c .before .walk-arg4 .given))
+      After-walk·gave = λ c. Called.given ps·5 r·5 (claims· .11) T63 (record { pos = 1; st = List.[]; d = 0; at = λ x. x }, (record { pos = 2; ty = Syntax.tyRef (Syntax.named 0) Syntax.imm (Memory.pointee (T.the-row .written)); ref = λ x. x }, (record { pos = 3; ty = Syntax.tyRef (Syntax.named 1) Syntax.imm (Syntax.tyInt Syntax.w16); ref = λ x. x }, (record { pos = 4; ty = Syntax.tyRef (Syntax.named 2) Syntax.imm (Syntax.tyInt Syntax.w16); ref = λ x. x }, (record { pos = 27; ty = Syntax.tyRef Syntax.erased Syntax.mut (Syntax.tyInt Syntax.w16); ref = λ x. x }, (record { pos = 29; ty = Syntax.tyRef Syntax.erased Syntax.mut (Syntax.tyInt Syntax.w16); ref = λ x. x }, (record { pos = 31; ty = Syntax.tyRef Syntax.erased Syntax.mut (Syntax.tyInt Syntax.w16); ref = λ x. x }, (record { pos = 33; ty = Syntax.tyRef Syntax.erased Syntax.mut (Syntax.tyInt Syntax.w16); ref = λ x. x }, (Num.vAt 13 λ x. x, (Num.vAt 12 λ x. x, tt)))))))))) (m45 (c .before .before) (c .before .walk-arg4 .given)) (c .walk)
 
-      abbrev pub m44 : (before : After-walk-arg3) → (given : s56 .gives (m42 (before .before) (before .walk-arg3 .given))) → Typed.Mo T61
-      m44 = λ before given. s57 (m43 before given)
+      abbrev pub m47 : (before : After-walk-arg4) → (given : s60 .gives (m45 (before .before) (before .walk-arg4 .given))) → Typed.Mo T65
+      m47 = λ before given. s61 (m46 before given)
 
-      abbrev pub m45 : (before : After-walk-arg3) → (given : s56 .gives (m42 (before .before) (before .walk-arg3 .given))) → Typed.Mo T62
-      m45 = λ before given. s58 (m44 before given)
+      abbrev pub m48 : (before : After-walk-arg4) → (given : s60 .gives (m45 (before .before) (before .walk-arg4 .given))) → Typed.Mo T66
+      m48 = λ before given. s62 (m47 before given)
 
-      abbrev pub m46 : (before : After-walk) → (given : s60 .gives (m45 (before .before) (After-walk·gave before))) → Typed.Mo T64
-      m46 = λ before given. s60 .next (m45 (before .before) (After-walk·gave before)) given
+      abbrev pub m49 : (before : After-walk) → (given : s64 .gives (m48 (before .before) (After-walk·gave before))) → Typed.Mo T68
+      m49 = λ before given. s64 .next (m48 (before .before) (After-walk·gave before)) given
 
       module _ (before· : After-walk) where
         pub record After-commands2·own : Type 0 where
-          pub given : s60 .gives (m45 (before· .before) (After-walk·gave before·))
+          pub given : s64 .gives (m48 (before· .before) (After-walk·gave before·))
 
       pub record After-commands2 : Type 0 where
         pub before : After-walk
         pub commands2 : After-commands2·own before
 
-      abbrev pub m47 : (before : After-commands2) → (given : s61 .gives (m46 (before .before) (before .commands2 .given))) → Typed.Mo T65
-      m47 = λ before given. s61 .next (m46 (before .before) (before .commands2 .given)) given
+      abbrev pub m50 : (before : After-commands2) → (given : s65 .gives (m49 (before .before) (before .commands2 .given))) → Typed.Mo T69
+      m50 = λ before given. s65 .next (m49 (before .before) (before .commands2 .given)) given
 
       module _ (before· : After-commands2) where
-        pub record After-slice-known8·own : Type 0 where
-          pub given : s61 .gives (m46 (before· .before) (before· .commands2 .given))
-
-      pub record After-slice-known8 : Type 0 where
-        pub before : After-commands2
-        pub slice-known8 : After-slice-known8·own before
-
-      abbrev pub m48 : (before : After-slice-known8) → (given : s64 .gives (m47 (before .before) (before .slice-known8 .given))) → Typed.Mo T68
-      m48 = λ before given. s64 .next (m47 (before .before) (before .slice-known8 .given)) given
-
-      module _ (before· : After-slice-known8) where
-        pub record After-scratch3·own : Type 0 where
-          pub given : s64 .gives (m47 (before· .before) (before· .slice-known8 .given))
-
-      pub record After-scratch3 : Type 0 where
-        pub before : After-slice-known8
-        pub scratch3 : After-scratch3·own before
-
-      abbrev pub m49 : (before : After-scratch3) → (given : s65 .gives (m48 (before .before) (before .scratch3 .given))) → Typed.Mo T69
-      m49 = λ before given. s65 .next (m48 (before .before) (before .scratch3 .given)) given
-
-      module _ (before· : After-scratch3) where
         pub record After-slice-known9·own : Type 0 where
-          pub given : s65 .gives (m48 (before· .before) (before· .scratch3 .given))
+          pub given : s65 .gives (m49 (before· .before) (before· .commands2 .given))
 
       pub record After-slice-known9 : Type 0 where
-        pub before : After-scratch3
+        pub before : After-commands2
         pub slice-known9 : After-slice-known9·own before
 
-      abbrev pub m50 : (before : After-slice-known9) → (given : s68 .gives (m49 (before .before) (before .slice-known9 .given))) → Typed.Mo T72
-      m50 = λ before given. s68 .next (m49 (before .before) (before .slice-known9 .given)) given
+      abbrev pub m51 : (before : After-slice-known9) → (given : s68 .gives (m50 (before .before) (before .slice-known9 .given))) → Typed.Mo T72
+      m51 = λ before given. s68 .next (m50 (before .before) (before .slice-known9 .given)) given
 
       module _ (before· : After-slice-known9) where
-        pub record After-queue2·own : Type 0 where
-          pub given : s68 .gives (m49 (before· .before) (before· .slice-known9 .given))
+        pub record After-scratch3·own : Type 0 where
+          pub given : s68 .gives (m50 (before· .before) (before· .slice-known9 .given))
 
-      pub record After-queue2 : Type 0 where
+      pub record After-scratch3 : Type 0 where
         pub before : After-slice-known9
-        pub queue2 : After-queue2·own before
+        pub scratch3 : After-scratch3·own before
 
-      abbrev pub m51 : (before : After-queue2) → (given : s69 .gives (m50 (before .before) (before .queue2 .given))) → Typed.Mo T73
-      m51 = λ before given. s69 .next (m50 (before .before) (before .queue2 .given)) given
+      abbrev pub m52 : (before : After-scratch3) → (given : s69 .gives (m51 (before .before) (before .scratch3 .given))) → Typed.Mo T73
+      m52 = λ before given. s69 .next (m51 (before .before) (before .scratch3 .given)) given
 
-      abbrev pub m52 : (before : After-queue2) → (given : s69 .gives (m50 (before .before) (before .queue2 .given))) → Typed.Mo T75
-      m52 = λ before given. s71 (m51 before given)
-
-      module _ (before· : After-queue2) where
+      module _ (before· : After-scratch3) where
         pub record After-slice-known10·own : Type 0 where
-          pub given : s69 .gives (m50 (before· .before) (before· .queue2 .given))
+          pub given : s69 .gives (m51 (before· .before) (before· .scratch3 .given))
 
       pub record After-slice-known10 : Type 0 where
-        pub before : After-queue2
+        pub before : After-scratch3
         pub slice-known10 : After-slice-known10·own before
 
-      abbrev pub m53 : (before : After-slice-known10) → (given : s73 .gives (m52 (before .before) (before .slice-known10 .given))) → Typed.Mo T77
-      m53 = λ before given. s73 .next (m52 (before .before) (before .slice-known10 .given)) given
-
-      abbrev pub m54 : (before : After-slice-known10) → (given : s73 .gives (m52 (before .before) (before .slice-known10 .given))) → Typed.Mo T78
-      m54 = λ before given. s74 .next (m53 before given)
+      abbrev pub m53 : (before : After-slice-known10) → (given : s72 .gives (m52 (before .before) (before .slice-known10 .given))) → Typed.Mo T76
+      m53 = λ before given. s72 .next (m52 (before .before) (before .slice-known10 .given)) given
 
       module _ (before· : After-slice-known10) where
+        pub record After-queue2·own : Type 0 where
+          pub given : s72 .gives (m52 (before· .before) (before· .slice-known10 .given))
+
+      pub record After-queue2 : Type 0 where
+        pub before : After-slice-known10
+        pub queue2 : After-queue2·own before
+
+      abbrev pub m54 : (before : After-queue2) → (given : s73 .gives (m53 (before .before) (before .queue2 .given))) → Typed.Mo T77
+      m54 = λ before given. s73 .next (m53 (before .before) (before .queue2 .given)) given
+
+      module _ (before· : After-queue2) where
+        pub record After-slice-known11·own : Type 0 where
+          pub given : s73 .gives (m53 (before· .before) (before· .queue2 .given))
+
+      pub record After-slice-known11 : Type 0 where
+        pub before : After-queue2
+        pub slice-known11 : After-slice-known11·own before
+
+      abbrev pub m55 : (before : After-slice-known11) → (given : s76 .gives (m54 (before .before) (before .slice-known11 .given))) → Typed.Mo T80
+      m55 = λ before given. s76 .next (m54 (before .before) (before .slice-known11 .given)) given
+
+      module _ (before· : After-slice-known11) where
+        pub record After-tried·own : Type 0 where
+          pub given : s76 .gives (m54 (before· .before) (before· .slice-known11 .given))
+
+      pub record After-tried : Type 0 where
+        pub before : After-slice-known11
+        pub tried : After-tried·own before
+
+      abbrev pub m56 : (before : After-tried) → (given : s77 .gives (m55 (before .before) (before .tried .given))) → Typed.Mo T81
+      m56 = λ before given. s77 .next (m55 (before .before) (before .tried .given)) given
+
+      abbrev pub m57 : (before : After-tried) → (given : s77 .gives (m55 (before .before) (before .tried .given))) → Typed.Mo T83
+      m57 = λ before given. s79 (m56 before given)
+
+      module _ (before· : After-tried) where
+        pub record After-slice-known12·own : Type 0 where
+          pub given : s77 .gives (m55 (before· .before) (before· .tried .given))
+
+      pub record After-slice-known12 : Type 0 where
+        pub before : After-tried
+        pub slice-known12 : After-slice-known12·own before
+
+      abbrev pub m58 : (before : After-slice-known12) → (given : s81 .gives (m57 (before .before) (before .slice-known12 .given))) → Typed.Mo T85
+      m58 = λ before given. s81 .next (m57 (before .before) (before .slice-known12 .given)) given
+
+      abbrev pub m59 : (before : After-slice-known12) → (given : s81 .gives (m57 (before .before) (before .slice-known12 .given))) → Typed.Mo T86
+      m59 = λ before given. s82 .next (m58 before given)
+
+      module _ (before· : After-slice-known12) where
         pub record After-round-end-arg·own : Type 0 where
-          pub given : s73 .gives (m52 (before· .before) (before· .slice-known10 .given))
+          pub given : s81 .gives (m57 (before· .before) (before· .slice-known12 .given))
 
       pub record After-round-end-arg : Type 0 where
-        pub before : After-slice-known10
+        pub before : After-slice-known12
         pub round-end-arg : After-round-end-arg·own before
 
       abbrev pub Need-round-end-requires : Type 0
-      Need-round-end-requires = (c : After-round-end-arg) → s75 .asks (m54 (c .before) (c .round-end-arg .given))
+      Need-round-end-requires = (c : After-round-end-arg) → s83 .asks (m59 (c .before) (c .round-end-arg .given))
 
-      abbrev pub m55 : (before : After-round-end-arg) → (given : s75 .gives (m54 (before .before) (before .round-end-arg .given))) → Typed.Mo T79
-      m55 = λ before given. s75 .next (m54 (before .before) (before .round-end-arg .given)) given
+      abbrev pub m60 : (before : After-round-end-arg) → (given : s83 .gives (m59 (before .before) (before .round-end-arg .given))) → Typed.Mo T87
+      m60 = λ before given. s83 .next (m59 (before .before) (before .round-end-arg .given)) given
 
       module _ (before· : After-round-end-arg) where
         abbrev pub After-round-end·own : Type 0
-        After-round-end·own = Called.Called ps·6 r·6 (claims· .13) T78 (record { pos = 32; ty = Syntax.tyRef Syntax.erased Syntax.imm (Syntax.tyInt Syntax.w16); ref = λ x. x }, (Num.vAt 5 λ x. x, (Num.vAt 12 λ x. x, tt))) (m54 (before· .before) (before· .round-end-arg .given))
+        After-round-end·own = Called.Called ps·6 r·6 (claims· .13) T86 (record { pos = 35; ty = Syntax.tyRef Syntax.erased Syntax.imm (Syntax.tyInt Syntax.w16); ref = λ x. x }, (Num.vAt 5 λ x. x, (Num.vAt 13 λ x. x, tt))) (m59 (before· .before) (before· .round-end-arg .given))
 
       pub record After-round-end : Type 0 where
         pub before : After-round-end-arg
         pub round-end : After-round-end·own before
 
-      abbrev pub After-round-end·gave : (c : After-round-end) → s75 .gives (m54 (c .before .before) (c .before .round-end-arg .given))
-      After-round-end·gave = λ c. Called.given ps·6 r·6 (claims· .13) T78 (record { pos = 32; ty = Syntax.tyRef Syntax.erased Syntax.imm (Syntax.tyInt Syntax.w16); ref = λ x. x }, (Num.vAt 5 λ x. x, (Num.vAt 12 λ x. x, tt))) (m54 (c .before .before) (c .before .round-end-arg .given)) (c .round-end)
+      abbrev pub After-round-end·gave : (c : After-round-end) → s83 .gives (m59 (c .before .before) (c .before .round-end-arg .given))
+      After-round-end·gave = λ c. Called.given ps·6 r·6 (claims· .13) T86 (record { pos = 35; ty = Syntax.tyRef Syntax.erased Syntax.imm (Syntax.tyInt Syntax.w16); ref = λ x. x }, (Num.vAt 5 λ x. x, (Num.vAt 13 λ x. x, tt))) (m59 (c .before .before) (c .before .round-end-arg .given)) (c .round-end)
 
-      abbrev pub m56 : (before : After-round-end-arg) → (given : s75 .gives (m54 (before .before) (before .round-end-arg .given))) → Typed.Mo T80
-      m56 = λ before given. s76 (m55 before given)
+      abbrev pub m61 : (before : After-round-end-arg) → (given : s83 .gives (m59 (before .before) (before .round-end-arg .given))) → Typed.Mo T88
+      m61 = λ before given. s84 (m60 before given)
 
-      abbrev pub m57 : (before : After-round-end-arg) → (given : s75 .gives (m54 (before .before) (before .round-end-arg .given))) → Typed.Mo T82
-      m57 = λ before given. s78 (m56 before given)
+      abbrev pub m62 : (before : After-round-end-arg) → (given : s83 .gives (m59 (before .before) (before .round-end-arg .given))) → Typed.Mo T90
+      m62 = λ before given. s86 (m61 before given)
 
-      abbrev pub m58 : (before : After-round-end) → (given : s81 .gives (m57 (before .before) (After-round-end·gave before))) → Typed.Mo T85
-      m58 = λ before given. s81 .next (m57 (before .before) (After-round-end·gave before)) given
+      abbrev pub m63 : (before : After-round-end) → (given : s89 .gives (m62 (before .before) (After-round-end·gave before))) → Typed.Mo T93
+      m63 = λ before given. s89 .next (m62 (before .before) (After-round-end·gave before)) given
 
-      abbrev pub m59 : (before : After-round-end) → (given : s81 .gives (m57 (before .before) (After-round-end·gave before))) → Typed.Mo T86
-      m59 = λ before given. s82 .next (m58 before given)
+      abbrev pub m64 : (before : After-round-end) → (given : s89 .gives (m62 (before .before) (After-round-end·gave before))) → Typed.Mo T94
+      m64 = λ before given. s90 .next (m63 before given)
 
       module _ (before· : After-round-end) where
         pub record After-kept-arg·own : Type 0 where
-          pub given : s81 .gives (m57 (before· .before) (After-round-end·gave before·))
+          pub given : s89 .gives (m62 (before· .before) (After-round-end·gave before·))
 
       pub record After-kept-arg : Type 0 where
         pub before : After-round-end
         pub kept-arg : After-kept-arg·own before
 
-      abbrev pub m60 : (before : After-kept-arg) → (given : s84 .gives (m59 (before .before) (before .kept-arg .given))) → Typed.Mo T88
-      m60 = λ before given. s84 .next (m59 (before .before) (before .kept-arg .given)) given
+      abbrev pub m65 : (before : After-kept-arg) → (given : s92 .gives (m64 (before .before) (before .kept-arg .given))) → Typed.Mo T96
+      m65 = λ before given. s92 .next (m64 (before .before) (before .kept-arg .given)) given
 
-      abbrev pub m61 : (before : After-kept-arg) → (given : s84 .gives (m59 (before .before) (before .kept-arg .given))) → Typed.Mo T89
-      m61 = λ before given. s85 .next (m60 before given)
+      abbrev pub m66 : (before : After-kept-arg) → (given : s92 .gives (m64 (before .before) (before .kept-arg .given))) → Typed.Mo T97
+      m66 = λ before given. s93 .next (m65 before given)
 
       module _ (before· : After-kept-arg) where
         pub record After-kept-arg2·own : Type 0 where
-          pub given : s84 .gives (m59 (before· .before) (before· .kept-arg .given))
+          pub given : s92 .gives (m64 (before· .before) (before· .kept-arg .given))
 
       pub record After-kept-arg2 : Type 0 where
         pub before : After-kept-arg
         pub kept-arg2 : After-kept-arg2·own before
 
       abbrev pub Need-kept-requires : Type 0
-      Need-kept-requires = (c : After-kept-arg2) → s86 .asks (m61 (c .before) (c .kept-arg2 .given))
+      Need-kept-requires = (c : After-kept-arg2) → s94 .asks (m66 (c .before) (c .kept-arg2 .given))
 
-      abbrev pub m62 : (before : After-kept-arg2) → (given : s86 .gives (m61 (before .before) (before .kept-arg2 .given))) → Typed.Mo T90
-      m62 = λ before given. s86 .next (m61 (before .before) (before .kept-arg2 .given)) given
+      abbrev pub m67 : (before : After-kept-arg2) → (given : s94 .gives (m66 (before .before) (before .kept-arg2 .given))) → Typed.Mo T98
+      m67 = λ before given. s94 .next (m66 (before .before) (before .kept-arg2 .given)) given
 
       module _ (before· : After-kept-arg2) where
         abbrev pub After-kept·own : Type 0
-        After-kept·own = Called.Called ps·7 r·7 (claims· .15) T89 (record { pos = 34; ty = Syntax.tyRef Syntax.erased Syntax.imm (Syntax.tyInt Syntax.w16); ref = λ x. x }, (record { pos = 36; ty = Syntax.tyRef Syntax.erased Syntax.imm (Syntax.tyInt Syntax.w16); ref = λ x. x }, (Num.vFld 14 (List._∷_ (Syntax.field 0) List.[]) 0 λ x. Progress.struct .as-values x .0, (Num.vAt 12 λ x. x, tt)))) (m61 (before· .before) (before· .kept-arg2 .given))
+        After-kept·own = Called.Called ps·7 r·7 (claims· .15) T97 (record { pos = 37; ty = Syntax.tyRef Syntax.erased Syntax.imm (Syntax.tyInt Syntax.w16); ref = λ x. x }, (record { pos = 39; ty = Syntax.tyRef Syntax.erased Syntax.imm (Syntax.tyInt Syntax.w16); ref = λ x. x }, (Num.vFld 15 (List._∷_ (Syntax.field 0) List.[]) 0 λ x. Progress.struct .as-values x .0, (Num.vAt 13 λ x. x, tt)))) (m66 (before· .before) (before· .kept-arg2 .given))
 
       pub record After-kept : Type 0 where
         pub before : After-kept-arg2
         pub kept : After-kept·own before
 
-      abbrev pub After-kept·gave : (c : After-kept) → s86 .gives (m61 (c .before .before) (c .before .kept-arg2 .given))
-      After-kept·gave = λ c. Called.given ps·7 r·7 (claims· .15) T89 (record { pos = 34; ty = Syntax.tyRef Syntax.erased Syntax.imm (Syntax.tyInt Syntax.w16); ref = λ x. x }, (record { pos = 36; ty = Syntax.tyRef Syntax.erased Syntax.imm (Syntax.tyInt Syntax.w16); ref = λ x. x }, (Num.vFld 14 (List._∷_ (Syntax.field 0) List.[]) 0 λ x. Progress.struct .as-values x .0, (Num.vAt 12 λ x. x, tt)))) (m61 (c .before .before) (c .before .kept-arg2 .given)) (c .kept)
+      abbrev pub After-kept·gave : (c : After-kept) → s94 .gives (m66 (c .before .before) (c .before .kept-arg2 .given))
+      After-kept·gave = λ c. Called.given ps·7 r·7 (claims· .15) T97 (record { pos = 37; ty = Syntax.tyRef Syntax.erased Syntax.imm (Syntax.tyInt Syntax.w16); ref = λ x. x }, (record { pos = 39; ty = Syntax.tyRef Syntax.erased Syntax.imm (Syntax.tyInt Syntax.w16); ref = λ x. x }, (Num.vFld 15 (List._∷_ (Syntax.field 0) List.[]) 0 λ x. Progress.struct .as-values x .0, (Num.vAt 13 λ x. x, tt)))) (m66 (c .before .before) (c .before .kept-arg2 .given)) (c .kept)
 
-      abbrev pub m63 : (before : After-kept-arg2) → (given : s86 .gives (m61 (before .before) (before .kept-arg2 .given))) → Typed.Mo T91
-      m63 = λ before given. s87 (m62 before given)
+      abbrev pub m68 : (before : After-kept-arg2) → (given : s94 .gives (m66 (before .before) (before .kept-arg2 .given))) → Typed.Mo T99
+      m68 = λ before given. s95 (m67 before given)
 
-      abbrev pub m64 : (before : After-kept-arg2) → (given : s86 .gives (m61 (before .before) (before .kept-arg2 .given))) → Typed.Mo T92
-      m64 = λ before given. s88 (m63 before given)
+      abbrev pub m69 : (before : After-kept-arg2) → (given : s94 .gives (m66 (before .before) (before .kept-arg2 .given))) → Typed.Mo T100
+      m69 = λ before given. s96 (m68 before given)
 
-      abbrev pub m65 : (before : After-kept-arg2) → (given : s86 .gives (m61 (before .before) (before .kept-arg2 .given))) → Typed.Mo T94
-      m65 = λ before given. s90 (m64 before given)
+      abbrev pub m70 : (before : After-kept-arg2) → (given : s94 .gives (m66 (before .before) (before .kept-arg2 .given))) → Typed.Mo T102
+      m70 = λ before given. s98 (m69 before given)
 
-      abbrev pub m66 : (before : After-kept-arg2) → (given : s86 .gives (m61 (before .before) (before .kept-arg2 .given))) → Typed.Mo T97
-      m66 = λ before given. s93 (m65 before given)
+      abbrev pub m71 : (before : After-kept-arg2) → (given : s94 .gives (m66 (before .before) (before .kept-arg2 .given))) → Typed.Mo T105
+      m71 = λ before given. s101 (m70 before given)
 
-      abbrev pub m67 : (before : After-kept) → (given : s96 .gives (m66 (before .before) (After-kept·gave before))) → Typed.Mo T100
-      m67 = λ before given. s96 .next (m66 (before .before) (After-kept·gave before)) given
+      abbrev pub m72 : (before : After-kept) → (given : s104 .gives (m71 (before .before) (After-kept·gave before))) → Typed.Mo T108
+      m72 = λ before given. s104 .next (m71 (before .before) (After-kept·gave before)) given
 
-      abbrev pub m68 : (before : After-kept) → (given : s96 .gives (m66 (before .before) (After-kept·gave before))) → Typed.Mo T101
-      m68 = λ before given. s97 .next (m67 before given)
+      abbrev pub m73 : (before : After-kept) → (given : s104 .gives (m71 (before .before) (After-kept·gave before))) → Typed.Mo T109
+      m73 = λ before given. s105 .next (m72 before given)
 
       module _ (before· : After-kept) where
         pub record After-settle-arg·own : Type 0 where
-          pub given : s96 .gives (m66 (before· .before) (After-kept·gave before·))
+          pub given : s104 .gives (m71 (before· .before) (After-kept·gave before·))
 
       pub record After-settle-arg : Type 0 where
         pub before : After-kept
         pub settle-arg : After-settle-arg·own before
 
-      abbrev pub m69 : (before : After-settle-arg) → (given : s99 .gives (m68 (before .before) (before .settle-arg .given))) → Typed.Mo T103
-      m69 = λ before given. s99 .next (m68 (before .before) (before .settle-arg .given)) given
+      abbrev pub m74 : (before : After-settle-arg) → (given : s107 .gives (m73 (before .before) (before .settle-arg .given))) → Typed.Mo T111
+      m74 = λ before given. s107 .next (m73 (before .before) (before .settle-arg .given)) given
 
-      abbrev pub m70 : (before : After-settle-arg) → (given : s99 .gives (m68 (before .before) (before .settle-arg .given))) → Typed.Mo T104
-      m70 = λ before given. s100 .next (m69 before given)
+      abbrev pub m75 : (before : After-settle-arg) → (given : s107 .gives (m73 (before .before) (before .settle-arg .given))) → Typed.Mo T112
+      m75 = λ before given. s108 .next (m74 before given)
 
       module _ (before· : After-settle-arg) where
         pub record After-settle-arg2·own : Type 0 where
-          pub given : s99 .gives (m68 (before· .before) (before· .settle-arg .given))
+          pub given : s107 .gives (m73 (before· .before) (before· .settle-arg .given))
 
       pub record After-settle-arg2 : Type 0 where
         pub before : After-settle-arg
         pub settle-arg2 : After-settle-arg2·own before
 
-      abbrev pub m71 : (before : After-settle-arg2) → (given : s102 .gives (m70 (before .before) (before .settle-arg2 .given))) → Typed.Mo T106
-      m71 = λ before given. s102 .next (m70 (before .before) (before .settle-arg2 .given)) given
+      abbrev pub m76 : (before : After-settle-arg2) → (given : s110 .gives (m75 (before .before) (before .settle-arg2 .given))) → Typed.Mo T114
+      m76 = λ before given. s110 .next (m75 (before .before) (before .settle-arg2 .given)) given
 
-      abbrev pub m72 : (before : After-settle-arg2) → (given : s102 .gives (m70 (before .before) (before .settle-arg2 .given))) → Typed.Mo T107
-      m72 = λ before given. s103 .next (m71 before given)
+      abbrev pub m77 : (before : After-settle-arg2) → (given : s110 .gives (m75 (before .before) (before .settle-arg2 .given))) → Typed.Mo T115
+      m77 = λ before given. s111 .next (m76 before given)
 
       module _ (before· : After-settle-arg2) where
         pub record After-settle-arg3·own : Type 0 where
-          pub given : s102 .gives (m70 (before· .before) (before· .settle-arg2 .given))
+          pub given : s110 .gives (m75 (before· .before) (before· .settle-arg2 .given))
 
       pub record After-settle-arg3 : Type 0 where
         pub before : After-settle-arg2
         pub settle-arg3 : After-settle-arg3·own before
 
       abbrev pub Need-settle-requires : Type 0
-      Need-settle-requires = (c : After-settle-arg3) → s104 .asks (m72 (c .before) (c .settle-arg3 .given))
+      Need-settle-requires = (c : After-settle-arg3) → s112 .asks (m77 (c .before) (c .settle-arg3 .given))
 
-      abbrev pub m73 : (before : After-settle-arg3) → (given : s104 .gives (m72 (before .before) (before .settle-arg3 .given))) → Typed.Mo T108
-      m73 = λ before given. s104 .next (m72 (before .before) (before .settle-arg3 .given)) given
+      abbrev pub m78 : (before : After-settle-arg3) → (given : s112 .gives (m77 (before .before) (before .settle-arg3 .given))) → Typed.Mo T116
+      m78 = λ before given. s112 .next (m77 (before .before) (before .settle-arg3 .given)) given
 
       module _ (before· : After-settle-arg3) where
         abbrev pub After-settle·own : Type 0
-        After-settle·own = Called.Called ps·8 r·8 (claims· .17) T107 (record { pos = 1; st = List.[]; d = 0; at = λ x. x }, (record { pos = 2; ty = Syntax.tyRef (Syntax.named 0) Syntax.imm (Memory.pointee (T.the-row .written)); ref = λ x. x }, (record { pos = 39; ty = Syntax.tyRef Syntax.erased Syntax.mut (Syntax.tyInt Syntax.w16); ref = λ x. x }, (record { pos = 41; ty = Syntax.tyRef Syntax.erased Syntax.mut (Syntax.tyInt Syntax.w16); ref = λ x. x }, (record { pos = 43; ty = Syntax.tyRef Syntax.erased Syntax.imm (Syntax.tyInt Syntax.w16); ref = λ x. x }, (Num.vAt 11 λ x. x, (Num.vFld 14 (List._∷_ (Syntax.field 0) List.[]) 0 λ x. Progress.struct .as-values x .0, tt))))))) (m72 (before· .before) (before· .settle-arg3 .given))
+        After-settle·own = Called.Called ps·8 r·8 (claims· .17) T115 (record { pos = 1; st = List.[]; d = 0; at = λ x. x }, (record { pos = 2; ty = Syntax.tyRef (Syntax.named 0) Syntax.imm (Memory.pointee (T.the-row .written)); ref = λ x. x }, (record { pos = 42; ty = Syntax.tyRef Syntax.erased Syntax.mut (Syntax.tyInt Syntax.w16); ref = λ x. x }, (record { pos = 44; ty = Syntax.tyRef Syntax.erased Syntax.mut (Syntax.tyInt Syntax.w16); ref = λ x. x }, (record { pos = 46; ty = Syntax.tyRef Syntax.erased Syntax.imm (Syntax.tyInt Syntax.w16); ref = λ x. x }, (Num.vAt 12 λ x. x, (Num.vFld 15 (List._∷_ (Syntax.field 0) List.[]) 0 λ x. Progress.struct .as-values x .0, tt))))))) (m77 (before· .before) (before· .settle-arg3 .given))
 
       pub record After-settle : Type 0 where
         pub before : After-settle-arg3
         pub settle : After-settle·own before
 
-      abbrev pub After-settle·gave : (c : After-settle) → s104 .gives (m72 (c .before .before) (c .before .settle-arg3 .given))
-      After-settle·gave = λ c. Called.given ps·8 r·8 (claims· .17) T107 (record { pos = 1; st = List.[]; d = 0; at = λ x. x }, (record { pos = 2; ty = Syntax.tyRef (Syntax.named 0) Syntax.imm (Memory.pointee (T.the-row .written)); ref = λ x. x }, (record { pos = 39; ty = Syntax.tyRef Syntax.erased Syntax.mut (Syntax.tyInt Syntax.w16); ref = λ x. x }, (record { pos = 41; ty = Syntax.tyRef Syntax.erased Syntax.mut (Syntax.tyInt Syntax.w16); ref = λ x. x }, (record { pos = 43; ty = Syntax.tyRef Syntax.erased Syntax.imm (Syntax.tyInt Syntax.w16); ref = λ x. x }, (Num.vAt 11 λ x. x, (Num.vFld 14 (List._∷_ (Syntax.field 0) List.[]) 0 λ x. Progress.struct .as-values x .0, tt))))))) (m72 (c .before .before) (c .before .settle-arg3 .given)) (c .settle)
+      abbrev pub After-settle·gave : (c : After-settle) → s112 .gives (m77 (c .before .before) (c .before .settle-arg3 .given))
+      After-settle·gave = λ c. Called.given ps·8 r·8 (claims· .17) T115 (record { pos = 1; st = List.[]; d = 0; at = λ x. x }, (record { pos = 2; ty = Syntax.tyRef (Syntax.named 0) Syntax.imm (Memory.pointee (T.the-row .written)); ref = λ x. x }, (record { pos = 42; ty = Syntax.tyRef Syntax.erased Syntax.mut (Syntax.tyInt Syntax.w16); ref = λ x. x }, (record { pos = 44; ty = Syntax.tyRef Syntax.erased Syntax.mut (Syntax.tyInt Syntax.w16); ref = λ x. x }, (record { pos = 46; ty = Syntax.tyRef Syntax.erased Syntax.imm (Syntax.tyInt Syntax.w16); ref = λ x. x }, (Num.vAt 12 λ x. x, (Num.vFld 15 (List._∷_ (Syntax.field 0) List.[]) 0 λ x. Progress.struct .as-values x .0, tt))))))) (m77 (c .before .before) (c .before .settle-arg3 .given)) (c .settle)
 
-      abbrev pub m74 : (before : After-settle-arg3) → (given : s104 .gives (m72 (before .before) (before .settle-arg3 .given))) → Typed.Mo T109
-      m74 = λ before given. s105 (m73 before given)
+      abbrev pub m79 : (before : After-settle-arg3) → (given : s112 .gives (m77 (before .before) (before .settle-arg3 .given))) → Typed.Mo T117
+      m79 = λ before given. s113 (m78 before given)
 
-      abbrev pub m75 : (before : After-settle-arg3) → (given : s104 .gives (m72 (before .before) (before .settle-arg3 .given))) → Typed.Mo T110
-      m75 = λ before given. s106 (m74 before given)
+      abbrev pub m80 : (before : After-settle-arg3) → (given : s112 .gives (m77 (before .before) (before .settle-arg3 .given))) → Typed.Mo T118
+      m80 = λ before given. s114 (m79 before given)
 
-      abbrev pub m76 : (before : After-settle-arg3) → (given : s104 .gives (m72 (before .before) (before .settle-arg3 .given))) → Typed.Mo T111
-      m76 = λ before given. s107 (m75 before given)
+      abbrev pub m81 : (before : After-settle-arg3) → (given : s112 .gives (m77 (before .before) (before .settle-arg3 .given))) → Typed.Mo T119
+      m81 = λ before given. s115 (m80 before given)
 
-      abbrev pub m77 : (before : After-settle) → (given : s109 .gives (m76 (before .before) (After-settle·gave before))) → Typed.Mo T113
-      m77 = λ before given. s109 .next (m76 (before .before) (After-settle·gave before)) given
+      abbrev pub m82 : (before : After-settle) → (given : s117 .gives (m81 (before .before) (After-settle·gave before))) → Typed.Mo T121
+      m82 = λ before given. s117 .next (m81 (before .before) (After-settle·gave before)) given
 
       module _ (before· : After-settle) where
         pub record After-commands3·own : Type 0 where
-          pub given : s109 .gives (m76 (before· .before) (After-settle·gave before·))
+          pub given : s117 .gives (m81 (before· .before) (After-settle·gave before·))
 
       pub record After-commands3 : Type 0 where
         pub before : After-settle
         pub commands3 : After-commands3·own before
 
-      abbrev pub m78 : (before : After-commands3) → (given : s110 .gives (m77 (before .before) (before .commands3 .given))) → Typed.Mo T114
-      m78 = λ before given. s110 .next (m77 (before .before) (before .commands3 .given)) given
+      abbrev pub m83 : (before : After-commands3) → (given : s118 .gives (m82 (before .before) (before .commands3 .given))) → Typed.Mo T122
+      m83 = λ before given. s118 .next (m82 (before .before) (before .commands3 .given)) given
 
       module _ (before· : After-commands3) where
-        pub record After-slice-known11·own : Type 0 where
-          pub given : s110 .gives (m77 (before· .before) (before· .commands3 .given))
+        pub record After-slice-known13·own : Type 0 where
+          pub given : s118 .gives (m82 (before· .before) (before· .commands3 .given))
 
-      pub record After-slice-known11 : Type 0 where
+      pub record After-slice-known13 : Type 0 where
         pub before : After-commands3
-        pub slice-known11 : After-slice-known11·own before
+        pub slice-known13 : After-slice-known13·own before
 
-      abbrev pub m79 : (before : After-slice-known11) → (given : s113 .gives (m78 (before .before) (before .slice-known11 .given))) → Typed.Mo T117
-      m79 = λ before given. s113 .next (m78 (before .before) (before .slice-known11 .given)) given
+      abbrev pub m84 : (before : After-slice-known13) → (given : s121 .gives (m83 (before .before) (before .slice-known13 .given))) → Typed.Mo T125
+      m84 = λ before given. s121 .next (m83 (before .before) (before .slice-known13 .given)) given
 
-      module _ (before· : After-slice-known11) where
+      module _ (before· : After-slice-known13) where
         pub record After-scratch4·own : Type 0 where
-          pub given : s113 .gives (m78 (before· .before) (before· .slice-known11 .given))
+          pub given : s121 .gives (m83 (before· .before) (before· .slice-known13 .given))
 
       pub record After-scratch4 : Type 0 where
-        pub before : After-slice-known11
+        pub before : After-slice-known13
         pub scratch4 : After-scratch4·own before
 
-      abbrev pub m80 : (before : After-scratch4) → (given : s114 .gives (m79 (before .before) (before .scratch4 .given))) → Typed.Mo T118
-      m80 = λ before given. s114 .next (m79 (before .before) (before .scratch4 .given)) given
+      abbrev pub m85 : (before : After-scratch4) → (given : s122 .gives (m84 (before .before) (before .scratch4 .given))) → Typed.Mo T126
+      m85 = λ before given. s122 .next (m84 (before .before) (before .scratch4 .given)) given
 
-      abbrev pub m81 : (before : After-scratch4) → (given : s114 .gives (m79 (before .before) (before .scratch4 .given))) → Typed.Mo T121
-      m81 = λ before given. s117 (m80 before given)
+      abbrev pub m86 : (before : After-scratch4) → (given : s122 .gives (m84 (before .before) (before .scratch4 .given))) → Typed.Mo T129
+      m86 = λ before given. s125 (m85 before given)
 
       module _ (before· : After-scratch4) where
-        pub record After-slice-known12·own : Type 0 where
-          pub given : s114 .gives (m79 (before· .before) (before· .scratch4 .given))
+        pub record After-slice-known14·own : Type 0 where
+          pub given : s122 .gives (m84 (before· .before) (before· .scratch4 .given))
 
-      pub record After-slice-known12 : Type 0 where
+      pub record After-slice-known14 : Type 0 where
         pub before : After-scratch4
-        pub slice-known12 : After-slice-known12·own before
+        pub slice-known14 : After-slice-known14·own before
 
       abbrev pub Need-add-count : Type 0
-      Need-add-count = (c : After-slice-known12) → s119 .asks (m81 (c .before) (c .slice-known12 .given))
+      Need-add-count = (c : After-slice-known14) → s127 .asks (m86 (c .before) (c .slice-known14 .given))
 
-      abbrev pub m82 : (before : After-scratch4) → (given : s114 .gives (m79 (before .before) (before .scratch4 .given))) → Typed.Mo T123
-      m82 = λ before given. s119 .next (m81 before given)
+      abbrev pub m87 : (before : After-scratch4) → (given : s122 .gives (m84 (before .before) (before .scratch4 .given))) → Typed.Mo T131
+      m87 = λ before given. s127 .next (m86 before given)
 
       abbrev pub Need-loop-less : Type 0
-      Need-loop-less = (c : After-slice-known12) → Nat._<_ (μ·0 (Row.get 1 (T44 .locals) (m31 (c .before .before .before .before .before .before .before .before .before .before .before .before .before .before .before .before .before .before .before .before .before .before .before .before .before .before) (c .before .before .before .before .before .before .before .before .before .before .before .before .before .before .before .before .before .before .before .before .before .before .before .before .before .slice-known7 .given))) (Row.get 2 (T44 .locals) (m31 (c .before .before .before .before .before .before .before .before .before .before .before .before .before .before .before .before .before .before .before .before .before .before .before .before .before .before) (c .before .before .before .before .before .before .before .before .before .before .before .before .before .before .before .before .before .before .before .before .before .before .before .before .before .slice-known7 .given)) .now) (Row.get 3 (T44 .locals) (m31 (c .before .before .before .before .before .before .before .before .before .before .before .before .before .before .before .before .before .before .before .before .before .before .before .before .before .before) (c .before .before .before .before .before .before .before .before .before .before .before .before .before .before .before .before .before .before .before .before .before .before .before .before .before .slice-known7 .given)) .now) (Row.get 4 (T44 .locals) (m31 (c .before .before .before .before .before .before .before .before .before .before .before .before .before .before .before .before .before .before .before .before .before .before .before .before .before .before) (c .before .before .before .before .before .before .before .before .before .before .before .before .before .before .before .before .before .before .before .before .before .before .before .before .before .slice-known7 .given)) .now) (Row.get 5 (T44 .locals) (m31 (c .before .before .before .before .before .before .before .before .before .before .before .before .before .before .before .before .before .before .before .before .before .before .before .before .before .before) (c .before .before .before .before .before .before .before .before .before .before .before .before .before .before .before .before .before .before .before .before .before .before .before .before .before .slice-known7 .given))) (Row.get 6 (T44 .locals) (m31 (c .before .before .before .before .before .before .before .before .before .before .before .before .before .before .before .before .before .before .before .before .before .before .before .before .before .before) (c .before .before .before .before .before .before .before .before .before .before .before .before .before .before .before .before .before .before .before .before .before .before .before .before .before .slice-known7 .given)) .now) (Row.get 7 (T44 .locals) (m31 (c .before .before .before .before .before .before .before .before .before .before .before .before .before .before .before .before .before .before .before .before .before .before .before .before .before .before) (c .before .before .before .before .before .before .before .before .before .before .before .before .before .before .before .before .before .before .before .before .before .before .before .before .before .slice-known7 .given)) .now) (Row.get 8 (T44 .locals) (m31 (c .before .before .before .before .before .before .before .before .before .before .before .before .before .before .before .before .before .before .before .before .before .before .before .before .before .before) (c .before .before .before .before .before .before .before .before .before .before .before .before .before .before .before .before .before .before .before .before .before .before .before .before .before .slice-known7 .given)) .now) (Row.get 10 (T44 .locals) (m31 (c .before .before .before .before .before .before .before .before .before .before .before .before .before .before .before .before .before .before .before .before .before .before .before .before .before .before) (c .before .before .before .before .before .before .before .before .before .before .before .before .before .before .before .before .before .before .before .before .before .before .before .before .before .slice-known7 .given))) (Row.get 11 (T44 .locals) (m31 (c .before .before .before .before .before .before .before .before .before .before .before .before .before .before .before .before .before .before .before .before .before .before .before .before .before .before) (c .before .before .before .before .before .before .before .before .before .before .before .before .before .before .before .before .before .before .before .before .before .before .before .before .before .slice-known7 .given))) (Row.get 12 (T44 .locals) (m31 (c .before .before .before .before .before .before .before .before .before .before .before .before .before .before .before .before .before .before .before .before .before .before .before .before .before .before) (c .before .before .before .before .before .before .before .before .before .before .before .before .before .before .before .before .before .before .before .before .before .before .before .before .before .slice-known7 .given))) (Row.get 13 (T44 .locals) (m31 (c .before .before .before .before .before .before .before .before .before .before .before .before .before .before .before .before .before .before .before .before .before .before .before .before .before .before) (c .before .before .before .before .before .before .before .before .before .before .before .before .before .before .before .before .before .before .before .before .before .before .before .before .before .slice-known7 .given))) (Row.get 6 (T44 .locals) (m82 (c .before) (c .slice-known12 .given)) .now) (Row.get 7 (T44 .locals) (m82 (c .before) (c .slice-known12 .given)) .now) (Row.get 8 (T44 .locals) (m82 (c .before) (c .slice-known12 .given)) .now) (Row.get 10 (T44 .locals) (m82 (c .before) (c .slice-known12 .given))) (Row.get 11 (T44 .locals) (m82 (c .before) (c .slice-known12 .given))) (Row.get 12 (T44 .locals) (m82 (c .before) (c .slice-known12 .given))) (Row.get 13 (T44 .locals) (m82 (c .before) (c .slice-known12 .given)))) (μ·0 (Row.get 1 (T44 .locals) (m31 (c .before .before .before .before .before .before .before .before .before .before .before .before .before .before .before .before .before .before .before .before .before .before .before .before .before .before) (c .before .before .before .before .before .before .before .before .before .before .before .before .before .before .before .before .before .before .before .before .before .before .before .before .before .slice-known7 .given))) (Row.get 2 (T44 .locals) (m31 (c .before .before .before .before .before .before .before .before .before .before .before .before .before .before .before .before .before .before .before .before .before .before .before .before .before .before) (c .before .before .before .before .before .before .before .before .before .before .before .before .before .before .before .before .before .before .before .before .before .before .before .before .before .slice-known7 .given)) .now) (Row.get 3 (T44 .locals) (m31 (c .before .before .before .before .before .before .before .before .before .before .before .before .before .before .before .before .before .before .before .before .before .before .before .before .before .before) (c .before .before .before .before .before .before .before .before .before .before .before .before .before .before .before .before .before .before .before .before .before .before .before .before .before .slice-known7 .given)) .now) (Row.get 4 (T44 .locals) (m31 (c .before .before .before .before .before .before .before .before .before .before .before .before .before .before .before .before .before .before .before .before .before .before .before .before .before .before) (c .before .before .before .before .before .before .before .before .before .before .before .before .before .before .before .before .before .before .before .before .before .before .before .before .before .slice-known7 .given)) .now) (Row.get 5 (T44 .locals) (m31 (c .before .before .before .before .before .before .before .before .before .before .before .before .before .before .before .before .before .before .before .before .before .before .before .before .before .before) (c .before .before .before .before .before .before .before .before .before .before .before .before .before .before .before .before .before .before .before .before .before .before .before .before .before .slice-known7 .given))) (Row.get 6 (T44 .locals) (m31 (c .before .before .before .before .before .before .before .before .before .before .before .before .before .before .before .before .before .before .before .before .before .before .before .before .before .before) (c .before .before .before .before .before .before .before .before .before .before .before .before .before .before .before .before .before .before .before .before .before .before .before .before .before .slice-known7 .given)) .now) (Row.get 7 (T44 .locals) (m31 (c .before .before .before .before .before .before .before .before .before .before .before .before .before .before .before .before .before .before .before .before .before .before .before .before .before .before) (c .before .before .before .before .before .before .before .before .before .before .before .before .before .before .before .before .before .before .before .before .before .before .before .before .before .slice-known7 .given)) .now) (Row.get 8 (T44 .locals) (m31 (c .before .before .before .before .before .before .before .before .before .before .before .before .before .before .before .before .before .before .before .before .before .before .before .before .before .before) (c .before .before .before .before .before .before .before .before .before .before .before .before .before .before .before .before .before .before .before .before .before .before .before .before .before .slice-known7 .given)) .now) (Row.get 10 (T44 .locals) (m31 (c .before .before .before .before .before .before .before .before .before .before .before .before .before .before .before .before .before .before .before .before .before .before .before .before .before .before) (c .before .before .before .before .before .before .before .before .before .before .before .before .before .before .before .before .before .before .before .before .before .before .before .before .before .slice-known7 .given))) (Row.get 11 (T44 .locals) (m31 (c .before .before .before .before .before .before .before .before .before .before .before .before .before .before .before .before .before .before .before .before .before .before .before .before .before .before) (c .before .before .before .before .before .before .before .before .before .before .before .before .before .before .before .before .before .before .before .before .before .before .before .before .before .slice-known7 .given))) (Row.get 12 (T44 .locals) (m31 (c .before .before .before .before .before .before .before .before .before .before .before .before .before .before .before .before .before .before .before .before .before .before .before .before .before .before) (c .before .before .before .before .before .before .before .before .before .before .before .before .before .before .before .before .before .before .before .before .before .before .before .before .before .slice-known7 .given))) (Row.get 13 (T44 .locals) (m31 (c .before .before .before .before .before .before .before .before .before .before .before .before .before .before .before .before .before .before .before .before .before .before .before .before .before .before) (c .before .before .before .before .before .before .before .before .before .before .before .before .before .before .before .before .before .before .before .before .before .before .before .before .before .slice-known7 .given))) (c .before .before .before .before .before .before .before .before .before .before .before .before .before .before .before .before .before .before .before .before .before .before .before .before .loop .commands) (c .before .before .before .before .before .before .before .before .before .before .before .before .before .before .before .before .before .before .before .before .before .before .before .before .loop .scratch) (c .before .before .before .before .before .before .before .before .before .before .before .before .before .before .before .before .before .before .before .before .before .before .before .before .loop .queue) (c .before .before .before .before .before .before .before .before .before .before .before .before .before .before .before .before .before .before .before .before .before .before .before .before .loop .end) (c .before .before .before .before .before .before .before .before .before .before .before .before .before .before .before .before .before .before .before .before .before .before .before .before .loop .q) (c .before .before .before .before .before .before .before .before .before .before .before .before .before .before .before .before .before .before .before .before .before .before .before .before .loop .h) (c .before .before .before .before .before .before .before .before .before .before .before .before .before .before .before .before .before .before .before .before .before .before .before .before .loop .count))
+      Need-loop-less = (c : After-slice-known14) → Nat._<_ (μ·0 (Row.get 1 (T45 .locals) (m32 (c .before .before .before .before .before .before .before .before .before .before .before .before .before .before .before .before .before .before .before .before .before .before .before .before .before .before .before .before .before) (c .before .before .before .before .before .before .before .before .before .before .before .before .before .before .before .before .before .before .before .before .before .before .before .before .before .before .before .before .slice-known8 .given))) (Row.get 2 (T45 .locals) (m32 (c .before .before .before .before .before .before .before .before .before .before .before .before .before .before .before .before .before .before .before .before .before .before .before .before .before .before .before .before .before) (c .before .before .before .before .before .before .before .before .before .before .before .before .before .before .before .before .before .before .before .before .before .before .before .before .before .before .before .before .slice-known8 .given)) .now) (Row.get 3 (T45 .locals) (m32 (c .before .before .before .before .before .before .before .before .before .before .before .before .before .before .before .before .before .before .before .before .before .before .before .before .before .before .before .before .before) (c .before .before .before .before .before .before .before .before .before .before .before .before .before .before .before .before .before .before .before .before .before .before .before .before .before .before .before .before .slice-known8 .given)) .now) (Row.get 4 (T45 .locals) (m32 (c .before .before .before .before .before .before .before .before .before .before .before .before .before .before .before .before .before .before .before .before .before .before .before .before .before .before .before .before .before) (c .before .before .before .before .before .before .before .before .before .before .before .before .before .before .before .before .before .before .before .before .before .before .before .before .before .before .before .before .slice-known8 .given)) .now) (Row.get 5 (T45 .locals) (m32 (c .before .before .before .before .before .before .before .before .before .before .before .before .before .before .before .before .before .before .before .before .before .before .before .before .before .before .before .before .before) (c .before .before .before .before .before .before .before .before .before .before .before .before .before .before .before .before .before .before .before .before .before .before .before .before .before .before .before .before .slice-known8 .given))) (Row.get 6 (T45 .locals) (m32 (c .before .before .before .before .before .before .before .before .before .before .before .before .before .before .before .before .before .before .before .before .before .before .before .before .before .before .before .before .before) (c .before .before .before .before .before .before .before .before .before .before .before .before .before .before .before .before .before .before .before .before .before .before .before .before .before .before .before .before .slice-known8 .given)) .now) (Row.get 7 (T45 .locals) (m32 (c .before .before .before .before .before .before .before .before .before .before .before .before .before .before .before .before .before .before .before .before .before .before .before .before .before .before .before .before .before) (c .before .before .before .before .before .before .before .before .before .before .before .before .before .before .before .before .before .before .before .before .before .before .before .before .before .before .before .before .slice-known8 .given)) .now) (Row.get 8 (T45 .locals) (m32 (c .before .before .before .before .before .before .before .before .before .before .before .before .before .before .before .before .before .before .before .before .before .before .before .before .before .before .before .before .before) (c .before .before .before .before .before .before .before .before .before .before .before .before .before .before .before .before .before .before .before .before .before .before .before .before .before .before .before .before .slice-known8 .given)) .now) (Row.get 9 (T45 .locals) (m32 (c .before .before .before .before .before .before .before .before .before .before .before .before .before .before .before .before .before .before .before .before .before .before .before .before .before .before .before .before .before) (c .before .before .before .before .before .before .before .before .before .before .before .before .before .before .before .before .before .before .before .before .before .before .before .before .before .before .before .before .slice-known8 .given)) .now) (Row.get 11 (T45 .locals) (m32 (c .before .before .before .before .before .before .before .before .before .before .before .before .before .before .before .before .before .before .before .before .before .before .before .before .before .before .before .before .before) (c .before .before .before .before .before .before .before .before .before .before .before .before .before .before .before .before .before .before .before .before .before .before .before .before .before .before .before .before .slice-known8 .given))) (Row.get 12 (T45 .locals) (m32 (c .before .before .before .before .before .before .before .before .before .before .before .before .before .before .before .before .before .before .before .before .before .before .before .before .before .before .before .before .before) (c .before .before .before .before .before .before .before .before .before .before .before .before .before .before .before .before .before .before .before .before .before .before .before .before .before .before .before .before .slice-known8 .given))) (Row.get 13 (T45 .locals) (m32 (c .before .before .before .before .before .before .before .before .before .before .before .before .before .before .before .before .before .before .before .before .before .before .before .before .before .before .before .before .before) (c .before .before .before .before .before .before .before .before .before .before .before .before .before .before .before .before .before .before .before .before .before .before .before .before .before .before .before .before .slice-known8 .given))) (Row.get 14 (T45 .locals) (m32 (c .before .before .before .before .before .before .before .before .before .before .before .before .before .before .before .before .before .before .before .before .before .before .before .before .before .before .before .before .before) (c .before .before .before .before .before .before .before .before .before .before .before .before .before .before .before .before .before .before .before .before .before .before .before .before .before .before .before .before .slice-known8 .given))) (Row.get 6 (T45 .locals) (m87 (c .before) (c .slice-known14 .given)) .now) (Row.get 7 (T45 .locals) (m87 (c .before) (c .slice-known14 .given)) .now) (Row.get 8 (T45 .locals) (m87 (c .before) (c .slice-known14 .given)) .now) (Row.get 9 (T45 .locals) (m87 (c .before) (c .slice-known14 .given)) .now) (Row.get 11 (T45 .locals) (m87 (c .before) (c .slice-known14 .given))) (Row.get 12 (T45 .locals) (m87 (c .before) (c .slice-known14 .given))) (Row.get 13 (T45 .locals) (m87 (c .before) (c .slice-known14 .given))) (Row.get 14 (T45 .locals) (m87 (c .before) (c .slice-known14 .given)))) (μ·0 (Row.get 1 (T45 .locals) (m32 (c .before .before .before .before .before .before .before .before .before .before .before .before .before .before .before .before .before .before .before .before .before .before .before .before .before .before .before .before .before) (c .before .before .before .before .before .before .before .before .before .before .before .before .before .before .before .before .before .before .before .before .before .before .before .before .before .before .before .before .slice-known8 .given))) (Row.get 2 (T45 .locals) (m32 (c .before .before .before .before .before .before .before .before .before .before .before .before .before .before .before .before .before .before .before .before .before .before .before .before .before .before .before .before .before) (c .before .before .before .before .before .before .before .before .before .before .before .before .before .before .before .before .before .before .before .before .before .before .before .before .before .before .before .before .slice-known8 .given)) .now) (Row.get 3 (T45 .locals) (m32 (c .before .before .before .before .before .before .before .before .before .before .before .before .before .before .before .before .before .before .before .before .before .before .before .before .before .before .before .before .before) (c .before .before .before .before .before .before .before .before .before .before .before .before .before .before .before .before .before .before .before .before .before .before .before .before .before .before .before .before .slice-known8 .given)) .now) (Row.get 4 (T45 .locals) (m32 (c .before .before .before .before .before .before .before .before .before .before .before .before .before .before .before .before .before .before .before .before .before .before .before .before .before .before .before .before .before) (c .before .before .before .before .before .before .before .before .before .before .before .before .before .before .before .before .before .before .before .before .before .before .before .before .before .before .before .before .slice-known8 .given)) .now) (Row.get 5 (T45 .locals) (m32 (c .before .before .before .before .before .before .before .before .before .before .before .before .before .before .before .before .before .before .before .before .before .before .before .before .before .before .before .before .before) (c .before .before .before .before .before .before .before .before .before .before .before .before .before .before .before .before .before .before .before .before .before .before .before .before .before .before .before .before .slice-known8 .given))) (Row.get 6 (T45 .locals) (m32 (c .before .before .before .before .before .before .before .before .before .before .before .before .before .before .before .before .before .before .before .before .before .before .before .before .before .before .before .before .before) (c .before .before .before .before .before .before .before .before .before .before .before .before .before .before .before .before .before .before .before .before .before .before .before .before .before .before .before .before .slice-known8 .given)) .now) (Row.get 7 (T45 .locals) (m32 (c .before .before .before .before .before .before .before .before .before .before .before .before .before .before .before .before .before .before .before .before .before .before .before .before .before .before .before .before .before) (c .before .before .before .before .before .before .before .before .before .before .before .before .before .before .before .before .before .before .before .before .before .before .before .before .before .before .before .before .slice-known8 .given)) .now) (Row.get 8 (T45 .locals) (m32 (c .before .before .before .before .before .before .before .before .before .before .before .before .before .before .before .before .before .before .before .before .before .before .before .before .before .before .before .before .before) (c .before .before .before .before .before .before .before .before .before .before .before .before .before .before .before .before .before .before .before .before .before .before .before .before .before .before .before .before .slice-known8 .given)) .now) (Row.get 9 (T45 .locals) (m32 (c .before .before .before .before .before .before .before .before .before .before .before .before .before .before .before .before .before .before .before .before .before .before .before .before .before .before .before .before .before) (c .before .before .before .before .before .before .before .before .before .before .before .before .before .before .before .before .before .before .before .before .before .before .before .before .before .before .before .before .slice-known8 .given)) .now) (Row.get 11 (T45 .locals) (m32 (c .before .before .before .before .before .before .before .before .before .before .before .before .before .before .before .before .before .before .before .before .before .before .before .before .before .before .before .before .before) (c .before .before .before .before .before .before .before .before .before .before .before .before .before .before .before .before .before .before .before .before .before .before .before .before .before .before .before .before .slice-known8 .given))) (Row.get 12 (T45 .locals) (m32 (c .before .before .before .before .before .before .before .before .before .before .before .before .before .before .before .before .before .before .before .before .before .before .before .before .before .before .before .before .before) (c .before .before .before .before .before .before .before .before .before .before .before .before .before .before .before .before .before .before .before .before .before .before .before .before .before .before .before .before .slice-known8 .given))) (Row.get 13 (T45 .locals) (m32 (c .before .before .before .before .before .before .before .before .before .before .before .before .before .before .before .before .before .before .before .before .before .before .before .before .before .before .before .before .before) (c .before .before .before .before .before .before .before .before .before .before .before .before .before .before .before .before .before .before .before .before .before .before .before .before .before .before .before .before .slice-known8 .given))) (Row.get 14 (T45 .locals) (m32 (c .before .before .before .before .before .before .before .before .before .before .before .before .before .before .before .before .before .before .before .before .before .before .before .before .before .before .before .before .before) (c .before .before .before .before .before .before .before .before .before .before .before .before .before .before .before .before .before .before .before .before .before .before .before .before .before .before .before .before .slice-known8 .given))) (c .before .before .before .before .before .before .before .before .before .before .before .before .before .before .before .before .before .before .before .before .before .before .before .before .before .before .before .loop .commands) (c .before .before .before .before .before .before .before .before .before .before .before .before .before .before .before .before .before .before .before .before .before .before .before .before .before .before .before .loop .scratch) (c .before .before .before .before .before .before .before .before .before .before .before .before .before .before .before .before .before .before .before .before .before .before .before .before .before .before .before .loop .queue) (c .before .before .before .before .before .before .before .before .before .before .before .before .before .before .before .before .before .before .before .before .before .before .before .before .before .before .before .loop .tried) (c .before .before .before .before .before .before .before .before .before .before .before .before .before .before .before .before .before .before .before .before .before .before .before .before .before .before .before .loop .end) (c .before .before .before .before .before .before .before .before .before .before .before .before .before .before .before .before .before .before .before .before .before .before .before .before .before .before .before .loop .q) (c .before .before .before .before .before .before .before .before .before .before .before .before .before .before .before .before .before .before .before .before .before .before .before .before .before .before .before .loop .h) (c .before .before .before .before .before .before .before .before .before .before .before .before .before .before .before .before .before .before .before .before .before .before .before .before .before .before .before .loop .count))
 
       abbrev pub Need-loop-again : Type 0
-      Need-loop-again = (c : After-slice-known12) → Inv·0 (Row.get 1 (T44 .locals) (m31 (c .before .before .before .before .before .before .before .before .before .before .before .before .before .before .before .before .before .before .before .before .before .before .before .before .before .before) (c .before .before .before .before .before .before .before .before .before .before .before .before .before .before .before .before .before .before .before .before .before .before .before .before .before .slice-known7 .given))) (Row.get 2 (T44 .locals) (m31 (c .before .before .before .before .before .before .before .before .before .before .before .before .before .before .before .before .before .before .before .before .before .before .before .before .before .before) (c .before .before .before .before .before .before .before .before .before .before .before .before .before .before .before .before .before .before .before .before .before .before .before .before .before .slice-known7 .given)) .now) (Row.get 3 (T44 .locals) (m31 (c .before .before .before .before .before .before .before .before .before .before .before .before .before .before .before .before .before .before .before .before .before .before .before .before .before .before) (c .before .before .before .before .before .before .before .before .before .before .before .before .before .before .before .before .before .before .before .before .before .before .before .before .before .slice-known7 .given)) .now) (Row.get 4 (T44 .locals) (m31 (c .before .before .before .before .before .before .before .before .before .before .before .before .before .before .before .before .before .before .before .before .before .before .before .before .before .before) (c .before .before .before .before .before .before .before .before .before .before .before .before .before .before .before .before .before .before .before .before .before .before .before .before .before .slice-known7 .given)) .now) (Row.get 5 (T44 .locals) (m31 (c .before .before .before .before .before .before .before .before .before .before .before .before .before .before .before .before .before .before .before .before .before .before .before .before .before .before) (c .before .before .before .before .before .before .before .before .before .before .before .before .before .before .before .before .before .before .before .before .before .before .before .before .before .slice-known7 .given))) (Row.get 6 (T44 .locals) (m31 (c .before .before .before .before .before .before .before .before .before .before .before .before .before .before .before .before .before .before .before .before .before .before .before .before .before .before) (c .before .before .before .before .before .before .before .before .before .before .before .before .before .before .before .before .before .before .before .before .before .before .before .before .before .slice-known7 .given)) .now) (Row.get 7 (T44 .locals) (m31 (c .before .before .before .before .before .before .before .before .before .before .before .before .before .before .before .before .before .before .before .before .before .before .before .before .before .before) (c .before .before .before .before .before .before .before .before .before .before .before .before .before .before .before .before .before .before .before .before .before .before .before .before .before .slice-known7 .given)) .now) (Row.get 8 (T44 .locals) (m31 (c .before .before .before .before .before .before .before .before .before .before .before .before .before .before .before .before .before .before .before .before .before .before .before .before .before .before) (c .before .before .before .before .before .before .before .before .before .before .before .before .before .before .before .before .before .before .before .before .before .before .before .before .before .slice-known7 .given)) .now) (Row.get 10 (T44 .locals) (m31 (c .before .before .before .before .before .before .before .before .before .before .before .before .before .before .before .before .before .before .before .before .before .before .before .before .before .before) (c .before .before .before .before .before .before .before .before .before .before .before .before .before .before .before .before .before .before .before .before .before .before .before .before .before .slice-known7 .given))) (Row.get 11 (T44 .locals) (m31 (c .before .before .before .before .before .before .before .before .before .before .before .before .before .before .before .before .before .before .before .before .before .before .before .before .before .before) (c .before .before .before .before .before .before .before .before .before .before .before .before .before .before .before .before .before .before .before .before .before .before .before .before .before .slice-known7 .given))) (Row.get 12 (T44 .locals) (m31 (c .before .before .before .before .before .before .before .before .before .before .before .before .before .before .before .before .before .before .before .before .before .before .before .before .before .before) (c .before .before .before .before .before .before .before .before .before .before .before .before .before .before .before .before .before .before .before .before .before .before .before .before .before .slice-known7 .given))) (Row.get 13 (T44 .locals) (m31 (c .before .before .before .before .before .before .before .before .before .before .before .before .before .before .before .before .before .before .before .before .before .before .before .before .before .before) (c .before .before .before .before .before .before .before .before .before .before .before .before .before .before .before .before .before .before .before .before .before .before .before .before .before .slice-known7 .given))) (Row.get 6 (T44 .locals) (m82 (c .before) (c .slice-known12 .given)) .now) (Row.get 7 (T44 .locals) (m82 (c .before) (c .slice-known12 .given)) .now) (Row.get 8 (T44 .locals) (m82 (c .before) (c .slice-known12 .given)) .now) (Row.get 10 (T44 .locals) (m82 (c .before) (c .slice-known12 .given))) (Row.get 11 (T44 .locals) (m82 (c .before) (c .slice-known12 .given))) (Row.get 12 (T44 .locals) (m82 (c .before) (c .slice-known12 .given))) (Row.get 13 (T44 .locals) (m82 (c .before) (c .slice-known12 .given)))
+      Need-loop-again = (c : After-slice-known14) → Inv·0 (Row.get 1 (T45 .locals) (m32 (c .before .before .before .before .before .before .before .before .before .before .before .before .before .before .before .before .before .before .before .before .before .before .before .before .before .before .before .before .before) (c .before .before .before .before .before .before .before .before .before .before .before .before .before .before .before .before .before .before .before .before .before .before .before .before .before .before .before .before .slice-known8 .given))) (Row.get 2 (T45 .locals) (m32 (c .before .before .before .before .before .before .before .before .before .before .before .before .before .before .before .before .before .before .before .before .before .before .before .before .before .before .before .before .before) (c .before .before .before .before .before .before .before .before .before .before .before .before .before .before .before .before .before .before .before .before .before .before .before .before .before .before .before .before .slice-known8 .given)) .now) (Row.get 3 (T45 .locals) (m32 (c .before .before .before .before .before .before .before .before .before .before .before .before .before .before .before .before .before .before .before .before .before .before .before .before .before .before .before .before .before) (c .before .before .before .before .before .before .before .before .before .before .before .before .before .before .before .before .before .before .before .before .before .before .before .before .before .before .before .before .slice-known8 .given)) .now) (Row.get 4 (T45 .locals) (m32 (c .before .before .before .before .before .before .before .before .before .before .before .before .before .before .before .before .before .before .before .before .before .before .before .before .before .before .before .before .before) (c .before .before .before .before .before .before .before .before .before .before .before .before .before .before .before .before .before .before .before .before .before .before .before .before .before .before .before .before .slice-known8 .given)) .now) (Row.get 5 (T45 .locals) (m32 (c .before .before .before .before .before .before .before .before .before .before .before .before .before .before .before .before .before .before .before .before .before .before .before .before .before .before .before .before .before) (c .before .before .before .before .before .before .before .before .before .before .before .before .before .before .before .before .before .before .before .before .before .before .before .before .before .before .before .before .slice-known8 .given))) (Row.get 6 (T45 .locals) (m32 (c .before .before .before .before .before .before .before .before .before .before .before .before .before .before .before .before .before .before .before .before .before .before .before .before .before .before .before .before .before) (c .before .before .before .before .before .before .before .before .before .before .before .before .before .before .before .before .before .before .before .before .before .before .before .before .before .before .before .before .slice-known8 .given)) .now) (Row.get 7 (T45 .locals) (m32 (c .before .before .before .before .before .before .before .before .before .before .before .before .before .before .before .before .before .before .before .before .before .before .before .before .before .before .before .before .before) (c .before .before .before .before .before .before .before .before .before .before .before .before .before .before .before .before .before .before .before .before .before .before .before .before .before .before .before .before .slice-known8 .given)) .now) (Row.get 8 (T45 .locals) (m32 (c .before .before .before .before .before .before .before .before .before .before .before .before .before .before .before .before .before .before .before .before .before .before .before .before .before .before .before .before .before) (c .before .before .before .before .before .before .before .before .before .before .before .before .before .before .before .before .before .before .before .before .before .before .before .before .before .before .before .before .slice-known8 .given)) .now) (Row.get 9 (T45 .locals) (m32 (c .before .before .before .before .before .before .before .before .before .before .before .before .before .before .before .before .before .before .before .before .before .before .before .before .before .before .before .before .before) (c .before .before .before .before .before .before .before .before .before .before .before .before .before .before .before .before .before .before .before .before .before .before .before .before .before .before .before .before .slice-known8 .given)) .now) (Row.get 11 (T45 .locals) (m32 (c .before .before .before .before .before .before .before .before .before .before .before .before .before .before .before .before .before .before .before .before .before .before .before .before .before .before .before .before .before) (c .before .before .before .before .before .before .before .before .before .before .before .before .before .before .before .before .before .before .before .before .before .before .before .before .before .before .before .before .slice-known8 .given))) (Row.get 12 (T45 .locals) (m32 (c .before .before .before .before .before .before .before .before .before .before .before .before .before .before .before .before .before .before .before .before .before .before .before .before .before .before .before .before .before) (c .before .before .before .before .before .before .before .before .before .before .before .before .before .before .before .before .before .before .before .before .before .before .before .before .before .before .before .before .slice-known8 .given))) (Row.get 13 (T45 .locals) (m32 (c .before .before .before .before .before .before .before .before .before .before .before .before .before .before .before .before .before .before .before .before .before .before .before .before .before .before .before .before .before) (c .before .before .before .before .before .before .before .before .before .before .before .before .before .before .before .before .before .before .before .before .before .before .before .before .before .before .before .before .slice-known8 .given))) (Row.get 14 (T45 .locals) (m32 (c .before .before .before .before .before .before .before .before .before .before .before .before .before .before .before .before .before .before .before .before .before .before .before .before .before .before .before .before .before) (c .before .before .before .before .before .before .before .before .before .before .before .before .before .before .before .before .before .before .before .before .before .before .before .before .before .before .before .before .slice-known8 .given))) (Row.get 6 (T45 .locals) (m87 (c .before) (c .slice-known14 .given)) .now) (Row.get 7 (T45 .locals) (m87 (c .before) (c .slice-known14 .given)) .now) (Row.get 8 (T45 .locals) (m87 (c .before) (c .slice-known14 .given)) .now) (Row.get 9 (T45 .locals) (m87 (c .before) (c .slice-known14 .given)) .now) (Row.get 11 (T45 .locals) (m87 (c .before) (c .slice-known14 .given))) (Row.get 12 (T45 .locals) (m87 (c .before) (c .slice-known14 .given))) (Row.get 13 (T45 .locals) (m87 (c .before) (c .slice-known14 .given))) (Row.get 14 (T45 .locals) (m87 (c .before) (c .slice-known14 .given)))
 
-      abbrev pub m83 : (before : After-loop) → (given : s121 .gives (m36 (before .before))) → Typed.Mo T125
-      m83 = λ before given. s121 .next (m36 (before .before)) given
+      abbrev pub m88 : (before : After-loop) → (given : s129 .gives (m37 (before .before))) → Typed.Mo T133
+      m88 = λ before given. s129 .next (m37 (before .before)) given
 
-      abbrev pub m84 : (before : After-loop) → (given : s121 .gives (m36 (before .before))) → Typed.Mo T126
-      m84 = λ before given. s122 .next (m83 before given)
+      abbrev pub m89 : (before : After-loop) → (given : s129 .gives (m37 (before .before))) → Typed.Mo T134
+      m89 = λ before given. s130 .next (m88 before given)
 
       module _ (before· : After-loop) where
         pub record After-finish-arg·own : Type 0 where
-          pub given : s121 .gives (m36 (before· .before))
+          pub given : s129 .gives (m37 (before· .before))
 
       pub record After-finish-arg : Type 0 where
         pub before : After-loop
         pub finish-arg : After-finish-arg·own before
 
-      abbrev pub m85 : (before : After-finish-arg) → (given : s124 .gives (m84 (before .before) (before .finish-arg .given))) → Typed.Mo T128
-      m85 = λ before given. s124 .next (m84 (before .before) (before .finish-arg .given)) given
+      abbrev pub m90 : (before : After-finish-arg) → (given : s132 .gives (m89 (before .before) (before .finish-arg .given))) → Typed.Mo T136
+      m90 = λ before given. s132 .next (m89 (before .before) (before .finish-arg .given)) given
 
-      abbrev pub m86 : (before : After-finish-arg) → (given : s124 .gives (m84 (before .before) (before .finish-arg .given))) → Typed.Mo T129
-      m86 = λ before given. s125 .next (m85 before given)
+      abbrev pub m91 : (before : After-finish-arg) → (given : s132 .gives (m89 (before .before) (before .finish-arg .given))) → Typed.Mo T137
+      m91 = λ before given. s133 .next (m90 before given)
 
       module _ (before· : After-finish-arg) where
         pub record After-finish-arg2·own : Type 0 where
-          pub given : s124 .gives (m84 (before· .before) (before· .finish-arg .given))
+          pub given : s132 .gives (m89 (before· .before) (before· .finish-arg .given))
 
       pub record After-finish-arg2 : Type 0 where
         pub before : After-finish-arg
         pub finish-arg2 : After-finish-arg2·own before
 
       abbrev pub Need-finish-requires : Type 0
-      Need-finish-requires = (c : After-finish-arg2) → s126 .asks (m86 (c .before) (c .finish-arg2 .given))
+      Need-finish-requires = (c : After-finish-arg2) → s134 .asks (m91 (c .before) (c .finish-arg2 .given))
 
-      abbrev pub m87 : (before : After-finish-arg2) → (given : s126 .gives (m86 (before .before) (before .finish-arg2 .given))) → Typed.Mo T130
-      m87 = λ before given. s126 .next (m86 (before .before) (before .finish-arg2 .given)) given
+      abbrev pub m92 : (before : After-finish-arg2) → (given : s134 .gives (m91 (before .before) (before .finish-arg2 .given))) → Typed.Mo T138
+      m92 = λ before given. s134 .next (m91 (before .before) (before .finish-arg2 .given)) given
 
       module _ (before· : After-finish-arg2) where
         abbrev pub After-finish·own : Type 0
-        After-finish·own = Called.Called ps·9 r·9 (claims· .19) T129 (Num.vFld 1 (List._∷_ (Syntax.field 0) List.[]) 0 λ x. Size.struct .as-values x .0, (Num.vAt 10 λ x. x, (Num.vAt 13 λ x. x, (record { pos = 45; ty = Syntax.tyRef Syntax.erased Syntax.mut (Syntax.tyInt Syntax.w16); ref = λ x. x }, (record { pos = 47; ty = Syntax.tyRef Syntax.erased Syntax.mut (Syntax.tyInt Syntax.w16); ref = λ x. x }, tt))))) (m86 (before· .before) (before· .finish-arg2 .given))
+        After-finish·own = Called.Called ps·9 r·9 (claims· .19) T137 (Num.vFld 1 (List._∷_ (Syntax.field 0) List.[]) 0 λ x. Size.struct .as-values x .0, (Num.vAt 11 λ x. x, (Num.vAt 14 λ x. x, (record { pos = 48; ty = Syntax.tyRef Syntax.erased Syntax.mut (Syntax.tyInt Syntax.w16); ref = λ x. x }, (record { pos = 50; ty = Syntax.tyRef Syntax.erased Syntax.mut (Syntax.tyInt Syntax.w16); ref = λ x. x }, tt))))) (m91 (before· .before) (before· .finish-arg2 .given))
 
       pub record After-finish : Type 0 where
         pub before : After-finish-arg2
         pub finish : After-finish·own before
 
-      abbrev pub After-finish·gave : (c : After-finish) → s126 .gives (m86 (c .before .before) (c .before .finish-arg2 .given))
-      After-finish·gave = λ c. Called.given ps·9 r·9 (claims· .19) T129 (Num.vFld 1 (List._∷_ (Syntax.field 0) List.[]) 0 λ x. Size.struct .as-values x .0, (Num.vAt 10 λ x. x, (Num.vAt 13 λ x. x, (record { pos = 45; ty = Syntax.tyRef Syntax.erased Syntax.mut (Syntax.tyInt Syntax.w16); ref = λ x. x }, (record { pos = 47; ty = Syntax.tyRef Syntax.erased Syntax.mut (Syntax.tyInt Syntax.w16); ref = λ x. x }, tt))))) (m86 (c .before .before) (c .before .finish-arg2 .given)) (c .finish)
+      abbrev pub After-finish·gave : (c : After-finish) → s134 .gives (m91 (c .before .before) (c .before .finish-arg2 .given))
+      After-finish·gave = λ c. Called.given ps·9 r·9 (claims· .19) T137 (Num.vFld 1 (List._∷_ (Syntax.field 0) List.[]) 0 λ x. Size.struct .as-values x .0, (Num.vAt 11 λ x. x, (Num.vAt 14 λ x. x, (record { pos = 48; ty = Syntax.tyRef Syntax.erased Syntax.mut (Syntax.tyInt Syntax.w16); ref = λ x. x }, (record { pos = 50; ty = Syntax.tyRef Syntax.erased Syntax.mut (Syntax.tyInt Syntax.w16); ref = λ x. x }, tt))))) (m91 (c .before .before) (c .before .finish-arg2 .given)) (c .finish)
 
-      abbrev pub m88 : (before : After-finish-arg2) → (given : s126 .gives (m86 (before .before) (before .finish-arg2 .given))) → Typed.Mo T131
-      m88 = λ before given. s127 (m87 before given)
+      abbrev pub m93 : (before : After-finish-arg2) → (given : s134 .gives (m91 (before .before) (before .finish-arg2 .given))) → Typed.Mo T139
+      m93 = λ before given. s135 (m92 before given)
 
-      abbrev pub m89 : (before : After-finish-arg2) → (given : s126 .gives (m86 (before .before) (before .finish-arg2 .given))) → Typed.Mo T132
-      m89 = λ before given. s128 (m88 before given)
+      abbrev pub m94 : (before : After-finish-arg2) → (given : s134 .gives (m91 (before .before) (before .finish-arg2 .given))) → Typed.Mo T140
+      m94 = λ before given. s136 (m93 before given)
 
-      abbrev pub m90 : (before : After-finish-arg2) → (given : s126 .gives (m86 (before .before) (before .finish-arg2 .given))) → Typed.Mo T133
-      m90 = λ before given. s129 (m89 before given)
+      abbrev pub m95 : (before : After-finish-arg2) → (given : s134 .gives (m91 (before .before) (before .finish-arg2 .given))) → Typed.Mo T141
+      m95 = λ before given. s137 (m94 before given)
 
-      abbrev pub m91 : (before : After-finish-arg2) → (given : s126 .gives (m86 (before .before) (before .finish-arg2 .given))) → Typed.Mo T134
-      m91 = λ before given. s130 (m90 before given)
+      abbrev pub m96 : (before : After-finish-arg2) → (given : s134 .gives (m91 (before .before) (before .finish-arg2 .given))) → Typed.Mo T142
+      m96 = λ before given. s138 (m95 before given)
 
-      abbrev pub m92 : (before : After-finish-arg2) → (given : s126 .gives (m86 (before .before) (before .finish-arg2 .given))) → Typed.Mo T135
-      m92 = λ before given. s131 (m91 before given)
+      abbrev pub m97 : (before : After-finish-arg2) → (given : s134 .gives (m91 (before .before) (before .finish-arg2 .given))) → Typed.Mo T143
+      m97 = λ before given. s139 (m96 before given)
 
-      abbrev pub m93 : (before : After-finish) → (given : s133 .gives (m92 (before .before) (After-finish·gave before))) → Typed.Mo T137
-      m93 = λ before given. s133 .next (m92 (before .before) (After-finish·gave before)) given
+      abbrev pub m98 : (before : After-finish) → (given : s141 .gives (m97 (before .before) (After-finish·gave before))) → Typed.Mo T145
+      m98 = λ before given. s141 .next (m97 (before .before) (After-finish·gave before)) given
 
       module _ (before· : After-finish) where
         pub record After-commands4·own : Type 0 where
-          pub given : s133 .gives (m92 (before· .before) (After-finish·gave before·))
+          pub given : s141 .gives (m97 (before· .before) (After-finish·gave before·))
 
       pub record After-commands4 : Type 0 where
         pub before : After-finish
         pub commands4 : After-commands4·own before
 
-      abbrev pub m94 : (before : After-commands4) → (given : s134 .gives (m93 (before .before) (before .commands4 .given))) → Typed.Mo T138
-      m94 = λ before given. s134 .next (m93 (before .before) (before .commands4 .given)) given
+      abbrev pub m99 : (before : After-commands4) → (given : s142 .gives (m98 (before .before) (before .commands4 .given))) → Typed.Mo T146
+      m99 = λ before given. s142 .next (m98 (before .before) (before .commands4 .given)) given
 
       module _ (before· : After-commands4) where
-        pub record After-slice-known13·own : Type 0 where
-          pub given : s134 .gives (m93 (before· .before) (before· .commands4 .given))
+        pub record After-slice-known15·own : Type 0 where
+          pub given : s142 .gives (m98 (before· .before) (before· .commands4 .given))
 
-      pub record After-slice-known13 : Type 0 where
+      pub record After-slice-known15 : Type 0 where
         pub before : After-commands4
-        pub slice-known13 : After-slice-known13·own before
+        pub slice-known15 : After-slice-known15·own before
 
-      abbrev pub m95 : (before : After-slice-known13) → (given : s137 .gives (m94 (before .before) (before .slice-known13 .given))) → Typed.Mo T141
-      m95 = λ before given. s137 .next (m94 (before .before) (before .slice-known13 .given)) given
+      abbrev pub m100 : (before : After-slice-known15) → (given : s145 .gives (m99 (before .before) (before .slice-known15 .given))) → Typed.Mo T149
+      m100 = λ before given. s145 .next (m99 (before .before) (before .slice-known15 .given)) given
 
-      module _ (before· : After-slice-known13) where
+      module _ (before· : After-slice-known15) where
         pub record After-scratch5·own : Type 0 where
-          pub given : s137 .gives (m94 (before· .before) (before· .slice-known13 .given))
+          pub given : s145 .gives (m99 (before· .before) (before· .slice-known15 .given))
 
       pub record After-scratch5 : Type 0 where
-        pub before : After-slice-known13
+        pub before : After-slice-known15
         pub scratch5 : After-scratch5·own before
 
-      abbrev pub m96 : (before : After-scratch5) → (given : s138 .gives (m95 (before .before) (before .scratch5 .given))) → Typed.Mo T142
-      m96 = λ before given. s138 .next (m95 (before .before) (before .scratch5 .given)) given
+      abbrev pub m101 : (before : After-scratch5) → (given : s146 .gives (m100 (before .before) (before .scratch5 .given))) → Typed.Mo T150
+      m101 = λ before given. s146 .next (m100 (before .before) (before .scratch5 .given)) given
 
-      abbrev pub m97 : (before : After-scratch5) → (given : s138 .gives (m95 (before .before) (before .scratch5 .given))) → Typed.Mo T144
-      m97 = λ before given. s140 (m96 before given)
+      abbrev pub m102 : (before : After-scratch5) → (given : s146 .gives (m100 (before .before) (before .scratch5 .given))) → Typed.Mo T152
+      m102 = λ before given. s148 (m101 before given)
 
       module _ (before· : After-scratch5) where
-        pub record After-slice-known14·own : Type 0 where
-          pub given : s138 .gives (m95 (before· .before) (before· .scratch5 .given))
+        pub record After-slice-known16·own : Type 0 where
+          pub given : s146 .gives (m100 (before· .before) (before· .scratch5 .given))
 
-      pub record After-slice-known14 : Type 0 where
+      pub record After-slice-known16 : Type 0 where
         pub before : After-scratch5
-        pub slice-known14 : After-slice-known14·own before
+        pub slice-known16 : After-slice-known16·own before
 
       abbrev pub Need-same-length : Type 0
-      Need-same-length = (c : After-slice-known14) → MutSlice.SameLen (Row.get 6 (T144 .locals) (m97 (c .before) (c .slice-known14 .given))) (dens (c .before .before .before .before .before .before .before .before .before .before .before .before .before .before .before .before .before .before .before .before .before .before .before .before .before .before .before .before .before .before .before .κs) (c .before .before .before .before .before .before .before .before .before .before .before .before .before .before .before .before .before .before .before .before .before .before .before .before .before .before .before .before .before .before .before .args) .1 .1 .1 .1 .1 .0)
+      Need-same-length = (c : After-slice-known16) → MutSlice.SameLen (Row.get 6 (T152 .locals) (m102 (c .before) (c .slice-known16 .given))) (dens (c .before .before .before .before .before .before .before .before .before .before .before .before .before .before .before .before .before .before .before .before .before .before .before .before .before .before .before .before .before .before .before .before .κs) (c .before .before .before .before .before .before .before .before .before .before .before .before .before .before .before .before .before .before .before .before .before .before .before .before .before .before .before .before .before .before .before .before .args) .1 .1 .1 .1 .1 .0)
 
       abbrev pub Need-same-length-2 : Type 0
-      Need-same-length-2 = (c : After-slice-known14) → MutSlice.SameLen (Row.get 7 (T144 .locals) (m97 (c .before) (c .slice-known14 .given))) (dens (c .before .before .before .before .before .before .before .before .before .before .before .before .before .before .before .before .before .before .before .before .before .before .before .before .before .before .before .before .before .before .before .κs) (c .before .before .before .before .before .before .before .before .before .before .before .before .before .before .before .before .before .before .before .before .before .before .before .before .before .before .before .before .before .before .before .args) .1 .1 .1 .1 .1 .1 .0)
+      Need-same-length-2 = (c : After-slice-known16) → MutSlice.SameLen (Row.get 7 (T152 .locals) (m102 (c .before) (c .slice-known16 .given))) (dens (c .before .before .before .before .before .before .before .before .before .before .before .before .before .before .before .before .before .before .before .before .before .before .before .before .before .before .before .before .before .before .before .before .κs) (c .before .before .before .before .before .before .before .before .before .before .before .before .before .before .before .before .before .before .before .before .before .before .before .before .before .before .before .before .before .before .before .before .args) .1 .1 .1 .1 .1 .1 .0)
 
       abbrev pub Need-same-length-3 : Type 0
-      Need-same-length-3 = (c : After-slice-known14) → MutSlice.SameLen (Row.get 8 (T144 .locals) (m97 (c .before) (c .slice-known14 .given))) (dens (c .before .before .before .before .before .before .before .before .before .before .before .before .before .before .before .before .before .before .before .before .before .before .before .before .before .before .before .before .before .before .before .κs) (c .before .before .before .before .before .before .before .before .before .before .before .before .before .before .before .before .before .before .before .before .before .before .before .before .before .before .before .before .before .before .before .args) .1 .1 .1 .1 .1 .1 .1 .0)
+      Need-same-length-3 = (c : After-slice-known16) → MutSlice.SameLen (Row.get 8 (T152 .locals) (m102 (c .before) (c .slice-known16 .given))) (dens (c .before .before .before .before .before .before .before .before .before .before .before .before .before .before .before .before .before .before .before .before .before .before .before .before .before .before .before .before .before .before .before .before .κs) (c .before .before .before .before .before .before .before .before .before .before .before .before .before .before .before .before .before .before .before .before .before .before .before .before .before .before .before .before .before .before .before .before .args) .1 .1 .1 .1 .1 .1 .1 .0)
+
+      abbrev pub Need-same-length-4 : Type 0
+      Need-same-length-4 = (c : After-slice-known16) → MutSlice.SameLen (Row.get 9 (T152 .locals) (m102 (c .before) (c .slice-known16 .given))) (dens (c .before .before .before .before .before .before .before .before .before .before .before .before .before .before .before .before .before .before .before .before .before .before .before .before .before .before .before .before .before .before .before .before .κs) (c .before .before .before .before .before .before .before .before .before .before .before .before .before .before .before .before .before .before .before .before .before .before .before .before .before .before .before .before .before .before .before .before .args) .1 .1 .1 .1 .1 .1 .1 .1 .0)
 
       abbrev pub Need-returns : Type 0
-      Need-returns = (c : After-slice-known14) → Post· (c .before .before .before .before .before .before .before .before .before .before .before .before .before .before .before .before .before .before .before .before .before .before .before .before .before .before .before .before .before .before .before .κs) (dens (c .before .before .before .before .before .before .before .before .before .before .before .before .before .before .before .before .before .before .before .before .before .before .before .before .before .before .before .before .before .before .before .κs) (c .before .before .before .before .before .before .before .before .before .before .before .before .before .before .before .before .before .before .before .before .before .before .before .before .before .before .before .before .before .before .before .args)) (Function.resV r (c .before .before .before .before .before .before .before .before .before .before .before .before .before .before .before .before .before .before .before .before .before .before .before .before .before .before .before .before .before .before .before .κs) (m97 (c .before) (c .slice-known14 .given) .0)) (Clauses.atExit (Kinds.endedOf 6 ps r) (c .before .before .before .before .before .before .before .before .before .before .before .before .before .before .before .before .before .before .before .before .before .before .before .before .before .before .before .before .before .before .before .κs) (dens (c .before .before .before .before .before .before .before .before .before .before .before .before .before .before .before .before .before .before .before .before .before .before .before .before .before .before .before .before .before .before .before .κs) (c .before .before .before .before .before .before .before .before .before .before .before .before .before .before .before .before .before .before .before .before .before .before .before .before .before .before .before .before .before .before .before .args)) (Enter.lastsP (c .before .before .before .before .before .before .before .before .before .before .before .before .before .before .before .before .before .before .before .before .before .before .before .before .before .before .before .before .before .before .before .κs) 1 ps xs (dens (c .before .before .before .before .before .before .before .before .before .before .before .before .before .before .before .before .before .before .before .before .before .before .before .before .before .before .before .before .before .before .before .κs) (c .before .before .before .before .before .before .before .before .before .before .before .before .before .before .before .before .before .before .before .before .before .before .before .before .before .before .before .before .before .before .before .args)) (m97 (c .before) (c .slice-known14 .given) .1)))
+      Need-returns = (c : After-slice-known16) → Post· (c .before .before .before .before .before .before .before .before .before .before .before .before .before .before .before .before .before .before .before .before .before .before .before .before .before .before .before .before .before .before .before .before .κs) (dens (c .before .before .before .before .before .before .before .before .before .before .before .before .before .before .before .before .before .before .before .before .before .before .before .before .before .before .before .before .before .before .before .before .κs) (c .before .before .before .before .before .before .before .before .before .before .before .before .before .before .before .before .before .before .before .before .before .before .before .before .before .before .before .before .before .before .before .before .args)) (Function.resV r (c .before .before .before .before .before .before .before .before .before .before .before .before .before .before .before .before .before .before .before .before .before .before .before .before .before .before .before .before .before .before .before .before .κs) (m102 (c .before) (c .slice-known16 .given) .0)) (Clauses.atExit (Kinds.endedOf 7 ps r) (c .before .before .before .before .before .before .before .before .before .before .before .before .before .before .before .before .before .before .before .before .before .before .before .before .before .before .before .before .before .before .before .before .κs) (dens (c .before .before .before .before .before .before .before .before .before .before .before .before .before .before .before .before .before .before .before .before .before .before .before .before .before .before .before .before .before .before .before .before .κs) (c .before .before .before .before .before .before .before .before .before .before .before .before .before .before .before .before .before .before .before .before .before .before .before .before .before .before .before .before .before .before .before .before .args)) (Enter.lastsP (c .before .before .before .before .before .before .before .before .before .before .before .before .before .before .before .before .before .before .before .before .before .before .before .before .before .before .before .before .before .before .before .before .κs) 1 ps xs (dens (c .before .before .before .before .before .before .before .before .before .before .before .before .before .before .before .before .before .before .before .before .before .before .before .before .before .before .before .before .before .before .before .before .κs) (c .before .before .before .before .before .before .before .before .before .before .before .before .before .before .before .before .before .before .before .before .before .before .before .before .before .before .before .before .before .before .before .before .args)) (m102 (c .before) (c .slice-known16 .given) .1)))
 
-      module _ (fill-requires : Need-fill-requires) (start-known-requires : Need-start-known-requires) (span-at-requires : Need-span-at-requires) (start-end-requires : Need-start-end-requires) (reach-requires : Need-reach-requires) (loop-holds : Need-loop-holds) (walk-requires : Need-walk-requires) (round-end-requires : Need-round-end-requires) (kept-requires : Need-kept-requires) (settle-requires : Need-settle-requires) (add-count : Need-add-count) (loop-less : Need-loop-less) (loop-again : Need-loop-again) (finish-requires : Need-finish-requires) (same-length : Need-same-length) (same-length-2 : Need-same-length-2) (same-length-3 : Need-same-length-3) (returns : Need-returns) where
-        lay14 : (c : After-finish) → at97 (W0 (c .before .before .before .before .before .before .before .before .before .before .before .before .before .before .before .before .before .before .before .before .before .before .before .before .before .before .before .κs) (c .before .before .before .before .before .before .before .before .before .before .before .before .before .before .before .before .before .before .before .before .before .before .before .before .before .before .before .args)) (m87 (c .before) (After-finish·gave c))
-        lay14 = λ c. (Path'.refl, λ g. λ g'. (Path'.refl, λ g''. λ g'3. ((tt, (Path'.refl, (Path'.refl, (Path'.refl, (tt, (MutSlice.fix-len (Row.get 6 (T144 .locals) (m97 record { before = record { before = record { before = record { before = c .before; finish = c .finish }; commands4 = record { given = g } }; slice-known13 = record { given = g' } }; scratch5 = record { given = g'' } } g'3) .ptr) (Row.get 6 (T144 .locals) (m97 record { before = record { before = record { before = record { before = c .before; finish = c .finish }; commands4 = record { given = g } }; slice-known13 = record { given = g' } }; scratch5 = record { given = g'' } } g'3) .name) (Row.get 6 (T144 .locals) (m97 record { before = record { before = record { before = record { before = c .before; finish = c .finish }; commands4 = record { given = g } }; slice-known13 = record { given = g' } }; scratch5 = record { given = g'' } } g'3) .now) (dens (c .before .before .before .before .before .before .before .before .before .before .before .before .before .before .before .before .before .before .before .before .before .before .before .before .before .before .before .κs) (c .before .before .before .before .before .before .before .before .before .before .before .before .before .before .before .before .before .before .before .before .before .before .before .before .before .before .before .args) .1 .1 .1 .1 .1 .0 .now) (same-length record { before = record { before = record { before = record { before = record { before = c .before; finish = c .finish }; commands4 = record { given = g } }; slice-known13 = record { given = g' } }; scratch5 = record { given = g'' } }; slice-known14 = record { given = g'3 } }), (MutSlice.fix-len (Row.get 7 (T144 .locals) (m97 record { before = record { before = record { before = record { before = c .before; finish = c .finish }; commands4 = record { given = g } }; slice-known13 = record { given = g' } }; scratch5 = record { given = g'' } } g'3) .ptr) (Row.get 7 (T144 .locals) (m97 record { before = record { before = record { before = record { before = c .before; finish = c .finish }; commands4 = record { given = g } }; slice-known13 = record { given = g' } }; scratch5 = record { given = g'' } } g'3) .name) (Row.get 7 (T144 .locals) (m97 record { before = record { before = record { before = record { before = c .before; finish = c .finish }; commands4 = record { given = g } }; slice-known13 = record { given = g' } }; scratch5 = record { given = g'' } } g'3) .now) (dens (c .before .before .before .before .before .before .before .before .before .before .before .before .before .before .before .before .before .before .before .before .before .before .before .before .before .before .before .κs) (c .before .before .before .before .before .before .before .before .before .before .before .before .before .before .before .before .before .before .before .before .before .before .before .before .before .before .before .args) .1 .1 .1 .1 .1 .1 .0 .now) (same-length-2 record { before = record { before = record { before = record { before = record { before = c .before; finish = c .finish }; commands4 = record { given = g } }; slice-known13 = record { given = g' } }; scratch5 = record { given = g'' } }; slice-known14 = record { given = g'3 } }), (MutSlice.fix-len (Row.get 8 (T144 .locals) (m97 record { before = record { before = record { before = record { before = c .before; finish = c .finish }; commands4 = record { given = g } }; slice-known13 = record { given = g' } }; scratch5 = record { given = g'' } } g'3) .ptr) (Row.get 8 (T144 .locals) (m97 record { before = record { before = record { before = record { before = c .before; finish = c .finish }; commands4 = record { given = g } }; slice-known13 = record { given = g' } }; scratch5 = record { given = g'' } } g'3) .name) (Row.get 8 (T144 .locals) (m97 record { before = record { before = record { before = record { before = c .before; finish = c .finish }; commands4 = record { given = g } }; slice-known13 = record { given = g' } }; scratch5 = record { given = g'' } } g'3) .now) (dens (c .before .before .before .before .before .before .before .before .before .before .before .before .before .before .before .before .before .before .before .before .before .before .before .before .before .before .before .κs) (c .before .before .before .before .before .before .before .before .before .before .before .before .before .before .before .before .before .before .before .before .before .before .before .before .before .before .before .args) .1 .1 .1 .1 .1 .1 .1 .0 .now) (same-length-3 record { before = record { before = record { before = record { before = record { before = c .before; finish = c .finish }; commands4 = record { given = g } }; slice-known13 = record { given = g' } }; scratch5 = record { given = g'' } }; slice-known14 = record { given = g'3 } }), tt)))))))), returns record { before = record { before = record { before = record { before = record { before = c .before; finish = c .finish }; commands4 = record { given = g } }; slice-known13 = record { given = g' } }; scratch5 = record { given = g'' } }; slice-known14 = record { given = g'3 } })))
+      module _ (fill-requires : Need-fill-requires) (start-known-requires : Need-start-known-requires) (span-at-requires : Need-span-at-requires) (start-end-requires : Need-start-end-requires) (reach-requires : Need-reach-requires) (loop-holds : Need-loop-holds) (walk-requires : Need-walk-requires) (round-end-requires : Need-round-end-requires) (kept-requires : Need-kept-requires) (settle-requires : Need-settle-requires) (add-count : Need-add-count) (loop-less : Need-loop-less) (loop-again : Need-loop-again) (finish-requires : Need-finish-requires) (same-length : Need-same-length) (same-length-2 : Need-same-length-2) (same-length-3 : Need-same-length-3) (same-length-4 : Need-same-length-4) (returns : Need-returns) where
+        lay14 : (c : After-finish) → at104 (W0 (c .before .before .before .before .before .before .before .before .before .before .before .before .before .before .before .before .before .before .before .before .before .before .before .before .before .before .before .before .κs) (c .before .before .before .before .before .before .before .before .before .before .before .before .before .before .before .before .before .before .before .before .before .before .before .before .before .before .before .before .args)) (m92 (c .before) (After-finish·gave c))
+        lay14 = λ c. (Path'.refl, λ g. λ g'. (Path'.refl, λ g''. λ g'3. ((tt, (Path'.refl, (Path'.refl, (Path'.refl, (tt, (MutSlice.fix-len (Row.get 6 (T152 .locals) (m102 record { before = record { before = record { before = record { before = c .before; finish = c .finish }; commands4 = record { given = g } }; slice-known15 = record { given = g' } }; scratch5 = record { given = g'' } } g'3) .ptr) (Row.get 6 (T152 .locals) (m102 record { before = record { before = record { before = record { before = c .before; finish = c .finish }; commands4 = record { given = g } }; slice-known15 = record { given = g' } }; scratch5 = record { given = g'' } } g'3) .name) (Row.get 6 (T152 .locals) (m102 record { before = record { before = record { before = record { before = c .before; finish = c .finish }; commands4 = record { given = g } }; slice-known15 = record { given = g' } }; scratch5 = record { given = g'' } } g'3) .now) (dens (c .before .before .before .before .before .before .before .before .before .before .before .before .before .before .before .before .before .before .before .before .before .before .before .before .before .before .before .before .κs) (c .before .before .before .before .before .before .before .before .before .before .before .before .before .before .before .before .before .before .before .before .before .before .before .before .before .before .before .before .args) .1 .1 .1 .1 .1 .0 .now) (same-length record { before = record { before = record { before = record { before = record { before = c .before; finish = c .finish }; commands4 = record { given = g } }; slice-known15 = record { given = g' } }; scratch5 = record { given = g'' } }; slice-known16 = record { given = g'3 } }), (MutSlice.fix-len (Row.get 7 (T152 .locals) (m102 record { before = record { before = record { before = record { before = c .before; finish = c .finish }; commands4 = record { given = g } }; slice-known15 = record { given = g' } }; scratch5 = record { given = g'' } } g'3) .ptr) (Row.get 7 (T152 .locals) (m102 record { before = record { before = record { before = record { before = c .before; finish = c .finish }; commands4 = record { given = g } }; slice-known15 = record { given = g' } }; scratch5 = record { given = g'' } } g'3) .name) (Row.get 7 (T152 .locals) (m102 record { before = record { before = record { before = record { before = c .before; finish = c .finish }; commands4 = record { given = g } }; slice-known15 = record { given = g' } }; scratch5 = record { given = g'' } } g'3) .now) (dens (c .before .before .before .before .before .before .before .before .before .before .before .before .before .before .before .before .before .before .before .before .before .before .before .before .before .before .before .before .κs) (c .before .before .before .before .before .before .before .before .before .before .before .before .before .before .before .before .before .before .before .before .before .before .before .before .before .before .before .before .args) .1 .1 .1 .1 .1 .1 .0 .now) (same-length-2 record { before = record { before = record { before = record { before = record { before = c .before; finish = c .finish }; commands4 = record { given = g } }; slice-known15 = record { given = g' } }; scratch5 = record { given = g'' } }; slice-known16 = record { given = g'3 } }), (MutSlice.fix-len (Row.get 8 (T152 .locals) (m102 record { before = record { before = record { before = record { before = c .before; finish = c .finish }; commands4 = record { given = g } }; slice-known15 = record { given = g' } }; scratch5 = record { given = g'' } } g'3) .ptr) (Row.get 8 (T152 .locals) (m102 record { before = record { before = record { before = record { before = c .before; finish = c .finish }; commands4 = record { given = g } }; slice-known15 = record { given = g' } }; scratch5 = record { given = g'' } } g'3) .name) (Row.get 8 (T152 .locals) (m102 record { before = record { before = record { before = record { before = c .before; finish = c .finish }; commands4 = record { given = g } }; slice-known15 = record { given = g' } }; scratch5 = record { given = g'' } } g'3) .now) (dens (c .before .before .before .before .before .before .before .before .before .before .before .before .before .before .before .before .before .before .before .before .before .before .before .before .before .before .before .before .κs) (c .before .before .before .before .before .before .before .before .before .before .before .before .before .before .before .before .before .before .before .before .before .before .before .before .before .before .before .before .args) .1 .1 .1 .1 .1 .1 .1 .0 .now) (same-length-3 record { before = record { before = record { before = record { before = record { before = c .before; finish = c .finish }; commands4 = record { given = g } }; slice-known15 = record { given = g' } }; scratch5 = record { given = g'' } }; slice-known16 = record { given = g'3 } }), (MutSlice.fix-len (Row.get 9 (T152 .locals) (m102 record { before = record { before = record { before = record { before = c .before; finish = c .finish }; commands4 = record { given = g } }; slice-known15 = record { given = g' } }; scratch5 = record { given = g'' } } g'3) .ptr) (Row.get 9 (T152 .locals) (m102 record { before = record { before = record { before = record { before = c .before; finish = c .finish }; commands4 = record { given = g } }; slice-known15 = record { given = g' } }; scratch5 = record { given = g'' } } g'3) .name) (Row.get 9 (T152 .locals) (m102 record { before = record { before = record { before = record { before = c .before; finish = c .finish }; commands4 = record { given = g } }; slice-known15 = record { given = g' } }; scratch5 = record { given = g'' } } g'3) .now) (dens (c .before .before .before .before .before .before .before .before .before .before .before .before .before .before .before .before .before .before .before .before .before .before .before .before .before .before .before .before .κs) (c .before .before .before .before .before .before .before .before .before .before .before .before .before .before .before .before .before .before .before .before .before .before .before .before .before .before .before .before .args) .1 .1 .1 .1 .1 .1 .1 .1 .0 .now) (same-length-4 record { before = record { before = record { before = record { before = record { before = c .before; finish = c .finish }; commands4 = record { given = g } }; slice-known15 = record { given = g' } }; scratch5 = record { given = g'' } }; slice-known16 = record { given = g'3 } }), tt))))))))), returns record { before = record { before = record { before = record { before = record { before = c .before; finish = c .finish }; commands4 = record { given = g } }; slice-known15 = record { given = g' } }; scratch5 = record { given = g'' } }; slice-known16 = record { given = g'3 } })))
 
-        lay13 : (c : After-loop) → at104 (W0 (c .before .before .before .before .before .before .before .before .before .before .before .before .before .before .before .before .before .before .before .before .before .before .before .before .κs) (c .before .before .before .before .before .before .before .before .before .before .before .before .before .before .before .before .before .before .before .before .before .before .before .before .args)) (m36 (c .before))
-        lay13 = λ c. λ g. (Path'.refl, λ g'. (Path'.refl, (finish-requires record { before = record { before = record { before = c .before; loop-test = c .loop-test }; finish-arg = record { given = g } }; finish-arg2 = record { given = g' } }, λ g''. lay14 record { before = record { before = record { before = record { before = c .before; loop-test = c .loop-test }; finish-arg = record { given = g } }; finish-arg2 = record { given = g' } }; finish = Called.called ps·9 r·9 (claims· .19) T129 (Num.vFld 1 (List._∷_ (Syntax.field 0) List.[]) 0 λ x. Size.struct .as-values x .0, (Num.vAt 10 λ x. x, (Num.vAt 13 λ x. x, (record { pos = 45; ty = Syntax.tyRef Syntax.erased Syntax.mut (Syntax.tyInt Syntax.w16); ref = λ x. x }, (record { pos = 47; ty = Syntax.tyRef Syntax.erased Syntax.mut (Syntax.tyInt Syntax.w16); ref = λ x. x }, tt))))) (m86 record { before = record { before = c .before; loop-test = c .loop-test }; finish-arg = record { given = g } } g') g'' })))
+        lay13 : (c : After-loop) → at111 (W0 (c .before .before .before .before .before .before .before .before .before .before .before .before .before .before .before .before .before .before .before .before .before .before .before .before .before .κs) (c .before .before .before .before .before .before .before .before .before .before .before .before .before .before .before .before .before .before .before .before .before .before .before .before .before .args)) (m37 (c .before))
+        lay13 = λ c. λ g. (Path'.refl, λ g'. (Path'.refl, (finish-requires record { before = record { before = record { before = c .before; loop-test = c .loop-test }; finish-arg = record { given = g } }; finish-arg2 = record { given = g' } }, λ g''. lay14 record { before = record { before = record { before = record { before = c .before; loop-test = c .loop-test }; finish-arg = record { given = g } }; finish-arg2 = record { given = g' } }; finish = Called.called ps·9 r·9 (claims· .19) T137 (Num.vFld 1 (List._∷_ (Syntax.field 0) List.[]) 0 λ x. Size.struct .as-values x .0, (Num.vAt 11 λ x. x, (Num.vAt 14 λ x. x, (record { pos = 48; ty = Syntax.tyRef Syntax.erased Syntax.mut (Syntax.tyInt Syntax.w16); ref = λ x. x }, (record { pos = 50; ty = Syntax.tyRef Syntax.erased Syntax.mut (Syntax.tyInt Syntax.w16); ref = λ x. x }, tt))))) (m91 record { before = record { before = c .before; loop-test = c .loop-test }; finish-arg = record { given = g } } g') g'' })))
 
-        lay12 : (c : After-settle) → at20 (W3 (c .before .before .before .before .before .before .before .before .before .before .before .before .before .before .before .before .before .before .before .before .before) (c .before .before .before .before .before .before .before .before .before .before .before .before .before .before .before .before .before .before .before .before .loop .commands) (c .before .before .before .before .before .before .before .before .before .before .before .before .before .before .before .before .before .before .before .before .loop .scratch) (c .before .before .before .before .before .before .before .before .before .before .before .before .before .before .before .before .before .before .before .before .loop .queue) (c .before .before .before .before .before .before .before .before .before .before .before .before .before .before .before .before .before .before .before .before .loop .end) (c .before .before .before .before .before .before .before .before .before .before .before .before .before .before .before .before .before .before .before .before .loop .q) (c .before .before .before .before .before .before .before .before .before .before .before .before .before .before .before .before .before .before .before .before .loop .h) (c .before .before .before .before .before .before .before .before .before .before .before .before .before .before .before .before .before .before .before .before .loop .count)) (m73 (c .before) (After-settle·gave c))
-        lay12 = λ c. (Path'.refl, λ g. λ g'. (Path'.refl, λ g''. λ g'3. (add-count record { before = record { before = record { before = record { before = record { before = c .before; settle = c .settle }; commands3 = record { given = g } }; slice-known11 = record { given = g' } }; scratch4 = record { given = g'' } }; slice-known12 = record { given = g'3 } }, (μ·0 (Row.get 1 (T44 .locals) (m31 (c .before .before .before .before .before .before .before .before .before .before .before .before .before .before .before .before .before .before .before .before .before .before) (c .before .before .before .before .before .before .before .before .before .before .before .before .before .before .before .before .before .before .before .before .before .slice-known7 .given))) (Row.get 2 (T44 .locals) (m31 (c .before .before .before .before .before .before .before .before .before .before .before .before .before .before .before .before .before .before .before .before .before .before) (c .before .before .before .before .before .before .before .before .before .before .before .before .before .before .before .before .before .before .before .before .before .slice-known7 .given)) .now) (Row.get 3 (T44 .locals) (m31 (c .before .before .before .before .before .before .before .before .before .before .before .before .before .before .before .before .before .before .before .before .before .before) (c .before .before .before .before .before .before .before .before .before .before .before .before .before .before .before .before .before .before .before .before .before .slice-known7 .given)) .now) (Row.get 4 (T44 .locals) (m31 (c .before .before .before .before .before .before .before .before .before .before .before .before .before .before .before .before .before .before .before .before .before .before) (c .before .before .before .before .before .before .before .before .before .before .before .before .before .before .before .before .before .before .before .before .before .slice-known7 .given)) .now) (Row.get 5 (T44 .locals) (m31 (c .before .before .before .before .before .before .before .before .before .before .before .before .before .before .before .before .before .before .before .before .before .before) (c .before .before .before .before .before .before .before .before .before .before .before .before .before .before .before .before .before .before .before .before .before .slice-known7 .given))) (Row.get 6 (T44 .locals) (m31 (c .before .before .before .before .before .before .before .before .before .before .before .before .before .before .before .before .before .before .before .before .before .before) (c .before .before .before .before .before .before .before .before .before .before .before .before .before .before .before .before .before .before .before .before .before .slice-known7 .given)) .now) (Row.get 7 (T44 .locals) (m31 (c .before .before .before .before .before .before .before .before .before .before .before .before .before .before .before .before .before .before .before .before .before .before) (c .before .before .before .before .before .before .before .before .before .before .before .before .before .before .before .before .before .before .before .before .before .slice-known7 .given)) .now) (Row.get 8 (T44 .locals) (m31 (c .before .before .before .before .before .before .before .before .before .before .before .before .before .before .before .before .before .before .before .before .before .before) (c .before .before .before .before .before .before .before .before .before .before .before .before .before .before .before .before .before .before .before .before .before .slice-known7 .given)) .now) (Row.get 10 (T44 .locals) (m31 (c .before .before .before .before .before .before .before .before .before .before .before .before .before .before .before .before .before .before .before .before .before .before) (c .before .before .before .before .before .before .before .before .before .before .before .before .before .before .before .before .before .before .before .before .before .slice-known7 .given))) (Row.get 11 (T44 .locals) (m31 (c .before .before .before .before .before .before .before .before .before .before .before .before .before .before .before .before .before .before .before .before .before .before) (c .before .before .before .before .before .before .before .before .before .before .before .before .before .before .before .before .before .before .before .before .before .slice-known7 .given))) (Row.get 12 (T44 .locals) (m31 (c .before .before .before .before .before .before .before .before .before .before .before .before .before .before .before .before .before .before .before .before .before .before) (c .before .before .before .before .before .before .before .before .before .before .before .before .before .before .before .before .before .before .before .before .before .slice-known7 .given))) (Row.get 13 (T44 .locals) (m31 (c .before .before .before .before .before .before .before .before .before .before .before .before .before .before .before .before .before .before .before .before .before .before) (c .before .before .before .before .before .before .before .before .before .before .before .before .before .before .before .before .before .before .before .before .before .slice-known7 .given))) (Row.get 6 (T44 .locals) (m82 record { before = record { before = record { before = record { before = c .before; settle = c .settle }; commands3 = record { given = g } }; slice-known11 = record { given = g' } }; scratch4 = record { given = g'' } } g'3) .now) (Row.get 7 (T44 .locals) (m82 record { before = record { before = record { before = record { before = c .before; settle = c .settle }; commands3 = record { given = g } }; slice-known11 = record { given = g' } }; scratch4 = record { given = g'' } } g'3) .now) (Row.get 8 (T44 .locals) (m82 record { before = record { before = record { before = record { before = c .before; settle = c .settle }; commands3 = record { given = g } }; slice-known11 = record { given = g' } }; scratch4 = record { given = g'' } } g'3) .now) (Row.get 10 (T44 .locals) (m82 record { before = record { before = record { before = record { before = c .before; settle = c .settle }; commands3 = record { given = g } }; slice-known11 = record { given = g' } }; scratch4 = record { given = g'' } } g'3)) (Row.get 11 (T44 .locals) (m82 record { before = record { before = record { before = record { before = c .before; settle = c .settle }; commands3 = record { given = g } }; slice-known11 = record { given = g' } }; scratch4 = record { given = g'' } } g'3)) (Row.get 12 (T44 .locals) (m82 record { before = record { before = record { before = record { before = c .before; settle = c .settle }; commands3 = record { given = g } }; slice-known11 = record { given = g' } }; scratch4 = record { given = g'' } } g'3)) (Row.get 13 (T44 .locals) (m82 record { before = record { before = record { before = record { before = c .before; settle = c .settle }; commands3 = record { given = g } }; slice-known11 = record { given = g' } }; scratch4 = record { given = g'' } } g'3)), loop-less record { before = record { before = record { before = record { before = record { before = c .before; settle = c .settle }; commands3 = record { given = g } }; slice-known11 = record { given = g' } }; scratch4 = record { given = g'' } }; slice-known12 = record { given = g'3 } }, ((Row.get 6 (T44 .locals) (m82 record { before = record { before = record { before = record { before = c .before; settle = c .settle }; commands3 = record { given = g } }; slice-known11 = record { given = g' } }; scratch4 = record { given = g'' } } g'3) .now, Row.get 7 (T44 .locals) (m82 record { before = record { before = record { before = record { before = c .before; settle = c .settle }; commands3 = record { given = g } }; slice-known11 = record { given = g' } }; scratch4 = record { given = g'' } } g'3) .now, Row.get 8 (T44 .locals) (m82 record { before = record { before = record { before = record { before = c .before; settle = c .settle }; commands3 = record { given = g } }; slice-known11 = record { given = g' } }; scratch4 = record { given = g'' } } g'3) .now, Row.get 10 (T44 .locals) (m82 record { before = record { before = record { before = record { before = c .before; settle = c .settle }; commands3 = record { given = g } }; slice-known11 = record { given = g' } }; scratch4 = record { given = g'' } } g'3), Row.get 11 (T44 .locals) (m82 record { before = record { before = record { before = record { before = c .before; settle = c .settle }; commands3 = record { given = g } }; slice-known11 = record { given = g' } }; scratch4 = record { given = g'' } } g'3), Row.get 12 (T44 .locals) (m82 record { before = record { before = record { before = record { before = c .before; settle = c .settle }; commands3 = record { given = g } }; slice-known11 = record { given = g' } }; scratch4 = record { given = g'' } } g'3), Row.get 13 (T44 .locals) (m82 record { before = record { before = record { before = record { before = c .before; settle = c .settle }; commands3 = record { given = g } }; slice-known11 = record { given = g' } }; scratch4 = record { given = g'' } } g'3)), Path'.refl {a = m82 record { before = record { before = record { before = record { before = c .before; settle = c .settle }; commands3 = record { given = g } }; slice-known11 = record { given = g' } }; scratch4 = record { given = g'' } } g'3}, loop-again record { before = record { before = record { before = record { before = record { before = c .before; settle = c .settle }; commands3 = record { given = g } }; slice-known11 = record { given = g' } }; scratch4 = record { given = g'' } }; slice-known12 = record { given = g'3 } }, Path'.refl {a = μ·0 (Row.get 1 (T44 .locals) (m31 (c .before .before .before .before .before .before .before .before .before .before .before .before .before .before .before .before .before .before .before .before .before .before) (c .before .before .before .before .before .before .before .before .before .before .before .before .before .before .before .before .before .before .before .before .before .slice-known7 .given))) (Row.get 2 (T44 .locals) (m31 (c .before .before .before .before .before .before .before .before .before .before .before .before .before .before .before .before .before .before .before .before .before .before) (c .before .before .before .before .before .before .before .before .before .before .before .before .before .before .before .before .before .before .before .before .before .slice-known7 .given)) .now) (Row.get 3 (T44 .locals) (m31 (c .before .before .before .before .before .before .before .before .before .before .before .before .before .before .before .before .before .before .before .before .before .before) (c .before .before .before .before .before .before .before .before .before .before .before .before .before .before .before .before .before .before .before .before .before .slice-known7 .given)) .now) (Row.get 4 (T44 .locals) (m31 (c .before .before .before .before .before .before .before .before .before .before .before .before .before .before .before .before .before .before .before .before .before .before) (c .before .before .before .before .before .before .before .before .before .before .before .before .before .before .before .before .before .before .before .before .before .slice-known7 .given)) .now) (Row.get 5 (T44 .locals) (m31 (c .before .before .before .before .before .before .before .before .before .before .before .before .before .before .before .before .before .before .before .before .before .before) (c .before .before .before .before .before .before .before .before .before .before .before .before .before .before .before .before .before .before .before .before .before .slice-known7 .given))) (Row.get 6 (T44 .locals) (m31 (c .before .before .before .before .before .before .before .before .before .before .before .before .before .before .before .before .before .before .before .before .before .before) (c .before .before .before .before .before .before .before .before .before .before .before .before .before .before .before .before .before .before .before .before .before .slice-known7 .given)) .now) (Row.get 7 (T44 .locals) (m31 (c .before .before .before .before .before .before .before .before .before .before .before .before .before .before .before .before .before .before .before .before .before .before) (c .before .before .before .before .before .before .before .before .before .before .before .before .before .before .before .before .before .before .before .before .before .slice-known7 .given)) .now) (Row.get 8 (T44 .locals) (m31 (c .before .before .before .before .before .before .before .before .before .before .before .before .before .before .before .before .before .before .before .before .before .before) (c .before .before .before .before .before .before .before .before .before .before .before .before .before .before .before .before .before .before .before .before .before .slice-known7 .given)) .now) (Row.get 10 (T44 .locals) (m31 (c .before .before .before .before .before .before .before .before .before .before .before .before .before .before .before .before .before .before .before .before .before .before) (c .before .before .before .before .before .before .before .before .before .before .before .before .before .before .before .before .before .before .before .before .before .slice-known7 .given))) (Row.get 11 (T44 .locals) (m31 (c .before .before .before .before .before .before .before .before .before .before .before .before .before .before .before .before .before .before .before .before .before .before) (c .before .before .before .before .before .before .before .before .before .before .before .before .before .before .before .before .before .before .before .before .before .slice-known7 .given))) (Row.get 12 (T44 .locals) (m31 (c .before .before .before .before .before .before .before .before .before .before .before .before .before .before .before .before .before .before .before .before .before .before) (c .before .before .before .before .before .before .before .before .before .before .before .before .before .before .before .before .before .before .before .before .before .slice-known7 .given))) (Row.get 13 (T44 .locals) (m31 (c .before .before .before .before .before .before .before .before .before .before .before .before .before .before .before .before .before .before .before .before .before .before) (c .before .before .before .before .before .before .before .before .before .before .before .before .before .before .before .before .before .before .before .before .before .slice-known7 .given))) (Row.get 6 (T44 .locals) (m82 record { before = record { before = record { before = record { before = c .before; settle = c .settle }; commands3 = record { given = g } }; slice-known11 = record { given = g' } }; scratch4 = record { given = g'' } } g'3) .now) (Row.get 7 (T44 .locals) (m82 record { before = record { before = record { before = record { before = c .before; settle = c .settle }; commands3 = record { given = g } }; slice-known11 = record { given = g' } }; scratch4 = record { given = g'' } } g'3) .now) (Row.get 8 (T44 .locals) (m82 record { before = record { before = record { before = record { before = c .before; settle = c .settle }; commands3 = record { given = g } }; slice-known11 = record { given = g' } }; scratch4 = record { given = g'' } } g'3) .now) (Row.get 10 (T44 .locals) (m82 record { before = record { before = record { before = record { before = c .before; settle = c .settle }; commands3 = record { given = g } }; slice-known11 = record { given = g' } }; scratch4 = record { given = g'' } } g'3)) (Row.get 11 (T44 .locals) (m82 record { before = record { before = record { before = record { before = c .before; settle = c .settle }; commands3 = record { given = g } }; slice-known11 = record { given = g' } }; scratch4 = record { given = g'' } } g'3)) (Row.get 12 (T44 .locals) (m82 record { before = record { before = record { before = record { before = c .before; settle = c .settle }; commands3 = record { given = g } }; slice-known11 = record { given = g' } }; scratch4 = record { given = g'' } } g'3)) (Row.get 13 (T44 .locals) (m82 record { before = record { before = record { before = record { before = c .before; settle = c .settle }; commands3 = record { given = g } }; slice-known11 = record { given = g' } }; scratch4 = record { given = g'' } } g'3))})))))
+        lay12 : (c : After-settle) → at20 (W3 (c .before .before .before .before .before .before .before .before .before .before .before .before .before .before .before .before .before .before .before .before .before .before .before .before) (c .before .before .before .before .before .before .before .before .before .before .before .before .before .before .before .before .before .before .before .before .before .before .before .loop .commands) (c .before .before .before .before .before .before .before .before .before .before .before .before .before .before .before .before .before .before .before .before .before .before .before .loop .scratch) (c .before .before .before .before .before .before .before .before .before .before .before .before .before .before .before .before .before .before .before .before .before .before .before .loop .queue) (c .before .before .before .before .before .before .before .before .before .before .before .before .before .before .before .before .before .before .before .before .before .before .before .loop .tried) (c .before .before .before .before .before .before .before .before .before .before .before .before .before .before .before .before .before .before .before .before .before .before .before .loop .end) (c .before .before .before .before .before .before .before .before .before .before .before .before .before .before .before .before .before .before .before .before .before .before .before .loop .q) (c .before .before .before .before .before .before .before .before .before .before .before .before .before .before .before .before .before .before .before .before .before .before .before .loop .h) (c .before .before .before .before .before .before .before .before .before .before .before .before .before .before .before .before .before .before .before .before .before .before .before .loop .count)) (m78 (c .before) (After-settle·gave c))
+        lay12 = λ c. (Path'.refl, λ g. λ g'. (Path'.refl, λ g''. λ g'3. (add-count record { before = record { before = record { before = record { before = record { before = c .before; settle = c .settle }; commands3 = record { given = g } }; slice-known13 = record { given = g' } }; scratch4 = record { given = g'' } }; slice-known14 = record { given = g'3 } }, (μ·0 (Row.get 1 (T45 .locals) (m32 (c .before .before .before .before .before .before .before .before .before .before .before .before .before .before .before .before .before .before .before .before .before .before .before .before .before) (c .before .before .before .before .before .before .before .before .before .before .before .before .before .before .before .before .before .before .before .before .before .before .before .before .slice-known8 .given))) (Row.get 2 (T45 .locals) (m32 (c .before .before .before .before .before .before .before .before .before .before .before .before .before .before .before .before .before .before .before .before .before .before .before .before .before) (c .before .before .before .before .before .before .before .before .before .before .before .before .before .before .before .before .before .before .before .before .before .before .before .before .slice-known8 .given)) .now) (Row.get 3 (T45 .locals) (m32 (c .before .before .before .before .before .before .before .before .before .before .before .before .before .before .before .before .before .before .before .before .before .before .before .before .before) (c .before .before .before .before .before .before .before .before .before .before .before .before .before .before .before .before .before .before .before .before .before .before .before .before .slice-known8 .given)) .now) (Row.get 4 (T45 .locals) (m32 (c .before .before .before .before .before .before .before .before .before .before .before .before .before .before .before .before .before .before .before .before .before .before .before .before .before) (c .before .before .before .before .before .before .before .before .before .before .before .before .before .before .before .before .before .before .before .before .before .before .before .before .slice-known8 .given)) .now) (Row.get 5 (T45 .locals) (m32 (c .before .before .before .before .before .before .before .before .before .before .before .before .before .before .before .before .before .before .before .before .before .before .before .before .before) (c .before .before .before .before .before .before .before .before .before .before .before .before .before .before .before .before .before .before .before .before .before .before .before .before .slice-known8 .given))) (Row.get 6 (T45 .locals) (m32 (c .before .before .before .before .before .before .before .before .before .before .before .before .before .before .before .before .before .before .before .before .before .before .before .before .before) (c .before .before .before .before .before .before .before .before .before .before .before .before .before .before .before .before .before .before .before .before .before .before .before .before .slice-known8 .given)) .now) (Row.get 7 (T45 .locals) (m32 (c .before .before .before .before .before .before .before .before .before .before .before .before .before .before .before .before .before .before .before .before .before .before .before .before .before) (c .before .before .before .before .before .before .before .before .before .before .before .before .before .before .before .before .before .before .before .before .before .before .before .before .slice-known8 .given)) .now) (Row.get 8 (T45 .locals) (m32 (c .before .before .before .before .before .before .before .before .before .before .before .before .before .before .before .before .before .before .before .before .before .before .before .before .before) (c .before .before .before .before .before .before .before .before .before .before .before .before .before .before .before .before .before .before .before .before .before .before .before .before .slice-known8 .given)) .now) (Row.get 9 (T45 .locals) (m32 (c .before .before .before .before .before .before .before .before .before .before .before .before .before .before .before .before .before .before .before .before .before .before .before .before .before) (c .before .before .before .before .before .before .before .before .before .before .before .before .before .before .before .before .before .before .before .before .before .before .before .before .slice-known8 .given)) .now) (Row.get 11 (T45 .locals) (m32 (c .before .before .before .before .before .before .before .before .before .before .before .before .before .before .before .before .before .before .before .before .before .before .before .before .before) (c .before .before .before .before .before .before .before .before .before .before .before .before .before .before .before .before .before .before .before .before .before .before .before .before .slice-known8 .given))) (Row.get 12 (T45 .locals) (m32 (c .before .before .before .before .before .before .before .before .before .before .before .before .before .before .before .before .before .before .before .before .before .before .before .before .before) (c .before .before .before .before .before .before .before .before .before .before .before .before .before .before .before .before .before .before .before .before .before .before .before .before .slice-known8 .given))) (Row.get 13 (T45 .locals) (m32 (c .before .before .before .before .before .before .before .before .before .before .before .before .before .before .before .before .before .before .before .before .before .before .before .before .before) (c .before .before .before .before .before .before .before .before .before .before .before .before .before .before .before .before .before .before .before .before .before .before .before .before .slice-known8 .given))) (Row.get 14 (T45 .locals) (m32 (c .before .before .before .before .before .before .before .before .before .before .before .before .before .before .before .before .before .before .before .before .before .before .before .before .before) (c .before .before .before .before .before .before .before .before .before .before .before .before .before .before .before .before .before .before .before .before .before .before .before .before .slice-known8 .given))) (Row.get 6 (T45 .locals) (m87 record { before = record { before = record { before = record { before = c .before; settle = c .settle }; commands3 = record { given = g } }; slice-known13 = record { given = g' } }; scratch4 = record { given = g'' } } g'3) .now) (Row.get 7 (T45 .locals) (m87 record { before = record { before = record { before = record { before = c .before; settle = c .settle }; commands3 = record { given = g } }; slice-known13 = record { given = g' } }; scratch4 = record { given = g'' } } g'3) .now) (Row.get 8 (T45 .locals) (m87 record { before = record { before = record { before = record { before = c .before; settle = c .settle }; commands3 = record { given = g } }; slice-known13 = record { given = g' } }; scratch4 = record { given = g'' } } g'3) .now) (Row.get 9 (T45 .locals) (m87 record { before = record { before = record { before = record { before = c .before; settle = c .settle }; commands3 = record { given = g } }; slice-known13 = record { given = g' } }; scratch4 = record { given = g'' } } g'3) .now) (Row.get 11 (T45 .locals) (m87 record { before = record { before = record { before = record { before = c .before; settle = c .settle }; commands3 = record { given = g } }; slice-known13 = record { given = g' } }; scratch4 = record { given = g'' } } g'3)) (Row.get 12 (T45 .locals) (m87 record { before = record { before = record { before = record { before = c .before; settle = c .settle }; commands3 = record { given = g } }; slice-known13 = record { given = g' } }; scratch4 = record { given = g'' } } g'3)) (Row.get 13 (T45 .locals) (m87 record { before = record { before = record { before = record { before = c .before; settle = c .settle }; commands3 = record { given = g } }; slice-known13 = record { given = g' } }; scratch4 = record { given = g'' } } g'3)) (Row.get 14 (T45 .locals) (m87 record { before = record { before = record { before = record { before = c .before; settle = c .settle }; commands3 = record { given = g } }; slice-known13 = record { given = g' } }; scratch4 = record { given = g'' } } g'3)), loop-less record { before = record { before = record { before = record { before = record { before = c .before; settle = c .settle }; commands3 = record { given = g } }; slice-known13 = record { given = g' } }; scratch4 = record { given = g'' } }; slice-known14 = record { given = g'3 } }, ((Row.get 6 (T45 .locals) (m87 record { before = record { before = record { before = record { before = c .before; settle = c .settle }; commands3 = record { given = g } }; slice-known13 = record { given = g' } }; scratch4 = record { given = g'' } } g'3) .now, Row.get 7 (T45 .locals) (m87 record { before = record { before = record { before = record { before = c .before; settle = c .settle }; commands3 = record { given = g } }; slice-known13 = record { given = g' } }; scratch4 = record { given = g'' } } g'3) .now, Row.get 8 (T45 .locals) (m87 record { before = record { before = record { before = record { before = c .before; settle = c .settle }; commands3 = record { given = g } }; slice-known13 = record { given = g' } }; scratch4 = record { given = g'' } } g'3) .now, Row.get 9 (T45 .locals) (m87 record { before = record { before = record { before = record { before = c .before; settle = c .settle }; commands3 = record { given = g } }; slice-known13 = record { given = g' } }; scratch4 = record { given = g'' } } g'3) .now, Row.get 11 (T45 .locals) (m87 record { before = record { before = record { before = record { before = c .before; settle = c .settle }; commands3 = record { given = g } }; slice-known13 = record { given = g' } }; scratch4 = record { given = g'' } } g'3), Row.get 12 (T45 .locals) (m87 record { before = record { before = record { before = record { before = c .before; settle = c .settle }; commands3 = record { given = g } }; slice-known13 = record { given = g' } }; scratch4 = record { given = g'' } } g'3), Row.get 13 (T45 .locals) (m87 record { before = record { before = record { before = record { before = c .before; settle = c .settle }; commands3 = record { given = g } }; slice-known13 = record { given = g' } }; scratch4 = record { given = g'' } } g'3), Row.get 14 (T45 .locals) (m87 record { before = record { before = record { before = record { before = c .before; settle = c .settle }; commands3 = record { given = g } }; slice-known13 = record { given = g' } }; scratch4 = record { given = g'' } } g'3)), Path'.refl {a = m87 record { before = record { before = record { before = record { before = c .before; settle = c .settle }; commands3 = record { given = g } }; slice-known13 = record { given = g' } }; scratch4 = record { given = g'' } } g'3}, loop-again record { before = record { before = record { before = record { before = record { before = c .before; settle = c .settle }; commands3 = record { given = g } }; slice-known13 = record { given = g' } }; scratch4 = record { given = g'' } }; slice-known14 = record { given = g'3 } }, Path'.refl {a = μ·0 (Row.get 1 (T45 .locals) (m32 (c .before .before .before .before .before .before .before .before .before .before .before .before .before .before .before .before .before .before .before .before .before .before .before .before .before) (c .before .before .before .before .before .before .before .before .before .before .before .before .before .before .before .before .before .before .before .before .before .before .before .before .slice-known8 .given))) (Row.get 2 (T45 .locals) (m32 (c .before .before .before .before .before .before .before .before .before .before .before .before .before .before .before .before .before .before .before .before .before .before .before .before .before) (c .before .before .before .before .before .before .before .before .before .before .before .before .before .before .before .before .before .before .before .before .before .before .before .before .slice-known8 .given)) .now) (Row.get 3 (T45 .locals) (m32 (c .before .before .before .before .before .before .before .before .before .before .before .before .before .before .before .before .before .before .before .before .before .before .before .before .before) (c .before .before .before .before .before .before .before .before .before .before .before .before .before .before .before .before .before .before .before .before .before .before .before .before .slice-known8 .given)) .now) (Row.get 4 (T45 .locals) (m32 (c .before .before .before .before .before .before .before .before .before .before .before .before .before .before .before .before .before .before .before .before .before .before .before .before .before) (c .before .before .before .before .before .before .before .before .before .before .before .before .before .before .before .before .before .before .before .before .before .before .before .before .slice-known8 .given)) .now) (Row.get 5 (T45 .locals) (m32 (c .before .before .before .before .before .before .before .before .before .before .before .before .before .before .before .before .before .before .before .before .before .before .before .before .before) (c .before .before .before .before .before .before .before .before .before .before .before .before .before .before .before .before .before .before .before .before .before .before .before .before .slice-known8 .given))) (Row.get 6 (T45 .locals) (m32 (c .before .before .before .before .before .before .before .before .before .before .before .before .before .before .before .before .before .before .before .before .before .before .before .before .before) (c .before .before .before .before .before .before .before .before .before .before .before .before .before .before .before .before .before .before .before .before .before .before .before .before .slice-known8 .given)) .now) (Row.get 7 (T45 .locals) (m32 (c .before .before .before .before .before .before .before .before .before .before .before .before .before .before .before .before .before .before .before .before .before .before .before .before .before) (c .before .before .before .before .before .before .before .before .before .before .before .before .before .before .before .before .before .before .before .before .before .before .before .before .slice-known8 .given)) .now) (Row.get 8 (T45 .locals) (m32 (c .before .before .before .before .before .before .before .before .before .before .before .before .before .before .before .before .before .before .before .before .before .before .before .before .before) (c .before .before .before .before .before .before .before .before .before .before .before .before .before .before .before .before .before .before .before .before .before .before .before .before .slice-known8 .given)) .now) (Row.get 9 (T45 .locals) (m32 (c .before .before .before .before .before .before .before .before .before .before .before .before .before .before .before .before .before .before .before .before .before .before .before .before .before) (c .before .before .before .before .before .before .before .before .before .before .before .before .before .before .before .before .before .before .before .before .before .before .before .before .slice-known8 .given)) .now) (Row.get 11 (T45 .locals) (m32 (c .before .before .before .before .before .before .before .before .before .before .before .before .before .before .before .before .before .before .before .before .before .before .before .before .before) (c .before .before .before .before .before .before .before .before .before .before .before .before .before .before .before .before .before .before .before .before .before .before .before .before .slice-known8 .given))) (Row.get 12 (T45 .locals) (m32 (c .before .before .before .before .before .before .before .before .before .before .before .before .before .before .before .before .before .before .before .before .before .before .before .before .before) (c .before .before .before .before .before .before .before .before .before .before .before .before .before .before .before .before .before .before .before .before .before .before .before .before .slice-known8 .given))) (Row.get 13 (T45 .locals) (m32 (c .before .before .before .before .before .before .before .before .before .before .before .before .before .before .before .before .before .before .before .before .before .before .before .before .before) (c .before .before .before .before .before .before .before .before .before .before .before .before .before .before .before .before .before .before .before .before .before .before .before .before .slice-known8 .given))) (Row.get 14 (T45 .locals) (m32 (c .before .before .before .before .before .before .before .before .before .before .before .before .before .before .before .before .before .before .before .before .before .before .before .before .before) (c .before .before .before .before .before .before .before .before .before .before .before .before .before .before .before .before .before .before .before .before .before .before .before .before .slice-known8 .given))) (Row.get 6 (T45 .locals) (m87 record { before = record { before = record { before = record { before = c .before; settle = c .settle }; commands3 = record { given = g } }; slice-known13 = record { given = g' } }; scratch4 = record { given = g'' } } g'3) .now) (Row.get 7 (T45 .locals) (m87 record { before = record { before = record { before = record { before = c .before; settle = c .settle }; commands3 = record { given = g } }; slice-known13 = record { given = g' } }; scratch4 = record { given = g'' } } g'3) .now) (Row.get 8 (T45 .locals) (m87 record { before = record { before = record { before = record { before = c .before; settle = c .settle }; commands3 = record { given = g } }; slice-known13 = record { given = g' } }; scratch4 = record { given = g'' } } g'3) .now) (Row.get 9 (T45 .locals) (m87 record { before = record { before = record { before = record { before = c .before; settle = c .settle }; commands3 = record { given = g } }; slice-known13 = record { given = g' } }; scratch4 = record { given = g'' } } g'3) .now) (Row.get 11 (T45 .locals) (m87 record { before = record { before = record { before = record { before = c .before; settle = c .settle }; commands3 = record { given = g } }; slice-known13 = record { given = g' } }; scratch4 = record { given = g'' } } g'3)) (Row.get 12 (T45 .locals) (m87 record { before = record { before = record { before = record { before = c .before; settle = c .settle }; commands3 = record { given = g } }; slice-known13 = record { given = g' } }; scratch4 = record { given = g'' } } g'3)) (Row.get 13 (T45 .locals) (m87 record { before = record { before = record { before = record { before = c .before; settle = c .settle }; commands3 = record { given = g } }; slice-known13 = record { given = g' } }; scratch4 = record { given = g'' } } g'3)) (Row.get 14 (T45 .locals) (m87 record { before = record { before = record { before = record { before = c .before; settle = c .settle }; commands3 = record { given = g } }; slice-known13 = record { given = g' } }; scratch4 = record { given = g'' } } g'3))})))))
 
-        lay11 : (c : After-kept) → at38 (W3 (c .before .before .before .before .before .before .before .before .before .before .before .before .before .before .before .before .before) (c .before .before .before .before .before .before .before .before .before .before .before .before .before .before .before .before .loop .commands) (c .before .before .before .before .before .before .before .before .before .before .before .before .before .before .before .before .loop .scratch) (c .before .before .before .before .before .before .before .before .before .before .before .before .before .before .before .before .loop .queue) (c .before .before .before .before .before .before .before .before .before .before .before .before .before .before .before .before .loop .end) (c .before .before .before .before .before .before .before .before .before .before .before .before .before .before .before .before .loop .q) (c .before .before .before .before .before .before .before .before .before .before .before .before .before .before .before .before .loop .h) (c .before .before .before .before .before .before .before .before .before .before .before .before .before .before .before .before .loop .count)) (m62 (c .before) (After-kept·gave c))
-        lay11 = λ c. λ g. (Path'.refl, λ g'. (Path'.refl, λ g''. (Path'.refl, (settle-requires record { before = record { before = record { before = record { before = c .before; kept = c .kept }; settle-arg = record { given = g } }; settle-arg2 = record { given = g' } }; settle-arg3 = record { given = g'' } }, λ g'3. lay12 record { before = record { before = record { before = record { before = record { before = c .before; kept = c .kept }; settle-arg = record { given = g } }; settle-arg2 = record { given = g' } }; settle-arg3 = record { given = g'' } }; settle = Called.called ps·8 r·8 (claims· .17) T107 (record { pos = 1; st = List.[]; d = 0; at = λ x. x }, (record { pos = 2; ty = Syntax.tyRef (Syntax.named 0) Syntax.imm (Memory.pointee (T.the-row .written)); ref = λ x. x }, (record { pos = 39; ty = Syntax.tyRef Syntax.erased Syntax.mut (Syntax.tyInt Syntax.w16); ref = λ x. x }, (record { pos = 41; ty = Syntax.tyRef Syntax.erased Syntax.mut (Syntax.tyInt Syntax.w16); ref = λ x. x }, (record { pos = 43; ty = Syntax.tyRef Syntax.erased Syntax.imm (Syntax.tyInt Syntax.w16); ref = λ x. x }, (Num.vAt 11 λ x. x, (Num.vFld 14 (List._∷_ (Syntax.field 0) List.[]) 0 λ x. Progress.struct .as-values x .0, tt))))))) (m72 record { before = record { before = record { before = c .before; kept = c .kept }; settle-arg = record { given = g } }; settle-arg2 = record { given = g' } } g'') g'3 }))))
+        lay11 : (c : After-kept) → at38 (W3 (c .before .before .before .before .before .before .before .before .before .before .before .before .before .before .before .before .before .before .before .before) (c .before .before .before .before .before .before .before .before .before .before .before .before .before .before .before .before .before .before .before .loop .commands) (c .before .before .before .before .before .before .before .before .before .before .before .before .before .before .before .before .before .before .before .loop .scratch) (c .before .before .before .before .before .before .before .before .before .before .before .before .before .before .before .before .before .before .before .loop .queue) (c .before .before .before .before .before .before .before .before .before .before .before .before .before .before .before .before .before .before .before .loop .tried) (c .before .before .before .before .before .before .before .before .before .before .before .before .before .before .before .before .before .before .before .loop .end) (c .before .before .before .before .before .before .before .before .before .before .before .before .before .before .before .before .before .before .before .loop .q) (c .before .before .before .before .before .before .before .before .before .before .before .before .before .before .before .before .before .before .before .loop .h) (c .before .before .before .before .before .before .before .before .before .before .before .before .before .before .before .before .before .before .before .loop .count)) (m67 (c .before) (After-kept·gave c))
+        lay11 = λ c. λ g. (Path'.refl, λ g'. (Path'.refl, λ g''. (Path'.refl, (settle-requires record { before = record { before = record { before = record { before = c .before; kept = c .kept }; settle-arg = record { given = g } }; settle-arg2 = record { given = g' } }; settle-arg3 = record { given = g'' } }, λ g'3. lay12 record { before = record { before = record { before = record { before = record { before = c .before; kept = c .kept }; settle-arg = record { given = g } }; settle-arg2 = record { given = g' } }; settle-arg3 = record { given = g'' } }; settle = Called.called ps·8 r·8 (claims· .17) T115 (record { pos = 1; st = List.[]; d = 0; at = λ x. x }, (record { pos = 2; ty = Syntax.tyRef (Syntax.named 0) Syntax.imm (Memory.pointee (T.the-row .written)); ref = λ x. x }, (record { pos = 42; ty = Syntax.tyRef Syntax.erased Syntax.mut (Syntax.tyInt Syntax.w16); ref = λ x. x }, (record { pos = 44; ty = Syntax.tyRef Syntax.erased Syntax.mut (Syntax.tyInt Syntax.w16); ref = λ x. x }, (record { pos = 46; ty = Syntax.tyRef Syntax.erased Syntax.imm (Syntax.tyInt Syntax.w16); ref = λ x. x }, (Num.vAt 12 λ x. x, (Num.vFld 15 (List._∷_ (Syntax.field 0) List.[]) 0 λ x. Progress.struct .as-values x .0, tt))))))) (m77 record { before = record { before = record { before = c .before; kept = c .kept }; settle-arg = record { given = g } }; settle-arg2 = record { given = g' } } g'') g'3 }))))
 
-        lay10 : (c : After-round-end) → at49 (W3 (c .before .before .before .before .before .before .before .before .before .before .before .before .before .before) (c .before .before .before .before .before .before .before .before .before .before .before .before .before .loop .commands) (c .before .before .before .before .before .before .before .before .before .before .before .before .before .loop .scratch) (c .before .before .before .before .before .before .before .before .before .before .before .before .before .loop .queue) (c .before .before .before .before .before .before .before .before .before .before .before .before .before .loop .end) (c .before .before .before .before .before .before .before .before .before .before .before .before .before .loop .q) (c .before .before .before .before .before .before .before .before .before .before .before .before .before .loop .h) (c .before .before .before .before .before .before .before .before .before .before .before .before .before .loop .count)) (m55 (c .before) (After-round-end·gave c))
-        lay10 = λ c. λ g. (Path'.refl, λ g'. (Path'.refl, (kept-requires record { before = record { before = record { before = c .before; round-end = c .round-end }; kept-arg = record { given = g } }; kept-arg2 = record { given = g' } }, λ g''. lay11 record { before = record { before = record { before = record { before = c .before; round-end = c .round-end }; kept-arg = record { given = g } }; kept-arg2 = record { given = g' } }; kept = Called.called ps·7 r·7 (claims· .15) T89 (record { pos = 34; ty = Syntax.tyRef Syntax.erased Syntax.imm (Syntax.tyInt Syntax.w16); ref = λ x. x }, (record { pos = 36; ty = Syntax.tyRef Syntax.erased Syntax.imm (Syntax.tyInt Syntax.w16); ref = λ x. x }, (Num.vFld 14 (List._∷_ (Syntax.field 0) List.[]) 0 λ x. Progress.struct .as-values x .0, (Num.vAt 12 λ x. x, tt)))) (m61 record { before = record { before = c .before; round-end = c .round-end }; kept-arg = record { given = g } } g') g'' })))
+        lay10 : (c : After-round-end) → at49 (W3 (c .before .before .before .before .before .before .before .before .before .before .before .before .before .before .before .before .before) (c .before .before .before .before .before .before .before .before .before .before .before .before .before .before .before .before .loop .commands) (c .before .before .before .before .before .before .before .before .before .before .before .before .before .before .before .before .loop .scratch) (c .before .before .before .before .before .before .before .before .before .before .before .before .before .before .before .before .loop .queue) (c .before .before .before .before .before .before .before .before .before .before .before .before .before .before .before .before .loop .tried) (c .before .before .before .before .before .before .before .before .before .before .before .before .before .before .before .before .loop .end) (c .before .before .before .before .before .before .before .before .before .before .before .before .before .before .before .before .loop .q) (c .before .before .before .before .before .before .before .before .before .before .before .before .before .before .before .before .loop .h) (c .before .before .before .before .before .before .before .before .before .before .before .before .before .before .before .before .loop .count)) (m60 (c .before) (After-round-end·gave c))
+        lay10 = λ c. λ g. (Path'.refl, λ g'. (Path'.refl, (kept-requires record { before = record { before = record { before = c .before; round-end = c .round-end }; kept-arg = record { given = g } }; kept-arg2 = record { given = g' } }, λ g''. lay11 record { before = record { before = record { before = record { before = c .before; round-end = c .round-end }; kept-arg = record { given = g } }; kept-arg2 = record { given = g' } }; kept = Called.called ps·7 r·7 (claims· .15) T97 (record { pos = 37; ty = Syntax.tyRef Syntax.erased Syntax.imm (Syntax.tyInt Syntax.w16); ref = λ x. x }, (record { pos = 39; ty = Syntax.tyRef Syntax.erased Syntax.imm (Syntax.tyInt Syntax.w16); ref = λ x. x }, (Num.vFld 15 (List._∷_ (Syntax.field 0) List.[]) 0 λ x. Progress.struct .as-values x .0, (Num.vAt 13 λ x. x, tt)))) (m66 record { before = record { before = c .before; round-end = c .round-end }; kept-arg = record { given = g } } g') g'' })))
 
-        lay9 : (c : After-walk) → at68 (W3 (c .before .before .before .before .before .before) (c .before .before .before .before .before .loop .commands) (c .before .before .before .before .before .loop .scratch) (c .before .before .before .before .before .loop .queue) (c .before .before .before .before .before .loop .end) (c .before .before .before .before .before .loop .q) (c .before .before .before .before .before .loop .h) (c .before .before .before .before .before .loop .count)) (m43 (c .before) (After-walk·gave c))
-        lay9 = λ c. (Path'.refl, λ g. λ g'. (Path'.refl, λ g''. λ g'3. (Path'.refl, λ g'4. λ g'5. λ g'6. (Path'.refl, (round-end-requires record { before = record { before = record { before = record { before = record { before = record { before = record { before = record { before = c .before; walk = c .walk }; commands2 = record { given = g } }; slice-known8 = record { given = g' } }; scratch3 = record { given = g'' } }; slice-known9 = record { given = g'3 } }; queue2 = record { given = g'4 } }; slice-known10 = record { given = g'5 } }; round-end-arg = record { given = g'6 } }, λ g'7. lay10 record { before = record { before = record { before = record { before = record { before = record { before = record { before = record { before = record { before = c .before; walk = c .walk }; commands2 = record { given = g } }; slice-known8 = record { given = g' } }; scratch3 = record { given = g'' } }; slice-known9 = record { given = g'3 } }; queue2 = record { given = g'4 } }; slice-known10 = record { given = g'5 } }; round-end-arg = record { given = g'6 } }; round-end = Called.called ps·6 r·6 (claims· .13) T78 (record { pos = 32; ty = Syntax.tyRef Syntax.erased Syntax.imm (Syntax.tyInt Syntax.w16); ref = λ x. x }, (Num.vAt 5 λ x. x, (Num.vAt 12 λ x. x, tt))) (m54 record { before = record { before = record { before = record { before = record { before = record { before = record { before = c .before; walk = c .walk }; commands2 = record { given = g } }; slice-known8 = record { given = g' } }; scratch3 = record { given = g'' } }; slice-known9 = record { given = g'3 } }; queue2 = record { given = g'4 } }; slice-known10 = record { given = g'5 } } g'6) g'7 })))))
+        lay9 : (c : After-walk) → at72 (W3 (c .before .before .before .before .before .before .before) (c .before .before .before .before .before .before .loop .commands) (c .before .before .before .before .before .before .loop .scratch) (c .before .before .before .before .before .before .loop .queue) (c .before .before .before .before .before .before .loop .tried) (c .before .before .before .before .before .before .loop .end) (c .before .before .before .before .before .before .loop .q) (c .before .before .before .before .before .before .loop .h) (c .before .before .before .before .before .before .loop .count)) (m46 (c .before) (After-walk·gave c))
+        lay9 = λ c. (Path'.refl, λ g. λ g'. (Path'.refl, λ g''. λ g'3. (Path'.refl, λ g'4. λ g'5. (Path'.refl, λ g'6. λ g'7. λ g'8. (Path'.refl, (round-end-requires record { before = record { before = record { before = record { before = record { before = record { before = record { before = record { before = record { before = record { before = c .before; walk = c .walk }; commands2 = record { given = g } }; slice-known9 = record { given = g' } }; scratch3 = record { given = g'' } }; slice-known10 = record { given = g'3 } }; queue2 = record { given = g'4 } }; slice-known11 = record { given = g'5 } }; tried = record { given = g'6 } }; slice-known12 = record { given = g'7 } }; round-end-arg = record { given = g'8 } }, λ g'9. lay10 record { before = record { before = record { before = record { before = record { before = record { before = record { before = record { before = record { before = record { before = record { before = c .before; walk = c .walk }; commands2 = record { given = g } }; slice-known9 = record { given = g' } }; scratch3 = record { given = g'' } }; slice-known10 = record { given = g'3 } }; queue2 = record { given = g'4 } }; slice-known11 = record { given = g'5 } }; tried = record { given = g'6 } }; slice-known12 = record { given = g'7 } }; round-end-arg = record { given = g'8 } }; round-end = Called.called ps·6 r·6 (claims· .13) T86 (record { pos = 35; ty = Syntax.tyRef Syntax.erased Syntax.imm (Syntax.tyInt Syntax.w16); ref = λ x. x }, (Num.vAt 5 λ x. x, (Num.vAt 13 λ x. x, tt))) (m59 record { before = record { before = record { before = record { before = record { before = record { before = record { before = record { before = record { before = c .before; walk = c .walk }; commands2 = record { given = g } }; slice-known9 = record { given = g' } }; scratch3 = record { given = g'' } }; slice-known10 = record { given = g'3 } }; queue2 = record { given = g'4 } }; slice-known11 = record { given = g'5 } }; tried = record { given = g'6 } }; slice-known12 = record { given = g'7 } } g'8) g'9 }))))))
 
-        lay8 : (c : In-loop) → at78 (W3 (c .before .before) (c .before .loop .commands) (c .before .loop .scratch) (c .before .loop .queue) (c .before .loop .end) (c .before .loop .q) (c .before .loop .h) (c .before .loop .count)) (m35 (c .before))
-        lay8 = λ c. λ g. (Path'.refl, λ g'. (Path'.refl, λ g''. (Path'.refl, (walk-requires record { before = record { before = record { before = record { before = c .before; loop-test = c .loop-test }; walk-arg = record { given = g } }; walk-arg2 = record { given = g' } }; walk-arg3 = record { given = g'' } }, λ g'3. lay9 record { before = record { before = record { before = record { before = record { before = c .before; loop-test = c .loop-test }; walk-arg = record { given = g } }; walk-arg2 = record { given = g' } }; walk-arg3 = record { given = g'' } }; walk = Called.called ps·5 r·5 (claims· .11) T59 (record { pos = 1; st = List.[]; d = 0; at = λ x. x }, (record { pos = 2; ty = Syntax.tyRef (Syntax.named 0) Syntax.imm (Memory.pointee (T.the-row .written)); ref = λ x. x }, (record { pos = 3; ty = Syntax.tyRef (Syntax.named 1) Syntax.imm (Syntax.tyInt Syntax.w16); ref = λ x. x }, (record { pos = 4; ty = Syntax.tyRef (Syntax.named 2) Syntax.imm (Syntax.tyInt Syntax.w16); ref = λ x. x }, (record { pos = 26; ty = Syntax.tyRef Syntax.erased Syntax.mut (Syntax.tyInt Syntax.w16); ref = λ x. x }, (record { pos = 28; ty = Syntax.tyRef Syntax.erased Syntax.mut (Syntax.tyInt Syntax.w16); ref = λ x. x }, (record { pos = 30; ty = Syntax.tyRef Syntax.erased Syntax.mut (Syntax.tyInt Syntax.w16); ref = λ x. x }, (Num.vAt 12 λ x. x, (Num.vAt 11 λ x. x, tt))))))))) (m42 record { before = record { before = record { before = c .before; loop-test = c .loop-test }; walk-arg = record { given = g } }; walk-arg2 = record { given = g' } } g'') g'3 }))))
+        lay8 : (c : In-loop) → at85 (W3 (c .before .before) (c .before .loop .commands) (c .before .loop .scratch) (c .before .loop .queue) (c .before .loop .tried) (c .before .loop .end) (c .before .loop .q) (c .before .loop .h) (c .before .loop .count)) (m36 (c .before))
+        lay8 = λ c. λ g. (Path'.refl, λ g'. (Path'.refl, λ g''. (Path'.refl, λ g'3. (Path'.refl, (walk-requires record { before = record { before = record { before = record { before = record { before = c .before; loop-test = c .loop-test }; walk-arg = record { given = g } }; walk-arg2 = record { given = g' } }; walk-arg3 = record { given = g'' } }; walk-arg4 = record { given = g'3 } }, λ g'4. lay9 record { before = record { before = record { before = record { before = record { before = record { before = c .before; loop-test = c .loop-test }; walk-arg = record { given = g } }; walk-arg2 = record { given = g' } }; walk-arg3 = record { given = g'' } }; walk-arg4 = record { given = g'3 } }; walk = Called.called ps·5 r·5 (claims· .11) T63 (record { pos = 1; st = List.[]; d = 0; at = λ x. x }, (record { pos = 2; ty = Syntax.tyRef (Syntax.named 0) Syntax.imm (Memory.pointee (T.the-row .written)); ref = λ x. x }, (record { pos = 3; ty = Syntax.tyRef (Syntax.named 1) Syntax.imm (Syntax.tyInt Syntax.w16); ref = λ x. x }, (record { pos = 4; ty = Syntax.tyRef (Syntax.named 2) Syntax.imm (Syntax.tyInt Syntax.w16); ref = λ x. x }, (record { pos = 27; ty = Syntax.tyRef Syntax.erased Syntax.mut (Syntax.tyInt Syntax.w16); ref = λ x. x }, (record { pos = 29; ty = Syntax.tyRef Syntax.erased Syntax.mut (Syntax.tyInt Syntax.w16); ref = λ x. x }, (record { pos = 31; ty = Syntax.tyRef Syntax.erased Syntax.mut (Syntax.tyInt Syntax.w16); ref = λ x. x }, (record { pos = 33; ty = Syntax.tyRef Syntax.erased Syntax.mut (Syntax.tyInt Syntax.w16); ref = λ x. x }, (Num.vAt 13 λ x. x, (Num.vAt 12 λ x. x, tt)))))))))) (m45 record { before = record { before = record { before = record { before = c .before; loop-test = c .loop-test }; walk-arg = record { given = g } }; walk-arg2 = record { given = g' } }; walk-arg3 = record { given = g'' } } g'3) g'4 })))))
 
-        lay7 : (c : After-loop) → at4 (W4 (c .before .before) (c .before .loop .commands) (c .before .loop .scratch) (c .before .loop .queue) (c .before .loop .end) (c .before .loop .q) (c .before .loop .h) (c .before .loop .count)) (m33 (c .before .before) (c .before .loop .commands) (c .before .loop .scratch) (c .before .loop .queue) (c .before .loop .end) (c .before .loop .q) (c .before .loop .h) (c .before .loop .count))
+        lay7 : (c : After-loop) → at4 (W4 (c .before .before) (c .before .loop .commands) (c .before .loop .scratch) (c .before .loop .queue) (c .before .loop .tried) (c .before .loop .end) (c .before .loop .q) (c .before .loop .h) (c .before .loop .count)) (m34 (c .before .before) (c .before .loop .commands) (c .before .loop .scratch) (c .before .loop .queue) (c .before .loop .tried) (c .before .loop .end) (c .before .loop .q) (c .before .loop .h) (c .before .loop .count))
         lay7 = λ c. lay13 record { before = c .before; loop-test = c .loop-test }
 
-        lay6 : (c : In-loop) → at2 (W4 (c .before .before) (c .before .loop .commands) (c .before .loop .scratch) (c .before .loop .queue) (c .before .loop .end) (c .before .loop .q) (c .before .loop .h) (c .before .loop .count)) (m33 (c .before .before) (c .before .loop .commands) (c .before .loop .scratch) (c .before .loop .queue) (c .before .loop .end) (c .before .loop .q) (c .before .loop .h) (c .before .loop .count))
+        lay6 : (c : In-loop) → at2 (W4 (c .before .before) (c .before .loop .commands) (c .before .loop .scratch) (c .before .loop .queue) (c .before .loop .tried) (c .before .loop .end) (c .before .loop .q) (c .before .loop .h) (c .before .loop .count)) (m34 (c .before .before) (c .before .loop .commands) (c .before .loop .scratch) (c .before .loop .queue) (c .before .loop .tried) (c .before .loop .end) (c .before .loop .q) (c .before .loop .h) (c .before .loop .count))
         lay6 = λ c. lay8 record { before = c .before; loop-test = c .loop-test }
 
-        lay5 : (c : After-reach) → at115 (W0 (c .before .before .before .before .before .before .before .before .before .before .before .before .before .before .before .before .before .before .κs) (c .before .before .before .before .before .before .before .before .before .before .before .before .before .before .before .before .before .before .args)) (m25 (c .before) (After-reach·gave c))
-        lay5 = λ c. (Path'.refl, λ g. λ g'. (Path'.refl, λ g''. λ g'3. (((Row.get 6 (T44 .locals) (m31 record { before = record { before = record { before = record { before = c .before; reach = c .reach }; scratch2 = record { given = g } }; slice-known6 = record { given = g' } }; queue = record { given = g'' } } g'3) .now, Row.get 7 (T44 .locals) (m31 record { before = record { before = record { before = record { before = c .before; reach = c .reach }; scratch2 = record { given = g } }; slice-known6 = record { given = g' } }; queue = record { given = g'' } } g'3) .now, Row.get 8 (T44 .locals) (m31 record { before = record { before = record { before = record { before = c .before; reach = c .reach }; scratch2 = record { given = g } }; slice-known6 = record { given = g' } }; queue = record { given = g'' } } g'3) .now, Row.get 10 (T44 .locals) (m31 record { before = record { before = record { before = record { before = c .before; reach = c .reach }; scratch2 = record { given = g } }; slice-known6 = record { given = g' } }; queue = record { given = g'' } } g'3), Row.get 11 (T44 .locals) (m31 record { before = record { before = record { before = record { before = c .before; reach = c .reach }; scratch2 = record { given = g } }; slice-known6 = record { given = g' } }; queue = record { given = g'' } } g'3), Row.get 12 (T44 .locals) (m31 record { before = record { before = record { before = record { before = c .before; reach = c .reach }; scratch2 = record { given = g } }; slice-known6 = record { given = g' } }; queue = record { given = g'' } } g'3), Row.get 13 (T44 .locals) (m31 record { before = record { before = record { before = record { before = c .before; reach = c .reach }; scratch2 = record { given = g } }; slice-known6 = record { given = g' } }; queue = record { given = g'' } } g'3)), Path'.refl {a = m31 record { before = record { before = record { before = record { before = c .before; reach = c .reach }; scratch2 = record { given = g } }; slice-known6 = record { given = g' } }; queue = record { given = g'' } } g'3}, loop-holds record { before = record { before = record { before = record { before = record { before = c .before; reach = c .reach }; scratch2 = record { given = g } }; slice-known6 = record { given = g' } }; queue = record { given = g'' } }; slice-known7 = record { given = g'3 } }), λ vs inv. (tt, (λ taken. lay6 record { before = record { before = record { before = record { before = record { before = record { before = record { before = c .before; reach = c .reach }; scratch2 = record { given = g } }; slice-known6 = record { given = g' } }; queue = record { given = g'' } }; slice-known7 = record { given = g'3 } }; loop = record { commands = vs .0; scratch = vs .1; queue = vs .2; end = vs .3; q = vs .4; h = vs .5; count = vs .6; inv = inv } }; loop-test = record { taken = Tests.eqb-true (Row.get 10 (T44 .locals) (m32 record { before = record { before = record { before = record { before = record { before = c .before; reach = c .reach }; scratch2 = record { given = g } }; slice-known6 = record { given = g' } }; queue = record { given = g'' } }; slice-known7 = record { given = g'3 } } (vs .0) (vs .1) (vs .2) (vs .3) (vs .4) (vs .5) (vs .6))) 2 taken } }, λ left. lay7 record { before = record { before = record { before = record { before = record { before = record { before = record { before = c .before; reach = c .reach }; scratch2 = record { given = g } }; slice-known6 = record { given = g' } }; queue = record { given = g'' } }; slice-known7 = record { given = g'3 } }; loop = record { commands = vs .0; scratch = vs .1; queue = vs .2; end = vs .3; q = vs .4; h = vs .5; count = vs .6; inv = inv } }; loop-test = record { left = Tests.eqb-false (Row.get 10 (T44 .locals) (m32 record { before = record { before = record { before = record { before = record { before = c .before; reach = c .reach }; scratch2 = record { given = g } }; slice-known6 = record { given = g' } }; queue = record { given = g'' } }; slice-known7 = record { given = g'3 } } (vs .0) (vs .1) (vs .2) (vs .3) (vs .4) (vs .5) (vs .6))) 2 left } })))))
+        lay5 : (c : After-reach) → at122 (W0 (c .before .before .before .before .before .before .before .before .before .before .before .before .before .before .before .before .before .before .before .κs) (c .before .before .before .before .before .before .before .before .before .before .before .before .before .before .before .before .before .before .before .args)) (m26 (c .before) (After-reach·gave c))
+        lay5 = λ c. (Path'.refl, λ g. λ g'. (Path'.refl, λ g''. λ g'3. (((Row.get 6 (T45 .locals) (m32 record { before = record { before = record { before = record { before = c .before; reach = c .reach }; scratch2 = record { given = g } }; slice-known7 = record { given = g' } }; queue = record { given = g'' } } g'3) .now, Row.get 7 (T45 .locals) (m32 record { before = record { before = record { before = record { before = c .before; reach = c .reach }; scratch2 = record { given = g } }; slice-known7 = record { given = g' } }; queue = record { given = g'' } } g'3) .now, Row.get 8 (T45 .locals) (m32 record { before = record { before = record { before = record { before = c .before; reach = c .reach }; scratch2 = record { given = g } }; slice-known7 = record { given = g' } }; queue = record { given = g'' } } g'3) .now, Row.get 9 (T45 .locals) (m32 record { before = record { before = record { before = record { before = c .before; reach = c .reach }; scratch2 = record { given = g } }; slice-known7 = record { given = g' } }; queue = record { given = g'' } } g'3) .now, Row.get 11 (T45 .locals) (m32 record { before = record { before = record { before = record { before = c .before; reach = c .reach }; scratch2 = record { given = g } }; slice-known7 = record { given = g' } }; queue = record { given = g'' } } g'3), Row.get 12 (T45 .locals) (m32 record { before = record { before = record { before = record { before = c .before; reach = c .reach }; scratch2 = record { given = g } }; slice-known7 = record { given = g' } }; queue = record { given = g'' } } g'3), Row.get 13 (T45 .locals) (m32 record { before = record { before = record { before = record { before = c .before; reach = c .reach }; scratch2 = record { given = g } }; slice-known7 = record { given = g' } }; queue = record { given = g'' } } g'3), Row.get 14 (T45 .locals) (m32 record { before = record { before = record { before = record { before = c .before; reach = c .reach }; scratch2 = record { given = g } }; slice-known7 = record { given = g' } }; queue = record { given = g'' } } g'3)), Path'.refl {a = m32 record { before = record { before = record { before = record { before = c .before; reach = c .reach }; scratch2 = record { given = g } }; slice-known7 = record { given = g' } }; queue = record { given = g'' } } g'3}, loop-holds record { before = record { before = record { before = record { before = record { before = c .before; reach = c .reach }; scratch2 = record { given = g } }; slice-known7 = record { given = g' } }; queue = record { given = g'' } }; slice-known8 = record { given = g'3 } }), λ vs inv. (tt, (λ taken. lay6 record { before = record { before = record { before = record { before = record { before = record { before = record { before = c .before; reach = c .reach }; scratch2 = record { given = g } }; slice-known7 = record { given = g' } }; queue = record { given = g'' } }; slice-known8 = record { given = g'3 } }; loop = record { commands = vs .0; scratch = vs .1; queue = vs .2; tried = vs .3; end = vs .4; q = vs .5; h = vs .6; count = vs .7; inv = inv } }; loop-test = record { taken = Tests.eqb-true (Row.get 11 (T45 .locals) (m33 record { before = record { before = record { before = record { before = record { before = c .before; reach = c .reach }; scratch2 = record { given = g } }; slice-known7 = record { given = g' } }; queue = record { given = g'' } }; slice-known8 = record { given = g'3 } } (vs .0) (vs .1) (vs .2) (vs .3) (vs .4) (vs .5) (vs .6) (vs .7))) 2 taken } }, λ left. lay7 record { before = record { before = record { before = record { before = record { before = record { before = record { before = c .before; reach = c .reach }; scratch2 = record { given = g } }; slice-known7 = record { given = g' } }; queue = record { given = g'' } }; slice-known8 = record { given = g'3 } }; loop = record { commands = vs .0; scratch = vs .1; queue = vs .2; tried = vs .3; end = vs .4; q = vs .5; h = vs .6; count = vs .7; inv = inv } }; loop-test = record { left = Tests.eqb-false (Row.get 11 (T45 .locals) (m33 record { before = record { before = record { before = record { before = record { before = c .before; reach = c .reach }; scratch2 = record { given = g } }; slice-known7 = record { given = g' } }; queue = record { given = g'' } }; slice-known8 = record { given = g'3 } } (vs .0) (vs .1) (vs .2) (vs .3) (vs .4) (vs .5) (vs .6) (vs .7))) 2 left } })))))
 
-        lay4 : (c : After-start-end) → at123 (W0 (c .before .before .before .before .before .before .before .before .before .before .before .before .before .before .before .κs) (c .before .before .before .before .before .before .before .before .before .before .before .before .before .before .before .args)) (m19 (c .before) (After-start-end·gave c))
-        lay4 = λ c. λ g. (Path'.refl, λ g'. (Path'.refl, (reach-requires record { before = record { before = record { before = c .before; start-end = c .start-end }; reach-arg = record { given = g } }; reach-arg2 = record { given = g' } }, λ g''. lay5 record { before = record { before = record { before = record { before = c .before; start-end = c .start-end }; reach-arg = record { given = g } }; reach-arg2 = record { given = g' } }; reach = Called.called ps·4 r·4 (claims· .9) T33 (Num.vFld 1 (List._∷_ (Syntax.field 0) List.[]) 0 λ x. Size.struct .as-values x .0, (record { pos = 21; ty = Syntax.tyRef Syntax.erased Syntax.mut (Syntax.tyInt Syntax.w16); ref = λ x. x }, (record { pos = 23; ty = Syntax.tyRef Syntax.erased Syntax.mut (Syntax.tyInt Syntax.w16); ref = λ x. x }, (Num.vLit 0, (Num.vAt 5 λ x. x, (Num.vLit 2, tt)))))) (m24 record { before = record { before = c .before; start-end = c .start-end }; reach-arg = record { given = g } } g') g'' })))
+        lay4 : (c : After-start-end) → at130 (W0 (c .before .before .before .before .before .before .before .before .before .before .before .before .before .before .before .before .κs) (c .before .before .before .before .before .before .before .before .before .before .before .before .before .before .before .before .args)) (m20 (c .before) (After-start-end·gave c))
+        lay4 = λ c. λ g. (Path'.refl, λ g'. (Path'.refl, (reach-requires record { before = record { before = record { before = c .before; start-end = c .start-end }; reach-arg = record { given = g } }; reach-arg2 = record { given = g' } }, λ g''. lay5 record { before = record { before = record { before = record { before = c .before; start-end = c .start-end }; reach-arg = record { given = g } }; reach-arg2 = record { given = g' } }; reach = Called.called ps·4 r·4 (claims· .9) T34 (Num.vFld 1 (List._∷_ (Syntax.field 0) List.[]) 0 λ x. Size.struct .as-values x .0, (record { pos = 22; ty = Syntax.tyRef Syntax.erased Syntax.mut (Syntax.tyInt Syntax.w16); ref = λ x. x }, (record { pos = 24; ty = Syntax.tyRef Syntax.erased Syntax.mut (Syntax.tyInt Syntax.w16); ref = λ x. x }, (Num.vLit 0, (Num.vAt 5 λ x. x, (Num.vLit 2, tt)))))) (m25 record { before = record { before = c .before; start-end = c .start-end }; reach-arg = record { given = g } } g') g'' })))
 
-        lay3 : (c : After-span-at) → at124 (W0 (c .before .before .before .before .before .before .before .before .before .before .before .before .before .before .κs) (c .before .before .before .before .before .before .before .before .before .before .before .before .before .before .args)) (m18 (c .before) (After-span-at·gave c))
-        lay3 = λ c. (start-end-requires record { before = c .before; span-at = c .span-at }, λ g. lay4 record { before = record { before = c .before; span-at = c .span-at }; start-end = Called.called ps·3 r·3 (claims· .7) T25 (record { pos = 9; st = List.[]; d = 0; at = λ x. x }, tt) (m18 (c .before) (After-span-at·gave c)) g })
+        lay3 : (c : After-span-at) → at131 (W0 (c .before .before .before .before .before .before .before .before .before .before .before .before .before .before .before .κs) (c .before .before .before .before .before .before .before .before .before .before .before .before .before .before .before .args)) (m19 (c .before) (After-span-at·gave c))
+        lay3 = λ c. (start-end-requires record { before = c .before; span-at = c .span-at }, λ g. lay4 record { before = record { before = c .before; span-at = c .span-at }; start-end = Called.called ps·3 r·3 (claims· .7) T26 (record { pos = 10; st = List.[]; d = 0; at = λ x. x }, tt) (m19 (c .before) (After-span-at·gave c)) g })
 
-        lay2 : (c : After-start-known) → at130 (W0 (c .before .before .before .before .before .before .before .before .before .before .before .κs) (c .before .before .before .before .before .before .before .before .before .before .before .args)) (m14 (c .before) (After-start-known·gave c))
-        lay2 = λ c. (Path'.refl, λ g. λ g'. (span-at-requires record { before = record { before = record { before = c .before; start-known = c .start-known }; scratch = record { given = g } }; slice-known5 = record { given = g' } }, λ g''. lay3 record { before = record { before = record { before = record { before = c .before; start-known = c .start-known }; scratch = record { given = g } }; slice-known5 = record { given = g' } }; span-at = Called.called ps·2 r·2 (claims· .5) T23 (record { pos = 1; st = List.[]; d = 0; at = λ x. x }, (record { pos = 2; ty = Syntax.tyRef (Syntax.named 0) Syntax.imm (Memory.pointee (T.the-row .written)); ref = λ x. x }, (Num.vAt 5 λ x. x, tt))) (m17 record { before = record { before = c .before; start-known = c .start-known }; scratch = record { given = g } } g') g'' }))
+        lay2 : (c : After-start-known) → at137 (W0 (c .before .before .before .before .before .before .before .before .before .before .before .before .κs) (c .before .before .before .before .before .before .before .before .before .before .before .before .args)) (m15 (c .before) (After-start-known·gave c))
+        lay2 = λ c. (Path'.refl, λ g. λ g'. (span-at-requires record { before = record { before = record { before = c .before; start-known = c .start-known }; scratch = record { given = g } }; slice-known6 = record { given = g' } }, λ g''. lay3 record { before = record { before = record { before = record { before = c .before; start-known = c .start-known }; scratch = record { given = g } }; slice-known6 = record { given = g' } }; span-at = Called.called ps·2 r·2 (claims· .5) T24 (record { pos = 1; st = List.[]; d = 0; at = λ x. x }, (record { pos = 2; ty = Syntax.tyRef (Syntax.named 0) Syntax.imm (Memory.pointee (T.the-row .written)); ref = λ x. x }, (Num.vAt 5 λ x. x, tt))) (m18 record { before = record { before = c .before; start-known = c .start-known }; scratch = record { given = g } } g') g'' }))
 
-        lay1 : (c : After-fill) → at139 (W0 (c .before .before .before .before .before .before .before .κs) (c .before .before .before .before .before .before .before .args)) (m8 (c .before) (After-fill·gave c))
-        lay1 = λ c. (Path'.refl, λ g. λ g'. λ g''. (Path'.refl, (start-known-requires record { before = record { before = record { before = record { before = c .before; fill = c .fill }; commands = record { given = g } }; slice-known4 = record { given = g' } }; start-known-arg = record { given = g'' } }, λ g'3. lay2 record { before = record { before = record { before = record { before = record { before = c .before; fill = c .fill }; commands = record { given = g } }; slice-known4 = record { given = g' } }; start-known-arg = record { given = g'' } }; start-known = Called.called ps·1 r·1 (claims· .3) T18 (record { pos = 1; st = List.[]; d = 0; at = λ x. x }, (record { pos = 2; ty = Syntax.tyRef (Syntax.named 0) Syntax.imm (Memory.pointee (T.the-row .written)); ref = λ x. x }, (record { pos = 19; ty = Syntax.tyRef Syntax.erased Syntax.mut (Syntax.tyInt Syntax.w16); ref = λ x. x }, tt))) (m13 record { before = record { before = record { before = c .before; fill = c .fill }; commands = record { given = g } }; slice-known4 = record { given = g' } } g'') g'3 })))
+        lay1 : (c : After-fill) → at146 (W0 (c .before .before .before .before .before .before .before .before .κs) (c .before .before .before .before .before .before .before .before .args)) (m9 (c .before) (After-fill·gave c))
+        lay1 = λ c. (Path'.refl, λ g. λ g'. λ g''. (Path'.refl, (start-known-requires record { before = record { before = record { before = record { before = c .before; fill = c .fill }; commands = record { given = g } }; slice-known5 = record { given = g' } }; start-known-arg = record { given = g'' } }, λ g'3. lay2 record { before = record { before = record { before = record { before = record { before = c .before; fill = c .fill }; commands = record { given = g } }; slice-known5 = record { given = g' } }; start-known-arg = record { given = g'' } }; start-known = Called.called ps·1 r·1 (claims· .3) T19 (record { pos = 1; st = List.[]; d = 0; at = λ x. x }, (record { pos = 2; ty = Syntax.tyRef (Syntax.named 0) Syntax.imm (Memory.pointee (T.the-row .written)); ref = λ x. x }, (record { pos = 20; ty = Syntax.tyRef Syntax.erased Syntax.mut (Syntax.tyInt Syntax.w16); ref = λ x. x }, tt))) (m14 record { before = record { before = record { before = c .before; fill = c .fill }; commands = record { given = g } }; slice-known5 = record { given = g' } } g'') g'3 })))
 
-        pub laid : (c : Start) → at148 (W0 (c .κs) (c .args)) (m0 (c .κs) (c .args))
-        laid = λ c. λ g. λ g'. λ g''. λ g'3. λ g'4. λ g'5. (Path'.refl, (fill-requires record { before = record { before = record { before = record { before = record { before = record { before = c; shared-slice-known = record { given = g } }; shared-slice-known2 = record { given = g' } }; slice-known = record { given = g'' } }; slice-known2 = record { given = g'3 } }; slice-known3 = record { given = g'4 } }; fill-arg = record { given = g'5 } }, λ g'6. lay1 record { before = record { before = record { before = record { before = record { before = record { before = record { before = c; shared-slice-known = record { given = g } }; shared-slice-known2 = record { given = g' } }; slice-known = record { given = g'' } }; slice-known2 = record { given = g'3 } }; slice-known3 = record { given = g'4 } }; fill-arg = record { given = g'5 } }; fill = Called.called ps·0 r·0 (claims· .1) T9 (record { pos = 17; ty = Syntax.tyRef Syntax.erased Syntax.mut (Syntax.tyInt Syntax.w16); ref = λ x. x }, (Num.vFld 1 (List._∷_ (Syntax.field 0) List.[]) 0 λ x. Size.struct .as-values x .0, (Num.vBig 65535, tt))) (m7 record { before = record { before = record { before = record { before = record { before = c; shared-slice-known = record { given = g } }; shared-slice-known2 = record { given = g' } }; slice-known = record { given = g'' } }; slice-known2 = record { given = g'3 } }; slice-known3 = record { given = g'4 } } g'5) g'6 }))
+        pub laid : (c : Start) → at156 (W0 (c .κs) (c .args)) (m0 (c .κs) (c .args))
+        laid = λ c. λ g. λ g'. λ g''. λ g'3. λ g'4. λ g'5. λ g'6. (Path'.refl, (fill-requires record { before = record { before = record { before = record { before = record { before = record { before = record { before = c; shared-slice-known = record { given = g } }; shared-slice-known2 = record { given = g' } }; slice-known = record { given = g'' } }; slice-known2 = record { given = g'3 } }; slice-known3 = record { given = g'4 } }; slice-known4 = record { given = g'5 } }; fill-arg = record { given = g'6 } }, λ g'7. lay1 record { before = record { before = record { before = record { before = record { before = record { before = record { before = record { before = c; shared-slice-known = record { given = g } }; shared-slice-known2 = record { given = g' } }; slice-known = record { given = g'' } }; slice-known2 = record { given = g'3 } }; slice-known3 = record { given = g'4 } }; slice-known4 = record { given = g'5 } }; fill-arg = record { given = g'6 } }; fill = Called.called ps·0 r·0 (claims· .1) T10 (record { pos = 18; ty = Syntax.tyRef Syntax.erased Syntax.mut (Syntax.tyInt Syntax.w16); ref = λ x. x }, (Num.vFld 1 (List._∷_ (Syntax.field 0) List.[]) 0 λ x. Size.struct .as-values x .0, (Num.vBig 65535, tt))) (m8 record { before = record { before = record { before = record { before = record { before = record { before = c; shared-slice-known = record { given = g } }; shared-slice-known2 = record { given = g' } }; slice-known = record { given = g'' } }; slice-known2 = record { given = g'3 } }; slice-known3 = record { given = g'4 } }; slice-known4 = record { given = g'5 } } g'6) g'7 }))
 
-        module _ (κs : Lifetimes.Lfts 6) (qs : Lifetimes.Shares 6) where
-          pub asked : (a : Kinds.Dens κs ps) → (good : Kinds.GoodsP κs ps a) → (pre : Pre· κs a) → (bs : List.List Nat.ℕ) → Φ (Any.wantQ 6 ps r xs m κs qs a (Post· κs a)) (Function.init 6 ps r xs m κs qs a)
-          asked = λ a good pre bs. laid record { κs = κs; args = record { size = a .0; rows = a .1 .0; firsts = a .1 .1 .0; outcomes = a .1 .1 .1 .0; start = a .1 .1 .1 .1 .0; commands = a .1 .1 .1 .1 .1 .0; scratch = a .1 .1 .1 .1 .1 .1 .0; queue = a .1 .1 .1 .1 .1 .1 .1 .0 }; good = good; fits = record { start = record { fits = good .1 .1 .1 .1 .0 .1 } }; pre = pre }
+        module _ (κs : Lifetimes.Lfts 7) (qs : Lifetimes.Shares 7) where
+          pub asked : (a : Kinds.Dens κs ps) → (good : Kinds.GoodsP κs ps a) → (pre : Pre· κs a) → (bs : List.List Nat.ℕ) → Φ (Any.wantQ 7 ps r xs m κs qs a (Post· κs a)) (Function.init 7 ps r xs m κs qs a)
+          asked = λ a good pre bs. laid record { κs = κs; args = record { size = a .0; rows = a .1 .0; firsts = a .1 .1 .0; outcomes = a .1 .1 .1 .0; start = a .1 .1 .1 .1 .0; commands = a .1 .1 .1 .1 .1 .0; scratch = a .1 .1 .1 .1 .1 .1 .0; queue = a .1 .1 .1 .1 .1 .1 .1 .0; tried = a .1 .1 .1 .1 .1 .1 .1 .1 .0 }; good = good; fits = record { start = record { fits = good .1 .1 .1 .1 .0 .1 } }; pre = pre }
 
-        module _ {M : Type 1} (𝓤 : URA.URA M) (H : Wp.Heap 𝓤) (A : Atoms.Atoms 𝓤) (W : Kit.Given 𝓤 H A) (𝓣 : Wp.Tables 𝓤 H) (known0 : Plain.Known 𝓤 H A W 𝓣 1 ps·0 r·0 (claims· .0) (claims· .1) "tables::entries::fill") (known1 : Plain.Known 𝓤 H A W 𝓣 2 ps·1 r·1 (claims· .2) (claims· .3) "search::marks::start_known") (known2 : Plain.Known 𝓤 H A W 𝓣 1 ps·2 r·2 (claims· .4) (claims· .5) "tables::spans::span_at") (known3 : Plain.Known 𝓤 H A W 𝓣 0 ps·3 r·3 (claims· .6) (claims· .7) "search::marks::start_end") (known4 : Plain.Known 𝓤 H A W 𝓣 2 ps·4 r·4 (claims· .8) (claims· .9) "walks::queue::reach") (known5 : Plain.Known 𝓤 H A W 𝓣 6 ps·5 r·5 (claims· .10) (claims· .11) "search::walk::walk") (known6 : Plain.Known 𝓤 H A W 𝓣 1 ps·6 r·6 (claims· .12) (claims· .13) "search::rounds::round_end") (known7 : Plain.Known 𝓤 H A W 𝓣 2 ps·7 r·7 (claims· .14) (claims· .15) "search::marks::kept") (known8 : Plain.Known 𝓤 H A W 𝓣 4 ps·8 r·8 (claims· .16) (claims· .17) "search::marks::settle") (known9 : Plain.Known 𝓤 H A W 𝓣 2 ps·9 r·9 (claims· .18) (claims· .19) "search::rounds::finish") where
-          pub spec : Statement.Triple 𝓤 (Wp.WpFn 𝓤 H (𝓣 .C) (𝓣 .Λ) (Function.fnOf 6 ps r xs m hs body)) (Function.plainOf 𝓤 H A 6 ps r Pre· Post·)
-          spec = Plain.t-fn-plain 𝓤 H A W 𝓣 6 ps r xs m hs body (λ κs qs bs. Φ) (λ κs qs bs bd. typed κs qs 𝓤 H A W 𝓣 (known0, known1, known2, known3, known4, known5, known6, known7, known8, known9) bs bd) Pre· Post· asked
+        module _ {M : Type 1} (𝓤 : URA.URA M) (H : Wp.Heap 𝓤) (A : Atoms.Atoms 𝓤) (W : Kit.Given 𝓤 H A) (𝓣 : Wp.Tables 𝓤 H) (known0 : Plain.Known 𝓤 H A W 𝓣 1 ps·0 r·0 (claims· .0) (claims· .1) "tables::entries::fill") (known1 : Plain.Known 𝓤 H A W 𝓣 2 ps·1 r·1 (claims· .2) (claims· .3) "search::marks::start_known") (known2 : Plain.Known 𝓤 H A W 𝓣 1 ps·2 r·2 (claims· .4) (claims· .5) "tables::spans::span_at") (known3 : Plain.Known 𝓤 H A W 𝓣 0 ps·3 r·3 (claims· .6) (claims· .7) "search::marks::start_end") (known4 : Plain.Known 𝓤 H A W 𝓣 2 ps·4 r·4 (claims· .8) (claims· .9) "walks::queue::reach") (known5 : Plain.Known 𝓤 H A W 𝓣 7 ps·5 r·5 (claims· .10) (claims· .11) "search::walk::walk") (known6 : Plain.Known 𝓤 H A W 𝓣 1 ps·6 r·6 (claims· .12) (claims· .13) "search::rounds::round_end") (known7 : Plain.Known 𝓤 H A W 𝓣 2 ps·7 r·7 (claims· .14) (claims· .15) "search::marks::kept") (known8 : Plain.Known 𝓤 H A W 𝓣 4 ps·8 r·8 (claims· .16) (claims· .17) "search::marks::settle") (known9 : Plain.Known 𝓤 H A W 𝓣 2 ps·9 r·9 (claims· .18) (claims· .19) "search::rounds::finish") where
+          pub spec : Statement.Triple 𝓤 (Wp.WpFn 𝓤 H (𝓣 .C) (𝓣 .Λ) (Function.fnOf 7 ps r xs m hs body)) (Function.plainOf 𝓤 H A 7 ps r Pre· Post·)
+          spec = Plain.t-fn-plain 𝓤 H A W 𝓣 7 ps r xs m hs body (λ κs qs bs. Φ) (λ κs qs bs bd. typed κs qs 𝓤 H A W 𝓣 (known0, known1, known2, known3, known4, known5, known6, known7, known8, known9) bs bd) Pre· Post· asked

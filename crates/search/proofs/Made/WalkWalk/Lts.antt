@@ -79,31 +79,34 @@ abbrev ty·6 : Syntax.Ty
 ty·6 = Syntax.tyRef (Syntax.named 5) Syntax.mut (Syntax.tyInt Syntax.w16)
 
 abbrev ty·7 : Syntax.Ty
-ty·7 = Syntax.tyRef (Syntax.named 0) Syntax.imm (Memory.pointee (T.the-row .written))
+ty·7 = Syntax.tyRef (Syntax.named 6) Syntax.mut (Syntax.tyInt Syntax.w16)
 
 abbrev ty·8 : Syntax.Ty
-ty·8 = Syntax.tyStruct (List._∷_ 38 (List._∷_ 91 (List._∷_ 93 List.[]))) (Syntax.tcons ty·0 (Syntax.tcons (Syntax.tyInt Syntax.w64) Syntax.tnil))
+ty·8 = Syntax.tyRef (Syntax.named 0) Syntax.imm (Memory.pointee (T.the-row .written))
 
 abbrev ty·9 : Syntax.Ty
-ty·9 = Syntax.tyStruct (List._∷_ 38 (List._∷_ 91 (List._∷_ 93 List.[]))) (Syntax.tcons ty·1 (Syntax.tcons (Syntax.tyInt Syntax.w64) Syntax.tnil))
+ty·9 = Syntax.tyStruct (List._∷_ 38 (List._∷_ 91 (List._∷_ 93 List.[]))) (Syntax.tcons ty·0 (Syntax.tcons (Syntax.tyInt Syntax.w64) Syntax.tnil))
 
 abbrev ty·10 : Syntax.Ty
-ty·10 = Syntax.tyStruct (List._∷_ 116 (List._∷_ 97 (List._∷_ 98 (List._∷_ 108 (List._∷_ 101 (List._∷_ 115 (List._∷_ 58 (List._∷_ 58 (List._∷_ 83 (List._∷_ 105 (List._∷_ 122 (List._∷_ 101 List.[])))))))))))) (Syntax.tcons (Syntax.tyInt Syntax.w64) (Syntax.tcons (Syntax.tyInt Syntax.w64) (Syntax.tcons (Syntax.tyInt Syntax.w64) (Syntax.tcons (Syntax.tyInt Syntax.w64) Syntax.tnil))))
+ty·10 = Syntax.tyStruct (List._∷_ 38 (List._∷_ 91 (List._∷_ 93 List.[]))) (Syntax.tcons ty·1 (Syntax.tcons (Syntax.tyInt Syntax.w64) Syntax.tnil))
 
 abbrev ty·11 : Syntax.Ty
-ty·11 = Syntax.tyStruct (List._∷_ 116 (List._∷_ 97 (List._∷_ 98 (List._∷_ 108 (List._∷_ 101 (List._∷_ 115 (List._∷_ 58 (List._∷_ 58 (List._∷_ 115 (List._∷_ 112 (List._∷_ 97 (List._∷_ 110 (List._∷_ 115 (List._∷_ 58 (List._∷_ 58 (List._∷_ 83 (List._∷_ 112 (List._∷_ 97 (List._∷_ 110 List.[]))))))))))))))))))) (Syntax.tcons (Syntax.tyInt Syntax.w64) (Syntax.tcons (Syntax.tyInt Syntax.w64) (Syntax.tcons (Syntax.tyInt Syntax.w64) (Syntax.tcons (Syntax.tyInt Syntax.w64) Syntax.tnil))))
+ty·11 = Syntax.tyStruct (List._∷_ 116 (List._∷_ 97 (List._∷_ 98 (List._∷_ 108 (List._∷_ 101 (List._∷_ 115 (List._∷_ 58 (List._∷_ 58 (List._∷_ 83 (List._∷_ 105 (List._∷_ 122 (List._∷_ 101 List.[])))))))))))) (Syntax.tcons (Syntax.tyInt Syntax.w64) (Syntax.tcons (Syntax.tyInt Syntax.w64) (Syntax.tcons (Syntax.tyInt Syntax.w64) (Syntax.tcons (Syntax.tyInt Syntax.w64) Syntax.tnil))))
 
-abbrev pub ps : List.List (Kinds.PK 6)
-ps = List._∷_ (Value.pVal record { ty = Declared.row Size.the-type; one = Path'.refl; val = Laws'3.val Size.the-type Laws'.the-laws; tells = Laws'3.tells Size.the-type Laws'.the-laws; still = Laws'3.still Size.the-type Laws'.the-copy Exit.yes; row = Rows.whole (Declared.row Size.the-type); rd = λ x. x; mk = λ x. x } λ M 𝓤 H A W. record { copies = Laws'3.copy Size.the-type Laws'.the-copy 𝓤 H A W; lawful = Laws'3.lawful Size.the-type Laws'.the-laws 𝓤 H A W; makes = Laws'3.makes Size.the-type Laws'.the-plain 𝓤 H A; in-mem = Local.mem-whole 𝓤 H A W (Declared.row Size.the-type); of-mem = Local.whole-mem 𝓤 H A W (Declared.row Size.the-type) }) (List._∷_ (ShrSlice.pShrS T.the-row 0 tt) (List._∷_ (ShrSlice.pShrS (Referent.rtF (Referent.fInt Syntax.w16)) 1 tt) (List._∷_ (ShrSlice.pShrS (Referent.rtF (Referent.fInt Syntax.w16)) 2 tt) (List._∷_ (MutSlice.pMutS (Referent.rtF (Referent.fInt Syntax.w16)) 3 tt) (List._∷_ (MutSlice.pMutS (Referent.rtF (Referent.fInt Syntax.w16)) 4 tt) (List._∷_ (MutSlice.pMutS (Referent.rtF (Referent.fInt Syntax.w16)) 5 tt) (List._∷_ (Num.pNum Syntax.w64) (List._∷_ (Num.pNum Syntax.w64) List.[]))))))))
+abbrev ty·12 : Syntax.Ty
+ty·12 = Syntax.tyStruct (List._∷_ 116 (List._∷_ 97 (List._∷_ 98 (List._∷_ 108 (List._∷_ 101 (List._∷_ 115 (List._∷_ 58 (List._∷_ 58 (List._∷_ 115 (List._∷_ 112 (List._∷_ 97 (List._∷_ 110 (List._∷_ 115 (List._∷_ 58 (List._∷_ 58 (List._∷_ 83 (List._∷_ 112 (List._∷_ 97 (List._∷_ 110 List.[]))))))))))))))))))) (Syntax.tcons (Syntax.tyInt Syntax.w64) (Syntax.tcons (Syntax.tyInt Syntax.w64) (Syntax.tcons (Syntax.tyInt Syntax.w64) (Syntax.tcons (Syntax.tyInt Syntax.w64) Syntax.tnil))))
 
-abbrev pub r : Kinds.RK 6
+abbrev pub ps : List.List (Kinds.PK 7)
+ps = List._∷_ (Value.pVal record { ty = Declared.row Size.the-type; one = Path'.refl; val = Laws'3.val Size.the-type Laws'.the-laws; tells = Laws'3.tells Size.the-type Laws'.the-laws; still = Laws'3.still Size.the-type Laws'.the-copy Exit.yes; row = Rows.whole (Declared.row Size.the-type); rd = λ x. x; mk = λ x. x } λ M 𝓤 H A W. record { copies = Laws'3.copy Size.the-type Laws'.the-copy 𝓤 H A W; lawful = Laws'3.lawful Size.the-type Laws'.the-laws 𝓤 H A W; makes = Laws'3.makes Size.the-type Laws'.the-plain 𝓤 H A; in-mem = Local.mem-whole 𝓤 H A W (Declared.row Size.the-type); of-mem = Local.whole-mem 𝓤 H A W (Declared.row Size.the-type) }) (List._∷_ (ShrSlice.pShrS T.the-row 0 tt) (List._∷_ (ShrSlice.pShrS (Referent.rtF (Referent.fInt Syntax.w16)) 1 tt) (List._∷_ (ShrSlice.pShrS (Referent.rtF (Referent.fInt Syntax.w16)) 2 tt) (List._∷_ (MutSlice.pMutS (Referent.rtF (Referent.fInt Syntax.w16)) 3 tt) (List._∷_ (MutSlice.pMutS (Referent.rtF (Referent.fInt Syntax.w16)) 4 tt) (List._∷_ (MutSlice.pMutS (Referent.rtF (Referent.fInt Syntax.w16)) 5 tt) (List._∷_ (MutSlice.pMutS (Referent.rtF (Referent.fInt Syntax.w16)) 6 tt) (List._∷_ (Num.pNum Syntax.w64) (List._∷_ (Num.pNum Syntax.w64) List.[])))))))))
+
+abbrev pub r : Kinds.RK 7
 r = Value.rVal record { ty = Declared.row Progress.the-type; one = Path'.refl; val = Laws'3.val Progress.the-type Laws.the-laws; tells = Laws'3.tells Progress.the-type Laws.the-laws; still = Laws'3.still Progress.the-type Laws.the-copy Exit.yes; row = Rows.whole (Declared.row Progress.the-type); rd = λ x. x; mk = λ x. x } λ M 𝓤 H A W. record { copies = Laws'3.copy Progress.the-type Laws.the-copy 𝓤 H A W; lawful = Laws'3.lawful Progress.the-type Laws.the-laws 𝓤 H A W; makes = Laws'3.makes Progress.the-type Laws.the-plain 𝓤 H A; in-mem = Local.mem-whole 𝓤 H A W (Declared.row Progress.the-type); of-mem = Local.whole-mem 𝓤 H A W (Declared.row Progress.the-type) }
 
 abbrev pub xs : List.List Syntax.Ty
-xs = List._∷_ (Syntax.tyInt Syntax.w64) (List._∷_ (Syntax.tyInt Syntax.w64) (List._∷_ (Syntax.tyInt Syntax.w64) (List._∷_ (Syntax.tyInt Syntax.w64) (List._∷_ ty·11 (List._∷_ Syntax.tyBool (List._∷_ ty·0 (List._∷_ ty·8 (List._∷_ ty·1 (List._∷_ ty·9 (List._∷_ ty·1 (List._∷_ ty·9 (List._∷_ ty·1 (List._∷_ ty·9 (List._∷_ (Syntax.tyInt Syntax.w64) (List._∷_ ty·0 (List._∷_ ty·8 (List._∷_ ty·0 (List._∷_ ty·8 List.[]))))))))))))))))))
+xs = List._∷_ (Syntax.tyInt Syntax.w64) (List._∷_ (Syntax.tyInt Syntax.w64) (List._∷_ (Syntax.tyInt Syntax.w64) (List._∷_ (Syntax.tyInt Syntax.w64) (List._∷_ ty·12 (List._∷_ Syntax.tyBool (List._∷_ ty·0 (List._∷_ ty·9 (List._∷_ ty·1 (List._∷_ ty·10 (List._∷_ ty·1 (List._∷_ ty·10 (List._∷_ ty·1 (List._∷_ ty·10 (List._∷_ ty·1 (List._∷_ ty·10 (List._∷_ (Syntax.tyInt Syntax.w64) (List._∷_ ty·0 (List._∷_ ty·9 (List._∷_ ty·0 (List._∷_ ty·9 List.[]))))))))))))))))))))
 
 abbrev pub m : Nat.ℕ
-m = 6
+m = 7
 
 abbrev pub ps·0 : List.List (Kinds.PK 1)
 ps·0 = List._∷_ (ShrSlice.pShrS (Referent.rtF (Referent.fInt Syntax.w16)) 0 tt) (List._∷_ (Num.pNum Syntax.w64) List.[])
@@ -117,10 +120,10 @@ ps·1 = List._∷_ (Value.pVal record { ty = Declared.row Size.the-type; one = P
 abbrev pub r·1 : Kinds.RK 1
 r·1 = Value.rVal record { ty = Declared.row Span.the-type; one = Path'.refl; val = Laws'3.val Span.the-type Laws''.the-laws; tells = Laws'3.tells Span.the-type Laws''.the-laws; still = Laws'3.still Span.the-type Laws''.the-copy Exit.yes; row = Rows.whole (Declared.row Span.the-type); rd = λ x. x; mk = λ x. x } λ M 𝓤 H A W. record { copies = Laws'3.copy Span.the-type Laws''.the-copy 𝓤 H A W; lawful = Laws'3.lawful Span.the-type Laws''.the-laws 𝓤 H A W; makes = Laws'3.makes Span.the-type Laws''.the-plain 𝓤 H A; in-mem = Local.mem-whole 𝓤 H A W (Declared.row Span.the-type); of-mem = Local.whole-mem 𝓤 H A W (Declared.row Span.the-type) }
 
-abbrev pub ps·2 : List.List (Kinds.PK 5)
-ps·2 = List._∷_ (Value.pVal record { ty = Declared.row Size.the-type; one = Path'.refl; val = Laws'3.val Size.the-type Laws'.the-laws; tells = Laws'3.tells Size.the-type Laws'.the-laws; still = Laws'3.still Size.the-type Laws'.the-copy Exit.yes; row = Rows.whole (Declared.row Size.the-type); rd = λ x. x; mk = λ x. x } λ M 𝓤 H A W. record { copies = Laws'3.copy Size.the-type Laws'.the-copy 𝓤 H A W; lawful = Laws'3.lawful Size.the-type Laws'.the-laws 𝓤 H A W; makes = Laws'3.makes Size.the-type Laws'.the-plain 𝓤 H A; in-mem = Local.mem-whole 𝓤 H A W (Declared.row Size.the-type); of-mem = Local.whole-mem 𝓤 H A W (Declared.row Size.the-type) }) (List._∷_ (Value.pVal record { ty = Declared.row Span.the-type; one = Path'.refl; val = Laws'3.val Span.the-type Laws''.the-laws; tells = Laws'3.tells Span.the-type Laws''.the-laws; still = Laws'3.still Span.the-type Laws''.the-copy Exit.yes; row = Rows.whole (Declared.row Span.the-type); rd = λ x. x; mk = λ x. x } λ M 𝓤 H A W. record { copies = Laws'3.copy Span.the-type Laws''.the-copy 𝓤 H A W; lawful = Laws'3.lawful Span.the-type Laws''.the-laws 𝓤 H A W; makes = Laws'3.makes Span.the-type Laws''.the-plain 𝓤 H A; in-mem = Local.mem-whole 𝓤 H A W (Declared.row Span.the-type); of-mem = Local.whole-mem 𝓤 H A W (Declared.row Span.the-type) }) (List._∷_ (ShrSlice.pShrS (Referent.rtF (Referent.fInt Syntax.w16)) 0 tt) (List._∷_ (ShrSlice.pShrS (Referent.rtF (Referent.fInt Syntax.w16)) 1 tt) (List._∷_ (MutSlice.pMutS (Referent.rtF (Referent.fInt Syntax.w16)) 2 tt) (List._∷_ (MutSlice.pMutS (Referent.rtF (Referent.fInt Syntax.w16)) 3 tt) (List._∷_ (MutSlice.pMutS (Referent.rtF (Referent.fInt Syntax.w16)) 4 tt) (List._∷_ (Num.pNum Syntax.w64) (List._∷_ (Num.pNum Syntax.w64) (List._∷_ (Num.pNum Syntax.w64) List.[])))))))))
+abbrev pub ps·2 : List.List (Kinds.PK 6)
+ps·2 = List._∷_ (Value.pVal record { ty = Declared.row Size.the-type; one = Path'.refl; val = Laws'3.val Size.the-type Laws'.the-laws; tells = Laws'3.tells Size.the-type Laws'.the-laws; still = Laws'3.still Size.the-type Laws'.the-copy Exit.yes; row = Rows.whole (Declared.row Size.the-type); rd = λ x. x; mk = λ x. x } λ M 𝓤 H A W. record { copies = Laws'3.copy Size.the-type Laws'.the-copy 𝓤 H A W; lawful = Laws'3.lawful Size.the-type Laws'.the-laws 𝓤 H A W; makes = Laws'3.makes Size.the-type Laws'.the-plain 𝓤 H A; in-mem = Local.mem-whole 𝓤 H A W (Declared.row Size.the-type); of-mem = Local.whole-mem 𝓤 H A W (Declared.row Size.the-type) }) (List._∷_ (Value.pVal record { ty = Declared.row Span.the-type; one = Path'.refl; val = Laws'3.val Span.the-type Laws''.the-laws; tells = Laws'3.tells Span.the-type Laws''.the-laws; still = Laws'3.still Span.the-type Laws''.the-copy Exit.yes; row = Rows.whole (Declared.row Span.the-type); rd = λ x. x; mk = λ x. x } λ M 𝓤 H A W. record { copies = Laws'3.copy Span.the-type Laws''.the-copy 𝓤 H A W; lawful = Laws'3.lawful Span.the-type Laws''.the-laws 𝓤 H A W; makes = Laws'3.makes Span.the-type Laws''.the-plain 𝓤 H A; in-mem = Local.mem-whole 𝓤 H A W (Declared.row Span.the-type); of-mem = Local.whole-mem 𝓤 H A W (Declared.row Span.the-type) }) (List._∷_ (ShrSlice.pShrS (Referent.rtF (Referent.fInt Syntax.w16)) 0 tt) (List._∷_ (ShrSlice.pShrS (Referent.rtF (Referent.fInt Syntax.w16)) 1 tt) (List._∷_ (MutSlice.pMutS (Referent.rtF (Referent.fInt Syntax.w16)) 2 tt) (List._∷_ (MutSlice.pMutS (Referent.rtF (Referent.fInt Syntax.w16)) 3 tt) (List._∷_ (MutSlice.pMutS (Referent.rtF (Referent.fInt Syntax.w16)) 4 tt) (List._∷_ (MutSlice.pMutS (Referent.rtF (Referent.fInt Syntax.w16)) 5 tt) (List._∷_ (Num.pNum Syntax.w64) (List._∷_ (Num.pNum Syntax.w64) (List._∷_ (Num.pNum Syntax.w64) List.[]))))))))))
 
-abbrev pub r·2 : Kinds.RK 5
+abbrev pub r·2 : Kinds.RK 6
 r·2 = Num.rNum Syntax.w64
 
 abbrev pub ps·3 : List.List (Kinds.PK 2)
@@ -130,19 +133,19 @@ abbrev pub r·3 : Kinds.RK 2
 r·3 = Num.rNum Syntax.w64
 
 abbrev pub hs : List.List Syntax.Home
-hs = List._∷_ Syntax.valueLocal (List._∷_ Syntax.valueLocal (List._∷_ Syntax.valueLocal (List._∷_ Syntax.valueLocal (List._∷_ Syntax.valueLocal (List._∷_ Syntax.valueLocal (List._∷_ Syntax.valueLocal (List._∷_ Syntax.valueLocal (List._∷_ Syntax.valueLocal (List._∷_ Syntax.valueLocal (List._∷_ Syntax.valueLocal (List._∷_ Syntax.valueLocal (List._∷_ Syntax.valueLocal (List._∷_ Syntax.valueLocal (List._∷_ Syntax.valueLocal (List._∷_ Syntax.valueLocal (List._∷_ Syntax.valueLocal (List._∷_ Syntax.valueLocal (List._∷_ Syntax.valueLocal (List._∷_ Syntax.valueLocal (List._∷_ Syntax.valueLocal (List._∷_ Syntax.valueLocal (List._∷_ Syntax.valueLocal (List._∷_ Syntax.valueLocal (List._∷_ Syntax.valueLocal (List._∷_ Syntax.valueLocal (List._∷_ Syntax.valueLocal (List._∷_ Syntax.valueLocal (List._∷_ Syntax.valueLocal List.[]))))))))))))))))))))))))))))
+hs = List._∷_ Syntax.valueLocal (List._∷_ Syntax.valueLocal (List._∷_ Syntax.valueLocal (List._∷_ Syntax.valueLocal (List._∷_ Syntax.valueLocal (List._∷_ Syntax.valueLocal (List._∷_ Syntax.valueLocal (List._∷_ Syntax.valueLocal (List._∷_ Syntax.valueLocal (List._∷_ Syntax.valueLocal (List._∷_ Syntax.valueLocal (List._∷_ Syntax.valueLocal (List._∷_ Syntax.valueLocal (List._∷_ Syntax.valueLocal (List._∷_ Syntax.valueLocal (List._∷_ Syntax.valueLocal (List._∷_ Syntax.valueLocal (List._∷_ Syntax.valueLocal (List._∷_ Syntax.valueLocal (List._∷_ Syntax.valueLocal (List._∷_ Syntax.valueLocal (List._∷_ Syntax.valueLocal (List._∷_ Syntax.valueLocal (List._∷_ Syntax.valueLocal (List._∷_ Syntax.valueLocal (List._∷_ Syntax.valueLocal (List._∷_ Syntax.valueLocal (List._∷_ Syntax.valueLocal (List._∷_ Syntax.valueLocal (List._∷_ Syntax.valueLocal (List._∷_ Syntax.valueLocal (List._∷_ Syntax.valueLocal List.[])))))))))))))))))))))))))))))))
 
 abbrev b0 : Syntax.Body
-b0 = Syntax.assign (Syntax.place 10 List.[]) (Syntax.rvOpd (Syntax.copy (Syntax.place 9 List.[])))
+b0 = Syntax.assign (Syntax.place 11 List.[]) (Syntax.rvOpd (Syntax.copy (Syntax.place 10 List.[])))
 
 abbrev b1 : Syntax.Body
-b1 = Syntax.assign (Syntax.place 11 List.[]) (Syntax.rvOpd (Syntax.intBig Syntax.w64 65535))
+b1 = Syntax.assign (Syntax.place 12 List.[]) (Syntax.rvOpd (Syntax.intBig Syntax.w64 65535))
 
 abbrev b2 : Syntax.Body
-b2 = Syntax.assign (Syntax.place 12 List.[]) (Syntax.rvOpd (Syntax.copy (Syntax.place 8 List.[])))
+b2 = Syntax.assign (Syntax.place 13 List.[]) (Syntax.rvOpd (Syntax.copy (Syntax.place 9 List.[])))
 
 abbrev b3 : Syntax.Body
-b3 = Syntax.assign (Syntax.place 15 List.[]) (Syntax.op2 (Syntax.lt Syntax.unsigned) (Syntax.copy (Syntax.place 12 List.[])) (Syntax.copy (Syntax.place 10 List.[])))
+b3 = Syntax.assign (Syntax.place 16 List.[]) (Syntax.op2 (Syntax.lt Syntax.unsigned) (Syntax.copy (Syntax.place 13 List.[])) (Syntax.copy (Syntax.place 11 List.[])))
 
 abbrev b4 : Syntax.Body
 b4 = Syntax.skip
@@ -151,289 +154,313 @@ abbrev b5 : Syntax.Body
 b5 = Syntax.exit 1
 
 abbrev b6 : Syntax.Body
-b6 = Syntax.cond (Syntax.copy (Syntax.place 15 List.[])) b4 b5
+b6 = Syntax.cond (Syntax.copy (Syntax.place 16 List.[])) b4 b5
 
 abbrev b7 : Syntax.Body
-b7 = Syntax.assign (Syntax.place 16 List.[]) (Syntax.addrOf (Syntax.place 7 (List._∷_ (Syntax.field 0) (List._∷_ (Syntax.deref (Syntax.tyInt Syntax.w16)) List.[]))))
+b7 = Syntax.assign (Syntax.place 17 List.[]) (Syntax.addrOf (Syntax.place 7 (List._∷_ (Syntax.field 0) (List._∷_ (Syntax.deref (Syntax.tyInt Syntax.w16)) List.[]))))
 
 abbrev b8 : Syntax.Body
-b8 = Syntax.assign (Syntax.place 17 List.[]) (Syntax.aggregate (List._∷_ (Syntax.copy (Syntax.place 16 List.[])) (List._∷_ (Syntax.copy (Syntax.place 7 (List._∷_ (Syntax.field 1) List.[]))) List.[])))
+b8 = Syntax.assign (Syntax.place 18 List.[]) (Syntax.aggregate (List._∷_ (Syntax.copy (Syntax.place 17 List.[])) (List._∷_ (Syntax.copy (Syntax.place 7 (List._∷_ (Syntax.field 1) List.[]))) List.[])))
 
 abbrev b9 : Syntax.Body
-b9 = Syntax.call "tables::entries::at" (List._∷_ (Syntax.copy (Syntax.place 17 List.[])) (List._∷_ (Syntax.copy (Syntax.place 12 List.[])) List.[])) (Syntax.place 13 List.[])
+b9 = Syntax.call "tables::entries::at" (List._∷_ (Syntax.copy (Syntax.place 18 List.[])) (List._∷_ (Syntax.copy (Syntax.place 13 List.[])) List.[])) (Syntax.place 14 List.[])
 
 abbrev b10 : Syntax.Body
-b10 = Syntax.call "tables::spans::span_at" (List._∷_ (Syntax.copy (Syntax.place 1 List.[])) (List._∷_ (Syntax.copy (Syntax.place 2 List.[])) (List._∷_ (Syntax.copy (Syntax.place 13 List.[])) List.[]))) (Syntax.place 14 List.[])
+b10 = Syntax.call "tables::spans::span_at" (List._∷_ (Syntax.copy (Syntax.place 1 List.[])) (List._∷_ (Syntax.copy (Syntax.place 2 List.[])) (List._∷_ (Syntax.copy (Syntax.place 14 List.[])) List.[]))) (Syntax.place 15 List.[])
 
 abbrev b11 : Syntax.Body
-b11 = Syntax.assign (Syntax.place 18 List.[]) (Syntax.addrOf (Syntax.place 5 (List._∷_ (Syntax.field 0) (List._∷_ (Syntax.deref (Syntax.tyInt Syntax.w16)) List.[]))))
+b11 = Syntax.assign (Syntax.place 19 List.[]) (Syntax.addrOf (Syntax.place 5 (List._∷_ (Syntax.field 0) (List._∷_ (Syntax.deref (Syntax.tyInt Syntax.w16)) List.[]))))
 
 abbrev b12 : Syntax.Body
-b12 = Syntax.assign (Syntax.place 19 List.[]) (Syntax.aggregate (List._∷_ (Syntax.copy (Syntax.place 18 List.[])) (List._∷_ (Syntax.copy (Syntax.place 5 (List._∷_ (Syntax.field 1) List.[]))) List.[])))
+b12 = Syntax.assign (Syntax.place 20 List.[]) (Syntax.aggregate (List._∷_ (Syntax.copy (Syntax.place 19 List.[])) (List._∷_ (Syntax.copy (Syntax.place 5 (List._∷_ (Syntax.field 1) List.[]))) List.[])))
 
 abbrev b13 : Syntax.Body
-b13 = Syntax.assign (Syntax.place 20 List.[]) (Syntax.addrOf (Syntax.place 6 (List._∷_ (Syntax.field 0) (List._∷_ (Syntax.deref (Syntax.tyInt Syntax.w16)) List.[]))))
+b13 = Syntax.assign (Syntax.place 21 List.[]) (Syntax.addrOf (Syntax.place 6 (List._∷_ (Syntax.field 0) (List._∷_ (Syntax.deref (Syntax.tyInt Syntax.w16)) List.[]))))
 
 abbrev b14 : Syntax.Body
-b14 = Syntax.assign (Syntax.place 21 List.[]) (Syntax.aggregate (List._∷_ (Syntax.copy (Syntax.place 20 List.[])) (List._∷_ (Syntax.copy (Syntax.place 6 (List._∷_ (Syntax.field 1) List.[]))) List.[])))
+b14 = Syntax.assign (Syntax.place 22 List.[]) (Syntax.aggregate (List._∷_ (Syntax.copy (Syntax.place 21 List.[])) (List._∷_ (Syntax.copy (Syntax.place 6 (List._∷_ (Syntax.field 1) List.[]))) List.[])))
 
 abbrev b15 : Syntax.Body
-b15 = Syntax.assign (Syntax.place 22 List.[]) (Syntax.addrOf (Syntax.place 7 (List._∷_ (Syntax.field 0) (List._∷_ (Syntax.deref (Syntax.tyInt Syntax.w16)) List.[]))))
+b15 = Syntax.assign (Syntax.place 23 List.[]) (Syntax.addrOf (Syntax.place 7 (List._∷_ (Syntax.field 0) (List._∷_ (Syntax.deref (Syntax.tyInt Syntax.w16)) List.[]))))
 
 abbrev b16 : Syntax.Body
-b16 = Syntax.assign (Syntax.place 23 List.[]) (Syntax.aggregate (List._∷_ (Syntax.copy (Syntax.place 22 List.[])) (List._∷_ (Syntax.copy (Syntax.place 7 (List._∷_ (Syntax.field 1) List.[]))) List.[])))
+b16 = Syntax.assign (Syntax.place 24 List.[]) (Syntax.aggregate (List._∷_ (Syntax.copy (Syntax.place 23 List.[])) (List._∷_ (Syntax.copy (Syntax.place 7 (List._∷_ (Syntax.field 1) List.[]))) List.[])))
 
 abbrev b17 : Syntax.Body
-b17 = Syntax.assign (Syntax.place 24 List.[]) (Syntax.op2 (Syntax.add Syntax.unsigned) (Syntax.copy (Syntax.place 12 List.[])) (Syntax.int Syntax.w64 2))
+b17 = Syntax.assign (Syntax.place 25 List.[]) (Syntax.addrOf (Syntax.place 8 (List._∷_ (Syntax.field 0) (List._∷_ (Syntax.deref (Syntax.tyInt Syntax.w16)) List.[]))))
 
 abbrev b18 : Syntax.Body
-b18 = Syntax.call "search::walk::expand" (List._∷_ (Syntax.copy (Syntax.place 1 List.[])) (List._∷_ (Syntax.copy (Syntax.place 14 List.[])) (List._∷_ (Syntax.copy (Syntax.place 3 List.[])) (List._∷_ (Syntax.copy (Syntax.place 4 List.[])) (List._∷_ (Syntax.copy (Syntax.place 19 List.[])) (List._∷_ (Syntax.copy (Syntax.place 21 List.[])) (List._∷_ (Syntax.copy (Syntax.place 23 List.[])) (List._∷_ (Syntax.copy (Syntax.place 10 List.[])) (List._∷_ (Syntax.copy (Syntax.place 13 List.[])) (List._∷_ (Syntax.copy (Syntax.place 24 List.[])) List.[])))))))))) (Syntax.place 10 List.[])
+b18 = Syntax.assign (Syntax.place 26 List.[]) (Syntax.aggregate (List._∷_ (Syntax.copy (Syntax.place 25 List.[])) (List._∷_ (Syntax.copy (Syntax.place 8 (List._∷_ (Syntax.field 1) List.[]))) List.[])))
 
 abbrev b19 : Syntax.Body
-b19 = Syntax.assign (Syntax.place 25 List.[]) (Syntax.addrOf (Syntax.place 5 (List._∷_ (Syntax.field 0) (List._∷_ (Syntax.deref (Syntax.tyInt Syntax.w16)) List.[]))))
+b19 = Syntax.assign (Syntax.place 27 List.[]) (Syntax.op2 (Syntax.add Syntax.unsigned) (Syntax.copy (Syntax.place 13 List.[])) (Syntax.int Syntax.w64 2))
 
 abbrev b20 : Syntax.Body
-b20 = Syntax.assign (Syntax.place 26 List.[]) (Syntax.aggregate (List._∷_ (Syntax.copy (Syntax.place 25 List.[])) (List._∷_ (Syntax.copy (Syntax.place 5 (List._∷_ (Syntax.field 1) List.[]))) List.[])))
+b20 = Syntax.call "search::walk::expand" (List._∷_ (Syntax.copy (Syntax.place 1 List.[])) (List._∷_ (Syntax.copy (Syntax.place 15 List.[])) (List._∷_ (Syntax.copy (Syntax.place 3 List.[])) (List._∷_ (Syntax.copy (Syntax.place 4 List.[])) (List._∷_ (Syntax.copy (Syntax.place 20 List.[])) (List._∷_ (Syntax.copy (Syntax.place 22 List.[])) (List._∷_ (Syntax.copy (Syntax.place 24 List.[])) (List._∷_ (Syntax.copy (Syntax.place 26 List.[])) (List._∷_ (Syntax.copy (Syntax.place 11 List.[])) (List._∷_ (Syntax.copy (Syntax.place 14 List.[])) (List._∷_ (Syntax.copy (Syntax.place 27 List.[])) List.[]))))))))))) (Syntax.place 11 List.[])
 
 abbrev b21 : Syntax.Body
-b21 = Syntax.assign (Syntax.place 27 List.[]) (Syntax.addrOf (Syntax.place 6 (List._∷_ (Syntax.field 0) (List._∷_ (Syntax.deref (Syntax.tyInt Syntax.w16)) List.[]))))
+b21 = Syntax.assign (Syntax.place 28 List.[]) (Syntax.addrOf (Syntax.place 5 (List._∷_ (Syntax.field 0) (List._∷_ (Syntax.deref (Syntax.tyInt Syntax.w16)) List.[]))))
 
 abbrev b22 : Syntax.Body
-b22 = Syntax.assign (Syntax.place 28 List.[]) (Syntax.aggregate (List._∷_ (Syntax.copy (Syntax.place 27 List.[])) (List._∷_ (Syntax.copy (Syntax.place 6 (List._∷_ (Syntax.field 1) List.[]))) List.[])))
+b22 = Syntax.assign (Syntax.place 29 List.[]) (Syntax.aggregate (List._∷_ (Syntax.copy (Syntax.place 28 List.[])) (List._∷_ (Syntax.copy (Syntax.place 5 (List._∷_ (Syntax.field 1) List.[]))) List.[])))
 
 abbrev b23 : Syntax.Body
-b23 = Syntax.call "search::walk::lower" (List._∷_ (Syntax.copy (Syntax.place 14 List.[])) (List._∷_ (Syntax.copy (Syntax.place 26 List.[])) (List._∷_ (Syntax.copy (Syntax.place 28 List.[])) (List._∷_ (Syntax.copy (Syntax.place 13 List.[])) (List._∷_ (Syntax.copy (Syntax.place 11 List.[])) List.[]))))) (Syntax.place 11 List.[])
+b23 = Syntax.assign (Syntax.place 30 List.[]) (Syntax.addrOf (Syntax.place 6 (List._∷_ (Syntax.field 0) (List._∷_ (Syntax.deref (Syntax.tyInt Syntax.w16)) List.[]))))
 
 abbrev b24 : Syntax.Body
-b24 = Syntax.assign (Syntax.place 12 List.[]) (Syntax.op2 (Syntax.add Syntax.unsigned) (Syntax.copy (Syntax.place 12 List.[])) (Syntax.int Syntax.w64 1))
+b24 = Syntax.assign (Syntax.place 31 List.[]) (Syntax.aggregate (List._∷_ (Syntax.copy (Syntax.place 30 List.[])) (List._∷_ (Syntax.copy (Syntax.place 6 (List._∷_ (Syntax.field 1) List.[]))) List.[])))
 
 abbrev b25 : Syntax.Body
-b25 = Syntax.seq b23 b24
+b25 = Syntax.call "search::walk::lower" (List._∷_ (Syntax.copy (Syntax.place 15 List.[])) (List._∷_ (Syntax.copy (Syntax.place 29 List.[])) (List._∷_ (Syntax.copy (Syntax.place 31 List.[])) (List._∷_ (Syntax.copy (Syntax.place 14 List.[])) (List._∷_ (Syntax.copy (Syntax.place 12 List.[])) List.[]))))) (Syntax.place 12 List.[])
 
 abbrev b26 : Syntax.Body
-b26 = Syntax.seq b22 b25
+b26 = Syntax.assign (Syntax.place 13 List.[]) (Syntax.op2 (Syntax.add Syntax.unsigned) (Syntax.copy (Syntax.place 13 List.[])) (Syntax.int Syntax.w64 1))
 
 abbrev b27 : Syntax.Body
-b27 = Syntax.seq b21 b26
+b27 = Syntax.seq b25 b26
 
 abbrev b28 : Syntax.Body
-b28 = Syntax.seq b20 b27
+b28 = Syntax.seq b24 b27
 
 abbrev b29 : Syntax.Body
-b29 = Syntax.seq b19 b28
+b29 = Syntax.seq b23 b28
 
 abbrev b30 : Syntax.Body
-b30 = Syntax.seq b18 b29
+b30 = Syntax.seq b22 b29
 
 abbrev b31 : Syntax.Body
-b31 = Syntax.seq b17 b30
+b31 = Syntax.seq b21 b30
 
 abbrev b32 : Syntax.Body
-b32 = Syntax.seq b16 b31
+b32 = Syntax.seq b20 b31
 
 abbrev b33 : Syntax.Body
-b33 = Syntax.seq b15 b32
+b33 = Syntax.seq b19 b32
 
 abbrev b34 : Syntax.Body
-b34 = Syntax.seq b14 b33
+b34 = Syntax.seq b18 b33
 
 abbrev b35 : Syntax.Body
-b35 = Syntax.seq b13 b34
+b35 = Syntax.seq b17 b34
 
 abbrev b36 : Syntax.Body
-b36 = Syntax.seq b12 b35
+b36 = Syntax.seq b16 b35
 
 abbrev b37 : Syntax.Body
-b37 = Syntax.seq b11 b36
+b37 = Syntax.seq b15 b36
 
 abbrev b38 : Syntax.Body
-b38 = Syntax.seq b10 b37
+b38 = Syntax.seq b14 b37
 
 abbrev b39 : Syntax.Body
-b39 = Syntax.seq b9 b38
+b39 = Syntax.seq b13 b38
 
 abbrev b40 : Syntax.Body
-b40 = Syntax.seq b8 b39
+b40 = Syntax.seq b12 b39
 
 abbrev b41 : Syntax.Body
-b41 = Syntax.seq b7 b40
+b41 = Syntax.seq b11 b40
 
 abbrev b42 : Syntax.Body
-b42 = Syntax.seq b6 b41
+b42 = Syntax.seq b10 b41
 
 abbrev b43 : Syntax.Body
-b43 = Syntax.seq b3 b42
+b43 = Syntax.seq b9 b42
 
 abbrev b44 : Syntax.Body
-b44 = Syntax.loop b43
+b44 = Syntax.seq b8 b43
 
 abbrev b45 : Syntax.Body
-b45 = Syntax.block b44
+b45 = Syntax.seq b7 b44
 
 abbrev b46 : Syntax.Body
-b46 = Syntax.assign (Syntax.place 0 List.[]) (Syntax.aggregate (List._∷_ (Syntax.copy (Syntax.place 10 List.[])) (List._∷_ (Syntax.copy (Syntax.place 11 List.[])) List.[])))
+b46 = Syntax.seq b6 b45
 
 abbrev b47 : Syntax.Body
-b47 = Syntax.return
+b47 = Syntax.seq b3 b46
 
 abbrev b48 : Syntax.Body
-b48 = Syntax.seq b46 b47
+b48 = Syntax.loop b47
 
 abbrev b49 : Syntax.Body
-b49 = Syntax.seq b45 b48
+b49 = Syntax.block b48
 
 abbrev b50 : Syntax.Body
-b50 = Syntax.seq b2 b49
+b50 = Syntax.assign (Syntax.place 0 List.[]) (Syntax.aggregate (List._∷_ (Syntax.copy (Syntax.place 11 List.[])) (List._∷_ (Syntax.copy (Syntax.place 12 List.[])) List.[])))
 
 abbrev b51 : Syntax.Body
-b51 = Syntax.seq b1 b50
+b51 = Syntax.return
 
 abbrev b52 : Syntax.Body
-b52 = Syntax.seq b0 b51
+b52 = Syntax.seq b50 b51
+
+abbrev b53 : Syntax.Body
+b53 = Syntax.seq b49 b52
+
+abbrev b54 : Syntax.Body
+b54 = Syntax.seq b2 b53
+
+abbrev b55 : Syntax.Body
+b55 = Syntax.seq b1 b54
+
+abbrev b56 : Syntax.Body
+b56 = Syntax.seq b0 b55
 
 abbrev pub body : Syntax.Body
-body = b52
+body = b56
 
 abbrev pub Claims : Type 1
-Claims = Kinds.In 1 ps·0 × Kinds.Out 1 ps·0 r·0 × Kinds.In 1 ps·1 × Kinds.Out 1 ps·1 r·1 × Kinds.In 5 ps·2 × Kinds.Out 5 ps·2 r·2 × Kinds.In 2 ps·3 × Kinds.Out 2 ps·3 r·3
+Claims = Kinds.In 1 ps·0 × Kinds.Out 1 ps·0 r·0 × Kinds.In 1 ps·1 × Kinds.Out 1 ps·1 r·1 × Kinds.In 6 ps·2 × Kinds.Out 6 ps·2 r·2 × Kinds.In 2 ps·3 × Kinds.Out 2 ps·3 r·3
 
 abbrev pub t0 : List.List Row.Entry
-t0 = List._∷_ (0, Rows.any-gone (Syntax.tyStruct (List._∷_ 115 (List._∷_ 101 (List._∷_ 97 (List._∷_ 114 (List._∷_ 99 (List._∷_ 104 (List._∷_ 58 (List._∷_ 58 (List._∷_ 119 (List._∷_ 97 (List._∷_ 108 (List._∷_ 107 (List._∷_ 58 (List._∷_ 58 (List._∷_ 80 (List._∷_ 114 (List._∷_ 111 (List._∷_ 103 (List._∷_ 114 (List._∷_ 101 (List._∷_ 115 (List._∷_ 115 List.[])))))))))))))))))))))) (Syntax.tcons (Syntax.tyInt Syntax.w64) (Syntax.tcons (Syntax.tyInt Syntax.w64) Syntax.tnil)))) (List._∷_ (1, Rows.whole (Declared.row Size.the-type)) (List._∷_ (2, Rows.sslice T.the-row ty·7 0) (List._∷_ (3, Rows.sslice (Referent.rtF (Referent.fInt Syntax.w16)) ty·2 1) (List._∷_ (4, Rows.sslice (Referent.rtF (Referent.fInt Syntax.w16)) ty·3 2) (List._∷_ (5, Mut.mslice (Referent.rtF (Referent.fInt Syntax.w16)) ty·4 3) (List._∷_ (6, Mut.mslice (Referent.rtF (Referent.fInt Syntax.w16)) ty·5 4) (List._∷_ (7, Mut.mslice (Referent.rtF (Referent.fInt Syntax.w16)) ty·6 5) (List._∷_ (8, Rows.sc-here (Row.sInt Syntax.w64)) (List._∷_ (9, Rows.sc-here (Row.sInt Syntax.w64)) (List._∷_ (10, Rows.any-gone (Syntax.tyInt Syntax.w64)) (List._∷_ (11, Rows.any-gone (Syntax.tyInt Syntax.w64)) (List._∷_ (12, Rows.any-gone (Syntax.tyInt Syntax.w64)) (List._∷_ (13, Rows.any-gone (Syntax.tyInt Syntax.w64)) (List._∷_ (14, Rows.any-gone ty·11) (List._∷_ (15, Rows.any-gone Syntax.tyBool) List.[])))))))))))))))
+t0 = List._∷_ (0, Rows.any-gone (Syntax.tyStruct (List._∷_ 115 (List._∷_ 101 (List._∷_ 97 (List._∷_ 114 (List._∷_ 99 (List._∷_ 104 (List._∷_ 58 (List._∷_ 58 (List._∷_ 119 (List._∷_ 97 (List._∷_ 108 (List._∷_ 107 (List._∷_ 58 (List._∷_ 58 (List._∷_ 80 (List._∷_ 114 (List._∷_ 111 (List._∷_ 103 (List._∷_ 114 (List._∷_ 101 (List._∷_ 115 (List._∷_ 115 List.[])))))))))))))))))))))) (Syntax.tcons (Syntax.tyInt Syntax.w64) (Syntax.tcons (Syntax.tyInt Syntax.w64) Syntax.tnil)))) (List._∷_ (1, Rows.whole (Declared.row Size.the-type)) (List._∷_ (2, Rows.sslice T.the-row ty·8 0) (List._∷_ (3, Rows.sslice (Referent.rtF (Referent.fInt Syntax.w16)) ty·2 1) (List._∷_ (4, Rows.sslice (Referent.rtF (Referent.fInt Syntax.w16)) ty·3 2) (List._∷_ (5, Mut.mslice (Referent.rtF (Referent.fInt Syntax.w16)) ty·4 3) (List._∷_ (6, Mut.mslice (Referent.rtF (Referent.fInt Syntax.w16)) ty·5 4) (List._∷_ (7, Mut.mslice (Referent.rtF (Referent.fInt Syntax.w16)) ty·6 5) (List._∷_ (8, Mut.mslice (Referent.rtF (Referent.fInt Syntax.w16)) ty·7 6) (List._∷_ (9, Rows.sc-here (Row.sInt Syntax.w64)) (List._∷_ (10, Rows.sc-here (Row.sInt Syntax.w64)) (List._∷_ (11, Rows.any-gone (Syntax.tyInt Syntax.w64)) (List._∷_ (12, Rows.any-gone (Syntax.tyInt Syntax.w64)) (List._∷_ (13, Rows.any-gone (Syntax.tyInt Syntax.w64)) (List._∷_ (14, Rows.any-gone (Syntax.tyInt Syntax.w64)) (List._∷_ (15, Rows.any-gone ty·12) List.[])))))))))))))))
 
 abbrev pub t1 : List.List Row.Entry
-t1 = List._∷_ (16, Rows.any-gone ty·0) (List._∷_ (17, Rows.any-gone ty·8) (List._∷_ (18, Rows.any-gone ty·1) (List._∷_ (19, Rows.any-gone ty·9) (List._∷_ (20, Rows.any-gone ty·1) (List._∷_ (21, Rows.any-gone ty·9) (List._∷_ (22, Rows.any-gone ty·1) (List._∷_ (23, Rows.any-gone ty·9) (List._∷_ (24, Rows.any-gone (Syntax.tyInt Syntax.w64)) (List._∷_ (25, Rows.any-gone ty·0) (List._∷_ (26, Rows.any-gone ty·8) (List._∷_ (27, Rows.any-gone ty·0) (List._∷_ (28, Rows.any-gone ty·8) List.[]))))))))))))
+t1 = List._∷_ (16, Rows.any-gone Syntax.tyBool) (List._∷_ (17, Rows.any-gone ty·0) (List._∷_ (18, Rows.any-gone ty·9) (List._∷_ (19, Rows.any-gone ty·1) (List._∷_ (20, Rows.any-gone ty·10) (List._∷_ (21, Rows.any-gone ty·1) (List._∷_ (22, Rows.any-gone ty·10) (List._∷_ (23, Rows.any-gone ty·1) (List._∷_ (24, Rows.any-gone ty·10) (List._∷_ (25, Rows.any-gone ty·1) (List._∷_ (26, Rows.any-gone ty·10) (List._∷_ (27, Rows.any-gone (Syntax.tyInt Syntax.w64)) (List._∷_ (28, Rows.any-gone ty·0) (List._∷_ (29, Rows.any-gone ty·9) (List._∷_ (30, Rows.any-gone ty·0) (List._∷_ (31, Rows.any-gone ty·9) List.[])))))))))))))))
 
 abbrev pub t2 : List.List Row.Entry
-t2 = Row.setRow 9 (9, Rows.any-gone (Syntax.tyInt Syntax.w64)) (Row.setRow 8 (8, Rows.any-gone (Syntax.tyInt Syntax.w64)) (Row.setRow 1 (1, Rows.any-gone ty·10) (Row.setRow 0 (0, Rows.whole (Declared.row Progress.the-type)) t0)))
+t2 = Row.setRow 10 (10, Rows.any-gone (Syntax.tyInt Syntax.w64)) (Row.setRow 9 (9, Rows.any-gone (Syntax.tyInt Syntax.w64)) (Row.setRow 1 (1, Rows.any-gone ty·11) (Row.setRow 0 (0, Rows.whole (Declared.row Progress.the-type)) t0)))
 
 abbrev pub t3 : List.List Row.Entry
-t3 = Row.setRow 10 (10, Rows.sc-here (Row.sInt Syntax.w64)) t0
+t3 = Row.setRow 11 (11, Rows.sc-here (Row.sInt Syntax.w64)) t0
 
 abbrev pub t4 : List.List Row.Entry
-t4 = Row.setRow 11 (11, Rows.sc-here (Row.sInt Syntax.w64)) t3
+t4 = Row.setRow 12 (12, Rows.sc-here (Row.sInt Syntax.w64)) t3
 
 abbrev pub t5 : List.List Row.Entry
-t5 = Row.setRow 12 (12, Rows.sc-here (Row.sInt Syntax.w64)) t4
+t5 = Row.setRow 13 (13, Rows.sc-here (Row.sInt Syntax.w64)) t4
 
 abbrev pub t6 : List.List Row.Entry
-t6 = Row.setRow 1 (1, Rows.any-gone ty·10) t5
+t6 = Row.setRow 1 (1, Rows.any-gone ty·11) t5
 
 abbrev pub t7 : List.List Row.Entry
-t7 = Row.setRow 15 (15, Rows.sc-here Row.sBool) t5
+t7 = Row.setRow 0 (16, Rows.sc-here Row.sBool) t1
 
 abbrev pub t8 : List.List Row.Entry
-t8 = Row.setRow 15 (15, Rows.sc-here Row.sBool) t6
+t8 = Row.setRow 7 (7, Reshare.mslice-owedS (Referent.rtF (Referent.fInt Syntax.w16)) ty·6 5 7 Row.off) t5
 
 abbrev pub t9 : List.List Row.Entry
-t9 = Row.setRow 7 (7, Reshare.mslice-owedS (Referent.rtF (Referent.fInt Syntax.w16)) ty·6 5 6 Row.off) t5
+t9 = Row.setRow 1 (17, Relend.ssptr (Referent.rtF (Referent.fInt Syntax.w16)) ty·0 7) t1
 
 abbrev pub t10 : List.List Row.Entry
-t10 = Row.setRow 0 (16, Relend.ssptr (Referent.rtF (Referent.fInt Syntax.w16)) ty·0 6) t1
+t10 = Row.setRow 2 (18, Rows.sslice (Referent.rtF (Referent.fInt Syntax.w16)) ty·0 7) t1
 
 abbrev pub t11 : List.List Row.Entry
-t11 = Row.setRow 1 (17, Rows.sslice (Referent.rtF (Referent.fInt Syntax.w16)) ty·0 6) t1
+t11 = Row.setRow 14 (14, Rows.sc-here (Row.sInt Syntax.w64)) t8
 
 abbrev pub t12 : List.List Row.Entry
-t12 = Row.setRow 13 (13, Rows.sc-here (Row.sInt Syntax.w64)) t9
+t12 = Row.setRow 14 (14, Rows.sc-here (Row.sInt Syntax.w64)) t5
 
 abbrev pub t13 : List.List Row.Entry
-t13 = Row.setRow 13 (13, Rows.sc-here (Row.sInt Syntax.w64)) t5
+t13 = Row.setRow 15 (15, Rows.whole (Declared.row Span.the-type)) t12
 
 abbrev pub t14 : List.List Row.Entry
-t14 = Row.setRow 14 (14, Rows.whole (Declared.row Span.the-type)) t13
+t14 = Row.setRow 5 (5, Relend.mslice-owed (Referent.rtF (Referent.fInt Syntax.w16)) ty·4 3 8 Row.off) t13
 
 abbrev pub t15 : List.List Row.Entry
-t15 = Row.setRow 5 (5, Relend.mslice-owed (Referent.rtF (Referent.fInt Syntax.w16)) ty·4 3 7 Row.off) t14
+t15 = Row.setRow 3 (19, Relend.msptr (Referent.rtF (Referent.fInt Syntax.w16)) ty·1 8) t1
 
 abbrev pub t16 : List.List Row.Entry
-t16 = Row.setRow 2 (18, Relend.msptr (Referent.rtF (Referent.fInt Syntax.w16)) ty·1 7) t1
+t16 = Row.setRow 4 (20, Mut.mslice (Referent.rtF (Referent.fInt Syntax.w16)) ty·1 8) t1
 
 abbrev pub t17 : List.List Row.Entry
-t17 = Row.setRow 3 (19, Mut.mslice (Referent.rtF (Referent.fInt Syntax.w16)) ty·1 7) t1
+t17 = Row.setRow 6 (6, Relend.mslice-owed (Referent.rtF (Referent.fInt Syntax.w16)) ty·5 4 9 Row.off) t14
 
 abbrev pub t18 : List.List Row.Entry
-t18 = Row.setRow 6 (6, Relend.mslice-owed (Referent.rtF (Referent.fInt Syntax.w16)) ty·5 4 8 Row.off) t15
+t18 = Row.setRow 5 (21, Relend.msptr (Referent.rtF (Referent.fInt Syntax.w16)) ty·1 9) t16
 
 abbrev pub t19 : List.List Row.Entry
-t19 = Row.setRow 4 (20, Relend.msptr (Referent.rtF (Referent.fInt Syntax.w16)) ty·1 8) t17
+t19 = Row.setRow 6 (22, Mut.mslice (Referent.rtF (Referent.fInt Syntax.w16)) ty·1 9) t16
 
 abbrev pub t20 : List.List Row.Entry
-t20 = Row.setRow 5 (21, Mut.mslice (Referent.rtF (Referent.fInt Syntax.w16)) ty·1 8) t17
+t20 = Row.setRow 7 (7, Relend.mslice-owed (Referent.rtF (Referent.fInt Syntax.w16)) ty·6 5 10 Row.off) t17
 
 abbrev pub t21 : List.List Row.Entry
-t21 = Row.setRow 7 (7, Relend.mslice-owed (Referent.rtF (Referent.fInt Syntax.w16)) ty·6 5 9 Row.off) t18
+t21 = Row.setRow 7 (23, Relend.msptr (Referent.rtF (Referent.fInt Syntax.w16)) ty·1 10) t19
 
 abbrev pub t22 : List.List Row.Entry
-t22 = Row.setRow 6 (22, Relend.msptr (Referent.rtF (Referent.fInt Syntax.w16)) ty·1 9) t20
+t22 = Row.setRow 8 (24, Mut.mslice (Referent.rtF (Referent.fInt Syntax.w16)) ty·1 10) t19
 
 abbrev pub t23 : List.List Row.Entry
-t23 = Row.setRow 7 (23, Mut.mslice (Referent.rtF (Referent.fInt Syntax.w16)) ty·1 9) t20
+t23 = Row.setRow 8 (8, Relend.mslice-owed (Referent.rtF (Referent.fInt Syntax.w16)) ty·7 6 11 Row.off) t20
 
 abbrev pub t24 : List.List Row.Entry
-t24 = Row.setRow 8 (24, Rows.sc-here (Row.sInt Syntax.w64)) t23
+t24 = Row.setRow 9 (25, Relend.msptr (Referent.rtF (Referent.fInt Syntax.w16)) ty·1 11) t22
 
 abbrev pub t25 : List.List Row.Entry
-t25 = Row.setRow 7 (23, Mut.msleft (Referent.rtF (Referent.fInt Syntax.w16)) ty·1) (Row.setRow 5 (21, Mut.msleft (Referent.rtF (Referent.fInt Syntax.w16)) ty·1) (Row.setRow 3 (19, Mut.msleft (Referent.rtF (Referent.fInt Syntax.w16)) ty·1) t24))
+t25 = Row.setRow 10 (26, Mut.mslice (Referent.rtF (Referent.fInt Syntax.w16)) ty·1 11) t22
 
 abbrev pub t26 : List.List Row.Entry
-t26 = Row.setRow 8 (24, Rows.any-gone (Syntax.tyInt Syntax.w64)) t25
+t26 = Row.setRow 11 (27, Rows.sc-here (Row.sInt Syntax.w64)) t25
 
 abbrev pub t27 : List.List Row.Entry
-t27 = Row.setRow 5 (5, Mut.mslice (Referent.rtF (Referent.fInt Syntax.w16)) ty·4 3) t21
+t27 = Row.setRow 10 (26, Mut.msleft (Referent.rtF (Referent.fInt Syntax.w16)) ty·1) (Row.setRow 8 (24, Mut.msleft (Referent.rtF (Referent.fInt Syntax.w16)) ty·1) (Row.setRow 6 (22, Mut.msleft (Referent.rtF (Referent.fInt Syntax.w16)) ty·1) (Row.setRow 4 (20, Mut.msleft (Referent.rtF (Referent.fInt Syntax.w16)) ty·1) t26)))
 
 abbrev pub t28 : List.List Row.Entry
-t28 = Row.setRow 3 (19, Rows.any-gone ty·9) t26
+t28 = Row.setRow 11 (27, Rows.any-gone (Syntax.tyInt Syntax.w64)) t27
 
 abbrev pub t29 : List.List Row.Entry
-t29 = Row.setRow 6 (6, Mut.mslice (Referent.rtF (Referent.fInt Syntax.w16)) ty·5 4) t27
+t29 = Row.setRow 5 (5, Mut.mslice (Referent.rtF (Referent.fInt Syntax.w16)) ty·4 3) t23
 
 abbrev pub t30 : List.List Row.Entry
-t30 = Row.setRow 7 (23, Mut.msleft (Referent.rtF (Referent.fInt Syntax.w16)) ty·1) t1
+t30 = Row.setRow 4 (20, Rows.any-gone ty·10) t28
 
 abbrev pub t31 : List.List Row.Entry
-t31 = Row.setRow 5 (5, Reshare.mslice-owedS (Referent.rtF (Referent.fInt Syntax.w16)) ty·4 3 10 Row.off) t14
+t31 = Row.setRow 6 (6, Mut.mslice (Referent.rtF (Referent.fInt Syntax.w16)) ty·5 4) t29
 
 abbrev pub t32 : List.List Row.Entry
-t32 = Row.setRow 9 (25, Relend.ssptr (Referent.rtF (Referent.fInt Syntax.w16)) ty·0 10) t1
+t32 = Row.setRow 6 (22, Rows.any-gone ty·10) t30
 
 abbrev pub t33 : List.List Row.Entry
-t33 = Row.setRow 10 (26, Rows.sslice (Referent.rtF (Referent.fInt Syntax.w16)) ty·0 10) t1
+t33 = Row.setRow 7 (7, Mut.mslice (Referent.rtF (Referent.fInt Syntax.w16)) ty·6 5) t31
 
 abbrev pub t34 : List.List Row.Entry
-t34 = Row.setRow 6 (6, Reshare.mslice-owedS (Referent.rtF (Referent.fInt Syntax.w16)) ty·5 4 11 Row.off) t31
+t34 = Row.setRow 10 (26, Mut.msleft (Referent.rtF (Referent.fInt Syntax.w16)) ty·1) t1
 
 abbrev pub t35 : List.List Row.Entry
-t35 = Row.setRow 11 (27, Relend.ssptr (Referent.rtF (Referent.fInt Syntax.w16)) ty·0 11) t33
+t35 = Row.setRow 5 (5, Reshare.mslice-owedS (Referent.rtF (Referent.fInt Syntax.w16)) ty·4 3 12 Row.off) t13
 
 abbrev pub t36 : List.List Row.Entry
-t36 = Row.setRow 12 (28, Rows.sslice (Referent.rtF (Referent.fInt Syntax.w16)) ty·0 11) t33
+t36 = Row.setRow 12 (28, Relend.ssptr (Referent.rtF (Referent.fInt Syntax.w16)) ty·0 12) t1
 
 abbrev pub t37 : List.List Row.Entry
-t37 = Row.setRow 12 (28, Rows.sslice (Referent.rtF (Referent.fInt Syntax.w16)) ty·0 11) t1
+t37 = Row.setRow 13 (29, Rows.sslice (Referent.rtF (Referent.fInt Syntax.w16)) ty·0 12) t1
 
 abbrev pub t38 : List.List Row.Entry
-t38 = Row.setRow 6 (6, Reshare.mslice-owedS (Referent.rtF (Referent.fInt Syntax.w16)) ty·5 4 11 Row.off) (Row.setRow 5 (5, Reshare.mslice-owedS (Referent.rtF (Referent.fInt Syntax.w16)) ty·4 3 10 Row.off) t13)
+t38 = Row.setRow 6 (6, Reshare.mslice-owedS (Referent.rtF (Referent.fInt Syntax.w16)) ty·5 4 13 Row.off) t35
 
 abbrev pub t39 : List.List Row.Entry
-t39 = Row.setRow 5 (5, Mut.mslice (Referent.rtF (Referent.fInt Syntax.w16)) ty·4 3) t38
+t39 = Row.setRow 14 (30, Relend.ssptr (Referent.rtF (Referent.fInt Syntax.w16)) ty·0 13) t37
 
 abbrev pub t40 : List.List Row.Entry
-t40 = Row.setRow 0 (0, Rows.whole (Declared.row (Apart.apartT Progress.the-type))) t6
+t40 = Row.setRow 15 (31, Rows.sslice (Referent.rtF (Referent.fInt Syntax.w16)) ty·0 13) t37
 
 abbrev pub t41 : List.List Row.Entry
-t41 = Row.setRow 10 (10, Rows.any-gone (Syntax.tyInt Syntax.w64)) t40
+t41 = Row.setRow 15 (31, Rows.sslice (Referent.rtF (Referent.fInt Syntax.w16)) ty·0 13) t1
 
 abbrev pub t42 : List.List Row.Entry
-t42 = Row.setRow 11 (11, Rows.any-gone (Syntax.tyInt Syntax.w64)) t41
+t42 = Row.setRow 6 (6, Reshare.mslice-owedS (Referent.rtF (Referent.fInt Syntax.w16)) ty·5 4 13 Row.off) (Row.setRow 5 (5, Reshare.mslice-owedS (Referent.rtF (Referent.fInt Syntax.w16)) ty·4 3 12 Row.off) t12)
 
 abbrev pub t43 : List.List Row.Entry
-t43 = Row.setRow 12 (12, Rows.any-gone (Syntax.tyInt Syntax.w64)) t42
+t43 = Row.setRow 5 (5, Mut.mslice (Referent.rtF (Referent.fInt Syntax.w16)) ty·4 3) t42
 
 abbrev pub t44 : List.List Row.Entry
-t44 = Row.setRow 8 (8, Rows.any-gone (Syntax.tyInt Syntax.w64)) t43
+t44 = Row.setRow 0 (0, Rows.whole (Declared.row (Apart.apartT Progress.the-type))) t6
 
 abbrev pub t45 : List.List Row.Entry
-t45 = Row.setRow 9 (9, Rows.any-gone (Syntax.tyInt Syntax.w64)) t44
+t45 = Row.setRow 11 (11, Rows.any-gone (Syntax.tyInt Syntax.w64)) t44
+
+abbrev pub t46 : List.List Row.Entry
+t46 = Row.setRow 12 (12, Rows.any-gone (Syntax.tyInt Syntax.w64)) t45
+
+abbrev pub t47 : List.List Row.Entry
+t47 = Row.setRow 13 (13, Rows.any-gone (Syntax.tyInt Syntax.w64)) t46
+
+abbrev pub t48 : List.List Row.Entry
+t48 = Row.setRow 9 (9, Rows.any-gone (Syntax.tyInt Syntax.w64)) t47
+
+abbrev pub t49 : List.List Row.Entry
+t49 = Row.setRow 10 (10, Rows.any-gone (Syntax.tyInt Syntax.w64)) t48
 
 abbrev pub T0 : Row.Cx
 T0 = record { locals = List._++_ t0 t1; slots = List.[] }
@@ -457,82 +484,85 @@ abbrev pub T6 : Row.Cx
 T6 = record { locals = List._++_ t0 t1; slots = List.[] }
 
 abbrev pub T7 : Row.Cx
-T7 = record { locals = List._++_ t3 t1; slots = List.[] }
+T7 = record { locals = List._++_ t0 t1; slots = List.[] }
 
 abbrev pub T8 : Row.Cx
-T8 = record { locals = List._++_ t4 t1; slots = List.[] }
+T8 = record { locals = List._++_ t3 t1; slots = List.[] }
 
 abbrev pub T9 : Row.Cx
-T9 = record { locals = List._++_ t5 t1; slots = List.[] }
+T9 = record { locals = List._++_ t4 t1; slots = List.[] }
 
 abbrev pub T10 : Row.Cx
-T10 = record { locals = List._++_ t6 t1; slots = List.[] }
+T10 = record { locals = List._++_ t5 t1; slots = List.[] }
 
 abbrev pub T11 : Row.Cx
-T11 = record { locals = List._++_ t7 t1; slots = List.[] }
+T11 = record { locals = List._++_ t6 t1; slots = List.[] }
 
 abbrev pub T12 : Row.Cx
-T12 = record { locals = List._++_ t5 t1; slots = List.[] }
+T12 = record { locals = List._++_ t5 t7; slots = List.[] }
 
 abbrev pub T13 : Row.Cx
 T13 = record { locals = List._++_ t5 t1; slots = List.[] }
 
 abbrev pub T14 : Row.Cx
-T14 = record { locals = List._++_ t8 t1; slots = List.[] }
+T14 = record { locals = List._++_ t5 t1; slots = List.[] }
 
 abbrev pub T15 : Row.Cx
-T15 = record { locals = List._++_ t6 t1; slots = List.[] }
+T15 = record { locals = List._++_ t6 t7; slots = List.[] }
 
-abbrev pub T17 : Row.Cx
-T17 = record { locals = List._++_ t9 t10; slots = List.[] }
+abbrev pub T16 : Row.Cx
+T16 = record { locals = List._++_ t6 t1; slots = List.[] }
 
 abbrev pub T18 : Row.Cx
-T18 = record { locals = List._++_ t9 t11; slots = List.[] }
+T18 = record { locals = List._++_ t8 t9; slots = List.[] }
 
 abbrev pub T19 : Row.Cx
-T19 = record { locals = List._++_ t12 t11; slots = List.[] }
+T19 = record { locals = List._++_ t8 t10; slots = List.[] }
 
 abbrev pub T20 : Row.Cx
-T20 = record { locals = List._++_ t12 t1; slots = List.[] }
+T20 = record { locals = List._++_ t11 t10; slots = List.[] }
 
-abbrev pub T22 : Row.Cx
-T22 = record { locals = List._++_ t13 t1; slots = List.[] }
+abbrev pub T21 : Row.Cx
+T21 = record { locals = List._++_ t11 t1; slots = List.[] }
 
-abbrev pub T24 : Row.Cx
-T24 = record { locals = List._++_ t14 t1; slots = List.[] }
+abbrev pub T23 : Row.Cx
+T23 = record { locals = List._++_ t12 t1; slots = List.[] }
 
-abbrev pub T26 : Row.Cx
-T26 = record { locals = List._++_ t15 t16; slots = List.[] }
+abbrev pub T25 : Row.Cx
+T25 = record { locals = List._++_ t13 t1; slots = List.[] }
 
 abbrev pub T27 : Row.Cx
-T27 = record { locals = List._++_ t15 t17; slots = List.[] }
+T27 = record { locals = List._++_ t14 t15; slots = List.[] }
 
-abbrev pub T29 : Row.Cx
-T29 = record { locals = List._++_ t18 t19; slots = List.[] }
+abbrev pub T28 : Row.Cx
+T28 = record { locals = List._++_ t14 t16; slots = List.[] }
 
 abbrev pub T30 : Row.Cx
-T30 = record { locals = List._++_ t18 t20; slots = List.[] }
+T30 = record { locals = List._++_ t17 t18; slots = List.[] }
 
-abbrev pub T32 : Row.Cx
-T32 = record { locals = List._++_ t21 t22; slots = List.[] }
+abbrev pub T31 : Row.Cx
+T31 = record { locals = List._++_ t17 t19; slots = List.[] }
 
 abbrev pub T33 : Row.Cx
-T33 = record { locals = List._++_ t21 t23; slots = List.[] }
+T33 = record { locals = List._++_ t20 t21; slots = List.[] }
 
 abbrev pub T34 : Row.Cx
-T34 = record { locals = List._++_ t21 t24; slots = List.[] }
-
-abbrev pub T35 : Row.Cx
-T35 = record { locals = List._++_ t21 t25; slots = List.[] }
+T34 = record { locals = List._++_ t20 t22; slots = List.[] }
 
 abbrev pub T36 : Row.Cx
-T36 = record { locals = List._++_ t21 t26; slots = List.[] }
+T36 = record { locals = List._++_ t23 t24; slots = List.[] }
+
+abbrev pub T37 : Row.Cx
+T37 = record { locals = List._++_ t23 t25; slots = List.[] }
 
 abbrev pub T38 : Row.Cx
-T38 = record { locals = List._++_ t27 t28; slots = List.[] }
+T38 = record { locals = List._++_ t23 t26; slots = List.[] }
 
 abbrev pub T39 : Row.Cx
-T39 = record { locals = List._++_ t27 t28; slots = List.[] }
+T39 = record { locals = List._++_ t23 t27; slots = List.[] }
+
+abbrev pub T40 : Row.Cx
+T40 = record { locals = List._++_ t23 t28; slots = List.[] }
 
 abbrev pub T42 : Row.Cx
 T42 = record { locals = List._++_ t29 t30; slots = List.[] }
@@ -541,88 +571,100 @@ abbrev pub T43 : Row.Cx
 T43 = record { locals = List._++_ t29 t30; slots = List.[] }
 
 abbrev pub T46 : Row.Cx
-T46 = record { locals = List._++_ t14 t1; slots = List.[] }
+T46 = record { locals = List._++_ t31 t32; slots = List.[] }
 
 abbrev pub T47 : Row.Cx
-T47 = record { locals = List._++_ t14 t1; slots = List.[] }
+T47 = record { locals = List._++_ t31 t32; slots = List.[] }
 
 abbrev pub T50 : Row.Cx
-T50 = record { locals = List._++_ t31 t32; slots = List.[] }
+T50 = record { locals = List._++_ t33 t34; slots = List.[] }
 
 abbrev pub T51 : Row.Cx
-T51 = record { locals = List._++_ t31 t33; slots = List.[] }
-
-abbrev pub T53 : Row.Cx
-T53 = record { locals = List._++_ t34 t35; slots = List.[] }
+T51 = record { locals = List._++_ t33 t34; slots = List.[] }
 
 abbrev pub T54 : Row.Cx
-T54 = record { locals = List._++_ t34 t36; slots = List.[] }
+T54 = record { locals = List._++_ t13 t1; slots = List.[] }
 
 abbrev pub T55 : Row.Cx
-T55 = record { locals = List._++_ t34 t36; slots = List.[] }
-
-abbrev pub T56 : Row.Cx
-T56 = record { locals = List._++_ t34 t37; slots = List.[] }
-
-abbrev pub T57 : Row.Cx
-T57 = record { locals = List._++_ t34 t1; slots = List.[] }
+T55 = record { locals = List._++_ t13 t1; slots = List.[] }
 
 abbrev pub T58 : Row.Cx
-T58 = record { locals = List._++_ t38 t1; slots = List.[] }
+T58 = record { locals = List._++_ t35 t36; slots = List.[] }
 
-abbrev pub T60 : Row.Cx
-T60 = record { locals = List._++_ t39 t1; slots = List.[] }
+abbrev pub T59 : Row.Cx
+T59 = record { locals = List._++_ t35 t37; slots = List.[] }
+
+abbrev pub T61 : Row.Cx
+T61 = record { locals = List._++_ t38 t39; slots = List.[] }
+
+abbrev pub T62 : Row.Cx
+T62 = record { locals = List._++_ t38 t40; slots = List.[] }
 
 abbrev pub T63 : Row.Cx
-T63 = record { locals = List._++_ t13 t1; slots = List.[] }
+T63 = record { locals = List._++_ t38 t40; slots = List.[] }
+
+abbrev pub T64 : Row.Cx
+T64 = record { locals = List._++_ t38 t41; slots = List.[] }
 
 abbrev pub T65 : Row.Cx
-T65 = record { locals = List._++_ t13 t1; slots = List.[] }
+T65 = record { locals = List._++_ t38 t1; slots = List.[] }
 
 abbrev pub T66 : Row.Cx
-T66 = record { locals = List._++_ t5 t1; slots = List.[] }
-
-abbrev pub T67 : Row.Cx
-T67 = record { locals = List._++_ t40 t1; slots = List.[] }
+T66 = record { locals = List._++_ t42 t1; slots = List.[] }
 
 abbrev pub T68 : Row.Cx
-T68 = record { locals = List._++_ t41 t1; slots = List.[] }
-
-abbrev pub T69 : Row.Cx
-T69 = record { locals = List._++_ t42 t1; slots = List.[] }
-
-abbrev pub T70 : Row.Cx
-T70 = record { locals = List._++_ t43 t1; slots = List.[] }
+T68 = record { locals = List._++_ t43 t1; slots = List.[] }
 
 abbrev pub T71 : Row.Cx
-T71 = record { locals = List._++_ t44 t1; slots = List.[] }
-
-abbrev pub T72 : Row.Cx
-T72 = record { locals = List._++_ t45 t1; slots = List.[] }
+T71 = record { locals = List._++_ t12 t1; slots = List.[] }
 
 abbrev pub T73 : Row.Cx
-T73 = record { locals = List._++_ t2 t1; slots = List.[] }
+T73 = record { locals = List._++_ t12 t1; slots = List.[] }
+
+abbrev pub T74 : Row.Cx
+T74 = record { locals = List._++_ t5 t1; slots = List.[] }
+
+abbrev pub T75 : Row.Cx
+T75 = record { locals = List._++_ t44 t1; slots = List.[] }
+
+abbrev pub T76 : Row.Cx
+T76 = record { locals = List._++_ t45 t1; slots = List.[] }
+
+abbrev pub T77 : Row.Cx
+T77 = record { locals = List._++_ t46 t1; slots = List.[] }
+
+abbrev pub T78 : Row.Cx
+T78 = record { locals = List._++_ t47 t1; slots = List.[] }
+
+abbrev pub T79 : Row.Cx
+T79 = record { locals = List._++_ t48 t1; slots = List.[] }
+
+abbrev pub T80 : Row.Cx
+T80 = record { locals = List._++_ t49 t1; slots = List.[] }
+
+abbrev pub T81 : Row.Cx
+T81 = record { locals = List._++_ t2 t1; slots = List.[] }
 
 abbrev pub O0 : Typed.Outs
 O0 = record { next = Option.none; exits = List.[]; returns = Option.some T1 }
 
 abbrev pub O1 : Typed.Outs
-O1 = Typed.withNext (Option.some T10) O0
+O1 = Typed.withNext (Option.some T11) O0
 
 abbrev pub O2 : Typed.Outs
 O2 = Typed.inBlock₀ O1
 
 abbrev pub O3 : Typed.Outs
-O3 = Typed.inLoop₀ T9 O2
+O3 = Typed.inLoop₀ T10 O2
 
 abbrev pub O4 : Typed.Outs
-O4 = Typed.withNext (Option.some T12) O3
+O4 = Typed.withNext (Option.some T13) O3
 
 abbrev pub InvT-loop : Type 1
-InvT-loop = Rows.whole (Declared.row Size.the-type) .Mod → List.List (T.the-row .Denot) → List.List (Referent.rtF (Referent.fInt Syntax.w16) .Denot) → List.List (Referent.rtF (Referent.fInt Syntax.w16) .Denot) → List.List (Referent.rtF (Referent.fInt Syntax.w16) .Denot) → List.List (Referent.rtF (Referent.fInt Syntax.w16) .Denot) → List.List (Referent.rtF (Referent.fInt Syntax.w16) .Denot) → Rows.sc-here (Row.sInt Syntax.w64) .Mod → Rows.sc-here (Row.sInt Syntax.w64) .Mod → Rows.sc-here (Row.sInt Syntax.w64) .Mod → Rows.sc-here (Row.sInt Syntax.w64) .Mod → Rows.sc-here (Row.sInt Syntax.w64) .Mod → List.List (Referent.rtF (Referent.fInt Syntax.w16) .Denot) → List.List (Referent.rtF (Referent.fInt Syntax.w16) .Denot) → List.List (Referent.rtF (Referent.fInt Syntax.w16) .Denot) → Rows.sc-here (Row.sInt Syntax.w64) .Mod → Rows.sc-here (Row.sInt Syntax.w64) .Mod → Rows.sc-here (Row.sInt Syntax.w64) .Mod → Type 0
+InvT-loop = Rows.whole (Declared.row Size.the-type) .Mod → List.List (T.the-row .Denot) → List.List (Referent.rtF (Referent.fInt Syntax.w16) .Denot) → List.List (Referent.rtF (Referent.fInt Syntax.w16) .Denot) → List.List (Referent.rtF (Referent.fInt Syntax.w16) .Denot) → List.List (Referent.rtF (Referent.fInt Syntax.w16) .Denot) → List.List (Referent.rtF (Referent.fInt Syntax.w16) .Denot) → List.List (Referent.rtF (Referent.fInt Syntax.w16) .Denot) → Rows.sc-here (Row.sInt Syntax.w64) .Mod → Rows.sc-here (Row.sInt Syntax.w64) .Mod → Rows.sc-here (Row.sInt Syntax.w64) .Mod → Rows.sc-here (Row.sInt Syntax.w64) .Mod → Rows.sc-here (Row.sInt Syntax.w64) .Mod → List.List (Referent.rtF (Referent.fInt Syntax.w16) .Denot) → List.List (Referent.rtF (Referent.fInt Syntax.w16) .Denot) → List.List (Referent.rtF (Referent.fInt Syntax.w16) .Denot) → List.List (Referent.rtF (Referent.fInt Syntax.w16) .Denot) → Rows.sc-here (Row.sInt Syntax.w64) .Mod → Rows.sc-here (Row.sInt Syntax.w64) .Mod → Rows.sc-here (Row.sInt Syntax.w64) .Mod → Type 0
 
 abbrev pub MeasureT-loop : Type 0
-MeasureT-loop = Rows.whole (Declared.row Size.the-type) .Mod → List.List (T.the-row .Denot) → List.List (Referent.rtF (Referent.fInt Syntax.w16) .Denot) → List.List (Referent.rtF (Referent.fInt Syntax.w16) .Denot) → List.List (Referent.rtF (Referent.fInt Syntax.w16) .Denot) → List.List (Referent.rtF (Referent.fInt Syntax.w16) .Denot) → List.List (Referent.rtF (Referent.fInt Syntax.w16) .Denot) → Rows.sc-here (Row.sInt Syntax.w64) .Mod → Rows.sc-here (Row.sInt Syntax.w64) .Mod → Rows.sc-here (Row.sInt Syntax.w64) .Mod → Rows.sc-here (Row.sInt Syntax.w64) .Mod → Rows.sc-here (Row.sInt Syntax.w64) .Mod → List.List (Referent.rtF (Referent.fInt Syntax.w16) .Denot) → List.List (Referent.rtF (Referent.fInt Syntax.w16) .Denot) → List.List (Referent.rtF (Referent.fInt Syntax.w16) .Denot) → Rows.sc-here (Row.sInt Syntax.w64) .Mod → Rows.sc-here (Row.sInt Syntax.w64) .Mod → Rows.sc-here (Row.sInt Syntax.w64) .Mod → Nat.ℕ
+MeasureT-loop = Rows.whole (Declared.row Size.the-type) .Mod → List.List (T.the-row .Denot) → List.List (Referent.rtF (Referent.fInt Syntax.w16) .Denot) → List.List (Referent.rtF (Referent.fInt Syntax.w16) .Denot) → List.List (Referent.rtF (Referent.fInt Syntax.w16) .Denot) → List.List (Referent.rtF (Referent.fInt Syntax.w16) .Denot) → List.List (Referent.rtF (Referent.fInt Syntax.w16) .Denot) → List.List (Referent.rtF (Referent.fInt Syntax.w16) .Denot) → Rows.sc-here (Row.sInt Syntax.w64) .Mod → Rows.sc-here (Row.sInt Syntax.w64) .Mod → Rows.sc-here (Row.sInt Syntax.w64) .Mod → Rows.sc-here (Row.sInt Syntax.w64) .Mod → Rows.sc-here (Row.sInt Syntax.w64) .Mod → List.List (Referent.rtF (Referent.fInt Syntax.w16) .Denot) → List.List (Referent.rtF (Referent.fInt Syntax.w16) .Denot) → List.List (Referent.rtF (Referent.fInt Syntax.w16) .Denot) → List.List (Referent.rtF (Referent.fInt Syntax.w16) .Denot) → Rows.sc-here (Row.sInt Syntax.w64) .Mod → Rows.sc-here (Row.sInt Syntax.w64) .Mod → Rows.sc-here (Row.sInt Syntax.w64) .Mod → Nat.ℕ
 
 module _ (claims· : Claims) where
   abbrev s0 : Typed.Gives T0 T2
@@ -640,931 +682,1025 @@ module _ (claims· : Claims) where
   abbrev s4 : Typed.Gives T5 T6
   s4 = Know.k-sl-known (Referent.fInt Syntax.w16) T5 7 5 ty·6 Row.off 0 λ x. x
 
-  abbrev s5 : Typed.Mo T6 → Typed.Mo T7
-  s5 = Scalar.n-use T6 (Scalar.oAt 9 (Syntax.tyInt Syntax.w64) (Row.valS (Row.sInt Syntax.w64))) 10 (Rows.sc-here (Row.sInt Syntax.w64)) (Row.sInt Syntax.w64 .of)
+  abbrev s5 : Typed.Gives T6 T7
+  s5 = Know.k-sl-known (Referent.fInt Syntax.w16) T6 8 6 ty·7 Row.off 0 λ x. x
 
   abbrev s6 : Typed.Mo T7 → Typed.Mo T8
-  s6 = Scalar.n-use T7 (Scalar.oBig Syntax.w64 65535) 11 (Rows.sc-here (Row.sInt Syntax.w64)) (Row.sInt Syntax.w64 .of)
+  s6 = Scalar.n-use T7 (Scalar.oAt 10 (Syntax.tyInt Syntax.w64) (Row.valS (Row.sInt Syntax.w64))) 11 (Rows.sc-here (Row.sInt Syntax.w64)) (Row.sInt Syntax.w64 .of)
 
   abbrev s7 : Typed.Mo T8 → Typed.Mo T9
-  s7 = Scalar.n-use T8 (Scalar.oAt 8 (Syntax.tyInt Syntax.w64) (Row.valS (Row.sInt Syntax.w64))) 12 (Rows.sc-here (Row.sInt Syntax.w64)) (Row.sInt Syntax.w64 .of)
+  s7 = Scalar.n-use T8 (Scalar.oBig Syntax.w64 65535) 12 (Rows.sc-here (Row.sInt Syntax.w64)) (Row.sInt Syntax.w64 .of)
 
-  abbrev s8 : Typed.Asks T9 T11
-  s8 = Scalar.k-op2 T9 (Syntax.lt Syntax.unsigned) (Scalar.oAt 12 (Syntax.tyInt Syntax.w64) (Row.valS (Row.sInt Syntax.w64))) (Scalar.oAt 10 (Syntax.tyInt Syntax.w64) (Row.valS (Row.sInt Syntax.w64))) 15 (Rows.sc-here Row.sBool) (Row.sBool .of)
+  abbrev s8 : Typed.Mo T9 → Typed.Mo T10
+  s8 = Scalar.n-use T9 (Scalar.oAt 9 (Syntax.tyInt Syntax.w64) (Row.valS (Row.sInt Syntax.w64))) 13 (Rows.sc-here (Row.sInt Syntax.w64)) (Row.sInt Syntax.w64 .of)
 
-  abbrev s9 : Typed.Mo T11 → Typed.Mo T13
-  s9 = Scalar.n-room T11 15 Syntax.tyBool
+  abbrev s9 : Typed.Asks T10 T12
+  s9 = Scalar.k-op2 T10 (Syntax.lt Syntax.unsigned) (Scalar.oAt 13 (Syntax.tyInt Syntax.w64) (Row.valS (Row.sInt Syntax.w64))) (Scalar.oAt 11 (Syntax.tyInt Syntax.w64) (Row.valS (Row.sInt Syntax.w64))) 16 (Rows.sc-here Row.sBool) (Row.sBool .of)
 
-  abbrev s10 : Typed.Mo T11 → Typed.Mo T14
-  s10 = Scalar.n-room T11 1 ty·10
+  abbrev s10 : Typed.Mo T12 → Typed.Mo T14
+  s10 = Scalar.n-room T12 16 Syntax.tyBool
 
-  abbrev s11 : Typed.Mo T14 → Typed.Mo T15
-  s11 = Scalar.n-room T14 15 Syntax.tyBool
+  abbrev s11 : Typed.Mo T12 → Typed.Mo T15
+  s11 = Scalar.n-room T12 1 ty·11
 
-  abbrev s13 : Typed.Gives T12 T17
-  s13 = Reshare.k-sl-reshare (Referent.rtF (Referent.fInt Syntax.w16)) T12 7 16 5 6 ty·6 ty·0 Row.off λ x. x
+  abbrev s12 : Typed.Mo T15 → Typed.Mo T16
+  s12 = Scalar.n-room T15 16 Syntax.tyBool
 
-  abbrev s14 : Typed.Asks T17 T18
-  s14 = Relend.k-sl-aggregate (Referent.rtF (Referent.fInt Syntax.w16)) (Relend.asShr (Referent.rtF (Referent.fInt Syntax.w16))) T17 16 17 6 ty·0 ty·0 (λ x. x) (Scalar.oFld 7 (List._∷_ (Syntax.field 1) List.[]) (Syntax.tyInt Syntax.w64) 8 λ v. Shared.lenV (v .0))
+  abbrev s14 : Typed.Gives T13 T18
+  s14 = Reshare.k-sl-reshare (Referent.rtF (Referent.fInt Syntax.w16)) T13 7 17 5 7 ty·6 ty·0 Row.off λ x. x
 
-  abbrev s15 : Typed.Both T18 T19
-  s15 = Call.callB ps·0 r·0 (claims· .0) (claims· .1) T18 (record { pos = 17; ty = Syntax.tyRef Syntax.erased Syntax.imm (Syntax.tyInt Syntax.w16); ref = λ x. x }, (Num.vAt 12 λ x. x, tt)) 13 (List._∷_ 6 List.[]) (Syntax.tyInt Syntax.w64)
+  abbrev s15 : Typed.Asks T18 T19
+  s15 = Relend.k-sl-aggregate (Referent.rtF (Referent.fInt Syntax.w16)) (Relend.asShr (Referent.rtF (Referent.fInt Syntax.w16))) T18 17 18 7 ty·0 ty·0 (λ x. x) (Scalar.oFld 7 (List._∷_ (Syntax.field 1) List.[]) (Syntax.tyInt Syntax.w64) 8 λ v. Shared.lenV (v .0))
 
-  abbrev s16 : Typed.Mo T19 → Typed.Mo T20
-  s16 = Scalar.n-room T19 17 ty·8
+  abbrev s16 : Typed.Both T19 T20
+  s16 = Call.callB ps·0 r·0 (claims· .0) (claims· .1) T19 (record { pos = 18; ty = Syntax.tyRef Syntax.erased Syntax.imm (Syntax.tyInt Syntax.w16); ref = λ x. x }, (Num.vAt 13 λ x. x, tt)) 14 (List._∷_ 7 List.[]) (Syntax.tyInt Syntax.w64)
 
-  abbrev s18 : Typed.Mo T20 → Typed.Mo T22
-  s18 = Reshare.n-back-sl-shr (Referent.rtF (Referent.fInt Syntax.w16)) T20 7 5 6 ty·6 Row.off λ x. x
+  abbrev s17 : Typed.Mo T20 → Typed.Mo T21
+  s17 = Scalar.n-room T20 18 ty·9
 
-  abbrev s20 : Typed.Both T22 T24
-  s20 = Call.callB ps·1 r·1 (claims· .2) (claims· .3) T22 (record { pos = 1; st = List.[]; d = 0; at = λ x. x }, (record { pos = 2; ty = Syntax.tyRef (Syntax.named 0) Syntax.imm (Memory.pointee (T.the-row .written)); ref = λ x. x }, (Num.vAt 13 λ x. x, tt))) 14 (List._∷_ 0 List.[]) ty·11
+  abbrev s19 : Typed.Mo T21 → Typed.Mo T23
+  s19 = Reshare.n-back-sl-shr (Referent.rtF (Referent.fInt Syntax.w16)) T21 7 5 7 ty·6 Row.off λ x. x
 
-  abbrev s22 : Typed.Gives T24 T26
-  s22 = Relend.k-sl-relend (Referent.rtF (Referent.fInt Syntax.w16)) T24 5 18 3 7 ty·4 ty·1 Row.off λ x. x
+  abbrev s21 : Typed.Both T23 T25
+  s21 = Call.callB ps·1 r·1 (claims· .2) (claims· .3) T23 (record { pos = 1; st = List.[]; d = 0; at = λ x. x }, (record { pos = 2; ty = Syntax.tyRef (Syntax.named 0) Syntax.imm (Memory.pointee (T.the-row .written)); ref = λ x. x }, (Num.vAt 14 λ x. x, tt))) 15 (List._∷_ 0 List.[]) ty·12
 
-  abbrev s23 : Typed.Asks T26 T27
-  s23 = Relend.k-sl-aggregate (Referent.rtF (Referent.fInt Syntax.w16)) (Relend.asMut (Referent.rtF (Referent.fInt Syntax.w16))) T26 18 19 7 ty·1 ty·1 (λ x. x) (Scalar.oFld 5 (List._∷_ (Syntax.field 1) List.[]) (Syntax.tyInt Syntax.w64) 8 λ v. Shared.lenV (v .0))
+  abbrev s23 : Typed.Gives T25 T27
+  s23 = Relend.k-sl-relend (Referent.rtF (Referent.fInt Syntax.w16)) T25 5 19 3 8 ty·4 ty·1 Row.off λ x. x
 
-  abbrev s25 : Typed.Gives T27 T29
-  s25 = Relend.k-sl-relend (Referent.rtF (Referent.fInt Syntax.w16)) T27 6 20 4 8 ty·5 ty·1 Row.off λ x. x
+  abbrev s24 : Typed.Asks T27 T28
+  s24 = Relend.k-sl-aggregate (Referent.rtF (Referent.fInt Syntax.w16)) (Relend.asMut (Referent.rtF (Referent.fInt Syntax.w16))) T27 19 20 8 ty·1 ty·1 (λ x. x) (Scalar.oFld 5 (List._∷_ (Syntax.field 1) List.[]) (Syntax.tyInt Syntax.w64) 8 λ v. Shared.lenV (v .0))
 
-  abbrev s26 : Typed.Asks T29 T30
-  s26 = Relend.k-sl-aggregate (Referent.rtF (Referent.fInt Syntax.w16)) (Relend.asMut (Referent.rtF (Referent.fInt Syntax.w16))) T29 20 21 8 ty·1 ty·1 (λ x. x) (Scalar.oFld 6 (List._∷_ (Syntax.field 1) List.[]) (Syntax.tyInt Syntax.w64) 8 λ v. Shared.lenV (v .0))
+  abbrev s26 : Typed.Gives T28 T30
+  s26 = Relend.k-sl-relend (Referent.rtF (Referent.fInt Syntax.w16)) T28 6 21 4 9 ty·5 ty·1 Row.off λ x. x
 
-  abbrev s28 : Typed.Gives T30 T32
-  s28 = Relend.k-sl-relend (Referent.rtF (Referent.fInt Syntax.w16)) T30 7 22 5 9 ty·6 ty·1 Row.off λ x. x
+  abbrev s27 : Typed.Asks T30 T31
+  s27 = Relend.k-sl-aggregate (Referent.rtF (Referent.fInt Syntax.w16)) (Relend.asMut (Referent.rtF (Referent.fInt Syntax.w16))) T30 21 22 9 ty·1 ty·1 (λ x. x) (Scalar.oFld 6 (List._∷_ (Syntax.field 1) List.[]) (Syntax.tyInt Syntax.w64) 8 λ v. Shared.lenV (v .0))
 
-  abbrev s29 : Typed.Asks T32 T33
-  s29 = Relend.k-sl-aggregate (Referent.rtF (Referent.fInt Syntax.w16)) (Relend.asMut (Referent.rtF (Referent.fInt Syntax.w16))) T32 22 23 9 ty·1 ty·1 (λ x. x) (Scalar.oFld 7 (List._∷_ (Syntax.field 1) List.[]) (Syntax.tyInt Syntax.w64) 8 λ v. Shared.lenV (v .0))
+  abbrev s29 : Typed.Gives T31 T33
+  s29 = Relend.k-sl-relend (Referent.rtF (Referent.fInt Syntax.w16)) T31 7 23 5 10 ty·6 ty·1 Row.off λ x. x
 
   abbrev s30 : Typed.Asks T33 T34
-  s30 = Scalar.k-op2 T33 (Syntax.add Syntax.unsigned) (Scalar.oAt 12 (Syntax.tyInt Syntax.w64) (Row.valS (Row.sInt Syntax.w64))) (Scalar.oInt Syntax.w64 2) 24 (Rows.sc-here (Row.sInt Syntax.w64)) (Row.sInt Syntax.w64 .of)
+  s30 = Relend.k-sl-aggregate (Referent.rtF (Referent.fInt Syntax.w16)) (Relend.asMut (Referent.rtF (Referent.fInt Syntax.w16))) T33 23 24 10 ty·1 ty·1 (λ x. x) (Scalar.oFld 7 (List._∷_ (Syntax.field 1) List.[]) (Syntax.tyInt Syntax.w64) 8 λ v. Shared.lenV (v .0))
 
-  abbrev s31 : Typed.Both T34 T35
-  s31 = Call.callB ps·2 r·2 (claims· .4) (claims· .5) T34 (record { pos = 1; st = List.[]; d = 0; at = λ x. x }, (record { pos = 14; st = List.[]; d = 0; at = λ x. x }, (record { pos = 3; ty = Syntax.tyRef (Syntax.named 1) Syntax.imm (Syntax.tyInt Syntax.w16); ref = λ x. x }, (record { pos = 4; ty = Syntax.tyRef (Syntax.named 2) Syntax.imm (Syntax.tyInt Syntax.w16); ref = λ x. x }, (record { pos = 19; ty = Syntax.tyRef Syntax.erased Syntax.mut (Syntax.tyInt Syntax.w16); ref = λ x. x }, (record { pos = 21; ty = Syntax.tyRef Syntax.erased Syntax.mut (Syntax.tyInt Syntax.w16); ref = λ x. x }, (record { pos = 23; ty = Syntax.tyRef Syntax.erased Syntax.mut (Syntax.tyInt Syntax.w16); ref = λ x. x }, (Num.vAt 10 λ x. x, (Num.vAt 13 λ x. x, (Num.vAt 24 λ x. x, tt)))))))))) 10 (List._∷_ 1 (List._∷_ 2 (List._∷_ 7 (List._∷_ 8 (List._∷_ 9 List.[]))))) (Syntax.tyInt Syntax.w64)
+  abbrev s32 : Typed.Gives T34 T36
+  s32 = Relend.k-sl-relend (Referent.rtF (Referent.fInt Syntax.w16)) T34 8 25 6 11 ty·7 ty·1 Row.off λ x. x
 
-  abbrev s32 : Typed.Mo T35 → Typed.Mo T36
-  s32 = Scalar.n-room T35 24 (Syntax.tyInt Syntax.w64)
+  abbrev s33 : Typed.Asks T36 T37
+  s33 = Relend.k-sl-aggregate (Referent.rtF (Referent.fInt Syntax.w16)) (Relend.asMut (Referent.rtF (Referent.fInt Syntax.w16))) T36 25 26 11 ty·1 ty·1 (λ x. x) (Scalar.oFld 8 (List._∷_ (Syntax.field 1) List.[]) (Syntax.tyInt Syntax.w64) 8 λ v. Shared.lenV (v .0))
 
-  abbrev s34 : Typed.Both T36 T38
-  s34 = Relend.k-back-sl (Referent.rtF (Referent.fInt Syntax.w16)) T36 19 5 3 7 ty·4 ty·1 Row.off (λ x. x) λ x. x
+  abbrev s34 : Typed.Asks T37 T38
+  s34 = Scalar.k-op2 T37 (Syntax.add Syntax.unsigned) (Scalar.oAt 13 (Syntax.tyInt Syntax.w64) (Row.valS (Row.sInt Syntax.w64))) (Scalar.oInt Syntax.w64 2) 27 (Rows.sc-here (Row.sInt Syntax.w64)) (Row.sInt Syntax.w64 .of)
 
-  abbrev s35 : Typed.Gives T38 T39
-  s35 = Know.k-sl-known (Referent.fInt Syntax.w16) T38 5 3 ty·4 Row.off 0 λ x. x
+  abbrev s35 : Typed.Both T38 T39
+  s35 = Call.callB ps·2 r·2 (claims· .4) (claims· .5) T38 (record { pos = 1; st = List.[]; d = 0; at = λ x. x }, (record { pos = 15; st = List.[]; d = 0; at = λ x. x }, (record { pos = 3; ty = Syntax.tyRef (Syntax.named 1) Syntax.imm (Syntax.tyInt Syntax.w16); ref = λ x. x }, (record { pos = 4; ty = Syntax.tyRef (Syntax.named 2) Syntax.imm (Syntax.tyInt Syntax.w16); ref = λ x. x }, (record { pos = 20; ty = Syntax.tyRef Syntax.erased Syntax.mut (Syntax.tyInt Syntax.w16); ref = λ x. x }, (record { pos = 22; ty = Syntax.tyRef Syntax.erased Syntax.mut (Syntax.tyInt Syntax.w16); ref = λ x. x }, (record { pos = 24; ty = Syntax.tyRef Syntax.erased Syntax.mut (Syntax.tyInt Syntax.w16); ref = λ x. x }, (record { pos = 26; ty = Syntax.tyRef Syntax.erased Syntax.mut (Syntax.tyInt Syntax.w16); ref = λ x. x }, (Num.vAt 11 λ x. x, (Num.vAt 14 λ x. x, (Num.vAt 27 λ x. x, tt))))))))))) 11 (List._∷_ 1 (List._∷_ 2 (List._∷_ 8 (List._∷_ 9 (List._∷_ 10 (List._∷_ 11 List.[])))))) (Syntax.tyInt Syntax.w64)
 
-  abbrev s38 : Typed.Both T39 T42
-  s38 = Relend.k-back-sl (Referent.rtF (Referent.fInt Syntax.w16)) T39 21 6 4 8 ty·5 ty·1 Row.off (λ x. x) λ x. x
+  abbrev s36 : Typed.Mo T39 → Typed.Mo T40
+  s36 = Scalar.n-room T39 27 (Syntax.tyInt Syntax.w64)
+
+  abbrev s38 : Typed.Both T40 T42
+  s38 = Relend.k-back-sl (Referent.rtF (Referent.fInt Syntax.w16)) T40 20 5 3 8 ty·4 ty·1 Row.off (λ x. x) λ x. x
 
   abbrev s39 : Typed.Gives T42 T43
-  s39 = Know.k-sl-known (Referent.fInt Syntax.w16) T42 6 4 ty·5 Row.off 0 λ x. x
+  s39 = Know.k-sl-known (Referent.fInt Syntax.w16) T42 5 3 ty·4 Row.off 0 λ x. x
 
   abbrev s42 : Typed.Both T43 T46
-  s42 = Relend.k-back-sl (Referent.rtF (Referent.fInt Syntax.w16)) T43 23 7 5 9 ty·6 ty·1 Row.off (λ x. x) λ x. x
+  s42 = Relend.k-back-sl (Referent.rtF (Referent.fInt Syntax.w16)) T43 22 6 4 9 ty·5 ty·1 Row.off (λ x. x) λ x. x
 
   abbrev s43 : Typed.Gives T46 T47
-  s43 = Know.k-sl-known (Referent.fInt Syntax.w16) T46 7 5 ty·6 Row.off 0 λ x. x
+  s43 = Know.k-sl-known (Referent.fInt Syntax.w16) T46 6 4 ty·5 Row.off 0 λ x. x
 
-  abbrev s46 : Typed.Gives T47 T50
-  s46 = Reshare.k-sl-reshare (Referent.rtF (Referent.fInt Syntax.w16)) T47 5 25 3 10 ty·4 ty·0 Row.off λ x. x
+  abbrev s46 : Typed.Both T47 T50
+  s46 = Relend.k-back-sl (Referent.rtF (Referent.fInt Syntax.w16)) T47 24 7 5 10 ty·6 ty·1 Row.off (λ x. x) λ x. x
 
-  abbrev s47 : Typed.Asks T50 T51
-  s47 = Relend.k-sl-aggregate (Referent.rtF (Referent.fInt Syntax.w16)) (Relend.asShr (Referent.rtF (Referent.fInt Syntax.w16))) T50 25 26 10 ty·0 ty·0 (λ x. x) (Scalar.oFld 5 (List._∷_ (Syntax.field 1) List.[]) (Syntax.tyInt Syntax.w64) 8 λ v. Shared.lenV (v .0))
+  abbrev s47 : Typed.Gives T50 T51
+  s47 = Know.k-sl-known (Referent.fInt Syntax.w16) T50 7 5 ty·6 Row.off 0 λ x. x
 
-  abbrev s49 : Typed.Gives T51 T53
-  s49 = Reshare.k-sl-reshare (Referent.rtF (Referent.fInt Syntax.w16)) T51 6 27 4 11 ty·5 ty·0 Row.off λ x. x
+  abbrev s50 : Typed.Both T51 T54
+  s50 = Relend.k-back-sl (Referent.rtF (Referent.fInt Syntax.w16)) T51 26 8 6 11 ty·7 ty·1 Row.off (λ x. x) λ x. x
 
-  abbrev s50 : Typed.Asks T53 T54
-  s50 = Relend.k-sl-aggregate (Referent.rtF (Referent.fInt Syntax.w16)) (Relend.asShr (Referent.rtF (Referent.fInt Syntax.w16))) T53 27 28 11 ty·0 ty·0 (λ x. x) (Scalar.oFld 6 (List._∷_ (Syntax.field 1) List.[]) (Syntax.tyInt Syntax.w64) 8 λ v. Shared.lenV (v .0))
+  abbrev s51 : Typed.Gives T54 T55
+  s51 = Know.k-sl-known (Referent.fInt Syntax.w16) T54 8 6 ty·7 Row.off 0 λ x. x
 
-  abbrev s51 : Typed.Both T54 T55
-  s51 = Call.callB ps·3 r·3 (claims· .6) (claims· .7) T54 (record { pos = 14; st = List.[]; d = 0; at = λ x. x }, (record { pos = 26; ty = Syntax.tyRef Syntax.erased Syntax.imm (Syntax.tyInt Syntax.w16); ref = λ x. x }, (record { pos = 28; ty = Syntax.tyRef Syntax.erased Syntax.imm (Syntax.tyInt Syntax.w16); ref = λ x. x }, (Num.vAt 13 λ x. x, (Num.vAt 11 λ x. x, tt))))) 11 (List._∷_ 10 (List._∷_ 11 List.[])) (Syntax.tyInt Syntax.w64)
+  abbrev s54 : Typed.Gives T55 T58
+  s54 = Reshare.k-sl-reshare (Referent.rtF (Referent.fInt Syntax.w16)) T55 5 28 3 12 ty·4 ty·0 Row.off λ x. x
 
-  abbrev s52 : Typed.Mo T55 → Typed.Mo T56
-  s52 = Scalar.n-room T55 26 ty·8
+  abbrev s55 : Typed.Asks T58 T59
+  s55 = Relend.k-sl-aggregate (Referent.rtF (Referent.fInt Syntax.w16)) (Relend.asShr (Referent.rtF (Referent.fInt Syntax.w16))) T58 28 29 12 ty·0 ty·0 (λ x. x) (Scalar.oFld 5 (List._∷_ (Syntax.field 1) List.[]) (Syntax.tyInt Syntax.w64) 8 λ v. Shared.lenV (v .0))
 
-  abbrev s53 : Typed.Mo T56 → Typed.Mo T57
-  s53 = Scalar.n-room T56 28 ty·8
+  abbrev s57 : Typed.Gives T59 T61
+  s57 = Reshare.k-sl-reshare (Referent.rtF (Referent.fInt Syntax.w16)) T59 6 30 4 13 ty·5 ty·0 Row.off λ x. x
 
-  abbrev s54 : Typed.Mo T57 → Typed.Mo T58
-  s54 = Scalar.n-room T57 14 ty·11
+  abbrev s58 : Typed.Asks T61 T62
+  s58 = Relend.k-sl-aggregate (Referent.rtF (Referent.fInt Syntax.w16)) (Relend.asShr (Referent.rtF (Referent.fInt Syntax.w16))) T61 30 31 13 ty·0 ty·0 (λ x. x) (Scalar.oFld 6 (List._∷_ (Syntax.field 1) List.[]) (Syntax.tyInt Syntax.w64) 8 λ v. Shared.lenV (v .0))
 
-  abbrev s56 : Typed.Mo T58 → Typed.Mo T60
-  s56 = Reshare.n-back-sl-shr (Referent.rtF (Referent.fInt Syntax.w16)) T58 5 3 10 ty·4 Row.off λ x. x
+  abbrev s59 : Typed.Both T62 T63
+  s59 = Call.callB ps·3 r·3 (claims· .6) (claims· .7) T62 (record { pos = 15; st = List.[]; d = 0; at = λ x. x }, (record { pos = 29; ty = Syntax.tyRef Syntax.erased Syntax.imm (Syntax.tyInt Syntax.w16); ref = λ x. x }, (record { pos = 31; ty = Syntax.tyRef Syntax.erased Syntax.imm (Syntax.tyInt Syntax.w16); ref = λ x. x }, (Num.vAt 14 λ x. x, (Num.vAt 12 λ x. x, tt))))) 12 (List._∷_ 12 (List._∷_ 13 List.[])) (Syntax.tyInt Syntax.w64)
 
-  abbrev s59 : Typed.Mo T60 → Typed.Mo T63
-  s59 = Reshare.n-back-sl-shr (Referent.rtF (Referent.fInt Syntax.w16)) T60 6 4 11 ty·5 Row.off λ x. x
+  abbrev s60 : Typed.Mo T63 → Typed.Mo T64
+  s60 = Scalar.n-room T63 29 ty·9
 
-  abbrev s61 : Typed.Asks T63 T65
-  s61 = Scalar.k-op2 T63 (Syntax.add Syntax.unsigned) (Scalar.oAt 12 (Syntax.tyInt Syntax.w64) (Row.valS (Row.sInt Syntax.w64))) (Scalar.oInt Syntax.w64 1) 12 (Rows.sc-here (Row.sInt Syntax.w64)) (Row.sInt Syntax.w64 .of)
+  abbrev s61 : Typed.Mo T64 → Typed.Mo T65
+  s61 = Scalar.n-room T64 31 ty·9
 
   abbrev s62 : Typed.Mo T65 → Typed.Mo T66
-  s62 = Scalar.n-room T65 13 (Syntax.tyInt Syntax.w64)
+  s62 = Scalar.n-room T65 15 ty·12
 
-  abbrev s63 : Typed.Mo T10 → Typed.Mo T67
-  s63 = Make.n-struct-make (Apart.apartT Progress.the-type) T10 0 λ m. (m .1 .1 .1 .1 .1 .1 .1 .1 .1 .1 .0, (m .1 .1 .1 .1 .1 .1 .1 .1 .1 .1 .1 .0, tt))
+  abbrev s64 : Typed.Mo T66 → Typed.Mo T68
+  s64 = Reshare.n-back-sl-shr (Referent.rtF (Referent.fInt Syntax.w16)) T66 5 3 12 ty·4 Row.off λ x. x
 
-  abbrev s64 : Typed.Mo T67 → Typed.Mo T68
-  s64 = Scalar.n-room T67 10 (Syntax.tyInt Syntax.w64)
+  abbrev s67 : Typed.Mo T68 → Typed.Mo T71
+  s67 = Reshare.n-back-sl-shr (Referent.rtF (Referent.fInt Syntax.w16)) T68 6 4 13 ty·5 Row.off λ x. x
 
-  abbrev s65 : Typed.Mo T68 → Typed.Mo T69
-  s65 = Scalar.n-room T68 11 (Syntax.tyInt Syntax.w64)
+  abbrev s69 : Typed.Asks T71 T73
+  s69 = Scalar.k-op2 T71 (Syntax.add Syntax.unsigned) (Scalar.oAt 13 (Syntax.tyInt Syntax.w64) (Row.valS (Row.sInt Syntax.w64))) (Scalar.oInt Syntax.w64 1) 13 (Rows.sc-here (Row.sInt Syntax.w64)) (Row.sInt Syntax.w64 .of)
 
-  abbrev s66 : Typed.Mo T69 → Typed.Mo T70
-  s66 = Scalar.n-room T69 12 (Syntax.tyInt Syntax.w64)
+  abbrev s70 : Typed.Mo T73 → Typed.Mo T74
+  s70 = Scalar.n-room T73 14 (Syntax.tyInt Syntax.w64)
 
-  abbrev s67 : Typed.Mo T70 → Typed.Mo T71
-  s67 = Scalar.n-room T70 8 (Syntax.tyInt Syntax.w64)
+  abbrev s71 : Typed.Mo T11 → Typed.Mo T75
+  s71 = Make.n-struct-make (Apart.apartT Progress.the-type) T11 0 λ m. (m .1 .1 .1 .1 .1 .1 .1 .1 .1 .1 .1 .0, (m .1 .1 .1 .1 .1 .1 .1 .1 .1 .1 .1 .1 .0, tt))
 
-  abbrev s68 : Typed.Mo T71 → Typed.Mo T72
-  s68 = Scalar.n-room T71 9 (Syntax.tyInt Syntax.w64)
+  abbrev s72 : Typed.Mo T75 → Typed.Mo T76
+  s72 = Scalar.n-room T75 11 (Syntax.tyInt Syntax.w64)
 
-  abbrev s69 : Typed.Mo T72 → Typed.Mo T73
-  s69 = AtSlots.n-as-by T72 0 (Rows.whole (Declared.row Progress.the-type)) λ v. Progress.struct .make v tt
+  abbrev s73 : Typed.Mo T76 → Typed.Mo T77
+  s73 = Scalar.n-room T76 12 (Syntax.tyInt Syntax.w64)
 
-  abbrev put0 : List.List (Referent.rtF (Referent.fInt Syntax.w16) .Denot) × List.List (Referent.rtF (Referent.fInt Syntax.w16) .Denot) × List.List (Referent.rtF (Referent.fInt Syntax.w16) .Denot) × Rows.sc-here (Row.sInt Syntax.w64) .Mod × Rows.sc-here (Row.sInt Syntax.w64) .Mod × Rows.sc-here (Row.sInt Syntax.w64) .Mod → Typed.Mo T9 → Typed.Mo T9
-  put0 = λ vs u. Row.set 12 (12, Rows.sc-here (Row.sInt Syntax.w64)) (vs .5) (T9 .locals) (Row.set 11 (11, Rows.sc-here (Row.sInt Syntax.w64)) (vs .4) (T9 .locals) (Row.set 10 (10, Rows.sc-here (Row.sInt Syntax.w64)) (vs .3) (T9 .locals) (Row.set 7 (7, Mut.mslice (Referent.rtF (Referent.fInt Syntax.w16)) ty·6 5) record { ptr = Row.get 7 (T9 .locals) u .ptr; name = Row.get 7 (T9 .locals) u .name; now = vs .2 } (T9 .locals) (Row.set 6 (6, Mut.mslice (Referent.rtF (Referent.fInt Syntax.w16)) ty·5 4) record { ptr = Row.get 6 (T9 .locals) u .ptr; name = Row.get 6 (T9 .locals) u .name; now = vs .1 } (T9 .locals) (Row.set 5 (5, Mut.mslice (Referent.rtF (Referent.fInt Syntax.w16)) ty·4 3) record { ptr = Row.get 5 (T9 .locals) u .ptr; name = Row.get 5 (T9 .locals) u .name; now = vs .0 } (T9 .locals) u)))))
+  abbrev s74 : Typed.Mo T77 → Typed.Mo T78
+  s74 = Scalar.n-room T77 13 (Syntax.tyInt Syntax.w64)
 
-  module _ (Pre· : (κs : Lifetimes.Lfts 6) → Kinds.Dens κs ps → Type 0) (Post· : (κs : Lifetimes.Lfts 6) → (a : Kinds.Dens κs ps) → Kinds.Plain 6 ps r κs) where
+  abbrev s75 : Typed.Mo T78 → Typed.Mo T79
+  s75 = Scalar.n-room T78 9 (Syntax.tyInt Syntax.w64)
+
+  abbrev s76 : Typed.Mo T79 → Typed.Mo T80
+  s76 = Scalar.n-room T79 10 (Syntax.tyInt Syntax.w64)
+
+  abbrev s77 : Typed.Mo T80 → Typed.Mo T81
+  s77 = AtSlots.n-as-by T80 0 (Rows.whole (Declared.row Progress.the-type)) λ v. Progress.struct .make v tt
+
+  abbrev put0 : List.List (Referent.rtF (Referent.fInt Syntax.w16) .Denot) × List.List (Referent.rtF (Referent.fInt Syntax.w16) .Denot) × List.List (Referent.rtF (Referent.fInt Syntax.w16) .Denot) × List.List (Referent.rtF (Referent.fInt Syntax.w16) .Denot) × Rows.sc-here (Row.sInt Syntax.w64) .Mod × Rows.sc-here (Row.sInt Syntax.w64) .Mod × Rows.sc-here (Row.sInt Syntax.w64) .Mod → Typed.Mo T10 → Typed.Mo T10
+  put0 = λ vs u. Row.set 13 (13, Rows.sc-here (Row.sInt Syntax.w64)) (vs .6) (T10 .locals) (Row.set 12 (12, Rows.sc-here (Row.sInt Syntax.w64)) (vs .5) (T10 .locals) (Row.set 11 (11, Rows.sc-here (Row.sInt Syntax.w64)) (vs .4) (T10 .locals) (Row.set 8 (8, Mut.mslice (Referent.rtF (Referent.fInt Syntax.w16)) ty·7 6) record { ptr = Row.get 8 (T10 .locals) u .ptr; name = Row.get 8 (T10 .locals) u .name; now = vs .3 } (T10 .locals) (Row.set 7 (7, Mut.mslice (Referent.rtF (Referent.fInt Syntax.w16)) ty·6 5) record { ptr = Row.get 7 (T10 .locals) u .ptr; name = Row.get 7 (T10 .locals) u .name; now = vs .2 } (T10 .locals) (Row.set 6 (6, Mut.mslice (Referent.rtF (Referent.fInt Syntax.w16)) ty·5 4) record { ptr = Row.get 6 (T10 .locals) u .ptr; name = Row.get 6 (T10 .locals) u .name; now = vs .1 } (T10 .locals) (Row.set 5 (5, Mut.mslice (Referent.rtF (Referent.fInt Syntax.w16)) ty·4 3) record { ptr = Row.get 5 (T10 .locals) u .ptr; name = Row.get 5 (T10 .locals) u .name; now = vs .0 } (T10 .locals) u))))))
+
+  module _ (Pre· : (κs : Lifetimes.Lfts 7) → Kinds.Dens κs ps → Type 0) (Post· : (κs : Lifetimes.Lfts 7) → (a : Kinds.Dens κs ps) → Kinds.Plain 7 ps r κs) where
     module _ (M : Type 1) where
       abbrev pub Closed : Type 2
-      Closed = (𝓤 : URA.URA M) (H : Wp.Heap 𝓤) (A : Atoms.Atoms 𝓤) (W : Kit.Given 𝓤 H A) (𝓣 : Wp.Tables 𝓤 H) (known0 : Plain.Known 𝓤 H A W 𝓣 1 ps·0 r·0 (claims· .0) (claims· .1) "tables::entries::at") (known1 : Plain.Known 𝓤 H A W 𝓣 1 ps·1 r·1 (claims· .2) (claims· .3) "tables::spans::span_at") (known2 : Plain.Known 𝓤 H A W 𝓣 5 ps·2 r·2 (claims· .4) (claims· .5) "search::walk::expand") (known3 : Plain.Known 𝓤 H A W 𝓣 2 ps·3 r·3 (claims· .6) (claims· .7) "search::walk::lower") → Statement.Triple 𝓤 (Wp.WpFn 𝓤 H (𝓣 .C) (𝓣 .Λ) (Function.fnOf 6 ps r xs m hs body)) (Function.plainOf 𝓤 H A 6 ps r Pre· Post·)
+      Closed = (𝓤 : URA.URA M) (H : Wp.Heap 𝓤) (A : Atoms.Atoms 𝓤) (W : Kit.Given 𝓤 H A) (𝓣 : Wp.Tables 𝓤 H) (known0 : Plain.Known 𝓤 H A W 𝓣 1 ps·0 r·0 (claims· .0) (claims· .1) "tables::entries::at") (known1 : Plain.Known 𝓤 H A W 𝓣 1 ps·1 r·1 (claims· .2) (claims· .3) "tables::spans::span_at") (known2 : Plain.Known 𝓤 H A W 𝓣 6 ps·2 r·2 (claims· .4) (claims· .5) "search::walk::expand") (known3 : Plain.Known 𝓤 H A W 𝓣 2 ps·3 r·3 (claims· .6) (claims· .7) "search::walk::lower") → Statement.Triple 𝓤 (Wp.WpFn 𝓤 H (𝓣 .C) (𝓣 .Λ) (Function.fnOf 7 ps r xs m hs body)) (Function.plainOf 𝓤 H A 7 ps r Pre· Post·)
 
     module _ (Inv·0 : InvT-loop) (μ·0 : MeasureT-loop) where
-      abbrev at0 : Typed.TF T13 O4
+      abbrev at0 : Typed.TF T14 O4
       at0 = Typed.atNext O4
 
-      abbrev at1 : Typed.TF T11 O4
-      at1 = λ Ψ. Typed.pass T11 T13 s9 (at0 Ψ)
+      abbrev at1 : Typed.TF T12 O4
+      at1 = λ Ψ. Typed.pass T12 T14 s10 (at0 Ψ)
 
-      abbrev at2 : Typed.TF T15 O4
+      abbrev at2 : Typed.TF T16 O4
       at2 = Typed.atExit 1 O4
 
-      abbrev at3 : Typed.TF T14 O4
-      at3 = λ Ψ. Typed.pass T14 T15 s11 (at2 Ψ)
+      abbrev at3 : Typed.TF T15 O4
+      at3 = λ Ψ. Typed.pass T15 T16 s12 (at2 Ψ)
 
-      abbrev at4 : Typed.TF T11 O4
-      at4 = λ Ψ. Typed.pass T11 T14 s10 (at3 Ψ)
+      abbrev at4 : Typed.TF T12 O4
+      at4 = λ Ψ. Typed.pass T12 T15 s11 (at3 Ψ)
 
-      abbrev at5 : Typed.TF T11 O4
-      at5 = Scalar.Φcond T11 O4 15 (λ x. x) at1 at4
+      abbrev at5 : Typed.TF T12 O4
+      at5 = Scalar.Φcond T12 O4 16 (λ x. x) at1 at4
 
-      abbrev at6 : Typed.TF T63 O3
-      at6 = λ Ψ. Typed.ask s61 (Typed.pass T65 T66 s62 (Typed.atNext O3 Ψ))
+      abbrev at6 : Typed.TF T71 O3
+      at6 = λ Ψ. Typed.ask s69 (Typed.pass T73 T74 s70 (Typed.atNext O3 Ψ))
 
-      abbrev at7 : Typed.TF T63 O3
+      abbrev at7 : Typed.TF T71 O3
       at7 = λ Ψ. at6 Ψ
 
-      abbrev at8 : Typed.TF T60 O3
-      at8 = λ Ψ. Typed.pass T60 T63 s59 (at7 Ψ)
+      abbrev at8 : Typed.TF T68 O3
+      at8 = λ Ψ. Typed.pass T68 T71 s67 (at7 Ψ)
 
-      abbrev at9 : Typed.TF T60 O3
+      abbrev at9 : Typed.TF T68 O3
       at9 = λ Ψ. at8 Ψ
 
-      abbrev at10 : Typed.TF T60 O3
+      abbrev at10 : Typed.TF T68 O3
       at10 = λ Ψ. at9 Ψ
 
-      abbrev at11 : Typed.TF T58 O3
-      at11 = λ Ψ. Typed.pass T58 T60 s56 (at10 Ψ)
+      abbrev at11 : Typed.TF T66 O3
+      at11 = λ Ψ. Typed.pass T66 T68 s64 (at10 Ψ)
 
-      abbrev at12 : Typed.TF T58 O3
+      abbrev at12 : Typed.TF T66 O3
       at12 = λ Ψ. at11 Ψ
 
-      abbrev at13 : Typed.TF T57 O3
-      at13 = λ Ψ. Typed.pass T57 T58 s54 (at12 Ψ)
+      abbrev at13 : Typed.TF T65 O3
+      at13 = λ Ψ. Typed.pass T65 T66 s62 (at12 Ψ)
 
-      abbrev at14 : Typed.TF T56 O3
-      at14 = λ Ψ. Typed.pass T56 T57 s53 (at13 Ψ)
+      abbrev at14 : Typed.TF T64 O3
+      at14 = λ Ψ. Typed.pass T64 T65 s61 (at13 Ψ)
 
-      abbrev at15 : Typed.TF T55 O3
-      at15 = λ Ψ. Typed.pass T55 T56 s52 (at14 Ψ)
+      abbrev at15 : Typed.TF T63 O3
+      at15 = λ Ψ. Typed.pass T63 T64 s60 (at14 Ψ)
 
-      abbrev at16 : Typed.TF T54 O3
-      at16 = λ Ψ. Typed.both s51 (at15 Ψ)
+      abbrev at16 : Typed.TF T62 O3
+      at16 = λ Ψ. Typed.both s59 (at15 Ψ)
 
-      abbrev at17 : Typed.TF T53 O3
-      at17 = λ Ψ. Typed.ask s50 (at16 Ψ)
+      abbrev at17 : Typed.TF T61 O3
+      at17 = λ Ψ. Typed.ask s58 (at16 Ψ)
 
-      abbrev at18 : Typed.TF T51 O3
-      at18 = λ Ψ. Typed.give s49 (at17 Ψ)
+      abbrev at18 : Typed.TF T59 O3
+      at18 = λ Ψ. Typed.give s57 (at17 Ψ)
 
-      abbrev at19 : Typed.TF T51 O3
+      abbrev at19 : Typed.TF T59 O3
       at19 = λ Ψ. at18 Ψ
 
-      abbrev at20 : Typed.TF T50 O3
-      at20 = λ Ψ. Typed.ask s47 (at19 Ψ)
+      abbrev at20 : Typed.TF T58 O3
+      at20 = λ Ψ. Typed.ask s55 (at19 Ψ)
 
-      abbrev at21 : Typed.TF T47 O3
-      at21 = λ Ψ. Typed.give s46 (at20 Ψ)
+      abbrev at21 : Typed.TF T55 O3
+      at21 = λ Ψ. Typed.give s54 (at20 Ψ)
 
-      abbrev at22 : Typed.TF T47 O3
+      abbrev at22 : Typed.TF T55 O3
       at22 = λ Ψ. at21 Ψ
 
-      abbrev at23 : Typed.TF T47 O3
+      abbrev at23 : Typed.TF T55 O3
       at23 = λ Ψ. at22 Ψ
 
-      abbrev at24 : Typed.TF T46 O3
-      at24 = λ Ψ. Typed.give s43 (at23 Ψ)
+      abbrev at24 : Typed.TF T54 O3
+      at24 = λ Ψ. Typed.give s51 (at23 Ψ)
 
-      abbrev at25 : Typed.TF T43 O3
-      at25 = λ Ψ. Typed.both s42 (at24 Ψ)
+      abbrev at25 : Typed.TF T51 O3
+      at25 = λ Ψ. Typed.both s50 (at24 Ψ)
 
-      abbrev at26 : Typed.TF T43 O3
+      abbrev at26 : Typed.TF T51 O3
       at26 = λ Ψ. at25 Ψ
 
-      abbrev at27 : Typed.TF T43 O3
+      abbrev at27 : Typed.TF T51 O3
       at27 = λ Ψ. at26 Ψ
 
-      abbrev at28 : Typed.TF T42 O3
-      at28 = λ Ψ. Typed.give s39 (at27 Ψ)
+      abbrev at28 : Typed.TF T50 O3
+      at28 = λ Ψ. Typed.give s47 (at27 Ψ)
 
-      abbrev at29 : Typed.TF T39 O3
-      at29 = λ Ψ. Typed.both s38 (at28 Ψ)
+      abbrev at29 : Typed.TF T47 O3
+      at29 = λ Ψ. Typed.both s46 (at28 Ψ)
 
-      abbrev at30 : Typed.TF T39 O3
+      abbrev at30 : Typed.TF T47 O3
       at30 = λ Ψ. at29 Ψ
 
-      abbrev at31 : Typed.TF T39 O3
+      abbrev at31 : Typed.TF T47 O3
       at31 = λ Ψ. at30 Ψ
 
-      abbrev at32 : Typed.TF T38 O3
-      at32 = λ Ψ. Typed.give s35 (at31 Ψ)
+      abbrev at32 : Typed.TF T46 O3
+      at32 = λ Ψ. Typed.give s43 (at31 Ψ)
 
-      abbrev at33 : Typed.TF T36 O3
-      at33 = λ Ψ. Typed.both s34 (at32 Ψ)
+      abbrev at33 : Typed.TF T43 O3
+      at33 = λ Ψ. Typed.both s42 (at32 Ψ)
 
-      abbrev at34 : Typed.TF T36 O3
+      abbrev at34 : Typed.TF T43 O3
       at34 = λ Ψ. at33 Ψ
 
-      abbrev at35 : Typed.TF T35 O3
-      at35 = λ Ψ. Typed.pass T35 T36 s32 (at34 Ψ)
+      abbrev at35 : Typed.TF T43 O3
+      at35 = λ Ψ. at34 Ψ
 
-      abbrev at36 : Typed.TF T34 O3
-      at36 = λ Ψ. Typed.both s31 (at35 Ψ)
+      abbrev at36 : Typed.TF T42 O3
+      at36 = λ Ψ. Typed.give s39 (at35 Ψ)
 
-      abbrev at37 : Typed.TF T33 O3
-      at37 = λ Ψ. Typed.ask s30 (at36 Ψ)
+      abbrev at37 : Typed.TF T40 O3
+      at37 = λ Ψ. Typed.both s38 (at36 Ψ)
 
-      abbrev at38 : Typed.TF T32 O3
-      at38 = λ Ψ. Typed.ask s29 (at37 Ψ)
+      abbrev at38 : Typed.TF T40 O3
+      at38 = λ Ψ. at37 Ψ
 
-      abbrev at39 : Typed.TF T30 O3
-      at39 = λ Ψ. Typed.give s28 (at38 Ψ)
+      abbrev at39 : Typed.TF T39 O3
+      at39 = λ Ψ. Typed.pass T39 T40 s36 (at38 Ψ)
 
-      abbrev at40 : Typed.TF T30 O3
-      at40 = λ Ψ. at39 Ψ
+      abbrev at40 : Typed.TF T38 O3
+      at40 = λ Ψ. Typed.both s35 (at39 Ψ)
 
-      abbrev at41 : Typed.TF T29 O3
-      at41 = λ Ψ. Typed.ask s26 (at40 Ψ)
+      abbrev at41 : Typed.TF T37 O3
+      at41 = λ Ψ. Typed.ask s34 (at40 Ψ)
 
-      abbrev at42 : Typed.TF T27 O3
-      at42 = λ Ψ. Typed.give s25 (at41 Ψ)
+      abbrev at42 : Typed.TF T36 O3
+      at42 = λ Ψ. Typed.ask s33 (at41 Ψ)
 
-      abbrev at43 : Typed.TF T27 O3
-      at43 = λ Ψ. at42 Ψ
+      abbrev at43 : Typed.TF T34 O3
+      at43 = λ Ψ. Typed.give s32 (at42 Ψ)
 
-      abbrev at44 : Typed.TF T26 O3
-      at44 = λ Ψ. Typed.ask s23 (at43 Ψ)
+      abbrev at44 : Typed.TF T34 O3
+      at44 = λ Ψ. at43 Ψ
 
-      abbrev at45 : Typed.TF T24 O3
-      at45 = λ Ψ. Typed.give s22 (at44 Ψ)
+      abbrev at45 : Typed.TF T33 O3
+      at45 = λ Ψ. Typed.ask s30 (at44 Ψ)
 
-      abbrev at46 : Typed.TF T24 O3
-      at46 = λ Ψ. at45 Ψ
+      abbrev at46 : Typed.TF T31 O3
+      at46 = λ Ψ. Typed.give s29 (at45 Ψ)
 
-      abbrev at47 : Typed.TF T22 O3
-      at47 = λ Ψ. Typed.both s20 (at46 Ψ)
+      abbrev at47 : Typed.TF T31 O3
+      at47 = λ Ψ. at46 Ψ
 
-      abbrev at48 : Typed.TF T22 O3
-      at48 = λ Ψ. at47 Ψ
+      abbrev at48 : Typed.TF T30 O3
+      at48 = λ Ψ. Typed.ask s27 (at47 Ψ)
 
-      abbrev at49 : Typed.TF T20 O3
-      at49 = λ Ψ. Typed.pass T20 T22 s18 (at48 Ψ)
+      abbrev at49 : Typed.TF T28 O3
+      at49 = λ Ψ. Typed.give s26 (at48 Ψ)
 
-      abbrev at50 : Typed.TF T20 O3
+      abbrev at50 : Typed.TF T28 O3
       at50 = λ Ψ. at49 Ψ
 
-      abbrev at51 : Typed.TF T19 O3
-      at51 = λ Ψ. Typed.pass T19 T20 s16 (at50 Ψ)
+      abbrev at51 : Typed.TF T27 O3
+      at51 = λ Ψ. Typed.ask s24 (at50 Ψ)
 
-      abbrev at52 : Typed.TF T18 O3
-      at52 = λ Ψ. Typed.both s15 (at51 Ψ)
+      abbrev at52 : Typed.TF T25 O3
+      at52 = λ Ψ. Typed.give s23 (at51 Ψ)
 
-      abbrev at53 : Typed.TF T17 O3
-      at53 = λ Ψ. Typed.ask s14 (at52 Ψ)
+      abbrev at53 : Typed.TF T25 O3
+      at53 = λ Ψ. at52 Ψ
 
-      abbrev at54 : Typed.TF T12 O3
-      at54 = λ Ψ. Typed.give s13 (at53 Ψ)
+      abbrev at54 : Typed.TF T23 O3
+      at54 = λ Ψ. Typed.both s21 (at53 Ψ)
 
-      abbrev at55 : Typed.TF T12 O3
+      abbrev at55 : Typed.TF T23 O3
       at55 = λ Ψ. at54 Ψ
 
-      abbrev at56 : Typed.TF T11 O3
-      at56 = λ Ψ. at5 (Typed.wantNext T12 O3 (at55 Ψ) Ψ)
+      abbrev at56 : Typed.TF T21 O3
+      at56 = λ Ψ. Typed.pass T21 T23 s19 (at55 Ψ)
 
-      abbrev at57 : Typed.TF T9 O3
-      at57 = λ Ψ. Typed.ask s8 (at56 Ψ)
+      abbrev at57 : Typed.TF T21 O3
+      at57 = λ Ψ. at56 Ψ
 
-      abbrev at58 : Typed.TF T9 O2
-      at58 = Typed.LoopBy T9 O2 put0 (λ u vs. Inv·0 (Row.get 1 (T9 .locals) u) (Row.get 2 (T9 .locals) u .now) (Row.get 3 (T9 .locals) u .now) (Row.get 4 (T9 .locals) u .now) (Row.get 5 (T9 .locals) u .now) (Row.get 6 (T9 .locals) u .now) (Row.get 7 (T9 .locals) u .now) (Row.get 8 (T9 .locals) u) (Row.get 9 (T9 .locals) u) (Row.get 10 (T9 .locals) u) (Row.get 11 (T9 .locals) u) (Row.get 12 (T9 .locals) u) (vs .0) (vs .1) (vs .2) (vs .3) (vs .4) (vs .5)) (λ u vs. μ·0 (Row.get 1 (T9 .locals) u) (Row.get 2 (T9 .locals) u .now) (Row.get 3 (T9 .locals) u .now) (Row.get 4 (T9 .locals) u .now) (Row.get 5 (T9 .locals) u .now) (Row.get 6 (T9 .locals) u .now) (Row.get 7 (T9 .locals) u .now) (Row.get 8 (T9 .locals) u) (Row.get 9 (T9 .locals) u) (Row.get 10 (T9 .locals) u) (Row.get 11 (T9 .locals) u) (Row.get 12 (T9 .locals) u) (vs .0) (vs .1) (vs .2) (vs .3) (vs .4) (vs .5)) at57
+      abbrev at58 : Typed.TF T20 O3
+      at58 = λ Ψ. Typed.pass T20 T21 s17 (at57 Ψ)
 
-      abbrev at59 : Typed.TF T9 O1
-      at59 = λ Ψ. at58 (Typed.inBlock O1 Ψ)
+      abbrev at59 : Typed.TF T19 O3
+      at59 = λ Ψ. Typed.both s16 (at58 Ψ)
 
-      abbrev at60 : Typed.TF T73 O0
-      at60 = Typed.atRet O0
+      abbrev at60 : Typed.TF T18 O3
+      at60 = λ Ψ. Typed.ask s15 (at59 Ψ)
 
-      abbrev at61 : Typed.TF T72 O0
-      at61 = λ Ψ. Typed.pass T72 T73 s69 (at60 Ψ)
+      abbrev at61 : Typed.TF T13 O3
+      at61 = λ Ψ. Typed.give s14 (at60 Ψ)
 
-      abbrev at62 : Typed.TF T71 O0
-      at62 = λ Ψ. Typed.pass T71 T72 s68 (at61 Ψ)
+      abbrev at62 : Typed.TF T13 O3
+      at62 = λ Ψ. at61 Ψ
 
-      abbrev at63 : Typed.TF T70 O0
-      at63 = λ Ψ. Typed.pass T70 T71 s67 (at62 Ψ)
+      abbrev at63 : Typed.TF T12 O3
+      at63 = λ Ψ. at5 (Typed.wantNext T13 O3 (at62 Ψ) Ψ)
 
-      abbrev at64 : Typed.TF T69 O0
-      at64 = λ Ψ. Typed.pass T69 T70 s66 (at63 Ψ)
+      abbrev at64 : Typed.TF T10 O3
+      at64 = λ Ψ. Typed.ask s9 (at63 Ψ)
 
-      abbrev at65 : Typed.TF T68 O0
-      at65 = λ Ψ. Typed.pass T68 T69 s65 (at64 Ψ)
+      abbrev at65 : Typed.TF T10 O2
+      at65 = Typed.LoopBy T10 O2 put0 (λ u vs. Inv·0 (Row.get 1 (T10 .locals) u) (Row.get 2 (T10 .locals) u .now) (Row.get 3 (T10 .locals) u .now) (Row.get 4 (T10 .locals) u .now) (Row.get 5 (T10 .locals) u .now) (Row.get 6 (T10 .locals) u .now) (Row.get 7 (T10 .locals) u .now) (Row.get 8 (T10 .locals) u .now) (Row.get 9 (T10 .locals) u) (Row.get 10 (T10 .locals) u) (Row.get 11 (T10 .locals) u) (Row.get 12 (T10 .locals) u) (Row.get 13 (T10 .locals) u) (vs .0) (vs .1) (vs .2) (vs .3) (vs .4) (vs .5) (vs .6)) (λ u vs. μ·0 (Row.get 1 (T10 .locals) u) (Row.get 2 (T10 .locals) u .now) (Row.get 3 (T10 .locals) u .now) (Row.get 4 (T10 .locals) u .now) (Row.get 5 (T10 .locals) u .now) (Row.get 6 (T10 .locals) u .now) (Row.get 7 (T10 .locals) u .now) (Row.get 8 (T10 .locals) u .now) (Row.get 9 (T10 .locals) u) (Row.get 10 (T10 .locals) u) (Row.get 11 (T10 .locals) u) (Row.get 12 (T10 .locals) u) (Row.get 13 (T10 .locals) u) (vs .0) (vs .1) (vs .2) (vs .3) (vs .4) (vs .5) (vs .6)) at64
 
-      abbrev at66 : Typed.TF T67 O0
-      at66 = λ Ψ. Typed.pass T67 T68 s64 (at65 Ψ)
+      abbrev at66 : Typed.TF T10 O1
+      at66 = λ Ψ. at65 (Typed.inBlock O1 Ψ)
 
-      abbrev at67 : Typed.TF T10 O0
-      at67 = λ Ψ. Typed.pass T10 T67 s63 (at66 Ψ)
+      abbrev at67 : Typed.TF T81 O0
+      at67 = Typed.atRet O0
 
-      abbrev at68 : Typed.TF T9 O0
-      at68 = λ Ψ. at59 (Typed.wantNext T10 O0 (at67 Ψ) Ψ)
+      abbrev at68 : Typed.TF T80 O0
+      at68 = λ Ψ. Typed.pass T80 T81 s77 (at67 Ψ)
 
-      abbrev at69 : Typed.TF T8 O0
-      at69 = λ Ψ. Typed.pass T8 T9 s7 (at68 Ψ)
+      abbrev at69 : Typed.TF T79 O0
+      at69 = λ Ψ. Typed.pass T79 T80 s76 (at68 Ψ)
 
-      abbrev at70 : Typed.TF T7 O0
-      at70 = λ Ψ. Typed.pass T7 T8 s6 (at69 Ψ)
+      abbrev at70 : Typed.TF T78 O0
+      at70 = λ Ψ. Typed.pass T78 T79 s75 (at69 Ψ)
 
-      abbrev at71 : Typed.TF T6 O0
-      at71 = λ Ψ. Typed.pass T6 T7 s5 (at70 Ψ)
+      abbrev at71 : Typed.TF T77 O0
+      at71 = λ Ψ. Typed.pass T77 T78 s74 (at70 Ψ)
 
-      abbrev at72 : Typed.TF T5 O0
-      at72 = λ Ψ. Typed.give s4 (at71 Ψ)
+      abbrev at72 : Typed.TF T76 O0
+      at72 = λ Ψ. Typed.pass T76 T77 s73 (at71 Ψ)
 
-      abbrev at73 : Typed.TF T4 O0
-      at73 = λ Ψ. Typed.give s3 (at72 Ψ)
+      abbrev at73 : Typed.TF T75 O0
+      at73 = λ Ψ. Typed.pass T75 T76 s72 (at72 Ψ)
 
-      abbrev at74 : Typed.TF T3 O0
-      at74 = λ Ψ. Typed.give s2 (at73 Ψ)
+      abbrev at74 : Typed.TF T11 O0
+      at74 = λ Ψ. Typed.pass T11 T75 s71 (at73 Ψ)
 
-      abbrev at75 : Typed.TF T2 O0
-      at75 = λ Ψ. Typed.give s1 (at74 Ψ)
+      abbrev at75 : Typed.TF T10 O0
+      at75 = λ Ψ. at66 (Typed.wantNext T11 O0 (at74 Ψ) Ψ)
 
-      abbrev at76 : Typed.TF T0 O0
-      at76 = λ Ψ. Typed.give s0 (at75 Ψ)
+      abbrev at76 : Typed.TF T9 O0
+      at76 = λ Ψ. Typed.pass T9 T10 s8 (at75 Ψ)
+
+      abbrev at77 : Typed.TF T8 O0
+      at77 = λ Ψ. Typed.pass T8 T9 s7 (at76 Ψ)
+
+      abbrev at78 : Typed.TF T7 O0
+      at78 = λ Ψ. Typed.pass T7 T8 s6 (at77 Ψ)
+
+      abbrev at79 : Typed.TF T6 O0
+      at79 = λ Ψ. Typed.give s5 (at78 Ψ)
+
+      abbrev at80 : Typed.TF T5 O0
+      at80 = λ Ψ. Typed.give s4 (at79 Ψ)
+
+      abbrev at81 : Typed.TF T4 O0
+      at81 = λ Ψ. Typed.give s3 (at80 Ψ)
+
+      abbrev at82 : Typed.TF T3 O0
+      at82 = λ Ψ. Typed.give s2 (at81 Ψ)
+
+      abbrev at83 : Typed.TF T2 O0
+      at83 = λ Ψ. Typed.give s1 (at82 Ψ)
+
+      abbrev at84 : Typed.TF T0 O0
+      at84 = λ Ψ. Typed.give s0 (at83 Ψ)
 
       abbrev pub Φ : Typed.TF T0 O0
-      Φ = at76
+      Φ = at84
 
       module _ {M : Type 1} (𝓤 : URA.URA M) (H : Wp.Heap 𝓤) (A : Atoms.Atoms 𝓤) (W : Kit.Given 𝓤 H A) (𝓣 : Wp.Tables 𝓤 H) where
         abbrev Knowns : Type 1
-        Knowns = Plain.Known 𝓤 H A W 𝓣 1 ps·0 r·0 (claims· .0) (claims· .1) "tables::entries::at" × Plain.Known 𝓤 H A W 𝓣 1 ps·1 r·1 (claims· .2) (claims· .3) "tables::spans::span_at" × Plain.Known 𝓤 H A W 𝓣 5 ps·2 r·2 (claims· .4) (claims· .5) "search::walk::expand" × Plain.Known 𝓤 H A W 𝓣 2 ps·3 r·3 (claims· .6) (claims· .7) "search::walk::lower"
+        Knowns = Plain.Known 𝓤 H A W 𝓣 1 ps·0 r·0 (claims· .0) (claims· .1) "tables::entries::at" × Plain.Known 𝓤 H A W 𝓣 1 ps·1 r·1 (claims· .2) (claims· .3) "tables::spans::span_at" × Plain.Known 𝓤 H A W 𝓣 6 ps·2 r·2 (claims· .4) (claims· .5) "search::walk::expand" × Plain.Known 𝓤 H A W 𝓣 2 ps·3 r·3 (claims· .6) (claims· .7) "search::walk::lower"
 
-      module _ (κs : Lifetimes.Lfts 6) (qs : Lifetimes.Shares 6) where
-        abbrev g9 : List.List Row.Entry
-        g9 = Row.setRow 7 (7, Reshare.mslice-owedS (Referent.rtF (Referent.fInt Syntax.w16)) ty·6 5 6 (Row.lease (κs .1 .1 .1 .1 .1 .0) (qs .1 .1 .1 .1 .1 .0))) t5
+      module _ (κs : Lifetimes.Lfts 7) (qs : Lifetimes.Shares 7) where
+        abbrev g8 : List.List Row.Entry
+        g8 = Row.setRow 7 (7, Reshare.mslice-owedS (Referent.rtF (Referent.fInt Syntax.w16)) ty·6 5 7 (Row.lease (κs .1 .1 .1 .1 .1 .0) (qs .1 .1 .1 .1 .1 .0))) t5
 
-        abbrev g12 : List.List Row.Entry
-        g12 = Row.setRow 13 (13, Rows.sc-here (Row.sInt Syntax.w64)) g9
+        abbrev g11 : List.List Row.Entry
+        g11 = Row.setRow 14 (14, Rows.sc-here (Row.sInt Syntax.w64)) g8
 
-        abbrev g15 : List.List Row.Entry
-        g15 = Row.setRow 5 (5, Relend.mslice-owed (Referent.rtF (Referent.fInt Syntax.w16)) ty·4 3 7 (Row.lease (κs .1 .1 .1 .0) (qs .1 .1 .1 .0))) t14
+        abbrev g14 : List.List Row.Entry
+        g14 = Row.setRow 5 (5, Relend.mslice-owed (Referent.rtF (Referent.fInt Syntax.w16)) ty·4 3 8 (Row.lease (κs .1 .1 .1 .0) (qs .1 .1 .1 .0))) t13
 
-        abbrev g18 : List.List Row.Entry
-        g18 = Row.setRow 6 (6, Relend.mslice-owed (Referent.rtF (Referent.fInt Syntax.w16)) ty·5 4 8 (Row.lease (κs .1 .1 .1 .1 .0) (qs .1 .1 .1 .1 .0))) g15
+        abbrev g17 : List.List Row.Entry
+        g17 = Row.setRow 6 (6, Relend.mslice-owed (Referent.rtF (Referent.fInt Syntax.w16)) ty·5 4 9 (Row.lease (κs .1 .1 .1 .1 .0) (qs .1 .1 .1 .1 .0))) g14
 
-        abbrev g21 : List.List Row.Entry
-        g21 = Row.setRow 7 (7, Relend.mslice-owed (Referent.rtF (Referent.fInt Syntax.w16)) ty·6 5 9 (Row.lease (κs .1 .1 .1 .1 .1 .0) (qs .1 .1 .1 .1 .1 .0))) g18
+        abbrev g20 : List.List Row.Entry
+        g20 = Row.setRow 7 (7, Relend.mslice-owed (Referent.rtF (Referent.fInt Syntax.w16)) ty·6 5 10 (Row.lease (κs .1 .1 .1 .1 .1 .0) (qs .1 .1 .1 .1 .1 .0))) g17
 
-        abbrev g27 : List.List Row.Entry
-        g27 = Row.setRow 5 (5, Mut.mslice (Referent.rtF (Referent.fInt Syntax.w16)) ty·4 3) g21
+        abbrev g23 : List.List Row.Entry
+        g23 = Row.setRow 8 (8, Relend.mslice-owed (Referent.rtF (Referent.fInt Syntax.w16)) ty·7 6 11 (Row.lease (κs .1 .1 .1 .1 .1 .1 .0) (qs .1 .1 .1 .1 .1 .1 .0))) g20
 
         abbrev g29 : List.List Row.Entry
-        g29 = Row.setRow 6 (6, Mut.mslice (Referent.rtF (Referent.fInt Syntax.w16)) ty·5 4) g27
+        g29 = Row.setRow 5 (5, Mut.mslice (Referent.rtF (Referent.fInt Syntax.w16)) ty·4 3) g23
 
         abbrev g31 : List.List Row.Entry
-        g31 = Row.setRow 5 (5, Reshare.mslice-owedS (Referent.rtF (Referent.fInt Syntax.w16)) ty·4 3 10 (Row.lease (κs .1 .1 .1 .0) (qs .1 .1 .1 .0))) t14
+        g31 = Row.setRow 6 (6, Mut.mslice (Referent.rtF (Referent.fInt Syntax.w16)) ty·5 4) g29
 
-        abbrev g34 : List.List Row.Entry
-        g34 = Row.setRow 6 (6, Reshare.mslice-owedS (Referent.rtF (Referent.fInt Syntax.w16)) ty·5 4 11 (Row.lease (κs .1 .1 .1 .1 .0) (qs .1 .1 .1 .1 .0))) g31
+        abbrev g33 : List.List Row.Entry
+        g33 = Row.setRow 7 (7, Mut.mslice (Referent.rtF (Referent.fInt Syntax.w16)) ty·6 5) g31
+
+        abbrev g35 : List.List Row.Entry
+        g35 = Row.setRow 5 (5, Reshare.mslice-owedS (Referent.rtF (Referent.fInt Syntax.w16)) ty·4 3 12 (Row.lease (κs .1 .1 .1 .0) (qs .1 .1 .1 .0))) t13
 
         abbrev g38 : List.List Row.Entry
-        g38 = Row.setRow 6 (6, Reshare.mslice-owedS (Referent.rtF (Referent.fInt Syntax.w16)) ty·5 4 11 (Row.lease (κs .1 .1 .1 .1 .0) (qs .1 .1 .1 .1 .0))) (Row.setRow 5 (5, Reshare.mslice-owedS (Referent.rtF (Referent.fInt Syntax.w16)) ty·4 3 10 (Row.lease (κs .1 .1 .1 .0) (qs .1 .1 .1 .0))) t13)
+        g38 = Row.setRow 6 (6, Reshare.mslice-owedS (Referent.rtF (Referent.fInt Syntax.w16)) ty·5 4 13 (Row.lease (κs .1 .1 .1 .1 .0) (qs .1 .1 .1 .1 .0))) g35
 
-        abbrev g39 : List.List Row.Entry
-        g39 = Row.setRow 5 (5, Mut.mslice (Referent.rtF (Referent.fInt Syntax.w16)) ty·4 3) g38
+        abbrev g42 : List.List Row.Entry
+        g42 = Row.setRow 6 (6, Reshare.mslice-owedS (Referent.rtF (Referent.fInt Syntax.w16)) ty·5 4 13 (Row.lease (κs .1 .1 .1 .1 .0) (qs .1 .1 .1 .1 .0))) (Row.setRow 5 (5, Reshare.mslice-owedS (Referent.rtF (Referent.fInt Syntax.w16)) ty·4 3 12 (Row.lease (κs .1 .1 .1 .0) (qs .1 .1 .1 .0))) t12)
+
+        abbrev g43 : List.List Row.Entry
+        g43 = Row.setRow 5 (5, Mut.mslice (Referent.rtF (Referent.fInt Syntax.w16)) ty·4 3) g42
 
         abbrev G0 : Row.Cx
-        G0 = record { locals = List._++_ t0 t1; slots = List._∷_ (Row.lease (κs .0) (qs .0)) (List._∷_ (Row.lease (κs .1 .0) (qs .1 .0)) (List._∷_ (Row.lease (κs .1 .1 .0) (qs .1 .1 .0)) (List._∷_ (Row.lease (κs .1 .1 .1 .0) (qs .1 .1 .1 .0)) (List._∷_ (Row.lease (κs .1 .1 .1 .1 .0) (qs .1 .1 .1 .1 .0)) (List._∷_ (Row.lease (κs .1 .1 .1 .1 .1 .0) (qs .1 .1 .1 .1 .1 .0)) (List._∷_ Row.off (List._∷_ Row.off (List._∷_ Row.off (List._∷_ Row.off (List._∷_ Row.off (List._∷_ Row.off List.[]))))))))))) }
+        G0 = record { locals = List._++_ t0 t1; slots = List._∷_ (Row.lease (κs .0) (qs .0)) (List._∷_ (Row.lease (κs .1 .0) (qs .1 .0)) (List._∷_ (Row.lease (κs .1 .1 .0) (qs .1 .1 .0)) (List._∷_ (Row.lease (κs .1 .1 .1 .0) (qs .1 .1 .1 .0)) (List._∷_ (Row.lease (κs .1 .1 .1 .1 .0) (qs .1 .1 .1 .1 .0)) (List._∷_ (Row.lease (κs .1 .1 .1 .1 .1 .0) (qs .1 .1 .1 .1 .1 .0)) (List._∷_ (Row.lease (κs .1 .1 .1 .1 .1 .1 .0) (qs .1 .1 .1 .1 .1 .1 .0)) (List._∷_ Row.off (List._∷_ Row.off (List._∷_ Row.off (List._∷_ Row.off (List._∷_ Row.off (List._∷_ Row.off (List._∷_ Row.off List.[]))))))))))))) }
 
         abbrev G1 : Row.Cx
-        G1 = record { locals = List._++_ t2 t1; slots = List._∷_ (Row.lease (κs .0) (qs .0)) (List._∷_ (Row.lease (κs .1 .0) (qs .1 .0)) (List._∷_ (Row.lease (κs .1 .1 .0) (qs .1 .1 .0)) (List._∷_ (Row.lease (κs .1 .1 .1 .0) (qs .1 .1 .1 .0)) (List._∷_ (Row.lease (κs .1 .1 .1 .1 .0) (qs .1 .1 .1 .1 .0)) (List._∷_ (Row.lease (κs .1 .1 .1 .1 .1 .0) (qs .1 .1 .1 .1 .1 .0)) (List._∷_ Row.off (List._∷_ Row.off (List._∷_ Row.off (List._∷_ Row.off (List._∷_ Row.off (List._∷_ Row.off List.[]))))))))))) }
+        G1 = record { locals = List._++_ t2 t1; slots = List._∷_ (Row.lease (κs .0) (qs .0)) (List._∷_ (Row.lease (κs .1 .0) (qs .1 .0)) (List._∷_ (Row.lease (κs .1 .1 .0) (qs .1 .1 .0)) (List._∷_ (Row.lease (κs .1 .1 .1 .0) (qs .1 .1 .1 .0)) (List._∷_ (Row.lease (κs .1 .1 .1 .1 .0) (qs .1 .1 .1 .1 .0)) (List._∷_ (Row.lease (κs .1 .1 .1 .1 .1 .0) (qs .1 .1 .1 .1 .1 .0)) (List._∷_ (Row.lease (κs .1 .1 .1 .1 .1 .1 .0) (qs .1 .1 .1 .1 .1 .1 .0)) (List._∷_ Row.off (List._∷_ Row.off (List._∷_ Row.off (List._∷_ Row.off (List._∷_ Row.off (List._∷_ Row.off (List._∷_ Row.off List.[]))))))))))))) }
 
         abbrev G2 : Row.Cx
-        G2 = record { locals = List._++_ t0 t1; slots = List._∷_ (Row.lease (κs .0) (qs .0)) (List._∷_ (Row.lease (κs .1 .0) (qs .1 .0)) (List._∷_ (Row.lease (κs .1 .1 .0) (qs .1 .1 .0)) (List._∷_ (Row.lease (κs .1 .1 .1 .0) (qs .1 .1 .1 .0)) (List._∷_ (Row.lease (κs .1 .1 .1 .1 .0) (qs .1 .1 .1 .1 .0)) (List._∷_ (Row.lease (κs .1 .1 .1 .1 .1 .0) (qs .1 .1 .1 .1 .1 .0)) (List._∷_ Row.off (List._∷_ Row.off (List._∷_ Row.off (List._∷_ Row.off (List._∷_ Row.off (List._∷_ Row.off List.[]))))))))))) }
+        G2 = record { locals = List._++_ t0 t1; slots = List._∷_ (Row.lease (κs .0) (qs .0)) (List._∷_ (Row.lease (κs .1 .0) (qs .1 .0)) (List._∷_ (Row.lease (κs .1 .1 .0) (qs .1 .1 .0)) (List._∷_ (Row.lease (κs .1 .1 .1 .0) (qs .1 .1 .1 .0)) (List._∷_ (Row.lease (κs .1 .1 .1 .1 .0) (qs .1 .1 .1 .1 .0)) (List._∷_ (Row.lease (κs .1 .1 .1 .1 .1 .0) (qs .1 .1 .1 .1 .1 .0)) (List._∷_ (Row.lease (κs .1 .1 .1 .1 .1 .1 .0) (qs .1 .1 .1 .1 .1 .1 .0)) (List._∷_ Row.off (List._∷_ Row.off (List._∷_ Row.off (List._∷_ Row.off (List._∷_ Row.off (List._∷_ Row.off (List._∷_ Row.off List.[]))))))))))))) }
 
         abbrev G3 : Row.Cx
-        G3 = record { locals = List._++_ t0 t1; slots = List._∷_ (Row.lease (κs .0) (qs .0)) (List._∷_ (Row.lease (κs .1 .0) (qs .1 .0)) (List._∷_ (Row.lease (κs .1 .1 .0) (qs .1 .1 .0)) (List._∷_ (Row.lease (κs .1 .1 .1 .0) (qs .1 .1 .1 .0)) (List._∷_ (Row.lease (κs .1 .1 .1 .1 .0) (qs .1 .1 .1 .1 .0)) (List._∷_ (Row.lease (κs .1 .1 .1 .1 .1 .0) (qs .1 .1 .1 .1 .1 .0)) (List._∷_ Row.off (List._∷_ Row.off (List._∷_ Row.off (List._∷_ Row.off (List._∷_ Row.off (List._∷_ Row.off List.[]))))))))))) }
+        G3 = record { locals = List._++_ t0 t1; slots = List._∷_ (Row.lease (κs .0) (qs .0)) (List._∷_ (Row.lease (κs .1 .0) (qs .1 .0)) (List._∷_ (Row.lease (κs .1 .1 .0) (qs .1 .1 .0)) (List._∷_ (Row.lease (κs .1 .1 .1 .0) (qs .1 .1 .1 .0)) (List._∷_ (Row.lease (κs .1 .1 .1 .1 .0) (qs .1 .1 .1 .1 .0)) (List._∷_ (Row.lease (κs .1 .1 .1 .1 .1 .0) (qs .1 .1 .1 .1 .1 .0)) (List._∷_ (Row.lease (κs .1 .1 .1 .1 .1 .1 .0) (qs .1 .1 .1 .1 .1 .1 .0)) (List._∷_ Row.off (List._∷_ Row.off (List._∷_ Row.off (List._∷_ Row.off (List._∷_ Row.off (List._∷_ Row.off (List._∷_ Row.off List.[]))))))))))))) }
 
         abbrev G4 : Row.Cx
-        G4 = record { locals = List._++_ t0 t1; slots = List._∷_ (Row.lease (κs .0) (qs .0)) (List._∷_ (Row.lease (κs .1 .0) (qs .1 .0)) (List._∷_ (Row.lease (κs .1 .1 .0) (qs .1 .1 .0)) (List._∷_ (Row.lease (κs .1 .1 .1 .0) (qs .1 .1 .1 .0)) (List._∷_ (Row.lease (κs .1 .1 .1 .1 .0) (qs .1 .1 .1 .1 .0)) (List._∷_ (Row.lease (κs .1 .1 .1 .1 .1 .0) (qs .1 .1 .1 .1 .1 .0)) (List._∷_ Row.off (List._∷_ Row.off (List._∷_ Row.off (List._∷_ Row.off (List._∷_ Row.off (List._∷_ Row.off List.[]))))))))))) }
+        G4 = record { locals = List._++_ t0 t1; slots = List._∷_ (Row.lease (κs .0) (qs .0)) (List._∷_ (Row.lease (κs .1 .0) (qs .1 .0)) (List._∷_ (Row.lease (κs .1 .1 .0) (qs .1 .1 .0)) (List._∷_ (Row.lease (κs .1 .1 .1 .0) (qs .1 .1 .1 .0)) (List._∷_ (Row.lease (κs .1 .1 .1 .1 .0) (qs .1 .1 .1 .1 .0)) (List._∷_ (Row.lease (κs .1 .1 .1 .1 .1 .0) (qs .1 .1 .1 .1 .1 .0)) (List._∷_ (Row.lease (κs .1 .1 .1 .1 .1 .1 .0) (qs .1 .1 .1 .1 .1 .1 .0)) (List._∷_ Row.off (List._∷_ Row.off (List._∷_ Row.off (List._∷_ Row.off (List._∷_ Row.off (List._∷_ Row.off (List._∷_ Row.off List.[]))))))))))))) }
 
         abbrev G5 : Row.Cx
-        G5 = record { locals = List._++_ t0 t1; slots = List._∷_ (Row.lease (κs .0) (qs .0)) (List._∷_ (Row.lease (κs .1 .0) (qs .1 .0)) (List._∷_ (Row.lease (κs .1 .1 .0) (qs .1 .1 .0)) (List._∷_ (Row.lease (κs .1 .1 .1 .0) (qs .1 .1 .1 .0)) (List._∷_ (Row.lease (κs .1 .1 .1 .1 .0) (qs .1 .1 .1 .1 .0)) (List._∷_ (Row.lease (κs .1 .1 .1 .1 .1 .0) (qs .1 .1 .1 .1 .1 .0)) (List._∷_ Row.off (List._∷_ Row.off (List._∷_ Row.off (List._∷_ Row.off (List._∷_ Row.off (List._∷_ Row.off List.[]))))))))))) }
+        G5 = record { locals = List._++_ t0 t1; slots = List._∷_ (Row.lease (κs .0) (qs .0)) (List._∷_ (Row.lease (κs .1 .0) (qs .1 .0)) (List._∷_ (Row.lease (κs .1 .1 .0) (qs .1 .1 .0)) (List._∷_ (Row.lease (κs .1 .1 .1 .0) (qs .1 .1 .1 .0)) (List._∷_ (Row.lease (κs .1 .1 .1 .1 .0) (qs .1 .1 .1 .1 .0)) (List._∷_ (Row.lease (κs .1 .1 .1 .1 .1 .0) (qs .1 .1 .1 .1 .1 .0)) (List._∷_ (Row.lease (κs .1 .1 .1 .1 .1 .1 .0) (qs .1 .1 .1 .1 .1 .1 .0)) (List._∷_ Row.off (List._∷_ Row.off (List._∷_ Row.off (List._∷_ Row.off (List._∷_ Row.off (List._∷_ Row.off (List._∷_ Row.off List.[]))))))))))))) }
 
         abbrev G6 : Row.Cx
-        G6 = record { locals = List._++_ t0 t1; slots = List._∷_ (Row.lease (κs .0) (qs .0)) (List._∷_ (Row.lease (κs .1 .0) (qs .1 .0)) (List._∷_ (Row.lease (κs .1 .1 .0) (qs .1 .1 .0)) (List._∷_ (Row.lease (κs .1 .1 .1 .0) (qs .1 .1 .1 .0)) (List._∷_ (Row.lease (κs .1 .1 .1 .1 .0) (qs .1 .1 .1 .1 .0)) (List._∷_ (Row.lease (κs .1 .1 .1 .1 .1 .0) (qs .1 .1 .1 .1 .1 .0)) (List._∷_ Row.off (List._∷_ Row.off (List._∷_ Row.off (List._∷_ Row.off (List._∷_ Row.off (List._∷_ Row.off List.[]))))))))))) }
+        G6 = record { locals = List._++_ t0 t1; slots = List._∷_ (Row.lease (κs .0) (qs .0)) (List._∷_ (Row.lease (κs .1 .0) (qs .1 .0)) (List._∷_ (Row.lease (κs .1 .1 .0) (qs .1 .1 .0)) (List._∷_ (Row.lease (κs .1 .1 .1 .0) (qs .1 .1 .1 .0)) (List._∷_ (Row.lease (κs .1 .1 .1 .1 .0) (qs .1 .1 .1 .1 .0)) (List._∷_ (Row.lease (κs .1 .1 .1 .1 .1 .0) (qs .1 .1 .1 .1 .1 .0)) (List._∷_ (Row.lease (κs .1 .1 .1 .1 .1 .1 .0) (qs .1 .1 .1 .1 .1 .1 .0)) (List._∷_ Row.off (List._∷_ Row.off (List._∷_ Row.off (List._∷_ Row.off (List._∷_ Row.off (List._∷_ Row.off (List._∷_ Row.off List.[]))))))))))))) }
 
         abbrev G7 : Row.Cx
-        G7 = record { locals = List._++_ t3 t1; slots = List._∷_ (Row.lease (κs .0) (qs .0)) (List._∷_ (Row.lease (κs .1 .0) (qs .1 .0)) (List._∷_ (Row.lease (κs .1 .1 .0) (qs .1 .1 .0)) (List._∷_ (Row.lease (κs .1 .1 .1 .0) (qs .1 .1 .1 .0)) (List._∷_ (Row.lease (κs .1 .1 .1 .1 .0) (qs .1 .1 .1 .1 .0)) (List._∷_ (Row.lease (κs .1 .1 .1 .1 .1 .0) (qs .1 .1 .1 .1 .1 .0)) (List._∷_ Row.off (List._∷_ Row.off (List._∷_ Row.off (List._∷_ Row.off (List._∷_ Row.off (List._∷_ Row.off List.[]))))))))))) }
+        G7 = record { locals = List._++_ t0 t1; slots = List._∷_ (Row.lease (κs .0) (qs .0)) (List._∷_ (Row.lease (κs .1 .0) (qs .1 .0)) (List._∷_ (Row.lease (κs .1 .1 .0) (qs .1 .1 .0)) (List._∷_ (Row.lease (κs .1 .1 .1 .0) (qs .1 .1 .1 .0)) (List._∷_ (Row.lease (κs .1 .1 .1 .1 .0) (qs .1 .1 .1 .1 .0)) (List._∷_ (Row.lease (κs .1 .1 .1 .1 .1 .0) (qs .1 .1 .1 .1 .1 .0)) (List._∷_ (Row.lease (κs .1 .1 .1 .1 .1 .1 .0) (qs .1 .1 .1 .1 .1 .1 .0)) (List._∷_ Row.off (List._∷_ Row.off (List._∷_ Row.off (List._∷_ Row.off (List._∷_ Row.off (List._∷_ Row.off (List._∷_ Row.off List.[]))))))))))))) }
 
         abbrev G8 : Row.Cx
-        G8 = record { locals = List._++_ t4 t1; slots = List._∷_ (Row.lease (κs .0) (qs .0)) (List._∷_ (Row.lease (κs .1 .0) (qs .1 .0)) (List._∷_ (Row.lease (κs .1 .1 .0) (qs .1 .1 .0)) (List._∷_ (Row.lease (κs .1 .1 .1 .0) (qs .1 .1 .1 .0)) (List._∷_ (Row.lease (κs .1 .1 .1 .1 .0) (qs .1 .1 .1 .1 .0)) (List._∷_ (Row.lease (κs .1 .1 .1 .1 .1 .0) (qs .1 .1 .1 .1 .1 .0)) (List._∷_ Row.off (List._∷_ Row.off (List._∷_ Row.off (List._∷_ Row.off (List._∷_ Row.off (List._∷_ Row.off List.[]))))))))))) }
+        G8 = record { locals = List._++_ t3 t1; slots = List._∷_ (Row.lease (κs .0) (qs .0)) (List._∷_ (Row.lease (κs .1 .0) (qs .1 .0)) (List._∷_ (Row.lease (κs .1 .1 .0) (qs .1 .1 .0)) (List._∷_ (Row.lease (κs .1 .1 .1 .0) (qs .1 .1 .1 .0)) (List._∷_ (Row.lease (κs .1 .1 .1 .1 .0) (qs .1 .1 .1 .1 .0)) (List._∷_ (Row.lease (κs .1 .1 .1 .1 .1 .0) (qs .1 .1 .1 .1 .1 .0)) (List._∷_ (Row.lease (κs .1 .1 .1 .1 .1 .1 .0) (qs .1 .1 .1 .1 .1 .1 .0)) (List._∷_ Row.off (List._∷_ Row.off (List._∷_ Row.off (List._∷_ Row.off (List._∷_ Row.off (List._∷_ Row.off (List._∷_ Row.off List.[]))))))))))))) }
 
         abbrev G9 : Row.Cx
-        G9 = record { locals = List._++_ t5 t1; slots = List._∷_ (Row.lease (κs .0) (qs .0)) (List._∷_ (Row.lease (κs .1 .0) (qs .1 .0)) (List._∷_ (Row.lease (κs .1 .1 .0) (qs .1 .1 .0)) (List._∷_ (Row.lease (κs .1 .1 .1 .0) (qs .1 .1 .1 .0)) (List._∷_ (Row.lease (κs .1 .1 .1 .1 .0) (qs .1 .1 .1 .1 .0)) (List._∷_ (Row.lease (κs .1 .1 .1 .1 .1 .0) (qs .1 .1 .1 .1 .1 .0)) (List._∷_ Row.off (List._∷_ Row.off (List._∷_ Row.off (List._∷_ Row.off (List._∷_ Row.off (List._∷_ Row.off List.[]))))))))))) }
+        G9 = record { locals = List._++_ t4 t1; slots = List._∷_ (Row.lease (κs .0) (qs .0)) (List._∷_ (Row.lease (κs .1 .0) (qs .1 .0)) (List._∷_ (Row.lease (κs .1 .1 .0) (qs .1 .1 .0)) (List._∷_ (Row.lease (κs .1 .1 .1 .0) (qs .1 .1 .1 .0)) (List._∷_ (Row.lease (κs .1 .1 .1 .1 .0) (qs .1 .1 .1 .1 .0)) (List._∷_ (Row.lease (κs .1 .1 .1 .1 .1 .0) (qs .1 .1 .1 .1 .1 .0)) (List._∷_ (Row.lease (κs .1 .1 .1 .1 .1 .1 .0) (qs .1 .1 .1 .1 .1 .1 .0)) (List._∷_ Row.off (List._∷_ Row.off (List._∷_ Row.off (List._∷_ Row.off (List._∷_ Row.off (List._∷_ Row.off (List._∷_ Row.off List.[]))))))))))))) }
 
         abbrev G10 : Row.Cx
-        G10 = record { locals = List._++_ t6 t1; slots = List._∷_ (Row.lease (κs .0) (qs .0)) (List._∷_ (Row.lease (κs .1 .0) (qs .1 .0)) (List._∷_ (Row.lease (κs .1 .1 .0) (qs .1 .1 .0)) (List._∷_ (Row.lease (κs .1 .1 .1 .0) (qs .1 .1 .1 .0)) (List._∷_ (Row.lease (κs .1 .1 .1 .1 .0) (qs .1 .1 .1 .1 .0)) (List._∷_ (Row.lease (κs .1 .1 .1 .1 .1 .0) (qs .1 .1 .1 .1 .1 .0)) (List._∷_ Row.off (List._∷_ Row.off (List._∷_ Row.off (List._∷_ Row.off (List._∷_ Row.off (List._∷_ Row.off List.[]))))))))))) }
+        G10 = record { locals = List._++_ t5 t1; slots = List._∷_ (Row.lease (κs .0) (qs .0)) (List._∷_ (Row.lease (κs .1 .0) (qs .1 .0)) (List._∷_ (Row.lease (κs .1 .1 .0) (qs .1 .1 .0)) (List._∷_ (Row.lease (κs .1 .1 .1 .0) (qs .1 .1 .1 .0)) (List._∷_ (Row.lease (κs .1 .1 .1 .1 .0) (qs .1 .1 .1 .1 .0)) (List._∷_ (Row.lease (κs .1 .1 .1 .1 .1 .0) (qs .1 .1 .1 .1 .1 .0)) (List._∷_ (Row.lease (κs .1 .1 .1 .1 .1 .1 .0) (qs .1 .1 .1 .1 .1 .1 .0)) (List._∷_ Row.off (List._∷_ Row.off (List._∷_ Row.off (List._∷_ Row.off (List._∷_ Row.off (List._∷_ Row.off (List._∷_ Row.off List.[]))))))))))))) }
 
         abbrev G11 : Row.Cx
-        G11 = record { locals = List._++_ t7 t1; slots = List._∷_ (Row.lease (κs .0) (qs .0)) (List._∷_ (Row.lease (κs .1 .0) (qs .1 .0)) (List._∷_ (Row.lease (κs .1 .1 .0) (qs .1 .1 .0)) (List._∷_ (Row.lease (κs .1 .1 .1 .0) (qs .1 .1 .1 .0)) (List._∷_ (Row.lease (κs .1 .1 .1 .1 .0) (qs .1 .1 .1 .1 .0)) (List._∷_ (Row.lease (κs .1 .1 .1 .1 .1 .0) (qs .1 .1 .1 .1 .1 .0)) (List._∷_ Row.off (List._∷_ Row.off (List._∷_ Row.off (List._∷_ Row.off (List._∷_ Row.off (List._∷_ Row.off List.[]))))))))))) }
+        G11 = record { locals = List._++_ t6 t1; slots = List._∷_ (Row.lease (κs .0) (qs .0)) (List._∷_ (Row.lease (κs .1 .0) (qs .1 .0)) (List._∷_ (Row.lease (κs .1 .1 .0) (qs .1 .1 .0)) (List._∷_ (Row.lease (κs .1 .1 .1 .0) (qs .1 .1 .1 .0)) (List._∷_ (Row.lease (κs .1 .1 .1 .1 .0) (qs .1 .1 .1 .1 .0)) (List._∷_ (Row.lease (κs .1 .1 .1 .1 .1 .0) (qs .1 .1 .1 .1 .1 .0)) (List._∷_ (Row.lease (κs .1 .1 .1 .1 .1 .1 .0) (qs .1 .1 .1 .1 .1 .1 .0)) (List._∷_ Row.off (List._∷_ Row.off (List._∷_ Row.off (List._∷_ Row.off (List._∷_ Row.off (List._∷_ Row.off (List._∷_ Row.off List.[]))))))))))))) }
 
         abbrev G12 : Row.Cx
-        G12 = record { locals = List._++_ t5 t1; slots = List._∷_ (Row.lease (κs .0) (qs .0)) (List._∷_ (Row.lease (κs .1 .0) (qs .1 .0)) (List._∷_ (Row.lease (κs .1 .1 .0) (qs .1 .1 .0)) (List._∷_ (Row.lease (κs .1 .1 .1 .0) (qs .1 .1 .1 .0)) (List._∷_ (Row.lease (κs .1 .1 .1 .1 .0) (qs .1 .1 .1 .1 .0)) (List._∷_ (Row.lease (κs .1 .1 .1 .1 .1 .0) (qs .1 .1 .1 .1 .1 .0)) (List._∷_ Row.off (List._∷_ Row.off (List._∷_ Row.off (List._∷_ Row.off (List._∷_ Row.off (List._∷_ Row.off List.[]))))))))))) }
+        G12 = record { locals = List._++_ t5 t7; slots = List._∷_ (Row.lease (κs .0) (qs .0)) (List._∷_ (Row.lease (κs .1 .0) (qs .1 .0)) (List._∷_ (Row.lease (κs .1 .1 .0) (qs .1 .1 .0)) (List._∷_ (Row.lease (κs .1 .1 .1 .0) (qs .1 .1 .1 .0)) (List._∷_ (Row.lease (κs .1 .1 .1 .1 .0) (qs .1 .1 .1 .1 .0)) (List._∷_ (Row.lease (κs .1 .1 .1 .1 .1 .0) (qs .1 .1 .1 .1 .1 .0)) (List._∷_ (Row.lease (κs .1 .1 .1 .1 .1 .1 .0) (qs .1 .1 .1 .1 .1 .1 .0)) (List._∷_ Row.off (List._∷_ Row.off (List._∷_ Row.off (List._∷_ Row.off (List._∷_ Row.off (List._∷_ Row.off (List._∷_ Row.off List.[]))))))))))))) }
 
         abbrev G13 : Row.Cx
-        G13 = record { locals = List._++_ t5 t1; slots = List._∷_ (Row.lease (κs .0) (qs .0)) (List._∷_ (Row.lease (κs .1 .0) (qs .1 .0)) (List._∷_ (Row.lease (κs .1 .1 .0) (qs .1 .1 .0)) (List._∷_ (Row.lease (κs .1 .1 .1 .0) (qs .1 .1 .1 .0)) (List._∷_ (Row.lease (κs .1 .1 .1 .1 .0) (qs .1 .1 .1 .1 .0)) (List._∷_ (Row.lease (κs .1 .1 .1 .1 .1 .0) (qs .1 .1 .1 .1 .1 .0)) (List._∷_ Row.off (List._∷_ Row.off (List._∷_ Row.off (List._∷_ Row.off (List._∷_ Row.off (List._∷_ Row.off List.[]))))))))))) }
+        G13 = record { locals = List._++_ t5 t1; slots = List._∷_ (Row.lease (κs .0) (qs .0)) (List._∷_ (Row.lease (κs .1 .0) (qs .1 .0)) (List._∷_ (Row.lease (κs .1 .1 .0) (qs .1 .1 .0)) (List._∷_ (Row.lease (κs .1 .1 .1 .0) (qs .1 .1 .1 .0)) (List._∷_ (Row.lease (κs .1 .1 .1 .1 .0) (qs .1 .1 .1 .1 .0)) (List._∷_ (Row.lease (κs .1 .1 .1 .1 .1 .0) (qs .1 .1 .1 .1 .1 .0)) (List._∷_ (Row.lease (κs .1 .1 .1 .1 .1 .1 .0) (qs .1 .1 .1 .1 .1 .1 .0)) (List._∷_ Row.off (List._∷_ Row.off (List._∷_ Row.off (List._∷_ Row.off (List._∷_ Row.off (List._∷_ Row.off (List._∷_ Row.off List.[]))))))))))))) }
 
         abbrev G14 : Row.Cx
-        G14 = record { locals = List._++_ t8 t1; slots = List._∷_ (Row.lease (κs .0) (qs .0)) (List._∷_ (Row.lease (κs .1 .0) (qs .1 .0)) (List._∷_ (Row.lease (κs .1 .1 .0) (qs .1 .1 .0)) (List._∷_ (Row.lease (κs .1 .1 .1 .0) (qs .1 .1 .1 .0)) (List._∷_ (Row.lease (κs .1 .1 .1 .1 .0) (qs .1 .1 .1 .1 .0)) (List._∷_ (Row.lease (κs .1 .1 .1 .1 .1 .0) (qs .1 .1 .1 .1 .1 .0)) (List._∷_ Row.off (List._∷_ Row.off (List._∷_ Row.off (List._∷_ Row.off (List._∷_ Row.off (List._∷_ Row.off List.[]))))))))))) }
+        G14 = record { locals = List._++_ t5 t1; slots = List._∷_ (Row.lease (κs .0) (qs .0)) (List._∷_ (Row.lease (κs .1 .0) (qs .1 .0)) (List._∷_ (Row.lease (κs .1 .1 .0) (qs .1 .1 .0)) (List._∷_ (Row.lease (κs .1 .1 .1 .0) (qs .1 .1 .1 .0)) (List._∷_ (Row.lease (κs .1 .1 .1 .1 .0) (qs .1 .1 .1 .1 .0)) (List._∷_ (Row.lease (κs .1 .1 .1 .1 .1 .0) (qs .1 .1 .1 .1 .1 .0)) (List._∷_ (Row.lease (κs .1 .1 .1 .1 .1 .1 .0) (qs .1 .1 .1 .1 .1 .1 .0)) (List._∷_ Row.off (List._∷_ Row.off (List._∷_ Row.off (List._∷_ Row.off (List._∷_ Row.off (List._∷_ Row.off (List._∷_ Row.off List.[]))))))))))))) }
 
         abbrev G15 : Row.Cx
-        G15 = record { locals = List._++_ t6 t1; slots = List._∷_ (Row.lease (κs .0) (qs .0)) (List._∷_ (Row.lease (κs .1 .0) (qs .1 .0)) (List._∷_ (Row.lease (κs .1 .1 .0) (qs .1 .1 .0)) (List._∷_ (Row.lease (κs .1 .1 .1 .0) (qs .1 .1 .1 .0)) (List._∷_ (Row.lease (κs .1 .1 .1 .1 .0) (qs .1 .1 .1 .1 .0)) (List._∷_ (Row.lease (κs .1 .1 .1 .1 .1 .0) (qs .1 .1 .1 .1 .1 .0)) (List._∷_ Row.off (List._∷_ Row.off (List._∷_ Row.off (List._∷_ Row.off (List._∷_ Row.off (List._∷_ Row.off List.[]))))))))))) }
+        G15 = record { locals = List._++_ t6 t7; slots = List._∷_ (Row.lease (κs .0) (qs .0)) (List._∷_ (Row.lease (κs .1 .0) (qs .1 .0)) (List._∷_ (Row.lease (κs .1 .1 .0) (qs .1 .1 .0)) (List._∷_ (Row.lease (κs .1 .1 .1 .0) (qs .1 .1 .1 .0)) (List._∷_ (Row.lease (κs .1 .1 .1 .1 .0) (qs .1 .1 .1 .1 .0)) (List._∷_ (Row.lease (κs .1 .1 .1 .1 .1 .0) (qs .1 .1 .1 .1 .1 .0)) (List._∷_ (Row.lease (κs .1 .1 .1 .1 .1 .1 .0) (qs .1 .1 .1 .1 .1 .1 .0)) (List._∷_ Row.off (List._∷_ Row.off (List._∷_ Row.off (List._∷_ Row.off (List._∷_ Row.off (List._∷_ Row.off (List._∷_ Row.off List.[]))))))))))))) }
 
         abbrev G16 : Row.Cx
-        G16 = record { locals = List._++_ t5 t1; slots = List._∷_ (Row.lease (κs .0) (qs .0)) (List._∷_ (Row.lease (κs .1 .0) (qs .1 .0)) (List._∷_ (Row.lease (κs .1 .1 .0) (qs .1 .1 .0)) (List._∷_ (Row.lease (κs .1 .1 .1 .0) (qs .1 .1 .1 .0)) (List._∷_ (Row.lease (κs .1 .1 .1 .1 .0) (qs .1 .1 .1 .1 .0)) (List._∷_ (Row.lease (κs .1 .1 .1 .1 .1 .0) (qs .1 .1 .1 .1 .1 .0)) (List._∷_ Row.alive (List._∷_ Row.off (List._∷_ Row.off (List._∷_ Row.off (List._∷_ Row.off (List._∷_ Row.off List.[]))))))))))) }
+        G16 = record { locals = List._++_ t6 t1; slots = List._∷_ (Row.lease (κs .0) (qs .0)) (List._∷_ (Row.lease (κs .1 .0) (qs .1 .0)) (List._∷_ (Row.lease (κs .1 .1 .0) (qs .1 .1 .0)) (List._∷_ (Row.lease (κs .1 .1 .1 .0) (qs .1 .1 .1 .0)) (List._∷_ (Row.lease (κs .1 .1 .1 .1 .0) (qs .1 .1 .1 .1 .0)) (List._∷_ (Row.lease (κs .1 .1 .1 .1 .1 .0) (qs .1 .1 .1 .1 .1 .0)) (List._∷_ (Row.lease (κs .1 .1 .1 .1 .1 .1 .0) (qs .1 .1 .1 .1 .1 .1 .0)) (List._∷_ Row.off (List._∷_ Row.off (List._∷_ Row.off (List._∷_ Row.off (List._∷_ Row.off (List._∷_ Row.off (List._∷_ Row.off List.[]))))))))))))) }
 
         abbrev G17 : Row.Cx
-        G17 = record { locals = List._++_ g9 t10; slots = List._∷_ (Row.lease (κs .0) (qs .0)) (List._∷_ (Row.lease (κs .1 .0) (qs .1 .0)) (List._∷_ (Row.lease (κs .1 .1 .0) (qs .1 .1 .0)) (List._∷_ (Row.lease (κs .1 .1 .1 .0) (qs .1 .1 .1 .0)) (List._∷_ (Row.lease (κs .1 .1 .1 .1 .0) (qs .1 .1 .1 .1 .0)) (List._∷_ Row.off (List._∷_ Row.alive (List._∷_ Row.off (List._∷_ Row.off (List._∷_ Row.off (List._∷_ Row.off (List._∷_ Row.off List.[]))))))))))) }
+        G17 = record { locals = List._++_ t5 t1; slots = List._∷_ (Row.lease (κs .0) (qs .0)) (List._∷_ (Row.lease (κs .1 .0) (qs .1 .0)) (List._∷_ (Row.lease (κs .1 .1 .0) (qs .1 .1 .0)) (List._∷_ (Row.lease (κs .1 .1 .1 .0) (qs .1 .1 .1 .0)) (List._∷_ (Row.lease (κs .1 .1 .1 .1 .0) (qs .1 .1 .1 .1 .0)) (List._∷_ (Row.lease (κs .1 .1 .1 .1 .1 .0) (qs .1 .1 .1 .1 .1 .0)) (List._∷_ (Row.lease (κs .1 .1 .1 .1 .1 .1 .0) (qs .1 .1 .1 .1 .1 .1 .0)) (List._∷_ Row.alive (List._∷_ Row.off (List._∷_ Row.off (List._∷_ Row.off (List._∷_ Row.off (List._∷_ Row.off (List._∷_ Row.off List.[]))))))))))))) }
 
         abbrev G18 : Row.Cx
-        G18 = record { locals = List._++_ g9 t11; slots = List._∷_ (Row.lease (κs .0) (qs .0)) (List._∷_ (Row.lease (κs .1 .0) (qs .1 .0)) (List._∷_ (Row.lease (κs .1 .1 .0) (qs .1 .1 .0)) (List._∷_ (Row.lease (κs .1 .1 .1 .0) (qs .1 .1 .1 .0)) (List._∷_ (Row.lease (κs .1 .1 .1 .1 .0) (qs .1 .1 .1 .1 .0)) (List._∷_ Row.off (List._∷_ Row.alive (List._∷_ Row.off (List._∷_ Row.off (List._∷_ Row.off (List._∷_ Row.off (List._∷_ Row.off List.[]))))))))))) }
+        G18 = record { locals = List._++_ g8 t9; slots = List._∷_ (Row.lease (κs .0) (qs .0)) (List._∷_ (Row.lease (κs .1 .0) (qs .1 .0)) (List._∷_ (Row.lease (κs .1 .1 .0) (qs .1 .1 .0)) (List._∷_ (Row.lease (κs .1 .1 .1 .0) (qs .1 .1 .1 .0)) (List._∷_ (Row.lease (κs .1 .1 .1 .1 .0) (qs .1 .1 .1 .1 .0)) (List._∷_ Row.off (List._∷_ (Row.lease (κs .1 .1 .1 .1 .1 .1 .0) (qs .1 .1 .1 .1 .1 .1 .0)) (List._∷_ Row.alive (List._∷_ Row.off (List._∷_ Row.off (List._∷_ Row.off (List._∷_ Row.off (List._∷_ Row.off (List._∷_ Row.off List.[]))))))))))))) }
 
         abbrev G19 : Row.Cx
-        G19 = record { locals = List._++_ g12 t11; slots = List._∷_ (Row.lease (κs .0) (qs .0)) (List._∷_ (Row.lease (κs .1 .0) (qs .1 .0)) (List._∷_ (Row.lease (κs .1 .1 .0) (qs .1 .1 .0)) (List._∷_ (Row.lease (κs .1 .1 .1 .0) (qs .1 .1 .1 .0)) (List._∷_ (Row.lease (κs .1 .1 .1 .1 .0) (qs .1 .1 .1 .1 .0)) (List._∷_ Row.off (List._∷_ Row.alive (List._∷_ Row.off (List._∷_ Row.off (List._∷_ Row.off (List._∷_ Row.off (List._∷_ Row.off List.[]))))))))))) }
+        G19 = record { locals = List._++_ g8 t10; slots = List._∷_ (Row.lease (κs .0) (qs .0)) (List._∷_ (Row.lease (κs .1 .0) (qs .1 .0)) (List._∷_ (Row.lease (κs .1 .1 .0) (qs .1 .1 .0)) (List._∷_ (Row.lease (κs .1 .1 .1 .0) (qs .1 .1 .1 .0)) (List._∷_ (Row.lease (κs .1 .1 .1 .1 .0) (qs .1 .1 .1 .1 .0)) (List._∷_ Row.off (List._∷_ (Row.lease (κs .1 .1 .1 .1 .1 .1 .0) (qs .1 .1 .1 .1 .1 .1 .0)) (List._∷_ Row.alive (List._∷_ Row.off (List._∷_ Row.off (List._∷_ Row.off (List._∷_ Row.off (List._∷_ Row.off (List._∷_ Row.off List.[]))))))))))))) }
 
         abbrev G20 : Row.Cx
-        G20 = record { locals = List._++_ g12 t1; slots = List._∷_ (Row.lease (κs .0) (qs .0)) (List._∷_ (Row.lease (κs .1 .0) (qs .1 .0)) (List._∷_ (Row.lease (κs .1 .1 .0) (qs .1 .1 .0)) (List._∷_ (Row.lease (κs .1 .1 .1 .0) (qs .1 .1 .1 .0)) (List._∷_ (Row.lease (κs .1 .1 .1 .1 .0) (qs .1 .1 .1 .1 .0)) (List._∷_ Row.off (List._∷_ Row.alive (List._∷_ Row.off (List._∷_ Row.off (List._∷_ Row.off (List._∷_ Row.off (List._∷_ Row.off List.[]))))))))))) }
+        G20 = record { locals = List._++_ g11 t10; slots = List._∷_ (Row.lease (κs .0) (qs .0)) (List._∷_ (Row.lease (κs .1 .0) (qs .1 .0)) (List._∷_ (Row.lease (κs .1 .1 .0) (qs .1 .1 .0)) (List._∷_ (Row.lease (κs .1 .1 .1 .0) (qs .1 .1 .1 .0)) (List._∷_ (Row.lease (κs .1 .1 .1 .1 .0) (qs .1 .1 .1 .1 .0)) (List._∷_ Row.off (List._∷_ (Row.lease (κs .1 .1 .1 .1 .1 .1 .0) (qs .1 .1 .1 .1 .1 .1 .0)) (List._∷_ Row.alive (List._∷_ Row.off (List._∷_ Row.off (List._∷_ Row.off (List._∷_ Row.off (List._∷_ Row.off (List._∷_ Row.off List.[]))))))))))))) }
 
         abbrev G21 : Row.Cx
-        G21 = record { locals = List._++_ g12 t1; slots = List._∷_ (Row.lease (κs .0) (qs .0)) (List._∷_ (Row.lease (κs .1 .0) (qs .1 .0)) (List._∷_ (Row.lease (κs .1 .1 .0) (qs .1 .1 .0)) (List._∷_ (Row.lease (κs .1 .1 .1 .0) (qs .1 .1 .1 .0)) (List._∷_ (Row.lease (κs .1 .1 .1 .1 .0) (qs .1 .1 .1 .1 .0)) (List._∷_ Row.off (List._∷_ Row.dead (List._∷_ Row.off (List._∷_ Row.off (List._∷_ Row.off (List._∷_ Row.off (List._∷_ Row.off List.[]))))))))))) }
+        G21 = record { locals = List._++_ g11 t1; slots = List._∷_ (Row.lease (κs .0) (qs .0)) (List._∷_ (Row.lease (κs .1 .0) (qs .1 .0)) (List._∷_ (Row.lease (κs .1 .1 .0) (qs .1 .1 .0)) (List._∷_ (Row.lease (κs .1 .1 .1 .0) (qs .1 .1 .1 .0)) (List._∷_ (Row.lease (κs .1 .1 .1 .1 .0) (qs .1 .1 .1 .1 .0)) (List._∷_ Row.off (List._∷_ (Row.lease (κs .1 .1 .1 .1 .1 .1 .0) (qs .1 .1 .1 .1 .1 .1 .0)) (List._∷_ Row.alive (List._∷_ Row.off (List._∷_ Row.off (List._∷_ Row.off (List._∷_ Row.off (List._∷_ Row.off (List._∷_ Row.off List.[]))))))))))))) }
 
         abbrev G22 : Row.Cx
-        G22 = record { locals = List._++_ t13 t1; slots = List._∷_ (Row.lease (κs .0) (qs .0)) (List._∷_ (Row.lease (κs .1 .0) (qs .1 .0)) (List._∷_ (Row.lease (κs .1 .1 .0) (qs .1 .1 .0)) (List._∷_ (Row.lease (κs .1 .1 .1 .0) (qs .1 .1 .1 .0)) (List._∷_ (Row.lease (κs .1 .1 .1 .1 .0) (qs .1 .1 .1 .1 .0)) (List._∷_ (Row.lease (κs .1 .1 .1 .1 .1 .0) (qs .1 .1 .1 .1 .1 .0)) (List._∷_ Row.dead (List._∷_ Row.off (List._∷_ Row.off (List._∷_ Row.off (List._∷_ Row.off (List._∷_ Row.off List.[]))))))))))) }
+        G22 = record { locals = List._++_ g11 t1; slots = List._∷_ (Row.lease (κs .0) (qs .0)) (List._∷_ (Row.lease (κs .1 .0) (qs .1 .0)) (List._∷_ (Row.lease (κs .1 .1 .0) (qs .1 .1 .0)) (List._∷_ (Row.lease (κs .1 .1 .1 .0) (qs .1 .1 .1 .0)) (List._∷_ (Row.lease (κs .1 .1 .1 .1 .0) (qs .1 .1 .1 .1 .0)) (List._∷_ Row.off (List._∷_ (Row.lease (κs .1 .1 .1 .1 .1 .1 .0) (qs .1 .1 .1 .1 .1 .1 .0)) (List._∷_ Row.dead (List._∷_ Row.off (List._∷_ Row.off (List._∷_ Row.off (List._∷_ Row.off (List._∷_ Row.off (List._∷_ Row.off List.[]))))))))))))) }
 
         abbrev G23 : Row.Cx
-        G23 = record { locals = List._++_ t13 t1; slots = List._∷_ (Row.lease (κs .0) (qs .0)) (List._∷_ (Row.lease (κs .1 .0) (qs .1 .0)) (List._∷_ (Row.lease (κs .1 .1 .0) (qs .1 .1 .0)) (List._∷_ (Row.lease (κs .1 .1 .1 .0) (qs .1 .1 .1 .0)) (List._∷_ (Row.lease (κs .1 .1 .1 .1 .0) (qs .1 .1 .1 .1 .0)) (List._∷_ (Row.lease (κs .1 .1 .1 .1 .1 .0) (qs .1 .1 .1 .1 .1 .0)) (List._∷_ Row.off (List._∷_ Row.off (List._∷_ Row.off (List._∷_ Row.off (List._∷_ Row.off (List._∷_ Row.off List.[]))))))))))) }
+        G23 = record { locals = List._++_ t12 t1; slots = List._∷_ (Row.lease (κs .0) (qs .0)) (List._∷_ (Row.lease (κs .1 .0) (qs .1 .0)) (List._∷_ (Row.lease (κs .1 .1 .0) (qs .1 .1 .0)) (List._∷_ (Row.lease (κs .1 .1 .1 .0) (qs .1 .1 .1 .0)) (List._∷_ (Row.lease (κs .1 .1 .1 .1 .0) (qs .1 .1 .1 .1 .0)) (List._∷_ (Row.lease (κs .1 .1 .1 .1 .1 .0) (qs .1 .1 .1 .1 .1 .0)) (List._∷_ (Row.lease (κs .1 .1 .1 .1 .1 .1 .0) (qs .1 .1 .1 .1 .1 .1 .0)) (List._∷_ Row.dead (List._∷_ Row.off (List._∷_ Row.off (List._∷_ Row.off (List._∷_ Row.off (List._∷_ Row.off (List._∷_ Row.off List.[]))))))))))))) }
 
         abbrev G24 : Row.Cx
-        G24 = record { locals = List._++_ t14 t1; slots = List._∷_ (Row.lease (κs .0) (qs .0)) (List._∷_ (Row.lease (κs .1 .0) (qs .1 .0)) (List._∷_ (Row.lease (κs .1 .1 .0) (qs .1 .1 .0)) (List._∷_ (Row.lease (κs .1 .1 .1 .0) (qs .1 .1 .1 .0)) (List._∷_ (Row.lease (κs .1 .1 .1 .1 .0) (qs .1 .1 .1 .1 .0)) (List._∷_ (Row.lease (κs .1 .1 .1 .1 .1 .0) (qs .1 .1 .1 .1 .1 .0)) (List._∷_ Row.off (List._∷_ Row.off (List._∷_ Row.off (List._∷_ Row.off (List._∷_ Row.off (List._∷_ Row.off List.[]))))))))))) }
+        G24 = record { locals = List._++_ t12 t1; slots = List._∷_ (Row.lease (κs .0) (qs .0)) (List._∷_ (Row.lease (κs .1 .0) (qs .1 .0)) (List._∷_ (Row.lease (κs .1 .1 .0) (qs .1 .1 .0)) (List._∷_ (Row.lease (κs .1 .1 .1 .0) (qs .1 .1 .1 .0)) (List._∷_ (Row.lease (κs .1 .1 .1 .1 .0) (qs .1 .1 .1 .1 .0)) (List._∷_ (Row.lease (κs .1 .1 .1 .1 .1 .0) (qs .1 .1 .1 .1 .1 .0)) (List._∷_ (Row.lease (κs .1 .1 .1 .1 .1 .1 .0) (qs .1 .1 .1 .1 .1 .1 .0)) (List._∷_ Row.off (List._∷_ Row.off (List._∷_ Row.off (List._∷_ Row.off (List._∷_ Row.off (List._∷_ Row.off (List._∷_ Row.off List.[]))))))))))))) }
 
         abbrev G25 : Row.Cx
-        G25 = record { locals = List._++_ t14 t1; slots = List._∷_ (Row.lease (κs .0) (qs .0)) (List._∷_ (Row.lease (κs .1 .0) (qs .1 .0)) (List._∷_ (Row.lease (κs .1 .1 .0) (qs .1 .1 .0)) (List._∷_ (Row.lease (κs .1 .1 .1 .0) (qs .1 .1 .1 .0)) (List._∷_ (Row.lease (κs .1 .1 .1 .1 .0) (qs .1 .1 .1 .1 .0)) (List._∷_ (Row.lease (κs .1 .1 .1 .1 .1 .0) (qs .1 .1 .1 .1 .1 .0)) (List._∷_ Row.off (List._∷_ Row.alive (List._∷_ Row.off (List._∷_ Row.off (List._∷_ Row.off (List._∷_ Row.off List.[]))))))))))) }
+        G25 = record { locals = List._++_ t13 t1; slots = List._∷_ (Row.lease (κs .0) (qs .0)) (List._∷_ (Row.lease (κs .1 .0) (qs .1 .0)) (List._∷_ (Row.lease (κs .1 .1 .0) (qs .1 .1 .0)) (List._∷_ (Row.lease (κs .1 .1 .1 .0) (qs .1 .1 .1 .0)) (List._∷_ (Row.lease (κs .1 .1 .1 .1 .0) (qs .1 .1 .1 .1 .0)) (List._∷_ (Row.lease (κs .1 .1 .1 .1 .1 .0) (qs .1 .1 .1 .1 .1 .0)) (List._∷_ (Row.lease (κs .1 .1 .1 .1 .1 .1 .0) (qs .1 .1 .1 .1 .1 .1 .0)) (List._∷_ Row.off (List._∷_ Row.off (List._∷_ Row.off (List._∷_ Row.off (List._∷_ Row.off (List._∷_ Row.off (List._∷_ Row.off List.[]))))))))))))) }
 
         abbrev G26 : Row.Cx
-        G26 = record { locals = List._++_ g15 t16; slots = List._∷_ (Row.lease (κs .0) (qs .0)) (List._∷_ (Row.lease (κs .1 .0) (qs .1 .0)) (List._∷_ (Row.lease (κs .1 .1 .0) (qs .1 .1 .0)) (List._∷_ Row.off (List._∷_ (Row.lease (κs .1 .1 .1 .1 .0) (qs .1 .1 .1 .1 .0)) (List._∷_ (Row.lease (κs .1 .1 .1 .1 .1 .0) (qs .1 .1 .1 .1 .1 .0)) (List._∷_ Row.off (List._∷_ Row.alive (List._∷_ Row.off (List._∷_ Row.off (List._∷_ Row.off (List._∷_ Row.off List.[]))))))))))) }
+        G26 = record { locals = List._++_ t13 t1; slots = List._∷_ (Row.lease (κs .0) (qs .0)) (List._∷_ (Row.lease (κs .1 .0) (qs .1 .0)) (List._∷_ (Row.lease (κs .1 .1 .0) (qs .1 .1 .0)) (List._∷_ (Row.lease (κs .1 .1 .1 .0) (qs .1 .1 .1 .0)) (List._∷_ (Row.lease (κs .1 .1 .1 .1 .0) (qs .1 .1 .1 .1 .0)) (List._∷_ (Row.lease (κs .1 .1 .1 .1 .1 .0) (qs .1 .1 .1 .1 .1 .0)) (List._∷_ (Row.lease (κs .1 .1 .1 .1 .1 .1 .0) (qs .1 .1 .1 .1 .1 .1 .0)) (List._∷_ Row.off (List._∷_ Row.alive (List._∷_ Row.off (List._∷_ Row.off (List._∷_ Row.off (List._∷_ Row.off (List._∷_ Row.off List.[]))))))))))))) }
 
         abbrev G27 : Row.Cx
-        G27 = record { locals = List._++_ g15 t17; slots = List._∷_ (Row.lease (κs .0) (qs .0)) (List._∷_ (Row.lease (κs .1 .0) (qs .1 .0)) (List._∷_ (Row.lease (κs .1 .1 .0) (qs .1 .1 .0)) (List._∷_ Row.off (List._∷_ (Row.lease (κs .1 .1 .1 .1 .0) (qs .1 .1 .1 .1 .0)) (List._∷_ (Row.lease (κs .1 .1 .1 .1 .1 .0) (qs .1 .1 .1 .1 .1 .0)) (List._∷_ Row.off (List._∷_ Row.alive (List._∷_ Row.off (List._∷_ Row.off (List._∷_ Row.off (List._∷_ Row.off List.[]))))))))))) }
+        G27 = record { locals = List._++_ g14 t15; slots = List._∷_ (Row.lease (κs .0) (qs .0)) (List._∷_ (Row.lease (κs .1 .0) (qs .1 .0)) (List._∷_ (Row.lease (κs .1 .1 .0) (qs .1 .1 .0)) (List._∷_ Row.off (List._∷_ (Row.lease (κs .1 .1 .1 .1 .0) (qs .1 .1 .1 .1 .0)) (List._∷_ (Row.lease (κs .1 .1 .1 .1 .1 .0) (qs .1 .1 .1 .1 .1 .0)) (List._∷_ (Row.lease (κs .1 .1 .1 .1 .1 .1 .0) (qs .1 .1 .1 .1 .1 .1 .0)) (List._∷_ Row.off (List._∷_ Row.alive (List._∷_ Row.off (List._∷_ Row.off (List._∷_ Row.off (List._∷_ Row.off (List._∷_ Row.off List.[]))))))))))))) }
 
         abbrev G28 : Row.Cx
-        G28 = record { locals = List._++_ g15 t17; slots = List._∷_ (Row.lease (κs .0) (qs .0)) (List._∷_ (Row.lease (κs .1 .0) (qs .1 .0)) (List._∷_ (Row.lease (κs .1 .1 .0) (qs .1 .1 .0)) (List._∷_ Row.off (List._∷_ (Row.lease (κs .1 .1 .1 .1 .0) (qs .1 .1 .1 .1 .0)) (List._∷_ (Row.lease (κs .1 .1 .1 .1 .1 .0) (qs .1 .1 .1 .1 .1 .0)) (List._∷_ Row.off (List._∷_ Row.alive (List._∷_ Row.alive (List._∷_ Row.off (List._∷_ Row.off (List._∷_ Row.off List.[]))))))))))) }
+        G28 = record { locals = List._++_ g14 t16; slots = List._∷_ (Row.lease (κs .0) (qs .0)) (List._∷_ (Row.lease (κs .1 .0) (qs .1 .0)) (List._∷_ (Row.lease (κs .1 .1 .0) (qs .1 .1 .0)) (List._∷_ Row.off (List._∷_ (Row.lease (κs .1 .1 .1 .1 .0) (qs .1 .1 .1 .1 .0)) (List._∷_ (Row.lease (κs .1 .1 .1 .1 .1 .0) (qs .1 .1 .1 .1 .1 .0)) (List._∷_ (Row.lease (κs .1 .1 .1 .1 .1 .1 .0) (qs .1 .1 .1 .1 .1 .1 .0)) (List._∷_ Row.off (List._∷_ Row.alive (List._∷_ Row.off (List._∷_ Row.off (List._∷_ Row.off (List._∷_ Row.off (List._∷_ Row.off List.[]))))))))))))) }
 
         abbrev G29 : Row.Cx
-        G29 = record { locals = List._++_ g18 t19; slots = List._∷_ (Row.lease (κs .0) (qs .0)) (List._∷_ (Row.lease (κs .1 .0) (qs .1 .0)) (List._∷_ (Row.lease (κs .1 .1 .0) (qs .1 .1 .0)) (List._∷_ Row.off (List._∷_ Row.off (List._∷_ (Row.lease (κs .1 .1 .1 .1 .1 .0) (qs .1 .1 .1 .1 .1 .0)) (List._∷_ Row.off (List._∷_ Row.alive (List._∷_ Row.alive (List._∷_ Row.off (List._∷_ Row.off (List._∷_ Row.off List.[]))))))))))) }
+        G29 = record { locals = List._++_ g14 t16; slots = List._∷_ (Row.lease (κs .0) (qs .0)) (List._∷_ (Row.lease (κs .1 .0) (qs .1 .0)) (List._∷_ (Row.lease (κs .1 .1 .0) (qs .1 .1 .0)) (List._∷_ Row.off (List._∷_ (Row.lease (κs .1 .1 .1 .1 .0) (qs .1 .1 .1 .1 .0)) (List._∷_ (Row.lease (κs .1 .1 .1 .1 .1 .0) (qs .1 .1 .1 .1 .1 .0)) (List._∷_ (Row.lease (κs .1 .1 .1 .1 .1 .1 .0) (qs .1 .1 .1 .1 .1 .1 .0)) (List._∷_ Row.off (List._∷_ Row.alive (List._∷_ Row.alive (List._∷_ Row.off (List._∷_ Row.off (List._∷_ Row.off (List._∷_ Row.off List.[]))))))))))))) }
 
         abbrev G30 : Row.Cx
-        G30 = record { locals = List._++_ g18 t20; slots = List._∷_ (Row.lease (κs .0) (qs .0)) (List._∷_ (Row.lease (κs .1 .0) (qs .1 .0)) (List._∷_ (Row.lease (κs .1 .1 .0) (qs .1 .1 .0)) (List._∷_ Row.off (List._∷_ Row.off (List._∷_ (Row.lease (κs .1 .1 .1 .1 .1 .0) (qs .1 .1 .1 .1 .1 .0)) (List._∷_ Row.off (List._∷_ Row.alive (List._∷_ Row.alive (List._∷_ Row.off (List._∷_ Row.off (List._∷_ Row.off List.[]))))))))))) }
+        G30 = record { locals = List._++_ g17 t18; slots = List._∷_ (Row.lease (κs .0) (qs .0)) (List._∷_ (Row.lease (κs .1 .0) (qs .1 .0)) (List._∷_ (Row.lease (κs .1 .1 .0) (qs .1 .1 .0)) (List._∷_ Row.off (List._∷_ Row.off (List._∷_ (Row.lease (κs .1 .1 .1 .1 .1 .0) (qs .1 .1 .1 .1 .1 .0)) (List._∷_ (Row.lease (κs .1 .1 .1 .1 .1 .1 .0) (qs .1 .1 .1 .1 .1 .1 .0)) (List._∷_ Row.off (List._∷_ Row.alive (List._∷_ Row.alive (List._∷_ Row.off (List._∷_ Row.off (List._∷_ Row.off (List._∷_ Row.off List.[]))))))))))))) }
 
         abbrev G31 : Row.Cx
-        G31 = record { locals = List._++_ g18 t20; slots = List._∷_ (Row.lease (κs .0) (qs .0)) (List._∷_ (Row.lease (κs .1 .0) (qs .1 .0)) (List._∷_ (Row.lease (κs .1 .1 .0) (qs .1 .1 .0)) (List._∷_ Row.off (List._∷_ Row.off (List._∷_ (Row.lease (κs .1 .1 .1 .1 .1 .0) (qs .1 .1 .1 .1 .1 .0)) (List._∷_ Row.off (List._∷_ Row.alive (List._∷_ Row.alive (List._∷_ Row.alive (List._∷_ Row.off (List._∷_ Row.off List.[]))))))))))) }
+        G31 = record { locals = List._++_ g17 t19; slots = List._∷_ (Row.lease (κs .0) (qs .0)) (List._∷_ (Row.lease (κs .1 .0) (qs .1 .0)) (List._∷_ (Row.lease (κs .1 .1 .0) (qs .1 .1 .0)) (List._∷_ Row.off (List._∷_ Row.off (List._∷_ (Row.lease (κs .1 .1 .1 .1 .1 .0) (qs .1 .1 .1 .1 .1 .0)) (List._∷_ (Row.lease (κs .1 .1 .1 .1 .1 .1 .0) (qs .1 .1 .1 .1 .1 .1 .0)) (List._∷_ Row.off (List._∷_ Row.alive (List._∷_ Row.alive (List._∷_ Row.off (List._∷_ Row.off (List._∷_ Row.off (List._∷_ Row.off List.[]))))))))))))) }
 
         abbrev G32 : Row.Cx
-        G32 = record { locals = List._++_ g21 t22; slots = List._∷_ (Row.lease (κs .0) (qs .0)) (List._∷_ (Row.lease (κs .1 .0) (qs .1 .0)) (List._∷_ (Row.lease (κs .1 .1 .0) (qs .1 .1 .0)) (List._∷_ Row.off (List._∷_ Row.off (List._∷_ Row.off (List._∷_ Row.off (List._∷_ Row.alive (List._∷_ Row.alive (List._∷_ Row.alive (List._∷_ Row.off (List._∷_ Row.off List.[]))))))))))) }
+        G32 = record { locals = List._++_ g17 t19; slots = List._∷_ (Row.lease (κs .0) (qs .0)) (List._∷_ (Row.lease (κs .1 .0) (qs .1 .0)) (List._∷_ (Row.lease (κs .1 .1 .0) (qs .1 .1 .0)) (List._∷_ Row.off (List._∷_ Row.off (List._∷_ (Row.lease (κs .1 .1 .1 .1 .1 .0) (qs .1 .1 .1 .1 .1 .0)) (List._∷_ (Row.lease (κs .1 .1 .1 .1 .1 .1 .0) (qs .1 .1 .1 .1 .1 .1 .0)) (List._∷_ Row.off (List._∷_ Row.alive (List._∷_ Row.alive (List._∷_ Row.alive (List._∷_ Row.off (List._∷_ Row.off (List._∷_ Row.off List.[]))))))))))))) }
 
         abbrev G33 : Row.Cx
-        G33 = record { locals = List._++_ g21 t23; slots = List._∷_ (Row.lease (κs .0) (qs .0)) (List._∷_ (Row.lease (κs .1 .0) (qs .1 .0)) (List._∷_ (Row.lease (κs .1 .1 .0) (qs .1 .1 .0)) (List._∷_ Row.off (List._∷_ Row.off (List._∷_ Row.off (List._∷_ Row.off (List._∷_ Row.alive (List._∷_ Row.alive (List._∷_ Row.alive (List._∷_ Row.off (List._∷_ Row.off List.[]))))))))))) }
+        G33 = record { locals = List._++_ g20 t21; slots = List._∷_ (Row.lease (κs .0) (qs .0)) (List._∷_ (Row.lease (κs .1 .0) (qs .1 .0)) (List._∷_ (Row.lease (κs .1 .1 .0) (qs .1 .1 .0)) (List._∷_ Row.off (List._∷_ Row.off (List._∷_ Row.off (List._∷_ (Row.lease (κs .1 .1 .1 .1 .1 .1 .0) (qs .1 .1 .1 .1 .1 .1 .0)) (List._∷_ Row.off (List._∷_ Row.alive (List._∷_ Row.alive (List._∷_ Row.alive (List._∷_ Row.off (List._∷_ Row.off (List._∷_ Row.off List.[]))))))))))))) }
 
         abbrev G34 : Row.Cx
-        G34 = record { locals = List._++_ g21 t24; slots = List._∷_ (Row.lease (κs .0) (qs .0)) (List._∷_ (Row.lease (κs .1 .0) (qs .1 .0)) (List._∷_ (Row.lease (κs .1 .1 .0) (qs .1 .1 .0)) (List._∷_ Row.off (List._∷_ Row.off (List._∷_ Row.off (List._∷_ Row.off (List._∷_ Row.alive (List._∷_ Row.alive (List._∷_ Row.alive (List._∷_ Row.off (List._∷_ Row.off List.[]))))))))))) }
+        G34 = record { locals = List._++_ g20 t22; slots = List._∷_ (Row.lease (κs .0) (qs .0)) (List._∷_ (Row.lease (κs .1 .0) (qs .1 .0)) (List._∷_ (Row.lease (κs .1 .1 .0) (qs .1 .1 .0)) (List._∷_ Row.off (List._∷_ Row.off (List._∷_ Row.off (List._∷_ (Row.lease (κs .1 .1 .1 .1 .1 .1 .0) (qs .1 .1 .1 .1 .1 .1 .0)) (List._∷_ Row.off (List._∷_ Row.alive (List._∷_ Row.alive (List._∷_ Row.alive (List._∷_ Row.off (List._∷_ Row.off (List._∷_ Row.off List.[]))))))))))))) }
 
         abbrev G35 : Row.Cx
-        G35 = record { locals = List._++_ g21 t25; slots = List._∷_ (Row.lease (κs .0) (qs .0)) (List._∷_ (Row.lease (κs .1 .0) (qs .1 .0)) (List._∷_ (Row.lease (κs .1 .1 .0) (qs .1 .1 .0)) (List._∷_ Row.off (List._∷_ Row.off (List._∷_ Row.off (List._∷_ Row.off (List._∷_ Row.alive (List._∷_ Row.alive (List._∷_ Row.alive (List._∷_ Row.off (List._∷_ Row.off List.[]))))))))))) }
+        G35 = record { locals = List._++_ g20 t22; slots = List._∷_ (Row.lease (κs .0) (qs .0)) (List._∷_ (Row.lease (κs .1 .0) (qs .1 .0)) (List._∷_ (Row.lease (κs .1 .1 .0) (qs .1 .1 .0)) (List._∷_ Row.off (List._∷_ Row.off (List._∷_ Row.off (List._∷_ (Row.lease (κs .1 .1 .1 .1 .1 .1 .0) (qs .1 .1 .1 .1 .1 .1 .0)) (List._∷_ Row.off (List._∷_ Row.alive (List._∷_ Row.alive (List._∷_ Row.alive (List._∷_ Row.alive (List._∷_ Row.off (List._∷_ Row.off List.[]))))))))))))) }
 
         abbrev G36 : Row.Cx
-        G36 = record { locals = List._++_ g21 t26; slots = List._∷_ (Row.lease (κs .0) (qs .0)) (List._∷_ (Row.lease (κs .1 .0) (qs .1 .0)) (List._∷_ (Row.lease (κs .1 .1 .0) (qs .1 .1 .0)) (List._∷_ Row.off (List._∷_ Row.off (List._∷_ Row.off (List._∷_ Row.off (List._∷_ Row.alive (List._∷_ Row.alive (List._∷_ Row.alive (List._∷_ Row.off (List._∷_ Row.off List.[]))))))))))) }
+        G36 = record { locals = List._++_ g23 t24; slots = List._∷_ (Row.lease (κs .0) (qs .0)) (List._∷_ (Row.lease (κs .1 .0) (qs .1 .0)) (List._∷_ (Row.lease (κs .1 .1 .0) (qs .1 .1 .0)) (List._∷_ Row.off (List._∷_ Row.off (List._∷_ Row.off (List._∷_ Row.off (List._∷_ Row.off (List._∷_ Row.alive (List._∷_ Row.alive (List._∷_ Row.alive (List._∷_ Row.alive (List._∷_ Row.off (List._∷_ Row.off List.[]))))))))))))) }
 
         abbrev G37 : Row.Cx
-        G37 = record { locals = List._++_ g21 t26; slots = List._∷_ (Row.lease (κs .0) (qs .0)) (List._∷_ (Row.lease (κs .1 .0) (qs .1 .0)) (List._∷_ (Row.lease (κs .1 .1 .0) (qs .1 .1 .0)) (List._∷_ Row.off (List._∷_ Row.off (List._∷_ Row.off (List._∷_ Row.off (List._∷_ Row.dead (List._∷_ Row.alive (List._∷_ Row.alive (List._∷_ Row.off (List._∷_ Row.off List.[]))))))))))) }
+        G37 = record { locals = List._++_ g23 t25; slots = List._∷_ (Row.lease (κs .0) (qs .0)) (List._∷_ (Row.lease (κs .1 .0) (qs .1 .0)) (List._∷_ (Row.lease (κs .1 .1 .0) (qs .1 .1 .0)) (List._∷_ Row.off (List._∷_ Row.off (List._∷_ Row.off (List._∷_ Row.off (List._∷_ Row.off (List._∷_ Row.alive (List._∷_ Row.alive (List._∷_ Row.alive (List._∷_ Row.alive (List._∷_ Row.off (List._∷_ Row.off List.[]))))))))))))) }
 
         abbrev G38 : Row.Cx
-        G38 = record { locals = List._++_ g27 t28; slots = List._∷_ (Row.lease (κs .0) (qs .0)) (List._∷_ (Row.lease (κs .1 .0) (qs .1 .0)) (List._∷_ (Row.lease (κs .1 .1 .0) (qs .1 .1 .0)) (List._∷_ (Row.lease (κs .1 .1 .1 .0) (qs .1 .1 .1 .0)) (List._∷_ Row.off (List._∷_ Row.off (List._∷_ Row.off (List._∷_ Row.dead (List._∷_ Row.alive (List._∷_ Row.alive (List._∷_ Row.off (List._∷_ Row.off List.[]))))))))))) }
+        G38 = record { locals = List._++_ g23 t26; slots = List._∷_ (Row.lease (κs .0) (qs .0)) (List._∷_ (Row.lease (κs .1 .0) (qs .1 .0)) (List._∷_ (Row.lease (κs .1 .1 .0) (qs .1 .1 .0)) (List._∷_ Row.off (List._∷_ Row.off (List._∷_ Row.off (List._∷_ Row.off (List._∷_ Row.off (List._∷_ Row.alive (List._∷_ Row.alive (List._∷_ Row.alive (List._∷_ Row.alive (List._∷_ Row.off (List._∷_ Row.off List.[]))))))))))))) }
 
         abbrev G39 : Row.Cx
-        G39 = record { locals = List._++_ g27 t28; slots = List._∷_ (Row.lease (κs .0) (qs .0)) (List._∷_ (Row.lease (κs .1 .0) (qs .1 .0)) (List._∷_ (Row.lease (κs .1 .1 .0) (qs .1 .1 .0)) (List._∷_ (Row.lease (κs .1 .1 .1 .0) (qs .1 .1 .1 .0)) (List._∷_ Row.off (List._∷_ Row.off (List._∷_ Row.off (List._∷_ Row.dead (List._∷_ Row.alive (List._∷_ Row.alive (List._∷_ Row.off (List._∷_ Row.off List.[]))))))))))) }
+        G39 = record { locals = List._++_ g23 t27; slots = List._∷_ (Row.lease (κs .0) (qs .0)) (List._∷_ (Row.lease (κs .1 .0) (qs .1 .0)) (List._∷_ (Row.lease (κs .1 .1 .0) (qs .1 .1 .0)) (List._∷_ Row.off (List._∷_ Row.off (List._∷_ Row.off (List._∷_ Row.off (List._∷_ Row.off (List._∷_ Row.alive (List._∷_ Row.alive (List._∷_ Row.alive (List._∷_ Row.alive (List._∷_ Row.off (List._∷_ Row.off List.[]))))))))))))) }
 
         abbrev G40 : Row.Cx
-        G40 = record { locals = List._++_ g27 t28; slots = List._∷_ (Row.lease (κs .0) (qs .0)) (List._∷_ (Row.lease (κs .1 .0) (qs .1 .0)) (List._∷_ (Row.lease (κs .1 .1 .0) (qs .1 .1 .0)) (List._∷_ (Row.lease (κs .1 .1 .1 .0) (qs .1 .1 .1 .0)) (List._∷_ Row.off (List._∷_ Row.off (List._∷_ Row.off (List._∷_ Row.off (List._∷_ Row.alive (List._∷_ Row.alive (List._∷_ Row.off (List._∷_ Row.off List.[]))))))))))) }
+        G40 = record { locals = List._++_ g23 t28; slots = List._∷_ (Row.lease (κs .0) (qs .0)) (List._∷_ (Row.lease (κs .1 .0) (qs .1 .0)) (List._∷_ (Row.lease (κs .1 .1 .0) (qs .1 .1 .0)) (List._∷_ Row.off (List._∷_ Row.off (List._∷_ Row.off (List._∷_ Row.off (List._∷_ Row.off (List._∷_ Row.alive (List._∷_ Row.alive (List._∷_ Row.alive (List._∷_ Row.alive (List._∷_ Row.off (List._∷_ Row.off List.[]))))))))))))) }
 
         abbrev G41 : Row.Cx
-        G41 = record { locals = List._++_ g27 t28; slots = List._∷_ (Row.lease (κs .0) (qs .0)) (List._∷_ (Row.lease (κs .1 .0) (qs .1 .0)) (List._∷_ (Row.lease (κs .1 .1 .0) (qs .1 .1 .0)) (List._∷_ (Row.lease (κs .1 .1 .1 .0) (qs .1 .1 .1 .0)) (List._∷_ Row.off (List._∷_ Row.off (List._∷_ Row.off (List._∷_ Row.off (List._∷_ Row.dead (List._∷_ Row.alive (List._∷_ Row.off (List._∷_ Row.off List.[]))))))))))) }
+        G41 = record { locals = List._++_ g23 t28; slots = List._∷_ (Row.lease (κs .0) (qs .0)) (List._∷_ (Row.lease (κs .1 .0) (qs .1 .0)) (List._∷_ (Row.lease (κs .1 .1 .0) (qs .1 .1 .0)) (List._∷_ Row.off (List._∷_ Row.off (List._∷_ Row.off (List._∷_ Row.off (List._∷_ Row.off (List._∷_ Row.dead (List._∷_ Row.alive (List._∷_ Row.alive (List._∷_ Row.alive (List._∷_ Row.off (List._∷_ Row.off List.[]))))))))))))) }
 
         abbrev G42 : Row.Cx
-        G42 = record { locals = List._++_ g29 t30; slots = List._∷_ (Row.lease (κs .0) (qs .0)) (List._∷_ (Row.lease (κs .1 .0) (qs .1 .0)) (List._∷_ (Row.lease (κs .1 .1 .0) (qs .1 .1 .0)) (List._∷_ (Row.lease (κs .1 .1 .1 .0) (qs .1 .1 .1 .0)) (List._∷_ (Row.lease (κs .1 .1 .1 .1 .0) (qs .1 .1 .1 .1 .0)) (List._∷_ Row.off (List._∷_ Row.off (List._∷_ Row.off (List._∷_ Row.dead (List._∷_ Row.alive (List._∷_ Row.off (List._∷_ Row.off List.[]))))))))))) }
+        G42 = record { locals = List._++_ g29 t30; slots = List._∷_ (Row.lease (κs .0) (qs .0)) (List._∷_ (Row.lease (κs .1 .0) (qs .1 .0)) (List._∷_ (Row.lease (κs .1 .1 .0) (qs .1 .1 .0)) (List._∷_ (Row.lease (κs .1 .1 .1 .0) (qs .1 .1 .1 .0)) (List._∷_ Row.off (List._∷_ Row.off (List._∷_ Row.off (List._∷_ Row.off (List._∷_ Row.dead (List._∷_ Row.alive (List._∷_ Row.alive (List._∷_ Row.alive (List._∷_ Row.off (List._∷_ Row.off List.[]))))))))))))) }
 
         abbrev G43 : Row.Cx
-        G43 = record { locals = List._++_ g29 t30; slots = List._∷_ (Row.lease (κs .0) (qs .0)) (List._∷_ (Row.lease (κs .1 .0) (qs .1 .0)) (List._∷_ (Row.lease (κs .1 .1 .0) (qs .1 .1 .0)) (List._∷_ (Row.lease (κs .1 .1 .1 .0) (qs .1 .1 .1 .0)) (List._∷_ (Row.lease (κs .1 .1 .1 .1 .0) (qs .1 .1 .1 .1 .0)) (List._∷_ Row.off (List._∷_ Row.off (List._∷_ Row.off (List._∷_ Row.dead (List._∷_ Row.alive (List._∷_ Row.off (List._∷_ Row.off List.[]))))))))))) }
+        G43 = record { locals = List._++_ g29 t30; slots = List._∷_ (Row.lease (κs .0) (qs .0)) (List._∷_ (Row.lease (κs .1 .0) (qs .1 .0)) (List._∷_ (Row.lease (κs .1 .1 .0) (qs .1 .1 .0)) (List._∷_ (Row.lease (κs .1 .1 .1 .0) (qs .1 .1 .1 .0)) (List._∷_ Row.off (List._∷_ Row.off (List._∷_ Row.off (List._∷_ Row.off (List._∷_ Row.dead (List._∷_ Row.alive (List._∷_ Row.alive (List._∷_ Row.alive (List._∷_ Row.off (List._∷_ Row.off List.[]))))))))))))) }
 
         abbrev G44 : Row.Cx
-        G44 = record { locals = List._++_ g29 t30; slots = List._∷_ (Row.lease (κs .0) (qs .0)) (List._∷_ (Row.lease (κs .1 .0) (qs .1 .0)) (List._∷_ (Row.lease (κs .1 .1 .0) (qs .1 .1 .0)) (List._∷_ (Row.lease (κs .1 .1 .1 .0) (qs .1 .1 .1 .0)) (List._∷_ (Row.lease (κs .1 .1 .1 .1 .0) (qs .1 .1 .1 .1 .0)) (List._∷_ Row.off (List._∷_ Row.off (List._∷_ Row.off (List._∷_ Row.off (List._∷_ Row.alive (List._∷_ Row.off (List._∷_ Row.off List.[]))))))))))) }
+        G44 = record { locals = List._++_ g29 t30; slots = List._∷_ (Row.lease (κs .0) (qs .0)) (List._∷_ (Row.lease (κs .1 .0) (qs .1 .0)) (List._∷_ (Row.lease (κs .1 .1 .0) (qs .1 .1 .0)) (List._∷_ (Row.lease (κs .1 .1 .1 .0) (qs .1 .1 .1 .0)) (List._∷_ Row.off (List._∷_ Row.off (List._∷_ Row.off (List._∷_ Row.off (List._∷_ Row.off (List._∷_ Row.alive (List._∷_ Row.alive (List._∷_ Row.alive (List._∷_ Row.off (List._∷_ Row.off List.[]))))))))))))) }
 
         abbrev G45 : Row.Cx
-        G45 = record { locals = List._++_ g29 t30; slots = List._∷_ (Row.lease (κs .0) (qs .0)) (List._∷_ (Row.lease (κs .1 .0) (qs .1 .0)) (List._∷_ (Row.lease (κs .1 .1 .0) (qs .1 .1 .0)) (List._∷_ (Row.lease (κs .1 .1 .1 .0) (qs .1 .1 .1 .0)) (List._∷_ (Row.lease (κs .1 .1 .1 .1 .0) (qs .1 .1 .1 .1 .0)) (List._∷_ Row.off (List._∷_ Row.off (List._∷_ Row.off (List._∷_ Row.off (List._∷_ Row.dead (List._∷_ Row.off (List._∷_ Row.off List.[]))))))))))) }
+        G45 = record { locals = List._++_ g29 t30; slots = List._∷_ (Row.lease (κs .0) (qs .0)) (List._∷_ (Row.lease (κs .1 .0) (qs .1 .0)) (List._∷_ (Row.lease (κs .1 .1 .0) (qs .1 .1 .0)) (List._∷_ (Row.lease (κs .1 .1 .1 .0) (qs .1 .1 .1 .0)) (List._∷_ Row.off (List._∷_ Row.off (List._∷_ Row.off (List._∷_ Row.off (List._∷_ Row.off (List._∷_ Row.dead (List._∷_ Row.alive (List._∷_ Row.alive (List._∷_ Row.off (List._∷_ Row.off List.[]))))))))))))) }
 
         abbrev G46 : Row.Cx
-        G46 = record { locals = List._++_ t14 t1; slots = List._∷_ (Row.lease (κs .0) (qs .0)) (List._∷_ (Row.lease (κs .1 .0) (qs .1 .0)) (List._∷_ (Row.lease (κs .1 .1 .0) (qs .1 .1 .0)) (List._∷_ (Row.lease (κs .1 .1 .1 .0) (qs .1 .1 .1 .0)) (List._∷_ (Row.lease (κs .1 .1 .1 .1 .0) (qs .1 .1 .1 .1 .0)) (List._∷_ (Row.lease (κs .1 .1 .1 .1 .1 .0) (qs .1 .1 .1 .1 .1 .0)) (List._∷_ Row.off (List._∷_ Row.off (List._∷_ Row.off (List._∷_ Row.dead (List._∷_ Row.off (List._∷_ Row.off List.[]))))))))))) }
+        G46 = record { locals = List._++_ g31 t32; slots = List._∷_ (Row.lease (κs .0) (qs .0)) (List._∷_ (Row.lease (κs .1 .0) (qs .1 .0)) (List._∷_ (Row.lease (κs .1 .1 .0) (qs .1 .1 .0)) (List._∷_ (Row.lease (κs .1 .1 .1 .0) (qs .1 .1 .1 .0)) (List._∷_ (Row.lease (κs .1 .1 .1 .1 .0) (qs .1 .1 .1 .1 .0)) (List._∷_ Row.off (List._∷_ Row.off (List._∷_ Row.off (List._∷_ Row.off (List._∷_ Row.dead (List._∷_ Row.alive (List._∷_ Row.alive (List._∷_ Row.off (List._∷_ Row.off List.[]))))))))))))) }
 
         abbrev G47 : Row.Cx
-        G47 = record { locals = List._++_ t14 t1; slots = List._∷_ (Row.lease (κs .0) (qs .0)) (List._∷_ (Row.lease (κs .1 .0) (qs .1 .0)) (List._∷_ (Row.lease (κs .1 .1 .0) (qs .1 .1 .0)) (List._∷_ (Row.lease (κs .1 .1 .1 .0) (qs .1 .1 .1 .0)) (List._∷_ (Row.lease (κs .1 .1 .1 .1 .0) (qs .1 .1 .1 .1 .0)) (List._∷_ (Row.lease (κs .1 .1 .1 .1 .1 .0) (qs .1 .1 .1 .1 .1 .0)) (List._∷_ Row.off (List._∷_ Row.off (List._∷_ Row.off (List._∷_ Row.dead (List._∷_ Row.off (List._∷_ Row.off List.[]))))))))))) }
+        G47 = record { locals = List._++_ g31 t32; slots = List._∷_ (Row.lease (κs .0) (qs .0)) (List._∷_ (Row.lease (κs .1 .0) (qs .1 .0)) (List._∷_ (Row.lease (κs .1 .1 .0) (qs .1 .1 .0)) (List._∷_ (Row.lease (κs .1 .1 .1 .0) (qs .1 .1 .1 .0)) (List._∷_ (Row.lease (κs .1 .1 .1 .1 .0) (qs .1 .1 .1 .1 .0)) (List._∷_ Row.off (List._∷_ Row.off (List._∷_ Row.off (List._∷_ Row.off (List._∷_ Row.dead (List._∷_ Row.alive (List._∷_ Row.alive (List._∷_ Row.off (List._∷_ Row.off List.[]))))))))))))) }
 
         abbrev G48 : Row.Cx
-        G48 = record { locals = List._++_ t14 t1; slots = List._∷_ (Row.lease (κs .0) (qs .0)) (List._∷_ (Row.lease (κs .1 .0) (qs .1 .0)) (List._∷_ (Row.lease (κs .1 .1 .0) (qs .1 .1 .0)) (List._∷_ (Row.lease (κs .1 .1 .1 .0) (qs .1 .1 .1 .0)) (List._∷_ (Row.lease (κs .1 .1 .1 .1 .0) (qs .1 .1 .1 .1 .0)) (List._∷_ (Row.lease (κs .1 .1 .1 .1 .1 .0) (qs .1 .1 .1 .1 .1 .0)) (List._∷_ Row.off (List._∷_ Row.off (List._∷_ Row.off (List._∷_ Row.off (List._∷_ Row.off (List._∷_ Row.off List.[]))))))))))) }
+        G48 = record { locals = List._++_ g31 t32; slots = List._∷_ (Row.lease (κs .0) (qs .0)) (List._∷_ (Row.lease (κs .1 .0) (qs .1 .0)) (List._∷_ (Row.lease (κs .1 .1 .0) (qs .1 .1 .0)) (List._∷_ (Row.lease (κs .1 .1 .1 .0) (qs .1 .1 .1 .0)) (List._∷_ (Row.lease (κs .1 .1 .1 .1 .0) (qs .1 .1 .1 .1 .0)) (List._∷_ Row.off (List._∷_ Row.off (List._∷_ Row.off (List._∷_ Row.off (List._∷_ Row.off (List._∷_ Row.alive (List._∷_ Row.alive (List._∷_ Row.off (List._∷_ Row.off List.[]))))))))))))) }
 
         abbrev G49 : Row.Cx
-        G49 = record { locals = List._++_ t14 t1; slots = List._∷_ (Row.lease (κs .0) (qs .0)) (List._∷_ (Row.lease (κs .1 .0) (qs .1 .0)) (List._∷_ (Row.lease (κs .1 .1 .0) (qs .1 .1 .0)) (List._∷_ (Row.lease (κs .1 .1 .1 .0) (qs .1 .1 .1 .0)) (List._∷_ (Row.lease (κs .1 .1 .1 .1 .0) (qs .1 .1 .1 .1 .0)) (List._∷_ (Row.lease (κs .1 .1 .1 .1 .1 .0) (qs .1 .1 .1 .1 .1 .0)) (List._∷_ Row.off (List._∷_ Row.off (List._∷_ Row.off (List._∷_ Row.off (List._∷_ Row.alive (List._∷_ Row.off List.[]))))))))))) }
+        G49 = record { locals = List._++_ g31 t32; slots = List._∷_ (Row.lease (κs .0) (qs .0)) (List._∷_ (Row.lease (κs .1 .0) (qs .1 .0)) (List._∷_ (Row.lease (κs .1 .1 .0) (qs .1 .1 .0)) (List._∷_ (Row.lease (κs .1 .1 .1 .0) (qs .1 .1 .1 .0)) (List._∷_ (Row.lease (κs .1 .1 .1 .1 .0) (qs .1 .1 .1 .1 .0)) (List._∷_ Row.off (List._∷_ Row.off (List._∷_ Row.off (List._∷_ Row.off (List._∷_ Row.off (List._∷_ Row.dead (List._∷_ Row.alive (List._∷_ Row.off (List._∷_ Row.off List.[]))))))))))))) }
 
         abbrev G50 : Row.Cx
-        G50 = record { locals = List._++_ g31 t32; slots = List._∷_ (Row.lease (κs .0) (qs .0)) (List._∷_ (Row.lease (κs .1 .0) (qs .1 .0)) (List._∷_ (Row.lease (κs .1 .1 .0) (qs .1 .1 .0)) (List._∷_ Row.off (List._∷_ (Row.lease (κs .1 .1 .1 .1 .0) (qs .1 .1 .1 .1 .0)) (List._∷_ (Row.lease (κs .1 .1 .1 .1 .1 .0) (qs .1 .1 .1 .1 .1 .0)) (List._∷_ Row.off (List._∷_ Row.off (List._∷_ Row.off (List._∷_ Row.off (List._∷_ Row.alive (List._∷_ Row.off List.[]))))))))))) }
+        G50 = record { locals = List._++_ g33 t34; slots = List._∷_ (Row.lease (κs .0) (qs .0)) (List._∷_ (Row.lease (κs .1 .0) (qs .1 .0)) (List._∷_ (Row.lease (κs .1 .1 .0) (qs .1 .1 .0)) (List._∷_ (Row.lease (κs .1 .1 .1 .0) (qs .1 .1 .1 .0)) (List._∷_ (Row.lease (κs .1 .1 .1 .1 .0) (qs .1 .1 .1 .1 .0)) (List._∷_ (Row.lease (κs .1 .1 .1 .1 .1 .0) (qs .1 .1 .1 .1 .1 .0)) (List._∷_ Row.off (List._∷_ Row.off (List._∷_ Row.off (List._∷_ Row.off (List._∷_ Row.dead (List._∷_ Row.alive (List._∷_ Row.off (List._∷_ Row.off List.[]))))))))))))) }
 
         abbrev G51 : Row.Cx
-        G51 = record { locals = List._++_ g31 t33; slots = List._∷_ (Row.lease (κs .0) (qs .0)) (List._∷_ (Row.lease (κs .1 .0) (qs .1 .0)) (List._∷_ (Row.lease (κs .1 .1 .0) (qs .1 .1 .0)) (List._∷_ Row.off (List._∷_ (Row.lease (κs .1 .1 .1 .1 .0) (qs .1 .1 .1 .1 .0)) (List._∷_ (Row.lease (κs .1 .1 .1 .1 .1 .0) (qs .1 .1 .1 .1 .1 .0)) (List._∷_ Row.off (List._∷_ Row.off (List._∷_ Row.off (List._∷_ Row.off (List._∷_ Row.alive (List._∷_ Row.off List.[]))))))))))) }
+        G51 = record { locals = List._++_ g33 t34; slots = List._∷_ (Row.lease (κs .0) (qs .0)) (List._∷_ (Row.lease (κs .1 .0) (qs .1 .0)) (List._∷_ (Row.lease (κs .1 .1 .0) (qs .1 .1 .0)) (List._∷_ (Row.lease (κs .1 .1 .1 .0) (qs .1 .1 .1 .0)) (List._∷_ (Row.lease (κs .1 .1 .1 .1 .0) (qs .1 .1 .1 .1 .0)) (List._∷_ (Row.lease (κs .1 .1 .1 .1 .1 .0) (qs .1 .1 .1 .1 .1 .0)) (List._∷_ Row.off (List._∷_ Row.off (List._∷_ Row.off (List._∷_ Row.off (List._∷_ Row.dead (List._∷_ Row.alive (List._∷_ Row.off (List._∷_ Row.off List.[]))))))))))))) }
 
         abbrev G52 : Row.Cx
-        G52 = record { locals = List._++_ g31 t33; slots = List._∷_ (Row.lease (κs .0) (qs .0)) (List._∷_ (Row.lease (κs .1 .0) (qs .1 .0)) (List._∷_ (Row.lease (κs .1 .1 .0) (qs .1 .1 .0)) (List._∷_ Row.off (List._∷_ (Row.lease (κs .1 .1 .1 .1 .0) (qs .1 .1 .1 .1 .0)) (List._∷_ (Row.lease (κs .1 .1 .1 .1 .1 .0) (qs .1 .1 .1 .1 .1 .0)) (List._∷_ Row.off (List._∷_ Row.off (List._∷_ Row.off (List._∷_ Row.off (List._∷_ Row.alive (List._∷_ Row.alive List.[]))))))))))) }
+        G52 = record { locals = List._++_ g33 t34; slots = List._∷_ (Row.lease (κs .0) (qs .0)) (List._∷_ (Row.lease (κs .1 .0) (qs .1 .0)) (List._∷_ (Row.lease (κs .1 .1 .0) (qs .1 .1 .0)) (List._∷_ (Row.lease (κs .1 .1 .1 .0) (qs .1 .1 .1 .0)) (List._∷_ (Row.lease (κs .1 .1 .1 .1 .0) (qs .1 .1 .1 .1 .0)) (List._∷_ (Row.lease (κs .1 .1 .1 .1 .1 .0) (qs .1 .1 .1 .1 .1 .0)) (List._∷_ Row.off (List._∷_ Row.off (List._∷_ Row.off (List._∷_ Row.off (List._∷_ Row.off (List._∷_ Row.alive (List._∷_ Row.off (List._∷_ Row.off List.[]))))))))))))) }
 
         abbrev G53 : Row.Cx
-        G53 = record { locals = List._++_ g34 t35; slots = List._∷_ (Row.lease (κs .0) (qs .0)) (List._∷_ (Row.lease (κs .1 .0) (qs .1 .0)) (List._∷_ (Row.lease (κs .1 .1 .0) (qs .1 .1 .0)) (List._∷_ Row.off (List._∷_ Row.off (List._∷_ (Row.lease (κs .1 .1 .1 .1 .1 .0) (qs .1 .1 .1 .1 .1 .0)) (List._∷_ Row.off (List._∷_ Row.off (List._∷_ Row.off (List._∷_ Row.off (List._∷_ Row.alive (List._∷_ Row.alive List.[]))))))))))) }
+        G53 = record { locals = List._++_ g33 t34; slots = List._∷_ (Row.lease (κs .0) (qs .0)) (List._∷_ (Row.lease (κs .1 .0) (qs .1 .0)) (List._∷_ (Row.lease (κs .1 .1 .0) (qs .1 .1 .0)) (List._∷_ (Row.lease (κs .1 .1 .1 .0) (qs .1 .1 .1 .0)) (List._∷_ (Row.lease (κs .1 .1 .1 .1 .0) (qs .1 .1 .1 .1 .0)) (List._∷_ (Row.lease (κs .1 .1 .1 .1 .1 .0) (qs .1 .1 .1 .1 .1 .0)) (List._∷_ Row.off (List._∷_ Row.off (List._∷_ Row.off (List._∷_ Row.off (List._∷_ Row.off (List._∷_ Row.dead (List._∷_ Row.off (List._∷_ Row.off List.[]))))))))))))) }
 
         abbrev G54 : Row.Cx
-        G54 = record { locals = List._++_ g34 t36; slots = List._∷_ (Row.lease (κs .0) (qs .0)) (List._∷_ (Row.lease (κs .1 .0) (qs .1 .0)) (List._∷_ (Row.lease (κs .1 .1 .0) (qs .1 .1 .0)) (List._∷_ Row.off (List._∷_ Row.off (List._∷_ (Row.lease (κs .1 .1 .1 .1 .1 .0) (qs .1 .1 .1 .1 .1 .0)) (List._∷_ Row.off (List._∷_ Row.off (List._∷_ Row.off (List._∷_ Row.off (List._∷_ Row.alive (List._∷_ Row.alive List.[]))))))))))) }
+        G54 = record { locals = List._++_ t13 t1; slots = List._∷_ (Row.lease (κs .0) (qs .0)) (List._∷_ (Row.lease (κs .1 .0) (qs .1 .0)) (List._∷_ (Row.lease (κs .1 .1 .0) (qs .1 .1 .0)) (List._∷_ (Row.lease (κs .1 .1 .1 .0) (qs .1 .1 .1 .0)) (List._∷_ (Row.lease (κs .1 .1 .1 .1 .0) (qs .1 .1 .1 .1 .0)) (List._∷_ (Row.lease (κs .1 .1 .1 .1 .1 .0) (qs .1 .1 .1 .1 .1 .0)) (List._∷_ (Row.lease (κs .1 .1 .1 .1 .1 .1 .0) (qs .1 .1 .1 .1 .1 .1 .0)) (List._∷_ Row.off (List._∷_ Row.off (List._∷_ Row.off (List._∷_ Row.off (List._∷_ Row.dead (List._∷_ Row.off (List._∷_ Row.off List.[]))))))))))))) }
 
         abbrev G55 : Row.Cx
-        G55 = record { locals = List._++_ g34 t36; slots = List._∷_ (Row.lease (κs .0) (qs .0)) (List._∷_ (Row.lease (κs .1 .0) (qs .1 .0)) (List._∷_ (Row.lease (κs .1 .1 .0) (qs .1 .1 .0)) (List._∷_ Row.off (List._∷_ Row.off (List._∷_ (Row.lease (κs .1 .1 .1 .1 .1 .0) (qs .1 .1 .1 .1 .1 .0)) (List._∷_ Row.off (List._∷_ Row.off (List._∷_ Row.off (List._∷_ Row.off (List._∷_ Row.alive (List._∷_ Row.alive List.[]))))))))))) }
+        G55 = record { locals = List._++_ t13 t1; slots = List._∷_ (Row.lease (κs .0) (qs .0)) (List._∷_ (Row.lease (κs .1 .0) (qs .1 .0)) (List._∷_ (Row.lease (κs .1 .1 .0) (qs .1 .1 .0)) (List._∷_ (Row.lease (κs .1 .1 .1 .0) (qs .1 .1 .1 .0)) (List._∷_ (Row.lease (κs .1 .1 .1 .1 .0) (qs .1 .1 .1 .1 .0)) (List._∷_ (Row.lease (κs .1 .1 .1 .1 .1 .0) (qs .1 .1 .1 .1 .1 .0)) (List._∷_ (Row.lease (κs .1 .1 .1 .1 .1 .1 .0) (qs .1 .1 .1 .1 .1 .1 .0)) (List._∷_ Row.off (List._∷_ Row.off (List._∷_ Row.off (List._∷_ Row.off (List._∷_ Row.dead (List._∷_ Row.off (List._∷_ Row.off List.[]))))))))))))) }
 
         abbrev G56 : Row.Cx
-        G56 = record { locals = List._++_ g34 t37; slots = List._∷_ (Row.lease (κs .0) (qs .0)) (List._∷_ (Row.lease (κs .1 .0) (qs .1 .0)) (List._∷_ (Row.lease (κs .1 .1 .0) (qs .1 .1 .0)) (List._∷_ Row.off (List._∷_ Row.off (List._∷_ (Row.lease (κs .1 .1 .1 .1 .1 .0) (qs .1 .1 .1 .1 .1 .0)) (List._∷_ Row.off (List._∷_ Row.off (List._∷_ Row.off (List._∷_ Row.off (List._∷_ Row.alive (List._∷_ Row.alive List.[]))))))))))) }
+        G56 = record { locals = List._++_ t13 t1; slots = List._∷_ (Row.lease (κs .0) (qs .0)) (List._∷_ (Row.lease (κs .1 .0) (qs .1 .0)) (List._∷_ (Row.lease (κs .1 .1 .0) (qs .1 .1 .0)) (List._∷_ (Row.lease (κs .1 .1 .1 .0) (qs .1 .1 .1 .0)) (List._∷_ (Row.lease (κs .1 .1 .1 .1 .0) (qs .1 .1 .1 .1 .0)) (List._∷_ (Row.lease (κs .1 .1 .1 .1 .1 .0) (qs .1 .1 .1 .1 .1 .0)) (List._∷_ (Row.lease (κs .1 .1 .1 .1 .1 .1 .0) (qs .1 .1 .1 .1 .1 .1 .0)) (List._∷_ Row.off (List._∷_ Row.off (List._∷_ Row.off (List._∷_ Row.off (List._∷_ Row.off (List._∷_ Row.off (List._∷_ Row.off List.[]))))))))))))) }
 
         abbrev G57 : Row.Cx
-        G57 = record { locals = List._++_ g34 t1; slots = List._∷_ (Row.lease (κs .0) (qs .0)) (List._∷_ (Row.lease (κs .1 .0) (qs .1 .0)) (List._∷_ (Row.lease (κs .1 .1 .0) (qs .1 .1 .0)) (List._∷_ Row.off (List._∷_ Row.off (List._∷_ (Row.lease (κs .1 .1 .1 .1 .1 .0) (qs .1 .1 .1 .1 .1 .0)) (List._∷_ Row.off (List._∷_ Row.off (List._∷_ Row.off (List._∷_ Row.off (List._∷_ Row.alive (List._∷_ Row.alive List.[]))))))))))) }
+        G57 = record { locals = List._++_ t13 t1; slots = List._∷_ (Row.lease (κs .0) (qs .0)) (List._∷_ (Row.lease (κs .1 .0) (qs .1 .0)) (List._∷_ (Row.lease (κs .1 .1 .0) (qs .1 .1 .0)) (List._∷_ (Row.lease (κs .1 .1 .1 .0) (qs .1 .1 .1 .0)) (List._∷_ (Row.lease (κs .1 .1 .1 .1 .0) (qs .1 .1 .1 .1 .0)) (List._∷_ (Row.lease (κs .1 .1 .1 .1 .1 .0) (qs .1 .1 .1 .1 .1 .0)) (List._∷_ (Row.lease (κs .1 .1 .1 .1 .1 .1 .0) (qs .1 .1 .1 .1 .1 .1 .0)) (List._∷_ Row.off (List._∷_ Row.off (List._∷_ Row.off (List._∷_ Row.off (List._∷_ Row.off (List._∷_ Row.alive (List._∷_ Row.off List.[]))))))))))))) }
 
         abbrev G58 : Row.Cx
-        G58 = record { locals = List._++_ g38 t1; slots = List._∷_ (Row.lease (κs .0) (qs .0)) (List._∷_ (Row.lease (κs .1 .0) (qs .1 .0)) (List._∷_ (Row.lease (κs .1 .1 .0) (qs .1 .1 .0)) (List._∷_ Row.off (List._∷_ Row.off (List._∷_ (Row.lease (κs .1 .1 .1 .1 .1 .0) (qs .1 .1 .1 .1 .1 .0)) (List._∷_ Row.off (List._∷_ Row.off (List._∷_ Row.off (List._∷_ Row.off (List._∷_ Row.alive (List._∷_ Row.alive List.[]))))))))))) }
+        G58 = record { locals = List._++_ g35 t36; slots = List._∷_ (Row.lease (κs .0) (qs .0)) (List._∷_ (Row.lease (κs .1 .0) (qs .1 .0)) (List._∷_ (Row.lease (κs .1 .1 .0) (qs .1 .1 .0)) (List._∷_ Row.off (List._∷_ (Row.lease (κs .1 .1 .1 .1 .0) (qs .1 .1 .1 .1 .0)) (List._∷_ (Row.lease (κs .1 .1 .1 .1 .1 .0) (qs .1 .1 .1 .1 .1 .0)) (List._∷_ (Row.lease (κs .1 .1 .1 .1 .1 .1 .0) (qs .1 .1 .1 .1 .1 .1 .0)) (List._∷_ Row.off (List._∷_ Row.off (List._∷_ Row.off (List._∷_ Row.off (List._∷_ Row.off (List._∷_ Row.alive (List._∷_ Row.off List.[]))))))))))))) }
 
         abbrev G59 : Row.Cx
-        G59 = record { locals = List._++_ g38 t1; slots = List._∷_ (Row.lease (κs .0) (qs .0)) (List._∷_ (Row.lease (κs .1 .0) (qs .1 .0)) (List._∷_ (Row.lease (κs .1 .1 .0) (qs .1 .1 .0)) (List._∷_ Row.off (List._∷_ Row.off (List._∷_ (Row.lease (κs .1 .1 .1 .1 .1 .0) (qs .1 .1 .1 .1 .1 .0)) (List._∷_ Row.off (List._∷_ Row.off (List._∷_ Row.off (List._∷_ Row.off (List._∷_ Row.dead (List._∷_ Row.alive List.[]))))))))))) }
+        G59 = record { locals = List._++_ g35 t37; slots = List._∷_ (Row.lease (κs .0) (qs .0)) (List._∷_ (Row.lease (κs .1 .0) (qs .1 .0)) (List._∷_ (Row.lease (κs .1 .1 .0) (qs .1 .1 .0)) (List._∷_ Row.off (List._∷_ (Row.lease (κs .1 .1 .1 .1 .0) (qs .1 .1 .1 .1 .0)) (List._∷_ (Row.lease (κs .1 .1 .1 .1 .1 .0) (qs .1 .1 .1 .1 .1 .0)) (List._∷_ (Row.lease (κs .1 .1 .1 .1 .1 .1 .0) (qs .1 .1 .1 .1 .1 .1 .0)) (List._∷_ Row.off (List._∷_ Row.off (List._∷_ Row.off (List._∷_ Row.off (List._∷_ Row.off (List._∷_ Row.alive (List._∷_ Row.off List.[]))))))))))))) }
 
         abbrev G60 : Row.Cx
-        G60 = record { locals = List._++_ g39 t1; slots = List._∷_ (Row.lease (κs .0) (qs .0)) (List._∷_ (Row.lease (κs .1 .0) (qs .1 .0)) (List._∷_ (Row.lease (κs .1 .1 .0) (qs .1 .1 .0)) (List._∷_ (Row.lease (κs .1 .1 .1 .0) (qs .1 .1 .1 .0)) (List._∷_ Row.off (List._∷_ (Row.lease (κs .1 .1 .1 .1 .1 .0) (qs .1 .1 .1 .1 .1 .0)) (List._∷_ Row.off (List._∷_ Row.off (List._∷_ Row.off (List._∷_ Row.off (List._∷_ Row.dead (List._∷_ Row.alive List.[]))))))))))) }
+        G60 = record { locals = List._++_ g35 t37; slots = List._∷_ (Row.lease (κs .0) (qs .0)) (List._∷_ (Row.lease (κs .1 .0) (qs .1 .0)) (List._∷_ (Row.lease (κs .1 .1 .0) (qs .1 .1 .0)) (List._∷_ Row.off (List._∷_ (Row.lease (κs .1 .1 .1 .1 .0) (qs .1 .1 .1 .1 .0)) (List._∷_ (Row.lease (κs .1 .1 .1 .1 .1 .0) (qs .1 .1 .1 .1 .1 .0)) (List._∷_ (Row.lease (κs .1 .1 .1 .1 .1 .1 .0) (qs .1 .1 .1 .1 .1 .1 .0)) (List._∷_ Row.off (List._∷_ Row.off (List._∷_ Row.off (List._∷_ Row.off (List._∷_ Row.off (List._∷_ Row.alive (List._∷_ Row.alive List.[]))))))))))))) }
 
         abbrev G61 : Row.Cx
-        G61 = record { locals = List._++_ g39 t1; slots = List._∷_ (Row.lease (κs .0) (qs .0)) (List._∷_ (Row.lease (κs .1 .0) (qs .1 .0)) (List._∷_ (Row.lease (κs .1 .1 .0) (qs .1 .1 .0)) (List._∷_ (Row.lease (κs .1 .1 .1 .0) (qs .1 .1 .1 .0)) (List._∷_ Row.off (List._∷_ (Row.lease (κs .1 .1 .1 .1 .1 .0) (qs .1 .1 .1 .1 .1 .0)) (List._∷_ Row.off (List._∷_ Row.off (List._∷_ Row.off (List._∷_ Row.off (List._∷_ Row.off (List._∷_ Row.alive List.[]))))))))))) }
+        G61 = record { locals = List._++_ g38 t39; slots = List._∷_ (Row.lease (κs .0) (qs .0)) (List._∷_ (Row.lease (κs .1 .0) (qs .1 .0)) (List._∷_ (Row.lease (κs .1 .1 .0) (qs .1 .1 .0)) (List._∷_ Row.off (List._∷_ Row.off (List._∷_ (Row.lease (κs .1 .1 .1 .1 .1 .0) (qs .1 .1 .1 .1 .1 .0)) (List._∷_ (Row.lease (κs .1 .1 .1 .1 .1 .1 .0) (qs .1 .1 .1 .1 .1 .1 .0)) (List._∷_ Row.off (List._∷_ Row.off (List._∷_ Row.off (List._∷_ Row.off (List._∷_ Row.off (List._∷_ Row.alive (List._∷_ Row.alive List.[]))))))))))))) }
 
         abbrev G62 : Row.Cx
-        G62 = record { locals = List._++_ g39 t1; slots = List._∷_ (Row.lease (κs .0) (qs .0)) (List._∷_ (Row.lease (κs .1 .0) (qs .1 .0)) (List._∷_ (Row.lease (κs .1 .1 .0) (qs .1 .1 .0)) (List._∷_ (Row.lease (κs .1 .1 .1 .0) (qs .1 .1 .1 .0)) (List._∷_ Row.off (List._∷_ (Row.lease (κs .1 .1 .1 .1 .1 .0) (qs .1 .1 .1 .1 .1 .0)) (List._∷_ Row.off (List._∷_ Row.off (List._∷_ Row.off (List._∷_ Row.off (List._∷_ Row.off (List._∷_ Row.dead List.[]))))))))))) }
+        G62 = record { locals = List._++_ g38 t40; slots = List._∷_ (Row.lease (κs .0) (qs .0)) (List._∷_ (Row.lease (κs .1 .0) (qs .1 .0)) (List._∷_ (Row.lease (κs .1 .1 .0) (qs .1 .1 .0)) (List._∷_ Row.off (List._∷_ Row.off (List._∷_ (Row.lease (κs .1 .1 .1 .1 .1 .0) (qs .1 .1 .1 .1 .1 .0)) (List._∷_ (Row.lease (κs .1 .1 .1 .1 .1 .1 .0) (qs .1 .1 .1 .1 .1 .1 .0)) (List._∷_ Row.off (List._∷_ Row.off (List._∷_ Row.off (List._∷_ Row.off (List._∷_ Row.off (List._∷_ Row.alive (List._∷_ Row.alive List.[]))))))))))))) }
 
         abbrev G63 : Row.Cx
-        G63 = record { locals = List._++_ t13 t1; slots = List._∷_ (Row.lease (κs .0) (qs .0)) (List._∷_ (Row.lease (κs .1 .0) (qs .1 .0)) (List._∷_ (Row.lease (κs .1 .1 .0) (qs .1 .1 .0)) (List._∷_ (Row.lease (κs .1 .1 .1 .0) (qs .1 .1 .1 .0)) (List._∷_ (Row.lease (κs .1 .1 .1 .1 .0) (qs .1 .1 .1 .1 .0)) (List._∷_ (Row.lease (κs .1 .1 .1 .1 .1 .0) (qs .1 .1 .1 .1 .1 .0)) (List._∷_ Row.off (List._∷_ Row.off (List._∷_ Row.off (List._∷_ Row.off (List._∷_ Row.off (List._∷_ Row.dead List.[]))))))))))) }
+        G63 = record { locals = List._++_ g38 t40; slots = List._∷_ (Row.lease (κs .0) (qs .0)) (List._∷_ (Row.lease (κs .1 .0) (qs .1 .0)) (List._∷_ (Row.lease (κs .1 .1 .0) (qs .1 .1 .0)) (List._∷_ Row.off (List._∷_ Row.off (List._∷_ (Row.lease (κs .1 .1 .1 .1 .1 .0) (qs .1 .1 .1 .1 .1 .0)) (List._∷_ (Row.lease (κs .1 .1 .1 .1 .1 .1 .0) (qs .1 .1 .1 .1 .1 .1 .0)) (List._∷_ Row.off (List._∷_ Row.off (List._∷_ Row.off (List._∷_ Row.off (List._∷_ Row.off (List._∷_ Row.alive (List._∷_ Row.alive List.[]))))))))))))) }
 
         abbrev G64 : Row.Cx
-        G64 = record { locals = List._++_ t13 t1; slots = List._∷_ (Row.lease (κs .0) (qs .0)) (List._∷_ (Row.lease (κs .1 .0) (qs .1 .0)) (List._∷_ (Row.lease (κs .1 .1 .0) (qs .1 .1 .0)) (List._∷_ (Row.lease (κs .1 .1 .1 .0) (qs .1 .1 .1 .0)) (List._∷_ (Row.lease (κs .1 .1 .1 .1 .0) (qs .1 .1 .1 .1 .0)) (List._∷_ (Row.lease (κs .1 .1 .1 .1 .1 .0) (qs .1 .1 .1 .1 .1 .0)) (List._∷_ Row.off (List._∷_ Row.off (List._∷_ Row.off (List._∷_ Row.off (List._∷_ Row.off (List._∷_ Row.off List.[]))))))))))) }
+        G64 = record { locals = List._++_ g38 t41; slots = List._∷_ (Row.lease (κs .0) (qs .0)) (List._∷_ (Row.lease (κs .1 .0) (qs .1 .0)) (List._∷_ (Row.lease (κs .1 .1 .0) (qs .1 .1 .0)) (List._∷_ Row.off (List._∷_ Row.off (List._∷_ (Row.lease (κs .1 .1 .1 .1 .1 .0) (qs .1 .1 .1 .1 .1 .0)) (List._∷_ (Row.lease (κs .1 .1 .1 .1 .1 .1 .0) (qs .1 .1 .1 .1 .1 .1 .0)) (List._∷_ Row.off (List._∷_ Row.off (List._∷_ Row.off (List._∷_ Row.off (List._∷_ Row.off (List._∷_ Row.alive (List._∷_ Row.alive List.[]))))))))))))) }
 
         abbrev G65 : Row.Cx
-        G65 = record { locals = List._++_ t13 t1; slots = List._∷_ (Row.lease (κs .0) (qs .0)) (List._∷_ (Row.lease (κs .1 .0) (qs .1 .0)) (List._∷_ (Row.lease (κs .1 .1 .0) (qs .1 .1 .0)) (List._∷_ (Row.lease (κs .1 .1 .1 .0) (qs .1 .1 .1 .0)) (List._∷_ (Row.lease (κs .1 .1 .1 .1 .0) (qs .1 .1 .1 .1 .0)) (List._∷_ (Row.lease (κs .1 .1 .1 .1 .1 .0) (qs .1 .1 .1 .1 .1 .0)) (List._∷_ Row.off (List._∷_ Row.off (List._∷_ Row.off (List._∷_ Row.off (List._∷_ Row.off (List._∷_ Row.off List.[]))))))))))) }
+        G65 = record { locals = List._++_ g38 t1; slots = List._∷_ (Row.lease (κs .0) (qs .0)) (List._∷_ (Row.lease (κs .1 .0) (qs .1 .0)) (List._∷_ (Row.lease (κs .1 .1 .0) (qs .1 .1 .0)) (List._∷_ Row.off (List._∷_ Row.off (List._∷_ (Row.lease (κs .1 .1 .1 .1 .1 .0) (qs .1 .1 .1 .1 .1 .0)) (List._∷_ (Row.lease (κs .1 .1 .1 .1 .1 .1 .0) (qs .1 .1 .1 .1 .1 .1 .0)) (List._∷_ Row.off (List._∷_ Row.off (List._∷_ Row.off (List._∷_ Row.off (List._∷_ Row.off (List._∷_ Row.alive (List._∷_ Row.alive List.[]))))))))))))) }
 
         abbrev G66 : Row.Cx
-        G66 = record { locals = List._++_ t5 t1; slots = List._∷_ (Row.lease (κs .0) (qs .0)) (List._∷_ (Row.lease (κs .1 .0) (qs .1 .0)) (List._∷_ (Row.lease (κs .1 .1 .0) (qs .1 .1 .0)) (List._∷_ (Row.lease (κs .1 .1 .1 .0) (qs .1 .1 .1 .0)) (List._∷_ (Row.lease (κs .1 .1 .1 .1 .0) (qs .1 .1 .1 .1 .0)) (List._∷_ (Row.lease (κs .1 .1 .1 .1 .1 .0) (qs .1 .1 .1 .1 .1 .0)) (List._∷_ Row.off (List._∷_ Row.off (List._∷_ Row.off (List._∷_ Row.off (List._∷_ Row.off (List._∷_ Row.off List.[]))))))))))) }
+        G66 = record { locals = List._++_ g42 t1; slots = List._∷_ (Row.lease (κs .0) (qs .0)) (List._∷_ (Row.lease (κs .1 .0) (qs .1 .0)) (List._∷_ (Row.lease (κs .1 .1 .0) (qs .1 .1 .0)) (List._∷_ Row.off (List._∷_ Row.off (List._∷_ (Row.lease (κs .1 .1 .1 .1 .1 .0) (qs .1 .1 .1 .1 .1 .0)) (List._∷_ (Row.lease (κs .1 .1 .1 .1 .1 .1 .0) (qs .1 .1 .1 .1 .1 .1 .0)) (List._∷_ Row.off (List._∷_ Row.off (List._∷_ Row.off (List._∷_ Row.off (List._∷_ Row.off (List._∷_ Row.alive (List._∷_ Row.alive List.[]))))))))))))) }
 
         abbrev G67 : Row.Cx
-        G67 = record { locals = List._++_ t40 t1; slots = List._∷_ (Row.lease (κs .0) (qs .0)) (List._∷_ (Row.lease (κs .1 .0) (qs .1 .0)) (List._∷_ (Row.lease (κs .1 .1 .0) (qs .1 .1 .0)) (List._∷_ (Row.lease (κs .1 .1 .1 .0) (qs .1 .1 .1 .0)) (List._∷_ (Row.lease (κs .1 .1 .1 .1 .0) (qs .1 .1 .1 .1 .0)) (List._∷_ (Row.lease (κs .1 .1 .1 .1 .1 .0) (qs .1 .1 .1 .1 .1 .0)) (List._∷_ Row.off (List._∷_ Row.off (List._∷_ Row.off (List._∷_ Row.off (List._∷_ Row.off (List._∷_ Row.off List.[]))))))))))) }
+        G67 = record { locals = List._++_ g42 t1; slots = List._∷_ (Row.lease (κs .0) (qs .0)) (List._∷_ (Row.lease (κs .1 .0) (qs .1 .0)) (List._∷_ (Row.lease (κs .1 .1 .0) (qs .1 .1 .0)) (List._∷_ Row.off (List._∷_ Row.off (List._∷_ (Row.lease (κs .1 .1 .1 .1 .1 .0) (qs .1 .1 .1 .1 .1 .0)) (List._∷_ (Row.lease (κs .1 .1 .1 .1 .1 .1 .0) (qs .1 .1 .1 .1 .1 .1 .0)) (List._∷_ Row.off (List._∷_ Row.off (List._∷_ Row.off (List._∷_ Row.off (List._∷_ Row.off (List._∷_ Row.dead (List._∷_ Row.alive List.[]))))))))))))) }
 
         abbrev G68 : Row.Cx
-        G68 = record { locals = List._++_ t41 t1; slots = List._∷_ (Row.lease (κs .0) (qs .0)) (List._∷_ (Row.lease (κs .1 .0) (qs .1 .0)) (List._∷_ (Row.lease (κs .1 .1 .0) (qs .1 .1 .0)) (List._∷_ (Row.lease (κs .1 .1 .1 .0) (qs .1 .1 .1 .0)) (List._∷_ (Row.lease (κs .1 .1 .1 .1 .0) (qs .1 .1 .1 .1 .0)) (List._∷_ (Row.lease (κs .1 .1 .1 .1 .1 .0) (qs .1 .1 .1 .1 .1 .0)) (List._∷_ Row.off (List._∷_ Row.off (List._∷_ Row.off (List._∷_ Row.off (List._∷_ Row.off (List._∷_ Row.off List.[]))))))))))) }
+        G68 = record { locals = List._++_ g43 t1; slots = List._∷_ (Row.lease (κs .0) (qs .0)) (List._∷_ (Row.lease (κs .1 .0) (qs .1 .0)) (List._∷_ (Row.lease (κs .1 .1 .0) (qs .1 .1 .0)) (List._∷_ (Row.lease (κs .1 .1 .1 .0) (qs .1 .1 .1 .0)) (List._∷_ Row.off (List._∷_ (Row.lease (κs .1 .1 .1 .1 .1 .0) (qs .1 .1 .1 .1 .1 .0)) (List._∷_ (Row.lease (κs .1 .1 .1 .1 .1 .1 .0) (qs .1 .1 .1 .1 .1 .1 .0)) (List._∷_ Row.off (List._∷_ Row.off (List._∷_ Row.off (List._∷_ Row.off (List._∷_ Row.off (List._∷_ Row.dead (List._∷_ Row.alive List.[]))))))))))))) }
 
         abbrev G69 : Row.Cx
-        G69 = record { locals = List._++_ t42 t1; slots = List._∷_ (Row.lease (κs .0) (qs .0)) (List._∷_ (Row.lease (κs .1 .0) (qs .1 .0)) (List._∷_ (Row.lease (κs .1 .1 .0) (qs .1 .1 .0)) (List._∷_ (Row.lease (κs .1 .1 .1 .0) (qs .1 .1 .1 .0)) (List._∷_ (Row.lease (κs .1 .1 .1 .1 .0) (qs .1 .1 .1 .1 .0)) (List._∷_ (Row.lease (κs .1 .1 .1 .1 .1 .0) (qs .1 .1 .1 .1 .1 .0)) (List._∷_ Row.off (List._∷_ Row.off (List._∷_ Row.off (List._∷_ Row.off (List._∷_ Row.off (List._∷_ Row.off List.[]))))))))))) }
+        G69 = record { locals = List._++_ g43 t1; slots = List._∷_ (Row.lease (κs .0) (qs .0)) (List._∷_ (Row.lease (κs .1 .0) (qs .1 .0)) (List._∷_ (Row.lease (κs .1 .1 .0) (qs .1 .1 .0)) (List._∷_ (Row.lease (κs .1 .1 .1 .0) (qs .1 .1 .1 .0)) (List._∷_ Row.off (List._∷_ (Row.lease (κs .1 .1 .1 .1 .1 .0) (qs .1 .1 .1 .1 .1 .0)) (List._∷_ (Row.lease (κs .1 .1 .1 .1 .1 .1 .0) (qs .1 .1 .1 .1 .1 .1 .0)) (List._∷_ Row.off (List._∷_ Row.off (List._∷_ Row.off (List._∷_ Row.off (List._∷_ Row.off (List._∷_ Row.off (List._∷_ Row.alive List.[]))))))))))))) }
 
         abbrev G70 : Row.Cx
-        G70 = record { locals = List._++_ t43 t1; slots = List._∷_ (Row.lease (κs .0) (qs .0)) (List._∷_ (Row.lease (κs .1 .0) (qs .1 .0)) (List._∷_ (Row.lease (κs .1 .1 .0) (qs .1 .1 .0)) (List._∷_ (Row.lease (κs .1 .1 .1 .0) (qs .1 .1 .1 .0)) (List._∷_ (Row.lease (κs .1 .1 .1 .1 .0) (qs .1 .1 .1 .1 .0)) (List._∷_ (Row.lease (κs .1 .1 .1 .1 .1 .0) (qs .1 .1 .1 .1 .1 .0)) (List._∷_ Row.off (List._∷_ Row.off (List._∷_ Row.off (List._∷_ Row.off (List._∷_ Row.off (List._∷_ Row.off List.[]))))))))))) }
+        G70 = record { locals = List._++_ g43 t1; slots = List._∷_ (Row.lease (κs .0) (qs .0)) (List._∷_ (Row.lease (κs .1 .0) (qs .1 .0)) (List._∷_ (Row.lease (κs .1 .1 .0) (qs .1 .1 .0)) (List._∷_ (Row.lease (κs .1 .1 .1 .0) (qs .1 .1 .1 .0)) (List._∷_ Row.off (List._∷_ (Row.lease (κs .1 .1 .1 .1 .1 .0) (qs .1 .1 .1 .1 .1 .0)) (List._∷_ (Row.lease (κs .1 .1 .1 .1 .1 .1 .0) (qs .1 .1 .1 .1 .1 .1 .0)) (List._∷_ Row.off (List._∷_ Row.off (List._∷_ Row.off (List._∷_ Row.off (List._∷_ Row.off (List._∷_ Row.off (List._∷_ Row.dead List.[]))))))))))))) }
 
         abbrev G71 : Row.Cx
-        G71 = record { locals = List._++_ t44 t1; slots = List._∷_ (Row.lease (κs .0) (qs .0)) (List._∷_ (Row.lease (κs .1 .0) (qs .1 .0)) (List._∷_ (Row.lease (κs .1 .1 .0) (qs .1 .1 .0)) (List._∷_ (Row.lease (κs .1 .1 .1 .0) (qs .1 .1 .1 .0)) (List._∷_ (Row.lease (κs .1 .1 .1 .1 .0) (qs .1 .1 .1 .1 .0)) (List._∷_ (Row.lease (κs .1 .1 .1 .1 .1 .0) (qs .1 .1 .1 .1 .1 .0)) (List._∷_ Row.off (List._∷_ Row.off (List._∷_ Row.off (List._∷_ Row.off (List._∷_ Row.off (List._∷_ Row.off List.[]))))))))))) }
+        G71 = record { locals = List._++_ t12 t1; slots = List._∷_ (Row.lease (κs .0) (qs .0)) (List._∷_ (Row.lease (κs .1 .0) (qs .1 .0)) (List._∷_ (Row.lease (κs .1 .1 .0) (qs .1 .1 .0)) (List._∷_ (Row.lease (κs .1 .1 .1 .0) (qs .1 .1 .1 .0)) (List._∷_ (Row.lease (κs .1 .1 .1 .1 .0) (qs .1 .1 .1 .1 .0)) (List._∷_ (Row.lease (κs .1 .1 .1 .1 .1 .0) (qs .1 .1 .1 .1 .1 .0)) (List._∷_ (Row.lease (κs .1 .1 .1 .1 .1 .1 .0) (qs .1 .1 .1 .1 .1 .1 .0)) (List._∷_ Row.off (List._∷_ Row.off (List._∷_ Row.off (List._∷_ Row.off (List._∷_ Row.off (List._∷_ Row.off (List._∷_ Row.dead List.[]))))))))))))) }
 
         abbrev G72 : Row.Cx
-        G72 = record { locals = List._++_ t45 t1; slots = List._∷_ (Row.lease (κs .0) (qs .0)) (List._∷_ (Row.lease (κs .1 .0) (qs .1 .0)) (List._∷_ (Row.lease (κs .1 .1 .0) (qs .1 .1 .0)) (List._∷_ (Row.lease (κs .1 .1 .1 .0) (qs .1 .1 .1 .0)) (List._∷_ (Row.lease (κs .1 .1 .1 .1 .0) (qs .1 .1 .1 .1 .0)) (List._∷_ (Row.lease (κs .1 .1 .1 .1 .1 .0) (qs .1 .1 .1 .1 .1 .0)) (List._∷_ Row.off (List._∷_ Row.off (List._∷_ Row.off (List._∷_ Row.off (List._∷_ Row.off (List._∷_ Row.off List.[]))))))))))) }
+        G72 = record { locals = List._++_ t12 t1; slots = List._∷_ (Row.lease (κs .0) (qs .0)) (List._∷_ (Row.lease (κs .1 .0) (qs .1 .0)) (List._∷_ (Row.lease (κs .1 .1 .0) (qs .1 .1 .0)) (List._∷_ (Row.lease (κs .1 .1 .1 .0) (qs .1 .1 .1 .0)) (List._∷_ (Row.lease (κs .1 .1 .1 .1 .0) (qs .1 .1 .1 .1 .0)) (List._∷_ (Row.lease (κs .1 .1 .1 .1 .1 .0) (qs .1 .1 .1 .1 .1 .0)) (List._∷_ (Row.lease (κs .1 .1 .1 .1 .1 .1 .0) (qs .1 .1 .1 .1 .1 .1 .0)) (List._∷_ Row.off (List._∷_ Row.off (List._∷_ Row.off (List._∷_ Row.off (List._∷_ Row.off (List._∷_ Row.off (List._∷_ Row.off List.[]))))))))))))) }
 
         abbrev G73 : Row.Cx
-        G73 = record { locals = List._++_ t2 t1; slots = List._∷_ (Row.lease (κs .0) (qs .0)) (List._∷_ (Row.lease (κs .1 .0) (qs .1 .0)) (List._∷_ (Row.lease (κs .1 .1 .0) (qs .1 .1 .0)) (List._∷_ (Row.lease (κs .1 .1 .1 .0) (qs .1 .1 .1 .0)) (List._∷_ (Row.lease (κs .1 .1 .1 .1 .0) (qs .1 .1 .1 .1 .0)) (List._∷_ (Row.lease (κs .1 .1 .1 .1 .1 .0) (qs .1 .1 .1 .1 .1 .0)) (List._∷_ Row.off (List._∷_ Row.off (List._∷_ Row.off (List._∷_ Row.off (List._∷_ Row.off (List._∷_ Row.off List.[]))))))))))) }
+        G73 = record { locals = List._++_ t12 t1; slots = List._∷_ (Row.lease (κs .0) (qs .0)) (List._∷_ (Row.lease (κs .1 .0) (qs .1 .0)) (List._∷_ (Row.lease (κs .1 .1 .0) (qs .1 .1 .0)) (List._∷_ (Row.lease (κs .1 .1 .1 .0) (qs .1 .1 .1 .0)) (List._∷_ (Row.lease (κs .1 .1 .1 .1 .0) (qs .1 .1 .1 .1 .0)) (List._∷_ (Row.lease (κs .1 .1 .1 .1 .1 .0) (qs .1 .1 .1 .1 .1 .0)) (List._∷_ (Row.lease (κs .1 .1 .1 .1 .1 .1 .0) (qs .1 .1 .1 .1 .1 .1 .0)) (List._∷_ Row.off (List._∷_ Row.off (List._∷_ Row.off (List._∷_ Row.off (List._∷_ Row.off (List._∷_ Row.off (List._∷_ Row.off List.[]))))))))))))) }
+
+        abbrev G74 : Row.Cx
+        G74 = record { locals = List._++_ t5 t1; slots = List._∷_ (Row.lease (κs .0) (qs .0)) (List._∷_ (Row.lease (κs .1 .0) (qs .1 .0)) (List._∷_ (Row.lease (κs .1 .1 .0) (qs .1 .1 .0)) (List._∷_ (Row.lease (κs .1 .1 .1 .0) (qs .1 .1 .1 .0)) (List._∷_ (Row.lease (κs .1 .1 .1 .1 .0) (qs .1 .1 .1 .1 .0)) (List._∷_ (Row.lease (κs .1 .1 .1 .1 .1 .0) (qs .1 .1 .1 .1 .1 .0)) (List._∷_ (Row.lease (κs .1 .1 .1 .1 .1 .1 .0) (qs .1 .1 .1 .1 .1 .1 .0)) (List._∷_ Row.off (List._∷_ Row.off (List._∷_ Row.off (List._∷_ Row.off (List._∷_ Row.off (List._∷_ Row.off (List._∷_ Row.off List.[]))))))))))))) }
+
+        abbrev G75 : Row.Cx
+        G75 = record { locals = List._++_ t44 t1; slots = List._∷_ (Row.lease (κs .0) (qs .0)) (List._∷_ (Row.lease (κs .1 .0) (qs .1 .0)) (List._∷_ (Row.lease (κs .1 .1 .0) (qs .1 .1 .0)) (List._∷_ (Row.lease (κs .1 .1 .1 .0) (qs .1 .1 .1 .0)) (List._∷_ (Row.lease (κs .1 .1 .1 .1 .0) (qs .1 .1 .1 .1 .0)) (List._∷_ (Row.lease (κs .1 .1 .1 .1 .1 .0) (qs .1 .1 .1 .1 .1 .0)) (List._∷_ (Row.lease (κs .1 .1 .1 .1 .1 .1 .0) (qs .1 .1 .1 .1 .1 .1 .0)) (List._∷_ Row.off (List._∷_ Row.off (List._∷_ Row.off (List._∷_ Row.off (List._∷_ Row.off (List._∷_ Row.off (List._∷_ Row.off List.[]))))))))))))) }
+
+        abbrev G76 : Row.Cx
+        G76 = record { locals = List._++_ t45 t1; slots = List._∷_ (Row.lease (κs .0) (qs .0)) (List._∷_ (Row.lease (κs .1 .0) (qs .1 .0)) (List._∷_ (Row.lease (κs .1 .1 .0) (qs .1 .1 .0)) (List._∷_ (Row.lease (κs .1 .1 .1 .0) (qs .1 .1 .1 .0)) (List._∷_ (Row.lease (κs .1 .1 .1 .1 .0) (qs .1 .1 .1 .1 .0)) (List._∷_ (Row.lease (κs .1 .1 .1 .1 .1 .0) (qs .1 .1 .1 .1 .1 .0)) (List._∷_ (Row.lease (κs .1 .1 .1 .1 .1 .1 .0) (qs .1 .1 .1 .1 .1 .1 .0)) (List._∷_ Row.off (List._∷_ Row.off (List._∷_ Row.off (List._∷_ Row.off (List._∷_ Row.off (List._∷_ Row.off (List._∷_ Row.off List.[]))))))))))))) }
+
+        abbrev G77 : Row.Cx
+        G77 = record { locals = List._++_ t46 t1; slots = List._∷_ (Row.lease (κs .0) (qs .0)) (List._∷_ (Row.lease (κs .1 .0) (qs .1 .0)) (List._∷_ (Row.lease (κs .1 .1 .0) (qs .1 .1 .0)) (List._∷_ (Row.lease (κs .1 .1 .1 .0) (qs .1 .1 .1 .0)) (List._∷_ (Row.lease (κs .1 .1 .1 .1 .0) (qs .1 .1 .1 .1 .0)) (List._∷_ (Row.lease (κs .1 .1 .1 .1 .1 .0) (qs .1 .1 .1 .1 .1 .0)) (List._∷_ (Row.lease (κs .1 .1 .1 .1 .1 .1 .0) (qs .1 .1 .1 .1 .1 .1 .0)) (List._∷_ Row.off (List._∷_ Row.off (List._∷_ Row.off (List._∷_ Row.off (List._∷_ Row.off (List._∷_ Row.off (List._∷_ Row.off List.[]))))))))))))) }
+
+        abbrev G78 : Row.Cx
+        G78 = record { locals = List._++_ t47 t1; slots = List._∷_ (Row.lease (κs .0) (qs .0)) (List._∷_ (Row.lease (κs .1 .0) (qs .1 .0)) (List._∷_ (Row.lease (κs .1 .1 .0) (qs .1 .1 .0)) (List._∷_ (Row.lease (κs .1 .1 .1 .0) (qs .1 .1 .1 .0)) (List._∷_ (Row.lease (κs .1 .1 .1 .1 .0) (qs .1 .1 .1 .1 .0)) (List._∷_ (Row.lease (κs .1 .1 .1 .1 .1 .0) (qs .1 .1 .1 .1 .1 .0)) (List._∷_ (Row.lease (κs .1 .1 .1 .1 .1 .1 .0) (qs .1 .1 .1 .1 .1 .1 .0)) (List._∷_ Row.off (List._∷_ Row.off (List._∷_ Row.off (List._∷_ Row.off (List._∷_ Row.off (List._∷_ Row.off (List._∷_ Row.off List.[]))))))))))))) }
+
+        abbrev G79 : Row.Cx
+        G79 = record { locals = List._++_ t48 t1; slots = List._∷_ (Row.lease (κs .0) (qs .0)) (List._∷_ (Row.lease (κs .1 .0) (qs .1 .0)) (List._∷_ (Row.lease (κs .1 .1 .0) (qs .1 .1 .0)) (List._∷_ (Row.lease (κs .1 .1 .1 .0) (qs .1 .1 .1 .0)) (List._∷_ (Row.lease (κs .1 .1 .1 .1 .0) (qs .1 .1 .1 .1 .0)) (List._∷_ (Row.lease (κs .1 .1 .1 .1 .1 .0) (qs .1 .1 .1 .1 .1 .0)) (List._∷_ (Row.lease (κs .1 .1 .1 .1 .1 .1 .0) (qs .1 .1 .1 .1 .1 .1 .0)) (List._∷_ Row.off (List._∷_ Row.off (List._∷_ Row.off (List._∷_ Row.off (List._∷_ Row.off (List._∷_ Row.off (List._∷_ Row.off List.[]))))))))))))) }
+
+        abbrev G80 : Row.Cx
+        G80 = record { locals = List._++_ t49 t1; slots = List._∷_ (Row.lease (κs .0) (qs .0)) (List._∷_ (Row.lease (κs .1 .0) (qs .1 .0)) (List._∷_ (Row.lease (κs .1 .1 .0) (qs .1 .1 .0)) (List._∷_ (Row.lease (κs .1 .1 .1 .0) (qs .1 .1 .1 .0)) (List._∷_ (Row.lease (κs .1 .1 .1 .1 .0) (qs .1 .1 .1 .1 .0)) (List._∷_ (Row.lease (κs .1 .1 .1 .1 .1 .0) (qs .1 .1 .1 .1 .1 .0)) (List._∷_ (Row.lease (κs .1 .1 .1 .1 .1 .1 .0) (qs .1 .1 .1 .1 .1 .1 .0)) (List._∷_ Row.off (List._∷_ Row.off (List._∷_ Row.off (List._∷_ Row.off (List._∷_ Row.off (List._∷_ Row.off (List._∷_ Row.off List.[]))))))))))))) }
+
+        abbrev G81 : Row.Cx
+        G81 = record { locals = List._++_ t2 t1; slots = List._∷_ (Row.lease (κs .0) (qs .0)) (List._∷_ (Row.lease (κs .1 .0) (qs .1 .0)) (List._∷_ (Row.lease (κs .1 .1 .0) (qs .1 .1 .0)) (List._∷_ (Row.lease (κs .1 .1 .1 .0) (qs .1 .1 .1 .0)) (List._∷_ (Row.lease (κs .1 .1 .1 .1 .0) (qs .1 .1 .1 .1 .0)) (List._∷_ (Row.lease (κs .1 .1 .1 .1 .1 .0) (qs .1 .1 .1 .1 .1 .0)) (List._∷_ (Row.lease (κs .1 .1 .1 .1 .1 .1 .0) (qs .1 .1 .1 .1 .1 .1 .0)) (List._∷_ Row.off (List._∷_ Row.off (List._∷_ Row.off (List._∷_ Row.off (List._∷_ Row.off (List._∷_ Row.off (List._∷_ Row.off List.[]))))))))))))) }
 
         abbrev Δ0 : Typed.Outs
         Δ0 = record { next = Option.none; exits = List.[]; returns = Option.some G1 }
 
         abbrev Δ1 : Typed.Outs
-        Δ1 = Typed.withNext (Option.some G10) Δ0
+        Δ1 = Typed.withNext (Option.some G11) Δ0
 
         abbrev Δ2 : Typed.Outs
         Δ2 = Typed.inBlock₀ Δ1
 
         abbrev Δ3 : Typed.Outs
-        Δ3 = Typed.inLoop₀ G9 Δ2
+        Δ3 = Typed.inLoop₀ G10 Δ2
 
         abbrev Δ4 : Typed.Outs
-        Δ4 = Typed.withNext (Option.some G12) Δ3
+        Δ4 = Typed.withNext (Option.some G13) Δ3
 
-        module _ {M : Type 1} (𝓤 : URA.URA M) (H : Wp.Heap 𝓤) (A : Atoms.Atoms 𝓤) (W : Kit.Given 𝓤 H A) (𝓣 : Wp.Tables 𝓤 H) (known : Knowns 𝓤 H A W 𝓣) (bs : List.List Nat.ℕ) (bd : Lifetimes.AllOutlive 6 (Kinds.osR r) κs) where
+        module _ {M : Type 1} (𝓤 : URA.URA M) (H : Wp.Heap 𝓤) (A : Atoms.Atoms 𝓤) (W : Kit.Given 𝓤 H A) (𝓣 : Wp.Tables 𝓤 H) (known : Knowns 𝓤 H A W 𝓣) (bs : List.List Nat.ℕ) (bd : Lifetimes.AllOutlive 7 (Kinds.osR r) κs) where
           abbrev E : Wp.Env 𝓤 H
           E = Frame.EnvOf 𝓤 H (List._∷_ (Kinds.tyR r) (Enter.tysP ps xs)) bs
 
-          d0 : Typed.Typed 𝓤 H A 𝓣 E G13 b4 Δ4 at0
+          d0 : Typed.Typed 𝓤 H A 𝓣 E G14 b4 Δ4 at0
           d0 = Typed.t-skip 𝓤 H A W 𝓣 E Δ4 tt
 
-          d1 : Typed.Typed 𝓤 H A 𝓣 E G11 b4 Δ4 at1
-          d1 = Typed.g-pre 𝓤 H A W 𝓣 E G11 G13 b4 Δ4 (Typed.pass T11 T13 s9) at0 (Scalar.g-room 𝓤 H A W E G11 15 Syntax.tyBool (Scalar.room-sc 𝓤 H A W Row.sBool)) d0
+          d1 : Typed.Typed 𝓤 H A 𝓣 E G12 b4 Δ4 at1
+          d1 = Typed.g-pre 𝓤 H A W 𝓣 E G12 G14 b4 Δ4 (Typed.pass T12 T14 s10) at0 (Scalar.g-room 𝓤 H A W E G12 16 Syntax.tyBool (Scalar.room-sc 𝓤 H A W Row.sBool)) d0
 
-          d2 : Typed.Typed 𝓤 H A 𝓣 E G15 b5 Δ4 at2
+          d2 : Typed.Typed 𝓤 H A 𝓣 E G16 b5 Δ4 at2
           d2 = Typed.t-exit 𝓤 H A W 𝓣 E 1 Δ4 tt
 
-          d3 : Typed.Typed 𝓤 H A 𝓣 E G14 b5 Δ4 at3
-          d3 = Typed.g-pre 𝓤 H A W 𝓣 E G14 G15 b5 Δ4 (Typed.pass T14 T15 s11) at2 (Scalar.g-room 𝓤 H A W E G14 15 Syntax.tyBool (Scalar.room-sc 𝓤 H A W Row.sBool)) d2
+          d3 : Typed.Typed 𝓤 H A 𝓣 E G15 b5 Δ4 at3
+          d3 = Typed.g-pre 𝓤 H A W 𝓣 E G15 G16 b5 Δ4 (Typed.pass T15 T16 s12) at2 (Scalar.g-room 𝓤 H A W E G15 16 Syntax.tyBool (Scalar.room-sc 𝓤 H A W Row.sBool)) d2
 
-          d4 : Typed.Typed 𝓤 H A 𝓣 E G11 b5 Δ4 at4
-          d4 = Typed.g-pre 𝓤 H A W 𝓣 E G11 G14 b5 Δ4 (Typed.pass T11 T14 s10) at3 (Scalar.g-room 𝓤 H A W E G11 1 ty·10 (Local.room-whole 𝓤 H A W (Declared.row Size.the-type) ty·10 Path'.refl)) d3
+          d4 : Typed.Typed 𝓤 H A 𝓣 E G12 b5 Δ4 at4
+          d4 = Typed.g-pre 𝓤 H A W 𝓣 E G12 G15 b5 Δ4 (Typed.pass T12 T15 s11) at3 (Scalar.g-room 𝓤 H A W E G12 1 ty·11 (Local.room-whole 𝓤 H A W (Declared.row Size.the-type) ty·11 Path'.refl)) d3
 
-          d5 : Typed.Typed 𝓤 H A 𝓣 E G11 b6 Δ4 at5
-          d5 = Scalar.t-cond 𝓤 H A W E 𝓣 G11 15 (λ x. x) b4 b5 Δ4 at1 at4 (Scalar.reads-sc 𝓤 H A W Row.sBool) Path'.refl d1 d4
+          d5 : Typed.Typed 𝓤 H A 𝓣 E G12 b6 Δ4 at5
+          d5 = Scalar.t-cond 𝓤 H A W E 𝓣 G12 16 (λ x. x) b4 b5 Δ4 at1 at4 (Scalar.reads-sc 𝓤 H A W Row.sBool) Path'.refl d1 d4
 
-          d6 : Typed.Typed 𝓤 H A 𝓣 E G64 b24 Δ3 at6
-          d6 = Typed.s-typed 𝓤 H A W 𝓣 E G64 b24 Δ3 (λ Ψ. Typed.ask s61 (Typed.pass T65 T66 s62 Ψ)) tt (Typed.g-post 𝓤 H A W 𝓣 E G64 G65 G66 b24 (Typed.ask s61) (Typed.pass T65 T66 s62) (Scalar.t-op2 𝓤 H A W E 𝓣 G64 (Syntax.add Syntax.unsigned) (Scalar.oAt 12 (Syntax.tyInt Syntax.w64) (Row.valS (Row.sInt Syntax.w64))) (Scalar.oInt Syntax.w64 1) 12 (Rows.sc-here (Row.sInt Syntax.w64)) (Syntax.tyInt Syntax.w64) (Row.valS (Row.sInt Syntax.w64)) (Row.sInt Syntax.w64 .of) (Scalar.reads-sc 𝓤 H A W (Row.sInt Syntax.w64), Path'.refl) tt (Scalar.room-sc 𝓤 H A W (Row.sInt Syntax.w64)) (Scalar.holds-sc 𝓤 H A W (Row.sInt Syntax.w64)) Path'.refl (λ u. Path'.refl) λ u. tt) (Scalar.g-room 𝓤 H A W E G65 13 (Syntax.tyInt Syntax.w64) (Scalar.room-sc 𝓤 H A W (Row.sInt Syntax.w64))))
+          d6 : Typed.Typed 𝓤 H A 𝓣 E G72 b26 Δ3 at6
+          d6 = Typed.s-typed 𝓤 H A W 𝓣 E G72 b26 Δ3 (λ Ψ. Typed.ask s69 (Typed.pass T73 T74 s70 Ψ)) tt (Typed.g-post 𝓤 H A W 𝓣 E G72 G73 G74 b26 (Typed.ask s69) (Typed.pass T73 T74 s70) (Scalar.t-op2 𝓤 H A W E 𝓣 G72 (Syntax.add Syntax.unsigned) (Scalar.oAt 13 (Syntax.tyInt Syntax.w64) (Row.valS (Row.sInt Syntax.w64))) (Scalar.oInt Syntax.w64 1) 13 (Rows.sc-here (Row.sInt Syntax.w64)) (Syntax.tyInt Syntax.w64) (Row.valS (Row.sInt Syntax.w64)) (Row.sInt Syntax.w64 .of) (Scalar.reads-sc 𝓤 H A W (Row.sInt Syntax.w64), Path'.refl) tt (Scalar.room-sc 𝓤 H A W (Row.sInt Syntax.w64)) (Scalar.holds-sc 𝓤 H A W (Row.sInt Syntax.w64)) Path'.refl (λ u. Path'.refl) λ u. tt) (Scalar.g-room 𝓤 H A W E G73 14 (Syntax.tyInt Syntax.w64) (Scalar.room-sc 𝓤 H A W (Row.sInt Syntax.w64))))
 
-          d7 : Typed.Typed 𝓤 H A 𝓣 E G63 b24 Δ3 at7
-          d7 = Typed.g-pre 𝓤 H A W 𝓣 E G63 G64 b24 Δ3 (λ Ψ. Ψ) at6 (Lifetime.g-forget 𝓤 H A W E G63 11 Row.dead Path'.refl) d6
+          d7 : Typed.Typed 𝓤 H A 𝓣 E G71 b26 Δ3 at7
+          d7 = Typed.g-pre 𝓤 H A W 𝓣 E G71 G72 b26 Δ3 (λ Ψ. Ψ) at6 (Lifetime.g-forget 𝓤 H A W E G71 13 Row.dead Path'.refl) d6
 
-          d8 : Typed.Typed 𝓤 H A 𝓣 E G62 b24 Δ3 at8
-          d8 = Typed.g-pre 𝓤 H A W 𝓣 E G62 G63 b24 Δ3 (Typed.pass T60 T63 s59) at7 (Reshare.g-back-sl-shr 𝓤 H A W E (Referent.rtF (Referent.fInt Syntax.w16)) G62 6 4 11 ty·5 (Row.lease (κs .1 .1 .1 .1 .0) (qs .1 .1 .1 .1 .0)) (λ x. x) (Reads.as-is 𝓤 H A (Reshare.mslice-owedS (Referent.rtF (Referent.fInt Syntax.w16)) ty·5 4 11 (Row.lease (κs .1 .1 .1 .1 .0) (qs .1 .1 .1 .1 .0)))) Path'.refl Path'.refl) d7
+          d8 : Typed.Typed 𝓤 H A 𝓣 E G70 b26 Δ3 at8
+          d8 = Typed.g-pre 𝓤 H A W 𝓣 E G70 G71 b26 Δ3 (Typed.pass T68 T71 s67) at7 (Reshare.g-back-sl-shr 𝓤 H A W E (Referent.rtF (Referent.fInt Syntax.w16)) G70 6 4 13 ty·5 (Row.lease (κs .1 .1 .1 .1 .0) (qs .1 .1 .1 .1 .0)) (λ x. x) (Reads.as-is 𝓤 H A (Reshare.mslice-owedS (Referent.rtF (Referent.fInt Syntax.w16)) ty·5 4 13 (Row.lease (κs .1 .1 .1 .1 .0) (qs .1 .1 .1 .1 .0)))) Path'.refl Path'.refl) d7
 
-          d9 : Typed.Typed 𝓤 H A 𝓣 E G61 b24 Δ3 at9
-          d9 = Typed.g-pre 𝓤 H A W 𝓣 E G61 G62 b24 Δ3 (λ Ψ. Ψ) at8 (Lifetime.g-end 𝓤 H A W E G61 11 Path'.refl) d8
+          d9 : Typed.Typed 𝓤 H A 𝓣 E G69 b26 Δ3 at9
+          d9 = Typed.g-pre 𝓤 H A W 𝓣 E G69 G70 b26 Δ3 (λ Ψ. Ψ) at8 (Lifetime.g-end 𝓤 H A W E G69 13 Path'.refl) d8
 
-          d10 : Typed.Typed 𝓤 H A 𝓣 E G60 b24 Δ3 at10
-          d10 = Typed.g-pre 𝓤 H A W 𝓣 E G60 G61 b24 Δ3 (λ Ψ. Ψ) at9 (Lifetime.g-forget 𝓤 H A W E G60 10 Row.dead Path'.refl) d9
+          d10 : Typed.Typed 𝓤 H A 𝓣 E G68 b26 Δ3 at10
+          d10 = Typed.g-pre 𝓤 H A W 𝓣 E G68 G69 b26 Δ3 (λ Ψ. Ψ) at9 (Lifetime.g-forget 𝓤 H A W E G68 12 Row.dead Path'.refl) d9
 
-          d11 : Typed.Typed 𝓤 H A 𝓣 E G59 b24 Δ3 at11
-          d11 = Typed.g-pre 𝓤 H A W 𝓣 E G59 G60 b24 Δ3 (Typed.pass T58 T60 s56) at10 (Reshare.g-back-sl-shr 𝓤 H A W E (Referent.rtF (Referent.fInt Syntax.w16)) G59 5 3 10 ty·4 (Row.lease (κs .1 .1 .1 .0) (qs .1 .1 .1 .0)) (λ x. x) (Reads.as-is 𝓤 H A (Reshare.mslice-owedS (Referent.rtF (Referent.fInt Syntax.w16)) ty·4 3 10 (Row.lease (κs .1 .1 .1 .0) (qs .1 .1 .1 .0)))) Path'.refl Path'.refl) d10
+          d11 : Typed.Typed 𝓤 H A 𝓣 E G67 b26 Δ3 at11
+          d11 = Typed.g-pre 𝓤 H A W 𝓣 E G67 G68 b26 Δ3 (Typed.pass T66 T68 s64) at10 (Reshare.g-back-sl-shr 𝓤 H A W E (Referent.rtF (Referent.fInt Syntax.w16)) G67 5 3 12 ty·4 (Row.lease (κs .1 .1 .1 .0) (qs .1 .1 .1 .0)) (λ x. x) (Reads.as-is 𝓤 H A (Reshare.mslice-owedS (Referent.rtF (Referent.fInt Syntax.w16)) ty·4 3 12 (Row.lease (κs .1 .1 .1 .0) (qs .1 .1 .1 .0)))) Path'.refl Path'.refl) d10
 
-          d12 : Typed.Typed 𝓤 H A 𝓣 E G58 b24 Δ3 at12
-          d12 = Typed.g-pre 𝓤 H A W 𝓣 E G58 G59 b24 Δ3 (λ Ψ. Ψ) at11 (Lifetime.g-end 𝓤 H A W E G58 10 Path'.refl) d11
+          d12 : Typed.Typed 𝓤 H A 𝓣 E G66 b26 Δ3 at12
+          d12 = Typed.g-pre 𝓤 H A W 𝓣 E G66 G67 b26 Δ3 (λ Ψ. Ψ) at11 (Lifetime.g-end 𝓤 H A W E G66 12 Path'.refl) d11
 
-          d13 : Typed.Typed 𝓤 H A 𝓣 E G57 b24 Δ3 at13
-          d13 = Typed.g-pre 𝓤 H A W 𝓣 E G57 G58 b24 Δ3 (Typed.pass T57 T58 s54) at12 (Scalar.g-room 𝓤 H A W E G57 14 ty·11 (Local.room-whole 𝓤 H A W (Declared.row Span.the-type) ty·11 Path'.refl)) d12
+          d13 : Typed.Typed 𝓤 H A 𝓣 E G65 b26 Δ3 at13
+          d13 = Typed.g-pre 𝓤 H A W 𝓣 E G65 G66 b26 Δ3 (Typed.pass T65 T66 s62) at12 (Scalar.g-room 𝓤 H A W E G65 15 ty·12 (Local.room-whole 𝓤 H A W (Declared.row Span.the-type) ty·12 Path'.refl)) d12
 
-          d14 : Typed.Typed 𝓤 H A 𝓣 E G56 b24 Δ3 at14
-          d14 = Typed.g-pre 𝓤 H A W 𝓣 E G56 G57 b24 Δ3 (Typed.pass T56 T57 s53) at13 (Scalar.g-room 𝓤 H A W E G56 28 ty·8 (Shared.room-sslice 𝓤 H A W (Referent.rtF (Referent.fInt Syntax.w16)) ty·0 11)) d13
+          d14 : Typed.Typed 𝓤 H A 𝓣 E G64 b26 Δ3 at14
+          d14 = Typed.g-pre 𝓤 H A W 𝓣 E G64 G65 b26 Δ3 (Typed.pass T64 T65 s61) at13 (Scalar.g-room 𝓤 H A W E G64 31 ty·9 (Shared.room-sslice 𝓤 H A W (Referent.rtF (Referent.fInt Syntax.w16)) ty·0 13)) d13
 
-          d15 : Typed.Typed 𝓤 H A 𝓣 E G55 b24 Δ3 at15
-          d15 = Typed.g-pre 𝓤 H A W 𝓣 E G55 G56 b24 Δ3 (Typed.pass T55 T56 s52) at14 (Scalar.g-room 𝓤 H A W E G55 26 ty·8 (Shared.room-sslice 𝓤 H A W (Referent.rtF (Referent.fInt Syntax.w16)) ty·0 10)) d14
+          d15 : Typed.Typed 𝓤 H A 𝓣 E G63 b26 Δ3 at15
+          d15 = Typed.g-pre 𝓤 H A W 𝓣 E G63 G64 b26 Δ3 (Typed.pass T63 T64 s60) at14 (Scalar.g-room 𝓤 H A W E G63 29 ty·9 (Shared.room-sslice 𝓤 H A W (Referent.rtF (Referent.fInt Syntax.w16)) ty·0 12)) d14
 
-          d16 : Typed.Typed 𝓤 H A 𝓣 E G54 b25 Δ3 at16
-          d16 = Typed.s-seq 𝓤 H A W 𝓣 E G54 G55 b23 b24 Δ3 (Typed.both s51) at15 (Plain.t-call-plain 𝓤 H A W 𝓣 2 ps·3 r·3 (claims· .6) (claims· .7) "search::walk::lower" (known .3) E (λ pos β. β) G54 (record { pos = 14; st = List.[]; d = 0; at = λ x. x }, (record { pos = 26; ty = Syntax.tyRef Syntax.erased Syntax.imm (Syntax.tyInt Syntax.w16); ref = λ x. x }, (record { pos = 28; ty = Syntax.tyRef Syntax.erased Syntax.imm (Syntax.tyInt Syntax.w16); ref = λ x. x }, (Num.vAt 13 λ x. x, (Num.vAt 11 λ x. x, tt))))) 11 (List._∷_ 10 (List._∷_ 11 List.[])) (Call.sub-id 𝓤 H A W (G54 .slots)) ((Yields.yields-copy 𝓤 H A W (λ ρ. Unit) (Declared.row Span.the-type) Path'.refl (Copies.cStruct Span.the-type Laws''.the-laws Laws''.the-copy .copy 𝓤 H A W) (Rows.whole (Declared.row Span.the-type)) (λ x. x) (λ x. x) (λ ρ told. Local.mem-whole 𝓤 H A W (Declared.row Span.the-type) ρ) λ ρ told. Local.whole-mem 𝓤 H A W (Declared.row Span.the-type) ρ, Path'.refl), (ShrSlice.spares-sslice 𝓤 H A W (Referent.rtF (Referent.fInt Syntax.w16)) ty·0 10, Shared.reads-sslice 𝓤 H A W (Referent.rtF (Referent.fInt Syntax.w16)) ty·0 10, Path'.refl, (ShrSlice.spares-sslice 𝓤 H A W (Referent.rtF (Referent.fInt Syntax.w16)) ty·0 11, Shared.reads-sslice 𝓤 H A W (Referent.rtF (Referent.fInt Syntax.w16)) ty·0 11, Path'.refl, ((Scalar.reads-sc 𝓤 H A W (Row.sInt Syntax.w64), Path'.refl), ((Scalar.reads-sc 𝓤 H A W (Row.sInt Syntax.w64), Path'.refl), tt))))) (Scalar.room-sc 𝓤 H A W (Row.sInt Syntax.w64)) (tt, (tt, tt)) Path'.refl) d15
+          d16 : Typed.Typed 𝓤 H A 𝓣 E G62 b27 Δ3 at16
+          d16 = Typed.s-seq 𝓤 H A W 𝓣 E G62 G63 b25 b26 Δ3 (Typed.both s59) at15 (Plain.t-call-plain 𝓤 H A W 𝓣 2 ps·3 r·3 (claims· .6) (claims· .7) "search::walk::lower" (known .3) E (λ pos β. β) G62 (record { pos = 15; st = List.[]; d = 0; at = λ x. x }, (record { pos = 29; ty = Syntax.tyRef Syntax.erased Syntax.imm (Syntax.tyInt Syntax.w16); ref = λ x. x }, (record { pos = 31; ty = Syntax.tyRef Syntax.erased Syntax.imm (Syntax.tyInt Syntax.w16); ref = λ x. x }, (Num.vAt 14 λ x. x, (Num.vAt 12 λ x. x, tt))))) 12 (List._∷_ 12 (List._∷_ 13 List.[])) (Call.sub-id 𝓤 H A W (G62 .slots)) ((Yields.yields-copy 𝓤 H A W (λ ρ. Unit) (Declared.row Span.the-type) Path'.refl (Copies.cStruct Span.the-type Laws''.the-laws Laws''.the-copy .copy 𝓤 H A W) (Rows.whole (Declared.row Span.the-type)) (λ x. x) (λ x. x) (λ ρ told. Local.mem-whole 𝓤 H A W (Declared.row Span.the-type) ρ) λ ρ told. Local.whole-mem 𝓤 H A W (Declared.row Span.the-type) ρ, Path'.refl), (ShrSlice.spares-sslice 𝓤 H A W (Referent.rtF (Referent.fInt Syntax.w16)) ty·0 12, Shared.reads-sslice 𝓤 H A W (Referent.rtF (Referent.fInt Syntax.w16)) ty·0 12, Path'.refl, (ShrSlice.spares-sslice 𝓤 H A W (Referent.rtF (Referent.fInt Syntax.w16)) ty·0 13, Shared.reads-sslice 𝓤 H A W (Referent.rtF (Referent.fInt Syntax.w16)) ty·0 13, Path'.refl, ((Scalar.reads-sc 𝓤 H A W (Row.sInt Syntax.w64), Path'.refl), ((Scalar.reads-sc 𝓤 H A W (Row.sInt Syntax.w64), Path'.refl), tt))))) (Scalar.room-sc 𝓤 H A W (Row.sInt Syntax.w64)) (tt, (tt, tt)) Path'.refl) d15
 
-          d17 : Typed.Typed 𝓤 H A 𝓣 E G53 b26 Δ3 at17
-          d17 = Typed.s-seq 𝓤 H A W 𝓣 E G53 G54 b22 b25 Δ3 (Typed.ask s50) at16 (Relend.t-sl-aggregate 𝓤 H A W E (Referent.rtF (Referent.fInt Syntax.w16)) 𝓣 (Relend.asShr (Referent.rtF (Referent.fInt Syntax.w16))) G53 27 28 11 ty·0 ty·0 (λ x. x) (Scalar.oFld 6 (List._∷_ (Syntax.field 1) List.[]) (Syntax.tyInt Syntax.w64) 8 λ v. Shared.lenV (v .0)) (Reads.as-is 𝓤 H A (Relend.ssptr (Referent.rtF (Referent.fInt Syntax.w16)) ty·0 11)) (Reads.room-gone 𝓤 H A ty·8) (Reshare.reads-owedS-len 𝓤 H A W (Referent.rtF (Referent.fInt Syntax.w16)) ty·5 4 11 (Row.lease (κs .1 .1 .1 .1 .0) (qs .1 .1 .1 .1 .0)) 8 Path'.refl, Path'.refl) Path'.refl Path'.refl λ b o k. tt) d16
+          d17 : Typed.Typed 𝓤 H A 𝓣 E G61 b28 Δ3 at17
+          d17 = Typed.s-seq 𝓤 H A W 𝓣 E G61 G62 b24 b27 Δ3 (Typed.ask s58) at16 (Relend.t-sl-aggregate 𝓤 H A W E (Referent.rtF (Referent.fInt Syntax.w16)) 𝓣 (Relend.asShr (Referent.rtF (Referent.fInt Syntax.w16))) G61 30 31 13 ty·0 ty·0 (λ x. x) (Scalar.oFld 6 (List._∷_ (Syntax.field 1) List.[]) (Syntax.tyInt Syntax.w64) 8 λ v. Shared.lenV (v .0)) (Reads.as-is 𝓤 H A (Relend.ssptr (Referent.rtF (Referent.fInt Syntax.w16)) ty·0 13)) (Reads.room-gone 𝓤 H A ty·9) (Reshare.reads-owedS-len 𝓤 H A W (Referent.rtF (Referent.fInt Syntax.w16)) ty·5 4 13 (Row.lease (κs .1 .1 .1 .1 .0) (qs .1 .1 .1 .1 .0)) 8 Path'.refl, Path'.refl) Path'.refl Path'.refl λ b o k. tt) d16
 
-          d18 : Typed.Typed 𝓤 H A 𝓣 E G52 b27 Δ3 at18
-          d18 = Typed.s-seq 𝓤 H A W 𝓣 E G52 G53 b21 b26 Δ3 (Typed.give s49) at17 (Reshare.t-sl-reshare 𝓤 H A W E (Referent.rtF (Referent.fInt Syntax.w16)) 𝓣 G52 6 27 4 11 ty·5 ty·0 (Row.lease (κs .1 .1 .1 .1 .0) (qs .1 .1 .1 .1 .0)) 0 (λ x. x) (Reads.as-is 𝓤 H A (Mut.mslice (Referent.rtF (Referent.fInt Syntax.w16)) ty·5 4)) (Reads.room-gone 𝓤 H A ty·0) Path'.refl tt Path'.refl Path'.refl Path'.refl λ b o. tt) d17
+          d18 : Typed.Typed 𝓤 H A 𝓣 E G60 b29 Δ3 at18
+          d18 = Typed.s-seq 𝓤 H A W 𝓣 E G60 G61 b23 b28 Δ3 (Typed.give s57) at17 (Reshare.t-sl-reshare 𝓤 H A W E (Referent.rtF (Referent.fInt Syntax.w16)) 𝓣 G60 6 30 4 13 ty·5 ty·0 (Row.lease (κs .1 .1 .1 .1 .0) (qs .1 .1 .1 .1 .0)) 0 (λ x. x) (Reads.as-is 𝓤 H A (Mut.mslice (Referent.rtF (Referent.fInt Syntax.w16)) ty·5 4)) (Reads.room-gone 𝓤 H A ty·0) Path'.refl tt Path'.refl Path'.refl Path'.refl λ b o. tt) d17
 
-          d19 : Typed.Typed 𝓤 H A 𝓣 E G51 b27 Δ3 at19
-          d19 = Typed.g-pre 𝓤 H A W 𝓣 E G51 G52 b27 Δ3 (λ Ψ. Ψ) at18 (Lifetime.g-begin 𝓤 H A W E G51 11 (tt, (tt, (tt, (tt, (tt, ((tt, tt), (tt, (tt, (tt, (tt, (tt, (tt, (tt, (tt, (tt, (tt, (tt, (tt, (tt, (tt, (tt, (tt, (tt, (tt, (tt, (tt, (tt, (tt, (tt, tt)))))))))))))))))))))))))))))) d18
+          d19 : Typed.Typed 𝓤 H A 𝓣 E G59 b29 Δ3 at19
+          d19 = Typed.g-pre 𝓤 H A W 𝓣 E G59 G60 b29 Δ3 (λ Ψ. Ψ) at18 (Lifetime.g-begin 𝓤 H A W E G59 13 (tt, (tt, (tt, (tt, (tt, ((tt, tt), (tt, (tt, (tt, (tt, (tt, (tt, (tt, (tt, (tt, (tt, (tt, (tt, (tt, (tt, (tt, (tt, (tt, (tt, (tt, (tt, (tt, (tt, (tt, (tt, (tt, (tt, tt))))))))))))))))))))))))))))))))) d18
 
-          d20 : Typed.Typed 𝓤 H A 𝓣 E G50 b28 Δ3 at20
-          d20 = Typed.s-seq 𝓤 H A W 𝓣 E G50 G51 b20 b27 Δ3 (Typed.ask s47) at19 (Relend.t-sl-aggregate 𝓤 H A W E (Referent.rtF (Referent.fInt Syntax.w16)) 𝓣 (Relend.asShr (Referent.rtF (Referent.fInt Syntax.w16))) G50 25 26 10 ty·0 ty·0 (λ x. x) (Scalar.oFld 5 (List._∷_ (Syntax.field 1) List.[]) (Syntax.tyInt Syntax.w64) 8 λ v. Shared.lenV (v .0)) (Reads.as-is 𝓤 H A (Relend.ssptr (Referent.rtF (Referent.fInt Syntax.w16)) ty·0 10)) (Reads.room-gone 𝓤 H A ty·8) (Reshare.reads-owedS-len 𝓤 H A W (Referent.rtF (Referent.fInt Syntax.w16)) ty·4 3 10 (Row.lease (κs .1 .1 .1 .0) (qs .1 .1 .1 .0)) 8 Path'.refl, Path'.refl) Path'.refl Path'.refl λ b o k. tt) d19
+          d20 : Typed.Typed 𝓤 H A 𝓣 E G58 b30 Δ3 at20
+          d20 = Typed.s-seq 𝓤 H A W 𝓣 E G58 G59 b22 b29 Δ3 (Typed.ask s55) at19 (Relend.t-sl-aggregate 𝓤 H A W E (Referent.rtF (Referent.fInt Syntax.w16)) 𝓣 (Relend.asShr (Referent.rtF (Referent.fInt Syntax.w16))) G58 28 29 12 ty·0 ty·0 (λ x. x) (Scalar.oFld 5 (List._∷_ (Syntax.field 1) List.[]) (Syntax.tyInt Syntax.w64) 8 λ v. Shared.lenV (v .0)) (Reads.as-is 𝓤 H A (Relend.ssptr (Referent.rtF (Referent.fInt Syntax.w16)) ty·0 12)) (Reads.room-gone 𝓤 H A ty·9) (Reshare.reads-owedS-len 𝓤 H A W (Referent.rtF (Referent.fInt Syntax.w16)) ty·4 3 12 (Row.lease (κs .1 .1 .1 .0) (qs .1 .1 .1 .0)) 8 Path'.refl, Path'.refl) Path'.refl Path'.refl λ b o k. tt) d19
 
-          d21 : Typed.Typed 𝓤 H A 𝓣 E G49 b29 Δ3 at21
-          d21 = Typed.s-seq 𝓤 H A W 𝓣 E G49 G50 b19 b28 Δ3 (Typed.give s46) at20 (Reshare.t-sl-reshare 𝓤 H A W E (Referent.rtF (Referent.fInt Syntax.w16)) 𝓣 G49 5 25 3 10 ty·4 ty·0 (Row.lease (κs .1 .1 .1 .0) (qs .1 .1 .1 .0)) 0 (λ x. x) (Reads.as-is 𝓤 H A (Mut.mslice (Referent.rtF (Referent.fInt Syntax.w16)) ty·4 3)) (Reads.room-gone 𝓤 H A ty·0) Path'.refl tt Path'.refl Path'.refl Path'.refl λ b o. tt) d20
+          d21 : Typed.Typed 𝓤 H A 𝓣 E G57 b31 Δ3 at21
+          d21 = Typed.s-seq 𝓤 H A W 𝓣 E G57 G58 b21 b30 Δ3 (Typed.give s54) at20 (Reshare.t-sl-reshare 𝓤 H A W E (Referent.rtF (Referent.fInt Syntax.w16)) 𝓣 G57 5 28 3 12 ty·4 ty·0 (Row.lease (κs .1 .1 .1 .0) (qs .1 .1 .1 .0)) 0 (λ x. x) (Reads.as-is 𝓤 H A (Mut.mslice (Referent.rtF (Referent.fInt Syntax.w16)) ty·4 3)) (Reads.room-gone 𝓤 H A ty·0) Path'.refl tt Path'.refl Path'.refl Path'.refl λ b o. tt) d20
 
-          d22 : Typed.Typed 𝓤 H A 𝓣 E G48 b29 Δ3 at22
-          d22 = Typed.g-pre 𝓤 H A W 𝓣 E G48 G49 b29 Δ3 (λ Ψ. Ψ) at21 (Lifetime.g-begin 𝓤 H A W E G48 10 (tt, (tt, (tt, (tt, (tt, (tt, (tt, (tt, (tt, (tt, (tt, (tt, (tt, (tt, (tt, (tt, (tt, (tt, (tt, (tt, (tt, (tt, (tt, (tt, (tt, (tt, (tt, (tt, (tt, tt)))))))))))))))))))))))))))))) d21
+          d22 : Typed.Typed 𝓤 H A 𝓣 E G56 b31 Δ3 at22
+          d22 = Typed.g-pre 𝓤 H A W 𝓣 E G56 G57 b31 Δ3 (λ Ψ. Ψ) at21 (Lifetime.g-begin 𝓤 H A W E G56 12 (tt, (tt, (tt, (tt, (tt, (tt, (tt, (tt, (tt, (tt, (tt, (tt, (tt, (tt, (tt, (tt, (tt, (tt, (tt, (tt, (tt, (tt, (tt, (tt, (tt, (tt, (tt, (tt, (tt, (tt, (tt, (tt, tt))))))))))))))))))))))))))))))))) d21
 
-          d23 : Typed.Typed 𝓤 H A 𝓣 E G47 b29 Δ3 at23
-          d23 = Typed.g-pre 𝓤 H A W 𝓣 E G47 G48 b29 Δ3 (λ Ψ. Ψ) at22 (Lifetime.g-forget 𝓤 H A W E G47 9 Row.dead Path'.refl) d22
+          d23 : Typed.Typed 𝓤 H A 𝓣 E G55 b31 Δ3 at23
+          d23 = Typed.g-pre 𝓤 H A W 𝓣 E G55 G56 b31 Δ3 (λ Ψ. Ψ) at22 (Lifetime.g-forget 𝓤 H A W E G55 11 Row.dead Path'.refl) d22
 
-          d24 : Typed.Typed 𝓤 H A 𝓣 E G46 b29 Δ3 at24
-          d24 = Typed.g-pre 𝓤 H A W 𝓣 E G46 G47 b29 Δ3 (Typed.give s43) at23 (Know.g-sl-known 𝓤 H A W (Referent.fInt Syntax.w16) E G46 7 5 ty·6 (Row.lease (κs .1 .1 .1 .1 .1 .0) (qs .1 .1 .1 .1 .1 .0)) 0 (λ x. x) record { fits = Dec'.lit< tt } (Reads.as-is 𝓤 H A (Mut.mslice (Referent.rtF (Referent.fInt Syntax.w16)) ty·6 5)) Path'.refl tt) d23
+          d24 : Typed.Typed 𝓤 H A 𝓣 E G54 b31 Δ3 at24
+          d24 = Typed.g-pre 𝓤 H A W 𝓣 E G54 G55 b31 Δ3 (Typed.give s51) at23 (Know.g-sl-known 𝓤 H A W (Referent.fInt Syntax.w16) E G54 8 6 ty·7 (Row.lease (κs .1 .1 .1 .1 .1 .1 .0) (qs .1 .1 .1 .1 .1 .1 .0)) 0 (λ x. x) record { fits = Dec'.lit< tt } (Reads.as-is 𝓤 H A (Mut.mslice (Referent.rtF (Referent.fInt Syntax.w16)) ty·7 6)) Path'.refl tt) d23
 
-          d25 : Typed.Typed 𝓤 H A 𝓣 E G45 b29 Δ3 at25
-          d25 = Typed.g-pre 𝓤 H A W 𝓣 E G45 G46 b29 Δ3 (Typed.both s42) at24 (Relend.g-back-sl 𝓤 H A W E (Referent.rtF (Referent.fInt Syntax.w16)) G45 23 7 5 9 ty·6 ty·1 (Row.lease (κs .1 .1 .1 .1 .1 .0) (qs .1 .1 .1 .1 .1 .0)) (λ x. x) (λ x. x) (Reads.as-is 𝓤 H A (Mut.msleft (Referent.rtF (Referent.fInt Syntax.w16)) ty·1)) (Reads.as-is 𝓤 H A (Relend.mslice-owed (Referent.rtF (Referent.fInt Syntax.w16)) ty·6 5 9 (Row.lease (κs .1 .1 .1 .1 .1 .0) (qs .1 .1 .1 .1 .1 .0)))) Path'.refl Path'.refl) d24
+          d25 : Typed.Typed 𝓤 H A 𝓣 E G53 b31 Δ3 at25
+          d25 = Typed.g-pre 𝓤 H A W 𝓣 E G53 G54 b31 Δ3 (Typed.both s50) at24 (Relend.g-back-sl 𝓤 H A W E (Referent.rtF (Referent.fInt Syntax.w16)) G53 26 8 6 11 ty·7 ty·1 (Row.lease (κs .1 .1 .1 .1 .1 .1 .0) (qs .1 .1 .1 .1 .1 .1 .0)) (λ x. x) (λ x. x) (Reads.as-is 𝓤 H A (Mut.msleft (Referent.rtF (Referent.fInt Syntax.w16)) ty·1)) (Reads.as-is 𝓤 H A (Relend.mslice-owed (Referent.rtF (Referent.fInt Syntax.w16)) ty·7 6 11 (Row.lease (κs .1 .1 .1 .1 .1 .1 .0) (qs .1 .1 .1 .1 .1 .1 .0)))) Path'.refl Path'.refl) d24
 
-          d26 : Typed.Typed 𝓤 H A 𝓣 E G44 b29 Δ3 at26
-          d26 = Typed.g-pre 𝓤 H A W 𝓣 E G44 G45 b29 Δ3 (λ Ψ. Ψ) at25 (Lifetime.g-end 𝓤 H A W E G44 9 Path'.refl) d25
+          d26 : Typed.Typed 𝓤 H A 𝓣 E G52 b31 Δ3 at26
+          d26 = Typed.g-pre 𝓤 H A W 𝓣 E G52 G53 b31 Δ3 (λ Ψ. Ψ) at25 (Lifetime.g-end 𝓤 H A W E G52 11 Path'.refl) d25
 
-          d27 : Typed.Typed 𝓤 H A 𝓣 E G43 b29 Δ3 at27
-          d27 = Typed.g-pre 𝓤 H A W 𝓣 E G43 G44 b29 Δ3 (λ Ψ. Ψ) at26 (Lifetime.g-forget 𝓤 H A W E G43 8 Row.dead Path'.refl) d26
+          d27 : Typed.Typed 𝓤 H A 𝓣 E G51 b31 Δ3 at27
+          d27 = Typed.g-pre 𝓤 H A W 𝓣 E G51 G52 b31 Δ3 (λ Ψ. Ψ) at26 (Lifetime.g-forget 𝓤 H A W E G51 10 Row.dead Path'.refl) d26
 
-          d28 : Typed.Typed 𝓤 H A 𝓣 E G42 b29 Δ3 at28
-          d28 = Typed.g-pre 𝓤 H A W 𝓣 E G42 G43 b29 Δ3 (Typed.give s39) at27 (Know.g-sl-known 𝓤 H A W (Referent.fInt Syntax.w16) E G42 6 4 ty·5 (Row.lease (κs .1 .1 .1 .1 .0) (qs .1 .1 .1 .1 .0)) 0 (λ x. x) record { fits = Dec'.lit< tt } (Reads.as-is 𝓤 H A (Mut.mslice (Referent.rtF (Referent.fInt Syntax.w16)) ty·5 4)) Path'.refl tt) d27
+          d28 : Typed.Typed 𝓤 H A 𝓣 E G50 b31 Δ3 at28
+          d28 = Typed.g-pre 𝓤 H A W 𝓣 E G50 G51 b31 Δ3 (Typed.give s47) at27 (Know.g-sl-known 𝓤 H A W (Referent.fInt Syntax.w16) E G50 7 5 ty·6 (Row.lease (κs .1 .1 .1 .1 .1 .0) (qs .1 .1 .1 .1 .1 .0)) 0 (λ x. x) record { fits = Dec'.lit< tt } (Reads.as-is 𝓤 H A (Mut.mslice (Referent.rtF (Referent.fInt Syntax.w16)) ty·6 5)) Path'.refl tt) d27
 
-          d29 : Typed.Typed 𝓤 H A 𝓣 E G41 b29 Δ3 at29
-          d29 = Typed.g-pre 𝓤 H A W 𝓣 E G41 G42 b29 Δ3 (Typed.both s38) at28 (Relend.g-back-sl 𝓤 H A W E (Referent.rtF (Referent.fInt Syntax.w16)) G41 21 6 4 8 ty·5 ty·1 (Row.lease (κs .1 .1 .1 .1 .0) (qs .1 .1 .1 .1 .0)) (λ x. x) (λ x. x) (Reads.as-is 𝓤 H A (Mut.msleft (Referent.rtF (Referent.fInt Syntax.w16)) ty·1)) (Reads.as-is 𝓤 H A (Relend.mslice-owed (Referent.rtF (Referent.fInt Syntax.w16)) ty·5 4 8 (Row.lease (κs .1 .1 .1 .1 .0) (qs .1 .1 .1 .1 .0)))) Path'.refl Path'.refl) d28
+          d29 : Typed.Typed 𝓤 H A 𝓣 E G49 b31 Δ3 at29
+          d29 = Typed.g-pre 𝓤 H A W 𝓣 E G49 G50 b31 Δ3 (Typed.both s46) at28 (Relend.g-back-sl 𝓤 H A W E (Referent.rtF (Referent.fInt Syntax.w16)) G49 24 7 5 10 ty·6 ty·1 (Row.lease (κs .1 .1 .1 .1 .1 .0) (qs .1 .1 .1 .1 .1 .0)) (λ x. x) (λ x. x) (Reads.as-is 𝓤 H A (Mut.msleft (Referent.rtF (Referent.fInt Syntax.w16)) ty·1)) (Reads.as-is 𝓤 H A (Relend.mslice-owed (Referent.rtF (Referent.fInt Syntax.w16)) ty·6 5 10 (Row.lease (κs .1 .1 .1 .1 .1 .0) (qs .1 .1 .1 .1 .1 .0)))) Path'.refl Path'.refl) d28
 
-          d30 : Typed.Typed 𝓤 H A 𝓣 E G40 b29 Δ3 at30
-          d30 = Typed.g-pre 𝓤 H A W 𝓣 E G40 G41 b29 Δ3 (λ Ψ. Ψ) at29 (Lifetime.g-end 𝓤 H A W E G40 8 Path'.refl) d29
+          d30 : Typed.Typed 𝓤 H A 𝓣 E G48 b31 Δ3 at30
+          d30 = Typed.g-pre 𝓤 H A W 𝓣 E G48 G49 b31 Δ3 (λ Ψ. Ψ) at29 (Lifetime.g-end 𝓤 H A W E G48 10 Path'.refl) d29
 
-          d31 : Typed.Typed 𝓤 H A 𝓣 E G39 b29 Δ3 at31
-          d31 = Typed.g-pre 𝓤 H A W 𝓣 E G39 G40 b29 Δ3 (λ Ψ. Ψ) at30 (Lifetime.g-forget 𝓤 H A W E G39 7 Row.dead Path'.refl) d30
+          d31 : Typed.Typed 𝓤 H A 𝓣 E G47 b31 Δ3 at31
+          d31 = Typed.g-pre 𝓤 H A W 𝓣 E G47 G48 b31 Δ3 (λ Ψ. Ψ) at30 (Lifetime.g-forget 𝓤 H A W E G47 9 Row.dead Path'.refl) d30
 
-          d32 : Typed.Typed 𝓤 H A 𝓣 E G38 b29 Δ3 at32
-          d32 = Typed.g-pre 𝓤 H A W 𝓣 E G38 G39 b29 Δ3 (Typed.give s35) at31 (Know.g-sl-known 𝓤 H A W (Referent.fInt Syntax.w16) E G38 5 3 ty·4 (Row.lease (κs .1 .1 .1 .0) (qs .1 .1 .1 .0)) 0 (λ x. x) record { fits = Dec'.lit< tt } (Reads.as-is 𝓤 H A (Mut.mslice (Referent.rtF (Referent.fInt Syntax.w16)) ty·4 3)) Path'.refl tt) d31
+          d32 : Typed.Typed 𝓤 H A 𝓣 E G46 b31 Δ3 at32
+          d32 = Typed.g-pre 𝓤 H A W 𝓣 E G46 G47 b31 Δ3 (Typed.give s43) at31 (Know.g-sl-known 𝓤 H A W (Referent.fInt Syntax.w16) E G46 6 4 ty·5 (Row.lease (κs .1 .1 .1 .1 .0) (qs .1 .1 .1 .1 .0)) 0 (λ x. x) record { fits = Dec'.lit< tt } (Reads.as-is 𝓤 H A (Mut.mslice (Referent.rtF (Referent.fInt Syntax.w16)) ty·5 4)) Path'.refl tt) d31
 
-          d33 : Typed.Typed 𝓤 H A 𝓣 E G37 b29 Δ3 at33
-          d33 = Typed.g-pre 𝓤 H A W 𝓣 E G37 G38 b29 Δ3 (Typed.both s34) at32 (Relend.g-back-sl 𝓤 H A W E (Referent.rtF (Referent.fInt Syntax.w16)) G37 19 5 3 7 ty·4 ty·1 (Row.lease (κs .1 .1 .1 .0) (qs .1 .1 .1 .0)) (λ x. x) (λ x. x) (Reads.as-is 𝓤 H A (Mut.msleft (Referent.rtF (Referent.fInt Syntax.w16)) ty·1)) (Reads.as-is 𝓤 H A (Relend.mslice-owed (Referent.rtF (Referent.fInt Syntax.w16)) ty·4 3 7 (Row.lease (κs .1 .1 .1 .0) (qs .1 .1 .1 .0)))) Path'.refl Path'.refl) d32
+          d33 : Typed.Typed 𝓤 H A 𝓣 E G45 b31 Δ3 at33
+          d33 = Typed.g-pre 𝓤 H A W 𝓣 E G45 G46 b31 Δ3 (Typed.both s42) at32 (Relend.g-back-sl 𝓤 H A W E (Referent.rtF (Referent.fInt Syntax.w16)) G45 22 6 4 9 ty·5 ty·1 (Row.lease (κs .1 .1 .1 .1 .0) (qs .1 .1 .1 .1 .0)) (λ x. x) (λ x. x) (Reads.as-is 𝓤 H A (Mut.msleft (Referent.rtF (Referent.fInt Syntax.w16)) ty·1)) (Reads.as-is 𝓤 H A (Relend.mslice-owed (Referent.rtF (Referent.fInt Syntax.w16)) ty·5 4 9 (Row.lease (κs .1 .1 .1 .1 .0) (qs .1 .1 .1 .1 .0)))) Path'.refl Path'.refl) d32
 
-          d34 : Typed.Typed 𝓤 H A 𝓣 E G36 b29 Δ3 at34
-          d34 = Typed.g-pre 𝓤 H A W 𝓣 E G36 G37 b29 Δ3 (λ Ψ. Ψ) at33 (Lifetime.g-end 𝓤 H A W E G36 7 Path'.refl) d33
+          d34 : Typed.Typed 𝓤 H A 𝓣 E G44 b31 Δ3 at34
+          d34 = Typed.g-pre 𝓤 H A W 𝓣 E G44 G45 b31 Δ3 (λ Ψ. Ψ) at33 (Lifetime.g-end 𝓤 H A W E G44 9 Path'.refl) d33
 
-          d35 : Typed.Typed 𝓤 H A 𝓣 E G35 b29 Δ3 at35
-          d35 = Typed.g-pre 𝓤 H A W 𝓣 E G35 G36 b29 Δ3 (Typed.pass T35 T36 s32) at34 (Scalar.g-room 𝓤 H A W E G35 24 (Syntax.tyInt Syntax.w64) (Scalar.room-sc 𝓤 H A W (Row.sInt Syntax.w64))) d34
+          d35 : Typed.Typed 𝓤 H A 𝓣 E G43 b31 Δ3 at35
+          d35 = Typed.g-pre 𝓤 H A W 𝓣 E G43 G44 b31 Δ3 (λ Ψ. Ψ) at34 (Lifetime.g-forget 𝓤 H A W E G43 8 Row.dead Path'.refl) d34
 
-          d36 : Typed.Typed 𝓤 H A 𝓣 E G34 b30 Δ3 at36
-          d36 = Typed.s-seq 𝓤 H A W 𝓣 E G34 G35 b18 b29 Δ3 (Typed.both s31) at35 (Plain.t-call-plain 𝓤 H A W 𝓣 5 ps·2 r·2 (claims· .4) (claims· .5) "search::walk::expand" (known .2) E (λ pos β. β) G34 (record { pos = 1; st = List.[]; d = 0; at = λ x. x }, (record { pos = 14; st = List.[]; d = 0; at = λ x. x }, (record { pos = 3; ty = Syntax.tyRef (Syntax.named 1) Syntax.imm (Syntax.tyInt Syntax.w16); ref = λ x. x }, (record { pos = 4; ty = Syntax.tyRef (Syntax.named 2) Syntax.imm (Syntax.tyInt Syntax.w16); ref = λ x. x }, (record { pos = 19; ty = Syntax.tyRef Syntax.erased Syntax.mut (Syntax.tyInt Syntax.w16); ref = λ x. x }, (record { pos = 21; ty = Syntax.tyRef Syntax.erased Syntax.mut (Syntax.tyInt Syntax.w16); ref = λ x. x }, (record { pos = 23; ty = Syntax.tyRef Syntax.erased Syntax.mut (Syntax.tyInt Syntax.w16); ref = λ x. x }, (Num.vAt 10 λ x. x, (Num.vAt 13 λ x. x, (Num.vAt 24 λ x. x, tt)))))))))) 10 (List._∷_ 1 (List._∷_ 2 (List._∷_ 7 (List._∷_ 8 (List._∷_ 9 List.[]))))) (Call.sub-id 𝓤 H A W (G34 .slots)) ((Yields.yields-copy 𝓤 H A W (λ ρ. Unit) (Declared.row Size.the-type) Path'.refl (Copies.cStruct Size.the-type Laws'.the-laws Laws'.the-copy .copy 𝓤 H A W) (Rows.whole (Declared.row Size.the-type)) (λ x. x) (λ x. x) (λ ρ told. Local.mem-whole 𝓤 H A W (Declared.row Size.the-type) ρ) λ ρ told. Local.whole-mem 𝓤 H A W (Declared.row Size.the-type) ρ, Path'.refl), ((Yields.yields-copy 𝓤 H A W (λ ρ. Unit) (Declared.row Span.the-type) Path'.refl (Copies.cStruct Span.the-type Laws''.the-laws Laws''.the-copy .copy 𝓤 H A W) (Rows.whole (Declared.row Span.the-type)) (λ x. x) (λ x. x) (λ ρ told. Local.mem-whole 𝓤 H A W (Declared.row Span.the-type) ρ) λ ρ told. Local.whole-mem 𝓤 H A W (Declared.row Span.the-type) ρ, Path'.refl), (ShrSlice.spares-sslice 𝓤 H A W (Referent.rtF (Referent.fInt Syntax.w16)) ty·2 1, Shared.reads-sslice 𝓤 H A W (Referent.rtF (Referent.fInt Syntax.w16)) ty·2 1, Path'.refl, (ShrSlice.spares-sslice 𝓤 H A W (Referent.rtF (Referent.fInt Syntax.w16)) ty·3 2, Shared.reads-sslice 𝓤 H A W (Referent.rtF (Referent.fInt Syntax.w16)) ty·3 2, Path'.refl, (Reads.as-is 𝓤 H A (Mut.mslice (Referent.rtF (Referent.fInt Syntax.w16)) ty·1 7), Mut.reads-mslice 𝓤 H A W (Referent.rtF (Referent.fInt Syntax.w16)) ty·1 7, Path'.refl, (Reads.as-is 𝓤 H A (Mut.mslice (Referent.rtF (Referent.fInt Syntax.w16)) ty·1 8), Mut.reads-mslice 𝓤 H A W (Referent.rtF (Referent.fInt Syntax.w16)) ty·1 8, Path'.refl, (Reads.as-is 𝓤 H A (Mut.mslice (Referent.rtF (Referent.fInt Syntax.w16)) ty·1 9), Mut.reads-mslice 𝓤 H A W (Referent.rtF (Referent.fInt Syntax.w16)) ty·1 9, Path'.refl, ((Scalar.reads-sc 𝓤 H A W (Row.sInt Syntax.w64), Path'.refl), ((Scalar.reads-sc 𝓤 H A W (Row.sInt Syntax.w64), Path'.refl), ((Scalar.reads-sc 𝓤 H A W (Row.sInt Syntax.w64), Path'.refl), tt)))))))))) (Scalar.room-sc 𝓤 H A W (Row.sInt Syntax.w64)) (tt, (tt, (tt, (tt, (tt, tt))))) Path'.refl) d35
+          d36 : Typed.Typed 𝓤 H A 𝓣 E G42 b31 Δ3 at36
+          d36 = Typed.g-pre 𝓤 H A W 𝓣 E G42 G43 b31 Δ3 (Typed.give s39) at35 (Know.g-sl-known 𝓤 H A W (Referent.fInt Syntax.w16) E G42 5 3 ty·4 (Row.lease (κs .1 .1 .1 .0) (qs .1 .1 .1 .0)) 0 (λ x. x) record { fits = Dec'.lit< tt } (Reads.as-is 𝓤 H A (Mut.mslice (Referent.rtF (Referent.fInt Syntax.w16)) ty·4 3)) Path'.refl tt) d35
 
-          d37 : Typed.Typed 𝓤 H A 𝓣 E G33 b31 Δ3 at37
-          d37 = Typed.s-seq 𝓤 H A W 𝓣 E G33 G34 b17 b30 Δ3 (Typed.ask s30) at36 (Scalar.t-op2 𝓤 H A W E 𝓣 G33 (Syntax.add Syntax.unsigned) (Scalar.oAt 12 (Syntax.tyInt Syntax.w64) (Row.valS (Row.sInt Syntax.w64))) (Scalar.oInt Syntax.w64 2) 24 (Rows.sc-here (Row.sInt Syntax.w64)) (Syntax.tyInt Syntax.w64) (Row.valS (Row.sInt Syntax.w64)) (Row.sInt Syntax.w64 .of) (Scalar.reads-sc 𝓤 H A W (Row.sInt Syntax.w64), Path'.refl) tt (Reads.room-gone 𝓤 H A (Syntax.tyInt Syntax.w64)) (Scalar.holds-sc 𝓤 H A W (Row.sInt Syntax.w64)) Path'.refl (λ u. Path'.refl) λ u. tt) d36
+          d37 : Typed.Typed 𝓤 H A 𝓣 E G41 b31 Δ3 at37
+          d37 = Typed.g-pre 𝓤 H A W 𝓣 E G41 G42 b31 Δ3 (Typed.both s38) at36 (Relend.g-back-sl 𝓤 H A W E (Referent.rtF (Referent.fInt Syntax.w16)) G41 20 5 3 8 ty·4 ty·1 (Row.lease (κs .1 .1 .1 .0) (qs .1 .1 .1 .0)) (λ x. x) (λ x. x) (Reads.as-is 𝓤 H A (Mut.msleft (Referent.rtF (Referent.fInt Syntax.w16)) ty·1)) (Reads.as-is 𝓤 H A (Relend.mslice-owed (Referent.rtF (Referent.fInt Syntax.w16)) ty·4 3 8 (Row.lease (κs .1 .1 .1 .0) (qs .1 .1 .1 .0)))) Path'.refl Path'.refl) d36
 
-          d38 : Typed.Typed 𝓤 H A 𝓣 E G32 b32 Δ3 at38
-          d38 = Typed.s-seq 𝓤 H A W 𝓣 E G32 G33 b16 b31 Δ3 (Typed.ask s29) at37 (Relend.t-sl-aggregate 𝓤 H A W E (Referent.rtF (Referent.fInt Syntax.w16)) 𝓣 (Relend.asMut (Referent.rtF (Referent.fInt Syntax.w16))) G32 22 23 9 ty·1 ty·1 (λ x. x) (Scalar.oFld 7 (List._∷_ (Syntax.field 1) List.[]) (Syntax.tyInt Syntax.w64) 8 λ v. Shared.lenV (v .0)) (Reads.as-is 𝓤 H A (Relend.msptr (Referent.rtF (Referent.fInt Syntax.w16)) ty·1 9)) (Reads.room-gone 𝓤 H A ty·9) (Relend.reads-owed-len 𝓤 H A W (Referent.rtF (Referent.fInt Syntax.w16)) ty·6 5 9 (Row.lease (κs .1 .1 .1 .1 .1 .0) (qs .1 .1 .1 .1 .1 .0)) 8 Path'.refl, Path'.refl) Path'.refl Path'.refl λ b o k. tt) d37
+          d38 : Typed.Typed 𝓤 H A 𝓣 E G40 b31 Δ3 at38
+          d38 = Typed.g-pre 𝓤 H A W 𝓣 E G40 G41 b31 Δ3 (λ Ψ. Ψ) at37 (Lifetime.g-end 𝓤 H A W E G40 8 Path'.refl) d37
 
-          d39 : Typed.Typed 𝓤 H A 𝓣 E G31 b33 Δ3 at39
-          d39 = Typed.s-seq 𝓤 H A W 𝓣 E G31 G32 b15 b32 Δ3 (Typed.give s28) at38 (Relend.t-sl-relend 𝓤 H A W E (Referent.rtF (Referent.fInt Syntax.w16)) 𝓣 G31 7 22 5 9 ty·6 ty·1 (Row.lease (κs .1 .1 .1 .1 .1 .0) (qs .1 .1 .1 .1 .1 .0)) 0 (λ x. x) (Reads.as-is 𝓤 H A (Mut.mslice (Referent.rtF (Referent.fInt Syntax.w16)) ty·6 5)) (Reads.room-gone 𝓤 H A ty·1) Path'.refl tt Path'.refl Path'.refl Path'.refl λ b o. tt) d38
+          d39 : Typed.Typed 𝓤 H A 𝓣 E G39 b31 Δ3 at39
+          d39 = Typed.g-pre 𝓤 H A W 𝓣 E G39 G40 b31 Δ3 (Typed.pass T39 T40 s36) at38 (Scalar.g-room 𝓤 H A W E G39 27 (Syntax.tyInt Syntax.w64) (Scalar.room-sc 𝓤 H A W (Row.sInt Syntax.w64))) d38
 
-          d40 : Typed.Typed 𝓤 H A 𝓣 E G30 b33 Δ3 at40
-          d40 = Typed.g-pre 𝓤 H A W 𝓣 E G30 G31 b33 Δ3 (λ Ψ. Ψ) at39 (Lifetime.g-begin 𝓤 H A W E G30 9 (tt, (tt, (tt, (tt, (tt, ((tt, tt), ((tt, tt), (tt, (tt, (tt, (tt, (tt, (tt, (tt, (tt, (tt, (tt, (tt, (tt, (tt, (tt, (tt, (tt, (tt, (tt, (tt, (tt, (tt, (tt, tt)))))))))))))))))))))))))))))) d39
+          d40 : Typed.Typed 𝓤 H A 𝓣 E G38 b32 Δ3 at40
+          d40 = Typed.s-seq 𝓤 H A W 𝓣 E G38 G39 b20 b31 Δ3 (Typed.both s35) at39 (Plain.t-call-plain 𝓤 H A W 𝓣 6 ps·2 r·2 (claims· .4) (claims· .5) "search::walk::expand" (known .2) E (λ pos β. β) G38 (record { pos = 1; st = List.[]; d = 0; at = λ x. x }, (record { pos = 15; st = List.[]; d = 0; at = λ x. x }, (record { pos = 3; ty = Syntax.tyRef (Syntax.named 1) Syntax.imm (Syntax.tyInt Syntax.w16); ref = λ x. x }, (record { pos = 4; ty = Syntax.tyRef (Syntax.named 2) Syntax.imm (Syntax.tyInt Syntax.w16); ref = λ x. x }, (record { pos = 20; ty = Syntax.tyRef Syntax.erased Syntax.mut (Syntax.tyInt Syntax.w16); ref = λ x. x }, (record { pos = 22; ty = Syntax.tyRef Syntax.erased Syntax.mut (Syntax.tyInt Syntax.w16); ref = λ x. x }, (record { pos = 24; ty = Syntax.tyRef Syntax.erased Syntax.mut (Syntax.tyInt Syntax.w16); ref = λ x. x }, (record { pos = 26; ty = Syntax.tyRef Syntax.erased Syntax.mut (Syntax.tyInt Syntax.w16); ref = λ x. x }, (Num.vAt 11 λ x. x, (Num.vAt 14 λ x. x, (Num.vAt 27 λ x. x, tt))))))))))) 11 (List._∷_ 1 (List._∷_ 2 (List._∷_ 8 (List._∷_ 9 (List._∷_ 10 (List._∷_ 11 List.[])))))) (Call.sub-id 𝓤 H A W (G38 .slots)) ((Yields.yields-copy 𝓤 H A W (λ ρ. Unit) (Declared.row Size.the-type) Path'.refl (Copies.cStruct Size.the-type Laws'.the-laws Laws'.the-copy .copy 𝓤 H A W) (Rows.whole (Declared.row Size.the-type)) (λ x. x) (λ x. x) (λ ρ told. Local.mem-whole 𝓤 H A W (Declared.row Size.the-type) ρ) λ ρ told. Local.whole-mem 𝓤 H A W (Declared.row Size.the-type) ρ, Path'.refl), ((Yields.yields-copy 𝓤 H A W (λ ρ. Unit) (Declared.row Span.the-type) Path'.refl (Copies.cStruct Span.the-type Laws''.the-laws Laws''.the-copy .copy 𝓤 H A W) (Rows.whole (Declared.row Span.the-type)) (λ x. x) (λ x. x) (λ ρ told. Local.mem-whole 𝓤 H A W (Declared.row Span.the-type) ρ) λ ρ told. Local.whole-mem 𝓤 H A W (Declared.row Span.the-type) ρ, Path'.refl), (ShrSlice.spares-sslice 𝓤 H A W (Referent.rtF (Referent.fInt Syntax.w16)) ty·2 1, Shared.reads-sslice 𝓤 H A W (Referent.rtF (Referent.fInt Syntax.w16)) ty·2 1, Path'.refl, (ShrSlice.spares-sslice 𝓤 H A W (Referent.rtF (Referent.fInt Syntax.w16)) ty·3 2, Shared.reads-sslice 𝓤 H A W (Referent.rtF (Referent.fInt Syntax.w16)) ty·3 2, Path'.refl, (Reads.as-is 𝓤 H A (Mut.mslice (Referent.rtF (Referent.fInt Syntax.w16)) ty·1 8), Mut.reads-mslice 𝓤 H A W (Referent.rtF (Referent.fInt Syntax.w16)) ty·1 8, Path'.refl, (Reads.as-is 𝓤 H A (Mut.mslice (Referent.rtF (Referent.fInt Syntax.w16)) ty·1 9), Mut.reads-mslice 𝓤 H A W (Referent.rtF (Referent.fInt Syntax.w16)) ty·1 9, Path'.refl, (Reads.as-is 𝓤 H A (Mut.mslice (Referent.rtF (Referent.fInt Syntax.w16)) ty·1 10), Mut.reads-mslice 𝓤 H A W (Referent.rtF (Referent.fInt Syntax.w16)) ty·1 10, Path'.refl, (Reads.as-is 𝓤 H A (Mut.mslice (Referent.rtF (Referent.fInt Syntax.w16)) ty·1 11), Mut.reads-mslice 𝓤 H A W (Referent.rtF (Referent.fInt Syntax.w16)) ty·1 11, Path'.refl, ((Scalar.reads-sc 𝓤 H A W (Row.sInt Syntax.w64), Path'.refl), ((Scalar.reads-sc 𝓤 H A W (Row.sInt Syntax.w64), Path'.refl), ((Scalar.reads-sc 𝓤 H A W (Row.sInt Syntax.w64), Path'.refl), tt))))))))))) (Scalar.room-sc 𝓤 H A W (Row.sInt Syntax.w64)) (tt, (tt, (tt, (tt, (tt, (tt, tt)))))) Path'.refl) d39
 
-          d41 : Typed.Typed 𝓤 H A 𝓣 E G29 b34 Δ3 at41
-          d41 = Typed.s-seq 𝓤 H A W 𝓣 E G29 G30 b14 b33 Δ3 (Typed.ask s26) at40 (Relend.t-sl-aggregate 𝓤 H A W E (Referent.rtF (Referent.fInt Syntax.w16)) 𝓣 (Relend.asMut (Referent.rtF (Referent.fInt Syntax.w16))) G29 20 21 8 ty·1 ty·1 (λ x. x) (Scalar.oFld 6 (List._∷_ (Syntax.field 1) List.[]) (Syntax.tyInt Syntax.w64) 8 λ v. Shared.lenV (v .0)) (Reads.as-is 𝓤 H A (Relend.msptr (Referent.rtF (Referent.fInt Syntax.w16)) ty·1 8)) (Reads.room-gone 𝓤 H A ty·9) (Relend.reads-owed-len 𝓤 H A W (Referent.rtF (Referent.fInt Syntax.w16)) ty·5 4 8 (Row.lease (κs .1 .1 .1 .1 .0) (qs .1 .1 .1 .1 .0)) 8 Path'.refl, Path'.refl) Path'.refl Path'.refl λ b o k. tt) d40
+          d41 : Typed.Typed 𝓤 H A 𝓣 E G37 b33 Δ3 at41
+          d41 = Typed.s-seq 𝓤 H A W 𝓣 E G37 G38 b19 b32 Δ3 (Typed.ask s34) at40 (Scalar.t-op2 𝓤 H A W E 𝓣 G37 (Syntax.add Syntax.unsigned) (Scalar.oAt 13 (Syntax.tyInt Syntax.w64) (Row.valS (Row.sInt Syntax.w64))) (Scalar.oInt Syntax.w64 2) 27 (Rows.sc-here (Row.sInt Syntax.w64)) (Syntax.tyInt Syntax.w64) (Row.valS (Row.sInt Syntax.w64)) (Row.sInt Syntax.w64 .of) (Scalar.reads-sc 𝓤 H A W (Row.sInt Syntax.w64), Path'.refl) tt (Reads.room-gone 𝓤 H A (Syntax.tyInt Syntax.w64)) (Scalar.holds-sc 𝓤 H A W (Row.sInt Syntax.w64)) Path'.refl (λ u. Path'.refl) λ u. tt) d40
 
-          d42 : Typed.Typed 𝓤 H A 𝓣 E G28 b35 Δ3 at42
-          d42 = Typed.s-seq 𝓤 H A W 𝓣 E G28 G29 b13 b34 Δ3 (Typed.give s25) at41 (Relend.t-sl-relend 𝓤 H A W E (Referent.rtF (Referent.fInt Syntax.w16)) 𝓣 G28 6 20 4 8 ty·5 ty·1 (Row.lease (κs .1 .1 .1 .1 .0) (qs .1 .1 .1 .1 .0)) 0 (λ x. x) (Reads.as-is 𝓤 H A (Mut.mslice (Referent.rtF (Referent.fInt Syntax.w16)) ty·5 4)) (Reads.room-gone 𝓤 H A ty·1) Path'.refl tt Path'.refl Path'.refl Path'.refl λ b o. tt) d41
+          d42 : Typed.Typed 𝓤 H A 𝓣 E G36 b34 Δ3 at42
+          d42 = Typed.s-seq 𝓤 H A W 𝓣 E G36 G37 b18 b33 Δ3 (Typed.ask s33) at41 (Relend.t-sl-aggregate 𝓤 H A W E (Referent.rtF (Referent.fInt Syntax.w16)) 𝓣 (Relend.asMut (Referent.rtF (Referent.fInt Syntax.w16))) G36 25 26 11 ty·1 ty·1 (λ x. x) (Scalar.oFld 8 (List._∷_ (Syntax.field 1) List.[]) (Syntax.tyInt Syntax.w64) 8 λ v. Shared.lenV (v .0)) (Reads.as-is 𝓤 H A (Relend.msptr (Referent.rtF (Referent.fInt Syntax.w16)) ty·1 11)) (Reads.room-gone 𝓤 H A ty·10) (Relend.reads-owed-len 𝓤 H A W (Referent.rtF (Referent.fInt Syntax.w16)) ty·7 6 11 (Row.lease (κs .1 .1 .1 .1 .1 .1 .0) (qs .1 .1 .1 .1 .1 .1 .0)) 8 Path'.refl, Path'.refl) Path'.refl Path'.refl λ b o k. tt) d41
 
-          d43 : Typed.Typed 𝓤 H A 𝓣 E G27 b35 Δ3 at43
-          d43 = Typed.g-pre 𝓤 H A W 𝓣 E G27 G28 b35 Δ3 (λ Ψ. Ψ) at42 (Lifetime.g-begin 𝓤 H A W E G27 8 (tt, (tt, (tt, (tt, (tt, ((tt, tt), (tt, (tt, (tt, (tt, (tt, (tt, (tt, (tt, (tt, (tt, (tt, (tt, (tt, (tt, (tt, (tt, (tt, (tt, (tt, (tt, (tt, (tt, (tt, tt)))))))))))))))))))))))))))))) d42
+          d43 : Typed.Typed 𝓤 H A 𝓣 E G35 b35 Δ3 at43
+          d43 = Typed.s-seq 𝓤 H A W 𝓣 E G35 G36 b17 b34 Δ3 (Typed.give s32) at42 (Relend.t-sl-relend 𝓤 H A W E (Referent.rtF (Referent.fInt Syntax.w16)) 𝓣 G35 8 25 6 11 ty·7 ty·1 (Row.lease (κs .1 .1 .1 .1 .1 .1 .0) (qs .1 .1 .1 .1 .1 .1 .0)) 0 (λ x. x) (Reads.as-is 𝓤 H A (Mut.mslice (Referent.rtF (Referent.fInt Syntax.w16)) ty·7 6)) (Reads.room-gone 𝓤 H A ty·1) Path'.refl tt Path'.refl Path'.refl Path'.refl λ b o. tt) d42
 
-          d44 : Typed.Typed 𝓤 H A 𝓣 E G26 b36 Δ3 at44
-          d44 = Typed.s-seq 𝓤 H A W 𝓣 E G26 G27 b12 b35 Δ3 (Typed.ask s23) at43 (Relend.t-sl-aggregate 𝓤 H A W E (Referent.rtF (Referent.fInt Syntax.w16)) 𝓣 (Relend.asMut (Referent.rtF (Referent.fInt Syntax.w16))) G26 18 19 7 ty·1 ty·1 (λ x. x) (Scalar.oFld 5 (List._∷_ (Syntax.field 1) List.[]) (Syntax.tyInt Syntax.w64) 8 λ v. Shared.lenV (v .0)) (Reads.as-is 𝓤 H A (Relend.msptr (Referent.rtF (Referent.fInt Syntax.w16)) ty·1 7)) (Reads.room-gone 𝓤 H A ty·9) (Relend.reads-owed-len 𝓤 H A W (Referent.rtF (Referent.fInt Syntax.w16)) ty·4 3 7 (Row.lease (κs .1 .1 .1 .0) (qs .1 .1 .1 .0)) 8 Path'.refl, Path'.refl) Path'.refl Path'.refl λ b o k. tt) d43
+          d44 : Typed.Typed 𝓤 H A 𝓣 E G34 b35 Δ3 at44
+          d44 = Typed.g-pre 𝓤 H A W 𝓣 E G34 G35 b35 Δ3 (λ Ψ. Ψ) at43 (Lifetime.g-begin 𝓤 H A W E G34 11 (tt, (tt, (tt, (tt, (tt, ((tt, tt), ((tt, tt), ((tt, tt), (tt, (tt, (tt, (tt, (tt, (tt, (tt, (tt, (tt, (tt, (tt, (tt, (tt, (tt, (tt, (tt, (tt, (tt, (tt, (tt, (tt, (tt, (tt, (tt, tt))))))))))))))))))))))))))))))))) d43
 
-          d45 : Typed.Typed 𝓤 H A 𝓣 E G25 b37 Δ3 at45
-          d45 = Typed.s-seq 𝓤 H A W 𝓣 E G25 G26 b11 b36 Δ3 (Typed.give s22) at44 (Relend.t-sl-relend 𝓤 H A W E (Referent.rtF (Referent.fInt Syntax.w16)) 𝓣 G25 5 18 3 7 ty·4 ty·1 (Row.lease (κs .1 .1 .1 .0) (qs .1 .1 .1 .0)) 0 (λ x. x) (Reads.as-is 𝓤 H A (Mut.mslice (Referent.rtF (Referent.fInt Syntax.w16)) ty·4 3)) (Reads.room-gone 𝓤 H A ty·1) Path'.refl tt Path'.refl Path'.refl Path'.refl λ b o. tt) d44
+          d45 : Typed.Typed 𝓤 H A 𝓣 E G33 b36 Δ3 at45
+          d45 = Typed.s-seq 𝓤 H A W 𝓣 E G33 G34 b16 b35 Δ3 (Typed.ask s30) at44 (Relend.t-sl-aggregate 𝓤 H A W E (Referent.rtF (Referent.fInt Syntax.w16)) 𝓣 (Relend.asMut (Referent.rtF (Referent.fInt Syntax.w16))) G33 23 24 10 ty·1 ty·1 (λ x. x) (Scalar.oFld 7 (List._∷_ (Syntax.field 1) List.[]) (Syntax.tyInt Syntax.w64) 8 λ v. Shared.lenV (v .0)) (Reads.as-is 𝓤 H A (Relend.msptr (Referent.rtF (Referent.fInt Syntax.w16)) ty·1 10)) (Reads.room-gone 𝓤 H A ty·10) (Relend.reads-owed-len 𝓤 H A W (Referent.rtF (Referent.fInt Syntax.w16)) ty·6 5 10 (Row.lease (κs .1 .1 .1 .1 .1 .0) (qs .1 .1 .1 .1 .1 .0)) 8 Path'.refl, Path'.refl) Path'.refl Path'.refl λ b o k. tt) d44
 
-          d46 : Typed.Typed 𝓤 H A 𝓣 E G24 b37 Δ3 at46
-          d46 = Typed.g-pre 𝓤 H A W 𝓣 E G24 G25 b37 Δ3 (λ Ψ. Ψ) at45 (Lifetime.g-begin 𝓤 H A W E G24 7 (tt, (tt, (tt, (tt, (tt, (tt, (tt, (tt, (tt, (tt, (tt, (tt, (tt, (tt, (tt, (tt, (tt, (tt, (tt, (tt, (tt, (tt, (tt, (tt, (tt, (tt, (tt, (tt, (tt, tt)))))))))))))))))))))))))))))) d45
+          d46 : Typed.Typed 𝓤 H A 𝓣 E G32 b37 Δ3 at46
+          d46 = Typed.s-seq 𝓤 H A W 𝓣 E G32 G33 b15 b36 Δ3 (Typed.give s29) at45 (Relend.t-sl-relend 𝓤 H A W E (Referent.rtF (Referent.fInt Syntax.w16)) 𝓣 G32 7 23 5 10 ty·6 ty·1 (Row.lease (κs .1 .1 .1 .1 .1 .0) (qs .1 .1 .1 .1 .1 .0)) 0 (λ x. x) (Reads.as-is 𝓤 H A (Mut.mslice (Referent.rtF (Referent.fInt Syntax.w16)) ty·6 5)) (Reads.room-gone 𝓤 H A ty·1) Path'.refl tt Path'.refl Path'.refl Path'.refl λ b o. tt) d45
 
-          d47 : Typed.Typed 𝓤 H A 𝓣 E G23 b38 Δ3 at47
-          d47 = Typed.s-seq 𝓤 H A W 𝓣 E G23 G24 b10 b37 Δ3 (Typed.both s20) at46 (Plain.t-call-plain 𝓤 H A W 𝓣 1 ps·1 r·1 (claims· .2) (claims· .3) "tables::spans::span_at" (known .1) E (λ pos β. β) G23 (record { pos = 1; st = List.[]; d = 0; at = λ x. x }, (record { pos = 2; ty = Syntax.tyRef (Syntax.named 0) Syntax.imm (Memory.pointee (T.the-row .written)); ref = λ x. x }, (Num.vAt 13 λ x. x, tt))) 14 (List._∷_ 0 List.[]) (Call.sub-id 𝓤 H A W (G23 .slots)) ((Yields.yields-copy 𝓤 H A W (λ ρ. Unit) (Declared.row Size.the-type) Path'.refl (Copies.cStruct Size.the-type Laws'.the-laws Laws'.the-copy .copy 𝓤 H A W) (Rows.whole (Declared.row Size.the-type)) (λ x. x) (λ x. x) (λ ρ told. Local.mem-whole 𝓤 H A W (Declared.row Size.the-type) ρ) λ ρ told. Local.whole-mem 𝓤 H A W (Declared.row Size.the-type) ρ, Path'.refl), (ShrSlice.spares-sslice 𝓤 H A W T.the-row ty·7 0, Shared.reads-sslice 𝓤 H A W T.the-row ty·7 0, Path'.refl, ((Scalar.reads-sc 𝓤 H A W (Row.sInt Syntax.w64), Path'.refl), tt))) (Reads.room-gone 𝓤 H A ty·11) (tt, tt) Path'.refl) d46
+          d47 : Typed.Typed 𝓤 H A 𝓣 E G31 b37 Δ3 at47
+          d47 = Typed.g-pre 𝓤 H A W 𝓣 E G31 G32 b37 Δ3 (λ Ψ. Ψ) at46 (Lifetime.g-begin 𝓤 H A W E G31 10 (tt, (tt, (tt, (tt, (tt, ((tt, tt), ((tt, tt), (tt, (tt, (tt, (tt, (tt, (tt, (tt, (tt, (tt, (tt, (tt, (tt, (tt, (tt, (tt, (tt, (tt, (tt, (tt, (tt, (tt, (tt, (tt, (tt, (tt, tt))))))))))))))))))))))))))))))))) d46
 
-          d48 : Typed.Typed 𝓤 H A 𝓣 E G22 b38 Δ3 at48
-          d48 = Typed.g-pre 𝓤 H A W 𝓣 E G22 G23 b38 Δ3 (λ Ψ. Ψ) at47 (Lifetime.g-forget 𝓤 H A W E G22 6 Row.dead Path'.refl) d47
+          d48 : Typed.Typed 𝓤 H A 𝓣 E G30 b38 Δ3 at48
+          d48 = Typed.s-seq 𝓤 H A W 𝓣 E G30 G31 b14 b37 Δ3 (Typed.ask s27) at47 (Relend.t-sl-aggregate 𝓤 H A W E (Referent.rtF (Referent.fInt Syntax.w16)) 𝓣 (Relend.asMut (Referent.rtF (Referent.fInt Syntax.w16))) G30 21 22 9 ty·1 ty·1 (λ x. x) (Scalar.oFld 6 (List._∷_ (Syntax.field 1) List.[]) (Syntax.tyInt Syntax.w64) 8 λ v. Shared.lenV (v .0)) (Reads.as-is 𝓤 H A (Relend.msptr (Referent.rtF (Referent.fInt Syntax.w16)) ty·1 9)) (Reads.room-gone 𝓤 H A ty·10) (Relend.reads-owed-len 𝓤 H A W (Referent.rtF (Referent.fInt Syntax.w16)) ty·5 4 9 (Row.lease (κs .1 .1 .1 .1 .0) (qs .1 .1 .1 .1 .0)) 8 Path'.refl, Path'.refl) Path'.refl Path'.refl λ b o k. tt) d47
 
-          d49 : Typed.Typed 𝓤 H A 𝓣 E G21 b38 Δ3 at49
-          d49 = Typed.g-pre 𝓤 H A W 𝓣 E G21 G22 b38 Δ3 (Typed.pass T20 T22 s18) at48 (Reshare.g-back-sl-shr 𝓤 H A W E (Referent.rtF (Referent.fInt Syntax.w16)) G21 7 5 6 ty·6 (Row.lease (κs .1 .1 .1 .1 .1 .0) (qs .1 .1 .1 .1 .1 .0)) (λ x. x) (Reads.as-is 𝓤 H A (Reshare.mslice-owedS (Referent.rtF (Referent.fInt Syntax.w16)) ty·6 5 6 (Row.lease (κs .1 .1 .1 .1 .1 .0) (qs .1 .1 .1 .1 .1 .0)))) Path'.refl Path'.refl) d48
+          d49 : Typed.Typed 𝓤 H A 𝓣 E G29 b39 Δ3 at49
+          d49 = Typed.s-seq 𝓤 H A W 𝓣 E G29 G30 b13 b38 Δ3 (Typed.give s26) at48 (Relend.t-sl-relend 𝓤 H A W E (Referent.rtF (Referent.fInt Syntax.w16)) 𝓣 G29 6 21 4 9 ty·5 ty·1 (Row.lease (κs .1 .1 .1 .1 .0) (qs .1 .1 .1 .1 .0)) 0 (λ x. x) (Reads.as-is 𝓤 H A (Mut.mslice (Referent.rtF (Referent.fInt Syntax.w16)) ty·5 4)) (Reads.room-gone 𝓤 H A ty·1) Path'.refl tt Path'.refl Path'.refl Path'.refl λ b o. tt) d48
 
-          d50 : Typed.Typed 𝓤 H A 𝓣 E G20 b38 Δ3 at50
-          d50 = Typed.g-pre 𝓤 H A W 𝓣 E G20 G21 b38 Δ3 (λ Ψ. Ψ) at49 (Lifetime.g-end 𝓤 H A W E G20 6 Path'.refl) d49
+          d50 : Typed.Typed 𝓤 H A 𝓣 E G28 b39 Δ3 at50
+          d50 = Typed.g-pre 𝓤 H A W 𝓣 E G28 G29 b39 Δ3 (λ Ψ. Ψ) at49 (Lifetime.g-begin 𝓤 H A W E G28 9 (tt, (tt, (tt, (tt, (tt, ((tt, tt), (tt, (tt, (tt, (tt, (tt, (tt, (tt, (tt, (tt, (tt, (tt, (tt, (tt, (tt, (tt, (tt, (tt, (tt, (tt, (tt, (tt, (tt, (tt, (tt, (tt, (tt, tt))))))))))))))))))))))))))))))))) d49
 
-          d51 : Typed.Typed 𝓤 H A 𝓣 E G19 b38 Δ3 at51
-          d51 = Typed.g-pre 𝓤 H A W 𝓣 E G19 G20 b38 Δ3 (Typed.pass T19 T20 s16) at50 (Scalar.g-room 𝓤 H A W E G19 17 ty·8 (Shared.room-sslice 𝓤 H A W (Referent.rtF (Referent.fInt Syntax.w16)) ty·0 6)) d50
+          d51 : Typed.Typed 𝓤 H A 𝓣 E G27 b40 Δ3 at51
+          d51 = Typed.s-seq 𝓤 H A W 𝓣 E G27 G28 b12 b39 Δ3 (Typed.ask s24) at50 (Relend.t-sl-aggregate 𝓤 H A W E (Referent.rtF (Referent.fInt Syntax.w16)) 𝓣 (Relend.asMut (Referent.rtF (Referent.fInt Syntax.w16))) G27 19 20 8 ty·1 ty·1 (λ x. x) (Scalar.oFld 5 (List._∷_ (Syntax.field 1) List.[]) (Syntax.tyInt Syntax.w64) 8 λ v. Shared.lenV (v .0)) (Reads.as-is 𝓤 H A (Relend.msptr (Referent.rtF (Referent.fInt Syntax.w16)) ty·1 8)) (Reads.room-gone 𝓤 H A ty·10) (Relend.reads-owed-len 𝓤 H A W (Referent.rtF (Referent.fInt Syntax.w16)) ty·4 3 8 (Row.lease (κs .1 .1 .1 .0) (qs .1 .1 .1 .0)) 8 Path'.refl, Path'.refl) Path'.refl Path'.refl λ b o k. tt) d50
 
-          d52 : Typed.Typed 𝓤 H A 𝓣 E G18 b39 Δ3 at52
-          d52 = Typed.s-seq 𝓤 H A W 𝓣 E G18 G19 b9 b38 Δ3 (Typed.both s15) at51 (Plain.t-call-plain 𝓤 H A W 𝓣 1 ps·0 r·0 (claims· .0) (claims· .1) "tables::entries::at" (known .0) E (λ pos β. β) G18 (record { pos = 17; ty = Syntax.tyRef Syntax.erased Syntax.imm (Syntax.tyInt Syntax.w16); ref = λ x. x }, (Num.vAt 12 λ x. x, tt)) 13 (List._∷_ 6 List.[]) (Call.sub-id 𝓤 H A W (G18 .slots)) (ShrSlice.spares-sslice 𝓤 H A W (Referent.rtF (Referent.fInt Syntax.w16)) ty·0 6, Shared.reads-sslice 𝓤 H A W (Referent.rtF (Referent.fInt Syntax.w16)) ty·0 6, Path'.refl, ((Scalar.reads-sc 𝓤 H A W (Row.sInt Syntax.w64), Path'.refl), tt)) (Reads.room-gone 𝓤 H A (Syntax.tyInt Syntax.w64)) (tt, tt) Path'.refl) d51
+          d52 : Typed.Typed 𝓤 H A 𝓣 E G26 b41 Δ3 at52
+          d52 = Typed.s-seq 𝓤 H A W 𝓣 E G26 G27 b11 b40 Δ3 (Typed.give s23) at51 (Relend.t-sl-relend 𝓤 H A W E (Referent.rtF (Referent.fInt Syntax.w16)) 𝓣 G26 5 19 3 8 ty·4 ty·1 (Row.lease (κs .1 .1 .1 .0) (qs .1 .1 .1 .0)) 0 (λ x. x) (Reads.as-is 𝓤 H A (Mut.mslice (Referent.rtF (Referent.fInt Syntax.w16)) ty·4 3)) (Reads.room-gone 𝓤 H A ty·1) Path'.refl tt Path'.refl Path'.refl Path'.refl λ b o. tt) d51
 
-          d53 : Typed.Typed 𝓤 H A 𝓣 E G17 b40 Δ3 at53
-          d53 = Typed.s-seq 𝓤 H A W 𝓣 E G17 G18 b8 b39 Δ3 (Typed.ask s14) at52 (Relend.t-sl-aggregate 𝓤 H A W E (Referent.rtF (Referent.fInt Syntax.w16)) 𝓣 (Relend.asShr (Referent.rtF (Referent.fInt Syntax.w16))) G17 16 17 6 ty·0 ty·0 (λ x. x) (Scalar.oFld 7 (List._∷_ (Syntax.field 1) List.[]) (Syntax.tyInt Syntax.w64) 8 λ v. Shared.lenV (v .0)) (Reads.as-is 𝓤 H A (Relend.ssptr (Referent.rtF (Referent.fInt Syntax.w16)) ty·0 6)) (Reads.room-gone 𝓤 H A ty·8) (Reshare.reads-owedS-len 𝓤 H A W (Referent.rtF (Referent.fInt Syntax.w16)) ty·6 5 6 (Row.lease (κs .1 .1 .1 .1 .1 .0) (qs .1 .1 .1 .1 .1 .0)) 8 Path'.refl, Path'.refl) Path'.refl Path'.refl λ b o k. tt) d52
+          d53 : Typed.Typed 𝓤 H A 𝓣 E G25 b41 Δ3 at53
+          d53 = Typed.g-pre 𝓤 H A W 𝓣 E G25 G26 b41 Δ3 (λ Ψ. Ψ) at52 (Lifetime.g-begin 𝓤 H A W E G25 8 (tt, (tt, (tt, (tt, (tt, (tt, (tt, (tt, (tt, (tt, (tt, (tt, (tt, (tt, (tt, (tt, (tt, (tt, (tt, (tt, (tt, (tt, (tt, (tt, (tt, (tt, (tt, (tt, (tt, (tt, (tt, (tt, tt))))))))))))))))))))))))))))))))) d52
 
-          d54 : Typed.Typed 𝓤 H A 𝓣 E G16 b41 Δ3 at54
-          d54 = Typed.s-seq 𝓤 H A W 𝓣 E G16 G17 b7 b40 Δ3 (Typed.give s13) at53 (Reshare.t-sl-reshare 𝓤 H A W E (Referent.rtF (Referent.fInt Syntax.w16)) 𝓣 G16 7 16 5 6 ty·6 ty·0 (Row.lease (κs .1 .1 .1 .1 .1 .0) (qs .1 .1 .1 .1 .1 .0)) 0 (λ x. x) (Reads.as-is 𝓤 H A (Mut.mslice (Referent.rtF (Referent.fInt Syntax.w16)) ty·6 5)) (Reads.room-gone 𝓤 H A ty·0) Path'.refl tt Path'.refl Path'.refl Path'.refl λ b o. tt) d53
+          d54 : Typed.Typed 𝓤 H A 𝓣 E G24 b42 Δ3 at54
+          d54 = Typed.s-seq 𝓤 H A W 𝓣 E G24 G25 b10 b41 Δ3 (Typed.both s21) at53 (Plain.t-call-plain 𝓤 H A W 𝓣 1 ps·1 r·1 (claims· .2) (claims· .3) "tables::spans::span_at" (known .1) E (λ pos β. β) G24 (record { pos = 1; st = List.[]; d = 0; at = λ x. x }, (record { pos = 2; ty = Syntax.tyRef (Syntax.named 0) Syntax.imm (Memory.pointee (T.the-row .written)); ref = λ x. x }, (Num.vAt 14 λ x. x, tt))) 15 (List._∷_ 0 List.[]) (Call.sub-id 𝓤 H A W (G24 .slots)) ((Yields.yields-copy 𝓤 H A W (λ ρ. Unit) (Declared.row Size.the-type) Path'.refl (Copies.cStruct Size.the-type Laws'.the-laws Laws'.the-copy .copy 𝓤 H A W) (Rows.whole (Declared.row Size.the-type)) (λ x. x) (λ x. x) (λ ρ told. Local.mem-whole 𝓤 H A W (Declared.row Size.the-type) ρ) λ ρ told. Local.whole-mem 𝓤 H A W (Declared.row Size.the-type) ρ, Path'.refl), (ShrSlice.spares-sslice 𝓤 H A W T.the-row ty·8 0, Shared.reads-sslice 𝓤 H A W T.the-row ty·8 0, Path'.refl, ((Scalar.reads-sc 𝓤 H A W (Row.sInt Syntax.w64), Path'.refl), tt))) (Reads.room-gone 𝓤 H A ty·12) (tt, tt) Path'.refl) d53
 
-          d55 : Typed.Typed 𝓤 H A 𝓣 E G12 b41 Δ3 at55
-          d55 = Typed.g-pre 𝓤 H A W 𝓣 E G12 G16 b41 Δ3 (λ Ψ. Ψ) at54 (Lifetime.g-begin 𝓤 H A W E G12 6 (tt, (tt, (tt, (tt, (tt, (tt, (tt, (tt, (tt, (tt, (tt, (tt, (tt, (tt, (tt, (tt, (tt, (tt, (tt, (tt, (tt, (tt, (tt, (tt, (tt, (tt, (tt, (tt, (tt, tt)))))))))))))))))))))))))))))) d54
+          d55 : Typed.Typed 𝓤 H A 𝓣 E G23 b42 Δ3 at55
+          d55 = Typed.g-pre 𝓤 H A W 𝓣 E G23 G24 b42 Δ3 (λ Ψ. Ψ) at54 (Lifetime.g-forget 𝓤 H A W E G23 7 Row.dead Path'.refl) d54
 
-          d56 : Typed.Typed 𝓤 H A 𝓣 E G11 b42 Δ3 at56
-          d56 = Typed.t-seq 𝓤 H A W 𝓣 E G11 G12 b6 b41 Δ3 at5 at55 d5 d55
+          d56 : Typed.Typed 𝓤 H A 𝓣 E G22 b42 Δ3 at56
+          d56 = Typed.g-pre 𝓤 H A W 𝓣 E G22 G23 b42 Δ3 (Typed.pass T21 T23 s19) at55 (Reshare.g-back-sl-shr 𝓤 H A W E (Referent.rtF (Referent.fInt Syntax.w16)) G22 7 5 7 ty·6 (Row.lease (κs .1 .1 .1 .1 .1 .0) (qs .1 .1 .1 .1 .1 .0)) (λ x. x) (Reads.as-is 𝓤 H A (Reshare.mslice-owedS (Referent.rtF (Referent.fInt Syntax.w16)) ty·6 5 7 (Row.lease (κs .1 .1 .1 .1 .1 .0) (qs .1 .1 .1 .1 .1 .0)))) Path'.refl Path'.refl) d55
 
-          d57 : Typed.Typed 𝓤 H A 𝓣 E G9 b43 Δ3 at57
-          d57 = Typed.s-seq 𝓤 H A W 𝓣 E G9 G11 b3 b42 Δ3 (Typed.ask s8) at56 (Scalar.t-op2 𝓤 H A W E 𝓣 G9 (Syntax.lt Syntax.unsigned) (Scalar.oAt 12 (Syntax.tyInt Syntax.w64) (Row.valS (Row.sInt Syntax.w64))) (Scalar.oAt 10 (Syntax.tyInt Syntax.w64) (Row.valS (Row.sInt Syntax.w64))) 15 (Rows.sc-here Row.sBool) Syntax.tyBool (Row.valS Row.sBool) (Row.sBool .of) (Scalar.reads-sc 𝓤 H A W (Row.sInt Syntax.w64), Path'.refl) (Scalar.reads-sc 𝓤 H A W (Row.sInt Syntax.w64), Path'.refl) (Reads.room-gone 𝓤 H A Syntax.tyBool) (Scalar.holds-sc 𝓤 H A W Row.sBool) Path'.refl (λ u. Path'.refl) λ u. tt) d56
+          d57 : Typed.Typed 𝓤 H A 𝓣 E G21 b42 Δ3 at57
+          d57 = Typed.g-pre 𝓤 H A W 𝓣 E G21 G22 b42 Δ3 (λ Ψ. Ψ) at56 (Lifetime.g-end 𝓤 H A W E G21 7 Path'.refl) d56
 
-          d58 : Typed.Typed 𝓤 H A 𝓣 E G9 b44 Δ2 at58
-          d58 = Typed.t-loop-by 𝓤 H A W 𝓣 E G9 b43 Δ2 put0 (λ u vs. Inv·0 (Row.get 1 (T9 .locals) u) (Row.get 2 (T9 .locals) u .now) (Row.get 3 (T9 .locals) u .now) (Row.get 4 (T9 .locals) u .now) (Row.get 5 (T9 .locals) u .now) (Row.get 6 (T9 .locals) u .now) (Row.get 7 (T9 .locals) u .now) (Row.get 8 (T9 .locals) u) (Row.get 9 (T9 .locals) u) (Row.get 10 (T9 .locals) u) (Row.get 11 (T9 .locals) u) (Row.get 12 (T9 .locals) u) (vs .0) (vs .1) (vs .2) (vs .3) (vs .4) (vs .5)) (λ u vs. μ·0 (Row.get 1 (T9 .locals) u) (Row.get 2 (T9 .locals) u .now) (Row.get 3 (T9 .locals) u .now) (Row.get 4 (T9 .locals) u .now) (Row.get 5 (T9 .locals) u .now) (Row.get 6 (T9 .locals) u .now) (Row.get 7 (T9 .locals) u .now) (Row.get 8 (T9 .locals) u) (Row.get 9 (T9 .locals) u) (Row.get 10 (T9 .locals) u) (Row.get 11 (T9 .locals) u) (Row.get 12 (T9 .locals) u) (vs .0) (vs .1) (vs .2) (vs .3) (vs .4) (vs .5)) at57 d57
+          d58 : Typed.Typed 𝓤 H A 𝓣 E G20 b42 Δ3 at58
+          d58 = Typed.g-pre 𝓤 H A W 𝓣 E G20 G21 b42 Δ3 (Typed.pass T20 T21 s17) at57 (Scalar.g-room 𝓤 H A W E G20 18 ty·9 (Shared.room-sslice 𝓤 H A W (Referent.rtF (Referent.fInt Syntax.w16)) ty·0 7)) d57
 
-          d59 : Typed.Typed 𝓤 H A 𝓣 E G9 b45 Δ1 at59
-          d59 = Typed.t-block 𝓤 H A W 𝓣 E G9 b44 Δ1 at58 d58
+          d59 : Typed.Typed 𝓤 H A 𝓣 E G19 b43 Δ3 at59
+          d59 = Typed.s-seq 𝓤 H A W 𝓣 E G19 G20 b9 b42 Δ3 (Typed.both s16) at58 (Plain.t-call-plain 𝓤 H A W 𝓣 1 ps·0 r·0 (claims· .0) (claims· .1) "tables::entries::at" (known .0) E (λ pos β. β) G19 (record { pos = 18; ty = Syntax.tyRef Syntax.erased Syntax.imm (Syntax.tyInt Syntax.w16); ref = λ x. x }, (Num.vAt 13 λ x. x, tt)) 14 (List._∷_ 7 List.[]) (Call.sub-id 𝓤 H A W (G19 .slots)) (ShrSlice.spares-sslice 𝓤 H A W (Referent.rtF (Referent.fInt Syntax.w16)) ty·0 7, Shared.reads-sslice 𝓤 H A W (Referent.rtF (Referent.fInt Syntax.w16)) ty·0 7, Path'.refl, ((Scalar.reads-sc 𝓤 H A W (Row.sInt Syntax.w64), Path'.refl), tt)) (Reads.room-gone 𝓤 H A (Syntax.tyInt Syntax.w64)) (tt, tt) Path'.refl) d58
 
-          d60 : Typed.Typed 𝓤 H A 𝓣 E G73 b47 Δ0 at60
-          d60 = Typed.t-return 𝓤 H A W 𝓣 E Δ0 tt
+          d60 : Typed.Typed 𝓤 H A 𝓣 E G18 b44 Δ3 at60
+          d60 = Typed.s-seq 𝓤 H A W 𝓣 E G18 G19 b8 b43 Δ3 (Typed.ask s15) at59 (Relend.t-sl-aggregate 𝓤 H A W E (Referent.rtF (Referent.fInt Syntax.w16)) 𝓣 (Relend.asShr (Referent.rtF (Referent.fInt Syntax.w16))) G18 17 18 7 ty·0 ty·0 (λ x. x) (Scalar.oFld 7 (List._∷_ (Syntax.field 1) List.[]) (Syntax.tyInt Syntax.w64) 8 λ v. Shared.lenV (v .0)) (Reads.as-is 𝓤 H A (Relend.ssptr (Referent.rtF (Referent.fInt Syntax.w16)) ty·0 7)) (Reads.room-gone 𝓤 H A ty·9) (Reshare.reads-owedS-len 𝓤 H A W (Referent.rtF (Referent.fInt Syntax.w16)) ty·6 5 7 (Row.lease (κs .1 .1 .1 .1 .1 .0) (qs .1 .1 .1 .1 .1 .0)) 8 Path'.refl, Path'.refl) Path'.refl Path'.refl λ b o k. tt) d59
 
-          d61 : Typed.Typed 𝓤 H A 𝓣 E G72 b47 Δ0 at61
-          d61 = Typed.g-pre 𝓤 H A W 𝓣 E G72 G73 b47 Δ0 (Typed.pass T72 T73 s69) at60 (AtSlots.g-as-by 𝓤 H A W E (λ ρ. Unit) G72 0 (Rows.whole (Declared.row Progress.the-type)) (λ v. Progress.struct .make v tt) (Own.told-none 𝓤 H A (G72 .slots)) λ ρ told v b. Apart.folds 𝓤 H A Progress.the-type (Progress.struct .Ghost) (Progress.struct .make) (λ v g. Path'.refl) ρ v tt b) d60
+          d61 : Typed.Typed 𝓤 H A 𝓣 E G17 b45 Δ3 at61
+          d61 = Typed.s-seq 𝓤 H A W 𝓣 E G17 G18 b7 b44 Δ3 (Typed.give s14) at60 (Reshare.t-sl-reshare 𝓤 H A W E (Referent.rtF (Referent.fInt Syntax.w16)) 𝓣 G17 7 17 5 7 ty·6 ty·0 (Row.lease (κs .1 .1 .1 .1 .1 .0) (qs .1 .1 .1 .1 .1 .0)) 0 (λ x. x) (Reads.as-is 𝓤 H A (Mut.mslice (Referent.rtF (Referent.fInt Syntax.w16)) ty·6 5)) (Reads.room-gone 𝓤 H A ty·0) Path'.refl tt Path'.refl Path'.refl Path'.refl λ b o. tt) d60
 
-          d62 : Typed.Typed 𝓤 H A 𝓣 E G71 b47 Δ0 at62
-          d62 = Typed.g-pre 𝓤 H A W 𝓣 E G71 G72 b47 Δ0 (Typed.pass T71 T72 s68) at61 (Scalar.g-room 𝓤 H A W E G71 9 (Syntax.tyInt Syntax.w64) (Scalar.room-sc 𝓤 H A W (Row.sInt Syntax.w64))) d61
+          d62 : Typed.Typed 𝓤 H A 𝓣 E G13 b45 Δ3 at62
+          d62 = Typed.g-pre 𝓤 H A W 𝓣 E G13 G17 b45 Δ3 (λ Ψ. Ψ) at61 (Lifetime.g-begin 𝓤 H A W E G13 7 (tt, (tt, (tt, (tt, (tt, (tt, (tt, (tt, (tt, (tt, (tt, (tt, (tt, (tt, (tt, (tt, (tt, (tt, (tt, (tt, (tt, (tt, (tt, (tt, (tt, (tt, (tt, (tt, (tt, (tt, (tt, (tt, tt))))))))))))))))))))))))))))))))) d61
 
-          d63 : Typed.Typed 𝓤 H A 𝓣 E G70 b47 Δ0 at63
-          d63 = Typed.g-pre 𝓤 H A W 𝓣 E G70 G71 b47 Δ0 (Typed.pass T70 T71 s67) at62 (Scalar.g-room 𝓤 H A W E G70 8 (Syntax.tyInt Syntax.w64) (Scalar.room-sc 𝓤 H A W (Row.sInt Syntax.w64))) d62
+          d63 : Typed.Typed 𝓤 H A 𝓣 E G12 b46 Δ3 at63
+          d63 = Typed.t-seq 𝓤 H A W 𝓣 E G12 G13 b6 b45 Δ3 at5 at62 d5 d62
 
-          d64 : Typed.Typed 𝓤 H A 𝓣 E G69 b47 Δ0 at64
-          d64 = Typed.g-pre 𝓤 H A W 𝓣 E G69 G70 b47 Δ0 (Typed.pass T69 T70 s66) at63 (Scalar.g-room 𝓤 H A W E G69 12 (Syntax.tyInt Syntax.w64) (Scalar.room-sc 𝓤 H A W (Row.sInt Syntax.w64))) d63
+          d64 : Typed.Typed 𝓤 H A 𝓣 E G10 b47 Δ3 at64
+          d64 = Typed.s-seq 𝓤 H A W 𝓣 E G10 G12 b3 b46 Δ3 (Typed.ask s9) at63 (Scalar.t-op2 𝓤 H A W E 𝓣 G10 (Syntax.lt Syntax.unsigned) (Scalar.oAt 13 (Syntax.tyInt Syntax.w64) (Row.valS (Row.sInt Syntax.w64))) (Scalar.oAt 11 (Syntax.tyInt Syntax.w64) (Row.valS (Row.sInt Syntax.w64))) 16 (Rows.sc-here Row.sBool) Syntax.tyBool (Row.valS Row.sBool) (Row.sBool .of) (Scalar.reads-sc 𝓤 H A W (Row.sInt Syntax.w64), Path'.refl) (Scalar.reads-sc 𝓤 H A W (Row.sInt Syntax.w64), Path'.refl) (Reads.room-gone 𝓤 H A Syntax.tyBool) (Scalar.holds-sc 𝓤 H A W Row.sBool) Path'.refl (λ u. Path'.refl) λ u. tt) d63
 
-          d65 : Typed.Typed 𝓤 H A 𝓣 E G68 b47 Δ0 at65
-          d65 = Typed.g-pre 𝓤 H A W 𝓣 E G68 G69 b47 Δ0 (Typed.pass T68 T69 s65) at64 (Scalar.g-room 𝓤 H A W E G68 11 (Syntax.tyInt Syntax.w64) (Scalar.room-sc 𝓤 H A W (Row.sInt Syntax.w64))) d64
+          d65 : Typed.Typed 𝓤 H A 𝓣 E G10 b48 Δ2 at65
+          d65 = Typed.t-loop-by 𝓤 H A W 𝓣 E G10 b47 Δ2 put0 (λ u vs. Inv·0 (Row.get 1 (T10 .locals) u) (Row.get 2 (T10 .locals) u .now) (Row.get 3 (T10 .locals) u .now) (Row.get 4 (T10 .locals) u .now) (Row.get 5 (T10 .locals) u .now) (Row.get 6 (T10 .locals) u .now) (Row.get 7 (T10 .locals) u .now) (Row.get 8 (T10 .locals) u .now) (Row.get 9 (T10 .locals) u) (Row.get 10 (T10 .locals) u) (Row.get 11 (T10 .locals) u) (Row.get 12 (T10 .locals) u) (Row.get 13 (T10 .locals) u) (vs .0) (vs .1) (vs .2) (vs .3) (vs .4) (vs .5) (vs .6)) (λ u vs. μ·0 (Row.get 1 (T10 .locals) u) (Row.get 2 (T10 .locals) u .now) (Row.get 3 (T10 .locals) u .now) (Row.get 4 (T10 .locals) u .now) (Row.get 5 (T10 .locals) u .now) (Row.get 6 (T10 .locals) u .now) (Row.get 7 (T10 .locals) u .now) (Row.get 8 (T10 .locals) u .now) (Row.get 9 (T10 .locals) u) (Row.get 10 (T10 .locals) u) (Row.get 11 (T10 .locals) u) (Row.get 12 (T10 .locals) u) (Row.get 13 (T10 .locals) u) (vs .0) (vs .1) (vs .2) (vs .3) (vs .4) (vs .5) (vs .6)) at64 d64
 
-          d66 : Typed.Typed 𝓤 H A 𝓣 E G67 b47 Δ0 at66
-          d66 = Typed.g-pre 𝓤 H A W 𝓣 E G67 G68 b47 Δ0 (Typed.pass T67 T68 s64) at65 (Scalar.g-room 𝓤 H A W E G67 10 (Syntax.tyInt Syntax.w64) (Scalar.room-sc 𝓤 H A W (Row.sInt Syntax.w64))) d65
+          d66 : Typed.Typed 𝓤 H A 𝓣 E G10 b49 Δ1 at66
+          d66 = Typed.t-block 𝓤 H A W 𝓣 E G10 b48 Δ1 at65 d65
 
-          d67 : Typed.Typed 𝓤 H A 𝓣 E G10 b48 Δ0 at67
-          d67 = Typed.s-seq 𝓤 H A W 𝓣 E G10 G67 b46 b47 Δ0 (Typed.pass T10 T67 s63) at66 (Make.t-struct-make 𝓤 H A W E 𝓣 (Apart.apartT Progress.the-type) Laws.the-laws Laws.the-plain G10 0 (List._∷_ (Scalar.oAt 10 (Syntax.tyInt Syntax.w64) (Row.valS (Row.sInt Syntax.w64))) (List._∷_ (Scalar.oAt 11 (Syntax.tyInt Syntax.w64) (Row.valS (Row.sInt Syntax.w64))) List.[])) (λ m. (m .1 .1 .1 .1 .1 .1 .1 .1 .1 .1 .0, (m .1 .1 .1 .1 .1 .1 .1 .1 .1 .1 .1 .0, tt))) (Reads.room-gone 𝓤 H A (Syntax.tyStruct (List._∷_ 115 (List._∷_ 101 (List._∷_ 97 (List._∷_ 114 (List._∷_ 99 (List._∷_ 104 (List._∷_ 58 (List._∷_ 58 (List._∷_ 119 (List._∷_ 97 (List._∷_ 108 (List._∷_ 107 (List._∷_ 58 (List._∷_ 58 (List._∷_ 80 (List._∷_ 114 (List._∷_ 111 (List._∷_ 103 (List._∷_ 114 (List._∷_ 101 (List._∷_ 115 (List._∷_ 115 List.[])))))))))))))))))))))) (Syntax.tcons (Syntax.tyInt Syntax.w64) (Syntax.tcons (Syntax.tyInt Syntax.w64) Syntax.tnil)))) ((Scalar.reads-sc 𝓤 H A W (Row.sInt Syntax.w64), Path'.refl), ((Scalar.reads-sc 𝓤 H A W (Row.sInt Syntax.w64), Path'.refl), tt)) Path'.refl (λ u. Path'.refl) λ m. Make.is-wt (Apart.apartT Progress.the-type) Laws.the-laws (Make.u64-wt, (Make.u64-wt, tt)) (m .1 .1 .1 .1 .1 .1 .1 .1 .1 .1 .0, (m .1 .1 .1 .1 .1 .1 .1 .1 .1 .1 .1 .0, tt))) d66
+          d67 : Typed.Typed 𝓤 H A 𝓣 E G81 b51 Δ0 at67
+          d67 = Typed.t-return 𝓤 H A W 𝓣 E Δ0 tt
 
-          d68 : Typed.Typed 𝓤 H A 𝓣 E G9 b49 Δ0 at68
-          d68 = Typed.t-seq 𝓤 H A W 𝓣 E G9 G10 b45 b48 Δ0 at59 at67 d59 d67
+          d68 : Typed.Typed 𝓤 H A 𝓣 E G80 b51 Δ0 at68
+          d68 = Typed.g-pre 𝓤 H A W 𝓣 E G80 G81 b51 Δ0 (Typed.pass T80 T81 s77) at67 (AtSlots.g-as-by 𝓤 H A W E (λ ρ. Unit) G80 0 (Rows.whole (Declared.row Progress.the-type)) (λ v. Progress.struct .make v tt) (Own.told-none 𝓤 H A (G80 .slots)) λ ρ told v b. Apart.folds 𝓤 H A Progress.the-type (Progress.struct .Ghost) (Progress.struct .make) (λ v g. Path'.refl) ρ v tt b) d67
 
-          d69 : Typed.Typed 𝓤 H A 𝓣 E G8 b50 Δ0 at69
-          d69 = Typed.s-seq 𝓤 H A W 𝓣 E G8 G9 b2 b49 Δ0 (Typed.pass T8 T9 s7) at68 (Scalar.t-use 𝓤 H A W E 𝓣 G8 (Scalar.oAt 8 (Syntax.tyInt Syntax.w64) (Row.valS (Row.sInt Syntax.w64))) 12 (Rows.sc-here (Row.sInt Syntax.w64)) (Syntax.tyInt Syntax.w64) (Row.valS (Row.sInt Syntax.w64)) (Row.sInt Syntax.w64 .of) (Scalar.reads-sc 𝓤 H A W (Row.sInt Syntax.w64), Path'.refl) (Reads.room-gone 𝓤 H A (Syntax.tyInt Syntax.w64)) (Scalar.holds-sc 𝓤 H A W (Row.sInt Syntax.w64)) Path'.refl (λ u. Path'.refl) λ u. tt) d68
+          d69 : Typed.Typed 𝓤 H A 𝓣 E G79 b51 Δ0 at69
+          d69 = Typed.g-pre 𝓤 H A W 𝓣 E G79 G80 b51 Δ0 (Typed.pass T79 T80 s76) at68 (Scalar.g-room 𝓤 H A W E G79 10 (Syntax.tyInt Syntax.w64) (Scalar.room-sc 𝓤 H A W (Row.sInt Syntax.w64))) d68
 
-          d70 : Typed.Typed 𝓤 H A 𝓣 E G7 b51 Δ0 at70
-          d70 = Typed.s-seq 𝓤 H A W 𝓣 E G7 G8 b1 b50 Δ0 (Typed.pass T7 T8 s6) at69 (Scalar.t-use 𝓤 H A W E 𝓣 G7 (Scalar.oBig Syntax.w64 65535) 11 (Rows.sc-here (Row.sInt Syntax.w64)) (Syntax.tyInt Syntax.w64) (Row.valS (Row.sInt Syntax.w64)) (Row.sInt Syntax.w64 .of) record { lower = record { fits = Dec'.lit< tt } } (Reads.room-gone 𝓤 H A (Syntax.tyInt Syntax.w64)) (Scalar.holds-sc 𝓤 H A W (Row.sInt Syntax.w64)) Path'.refl (λ u. Path'.refl) λ u. tt) d69
+          d70 : Typed.Typed 𝓤 H A 𝓣 E G78 b51 Δ0 at70
+          d70 = Typed.g-pre 𝓤 H A W 𝓣 E G78 G79 b51 Δ0 (Typed.pass T78 T79 s75) at69 (Scalar.g-room 𝓤 H A W E G78 9 (Syntax.tyInt Syntax.w64) (Scalar.room-sc 𝓤 H A W (Row.sInt Syntax.w64))) d69
 
-          d71 : Typed.Typed 𝓤 H A 𝓣 E G6 b52 Δ0 at71
-          d71 = Typed.s-seq 𝓤 H A W 𝓣 E G6 G7 b0 b51 Δ0 (Typed.pass T6 T7 s5) at70 (Scalar.t-use 𝓤 H A W E 𝓣 G6 (Scalar.oAt 9 (Syntax.tyInt Syntax.w64) (Row.valS (Row.sInt Syntax.w64))) 10 (Rows.sc-here (Row.sInt Syntax.w64)) (Syntax.tyInt Syntax.w64) (Row.valS (Row.sInt Syntax.w64)) (Row.sInt Syntax.w64 .of) (Scalar.reads-sc 𝓤 H A W (Row.sInt Syntax.w64), Path'.refl) (Reads.room-gone 𝓤 H A (Syntax.tyInt Syntax.w64)) (Scalar.holds-sc 𝓤 H A W (Row.sInt Syntax.w64)) Path'.refl (λ u. Path'.refl) λ u. tt) d70
+          d71 : Typed.Typed 𝓤 H A 𝓣 E G77 b51 Δ0 at71
+          d71 = Typed.g-pre 𝓤 H A W 𝓣 E G77 G78 b51 Δ0 (Typed.pass T77 T78 s74) at70 (Scalar.g-room 𝓤 H A W E G77 13 (Syntax.tyInt Syntax.w64) (Scalar.room-sc 𝓤 H A W (Row.sInt Syntax.w64))) d70
 
-          d72 : Typed.Typed 𝓤 H A 𝓣 E G5 b52 Δ0 at72
-          d72 = Typed.g-pre 𝓤 H A W 𝓣 E G5 G6 b52 Δ0 (Typed.give s4) at71 (Know.g-sl-known 𝓤 H A W (Referent.fInt Syntax.w16) E G5 7 5 ty·6 (Row.lease (κs .1 .1 .1 .1 .1 .0) (qs .1 .1 .1 .1 .1 .0)) 0 (λ x. x) record { fits = Dec'.lit< tt } (Reads.as-is 𝓤 H A (Mut.mslice (Referent.rtF (Referent.fInt Syntax.w16)) ty·6 5)) Path'.refl tt) d71
+          d72 : Typed.Typed 𝓤 H A 𝓣 E G76 b51 Δ0 at72
+          d72 = Typed.g-pre 𝓤 H A W 𝓣 E G76 G77 b51 Δ0 (Typed.pass T76 T77 s73) at71 (Scalar.g-room 𝓤 H A W E G76 12 (Syntax.tyInt Syntax.w64) (Scalar.room-sc 𝓤 H A W (Row.sInt Syntax.w64))) d71
 
-          d73 : Typed.Typed 𝓤 H A 𝓣 E G4 b52 Δ0 at73
-          d73 = Typed.g-pre 𝓤 H A W 𝓣 E G4 G5 b52 Δ0 (Typed.give s3) at72 (Know.g-sl-known 𝓤 H A W (Referent.fInt Syntax.w16) E G4 6 4 ty·5 (Row.lease (κs .1 .1 .1 .1 .0) (qs .1 .1 .1 .1 .0)) 0 (λ x. x) record { fits = Dec'.lit< tt } (Reads.as-is 𝓤 H A (Mut.mslice (Referent.rtF (Referent.fInt Syntax.w16)) ty·5 4)) Path'.refl tt) d72
+          d73 : Typed.Typed 𝓤 H A 𝓣 E G75 b51 Δ0 at73
+          d73 = Typed.g-pre 𝓤 H A W 𝓣 E G75 G76 b51 Δ0 (Typed.pass T75 T76 s72) at72 (Scalar.g-room 𝓤 H A W E G75 11 (Syntax.tyInt Syntax.w64) (Scalar.room-sc 𝓤 H A W (Row.sInt Syntax.w64))) d72
 
-          d74 : Typed.Typed 𝓤 H A 𝓣 E G3 b52 Δ0 at74
-          d74 = Typed.g-pre 𝓤 H A W 𝓣 E G3 G4 b52 Δ0 (Typed.give s2) at73 (Know.g-sl-known 𝓤 H A W (Referent.fInt Syntax.w16) E G3 5 3 ty·4 (Row.lease (κs .1 .1 .1 .0) (qs .1 .1 .1 .0)) 0 (λ x. x) record { fits = Dec'.lit< tt } (Reads.as-is 𝓤 H A (Mut.mslice (Referent.rtF (Referent.fInt Syntax.w16)) ty·4 3)) Path'.refl tt) d73
+          d74 : Typed.Typed 𝓤 H A 𝓣 E G11 b52 Δ0 at74
+          d74 = Typed.s-seq 𝓤 H A W 𝓣 E G11 G75 b50 b51 Δ0 (Typed.pass T11 T75 s71) at73 (Make.t-struct-make 𝓤 H A W E 𝓣 (Apart.apartT Progress.the-type) Laws.the-laws Laws.the-plain G11 0 (List._∷_ (Scalar.oAt 11 (Syntax.tyInt Syntax.w64) (Row.valS (Row.sInt Syntax.w64))) (List._∷_ (Scalar.oAt 12 (Syntax.tyInt Syntax.w64) (Row.valS (Row.sInt Syntax.w64))) List.[])) (λ m. (m .1 .1 .1 .1 .1 .1 .1 .1 .1 .1 .1 .0, (m .1 .1 .1 .1 .1 .1 .1 .1 .1 .1 .1 .1 .0, tt))) (Reads.room-gone 𝓤 H A (Syntax.tyStruct (List._∷_ 115 (List._∷_ 101 (List._∷_ 97 (List._∷_ 114 (List._∷_ 99 (List._∷_ 104 (List._∷_ 58 (List._∷_ 58 (List._∷_ 119 (List._∷_ 97 (List._∷_ 108 (List._∷_ 107 (List._∷_ 58 (List._∷_ 58 (List._∷_ 80 (List._∷_ 114 (List._∷_ 111 (List._∷_ 103 (List._∷_ 114 (List._∷_ 101 (List._∷_ 115 (List._∷_ 115 List.[])))))))))))))))))))))) (Syntax.tcons (Syntax.tyInt Syntax.w64) (Syntax.tcons (Syntax.tyInt Syntax.w64) Syntax.tnil)))) ((Scalar.reads-sc 𝓤 H A W (Row.sInt Syntax.w64), Path'.refl), ((Scalar.reads-sc 𝓤 H A W (Row.sInt Syntax.w64), Path'.refl), tt)) Path'.refl (λ u. Path'.refl) λ m. Make.is-wt (Apart.apartT Progress.the-type) Laws.the-laws (Make.u64-wt, (Make.u64-wt, tt)) (m .1 .1 .1 .1 .1 .1 .1 .1 .1 .1 .1 .0, (m .1 .1 .1 .1 .1 .1 .1 .1 .1 .1 .1 .1 .0, tt))) d73
 
-          d75 : Typed.Typed 𝓤 H A 𝓣 E G2 b52 Δ0 at75
-          d75 = Typed.g-pre 𝓤 H A W 𝓣 E G2 G3 b52 Δ0 (Typed.give s1) at74 (Know.g-shs-known 𝓤 H A W (Referent.fInt Syntax.w16) E G2 4 2 ty·3 (Row.lease (κs .1 .1 .0) (qs .1 .1 .0)) 0 (λ x. x) record { fits = Dec'.lit< tt } (Reads.as-is 𝓤 H A (Rows.sslice (Referent.rtF (Referent.fInt Syntax.w16)) ty·3 2)) Path'.refl tt) d74
+          d75 : Typed.Typed 𝓤 H A 𝓣 E G10 b53 Δ0 at75
+          d75 = Typed.t-seq 𝓤 H A W 𝓣 E G10 G11 b49 b52 Δ0 at66 at74 d66 d74
 
-          d76 : Typed.Typed 𝓤 H A 𝓣 E G0 b52 Δ0 at76
-          d76 = Typed.g-pre 𝓤 H A W 𝓣 E G0 G2 b52 Δ0 (Typed.give s0) at75 (Know.g-shs-known 𝓤 H A W (Referent.fInt Syntax.w16) E G0 3 1 ty·2 (Row.lease (κs .1 .0) (qs .1 .0)) 0 (λ x. x) record { fits = Dec'.lit< tt } (Reads.as-is 𝓤 H A (Rows.sslice (Referent.rtF (Referent.fInt Syntax.w16)) ty·2 1)) Path'.refl tt) d75
+          d76 : Typed.Typed 𝓤 H A 𝓣 E G9 b54 Δ0 at76
+          d76 = Typed.s-seq 𝓤 H A W 𝓣 E G9 G10 b2 b53 Δ0 (Typed.pass T9 T10 s8) at75 (Scalar.t-use 𝓤 H A W E 𝓣 G9 (Scalar.oAt 9 (Syntax.tyInt Syntax.w64) (Row.valS (Row.sInt Syntax.w64))) 13 (Rows.sc-here (Row.sInt Syntax.w64)) (Syntax.tyInt Syntax.w64) (Row.valS (Row.sInt Syntax.w64)) (Row.sInt Syntax.w64 .of) (Scalar.reads-sc 𝓤 H A W (Row.sInt Syntax.w64), Path'.refl) (Reads.room-gone 𝓤 H A (Syntax.tyInt Syntax.w64)) (Scalar.holds-sc 𝓤 H A W (Row.sInt Syntax.w64)) Path'.refl (λ u. Path'.refl) λ u. tt) d75
 
-          pub typed : Typed.Typed 𝓤 H A 𝓣 E (Function.Γin 6 ps r xs m κs qs) b52 (Function.Δret 6 ps r xs m κs qs) Φ
-          typed = d76
+          d77 : Typed.Typed 𝓤 H A 𝓣 E G8 b55 Δ0 at77
+          d77 = Typed.s-seq 𝓤 H A W 𝓣 E G8 G9 b1 b54 Δ0 (Typed.pass T8 T9 s7) at76 (Scalar.t-use 𝓤 H A W E 𝓣 G8 (Scalar.oBig Syntax.w64 65535) 12 (Rows.sc-here (Row.sInt Syntax.w64)) (Syntax.tyInt Syntax.w64) (Row.valS (Row.sInt Syntax.w64)) (Row.sInt Syntax.w64 .of) record { lower = record { fits = Dec'.lit< tt } } (Reads.room-gone 𝓤 H A (Syntax.tyInt Syntax.w64)) (Scalar.holds-sc 𝓤 H A W (Row.sInt Syntax.w64)) Path'.refl (λ u. Path'.refl) λ u. tt) d76
 
-      module _ (κs : Lifetimes.Lfts 6) where
+          d78 : Typed.Typed 𝓤 H A 𝓣 E G7 b56 Δ0 at78
+          d78 = Typed.s-seq 𝓤 H A W 𝓣 E G7 G8 b0 b55 Δ0 (Typed.pass T7 T8 s6) at77 (Scalar.t-use 𝓤 H A W E 𝓣 G7 (Scalar.oAt 10 (Syntax.tyInt Syntax.w64) (Row.valS (Row.sInt Syntax.w64))) 11 (Rows.sc-here (Row.sInt Syntax.w64)) (Syntax.tyInt Syntax.w64) (Row.valS (Row.sInt Syntax.w64)) (Row.sInt Syntax.w64 .of) (Scalar.reads-sc 𝓤 H A W (Row.sInt Syntax.w64), Path'.refl) (Reads.room-gone 𝓤 H A (Syntax.tyInt Syntax.w64)) (Scalar.holds-sc 𝓤 H A W (Row.sInt Syntax.w64)) Path'.refl (λ u. Path'.refl) λ u. tt) d77
+
+          d79 : Typed.Typed 𝓤 H A 𝓣 E G6 b56 Δ0 at79
+          d79 = Typed.g-pre 𝓤 H A W 𝓣 E G6 G7 b56 Δ0 (Typed.give s5) at78 (Know.g-sl-known 𝓤 H A W (Referent.fInt Syntax.w16) E G6 8 6 ty·7 (Row.lease (κs .1 .1 .1 .1 .1 .1 .0) (qs .1 .1 .1 .1 .1 .1 .0)) 0 (λ x. x) record { fits = Dec'.lit< tt } (Reads.as-is 𝓤 H A (Mut.mslice (Referent.rtF (Referent.fInt Syntax.w16)) ty·7 6)) Path'.refl tt) d78
+
+          d80 : Typed.Typed 𝓤 H A 𝓣 E G5 b56 Δ0 at80
+          d80 = Typed.g-pre 𝓤 H A W 𝓣 E G5 G6 b56 Δ0 (Typed.give s4) at79 (Know.g-sl-known 𝓤 H A W (Referent.fInt Syntax.w16) E G5 7 5 ty·6 (Row.lease (κs .1 .1 .1 .1 .1 .0) (qs .1 .1 .1 .1 .1 .0)) 0 (λ x. x) record { fits = Dec'.lit< tt } (Reads.as-is 𝓤 H A (Mut.mslice (Referent.rtF (Referent.fInt Syntax.w16)) ty·6 5)) Path'.refl tt) d79
+
+          d81 : Typed.Typed 𝓤 H A 𝓣 E G4 b56 Δ0 at81
+          d81 = Typed.g-pre 𝓤 H A W 𝓣 E G4 G5 b56 Δ0 (Typed.give s3) at80 (Know.g-sl-known 𝓤 H A W (Referent.fInt Syntax.w16) E G4 6 4 ty·5 (Row.lease (κs .1 .1 .1 .1 .0) (qs .1 .1 .1 .1 .0)) 0 (λ x. x) record { fits = Dec'.lit< tt } (Reads.as-is 𝓤 H A (Mut.mslice (Referent.rtF (Referent.fInt Syntax.w16)) ty·5 4)) Path'.refl tt) d80
+
+          d82 : Typed.Typed 𝓤 H A 𝓣 E G3 b56 Δ0 at82
+          d82 = Typed.g-pre 𝓤 H A W 𝓣 E G3 G4 b56 Δ0 (Typed.give s2) at81 (Know.g-sl-known 𝓤 H A W (Referent.fInt Syntax.w16) E G3 5 3 ty·4 (Row.lease (κs .1 .1 .1 .0) (qs .1 .1 .1 .0)) 0 (λ x. x) record { fits = Dec'.lit< tt } (Reads.as-is 𝓤 H A (Mut.mslice (Referent.rtF (Referent.fInt Syntax.w16)) ty·4 3)) Path'.refl tt) d81
+
+          d83 : Typed.Typed 𝓤 H A 𝓣 E G2 b56 Δ0 at83
+          d83 = Typed.g-pre 𝓤 H A W 𝓣 E G2 G3 b56 Δ0 (Typed.give s1) at82 (Know.g-shs-known 𝓤 H A W (Referent.fInt Syntax.w16) E G2 4 2 ty·3 (Row.lease (κs .1 .1 .0) (qs .1 .1 .0)) 0 (λ x. x) record { fits = Dec'.lit< tt } (Reads.as-is 𝓤 H A (Rows.sslice (Referent.rtF (Referent.fInt Syntax.w16)) ty·3 2)) Path'.refl tt) d82
+
+          d84 : Typed.Typed 𝓤 H A 𝓣 E G0 b56 Δ0 at84
+          d84 = Typed.g-pre 𝓤 H A W 𝓣 E G0 G2 b56 Δ0 (Typed.give s0) at83 (Know.g-shs-known 𝓤 H A W (Referent.fInt Syntax.w16) E G0 3 1 ty·2 (Row.lease (κs .1 .0) (qs .1 .0)) 0 (λ x. x) record { fits = Dec'.lit< tt } (Reads.as-is 𝓤 H A (Rows.sslice (Referent.rtF (Referent.fInt Syntax.w16)) ty·2 1)) Path'.refl tt) d83
+
+          pub typed : Typed.Typed 𝓤 H A 𝓣 E (Function.Γin 7 ps r xs m κs qs) b56 (Function.Δret 7 ps r xs m κs qs) Φ
+          typed = d84
+
+      module _ (κs : Lifetimes.Lfts 7) where
         pub record Args : Type 0 where
-          pub size : Kinds.Den {n = 6} κs (Value.pVal record { ty = Declared.row Size.the-type; one = Path'.refl; val = Laws'3.val Size.the-type Laws'.the-laws; tells = Laws'3.tells Size.the-type Laws'.the-laws; still = Laws'3.still Size.the-type Laws'.the-copy Exit.yes; row = Rows.whole (Declared.row Size.the-type); rd = λ x. x; mk = λ x. x } λ M 𝓤 H A W. record { copies = Laws'3.copy Size.the-type Laws'.the-copy 𝓤 H A W; lawful = Laws'3.lawful Size.the-type Laws'.the-laws 𝓤 H A W; makes = Laws'3.makes Size.the-type Laws'.the-plain 𝓤 H A; in-mem = Local.mem-whole 𝓤 H A W (Declared.row Size.the-type); of-mem = Local.whole-mem 𝓤 H A W (Declared.row Size.the-type) })
-          pub rows : Kinds.Den {n = 6} κs (ShrSlice.pShrS T.the-row 0 tt)
-          pub firsts : Kinds.Den {n = 6} κs (ShrSlice.pShrS (Referent.rtF (Referent.fInt Syntax.w16)) 1 tt)
-          pub outcomes : Kinds.Den {n = 6} κs (ShrSlice.pShrS (Referent.rtF (Referent.fInt Syntax.w16)) 2 tt)
-          pub commands : Kinds.Den {n = 6} κs (MutSlice.pMutS (Referent.rtF (Referent.fInt Syntax.w16)) 3 tt)
-          pub scratch : Kinds.Den {n = 6} κs (MutSlice.pMutS (Referent.rtF (Referent.fInt Syntax.w16)) 4 tt)
-          pub queue : Kinds.Den {n = 6} κs (MutSlice.pMutS (Referent.rtF (Referent.fInt Syntax.w16)) 5 tt)
-          pub from : Kinds.Den {n = 6} κs (Num.pNum Syntax.w64)
-          pub reached : Kinds.Den {n = 6} κs (Num.pNum Syntax.w64)
+          pub size : Kinds.Den {n = 7} κs (Value.pVal record { ty = Declared.row Size.the-type; one = Path'.refl; val = Laws'3.val Size.the-type Laws'.the-laws; tells = Laws'3.tells Size.the-type Laws'.the-laws; still = Laws'3.still Size.the-type Laws'.the-copy Exit.yes; row = Rows.whole (Declared.row Size.the-type); rd = λ x. x; mk = λ x. x } λ M 𝓤 H A W. record { copies = Laws'3.copy Size.the-type Laws'.the-copy 𝓤 H A W; lawful = Laws'3.lawful Size.the-type Laws'.the-laws 𝓤 H A W; makes = Laws'3.makes Size.the-type Laws'.the-plain 𝓤 H A; in-mem = Local.mem-whole 𝓤 H A W (Declared.row Size.the-type); of-mem = Local.whole-mem 𝓤 H A W (Declared.row Size.the-type) })
+          pub rows : Kinds.Den {n = 7} κs (ShrSlice.pShrS T.the-row 0 tt)
+          pub firsts : Kinds.Den {n = 7} κs (ShrSlice.pShrS (Referent.rtF (Referent.fInt Syntax.w16)) 1 tt)
+          pub outcomes : Kinds.Den {n = 7} κs (ShrSlice.pShrS (Referent.rtF (Referent.fInt Syntax.w16)) 2 tt)
+          pub commands : Kinds.Den {n = 7} κs (MutSlice.pMutS (Referent.rtF (Referent.fInt Syntax.w16)) 3 tt)
+          pub scratch : Kinds.Den {n = 7} κs (MutSlice.pMutS (Referent.rtF (Referent.fInt Syntax.w16)) 4 tt)
+          pub queue : Kinds.Den {n = 7} κs (MutSlice.pMutS (Referent.rtF (Referent.fInt Syntax.w16)) 5 tt)
+          pub tried : Kinds.Den {n = 7} κs (MutSlice.pMutS (Referent.rtF (Referent.fInt Syntax.w16)) 6 tt)
+          pub from : Kinds.Den {n = 7} κs (Num.pNum Syntax.w64)
+          pub reached : Kinds.Den {n = 7} κs (Num.pNum Syntax.w64)
 
         abbrev pub dens : (a : Args) → Kinds.Dens κs ps
-        dens = λ a. (a .size, (a .rows, (a .firsts, (a .outcomes, (a .commands, (a .scratch, (a .queue, (a .from, (a .reached, tt)))))))))
+        dens = λ a. (a .size, (a .rows, (a .firsts, (a .outcomes, (a .commands, (a .scratch, (a .queue, (a .tried, (a .from, (a .reached, tt))))))))))
 
         module _ (args· : Args) where
           pub record Ranges : Type 0 where
             pub from : Val.Fits Syntax.w64 (args· .from)
             pub reached : Val.Fits Syntax.w64 (args· .reached)
 
-      abbrev pub m0 : (κs : Lifetimes.Lfts 6) → (args : Args κs) → Typed.Mo T0
+      abbrev pub m0 : (κs : Lifetimes.Lfts 7) → (args : Args κs) → Typed.Mo T0
       m0 = λ κs args. (tt, Enter.partsP κs 1 ps xs (dens κs args))
 
-      abbrev W0 : (κs : Lifetimes.Lfts 6) → (args : Args κs) → Typed.Want O0
-      W0 = λ κs args. (λ u. ⊥, tt, λ u. Enter.Fixs κs 1 ps xs (dens κs args) (u .1) × Post· κs (dens κs args) (Function.resV r κs (u .0)) (Clauses.atExit (Kinds.endedOf 6 ps r) κs (dens κs args) (Enter.lastsP κs 1 ps xs (dens κs args) (u .1))))
+      abbrev W0 : (κs : Lifetimes.Lfts 7) → (args : Args κs) → Typed.Want O0
+      W0 = λ κs args. (λ u. ⊥, tt, λ u. Enter.Fixs κs 1 ps xs (dens κs args) (u .1) × Post· κs (dens κs args) (Function.resV r κs (u .0)) (Clauses.atExit (Kinds.endedOf 7 ps r) κs (dens κs args) (Enter.lastsP κs 1 ps xs (dens κs args) (u .1))))
 
       pub record Start : Type 0 where
-        pub κs : Lifetimes.Lfts 6
+        pub κs : Lifetimes.Lfts 7
         pub args : Args κs
         pub good : Kinds.GoodsP κs ps (dens κs args)
         pub fits : Ranges κs args
@@ -1617,21 +1753,6 @@ module _ (claims· : Claims) where
       abbrev pub m5 : (before : After-slice-known2) → (given : s4 .gives (m4 (before .before) (before .slice-known2 .given))) → Typed.Mo T6
       m5 = λ before given. s4 .next (m4 (before .before) (before .slice-known2 .given)) given
 
-      abbrev pub m6 : (before : After-slice-known2) → (given : s4 .gives (m4 (before .before) (before .slice-known2 .given))) → Typed.Mo T7
-      m6 = λ before given. s5 (m5 before given)
-
-      abbrev pub m7 : (before : After-slice-known2) → (given : s4 .gives (m4 (before .before) (before .slice-known2 .given))) → Typed.Mo T8
-      m7 = λ before given. s6 (m6 before given)
-
-      abbrev pub m8 : (before : After-slice-known2) → (given : s4 .gives (m4 (before .before) (before .slice-known2 .given))) → Typed.Mo T9
-      m8 = λ before given. s7 (m7 before given)
-
-      abbrev W1 : (before : After-slice-known2) → (given : s4 .gives (m4 (before .before) (before .slice-known2 .given))) → Typed.Want O1
-      W1 = λ before given. Typed.wantNext T10 O0 (at67 (W0 (before .before .before .before .before .κs) (before .before .before .before .before .args))) (W0 (before .before .before .before .before .κs) (before .before .before .before .before .args))
-
-      abbrev W2 : (before : After-slice-known2) → (given : s4 .gives (m4 (before .before) (before .slice-known2 .given))) → Typed.Want O2
-      W2 = λ before given. Typed.inBlock O1 (W1 before given)
-
       module _ (before· : After-slice-known2) where
         pub record After-slice-known3·own : Type 0 where
           pub given : s4 .gives (m4 (before· .before) (before· .slice-known2 .given))
@@ -1640,388 +1761,454 @@ module _ (claims· : Claims) where
         pub before : After-slice-known2
         pub slice-known3 : After-slice-known3·own before
 
-      abbrev pub Need-loop-holds : Type 0
-      Need-loop-holds = (c : After-slice-known3) → Inv·0 (Row.get 1 (T9 .locals) (m8 (c .before) (c .slice-known3 .given))) (Row.get 2 (T9 .locals) (m8 (c .before) (c .slice-known3 .given)) .now) (Row.get 3 (T9 .locals) (m8 (c .before) (c .slice-known3 .given)) .now) (Row.get 4 (T9 .locals) (m8 (c .before) (c .slice-known3 .given)) .now) (Row.get 5 (T9 .locals) (m8 (c .before) (c .slice-known3 .given)) .now) (Row.get 6 (T9 .locals) (m8 (c .before) (c .slice-known3 .given)) .now) (Row.get 7 (T9 .locals) (m8 (c .before) (c .slice-known3 .given)) .now) (Row.get 8 (T9 .locals) (m8 (c .before) (c .slice-known3 .given))) (Row.get 9 (T9 .locals) (m8 (c .before) (c .slice-known3 .given))) (Row.get 10 (T9 .locals) (m8 (c .before) (c .slice-known3 .given))) (Row.get 11 (T9 .locals) (m8 (c .before) (c .slice-known3 .given))) (Row.get 12 (T9 .locals) (m8 (c .before) (c .slice-known3 .given))) (Row.get 5 (T9 .locals) (m8 (c .before) (c .slice-known3 .given)) .now) (Row.get 6 (T9 .locals) (m8 (c .before) (c .slice-known3 .given)) .now) (Row.get 7 (T9 .locals) (m8 (c .before) (c .slice-known3 .given)) .now) (Row.get 10 (T9 .locals) (m8 (c .before) (c .slice-known3 .given))) (Row.get 11 (T9 .locals) (m8 (c .before) (c .slice-known3 .given))) (Row.get 12 (T9 .locals) (m8 (c .before) (c .slice-known3 .given)))
+      abbrev pub m6 : (before : After-slice-known3) → (given : s5 .gives (m5 (before .before) (before .slice-known3 .given))) → Typed.Mo T7
+      m6 = λ before given. s5 .next (m5 (before .before) (before .slice-known3 .given)) given
 
-      abbrev pub m9 : (before : After-slice-known3) → (commands : List.List (Referent.rtF (Referent.fInt Syntax.w16) .Denot)) → (scratch : List.List (Referent.rtF (Referent.fInt Syntax.w16) .Denot)) → (queue : List.List (Referent.rtF (Referent.fInt Syntax.w16) .Denot)) → (q : Rows.sc-here (Row.sInt Syntax.w64) .Mod) → (low : Rows.sc-here (Row.sInt Syntax.w64) .Mod) → (h : Rows.sc-here (Row.sInt Syntax.w64) .Mod) → Typed.Mo T9
-      m9 = λ before commands scratch queue q low h. Row.set 12 (12, Rows.sc-here (Row.sInt Syntax.w64)) h (Row.setRow 11 (11, Rows.sc-here (Row.sInt Syntax.w64)) (Row.setRow 10 (10, Rows.sc-here (Row.sInt Syntax.w64)) (Row.setRow 7 (7, Mut.mslice (Referent.rtF (Referent.fInt Syntax.w16)) ty·6 5) (Row.setRow 6 (6, Mut.mslice (Referent.rtF (Referent.fInt Syntax.w16)) ty·5 4) (Row.setRow 5 (5, Mut.mslice (Referent.rtF (Referent.fInt Syntax.w16)) ty·4 3) (T9 .locals)))))) (Row.set 11 (11, Rows.sc-here (Row.sInt Syntax.w64)) low (Row.setRow 10 (10, Rows.sc-here (Row.sInt Syntax.w64)) (Row.setRow 7 (7, Mut.mslice (Referent.rtF (Referent.fInt Syntax.w16)) ty·6 5) (Row.setRow 6 (6, Mut.mslice (Referent.rtF (Referent.fInt Syntax.w16)) ty·5 4) (Row.setRow 5 (5, Mut.mslice (Referent.rtF (Referent.fInt Syntax.w16)) ty·4 3) (T9 .locals))))) (Row.set 10 (10, Rows.sc-here (Row.sInt Syntax.w64)) q (Row.setRow 7 (7, Mut.mslice (Referent.rtF (Referent.fInt Syntax.w16)) ty·6 5) (Row.setRow 6 (6, Mut.mslice (Referent.rtF (Referent.fInt Syntax.w16)) ty·5 4) (Row.setRow 5 (5, Mut.mslice (Referent.rtF (Referent.fInt Syntax.w16)) ty·4 3) (T9 .locals)))) (Row.set 7 (7, Mut.mslice (Referent.rtF (Referent.fInt Syntax.w16)) ty·6 5) record { ptr = Row.get 7 (T9 .locals) (m8 (before .before) (before .slice-known3 .given)) .ptr; name = Row.get 7 (T9 .locals) (m8 (before .before) (before .slice-known3 .given)) .name; now = queue } (Row.setRow 6 (6, Mut.mslice (Referent.rtF (Referent.fInt Syntax.w16)) ty·5 4) (Row.setRow 5 (5, Mut.mslice (Referent.rtF (Referent.fInt Syntax.w16)) ty·4 3) (T9 .locals))) (Row.set 6 (6, Mut.mslice (Referent.rtF (Referent.fInt Syntax.w16)) ty·5 4) record { ptr = Row.get 6 (T9 .locals) (m8 (before .before) (before .slice-known3 .given)) .ptr; name = Row.get 6 (T9 .locals) (m8 (before .before) (before .slice-known3 .given)) .name; now = scratch } (Row.setRow 5 (5, Mut.mslice (Referent.rtF (Referent.fInt Syntax.w16)) ty·4 3) (T9 .locals)) (Row.set 5 (5, Mut.mslice (Referent.rtF (Referent.fInt Syntax.w16)) ty·4 3) record { ptr = Row.get 5 (T9 .locals) (m8 (before .before) (before .slice-known3 .given)) .ptr; name = Row.get 5 (T9 .locals) (m8 (before .before) (before .slice-known3 .given)) .name; now = commands } (T9 .locals) (m8 (before .before) (before .slice-known3 .given)))))))
+      abbrev pub m7 : (before : After-slice-known3) → (given : s5 .gives (m5 (before .before) (before .slice-known3 .given))) → Typed.Mo T8
+      m7 = λ before given. s6 (m6 before given)
 
-      abbrev W3 : (before : After-slice-known3) → (commands : List.List (Referent.rtF (Referent.fInt Syntax.w16) .Denot)) → (scratch : List.List (Referent.rtF (Referent.fInt Syntax.w16) .Denot)) → (queue : List.List (Referent.rtF (Referent.fInt Syntax.w16) .Denot)) → (q : Rows.sc-here (Row.sInt Syntax.w64) .Mod) → (low : Rows.sc-here (Row.sInt Syntax.w64) .Mod) → (h : Rows.sc-here (Row.sInt Syntax.w64) .Mod) → Typed.Want O3
-      W3 = λ before commands scratch queue q low h. Typed.inLoop T9 O2 (Typed.Round T9 O2 put0 (λ u vs. Inv·0 (Row.get 1 (T9 .locals) u) (Row.get 2 (T9 .locals) u .now) (Row.get 3 (T9 .locals) u .now) (Row.get 4 (T9 .locals) u .now) (Row.get 5 (T9 .locals) u .now) (Row.get 6 (T9 .locals) u .now) (Row.get 7 (T9 .locals) u .now) (Row.get 8 (T9 .locals) u) (Row.get 9 (T9 .locals) u) (Row.get 10 (T9 .locals) u) (Row.get 11 (T9 .locals) u) (Row.get 12 (T9 .locals) u) (vs .0) (vs .1) (vs .2) (vs .3) (vs .4) (vs .5)) (λ u vs. μ·0 (Row.get 1 (T9 .locals) u) (Row.get 2 (T9 .locals) u .now) (Row.get 3 (T9 .locals) u .now) (Row.get 4 (T9 .locals) u .now) (Row.get 5 (T9 .locals) u .now) (Row.get 6 (T9 .locals) u .now) (Row.get 7 (T9 .locals) u .now) (Row.get 8 (T9 .locals) u) (Row.get 9 (T9 .locals) u) (Row.get 10 (T9 .locals) u) (Row.get 11 (T9 .locals) u) (Row.get 12 (T9 .locals) u) (vs .0) (vs .1) (vs .2) (vs .3) (vs .4) (vs .5)) at57 (m8 (before .before) (before .slice-known3 .given)) (commands, scratch, queue, q, low, h)) (W2 (before .before) (before .slice-known3 .given))
+      abbrev pub m8 : (before : After-slice-known3) → (given : s5 .gives (m5 (before .before) (before .slice-known3 .given))) → Typed.Mo T9
+      m8 = λ before given. s7 (m7 before given)
 
-      abbrev pub m10 : (before : After-slice-known3) → (commands : List.List (Referent.rtF (Referent.fInt Syntax.w16) .Denot)) → (scratch : List.List (Referent.rtF (Referent.fInt Syntax.w16) .Denot)) → (queue : List.List (Referent.rtF (Referent.fInt Syntax.w16) .Denot)) → (q : Rows.sc-here (Row.sInt Syntax.w64) .Mod) → (low : Rows.sc-here (Row.sInt Syntax.w64) .Mod) → (h : Rows.sc-here (Row.sInt Syntax.w64) .Mod) → Typed.Mo T11
-      m10 = λ before commands scratch queue q low h. s8 .next (m9 before commands scratch queue q low h)
+      abbrev pub m9 : (before : After-slice-known3) → (given : s5 .gives (m5 (before .before) (before .slice-known3 .given))) → Typed.Mo T10
+      m9 = λ before given. s8 (m8 before given)
 
-      abbrev W4 : (before : After-slice-known3) → (commands : List.List (Referent.rtF (Referent.fInt Syntax.w16) .Denot)) → (scratch : List.List (Referent.rtF (Referent.fInt Syntax.w16) .Denot)) → (queue : List.List (Referent.rtF (Referent.fInt Syntax.w16) .Denot)) → (q : Rows.sc-here (Row.sInt Syntax.w64) .Mod) → (low : Rows.sc-here (Row.sInt Syntax.w64) .Mod) → (h : Rows.sc-here (Row.sInt Syntax.w64) .Mod) → Typed.Want O4
-      W4 = λ before commands scratch queue q low h. Typed.wantNext T12 O3 (at55 (W3 before commands scratch queue q low h)) (W3 before commands scratch queue q low h)
+      abbrev W1 : (before : After-slice-known3) → (given : s5 .gives (m5 (before .before) (before .slice-known3 .given))) → Typed.Want O1
+      W1 = λ before given. Typed.wantNext T11 O0 (at74 (W0 (before .before .before .before .before .before .κs) (before .before .before .before .before .before .args))) (W0 (before .before .before .before .before .before .κs) (before .before .before .before .before .before .args))
+
+      abbrev W2 : (before : After-slice-known3) → (given : s5 .gives (m5 (before .before) (before .slice-known3 .given))) → Typed.Want O2
+      W2 = λ before given. Typed.inBlock O1 (W1 before given)
 
       module _ (before· : After-slice-known3) where
+        pub record After-slice-known4·own : Type 0 where
+          pub given : s5 .gives (m5 (before· .before) (before· .slice-known3 .given))
+
+      pub record After-slice-known4 : Type 0 where
+        pub before : After-slice-known3
+        pub slice-known4 : After-slice-known4·own before
+
+      abbrev pub Need-loop-holds : Type 0
+      Need-loop-holds = (c : After-slice-known4) → Inv·0 (Row.get 1 (T10 .locals) (m9 (c .before) (c .slice-known4 .given))) (Row.get 2 (T10 .locals) (m9 (c .before) (c .slice-known4 .given)) .now) (Row.get 3 (T10 .locals) (m9 (c .before) (c .slice-known4 .given)) .now) (Row.get 4 (T10 .locals) (m9 (c .before) (c .slice-known4 .given)) .now) (Row.get 5 (T10 .locals) (m9 (c .before) (c .slice-known4 .given)) .now) (Row.get 6 (T10 .locals) (m9 (c .before) (c .slice-known4 .given)) .now) (Row.get 7 (T10 .locals) (m9 (c .before) (c .slice-known4 .given)) .now) (Row.get 8 (T10 .locals) (m9 (c .before) (c .slice-known4 .given)) .now) (Row.get 9 (T10 .locals) (m9 (c .before) (c .slice-known4 .given))) (Row.get 10 (T10 .locals) (m9 (c .before) (c .slice-known4 .given))) (Row.get 11 (T10 .locals) (m9 (c .before) (c .slice-known4 .given))) (Row.get 12 (T10 .locals) (m9 (c .before) (c .slice-known4 .given))) (Row.get 13 (T10 .locals) (m9 (c .before) (c .slice-known4 .given))) (Row.get 5 (T10 .locals) (m9 (c .before) (c .slice-known4 .given)) .now) (Row.get 6 (T10 .locals) (m9 (c .before) (c .slice-known4 .given)) .now) (Row.get 7 (T10 .locals) (m9 (c .before) (c .slice-known4 .given)) .now) (Row.get 8 (T10 .locals) (m9 (c .before) (c .slice-known4 .given)) .now) (Row.get 11 (T10 .locals) (m9 (c .before) (c .slice-known4 .given))) (Row.get 12 (T10 .locals) (m9 (c .before) (c .slice-known4 .given))) (Row.get 13 (T10 .locals) (m9 (c .before) (c .slice-known4 .given)))
+
+      abbrev pub m10 : (before : After-slice-known4) → (commands : List.List (Referent.rtF (Referent.fInt Syntax.w16) .Denot)) → (scratch : List.List (Referent.rtF (Referent.fInt Syntax.w16) .Denot)) → (queue : List.List (Referent.rtF (Referent.fInt Syntax.w16) .Denot)) → (tried : List.List (Referent.rtF (Referent.fInt Syntax.w16) .Denot)) → (q : Rows.sc-here (Row.sInt Syntax.w64) .Mod) → (low : Rows.sc-here (Row.sInt Syntax.w64) .Mod) → (h : Rows.sc-here (Row.sInt Syntax.w64) .Mod) → Typed.Mo T10
+      m10 = λ before commands scratch queue tried q low h. Row.set 13 (13, Rows.sc-here (Row.sInt Syntax.w64)) h (Row.setRow 12 (12, Rows.sc-here (Row.sInt Syntax.w64)) (Row.setRow 11 (11, Rows.sc-here (Row.sInt Syntax.w64)) (Row.setRow 8 (8, Mut.mslice (Referent.rtF (Referent.fInt Syntax.w16)) ty·7 6) (Row.setRow 7 (7, Mut.mslice (Referent.rtF (Referent.fInt Syntax.w16)) ty·6 5) (Row.setRow 6 (6, Mut.mslice (Referent.rtF (Referent.fInt Syntax.w16)) ty·5 4) (Row.setRow 5 (5, Mut.mslice (Referent.rtF (Referent.fInt Syntax.w16)) ty·4 3) (T10 .locals))))))) (Row.set 12 (12, Rows.sc-here (Row.sInt Syntax.w64)) low (Row.setRow 11 (11, Rows.sc-here (Row.sInt Syntax.w64)) (Row.setRow 8 (8, Mut.mslice (Referent.rtF (Referent.fInt Syntax.w16)) ty·7 6) (Row.setRow 7 (7, Mut.mslice (Referent.rtF (Referent.fInt Syntax.w16)) ty·6 5) (Row.setRow 6 (6, Mut.mslice (Referent.rtF (Referent.fInt Syntax.w16)) ty·5 4) (Row.setRow 5 (5, Mut.mslice (Referent.rtF (Referent.fInt Syntax.w16)) ty·4 3) (T10 .locals)))))) (Row.set 11 (11, Rows.sc-here (Row.sInt Syntax.w64)) q (Row.setRow 8 (8, Mut.mslice (Referent.rtF (Referent.fInt Syntax.w16)) ty·7 6) (Row.setRow 7 (7, Mut.mslice (Referent.rtF (Referent.fInt Syntax.w16)) ty·6 5) (Row.setRow 6 (6, Mut.mslice (Referent.rtF (Referent.fInt Syntax.w16)) ty·5 4) (Row.setRow 5 (5, Mut.mslice (Referent.rtF (Referent.fInt Syntax.w16)) ty·4 3) (T10 .locals))))) (Row.set 8 (8, Mut.mslice (Referent.rtF (Referent.fInt Syntax.w16)) ty·7 6) record { ptr = Row.get 8 (T10 .locals) (m9 (before .before) (before .slice-known4 .given)) .ptr; name = Row.get 8 (T10 .locals) (m9 (before .before) (before .slice-known4 .given)) .name; now = tried } (Row.setRow 7 (7, Mut.mslice (Referent.rtF (Referent.fInt Syntax.w16)) ty·6 5) (Row.setRow 6 (6, Mut.mslice (Referent.rtF (Referent.fInt Syntax.w16)) ty·5 4) (Row.setRow 5 (5, Mut.mslice (Referent.rtF (Referent.fInt Syntax.w16)) ty·4 3) (T10 .locals)))) (Row.set 7 (7, Mut.mslice (Referent.rtF (Referent.fInt Syntax.w16)) ty·6 5) record { ptr = Row.get 7 (T10 .locals) (m9 (before .before) (before .slice-known4 .given)) .ptr; name = Row.get 7 (T10 .locals) (m9 (before .before) (before .slice-known4 .given)) .name; now = queue } (Row.setRow 6 (6, Mut.mslice (Referent.rtF (Referent.fInt Syntax.w16)) ty·5 4) (Row.setRow 5 (5, Mut.mslice (Referent.rtF (Referent.fInt Syntax.w16)) ty·4 3) (T10 .locals))) (Row.set 6 (6, Mut.mslice (Referent.rtF (Referent.fInt Syntax.w16)) ty·5 4) record { ptr = Row.get 6 (T10 .locals) (m9 (before .before) (before .slice-known4 .given)) .ptr; name = Row.get 6 (T10 .locals) (m9 (before .before) (before .slice-known4 .given)) .name; now = scratch } (Row.setRow 5 (5, Mut.mslice (Referent.rtF (Referent.fInt Syntax.w16)) ty·4 3) (T10 .locals)) (Row.set 5 (5, Mut.mslice (Referent.rtF (Referent.fInt Syntax.w16)) ty·4 3) record { ptr = Row.get 5 (T10 .locals) (m9 (before .before) (before .slice-known4 .given)) .ptr; name = Row.get 5 (T10 .locals) (m9 (before .before) (before .slice-known4 .given)) .name; now = commands } (T10 .locals) (m9 (before .before) (before .slice-known4 .given))))))))
+
+      abbrev W3 : (before : After-slice-known4) → (commands : List.List (Referent.rtF (Referent.fInt Syntax.w16) .Denot)) → (scratch : List.List (Referent.rtF (Referent.fInt Syntax.w16) .Denot)) → (queue : List.List (Referent.rtF (Referent.fInt Syntax.w16) .Denot)) → (tried : List.List (Referent.rtF (Referent.fInt Syntax.w16) .Denot)) → (q : Rows.sc-here (Row.sInt Syntax.w64) .Mod) → (low : Rows.sc-here (Row.sInt Syntax.w64) .Mod) → (h : Rows.sc-here (Row.sInt Syntax.w64) .Mod) → Typed.Want O3
+      W3 = λ before commands scratch queue tried q low h. Typed.inLoop T10 O2 (Typed.Round T10 O2 put0 (λ u vs. Inv·0 (Row.get 1 (T10 .locals) u) (Row.get 2 (T10 .locals) u .now) (Row.get 3 (T10 .locals) u .now) (Row.get 4 (T10 .locals) u .now) (Row.get 5 (T10 .locals) u .now) (Row.get 6 (T10 .locals) u .now) (Row.get 7 (T10 .locals) u .now) (Row.get 8 (T10 .locals) u .now) (Row.get 9 (T10 .locals) u) (Row.get 10 (T10 .locals) u) (Row.get 11 (T10 .locals) u) (Row.get 12 (T10 .locals) u) (Row.get 13 (T10 .locals) u) (vs .0) (vs .1) (vs .2) (vs .3) (vs .4) (vs .5) (vs .6)) (λ u vs. μ·0 (Row.get 1 (T10 .locals) u) (Row.get 2 (T10 .locals) u .now) (Row.get 3 (T10 .locals) u .now) (Row.get 4 (T10 .locals) u .now) (Row.get 5 (T10 .locals) u .now) (Row.get 6 (T10 .locals) u .now) (Row.get 7 (T10 .locals) u .now) (Row.get 8 (T10 .locals) u .now) (Row.get 9 (T10 .locals) u) (Row.get 10 (T10 .locals) u) (Row.get 11 (T10 .locals) u) (Row.get 12 (T10 .locals) u) (Row.get 13 (T10 .locals) u) (vs .0) (vs .1) (vs .2) (vs .3) (vs .4) (vs .5) (vs .6)) at64 (m9 (before .before) (before .slice-known4 .given)) (commands, scratch, queue, tried, q, low, h)) (W2 (before .before) (before .slice-known4 .given))
+
+      abbrev pub m11 : (before : After-slice-known4) → (commands : List.List (Referent.rtF (Referent.fInt Syntax.w16) .Denot)) → (scratch : List.List (Referent.rtF (Referent.fInt Syntax.w16) .Denot)) → (queue : List.List (Referent.rtF (Referent.fInt Syntax.w16) .Denot)) → (tried : List.List (Referent.rtF (Referent.fInt Syntax.w16) .Denot)) → (q : Rows.sc-here (Row.sInt Syntax.w64) .Mod) → (low : Rows.sc-here (Row.sInt Syntax.w64) .Mod) → (h : Rows.sc-here (Row.sInt Syntax.w64) .Mod) → Typed.Mo T12
+      m11 = λ before commands scratch queue tried q low h. s9 .next (m10 before commands scratch queue tried q low h)
+
+      abbrev W4 : (before : After-slice-known4) → (commands : List.List (Referent.rtF (Referent.fInt Syntax.w16) .Denot)) → (scratch : List.List (Referent.rtF (Referent.fInt Syntax.w16) .Denot)) → (queue : List.List (Referent.rtF (Referent.fInt Syntax.w16) .Denot)) → (tried : List.List (Referent.rtF (Referent.fInt Syntax.w16) .Denot)) → (q : Rows.sc-here (Row.sInt Syntax.w64) .Mod) → (low : Rows.sc-here (Row.sInt Syntax.w64) .Mod) → (h : Rows.sc-here (Row.sInt Syntax.w64) .Mod) → Typed.Want O4
+      W4 = λ before commands scratch queue tried q low h. Typed.wantNext T13 O3 (at62 (W3 before commands scratch queue tried q low h)) (W3 before commands scratch queue tried q low h)
+
+      module _ (before· : After-slice-known4) where
         pub record At-loop·own : Type 0 where
           pub commands : List.List (Referent.rtF (Referent.fInt Syntax.w16) .Denot)
           pub scratch : List.List (Referent.rtF (Referent.fInt Syntax.w16) .Denot)
           pub queue : List.List (Referent.rtF (Referent.fInt Syntax.w16) .Denot)
+          pub tried : List.List (Referent.rtF (Referent.fInt Syntax.w16) .Denot)
           pub q : Rows.sc-here (Row.sInt Syntax.w64) .Mod
           pub low : Rows.sc-here (Row.sInt Syntax.w64) .Mod
           pub h : Rows.sc-here (Row.sInt Syntax.w64) .Mod
-          pub inv : Inv·0 (Row.get 1 (T9 .locals) (m8 (before· .before) (before· .slice-known3 .given))) (Row.get 2 (T9 .locals) (m8 (before· .before) (before· .slice-known3 .given)) .now) (Row.get 3 (T9 .locals) (m8 (before· .before) (before· .slice-known3 .given)) .now) (Row.get 4 (T9 .locals) (m8 (before· .before) (before· .slice-known3 .given)) .now) (Row.get 5 (T9 .locals) (m8 (before· .before) (before· .slice-known3 .given)) .now) (Row.get 6 (T9 .locals) (m8 (before· .before) (before· .slice-known3 .given)) .now) (Row.get 7 (T9 .locals) (m8 (before· .before) (before· .slice-known3 .given)) .now) (Row.get 8 (T9 .locals) (m8 (before· .before) (before· .slice-known3 .given))) (Row.get 9 (T9 .locals) (m8 (before· .before) (before· .slice-known3 .given))) (Row.get 10 (T9 .locals) (m8 (before· .before) (before· .slice-known3 .given))) (Row.get 11 (T9 .locals) (m8 (before· .before) (before· .slice-known3 .given))) (Row.get 12 (T9 .locals) (m8 (before· .before) (before· .slice-known3 .given))) commands scratch queue q low h
+          pub inv : Inv·0 (Row.get 1 (T10 .locals) (m9 (before· .before) (before· .slice-known4 .given))) (Row.get 2 (T10 .locals) (m9 (before· .before) (before· .slice-known4 .given)) .now) (Row.get 3 (T10 .locals) (m9 (before· .before) (before· .slice-known4 .given)) .now) (Row.get 4 (T10 .locals) (m9 (before· .before) (before· .slice-known4 .given)) .now) (Row.get 5 (T10 .locals) (m9 (before· .before) (before· .slice-known4 .given)) .now) (Row.get 6 (T10 .locals) (m9 (before· .before) (before· .slice-known4 .given)) .now) (Row.get 7 (T10 .locals) (m9 (before· .before) (before· .slice-known4 .given)) .now) (Row.get 8 (T10 .locals) (m9 (before· .before) (before· .slice-known4 .given)) .now) (Row.get 9 (T10 .locals) (m9 (before· .before) (before· .slice-known4 .given))) (Row.get 10 (T10 .locals) (m9 (before· .before) (before· .slice-known4 .given))) (Row.get 11 (T10 .locals) (m9 (before· .before) (before· .slice-known4 .given))) (Row.get 12 (T10 .locals) (m9 (before· .before) (before· .slice-known4 .given))) (Row.get 13 (T10 .locals) (m9 (before· .before) (before· .slice-known4 .given))) commands scratch queue tried q low h
 
       pub record At-loop : Type 0 where
-        pub before : After-slice-known3
+        pub before : After-slice-known4
         pub loop : At-loop·own before
 
       module _ (before· : At-loop) where
         pub record In-loop·own : Type 0 where
-          pub taken : Nat._<_ (Row.get 12 (T9 .locals) (m9 (before· .before) (before· .loop .commands) (before· .loop .scratch) (before· .loop .queue) (before· .loop .q) (before· .loop .low) (before· .loop .h))) (Row.get 10 (T9 .locals) (m9 (before· .before) (before· .loop .commands) (before· .loop .scratch) (before· .loop .queue) (before· .loop .q) (before· .loop .low) (before· .loop .h)))
+          pub taken : Nat._<_ (Row.get 13 (T10 .locals) (m10 (before· .before) (before· .loop .commands) (before· .loop .scratch) (before· .loop .queue) (before· .loop .tried) (before· .loop .q) (before· .loop .low) (before· .loop .h))) (Row.get 11 (T10 .locals) (m10 (before· .before) (before· .loop .commands) (before· .loop .scratch) (before· .loop .queue) (before· .loop .tried) (before· .loop .q) (before· .loop .low) (before· .loop .h)))
 
       pub record In-loop : Type 0 where
         pub before : At-loop
         pub loop-test : In-loop·own before
 
-      abbrev pub m11 : (before : At-loop) → Typed.Mo T13
-      m11 = λ before. s9 (m10 (before .before) (before .loop .commands) (before .loop .scratch) (before .loop .queue) (before .loop .q) (before .loop .low) (before .loop .h))
+      abbrev pub m12 : (before : At-loop) → Typed.Mo T14
+      m12 = λ before. s10 (m11 (before .before) (before .loop .commands) (before .loop .scratch) (before .loop .queue) (before .loop .tried) (before .loop .q) (before .loop .low) (before .loop .h))
 
       module _ (before· : At-loop) where
         pub record After-loop·own : Type 0 where
-          pub left : Nat._≤_ (Row.get 10 (T9 .locals) (m9 (before· .before) (before· .loop .commands) (before· .loop .scratch) (before· .loop .queue) (before· .loop .q) (before· .loop .low) (before· .loop .h))) (Row.get 12 (T9 .locals) (m9 (before· .before) (before· .loop .commands) (before· .loop .scratch) (before· .loop .queue) (before· .loop .q) (before· .loop .low) (before· .loop .h)))
+          pub left : Nat._≤_ (Row.get 11 (T10 .locals) (m10 (before· .before) (before· .loop .commands) (before· .loop .scratch) (before· .loop .queue) (before· .loop .tried) (before· .loop .q) (before· .loop .low) (before· .loop .h))) (Row.get 13 (T10 .locals) (m10 (before· .before) (before· .loop .commands) (before· .loop .scratch) (before· .loop .queue) (before· .loop .tried) (before· .loop .q) (before· .loop .low) (before· .loop .h)))
 
       pub record After-loop : Type 0 where
         pub before : At-loop
         pub loop-test : After-loop·own before
 
-      abbrev pub m12 : (before : At-loop) → Typed.Mo T14
-      m12 = λ before. s10 (m10 (before .before) (before .loop .commands) (before .loop .scratch) (before .loop .queue) (before .loop .q) (before .loop .low) (before .loop .h))
-
       abbrev pub m13 : (before : At-loop) → Typed.Mo T15
-      m13 = λ before. s11 (m12 before)
+      m13 = λ before. s11 (m11 (before .before) (before .loop .commands) (before .loop .scratch) (before .loop .queue) (before .loop .tried) (before .loop .q) (before .loop .low) (before .loop .h))
 
-      abbrev pub m14 : (before : In-loop) → (given : s13 .gives (m11 (before .before))) → Typed.Mo T17
-      m14 = λ before given. s13 .next (m11 (before .before)) given
+      abbrev pub m14 : (before : At-loop) → Typed.Mo T16
+      m14 = λ before. s12 (m13 before)
 
-      abbrev pub m15 : (before : In-loop) → (given : s13 .gives (m11 (before .before))) → Typed.Mo T18
-      m15 = λ before given. s14 .next (m14 before given)
+      abbrev pub m15 : (before : In-loop) → (given : s14 .gives (m12 (before .before))) → Typed.Mo T18
+      m15 = λ before given. s14 .next (m12 (before .before)) given
+
+      abbrev pub m16 : (before : In-loop) → (given : s14 .gives (m12 (before .before))) → Typed.Mo T19
+      m16 = λ before given. s15 .next (m15 before given)
 
       module _ (before· : In-loop) where
         pub record After-at-arg·own : Type 0 where
-          pub given : s13 .gives (m11 (before· .before))
+          pub given : s14 .gives (m12 (before· .before))
 
       pub record After-at-arg : Type 0 where
         pub before : In-loop
         pub at-arg : After-at-arg·own before
 
       abbrev pub Need-at-requires : Type 0
-      Need-at-requires = (c : After-at-arg) → s15 .asks (m15 (c .before) (c .at-arg .given))
+      Need-at-requires = (c : After-at-arg) → s16 .asks (m16 (c .before) (c .at-arg .given))
 
-      abbrev pub m16 : (before : After-at-arg) → (given : s15 .gives (m15 (before .before) (before .at-arg .given))) → Typed.Mo T19
-      m16 = λ before given. s15 .next (m15 (before .before) (before .at-arg .given)) given
+      abbrev pub m17 : (before : After-at-arg) → (given : s16 .gives (m16 (before .before) (before .at-arg .given))) → Typed.Mo T20
+      m17 = λ before given. s16 .next (m16 (before .before) (before .at-arg .given)) given
 
       module _ (before· : After-at-arg) where
         abbrev pub After-at·own : Type 0
-        After-at·own = Called.Called ps·0 r·0 (claims· .1) T18 (record { pos = 17; ty = Syntax.tyRef Syntax.erased Syntax.imm (Syntax.tyInt Syntax.w16); ref = λ x. x }, (Num.vAt 12 λ x. x, tt)) (m15 (before· .before) (before· .at-arg .given))
+        After-at·own = Called.Called ps·0 r·0 (claims· .1) T19 (record { pos = 18; ty = Syntax.tyRef Syntax.erased Syntax.imm (Syntax.tyInt Syntax.w16); ref = λ x. x }, (Num.vAt 13 λ x. x, tt)) (m16 (before· .before) (before· .at-arg .given))
 
       pub record After-at : Type 0 where
         pub before : After-at-arg
         pub at : After-at·own before
 
-      abbrev pub After-at·gave : (c : After-at) → s15 .gives (m15 (c .before .before) (c .before .at-arg .given))
-      After-at·gave = λ c. Called.given ps·0 r·0 (claims· .1) T18 (record { pos = 17; ty = Syntax.tyRef Syntax.erased Syntax.imm (Syntax.tyInt Syntax.w16); ref = λ x. x }, (Num.vAt 12 λ x. x, tt)) (m15 (c .before .before) (c .before .at-arg .given)) (c .at)
+      abbrev pub After-at·gave : (c : After-at) → s16 .gives (m16 (c .before .before) (c .before .at-arg .given))
+      After-at·gave = λ c. Called.given ps·0 r·0 (claims· .1) T19 (record { pos = 18; ty = Syntax.tyRef Syntax.erased Syntax.imm (Syntax.tyInt Syntax.w16); ref = λ x. x }, (Num.vAt 13 λ x. x, tt)) (m16 (c .before .before) (c .before .at-arg .given)) (c .at)
 
-      abbrev pub m17 : (before : After-at-arg) → (given : s15 .gives (m15 (before .before) (before .at-arg .given))) → Typed.Mo T20
-      m17 = λ before given. s16 (m16 before given)
+      abbrev pub m18 : (before : After-at-arg) → (given : s16 .gives (m16 (before .before) (before .at-arg .given))) → Typed.Mo T21
+      m18 = λ before given. s17 (m17 before given)
 
-      abbrev pub m18 : (before : After-at-arg) → (given : s15 .gives (m15 (before .before) (before .at-arg .given))) → Typed.Mo T22
-      m18 = λ before given. s18 (m17 before given)
+      abbrev pub m19 : (before : After-at-arg) → (given : s16 .gives (m16 (before .before) (before .at-arg .given))) → Typed.Mo T23
+      m19 = λ before given. s19 (m18 before given)
 
       abbrev pub Need-span-at-requires : Type 0
-      Need-span-at-requires = (c : After-at) → s20 .asks (m18 (c .before) (After-at·gave c))
+      Need-span-at-requires = (c : After-at) → s21 .asks (m19 (c .before) (After-at·gave c))
 
-      abbrev pub m19 : (before : After-at) → (given : s20 .gives (m18 (before .before) (After-at·gave before))) → Typed.Mo T24
-      m19 = λ before given. s20 .next (m18 (before .before) (After-at·gave before)) given
+      abbrev pub m20 : (before : After-at) → (given : s21 .gives (m19 (before .before) (After-at·gave before))) → Typed.Mo T25
+      m20 = λ before given. s21 .next (m19 (before .before) (After-at·gave before)) given
 
       module _ (before· : After-at) where
         abbrev pub After-span-at·own : Type 0
-        After-span-at·own = Called.Called ps·1 r·1 (claims· .3) T22 (record { pos = 1; st = List.[]; d = 0; at = λ x. x }, (record { pos = 2; ty = Syntax.tyRef (Syntax.named 0) Syntax.imm (Memory.pointee (T.the-row .written)); ref = λ x. x }, (Num.vAt 13 λ x. x, tt))) (m18 (before· .before) (After-at·gave before·))
+        After-span-at·own = Called.Called ps·1 r·1 (claims· .3) T23 (record { pos = 1; st = List.[]; d = 0; at = λ x. x }, (record { pos = 2; ty = Syntax.tyRef (Syntax.named 0) Syntax.imm (Memory.pointee (T.the-row .written)); ref = λ x. x }, (Num.vAt 14 λ x. x, tt))) (m19 (before· .before) (After-at·gave before·))
 
       pub record After-span-at : Type 0 where
         pub before : After-at
         pub span-at : After-span-at·own before
 
-      abbrev pub After-span-at·gave : (c : After-span-at) → s20 .gives (m18 (c .before .before) (After-at·gave (c .before)))
-      After-span-at·gave = λ c. Called.given ps·1 r·1 (claims· .3) T22 (record { pos = 1; st = List.[]; d = 0; at = λ x. x }, (record { pos = 2; ty = Syntax.tyRef (Syntax.named 0) Syntax.imm (Memory.pointee (T.the-row .written)); ref = λ x. x }, (Num.vAt 13 λ x. x, tt))) (m18 (c .before .before) (After-at·gave (c .before))) (c .span-at)
+      abbrev pub After-span-at·gave : (c : After-span-at) → s21 .gives (m19 (c .before .before) (After-at·gave (c .before)))
+      After-span-at·gave = λ c. Called.given ps·1 r·1 (claims· .3) T23 (record { pos = 1; st = List.[]; d = 0; at = λ x. x }, (record { pos = 2; ty = Syntax.tyRef (Syntax.named 0) Syntax.imm (Memory.pointee (T.the-row .written)); ref = λ x. x }, (Num.vAt 14 λ x. x, tt))) (m19 (c .before .before) (After-at·gave (c .before))) (c .span-at)
 
-      abbrev pub m20 : (before : After-span-at) → (given : s22 .gives (m19 (before .before) (After-span-at·gave before))) → Typed.Mo T26
-      m20 = λ before given. s22 .next (m19 (before .before) (After-span-at·gave before)) given
+      abbrev pub m21 : (before : After-span-at) → (given : s23 .gives (m20 (before .before) (After-span-at·gave before))) → Typed.Mo T27
+      m21 = λ before given. s23 .next (m20 (before .before) (After-span-at·gave before)) given
 
-      abbrev pub m21 : (before : After-span-at) → (given : s22 .gives (m19 (before .before) (After-span-at·gave before))) → Typed.Mo T27
-      m21 = λ before given. s23 .next (m20 before given)
+      abbrev pub m22 : (before : After-span-at) → (given : s23 .gives (m20 (before .before) (After-span-at·gave before))) → Typed.Mo T28
+      m22 = λ before given. s24 .next (m21 before given)
 
       module _ (before· : After-span-at) where
         pub record After-expand-arg·own : Type 0 where
-          pub given : s22 .gives (m19 (before· .before) (After-span-at·gave before·))
+          pub given : s23 .gives (m20 (before· .before) (After-span-at·gave before·))
 
       pub record After-expand-arg : Type 0 where
         pub before : After-span-at
         pub expand-arg : After-expand-arg·own before
 
-      abbrev pub m22 : (before : After-expand-arg) → (given : s25 .gives (m21 (before .before) (before .expand-arg .given))) → Typed.Mo T29
-      m22 = λ before given. s25 .next (m21 (before .before) (before .expand-arg .given)) given
+      abbrev pub m23 : (before : After-expand-arg) → (given : s26 .gives (m22 (before .before) (before .expand-arg .given))) → Typed.Mo T30
+      m23 = λ before given. s26 .next (m22 (before .before) (before .expand-arg .given)) given
 
-      abbrev pub m23 : (before : After-expand-arg) → (given : s25 .gives (m21 (before .before) (before .expand-arg .given))) → Typed.Mo T30
-      m23 = λ before given. s26 .next (m22 before given)
+      abbrev pub m24 : (before : After-expand-arg) → (given : s26 .gives (m22 (before .before) (before .expand-arg .given))) → Typed.Mo T31
+      m24 = λ before given. s27 .next (m23 before given)
 
       module _ (before· : After-expand-arg) where
         pub record After-expand-arg2·own : Type 0 where
-          pub given : s25 .gives (m21 (before· .before) (before· .expand-arg .given))
+          pub given : s26 .gives (m22 (before· .before) (before· .expand-arg .given))
 
       pub record After-expand-arg2 : Type 0 where
         pub before : After-expand-arg
         pub expand-arg2 : After-expand-arg2·own before
 
-      abbrev pub m24 : (before : After-expand-arg2) → (given : s28 .gives (m23 (before .before) (before .expand-arg2 .given))) → Typed.Mo T32
-      m24 = λ before given. s28 .next (m23 (before .before) (before .expand-arg2 .given)) given
+      abbrev pub m25 : (before : After-expand-arg2) → (given : s29 .gives (m24 (before .before) (before .expand-arg2 .given))) → Typed.Mo T33
+      m25 = λ before given. s29 .next (m24 (before .before) (before .expand-arg2 .given)) given
 
-      abbrev pub m25 : (before : After-expand-arg2) → (given : s28 .gives (m23 (before .before) (before .expand-arg2 .given))) → Typed.Mo T33
-      m25 = λ before given. s29 .next (m24 before given)
+      abbrev pub m26 : (before : After-expand-arg2) → (given : s29 .gives (m24 (before .before) (before .expand-arg2 .given))) → Typed.Mo T34
+      m26 = λ before given. s30 .next (m25 before given)
 
       module _ (before· : After-expand-arg2) where
         pub record After-expand-arg3·own : Type 0 where
-          pub given : s28 .gives (m23 (before· .before) (before· .expand-arg2 .given))
+          pub given : s29 .gives (m24 (before· .before) (before· .expand-arg2 .given))
 
       pub record After-expand-arg3 : Type 0 where
         pub before : After-expand-arg2
         pub expand-arg3 : After-expand-arg3·own before
 
-      abbrev pub Need-add-expand : Type 0
-      Need-add-expand = (c : After-expand-arg3) → s30 .asks (m25 (c .before) (c .expand-arg3 .given))
+      abbrev pub m27 : (before : After-expand-arg3) → (given : s32 .gives (m26 (before .before) (before .expand-arg3 .given))) → Typed.Mo T36
+      m27 = λ before given. s32 .next (m26 (before .before) (before .expand-arg3 .given)) given
 
-      abbrev pub m26 : (before : After-expand-arg2) → (given : s28 .gives (m23 (before .before) (before .expand-arg2 .given))) → Typed.Mo T34
-      m26 = λ before given. s30 .next (m25 before given)
-
-      abbrev pub Need-expand-requires : Type 0
-      Need-expand-requires = (c : After-expand-arg3) → s31 .asks (m26 (c .before) (c .expand-arg3 .given))
-
-      abbrev pub m27 : (before : After-expand-arg3) → (given : s31 .gives (m26 (before .before) (before .expand-arg3 .given))) → Typed.Mo T35
-      m27 = λ before given. s31 .next (m26 (before .before) (before .expand-arg3 .given)) given
+      abbrev pub m28 : (before : After-expand-arg3) → (given : s32 .gives (m26 (before .before) (before .expand-arg3 .given))) → Typed.Mo T37
+      m28 = λ before given. s33 .next (m27 before given)
 
       module _ (before· : After-expand-arg3) where
+        pub record After-expand-arg4·own : Type 0 where
+          pub given : s32 .gives (m26 (before· .before) (before· .expand-arg3 .given))
+
+      pub record After-expand-arg4 : Type 0 where
+        pub before : After-expand-arg3
+        pub expand-arg4 : After-expand-arg4·own before
+
+      abbrev pub Need-add-expand : Type 0
+      Need-add-expand = (c : After-expand-arg4) → s34 .asks (m28 (c .before) (c .expand-arg4 .given))
+
+      abbrev pub m29 : (before : After-expand-arg3) → (given : s32 .gives (m26 (before .before) (before .expand-arg3 .given))) → Typed.Mo T38
+      m29 = λ before given. s34 .next (m28 before given)
+
+      abbrev pub Need-expand-requires : Type 0
+      Need-expand-requires = (c : After-expand-arg4) → s35 .asks (m29 (c .before) (c .expand-arg4 .given))
+
+      abbrev pub m30 : (before : After-expand-arg4) → (given : s35 .gives (m29 (before .before) (before .expand-arg4 .given))) → Typed.Mo T39
+      m30 = λ before given. s35 .next (m29 (before .before) (before .expand-arg4 .given)) given
+
+      module _ (before· : After-expand-arg4) where
         abbrev pub After-expand·own : Type 0
-        After-expand·own = Called.Called ps·2 r·2 (claims· .5) T34 (record { pos = 1; st = List.[]; d = 0; at = λ x. x }, (record { pos = 14; st = List.[]; d = 0; at = λ x. x }, (record { pos = 3; ty = Syntax.tyRef (Syntax.named 1) Syntax.imm (Syntax.tyInt Syntax.w16); ref = λ x. x }, (record { pos = 4; ty = Syntax.tyRef (Syntax.named 2) Syntax.imm (Syntax.tyInt Syntax.w16); ref = λ x. x }, (record { pos = 19; ty = Syntax.tyRef Syntax.erased Syntax.mut (Syntax.tyInt Syntax.w16); ref = λ x. x }, (record { pos = 21; ty = Syntax.tyRef Syntax.erased Syntax.mut (Syntax.tyInt Syntax.w16); ref = λ x. x }, (record { pos = 23; ty = Syntax.tyRef Syntax.erased Syntax.mut (Syntax.tyInt Syntax.w16); ref = λ x. x }, (Num.vAt 10 λ x. x, (Num.vAt 13 λ x. x, (Num.vAt 24 λ x. x, tt)))))))))) (m26 (before· .before) (before· .expand-arg3 .given))
+        After-expand·own = Called.Called ps·2 r·2 (claims· .5) T38 (record { pos = 1; st = List.[]; d = 0; at = λ x. x }, (record { pos = 15; st = List.[]; d = 0; at = λ x. x }, (record { pos = 3; ty = Syntax.tyRef (Syntax.named 1) Syntax.imm (Syntax.tyInt Syntax.w16); ref = λ x. x }, (record { pos = 4; ty = Syntax.tyRef (Syntax.named 2) Syntax.imm (Syntax.tyInt Syntax.w16); ref = λ x. x }, (record { pos = 20; ty = Syntax.tyRef Syntax.erased Syntax.mut (Syntax.tyInt Syntax.w16); ref = λ x. x }, (record { pos = 22; ty = Syntax.tyRef Syntax.erased Syntax.mut (Syntax.tyInt Syntax.w16); ref = λ x. x }, (record { pos = 24; ty = Syntax.tyRef Syntax.erased Syntax.mut (Syntax.tyInt Syntax.w16); ref = λ x. x }, (record { pos = 26; ty = Syntax.tyRef Syntax.erased Syntax.mut (Syntax.tyInt Syntax.w16); ref = λ x. x }, (Num.vAt 11 λ x. x, (Num.vAt 14 λ x. x, (Num.vAt 27 λ x. x, tt))))))))))) (m29 (before· .before) (before· .expand-arg4 .given))
 
       pub record After-expand : Type 0 where
-        pub before : After-expand-arg3
+        pub before : After-expand-arg4
         pub expand : After-expand·own before
 
-      abbrev pub After-expand·gave : (c : After-expand) → s31 .gives (m26 (c .before .before) (c .before .expand-arg3 .given))
-      After-expand·gave = λ c. Called.given ps·2 r·2 (claims· .5) T34 (record { pos = 1; st = List.[]; d = 0; at = λ x. x }, (record { pos = 14; st = List.[]; d = 0; at = λ x. x }, (record { pos = 3; ty = Syntax.tyRef (Syntax.named 1) Syntax.imm (Syntax.tyInt Syntax.w16); ref = λ x. x }, (record { pos = 4; ty = Syntax.tyRef (Syntax.named 2) Syntax.imm (Syntax.tyInt Syntax.w16); ref = λ x. x }, (record { pos = 19; ty = Syntax.tyRef Syntax.erased Syntax.mut (Syntax.tyInt Syntax.w16); ref = λ x. x }, (record { pos = 21; ty = Syntax.tyRef Syntax.erased Syntax.mut (Syntax.tyInt Syntax.w16); ref = λ x. x }, (record { pos = 23; ty = Syntax.tyRef Syntax.erased Syntax.mut (Syntax.tyInt Syntax.w16); ref = λ x. x }, (Num.vAt 10 λ x. x, (Num.vAt 13 λ x. x, (Num.vAt 24 λ x. x, tt)))))))))) (m26 (c .before .before) (c .before .expand-arg3 .given)) (c .expand)
+      abbrev pub After-expand·gave : (c : After-expand) → s35 .gives (m29 (c .before .before) (c .before .expand-arg4 .given))
+      After-expand·gave = λ c. Called.given ps·2 r·2 (claims· .5) T38 (record { pos = 1; st = List.[]; d = 0; at = λ x. x }, (record { pos = 15; st = List.[]; d = 0; at = λ x. x }, (record { pos = 3; ty = Syntax.tyRef (Syntax.named 1) Syntax.imm (Syntax.tyInt Syntax.w16); ref = λ x. x }, (record { pos = 4; ty = Syntax.tyRef (Syntax.named 2) Syntax.imm (Syntax.tyInt Syntax.w16); ref = λ x. x }, (record { pos = 20; ty = Syntax.tyRef Syntax.erased Syntax.mut (Syntax.tyInt Syntax.w16); ref = λ x. x }, (record { pos = 22; ty = Syntax.tyRef Syntax.erased Syntax.mut (Syntax.tyInt Syntax.w16); ref = λ x. x }, (record { pos = 24; ty = Syntax.tyRef Syntax.erased Syntax.mut (Syntax.tyInt Syntax.w16); ref = λ x. x }, (record { pos = 26; ty = Syntax.tyRef Syntax.erased Syntax.mut (Syntax.tyInt Syntax.w16); ref = λ x. x }, (Num.vAt 11 λ x. x, (Num.vAt 14 λ x. x, (Num.vAt 27 λ x. x, tt))))))))))) (m29 (c .before .before) (c .before .expand-arg4 .given)) (c .expand)
 
-      abbrev pub m28 : (before : After-expand-arg3) → (given : s31 .gives (m26 (before .before) (before .expand-arg3 .given))) → Typed.Mo T36
-      m28 = λ before given. s32 (m27 before given)
+      abbrev pub m31 : (before : After-expand-arg4) → (given : s35 .gives (m29 (before .before) (before .expand-arg4 .given))) → Typed.Mo T40
+      m31 = λ before given. s36 (m30 before given)
 
-      abbrev pub m29 : (before : After-expand) → (given : s34 .gives (m28 (before .before) (After-expand·gave before))) → Typed.Mo T38
-      m29 = λ before given. s34 .next (m28 (before .before) (After-expand·gave before)) given
+      abbrev pub m32 : (before : After-expand) → (given : s38 .gives (m31 (before .before) (After-expand·gave before))) → Typed.Mo T42
+      m32 = λ before given. s38 .next (m31 (before .before) (After-expand·gave before)) given
 
       module _ (before· : After-expand) where
         pub record After-commands·own : Type 0 where
-          pub given : s34 .gives (m28 (before· .before) (After-expand·gave before·))
+          pub given : s38 .gives (m31 (before· .before) (After-expand·gave before·))
 
       pub record After-commands : Type 0 where
         pub before : After-expand
         pub commands : After-commands·own before
 
-      abbrev pub m30 : (before : After-commands) → (given : s35 .gives (m29 (before .before) (before .commands .given))) → Typed.Mo T39
-      m30 = λ before given. s35 .next (m29 (before .before) (before .commands .given)) given
+      abbrev pub m33 : (before : After-commands) → (given : s39 .gives (m32 (before .before) (before .commands .given))) → Typed.Mo T43
+      m33 = λ before given. s39 .next (m32 (before .before) (before .commands .given)) given
 
       module _ (before· : After-commands) where
-        pub record After-slice-known4·own : Type 0 where
-          pub given : s35 .gives (m29 (before· .before) (before· .commands .given))
-
-      pub record After-slice-known4 : Type 0 where
-        pub before : After-commands
-        pub slice-known4 : After-slice-known4·own before
-
-      abbrev pub m31 : (before : After-slice-known4) → (given : s38 .gives (m30 (before .before) (before .slice-known4 .given))) → Typed.Mo T42
-      m31 = λ before given. s38 .next (m30 (before .before) (before .slice-known4 .given)) given
-
-      module _ (before· : After-slice-known4) where
-        pub record After-scratch·own : Type 0 where
-          pub given : s38 .gives (m30 (before· .before) (before· .slice-known4 .given))
-
-      pub record After-scratch : Type 0 where
-        pub before : After-slice-known4
-        pub scratch : After-scratch·own before
-
-      abbrev pub m32 : (before : After-scratch) → (given : s39 .gives (m31 (before .before) (before .scratch .given))) → Typed.Mo T43
-      m32 = λ before given. s39 .next (m31 (before .before) (before .scratch .given)) given
-
-      module _ (before· : After-scratch) where
         pub record After-slice-known5·own : Type 0 where
-          pub given : s39 .gives (m31 (before· .before) (before· .scratch .given))
+          pub given : s39 .gives (m32 (before· .before) (before· .commands .given))
 
       pub record After-slice-known5 : Type 0 where
-        pub before : After-scratch
+        pub before : After-commands
         pub slice-known5 : After-slice-known5·own before
 
-      abbrev pub m33 : (before : After-slice-known5) → (given : s42 .gives (m32 (before .before) (before .slice-known5 .given))) → Typed.Mo T46
-      m33 = λ before given. s42 .next (m32 (before .before) (before .slice-known5 .given)) given
+      abbrev pub m34 : (before : After-slice-known5) → (given : s42 .gives (m33 (before .before) (before .slice-known5 .given))) → Typed.Mo T46
+      m34 = λ before given. s42 .next (m33 (before .before) (before .slice-known5 .given)) given
 
       module _ (before· : After-slice-known5) where
-        pub record After-queue·own : Type 0 where
-          pub given : s42 .gives (m32 (before· .before) (before· .slice-known5 .given))
+        pub record After-scratch·own : Type 0 where
+          pub given : s42 .gives (m33 (before· .before) (before· .slice-known5 .given))
 
-      pub record After-queue : Type 0 where
+      pub record After-scratch : Type 0 where
         pub before : After-slice-known5
-        pub queue : After-queue·own before
+        pub scratch : After-scratch·own before
 
-      abbrev pub m34 : (before : After-queue) → (given : s43 .gives (m33 (before .before) (before .queue .given))) → Typed.Mo T47
-      m34 = λ before given. s43 .next (m33 (before .before) (before .queue .given)) given
+      abbrev pub m35 : (before : After-scratch) → (given : s43 .gives (m34 (before .before) (before .scratch .given))) → Typed.Mo T47
+      m35 = λ before given. s43 .next (m34 (before .before) (before .scratch .given)) given
 
-      module _ (before· : After-queue) where
+      module _ (before· : After-scratch) where
         pub record After-slice-known6·own : Type 0 where
-          pub given : s43 .gives (m33 (before· .before) (before· .queue .given))
+          pub given : s43 .gives (m34 (before· .before) (before· .scratch .given))
 
       pub record After-slice-known6 : Type 0 where
-        pub before : After-queue
+        pub before : After-scratch
         pub slice-known6 : After-slice-known6·own before
 
-      abbrev pub m35 : (before : After-slice-known6) → (given : s46 .gives (m34 (before .before) (before .slice-known6 .given))) → Typed.Mo T50
-      m35 = λ before given. s46 .next (m34 (before .before) (before .slice-known6 .given)) given
-
-      abbrev pub m36 : (before : After-slice-known6) → (given : s46 .gives (m34 (before .before) (before .slice-known6 .given))) → Typed.Mo T51
-      m36 = λ before given. s47 .next (m35 before given)
+      abbrev pub m36 : (before : After-slice-known6) → (given : s46 .gives (m35 (before .before) (before .slice-known6 .given))) → Typed.Mo T50
+      m36 = λ before given. s46 .next (m35 (before .before) (before .slice-known6 .given)) given
 
       module _ (before· : After-slice-known6) where
+        pub record After-queue·own : Type 0 where
+          pub given : s46 .gives (m35 (before· .before) (before· .slice-known6 .given))
+
+      pub record After-queue : Type 0 where
+        pub before : After-slice-known6
+        pub queue : After-queue·own before
+
+      abbrev pub m37 : (before : After-queue) → (given : s47 .gives (m36 (before .before) (before .queue .given))) → Typed.Mo T51
+      m37 = λ before given. s47 .next (m36 (before .before) (before .queue .given)) given
+
+      module _ (before· : After-queue) where
+        pub record After-slice-known7·own : Type 0 where
+          pub given : s47 .gives (m36 (before· .before) (before· .queue .given))
+
+      pub record After-slice-known7 : Type 0 where
+        pub before : After-queue
+        pub slice-known7 : After-slice-known7·own before
+
+      abbrev pub m38 : (before : After-slice-known7) → (given : s50 .gives (m37 (before .before) (before .slice-known7 .given))) → Typed.Mo T54
+      m38 = λ before given. s50 .next (m37 (before .before) (before .slice-known7 .given)) given
+
+      module _ (before· : After-slice-known7) where
+        pub record After-tried·own : Type 0 where
+          pub given : s50 .gives (m37 (before· .before) (before· .slice-known7 .given))
+
+      pub record After-tried : Type 0 where
+        pub before : After-slice-known7
+        pub tried : After-tried·own before
+
+      abbrev pub m39 : (before : After-tried) → (given : s51 .gives (m38 (before .before) (before .tried .given))) → Typed.Mo T55
+      m39 = λ before given. s51 .next (m38 (before .before) (before .tried .given)) given
+
+      module _ (before· : After-tried) where
+        pub record After-slice-known8·own : Type 0 where
+          pub given : s51 .gives (m38 (before· .before) (before· .tried .given))
+
+      pub record After-slice-known8 : Type 0 where
+        pub before : After-tried
+        pub slice-known8 : After-slice-known8·own before
+
+      abbrev pub m40 : (before : After-slice-known8) → (given : s54 .gives (m39 (before .before) (before .slice-known8 .given))) → Typed.Mo T58
+      m40 = λ before given. s54 .next (m39 (before .before) (before .slice-known8 .given)) given
+
+      abbrev pub m41 : (before : After-slice-known8) → (given : s54 .gives (m39 (before .before) (before .slice-known8 .given))) → Typed.Mo T59
+      m41 = λ before given. s55 .next (m40 before given)
+
+      module _ (before· : After-slice-known8) where
         pub record After-lower-arg·own : Type 0 where
-          pub given : s46 .gives (m34 (before· .before) (before· .slice-known6 .given))
+          pub given : s54 .gives (m39 (before· .before) (before· .slice-known8 .given))
 
       pub record After-lower-arg : Type 0 where
-        pub before : After-slice-known6
+        pub before : After-slice-known8
         pub lower-arg : After-lower-arg·own before
 
-      abbrev pub m37 : (before : After-lower-arg) → (given : s49 .gives (m36 (before .before) (before .lower-arg .given))) → Typed.Mo T53
-      m37 = λ before given. s49 .next (m36 (before .before) (before .lower-arg .given)) given
+      abbrev pub m42 : (before : After-lower-arg) → (given : s57 .gives (m41 (before .before) (before .lower-arg .given))) → Typed.Mo T61
+      m42 = λ before given. s57 .next (m41 (before .before) (before .lower-arg .given)) given
 
-      abbrev pub m38 : (before : After-lower-arg) → (given : s49 .gives (m36 (before .before) (before .lower-arg .given))) → Typed.Mo T54
-      m38 = λ before given. s50 .next (m37 before given)
+      abbrev pub m43 : (before : After-lower-arg) → (given : s57 .gives (m41 (before .before) (before .lower-arg .given))) → Typed.Mo T62
+      m43 = λ before given. s58 .next (m42 before given)
 
       module _ (before· : After-lower-arg) where
         pub record After-lower-arg2·own : Type 0 where
-          pub given : s49 .gives (m36 (before· .before) (before· .lower-arg .given))
+          pub given : s57 .gives (m41 (before· .before) (before· .lower-arg .given))
 
       pub record After-lower-arg2 : Type 0 where
         pub before : After-lower-arg
         pub lower-arg2 : After-lower-arg2·own before
 
       abbrev pub Need-lower-requires : Type 0
-      Need-lower-requires = (c : After-lower-arg2) → s51 .asks (m38 (c .before) (c .lower-arg2 .given))
+      Need-lower-requires = (c : After-lower-arg2) → s59 .asks (m43 (c .before) (c .lower-arg2 .given))
 
-      abbrev pub m39 : (before : After-lower-arg2) → (given : s51 .gives (m38 (before .before) (before .lower-arg2 .given))) → Typed.Mo T55
-      m39 = λ before given. s51 .next (m38 (before .before) (before .lower-arg2 .given)) given
+      abbrev pub m44 : (before : After-lower-arg2) → (given : s59 .gives (m43 (before .before) (before .lower-arg2 .given))) → Typed.Mo T63
+      m44 = λ before given. s59 .next (m43 (before .before) (before .lower-arg2 .given)) given
 
       module _ (before· : After-lower-arg2) where
         abbrev pub After-lower·own : Type 0
-        After-lower·own = Called.Called ps·3 r·3 (claims· .7) T54 (record { pos = 14; st = List.[]; d = 0; at = λ x. x }, (record { pos = 26; ty = Syntax.tyRef Syntax.erased Syntax.imm (Syntax.tyInt Syntax.w16); ref = λ x. x }, (record { pos = 28; ty = Syntax.tyRef Syntax.erased Syntax.imm (Syntax.tyInt Syntax.w16); ref = λ x. x }, (Num.vAt 13 λ x. x, (Num.vAt 11 λ x. x, tt))))) (m38 (before· .before) (before· .lower-arg2 .given))
+        After-lower·own = Called.Called ps·3 r·3 (claims· .7) T62 (record { pos = 15; st = List.[]; d = 0; at = λ x. x }, (record { pos = 29; ty = Syntax.tyRef Syntax.erased Syntax.imm (Syntax.tyInt Syntax.w16); ref = λ x. x }, (record { pos = 31; ty = Syntax.tyRef Syntax.erased Syntax.imm (Syntax.tyInt Syntax.w16); ref = λ x. x }, (Num.vAt 14 λ x. x, (Num.vAt 12 λ x. x, tt))))) (m43 (before· .before) (before· .lower-arg2 .given))
 
       pub record After-lower : Type 0 where
         pub before : After-lower-arg2
         pub lower : After-lower·own before
 
-      abbrev pub After-lower·gave : (c : After-lower) → s51 .gives (m38 (c .before .before) (c .before .lower-arg2 .given))
-      After-lower·gave = λ c. Called.given ps·3 r·3 (claims· .7) T54 (record { pos = 14; st = List.[]; d = 0; at = λ x. x }, (record { pos = 26; ty = Syntax.tyRef Syntax.erased Syntax.imm (Syntax.tyInt Syntax.w16); ref = λ x. x }, (record { pos = 28; ty = Syntax.tyRef Syntax.erased Syntax.imm (Syntax.tyInt Syntax.w16); ref = λ x. x }, (Num.vAt 13 λ x. x, (Num.vAt 11 λ x. x, tt))))) (m38 (c .before .before) (c .before .lower-arg2 .given)) (c .lower)
+      abbrev pub After-lower·gave : (c : After-lower) → s59 .gives (m43 (c .before .before) (c .before .lower-arg2 .given))
+      After-lower·gave = λ c. Called.given ps·3 r·3 (claims· .7) T62 (record { pos = 15; st = List.[]; d = 0; at = λ x. x }, (record { pos = 29; ty = Syntax.tyRef Syntax.erased Syntax.imm (Syntax.tyInt Syntax.w16); ref = λ x. x }, (record { pos = 31; ty = Syntax.tyRef Syntax.erased Syntax.imm (Syntax.tyInt Syntax.w16); ref = λ x. x }, (Num.vAt 14 λ x. x, (Num.vAt 12 λ x. x, tt))))) (m43 (c .before .before) (c .before .lower-arg2 .given)) (c .lower)
 
-      abbrev pub m40 : (before : After-lower-arg2) → (given : s51 .gives (m38 (before .before) (before .lower-arg2 .given))) → Typed.Mo T56
-      m40 = λ before given. s52 (m39 before given)
+      abbrev pub m45 : (before : After-lower-arg2) → (given : s59 .gives (m43 (before .before) (before .lower-arg2 .given))) → Typed.Mo T64
+      m45 = λ before given. s60 (m44 before given)
 
-      abbrev pub m41 : (before : After-lower-arg2) → (given : s51 .gives (m38 (before .before) (before .lower-arg2 .given))) → Typed.Mo T57
-      m41 = λ before given. s53 (m40 before given)
+      abbrev pub m46 : (before : After-lower-arg2) → (given : s59 .gives (m43 (before .before) (before .lower-arg2 .given))) → Typed.Mo T65
+      m46 = λ before given. s61 (m45 before given)
 
-      abbrev pub m42 : (before : After-lower-arg2) → (given : s51 .gives (m38 (before .before) (before .lower-arg2 .given))) → Typed.Mo T58
-      m42 = λ before given. s54 (m41 before given)
+      abbrev pub m47 : (before : After-lower-arg2) → (given : s59 .gives (m43 (before .before) (before .lower-arg2 .given))) → Typed.Mo T66
+      m47 = λ before given. s62 (m46 before given)
 
-      abbrev pub m43 : (before : After-lower-arg2) → (given : s51 .gives (m38 (before .before) (before .lower-arg2 .given))) → Typed.Mo T60
-      m43 = λ before given. s56 (m42 before given)
+      abbrev pub m48 : (before : After-lower-arg2) → (given : s59 .gives (m43 (before .before) (before .lower-arg2 .given))) → Typed.Mo T68
+      m48 = λ before given. s64 (m47 before given)
 
-      abbrev pub m44 : (before : After-lower-arg2) → (given : s51 .gives (m38 (before .before) (before .lower-arg2 .given))) → Typed.Mo T63
-      m44 = λ before given. s59 (m43 before given)
+      abbrev pub m49 : (before : After-lower-arg2) → (given : s59 .gives (m43 (before .before) (before .lower-arg2 .given))) → Typed.Mo T71
+      m49 = λ before given. s67 (m48 before given)
 
       abbrev pub Need-add-h : Type 0
-      Need-add-h = (c : After-lower) → s61 .asks (m44 (c .before) (After-lower·gave c))
+      Need-add-h = (c : After-lower) → s69 .asks (m49 (c .before) (After-lower·gave c))
 
-      abbrev pub m45 : (before : After-lower-arg2) → (given : s51 .gives (m38 (before .before) (before .lower-arg2 .given))) → Typed.Mo T65
-      m45 = λ before given. s61 .next (m44 before given)
+      abbrev pub m50 : (before : After-lower-arg2) → (given : s59 .gives (m43 (before .before) (before .lower-arg2 .given))) → Typed.Mo T73
+      m50 = λ before given. s69 .next (m49 before given)
 
-      abbrev pub m46 : (before : After-lower-arg2) → (given : s51 .gives (m38 (before .before) (before .lower-arg2 .given))) → Typed.Mo T66
-      m46 = λ before given. s62 (m45 before given)
+      abbrev pub m51 : (before : After-lower-arg2) → (given : s59 .gives (m43 (before .before) (before .lower-arg2 .given))) → Typed.Mo T74
+      m51 = λ before given. s70 (m50 before given)
 
       abbrev pub Need-loop-less : Type 0
-      Need-loop-less = (c : After-lower) → Nat._<_ (μ·0 (Row.get 1 (T9 .locals) (m8 (c .before .before .before .before .before .before .before .before .before .before .before .before .before .before .before .before .before .before .before) (c .before .before .before .before .before .before .before .before .before .before .before .before .before .before .before .before .before .before .slice-known3 .given))) (Row.get 2 (T9 .locals) (m8 (c .before .before .before .before .before .before .before .before .before .before .before .before .before .before .before .before .before .before .before) (c .before .before .before .before .before .before .before .before .before .before .before .before .before .before .before .before .before .before .slice-known3 .given)) .now) (Row.get 3 (T9 .locals) (m8 (c .before .before .before .before .before .before .before .before .before .before .before .before .before .before .before .before .before .before .before) (c .before .before .before .before .before .before .before .before .before .before .before .before .before .before .before .before .before .before .slice-known3 .given)) .now) (Row.get 4 (T9 .locals) (m8 (c .before .before .before .before .before .before .before .before .before .before .before .before .before .before .before .before .before .before .before) (c .before .before .before .before .before .before .before .before .before .before .before .before .before .before .before .before .before .before .slice-known3 .given)) .now) (Row.get 5 (T9 .locals) (m8 (c .before .before .before .before .before .before .before .before .before .before .before .before .before .before .before .before .before .before .before) (c .before .before .before .before .before .before .before .before .before .before .before .before .before .before .before .before .before .before .slice-known3 .given)) .now) (Row.get 6 (T9 .locals) (m8 (c .before .before .before .before .before .before .before .before .before .before .before .before .before .before .before .before .before .before .before) (c .before .before .before .before .before .before .before .before .before .before .before .before .before .before .before .before .before .before .slice-known3 .given)) .now) (Row.get 7 (T9 .locals) (m8 (c .before .before .before .before .before .before .before .before .before .before .before .before .before .before .before .before .before .before .before) (c .before .before .before .before .before .before .before .before .before .before .before .before .before .before .before .before .before .before .slice-known3 .given)) .now) (Row.get 8 (T9 .locals) (m8 (c .before .before .before .before .before .before .before .before .before .before .before .before .before .before .before .before .before .before .before) (c .before .before .before .before .before .before .before .before .before .before .before .before .before .before .before .before .before .before .slice-known3 .given))) (Row.get 9 (T9 .locals) (m8 (c .before .before .before .before .before .before .before .before .before .before .before .before .before .before .before .before .before .before .before) (c .before .before .before .before .before .before .before .before .before .before .before .before .before .before .before .before .before .before .slice-known3 .given))) (Row.get 10 (T9 .locals) (m8 (c .before .before .before .before .before .before .before .before .before .before .before .before .before .before .before .before .before .before .before) (c .before .before .before .before .before .before .before .before .before .before .before .before .before .before .before .before .before .before .slice-known3 .given))) (Row.get 11 (T9 .locals) (m8 (c .before .before .before .before .before .before .before .before .before .before .before .before .before .before .before .before .before .before .before) (c .before .before .before .before .before .before .before .before .before .before .before .before .before .before .before .before .before .before .slice-known3 .given))) (Row.get 12 (T9 .locals) (m8 (c .before .before .before .before .before .before .before .before .before .before .before .before .before .before .before .before .before .before .before) (c .before .before .before .before .before .before .before .before .before .before .before .before .before .before .before .before .before .before .slice-known3 .given))) (Row.get 5 (T9 .locals) (m46 (c .before) (After-lower·gave c)) .now) (Row.get 6 (T9 .locals) (m46 (c .before) (After-lower·gave c)) .now) (Row.get 7 (T9 .locals) (m46 (c .before) (After-lower·gave c)) .now) (Row.get 10 (T9 .locals) (m46 (c .before) (After-lower·gave c))) (Row.get 11 (T9 .locals) (m46 (c .before) (After-lower·gave c))) (Row.get 12 (T9 .locals) (m46 (c .before) (After-lower·gave c)))) (μ·0 (Row.get 1 (T9 .locals) (m8 (c .before .before .before .before .before .before .before .before .before .before .before .before .before .before .before .before .before .before .before) (c .before .before .before .before .before .before .before .before .before .before .before .before .before .before .before .before .before .before .slice-known3 .given))) (Row.get 2 (T9 .locals) (m8 (c .before .before .before .before .before .before .before .before .before .before .before .before .before .before .before .before .before .before .before) (c .before .before .before .before .before .before .before .before .before .before .before .before .before .before .before .before .before .before .slice-known3 .given)) .now) (Row.get 3 (T9 .locals) (m8 (c .before .before .before .before .before .before .before .before .before .before .before .before .before .before .before .before .before .before .before) (c .before .before .before .before .before .before .before .before .before .before .before .before .before .before .before .before .before .before .slice-known3 .given)) .now) (Row.get 4 (T9 .locals) (m8 (c .before .before .before .before .before .before .before .before .before .before .before .before .before .before .before .before .before .before .before) (c .before .before .before .before .before .before .before .before .before .before .before .before .before .before .before .before .before .before .slice-known3 .given)) .now) (Row.get 5 (T9 .locals) (m8 (c .before .before .before .before .before .before .before .before .before .before .before .before .before .before .before .before .before .before .before) (c .before .before .before .before .before .before .before .before .before .before .before .before .before .before .before .before .before .before .slice-known3 .given)) .now) (Row.get 6 (T9 .locals) (m8 (c .before .before .before .before .before .before .before .before .before .before .before .before .before .before .before .before .before .before .before) (c .before .before .before .before .before .before .before .before .before .before .before .before .before .before .before .before .before .before .slice-known3 .given)) .now) (Row.get 7 (T9 .locals) (m8 (c .before .before .before .before .before .before .before .before .before .before .before .before .before .before .before .before .before .before .before) (c .before .before .before .before .before .before .before .before .before .before .before .before .before .before .before .before .before .before .slice-known3 .given)) .now) (Row.get 8 (T9 .locals) (m8 (c .before .before .before .before .before .before .before .before .before .before .before .before .before .before .before .before .before .before .before) (c .before .before .before .before .before .before .before .before .before .before .before .before .before .before .before .before .before .before .slice-known3 .given))) (Row.get 9 (T9 .locals) (m8 (c .before .before .before .before .before .before .before .before .before .before .before .before .before .before .before .before .before .before .before) (c .before .before .before .before .before .before .before .before .before .before .before .before .before .before .before .before .before .before .slice-known3 .given))) (Row.get 10 (T9 .locals) (m8 (c .before .before .before .before .before .before .before .before .before .before .before .before .before .before .before .before .before .before .before) (c .before .before .before .before .before .before .before .before .before .before .before .before .before .before .before .before .before .before .slice-known3 .given))) (Row.get 11 (T9 .locals) (m8 (c .before .before .before .before .before .before .before .before .before .before .before .before .before .before .before .before .before .before .before) (c .before .before .before .before .before .before .before .before .before .before .before .before .before .before .before .before .before .before .slice-known3 .given))) (Row.get 12 (T9 .locals) (m8 (c .before .before .before .before .before .before .before .before .before .before .before .before .before .before .before .before .before .before .before) (c .before .before .before .before .before .before .before .before .before .before .before .before .before .before .before .before .before .before .slice-known3 .given))) (c .before .before .before .before .before .before .before .before .before .before .before .before .before .before .before .before .before .loop .commands) (c .before .before .before .before .before .before .before .before .before .before .before .before .before .before .before .before .before .loop .scratch) (c .before .before .before .before .before .before .before .before .before .before .before .before .before .before .before .before .before .loop .queue) (c .before .before .before .before .before .before .before .before .before .before .before .before .before .before .before .before .before .loop .q) (c .before .before .before .before .before .before .before .before .before .before .before .before .before .before .before .before .before .loop .low) (c .before .before .before .before .before .before .before .before .before .before .before .before .before .before .before .before .before .loop .h))
+      Need-loop-less = (c : After-lower) → Nat._<_ (μ·0 (Row.get 1 (T10 .locals) (m9 (c .before .before .before .before .before .before .before .before .before .before .before .before .before .before .before .before .before .before .before .before .before .before) (c .before .before .before .before .before .before .before .before .before .before .before .before .before .before .before .before .before .before .before .before .before .slice-known4 .given))) (Row.get 2 (T10 .locals) (m9 (c .before .before .before .before .before .before .before .before .before .before .before .before .before .before .before .before .before .before .before .before .before .before) (c .before .before .before .before .before .before .before .before .before .before .before .before .before .before .before .before .before .before .before .before .before .slice-known4 .given)) .now) (Row.get 3 (T10 .locals) (m9 (c .before .before .before .before .before .before .before .before .before .before .before .before .before .before .before .before .before .before .before .before .before .before) (c .before .before .before .before .before .before .before .before .before .before .before .before .before .before .before .before .before .before .before .before .before .slice-known4 .given)) .now) (Row.get 4 (T10 .locals) (m9 (c .before .before .before .before .before .before .before .before .before .before .before .before .before .before .before .before .before .before .before .before .before .before) (c .before .before .before .before .before .before .before .before .before .before .before .before .before .before .before .before .before .before .before .before .before .slice-known4 .given)) .now) (Row.get 5 (T10 .locals) (m9 (c .before .before .before .before .before .before .before .before .before .before .before .before .before .before .before .before .before .before .before .before .before .before) (c .before .before .before .before .before .before .before .before .before .before .before .before .before .before .before .before .before .before .before .before .before .slice-known4 .given)) .now) (Row.get 6 (T10 .locals) (m9 (c .before .before .before .before .before .before .before .before .before .before .before .before .before .before .before .before .before .before .before .before .before .before) (c .before .before .before .before .before .before .before .before .before .before .before .before .before .before .before .before .before .before .before .before .before .slice-known4 .given)) .now) (Row.get 7 (T10 .locals) (m9 (c .before .before .before .before .before .before .before .before .before .before .before .before .before .before .before .before .before .before .before .before .before .before) (c .before .before .before .before .before .before .before .before .before .before .before .before .before .before .before .before .before .before .before .before .before .slice-known4 .given)) .now) (Row.get 8 (T10 .locals) (m9 (c .before .before .before .before .before .before .before .before .before .before .before .before .before .before .before .before .before .before .before .before .before .before) (c .before .before .before .before .before .before .before .before .before .before .before .before .before .before .before .before .before .before .before .before .before .slice-known4 .given)) .now) (Row.get 9 (T10 .locals) (m9 (c .before .before .before .before .before .before .before .before .before .before .before .before .before .before .before .before .before .before .before .before .before .before) (c .before .before .before .before .before .before .before .before .before .before .before .before .before .before .before .before .before .before .before .before .before .slice-known4 .given))) (Row.get 10 (T10 .locals) (m9 (c .before .before .before .before .before .before .before .before .before .before .before .before .before .before .before .before .before .before .before .before .before .before) (c .before .before .before .before .before .before .before .before .before .before .before .before .before .before .before .before .before .before .before .before .before .slice-known4 .given))) (Row.get 11 (T10 .locals) (m9 (c .before .before .before .before .before .before .before .before .before .before .before .before .before .before .before .before .before .before .before .before .before .before) (c .before .before .before .before .before .before .before .before .before .before .before .before .before .before .before .before .before .before .before .before .before .slice-known4 .given))) (Row.get 12 (T10 .locals) (m9 (c .before .before .before .before .before .before .before .before .before .before .before .before .before .before .before .before .before .before .before .before .before .before) (c .before .before .before .before .before .before .before .before .before .before .before .before .before .before .before .before .before .before .before .before .before .slice-known4 .given))) (Row.get 13 (T10 .locals) (m9 (c .before .before .before .before .before .before .before .before .before .before .before .before .before .before .before .before .before .before .before .before .before .before) (c .before .before .before .before .before .before .before .before .before .before .before .before .before .before .before .before .before .before .before .before .before .slice-known4 .given))) (Row.get 5 (T10 .locals) (m51 (c .before) (After-lower·gave c)) .now) (Row.get 6 (T10 .locals) (m51 (c .before) (After-lower·gave c)) .now) (Row.get 7 (T10 .locals) (m51 (c .before) (After-lower·gave c)) .now) (Row.get 8 (T10 .locals) (m51 (c .before) (After-lower·gave c)) .now) (Row.get 11 (T10 .locals) (m51 (c .before) (After-lower·gave c))) (Row.get 12 (T10 .locals) (m51 (c .before) (After-lower·gave c))) (Row.get 13 (T10 .locals) (m51 (c .before) (After-lower·gave c)))) (μ·0 (Row.get 1 (T10 .locals) (m9 (c .before .before .before .before .before .before .before .before .before .before .before .before .before .before .before .before .before .before .before .before .before .before) (c .before .before .before .before .before .before .before .before .before .before .before .before .before .before .before .before .before .before .before .before .before .slice-known4 .given))) (Row.get 2 (T10 .locals) (m9 (c .before .before .before .before .before .before .before .before .before .before .before .before .before .before .before .before .before .before .before .before .before .before) (c .before .before .before .before .before .before .before .before .before .before .before .before .before .before .before .before .before .before .before .before .before .slice-known4 .given)) .now) (Row.get 3 (T10 .locals) (m9 (c .before .before .before .before .before .before .before .before .before .before .before .before .before .before .before .before .before .before .before .before .before .before) (c .before .before .before .before .before .before .before .before .before .before .before .before .before .before .before .before .before .before .before .before .before .slice-known4 .given)) .now) (Row.get 4 (T10 .locals) (m9 (c .before .before .before .before .before .before .before .before .before .before .before .before .before .before .before .before .before .before .before .before .before .before) (c .before .before .before .before .before .before .before .before .before .before .before .before .before .before .before .before .before .before .before .before .before .slice-known4 .given)) .now) (Row.get 5 (T10 .locals) (m9 (c .before .before .before .before .before .before .before .before .before .before .before .before .before .before .before .before .before .before .before .before .before .before) (c .before .before .before .before .before .before .before .before .before .before .before .before .before .before .before .before .before .before .before .before .before .slice-known4 .given)) .now) (Row.get 6 (T10 .locals) (m9 (c .before .before .before .before .before .before .before .before .before .before .before .before .before .before .before .before .before .before .before .before .before .before) (c .before .before .before .before .before .before .before .before .before .before .before .before .before .before .before .before .before .before .before .before .before .slice-known4 .given)) .now) (Row.get 7 (T10 .locals) (m9 (c .before .before .before .before .before .before .before .before .before .before .before .before .before .before .before .before .before .before .before .before .before .before) (c .before .before .before .before .before .before .before .before .before .before .before .before .before .before .before .before .before .before .before .before .before .slice-known4 .given)) .now) (Row.get 8 (T10 .locals) (m9 (c .before .before .before .before .before .before .before .before .before .before .before .before .before .before .before .before .before .before .before .before .before .before) (c .before .before .before .before .before .before .before .before .before .before .before .before .before .before .before .before .before .before .before .before .before .slice-known4 .given)) .now) (Row.get 9 (T10 .locals) (m9 (c .before .before .before .before .before .before .before .before .before .before .before .before .before .before .before .before .before .before .before .before .before .before) (c .before .before .before .before .before .before .before .before .before .before .before .before .before .before .before .before .before .before .before .before .before .slice-known4 .given))) (Row.get 10 (T10 .locals) (m9 (c .before .before .before .before .before .before .before .before .before .before .before .before .before .before .before .before .before .before .before .before .before .before) (c .before .before .before .before .before .before .before .before .before .before .before .before .before .before .before .before .before .before .before .before .before .slice-known4 .given))) (Row.get 11 (T10 .locals) (m9 (c .before .before .before .before .before .before .before .before .before .before .before .before .before .before .before .before .before .before .before .before .before .before) (c .before .before .before .before .before .before .before .before .before .before .before .before .before .before .before .before .before .before .before .before .before .slice-known4 .given))) (Row.get 12 (T10 .locals) (m9 (c .before .before .before .before .before .before .before .before .before .before .before .before .before .before .before .before .before .before .before .before .before .before) (c .before .before .before .before .before .before .before .before .before .before .before .before .before .before .before .before .before .before .before .before .before .slice-known4 .given))) (Row.get 13 (T10 .locals) (m9 (c .before .before .before .before .before .before .before .before .before .before .before .before .before .before .before .before .before .before .before .before .before .before) (c .before .before .before .before .before .before .before .before .before .before .before .before .before .before .before .before .before .before .before .before .before .slice-known4 .given))) (c .before .before .before .before .before .before .before .before .before .before .before .before .before .before .before .before .before .before .before .before .loop .commands) (c .before .before .before .before .before .before .before .before .before .before .before .before .before .before .before .before .before .before .before .before .loop .scratch) (c .before .before .before .before .before .before .before .before .before .before .before .before .before .before .before .before .before .before .before .before .loop .queue) (c .before .before .before .before .before .before .before .before .before .before .before .before .before .before .before .before .before .before .before .before .loop .tried) (c .before .before .before .before .before .before .before .before .before .before .before .before .before .before .before .before .before .before .before .before .loop .q) (c .before .before .before .before .before .before .before .before .before .before .before .before .before .before .before .before .before .before .before .before .loop .low) (c .before .before .before .before .before .before .before .before .before .before .before .before .before .before .before .before .before .before .before .before .loop .h))
 
       abbrev pub Need-loop-again : Type 0
-      Need-loop-again = (c : After-lower) → Inv·0 (Row.get 1 (T9 .locals) (m8 (c .before .before .before .before .before .before .before .before .before .before .before .before .before .before .before .before .before .before .before) (c .before .before .before .before .before .before .before .before .before .before .before .before .before .before .before .before .before .before .slice-known3 .given))) (Row.get 2 (T9 .locals) (m8 (c .before .before .before .before .before .before .before .before .before .before .before .before .before .before .before .before .before .before .before) (c .before .before .before .before .before .before .before .before .before .before .before .before .before .before .before .before .before .before .slice-known3 .given)) .now) (Row.get 3 (T9 .locals) (m8 (c .before .before .before .before .before .before .before .before .before .before .before .before .before .before .before .before .before .before .before) (c .before .before .before .before .before .before .before .before .before .before .before .before .before .before .before .before .before .before .slice-known3 .given)) .now) (Row.get 4 (T9 .locals) (m8 (c .before .before .before .before .before .before .before .before .before .before .before .before .before .before .before .before .before .before .before) (c .before .before .before .before .before .before .before .before .before .before .before .before .before .before .before .before .before .before .slice-known3 .given)) .now) (Row.get 5 (T9 .locals) (m8 (c .before .before .before .before .before .before .before .before .before .before .before .before .before .before .before .before .before .before .before) (c .before .before .before .before .before .before .before .before .before .before .before .before .before .before .before .before .before .before .slice-known3 .given)) .now) (Row.get 6 (T9 .locals) (m8 (c .before .before .before .before .before .before .before .before .before .before .before .before .before .before .before .before .before .before .before) (c .before .before .before .before .before .before .before .before .before .before .before .before .before .before .before .before .before .before .slice-known3 .given)) .now) (Row.get 7 (T9 .locals) (m8 (c .before .before .before .before .before .before .before .before .before .before .before .before .before .before .before .before .before .before .before) (c .before .before .before .before .before .before .before .before .before .before .before .before .before .before .before .before .before .before .slice-known3 .given)) .now) (Row.get 8 (T9 .locals) (m8 (c .before .before .before .before .before .before .before .before .before .before .before .before .before .before .before .before .before .before .before) (c .before .before .before .before .before .before .before .before .before .before .before .before .before .before .before .before .before .before .slice-known3 .given))) (Row.get 9 (T9 .locals) (m8 (c .before .before .before .before .before .before .before .before .before .before .before .before .before .before .before .before .before .before .before) (c .before .before .before .before .before .before .before .before .before .before .before .before .before .before .before .before .before .before .slice-known3 .given))) (Row.get 10 (T9 .locals) (m8 (c .before .before .before .before .before .before .before .before .before .before .before .before .before .before .before .before .before .before .before) (c .before .before .before .before .before .before .before .before .before .before .before .before .before .before .before .before .before .before .slice-known3 .given))) (Row.get 11 (T9 .locals) (m8 (c .before .before .before .before .before .before .before .before .before .before .before .before .before .before .before .before .before .before .before) (c .before .before .before .before .before .before .before .before .before .before .before .before .before .before .before .before .before .before .slice-known3 .given))) (Row.get 12 (T9 .locals) (m8 (c .before .before .before .before .before .before .before .before .before .before .before .before .before .before .before .before .before .before .before) (c .before .before .before .before .before .before .before .before .before .before .before .before .before .before .before .before .before .before .slice-known3 .given))) (Row.get 5 (T9 .locals) (m46 (c .before) (After-lower·gave c)) .now) (Row.get 6 (T9 .locals) (m46 (c .before) (After-lower·gave c)) .now) (Row.get 7 (T9 .locals) (m46 (c .before) (After-lower·gave c)) .now) (Row.get 10 (T9 .locals) (m46 (c .before) (After-lower·gave c))) (Row.get 11 (T9 .locals) (m46 (c .before) (After-lower·gave c))) (Row.get 12 (T9 .locals) (m46 (c .before) (After-lower·gave c)))
+      Need-loop-again = (c : After-lower) → Inv·0 (Row.get 1 (T10 .locals) (m9 (c .before .before .before .before .before .before .before .before .before .before .before .before .before .before .before .before .before .before .before .before .before .before) (c .before .before .before .before .before .before .before .before .before .before .before .before .before .before .before .before .before .before .before .before .before .slice-known4 .given))) (Row.get 2 (T10 .locals) (m9 (c .before .before .before .before .before .before .before .before .before .before .before .before .before .before .before .before .before .before .before .before .before .before) (c .before .before .before .before .before .before .before .before .before .before .before .before .before .before .before .before .before .before .before .before .before .slice-known4 .given)) .now) (Row.get 3 (T10 .locals) (m9 (c .before .before .before .before .before .before .before .before .before .before .before .before .before .before .before .before .before .before .before .before .before .before) (c .before .before .before .before .before .before .before .before .before .before .before .before .before .before .before .before .before .before .before .before .before .slice-known4 .given)) .now) (Row.get 4 (T10 .locals) (m9 (c .before .before .before .before .before .before .before .before .before .before .before .before .before .before .before .before .before .before .before .before .before .before) (c .before .before .before .before .before .before .before .before .before .before .before .before .before .before .before .before .before .before .before .before .before .slice-known4 .given)) .now) (Row.get 5 (T10 .locals) (m9 (c .before .before .before .before .before .before .before .before .before .before .before .before .before .before .before .before .before .before .before .before .before .before) (c .before .before .before .before .before .before .before .before .before .before .before .before .before .before .before .before .before .before .before .before .before .slice-known4 .given)) .now) (Row.get 6 (T10 .locals) (m9 (c .before .before .before .before .before .before .before .before .before .before .before .before .before .before .before .before .before .before .before .before .before .before) (c .before .before .before .before .before .before .before .before .before .before .before .before .before .before .before .before .before .before .before .before .before .slice-known4 .given)) .now) (Row.get 7 (T10 .locals) (m9 (c .before .before .before .before .before .before .before .before .before .before .before .before .before .before .before .before .before .before .before .before .before .before) (c .before .before .before .before .before .before .before .before .before .before .before .before .before .before .before .before .before .before .before .before .before .slice-known4 .given)) .now) (Row.get 8 (T10 .locals) (m9 (c .before .before .before .before .before .before .before .before .before .before .before .before .before .before .before .before .before .before .before .before .before .before) (c .before .before .before .before .before .before .before .before .before .before .before .before .before .before .before .before .before .before .before .before .before .slice-known4 .given)) .now) (Row.get 9 (T10 .locals) (m9 (c .before .before .before .before .before .before .before .before .before .before .before .before .before .before .before .before .before .before .before .before .before .before) (c .before .before .before .before .before .before .before .before .before .before .before .before .before .before .before .before .before .before .before .before .before .slice-known4 .given))) (Row.get 10 (T10 .locals) (m9 (c .before .before .before .before .before .before .before .before .before .before .before .before .before .before .before .before .before .before .before .before .before .before) (c .before .before .before .before .before .before .before .before .before .before .before .before .before .before .before .before .before .before .before .before .before .slice-known4 .given))) (Row.get 11 (T10 .locals) (m9 (c .before .before .before .before .before .before .before .before .before .before .before .before .before .before .before .before .before .before .before .before .before .before) (c .before .before .before .before .before .before .before .before .before .before .before .before .before .before .before .before .before .before .before .before .before .slice-known4 .given))) (Row.get 12 (T10 .locals) (m9 (c .before .before .before .before .before .before .before .before .before .before .before .before .before .before .before .before .before .before .before .before .before .before) (c .before .before .before .before .before .before .before .before .before .before .before .before .before .before .before .before .before .before .before .before .before .slice-known4 .given))) (Row.get 13 (T10 .locals) (m9 (c .before .before .before .before .before .before .before .before .before .before .before .before .before .before .before .before .before .before .before .before .before .before) (c .before .before .before .before .before .before .before .before .before .before .before .before .before .before .before .before .before .before .before .before .before .slice-known4 .given))) (Row.get 5 (T10 .locals) (m51 (c .before) (After-lower·gave c)) .now) (Row.get 6 (T10 .locals) (m51 (c .before) (After-lower·gave c)) .now) (Row.get 7 (T10 .locals) (m51 (c .before) (After-lower·gave c)) .now) (Row.get 8 (T10 .locals) (m51 (c .before) (After-lower·gave c)) .now) (Row.get 11 (T10 .locals) (m51 (c .before) (After-lower·gave c))) (Row.get 12 (T10 .locals) (m51 (c .before) (After-lower·gave c))) (Row.get 13 (T10 .locals) (m51 (c .before) (After-lower·gave c)))
 
-      abbrev pub m47 : (before : At-loop) → Typed.Mo T67
-      m47 = λ before. s63 (m13 before)
+      abbrev pub m52 : (before : At-loop) → Typed.Mo T75
+      m52 = λ before. s71 (m14 before)
 
-      abbrev pub m48 : (before : At-loop) → Typed.Mo T68
-      m48 = λ before. s64 (m47 before)
+      abbrev pub m53 : (before : At-loop) → Typed.Mo T76
+      m53 = λ before. s72 (m52 before)
 
-      abbrev pub m49 : (before : At-loop) → Typed.Mo T69
-      m49 = λ before. s65 (m48 before)
+      abbrev pub m54 : (before : At-loop) → Typed.Mo T77
+      m54 = λ before. s73 (m53 before)
 
-      abbrev pub m50 : (before : At-loop) → Typed.Mo T70
-      m50 = λ before. s66 (m49 before)
+      abbrev pub m55 : (before : At-loop) → Typed.Mo T78
+      m55 = λ before. s74 (m54 before)
 
-      abbrev pub m51 : (before : At-loop) → Typed.Mo T71
-      m51 = λ before. s67 (m50 before)
+      abbrev pub m56 : (before : At-loop) → Typed.Mo T79
+      m56 = λ before. s75 (m55 before)
 
-      abbrev pub m52 : (before : At-loop) → Typed.Mo T72
-      m52 = λ before. s68 (m51 before)
+      abbrev pub m57 : (before : At-loop) → Typed.Mo T80
+      m57 = λ before. s76 (m56 before)
 
-      abbrev pub m53 : (before : At-loop) → Typed.Mo T73
-      m53 = λ before. s69 (m52 before)
+      abbrev pub m58 : (before : At-loop) → Typed.Mo T81
+      m58 = λ before. s77 (m57 before)
 
       abbrev pub Need-same-length : Type 0
-      Need-same-length = (c : After-loop) → MutSlice.SameLen (Row.get 5 (T73 .locals) (m53 (c .before))) (dens (c .before .before .before .before .before .before .before .κs) (c .before .before .before .before .before .before .before .args) .1 .1 .1 .1 .0)
+      Need-same-length = (c : After-loop) → MutSlice.SameLen (Row.get 5 (T81 .locals) (m58 (c .before))) (dens (c .before .before .before .before .before .before .before .before .κs) (c .before .before .before .before .before .before .before .before .args) .1 .1 .1 .1 .0)
 
       abbrev pub Need-same-length-2 : Type 0
-      Need-same-length-2 = (c : After-loop) → MutSlice.SameLen (Row.get 6 (T73 .locals) (m53 (c .before))) (dens (c .before .before .before .before .before .before .before .κs) (c .before .before .before .before .before .before .before .args) .1 .1 .1 .1 .1 .0)
+      Need-same-length-2 = (c : After-loop) → MutSlice.SameLen (Row.get 6 (T81 .locals) (m58 (c .before))) (dens (c .before .before .before .before .before .before .before .before .κs) (c .before .before .before .before .before .before .before .before .args) .1 .1 .1 .1 .1 .0)
 
       abbrev pub Need-same-length-3 : Type 0
-      Need-same-length-3 = (c : After-loop) → MutSlice.SameLen (Row.get 7 (T73 .locals) (m53 (c .before))) (dens (c .before .before .before .before .before .before .before .κs) (c .before .before .before .before .before .before .before .args) .1 .1 .1 .1 .1 .1 .0)
+      Need-same-length-3 = (c : After-loop) → MutSlice.SameLen (Row.get 7 (T81 .locals) (m58 (c .before))) (dens (c .before .before .before .before .before .before .before .before .κs) (c .before .before .before .before .before .before .before .before .args) .1 .1 .1 .1 .1 .1 .0)
+
+      abbrev pub Need-same-length-4 : Type 0
+      Need-same-length-4 = (c : After-loop) → MutSlice.SameLen (Row.get 8 (T81 .locals) (m58 (c .before))) (dens (c .before .before .before .before .before .before .before .before .κs) (c .before .before .before .before .before .before .before .before .args) .1 .1 .1 .1 .1 .1 .1 .0)
 
       abbrev pub Need-returns : Type 0
-      Need-returns = (c : After-loop) → Post· (c .before .before .before .before .before .before .before .κs) (dens (c .before .before .before .before .before .before .before .κs) (c .before .before .before .before .before .before .before .args)) (Function.resV r (c .before .before .before .before .before .before .before .κs) (m53 (c .before) .0)) (Clauses.atExit (Kinds.endedOf 6 ps r) (c .before .before .before .before .before .before .before .κs) (dens (c .before .before .before .before .before .before .before .κs) (c .before .before .before .before .before .before .before .args)) (Enter.lastsP (c .before .before .before .before .before .before .before .κs) 1 ps xs (dens (c .before .before .before .before .before .before .before .κs) (c .before .before .before .before .before .before .before .args)) (m53 (c .before) .1)))
+      Need-returns = (c : After-loop) → Post· (c .before .before .before .before .before .before .before .before .κs) (dens (c .before .before .before .before .before .before .before .before .κs) (c .before .before .before .before .before .before .before .before .args)) (Function.resV r (c .before .before .before .before .before .before .before .before .κs) (m58 (c .before) .0)) (Clauses.atExit (Kinds.endedOf 7 ps r) (c .before .before .before .before .before .before .before .before .κs) (dens (c .before .before .before .before .before .before .before .before .κs) (c .before .before .before .before .before .before .before .before .args)) (Enter.lastsP (c .before .before .before .before .before .before .before .before .κs) 1 ps xs (dens (c .before .before .before .before .before .before .before .before .κs) (c .before .before .before .before .before .before .before .before .args)) (m58 (c .before) .1)))
 
-      module _ (loop-holds : Need-loop-holds) (at-requires : Need-at-requires) (span-at-requires : Need-span-at-requires) (add-expand : Need-add-expand) (expand-requires : Need-expand-requires) (lower-requires : Need-lower-requires) (add-h : Need-add-h) (loop-less : Need-loop-less) (loop-again : Need-loop-again) (same-length : Need-same-length) (same-length-2 : Need-same-length-2) (same-length-3 : Need-same-length-3) (returns : Need-returns) where
-        lay8 : (c : After-loop) → at67 (W0 (c .before .before .before .before .before .before .before .κs) (c .before .before .before .before .before .before .before .args)) (m13 (c .before))
-        lay8 = λ c. ((tt, (Path'.refl, (Path'.refl, (Path'.refl, (MutSlice.fix-len (Row.get 5 (T73 .locals) (m53 (c .before)) .ptr) (Row.get 5 (T73 .locals) (m53 (c .before)) .name) (Row.get 5 (T73 .locals) (m53 (c .before)) .now) (dens (c .before .before .before .before .before .before .before .κs) (c .before .before .before .before .before .before .before .args) .1 .1 .1 .1 .0 .now) (same-length record { before = c .before; loop-test = c .loop-test }), (MutSlice.fix-len (Row.get 6 (T73 .locals) (m53 (c .before)) .ptr) (Row.get 6 (T73 .locals) (m53 (c .before)) .name) (Row.get 6 (T73 .locals) (m53 (c .before)) .now) (dens (c .before .before .before .before .before .before .before .κs) (c .before .before .before .before .before .before .before .args) .1 .1 .1 .1 .1 .0 .now) (same-length-2 record { before = c .before; loop-test = c .loop-test }), (MutSlice.fix-len (Row.get 7 (T73 .locals) (m53 (c .before)) .ptr) (Row.get 7 (T73 .locals) (m53 (c .before)) .name) (Row.get 7 (T73 .locals) (m53 (c .before)) .now) (dens (c .before .before .before .before .before .before .before .κs) (c .before .before .before .before .before .before .before .args) .1 .1 .1 .1 .1 .1 .0 .now) (same-length-3 record { before = c .before; loop-test = c .loop-test }), (tt, (tt, tt))))))))), returns record { before = c .before; loop-test = c .loop-test })
+      module _ (loop-holds : Need-loop-holds) (at-requires : Need-at-requires) (span-at-requires : Need-span-at-requires) (add-expand : Need-add-expand) (expand-requires : Need-expand-requires) (lower-requires : Need-lower-requires) (add-h : Need-add-h) (loop-less : Need-loop-less) (loop-again : Need-loop-again) (same-length : Need-same-length) (same-length-2 : Need-same-length-2) (same-length-3 : Need-same-length-3) (same-length-4 : Need-same-length-4) (returns : Need-returns) where
+        lay8 : (c : After-loop) → at74 (W0 (c .before .before .before .before .before .before .before .before .κs) (c .before .before .before .before .before .before .before .before .args)) (m14 (c .before))
+        lay8 = λ c. ((tt, (Path'.refl, (Path'.refl, (Path'.refl, (MutSlice.fix-len (Row.get 5 (T81 .locals) (m58 (c .before)) .ptr) (Row.get 5 (T81 .locals) (m58 (c .before)) .name) (Row.get 5 (T81 .locals) (m58 (c .before)) .now) (dens (c .before .before .before .before .before .before .before .before .κs) (c .before .before .before .before .before .before .before .before .args) .1 .1 .1 .1 .0 .now) (same-length record { before = c .before; loop-test = c .loop-test }), (MutSlice.fix-len (Row.get 6 (T81 .locals) (m58 (c .before)) .ptr) (Row.get 6 (T81 .locals) (m58 (c .before)) .name) (Row.get 6 (T81 .locals) (m58 (c .before)) .now) (dens (c .before .before .before .before .before .before .before .before .κs) (c .before .before .before .before .before .before .before .before .args) .1 .1 .1 .1 .1 .0 .now) (same-length-2 record { before = c .before; loop-test = c .loop-test }), (MutSlice.fix-len (Row.get 7 (T81 .locals) (m58 (c .before)) .ptr) (Row.get 7 (T81 .locals) (m58 (c .before)) .name) (Row.get 7 (T81 .locals) (m58 (c .before)) .now) (dens (c .before .before .before .before .before .before .before .before .κs) (c .before .before .before .before .before .before .before .before .args) .1 .1 .1 .1 .1 .1 .0 .now) (same-length-3 record { before = c .before; loop-test = c .loop-test }), (MutSlice.fix-len (Row.get 8 (T81 .locals) (m58 (c .before)) .ptr) (Row.get 8 (T81 .locals) (m58 (c .before)) .name) (Row.get 8 (T81 .locals) (m58 (c .before)) .now) (dens (c .before .before .before .before .before .before .before .before .κs) (c .before .before .before .before .before .before .before .before .args) .1 .1 .1 .1 .1 .1 .1 .0 .now) (same-length-4 record { before = c .before; loop-test = c .loop-test }), (tt, (tt, tt)))))))))), returns record { before = c .before; loop-test = c .loop-test })
 
-        lay7 : (c : After-lower) → at15 (W3 (c .before .before .before .before .before .before .before .before .before .before .before .before .before .before .before .before .before .before) (c .before .before .before .before .before .before .before .before .before .before .before .before .before .before .before .before .before .loop .commands) (c .before .before .before .before .before .before .before .before .before .before .before .before .before .before .before .before .before .loop .scratch) (c .before .before .before .before .before .before .before .before .before .before .before .before .before .before .before .before .before .loop .queue) (c .before .before .before .before .before .before .before .before .before .before .before .before .before .before .before .before .before .loop .q) (c .before .before .before .before .before .before .before .before .before .before .before .before .before .before .before .before .before .loop .low) (c .before .before .before .before .before .before .before .before .before .before .before .before .before .before .before .before .before .loop .h)) (m39 (c .before) (After-lower·gave c))
-        lay7 = λ c. (add-h record { before = c .before; lower = c .lower }, (μ·0 (Row.get 1 (T9 .locals) (m8 (c .before .before .before .before .before .before .before .before .before .before .before .before .before .before .before .before .before .before .before) (c .before .before .before .before .before .before .before .before .before .before .before .before .before .before .before .before .before .before .slice-known3 .given))) (Row.get 2 (T9 .locals) (m8 (c .before .before .before .before .before .before .before .before .before .before .before .before .before .before .before .before .before .before .before) (c .before .before .before .before .before .before .before .before .before .before .before .before .before .before .before .before .before .before .slice-known3 .given)) .now) (Row.get 3 (T9 .locals) (m8 (c .before .before .before .before .before .before .before .before .before .before .before .before .before .before .before .before .before .before .before) (c .before .before .before .before .before .before .before .before .before .before .before .before .before .before .before .before .before .before .slice-known3 .given)) .now) (Row.get 4 (T9 .locals) (m8 (c .before .before .before .before .before .before .before .before .before .before .before .before .before .before .before .before .before .before .before) (c .before .before .before .before .before .before .before .before .before .before .before .before .before .before .before .before .before .before .slice-known3 .given)) .now) (Row.get 5 (T9 .locals) (m8 (c .before .before .before .before .before .before .before .before .before .before .before .before .before .before .before .before .before .before .before) (c .before .before .before .before .before .before .before .before .before .before .before .before .before .before .before .before .before .before .slice-known3 .given)) .now) (Row.get 6 (T9 .locals) (m8 (c .before .before .before .before .before .before .before .before .before .before .before .before .before .before .before .before .before .before .before) (c .before .before .before .before .before .before .before .before .before .before .before .before .before .before .before .before .before .before .slice-known3 .given)) .now) (Row.get 7 (T9 .locals) (m8 (c .before .before .before .before .before .before .before .before .before .before .before .before .before .before .before .before .before .before .before) (c .before .before .before .before .before .before .before .before .before .before .before .before .before .before .before .before .before .before .slice-known3 .given)) .now) (Row.get 8 (T9 .locals) (m8 (c .before .before .before .before .before .before .before .before .before .before .before .before .before .before .before .before .before .before .before) (c .before .before .before .before .before .before .before .before .before .before .before .before .before .before .before .before .before .before .slice-known3 .given))) (Row.get 9 (T9 .locals) (m8 (c .before .before .before .before .before .before .before .before .before .before .before .before .before .before .before .before .before .before .before) (c .before .before .before .before .before .before .before .before .before .before .before .before .before .before .before .before .before .before .slice-known3 .given))) (Row.get 10 (T9 .locals) (m8 (c .before .before .before .before .before .before .before .before .before .before .before .before .before .before .before .before .before .before .before) (c .before .before .before .before .before .before .before .before .before .before .before .before .before .before .before .before .before .before .slice-known3 .given))) (Row.get 11 (T9 .locals) (m8 (c .before .before .before .before .before .before .before .before .before .before .before .before .before .before .before .before .before .before .before) (c .before .before .before .before .before .before .before .before .before .before .before .before .before .before .before .before .before .before .slice-known3 .given))) (Row.get 12 (T9 .locals) (m8 (c .before .before .before .before .before .before .before .before .before .before .before .before .before .before .before .before .before .before .before) (c .before .before .before .before .before .before .before .before .before .before .before .before .before .before .before .before .before .before .slice-known3 .given))) (Row.get 5 (T9 .locals) (m46 (c .before) (After-lower·gave c)) .now) (Row.get 6 (T9 .locals) (m46 (c .before) (After-lower·gave c)) .now) (Row.get 7 (T9 .locals) (m46 (c .before) (After-lower·gave c)) .now) (Row.get 10 (T9 .locals) (m46 (c .before) (After-lower·gave c))) (Row.get 11 (T9 .locals) (m46 (c .before) (After-lower·gave c))) (Row.get 12 (T9 .locals) (m46 (c .before) (After-lower·gave c))), loop-less record { before = c .before; lower = c .lower }, ((Row.get 5 (T9 .locals) (m46 (c .before) (After-lower·gave c)) .now, Row.get 6 (T9 .locals) (m46 (c .before) (After-lower·gave c)) .now, Row.get 7 (T9 .locals) (m46 (c .before) (After-lower·gave c)) .now, Row.get 10 (T9 .locals) (m46 (c .before) (After-lower·gave c)), Row.get 11 (T9 .locals) (m46 (c .before) (After-lower·gave c)), Row.get 12 (T9 .locals) (m46 (c .before) (After-lower·gave c))), Path'.refl {a = m46 (c .before) (After-lower·gave c)}, loop-again record { before = c .before; lower = c .lower }, Path'.refl {a = μ·0 (Row.get 1 (T9 .locals) (m8 (c .before .before .before .before .before .before .before .before .before .before .before .before .before .before .before .before .before .before .before) (c .before .before .before .before .before .before .before .before .before .before .before .before .before .before .before .before .before .before .slice-known3 .given))) (Row.get 2 (T9 .locals) (m8 (c .before .before .before .before .before .before .before .before .before .before .before .before .before .before .before .before .before .before .before) (c .before .before .before .before .before .before .before .before .before .before .before .before .before .before .before .before .before .before .slice-known3 .given)) .now) (Row.get 3 (T9 .locals) (m8 (c .before .before .before .before .before .before .before .before .before .before .before .before .before .before .before .before .before .before .before) (c .before .before .before .before .before .before .before .before .before .before .before .before .before .before .before .before .before .before .slice-known3 .given)) .now) (Row.get 4 (T9 .locals) (m8 (c .before .before .before .before .before .before .before .before .before .before .before .before .before .before .before .before .before .before .before) (c .before .before .before .before .before .before .before .before .before .before .before .before .before .before .before .before .before .before .slice-known3 .given)) .now) (Row.get 5 (T9 .locals) (m8 (c .before .before .before .before .before .before .before .before .before .before .before .before .before .before .before .before .before .before .before) (c .before .before .before .before .before .before .before .before .before .before .before .before .before .before .before .before .before .before .slice-known3 .given)) .now) (Row.get 6 (T9 .locals) (m8 (c .before .before .before .before .before .before .before .before .before .before .before .before .before .before .before .before .before .before .before) (c .before .before .before .before .before .before .before .before .before .before .before .before .before .before .before .before .before .before .slice-known3 .given)) .now) (Row.get 7 (T9 .locals) (m8 (c .before .before .before .before .before .before .before .before .before .before .before .before .before .before .before .before .before .before .before) (c .before .before .before .before .before .before .before .before .before .before .before .before .before .before .before .before .before .before .slice-known3 .given)) .now) (Row.get 8 (T9 .locals) (m8 (c .before .before .before .before .before .before .before .before .before .before .before .before .before .before .before .before .before .before .before) (c .before .before .before .before .before .before .before .before .before .before .before .before .before .before .before .before .before .before .slice-known3 .given))) (Row.get 9 (T9 .locals) (m8 (c .before .before .before .before .before .before .before .before .before .before .before .before .before .before .before .before .before .before .before) (c .before .before .before .before .before .before .before .before .before .before .before .before .before .before .before .before .before .before .slice-known3 .given))) (Row.get 10 (T9 .locals) (m8 (c .before .before .before .before .before .before .before .before .before .before .before .before .before .before .before .before .before .before .before) (c .before .before .before .before .before .before .before .before .before .before .before .before .before .before .before .before .before .before .slice-known3 .given))) (Row.get 11 (T9 .locals) (m8 (c .before .before .before .before .before .before .before .before .before .before .before .before .before .before .before .before .before .before .before) (c .before .before .before .before .before .before .before .before .before .before .before .before .before .before .before .before .before .before .slice-known3 .given))) (Row.get 12 (T9 .locals) (m8 (c .before .before .before .before .before .before .before .before .before .before .before .before .before .before .before .before .before .before .before) (c .before .before .before .before .before .before .before .before .before .before .before .before .before .before .before .before .before .before .slice-known3 .given))) (Row.get 5 (T9 .locals) (m46 (c .before) (After-lower·gave c)) .now) (Row.get 6 (T9 .locals) (m46 (c .before) (After-lower·gave c)) .now) (Row.get 7 (T9 .locals) (m46 (c .before) (After-lower·gave c)) .now) (Row.get 10 (T9 .locals) (m46 (c .before) (After-lower·gave c))) (Row.get 11 (T9 .locals) (m46 (c .before) (After-lower·gave c))) (Row.get 12 (T9 .locals) (m46 (c .before) (After-lower·gave c)))})))
+        lay7 : (c : After-lower) → at15 (W3 (c .before .before .before .before .before .before .before .before .before .before .before .before .before .before .before .before .before .before .before .before .before) (c .before .before .before .before .before .before .before .before .before .before .before .before .before .before .before .before .before .before .before .before .loop .commands) (c .before .before .before .before .before .before .before .before .before .before .before .before .before .before .before .before .before .before .before .before .loop .scratch) (c .before .before .before .before .before .before .before .before .before .before .before .before .before .before .before .before .before .before .before .before .loop .queue) (c .before .before .before .before .before .before .before .before .before .before .before .before .before .before .before .before .before .before .before .before .loop .tried) (c .before .before .before .before .before .before .before .before .before .before .before .before .before .before .before .before .before .before .before .before .loop .q) (c .before .before .before .before .before .before .before .before .before .before .before .before .before .before .before .before .before .before .before .before .loop .low) (c .before .before .before .before .before .before .before .before .before .before .before .before .before .before .before .before .before .before .before .before .loop .h)) (m44 (c .before) (After-lower·gave c))
+        lay7 = λ c. (add-h record { before = c .before; lower = c .lower }, (μ·0 (Row.get 1 (T10 .locals) (m9 (c .before .before .before .before .before .before .before .before .before .before .before .before .before .before .before .before .before .before .before .before .before .before) (c .before .before .before .before .before .before .before .before .before .before .before .before .before .before .before .before .before .before .before .before .before .slice-known4 .given))) (Row.get 2 (T10 .locals) (m9 (c .before .before .before .before .before .before .before .before .before .before .before .before .before .before .before .before .before .before .before .before .before .before) (c .before .before .before .before .before .before .before .before .before .before .before .before .before .before .before .before .before .before .before .before .before .slice-known4 .given)) .now) (Row.get 3 (T10 .locals) (m9 (c .before .before .before .before .before .before .before .before .before .before .before .before .before .before .before .before .before .before .before .before .before .before) (c .before .before .before .before .before .before .before .before .before .before .before .before .before .before .before .before .before .before .before .before .before .slice-known4 .given)) .now) (Row.get 4 (T10 .locals) (m9 (c .before .before .before .before .before .before .before .before .before .before .before .before .before .before .before .before .before .before .before .before .before .before) (c .before .before .before .before .before .before .before .before .before .before .before .before .before .before .before .before .before .before .before .before .before .slice-known4 .given)) .now) (Row.get 5 (T10 .locals) (m9 (c .before .before .before .before .before .before .before .before .before .before .before .before .before .before .before .before .before .before .before .before .before .before) (c .before .before .before .before .before .before .before .before .before .before .before .before .before .before .before .before .before .before .before .before .before .slice-known4 .given)) .now) (Row.get 6 (T10 .locals) (m9 (c .before .before .before .before .before .before .before .before .before .before .before .before .before .before .before .before .before .before .before .before .before .before) (c .before .before .before .before .before .before .before .before .before .before .before .before .before .before .before .before .before .before .before .before .before .slice-known4 .given)) .now) (Row.get 7 (T10 .locals) (m9 (c .before .before .before .before .before .before .before .before .before .before .before .before .before .before .before .before .before .before .before .before .before .before) (c .before .before .before .before .before .before .before .before .before .before .before .before .before .before .before .before .before .before .before .before .before .slice-known4 .given)) .now) (Row.get 8 (T10 .locals) (m9 (c .before .before .before .before .before .before .before .before .before .before .before .before .before .before .before .before .before .before .before .before .before .before) (c .before .before .before .before .before .before .before .before .before .before .before .before .before .before .before .before .before .before .before .before .before .slice-known4 .given)) .now) (Row.get 9 (T10 .locals) (m9 (c .before .before .before .before .before .before .before .before .before .before .before .before .before .before .before .before .before .before .before .before .before .before) (c .before .before .before .before .before .before .before .before .before .before .before .before .before .before .before .before .before .before .before .before .before .slice-known4 .given))) (Row.get 10 (T10 .locals) (m9 (c .before .before .before .before .before .before .before .before .before .before .before .before .before .before .before .before .before .before .before .before .before .before) (c .before .before .before .before .before .before .before .before .before .before .before .before .before .before .before .before .before .before .before .before .before .slice-known4 .given))) (Row.get 11 (T10 .locals) (m9 (c .before .before .before .before .before .before .before .before .before .before .before .before .before .before .before .before .before .before .before .before .before .before) (c .before .before .before .before .before .before .before .before .before .before .before .before .before .before .before .before .before .before .before .before .before .slice-known4 .given))) (Row.get 12 (T10 .locals) (m9 (c .before .before .before .before .before .before .before .before .before .before .before .before .before .before .before .before .before .before .before .before .before .before) (c .before .before .before .before .before .before .before .before .before .before .before .before .before .before .before .before .before .before .before .before .before .slice-known4 .given))) (Row.get 13 (T10 .locals) (m9 (c .before .before .before .before .before .before .before .before .before .before .before .before .before .before .before .before .before .before .before .before .before .before) (c .before .before .before .before .before .before .before .before .before .before .before .before .before .before .before .before .before .before .before .before .before .slice-known4 .given))) (Row.get 5 (T10 .locals) (m51 (c .before) (After-lower·gave c)) .now) (Row.get 6 (T10 .locals) (m51 (c .before) (After-lower·gave c)) .now) (Row.get 7 (T10 .locals) (m51 (c .before) (After-lower·gave c)) .now) (Row.get 8 (T10 .locals) (m51 (c .before) (After-lower·gave c)) .now) (Row.get 11 (T10 .locals) (m51 (c .before) (After-lower·gave c))) (Row.get 12 (T10 .locals) (m51 (c .before) (After-lower·gave c))) (Row.get 13 (T10 .locals) (m51 (c .before) (After-lower·gave c))), loop-less record { before = c .before; lower = c .lower }, ((Row.get 5 (T10 .locals) (m51 (c .before) (After-lower·gave c)) .now, Row.get 6 (T10 .locals) (m51 (c .before) (After-lower·gave c)) .now, Row.get 7 (T10 .locals) (m51 (c .before) (After-lower·gave c)) .now, Row.get 8 (T10 .locals) (m51 (c .before) (After-lower·gave c)) .now, Row.get 11 (T10 .locals) (m51 (c .before) (After-lower·gave c)), Row.get 12 (T10 .locals) (m51 (c .before) (After-lower·gave c)), Row.get 13 (T10 .locals) (m51 (c .before) (After-lower·gave c))), Path'.refl {a = m51 (c .before) (After-lower·gave c)}, loop-again record { before = c .before; lower = c .lower }, Path'.refl {a = μ·0 (Row.get 1 (T10 .locals) (m9 (c .before .before .before .before .before .before .before .before .before .before .before .before .before .before .before .before .before .before .before .before .before .before) (c .before .before .before .before .before .before .before .before .before .before .before .before .before .before .before .before .before .before .before .before .before .slice-known4 .given))) (Row.get 2 (T10 .locals) (m9 (c .before .before .before .before .before .before .before .before .before .before .before .before .before .before .before .before .before .before .before .before .before .before) (c .before .before .before .before .before .before .before .before .before .before .before .before .before .before .before .before .before .before .before .before .before .slice-known4 .given)) .now) (Row.get 3 (T10 .locals) (m9 (c .before .before .before .before .before .before .before .before .before .before .before .before .before .before .before .before .before .before .before .before .before .before) (c .before .before .before .before .before .before .before .before .before .before .before .before .before .before .before .before .before .before .before .before .before .slice-known4 .given)) .now) (Row.get 4 (T10 .locals) (m9 (c .before .before .before .before .before .before .before .before .before .before .before .before .before .before .before .before .before .before .before .before .before .before) (c .before .before .before .before .before .before .before .before .before .before .before .before .before .before .before .before .before .before .before .before .before .slice-known4 .given)) .now) (Row.get 5 (T10 .locals) (m9 (c .before .before .before .before .before .before .before .before .before .before .before .before .before .before .before .before .before .before .before .before .before .before) (c .before .before .before .before .before .before .before .before .before .before .before .before .before .before .before .before .before .before .before .before .before .slice-known4 .given)) .now) (Row.get 6 (T10 .locals) (m9 (c .before .before .before .before .before .before .before .before .before .before .before .before .before .before .before .before .before .before .before .before .before .before) (c .before .before .before .before .before .before .before .before .before .before .before .before .before .before .before .before .before .before .before .before .before .slice-known4 .given)) .now) (Row.get 7 (T10 .locals) (m9 (c .before .before .before .before .before .before .before .before .before .before .before .before .before .before .before .before .before .before .before .before .before .before) (c .before .before .before .before .before .before .before .before .before .before .before .before .before .before .before .before .before .before .before .before .before .slice-known4 .given)) .now) (Row.get 8 (T10 .locals) (m9 (c .before .before .before .before .before .before .before .before .before .before .before .before .before .before .before .before .before .before .before .before .before .before) (c .before .before .before .before .before .before .before .before .before .before .before .before .before .before .before .before .before .before .before .before .before .slice-known4 .given)) .now) (Row.get 9 (T10 .locals) (m9 (c .before .before .before .before .before .before .before .before .before .before .before .before .before .before .before .before .before .before .before .before .before .before) (c .before .before .before .before .before .before .before .before .before .before .before .before .before .before .before .before .before .before .before .before .before .slice-known4 .given))) (Row.get 10 (T10 .locals) (m9 (c .before .before .before .before .before .before .before .before .before .before .before .before .before .before .before .before .before .before .before .before .before .before) (c .before .before .before .before .before .before .before .before .before .before .before .before .before .before .before .before .before .before .before .before .before .slice-known4 .given))) (Row.get 11 (T10 .locals) (m9 (c .before .before .before .before .before .before .before .before .before .before .before .before .before .before .before .before .before .before .before .before .before .before) (c .before .before .before .before .before .before .before .before .before .before .before .before .before .before .before .before .before .before .before .before .before .slice-known4 .given))) (Row.get 12 (T10 .locals) (m9 (c .before .before .before .before .before .before .before .before .before .before .before .before .before .before .before .before .before .before .before .before .before .before) (c .before .before .before .before .before .before .before .before .before .before .before .before .before .before .before .before .before .before .before .before .before .slice-known4 .given))) (Row.get 13 (T10 .locals) (m9 (c .before .before .before .before .before .before .before .before .before .before .before .before .before .before .before .before .before .before .before .before .before .before) (c .before .before .before .before .before .before .before .before .before .before .before .before .before .before .before .before .before .before .before .before .before .slice-known4 .given))) (Row.get 5 (T10 .locals) (m51 (c .before) (After-lower·gave c)) .now) (Row.get 6 (T10 .locals) (m51 (c .before) (After-lower·gave c)) .now) (Row.get 7 (T10 .locals) (m51 (c .before) (After-lower·gave c)) .now) (Row.get 8 (T10 .locals) (m51 (c .before) (After-lower·gave c)) .now) (Row.get 11 (T10 .locals) (m51 (c .before) (After-lower·gave c))) (Row.get 12 (T10 .locals) (m51 (c .before) (After-lower·gave c))) (Row.get 13 (T10 .locals) (m51 (c .before) (After-lower·gave c)))})))
 
-        lay6 : (c : After-expand) → at35 (W3 (c .before .before .before .before .before .before .before .before .before) (c .before .before .before .before .before .before .before .before .loop .commands) (c .before .before .before .before .before .before .before .before .loop .scratch) (c .before .before .before .before .before .before .before .before .loop .queue) (c .before .before .before .before .before .before .before .before .loop .q) (c .before .before .before .before .before .before .before .before .loop .low) (c .before .before .before .before .before .before .before .before .loop .h)) (m27 (c .before) (After-expand·gave c))
-        lay6 = λ c. (Path'.refl, λ g. λ g'. (Path'.refl, λ g''. λ g'3. (Path'.refl, λ g'4. λ g'5. λ g'6. (Path'.refl, λ g'7. (Path'.refl, (lower-requires record { before = record { before = record { before = record { before = record { before = record { before = record { before = record { before = record { before = c .before; expand = c .expand }; commands = record { given = g } }; slice-known4 = record { given = g' } }; scratch = record { given = g'' } }; slice-known5 = record { given = g'3 } }; queue = record { given = g'4 } }; slice-known6 = record { given = g'5 } }; lower-arg = record { given = g'6 } }; lower-arg2 = record { given = g'7 } }, λ g'8. lay7 record { before = record { before = record { before = record { before = record { before = record { before = record { before = record { before = record { before = record { before = c .before; expand = c .expand }; commands = record { given = g } }; slice-known4 = record { given = g' } }; scratch = record { given = g'' } }; slice-known5 = record { given = g'3 } }; queue = record { given = g'4 } }; slice-known6 = record { given = g'5 } }; lower-arg = record { given = g'6 } }; lower-arg2 = record { given = g'7 } }; lower = Called.called ps·3 r·3 (claims· .7) T54 (record { pos = 14; st = List.[]; d = 0; at = λ x. x }, (record { pos = 26; ty = Syntax.tyRef Syntax.erased Syntax.imm (Syntax.tyInt Syntax.w16); ref = λ x. x }, (record { pos = 28; ty = Syntax.tyRef Syntax.erased Syntax.imm (Syntax.tyInt Syntax.w16); ref = λ x. x }, (Num.vAt 13 λ x. x, (Num.vAt 11 λ x. x, tt))))) (m38 record { before = record { before = record { before = record { before = record { before = record { before = record { before = record { before = c .before; expand = c .expand }; commands = record { given = g } }; slice-known4 = record { given = g' } }; scratch = record { given = g'' } }; slice-known5 = record { given = g'3 } }; queue = record { given = g'4 } }; slice-known6 = record { given = g'5 } }; lower-arg = record { given = g'6 } } g'7) g'8 }))))))
+        lay6 : (c : After-expand) → at39 (W3 (c .before .before .before .before .before .before .before .before .before .before) (c .before .before .before .before .before .before .before .before .before .loop .commands) (c .before .before .before .before .before .before .before .before .before .loop .scratch) (c .before .before .before .before .before .before .before .before .before .loop .queue) (c .before .before .before .before .before .before .before .before .before .loop .tried) (c .before .before .before .before .before .before .before .before .before .loop .q) (c .before .before .before .before .before .before .before .before .before .loop .low) (c .before .before .before .before .before .before .before .before .before .loop .h)) (m30 (c .before) (After-expand·gave c))
+        lay6 = λ c. (Path'.refl, λ g. λ g'. (Path'.refl, λ g''. λ g'3. (Path'.refl, λ g'4. λ g'5. (Path'.refl, λ g'6. λ g'7. λ g'8. (Path'.refl, λ g'9. (Path'.refl, (lower-requires record { before = record { before = record { before = record { before = record { before = record { before = record { before = record { before = record { before = record { before = record { before = c .before; expand = c .expand }; commands = record { given = g } }; slice-known5 = record { given = g' } }; scratch = record { given = g'' } }; slice-known6 = record { given = g'3 } }; queue = record { given = g'4 } }; slice-known7 = record { given = g'5 } }; tried = record { given = g'6 } }; slice-known8 = record { given = g'7 } }; lower-arg = record { given = g'8 } }; lower-arg2 = record { given = g'9 } }, λ g'10. lay7 record { before = record { before = record { before = record { before = record { before = record { before = record { before = record { before = record { before = record { before = record { before = record { before = c .before; expand = c .expand }; commands = record { given = g } }; slice-known5 = record { given = g' } }; scratch = record { given = g'' } }; slice-known6 = record { given = g'3 } }; queue = record { given = g'4 } }; slice-known7 = record { given = g'5 } }; tried = record { given = g'6 } }; slice-known8 = record { given = g'7 } }; lower-arg = record { given = g'8 } }; lower-arg2 = record { given = g'9 } }; lower = Called.called ps·3 r·3 (claims· .7) T62 (record { pos = 15; st = List.[]; d = 0; at = λ x. x }, (record { pos = 29; ty = Syntax.tyRef Syntax.erased Syntax.imm (Syntax.tyInt Syntax.w16); ref = λ x. x }, (record { pos = 31; ty = Syntax.tyRef Syntax.erased Syntax.imm (Syntax.tyInt Syntax.w16); ref = λ x. x }, (Num.vAt 14 λ x. x, (Num.vAt 12 λ x. x, tt))))) (m43 record { before = record { before = record { before = record { before = record { before = record { before = record { before = record { before = record { before = record { before = c .before; expand = c .expand }; commands = record { given = g } }; slice-known5 = record { given = g' } }; scratch = record { given = g'' } }; slice-known6 = record { given = g'3 } }; queue = record { given = g'4 } }; slice-known7 = record { given = g'5 } }; tried = record { given = g'6 } }; slice-known8 = record { given = g'7 } }; lower-arg = record { given = g'8 } } g'9) g'10 })))))))
 
-        lay5 : (c : After-span-at) → at46 (W3 (c .before .before .before .before .before) (c .before .before .before .before .loop .commands) (c .before .before .before .before .loop .scratch) (c .before .before .before .before .loop .queue) (c .before .before .before .before .loop .q) (c .before .before .before .before .loop .low) (c .before .before .before .before .loop .h)) (m19 (c .before) (After-span-at·gave c))
-        lay5 = λ c. λ g. (Path'.refl, λ g'. (Path'.refl, λ g''. (Path'.refl, (add-expand record { before = record { before = record { before = record { before = c .before; span-at = c .span-at }; expand-arg = record { given = g } }; expand-arg2 = record { given = g' } }; expand-arg3 = record { given = g'' } }, (expand-requires record { before = record { before = record { before = record { before = c .before; span-at = c .span-at }; expand-arg = record { given = g } }; expand-arg2 = record { given = g' } }; expand-arg3 = record { given = g'' } }, λ g'3. lay6 record { before = record { before = record { before = record { before = record { before = c .before; span-at = c .span-at }; expand-arg = record { given = g } }; expand-arg2 = record { given = g' } }; expand-arg3 = record { given = g'' } }; expand = Called.called ps·2 r·2 (claims· .5) T34 (record { pos = 1; st = List.[]; d = 0; at = λ x. x }, (record { pos = 14; st = List.[]; d = 0; at = λ x. x }, (record { pos = 3; ty = Syntax.tyRef (Syntax.named 1) Syntax.imm (Syntax.tyInt Syntax.w16); ref = λ x. x }, (record { pos = 4; ty = Syntax.tyRef (Syntax.named 2) Syntax.imm (Syntax.tyInt Syntax.w16); ref = λ x. x }, (record { pos = 19; ty = Syntax.tyRef Syntax.erased Syntax.mut (Syntax.tyInt Syntax.w16); ref = λ x. x }, (record { pos = 21; ty = Syntax.tyRef Syntax.erased Syntax.mut (Syntax.tyInt Syntax.w16); ref = λ x. x }, (record { pos = 23; ty = Syntax.tyRef Syntax.erased Syntax.mut (Syntax.tyInt Syntax.w16); ref = λ x. x }, (Num.vAt 10 λ x. x, (Num.vAt 13 λ x. x, (Num.vAt 24 λ x. x, tt)))))))))) (m26 record { before = record { before = record { before = c .before; span-at = c .span-at }; expand-arg = record { given = g } }; expand-arg2 = record { given = g' } } g'') g'3 })))))
+        lay5 : (c : After-span-at) → at53 (W3 (c .before .before .before .before .before) (c .before .before .before .before .loop .commands) (c .before .before .before .before .loop .scratch) (c .before .before .before .before .loop .queue) (c .before .before .before .before .loop .tried) (c .before .before .before .before .loop .q) (c .before .before .before .before .loop .low) (c .before .before .before .before .loop .h)) (m20 (c .before) (After-span-at·gave c))
+        lay5 = λ c. λ g. (Path'.refl, λ g'. (Path'.refl, λ g''. (Path'.refl, λ g'3. (Path'.refl, (add-expand record { before = record { before = record { before = record { before = record { before = c .before; span-at = c .span-at }; expand-arg = record { given = g } }; expand-arg2 = record { given = g' } }; expand-arg3 = record { given = g'' } }; expand-arg4 = record { given = g'3 } }, (expand-requires record { before = record { before = record { before = record { before = record { before = c .before; span-at = c .span-at }; expand-arg = record { given = g } }; expand-arg2 = record { given = g' } }; expand-arg3 = record { given = g'' } }; expand-arg4 = record { given = g'3 } }, λ g'4. lay6 record { before = record { before = record { before = record { before = record { before = record { before = c .before; span-at = c .span-at }; expand-arg = record { given = g } }; expand-arg2 = record { given = g' } }; expand-arg3 = record { given = g'' } }; expand-arg4 = record { given = g'3 } }; expand = Called.called ps·2 r·2 (claims· .5) T38 (record { pos = 1; st = List.[]; d = 0; at = λ x. x }, (record { pos = 15; st = List.[]; d = 0; at = λ x. x }, (record { pos = 3; ty = Syntax.tyRef (Syntax.named 1) Syntax.imm (Syntax.tyInt Syntax.w16); ref = λ x. x }, (record { pos = 4; ty = Syntax.tyRef (Syntax.named 2) Syntax.imm (Syntax.tyInt Syntax.w16); ref = λ x. x }, (record { pos = 20; ty = Syntax.tyRef Syntax.erased Syntax.mut (Syntax.tyInt Syntax.w16); ref = λ x. x }, (record { pos = 22; ty = Syntax.tyRef Syntax.erased Syntax.mut (Syntax.tyInt Syntax.w16); ref = λ x. x }, (record { pos = 24; ty = Syntax.tyRef Syntax.erased Syntax.mut (Syntax.tyInt Syntax.w16); ref = λ x. x }, (record { pos = 26; ty = Syntax.tyRef Syntax.erased Syntax.mut (Syntax.tyInt Syntax.w16); ref = λ x. x }, (Num.vAt 11 λ x. x, (Num.vAt 14 λ x. x, (Num.vAt 27 λ x. x, tt))))))))))) (m29 record { before = record { before = record { before = record { before = c .before; span-at = c .span-at }; expand-arg = record { given = g } }; expand-arg2 = record { given = g' } }; expand-arg3 = record { given = g'' } } g'3) g'4 }))))))
 
-        lay4 : (c : After-at) → at51 (W3 (c .before .before .before .before) (c .before .before .before .loop .commands) (c .before .before .before .loop .scratch) (c .before .before .before .loop .queue) (c .before .before .before .loop .q) (c .before .before .before .loop .low) (c .before .before .before .loop .h)) (m16 (c .before) (After-at·gave c))
-        lay4 = λ c. (span-at-requires record { before = c .before; at = c .at }, λ g. lay5 record { before = record { before = c .before; at = c .at }; span-at = Called.called ps·1 r·1 (claims· .3) T22 (record { pos = 1; st = List.[]; d = 0; at = λ x. x }, (record { pos = 2; ty = Syntax.tyRef (Syntax.named 0) Syntax.imm (Memory.pointee (T.the-row .written)); ref = λ x. x }, (Num.vAt 13 λ x. x, tt))) (m18 (c .before) (After-at·gave c)) g })
+        lay4 : (c : After-at) → at58 (W3 (c .before .before .before .before) (c .before .before .before .loop .commands) (c .before .before .before .loop .scratch) (c .before .before .before .loop .queue) (c .before .before .before .loop .tried) (c .before .before .before .loop .q) (c .before .before .before .loop .low) (c .before .before .before .loop .h)) (m17 (c .before) (After-at·gave c))
+        lay4 = λ c. (span-at-requires record { before = c .before; at = c .at }, λ g. lay5 record { before = record { before = c .before; at = c .at }; span-at = Called.called ps·1 r·1 (claims· .3) T23 (record { pos = 1; st = List.[]; d = 0; at = λ x. x }, (record { pos = 2; ty = Syntax.tyRef (Syntax.named 0) Syntax.imm (Memory.pointee (T.the-row .written)); ref = λ x. x }, (Num.vAt 14 λ x. x, tt))) (m19 (c .before) (After-at·gave c)) g })
 
-        lay3 : (c : In-loop) → at55 (W3 (c .before .before) (c .before .loop .commands) (c .before .loop .scratch) (c .before .loop .queue) (c .before .loop .q) (c .before .loop .low) (c .before .loop .h)) (m11 (c .before))
-        lay3 = λ c. λ g. (Path'.refl, (at-requires record { before = record { before = c .before; loop-test = c .loop-test }; at-arg = record { given = g } }, λ g'. lay4 record { before = record { before = record { before = c .before; loop-test = c .loop-test }; at-arg = record { given = g } }; at = Called.called ps·0 r·0 (claims· .1) T18 (record { pos = 17; ty = Syntax.tyRef Syntax.erased Syntax.imm (Syntax.tyInt Syntax.w16); ref = λ x. x }, (Num.vAt 12 λ x. x, tt)) (m15 record { before = c .before; loop-test = c .loop-test } g) g' }))
+        lay3 : (c : In-loop) → at62 (W3 (c .before .before) (c .before .loop .commands) (c .before .loop .scratch) (c .before .loop .queue) (c .before .loop .tried) (c .before .loop .q) (c .before .loop .low) (c .before .loop .h)) (m12 (c .before))
+        lay3 = λ c. λ g. (Path'.refl, (at-requires record { before = record { before = c .before; loop-test = c .loop-test }; at-arg = record { given = g } }, λ g'. lay4 record { before = record { before = record { before = c .before; loop-test = c .loop-test }; at-arg = record { given = g } }; at = Called.called ps·0 r·0 (claims· .1) T19 (record { pos = 18; ty = Syntax.tyRef Syntax.erased Syntax.imm (Syntax.tyInt Syntax.w16); ref = λ x. x }, (Num.vAt 13 λ x. x, tt)) (m16 record { before = c .before; loop-test = c .loop-test } g) g' }))
 
-        lay2 : (c : After-loop) → at4 (W4 (c .before .before) (c .before .loop .commands) (c .before .loop .scratch) (c .before .loop .queue) (c .before .loop .q) (c .before .loop .low) (c .before .loop .h)) (m10 (c .before .before) (c .before .loop .commands) (c .before .loop .scratch) (c .before .loop .queue) (c .before .loop .q) (c .before .loop .low) (c .before .loop .h))
+        lay2 : (c : After-loop) → at4 (W4 (c .before .before) (c .before .loop .commands) (c .before .loop .scratch) (c .before .loop .queue) (c .before .loop .tried) (c .before .loop .q) (c .before .loop .low) (c .before .loop .h)) (m11 (c .before .before) (c .before .loop .commands) (c .before .loop .scratch) (c .before .loop .queue) (c .before .loop .tried) (c .before .loop .q) (c .before .loop .low) (c .before .loop .h))
         lay2 = λ c. lay8 record { before = c .before; loop-test = c .loop-test }
 
-        lay1 : (c : In-loop) → at1 (W4 (c .before .before) (c .before .loop .commands) (c .before .loop .scratch) (c .before .loop .queue) (c .before .loop .q) (c .before .loop .low) (c .before .loop .h)) (m10 (c .before .before) (c .before .loop .commands) (c .before .loop .scratch) (c .before .loop .queue) (c .before .loop .q) (c .before .loop .low) (c .before .loop .h))
+        lay1 : (c : In-loop) → at1 (W4 (c .before .before) (c .before .loop .commands) (c .before .loop .scratch) (c .before .loop .queue) (c .before .loop .tried) (c .before .loop .q) (c .before .loop .low) (c .before .loop .h)) (m11 (c .before .before) (c .before .loop .commands) (c .before .loop .scratch) (c .before .loop .queue) (c .before .loop .tried) (c .before .loop .q) (c .before .loop .low) (c .before .loop .h))
         lay1 = λ c. lay3 record { before = c .before; loop-test = c .loop-test }
 
-        pub laid : (c : Start) → at76 (W0 (c .κs) (c .args)) (m0 (c .κs) (c .args))
-        laid = λ c. λ g. λ g'. λ g''. λ g'3. λ g'4. (((Row.get 5 (T9 .locals) (m8 record { before = record { before = record { before = record { before = c; shared-slice-known = record { given = g } }; shared-slice-known2 = record { given = g' } }; slice-known = record { given = g'' } }; slice-known2 = record { given = g'3 } } g'4) .now, Row.get 6 (T9 .locals) (m8 record { before = record { before = record { before = record { before = c; shared-slice-known = record { given = g } }; shared-slice-known2 = record { given = g' } }; slice-known = record { given = g'' } }; slice-known2 = record { given = g'3 } } g'4) .now, Row.get 7 (T9 .locals) (m8 record { before = record { before = record { before = record { before = c; shared-slice-known = record { given = g } }; shared-slice-known2 = record { given = g' } }; slice-known = record { given = g'' } }; slice-known2 = record { given = g'3 } } g'4) .now, Row.get 10 (T9 .locals) (m8 record { before = record { before = record { before = record { before = c; shared-slice-known = record { given = g } }; shared-slice-known2 = record { given = g' } }; slice-known = record { given = g'' } }; slice-known2 = record { given = g'3 } } g'4), Row.get 11 (T9 .locals) (m8 record { before = record { before = record { before = record { before = c; shared-slice-known = record { given = g } }; shared-slice-known2 = record { given = g' } }; slice-known = record { given = g'' } }; slice-known2 = record { given = g'3 } } g'4), Row.get 12 (T9 .locals) (m8 record { before = record { before = record { before = record { before = c; shared-slice-known = record { given = g } }; shared-slice-known2 = record { given = g' } }; slice-known = record { given = g'' } }; slice-known2 = record { given = g'3 } } g'4)), Path'.refl {a = m8 record { before = record { before = record { before = record { before = c; shared-slice-known = record { given = g } }; shared-slice-known2 = record { given = g' } }; slice-known = record { given = g'' } }; slice-known2 = record { given = g'3 } } g'4}, loop-holds record { before = record { before = record { before = record { before = record { before = c; shared-slice-known = record { given = g } }; shared-slice-known2 = record { given = g' } }; slice-known = record { given = g'' } }; slice-known2 = record { given = g'3 } }; slice-known3 = record { given = g'4 } }), λ vs inv. (tt, (λ taken. lay1 record { before = record { before = record { before = record { before = record { before = record { before = record { before = c; shared-slice-known = record { given = g } }; shared-slice-known2 = record { given = g' } }; slice-known = record { given = g'' } }; slice-known2 = record { given = g'3 } }; slice-known3 = record { given = g'4 } }; loop = record { commands = vs .0; scratch = vs .1; queue = vs .2; q = vs .3; low = vs .4; h = vs .5; inv = inv } }; loop-test = record { taken = Tests.ltb-true (Row.get 12 (T9 .locals) (m9 record { before = record { before = record { before = record { before = record { before = c; shared-slice-known = record { given = g } }; shared-slice-known2 = record { given = g' } }; slice-known = record { given = g'' } }; slice-known2 = record { given = g'3 } }; slice-known3 = record { given = g'4 } } (vs .0) (vs .1) (vs .2) (vs .3) (vs .4) (vs .5))) (Row.get 10 (T9 .locals) (m9 record { before = record { before = record { before = record { before = record { before = c; shared-slice-known = record { given = g } }; shared-slice-known2 = record { given = g' } }; slice-known = record { given = g'' } }; slice-known2 = record { given = g'3 } }; slice-known3 = record { given = g'4 } } (vs .0) (vs .1) (vs .2) (vs .3) (vs .4) (vs .5))) taken } }, λ left. lay2 record { before = record { before = record { before = record { before = record { before = record { before = record { before = c; shared-slice-known = record { given = g } }; shared-slice-known2 = record { given = g' } }; slice-known = record { given = g'' } }; slice-known2 = record { given = g'3 } }; slice-known3 = record { given = g'4 } }; loop = record { commands = vs .0; scratch = vs .1; queue = vs .2; q = vs .3; low = vs .4; h = vs .5; inv = inv } }; loop-test = record { left = Tests.ltb-false (Row.get 12 (T9 .locals) (m9 record { before = record { before = record { before = record { before = record { before = c; shared-slice-known = record { given = g } }; shared-slice-known2 = record { given = g' } }; slice-known = record { given = g'' } }; slice-known2 = record { given = g'3 } }; slice-known3 = record { given = g'4 } } (vs .0) (vs .1) (vs .2) (vs .3) (vs .4) (vs .5))) (Row.get 10 (T9 .locals) (m9 record { before = record { before = record { before = record { before = record { before = c; shared-slice-known = record { given = g } }; shared-slice-known2 = record { given = g' } }; slice-known = record { given = g'' } }; slice-known2 = record { given = g'3 } }; slice-known3 = record { given = g'4 } } (vs .0) (vs .1) (vs .2) (vs .3) (vs .4) (vs .5))) left } })))
+        pub laid : (c : Start) → at84 (W0 (c .κs) (c .args)) (m0 (c .κs) (c .args))
+        laid = λ c. λ g. λ g'. λ g''. λ g'3. λ g'4. λ g'5. (((Row.get 5 (T10 .locals) (m9 record { before = record { before = record { before = record { before = record { before = c; shared-slice-known = record { given = g } }; shared-slice-known2 = record { given = g' } }; slice-known = record { given = g'' } }; slice-known2 = record { given = g'3 } }; slice-known3 = record { given = g'4 } } g'5) .now, Row.get 6 (T10 .locals) (m9 record { before = record { before = record { before = record { before = record { before = c; shared-slice-known = record { given = g } }; shared-slice-known2 = record { given = g' } }; slice-known = record { given = g'' } }; slice-known2 = record { given = g'3 } }; slice-known3 = record { given = g'4 } } g'5) .now, Row.get 7 (T10 .locals) (m9 record { before = record { before = record { before = record { before = record { before = c; shared-slice-known = record { given = g } }; shared-slice-known2 = record { given = g' } }; slice-known = record { given = g'' } }; slice-known2 = record { given = g'3 } }; slice-known3 = record { given = g'4 } } g'5) .now, Row.get 8 (T10 .locals) (m9 record { before = record { before = record { before = record { before = record { before = c; shared-slice-known = record { given = g } }; shared-slice-known2 = record { given = g' } }; slice-known = record { given = g'' } }; slice-known2 = record { given = g'3 } }; slice-known3 = record { given = g'4 } } g'5) .now, Row.get 11 (T10 .locals) (m9 record { before = record { before = record { before = record { before = record { before = c; shared-slice-known = record { given = g } }; shared-slice-known2 = record { given = g' } }; slice-known = record { given = g'' } }; slice-known2 = record { given = g'3 } }; slice-known3 = record { given = g'4 } } g'5), Row.get 12 (T10 .locals) (m9 record { before = record { before = record { before = record { before = record { before = c; shared-slice-known = record { given = g } }; shared-slice-known2 = record { given = g' } }; slice-known = record { given = g'' } }; slice-known2 = record { given = g'3 } }; slice-known3 = record { given = g'4 } } g'5), Row.get 13 (T10 .locals) (m9 record { before = record { before = record { before = record { before = record { before = c; shared-slice-known = record { given = g } }; shared-slice-known2 = record { given = g' } }; slice-known = record { given = g'' } }; slice-known2 = record { given = g'3 } }; slice-known3 = record { given = g'4 } } g'5)), Path'.refl {a = m9 record { before = record { before = record { before = record { before = record { before = c; shared-slice-known = record { given = g } }; shared-slice-known2 = record { given = g' } }; slice-known = record { given = g'' } }; slice-known2 = record { given = g'3 } }; slice-known3 = record { given = g'4 } } g'5}, loop-holds record { before = record { before = record { before = record { before = record { before = record { before = c; shared-slice-known = record { given = g } }; shared-slice-known2 = record { given = g' } }; slice-known = record { given = g'' } }; slice-known2 = record { given = g'3 } }; slice-known3 = record { given = g'4 } }; slice-known4 = record { given = g'5 } }), λ vs inv. (tt, (λ taken. lay1 record { before = record { before = record { before = record { before = record { before = record { before = record { before = record { before = c; shared-slice-known = record { given = g } }; shared-slice-known2 = record { given = g' } }; slice-known = record { given = g'' } }; slice-known2 = record { given = g'3 } }; slice-known3 = record { given = g'4 } }; slice-known4 = record { given = g'5 } }; loop = record { commands = vs .0; scratch = vs .1; queue = vs .2; tried = vs .3; q = vs .4; low = vs .5; h = vs .6; inv = inv } }; loop-test = record { taken = Tests.ltb-true (Row.get 13 (T10 .locals) (m10 record { before = record { before = record { before = record { before = record { before = record { before = c; shared-slice-known = record { given = g } }; shared-slice-known2 = record { given = g' } }; slice-known = record { given = g'' } }; slice-known2 = record { given = g'3 } }; slice-known3 = record { given = g'4 } }; slice-known4 = record { given = g'5 } } (vs .0) (vs .1) (vs .2) (vs .3) (vs .4) (vs .5) (vs .6))) (Row.get 11 (T10 .locals) (m10 record { before = record { before = record { before = record { before = record { before = record { before = c; shared-slice-known = record { given = g } }; shared-slice-known2 = record { given = g' } }; slice-known = record { given = g'' } }; slice-known2 = record { given = g'3 } }; slice-known3 = record { given = g'4 } }; slice-known4 = record { given = g'5 } } (vs .0) (vs .1) (vs .2) (vs .3) (vs .4) (vs .5) (vs .6))) taken } }, λ left. lay2 record { before = record { before = record { before = record { before = record { before = record { before = record { before = record { before = c; shared-slice-known = record { given = g } }; shared-slice-known2 = record { given = g' } }; slice-known = record { given = g'' } }; slice-known2 = record { given = g'3 } }; slice-known3 = record { given = g'4 } }; slice-known4 = record { given = g'5 } }; loop = record { commands = vs .0; scratch = vs .1; queue = vs .2; tried = vs .3; q = vs .4; low = vs .5; h = vs .6; inv = inv } }; loop-test = record { left = Tests.ltb-false (Row.get 13 (T10 .locals) (m10 record { before = record { before = record { before = record { before = record { before = record { before = c; shared-slice-known = record { given = g } }; shared-slice-known2 = record { given = g' } }; slice-known = record { given = g'' } }; slice-known2 = record { given = g'3 } }; slice-known3 = record { given = g'4 } }; slice-known4 = record { given = g'5 } } (vs .0) (vs .1) (vs .2) (vs .3) (vs .4) (vs .5) (vs .6))) (Row.get 11 (T10 .locals) (m10 record { before = record { before = record { before = record { before = record { before = record { before = c; shared-slice-known = record { given = g } }; shared-slice-known2 = record { given = g' } }; slice-known = record { given = g'' } }; slice-known2 = record { given = g'3 } }; slice-known3 = record { given = g'4 } }; slice-known4 = record { given = g'5 } } (vs .0) (vs .1) (vs .2) (vs .3) (vs .4) (vs .5) (vs .6))) left } })))
 
-        module _ (κs : Lifetimes.Lfts 6) (qs : Lifetimes.Shares 6) where
-          pub asked : (a : Kinds.Dens κs ps) → (good : Kinds.GoodsP κs ps a) → (pre : Pre· κs a) → (bs : List.List Nat.ℕ) → Φ (Any.wantQ 6 ps r xs m κs qs a (Post· κs a)) (Function.init 6 ps r xs m κs qs a)
-          asked = λ a good pre bs. laid record { κs = κs; args = record { size = a .0; rows = a .1 .0; firsts = a .1 .1 .0; outcomes = a .1 .1 .1 .0; commands = a .1 .1 .1 .1 .0; scratch = a .1 .1 .1 .1 .1 .0; queue = a .1 .1 .1 .1 .1 .1 .0; from = a .1 .1 .1 .1 .1 .1 .1 .0; reached = a .1 .1 .1 .1 .1 .1 .1 .1 .0 }; good = good; fits = record { from = record { fits = good .1 .1 .1 .1 .1 .1 .1 .0 .1 }; reached = record { fits = good .1 .1 .1 .1 .1 .1 .1 .1 .0 .1 } }; pre = pre }
+        module _ (κs : Lifetimes.Lfts 7) (qs : Lifetimes.Shares 7) where
+          pub asked : (a : Kinds.Dens κs ps) → (good : Kinds.GoodsP κs ps a) → (pre : Pre· κs a) → (bs : List.List Nat.ℕ) → Φ (Any.wantQ 7 ps r xs m κs qs a (Post· κs a)) (Function.init 7 ps r xs m κs qs a)
+          asked = λ a good pre bs. laid record { κs = κs; args = record { size = a .0; rows = a .1 .0; firsts = a .1 .1 .0; outcomes = a .1 .1 .1 .0; commands = a .1 .1 .1 .1 .0; scratch = a .1 .1 .1 .1 .1 .0; queue = a .1 .1 .1 .1 .1 .1 .0; tried = a .1 .1 .1 .1 .1 .1 .1 .0; from = a .1 .1 .1 .1 .1 .1 .1 .1 .0; reached = a .1 .1 .1 .1 .1 .1 .1 .1 .1 .0 }; good = good; fits = record { from = record { fits = good .1 .1 .1 .1 .1 .1 .1 .1 .0 .1 }; reached = record { fits = good .1 .1 .1 .1 .1 .1 .1 .1 .1 .0 .1 } }; pre = pre }
 
-        module _ {M : Type 1} (𝓤 : URA.URA M) (H : Wp.Heap 𝓤) (A : Atoms.Atoms 𝓤) (W : Kit.Given 𝓤 H A) (𝓣 : Wp.Tables 𝓤 H) (known0 : Plain.Known 𝓤 H A W 𝓣 1 ps·0 r·0 (claims· .0) (claims· .1) "tables::entries::at") (known1 : Plain.Known 𝓤 H A W 𝓣 1 ps·1 r·1 (claims· .2) (claims· .3) "tables::spans::span_at") (known2 : Plain.Known 𝓤 H A W 𝓣 5 ps·2 r·2 (claims· .4) (claims· .5) "search::walk::expand") (known3 : Plain.Known 𝓤 H A W 𝓣 2 ps·3 r·3 (claims· .6) (claims· .7) "search::walk::lower") where
-          pub spec : Statement.Triple 𝓤 (Wp.WpFn 𝓤 H (𝓣 .C) (𝓣 .Λ) (Function.fnOf 6 ps r xs m hs body)) (Function.plainOf 𝓤 H A 6 ps r Pre· Post·)
-          spec = Plain.t-fn-plain 𝓤 H A W 𝓣 6 ps r xs m hs body (λ κs qs bs. Φ) (λ κs qs bs bd. typed κs qs 𝓤 H A W 𝓣 (known0, known1, known2, known3) bs bd) Pre· Post· asked
+        module _ {M : Type 1} (𝓤 : URA.URA M) (H : Wp.Heap 𝓤) (A : Atoms.Atoms 𝓤) (W : Kit.Given 𝓤 H A) (𝓣 : Wp.Tables 𝓤 H) (known0 : Plain.Known 𝓤 H A W 𝓣 1 ps·0 r·0 (claims· .0) (claims· .1) "tables::entries::at") (known1 : Plain.Known 𝓤 H A W 𝓣 1 ps·1 r·1 (claims· .2) (claims· .3) "tables::spans::span_at") (known2 : Plain.Known 𝓤 H A W 𝓣 6 ps·2 r·2 (claims· .4) (claims· .5) "search::walk::expand") (known3 : Plain.Known 𝓤 H A W 𝓣 2 ps·3 r·3 (claims· .6) (claims· .7) "search::walk::lower") where
+          pub spec : Statement.Triple 𝓤 (Wp.WpFn 𝓤 H (𝓣 .C) (𝓣 .Λ) (Function.fnOf 7 ps r xs m hs body)) (Function.plainOf 𝓤 H A 7 ps r Pre· Post·)
+          spec = Plain.t-fn-plain 𝓤 H A W 𝓣 7 ps r xs m hs body (λ κs qs bs. Φ) (λ κs qs bs bd. typed κs qs 𝓤 H A W 𝓣 (known0, known1, known2, known3) bs bd) Pre· Post· asked

@@ -28,52 +28,52 @@ use mir.Syntax
 use Rattle.tables.proofs.Reading as R
 use Rattle.search.proofs.walk.walk as f
 
-abbrev pub ps : List.List (Kinds.PK 6)
-ps = List._∷_ (Value.pVal record { ty = Declared.row Size.the-type; one = refl; val = Laws''.val Size.the-type Laws'.the-laws; tells = Laws''.tells Size.the-type Laws'.the-laws; still = Laws''.still Size.the-type Laws'.the-copy Exit.yes; row = Rows.whole (Declared.row Size.the-type); rd = λ x. x; mk = λ x. x } λ M 𝓤 H A W. record { copies = Laws''.copy Size.the-type Laws'.the-copy 𝓤 H A W; lawful = Laws''.lawful Size.the-type Laws'.the-laws 𝓤 H A W; makes = Laws''.makes Size.the-type Laws'.the-plain 𝓤 H A; in-mem = Local.mem-whole 𝓤 H A W (Declared.row Size.the-type); of-mem = Local.whole-mem 𝓤 H A W (Declared.row Size.the-type) }) (List._∷_ (ShrSlice.pShrS T.the-row 0 tt) (List._∷_ (ShrSlice.pShrS (Referent.rtF (Referent.fInt Syntax.w16)) 1 tt) (List._∷_ (ShrSlice.pShrS (Referent.rtF (Referent.fInt Syntax.w16)) 2 tt) (List._∷_ (MutSlice.pMutS (Referent.rtF (Referent.fInt Syntax.w16)) 3 tt) (List._∷_ (MutSlice.pMutS (Referent.rtF (Referent.fInt Syntax.w16)) 4 tt) (List._∷_ (MutSlice.pMutS (Referent.rtF (Referent.fInt Syntax.w16)) 5 tt) (List._∷_ (Kinds.pNum Syntax.w64) (List._∷_ (Kinds.pNum Syntax.w64) List.[]))))))))
+abbrev pub ps : List.List (Kinds.PK 7)
+ps = List._∷_ (Value.pVal record { ty = Declared.row Size.the-type; one = refl; val = Laws''.val Size.the-type Laws'.the-laws; tells = Laws''.tells Size.the-type Laws'.the-laws; still = Laws''.still Size.the-type Laws'.the-copy Exit.yes; row = Rows.whole (Declared.row Size.the-type); rd = λ x. x; mk = λ x. x } λ M 𝓤 H A W. record { copies = Laws''.copy Size.the-type Laws'.the-copy 𝓤 H A W; lawful = Laws''.lawful Size.the-type Laws'.the-laws 𝓤 H A W; makes = Laws''.makes Size.the-type Laws'.the-plain 𝓤 H A; in-mem = Local.mem-whole 𝓤 H A W (Declared.row Size.the-type); of-mem = Local.whole-mem 𝓤 H A W (Declared.row Size.the-type) }) (List._∷_ (ShrSlice.pShrS T.the-row 0 tt) (List._∷_ (ShrSlice.pShrS (Referent.rtF (Referent.fInt Syntax.w16)) 1 tt) (List._∷_ (ShrSlice.pShrS (Referent.rtF (Referent.fInt Syntax.w16)) 2 tt) (List._∷_ (MutSlice.pMutS (Referent.rtF (Referent.fInt Syntax.w16)) 3 tt) (List._∷_ (MutSlice.pMutS (Referent.rtF (Referent.fInt Syntax.w16)) 4 tt) (List._∷_ (MutSlice.pMutS (Referent.rtF (Referent.fInt Syntax.w16)) 5 tt) (List._∷_ (MutSlice.pMutS (Referent.rtF (Referent.fInt Syntax.w16)) 6 tt) (List._∷_ (Kinds.pNum Syntax.w64) (List._∷_ (Kinds.pNum Syntax.w64) List.[])))))))))
 
-abbrev pub r : Kinds.RK 6
+abbrev pub r : Kinds.RK 7
 r = Value.rVal record { ty = Declared.row Progress.the-type; one = refl; val = Laws''.val Progress.the-type Laws.the-laws; tells = Laws''.tells Progress.the-type Laws.the-laws; still = Laws''.still Progress.the-type Laws.the-copy Exit.yes; row = Rows.whole (Declared.row Progress.the-type); rd = λ x. x; mk = λ x. x } λ M 𝓤 H A W. record { copies = Laws''.copy Progress.the-type Laws.the-copy 𝓤 H A W; lawful = Laws''.lawful Progress.the-type Laws.the-laws 𝓤 H A W; makes = Laws''.makes Progress.the-type Laws.the-plain 𝓤 H A; in-mem = Local.mem-whole 𝓤 H A W (Declared.row Progress.the-type); of-mem = Local.whole-mem 𝓤 H A W (Declared.row Progress.the-type) }
 
 abbrev pub Ghost : Type 0
 Ghost = Unit {0}
 
-abbrev pub requires : R.Req 6 ps r
+abbrev pub requires : R.Req 7 ps r
 requires κs a g w = f.clauses (w .𝓤) (w .H) (w .𝓖 .A) (w .𝓜 .mem) (w .𝓡 .run) κs a .requires g
 
-abbrev pub ensures : R.Ens 6 ps r
+abbrev pub ensures : R.Ens 7 ps r
 ensures κs a g z e w = f.clauses (w .𝓤) (w .H) (w .𝓖 .A) (w .𝓜 .mem) (w .𝓡 .run) κs a .ensures g z e
 
-abbrev pub pre-read : R.ReadReq 6 ps r requires ensures
-pre-read κs a g = all-models (requires κs a g) (λ w. r-fact _ _ (r-last _)) (λ w. refl) (λ w. refl) (λ w. refl)
+abbrev pub pre-read : R.ReadReq 7 ps r requires ensures
+pre-read κs a g = all-models (requires κs a g) (λ w. r-fact _ _ (r-fact _ _ (r-last _))) (λ w. refl) (λ w. refl) (λ w. refl)
 
-abbrev pub post-read : R.ReadEns 6 ps r requires ensures
-post-read κs a g z e = all-models (ensures κs a g z e) (λ w. r-fact _ _ (r-fact _ _ (r-fact _ _ (r-last _)))) (λ w. refl) (λ w. refl) (λ w. refl)
+abbrev pub post-read : R.ReadEns 7 ps r requires ensures
+post-read κs a g z e = all-models (ensures κs a g z e) (λ w. r-fact _ _ (r-fact _ _ (r-fact _ _ (r-fact _ _ (r-last _))))) (λ w. refl) (λ w. refl) (λ w. refl)
 
-abbrev pub Pinned : R.Pins 6 ps r
-Pinned = R.Ps 6 ps r
+abbrev pub Pinned : R.Pins 7 ps r
+Pinned = R.Ps 7 ps r
 
-abbrev pub Owned : R.Owns 6 ps r
-Owned = R.Os 6 ps r
+abbrev pub Owned : R.Owns 7 ps r
+Owned = R.Os 7 ps r
 
-abbrev pub owns : R.OwnsAll 6 ps r
-owns = R.no-own-all 6 ps r
+abbrev pub owns : R.OwnsAll 7 ps r
+owns = R.no-own-all 7 ps r
 
-abbrev pub Pre : Kinds.In 6 ps
-Pre = R.Pre 6 ps r requires ensures pre-read post-read
+abbrev pub Pre : Kinds.In 7 ps
+Pre = R.Pre 7 ps r requires ensures pre-read post-read
 
-abbrev pub Post : Kinds.Out 6 ps r
-Post = R.Post 6 ps r requires ensures pre-read post-read
+abbrev pub Post : Kinds.Out 7 ps r
+Post = R.Post 7 ps r requires ensures pre-read post-read
 
-abbrev pub Asked : Kinds.In 6 ps
-Asked = R.Asked 6 ps r requires ensures pre-read post-read
+abbrev pub Asked : Kinds.In 7 ps
+Asked = R.Asked 7 ps r requires ensures pre-read post-read
 
-abbrev pub Learnt : Kinds.Out 6 ps r
-Learnt = R.Learnt 6 ps r requires ensures pre-read post-read
+abbrev pub Learnt : Kinds.Out 7 ps r
+Learnt = R.Learnt 7 ps r requires ensures pre-read post-read
 
-pub passes : (w : World) → Written.Passes 6 ps r Ghost requires ensures pre-read Pinned Owned post-read w
+pub passes : (w : World) → Written.Passes 7 ps r Ghost requires ensures pre-read Pinned Owned post-read w
 passes w κs a g z ws ft p q = top (w .𝓤) (all∗ w (pre-read κs a g .held w))
 
-pub known : KnownAs 6 ps r Ghost requires ensures Asked Learnt
+pub known : KnownAs 7 ps r Ghost requires ensures Asked Learnt
 known w γ k ρ same met =
-    Written.cited 6 ps r Ghost requires ensures pre-read Pinned Owned post-read w γ k ρ same (λ κs a. tt) (λ κs a. id⊢ (w .𝓤) (emp (w .𝓤)))
-    (λ κs a z ws ft p. tt) (λ κs. R.no-pin-all 6 ps r κs w) met
+    Written.cited 7 ps r Ghost requires ensures pre-read Pinned Owned post-read w γ k ρ same (λ κs a. tt) (λ κs a. id⊢ (w .𝓤) (emp (w .𝓤)))
+    (λ κs a z ws ft p. tt) (λ κs. R.no-pin-all 7 ps r κs w) met

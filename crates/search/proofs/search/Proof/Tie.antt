@@ -62,6 +62,9 @@ After-walk-rounds-arg2 = Lts.After-walk-rounds-arg2 (Reads'3.Asked, Reads'3.Lear
 abbrev pub After-queue : Type 0
 After-queue = Lts.After-queue (Reads'3.Asked, Reads'3.Learnt, Reads.Asked, Reads.Learnt, Reads'.Asked, Reads'.Learnt) Reads''.Pre Reads''.Post
 
+abbrev pub After-tried : Type 0
+After-tried = Lts.After-tried (Reads'3.Asked, Reads'3.Learnt, Reads.Asked, Reads.Learnt, Reads'.Asked, Reads'.Learnt) Reads''.Pre Reads''.Post
+
 abbrev pub After-walk-rounds : Type 0
 After-walk-rounds = Lts.After-walk-rounds (Reads'3.Asked, Reads'3.Learnt, Reads.Asked, Reads.Learnt, Reads'.Asked, Reads'.Learnt) Reads''.Pre Reads''.Post
 
@@ -80,6 +83,9 @@ After-slice-known4 = Lts.After-slice-known4 (Reads'3.Asked, Reads'3.Learnt, Read
 abbrev pub After-queue2 : Type 0
 After-queue2 = Lts.After-queue2 (Reads'3.Asked, Reads'3.Learnt, Reads.Asked, Reads.Learnt, Reads'.Asked, Reads'.Learnt) Reads''.Pre Reads''.Post
 
+abbrev pub After-tried2 : Type 0
+After-tried2 = Lts.After-tried2 (Reads'3.Asked, Reads'3.Learnt, Reads.Asked, Reads.Learnt, Reads'.Asked, Reads'.Learnt) Reads''.Pre Reads''.Post
+
 abbrev pub Need-sound-requires : Type 0
 Need-sound-requires = Lts.Need-sound-requires (Reads'3.Asked, Reads'3.Learnt, Reads.Asked, Reads.Learnt, Reads'.Asked, Reads'.Learnt) Reads''.Pre Reads''.Post
 
@@ -94,6 +100,9 @@ Need-enum-told = Lts.Need-enum-told (Reads'3.Asked, Reads'3.Learnt, Reads.Asked,
 
 abbrev pub Need-slice-aggregate-walk-rounds : Type 0
 Need-slice-aggregate-walk-rounds = Lts.Need-slice-aggregate-walk-rounds (Reads'3.Asked, Reads'3.Learnt, Reads.Asked, Reads.Learnt, Reads'.Asked, Reads'.Learnt) Reads''.Pre Reads''.Post
+
+abbrev pub Need-slice-aggregate-walk-rounds-2 : Type 0
+Need-slice-aggregate-walk-rounds-2 = Lts.Need-slice-aggregate-walk-rounds-2 (Reads'3.Asked, Reads'3.Learnt, Reads.Asked, Reads.Learnt, Reads'.Asked, Reads'.Learnt) Reads''.Pre Reads''.Post
 
 abbrev pub Need-walk-rounds-requires : Type 0
 Need-walk-rounds-requires = Lts.Need-walk-rounds-requires (Reads'3.Asked, Reads'3.Learnt, Reads.Asked, Reads.Learnt, Reads'.Asked, Reads'.Learnt) Reads''.Pre Reads''.Post
@@ -111,8 +120,8 @@ abbrev pub Need-returns-2 : Type 0
 Need-returns-2 = Lts.Need-returns-2 (Reads'3.Asked, Reads'3.Learnt, Reads.Asked, Reads.Learnt, Reads'.Asked, Reads'.Learnt) Reads''.Pre Reads''.Post
 
 module _ {M : Type 1} where
-  pub spec : (answer : Need-sound-requires) → (answer : Need-admit-requires) → (answer : Need-enum-known-admission) → (answer : Need-enum-told) → (answer : Need-slice-aggregate-walk-rounds) → (answer : Need-walk-rounds-requires) → (answer : Need-returns) → (answer : Need-same-length) → (answer : Need-same-length-2) → (answer : Need-returns-2) → Lts.Closed (Reads'3.Asked, Reads'3.Learnt, Reads.Asked, Reads.Learnt, Reads'.Asked, Reads'.Learnt) Reads''.Pre Reads''.Post M
-  spec = λ answer answer' answer'' answer'3 answer'4 answer'5 answer'6 answer'7 answer'8 answer'9. Lts.spec (Reads'3.Asked, Reads'3.Learnt, Reads.Asked, Reads.Learnt, Reads'.Asked, Reads'.Learnt) Reads''.Pre Reads''.Post answer answer' answer'' answer'3 answer'4 answer'5 answer'6 answer'7 answer'8 answer'9
+  pub spec : (answer : Need-sound-requires) → (answer : Need-admit-requires) → (answer : Need-enum-known-admission) → (answer : Need-enum-told) → (answer : Need-slice-aggregate-walk-rounds) → (answer : Need-slice-aggregate-walk-rounds-2) → (answer : Need-walk-rounds-requires) → (answer : Need-returns) → (answer : Need-same-length) → (answer : Need-same-length-2) → (answer : Need-returns-2) → Lts.Closed (Reads'3.Asked, Reads'3.Learnt, Reads.Asked, Reads.Learnt, Reads'.Asked, Reads'.Learnt) Reads''.Pre Reads''.Post M
+  spec = λ answer answer' answer'' answer'3 answer'4 answer'5 answer'6 answer'7 answer'8 answer'9 answer'10. Lts.spec (Reads'3.Asked, Reads'3.Learnt, Reads.Asked, Reads.Learnt, Reads'.Asked, Reads'.Learnt) Reads''.Pre Reads''.Post answer answer' answer'' answer'3 answer'4 answer'5 answer'6 answer'7 answer'8 answer'9 answer'10
 
   pub close : Lts.Closed (Reads'3.Asked, Reads'3.Learnt, Reads.Asked, Reads.Learnt, Reads'.Asked, Reads'.Learnt) Reads''.Pre Reads''.Post M → Statement.statement M
   unfolding Code.routine Running.tablesOf

@@ -62,6 +62,9 @@ After-slice-known2 = λ Inv μ. Lts.After-slice-known2 (Reads'8.Asked, Reads'8.L
 abbrev pub After-slice-known3 : (Inv : InvT-loop) → (μ : MeasureT-loop) → Type 0
 After-slice-known3 = λ Inv μ. Lts.After-slice-known3 (Reads'8.Asked, Reads'8.Learnt, Reads'3.Asked, Reads'3.Learnt, Reads'9.Asked, Reads'9.Learnt, Reads''.Asked, Reads''.Learnt, Reads'10.Asked, Reads'10.Learnt, Reads'7.Asked, Reads'7.Learnt, Reads'5.Asked, Reads'5.Learnt, Reads.Asked, Reads.Learnt, Reads'.Asked, Reads'.Learnt, Reads'4.Asked, Reads'4.Learnt) Reads'6.Pre Reads'6.Post Inv μ
 
+abbrev pub After-slice-known4 : (Inv : InvT-loop) → (μ : MeasureT-loop) → Type 0
+After-slice-known4 = λ Inv μ. Lts.After-slice-known4 (Reads'8.Asked, Reads'8.Learnt, Reads'3.Asked, Reads'3.Learnt, Reads'9.Asked, Reads'9.Learnt, Reads''.Asked, Reads''.Learnt, Reads'10.Asked, Reads'10.Learnt, Reads'7.Asked, Reads'7.Learnt, Reads'5.Asked, Reads'5.Learnt, Reads.Asked, Reads.Learnt, Reads'.Asked, Reads'.Learnt, Reads'4.Asked, Reads'4.Learnt) Reads'6.Pre Reads'6.Post Inv μ
+
 abbrev pub After-fill-arg : (Inv : InvT-loop) → (μ : MeasureT-loop) → Type 0
 After-fill-arg = λ Inv μ. Lts.After-fill-arg (Reads'8.Asked, Reads'8.Learnt, Reads'3.Asked, Reads'3.Learnt, Reads'9.Asked, Reads'9.Learnt, Reads''.Asked, Reads''.Learnt, Reads'10.Asked, Reads'10.Learnt, Reads'7.Asked, Reads'7.Learnt, Reads'5.Asked, Reads'5.Learnt, Reads.Asked, Reads.Learnt, Reads'.Asked, Reads'.Learnt, Reads'4.Asked, Reads'4.Learnt) Reads'6.Pre Reads'6.Post Inv μ
 
@@ -71,8 +74,8 @@ After-fill = λ Inv μ. Lts.After-fill (Reads'8.Asked, Reads'8.Learnt, Reads'3.A
 abbrev pub After-commands : (Inv : InvT-loop) → (μ : MeasureT-loop) → Type 0
 After-commands = λ Inv μ. Lts.After-commands (Reads'8.Asked, Reads'8.Learnt, Reads'3.Asked, Reads'3.Learnt, Reads'9.Asked, Reads'9.Learnt, Reads''.Asked, Reads''.Learnt, Reads'10.Asked, Reads'10.Learnt, Reads'7.Asked, Reads'7.Learnt, Reads'5.Asked, Reads'5.Learnt, Reads.Asked, Reads.Learnt, Reads'.Asked, Reads'.Learnt, Reads'4.Asked, Reads'4.Learnt) Reads'6.Pre Reads'6.Post Inv μ
 
-abbrev pub After-slice-known4 : (Inv : InvT-loop) → (μ : MeasureT-loop) → Type 0
-After-slice-known4 = λ Inv μ. Lts.After-slice-known4 (Reads'8.Asked, Reads'8.Learnt, Reads'3.Asked, Reads'3.Learnt, Reads'9.Asked, Reads'9.Learnt, Reads''.Asked, Reads''.Learnt, Reads'10.Asked, Reads'10.Learnt, Reads'7.Asked, Reads'7.Learnt, Reads'5.Asked, Reads'5.Learnt, Reads.Asked, Reads.Learnt, Reads'.Asked, Reads'.Learnt, Reads'4.Asked, Reads'4.Learnt) Reads'6.Pre Reads'6.Post Inv μ
+abbrev pub After-slice-known5 : (Inv : InvT-loop) → (μ : MeasureT-loop) → Type 0
+After-slice-known5 = λ Inv μ. Lts.After-slice-known5 (Reads'8.Asked, Reads'8.Learnt, Reads'3.Asked, Reads'3.Learnt, Reads'9.Asked, Reads'9.Learnt, Reads''.Asked, Reads''.Learnt, Reads'10.Asked, Reads'10.Learnt, Reads'7.Asked, Reads'7.Learnt, Reads'5.Asked, Reads'5.Learnt, Reads.Asked, Reads.Learnt, Reads'.Asked, Reads'.Learnt, Reads'4.Asked, Reads'4.Learnt) Reads'6.Pre Reads'6.Post Inv μ
 
 abbrev pub After-start-known-arg : (Inv : InvT-loop) → (μ : MeasureT-loop) → Type 0
 After-start-known-arg = λ Inv μ. Lts.After-start-known-arg (Reads'8.Asked, Reads'8.Learnt, Reads'3.Asked, Reads'3.Learnt, Reads'9.Asked, Reads'9.Learnt, Reads''.Asked, Reads''.Learnt, Reads'10.Asked, Reads'10.Learnt, Reads'7.Asked, Reads'7.Learnt, Reads'5.Asked, Reads'5.Learnt, Reads.Asked, Reads.Learnt, Reads'.Asked, Reads'.Learnt, Reads'4.Asked, Reads'4.Learnt) Reads'6.Pre Reads'6.Post Inv μ
@@ -83,8 +86,8 @@ After-start-known = λ Inv μ. Lts.After-start-known (Reads'8.Asked, Reads'8.Lea
 abbrev pub After-scratch : (Inv : InvT-loop) → (μ : MeasureT-loop) → Type 0
 After-scratch = λ Inv μ. Lts.After-scratch (Reads'8.Asked, Reads'8.Learnt, Reads'3.Asked, Reads'3.Learnt, Reads'9.Asked, Reads'9.Learnt, Reads''.Asked, Reads''.Learnt, Reads'10.Asked, Reads'10.Learnt, Reads'7.Asked, Reads'7.Learnt, Reads'5.Asked, Reads'5.Learnt, Reads.Asked, Reads.Learnt, Reads'.Asked, Reads'.Learnt, Reads'4.Asked, Reads'4.Learnt) Reads'6.Pre Reads'6.Post Inv μ
 
-abbrev pub After-slice-known5 : (Inv : InvT-loop) → (μ : MeasureT-loop) → Type 0
-After-slice-known5 = λ Inv μ. Lts.After-slice-known5 (Reads'8.Asked, Reads'8.Learnt, Reads'3.Asked, Reads'3.Learnt, Reads'9.Asked, Reads'9.Learnt, Reads''.Asked, Reads''.Learnt, Reads'10.Asked, Reads'10.Learnt, Reads'7.Asked, Reads'7.Learnt, Reads'5.Asked, Reads'5.Learnt, Reads.Asked, Reads.Learnt, Reads'.Asked, Reads'.Learnt, Reads'4.Asked, Reads'4.Learnt) Reads'6.Pre Reads'6.Post Inv μ
+abbrev pub After-slice-known6 : (Inv : InvT-loop) → (μ : MeasureT-loop) → Type 0
+After-slice-known6 = λ Inv μ. Lts.After-slice-known6 (Reads'8.Asked, Reads'8.Learnt, Reads'3.Asked, Reads'3.Learnt, Reads'9.Asked, Reads'9.Learnt, Reads''.Asked, Reads''.Learnt, Reads'10.Asked, Reads'10.Learnt, Reads'7.Asked, Reads'7.Learnt, Reads'5.Asked, Reads'5.Learnt, Reads.Asked, Reads.Learnt, Reads'.Asked, Reads'.Learnt, Reads'4.Asked, Reads'4.Learnt) Reads'6.Pre Reads'6.Post Inv μ
 
 abbrev pub After-span-at : (Inv : InvT-loop) → (μ : MeasureT-loop) → Type 0
 After-span-at = λ Inv μ. Lts.After-span-at (Reads'8.Asked, Reads'8.Learnt, Reads'3.Asked, Reads'3.Learnt, Reads'9.Asked, Reads'9.Learnt, Reads''.Asked, Reads''.Learnt, Reads'10.Asked, Reads'10.Learnt, Reads'7.Asked, Reads'7.Learnt, Reads'5.Asked, Reads'5.Learnt, Reads.Asked, Reads.Learnt, Reads'.Asked, Reads'.Learnt, Reads'4.Asked, Reads'4.Learnt) Reads'6.Pre Reads'6.Post Inv μ
@@ -104,14 +107,14 @@ After-reach = λ Inv μ. Lts.After-reach (Reads'8.Asked, Reads'8.Learnt, Reads'3
 abbrev pub After-scratch2 : (Inv : InvT-loop) → (μ : MeasureT-loop) → Type 0
 After-scratch2 = λ Inv μ. Lts.After-scratch2 (Reads'8.Asked, Reads'8.Learnt, Reads'3.Asked, Reads'3.Learnt, Reads'9.Asked, Reads'9.Learnt, Reads''.Asked, Reads''.Learnt, Reads'10.Asked, Reads'10.Learnt, Reads'7.Asked, Reads'7.Learnt, Reads'5.Asked, Reads'5.Learnt, Reads.Asked, Reads.Learnt, Reads'.Asked, Reads'.Learnt, Reads'4.Asked, Reads'4.Learnt) Reads'6.Pre Reads'6.Post Inv μ
 
-abbrev pub After-slice-known6 : (Inv : InvT-loop) → (μ : MeasureT-loop) → Type 0
-After-slice-known6 = λ Inv μ. Lts.After-slice-known6 (Reads'8.Asked, Reads'8.Learnt, Reads'3.Asked, Reads'3.Learnt, Reads'9.Asked, Reads'9.Learnt, Reads''.Asked, Reads''.Learnt, Reads'10.Asked, Reads'10.Learnt, Reads'7.Asked, Reads'7.Learnt, Reads'5.Asked, Reads'5.Learnt, Reads.Asked, Reads.Learnt, Reads'.Asked, Reads'.Learnt, Reads'4.Asked, Reads'4.Learnt) Reads'6.Pre Reads'6.Post Inv μ
+abbrev pub After-slice-known7 : (Inv : InvT-loop) → (μ : MeasureT-loop) → Type 0
+After-slice-known7 = λ Inv μ. Lts.After-slice-known7 (Reads'8.Asked, Reads'8.Learnt, Reads'3.Asked, Reads'3.Learnt, Reads'9.Asked, Reads'9.Learnt, Reads''.Asked, Reads''.Learnt, Reads'10.Asked, Reads'10.Learnt, Reads'7.Asked, Reads'7.Learnt, Reads'5.Asked, Reads'5.Learnt, Reads.Asked, Reads.Learnt, Reads'.Asked, Reads'.Learnt, Reads'4.Asked, Reads'4.Learnt) Reads'6.Pre Reads'6.Post Inv μ
 
 abbrev pub After-queue : (Inv : InvT-loop) → (μ : MeasureT-loop) → Type 0
 After-queue = λ Inv μ. Lts.After-queue (Reads'8.Asked, Reads'8.Learnt, Reads'3.Asked, Reads'3.Learnt, Reads'9.Asked, Reads'9.Learnt, Reads''.Asked, Reads''.Learnt, Reads'10.Asked, Reads'10.Learnt, Reads'7.Asked, Reads'7.Learnt, Reads'5.Asked, Reads'5.Learnt, Reads.Asked, Reads.Learnt, Reads'.Asked, Reads'.Learnt, Reads'4.Asked, Reads'4.Learnt) Reads'6.Pre Reads'6.Post Inv μ
 
-abbrev pub After-slice-known7 : (Inv : InvT-loop) → (μ : MeasureT-loop) → Type 0
-After-slice-known7 = λ Inv μ. Lts.After-slice-known7 (Reads'8.Asked, Reads'8.Learnt, Reads'3.Asked, Reads'3.Learnt, Reads'9.Asked, Reads'9.Learnt, Reads''.Asked, Reads''.Learnt, Reads'10.Asked, Reads'10.Learnt, Reads'7.Asked, Reads'7.Learnt, Reads'5.Asked, Reads'5.Learnt, Reads.Asked, Reads.Learnt, Reads'.Asked, Reads'.Learnt, Reads'4.Asked, Reads'4.Learnt) Reads'6.Pre Reads'6.Post Inv μ
+abbrev pub After-slice-known8 : (Inv : InvT-loop) → (μ : MeasureT-loop) → Type 0
+After-slice-known8 = λ Inv μ. Lts.After-slice-known8 (Reads'8.Asked, Reads'8.Learnt, Reads'3.Asked, Reads'3.Learnt, Reads'9.Asked, Reads'9.Learnt, Reads''.Asked, Reads''.Learnt, Reads'10.Asked, Reads'10.Learnt, Reads'7.Asked, Reads'7.Learnt, Reads'5.Asked, Reads'5.Learnt, Reads.Asked, Reads.Learnt, Reads'.Asked, Reads'.Learnt, Reads'4.Asked, Reads'4.Learnt) Reads'6.Pre Reads'6.Post Inv μ
 
 abbrev pub At-loop : (Inv : InvT-loop) → (μ : MeasureT-loop) → Type 0
 At-loop = λ Inv μ. Lts.At-loop (Reads'8.Asked, Reads'8.Learnt, Reads'3.Asked, Reads'3.Learnt, Reads'9.Asked, Reads'9.Learnt, Reads''.Asked, Reads''.Learnt, Reads'10.Asked, Reads'10.Learnt, Reads'7.Asked, Reads'7.Learnt, Reads'5.Asked, Reads'5.Learnt, Reads.Asked, Reads.Learnt, Reads'.Asked, Reads'.Learnt, Reads'4.Asked, Reads'4.Learnt) Reads'6.Pre Reads'6.Post Inv μ
@@ -131,26 +134,35 @@ After-walk-arg2 = λ Inv μ. Lts.After-walk-arg2 (Reads'8.Asked, Reads'8.Learnt,
 abbrev pub After-walk-arg3 : (Inv : InvT-loop) → (μ : MeasureT-loop) → Type 0
 After-walk-arg3 = λ Inv μ. Lts.After-walk-arg3 (Reads'8.Asked, Reads'8.Learnt, Reads'3.Asked, Reads'3.Learnt, Reads'9.Asked, Reads'9.Learnt, Reads''.Asked, Reads''.Learnt, Reads'10.Asked, Reads'10.Learnt, Reads'7.Asked, Reads'7.Learnt, Reads'5.Asked, Reads'5.Learnt, Reads.Asked, Reads.Learnt, Reads'.Asked, Reads'.Learnt, Reads'4.Asked, Reads'4.Learnt) Reads'6.Pre Reads'6.Post Inv μ
 
+abbrev pub After-walk-arg4 : (Inv : InvT-loop) → (μ : MeasureT-loop) → Type 0
+After-walk-arg4 = λ Inv μ. Lts.After-walk-arg4 (Reads'8.Asked, Reads'8.Learnt, Reads'3.Asked, Reads'3.Learnt, Reads'9.Asked, Reads'9.Learnt, Reads''.Asked, Reads''.Learnt, Reads'10.Asked, Reads'10.Learnt, Reads'7.Asked, Reads'7.Learnt, Reads'5.Asked, Reads'5.Learnt, Reads.Asked, Reads.Learnt, Reads'.Asked, Reads'.Learnt, Reads'4.Asked, Reads'4.Learnt) Reads'6.Pre Reads'6.Post Inv μ
+
 abbrev pub After-walk : (Inv : InvT-loop) → (μ : MeasureT-loop) → Type 0
 After-walk = λ Inv μ. Lts.After-walk (Reads'8.Asked, Reads'8.Learnt, Reads'3.Asked, Reads'3.Learnt, Reads'9.Asked, Reads'9.Learnt, Reads''.Asked, Reads''.Learnt, Reads'10.Asked, Reads'10.Learnt, Reads'7.Asked, Reads'7.Learnt, Reads'5.Asked, Reads'5.Learnt, Reads.Asked, Reads.Learnt, Reads'.Asked, Reads'.Learnt, Reads'4.Asked, Reads'4.Learnt) Reads'6.Pre Reads'6.Post Inv μ
 
 abbrev pub After-commands2 : (Inv : InvT-loop) → (μ : MeasureT-loop) → Type 0
 After-commands2 = λ Inv μ. Lts.After-commands2 (Reads'8.Asked, Reads'8.Learnt, Reads'3.Asked, Reads'3.Learnt, Reads'9.Asked, Reads'9.Learnt, Reads''.Asked, Reads''.Learnt, Reads'10.Asked, Reads'10.Learnt, Reads'7.Asked, Reads'7.Learnt, Reads'5.Asked, Reads'5.Learnt, Reads.Asked, Reads.Learnt, Reads'.Asked, Reads'.Learnt, Reads'4.Asked, Reads'4.Learnt) Reads'6.Pre Reads'6.Post Inv μ
 
-abbrev pub After-slice-known8 : (Inv : InvT-loop) → (μ : MeasureT-loop) → Type 0
-After-slice-known8 = λ Inv μ. Lts.After-slice-known8 (Reads'8.Asked, Reads'8.Learnt, Reads'3.Asked, Reads'3.Learnt, Reads'9.Asked, Reads'9.Learnt, Reads''.Asked, Reads''.Learnt, Reads'10.Asked, Reads'10.Learnt, Reads'7.Asked, Reads'7.Learnt, Reads'5.Asked, Reads'5.Learnt, Reads.Asked, Reads.Learnt, Reads'.Asked, Reads'.Learnt, Reads'4.Asked, Reads'4.Learnt) Reads'6.Pre Reads'6.Post Inv μ
+abbrev pub After-slice-known9 : (Inv : InvT-loop) → (μ : MeasureT-loop) → Type 0
+After-slice-known9 = λ Inv μ. Lts.After-slice-known9 (Reads'8.Asked, Reads'8.Learnt, Reads'3.Asked, Reads'3.Learnt, Reads'9.Asked, Reads'9.Learnt, Reads''.Asked, Reads''.Learnt, Reads'10.Asked, Reads'10.Learnt, Reads'7.Asked, Reads'7.Learnt, Reads'5.Asked, Reads'5.Learnt, Reads.Asked, Reads.Learnt, Reads'.Asked, Reads'.Learnt, Reads'4.Asked, Reads'4.Learnt) Reads'6.Pre Reads'6.Post Inv μ
 
 abbrev pub After-scratch3 : (Inv : InvT-loop) → (μ : MeasureT-loop) → Type 0
 After-scratch3 = λ Inv μ. Lts.After-scratch3 (Reads'8.Asked, Reads'8.Learnt, Reads'3.Asked, Reads'3.Learnt, Reads'9.Asked, Reads'9.Learnt, Reads''.Asked, Reads''.Learnt, Reads'10.Asked, Reads'10.Learnt, Reads'7.Asked, Reads'7.Learnt, Reads'5.Asked, Reads'5.Learnt, Reads.Asked, Reads.Learnt, Reads'.Asked, Reads'.Learnt, Reads'4.Asked, Reads'4.Learnt) Reads'6.Pre Reads'6.Post Inv μ
 
-abbrev pub After-slice-known9 : (Inv : InvT-loop) → (μ : MeasureT-loop) → Type 0
-After-slice-known9 = λ Inv μ. Lts.After-slice-known9 (Reads'8.Asked, Reads'8.Learnt, Reads'3.Asked, Reads'3.Learnt, Reads'9.Asked, Reads'9.Learnt, Reads''.Asked, Reads''.Learnt, Reads'10.Asked, Reads'10.Learnt, Reads'7.Asked, Reads'7.Learnt, Reads'5.Asked, Reads'5.Learnt, Reads.Asked, Reads.Learnt, Reads'.Asked, Reads'.Learnt, Reads'4.Asked, Reads'4.Learnt) Reads'6.Pre Reads'6.Post Inv μ
+abbrev pub After-slice-known10 : (Inv : InvT-loop) → (μ : MeasureT-loop) → Type 0
+After-slice-known10 = λ Inv μ. Lts.After-slice-known10 (Reads'8.Asked, Reads'8.Learnt, Reads'3.Asked, Reads'3.Learnt, Reads'9.Asked, Reads'9.Learnt, Reads''.Asked, Reads''.Learnt, Reads'10.Asked, Reads'10.Learnt, Reads'7.Asked, Reads'7.Learnt, Reads'5.Asked, Reads'5.Learnt, Reads.Asked, Reads.Learnt, Reads'.Asked, Reads'.Learnt, Reads'4.Asked, Reads'4.Learnt) Reads'6.Pre Reads'6.Post Inv μ
 
 abbrev pub After-queue2 : (Inv : InvT-loop) → (μ : MeasureT-loop) → Type 0
 After-queue2 = λ Inv μ. Lts.After-queue2 (Reads'8.Asked, Reads'8.Learnt, Reads'3.Asked, Reads'3.Learnt, Reads'9.Asked, Reads'9.Learnt, Reads''.Asked, Reads''.Learnt, Reads'10.Asked, Reads'10.Learnt, Reads'7.Asked, Reads'7.Learnt, Reads'5.Asked, Reads'5.Learnt, Reads.Asked, Reads.Learnt, Reads'.Asked, Reads'.Learnt, Reads'4.Asked, Reads'4.Learnt) Reads'6.Pre Reads'6.Post Inv μ
 
-abbrev pub After-slice-known10 : (Inv : InvT-loop) → (μ : MeasureT-loop) → Type 0
-After-slice-known10 = λ Inv μ. Lts.After-slice-known10 (Reads'8.Asked, Reads'8.Learnt, Reads'3.Asked, Reads'3.Learnt, Reads'9.Asked, Reads'9.Learnt, Reads''.Asked, Reads''.Learnt, Reads'10.Asked, Reads'10.Learnt, Reads'7.Asked, Reads'7.Learnt, Reads'5.Asked, Reads'5.Learnt, Reads.Asked, Reads.Learnt, Reads'.Asked, Reads'.Learnt, Reads'4.Asked, Reads'4.Learnt) Reads'6.Pre Reads'6.Post Inv μ
+abbrev pub After-slice-known11 : (Inv : InvT-loop) → (μ : MeasureT-loop) → Type 0
+After-slice-known11 = λ Inv μ. Lts.After-slice-known11 (Reads'8.Asked, Reads'8.Learnt, Reads'3.Asked, Reads'3.Learnt, Reads'9.Asked, Reads'9.Learnt, Reads''.Asked, Reads''.Learnt, Reads'10.Asked, Reads'10.Learnt, Reads'7.Asked, Reads'7.Learnt, Reads'5.Asked, Reads'5.Learnt, Reads.Asked, Reads.Learnt, Reads'.Asked, Reads'.Learnt, Reads'4.Asked, Reads'4.Learnt) Reads'6.Pre Reads'6.Post Inv μ
+
+abbrev pub After-tried : (Inv : InvT-loop) → (μ : MeasureT-loop) → Type 0
+After-tried = λ Inv μ. Lts.After-tried (Reads'8.Asked, Reads'8.Learnt, Reads'3.Asked, Reads'3.Learnt, Reads'9.Asked, Reads'9.Learnt, Reads''.Asked, Reads''.Learnt, Reads'10.Asked, Reads'10.Learnt, Reads'7.Asked, Reads'7.Learnt, Reads'5.Asked, Reads'5.Learnt, Reads.Asked, Reads.Learnt, Reads'.Asked, Reads'.Learnt, Reads'4.Asked, Reads'4.Learnt) Reads'6.Pre Reads'6.Post Inv μ
+
+abbrev pub After-slice-known12 : (Inv : InvT-loop) → (μ : MeasureT-loop) → Type 0
+After-slice-known12 = λ Inv μ. Lts.After-slice-known12 (Reads'8.Asked, Reads'8.Learnt, Reads'3.Asked, Reads'3.Learnt, Reads'9.Asked, Reads'9.Learnt, Reads''.Asked, Reads''.Learnt, Reads'10.Asked, Reads'10.Learnt, Reads'7.Asked, Reads'7.Learnt, Reads'5.Asked, Reads'5.Learnt, Reads.Asked, Reads.Learnt, Reads'.Asked, Reads'.Learnt, Reads'4.Asked, Reads'4.Learnt) Reads'6.Pre Reads'6.Post Inv μ
 
 abbrev pub After-round-end-arg : (Inv : InvT-loop) → (μ : MeasureT-loop) → Type 0
 After-round-end-arg = λ Inv μ. Lts.After-round-end-arg (Reads'8.Asked, Reads'8.Learnt, Reads'3.Asked, Reads'3.Learnt, Reads'9.Asked, Reads'9.Learnt, Reads''.Asked, Reads''.Learnt, Reads'10.Asked, Reads'10.Learnt, Reads'7.Asked, Reads'7.Learnt, Reads'5.Asked, Reads'5.Learnt, Reads.Asked, Reads.Learnt, Reads'.Asked, Reads'.Learnt, Reads'4.Asked, Reads'4.Learnt) Reads'6.Pre Reads'6.Post Inv μ
@@ -182,14 +194,14 @@ After-settle = λ Inv μ. Lts.After-settle (Reads'8.Asked, Reads'8.Learnt, Reads
 abbrev pub After-commands3 : (Inv : InvT-loop) → (μ : MeasureT-loop) → Type 0
 After-commands3 = λ Inv μ. Lts.After-commands3 (Reads'8.Asked, Reads'8.Learnt, Reads'3.Asked, Reads'3.Learnt, Reads'9.Asked, Reads'9.Learnt, Reads''.Asked, Reads''.Learnt, Reads'10.Asked, Reads'10.Learnt, Reads'7.Asked, Reads'7.Learnt, Reads'5.Asked, Reads'5.Learnt, Reads.Asked, Reads.Learnt, Reads'.Asked, Reads'.Learnt, Reads'4.Asked, Reads'4.Learnt) Reads'6.Pre Reads'6.Post Inv μ
 
-abbrev pub After-slice-known11 : (Inv : InvT-loop) → (μ : MeasureT-loop) → Type 0
-After-slice-known11 = λ Inv μ. Lts.After-slice-known11 (Reads'8.Asked, Reads'8.Learnt, Reads'3.Asked, Reads'3.Learnt, Reads'9.Asked, Reads'9.Learnt, Reads''.Asked, Reads''.Learnt, Reads'10.Asked, Reads'10.Learnt, Reads'7.Asked, Reads'7.Learnt, Reads'5.Asked, Reads'5.Learnt, Reads.Asked, Reads.Learnt, Reads'.Asked, Reads'.Learnt, Reads'4.Asked, Reads'4.Learnt) Reads'6.Pre Reads'6.Post Inv μ
+abbrev pub After-slice-known13 : (Inv : InvT-loop) → (μ : MeasureT-loop) → Type 0
+After-slice-known13 = λ Inv μ. Lts.After-slice-known13 (Reads'8.Asked, Reads'8.Learnt, Reads'3.Asked, Reads'3.Learnt, Reads'9.Asked, Reads'9.Learnt, Reads''.Asked, Reads''.Learnt, Reads'10.Asked, Reads'10.Learnt, Reads'7.Asked, Reads'7.Learnt, Reads'5.Asked, Reads'5.Learnt, Reads.Asked, Reads.Learnt, Reads'.Asked, Reads'.Learnt, Reads'4.Asked, Reads'4.Learnt) Reads'6.Pre Reads'6.Post Inv μ
 
 abbrev pub After-scratch4 : (Inv : InvT-loop) → (μ : MeasureT-loop) → Type 0
 After-scratch4 = λ Inv μ. Lts.After-scratch4 (Reads'8.Asked, Reads'8.Learnt, Reads'3.Asked, Reads'3.Learnt, Reads'9.Asked, Reads'9.Learnt, Reads''.Asked, Reads''.Learnt, Reads'10.Asked, Reads'10.Learnt, Reads'7.Asked, Reads'7.Learnt, Reads'5.Asked, Reads'5.Learnt, Reads.Asked, Reads.Learnt, Reads'.Asked, Reads'.Learnt, Reads'4.Asked, Reads'4.Learnt) Reads'6.Pre Reads'6.Post Inv μ
 
-abbrev pub After-slice-known12 : (Inv : InvT-loop) → (μ : MeasureT-loop) → Type 0
-After-slice-known12 = λ Inv μ. Lts.After-slice-known12 (Reads'8.Asked, Reads'8.Learnt, Reads'3.Asked, Reads'3.Learnt, Reads'9.Asked, Reads'9.Learnt, Reads''.Asked, Reads''.Learnt, Reads'10.Asked, Reads'10.Learnt, Reads'7.Asked, Reads'7.Learnt, Reads'5.Asked, Reads'5.Learnt, Reads.Asked, Reads.Learnt, Reads'.Asked, Reads'.Learnt, Reads'4.Asked, Reads'4.Learnt) Reads'6.Pre Reads'6.Post Inv μ
+abbrev pub After-slice-known14 : (Inv : InvT-loop) → (μ : MeasureT-loop) → Type 0
+After-slice-known14 = λ Inv μ. Lts.After-slice-known14 (Reads'8.Asked, Reads'8.Learnt, Reads'3.Asked, Reads'3.Learnt, Reads'9.Asked, Reads'9.Learnt, Reads''.Asked, Reads''.Learnt, Reads'10.Asked, Reads'10.Learnt, Reads'7.Asked, Reads'7.Learnt, Reads'5.Asked, Reads'5.Learnt, Reads.Asked, Reads.Learnt, Reads'.Asked, Reads'.Learnt, Reads'4.Asked, Reads'4.Learnt) Reads'6.Pre Reads'6.Post Inv μ
 
 abbrev pub After-finish-arg : (Inv : InvT-loop) → (μ : MeasureT-loop) → Type 0
 After-finish-arg = λ Inv μ. Lts.After-finish-arg (Reads'8.Asked, Reads'8.Learnt, Reads'3.Asked, Reads'3.Learnt, Reads'9.Asked, Reads'9.Learnt, Reads''.Asked, Reads''.Learnt, Reads'10.Asked, Reads'10.Learnt, Reads'7.Asked, Reads'7.Learnt, Reads'5.Asked, Reads'5.Learnt, Reads.Asked, Reads.Learnt, Reads'.Asked, Reads'.Learnt, Reads'4.Asked, Reads'4.Learnt) Reads'6.Pre Reads'6.Post Inv μ
@@ -203,14 +215,14 @@ After-finish = λ Inv μ. Lts.After-finish (Reads'8.Asked, Reads'8.Learnt, Reads
 abbrev pub After-commands4 : (Inv : InvT-loop) → (μ : MeasureT-loop) → Type 0
 After-commands4 = λ Inv μ. Lts.After-commands4 (Reads'8.Asked, Reads'8.Learnt, Reads'3.Asked, Reads'3.Learnt, Reads'9.Asked, Reads'9.Learnt, Reads''.Asked, Reads''.Learnt, Reads'10.Asked, Reads'10.Learnt, Reads'7.Asked, Reads'7.Learnt, Reads'5.Asked, Reads'5.Learnt, Reads.Asked, Reads.Learnt, Reads'.Asked, Reads'.Learnt, Reads'4.Asked, Reads'4.Learnt) Reads'6.Pre Reads'6.Post Inv μ
 
-abbrev pub After-slice-known13 : (Inv : InvT-loop) → (μ : MeasureT-loop) → Type 0
-After-slice-known13 = λ Inv μ. Lts.After-slice-known13 (Reads'8.Asked, Reads'8.Learnt, Reads'3.Asked, Reads'3.Learnt, Reads'9.Asked, Reads'9.Learnt, Reads''.Asked, Reads''.Learnt, Reads'10.Asked, Reads'10.Learnt, Reads'7.Asked, Reads'7.Learnt, Reads'5.Asked, Reads'5.Learnt, Reads.Asked, Reads.Learnt, Reads'.Asked, Reads'.Learnt, Reads'4.Asked, Reads'4.Learnt) Reads'6.Pre Reads'6.Post Inv μ
+abbrev pub After-slice-known15 : (Inv : InvT-loop) → (μ : MeasureT-loop) → Type 0
+After-slice-known15 = λ Inv μ. Lts.After-slice-known15 (Reads'8.Asked, Reads'8.Learnt, Reads'3.Asked, Reads'3.Learnt, Reads'9.Asked, Reads'9.Learnt, Reads''.Asked, Reads''.Learnt, Reads'10.Asked, Reads'10.Learnt, Reads'7.Asked, Reads'7.Learnt, Reads'5.Asked, Reads'5.Learnt, Reads.Asked, Reads.Learnt, Reads'.Asked, Reads'.Learnt, Reads'4.Asked, Reads'4.Learnt) Reads'6.Pre Reads'6.Post Inv μ
 
 abbrev pub After-scratch5 : (Inv : InvT-loop) → (μ : MeasureT-loop) → Type 0
 After-scratch5 = λ Inv μ. Lts.After-scratch5 (Reads'8.Asked, Reads'8.Learnt, Reads'3.Asked, Reads'3.Learnt, Reads'9.Asked, Reads'9.Learnt, Reads''.Asked, Reads''.Learnt, Reads'10.Asked, Reads'10.Learnt, Reads'7.Asked, Reads'7.Learnt, Reads'5.Asked, Reads'5.Learnt, Reads.Asked, Reads.Learnt, Reads'.Asked, Reads'.Learnt, Reads'4.Asked, Reads'4.Learnt) Reads'6.Pre Reads'6.Post Inv μ
 
-abbrev pub After-slice-known14 : (Inv : InvT-loop) → (μ : MeasureT-loop) → Type 0
-After-slice-known14 = λ Inv μ. Lts.After-slice-known14 (Reads'8.Asked, Reads'8.Learnt, Reads'3.Asked, Reads'3.Learnt, Reads'9.Asked, Reads'9.Learnt, Reads''.Asked, Reads''.Learnt, Reads'10.Asked, Reads'10.Learnt, Reads'7.Asked, Reads'7.Learnt, Reads'5.Asked, Reads'5.Learnt, Reads.Asked, Reads.Learnt, Reads'.Asked, Reads'.Learnt, Reads'4.Asked, Reads'4.Learnt) Reads'6.Pre Reads'6.Post Inv μ
+abbrev pub After-slice-known16 : (Inv : InvT-loop) → (μ : MeasureT-loop) → Type 0
+After-slice-known16 = λ Inv μ. Lts.After-slice-known16 (Reads'8.Asked, Reads'8.Learnt, Reads'3.Asked, Reads'3.Learnt, Reads'9.Asked, Reads'9.Learnt, Reads''.Asked, Reads''.Learnt, Reads'10.Asked, Reads'10.Learnt, Reads'7.Asked, Reads'7.Learnt, Reads'5.Asked, Reads'5.Learnt, Reads.Asked, Reads.Learnt, Reads'.Asked, Reads'.Learnt, Reads'4.Asked, Reads'4.Learnt) Reads'6.Pre Reads'6.Post Inv μ
 
 abbrev pub Need-fill-requires : (Inv : InvT-loop) → (μ : MeasureT-loop) → Type 0
 Need-fill-requires = λ Inv μ. Lts.Need-fill-requires (Reads'8.Asked, Reads'8.Learnt, Reads'3.Asked, Reads'3.Learnt, Reads'9.Asked, Reads'9.Learnt, Reads''.Asked, Reads''.Learnt, Reads'10.Asked, Reads'10.Learnt, Reads'7.Asked, Reads'7.Learnt, Reads'5.Asked, Reads'5.Learnt, Reads.Asked, Reads.Learnt, Reads'.Asked, Reads'.Learnt, Reads'4.Asked, Reads'4.Learnt) Reads'6.Pre Reads'6.Post Inv μ
@@ -263,13 +275,16 @@ Need-same-length-2 = λ Inv μ. Lts.Need-same-length-2 (Reads'8.Asked, Reads'8.L
 abbrev pub Need-same-length-3 : (Inv : InvT-loop) → (μ : MeasureT-loop) → Type 0
 Need-same-length-3 = λ Inv μ. Lts.Need-same-length-3 (Reads'8.Asked, Reads'8.Learnt, Reads'3.Asked, Reads'3.Learnt, Reads'9.Asked, Reads'9.Learnt, Reads''.Asked, Reads''.Learnt, Reads'10.Asked, Reads'10.Learnt, Reads'7.Asked, Reads'7.Learnt, Reads'5.Asked, Reads'5.Learnt, Reads.Asked, Reads.Learnt, Reads'.Asked, Reads'.Learnt, Reads'4.Asked, Reads'4.Learnt) Reads'6.Pre Reads'6.Post Inv μ
 
+abbrev pub Need-same-length-4 : (Inv : InvT-loop) → (μ : MeasureT-loop) → Type 0
+Need-same-length-4 = λ Inv μ. Lts.Need-same-length-4 (Reads'8.Asked, Reads'8.Learnt, Reads'3.Asked, Reads'3.Learnt, Reads'9.Asked, Reads'9.Learnt, Reads''.Asked, Reads''.Learnt, Reads'10.Asked, Reads'10.Learnt, Reads'7.Asked, Reads'7.Learnt, Reads'5.Asked, Reads'5.Learnt, Reads.Asked, Reads.Learnt, Reads'.Asked, Reads'.Learnt, Reads'4.Asked, Reads'4.Learnt) Reads'6.Pre Reads'6.Post Inv μ
+
 abbrev pub Need-returns : (Inv : InvT-loop) → (μ : MeasureT-loop) → Type 0
 Need-returns = λ Inv μ. Lts.Need-returns (Reads'8.Asked, Reads'8.Learnt, Reads'3.Asked, Reads'3.Learnt, Reads'9.Asked, Reads'9.Learnt, Reads''.Asked, Reads''.Learnt, Reads'10.Asked, Reads'10.Learnt, Reads'7.Asked, Reads'7.Learnt, Reads'5.Asked, Reads'5.Learnt, Reads.Asked, Reads.Learnt, Reads'.Asked, Reads'.Learnt, Reads'4.Asked, Reads'4.Learnt) Reads'6.Pre Reads'6.Post Inv μ
 
 module _ {M : Type 1} where
-  pub spec : (Inv : InvT-loop) → (μ : MeasureT-loop) → (answer : Need-fill-requires Inv μ) → (answer : Need-start-known-requires Inv μ) → (answer : Need-span-at-requires Inv μ) → (answer : Need-start-end-requires Inv μ) → (answer : Need-reach-requires Inv μ) → (answer : Need-loop-holds Inv μ) → (answer : Need-walk-requires Inv μ) → (answer : Need-round-end-requires Inv μ) → (answer : Need-kept-requires Inv μ) → (answer : Need-settle-requires Inv μ) → (answer : Need-add-count Inv μ) → (answer : Need-loop-less Inv μ) → (answer : Need-loop-again Inv μ) → (answer : Need-finish-requires Inv μ) → (answer : Need-same-length Inv μ) → (answer : Need-same-length-2 Inv μ) → (answer : Need-same-length-3 Inv μ) → (answer : Need-returns Inv μ) → Lts.Closed (Reads'8.Asked, Reads'8.Learnt, Reads'3.Asked, Reads'3.Learnt, Reads'9.Asked, Reads'9.Learnt, Reads''.Asked, Reads''.Learnt, Reads'10.Asked, Reads'10.Learnt, Reads'7.Asked, Reads'7.Learnt, Reads'5.Asked, Reads'5.Learnt, Reads.Asked, Reads.Learnt, Reads'.Asked, Reads'.Learnt, Reads'4.Asked, Reads'4.Learnt) Reads'6.Pre Reads'6.Post M
-  spec = λ Inv μ answer answer' answer'' answer'3 answer'4 answer'5 answer'6 answer'7 answer'8 answer'9 answer'10 answer'11 answer'12 answer'13 answer'14 answer'15 answer'16 answer'17. Lts.spec (Reads'8.Asked, Reads'8.Learnt, Reads'3.Asked, Reads'3.Learnt, Reads'9.Asked, Reads'9.Learnt, Reads''.Asked, Reads''.Learnt, Reads'10.Asked, Reads'10.Learnt, Reads'7.Asked, Reads'7.Learnt, Reads'5.Asked, Reads'5.Learnt, Reads.Asked, Reads.Learnt, Reads'.Asked, Reads'.Learnt, Reads'4.Asked, Reads'4.Learnt) Reads'6.Pre Reads'6.Post Inv μ answer answer' answer'' answer'3 answer'4 answer'5 answer'6 answer'7 answer'8 answer'9 answer'10 answer'11 answer'12 answer'13 answer'14 answer'15 answer'16 answer'17
+  pub spec : (Inv : InvT-loop) → (μ : MeasureT-loop) → (answer : Need-fill-requires Inv μ) → (answer : Need-start-known-requires Inv μ) → (answer : Need-span-at-requires Inv μ) → (answer : Need-start-end-requires Inv μ) → (answer : Need-reach-requires Inv μ) → (answer : Need-loop-holds Inv μ) → (answer : Need-walk-requires Inv μ) → (answer : Need-round-end-requires Inv μ) → (answer : Need-kept-requires Inv μ) → (answer : Need-settle-requires Inv μ) → (answer : Need-add-count Inv μ) → (answer : Need-loop-less Inv μ) → (answer : Need-loop-again Inv μ) → (answer : Need-finish-requires Inv μ) → (answer : Need-same-length Inv μ) → (answer : Need-same-length-2 Inv μ) → (answer : Need-same-length-3 Inv μ) → (answer : Need-same-length-4 Inv μ) → (answer : Need-returns Inv μ) → Lts.Closed (Reads'8.Asked, Reads'8.Learnt, Reads'3.Asked, Reads'3.Learnt, Reads'9.Asked, Reads'9.Learnt, Reads''.Asked, Reads''.Learnt, Reads'10.Asked, Reads'10.Learnt, Reads'7.Asked, Reads'7.Learnt, Reads'5.Asked, Reads'5.Learnt, Reads.Asked, Reads.Learnt, Reads'.Asked, Reads'.Learnt, Reads'4.Asked, Reads'4.Learnt) Reads'6.Pre Reads'6.Post M
+  spec = λ Inv μ answer answer' answer'' answer'3 answer'4 answer'5 answer'6 answer'7 answer'8 answer'9 answer'10 answer'11 answer'12 answer'13 answer'14 answer'15 answer'16 answer'17 answer'18. Lts.spec (Reads'8.Asked, Reads'8.Learnt, Reads'3.Asked, Reads'3.Learnt, Reads'9.Asked, Reads'9.Learnt, Reads''.Asked, Reads''.Learnt, Reads'10.Asked, Reads'10.Learnt, Reads'7.Asked, Reads'7.Learnt, Reads'5.Asked, Reads'5.Learnt, Reads.Asked, Reads.Learnt, Reads'.Asked, Reads'.Learnt, Reads'4.Asked, Reads'4.Learnt) Reads'6.Pre Reads'6.Post Inv μ answer answer' answer'' answer'3 answer'4 answer'5 answer'6 answer'7 answer'8 answer'9 answer'10 answer'11 answer'12 answer'13 answer'14 answer'15 answer'16 answer'17 answer'18
 
   pub close : Lts.Closed (Reads'8.Asked, Reads'8.Learnt, Reads'3.Asked, Reads'3.Learnt, Reads'9.Asked, Reads'9.Learnt, Reads''.Asked, Reads''.Learnt, Reads'10.Asked, Reads'10.Learnt, Reads'7.Asked, Reads'7.Learnt, Reads'5.Asked, Reads'5.Learnt, Reads.Asked, Reads.Learnt, Reads'.Asked, Reads'.Learnt, Reads'4.Asked, Reads'4.Learnt) Reads'6.Pre Reads'6.Post M → Statement.statement M
   unfolding Code.routine Running.tablesOf
-  close = λ closed 𝓤 H 𝓜 𝓖 𝓡. Written.close 6 Reads'6.ps Reads'6.r Reads'6.Ghost Reads'6.requires Reads'6.ensures Reads'6.pre-read Reads'6.Pinned Reads'6.Owned Reads'6.post-read record { M = M; 𝓤 = 𝓤; H = H; 𝓜 = 𝓜; 𝓖 = 𝓖; 𝓡 = 𝓡 } Code.env Key.name Code.function (Code.unfolded 𝓤 H 𝓜 𝓡) (λ κs a g. tt) (λ κs. Reads'6.owns κs record { M = M; 𝓤 = 𝓤; H = H; 𝓜 = 𝓜; 𝓖 = 𝓖; 𝓡 = 𝓡 }) (Reads'6.passes record { M = M; 𝓤 = 𝓤; H = H; 𝓜 = 𝓜; 𝓖 = 𝓖; 𝓡 = 𝓡 }) λ g. closed 𝓤 H (𝓖 .A) (Running.givenOf 𝓤 H 𝓜 𝓖) (Run.Over 𝓤 H 𝓜 𝓖 𝓡 Code.env) (Reads'8.known record { M = M; 𝓤 = 𝓤; H = H; 𝓜 = 𝓜; 𝓖 = 𝓖; 𝓡 = 𝓡 } Code.env Symbol'7.name Symbol'7.routine Code.calls-tables·entries·fill (Met'7.met 𝓤 H 𝓜 𝓖 𝓡)) (Reads'3.known record { M = M; 𝓤 = 𝓤; H = H; 𝓜 = 𝓜; 𝓖 = 𝓖; 𝓡 = 𝓡 } Code.env Symbol'3.name Symbol'3.routine Code.calls-search·marks·start-known (Met'3.met 𝓤 H 𝓜 𝓖 𝓡)) (Reads'9.known record { M = M; 𝓤 = 𝓤; H = H; 𝓜 = 𝓜; 𝓖 = 𝓖; 𝓡 = 𝓡 } Code.env Symbol'8.name Symbol'8.routine Code.calls-tables·spans·span-at (Met'8.met 𝓤 H 𝓜 𝓖 𝓡)) (Reads''.known record { M = M; 𝓤 = 𝓤; H = H; 𝓜 = 𝓜; 𝓖 = 𝓖; 𝓡 = 𝓡 } Code.env Symbol''.name Symbol''.routine Code.calls-search·marks·start-end (Met''.met 𝓤 H 𝓜 𝓖 𝓡)) (Reads'10.known record { M = M; 𝓤 = 𝓤; H = H; 𝓜 = 𝓜; 𝓖 = 𝓖; 𝓡 = 𝓡 } Code.env Symbol'9.name Symbol'9.routine Code.calls-walks·queue·reach (Met'9.met 𝓤 H 𝓜 𝓖 𝓡)) (Reads'7.known record { M = M; 𝓤 = 𝓤; H = H; 𝓜 = 𝓜; 𝓖 = 𝓖; 𝓡 = 𝓡 } Code.env Symbol'6.name Symbol'6.routine Code.calls-search·walk·walk (Met'6.met 𝓤 H 𝓜 𝓖 𝓡)) (Reads'5.known record { M = M; 𝓤 = 𝓤; H = H; 𝓜 = 𝓜; 𝓖 = 𝓖; 𝓡 = 𝓡 } Code.env Symbol'5.name Symbol'5.routine Code.calls-search·rounds·round-end (Met'5.met 𝓤 H 𝓜 𝓖 𝓡)) (Reads.known record { M = M; 𝓤 = 𝓤; H = H; 𝓜 = 𝓜; 𝓖 = 𝓖; 𝓡 = 𝓡 } Code.env Symbol.name Symbol.routine Code.calls-search·marks·kept (Met.met 𝓤 H 𝓜 𝓖 𝓡)) (Reads'.known record { M = M; 𝓤 = 𝓤; H = H; 𝓜 = 𝓜; 𝓖 = 𝓖; 𝓡 = 𝓡 } Code.env Symbol'.name Symbol'.routine Code.calls-search·marks·settle (Met'.met 𝓤 H 𝓜 𝓖 𝓡)) (Reads'4.known record { M = M; 𝓤 = 𝓤; H = H; 𝓜 = 𝓜; 𝓖 = 𝓖; 𝓡 = 𝓡 } Code.env Symbol'4.name Symbol'4.routine Code.calls-search·rounds·finish (Met'4.met 𝓤 H 𝓜 𝓖 𝓡))
+  close = λ closed 𝓤 H 𝓜 𝓖 𝓡. Written.close 7 Reads'6.ps Reads'6.r Reads'6.Ghost Reads'6.requires Reads'6.ensures Reads'6.pre-read Reads'6.Pinned Reads'6.Owned Reads'6.post-read record { M = M; 𝓤 = 𝓤; H = H; 𝓜 = 𝓜; 𝓖 = 𝓖; 𝓡 = 𝓡 } Code.env Key.name Code.function (Code.unfolded 𝓤 H 𝓜 𝓡) (λ κs a g. tt) (λ κs. Reads'6.owns κs record { M = M; 𝓤 = 𝓤; H = H; 𝓜 = 𝓜; 𝓖 = 𝓖; 𝓡 = 𝓡 }) (Reads'6.passes record { M = M; 𝓤 = 𝓤; H = H; 𝓜 = 𝓜; 𝓖 = 𝓖; 𝓡 = 𝓡 }) λ g. closed 𝓤 H (𝓖 .A) (Running.givenOf 𝓤 H 𝓜 𝓖) (Run.Over 𝓤 H 𝓜 𝓖 𝓡 Code.env) (Reads'8.known record { M = M; 𝓤 = 𝓤; H = H; 𝓜 = 𝓜; 𝓖 = 𝓖; 𝓡 = 𝓡 } Code.env Symbol'7.name Symbol'7.routine Code.calls-tables·entries·fill (Met'7.met 𝓤 H 𝓜 𝓖 𝓡)) (Reads'3.known record { M = M; 𝓤 = 𝓤; H = H; 𝓜 = 𝓜; 𝓖 = 𝓖; 𝓡 = 𝓡 } Code.env Symbol'3.name Symbol'3.routine Code.calls-search·marks·start-known (Met'3.met 𝓤 H 𝓜 𝓖 𝓡)) (Reads'9.known record { M = M; 𝓤 = 𝓤; H = H; 𝓜 = 𝓜; 𝓖 = 𝓖; 𝓡 = 𝓡 } Code.env Symbol'8.name Symbol'8.routine Code.calls-tables·spans·span-at (Met'8.met 𝓤 H 𝓜 𝓖 𝓡)) (Reads''.known record { M = M; 𝓤 = 𝓤; H = H; 𝓜 = 𝓜; 𝓖 = 𝓖; 𝓡 = 𝓡 } Code.env Symbol''.name Symbol''.routine Code.calls-search·marks·start-end (Met''.met 𝓤 H 𝓜 𝓖 𝓡)) (Reads'10.known record { M = M; 𝓤 = 𝓤; H = H; 𝓜 = 𝓜; 𝓖 = 𝓖; 𝓡 = 𝓡 } Code.env Symbol'9.name Symbol'9.routine Code.calls-walks·queue·reach (Met'9.met 𝓤 H 𝓜 𝓖 𝓡)) (Reads'7.known record { M = M; 𝓤 = 𝓤; H = H; 𝓜 = 𝓜; 𝓖 = 𝓖; 𝓡 = 𝓡 } Code.env Symbol'6.name Symbol'6.routine Code.calls-search·walk·walk (Met'6.met 𝓤 H 𝓜 𝓖 𝓡)) (Reads'5.known record { M = M; 𝓤 = 𝓤; H = H; 𝓜 = 𝓜; 𝓖 = 𝓖; 𝓡 = 𝓡 } Code.env Symbol'5.name Symbol'5.routine Code.calls-search·rounds·round-end (Met'5.met 𝓤 H 𝓜 𝓖 𝓡)) (Reads.known record { M = M; 𝓤 = 𝓤; H = H; 𝓜 = 𝓜; 𝓖 = 𝓖; 𝓡 = 𝓡 } Code.env Symbol.name Symbol.routine Code.calls-search·marks·kept (Met.met 𝓤 H 𝓜 𝓖 𝓡)) (Reads'.known record { M = M; 𝓤 = 𝓤; H = H; 𝓜 = 𝓜; 𝓖 = 𝓖; 𝓡 = 𝓡 } Code.env Symbol'.name Symbol'.routine Code.calls-search·marks·settle (Met'.met 𝓤 H 𝓜 𝓖 𝓡)) (Reads'4.known record { M = M; 𝓤 = 𝓤; H = H; 𝓜 = 𝓜; 𝓖 = 𝓖; 𝓡 = 𝓡 } Code.env Symbol'4.name Symbol'4.routine Code.calls-search·rounds·finish (Met'4.met 𝓤 H 𝓜 𝓖 𝓡))

@@ -1,4 +1,4 @@
--- The work of the propagation, and what each part of it does to the tables. Each state watches one command that counts, the first
+-- How far the propagation has come, and what each part of it does to the tables. Each state watches one command that counts, the first
 -- that has no outcome in the layers so far; a state whose watched commands run out is lost, and waits in the queue.
 use mathlib.Core.Path.{_≡_}
 use mathlib.Core.Bool.{Bool, true, not, _&&_}
@@ -13,21 +13,21 @@ use Rattle.choice.specs.Within.{within, commandHits}
 use Rattle.propagate.specs.Net.{Net, netOf, from, to, losing, netLayer, Owns}
 
 -- the tables that are written, and where the queue ends
-pub record Work : Type 0 where
+pub record Progress : Type 0 where
   pub ranks : List ℕ
   pub watch : List ℕ
   pub queue : List ℕ
   pub end : ℕ
 
-abbrev pub work : List ℕ → List ℕ → List ℕ → ℕ → Work
-work ranks watch queue end = record { ranks = ranks; watch = watch; queue = queue; end = end }
+abbrev pub progress : List ℕ → List ℕ → List ℕ → ℕ → Progress
+progress ranks watch queue end = record { ranks = ranks; watch = watch; queue = queue; end = end }
 
 -- how many of the first n states have a rank
 unfoldable pub rankCount : ℕ → List ℕ → ℕ
 rankCount n ranks = howMany (λ s. not (eqb (getD ranks s 0) FFFF)) n
 
 -- the queue has states, and no more than have a rank
-pub record QueueBound (n : ℕ) (X : Work) : Type 0 where
+pub record QueueBound (n : ℕ) (X : Progress) : Type 0 where
   pub few : X .end ≤ rankCount n (X .ranks)
   pub states : (i : ℕ) → i < X .end → getD (X .queue) i 0 < n
 
@@ -40,7 +40,7 @@ pub record Watch (N : Net) (A G : ℕ → Bool) (s c : ℕ) : Type 0 where
 
 -- On the way from layers 0 to k of what K gives to layer k + 1. G has the commands still to be looked at, and those of rank k + 1
 -- are in the queue from hi on.
-pub record TowardsLayer (N : Net) (K : ℕ → Bool) (k hi : ℕ) (G : ℕ → Bool) (X : Work) : Type 0 where
+pub record TowardsLayer (N : Net) (K : ℕ → Bool) (k hi : ℕ) (G : ℕ → Bool) (X : Progress) : Type 0 where
   pub ranked : (j s : ℕ) → j ≤ k → s < N .states → within (X .ranks) j s ≡ netLayer N K j s
   pub fresh : (s : ℕ) → s < N .states → k < getD (X .ranks) s 0 → (getD (X .ranks) s 0 ≡ FFFF → ⊥)
       → (getD (X .ranks) s 0 ≡ k + 1) × (losing N (netLayer N K k) s ≡ true)
@@ -49,7 +49,7 @@ pub record TowardsLayer (N : Net) (K : ℕ → Bool) (k hi : ℕ) (G : ℕ → B
 
 -- The commands of which Done holds are looked at. The first commands of the ranges are not in the tables any more, so the way to the next
 -- layer is told for all that it may have begun with.
-pub record Moved (n : ℕ) (C : Lists) (tos owner : List ℕ) (k : ℕ) (Done : ℕ → Type 0) (X Y : Work) : Type 0 where
+pub record Moved (n : ℕ) (C : Lists) (tos owner : List ℕ) (k : ℕ) (Done : ℕ → Type 0) (X Y : Progress) : Type 0 where
   pub towards : (froms : List ℕ) (K G G′ : ℕ → Bool) (hi : ℕ) → hi ≤ X .end → Owns (netOf n C froms tos) owner
       → ((c : ℕ) → c < C .count → G c ≡ true → (Done c → ⊥) → G′ c ≡ true) → TowardsLayer (netOf n C froms tos) K k hi G X
       → TowardsLayer (netOf n C froms tos) K k hi G′ Y
@@ -70,12 +70,12 @@ unfoldable pub waiting : List ℕ → ℕ → ℕ → ℕ → Bool
 waiting queue lo hi o = exists (λ i. leb lo i && eqb (getD queue i 0) o) hi
 
 -- between layers: layers 0 to k have their ranks, and the queue from lo on has all states of rank k
-pub record AtLayer (N : Net) (K : ℕ → Bool) (k lo : ℕ) (X : Work) : Type 0 where
+pub record AtLayer (N : Net) (K : ℕ → Bool) (k lo : ℕ) (X : Progress) : Type 0 where
   pub low : (s : ℕ) → s < N .states → (getD (X .ranks) s 0 ≡ FFFF → ⊥) → getD (X .ranks) s 0 ≤ k
   pub towards : TowardsLayer N K k (X .end) (commandHits (N .commands) (waiting (X .queue) lo (X .end))) X
 
 -- layer k + 1 has its ranks too
-pub record Layered (n : ℕ) (C : Lists) (tos owner : List ℕ) (k lo : ℕ) (X Y : Work) : Type 0 where
+pub record Layered (n : ℕ) (C : Lists) (tos owner : List ℕ) (k lo : ℕ) (X Y : Progress) : Type 0 where
   pub at-layer : (froms : List ℕ) (K : ℕ → Bool) → Owns (netOf n C froms tos) owner → AtLayer (netOf n C froms tos) K k lo X
       → AtLayer (netOf n C froms tos) K (k + 1) (X .end) Y
   pub bound : QueueBound (n) Y
