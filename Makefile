@@ -54,14 +54,15 @@ quick: kit trace
 wrong: kit
 	tests/wrong.sh
 
-# The listing program on every example; on zero bytes, refused past the limit (8), at the limit by their first
-# tag (3), and where there are none (1); where it cannot read or write; and `make run`.
+# The listing program on every example, and on plans of many shapes; on zero bytes, refused past the limit (8),
+# at the limit by their first tag (3), and where there are none (1); where it cannot read or write; and `make run`.
 list-test: kit need-python3 target/bin/list
 	for p in examples/*.plan; do target/bin/list <$$p | cmp - $${p%.plan}.listing || exit 1; done
 	for c in 65537:8 65536:3 0:1; do \
 	    echo "refused $${c#*:}" >target/refused; \
 	    head -c $${c%:*} /dev/zero | target/bin/list | cmp - target/refused || { echo "list-test: $${c%:*} zero bytes" >&2; exit 1; }; \
 	done
+	cd tests && python3 -B list_plans.py ../target/bin/list
 	python3 -B tests/list_errors.py target/bin/list
 	tests/run.sh
 
