@@ -81,7 +81,7 @@ extern "C" {
  */
 
 #define GATE_READ_STACK 49152
-#define GATE_DECIDE_STACK 106496
+#define GATE_DECIDE_STACK 102400
 #define GATE_SEARCH_STACK 56320
 
 /* ---- what the entries say */

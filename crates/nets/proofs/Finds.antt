@@ -33,7 +33,8 @@ module _ (size : Size) (rows : List Row) (firsts outcomes : List ℕ) (sounds : 
       let wide : size .n ≤ length (copied (size .n) r m) = omega (arith, again .same) in
       record {
         ranked = filled-over (v .seeded)
-            (ranks-found size rows firsts outcomes sounds r (omega (arith, v .seeded .same)) (v .seeded .low) w t a (v .begins .low) (v .stops .low));
+            (ranks-found size rows firsts outcomes sounds r (omega (arith, v .seeded .same)) (v .seeded .low) w t a
+            (v .begins .low) (v .stops .low));
         failed = fails-found size rows firsts outcomes sounds (copied (size .n) r m) wide sown (p .froms) t′ (p .failed)
             (λ s l. p .begins s l ∙ v .placed .low s l) (λ s l. p .stops .low s l ∙ rw (v .placed .low s l, v .stops .low s l));
         fails-past = filled-over (v .placed)

@@ -54,7 +54,9 @@ index-2-more-if-5 : tie.Need-index-2-more-if-5
 index-2-more-if-5 c = search needs
 
 more-if-requires-5 : tie.Need-more-if-requires-5
-more-if-requires-5 c κs = count-low (c .before .before .before .before .before .before .before .before .before .pre .2) 1 1 (omega arith) (omega arith)
+more-if-requires-5 c κs =
+    let entry = c .before .before .before .before .before .before .before .before .before in
+    count-low (entry .pre .2) 1 1 (omega arith) (omega arith)
 
 index-1-more-if-6 : tie.Need-index-1-more-if-6
 index-1-more-if-6 c = search needs
@@ -63,14 +65,18 @@ index-2-more-if-6 : tie.Need-index-2-more-if-6
 index-2-more-if-6 c = search needs
 
 more-if-requires-6 : tie.Need-more-if-requires-6
-more-if-requires-6 c κs = count-low (c .before .before .before .before .before .before .before .before .before .before .before .pre .2) 1 2 (omega arith) (omega arith)
+more-if-requires-6 c κs =
+    let entry = c .before .before .before .before .before .before .before .before .before .before .before in
+    count-low (entry .pre .2) 1 2 (omega arith) (omega arith)
 
 returns : tie.Need-returns
 returns c =
-    let p = c .before .before .before .before .before .before .before .before .before .before .before .before .pre in
-    added-is (p .2) _ _ (p .0) (p .1) _ _ _ _ _ _ (c .before .before .before .before .before .before .before .before .before .before .more-if .ensures)
-    (c .before .before .before .before .before .before .before .before .more-if2 .ensures) (c .before .before .before .before .before .before .more-if3 .ensures)
-    (c .before .before .before .before .more-if4 .ensures) (c .before .before .more-if5 .ensures) (c .more-if6 .ensures)
+    let past-more-if4 = c .before .before .before .before in
+    let past-more-if2 = past-more-if4 .before .before .before .before in
+    let p = past-more-if2 .before .before .before .before .pre in
+    added-is (p .2) _ _ (p .0) (p .1) _ _ _ _ _ _ (past-more-if2 .before .before .more-if .ensures) (past-more-if2 .more-if2 .ensures)
+    (past-more-if4 .before .before .more-if3 .ensures) (past-more-if4 .more-if4 .ensures) (c .before .before .more-if5 .ensures)
+    (c .more-if6 .ensures)
 
 pub add-spec : {M : Type 1} → statement M
 add-spec =
