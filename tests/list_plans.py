@@ -8,7 +8,7 @@ from reference import STATES, Plan, State, write
 
 
 def faults(n, named):
-    """n states, of which the last are failing and named[0] is the lowest lost outcome of the practice of state 0; all others are at rest."""
+    """n states: the practice of state 0 may land on 1, which is at rest as all others are, and on those of `named`, which fail."""
     states = [State(0, [[1], sorted({1} | set(named))], 1)] + [rest() for _ in range(n - 1)]
     for x in named:
         states[x] = failing()

@@ -83,8 +83,8 @@ module _ (T : Tables) (q : Span) (s : ℕ) (l : s < T .size .n) (e : q ≡ spanA
     hit-read i k =
         let c = triedAt (planIn T) s i in
         let first-is : q .first ≡ firstCommand T s = ap (λ (p : Span). p .first) e in
-        rw (tried-read i, first-is)
-        (ap (λ (xs : List ℕ). found (least K xs)) (sym (outcomes-held T s l c (rw (commands-held T s l) at (tried-below (planIn T) s i k)))))
+        let own = rw (commands-held T s l) at (tried-below (planIn T) s i k) in
+        rw (tried-read i, first-is) (ap (λ (xs : List ℕ). found (least K xs)) (sym (outcomes-held T s l c own)))
 
     pub all-alone : {k : ℕ} → AllHit (planIn T) K s k → AllHit (alone (listsIn T) q) K 0 k
     all-alone v = record {

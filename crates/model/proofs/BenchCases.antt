@@ -73,8 +73,8 @@ verdict-examples : map verdicts (
     ∷ ((3 ∷ 2 ∷ 1 ∷ 0 ∷ []) ∷ (FFFF ∷ FFFF ∷ FFFF ∷ FFFF ∷ []) ∷ (0 ∷ 0 ∷ 0 ∷ 1 ∷ []) ∷ [])
     ∷ ((FFFF ∷ 1 ∷ 0 ∷ []) ∷ (1 ∷ FFFF ∷ FFFF ∷ []) ∷ (2 ∷ 0 ∷ 1 ∷ []) ∷ [])
     ∷ []
-unfolding any first every orElse lowest found grow tabulate entry ordinary failing active hasPractice lesser least hit hits forced rank lost safe tryOrder
-    choice chosen practiceHits practiceFails fault mark stateOf planOf rankTable commandTable markTable
+unfolding any first every orElse lowest found grow tabulate entry ordinary failing active hasPractice lesser least hit hits forced rank
+    lost safe tryOrder choice chosen practiceHits practiceFails fault mark stateOf planOf rankTable commandTable markTable
 verdict-examples = refl
 
 -- ---- the search: verdict, rounds and commands, from a start
@@ -91,8 +91,8 @@ search-examples : map (searched (acting FFFF ((1 ∷ []) ∷ []) ∷ acting FFFF
     ∷ (1 ∷ 0 ∷ FFFF ∷ FFFF ∷ FFFF ∷ FFFF ∷ [])
     ∷ (0 ∷ 1 ∷ 0 ∷ 0 ∷ FFFF ∷ FFFF ∷ []) ∷ (0 ∷ 0 ∷ FFFF ∷ FFFF ∷ FFFF ∷ FFFF ∷ []) ∷ (0 ∷ 0 ∷ FFFF ∷ FFFF ∷ FFFF ∷ FFFF ∷ [])
     ∷ []
-unfolding any first every exists orElse lowest found grow tabulate entry ordinary failing active resting hasPractice lesser least hit hits tryOrder choice
-    lands next marked withoutMarks ends before atOnce inRounds search stateOf planOf resultTable
+unfolding any first every exists orElse lowest found grow tabulate entry ordinary failing active resting hasPractice lesser least hit hits
+    tryOrder choice lands next marked withoutMarks ends before atOnce inRounds search stateOf planOf resultTable
 search-examples = refl
 
 -- ---- reading: the order of the checks
@@ -163,8 +163,8 @@ sound-examples : map sound (
     ∷ lent 1 1 1 0 (0 ∷ 0 ∷ 0 ∷ []) [] (0 ∷ [])
     ∷ [])
     ≡ true ∷ true ∷ false ∷ false ∷ false ∷ false ∷ false ∷ true ∷ false ∷ false ∷ []
-unfolding every rowAt firstCommand commandCount sizeSound tablesLong rowSound risesAt listSound entrySound listsSound sound rowsIn tabulate
-    startOf
+unfolding every rowAt firstCommand commandCount sizeSound tablesLong rowSound risesAt listSound entrySound listsSound sound rowsIn
+    tabulate startOf
 sound-examples = refl
 
 -- ---- the calls: what is answered, and every lent table afterwards
@@ -180,7 +180,8 @@ decide-example : decideCall fork (replicate 4 7) (replicate 4 7) (replicate 4 7)
   marks = 0 ∷ 0 ∷ 0 ∷ 7 ∷ [];
   scratch = 0 ∷ 0 ∷ 0 ∷ 7 ∷ [];
 }
-unfolding any first every orElse lowest found howMany grow tabulate overwrite entry ordinary failing active hasPractice lesser least hit hits forced rank
+unfolding any first every orElse lowest found howMany grow tabulate overwrite entry ordinary failing active hasPractice lesser least hit
+    hits forced rank
     lost safe tryOrder choice chosen practiceHits practiceFails fault mark tallyRow tally answer _>>=_ need _>>_ rowAt firstCommand
     commandCount listAt sizeSound tablesLong rowSound risesAt listSound entrySound listsSound sound stateAt treeOf stateOf planOf planIn
     rowsIn left deciding rankTable commandTable markTable cleared startOf
@@ -197,13 +198,14 @@ decide-cramped : decideCall loop (7 ∷ []) (7 ∷ []) (7 ∷ []) [] ≡ record 
   marks = 7 ∷ [];
   scratch = [];
 }
-unfolding every answer need _>>_ rowAt firstCommand commandCount sizeSound tablesLong rowSound risesAt listSound entrySound listsSound sound
-    rowsIn tabulate left deciding startOf
+unfolding every answer need _>>_ rowAt firstCommand commandCount sizeSound tablesLong rowSound risesAt listSound entrySound listsSound
+    sound rowsIn tabulate left deciding startOf
 decide-cramped = refl
 
 search-example : searchCall fork 0 (replicate 4 7) (replicate 4 7)
     ≡ record { answers = given (false, 1); commands = 0 ∷ FFFF ∷ FFFF ∷ 7 ∷ []; scratch = 0 ∷ 0 ∷ 0 ∷ 7 ∷ [] }
-unfolding any first every exists orElse lowest found grow tabulate overwrite entry ordinary failing active resting hasPractice lesser least hit hits tryOrder
+unfolding any first every exists orElse lowest found grow tabulate overwrite entry ordinary failing active resting hasPractice lesser
+    least hit hits tryOrder
     choice lands next marked withoutMarks ends before atOnce inRounds search answer _>>=_ need _>>_ rowAt firstCommand commandCount listAt
     sizeSound tablesLong rowSound risesAt listSound entrySound listsSound sound stateAt treeOf stateOf planOf planIn rowsIn left searching
     resultTable cleared startOf
@@ -213,8 +215,8 @@ search-example = refl
 search-refusals : searchCall (lent 1 1 2 0 (0 ∷ 0 ∷ 0 ∷ []) (0 ∷ []) (0 ∷ [])) 1 [] [] .answers ∷ searchCall loop 1 [] [] .answers
     ∷ searchCall loop 0 [] [] .answers ∷ []
     ≡ refused Unsound ∷ refused Stranger ∷ refused Cramped ∷ []
-unfolding every answer need _>>_ rowAt firstCommand commandCount sizeSound tablesLong rowSound risesAt listSound entrySound listsSound sound
-    rowsIn tabulate searching startOf
+unfolding every answer need _>>_ rowAt firstCommand commandCount sizeSound tablesLong rowSound risesAt listSound entrySound listsSound
+    sound rowsIn tabulate searching startOf
 search-refusals = refl
 
 -- ---- the C boundary

@@ -21,15 +21,16 @@ late = planned (acting FFFF ((1 ∷ 2 ∷ 3 ∷ []) ∷ (1 ∷ 3 ∷ []) ∷ [])
     ∷ acting FFFF ((2 ∷ []) ∷ []) ∷ failed ∷ [])
 
 pub marks-at-the-end : search late 0 .rounds ≡ 3
-unfolding any first every exists orElse lowest found grow tabulate ordinary failing active resting hasPractice lesser least hit hits tryOrder choice lands
-    next marked withoutMarks ends before atOnce inRounds search stateOf planOf
+unfolding any first every exists orElse lowest found grow tabulate ordinary failing active resting hasPractice lesser least hit hits
+    tryOrder choice lands next marked withoutMarks ends before atOnce inRounds search stateOf planOf
 marks-at-the-end = refl
 
 -- the sets known after 0, 1, 2 and 3 rounds
 pub known-after-rounds : map (λ j. tabulate (known late 0 j) 0 5) (0 ∷ 1 ∷ 2 ∷ 3 ∷ [])
     ≡ (false ∷ false ∷ false ∷ false ∷ true ∷ []) ∷ (false ∷ false ∷ true ∷ false ∷ true ∷ []) ∷ (false ∷ true ∷ true ∷ true ∷ true ∷ [])
     ∷ (true ∷ true ∷ true ∷ true ∷ true ∷ []) ∷ []
-unfolding any first exists found grow tabulate ordinary failing active hasPractice lesser least hit hits tryOrder choice lands next marked stateOf planOf
+unfolding any first exists found grow tabulate ordinary failing active hasPractice lesser least hit hits tryOrder choice lands next marked
+    stateOf planOf
 known-after-rounds = refl
 
 -- 0 with {1} and {2}; 1 with {4}; 2 with {3}; 3 with {4}; 4 failing. The rounds mark 1, then 3, then 2, then 0: round 1 does not walk 3.
@@ -39,6 +40,6 @@ aside = planned (acting FFFF ((1 ∷ []) ∷ (2 ∷ []) ∷ []) ∷ acting FFFF 
     ∷ acting FFFF ((4 ∷ []) ∷ []) ∷ failed ∷ [])
 
 pub only-walked : search aside 0 .rounds ≡ 4
-unfolding any first every exists orElse lowest found grow tabulate ordinary failing active resting hasPractice lesser least hit hits tryOrder choice lands
-    next marked withoutMarks ends before atOnce inRounds search stateOf planOf
+unfolding any first every exists orElse lowest found grow tabulate ordinary failing active resting hasPractice lesser least hit hits
+    tryOrder choice lands next marked withoutMarks ends before atOnce inRounds search stateOf planOf
 only-walked = refl

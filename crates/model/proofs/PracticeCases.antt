@@ -22,13 +22,15 @@ case-a-bugs : answer (λ p. tabulate (bug (planOf p)) 0 6 ∷ tabulate (fault (p
     (read caseA)
     ≡ given ((true ∷ true ∷ false ∷ false ∷ false ∷ false ∷ []) ∷ (true ∷ false ∷ false ∷ false ∷ false ∷ false ∷ [])
     ∷ (true ∷ true ∷ false ∷ true ∷ true ∷ false ∷ []) ∷ [])
-unfolding every orElse lowest found grow tabulate ordinary failing active hasPractice lesser least hit hits forced rank lost safe practiceHits
+unfolding every orElse lowest found grow tabulate ordinary failing active hasPractice lesser least hit hits forced rank lost safe
+    practiceHits
     practiceFails bug fault answer _>>=_ need _>>_ field head state entries rising command commands states read stateOf planOf
 case-a-bugs = refl
 
 -- at its one fault state 3 is named: outcome 2 of the practice is safe
 case-a-named : answer (λ p. tabulate (faultOutcome (planOf p)) 0 6) (read caseA) ≡ given (some 3 ∷ none ∷ none ∷ none ∷ none ∷ none ∷ [])
-unfolding every orElse lowest found grow tabulate ordinary failing active hasPractice lesser least hit hits forced rank lost safe practiceHits
+unfolding every orElse lowest found grow tabulate ordinary failing active hasPractice lesser least hit hits forced rank lost safe
+    practiceHits
     fault faultOutcome answer _>>=_ need _>>_ field head state entries rising command commands states read stateOf planOf
 case-a-named = refl
 
@@ -38,8 +40,8 @@ several-lost : tabulate
     (faultOutcome (planned (acting 1 ((1 ∷ []) ∷ (1 ∷ 3 ∷ 4 ∷ []) ∷ []) ∷ rest ∷ acting FFFF ((1 ∷ []) ∷ (3 ∷ []) ∷ []) ∷ failed ∷ failed
     ∷ acting 0 ((4 ∷ []) ∷ []) ∷ []))) 0 6
     ≡ some 3 ∷ none ∷ none ∷ none ∷ none ∷ none ∷ []
-unfolding every orElse lowest found grow tabulate ordinary failing active hasPractice lesser least hit hits forced rank lost safe practiceHits
-    fault faultOutcome stateOf planOf
+unfolding every orElse lowest found grow tabulate ordinary failing active hasPractice lesser least hit hits forced rank lost safe
+    practiceHits fault faultOutcome stateOf planOf
 several-lost = refl
 
 -- the least, wherever it stands

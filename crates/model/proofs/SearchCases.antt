@@ -16,7 +16,8 @@ use Rattle.model.specs.Bench.{caseA, chain}
 -- Case A: the last walk reaches 0 and 1. Were it none, demand 3 would compare no command; were it the first walk, 2 and 3 too.
 reached-last : answer (λ p. tabulate (search (planOf p) 0 .reached) 0 6) (read caseA)
     ≡ given (true ∷ true ∷ false ∷ false ∷ false ∷ false ∷ [])
-unfolding any first every exists orElse lowest found grow tabulate ordinary failing active resting hasPractice lesser least hit hits tryOrder choice lands
+unfolding any first every exists orElse lowest found grow tabulate ordinary failing active resting hasPractice lesser least hit hits
+    tryOrder choice lands
     next marked withoutMarks ends before atOnce inRounds search answer _>>=_ need _>>_ field head state entries rising command commands
     states read stateOf planOf
 reached-last = refl
