@@ -12,7 +12,7 @@ use Rattle.model.proofs.RoundTrips.{read-write}
 use Rattle.tables.specs.declared.Size.{Size}
 use Rattle.tables.specs.declared.Row.{Row}
 use Rattle.tables.specs.declared.Refusal.{Refusal}
-use Rattle.tables.specs.Meaning.{numbers, refusalOf, rowsOf, held}
+use Rattle.tables.specs.Meaning.{refusalOf, rowsOf, held}
 use Rattle.reading.specs.declared.ReadAnswer.{ReadAnswer}
 use Rattle.reading.specs.declared.ReadAnswer.the-variants.{Given, Refused}
 use Rattle.reading.specs.Answers.{afterRead, answerOf as readAnswer}

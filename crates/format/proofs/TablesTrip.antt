@@ -9,7 +9,7 @@ use Rattle.model.specs.Bytes.{bytesOf}
 use Rattle.model.specs.Tables.{Tables, Same, fileLength}
 use Rattle.model.specs.Sound.{Sound}
 use Rattle.model.specs.Held.{treeOf}
-use Rattle.model.specs.Calls.{AfterWrite, AfterRead, writing, readCall, writeCall}
+use Rattle.model.specs.Calls.{AfterWrite, writing, readCall, writeCall}
 use Rattle.model.proofs.Answers.{answer-inv}
 use Rattle.model.proofs.Answering.{writing-iff}
 use Rattle.model.proofs.Soundness.{sound-iff}

@@ -7,7 +7,7 @@ ghost use Rattle.model.specs.Refusal.{given, refused};
 ghost use Rattle.model.specs.Tables.{Size as ModelSize, Same, fileLength};
 ghost use Rattle.model.specs.Sound.{Sound};
 ghost use Rattle.model.specs.Calls.{readCall};
-ghost use Rattle.tables.specs.Meaning.{numbers, refusalOf, rowsOf, held};
+ghost use Rattle.tables.specs.Meaning.{refusalOf, rowsOf, held};
 ghost use Rattle.reading.specs.Answers.{answerOf as readAnswer};
 ghost use Rattle.writing.specs.Answers.{answerOf as writeAnswer};
 ghost use Rattle.format.specs.Trips.{readWriteCall, writeReadCall};

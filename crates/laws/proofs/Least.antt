@@ -1,6 +1,6 @@
 -- Laws of the least member of a list that passes a test: what it is, that there is one exactly if some member passes, and that in a part of
 -- a table whose entries rise it is the first.
-use mathlib.Core.Path.{_≡_, refl, sym, ap, ap₂, _∙_, subst}
+use mathlib.Core.Path.{_≡_, refl, sym, ap, ap₂, subst}
 use mathlib.Core.Bool.{Bool, true, false, not, cond}
 use mathlib.Core.Logic.{⊎-elim}
 use mathlib.Core.List.{List, [], _∷_, List·Memᴰ, List·Memᴰ·head, List·Memᴰ·tail, List·Memᴰ·not-nil, List·Memᴰ·cases-cons}
@@ -16,7 +16,7 @@ use borrow.Author.Tests.{ltb-true, ltb-false, not-true, not-false}
 use Rattle.laws.specs.Sets.{any, lesser, least, found}
 use Rattle.laws.specs.First.{FirstNot}
 use Rattle.laws.specs.Rising.{RisesIn}
-use Rattle.laws.proofs.Tests.{clash, true-or-false, same-test}
+use Rattle.laws.proofs.Tests.{clash, same-test}
 use Rattle.laws.proofs.Sets.{any-hit, any-of}
 use Rattle.laws.proofs.Slices.{slice-at, slice-mem}
 

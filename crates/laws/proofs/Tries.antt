@@ -1,6 +1,6 @@
--- A loop that tries the numbers of a range, one after another, and stops at the first of which a test does not hold: its answer, counted
--- from where the range begins, is the lowest, as a table holds it; where the numbers are places of a list, the first member is found there.
-use mathlib.Core.Path.{_≡_, refl, sym, ap, _∙_}
+-- A loop that tries the numbers of a range, one after another, and stops at the first of which a test does not hold; where the numbers are
+-- places of a list, the first member is found there.
+use mathlib.Core.Path.{_≡_, refl}
 use mathlib.Core.Bool.{Bool, true, false, not}
 use mathlib.Core.List.{List, [], _∷_}
 use mathlib.Core.Option.{Option, none, some}
@@ -35,21 +35,6 @@ module _ {f : ℕ → Bool} {a c : ℕ} (v : FirstNot f a c c) where
 
   pub first-done : (e : ℕ) → c ≤ e → e ≤ c → FirstNot f a e c
   first-done e g h = record { since = v .since; until = g; before = v .before; stops = λ p. absurd (omega arith) }
-
-module _ {f : ℕ → Bool} {a e r : ℕ} (v : FirstNot f a e r) where
-  before-first : (i : ℕ) → a + i < r → not (f (a + i)) ≡ false
-  before-first i l = ap not (v .before (a + i) (omega arith) l)
-
-  pub first-found : r < e → r - a ≡ entry (lowest (λ i. not (f (a + i))) (e - a))
-  unfolding entry
-  first-found l =
-      let back : a + (r - a) ≡ r = omega (arith, v .since) in
-      sym (ap entry (lowest-eq (λ i. not (f (a + i))) (e - a) (some (r - a))
-      (omega (arith, v .since), ap (λ (i : ℕ). not (f i)) back ∙ ap not (v .stops l), λ i k. before-first i (omega arith))))
-
-  pub first-missing : e ≤ r → FFFF ≡ entry (lowest (λ i. not (f (a + i))) (e - a))
-  unfolding entry
-  first-missing l = sym (ap entry (lowest-eq (λ i. not (f (a + i))) (e - a) none (λ i k. before-first i (omega arith))))
 
 -- ---- the members of a list, tried by their places
 

@@ -11,7 +11,6 @@ use Rattle.laws.specs.Lists.{overwrite}
 use Rattle.laws.specs.Wrote.{Wrote}
 use Rattle.laws.proofs.Lists.{take-overwrite}
 use Rattle.laws.proofs.Writes.{put-front}
-use Rattle.laws.proofs.Wrote.{wrote-length}
 use Rattle.model.specs.Refusal.{Limit}
 use Rattle.model.specs.File.{read}
 use Rattle.model.specs.Tables.{Size as ModelSize, Tables}

@@ -8,7 +8,6 @@ use lib.ListN.{length, getD}
 use Rattle.laws.specs.Lists.{tabulate, overwrite}
 use Rattle.laws.specs.Entry.{FFFF, entry}
 use Rattle.laws.proofs.Lists.{length-tabulate, tabulate-at, getD-overwrite-below}
-use Rattle.model.specs.Plan.{Plan}
 use Rattle.model.specs.Verdict.{rank}
 use Rattle.model.specs.Command.{chosen}
 use Rattle.model.specs.Practice.{tally}

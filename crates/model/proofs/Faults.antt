@@ -1,6 +1,6 @@
 -- The outcome that is named at a fault: a lost outcome of the practice, and the lowest; one is named exactly at faults.
 use mathlib.Core.Path.{_≡_, refl, sym, ap, _∙_}
-use mathlib.Core.Bool.{Bool, true, false, cond, _&&_}
+use mathlib.Core.Bool.{true, false}
 use mathlib.Core.Logic.{_↔_, ⊎-elim}
 use mathlib.Core.List.{List, _∷_, List·Memᴰ}
 use mathlib.Core.Option.{Option, none, some}
@@ -12,7 +12,6 @@ use borrow.Author.Tests.{ltb-true}
 use Rattle.laws.specs.Sets.{least, found}
 use Rattle.laws.specs.Entry.{FFFF, entry, fromEntry}
 use Rattle.laws.proofs.Tests.{clash, true-or-false, refute, and-both}
-use Rattle.laws.proofs.Sets.{found-is}
 use Rattle.laws.proofs.EntryFound.{from-entry}
 use Rattle.laws.proofs.Least.{least-some, least-eq}
 use Rattle.model.specs.Plan.{Plan, Valid, hasPractice}

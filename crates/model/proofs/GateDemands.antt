@@ -1,7 +1,7 @@
 -- Demand 3 over the bytes that the C program's calls leave: entries that were written are read as they were, so it is the claim of the
 -- tables.
 use mathlib.Core.Path.{_≡_, refl, sym, ap, ap₂, _∙_}
-use mathlib.Core.Bool.{Bool, true, false, cond, _&&_}
+use mathlib.Core.Bool.{Bool, true, false, cond}
 use mathlib.Core.List.{List, [], _∷_, _++_}
 use Prim.Native.Nat.{ℕ, zero, suc, _+_, _-_, _*_, _/_, _%_, _≤_}
 use native.Mathlib.Nat.{zero-add}
@@ -11,7 +11,7 @@ use lib.ListN.{length, drop, length-append, length-drop}
 use lib.Seq.{drop-drop}
 use borrow.Author.Tests.{leb-true}
 use Rattle.laws.specs.Lists.{tabulate, overwrite}
-use Rattle.laws.specs.Entry.{be16, twos, entry}
+use Rattle.laws.specs.Entry.{twos, entry}
 use Rattle.laws.proofs.Entry.{be16-two, length-twos}
 use Rattle.laws.proofs.Lists.{length-tabulate}
 use Rattle.model.specs.Plan.{Plan}

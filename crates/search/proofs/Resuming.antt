@@ -18,7 +18,6 @@ use Rattle.laws.proofs.Tests.{clash, true-or-false, refute, or-cases, or-left}
 use Rattle.model.specs.Plan.{Plan, Valid}
 use Rattle.model.specs.Verdict.{hits}
 use Rattle.model.specs.Command.{choice}
-use Rattle.model.specs.Search.{marked}
 use Rattle.model.proofs.Choices.{hits-is, hits-of, misses, choice-some, choice-same}
 use Rattle.model.proofs.Walks.{lands-of}
 use Rattle.walks.specs.Flags.{knownIn, walkedIn}

@@ -1,5 +1,4 @@
 -- The text is written at the front of zeros, which is what is answered.
-use native.Mathlib.Omega.{arith}
 use borrow.Author.Needs.{needs}
 use Rattle.listing.proofs.Files.{text-stands}
 use Rattle.listing.proofs.text_of.Statement.{statement}

@@ -5,7 +5,7 @@ use Prim.Native.Nat.{suc, _-_}
 use native.Mathlib.Omega.{arith}
 use borrow.Author.Needs.{needs}
 use Rattle.model.specs.Held.{planIn}
-use Rattle.model.specs.Search.{before, known}
+use Rattle.model.specs.Search.{before}
 use Rattle.tables.specs.Meaning.{held}
 use Rattle.walks.proofs.Room.{queued-few}
 use Rattle.walks.proofs.Spreads.{queued-none}
