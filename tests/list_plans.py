@@ -22,6 +22,7 @@ def plans():
         yield faults(STATES, named)
     yield Plan([State(0, [[1], [2]], 1), rest(), State(0, [[3]]), failing()])  # a fault whose practice holds
     yield Plan([State(0, [[0], [0, 1]], 1), failing(), State(0, [[1]], 0)])  # of two hits, only that at the safe state is a fault
+    yield Plan([State(0, [[1], [1, 2, 3]], 1), rest(), State(0, [[3]]), failing()])  # named is 2, of rank 1, and not 3, which fails
     for seed in range(100, 160):
         yield scattered(seed, 6 + seed % 7, 3, 4, (9, 1, 2))
     for seed in range(160, 170):
@@ -40,6 +41,8 @@ def main():
             sys.exit(f"list_plans: plan {tried}: {line[0]!r} for {line[1]!r}")
         tried += 1
         signs += sum(" !" in line for line in want.split("\n"))
+    if signs < 100:
+        sys.exit(f"list_plans: {signs} faults are too few to tell")
     print(f"listed {tried} plans, {signs} faults")
 
 

@@ -1,4 +1,4 @@
-"""Plans of many shapes, for the bench program."""
+"""Plans of many shapes, for the bench program and the listing program."""
 import random
 
 from reference import NONE, STATES, Plan, State
@@ -54,7 +54,7 @@ def case_a():
 
 
 def shapes():
-    """The plans that the bench program runs."""
+    """The plans that the bench program runs, and the listing program beside others."""
     yield case_a()
     yield Plan([rest()])
     yield Plan([failing()])

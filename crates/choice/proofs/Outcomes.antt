@@ -1,4 +1,4 @@
--- The places of a list, and whether a command has an outcome in a set by what is read there.
+-- The places of a list, and the lowest outcome that a command has in a set, by what is read there.
 use mathlib.Core.Path.{_≡_, refl, sym, ap, _∙_}
 use mathlib.Core.Bool.{Bool, true, false, not}
 use Prim.Native.Nat.{ℕ, _+_, _<_, _≤_, suc}

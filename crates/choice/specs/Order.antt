@@ -1,4 +1,4 @@
--- The places of the trying order, and what was read of a state as a plan, of which that order speaks.
+-- The trying order by its places, and a plan of one state, made of what was read of it.
 use mathlib.Core.Path.{_≡_}
 use mathlib.Core.Bool.{Bool, true}
 use Prim.Native.Nat.{ℕ, _+_, _-_, _<_, _≤_}
@@ -34,7 +34,7 @@ triedAt P s i = getD (tryOrder P s) i FFFF
 unfoldable pub hitAt : Plan → (ℕ → Bool) → ℕ → ℕ → Bool
 hitAt P K s i = hits P K s (triedAt P s i)
 
--- the commands at the first k places have
+-- the order has k places, and the command at each of the first k has an outcome in K
 pub record AllHit (P : Plan) (K : ℕ → Bool) (s k : ℕ) : Type 0 where
   pub part : k ≤ places P s
   pub hit : (i : ℕ) → i < k → hitAt P K s i ≡ true

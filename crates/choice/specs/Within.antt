@@ -1,4 +1,4 @@
--- A set of states that a table holds, and the commands that stay out of it.
+-- A set of states that a table holds, and the lowest outcome that a command has in it.
 use mathlib.Core.Bool.{Bool}
 use mathlib.Core.List.{List}
 use mathlib.Core.Option.{Option}

@@ -13,11 +13,12 @@ use Rattle.laws.proofs.Agree.{Agree}
 use Rattle.model.specs.Plan.{Plan, hasPractice}
 use Rattle.model.specs.Verdict.{lost, safe}
 use Rattle.model.specs.Command.{choice, chosen}
-use Rattle.model.specs.Practice.{practiceFails, fault, mark, tallyOf, tally}
+use Rattle.model.specs.Practice.{practiceFails, mark, tallyOf, tally}
 use Rattle.model.specs.Tables.{Tables}
 use Rattle.model.specs.SoundTest.{sound}
 use Rattle.model.specs.Held.{planIn}
 use Rattle.model.specs.Calls.{rankTable, commandTable, markTable, cleared}
+use Rattle.model.proofs.PracticeHits.{fault-hits}
 use Rattle.model.proofs.HeldPlan.{states-held}
 use Rattle.tables.specs.declared.Row.{Row}
 use Rattle.tables.specs.declared.Size.{Size}
@@ -58,8 +59,8 @@ module _ (T : Tables) (sounds : sound T ≡ true) (L F : ℕ → Bool) (losts : 
       (ap entry (lost-or-safe (lost P s) none (choice P (lost P) s)))
 
   mark-found : (s : ℕ) → s < T .size .n → markAt P L (F s) s ≡ mark P s
-  unfolding markAt oneIf mark fault safe
-  mark-found s l = rw (fails s l, losts s l, practice-hits-agree T sounds L (lost P) losts s l)
+  unfolding markAt oneIf mark safe
+  mark-found s l = rw (fault-hits P s, fails s l, losts s l, practice-hits-agree T sounds L (lost P) losts s l)
 
   tally-found : tallyOf L (hasPractice P) F (T .size .n) ≡ tally P
   tally-found =

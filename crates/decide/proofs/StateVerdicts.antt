@@ -16,6 +16,7 @@ use Rattle.model.specs.Practice.{practiceHits, markOf}
 use Rattle.model.specs.Tables.{Tables}
 use Rattle.model.specs.SoundTest.{sound}
 use Rattle.model.specs.Held.{planIn}
+use Rattle.model.proofs.PracticeHits.{practice-hits-words}
 use Rattle.model.proofs.HeldPlan.{practice-held}
 use Rattle.choice.proofs.Taken.{span-inside, entry-fits}
 use Rattle.tables.specs.declared.Row.{Row}
@@ -79,10 +80,10 @@ module _ (T : Tables) (sounds : sound T ≡ true) (s : ℕ) (l : s < T .size .n)
 
   pub fault-read : (lost : Bool) (c : ℕ) → c ≡ entry (unlessLost lost (choice (planIn T) L s))
       → (not lost && (practised q && not (eqb c (q .practice)))) ≡ (not lost && practiceHits (planIn T) L s)
-  unfolding practiceHits unlessLost
+  unfolding unlessLost
   fault-read true c e = refl
-  fault-read false c e = and-when (practised q) (hasPractice (planIn T) s) _ _ given-is
-      (λ g. rw practice-is (not-practice T sounds s l g L c e))
+  fault-read false c e = rw (practice-hits-words (planIn T) L s) (and-when (practised q) (hasPractice (planIn T) s) _ _ given-is
+      (λ g. rw practice-is (not-practice T sounds s l g L c e)))
 
 -- ---- marks and columns
 

@@ -67,7 +67,8 @@ fn command_of(
     choose(size, span, firsts, outcomes, ranks, HIGHEST)
 }
 
-// Whether the state, of which `span` was read, is a fault: it is safe, and the command chosen there is not the practice that it has.
+// Whether the state, of which `span` was read, is a fault: it is safe, and the command chosen there is not the practice that it has. The
+// practice is tried first, so another command is chosen only if the practice has a lost outcome.
 fn is_fault(span: Span, lost: bool, command: usize) -> bool
     requires { ⌜ span .first ≤ span .end ⌝ }
     ensures { λ r. ⌜ r ≡ (not lost && (practised span && not (eqb command (span .practice)))) ⌝ }

@@ -5,7 +5,7 @@ use mathlib.Core.Bool.{Bool, true, false, not, cond}
 use mathlib.Core.Logic.{⊎-elim}
 use mathlib.Core.List.{List, [], _∷_, List·Memᴰ, List·Memᴰ·head, List·Memᴰ·tail, List·Memᴰ·not-nil, List·Memᴰ·cases-cons}
 use mathlib.Core.Option.{Option, none, some}
-use Prim.Native.Nat.{ℕ, zero, suc, _+_, _-_, _<_, _≤_}
+use Prim.Native.Nat.{ℕ, _-_, _<_, _≤_}
 use native.Mathlib.Nat.{le-antisymm}
 use native.Mathlib.Decide.{decLt}
 use native.Mathlib.Omega.{arith}
@@ -18,6 +18,7 @@ use Rattle.laws.specs.First.{FirstNot}
 use Rattle.laws.specs.Rising.{RisesIn}
 use Rattle.laws.proofs.Tests.{clash, same-test}
 use Rattle.laws.proofs.Sets.{any-hit, any-of}
+use Rattle.laws.proofs.Rising.{rises-along}
 use Rattle.laws.proofs.Slices.{slice-at, slice-mem}
 
 -- what `least` answers
@@ -102,18 +103,6 @@ least-same f g (x ∷ xs) h =
     (least-same f g xs (λ y m. h y (List·Memᴰ·tail m)))
 
 -- ---- in a part of a table
-
--- entries that rise
-rises-more : {l : List ℕ} {a e : ℕ} → RisesIn l a e → (i d : ℕ) → a ≤ i → i + d < e → getD l i 0 ≤ getD l (i + d) 0
-rises-more {l} r i zero p q = let z : i + zero ≡ i = omega arith in rw z (omega arith)
-rises-more {l} r i (suc d) p q =
-    let z : i + suc d ≡ suc (i + d) = omega arith in
-    rw z (omega (arith, rises-more r i d p (omega arith), r .next (i + d) (omega arith) (omega arith)))
-
-pub rises-along : {l : List ℕ} {a e : ℕ} → RisesIn l a e → (i j : ℕ) → a ≤ i → i ≤ j → j < e → getD l i 0 ≤ getD l j 0
-rises-along {l} r i j p q h =
-    let z : i + (j - i) ≡ j = omega arith in
-    subst (λ (k : ℕ). getD l i 0 ≤ getD l k 0) z (rises-more r i (j - i) p (omega arith))
 
 -- the first place whose entry passes has the least
 module _ (f : ℕ → Bool) (l : List ℕ) (a e r : ℕ) (p : a ≤ e) (long : e ≤ length l) (v : FirstNot (λ i. not (f (getD l i 0))) a e r) where

@@ -15,7 +15,7 @@ unfoldable pub first : (ℕ → Bool) → List ℕ → Option ℕ
 first f [] = none
 first f (x ∷ xs) = cond (f x) (some x) (first f xs)
 
--- a number, or another one that is less
+-- the lesser of a number and another, if there is another
 unfoldable pub lesser : ℕ → Option ℕ → ℕ
 lesser x none = x
 lesser x (some y) = cond (ltb y x) y x

@@ -3,7 +3,7 @@ use mathlib.Core.Path.{_≡_, sym, ap, _∙_}
 use mathlib.Core.Bool.{Bool, true, cond}
 use mathlib.Core.List.{List}
 use mathlib.Core.Logic.{⊎-elim}
-use mathlib.Core.Option.{none}
+use mathlib.Core.Option.{Option, none}
 use Prim.Native.Nat.{ℕ, _+_, _<_, _≤_}
 use native.Mathlib.Omega.{arith}
 use lib.Dec.{leb}
@@ -20,7 +20,7 @@ use Rattle.model.specs.Tables.{Tables, Lists, listsIn}
 use Rattle.model.specs.Places.{rowAt, firstCommand, commandCount}
 use Rattle.model.specs.Held.{planIn}
 use Rattle.model.specs.SoundTest.{sound}
-use Rattle.model.proofs.Faults.{fault-given}
+use Rattle.model.proofs.Faults.{fault-given, at-fault, no-fault}
 use Rattle.model.proofs.HeldPlan.{states-held, practice-held, commands-held}
 use Rattle.model.proofs.Layers.{rank-bound}
 use Rattle.model.proofs.SoundFacts.{sound-facts}
@@ -75,17 +75,18 @@ module _ (T : Tables) (sounds : sound T ≡ true) (ranks : List ℕ)
   own : fault P s ≡ true → rowAt T s .practice < commandCount T s
   own f = rw (practice-held T s l, commands-held T s l) at (fault-given P s f)
 
+  abbrev tested : Option ℕ
+  tested = commandHit (listsIn T) (within ranks highest) (firstCommand T s + rowAt T s .practice)
+
+  practice-tested : fault P s ≡ true → tested ≡ hit P (lost P) s (P .practice s)
+  practice-tested f =
+      sym (ranked-hit P few ranks is-rank (sound-valid T sounds) s (P .practice s) in-plan (fault-given P s f)
+      ∙ rw (practice-held T s l) (hit-held T (within ranks highest) s l (rowAt T s .practice) (own f)))
+
   pub named-is : namedAt (listsIn T) ranks (spanAt T s) m ≡ faultOutcome P s
-  unfolding faultOutcome
-  named-is = ap (λ (b : Bool). cond b (commandHit (listsIn T) (within ranks highest) (firstCommand T s + rowAt T s .practice)) none) says
-      ∙ ⊎-elim at-fault (λ e. rw e) (true-or-false (fault P s))
-    where
-      at-fault : fault P s ≡ true
-          → cond (fault P s) (commandHit (listsIn T) (within ranks highest) (firstCommand T s + rowAt T s .practice)) none
-          ≡ cond (fault P s) (hit P (lost P) s (P .practice s)) none
-      at-fault f =
-          rw f (sym (ranked-hit P few ranks is-rank (sound-valid T sounds) s (P .practice s) in-plan (fault-given P s f)
-          ∙ rw (practice-held T s l) (hit-held T (within ranks highest) s l (rowAt T s .practice) (own f))))
+  named-is =
+      ap (λ (b : Bool). cond b tested none) says
+      ∙ ⊎-elim (λ f. rw f (practice-tested f ∙ sym (at-fault P s f))) (λ e. rw e (sym (no-fault P s e))) (true-or-false (fault P s))
 
   -- where the mark tells of a fault the practice is a command
   pub named-given : 2 ≤ m → firstCommand T s + rowAt T s .practice < T .size .m

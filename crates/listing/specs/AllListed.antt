@@ -15,5 +15,5 @@ pub record AllListed (T : Tables) (ranks commands marks : List ℕ) : Type 0 whe
   pub line : (s : ℕ) → s < T .size .n
       → Listed (planIn T) s (rowAt T s .kind) (getD ranks s 0) (getD commands s 0) (getD marks s 0)
       (entry (namedAt (listsIn T) ranks (spanAt T s) (getD marks s 0)))
-  -- where the mark tells of a fault there is a practice
+  -- where the mark tells of a fault, the practice's place is among the commands
   pub given : (s : ℕ) → s < T .size .n → 2 ≤ getD marks s 0 → firstCommand T s + rowAt T s .practice < T .size .m

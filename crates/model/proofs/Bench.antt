@@ -8,7 +8,7 @@ use Rattle.laws.specs.Starts.{startOf}
 use Rattle.model.specs.Plan.{ordinary, failing, active, resting, hasPractice}
 use Rattle.model.specs.Verdict.{hit, hits, forced, rank, lost, safe}
 use Rattle.model.specs.Command.{tryOrder, choice, chosen}
-use Rattle.model.specs.Practice.{practiceHits, practiceFails, fault, faultOutcome, mark, tallyRow, tally}
+use Rattle.model.specs.Practice.{practiceHit, practiceHits, practiceFails, fault, faultOutcome, mark, tallyRow, tally}
 use Rattle.model.specs.Search.{lands, next, marked, withoutMarks, ends, before, atOnce, inRounds, search}
 use Rattle.model.specs.Refusal.{_>>=_, need, _>>_}
 use Rattle.model.specs.File.{field, head, state, entries, rising, command, commands, states, read}
@@ -41,18 +41,17 @@ use Rattle.model.specs.Bench.{judged, caseA, caseAListing, benches}
 
 pub bench-plans : map (λ b. judged (b .file)) benches ≡ map (λ b. b .says) benches
 unfolding any first every exists orElse lowest found howMany grow tabulate joined entry ordinary failing active resting hasPractice lesser
-    least hit hits forced rank lost safe tryOrder choice chosen practiceHits practiceFails fault mark tallyRow tally lands next marked
-    withoutMarks ends
-    before atOnce inRounds search _>>=_ need _>>_ field head state entries rising command commands states read allCommands rowsFrom
-    firstsFrom tablesOf rowAt firstCommand commandCount listAt sizeSound tablesLong rowSound risesAt listSound entrySound listsSound sound
-    stateAt treeOf stateOf planOf planIn reading deciding searching rankTable commandTable markTable judged startOf
+    least hit hits forced rank lost safe tryOrder choice chosen practiceHit practiceHits practiceFails faultOutcome fault mark tallyRow
+    tally lands next marked withoutMarks ends before atOnce inRounds search _>>=_ need _>>_ field head state entries rising command
+    commands states read allCommands rowsFrom firstsFrom tablesOf rowAt firstCommand commandCount listAt sizeSound tablesLong rowSound
+    risesAt listSound entrySound listsSound sound stateAt treeOf stateOf planOf planIn reading deciding searching rankTable commandTable
+    markTable judged startOf
 bench-plans = refl
 
 pub case-A-listing : listing caseA ≡ caseAListing
 unfolding any first every exists orElse lowest found howMany grow tabulate joined ordinary failing active resting hasPractice lesser least
-    hit hits forced rank lost safe tryOrder choice chosen practiceHits practiceFails fault faultOutcome mark tallyRow tally lands next
-    marked withoutMarks ends before
-    atOnce inRounds search _>>=_ need _>>_ field head state entries rising command commands states read allCommands rowsFrom firstsFrom
-    tablesOf stateOf planOf digitPair digitPairs pairAt digits decimal line kindLetter verdictLetter numberOrDash practiceLetter faultSign
-    planLine stateLine tallyLine startLine planText answerText listing
+    hit hits forced rank lost safe tryOrder choice chosen practiceHit practiceHits practiceFails faultOutcome fault mark tallyRow tally
+    lands next marked withoutMarks ends before atOnce inRounds search _>>=_ need _>>_ field head state entries rising command commands
+    states read allCommands rowsFrom firstsFrom tablesOf stateOf planOf digitPair digitPairs pairAt digits decimal line kindLetter
+    verdictLetter numberOrDash practiceLetter faultSign planLine stateLine tallyLine startLine planText answerText listing
 case-A-listing = refl

@@ -11,7 +11,7 @@ use Rattle.laws.specs.Starts.{startOf}
 use Rattle.model.specs.Plan.{ordinary, failing, active, resting, hasPractice}
 use Rattle.model.specs.Verdict.{hit, hits, forced, rank, lost, safe}
 use Rattle.model.specs.Command.{tryOrder, choice, chosen}
-use Rattle.model.specs.Practice.{practiceHits, practiceFails, fault, mark, tallyRow, tally}
+use Rattle.model.specs.Practice.{practiceHit, practiceHits, practiceFails, faultOutcome, fault, mark, tallyRow, tally}
 use Rattle.model.specs.Search.{lands, next, marked, withoutMarks, ends, before, atOnce, inRounds, search}
 use Rattle.model.specs.Refusal.{
   Cut,
@@ -74,7 +74,8 @@ verdict-examples : map verdicts (
     ∷ ((FFFF ∷ 1 ∷ 0 ∷ []) ∷ (1 ∷ FFFF ∷ FFFF ∷ []) ∷ (2 ∷ 0 ∷ 1 ∷ []) ∷ [])
     ∷ []
 unfolding any first every orElse lowest found grow tabulate entry ordinary failing active hasPractice lesser least hit hits forced rank
-    lost safe tryOrder choice chosen practiceHits practiceFails fault mark stateOf planOf rankTable commandTable markTable
+    lost safe tryOrder choice chosen practiceHit practiceHits practiceFails faultOutcome fault mark stateOf planOf rankTable commandTable
+    markTable
 verdict-examples = refl
 
 -- ---- the search: verdict, rounds and commands, from a start
@@ -163,8 +164,8 @@ sound-examples : map sound (
     ∷ lent 1 1 1 0 (0 ∷ 0 ∷ 0 ∷ []) [] (0 ∷ [])
     ∷ [])
     ≡ true ∷ true ∷ false ∷ false ∷ false ∷ false ∷ false ∷ true ∷ false ∷ false ∷ []
-unfolding every rowAt firstCommand commandCount sizeSound tablesLong rowSound risesAt listSound entrySound listsSound sound rowsIn
-    tabulate startOf
+unfolding every rowAt firstCommand commandCount sizeSound tablesLong rowSound risesAt listSound entrySound listsSound sound rowsIn tabulate
+    startOf
 sound-examples = refl
 
 -- ---- the calls: what is answered, and every lent table afterwards
@@ -181,10 +182,9 @@ decide-example : decideCall fork (replicate 4 7) (replicate 4 7) (replicate 4 7)
   scratch = 0 ∷ 0 ∷ 0 ∷ 7 ∷ [];
 }
 unfolding any first every orElse lowest found howMany grow tabulate overwrite entry ordinary failing active hasPractice lesser least hit
-    hits forced rank
-    lost safe tryOrder choice chosen practiceHits practiceFails fault mark tallyRow tally answer _>>=_ need _>>_ rowAt firstCommand
-    commandCount listAt sizeSound tablesLong rowSound risesAt listSound entrySound listsSound sound stateAt treeOf stateOf planOf planIn
-    rowsIn left deciding rankTable commandTable markTable cleared startOf
+    hits forced rank lost safe tryOrder choice chosen practiceHit practiceHits practiceFails faultOutcome fault mark tallyRow tally answer
+    _>>=_ need _>>_ rowAt firstCommand commandCount listAt sizeSound tablesLong rowSound risesAt listSound entrySound listsSound sound
+    stateAt treeOf stateOf planOf planIn rowsIn left deciding rankTable commandTable markTable cleared startOf
 decide-example = refl
 
 -- a state that steps to itself, with a table one place short
@@ -204,11 +204,10 @@ decide-cramped = refl
 
 search-example : searchCall fork 0 (replicate 4 7) (replicate 4 7)
     ≡ record { answers = given (false, 1); commands = 0 ∷ FFFF ∷ FFFF ∷ 7 ∷ []; scratch = 0 ∷ 0 ∷ 0 ∷ 7 ∷ [] }
-unfolding any first every exists orElse lowest found grow tabulate overwrite entry ordinary failing active resting hasPractice lesser
-    least hit hits tryOrder
-    choice lands next marked withoutMarks ends before atOnce inRounds search answer _>>=_ need _>>_ rowAt firstCommand commandCount listAt
-    sizeSound tablesLong rowSound risesAt listSound entrySound listsSound sound stateAt treeOf stateOf planOf planIn rowsIn left searching
-    resultTable cleared startOf
+unfolding any first every exists orElse lowest found grow tabulate overwrite entry ordinary failing active resting hasPractice lesser least
+    hit hits tryOrder choice lands next marked withoutMarks ends before atOnce inRounds search answer _>>=_ need _>>_ rowAt firstCommand
+    commandCount listAt sizeSound tablesLong rowSound risesAt listSound entrySound listsSound sound stateAt treeOf stateOf planOf planIn
+    rowsIn left searching resultTable cleared startOf
 search-example = refl
 
 -- the order of refusals: an unsound plan, a stranger and a short table; then without the first; then the last alone

@@ -11,7 +11,7 @@ use Rattle.laws.specs.Starts.{startOf}
 use Rattle.model.specs.Plan.{ordinary, failing, active, resting, hasPractice}
 use Rattle.model.specs.Verdict.{hit, hits, forced, rank, lost, safe}
 use Rattle.model.specs.Command.{tryOrder, choice, chosen}
-use Rattle.model.specs.Practice.{practiceHits, practiceFails, fault, mark, tallyRow, tally}
+use Rattle.model.specs.Practice.{practiceHit, practiceHits, practiceFails, faultOutcome, fault, mark, tallyRow, tally}
 use Rattle.model.specs.Search.{lands, next, marked, withoutMarks, ends, before, atOnce, inRounds, search}
 use Rattle.model.specs.Refusal.{Answer, answer, _>>=_, need, _>>_}
 use Rattle.model.specs.File.{field, head, state, entries, rising, command, commands, states, read}
@@ -71,12 +71,11 @@ case-a-decide : gateDecideCall (tablesIn size rows firsts outcomes) (lent 13) (l
       tally = (0 ∷ 0 ∷ 0 ∷ 2 ∷ 0 ∷ 1 ∷ 0 ∷ 0 ∷ 0 ∷ 1 ∷ 0 ∷ 2 ∷ []) ++ lent 1;
     }
 unfolding any first every exists orElse lowest found howMany grow tabulate overwrite joined entry ordinary failing active resting
-    hasPractice lesser least hit hits forced rank lost safe tryOrder choice chosen practiceHits practiceFails fault mark tallyRow tally
-    lands next marked
-    withoutMarks ends before atOnce inRounds search answer _>>=_ need _>>_ rowAt firstCommand commandCount listAt sizeSound tablesLong
-    rowSound risesAt listSound entrySound listsSound sound stateAt treeOf stateOf planOf planIn rowsIn entriesIn entries tablesIn left
-    deciding searching rankTable commandTable markTable resultTable cleared code gateDecide gateSearch tallyEntries resultEntries twos
-    startOf
+    hasPractice lesser least hit hits forced rank lost safe tryOrder choice chosen practiceHit practiceHits practiceFails faultOutcome
+    fault mark tallyRow tally lands next marked withoutMarks ends before atOnce inRounds search answer _>>=_ need _>>_ rowAt firstCommand
+    commandCount listAt sizeSound tablesLong rowSound risesAt listSound entrySound listsSound sound stateAt treeOf stateOf planOf planIn
+    rowsIn entriesIn entries tablesIn left deciding searching rankTable commandTable markTable resultTable cleared code gateDecide
+    gateSearch tallyEntries resultEntries twos startOf
 case-a-decide = refl
 
 case-a-search : gateSearchCall (tablesIn size rows firsts outcomes) 0 (lent 13) (lent 13) (lent 5)
@@ -88,12 +87,11 @@ case-a-search : gateSearchCall (tablesIn size rows firsts outcomes) 0 (lent 13) 
       answer = 0 ∷ 0 ∷ 0 ∷ 2 ∷ lent 1;
     }
 unfolding any first every exists orElse lowest found howMany grow tabulate overwrite joined entry ordinary failing active resting
-    hasPractice lesser least hit hits forced rank lost safe tryOrder choice chosen practiceHits practiceFails fault mark tallyRow tally
-    lands next marked
-    withoutMarks ends before atOnce inRounds search answer _>>=_ need _>>_ rowAt firstCommand commandCount listAt sizeSound tablesLong
-    rowSound risesAt listSound entrySound listsSound sound stateAt treeOf stateOf planOf planIn rowsIn entriesIn entries tablesIn left
-    deciding searching rankTable commandTable markTable resultTable cleared code gateDecide gateSearch tallyEntries resultEntries twos
-    startOf
+    hasPractice lesser least hit hits forced rank lost safe tryOrder choice chosen practiceHit practiceHits practiceFails faultOutcome
+    fault mark tallyRow tally lands next marked withoutMarks ends before atOnce inRounds search answer _>>=_ need _>>_ rowAt firstCommand
+    commandCount listAt sizeSound tablesLong rowSound risesAt listSound entrySound listsSound sound stateAt treeOf stateOf planOf planIn
+    rowsIn entriesIn entries tablesIn left deciding searching rankTable commandTable markTable resultTable cleared code gateDecide
+    gateSearch tallyEntries resultEntries twos startOf
 case-a-search = refl
 
 -- rule L10
@@ -114,11 +112,10 @@ chainIn = tablesIn (0 ∷ 3 ∷ 0 ∷ 2 ∷ 0 ∷ 2 ∷ 0 ∷ 0 ∷ [])
 -- lost is 1 (case A is safe), and no command is left in the table
 lost-search : gateSearchCall chainIn 0 (lent 6) (lent 6) (lent 4)
     ≡ record { returns = 0; commands = replicate 6 255; scratch = replicate 6 0; answer = 0 ∷ 1 ∷ 0 ∷ 2 ∷ [] }
-unfolding any first every exists orElse lowest found grow tabulate overwrite entry ordinary failing active resting hasPractice lesser
-    least hit hits tryOrder
-    choice lands next marked withoutMarks ends before atOnce inRounds search _>>=_ need _>>_ rowAt firstCommand commandCount listAt
-    sizeSound tablesLong rowSound risesAt listSound entrySound listsSound sound stateAt treeOf stateOf planOf planIn rowsIn entriesIn
-    entries tablesIn left searching resultTable cleared code gateSearch resultEntries twos startOf
+unfolding any first every exists orElse lowest found grow tabulate overwrite entry ordinary failing active resting hasPractice lesser least
+    hit hits tryOrder choice lands next marked withoutMarks ends before atOnce inRounds search _>>=_ need _>>_ rowAt firstCommand
+    commandCount listAt sizeSound tablesLong rowSound risesAt listSound entrySound listsSound sound stateAt treeOf stateOf planOf planIn
+    rowsIn entriesIn entries tablesIn left searching resultTable cleared code gateSearch resultEntries twos startOf
 lost-search = refl
 
 -- ---- lengths in bytes: each slice just long enough, then in turn a byte less
@@ -137,15 +134,15 @@ restIn = tablesIn (0 ∷ 1 ∷ 0 ∷ 0 ∷ 0 ∷ 0 ∷ 0 ∷ 0 ∷ []) (0 ∷ 2 
 decide-lengths : code (gateDecide restIn 2 2 2 2 12) ∷ code (gateDecide restIn 1 2 2 2 12) ∷ code (gateDecide restIn 2 1 2 2 12)
     ∷ code (gateDecide restIn 2 2 1 2 12) ∷ code (gateDecide restIn 2 2 2 1 12) ∷ code (gateDecide restIn 2 2 2 2 11) ∷ []
     ≡ 0 ∷ 9 ∷ 9 ∷ 9 ∷ 9 ∷ 9 ∷ []
-unfolding every _>>=_ need _>>_ rowAt firstCommand commandCount sizeSound tablesLong rowSound risesAt listSound entrySound listsSound
-    sound rowsIn tabulate entriesIn entries tablesIn deciding code gateDecide startOf
+unfolding every _>>=_ need _>>_ rowAt firstCommand commandCount sizeSound tablesLong rowSound risesAt listSound entrySound listsSound sound
+    rowsIn tabulate entriesIn entries tablesIn deciding code gateDecide startOf
 decide-lengths = refl
 
 search-lengths : code (gateSearch restIn 0 2 2 4) ∷ code (gateSearch restIn 0 1 2 4) ∷ code (gateSearch restIn 0 2 1 4)
     ∷ code (gateSearch restIn 0 2 2 3) ∷ []
     ≡ 0 ∷ 9 ∷ 9 ∷ 9 ∷ []
-unfolding every _>>=_ need _>>_ rowAt firstCommand commandCount sizeSound tablesLong rowSound risesAt listSound entrySound listsSound
-    sound rowsIn tabulate entriesIn entries tablesIn searching code gateSearch startOf
+unfolding every _>>=_ need _>>_ rowAt firstCommand commandCount sizeSound tablesLong rowSound risesAt listSound entrySound listsSound sound
+    rowsIn tabulate entriesIn entries tablesIn searching code gateSearch startOf
 search-lengths = refl
 
 -- ---- the order of refusals
@@ -155,13 +152,13 @@ search-lengths = refl
 gate-order : code (gateDecide (tablesIn (lent 7) [] [] []) 2 2 2 2 11) ∷ code (gateSearch (tablesIn (lent 7) [] [] []) 1 2 2 3)
     ∷ code (gateSearch restIn 1 2 2 3) ∷ []
     ≡ 10 ∷ 10 ∷ 11 ∷ []
-unfolding every _>>=_ need _>>_ rowAt firstCommand commandCount sizeSound tablesLong rowSound risesAt listSound entrySound listsSound
-    sound rowsIn tabulate entriesIn entries tablesIn searching code gateDecide gateSearch startOf
+unfolding every _>>=_ need _>>_ rowAt firstCommand commandCount sizeSound tablesLong rowSound risesAt listSound entrySound listsSound sound
+    rowsIn tabulate entriesIn entries tablesIn searching code gateDecide gateSearch startOf
 gate-order = refl
 
 -- with room for all but the tally, deciding writes no table
 gate-refused : gateDecideCall restIn (lent 2) (lent 2) (lent 2) (lent 2) (lent 11)
     ≡ record { returns = 9; ranks = lent 2; commands = lent 2; marks = lent 2; scratch = lent 2; tally = lent 11 }
-unfolding every _>>=_ need _>>_ rowAt firstCommand commandCount sizeSound tablesLong rowSound risesAt listSound entrySound listsSound
-    sound rowsIn tabulate entriesIn entries tablesIn left deciding code gateDecide startOf
+unfolding every _>>=_ need _>>_ rowAt firstCommand commandCount sizeSound tablesLong rowSound risesAt listSound entrySound listsSound sound
+    rowsIn tabulate entriesIn entries tablesIn left deciding code gateDecide startOf
 gate-refused = refl

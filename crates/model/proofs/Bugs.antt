@@ -1,5 +1,5 @@
 -- The tally counts the bugs: they are the safe states whose practice is given and fails.
-use mathlib.Core.Path.{_≡_}
+use mathlib.Core.Path.{_≡_, sym, _∙_}
 use mathlib.Core.Bool.{true, false, _&&_}
 use mathlib.Core.List.{[]}
 use Prim.Native.Nat.{ℕ}
@@ -13,15 +13,17 @@ use Rattle.model.specs.Plan.{Plan, Valid, failing, hasPractice}
 use Rattle.model.specs.Verdict.{hits, lost, safe}
 use Rattle.model.specs.Practice.{practiceHits, practiceFails, bug, tallyRow, tally}
 use Rattle.model.proofs.Layers.{safe-stands}
+use Rattle.model.proofs.PracticeHits.{practice-hits-words}
 use borrow.Author.Tests.{not-true}
 
 module _ (P : Plan) (S : Valid P) where
   -- a practice that fails from a state that does not fail is given there
   given-there : (s : ℕ) → failing P s ≡ false → practiceFails P s ≡ true → hasPractice P s ≡ true
-  unfolding practiceFails practiceHits
+  unfolding practiceFails
   given-there s stands e =
       grow-all (practiceHits P) (failing P) (λ x. failing P x ≡ false → hasPractice P x ≡ true) (λ x f g. clash f g)
-      (λ A below x r g. and-both (hasPractice P x) (hits P A x (P .practice x)) r .0) (P .states) s e stands
+      (λ A below x r g. and-both (hasPractice P x) (hits P A x (P .practice x)) (sym (practice-hits-words P A x) ∙ r) .0)
+      (P .states) s e stands
 
   pub bugs-tallied : getD (getD (tally P) 0 []) 1 0 ≡ howMany (bug P) (P .states)
   unfolding tally tallyRow bug safe

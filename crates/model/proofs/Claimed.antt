@@ -31,7 +31,8 @@ use Rattle.model.proofs.Layers.{lost-iff-layer, rank-some, layer-rank}
 use Rattle.model.proofs.ValueEquation.{least-solution}
 use Rattle.model.proofs.Choices.{choice-words}
 use Rattle.model.proofs.PracticeRuns.{practice-judged}
-use Rattle.model.proofs.Faults.{fault-named, named-at-faults, fault-printed}
+use Rattle.model.proofs.PracticeHits.{fault-words}
+use Rattle.model.proofs.Faults.{hit-lowest, hit-none, fault-named, last-word, fault-unprinted, fault-printed}
 use Rattle.model.proofs.Searching.{last-round}
 use Rattle.model.proofs.RoundTrips.{read-write, write-read, written-length}
 use Rattle.model.proofs.FileLength.{length-bytes}
@@ -165,8 +166,12 @@ meanings = record {
   least-solution = λ T S. least-solution (planIn T) (valid T S);
   choice-words = choice-words;
   practice-judged = λ T S s l. practice-judged (planIn T) (valid T S) s (in-plan T S s l);
+  hit-lowest = hit-lowest;
+  hit-none = hit-none;
+  fault-words = fault-words;
   fault-named = fault-named;
-  named-at-faults = named-at-faults;
+  last-word = last-word;
+  fault-unprinted = fault-unprinted;
   fault-printed = λ T S s x l h. fault-printed (planIn T) (valid T S) (few T S) s x (in-plan T S s l) (in-plan T S x h);
   last-round = λ T S a l act.
       subst (λ (n : ℕ). lowest (ends (planIn T) a) n ≡ some (before (planIn T) a)) (states-held T)

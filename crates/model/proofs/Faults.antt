@@ -1,82 +1,102 @@
--- The outcome that is named at a fault: a lost outcome of the practice, and the lowest; one is named exactly at faults.
+-- What the test of a command's outcomes answers, and what is named at a fault: a lost outcome of the practice, and the lowest; and how the
+-- line of a state tells it.
 use mathlib.Core.Path.{_≡_, refl, sym, ap, _∙_}
-use mathlib.Core.Bool.{true, false}
-use mathlib.Core.Logic.{_↔_, ⊎-elim}
-use mathlib.Core.List.{List, _∷_, List·Memᴰ}
+use mathlib.Core.Bool.{Bool, true, false}
+use mathlib.Core.Logic.{_↔_}
+use mathlib.Core.List.{List, [], _∷_, _++_, List·Memᴰ, append-assoc}
 use mathlib.Core.Option.{Option, none, some}
 use Prim.Native.Nat.{ℕ, _<_, _≤_}
 use native.Mathlib.Decide.{decLt}
 use native.Mathlib.Omega.{arith}
 use lib.ListN.{getD, drop}
 use borrow.Author.Tests.{ltb-true}
-use Rattle.laws.specs.Sets.{least, found}
+use Rattle.laws.specs.Sets.{found}
 use Rattle.laws.specs.Entry.{FFFF, entry, fromEntry}
-use Rattle.laws.proofs.Tests.{clash, true-or-false, refute, and-both}
+use Rattle.laws.proofs.Tests.{clash, refute, and-both}
+use Rattle.laws.proofs.Sets.{found-none}
 use Rattle.laws.proofs.EntryFound.{from-entry}
-use Rattle.laws.proofs.Least.{least-some, least-eq}
+use Rattle.laws.proofs.Least.{least-some, least-none, least-eq}
 use Rattle.model.specs.Plan.{Plan, Valid, hasPractice}
-use Rattle.model.specs.Verdict.{hit, hits, lost, safe}
-use Rattle.model.specs.Practice.{practiceHits, fault, faultOutcome, LowestLost}
+use Rattle.model.specs.Verdict.{hit, hits, LowestHit, lost, safe}
+use Rattle.model.specs.Practice.{practiceHit, faultOutcome, fault}
 use Rattle.model.specs.File.{maxStates}
-use Rattle.model.specs.Listing.{decimal, faultSign}
+use Rattle.model.specs.Listing.{decimal, faultSign, line, stateLine}
 use Rattle.model.proofs.Decimals.{decimal-inj}
+use Rattle.model.proofs.PracticeHits.{fault-words}
 
-module _ (P : Plan) (s : ℕ) where
-  -- the practice's outcomes
-  abbrev outcomes : List ℕ
-  outcomes = P .outcomes s (P .practice s)
-
-  -- at a fault the practice has a lost outcome
-  fault-hits : fault P s ≡ true → hits P (lost P) s (P .practice s) ≡ true
-  unfolding fault practiceHits
-  fault-hits e = and-both (hasPractice P s) _ (and-both (safe P s) (practiceHits P (lost P) s) e .1) .1
-
-  pub fault-given : fault P s ≡ true → P .practice s < P .commands s
-  unfolding fault practiceHits hasPractice
-  fault-given e = ltb-true _ _ (and-both (hasPractice P s) _ (and-both (safe P s) (practiceHits P (lost P) s) e .1) .0)
-
-  at-fault : fault P s ≡ true → faultOutcome P s ≡ least (lost P) outcomes
-  unfolding faultOutcome hit
-  at-fault e = rw e
-
-  no-fault : fault P s ≡ false → faultOutcome P s ≡ none
-  unfolding faultOutcome
-  no-fault e = rw e
-
-  -- an outcome is named exactly at faults
-  pub named-at-faults : found (faultOutcome P s) ≡ fault P s
-  unfolding hits hit found
-  named-at-faults =
-      ⊎-elim (λ e. ap found (at-fault e) ∙ fault-hits e ∙ sym e) (λ e. ap found (no-fault e) ∙ sym e) (true-or-false (fault P s))
-
-  -- and it is the lowest lost outcome of the practice
-  pub fault-named : (x : ℕ) → (faultOutcome P s ≡ some x) ↔ ((fault P s ≡ true) × LowestLost P s x)
-  unfolding found
-  fault-named x = (there, λ q. back (q .0) (q .1))
+module _ (P : Plan) (K : ℕ → Bool) (s c : ℕ) where
+  pub hit-lowest : (x : ℕ) → (hit P K s c ≡ some x) ↔ LowestHit P K s c x
+  unfolding hit
+  hit-lowest x = (there, back)
     where
-      there : faultOutcome P s ≡ some x → (fault P s ≡ true) × LowestLost P s x
+      there : hit P K s c ≡ some x → LowestHit P K s c x
       there e =
-          let f : fault P s ≡ true = sym named-at-faults ∙ ap found e in
-          let (m, l, low) = least-some (lost P) outcomes x (sym (at-fault f) ∙ e) in (
-            f,
-            record {
-              outcome = m;
-              is-lost = l;
-              lowest = λ y h n. refute (lost P y) (λ t. absurd (omega (arith, low y n t)));
-            },
-          )
+          let (m, t, low) = least-some K (P .outcomes s c) x e in
+          record { outcome = m; inside = t; lowest = λ y h n. refute (K y) (λ k. absurd (omega (arith, low y n k))) }
 
-      back : fault P s ≡ true → LowestLost P s x → faultOutcome P s ≡ some x
-      back f q =
-          at-fault f ∙ least-eq (lost P) outcomes (some x) (
-            q .outcome,
-            q .is-lost,
-            λ y m t. not-below y m t (decLt y x),
-          )
+      back : LowestHit P K s c x → hit P K s c ≡ some x
+      back q = least-eq K (P .outcomes s c) (some x) (q .outcome, q .inside, λ y m t. not-below y m t (decLt y x))
         where
-          not-below : (y : ℕ) → List·Memᴰ y outcomes → lost P y ≡ true → Dec (y < x) → x ≤ y
+          not-below : (y : ℕ) → List·Memᴰ y (P .outcomes s c) → K y ≡ true → Dec (y < x) → x ≤ y
           not-below y m t (yes h) = clash t (q .lowest y h m)
           not-below y m t (no h) = omega arith
+
+  pub hit-none : (hit P K s c ≡ none) ↔ ((x : ℕ) → List·Memᴰ x (P .outcomes s c) → K x ≡ false)
+  unfolding hit
+  hit-none = (least-none K (P .outcomes s c), least-eq K (P .outcomes s c) none)
+
+module _ (P : Plan) (s : ℕ) where
+  -- a fault is safe and has a practice
+  fault-parts : fault P s ≡ true → (safe P s ≡ true) × (hasPractice P s ≡ true)
+  fault-parts e =
+      let (a, b) = and-both (safe P s) _ (sym (fault-words P s) ∙ e) in
+      (a, and-both (hasPractice P s) (hits P (lost P) s (P .practice s)) b .0)
+
+  pub fault-given : fault P s ≡ true → P .practice s < P .commands s
+  unfolding hasPractice
+  fault-given e = ltb-true _ _ (fault-parts e .1)
+
+  -- what is named there, and elsewhere
+  pub at-fault : fault P s ≡ true → faultOutcome P s ≡ hit P (lost P) s (P .practice s)
+  unfolding faultOutcome practiceHit
+  at-fault e = let (a, b) = fault-parts e in rw (a, b)
+
+  pub no-fault : fault P s ≡ false → faultOutcome P s ≡ none
+  unfolding fault
+  no-fault e = found-none (faultOutcome P s) e
+
+  pub fault-named : (x : ℕ) → (faultOutcome P s ≡ some x) ↔ ((fault P s ≡ true) × LowestHit P (lost P) s (P .practice s) x)
+  unfolding fault found
+  fault-named x = (
+    λ e.
+        let f : fault P s ≡ true = ap found e in
+        (f, hit-lowest P (lost P) s (P .practice s) x .0 (sym (at-fault f) ∙ e)),
+    λ (f, q). at-fault f ∙ hit-lowest P (lost P) s (P .practice s) x .1 q,
+  )
+
+  -- ---- in print
+
+  -- no sign of a fault that has an outcome is a dot
+  pub fault-unprinted : (faultSign (faultOutcome P s) ≡ 46 ∷ []) ↔ (fault P s ≡ false)
+  unfolding fault faultSign found
+  fault-unprinted = (there (faultOutcome P s), λ e. ap faultSign (no-fault e))
+    where
+      there : (o : Option ℕ) → faultSign o ≡ 46 ∷ [] → found o ≡ false
+      there none e = refl
+      there (some y) e = let z : _≡_ {A = ℕ} 33 46 = ap (λ (w : List ℕ). getD w 0 0) e in absurd (omega arith)
+
+-- a line ends in its last word
+line-ends : (w : List ℕ) (ws : List (List ℕ)) (z : List ℕ)
+    → (front : List ℕ) × (line (w ∷ (ws ++ (z ∷ []))) ≡ front ++ 32 ∷ (z ++ 10 ∷ []))
+unfolding line
+line-ends w [] z = (w, refl)
+line-ends w (v ∷ ws) z =
+    let (front, e) = line-ends v ws z in
+    (w ++ 32 ∷ front, ap (λ (r : List ℕ). w ++ 32 ∷ r) e ∙ sym (append-assoc w (32 ∷ front) (32 ∷ (z ++ 10 ∷ []))))
+
+pub last-word : (P : Plan) (s : ℕ) → (front : List ℕ) × (stateLine P s ≡ front ++ 32 ∷ (faultSign (faultOutcome P s) ++ 10 ∷ []))
+unfolding stateLine
+last-word P s = line-ends (decimal s) (_ ∷ _ ∷ _ ∷ _ ∷ _ ∷ []) (faultSign (faultOutcome P s))
 
 -- it is a state
 module _ (P : Plan) (valid : Valid P) (s : ℕ) (l : s < P .states) where
@@ -99,7 +119,7 @@ module _ (P : Plan) (valid : Valid P) (few : P .states ≤ maxStates) (s x : ℕ
       let digits : decimal y ≡ decimal x = ap (drop 1) e in
       ap some (decimal-inj y x (omega (arith, few, below y refl)) (omega (arith, few)) digits)
 
-  pub fault-printed : (faultSign (faultOutcome P s) ≡ 33 ∷ decimal x) ↔ ((fault P s ≡ true) × LowestLost P s x)
+  pub fault-printed : (faultSign (faultOutcome P s) ≡ 33 ∷ decimal x) ↔ ((fault P s ≡ true) × LowestHit P (lost P) s (P .practice s) x)
   unfolding faultSign
   fault-printed = (
     λ e. fault-named P s x .0 (same-sign (faultOutcome P s) (named-inside P valid s l) e),

@@ -7,6 +7,7 @@ pub mod Renumbered
 pub mod ValueEquation
 pub mod PracticeRuns
 pub mod Bugs
+pub mod PracticeHits
 pub mod Faults
 pub mod Deciding
 pub mod Stays

@@ -9,7 +9,7 @@ use Rattle.laws.specs.Lists.{tabulate}
 use Rattle.laws.specs.Entry.{FFFF}
 use Rattle.model.specs.Plan.{ordinary, failing, active, hasPractice}
 use Rattle.model.specs.Verdict.{hit, hits, forced, rank, lost, safe}
-use Rattle.model.specs.Practice.{followed, practiceHits, practiceFails, bug, fault, faultOutcome}
+use Rattle.model.specs.Practice.{followed, practiceHit, practiceHits, practiceFails, bug, fault, faultOutcome}
 use Rattle.model.specs.Refusal.{given, answer, _>>=_, need, _>>_}
 use Rattle.model.specs.File.{field, head, state, entries, rising, command, commands, states, read}
 use Rattle.model.specs.Held.{stateOf, planOf}
@@ -23,15 +23,15 @@ case-a-bugs : answer (λ p. tabulate (bug (planOf p)) 0 6 ∷ tabulate (fault (p
     ≡ given ((true ∷ true ∷ false ∷ false ∷ false ∷ false ∷ []) ∷ (true ∷ false ∷ false ∷ false ∷ false ∷ false ∷ [])
     ∷ (true ∷ true ∷ false ∷ true ∷ true ∷ false ∷ []) ∷ [])
 unfolding every orElse lowest found grow tabulate ordinary failing active hasPractice lesser least hit hits forced rank lost safe
-    practiceHits
-    practiceFails bug fault answer _>>=_ need _>>_ field head state entries rising command commands states read stateOf planOf
+    practiceHit practiceHits practiceFails bug faultOutcome fault answer _>>=_ need _>>_ field head state entries rising command commands
+    states read stateOf planOf
 case-a-bugs = refl
 
 -- at its one fault state 3 is named: outcome 2 of the practice is safe
 case-a-named : answer (λ p. tabulate (faultOutcome (planOf p)) 0 6) (read caseA) ≡ given (some 3 ∷ none ∷ none ∷ none ∷ none ∷ none ∷ [])
 unfolding every orElse lowest found grow tabulate ordinary failing active hasPractice lesser least hit hits forced rank lost safe
-    practiceHits
-    fault faultOutcome answer _>>=_ need _>>_ field head state entries rising command commands states read stateOf planOf
+    practiceHit practiceHits faultOutcome fault answer _>>=_ need _>>_ field head state entries rising command commands states read stateOf
+    planOf
 case-a-named = refl
 
 -- State 0 is held by command 0; its practice, command 1, may land on 1, which is at rest, and on 3 and 4, which fail: 3 is named. States 1
@@ -41,7 +41,7 @@ several-lost : tabulate
     ∷ acting 0 ((4 ∷ []) ∷ []) ∷ []))) 0 6
     ≡ some 3 ∷ none ∷ none ∷ none ∷ none ∷ none ∷ []
 unfolding every orElse lowest found grow tabulate ordinary failing active hasPractice lesser least hit hits forced rank lost safe
-    practiceHits fault faultOutcome stateOf planOf
+    practiceHit practiceHits faultOutcome fault stateOf planOf
 several-lost = refl
 
 -- the least, wherever it stands

@@ -1,5 +1,5 @@
 -- The practice is said to fail exactly from the states from which a run under it fails (rule V8).
-use mathlib.Core.Path.{_≡_, refl}
+use mathlib.Core.Path.{_≡_, refl, sym, _∙_}
 use mathlib.Core.Bool.{Bool, true, false}
 use mathlib.Core.Logic.{⊎-elim, _↔_}
 use mathlib.Core.Option.{none, some}
@@ -13,6 +13,7 @@ use Rattle.model.specs.Verdict.{hits}
 use Rattle.model.specs.Practice.{followed, practiceHits, practiceFails}
 use Rattle.model.specs.Run.{Move, Run, noMoves, _▸_, present, CanMove, IsRun}
 use Rattle.model.specs.Rule.{Rule, Under, Fails, positional}
+use Rattle.model.proofs.PracticeHits.{practice-hits-words}
 use Rattle.model.proofs.StateKinds.{active-is, command-active}
 use Rattle.model.proofs.Choices.{hits-is, hits-of}
 use Rattle.model.proofs.Deciding.{run-inside}
@@ -34,14 +35,13 @@ module _ (P : Plan) where
 
   practice-hits-is : (K : ℕ → Bool) (t : ℕ) → practiceHits P K t ≡ true
       → (hasPractice P t ≡ true) × (P .practice t < P .commands t) × (hits P K t (P .practice t) ≡ true)
-  unfolding practiceHits hasPractice
+  unfolding hasPractice
   practice-hits-is K t e =
-      let (g, h) = and-both (hasPractice P t) (hits P K t (P .practice t)) e in
+      let (g, h) = and-both (hasPractice P t) (hits P K t (P .practice t)) (sym (practice-hits-words P K t) ∙ e) in
       (g, ltb-true (P .practice t) (P .commands t) g, h)
 
   practice-hits-of : (K : ℕ → Bool) (t : ℕ) → hasPractice P t ≡ true → hits P K t (P .practice t) ≡ true → practiceHits P K t ≡ true
-  unfolding practiceHits
-  practice-hits-of K t g h = and-join (hasPractice P t) (hits P K t (P .practice t)) g h
+  practice-hits-of K t g h = practice-hits-words P K t ∙ and-join (hasPractice P t) (hits P K t (P .practice t)) g h
 
 module _ (P : Plan) (S : Valid P) where
   practice-hits-more : Monotone (P .states) (practiceHits P)

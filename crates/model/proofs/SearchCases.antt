@@ -17,9 +17,8 @@ use Rattle.model.specs.Bench.{caseA, chain}
 reached-last : answer (λ p. tabulate (search (planOf p) 0 .reached) 0 6) (read caseA)
     ≡ given (true ∷ true ∷ false ∷ false ∷ false ∷ false ∷ [])
 unfolding any first every exists orElse lowest found grow tabulate ordinary failing active resting hasPractice lesser least hit hits
-    tryOrder choice lands
-    next marked withoutMarks ends before atOnce inRounds search answer _>>=_ need _>>_ field head state entries rising command commands
-    states read stateOf planOf
+    tryOrder choice lands next marked withoutMarks ends before atOnce inRounds search answer _>>=_ need _>>_ field head state entries
+    rising command commands states read stateOf planOf
 reached-last = refl
 
 -- Ordinary states, not all states (6 and 3): 4 of case A, and 2 of the chain, whose 2 rounds meet the bound.

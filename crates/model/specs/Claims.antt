@@ -2,20 +2,20 @@
 -- code, that it answers and leaves what the definitions say, stands in the calls' contracts.
 use mathlib.Core.Path.{_≡_}
 use mathlib.Core.Bool.{Bool, true, false, not, cond, _&&_}
-use mathlib.Core.List.{List, _∷_, map}
+use mathlib.Core.List.{List, [], _∷_, _++_, List·Memᴰ, map}
 use mathlib.Core.Logic.{_⊎_, _↔_}
-use mathlib.Core.Option.{some}
+use mathlib.Core.Option.{none, some}
 use Prim.Native.Nat.{ℕ, _<_, _≤_}
 use lib.ListN.{length, take}
-use Rattle.laws.specs.Sets.{lowest, found}
+use Rattle.laws.specs.Sets.{lowest}
 use Rattle.laws.specs.Lists.{overwrite}
 use Rattle.laws.specs.Entry.{Bytes}
 use Rattle.model.specs.Plan.{Plan, active, hasPractice}
 use Rattle.model.specs.Rule.{Fails, positional}
-use Rattle.model.specs.Verdict.{hits, layer, rank, lost}
+use Rattle.model.specs.Verdict.{hit, hits, LowestHit, layer, rank, lost, safe}
 use Rattle.model.specs.Value.{LeastSolution}
 use Rattle.model.specs.Command.{choice}
-use Rattle.model.specs.Practice.{followed, practiceFails, fault, faultOutcome, LowestLost}
+use Rattle.model.specs.Practice.{followed, practiceFails, fault, faultOutcome}
 use Rattle.model.specs.Search.{Result, ends, before, search}
 use Rattle.model.specs.Refusal.{Refusal, Cramped, Unsound, Stranger, Answer, given, refused}
 use Rattle.model.specs.File.{Tree, read}
@@ -27,7 +27,7 @@ use Rattle.model.specs.Held.{treeOf, planIn}
 use Rattle.model.specs.Calls.{reading, writing, deciding, searching, readCall, afterReading, writeCall, decideCall, searchCall}
 use Rattle.model.specs.Demand3.{DecidingDemand3, SearchDemand3}
 use Rattle.model.specs.Boundary.{entriesIn, verdictIn, roundsIn, gateDecideCall, gateSearchCall}
-use Rattle.model.specs.Listing.{decimal, faultSign, maxListing, listing}
+use Rattle.model.specs.Listing.{decimal, faultSign, stateLine, maxListing, listing}
 use Rattle.model.specs.Bench.{judged, benches, caseA, caseAListing}
 
 -- ---- rule D1: each call answers, or is refused, exactly under the condition that part E has for it
@@ -75,11 +75,20 @@ pub record Meanings : Type 0 where
   -- the practice fails: some run under it does
   pub practice-judged : (T : Tables) → Sound T → (s : ℕ) → s < T .size .n → (practiceFails (planIn T) s ≡ true)
       ↔ Fails (planIn T) s (positional (followed (planIn T)) s)
-  -- rule V16: what is named at a fault, and that it is named there alone; the listing prints it (rule L7)
-  pub fault-named : (P : Plan) (s x : ℕ) → (faultOutcome P s ≡ some x) ↔ ((fault P s ≡ true) × LowestLost P s x)
-  pub named-at-faults : (P : Plan) (s : ℕ) → found (faultOutcome P s) ≡ fault P s
+  -- rule V16: the test answers the lowest outcome in the set, or that there is none
+  pub hit-lowest : (P : Plan) (K : ℕ → Bool) (s c x : ℕ) → (hit P K s c ≡ some x) ↔ LowestHit P K s c x
+  pub hit-none : (P : Plan) (K : ℕ → Bool) (s c : ℕ) → (hit P K s c ≡ none)
+      ↔ ((x : ℕ) → List·Memᴰ x (P .outcomes s c) → K x ≡ false)
+  -- rules V11 and V16: at a fault the lowest lost outcome of the practice is named
+  pub fault-words : (P : Plan) (s : ℕ) → fault P s ≡ (safe P s && (hasPractice P s && hits P (lost P) s (P .practice s)))
+  pub fault-named : (P : Plan) (s x : ℕ)
+      → (faultOutcome P s ≡ some x) ↔ ((fault P s ≡ true) × LowestHit P (lost P) s (P .practice s) x)
+  -- rule L7: a state's line ends in the fault's word, which is a dot exactly where there is no fault, and tells the outcome where there is
+  pub last-word : (P : Plan) (s : ℕ) → (front : List ℕ) × (stateLine P s ≡ front ++ 32 ∷ (faultSign (faultOutcome P s) ++ 10 ∷ []))
+  pub fault-unprinted : (P : Plan) (s : ℕ) → (faultSign (faultOutcome P s) ≡ 46 ∷ []) ↔ (fault P s ≡ false)
   pub fault-printed : (T : Tables) → Sound T → (s x : ℕ) → s < T .size .n → x < T .size .n
-      → (faultSign (faultOutcome (planIn T) s) ≡ 33 ∷ decimal x) ↔ ((fault (planIn T) s ≡ true) × LowestLost (planIn T) s x)
+      → (faultSign (faultOutcome (planIn T) s) ≡ 33 ∷ decimal x)
+      ↔ ((fault (planIn T) s ≡ true) × LowestHit (planIn T) (lost (planIn T)) s (planIn T .practice s) x)
   -- some round is the last
   pub last-round : (T : Tables) → Sound T → (a : ℕ) → a < T .size .n → active (planIn T) a ≡ true
       → lowest (ends (planIn T) a) (T .size .n) ≡ some (before (planIn T) a)

@@ -1,20 +1,23 @@
 -- The keeper's practice judged (docs/SPECIFICATION.md, part V).
-use mathlib.Core.Path.{_≡_}
-use mathlib.Core.Bool.{Bool, true, false, not, cond, _&&_}
-use mathlib.Core.List.{List, [], _∷_, List·Memᴰ}
+use mathlib.Core.Bool.{Bool, not, cond, _&&_}
+use mathlib.Core.List.{List, [], _∷_}
 use mathlib.Core.Option.{Option, none, some}
-use Prim.Native.Nat.{ℕ, _+_, _<_}
-use Rattle.laws.specs.Sets.{howMany, grow}
+use Prim.Native.Nat.{ℕ, _+_}
+use Rattle.laws.specs.Sets.{found, howMany, grow}
 use Rattle.model.specs.Plan.{Plan, failing, hasPractice}
-use Rattle.model.specs.Verdict.{hit, hits, lost, safe}
+use Rattle.model.specs.Verdict.{hit, lost, safe}
 
 -- rules V8 and V9: the practice as a table of commands
 unfoldable pub followed : Plan → ℕ → Option ℕ
 followed P s = cond (hasPractice P s) (some (P .practice s)) none
 
+-- rule V16: the lowest outcome in K that the practice has, where one is given
+unfoldable pub practiceHit : Plan → (ℕ → Bool) → ℕ → Option ℕ
+practiceHit P K s = cond (hasPractice P s) (hit P K s (P .practice s)) none
+
 -- the practice is given at s and has an outcome in K
 unfoldable pub practiceHits : Plan → (ℕ → Bool) → ℕ → Bool
-practiceHits P K s = hasPractice P s && hits P K s (P .practice s)
+practiceHits P K s = found (practiceHit P K s)
 
 -- rule V8. That it is so of runs under the practice is proofs/PracticeRuns.antt, `practice-judged`.
 unfoldable pub practiceFails : Plan → ℕ → Bool
@@ -24,19 +27,13 @@ practiceFails P = grow (practiceHits P) (failing P) (P .states)
 unfoldable pub bug : Plan → ℕ → Bool
 bug P s = safe P s && practiceFails P s
 
+-- rule V16: the outcome that is named at a safe state, the lowest lost one that the practice has
+unfoldable pub faultOutcome : Plan → ℕ → Option ℕ
+faultOutcome P s = cond (safe P s) (practiceHit P (lost P) s) none
+
 -- rule V11: safe, though the practice may land on a lost state
 unfoldable pub fault : Plan → ℕ → Bool
-fault P s = safe P s && practiceHits P (lost P) s
-
--- rule V16: at a fault, the lowest lost outcome that the practice has
-unfoldable pub faultOutcome : Plan → ℕ → Option ℕ
-faultOutcome P s = cond (fault P s) (hit P (lost P) s (P .practice s)) none
-
--- what rule V16 says of it: an outcome of the practice that is lost, and none below it is
-pub record LowestLost (P : Plan) (s x : ℕ) : Type 0 where
-  pub outcome : List·Memᴰ x (P .outcomes s (P .practice s))
-  pub is-lost : lost P x ≡ true
-  pub lowest : (y : ℕ) → y < x → List·Memᴰ y (P .outcomes s (P .practice s)) → lost P y ≡ false
+fault P s = found (faultOutcome P s)
 
 -- rule V13: 1 if the practice fails, and 2 more at a fault
 abbrev pub markOf : Bool → Bool → ℕ

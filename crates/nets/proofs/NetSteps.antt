@@ -22,6 +22,7 @@ use Rattle.model.specs.Places.{rowAt, firstCommand, commandCount}
 use Rattle.model.specs.SoundTest.{sound}
 use Rattle.model.specs.Held.{planIn}
 use Rattle.model.proofs.StateKinds.{active-is, command-active}
+use Rattle.model.proofs.PracticeHits.{practice-hits-words}
 use Rattle.model.proofs.HeldPlan.{states-held, practice-held, commands-held}
 use Rattle.model.proofs.Valid.{sound-valid}
 use Rattle.tables.specs.declared.Row.{Row}
@@ -107,5 +108,4 @@ module _ (size : Size) (rows : List Row) (firsts outcomes watch ends : List ℕ)
         (hit-is p below)
 
     pub losing-practice : losing (netOf (size .n) (commandsOf size firsts outcomes) watch ends) A s ≡ practiceHits P B s
-    unfolding practiceHits
-    losing-practice = ⊎-elim given none (true-or-false (practised (spanAt T s)))
+    losing-practice = rw (practice-hits-words P B s) (⊎-elim given none (true-or-false (practised (spanAt T s))))

@@ -19,6 +19,7 @@ use Rattle.model.specs.SoundTest.{sound}
 use Rattle.model.specs.Held.{planIn}
 use Rattle.model.specs.Tables.{Tables}
 use Rattle.model.proofs.Choices.{choice-some, choice-same}
+use Rattle.model.proofs.PracticeHits.{practice-hits-words}
 use Rattle.model.proofs.HeldPlan.{states-held, commands-held}
 use Rattle.model.proofs.Valid.{sound-valid}
 use Rattle.choice.proofs.Choices.{hits-held}
@@ -41,9 +42,11 @@ module _ (T : Tables) (sounds : sound T ≡ true) (A B : ℕ → Bool) (same : A
       (λ c e. let t = choice-some (planIn T) A s c e in sym (hits-agree c (t .1)) ∙ t .2)
 
   pub practice-hits-agree : practiceHits (planIn T) A s ≡ practiceHits (planIn T) B s
-  unfolding practiceHits hasPractice
+  unfolding hasPractice
   practice-hits-agree =
-      ⊎-elim (λ e. rw e (hits-agree _ (ltb-true _ _ e))) (λ e. rw e) (true-or-false (ltb (planIn T .practice s) (planIn T .commands s)))
+      rw (practice-hits-words (planIn T) A s, practice-hits-words (planIn T) B s)
+      (⊎-elim (λ e. rw e (hits-agree _ (ltb-true _ _ e))) (λ e. rw e)
+      (true-or-false (ltb (planIn T .practice s) (planIn T .commands s))))
 
 module _ (size : Size) (rows : List Row) (firsts outcomes : List ℕ) where
   -- a state's command, by its place

@@ -49,7 +49,7 @@ pub record Initialized (T : Tables) (n : ℕ) (ranks froms tos places ranks′ f
   pub stops : Filled n (λ s. spanAt T s .end) tos tos′
   pub placed : Filled n (λ s. practicePlace (spanAt T s)) places places′
 
--- where a range ends that begins at `from`, and of the commands below `to` has no more than the first
+-- the end of a range that begins at `from` and has at most one command, below `to`
 unfoldable pub oneEnd : ℕ → ℕ → ℕ
 oneEnd from to = cond (ltb from to) (from + 1) to
 

@@ -54,7 +54,7 @@ pub fn initialize_state(
     put(places, s, practice_place(span));
 }
 
-// Where a range ends that begins at `from`, and of the commands below `to` has no more than the first.
+// The end of a range that begins at `from` and has at most one command, below `to`.
 fn one_end(from: usize, to: usize) -> usize
     requires { ⌜ to ≤ maxCommands ⌝ }
     ensures { λ r. ⌜ r ≡ oneEnd from to ⌝ }

@@ -1,4 +1,4 @@
--- No start before the one that is read is in the set, and those behind it are higher, so the first that is in the set is the lowest.
+-- No outcome before the one that is read is in the set, and those behind it are higher, so the first that is in the set is the lowest.
 use mathlib.Core.Path.{sym, ap, _∙_}
 use mathlib.Core.Bool.{not}
 use Prim.Native.Nat.{_-_, _≤_}
