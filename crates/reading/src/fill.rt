@@ -1,10 +1,10 @@
 // The filling pass, over a file that the judging pass has let through.
 ghost use mathlib.Core.Path.{_≡_};
-ghost use Prim.Native.Nat.{_+_, _*_, _<_, _≤_};
+ghost use Prim.Native.Nat.{_+_, _<_, _≤_};
 ghost use lib.ListN.{length, drop};
 ghost use Rattle.laws.specs.Lists.{joined};
 ghost use Rattle.laws.specs.Writes.{putAll};
-ghost use Rattle.model.specs.File.{entries, stateValues};
+ghost use Rattle.model.specs.File.{stateValues};
 ghost use Rattle.model.specs.Tables.{allCommands, rowWith, rowsFrom, firstsFrom};
 ghost use Rattle.tables.specs.Meaning.{rowOf, rowsOf};
 ghost use Rattle.reading.specs.Meaning.{bytesFrom, moved};
@@ -19,18 +19,8 @@ use tables::entries::narrow;
 use tables::entries::put;
 use tables::rows::put_row;
 
-// The outcomes from place `at` of the file on, to the places from t on.
-fn fill_outcomes(file: &[u8], at: usize, count: usize, outcomes: &mut [u16], t: usize)
-    requires { ⌜ (count * 2 ≤ length (drop at (now file))) × (t + count ≤ length (now outcomes)) ⌝ }
-    ensures { λ r. ⌜ now (outcomes .exit) ≡ putAll (now (outcomes .entry)) t (entries count (drop at (now (file .entry)))) ⌝ }
-{
-    let mut i = 0;
-    while i < count {
-        outcomes[t + i] = entry(file, at, i * 2);
-        i += 1;
-    }
-}
-
+// Commands and outcomes in one loop, `left` outcomes of a command being still to come: so the next place does not wait for a length that
+// was read.
 fn fill_commands(
     file: &[u8],
     count: usize,
@@ -47,18 +37,26 @@ fn fill_commands(
     ensures mark { λ r. ⌜ r ≡ pastCommands from (commandsIn count (bytesFrom (now (file .entry)) from)) ⌝ }
 {
     let end = from.m + count;
-    let mut k = from;
-    while k.m < end {
-        let size = number(file, k.at, 1) / 2;
-        put(firsts, k.m, k.t);
-        fill_outcomes(file, k.at + 3, size, outcomes, k.t);
-        k = Mark {
-            at: k.at + (3 + size * 2),
-            m: k.m + 1,
-            t: k.t + size,
-        };
+    let mut at = from.at;
+    let mut m = from.m;
+    let mut t = from.t;
+    let mut left = 0;
+    loop {
+        if left == 0 {
+            if end <= m {
+                return Mark { at, m, t };
+            }
+            left = number(file, at, 1) / 2;
+            put(firsts, m, t);
+            at += 3;
+            m += 1;
+        } else {
+            outcomes[t] = entry(file, at, 0);
+            at += 2;
+            t += 1;
+            left -= 1;
+        }
     }
-    k
 }
 
 fn wide(x: u8) -> u16
