@@ -1,7 +1,7 @@
 -- The call, by the way that it ends.
 use mathlib.Core.Path.{_≡_, refl, sym, ap, ap₂, _∙_}
 use mathlib.Core.Bool.{Bool, true, false, not, _&&_}
-use mathlib.Core.List.{List, [], _∷_, _++_}
+use mathlib.Core.List.{List, _∷_, _++_}
 use Prim.Native.Nat.{ℕ, suc, _+_, _*_, _/_, _≤_}
 use native.Mathlib.Omega.{arith}
 use lib.Dec.{leb}
@@ -19,7 +19,7 @@ use Rattle.laws.proofs.Writes.{put-front}
 use Rattle.model.specs.Refusal.{Refusal as ModelRefusal, Answer, Cramped, given, refused, answer, need, _>>=_, _>>_}
 use Rattle.model.specs.File.{State, StateField, stateFrom, Tree, maxCommands, maxOutcomes, read}
 use Rattle.model.specs.Tables.{Size as ModelSize, Row as ModelRow, Tables, enough, allCommands, rowsFrom, firstsFrom, tablesOf}
-use Rattle.model.specs.Calls.{reading, left, AfterRead, readCall}
+use Rattle.model.specs.Calls.{reading, left, readCall}
 use Rattle.tables.specs.declared.Row.{Row}
 use Rattle.tables.specs.declared.Size.{Size}
 use Rattle.tables.specs.Meaning.{rowOf, rowsOf, numbers}
