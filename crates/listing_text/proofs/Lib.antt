@@ -1,4 +1,3 @@
-pub mod Pairs
 pub mod LineBytes
 pub mod Copies
 pub mod Entries

@@ -18,9 +18,7 @@ use Rattle.model.specs.SoundTest.{sizeSound, tablesLong, rowSound, rises
 use Rattle.model.specs.Held.{stateAt, treeOf, stateOf, planOf, planIn}
 use Rattle.model.specs.Calls.{reading, deciding, searching, rankTable, commandTable, markTable}
 use Rattle.model.specs.Listing.{
-  digitPair,
-  digitPairs,
-  pairAt,
+  lastDigit,
   digits,
   decimal,
   line,
@@ -52,6 +50,6 @@ pub case-A-listing : listing caseA ≡ caseAListing
 unfolding any first every exists orElse lowest found howMany grow tabulate joined ordinary failing active resting hasPractice lesser least
     hit hits forced rank lost safe tryOrder choice chosen practiceHit practiceHits practiceFails faultOutcome fault mark tallyRow tally
     lands next marked withoutMarks ends before atOnce inRounds search _>>=_ need _>>_ field head state entries rising command commands
-    states read allCommands rowsFrom firstsFrom tablesOf stateOf planOf digitPair digitPairs pairAt digits decimal line kindLetter
+    states read allCommands rowsFrom firstsFrom tablesOf stateOf planOf lastDigit digits decimal line kindLetter
     verdictLetter numberOrDash practiceLetter faultSign planLine stateLine tallyLine startLine planText answerText listing
 case-A-listing = refl

@@ -52,7 +52,7 @@ use Rattle.model.specs.Calls.{
 }
 use Rattle.model.specs.Boundary.{entriesIn, rowsIn, rowEntries, tablesIn, gateRead, code}
 use Rattle.model.specs.Bench.{oneRest}
-use Rattle.model.specs.Listing.{digitPair, digitPairs, pairAt, digits, decimal}
+use Rattle.model.specs.Listing.{lastDigit, digits, decimal}
 use Rattle.model.proofs.CasePlans.{acting, rest, failed, planned}
 
 -- ---- verdicts: ranks, commands and marks
@@ -243,5 +243,5 @@ short-slices = refl
 decimal-examples : map decimal (0 ∷ 9 ∷ 10 ∷ 99 ∷ 100 ∷ 1005 ∷ 16384 ∷ 65535 ∷ [])
     ≡ (48 ∷ []) ∷ (57 ∷ []) ∷ (49 ∷ 48 ∷ []) ∷ (57 ∷ 57 ∷ []) ∷ (49 ∷ 48 ∷ 48 ∷ []) ∷ (49 ∷ 48 ∷ 48 ∷ 53 ∷ [])
     ∷ (49 ∷ 54 ∷ 51 ∷ 56 ∷ 52 ∷ []) ∷ (54 ∷ 53 ∷ 53 ∷ 51 ∷ 53 ∷ []) ∷ []
-unfolding tabulate digitPair digitPairs pairAt digits decimal
+unfolding lastDigit digits decimal
 decimal-examples = refl

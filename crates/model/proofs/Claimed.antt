@@ -33,6 +33,7 @@ use Rattle.model.proofs.Choices.{choice-words}
 use Rattle.model.proofs.PracticeRuns.{practice-judged}
 use Rattle.model.proofs.PracticeHits.{fault-words}
 use Rattle.model.proofs.Faults.{hit-lowest, hit-none, fault-named, last-word, fault-unprinted, fault-printed}
+use Rattle.model.proofs.Numerals.{only-digits, number-told, no-zero-first}
 use Rattle.model.proofs.Searching.{last-round}
 use Rattle.model.proofs.RoundTrips.{read-write, write-read, written-length}
 use Rattle.model.proofs.FileLength.{length-bytes}
@@ -170,6 +171,9 @@ meanings = record {
   hit-none = hit-none;
   fault-words = fault-words;
   fault-named = fault-named;
+  only-digits = only-digits;
+  number-told = number-told;
+  no-zero-first = no-zero-first;
   last-word = last-word;
   fault-unprinted = fault-unprinted;
   fault-printed = λ T S s x l h. fault-printed (planIn T) (valid T S) (few T S) s x (in-plan T S s l) (in-plan T S x h);

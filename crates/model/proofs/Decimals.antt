@@ -1,131 +1,69 @@
--- The digits of a number, pair by pair.
+-- The digits of a number, one by one, and how many they are.
 use mathlib.Core.Path.{_≡_, refl, sym, ap, _∙_}
-use mathlib.Core.Bool.{true, false}
 use mathlib.Core.Logic.{⊎-elim}
-use mathlib.Core.List.{List, [], _∷_, _++_, append-assoc}
-use Prim.Native.Nat.{ℕ, zero, suc, _+_, _-_, _*_, _/_, _%_, _<_, _≤_}
+use mathlib.Core.List.{[], _∷_, _++_}
+use Prim.Native.Nat.{ℕ, zero, suc, _+_, _*_, _/_, _<_, _≤_}
 use native.Mathlib.Omega.{arith}
 use lib.Dec.{ltb}
-use lib.ListN.{length, getD, length-append}
+use lib.ListN.{length, length-append}
 use borrow.Author.Tests.{lt-ltb, le-ltb, ltb-true, ltb-false}
-use Rattle.laws.proofs.Lists.{tabulate-at}
 use Rattle.laws.proofs.Tests.{true-or-false}
-use Rattle.model.specs.Listing.{digitPair, digitPairs, pairAt, digits, decimal}
+use Rattle.model.specs.Listing.{lastDigit, digits, decimal}
 
-pub pair-is : (i : ℕ) → i < 100 → pairAt i ≡ digitPair i
-unfolding pairAt digitPairs
-pair-is i h = tabulate-at digitPair 100 i [] h
+-- a number below ten, and one that is not
+module _ (k x : ℕ) where
+  pub digits-one : x < 10 → digits (suc k) x ≡ lastDigit x ∷ []
+  unfolding digits
+  digits-one h = rw (lt-ltb x 10 h)
 
-pub pair-length : (i : ℕ) → i < 100 → length (pairAt i) ≡ 2
-unfolding digitPair
-pair-length i h = ap length (pair-is i h)
+  pub digits-more : 10 ≤ x → digits (suc k) x ≡ digits k (x / 10) ++ lastDigit x ∷ []
+  unfolding digits
+  digits-more h = rw (le-ltb x 10 h)
 
-pub digits-one : (k x : ℕ) → x < 10 → digits (suc k) x ≡ getD (pairAt x) 1 0 ∷ []
+digits-none : (x : ℕ) → digits 0 x ≡ []
 unfolding digits
-digits-one k x h = rw (lt-ltb x 10 h)
+digits-none x = refl
 
-pub digits-two : (k x : ℕ) → 10 ≤ x → x < 100 → digits (suc k) x ≡ pairAt x
-unfolding digits
-digits-two k x l h = rw (le-ltb x 10 l, lt-ltb x 100 h)
+pub more-length : (k x : ℕ) → 10 ≤ x → length (digits (suc k) x) ≡ length (digits k (x / 10)) + 1
+more-length k x h = ap length (digits-more k x h) ∙ length-append (digits k (x / 10)) (lastDigit x ∷ [])
 
-digits-more : (k x : ℕ) → 100 ≤ x → digits (suc k) x ≡ digits k (x / 100) ++ pairAt (x % 100)
-unfolding digits
-digits-more k x h = rw (le-ltb x 10 (omega arith), le-ltb x 100 h)
-
--- one pair holds every number below 100
-digits-below : (k x : ℕ) → x < 100 → digits (suc k) x ≡ digits 1 x
-unfolding digits
-digits-below k x h = rw (lt-ltb x 100 h)
-
-digits-none : (x : ℕ) → length (digits 0 x) ≤ 0
-unfolding digits
-digits-none x = omega arith
-
-below-length : (k x : ℕ) → x < 100 → length (digits (suc k) x) ≤ 2
-below-length k x h =
+digits-length : (k x : ℕ) → length (digits k x) ≤ k
+digits-length zero x = omega (arith, ap length (digits-none x))
+digits-length (suc k) x =
     ⊎-elim (λ e. omega (arith, ap length (digits-one k x (ltb-true x 10 e))))
-    (λ e. omega (arith, ap length (digits-two k x (ltb-false x 10 e) h), pair-length x h))
+    (λ e. omega (arith, more-length k x (ltb-false x 10 e), digits-length k (x / 10)))
     (true-or-false (ltb x 10))
 
-more-length : (k x : ℕ) → 100 ≤ x → length (digits (suc k) x) ≡ length (digits k (x / 100)) + 2
-more-length k x h =
-    ap length (digits-more k x h) ∙ length-append (digits k (x / 100)) (pairAt (x % 100))
-    ∙ ap (λ (j : ℕ). length (digits k (x / 100)) + j) (pair-length (x % 100) (omega arith))
-
-pub digits-length : (k x : ℕ) → length (digits k x) ≤ 2 * k
-digits-length zero x = digits-none x
-digits-length (suc k) x =
-    ⊎-elim (λ e. omega (arith, below-length k x (ltb-true x 100 e)))
-    (λ e. omega (arith, more-length k x (ltb-false x 100 e), digits-length k (x / 100)))
-    (true-or-false (ltb x 100))
-
--- no number takes more than six digits
+-- no number takes more than six
 pub decimal-length : (x : ℕ) → length (decimal x) ≤ 6
 unfolding decimal
-decimal-length x = digits-length 3 x
+decimal-length x = digits-length 6 x
 
--- a number in one pair, in two and in three
-module _ (x : ℕ) where
-  pub decimal-one : x < 100 → decimal x ≡ digits 1 x
-  unfolding decimal
-  decimal-one h = digits-below 2 x h
+-- the least number of more than k digits
+unfoldable pub tens : ℕ → ℕ
+tens zero = 1
+tens (suc k) = 10 * tens k
 
-  pub decimal-two : 100 ≤ x → x < 10000 → decimal x ≡ digits 1 (x / 100) ++ pairAt (x % 100)
-  unfolding decimal
-  decimal-two l h = digits-more 2 x l ∙ ap (λ (r : List ℕ). r ++ pairAt (x % 100)) (digits-below 1 (x / 100) (omega arith))
-
-  pub decimal-three : 10000 ≤ x → decimal x ≡ digits 1 (x / 10000) ++ (pairAt (x / 100 % 100) ++ pairAt (x % 100))
-  unfolding decimal
-  decimal-three l =
-      let e : x / 100 / 100 ≡ x / 10000 = omega arith in
-      digits-more 2 x (omega arith)
-      ∙ rw (digits-more 1 (x / 100) (omega arith), e) (append-assoc (digits 1 (x / 10000)) (pairAt (x / 100 % 100)) (pairAt (x % 100)))
-
--- ---- what digits tell
-
--- the number whose last digits these are, behind the digits of a
-unfoldable told : ℕ → List ℕ → ℕ
-told a [] = a
-told a (d ∷ ds) = told (a * 10 + (d - 48)) ds
-
-told-append : (a : ℕ) (xs ys : List ℕ) → told a (xs ++ ys) ≡ told (told a xs) ys
-unfolding told
-told-append a [] ys = refl
-told-append a (x ∷ xs) ys = told-append (a * 10 + (x - 48)) xs ys
-
-told-pair : (a i : ℕ) → i < 100 → told a (pairAt i) ≡ a * 100 + i
-unfolding told digitPair
-told-pair a i h = rw (pair-is i h) (omega arith)
-
-told-short : (x : ℕ) → x < 100 → told 0 (digits 1 x) ≡ x
-unfolding told digitPair
-told-short x h =
-    ⊎-elim (λ e. let l = ltb-true x 10 e in rw (digits-one 0 x l, pair-is x h) (omega (arith, l)))
-    (λ e. rw (digits-two 0 x (ltb-false x 10 e) h) (told-pair 0 x h ∙ omega arith))
+-- one digit more than a number has is none more
+digits-enough : (k x : ℕ) → x < tens (suc k) → digits (suc (suc k)) x ≡ digits (suc k) x
+unfolding tens
+digits-enough zero x h = digits-one 1 x h ∙ sym (digits-one 0 x h)
+digits-enough (suc k) x h =
+    ⊎-elim (λ e. let l = ltb-true x 10 e in digits-one (suc (suc k)) x l ∙ sym (digits-one (suc k) x l))
+    (λ e. let l = ltb-false x 10 e in
+    digits-more (suc (suc k)) x l ∙ rw (digits-enough k (x / 10) (omega arith)) (sym (digits-more (suc k) x l)))
     (true-or-false (ltb x 10))
 
-told-decimal : (x : ℕ) → x < 1000000 → told 0 (decimal x) ≡ x
-told-decimal x h =
-    ⊎-elim (λ e. let l = ltb-true x 100 e in rw (decimal-one x l) (told-short x l))
-    (λ e. ⊎-elim (two (ltb-false x 100 e)) three (true-or-false (ltb x 10000)))
-    (true-or-false (ltb x 100))
-  where
-    two : 100 ≤ x → ltb x 10000 ≡ true → told 0 (decimal x) ≡ x
-    two l e =
-        let k = ltb-true x 10000 e in
-        rw (decimal-two x l k, told-append 0 (digits 1 (x / 100)) (pairAt (x % 100)), told-short (x / 100) (omega (arith, k)))
-        (told-pair (x / 100) (x % 100) (omega arith) ∙ omega arith)
+module _ (x : ℕ) where
+  pub decimal-one : x < 10 → decimal x ≡ lastDigit x ∷ []
+  unfolding decimal
+  decimal-one h = digits-one 5 x h
 
-    three : ltb x 10000 ≡ false → told 0 (decimal x) ≡ x
-    three e =
-        let l = ltb-false x 10000 e in
-        let high = digits 1 (x / 10000) in
-        let middle = pairAt (x / 100 % 100) in
-        rw (decimal-three x l, told-append 0 high (middle ++ pairAt (x % 100)), told-short (x / 10000) (omega arith))
-        (told-append (x / 10000) middle (pairAt (x % 100))
-        ∙ rw (told-pair (x / 10000) (x / 100 % 100) (omega arith))
-        (told-pair (x / 10000 * 100 + x / 100 % 100) (x % 100) (omega arith) ∙ omega arith))
+  pub decimal-more : 10 ≤ x → x < 1000000 → decimal x ≡ decimal (x / 10) ++ lastDigit x ∷ []
+  unfolding decimal tens
+  decimal-more l h = digits-more 5 x l ∙ rw (digits-enough 4 (x / 10) (omega arith))
 
--- so no two numbers are printed alike
-pub decimal-inj : (x y : ℕ) → x < 1000000 → y < 1000000 → decimal x ≡ decimal y → x ≡ y
-decimal-inj x y h k e = sym (told-decimal x h) ∙ ap (told 0) e ∙ told-decimal y k
+  -- with a digit to spare
+  pub decimal-short : x < 100000 → length (decimal x) ≤ 5
+  unfolding decimal tens
+  decimal-short h = rw (digits-enough 4 x h) (digits-length 5 x)

@@ -21,7 +21,7 @@ use Rattle.model.specs.Verdict.{hit, hits, LowestHit, lost, safe}
 use Rattle.model.specs.Practice.{practiceHit, faultOutcome, fault}
 use Rattle.model.specs.File.{maxStates}
 use Rattle.model.specs.Listing.{decimal, faultSign, line, stateLine}
-use Rattle.model.proofs.Decimals.{decimal-inj}
+use Rattle.model.proofs.Numerals.{decimal-inj}
 use Rattle.model.proofs.PracticeHits.{fault-words}
 
 module _ (P : Plan) (K : ℕ → Bool) (s c : ℕ) where

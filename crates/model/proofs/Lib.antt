@@ -59,6 +59,8 @@ pub mod CallCases
 pub mod PracticeCases
 pub mod RunCases
 pub mod Decimals
+pub mod Numerals
+pub mod DigitTable
 pub mod ListingLength
 pub mod BoundaryCases
 pub mod Gating

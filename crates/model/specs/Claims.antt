@@ -6,7 +6,7 @@ use mathlib.Core.List.{List, [], _∷_, _++_, List·Memᴰ, map}
 use mathlib.Core.Logic.{_⊎_, _↔_}
 use mathlib.Core.Option.{none, some}
 use Prim.Native.Nat.{ℕ, _<_, _≤_}
-use lib.ListN.{length, take}
+use lib.ListN.{length, getD, take}
 use Rattle.laws.specs.Sets.{lowest}
 use Rattle.laws.specs.Lists.{overwrite}
 use Rattle.laws.specs.Entry.{Bytes}
@@ -27,7 +27,7 @@ use Rattle.model.specs.Held.{treeOf, planIn}
 use Rattle.model.specs.Calls.{reading, writing, deciding, searching, readCall, afterReading, writeCall, decideCall, searchCall}
 use Rattle.model.specs.Demand3.{DecidingDemand3, SearchDemand3}
 use Rattle.model.specs.Boundary.{entriesIn, verdictIn, roundsIn, gateDecideCall, gateSearchCall}
-use Rattle.model.specs.Listing.{decimal, faultSign, stateLine, maxListing, listing}
+use Rattle.model.specs.Listing.{decimal, told, faultSign, stateLine, maxListing, listing}
 use Rattle.model.specs.Bench.{judged, benches, caseA, caseAListing}
 
 -- ---- rule D1: each call answers, or is refused, exactly under the condition that part E has for it
@@ -83,6 +83,10 @@ pub record Meanings : Type 0 where
   pub fault-words : (P : Plan) (s : ℕ) → fault P s ≡ (safe P s && (hasPractice P s && hits P (lost P) s (P .practice s)))
   pub fault-named : (P : Plan) (s x : ℕ)
       → (faultOutcome P s ≡ some x) ↔ ((fault P s ≡ true) × LowestHit P (lost P) s (P .practice s) x)
+  -- rule L5: a number is printed in decimal digits that tell it, and the first is 0 for the number 0 alone
+  pub only-digits : (x i : ℕ) → i < length (decimal x) → (48 ≤ getD (decimal x) i 0) × (getD (decimal x) i 0 ≤ 57)
+  pub number-told : (x : ℕ) → x < 1000000 → told 0 (decimal x) ≡ x
+  pub no-zero-first : (x : ℕ) → 0 < x → x < 1000000 → getD (decimal x) 0 0 ≡ 48 → ⊥
   -- rule L7: a state's line ends in the fault's word, which is a dot exactly where there is no fault, and tells the outcome where there is
   pub last-word : (P : Plan) (s : ℕ) → (front : List ℕ) × (stateLine P s ≡ front ++ 32 ∷ (faultSign (faultOutcome P s) ++ 10 ∷ []))
   pub fault-unprinted : (P : Plan) (s : ℕ) → (faultSign (faultOutcome P s) ≡ 46 ∷ []) ↔ (fault P s ≡ false)

@@ -2,7 +2,7 @@
 use mathlib.Core.Bool.{Bool, cond}
 use mathlib.Core.List.{List, [], _∷_, _++_}
 use mathlib.Core.Option.{Option, none, some}
-use Prim.Native.Nat.{ℕ, zero, suc, _+_, _/_, _%_}
+use Prim.Native.Nat.{ℕ, zero, suc, _+_, _-_, _*_, _/_, _%_}
 use lib.Dec.{ltb, eqb}
 use lib.ListN.{length, getD}
 use Rattle.laws.specs.Lists.{tabulate, joined}
@@ -18,25 +18,23 @@ use Rattle.model.specs.Held.{planOf}
 
 -- ---- numbers (rule L5)
 
--- the digits of i, below 100, in two bytes
-unfoldable pub digitPair : ℕ → List ℕ
-digitPair i = (48 + i / 10) ∷ (48 + i % 10) ∷ []
+-- the last digit of x, as a byte
+unfoldable pub lastDigit : ℕ → ℕ
+lastDigit x = 48 + x % 10
 
-unfoldable pub digitPairs : List (List ℕ)
-digitPairs = tabulate digitPair 0 100
-
-unfoldable pub pairAt : ℕ → List ℕ
-pairAt i = getD digitPairs i []
-
--- the digits of x, in at most k pairs
+-- the last digits of x, k at most: where there are two or more, those of x / 10 come first
 unfoldable pub digits : ℕ → ℕ → List ℕ
 digits zero x = []
-digits (suc k) x =
-    cond (ltb x 10) (getD (pairAt x) 1 0 ∷ []) (cond (ltb x 100) (pairAt x) (digits k (x / 100) ++ pairAt (x % 100)))
+digits (suc k) x = cond (ltb x 10) [] (digits k (x / 10)) ++ lastDigit x ∷ []
 
--- three pairs hold every entry
+-- six are enough for every number that is printed
 unfoldable pub decimal : ℕ → List ℕ
-decimal x = digits 3 x
+decimal x = digits 6 x
+
+-- the number that digits tell, behind those of a
+unfoldable pub told : ℕ → List ℕ → ℕ
+told a [] = a
+told a (d ∷ ds) = told (a * 10 + (d - 48)) ds
 
 -- ---- lines (rule L4): words with a space between them, and byte 10
 
