@@ -56,6 +56,8 @@ wrong: kit
 
 # The listing program on every example, and on plans of many shapes; on zero bytes, refused past the limit (8),
 # at the limit by their first tag (3), and where there are none (1); where it cannot read or write; and `make run`.
+# The program works digits out, so no table of digits or of digit pairs may be in it, nor eight bytes in a row
+# of one.
 list-test: kit need-python3 target/bin/list
 	for p in examples/*.plan; do target/bin/list <$$p | cmp - $${p%.plan}.listing || exit 1; done
 	for c in 65537:8 65536:3 0:1; do \
@@ -64,6 +66,7 @@ list-test: kit need-python3 target/bin/list
 	done
 	cd tests && python3 -B list_plans.py ../target/bin/list
 	python3 -B tests/list_errors.py target/bin/list
+	python3 -B tests/digit_table.py target/bin/list
 	tests/run.sh
 
 # The Rattle kit. Another one than README.md names is no error: its prover judges every file as well, and where

@@ -1,25 +1,26 @@
-"""Whether a program, whose path is the argument, has the pairs 00 to 99 in it, or a part of them (rule L5). A compiler may lay a table down
-in parts of eight bytes or more, in any order, so the 200 bytes need not stand in a row: each eight that follow one another are looked for."""
+"""Whether a program, whose path is the argument, has a table of digit pairs or of digits in it (rule L5). A compiler may lay a table down
+in parts and in another order, so it need not stand in one piece: every eight bytes in a row of one are looked for."""
 import sys
 
-TABLE = b"".join(b"%02d" % i for i in range(100))
+PAIRS = b"".join(b"%02d" % i for i in range(100))
+DIGITS = b"0123456789"
 PART = 8
 
 
 def parts_in(program):
-    places = range(len(TABLE) - PART + 1)
-    return [TABLE[i : i + PART].decode() for i in places if TABLE[i : i + PART] in program]
+    parts = [table[i : i + PART] for table in (PAIRS, DIGITS) for i in range(len(table) - PART + 1)]
+    return [part.decode() for part in parts if part in program]
 
 
 def main():
-    turned = b"".join(TABLE[i : i + 16] for i in reversed(range(0, len(TABLE), 16)))
-    for other in TABLE, turned:
+    turned = b"".join(PAIRS[i : i + 16] for i in reversed(range(0, len(PAIRS), 16)))  # as a compiler may have it
+    for other in PAIRS, turned, DIGITS:
         if not parts_in(b"\0" + other):
-            sys.exit("digit_table: the table is not found where it is")
+            sys.exit("digit_table: a table is not found where there is one")
     with open(sys.argv[1], "rb") as file:
         found = parts_in(file.read())
     if found:
-        sys.exit(f"digit_table: {sys.argv[1]} has {len(found)} parts of the table of digit pairs, the first is {found[0]}")
+        sys.exit(f"digit_table: {sys.argv[1]} has {len(found)} parts of a table of digits, the first is {found[0]}")
 
 
 main()

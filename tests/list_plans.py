@@ -15,11 +15,19 @@ def faults(n, named):
     return Plan(states)
 
 
+def outcomes(t):
+    """STATES states, at rest but for the first, whose commands have t outcomes in all: 1,000 each, the last what is left."""
+    lists = [list(range(min(1000, t - i))) for i in range(0, t, 1000)]
+    return Plan([State(0, lists)] + [rest() for _ in range(STATES - 1)])
+
+
 def plans():
     yield from shapes()
     yield longest()
     for named in [2], [9], [10, 11], [99], [100], [101, 500], [999, 1000], [1000], [1023], [3, 4, 5, 1023]:
         yield faults(STATES, named)
+    for t in 9, 10, 99, 100, 999, 1000, 9999, 10000, 12345:
+        yield outcomes(t)
     yield Plan([State(0, [[1], [2]], 1), rest(), State(0, [[3]]), failing()])  # a fault whose practice holds
     yield Plan([State(0, [[0], [0, 1]], 1), failing(), State(0, [[1]], 0)])  # of two hits, only that at the safe state is a fault
     yield Plan([State(0, [[1], [1, 2, 3]], 1), rest(), State(0, [[3]]), failing()])  # named is 2, of rank 1, and not 3, which fails

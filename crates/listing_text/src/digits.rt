@@ -12,7 +12,7 @@ fn last_digit(x: usize) -> u8
     b'0' + (x % 10) as u8
 }
 
-// A number of at most six digits. Each call has one digit less to see to, so it calls itself five times at most.
+// A number of at most six digits. Each call leaves one digit fewer, so it calls itself at most five times.
 pub fn put_decimal(out: &mut [u8], place: usize, x: usize) -> usize
     requires { ⌜ (place + 6 ≤ length (now out)) × (x < 1000000) ⌝ }
     ensures wrote { λ r. ⌜ Wrote (now (out .entry)) place (decimal x) (now (out .exit)) r ⌝ }

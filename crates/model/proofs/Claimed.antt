@@ -2,7 +2,7 @@
 use mathlib.Core.Path.{_≡_, refl, ap, subst}
 use mathlib.Core.Bool.{true, false}
 use mathlib.Core.List.{List}
-use mathlib.Core.Logic.{_⊎_, inl, inr, ⊎-elim}
+use mathlib.Core.Logic.{inl, inr, ⊎-elim}
 use mathlib.Core.Option.{some}
 use Prim.Native.Nat.{ℕ, _<_, _≤_}
 use native.Mathlib.Omega.{arith}
@@ -33,7 +33,7 @@ use Rattle.model.proofs.Choices.{choice-words}
 use Rattle.model.proofs.PracticeRuns.{practice-judged}
 use Rattle.model.proofs.PracticeHits.{fault-words}
 use Rattle.model.proofs.Faults.{hit-lowest, hit-none, fault-named, last-word, fault-unprinted, fault-printed}
-use Rattle.model.proofs.Numerals.{only-digits, number-told, no-zero-first}
+use Rattle.model.proofs.Numerals.{only-digits, number-told, zero-printed, no-zero-first}
 use Rattle.model.proofs.Searching.{last-round}
 use Rattle.model.proofs.RoundTrips.{read-write, write-read, written-length}
 use Rattle.model.proofs.FileLength.{length-bytes}
@@ -173,6 +173,7 @@ meanings = record {
   fault-named = fault-named;
   only-digits = only-digits;
   number-told = number-told;
+  zero-printed = zero-printed;
   no-zero-first = no-zero-first;
   last-word = last-word;
   fault-unprinted = fault-unprinted;

@@ -39,14 +39,14 @@ pub decimal-length : (x : ℕ) → length (decimal x) ≤ 6
 unfolding decimal
 decimal-length x = digits-length 6 x
 
--- the least number of more than k digits
-unfoldable pub tens : ℕ → ℕ
-tens zero = 1
-tens (suc k) = 10 * tens k
+-- 10 to the power k, the least number of more than k digits
+unfoldable pub tenTo : ℕ → ℕ
+tenTo zero = 1
+tenTo (suc k) = 10 * tenTo k
 
--- one digit more than a number has is none more
-digits-enough : (k x : ℕ) → x < tens (suc k) → digits (suc (suc k)) x ≡ digits (suc k) x
-unfolding tens
+-- room for a further digit changes nothing
+digits-enough : (k x : ℕ) → x < tenTo (suc k) → digits (suc (suc k)) x ≡ digits (suc k) x
+unfolding tenTo
 digits-enough zero x h = digits-one 1 x h ∙ sym (digits-one 0 x h)
 digits-enough (suc k) x h =
     ⊎-elim (λ e. let l = ltb-true x 10 e in digits-one (suc (suc k)) x l ∙ sym (digits-one (suc k) x l))
@@ -60,10 +60,10 @@ module _ (x : ℕ) where
   decimal-one h = digits-one 5 x h
 
   pub decimal-more : 10 ≤ x → x < 1000000 → decimal x ≡ decimal (x / 10) ++ lastDigit x ∷ []
-  unfolding decimal tens
+  unfolding decimal tenTo
   decimal-more l h = digits-more 5 x l ∙ rw (digits-enough 4 (x / 10) (omega arith))
 
   -- with a digit to spare
   pub decimal-short : x < 100000 → length (decimal x) ≤ 5
-  unfolding decimal tens
+  unfolding decimal tenTo
   decimal-short h = rw (digits-enough 4 x h) (digits-length 5 x)

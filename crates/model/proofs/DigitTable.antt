@@ -1,5 +1,5 @@
--- Every number is printed as it was when its digits were copied in pairs out of a table (rule L5 before T-04). The table and what was copied
--- out of it are defined here, for this theorem alone.
+-- Every number is printed as it was when its digits were copied in pairs out of a table (rule L5a, lapsed). The table, and what was copied
+-- out of it, are defined here for this theorem alone.
 use mathlib.Core.Path.{_≡_, refl, sym, ap, _∙_}
 use mathlib.Core.Bool.{cond}
 use mathlib.Core.Logic.{⊎-elim}
@@ -118,7 +118,3 @@ digits-same (suc k) x =
 pub printed-same : (x : ℕ) → decimal x ≡ tableDecimal x
 unfolding decimal tableDecimal
 printed-same x = digits-same 3 x
-
--- and so is all that is made of printed numbers
-pub texts-same : {A : Type 0} (text : (ℕ → List ℕ) → A) → text decimal ≡ text tableDecimal
-texts-same text = ap text (λ i x. printed-same x i)

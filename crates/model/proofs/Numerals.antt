@@ -1,4 +1,4 @@
--- A number's digits tell it, are decimal digits, and do not begin with 0 (rule L5).
+-- A number's bytes are decimal digits and tell it, and the first is 0 for the number 0 alone (rule L5).
 use mathlib.Core.Path.{_≡_, refl, sym, ap, _∙_}
 use mathlib.Core.Bool.{Bool, true, false, cond}
 use mathlib.Core.Logic.{⊎-elim}
@@ -11,7 +11,7 @@ use borrow.Author.Tests.{ltb-true, ltb-false}
 use Rattle.laws.proofs.All.{All, none, more, all-at, all-append}
 use Rattle.laws.proofs.Tests.{true-or-false}
 use Rattle.model.specs.Listing.{lastDigit, digits, decimal, told}
-use Rattle.model.proofs.Decimals.{digits-one, digits-more, more-length, tens}
+use Rattle.model.proofs.Decimals.{digits-one, digits-more, more-length, tenTo}
 
 -- ---- what they tell
 
@@ -28,8 +28,8 @@ told-none : (x : ℕ) → x < 1 → told 0 (digits 0 x) ≡ x
 unfolding told digits
 told-none x h = omega arith
 
-told-digits : (k x : ℕ) → x < tens k → told 0 (digits k x) ≡ x
-unfolding tens
+told-digits : (k x : ℕ) → x < tenTo k → told 0 (digits k x) ≡ x
+unfolding tenTo
 told-digits zero x h = told-none x h
 told-digits (suc k) x h =
     ⊎-elim (λ e. rw (digits-one k x (ltb-true x 10 e), told-last 0 x) (omega (arith, ltb-true x 10 e)))
@@ -38,7 +38,7 @@ told-digits (suc k) x h =
     (true-or-false (ltb x 10))
 
 pub number-told : (x : ℕ) → x < 1000000 → told 0 (decimal x) ≡ x
-unfolding decimal tens
+unfolding decimal tenTo
 number-told x h = told-digits 6 x h
 
 -- so no two numbers are printed alike
@@ -74,12 +74,16 @@ some-digit k x =
     ⊎-elim (λ e. omega (arith, ap length (digits-one k x (ltb-true x 10 e)))) (λ e. omega (arith, more-length k x (ltb-false x 10 e)))
     (true-or-false (ltb x 10))
 
+pub zero-printed : decimal 0 ≡ 48 ∷ []
+unfolding decimal digits lastDigit
+zero-printed = refl
+
 first-more : (k x : ℕ) → 10 ≤ x → getD (digits (suc (suc k)) x) 0 0 ≡ getD (digits (suc k) (x / 10)) 0 0
 first-more k x l =
     rw (digits-more (suc k) x l) (List·getD-append (digits (suc k) (x / 10)) (lastDigit x ∷ []) 0 0 (some-digit k (x / 10)))
 
-first-digit : (k x : ℕ) → 0 < x → x < tens (suc k) → 48 < getD (digits (suc k) x) 0 0
-unfolding tens lastDigit
+first-digit : (k x : ℕ) → 0 < x → x < tenTo (suc k) → 48 < getD (digits (suc k) x) 0 0
+unfolding tenTo lastDigit
 first-digit zero x p h = rw (digits-one 0 x h) (omega arith)
 first-digit (suc k) x p h =
     ⊎-elim (λ e. let l = ltb-true x 10 e in rw (digits-one (suc k) x l) (omega (arith, l)))
@@ -87,5 +91,5 @@ first-digit (suc k) x p h =
     (true-or-false (ltb x 10))
 
 pub no-zero-first : (x : ℕ) → 0 < x → x < 1000000 → getD (decimal x) 0 0 ≡ 48 → ⊥
-unfolding decimal tens
+unfolding decimal tenTo
 no-zero-first x p h e = omega (arith, first-digit 5 x p h, e)

@@ -83,9 +83,10 @@ pub record Meanings : Type 0 where
   pub fault-words : (P : Plan) (s : ℕ) → fault P s ≡ (safe P s && (hasPractice P s && hits P (lost P) s (P .practice s)))
   pub fault-named : (P : Plan) (s x : ℕ)
       → (faultOutcome P s ≡ some x) ↔ ((fault P s ≡ true) × LowestHit P (lost P) s (P .practice s) x)
-  -- rule L5: a number is printed in decimal digits that tell it, and the first is 0 for the number 0 alone
+  -- rule L5: a number's bytes are decimal digits and tell it, and the first is 0 for the number 0 alone
   pub only-digits : (x i : ℕ) → i < length (decimal x) → (48 ≤ getD (decimal x) i 0) × (getD (decimal x) i 0 ≤ 57)
   pub number-told : (x : ℕ) → x < 1000000 → told 0 (decimal x) ≡ x
+  pub zero-printed : decimal 0 ≡ 48 ∷ []
   pub no-zero-first : (x : ℕ) → 0 < x → x < 1000000 → getD (decimal x) 0 0 ≡ 48 → ⊥
   -- rule L7: a state's line ends in the fault's word, which is a dot exactly where there is no fault, and tells the outcome where there is
   pub last-word : (P : Plan) (s : ℕ) → (front : List ℕ) × (stateLine P s ≡ front ++ 32 ∷ (faultSign (faultOutcome P s) ++ 10 ∷ []))

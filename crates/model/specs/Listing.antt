@@ -22,7 +22,7 @@ use Rattle.model.specs.Held.{planOf}
 unfoldable pub lastDigit : ℕ → ℕ
 lastDigit x = 48 + x % 10
 
--- the last digits of x, k at most: where there are two or more, those of x / 10 come first
+-- the digits of x, or its last k if there are more: those of x / 10, unless x is below 10, and then the last
 unfoldable pub digits : ℕ → ℕ → List ℕ
 digits zero x = []
 digits (suc k) x = cond (ltb x 10) [] (digits k (x / 10)) ++ lastDigit x ∷ []
@@ -31,7 +31,7 @@ digits (suc k) x = cond (ltb x 10) [] (digits k (x / 10)) ++ lastDigit x ∷ []
 unfoldable pub decimal : ℕ → List ℕ
 decimal x = digits 6 x
 
--- the number that digits tell, behind those of a
+-- the number that digits tell, with those of a in front
 unfoldable pub told : ℕ → List ℕ → ℕ
 told a [] = a
 told a (d ∷ ds) = told (a * 10 + (d - 48)) ds

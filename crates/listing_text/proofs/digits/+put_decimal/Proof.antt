@@ -1,5 +1,5 @@
--- A number below ten is its last digit; of any other the digits before the last are those of its tenth, stored by the call of itself. The
--- number itself falls.
+-- Below ten a number is its last digit; otherwise the call of itself stores the digits of its tenth, and the last one follows. The number
+-- falls from call to call.
 use mathlib.Core.List.{List}
 use Prim.Native.Nat.{ℕ, _+_, _<_, _≤_}
 use native.Mathlib.Omega.{arith}
@@ -75,8 +75,7 @@ module _ (t : ℕ) where
       let past-put-decimal = past-last-digit .before .before .before .before in
       let entry = past-put-decimal .before .before .before .before in
       let high = past-put-decimal .put-decimal .ensures .0 in
-      let low = rw (past-last-digit .last-digit2 .ensures) at (c .before .before .put-one2 .ensures) in
-      (
+      let low = rw (past-last-digit .last-digit2 .ensures) at (c .before .before .put-one2 .ensures) in (
         rw (decimal-more (entry .args .x) (omega arith) (omega arith)) (wrote-then high low),
         omega (arith, five-bytes high (omega arith)),
       )
