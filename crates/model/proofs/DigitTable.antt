@@ -1,6 +1,6 @@
 -- Every number is printed as it was when its digits were copied in pairs out of a table (rule L5a, lapsed). The table, and what was copied
 -- out of it, are defined here for this theorem alone.
-use mathlib.Core.Path.{_≡_, refl, sym, ap, _∙_}
+use mathlib.Core.Path.{_≡_, refl, sym, _∙_}
 use mathlib.Core.Bool.{cond}
 use mathlib.Core.Logic.{⊎-elim}
 use mathlib.Core.List.{List, [], _∷_, _++_, append-assoc}

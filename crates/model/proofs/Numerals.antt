@@ -69,14 +69,14 @@ only-digits x i h = all-at (all-digits 6 x) 0 i h
 
 -- ---- the first of them
 
+pub zero-printed : decimal 0 ≡ 48 ∷ []
+unfolding decimal digits lastDigit
+zero-printed = refl
+
 some-digit : (k x : ℕ) → 0 < length (digits (suc k) x)
 some-digit k x =
     ⊎-elim (λ e. omega (arith, ap length (digits-one k x (ltb-true x 10 e)))) (λ e. omega (arith, more-length k x (ltb-false x 10 e)))
     (true-or-false (ltb x 10))
-
-pub zero-printed : decimal 0 ≡ 48 ∷ []
-unfolding decimal digits lastDigit
-zero-printed = refl
 
 first-more : (k x : ℕ) → 10 ≤ x → getD (digits (suc (suc k)) x) 0 0 ≡ getD (digits (suc k) (x / 10)) 0 0
 first-more k x l =
