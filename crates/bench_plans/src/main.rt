@@ -25,7 +25,7 @@ mod print;
 mod same;
 mod verdicts;
 
-pub fn try_file(
+fn try_file(
     file: &[u8],
     rows: &mut [Row],
     firsts: &mut [u16],
