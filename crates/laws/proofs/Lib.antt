@@ -17,6 +17,7 @@ pub mod Scans
 pub mod Stores
 pub mod Tries
 pub mod Agree
+pub mod Contrary
 pub mod Counts
 pub mod Defaults
 pub mod EntryFound

@@ -10,6 +10,11 @@ unfoldable pub any : (ℕ → Bool) → List ℕ → Bool
 any f [] = false
 any f (x ∷ xs) = f x || any f xs
 
+-- every member of the list passes
+unfoldable pub each : (ℕ → Bool) → List ℕ → Bool
+each f [] = true
+each f (x ∷ xs) = f x && each f xs
+
 -- the first member of the list that passes
 unfoldable pub first : (ℕ → Bool) → List ℕ → Option ℕ
 first f [] = none

@@ -19,7 +19,7 @@ use Rattle.model.specs.Sound.{Sound}
 use Rattle.model.specs.SoundTest.{sound}
 use Rattle.model.specs.Held.{treeOf, planIn}
 use Rattle.model.specs.Calls.{writeCall}
-use Rattle.model.specs.Claims.{Short, Conditions, Meanings, Rules}
+use Rattle.model.specs.Claims.{Short, Conditions, Meanings, Rules, Contests}
 use Rattle.model.proofs.HeldPlan.{states-held}
 use Rattle.model.proofs.SoundFacts.{sound-facts}
 use Rattle.model.proofs.Soundness.{sound-iff}
@@ -40,6 +40,7 @@ use Rattle.model.proofs.FileLength.{length-bytes}
 use Rattle.model.proofs.Bench.{bench-plans, case-A-listing}
 use Rattle.model.proofs.ListingLength.{listing-length}
 use Rattle.model.proofs.Delivered.{decide-demand3, search-demand3}
+use Rattle.model.proofs.ContestCalls.{contest-iff, contest-unsound, contest-stranger, contest-moves, contest-only, contested}
 use Rattle.model.proofs.GateDemands.{gate-decide-demand3, gate-search-demand3}
 
 -- ---- demand 1
@@ -131,6 +132,19 @@ conditions = record {
         (⊎-elim (λ (S, h, is). rw is (Refusing.searching-stranger T (passes T S) start commands scratch h))
         (λ (S, i, short, is). rw is (Refusing.searching-cramped T (passes T S) start commands scratch i short))),
   );
+  contest-given = λ T s k held. (
+    λ e. let w = contest-iff T s k held .0 e in (sounds T (w .sounds), w .inside, w .few, w .is),
+    λ (S, i, few, is). contest-iff T s k held .1 (record { sounds = passes T S; inside = i; few = few; is = is }),
+  );
+  contest-refused = λ T s k r. (
+    λ e.
+        ⊎-elim (λ (u, is). inl (unsound T u, is))
+        (⊎-elim (λ (q, h, is). inr (inl (sounds T q, h, is))) (λ (q, i, many, is). inr (inr (sounds T q, i, many, is))))
+        (contest-only T s k r e),
+    ⊎-elim (λ (u, is). rw is (contest-unsound T s k (stops T u)))
+        (⊎-elim (λ (S, h, is). rw is (contest-stranger T s k (passes T S) h))
+        (λ (S, i, many, is). rw is (contest-moves T s k (passes T S) i many))),
+  );
 }
 
 -- ---- demand 2
@@ -199,3 +213,8 @@ rules = record {
   gate-decided = gate-decide-demand3;
   gate-searched = gate-search-demand3;
 }
+
+-- ---- the contest
+
+pub contests : Contests
+contests = record { contested = contested }

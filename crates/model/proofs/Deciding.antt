@@ -40,7 +40,7 @@ run-inside P S s l (w ▸ m) i =
 
 module _ (P : Plan) (s : ℕ) (ρ : Rule) (C : Commanding P s ρ) where
   -- the rule has a failing run of at most k moves
-  abbrev Within : ℕ → Type 0
+  abbrev pub Within : ℕ → Type 0
   Within k = (f : Fails P s ρ) × (moves (f .run) ≤ k)
 
   -- a run that has come to layer k goes on to fail in at most k moves more
@@ -73,7 +73,7 @@ module _ (P : Plan) (s : ℕ) (ρ : Rule) (C : Commanding P s ρ) where
   caught zero = λ w i u e. (record { run = w; is-run = i; under = u; fails = e }, omega arith)
   caught (suc k) = caught-next k (caught k)
 
-  rank-within : (r : ℕ) → rank P s ≡ some r → Within r
+  pub rank-within : (r : ℕ) → rank P s ≡ some r → Within r
   unfolding present
   rank-within r e = let f = caught r noMoves tt tt (rank-some P s r e .0) in (f .0, omega (arith, f .1))
 
@@ -95,7 +95,7 @@ module _ (P : Plan) (S : Valid P) (C : ℕ → Option ℕ) (is-chosen : (t : ℕ
       let (act, own, out) = choice-some P (lost P) (present s w) (m .command) (sym (taken w (i .0)) ∙ u .1) in
       misses P (lost P) (present s w) (m .command) (m .landing) out (i .1 .landed)
 
-  chosen-commanding : Commanding P s (positional C s)
+  pub chosen-commanding : Commanding P s (positional C s)
   chosen-commanding = record {
     own = λ w c i e. choice-some P (lost P) (present s w) c (sym (taken w i) ∙ e) .1;
     acts = λ w i u a.
@@ -103,7 +103,7 @@ module _ (P : Plan) (S : Valid P) (C : ℕ → Option ℕ) (is-chosen : (t : ℕ
         (c, taken w i ∙ e);
   }
 
-  chosen-holds : (w : Run) → IsRun P s w → Under (positional C s) w → RunHolds P s w
+  pub chosen-holds : (w : Run) → IsRun P s w → Under (positional C s) w → RunHolds P s w
   chosen-holds w i u = safe-stands P S (present s w) (run-inside P S s in-plan w i) (stays w i u)
 
   chosen-spared : Fails P s (positional C s) → ⊥
@@ -149,7 +149,7 @@ module _ (P : Plan) (s r : ℕ) where
   unfoldable pub delaying : Rule
   delaying w = else-first (evading w) (P .commands (present s w))
 
-  delaying-commanding : Commanding P s delaying
+  pub delaying-commanding : Commanding P s delaying
   unfolding delaying
   delaying-commanding = record {
     own = λ w c i e.
@@ -170,7 +170,7 @@ module _ (P : Plan) (s r : ℕ) where
         let free = not-forced P (r - 2 - moves w) (present s w) (rw q at below) in
         rw q′ (avoids P (layer P (r - 2 - moves w)) (present s w) m free (i .1) (u .1))
 
-    delaying-survives : 0 < r → Survives P s delaying (λ w. moves w ≤ r - 1)
+    pub delaying-survives : 0 < r → Survives P s delaying (λ w. moves w ≤ r - 1)
     delaying-survives pos w i u k = not-failing P (r - 1 - moves w) (present s w) (later w i u (omega arith))
 
 -- ---- the claim

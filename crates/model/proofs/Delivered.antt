@@ -1,12 +1,12 @@
 -- Demand 3 over what the calls answer and leave in the tables that they are lent.
-use mathlib.Core.Path.{_≡_, subst, _∙_}
+use mathlib.Core.Path.{_≡_, ap, subst, _∙_}
 use mathlib.Core.Bool.{Bool, true}
 use mathlib.Core.List.{List}
 use Prim.Native.Nat.{ℕ, _<_}
 use native.Mathlib.Omega.{arith}
 use lib.ListN.{length, getD}
 use Rattle.laws.specs.Lists.{tabulate, overwrite}
-use Rattle.laws.specs.Entry.{FFFF, entry}
+use Rattle.laws.specs.Entry.{FFFF, entry, fromEntry}
 use Rattle.laws.proofs.Lists.{length-tabulate, tabulate-at, getD-overwrite-below}
 use Rattle.model.specs.Verdict.{rank}
 use Rattle.model.specs.Command.{chosen}
@@ -17,13 +17,13 @@ use Rattle.model.specs.Tables.{Tables}
 use Rattle.model.specs.SoundTest.{sound}
 use Rattle.model.specs.Held.{treeOf, planIn}
 use Rattle.model.specs.Calls.{left, rankTable, commandTable, resultTable, decideCall, searchCall}
-use Rattle.model.specs.Demand3.{Demand3, DecidingDemand3, SearchDemand3}
+use Rattle.model.specs.Demand3.{readEntry, Demand3, DecidingDemand3, SearchDemand3}
 use Rattle.model.proofs.Answers.{answer-inv}
 use Rattle.model.proofs.GoodTables.{sound-good}
 use Rattle.model.proofs.HeldPlan.{states-held}
 use Rattle.model.proofs.Valid.{sound-valid, few-states, few-commands}
 use Rattle.model.proofs.Answering.{deciding-iff, searching-iff}
-use Rattle.model.proofs.Demands.{demand3}
+use Rattle.model.proofs.Demands.{rank-entry, demand3}
 
 -- an entry that was written
 entry-written : (f : ℕ → ℕ) (n : ℕ) (table : List ℕ) (s : ℕ) → s < n → getD (overwrite (tabulate f 0 n) table) s FFFF ≡ f s
@@ -65,6 +65,20 @@ module _ (T : Tables) (sounds : sound T ≡ true) where
       let (P, decided, _) = answer-inv tally _ counts e in
       let D = deciding-iff T (length ranks) (length commands) (length marks) (length scratch) P .0 decided in
       rw (decided, ← (D .is)) (of-tables ranks commands a inside table)
+
+-- the ranks that deciding leaves are read as what they are
+pub ranks-read : (T : Tables) (ranks commands marks scratch : List ℕ) (counts : List (List ℕ))
+    → decideCall T ranks commands marks scratch .answers ≡ given counts
+    → (s : ℕ) → s < T .size .n → readEntry (decideCall T ranks commands marks scratch .ranks) s ≡ rank (planIn T) s
+unfolding left rankTable readEntry planIn
+ranks-read T ranks commands marks scratch counts e s inside =
+    let (P, decided, _) = answer-inv tally _ counts e in
+    let D = deciding-iff T (length ranks) (length commands) (length marks) (length scratch) P .0 decided in
+    let g = sound-good T (D .sounds) in
+    rw (decided, ← (D .is))
+    (ap fromEntry (entry-written (λ t. entry (rank (planIn T) t)) (planIn T .states) ranks s (rw (states-held T) inside))
+    ∙ rank-entry (planIn T) (sound-valid T (D .sounds)) (omega (arith, few-states (treeOf T) g))
+    (λ t h. omega (arith, few-commands (treeOf T) g t h)) s)
 
 -- of deciding's call, where it answers
 pub decide-demand3 : (T : Tables) (ranks commands marks scratch : List ℕ) (counts : List (List ℕ))

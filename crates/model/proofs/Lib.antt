@@ -66,4 +66,7 @@ pub mod BoundaryCases
 pub mod Gating
 pub mod GateDemands
 pub mod GateTables
+pub mod Contests
+pub mod ContestCalls
+pub mod ContestCases
 pub mod Claimed

@@ -20,14 +20,14 @@ either false b e = inl refl
 either true b e = inr e
 
 -- a test on the way is the one that refused, or it held and what is behind it refused
-need-refused : {A : Type 0} (q r : Refusal) (t : Bool) (x : Answer A) → (need q t >> x) ≡ refused r
+pub need-refused : {A : Type 0} (q r : Refusal) (t : Bool) (x : Answer A) → (need q t >> x) ≡ refused r
     → ((t ≡ false) × (r ≡ q)) ⊎ ((t ≡ true) × (x ≡ refused r))
 unfolding need _>>_
 need-refused q r false x e = inl (refl, sym (refused-inj e))
 need-refused q r true x e = inr (refl, e)
 
 -- the last test, before the answer
-last-refused : {A : Type 0} (q r : Refusal) (t : Bool) (a : A) → (need q t >> given a) ≡ refused r → (t ≡ false) × (r ≡ q)
+pub last-refused : {A : Type 0} (q r : Refusal) (t : Bool) (a : A) → (need q t >> given a) ≡ refused r → (t ≡ false) × (r ≡ q)
 last-refused q r t a e = ⊎-elim (λ h. h) (λ h. absurd (not-both (sym (h .1)))) (need-refused q r t (given a) e)
 
 -- which of the tables is shorter than its count

@@ -6,7 +6,7 @@ use native.Mathlib.Omega.{arith}
 use lib.Dec.{ltb, eqb·suc-zero}
 use borrow.Author.Tests.{eqb-true, eq-eqb, ltb-true, lt-ltb}
 use Rattle.model.specs.Plan.{Plan, ordinary, failing, active, resting, Valid}
-use Rattle.laws.proofs.Tests.{refute, and-both, and-join}
+use Rattle.laws.proofs.Tests.{clash, refute, and-both, and-join}
 
 module _ (P : Plan) (s : ℕ) where
   pub active-is : active P s ≡ true → (ordinary P s ≡ true) × (0 < P .commands s)
@@ -45,3 +45,10 @@ module _ (P : Plan) (s : ℕ) where
     pub command-active : (c : ℕ) → c < P .commands s → active P s ≡ true
     unfolding ordinary
     command-active c m = active-of (eq-eqb (P .kind s) 0 (S .idle s c l m)) (omega arith)
+
+    pub idle-none : active P s ≡ false → P .commands s ≡ 0
+    idle-none e = go (P .commands s) refl
+      where
+        go : (n : ℕ) → P .commands s ≡ n → n ≡ 0
+        go zero q = refl
+        go (suc n) q = clash (command-active 0 (omega arith)) e

@@ -17,7 +17,7 @@ use Rattle.model.specs.Value.{LeastSolution}
 use Rattle.model.specs.Command.{choice}
 use Rattle.model.specs.Practice.{followed, practiceFails, fault, faultOutcome}
 use Rattle.model.specs.Search.{Result, ends, before, search}
-use Rattle.model.specs.Refusal.{Refusal, Cramped, Unsound, Stranger, Answer, given, refused}
+use Rattle.model.specs.Refusal.{Refusal, Cramped, Unsound, Stranger, Moves, Answer, given, refused}
 use Rattle.model.specs.File.{Tree, read}
 use Rattle.model.specs.Bytes.{bytesOf}
 use Rattle.model.specs.Tables.{Size, Row, Tables, Same, tablesOf, fileLength}
@@ -26,6 +26,7 @@ use Rattle.model.specs.SoundTest.{sound}
 use Rattle.model.specs.Held.{treeOf, planIn}
 use Rattle.model.specs.Calls.{reading, writing, deciding, searching, readCall, afterReading, writeCall, decideCall, searchCall}
 use Rattle.model.specs.Demand3.{DecidingDemand3, SearchDemand3}
+use Rattle.model.specs.Contest.{keeperTurn, maxMoves, contestCall, Contested}
 use Rattle.model.specs.Boundary.{entriesIn, verdictIn, roundsIn, gateDecideCall, gateSearchCall}
 use Rattle.model.specs.Listing.{decimal, told, faultSign, stateLine, maxListing, listing}
 use Rattle.model.specs.Bench.{judged, benches, caseA, caseAListing}
@@ -57,6 +58,11 @@ pub record Conditions : Type 0 where
   pub searching-refused : (T : Tables) (start commands scratch : ℕ) (r : Refusal) → (searching T start commands scratch ≡ refused r)
       ↔ (((Sound T → ⊥) × (r ≡ Unsound)) ⊎ ((Sound T × (T .size .n ≤ start) × (r ≡ Stranger))
       ⊎ (Sound T × (start < T .size .n) × ((commands < T .size .n) ⊎ (scratch < T .size .n)) × (r ≡ Cramped))))
+  pub contest-given : (T : Tables) (s k : ℕ) (held : Bool) → (contestCall T s k ≡ given held)
+      ↔ (Sound T × (s < T .size .n) × (k ≤ maxMoves) × (keeperTurn (planIn T) k s ≡ held))
+  pub contest-refused : (T : Tables) (s k : ℕ) (r : Refusal) → (contestCall T s k ≡ refused r)
+      ↔ (((Sound T → ⊥) × (r ≡ Unsound)) ⊎ ((Sound T × (T .size .n ≤ s) × (r ≡ Stranger))
+      ⊎ (Sound T × (s < T .size .n) × (maxMoves < k) × (r ≡ Moves))))
 
 -- ---- rule D2: the definitions that compute say what the words say, and both round trips
 
@@ -127,3 +133,8 @@ pub record Rules : Type 0 where
   pub gate-searched : (lent : Answer Tables) (T : Tables) → lent ≡ given T → (a : ℕ) (table space answer : List ℕ)
       → let S = gateSearchCall lent a table space answer in
       S .returns ≡ 0 → SearchDemand3 T a (verdictIn (S .answer)) (roundsIn (S .answer)) (entriesIn (S .commands))
+
+-- ---- part M: the contest, beside ranks, fewer moves and operating rules
+
+pub record Contests : Type 0 where
+  pub contested : (T : Tables) (s k : ℕ) (held : Bool) → contestCall T s k ≡ given held → Contested T s k held

@@ -18,6 +18,7 @@ pub mod SoundTest
 pub mod Held
 pub mod Calls
 pub mod Demand3
+pub mod Contest
 pub mod Boundary
 pub mod Rooms
 pub mod Listing

@@ -28,9 +28,9 @@ pub data Refusal : Type 0 where
   Unsound : Refusal
   -- rule E11: there is no state of the number that is named
   Stranger : Refusal
-  -- rule E21: the rest is set aside for calls that come later a contest of more than 8 moves is asked for
+  -- rule E22: a contest of more than 8 moves is asked for
   Moves : Refusal
-  -- a move is said to last 0 seconds, or more than 3,600
+  -- rule E21: no call gives this one and those after it yet. A move is said to last 0 seconds, or more than 3,600
   Seconds : Refusal
   -- a doubtful outcome of a command is one of its sure ones
   Doubtful : Refusal

@@ -1,0 +1,82 @@
+-- The loop of the works' turn: outcome after outcome is tried until one gives the keeper a turn that is not held.
+use mathlib.Core.Path.{_≡_, refl, sym, ap, _∙_}
+use mathlib.Core.Bool.{Bool, true, false, not, _&&_}
+use mathlib.Core.List.{List}
+use Prim.Native.Nat.{ℕ, _+_, _-_, _<_, _≤_}
+use native.Mathlib.Omega.{arith}
+use lib.ListN.{length, getD}
+use lib.Seq.{slice}
+use borrow.Author.Tests.{not-true, not-false}
+use Rattle.laws.specs.Sets.{each}
+use Rattle.laws.proofs.Scans.{each-part, each-no-part}
+use Rattle.model.specs.Plan.{Plan}
+use Rattle.model.specs.Places.{startIn}
+use Rattle.model.specs.Contest.{worksTurn, keeperTurn, maxMoves}
+use Rattle.tables.specs.declared.Size.{Size}
+use Rattle.tables.specs.Spans.{commandsOf}
+use Rattle.contest.specs.Laid.{laidPlan, Laid}
+use Rattle.contest.specs.Memo.{Told, After}
+use Rattle.contest.proofs.LaidPlans.{laid-works, laid-inside}
+
+-- the outcomes from place i on decide the turn at command c of s
+pub record Answering (size : Size) (seeds froms tos firsts outcomes : List ℕ) (k s c end i : ℕ) (memo₀ memo : List ℕ) : Type 0 where
+  pub laid : Laid size seeds froms tos firsts outcomes
+  pub few : k ≤ maxMoves
+  pub since : i ≤ end
+  pub long : end ≤ length outcomes
+  pub states : (j : ℕ) → j < end → getD outcomes j 0 < size .n
+  pub decides : let P = laidPlan size seeds froms tos firsts outcomes in
+      each (keeperTurn P k) (slice i end outcomes) ≡ worksTurn P (keeperTurn P k) s c
+  pub told : Told (laidPlan size seeds froms tos firsts outcomes) (size .n) memo
+  pub same : length memo ≡ length memo₀
+
+pub answering-start : {size : Size} {seeds froms tos firsts outcomes memo : List ℕ} {k s c : ℕ} → Laid size seeds froms tos firsts outcomes
+    → ((s < size .n) × ((c < getD tos s 0 - getD froms s 0) × (k ≤ maxMoves)))
+    × Told (laidPlan size seeds froms tos firsts outcomes) (size .n) memo
+    → (first from end : ℕ) → first ≡ getD froms s 0 → from ≡ startIn (commandsOf size firsts outcomes) (first + c)
+    → end ≡ startIn (commandsOf size firsts outcomes) (first + c + 1)
+    → Answering size seeds froms tos firsts outcomes k s c end from memo memo
+answering-start {size} {seeds} {froms} {tos} {firsts} {outcomes} {memo} {k} {s} {c} laid (b, told) first from end p q r =
+    let place = ap (λ (x : ℕ). x + c) p in
+    let (since, long, states) = laid-inside laid s c (b .0) (b .1 .0) _ from end place q r in
+    record {
+      laid = laid;
+      few = b .1 .1;
+      since = since;
+      long = long;
+      states = states;
+      decides = laid-works size seeds froms tos firsts outcomes s _ c _ from end place q r;
+      told = told;
+      same = refl;
+    }
+
+module _ {size : Size} {seeds froms tos firsts outcomes : List ℕ} {k s c end i : ℕ} {memo₀ memo : List ℕ}
+    (w : Answering size seeds froms tos firsts outcomes k s c end i memo₀ memo) where
+  abbrev P : Plan
+  P = laidPlan size seeds froms tos firsts outcomes
+
+  abbrev turn : Bool
+  turn = worksTurn P (keeperTurn P k) s c
+
+  module _ (h : i < end) (x : ℕ) (p : x ≡ getD outcomes i 0) (memo′ : List ℕ) (r : Bool)
+      (a : After P (size .n) memo memo′ r (keeperTurn P k x)) where
+    next : r && each (keeperTurn P k) (slice (i + 1) end outcomes) ≡ turn
+    next = sym (each-part (keeperTurn P k) outcomes i end h (w .long) ∙ rw (← p, ← (a .0)) refl) ∙ w .decides
+
+    pub answering-next : not r ≡ false → Answering size seeds froms tos firsts outcomes k s c end (i + 1) memo₀ memo′
+    answering-next f = record {
+      laid = w .laid;
+      few = w .few;
+      since = omega arith;
+      long = w .long;
+      states = w .states;
+      decides = rw (not-false r f) at next;
+      told = a .1 .0;
+      same = a .1 .1 ∙ w .same;
+    }
+
+    pub answering-found : not r ≡ true → After P (size .n) memo₀ memo′ false turn
+    answering-found t = (rw (not-true r t) at next, (a .1 .0, a .1 .1 ∙ w .same))
+
+  pub answering-done : end ≤ i → After P (size .n) memo₀ memo true turn
+  answering-done h = (sym (each-no-part (keeperTurn P k) outcomes i end (w .since) h) ∙ w .decides, (w .told, w .same))

@@ -1,0 +1,129 @@
+// The keeper's turn and the works' turn, which call one another while the moves left fall (rule N7). Plain recursion would work a turn out
+// again wherever it is met, which no controller lives to see the end of; the memo has each turn of the keeper from the first time on.
+ghost use mathlib.Core.Path.{_≡_};
+ghost use Prim.Native.Nat.{_-_, _<_, _≤_};
+ghost use lib.ListN.{length, getD};
+ghost use Rattle.model.specs.Contest.{worksTurn, keeperTurn, maxMoves};
+ghost use Rattle.contest.specs.Laid.{laidPlan, Laid};
+ghost use Rattle.contest.specs.Memo.{Told, Known};
+use crate::memo::HELD;
+use crate::memo::NOT_HELD;
+use crate::memo::UNKNOWN;
+use crate::memo::memo_place;
+use tables::Size;
+use tables::entries::at;
+use tables::entries::first_outcome;
+use tables::entries::put;
+
+// What is known of the keeper's turn at s with k moves left before a command is tried, as an entry of the memo.
+fn known_turn(
+    size: Size,
+    seeds: &[u16],
+    froms: &[u16],
+    tos: &[u16],
+    firsts: &[u16],
+    outcomes: &[u16],
+    memo: &[u16],
+    s: usize,
+    k: usize,
+) -> usize
+    requires { ⌜ Laid size (now seeds) (now froms) (now tos) (now firsts) (now outcomes) ⌝ }
+    requires { ⌜ (s < size .n) × (k ≤ maxMoves) ⌝ }
+    requires { ⌜ Told (laidPlan size (now seeds) (now froms) (now tos) (now firsts) (now outcomes)) (size .n) (now memo) ⌝ }
+    ensures { λ r. ⌜
+        Known (laidPlan size (now (seeds .entry)) (now (froms .entry)) (now (tos .entry)) (now (firsts .entry)) (now (outcomes .entry)))
+        k s r
+        ⌝ }
+{
+    if at(seeds, s) == 0 {
+        return NOT_HELD;
+    }
+    if at(tos, s) <= at(froms, s) {
+        return HELD;
+    }
+    if k == 0 {
+        return HELD;
+    }
+    at(memo, memo_place(s, k))
+}
+
+// Whether the keeper's turn at s is held with k moves left. Free is which turns the memo has afterwards: what it has of any is true.
+pub fn keeper_turn(
+    size: Size,
+    seeds: &[u16],
+    froms: &[u16],
+    tos: &[u16],
+    firsts: &[u16],
+    outcomes: &[u16],
+    memo: &mut [u16],
+    s: usize,
+    k: usize,
+) -> bool
+    requires { ⌜ Laid size (now seeds) (now froms) (now tos) (now firsts) (now outcomes) ⌝ }
+    requires { ⌜ (s < size .n) × (k ≤ maxMoves) ⌝ }
+    requires { ⌜ Told (laidPlan size (now seeds) (now froms) (now tos) (now firsts) (now outcomes)) (size .n) (now memo) ⌝ }
+    ensures { λ r. ⌜
+        (let P = laidPlan size (now (seeds .entry)) (now (froms .entry)) (now (tos .entry)) (now (firsts .entry)) (now (outcomes .entry)) in
+        r ≡ keeperTurn P k s)
+        ⌝ }
+    ensures { λ _. ⌜
+        (let P = laidPlan size (now (seeds .entry)) (now (froms .entry)) (now (tos .entry)) (now (firsts .entry)) (now (outcomes .entry)) in
+        Told P (size .n) (now (memo .exit)))
+        ⌝ }
+    ensures { λ _. ⌜ length (now (memo .exit)) ≡ length (now (memo .entry)) ⌝ }
+{
+    let known = known_turn(size, seeds, froms, tos, firsts, outcomes, memo, s, k);
+    if known != UNKNOWN {
+        return known == HELD;
+    }
+    let count = at(tos, s) - at(froms, s);
+    let mut c = 0;
+    while c < count {
+        if works_turn(size, seeds, froms, tos, firsts, outcomes, memo, s, c, k - 1) {
+            put(memo, memo_place(s, k), HELD);
+            return true;
+        }
+        c += 1;
+    }
+    put(memo, memo_place(s, k), NOT_HELD);
+    false
+}
+
+// Whether each outcome of command c of s gives the keeper a held turn with k moves left.
+fn works_turn(
+    size: Size,
+    seeds: &[u16],
+    froms: &[u16],
+    tos: &[u16],
+    firsts: &[u16],
+    outcomes: &[u16],
+    memo: &mut [u16],
+    s: usize,
+    c: usize,
+    k: usize,
+) -> bool
+    requires { ⌜ Laid size (now seeds) (now froms) (now tos) (now firsts) (now outcomes) ⌝ }
+    requires { ⌜ (s < size .n) × ((c < getD (now tos) s 0 - getD (now froms) s 0) × (k ≤ maxMoves)) ⌝ }
+    requires { ⌜ Told (laidPlan size (now seeds) (now froms) (now tos) (now firsts) (now outcomes)) (size .n) (now memo) ⌝ }
+    ensures { λ r. ⌜
+        (let P = laidPlan size (now (seeds .entry)) (now (froms .entry)) (now (tos .entry)) (now (firsts .entry)) (now (outcomes .entry)) in
+        r ≡ worksTurn P (keeperTurn P k) s c)
+        ⌝ }
+    ensures { λ _. ⌜
+        (let P = laidPlan size (now (seeds .entry)) (now (froms .entry)) (now (tos .entry)) (now (firsts .entry)) (now (outcomes .entry)) in
+        Told P (size .n) (now (memo .exit)))
+        ⌝ }
+    ensures { λ _. ⌜ length (now (memo .exit)) ≡ length (now (memo .entry)) ⌝ }
+{
+    let place = at(froms, s) + c;
+    let mut i = first_outcome(size, firsts, place);
+    let end = first_outcome(size, firsts, place + 1);
+    while i < end {
+        let next = at(outcomes, i);
+        if !keeper_turn(size, seeds, froms, tos, firsts, outcomes, memo, next, k) {
+            return false;
+        }
+        i += 1;
+    }
+    true
+}
