@@ -1,4 +1,4 @@
-// The numbers of the input, and the lesser of two.
+// The numbers of the input, the lesser of two, and large ones.
 ghost use mathlib.Core.Path.{_≡_};
 ghost use mathlib.Core.Bool.{cond};
 ghost use Prim.Native.Nat.{_+_, _*_, _<_, _≤_};
@@ -27,4 +27,12 @@ pub fn least(a: usize, b: usize) -> usize
         return a;
     }
     b
+}
+
+// A number whose bits stand far above those of an entry.
+pub fn far(x: usize) -> usize
+    requires { ⌜ x < 256 * 256 ⌝ }
+    ensures { λ r. ⌜ r ≡ x * 281474976710656 ⌝ }
+{
+    x * 281474976710656
 }

@@ -1,8 +1,6 @@
-// The questions on a plan: all that is answered and left in the tables.
+// Deciding and the search: all that is answered and left in the tables.
 ghost use Prim.Native.Nat.{_≤_};
 ghost use Rattle.model.specs.File.{maxStates};
-use crate::numbers::least;
-use crate::numbers::next;
 use crate::print::print_entries;
 use crate::print::print_number;
 use crate::print::print_refusal;
@@ -109,7 +107,7 @@ pub fn answer(
 }
 
 // Lends as many places of each table as are asked for.
-pub fn ask(
+pub fn ask_tables(
     size: Size,
     rows: &[Row],
     firsts: &[u16],
@@ -136,16 +134,4 @@ pub fn ask(
         &mut marks[..places],
         &mut scratch[..places],
     );
-}
-
-// As many questions as the input has on this plan.
-pub fn ask_all(size: Size, rows: &[Row], firsts: &[u16], outcomes: &[u16], questions: usize) {
-    let mut left = questions;
-    while left > 0 {
-        let call = next();
-        let start = next();
-        let places = least(next(), Size::STATES);
-        ask(size, rows, firsts, outcomes, call, start, places);
-        left -= 1;
-    }
 }

@@ -229,7 +229,7 @@ abbrev b16 : Syntax.Body
 b16 = Syntax.assign (Syntax.place 25 List.[]) (Syntax.aggregate (List._∷_ (Syntax.copy (Syntax.place 24 List.[])) (List._∷_ (Syntax.copy (Syntax.place 4 (List._∷_ (Syntax.field 1) List.[]))) List.[])))
 
 abbrev b17 : Syntax.Body
-b17 = Syntax.call "bench_plans::verdicts::ask_all" (List._∷_ (Syntax.copy (Syntax.place 19 List.[])) (List._∷_ (Syntax.copy (Syntax.place 21 List.[])) (List._∷_ (Syntax.copy (Syntax.place 23 List.[])) (List._∷_ (Syntax.copy (Syntax.place 25 List.[])) (List._∷_ (Syntax.copy (Syntax.place 5 List.[])) List.[]))))) (Syntax.place 17 List.[])
+b17 = Syntax.call "bench_plans::questions::ask_all" (List._∷_ (Syntax.copy (Syntax.place 19 List.[])) (List._∷_ (Syntax.copy (Syntax.place 21 List.[])) (List._∷_ (Syntax.copy (Syntax.place 23 List.[])) (List._∷_ (Syntax.copy (Syntax.place 25 List.[])) (List._∷_ (Syntax.copy (Syntax.place 5 List.[])) List.[]))))) (Syntax.place 17 List.[])
 
 abbrev b18 : Syntax.Body
 b18 = Syntax.seq b16 b17
@@ -331,7 +331,7 @@ abbrev b50 : Syntax.Body
 b50 = Syntax.assign (Syntax.place 44 List.[]) (Syntax.aggregate (List._∷_ (Syntax.copy (Syntax.place 43 List.[])) (List._∷_ (Syntax.copy (Syntax.place 4 (List._∷_ (Syntax.field 1) List.[]))) List.[])))
 
 abbrev b51 : Syntax.Body
-b51 = Syntax.call "bench_plans::verdicts::ask_all" (List._∷_ (Syntax.copy (Syntax.place 8 List.[])) (List._∷_ (Syntax.copy (Syntax.place 40 List.[])) (List._∷_ (Syntax.copy (Syntax.place 42 List.[])) (List._∷_ (Syntax.copy (Syntax.place 44 List.[])) (List._∷_ (Syntax.copy (Syntax.place 5 List.[])) List.[]))))) (Syntax.place 26 List.[])
+b51 = Syntax.call "bench_plans::questions::ask_all" (List._∷_ (Syntax.copy (Syntax.place 8 List.[])) (List._∷_ (Syntax.copy (Syntax.place 40 List.[])) (List._∷_ (Syntax.copy (Syntax.place 42 List.[])) (List._∷_ (Syntax.copy (Syntax.place 44 List.[])) (List._∷_ (Syntax.copy (Syntax.place 5 List.[])) List.[]))))) (Syntax.place 26 List.[])
 
 abbrev b52 : Syntax.Body
 b52 = Syntax.seq b50 b51
@@ -1282,7 +1282,7 @@ module _ (claims· : Claims) where
   module _ (Pre· : (κs : Lifetimes.Lfts 4) → Kinds.Dens κs ps → Type 0) (Post· : (κs : Lifetimes.Lfts 4) → (a : Kinds.Dens κs ps) → Kinds.Plain 4 ps r κs) where
     module _ (M : Type 1) where
       abbrev pub Closed : Type 2
-      Closed = (𝓤 : URA.URA M) (H : Wp.Heap 𝓤) (A : Atoms.Atoms 𝓤) (W : Kit.Given 𝓤 H A) (𝓣 : Wp.Tables 𝓤 H) (known0 : Plain.Known 𝓤 H A W 𝓣 4 ps·0 r·0 (claims· .0) (claims· .1) "reading::read") (known1 : Plain.Known 𝓤 H A W 𝓣 0 ps·1 r·1 (claims· .2) (claims· .3) "tables::number") (known2 : Plain.Known 𝓤 H A W 𝓣 0 ps·2 r·2 (claims· .4) (claims· .5) "bench_plans::print::print_refusal") (known3 : Plain.Known 𝓤 H A W 𝓣 0 ps·3 r·3 (claims· .6) (claims· .7) "tables::Size::new") (known4 : Plain.Known 𝓤 H A W 𝓣 3 ps·4 r·4 (claims· .8) (claims· .9) "bench_plans::verdicts::ask_all") (known5 : Plain.Known 𝓤 H A W 𝓣 0 ps·5 r·5 (claims· .10) (claims· .11) "bench_plans::files::print_size") (known6 : Plain.Known 𝓤 H A W 𝓣 4 ps·6 r·6 (claims· .12) (claims· .13) "bench_plans::files::write_again") (known7 : Plain.Known 𝓤 H A W 𝓣 3 ps·7 r·7 (claims· .14) (claims· .15) "bench_plans::files::read_again") (known8 : Plain.Known 𝓤 H A W 𝓣 0 ps·8 r·8 (claims· .16) (claims· .17) "bench_plans::files::print_again") → Statement.Triple 𝓤 (Wp.WpFn 𝓤 H (𝓣 .C) (𝓣 .Λ) (Function.fnOf 4 ps r xs m hs body)) (Function.plainOf 𝓤 H A 4 ps r Pre· Post·)
+      Closed = (𝓤 : URA.URA M) (H : Wp.Heap 𝓤) (A : Atoms.Atoms 𝓤) (W : Kit.Given 𝓤 H A) (𝓣 : Wp.Tables 𝓤 H) (known0 : Plain.Known 𝓤 H A W 𝓣 4 ps·0 r·0 (claims· .0) (claims· .1) "reading::read") (known1 : Plain.Known 𝓤 H A W 𝓣 0 ps·1 r·1 (claims· .2) (claims· .3) "tables::number") (known2 : Plain.Known 𝓤 H A W 𝓣 0 ps·2 r·2 (claims· .4) (claims· .5) "bench_plans::print::print_refusal") (known3 : Plain.Known 𝓤 H A W 𝓣 0 ps·3 r·3 (claims· .6) (claims· .7) "tables::Size::new") (known4 : Plain.Known 𝓤 H A W 𝓣 3 ps·4 r·4 (claims· .8) (claims· .9) "bench_plans::questions::ask_all") (known5 : Plain.Known 𝓤 H A W 𝓣 0 ps·5 r·5 (claims· .10) (claims· .11) "bench_plans::files::print_size") (known6 : Plain.Known 𝓤 H A W 𝓣 4 ps·6 r·6 (claims· .12) (claims· .13) "bench_plans::files::write_again") (known7 : Plain.Known 𝓤 H A W 𝓣 3 ps·7 r·7 (claims· .14) (claims· .15) "bench_plans::files::read_again") (known8 : Plain.Known 𝓤 H A W 𝓣 0 ps·8 r·8 (claims· .16) (claims· .17) "bench_plans::files::print_again") → Statement.Triple 𝓤 (Wp.WpFn 𝓤 H (𝓣 .C) (𝓣 .Λ) (Function.fnOf 4 ps r xs m hs body)) (Function.plainOf 𝓤 H A 4 ps r Pre· Post·)
 
     module _ where
       abbrev at0 : Typed.TF T45 O1
@@ -1620,7 +1620,7 @@ module _ (claims· : Claims) where
 
       module _ {M : Type 1} (𝓤 : URA.URA M) (H : Wp.Heap 𝓤) (A : Atoms.Atoms 𝓤) (W : Kit.Given 𝓤 H A) (𝓣 : Wp.Tables 𝓤 H) where
         abbrev Knowns : Type 1
-        Knowns = Plain.Known 𝓤 H A W 𝓣 4 ps·0 r·0 (claims· .0) (claims· .1) "reading::read" × Plain.Known 𝓤 H A W 𝓣 0 ps·1 r·1 (claims· .2) (claims· .3) "tables::number" × Plain.Known 𝓤 H A W 𝓣 0 ps·2 r·2 (claims· .4) (claims· .5) "bench_plans::print::print_refusal" × Plain.Known 𝓤 H A W 𝓣 0 ps·3 r·3 (claims· .6) (claims· .7) "tables::Size::new" × Plain.Known 𝓤 H A W 𝓣 3 ps·4 r·4 (claims· .8) (claims· .9) "bench_plans::verdicts::ask_all" × Plain.Known 𝓤 H A W 𝓣 0 ps·5 r·5 (claims· .10) (claims· .11) "bench_plans::files::print_size" × Plain.Known 𝓤 H A W 𝓣 4 ps·6 r·6 (claims· .12) (claims· .13) "bench_plans::files::write_again" × Plain.Known 𝓤 H A W 𝓣 3 ps·7 r·7 (claims· .14) (claims· .15) "bench_plans::files::read_again" × Plain.Known 𝓤 H A W 𝓣 0 ps·8 r·8 (claims· .16) (claims· .17) "bench_plans::files::print_again"
+        Knowns = Plain.Known 𝓤 H A W 𝓣 4 ps·0 r·0 (claims· .0) (claims· .1) "reading::read" × Plain.Known 𝓤 H A W 𝓣 0 ps·1 r·1 (claims· .2) (claims· .3) "tables::number" × Plain.Known 𝓤 H A W 𝓣 0 ps·2 r·2 (claims· .4) (claims· .5) "bench_plans::print::print_refusal" × Plain.Known 𝓤 H A W 𝓣 0 ps·3 r·3 (claims· .6) (claims· .7) "tables::Size::new" × Plain.Known 𝓤 H A W 𝓣 3 ps·4 r·4 (claims· .8) (claims· .9) "bench_plans::questions::ask_all" × Plain.Known 𝓤 H A W 𝓣 0 ps·5 r·5 (claims· .10) (claims· .11) "bench_plans::files::print_size" × Plain.Known 𝓤 H A W 𝓣 4 ps·6 r·6 (claims· .12) (claims· .13) "bench_plans::files::write_again" × Plain.Known 𝓤 H A W 𝓣 3 ps·7 r·7 (claims· .14) (claims· .15) "bench_plans::files::read_again" × Plain.Known 𝓤 H A W 𝓣 0 ps·8 r·8 (claims· .16) (claims· .17) "bench_plans::files::print_again"
 
       module _ (κs : Lifetimes.Lfts 4) (qs : Lifetimes.Shares 4) where
         abbrev g4 : List.List Row.Entry
@@ -2156,7 +2156,7 @@ module _ (claims· : Claims) where
           E = Frame.EnvOf 𝓤 H (List._∷_ (Kinds.tyR r) (Enter.tysP ps xs)) bs
 
           d0 : Typed.Typed 𝓤 H A 𝓣 E G45 b17 Δ1 at0
-          d0 = Typed.s-typed 𝓤 H A W 𝓣 E G45 b17 Δ1 (λ Ψ. Typed.both s43 (Typed.pass T46 T47 s44 (Typed.pass T47 T48 s45 (Typed.pass T48 T49 s46 (Typed.pass T49 T50 s47 (Typed.pass T50 T51 s48 (Typed.pass T51 T53 s50 (Typed.pass T53 T56 s53 (Typed.pass T56 T59 s56 Ψ))))))))) tt (Typed.g-post 𝓤 H A W 𝓣 E G45 G59 G60 b17 (λ Ψ. Typed.both s43 (Typed.pass T46 T47 s44 (Typed.pass T47 T48 s45 (Typed.pass T48 T49 s46 (Typed.pass T49 T50 s47 (Typed.pass T50 T51 s48 (Typed.pass T51 T53 s50 (Typed.pass T53 T56 s53 (Typed.pass T56 T59 s56 Ψ))))))))) (λ Ψ. Ψ) (Typed.g-post 𝓤 H A W 𝓣 E G45 G58 G59 b17 (λ Ψ. Typed.both s43 (Typed.pass T46 T47 s44 (Typed.pass T47 T48 s45 (Typed.pass T48 T49 s46 (Typed.pass T49 T50 s47 (Typed.pass T50 T51 s48 (Typed.pass T51 T53 s50 (Typed.pass T53 T56 s53 Ψ)))))))) (Typed.pass T56 T59 s56) (Typed.g-post 𝓤 H A W 𝓣 E G45 G57 G58 b17 (λ Ψ. Typed.both s43 (Typed.pass T46 T47 s44 (Typed.pass T47 T48 s45 (Typed.pass T48 T49 s46 (Typed.pass T49 T50 s47 (Typed.pass T50 T51 s48 (Typed.pass T51 T53 s50 (Typed.pass T53 T56 s53 Ψ)))))))) (λ Ψ. Ψ) (Typed.g-post 𝓤 H A W 𝓣 E G45 G56 G57 b17 (λ Ψ. Typed.both s43 (Typed.pass T46 T47 s44 (Typed.pass T47 T48 s45 (Typed.pass T48 T49 s46 (Typed.pass T49 T50 s47 (Typed.pass T50 T51 s48 (Typed.pass T51 T53 s50 (Typed.pass T53 T56 s53 Ψ)))))))) (λ Ψ. Ψ) (Typed.g-post 𝓤 H A W 𝓣 E G45 G55 G56 b17 (λ Ψ. Typed.both s43 (Typed.pass T46 T47 s44 (Typed.pass T47 T48 s45 (Typed.pass T48 T49 s46 (Typed.pass T49 T50 s47 (Typed.pass T50 T51 s48 (Typed.pass T51 T53 s50 Ψ))))))) (Typed.pass T53 T56 s53) (Typed.g-post 𝓤 H A W 𝓣 E G45 G54 G55 b17 (λ Ψ. Typed.both s43 (Typed.pass T46 T47 s44 (Typed.pass T47 T48 s45 (Typed.pass T48 T49 s46 (Typed.pass T49 T50 s47 (Typed.pass T50 T51 s48 (Typed.pass T51 T53 s50 Ψ))))))) (λ Ψ. Ψ) (Typed.g-post 𝓤 H A W 𝓣 E G45 G53 G54 b17 (λ Ψ. Typed.both s43 (Typed.pass T46 T47 s44 (Typed.pass T47 T48 s45 (Typed.pass T48 T49 s46 (Typed.pass T49 T50 s47 (Typed.pass T50 T51 s48 (Typed.pass T51 T53 s50 Ψ))))))) (λ Ψ. Ψ) (Typed.g-post 𝓤 H A W 𝓣 E G45 G52 G53 b17 (λ Ψ. Typed.both s43 (Typed.pass T46 T47 s44 (Typed.pass T47 T48 s45 (Typed.pass T48 T49 s46 (Typed.pass T49 T50 s47 (Typed.pass T50 T51 s48 Ψ)))))) (Typed.pass T51 T53 s50) (Typed.g-post 𝓤 H A W 𝓣 E G45 G51 G52 b17 (λ Ψ. Typed.both s43 (Typed.pass T46 T47 s44 (Typed.pass T47 T48 s45 (Typed.pass T48 T49 s46 (Typed.pass T49 T50 s47 (Typed.pass T50 T51 s48 Ψ)))))) (λ Ψ. Ψ) (Typed.g-post 𝓤 H A W 𝓣 E G45 G50 G51 b17 (λ Ψ. Typed.both s43 (Typed.pass T46 T47 s44 (Typed.pass T47 T48 s45 (Typed.pass T48 T49 s46 (Typed.pass T49 T50 s47 Ψ))))) (Typed.pass T50 T51 s48) (Typed.g-post 𝓤 H A W 𝓣 E G45 G49 G50 b17 (λ Ψ. Typed.both s43 (Typed.pass T46 T47 s44 (Typed.pass T47 T48 s45 (Typed.pass T48 T49 s46 Ψ)))) (Typed.pass T49 T50 s47) (Typed.g-post 𝓤 H A W 𝓣 E G45 G48 G49 b17 (λ Ψ. Typed.both s43 (Typed.pass T46 T47 s44 (Typed.pass T47 T48 s45 Ψ))) (Typed.pass T48 T49 s46) (Typed.g-post 𝓤 H A W 𝓣 E G45 G47 G48 b17 (λ Ψ. Typed.both s43 (Typed.pass T46 T47 s44 Ψ)) (Typed.pass T47 T48 s45) (Typed.g-post 𝓤 H A W 𝓣 E G45 G46 G47 b17 (Typed.both s43) (Typed.pass T46 T47 s44) (Plain.t-call-plain 𝓤 H A W 𝓣 3 ps·4 r·4 (claims· .8) (claims· .9) "bench_plans::verdicts::ask_all" (known .4) E (λ pos β. β) G45 (record { pos = 19; st = List.[]; d = 0; at = λ x. x }, (record { pos = 21; ty = Syntax.tyRef Syntax.erased Syntax.imm (Memory.pointee (T.the-row .written)); ref = λ x. x }, (record { pos = 23; ty = Syntax.tyRef Syntax.erased Syntax.imm (Syntax.tyInt Syntax.w16); ref = λ x. x }, (record { pos = 25; ty = Syntax.tyRef Syntax.erased Syntax.imm (Syntax.tyInt Syntax.w16); ref = λ x. x }, (Num.vAt 5 λ x. x, tt))))) 17 (List._∷_ 7 (List._∷_ 8 (List._∷_ 9 List.[]))) (Call.sub-id 𝓤 H A W (G45 .slots)) ((Yields.yields-copy 𝓤 H A W (λ ρ. Unit) (Declared'.row Size.the-type) Path'.refl (Copies.cStruct Size.the-type Laws''.the-laws Laws''.the-copy .copy 𝓤 H A W) (Rows.whole (Declared'.row Size.the-type)) (λ x. x) (λ x. x) (λ ρ told. Local.mem-whole 𝓤 H A W (Declared'.row Size.the-type) ρ) λ ρ told. Local.whole-mem 𝓤 H A W (Declared'.row Size.the-type) ρ, Path'.refl), (ShrSlice.spares-sslice 𝓤 H A W T.the-row ty·6 7, Shared.reads-sslice 𝓤 H A W T.the-row ty·6 7, Path'.refl, (ShrSlice.spares-sslice 𝓤 H A W (Referent.rtF (Referent.fInt Syntax.w16)) ty·1 8, Shared.reads-sslice 𝓤 H A W (Referent.rtF (Referent.fInt Syntax.w16)) ty·1 8, Path'.refl, (ShrSlice.spares-sslice 𝓤 H A W (Referent.rtF (Referent.fInt Syntax.w16)) ty·1 9, Shared.reads-sslice 𝓤 H A W (Referent.rtF (Referent.fInt Syntax.w16)) ty·1 9, Path'.refl, ((Scalar.reads-sc 𝓤 H A W (Row.sInt Syntax.w64), Path'.refl), tt))))) (Reads.room-gone 𝓤 H A Syntax.tyUnit) (tt, (tt, (tt, tt))) Path'.refl) (Scalar.g-room 𝓤 H A W E G46 21 ty·11 (Shared.room-sslice 𝓤 H A W T.the-row ty·6 7))) (Scalar.g-room 𝓤 H A W E G47 23 ty·9 (Shared.room-sslice 𝓤 H A W (Referent.rtF (Referent.fInt Syntax.w16)) ty·1 8))) (Scalar.g-room 𝓤 H A W E G48 25 ty·9 (Shared.room-sslice 𝓤 H A W (Referent.rtF (Referent.fInt Syntax.w16)) ty·1 9))) (Scalar.g-room 𝓤 H A W E G49 17 Syntax.tyUnit (Scalar.room-sc 𝓤 H A W Row.sUnit))) (Scalar.g-room 𝓤 H A W E G50 19 ty·12 (Local.room-whole 𝓤 H A W (Declared'.row Size.the-type) ty·12 Path'.refl))) (Lifetime.g-end 𝓤 H A W E G51 7 Path'.refl)) (Reshare.g-back-sl-shr 𝓤 H A W E T.the-row G52 2 1 7 ty·7 (Row.lease (κs .1 .0) (qs .1 .0)) (λ x. x) (Reads.as-is 𝓤 H A (Reshare.mslice-owedS T.the-row ty·7 1 7 (Row.lease (κs .1 .0) (qs .1 .0)))) Path'.refl Path'.refl)) (Lifetime.g-forget 𝓤 H A W E G53 7 Row.dead Path'.refl)) (Lifetime.g-end 𝓤 H A W E G54 8 Path'.refl)) (Reshare.g-back-sl-shr 𝓤 H A W E (Referent.rtF (Referent.fInt Syntax.w16)) G55 3 2 8 ty·3 (Row.lease (κs .1 .1 .0) (qs .1 .1 .0)) (λ x. x) (Reads.as-is 𝓤 H A (Reshare.mslice-owedS (Referent.rtF (Referent.fInt Syntax.w16)) ty·3 2 8 (Row.lease (κs .1 .1 .0) (qs .1 .1 .0)))) Path'.refl Path'.refl)) (Lifetime.g-forget 𝓤 H A W E G56 8 Row.dead Path'.refl)) (Lifetime.g-end 𝓤 H A W E G57 9 Path'.refl)) (Reshare.g-back-sl-shr 𝓤 H A W E (Referent.rtF (Referent.fInt Syntax.w16)) G58 4 3 9 ty·4 (Row.lease (κs .1 .1 .1 .0) (qs .1 .1 .1 .0)) (λ x. x) (Reads.as-is 𝓤 H A (Reshare.mslice-owedS (Referent.rtF (Referent.fInt Syntax.w16)) ty·4 3 9 (Row.lease (κs .1 .1 .1 .0) (qs .1 .1 .1 .0)))) Path'.refl Path'.refl)) (Lifetime.g-forget 𝓤 H A W E G59 9 Row.dead Path'.refl))
+          d0 = Typed.s-typed 𝓤 H A W 𝓣 E G45 b17 Δ1 (λ Ψ. Typed.both s43 (Typed.pass T46 T47 s44 (Typed.pass T47 T48 s45 (Typed.pass T48 T49 s46 (Typed.pass T49 T50 s47 (Typed.pass T50 T51 s48 (Typed.pass T51 T53 s50 (Typed.pass T53 T56 s53 (Typed.pass T56 T59 s56 Ψ))))))))) tt (Typed.g-post 𝓤 H A W 𝓣 E G45 G59 G60 b17 (λ Ψ. Typed.both s43 (Typed.pass T46 T47 s44 (Typed.pass T47 T48 s45 (Typed.pass T48 T49 s46 (Typed.pass T49 T50 s47 (Typed.pass T50 T51 s48 (Typed.pass T51 T53 s50 (Typed.pass T53 T56 s53 (Typed.pass T56 T59 s56 Ψ))))))))) (λ Ψ. Ψ) (Typed.g-post 𝓤 H A W 𝓣 E G45 G58 G59 b17 (λ Ψ. Typed.both s43 (Typed.pass T46 T47 s44 (Typed.pass T47 T48 s45 (Typed.pass T48 T49 s46 (Typed.pass T49 T50 s47 (Typed.pass T50 T51 s48 (Typed.pass T51 T53 s50 (Typed.pass T53 T56 s53 Ψ)))))))) (Typed.pass T56 T59 s56) (Typed.g-post 𝓤 H A W 𝓣 E G45 G57 G58 b17 (λ Ψ. Typed.both s43 (Typed.pass T46 T47 s44 (Typed.pass T47 T48 s45 (Typed.pass T48 T49 s46 (Typed.pass T49 T50 s47 (Typed.pass T50 T51 s48 (Typed.pass T51 T53 s50 (Typed.pass T53 T56 s53 Ψ)))))))) (λ Ψ. Ψ) (Typed.g-post 𝓤 H A W 𝓣 E G45 G56 G57 b17 (λ Ψ. Typed.both s43 (Typed.pass T46 T47 s44 (Typed.pass T47 T48 s45 (Typed.pass T48 T49 s46 (Typed.pass T49 T50 s47 (Typed.pass T50 T51 s48 (Typed.pass T51 T53 s50 (Typed.pass T53 T56 s53 Ψ)))))))) (λ Ψ. Ψ) (Typed.g-post 𝓤 H A W 𝓣 E G45 G55 G56 b17 (λ Ψ. Typed.both s43 (Typed.pass T46 T47 s44 (Typed.pass T47 T48 s45 (Typed.pass T48 T49 s46 (Typed.pass T49 T50 s47 (Typed.pass T50 T51 s48 (Typed.pass T51 T53 s50 Ψ))))))) (Typed.pass T53 T56 s53) (Typed.g-post 𝓤 H A W 𝓣 E G45 G54 G55 b17 (λ Ψ. Typed.both s43 (Typed.pass T46 T47 s44 (Typed.pass T47 T48 s45 (Typed.pass T48 T49 s46 (Typed.pass T49 T50 s47 (Typed.pass T50 T51 s48 (Typed.pass T51 T53 s50 Ψ))))))) (λ Ψ. Ψ) (Typed.g-post 𝓤 H A W 𝓣 E G45 G53 G54 b17 (λ Ψ. Typed.both s43 (Typed.pass T46 T47 s44 (Typed.pass T47 T48 s45 (Typed.pass T48 T49 s46 (Typed.pass T49 T50 s47 (Typed.pass T50 T51 s48 (Typed.pass T51 T53 s50 Ψ))))))) (λ Ψ. Ψ) (Typed.g-post 𝓤 H A W 𝓣 E G45 G52 G53 b17 (λ Ψ. Typed.both s43 (Typed.pass T46 T47 s44 (Typed.pass T47 T48 s45 (Typed.pass T48 T49 s46 (Typed.pass T49 T50 s47 (Typed.pass T50 T51 s48 Ψ)))))) (Typed.pass T51 T53 s50) (Typed.g-post 𝓤 H A W 𝓣 E G45 G51 G52 b17 (λ Ψ. Typed.both s43 (Typed.pass T46 T47 s44 (Typed.pass T47 T48 s45 (Typed.pass T48 T49 s46 (Typed.pass T49 T50 s47 (Typed.pass T50 T51 s48 Ψ)))))) (λ Ψ. Ψ) (Typed.g-post 𝓤 H A W 𝓣 E G45 G50 G51 b17 (λ Ψ. Typed.both s43 (Typed.pass T46 T47 s44 (Typed.pass T47 T48 s45 (Typed.pass T48 T49 s46 (Typed.pass T49 T50 s47 Ψ))))) (Typed.pass T50 T51 s48) (Typed.g-post 𝓤 H A W 𝓣 E G45 G49 G50 b17 (λ Ψ. Typed.both s43 (Typed.pass T46 T47 s44 (Typed.pass T47 T48 s45 (Typed.pass T48 T49 s46 Ψ)))) (Typed.pass T49 T50 s47) (Typed.g-post 𝓤 H A W 𝓣 E G45 G48 G49 b17 (λ Ψ. Typed.both s43 (Typed.pass T46 T47 s44 (Typed.pass T47 T48 s45 Ψ))) (Typed.pass T48 T49 s46) (Typed.g-post 𝓤 H A W 𝓣 E G45 G47 G48 b17 (λ Ψ. Typed.both s43 (Typed.pass T46 T47 s44 Ψ)) (Typed.pass T47 T48 s45) (Typed.g-post 𝓤 H A W 𝓣 E G45 G46 G47 b17 (Typed.both s43) (Typed.pass T46 T47 s44) (Plain.t-call-plain 𝓤 H A W 𝓣 3 ps·4 r·4 (claims· .8) (claims· .9) "bench_plans::questions::ask_all" (known .4) E (λ pos β. β) G45 (record { pos = 19; st = List.[]; d = 0; at = λ x. x }, (record { pos = 21; ty = Syntax.tyRef Syntax.erased Syntax.imm (Memory.pointee (T.the-row .written)); ref = λ x. x }, (record { pos = 23; ty = Syntax.tyRef Syntax.erased Syntax.imm (Syntax.tyInt Syntax.w16); ref = λ x. x }, (record { pos = 25; ty = Syntax.tyRef Syntax.erased Syntax.imm (Syntax.tyInt Syntax.w16); ref = λ x. x }, (Num.vAt 5 λ x. x, tt))))) 17 (List._∷_ 7 (List._∷_ 8 (List._∷_ 9 List.[]))) (Call.sub-id 𝓤 H A W (G45 .slots)) ((Yields.yields-copy 𝓤 H A W (λ ρ. Unit) (Declared'.row Size.the-type) Path'.refl (Copies.cStruct Size.the-type Laws''.the-laws Laws''.the-copy .copy 𝓤 H A W) (Rows.whole (Declared'.row Size.the-type)) (λ x. x) (λ x. x) (λ ρ told. Local.mem-whole 𝓤 H A W (Declared'.row Size.the-type) ρ) λ ρ told. Local.whole-mem 𝓤 H A W (Declared'.row Size.the-type) ρ, Path'.refl), (ShrSlice.spares-sslice 𝓤 H A W T.the-row ty·6 7, Shared.reads-sslice 𝓤 H A W T.the-row ty·6 7, Path'.refl, (ShrSlice.spares-sslice 𝓤 H A W (Referent.rtF (Referent.fInt Syntax.w16)) ty·1 8, Shared.reads-sslice 𝓤 H A W (Referent.rtF (Referent.fInt Syntax.w16)) ty·1 8, Path'.refl, (ShrSlice.spares-sslice 𝓤 H A W (Referent.rtF (Referent.fInt Syntax.w16)) ty·1 9, Shared.reads-sslice 𝓤 H A W (Referent.rtF (Referent.fInt Syntax.w16)) ty·1 9, Path'.refl, ((Scalar.reads-sc 𝓤 H A W (Row.sInt Syntax.w64), Path'.refl), tt))))) (Reads.room-gone 𝓤 H A Syntax.tyUnit) (tt, (tt, (tt, tt))) Path'.refl) (Scalar.g-room 𝓤 H A W E G46 21 ty·11 (Shared.room-sslice 𝓤 H A W T.the-row ty·6 7))) (Scalar.g-room 𝓤 H A W E G47 23 ty·9 (Shared.room-sslice 𝓤 H A W (Referent.rtF (Referent.fInt Syntax.w16)) ty·1 8))) (Scalar.g-room 𝓤 H A W E G48 25 ty·9 (Shared.room-sslice 𝓤 H A W (Referent.rtF (Referent.fInt Syntax.w16)) ty·1 9))) (Scalar.g-room 𝓤 H A W E G49 17 Syntax.tyUnit (Scalar.room-sc 𝓤 H A W Row.sUnit))) (Scalar.g-room 𝓤 H A W E G50 19 ty·12 (Local.room-whole 𝓤 H A W (Declared'.row Size.the-type) ty·12 Path'.refl))) (Lifetime.g-end 𝓤 H A W E G51 7 Path'.refl)) (Reshare.g-back-sl-shr 𝓤 H A W E T.the-row G52 2 1 7 ty·7 (Row.lease (κs .1 .0) (qs .1 .0)) (λ x. x) (Reads.as-is 𝓤 H A (Reshare.mslice-owedS T.the-row ty·7 1 7 (Row.lease (κs .1 .0) (qs .1 .0)))) Path'.refl Path'.refl)) (Lifetime.g-forget 𝓤 H A W E G53 7 Row.dead Path'.refl)) (Lifetime.g-end 𝓤 H A W E G54 8 Path'.refl)) (Reshare.g-back-sl-shr 𝓤 H A W E (Referent.rtF (Referent.fInt Syntax.w16)) G55 3 2 8 ty·3 (Row.lease (κs .1 .1 .0) (qs .1 .1 .0)) (λ x. x) (Reads.as-is 𝓤 H A (Reshare.mslice-owedS (Referent.rtF (Referent.fInt Syntax.w16)) ty·3 2 8 (Row.lease (κs .1 .1 .0) (qs .1 .1 .0)))) Path'.refl Path'.refl)) (Lifetime.g-forget 𝓤 H A W E G56 8 Row.dead Path'.refl)) (Lifetime.g-end 𝓤 H A W E G57 9 Path'.refl)) (Reshare.g-back-sl-shr 𝓤 H A W E (Referent.rtF (Referent.fInt Syntax.w16)) G58 4 3 9 ty·4 (Row.lease (κs .1 .1 .1 .0) (qs .1 .1 .1 .0)) (λ x. x) (Reads.as-is 𝓤 H A (Reshare.mslice-owedS (Referent.rtF (Referent.fInt Syntax.w16)) ty·4 3 9 (Row.lease (κs .1 .1 .1 .0) (qs .1 .1 .1 .0)))) Path'.refl Path'.refl)) (Lifetime.g-forget 𝓤 H A W E G59 9 Row.dead Path'.refl))
 
           d1 : Typed.Typed 𝓤 H A 𝓣 E G44 b18 Δ1 at1
           d1 = Typed.s-seq 𝓤 H A W 𝓣 E G44 G45 b16 b17 Δ1 (Typed.ask s42) at0 (Relend.t-sl-aggregate 𝓤 H A W E (Referent.rtF (Referent.fInt Syntax.w16)) 𝓣 (Relend.asShr (Referent.rtF (Referent.fInt Syntax.w16))) G44 24 25 9 ty·1 ty·1 (λ x. x) (Scalar.oFld 4 (List._∷_ (Syntax.field 1) List.[]) (Syntax.tyInt Syntax.w64) 8 λ v. Shared.lenV (v .0)) (Reads.as-is 𝓤 H A (Relend.ssptr (Referent.rtF (Referent.fInt Syntax.w16)) ty·1 9)) (Reads.room-gone 𝓤 H A ty·9) (Reshare.reads-owedS-len 𝓤 H A W (Referent.rtF (Referent.fInt Syntax.w16)) ty·4 3 9 (Row.lease (κs .1 .1 .1 .0) (qs .1 .1 .1 .0)) 8 Path'.refl, Path'.refl) Path'.refl Path'.refl λ b o k. tt) d0
@@ -2216,7 +2216,7 @@ module _ (claims· : Claims) where
           d19 = Typed.g-pre 𝓤 H A W 𝓣 E G26 G27 b27 Δ1 (Typed.both s24) at18 (Known.g-enum-known 𝓤 H A W E ReadAnswer.enum 1 G26 6 (λ x. x) (Reads.as-is 𝓤 H A (Rows.whole (Declared.row ReadAnswer.the-type)))) d18
 
           d20 : Typed.Typed 𝓤 H A 𝓣 E G120 b51 Δ1 at20
-          d20 = Typed.s-typed 𝓤 H A W 𝓣 E G120 b51 Δ1 (λ Ψ. Typed.both s118 (Typed.pass T121 T122 s119 (Typed.pass T122 T123 s120 (Typed.pass T123 T124 s121 (Typed.pass T124 T125 s122 (Typed.pass T125 T126 s123 (Typed.pass T126 T127 s124 (Typed.pass T127 T128 s125 (Typed.pass T128 T130 s127 (Typed.pass T130 T133 s130 (Typed.pass T133 T136 s133 Ψ))))))))))) tt (Typed.g-post 𝓤 H A W 𝓣 E G120 G136 G137 b51 (λ Ψ. Typed.both s118 (Typed.pass T121 T122 s119 (Typed.pass T122 T123 s120 (Typed.pass T123 T124 s121 (Typed.pass T124 T125 s122 (Typed.pass T125 T126 s123 (Typed.pass T126 T127 s124 (Typed.pass T127 T128 s125 (Typed.pass T128 T130 s127 (Typed.pass T130 T133 s130 (Typed.pass T133 T136 s133 Ψ))))))))))) (λ Ψ. Ψ) (Typed.g-post 𝓤 H A W 𝓣 E G120 G135 G136 b51 (λ Ψ. Typed.both s118 (Typed.pass T121 T122 s119 (Typed.pass T122 T123 s120 (Typed.pass T123 T124 s121 (Typed.pass T124 T125 s122 (Typed.pass T125 T126 s123 (Typed.pass T126 T127 s124 (Typed.pass T127 T128 s125 (Typed.pass T128 T130 s127 (Typed.pass T130 T133 s130 Ψ)))))))))) (Typed.pass T133 T136 s133) (Typed.g-post 𝓤 H A W 𝓣 E G120 G134 G135 b51 (λ Ψ. Typed.both s118 (Typed.pass T121 T122 s119 (Typed.pass T122 T123 s120 (Typed.pass T123 T124 s121 (Typed.pass T124 T125 s122 (Typed.pass T125 T126 s123 (Typed.pass T126 T127 s124 (Typed.pass T127 T128 s125 (Typed.pass T128 T130 s127 (Typed.pass T130 T133 s130 Ψ)))))))))) (λ Ψ. Ψ) (Typed.g-post 𝓤 H A W 𝓣 E G120 G133 G134 b51 (λ Ψ. Typed.both s118 (Typed.pass T121 T122 s119 (Typed.pass T122 T123 s120 (Typed.pass T123 T124 s121 (Typed.pass T124 T125 s122 (Typed.pass T125 T126 s123 (Typed.pass T126 T127 s124 (Typed.pass T127 T128 s125 (Typed.pass T128 T130 s127 (Typed.pass T130 T133 s130 Ψ)))))))))) (λ Ψ. Ψ) (Typed.g-post 𝓤 H A W 𝓣 E G120 G132 G133 b51 (λ Ψ. Typed.both s118 (Typed.pass T121 T122 s119 (Typed.pass T122 T123 s120 (Typed.pass T123 T124 s121 (Typed.pass T124 T125 s122 (Typed.pass T125 T126 s123 (Typed.pass T126 T127 s124 (Typed.pass T127 T128 s125 (Typed.pass T128 T130 s127 Ψ))))))))) (Typed.pass T130 T133 s130) (Typed.g-post 𝓤 H A W 𝓣 E G120 G131 G132 b51 (λ Ψ. Typed.both s118 (Typed.pass T121 T122 s119 (Typed.pass T122 T123 s120 (Typed.pass T123 T124 s121 (Typed.pass T124 T125 s122 (Typed.pass T125 T126 s123 (Typed.pass T126 T127 s124 (Typed.pass T127 T128 s125 (Typed.pass T128 T130 s127 Ψ))))))))) (λ Ψ. Ψ) (Typed.g-post 𝓤 H A W 𝓣 E G120 G130 G131 b51 (λ Ψ. Typed.both s118 (Typed.pass T121 T122 s119 (Typed.pass T122 T123 s120 (Typed.pass T123 T124 s121 (Typed.pass T124 T125 s122 (Typed.pass T125 T126 s123 (Typed.pass T126 T127 s124 (Typed.pass T127 T128 s125 (Typed.pass T128 T130 s127 Ψ))))))))) (λ Ψ. Ψ) (Typed.g-post 𝓤 H A W 𝓣 E G120 G129 G130 b51 (λ Ψ. Typed.both s118 (Typed.pass T121 T122 s119 (Typed.pass T122 T123 s120 (Typed.pass T123 T124 s121 (Typed.pass T124 T125 s122 (Typed.pass T125 T126 s123 (Typed.pass T126 T127 s124 (Typed.pass T127 T128 s125 Ψ)))))))) (Typed.pass T128 T130 s127) (Typed.g-post 𝓤 H A W 𝓣 E G120 G128 G129 b51 (λ Ψ. Typed.both s118 (Typed.pass T121 T122 s119 (Typed.pass T122 T123 s120 (Typed.pass T123 T124 s121 (Typed.pass T124 T125 s122 (Typed.pass T125 T126 s123 (Typed.pass T126 T127 s124 (Typed.pass T127 T128 s125 Ψ)))))))) (λ Ψ. Ψ) (Typed.g-post 𝓤 H A W 𝓣 E G120 G127 G128 b51 (λ Ψ. Typed.both s118 (Typed.pass T121 T122 s119 (Typed.pass T122 T123 s120 (Typed.pass T123 T124 s121 (Typed.pass T124 T125 s122 (Typed.pass T125 T126 s123 (Typed.pass T126 T127 s124 Ψ))))))) (Typed.pass T127 T128 s125) (Typed.g-post 𝓤 H A W 𝓣 E G120 G126 G127 b51 (λ Ψ. Typed.both s118 (Typed.pass T121 T122 s119 (Typed.pass T122 T123 s120 (Typed.pass T123 T124 s121 (Typed.pass T124 T125 s122 (Typed.pass T125 T126 s123 Ψ)))))) (Typed.pass T126 T127 s124) (Typed.g-post 𝓤 H A W 𝓣 E G120 G125 G126 b51 (λ Ψ. Typed.both s118 (Typed.pass T121 T122 s119 (Typed.pass T122 T123 s120 (Typed.pass T123 T124 s121 (Typed.pass T124 T125 s122 Ψ))))) (Typed.pass T125 T126 s123) (Typed.g-post 𝓤 H A W 𝓣 E G120 G124 G125 b51 (λ Ψ. Typed.both s118 (Typed.pass T121 T122 s119 (Typed.pass T122 T123 s120 (Typed.pass T123 T124 s121 Ψ)))) (Typed.pass T124 T125 s122) (Typed.g-post 𝓤 H A W 𝓣 E G120 G123 G124 b51 (λ Ψ. Typed.both s118 (Typed.pass T121 T122 s119 (Typed.pass T122 T123 s120 Ψ))) (Typed.pass T123 T124 s121) (Typed.g-post 𝓤 H A W 𝓣 E G120 G122 G123 b51 (λ Ψ. Typed.both s118 (Typed.pass T121 T122 s119 Ψ)) (Typed.pass T122 T123 s120) (Typed.g-post 𝓤 H A W 𝓣 E G120 G121 G122 b51 (Typed.both s118) (Typed.pass T121 T122 s119) (Plain.t-call-plain 𝓤 H A W 𝓣 3 ps·4 r·4 (claims· .8) (claims· .9) "bench_plans::verdicts::ask_all" (known .4) E (λ pos β. β) G120 (record { pos = 8; st = List.[]; d = 0; at = λ x. x }, (record { pos = 40; ty = Syntax.tyRef Syntax.erased Syntax.imm (Memory.pointee (T.the-row .written)); ref = λ x. x }, (record { pos = 42; ty = Syntax.tyRef Syntax.erased Syntax.imm (Syntax.tyInt Syntax.w16); ref = λ x. x }, (record { pos = 44; ty = Syntax.tyRef Syntax.erased Syntax.imm (Syntax.tyInt Syntax.w16); ref = λ x. x }, (Num.vAt 5 λ x. x, tt))))) 26 (List._∷_ 16 (List._∷_ 17 (List._∷_ 18 List.[]))) (Call.sub-id 𝓤 H A W (G120 .slots)) ((Yields.yields-copy 𝓤 H A W (λ ρ. Unit) (Declared'.row Size.the-type) Path'.refl (Copies.cStruct Size.the-type Laws''.the-laws Laws''.the-copy .copy 𝓤 H A W) (Rows.whole (Declared'.row Size.the-type)) (λ x. x) (λ x. x) (λ ρ told. Local.mem-whole 𝓤 H A W (Declared'.row Size.the-type) ρ) λ ρ told. Local.whole-mem 𝓤 H A W (Declared'.row Size.the-type) ρ, Path'.refl), (ShrSlice.spares-sslice 𝓤 H A W T.the-row ty·6 16, Shared.reads-sslice 𝓤 H A W T.the-row ty·6 16, Path'.refl, (ShrSlice.spares-sslice 𝓤 H A W (Referent.rtF (Referent.fInt Syntax.w16)) ty·1 17, Shared.reads-sslice 𝓤 H A W (Referent.rtF (Referent.fInt Syntax.w16)) ty·1 17, Path'.refl, (ShrSlice.spares-sslice 𝓤 H A W (Referent.rtF (Referent.fInt Syntax.w16)) ty·1 18, Shared.reads-sslice 𝓤 H A W (Referent.rtF (Referent.fInt Syntax.w16)) ty·1 18, Path'.refl, ((Scalar.reads-sc 𝓤 H A W (Row.sInt Syntax.w64), Path'.refl), tt))))) (Reads.room-gone 𝓤 H A Syntax.tyUnit) (tt, (tt, (tt, tt))) Path'.refl) (Scalar.g-room 𝓤 H A W E G121 40 ty·11 (Shared.room-sslice 𝓤 H A W T.the-row ty·6 16))) (Scalar.g-room 𝓤 H A W E G122 42 ty·9 (Shared.room-sslice 𝓤 H A W (Referent.rtF (Referent.fInt Syntax.w16)) ty·1 17))) (Scalar.g-room 𝓤 H A W E G123 44 ty·9 (Shared.room-sslice 𝓤 H A W (Referent.rtF (Referent.fInt Syntax.w16)) ty·1 18))) (Scalar.g-room 𝓤 H A W E G124 8 ty·12 (Local.room-whole 𝓤 H A W (Declared'.row Size.the-type) ty·12 Path'.refl))) (Scalar.g-room 𝓤 H A W E G125 9 Syntax.tyBool (Scalar.room-sc 𝓤 H A W Row.sBool))) (Scalar.g-room 𝓤 H A W E G126 10 Syntax.tyBool (Scalar.room-sc 𝓤 H A W Row.sBool))) (Scalar.g-room 𝓤 H A W E G127 26 Syntax.tyUnit (Scalar.room-sc 𝓤 H A W Row.sUnit))) (Lifetime.g-end 𝓤 H A W E G128 16 Path'.refl)) (Reshare.g-back-sl-shr 𝓤 H A W E T.the-row G129 2 1 16 ty·7 (Row.lease (κs .1 .0) (qs .1 .0)) (λ x. x) (Reads.as-is 𝓤 H A (Reshare.mslice-owedS T.the-row ty·7 1 16 (Row.lease (κs .1 .0) (qs .1 .0)))) Path'.refl Path'.refl)) (Lifetime.g-forget 𝓤 H A W E G130 16 Row.dead Path'.refl)) (Lifetime.g-end 𝓤 H A W E G131 17 Path'.refl)) (Reshare.g-back-sl-shr 𝓤 H A W E (Referent.rtF (Referent.fInt Syntax.w16)) G132 3 2 17 ty·3 (Row.lease (κs .1 .1 .0) (qs .1 .1 .0)) (λ x. x) (Reads.as-is 𝓤 H A (Reshare.mslice-owedS (Referent.rtF (Referent.fInt Syntax.w16)) ty·3 2 17 (Row.lease (κs .1 .1 .0) (qs .1 .1 .0)))) Path'.refl Path'.refl)) (Lifetime.g-forget 𝓤 H A W E G133 17 Row.dead Path'.refl)) (Lifetime.g-end 𝓤 H A W E G134 18 Path'.refl)) (Reshare.g-back-sl-shr 𝓤 H A W E (Referent.rtF (Referent.fInt Syntax.w16)) G135 4 3 18 ty·4 (Row.lease (κs .1 .1 .1 .0) (qs .1 .1 .1 .0)) (λ x. x) (Reads.as-is 𝓤 H A (Reshare.mslice-owedS (Referent.rtF (Referent.fInt Syntax.w16)) ty·4 3 18 (Row.lease (κs .1 .1 .1 .0) (qs .1 .1 .1 .0)))) Path'.refl Path'.refl)) (Lifetime.g-forget 𝓤 H A W E G136 18 Row.dead Path'.refl))
+          d20 = Typed.s-typed 𝓤 H A W 𝓣 E G120 b51 Δ1 (λ Ψ. Typed.both s118 (Typed.pass T121 T122 s119 (Typed.pass T122 T123 s120 (Typed.pass T123 T124 s121 (Typed.pass T124 T125 s122 (Typed.pass T125 T126 s123 (Typed.pass T126 T127 s124 (Typed.pass T127 T128 s125 (Typed.pass T128 T130 s127 (Typed.pass T130 T133 s130 (Typed.pass T133 T136 s133 Ψ))))))))))) tt (Typed.g-post 𝓤 H A W 𝓣 E G120 G136 G137 b51 (λ Ψ. Typed.both s118 (Typed.pass T121 T122 s119 (Typed.pass T122 T123 s120 (Typed.pass T123 T124 s121 (Typed.pass T124 T125 s122 (Typed.pass T125 T126 s123 (Typed.pass T126 T127 s124 (Typed.pass T127 T128 s125 (Typed.pass T128 T130 s127 (Typed.pass T130 T133 s130 (Typed.pass T133 T136 s133 Ψ))))))))))) (λ Ψ. Ψ) (Typed.g-post 𝓤 H A W 𝓣 E G120 G135 G136 b51 (λ Ψ. Typed.both s118 (Typed.pass T121 T122 s119 (Typed.pass T122 T123 s120 (Typed.pass T123 T124 s121 (Typed.pass T124 T125 s122 (Typed.pass T125 T126 s123 (Typed.pass T126 T127 s124 (Typed.pass T127 T128 s125 (Typed.pass T128 T130 s127 (Typed.pass T130 T133 s130 Ψ)))))))))) (Typed.pass T133 T136 s133) (Typed.g-post 𝓤 H A W 𝓣 E G120 G134 G135 b51 (λ Ψ. Typed.both s118 (Typed.pass T121 T122 s119 (Typed.pass T122 T123 s120 (Typed.pass T123 T124 s121 (Typed.pass T124 T125 s122 (Typed.pass T125 T126 s123 (Typed.pass T126 T127 s124 (Typed.pass T127 T128 s125 (Typed.pass T128 T130 s127 (Typed.pass T130 T133 s130 Ψ)))))))))) (λ Ψ. Ψ) (Typed.g-post 𝓤 H A W 𝓣 E G120 G133 G134 b51 (λ Ψ. Typed.both s118 (Typed.pass T121 T122 s119 (Typed.pass T122 T123 s120 (Typed.pass T123 T124 s121 (Typed.pass T124 T125 s122 (Typed.pass T125 T126 s123 (Typed.pass T126 T127 s124 (Typed.pass T127 T128 s125 (Typed.pass T128 T130 s127 (Typed.pass T130 T133 s130 Ψ)))))))))) (λ Ψ. Ψ) (Typed.g-post 𝓤 H A W 𝓣 E G120 G132 G133 b51 (λ Ψ. Typed.both s118 (Typed.pass T121 T122 s119 (Typed.pass T122 T123 s120 (Typed.pass T123 T124 s121 (Typed.pass T124 T125 s122 (Typed.pass T125 T126 s123 (Typed.pass T126 T127 s124 (Typed.pass T127 T128 s125 (Typed.pass T128 T130 s127 Ψ))))))))) (Typed.pass T130 T133 s130) (Typed.g-post 𝓤 H A W 𝓣 E G120 G131 G132 b51 (λ Ψ. Typed.both s118 (Typed.pass T121 T122 s119 (Typed.pass T122 T123 s120 (Typed.pass T123 T124 s121 (Typed.pass T124 T125 s122 (Typed.pass T125 T126 s123 (Typed.pass T126 T127 s124 (Typed.pass T127 T128 s125 (Typed.pass T128 T130 s127 Ψ))))))))) (λ Ψ. Ψ) (Typed.g-post 𝓤 H A W 𝓣 E G120 G130 G131 b51 (λ Ψ. Typed.both s118 (Typed.pass T121 T122 s119 (Typed.pass T122 T123 s120 (Typed.pass T123 T124 s121 (Typed.pass T124 T125 s122 (Typed.pass T125 T126 s123 (Typed.pass T126 T127 s124 (Typed.pass T127 T128 s125 (Typed.pass T128 T130 s127 Ψ))))))))) (λ Ψ. Ψ) (Typed.g-post 𝓤 H A W 𝓣 E G120 G129 G130 b51 (λ Ψ. Typed.both s118 (Typed.pass T121 T122 s119 (Typed.pass T122 T123 s120 (Typed.pass T123 T124 s121 (Typed.pass T124 T125 s122 (Typed.pass T125 T126 s123 (Typed.pass T126 T127 s124 (Typed.pass T127 T128 s125 Ψ)))))))) (Typed.pass T128 T130 s127) (Typed.g-post 𝓤 H A W 𝓣 E G120 G128 G129 b51 (λ Ψ. Typed.both s118 (Typed.pass T121 T122 s119 (Typed.pass T122 T123 s120 (Typed.pass T123 T124 s121 (Typed.pass T124 T125 s122 (Typed.pass T125 T126 s123 (Typed.pass T126 T127 s124 (Typed.pass T127 T128 s125 Ψ)))))))) (λ Ψ. Ψ) (Typed.g-post 𝓤 H A W 𝓣 E G120 G127 G128 b51 (λ Ψ. Typed.both s118 (Typed.pass T121 T122 s119 (Typed.pass T122 T123 s120 (Typed.pass T123 T124 s121 (Typed.pass T124 T125 s122 (Typed.pass T125 T126 s123 (Typed.pass T126 T127 s124 Ψ))))))) (Typed.pass T127 T128 s125) (Typed.g-post 𝓤 H A W 𝓣 E G120 G126 G127 b51 (λ Ψ. Typed.both s118 (Typed.pass T121 T122 s119 (Typed.pass T122 T123 s120 (Typed.pass T123 T124 s121 (Typed.pass T124 T125 s122 (Typed.pass T125 T126 s123 Ψ)))))) (Typed.pass T126 T127 s124) (Typed.g-post 𝓤 H A W 𝓣 E G120 G125 G126 b51 (λ Ψ. Typed.both s118 (Typed.pass T121 T122 s119 (Typed.pass T122 T123 s120 (Typed.pass T123 T124 s121 (Typed.pass T124 T125 s122 Ψ))))) (Typed.pass T125 T126 s123) (Typed.g-post 𝓤 H A W 𝓣 E G120 G124 G125 b51 (λ Ψ. Typed.both s118 (Typed.pass T121 T122 s119 (Typed.pass T122 T123 s120 (Typed.pass T123 T124 s121 Ψ)))) (Typed.pass T124 T125 s122) (Typed.g-post 𝓤 H A W 𝓣 E G120 G123 G124 b51 (λ Ψ. Typed.both s118 (Typed.pass T121 T122 s119 (Typed.pass T122 T123 s120 Ψ))) (Typed.pass T123 T124 s121) (Typed.g-post 𝓤 H A W 𝓣 E G120 G122 G123 b51 (λ Ψ. Typed.both s118 (Typed.pass T121 T122 s119 Ψ)) (Typed.pass T122 T123 s120) (Typed.g-post 𝓤 H A W 𝓣 E G120 G121 G122 b51 (Typed.both s118) (Typed.pass T121 T122 s119) (Plain.t-call-plain 𝓤 H A W 𝓣 3 ps·4 r·4 (claims· .8) (claims· .9) "bench_plans::questions::ask_all" (known .4) E (λ pos β. β) G120 (record { pos = 8; st = List.[]; d = 0; at = λ x. x }, (record { pos = 40; ty = Syntax.tyRef Syntax.erased Syntax.imm (Memory.pointee (T.the-row .written)); ref = λ x. x }, (record { pos = 42; ty = Syntax.tyRef Syntax.erased Syntax.imm (Syntax.tyInt Syntax.w16); ref = λ x. x }, (record { pos = 44; ty = Syntax.tyRef Syntax.erased Syntax.imm (Syntax.tyInt Syntax.w16); ref = λ x. x }, (Num.vAt 5 λ x. x, tt))))) 26 (List._∷_ 16 (List._∷_ 17 (List._∷_ 18 List.[]))) (Call.sub-id 𝓤 H A W (G120 .slots)) ((Yields.yields-copy 𝓤 H A W (λ ρ. Unit) (Declared'.row Size.the-type) Path'.refl (Copies.cStruct Size.the-type Laws''.the-laws Laws''.the-copy .copy 𝓤 H A W) (Rows.whole (Declared'.row Size.the-type)) (λ x. x) (λ x. x) (λ ρ told. Local.mem-whole 𝓤 H A W (Declared'.row Size.the-type) ρ) λ ρ told. Local.whole-mem 𝓤 H A W (Declared'.row Size.the-type) ρ, Path'.refl), (ShrSlice.spares-sslice 𝓤 H A W T.the-row ty·6 16, Shared.reads-sslice 𝓤 H A W T.the-row ty·6 16, Path'.refl, (ShrSlice.spares-sslice 𝓤 H A W (Referent.rtF (Referent.fInt Syntax.w16)) ty·1 17, Shared.reads-sslice 𝓤 H A W (Referent.rtF (Referent.fInt Syntax.w16)) ty·1 17, Path'.refl, (ShrSlice.spares-sslice 𝓤 H A W (Referent.rtF (Referent.fInt Syntax.w16)) ty·1 18, Shared.reads-sslice 𝓤 H A W (Referent.rtF (Referent.fInt Syntax.w16)) ty·1 18, Path'.refl, ((Scalar.reads-sc 𝓤 H A W (Row.sInt Syntax.w64), Path'.refl), tt))))) (Reads.room-gone 𝓤 H A Syntax.tyUnit) (tt, (tt, (tt, tt))) Path'.refl) (Scalar.g-room 𝓤 H A W E G121 40 ty·11 (Shared.room-sslice 𝓤 H A W T.the-row ty·6 16))) (Scalar.g-room 𝓤 H A W E G122 42 ty·9 (Shared.room-sslice 𝓤 H A W (Referent.rtF (Referent.fInt Syntax.w16)) ty·1 17))) (Scalar.g-room 𝓤 H A W E G123 44 ty·9 (Shared.room-sslice 𝓤 H A W (Referent.rtF (Referent.fInt Syntax.w16)) ty·1 18))) (Scalar.g-room 𝓤 H A W E G124 8 ty·12 (Local.room-whole 𝓤 H A W (Declared'.row Size.the-type) ty·12 Path'.refl))) (Scalar.g-room 𝓤 H A W E G125 9 Syntax.tyBool (Scalar.room-sc 𝓤 H A W Row.sBool))) (Scalar.g-room 𝓤 H A W E G126 10 Syntax.tyBool (Scalar.room-sc 𝓤 H A W Row.sBool))) (Scalar.g-room 𝓤 H A W E G127 26 Syntax.tyUnit (Scalar.room-sc 𝓤 H A W Row.sUnit))) (Lifetime.g-end 𝓤 H A W E G128 16 Path'.refl)) (Reshare.g-back-sl-shr 𝓤 H A W E T.the-row G129 2 1 16 ty·7 (Row.lease (κs .1 .0) (qs .1 .0)) (λ x. x) (Reads.as-is 𝓤 H A (Reshare.mslice-owedS T.the-row ty·7 1 16 (Row.lease (κs .1 .0) (qs .1 .0)))) Path'.refl Path'.refl)) (Lifetime.g-forget 𝓤 H A W E G130 16 Row.dead Path'.refl)) (Lifetime.g-end 𝓤 H A W E G131 17 Path'.refl)) (Reshare.g-back-sl-shr 𝓤 H A W E (Referent.rtF (Referent.fInt Syntax.w16)) G132 3 2 17 ty·3 (Row.lease (κs .1 .1 .0) (qs .1 .1 .0)) (λ x. x) (Reads.as-is 𝓤 H A (Reshare.mslice-owedS (Referent.rtF (Referent.fInt Syntax.w16)) ty·3 2 17 (Row.lease (κs .1 .1 .0) (qs .1 .1 .0)))) Path'.refl Path'.refl)) (Lifetime.g-forget 𝓤 H A W E G133 17 Row.dead Path'.refl)) (Lifetime.g-end 𝓤 H A W E G134 18 Path'.refl)) (Reshare.g-back-sl-shr 𝓤 H A W E (Referent.rtF (Referent.fInt Syntax.w16)) G135 4 3 18 ty·4 (Row.lease (κs .1 .1 .1 .0) (qs .1 .1 .1 .0)) (λ x. x) (Reads.as-is 𝓤 H A (Reshare.mslice-owedS (Referent.rtF (Referent.fInt Syntax.w16)) ty·4 3 18 (Row.lease (κs .1 .1 .1 .0) (qs .1 .1 .1 .0)))) Path'.refl Path'.refl)) (Lifetime.g-forget 𝓤 H A W E G136 18 Row.dead Path'.refl))
 
           d21 : Typed.Typed 𝓤 H A 𝓣 E G119 b52 Δ1 at21
           d21 = Typed.s-seq 𝓤 H A W 𝓣 E G119 G120 b50 b51 Δ1 (Typed.ask s117) at20 (Relend.t-sl-aggregate 𝓤 H A W E (Referent.rtF (Referent.fInt Syntax.w16)) 𝓣 (Relend.asShr (Referent.rtF (Referent.fInt Syntax.w16))) G119 43 44 18 ty·1 ty·1 (λ x. x) (Scalar.oFld 4 (List._∷_ (Syntax.field 1) List.[]) (Syntax.tyInt Syntax.w64) 8 λ v. Shared.lenV (v .0)) (Reads.as-is 𝓤 H A (Relend.ssptr (Referent.rtF (Referent.fInt Syntax.w16)) ty·1 18)) (Reads.room-gone 𝓤 H A ty·9) (Reshare.reads-owedS-len 𝓤 H A W (Referent.rtF (Referent.fInt Syntax.w16)) ty·4 3 18 (Row.lease (κs .1 .1 .1 .0) (qs .1 .1 .1 .0)) 8 Path'.refl, Path'.refl) Path'.refl Path'.refl λ b o k. tt) d20
@@ -3281,6 +3281,6 @@ module _ (claims· : Claims) where
           pub asked : (a : Kinds.Dens κs ps) → (good : Kinds.GoodsP κs ps a) → (pre : Pre· κs a) → (bs : List.List Nat.ℕ) → Φ (Any.wantQ 4 ps r xs m κs qs a (Post· κs a)) (Function.init 4 ps r xs m κs qs a)
           asked = λ a good pre bs. laid record { κs = κs; args = record { file = a .0; rows = a .1 .0; firsts = a .1 .1 .0; outcomes = a .1 .1 .1 .0; questions = a .1 .1 .1 .1 .0 }; good = good; fits = record { questions = record { fits = good .1 .1 .1 .1 .0 .1 } }; pre = pre }
 
-        module _ {M : Type 1} (𝓤 : URA.URA M) (H : Wp.Heap 𝓤) (A : Atoms.Atoms 𝓤) (W : Kit.Given 𝓤 H A) (𝓣 : Wp.Tables 𝓤 H) (known0 : Plain.Known 𝓤 H A W 𝓣 4 ps·0 r·0 (claims· .0) (claims· .1) "reading::read") (known1 : Plain.Known 𝓤 H A W 𝓣 0 ps·1 r·1 (claims· .2) (claims· .3) "tables::number") (known2 : Plain.Known 𝓤 H A W 𝓣 0 ps·2 r·2 (claims· .4) (claims· .5) "bench_plans::print::print_refusal") (known3 : Plain.Known 𝓤 H A W 𝓣 0 ps·3 r·3 (claims· .6) (claims· .7) "tables::Size::new") (known4 : Plain.Known 𝓤 H A W 𝓣 3 ps·4 r·4 (claims· .8) (claims· .9) "bench_plans::verdicts::ask_all") (known5 : Plain.Known 𝓤 H A W 𝓣 0 ps·5 r·5 (claims· .10) (claims· .11) "bench_plans::files::print_size") (known6 : Plain.Known 𝓤 H A W 𝓣 4 ps·6 r·6 (claims· .12) (claims· .13) "bench_plans::files::write_again") (known7 : Plain.Known 𝓤 H A W 𝓣 3 ps·7 r·7 (claims· .14) (claims· .15) "bench_plans::files::read_again") (known8 : Plain.Known 𝓤 H A W 𝓣 0 ps·8 r·8 (claims· .16) (claims· .17) "bench_plans::files::print_again") where
+        module _ {M : Type 1} (𝓤 : URA.URA M) (H : Wp.Heap 𝓤) (A : Atoms.Atoms 𝓤) (W : Kit.Given 𝓤 H A) (𝓣 : Wp.Tables 𝓤 H) (known0 : Plain.Known 𝓤 H A W 𝓣 4 ps·0 r·0 (claims· .0) (claims· .1) "reading::read") (known1 : Plain.Known 𝓤 H A W 𝓣 0 ps·1 r·1 (claims· .2) (claims· .3) "tables::number") (known2 : Plain.Known 𝓤 H A W 𝓣 0 ps·2 r·2 (claims· .4) (claims· .5) "bench_plans::print::print_refusal") (known3 : Plain.Known 𝓤 H A W 𝓣 0 ps·3 r·3 (claims· .6) (claims· .7) "tables::Size::new") (known4 : Plain.Known 𝓤 H A W 𝓣 3 ps·4 r·4 (claims· .8) (claims· .9) "bench_plans::questions::ask_all") (known5 : Plain.Known 𝓤 H A W 𝓣 0 ps·5 r·5 (claims· .10) (claims· .11) "bench_plans::files::print_size") (known6 : Plain.Known 𝓤 H A W 𝓣 4 ps·6 r·6 (claims· .12) (claims· .13) "bench_plans::files::write_again") (known7 : Plain.Known 𝓤 H A W 𝓣 3 ps·7 r·7 (claims· .14) (claims· .15) "bench_plans::files::read_again") (known8 : Plain.Known 𝓤 H A W 𝓣 0 ps·8 r·8 (claims· .16) (claims· .17) "bench_plans::files::print_again") where
           pub spec : Statement.Triple 𝓤 (Wp.WpFn 𝓤 H (𝓣 .C) (𝓣 .Λ) (Function.fnOf 4 ps r xs m hs body)) (Function.plainOf 𝓤 H A 4 ps r Pre· Post·)
           spec = Plain.t-fn-plain 𝓤 H A W 𝓣 4 ps r xs m hs body (λ κs qs bs. Φ) (λ κs qs bs bd. typed κs qs 𝓤 H A W 𝓣 (known0, known1, known2, known3, known4, known5, known6, known7, known8) bs bd) Pre· Post· asked

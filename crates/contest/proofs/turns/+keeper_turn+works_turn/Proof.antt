@@ -133,7 +133,7 @@ module _ (t : ℕ) where
   keeper-memo-place-requires c κs =
       let past-loop = c .before .before .before .before .before .before .before in
       let tried = past-loop .loop .inv in
-      (omega (arith, tried .laid .ready .few, tried .inside), tried .few)
+      (omega (arith, tried .laid .ready .few, tried .inside), omega (arith, tried .few))
 
   keeper-put-requires : keeper-lts.Need-put-requires keeper-called keeper-at keeper-turn.Post keeper-Inv-loop keeper-μ-loop
   keeper-put-requires c κs =
@@ -172,7 +172,7 @@ module _ (t : ℕ) where
   keeper-memo-place-requires-2 : keeper-lts.Need-memo-place-requires-2 keeper-called keeper-at keeper-turn.Post
       keeper-Inv-loop keeper-μ-loop
   keeper-memo-place-requires-2 c κs = let tried = c .before .before .loop .inv in
-      (omega (arith, tried .laid .ready .few, tried .inside), tried .few)
+      (omega (arith, tried .laid .ready .few, tried .inside), omega (arith, tried .few))
 
   keeper-put-requires-2 : keeper-lts.Need-put-requires-2 keeper-called keeper-at keeper-turn.Post keeper-Inv-loop keeper-μ-loop
   keeper-put-requires-2 c κs =

@@ -40,7 +40,7 @@ returns-3 c =
 memo-place-requires : tie.Need-memo-place-requires
 memo-place-requires c κs =
     let entry = c .before .before .before .before .before .before .before .before .before .before .before .before in
-    (omega (arith, entry .pre .0 .ready .few), entry .pre .1 .0 .1)
+    (omega (arith, entry .pre .0 .ready .few, entry .pre .1 .0), omega (arith, entry .pre .1 .0))
 
 at-requires-4 : tie.Need-at-requires-4
 at-requires-4 c κs =

@@ -1,8 +1,8 @@
--- It is only shown that the loop ends and that no more places are asked for than the tables have.
+-- It is only shown that the loop ends and that each number of a question has 16 bits.
 mod Tie
 use native.Mathlib.Omega.{arith}
-use Rattle.bench_plans.proofs.verdicts.ask_all.Statement.{statement}
-use Rattle.bench_plans.proofs.verdicts.ask_all.Proof.Tie as tie
+use Rattle.bench_plans.proofs.questions.ask_all.Statement.{statement}
+use Rattle.bench_plans.proofs.questions.ask_all.Proof.Tie as tie
 
 abbrev Inv-loop : tie.InvT-loop
 Inv-loop size rows firsts outcomes questions left₀ left = Unit {0}
@@ -22,9 +22,6 @@ next-requires-2 c κs = omega arith
 next-requires-3 : tie.Need-next-requires-3 Inv-loop μ-loop
 next-requires-3 c κs = omega arith
 
-least-requires : tie.Need-least-requires Inv-loop μ-loop
-least-requires c κs = omega arith
-
 ask-requires : tie.Need-ask-requires Inv-loop μ-loop
 ask-requires c κs = omega arith
 
@@ -41,5 +38,5 @@ returns : tie.Need-returns Inv-loop μ-loop
 returns c = omega arith
 
 pub ask-all-spec : {M : Type 1} → statement M
-ask-all-spec = tie.close (tie.spec Inv-loop μ-loop loop-holds next-requires next-requires-2 next-requires-3 least-requires ask-requires
+ask-all-spec = tie.close (tie.spec Inv-loop μ-loop loop-holds next-requires next-requires-2 next-requires-3 ask-requires
     sub-left loop-less loop-again returns)

@@ -4,8 +4,8 @@ use mathlib.Core.Path.{sym}
 use native.Mathlib.Omega.{arith}
 use lib.Seq.{length-take-le}
 use borrow.Author.Needs.{needs}
-use Rattle.bench_plans.proofs.verdicts.ask.Statement.{statement}
-use Rattle.bench_plans.proofs.verdicts.ask.Proof.Tie as tie
+use Rattle.bench_plans.proofs.verdicts.ask_tables.Statement.{statement}
+use Rattle.bench_plans.proofs.verdicts.ask_tables.Proof.Tie as tie
 
 array-borrow-prefix-ranks : tie.Need-array-borrow-prefix-ranks
 array-borrow-prefix-ranks c = search needs
@@ -45,6 +45,6 @@ answer-requires c κs = search needs
 returns : tie.Need-returns
 returns c = search needs
 
-pub ask-spec : {M : Type 1} → statement M
-ask-spec = tie.close (tie.spec array-borrow-prefix-ranks slice-aggregate-answer array-borrow-prefix-commands slice-aggregate-answer-2
+pub ask-tables-spec : {M : Type 1} → statement M
+ask-tables-spec = tie.close (tie.spec array-borrow-prefix-ranks slice-aggregate-answer array-borrow-prefix-commands slice-aggregate-answer-2
     array-borrow-prefix-marks slice-aggregate-answer-3 array-borrow-prefix-scratch slice-aggregate-answer-4 answer-requires returns)
