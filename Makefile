@@ -6,7 +6,7 @@
 # make lib       the C library, target/staticlib/libgate.a (header: include/gate.h)
 # make c-test    the C library's tests and examples, and the header's in C and C++
 # make compare   hold the C library to a planner in Rust, byte for byte over COUNT inputs made from SEED
-# make bench     time the two beside each other: the best of RUNS runs (4 are enough)
+# make bench     time the two beside each other, and the contest in the program bench_plans: the best of RUNS runs (4 are enough)
 # make rows      check that every machine-made proof file is what tools/rows makes (some minutes)
 # make trace     check that all that docs/TRACE.md names is there
 
@@ -35,10 +35,10 @@ plan:
 	[ -e "$$PLAN" ] || { echo "make run: there is no file '$$PLAN'" >&2; exit 1; }
 	[ -r "$$PLAN" ] && [ ! -d "$$PLAN" ] || { echo "make run: '$$PLAN' cannot be read" >&2; exit 1; }
 
-target/bin/list: $(SOURCES)
-	echo "proving the listing program and the crates that it is built on, which can take some minutes" >&2
-	[ -x $@ ] || rm -f target/stamp/list # else rt takes it as built
-	$(call prove,check list,list)
+target/bin/list target/bin/bench_plans: target/bin/%: $(SOURCES)
+	echo "proving the program $* and the crates that it is built on, which can take some minutes" >&2
+	[ -x $@ ] || rm -f target/stamp/$* # else rt takes it as built
+	$(call prove,check $*,$*)
 	touch $@
 
 # `rt ci`, and then the tests on what it leaves.
@@ -48,7 +48,7 @@ test: kit need-gcc need-g++ need-cargo quick
 # What needs nothing proved comes first, so that it fails early.
 quick: kit trace
 	rt fmt --check
-	cd tests && python3 -B bench_plans.py --check && python3 -B examples.py --check
+	cd tests && python3 -B contest.py && python3 -B bench_plans.py --check && python3 -B examples.py --check
 	python3 -B tools/rows --check tables load store
 
 wrong: kit
@@ -134,10 +134,10 @@ compare: kit need-gcc need-cargo $(LIB)
 RUNS ?= 1
 
 # Times change with where code lies within 64 bytes, so each run has all code 16 bytes further than the one before.
-bench: kit need-gcc need-cargo $(LIB)
+bench: kit need-gcc need-cargo $(LIB) target/bin/bench_plans
 	cd compare && rm -rf target/runs && mkdir -p target/runs && for run in $$(seq $(RUNS)); do \
 	    SHIFT=$$((16 * run)) cargo build --release --offline --locked --quiet && cp target/release/compare target/runs/$$run || exit 1; \
-	done && target/runs/1 bench target/runs/*
+	done && target/runs/1 bench ../target/bin/bench_plans target/runs/*
 
 rows: kit need-python3
 	python3 -B tools/rows --check

@@ -4,18 +4,26 @@ from typing import NamedTuple
 
 import made
 import reference
-from plans import longest, shapes
-from reference import COMMANDS, OUTCOMES, STATES, Plan, Refused, State, two, write
+from plans import branching, case_a, chain, longest, shapes, slopes
+from reference import COMMANDS, MOVES, OUTCOMES, STATES, Plan, Refused, State, two, write
 
 HERE = pathlib.Path(__file__).resolve().parent.parent / "crates" / "bench_plans"
 STARTS = 32  # how many states of a plan are searched from, at most: 1,024 command tables of 1,024 states would be two megabytes
-DECIDING, SEARCH = 0, 1
+LAST = 2 ** 16 - 1  # the largest number that a question can have
+DECIDING, SEARCH, CONTEST, FAR_CONTEST = range(4)
+FAR = 2 ** 48  # by which the program multiplies both numbers of a far contest: who drops their high bits takes them for 0
 
 
 class Question(NamedTuple):
     call: int
     start: int = 0
     places: int = STATES
+
+
+class Contest(NamedTuple):
+    call: int
+    state: int
+    moves: int
 
 
 class Case(NamedTuple):
@@ -46,6 +54,15 @@ def usual(*case):
     return case._replace(questions=(Question(DECIDING), *(Question(SEARCH, start) for start in starts)))
 
 
+def contests(states, moves=range(MOVES + 2)):
+    """Each of the states with each number of moves: unless others are named, all that are allowed and one too many."""
+    return tuple(Contest(CONTEST, state, count) for state in states for count in moves)
+
+
+def far_contests(*pairs):
+    return tuple(Contest(FAR_CONTEST, state, moves) for state, moves in pairs)
+
+
 def numbers(name, values):
     return name + "".join(" -" if v is None else f" {v}" for v in values) + "\n"
 
@@ -62,8 +79,15 @@ def found(plan, start):
     return numbers("lost" if lost else "safe", [rounds] + taken)
 
 
+def contested(plan, question):
+    unit = FAR if question.call == FAR_CONTEST else 1
+    return "held\n" if reference.contest(plan, question.state * unit, question.moves * unit) else "not held\n"
+
+
 def answered(plan, question):
     reference.need(10, plan is not None)
+    if question.call in (CONTEST, FAR_CONTEST):
+        return contested(plan, question)
     reference.need(11, question.call == DECIDING or question.start < plan.n)
     reference.need(9, plan.n <= question.places)
     return decided(plan) if question.call == DECIDING else found(plan, question.start)
@@ -86,8 +110,32 @@ def said(case):
     return out + "".join(or_refusal(answered, plan, question) for question in case.questions)
 
 
+def refused_contests():
+    """Contests that are refused, most of them for more than one reason, and some beside them that are not."""
+    plan = case_a()
+    n, file = plan.n, write(plan)
+    without_plan = contests((0, n, LAST), (0, MOVES + 1, LAST)) + far_contests((0, 0), (0, 1), (1, 0), (1, 1))
+    yield Case(b"", questions=without_plan)
+    yield Case(file, rows=n - 1, questions=without_plan)
+    states = 0, n - 1, n, n + 1, 255, 256, STATES - 1, STATES, 2 ** 15, LAST
+    moves = MOVES, MOVES + 1, MOVES + 2, 255, 256, 256 + MOVES, 2 ** 15, LAST
+    far = far_contests((0, 0), (0, 1), (0, 2), (0, LAST), (1, 0), (2, 0), (LAST, 0), (1, 1), (LAST, LAST))
+    yield Case(file, questions=contests(states, moves) + far)
+
+
+def contest_plans():
+    """Plans whose ranks are about the most moves, plans of 1,024 states, and one on which a contest that remembers nothing does not end."""
+    for plan in slopes():
+        yield Case(write(plan), questions=contests(range(plan.n)))
+    full = STATES - 1
+    yield Case(write(chain(full)), questions=contests((0, 1, 255, 256, 511, 512, *range(full - MOVES - 3, STATES + 1))))
+    yield Case(write(longest()), questions=contests((0, 1, 511, full, STATES)))
+    yield Case(write(branching()), questions=contests((0,)) + contests(range(1, branching().n), (MOVES,)))
+
+
 def cases():
-    """Document 01's bench plans that are not starred, then damaged files, then questions that are refused, then plans of many shapes."""
+    """Document 01's bench plans that are not starred, then damaged files, then questions that are refused, then plans of many shapes;
+    then contests that are refused, and plans for contests."""
     hexa = bytes.fromhex
     wide = write(Plan([State(2)] * STATES))
     yield usual(wide)
@@ -98,8 +146,7 @@ def cases():
     two_states = write(Plan([State(0, [[0, 1]]), State(2)]))
     for rows, firsts, outcomes in (2, 1, 2), (1, 1, 2), (2, 0, 2), (2, 1, 1), (0, 0, 0):
         yield usual(two_states, rows, firsts, outcomes)
-    case_a = next(shapes())
-    data = write(case_a)
+    data = write(case_a())
     for cut in range(len(data)):
         yield usual(data[:cut])
     for i in range(len(data)):
@@ -107,12 +154,15 @@ def cases():
             yield usual(data[:i] + bytes([data[i] ^ change]) + data[i + 1:])
     yield usual(data + b"\x00")
     yield Case(b"", questions=(Question(DECIDING), Question(SEARCH)))
-    n, last = case_a.n, 2 ** 16 - 1
-    for places in n - 1, n, n + 1, last:
-        yield Case(data, questions=(Question(DECIDING, 0, places), *(Question(SEARCH, start, places) for start in (n - 1, n, last))))
+    n = case_a().n
+    for places in n - 1, n, n + 1, LAST:
+        yield Case(data, questions=(Question(DECIDING, 0, places), *(Question(SEARCH, start, places) for start in (n - 1, n, LAST))))
     yield Case(write(longest()), questions=(Question(DECIDING), Question(SEARCH)))
     for plan in shapes():
-        yield usual(write(plan))
+        case = usual(write(plan))
+        yield case._replace(questions=case.questions + contests(range(plan.n)))
+    yield from refused_contests()
+    yield from contest_plans()
 
 
 def main():

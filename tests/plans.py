@@ -38,6 +38,21 @@ def longest():
     return Plan([State(0, [sorted((i + c + k) % STATES for k in range(4)) for c in range(4)]) for i in range(STATES)])
 
 
+def descent(seed, n):
+    """A random way down to the last state, which fails: each state leads to some of the next three, so ranks rise slowly and one by one."""
+    r = random.Random(seed)
+    below = lambda i: sorted({r.randint(i + 1, min(i + 3, n - 1)) for _ in range(2)})
+    return Plan([State(0, [below(i) for _ in range(r.randint(1, 3))]) for i in range(n - 1)] + [failing()])
+
+
+def branching():
+    """16 states with 16 commands each, which lead back to all 16 and elsewhere; only the last command cannot fail. Who remembers no turn
+    works out 256 a move, and so does not come to the end of 8."""
+    leaking, holding = range(64), [*range(63), 64]
+    states = [State(0, [leaking] * 15 + [holding]) for _ in range(16)] + [rest() for _ in range(16, 63)]
+    return Plan(states + [failing(), rest()])
+
+
 def scattered(seed, n, commands, outcomes, kinds=(8, 1, 1)):
     """A random plan; the same for the same seed."""
     r = random.Random(seed)
@@ -51,6 +66,15 @@ def scattered(seed, n, commands, outcomes, kinds=(8, 1, 1)):
 
 def case_a():
     return Plan([State(0, [[1], [2, 3]], 1), State(0, [[0, 1]], 0), rest(), State(0, [[4], [2, 4]], 0), failing(), State(0, [[3]])])
+
+
+def slopes():
+    """Plans with ranks below, at and above the 8 moves of a contest."""
+    yield chain(12)
+    yield ladder(12)
+    yield ring(11, 10)
+    for seed in range(6):
+        yield descent(seed, 24)
 
 
 def shapes():

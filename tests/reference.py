@@ -1,7 +1,9 @@
-"""Document 01 once more, in Python, written from the document and not from the Rattle code: what the bench program is held to."""
+"""Document 01 and the requests of document 02 once more, in Python, written from the documents and not from the Rattle code: what the
+bench program is held to."""
+import functools
 
 NONE = 0xFFFF
-STATES, COMMANDS, OUTCOMES = 1024, 4096, 16384
+STATES, COMMANDS, OUTCOMES, MOVES = 1024, 4096, 16384, 8
 
 
 class Refused(Exception):
@@ -192,6 +194,27 @@ def search(plan, start):
             known[i] = True
         if known[start]:
             return True, rounds, none
+
+
+@functools.lru_cache(maxsize=None)
+def keepers_turn(plan, state, left):
+    """Whether the keeper holds a state with so many moves left. What was worked out once is remembered, else this would not end in time."""
+    s = plan.states[state]
+    if s.kind == 1:
+        return False
+    return s.kind == 2 or not s.commands or left == 0 or any(works_turn(plan, outcomes, left) for outcomes in s.commands)
+
+
+def works_turn(plan, outcomes, left):
+    """Whether all that the works may give leaves the keeper a turn that is held, a move later."""
+    return all(keepers_turn(plan, o, left - 1) for o in outcomes)
+
+
+def contest(plan, state, moves):
+    """Whether the state is held for so many moves (T-02)."""
+    need(11, state < plan.n)
+    need(12, moves <= MOVES)
+    return keepers_turn(plan, state, moves)
 
 
 def listing(data):

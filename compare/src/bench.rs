@@ -1,8 +1,12 @@
-//! Times the library beside the peer: the same bytes in, the same bytes out, by turns.
+//! Times the library beside the peer, by turns: the same bytes in, the same bytes out. For the contest the program `bench_plans` stands in
+//! the library's place.
+mod asked;
+mod contest;
 mod run;
 
 use crate::calls::Peer;
 use crate::case::CALLS;
+use contest::contested;
 use run::{verified, Verified, BATCH, BATCHES};
 use std::process::{Command, Stdio};
 
@@ -10,21 +14,28 @@ use std::process::{Command, Stdio};
 const MARKED_FROM: usize = 256;
 const MARKED_ABOVE: [f64; 3] = [1.9, 1.5, 1.5];
 
-/// One run: for each plan a line of times.
-pub fn times() -> Result<(), String> {
+fn print_times(times: &[f64]) {
+    let words: Vec<String> = times.iter().map(f64::to_string).collect();
+    println!("{}", words.join(" "));
+}
+
+/// One run: for each plan a line of times, and then for each plan of the contest.
+pub fn times(bench_plans: &str) -> Result<(), String> {
     let mut peer = Peer::new();
     for mut plan in verified(&mut peer)? {
-        let times = plan.times(&mut peer);
-        let words: Vec<String> = times.iter().map(f64::to_string).collect();
-        println!("{}", words.join(" "));
+        print_times(&plan.times(&mut peer));
+    }
+    for plan in contested(bench_plans)? {
+        print_times(&plan.times(bench_plans)?);
     }
     Ok(())
 }
 
 /// The times of a run of a program that has the same plans.
-fn times_of(program: &str) -> Result<Vec<f64>, String> {
+fn times_of(program: &str, bench_plans: &str) -> Result<Vec<f64>, String> {
     let mut command = Command::new(program);
-    let output = command.arg("times").stderr(Stdio::inherit()).output();
+    command.args(["times", bench_plans]);
+    let output = command.stderr(Stdio::inherit()).output();
     let output = output.map_err(|error| format!("{program}: {error}"))?;
     if !output.status.success() {
         return Err(format!("{program} has failed"));
@@ -34,11 +45,11 @@ fn times_of(program: &str) -> Result<Vec<f64>, String> {
     times.map_err(|_| format!("{program} printed something else than times"))
 }
 
-/// The least of each time over the programs, six times a plan.
-fn least(programs: &[String], plans: usize) -> Result<Vec<f64>, String> {
-    let mut least = vec![f64::MAX; 2 * CALLS.len() * plans];
+/// The least of each of so many times over the programs.
+fn least(programs: &[String], bench_plans: &str, count: usize) -> Result<Vec<f64>, String> {
+    let mut least = vec![f64::MAX; count];
     for program in programs {
-        let times = times_of(program)?;
+        let times = times_of(program, bench_plans)?;
         if times.len() != least.len() {
             return Err(format!("{program} has other plans"));
         }
@@ -74,11 +85,8 @@ fn head() -> String {
     plan + &calls.concat()
 }
 
-/// Runs each of the programs once.
-pub fn bench(programs: &[String]) -> Result<(), String> {
-    let plans = verified(&mut Peer::new())?;
-    let least = least(programs, plans.len())?;
-    let runs = programs.len();
+/// The table of the three calls, from six times a plan.
+fn print(plans: &[Verified], times: &[f64], runs: usize) {
     println!("microseconds a call: library, peer, and library / peer; the best of {BATCHES} batches of each, by turns, in {runs} run(s);");
     println!("a batch repeats the call for about {} microseconds; buffers are warm and not cleared in between;", BATCH.as_micros());
     let bounds = CALLS.iter().zip(MARKED_ABOVE);
@@ -91,8 +99,20 @@ pub fn bench(programs: &[String]) -> Result<(), String> {
     );
     println!();
     println!("{}", head());
-    for (plan, times) in plans.iter().zip(least.chunks(2 * CALLS.len())) {
+    for (plan, times) in plans.iter().zip(times.chunks(2 * CALLS.len())) {
         println!("{}", row(plan, times));
     }
+}
+
+/// Runs each of the programs once.
+pub fn bench(bench_plans: &str, programs: &[String]) -> Result<(), String> {
+    let plans = verified(&mut Peer::new())?;
+    let contests = contested(bench_plans)?;
+    let runs = programs.len();
+    let of_calls = 2 * CALLS.len() * plans.len();
+    let least = least(programs, bench_plans, of_calls + 2 * contests.len())?;
+    print(&plans, &least[..of_calls], runs);
+    println!();
+    contest::print(&contests, &least[of_calls..], runs);
     Ok(())
 }

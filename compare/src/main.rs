@@ -1,5 +1,6 @@
 //! The library beside a planner of its own: `check` compares them byte for byte, `times` times them, and
-//! `bench` makes a table of the times of several builds of this program.
+//! `bench` makes tables of the times of several builds of this program. The contest, which the library does not have, is asked of the
+//! program `bench_plans`.
 mod bench;
 mod calls;
 mod case;
@@ -13,7 +14,7 @@ use std::env;
 use std::process::ExitCode;
 
 const USAGE: &str =
-    "usage: compare check [COUNT] [SEED] | replay SEED INDEX | bench PROGRAM... | times";
+    "usage: compare check [COUNT] [SEED] | replay SEED INDEX | bench BENCH_PLANS PROGRAM... | times BENCH_PLANS";
 const COUNT: u64 = 200_000;
 const SEED: u64 = 1;
 
@@ -37,8 +38,8 @@ fn run(words: &[String]) -> Result<(), String> {
             let index = number(words.get(2), 0)?;
             check::replay(seed, index)
         }
-        (Some("bench"), 2..) => bench::bench(&words[1..]),
-        (Some("times"), 1) => bench::times(),
+        (Some("bench"), 3..) => bench::bench(&words[1], &words[2..]),
+        (Some("times"), 2) => bench::times(&words[1]),
         _ => Err(USAGE.to_string()),
     }
 }

@@ -1,6 +1,6 @@
-//! Verdicts and rounds by the words of document 01, with no thought of time: what the planner's tests hold it to.
+//! Verdicts, rounds and contests by the words of documents 01 and 02, with no thought of time: what the planner's tests hold it to.
 use super::decide::Tally;
-use super::plan::{Plan, FAILING, NONE};
+use super::plan::{Plan, FAILING, NONE, REST};
 
 type Set = Vec<bool>;
 
@@ -135,4 +135,25 @@ pub fn search(plan: &Plan, start: usize) -> (bool, u16, Vec<u16>) {
             return (true, rounds, none);
         }
     }
+}
+
+/// The keeper's turn, with every look counted.
+pub fn keeper_holds(plan: &Plan, s: usize, left: usize, looks: &mut u128) -> bool {
+    *looks += 1;
+    let (first, end) = plan.commands(s);
+    match plan.rows[s].kind {
+        FAILING => false,
+        REST => true,
+        _ if first == end || left == 0 => true,
+        _ => (first..end).any(|c| works_hold(plan, c, left, looks)),
+    }
+}
+
+/// The works' turn.
+fn works_hold(plan: &Plan, command: usize, left: usize, looks: &mut u128) -> bool {
+    *looks += 1;
+    plan.outcomes(command).iter().all(|&o| {
+        *looks += 1;
+        keeper_holds(plan, usize::from(o), left - 1, looks)
+    })
 }

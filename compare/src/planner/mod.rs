@@ -1,10 +1,12 @@
-//! A planner of its own, written from document 01 alone: what the library is held to, and timed beside.
+//! A planner of its own, written from documents 01 and 02 alone: what the library is held to, and timed beside.
 pub mod boundary;
+pub mod contest;
 pub mod decide;
 #[cfg(test)]
 mod definition;
 pub mod entries;
 pub mod index;
+pub mod looks;
 pub mod plan;
 pub mod read;
 pub mod refusal;

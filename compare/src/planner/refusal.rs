@@ -13,6 +13,7 @@ pub enum Refusal {
     Cramped = 9,
     Unsound = 10,
     Stranger = 11,
+    Moves = 12,
 }
 
 impl Refusal {

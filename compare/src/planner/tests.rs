@@ -1,4 +1,6 @@
 //! The planner held to document 01: case A, the bench plans, and the definitions on plans of every shape.
+mod contest;
+
 use super::boundary::{gate_read, ReadBytes, Space};
 use super::decide::{self, Tally, Verdicts};
 use super::definition;
