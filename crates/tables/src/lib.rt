@@ -58,7 +58,7 @@ impl Row {
     };
 }
 
-// The refusals, in the order of their numbers (rules E1 to E11). No call gives the last seven yet (rule E21).
+// The refusals, in the order of their numbers (rules E1 to E11, and E22). No call gives the last six yet (rule E21).
 pub enum Refusal {
     Cut,
     Surplus,

@@ -119,7 +119,7 @@ module _ (t : ℕ) where
       (c .before .at .ensures)
 
   keeper-sub-works-turn : keeper-lts.Need-sub-works-turn keeper-called keeper-at keeper-turn.Post keeper-Inv-loop keeper-μ-loop
-  keeper-sub-works-turn c = c .before .before .loop .inv .unknown .moves
+  keeper-sub-works-turn c = omega (arith, c .before .before .loop .inv .unknown .moves)
 
   keeper-works-turn-requires : keeper-lts.Need-works-turn-requires keeper-called keeper-at keeper-turn.Post keeper-Inv-loop keeper-μ-loop
   keeper-works-turn-requires c κs =

@@ -30,7 +30,8 @@ returns-2 c =
     let seed = branch1 .before .at .ensures in
     known-held
     (turn-rests _ _ _ (laid-stands _ _ _ _ _ _ _ _ seed (branch1 .if1 .left))
-    (laid-rests _ _ _ _ _ _ _ _ seed (branch1 .if1 .left) _ _ (c .before .at3 .ensures) (c .before .before .at2 .ensures) (c .if2 .taken)))
+    (laid-rests _ _ _ _ _ _ _ _ seed (branch1 .if1 .left) _ _ (c .before .at3 .ensures) (c .before .before .at2 .ensures)
+    (omega (arith, c .if2 .taken))))
 
 returns-3 : tie.Need-returns-3
 returns-3 c =
@@ -63,7 +64,7 @@ returns-4 c =
     (record {
       moves = omega (arith, branch3 .if3 .left);
       stands = laid-stands _ _ _ _ _ _ _ _ seed (branch1 .if1 .left);
-      tries = laid-tries _ _ _ _ _ _ _ _ seed (branch1 .if1 .left) _ _ from to (branch2 .if2 .left);
+      tries = laid-tries _ _ _ _ _ _ _ _ seed (branch1 .if1 .left) _ _ from to (omega (arith, branch2 .if2 .left));
       commands = omega (arith, many, from, to, branch2 .if2 .left);
     })
     _ (rw (← (c .before .memo-place .ensures)) (c .at4 .ensures))
