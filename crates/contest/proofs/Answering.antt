@@ -15,8 +15,9 @@ use Rattle.model.specs.Contest.{worksTurn, keeperTurn, maxMoves}
 use Rattle.tables.specs.declared.Size.{Size}
 use Rattle.tables.specs.Spans.{commandsOf}
 use Rattle.contest.specs.Laid.{laidPlan, Laid}
-use Rattle.contest.specs.Memo.{Told, After}
+use Rattle.contest.specs.Memo.{memoPlace, Told, After}
 use Rattle.contest.proofs.LaidPlans.{laid-works, laid-inside}
+use Rattle.contest.proofs.Memos.{told-held, told-not}
 
 -- the outcomes from place i on decide the turn at command c of s
 pub record Answering (size : Size) (seeds froms tos firsts outcomes : List ℕ) (k s c end i : ℕ) (memo₀ memo : List ℕ) : Type 0 where
@@ -57,6 +58,14 @@ module _ {size : Size} {seeds froms tos firsts outcomes : List ℕ} {k s c end i
 
   abbrev turn : Bool
   turn = worksTurn P (keeperTurn P k) s c
+
+  -- the outcome at place i, where the memo knows it
+  pub answering-told : i < end → (x : ℕ) → x ≡ getD outcomes i 0 → (place entry : ℕ) → place ≡ memoPlace x k → entry ≡ getD memo place 0
+      → ((entry ≡ 0 → ⊥) → (entry ≡ 2 → ⊥) → After P (size .n) memo memo true (keeperTurn P k x))
+      × (entry ≡ 2 → After P (size .n) memo memo false (keeperTurn P k x))
+  answering-told h x p place entry q e =
+      let inside : x < size .n = omega (arith, w .states i h) in
+      (told-held (w .told) x k inside (w .few) place entry q e, told-not (w .told) x k inside (w .few) place entry q e)
 
   module _ (h : i < end) (x : ℕ) (p : x ≡ getD outcomes i 0) (memo′ : List ℕ) (r : Bool)
       (a : After P (size .n) memo memo′ r (keeperTurn P k x)) where

@@ -1,5 +1,5 @@
 -- What is known of a turn, and what the memo has after a turn was worked out.
-use mathlib.Core.Path.{_≡_, refl, ap, _∙_}
+use mathlib.Core.Path.{_≡_, refl, sym, ap, _∙_}
 use mathlib.Core.Bool.{Bool, true, false}
 use mathlib.Core.Logic.{_⊎_, inl, inr, ⊎-elim}
 use mathlib.Core.List.{List}
@@ -12,12 +12,17 @@ use borrow.Author.Tests.{eqb-true, eqb-false}
 use Rattle.laws.proofs.Tests.{true-or-false}
 use Rattle.model.specs.Plan.{Plan}
 use Rattle.model.specs.Contest.{keeperTurn, maxMoves}
-use Rattle.contest.specs.Memo.{memoPlace, code, Told, Open, Known}
+use Rattle.contest.specs.Memo.{memoPlace, code, Told, Open, Known, After}
 
 code-held : (b : Bool) → eqb (code b) 1 ≡ b
 unfolding code
 code-held true = refl
 code-held false = refl
+
+code-small : (b : Bool) → code b ≤ 2
+unfolding code
+code-small true = omega arith
+code-small false = omega arith
 
 module _ {P : Plan} {k s : ℕ} where
   pub known-held : keeperTurn P k s ≡ true → Known P k s 1
@@ -28,16 +33,43 @@ module _ {P : Plan} {k s : ℕ} where
   unfolding code
   known-not e = record { sure = λ _. rw e; opens = λ z. absurd (omega arith) }
 
-  pub known-told : {n : ℕ} {memo : List ℕ} → Told P n memo → s < n → k ≤ maxMoves → Open P k s
-      → (x : ℕ) → x ≡ getD memo (memoPlace s k) 0 → Known P k s x
-  known-told w l m o x e = record {
-    sure = λ h. ⊎-elim (λ t. absurd (h (e ∙ t))) (λ t. e ∙ t) (w .told s k l m);
-    opens = λ _. o;
-  }
+  pub known-open : Open P k s → Known P k s 0
+  known-open o = record { sure = λ h. absurd (h refl); opens = λ _. o }
 
-  -- the answer by what is known
-  pub known-is : {x : ℕ} → Known P k s x → (x ≡ 0 → ⊥) → eqb x 1 ≡ keeperTurn P k s
-  known-is w h = ap (λ (x : ℕ). eqb x 1) (w .sure h) ∙ code-held (keeperTurn P k s)
+  module _ {x : ℕ} (w : Known P k s x) (h : x ≡ 0 → ⊥) where
+    -- the answer by what is known
+    pub known-is : eqb x 1 ≡ keeperTurn P k s
+    known-is = ap (λ (y : ℕ). eqb y 1) (w .sure h) ∙ code-held (keeperTurn P k s)
+
+    pub known-fits : x < 65536
+    known-fits = omega (arith, w .sure h, code-small (keeperTurn P k s))
+
+-- what the memo says of a turn
+module _ {P : Plan} {n : ℕ} {memo : List ℕ} (w : Told P n memo) (s k : ℕ) (l : s < n) (m : k ≤ maxMoves)
+    (place x : ℕ) (p : place ≡ memoPlace s k) (e : x ≡ getD memo place 0) where
+  entry : x ≡ getD memo (memoPlace s k) 0
+  entry = rw (← p) e
+
+  said : (x ≡ 0 → ⊥) → (b : Bool) → keeperTurn P k s ≡ b → x ≡ code b
+  said h b t = ⊎-elim (λ z. absurd (h (entry ∙ z))) (λ z. entry ∙ z ∙ ap code t) (w .told s k l m)
+
+  told-as : (b : Bool) → keeperTurn P k s ≡ b → After P n memo memo b (keeperTurn P k s)
+  told-as b t = (sym t, (w, refl))
+
+  pub told-held : (x ≡ 0 → ⊥) → (x ≡ 2 → ⊥) → After P n memo memo true (keeperTurn P k s)
+  unfolding code
+  told-held h h′ = ⊎-elim (told-as true) (λ t. absurd (h′ (said h false t))) (true-or-false (keeperTurn P k s))
+
+  pub told-not : x ≡ 2 → After P n memo memo false (keeperTurn P k s)
+  unfolding code
+  told-not z =
+      ⊎-elim (λ t. absurd (apart (said (λ y. zero-two (sym y ∙ z)) true t))) (told-as false) (true-or-false (keeperTurn P k s))
+    where
+      zero-two : _≡_ {A = ℕ} 0 2 → ⊥
+      zero-two y = omega arith
+
+      apart : x ≡ 1 → ⊥
+      apart y = omega arith
 
 -- nothing is known by a memo of zeros
 pub none-told : (P : Plan) (n places : ℕ) → 9 * n ≤ places → Told P n (replicate places 0)
@@ -70,3 +102,10 @@ module _ {P : Plan} {n : ℕ} {memo : List ℕ} (w : Told P n memo) (s k x : ℕ
     },
     length-set memo (memoPlace s k) x ∙ h,
   )
+
+-- a turn that is sure is remembered
+pub sure-remembered : {P : Plan} {n : ℕ} {memo : List ℕ} → Told P n memo → (s k : ℕ) → s < n → k ≤ maxMoves
+    → (x : ℕ) → Known P k s x → (x ≡ 0 → ⊥) → (place : ℕ) → place ≡ memoPlace s k → (memo′ : List ℕ) → memo′ ≡ set memo place x
+    → After P n memo memo′ (eqb x 1) (keeperTurn P k s)
+sure-remembered {memo = memo} w s k l m x v h place p memo′ q =
+    (known-is v h, told-more w s k x l m (v .sure h) memo memo′ refl (rw (← p) q))

@@ -1,4 +1,4 @@
--- The memo of the keeper's turns that have been worked out, and what is known of a turn before a command is tried.
+-- The memo of the keeper's turns that have been worked out, and what is known of a turn without trying a command.
 use mathlib.Core.Path.{_≡_}
 use mathlib.Core.Bool.{Bool, false, cond}
 use mathlib.Core.List.{List}

@@ -1,9 +1,11 @@
 // The keeper's turn and the works' turn, which call one another while the moves left fall (rule N7). Plain recursion would work a turn out
-// again wherever it is met, which no controller lives to see the end of; the memo has each turn of the keeper from the first time on.
+// again wherever it is met, which no controller lives to see the end of; the memo has each turn of the keeper once it is worked out.
 ghost use mathlib.Core.Path.{_≡_};
-ghost use Prim.Native.Nat.{_-_, _<_, _≤_};
+ghost use mathlib.Core.List.{List};
+ghost use Prim.Native.Nat.{ℕ, _-_, _<_, _≤_};
 ghost use lib.ListN.{length, getD};
 ghost use Rattle.model.specs.Contest.{worksTurn, keeperTurn, maxMoves};
+ghost use Rattle.tables.specs.declared.Size.{Size};
 ghost use Rattle.contest.specs.Laid.{laidPlan, Laid};
 ghost use Rattle.contest.specs.Memo.{Told, Known};
 use crate::memo::HELD;
@@ -15,24 +17,12 @@ use tables::entries::at;
 use tables::entries::first_outcome;
 use tables::entries::put;
 
-// What is known of the keeper's turn at s with k moves left before a command is tried, as an entry of the memo.
-fn known_turn(
-    size: Size,
-    seeds: &[u16],
-    froms: &[u16],
-    tos: &[u16],
-    firsts: &[u16],
-    outcomes: &[u16],
-    memo: &[u16],
-    s: usize,
-    k: usize,
-) -> usize
-    requires { ⌜ Laid size (now seeds) (now froms) (now tos) (now firsts) (now outcomes) ⌝ }
-    requires { ⌜ (s < size .n) × (k ≤ maxMoves) ⌝ }
-    requires { ⌜ Told (laidPlan size (now seeds) (now froms) (now tos) (now firsts) (now outcomes)) (size .n) (now memo) ⌝ }
+// The keeper's turn at s with k moves left, as an entry of the memo, where no command has to be tried for it; else that it is not known.
+fn sure_turn(seeds: &[u16], froms: &[u16], tos: &[u16], s: usize, k: usize) -> usize
+    requires { ⌜ (s < length (now seeds)) × (s < length (now froms)) × (s < length (now tos)) ⌝ }
     ensures { λ r. ⌜
-        Known (laidPlan size (now (seeds .entry)) (now (froms .entry)) (now (tos .entry)) (now (firsts .entry)) (now (outcomes .entry)))
-        k s r
+        ((size : Size) (F O : List ℕ)
+        → Known (laidPlan size (now (seeds .entry)) (now (froms .entry)) (now (tos .entry)) F O) k s r)
         ⌝ }
 {
     if at(seeds, s) == 0 {
@@ -44,10 +34,11 @@ fn known_turn(
     if k == 0 {
         return HELD;
     }
-    at(memo, memo_place(s, k))
+    UNKNOWN
 }
 
-// Whether the keeper's turn at s is held with k moves left. Free is which turns the memo has afterwards: what it has of any is true.
+// Whether the keeper's turn at s is held with k moves left. It is worked out and remembered. Free is which turns the memo has beside it
+// afterwards: what it has of any is true.
 pub fn keeper_turn(
     size: Size,
     seeds: &[u16],
@@ -72,9 +63,10 @@ pub fn keeper_turn(
         ⌝ }
     ensures { λ _. ⌜ length (now (memo .exit)) ≡ length (now (memo .entry)) ⌝ }
 {
-    let known = known_turn(size, seeds, froms, tos, firsts, outcomes, memo, s, k);
-    if known != UNKNOWN {
-        return known == HELD;
+    let sure = sure_turn(seeds, froms, tos, s, k);
+    if sure != UNKNOWN {
+        put(memo, memo_place(s, k), sure);
+        return sure == HELD;
     }
     let count = at(tos, s) - at(froms, s);
     let mut c = 0;
@@ -89,7 +81,8 @@ pub fn keeper_turn(
     false
 }
 
-// Whether each outcome of command c of s gives the keeper a held turn with k moves left.
+// Whether each outcome of command c of s gives the keeper a held turn with k moves left. The memo is asked first, and the keeper's turn
+// called where it does not know.
 fn works_turn(
     size: Size,
     seeds: &[u16],
@@ -120,8 +113,14 @@ fn works_turn(
     let end = first_outcome(size, firsts, place + 1);
     while i < end {
         let next = at(outcomes, i);
-        if !keeper_turn(size, seeds, froms, tos, firsts, outcomes, memo, next, k) {
+        let known = at(memo, memo_place(next, k));
+        if known == NOT_HELD {
             return false;
+        }
+        if known == UNKNOWN {
+            if !keeper_turn(size, seeds, froms, tos, firsts, outcomes, memo, next, k) {
+                return false;
+            }
         }
         i += 1;
     }
