@@ -4,7 +4,7 @@ use mathlib.Core.Bool.{Bool}
 use mathlib.Core.List.{List}
 use Prim.Native.Nat.{ℕ, _<_, _≤_}
 use native.Mathlib.Omega.{arith}
-use lib.ListN.{length, replicate, length-replicate}
+use lib.ListN.{length, getD, replicate, length-replicate, getD-replicate}
 use Rattle.model.specs.File.{maxStates}
 use Rattle.model.specs.Tables.{Tables}
 use Rattle.model.specs.Held.{planIn}
@@ -20,7 +20,7 @@ use Rattle.nets.specs.Nets.{Spans, Initialized}
 use Rattle.nets.proofs.Settings.{sound-spans}
 use Rattle.contest.specs.declared.ContestAnswer.the-variants.{Given}
 use Rattle.contest.specs.Laid.{laidPlan, Laid}
-use Rattle.contest.specs.Memo.{Told}
+use Rattle.contest.specs.Memo.{memoPlace, Told}
 use Rattle.contest.proofs.Memos.{none-told}
 use Rattle.contest.proofs.Laying.{laid, laid-turn}
 use Rattle.contest.proofs.Replying.{Replied, tests, gives}
@@ -51,11 +51,18 @@ module _ (size : Size) (rows : List Row) (firsts outcomes : List ℕ) (s k : ℕ
   module _ {seeds froms tos places : List ℕ}
       (v : Initialized T (size .n) empty empty empty empty seeds froms tos places) where
     pub admitted-laid : Laid size seeds froms tos firsts outcomes
-        × (((s < size .n) × (k ≤ maxMoves)) × Told (laidPlan size seeds froms tos firsts outcomes) (size .n) no-turns)
+        × (((s < size .n) × (k ≤ maxMoves))
+        × (Told (laidPlan size seeds froms tos firsts outcomes) (size .n) no-turns × (getD no-turns (memoPlace s k) 0 ≡ 0)))
     admitted-laid =
         let long : size .n ≤ length empty = omega (arith, spans .few, length-replicate {A = ℕ} maxStates 0) in (
           laid size rows firsts outcomes (passed .sounds) v long long long,
-          ((passed .inside, passed .few), none-told _ (size .n) 9216 (omega (arith, spans .few))),
+          (
+            (passed .inside, passed .few),
+            (
+              none-told _ (size .n) 9216 (omega (arith, spans .few)),
+              getD-replicate 9216 (memoPlace s k) 0 0 (omega (arith, spans .few, passed .inside, passed .few)),
+            ),
+          ),
         )
 
     pub admitted-gives : (answer : Bool) → answer ≡ keeperTurn (laidPlan size seeds froms tos firsts outcomes) k s

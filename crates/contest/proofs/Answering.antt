@@ -15,9 +15,9 @@ use Rattle.model.specs.Contest.{worksTurn, keeperTurn, maxMoves}
 use Rattle.tables.specs.declared.Size.{Size}
 use Rattle.tables.specs.Spans.{commandsOf}
 use Rattle.contest.specs.Laid.{laidPlan, Laid}
-use Rattle.contest.specs.Memo.{memoPlace, Told, After}
+use Rattle.contest.specs.Memo.{memoPlace, Told, Remembers}
 use Rattle.contest.proofs.LaidPlans.{laid-works, laid-inside}
-use Rattle.contest.proofs.Memos.{told-held, told-not}
+use Rattle.contest.proofs.Memos.{told-held, told-not, remembers-all, remembers-then}
 
 -- the outcomes from place i on decide the turn at command c of s
 pub record Answering (size : Size) (seeds froms tos firsts outcomes : List ℕ) (k s c end i : ℕ) (memo₀ memo : List ℕ) : Type 0 where
@@ -28,8 +28,7 @@ pub record Answering (size : Size) (seeds froms tos firsts outcomes : List ℕ) 
   pub states : (j : ℕ) → j < end → getD outcomes j 0 < size .n
   pub decides : let P = laidPlan size seeds froms tos firsts outcomes in
       each (keeperTurn P k) (slice i end outcomes) ≡ worksTurn P (keeperTurn P k) s c
-  pub told : Told (laidPlan size seeds froms tos firsts outcomes) (size .n) memo
-  pub same : length memo ≡ length memo₀
+  pub remembers : Remembers (laidPlan size seeds froms tos firsts outcomes) (size .n) memo₀ memo
 
 pub answering-start : {size : Size} {seeds froms tos firsts outcomes memo : List ℕ} {k s c : ℕ} → Laid size seeds froms tos firsts outcomes
     → ((s < size .n) × ((c < getD tos s 0 - getD froms s 0) × (k ≤ maxMoves)))
@@ -47,8 +46,7 @@ answering-start {size} {seeds} {froms} {tos} {firsts} {outcomes} {memo} {k} {s} 
       long = long;
       states = states;
       decides = laid-works size seeds froms tos firsts outcomes s _ c _ from end place q r;
-      told = told;
-      same = refl;
+      remembers = remembers-all told;
     }
 
 module _ {size : Size} {seeds froms tos firsts outcomes : List ℕ} {k s c end i : ℕ} {memo₀ memo : List ℕ}
@@ -61,16 +59,16 @@ module _ {size : Size} {seeds froms tos firsts outcomes : List ℕ} {k s c end i
 
   -- the outcome at place i, where the memo knows it
   pub answering-told : i < end → (x : ℕ) → x ≡ getD outcomes i 0 → (place entry : ℕ) → place ≡ memoPlace x k → entry ≡ getD memo place 0
-      → ((entry ≡ 0 → ⊥) → (entry ≡ 2 → ⊥) → After P (size .n) memo memo true (keeperTurn P k x))
-      × (entry ≡ 2 → After P (size .n) memo memo false (keeperTurn P k x))
+      → ((entry ≡ 0 → ⊥) → (entry ≡ 2 → ⊥) → true ≡ keeperTurn P k x) × (entry ≡ 2 → false ≡ keeperTurn P k x)
   answering-told h x p place entry q e =
       let inside : x < size .n = omega (arith, w .states i h) in
-      (told-held (w .told) x k inside (w .few) place entry q e, told-not (w .told) x k inside (w .few) place entry q e)
+      let told = w .remembers .told in
+      (told-held told x k inside (w .few) place entry q e, told-not told x k inside (w .few) place entry q e)
 
-  module _ (h : i < end) (x : ℕ) (p : x ≡ getD outcomes i 0) (memo′ : List ℕ) (r : Bool)
-      (a : After P (size .n) memo memo′ r (keeperTurn P k x)) where
+  module _ (h : i < end) (x : ℕ) (p : x ≡ getD outcomes i 0) (memo′ : List ℕ) (r : Bool) (a : r ≡ keeperTurn P k x)
+      (v : Remembers P (size .n) memo memo′) where
     next : r && each (keeperTurn P k) (slice (i + 1) end outcomes) ≡ turn
-    next = sym (each-part (keeperTurn P k) outcomes i end h (w .long) ∙ rw (← p, ← (a .0)) refl) ∙ w .decides
+    next = sym (each-part (keeperTurn P k) outcomes i end h (w .long) ∙ rw (← p, ← a) refl) ∙ w .decides
 
     pub answering-next : not r ≡ false → Answering size seeds froms tos firsts outcomes k s c end (i + 1) memo₀ memo′
     answering-next f = record {
@@ -80,12 +78,11 @@ module _ {size : Size} {seeds froms tos firsts outcomes : List ℕ} {k s c end i
       long = w .long;
       states = w .states;
       decides = rw (not-false r f) at next;
-      told = a .1 .0;
-      same = a .1 .1 ∙ w .same;
+      remembers = remembers-then (w .remembers) v;
     }
 
-    pub answering-found : not r ≡ true → After P (size .n) memo₀ memo′ false turn
-    answering-found t = (rw (not-true r t) at next, (a .1 .0, a .1 .1 ∙ w .same))
+    pub answering-found : not r ≡ true → (false ≡ turn) × Remembers P (size .n) memo₀ memo′
+    answering-found t = (rw (not-true r t) at next, remembers-then (w .remembers) v)
 
-  pub answering-done : end ≤ i → After P (size .n) memo₀ memo true turn
-  answering-done h = (sym (each-no-part (keeperTurn P k) outcomes i end (w .since) h) ∙ w .decides, (w .told, w .same))
+  pub answering-done : end ≤ i → (true ≡ turn) × Remembers P (size .n) memo₀ memo
+  answering-done h = (sym (each-no-part (keeperTurn P k) outcomes i end (w .since) h) ∙ w .decides, w .remembers)

@@ -5,7 +5,7 @@ use mathlib.Core.List.{List}
 use Prim.Native.Nat.{ℕ, suc, _+_, _-_, _<_, _≤_}
 use native.Mathlib.Numerals.{add-one}
 use native.Mathlib.Omega.{arith}
-use lib.ListN.{length, getD, set}
+use lib.ListN.{getD, set}
 use Rattle.laws.specs.Sets.{exists}
 use Rattle.laws.proofs.Sets.{exists-at, exists-of}
 use Rattle.laws.proofs.Tests.{clash, refute}
@@ -14,9 +14,9 @@ use Rattle.model.specs.Contest.{worksTurn, keeperTurn, maxMoves}
 use Rattle.model.proofs.Contests.{turn-tries}
 use Rattle.tables.specs.declared.Size.{Size}
 use Rattle.contest.specs.Laid.{laidPlan, Laid}
-use Rattle.contest.specs.Memo.{memoPlace, code, Told, Open, Known, After}
+use Rattle.contest.specs.Memo.{memoPlace, code, Told, Open, Known, Remembers, Knows}
 use Rattle.contest.proofs.LaidPlans.{laid-commands}
-use Rattle.contest.proofs.Memos.{told-more}
+use Rattle.contest.proofs.Memos.{remembers-all, remembers-then, remembers-more}
 
 -- no command before c, of `count` in all, leaves the works a held turn
 pub record Trying (size : Size) (seeds froms tos firsts outcomes : List ℕ) (k s count c : ℕ) (memo₀ memo : List ℕ) : Type 0 where
@@ -27,8 +27,7 @@ pub record Trying (size : Size) (seeds froms tos firsts outcomes : List ℕ) (k 
   pub counted : count ≡ getD tos s 0 - getD froms s 0
   pub below : c ≤ count
   pub tried : let P = laidPlan size seeds froms tos firsts outcomes in exists (worksTurn P (keeperTurn P (k - 1)) s) c ≡ false
-  pub told : Told (laidPlan size seeds froms tos firsts outcomes) (size .n) memo
-  pub same : length memo ≡ length memo₀
+  pub remembers : Remembers (laidPlan size seeds froms tos firsts outcomes) (size .n) memo₀ memo
 
 pub trying-start : {size : Size} {seeds froms tos firsts outcomes memo : List ℕ} {k s : ℕ} → Laid size seeds froms tos firsts outcomes
     → ((s < size .n) × (k ≤ maxMoves)) × Told (laidPlan size seeds froms tos firsts outcomes) (size .n) memo
@@ -44,8 +43,7 @@ trying-start laid (b, told) x w z from to p q = record {
   counted = rw (p, q);
   below = omega arith;
   tried = refl;
-  told = told;
-  same = refl;
+  remembers = remembers-all told;
 }
 
 -- the turn, where commands have to be tried
@@ -61,7 +59,7 @@ module _ {size : Size} {seeds froms tos firsts outcomes : List ℕ} {k s count c
 
   -- the works' turn at command c, as it was answered
   abbrev Tried : List ℕ → Bool → Type 0
-  Tried memo′ r = After P (size .n) memo memo′ r (worksTurn P (keeperTurn P (k - 1)) s c)
+  Tried memo′ r = (r ≡ worksTurn P (keeperTurn P (k - 1)) s c) × Remembers P (size .n) memo memo′
 
   all : count ≡ P .commands s
   all = w .counted ∙ sym (laid-commands size seeds froms tos firsts outcomes s)
@@ -77,23 +75,24 @@ module _ {size : Size} {seeds froms tos firsts outcomes : List ℕ} {k s count c
     counted = w .counted;
     below = omega arith;
     tried = rw (add-one c, w .tried) (sym (a .0) ∙ f);
-    told = a .1 .0;
-    same = a .1 .1 ∙ w .same;
+    remembers = remembers-then (w .remembers) (a .1);
   }
 
   module _ (place : ℕ) (p : place ≡ memoPlace s k) (memo″ : List ℕ) where
     pub trying-found : c < count → (memo′ : List ℕ) (r : Bool) → Tried memo′ r → r ≡ true → memo″ ≡ set memo′ place 1
-        → After P (size .n) memo₀ memo″ true (keeperTurn P k s)
+        → (true ≡ keeperTurn P k s) × (Remembers P (size .n) memo₀ memo″ × Knows P memo″ s k)
     unfolding code
     trying-found l memo′ r a t q =
         let held : keeperTurn P k s ≡ true = turn-open (w .unknown) ∙ exists-of _ _ c (omega (arith, all)) (sym (a .0) ∙ t) in
-        (sym held, told-more (a .1 .0) s k 1 (w .inside) (w .few) (rw held) memo₀ memo″ (a .1 .1 ∙ w .same) (rw (← p) q))
+        let known = remembers-then (w .remembers) (a .1) in
+        (sym held, remembers-more known s k 1 (w .inside) (w .few) (rw held) place p memo″ q)
 
-    pub trying-done : count ≤ c → memo″ ≡ set memo place 2 → After P (size .n) memo₀ memo″ false (keeperTurn P k s)
+    pub trying-done : count ≤ c → memo″ ≡ set memo place 2
+        → (false ≡ keeperTurn P k s) × (Remembers P (size .n) memo₀ memo″ × Knows P memo″ s k)
     unfolding code
     trying-done l q =
         let held : keeperTurn P k s ≡ false = turn-open (w .unknown) ∙ none in
-        (sym held, told-more (w .told) s k 2 (w .inside) (w .few) (rw held) memo₀ memo″ (w .same) (rw (← p) q))
+        (sym held, remembers-more (w .remembers) s k 2 (w .inside) (w .few) (rw held) place p memo″ q)
       where
         none : exists (worksTurn P (keeperTurn P (k - 1)) s) (P .commands s) ≡ false
         none = refute _ (λ t.

@@ -34,6 +34,12 @@ pub record Known (P : Plan) (k s x : ℕ) : Type 0 where
   pub sure : (x ≡ 0 → ⊥) → x ≡ code (keeperTurn P k s)
   pub opens : x ≡ 0 → Open P k s
 
--- what a turn leaves: its answer, and a memo that is as long as before and true
-abbrev pub After : Plan → ℕ → List ℕ → List ℕ → Bool → Bool → Type 0
-After P n memo₀ memo answer turn = (answer ≡ turn) × (Told P n memo × (length memo ≡ length memo₀))
+-- what became of the memo: it is as long as before and true, and no turn that it knew is forgotten
+pub record Remembers (P : Plan) (n : ℕ) (memo₀ memo : List ℕ) : Type 0 where
+  pub told : Told P n memo
+  pub same : length memo ≡ length memo₀
+  pub keeps : (i : ℕ) → getD memo i 0 ≡ 0 → getD memo₀ i 0 ≡ 0
+
+-- the memo knows the turn at s with k moves left
+abbrev pub Knows : Plan → List ℕ → ℕ → ℕ → Type 0
+Knows P memo s k = getD memo (memoPlace s k) 0 ≡ code (keeperTurn P k s)

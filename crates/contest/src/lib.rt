@@ -22,9 +22,9 @@ pub enum ContestAnswer {
 }
 
 // The contest at `state` over `moves` moves. Refused with 10, then 11, then 12. Nothing is lent to be written, so nothing is free.
-// Every turn is worked out once: for each number of moves left it looks at each state, command and outcome at most once, so there are at
-// most 9 (n + m + t) looks beside the soundness test, whatever the plan is. The local tables have 26,624 bytes whatever the plan is, and at
-// most 17 turns are under way at a time.
+// No turn is worked out twice (turns.rt): for each number of moves left, 0 to 8, each state, command and outcome is looked at once at most,
+// so that there are at most 9 (n + m + t) looks beside the soundness test, whatever the plan is. The local tables have 26,624 bytes
+// whatever the plan is, and at most 17 turns are under way at a time; docs/PERFORMANCE.md has the times and the stack.
 // Ruled out: a failing state held when no move is left, and a turn called held since one outcome of a command is.
 pub fn contest(
     size: Size,

@@ -7,7 +7,7 @@ ghost use lib.ListN.{length, getD};
 ghost use Rattle.model.specs.Contest.{worksTurn, keeperTurn, maxMoves};
 ghost use Rattle.tables.specs.declared.Size.{Size};
 ghost use Rattle.contest.specs.Laid.{laidPlan, Laid};
-ghost use Rattle.contest.specs.Memo.{Told, Known};
+ghost use Rattle.contest.specs.Memo.{memoPlace, Told, Known, Remembers, Knows};
 use crate::memo::HELD;
 use crate::memo::NOT_HELD;
 use crate::memo::UNKNOWN;
@@ -37,8 +37,9 @@ fn sure_turn(seeds: &[u16], froms: &[u16], tos: &[u16], s: usize, k: usize) -> u
     UNKNOWN
 }
 
-// Whether the keeper's turn at s is held with k moves left. It is worked out and remembered. Free is which turns the memo has beside it
-// afterwards: what it has of any is true.
+// Whether the keeper's turn at s is held with k moves left. It is only called where the memo does not know, and then the memo does, and
+// nothing that the memo knew is forgotten: so no turn is worked out twice. Free is which turns the memo has learnt beside it; what it has
+// of any is true.
 pub fn keeper_turn(
     size: Size,
     seeds: &[u16],
@@ -53,15 +54,19 @@ pub fn keeper_turn(
     requires { ⌜ Laid size (now seeds) (now froms) (now tos) (now firsts) (now outcomes) ⌝ }
     requires { ⌜ (s < size .n) × (k ≤ maxMoves) ⌝ }
     requires { ⌜ Told (laidPlan size (now seeds) (now froms) (now tos) (now firsts) (now outcomes)) (size .n) (now memo) ⌝ }
+    requires { ⌜ getD (now memo) (memoPlace s k) 0 ≡ 0 ⌝ }
     ensures { λ r. ⌜
         (let P = laidPlan size (now (seeds .entry)) (now (froms .entry)) (now (tos .entry)) (now (firsts .entry)) (now (outcomes .entry)) in
         r ≡ keeperTurn P k s)
         ⌝ }
     ensures { λ _. ⌜
         (let P = laidPlan size (now (seeds .entry)) (now (froms .entry)) (now (tos .entry)) (now (firsts .entry)) (now (outcomes .entry)) in
-        Told P (size .n) (now (memo .exit)))
+        Remembers P (size .n) (now (memo .entry)) (now (memo .exit)))
         ⌝ }
-    ensures { λ _. ⌜ length (now (memo .exit)) ≡ length (now (memo .entry)) ⌝ }
+    ensures { λ _. ⌜
+        (let P = laidPlan size (now (seeds .entry)) (now (froms .entry)) (now (tos .entry)) (now (firsts .entry)) (now (outcomes .entry)) in
+        Knows P (now (memo .exit)) s k)
+        ⌝ }
 {
     let sure = sure_turn(seeds, froms, tos, s, k);
     if sure != UNKNOWN {
@@ -104,9 +109,8 @@ fn works_turn(
         ⌝ }
     ensures { λ _. ⌜
         (let P = laidPlan size (now (seeds .entry)) (now (froms .entry)) (now (tos .entry)) (now (firsts .entry)) (now (outcomes .entry)) in
-        Told P (size .n) (now (memo .exit)))
+        Remembers P (size .n) (now (memo .entry)) (now (memo .exit)))
         ⌝ }
-    ensures { λ _. ⌜ length (now (memo .exit)) ≡ length (now (memo .entry)) ⌝ }
 {
     let place = at(froms, s) + c;
     let mut i = first_outcome(size, firsts, place);

@@ -1,7 +1,7 @@
 -- The two turns together. The keeper tries command after command, calling the works' turn with a move fewer; the works' turn tries outcome
 -- after outcome, calling the keeper's where the memo does not know. What falls from call to call is twice the moves left, and one more at
 -- the works' turn.
-use mathlib.Core.Path.{refl}
+use mathlib.Core.Path.{refl, sym, _∙_}
 use mathlib.Core.Logic.{⊎-elim}
 use mathlib.Core.List.{[]}
 use Prim.Native.Nat.{ℕ, _+_, _-_, _*_, _<_}
@@ -12,7 +12,7 @@ use Rattle.tables.proofs.entries.at.Reads as entry-at
 use Rattle.tables.proofs.entries.first_outcome.Reads as first-outcome
 use Rattle.tables.proofs.entries.put.Reads as put
 use Rattle.contest.proofs.LaidPlans.{laid-commands}
-use Rattle.contest.proofs.Memos.{known-fits, sure-remembered}
+use Rattle.contest.proofs.Memos.{known-fits, remembers-all, sure-remembered}
 use Rattle.contest.proofs.Trying.{Trying, trying-start, trying-next, trying-found, trying-done}
 use Rattle.contest.proofs.Answering.{
   Answering,
@@ -117,7 +117,7 @@ module _ (t : ℕ) where
       let p = entry .pre .1 .1 in
       let a = entry .args in
       let sure = past-sure-turn .sure-turn .ensures (a .size) (a .firsts .now) (a .outcomes .now) in
-      (omega (arith, c .memo-place .ensures, p .0, p .1 .long), known-fits sure (c .before .before .if1 .taken))
+      (omega (arith, c .memo-place .ensures, p .0, p .1 .0 .long), omega (arith, known-fits sure (c .before .before .if1 .taken)))
 
   keeper-returns : keeper-lts.Need-returns keeper-called keeper-at keeper-turn.Post keeper-Inv-loop keeper-μ-loop
   keeper-returns c =
@@ -128,11 +128,11 @@ module _ (t : ℕ) where
       let p = entry .pre .1 .1 in
       let a = entry .args in
       let sure = past-sure-turn .sure-turn .ensures (a .size) (a .firsts .now) (a .outcomes .now) in
-      sure-remembered (p .1) _ _ (p .0 .0) (p .0 .1) _ sure (past-if1 .if1 .taken) _ (past-memo-place .memo-place .ensures) _
+      sure-remembered (p .1 .0) _ _ (p .0 .0) (p .0 .1) _ sure (past-if1 .if1 .taken) _ (past-memo-place .memo-place .ensures) _
       (c .before .before .put .ensures)
 
   keeper-same-length : keeper-lts.Need-same-length keeper-called keeper-at keeper-turn.Post keeper-Inv-loop keeper-μ-loop
-  keeper-same-length c = keeper-returns c .1 .1
+  keeper-same-length c = keeper-returns c .1 .0 .same
 
   keeper-at-requires : keeper-lts.Need-at-requires keeper-called keeper-at keeper-turn.Post keeper-Inv-loop keeper-μ-loop
   keeper-at-requires c κs =
@@ -160,7 +160,7 @@ module _ (t : ℕ) where
       let p = entry .pre .1 in
       let a = entry .args in
       let sure = past-sure-turn .sure-turn .ensures (a .size) (a .firsts .now) (a .outcomes .now) in
-      trying-start (p .0) (p .1) _ sure (c .before .before .if1 .left) _ _ (c .at2 .ensures) (c .before .at .ensures)
+      trying-start (p .0) (p .1 .0, p .1 .1 .0) _ sure (c .before .before .if1 .left) _ _ (c .at2 .ensures) (c .before .at .ensures)
 
   keeper-sub-works-turn : keeper-lts.Need-sub-works-turn keeper-called keeper-at keeper-turn.Post keeper-Inv-loop keeper-μ-loop
   keeper-sub-works-turn c = omega (arith, c .before .before .loop .inv .unknown .moves)
@@ -170,7 +170,7 @@ module _ (t : ℕ) where
       let entry = c .before .before .before .before .before .before .before .before .before .before .before .before .before in
       let tried = c .before .before .loop .inv in (
         omega (arith, entry .pre .0, tried .unknown .moves),
-        (tried .laid, ((tried .inside, (omega (arith, tried .counted), omega (arith, tried .few))), tried .told)),
+        (tried .laid, ((tried .inside, (omega (arith, tried .counted), omega (arith, tried .few))), tried .remembers .told)),
       )
 
   keeper-memo-place-requires-2 : keeper-lts.Need-memo-place-requires-2 keeper-called keeper-at keeper-turn.Post
@@ -185,7 +185,7 @@ module _ (t : ℕ) where
       let past-works-turn = c .before .before .before .before .before in
       let past-loop = past-works-turn .before .before .before in
       let tried = past-loop .loop .inv in
-      let long = past-works-turn .works-turn .ensures .1 .0 .long in
+      let long = past-works-turn .works-turn .ensures .1 .told .long in
       (omega (arith, c .memo-place2 .ensures, long, tried .inside, tried .few), omega arith)
 
   keeper-returns-2 : keeper-lts.Need-returns-2 keeper-called keeper-at keeper-turn.Post keeper-Inv-loop keeper-μ-loop
@@ -199,7 +199,7 @@ module _ (t : ℕ) where
       (past-works-turn .works-turn .ensures) (past-if2 .if2 .taken) (c .before .before .put2 .ensures)
 
   keeper-same-length-2 : keeper-lts.Need-same-length-2 keeper-called keeper-at keeper-turn.Post keeper-Inv-loop keeper-μ-loop
-  keeper-same-length-2 c = keeper-returns-2 c .1 .1
+  keeper-same-length-2 c = keeper-returns-2 c .1 .0 .same
 
   keeper-add-c : keeper-lts.Need-add-c keeper-called keeper-at keeper-turn.Post keeper-Inv-loop keeper-μ-loop
   keeper-add-c c = omega arith
@@ -223,7 +223,7 @@ module _ (t : ℕ) where
   keeper-put-requires-3 c κs =
       let past-loop = c .before .before .before in
       let tried = past-loop .loop .inv in
-      (omega (arith, c .memo-place3 .ensures, tried .told .long, tried .inside, tried .few), omega arith)
+      (omega (arith, c .memo-place3 .ensures, tried .remembers .told .long, tried .inside, tried .few), omega arith)
 
   keeper-returns-3 : keeper-lts.Need-returns-3 keeper-called keeper-at keeper-turn.Post keeper-Inv-loop keeper-μ-loop
   keeper-returns-3 c =
@@ -234,7 +234,7 @@ module _ (t : ℕ) where
       (c .before .before .put3 .ensures)
 
   keeper-same-length-3 : keeper-lts.Need-same-length-3 keeper-called keeper-at keeper-turn.Post keeper-Inv-loop keeper-μ-loop
-  keeper-same-length-3 c = keeper-returns-3 c .1 .1
+  keeper-same-length-3 c = keeper-returns-3 c .1 .0 .same
 
   -- ---- the works' turn
 
@@ -288,7 +288,7 @@ module _ (t : ℕ) where
       let past-loop = past-loop-test .before in
       let left = past-loop .loop .inv in
       let state = left .states _ (past-loop-test .loop-test .taken) in
-      omega (arith, c .memo-place .ensures, left .told .long, left .few, state, c .before .before .at2 .ensures)
+      omega (arith, c .memo-place .ensures, left .remembers .told .long, left .few, state, c .before .before .at2 .ensures)
 
   works-returns : works-lts.Need-returns works-called works-at works-turn.Post works-Inv-loop works-μ-loop
   works-returns c =
@@ -297,21 +297,33 @@ module _ (t : ℕ) where
       let past-loop = past-loop-test .before in
       let left = past-loop .loop .inv in
       let test = past-loop-test .loop-test .taken in
-      let told = answering-told left test _ (past-at2 .at2 .ensures) _ _ (c .before .before .memo-place .ensures) (c .before .at3 .ensures) in
-      answering-found left test _ (past-at2 .at2 .ensures) _ _ (told .1 (c .if1 .taken)) refl
+      let known = c .before .at3 .ensures in
+      let told = answering-told left test _ (past-at2 .at2 .ensures) _ _ (c .before .before .memo-place .ensures) known in
+      answering-found left test _ (past-at2 .at2 .ensures) _ _ (told .1 (c .if1 .taken)) (remembers-all (left .remembers .told)) refl
 
   works-same-length : works-lts.Need-same-length works-called works-at works-turn.Post works-Inv-loop works-μ-loop
-  works-same-length c = works-returns c .1 .1
+  works-same-length c = works-returns c .1 .same
 
   works-keeper-turn-requires : works-lts.Need-keeper-turn-requires works-called works-at works-turn.Post works-Inv-loop works-μ-loop
   works-keeper-turn-requires c κs =
-      let past-at2 = c .before .before .before .before .before .before in
+      let past-at3 = c .before .before .before in
+      let past-memo-place = past-at3 .before in
+      let past-at2 = past-memo-place .before .before in
       let past-loop-test = past-at2 .before in
       let past-loop = past-loop-test .before in
       let entry = past-loop .before .before .before .before .before .before .before .before .before .before in
       let left = past-loop .loop .inv in
       let state = left .states _ (past-loop-test .loop-test .taken) in
-      (omega (arith, entry .pre .0), (left .laid, ((omega (arith, state, past-at2 .at2 .ensures), left .few), left .told)))
+      let unknown = sym (past-at3 .at3 .ensures) ∙ c .before .if2 .taken in (
+        omega (arith, entry .pre .0),
+        (
+          left .laid,
+          (
+            (omega (arith, state, past-at2 .at2 .ensures), left .few),
+            (left .remembers .told, rw (← (past-memo-place .memo-place .ensures)) unknown),
+          ),
+        ),
+      )
 
   works-returns-2 : works-lts.Need-returns-2 works-called works-at works-turn.Post works-Inv-loop works-μ-loop
   works-returns-2 c =
@@ -319,11 +331,12 @@ module _ (t : ℕ) where
       let past-at2 = past-keeper-turn .before .before .before .before .before .before .before in
       let past-loop-test = past-at2 .before in
       let past-loop = past-loop-test .before in
-      answering-found (past-loop .loop .inv) (past-loop-test .loop-test .taken) _ (past-at2 .at2 .ensures) _ _
-      (past-keeper-turn .keeper-turn .ensures) (c .if3 .taken)
+      let turn = past-keeper-turn .keeper-turn .ensures in
+      answering-found (past-loop .loop .inv) (past-loop-test .loop-test .taken) _ (past-at2 .at2 .ensures) _ _ (turn .0)
+      (turn .1 .0) (c .if3 .taken)
 
   works-same-length-2 : works-lts.Need-same-length-2 works-called works-at works-turn.Post works-Inv-loop works-μ-loop
-  works-same-length-2 c = works-returns-2 c .1 .1
+  works-same-length-2 c = works-returns-2 c .1 .same
 
   works-add-i : works-lts.Need-add-i works-called works-at works-turn.Post works-Inv-loop works-μ-loop
   works-add-i c = omega arith
@@ -338,19 +351,20 @@ module _ (t : ℕ) where
       let past-loop-test = past-at2 .before in
       let past-loop = past-loop-test .before in
       let left = past-loop .loop .inv in
-      let test = past-loop-test .loop-test .taken in
       let known = c .before .before .at3 .ensures in
-      let told = answering-told left test _ (past-at2 .at2 .ensures) _ _ (past-memo-place .memo-place .ensures) known in
+      let place = past-memo-place .memo-place .ensures in
+      let told = answering-told left (past-loop-test .loop-test .taken) _ (past-at2 .at2 .ensures) _ _ place known in
+      let next = answering-next left (past-loop-test .loop-test .taken) _ (past-at2 .at2 .ensures) in
       ⊎-elim
-      (λ (if2, arg, turn, memo′, slice, if3, e). rw e (answering-next left test _ (past-at2 .at2 .ensures) _ _ (turn .ensures) (if3 .left)))
-      (λ (if2, e). rw e (answering-next left test _ (past-at2 .at2 .ensures) _ _ (told .0 (if2 .left) (c .before .if1 .left)) refl))
+      (λ (if2, arg, turn, memo′, slice, if3, e). rw e (next _ _ (turn .ensures .0) (turn .ensures .1 .0) (if3 .left)))
+      (λ (if2, e). rw e (next _ _ (told .0 (if2 .left) (c .before .if1 .left)) (remembers-all (left .remembers .told)) refl))
       (c .if2 .came)
 
   works-returns-3 : works-lts.Need-returns-3 works-called works-at works-turn.Post works-Inv-loop works-μ-loop
   works-returns-3 c = answering-done (c .before .loop .inv) (c .loop-test .left)
 
   works-same-length-3 : works-lts.Need-same-length-3 works-called works-at works-turn.Post works-Inv-loop works-μ-loop
-  works-same-length-3 c = works-returns-3 c .1 .1
+  works-same-length-3 c = works-returns-3 c .1 .same
 
 pub +keeper-turn+works-turn-spec : {M : Type 1} → statement M
 +keeper-turn+works-turn-spec =
