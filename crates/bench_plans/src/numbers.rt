@@ -29,10 +29,13 @@ pub fn least(a: usize, b: usize) -> usize
     b
 }
 
+// 2^48.
+const FAR: usize = 281474976710656;
+
 // A number whose bits stand far above those of an entry.
 pub fn far(x: usize) -> usize
     requires { ⌜ x < 256 * 256 ⌝ }
     ensures { λ r. ⌜ r ≡ x * 281474976710656 ⌝ }
 {
-    x * 281474976710656
+    x * FAR
 }

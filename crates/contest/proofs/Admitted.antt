@@ -2,7 +2,7 @@
 use mathlib.Core.Path.{_≡_, _∙_}
 use mathlib.Core.Bool.{Bool}
 use mathlib.Core.List.{List}
-use Prim.Native.Nat.{ℕ, _<_, _≤_}
+use Prim.Native.Nat.{ℕ, _*_, _<_, _≤_}
 use native.Mathlib.Omega.{arith}
 use lib.ListN.{length, getD, replicate, length-replicate, getD-replicate}
 use Rattle.model.specs.File.{maxStates}
@@ -30,7 +30,7 @@ abbrev empty : List ℕ
 empty = replicate maxStates 0
 
 abbrev no-turns : List ℕ
-no-turns = replicate 9216 0
+no-turns = replicate (9 * maxStates) 0
 
 module _ (size : Size) (rows : List Row) (firsts outcomes : List ℕ) (s k : ℕ) (g : Admission)
     (answers : contestCall (held size rows firsts outcomes) s k
@@ -59,8 +59,8 @@ module _ (size : Size) (rows : List Row) (firsts outcomes : List ℕ) (s k : ℕ
           (
             (passed .inside, passed .few),
             (
-              none-told _ (size .n) 9216 (omega (arith, spans .few)),
-              getD-replicate 9216 (memoPlace s k) 0 0 (omega (arith, spans .few, passed .inside, passed .few)),
+              none-told _ (size .n) (9 * maxStates) (omega (arith, spans .few)),
+              getD-replicate (9 * maxStates) (memoPlace s k) 0 0 (omega (arith, spans .few, passed .inside, passed .few)),
             ),
           ),
         )

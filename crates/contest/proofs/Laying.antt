@@ -6,7 +6,6 @@ use Prim.Native.Nat.{ℕ, _-_, _<_, _≤_}
 use native.Mathlib.Numerals.{add-one}
 use native.Mathlib.Omega.{arith}
 use lib.ListN.{length, getD}
-use Rattle.laws.specs.Entry.{FFFF}
 use Rattle.model.specs.Plan.{Plan, failing, resting}
 use Rattle.model.specs.Contest.{keeperTurn}
 use Rattle.model.specs.Tables.{Tables}
@@ -62,10 +61,7 @@ module _ (size : Size) (rows : List Row) (firsts outcomes : List ℕ) (sounds : 
     seed-zero f = v .seeded .low s l ∙ sym (seed-failing (spanAt T s) (span-failing T s l ∙ f))
 
     seed-none : failing P s ≡ false → getD seeds s 0 ≡ 0 → ⊥
-    seed-none f z = positive FFFF (omega arith) (seed-other (spanAt T s) (span-failing T s l ∙ f) ∙ sym (v .seeded .low s l) ∙ z)
-      where
-        positive : (x : ℕ) → 0 < x → x ≡ 0 → ⊥
-        positive x m e = omega arith
+    seed-none f z = omega (arith, seed-other (spanAt T s) (span-failing T s l ∙ f), v .seeded .low s l, z)
 
     -- both plans count the state as the same
     abbrev Same : Type 0

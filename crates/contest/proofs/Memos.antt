@@ -43,7 +43,7 @@ module _ {P : Plan} {k s : ℕ} where
 
   module _ {x : ℕ} (w : Known P k s x) (h : x ≡ 0 → ⊥) where
     -- the answer by what is known
-    pub known-is : eqb x 1 ≡ keeperTurn P k s
+    known-is : eqb x 1 ≡ keeperTurn P k s
     known-is = ap (λ (y : ℕ). eqb y 1) (w .sure h) ∙ code-held (keeperTurn P k s)
 
     pub known-fits : x < 65536
@@ -65,13 +65,7 @@ module _ {P : Plan} {n : ℕ} {memo : List ℕ} (w : Told P n memo) (s k : ℕ) 
   pub told-not : x ≡ 2 → false ≡ keeperTurn P k s
   unfolding code
   told-not z =
-      ⊎-elim (λ t. absurd (apart (said (λ y. zero-two (sym y ∙ z)) true t))) (λ t. sym t) (true-or-false (keeperTurn P k s))
-    where
-      zero-two : _≡_ {A = ℕ} 0 2 → ⊥
-      zero-two y = omega arith
-
-      apart : x ≡ 1 → ⊥
-      apart y = omega arith
+      ⊎-elim (λ t. absurd (omega (arith, said (λ y. omega arith) true t, z))) (λ t. sym t) (true-or-false (keeperTurn P k s))
 
 -- nothing is known by a memo of zeros
 pub none-told : (P : Plan) (n places : ℕ) → 9 * n ≤ places → Told P n (replicate places 0)

@@ -9,8 +9,11 @@ use tables::Size;
 // The most moves that a contest goes over.
 pub const MOVES: usize = 8;
 
-// How many places the memo has: each state has one for each number of moves left, 0 to 8.
-pub const PLACES: usize = Size::STATES * (MOVES + 1);
+// How many turns the keeper has at a state: one for each number of moves left, 0 to 8.
+const TURNS: usize = MOVES + 1;
+
+// How many places the memo has.
+pub const PLACES: usize = Size::STATES * TURNS;
 
 // The entries. The memo is made of zeros, so at first nothing is known.
 pub const UNKNOWN: usize = 0;
@@ -24,5 +27,5 @@ pub fn memo_place(s: usize, k: usize) -> usize
     requires { ⌜ (s < maxStates) × (k ≤ maxMoves) ⌝ }
     ensures { λ r. ⌜ r ≡ memoPlace s k ⌝ }
 {
-    9 * s + k
+    TURNS * s + k
 }

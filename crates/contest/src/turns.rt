@@ -1,5 +1,6 @@
-// The keeper's turn and the works' turn, which call one another while the moves left fall (rule N7). Plain recursion would work a turn out
-// again wherever it is met, which no controller lives to see the end of; the memo has each turn of the keeper once it is worked out.
+// The keeper's turn and the works' turn, which call one another, with one move fewer left after each command (rule N7). Plain recursion
+// would work a turn out again wherever it is met, which no controller lives to see the end of; the memo has each turn of the keeper once it
+// is worked out.
 ghost use mathlib.Core.Path.{_≡_};
 ghost use mathlib.Core.List.{List};
 ghost use Prim.Native.Nat.{ℕ, _-_, _<_, _≤_};

@@ -1,4 +1,5 @@
--- Tests that are each other's contrary: where every member passes the one, none passes the other.
+-- Tests that are each other's contrary: each passes the one exactly if not any passes the other, and some the one exactly if not every the
+-- other.
 use mathlib.Core.Path.{_≡_, refl, ap₂, _∙_}
 use mathlib.Core.Bool.{Bool, true, false, not, _&&_, _||_}
 use mathlib.Core.List.{List, [], _∷_, List·Memᴰ, List·Memᴰ·head, List·Memᴰ·tail}

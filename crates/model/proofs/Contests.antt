@@ -1,5 +1,5 @@
--- The keeper's turn is held exactly where no layer up to the moves left has the state; so where the state is safe or its rank exceeds them,
--- with fewer moves too, and where some commanding rule survives all runs of so many moves.
+-- The keeper's turn is held exactly where no layer up to the moves left has the state: at safe states and at lost ones of a higher rank. So
+-- it is with fewer moves too, and that is where some commanding rule survives all runs of so many moves.
 use mathlib.Core.Path.{_≡_, refl, sym, _∙_, ap}
 use mathlib.Core.Bool.{true, false, not}
 use mathlib.Core.Logic.{_⊎_, inl, inr, ⊎-elim, _↔_}
@@ -105,7 +105,7 @@ module _ (P : Plan) (S : Valid P) where
 
   module _ (k s : ℕ) (l : s < P .states) where
     -- a held turn: the state has no rank, or a higher one
-    pub held-late : keeperTurn P k s ≡ true → (rank P s ≡ none) ⊎ Exceeds (rank P s) k
+    held-late : keeperTurn P k s ≡ true → (rank P s ≡ none) ⊎ Exceeds (rank P s) k
     held-late e = go (rank P s) refl
       where
         out : layer P k s ≡ false
@@ -132,11 +132,8 @@ module _ (P : Plan) (S : Valid P) where
     pub contest-ranked : (keeperTurn P k s ≡ true) ↔ ((rank P s ≡ none) ⊎ Exceeds (rank P s) k)
     contest-ranked = (held-late, λ h. ⊎-elim (λ e. e) (λ (r, q, low). absurd (apart r q low h)) held-or)
       where
-        some-none : (r : ℕ) → _≡_ {A = Option ℕ} (some r) none → ⊥
-        some-none r e = let z : _≡_ {A = ℕ} 0 1 = cc in omega arith
-
         apart : (r : ℕ) → rank P s ≡ some r → r ≤ k → (rank P s ≡ none) ⊎ Exceeds (rank P s) k → ⊥
-        apart r q low = ⊎-elim (λ e. some-none r (sym q ∙ e)) (λ (t, p, high). let z : r ≡ t = cc in omega arith)
+        apart r q low = ⊎-elim (λ e. let z : _≡_ {A = ℕ} 0 1 = cc in omega arith) (λ (t, p, high). let z : r ≡ t = cc in omega arith)
 
     -- rule M6
     pub contest-exactly : (keeperTurn P k s ≡ true) ↔ ((safe P s ≡ true) ⊎ Exceeds (rank P s) k)

@@ -45,7 +45,7 @@ Exceeds rank k = (r : ℕ) × (rank ≡ some r) × (k < r)
 
 -- What it means that the contest at s over k moves is answered so.
 pub record Contested (T : Tables) (s k : ℕ) (held : Bool) : Type 0 where
-  -- rule M6: it is held if and only if the state is safe or its rank exceeds k
+  -- rule M6: it is held at safe states, at lost ones of a rank above k, and nowhere else
   pub exactly : (held ≡ true) ↔ ((safe (planIn T) s ≡ true) ⊎ Exceeds (rank (planIn T) s) k)
   -- and so by the ranks that deciding leaves, whatever tables it is lent on the same plan, if it answers
   pub by-ranks : (ranks commands marks scratch : List ℕ) (counts : List (List ℕ))

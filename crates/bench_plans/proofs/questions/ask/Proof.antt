@@ -36,4 +36,5 @@ returns-4 : tie.Need-returns-4
 returns-4 c = search needs
 
 pub ask-spec : {M : Type 1} → statement M
-ask-spec = tie.close (tie.spec ask-contest-requires returns far-requires far-requires-2 ask-contest-requires-2 returns-2 least-requires ask-tables-requires returns-3 returns-4)
+ask-spec = tie.close (tie.spec ask-contest-requires returns far-requires far-requires-2 ask-contest-requires-2 returns-2
+    least-requires ask-tables-requires returns-3 returns-4)
