@@ -13,7 +13,7 @@ const CONTEST: usize = 2;
 
 const FAR_CONTEST: usize = 3;
 
-fn ask(
+pub fn ask(
     size: Size,
     rows: &[Row],
     firsts: &[u16],

@@ -21,8 +21,8 @@ pub enum ContestAnswer {
     Refused(Refusal),
 }
 
-// The contest at `state` over `moves` moves. Refused with 10, then 11, then 12. Nothing is lent to be written; free is only
-// how the call comes to its answer (rule U10).
+// The contest at `state` over `moves` moves. Refused with 10, then 11, then 12. Nothing is lent to be written; free is only how the call
+// comes to its answer (rule U10).
 // No turn is worked out twice (turns.rt): for each number of moves left, 0 to 8, each state, command and outcome is looked at once at most,
 // so that there are at most 9 (n + m + t) looks beside the soundness test, whatever the plan is. The local tables have 26,624 bytes
 // whatever the plan is, and at most 17 turns are under way at a time; docs/PERFORMANCE.md has the times and the stack.
