@@ -8,10 +8,10 @@ use native.Mathlib.Omega.{arith}
 use lib.Dec.{ltb}
 use lib.ListN.{length, getD}
 use lib.Seq.{slice}
-use borrow.Author.Tests.{eq-eqb, ne-eqb, lt-ltb, le-ltb}
+use borrow.Author.Tests.{eq-eqb, ne-eqb, lt-ltb, le-ltb, ltb-true}
 use Rattle.laws.specs.Sets.{each}
 use Rattle.laws.proofs.Tests.{true-or-false}
-use Rattle.model.specs.Plan.{Plan, ordinary, failing, resting}
+use Rattle.model.specs.Plan.{Plan, failing, resting}
 use Rattle.model.specs.Places.{startIn}
 use Rattle.model.specs.Contest.{worksTurn}
 use Rattle.tables.specs.declared.Size.{Size}
@@ -34,7 +34,7 @@ module _ (size : Size) (seeds froms tos firsts outcomes : List ℕ) (s : ℕ) wh
 
     -- a failing state is not at rest
     pub laid-fails-on : seed ≡ 0 → resting P s ≡ false
-    unfolding resting ordinary laidPlan
+    unfolding resting laidPlan
     laid-fails-on z = rw (← e, eq-eqb seed 0 z)
 
     module _ (h : seed ≡ 0 → ⊥) where
@@ -42,7 +42,13 @@ module _ (size : Size) (seeds froms tos firsts outcomes : List ℕ) (s : ℕ) wh
       unfolding failing laidPlan
       laid-stands =
           rw (← e, ne-eqb seed 0 h)
-          (⊎-elim (λ t. rw t) (λ t. rw t) (true-or-false (ltb (getD froms s 0) (getD tos s 0))))
+          (⊎-elim
+          (λ t. rw (t, ne-eqb (getD tos s 0 - getD froms s 0) 0 (gap (getD froms s 0) (getD tos s 0) t)))
+          (λ t. rw t)
+          (true-or-false (ltb (getD froms s 0) (getD tos s 0))))
+        where
+          gap : (from to : ℕ) → ltb from to ≡ true → to - from ≡ 0 → ⊥
+          gap from to t z = omega (arith, ltb-true from to t)
 
       module _ (from to : ℕ) (p : from ≡ getD froms s 0) (q : to ≡ getD tos s 0) where
         pub laid-rests : to ≤ from → resting P s ≡ true
@@ -50,8 +56,8 @@ module _ (size : Size) (seeds froms tos firsts outcomes : List ℕ) (s : ℕ) wh
         laid-rests l = rw (← e, ne-eqb seed 0 h, ← p, ← q, le-ltb from to l)
 
         pub laid-tries : from < to → resting P s ≡ false
-        unfolding resting ordinary laidPlan
-        laid-tries l = rw (← e, ne-eqb seed 0 h, ← p, ← q, lt-ltb from to l, ne-eqb (to - from) 0 (λ z. omega arith))
+        unfolding resting laidPlan
+        laid-tries l = rw (← e, ne-eqb seed 0 h, ← p, ← q, lt-ltb from to l)
 
   -- the command's outcomes are at the places from `from` up to `end`
   pub laid-works : (held : ℕ → Bool) (c place from end : ℕ) → place ≡ getD froms s 0 + c

@@ -194,6 +194,13 @@ many-bound f (suc n) =
     let below : howMany f n ≤ n = many-bound f n in
     ⊎-elim (λ e. rw e (omega arith)) (λ e. rw e (omega arith)) (true-or-false (f n))
 
+-- a set in two parts has as many members as both
+pub many-parts : (f g h : ℕ → Bool) → ((x : ℕ) → cond (f x) 1 0 + cond (g x) 1 0 ≡ cond (h x) 1 0) → (n : ℕ)
+    → howMany f n + howMany g n ≡ howMany h n
+unfolding howMany
+many-parts f g h both zero = refl
+many-parts f g h both (suc n) = omega (arith, both n, many-parts f g h both n)
+
 module _ (f g : ℕ → Bool) where
   pub many-le : (n : ℕ) → Part n f g → howMany f n ≤ howMany g n
   unfolding howMany

@@ -28,3 +28,10 @@ ltb-gap a b =
     same-test (ltb a b) (ltb 0 (b - a))
     (λ e. lt-ltb 0 (b - a) (omega (arith, ltb-true a b e)))
     (λ e. lt-ltb a b (omega (arith, ltb-true 0 (b - a) e)))
+
+-- and it is not where there is none
+pub leb-gap : (a b : ℕ) → leb b a ≡ eqb (b - a) 0
+leb-gap a b =
+    same-test (leb b a) (eqb (b - a) 0)
+    (λ e. eq-eqb (b - a) 0 (omega (arith, leb-true b a e)))
+    (λ e. le-leb b a (omega (arith, eqb-true (b - a) 0 e)))

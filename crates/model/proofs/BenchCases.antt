@@ -62,16 +62,19 @@ verdicts ss = let P = planned ss in rankTable P ∷ commandTable P ∷ markTable
 
 -- Of two commands without a lost outcome the lower is chosen, and the practice before both. A ring of three that holds; the same
 -- ring with a leak, of which no state is safe. A fault whose practice holds: it steps to a lost state where the practice is none.
+-- A practice that may land on a stuck state, which has rank 0, and a state with no other way, which has rank 1.
 verdict-examples : map verdicts (
     (acting FFFF ((0 ∷ []) ∷ (1 ∷ []) ∷ []) ∷ acting 1 ((0 ∷ []) ∷ (1 ∷ []) ∷ []) ∷ [])
     ∷ (acting FFFF ((1 ∷ []) ∷ []) ∷ acting FFFF ((2 ∷ []) ∷ []) ∷ acting FFFF ((0 ∷ []) ∷ []) ∷ failed ∷ [])
     ∷ (acting FFFF ((1 ∷ []) ∷ []) ∷ acting FFFF ((2 ∷ []) ∷ []) ∷ acting FFFF ((0 ∷ 3 ∷ []) ∷ []) ∷ failed ∷ [])
     ∷ (acting 0 ((1 ∷ []) ∷ (0 ∷ []) ∷ []) ∷ acting FFFF ((2 ∷ []) ∷ []) ∷ failed ∷ [])
+    ∷ (acting 0 ((1 ∷ 2 ∷ []) ∷ (2 ∷ []) ∷ []) ∷ acting FFFF [] ∷ rest ∷ acting 0 ((1 ∷ []) ∷ []) ∷ [])
     ∷ [])
     ≡ ((FFFF ∷ FFFF ∷ []) ∷ (0 ∷ 1 ∷ []) ∷ (0 ∷ 0 ∷ []) ∷ [])
     ∷ ((FFFF ∷ FFFF ∷ FFFF ∷ 0 ∷ []) ∷ (0 ∷ 0 ∷ 0 ∷ FFFF ∷ []) ∷ (0 ∷ 0 ∷ 0 ∷ 1 ∷ []) ∷ [])
     ∷ ((3 ∷ 2 ∷ 1 ∷ 0 ∷ []) ∷ (FFFF ∷ FFFF ∷ FFFF ∷ FFFF ∷ []) ∷ (0 ∷ 0 ∷ 0 ∷ 1 ∷ []) ∷ [])
     ∷ ((FFFF ∷ 1 ∷ 0 ∷ []) ∷ (1 ∷ FFFF ∷ FFFF ∷ []) ∷ (2 ∷ 0 ∷ 1 ∷ []) ∷ [])
+    ∷ ((FFFF ∷ 0 ∷ FFFF ∷ 1 ∷ []) ∷ (1 ∷ FFFF ∷ FFFF ∷ FFFF ∷ []) ∷ (3 ∷ 1 ∷ 0 ∷ 1 ∷ []) ∷ [])
     ∷ []
 unfolding any first every orElse lowest found grow tabulate entry ordinary failing active hasPractice lesser least hit hits forced rank
     lost safe tryOrder choice chosen practiceHit practiceHits practiceFails faultOutcome fault mark stateOf planOf rankTable commandTable
@@ -84,13 +87,14 @@ abbrev searched : List State → ℕ → List ℕ
 searched ss a = let R = search (planned ss) a in cond (R .lost) 1 0 ∷ R .rounds ∷ resultTable (length ss) R
 
 -- The leaking ring of three is lost from each of its places, after 3, 2 and 1 rounds; the one that holds is safe after one round.
--- A failing start, a rest start and a start without commands take no round.
+-- A walk does not go on to a stuck state, which is known from the beginning. A failing start, a stuck one and one at rest take no round.
 search-examples : map (searched (acting FFFF ((1 ∷ []) ∷ []) ∷ acting FFFF ((2 ∷ []) ∷ []) ∷ acting FFFF ((0 ∷ 3 ∷ []) ∷ []) ∷ failed ∷ []))
     (0 ∷ 1 ∷ 2 ∷ 3 ∷ [])
-    ++ map (searched (acting FFFF ((1 ∷ []) ∷ []) ∷ acting FFFF ((0 ∷ []) ∷ []) ∷ acting FFFF [] ∷ rest ∷ [])) (0 ∷ 2 ∷ 3 ∷ [])
+    ++ map (searched (acting FFFF ((2 ∷ []) ∷ (1 ∷ []) ∷ []) ∷ acting FFFF ((0 ∷ []) ∷ []) ∷ acting FFFF [] ∷ rest ∷ []))
+    (0 ∷ 2 ∷ 3 ∷ [])
     ≡ (1 ∷ 3 ∷ FFFF ∷ FFFF ∷ FFFF ∷ FFFF ∷ []) ∷ (1 ∷ 2 ∷ FFFF ∷ FFFF ∷ FFFF ∷ FFFF ∷ []) ∷ (1 ∷ 1 ∷ FFFF ∷ FFFF ∷ FFFF ∷ FFFF ∷ [])
     ∷ (1 ∷ 0 ∷ FFFF ∷ FFFF ∷ FFFF ∷ FFFF ∷ [])
-    ∷ (0 ∷ 1 ∷ 0 ∷ 0 ∷ FFFF ∷ FFFF ∷ []) ∷ (0 ∷ 0 ∷ FFFF ∷ FFFF ∷ FFFF ∷ FFFF ∷ []) ∷ (0 ∷ 0 ∷ FFFF ∷ FFFF ∷ FFFF ∷ FFFF ∷ [])
+    ∷ (0 ∷ 1 ∷ 1 ∷ 0 ∷ FFFF ∷ FFFF ∷ []) ∷ (1 ∷ 0 ∷ FFFF ∷ FFFF ∷ FFFF ∷ FFFF ∷ []) ∷ (0 ∷ 0 ∷ FFFF ∷ FFFF ∷ FFFF ∷ FFFF ∷ [])
     ∷ []
 unfolding any first every exists orElse lowest found grow tabulate entry ordinary failing active resting hasPractice lesser least hit hits
     tryOrder choice lands next marked withoutMarks ends before atOnce inRounds search stateOf planOf resultTable

@@ -19,7 +19,7 @@ use Rattle.model.specs.Sound.{Sound}
 use Rattle.model.specs.SoundTest.{sound}
 use Rattle.model.specs.Held.{treeOf, planIn}
 use Rattle.model.specs.Calls.{writeCall}
-use Rattle.model.specs.Claims.{Short, Conditions, Meanings, Rules, Contests}
+use Rattle.model.specs.Claims.{Short, Conditions, Meanings, Rules, Failings, Contests}
 use Rattle.model.proofs.HeldPlan.{states-held}
 use Rattle.model.proofs.SoundFacts.{sound-facts}
 use Rattle.model.proofs.Soundness.{sound-iff}
@@ -42,6 +42,14 @@ use Rattle.model.proofs.ListingLength.{listing-length}
 use Rattle.model.proofs.Delivered.{decide-demand3, search-demand3}
 use Rattle.model.proofs.ContestCalls.{contest-iff, contest-unsound, contest-stranger, contest-moves, contest-only, contested}
 use Rattle.model.proofs.GateDemands.{gate-decide-demand3, gate-search-demand3}
+use Rattle.model.proofs.Stuck.{rank-zero, bound-counts, rest-safe, stuck-state}
+use Rattle.model.proofs.StuckCalls.{
+  stuck-decided,
+  stuck-searched,
+  stuck-contested,
+  gate-stuck-decided,
+  gate-stuck-searched,
+}
 
 -- ---- demand 1
 
@@ -212,6 +220,21 @@ rules = record {
   searched = search-demand3;
   gate-decided = gate-decide-demand3;
   gate-searched = gate-search-demand3;
+}
+
+-- ---- what counts as failing
+
+pub failings : Failings
+failings = record {
+  rank-zero = λ T S s l. rank-zero (planIn T) (valid T S) s (in-plan T S s l);
+  bound-counts = bound-counts;
+  rest-safe = λ T S s l. rest-safe (planIn T) (valid T S) s (in-plan T S s l);
+  stuck-state = λ T S s l. stuck-state (planIn T) (valid T S) s (in-plan T S s l);
+  stuck-decided = stuck-decided;
+  stuck-searched = stuck-searched;
+  stuck-contested = stuck-contested;
+  gate-stuck-decided = gate-stuck-decided;
+  gate-stuck-searched = gate-stuck-searched;
 }
 
 -- ---- the contest

@@ -15,7 +15,7 @@ use Rattle.model.specs.Places.{rowAt, firstCommand, commandCount}
 use Rattle.model.specs.SoundTest.{sizeSound, tablesLong, rowSound, listsSound, sound}
 use Rattle.model.specs.Held.{stateAt, treeOf, stateOf, planOf, planIn}
 use Rattle.model.specs.Contest.{worksTurn, keeperTurn, contestCall}
-use Rattle.model.specs.Bench.{caseA, chain}
+use Rattle.model.specs.Bench.{caseA, chain, noCommands}
 
 -- Case A: 3 is lost with rank 1, 4 is failing and 5 lost with rank 2; the others are safe.
 case-A-turns : answer (λ p. tabulate (λ k. tabulate (keeperTurn (planOf p) k) 0 6) 0 4) (read caseA)
@@ -36,6 +36,12 @@ chain-turns : answer (λ p. tabulate (λ k. tabulate (keeperTurn (planOf p) k) 0
 unfolding each exists tabulate ordinary failing resting worksTurn keeperTurn answer _>>=_ need _>>_ field head state entries rising
     command commands states read stateOf planOf
 chain-turns = refl
+
+-- a stuck state, which is not held though no moves are left, nor with any
+stuck-turns : answer (λ p. tabulate (λ k. keeperTurn (planOf p) k 0) 0 3) (read noCommands) ≡ given (false ∷ false ∷ false ∷ [])
+unfolding each exists tabulate ordinary failing resting worksTurn keeperTurn answer _>>=_ need _>>_ field head state entries rising
+    command commands states read stateOf planOf
+stuck-turns = refl
 
 -- one state, which is at rest; the start is said to be s
 abbrev resting-at : ℕ → Tables

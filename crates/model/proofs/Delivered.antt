@@ -26,9 +26,9 @@ use Rattle.model.proofs.Answering.{deciding-iff, searching-iff}
 use Rattle.model.proofs.Demands.{rank-entry, demand3}
 
 -- an entry that was written
-entry-written : (f : ℕ → ℕ) (n : ℕ) (table : List ℕ) (s : ℕ) → s < n → getD (overwrite (tabulate f 0 n) table) s FFFF ≡ f s
-entry-written f n table s h =
-    getD-overwrite-below (tabulate f 0 n) table s FFFF (rw (length-tabulate f 0 n) h) ∙ tabulate-at f n s FFFF h
+pub entry-written : (f : ℕ → ℕ) (n : ℕ) (table : List ℕ) (s default : ℕ) → s < n → getD (overwrite (tabulate f 0 n) table) s default ≡ f s
+entry-written f n table s default h =
+    getD-overwrite-below (tabulate f 0 n) table s default (rw (length-tabulate f 0 n) h) ∙ tabulate-at f n s default h
 
 module _ (T : Tables) (sounds : sound T ≡ true) where
   -- the tables of ranks and commands of a sound plan, and the search's, whatever the tables held before
@@ -42,10 +42,10 @@ module _ (T : Tables) (sounds : sound T ≡ true) where
       demand3 (planIn T) (sound-valid T sounds) (omega (arith, few-states (treeOf T) g))
       (λ s h. omega (arith, few-commands (treeOf T) g s h))
       _ _ _
-      (λ s h. entry-written (λ t. entry (rank (planIn T) t)) (planIn T .states) ranks s h)
-      (λ s h. entry-written (λ t. entry (chosen (planIn T) t)) (planIn T .states) commands s h)
+      (λ s h. entry-written (λ t. entry (rank (planIn T) t)) (planIn T .states) ranks s FFFF h)
+      (λ s h. entry-written (λ t. entry (chosen (planIn T) t)) (planIn T .states) commands s FFFF h)
       a (rw n inside)
-      (λ s h. entry-written (λ t. entry (search (planIn T) a .command t)) (T .size .n) table s (rw n at h))
+      (λ s h. entry-written (λ t. entry (search (planIn T) a .command t)) (T .size .n) table s FFFF (rw n at h))
 
   pub tables-decided : (ranks commands : List ℕ)
       → DecidingDemand3 T (overwrite (rankTable (planIn T)) ranks) (overwrite (commandTable (planIn T)) commands)
@@ -76,7 +76,7 @@ ranks-read T ranks commands marks scratch counts e s inside =
     let D = deciding-iff T (length ranks) (length commands) (length marks) (length scratch) P .0 decided in
     let g = sound-good T (D .sounds) in
     rw (decided, ← (D .is))
-    (ap fromEntry (entry-written (λ t. entry (rank (planIn T) t)) (planIn T .states) ranks s (rw (states-held T) inside))
+    (ap fromEntry (entry-written (λ t. entry (rank (planIn T) t)) (planIn T .states) ranks s FFFF (rw (states-held T) inside))
     ∙ rank-entry (planIn T) (sound-valid T (D .sounds)) (omega (arith, few-states (treeOf T) g))
     (λ t h. omega (arith, few-commands (treeOf T) g t h)) s)
 

@@ -1,6 +1,6 @@
 -- Laws of plans that differ in their outcomes only: with fewer outcomes no more states are lost, and none sooner; with the same ones, in
 -- whatever order they are listed, the same states at the same rank.
-use mathlib.Core.Path.{_≡_, refl, sym, ap, _∙_}
+use mathlib.Core.Path.{_≡_, refl, sym, _∙_}
 use mathlib.Core.Bool.{Bool, true}
 use mathlib.Core.Logic.{⊎-elim}
 use mathlib.Core.List.{List}
@@ -12,7 +12,7 @@ use Rattle.laws.specs.Sets.{grow}
 use Rattle.laws.proofs.Tests.{clash, refute, same-test}
 use Rattle.laws.proofs.Sets.{Part}
 use Rattle.laws.proofs.Grow.{grow-more, grow-add}
-use Rattle.model.specs.Plan.{Plan, Valid, ordinary, failingAt, failing, active}
+use Rattle.model.specs.Plan.{Plan, Valid, ordinary, failing, active}
 use Rattle.model.specs.Finer.{withOutcomes, SameShape, Finer, SameGame}
 use Rattle.model.specs.Verdict.{forced, layer, rank, lost, safe}
 use Rattle.model.proofs.Choices.{hits-is, hits-of, forced-is, forced-of}
@@ -24,7 +24,7 @@ use Rattle.model.proofs.SameLayers.{layers-rank, layers-verdict}
 module _ (P Q : Plan) (E : SameShape P Q) (s : ℕ) (l : s < P .states) where
   pub failing-shape : failing P s ≡ failing Q s
   unfolding failing
-  failing-shape = ap failingAt (E .kinds s l)
+  failing-shape = rw (E .kinds s l, E .counts s l)
 
   pub active-shape : active P s ≡ active Q s
   unfolding active ordinary

@@ -3,38 +3,43 @@
 use mathlib.Core.Path.{_≡_, refl, sym, ap, ap₂, _∙_}
 use mathlib.Core.Bool.{Bool, true, false, cond}
 use mathlib.Core.List.{List, [], _∷_, _++_}
-use Prim.Native.Nat.{ℕ, zero, suc, _+_, _-_, _*_, _/_, _%_, _≤_}
+use Prim.Native.Nat.{ℕ, zero, suc, _+_, _-_, _*_, _/_, _%_, _<_, _≤_}
 use native.Mathlib.Nat.{zero-add}
 use native.Mathlib.Omega.{arith}
 use lib.Dec.{leb, eqb}
 use lib.ListN.{length, drop, length-append, length-drop}
 use lib.Seq.{drop-drop}
 use borrow.Author.Tests.{leb-true}
-use Rattle.laws.specs.Lists.{tabulate, overwrite}
+use Rattle.laws.specs.Lists.{tabulate, joined, overwrite}
 use Rattle.laws.specs.Entry.{twos, entry}
 use Rattle.laws.proofs.Entry.{be16-two, length-twos}
 use Rattle.laws.proofs.Lists.{length-tabulate}
 use Rattle.model.specs.Plan.{Plan}
 use Rattle.model.specs.Verdict.{rank}
 use Rattle.model.specs.Command.{chosen}
+use Rattle.model.specs.Practice.{mark, tallyRow, tally as tallyCounts}
 use Rattle.model.specs.Search.{Result, search}
 use Rattle.model.specs.Refusal.{Refusal, Cramped, Answer, given, refused, number, _>>=_, _>>_}
 use Rattle.model.specs.Tables.{Tables}
 use Rattle.model.specs.File.{entries}
+use Rattle.model.specs.SoundTest.{sound}
 use Rattle.model.specs.Held.{planIn}
-use Rattle.model.specs.Calls.{left, deciding, searching, rankTable, commandTable, resultTable}
+use Rattle.model.specs.Calls.{left, deciding, searching, rankTable, commandTable, markTable, resultTable}
 use Rattle.model.specs.Boundary.{
   entriesIn,
   bytesFor,
   resultEntries,
   tallyBytes,
   answerBytes,
+  tallyEntries,
   code,
   verdictIn,
   roundsIn,
   gateDecide,
   gateSearch,
+  AfterGateDecide,
   gateDecideCall,
+  AfterGateSearch,
   gateSearchCall,
 }
 use Rattle.model.specs.Demand3.{DecidingDemand3, SearchDemand3}
@@ -94,12 +99,12 @@ answered (refused r) e = absurd (numbered r e)
 
 module _ (T : Tables) where
   decided : (ranks commands marks scratch tally : ℕ) (P : Plan) → gateDecide (given T) ranks commands marks scratch tally ≡ given P
-      → DecideAnswers T (ranks / 2) (commands / 2) (marks / 2) (scratch / 2) P
+      → DecideAnswers T (ranks / 2) (commands / 2) (marks / 2) (scratch / 2) P × (12 ≤ tally)
   unfolding gateDecide _>>=_
   decided ranks commands marks scratch tally P e =
       let (Q, d, f) = bind-inv (deciding T (ranks / 2) (commands / 2) (marks / 2) (scratch / 2)) _ e in
-      let (_, g) = need-inv Cramped (leb tallyBytes tally) (given Q) f in
-      deciding-iff T (ranks / 2) (commands / 2) (marks / 2) (scratch / 2) P .0 (d ∙ g)
+      let (l, g) = need-inv Cramped (leb tallyBytes tally) (given Q) f in
+      (deciding-iff T (ranks / 2) (commands / 2) (marks / 2) (scratch / 2) P .0 (d ∙ g), leb-true tallyBytes tally l)
 
   found : (start commands scratch answer n : ℕ) (R : Result) → gateSearch (given T) start commands scratch answer ≡ given (n, R)
       → (T .size .n ≡ n) × SearchAnswers T start (commands / 2) (scratch / 2) R × (4 ≤ answer)
@@ -126,42 +131,73 @@ rounds-entry : (R : Result) (answer : List ℕ) → roundsIn (overwrite (bytesFo
 unfolding resultEntries overwrite twos
 rounds-entry R answer = be16-two (R .rounds) []
 
--- rules G1 and D3: of the bytes that each call leaves when it returns 0, on a plan lent as bytes, whatever the slices held before
+-- ---- what is read of the bytes that a call leaves when it returns 0, whatever the slices held before
+
+pub record DecidedBytes (T : Tables) (ranks commands marks tally : List ℕ) (D : AfterGateDecide) : Type 0 where
+  pub sounds : sound T ≡ true
+  pub rank-entries : entriesIn (D .ranks) ≡ overwrite (rankTable (planIn T)) (entriesIn ranks)
+  pub command-entries : entriesIn (D .commands) ≡ overwrite (commandTable (planIn T)) (entriesIn commands)
+  pub mark-entries : entriesIn (D .marks) ≡ overwrite (markTable (planIn T)) (entriesIn marks)
+  pub tally-entries : entriesIn (D .tally) ≡ overwrite (tallyEntries (planIn T)) (entriesIn tally)
+
+pub record SearchedBytes (T : Tables) (a : ℕ) (table : List ℕ) (S : AfterGateSearch) : Type 0 where
+  pub sounds : sound T ≡ true
+  pub inside : a < T .size .n
+  pub verdict : verdictIn (S .answer) ≡ search (planIn T) a .lost
+  pub rounds : roundsIn (S .answer) ≡ search (planIn T) a .rounds
+  pub command-entries : entriesIn (S .commands) ≡ overwrite (resultTable (T .size .n) (search (planIn T) a)) (entriesIn table)
+
+-- a tally is six entries
+six : (P : Plan) → length (tallyEntries P) ≡ 6
+unfolding tallyEntries tallyCounts tallyRow joined
+six P = refl
+
 module _ (lent : Answer Tables) (T : Tables) (is : lent ≡ given T) where
+  pub decided-bytes : (ranks commands marks scratch tally : List ℕ)
+      → let D = gateDecideCall lent ranks commands marks scratch tally in
+      D .returns ≡ 0 → DecidedBytes T ranks commands marks tally D
+  unfolding left rankTable commandTable markTable
+  decided-bytes ranks commands marks scratch tally e =
+      let (P, p) = answered (gateDecide (given T) (length ranks) (length commands) (length marks) (length scratch) (length tally))
+      (rw is at e) in
+      let (D, room) = decided T (length ranks) (length commands) (length marks) (length scratch) (length tally) P p in
+      let m = states-held T in
+      rw (is, p, ← D .is) record {
+        sounds = D .sounds;
+        rank-entries = written-table (λ s. entry (rank (planIn T) s)) (planIn T .states) ranks (omega (arith, D .long-ranks, m));
+        command-entries = written-table (λ s. entry (chosen (planIn T) s)) (planIn T .states) commands (omega (arith, D .long-commands, m));
+        mark-entries = written-table (mark (planIn T)) (planIn T .states) marks (omega (arith, D .long-marks, m));
+        tally-entries = written-entries (tallyEntries (planIn T)) tally (omega (arith, room, six (planIn T)));
+      }
+
+  pub searched-bytes : (a : ℕ) (table space answer : List ℕ)
+      → let S = gateSearchCall lent a table space answer in
+      S .returns ≡ 0 → SearchedBytes T a table S
+  unfolding left resultTable
+  searched-bytes a table space answer e =
+      let (x, q) = answered (gateSearch (given T) a (length table) (length space) (length answer)) (rw is at e) in
+      let (n, S, l) = found T a (length table) (length space) (length answer) (x .0) (x .1) q in
+      rw (is, q, ← S .is, ← n) record {
+        sounds = S .sounds;
+        inside = S .inside;
+        verdict = verdict-entry (search (planIn T) a) answer;
+        rounds = rounds-entry (search (planIn T) a) answer;
+        command-entries = written-table (λ s. entry (search (planIn T) a .command s)) (T .size .n) table (S .long-commands);
+      }
+
+  -- rules G1 and D3
   pub gate-decide-demand3 : (ranks commands marks scratch tally : List ℕ) → gateDecideCall lent ranks commands marks scratch tally .returns
       ≡ 0
       → DecidingDemand3 T (entriesIn (gateDecideCall lent ranks commands marks scratch tally .ranks))
       (entriesIn (gateDecideCall lent ranks commands marks scratch tally .commands))
-  unfolding left rankTable commandTable
   gate-decide-demand3 ranks commands marks scratch tally e =
-      let (P, p) = answered (gateDecide (given T) (length ranks) (length commands) (length marks) (length scratch) (length tally))
-      (rw is at e) in
-      let D = decided T (length ranks) (length commands) (length marks) (length scratch) (length tally) P p in
-      let m = states-held T in
-      rw (
-        is,
-        p,
-        ← D .is,
-        written-table (λ s. entry (rank (planIn T) s)) (planIn T .states) ranks (omega (arith, D .long-ranks, m)),
-        written-table (λ s. entry (chosen (planIn T) s)) (planIn T .states) commands (omega (arith, D .long-commands, m)),
-      )
-      (tables-decided T (D .sounds) (entriesIn ranks) (entriesIn commands))
+      let D = decided-bytes ranks commands marks scratch tally e in
+      rw (D .rank-entries, D .command-entries) (tables-decided T (D .sounds) (entriesIn ranks) (entriesIn commands))
 
   pub gate-search-demand3 : (a : ℕ) (table space answer : List ℕ) → gateSearchCall lent a table space answer .returns ≡ 0
       → SearchDemand3 T a (verdictIn (gateSearchCall lent a table space answer .answer))
       (roundsIn (gateSearchCall lent a table space answer .answer))
       (entriesIn (gateSearchCall lent a table space answer .commands))
-  unfolding left resultTable
   gate-search-demand3 a table space answer e =
-      let (x, q) = answered (gateSearch (given T) a (length table) (length space) (length answer)) (rw is at e) in
-      let (n, S, l) = found T a (length table) (length space) (length answer) (x .0) (x .1) q in
-      rw (
-        is,
-        q,
-        ← S .is,
-        ← n,
-        written-table (λ s. entry (search (planIn T) a .command s)) (T .size .n) table (S .long-commands),
-        verdict-entry (search (planIn T) a) answer,
-        rounds-entry (search (planIn T) a) answer,
-      )
-      (table-searched T (S .sounds) a (S .inside) (entriesIn table))
+      let S = searched-bytes a table space answer e in
+      rw (S .verdict, S .rounds, S .command-entries) (table-searched T (S .sounds) a (S .inside) (entriesIn table))

@@ -69,4 +69,6 @@ pub mod GateTables
 pub mod Contests
 pub mod ContestCalls
 pub mod ContestCases
+pub mod Stuck
+pub mod StuckCalls
 pub mod Claimed

@@ -41,7 +41,7 @@ module _ {Q P : Plan} {old new : ℕ → ℕ} (r : PartOf Q P old new) (i : ℕ)
 
   part-failing : failing Q i ≡ failing P (old i)
   unfolding failing
-  part-failing = ap failingAt (r .kinds i l)
+  part-failing = ap₂ (λ (kind count : ℕ). failingAt kind count) (r .kinds i l) (r .counts i l)
 
   part-active : active Q i ≡ active P (old i)
   unfolding active

@@ -7,11 +7,11 @@ use Rattle.laws.specs.Lists.{tabulate}
 use Rattle.model.specs.Plan.{ordinary, failing, active, resting, hasPractice}
 use Rattle.model.specs.Verdict.{hit, hits}
 use Rattle.model.specs.Command.{tryOrder, choice}
-use Rattle.model.specs.Search.{lands, next, marked, withoutMarks, ends, before, atOnce, inRounds, search, ordinaries}
+use Rattle.model.specs.Search.{lands, next, marked, withoutMarks, ends, before, atOnce, inRounds, search, actives}
 use Rattle.model.specs.Refusal.{given, answer, _>>=_, need, _>>_}
 use Rattle.model.specs.File.{field, head, state, entries, rising, command, commands, states, read}
 use Rattle.model.specs.Held.{stateOf, planOf}
-use Rattle.model.specs.Bench.{caseA, chain}
+use Rattle.model.specs.Bench.{caseA, chain, noCommands}
 
 -- Case A: the last walk reaches 0 and 1. Were it none, demand 3 would compare no command; were it the first walk, 2 and 3 too.
 reached-last : answer (λ p. tabulate (search (planOf p) 0 .reached) 0 6) (read caseA)
@@ -21,7 +21,9 @@ unfolding any first every exists orElse lowest found grow tabulate ordinary fail
     rising command commands states read stateOf planOf
 reached-last = refl
 
--- Ordinary states, not all states (6 and 3): 4 of case A, and 2 of the chain, whose 2 rounds meet the bound.
-ordinary-count : map (λ file. answer (λ p. ordinaries (planOf p)) (read file)) (caseA ∷ chain ∷ []) ≡ given 4 ∷ given 2 ∷ []
-unfolding howMany ordinary answer _>>=_ need _>>_ field head state entries rising command commands states read stateOf planOf ordinaries
-ordinary-count = refl
+-- Ordinary states with commands, not all states (6, 3 and 1): 4 of case A, 2 of the chain, whose 2 rounds meet the bound, and none where
+-- the only state is stuck.
+active-count : map (λ file. answer (λ p. actives (planOf p)) (read file)) (caseA ∷ chain ∷ noCommands ∷ [])
+    ≡ given 4 ∷ given 2 ∷ given 0 ∷ []
+unfolding howMany ordinary active answer _>>=_ need _>>_ field head state entries rising command commands states read stateOf planOf actives
+active-count = refl

@@ -4,9 +4,9 @@ use mathlib.Core.Bool.{true, false}
 use Prim.Native.Nat.{ℕ, zero, suc, _<_, _≤_}
 use native.Mathlib.Omega.{arith}
 use lib.Dec.{ltb, eqb·suc-zero}
-use borrow.Author.Tests.{eqb-true, eq-eqb, ltb-true, lt-ltb}
+use borrow.Author.Tests.{eqb-true, eq-eqb, ne-eqb, ltb-true, lt-ltb}
 use Rattle.model.specs.Plan.{Plan, ordinary, failing, active, resting, Valid}
-use Rattle.laws.proofs.Tests.{clash, refute, and-both, and-join}
+use Rattle.laws.proofs.Tests.{clash, and-both, and-join}
 
 module _ (P : Plan) (s : ℕ) where
   pub active-is : active P s ≡ true → (ordinary P s ≡ true) × (0 < P .commands s)
@@ -19,10 +19,7 @@ module _ (P : Plan) (s : ℕ) where
 
   pub active-stands : active P s ≡ true → failing P s ≡ false
   unfolding ordinary failing
-  active-stands e = refute (failing P s) (λ f. apart (eqb-true (P .kind s) 1 f) (eqb-true (P .kind s) 0 (active-is e .0)))
-    where
-      apart : P .kind s ≡ 1 → P .kind s ≡ 0 → ⊥
-      apart p q = omega arith
+  active-stands e = let (o, l) = active-is e in rw (eqb-true (P .kind s) 0 o, ne-eqb (P .commands s) 0 (λ z. omega arith))
 
   pub data Kind : Type 0 where
     fails : failing P s ≡ true → resting P s ≡ false → active P s ≡ false → Kind
@@ -35,8 +32,8 @@ module _ (P : Plan) (s : ℕ) where
     kind-of = go (P .kind s) (P .commands s) refl refl (S .kinds s l)
       where
         go : (k n : ℕ) → P .kind s ≡ k → P .commands s ≡ n → k ≤ 2 → Kind
-        go zero zero p q h = rests (rw p) (rw (p, q)) (rw (p, q))
-        go zero (suc n) p q h = acts (rw p) (rw (p, q, eqb·suc-zero)) (rw (p, q) (lt-ltb 0 (suc n) (omega arith)))
+        go zero zero p q h = fails (rw (p, q)) (rw p) (rw (p, q))
+        go zero (suc n) p q h = acts (rw (p, q, eqb·suc-zero)) (rw p) (rw (p, q) (lt-ltb 0 (suc n) (omega arith)))
         go (suc zero) n p q h = fails (rw p) (rw p) (rw p)
         go (suc (suc zero)) n p q h = rests (rw p) (rw p) (rw p)
         go (suc (suc (suc k))) n p q h = absurd (omega arith)

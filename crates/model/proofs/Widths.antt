@@ -10,11 +10,11 @@ use Rattle.laws.specs.Lists.{tabulate, joined}
 use Rattle.laws.specs.Entry.{entry}
 use Rattle.laws.proofs.Sets.{many-bound}
 use Rattle.laws.proofs.All.{All, none, more, all-tabulate}
-use Rattle.model.specs.Plan.{Plan, Valid, ordinary}
+use Rattle.model.specs.Plan.{Plan, Valid, active}
 use Rattle.model.specs.Verdict.{rank, lost}
 use Rattle.model.specs.Command.{chosen}
 use Rattle.model.specs.Practice.{practiceFails, fault, mark, tallyRow, tally}
-use Rattle.model.specs.Search.{search, ordinaries}
+use Rattle.model.specs.Search.{search, actives}
 use Rattle.model.specs.Calls.{rankTable, commandTable, markTable}
 use Rattle.model.specs.Boundary.{tallyEntries}
 use Rattle.model.proofs.Choices.{choice-some}
@@ -65,5 +65,5 @@ module _ (P : Plan) (S : Valid P) (few : P .states < 65536) (short : (s : ℕ) �
       (more (count-fits _) (more (count-fits _) (more (count-fits _) (more (count-fits _) (more (count-fits _) none)))))
 
   pub rounds-fit : (a : ℕ) → a < P .states → Fits (search P a .rounds)
-  unfolding ordinaries
-  rounds-fit a l = omega (arith, search-answers P S a l .few, many-bound (ordinary P) (P .states))
+  unfolding actives
+  rounds-fit a l = omega (arith, search-answers P S a l .few, many-bound (active P) (P .states))

@@ -96,7 +96,7 @@ chain =
     ∷ 0x00 ∷ 0x02 ∷ 0x00 ∷ 0x01 ∷ 0x02 ∷ 0x00 ∷ 0x05 ∷ 0x00 ∷ 0x00 ∷ 0x01 ∷ 0xff ∷ 0xff ∷ 0x03 ∷ 0x00 ∷ 0x02 ∷ 0x00
     ∷ 0x02 ∷ 0x02 ∷ 0x00 ∷ 0x05 ∷ 0x01 ∷ 0x00 ∷ 0x00 ∷ 0xff ∷ 0xff ∷ 0x04 ∷ 0x00 ∷ 0x00 ∷ []
 
--- rule B10: one state, ordinary, that has no command
+-- rule B10: one state, ordinary, that has no command: it is stuck
 abbrev pub noCommands : List ℕ
 noCommands =
     0x01 ∷ 0x00 ∷ 0x04 ∷ 0x00 ∷ 0x01 ∷ 0x00 ∷ 0x00 ∷ 0x02 ∷ 0x00 ∷ 0x05 ∷ 0x00 ∷ 0x00 ∷ 0x00 ∷ 0xff ∷ 0xff ∷ 0x04
@@ -117,7 +117,7 @@ benches =
     ∷ bench toItselfOrFailing (1 ∷ 0 ∷ []) (FFFF ∷ FFFF ∷ []) (0 ∷ 1 ∷ []) ((0 ∷ 0 ∷ 0 ∷ []) ∷ (0 ∷ 0 ∷ 2 ∷ []) ∷ []) true 1
     ∷ bench secondCommand (FFFF ∷ 0 ∷ []) (1 ∷ FFFF ∷ []) (0 ∷ 1 ∷ []) ((0 ∷ 0 ∷ 1 ∷ []) ∷ (0 ∷ 0 ∷ 1 ∷ []) ∷ []) false 1
     ∷ bench chain (2 ∷ 1 ∷ 0 ∷ []) (FFFF ∷ FFFF ∷ FFFF ∷ []) (0 ∷ 0 ∷ 1 ∷ []) ((0 ∷ 0 ∷ 0 ∷ []) ∷ (0 ∷ 0 ∷ 3 ∷ []) ∷ []) true 2
-    ∷ bench noCommands (FFFF ∷ []) (FFFF ∷ []) (0 ∷ []) ((0 ∷ 0 ∷ 1 ∷ []) ∷ (0 ∷ 0 ∷ 0 ∷ []) ∷ []) false 0
+    ∷ bench noCommands (0 ∷ []) (FFFF ∷ []) (1 ∷ []) ((0 ∷ 0 ∷ 0 ∷ []) ∷ (0 ∷ 0 ∷ 1 ∷ []) ∷ []) true 0
     ∷ refusal [] (refused Cut)
     ∷ refusal noStates (refused Beyond)
     ∷ []

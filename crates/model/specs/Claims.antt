@@ -5,18 +5,18 @@ use mathlib.Core.Bool.{Bool, true, false, not, cond, _&&_}
 use mathlib.Core.List.{List, [], _∷_, _++_, List·Memᴰ, map}
 use mathlib.Core.Logic.{_⊎_, _↔_}
 use mathlib.Core.Option.{none, some}
-use Prim.Native.Nat.{ℕ, _<_, _≤_}
+use Prim.Native.Nat.{ℕ, _+_, _<_, _≤_}
 use lib.ListN.{length, getD, take}
-use Rattle.laws.specs.Sets.{lowest}
+use Rattle.laws.specs.Sets.{lowest, howMany}
 use Rattle.laws.specs.Lists.{overwrite}
 use Rattle.laws.specs.Entry.{Bytes}
-use Rattle.model.specs.Plan.{Plan, active, hasPractice}
+use Rattle.model.specs.Plan.{Plan, ordinary, active, stuck, hasPractice}
 use Rattle.model.specs.Rule.{Fails, positional}
 use Rattle.model.specs.Verdict.{hit, hits, LowestHit, layer, rank, lost, safe}
 use Rattle.model.specs.Value.{LeastSolution}
 use Rattle.model.specs.Command.{choice}
 use Rattle.model.specs.Practice.{followed, practiceFails, fault, faultOutcome}
-use Rattle.model.specs.Search.{Result, ends, before, search}
+use Rattle.model.specs.Search.{Result, ends, before, search, actives}
 use Rattle.model.specs.Refusal.{Refusal, Cramped, Unsound, Stranger, Moves, Answer, given, refused}
 use Rattle.model.specs.File.{Tree, read}
 use Rattle.model.specs.Bytes.{bytesOf}
@@ -27,6 +27,7 @@ use Rattle.model.specs.Held.{treeOf, planIn}
 use Rattle.model.specs.Calls.{reading, writing, deciding, searching, readCall, afterReading, writeCall, decideCall, searchCall}
 use Rattle.model.specs.Demand3.{DecidingDemand3, SearchDemand3}
 use Rattle.model.specs.Contest.{keeperTurn, maxMoves, contestCall, Contested}
+use Rattle.model.specs.Stuck.{StuckState, StuckEntries}
 use Rattle.model.specs.Boundary.{entriesIn, verdictIn, roundsIn, gateDecideCall, gateSearchCall}
 use Rattle.model.specs.Listing.{decimal, told, faultSign, stateLine, maxListing, listing}
 use Rattle.model.specs.Bench.{judged, benches, caseA, caseAListing}
@@ -133,6 +134,38 @@ pub record Rules : Type 0 where
   pub gate-searched : (lent : Answer Tables) (T : Tables) → lent ≡ given T → (a : ℕ) (table space answer : List ℕ)
       → let S = gateSearchCall lent a table space answer in
       S .returns ≡ 0 → SearchDemand3 T a (verdictIn (S .answer)) (roundsIn (S .answer)) (entriesIn (S .commands))
+
+-- ---- rules P8 and P9: what counts as failing
+
+pub record Failings : Type 0 where
+  -- rank 0 have the states of kind failing and the stuck ones, and no others
+  pub rank-zero : (T : Tables) → Sound T → (s : ℕ) → s < T .size .n → (rank (planIn T) s ≡ some 0)
+      ↔ ((planIn T .kind s ≡ 1) ⊎ ((planIn T .kind s ≡ 0) × (planIn T .commands s ≡ 0)))
+  -- rule D3h: stuck states are not in the bound on the rounds
+  pub bound-counts : (P : Plan) → actives P + howMany (stuck P) (P .states) ≡ howMany (ordinary P) (P .states)
+  -- what is of kind rest is safe
+  pub rest-safe : (T : Tables) → Sound T → (s : ℕ) → s < T .size .n → planIn T .kind s ≡ 2 → safe (planIn T) s ≡ true
+  pub stuck-state : (T : Tables) → Sound T → (s : ℕ) → s < T .size .n → stuck (planIn T) s ≡ true → StuckState (planIn T) s
+  -- and in what the calls answer and leave, whatever they are lent on the plan, in C too
+  pub stuck-decided : (T : Tables) (ranks commands marks scratch : List ℕ) (counts : List (List ℕ))
+      → let D = decideCall T ranks commands marks scratch in
+      D .answers ≡ given counts
+      → (howMany (stuck (planIn T)) (T .size .n) ≤ getD (getD counts 1 []) 2 0)
+      × ((s : ℕ) → s < T .size .n → stuck (planIn T) s ≡ true → StuckEntries (D .ranks) (D .commands) (D .marks) s)
+  pub stuck-searched : (T : Tables) (s : ℕ) → stuck (planIn T) s ≡ true → (table space : List ℕ) (verdict : Bool) (rounds : ℕ)
+      → searchCall T s table space .answers ≡ given (verdict, rounds) → (verdict ≡ true) × (rounds ≡ 0)
+  pub stuck-contested : (T : Tables) (s : ℕ) → stuck (planIn T) s ≡ true → (k : ℕ) (held : Bool)
+      → contestCall T s k ≡ given held → held ≡ false
+  pub gate-stuck-decided : (lent : Answer Tables) (T : Tables) → lent ≡ given T → (ranks commands marks scratch tally : List ℕ)
+      → let D = gateDecideCall lent ranks commands marks scratch tally in
+      D .returns ≡ 0
+      → (howMany (stuck (planIn T)) (T .size .n) ≤ getD (entriesIn (D .tally)) 5 0)
+      × ((s : ℕ) → s < T .size .n → stuck (planIn T) s ≡ true
+      → StuckEntries (entriesIn (D .ranks)) (entriesIn (D .commands)) (entriesIn (D .marks)) s)
+  pub gate-stuck-searched : (lent : Answer Tables) (T : Tables) → lent ≡ given T → (s : ℕ) → stuck (planIn T) s ≡ true
+      → (table space answer : List ℕ)
+      → let S = gateSearchCall lent s table space answer in
+      S .returns ≡ 0 → (verdictIn (S .answer) ≡ true) × (roundsIn (S .answer) ≡ 0)
 
 -- ---- part M: the contest, beside ranks, fewer moves and operating rules
 

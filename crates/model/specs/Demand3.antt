@@ -11,7 +11,7 @@ use Rattle.laws.specs.Entry.{FFFF, fromEntry}
 use Rattle.model.specs.Plan.{Plan}
 use Rattle.model.specs.Run.{moves}
 use Rattle.model.specs.Rule.{Rule, Commanding, Fails, Survives, positional}
-use Rattle.model.specs.Search.{search, ordinaries}
+use Rattle.model.specs.Search.{search, actives}
 use Rattle.model.specs.Refusal.{given}
 use Rattle.model.specs.Tables.{Tables}
 use Rattle.model.specs.Held.{planIn}
@@ -40,8 +40,8 @@ pub record Searched (P : Plan) (ranks commands : List ℕ) (a : ℕ) (verdict : 
   pub same-verdict : verdict ≡ found (readEntry ranks a)
   -- rules D3g and S12: where the last walk comes, the command entries are deciding's, FFFF too
   pub same-commands : readEntry ranks a ≡ none → (s : ℕ) → search P a .reached s ≡ true → getD table s FFFF ≡ getD commands s FFFF
-  -- rule D3h: the rounds have a bound
-  pub few-rounds : rounds ≤ ordinaries P
+  -- rule D3h: the rounds have a bound, the ordinary states with commands
+  pub few-rounds : rounds ≤ actives P
 
 -- Demand 3 whole: of every state of the plan, and of a search from a.
 pub record Demand3 (P : Plan) (ranks commands : List ℕ) (a : ℕ) (verdict : Bool) (rounds : ℕ) (table : List ℕ) : Type 0 where

@@ -21,20 +21,27 @@ pub record Plan : Type 0 where
 unfoldable pub ordinary : Plan → ℕ → Bool
 ordinary P s = eqb (P .kind s) 0
 
--- what counts as failing, by a state's kind
-abbrev pub failingAt : ℕ → Bool
-failingAt kind = eqb kind 1
-
-unfoldable pub failing : Plan → ℕ → Bool
-failing P s = failingAt (P .kind s)
-
 -- rule P8: an ordinary state that has a command
 unfoldable pub active : Plan → ℕ → Bool
 active P s = ordinary P s && ltb 0 (P .commands s)
 
--- what is at rest (rule P8): a rest state, and an ordinary one that has no command
+-- and one that has none, by a state's kind and the number of its commands
+abbrev pub stuckAt : ℕ → ℕ → Bool
+stuckAt kind count = eqb kind 0 && eqb count 0
+
+unfoldable pub stuck : Plan → ℕ → Bool
+stuck P s = stuckAt (P .kind s) (P .commands s)
+
+-- what counts as failing (rule P9): a state of kind failing, and a stuck one
+abbrev pub failingAt : ℕ → ℕ → Bool
+failingAt kind count = eqb kind 1 || stuckAt kind count
+
+unfoldable pub failing : Plan → ℕ → Bool
+failing P s = failingAt (P .kind s) (P .commands s)
+
+-- what is at rest (rule P9): a state of kind rest, and no other
 unfoldable pub resting : Plan → ℕ → Bool
-resting P s = eqb (P .kind s) 2 || (ordinary P s && eqb (P .commands s) 0)
+resting P s = eqb (P .kind s) 2
 
 -- the practice names a command
 unfoldable pub hasPractice : Plan → ℕ → Bool

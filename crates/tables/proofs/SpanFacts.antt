@@ -11,7 +11,7 @@ use Rattle.model.specs.Places.{rowAt, firstCommand, commandCount}
 use Rattle.model.specs.SoundTest.{rowSound}
 use Rattle.model.specs.Plan.{failing}
 use Rattle.model.specs.Held.{planIn}
-use Rattle.model.proofs.HeldPlan.{kind-held}
+use Rattle.model.proofs.HeldPlan.{kind-held, commands-held}
 use Rattle.tables.specs.declared.Size.{Size}
 use Rattle.tables.specs.declared.Row.{Row}
 use Rattle.tables.specs.declared.spans.Span.{Span}
@@ -53,5 +53,5 @@ row-tested T s q t p e = e ∙ ap (λ x. spanSound x (T .size .m)) p ∙ row-tes
 
 -- a state counts as failing by what was read of it where it does in the plan
 pub span-failing : (T : Tables) (s : ℕ) → s < T .size .n → failingSpan (spanAt T s) ≡ failing (planIn T) s
-unfolding failingSpan failing
-span-failing T s l = rw (kind-held T s l)
+unfolding failingSpan failing commandCount
+span-failing T s l = rw (kind-held T s l, commands-held T s l, add-one s)

@@ -46,7 +46,7 @@ spanAt T s = spanFor (rowAt T s) (firstCommand T s) (firstCommand T (s + 1))
 
 -- a state counts as failing: proofs/SpanFacts.antt, `span-failing`, ties it to the plan's
 unfoldable pub failingSpan : Span → Bool
-failingSpan q = failingAt (q .kind)
+failingSpan q = failingAt (q .kind) (q .end - q .first)
 
 -- what a state field says of it
 abbrev pub fieldIn : Span → StateField

@@ -24,10 +24,13 @@ pub struct Span {
     pub practice: usize,
 }
 
-// Whether the state counts as failing.
+// Whether the state counts as failing: an ordinary one does if it has no command, since then nobody can move the chamber.
 pub fn is_failing(span: Span) -> bool
     ensures { λ r. ⌜ r ≡ failingSpan span ⌝ }
 {
+    if span.kind == 0 {
+        return span.end <= span.first;
+    }
     span.kind == 1
 }
 
