@@ -3,15 +3,15 @@ import subprocess
 import sys
 
 import reference
-from plans import failing, longest, rest, scattered, shapes
+from plans import failing, longest, rest, scattered, shapes, stuck
 from reference import STATES, Plan, State, write
 
 
-def faults(n, named):
-    """n states: the practice of state 0 may land on 1, which is at rest as all others are, and on those of `named`, which fail."""
+def faults(n, named, bad=failing):
+    """n states: the practice of state 0 may land on 1, which is at rest as all others are, and on those of `named`, which are bad."""
     states = [State(0, [[1], sorted({1} | set(named))], 1)] + [rest() for _ in range(n - 1)]
     for x in named:
-        states[x] = failing()
+        states[x] = bad()
     return Plan(states)
 
 
@@ -31,6 +31,7 @@ def plans():
     yield Plan([State(0, [[1], [2]], 1), rest(), State(0, [[3]]), failing()])  # a fault whose practice holds
     yield Plan([State(0, [[0], [0, 1]], 1), failing(), State(0, [[1]], 0)])  # of two hits, only that at the safe state is a fault
     yield Plan([State(0, [[1], [1, 2, 3]], 1), rest(), State(0, [[3]]), failing()])  # named is 2, of rank 1, and not 3, which fails
+    yield faults(STATES, [8, 512, 1023], stuck)
     for seed in range(100, 160):
         yield scattered(seed, 6 + seed % 7, 3, 4, (9, 1, 2))
     for seed in range(160, 170):
@@ -39,7 +40,7 @@ def plans():
 
 
 def main():
-    tried = signs = 0
+    tried = signs = chambers = 0
     for plan in plans():
         file = write(plan)
         want = reference.listing(file)
@@ -49,9 +50,10 @@ def main():
             sys.exit(f"list_plans: plan {tried}: {line[0]!r} for {line[1]!r}")
         tried += 1
         signs += sum(" !" in line for line in want.split("\n"))
-    if signs < 100:
-        sys.exit(f"list_plans: {signs} faults are too few to tell")
-    print(f"listed {tried} plans, {signs} faults")
+        chambers += sum(map(reference.is_stuck, plan.states))
+    if signs < 100 or chambers < 40:
+        sys.exit(f"list_plans: {signs} faults and {chambers} stuck states are too few to tell")
+    print(f"listed {tried} plans, {signs} faults, {chambers} stuck states")
 
 
 main()

@@ -12,6 +12,10 @@ def failing():
     return State(1)
 
 
+def stuck():
+    return State(0)
+
+
 def ring(k, leak=None, practice=NONE):
     """A ring of k states; the state `leak` may also fail."""
     states = [State(0, [sorted({(i + 1) % k} | ({k} if i == leak else set()))], practice) for i in range(k)]
@@ -54,14 +58,32 @@ def branching():
 
 
 def scattered(seed, n, commands, outcomes, kinds=(8, 1, 1)):
-    """A random plan; the same for the same seed."""
+    """A random plan; the same for the same seed. An ordinary state that draws no commands becomes rest, and one failing state in four
+    a stuck one: if all without commands were stuck, few states would be safe."""
     r = random.Random(seed)
     states = []
     for _ in range(n):
         kind = r.choices((0, 1, 2), kinds)[0]
         own = [sorted(r.sample(range(n), r.randint(1, min(outcomes, n)))) for _ in range(r.randint(0, commands))] if kind == 0 else []
+        if kind == 1:
+            kind = r.choice((0, 1, 1, 1))
+        elif not own:
+            kind = 2
         states.append(State(kind, own, r.choice([NONE] + list(range(len(own))))))
     return Plan(states, r.randrange(n))
+
+
+def ended_by(end):
+    """Small plans with a state of which `end` says what ends there: as the only outcome, beside others, in a ring, and first, last and
+    in between. One that is last has m as its first command, one before states with commands has theirs."""
+    yield Plan([State(0, [[1]], 0), end()])
+    yield Plan([end(), State(0, [[0]]), State(0, [[1, 2], [2]], 0)])
+    yield Plan([State(0, [[1], [2]], 0), end(), rest()])
+    yield Plan([State(0, [[1, 2], [2]], 0), end(), rest()])
+    yield Plan([State(0, [[1, 2]]), rest(), end(), State(0, [[0], [3]], 0)], 3)
+    yield Plan([State(0, [[1]], 0), State(0, [[2], [0, 1]], 0), end(), State(0, [[0]], 0)])
+    yield Plan([end(), end(), State(0, [[0, 1], [3]]), State(0, [[1, 2], [2]], 0), end()], 4)
+    yield Plan([State(0, [[1]]), State(0, [[2]]), State(0, [[3]]), end(), failing()])
 
 
 def case_a():
@@ -92,6 +114,8 @@ def shapes():
     yield chain(9)
     yield ladder(7)
     yield late()
+    for end in stuck, rest:
+        yield from ended_by(end)
     for seed in range(40):
         yield scattered(seed, 2 + seed % 12, 3, 3)
     for seed in range(40, 50):

@@ -26,6 +26,16 @@ class State:
         self.kind, self.commands, self.practice = kind, [list(c) for c in commands], practice
 
 
+def is_stuck(state):
+    """Whether a state is a chamber that nobody can move: ordinary, with nothing to command (T-05)."""
+    return state.kind == 0 and not state.commands
+
+
+def fails(state):
+    """Whether a state counts as failing: by its kind, or since it is stuck."""
+    return state.kind == 1 or is_stuck(state)
+
+
 class Plan:
     def __init__(self, states, start=0):
         self.states, self.start = states, start
@@ -114,7 +124,7 @@ def read(data):
 
 def ranks(plan):
     """The first layer that holds each state, or None."""
-    rank = [0 if s.kind == 1 else None for s in plan.states]
+    rank = [0 if fails(s) else None for s in plan.states]
     k = 0
     while True:
         added = [i for i, s in enumerate(plan.states)
@@ -144,20 +154,20 @@ def decide(plan):
     """Ranks, chosen commands, practice marks, the tally, and the outcome named at each fault."""
     rank = ranks(plan)
     lost = [r is not None for r in rank]
-    fails = [s.kind == 1 for s in plan.states]
+    practice_fails = [fails(s) for s in plan.states]
     changed = True
     while changed:
         changed = False
         for i, s in enumerate(plan.states):
-            if not fails[i] and s.practice != NONE and lowest_hit(s.commands[s.practice], fails) is not None:
-                fails[i] = changed = True
+            if not practice_fails[i] and s.practice != NONE and lowest_hit(s.commands[s.practice], practice_fails) is not None:
+                practice_fails[i] = changed = True
     chosen, marks, named, tally = [], [], [], [[0, 0, 0], [0, 0, 0]]
     for i, s in enumerate(plan.states):
         chosen.append(None if lost[i] else choose(s, lost))
         given = s.practice != NONE
         named.append(lowest_hit(s.commands[s.practice], lost) if given and not lost[i] else None)
-        marks.append((1 if fails[i] else 0) + (0 if named[i] is None else 2))
-        tally[1 if lost[i] else 0][2 if not given else 1 if fails[i] else 0] += 1
+        marks.append((1 if practice_fails[i] else 0) + (0 if named[i] is None else 2))
+        tally[1 if lost[i] else 0][2 if not given else 1 if practice_fails[i] else 0] += 1
     return rank, chosen, marks, tally, named
 
 
@@ -165,11 +175,11 @@ def search(plan, start):
     """The verdict (lost?), the rounds and the last walk's commands."""
     first = plan.states[start]
     none = [None] * plan.n
-    if first.kind == 1:
+    if fails(first):
         return True, 0, none
-    if not first.commands:
+    if first.kind == 2:
         return False, 0, none
-    known = [s.kind == 1 for s in plan.states]
+    known = [fails(s) for s in plan.states]
     rounds = 0
     while True:
         rounds += 1
@@ -177,7 +187,7 @@ def search(plan, start):
         while todo:
             i = todo.pop()
             s = plan.states[i]
-            if not s.commands:
+            if s.kind == 2:
                 continue
             c = choose(s, known)
             if c is None:
@@ -200,9 +210,9 @@ def search(plan, start):
 def keepers_turn(plan, state, left):
     """Whether the keeper holds a state with so many moves left. What was worked out once is remembered, else this would not end in time."""
     s = plan.states[state]
-    if s.kind == 1:
+    if fails(s):
         return False
-    return s.kind == 2 or not s.commands or left == 0 or any(works_turn(plan, outcomes, left) for outcomes in s.commands)
+    return s.kind == 2 or left == 0 or any(works_turn(plan, outcomes, left) for outcomes in s.commands)
 
 
 def works_turn(plan, outcomes, left):
