@@ -98,13 +98,18 @@ void make_largest(struct largest *plan, uint16_t last_kind)
     put(plan->size, 1, pen.m);
     put(plan->size, 2, pen.t);
     put(plan->size, 3, 0);
-    verdicts(plan, last_kind == GATE_FAILING);
+    verdicts(plan, last_kind != GATE_REST);
+}
+
+static const char *name_of(uint16_t last_kind)
+{
+    return last_kind == GATE_REST ? "largest plan, safe" : last_kind == GATE_FAILING ? "largest plan, lost" : "largest plan, stuck";
 }
 
 struct tables tables_of_largest(const struct largest *p, uint16_t last_kind)
 {
     struct tables tables = {
-        .name = last_kind == GATE_FAILING ? "largest plan, lost" : "largest plan, safe",
+        .name = name_of(last_kind),
         .n = GATE_MAX_STATES,
         .m = GATE_MAX_COMMANDS,
         .t = GATE_MAX_OUTCOMES,

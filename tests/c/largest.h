@@ -20,8 +20,9 @@ struct largest {
 };
 
 /*
- * Each state's commands may all go one state on, and else stay or go back. If the last state is failing, state s has rank 1023 - s,
- * and the search from 0 finds one more state lost in each of 1,023 rounds. If it is rest, all are safe by command 0, in one round.
+ * Each state's commands may all go one state on, and else stay or go back. If the last state is failing, or is ordinary and so stuck,
+ * state s has rank 1023 - s, and the search from 0 finds one more state lost in each of 1,023 rounds. If it is rest, all are safe by
+ * command 0, in one round.
  */
 void make_largest(struct largest *plan, uint16_t last_kind);
 

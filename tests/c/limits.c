@@ -36,6 +36,17 @@ static void test_kind(uint16_t last_kind)
     EXPECT(&searching, GATE_STRANGER);
 }
 
+/* A last state that nobody can move loses as many as one that fails, in as many rounds as there are states with commands. */
+static void test_stuck(void)
+{
+    make_largest(&plan, GATE_ORDINARY);
+    struct tables tables = tables_of_largest(&plan, GATE_ORDINARY);
+    struct trial reading = read_trial(&tables), deciding = decide_trial(&tables), searching = search_trial(&tables);
+    EXPECT(&reading, GATE_OK);
+    EXPECT(&deciding, GATE_OK);
+    EXPECT(&searching, GATE_OK);
+}
+
 /* The last state with commands announces a fifth: 4,097 in all. Nothing behind its field is looked at. */
 static void test_command_more(void)
 {
@@ -65,6 +76,7 @@ void test_limits(void)
 {
     test_kind(GATE_FAILING);
     test_kind(GATE_REST);
+    test_stuck();
     test_command_more();
     test_outcome_more();
 }

@@ -90,11 +90,11 @@ int main(void)
         { "gate_decide", deciding, GATE_DECIDE_STACK, 0 },
         { "gate_search", searching, GATE_SEARCH_STACK, 0 },
     };
-    static const uint16_t last_kinds[] = { GATE_FAILING, GATE_REST };
+    static const uint16_t last_kinds[] = { GATE_FAILING, GATE_REST, GATE_ORDINARY };
     stack = aligned_alloc(4096, STACK);
     if (stack == NULL)
         return 2;
-    for (size_t k = 0; k < 2; k++) {
+    for (size_t k = 0; k < sizeof last_kinds / sizeof *last_kinds; k++) {
         make_largest(&plan, last_kinds[k]);
         for (size_t i = 0; i < 3; i++)
             on_own_stack(&calls[i]);
