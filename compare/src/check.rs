@@ -1,7 +1,10 @@
-//! Compares the library with the peer: what each call returns, and every byte that it was lent, guards included.
+//! Compares the library with the peer: what each call returns, and every byte that it was lent, guards included. The rounds of a search
+//! are held to their bound.
 use crate::calls::{Library, Peer};
 use crate::case::{Case, CALLS};
 use crate::generate::input::input;
+use crate::planner::entries::{decode_rows, decode_size, entry};
+use crate::planner::plan::{Plan, Row};
 
 /// How often each call returned 0 and each refusal.
 type Counts = [[u64; 12]; 3];
@@ -35,16 +38,44 @@ fn difference(library: (u32, &Case), peer: (u32, &Case)) -> Option<String> {
     None
 }
 
+/// How many rounds a search of a sound plan may walk.
+fn most_rounds(size: &[u8], rows: &[u8]) -> usize {
+    let size = decode_size(size);
+    let mut table = vec![Row::default(); size.n];
+    decode_rows(rows, &mut table);
+    let plan = Plan {
+        size,
+        rows: &table,
+        firsts: &[],
+        outcomes: &[],
+    };
+    plan.with_commands()
+}
+
+/// What is wrong with the rounds of an answer, if the call has any.
+fn too_many_rounds(case: &Case) -> Option<String> {
+    match &case.lent[..] {
+        [size, rows, .., answer] if CALLS[case.call] == "search" => {
+            let most = most_rounds(size.bytes(), rows.bytes());
+            let rounds = usize::from(entry(&answer.bytes()[2..]));
+            let message = || format!("{rounds} rounds, and {most} states with commands");
+            (rounds > most).then(message)
+        }
+        _ => None,
+    }
+}
+
 /// Runs both on copies of a case.
 fn compare(case: &Case, peer: &mut Peer) -> Result<u32, String> {
     let mut ours = case.clone();
     let mut theirs = case.clone();
     let returned = ours.run(&mut Library);
     let expected = theirs.run(peer);
-    match difference((returned, &ours), (expected, &theirs)) {
-        None => Ok(returned),
-        Some(difference) => Err(difference),
+    let mut wrong = difference((returned, &ours), (expected, &theirs));
+    if wrong.is_none() && returned == 0 {
+        wrong = too_many_rounds(&ours);
     }
+    wrong.map_or(Ok(returned), Err)
 }
 
 fn compare_all(seed: u64, index: u64, peer: &mut Peer, counts: &mut Counts) -> Result<(), String> {

@@ -40,6 +40,10 @@ impl Lent {
         &mut self.bytes[self.from..self.to]
     }
 
+    pub fn bytes(&self) -> &[u8] {
+        &self.bytes[self.from..self.to]
+    }
+
     /// The first place, counted from the slice's first byte, where two differ, with both bytes.
     pub fn difference(&self, other: &Lent) -> Option<(isize, u8, u8)> {
         let mut pairs = self.bytes.iter().zip(&other.bytes);
@@ -49,7 +53,7 @@ impl Lent {
     }
 
     pub fn hexadecimal(&self) -> String {
-        let bytes = &self.bytes[self.from..self.to];
-        bytes.iter().map(|byte| format!("{byte:02X}")).collect()
+        let bytes = self.bytes().iter();
+        bytes.map(|byte| format!("{byte:02X}")).collect()
     }
 }

@@ -60,6 +60,11 @@ impl State {
         State::of_kind(REST)
     }
 
+    /// Ordinary, with nothing to command.
+    pub fn stuck() -> State {
+        State::of_kind(ORDINARY)
+    }
+
     /// An ordinary state with these commands, their outcomes in any order.
     pub fn ordinary(commands: Vec<Vec<usize>>) -> State {
         let mut state = State::of_kind(ORDINARY);

@@ -29,7 +29,7 @@ fn one_command_more() -> Draft {
     draft
 }
 
-pub const COUNT: usize = 18;
+pub const COUNT: usize = 19;
 
 /// The plan of this number below `COUNT`.
 pub fn plan(number: usize, random: &mut Random) -> Draft {
@@ -52,6 +52,7 @@ pub fn plan(number: usize, random: &mut Random) -> Draft {
         14 => shapes::leaking_ring(n).renumbered(random),
         15 => shapes::chain(n, State::failing),
         16 => shapes::chain(n + 1, State::rest),
+        17 => shapes::chain(n, State::stuck),
         _ => sites::ordinary(n, random),
     }
 }

@@ -2,6 +2,7 @@
 pub mod contests;
 pub mod damage;
 pub mod draft;
+pub mod ended;
 pub mod fields;
 pub mod input;
 pub mod limits;

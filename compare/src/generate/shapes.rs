@@ -1,5 +1,6 @@
 //! Shapes of plans: rings, leaking rings, chains, and plans at random.
 use super::draft::{Draft, State};
+use super::ended;
 use super::random::Random;
 
 /// Each state goes on to the next, the last to the first.
@@ -54,18 +55,27 @@ fn some_states(random: &mut Random, n: usize, most: usize) -> Vec<usize> {
     (0..count).map(|_| random.below(n)).collect()
 }
 
-/// States of every kind, some without commands, and up to `commands` commands with up to `outcomes` outcomes.
+/// One in four is stuck. Stuck states take the place of failing ones only, so that there are as many safe states as without them.
+fn failing_or_stuck(random: &mut Random) -> State {
+    if random.once_in(4) {
+        State::stuck()
+    } else {
+        State::failing()
+    }
+}
+
+/// States of every kind, with up to `commands` commands with up to `outcomes` outcomes.
 pub fn mixed(n: usize, commands: usize, outcomes: usize, random: &mut Random) -> Draft {
     let failing = random.within(2, 9);
     let rest = random.within(3, 20);
     let mut states = Vec::new();
     for _ in 0..n {
+        let count = random.below(commands + 1);
         let state = if random.once_in(failing) {
-            State::failing()
-        } else if random.once_in(rest) {
+            failing_or_stuck(random)
+        } else if count == 0 || random.once_in(rest) {
             State::rest()
         } else {
-            let count = random.below(commands + 1);
             let commands = (0..count).map(|_| some_states(random, n, outcomes));
             State::ordinary(commands.collect())
         };
@@ -91,7 +101,7 @@ pub fn layered(n: usize, random: &mut Random) -> Draft {
     states.push(if random.once_in(6) {
         State::rest()
     } else {
-        State::failing()
+        failing_or_stuck(random)
     });
     Draft::new(states)
 }
@@ -99,18 +109,22 @@ pub fn layered(n: usize, random: &mut Random) -> Draft {
 /// No state has a command.
 pub fn bare(n: usize, random: &mut Random) -> Draft {
     let states = (0..n).map(|_| match random.below(3) {
-        0 => State::ordinary(Vec::new()),
-        1 => State::failing(),
+        0 => failing_or_stuck(random),
         _ => State::rest(),
     });
     Draft::new(states.collect())
 }
 
-/// A plan of any of these shapes with at most `most` states.
+/// What ends runs at a state: one in three is stuck.
+fn end(random: &mut Random) -> fn() -> State {
+    random.pick(&[State::stuck as fn() -> State, State::rest, State::rest])
+}
+
+/// A plan of any of these shapes, most of them with at most `most` states.
 pub fn any(most: usize, random: &mut Random) -> Draft {
     let n = random.within(1, most);
     let n2 = n.max(2);
-    let draft = match random.below(12) {
+    let mut draft = match random.below(13) {
         0 => ring(n),
         1 => leaking_ring(n2),
         2 | 3 => doubtful_ring(n2, random),
@@ -119,8 +133,13 @@ pub fn any(most: usize, random: &mut Random) -> Draft {
         6 | 7 => layered(n, random),
         8 => bare(n, random),
         9 => mixed(n, 2, 2, random),
+        10 => ended::plan(random.below(ended::COUNT), end(random)),
         _ => mixed(n, 4, 5, random),
     };
+    if random.once_in(12) {
+        let s = random.below(draft.states.len());
+        draft.states[s] = end(random)();
+    }
     let mut draft = if random.once_in(2) {
         draft.renumbered(random)
     } else {

@@ -71,7 +71,7 @@ fn distinct(count: usize, n: usize, random: &mut Random) -> Vec<usize> {
     outcomes
 }
 
-/// Exactly n states, m commands and t outcomes, with every sixteenth state failing.
+/// Exactly n states, m commands and t outcomes, with every sixteenth state failing. The few that get no command are at rest.
 pub fn random(n: usize, m: usize, t: usize, random: &mut Random) -> Draft {
     let failing = n / 16;
     let counts = share(m, n - failing, 0, m, random);
@@ -84,6 +84,10 @@ pub fn random(n: usize, m: usize, t: usize, random: &mut Random) -> Draft {
             continue;
         }
         let count = counts.next().unwrap_or(0);
+        if count == 0 {
+            states.push(State::rest());
+            continue;
+        }
         let commands = lengths.by_ref().take(count);
         let commands = commands.map(|length| distinct(length, n, random));
         states.push(State::ordinary(commands.collect()));

@@ -1,6 +1,6 @@
 //! The contest over a few moves: the keeper's turn and the works' turn call one another, and what came of a turn is remembered.
 use super::looks::Looks;
-use super::plan::{Plan, Size, FAILING};
+use super::plan::{Plan, Size};
 use super::refusal::{need, Refusal};
 use super::sound::{size_sound, tables_sound};
 
@@ -39,7 +39,7 @@ impl<L: Looks> Turns<'_, L> {
     fn keeper(&mut self, s: usize, left: usize) -> bool {
         self.looks.look();
         let (first, end) = self.plan.commands(s);
-        let held = self.plan.rows[s].kind != FAILING
+        let held = !self.plan.fails(s)
             && (first == end || left == 0 || (first..end).any(|c| self.works(c, left - 1)));
         let place = self.place(s, left);
         self.turns[place] = if held { HELD } else { NOT_HELD };

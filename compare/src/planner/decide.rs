@@ -1,7 +1,7 @@
 //! Deciding a whole plan in linear time: a command is hit once one of its outcomes is lost, a state is lost
 //! once all its commands are.
 use super::index::Index;
-use super::plan::{Plan, Row, Size, FAILING, NONE};
+use super::plan::{Plan, Row, Size, NONE};
 
 pub type Tally = [[u16; 3]; 2];
 
@@ -31,12 +31,12 @@ pub struct Verdicts<'a> {
     pub marks: &'a mut [u16],
 }
 
-/// Queues the failing states, with `mark` in their places and `other` in all the others.
+/// Queues the states that count as failing, with `mark` in their places and `other` in all the others.
 fn begin(plan: &Plan, queue: &mut Vec<u16>, table: &mut [u16], mark: u16, other: u16) {
     queue.clear();
-    for (s, (row, place)) in plan.rows.iter().zip(table).enumerate() {
+    for (s, place) in table.iter_mut().enumerate() {
         *place = other;
-        if row.kind == FAILING {
+        if plan.fails(s) {
             *place = mark;
             queue.push(s as u16);
         }

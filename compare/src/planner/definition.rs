@@ -1,6 +1,6 @@
 //! Verdicts, rounds and contests by the words of documents 01 and 02, with no thought of time: what the planner's tests hold it to.
 use super::decide::Tally;
-use super::plan::{Plan, FAILING, NONE, REST};
+use super::plan::{Plan, NONE, REST};
 
 type Set = Vec<bool>;
 
@@ -9,7 +9,7 @@ fn lands_in(plan: &Plan, command: usize, set: &[bool]) -> bool {
 }
 
 fn failing(plan: &Plan) -> Set {
-    plan.rows.iter().map(|row| row.kind == FAILING).collect()
+    (0..plan.size.n).map(|s| plan.fails(s)).collect()
 }
 
 /// Each state's rank: the first layer that holds it.
@@ -116,9 +116,8 @@ fn walk(plan: &Plan, start: usize, known: &[bool]) -> (Vec<u16>, Set) {
 /// Whether the start is lost, the rounds, and the commands.
 pub fn search(plan: &Plan, start: usize) -> (bool, u16, Vec<u16>) {
     let none = vec![NONE; plan.size.n];
-    let (first, end) = plan.commands(start);
-    if first == end {
-        return (plan.rows[start].kind == FAILING, 0, none);
+    if plan.fails(start) || plan.rows[start].kind == REST {
+        return (plan.fails(start), 0, none);
     }
     let mut known = failing(plan);
     let mut rounds = 0;
@@ -140,13 +139,11 @@ pub fn search(plan: &Plan, start: usize) -> (bool, u16, Vec<u16>) {
 /// The keeper's turn, with every look counted.
 pub fn keeper_holds(plan: &Plan, s: usize, left: usize, looks: &mut u128) -> bool {
     *looks += 1;
-    let (first, end) = plan.commands(s);
-    match plan.rows[s].kind {
-        FAILING => false,
-        REST => true,
-        _ if first == end || left == 0 => true,
-        _ => (first..end).any(|c| works_hold(plan, c, left, looks)),
+    if plan.fails(s) {
+        return false;
     }
+    let (first, end) = plan.commands(s);
+    plan.rows[s].kind == REST || left == 0 || (first..end).any(|c| works_hold(plan, c, left, looks))
 }
 
 /// The works' turn.

@@ -1,5 +1,5 @@
 //! Looks: how often a contest looks at a state, a command or an outcome.
-use super::plan::{Plan, FAILING};
+use super::plan::Plan;
 
 /// What counts the looks of a contest.
 pub trait Looks {
@@ -45,7 +45,7 @@ impl Plain<'_> {
 
     fn keeper_anew(&mut self, s: usize, left: usize) -> Turn {
         let (first, end) = self.plan.commands(s);
-        if self.plan.rows[s].kind == FAILING {
+        if self.plan.fails(s) {
             return (false, 1);
         }
         if first == end || left == 0 {

@@ -47,6 +47,21 @@ impl<'a> Plan<'a> {
         (usize::from(self.rows[s].first), end)
     }
 
+    /// Whether a state counts as failing: by its kind, or as a stuck chamber, which is ordinary and has no command.
+    pub fn fails(&self, s: usize) -> bool {
+        let (first, end) = self.commands(s);
+        match self.rows[s].kind {
+            ORDINARY => first == end,
+            kind => kind == FAILING,
+        }
+    }
+
+    /// How many states have commands: no search walks more rounds.
+    pub fn with_commands(&self) -> usize {
+        let bounds = (0..self.size.n).map(|s| self.commands(s));
+        bounds.filter(|(first, end)| first < end).count()
+    }
+
     pub fn outcomes(&self, command: usize) -> &'a [u16] {
         let end = match self.firsts.get(command + 1) {
             Some(&next) => usize::from(next),

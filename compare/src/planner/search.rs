@@ -1,5 +1,5 @@
 //! The search from one start, round by round.
-use super::plan::{Plan, Size, FAILING, NONE};
+use super::plan::{Plan, Size, NONE};
 
 /// What the search works with beside its table, lent from call to call.
 pub struct Space {
@@ -19,11 +19,11 @@ impl Space {
         }
     }
 
-    /// Nothing reached, and the failing states known.
+    /// Nothing reached, and the states that count as failing known.
     fn begin(&mut self, plan: &Plan) {
         self.reached[..plan.size.n].fill(0);
-        for (known, row) in self.known.iter_mut().zip(plan.rows) {
-            *known = row.kind == FAILING;
+        for (s, known) in self.known[..plan.size.n].iter_mut().enumerate() {
+            *known = plan.fails(s);
         }
     }
 
@@ -81,7 +81,7 @@ pub fn search(plan: &Plan, start: usize, commands: &mut [u16], space: &mut Space
     let (first, end) = plan.commands(start);
     if first == end {
         commands.fill(NONE);
-        let lost = plan.rows[start].kind == FAILING;
+        let lost = plan.fails(start);
         return Found { lost, rounds: 0 };
     }
     space.begin(plan);

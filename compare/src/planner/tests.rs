@@ -1,5 +1,6 @@
-//! The planner held to document 01: case A, the bench plans, and the definitions on plans of every shape.
+//! The planner held to documents 01 and 02: case A, the bench plans, and the definitions on plans of every shape.
 mod contest;
+mod stuck;
 
 use super::boundary::{gate_read, ReadBytes, Space};
 use super::decide::{self, Tally, Verdicts};
@@ -145,7 +146,7 @@ fn bench_plans_of_one_state() {
         outline(vec![to(&[&[0]])]),
         (none.clone(), vec![0], false, 1)
     );
-    assert_eq!(outline(vec![to(&[])]), (none.clone(), none, false, 0));
+    assert_eq!(outline(vec![to(&[])]), (vec![0], none, true, 0));
 }
 
 #[test]
@@ -263,6 +264,8 @@ fn the_search_is_by_the_definition() {
         let plan = held.plan();
         for start in 0..plan.size.n {
             let defined = definition::search(&plan, start);
+            let rounds = usize::from(defined.1);
+            assert!(rounds <= plan.with_commands(), "plan {index} from {start}");
             assert_eq!(searched(&plan, start), defined, "plan {index} from {start}");
         }
     }
@@ -322,6 +325,7 @@ fn the_worst_plans_are_the_worst() {
             sites::worst_chain(n),
             sites::worst_rounds(n),
             shapes::leaking_ring(n),
+            shapes::chain(n, State::stuck),
         ] {
             let held = draft.hold();
             assert_eq!(usize::from(decided(&held.plan()).ranks[0]), n - 1);
