@@ -4,9 +4,10 @@
  * A plan describes the works. It has n states, numbered from 0, one of which is the start. A state is
  * ordinary, failing or rest. In an ordinary state the keeper may issue one of the state's commands,
  * numbered from 0 within the state; the works then land on one of the command's outcomes, and nobody can say
- * beforehand on which. The practice is what the keeper usually commands in a state, if anything. A state is
- * lost if, whatever is commanded, the works can bring about failure; else it is safe, and if it has commands,
- * one of them keeps it so.
+ * beforehand on which. If an ordinary state has no commands, nobody can get the works out of it: it is stuck
+ * and is judged as a failing one, so a state in which nothing needs to be done has to be rest. The practice
+ * is what the keeper usually commands in a state, if anything. A state is lost if, whatever is commanded, the
+ * works can bring about failure; else it is safe, and if it has commands, one of them keeps it so.
  *
  *     gate_read     takes a plan file apart into tables
  *     gate_decide   judges every state of a plan, and chooses the commands
@@ -88,9 +89,9 @@ extern "C" {
 
 #define GATE_NONE 0xFFFF /* no practice, no command, or no rank: the state is safe */
 
-#define GATE_ORDINARY 0 /* kinds of states */
+#define GATE_ORDINARY 0 /* kinds of states; one of this kind without commands is stuck */
 #define GATE_FAILING 1
-#define GATE_REST 2 /* the works are at rest; an ordinary state without commands counts as such */
+#define GATE_REST 2 /* the works are at rest: safe, and no other kind counts as rest */
 
 #define GATE_PRACTICE_FAILS 1 /* in a mark: the practice, followed from here on, can end in failure */
 #define GATE_PRACTICE_FAULT 2 /* in a mark, added: the state is safe and its practice has a lost outcome */
@@ -190,13 +191,13 @@ uint32_t gate_read(const uint8_t *file, size_t file_length,
  *   size, rows, firsts, outcomes   in   the plan, as gate_read gave it
  *   ranks     out   GATE_STATES_BYTES(n): GATE_NONE for a safe state; for a lost one, how many moves at most
  *                   the works need to bring about failure against any way of commanding (0 for a failing
- *                   state)
+ *                   state and for a stuck one)
  *   commands  out   GATE_STATES_BYTES(n): at a safe state with commands the command that keeps it safe: the
  *                   practice if none of its outcomes is lost, else the lowest-numbered command of which
  *                   that holds. GATE_NONE elsewhere.
  *   marks     out   GATE_STATES_BYTES(n): how the practice does: 0 holds, GATE_PRACTICE_FAILS, with
  *                   GATE_PRACTICE_FAULT added at a fault. Following the practice ends without failing where
- *                   there is none; a failing state has mark 1.
+ *                   there is none; a failing state has mark 1, and so has a stuck one.
  *   scratch   out   GATE_STATES_BYTES(n): room to work in; zero when the call has answered
  *   tally     out   GATE_TALLY_BYTES: six entries. How many safe states have a practice that holds, one that
  *                   fails, none; then the same of lost states.
@@ -222,9 +223,11 @@ uint32_t gate_decide(const uint8_t *size, size_t size_length,
  *                   refused. The plan's own start (the last entry of size) does not matter here.
  *   commands  out   GATE_STATES_BYTES(n): if the start is safe, the commands that hold it, at the states that
  *                   they can lead to: they are those of gate_decide. GATE_NONE at every other state, and
- *                   everywhere if the start is lost, failing, rest or without commands.
+ *                   everywhere if the start is rest or lost, as failing and stuck states are.
  *   scratch   out   GATE_STATES_BYTES(n): room to work in; zero when the call has answered
- *   answer    out   GATE_ANSWER_BYTES: two entries, GATE_SAFE or GATE_LOST, and the number of rounds walked
+ *   answer    out   GATE_ANSWER_BYTES: two entries, GATE_SAFE or GATE_LOST, and the number of rounds walked:
+ *                   0 if the start is failing, stuck or rest, and never more than there are ordinary states
+ *                   with commands
  *
  * Refusals, the first that applies: GATE_UNSOUND (also for a size shorter than GATE_SIZE_BYTES),
  * GATE_STRANGER, GATE_CRAMPED.
