@@ -1,0 +1,74 @@
+"""The reference's verdicts beside operating rules: on small plans, every rule that goes by the present state alone, with all its runs."""
+import itertools
+import math
+import sys
+
+import reference
+from plans import ended_by, failing, rest, scattered, shapes, stuck
+
+RULES = 300  # of a plan, at most
+SAFE = math.inf  # moves to failure where no run fails
+
+
+def plans():
+    yield from shapes()
+    for end in stuck, rest, failing:
+        yield from ended_by(end)
+    for seed in range(200, 500):
+        yield scattered(seed, 2 + seed % 5, 3, 3, (8, 2, 1))
+
+
+def rules(plan):
+    """A command at each state that has any, in all ways."""
+    states = [i for i, s in enumerate(plan.states) if s.commands]
+    for commands in itertools.product(*(range(len(plan.states[i].commands)) for i in states)):
+        yield dict(zip(states, commands))
+
+
+def shortest(plan, rule, state):
+    """The moves of the shortest run from a state under the rule that fails."""
+    seen, ends, moves = {state}, {state}, 0
+    while ends:
+        if any(reference.fails(plan.states[i]) for i in ends):
+            return moves
+        ends = {o for i in ends if i in rule for o in plan.states[i].commands[rule[i]]} - seen
+        seen |= ends
+        moves += 1
+    return SAFE
+
+
+def wrong(plan, state, verdicts):
+    """What is wrong with the verdicts on a state; None if nothing is."""
+    rank, chosen, marks = verdicts[:3]
+    best = max(shortest(plan, rule, state) for rule in rules(plan))
+    if best != (SAFE if rank[state] is None else rank[state]):
+        return f"rank {rank[state]}, and the best rule holds out for {best} moves"
+    returned = {i: command for i, command in enumerate(chosen) if command is not None}
+    if rank[state] is None and shortest(plan, returned, state) != SAFE:
+        return "safe, and the chosen commands fail"
+    practice = {i: s.practice for i, s in enumerate(plan.states) if s.practice != reference.NONE}
+    if marks[state] & 1 != (shortest(plan, practice, state) != SAFE):
+        return f"mark {marks[state]}, and the practice does not do so"
+    lost, rounds, _ = reference.search(plan, state)
+    if lost != (best != SAFE) or rounds > sum(bool(s.commands) for s in plan.states):
+        return f"the search's verdict or its {rounds} rounds"
+    return None
+
+
+def main():
+    tried = chambers = 0
+    for number, plan in enumerate(plans()):
+        if math.prod(max(1, len(s.commands)) for s in plan.states) > RULES:
+            continue
+        verdicts = reference.decide(plan)
+        for state in range(plan.n):
+            what = wrong(plan, state, verdicts)
+            if what:
+                sys.exit(f"rules: plan {number}, state {state}: {what}")
+        tried += 1
+        chambers += sum(map(reference.is_stuck, plan.states))
+    if tried < 200 or chambers < 50:
+        sys.exit(f"rules: {tried} plans with {chambers} stuck states are too few to tell")
+
+
+main()
