@@ -58,8 +58,8 @@ def branching():
 
 
 def scattered(seed, n, commands, outcomes, kinds=(8, 1, 1)):
-    """A random plan; the same for the same seed. An ordinary state that draws no commands becomes rest, and one failing state in four
-    a stuck one: if all without commands were stuck, few states would be safe."""
+    """A random plan; the same for the same seed. One failing state in four is stuck instead, and an ordinary one that draws no commands
+    is at rest: if all of these were stuck, few states would be safe."""
     r = random.Random(seed)
     states = []
     for _ in range(n):
@@ -74,8 +74,8 @@ def scattered(seed, n, commands, outcomes, kinds=(8, 1, 1)):
 
 
 def ended_by(end):
-    """Small plans with a state of which `end` says what ends there: as the only outcome, beside others, in a ring, and first, last and
-    in between. One that is last has m as its first command, one before states with commands has theirs."""
+    """Small plans with states that end runs, made by `end`: the only outcome, beside others, in a ring; first, last and in between. The
+    first command of one that is last is m, that of one before states with commands is theirs."""
     yield Plan([State(0, [[1]], 0), end()])
     yield Plan([end(), State(0, [[0]]), State(0, [[1, 2], [2]], 0)])
     yield Plan([State(0, [[1], [2]], 0), end(), rest()])

@@ -76,6 +76,11 @@ impl State {
     }
 }
 
+/// An ordinary state with these commands, as `State::ordinary` makes it.
+pub fn to(commands: &[&[usize]]) -> State {
+    State::ordinary(commands.iter().map(|outcomes| outcomes.to_vec()).collect())
+}
+
 impl Draft {
     pub fn new(states: Vec<State>) -> Draft {
         Draft { start: 0, states }

@@ -1,11 +1,7 @@
 //! Small plans with a state that ends runs, of the kind that is asked for, at an odd place.
-use super::draft::{Draft, State};
+use super::draft::{to, Draft, State};
 
 pub const COUNT: usize = 7;
-
-fn to(commands: &[&[usize]]) -> State {
-    State::ordinary(commands.iter().map(|outcomes| outcomes.to_vec()).collect())
-}
 
 /// The plan of this number below `COUNT`. In each, state 0 is the one to start from.
 pub fn plan(number: usize, end: fn() -> State) -> Draft {
@@ -14,13 +10,13 @@ pub fn plan(number: usize, end: fn() -> State) -> Draft {
         0 => vec![to(&[&[1]]), end()],
         // the start, and before states with commands: its first command is theirs
         1 => vec![end(), to(&[&[0]]), to(&[&[1, 2], &[2]])],
-        // beside a rest, by commands of their own
+        // beside a rest, each by a command of its own
         2 => vec![to(&[&[1], &[2]]), end(), State::rest()],
         // beside a rest, as outcomes of one command
         3 => vec![to(&[&[1, 2]]), State::rest(), end(), to(&[&[0]])],
-        // in a ring, which can be left
+        // on a ring, before it a command that turns back
         4 => vec![to(&[&[1]]), to(&[&[2], &[0, 1]]), end(), to(&[&[0]])],
-        // in a ring, which can not
+        // on a ring, and nothing turns back
         5 => vec![to(&[&[1]]), end(), to(&[&[0]])],
         // two in a row, and one at the end
         _ => vec![

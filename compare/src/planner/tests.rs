@@ -10,7 +10,7 @@ use super::read::{read, Tables};
 use super::refusal::Refusal;
 use super::search::{self, Found};
 use super::sound::{size_sound, tables_sound};
-use crate::generate::draft::{Draft, Held, State};
+use crate::generate::draft::{to, Draft, Held, State};
 use crate::generate::random::Random;
 use crate::generate::{limits, shapes, sites};
 
@@ -83,10 +83,6 @@ fn outline(states: Vec<State>) -> (Vec<u16>, Vec<u16>, bool, u16) {
     let decided = decided(&held.plan());
     let (lost, rounds, _) = searched(&held.plan(), 0);
     (decided.ranks, decided.commands, lost, rounds)
-}
-
-fn to(commands: &[&[usize]]) -> State {
-    State::ordinary(commands.iter().map(|outcomes| outcomes.to_vec()).collect())
 }
 
 fn row(kind: u16, first: u16, practice: u16) -> Row {

@@ -1,6 +1,6 @@
 //! Stuck chambers: ordinary states without commands, which count as failing.
-use super::{any_plan, decided, outline, searched, to};
-use crate::generate::draft::{Draft, Held, State};
+use super::{any_plan, decided, outline, searched};
+use crate::generate::draft::{to, Draft, Held, State};
 use crate::generate::ended;
 use crate::planner::contest::{contest, Space, MOVES};
 use crate::planner::plan::{FAILING, NONE};
