@@ -1,7 +1,7 @@
 # make run       print the listing of a plan: PLAN=examples/case-a.plan unless another is named
 # make test      prove every crate from nothing, try the edits that must be refused, run all tests;
 #                the last line is 'N passed, 0 failed'
-# make quick     what make test begins with: layout, files that scripts make, the reference's contest, and docs/TRACE.md
+# make quick     what make test begins with: layout, files that scripts make, the reference held to rules and ranks, docs/TRACE.md
 # make wrong     try every edit that must be refused, those too for which make test has no time (crates/*/wrong)
 # make lib       the C library, target/staticlib/libgate.a (header: include/gate.h)
 # make c-test    the C library's tests and examples, and the header's in C and C++
@@ -48,7 +48,7 @@ test: kit need-gcc need-g++ need-cargo quick
 # What needs nothing proved comes first, so that it fails early.
 quick: kit trace
 	rt fmt --check
-	cd tests && python3 -B contest.py && python3 -B bench_plans.py --check && python3 -B examples.py --check
+	cd tests && python3 -B contest.py && python3 -B rules.py && python3 -B bench_plans.py --check && python3 -B examples.py --check
 	python3 -B tools/rows --check tables load store
 
 wrong: kit

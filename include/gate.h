@@ -48,7 +48,7 @@ extern "C" {
  * version: use the header that came with it.
  */
 
-#define GATE_VERSION_MAJOR 1
+#define GATE_VERSION_MAJOR 2
 #define GATE_VERSION_MINOR 0
 #define GATE_VERSION (100 * GATE_VERSION_MAJOR + GATE_VERSION_MINOR)
 

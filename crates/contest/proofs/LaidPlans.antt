@@ -1,7 +1,7 @@
 -- A laid plan's states, by the entries that were read, and its works' turn, by the places of a command's outcomes.
 use mathlib.Core.Path.{_≡_, refl, ap}
 use mathlib.Core.Bool.{Bool, true, false}
-use mathlib.Core.Logic.{⊎-elim}
+use mathlib.Core.Logic.{_⊎_, inl, inr}
 use mathlib.Core.List.{List}
 use Prim.Native.Nat.{ℕ, _+_, _-_, _<_, _≤_}
 use native.Mathlib.Omega.{arith}
@@ -11,9 +11,10 @@ use lib.Seq.{slice}
 use borrow.Author.Tests.{eq-eqb, ne-eqb, lt-ltb, le-ltb, ltb-true}
 use Rattle.laws.specs.Sets.{each}
 use Rattle.laws.proofs.Tests.{true-or-false}
-use Rattle.model.specs.Plan.{Plan, failing, resting}
+use Rattle.model.specs.Plan.{Plan, ordinary, failing, resting}
 use Rattle.model.specs.Places.{startIn}
 use Rattle.model.specs.Contest.{worksTurn}
+use Rattle.model.proofs.StateKinds.{active-of, active-stands}
 use Rattle.tables.specs.declared.Size.{Size}
 use Rattle.tables.specs.Spans.{commandsOf}
 use Rattle.choice.proofs.Outcomes.{outcomes-read, outcomes-inside}
@@ -38,17 +39,15 @@ module _ (size : Size) (seeds froms tos firsts outcomes : List ℕ) (s : ℕ) wh
     laid-fails-on z = rw (← e, eq-eqb seed 0 z)
 
     module _ (h : seed ≡ 0 → ⊥) where
+      -- with commands it is active, and else at rest
       pub laid-stands : failing P s ≡ false
-      unfolding failing laidPlan
-      laid-stands =
-          rw (← e, ne-eqb seed 0 h)
-          (⊎-elim
-          (λ t. rw (t, ne-eqb (getD tos s 0 - getD froms s 0) 0 (gap (getD froms s 0) (getD tos s 0) t)))
-          (λ t. rw t)
-          (true-or-false (ltb (getD froms s 0) (getD tos s 0))))
+      unfolding failing ordinary laidPlan
+      laid-stands = by (true-or-false (ltb (getD froms s 0) (getD tos s 0)))
         where
-          gap : (from to : ℕ) → ltb from to ≡ true → to - from ≡ 0 → ⊥
-          gap from to t z = omega (arith, ltb-true from to t)
+          by : (ltb (getD froms s 0) (getD tos s 0) ≡ true) ⊎ (ltb (getD froms s 0) (getD tos s 0) ≡ false) → failing P s ≡ false
+          by (inl t) = active-stands P s
+              (active-of P s (rw (← e, ne-eqb seed 0 h, t)) (omega (arith, ltb-true (getD froms s 0) (getD tos s 0) t, laid-commands)))
+          by (inr t) = rw (← e, ne-eqb seed 0 h, t)
 
       module _ (from to : ℕ) (p : from ≡ getD froms s 0) (q : to ≡ getD tos s 0) where
         pub laid-rests : to ≤ from → resting P s ≡ true

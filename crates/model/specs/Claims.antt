@@ -135,18 +135,19 @@ pub record Rules : Type 0 where
       → let S = gateSearchCall lent a table space answer in
       S .returns ≡ 0 → SearchDemand3 T a (verdictIn (S .answer)) (roundsIn (S .answer)) (entriesIn (S .commands))
 
--- ---- rules P8 and P9: what counts as failing
+-- ---- rules P9 and P10: what counts as failing, and what becomes of a stuck state
 
 pub record Failings : Type 0 where
-  -- rank 0 have the states of kind failing and the stuck ones, and no others
+  -- rule P9: rank 0 have the states of kind failing and the stuck ones, and no others
   pub rank-zero : (T : Tables) → Sound T → (s : ℕ) → s < T .size .n → (rank (planIn T) s ≡ some 0)
       ↔ ((planIn T .kind s ≡ 1) ⊎ ((planIn T .kind s ≡ 0) × (planIn T .commands s ≡ 0)))
   -- rule D3h: stuck states are not in the bound on the rounds
   pub bound-counts : (P : Plan) → actives P + howMany (stuck P) (P .states) ≡ howMany (ordinary P) (P .states)
   -- what is of kind rest is safe
   pub rest-safe : (T : Tables) → Sound T → (s : ℕ) → s < T .size .n → planIn T .kind s ≡ 2 → safe (planIn T) s ≡ true
+  -- rule P10: of a stuck state, by the definitions
   pub stuck-state : (T : Tables) → Sound T → (s : ℕ) → s < T .size .n → stuck (planIn T) s ≡ true → StuckState (planIn T) s
-  -- and in what the calls answer and leave, whatever they are lent on the plan, in C too
+  -- and in what the calls answer and leave, whatever they are lent beside the plan; all stuck states are in the tally's last count
   pub stuck-decided : (T : Tables) (ranks commands marks scratch : List ℕ) (counts : List (List ℕ))
       → let D = decideCall T ranks commands marks scratch in
       D .answers ≡ given counts
@@ -156,6 +157,7 @@ pub record Failings : Type 0 where
       → searchCall T s table space .answers ≡ given (verdict, rounds) → (verdict ≡ true) × (rounds ≡ 0)
   pub stuck-contested : (T : Tables) (s : ℕ) → stuck (planIn T) s ≡ true → (k : ℕ) (held : Bool)
       → contestCall T s k ≡ given held → held ≡ false
+  -- and in the bytes that the calls for C leave
   pub gate-stuck-decided : (lent : Answer Tables) (T : Tables) → lent ≡ given T → (ranks commands marks scratch tally : List ℕ)
       → let D = gateDecideCall lent ranks commands marks scratch tally in
       D .returns ≡ 0

@@ -1,4 +1,4 @@
--- A stuck state, one that is ordinary and has no command (docs/SPECIFICATION.md, rules P8 and P9): what counting as failing makes of it.
+-- What becomes of a stuck state, one that is ordinary and has no command (docs/SPECIFICATION.md, rule P10).
 use mathlib.Core.Path.{_≡_}
 use mathlib.Core.Bool.{true, false}
 use mathlib.Core.List.{List}
