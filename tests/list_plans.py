@@ -40,7 +40,7 @@ def plans():
 
 
 def main():
-    tried = signs = chambers = 0
+    tried = signs = stuck_states = 0
     for plan in plans():
         file = write(plan)
         want = reference.listing(file)
@@ -50,10 +50,10 @@ def main():
             sys.exit(f"list_plans: plan {tried}: {line[0]!r} for {line[1]!r}")
         tried += 1
         signs += sum(" !" in line for line in want.split("\n"))
-        chambers += sum(map(reference.is_stuck, plan.states))
-    if signs < 100 or chambers < 40:
-        sys.exit(f"list_plans: {signs} faults and {chambers} stuck states are too few to tell")
-    print(f"listed {tried} plans, {signs} faults, {chambers} stuck states")
+        stuck_states += sum(map(reference.is_stuck, plan.states))
+    if signs < 100 or stuck_states < 40:
+        sys.exit(f"list_plans: {signs} faults and {stuck_states} stuck states are too few to tell")
+    print(f"listed {tried} plans, {signs} faults, {stuck_states} stuck states")
 
 
 main()

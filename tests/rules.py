@@ -56,7 +56,7 @@ def wrong(plan, state, verdicts):
 
 
 def main():
-    tried = chambers = 0
+    tried = stuck_states = 0
     for number, plan in enumerate(plans()):
         if math.prod(max(1, len(s.commands)) for s in plan.states) > RULES:
             continue
@@ -66,9 +66,9 @@ def main():
             if what:
                 sys.exit(f"rules: plan {number}, state {state}: {what}")
         tried += 1
-        chambers += sum(map(reference.is_stuck, plan.states))
-    if tried < 200 or chambers < 50:
-        sys.exit(f"rules: {tried} plans with {chambers} stuck states are too few to tell")
+        stuck_states += sum(map(reference.is_stuck, plan.states))
+    if tried < 200 or stuck_states < 50:
+        sys.exit(f"rules: {tried} plans with {stuck_states} stuck states are too few to tell")
 
 
 main()

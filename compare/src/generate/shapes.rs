@@ -55,7 +55,7 @@ fn some_states(random: &mut Random, n: usize, most: usize) -> Vec<usize> {
     (0..count).map(|_| random.below(n)).collect()
 }
 
-/// One in four is stuck. Stuck states take the place of failing ones only, so that there are as many safe states as without them.
+/// One in four is stuck: in place of failing states, so that as many states are safe as there would be without them.
 fn failing_or_stuck(random: &mut Random) -> State {
     if random.once_in(4) {
         State::stuck()
@@ -64,7 +64,7 @@ fn failing_or_stuck(random: &mut Random) -> State {
     }
 }
 
-/// States of every kind, with up to `commands` commands with up to `outcomes` outcomes.
+/// States of every kind, with up to `commands` commands of up to `outcomes` outcomes each.
 pub fn mixed(n: usize, commands: usize, outcomes: usize, random: &mut Random) -> Draft {
     let failing = random.within(2, 9);
     let rest = random.within(3, 20);

@@ -1,6 +1,6 @@
 //! Verdicts, rounds and contests by the words of documents 01 and 02, with no thought of time: what the planner's tests hold it to.
 use super::decide::Tally;
-use super::plan::{Plan, NONE, REST};
+use super::plan::{Plan, FAILING, NONE, ORDINARY, REST};
 
 type Set = Vec<bool>;
 
@@ -8,8 +8,15 @@ fn lands_in(plan: &Plan, command: usize, set: &[bool]) -> bool {
     plan.outcomes(command).iter().any(|&o| set[usize::from(o)])
 }
 
+/// Of kind failing, or ordinary and with nothing to command.
+fn fails(plan: &Plan, s: usize) -> bool {
+    let (first, end) = plan.commands(s);
+    let kind = plan.rows[s].kind;
+    kind == FAILING || (kind == ORDINARY && first == end)
+}
+
 fn failing(plan: &Plan) -> Set {
-    (0..plan.size.n).map(|s| plan.fails(s)).collect()
+    (0..plan.size.n).map(|s| fails(plan, s)).collect()
 }
 
 /// Each state's rank: the first layer that holds it.
@@ -116,8 +123,8 @@ fn walk(plan: &Plan, start: usize, known: &[bool]) -> (Vec<u16>, Set) {
 /// Whether the start is lost, the rounds, and the commands.
 pub fn search(plan: &Plan, start: usize) -> (bool, u16, Vec<u16>) {
     let none = vec![NONE; plan.size.n];
-    if plan.fails(start) || plan.rows[start].kind == REST {
-        return (plan.fails(start), 0, none);
+    if fails(plan, start) || plan.rows[start].kind == REST {
+        return (fails(plan, start), 0, none);
     }
     let mut known = failing(plan);
     let mut rounds = 0;
@@ -139,7 +146,7 @@ pub fn search(plan: &Plan, start: usize) -> (bool, u16, Vec<u16>) {
 /// The keeper's turn, with every look counted.
 pub fn keeper_holds(plan: &Plan, s: usize, left: usize, looks: &mut u128) -> bool {
     *looks += 1;
-    if plan.fails(s) {
+    if fails(plan, s) {
         return false;
     }
     let (first, end) = plan.commands(s);

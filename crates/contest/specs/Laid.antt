@@ -12,7 +12,7 @@ use Rattle.tables.specs.Spans.{commandsOf}
 use Rattle.tables.specs.Ready.{Ready}
 
 -- The plan that the tables lay out: a state is failing where `seeds` has 0, its commands are those from `froms` up to `tos`, and without
--- any it is at rest. No turn asks for a start or a practice.
+-- any it is of kind rest. No turn asks for a start or a practice.
 unfoldable pub laidPlan : Size → List ℕ → List ℕ → List ℕ → List ℕ → List ℕ → Plan
 laidPlan size seeds froms tos firsts outcomes = record {
   states = size .n;

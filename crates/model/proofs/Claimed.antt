@@ -20,6 +20,7 @@ use Rattle.model.specs.SoundTest.{sound}
 use Rattle.model.specs.Held.{treeOf, planIn}
 use Rattle.model.specs.Calls.{writeCall}
 use Rattle.model.specs.Claims.{Short, Conditions, Meanings, Rules, Failings, Contests}
+use Rattle.model.proofs.StateKinds.{bound-counts}
 use Rattle.model.proofs.HeldPlan.{states-held}
 use Rattle.model.proofs.SoundFacts.{sound-facts}
 use Rattle.model.proofs.Soundness.{sound-iff}
@@ -42,7 +43,7 @@ use Rattle.model.proofs.ListingLength.{listing-length}
 use Rattle.model.proofs.Delivered.{decide-demand3, search-demand3}
 use Rattle.model.proofs.ContestCalls.{contest-iff, contest-unsound, contest-stranger, contest-moves, contest-only, contested}
 use Rattle.model.proofs.GateDemands.{gate-decide-demand3, gate-search-demand3}
-use Rattle.model.proofs.Stuck.{rank-zero, bound-counts, rest-safe, stuck-state}
+use Rattle.model.proofs.Stuck.{rank-zero, rest-safe, stuck-state}
 use Rattle.model.proofs.StuckCalls.{
   stuck-decided,
   stuck-searched,

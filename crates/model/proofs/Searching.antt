@@ -14,7 +14,7 @@ use Rattle.model.specs.Plan.{Plan, Valid, failing, active}
 use Rattle.model.specs.Verdict.{lost}
 use Rattle.model.specs.Command.{chosen}
 use Rattle.model.specs.Search.{reached, marked, known, withoutMarks, ends, before, Result, atOnce, inRounds, search, actives}
-use Rattle.model.proofs.StateKinds.{Kind, fails, rests, acts, kind-of, active-stands}
+use Rattle.model.proofs.StateKinds.{Kind, fails, rests, acts, kind-of, active-stands, bound-is}
 use Rattle.model.proofs.Choices.{forced-is, choice-idle}
 use Rattle.model.proofs.Layers.{forced-more, failing-lost, forced-lost, lost-cases, chosen-choice}
 use Rattle.model.proofs.Walks.{start-reached}
@@ -33,7 +33,7 @@ pub record Answers (P : Plan) (a : ℕ) (A : Result) : Type 0 where
 
 module _ (P : Plan) (a : ℕ) where
   known-grows : (j x : ℕ) → known P a j x ≡ true → known P a (suc j) x ≡ true
-  known-grows = grow-more (λ K. marked P K a) (failing P)
+  known-grows = grow-more _ _
 
   known-fails : (j x : ℕ) → failing P x ≡ true → known P a j x ≡ true
   known-fails = grow-first (λ K. marked P K a) (failing P)
@@ -98,10 +98,9 @@ module _ (P : Plan) (S : Valid P) (a : ℕ) (in-plan : a < P .states) (act : act
 
   -- where as many active states are known as there are, the start is
   by-full : actives P ≤ howMany (counted P a (actives P)) (P .states) → Ended
-  unfolding actives
   by-full h =
       let n = actives P in
-      let all = many-all (counted P a n) (active P) (P .states) (λ x l e. counted-is P a n x e .0) h in
+      let all = many-all (counted P a n) (active P) (P .states) (λ x l e. counted-is P a n x e .0) (omega (arith, bound-is P)) in
       by-known n (omega arith) (counted-is P a n a (all a in-plan act) .1)
 
   some-ends : Ended
@@ -112,13 +111,13 @@ module _ (P : Plan) (S : Valid P) (a : ℕ) (in-plan : a < P .states) (act : act
 
   -- the search ends, and `before` is the first round that ends it
   pub last-round : lowest (ends P a) (P .states) ≡ some (before P a)
-  unfolding before actives
+  unfolding before
   last-round = let (j, q) = is-some (lowest (ends P a) (P .states)) endless in rw q
     where
       endless : lowest (ends P a) (P .states) ≡ none → ⊥
       endless q =
           let (i, l, e) = some-ends in
-          clash e (lowest-none (ends P a) (P .states) q i (omega (arith, many-bound (active P) (P .states))))
+          clash e (lowest-none (ends P a) (P .states) q i (omega (arith, bound-is P, many-bound (active P) (P .states))))
 
   -- so no more rounds are walked than there are active states
   pub rounds-bound : suc (before P a) ≤ actives P

@@ -1,59 +1,25 @@
--- Which states have rank 0, what the bound on the rounds counts, and all that counting as failing makes of a stuck state.
+-- Which states have rank 0, and all that counting as failing makes of a stuck state.
 use mathlib.Core.Path.{_≡_, refl}
-use mathlib.Core.Bool.{true, false, cond, _&&_}
-use mathlib.Core.Logic.{_⊎_, inl, inr, ⊎-elim, _↔_}
+use mathlib.Core.Bool.{true, false}
+use mathlib.Core.Logic.{_⊎_, inr, _↔_}
 use mathlib.Core.Option.{some}
-use Prim.Native.Nat.{ℕ, zero, suc, _+_, _<_}
+use Prim.Native.Nat.{ℕ, _<_}
 use native.Mathlib.Omega.{arith}
-use lib.Dec.{eqb, ltb, eqb·suc-zero}
-use borrow.Author.Tests.{eqb-true, eq-eqb, lt-ltb, le-ltb}
-use Rattle.laws.specs.Sets.{found, howMany, grow}
-use Rattle.laws.proofs.Tests.{clash, refute, and-both, and-join, or-cases, or-left, or-right}
-use Rattle.laws.proofs.Sets.{many-parts}
+use borrow.Author.Tests.{le-ltb}
+use Rattle.laws.specs.Sets.{found, grow}
+use Rattle.laws.proofs.Tests.{clash, refute}
 use Rattle.laws.proofs.Grow.{grow-first}
-use Rattle.model.specs.Plan.{Plan, Valid, ordinary, stuckAt, stuck, failing, active, hasPractice}
+use Rattle.model.specs.Plan.{Plan, Valid, ordinary, stuck, failing, active, hasPractice}
 use Rattle.model.specs.Run.{noMoves, present}
 use Rattle.model.specs.Verdict.{rank, lost, safe}
 use Rattle.model.specs.Command.{chosen}
 use Rattle.model.specs.Practice.{practiceHits, practiceFails, faultOutcome, fault, mark}
-use Rattle.model.specs.Search.{atOnce, search, actives}
+use Rattle.model.specs.Search.{atOnce, search}
 use Rattle.model.specs.Stuck.{StuckState}
+use Rattle.model.proofs.StateKinds.{failing-of, failing-is, stuck-is}
 use Rattle.model.proofs.Layers.{rank-some, layer-rank, failing-lost}
 use Rattle.model.proofs.Searching.{search-answers, resting-safe}
 use Rattle.model.proofs.Contests.{turn-fails}
-
--- ---- what counts as failing, by kind and count
-
-module _ (P : Plan) (s : ℕ) where
-  pub stuck-is : stuck P s ≡ true → (P .kind s ≡ 0) × (P .commands s ≡ 0)
-  unfolding stuck
-  stuck-is e = let (k, n) = and-both (eqb (P .kind s) 0) (eqb (P .commands s) 0) e in (eqb-true _ _ k, eqb-true _ _ n)
-
-  pub stuck-fails : stuck P s ≡ true → failing P s ≡ true
-  unfolding stuck failing
-  stuck-fails e = or-right (eqb (P .kind s) 1) _ e
-
-  abbrev Counts : Type 0
-  Counts = (P .kind s ≡ 1) ⊎ ((P .kind s ≡ 0) × (P .commands s ≡ 0))
-
-  failing-is : failing P s ≡ true → Counts
-  unfolding failing stuck
-  failing-is e = ⊎-elim (λ k. inl (eqb-true _ _ k)) (λ h. inr (stuck-is h)) (or-cases (eqb (P .kind s) 1) _ e)
-
-  failing-of : Counts → failing P s ≡ true
-  unfolding failing
-  failing-of (inl k) = or-left (eqb (P .kind s) 1) _ (eq-eqb _ _ k)
-  failing-of (inr h) = or-right (eqb (P .kind s) 1) _ (and-join _ _ (eq-eqb _ _ (h .0)) (eq-eqb _ _ (h .1)))
-
--- an ordinary state has commands or is stuck
-pub bound-counts : (P : Plan) → actives P + howMany (stuck P) (P .states) ≡ howMany (ordinary P) (P .states)
-unfolding actives active stuck ordinary
-bound-counts P = many-parts (active P) (stuck P) (ordinary P) (λ x. one (P .kind x) (P .commands x)) (P .states)
-  where
-    one : (k n : ℕ) → cond (eqb k 0 && ltb 0 n) 1 0 + cond (stuckAt k n) 1 0 ≡ cond (eqb k 0) 1 0
-    one zero zero = refl
-    one zero (suc n) = rw (lt-ltb 0 (suc n) (omega arith), eqb·suc-zero)
-    one (suc k) n = rw eqb·suc-zero
 
 -- ---- ranks
 
@@ -77,7 +43,7 @@ module _ (P : Plan) (S : Valid P) (s : ℕ) (l : s < P .states) where
 
   module _ (e : stuck P s ≡ true) where
     fails : failing P s ≡ true
-    fails = stuck-fails P s e
+    fails = failing-of P s (inr (stuck-is P s e))
 
     is-lost : lost P s ≡ true
     is-lost = failing-lost P S s l fails
@@ -96,6 +62,7 @@ module _ (P : Plan) (S : Valid P) (s : ℕ) (l : s < P .states) where
       ranked = failing-ranked fails;
       unchosen = rw is-lost;
       ends-runs = λ a w q. rw q fails;
+      no-move = λ m can. omega (arith, can .issued, stuck-is P s e .1);
       fails-at-once = λ ρ. (record { run = noMoves; is-run = tt; under = tt; fails = fails }, refl);
       marked = marked-one;
       counted = (is-lost, no-practice);

@@ -14,9 +14,10 @@ use Rattle.model.specs.Plan.{Plan, Valid, active}
 use Rattle.model.specs.Verdict.{rank, lost}
 use Rattle.model.specs.Command.{chosen}
 use Rattle.model.specs.Practice.{practiceFails, fault, mark, tallyRow, tally}
-use Rattle.model.specs.Search.{search, actives}
+use Rattle.model.specs.Search.{search}
 use Rattle.model.specs.Calls.{rankTable, commandTable, markTable}
 use Rattle.model.specs.Boundary.{tallyEntries}
+use Rattle.model.proofs.StateKinds.{bound-is}
 use Rattle.model.proofs.Choices.{choice-some}
 use Rattle.model.proofs.Layers.{rank-bound, chosen-choice}
 use Rattle.model.proofs.Searching.{search-answers}
@@ -65,5 +66,4 @@ module _ (P : Plan) (S : Valid P) (few : P .states < 65536) (short : (s : ℕ) �
       (more (count-fits _) (more (count-fits _) (more (count-fits _) (more (count-fits _) (more (count-fits _) none)))))
 
   pub rounds-fit : (a : ℕ) → a < P .states → Fits (search P a .rounds)
-  unfolding actives
-  rounds-fit a l = omega (arith, search-answers P S a l .few, many-bound (active P) (P .states))
+  rounds-fit a l = omega (arith, search-answers P S a l .few, bound-is P, many-bound (active P) (P .states))

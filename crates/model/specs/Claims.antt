@@ -143,7 +143,7 @@ pub record Failings : Type 0 where
       ↔ ((planIn T .kind s ≡ 1) ⊎ ((planIn T .kind s ≡ 0) × (planIn T .commands s ≡ 0)))
   -- rule D3h: stuck states are not in the bound on the rounds
   pub bound-counts : (P : Plan) → actives P + howMany (stuck P) (P .states) ≡ howMany (ordinary P) (P .states)
-  -- what is of kind rest is safe
+  -- rule P9: what is of kind rest is safe
   pub rest-safe : (T : Tables) → Sound T → (s : ℕ) → s < T .size .n → planIn T .kind s ≡ 2 → safe (planIn T) s ≡ true
   -- rule P10: of a stuck state, by the definitions
   pub stuck-state : (T : Tables) → Sound T → (s : ℕ) → s < T .size .n → stuck (planIn T) s ≡ true → StuckState (planIn T) s

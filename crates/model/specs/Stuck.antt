@@ -7,7 +7,7 @@ use Prim.Native.Nat.{ℕ, _<_}
 use lib.ListN.{getD}
 use Rattle.laws.specs.Entry.{FFFF}
 use Rattle.model.specs.Plan.{Plan, hasPractice}
-use Rattle.model.specs.Run.{Run, present, moves, RunFails}
+use Rattle.model.specs.Run.{Move, Run, present, moves, CanMove, RunFails}
 use Rattle.model.specs.Rule.{Rule, Fails}
 use Rattle.model.specs.Verdict.{rank, lost}
 use Rattle.model.specs.Command.{chosen}
@@ -20,8 +20,9 @@ pub record StuckState (P : Plan) (s : ℕ) : Type 0 where
   -- rules V1, V4 and V7: it is lost with rank 0, and no command is chosen
   pub ranked : rank P s ≡ some 0
   pub unchosen : chosen P s ≡ none
-  -- rule R7: each run that has come to it fails, and under each rule there is such a run from it, of no moves
+  -- rules R3 and R7: each run that has come to it fails and goes no further, and under each rule there is such a run from it, of no moves
   pub ends-runs : (a : ℕ) (w : Run) → present a w ≡ s → RunFails P a w
+  pub no-move : (m : Move) → CanMove P s m → ⊥
   pub fails-at-once : (ρ : Rule) → (f : Fails P s ρ) × (moves (f .run) ≡ 0)
   -- rule V13: the practice fails, and it is no fault
   pub marked : mark P s ≡ 1
@@ -36,7 +37,7 @@ pub record StuckState (P : Plan) (s : ℕ) : Type 0 where
   -- rule M4: the keeper does not hold it, however many moves are left
   pub not-held : (k : ℕ) → keeperTurn P k s ≡ false
 
--- in the tables that deciding leaves
+-- in the tables that deciding leaves (rule C4)
 pub record StuckEntries (ranks commands marks : List ℕ) (s : ℕ) : Type 0 where
   pub rank-entry : getD ranks s FFFF ≡ 0
   pub command-entry : getD commands s 0 ≡ FFFF

@@ -51,8 +51,8 @@ fn finish(n: usize, end: usize, rounds: usize, commands: &mut [u16], scratch: &m
 }
 
 // Walks rounds from the start until one is the last. A round takes over from the one before what it would walk in the same way, and walks
-// on from there; `tried`, at first all zero, says which commands need not be tried again. Where the start is failing, rest or without
-// commands there are none.
+// on from there; `tried`, at first all zero, says which commands need not be tried again. Where the start counts as failing or is at
+// rest there are none.
 pub fn walk_rounds(
     size: Size,
     rows: &[Row],

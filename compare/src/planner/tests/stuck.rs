@@ -3,7 +3,7 @@ use super::{any_plan, decided, outline, searched};
 use crate::generate::draft::{to, Draft, Held, State};
 use crate::generate::ended;
 use crate::planner::contest::{contest, Space, MOVES};
-use crate::planner::plan::{FAILING, NONE};
+use crate::planner::plan::{FAILING, NONE, ORDINARY};
 
 fn with_practice(mut state: State, practice: u16) -> State {
     state.practice = practice;
@@ -70,12 +70,9 @@ fn at_odd_places() {
 
 /// The same plan with each stuck state marked as failing.
 fn marked_failing(held: &Held) -> Held {
-    let plan = held.plan();
     let mut rows = held.rows.clone();
-    for (s, row) in rows.iter_mut().enumerate() {
-        if plan.fails(s) {
-            row.kind = FAILING;
-        }
+    for s in stuck_states(held) {
+        rows[s].kind = FAILING;
     }
     Held {
         size: held.size,
@@ -87,10 +84,11 @@ fn marked_failing(held: &Held) -> Held {
 
 fn stuck_states(held: &Held) -> Vec<usize> {
     let plan = held.plan();
-    let states = 0..plan.size.n;
-    states
-        .filter(|&s| plan.fails(s) && plan.rows[s].kind != FAILING)
-        .collect()
+    let is_stuck = |s: usize| {
+        let (first, end) = plan.commands(s);
+        plan.rows[s].kind == ORDINARY && first == end
+    };
+    (0..plan.size.n).filter(|&s| is_stuck(s)).collect()
 }
 
 #[test]
