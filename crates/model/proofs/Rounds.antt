@@ -17,10 +17,6 @@ use Rattle.model.proofs.Layers.{lost-layer, chosen-choice}
 use Rattle.model.proofs.Walks.{goes-on, reached-all}
 
 module _ (P : Plan) (K : ℕ → Bool) (a s : ℕ) where
-  pub marked-of : reached P K a s ≡ true → active P s ≡ true → choice P K s ≡ none → marked P K a s ≡ true
-  unfolding marked found
-  marked-of w act e = rw (w, act, e)
-
   -- what is marked is reached and forced
   pub marked-is : marked P K a s ≡ true → (reached P K a s ≡ true) × (forced P K s ≡ true)
   unfolding marked
@@ -29,6 +25,10 @@ module _ (P : Plan) (K : ℕ → Bool) (a s : ℕ) where
       let (w, act) = and-both (reached P K a s) (active P s) b in
       let left = found-none (choice P K s) (not-true (found (choice P K s)) n) in
       (w, forced-of P K s act (choice-none P K s act left))
+
+  pub marked-of : reached P K a s ≡ true → active P s ≡ true → choice P K s ≡ none → marked P K a s ≡ true
+  unfolding marked found
+  marked-of w act e = rw (w, act, e)
 
 module _ (P : Plan) (S : Valid P) (K : ℕ → Bool) (a : ℕ) (in-plan : a < P .states)
     (fails : (x : ℕ) → failing P x ≡ true → K x ≡ true) (fresh : K a ≡ false) where
