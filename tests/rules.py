@@ -25,16 +25,31 @@ def rules(plan):
         yield dict(zip(states, commands))
 
 
+def ends(plan, rule, state):
+    """Where the runs from a state under the rule end: after no move, after one, and so on, each state when it is first met."""
+    met, last = set(), {state}
+    while last:
+        yield last
+        met |= last
+        last = {o for i in last if i in rule for o in plan.states[i].commands[rule[i]]} - met
+
+
 def shortest(plan, rule, state):
     """The moves of the shortest run from a state under the rule that fails."""
-    seen, ends, moves = {state}, {state}, 0
-    while ends:
-        if any(reference.fails(plan.states[i]) for i in ends):
-            return moves
-        ends = {o for i in ends if i in rule for o in plan.states[i].commands[rule[i]]} - seen
-        seen |= ends
-        moves += 1
-    return SAFE
+    failing_ends = (moves for moves, last in enumerate(ends(plan, rule, state)) if any(reference.fails(plan.states[i]) for i in last))
+    return next(failing_ends, SAFE)
+
+
+def wrong_search(plan, state, chosen, met):
+    """What is wrong with the search from a state that is safe, by the states met, or lost, where none are."""
+    lost, rounds, taken = reference.search(plan, state)
+    if lost != (not met):
+        return "the search's verdict"
+    if (rounds > 0) != bool(plan.states[state].commands) or rounds > sum(bool(s.commands) for s in plan.states):
+        return f"{rounds} rounds"
+    if taken != [chosen[i] if i in met else None for i in range(plan.n)]:
+        return f"the search's commands, {taken}"
+    return None
 
 
 def wrong(plan, state, verdicts):
@@ -43,16 +58,18 @@ def wrong(plan, state, verdicts):
     best = max(shortest(plan, rule, state) for rule in rules(plan))
     if best != (SAFE if rank[state] is None else rank[state]):
         return f"rank {rank[state]}, and the best rule holds out for {best} moves"
-    returned = {i: command for i, command in enumerate(chosen) if command is not None}
-    if rank[state] is None and shortest(plan, returned, state) != SAFE:
-        return "safe, and the chosen commands fail"
     practice = {i: s.practice for i, s in enumerate(plan.states) if s.practice != reference.NONE}
     if marks[state] & 1 != (shortest(plan, practice, state) != SAFE):
         return f"mark {marks[state]}, and the practice does not do so"
-    lost, rounds, _ = reference.search(plan, state)
-    if lost != (best != SAFE) or rounds > sum(bool(s.commands) for s in plan.states):
-        return f"the search's verdict or its {rounds} rounds"
-    return None
+    if best != SAFE:
+        return wrong_search(plan, state, chosen, set())
+    returned = {i: command for i, command in enumerate(chosen) if command is not None}
+    met = set().union(*ends(plan, returned, state))
+    if shortest(plan, returned, state) != SAFE:
+        return "safe, and the chosen commands fail"
+    if any(plan.states[i].commands and i not in returned for i in met):
+        return "safe, and no command is chosen where there are some"
+    return wrong_search(plan, state, chosen, met)
 
 
 def main():

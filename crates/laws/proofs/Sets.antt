@@ -195,11 +195,11 @@ many-bound f (suc n) =
     ⊎-elim (λ e. rw e (omega arith)) (λ e. rw e (omega arith)) (true-or-false (f n))
 
 -- a set in two parts has as many members as both
-pub many-parts : (f g h : ℕ → Bool) → ((x : ℕ) → cond (f x) 1 0 + cond (g x) 1 0 ≡ cond (h x) 1 0) → (n : ℕ)
+pub many-parts : (f g h : ℕ → Bool) (n : ℕ) → ((x : ℕ) → x < n → cond (f x) 1 0 + cond (g x) 1 0 ≡ cond (h x) 1 0)
     → howMany f n + howMany g n ≡ howMany h n
 unfolding howMany
-many-parts f g h both zero = refl
-many-parts f g h both (suc n) = omega (arith, both n, many-parts f g h both n)
+many-parts f g h zero both = refl
+many-parts f g h (suc n) both = omega (arith, both n (omega arith), many-parts f g h n (λ x l. both x (omega arith)))
 
 module _ (f g : ℕ → Bool) where
   pub many-le : (n : ℕ) → Part n f g → howMany f n ≤ howMany g n

@@ -1,6 +1,6 @@
 -- Tests: what follows from a Bool's value.
 use mathlib.Core.Path.{_≡_, refl, sym, _∙_}
-use mathlib.Core.Bool.{Bool, true, false, _&&_, _||_, true≢false}
+use mathlib.Core.Bool.{Bool, true, false, cond, _&&_, _||_, true≢false}
 use mathlib.Core.Logic.{_⊎_, inl, inr}
 
 pub clash {ℓ} : {A : Type ℓ} {b : Bool} → b ≡ true → b ≡ false → A
@@ -18,6 +18,11 @@ refute false h = refl
 pub same-test : (a b : Bool) → (a ≡ true → b ≡ true) → (b ≡ true → a ≡ true) → a ≡ b
 same-test true b h k = sym (h refl)
 same-test false b h k = sym (refute b (λ e. clash (k e) refl))
+
+-- a choice of two that are the same
+pub cond-same {ℓ} : {A : Type ℓ} {x y : A} (b : Bool) → x ≡ y → cond b x y ≡ y
+cond-same true e = e
+cond-same false e = refl
 
 pub and-both : (a b : Bool) → a && b ≡ true → (a ≡ true) × (b ≡ true)
 and-both true b e = (refl, e)

@@ -43,7 +43,7 @@ use Rattle.model.proofs.ListingLength.{listing-length}
 use Rattle.model.proofs.Delivered.{decide-demand3, search-demand3}
 use Rattle.model.proofs.ContestCalls.{contest-iff, contest-unsound, contest-stranger, contest-moves, contest-only, contested}
 use Rattle.model.proofs.GateDemands.{gate-decide-demand3, gate-search-demand3}
-use Rattle.model.proofs.Stuck.{rank-zero, rest-safe, stuck-state}
+use Rattle.model.proofs.Stuck.{rank-zero, rest-safe, stuck-state, stuck-line}
 use Rattle.model.proofs.StuckCalls.{
   stuck-decided,
   stuck-searched,
@@ -231,6 +231,7 @@ failings = record {
   bound-counts = bound-counts;
   rest-safe = λ T S s l. rest-safe (planIn T) (valid T S) s (in-plan T S s l);
   stuck-state = λ T S s l. stuck-state (planIn T) (valid T S) s (in-plan T S s l);
+  stuck-line = λ T S s l. stuck-line (planIn T) (valid T S) s (in-plan T S s l);
   stuck-decided = stuck-decided;
   stuck-searched = stuck-searched;
   stuck-contested = stuck-contested;

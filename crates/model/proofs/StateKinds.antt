@@ -83,19 +83,16 @@ module _ (P : Plan) (s : ℕ) where
 
 module _ (P : Plan) where
   -- an ordinary state has commands or is stuck
-  ordinary-parts : howMany (active P) (P .states) + howMany (stuck P) (P .states) ≡ howMany (ordinary P) (P .states)
-  unfolding active stuck ordinary
-  ordinary-parts = many-parts (active P) (stuck P) (ordinary P) (λ x. one (P .kind x) (P .commands x)) (P .states)
+  pub bound-counts : actives P + howMany (stuck P) (P .states) ≡ howMany (ordinary P) (P .states)
+  unfolding actives active stuck ordinary
+  bound-counts = many-parts (active P) (stuck P) (ordinary P) (P .states) (λ x l. one (P .kind x) (P .commands x))
     where
       one : (k n : ℕ) → cond (eqb k 0 && ltb 0 n) 1 0 + cond (stuckAt k n) 1 0 ≡ cond (eqb k 0) 1 0
       one zero zero = refl
       one zero (suc n) = rw (lt-ltb 0 (suc n) (omega arith), eqb·suc-zero)
       one (suc k) n = rw eqb·suc-zero
 
-  pub bound-counts : actives P + howMany (stuck P) (P .states) ≡ howMany (ordinary P) (P .states)
-  unfolding actives
-  bound-counts = ordinary-parts
-
-  -- so the bound on the rounds is the number of active states
+  -- the bound on the rounds is the number of active states
   pub bound-is : actives P ≡ howMany (active P) (P .states)
-  bound-is = omega (arith, bound-counts, ordinary-parts)
+  unfolding actives
+  bound-is = refl

@@ -27,9 +27,9 @@ use Rattle.model.specs.Held.{treeOf, planIn}
 use Rattle.model.specs.Calls.{reading, writing, deciding, searching, readCall, afterReading, writeCall, decideCall, searchCall}
 use Rattle.model.specs.Demand3.{DecidingDemand3, SearchDemand3}
 use Rattle.model.specs.Contest.{keeperTurn, maxMoves, contestCall, Contested}
-use Rattle.model.specs.Stuck.{StuckState, StuckEntries}
+use Rattle.model.specs.Stuck.{StuckState, StuckEntries, StuckCounted, StuckSearched}
 use Rattle.model.specs.Boundary.{entriesIn, verdictIn, roundsIn, gateDecideCall, gateSearchCall}
-use Rattle.model.specs.Listing.{decimal, told, faultSign, stateLine, maxListing, listing}
+use Rattle.model.specs.Listing.{decimal, told, line, faultSign, stateLine, maxListing, listing}
 use Rattle.model.specs.Bench.{judged, benches, caseA, caseAListing}
 
 -- ---- rule D1: each call answers, or is refused, exactly under the condition that part E has for it
@@ -138,7 +138,7 @@ pub record Rules : Type 0 where
 -- ---- rules P9 and P10: what counts as failing, and what becomes of a stuck state
 
 pub record Failings : Type 0 where
-  -- rule P9: rank 0 have the states of kind failing and the stuck ones, and no others
+  -- rule P9: the states of kind failing and the stuck ones have rank 0, and no others
   pub rank-zero : (T : Tables) → Sound T → (s : ℕ) → s < T .size .n → (rank (planIn T) s ≡ some 0)
       ↔ ((planIn T .kind s ≡ 1) ⊎ ((planIn T .kind s ≡ 0) × (planIn T .commands s ≡ 0)))
   -- rule D3h: stuck states are not in the bound on the rounds
@@ -147,27 +147,32 @@ pub record Failings : Type 0 where
   pub rest-safe : (T : Tables) → Sound T → (s : ℕ) → s < T .size .n → planIn T .kind s ≡ 2 → safe (planIn T) s ≡ true
   -- rule P10: of a stuck state, by the definitions
   pub stuck-state : (T : Tables) → Sound T → (s : ℕ) → s < T .size .n → stuck (planIn T) s ≡ true → StuckState (planIn T) s
-  -- and in what the calls answer and leave, whatever they are lent beside the plan; all stuck states are in the tally's last count
+  -- rule L7: its line in the listing is its number and `o L 0 - F .`
+  pub stuck-line : (T : Tables) → Sound T → (s : ℕ) → s < T .size .n → stuck (planIn T) s ≡ true
+      → stateLine (planIn T) s ≡ line (decimal s ∷ (111 ∷ []) ∷ (76 ∷ []) ∷ (48 ∷ []) ∷ (45 ∷ []) ∷ (70 ∷ []) ∷ (46 ∷ []) ∷ [])
+  -- and in what the calls answer and leave, whatever they are lent beside the plan
   pub stuck-decided : (T : Tables) (ranks commands marks scratch : List ℕ) (counts : List (List ℕ))
       → let D = decideCall T ranks commands marks scratch in
       D .answers ≡ given counts
-      → (howMany (stuck (planIn T)) (T .size .n) ≤ getD (getD counts 1 []) 2 0)
+      → StuckCounted (planIn T) (getD (getD counts 1 []) 2 0)
       × ((s : ℕ) → s < T .size .n → stuck (planIn T) s ≡ true → StuckEntries (D .ranks) (D .commands) (D .marks) s)
-  pub stuck-searched : (T : Tables) (s : ℕ) → stuck (planIn T) s ≡ true → (table space : List ℕ) (verdict : Bool) (rounds : ℕ)
-      → searchCall T s table space .answers ≡ given (verdict, rounds) → (verdict ≡ true) × (rounds ≡ 0)
+  pub stuck-searched : (T : Tables) (s : ℕ) → s < T .size .n → stuck (planIn T) s ≡ true
+      → (a : ℕ) (table space : List ℕ) (verdict : Bool) (rounds : ℕ)
+      → let S = searchCall T a table space in
+      S .answers ≡ given (verdict, rounds) → StuckSearched (T .size .n) s a verdict rounds (S .commands)
   pub stuck-contested : (T : Tables) (s : ℕ) → stuck (planIn T) s ≡ true → (k : ℕ) (held : Bool)
       → contestCall T s k ≡ given held → held ≡ false
   -- and in the bytes that the calls for C leave
   pub gate-stuck-decided : (lent : Answer Tables) (T : Tables) → lent ≡ given T → (ranks commands marks scratch tally : List ℕ)
       → let D = gateDecideCall lent ranks commands marks scratch tally in
       D .returns ≡ 0
-      → (howMany (stuck (planIn T)) (T .size .n) ≤ getD (entriesIn (D .tally)) 5 0)
+      → StuckCounted (planIn T) (getD (entriesIn (D .tally)) 5 0)
       × ((s : ℕ) → s < T .size .n → stuck (planIn T) s ≡ true
       → StuckEntries (entriesIn (D .ranks)) (entriesIn (D .commands)) (entriesIn (D .marks)) s)
-  pub gate-stuck-searched : (lent : Answer Tables) (T : Tables) → lent ≡ given T → (s : ℕ) → stuck (planIn T) s ≡ true
-      → (table space answer : List ℕ)
-      → let S = gateSearchCall lent s table space answer in
-      S .returns ≡ 0 → (verdictIn (S .answer) ≡ true) × (roundsIn (S .answer) ≡ 0)
+  pub gate-stuck-searched : (lent : Answer Tables) (T : Tables) → lent ≡ given T → (s : ℕ) → s < T .size .n → stuck (planIn T) s ≡ true
+      → (a : ℕ) (table space answer : List ℕ)
+      → let S = gateSearchCall lent a table space answer in
+      S .returns ≡ 0 → StuckSearched (T .size .n) s a (verdictIn (S .answer)) (roundsIn (S .answer)) (entriesIn (S .commands))
 
 -- ---- part M: the contest, beside ranks, fewer moves and operating rules
 

@@ -22,13 +22,14 @@ module _ (q : Span) where
   unfolding activeSpan
   active-count h = rw (eq-eqb (q .kind) 0 h)
 
-  pub flag-failing : failingSpan q ≡ true → 0 ≡ startFlag q
-  unfolding startFlag
-  flag-failing h = rw h
+  module _ (t : Bool) (e : t ≡ failingSpan q) where
+    pub flag-other : not t ≡ true → 1 ≡ startFlag q
+    unfolding startFlag
+    flag-other z = rw (← e, not-true t z)
 
-  pub flag-other : failingSpan q ≡ false → 1 ≡ startFlag q
-  unfolding startFlag
-  flag-other h = rw h
+    pub flag-failing : not t ≡ false → 0 ≡ startFlag q
+    unfolding startFlag
+    flag-failing z = rw (← e, not-false t z)
 
   pub end-failing : failingSpan q ≡ true → 1 ≡ startEnd q
   unfolding startEnd

@@ -33,10 +33,10 @@ fn has_commands(span: Span) -> bool
 fn start_flag(span: Span) -> usize
     ensures { λ r. ⌜ (r ≡ startFlag span) × (r < 65536) ⌝ }
 {
-    if is_failing(span) {
-        return 0;
+    if !is_failing(span) {
+        return 1;
     }
-    1
+    0
 }
 
 // What is known of the start before the first round: 1 lost, 0 safe, 2 neither.
