@@ -63,13 +63,13 @@ module _ (size : Size) (rows : List Row) (firsts outcomes : List ℕ) (sounds : 
 
   -- a table of seeds
   module _ (r : List ℕ) (long : size .n ≤ length r) (sown : (s : ℕ) → s < size .n → getD r s 0 ≡ seedOf (spanAt T s)) where
-    seeds-are : Agree (size .n) (seeds r) (failing P)
-    unfolding seedOf
-    seeds-are s l = rw (getD-inside r s 1 0 (omega arith), sown s l) (zero-test (failingSpan (spanAt T s))) ∙ span-failing T s l
-
     pub sown-seeded : Seeded (size .n) r
     unfolding seedOf
     sown-seeded = record { seeded = λ s l. rw (sown s l) (zero-or-none (failingSpan (spanAt T s))) }
+
+    seeds-are : Agree (size .n) (seeds r) (failing P)
+    unfolding seedOf
+    seeds-are s l = rw (getD-inside r s 1 0 (omega arith), sown s l) (zero-test (failingSpan (spanAt T s))) ∙ span-failing T s l
 
     module _ (w e : List ℕ) {r′ : List ℕ} (found : r′ ≡ depthTable (netOf (size .n) (commandsOf size firsts outcomes) w e) r) where
       filled : Filled (size .n) (λ s. entry (depth (netOf (size .n) (commandsOf size firsts outcomes) w e) (seeds r) s)) r r′
