@@ -196,8 +196,8 @@ uint32_t gate_read(const uint8_t *file, size_t file_length,
  *                   practice if none of its outcomes is lost, else the lowest-numbered command of which
  *                   that holds. GATE_NONE elsewhere.
  *   marks     out   GATE_STATES_BYTES(n): how the practice does: 0 holds, GATE_PRACTICE_FAILS, with
- *                   GATE_PRACTICE_FAULT added at a fault. Following the practice ends without failing where
- *                   there is none; a failing state has mark 1, and so has a stuck one.
+ *                   GATE_PRACTICE_FAULT added at a fault. Following the practice ends where there is none,
+ *                   and that alone is no failure; a failing state has mark 1, and so has a stuck one.
  *   scratch   out   GATE_STATES_BYTES(n): room to work in; zero when the call has answered
  *   tally     out   GATE_TALLY_BYTES: six entries. How many safe states have a practice that holds, one that
  *                   fails, none; then the same of lost states.

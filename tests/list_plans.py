@@ -32,6 +32,7 @@ def plans():
     yield Plan([State(0, [[0], [0, 1]], 1), failing(), State(0, [[1]], 0)])  # of two hits, only that at the safe state is a fault
     yield Plan([State(0, [[1], [1, 2, 3]], 1), rest(), State(0, [[3]]), failing()])  # named is 2, of rank 1, and not 3, which fails
     yield faults(STATES, [8, 512, 1023], stuck)
+    yield Plan([stuck() for _ in range(STATES)], STATES - 1)
     for seed in range(100, 160):
         yield scattered(seed, 6 + seed % 7, 3, 4, (9, 1, 2))
     for seed in range(160, 170):
@@ -51,7 +52,7 @@ def main():
         tried += 1
         signs += sum(" !" in line for line in want.split("\n"))
         stuck_states += sum(map(reference.is_stuck, plan.states))
-    if signs < 100 or stuck_states < 40:
+    if signs < 100 or stuck_states < STATES + 40:
         sys.exit(f"list_plans: {signs} faults and {stuck_states} stuck states are too few to tell")
     print(f"listed {tried} plans, {signs} faults, {stuck_states} stuck states")
 

@@ -5,6 +5,7 @@ import sys
 
 import reference
 from plans import ended_by, failing, rest, scattered, shapes, stuck
+from reference import Plan
 
 RULES = 300  # of a plan, at most
 SAFE = math.inf  # moves to failure where no run fails
@@ -12,8 +13,7 @@ SAFE = math.inf  # moves to failure where no run fails
 
 def plans():
     yield from shapes()
-    for end in stuck, rest, failing:
-        yield from ended_by(end)
+    yield from ended_by(failing)
     for seed in range(200, 500):
         yield scattered(seed, 2 + seed % 5, 3, 3, (8, 2, 1))
 
@@ -41,7 +41,7 @@ def shortest(plan, rule, state):
 
 
 def wrong_search(plan, state, chosen, met):
-    """What is wrong with the search from a state that is safe, by the states met, or lost, where none are."""
+    """What is wrong with the search from a state; `met` are those that the chosen commands can come to from there, none if it is lost."""
     lost, rounds, taken = reference.search(plan, state)
     if lost != (not met):
         return "the search's verdict"
@@ -59,10 +59,12 @@ def wrong(plan, state, verdicts):
     if best != (SAFE if rank[state] is None else rank[state]):
         return f"rank {rank[state]}, and the best rule holds out for {best} moves"
     practice = {i: s.practice for i, s in enumerate(plan.states) if s.practice != reference.NONE}
-    if marks[state] & 1 != (shortest(plan, practice, state) != SAFE):
+    lands = plan.states[state].commands[practice[state]] if state in practice else []
+    fault = best == SAFE and any(rank[o] is not None for o in lands)
+    if marks[state] != (shortest(plan, practice, state) != SAFE) + 2 * fault:
         return f"mark {marks[state]}, and the practice does not do so"
     if best != SAFE:
-        return wrong_search(plan, state, chosen, set())
+        return "lost, and a command is chosen" if chosen[state] is not None else wrong_search(plan, state, chosen, set())
     returned = {i: command for i, command in enumerate(chosen) if command is not None}
     met = set().union(*ends(plan, returned, state))
     if shortest(plan, returned, state) != SAFE:
@@ -73,6 +75,9 @@ def wrong(plan, state, verdicts):
 
 
 def main():
+    for end, rank in (stuck, 0), (failing, 0), (rest, None):
+        if reference.decide(Plan([end()]))[0] != [rank]:
+            sys.exit(f"rules: {end.__name__} has not rank {rank}")
     tried = stuck_states = 0
     for number, plan in enumerate(plans()):
         if math.prod(max(1, len(s.commands)) for s in plan.states) > RULES:

@@ -26,23 +26,27 @@ struct trial search_trial(const struct tables *p)
 
 #define NO GATE_NONE
 
-/* Case A from each of its states, worked out by hand. The failing state is 4; known states are named after each round. */
+/* Worked out by hand: case A, plan 0, from each of its states; and plans 8 and 9, which have a stuck state, from where runs end. */
 static const struct {
-    size_t start;
+    size_t plan, start;
     uint16_t answer[2], walked[SMALL_STATES];
 } starts[] = {
-    { 0, { GATE_SAFE, 2 }, { 0, 0, NO, NO, NO, NO } },    /* round 1 takes practice 1 of state 0, and marks 3; round 2 takes 0 */
-    { 1, { GATE_SAFE, 2 }, { 0, 0, NO, NO, NO, NO } },    /* the same walk, begun at 1 */
-    { 2, { GATE_SAFE, 0 }, { NO, NO, NO, NO, NO, NO } },  /* rest */
-    { 3, { GATE_LOST, 1 }, { NO, NO, NO, NO, NO, NO } },  /* both commands may land on 4 */
-    { 4, { GATE_LOST, 0 }, { NO, NO, NO, NO, NO, NO } },  /* failing */
-    { 5, { GATE_LOST, 2 }, { NO, NO, NO, NO, NO, NO } },  /* round 1 goes to 3 and marks it; round 2 marks 5 */
+    { 0, 0, { GATE_SAFE, 2 }, { 0, 0, NO, NO, NO, NO } },   /* round 1 takes practice 1 of state 0, and marks 3; round 2 takes 0 */
+    { 0, 1, { GATE_SAFE, 2 }, { 0, 0, NO, NO, NO, NO } },   /* the same walk, begun at 1 */
+    { 0, 2, { GATE_SAFE, 0 }, { NO, NO, NO, NO, NO, NO } }, /* rest */
+    { 0, 3, { GATE_LOST, 1 }, { NO, NO, NO, NO, NO, NO } }, /* both commands may land on 4 */
+    { 0, 4, { GATE_LOST, 0 }, { NO, NO, NO, NO, NO, NO } }, /* failing */
+    { 0, 5, { GATE_LOST, 2 }, { NO, NO, NO, NO, NO, NO } }, /* round 1 goes to 3 and marks it; round 2 marks 5 */
+    { 8, 1, { GATE_LOST, 0 }, { NO, NO, NO, NO, NO, NO } }, /* stuck, before a rest */
+    { 8, 2, { GATE_SAFE, 0 }, { NO, NO, NO, NO, NO, NO } }, /* rest */
+    { 9, 1, { GATE_SAFE, 0 }, { NO, NO, NO, NO, NO, NO } }, /* rest */
+    { 9, 2, { GATE_LOST, 0 }, { NO, NO, NO, NO, NO, NO } }, /* stuck, and last */
 };
 
 static void test_starts(void)
 {
     for (size_t i = 0; i < sizeof starts / sizeof *starts; i++) {
-        struct plan p = plans[0];
+        struct plan p = plans[starts[i].plan];
         for (size_t k = 0; k < SMALL_STATES; k++)
             p.walked[k] = starts[i].walked[k];
         p.answer[0] = starts[i].answer[0];

@@ -17,14 +17,14 @@ use Rattle.model.specs.Bytes.{bytesOf}
 use Rattle.model.specs.Tables.{Size, Tables, fileLength}
 use Rattle.model.specs.Sound.{Sound}
 use Rattle.model.specs.SoundTest.{sound}
-use Rattle.model.specs.Held.{treeOf, planIn}
+use Rattle.model.specs.Held.{treeOf, planOf, planIn}
 use Rattle.model.specs.Calls.{writeCall}
 use Rattle.model.specs.Claims.{Short, Conditions, Meanings, Rules, Failings, Contests}
 use Rattle.model.proofs.StateKinds.{bound-counts}
 use Rattle.model.proofs.HeldPlan.{states-held}
 use Rattle.model.proofs.SoundFacts.{sound-facts}
 use Rattle.model.proofs.Soundness.{sound-iff}
-use Rattle.model.proofs.Valid.{sound-valid}
+use Rattle.model.proofs.Valid.{file-valid, sound-valid}
 use Rattle.model.proofs.Answering.{reading-iff, writing-iff, deciding-iff, searching-iff}
 use Rattle.model.proofs.Refusing
 use Rattle.model.proofs.OnlyRefused.{reading-only, writing-only, deciding-only, searching-only}
@@ -231,7 +231,7 @@ failings = record {
   bound-counts = bound-counts;
   rest-safe = λ T S s l. rest-safe (planIn T) (valid T S) s (in-plan T S s l);
   stuck-state = λ T S s l. stuck-state (planIn T) (valid T S) s (in-plan T S s l);
-  stuck-line = λ T S s l. stuck-line (planIn T) (valid T S) s (in-plan T S s l);
+  stuck-line = λ file p e. stuck-line (planOf p) (file-valid file p e);
   stuck-decided = stuck-decided;
   stuck-searched = stuck-searched;
   stuck-contested = stuck-contested;

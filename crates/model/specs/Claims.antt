@@ -23,7 +23,7 @@ use Rattle.model.specs.Bytes.{bytesOf}
 use Rattle.model.specs.Tables.{Size, Row, Tables, Same, tablesOf, fileLength}
 use Rattle.model.specs.Sound.{Sound}
 use Rattle.model.specs.SoundTest.{sound}
-use Rattle.model.specs.Held.{treeOf, planIn}
+use Rattle.model.specs.Held.{treeOf, planOf, planIn}
 use Rattle.model.specs.Calls.{reading, writing, deciding, searching, readCall, afterReading, writeCall, decideCall, searchCall}
 use Rattle.model.specs.Demand3.{DecidingDemand3, SearchDemand3}
 use Rattle.model.specs.Contest.{keeperTurn, maxMoves, contestCall, Contested}
@@ -147,9 +147,9 @@ pub record Failings : Type 0 where
   pub rest-safe : (T : Tables) → Sound T → (s : ℕ) → s < T .size .n → planIn T .kind s ≡ 2 → safe (planIn T) s ≡ true
   -- rule P10: of a stuck state, by the definitions
   pub stuck-state : (T : Tables) → Sound T → (s : ℕ) → s < T .size .n → stuck (planIn T) s ≡ true → StuckState (planIn T) s
-  -- rule L7: its line in the listing is its number and `o L 0 - F .`
-  pub stuck-line : (T : Tables) → Sound T → (s : ℕ) → s < T .size .n → stuck (planIn T) s ≡ true
-      → stateLine (planIn T) s ≡ line (decimal s ∷ (111 ∷ []) ∷ (76 ∷ []) ∷ (48 ∷ []) ∷ (45 ∷ []) ∷ (70 ∷ []) ∷ (46 ∷ []) ∷ [])
+  -- rule L7: its line in a file's listing is its number and `o L 0 - F .`
+  pub stuck-line : (file : List ℕ) (p : Tree) → read file ≡ given p → (s : ℕ) → s < planOf p .states → stuck (planOf p) s ≡ true
+      → stateLine (planOf p) s ≡ line (decimal s ∷ (111 ∷ []) ∷ (76 ∷ []) ∷ (48 ∷ []) ∷ (45 ∷ []) ∷ (70 ∷ []) ∷ (46 ∷ []) ∷ [])
   -- and in what the calls answer and leave, whatever they are lent beside the plan
   pub stuck-decided : (T : Tables) (ranks commands marks scratch : List ℕ) (counts : List (List ℕ))
       → let D = decideCall T ranks commands marks scratch in

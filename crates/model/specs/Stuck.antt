@@ -51,7 +51,7 @@ abbrev pub StuckCounted : Plan → ℕ → Type 0
 StuckCounted P count =
     count ≡ howMany (stuck P) (P .states) + howMany (λ s. not (stuck P s) && lost P s && not (hasPractice P s)) (P .states)
 
--- in what a search from a answers, and in the n commands that it leaves (rule C5)
+-- in what a search from the state a answers, and in the n commands that it leaves (rule C5)
 pub record StuckSearched (n s a : ℕ) (verdict : Bool) (rounds : ℕ) (commands : List ℕ) : Type 0 where
   pub untaken-entry : getD commands s 0 ≡ FFFF
   pub from-it : a ≡ s → (verdict ≡ true) × (rounds ≡ 0) × ((x : ℕ) → x < n → getD commands x 0 ≡ FFFF)

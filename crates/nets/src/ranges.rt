@@ -26,10 +26,10 @@ fn practice_place(span: Span) -> usize
 fn seed_of(span: Span) -> usize
     ensures { λ r. ⌜ r ≡ seedOf span ⌝ }
 {
-    if is_failing(span) {
-        return 0;
+    if !is_failing(span) {
+        return NONE;
     }
-    NONE
+    0
 }
 
 // Initializes state s, of which `span` was read.

@@ -121,7 +121,7 @@ module _ (T : Tables) (sounds : sound T ≡ true) (a : ℕ) (l : a < T .size .n)
     unfolding search
     rounds-start p is end e {t} long zeros = go (kind-of (planIn T) a (sound-valid T sounds) (rw (states-held T) l))
       where
-        end-is : end ≡ cond (failing (planIn T) a) 1 (cond (active (planIn T) a) 2 0)
+        end-is : end ≡ cond (active (planIn T) a) 2 (cond (failing (planIn T) a) 1 0)
         end-is = e ∙ ap startEnd is ∙ start-end-is T a l
 
         begun : end ≤ 2 → (end ≡ 2 → Due (planIn T) (T .size .n) a 0 0 q cs s u) → (end ≡ 0 → Safe (planIn T) (T .size .n) a 0 cs)
@@ -141,13 +141,13 @@ module _ (T : Tables) (sounds : sound T ≡ true) (a : ℕ) (l : a < T .size .n)
 
         go : Kind (planIn T) a → AfterRounds (planIn T) (T .size .n) a cs s u t end 0 0 q cs s u t
         go (fails failed r i) =
-            let z : end ≡ 1 = end-is ∙ rw failed in
+            let z : end ≡ 1 = end-is ∙ rw (i, failed) in
             begun (omega arith) (λ k. absurd (omega arith)) (λ k. absurd (omega arith)) (λ k. lost-first (rw failed))
         go (rests stands r i) =
-            let z : end ≡ 0 = end-is ∙ rw (stands, i) in
+            let z : end ≡ 0 = end-is ∙ rw (i, stands) in
             begun (omega arith) (λ k. absurd (omega arith)) (λ k. safe-first stands (rw (stands, r))) (λ k. absurd (omega arith))
         go (acts stands r i) =
-            let z : end ≡ 2 = end-is ∙ rw (stands, i) in
+            let z : end ≡ 2 = end-is ∙ rw i in
             begun (omega arith) (λ k. due-first stands i) (λ k. absurd (omega arith)) (λ k. absurd (omega arith))
 
 -- ---- a round that is due

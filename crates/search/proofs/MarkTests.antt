@@ -31,18 +31,19 @@ module _ (q : Span) where
     unfolding startFlag
     flag-failing z = rw (← e, not-false t z)
 
-  pub end-failing : failingSpan q ≡ true → 1 ≡ startEnd q
-  unfolding startEnd
-  end-failing h = rw h
-
-  module _ (h : failingSpan q ≡ false) (t : Bool) (e : t ≡ activeSpan q) where
+  module _ (t : Bool) (e : t ≡ activeSpan q) where
     pub end-active : t ≡ true → 2 ≡ startEnd q
     unfolding startEnd
-    end-active z = rw (h, ← e, z)
+    end-active z = rw (← e, z)
 
-    pub end-rest : t ≡ false → 0 ≡ startEnd q
-    unfolding startEnd
-    end-rest z = rw (h, ← e, z)
+    module _ (h : t ≡ false) (f : Bool) (d : f ≡ failingSpan q) where
+      pub end-rest : not f ≡ true → 0 ≡ startEnd q
+      unfolding startEnd
+      end-rest z = rw (← e, h, ← d, not-true f z)
+
+      pub end-failing : not f ≡ false → 1 ≡ startEnd q
+      unfolding startEnd
+      end-failing z = rw (← e, h, ← d, not-false f z)
 
 -- ---- at the end of a round, of a state whose flag r was read
 

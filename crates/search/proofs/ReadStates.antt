@@ -28,9 +28,9 @@ module _ (T : Tables) (s : ℕ) (l : s < T .size .n) where
   unfolding startFlag
   start-flag-is = rw (span-failing T s l)
 
-  pub start-end-is : startEnd (spanAt T s) ≡ cond (failing (planIn T) s) 1 (cond (active (planIn T) s) 2 0)
+  pub start-end-is : startEnd (spanAt T s) ≡ cond (active (planIn T) s) 2 (cond (failing (planIn T) s) 1 0)
   unfolding startEnd
-  start-end-is = rw (span-failing T s l, span-active)
+  start-end-is = rw (span-active, span-failing T s l)
 
 -- an entry FFFF is no command's
 pub entry-none : (o : Option ℕ) → ((c : ℕ) → o ≡ some c → c < FFFF) → eqb (entry o) FFFF ≡ not (found o)

@@ -22,7 +22,7 @@ startFlag q = cond (failingSpan q) 0 1
 
 -- 2 where rounds are to be walked, else the verdict: 1 lost, 0 safe
 unfoldable pub startEnd : Span → ℕ
-startEnd q = cond (failingSpan q) 1 (cond (activeSpan q) 2 0)
+startEnd q = cond (activeSpan q) 2 (cond (failingSpan q) 1 0)
 
 -- the walk reached s, which has commands, and took none of them
 unfoldable pub markedAt : Span → List ℕ → List ℕ → ℕ → Bool

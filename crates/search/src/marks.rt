@@ -40,16 +40,16 @@ fn start_flag(span: Span) -> usize
 }
 
 // What is known of the start before the first round: 1 lost, 0 safe, 2 neither.
-pub fn start_end(span: Span) -> usize
-    ensures { λ r. ⌜ r ≡ startEnd span ⌝ }
+pub fn start_end(start: Span) -> usize
+    ensures { λ r. ⌜ r ≡ startEnd start ⌝ }
 {
-    if is_failing(span) {
-        return 1;
-    }
-    if has_commands(span) {
+    if has_commands(start) {
         return 2;
     }
-    0
+    if !is_failing(start) {
+        return 0;
+    }
+    1
 }
 
 // Makes the failing states known, and no others.

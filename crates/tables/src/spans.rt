@@ -24,7 +24,7 @@ pub struct Span {
     pub practice: usize,
 }
 
-// Whether the state counts as failing: an ordinary one does if it has no command, since then nobody can move the chamber.
+// Whether the state counts as failing: by its kind, or, if it is ordinary, for want of commands, since then nobody can move the chamber.
 pub fn is_failing(span: Span) -> bool
     ensures { λ r. ⌜ r ≡ failingSpan span ⌝ }
 {
