@@ -6,7 +6,7 @@
 # make lib       the C library, target/staticlib/libgate.a (header: include/gate.h)
 # make c-test    the C library's tests and examples, and the header's in C and C++
 # make compare   hold the C library to a planner in Rust, byte for byte over COUNT inputs made from SEED
-# make bench     time the two beside each other, and the contest in the program bench_plans: the best of RUNS runs (4 are enough)
+# make bench     time the two beside each other, contest and warning time in the program bench_plans: the best of RUNS runs (4 are enough)
 # make rows      check that every machine-made proof file is what tools/rows makes (some minutes)
 # make trace     check that all that docs/TRACE.md names is there
 

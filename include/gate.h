@@ -115,11 +115,12 @@ enum {
     GATE_UNSOUND = 10,  /* size, rows, firsts and outcomes are of no plan file, or one is too short */
     GATE_STRANGER = 11, /* the start named in the call is not below n, however large a number it is */
 
-    /* of the planner's contest over a few moves, which has no call in C: none of the calls below returns it */
-    GATE_MOVES = 12, /* more than 8 moves */
+    /* of the planner's contest over a few moves, and of its warning time, which have no calls in C: none of the
+       calls below returns them */
+    GATE_MOVES = 12,   /* more than 8 moves */
+    GATE_SECONDS = 13, /* a move of 0 seconds, or of more than 3,600 */
 
     /* names set aside: nothing gives these yet */
-    GATE_SECONDS = 13,    /* a move of 0 seconds, or of more than 3,600 */
     GATE_DOUBTFUL = 14,   /* a doubtful outcome of a command is one of its sure ones */
     GATE_DEPARTURES = 15, /* more than 8 departures from the practice */
     GATE_CHAMBERS = 16,   /* no chamber, or more than 16 */

@@ -5,13 +5,15 @@ from typing import NamedTuple
 import made
 import reference
 from plans import branching, case_a, chain, longest, shapes, slopes
-from reference import COMMANDS, MOVES, OUTCOMES, STATES, Plan, Refused, State, two, write
+from reference import COMMANDS, LONGEST_MOVE, MOVES, OUTCOMES, STATES, Plan, Refused, State, two, write
 
 HERE = pathlib.Path(__file__).resolve().parent.parent / "crates" / "bench_plans"
 STARTS = 32  # how many states of a plan are searched from, at most: 1,024 command tables of 1,024 states would be two megabytes
-LAST = 2 ** 16 - 1  # the largest number that a question can have
-DECIDING, SEARCH, CONTEST, FAR_CONTEST = range(4)
-FAR = 2 ** 48  # by which the program multiplies both numbers of a far contest: who drops their high bits takes them for 0
+LAST = 2 ** 16 - 1  # the largest entry
+DECIDING, SEARCH, CONTEST, WARNING = range(4)
+ALLOWED = 1, 59, 60, 61, LONGEST_MOVE - 1, LONGEST_MOVE  # seconds a move
+WIDE = 2 ** 16, 2 ** 32, 2 ** 48  # who drops the high bits of one of these and a number takes the sum for the number
+FORBIDDEN = 0, LONGEST_MOVE + 1, LAST, *WIDE, *(wide + 60 for wide in WIDE), 2 ** 63, 2 ** 64 - 1
 
 
 class Question(NamedTuple):
@@ -24,6 +26,12 @@ class Contest(NamedTuple):
     call: int
     state: int
     moves: int
+
+
+class Warned(NamedTuple):
+    call: int
+    state: int
+    seconds: int
 
 
 class Case(NamedTuple):
@@ -41,7 +49,12 @@ class Case(NamedTuple):
 
     def frame(self):
         head = len(self.file), self.rows, self.firsts, self.outcomes, len(self.questions)
-        return b"".join(map(two, head)) + self.file + b"".join(two(number) for question in self.questions for number in question)
+        return b"".join(map(two, head)) + self.file + b"".join(map(framed, self.questions))
+
+
+def framed(question):
+    call, *numbers = question
+    return two(call) + b"".join(number.to_bytes(8, "big") for number in numbers)
 
 
 def usual(*case):
@@ -59,8 +72,9 @@ def contests(states, moves=range(MOVES + 2)):
     return tuple(Contest(CONTEST, state, count) for state in states for count in moves)
 
 
-def far_contests(*pairs):
-    return tuple(Contest(FAR_CONTEST, state, moves) for state, moves in pairs)
+def warnings(states, lengths=ALLOWED):
+    """Each of the states with each length of a move."""
+    return tuple(Warned(WARNING, state, seconds) for state in states for seconds in lengths)
 
 
 def numbers(name, values):
@@ -80,14 +94,20 @@ def found(plan, start):
 
 
 def contested(plan, question):
-    unit = FAR if question.call == FAR_CONTEST else 1
-    return "held\n" if reference.contest(plan, question.state * unit, question.moves * unit) else "not held\n"
+    return "held\n" if reference.contest(plan, question.state, question.moves) else "not held\n"
+
+
+def warned(plan, question):
+    time = reference.warning(plan, question.state, question.seconds)
+    return "no limit\n" if time is None else numbers("time", time)
 
 
 def answered(plan, question):
     reference.need(10, plan is not None)
-    if question.call in (CONTEST, FAR_CONTEST):
+    if question.call == CONTEST:
         return contested(plan, question)
+    if question.call == WARNING:
+        return warned(plan, question)
     reference.need(11, question.call == DECIDING or question.start < plan.n)
     reference.need(9, plan.n <= question.places)
     return decided(plan) if question.call == DECIDING else found(plan, question.start)
@@ -110,17 +130,23 @@ def said(case):
     return out + "".join(or_refusal(answered, plan, question) for question in case.questions)
 
 
-def refused_contests():
-    """Contests that are refused, most of them for more than one reason, and some beside them that are not."""
+def wide_states(n):
+    """Numbers of states that a plan of n states, fewer than 256, does not have; some of them with the low bits of one that it has."""
+    return n, n + 1, 255, 256, STATES - 1, STATES, 2 ** 15, LAST, *WIDE, *(wide + n - 1 for wide in WIDE), 2 ** 63, 2 ** 64 - 1
+
+
+def refused_questions():
+    """Contests and warning times that are refused, most of them for more than one reason, and some beside them that are not."""
     plan = case_a()
     n, file = plan.n, write(plan)
-    without_plan = contests((0, n, LAST), (0, MOVES + 1, LAST)) + far_contests((0, 0), (0, 1), (1, 0), (1, 1))
+    wrong = *WIDE, 2 ** 64 - 1
+    without_plan = contests((0, n, *wrong), (0, MOVES + 1, *wrong)) + warnings((0, n, *wrong), (60, 0, LONGEST_MOVE + 1, *wrong))
     yield Case(b"", questions=without_plan)
     yield Case(file, rows=n - 1, questions=without_plan)
-    states = 0, n - 1, n, n + 1, 255, 256, STATES - 1, STATES, 2 ** 15, LAST
-    moves = MOVES, MOVES + 1, MOVES + 2, 255, 256, 256 + MOVES, 2 ** 15, LAST
-    far = far_contests((0, 0), (0, 1), (0, 2), (0, LAST), (1, 0), (2, 0), (LAST, 0), (1, 1), (LAST, LAST))
-    yield Case(file, questions=contests(states, moves) + far)
+    states = 0, n - 1, *wide_states(n)
+    moves = MOVES, MOVES + 1, MOVES + 2, 255, 256, 256 + MOVES, 2 ** 15, LAST, *WIDE, *(wide + MOVES for wide in WIDE), 2 ** 64 - 1
+    yield Case(file, questions=contests(states, moves))
+    yield Case(file, questions=warnings(range(n), FORBIDDEN) + warnings(wide_states(n), (60, *FORBIDDEN)))
 
 
 def contest_plans():
@@ -133,9 +159,20 @@ def contest_plans():
     yield Case(write(branching()), questions=contests((0,)) + contests(range(1, branching().n), (MOVES,)))
 
 
+def warning_plans():
+    """Every rank that a plan can have, and none."""
+    for plan in slopes():
+        yield Case(write(plan), questions=warnings(range(plan.n)))
+    full = STATES - 1
+    some = 0, 1, 2, full - 256, full - 255, 511, 512, full - 61, full - 60, full - 59, full - 1, full, STATES
+    every_rank = warnings(range(STATES), (61,))
+    yield Case(write(chain(full)), questions=every_rank + warnings(some, ALLOWED + (0, LONGEST_MOVE + 1)))
+    yield Case(write(longest()), questions=warnings((0, 1, 511, full, STATES)))
+
+
 def cases():
     """Document 01's bench plans that are not starred, then damaged files, then questions that are refused, then plans of many shapes;
-    then contests that are refused, and plans for contests."""
+    then contests and warning times that are refused, and plans for contests and for warning times."""
     hexa = bytes.fromhex
     wide = write(Plan([State(2)] * STATES))
     yield usual(wide)
@@ -160,9 +197,10 @@ def cases():
     yield Case(write(longest()), questions=(Question(DECIDING), Question(SEARCH)))
     for plan in shapes():
         case = usual(write(plan))
-        yield case._replace(questions=case.questions + contests(range(plan.n)))
-    yield from refused_contests()
+        yield case._replace(questions=case.questions + contests(range(plan.n)) + warnings(range(plan.n), (1, 61, LONGEST_MOVE)))
+    yield from refused_questions()
     yield from contest_plans()
+    yield from warning_plans()
 
 
 def main():

@@ -4,6 +4,7 @@ import functools
 
 NONE = 0xFFFF
 STATES, COMMANDS, OUTCOMES, MOVES = 1024, 4096, 16384, 8
+LONGEST_MOVE = 3600  # in seconds
 
 
 class Refused(Exception):
@@ -122,8 +123,9 @@ def read(data):
     return Plan(states, start)
 
 
+@functools.lru_cache(maxsize=None)
 def ranks(plan):
-    """The first layer that holds each state, or None."""
+    """The first layer that holds each state, or None. Remembered, for warning times ask for them state by state; nobody may alter them."""
     rank = [0 if fails(s) else None for s in plan.states]
     k = 0
     while True:
@@ -225,6 +227,14 @@ def contest(plan, state, moves):
     need(11, state < plan.n)
     need(12, moves <= MOVES)
     return keepers_turn(plan, state, moves)
+
+
+def warning(plan, state, seconds):
+    """The minutes and the seconds left over in the rank times the seconds of a move, or None for no limit (T-06)."""
+    need(11, state < plan.n)
+    need(13, 1 <= seconds <= LONGEST_MOVE)
+    rank = ranks(plan)[state]
+    return None if rank is None else divmod(rank * seconds, 60)
 
 
 def listing(data):

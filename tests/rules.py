@@ -1,4 +1,5 @@
-"""The reference's verdicts beside operating rules: on small plans, every rule that goes by the present state alone, with all its runs."""
+"""The reference's verdicts and warning times beside operating rules: on small plans, every rule that goes by the present state alone,
+with all its runs."""
 import itertools
 import math
 import sys
@@ -9,6 +10,7 @@ from reference import Plan
 
 RULES = 300  # of a plan, at most
 SAFE = math.inf  # moves to failure where no run fails
+LENGTHS = 1, 7, 59, 60, 61, 3600  # seconds a move
 
 
 def plans():
@@ -52,12 +54,26 @@ def wrong_search(plan, state, chosen, met):
     return None
 
 
+def wrong_warning(plan, state, best):
+    """What is wrong with the warning time at a state for which the best rule holds out for so many moves."""
+    for seconds in LENGTHS:
+        time = reference.warning(plan, state, seconds)
+        if (time is None) != (best == SAFE):
+            return f"the warning time is {time}, and the best rule holds out for {best} moves"
+        if time is not None and (time[0] * 60 + time[1] != best * seconds or time[1] not in range(60)):
+            return f"the warning time is {time} for {best} moves of {seconds} seconds"
+    return None
+
+
 def wrong(plan, state, verdicts):
     """What is wrong with the verdicts on a state; None if nothing is."""
     rank, chosen, marks = verdicts[:3]
     best = max(shortest(plan, rule, state) for rule in rules(plan))
     if best != (SAFE if rank[state] is None else rank[state]):
         return f"rank {rank[state]}, and the best rule holds out for {best} moves"
+    wrong_time = wrong_warning(plan, state, best)
+    if wrong_time:
+        return wrong_time
     practice = {i: s.practice for i, s in enumerate(plan.states) if s.practice != reference.NONE}
     lands = plan.states[state].commands[practice[state]] if state in practice else []
     fault = best == SAFE and any(rank[o] is not None for o in lands)

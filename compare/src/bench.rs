@@ -1,14 +1,17 @@
-//! Times the library beside the peer, by turns: the same bytes in, the same bytes out. For the contest the program `bench_plans` stands in
-//! the library's place.
+//! Times the library beside the peer, by turns: the same bytes in, the same bytes out. For the contest and the warning time the program
+//! `bench_plans` stands in the library's place.
 mod asked;
+mod beside;
 mod contest;
 mod run;
+mod warning;
 
 use crate::calls::Peer;
 use crate::case::CALLS;
 use contest::contested;
 use run::{verified, Verified, BATCH, BATCHES};
 use std::process::{Command, Stdio};
+use warning::warned;
 
 /// From how many states on a ratio is marked, and above what, call by call.
 const MARKED_FROM: usize = 256;
@@ -19,16 +22,24 @@ fn print_times(times: &[f64]) {
     println!("{}", words.join(" "));
 }
 
-/// One run: for each plan a line of times, and then for each plan of the contest.
+/// The times of a call that the program `bench_plans` is asked for.
+fn print_pairs(pairs: impl Iterator<Item = Result<[f64; 2], String>>) -> Result<(), String> {
+    for pair in pairs {
+        print_times(&pair?);
+    }
+    Ok(())
+}
+
+/// One run: for each plan a line of times, and then for each plan of the contest and of the warning time.
 pub fn times(bench_plans: &str) -> Result<(), String> {
     let mut peer = Peer::new();
     for mut plan in verified(&mut peer)? {
         print_times(&plan.times(&mut peer));
     }
-    for plan in contested(bench_plans)? {
-        print_times(&plan.times(bench_plans)?);
-    }
-    Ok(())
+    let contests = contested(bench_plans)?;
+    print_pairs(contests.iter().map(|plan| plan.times(bench_plans)))?;
+    let warnings = warned(bench_plans)?;
+    print_pairs(warnings.iter().map(|plan| plan.times(bench_plans)))
 }
 
 /// The times of a run of a program that has the same plans.
@@ -108,11 +119,18 @@ fn print(plans: &[Verified], times: &[f64], runs: usize) {
 pub fn bench(bench_plans: &str, programs: &[String]) -> Result<(), String> {
     let plans = verified(&mut Peer::new())?;
     let contests = contested(bench_plans)?;
+    let warnings = warned(bench_plans)?;
     let runs = programs.len();
     let of_calls = 2 * CALLS.len() * plans.len();
-    let least = least(programs, bench_plans, of_calls + 2 * contests.len())?;
-    print(&plans, &least[..of_calls], runs);
+    let of_contests = 2 * contests.len();
+    let of_warnings = 2 * warnings.len();
+    let least = least(programs, bench_plans, of_calls + of_contests + of_warnings)?;
+    let (call_times, others) = least.split_at(of_calls);
+    let (contest_times, warning_times) = others.split_at(of_contests);
+    print(&plans, call_times, runs);
     println!();
-    contest::print(&contests, &least[of_calls..], runs);
+    contest::print(&contests, contest_times, runs);
+    println!();
+    warning::print(&warnings, warning_times, runs);
     Ok(())
 }

@@ -1,22 +1,46 @@
 //! The program `bench_plans`, which is asked on standard input: `crates/bench_plans/src/main.rt` says how.
 use crate::generate::draft::Held;
 use crate::planner::plan::Size;
+use crate::planner::refusal::Refusal;
 use std::io::Write;
 use std::process::{Child, Command, Stdio};
 use std::time::{Duration, Instant};
 
 /// The contest, as a question names it.
 pub const CONTEST: usize = 2;
+/// The warning time.
+pub const WARNING: usize = 3;
 /// Names no call: the program reads such a question and goes on.
-pub const NO_CALL: usize = 9;
+const NO_CALL: usize = 9;
 
-/// A call and its two numbers, here the state and the moves.
+/// A call and its two numbers: the state, and the moves or the seconds a move.
 #[derive(Clone, Copy)]
-pub struct Question([usize; 3]);
+pub struct Question {
+    call: usize,
+    state: usize,
+    number: usize,
+}
 
 impl Question {
-    pub fn new(call: usize, state: usize, moves: usize) -> Question {
-        Question([call, state, moves])
+    pub fn new(call: usize, state: usize, number: usize) -> Question {
+        Question {
+            call,
+            state,
+            number,
+        }
+    }
+
+    /// As long as this question, and passed over.
+    pub fn of_no_call(self) -> Question {
+        Question::new(NO_CALL, self.state, self.number)
+    }
+
+    /// Eight bytes for each number, so that it can be one whose low bits alone would be another.
+    fn bytes(self) -> Vec<u8> {
+        let mut bytes = entries(&[self.call]);
+        let numbers = [self.state as u64, self.number as u64];
+        bytes.extend(numbers.map(u64::to_be_bytes).concat());
+        bytes
     }
 }
 
@@ -29,8 +53,8 @@ pub fn input(held: &Held, questions: &[Question]) -> Vec<u8> {
     numbers.push(questions.len());
     let mut input = entries(&numbers);
     input.extend(file);
-    for Question(numbers) in questions {
-        input.extend(entries(numbers));
+    for question in questions {
+        input.extend(question.bytes());
     }
     input
 }
@@ -39,6 +63,11 @@ pub fn input(held: &Held, questions: &[Question]) -> Vec<u8> {
 fn entries(numbers: &[usize]) -> Vec<u8> {
     let entries = numbers.iter().map(|&number| number as u16);
     entries.flat_map(u16::to_be_bytes).collect()
+}
+
+/// The line that the program prints of a refusal.
+pub fn refused(refusal: Refusal) -> String {
+    format!("refused {}\n", refusal.number())
 }
 
 fn spawn(program: &str, input: &[u8], output: Stdio) -> std::io::Result<Child> {
@@ -68,4 +97,13 @@ pub fn time(program: &str, input: &[u8]) -> Result<Duration, String> {
         Ok(_) => Err(format!("{program} has failed")),
         Err(error) => Err(format!("{program}: {error}")),
     }
+}
+
+#[test]
+fn a_question_has_wide_numbers() {
+    let question = Question::new(WARNING, (1 << 48) + 5, 3_600);
+    let numbers = [0, 1, 0, 0, 0, 0, 0, 5, 0, 0, 0, 0, 0, 0, 14, 16];
+    assert_eq!(question.bytes(), [&[0, 3], &numbers[..]].concat());
+    let passed_over = question.of_no_call().bytes();
+    assert_eq!(passed_over, [&[0, 9], &numbers[..]].concat());
 }

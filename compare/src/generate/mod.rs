@@ -11,3 +11,4 @@ pub mod rounds;
 pub mod shapes;
 pub mod sites;
 pub mod timed;
+pub mod warnings;

@@ -2,7 +2,7 @@
 use super::looks::Looks;
 use super::plan::{Plan, Size};
 use super::refusal::{need, Refusal};
-use super::sound::{size_sound, tables_sound};
+use super::sound::sound;
 
 /// The most moves.
 pub const MOVES: usize = 8;
@@ -68,8 +68,7 @@ pub fn contest<L: Looks>(
     space: &mut Space,
     looks: &mut L,
 ) -> Result<bool, Refusal> {
-    let sound = size_sound(plan.size) && tables_sound(plan);
-    need(sound, Refusal::Unsound)?;
+    need(sound(plan), Refusal::Unsound)?;
     need(state < plan.size.n, Refusal::Stranger)?;
     need(moves <= MOVES, Refusal::Moves)?;
     let turns = &mut space.turns[..(moves + 1) * plan.size.n];

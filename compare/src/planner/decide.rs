@@ -43,8 +43,9 @@ fn begin(plan: &Plan, queue: &mut Vec<u16>, table: &mut [u16], mark: u16, other:
     }
 }
 
-/// Ranks, lowest first: the queue is in the order of the layers.
-fn rank(plan: &Plan, space: &mut Space, ranks: &mut [u16]) {
+/// Ranks of a sound plan, lowest first: the queue is in the order of the layers. The index that they need is there for what comes after.
+pub fn rank(plan: &Plan, space: &mut Space, ranks: &mut [u16]) {
+    space.index.build(plan);
     begin(plan, &mut space.queue, ranks, 0, NONE);
     space.hit[..plan.size.m].fill(false);
     for s in 0..plan.size.n {
@@ -106,7 +107,6 @@ fn choose(hit: &[bool], practice: u16) -> u16 {
 
 /// Decides a sound plan.
 pub fn decide(plan: &Plan, verdicts: Verdicts, space: &mut Space) -> Tally {
-    space.index.build(plan);
     rank(plan, space, verdicts.ranks);
     judge_practice(plan, space, verdicts.marks);
     let mut tally = [[0; 3]; 2];

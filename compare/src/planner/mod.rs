@@ -14,4 +14,5 @@ pub mod search;
 pub mod sound;
 #[cfg(test)]
 mod tests;
+pub mod warning;
 pub mod write;

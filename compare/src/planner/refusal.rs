@@ -14,6 +14,7 @@ pub enum Refusal {
     Unsound = 10,
     Stranger = 11,
     Moves = 12,
+    Seconds = 13,
 }
 
 impl Refusal {

@@ -50,3 +50,8 @@ fn outcomes_sound(plan: &Plan) -> bool {
 pub fn tables_sound(plan: &Plan) -> bool {
     rows_sound(plan) && firsts_sound(plan) && outcomes_sound(plan)
 }
+
+/// Both, where the tables have the counts of the size record.
+pub fn sound(plan: &Plan) -> bool {
+    size_sound(plan.size) && tables_sound(plan)
+}

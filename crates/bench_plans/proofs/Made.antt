@@ -9,3 +9,4 @@ pub mod SameSameTables
 pub mod TryFile
 pub mod VerdictsAnswer
 pub mod VerdictsAskTables
+pub mod WarningsAskWarning

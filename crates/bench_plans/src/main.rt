@@ -3,9 +3,10 @@
 //
 // The input is numbers of two bytes, highest first, and files: how many cases there are, and then the cases. A case is the length of its
 // file; how many rows, first outcomes and outcomes are lent for it; how many questions there are; the file; and the questions. A
-// question is the call, a state, and a number: for 0, deciding, and 1, the search, how many places are lent of each table that the call
-// writes, for 2, the contest, how many moves. 3 is the contest with state and moves times 2^48. Other calls are passed over. On a file that
-// is refused the questions are asked of a plan without states. Past the end of the input every byte is 0.
+// question is the call, and then, of eight bytes each, a state and a number: for 0, deciding, and 1, the search, how many places are lent
+// of each table that the call writes, for 2, the contest, how many moves, for 3, the warning time, how many seconds a move takes. Other
+// calls are passed over. On a file that is refused the questions are asked of a plan without states. Past the end of the input every byte
+// is 0.
 ghost use Prim.Native.Nat.{_≤_};
 ghost use Rattle.model.specs.File.{maxStates, maxCommands, maxOutcomes};
 use crate::files::print_again;
@@ -27,6 +28,7 @@ mod print;
 mod questions;
 mod same;
 mod verdicts;
+mod warnings;
 
 fn try_file(
     file: &[u8],

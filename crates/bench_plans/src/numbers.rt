@@ -1,4 +1,4 @@
-// The numbers of the input, the lesser of two, and large ones.
+// The numbers of the input, narrow and wide, and the lesser of two.
 ghost use mathlib.Core.Path.{_≡_};
 ghost use mathlib.Core.Bool.{cond};
 ghost use Prim.Native.Nat.{_+_, _*_, _<_, _≤_};
@@ -19,6 +19,22 @@ pub fn next() -> usize
     joined(bytes[0], bytes[1])
 }
 
+fn wide(a: usize, b: usize, c: usize, d: usize) -> usize
+    requires { ⌜ (a < 65536) × (b < 65536) × (c < 65536) × (d < 65536) ⌝ }
+    ensures { λ r. ⌜ r ≡ ((a * 65536 + b) * 65536 + c) * 65536 + d ⌝ }
+{
+    ((a * 65536 + b) * 65536 + c) * 65536 + d
+}
+
+// The next wide number of the input: eight bytes, highest first.
+pub fn next_wide() -> usize {
+    let a = next();
+    let b = next();
+    let c = next();
+    let d = next();
+    wide(a, b, c, d)
+}
+
 pub fn least(a: usize, b: usize) -> usize
     ensures { λ r. ⌜ r ≡ cond (ltb a b) a b ⌝ }
     ensures { λ r. ⌜ r ≤ b ⌝ }
@@ -27,15 +43,4 @@ pub fn least(a: usize, b: usize) -> usize
         return a;
     }
     b
-}
-
-// 2^48.
-const FAR: usize = 281474976710656;
-
-// A number whose bits stand far above those of an entry.
-pub fn far(x: usize) -> usize
-    requires { ⌜ x < 256 * 256 ⌝ }
-    ensures { λ r. ⌜ r ≡ x * 281474976710656 ⌝ }
-{
-    x * FAR
 }

@@ -1,17 +1,17 @@
 // The questions on a plan, one after another.
-ghost use Prim.Native.Nat.{_*_, _<_};
 use crate::contests::ask_contest;
-use crate::numbers::far;
 use crate::numbers::least;
 use crate::numbers::next;
+use crate::numbers::next_wide;
 use crate::verdicts::ask_tables;
+use crate::warnings::ask_warning;
 use tables::Row;
 use tables::Size;
 
-// The contest, as a question names it, and the contest with numbers that are multiples of 2^48.
+// The contest and the warning time, as a question names them.
 const CONTEST: usize = 2;
 
-const FAR_CONTEST: usize = 3;
+const WARNING: usize = 3;
 
 pub fn ask(
     size: Size,
@@ -21,15 +21,13 @@ pub fn ask(
     call: usize,
     state: usize,
     number: usize,
-)
-    requires { ⌜ (state < 256 * 256) × (number < 256 * 256) ⌝ }
-{
+) {
     if call == CONTEST {
         ask_contest(size, rows, firsts, outcomes, state, number);
         return;
     }
-    if call == FAR_CONTEST {
-        ask_contest(size, rows, firsts, outcomes, far(state), far(number));
+    if call == WARNING {
+        ask_warning(size, rows, firsts, outcomes, state, number);
         return;
     }
     if call < CONTEST {
@@ -50,8 +48,8 @@ pub fn ask_all(size: Size, rows: &[Row], firsts: &[u16], outcomes: &[u16], quest
     let mut left = questions;
     while left > 0 {
         let call = next();
-        let state = next();
-        let number = next();
+        let state = next_wide();
+        let number = next_wide();
         ask(size, rows, firsts, outcomes, call, state, number);
         left -= 1;
     }

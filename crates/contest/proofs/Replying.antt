@@ -1,14 +1,15 @@
 -- The tests of the call in their order, and what it answers, for every input.
-use mathlib.Core.Path.{_≡_, refl, sym, _∙_}
+use mathlib.Core.Path.{_≡_, sym, _∙_}
 use mathlib.Core.Bool.{Bool, true, false, not}
 use Prim.Native.Nat.{ℕ, _<_, _≤_}
-use borrow.Author.Tests.{not-true, not-false}
+use borrow.Author.Tests.{le-leb, lt-leb}
 use Rattle.model.specs.Refusal.{Unsound, Stranger, Moves, given, refused}
 use Rattle.model.specs.Tables.{Tables}
 use Rattle.model.specs.SoundTest.{sound}
 use Rattle.model.specs.Held.{planIn}
 use Rattle.model.specs.Contest.{keeperTurn, maxMoves, contestCall, Contested}
-use Rattle.model.proofs.ContestCalls.{ContestAnswers, contest-iff, contest-unsound, contest-stranger, contest-moves, contested}
+use Rattle.model.proofs.StateCalls as calls
+use Rattle.model.proofs.ContestCalls.{contest-tests, ContestAnswers, contest-iff, contested}
 use Rattle.tables.specs.declared.Refusal.{Refusal}
 use Rattle.tables.specs.declared.admission.Admission.{Admission}
 use Rattle.tables.specs.declared.admission.Admission.the-variants.{Granted, Denied}
@@ -19,27 +20,24 @@ use Rattle.contest.specs.Answers.{answerOf}
 
 module _ (T : Tables) (s k : ℕ) {t : Bool} {n : ℕ} where
   pub denies-unsound : not t ≡ true → t ≡ sound T → n ≡ T .size .n → contestCall T s k ≡ refused Unsound
-  denies-unsound h e q = contest-unsound T s k (sym e ∙ not-true t h)
+  denies-unsound h e q = contest-tests T s k ∙ calls.denies-unsound T s Moves _ _ h e q
 
   module _ (h : not t ≡ false) where
     pub denies-stranger : n ≤ s → t ≡ sound T → n ≡ T .size .n → contestCall T s k ≡ refused Stranger
-    denies-stranger l e q = contest-stranger T s k (sym e ∙ not-false t h) (rw (← q) l)
+    denies-stranger l e q = contest-tests T s k ∙ calls.denies-stranger T s Moves _ _ h l e q
 
     pub denies-moves : s < n → maxMoves < k → t ≡ sound T → n ≡ T .size .n → contestCall T s k ≡ refused Moves
-    denies-moves l m e q = contest-moves T s k (sym e ∙ not-false t h) (rw (← q) l) m
+    denies-moves l m e q = contest-tests T s k ∙ calls.denies-own T s Moves _ _ h l (lt-leb k maxMoves m) e q
 
     pub grants : s < n → k ≤ maxMoves → t ≡ sound T → n ≡ T .size .n → contestCall T s k ≡ given (keeperTurn (planIn T) k s)
-    grants l m e q =
-        contest-iff T s k (keeperTurn (planIn T) k s) .1
-        (record { sounds = sym e ∙ not-false t h; inside = rw (← q) l; few = m; is = refl })
+    grants l m e q = contest-tests T s k ∙ calls.grants T s Moves _ _ h l (le-leb k maxMoves m) e q
 
 module _ (T : Tables) (s k : ℕ) (g : Admission) (answers : contestCall T s k ≡ admitted g (keeperTurn (planIn T) k s)) where
-  -- the contract, clause by clause: what is meant follows of the equation
   abbrev pub Replied : ContestAnswer → Type 0
-  Replied r = (answerOf r ≡ contestCall T s k) × ((answer : Bool) → answerOf r ≡ given answer → Contested T s k answer)
+  Replied = calls.Replied answerOf (contestCall T s k) (Contested T s k)
 
   replied : (r : ContestAnswer) → answerOf r ≡ contestCall T s k → Replied r
-  replied r e = (e, λ answer q. contested T s k answer (sym e ∙ q))
+  replied = calls.replied answerOf (contestCall T s k) (Contested T s k) (contested T s k)
 
   pub refuses : (w : Refusal) → g ≡ Denied w → Replied (Refused w)
   refuses w q = replied (Refused w) (sym (answers ∙ rw q))

@@ -13,11 +13,11 @@ unfolding entry found
 entry-found none h = refl
 entry-found (some i) h = le-leb i 65534 (h i refl)
 
-from-number : (i : ℕ) → i < FFFF → fromEntry i ≡ some i
+pub from-number : (i : ℕ) → (i ≡ FFFF → ⊥) → fromEntry i ≡ some i
 unfolding fromEntry
-from-number i l = rw (ne-eqb i FFFF (λ q. omega arith))
+from-number i h = rw (ne-eqb i FFFF h)
 
 pub from-entry : (o : Option ℕ) → ((i : ℕ) → o ≡ some i → i < FFFF) → fromEntry (entry o) ≡ o
 unfolding entry fromEntry
 from-entry none h = refl
-from-entry (some i) h = from-number i (h i refl)
+from-entry (some i) h = from-number i (λ q. omega (arith, h i refl))

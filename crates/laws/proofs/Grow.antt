@@ -1,14 +1,14 @@
 -- Sets that grow by a step: `grow F K k` is K and, k times over, what F adds to the set so far.
 -- If F is monotone on the numbers below n, the set is closed under F after n times.
 use mathlib.Core.Path.{_≡_, subst}
-use mathlib.Core.Bool.{Bool, true}
+use mathlib.Core.Bool.{Bool, true, false}
 use mathlib.Core.Logic.{_⊎_, ⊎-elim}
-use Prim.Native.Nat.{ℕ, zero, suc, _+_, _-_, _≤_}
+use Prim.Native.Nat.{ℕ, zero, suc, _+_, _-_, _<_, _≤_}
 use native.Mathlib.Nat.{add-zero, add-suc}
 use native.Mathlib.Omega.{arith}
-use Rattle.laws.specs.Sets.{grow}
-use Rattle.laws.proofs.Tests.{or-cases, or-left, or-right}
-use Rattle.laws.proofs.Sets.{Part, settles-by}
+use Rattle.laws.specs.Sets.{howMany, grow}
+use Rattle.laws.proofs.Tests.{clash, or-cases, or-left, or-right}
+use Rattle.laws.proofs.Sets.{Part, many-bound, settles, settles-by}
 
 -- a larger set gives no smaller one
 abbrev pub Monotone : ℕ → ((ℕ → Bool) → ℕ → Bool) → Type 0
@@ -73,3 +73,11 @@ module _ (F : (ℕ → Bool) → ℕ → Bool) (K : ℕ → Bool) where
 
     pub closed : Part n (F (grow F K n)) (grow F K n)
     closed s l e = settled (suc n) s l (grow-add n s e)
+
+    -- what is new at step r is preceded by K and by r steps that each add a number
+    pub steps-bound : (r s : ℕ) → s < n → grow F K r s ≡ true → ((k : ℕ) → k < r → grow F K k s ≡ false) → howMany K n + r ≤ n
+    unfolding grow
+    steps-bound r s l e new =
+        ⊎-elim (λ (j, before, still). clash (still-all j still r s l e) (new j before))
+        (λ c. omega (arith, c, many-bound (grow F K r) n))
+        (settles n (grow F K) (λ k t m. grow-more k t) r)

@@ -250,8 +250,8 @@ module _ (n : ℕ) (K : ℕ → ℕ → Bool) (grows : (k : ℕ) → Part n (K k
           let b = and-both (K (suc k) i) (not (K k i)) (f .1) in
           inr (many-lt (K k) (K (suc k)) n (grows k) i (f .0) (not-true (K k i) (b .1)) (b .0))
 
-  -- some step before k adds nothing, or there are k members by then
-  pub settles : (k : ℕ) → ((j : ℕ) × (j < k) × Part n (K (suc j)) (K j)) ⊎ (k ≤ howMany (K k) n)
+  -- some step before k adds nothing, or there are k members more by then
+  pub settles : (k : ℕ) → ((j : ℕ) × (j < k) × Part n (K (suc j)) (K j)) ⊎ (howMany (K 0) n + k ≤ howMany (K k) n)
   settles zero = inr (omega arith)
   settles (suc k) =
       ⊎-elim
@@ -262,5 +262,5 @@ module _ (n : ℕ) (K : ℕ → ℕ → Bool) (grows : (k : ℕ) → Part n (K k
   pub settles-by : (j : ℕ) × (j ≤ n) × Part n (K (suc j)) (K j)
   settles-by = ⊎-elim (λ t. (t .0, omega (arith, t .1), t .2)) (λ c. absurd (go c (many-bound (K (suc n)) n))) (settles (suc n))
     where
-      go : suc n ≤ howMany (K (suc n)) n → howMany (K (suc n)) n ≤ n → ⊥
+      go : howMany (K 0) n + suc n ≤ howMany (K (suc n)) n → howMany (K (suc n)) n ≤ n → ⊥
       go a b = omega arith

@@ -1,4 +1,4 @@
--- When each call answers: with a file or plan that is right and tables that are long enough, and only then.
+-- When reading, writing, deciding and the search answer: with a file or plan that is right and tables that are long enough, and only then.
 use mathlib.Core.Path.{_≡_, ap}
 use mathlib.Core.Bool.{Bool, true, _&&_}
 use mathlib.Core.Logic.{_↔_}
@@ -8,7 +8,7 @@ use lib.Dec.{leb}
 use Rattle.laws.proofs.TestFacts.{and-iff, leb-iff}
 use Rattle.model.specs.Plan.{Plan}
 use Rattle.model.specs.Search.{Result, search}
-use Rattle.model.specs.Refusal.{given, _>>=_}
+use Rattle.model.specs.Refusal.{Cramped, given, _>>=_}
 use Rattle.model.specs.File.{Tree, read}
 use Rattle.model.specs.Bytes.{bytesOf}
 use Rattle.model.specs.Tables.{Tables, tablesOf, fileLength}
@@ -16,6 +16,7 @@ use Rattle.model.specs.SoundTest.{sound}
 use Rattle.model.specs.Held.{treeOf, planIn}
 use Rattle.model.specs.Calls.{reading, writing, deciding, searching}
 use Rattle.model.proofs.Answers.{given-inj, need-iff, bind-inv}
+use Rattle.model.proofs.StateCalls.{roomTest, state-given, searching-tests}
 
 pub record ReadAnswers (rows firsts outcomes : ℕ) (file : List ℕ) (T : Tables) : Type 0 where
   pub tree : Tree
@@ -105,20 +106,12 @@ pub record SearchAnswers (T : Tables) (start commands scratch : ℕ) (R : Result
 
 pub searching-iff : (T : Tables) (start commands scratch : ℕ) (R : Result)
     → (searching T start commands scratch ≡ given R) ↔ SearchAnswers T start commands scratch R
-unfolding searching
-searching-iff T start commands scratch R = (
+searching-iff T start commands scratch R = rw (searching-tests T start commands scratch) (
   λ e.
-      let (s, f) = need-iff _ _ _ _ .0 e in
-      let (b, g) = need-iff _ _ _ _ .0 f in
-      let (l, q) = need-iff _ _ _ _ .0 g in
+      let (s, b, l, q) = state-given T start Cramped (roomTest T commands scratch) (search (planIn T) start) R .0 e in
       let h = simp (and-iff, leb-iff) at l in
-      record { sounds = s; inside = leb-iff _ _ .0 b; long-commands = h .0; long-scratch = h .1; is = given-inj q },
+      record { sounds = s; inside = b; long-commands = h .0; long-scratch = h .1; is = q },
   λ h.
-      need-iff _ _ _ _ .1 (
-        h .sounds,
-        need-iff _ _ _ _ .1 (
-          leb-iff _ _ .1 (h .inside),
-          need-iff _ _ _ _ .1 (simp (and-iff, leb-iff) (h .long-commands, h .long-scratch), ap given (h .is)),
-        ),
-      ),
+      state-given T start Cramped (roomTest T commands scratch) (search (planIn T) start) R .1
+      (h .sounds, h .inside, simp (and-iff, leb-iff) (h .long-commands, h .long-scratch), h .is),
 )

@@ -1,17 +1,19 @@
 -- Every claim of specs/Claims.antt, proved.
 use mathlib.Core.Path.{_≡_, refl, ap, subst}
-use mathlib.Core.Bool.{true, false}
+use mathlib.Core.Bool.{Bool, true, false}
 use mathlib.Core.List.{List}
-use mathlib.Core.Logic.{inl, inr, ⊎-elim}
+use mathlib.Core.Logic.{_⊎_, inl, inr, ⊎-elim, _↔_}
 use mathlib.Core.Option.{some}
 use Prim.Native.Nat.{ℕ, _<_, _≤_}
 use native.Mathlib.Omega.{arith}
+use lib.Dec.{leb}
 use lib.ListN.{length}
 use Rattle.laws.specs.Sets.{lowest}
 use Rattle.laws.proofs.Tests.{clash, refute}
 use Rattle.model.specs.Plan.{Valid}
-use Rattle.model.specs.Search.{ends, before}
-use Rattle.model.specs.Refusal.{given, answer}
+use Rattle.model.specs.Verdict.{rank}
+use Rattle.model.specs.Search.{ends, before, search}
+use Rattle.model.specs.Refusal.{Refusal, Cramped, Unsound, Stranger, Moves, Seconds, given, refused, answer}
 use Rattle.model.specs.File.{maxStates}
 use Rattle.model.specs.Bytes.{bytesOf}
 use Rattle.model.specs.Tables.{Size, Tables, fileLength}
@@ -19,7 +21,9 @@ use Rattle.model.specs.Sound.{Sound}
 use Rattle.model.specs.SoundTest.{sound}
 use Rattle.model.specs.Held.{treeOf, planOf, planIn}
 use Rattle.model.specs.Calls.{writeCall}
-use Rattle.model.specs.Claims.{Short, Conditions, Meanings, Rules, Failings, Contests}
+use Rattle.model.specs.Contest.{keeperTurn, maxMoves}
+use Rattle.model.specs.Warning.{warning, lengthAllowed}
+use Rattle.model.specs.Claims.{Short, Conditions, Meanings, Rules, Failings, Contests, Warnings}
 use Rattle.model.proofs.StateKinds.{bound-counts}
 use Rattle.model.proofs.HeldPlan.{states-held}
 use Rattle.model.proofs.SoundFacts.{sound-facts}
@@ -27,8 +31,17 @@ use Rattle.model.proofs.Soundness.{sound-iff}
 use Rattle.model.proofs.Valid.{file-valid, sound-valid}
 use Rattle.model.proofs.Answering.{reading-iff, writing-iff, deciding-iff, searching-iff}
 use Rattle.model.proofs.Refusing
-use Rattle.model.proofs.OnlyRefused.{reading-only, writing-only, deciding-only, searching-only}
-use Rattle.model.proofs.Layers.{lost-iff-layer, rank-some, layer-rank}
+use Rattle.model.proofs.StateCalls.{
+  stateCall,
+  state-only,
+  state-unsound,
+  state-stranger,
+  state-own,
+  roomTest,
+  searching-tests,
+}
+use Rattle.model.proofs.OnlyRefused.{reading-only, writing-only, deciding-only, two-short}
+use Rattle.model.proofs.Layers.{lost-iff-layer, rank-some, layer-rank, rank-below}
 use Rattle.model.proofs.ValueEquation.{least-solution}
 use Rattle.model.proofs.Choices.{choice-words}
 use Rattle.model.proofs.PracticeRuns.{practice-judged}
@@ -41,13 +54,15 @@ use Rattle.model.proofs.FileLength.{length-bytes}
 use Rattle.model.proofs.Bench.{bench-plans, case-A-listing}
 use Rattle.model.proofs.ListingLength.{listing-length}
 use Rattle.model.proofs.Delivered.{decide-demand3, search-demand3}
-use Rattle.model.proofs.ContestCalls.{contest-iff, contest-unsound, contest-stranger, contest-moves, contest-only, contested}
+use Rattle.model.proofs.ContestCalls.{contest-tests, contest-iff, moves-refused, contested}
+use Rattle.model.proofs.WarningCalls.{length-refused, warning-tests, warning-iff, warned}
 use Rattle.model.proofs.GateDemands.{gate-decide-demand3, gate-search-demand3}
 use Rattle.model.proofs.Stuck.{rank-zero, rest-safe, stuck-state, stuck-line}
 use Rattle.model.proofs.StuckCalls.{
   stuck-decided,
   stuck-searched,
   stuck-contested,
+  stuck-warned,
   gate-stuck-decided,
   gate-stuck-searched,
 }
@@ -78,6 +93,20 @@ long-enough z rows firsts outcomes h = (not-less (λ l. h (inl l)), not-less (λ
 
 not-short : (z : Size) (rows firsts outcomes : ℕ) → z .n ≤ rows → z .m ≤ firsts → z .t ≤ outcomes → Short z rows firsts outcomes → ⊥
 not-short z rows firsts outcomes a b c = ⊎-elim (λ l. omega arith) (⊎-elim (λ l. omega arith) (λ l. omega arith))
+
+-- when a call that is told a state refuses, given when its own test does not hold
+state-refused : {A : Type 0} (T : Tables) (s : ℕ) (own : Refusal) (test : Bool) (a : A) {Out : Type 0} → (test ≡ false) ↔ Out
+    → (r : Refusal) → (stateCall T s own test a ≡ refused r)
+    ↔ (((Sound T → ⊥) × (r ≡ Unsound)) ⊎ ((Sound T × (T .size .n ≤ s) × (r ≡ Stranger)) ⊎ (Sound T × (s < T .size .n) × Out × (r ≡ own))))
+state-refused T s own test a out r = (
+  λ e.
+      ⊎-elim (λ (u, is). inl (unsound T u, is))
+      (⊎-elim (λ (q, h, is). inr (inl (sounds T q, h, is))) (λ (q, i, f, is). inr (inr (sounds T q, i, out .0 f, is))))
+      (state-only T s own test a r e),
+  ⊎-elim (λ (u, is). rw is (state-unsound T s own test a (stops T u)))
+      (⊎-elim (λ (S, h, is). rw is (state-stranger T s own test a (passes T S) h))
+      (λ (S, i, f, is). rw is (state-own T s own test a (passes T S) i (out .1 f)))),
+)
 
 pub conditions : Conditions
 conditions = record {
@@ -132,28 +161,24 @@ conditions = record {
         searching-iff T start commands scratch R .1
         (record { sounds = passes T S; inside = i; long-commands = a; long-scratch = b; is = is }),
   );
-  searching-refused = λ T start commands scratch r. (
-    λ e.
-        ⊎-elim (λ (u, is). inl (unsound T u, is))
-        (⊎-elim (λ (s, h, is). inr (inl (sounds T s, h, is))) (λ (s, i, short, is). inr (inr (sounds T s, i, short, is))))
-        (searching-only T start commands scratch r e),
-    ⊎-elim (λ (u, is). rw is (Refusing.searching-unsound T (stops T u) start commands scratch))
-        (⊎-elim (λ (S, h, is). rw is (Refusing.searching-stranger T (passes T S) start commands scratch h))
-        (λ (S, i, short, is). rw is (Refusing.searching-cramped T (passes T S) start commands scratch i short))),
-  );
+  searching-refused = λ T start commands scratch r.
+      rw (searching-tests T start commands scratch)
+      (state-refused T start Cramped (roomTest T commands scratch) (search (planIn T) start)
+      (two-short (T .size .n) commands (T .size .n) scratch, Refusing.some-short (T .size .n) commands scratch) r);
   contest-given = λ T s k held. (
     λ e. let w = contest-iff T s k held .0 e in (sounds T (w .sounds), w .inside, w .few, w .is),
     λ (S, i, few, is). contest-iff T s k held .1 (record { sounds = passes T S; inside = i; few = few; is = is }),
   );
-  contest-refused = λ T s k r. (
-    λ e.
-        ⊎-elim (λ (u, is). inl (unsound T u, is))
-        (⊎-elim (λ (q, h, is). inr (inl (sounds T q, h, is))) (λ (q, i, many, is). inr (inr (sounds T q, i, many, is))))
-        (contest-only T s k r e),
-    ⊎-elim (λ (u, is). rw is (contest-unsound T s k (stops T u)))
-        (⊎-elim (λ (S, h, is). rw is (contest-stranger T s k (passes T S) h))
-        (λ (S, i, many, is). rw is (contest-moves T s k (passes T S) i many))),
+  contest-refused = λ T s k r.
+      rw (contest-tests T s k) (state-refused T s Moves (leb k maxMoves) (keeperTurn (planIn T) k s) (moves-refused k) r);
+  warning-given = λ T s d w. (
+    λ e. let a = warning-iff T s d w .0 e in (sounds T (a .sounds), a .inside, a .some-length, a .few-seconds, a .is),
+    λ (S, i, some-length, few-seconds, is).
+        warning-iff T s d w .1
+        (record { sounds = passes T S; inside = i; some-length = some-length; few-seconds = few-seconds; is = is }),
   );
+  warning-refused = λ T s d r.
+      rw (warning-tests T s d) (state-refused T s Seconds (lengthAllowed d) (warning (rank (planIn T) s) d) (length-refused d) r);
 }
 
 -- ---- demand 2
@@ -187,6 +212,7 @@ meanings = record {
         let same : q ≡ r = omega (arith, le, first) in
         rw (← same) e,
   );
+  rank-below = λ T S s l r e. omega (arith, rank-below (planIn T) (valid T S) s r (in-plan T S s l) e, states-held T);
   least-solution = λ T S. least-solution (planIn T) (valid T S);
   choice-words = choice-words;
   practice-judged = λ T S s l. practice-judged (planIn T) (valid T S) s (in-plan T S s l);
@@ -235,6 +261,7 @@ failings = record {
   stuck-decided = stuck-decided;
   stuck-searched = stuck-searched;
   stuck-contested = stuck-contested;
+  stuck-warned = stuck-warned;
   gate-stuck-decided = gate-stuck-decided;
   gate-stuck-searched = gate-stuck-searched;
 }
@@ -243,3 +270,8 @@ failings = record {
 
 pub contests : Contests
 contests = record { contested = contested }
+
+-- ---- the warning time
+
+pub warnings : Warnings
+warnings = record { warned = warned }

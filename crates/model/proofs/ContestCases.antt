@@ -2,20 +2,18 @@
 use mathlib.Core.Path.{_≡_, refl}
 use mathlib.Core.Bool.{true, false}
 use mathlib.Core.List.{[], _∷_}
-use Prim.Native.Nat.{ℕ}
 use Rattle.laws.specs.Sets.{each, every, exists}
 use Rattle.laws.specs.Lists.{tabulate}
-use Rattle.laws.specs.Entry.{FFFF}
 use Rattle.laws.specs.Starts.{startOf}
 use Rattle.model.specs.Plan.{ordinary, failing, resting}
 use Rattle.model.specs.Refusal.{Unsound, Stranger, Moves, given, refused, answer, _>>=_, need, _>>_}
 use Rattle.model.specs.File.{field, head, state, entries, rising, command, commands, states, read}
-use Rattle.model.specs.Tables.{Tables}
 use Rattle.model.specs.Places.{rowAt, firstCommand, commandCount}
 use Rattle.model.specs.SoundTest.{sizeSound, tablesLong, rowSound, listsSound, sound}
 use Rattle.model.specs.Held.{stateAt, treeOf, stateOf, planOf, planIn}
 use Rattle.model.specs.Contest.{worksTurn, keeperTurn, contestCall}
 use Rattle.model.specs.Bench.{caseA, chain, noCommands}
+use Rattle.model.proofs.CasePlans.{resting-at}
 
 -- Case A: 3 is lost with rank 1, 4 is failing and 5 lost with rank 2; the others are safe.
 case-A-turns : answer (λ p. tabulate (λ k. tabulate (keeperTurn (planOf p) k) 0 6) 0 4) (read caseA)
@@ -42,15 +40,6 @@ stuck-turns : answer (λ p. tabulate (λ k. keeperTurn (planOf p) k 0) 0 3) (rea
 unfolding each exists tabulate ordinary failing resting worksTurn keeperTurn answer _>>=_ need _>>_ field head state entries rising
     command commands states read stateOf planOf
 stuck-turns = refl
-
--- one state, which is at rest; the start is said to be s
-abbrev resting-at : ℕ → Tables
-resting-at s = record {
-  size = record { n = 1; m = 0; t = 0; start = s };
-  rows = record { kind = 2; first = 0; practice = FFFF } ∷ [];
-  firsts = [];
-  outcomes = [];
-}
 
 -- 8 moves are answered and 9 are not; a state that there is not comes before, and a plan that is not sound before both
 eight : contestCall (resting-at 0) 0 8 ≡ given true

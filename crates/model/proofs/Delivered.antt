@@ -66,19 +66,25 @@ module _ (T : Tables) (sounds : sound T ≡ true) where
       let D = deciding-iff T (length ranks) (length commands) (length marks) (length scratch) P .0 decided in
       rw (decided, ← (D .is)) (of-tables ranks commands a inside table)
 
+-- a rank's entry is read as the rank
+pub rank-of-entry : (T : Tables) → sound T ≡ true → (s : ℕ) → fromEntry (entry (rank (planIn T) s)) ≡ rank (planIn T) s
+unfolding planIn
+rank-of-entry T sounds =
+    let g = sound-good T sounds in
+    rank-entry (planIn T) (sound-valid T sounds) (omega (arith, few-states (treeOf T) g))
+    (λ t h. omega (arith, few-commands (treeOf T) g t h))
+
 -- the ranks that deciding leaves are read as what they are
 pub ranks-read : (T : Tables) (ranks commands marks scratch : List ℕ) (counts : List (List ℕ))
     → decideCall T ranks commands marks scratch .answers ≡ given counts
     → (s : ℕ) → s < T .size .n → readEntry (decideCall T ranks commands marks scratch .ranks) s ≡ rank (planIn T) s
-unfolding left rankTable readEntry planIn
+unfolding left rankTable readEntry
 ranks-read T ranks commands marks scratch counts e s inside =
     let (P, decided, _) = answer-inv tally _ counts e in
     let D = deciding-iff T (length ranks) (length commands) (length marks) (length scratch) P .0 decided in
-    let g = sound-good T (D .sounds) in
     rw (decided, ← (D .is))
     (ap fromEntry (entry-written (λ t. entry (rank (planIn T) t)) (planIn T .states) ranks s FFFF (rw (states-held T) inside))
-    ∙ rank-entry (planIn T) (sound-valid T (D .sounds)) (omega (arith, few-states (treeOf T) g))
-    (λ t h. omega (arith, few-commands (treeOf T) g t h)) s)
+    ∙ rank-of-entry T (D .sounds) s)
 
 -- of deciding's call, where it answers
 pub decide-demand3 : (T : Tables) (ranks commands marks scratch : List ℕ) (counts : List (List ℕ))

@@ -7,12 +7,12 @@ use Prim.Native.Nat.{ℕ, zero, suc, _<_, _≤_}
 use native.Mathlib.Omega.{arith}
 use Rattle.laws.specs.Sets.{found, grow}
 use Rattle.laws.proofs.Tests.{clash, true-or-false, refute}
-use Rattle.laws.proofs.Sets.{lowest-some, lowest-none, not-before, is-some, found-is, found-none}
-use Rattle.laws.proofs.Grow.{Monotone, grow-step, grow-add, grow-first, grow-upto, some-still, settled, closed}
+use Rattle.laws.proofs.Sets.{lowest-some, lowest-none, not-before, is-some, found-is, found-none, many-lt}
+use Rattle.laws.proofs.Grow.{Monotone, grow-step, grow-add, grow-first, grow-upto, some-still, settled, closed, steps-bound}
 use Rattle.model.specs.Plan.{Plan, failing, active, Valid}
 use Rattle.model.specs.Verdict.{forced, layer, rank, lost, safe}
 use Rattle.model.specs.Command.{choice, chosen}
-use Rattle.model.proofs.StateKinds.{active-stands}
+use Rattle.model.proofs.StateKinds.{active-is, active-stands}
 use Rattle.model.proofs.Choices.{hits-is, hits-of, forced-is, forced-of, choice-some, choice-none}
 
 module _ (P : Plan) where
@@ -82,6 +82,28 @@ module _ (P : Plan) where
     layer-rank k s l e =
         let (r, q) = lost-rank s (layer-lost k s l e) in
         (r, not-before (λ i. layer P i s) r k (rank-some s r q .1) e, q)
+
+    -- where a layer holds a state, the plan has a failing one
+    some-failing : (k s : ℕ) → s < P .states → layer P k s ≡ true → (x : ℕ) × (x < P .states) × (failing P x ≡ true)
+    unfolding grow
+    some-failing zero s l e = (s, l, e)
+    some-failing (suc k) s l e = ⊎-elim (some-failing k s l) (λ f.
+        let (act, hit) = forced-is P (layer P k) s f in
+        let own = active-is P s act .1 in
+        let (x, out, held) = hits-is P (layer P k) s 0 (hit 0 own) in
+        some-failing k x (S .inside s 0 x l own out) held)
+        (layer-step k s e)
+
+    -- layer 0 holds a state and every further one up to the rank adds one, so the rank is below n
+    pub rank-below : (s r : ℕ) → s < P .states → rank P s ≡ some r → r < P .states
+    rank-below s r l e =
+        let (in-r, new) = rank-some s r e in
+        let (x, m, f) = some-failing r s l in-r in
+        omega (
+          arith,
+          steps-bound (forced P) (failing P) (P .states) forced-more r s l in-r new,
+          many-lt (λ _. false) (failing P) (P .states) (λ i k t. clash t refl) x m refl f,
+        )
 
     -- ---- lost is what failing and forced make of it
 

@@ -41,9 +41,10 @@ pub mod Fine
 pub mod GoodTables
 pub mod Soundness
 pub mod Valid
+pub mod OnlyRefused
+pub mod StateCalls
 pub mod Answering
 pub mod Refusing
-pub mod OnlyRefused
 pub mod RoundTrips
 pub mod ReadPlans
 pub mod Delivered
@@ -70,5 +71,8 @@ pub mod Contests
 pub mod ContestCalls
 pub mod ContestCases
 pub mod Stuck
+pub mod Warnings
+pub mod WarningCalls
+pub mod WarningCases
 pub mod StuckCalls
 pub mod Claimed

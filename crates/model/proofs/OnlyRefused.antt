@@ -1,21 +1,22 @@
--- A refusal comes only under its condition: of a call that refuses, the word it refuses with and what holds then. With Refusing.antt,
--- which has the other direction, each condition is exact, that of refusal 9 too (rule E19).
+-- A refusal of reading, writing or deciding comes only under its condition: the word that the call refuses with and what holds then. With
+-- Refusing.antt, which has the other direction, each condition is exact, that of refusal 9 too (rule E19). The calls that are told a state:
+-- StateCalls.antt.
 use mathlib.Core.Path.{_≡_, refl, sym, ap}
 use mathlib.Core.Bool.{Bool, true, false, _&&_}
 use mathlib.Core.List.{List}
 use mathlib.Core.Logic.{_⊎_, inl, inr, ⊎-elim}
-use Prim.Native.Nat.{ℕ, _<_, _≤_}
+use Prim.Native.Nat.{ℕ, _<_}
 use lib.Dec.{leb}
-use borrow.Author.Tests.{leb-false, ltb-false, ltb-true}
-use Rattle.model.specs.Refusal.{Refusal, Cramped, Unsound, Stranger, Answer, given, refused, need, _>>=_, _>>_}
+use borrow.Author.Tests.{leb-false}
+use Rattle.model.specs.Refusal.{Refusal, Cramped, Unsound, Answer, given, refused, need, _>>=_, _>>_}
 use Rattle.model.specs.File.{Tree, read}
 use Rattle.model.specs.Tables.{Tables, tablesOf, fileLength}
 use Rattle.model.specs.SoundTest.{sound}
-use Rattle.model.specs.Calls.{reading, writing, deciding, searching}
+use Rattle.model.specs.Calls.{reading, writing, deciding}
 use Rattle.model.proofs.Answers.{not-both, refused-inj}
 
 -- one of two tests that do not both hold
-either : (a b : Bool) → (a && b) ≡ false → (a ≡ false) ⊎ (b ≡ false)
+pub either : (a b : Bool) → (a && b) ≡ false → (a ≡ false) ⊎ (b ≡ false)
 either false b e = inl refl
 either true b e = inr e
 
@@ -31,7 +32,7 @@ pub last-refused : {A : Type 0} (q r : Refusal) (t : Bool) (a : A) → (need q t
 last-refused q r t a e = ⊎-elim (λ h. h) (λ h. absurd (not-both (sym (h .1)))) (need-refused q r t (given a) e)
 
 -- which of the tables is shorter than its count
-two-short : (n a m b : ℕ) → (leb n a && leb m b) ≡ false → (a < n) ⊎ (b < m)
+pub two-short : (n a m b : ℕ) → (leb n a && leb m b) ≡ false → (a < n) ⊎ (b < m)
 two-short n a m b e = ⊎-elim (λ h. inl (leb-false n a h)) (λ h. inr (leb-false m b h)) (either (leb n a) (leb m b) e)
 
 three-short : (n a m b t c : ℕ) → (leb n a && leb m b && leb t c) ≡ false → (a < n) ⊎ ((b < m) ⊎ (c < t))
@@ -79,15 +80,3 @@ module _ (T : Tables) where
   deciding-only ranks commands marks scratch r e =
       ⊎-elim inl (λ h. let (t, w) = last-refused Cramped r _ _ (h .1) in inr
       (h .0, four-short (T .size .n) ranks commands marks scratch t, w)) (need-refused Unsound r _ _ e)
-
-  pub searching-only : (start commands scratch : ℕ) (r : Refusal) → searching T start commands scratch ≡ refused r
-      → ((sound T ≡ false) × (r ≡ Unsound))
-      ⊎ (((sound T ≡ true) × (T .size .n ≤ start) × (r ≡ Stranger))
-      ⊎ ((sound T ≡ true) × (start < T .size .n) × ((commands < T .size .n) ⊎ (scratch < T .size .n)) × (r ≡ Cramped)))
-  unfolding searching
-  searching-only start commands scratch r e =
-      ⊎-elim inl (λ h. inr (⊎-elim (λ k. inl (h .0, ltb-false start (T .size .n) (k .0), k .1)) (λ k.
-      let (t, w) = last-refused Cramped r _ _ (k .1) in
-      inr (h .0, ltb-true start (T .size .n) (k .0), two-short (T .size .n) commands (T .size .n) scratch t, w))
-      (need-refused Stranger r _ _ (h .1))))
-      (need-refused Unsound r _ _ e)

@@ -1,17 +1,18 @@
--- When each call refuses, and with what, in the order of rules E16 and E17. That it refuses only then: OnlyRefused.antt.
+-- When reading, writing and deciding refuse, and with what, in the order of rules E16 and E17. That they refuse only then:
+-- OnlyRefused.antt. The calls that are told a state: StateCalls.antt.
 use mathlib.Core.Path.{_≡_}
 use mathlib.Core.Bool.{Bool, true, false, _&&_}
 use mathlib.Core.Logic.{_⊎_, ⊎-elim}
 use mathlib.Core.List.{List}
-use Prim.Native.Nat.{ℕ, _<_, _≤_}
+use Prim.Native.Nat.{ℕ, _<_}
 use lib.Dec.{leb}
-use borrow.Author.Tests.{lt-leb, le-ltb, lt-ltb}
+use borrow.Author.Tests.{lt-leb}
 use Rattle.laws.proofs.Tests.{and-false-left, and-false-right}
-use Rattle.model.specs.Refusal.{Refusal, Cramped, Unsound, Stranger, given, refused, need, _>>=_, _>>_}
+use Rattle.model.specs.Refusal.{Refusal, Cramped, Unsound, given, refused, need, _>>=_, _>>_}
 use Rattle.model.specs.File.{Tree, read}
 use Rattle.model.specs.Tables.{Tables, tablesOf, fileLength}
 use Rattle.model.specs.SoundTest.{sound}
-use Rattle.model.specs.Calls.{reading, writing, deciding, searching}
+use Rattle.model.specs.Calls.{reading, writing, deciding}
 
 -- a table among others that is shorter than its count
 first-short : (n a : ℕ) (b : Bool) → a < n → leb n a && b ≡ false
@@ -19,6 +20,10 @@ first-short n a b h = and-false-left (leb n a) b (lt-leb n a h)
 
 last-short : (a : Bool) (n b : ℕ) → b < n → a && leb n b ≡ false
 last-short a n b h = and-false-right a (leb n b) (lt-leb n b h)
+
+-- one of two
+pub some-short : (n a b : ℕ) → (a < n) ⊎ (b < n) → leb n a && leb n b ≡ false
+some-short n a b = ⊎-elim (λ l. first-short n a (leb n b) l) (λ l. last-short (leb n a) n b l)
 
 module _ (rows firsts outcomes : ℕ) (file : List ℕ) where
   -- a file that is refused is refused whatever tables are lent
@@ -56,10 +61,6 @@ module _ (T : Tables) (unsound : sound T ≡ false) where
   unfolding deciding need _>>_
   deciding-unsound ranks commands marks scratch = rw unsound
 
-  pub searching-unsound : (start commands scratch : ℕ) → searching T start commands scratch ≡ refused Unsound
-  unfolding searching need _>>_
-  searching-unsound start commands scratch = rw unsound
-
 module _ (T : Tables) (sounds : sound T ≡ true) where
   pub writing-cramped : (bytes : ℕ) → bytes < fileLength T → writing T bytes ≡ refused Cramped
   unfolding writing need _>>_
@@ -83,18 +84,3 @@ module _ (T : Tables) (sounds : sound T ≡ true) where
           (⊎-elim (λ l. and-false-left (leb n ranks && leb n commands && leb n marks) (leb n scratch)
           (last-short (leb n ranks && leb n commands) n marks l))
           (λ l. last-short (leb n ranks && leb n commands && leb n marks) n scratch l)))
-
-  pub searching-stranger : (start commands scratch : ℕ) → T .size .n ≤ start → searching T start commands scratch ≡ refused Stranger
-  unfolding searching need _>>_
-  searching-stranger start commands scratch h = rw (sounds, le-ltb start (T .size .n) h)
-
-  pub searching-cramped : (start commands scratch : ℕ) → start < T .size .n → (commands < T .size .n) ⊎ (scratch < T .size .n)
-      → searching T start commands scratch ≡ refused Cramped
-  unfolding searching need _>>_
-  searching-cramped start commands scratch i h = rw (sounds, lt-ltb start (T .size .n) i, short h)
-    where
-      n : ℕ
-      n = T .size .n
-
-      short : (commands < n) ⊎ (scratch < n) → leb n commands && leb n scratch ≡ false
-      short = ⊎-elim (λ l. first-short n commands (leb n scratch) l) (λ l. last-short (leb n commands) n scratch l)

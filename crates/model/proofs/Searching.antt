@@ -104,7 +104,8 @@ module _ (P : Plan) (S : Valid P) (a : ℕ) (in-plan : a < P .states) (act : act
       by-known n (omega arith) (counted-is P a n a (all a in-plan act) .1)
 
   some-ends : Ended
-  some-ends = ⊎-elim (λ r. by-still (r .0) (r .1) (r .2)) by-full (settles (P .states) (counted P a) grows (actives P))
+  some-ends =
+      ⊎-elim (λ r. by-still (r .0) (r .1) (r .2)) (λ c. by-full (omega (arith, c))) (settles (P .states) (counted P a) grows (actives P))
     where
       grows : (k : ℕ) → Part (P .states) (counted P a k) (counted P a (suc k))
       grows k x l e = let (o, t) = counted-is P a k x e in counted-of P a (suc k) x o (known-grows P a k x t)

@@ -38,7 +38,7 @@ use Rattle.model.proofs.Contests.{turn-fails}
 -- ---- ranks
 
 module _ (P : Plan) (S : Valid P) (s : ℕ) (l : s < P .states) where
-  failing-ranked : failing P s ≡ true → rank P s ≡ some 0
+  pub failing-ranked : failing P s ≡ true → rank P s ≡ some 0
   unfolding grow
   failing-ranked f =
       let (r, le, e) = layer-rank P S 0 s l f in

@@ -2,8 +2,8 @@
 use mathlib.Core.Path.{_≡_, refl, sym, ap, subst, _∙_}
 use mathlib.Core.Bool.{Bool, true, false, not, cond, _&&_}
 use mathlib.Core.List.{List, []}
-use mathlib.Core.Logic.{⊎-elim}
-use mathlib.Core.Option.{none}
+use mathlib.Core.Logic.{inr, ⊎-elim}
+use mathlib.Core.Option.{Option, none, some}
 use Prim.Native.Nat.{ℕ, _+_, _<_}
 use native.Mathlib.Omega.{arith}
 use lib.ListN.{length, getD}
@@ -22,13 +22,16 @@ use Rattle.model.specs.SoundTest.{sound}
 use Rattle.model.specs.Held.{planIn}
 use Rattle.model.specs.Calls.{left, rankTable, commandTable, markTable, resultTable, decideCall, searchCall}
 use Rattle.model.specs.Contest.{contestCall}
+use Rattle.model.specs.Warning.{Time, noTime, warningCall}
 use Rattle.model.specs.Stuck.{StuckState, StuckEntries, StuckCounted, StuckSearched}
 use Rattle.model.specs.Boundary.{entriesIn, tallyEntries, verdictIn, roundsIn, gateDecideCall, gateSearchCall}
+use Rattle.model.proofs.StateKinds.{failing-of, stuck-is}
 use Rattle.model.proofs.Answers.{answer-inv}
 use Rattle.model.proofs.HeldPlan.{states-held}
 use Rattle.model.proofs.Valid.{sound-valid}
 use Rattle.model.proofs.Answering.{deciding-iff, searching-iff}
 use Rattle.model.proofs.ContestCalls.{contest-iff}
+use Rattle.model.proofs.WarningCalls.{warned}
 use Rattle.model.proofs.Delivered.{entry-written}
 use Rattle.model.proofs.GateDemands.{decided-bytes, searched-bytes}
 use Rattle.model.proofs.Stuck.{stuck-state}
@@ -111,6 +114,10 @@ pub stuck-contested : (T : Tables) (s : ℕ) → stuck (planIn T) s ≡ true →
 stuck-contested T s e k held a =
     let w = contest-iff T s k held .0 a in
     sym (w .is) ∙ held-state T (w .sounds) s (w .inside) e .not-held k
+
+pub stuck-warned : (T : Tables) (s : ℕ) → stuck (planIn T) s ≡ true → (d : ℕ) (answer : Option Time) → warningCall T s d ≡ given answer
+    → answer ≡ some noTime
+stuck-warned T s e d answer a = warned T s d answer a .at-once .1 (failing-of (planIn T) s (inr (stuck-is (planIn T) s e)))
 
 -- ---- the calls of the C program, where they return 0
 

@@ -4,7 +4,7 @@ use mathlib.Core.Path.{_≡_}
 use mathlib.Core.Bool.{Bool, true, false, not, cond, _&&_}
 use mathlib.Core.List.{List, [], _∷_, _++_, List·Memᴰ, map}
 use mathlib.Core.Logic.{_⊎_, _↔_}
-use mathlib.Core.Option.{none, some}
+use mathlib.Core.Option.{Option, none, some}
 use Prim.Native.Nat.{ℕ, _+_, _<_, _≤_}
 use lib.ListN.{length, getD, take}
 use Rattle.laws.specs.Sets.{lowest, howMany}
@@ -17,7 +17,7 @@ use Rattle.model.specs.Value.{LeastSolution}
 use Rattle.model.specs.Command.{choice}
 use Rattle.model.specs.Practice.{followed, practiceFails, fault, faultOutcome}
 use Rattle.model.specs.Search.{Result, ends, before, search, actives}
-use Rattle.model.specs.Refusal.{Refusal, Cramped, Unsound, Stranger, Moves, Answer, given, refused}
+use Rattle.model.specs.Refusal.{Refusal, Cramped, Unsound, Stranger, Moves, Seconds, Answer, given, refused}
 use Rattle.model.specs.File.{Tree, read}
 use Rattle.model.specs.Bytes.{bytesOf}
 use Rattle.model.specs.Tables.{Size, Row, Tables, Same, tablesOf, fileLength}
@@ -27,6 +27,7 @@ use Rattle.model.specs.Held.{treeOf, planOf, planIn}
 use Rattle.model.specs.Calls.{reading, writing, deciding, searching, readCall, afterReading, writeCall, decideCall, searchCall}
 use Rattle.model.specs.Demand3.{DecidingDemand3, SearchDemand3}
 use Rattle.model.specs.Contest.{keeperTurn, maxMoves, contestCall, Contested}
+use Rattle.model.specs.Warning.{Time, noTime, warning, longestMove, warningCall, Warned}
 use Rattle.model.specs.Stuck.{StuckState, StuckEntries, StuckCounted, StuckSearched}
 use Rattle.model.specs.Boundary.{entriesIn, verdictIn, roundsIn, gateDecideCall, gateSearchCall}
 use Rattle.model.specs.Listing.{decimal, told, line, faultSign, stateLine, maxListing, listing}
@@ -64,6 +65,11 @@ pub record Conditions : Type 0 where
   pub contest-refused : (T : Tables) (s k : ℕ) (r : Refusal) → (contestCall T s k ≡ refused r)
       ↔ (((Sound T → ⊥) × (r ≡ Unsound)) ⊎ ((Sound T × (T .size .n ≤ s) × (r ≡ Stranger))
       ⊎ (Sound T × (s < T .size .n) × (maxMoves < k) × (r ≡ Moves))))
+  pub warning-given : (T : Tables) (s seconds : ℕ) (answer : Option Time) → (warningCall T s seconds ≡ given answer)
+      ↔ (Sound T × (s < T .size .n) × (0 < seconds) × (seconds ≤ longestMove) × (warning (rank (planIn T) s) seconds ≡ answer))
+  pub warning-refused : (T : Tables) (s seconds : ℕ) (r : Refusal) → (warningCall T s seconds ≡ refused r)
+      ↔ (((Sound T → ⊥) × (r ≡ Unsound)) ⊎ ((Sound T × (T .size .n ≤ s) × (r ≡ Stranger))
+      ⊎ (Sound T × (s < T .size .n) × ((seconds ≡ 0) ⊎ (longestMove < seconds)) × (r ≡ Seconds))))
 
 -- ---- rule D2: the definitions that compute say what the words say, and both round trips
 
@@ -75,6 +81,8 @@ pub record Meanings : Type 0 where
       ↔ ((k : ℕ) × (layer (planIn T) k s ≡ true))
   pub first-layer : (T : Tables) → Sound T → (s : ℕ) → s < T .size .n → (r : ℕ) → (rank (planIn T) s ≡ some r)
       ↔ ((layer (planIn T) r s ≡ true) × ((k : ℕ) → k < r → layer (planIn T) k s ≡ false))
+  -- rule W5: no rank is as high as the number of states
+  pub rank-below : (T : Tables) → Sound T → (s : ℕ) → s < T .size .n → (r : ℕ) → rank (planIn T) s ≡ some r → r < T .size .n
   pub least-solution : (T : Tables) → Sound T → LeastSolution (planIn T)
   -- the practice if it has no outcome in K, else the lowest-numbered command that has none
   pub choice-words : (P : Plan) (K : ℕ → Bool) (s : ℕ) → active P s ≡ true → choice P K s
@@ -162,6 +170,8 @@ pub record Failings : Type 0 where
       S .answers ≡ given (verdict, rounds) → StuckSearched (T .size .n) s a verdict rounds (S .commands)
   pub stuck-contested : (T : Tables) (s : ℕ) → stuck (planIn T) s ≡ true → (k : ℕ) (held : Bool)
       → contestCall T s k ≡ given held → held ≡ false
+  pub stuck-warned : (T : Tables) (s : ℕ) → stuck (planIn T) s ≡ true → (seconds : ℕ) (answer : Option Time)
+      → warningCall T s seconds ≡ given answer → answer ≡ some noTime
   -- and in the bytes that the calls for C leave
   pub gate-stuck-decided : (lent : Answer Tables) (T : Tables) → lent ≡ given T → (ranks commands marks scratch tally : List ℕ)
       → let D = gateDecideCall lent ranks commands marks scratch tally in
@@ -178,3 +188,9 @@ pub record Failings : Type 0 where
 
 pub record Contests : Type 0 where
   pub contested : (T : Tables) (s k : ℕ) (held : Bool) → contestCall T s k ≡ given held → Contested T s k held
+
+-- ---- part W: the warning time, beside ranks and operating rules
+
+pub record Warnings : Type 0 where
+  pub warned : (T : Tables) (s seconds : ℕ) (answer : Option Time) → warningCall T s seconds ≡ given answer
+      → Warned T s seconds answer

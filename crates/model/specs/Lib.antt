@@ -19,6 +19,7 @@ pub mod Held
 pub mod Calls
 pub mod Demand3
 pub mod Contest
+pub mod Warning
 pub mod Stuck
 pub mod Boundary
 pub mod Rooms

@@ -30,9 +30,9 @@ pub data Refusal : Type 0 where
   Stranger : Refusal
   -- rule E22: a contest of more than 8 moves is asked for
   Moves : Refusal
-  -- rule E21: no call gives this one and those after it yet. A move is said to last 0 seconds, or more than 3,600
+  -- rule E23: a move is said to take 0 seconds, or more than 3,600
   Seconds : Refusal
-  -- a doubtful outcome of a command is one of its sure ones
+  -- rule E21: no call gives this one and those after it yet. A doubtful outcome of a command is one of its sure ones
   Doubtful : Refusal
   -- more than 8 departures from the practice are asked for
   Departures : Refusal

@@ -58,7 +58,7 @@ impl Row {
     };
 }
 
-// The refusals, in the order of their numbers (rules E1 to E11, and E22). No call gives the last six yet (rule E21).
+// The refusals, in the order of their numbers (rules E1 to E11, E22 and E23). No call gives the last five yet (rule E21).
 pub enum Refusal {
     Cut,
     Surplus,

@@ -64,7 +64,7 @@ abbrev pub r : Kinds.RK 3
 r = Unit'.rUnit
 
 abbrev pub xs : List.List Syntax.Ty
-xs = List._∷_ Syntax.tyBool (List._∷_ Syntax.tyUnit (List._∷_ Syntax.tyUnit (List._∷_ (Syntax.tyInt Syntax.w64) (List._∷_ (Syntax.tyInt Syntax.w64) (List._∷_ Syntax.tyUnit (List._∷_ (Syntax.tyInt Syntax.w64) List.[]))))))
+xs = List._∷_ Syntax.tyBool (List._∷_ Syntax.tyUnit (List._∷_ Syntax.tyUnit (List._∷_ Syntax.tyUnit (List._∷_ (Syntax.tyInt Syntax.w64) List.[]))))
 
 abbrev pub m : Nat.ℕ
 m = 0
@@ -75,11 +75,11 @@ ps·0 = List._∷_ (Value.pVal record { ty = Declared.row Size.the-type; one = P
 abbrev pub r·0 : Kinds.RK 3
 r·0 = Unit'.rUnit
 
-abbrev pub ps·1 : List.List (Kinds.PK 0)
-ps·1 = List._∷_ (Num.pNum Syntax.w64) List.[]
+abbrev pub ps·1 : List.List (Kinds.PK 3)
+ps·1 = List._∷_ (Value.pVal record { ty = Declared.row Size.the-type; one = Path'.refl; val = Laws'.val Size.the-type Laws.the-laws; tells = Laws'.tells Size.the-type Laws.the-laws; still = Laws'.still Size.the-type Laws.the-copy Exit.yes; row = Rows.whole (Declared.row Size.the-type); rd = λ x. x; mk = λ x. x } λ M 𝓤 H A W. record { copies = Laws'.copy Size.the-type Laws.the-copy 𝓤 H A W; lawful = Laws'.lawful Size.the-type Laws.the-laws 𝓤 H A W; makes = Laws'.makes Size.the-type Laws.the-plain 𝓤 H A; in-mem = Local.mem-whole 𝓤 H A W (Declared.row Size.the-type); of-mem = Local.whole-mem 𝓤 H A W (Declared.row Size.the-type) }) (List._∷_ (ShrSlice.pShrS T.the-row 0 tt) (List._∷_ (ShrSlice.pShrS (Referent.rtF (Referent.fInt Syntax.w16)) 1 tt) (List._∷_ (ShrSlice.pShrS (Referent.rtF (Referent.fInt Syntax.w16)) 2 tt) (List._∷_ (Num.pNum Syntax.w64) (List._∷_ (Num.pNum Syntax.w64) List.[])))))
 
-abbrev pub r·1 : Kinds.RK 0
-r·1 = Num.rNum Syntax.w64
+abbrev pub r·1 : Kinds.RK 3
+r·1 = Unit'.rUnit
 
 abbrev pub ps·2 : List.List (Kinds.PK 0)
 ps·2 = List._∷_ (Num.pNum Syntax.w64) (List._∷_ (Num.pNum Syntax.w64) List.[])
@@ -94,7 +94,7 @@ abbrev pub r·3 : Kinds.RK 3
 r·3 = Unit'.rUnit
 
 abbrev pub hs : List.List Syntax.Home
-hs = List._∷_ Syntax.valueLocal (List._∷_ Syntax.valueLocal (List._∷_ Syntax.valueLocal (List._∷_ Syntax.valueLocal (List._∷_ Syntax.valueLocal (List._∷_ Syntax.valueLocal (List._∷_ Syntax.valueLocal (List._∷_ Syntax.valueLocal (List._∷_ Syntax.valueLocal (List._∷_ Syntax.valueLocal (List._∷_ Syntax.valueLocal (List._∷_ Syntax.valueLocal (List._∷_ Syntax.valueLocal (List._∷_ Syntax.valueLocal (List._∷_ Syntax.valueLocal List.[]))))))))))))))
+hs = List._∷_ Syntax.valueLocal (List._∷_ Syntax.valueLocal (List._∷_ Syntax.valueLocal (List._∷_ Syntax.valueLocal (List._∷_ Syntax.valueLocal (List._∷_ Syntax.valueLocal (List._∷_ Syntax.valueLocal (List._∷_ Syntax.valueLocal (List._∷_ Syntax.valueLocal (List._∷_ Syntax.valueLocal (List._∷_ Syntax.valueLocal (List._∷_ Syntax.valueLocal (List._∷_ Syntax.valueLocal List.[]))))))))))))
 
 abbrev b0 : Syntax.Body
 b0 = Syntax.assign (Syntax.place 8 List.[]) (Syntax.op2 Syntax.eq (Syntax.copy (Syntax.place 5 List.[])) (Syntax.int Syntax.w64 2))
@@ -124,91 +124,79 @@ abbrev b8 : Syntax.Body
 b8 = Syntax.assign (Syntax.place 8 List.[]) (Syntax.op2 Syntax.eq (Syntax.copy (Syntax.place 5 List.[])) (Syntax.int Syntax.w64 3))
 
 abbrev b9 : Syntax.Body
-b9 = Syntax.call "bench_plans::numbers::far" (List._∷_ (Syntax.copy (Syntax.place 6 List.[])) List.[]) (Syntax.place 11 List.[])
+b9 = Syntax.call "bench_plans::warnings::ask_warning" (List._∷_ (Syntax.copy (Syntax.place 1 List.[])) (List._∷_ (Syntax.copy (Syntax.place 2 List.[])) (List._∷_ (Syntax.copy (Syntax.place 3 List.[])) (List._∷_ (Syntax.copy (Syntax.place 4 List.[])) (List._∷_ (Syntax.copy (Syntax.place 6 List.[])) (List._∷_ (Syntax.copy (Syntax.place 7 List.[])) List.[])))))) (Syntax.place 10 List.[])
 
 abbrev b10 : Syntax.Body
-b10 = Syntax.call "bench_plans::numbers::far" (List._∷_ (Syntax.copy (Syntax.place 7 List.[])) List.[]) (Syntax.place 12 List.[])
+b10 = Syntax.assign (Syntax.place 0 List.[]) (Syntax.rvOpd Syntax.opdUnit)
 
 abbrev b11 : Syntax.Body
-b11 = Syntax.call "bench_plans::contests::ask_contest" (List._∷_ (Syntax.copy (Syntax.place 1 List.[])) (List._∷_ (Syntax.copy (Syntax.place 2 List.[])) (List._∷_ (Syntax.copy (Syntax.place 3 List.[])) (List._∷_ (Syntax.copy (Syntax.place 4 List.[])) (List._∷_ (Syntax.copy (Syntax.place 11 List.[])) (List._∷_ (Syntax.copy (Syntax.place 12 List.[])) List.[])))))) (Syntax.place 10 List.[])
+b11 = Syntax.return
 
 abbrev b12 : Syntax.Body
-b12 = Syntax.assign (Syntax.place 0 List.[]) (Syntax.rvOpd Syntax.opdUnit)
+b12 = Syntax.seq b10 b11
 
 abbrev b13 : Syntax.Body
-b13 = Syntax.return
+b13 = Syntax.seq b9 b12
 
 abbrev b14 : Syntax.Body
-b14 = Syntax.seq b12 b13
+b14 = Syntax.skip
 
 abbrev b15 : Syntax.Body
-b15 = Syntax.seq b11 b14
+b15 = Syntax.cond (Syntax.copy (Syntax.place 8 List.[])) b13 b14
 
 abbrev b16 : Syntax.Body
-b16 = Syntax.seq b10 b15
+b16 = Syntax.assign (Syntax.place 8 List.[]) (Syntax.op2 (Syntax.lt Syntax.unsigned) (Syntax.copy (Syntax.place 5 List.[])) (Syntax.int Syntax.w64 2))
 
 abbrev b17 : Syntax.Body
-b17 = Syntax.seq b9 b16
+b17 = Syntax.call "bench_plans::numbers::least" (List._∷_ (Syntax.copy (Syntax.place 7 List.[])) (List._∷_ (Syntax.intBig Syntax.w64 1024) List.[])) (Syntax.place 12 List.[])
 
 abbrev b18 : Syntax.Body
-b18 = Syntax.skip
+b18 = Syntax.call "bench_plans::verdicts::ask_tables" (List._∷_ (Syntax.copy (Syntax.place 1 List.[])) (List._∷_ (Syntax.copy (Syntax.place 2 List.[])) (List._∷_ (Syntax.copy (Syntax.place 3 List.[])) (List._∷_ (Syntax.copy (Syntax.place 4 List.[])) (List._∷_ (Syntax.copy (Syntax.place 5 List.[])) (List._∷_ (Syntax.copy (Syntax.place 6 List.[])) (List._∷_ (Syntax.copy (Syntax.place 12 List.[])) List.[]))))))) (Syntax.place 11 List.[])
 
 abbrev b19 : Syntax.Body
-b19 = Syntax.cond (Syntax.copy (Syntax.place 8 List.[])) b17 b18
+b19 = Syntax.seq b17 b18
 
 abbrev b20 : Syntax.Body
-b20 = Syntax.assign (Syntax.place 8 List.[]) (Syntax.op2 (Syntax.lt Syntax.unsigned) (Syntax.copy (Syntax.place 5 List.[])) (Syntax.int Syntax.w64 2))
+b20 = Syntax.skip
 
 abbrev b21 : Syntax.Body
-b21 = Syntax.call "bench_plans::numbers::least" (List._∷_ (Syntax.copy (Syntax.place 7 List.[])) (List._∷_ (Syntax.intBig Syntax.w64 1024) List.[])) (Syntax.place 14 List.[])
+b21 = Syntax.cond (Syntax.copy (Syntax.place 8 List.[])) b19 b20
 
 abbrev b22 : Syntax.Body
-b22 = Syntax.call "bench_plans::verdicts::ask_tables" (List._∷_ (Syntax.copy (Syntax.place 1 List.[])) (List._∷_ (Syntax.copy (Syntax.place 2 List.[])) (List._∷_ (Syntax.copy (Syntax.place 3 List.[])) (List._∷_ (Syntax.copy (Syntax.place 4 List.[])) (List._∷_ (Syntax.copy (Syntax.place 5 List.[])) (List._∷_ (Syntax.copy (Syntax.place 6 List.[])) (List._∷_ (Syntax.copy (Syntax.place 14 List.[])) List.[]))))))) (Syntax.place 13 List.[])
+b22 = Syntax.assign (Syntax.place 0 List.[]) (Syntax.rvOpd Syntax.opdUnit)
 
 abbrev b23 : Syntax.Body
-b23 = Syntax.seq b21 b22
+b23 = Syntax.return
 
 abbrev b24 : Syntax.Body
-b24 = Syntax.skip
+b24 = Syntax.seq b22 b23
 
 abbrev b25 : Syntax.Body
-b25 = Syntax.cond (Syntax.copy (Syntax.place 8 List.[])) b23 b24
+b25 = Syntax.seq b21 b24
 
 abbrev b26 : Syntax.Body
-b26 = Syntax.assign (Syntax.place 0 List.[]) (Syntax.rvOpd Syntax.opdUnit)
+b26 = Syntax.seq b16 b25
 
 abbrev b27 : Syntax.Body
-b27 = Syntax.return
+b27 = Syntax.seq b15 b26
 
 abbrev b28 : Syntax.Body
-b28 = Syntax.seq b26 b27
+b28 = Syntax.seq b8 b27
 
 abbrev b29 : Syntax.Body
-b29 = Syntax.seq b25 b28
+b29 = Syntax.seq b7 b28
 
 abbrev b30 : Syntax.Body
-b30 = Syntax.seq b20 b29
-
-abbrev b31 : Syntax.Body
-b31 = Syntax.seq b19 b30
-
-abbrev b32 : Syntax.Body
-b32 = Syntax.seq b8 b31
-
-abbrev b33 : Syntax.Body
-b33 = Syntax.seq b7 b32
-
-abbrev b34 : Syntax.Body
-b34 = Syntax.seq b0 b33
+b30 = Syntax.seq b0 b29
 
 abbrev pub body : Syntax.Body
-body = b34
+body = b30
 
 abbrev pub Claims : Type 1
-Claims = Kinds.In 3 ps·0 × Kinds.Out 3 ps·0 r·0 × Kinds.In 0 ps·1 × Kinds.Out 0 ps·1 r·1 × Kinds.In 0 ps·2 × Kinds.Out 0 ps·2 r·2 × Kinds.In 3 ps·3 × Kinds.Out 3 ps·3 r·3
+Claims = Kinds.In 3 ps·0 × Kinds.Out 3 ps·0 r·0 × Kinds.In 3 ps·1 × Kinds.Out 3 ps·1 r·1 × Kinds.In 0 ps·2 × Kinds.Out 0 ps·2 r·2 × Kinds.In 3 ps·3 × Kinds.Out 3 ps·3 r·3
 
 abbrev pub t0 : List.List Row.Entry
-t0 = List._∷_ (0, Rows.any-gone Syntax.tyUnit) (List._∷_ (1, Rows.whole (Declared.row Size.the-type)) (List._∷_ (2, Rows.sslice T.the-row ty·2 0) (List._∷_ (3, Rows.sslice (Referent.rtF (Referent.fInt Syntax.w16)) ty·0 1) (List._∷_ (4, Rows.sslice (Referent.rtF (Referent.fInt Syntax.w16)) ty·1 2) (List._∷_ (5, Rows.sc-here (Row.sInt Syntax.w64)) (List._∷_ (6, Rows.sc-here (Row.sInt Syntax.w64)) (List._∷_ (7, Rows.sc-here (Row.sInt Syntax.w64)) (List._∷_ (8, Rows.any-gone Syntax.tyBool) (List._∷_ (9, Rows.any-gone Syntax.tyUnit) (List._∷_ (10, Rows.any-gone Syntax.tyUnit) (List._∷_ (11, Rows.any-gone (Syntax.tyInt Syntax.w64)) (List._∷_ (12, Rows.any-gone (Syntax.tyInt Syntax.w64)) (List._∷_ (13, Rows.any-gone Syntax.tyUnit) (List._∷_ (14, Rows.any-gone (Syntax.tyInt Syntax.w64)) List.[]))))))))))))))
+t0 = List._∷_ (0, Rows.any-gone Syntax.tyUnit) (List._∷_ (1, Rows.whole (Declared.row Size.the-type)) (List._∷_ (2, Rows.sslice T.the-row ty·2 0) (List._∷_ (3, Rows.sslice (Referent.rtF (Referent.fInt Syntax.w16)) ty·0 1) (List._∷_ (4, Rows.sslice (Referent.rtF (Referent.fInt Syntax.w16)) ty·1 2) (List._∷_ (5, Rows.sc-here (Row.sInt Syntax.w64)) (List._∷_ (6, Rows.sc-here (Row.sInt Syntax.w64)) (List._∷_ (7, Rows.sc-here (Row.sInt Syntax.w64)) (List._∷_ (8, Rows.any-gone Syntax.tyBool) (List._∷_ (9, Rows.any-gone Syntax.tyUnit) (List._∷_ (10, Rows.any-gone Syntax.tyUnit) (List._∷_ (11, Rows.any-gone Syntax.tyUnit) (List._∷_ (12, Rows.any-gone (Syntax.tyInt Syntax.w64)) List.[]))))))))))))
 
 abbrev pub t1 : List.List Row.Entry
 t1 = Row.setRow 7 (7, Rows.any-gone (Syntax.tyInt Syntax.w64)) (Row.setRow 6 (6, Rows.any-gone (Syntax.tyInt Syntax.w64)) (Row.setRow 5 (5, Rows.any-gone (Syntax.tyInt Syntax.w64)) (Row.setRow 1 (1, Rows.any-gone ty·3) (Row.setRow 0 (0, Rows.sc-here Row.sUnit) t0))))
@@ -235,37 +223,25 @@ abbrev pub t8 : List.List Row.Entry
 t8 = Row.setRow 7 (7, Rows.sc-here (Row.sInt Syntax.w64)) t1
 
 abbrev pub t9 : List.List Row.Entry
-t9 = Row.setRow 11 (11, Rows.sc-here (Row.sInt Syntax.w64)) t0
+t9 = Row.setRow 10 (10, Rows.sc-here Row.sUnit) t0
 
 abbrev pub t10 : List.List Row.Entry
-t10 = Row.setRow 12 (12, Rows.sc-here (Row.sInt Syntax.w64)) t9
+t10 = Row.setRow 10 (10, Rows.sc-here Row.sUnit) t5
 
 abbrev pub t11 : List.List Row.Entry
-t11 = Row.setRow 10 (10, Rows.sc-here Row.sUnit) t10
+t11 = Row.setRow 12 (12, Rows.sc-here (Row.sInt Syntax.w64)) t0
 
 abbrev pub t12 : List.List Row.Entry
-t12 = Row.setRow 12 (12, Rows.sc-here (Row.sInt Syntax.w64)) (Row.setRow 11 (11, Rows.sc-here (Row.sInt Syntax.w64)) (Row.setRow 10 (10, Rows.sc-here Row.sUnit) t5))
+t12 = Row.setRow 11 (11, Rows.sc-here Row.sUnit) t11
 
 abbrev pub t13 : List.List Row.Entry
-t13 = Row.setRow 10 (10, Rows.any-gone Syntax.tyUnit) t12
+t13 = Row.setRow 12 (12, Rows.sc-here (Row.sInt Syntax.w64)) (Row.setRow 11 (11, Rows.sc-here Row.sUnit) t5)
 
 abbrev pub t14 : List.List Row.Entry
-t14 = Row.setRow 12 (12, Rows.sc-here (Row.sInt Syntax.w64)) t5
+t14 = Row.setRow 11 (11, Rows.any-gone Syntax.tyUnit) t13
 
 abbrev pub t15 : List.List Row.Entry
-t15 = Row.setRow 14 (14, Rows.sc-here (Row.sInt Syntax.w64)) t0
-
-abbrev pub t16 : List.List Row.Entry
-t16 = Row.setRow 13 (13, Rows.sc-here Row.sUnit) t15
-
-abbrev pub t17 : List.List Row.Entry
-t17 = Row.setRow 14 (14, Rows.sc-here (Row.sInt Syntax.w64)) (Row.setRow 13 (13, Rows.sc-here Row.sUnit) t5)
-
-abbrev pub t18 : List.List Row.Entry
-t18 = Row.setRow 13 (13, Rows.any-gone Syntax.tyUnit) t17
-
-abbrev pub t19 : List.List Row.Entry
-t19 = Row.setRow 8 (8, Rows.sc-here Row.sBool) t5
+t15 = Row.setRow 8 (8, Rows.sc-here Row.sBool) t5
 
 abbrev pub T0 : Row.Cx
 T0 = record { locals = t0; slots = List.[] }
@@ -328,76 +304,64 @@ abbrev pub T19 : Row.Cx
 T19 = record { locals = t10; slots = List.[] }
 
 abbrev pub T20 : Row.Cx
-T20 = record { locals = t11; slots = List.[] }
+T20 = record { locals = t5; slots = List.[] }
 
 abbrev pub T21 : Row.Cx
-T21 = record { locals = t12; slots = List.[] }
+T21 = record { locals = t6; slots = List.[] }
 
 abbrev pub T22 : Row.Cx
-T22 = record { locals = t13; slots = List.[] }
+T22 = record { locals = t7; slots = List.[] }
 
 abbrev pub T23 : Row.Cx
-T23 = record { locals = t14; slots = List.[] }
+T23 = record { locals = t8; slots = List.[] }
 
 abbrev pub T24 : Row.Cx
-T24 = record { locals = t5; slots = List.[] }
+T24 = record { locals = t1; slots = List.[] }
 
 abbrev pub T25 : Row.Cx
-T25 = record { locals = t6; slots = List.[] }
+T25 = record { locals = t0; slots = List.[] }
 
 abbrev pub T26 : Row.Cx
-T26 = record { locals = t7; slots = List.[] }
+T26 = record { locals = t2; slots = List.[] }
 
 abbrev pub T27 : Row.Cx
-T27 = record { locals = t8; slots = List.[] }
+T27 = record { locals = t5; slots = List.[] }
 
 abbrev pub T28 : Row.Cx
-T28 = record { locals = t1; slots = List.[] }
+T28 = record { locals = t0; slots = List.[] }
 
 abbrev pub T29 : Row.Cx
-T29 = record { locals = t0; slots = List.[] }
+T29 = record { locals = t11; slots = List.[] }
 
 abbrev pub T30 : Row.Cx
-T30 = record { locals = t2; slots = List.[] }
+T30 = record { locals = t12; slots = List.[] }
 
 abbrev pub T31 : Row.Cx
-T31 = record { locals = t5; slots = List.[] }
+T31 = record { locals = t13; slots = List.[] }
 
 abbrev pub T32 : Row.Cx
-T32 = record { locals = t0; slots = List.[] }
+T32 = record { locals = t14; slots = List.[] }
 
 abbrev pub T33 : Row.Cx
-T33 = record { locals = t15; slots = List.[] }
+T33 = record { locals = t5; slots = List.[] }
 
 abbrev pub T34 : Row.Cx
-T34 = record { locals = t16; slots = List.[] }
+T34 = record { locals = t15; slots = List.[] }
 
 abbrev pub T35 : Row.Cx
-T35 = record { locals = t17; slots = List.[] }
+T35 = record { locals = t5; slots = List.[] }
 
 abbrev pub T36 : Row.Cx
-T36 = record { locals = t18; slots = List.[] }
+T36 = record { locals = t6; slots = List.[] }
 
 abbrev pub T37 : Row.Cx
-T37 = record { locals = t5; slots = List.[] }
+T37 = record { locals = t7; slots = List.[] }
 
 abbrev pub T38 : Row.Cx
-T38 = record { locals = t19; slots = List.[] }
+T38 = record { locals = t8; slots = List.[] }
 
 abbrev pub T39 : Row.Cx
-T39 = record { locals = t5; slots = List.[] }
-
-abbrev pub T40 : Row.Cx
-T40 = record { locals = t6; slots = List.[] }
-
-abbrev pub T41 : Row.Cx
-T41 = record { locals = t7; slots = List.[] }
-
-abbrev pub T42 : Row.Cx
-T42 = record { locals = t8; slots = List.[] }
-
-abbrev pub T43 : Row.Cx
-T43 = record { locals = t1; slots = List.[] }
+T39 = record { locals = t1; slots = List.[] }
 
 abbrev pub O0 : Typed.Outs
 O0 = record { next = Option.none; exits = List.[]; returns = Option.some T1 }
@@ -409,7 +373,7 @@ abbrev pub O2 : Typed.Outs
 O2 = Typed.withNext (Option.some T16) O0
 
 abbrev pub O3 : Typed.Outs
-O3 = Typed.withNext (Option.some T31) O0
+O3 = Typed.withNext (Option.some T27) O0
 
 module _ (claims· : Claims) where
   abbrev s0 : Typed.Gives T0 T2
@@ -455,84 +419,72 @@ module _ (claims· : Claims) where
   s13 = Scalar.n-room T15 8 Syntax.tyBool
 
   abbrev s14 : Typed.Both T17 T18
-  s14 = Call.callB ps·1 r·1 (claims· .2) (claims· .3) T17 (Num.vAt 6 λ x. x, tt) 11 List.[] (Syntax.tyInt Syntax.w64)
+  s14 = Call.callB ps·1 r·1 (claims· .2) (claims· .3) T17 (record { pos = 1; st = List.[]; d = 0; at = λ x. x }, (record { pos = 2; ty = Syntax.tyRef (Syntax.named 0) Syntax.imm (Memory.pointee (T.the-row .written)); ref = λ x. x }, (record { pos = 3; ty = Syntax.tyRef (Syntax.named 1) Syntax.imm (Syntax.tyInt Syntax.w16); ref = λ x. x }, (record { pos = 4; ty = Syntax.tyRef (Syntax.named 2) Syntax.imm (Syntax.tyInt Syntax.w16); ref = λ x. x }, (Num.vAt 6 λ x. x, (Num.vAt 7 λ x. x, tt)))))) 10 (List._∷_ 0 (List._∷_ 1 (List._∷_ 2 List.[]))) Syntax.tyUnit
 
-  abbrev s15 : Typed.Both T18 T19
-  s15 = Call.callB ps·1 r·1 (claims· .2) (claims· .3) T18 (Num.vAt 7 λ x. x, tt) 12 List.[] (Syntax.tyInt Syntax.w64)
+  abbrev s15 : Typed.Mo T18 → Typed.Mo T19
+  s15 = Scalar.n-room T18 1 ty·3
 
-  abbrev s16 : Typed.Both T19 T20
-  s16 = Call.callB ps·0 r·0 (claims· .0) (claims· .1) T19 (record { pos = 1; st = List.[]; d = 0; at = λ x. x }, (record { pos = 2; ty = Syntax.tyRef (Syntax.named 0) Syntax.imm (Memory.pointee (T.the-row .written)); ref = λ x. x }, (record { pos = 3; ty = Syntax.tyRef (Syntax.named 1) Syntax.imm (Syntax.tyInt Syntax.w16); ref = λ x. x }, (record { pos = 4; ty = Syntax.tyRef (Syntax.named 2) Syntax.imm (Syntax.tyInt Syntax.w16); ref = λ x. x }, (Num.vAt 11 λ x. x, (Num.vAt 12 λ x. x, tt)))))) 10 (List._∷_ 0 (List._∷_ 1 (List._∷_ 2 List.[]))) Syntax.tyUnit
+  abbrev s16 : Typed.Mo T19 → Typed.Mo T20
+  s16 = Scalar.n-room T19 10 Syntax.tyUnit
 
   abbrev s17 : Typed.Mo T20 → Typed.Mo T21
-  s17 = Scalar.n-room T20 1 ty·3
+  s17 = Scalar.n-use T20 Scalar.oUnit 0 (Rows.sc-here Row.sUnit) (Row.sUnit .of)
 
   abbrev s18 : Typed.Mo T21 → Typed.Mo T22
-  s18 = Scalar.n-room T21 10 Syntax.tyUnit
+  s18 = Scalar.n-room T21 5 (Syntax.tyInt Syntax.w64)
 
   abbrev s19 : Typed.Mo T22 → Typed.Mo T23
-  s19 = Scalar.n-room T22 11 (Syntax.tyInt Syntax.w64)
+  s19 = Scalar.n-room T22 6 (Syntax.tyInt Syntax.w64)
 
   abbrev s20 : Typed.Mo T23 → Typed.Mo T24
-  s20 = Scalar.n-room T23 12 (Syntax.tyInt Syntax.w64)
+  s20 = Scalar.n-room T23 7 (Syntax.tyInt Syntax.w64)
 
-  abbrev s21 : Typed.Mo T24 → Typed.Mo T25
-  s21 = Scalar.n-use T24 Scalar.oUnit 0 (Rows.sc-here Row.sUnit) (Row.sUnit .of)
+  abbrev s21 : Typed.Mo T15 → Typed.Mo T25
+  s21 = Scalar.n-room T15 8 Syntax.tyBool
 
-  abbrev s22 : Typed.Mo T25 → Typed.Mo T26
-  s22 = Scalar.n-room T25 5 (Syntax.tyInt Syntax.w64)
+  abbrev s22 : Typed.Asks T16 T26
+  s22 = Scalar.k-op2 T16 (Syntax.lt Syntax.unsigned) (Scalar.oAt 5 (Syntax.tyInt Syntax.w64) (Row.valS (Row.sInt Syntax.w64))) (Scalar.oInt Syntax.w64 2) 8 (Rows.sc-here Row.sBool) (Row.sBool .of)
 
-  abbrev s23 : Typed.Mo T26 → Typed.Mo T27
-  s23 = Scalar.n-room T26 6 (Syntax.tyInt Syntax.w64)
+  abbrev s23 : Typed.Mo T26 → Typed.Mo T28
+  s23 = Scalar.n-room T26 8 Syntax.tyBool
 
-  abbrev s24 : Typed.Mo T27 → Typed.Mo T28
-  s24 = Scalar.n-room T27 7 (Syntax.tyInt Syntax.w64)
+  abbrev s24 : Typed.Both T28 T29
+  s24 = Call.callB ps·2 r·2 (claims· .4) (claims· .5) T28 (Num.vAt 7 λ x. x, (Num.vBig 1024, tt)) 12 List.[] (Syntax.tyInt Syntax.w64)
 
-  abbrev s25 : Typed.Mo T15 → Typed.Mo T29
-  s25 = Scalar.n-room T15 8 Syntax.tyBool
+  abbrev s25 : Typed.Both T29 T30
+  s25 = Call.callB ps·3 r·3 (claims· .6) (claims· .7) T29 (record { pos = 1; st = List.[]; d = 0; at = λ x. x }, (record { pos = 2; ty = Syntax.tyRef (Syntax.named 0) Syntax.imm (Memory.pointee (T.the-row .written)); ref = λ x. x }, (record { pos = 3; ty = Syntax.tyRef (Syntax.named 1) Syntax.imm (Syntax.tyInt Syntax.w16); ref = λ x. x }, (record { pos = 4; ty = Syntax.tyRef (Syntax.named 2) Syntax.imm (Syntax.tyInt Syntax.w16); ref = λ x. x }, (Num.vAt 5 λ x. x, (Num.vAt 6 λ x. x, (Num.vAt 12 λ x. x, tt))))))) 11 (List._∷_ 0 (List._∷_ 1 (List._∷_ 2 List.[]))) Syntax.tyUnit
 
-  abbrev s26 : Typed.Asks T16 T30
-  s26 = Scalar.k-op2 T16 (Syntax.lt Syntax.unsigned) (Scalar.oAt 5 (Syntax.tyInt Syntax.w64) (Row.valS (Row.sInt Syntax.w64))) (Scalar.oInt Syntax.w64 2) 8 (Rows.sc-here Row.sBool) (Row.sBool .of)
+  abbrev s26 : Typed.Mo T30 → Typed.Mo T31
+  s26 = Scalar.n-room T30 1 ty·3
 
-  abbrev s27 : Typed.Mo T30 → Typed.Mo T32
-  s27 = Scalar.n-room T30 8 Syntax.tyBool
+  abbrev s27 : Typed.Mo T31 → Typed.Mo T32
+  s27 = Scalar.n-room T31 11 Syntax.tyUnit
 
-  abbrev s28 : Typed.Both T32 T33
-  s28 = Call.callB ps·2 r·2 (claims· .4) (claims· .5) T32 (Num.vAt 7 λ x. x, (Num.vBig 1024, tt)) 14 List.[] (Syntax.tyInt Syntax.w64)
+  abbrev s28 : Typed.Mo T32 → Typed.Mo T33
+  s28 = Scalar.n-room T32 12 (Syntax.tyInt Syntax.w64)
 
-  abbrev s29 : Typed.Both T33 T34
-  s29 = Call.callB ps·3 r·3 (claims· .6) (claims· .7) T33 (record { pos = 1; st = List.[]; d = 0; at = λ x. x }, (record { pos = 2; ty = Syntax.tyRef (Syntax.named 0) Syntax.imm (Memory.pointee (T.the-row .written)); ref = λ x. x }, (record { pos = 3; ty = Syntax.tyRef (Syntax.named 1) Syntax.imm (Syntax.tyInt Syntax.w16); ref = λ x. x }, (record { pos = 4; ty = Syntax.tyRef (Syntax.named 2) Syntax.imm (Syntax.tyInt Syntax.w16); ref = λ x. x }, (Num.vAt 5 λ x. x, (Num.vAt 6 λ x. x, (Num.vAt 14 λ x. x, tt))))))) 13 (List._∷_ 0 (List._∷_ 1 (List._∷_ 2 List.[]))) Syntax.tyUnit
+  abbrev s29 : Typed.Mo T26 → Typed.Mo T34
+  s29 = Scalar.n-room T26 1 ty·3
 
   abbrev s30 : Typed.Mo T34 → Typed.Mo T35
-  s30 = Scalar.n-room T34 1 ty·3
+  s30 = Scalar.n-room T34 8 Syntax.tyBool
 
-  abbrev s31 : Typed.Mo T35 → Typed.Mo T36
-  s31 = Scalar.n-room T35 13 Syntax.tyUnit
+  abbrev s31 : Typed.Mo T27 → Typed.Mo T36
+  s31 = Scalar.n-use T27 Scalar.oUnit 0 (Rows.sc-here Row.sUnit) (Row.sUnit .of)
 
   abbrev s32 : Typed.Mo T36 → Typed.Mo T37
-  s32 = Scalar.n-room T36 14 (Syntax.tyInt Syntax.w64)
+  s32 = Scalar.n-room T36 5 (Syntax.tyInt Syntax.w64)
 
-  abbrev s33 : Typed.Mo T30 → Typed.Mo T38
-  s33 = Scalar.n-room T30 1 ty·3
+  abbrev s33 : Typed.Mo T37 → Typed.Mo T38
+  s33 = Scalar.n-room T37 6 (Syntax.tyInt Syntax.w64)
 
   abbrev s34 : Typed.Mo T38 → Typed.Mo T39
-  s34 = Scalar.n-room T38 8 Syntax.tyBool
-
-  abbrev s35 : Typed.Mo T31 → Typed.Mo T40
-  s35 = Scalar.n-use T31 Scalar.oUnit 0 (Rows.sc-here Row.sUnit) (Row.sUnit .of)
-
-  abbrev s36 : Typed.Mo T40 → Typed.Mo T41
-  s36 = Scalar.n-room T40 5 (Syntax.tyInt Syntax.w64)
-
-  abbrev s37 : Typed.Mo T41 → Typed.Mo T42
-  s37 = Scalar.n-room T41 6 (Syntax.tyInt Syntax.w64)
-
-  abbrev s38 : Typed.Mo T42 → Typed.Mo T43
-  s38 = Scalar.n-room T42 7 (Syntax.tyInt Syntax.w64)
+  s34 = Scalar.n-room T38 7 (Syntax.tyInt Syntax.w64)
 
   module _ (Pre· : (κs : Lifetimes.Lfts 3) → Kinds.Dens κs ps → Type 0) (Post· : (κs : Lifetimes.Lfts 3) → (a : Kinds.Dens κs ps) → Kinds.Plain 3 ps r κs) where
     module _ (M : Type 1) where
       abbrev pub Closed : Type 2
-      Closed = (𝓤 : URA.URA M) (H : Wp.Heap 𝓤) (A : Atoms.Atoms 𝓤) (W : Kit.Given 𝓤 H A) (𝓣 : Wp.Tables 𝓤 H) (known0 : Plain.Known 𝓤 H A W 𝓣 3 ps·0 r·0 (claims· .0) (claims· .1) "bench_plans::contests::ask_contest") (known1 : Plain.Known 𝓤 H A W 𝓣 0 ps·1 r·1 (claims· .2) (claims· .3) "bench_plans::numbers::far") (known2 : Plain.Known 𝓤 H A W 𝓣 0 ps·2 r·2 (claims· .4) (claims· .5) "bench_plans::numbers::least") (known3 : Plain.Known 𝓤 H A W 𝓣 3 ps·3 r·3 (claims· .6) (claims· .7) "bench_plans::verdicts::ask_tables") → Statement.Triple 𝓤 (Wp.WpFn 𝓤 H (𝓣 .C) (𝓣 .Λ) (Function.fnOf 3 ps r xs m hs body)) (Function.plainOf 𝓤 H A 3 ps r Pre· Post·)
+      Closed = (𝓤 : URA.URA M) (H : Wp.Heap 𝓤) (A : Atoms.Atoms 𝓤) (W : Kit.Given 𝓤 H A) (𝓣 : Wp.Tables 𝓤 H) (known0 : Plain.Known 𝓤 H A W 𝓣 3 ps·0 r·0 (claims· .0) (claims· .1) "bench_plans::contests::ask_contest") (known1 : Plain.Known 𝓤 H A W 𝓣 3 ps·1 r·1 (claims· .2) (claims· .3) "bench_plans::warnings::ask_warning") (known2 : Plain.Known 𝓤 H A W 𝓣 0 ps·2 r·2 (claims· .4) (claims· .5) "bench_plans::numbers::least") (known3 : Plain.Known 𝓤 H A W 𝓣 3 ps·3 r·3 (claims· .6) (claims· .7) "bench_plans::verdicts::ask_tables") → Statement.Triple 𝓤 (Wp.WpFn 𝓤 H (𝓣 .C) (𝓣 .Λ) (Function.fnOf 3 ps r xs m hs body)) (Function.plainOf 𝓤 H A 3 ps r Pre· Post·)
 
     module _ where
       abbrev at0 : Typed.TF T13 O1
@@ -571,120 +523,108 @@ module _ (claims· : Claims) where
       abbrev at11 : Typed.TF T4 O1
       at11 = Scalar.Φcond T4 O1 8 (λ x. x) at8 at10
 
-      abbrev at12 : Typed.TF T28 O2
+      abbrev at12 : Typed.TF T24 O2
       at12 = Typed.atRet O2
 
-      abbrev at13 : Typed.TF T27 O2
-      at13 = λ Ψ. Typed.pass T27 T28 s24 (at12 Ψ)
+      abbrev at13 : Typed.TF T23 O2
+      at13 = λ Ψ. Typed.pass T23 T24 s20 (at12 Ψ)
 
-      abbrev at14 : Typed.TF T26 O2
-      at14 = λ Ψ. Typed.pass T26 T27 s23 (at13 Ψ)
+      abbrev at14 : Typed.TF T22 O2
+      at14 = λ Ψ. Typed.pass T22 T23 s19 (at13 Ψ)
 
-      abbrev at15 : Typed.TF T25 O2
-      at15 = λ Ψ. Typed.pass T25 T26 s22 (at14 Ψ)
+      abbrev at15 : Typed.TF T21 O2
+      at15 = λ Ψ. Typed.pass T21 T22 s18 (at14 Ψ)
 
-      abbrev at16 : Typed.TF T24 O2
-      at16 = λ Ψ. Typed.pass T24 T25 s21 (at15 Ψ)
+      abbrev at16 : Typed.TF T20 O2
+      at16 = λ Ψ. Typed.pass T20 T21 s17 (at15 Ψ)
 
-      abbrev at17 : Typed.TF T23 O2
-      at17 = λ Ψ. Typed.pass T23 T24 s20 (at16 Ψ)
+      abbrev at17 : Typed.TF T19 O2
+      at17 = λ Ψ. Typed.pass T19 T20 s16 (at16 Ψ)
 
-      abbrev at18 : Typed.TF T22 O2
-      at18 = λ Ψ. Typed.pass T22 T23 s19 (at17 Ψ)
+      abbrev at18 : Typed.TF T18 O2
+      at18 = λ Ψ. Typed.pass T18 T19 s15 (at17 Ψ)
 
-      abbrev at19 : Typed.TF T21 O2
-      at19 = λ Ψ. Typed.pass T21 T22 s18 (at18 Ψ)
+      abbrev at19 : Typed.TF T17 O2
+      at19 = λ Ψ. Typed.both s14 (at18 Ψ)
 
-      abbrev at20 : Typed.TF T20 O2
-      at20 = λ Ψ. Typed.pass T20 T21 s17 (at19 Ψ)
+      abbrev at20 : Typed.TF T15 O2
+      at20 = λ Ψ. Typed.pass T15 T17 s13 (at19 Ψ)
 
-      abbrev at21 : Typed.TF T19 O2
-      at21 = λ Ψ. Typed.both s16 (at20 Ψ)
+      abbrev at21 : Typed.TF T25 O2
+      at21 = Typed.atNext O2
 
-      abbrev at22 : Typed.TF T18 O2
-      at22 = λ Ψ. Typed.both s15 (at21 Ψ)
+      abbrev at22 : Typed.TF T15 O2
+      at22 = λ Ψ. Typed.pass T15 T25 s21 (at21 Ψ)
 
-      abbrev at23 : Typed.TF T17 O2
-      at23 = λ Ψ. Typed.both s14 (at22 Ψ)
+      abbrev at23 : Typed.TF T15 O2
+      at23 = Scalar.Φcond T15 O2 8 (λ x. x) at20 at22
 
-      abbrev at24 : Typed.TF T15 O2
-      at24 = λ Ψ. Typed.pass T15 T17 s13 (at23 Ψ)
+      abbrev at24 : Typed.TF T29 O3
+      at24 = λ Ψ. Typed.both s25 (Typed.pass T30 T31 s26 (Typed.pass T31 T32 s27 (Typed.pass T32 T33 s28 (Typed.atNext O3 Ψ))))
 
-      abbrev at25 : Typed.TF T29 O2
-      at25 = Typed.atNext O2
+      abbrev at25 : Typed.TF T28 O3
+      at25 = λ Ψ. Typed.both s24 (at24 Ψ)
 
-      abbrev at26 : Typed.TF T15 O2
-      at26 = λ Ψ. Typed.pass T15 T29 s25 (at25 Ψ)
+      abbrev at26 : Typed.TF T26 O3
+      at26 = λ Ψ. Typed.pass T26 T28 s23 (at25 Ψ)
 
-      abbrev at27 : Typed.TF T15 O2
-      at27 = Scalar.Φcond T15 O2 8 (λ x. x) at24 at26
+      abbrev at27 : Typed.TF T35 O3
+      at27 = Typed.atNext O3
 
-      abbrev at28 : Typed.TF T33 O3
-      at28 = λ Ψ. Typed.both s29 (Typed.pass T34 T35 s30 (Typed.pass T35 T36 s31 (Typed.pass T36 T37 s32 (Typed.atNext O3 Ψ))))
+      abbrev at28 : Typed.TF T34 O3
+      at28 = λ Ψ. Typed.pass T34 T35 s30 (at27 Ψ)
 
-      abbrev at29 : Typed.TF T32 O3
-      at29 = λ Ψ. Typed.both s28 (at28 Ψ)
+      abbrev at29 : Typed.TF T26 O3
+      at29 = λ Ψ. Typed.pass T26 T34 s29 (at28 Ψ)
 
-      abbrev at30 : Typed.TF T30 O3
-      at30 = λ Ψ. Typed.pass T30 T32 s27 (at29 Ψ)
+      abbrev at30 : Typed.TF T26 O3
+      at30 = Scalar.Φcond T26 O3 8 (λ x. x) at26 at29
 
-      abbrev at31 : Typed.TF T39 O3
-      at31 = Typed.atNext O3
+      abbrev at31 : Typed.TF T39 O0
+      at31 = Typed.atRet O0
 
-      abbrev at32 : Typed.TF T38 O3
+      abbrev at32 : Typed.TF T38 O0
       at32 = λ Ψ. Typed.pass T38 T39 s34 (at31 Ψ)
 
-      abbrev at33 : Typed.TF T30 O3
-      at33 = λ Ψ. Typed.pass T30 T38 s33 (at32 Ψ)
+      abbrev at33 : Typed.TF T37 O0
+      at33 = λ Ψ. Typed.pass T37 T38 s33 (at32 Ψ)
 
-      abbrev at34 : Typed.TF T30 O3
-      at34 = Scalar.Φcond T30 O3 8 (λ x. x) at30 at33
+      abbrev at34 : Typed.TF T36 O0
+      at34 = λ Ψ. Typed.pass T36 T37 s32 (at33 Ψ)
 
-      abbrev at35 : Typed.TF T43 O0
-      at35 = Typed.atRet O0
+      abbrev at35 : Typed.TF T27 O0
+      at35 = λ Ψ. Typed.pass T27 T36 s31 (at34 Ψ)
 
-      abbrev at36 : Typed.TF T42 O0
-      at36 = λ Ψ. Typed.pass T42 T43 s38 (at35 Ψ)
+      abbrev at36 : Typed.TF T26 O0
+      at36 = λ Ψ. at30 (Typed.wantNext T27 O0 (at35 Ψ) Ψ)
 
-      abbrev at37 : Typed.TF T41 O0
-      at37 = λ Ψ. Typed.pass T41 T42 s37 (at36 Ψ)
+      abbrev at37 : Typed.TF T16 O0
+      at37 = λ Ψ. Typed.ask s22 (at36 Ψ)
 
-      abbrev at38 : Typed.TF T40 O0
-      at38 = λ Ψ. Typed.pass T40 T41 s36 (at37 Ψ)
+      abbrev at38 : Typed.TF T15 O0
+      at38 = λ Ψ. at23 (Typed.wantNext T16 O0 (at37 Ψ) Ψ)
 
-      abbrev at39 : Typed.TF T31 O0
-      at39 = λ Ψ. Typed.pass T31 T40 s35 (at38 Ψ)
+      abbrev at39 : Typed.TF T5 O0
+      at39 = λ Ψ. Typed.ask s12 (at38 Ψ)
 
-      abbrev at40 : Typed.TF T30 O0
-      at40 = λ Ψ. at34 (Typed.wantNext T31 O0 (at39 Ψ) Ψ)
+      abbrev at40 : Typed.TF T4 O0
+      at40 = λ Ψ. at11 (Typed.wantNext T5 O0 (at39 Ψ) Ψ)
 
-      abbrev at41 : Typed.TF T16 O0
-      at41 = λ Ψ. Typed.ask s26 (at40 Ψ)
+      abbrev at41 : Typed.TF T3 O0
+      at41 = λ Ψ. Typed.ask s2 (at40 Ψ)
 
-      abbrev at42 : Typed.TF T15 O0
-      at42 = λ Ψ. at27 (Typed.wantNext T16 O0 (at41 Ψ) Ψ)
+      abbrev at42 : Typed.TF T2 O0
+      at42 = λ Ψ. Typed.give s1 (at41 Ψ)
 
-      abbrev at43 : Typed.TF T5 O0
-      at43 = λ Ψ. Typed.ask s12 (at42 Ψ)
-
-      abbrev at44 : Typed.TF T4 O0
-      at44 = λ Ψ. at11 (Typed.wantNext T5 O0 (at43 Ψ) Ψ)
-
-      abbrev at45 : Typed.TF T3 O0
-      at45 = λ Ψ. Typed.ask s2 (at44 Ψ)
-
-      abbrev at46 : Typed.TF T2 O0
-      at46 = λ Ψ. Typed.give s1 (at45 Ψ)
-
-      abbrev at47 : Typed.TF T0 O0
-      at47 = λ Ψ. Typed.give s0 (at46 Ψ)
+      abbrev at43 : Typed.TF T0 O0
+      at43 = λ Ψ. Typed.give s0 (at42 Ψ)
 
       abbrev pub Φ : Typed.TF T0 O0
-      Φ = at47
+      Φ = at43
 
       module _ {M : Type 1} (𝓤 : URA.URA M) (H : Wp.Heap 𝓤) (A : Atoms.Atoms 𝓤) (W : Kit.Given 𝓤 H A) (𝓣 : Wp.Tables 𝓤 H) where
         abbrev Knowns : Type 1
-        Knowns = Plain.Known 𝓤 H A W 𝓣 3 ps·0 r·0 (claims· .0) (claims· .1) "bench_plans::contests::ask_contest" × Plain.Known 𝓤 H A W 𝓣 0 ps·1 r·1 (claims· .2) (claims· .3) "bench_plans::numbers::far" × Plain.Known 𝓤 H A W 𝓣 0 ps·2 r·2 (claims· .4) (claims· .5) "bench_plans::numbers::least" × Plain.Known 𝓤 H A W 𝓣 3 ps·3 r·3 (claims· .6) (claims· .7) "bench_plans::verdicts::ask_tables"
+        Knowns = Plain.Known 𝓤 H A W 𝓣 3 ps·0 r·0 (claims· .0) (claims· .1) "bench_plans::contests::ask_contest" × Plain.Known 𝓤 H A W 𝓣 3 ps·1 r·1 (claims· .2) (claims· .3) "bench_plans::warnings::ask_warning" × Plain.Known 𝓤 H A W 𝓣 0 ps·2 r·2 (claims· .4) (claims· .5) "bench_plans::numbers::least" × Plain.Known 𝓤 H A W 𝓣 3 ps·3 r·3 (claims· .6) (claims· .7) "bench_plans::verdicts::ask_tables"
 
       module _ (κs : Lifetimes.Lfts 3) (qs : Lifetimes.Shares 3) where
         abbrev G0 : Row.Cx
@@ -748,76 +688,64 @@ module _ (claims· : Claims) where
         G19 = record { locals = t10; slots = List._∷_ (Row.lease (κs .0) (qs .0)) (List._∷_ (Row.lease (κs .1 .0) (qs .1 .0)) (List._∷_ (Row.lease (κs .1 .1 .0) (qs .1 .1 .0)) List.[])) }
 
         abbrev G20 : Row.Cx
-        G20 = record { locals = t11; slots = List._∷_ (Row.lease (κs .0) (qs .0)) (List._∷_ (Row.lease (κs .1 .0) (qs .1 .0)) (List._∷_ (Row.lease (κs .1 .1 .0) (qs .1 .1 .0)) List.[])) }
+        G20 = record { locals = t5; slots = List._∷_ (Row.lease (κs .0) (qs .0)) (List._∷_ (Row.lease (κs .1 .0) (qs .1 .0)) (List._∷_ (Row.lease (κs .1 .1 .0) (qs .1 .1 .0)) List.[])) }
 
         abbrev G21 : Row.Cx
-        G21 = record { locals = t12; slots = List._∷_ (Row.lease (κs .0) (qs .0)) (List._∷_ (Row.lease (κs .1 .0) (qs .1 .0)) (List._∷_ (Row.lease (κs .1 .1 .0) (qs .1 .1 .0)) List.[])) }
+        G21 = record { locals = t6; slots = List._∷_ (Row.lease (κs .0) (qs .0)) (List._∷_ (Row.lease (κs .1 .0) (qs .1 .0)) (List._∷_ (Row.lease (κs .1 .1 .0) (qs .1 .1 .0)) List.[])) }
 
         abbrev G22 : Row.Cx
-        G22 = record { locals = t13; slots = List._∷_ (Row.lease (κs .0) (qs .0)) (List._∷_ (Row.lease (κs .1 .0) (qs .1 .0)) (List._∷_ (Row.lease (κs .1 .1 .0) (qs .1 .1 .0)) List.[])) }
+        G22 = record { locals = t7; slots = List._∷_ (Row.lease (κs .0) (qs .0)) (List._∷_ (Row.lease (κs .1 .0) (qs .1 .0)) (List._∷_ (Row.lease (κs .1 .1 .0) (qs .1 .1 .0)) List.[])) }
 
         abbrev G23 : Row.Cx
-        G23 = record { locals = t14; slots = List._∷_ (Row.lease (κs .0) (qs .0)) (List._∷_ (Row.lease (κs .1 .0) (qs .1 .0)) (List._∷_ (Row.lease (κs .1 .1 .0) (qs .1 .1 .0)) List.[])) }
+        G23 = record { locals = t8; slots = List._∷_ (Row.lease (κs .0) (qs .0)) (List._∷_ (Row.lease (κs .1 .0) (qs .1 .0)) (List._∷_ (Row.lease (κs .1 .1 .0) (qs .1 .1 .0)) List.[])) }
 
         abbrev G24 : Row.Cx
-        G24 = record { locals = t5; slots = List._∷_ (Row.lease (κs .0) (qs .0)) (List._∷_ (Row.lease (κs .1 .0) (qs .1 .0)) (List._∷_ (Row.lease (κs .1 .1 .0) (qs .1 .1 .0)) List.[])) }
+        G24 = record { locals = t1; slots = List._∷_ (Row.lease (κs .0) (qs .0)) (List._∷_ (Row.lease (κs .1 .0) (qs .1 .0)) (List._∷_ (Row.lease (κs .1 .1 .0) (qs .1 .1 .0)) List.[])) }
 
         abbrev G25 : Row.Cx
-        G25 = record { locals = t6; slots = List._∷_ (Row.lease (κs .0) (qs .0)) (List._∷_ (Row.lease (κs .1 .0) (qs .1 .0)) (List._∷_ (Row.lease (κs .1 .1 .0) (qs .1 .1 .0)) List.[])) }
+        G25 = record { locals = t0; slots = List._∷_ (Row.lease (κs .0) (qs .0)) (List._∷_ (Row.lease (κs .1 .0) (qs .1 .0)) (List._∷_ (Row.lease (κs .1 .1 .0) (qs .1 .1 .0)) List.[])) }
 
         abbrev G26 : Row.Cx
-        G26 = record { locals = t7; slots = List._∷_ (Row.lease (κs .0) (qs .0)) (List._∷_ (Row.lease (κs .1 .0) (qs .1 .0)) (List._∷_ (Row.lease (κs .1 .1 .0) (qs .1 .1 .0)) List.[])) }
+        G26 = record { locals = t2; slots = List._∷_ (Row.lease (κs .0) (qs .0)) (List._∷_ (Row.lease (κs .1 .0) (qs .1 .0)) (List._∷_ (Row.lease (κs .1 .1 .0) (qs .1 .1 .0)) List.[])) }
 
         abbrev G27 : Row.Cx
-        G27 = record { locals = t8; slots = List._∷_ (Row.lease (κs .0) (qs .0)) (List._∷_ (Row.lease (κs .1 .0) (qs .1 .0)) (List._∷_ (Row.lease (κs .1 .1 .0) (qs .1 .1 .0)) List.[])) }
+        G27 = record { locals = t5; slots = List._∷_ (Row.lease (κs .0) (qs .0)) (List._∷_ (Row.lease (κs .1 .0) (qs .1 .0)) (List._∷_ (Row.lease (κs .1 .1 .0) (qs .1 .1 .0)) List.[])) }
 
         abbrev G28 : Row.Cx
-        G28 = record { locals = t1; slots = List._∷_ (Row.lease (κs .0) (qs .0)) (List._∷_ (Row.lease (κs .1 .0) (qs .1 .0)) (List._∷_ (Row.lease (κs .1 .1 .0) (qs .1 .1 .0)) List.[])) }
+        G28 = record { locals = t0; slots = List._∷_ (Row.lease (κs .0) (qs .0)) (List._∷_ (Row.lease (κs .1 .0) (qs .1 .0)) (List._∷_ (Row.lease (κs .1 .1 .0) (qs .1 .1 .0)) List.[])) }
 
         abbrev G29 : Row.Cx
-        G29 = record { locals = t0; slots = List._∷_ (Row.lease (κs .0) (qs .0)) (List._∷_ (Row.lease (κs .1 .0) (qs .1 .0)) (List._∷_ (Row.lease (κs .1 .1 .0) (qs .1 .1 .0)) List.[])) }
+        G29 = record { locals = t11; slots = List._∷_ (Row.lease (κs .0) (qs .0)) (List._∷_ (Row.lease (κs .1 .0) (qs .1 .0)) (List._∷_ (Row.lease (κs .1 .1 .0) (qs .1 .1 .0)) List.[])) }
 
         abbrev G30 : Row.Cx
-        G30 = record { locals = t2; slots = List._∷_ (Row.lease (κs .0) (qs .0)) (List._∷_ (Row.lease (κs .1 .0) (qs .1 .0)) (List._∷_ (Row.lease (κs .1 .1 .0) (qs .1 .1 .0)) List.[])) }
+        G30 = record { locals = t12; slots = List._∷_ (Row.lease (κs .0) (qs .0)) (List._∷_ (Row.lease (κs .1 .0) (qs .1 .0)) (List._∷_ (Row.lease (κs .1 .1 .0) (qs .1 .1 .0)) List.[])) }
 
         abbrev G31 : Row.Cx
-        G31 = record { locals = t5; slots = List._∷_ (Row.lease (κs .0) (qs .0)) (List._∷_ (Row.lease (κs .1 .0) (qs .1 .0)) (List._∷_ (Row.lease (κs .1 .1 .0) (qs .1 .1 .0)) List.[])) }
+        G31 = record { locals = t13; slots = List._∷_ (Row.lease (κs .0) (qs .0)) (List._∷_ (Row.lease (κs .1 .0) (qs .1 .0)) (List._∷_ (Row.lease (κs .1 .1 .0) (qs .1 .1 .0)) List.[])) }
 
         abbrev G32 : Row.Cx
-        G32 = record { locals = t0; slots = List._∷_ (Row.lease (κs .0) (qs .0)) (List._∷_ (Row.lease (κs .1 .0) (qs .1 .0)) (List._∷_ (Row.lease (κs .1 .1 .0) (qs .1 .1 .0)) List.[])) }
+        G32 = record { locals = t14; slots = List._∷_ (Row.lease (κs .0) (qs .0)) (List._∷_ (Row.lease (κs .1 .0) (qs .1 .0)) (List._∷_ (Row.lease (κs .1 .1 .0) (qs .1 .1 .0)) List.[])) }
 
         abbrev G33 : Row.Cx
-        G33 = record { locals = t15; slots = List._∷_ (Row.lease (κs .0) (qs .0)) (List._∷_ (Row.lease (κs .1 .0) (qs .1 .0)) (List._∷_ (Row.lease (κs .1 .1 .0) (qs .1 .1 .0)) List.[])) }
+        G33 = record { locals = t5; slots = List._∷_ (Row.lease (κs .0) (qs .0)) (List._∷_ (Row.lease (κs .1 .0) (qs .1 .0)) (List._∷_ (Row.lease (κs .1 .1 .0) (qs .1 .1 .0)) List.[])) }
 
         abbrev G34 : Row.Cx
-        G34 = record { locals = t16; slots = List._∷_ (Row.lease (κs .0) (qs .0)) (List._∷_ (Row.lease (κs .1 .0) (qs .1 .0)) (List._∷_ (Row.lease (κs .1 .1 .0) (qs .1 .1 .0)) List.[])) }
+        G34 = record { locals = t15; slots = List._∷_ (Row.lease (κs .0) (qs .0)) (List._∷_ (Row.lease (κs .1 .0) (qs .1 .0)) (List._∷_ (Row.lease (κs .1 .1 .0) (qs .1 .1 .0)) List.[])) }
 
         abbrev G35 : Row.Cx
-        G35 = record { locals = t17; slots = List._∷_ (Row.lease (κs .0) (qs .0)) (List._∷_ (Row.lease (κs .1 .0) (qs .1 .0)) (List._∷_ (Row.lease (κs .1 .1 .0) (qs .1 .1 .0)) List.[])) }
+        G35 = record { locals = t5; slots = List._∷_ (Row.lease (κs .0) (qs .0)) (List._∷_ (Row.lease (κs .1 .0) (qs .1 .0)) (List._∷_ (Row.lease (κs .1 .1 .0) (qs .1 .1 .0)) List.[])) }
 
         abbrev G36 : Row.Cx
-        G36 = record { locals = t18; slots = List._∷_ (Row.lease (κs .0) (qs .0)) (List._∷_ (Row.lease (κs .1 .0) (qs .1 .0)) (List._∷_ (Row.lease (κs .1 .1 .0) (qs .1 .1 .0)) List.[])) }
+        G36 = record { locals = t6; slots = List._∷_ (Row.lease (κs .0) (qs .0)) (List._∷_ (Row.lease (κs .1 .0) (qs .1 .0)) (List._∷_ (Row.lease (κs .1 .1 .0) (qs .1 .1 .0)) List.[])) }
 
         abbrev G37 : Row.Cx
-        G37 = record { locals = t5; slots = List._∷_ (Row.lease (κs .0) (qs .0)) (List._∷_ (Row.lease (κs .1 .0) (qs .1 .0)) (List._∷_ (Row.lease (κs .1 .1 .0) (qs .1 .1 .0)) List.[])) }
+        G37 = record { locals = t7; slots = List._∷_ (Row.lease (κs .0) (qs .0)) (List._∷_ (Row.lease (κs .1 .0) (qs .1 .0)) (List._∷_ (Row.lease (κs .1 .1 .0) (qs .1 .1 .0)) List.[])) }
 
         abbrev G38 : Row.Cx
-        G38 = record { locals = t19; slots = List._∷_ (Row.lease (κs .0) (qs .0)) (List._∷_ (Row.lease (κs .1 .0) (qs .1 .0)) (List._∷_ (Row.lease (κs .1 .1 .0) (qs .1 .1 .0)) List.[])) }
+        G38 = record { locals = t8; slots = List._∷_ (Row.lease (κs .0) (qs .0)) (List._∷_ (Row.lease (κs .1 .0) (qs .1 .0)) (List._∷_ (Row.lease (κs .1 .1 .0) (qs .1 .1 .0)) List.[])) }
 
         abbrev G39 : Row.Cx
-        G39 = record { locals = t5; slots = List._∷_ (Row.lease (κs .0) (qs .0)) (List._∷_ (Row.lease (κs .1 .0) (qs .1 .0)) (List._∷_ (Row.lease (κs .1 .1 .0) (qs .1 .1 .0)) List.[])) }
-
-        abbrev G40 : Row.Cx
-        G40 = record { locals = t6; slots = List._∷_ (Row.lease (κs .0) (qs .0)) (List._∷_ (Row.lease (κs .1 .0) (qs .1 .0)) (List._∷_ (Row.lease (κs .1 .1 .0) (qs .1 .1 .0)) List.[])) }
-
-        abbrev G41 : Row.Cx
-        G41 = record { locals = t7; slots = List._∷_ (Row.lease (κs .0) (qs .0)) (List._∷_ (Row.lease (κs .1 .0) (qs .1 .0)) (List._∷_ (Row.lease (κs .1 .1 .0) (qs .1 .1 .0)) List.[])) }
-
-        abbrev G42 : Row.Cx
-        G42 = record { locals = t8; slots = List._∷_ (Row.lease (κs .0) (qs .0)) (List._∷_ (Row.lease (κs .1 .0) (qs .1 .0)) (List._∷_ (Row.lease (κs .1 .1 .0) (qs .1 .1 .0)) List.[])) }
-
-        abbrev G43 : Row.Cx
-        G43 = record { locals = t1; slots = List._∷_ (Row.lease (κs .0) (qs .0)) (List._∷_ (Row.lease (κs .1 .0) (qs .1 .0)) (List._∷_ (Row.lease (κs .1 .1 .0) (qs .1 .1 .0)) List.[])) }
+        G39 = record { locals = t1; slots = List._∷_ (Row.lease (κs .0) (qs .0)) (List._∷_ (Row.lease (κs .1 .0) (qs .1 .0)) (List._∷_ (Row.lease (κs .1 .1 .0) (qs .1 .1 .0)) List.[])) }
 
         abbrev Δ0 : Typed.Outs
         Δ0 = record { next = Option.none; exits = List.[]; returns = Option.some G1 }
@@ -829,7 +757,7 @@ module _ (claims· : Claims) where
         Δ2 = Typed.withNext (Option.some G16) Δ0
 
         abbrev Δ3 : Typed.Outs
-        Δ3 = Typed.withNext (Option.some G31) Δ0
+        Δ3 = Typed.withNext (Option.some G27) Δ0
 
         module _ {M : Type 1} (𝓤 : URA.URA M) (H : Wp.Heap 𝓤) (A : Atoms.Atoms 𝓤) (W : Kit.Given 𝓤 H A) (𝓣 : Wp.Tables 𝓤 H) (known : Knowns 𝓤 H A W 𝓣) (bs : List.List Nat.ℕ) (bd : Lifetimes.AllOutlive 3 (Kinds.osR r) κs) where
           abbrev E : Wp.Env 𝓤 H
@@ -871,116 +799,104 @@ module _ (claims· : Claims) where
           d11 : Typed.Typed 𝓤 H A 𝓣 E G4 b7 Δ1 at11
           d11 = Scalar.t-cond 𝓤 H A W E 𝓣 G4 8 (λ x. x) b5 b6 Δ1 at8 at10 (Scalar.reads-sc 𝓤 H A W Row.sBool) Path'.refl d8 d10
 
-          d12 : Typed.Typed 𝓤 H A 𝓣 E G28 b13 Δ2 at12
+          d12 : Typed.Typed 𝓤 H A 𝓣 E G24 b11 Δ2 at12
           d12 = Typed.t-return 𝓤 H A W 𝓣 E Δ2 tt
 
-          d13 : Typed.Typed 𝓤 H A 𝓣 E G27 b13 Δ2 at13
-          d13 = Typed.g-pre 𝓤 H A W 𝓣 E G27 G28 b13 Δ2 (Typed.pass T27 T28 s24) at12 (Scalar.g-room 𝓤 H A W E G27 7 (Syntax.tyInt Syntax.w64) (Scalar.room-sc 𝓤 H A W (Row.sInt Syntax.w64))) d12
+          d13 : Typed.Typed 𝓤 H A 𝓣 E G23 b11 Δ2 at13
+          d13 = Typed.g-pre 𝓤 H A W 𝓣 E G23 G24 b11 Δ2 (Typed.pass T23 T24 s20) at12 (Scalar.g-room 𝓤 H A W E G23 7 (Syntax.tyInt Syntax.w64) (Scalar.room-sc 𝓤 H A W (Row.sInt Syntax.w64))) d12
 
-          d14 : Typed.Typed 𝓤 H A 𝓣 E G26 b13 Δ2 at14
-          d14 = Typed.g-pre 𝓤 H A W 𝓣 E G26 G27 b13 Δ2 (Typed.pass T26 T27 s23) at13 (Scalar.g-room 𝓤 H A W E G26 6 (Syntax.tyInt Syntax.w64) (Scalar.room-sc 𝓤 H A W (Row.sInt Syntax.w64))) d13
+          d14 : Typed.Typed 𝓤 H A 𝓣 E G22 b11 Δ2 at14
+          d14 = Typed.g-pre 𝓤 H A W 𝓣 E G22 G23 b11 Δ2 (Typed.pass T22 T23 s19) at13 (Scalar.g-room 𝓤 H A W E G22 6 (Syntax.tyInt Syntax.w64) (Scalar.room-sc 𝓤 H A W (Row.sInt Syntax.w64))) d13
 
-          d15 : Typed.Typed 𝓤 H A 𝓣 E G25 b13 Δ2 at15
-          d15 = Typed.g-pre 𝓤 H A W 𝓣 E G25 G26 b13 Δ2 (Typed.pass T25 T26 s22) at14 (Scalar.g-room 𝓤 H A W E G25 5 (Syntax.tyInt Syntax.w64) (Scalar.room-sc 𝓤 H A W (Row.sInt Syntax.w64))) d14
+          d15 : Typed.Typed 𝓤 H A 𝓣 E G21 b11 Δ2 at15
+          d15 = Typed.g-pre 𝓤 H A W 𝓣 E G21 G22 b11 Δ2 (Typed.pass T21 T22 s18) at14 (Scalar.g-room 𝓤 H A W E G21 5 (Syntax.tyInt Syntax.w64) (Scalar.room-sc 𝓤 H A W (Row.sInt Syntax.w64))) d14
 
-          d16 : Typed.Typed 𝓤 H A 𝓣 E G24 b14 Δ2 at16
-          d16 = Typed.s-seq 𝓤 H A W 𝓣 E G24 G25 b12 b13 Δ2 (Typed.pass T24 T25 s21) at15 (Scalar.t-use 𝓤 H A W E 𝓣 G24 Scalar.oUnit 0 (Rows.sc-here Row.sUnit) Syntax.tyUnit (Row.valS Row.sUnit) (Row.sUnit .of) tt (Reads.room-gone 𝓤 H A Syntax.tyUnit) (Scalar.holds-sc 𝓤 H A W Row.sUnit) Path'.refl (λ u. Path'.refl) λ u. tt) d15
+          d16 : Typed.Typed 𝓤 H A 𝓣 E G20 b12 Δ2 at16
+          d16 = Typed.s-seq 𝓤 H A W 𝓣 E G20 G21 b10 b11 Δ2 (Typed.pass T20 T21 s17) at15 (Scalar.t-use 𝓤 H A W E 𝓣 G20 Scalar.oUnit 0 (Rows.sc-here Row.sUnit) Syntax.tyUnit (Row.valS Row.sUnit) (Row.sUnit .of) tt (Reads.room-gone 𝓤 H A Syntax.tyUnit) (Scalar.holds-sc 𝓤 H A W Row.sUnit) Path'.refl (λ u. Path'.refl) λ u. tt) d15
 
-          d17 : Typed.Typed 𝓤 H A 𝓣 E G23 b14 Δ2 at17
-          d17 = Typed.g-pre 𝓤 H A W 𝓣 E G23 G24 b14 Δ2 (Typed.pass T23 T24 s20) at16 (Scalar.g-room 𝓤 H A W E G23 12 (Syntax.tyInt Syntax.w64) (Scalar.room-sc 𝓤 H A W (Row.sInt Syntax.w64))) d16
+          d17 : Typed.Typed 𝓤 H A 𝓣 E G19 b12 Δ2 at17
+          d17 = Typed.g-pre 𝓤 H A W 𝓣 E G19 G20 b12 Δ2 (Typed.pass T19 T20 s16) at16 (Scalar.g-room 𝓤 H A W E G19 10 Syntax.tyUnit (Scalar.room-sc 𝓤 H A W Row.sUnit)) d16
 
-          d18 : Typed.Typed 𝓤 H A 𝓣 E G22 b14 Δ2 at18
-          d18 = Typed.g-pre 𝓤 H A W 𝓣 E G22 G23 b14 Δ2 (Typed.pass T22 T23 s19) at17 (Scalar.g-room 𝓤 H A W E G22 11 (Syntax.tyInt Syntax.w64) (Scalar.room-sc 𝓤 H A W (Row.sInt Syntax.w64))) d17
+          d18 : Typed.Typed 𝓤 H A 𝓣 E G18 b12 Δ2 at18
+          d18 = Typed.g-pre 𝓤 H A W 𝓣 E G18 G19 b12 Δ2 (Typed.pass T18 T19 s15) at17 (Scalar.g-room 𝓤 H A W E G18 1 ty·3 (Local.room-whole 𝓤 H A W (Declared.row Size.the-type) ty·3 Path'.refl)) d17
 
-          d19 : Typed.Typed 𝓤 H A 𝓣 E G21 b14 Δ2 at19
-          d19 = Typed.g-pre 𝓤 H A W 𝓣 E G21 G22 b14 Δ2 (Typed.pass T21 T22 s18) at18 (Scalar.g-room 𝓤 H A W E G21 10 Syntax.tyUnit (Scalar.room-sc 𝓤 H A W Row.sUnit)) d18
+          d19 : Typed.Typed 𝓤 H A 𝓣 E G17 b13 Δ2 at19
+          d19 = Typed.s-seq 𝓤 H A W 𝓣 E G17 G18 b9 b12 Δ2 (Typed.both s14) at18 (Plain.t-call-plain 𝓤 H A W 𝓣 3 ps·1 r·1 (claims· .2) (claims· .3) "bench_plans::warnings::ask_warning" (known .1) E (λ pos β. β) G17 (record { pos = 1; st = List.[]; d = 0; at = λ x. x }, (record { pos = 2; ty = Syntax.tyRef (Syntax.named 0) Syntax.imm (Memory.pointee (T.the-row .written)); ref = λ x. x }, (record { pos = 3; ty = Syntax.tyRef (Syntax.named 1) Syntax.imm (Syntax.tyInt Syntax.w16); ref = λ x. x }, (record { pos = 4; ty = Syntax.tyRef (Syntax.named 2) Syntax.imm (Syntax.tyInt Syntax.w16); ref = λ x. x }, (Num.vAt 6 λ x. x, (Num.vAt 7 λ x. x, tt)))))) 10 (List._∷_ 0 (List._∷_ 1 (List._∷_ 2 List.[]))) (Call.sub-id 𝓤 H A W (G17 .slots)) ((Yields.yields-copy 𝓤 H A W (λ ρ. Unit) (Declared.row Size.the-type) Path'.refl (Copies.cStruct Size.the-type Laws.the-laws Laws.the-copy .copy 𝓤 H A W) (Rows.whole (Declared.row Size.the-type)) (λ x. x) (λ x. x) (λ ρ told. Local.mem-whole 𝓤 H A W (Declared.row Size.the-type) ρ) λ ρ told. Local.whole-mem 𝓤 H A W (Declared.row Size.the-type) ρ, Path'.refl), (ShrSlice.spares-sslice 𝓤 H A W T.the-row ty·2 0, Shared.reads-sslice 𝓤 H A W T.the-row ty·2 0, Path'.refl, (ShrSlice.spares-sslice 𝓤 H A W (Referent.rtF (Referent.fInt Syntax.w16)) ty·0 1, Shared.reads-sslice 𝓤 H A W (Referent.rtF (Referent.fInt Syntax.w16)) ty·0 1, Path'.refl, (ShrSlice.spares-sslice 𝓤 H A W (Referent.rtF (Referent.fInt Syntax.w16)) ty·1 2, Shared.reads-sslice 𝓤 H A W (Referent.rtF (Referent.fInt Syntax.w16)) ty·1 2, Path'.refl, ((Scalar.reads-sc 𝓤 H A W (Row.sInt Syntax.w64), Path'.refl), ((Scalar.reads-sc 𝓤 H A W (Row.sInt Syntax.w64), Path'.refl), tt)))))) (Reads.room-gone 𝓤 H A Syntax.tyUnit) (tt, (tt, (tt, tt))) Path'.refl) d18
 
-          d20 : Typed.Typed 𝓤 H A 𝓣 E G20 b14 Δ2 at20
-          d20 = Typed.g-pre 𝓤 H A W 𝓣 E G20 G21 b14 Δ2 (Typed.pass T20 T21 s17) at19 (Scalar.g-room 𝓤 H A W E G20 1 ty·3 (Local.room-whole 𝓤 H A W (Declared.row Size.the-type) ty·3 Path'.refl)) d19
+          d20 : Typed.Typed 𝓤 H A 𝓣 E G15 b13 Δ2 at20
+          d20 = Typed.g-pre 𝓤 H A W 𝓣 E G15 G17 b13 Δ2 (Typed.pass T15 T17 s13) at19 (Scalar.g-room 𝓤 H A W E G15 8 Syntax.tyBool (Scalar.room-sc 𝓤 H A W Row.sBool)) d19
 
-          d21 : Typed.Typed 𝓤 H A 𝓣 E G19 b15 Δ2 at21
-          d21 = Typed.s-seq 𝓤 H A W 𝓣 E G19 G20 b11 b14 Δ2 (Typed.both s16) at20 (Plain.t-call-plain 𝓤 H A W 𝓣 3 ps·0 r·0 (claims· .0) (claims· .1) "bench_plans::contests::ask_contest" (known .0) E (λ pos β. β) G19 (record { pos = 1; st = List.[]; d = 0; at = λ x. x }, (record { pos = 2; ty = Syntax.tyRef (Syntax.named 0) Syntax.imm (Memory.pointee (T.the-row .written)); ref = λ x. x }, (record { pos = 3; ty = Syntax.tyRef (Syntax.named 1) Syntax.imm (Syntax.tyInt Syntax.w16); ref = λ x. x }, (record { pos = 4; ty = Syntax.tyRef (Syntax.named 2) Syntax.imm (Syntax.tyInt Syntax.w16); ref = λ x. x }, (Num.vAt 11 λ x. x, (Num.vAt 12 λ x. x, tt)))))) 10 (List._∷_ 0 (List._∷_ 1 (List._∷_ 2 List.[]))) (Call.sub-id 𝓤 H A W (G19 .slots)) ((Yields.yields-copy 𝓤 H A W (λ ρ. Unit) (Declared.row Size.the-type) Path'.refl (Copies.cStruct Size.the-type Laws.the-laws Laws.the-copy .copy 𝓤 H A W) (Rows.whole (Declared.row Size.the-type)) (λ x. x) (λ x. x) (λ ρ told. Local.mem-whole 𝓤 H A W (Declared.row Size.the-type) ρ) λ ρ told. Local.whole-mem 𝓤 H A W (Declared.row Size.the-type) ρ, Path'.refl), (ShrSlice.spares-sslice 𝓤 H A W T.the-row ty·2 0, Shared.reads-sslice 𝓤 H A W T.the-row ty·2 0, Path'.refl, (ShrSlice.spares-sslice 𝓤 H A W (Referent.rtF (Referent.fInt Syntax.w16)) ty·0 1, Shared.reads-sslice 𝓤 H A W (Referent.rtF (Referent.fInt Syntax.w16)) ty·0 1, Path'.refl, (ShrSlice.spares-sslice 𝓤 H A W (Referent.rtF (Referent.fInt Syntax.w16)) ty·1 2, Shared.reads-sslice 𝓤 H A W (Referent.rtF (Referent.fInt Syntax.w16)) ty·1 2, Path'.refl, ((Scalar.reads-sc 𝓤 H A W (Row.sInt Syntax.w64), Path'.refl), ((Scalar.reads-sc 𝓤 H A W (Row.sInt Syntax.w64), Path'.refl), tt)))))) (Reads.room-gone 𝓤 H A Syntax.tyUnit) (tt, (tt, (tt, tt))) Path'.refl) d20
+          d21 : Typed.Typed 𝓤 H A 𝓣 E G25 b14 Δ2 at21
+          d21 = Typed.t-skip 𝓤 H A W 𝓣 E Δ2 tt
 
-          d22 : Typed.Typed 𝓤 H A 𝓣 E G18 b16 Δ2 at22
-          d22 = Typed.s-seq 𝓤 H A W 𝓣 E G18 G19 b10 b15 Δ2 (Typed.both s15) at21 (Plain.t-call-plain 𝓤 H A W 𝓣 0 ps·1 r·1 (claims· .2) (claims· .3) "bench_plans::numbers::far" (known .1) E (λ pos β. β) G18 (Num.vAt 7 λ x. x, tt) 12 List.[] (Call.sub-id 𝓤 H A W (G18 .slots)) ((Scalar.reads-sc 𝓤 H A W (Row.sInt Syntax.w64), Path'.refl), tt) (Reads.room-gone 𝓤 H A (Syntax.tyInt Syntax.w64)) tt Path'.refl) d21
+          d22 : Typed.Typed 𝓤 H A 𝓣 E G15 b14 Δ2 at22
+          d22 = Typed.g-pre 𝓤 H A W 𝓣 E G15 G25 b14 Δ2 (Typed.pass T15 T25 s21) at21 (Scalar.g-room 𝓤 H A W E G15 8 Syntax.tyBool (Scalar.room-sc 𝓤 H A W Row.sBool)) d21
 
-          d23 : Typed.Typed 𝓤 H A 𝓣 E G17 b17 Δ2 at23
-          d23 = Typed.s-seq 𝓤 H A W 𝓣 E G17 G18 b9 b16 Δ2 (Typed.both s14) at22 (Plain.t-call-plain 𝓤 H A W 𝓣 0 ps·1 r·1 (claims· .2) (claims· .3) "bench_plans::numbers::far" (known .1) E (λ pos β. β) G17 (Num.vAt 6 λ x. x, tt) 11 List.[] (Call.sub-id 𝓤 H A W (G17 .slots)) ((Scalar.reads-sc 𝓤 H A W (Row.sInt Syntax.w64), Path'.refl), tt) (Reads.room-gone 𝓤 H A (Syntax.tyInt Syntax.w64)) tt Path'.refl) d22
+          d23 : Typed.Typed 𝓤 H A 𝓣 E G15 b15 Δ2 at23
+          d23 = Scalar.t-cond 𝓤 H A W E 𝓣 G15 8 (λ x. x) b13 b14 Δ2 at20 at22 (Scalar.reads-sc 𝓤 H A W Row.sBool) Path'.refl d20 d22
 
-          d24 : Typed.Typed 𝓤 H A 𝓣 E G15 b17 Δ2 at24
-          d24 = Typed.g-pre 𝓤 H A W 𝓣 E G15 G17 b17 Δ2 (Typed.pass T15 T17 s13) at23 (Scalar.g-room 𝓤 H A W E G15 8 Syntax.tyBool (Scalar.room-sc 𝓤 H A W Row.sBool)) d23
+          d24 : Typed.Typed 𝓤 H A 𝓣 E G29 b18 Δ3 at24
+          d24 = Typed.s-typed 𝓤 H A W 𝓣 E G29 b18 Δ3 (λ Ψ. Typed.both s25 (Typed.pass T30 T31 s26 (Typed.pass T31 T32 s27 (Typed.pass T32 T33 s28 Ψ)))) tt (Typed.g-post 𝓤 H A W 𝓣 E G29 G32 G33 b18 (λ Ψ. Typed.both s25 (Typed.pass T30 T31 s26 (Typed.pass T31 T32 s27 Ψ))) (Typed.pass T32 T33 s28) (Typed.g-post 𝓤 H A W 𝓣 E G29 G31 G32 b18 (λ Ψ. Typed.both s25 (Typed.pass T30 T31 s26 Ψ)) (Typed.pass T31 T32 s27) (Typed.g-post 𝓤 H A W 𝓣 E G29 G30 G31 b18 (Typed.both s25) (Typed.pass T30 T31 s26) (Plain.t-call-plain 𝓤 H A W 𝓣 3 ps·3 r·3 (claims· .6) (claims· .7) "bench_plans::verdicts::ask_tables" (known .3) E (λ pos β. β) G29 (record { pos = 1; st = List.[]; d = 0; at = λ x. x }, (record { pos = 2; ty = Syntax.tyRef (Syntax.named 0) Syntax.imm (Memory.pointee (T.the-row .written)); ref = λ x. x }, (record { pos = 3; ty = Syntax.tyRef (Syntax.named 1) Syntax.imm (Syntax.tyInt Syntax.w16); ref = λ x. x }, (record { pos = 4; ty = Syntax.tyRef (Syntax.named 2) Syntax.imm (Syntax.tyInt Syntax.w16); ref = λ x. x }, (Num.vAt 5 λ x. x, (Num.vAt 6 λ x. x, (Num.vAt 12 λ x. x, tt))))))) 11 (List._∷_ 0 (List._∷_ 1 (List._∷_ 2 List.[]))) (Call.sub-id 𝓤 H A W (G29 .slots)) ((Yields.yields-copy 𝓤 H A W (λ ρ. Unit) (Declared.row Size.the-type) Path'.refl (Copies.cStruct Size.the-type Laws.the-laws Laws.the-copy .copy 𝓤 H A W) (Rows.whole (Declared.row Size.the-type)) (λ x. x) (λ x. x) (λ ρ told. Local.mem-whole 𝓤 H A W (Declared.row Size.the-type) ρ) λ ρ told. Local.whole-mem 𝓤 H A W (Declared.row Size.the-type) ρ, Path'.refl), (ShrSlice.spares-sslice 𝓤 H A W T.the-row ty·2 0, Shared.reads-sslice 𝓤 H A W T.the-row ty·2 0, Path'.refl, (ShrSlice.spares-sslice 𝓤 H A W (Referent.rtF (Referent.fInt Syntax.w16)) ty·0 1, Shared.reads-sslice 𝓤 H A W (Referent.rtF (Referent.fInt Syntax.w16)) ty·0 1, Path'.refl, (ShrSlice.spares-sslice 𝓤 H A W (Referent.rtF (Referent.fInt Syntax.w16)) ty·1 2, Shared.reads-sslice 𝓤 H A W (Referent.rtF (Referent.fInt Syntax.w16)) ty·1 2, Path'.refl, ((Scalar.reads-sc 𝓤 H A W (Row.sInt Syntax.w64), Path'.refl), ((Scalar.reads-sc 𝓤 H A W (Row.sInt Syntax.w64), Path'.refl), ((Scalar.reads-sc 𝓤 H A W (Row.sInt Syntax.w64), Path'.refl), tt))))))) (Reads.room-gone 𝓤 H A Syntax.tyUnit) (tt, (tt, (tt, tt))) Path'.refl) (Scalar.g-room 𝓤 H A W E G30 1 ty·3 (Local.room-whole 𝓤 H A W (Declared.row Size.the-type) ty·3 Path'.refl))) (Scalar.g-room 𝓤 H A W E G31 11 Syntax.tyUnit (Scalar.room-sc 𝓤 H A W Row.sUnit))) (Scalar.g-room 𝓤 H A W E G32 12 (Syntax.tyInt Syntax.w64) (Scalar.room-sc 𝓤 H A W (Row.sInt Syntax.w64))))
 
-          d25 : Typed.Typed 𝓤 H A 𝓣 E G29 b18 Δ2 at25
-          d25 = Typed.t-skip 𝓤 H A W 𝓣 E Δ2 tt
+          d25 : Typed.Typed 𝓤 H A 𝓣 E G28 b19 Δ3 at25
+          d25 = Typed.s-seq 𝓤 H A W 𝓣 E G28 G29 b17 b18 Δ3 (Typed.both s24) at24 (Plain.t-call-plain 𝓤 H A W 𝓣 0 ps·2 r·2 (claims· .4) (claims· .5) "bench_plans::numbers::least" (known .2) E (λ pos β. β) G28 (Num.vAt 7 λ x. x, (Num.vBig 1024, tt)) 12 List.[] (Call.sub-id 𝓤 H A W (G28 .slots)) ((Scalar.reads-sc 𝓤 H A W (Row.sInt Syntax.w64), Path'.refl), (record { lower = record { fits = Dec'.lit< tt } }, tt)) (Reads.room-gone 𝓤 H A (Syntax.tyInt Syntax.w64)) tt Path'.refl) d24
 
-          d26 : Typed.Typed 𝓤 H A 𝓣 E G15 b18 Δ2 at26
-          d26 = Typed.g-pre 𝓤 H A W 𝓣 E G15 G29 b18 Δ2 (Typed.pass T15 T29 s25) at25 (Scalar.g-room 𝓤 H A W E G15 8 Syntax.tyBool (Scalar.room-sc 𝓤 H A W Row.sBool)) d25
+          d26 : Typed.Typed 𝓤 H A 𝓣 E G26 b19 Δ3 at26
+          d26 = Typed.g-pre 𝓤 H A W 𝓣 E G26 G28 b19 Δ3 (Typed.pass T26 T28 s23) at25 (Scalar.g-room 𝓤 H A W E G26 8 Syntax.tyBool (Scalar.room-sc 𝓤 H A W Row.sBool)) d25
 
-          d27 : Typed.Typed 𝓤 H A 𝓣 E G15 b19 Δ2 at27
-          d27 = Scalar.t-cond 𝓤 H A W E 𝓣 G15 8 (λ x. x) b17 b18 Δ2 at24 at26 (Scalar.reads-sc 𝓤 H A W Row.sBool) Path'.refl d24 d26
+          d27 : Typed.Typed 𝓤 H A 𝓣 E G35 b20 Δ3 at27
+          d27 = Typed.t-skip 𝓤 H A W 𝓣 E Δ3 tt
 
-          d28 : Typed.Typed 𝓤 H A 𝓣 E G33 b22 Δ3 at28
-          d28 = Typed.s-typed 𝓤 H A W 𝓣 E G33 b22 Δ3 (λ Ψ. Typed.both s29 (Typed.pass T34 T35 s30 (Typed.pass T35 T36 s31 (Typed.pass T36 T37 s32 Ψ)))) tt (Typed.g-post 𝓤 H A W 𝓣 E G33 G36 G37 b22 (λ Ψ. Typed.both s29 (Typed.pass T34 T35 s30 (Typed.pass T35 T36 s31 Ψ))) (Typed.pass T36 T37 s32) (Typed.g-post 𝓤 H A W 𝓣 E G33 G35 G36 b22 (λ Ψ. Typed.both s29 (Typed.pass T34 T35 s30 Ψ)) (Typed.pass T35 T36 s31) (Typed.g-post 𝓤 H A W 𝓣 E G33 G34 G35 b22 (Typed.both s29) (Typed.pass T34 T35 s30) (Plain.t-call-plain 𝓤 H A W 𝓣 3 ps·3 r·3 (claims· .6) (claims· .7) "bench_plans::verdicts::ask_tables" (known .3) E (λ pos β. β) G33 (record { pos = 1; st = List.[]; d = 0; at = λ x. x }, (record { pos = 2; ty = Syntax.tyRef (Syntax.named 0) Syntax.imm (Memory.pointee (T.the-row .written)); ref = λ x. x }, (record { pos = 3; ty = Syntax.tyRef (Syntax.named 1) Syntax.imm (Syntax.tyInt Syntax.w16); ref = λ x. x }, (record { pos = 4; ty = Syntax.tyRef (Syntax.named 2) Syntax.imm (Syntax.tyInt Syntax.w16); ref = λ x. x }, (Num.vAt 5 λ x. x, (Num.vAt 6 λ x. x, (Num.vAt 14 λ x. x, tt))))))) 13 (List._∷_ 0 (List._∷_ 1 (List._∷_ 2 List.[]))) (Call.sub-id 𝓤 H A W (G33 .slots)) ((Yields.yields-copy 𝓤 H A W (λ ρ. Unit) (Declared.row Size.the-type) Path'.refl (Copies.cStruct Size.the-type Laws.the-laws Laws.the-copy .copy 𝓤 H A W) (Rows.whole (Declared.row Size.the-type)) (λ x. x) (λ x. x) (λ ρ told. Local.mem-whole 𝓤 H A W (Declared.row Size.the-type) ρ) λ ρ told. Local.whole-mem 𝓤 H A W (Declared.row Size.the-type) ρ, Path'.refl), (ShrSlice.spares-sslice 𝓤 H A W T.the-row ty·2 0, Shared.reads-sslice 𝓤 H A W T.the-row ty·2 0, Path'.refl, (ShrSlice.spares-sslice 𝓤 H A W (Referent.rtF (Referent.fInt Syntax.w16)) ty·0 1, Shared.reads-sslice 𝓤 H A W (Referent.rtF (Referent.fInt Syntax.w16)) ty·0 1, Path'.refl, (ShrSlice.spares-sslice 𝓤 H A W (Referent.rtF (Referent.fInt Syntax.w16)) ty·1 2, Shared.reads-sslice 𝓤 H A W (Referent.rtF (Referent.fInt Syntax.w16)) ty·1 2, Path'.refl, ((Scalar.reads-sc 𝓤 H A W (Row.sInt Syntax.w64), Path'.refl), ((Scalar.reads-sc 𝓤 H A W (Row.sInt Syntax.w64), Path'.refl), ((Scalar.reads-sc 𝓤 H A W (Row.sInt Syntax.w64), Path'.refl), tt))))))) (Reads.room-gone 𝓤 H A Syntax.tyUnit) (tt, (tt, (tt, tt))) Path'.refl) (Scalar.g-room 𝓤 H A W E G34 1 ty·3 (Local.room-whole 𝓤 H A W (Declared.row Size.the-type) ty·3 Path'.refl))) (Scalar.g-room 𝓤 H A W E G35 13 Syntax.tyUnit (Scalar.room-sc 𝓤 H A W Row.sUnit))) (Scalar.g-room 𝓤 H A W E G36 14 (Syntax.tyInt Syntax.w64) (Scalar.room-sc 𝓤 H A W (Row.sInt Syntax.w64))))
+          d28 : Typed.Typed 𝓤 H A 𝓣 E G34 b20 Δ3 at28
+          d28 = Typed.g-pre 𝓤 H A W 𝓣 E G34 G35 b20 Δ3 (Typed.pass T34 T35 s30) at27 (Scalar.g-room 𝓤 H A W E G34 8 Syntax.tyBool (Scalar.room-sc 𝓤 H A W Row.sBool)) d27
 
-          d29 : Typed.Typed 𝓤 H A 𝓣 E G32 b23 Δ3 at29
-          d29 = Typed.s-seq 𝓤 H A W 𝓣 E G32 G33 b21 b22 Δ3 (Typed.both s28) at28 (Plain.t-call-plain 𝓤 H A W 𝓣 0 ps·2 r·2 (claims· .4) (claims· .5) "bench_plans::numbers::least" (known .2) E (λ pos β. β) G32 (Num.vAt 7 λ x. x, (Num.vBig 1024, tt)) 14 List.[] (Call.sub-id 𝓤 H A W (G32 .slots)) ((Scalar.reads-sc 𝓤 H A W (Row.sInt Syntax.w64), Path'.refl), (record { lower = record { fits = Dec'.lit< tt } }, tt)) (Reads.room-gone 𝓤 H A (Syntax.tyInt Syntax.w64)) tt Path'.refl) d28
+          d29 : Typed.Typed 𝓤 H A 𝓣 E G26 b20 Δ3 at29
+          d29 = Typed.g-pre 𝓤 H A W 𝓣 E G26 G34 b20 Δ3 (Typed.pass T26 T34 s29) at28 (Scalar.g-room 𝓤 H A W E G26 1 ty·3 (Local.room-whole 𝓤 H A W (Declared.row Size.the-type) ty·3 Path'.refl)) d28
 
-          d30 : Typed.Typed 𝓤 H A 𝓣 E G30 b23 Δ3 at30
-          d30 = Typed.g-pre 𝓤 H A W 𝓣 E G30 G32 b23 Δ3 (Typed.pass T30 T32 s27) at29 (Scalar.g-room 𝓤 H A W E G30 8 Syntax.tyBool (Scalar.room-sc 𝓤 H A W Row.sBool)) d29
+          d30 : Typed.Typed 𝓤 H A 𝓣 E G26 b21 Δ3 at30
+          d30 = Scalar.t-cond 𝓤 H A W E 𝓣 G26 8 (λ x. x) b19 b20 Δ3 at26 at29 (Scalar.reads-sc 𝓤 H A W Row.sBool) Path'.refl d26 d29
 
-          d31 : Typed.Typed 𝓤 H A 𝓣 E G39 b24 Δ3 at31
-          d31 = Typed.t-skip 𝓤 H A W 𝓣 E Δ3 tt
+          d31 : Typed.Typed 𝓤 H A 𝓣 E G39 b23 Δ0 at31
+          d31 = Typed.t-return 𝓤 H A W 𝓣 E Δ0 tt
 
-          d32 : Typed.Typed 𝓤 H A 𝓣 E G38 b24 Δ3 at32
-          d32 = Typed.g-pre 𝓤 H A W 𝓣 E G38 G39 b24 Δ3 (Typed.pass T38 T39 s34) at31 (Scalar.g-room 𝓤 H A W E G38 8 Syntax.tyBool (Scalar.room-sc 𝓤 H A W Row.sBool)) d31
+          d32 : Typed.Typed 𝓤 H A 𝓣 E G38 b23 Δ0 at32
+          d32 = Typed.g-pre 𝓤 H A W 𝓣 E G38 G39 b23 Δ0 (Typed.pass T38 T39 s34) at31 (Scalar.g-room 𝓤 H A W E G38 7 (Syntax.tyInt Syntax.w64) (Scalar.room-sc 𝓤 H A W (Row.sInt Syntax.w64))) d31
 
-          d33 : Typed.Typed 𝓤 H A 𝓣 E G30 b24 Δ3 at33
-          d33 = Typed.g-pre 𝓤 H A W 𝓣 E G30 G38 b24 Δ3 (Typed.pass T30 T38 s33) at32 (Scalar.g-room 𝓤 H A W E G30 1 ty·3 (Local.room-whole 𝓤 H A W (Declared.row Size.the-type) ty·3 Path'.refl)) d32
+          d33 : Typed.Typed 𝓤 H A 𝓣 E G37 b23 Δ0 at33
+          d33 = Typed.g-pre 𝓤 H A W 𝓣 E G37 G38 b23 Δ0 (Typed.pass T37 T38 s33) at32 (Scalar.g-room 𝓤 H A W E G37 6 (Syntax.tyInt Syntax.w64) (Scalar.room-sc 𝓤 H A W (Row.sInt Syntax.w64))) d32
 
-          d34 : Typed.Typed 𝓤 H A 𝓣 E G30 b25 Δ3 at34
-          d34 = Scalar.t-cond 𝓤 H A W E 𝓣 G30 8 (λ x. x) b23 b24 Δ3 at30 at33 (Scalar.reads-sc 𝓤 H A W Row.sBool) Path'.refl d30 d33
+          d34 : Typed.Typed 𝓤 H A 𝓣 E G36 b23 Δ0 at34
+          d34 = Typed.g-pre 𝓤 H A W 𝓣 E G36 G37 b23 Δ0 (Typed.pass T36 T37 s32) at33 (Scalar.g-room 𝓤 H A W E G36 5 (Syntax.tyInt Syntax.w64) (Scalar.room-sc 𝓤 H A W (Row.sInt Syntax.w64))) d33
 
-          d35 : Typed.Typed 𝓤 H A 𝓣 E G43 b27 Δ0 at35
-          d35 = Typed.t-return 𝓤 H A W 𝓣 E Δ0 tt
+          d35 : Typed.Typed 𝓤 H A 𝓣 E G27 b24 Δ0 at35
+          d35 = Typed.s-seq 𝓤 H A W 𝓣 E G27 G36 b22 b23 Δ0 (Typed.pass T27 T36 s31) at34 (Scalar.t-use 𝓤 H A W E 𝓣 G27 Scalar.oUnit 0 (Rows.sc-here Row.sUnit) Syntax.tyUnit (Row.valS Row.sUnit) (Row.sUnit .of) tt (Reads.room-gone 𝓤 H A Syntax.tyUnit) (Scalar.holds-sc 𝓤 H A W Row.sUnit) Path'.refl (λ u. Path'.refl) λ u. tt) d34
 
-          d36 : Typed.Typed 𝓤 H A 𝓣 E G42 b27 Δ0 at36
-          d36 = Typed.g-pre 𝓤 H A W 𝓣 E G42 G43 b27 Δ0 (Typed.pass T42 T43 s38) at35 (Scalar.g-room 𝓤 H A W E G42 7 (Syntax.tyInt Syntax.w64) (Scalar.room-sc 𝓤 H A W (Row.sInt Syntax.w64))) d35
+          d36 : Typed.Typed 𝓤 H A 𝓣 E G26 b25 Δ0 at36
+          d36 = Typed.t-seq 𝓤 H A W 𝓣 E G26 G27 b21 b24 Δ0 at30 at35 d30 d35
 
-          d37 : Typed.Typed 𝓤 H A 𝓣 E G41 b27 Δ0 at37
-          d37 = Typed.g-pre 𝓤 H A W 𝓣 E G41 G42 b27 Δ0 (Typed.pass T41 T42 s37) at36 (Scalar.g-room 𝓤 H A W E G41 6 (Syntax.tyInt Syntax.w64) (Scalar.room-sc 𝓤 H A W (Row.sInt Syntax.w64))) d36
+          d37 : Typed.Typed 𝓤 H A 𝓣 E G16 b26 Δ0 at37
+          d37 = Typed.s-seq 𝓤 H A W 𝓣 E G16 G26 b16 b25 Δ0 (Typed.ask s22) at36 (Scalar.t-op2 𝓤 H A W E 𝓣 G16 (Syntax.lt Syntax.unsigned) (Scalar.oAt 5 (Syntax.tyInt Syntax.w64) (Row.valS (Row.sInt Syntax.w64))) (Scalar.oInt Syntax.w64 2) 8 (Rows.sc-here Row.sBool) Syntax.tyBool (Row.valS Row.sBool) (Row.sBool .of) (Scalar.reads-sc 𝓤 H A W (Row.sInt Syntax.w64), Path'.refl) tt (Reads.room-gone 𝓤 H A Syntax.tyBool) (Scalar.holds-sc 𝓤 H A W Row.sBool) Path'.refl (λ u. Path'.refl) λ u. tt) d36
 
-          d38 : Typed.Typed 𝓤 H A 𝓣 E G40 b27 Δ0 at38
-          d38 = Typed.g-pre 𝓤 H A W 𝓣 E G40 G41 b27 Δ0 (Typed.pass T40 T41 s36) at37 (Scalar.g-room 𝓤 H A W E G40 5 (Syntax.tyInt Syntax.w64) (Scalar.room-sc 𝓤 H A W (Row.sInt Syntax.w64))) d37
+          d38 : Typed.Typed 𝓤 H A 𝓣 E G15 b27 Δ0 at38
+          d38 = Typed.t-seq 𝓤 H A W 𝓣 E G15 G16 b15 b26 Δ0 at23 at37 d23 d37
 
-          d39 : Typed.Typed 𝓤 H A 𝓣 E G31 b28 Δ0 at39
-          d39 = Typed.s-seq 𝓤 H A W 𝓣 E G31 G40 b26 b27 Δ0 (Typed.pass T31 T40 s35) at38 (Scalar.t-use 𝓤 H A W E 𝓣 G31 Scalar.oUnit 0 (Rows.sc-here Row.sUnit) Syntax.tyUnit (Row.valS Row.sUnit) (Row.sUnit .of) tt (Reads.room-gone 𝓤 H A Syntax.tyUnit) (Scalar.holds-sc 𝓤 H A W Row.sUnit) Path'.refl (λ u. Path'.refl) λ u. tt) d38
+          d39 : Typed.Typed 𝓤 H A 𝓣 E G5 b28 Δ0 at39
+          d39 = Typed.s-seq 𝓤 H A W 𝓣 E G5 G15 b8 b27 Δ0 (Typed.ask s12) at38 (Scalar.t-op2 𝓤 H A W E 𝓣 G5 Syntax.eq (Scalar.oAt 5 (Syntax.tyInt Syntax.w64) (Row.valS (Row.sInt Syntax.w64))) (Scalar.oInt Syntax.w64 3) 8 (Rows.sc-here Row.sBool) Syntax.tyBool (Row.valS Row.sBool) (Row.sBool .of) (Scalar.reads-sc 𝓤 H A W (Row.sInt Syntax.w64), Path'.refl) tt (Reads.room-gone 𝓤 H A Syntax.tyBool) (Scalar.holds-sc 𝓤 H A W Row.sBool) Path'.refl (λ u. Path'.refl) λ u. tt) d38
 
-          d40 : Typed.Typed 𝓤 H A 𝓣 E G30 b29 Δ0 at40
-          d40 = Typed.t-seq 𝓤 H A W 𝓣 E G30 G31 b25 b28 Δ0 at34 at39 d34 d39
+          d40 : Typed.Typed 𝓤 H A 𝓣 E G4 b29 Δ0 at40
+          d40 = Typed.t-seq 𝓤 H A W 𝓣 E G4 G5 b7 b28 Δ0 at11 at39 d11 d39
 
-          d41 : Typed.Typed 𝓤 H A 𝓣 E G16 b30 Δ0 at41
-          d41 = Typed.s-seq 𝓤 H A W 𝓣 E G16 G30 b20 b29 Δ0 (Typed.ask s26) at40 (Scalar.t-op2 𝓤 H A W E 𝓣 G16 (Syntax.lt Syntax.unsigned) (Scalar.oAt 5 (Syntax.tyInt Syntax.w64) (Row.valS (Row.sInt Syntax.w64))) (Scalar.oInt Syntax.w64 2) 8 (Rows.sc-here Row.sBool) Syntax.tyBool (Row.valS Row.sBool) (Row.sBool .of) (Scalar.reads-sc 𝓤 H A W (Row.sInt Syntax.w64), Path'.refl) tt (Reads.room-gone 𝓤 H A Syntax.tyBool) (Scalar.holds-sc 𝓤 H A W Row.sBool) Path'.refl (λ u. Path'.refl) λ u. tt) d40
+          d41 : Typed.Typed 𝓤 H A 𝓣 E G3 b30 Δ0 at41
+          d41 = Typed.s-seq 𝓤 H A W 𝓣 E G3 G4 b0 b29 Δ0 (Typed.ask s2) at40 (Scalar.t-op2 𝓤 H A W E 𝓣 G3 Syntax.eq (Scalar.oAt 5 (Syntax.tyInt Syntax.w64) (Row.valS (Row.sInt Syntax.w64))) (Scalar.oInt Syntax.w64 2) 8 (Rows.sc-here Row.sBool) Syntax.tyBool (Row.valS Row.sBool) (Row.sBool .of) (Scalar.reads-sc 𝓤 H A W (Row.sInt Syntax.w64), Path'.refl) tt (Reads.room-gone 𝓤 H A Syntax.tyBool) (Scalar.holds-sc 𝓤 H A W Row.sBool) Path'.refl (λ u. Path'.refl) λ u. tt) d40
 
-          d42 : Typed.Typed 𝓤 H A 𝓣 E G15 b31 Δ0 at42
-          d42 = Typed.t-seq 𝓤 H A W 𝓣 E G15 G16 b19 b30 Δ0 at27 at41 d27 d41
+          d42 : Typed.Typed 𝓤 H A 𝓣 E G2 b30 Δ0 at42
+          d42 = Typed.g-pre 𝓤 H A W 𝓣 E G2 G3 b30 Δ0 (Typed.give s1) at41 (Know.g-shs-known 𝓤 H A W (Referent.fInt Syntax.w16) E G2 4 2 ty·1 (Row.lease (κs .1 .1 .0) (qs .1 .1 .0)) 0 (λ x. x) record { fits = Dec'.lit< tt } (Reads.as-is 𝓤 H A (Rows.sslice (Referent.rtF (Referent.fInt Syntax.w16)) ty·1 2)) Path'.refl tt) d41
 
-          d43 : Typed.Typed 𝓤 H A 𝓣 E G5 b32 Δ0 at43
-          d43 = Typed.s-seq 𝓤 H A W 𝓣 E G5 G15 b8 b31 Δ0 (Typed.ask s12) at42 (Scalar.t-op2 𝓤 H A W E 𝓣 G5 Syntax.eq (Scalar.oAt 5 (Syntax.tyInt Syntax.w64) (Row.valS (Row.sInt Syntax.w64))) (Scalar.oInt Syntax.w64 3) 8 (Rows.sc-here Row.sBool) Syntax.tyBool (Row.valS Row.sBool) (Row.sBool .of) (Scalar.reads-sc 𝓤 H A W (Row.sInt Syntax.w64), Path'.refl) tt (Reads.room-gone 𝓤 H A Syntax.tyBool) (Scalar.holds-sc 𝓤 H A W Row.sBool) Path'.refl (λ u. Path'.refl) λ u. tt) d42
+          d43 : Typed.Typed 𝓤 H A 𝓣 E G0 b30 Δ0 at43
+          d43 = Typed.g-pre 𝓤 H A W 𝓣 E G0 G2 b30 Δ0 (Typed.give s0) at42 (Know.g-shs-known 𝓤 H A W (Referent.fInt Syntax.w16) E G0 3 1 ty·0 (Row.lease (κs .1 .0) (qs .1 .0)) 0 (λ x. x) record { fits = Dec'.lit< tt } (Reads.as-is 𝓤 H A (Rows.sslice (Referent.rtF (Referent.fInt Syntax.w16)) ty·0 1)) Path'.refl tt) d42
 
-          d44 : Typed.Typed 𝓤 H A 𝓣 E G4 b33 Δ0 at44
-          d44 = Typed.t-seq 𝓤 H A W 𝓣 E G4 G5 b7 b32 Δ0 at11 at43 d11 d43
-
-          d45 : Typed.Typed 𝓤 H A 𝓣 E G3 b34 Δ0 at45
-          d45 = Typed.s-seq 𝓤 H A W 𝓣 E G3 G4 b0 b33 Δ0 (Typed.ask s2) at44 (Scalar.t-op2 𝓤 H A W E 𝓣 G3 Syntax.eq (Scalar.oAt 5 (Syntax.tyInt Syntax.w64) (Row.valS (Row.sInt Syntax.w64))) (Scalar.oInt Syntax.w64 2) 8 (Rows.sc-here Row.sBool) Syntax.tyBool (Row.valS Row.sBool) (Row.sBool .of) (Scalar.reads-sc 𝓤 H A W (Row.sInt Syntax.w64), Path'.refl) tt (Reads.room-gone 𝓤 H A Syntax.tyBool) (Scalar.holds-sc 𝓤 H A W Row.sBool) Path'.refl (λ u. Path'.refl) λ u. tt) d44
-
-          d46 : Typed.Typed 𝓤 H A 𝓣 E G2 b34 Δ0 at46
-          d46 = Typed.g-pre 𝓤 H A W 𝓣 E G2 G3 b34 Δ0 (Typed.give s1) at45 (Know.g-shs-known 𝓤 H A W (Referent.fInt Syntax.w16) E G2 4 2 ty·1 (Row.lease (κs .1 .1 .0) (qs .1 .1 .0)) 0 (λ x. x) record { fits = Dec'.lit< tt } (Reads.as-is 𝓤 H A (Rows.sslice (Referent.rtF (Referent.fInt Syntax.w16)) ty·1 2)) Path'.refl tt) d45
-
-          d47 : Typed.Typed 𝓤 H A 𝓣 E G0 b34 Δ0 at47
-          d47 = Typed.g-pre 𝓤 H A W 𝓣 E G0 G2 b34 Δ0 (Typed.give s0) at46 (Know.g-shs-known 𝓤 H A W (Referent.fInt Syntax.w16) E G0 3 1 ty·0 (Row.lease (κs .1 .0) (qs .1 .0)) 0 (λ x. x) record { fits = Dec'.lit< tt } (Reads.as-is 𝓤 H A (Rows.sslice (Referent.rtF (Referent.fInt Syntax.w16)) ty·0 1)) Path'.refl tt) d46
-
-          pub typed : Typed.Typed 𝓤 H A 𝓣 E (Function.Γin 3 ps r xs m κs qs) b34 (Function.Δret 3 ps r xs m κs qs) Φ
-          typed = d47
+          pub typed : Typed.Typed 𝓤 H A 𝓣 E (Function.Γin 3 ps r xs m κs qs) b30 (Function.Δret 3 ps r xs m κs qs) Φ
+          typed = d43
 
       module _ (κs : Lifetimes.Lfts 3) where
         pub record Args : Type 0 where
@@ -1032,7 +948,7 @@ module _ (claims· : Claims) where
       m3 = λ before given. s2 .next (m2 before given)
 
       abbrev W1 : (before : After-shared-slice-known) → (given : s1 .gives (m1 (before .before) (before .shared-slice-known .given))) → Typed.Want O1
-      W1 = λ before given. Typed.wantNext T5 O0 (at43 (W0 (before .before .κs) (before .before .args))) (W0 (before .before .κs) (before .before .args))
+      W1 = λ before given. Typed.wantNext T5 O0 (at39 (W0 (before .before .κs) (before .before .args))) (W0 (before .before .κs) (before .before .args))
 
       module _ (before· : After-shared-slice-known) where
         pub record After-shared-slice-known2·own : Type 0 where
@@ -1106,7 +1022,7 @@ module _ (claims· : Claims) where
       m13 = λ before. s12 .next (m12 before)
 
       abbrev W2 : (before : After-shared-slice-known2) → Typed.Want O2
-      W2 = λ before. Typed.wantNext T16 O0 (at41 (W0 (before .before .before .κs) (before .before .before .args))) (W0 (before .before .before .κs) (before .before .before .args))
+      W2 = λ before. Typed.wantNext T16 O0 (at37 (W0 (before .before .before .κs) (before .before .before .args))) (W0 (before .before .before .κs) (before .before .before .args))
 
       module _ (before· : Else1) where
         pub record Then2·own : Type 0 where
@@ -1119,83 +1035,43 @@ module _ (claims· : Claims) where
       abbrev pub m14 : (before : Else1) → Typed.Mo T17
       m14 = λ before. s13 (m13 (before .before))
 
-      abbrev pub Need-far-requires : Type 0
-      Need-far-requires = (c : Then2) → s14 .asks (m14 (c .before))
+      abbrev pub Need-ask-warning-requires : Type 0
+      Need-ask-warning-requires = (c : Then2) → s14 .asks (m14 (c .before))
 
       abbrev pub m15 : (before : Then2) → (given : s14 .gives (m14 (before .before))) → Typed.Mo T18
       m15 = λ before given. s14 .next (m14 (before .before)) given
 
       module _ (before· : Then2) where
-        abbrev pub After-far·own : Type 0
-        After-far·own = Called.Called ps·1 r·1 (claims· .3) T17 (Num.vAt 6 λ x. x, tt) (m14 (before· .before))
+        abbrev pub After-ask-warning·own : Type 0
+        After-ask-warning·own = Called.Called ps·1 r·1 (claims· .3) T17 (record { pos = 1; st = List.[]; d = 0; at = λ x. x }, (record { pos = 2; ty = Syntax.tyRef (Syntax.named 0) Syntax.imm (Memory.pointee (T.the-row .written)); ref = λ x. x }, (record { pos = 3; ty = Syntax.tyRef (Syntax.named 1) Syntax.imm (Syntax.tyInt Syntax.w16); ref = λ x. x }, (record { pos = 4; ty = Syntax.tyRef (Syntax.named 2) Syntax.imm (Syntax.tyInt Syntax.w16); ref = λ x. x }, (Num.vAt 6 λ x. x, (Num.vAt 7 λ x. x, tt)))))) (m14 (before· .before))
 
-      pub record After-far : Type 0 where
+      pub record After-ask-warning : Type 0 where
         pub before : Then2
-        pub far : After-far·own before
+        pub ask-warning : After-ask-warning·own before
 
-      abbrev pub After-far·gave : (c : After-far) → s14 .gives (m14 (c .before .before))
-      After-far·gave = λ c. Called.given ps·1 r·1 (claims· .3) T17 (Num.vAt 6 λ x. x, tt) (m14 (c .before .before)) (c .far)
+      abbrev pub After-ask-warning·gave : (c : After-ask-warning) → s14 .gives (m14 (c .before .before))
+      After-ask-warning·gave = λ c. Called.given ps·1 r·1 (claims· .3) T17 (record { pos = 1; st = List.[]; d = 0; at = λ x. x }, (record { pos = 2; ty = Syntax.tyRef (Syntax.named 0) Syntax.imm (Memory.pointee (T.the-row .written)); ref = λ x. x }, (record { pos = 3; ty = Syntax.tyRef (Syntax.named 1) Syntax.imm (Syntax.tyInt Syntax.w16); ref = λ x. x }, (record { pos = 4; ty = Syntax.tyRef (Syntax.named 2) Syntax.imm (Syntax.tyInt Syntax.w16); ref = λ x. x }, (Num.vAt 6 λ x. x, (Num.vAt 7 λ x. x, tt)))))) (m14 (c .before .before)) (c .ask-warning)
 
-      abbrev pub Need-far-requires-2 : Type 0
-      Need-far-requires-2 = (c : After-far) → s15 .asks (m15 (c .before) (After-far·gave c))
+      abbrev pub m16 : (before : Then2) → (given : s14 .gives (m14 (before .before))) → Typed.Mo T19
+      m16 = λ before given. s15 (m15 before given)
 
-      abbrev pub m16 : (before : After-far) → (given : s15 .gives (m15 (before .before) (After-far·gave before))) → Typed.Mo T19
-      m16 = λ before given. s15 .next (m15 (before .before) (After-far·gave before)) given
+      abbrev pub m17 : (before : Then2) → (given : s14 .gives (m14 (before .before))) → Typed.Mo T20
+      m17 = λ before given. s16 (m16 before given)
 
-      module _ (before· : After-far) where
-        abbrev pub After-far2·own : Type 0
-        After-far2·own = Called.Called ps·1 r·1 (claims· .3) T18 (Num.vAt 7 λ x. x, tt) (m15 (before· .before) (After-far·gave before·))
-
-      pub record After-far2 : Type 0 where
-        pub before : After-far
-        pub far2 : After-far2·own before
-
-      abbrev pub After-far2·gave : (c : After-far2) → s15 .gives (m15 (c .before .before) (After-far·gave (c .before)))
-      After-far2·gave = λ c. Called.given ps·1 r·1 (claims· .3) T18 (Num.vAt 7 λ x. x, tt) (m15 (c .before .before) (After-far·gave (c .before))) (c .far2)
-
-      abbrev pub Need-ask-contest-requires-2 : Type 0
-      Need-ask-contest-requires-2 = (c : After-far2) → s16 .asks (m16 (c .before) (After-far2·gave c))
-
-      abbrev pub m17 : (before : After-far2) → (given : s16 .gives (m16 (before .before) (After-far2·gave before))) → Typed.Mo T20
-      m17 = λ before given. s16 .next (m16 (before .before) (After-far2·gave before)) given
-
-      module _ (before· : After-far2) where
-        abbrev pub After-ask-contest2·own : Type 0
-        After-ask-contest2·own = Called.Called ps·0 r·0 (claims· .1) T19 (record { pos = 1; st = List.[]; d = 0; at = λ x. x }, (record { pos = 2; ty = Syntax.tyRef (Syntax.named 0) Syntax.imm (Memory.pointee (T.the-row .written)); ref = λ x. x }, (record { pos = 3; ty = Syntax.tyRef (Syntax.named 1) Syntax.imm (Syntax.tyInt Syntax.w16); ref = λ x. x }, (record { pos = 4; ty = Syntax.tyRef (Syntax.named 2) Syntax.imm (Syntax.tyInt Syntax.w16); ref = λ x. x }, (Num.vAt 11 λ x. x, (Num.vAt 12 λ x. x, tt)))))) (m16 (before· .before) (After-far2·gave before·))
-
-      pub record After-ask-contest2 : Type 0 where
-        pub before : After-far2
-        pub ask-contest2 : After-ask-contest2·own before
-
-      abbrev pub After-ask-contest2·gave : (c : After-ask-contest2) → s16 .gives (m16 (c .before .before) (After-far2·gave (c .before)))
-      After-ask-contest2·gave = λ c. Called.given ps·0 r·0 (claims· .1) T19 (record { pos = 1; st = List.[]; d = 0; at = λ x. x }, (record { pos = 2; ty = Syntax.tyRef (Syntax.named 0) Syntax.imm (Memory.pointee (T.the-row .written)); ref = λ x. x }, (record { pos = 3; ty = Syntax.tyRef (Syntax.named 1) Syntax.imm (Syntax.tyInt Syntax.w16); ref = λ x. x }, (record { pos = 4; ty = Syntax.tyRef (Syntax.named 2) Syntax.imm (Syntax.tyInt Syntax.w16); ref = λ x. x }, (Num.vAt 11 λ x. x, (Num.vAt 12 λ x. x, tt)))))) (m16 (c .before .before) (After-far2·gave (c .before))) (c .ask-contest2)
-
-      abbrev pub m18 : (before : After-far2) → (given : s16 .gives (m16 (before .before) (After-far2·gave before))) → Typed.Mo T21
+      abbrev pub m18 : (before : Then2) → (given : s14 .gives (m14 (before .before))) → Typed.Mo T21
       m18 = λ before given. s17 (m17 before given)
 
-      abbrev pub m19 : (before : After-far2) → (given : s16 .gives (m16 (before .before) (After-far2·gave before))) → Typed.Mo T22
+      abbrev pub m19 : (before : Then2) → (given : s14 .gives (m14 (before .before))) → Typed.Mo T22
       m19 = λ before given. s18 (m18 before given)
 
-      abbrev pub m20 : (before : After-far2) → (given : s16 .gives (m16 (before .before) (After-far2·gave before))) → Typed.Mo T23
+      abbrev pub m20 : (before : Then2) → (given : s14 .gives (m14 (before .before))) → Typed.Mo T23
       m20 = λ before given. s19 (m19 before given)
 
-      abbrev pub m21 : (before : After-far2) → (given : s16 .gives (m16 (before .before) (After-far2·gave before))) → Typed.Mo T24
+      abbrev pub m21 : (before : Then2) → (given : s14 .gives (m14 (before .before))) → Typed.Mo T24
       m21 = λ before given. s20 (m20 before given)
 
-      abbrev pub m22 : (before : After-far2) → (given : s16 .gives (m16 (before .before) (After-far2·gave before))) → Typed.Mo T25
-      m22 = λ before given. s21 (m21 before given)
-
-      abbrev pub m23 : (before : After-far2) → (given : s16 .gives (m16 (before .before) (After-far2·gave before))) → Typed.Mo T26
-      m23 = λ before given. s22 (m22 before given)
-
-      abbrev pub m24 : (before : After-far2) → (given : s16 .gives (m16 (before .before) (After-far2·gave before))) → Typed.Mo T27
-      m24 = λ before given. s23 (m23 before given)
-
-      abbrev pub m25 : (before : After-far2) → (given : s16 .gives (m16 (before .before) (After-far2·gave before))) → Typed.Mo T28
-      m25 = λ before given. s24 (m24 before given)
-
       abbrev pub Need-returns-2 : Type 0
-      Need-returns-2 = (c : After-ask-contest2) → Post· (c .before .before .before .before .before .before .before .κs) (dens (c .before .before .before .before .before .before .before .κs) (c .before .before .before .before .before .before .before .args)) (Function.resV r (c .before .before .before .before .before .before .before .κs) (m25 (c .before) (After-ask-contest2·gave c) .0)) (Clauses.atExit (Kinds.endedOf 3 ps r) (c .before .before .before .before .before .before .before .κs) (dens (c .before .before .before .before .before .before .before .κs) (c .before .before .before .before .before .before .before .args)) (Enter.lastsP (c .before .before .before .before .before .before .before .κs) 1 ps xs (dens (c .before .before .before .before .before .before .before .κs) (c .before .before .before .before .before .before .before .args)) (m25 (c .before) (After-ask-contest2·gave c) .1)))
+      Need-returns-2 = (c : After-ask-warning) → Post· (c .before .before .before .before .before .κs) (dens (c .before .before .before .before .before .κs) (c .before .before .before .before .before .args)) (Function.resV r (c .before .before .before .before .before .κs) (m21 (c .before) (After-ask-warning·gave c) .0)) (Clauses.atExit (Kinds.endedOf 3 ps r) (c .before .before .before .before .before .κs) (dens (c .before .before .before .before .before .κs) (c .before .before .before .before .before .args)) (Enter.lastsP (c .before .before .before .before .before .κs) 1 ps xs (dens (c .before .before .before .before .before .κs) (c .before .before .before .before .before .args)) (m21 (c .before) (After-ask-warning·gave c) .1)))
 
       module _ (before· : Else1) where
         pub record Else2·own : Type 0 where
@@ -1205,149 +1081,143 @@ module _ (claims· : Claims) where
         pub before : Else1
         pub if2 : Else2·own before
 
-      abbrev pub m26 : (before : Else1) → Typed.Mo T29
-      m26 = λ before. s25 (m13 (before .before))
+      abbrev pub m22 : (before : Else1) → Typed.Mo T25
+      m22 = λ before. s21 (m13 (before .before))
 
-      abbrev pub m27 : (before : Else1) → Typed.Mo T30
-      m27 = λ before. s26 .next (m26 before)
+      abbrev pub m23 : (before : Else1) → Typed.Mo T26
+      m23 = λ before. s22 .next (m22 before)
 
       abbrev W3 : (before : Else1) → Typed.Want O3
-      W3 = λ before. Typed.wantNext T31 O0 (at39 (W0 (before .before .before .before .κs) (before .before .before .before .args))) (W0 (before .before .before .before .κs) (before .before .before .before .args))
+      W3 = λ before. Typed.wantNext T27 O0 (at35 (W0 (before .before .before .before .κs) (before .before .before .before .args))) (W0 (before .before .before .before .κs) (before .before .before .before .args))
 
       module _ (before· : Else2) where
         pub record Then3·own : Type 0 where
-          pub taken : Nat._<_ (Row.get 5 (T16 .locals) (m26 (before· .before))) 2
+          pub taken : Nat._<_ (Row.get 5 (T16 .locals) (m22 (before· .before))) 2
 
       pub record Then3 : Type 0 where
         pub before : Else2
         pub if3 : Then3·own before
 
-      abbrev pub m28 : (before : Else2) → Typed.Mo T32
-      m28 = λ before. s27 (m27 (before .before))
+      abbrev pub m24 : (before : Else2) → Typed.Mo T28
+      m24 = λ before. s23 (m23 (before .before))
 
       abbrev pub Need-least-requires : Type 0
-      Need-least-requires = (c : Then3) → s28 .asks (m28 (c .before))
+      Need-least-requires = (c : Then3) → s24 .asks (m24 (c .before))
 
-      abbrev pub m29 : (before : Then3) → (given : s28 .gives (m28 (before .before))) → Typed.Mo T33
-      m29 = λ before given. s28 .next (m28 (before .before)) given
+      abbrev pub m25 : (before : Then3) → (given : s24 .gives (m24 (before .before))) → Typed.Mo T29
+      m25 = λ before given. s24 .next (m24 (before .before)) given
 
       module _ (before· : Then3) where
         abbrev pub After-least·own : Type 0
-        After-least·own = Called.Called ps·2 r·2 (claims· .5) T32 (Num.vAt 7 λ x. x, (Num.vBig 1024, tt)) (m28 (before· .before))
+        After-least·own = Called.Called ps·2 r·2 (claims· .5) T28 (Num.vAt 7 λ x. x, (Num.vBig 1024, tt)) (m24 (before· .before))
 
       pub record After-least : Type 0 where
         pub before : Then3
         pub least : After-least·own before
 
-      abbrev pub After-least·gave : (c : After-least) → s28 .gives (m28 (c .before .before))
-      After-least·gave = λ c. Called.given ps·2 r·2 (claims· .5) T32 (Num.vAt 7 λ x. x, (Num.vBig 1024, tt)) (m28 (c .before .before)) (c .least)
+      abbrev pub After-least·gave : (c : After-least) → s24 .gives (m24 (c .before .before))
+      After-least·gave = λ c. Called.given ps·2 r·2 (claims· .5) T28 (Num.vAt 7 λ x. x, (Num.vBig 1024, tt)) (m24 (c .before .before)) (c .least)
 
       abbrev pub Need-ask-tables-requires : Type 0
-      Need-ask-tables-requires = (c : After-least) → s29 .asks (m29 (c .before) (After-least·gave c))
+      Need-ask-tables-requires = (c : After-least) → s25 .asks (m25 (c .before) (After-least·gave c))
 
-      abbrev pub m30 : (before : After-least) → (given : s29 .gives (m29 (before .before) (After-least·gave before))) → Typed.Mo T34
-      m30 = λ before given. s29 .next (m29 (before .before) (After-least·gave before)) given
+      abbrev pub m26 : (before : After-least) → (given : s25 .gives (m25 (before .before) (After-least·gave before))) → Typed.Mo T30
+      m26 = λ before given. s25 .next (m25 (before .before) (After-least·gave before)) given
 
-      abbrev pub m31 : (before : After-least) → (given : s29 .gives (m29 (before .before) (After-least·gave before))) → Typed.Mo T35
-      m31 = λ before given. s30 (m30 before given)
+      abbrev pub m27 : (before : After-least) → (given : s25 .gives (m25 (before .before) (After-least·gave before))) → Typed.Mo T31
+      m27 = λ before given. s26 (m26 before given)
 
-      abbrev pub m32 : (before : After-least) → (given : s29 .gives (m29 (before .before) (After-least·gave before))) → Typed.Mo T36
-      m32 = λ before given. s31 (m31 before given)
+      abbrev pub m28 : (before : After-least) → (given : s25 .gives (m25 (before .before) (After-least·gave before))) → Typed.Mo T32
+      m28 = λ before given. s27 (m27 before given)
 
-      abbrev pub m33 : (before : After-least) → (given : s29 .gives (m29 (before .before) (After-least·gave before))) → Typed.Mo T37
-      m33 = λ before given. s32 (m32 before given)
+      abbrev pub m29 : (before : After-least) → (given : s25 .gives (m25 (before .before) (After-least·gave before))) → Typed.Mo T33
+      m29 = λ before given. s28 (m28 before given)
 
       module _ (before· : After-least) where
         abbrev pub After-ask-tables·own : Type 0
-        After-ask-tables·own = Called.Called ps·3 r·3 (claims· .7) T33 (record { pos = 1; st = List.[]; d = 0; at = λ x. x }, (record { pos = 2; ty = Syntax.tyRef (Syntax.named 0) Syntax.imm (Memory.pointee (T.the-row .written)); ref = λ x. x }, (record { pos = 3; ty = Syntax.tyRef (Syntax.named 1) Syntax.imm (Syntax.tyInt Syntax.w16); ref = λ x. x }, (record { pos = 4; ty = Syntax.tyRef (Syntax.named 2) Syntax.imm (Syntax.tyInt Syntax.w16); ref = λ x. x }, (Num.vAt 5 λ x. x, (Num.vAt 6 λ x. x, (Num.vAt 14 λ x. x, tt))))))) (m29 (before· .before) (After-least·gave before·))
+        After-ask-tables·own = Called.Called ps·3 r·3 (claims· .7) T29 (record { pos = 1; st = List.[]; d = 0; at = λ x. x }, (record { pos = 2; ty = Syntax.tyRef (Syntax.named 0) Syntax.imm (Memory.pointee (T.the-row .written)); ref = λ x. x }, (record { pos = 3; ty = Syntax.tyRef (Syntax.named 1) Syntax.imm (Syntax.tyInt Syntax.w16); ref = λ x. x }, (record { pos = 4; ty = Syntax.tyRef (Syntax.named 2) Syntax.imm (Syntax.tyInt Syntax.w16); ref = λ x. x }, (Num.vAt 5 λ x. x, (Num.vAt 6 λ x. x, (Num.vAt 12 λ x. x, tt))))))) (m25 (before· .before) (After-least·gave before·))
 
       pub record After-ask-tables : Type 0 where
         pub before : After-least
         pub ask-tables : After-ask-tables·own before
 
-      abbrev pub After-ask-tables·gave : (c : After-ask-tables) → s29 .gives (m29 (c .before .before) (After-least·gave (c .before)))
-      After-ask-tables·gave = λ c. Called.given ps·3 r·3 (claims· .7) T33 (record { pos = 1; st = List.[]; d = 0; at = λ x. x }, (record { pos = 2; ty = Syntax.tyRef (Syntax.named 0) Syntax.imm (Memory.pointee (T.the-row .written)); ref = λ x. x }, (record { pos = 3; ty = Syntax.tyRef (Syntax.named 1) Syntax.imm (Syntax.tyInt Syntax.w16); ref = λ x. x }, (record { pos = 4; ty = Syntax.tyRef (Syntax.named 2) Syntax.imm (Syntax.tyInt Syntax.w16); ref = λ x. x }, (Num.vAt 5 λ x. x, (Num.vAt 6 λ x. x, (Num.vAt 14 λ x. x, tt))))))) (m29 (c .before .before) (After-least·gave (c .before))) (c .ask-tables)
+      abbrev pub After-ask-tables·gave : (c : After-ask-tables) → s25 .gives (m25 (c .before .before) (After-least·gave (c .before)))
+      After-ask-tables·gave = λ c. Called.given ps·3 r·3 (claims· .7) T29 (record { pos = 1; st = List.[]; d = 0; at = λ x. x }, (record { pos = 2; ty = Syntax.tyRef (Syntax.named 0) Syntax.imm (Memory.pointee (T.the-row .written)); ref = λ x. x }, (record { pos = 3; ty = Syntax.tyRef (Syntax.named 1) Syntax.imm (Syntax.tyInt Syntax.w16); ref = λ x. x }, (record { pos = 4; ty = Syntax.tyRef (Syntax.named 2) Syntax.imm (Syntax.tyInt Syntax.w16); ref = λ x. x }, (Num.vAt 5 λ x. x, (Num.vAt 6 λ x. x, (Num.vAt 12 λ x. x, tt))))))) (m25 (c .before .before) (After-least·gave (c .before))) (c .ask-tables)
 
       module _ (before· : Else2) where
         pub record Else3·own : Type 0 where
-          pub left : Nat._≤_ 2 (Row.get 5 (T16 .locals) (m26 (before· .before)))
+          pub left : Nat._≤_ 2 (Row.get 5 (T16 .locals) (m22 (before· .before)))
 
       pub record Else3 : Type 0 where
         pub before : Else2
         pub if3 : Else3·own before
 
-      abbrev pub m34 : (before : Else2) → Typed.Mo T38
-      m34 = λ before. s33 (m27 (before .before))
+      abbrev pub m30 : (before : Else2) → Typed.Mo T34
+      m30 = λ before. s29 (m23 (before .before))
 
-      abbrev pub m35 : (before : Else2) → Typed.Mo T39
-      m35 = λ before. s34 (m34 before)
+      abbrev pub m31 : (before : Else2) → Typed.Mo T35
+      m31 = λ before. s30 (m30 before)
 
-      abbrev pub m36 : (before : After-least) → (given : s29 .gives (m29 (before .before) (After-least·gave before))) → Typed.Mo T40
-      m36 = λ before given. s35 (m33 before given)
+      abbrev pub m32 : (before : After-least) → (given : s25 .gives (m25 (before .before) (After-least·gave before))) → Typed.Mo T36
+      m32 = λ before given. s31 (m29 before given)
 
-      abbrev pub m37 : (before : After-least) → (given : s29 .gives (m29 (before .before) (After-least·gave before))) → Typed.Mo T41
-      m37 = λ before given. s36 (m36 before given)
+      abbrev pub m33 : (before : After-least) → (given : s25 .gives (m25 (before .before) (After-least·gave before))) → Typed.Mo T37
+      m33 = λ before given. s32 (m32 before given)
 
-      abbrev pub m38 : (before : After-least) → (given : s29 .gives (m29 (before .before) (After-least·gave before))) → Typed.Mo T42
-      m38 = λ before given. s37 (m37 before given)
+      abbrev pub m34 : (before : After-least) → (given : s25 .gives (m25 (before .before) (After-least·gave before))) → Typed.Mo T38
+      m34 = λ before given. s33 (m33 before given)
 
-      abbrev pub m39 : (before : After-least) → (given : s29 .gives (m29 (before .before) (After-least·gave before))) → Typed.Mo T43
-      m39 = λ before given. s38 (m38 before given)
+      abbrev pub m35 : (before : After-least) → (given : s25 .gives (m25 (before .before) (After-least·gave before))) → Typed.Mo T39
+      m35 = λ before given. s34 (m34 before given)
 
       abbrev pub Need-returns-3 : Type 0
-      Need-returns-3 = (c : After-ask-tables) → Post· (c .before .before .before .before .before .before .before .κs) (dens (c .before .before .before .before .before .before .before .κs) (c .before .before .before .before .before .before .before .args)) (Function.resV r (c .before .before .before .before .before .before .before .κs) (m39 (c .before) (After-ask-tables·gave c) .0)) (Clauses.atExit (Kinds.endedOf 3 ps r) (c .before .before .before .before .before .before .before .κs) (dens (c .before .before .before .before .before .before .before .κs) (c .before .before .before .before .before .before .before .args)) (Enter.lastsP (c .before .before .before .before .before .before .before .κs) 1 ps xs (dens (c .before .before .before .before .before .before .before .κs) (c .before .before .before .before .before .before .before .args)) (m39 (c .before) (After-ask-tables·gave c) .1)))
+      Need-returns-3 = (c : After-ask-tables) → Post· (c .before .before .before .before .before .before .before .κs) (dens (c .before .before .before .before .before .before .before .κs) (c .before .before .before .before .before .before .before .args)) (Function.resV r (c .before .before .before .before .before .before .before .κs) (m35 (c .before) (After-ask-tables·gave c) .0)) (Clauses.atExit (Kinds.endedOf 3 ps r) (c .before .before .before .before .before .before .before .κs) (dens (c .before .before .before .before .before .before .before .κs) (c .before .before .before .before .before .before .before .args)) (Enter.lastsP (c .before .before .before .before .before .before .before .κs) 1 ps xs (dens (c .before .before .before .before .before .before .before .κs) (c .before .before .before .before .before .before .before .args)) (m35 (c .before) (After-ask-tables·gave c) .1)))
 
-      abbrev pub m40 : (before : Else2) → Typed.Mo T40
-      m40 = λ before. s35 (m35 before)
+      abbrev pub m36 : (before : Else2) → Typed.Mo T36
+      m36 = λ before. s31 (m31 before)
 
-      abbrev pub m41 : (before : Else2) → Typed.Mo T41
-      m41 = λ before. s36 (m40 before)
+      abbrev pub m37 : (before : Else2) → Typed.Mo T37
+      m37 = λ before. s32 (m36 before)
 
-      abbrev pub m42 : (before : Else2) → Typed.Mo T42
-      m42 = λ before. s37 (m41 before)
+      abbrev pub m38 : (before : Else2) → Typed.Mo T38
+      m38 = λ before. s33 (m37 before)
 
-      abbrev pub m43 : (before : Else2) → Typed.Mo T43
-      m43 = λ before. s38 (m42 before)
+      abbrev pub m39 : (before : Else2) → Typed.Mo T39
+      m39 = λ before. s34 (m38 before)
 
       abbrev pub Need-returns-4 : Type 0
-      Need-returns-4 = (c : Else3) → Post· (c .before .before .before .before .before .κs) (dens (c .before .before .before .before .before .κs) (c .before .before .before .before .before .args)) (Function.resV r (c .before .before .before .before .before .κs) (m43 (c .before) .0)) (Clauses.atExit (Kinds.endedOf 3 ps r) (c .before .before .before .before .before .κs) (dens (c .before .before .before .before .before .κs) (c .before .before .before .before .before .args)) (Enter.lastsP (c .before .before .before .before .before .κs) 1 ps xs (dens (c .before .before .before .before .before .κs) (c .before .before .before .before .before .args)) (m43 (c .before) .1)))
+      Need-returns-4 = (c : Else3) → Post· (c .before .before .before .before .before .κs) (dens (c .before .before .before .before .before .κs) (c .before .before .before .before .before .args)) (Function.resV r (c .before .before .before .before .before .κs) (m39 (c .before) .0)) (Clauses.atExit (Kinds.endedOf 3 ps r) (c .before .before .before .before .before .κs) (dens (c .before .before .before .before .before .κs) (c .before .before .before .before .before .args)) (Enter.lastsP (c .before .before .before .before .before .κs) 1 ps xs (dens (c .before .before .before .before .before .κs) (c .before .before .before .before .before .args)) (m39 (c .before) .1)))
 
-      module _ (ask-contest-requires : Need-ask-contest-requires) (returns : Need-returns) (far-requires : Need-far-requires) (far-requires-2 : Need-far-requires-2) (ask-contest-requires-2 : Need-ask-contest-requires-2) (returns-2 : Need-returns-2) (least-requires : Need-least-requires) (ask-tables-requires : Need-ask-tables-requires) (returns-3 : Need-returns-3) (returns-4 : Need-returns-4) where
-        lay15 : (c : Else3) → at39 (W0 (c .before .before .before .before .before .κs) (c .before .before .before .before .before .args)) (m35 (c .before))
-        lay15 = λ c. ((tt, (Path'.refl, (Path'.refl, (Path'.refl, (tt, (tt, (tt, tt))))))), returns-4 record { before = c .before; if3 = c .if3 })
+      module _ (ask-contest-requires : Need-ask-contest-requires) (returns : Need-returns) (ask-warning-requires : Need-ask-warning-requires) (returns-2 : Need-returns-2) (least-requires : Need-least-requires) (ask-tables-requires : Need-ask-tables-requires) (returns-3 : Need-returns-3) (returns-4 : Need-returns-4) where
+        lay13 : (c : Else3) → at35 (W0 (c .before .before .before .before .before .κs) (c .before .before .before .before .before .args)) (m31 (c .before))
+        lay13 = λ c. ((tt, (Path'.refl, (Path'.refl, (Path'.refl, (tt, (tt, (tt, tt))))))), returns-4 record { before = c .before; if3 = c .if3 })
 
-        lay14 : (c : After-ask-tables) → at39 (W0 (c .before .before .before .before .before .before .before .κs) (c .before .before .before .before .before .before .before .args)) (m33 (c .before) (After-ask-tables·gave c))
-        lay14 = λ c. ((tt, (Path'.refl, (Path'.refl, (Path'.refl, (tt, (tt, (tt, tt))))))), returns-3 record { before = c .before; ask-tables = c .ask-tables })
+        lay12 : (c : After-ask-tables) → at35 (W0 (c .before .before .before .before .before .before .before .κs) (c .before .before .before .before .before .before .before .args)) (m29 (c .before) (After-ask-tables·gave c))
+        lay12 = λ c. ((tt, (Path'.refl, (Path'.refl, (Path'.refl, (tt, (tt, (tt, tt))))))), returns-3 record { before = c .before; ask-tables = c .ask-tables })
 
-        lay13 : (c : Else3) → at33 (W3 (c .before .before)) (m27 (c .before .before))
-        lay13 = λ c. lay15 record { before = c .before; if3 = c .if3 }
+        lay11 : (c : Else3) → at29 (W3 (c .before .before)) (m23 (c .before .before))
+        lay11 = λ c. lay13 record { before = c .before; if3 = c .if3 }
 
-        lay12 : (c : After-least) → at28 (W3 (c .before .before .before)) (m29 (c .before) (After-least·gave c))
-        lay12 = λ c. (ask-tables-requires record { before = c .before; least = c .least }, λ g. lay14 record { before = record { before = c .before; least = c .least }; ask-tables = Called.called ps·3 r·3 (claims· .7) T33 (record { pos = 1; st = List.[]; d = 0; at = λ x. x }, (record { pos = 2; ty = Syntax.tyRef (Syntax.named 0) Syntax.imm (Memory.pointee (T.the-row .written)); ref = λ x. x }, (record { pos = 3; ty = Syntax.tyRef (Syntax.named 1) Syntax.imm (Syntax.tyInt Syntax.w16); ref = λ x. x }, (record { pos = 4; ty = Syntax.tyRef (Syntax.named 2) Syntax.imm (Syntax.tyInt Syntax.w16); ref = λ x. x }, (Num.vAt 5 λ x. x, (Num.vAt 6 λ x. x, (Num.vAt 14 λ x. x, tt))))))) (m29 (c .before) (After-least·gave c)) g })
+        lay10 : (c : After-least) → at24 (W3 (c .before .before .before)) (m25 (c .before) (After-least·gave c))
+        lay10 = λ c. (ask-tables-requires record { before = c .before; least = c .least }, λ g. lay12 record { before = record { before = c .before; least = c .least }; ask-tables = Called.called ps·3 r·3 (claims· .7) T29 (record { pos = 1; st = List.[]; d = 0; at = λ x. x }, (record { pos = 2; ty = Syntax.tyRef (Syntax.named 0) Syntax.imm (Memory.pointee (T.the-row .written)); ref = λ x. x }, (record { pos = 3; ty = Syntax.tyRef (Syntax.named 1) Syntax.imm (Syntax.tyInt Syntax.w16); ref = λ x. x }, (record { pos = 4; ty = Syntax.tyRef (Syntax.named 2) Syntax.imm (Syntax.tyInt Syntax.w16); ref = λ x. x }, (Num.vAt 5 λ x. x, (Num.vAt 6 λ x. x, (Num.vAt 12 λ x. x, tt))))))) (m25 (c .before) (After-least·gave c)) g })
 
-        lay11 : (c : Then3) → at30 (W3 (c .before .before)) (m27 (c .before .before))
-        lay11 = λ c. (least-requires record { before = c .before; if3 = c .if3 }, λ g. lay12 record { before = record { before = c .before; if3 = c .if3 }; least = Called.called ps·2 r·2 (claims· .5) T32 (Num.vAt 7 λ x. x, (Num.vBig 1024, tt)) (m28 (c .before)) g })
+        lay9 : (c : Then3) → at26 (W3 (c .before .before)) (m23 (c .before .before))
+        lay9 = λ c. (least-requires record { before = c .before; if3 = c .if3 }, λ g. lay10 record { before = record { before = c .before; if3 = c .if3 }; least = Called.called ps·2 r·2 (claims· .5) T28 (Num.vAt 7 λ x. x, (Num.vBig 1024, tt)) (m24 (c .before)) g })
 
-        lay10 : (c : Else2) → at41 (W0 (c .before .before .before .before .κs) (c .before .before .before .before .args)) (m26 (c .before))
-        lay10 = λ c. (tt, (λ taken. lay11 record { before = record { before = c .before; if2 = c .if2 }; if3 = record { taken = Tests.ltb-true (Row.get 5 (T16 .locals) (m26 (c .before))) 2 taken } }, λ left. lay13 record { before = record { before = c .before; if2 = c .if2 }; if3 = record { left = Tests.ltb-false (Row.get 5 (T16 .locals) (m26 (c .before))) 2 left } }))
+        lay8 : (c : Else2) → at37 (W0 (c .before .before .before .before .κs) (c .before .before .before .before .args)) (m22 (c .before))
+        lay8 = λ c. (tt, (λ taken. lay9 record { before = record { before = c .before; if2 = c .if2 }; if3 = record { taken = Tests.ltb-true (Row.get 5 (T16 .locals) (m22 (c .before))) 2 taken } }, λ left. lay11 record { before = record { before = c .before; if2 = c .if2 }; if3 = record { left = Tests.ltb-false (Row.get 5 (T16 .locals) (m22 (c .before))) 2 left } }))
 
-        lay9 : (c : Else2) → at26 (W2 (c .before .before)) (m13 (c .before .before))
-        lay9 = λ c. lay10 record { before = c .before; if2 = c .if2 }
+        lay7 : (c : Else2) → at22 (W2 (c .before .before)) (m13 (c .before .before))
+        lay7 = λ c. lay8 record { before = c .before; if2 = c .if2 }
 
-        lay8 : (c : After-ask-contest2) → at20 (W2 (c .before .before .before .before .before)) (m17 (c .before) (After-ask-contest2·gave c))
-        lay8 = λ c. ((tt, (Path'.refl, (Path'.refl, (Path'.refl, (tt, (tt, (tt, tt))))))), returns-2 record { before = c .before; ask-contest2 = c .ask-contest2 })
+        lay6 : (c : After-ask-warning) → at18 (W2 (c .before .before .before)) (m15 (c .before) (After-ask-warning·gave c))
+        lay6 = λ c. ((tt, (Path'.refl, (Path'.refl, (Path'.refl, (tt, (tt, (tt, tt))))))), returns-2 record { before = c .before; ask-warning = c .ask-warning })
 
-        lay7 : (c : After-far2) → at21 (W2 (c .before .before .before .before)) (m16 (c .before) (After-far2·gave c))
-        lay7 = λ c. (ask-contest-requires-2 record { before = c .before; far2 = c .far2 }, λ g. lay8 record { before = record { before = c .before; far2 = c .far2 }; ask-contest2 = Called.called ps·0 r·0 (claims· .1) T19 (record { pos = 1; st = List.[]; d = 0; at = λ x. x }, (record { pos = 2; ty = Syntax.tyRef (Syntax.named 0) Syntax.imm (Memory.pointee (T.the-row .written)); ref = λ x. x }, (record { pos = 3; ty = Syntax.tyRef (Syntax.named 1) Syntax.imm (Syntax.tyInt Syntax.w16); ref = λ x. x }, (record { pos = 4; ty = Syntax.tyRef (Syntax.named 2) Syntax.imm (Syntax.tyInt Syntax.w16); ref = λ x. x }, (Num.vAt 11 λ x. x, (Num.vAt 12 λ x. x, tt)))))) (m16 (c .before) (After-far2·gave c)) g })
+        lay5 : (c : Then2) → at20 (W2 (c .before .before)) (m13 (c .before .before))
+        lay5 = λ c. (ask-warning-requires record { before = c .before; if2 = c .if2 }, λ g. lay6 record { before = record { before = c .before; if2 = c .if2 }; ask-warning = Called.called ps·1 r·1 (claims· .3) T17 (record { pos = 1; st = List.[]; d = 0; at = λ x. x }, (record { pos = 2; ty = Syntax.tyRef (Syntax.named 0) Syntax.imm (Memory.pointee (T.the-row .written)); ref = λ x. x }, (record { pos = 3; ty = Syntax.tyRef (Syntax.named 1) Syntax.imm (Syntax.tyInt Syntax.w16); ref = λ x. x }, (record { pos = 4; ty = Syntax.tyRef (Syntax.named 2) Syntax.imm (Syntax.tyInt Syntax.w16); ref = λ x. x }, (Num.vAt 6 λ x. x, (Num.vAt 7 λ x. x, tt)))))) (m14 (c .before)) g })
 
-        lay6 : (c : After-far) → at22 (W2 (c .before .before .before)) (m15 (c .before) (After-far·gave c))
-        lay6 = λ c. (far-requires-2 record { before = c .before; far = c .far }, λ g. lay7 record { before = record { before = c .before; far = c .far }; far2 = Called.called ps·1 r·1 (claims· .3) T18 (Num.vAt 7 λ x. x, tt) (m15 (c .before) (After-far·gave c)) g })
-
-        lay5 : (c : Then2) → at24 (W2 (c .before .before)) (m13 (c .before .before))
-        lay5 = λ c. (far-requires record { before = c .before; if2 = c .if2 }, λ g. lay6 record { before = record { before = c .before; if2 = c .if2 }; far = Called.called ps·1 r·1 (claims· .3) T17 (Num.vAt 6 λ x. x, tt) (m14 (c .before)) g })
-
-        lay4 : (c : Else1) → at43 (W0 (c .before .before .before .κs) (c .before .before .before .args)) (m12 (c .before))
-        lay4 = λ c. (tt, (λ taken. lay5 record { before = record { before = c .before; if1 = c .if1 }; if2 = record { taken = Tests.eqb-true (Row.get 5 (T5 .locals) (m12 (c .before))) 3 taken } }, λ left. lay9 record { before = record { before = c .before; if1 = c .if1 }; if2 = record { left = Tests.eqb-false (Row.get 5 (T5 .locals) (m12 (c .before))) 3 left } }))
+        lay4 : (c : Else1) → at39 (W0 (c .before .before .before .κs) (c .before .before .before .args)) (m12 (c .before))
+        lay4 = λ c. (tt, (λ taken. lay5 record { before = record { before = c .before; if1 = c .if1 }; if2 = record { taken = Tests.eqb-true (Row.get 5 (T5 .locals) (m12 (c .before))) 3 taken } }, λ left. lay7 record { before = record { before = c .before; if1 = c .if1 }; if2 = record { left = Tests.eqb-false (Row.get 5 (T5 .locals) (m12 (c .before))) 3 left } }))
 
         lay3 : (c : Else1) → at10 (W1 (c .before .before) (c .before .shared-slice-known2 .given)) (m3 (c .before .before) (c .before .shared-slice-known2 .given))
         lay3 = λ c. lay4 record { before = c .before; if1 = c .if1 }
@@ -1358,13 +1228,13 @@ module _ (claims· : Claims) where
         lay1 : (c : Then1) → at8 (W1 (c .before .before) (c .before .shared-slice-known2 .given)) (m3 (c .before .before) (c .before .shared-slice-known2 .given))
         lay1 = λ c. (ask-contest-requires record { before = c .before; if1 = c .if1 }, λ g. lay2 record { before = record { before = c .before; if1 = c .if1 }; ask-contest = Called.called ps·0 r·0 (claims· .1) T6 (record { pos = 1; st = List.[]; d = 0; at = λ x. x }, (record { pos = 2; ty = Syntax.tyRef (Syntax.named 0) Syntax.imm (Memory.pointee (T.the-row .written)); ref = λ x. x }, (record { pos = 3; ty = Syntax.tyRef (Syntax.named 1) Syntax.imm (Syntax.tyInt Syntax.w16); ref = λ x. x }, (record { pos = 4; ty = Syntax.tyRef (Syntax.named 2) Syntax.imm (Syntax.tyInt Syntax.w16); ref = λ x. x }, (Num.vAt 6 λ x. x, (Num.vAt 7 λ x. x, tt)))))) (m4 (c .before)) g })
 
-        pub laid : (c : Start) → at47 (W0 (c .κs) (c .args)) (m0 (c .κs) (c .args))
+        pub laid : (c : Start) → at43 (W0 (c .κs) (c .args)) (m0 (c .κs) (c .args))
         laid = λ c. λ g. λ g'. (tt, (λ taken. lay1 record { before = record { before = record { before = c; shared-slice-known = record { given = g } }; shared-slice-known2 = record { given = g' } }; if1 = record { taken = Tests.eqb-true (Row.get 5 (T3 .locals) (m2 record { before = c; shared-slice-known = record { given = g } } g')) 2 taken } }, λ left. lay3 record { before = record { before = record { before = c; shared-slice-known = record { given = g } }; shared-slice-known2 = record { given = g' } }; if1 = record { left = Tests.eqb-false (Row.get 5 (T3 .locals) (m2 record { before = c; shared-slice-known = record { given = g } } g')) 2 left } }))
 
         module _ (κs : Lifetimes.Lfts 3) (qs : Lifetimes.Shares 3) where
           pub asked : (a : Kinds.Dens κs ps) → (good : Kinds.GoodsP κs ps a) → (pre : Pre· κs a) → (bs : List.List Nat.ℕ) → Φ (Any.wantQ 3 ps r xs m κs qs a (Post· κs a)) (Function.init 3 ps r xs m κs qs a)
           asked = λ a good pre bs. laid record { κs = κs; args = record { size = a .0; rows = a .1 .0; firsts = a .1 .1 .0; outcomes = a .1 .1 .1 .0; call = a .1 .1 .1 .1 .0; state = a .1 .1 .1 .1 .1 .0; number = a .1 .1 .1 .1 .1 .1 .0 }; good = good; fits = record { call = record { fits = good .1 .1 .1 .1 .0 .1 }; state = record { fits = good .1 .1 .1 .1 .1 .0 .1 }; number = record { fits = good .1 .1 .1 .1 .1 .1 .0 .1 } }; pre = pre }
 
-        module _ {M : Type 1} (𝓤 : URA.URA M) (H : Wp.Heap 𝓤) (A : Atoms.Atoms 𝓤) (W : Kit.Given 𝓤 H A) (𝓣 : Wp.Tables 𝓤 H) (known0 : Plain.Known 𝓤 H A W 𝓣 3 ps·0 r·0 (claims· .0) (claims· .1) "bench_plans::contests::ask_contest") (known1 : Plain.Known 𝓤 H A W 𝓣 0 ps·1 r·1 (claims· .2) (claims· .3) "bench_plans::numbers::far") (known2 : Plain.Known 𝓤 H A W 𝓣 0 ps·2 r·2 (claims· .4) (claims· .5) "bench_plans::numbers::least") (known3 : Plain.Known 𝓤 H A W 𝓣 3 ps·3 r·3 (claims· .6) (claims· .7) "bench_plans::verdicts::ask_tables") where
+        module _ {M : Type 1} (𝓤 : URA.URA M) (H : Wp.Heap 𝓤) (A : Atoms.Atoms 𝓤) (W : Kit.Given 𝓤 H A) (𝓣 : Wp.Tables 𝓤 H) (known0 : Plain.Known 𝓤 H A W 𝓣 3 ps·0 r·0 (claims· .0) (claims· .1) "bench_plans::contests::ask_contest") (known1 : Plain.Known 𝓤 H A W 𝓣 3 ps·1 r·1 (claims· .2) (claims· .3) "bench_plans::warnings::ask_warning") (known2 : Plain.Known 𝓤 H A W 𝓣 0 ps·2 r·2 (claims· .4) (claims· .5) "bench_plans::numbers::least") (known3 : Plain.Known 𝓤 H A W 𝓣 3 ps·3 r·3 (claims· .6) (claims· .7) "bench_plans::verdicts::ask_tables") where
           pub spec : Statement.Triple 𝓤 (Wp.WpFn 𝓤 H (𝓣 .C) (𝓣 .Λ) (Function.fnOf 3 ps r xs m hs body)) (Function.plainOf 𝓤 H A 3 ps r Pre· Post·)
           spec = Plain.t-fn-plain 𝓤 H A W 𝓣 3 ps r xs m hs body (λ κs qs bs. Φ) (λ κs qs bs bd. typed κs qs 𝓤 H A W 𝓣 (known0, known1, known2, known3) bs bd) Pre· Post· asked

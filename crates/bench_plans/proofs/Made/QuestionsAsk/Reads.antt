@@ -5,7 +5,7 @@ use Rattle.tables.proofs.Size.Laws
 use base.Logic.{id⊢, emp}
 use borrow.Fn.Kinds
 use borrow.Fn.Picked.{KnownAs}
-use borrow.Fn.Read.{all-models, all∗, r-last, r-top}
+use borrow.Fn.Read.{all-models, all∗, r-top}
 use borrow.Fn.World.{World}
 use borrow.Fn.Written as Written
 use borrow.Kind.ShrSlice
@@ -41,7 +41,7 @@ abbrev pub ensures : R.Ens 3 ps r
 ensures κs a g z e w = f.clauses (w .𝓤) (w .H) (w .𝓖 .A) (w .𝓜 .mem) (w .𝓡 .run) κs a .ensures g z e
 
 abbrev pub pre-read : R.ReadReq 3 ps r requires ensures
-pre-read κs a g = all-models (requires κs a g) (λ w. r-last _) (λ w. refl) (λ w. refl) (λ w. refl)
+pre-read κs a g = all-models (requires κs a g) (λ w. r-top) (λ w. refl) (λ w. refl) (λ w. refl)
 
 abbrev pub post-read : R.ReadEns 3 ps r requires ensures
 post-read κs a g z e = all-models (ensures κs a g z e) (λ w. r-top) (λ w. refl) (λ w. refl) (λ w. refl)

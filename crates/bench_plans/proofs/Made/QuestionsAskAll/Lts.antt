@@ -75,11 +75,17 @@ ps·0 = List.[]
 abbrev pub r·0 : Kinds.RK 0
 r·0 = Num.rNum Syntax.w64
 
-abbrev pub ps·1 : List.List (Kinds.PK 3)
-ps·1 = List._∷_ (Value.pVal record { ty = Declared.row Size.the-type; one = Path'.refl; val = Laws'.val Size.the-type Laws.the-laws; tells = Laws'.tells Size.the-type Laws.the-laws; still = Laws'.still Size.the-type Laws.the-copy Exit.yes; row = Rows.whole (Declared.row Size.the-type); rd = λ x. x; mk = λ x. x } λ M 𝓤 H A W. record { copies = Laws'.copy Size.the-type Laws.the-copy 𝓤 H A W; lawful = Laws'.lawful Size.the-type Laws.the-laws 𝓤 H A W; makes = Laws'.makes Size.the-type Laws.the-plain 𝓤 H A; in-mem = Local.mem-whole 𝓤 H A W (Declared.row Size.the-type); of-mem = Local.whole-mem 𝓤 H A W (Declared.row Size.the-type) }) (List._∷_ (ShrSlice.pShrS T.the-row 0 tt) (List._∷_ (ShrSlice.pShrS (Referent.rtF (Referent.fInt Syntax.w16)) 1 tt) (List._∷_ (ShrSlice.pShrS (Referent.rtF (Referent.fInt Syntax.w16)) 2 tt) (List._∷_ (Num.pNum Syntax.w64) (List._∷_ (Num.pNum Syntax.w64) (List._∷_ (Num.pNum Syntax.w64) List.[]))))))
+abbrev pub ps·1 : List.List (Kinds.PK 0)
+ps·1 = List.[]
 
-abbrev pub r·1 : Kinds.RK 3
-r·1 = Unit'.rUnit
+abbrev pub r·1 : Kinds.RK 0
+r·1 = Num.rNum Syntax.w64
+
+abbrev pub ps·2 : List.List (Kinds.PK 3)
+ps·2 = List._∷_ (Value.pVal record { ty = Declared.row Size.the-type; one = Path'.refl; val = Laws'.val Size.the-type Laws.the-laws; tells = Laws'.tells Size.the-type Laws.the-laws; still = Laws'.still Size.the-type Laws.the-copy Exit.yes; row = Rows.whole (Declared.row Size.the-type); rd = λ x. x; mk = λ x. x } λ M 𝓤 H A W. record { copies = Laws'.copy Size.the-type Laws.the-copy 𝓤 H A W; lawful = Laws'.lawful Size.the-type Laws.the-laws 𝓤 H A W; makes = Laws'.makes Size.the-type Laws.the-plain 𝓤 H A; in-mem = Local.mem-whole 𝓤 H A W (Declared.row Size.the-type); of-mem = Local.whole-mem 𝓤 H A W (Declared.row Size.the-type) }) (List._∷_ (ShrSlice.pShrS T.the-row 0 tt) (List._∷_ (ShrSlice.pShrS (Referent.rtF (Referent.fInt Syntax.w16)) 1 tt) (List._∷_ (ShrSlice.pShrS (Referent.rtF (Referent.fInt Syntax.w16)) 2 tt) (List._∷_ (Num.pNum Syntax.w64) (List._∷_ (Num.pNum Syntax.w64) (List._∷_ (Num.pNum Syntax.w64) List.[]))))))
+
+abbrev pub r·2 : Kinds.RK 3
+r·2 = Unit'.rUnit
 
 abbrev pub hs : List.List Syntax.Home
 hs = List._∷_ Syntax.valueLocal (List._∷_ Syntax.valueLocal (List._∷_ Syntax.valueLocal (List._∷_ Syntax.valueLocal (List._∷_ Syntax.valueLocal (List._∷_ Syntax.valueLocal (List._∷_ Syntax.valueLocal (List._∷_ Syntax.valueLocal (List._∷_ Syntax.valueLocal (List._∷_ Syntax.valueLocal (List._∷_ Syntax.valueLocal (List._∷_ Syntax.valueLocal List.[])))))))))))
@@ -103,10 +109,10 @@ abbrev b5 : Syntax.Body
 b5 = Syntax.call "bench_plans::numbers::next" List.[] (Syntax.place 7 List.[])
 
 abbrev b6 : Syntax.Body
-b6 = Syntax.call "bench_plans::numbers::next" List.[] (Syntax.place 8 List.[])
+b6 = Syntax.call "bench_plans::numbers::next_wide" List.[] (Syntax.place 8 List.[])
 
 abbrev b7 : Syntax.Body
-b7 = Syntax.call "bench_plans::numbers::next" List.[] (Syntax.place 9 List.[])
+b7 = Syntax.call "bench_plans::numbers::next_wide" List.[] (Syntax.place 9 List.[])
 
 abbrev b8 : Syntax.Body
 b8 = Syntax.call "bench_plans::questions::ask" (List._∷_ (Syntax.copy (Syntax.place 1 List.[])) (List._∷_ (Syntax.copy (Syntax.place 2 List.[])) (List._∷_ (Syntax.copy (Syntax.place 3 List.[])) (List._∷_ (Syntax.copy (Syntax.place 4 List.[])) (List._∷_ (Syntax.copy (Syntax.place 7 List.[])) (List._∷_ (Syntax.copy (Syntax.place 8 List.[])) (List._∷_ (Syntax.copy (Syntax.place 9 List.[])) List.[]))))))) (Syntax.place 11 List.[])
@@ -157,7 +163,7 @@ abbrev pub body : Syntax.Body
 body = b22
 
 abbrev pub Claims : Type 1
-Claims = Kinds.In 0 ps·0 × Kinds.Out 0 ps·0 r·0 × Kinds.In 3 ps·1 × Kinds.Out 3 ps·1 r·1
+Claims = Kinds.In 0 ps·0 × Kinds.Out 0 ps·0 r·0 × Kinds.In 0 ps·1 × Kinds.Out 0 ps·1 r·1 × Kinds.In 3 ps·2 × Kinds.Out 3 ps·2 r·2
 
 abbrev pub t0 : List.List Row.Entry
 t0 = List._∷_ (0, Rows.any-gone Syntax.tyUnit) (List._∷_ (1, Rows.whole (Declared.row Size.the-type)) (List._∷_ (2, Rows.sslice T.the-row ty·2 0) (List._∷_ (3, Rows.sslice (Referent.rtF (Referent.fInt Syntax.w16)) ty·0 1) (List._∷_ (4, Rows.sslice (Referent.rtF (Referent.fInt Syntax.w16)) ty·1 2) (List._∷_ (5, Rows.sc-here (Row.sInt Syntax.w64)) (List._∷_ (6, Rows.any-gone (Syntax.tyInt Syntax.w64)) (List._∷_ (7, Rows.any-gone (Syntax.tyInt Syntax.w64)) (List._∷_ (8, Rows.any-gone (Syntax.tyInt Syntax.w64)) (List._∷_ (9, Rows.any-gone (Syntax.tyInt Syntax.w64)) (List._∷_ (10, Rows.any-gone Syntax.tyBool) (List._∷_ (11, Rows.any-gone Syntax.tyUnit) List.[])))))))))))
@@ -317,13 +323,13 @@ module _ (claims· : Claims) where
   s7 = Call.callB ps·0 r·0 (claims· .0) (claims· .1) T7 tt 7 List.[] (Syntax.tyInt Syntax.w64)
 
   abbrev s8 : Typed.Both T11 T12
-  s8 = Call.callB ps·0 r·0 (claims· .0) (claims· .1) T11 tt 8 List.[] (Syntax.tyInt Syntax.w64)
+  s8 = Call.callB ps·1 r·1 (claims· .2) (claims· .3) T11 tt 8 List.[] (Syntax.tyInt Syntax.w64)
 
   abbrev s9 : Typed.Both T12 T13
-  s9 = Call.callB ps·0 r·0 (claims· .0) (claims· .1) T12 tt 9 List.[] (Syntax.tyInt Syntax.w64)
+  s9 = Call.callB ps·1 r·1 (claims· .2) (claims· .3) T12 tt 9 List.[] (Syntax.tyInt Syntax.w64)
 
   abbrev s10 : Typed.Both T13 T14
-  s10 = Call.callB ps·1 r·1 (claims· .2) (claims· .3) T13 (record { pos = 1; st = List.[]; d = 0; at = λ x. x }, (record { pos = 2; ty = Syntax.tyRef (Syntax.named 0) Syntax.imm (Memory.pointee (T.the-row .written)); ref = λ x. x }, (record { pos = 3; ty = Syntax.tyRef (Syntax.named 1) Syntax.imm (Syntax.tyInt Syntax.w16); ref = λ x. x }, (record { pos = 4; ty = Syntax.tyRef (Syntax.named 2) Syntax.imm (Syntax.tyInt Syntax.w16); ref = λ x. x }, (Num.vAt 7 λ x. x, (Num.vAt 8 λ x. x, (Num.vAt 9 λ x. x, tt))))))) 11 (List._∷_ 0 (List._∷_ 1 (List._∷_ 2 List.[]))) Syntax.tyUnit
+  s10 = Call.callB ps·2 r·2 (claims· .4) (claims· .5) T13 (record { pos = 1; st = List.[]; d = 0; at = λ x. x }, (record { pos = 2; ty = Syntax.tyRef (Syntax.named 0) Syntax.imm (Memory.pointee (T.the-row .written)); ref = λ x. x }, (record { pos = 3; ty = Syntax.tyRef (Syntax.named 1) Syntax.imm (Syntax.tyInt Syntax.w16); ref = λ x. x }, (record { pos = 4; ty = Syntax.tyRef (Syntax.named 2) Syntax.imm (Syntax.tyInt Syntax.w16); ref = λ x. x }, (Num.vAt 7 λ x. x, (Num.vAt 8 λ x. x, (Num.vAt 9 λ x. x, tt))))))) 11 (List._∷_ 0 (List._∷_ 1 (List._∷_ 2 List.[]))) Syntax.tyUnit
 
   abbrev s11 : Typed.Mo T14 → Typed.Mo T15
   s11 = Scalar.n-room T14 11 Syntax.tyUnit
@@ -355,7 +361,7 @@ module _ (claims· : Claims) where
   module _ (Pre· : (κs : Lifetimes.Lfts 3) → Kinds.Dens κs ps → Type 0) (Post· : (κs : Lifetimes.Lfts 3) → (a : Kinds.Dens κs ps) → Kinds.Plain 3 ps r κs) where
     module _ (M : Type 1) where
       abbrev pub Closed : Type 2
-      Closed = (𝓤 : URA.URA M) (H : Wp.Heap 𝓤) (A : Atoms.Atoms 𝓤) (W : Kit.Given 𝓤 H A) (𝓣 : Wp.Tables 𝓤 H) (known0 : Plain.Known 𝓤 H A W 𝓣 0 ps·0 r·0 (claims· .0) (claims· .1) "bench_plans::numbers::next") (known1 : Plain.Known 𝓤 H A W 𝓣 3 ps·1 r·1 (claims· .2) (claims· .3) "bench_plans::questions::ask") → Statement.Triple 𝓤 (Wp.WpFn 𝓤 H (𝓣 .C) (𝓣 .Λ) (Function.fnOf 3 ps r xs m hs body)) (Function.plainOf 𝓤 H A 3 ps r Pre· Post·)
+      Closed = (𝓤 : URA.URA M) (H : Wp.Heap 𝓤) (A : Atoms.Atoms 𝓤) (W : Kit.Given 𝓤 H A) (𝓣 : Wp.Tables 𝓤 H) (known0 : Plain.Known 𝓤 H A W 𝓣 0 ps·0 r·0 (claims· .0) (claims· .1) "bench_plans::numbers::next") (known1 : Plain.Known 𝓤 H A W 𝓣 0 ps·1 r·1 (claims· .2) (claims· .3) "bench_plans::numbers::next_wide") (known2 : Plain.Known 𝓤 H A W 𝓣 3 ps·2 r·2 (claims· .4) (claims· .5) "bench_plans::questions::ask") → Statement.Triple 𝓤 (Wp.WpFn 𝓤 H (𝓣 .C) (𝓣 .Λ) (Function.fnOf 3 ps r xs m hs body)) (Function.plainOf 𝓤 H A 3 ps r Pre· Post·)
 
     module _ (Inv·0 : InvT-loop) (μ·0 : MeasureT-loop) where
       abbrev at0 : Typed.TF T8 O4
@@ -435,7 +441,7 @@ module _ (claims· : Claims) where
 
       module _ {M : Type 1} (𝓤 : URA.URA M) (H : Wp.Heap 𝓤) (A : Atoms.Atoms 𝓤) (W : Kit.Given 𝓤 H A) (𝓣 : Wp.Tables 𝓤 H) where
         abbrev Knowns : Type 1
-        Knowns = Plain.Known 𝓤 H A W 𝓣 0 ps·0 r·0 (claims· .0) (claims· .1) "bench_plans::numbers::next" × Plain.Known 𝓤 H A W 𝓣 3 ps·1 r·1 (claims· .2) (claims· .3) "bench_plans::questions::ask"
+        Knowns = Plain.Known 𝓤 H A W 𝓣 0 ps·0 r·0 (claims· .0) (claims· .1) "bench_plans::numbers::next" × Plain.Known 𝓤 H A W 𝓣 0 ps·1 r·1 (claims· .2) (claims· .3) "bench_plans::numbers::next_wide" × Plain.Known 𝓤 H A W 𝓣 3 ps·2 r·2 (claims· .4) (claims· .5) "bench_plans::questions::ask"
 
       module _ (κs : Lifetimes.Lfts 3) (qs : Lifetimes.Shares 3) where
         abbrev G0 : Row.Cx
@@ -551,13 +557,13 @@ module _ (claims· : Claims) where
           d7 = Typed.g-pre 𝓤 H A W 𝓣 E G14 G15 b9 Δ3 (Typed.pass T14 T15 s11) at6 (Scalar.g-room 𝓤 H A W E G14 11 Syntax.tyUnit (Scalar.room-sc 𝓤 H A W Row.sUnit)) d6
 
           d8 : Typed.Typed 𝓤 H A 𝓣 E G13 b10 Δ3 at8
-          d8 = Typed.s-seq 𝓤 H A W 𝓣 E G13 G14 b8 b9 Δ3 (Typed.both s10) at7 (Plain.t-call-plain 𝓤 H A W 𝓣 3 ps·1 r·1 (claims· .2) (claims· .3) "bench_plans::questions::ask" (known .1) E (λ pos β. β) G13 (record { pos = 1; st = List.[]; d = 0; at = λ x. x }, (record { pos = 2; ty = Syntax.tyRef (Syntax.named 0) Syntax.imm (Memory.pointee (T.the-row .written)); ref = λ x. x }, (record { pos = 3; ty = Syntax.tyRef (Syntax.named 1) Syntax.imm (Syntax.tyInt Syntax.w16); ref = λ x. x }, (record { pos = 4; ty = Syntax.tyRef (Syntax.named 2) Syntax.imm (Syntax.tyInt Syntax.w16); ref = λ x. x }, (Num.vAt 7 λ x. x, (Num.vAt 8 λ x. x, (Num.vAt 9 λ x. x, tt))))))) 11 (List._∷_ 0 (List._∷_ 1 (List._∷_ 2 List.[]))) (Call.sub-id 𝓤 H A W (G13 .slots)) ((Yields.yields-copy 𝓤 H A W (λ ρ. Unit) (Declared.row Size.the-type) Path'.refl (Copies.cStruct Size.the-type Laws.the-laws Laws.the-copy .copy 𝓤 H A W) (Rows.whole (Declared.row Size.the-type)) (λ x. x) (λ x. x) (λ ρ told. Local.mem-whole 𝓤 H A W (Declared.row Size.the-type) ρ) λ ρ told. Local.whole-mem 𝓤 H A W (Declared.row Size.the-type) ρ, Path'.refl), (ShrSlice.spares-sslice 𝓤 H A W T.the-row ty·2 0, Shared.reads-sslice 𝓤 H A W T.the-row ty·2 0, Path'.refl, (ShrSlice.spares-sslice 𝓤 H A W (Referent.rtF (Referent.fInt Syntax.w16)) ty·0 1, Shared.reads-sslice 𝓤 H A W (Referent.rtF (Referent.fInt Syntax.w16)) ty·0 1, Path'.refl, (ShrSlice.spares-sslice 𝓤 H A W (Referent.rtF (Referent.fInt Syntax.w16)) ty·1 2, Shared.reads-sslice 𝓤 H A W (Referent.rtF (Referent.fInt Syntax.w16)) ty·1 2, Path'.refl, ((Scalar.reads-sc 𝓤 H A W (Row.sInt Syntax.w64), Path'.refl), ((Scalar.reads-sc 𝓤 H A W (Row.sInt Syntax.w64), Path'.refl), ((Scalar.reads-sc 𝓤 H A W (Row.sInt Syntax.w64), Path'.refl), tt))))))) (Reads.room-gone 𝓤 H A Syntax.tyUnit) (tt, (tt, (tt, tt))) Path'.refl) d7
+          d8 = Typed.s-seq 𝓤 H A W 𝓣 E G13 G14 b8 b9 Δ3 (Typed.both s10) at7 (Plain.t-call-plain 𝓤 H A W 𝓣 3 ps·2 r·2 (claims· .4) (claims· .5) "bench_plans::questions::ask" (known .2) E (λ pos β. β) G13 (record { pos = 1; st = List.[]; d = 0; at = λ x. x }, (record { pos = 2; ty = Syntax.tyRef (Syntax.named 0) Syntax.imm (Memory.pointee (T.the-row .written)); ref = λ x. x }, (record { pos = 3; ty = Syntax.tyRef (Syntax.named 1) Syntax.imm (Syntax.tyInt Syntax.w16); ref = λ x. x }, (record { pos = 4; ty = Syntax.tyRef (Syntax.named 2) Syntax.imm (Syntax.tyInt Syntax.w16); ref = λ x. x }, (Num.vAt 7 λ x. x, (Num.vAt 8 λ x. x, (Num.vAt 9 λ x. x, tt))))))) 11 (List._∷_ 0 (List._∷_ 1 (List._∷_ 2 List.[]))) (Call.sub-id 𝓤 H A W (G13 .slots)) ((Yields.yields-copy 𝓤 H A W (λ ρ. Unit) (Declared.row Size.the-type) Path'.refl (Copies.cStruct Size.the-type Laws.the-laws Laws.the-copy .copy 𝓤 H A W) (Rows.whole (Declared.row Size.the-type)) (λ x. x) (λ x. x) (λ ρ told. Local.mem-whole 𝓤 H A W (Declared.row Size.the-type) ρ) λ ρ told. Local.whole-mem 𝓤 H A W (Declared.row Size.the-type) ρ, Path'.refl), (ShrSlice.spares-sslice 𝓤 H A W T.the-row ty·2 0, Shared.reads-sslice 𝓤 H A W T.the-row ty·2 0, Path'.refl, (ShrSlice.spares-sslice 𝓤 H A W (Referent.rtF (Referent.fInt Syntax.w16)) ty·0 1, Shared.reads-sslice 𝓤 H A W (Referent.rtF (Referent.fInt Syntax.w16)) ty·0 1, Path'.refl, (ShrSlice.spares-sslice 𝓤 H A W (Referent.rtF (Referent.fInt Syntax.w16)) ty·1 2, Shared.reads-sslice 𝓤 H A W (Referent.rtF (Referent.fInt Syntax.w16)) ty·1 2, Path'.refl, ((Scalar.reads-sc 𝓤 H A W (Row.sInt Syntax.w64), Path'.refl), ((Scalar.reads-sc 𝓤 H A W (Row.sInt Syntax.w64), Path'.refl), ((Scalar.reads-sc 𝓤 H A W (Row.sInt Syntax.w64), Path'.refl), tt))))))) (Reads.room-gone 𝓤 H A Syntax.tyUnit) (tt, (tt, (tt, tt))) Path'.refl) d7
 
           d9 : Typed.Typed 𝓤 H A 𝓣 E G12 b11 Δ3 at9
-          d9 = Typed.s-seq 𝓤 H A W 𝓣 E G12 G13 b7 b10 Δ3 (Typed.both s9) at8 (Plain.t-call-plain 𝓤 H A W 𝓣 0 ps·0 r·0 (claims· .0) (claims· .1) "bench_plans::numbers::next" (known .0) E (λ pos β. β) G12 tt 9 List.[] (Call.sub-id 𝓤 H A W (G12 .slots)) tt (Reads.room-gone 𝓤 H A (Syntax.tyInt Syntax.w64)) tt Path'.refl) d8
+          d9 = Typed.s-seq 𝓤 H A W 𝓣 E G12 G13 b7 b10 Δ3 (Typed.both s9) at8 (Plain.t-call-plain 𝓤 H A W 𝓣 0 ps·1 r·1 (claims· .2) (claims· .3) "bench_plans::numbers::next_wide" (known .1) E (λ pos β. β) G12 tt 9 List.[] (Call.sub-id 𝓤 H A W (G12 .slots)) tt (Reads.room-gone 𝓤 H A (Syntax.tyInt Syntax.w64)) tt Path'.refl) d8
 
           d10 : Typed.Typed 𝓤 H A 𝓣 E G11 b12 Δ3 at10
-          d10 = Typed.s-seq 𝓤 H A W 𝓣 E G11 G12 b6 b11 Δ3 (Typed.both s8) at9 (Plain.t-call-plain 𝓤 H A W 𝓣 0 ps·0 r·0 (claims· .0) (claims· .1) "bench_plans::numbers::next" (known .0) E (λ pos β. β) G11 tt 8 List.[] (Call.sub-id 𝓤 H A W (G11 .slots)) tt (Reads.room-gone 𝓤 H A (Syntax.tyInt Syntax.w64)) tt Path'.refl) d9
+          d10 = Typed.s-seq 𝓤 H A W 𝓣 E G11 G12 b6 b11 Δ3 (Typed.both s8) at9 (Plain.t-call-plain 𝓤 H A W 𝓣 0 ps·1 r·1 (claims· .2) (claims· .3) "bench_plans::numbers::next_wide" (known .1) E (λ pos β. β) G11 tt 8 List.[] (Call.sub-id 𝓤 H A W (G11 .slots)) tt (Reads.room-gone 𝓤 H A (Syntax.tyInt Syntax.w64)) tt Path'.refl) d9
 
           d11 : Typed.Typed 𝓤 H A 𝓣 E G7 b13 Δ3 at11
           d11 = Typed.s-seq 𝓤 H A W 𝓣 E G7 G11 b5 b12 Δ3 (Typed.both s7) at10 (Plain.t-call-plain 𝓤 H A W 𝓣 0 ps·0 r·0 (claims· .0) (claims· .1) "bench_plans::numbers::next" (known .0) E (λ pos β. β) G7 tt 7 List.[] (Call.sub-id 𝓤 H A W (G7 .slots)) tt (Reads.room-gone 𝓤 H A (Syntax.tyInt Syntax.w64)) tt Path'.refl) d10
@@ -726,73 +732,73 @@ module _ (claims· : Claims) where
       abbrev pub After-next·gave : (c : After-next) → s7 .gives (m6 (c .before .before))
       After-next·gave = λ c. Called.given ps·0 r·0 (claims· .1) T7 tt (m6 (c .before .before)) (c .next)
 
-      abbrev pub Need-next-requires-2 : Type 0
-      Need-next-requires-2 = (c : After-next) → s8 .asks (m9 (c .before) (After-next·gave c))
+      abbrev pub Need-next-wide-requires : Type 0
+      Need-next-wide-requires = (c : After-next) → s8 .asks (m9 (c .before) (After-next·gave c))
 
       abbrev pub m10 : (before : After-next) → (given : s8 .gives (m9 (before .before) (After-next·gave before))) → Typed.Mo T12
       m10 = λ before given. s8 .next (m9 (before .before) (After-next·gave before)) given
 
       module _ (before· : After-next) where
-        abbrev pub After-next2·own : Type 0
-        After-next2·own = Called.Called ps·0 r·0 (claims· .1) T11 tt (m9 (before· .before) (After-next·gave before·))
+        abbrev pub After-next-wide·own : Type 0
+        After-next-wide·own = Called.Called ps·1 r·1 (claims· .3) T11 tt (m9 (before· .before) (After-next·gave before·))
 
-      pub record After-next2 : Type 0 where
+      pub record After-next-wide : Type 0 where
         pub before : After-next
-        pub next2 : After-next2·own before
+        pub next-wide : After-next-wide·own before
 
-      abbrev pub After-next2·gave : (c : After-next2) → s8 .gives (m9 (c .before .before) (After-next·gave (c .before)))
-      After-next2·gave = λ c. Called.given ps·0 r·0 (claims· .1) T11 tt (m9 (c .before .before) (After-next·gave (c .before))) (c .next2)
+      abbrev pub After-next-wide·gave : (c : After-next-wide) → s8 .gives (m9 (c .before .before) (After-next·gave (c .before)))
+      After-next-wide·gave = λ c. Called.given ps·1 r·1 (claims· .3) T11 tt (m9 (c .before .before) (After-next·gave (c .before))) (c .next-wide)
 
-      abbrev pub Need-next-requires-3 : Type 0
-      Need-next-requires-3 = (c : After-next2) → s9 .asks (m10 (c .before) (After-next2·gave c))
+      abbrev pub Need-next-wide-requires-2 : Type 0
+      Need-next-wide-requires-2 = (c : After-next-wide) → s9 .asks (m10 (c .before) (After-next-wide·gave c))
 
-      abbrev pub m11 : (before : After-next2) → (given : s9 .gives (m10 (before .before) (After-next2·gave before))) → Typed.Mo T13
-      m11 = λ before given. s9 .next (m10 (before .before) (After-next2·gave before)) given
+      abbrev pub m11 : (before : After-next-wide) → (given : s9 .gives (m10 (before .before) (After-next-wide·gave before))) → Typed.Mo T13
+      m11 = λ before given. s9 .next (m10 (before .before) (After-next-wide·gave before)) given
 
-      module _ (before· : After-next2) where
-        abbrev pub After-next3·own : Type 0
-        After-next3·own = Called.Called ps·0 r·0 (claims· .1) T12 tt (m10 (before· .before) (After-next2·gave before·))
+      module _ (before· : After-next-wide) where
+        abbrev pub After-next-wide2·own : Type 0
+        After-next-wide2·own = Called.Called ps·1 r·1 (claims· .3) T12 tt (m10 (before· .before) (After-next-wide·gave before·))
 
-      pub record After-next3 : Type 0 where
-        pub before : After-next2
-        pub next3 : After-next3·own before
+      pub record After-next-wide2 : Type 0 where
+        pub before : After-next-wide
+        pub next-wide2 : After-next-wide2·own before
 
-      abbrev pub After-next3·gave : (c : After-next3) → s9 .gives (m10 (c .before .before) (After-next2·gave (c .before)))
-      After-next3·gave = λ c. Called.given ps·0 r·0 (claims· .1) T12 tt (m10 (c .before .before) (After-next2·gave (c .before))) (c .next3)
+      abbrev pub After-next-wide2·gave : (c : After-next-wide2) → s9 .gives (m10 (c .before .before) (After-next-wide·gave (c .before)))
+      After-next-wide2·gave = λ c. Called.given ps·1 r·1 (claims· .3) T12 tt (m10 (c .before .before) (After-next-wide·gave (c .before))) (c .next-wide2)
 
       abbrev pub Need-ask-requires : Type 0
-      Need-ask-requires = (c : After-next3) → s10 .asks (m11 (c .before) (After-next3·gave c))
+      Need-ask-requires = (c : After-next-wide2) → s10 .asks (m11 (c .before) (After-next-wide2·gave c))
 
-      abbrev pub m12 : (before : After-next3) → (given : s10 .gives (m11 (before .before) (After-next3·gave before))) → Typed.Mo T14
-      m12 = λ before given. s10 .next (m11 (before .before) (After-next3·gave before)) given
+      abbrev pub m12 : (before : After-next-wide2) → (given : s10 .gives (m11 (before .before) (After-next-wide2·gave before))) → Typed.Mo T14
+      m12 = λ before given. s10 .next (m11 (before .before) (After-next-wide2·gave before)) given
 
-      module _ (before· : After-next3) where
+      module _ (before· : After-next-wide2) where
         abbrev pub After-ask·own : Type 0
-        After-ask·own = Called.Called ps·1 r·1 (claims· .3) T13 (record { pos = 1; st = List.[]; d = 0; at = λ x. x }, (record { pos = 2; ty = Syntax.tyRef (Syntax.named 0) Syntax.imm (Memory.pointee (T.the-row .written)); ref = λ x. x }, (record { pos = 3; ty = Syntax.tyRef (Syntax.named 1) Syntax.imm (Syntax.tyInt Syntax.w16); ref = λ x. x }, (record { pos = 4; ty = Syntax.tyRef (Syntax.named 2) Syntax.imm (Syntax.tyInt Syntax.w16); ref = λ x. x }, (Num.vAt 7 λ x. x, (Num.vAt 8 λ x. x, (Num.vAt 9 λ x. x, tt))))))) (m11 (before· .before) (After-next3·gave before·))
+        After-ask·own = Called.Called ps·2 r·2 (claims· .5) T13 (record { pos = 1; st = List.[]; d = 0; at = λ x. x }, (record { pos = 2; ty = Syntax.tyRef (Syntax.named 0) Syntax.imm (Memory.pointee (T.the-row .written)); ref = λ x. x }, (record { pos = 3; ty = Syntax.tyRef (Syntax.named 1) Syntax.imm (Syntax.tyInt Syntax.w16); ref = λ x. x }, (record { pos = 4; ty = Syntax.tyRef (Syntax.named 2) Syntax.imm (Syntax.tyInt Syntax.w16); ref = λ x. x }, (Num.vAt 7 λ x. x, (Num.vAt 8 λ x. x, (Num.vAt 9 λ x. x, tt))))))) (m11 (before· .before) (After-next-wide2·gave before·))
 
       pub record After-ask : Type 0 where
-        pub before : After-next3
+        pub before : After-next-wide2
         pub ask : After-ask·own before
 
-      abbrev pub After-ask·gave : (c : After-ask) → s10 .gives (m11 (c .before .before) (After-next3·gave (c .before)))
-      After-ask·gave = λ c. Called.given ps·1 r·1 (claims· .3) T13 (record { pos = 1; st = List.[]; d = 0; at = λ x. x }, (record { pos = 2; ty = Syntax.tyRef (Syntax.named 0) Syntax.imm (Memory.pointee (T.the-row .written)); ref = λ x. x }, (record { pos = 3; ty = Syntax.tyRef (Syntax.named 1) Syntax.imm (Syntax.tyInt Syntax.w16); ref = λ x. x }, (record { pos = 4; ty = Syntax.tyRef (Syntax.named 2) Syntax.imm (Syntax.tyInt Syntax.w16); ref = λ x. x }, (Num.vAt 7 λ x. x, (Num.vAt 8 λ x. x, (Num.vAt 9 λ x. x, tt))))))) (m11 (c .before .before) (After-next3·gave (c .before))) (c .ask)
+      abbrev pub After-ask·gave : (c : After-ask) → s10 .gives (m11 (c .before .before) (After-next-wide2·gave (c .before)))
+      After-ask·gave = λ c. Called.given ps·2 r·2 (claims· .5) T13 (record { pos = 1; st = List.[]; d = 0; at = λ x. x }, (record { pos = 2; ty = Syntax.tyRef (Syntax.named 0) Syntax.imm (Memory.pointee (T.the-row .written)); ref = λ x. x }, (record { pos = 3; ty = Syntax.tyRef (Syntax.named 1) Syntax.imm (Syntax.tyInt Syntax.w16); ref = λ x. x }, (record { pos = 4; ty = Syntax.tyRef (Syntax.named 2) Syntax.imm (Syntax.tyInt Syntax.w16); ref = λ x. x }, (Num.vAt 7 λ x. x, (Num.vAt 8 λ x. x, (Num.vAt 9 λ x. x, tt))))))) (m11 (c .before .before) (After-next-wide2·gave (c .before))) (c .ask)
 
-      abbrev pub m13 : (before : After-next3) → (given : s10 .gives (m11 (before .before) (After-next3·gave before))) → Typed.Mo T15
+      abbrev pub m13 : (before : After-next-wide2) → (given : s10 .gives (m11 (before .before) (After-next-wide2·gave before))) → Typed.Mo T15
       m13 = λ before given. s11 (m12 before given)
 
       abbrev pub Need-sub-left : Type 0
       Need-sub-left = (c : After-ask) → s12 .asks (m13 (c .before) (After-ask·gave c))
 
-      abbrev pub m14 : (before : After-next3) → (given : s10 .gives (m11 (before .before) (After-next3·gave before))) → Typed.Mo T16
+      abbrev pub m14 : (before : After-next-wide2) → (given : s10 .gives (m11 (before .before) (After-next-wide2·gave before))) → Typed.Mo T16
       m14 = λ before given. s12 .next (m13 before given)
 
-      abbrev pub m15 : (before : After-next3) → (given : s10 .gives (m11 (before .before) (After-next3·gave before))) → Typed.Mo T17
+      abbrev pub m15 : (before : After-next-wide2) → (given : s10 .gives (m11 (before .before) (After-next-wide2·gave before))) → Typed.Mo T17
       m15 = λ before given. s13 (m14 before given)
 
-      abbrev pub m16 : (before : After-next3) → (given : s10 .gives (m11 (before .before) (After-next3·gave before))) → Typed.Mo T18
+      abbrev pub m16 : (before : After-next-wide2) → (given : s10 .gives (m11 (before .before) (After-next-wide2·gave before))) → Typed.Mo T18
       m16 = λ before given. s14 (m15 before given)
 
-      abbrev pub m17 : (before : After-next3) → (given : s10 .gives (m11 (before .before) (After-next3·gave before))) → Typed.Mo T19
+      abbrev pub m17 : (before : After-next-wide2) → (given : s10 .gives (m11 (before .before) (After-next-wide2·gave before))) → Typed.Mo T19
       m17 = λ before given. s15 (m16 before given)
 
       abbrev pub Need-loop-less : Type 0
@@ -813,21 +819,21 @@ module _ (claims· : Claims) where
       abbrev pub Need-returns : Type 0
       Need-returns = (c : After-loop) → Post· (c .before .before .before .before .κs) (dens (c .before .before .before .before .κs) (c .before .before .before .before .args)) (Function.resV r (c .before .before .before .before .κs) (m20 (c .before) .0)) (Clauses.atExit (Kinds.endedOf 3 ps r) (c .before .before .before .before .κs) (dens (c .before .before .before .before .κs) (c .before .before .before .before .args)) (Enter.lastsP (c .before .before .before .before .κs) 1 ps xs (dens (c .before .before .before .before .κs) (c .before .before .before .before .args)) (m20 (c .before) .1)))
 
-      module _ (loop-holds : Need-loop-holds) (next-requires : Need-next-requires) (next-requires-2 : Need-next-requires-2) (next-requires-3 : Need-next-requires-3) (ask-requires : Need-ask-requires) (sub-left : Need-sub-left) (loop-less : Need-loop-less) (loop-again : Need-loop-again) (returns : Need-returns) where
+      module _ (loop-holds : Need-loop-holds) (next-requires : Need-next-requires) (next-wide-requires : Need-next-wide-requires) (next-wide-requires-2 : Need-next-wide-requires-2) (ask-requires : Need-ask-requires) (sub-left : Need-sub-left) (loop-less : Need-loop-less) (loop-again : Need-loop-again) (returns : Need-returns) where
         lay8 : (c : After-loop) → at19 (W0 (c .before .before .before .before .κs) (c .before .before .before .before .args)) (m8 (c .before))
         lay8 = λ c. ((tt, (Path'.refl, (Path'.refl, (Path'.refl, (tt, tt))))), returns record { before = c .before; loop-test = c .loop-test })
 
         lay7 : (c : After-ask) → at7 (W3 (c .before .before .before .before .before .before) (c .before .before .before .before .before .loop .left)) (m12 (c .before) (After-ask·gave c))
         lay7 = λ c. (sub-left record { before = c .before; ask = c .ask }, (μ·0 (Row.get 1 (T4 .locals) (m3 (c .before .before .before .before .before .before .before) (c .before .before .before .before .before .before .shared-slice-known2 .given))) (Row.get 2 (T4 .locals) (m3 (c .before .before .before .before .before .before .before) (c .before .before .before .before .before .before .shared-slice-known2 .given)) .now) (Row.get 3 (T4 .locals) (m3 (c .before .before .before .before .before .before .before) (c .before .before .before .before .before .before .shared-slice-known2 .given)) .now) (Row.get 4 (T4 .locals) (m3 (c .before .before .before .before .before .before .before) (c .before .before .before .before .before .before .shared-slice-known2 .given)) .now) (Row.get 5 (T4 .locals) (m3 (c .before .before .before .before .before .before .before) (c .before .before .before .before .before .before .shared-slice-known2 .given))) (Row.get 6 (T4 .locals) (m3 (c .before .before .before .before .before .before .before) (c .before .before .before .before .before .before .shared-slice-known2 .given))) (Row.get 6 (T4 .locals) (m17 (c .before) (After-ask·gave c))), loop-less record { before = c .before; ask = c .ask }, (Row.get 6 (T4 .locals) (m17 (c .before) (After-ask·gave c)), Path'.refl {a = m17 (c .before) (After-ask·gave c)}, loop-again record { before = c .before; ask = c .ask }, Path'.refl {a = μ·0 (Row.get 1 (T4 .locals) (m3 (c .before .before .before .before .before .before .before) (c .before .before .before .before .before .before .shared-slice-known2 .given))) (Row.get 2 (T4 .locals) (m3 (c .before .before .before .before .before .before .before) (c .before .before .before .before .before .before .shared-slice-known2 .given)) .now) (Row.get 3 (T4 .locals) (m3 (c .before .before .before .before .before .before .before) (c .before .before .before .before .before .before .shared-slice-known2 .given)) .now) (Row.get 4 (T4 .locals) (m3 (c .before .before .before .before .before .before .before) (c .before .before .before .before .before .before .shared-slice-known2 .given)) .now) (Row.get 5 (T4 .locals) (m3 (c .before .before .before .before .before .before .before) (c .before .before .before .before .before .before .shared-slice-known2 .given))) (Row.get 6 (T4 .locals) (m3 (c .before .before .before .before .before .before .before) (c .before .before .before .before .before .before .shared-slice-known2 .given))) (Row.get 6 (T4 .locals) (m17 (c .before) (After-ask·gave c)))})))
 
-        lay6 : (c : After-next3) → at8 (W3 (c .before .before .before .before .before) (c .before .before .before .before .loop .left)) (m11 (c .before) (After-next3·gave c))
-        lay6 = λ c. (ask-requires record { before = c .before; next3 = c .next3 }, λ g. lay7 record { before = record { before = c .before; next3 = c .next3 }; ask = Called.called ps·1 r·1 (claims· .3) T13 (record { pos = 1; st = List.[]; d = 0; at = λ x. x }, (record { pos = 2; ty = Syntax.tyRef (Syntax.named 0) Syntax.imm (Memory.pointee (T.the-row .written)); ref = λ x. x }, (record { pos = 3; ty = Syntax.tyRef (Syntax.named 1) Syntax.imm (Syntax.tyInt Syntax.w16); ref = λ x. x }, (record { pos = 4; ty = Syntax.tyRef (Syntax.named 2) Syntax.imm (Syntax.tyInt Syntax.w16); ref = λ x. x }, (Num.vAt 7 λ x. x, (Num.vAt 8 λ x. x, (Num.vAt 9 λ x. x, tt))))))) (m11 (c .before) (After-next3·gave c)) g })
+        lay6 : (c : After-next-wide2) → at8 (W3 (c .before .before .before .before .before) (c .before .before .before .before .loop .left)) (m11 (c .before) (After-next-wide2·gave c))
+        lay6 = λ c. (ask-requires record { before = c .before; next-wide2 = c .next-wide2 }, λ g. lay7 record { before = record { before = c .before; next-wide2 = c .next-wide2 }; ask = Called.called ps·2 r·2 (claims· .5) T13 (record { pos = 1; st = List.[]; d = 0; at = λ x. x }, (record { pos = 2; ty = Syntax.tyRef (Syntax.named 0) Syntax.imm (Memory.pointee (T.the-row .written)); ref = λ x. x }, (record { pos = 3; ty = Syntax.tyRef (Syntax.named 1) Syntax.imm (Syntax.tyInt Syntax.w16); ref = λ x. x }, (record { pos = 4; ty = Syntax.tyRef (Syntax.named 2) Syntax.imm (Syntax.tyInt Syntax.w16); ref = λ x. x }, (Num.vAt 7 λ x. x, (Num.vAt 8 λ x. x, (Num.vAt 9 λ x. x, tt))))))) (m11 (c .before) (After-next-wide2·gave c)) g })
 
-        lay5 : (c : After-next2) → at9 (W3 (c .before .before .before .before) (c .before .before .before .loop .left)) (m10 (c .before) (After-next2·gave c))
-        lay5 = λ c. (next-requires-3 record { before = c .before; next2 = c .next2 }, λ g. lay6 record { before = record { before = c .before; next2 = c .next2 }; next3 = Called.called ps·0 r·0 (claims· .1) T12 tt (m10 (c .before) (After-next2·gave c)) g })
+        lay5 : (c : After-next-wide) → at9 (W3 (c .before .before .before .before) (c .before .before .before .loop .left)) (m10 (c .before) (After-next-wide·gave c))
+        lay5 = λ c. (next-wide-requires-2 record { before = c .before; next-wide = c .next-wide }, λ g. lay6 record { before = record { before = c .before; next-wide = c .next-wide }; next-wide2 = Called.called ps·1 r·1 (claims· .3) T12 tt (m10 (c .before) (After-next-wide·gave c)) g })
 
         lay4 : (c : After-next) → at10 (W3 (c .before .before .before) (c .before .before .loop .left)) (m9 (c .before) (After-next·gave c))
-        lay4 = λ c. (next-requires-2 record { before = c .before; next = c .next }, λ g. lay5 record { before = record { before = c .before; next = c .next }; next2 = Called.called ps·0 r·0 (claims· .1) T11 tt (m9 (c .before) (After-next·gave c)) g })
+        lay4 = λ c. (next-wide-requires record { before = c .before; next = c .next }, λ g. lay5 record { before = record { before = c .before; next = c .next }; next-wide = Called.called ps·1 r·1 (claims· .3) T11 tt (m9 (c .before) (After-next·gave c)) g })
 
         lay3 : (c : In-loop) → at11 (W3 (c .before .before) (c .before .loop .left)) (m6 (c .before))
         lay3 = λ c. (next-requires record { before = c .before; loop-test = c .loop-test }, λ g. lay4 record { before = record { before = c .before; loop-test = c .loop-test }; next = Called.called ps·0 r·0 (claims· .1) T7 tt (m6 (c .before)) g })
@@ -845,6 +851,6 @@ module _ (claims· : Claims) where
           pub asked : (a : Kinds.Dens κs ps) → (good : Kinds.GoodsP κs ps a) → (pre : Pre· κs a) → (bs : List.List Nat.ℕ) → Φ (Any.wantQ 3 ps r xs m κs qs a (Post· κs a)) (Function.init 3 ps r xs m κs qs a)
           asked = λ a good pre bs. laid record { κs = κs; args = record { size = a .0; rows = a .1 .0; firsts = a .1 .1 .0; outcomes = a .1 .1 .1 .0; questions = a .1 .1 .1 .1 .0 }; good = good; fits = record { questions = record { fits = good .1 .1 .1 .1 .0 .1 } }; pre = pre }
 
-        module _ {M : Type 1} (𝓤 : URA.URA M) (H : Wp.Heap 𝓤) (A : Atoms.Atoms 𝓤) (W : Kit.Given 𝓤 H A) (𝓣 : Wp.Tables 𝓤 H) (known0 : Plain.Known 𝓤 H A W 𝓣 0 ps·0 r·0 (claims· .0) (claims· .1) "bench_plans::numbers::next") (known1 : Plain.Known 𝓤 H A W 𝓣 3 ps·1 r·1 (claims· .2) (claims· .3) "bench_plans::questions::ask") where
+        module _ {M : Type 1} (𝓤 : URA.URA M) (H : Wp.Heap 𝓤) (A : Atoms.Atoms 𝓤) (W : Kit.Given 𝓤 H A) (𝓣 : Wp.Tables 𝓤 H) (known0 : Plain.Known 𝓤 H A W 𝓣 0 ps·0 r·0 (claims· .0) (claims· .1) "bench_plans::numbers::next") (known1 : Plain.Known 𝓤 H A W 𝓣 0 ps·1 r·1 (claims· .2) (claims· .3) "bench_plans::numbers::next_wide") (known2 : Plain.Known 𝓤 H A W 𝓣 3 ps·2 r·2 (claims· .4) (claims· .5) "bench_plans::questions::ask") where
           pub spec : Statement.Triple 𝓤 (Wp.WpFn 𝓤 H (𝓣 .C) (𝓣 .Λ) (Function.fnOf 3 ps r xs m hs body)) (Function.plainOf 𝓤 H A 3 ps r Pre· Post·)
-          spec = Plain.t-fn-plain 𝓤 H A W 𝓣 3 ps r xs m hs body (λ κs qs bs. Φ) (λ κs qs bs bd. typed κs qs 𝓤 H A W 𝓣 (known0, known1) bs bd) Pre· Post· asked
+          spec = Plain.t-fn-plain 𝓤 H A W 𝓣 3 ps r xs m hs body (λ κs qs bs. Φ) (λ κs qs bs bd. typed κs qs 𝓤 H A W 𝓣 (known0, known1, known2) bs bd) Pre· Post· asked

@@ -1,4 +1,4 @@
--- It is only shown that large numbers fit and that no more places are asked for than the tables have.
+-- It is only shown that no more places are asked for than the tables have.
 mod Tie
 use native.Mathlib.Omega.{arith}
 use borrow.Author.Needs.{needs}
@@ -11,14 +11,8 @@ ask-contest-requires c κs = search needs
 returns : tie.Need-returns
 returns c = search needs
 
-far-requires : tie.Need-far-requires
-far-requires c κs = omega arith
-
-far-requires-2 : tie.Need-far-requires-2
-far-requires-2 c κs = omega arith
-
-ask-contest-requires-2 : tie.Need-ask-contest-requires-2
-ask-contest-requires-2 c κs = search needs
+ask-warning-requires : tie.Need-ask-warning-requires
+ask-warning-requires c κs = search needs
 
 returns-2 : tie.Need-returns-2
 returns-2 c = search needs
@@ -36,5 +30,5 @@ returns-4 : tie.Need-returns-4
 returns-4 c = search needs
 
 pub ask-spec : {M : Type 1} → statement M
-ask-spec = tie.close (tie.spec ask-contest-requires returns far-requires far-requires-2 ask-contest-requires-2 returns-2
-    least-requires ask-tables-requires returns-3 returns-4)
+ask-spec = tie.close (tie.spec ask-contest-requires returns ask-warning-requires returns-2 least-requires
+    ask-tables-requires returns-3 returns-4)

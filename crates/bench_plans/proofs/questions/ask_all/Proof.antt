@@ -1,4 +1,4 @@
--- It is only shown that the loop ends and that each number of a question has 16 bits.
+-- It is only shown that the loop ends.
 mod Tie
 use native.Mathlib.Omega.{arith}
 use Rattle.bench_plans.proofs.questions.ask_all.Statement.{statement}
@@ -16,11 +16,11 @@ loop-holds c = tt
 next-requires : tie.Need-next-requires Inv-loop μ-loop
 next-requires c κs = omega arith
 
-next-requires-2 : tie.Need-next-requires-2 Inv-loop μ-loop
-next-requires-2 c κs = omega arith
+next-wide-requires : tie.Need-next-wide-requires Inv-loop μ-loop
+next-wide-requires c κs = omega arith
 
-next-requires-3 : tie.Need-next-requires-3 Inv-loop μ-loop
-next-requires-3 c κs = omega arith
+next-wide-requires-2 : tie.Need-next-wide-requires-2 Inv-loop μ-loop
+next-wide-requires-2 c κs = omega arith
 
 ask-requires : tie.Need-ask-requires Inv-loop μ-loop
 ask-requires c κs = omega arith
@@ -38,5 +38,5 @@ returns : tie.Need-returns Inv-loop μ-loop
 returns c = omega arith
 
 pub ask-all-spec : {M : Type 1} → statement M
-ask-all-spec = tie.close (tie.spec Inv-loop μ-loop loop-holds next-requires next-requires-2 next-requires-3 ask-requires
+ask-all-spec = tie.close (tie.spec Inv-loop μ-loop loop-holds next-requires next-wide-requires next-wide-requires-2 ask-requires
     sub-left loop-less loop-again returns)

@@ -1,0 +1,4 @@
+pub mod Made
+pub mod Replying
+pub mod RankTimes
+pub mod Admitted
