@@ -1,9 +1,11 @@
-//! Times the library beside the peer, by turns: the same bytes in, the same bytes out. For the contest and the warning time the program
-//! `bench_plans` stands in the library's place.
+//! Times the library beside the peer, by turns: the same bytes in, the same bytes out. For the contest, the warning time and trimming the
+//! program `bench_plans` stands in the library's place.
 mod asked;
 mod beside;
 mod contest;
+mod printed;
 mod run;
+mod trim;
 mod warning;
 
 use crate::calls::Peer;
@@ -11,6 +13,7 @@ use crate::case::CALLS;
 use contest::contested;
 use run::{verified, Verified, BATCH, BATCHES};
 use std::process::{Command, Stdio};
+use trim::trimmed;
 use warning::warned;
 
 /// From how many states on a ratio is marked, and above what, call by call.
@@ -30,7 +33,7 @@ fn print_pairs(pairs: impl Iterator<Item = Result<[f64; 2], String>>) -> Result<
     Ok(())
 }
 
-/// One run: for each plan a line of times, and then for each plan of the contest and of the warning time.
+/// One run: for each plan a line of times, and then for each plan of the contest, of the warning time and of trimming.
 pub fn times(bench_plans: &str) -> Result<(), String> {
     let mut peer = Peer::new();
     for mut plan in verified(&mut peer)? {
@@ -39,7 +42,9 @@ pub fn times(bench_plans: &str) -> Result<(), String> {
     let contests = contested(bench_plans)?;
     print_pairs(contests.iter().map(|plan| plan.times(bench_plans)))?;
     let warnings = warned(bench_plans)?;
-    print_pairs(warnings.iter().map(|plan| plan.times(bench_plans)))
+    print_pairs(warnings.iter().map(|plan| plan.times(bench_plans)))?;
+    let trims = trimmed(bench_plans)?;
+    print_pairs(trims.iter().map(|plan| plan.times(bench_plans)))
 }
 
 /// The times of a run of a program that has the same plans.
@@ -120,17 +125,23 @@ pub fn bench(bench_plans: &str, programs: &[String]) -> Result<(), String> {
     let plans = verified(&mut Peer::new())?;
     let contests = contested(bench_plans)?;
     let warnings = warned(bench_plans)?;
+    let trims = trimmed(bench_plans)?;
     let runs = programs.len();
     let of_calls = 2 * CALLS.len() * plans.len();
     let of_contests = 2 * contests.len();
     let of_warnings = 2 * warnings.len();
-    let least = least(programs, bench_plans, of_calls + of_contests + of_warnings)?;
+    let of_trims = 2 * trims.len();
+    let count = of_calls + of_contests + of_warnings + of_trims;
+    let least = least(programs, bench_plans, count)?;
     let (call_times, others) = least.split_at(of_calls);
-    let (contest_times, warning_times) = others.split_at(of_contests);
+    let (contest_times, others) = others.split_at(of_contests);
+    let (warning_times, trim_times) = others.split_at(of_warnings);
     print(&plans, call_times, runs);
     println!();
     contest::print(&contests, contest_times, runs);
     println!();
     warning::print(&warnings, warning_times, runs);
+    println!();
+    trim::print(&trims, trim_times, runs);
     Ok(())
 }

@@ -10,37 +10,44 @@ use std::time::{Duration, Instant};
 pub const CONTEST: usize = 2;
 /// The warning time.
 pub const WARNING: usize = 3;
+/// Trimming, with all that it was lent printed as well.
+pub const TRIMMING: usize = 4;
+/// Trimming, with its answer alone.
+pub const TRIMMING_ALONE: usize = 5;
 /// Names no call: the program reads such a question and goes on.
 const NO_CALL: usize = 9;
 
-/// A call and its two numbers: the state, and the moves or the seconds a move.
+/// Every question has as many bytes, the call in the first two.
+const LENGTH: usize = 18;
+
 #[derive(Clone, Copy)]
 pub struct Question {
-    call: usize,
-    state: usize,
-    number: usize,
+    bytes: [u8; LENGTH],
 }
 
 impl Question {
+    fn of(call: usize, rest: &[u8]) -> Question {
+        let mut bytes = [0; LENGTH];
+        bytes[..2].copy_from_slice(&entries(&[call]));
+        bytes[2..2 + rest.len()].copy_from_slice(rest);
+        Question { bytes }
+    }
+
+    /// A call and its two numbers, the state and the moves or the seconds a move: eight bytes for each, so that it can be one whose low
+    /// bits alone would be another.
     pub fn new(call: usize, state: usize, number: usize) -> Question {
-        Question {
-            call,
-            state,
-            number,
-        }
+        let numbers = [state as u64, number as u64];
+        Question::of(call, &numbers.map(u64::to_be_bytes).concat())
     }
 
-    /// As long as this question, and passed over.
+    /// Either call of a trimming, and how many places are lent of each table.
+    pub fn trimming(call: usize, places: [usize; 5]) -> Question {
+        Question::of(call, &entries(&places))
+    }
+
+    /// The same bytes under another call, so that it is passed over.
     pub fn of_no_call(self) -> Question {
-        Question::new(NO_CALL, self.state, self.number)
-    }
-
-    /// Eight bytes for each number, so that it can be one whose low bits alone would be another.
-    fn bytes(self) -> Vec<u8> {
-        let mut bytes = entries(&[self.call]);
-        let numbers = [self.state as u64, self.number as u64];
-        bytes.extend(numbers.map(u64::to_be_bytes).concat());
-        bytes
+        Question::of(NO_CALL, &self.bytes[2..])
     }
 }
 
@@ -54,7 +61,7 @@ pub fn input(held: &Held, questions: &[Question]) -> Vec<u8> {
     let mut input = entries(&numbers);
     input.extend(file);
     for question in questions {
-        input.extend(question.bytes());
+        input.extend(question.bytes);
     }
     input
 }
@@ -103,7 +110,17 @@ pub fn time(program: &str, input: &[u8]) -> Result<Duration, String> {
 fn a_question_has_wide_numbers() {
     let question = Question::new(WARNING, (1 << 48) + 5, 3_600);
     let numbers = [0, 1, 0, 0, 0, 0, 0, 5, 0, 0, 0, 0, 0, 0, 14, 16];
-    assert_eq!(question.bytes(), [&[0, 3], &numbers[..]].concat());
-    let passed_over = question.of_no_call().bytes();
-    assert_eq!(passed_over, [&[0, 9], &numbers[..]].concat());
+    assert_eq!(question.bytes[..], [&[0, 3], &numbers[..]].concat());
+    let passed_over = question.of_no_call().bytes;
+    assert_eq!(passed_over[..], [&[0, 9], &numbers[..]].concat());
+}
+
+#[test]
+fn a_trimming_has_five_numbers_and_is_as_long() {
+    let question = Question::trimming(TRIMMING, [1_024, 4_095, 16_384, 1, 0]);
+    let places = [4, 0, 15, 255, 64, 0, 0, 1, 0, 0];
+    let numbers = [&places[..], &[0; 6]].concat();
+    assert_eq!(question.bytes[..], [&[0, 4], &numbers[..]].concat());
+    let passed_over = question.of_no_call().bytes;
+    assert_eq!(passed_over[..], [&[0, 9], &numbers[..]].concat());
 }

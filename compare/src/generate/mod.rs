@@ -11,4 +11,5 @@ pub mod rounds;
 pub mod shapes;
 pub mod sites;
 pub mod timed;
+pub mod trims;
 pub mod warnings;

@@ -1,4 +1,5 @@
-//! Verdicts, rounds and contests by the words of documents 01 and 02, with no thought of time: what the planner's tests hold it to.
+//! Verdicts, rounds and contests by the words of documents 01 and 02, and what trimming keeps, with no thought of time: what the planner's
+//! tests hold it to.
 use super::decide::Tally;
 use super::plan::{Plan, FAILING, NONE, ORDINARY, REST};
 
@@ -160,4 +161,22 @@ fn works_hold(plan: &Plan, command: usize, left: usize, looks: &mut u128) -> boo
         *looks += 1;
         keeper_holds(plan, usize::from(o), left - 1, looks)
     })
+}
+
+/// The states that runs from the plan's start come to: as long as there can be more, every state that has been come to adds the outcomes
+/// of its commands.
+pub fn kept(plan: &Plan) -> Vec<usize> {
+    let n = plan.size.n;
+    let mut kept = vec![false; n];
+    kept[plan.size.start] = true;
+    for _ in 0..n {
+        for s in 0..n {
+            let (first, end) = plan.commands(s);
+            if kept[s] && plan.rows[s].kind == ORDINARY {
+                let outcomes = (first..end).flat_map(|c| plan.outcomes(c));
+                outcomes.for_each(|&o| kept[usize::from(o)] = true);
+            }
+        }
+    }
+    (0..n).filter(|&s| kept[s]).collect()
 }

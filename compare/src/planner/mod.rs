@@ -14,5 +14,6 @@ pub mod search;
 pub mod sound;
 #[cfg(test)]
 mod tests;
+pub mod trim;
 pub mod warning;
 pub mod write;

@@ -62,11 +62,20 @@ impl<'a> Plan<'a> {
         bounds.filter(|(first, end)| first < end).count()
     }
 
-    pub fn outcomes(&self, command: usize) -> &'a [u16] {
-        let end = match self.firsts.get(command + 1) {
-            Some(&next) => usize::from(next),
+    /// Where the outcomes of a command begin, and those of all commands end if it is one past the last.
+    fn first_outcome(&self, command: usize) -> usize {
+        match self.firsts.get(command) {
+            Some(&first) => usize::from(first),
             None => self.size.t,
-        };
-        &self.outcomes[usize::from(self.firsts[command])..end]
+        }
+    }
+
+    pub fn outcomes(&self, command: usize) -> &'a [u16] {
+        &self.outcomes[usize::from(self.firsts[command])..self.first_outcome(command + 1)]
+    }
+
+    /// Where the outcomes of these commands begin and end: those of neighbours stand side by side.
+    pub fn stretch(&self, first: usize, end: usize) -> (usize, usize) {
+        (self.first_outcome(first), self.first_outcome(end))
     }
 }

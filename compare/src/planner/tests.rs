@@ -1,6 +1,7 @@
 //! The planner held to documents 01 and 02: case A, the bench plans, and the definitions on plans of every shape.
 mod contest;
 mod stuck;
+mod trim;
 mod warning;
 
 use super::boundary::{gate_read, ReadBytes, Space};

@@ -7,8 +7,8 @@ use tables::Row;
 use tables::Size;
 use writing::WriteAnswer;
 
+// The numbers of a size record, each after a space.
 pub fn print_size(size: Size) {
-    io::write_all(1, b"read");
     print_number(size.n as u64);
     print_number(size.m as u64);
     print_number(size.t as u64);

@@ -15,7 +15,8 @@ pub fn print_refusal(number: u32) {
     io::write_all(1, b"\n");
 }
 
-fn print_entry(x: u16) {
+// A space and an entry, FFFF as -.
+pub fn print_entry(x: u16) {
     if (x as usize) == NONE {
         io::write_all(1, b" -");
         return;

@@ -3,15 +3,21 @@ use crate::contests::ask_contest;
 use crate::numbers::least;
 use crate::numbers::next;
 use crate::numbers::next_wide;
+use crate::trims::ask_trim;
+use crate::trims::next_places;
 use crate::verdicts::ask_tables;
 use crate::warnings::ask_warning;
 use tables::Row;
 use tables::Size;
 
-// The contest and the warning time, as a question names them.
+// The contest, the warning time and both ways to ask for a trimming, as a question names them.
 const CONTEST: usize = 2;
 
 const WARNING: usize = 3;
+
+const TRIMMING: usize = 4;
+
+const TRIMMING_ALONE: usize = 5;
 
 pub fn ask(
     size: Size,
@@ -43,14 +49,26 @@ pub fn ask(
     }
 }
 
+fn is_trimming(call: usize) -> bool {
+    if call == TRIMMING {
+        return true;
+    }
+    call == TRIMMING_ALONE
+}
+
 // As many questions as the input has on this plan.
 pub fn ask_all(size: Size, rows: &[Row], firsts: &[u16], outcomes: &[u16], questions: usize) {
     let mut left = questions;
     while left > 0 {
         let call = next();
-        let state = next_wide();
-        let number = next_wide();
-        ask(size, rows, firsts, outcomes, call, state, number);
+        if is_trimming(call) {
+            let places = next_places();
+            ask_trim(size, rows, firsts, outcomes, places, call == TRIMMING);
+        } else {
+            let state = next_wide();
+            let number = next_wide();
+            ask(size, rows, firsts, outcomes, call, state, number);
+        }
         left -= 1;
     }
 }

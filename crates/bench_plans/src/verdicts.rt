@@ -12,7 +12,7 @@ use tables::Row;
 use tables::Size;
 
 // The calls, as a question names them.
-const DECIDING: usize = 0;
+pub const DECIDING: usize = 0;
 
 const SEARCH: usize = 1;
 

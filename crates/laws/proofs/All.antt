@@ -18,6 +18,11 @@ module _ {A : Type 0} {P : A → Type 0} where
   all-at (more p ps) d zero h = p
   all-at (more p ps) d (suc i) h = all-at ps d i (omega arith)
 
+  -- and all, by their places
+  pub all-of : (xs : List A) (d : A) → ((i : ℕ) → i < length xs → P (getD xs i d)) → All P xs
+  all-of [] d h = none
+  all-of (x ∷ xs) d h = more (h 0 (omega arith)) (all-of xs d (λ i l. h (suc i) (omega arith)))
+
   pub all-append : {xs ys : List A} → All P xs → All P ys → All P (xs ++ ys)
   all-append none qs = qs
   all-append (more p ps) qs = more p (all-append ps qs)

@@ -27,6 +27,7 @@ pub mod Rising
 pub mod Slices
 pub mod Least
 pub mod Wrote
+pub mod Copies
 pub mod Spreads
 pub mod Turns
 pub mod Blocks
@@ -34,3 +35,4 @@ pub mod Starts
 pub mod Merge
 pub mod Passing
 pub mod Maps
+pub mod Kept

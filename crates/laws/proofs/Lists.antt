@@ -107,6 +107,11 @@ module _ {A : Type 0} where
   mem-getD (x ∷ xs) zero d h = List·Memᴰ·head refl
   mem-getD (x ∷ xs) (suc i) d h = List·Memᴰ·tail (mem-getD xs i d (le-of-suc-le-suc h))
 
+  -- and a member has a place
+  pub getD-mem : (l : List A) (d : A) {x : A} → List·Memᴰ x l → (i : ℕ) × (i < length l) × (getD l i d ≡ x)
+  getD-mem l d (List·Memᴰ·head e) = (0, omega arith, sym e)
+  getD-mem l d (List·Memᴰ·tail {xs = xs} m) = let (i, h, e) = getD-mem xs d m in (suc i, omega arith, e)
+
   pub take-overwrite : (xs l : List A) → take (length xs) (overwrite xs l) ≡ xs
   unfolding overwrite
   take-overwrite xs l = take-append-seam xs _

@@ -1,10 +1,53 @@
 -- Lists whose members are changed one by one: for outcomes under other numbers.
-use mathlib.Core.Path.{_≡_, refl, ap, ap₂}
+use mathlib.Core.Path.{_≡_, refl, sym, ap, ap₂, _∙_}
 use mathlib.Core.Bool.{Bool, _||_}
-use mathlib.Core.List.{List, [], _∷_, map, List·Memᴰ, List·Memᴰ·head, List·Memᴰ·tail, List·Memᴰ·not-nil, List·Memᴰ·cases-cons}
+use mathlib.Core.List.{
+  List,
+  [],
+  _∷_,
+  _++_,
+  map,
+  map-append,
+  List·Memᴰ,
+  List·Memᴰ·head,
+  List·Memᴰ·tail,
+  List·Memᴰ·not-nil,
+  List·Memᴰ·cases-cons,
+}
 use mathlib.Core.Logic.{⊎-elim}
-use Prim.Native.Nat.{ℕ}
+use Prim.Native.Nat.{ℕ, zero, suc, _<_}
+use native.Mathlib.Omega.{arith}
+use lib.ListN.{length, getD, length-map}
 use Rattle.laws.specs.Sets.{any}
+use Rattle.laws.specs.Lists.{tabulate, joined}
+
+module _ {A B : Type 0} (f : A → B) where
+  -- the changed member at a place
+  pub getD-map : (l : List A) (i : ℕ) (d : A) (e : B) → i < length l → getD (map f l) i e ≡ f (getD l i d)
+  getD-map [] i d e h = absurd (omega arith)
+  getD-map (x ∷ xs) zero d e h = refl
+  getD-map (x ∷ xs) (suc i) d e h = getD-map xs i d e (omega arith)
+
+  -- changes that agree at the members
+  pub map-agree : (g : A → B) (l : List A) → ((x : A) → List·Memᴰ x l → f x ≡ g x) → map f l ≡ map g l
+  map-agree g [] h = refl
+  map-agree g (x ∷ xs) h = ap₂ (λ (y : B) (ys : List B). y ∷ ys) (h x (List·Memᴰ·head refl)) (map-agree g xs (λ y m. h y (List·Memᴰ·tail m)))
+
+  -- of members that a rule makes
+  pub map-tabulate : (g : ℕ → A) (a k : ℕ) → map f (tabulate g a k) ≡ tabulate (λ i. f (g i)) a k
+  unfolding tabulate
+  map-tabulate g a zero = refl
+  map-tabulate g a (suc k) = ap (λ (r : List B). f (g a) ∷ r) (map-tabulate g (suc a) k)
+
+  -- of lists that stand one after another
+  pub joined-map : (ls : List (List A)) → joined (map (map f) ls) ≡ map f (joined ls)
+  unfolding joined
+  joined-map [] = refl
+  joined-map (l ∷ ls) = ap (λ (r : List B). map f l ++ r) (joined-map ls) ∙ sym (map-append f l (joined ls))
+
+  -- lists whose members are changed are as long together
+  pub length-joined-map : (ls : List (List A)) → length (joined (map (map f) ls)) ≡ length (joined ls)
+  length-joined-map ls = ap length (joined-map ls) ∙ length-map (joined ls) f
 
 -- a changed member comes from a member
 pub map-is : {A B : Type 0} (f : A → B) (l : List A) {y : B} → List·Memᴰ y (map f l) → (x : A) × List·Memᴰ x l × (y ≡ f x)

@@ -1,8 +1,8 @@
 -- Laws of the numbers below a bound that pass a test, in order: each stands at the place that tells how many pass below it.
-use mathlib.Core.Path.{_≡_, refl, sym, ap, _∙_}
-use mathlib.Core.Bool.{Bool, true, false}
+use mathlib.Core.Path.{_≡_, refl, sym, ap, ap₂, _∙_}
+use mathlib.Core.Bool.{Bool, true, false, cond}
 use mathlib.Core.Logic.{_⊎_, inl, inr, ⊎-elim}
-use mathlib.Core.List.{[], _∷_, _++_, append-nil}
+use mathlib.Core.List.{List, [], _∷_, _++_, append-nil}
 use Prim.Native.Nat.{ℕ, zero, suc, _<_}
 use native.Mathlib.Nat.{le-of-suc-le-suc, eq-or-lt-of-le}
 use native.Mathlib.Decide.{decLt}
@@ -15,6 +15,7 @@ use Rattle.laws.specs.Lists.{tabulate}
 use Rattle.laws.proofs.Tests.{true-or-false}
 use Rattle.laws.proofs.Lists.{length-tabulate, tabulate-at}
 use Rattle.laws.proofs.Counts.{many-yes, many-no, many-upto, many-all-pass}
+use Rattle.laws.proofs.Agree.{Agree}
 
 module _ (f : ℕ → Bool) where
   -- a number that passes counts for those above it
@@ -94,3 +95,10 @@ module _ (f : ℕ → Bool) where
       let k : i < n = omega (arith, length-passing n) in
       ap (λ (j : ℕ). getD (passing f n) j 0) (sym (many-all-pass f i (λ j m. h j (omega arith))))
       ∙ passing-at n 0 i k (h i k) ∙ sym (tabulate-at (λ j. j) n i 0 k))
+
+-- tests that agree
+pub passing-same : (f g : ℕ → Bool) (n : ℕ) → Agree n f g → passing f n ≡ passing g n
+unfolding passing
+passing-same f g zero h = refl
+passing-same f g (suc n) h =
+    ap₂ (λ (l : List ℕ) (b : Bool). l ++ cond b (n ∷ []) []) (passing-same f g n (λ x k. h x (omega arith))) (h n (omega arith))

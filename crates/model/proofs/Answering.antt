@@ -1,17 +1,16 @@
 -- When reading, writing, deciding and the search answer: with a file or plan that is right and tables that are long enough, and only then.
 use mathlib.Core.Path.{_≡_, ap}
-use mathlib.Core.Bool.{Bool, true, _&&_}
+use mathlib.Core.Bool.{true}
 use mathlib.Core.Logic.{_↔_}
 use mathlib.Core.List.{List}
 use Prim.Native.Nat.{ℕ, _<_, _≤_}
-use lib.Dec.{leb}
 use Rattle.laws.proofs.TestFacts.{and-iff, leb-iff}
 use Rattle.model.specs.Plan.{Plan}
 use Rattle.model.specs.Search.{Result, search}
 use Rattle.model.specs.Refusal.{Cramped, given, _>>=_}
 use Rattle.model.specs.File.{Tree, read}
 use Rattle.model.specs.Bytes.{bytesOf}
-use Rattle.model.specs.Tables.{Tables, tablesOf, fileLength}
+use Rattle.model.specs.Tables.{Size, Tables, enough, tablesOf, fileLength}
 use Rattle.model.specs.SoundTest.{sound}
 use Rattle.model.specs.Held.{treeOf, planIn}
 use Rattle.model.specs.Calls.{reading, writing, deciding, searching}
@@ -26,27 +25,25 @@ pub record ReadAnswers (rows firsts outcomes : ℕ) (file : List ℕ) (T : Table
   pub long-firsts : T .size .m ≤ firsts
   pub long-outcomes : T .size .t ≤ outcomes
 
-module _ (rows firsts outcomes : ℕ) where
-  enough : Tables → Bool
-  enough T = leb (T .size .n) rows && leb (T .size .m) firsts && leb (T .size .t) outcomes
+-- tables that are long enough
+pub enough-iff : (z : Size) (rows firsts outcomes : ℕ)
+    → (enough z rows firsts outcomes ≡ true) ↔ (((z .n ≤ rows) × (z .m ≤ firsts)) × (z .t ≤ outcomes))
+enough-iff z rows firsts outcomes = (λ e. simp (and-iff, leb-iff) at e, λ h. simp (and-iff, leb-iff) h)
 
-  enough-iff : (T : Tables) → (enough T ≡ true) ↔ (((T .size .n ≤ rows) × (T .size .m ≤ firsts)) × (T .size .t ≤ outcomes))
-  unfolding enough
-  enough-iff T = (λ e. simp (and-iff, leb-iff) at e, λ h. simp (and-iff, leb-iff) h)
-
-  pub reading-iff : (file : List ℕ) (T : Tables) → (reading rows firsts outcomes file ≡ given T) ↔ ReadAnswers rows firsts outcomes file T
-  unfolding reading _>>=_ enough
-  reading-iff file T = (
-    λ e.
-        let (p, r, f) = bind-inv (read file) _ e in
-        let (long, q) = need-iff _ _ _ _ .0 f in
-        let z : tablesOf p ≡ T = given-inj q in
-        let l = enough-iff T .0 (rw z at long) in
-        record { tree = p; reads = r; is = z; long-rows = l .0 .0; long-firsts = l .0 .1; long-outcomes = l .1 },
-    λ h.
-        let long = enough-iff T .1 ((h .long-rows, h .long-firsts), h .long-outcomes) in
-        rw (h .reads) (need-iff _ _ _ _ .1 (rw (h .is) long, ap given (h .is))),
-  )
+pub reading-iff : (rows firsts outcomes : ℕ) (file : List ℕ) (T : Tables)
+    → (reading rows firsts outcomes file ≡ given T) ↔ ReadAnswers rows firsts outcomes file T
+unfolding reading _>>=_
+reading-iff rows firsts outcomes file T = (
+  λ e.
+      let (p, r, f) = bind-inv (read file) _ e in
+      let (long, q) = need-iff _ _ _ _ .0 f in
+      let z : tablesOf p ≡ T = given-inj q in
+      let l = enough-iff (T .size) rows firsts outcomes .0 (rw z at long) in
+      record { tree = p; reads = r; is = z; long-rows = l .0 .0; long-firsts = l .0 .1; long-outcomes = l .1 },
+  λ h.
+      let long = enough-iff (T .size) rows firsts outcomes .1 ((h .long-rows, h .long-firsts), h .long-outcomes) in
+      rw (h .reads) (need-iff _ _ _ _ .1 (rw (h .is) long, ap given (h .is))),
+)
 
 pub record WriteAnswers (T : Tables) (bytes : ℕ) (file : List ℕ) : Type 0 where
   pub sounds : sound T ≡ true

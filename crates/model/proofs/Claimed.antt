@@ -23,7 +23,8 @@ use Rattle.model.specs.Held.{treeOf, planOf, planIn}
 use Rattle.model.specs.Calls.{writeCall}
 use Rattle.model.specs.Contest.{keeperTurn, maxMoves}
 use Rattle.model.specs.Warning.{warning, lengthAllowed}
-use Rattle.model.specs.Claims.{Short, Conditions, Meanings, Rules, Failings, Contests, Warnings}
+use Rattle.model.specs.Trim.{trimmed}
+use Rattle.model.specs.Claims.{Short, Conditions, Meanings, Rules, Failings, Contests, Warnings, Trimmings}
 use Rattle.model.proofs.StateKinds.{bound-counts}
 use Rattle.model.proofs.HeldPlan.{states-held}
 use Rattle.model.proofs.SoundFacts.{sound-facts}
@@ -56,6 +57,8 @@ use Rattle.model.proofs.ListingLength.{listing-length}
 use Rattle.model.proofs.Delivered.{decide-demand3, search-demand3}
 use Rattle.model.proofs.ContestCalls.{contest-tests, contest-iff, moves-refused, contested}
 use Rattle.model.proofs.WarningCalls.{length-refused, warning-tests, warning-iff, warned}
+use Rattle.model.proofs.TrimCalls.{trimming-iff, trimming-unsound, trimming-cramped, trimming-only}
+use Rattle.model.proofs.TrimTables.{trimmed-tables}
 use Rattle.model.proofs.GateDemands.{gate-decide-demand3, gate-search-demand3}
 use Rattle.model.proofs.Stuck.{rank-zero, rest-safe, stuck-state, stuck-line}
 use Rattle.model.proofs.StuckCalls.{
@@ -179,6 +182,30 @@ conditions = record {
   );
   warning-refused = λ T s d r.
       rw (warning-tests T s d) (state-refused T s Seconds (lengthAllowed d) (warning (rank (planIn T) s) d) (length-refused d) r);
+  trimming-given = λ T rows firsts outcomes olds scratch p.
+      let z = trimmed (treeOf T) .size in (
+        λ e.
+            let w = trimming-iff T rows firsts outcomes olds scratch p .0 e in
+            let long = not-short z rows firsts outcomes (w .long-rows) (w .long-firsts) (w .long-outcomes) in
+            (sounds T (w .sounds), long, w .long-olds, w .long-scratch, w .is),
+        λ (S, h, k, l, is).
+            let (a, b, c) = long-enough z rows firsts outcomes h in
+            trimming-iff T rows firsts outcomes olds scratch p .1 (record {
+              sounds = passes T S;
+              long-rows = a;
+              long-firsts = b;
+              long-outcomes = c;
+              long-olds = k;
+              long-scratch = l;
+              is = is;
+            }),
+      );
+  trimming-refused = λ T rows firsts outcomes olds scratch r. (
+    λ e. ⊎-elim (λ (u, is). inl (unsound T u, is)) (λ (s, short, is). inr (sounds T s, short, is))
+        (trimming-only T rows firsts outcomes olds scratch r e),
+    ⊎-elim (λ (u, is). rw is (trimming-unsound T rows firsts outcomes olds scratch (stops T u)))
+        (λ (S, short, is). rw is (trimming-cramped T rows firsts outcomes olds scratch (passes T S) short)),
+  );
 }
 
 -- ---- demand 2
@@ -275,3 +302,8 @@ contests = record { contested = contested }
 
 pub warnings : Warnings
 warnings = record { warned = warned }
+
+-- ---- trimming
+
+pub trimmings : Trimmings
+trimmings = record { trimmed-tables = trimmed-tables }

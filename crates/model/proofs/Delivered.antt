@@ -23,7 +23,7 @@ use Rattle.model.proofs.GoodTables.{sound-good}
 use Rattle.model.proofs.HeldPlan.{states-held}
 use Rattle.model.proofs.Valid.{sound-valid, few-states, few-commands}
 use Rattle.model.proofs.Answering.{deciding-iff, searching-iff}
-use Rattle.model.proofs.Demands.{rank-entry, demand3}
+use Rattle.model.proofs.Demands.{rank-entry, chosen-entry, demand3}
 
 -- an entry that was written
 pub entry-written : (f : ℕ → ℕ) (n : ℕ) (table : List ℕ) (s default : ℕ) → s < n → getD (overwrite (tabulate f 0 n) table) s default ≡ f s
@@ -85,6 +85,27 @@ ranks-read T ranks commands marks scratch counts e s inside =
     rw (decided, ← (D .is))
     (ap fromEntry (entry-written (λ t. entry (rank (planIn T) t)) (planIn T .states) ranks s FFFF (rw (states-held T) inside))
     ∙ rank-of-entry T (D .sounds) s)
+
+-- and the commands
+chosen-of-entry : (T : Tables) → sound T ≡ true → (s : ℕ) → s < planIn T .states
+    → fromEntry (entry (chosen (planIn T) s)) ≡ chosen (planIn T) s
+unfolding planIn
+chosen-of-entry T sounds =
+    let g = sound-good T sounds in
+    chosen-entry (planIn T) (sound-valid T sounds) (omega (arith, few-states (treeOf T) g))
+    (λ t h. omega (arith, few-commands (treeOf T) g t h))
+
+pub commands-read : (T : Tables) (ranks commands marks scratch : List ℕ) (counts : List (List ℕ))
+    → decideCall T ranks commands marks scratch .answers ≡ given counts
+    → (s : ℕ) → s < T .size .n → readEntry (decideCall T ranks commands marks scratch .commands) s ≡ chosen (planIn T) s
+unfolding left commandTable readEntry
+commands-read T ranks commands marks scratch counts e s inside =
+    let (P, decided, _) = answer-inv tally _ counts e in
+    let D = deciding-iff T (length ranks) (length commands) (length marks) (length scratch) P .0 decided in
+    let l : s < planIn T .states = rw (states-held T) inside in
+    rw (decided, ← (D .is))
+    (ap fromEntry (entry-written (λ t. entry (chosen (planIn T) t)) (planIn T .states) commands s FFFF l)
+    ∙ chosen-of-entry T (D .sounds) s l)
 
 -- of deciding's call, where it answers
 pub decide-demand3 : (T : Tables) (ranks commands marks scratch : List ℕ) (counts : List (List ℕ))

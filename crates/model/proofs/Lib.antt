@@ -48,6 +48,14 @@ pub mod Refusing
 pub mod RoundTrips
 pub mod ReadPlans
 pub mod Delivered
+pub mod Entered
+pub mod TrimmedPlan
+pub mod TrimGood
+pub mod TrimKeeps
+pub mod TrimAgain
+pub mod TrimCalls
+pub mod TrimLeaves
+pub mod TrimTables
 pub mod Bench
 pub mod CasePlans
 pub mod BenchCases
@@ -57,6 +65,7 @@ pub mod ValueCases
 pub mod ListingCases
 pub mod FileCases
 pub mod CallCases
+pub mod TrimCases
 pub mod PracticeCases
 pub mod RunCases
 pub mod Decimals

@@ -1,6 +1,6 @@
 -- A refusal of reading, writing or deciding comes only under its condition: the word that the call refuses with and what holds then. With
 -- Refusing.antt, which has the other direction, each condition is exact, that of refusal 9 too (rule E19). The calls that are told a state:
--- StateCalls.antt.
+-- StateCalls.antt; trimming: TrimCalls.antt.
 use mathlib.Core.Path.{_≡_, refl, sym, ap}
 use mathlib.Core.Bool.{Bool, true, false, _&&_}
 use mathlib.Core.List.{List}
@@ -35,7 +35,7 @@ last-refused q r t a e = ⊎-elim (λ h. h) (λ h. absurd (not-both (sym (h .1))
 pub two-short : (n a m b : ℕ) → (leb n a && leb m b) ≡ false → (a < n) ⊎ (b < m)
 two-short n a m b e = ⊎-elim (λ h. inl (leb-false n a h)) (λ h. inr (leb-false m b h)) (either (leb n a) (leb m b) e)
 
-three-short : (n a m b t c : ℕ) → (leb n a && leb m b && leb t c) ≡ false → (a < n) ⊎ ((b < m) ⊎ (c < t))
+pub three-short : (n a m b t c : ℕ) → (leb n a && leb m b && leb t c) ≡ false → (a < n) ⊎ ((b < m) ⊎ (c < t))
 three-short n a m b t c e =
     ⊎-elim (λ h. ⊎-elim inl (λ l. inr (inl l)) (two-short n a m b h)) (λ h. inr (inr (leb-false t c h)))
     (either (leb n a && leb m b) (leb t c) e)

@@ -1,5 +1,5 @@
 -- When reading, writing and deciding refuse, and with what, in the order of rules E16 and E17. That they refuse only then:
--- OnlyRefused.antt. The calls that are told a state: StateCalls.antt.
+-- OnlyRefused.antt. The calls that are told a state: StateCalls.antt; trimming: TrimCalls.antt.
 use mathlib.Core.Path.{_≡_}
 use mathlib.Core.Bool.{Bool, true, false, _&&_}
 use mathlib.Core.Logic.{_⊎_, ⊎-elim}
@@ -10,7 +10,7 @@ use borrow.Author.Tests.{lt-leb}
 use Rattle.laws.proofs.Tests.{and-false-left, and-false-right}
 use Rattle.model.specs.Refusal.{Refusal, Cramped, Unsound, given, refused, need, _>>=_, _>>_}
 use Rattle.model.specs.File.{Tree, read}
-use Rattle.model.specs.Tables.{Tables, tablesOf, fileLength}
+use Rattle.model.specs.Tables.{Size, Tables, enough, tablesOf, fileLength}
 use Rattle.model.specs.SoundTest.{sound}
 use Rattle.model.specs.Calls.{reading, writing, deciding}
 
@@ -18,12 +18,23 @@ use Rattle.model.specs.Calls.{reading, writing, deciding}
 first-short : (n a : ℕ) (b : Bool) → a < n → leb n a && b ≡ false
 first-short n a b h = and-false-left (leb n a) b (lt-leb n a h)
 
-last-short : (a : Bool) (n b : ℕ) → b < n → a && leb n b ≡ false
+pub last-short : (a : Bool) (n b : ℕ) → b < n → a && leb n b ≡ false
 last-short a n b h = and-false-right a (leb n b) (lt-leb n b h)
 
 -- one of two
 pub some-short : (n a b : ℕ) → (a < n) ⊎ (b < n) → leb n a && leb n b ≡ false
 some-short n a b = ⊎-elim (λ l. first-short n a (leb n b) l) (λ l. last-short (leb n a) n b l)
+
+-- one of a plan's three
+pub plan-short : (z : Size) (rows firsts outcomes : ℕ) → (rows < z .n) ⊎ ((firsts < z .m) ⊎ (outcomes < z .t))
+    → enough z rows firsts outcomes ≡ false
+plan-short z rows firsts outcomes =
+    let long-rows = leb (z .n) rows in
+    let long-firsts = leb (z .m) firsts in
+    let long-outcomes = leb (z .t) outcomes in
+    ⊎-elim (λ l. and-false-left (long-rows && long-firsts) long-outcomes (first-short (z .n) rows long-firsts l))
+    (⊎-elim (λ l. and-false-left (long-rows && long-firsts) long-outcomes (last-short long-rows (z .m) firsts l))
+    (λ l. last-short (long-rows && long-firsts) (z .t) outcomes l))
 
 module _ (rows firsts outcomes : ℕ) (file : List ℕ) where
   -- a file that is refused is refused whatever tables are lent
@@ -35,21 +46,7 @@ module _ (rows firsts outcomes : ℕ) (file : List ℕ) where
       → (rows < tablesOf p .size .n) ⊎ ((firsts < tablesOf p .size .m) ⊎ (outcomes < tablesOf p .size .t))
       → reading rows firsts outcomes file ≡ refused Cramped
   unfolding reading _>>=_ need _>>_
-  reading-cramped p e h = rw (e, short h)
-    where
-      n : ℕ
-      n = tablesOf p .size .n
-
-      m : ℕ
-      m = tablesOf p .size .m
-
-      t : ℕ
-      t = tablesOf p .size .t
-
-      short : (rows < n) ⊎ ((firsts < m) ⊎ (outcomes < t)) → leb n rows && leb m firsts && leb t outcomes ≡ false
-      short = ⊎-elim (λ l. and-false-left (leb n rows && leb m firsts) (leb t outcomes) (first-short n rows (leb m firsts) l))
-          (⊎-elim (λ l. and-false-left (leb n rows && leb m firsts) (leb t outcomes) (last-short (leb n rows) m firsts l))
-          (λ l. last-short (leb n rows && leb m firsts) t outcomes l))
+  reading-cramped p e h = rw (e, plan-short (tablesOf p .size) rows firsts outcomes h)
 
 -- a plan that is not sound is refused before all else
 module _ (T : Tables) (unsound : sound T ≡ false) where

@@ -1,5 +1,4 @@
--- A plan that is part of another, under other numbers: its states have their old verdicts, ranks and chosen commands. For trimmed plans,
--- and for plans that stand one behind another.
+-- A plan that is part of another, under other numbers, as a trimmed plan is: its states have their old verdicts, ranks and chosen commands.
 use mathlib.Core.Path.{_≡_, sym, ap, ap₂, _∙_}
 use mathlib.Core.Bool.{Bool, not, cond, _&&_, _||_}
 use mathlib.Core.List.{map, map-map, List·Memᴰ}

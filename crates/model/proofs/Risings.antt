@@ -12,7 +12,8 @@ use Rattle.model.specs.File.{rising}
 use Rattle.model.proofs.Answers.{need-iff}
 
 -- an outcome in front: it is below n, not below `low`, and the others rise from above it
-rising-cons : (n low o : ℕ) (os : List ℕ) → (rising n low (o ∷ os) ≡ given tt) ↔ ((o < n) × ((low ≤ o) × (rising n (o + 1) os ≡ given tt)))
+pub rising-cons : (n low o : ℕ) (os : List ℕ)
+    → (rising n low (o ∷ os) ≡ given tt) ↔ ((o < n) × ((low ≤ o) × (rising n (o + 1) os ≡ given tt)))
 unfolding rising
 rising-cons n low o os = (λ e. simp (need-iff, leb-iff) at e, λ h. simp (need-iff, leb-iff) h)
 

@@ -26,7 +26,7 @@ use Rattle.model.proofs.TablesBack.{tables-back}
 use Rattle.model.proofs.GoodTables.{sound-good, good-sound}
 use Rattle.model.proofs.Answering.{reading-iff, writing-iff}
 
-take-written : {A : Type 0} (xs l : List A) (k : ℕ) → length xs ≡ k → take k (overwrite xs l) ≡ take k xs
+pub take-written : {A : Type 0} (xs l : List A) (k : ℕ) → length xs ≡ k → take k (overwrite xs l) ≡ take k xs
 take-written xs l k e = rw (← e) (take-overwrite xs l ∙ sym (take-length xs))
 
 module _ (file : List ℕ) (rows : List Row) (firsts outcomes : List ℕ) where

@@ -28,6 +28,8 @@ use Rattle.model.specs.Calls.{reading, writing, deciding, searching, rea
 use Rattle.model.specs.Demand3.{DecidingDemand3, SearchDemand3}
 use Rattle.model.specs.Contest.{keeperTurn, maxMoves, contestCall, Contested}
 use Rattle.model.specs.Warning.{Time, noTime, warning, longestMove, warningCall, Warned}
+use Rattle.model.specs.Trim.{trimmed, trimming, trimCall, afterTrimming}
+use Rattle.model.specs.Trimmed.{Trimmed}
 use Rattle.model.specs.Stuck.{StuckState, StuckEntries, StuckCounted, StuckSearched}
 use Rattle.model.specs.Boundary.{entriesIn, verdictIn, roundsIn, gateDecideCall, gateSearchCall}
 use Rattle.model.specs.Listing.{decimal, told, line, faultSign, stateLine, maxListing, listing}
@@ -70,6 +72,13 @@ pub record Conditions : Type 0 where
   pub warning-refused : (T : Tables) (s seconds : ℕ) (r : Refusal) → (warningCall T s seconds ≡ refused r)
       ↔ (((Sound T → ⊥) × (r ≡ Unsound)) ⊎ ((Sound T × (T .size .n ≤ s) × (r ≡ Stranger))
       ⊎ (Sound T × (s < T .size .n) × ((seconds ≡ 0) ⊎ (longestMove < seconds)) × (r ≡ Seconds))))
+  pub trimming-given : (T : Tables) (rows firsts outcomes olds scratch : ℕ) (p : Tree) → let z = trimmed (treeOf T) .size in
+      (trimming T rows firsts outcomes olds scratch ≡ given p)
+      ↔ (Sound T × (Short z rows firsts outcomes → ⊥) × (z .n ≤ olds) × (T .size .n ≤ scratch) × (treeOf T ≡ p))
+  pub trimming-refused : (T : Tables) (rows firsts outcomes olds scratch : ℕ) (r : Refusal) → let z = trimmed (treeOf T) .size in
+      (trimming T rows firsts outcomes olds scratch ≡ refused r)
+      ↔ (((Sound T → ⊥) × (r ≡ Unsound))
+      ⊎ (Sound T × (Short z rows firsts outcomes ⊎ ((olds < z .n) ⊎ (scratch < T .size .n))) × (r ≡ Cramped)))
 
 -- ---- rule D2: the definitions that compute say what the words say, and both round trips
 
@@ -194,3 +203,10 @@ pub record Contests : Type 0 where
 pub record Warnings : Type 0 where
   pub warned : (T : Tables) (s seconds : ℕ) (answer : Option Time) → warningCall T s seconds ≡ given answer
       → Warned T s seconds answer
+
+-- ---- part X: trimming, of the tables that it leaves
+
+pub record Trimmings : Type 0 where
+  pub trimmed-tables : (T : Tables) (rows : List Row) (firsts outcomes olds scratch : List ℕ) (z : Size)
+      → let X = trimCall T rows firsts outcomes olds scratch in
+      X .answers ≡ given z → Trimmed T (afterTrimming z T rows firsts outcomes olds scratch) (X .olds)

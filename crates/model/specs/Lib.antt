@@ -20,6 +20,8 @@ pub mod Calls
 pub mod Demand3
 pub mod Contest
 pub mod Warning
+pub mod Trim
+pub mod Trimmed
 pub mod Stuck
 pub mod Boundary
 pub mod Rooms

@@ -1,12 +1,12 @@
 // Reading a plan file into lent tables.
 ghost use mathlib.Core.Path.{_≡_};
-ghost use Rattle.model.specs.Tables.{enough};
 ghost use Rattle.model.specs.Calls.{readCall};
-ghost use Rattle.tables.specs.Meaning.{numbers, rowsOf};
+ghost use Rattle.tables.specs.Meaning.{rowsOf};
 ghost use Rattle.reading.specs.Answers.{afterRead};
 use tables::Refusal;
 use tables::Row;
 use tables::Size;
+use tables::admission::long_enough;
 
 mod bytes;
 mod fields;
@@ -19,19 +19,6 @@ mod walker;
 pub enum ReadAnswer {
     Given(Size),
     Refused(Refusal),
-}
-
-// Whether tables of these lengths have a place for each state, command and outcome.
-fn long_enough(size: Size, rows: usize, firsts: usize, outcomes: usize) -> bool
-    ensures { λ r. ⌜ r ≡ enough (numbers size) rows firsts outcomes ⌝ }
-{
-    if rows < size.n {
-        return false;
-    }
-    if firsts < size.m {
-        return false;
-    }
-    size.t <= outcomes
 }
 
 // Reads a file into lent tables. A refusal leaves each table as it was. Ruled out: refusing a file that can be read, and answering a size

@@ -10,3 +10,4 @@ pub mod Filling
 pub mod StatesFilling
 pub mod SoundParts
 pub mod Readiness
+pub mod Stretches

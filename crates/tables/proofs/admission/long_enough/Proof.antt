@@ -1,8 +1,8 @@
 -- The three comparisons are the three parts of `enough`; the first that fails makes it false.
 use mathlib.Core.Bool.{and-false}
 use borrow.Author.Tests.{lt-leb, le-leb}
-use Rattle.reading.proofs.long_enough.Statement.{statement}
-use Rattle.reading.proofs.long_enough.Tie as tie
+use Rattle.tables.proofs.admission.long_enough.Statement.{statement}
+use Rattle.tables.proofs.admission.long_enough.Tie as tie
 
 returns : tie.Need-returns
 returns c = rw (lt-leb _ _ (c .if1 .taken))

@@ -1,0 +1,15 @@
+pub mod Made
+pub mod Places
+pub mod Listed
+pub mod Numbers
+pub mod Stretching
+pub mod Walking
+pub mod EnteredStates
+pub mod KeptStates
+pub mod LeftStates
+pub mod KeptStretches
+pub mod Counted
+pub mod Copied
+pub mod CopiedStates
+pub mod FilledTables
+pub mod Replying

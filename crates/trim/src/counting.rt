@@ -1,0 +1,75 @@
+// The trimmed plan's size record, and whether there is room for it.
+ghost use mathlib.Core.Path.{_≡_};
+ghost use mathlib.Core.Bool.{true, _&&_};
+ghost use Prim.Native.Nat.{ℕ, _<_, _≤_};
+ghost use lib.Dec.{leb};
+ghost use lib.ListN.{length, getD};
+ghost use Rattle.model.specs.Tables.{enough};
+ghost use Rattle.model.specs.SoundTest.{sound};
+ghost use Rattle.model.specs.Held.{treeOf};
+ghost use Rattle.model.specs.Trim.{trimmed};
+ghost use Rattle.tables.specs.Meaning.{numbers, held};
+ghost use Rattle.trim.specs.Kept.{Kept};
+use crate::stretches::stretch_at;
+use tables::Row;
+use tables::Size;
+use tables::admission::long_enough;
+use tables::entries::at;
+
+// The first place of x, which has one.
+fn place_of(kept: &[u16], x: usize) -> usize
+    requires { ⌜ ((k : ℕ) × (k < length (now kept)) × (getD (now kept) k 0 ≡ x)) ⌝ }
+    ensures { λ r. ⌜ (getD (now (kept .entry)) r 0 ≡ x) × ((i : ℕ) → i < r → getD (now (kept .entry)) i 0 ≡ x → ⊥) ⌝ }
+{
+    let mut i = 0;
+    while at(kept, i) != x {
+        i += 1;
+    }
+    i
+}
+
+// Of the n states that are kept: all their commands and outcomes, and the new number of the start.
+pub fn count(
+    size: Size,
+    rows: &[Row],
+    firsts: &[u16],
+    outcomes: &[u16],
+    kept: &[u16],
+    n: usize,
+) -> Size
+    requires { ⌜ sound (held size (now rows) (now firsts) (now outcomes)) ≡ true ⌝ }
+    requires { ⌜ Kept (treeOf (held size (now rows) (now firsts) (now outcomes))) (now kept) n × (n ≤ length (now kept)) ⌝ }
+    ensures { λ r. ⌜ numbers r ≡ trimmed (treeOf (held size (now (rows .entry)) (now (firsts .entry)) (now (outcomes .entry)))) .size ⌝ }
+{
+    let mut m = 0;
+    let mut t = 0;
+    let mut i = 0;
+    while i < n {
+        let stretch = stretch_at(size, rows, firsts, at(kept, i));
+        m += stretch.end - stretch.first;
+        t += stretch.to - stretch.from;
+        i += 1;
+    }
+    Size::new(n, m, t, place_of(kept, size.start))
+}
+
+// Whether tables of these lengths hold a plan of this size and the map of its states, and scratch the `old` states.
+pub fn has_room(
+    size: Size,
+    old: usize,
+    rows: usize,
+    firsts: usize,
+    outcomes: usize,
+    olds: usize,
+    scratch: usize,
+) -> bool
+    ensures { λ r. ⌜ r ≡ (enough (numbers size) rows firsts outcomes && leb (size .n) olds && leb old scratch) ⌝ }
+{
+    if !long_enough(size, rows, firsts, outcomes) {
+        return false;
+    }
+    if olds < size.n {
+        return false;
+    }
+    old <= scratch
+}
