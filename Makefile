@@ -1,12 +1,13 @@
 # make run       print the listing of a plan: PLAN=examples/case-a.plan unless another is named
 # make test      prove every crate from nothing, try the edits that must be refused, run all tests;
 #                the last line is 'N passed, 0 failed'
-# make quick     what make test begins with: layout, files that scripts make, the reference held to rules and ranks, docs/TRACE.md
+# make quick     what make test begins with: layout, files that scripts make, the reference held to rules, ranks and runs, docs/TRACE.md
 # make wrong     try every edit that must be refused, those too for which make test has no time (crates/*/wrong)
 # make lib       the C library, target/staticlib/libgate.a (header: include/gate.h)
 # make c-test    the C library's tests and examples, and the header's in C and C++
 # make compare   hold the C library to a planner in Rust, byte for byte over COUNT inputs made from SEED
-# make bench     time the two beside each other, contest and warning time in the program bench_plans: the best of RUNS runs (4 are enough)
+# make bench     time the two beside each other, contest, warning time and trimming in the program bench_plans: the best of RUNS runs
+#                (4 are enough)
 # make rows      check that every machine-made proof file is what tools/rows makes (some minutes)
 # make trace     check that all that docs/TRACE.md names is there
 
@@ -48,7 +49,8 @@ test: kit need-gcc need-g++ need-cargo quick
 # What needs nothing proved comes first, so that it fails early.
 quick: kit trace
 	rt fmt --check
-	cd tests && python3 -B contest.py && python3 -B rules.py && python3 -B bench_plans.py --check && python3 -B examples.py --check
+	cd tests && python3 -B contest.py && python3 -B rules.py && python3 -B trims.py && python3 -B bench_plans.py --check && \
+	    python3 -B examples.py --check
 	python3 -B tools/rows --check tables load store
 
 wrong: kit

@@ -4,13 +4,13 @@ from typing import NamedTuple
 
 import made
 import reference
-from plans import branching, case_a, chain, longest, shapes, slopes
-from reference import COMMANDS, LONGEST_MOVE, MOVES, OUTCOMES, STATES, Plan, Refused, State, two, write
+from plans import among_dead, branching, case_a, chain, failing, longest, rest, shapes, slopes, stuck, trimmed_shapes
+from reference import COMMANDS, LONGEST_MOVE, MOVES, NONE, OUTCOMES, STATES, Plan, Refused, State, two, write
 
 HERE = pathlib.Path(__file__).resolve().parent.parent / "crates" / "bench_plans"
 STARTS = 32  # how many states of a plan are searched from, at most: 1,024 command tables of 1,024 states would be two megabytes
 LAST = 2 ** 16 - 1  # the largest entry
-DECIDING, SEARCH, CONTEST, WARNING = range(4)
+DECIDING, SEARCH, CONTEST, WARNING, TRIMMING, TRIMMING_ALONE = range(6)
 ALLOWED = 1, 59, 60, 61, LONGEST_MOVE - 1, LONGEST_MOVE  # seconds a move
 WIDE = 2 ** 16, 2 ** 32, 2 ** 48  # who drops the high bits of one of these and a number takes the sum for the number
 FORBIDDEN = 0, LONGEST_MOVE + 1, LAST, *WIDE, *(wide + 60 for wide in WIDE), 2 ** 63, 2 ** 64 - 1
@@ -34,6 +34,21 @@ class Warned(NamedTuple):
     seconds: int
 
 
+class Trim(NamedTuple):
+    """How many places are lent of each table, and what each of them holds."""
+    call: int
+    rows: int
+    firsts: int
+    outcomes: int
+    olds: int
+    scratch: int
+    holding: int
+
+    def places(self):
+        """The program has no more than these."""
+        return tuple(map(min, self[1:6], (STATES, COMMANDS, OUTCOMES, STATES, STATES)))
+
+
 class Case(NamedTuple):
     """A file, what is lent for it, and what is asked on it."""
     file: bytes
@@ -53,6 +68,8 @@ class Case(NamedTuple):
 
 
 def framed(question):
+    if isinstance(question, Trim):
+        return b"".join(map(two, question)) + bytes(4)
     call, *numbers = question
     return two(call) + b"".join(number.to_bytes(8, "big") for number in numbers)
 
@@ -78,7 +95,7 @@ def warnings(states, lengths=ALLOWED):
 
 
 def numbers(name, values):
-    return name + "".join(" -" if v is None else f" {v}" for v in values) + "\n"
+    return name + "".join(" -" if v in (None, NONE) else f" {v}" for v in values) + "\n"
 
 
 def decided(plan):
@@ -102,7 +119,43 @@ def warned(plan, question):
     return "no limit\n" if time is None else numbers("time", time)
 
 
+def left(names, places, holding, written):
+    """What lent tables hold to their last place: what was written, and what was there before."""
+    return "".join(numbers(name, list(new) + [holding] * (length - len(new))) for name, length, new in zip(names, places, written))
+
+
+def decided_before(plan, olds):
+    """What deciding leaves of the trimmed plan, taken from what it leaves of the whole: each kept state has its own entries."""
+    rank, chosen, marks, _, _ = reference.decide(plan)
+    tally = [[0, 0, 0], [0, 0, 0]]
+    for old in olds:
+        tally[rank[old] is not None][2 if plan.states[old].practice == NONE else marks[old] % 2] += 1
+    kept = ((name, (entries[old] for old in olds)) for name, entries in (("ranks", rank), ("commands", chosen), ("marks", marks)))
+    return "".join(numbers(*entries) for entries in kept) + numbers("tally", tally[0] + tally[1])
+
+
+def trimmed(plan, question):
+    """The answer, and unless it alone is asked for every table, and what comes of the trimmed plan."""
+    rows, firsts, outcomes, olds, scratch = question.places()
+    places = 3 * rows, firsts, outcomes, olds, scratch
+    names = "rows", "firsts", "outcomes", "map", "scratch"
+    try:
+        reference.need(10, plan is not None)
+        new, kept = reference.trim(plan)
+        reference.need(9, new.n <= rows and new.m <= firsts and new.t <= outcomes and new.n <= olds and plan.n <= scratch)
+    except Refused as r:
+        out, tables, after = f"refused {r.number}\n", ((),) * 5, ""
+    else:
+        row_table, *lists = reference.tables(new)
+        out = f"trimmed {new.n} {new.m} {new.t} {new.start}\n"
+        tables = sum(row_table, ()), *lists, kept, (0,) * plan.n
+        after = "again same\n" + decided_before(plan, kept)
+    return out if question.call == TRIMMING_ALONE else out + left(names, places, question.holding, tables) + after
+
+
 def answered(plan, question):
+    if isinstance(question, Trim):
+        return trimmed(plan, question)
     reference.need(10, plan is not None)
     if question.call == CONTEST:
         return contested(plan, question)
@@ -170,9 +223,44 @@ def warning_plans():
     yield Case(write(longest()), questions=warnings((0, 1, 511, full, STATES)))
 
 
+def one_short(places):
+    """Each table in turn one place shorter, where it has any."""
+    return (places[:i] + (k - 1,) + places[i + 1:] for i, k in enumerate(places) if k > 0)
+
+
+def trims(plan, holding, short=TRIMMING_ALONE):
+    """Tables that are exactly long enough, each one short, scratch for the kept states alone, and tables with something behind."""
+    new, _ = reference.trim(plan)
+    exact = new.n, new.m, new.t, new.n, plan.n
+    yield Trim(TRIMMING, *exact, holding)
+    for places in (*one_short(exact), exact[:4] + (new.n,), (0,) * 5):
+        yield Trim(short, *places, holding)
+    yield Trim(short, *(k + 1 + i for i, k in enumerate(exact)), holding)
+
+
+def trim_cases():
+    """Plans of many shapes, and at the limits; a file that is refused, and more places than any plan needs."""
+    holding = 7, 0, 1, 2 ** 15, LAST
+    for i, plan in enumerate(trimmed_shapes()):
+        yield Case(write(plan), questions=tuple(trims(plan, holding[i % 5])))
+    for i, plan in enumerate((case_a(), Plan([rest()]), Plan([failing()]), Plan([stuck()]))):
+        dead = among_dead(plan, 100 + i)
+        yield Case(write(dead), questions=tuple(trims(dead, holding[i], TRIMMING)))
+    full = STATES - 1
+    for start in 0, full // 2, full - 1, full:
+        plan = Plan(chain(full).states, start)
+        yield Case(write(plan), questions=tuple(trims(plan, 7)))
+    at_limits = tuple(trims(longest(), 7))
+    yield Case(write(longest()), questions=tuple(question._replace(call=TRIMMING_ALONE) for question in at_limits))
+    lent = Trim(TRIMMING, 2, 3, 4, 5, 6, 7), Trim(TRIMMING_ALONE, LAST, LAST, LAST, LAST, LAST, 7), Trim(TRIMMING, 0, 0, 0, 0, 0, 7)
+    yield Case(b"", questions=lent)
+    yield Case(write(case_a()), rows=case_a().n - 1, questions=lent)
+    yield Case(write(case_a()), questions=lent)
+
+
 def cases():
     """Document 01's bench plans that are not starred, then damaged files, then questions that are refused, then plans of many shapes;
-    then contests and warning times that are refused, and plans for contests and for warning times."""
+    then contests and warning times that are refused, and plans for contests and for warning times; then plans that are trimmed."""
     hexa = bytes.fromhex
     wide = write(Plan([State(2)] * STATES))
     yield usual(wide)
@@ -201,6 +289,7 @@ def cases():
     yield from refused_questions()
     yield from contest_plans()
     yield from warning_plans()
+    yield from trim_cases()
 
 
 def main():

@@ -86,6 +86,19 @@ def ended_by(end):
     yield Plan([State(0, [[1]]), State(0, [[2]]), State(0, [[3]]), end(), failing()])
 
 
+def among_dead(plan, seed):
+    """The plan with states that its start never comes to, of every kind, below, between and above its own. Some lead to its states."""
+    r = random.Random(seed)
+    own = plan.n
+    places = sorted(r.sample(range(own + 8), own))
+    old = dict(enumerate(places))
+    states = [None] * (own + 8)
+    for i, s in enumerate(plan.states):
+        states[old[i]] = State(s.kind, [[old[o] for o in c] for c in s.commands], s.practice)
+    dead = iter([failing(), rest(), stuck(), State(0, [[places[0]]], 0), State(0, [places[:2], range(own + 8)]), rest(), failing(), stuck()])
+    return Plan([next(dead) if s is None else s for s in states], old[plan.start])
+
+
 def case_a():
     return Plan([State(0, [[1], [2, 3]], 1), State(0, [[0, 1]], 0), rest(), State(0, [[4], [2, 4]], 0), failing(), State(0, [[3]])])
 
@@ -97,6 +110,17 @@ def slopes():
     yield ring(11, 10)
     for seed in range(6):
         yield descent(seed, 24)
+
+
+def trimmed_shapes():
+    """Plans to be trimmed: little and much of them is met, and every state is a start."""
+    for plan in list(shapes())[:33]:
+        for start in range(plan.n):
+            yield Plan(plan.states, start)
+    for seed, plan in enumerate([case_a(), Plan([rest()]), Plan([failing()]), Plan([stuck()]), ring(5, 3, 0), late(), ladder(4)] * 3):
+        yield among_dead(plan, seed)
+    for seed in range(500, 560):
+        yield scattered(seed, 2 + seed % 14, 2, 2, (3, 1, 1))
 
 
 def shapes():

@@ -237,6 +237,35 @@ def warning(plan, state, seconds):
     return None if rank is None else divmod(rank * seconds, 60)
 
 
+def entered(plan):
+    """The states at which some run from the start ends, whatever is commanded (T-03)."""
+    met, todo = {plan.start}, [plan.start]
+    while todo:
+        for o in {o for c in plan.states[todo.pop()].commands for o in c} - met:
+            met.add(o)
+            todo.append(o)
+    return met
+
+
+def trim(plan):
+    """The trimmed plan, and the old number of each of its states (T-03)."""
+    olds = sorted(entered(plan))
+    new = {old: i for i, old in enumerate(olds)}
+    kept = (plan.states[old] for old in olds)
+    return Plan([State(s.kind, [[new[o] for o in c] for c in s.commands], s.practice) for s in kept], new[plan.start]), olds
+
+
+def tables(plan):
+    """The plan in memory: kind, first command and practice of each state, first outcomes, and outcomes."""
+    rows, firsts, outcomes = [], [], []
+    for s in plan.states:
+        rows.append((s.kind, len(firsts), s.practice))
+        for c in s.commands:
+            firsts.append(len(outcomes))
+            outcomes += c
+    return rows, firsts, outcomes
+
+
 def listing(data):
     """What the listing program prints."""
     try:

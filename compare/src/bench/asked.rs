@@ -40,9 +40,10 @@ impl Question {
         Question::of(call, &numbers.map(u64::to_be_bytes).concat())
     }
 
-    /// Either call of a trimming, and how many places are lent of each table.
-    pub fn trimming(call: usize, places: [usize; 5]) -> Question {
-        Question::of(call, &entries(&places))
+    /// Either call of a trimming, how many places are lent of each table, and what each of them holds.
+    pub fn trimming(call: usize, places: [usize; 5], holding: u16) -> Question {
+        let rest = [entries(&places), entries(&[holding.into()])].concat();
+        Question::of(call, &rest)
     }
 
     /// The same bytes under another call, so that it is passed over.
@@ -116,10 +117,10 @@ fn a_question_has_wide_numbers() {
 }
 
 #[test]
-fn a_trimming_has_five_numbers_and_is_as_long() {
-    let question = Question::trimming(TRIMMING, [1_024, 4_095, 16_384, 1, 0]);
+fn a_trimming_has_six_numbers_and_is_as_long() {
+    let question = Question::trimming(TRIMMING, [1_024, 4_095, 16_384, 1, 0], 32_775);
     let places = [4, 0, 15, 255, 64, 0, 0, 1, 0, 0];
-    let numbers = [&places[..], &[0; 6]].concat();
+    let numbers = [&places[..], &[128, 7], &[0; 4]].concat();
     assert_eq!(question.bytes[..], [&[0, 4], &numbers[..]].concat());
     let passed_over = question.of_no_call().bytes;
     assert_eq!(passed_over[..], [&[0, 9], &numbers[..]].concat());

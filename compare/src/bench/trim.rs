@@ -8,8 +8,9 @@ use crate::planner::plan::{Plan, Size};
 use crate::planner::refusal::Refusal;
 use crate::planner::trim::{trim, Lent, Space};
 
-/// What the program puts into every place before it lends it.
+/// What every place holds that is lent where times are taken, and all that places hold in turn where answers are compared.
 const OLD: u16 = 7;
+const HELD: [u16; 5] = [OLD, 0, 1, 1 << 15, u16::MAX];
 
 /// The most places that the program lends, of rows, first outcomes, outcomes, map and scratch.
 const MOST: [usize; 5] = [
@@ -44,11 +45,16 @@ fn all_lines(answer: Result<Size, Refusal>, lent: &Lent) -> String {
 }
 
 /// Both ways to ask for a trimming with so many places, and what must come of them.
-fn asked_for(plan: &Plan, places: [usize; 5], space: &mut Space) -> [(Question, String); 2] {
-    let mut lent = Lent::filled(places, OLD);
+fn asked_for(
+    plan: &Plan,
+    places: [usize; 5],
+    holding: u16,
+    space: &mut Space,
+) -> [(Question, String); 2] {
+    let mut lent = Lent::filled(places, holding);
     let answer = trim(plan, &mut lent, space);
-    let alone = Question::trimming(TRIMMING_ALONE, places);
-    let all = Question::trimming(TRIMMING, places);
+    let alone = Question::trimming(TRIMMING_ALONE, places, holding);
+    let all = Question::trimming(TRIMMING, places, holding);
     [(alone, line(answer)), (all, all_lines(answer, &lent))]
 }
 
@@ -85,8 +91,9 @@ impl Trimmed {
         let mut space = Space::new();
         let size = self.answer.unwrap_or_default();
         let needs = [size.n, size.m, size.t, size.n, plan.size.n];
-        let lengths = lengths(needs).into_iter();
-        let lines = lengths.flat_map(|places| asked_for(&plan, places, &mut space));
+        let lengths = lengths(needs).into_iter().zip(HELD.into_iter().cycle());
+        let lines =
+            lengths.flat_map(|(places, holding)| asked_for(&plan, places, holding, &mut space));
         let lines: Vec<_> = lines.collect();
         self.plan.verify(program, &lines)
     }
@@ -96,7 +103,7 @@ impl Trimmed {
         let plan = self.plan.held.plan();
         let mut lent = Lent::filled(MOST, OLD);
         let mut space = Space::new();
-        let question = Question::trimming(TRIMMING_ALONE, MOST);
+        let question = Question::trimming(TRIMMING_ALONE, MOST, OLD);
         self.plan.times(program, question, || {
             lent.fill(OLD);
             let answer = trim(&plan, &mut lent, &mut space);
@@ -149,14 +156,14 @@ fn all_is_printed() {
     let mut draft = Draft::new(vec![State::failing(), start, State::rest()]);
     draft.start = 1;
     let (held, mut space) = (draft.hold(), Space::new());
-    let [_, (_, lines)] = asked_for(&held.plan(), [3, 2, 3, 2, 4], &mut space);
+    let [_, (_, lines)] = asked_for(&held.plan(), [3, 2, 3, 2, 4], OLD, &mut space);
     let lent = "rows 0 0 0 2 1 - 7 7 7\nfirsts 0 7\noutcomes 0 1 7\nmap 1 2\nscratch 0 0 0 7\n";
     let decided = "ranks - -\ncommands 0 -\nmarks 0 0\ntally 1 0 1 0 0 0\n";
     assert_eq!(
         lines,
         format!("trimmed 2 1 2 0\n{lent}again same\n{decided}")
     );
-    let [_, (_, lines)] = asked_for(&held.plan(), [1, 2, 0, 2, 3], &mut space);
+    let [_, (_, lines)] = asked_for(&held.plan(), [1, 2, 0, 2, 3], OLD, &mut space);
     let lent = "rows 7 7 7\nfirsts 7 7\noutcomes\nmap 7 7\nscratch 7 7 7\n";
     assert_eq!(lines, format!("refused 9\n{lent}"));
 }

@@ -6,6 +6,13 @@ pub mod Lend
 pub mod QuestionsAsk
 pub mod QuestionsAskAll
 pub mod SameSameTables
+pub mod TrimsAskTrim
+pub mod TrimsGoOn
+pub mod TrimsHoldRows
+pub mod TrimsPrintRows
+pub mod TrimsShow
+pub mod TrimsTrimAgain
+pub mod TrimsTryTrim
 pub mod TryFile
 pub mod VerdictsAnswer
 pub mod VerdictsAskTables

@@ -2,13 +2,13 @@
 // give the same again, and of each question what the call answers.
 //
 // The input is numbers of two bytes, highest first, and files: how many cases there are, and then the cases. A case is the length of its
-// file; how many rows, first outcomes and outcomes are lent for it; how many questions there are; the file; and the questions. A
-// question is the call, and then, of eight bytes each, a state and a number: for 0, deciding, and 1, the search, how many places are lent
-// of each table that the call writes, for 2, the contest, how many moves, for 3, the warning time, how many seconds a move takes. For 4 and
-// 5, trimming, it is the call and, of two bytes each, how many places are lent of rows, first outcomes, outcomes, map and scratch, and three
-// numbers that are passed over; for 5 the answer alone is printed, for 4 every table lent as well and what comes of the trimmed plan. Other
-// calls are passed over. On a file that is refused the questions are asked of a plan without states. Past the end of the input every byte
-// is 0.
+// file; how many rows, first outcomes and outcomes are lent for it; how many questions there are; the file; and the questions. A question
+// is the call, and then, of eight bytes each, a state and a number: for 0, deciding, and 1, the search, how many places are lent of each
+// table that the call writes, for 2, the contest, how many moves, for 3, the warning time, how many seconds a move takes. For 4 and 5,
+// trimming, it is the call and, of two bytes each, how many places are lent of rows, first outcomes, outcomes, map and scratch, what every
+// place of these holds, and two numbers that are passed over; for 5 the answer alone is printed, for 4 every table lent as well and what
+// comes of the trimmed plan. Other calls are passed over. On a file that is refused the questions are asked of a plan without states. Past
+// the end of the input every byte is 0.
 ghost use Prim.Native.Nat.{_≤_};
 ghost use Rattle.model.specs.File.{maxStates, maxCommands, maxOutcomes};
 use crate::files::print_again;

@@ -63,7 +63,19 @@ pub fn ask_all(size: Size, rows: &[Row], firsts: &[u16], outcomes: &[u16], quest
         let call = next();
         if is_trimming(call) {
             let places = next_places();
-            ask_trim(size, rows, firsts, outcomes, places, call == TRIMMING);
+            ask_trim(
+                size,
+                rows,
+                firsts,
+                outcomes,
+                places.rows,
+                places.firsts,
+                places.outcomes,
+                places.olds,
+                places.scratch,
+                places.holding,
+                call == TRIMMING,
+            );
         } else {
             let state = next_wide();
             let number = next_wide();

@@ -14,28 +14,24 @@ use crate::verdicts::DECIDING;
 use crate::verdicts::ask_tables;
 use tables::Row;
 use tables::Size;
+use tables::entries::at;
+use tables::entries::narrow;
+use tables::rows::put_row;
 use tables::rows::row_at;
 use trim::TrimAnswer;
 
-// What is in every place that is lent: so it is seen which ones a call has written.
-const OLD: u16 = 7;
-
-const OLD_ROW: Row = Row {
-    kind: OLD,
-    first: OLD,
-    practice: OLD,
-};
-
-// How many places are lent of each table.
+// How many places are lent of each table, and what every one of them holds: so it is seen which ones a call has written.
 pub struct Places {
     pub rows: usize,
     pub firsts: usize,
     pub outcomes: usize,
     pub olds: usize,
     pub scratch: usize,
+    pub holding: u16,
 }
 
-// The next five numbers of the input, none above what a table has. Three more are passed over: a question is as long as any other.
+// The next six numbers of the input, none of the places above what a table has. Two more are passed over: a question is as long as any
+// other.
 pub fn next_places() -> Places
     ensures { λ r. ⌜ (r .rows ≤ maxStates) × (r .firsts ≤ maxCommands) × (r .outcomes ≤ maxOutcomes) × (r .olds ≤ maxStates)
         × (r .scratch ≤ maxStates) ⌝ }
@@ -45,7 +41,7 @@ pub fn next_places() -> Places
     let outcomes = next();
     let olds = next();
     let scratch = next();
-    next();
+    let holding = next();
     next();
     next();
     Places {
@@ -54,6 +50,23 @@ pub fn next_places() -> Places
         outcomes: least(outcomes, Size::OUTCOMES),
         olds: least(olds, Size::STATES),
         scratch: least(scratch, Size::STATES),
+        holding: narrow(holding),
+    }
+}
+
+fn row_of(x: u16) -> Row {
+    Row {
+        kind: x,
+        first: x,
+        practice: x,
+    }
+}
+
+pub fn hold_rows(rows: &mut [Row], x: u16) {
+    let mut i = 0;
+    while i < rows.len() {
+        put_row(rows, i, row_of(x));
+        i += 1;
     }
 }
 
@@ -73,7 +86,6 @@ pub fn print_rows(rows: &[Row]) {
     io::write_all(1, b"\n");
 }
 
-// Each table to its last place.
 fn print_lent(firsts: &[u16], outcomes: &[u16], olds: &[u16], scratch: &[u16]) {
     io::write_all(1, b"firsts");
     print_entries(firsts, firsts.len());
@@ -90,7 +102,7 @@ fn own_numbers(olds: &[u16], n: usize) -> bool {
     let end = least(n, olds.len());
     let mut i = 0;
     while i < end {
-        if (olds[i] as usize) != i {
+        if at(olds, i) != i {
             return false;
         }
         i += 1;
@@ -100,11 +112,11 @@ fn own_numbers(olds: &[u16], n: usize) -> bool {
 
 // Whether trimming once more gives the plan back, with every state's own number in the map.
 pub fn trim_again(size: Size, rows: &[Row], firsts: &[u16], outcomes: &[u16]) -> bool {
-    let mut rows2 = [OLD_ROW; Size::STATES];
-    let mut firsts2 = [OLD; Size::COMMANDS];
-    let mut outcomes2 = [OLD; Size::OUTCOMES];
-    let mut olds = [OLD; Size::STATES];
-    let mut scratch = [OLD; Size::STATES];
+    let mut rows2 = [Row::BLANK; Size::STATES];
+    let mut firsts2 = [0u16; Size::COMMANDS];
+    let mut outcomes2 = [0u16; Size::OUTCOMES];
+    let mut olds = [0u16; Size::STATES];
+    let mut scratch = [0u16; Size::STATES];
     let r = trim::trim(
         size,
         rows,
@@ -156,7 +168,24 @@ fn print_answer(r: TrimAnswer) {
     }
 }
 
-// Where `all` is false the answer alone is printed.
+// Every table to its last place, and where there is a trimmed plan what comes of it.
+pub fn show(
+    r: TrimAnswer,
+    rows: &[Row],
+    firsts: &[u16],
+    outcomes: &[u16],
+    olds: &[u16],
+    scratch: &[u16],
+) {
+    print_rows(rows);
+    print_lent(firsts, outcomes, olds, scratch);
+    let TrimAnswer::Given(size) = r else {
+        return;
+    };
+    go_on(size, rows, firsts, outcomes);
+}
+
+// The rows hold x as the other tables do. Where `all` is false the answer alone is printed.
 pub fn try_trim(
     size: Size,
     rows: &[Row],
@@ -167,8 +196,10 @@ pub fn try_trim(
     outcomes2: &mut [u16],
     olds: &mut [u16],
     scratch: &mut [u16],
+    x: u16,
     all: bool,
 ) {
+    hold_rows(rows2, x);
     let r = trim::trim(
         size,
         rows,
@@ -184,41 +215,41 @@ pub fn try_trim(
     if !all {
         return;
     }
-    print_rows(rows2);
-    print_lent(firsts2, outcomes2, olds, scratch);
-    let TrimAnswer::Given(size2) = r else {
-        return;
-    };
-    go_on(size2, rows2, firsts2, outcomes2);
+    show(r, rows2, firsts2, outcomes2, olds, scratch);
 }
 
-// Lends as many places of each table as are asked for.
+// Lends as many places of each table as are asked for: of rows, first outcomes, outcomes, map and scratch.
 pub fn ask_trim(
     size: Size,
     rows: &[Row],
     firsts: &[u16],
     outcomes: &[u16],
-    places: Places,
+    states: usize,
+    commands: usize,
+    entries: usize,
+    kept: usize,
+    space: usize,
+    x: u16,
     all: bool,
 )
-    requires { ⌜ (places .rows ≤ maxStates) × (places .firsts ≤ maxCommands) × (places .outcomes ≤ maxOutcomes)
-        × (places .olds ≤ maxStates) × (places .scratch ≤ maxStates) ⌝ }
+    requires { ⌜ (states ≤ maxStates) × (commands ≤ maxCommands) × (entries ≤ maxOutcomes) × (kept ≤ maxStates) × (space ≤ maxStates) ⌝ }
 {
-    let mut rows2 = [OLD_ROW; Size::STATES];
-    let mut firsts2 = [OLD; Size::COMMANDS];
-    let mut outcomes2 = [OLD; Size::OUTCOMES];
-    let mut olds = [OLD; Size::STATES];
-    let mut scratch = [OLD; Size::STATES];
+    let mut rows2 = [Row::BLANK; Size::STATES];
+    let mut firsts2 = [x; Size::COMMANDS];
+    let mut outcomes2 = [x; Size::OUTCOMES];
+    let mut olds = [x; Size::STATES];
+    let mut scratch = [x; Size::STATES];
     try_trim(
         size,
         rows,
         firsts,
         outcomes,
-        &mut rows2[..places.rows],
-        &mut firsts2[..places.firsts],
-        &mut outcomes2[..places.outcomes],
-        &mut olds[..places.olds],
-        &mut scratch[..places.scratch],
+        &mut rows2[..states],
+        &mut firsts2[..commands],
+        &mut outcomes2[..entries],
+        &mut olds[..kept],
+        &mut scratch[..space],
+        x,
         all,
     );
 }

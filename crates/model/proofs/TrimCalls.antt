@@ -1,6 +1,6 @@
 -- When trimming answers, when it refuses and with what.
 use mathlib.Core.Path.{_≡_, ap}
-use mathlib.Core.Bool.{Bool, true, false, _&&_}
+use mathlib.Core.Bool.{true, false, _&&_}
 use mathlib.Core.Logic.{_⊎_, inl, inr, ⊎-elim, _↔_}
 use Prim.Native.Nat.{ℕ, _<_, _≤_}
 use lib.Dec.{leb}
@@ -12,7 +12,7 @@ use Rattle.model.specs.File.{Tree}
 use Rattle.model.specs.Tables.{Size, Tables, enough}
 use Rattle.model.specs.SoundTest.{sound}
 use Rattle.model.specs.Held.{treeOf}
-use Rattle.model.specs.Trim.{trimmed, trimming}
+use Rattle.model.specs.Trim.{trimmed, trimRoom, trimming}
 use Rattle.model.proofs.Answers.{given-inj, need-iff}
 use Rattle.model.proofs.Answering.{enough-iff}
 use Rattle.model.proofs.OnlyRefused.{either, need-refused, last-refused, three-short}
@@ -20,14 +20,11 @@ use Rattle.model.proofs.Refusing.{last-short, plan-short}
 
 -- room for a plan of size z, trimmed from one of n states
 module _ (z : Size) (n rows firsts outcomes olds scratch : ℕ) where
-  abbrev roomTest : Bool
-  roomTest = enough z rows firsts outcomes && leb (z .n) olds && leb n scratch
-
   -- which of the tables has too few places
   abbrev pub TrimShort : Type 0
   TrimShort = ((rows < z .n) ⊎ ((firsts < z .m) ⊎ (outcomes < z .t))) ⊎ ((olds < z .n) ⊎ (scratch < n))
 
-  short-refused : (roomTest ≡ false) ↔ TrimShort
+  short-refused : (trimRoom z n rows firsts outcomes olds scratch ≡ false) ↔ TrimShort
   short-refused =
       let plan = enough z rows firsts outcomes in
       let long-olds = leb (z .n) olds in

@@ -49,15 +49,17 @@ trimmed p = tablesOf (trimTree p)
 
 -- ---- the call
 
--- rules C11 and E17: the plan is sound, then there is room: for the trimmed plan, its map, and in scratch for the old states.
+-- room for a plan of size z that is trimmed from one of n states: for the plan, its map, and in scratch for the old states
+abbrev pub trimRoom : Size → ℕ → ℕ → ℕ → ℕ → ℕ → ℕ → Bool
+trimRoom z n rows firsts outcomes olds scratch = enough z rows firsts outcomes && leb (z .n) olds && leb n scratch
+
+-- rules C11 and E17: the plan is sound, then there is room.
 -- Given is the plan that is trimmed; `trimCall` has what is answered.
 unfoldable pub trimming : Tables → ℕ → ℕ → ℕ → ℕ → ℕ → Answer Tree
-trimming T rows firsts outcomes olds scratch =
-    let z = trimmed (treeOf T) .size in
-    do
-      need Unsound (sound T)
-      need Cramped (enough z rows firsts outcomes && leb (z .n) olds && leb (T .size .n) scratch)
-      given (treeOf T)
+trimming T rows firsts outcomes olds scratch = do
+  need Unsound (sound T)
+  need Cramped (trimRoom (trimmed (treeOf T) .size) (T .size .n) rows firsts outcomes olds scratch)
+  given (treeOf T)
 
 pub record AfterTrim : Type 0 where
   pub answers : Answer Size

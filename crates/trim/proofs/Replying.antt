@@ -12,7 +12,7 @@ use Rattle.model.specs.Tables.{Size as ModelSize, Tables, enough, tablesOf}
 use Rattle.model.specs.SoundTest.{sound}
 use Rattle.model.specs.Held.{treeOf}
 use Rattle.model.specs.Calls.{left, cleared}
-use Rattle.model.specs.Trim.{mapOf, trimTree, trimmed, trimming, AfterTrim, trimCall}
+use Rattle.model.specs.Trim.{mapOf, trimTree, trimmed, trimRoom, trimming, AfterTrim, trimCall}
 use Rattle.model.specs.Trimmed.{Trimmed}
 use Rattle.model.proofs.TrimTables.{trimmed-tables}
 use Rattle.tables.specs.declared.Size.{Size}
@@ -48,12 +48,12 @@ module _ (T : Tables) (rows : List Row) (firsts outs olds scratch : List ℕ) wh
 
   -- z is the trimmed size record, and r whether there is room for it
   module _ (sounds : sound T ≡ true) {z : Size} (is : numbers z ≡ trimmed (treeOf T) .size) {r : Bool}
-      (e : r ≡ (enough (numbers z) (length rows) (length firsts) (length outs) && leb (z .n) (length olds) && leb (T .size .n) (length scratch))) where
+      (e : r ≡ trimRoom (numbers z) (T .size .n) (length rows) (length firsts) (length outs) (length olds) (length scratch)) where
     judged : trimming T (length (rowsOf rows)) (length firsts) (length outs) (length olds) (length scratch) ≡ (need ModelRefusal.Cramped r >> given (treeOf T))
     unfolding trimming need _>>_
     judged =
-        let same : r ≡ (enough (trimmed (treeOf T) .size) (length (rowsOf rows)) (length firsts) (length outs)
-        && leb (trimmed (treeOf T) .size .n) (length olds) && leb (T .size .n) (length scratch))
+        let same : r
+        ≡ trimRoom (trimmed (treeOf T) .size) (T .size .n) (length (rowsOf rows)) (length firsts) (length outs) (length olds) (length scratch)
         = e ∙ rw (← is, length-map rows rowOf) in
         rw (sounds, same)
 

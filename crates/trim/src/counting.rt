@@ -1,13 +1,11 @@
 // The trimmed plan's size record, and whether there is room for it.
 ghost use mathlib.Core.Path.{_≡_};
-ghost use mathlib.Core.Bool.{true, _&&_};
+ghost use mathlib.Core.Bool.{true};
 ghost use Prim.Native.Nat.{ℕ, _<_, _≤_};
-ghost use lib.Dec.{leb};
 ghost use lib.ListN.{length, getD};
-ghost use Rattle.model.specs.Tables.{enough};
 ghost use Rattle.model.specs.SoundTest.{sound};
 ghost use Rattle.model.specs.Held.{treeOf};
-ghost use Rattle.model.specs.Trim.{trimmed};
+ghost use Rattle.model.specs.Trim.{trimmed, trimRoom};
 ghost use Rattle.tables.specs.Meaning.{numbers, held};
 ghost use Rattle.trim.specs.Kept.{Kept};
 use crate::stretches::stretch_at;
@@ -63,7 +61,7 @@ pub fn has_room(
     olds: usize,
     scratch: usize,
 ) -> bool
-    ensures { λ r. ⌜ r ≡ (enough (numbers size) rows firsts outcomes && leb (size .n) olds && leb old scratch) ⌝ }
+    ensures { λ r. ⌜ r ≡ trimRoom (numbers size) old rows firsts outcomes olds scratch ⌝ }
 {
     if !long_enough(size, rows, firsts, outcomes) {
         return false;

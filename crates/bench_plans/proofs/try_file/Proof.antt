@@ -25,6 +25,12 @@ ask-all-requires c κs = search needs
 enum-known-r-2 : tie.Need-enum-known-r-2
 enum-known-r-2 c = search needs
 
+slice-aggregate-write-all : tie.Need-slice-aggregate-write-all
+slice-aggregate-write-all c = search needs
+
+write-all-requires : tie.Need-write-all-requires
+write-all-requires c κs = search needs
+
 print-size-requires : tie.Need-print-size-requires
 print-size-requires c κs = search needs
 
@@ -65,7 +71,4 @@ returns-2 : tie.Need-returns-2
 returns-2 c = search needs
 
 pub try-file-spec : {M : Type 1} → statement M
-try-file-spec = tie.close
-    (tie.spec read-requires enum-known-r number-requires print-refusal-requires new-requires ask-all-requires enum-known-r-2
-    print-size-requires write-again-requires read-again-requires print-again-requires ask-all-requires-2 same-length same-length-2
-    same-length-3 returns same-length-4 same-length-5 same-length-6 returns-2)
+try-file-spec = tie.close (tie.spec read-requires enum-known-r number-requires print-refusal-requires new-requires ask-all-requires enum-known-r-2 slice-aggregate-write-all write-all-requires print-size-requires write-again-requires read-again-requires print-again-requires ask-all-requires-2 same-length same-length-2 same-length-3 returns same-length-4 same-length-5 same-length-6 returns-2)
