@@ -1,14 +1,13 @@
 -- What it means that trimming is answered, of the tables that it leaves.
 use mathlib.Core.Path.{_≡_, refl, sym, ap, subst, subst₂, _∙_}
-use mathlib.Core.Bool.{true}
 use mathlib.Core.List.{List}
 use Prim.Native.Nat.{ℕ, _<_, _≤_}
 use native.Mathlib.Omega.{arith}
-use lib.ListN.{length, getD, take}
+use lib.ListN.{length, getD, take, drop, length-append, take-append-drop}
 use Rattle.laws.specs.Lists.{tabulate}
 use Rattle.model.specs.Refusal.{given, answer}
 use Rattle.model.specs.File.{Tree}
-use Rattle.model.specs.Tables.{Size, Row, Tables, Same, enough, tablesOf}
+use Rattle.model.specs.Tables.{Size, Row, Tables, Same, tablesOf}
 use Rattle.model.specs.Held.{treeOf, planOf, planIn}
 use Rattle.model.specs.Calls.{decideCall}
 use Rattle.model.specs.Demand3.{readEntry}
@@ -20,8 +19,8 @@ use Rattle.model.proofs.SameSound.{same-back, same-on}
 use Rattle.model.proofs.TablesBack.{tables-back}
 use Rattle.model.proofs.GoodTables.{sound-good}
 use Rattle.model.proofs.Soundness.{sound-iff}
-use Rattle.model.proofs.Answering.{enough-iff}
 use Rattle.model.proofs.Delivered.{ranks-read, commands-read}
+use Rattle.model.proofs.TrimmedPlan.{trim-long}
 use Rattle.model.proofs.TrimGood.{NoLarger, trim-no-larger}
 use Rattle.model.proofs.TrimKeeps.{trim-keeps}
 use Rattle.model.proofs.TrimAgain.{trim-again, map-again}
@@ -72,9 +71,23 @@ module _ (T : Tables) (rows : List Row) (firsts outcomes olds scratch : List ℕ
   no-larger : NoLarger z (T .size)
   no-larger = subst₂ NoLarger (sym (t .size)) (sym (tables-back T (t .sounds) .size)) (trim-no-larger (treeOf T))
 
+  map-long : z .n ≤ length (trimCall T rows firsts outcomes olds scratch .olds)
+  unfolding tablesOf
+  map-long =
+      let after = trimCall T rows firsts outcomes olds scratch .olds in
+      let count : z .n ≡ length (trimTree (treeOf T) .states) = ap (λ (y : Size). y .n) (t .size) in
+      omega (
+        arith,
+        count,
+        trim-long (treeOf T),
+        ap length (t .map),
+        ap length (take-append-drop (z .n) after),
+        length-append (take (z .n) after) (drop (z .n) after),
+      )
+
   -- U trimmed again, into tables that are long enough
   module _ (rows′ : List Row) (firsts′ outcomes′ olds′ scratch′ : List ℕ)
-      (long : enough z (length rows′) (length firsts′) (length outcomes′) ≡ true)
+      (long-rows : z .n ≤ length rows′) (long-firsts : z .m ≤ length firsts′) (long-outcomes : z .t ≤ length outcomes′)
       (long-olds : z .n ≤ length olds′) (long-scratch : z .n ≤ length scratch′) where
     same-tree : trimTree (treeOf U) ≡ trimTree (treeOf T)
     same-tree = ap trimTree tree ∙ trim-again (treeOf T) good
@@ -85,12 +98,11 @@ module _ (T : Tables) (rows : List Row) (firsts outcomes olds scratch : List ℕ
     answers-again : trimCall U rows′ firsts′ outcomes′ olds′ scratch′ .answers ≡ given z
     unfolding answer
     answers-again =
-        let (room, long-outcomes) = enough-iff z (length rows′) (length firsts′) (length outcomes′) .0 long in
         let trims-again
         = trimming-iff U (length rows′) (length firsts′) (length outcomes′) (length olds′) (length scratch′) (treeOf U) .1 (record {
           sounds = trimmed-sound T rows firsts outcomes olds scratch z t;
-          long-rows = rw same-size (room .0);
-          long-firsts = rw same-size (room .1);
+          long-rows = rw same-size long-rows;
+          long-firsts = rw same-size long-firsts;
           long-outcomes = rw same-size long-outcomes;
           long-olds = rw same-size long-olds;
           long-scratch = long-scratch;
@@ -115,6 +127,7 @@ module _ (T : Tables) (rows : List Row) (firsts outcomes olds scratch : List ℕ
   trimmed-tables = record {
     sounds = sound-iff U .0 (trimmed-sound T rows firsts outcomes olds scratch z t);
     no-larger = no-larger;
+    map-long = map-long;
     keeps = keeps;
     by-tables = kept-entries T U old keeps;
     again = again;

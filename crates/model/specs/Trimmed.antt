@@ -1,6 +1,5 @@
 -- What it means that trimming is answered (docs/SPECIFICATION.md, part X).
 use mathlib.Core.Path.{_≡_}
-use mathlib.Core.Bool.{true}
 use mathlib.Core.List.{List, map}
 use mathlib.Core.Logic.{_↔_}
 use Prim.Native.Nat.{ℕ, _<_, _≤_}
@@ -11,7 +10,7 @@ use Rattle.model.specs.Run.{Run, present, IsRun}
 use Rattle.model.specs.Verdict.{rank, lost}
 use Rattle.model.specs.Command.{chosen}
 use Rattle.model.specs.Refusal.{given}
-use Rattle.model.specs.Tables.{Row, Tables, Same, enough}
+use Rattle.model.specs.Tables.{Row, Tables, Same}
 use Rattle.model.specs.Sound.{Sound}
 use Rattle.model.specs.Held.{planIn}
 use Rattle.model.specs.Calls.{decideCall}
@@ -47,6 +46,8 @@ pub record Trimmed (T U : Tables) (olds : List ℕ) : Type 0 where
   -- rule X5: U is a plan that a file gives, and no larger
   pub sounds : Sound U
   pub no-larger : (U .size .n ≤ T .size .n) × (U .size .m ≤ T .size .m) × (U .size .t ≤ T .size .t)
+  -- rule X4: the map has a place for each state of U
+  pub map-long : U .size .n ≤ length olds
   pub keeps : Keeps (planIn T) (planIn U) (λ i. getD olds i 0)
   -- rule X6 by what deciding leaves, whatever it is lent on either plan, if it answers
   pub by-tables : (ranks commands marks scratch ranks′ commands′ marks′ scratch′ : List ℕ) (counts counts′ : List (List ℕ))
@@ -57,7 +58,8 @@ pub record Trimmed (T U : Tables) (olds : List ℕ) : Type 0 where
       × (readEntry (E .commands) i ≡ readEntry (D .commands) (getD olds i 0))
   -- rule X7: trimming U, into tables that are long enough, gives U back, and every state has its own number
   pub again : (rows : List Row) (firsts outcomes olds′ scratch : List ℕ)
-      → enough (U .size) (length rows) (length firsts) (length outcomes) ≡ true → U .size .n ≤ length olds′ → U .size .n ≤ length scratch
+      → U .size .n ≤ length rows → U .size .m ≤ length firsts → U .size .t ≤ length outcomes → U .size .n ≤ length olds′
+      → U .size .n ≤ length scratch
       → let A = trimCall U rows firsts outcomes olds′ scratch in
       (A .answers ≡ given (U .size)) × Same U (afterTrimming (U .size) U rows firsts outcomes olds′ scratch)
       × (take (U .size .n) (A .olds) ≡ tabulate (λ i. i) 0 (U .size .n))
