@@ -4,7 +4,7 @@ from typing import NamedTuple
 
 import made
 import reference
-from plans import among_dead, branching, case_a, chain, failing, longest, rest, shapes, slopes, stuck, trimmed_shapes
+from plans import branching, case_a, chain, half_dead, longest, shapes, slopes, trimmed_shapes
 from reference import COMMANDS, LONGEST_MOVE, MOVES, NONE, OUTCOMES, STATES, Plan, Refused, State, two, write
 
 HERE = pathlib.Path(__file__).resolve().parent.parent / "crates" / "bench_plans"
@@ -228,29 +228,27 @@ def one_short(places):
     return (places[:i] + (k - 1,) + places[i + 1:] for i, k in enumerate(places) if k > 0)
 
 
-def trims(plan, holding, short=TRIMMING_ALONE):
-    """Tables that are exactly long enough, each one short, scratch for the kept states alone, and tables with something behind."""
+def trims(plan, holding, others):
+    """Tables that are exactly long enough; and, by the call `others`, each one short, scratch for the kept states alone, none, and tables
+    with something behind."""
     new, _ = reference.trim(plan)
     exact = new.n, new.m, new.t, new.n, plan.n
     yield Trim(TRIMMING, *exact, holding)
-    for places in (*one_short(exact), exact[:4] + (new.n,), (0,) * 5):
-        yield Trim(short, *places, holding)
-    yield Trim(short, *(k + 1 + i for i, k in enumerate(exact)), holding)
+    for places in (*one_short(exact), exact[:4] + (new.n,), (0,) * 5, tuple(k + 1 + i for i, k in enumerate(exact))):
+        yield Trim(others, *places, holding)
 
 
 def trim_cases():
-    """Plans of many shapes, and at the limits; a file that is refused, and more places than any plan needs."""
+    """Plans of many shapes, of every sixth all that is lent whatever is answered; plans at the limits, of the largest the answers alone; a
+    file that is refused, and more places than any plan needs."""
     holding = 7, 0, 1, 2 ** 15, LAST
     for i, plan in enumerate(trimmed_shapes()):
-        yield Case(write(plan), questions=tuple(trims(plan, holding[i % 5])))
-    for i, plan in enumerate((case_a(), Plan([rest()]), Plan([failing()]), Plan([stuck()]))):
-        dead = among_dead(plan, 100 + i)
-        yield Case(write(dead), questions=tuple(trims(dead, holding[i], TRIMMING)))
+        others = TRIMMING if i % 6 == 0 else TRIMMING_ALONE
+        yield Case(write(plan), questions=tuple(trims(plan, holding[i % len(holding)], others)))
     full = STATES - 1
-    for start in 0, full // 2, full - 1, full:
-        plan = Plan(chain(full).states, start)
-        yield Case(write(plan), questions=tuple(trims(plan, 7)))
-    at_limits = tuple(trims(longest(), 7))
+    for plan in *(Plan(chain(full).states, start) for start in (0, full // 2, full - 1, full)), half_dead():
+        yield Case(write(plan), questions=tuple(trims(plan, 7, TRIMMING_ALONE)))
+    at_limits = trims(longest(), 7, TRIMMING_ALONE)
     yield Case(write(longest()), questions=tuple(question._replace(call=TRIMMING_ALONE) for question in at_limits))
     lent = Trim(TRIMMING, 2, 3, 4, 5, 6, 7), Trim(TRIMMING_ALONE, LAST, LAST, LAST, LAST, LAST, 7), Trim(TRIMMING, 0, 0, 0, 0, 0, 7)
     yield Case(b"", questions=lent)

@@ -95,7 +95,8 @@ def among_dead(plan, seed):
     states = [None] * (own + 8)
     for i, s in enumerate(plan.states):
         states[old[i]] = State(s.kind, [[old[o] for o in c] for c in s.commands], s.practice)
-    dead = iter([failing(), rest(), stuck(), State(0, [[places[0]]], 0), State(0, [places[:2], range(own + 8)]), rest(), failing(), stuck()])
+    leading = State(0, [[places[0]]], 0), State(0, [places[:2], range(own + 8)])
+    dead = iter([failing(), rest(), stuck(), *leading, rest(), failing(), stuck()])
     return Plan([next(dead) if s is None else s for s in states], old[plan.start])
 
 
@@ -112,19 +113,26 @@ def slopes():
         yield descent(seed, 24)
 
 
+def half_dead():
+    """As large as a plan can be, and of two halves: states of even number lead to each other, those of odd number to any."""
+    leads = lambda i, c: sorted((i + (c + k) * (2 - i % 2)) % STATES for k in range(4))
+    return Plan([State(0, [leads(i, c) for c in range(4)], i % 5 if i % 5 < 4 else NONE) for i in range(STATES)], 10)
+
+
 def trimmed_shapes():
-    """Plans to be trimmed: little and much of them is met, and every state is a start."""
-    for plan in list(shapes())[:33]:
+    """Plans to be trimmed: little and much of them is met. Of the small ones every state is a start."""
+    for plan in small_shapes():
         for start in range(plan.n):
             yield Plan(plan.states, start)
-    for seed, plan in enumerate([case_a(), Plan([rest()]), Plan([failing()]), Plan([stuck()]), ring(5, 3, 0), late(), ladder(4)] * 3):
+    alone = [Plan([end()]) for end in (rest, failing, stuck)]
+    for seed, plan in enumerate([case_a(), ring(5, 3, 0), late(), ladder(4), *alone] * 3):
         yield among_dead(plan, seed)
     for seed in range(500, 560):
         yield scattered(seed, 2 + seed % 14, 2, 2, (3, 1, 1))
 
 
-def shapes():
-    """The plans that the bench program runs, and the listing program beside others."""
+def small_shapes():
+    """Of every shape a small one."""
     yield case_a()
     yield Plan([rest()])
     yield Plan([failing()])
@@ -140,6 +148,11 @@ def shapes():
     yield late()
     for end in stuck, rest:
         yield from ended_by(end)
+
+
+def shapes():
+    """The plans that the bench program runs, and the listing program beside others."""
+    yield from small_shapes()
     for seed in range(40):
         yield scattered(seed, 2 + seed % 12, 3, 3)
     for seed in range(40, 50):

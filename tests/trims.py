@@ -1,11 +1,12 @@
-"""The reference's trimming beside runs and verdicts: the kept states are the ends of runs, and have their old verdicts."""
+"""The reference's trimming beside runs and verdicts: the kept states are the ends of runs, and are as they were."""
 import sys
 
 import reference
-from plans import chain, longest, shapes, trimmed_shapes
+from plans import chain, half_dead, longest, shapes, trimmed_shapes
 from reference import STATES, Plan
 
-SHORT = 8  # the most states of plans whose runs are all gone through, as many moves long
+RUNS = 20000  # of a plan, at most, where all runs are gone through
+FEW = 40  # plans of each sort that must be met, or too little was tried
 
 
 def plans():
@@ -14,16 +15,18 @@ def plans():
     for start in 0, STATES // 2, STATES - 1:
         yield Plan(chain(STATES - 1).states, start)
     yield longest()
+    yield half_dead()
 
 
-def ends(plan, moves):
-    """Where the runs from the start of up to so many moves end: each run goes on by each outcome of each command."""
-    runs = [(plan.start,)]
-    for _ in range(moves):
+def ends(plan):
+    """Where runs from the start of fewer moves than there are states end, run by run; None if there are too many."""
+    met, runs = {plan.start}, [(plan.start,)]
+    for _ in range(plan.n - 1):
         runs = [run + (o,) for run in runs for c in plan.states[run[-1]].commands for o in c]
-        # of the runs to one state, one is enough: all go on from there alike
-        runs = list({run[-1]: run for run in runs}.values())
-        yield from (run[-1] for run in runs)
+        if len(runs) > RUNS:
+            return None
+        met |= {run[-1] for run in runs}
+    return met
 
 
 def same(a, b):
@@ -33,10 +36,12 @@ def same(a, b):
 def wrong(plan):
     """What is wrong with the trimmed plan; None if nothing is."""
     new, olds = reference.trim(plan)
-    if plan.n <= SHORT and set(olds) != {plan.start, *ends(plan, plan.n)}:
-        return f"kept are {olds}"
     if olds != sorted(set(olds)) or olds[new.start] != plan.start or len(olds) != new.n:
         return f"the map is {olds}"
+    for old, s in zip(olds, new.states):
+        was = plan.states[old]
+        if (s.kind, s.practice) != (was.kind, was.practice) or [[olds[o] for o in c] for c in s.commands] != was.commands:
+            return f"state {old} is another"
     if not same(reference.read(reference.write(new)), new):
         return "no file gives it"
     before, after = reference.decide(plan), reference.decide(new)
@@ -49,16 +54,18 @@ def wrong(plan):
 
 
 def main():
-    smaller = whole = single = 0
+    met = dict.fromkeys(("gone through", "smaller", "whole", "start alone"), 0)
     for number, plan in enumerate(plans()):
-        if wrong(plan):
-            sys.exit(f"trims: plan {number}: {wrong(plan)}")
-        kept = len(reference.entered(plan))
-        smaller += 1 < kept < plan.n
-        whole += kept == plan.n
-        single += kept == 1
-    if min(smaller, whole, single) < 40:
-        sys.exit(f"trims: {smaller} plans that get smaller, {whole} that stay and {single} of which the start is left are too few to tell")
+        what = wrong(plan)
+        kept, ended = reference.entered(plan), ends(plan)
+        if what or ended not in (None, kept):
+            sys.exit(f"trims: plan {number}: {what or f'kept are {kept}, and runs end at {ended}'}")
+        met["gone through"] += ended is not None
+        met["smaller"] += 1 < len(kept) < plan.n
+        met["whole"] += len(kept) == plan.n
+        met["start alone"] += len(kept) == 1
+    if min(met.values()) < FEW:
+        sys.exit(f"trims: too few plans to tell: {met}")
 
 
 main()

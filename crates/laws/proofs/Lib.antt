@@ -27,12 +27,13 @@ pub mod Rising
 pub mod Slices
 pub mod Least
 pub mod Wrote
-pub mod Copies
 pub mod Spreads
 pub mod Turns
+pub mod EntryCopies
 pub mod Blocks
 pub mod Starts
 pub mod Merge
 pub mod Passing
+pub mod Gathers
 pub mod Maps
-pub mod Kept
+pub mod PassingSums

@@ -13,6 +13,7 @@ use lib.Seq.{
   getD-drop,
   getD-take,
   take-take,
+  take-length,
   take-at,
   drop-at,
   drop-append-le,
@@ -118,6 +119,13 @@ module _ {A : Type 0} where
 
   pub take-overwritten : (n : ℕ) (xs l : List A) → length xs ≡ n → take n (overwrite xs l) ≡ xs
   take-overwritten n xs l e = rw (← e) (take-overwrite xs l)
+
+  pub take-written : (xs l : List A) (n : ℕ) → length xs ≡ n → take n (overwrite xs l) ≡ take n xs
+  take-written xs l n e = take-overwritten n xs l e ∙ sym (rw (← e) (take-length xs))
+
+  -- a list that is known up to n
+  pub getD-taken : (n : ℕ) (l xs : List A) (i : ℕ) (d : A) → take n l ≡ xs → i < n → getD l i d ≡ getD xs i d
+  getD-taken n l xs i d e h = sym (getD-take n l i d h) ∙ ap (λ (r : List A). getD r i d) e
 
   pub drop-overwrite : (xs l : List A) → drop (length xs) (overwrite xs l) ≡ drop (length xs) l
   unfolding overwrite

@@ -31,7 +31,8 @@ module _ {A B : Type 0} (f : A → B) where
   -- changes that agree at the members
   pub map-agree : (g : A → B) (l : List A) → ((x : A) → List·Memᴰ x l → f x ≡ g x) → map f l ≡ map g l
   map-agree g [] h = refl
-  map-agree g (x ∷ xs) h = ap₂ (λ (y : B) (ys : List B). y ∷ ys) (h x (List·Memᴰ·head refl)) (map-agree g xs (λ y m. h y (List·Memᴰ·tail m)))
+  map-agree g (x ∷ xs) h = ap₂ (λ (y : B) (ys : List B). y ∷ ys) (h x (List·Memᴰ·head refl))
+      (map-agree g xs (λ y m. h y (List·Memᴰ·tail m)))
 
   -- of members that a rule makes
   pub map-tabulate : (g : ℕ → A) (a k : ℕ) → map f (tabulate g a k) ≡ tabulate (λ i. f (g i)) a k
@@ -58,9 +59,11 @@ map-is {A} f (x ∷ xs) {y} m =
 
 -- a change that leaves every member as it is
 pub map-same : {A : Type 0} (f : A → A) (l : List A) → ((x : A) → List·Memᴰ x l → f x ≡ x) → map f l ≡ l
-map-same f [] h = refl
-map-same {A} f (x ∷ xs) h = ap₂ (λ (y : A) (ys : List A). y ∷ ys) (h x (List·Memᴰ·head refl))
-    (map-same f xs (λ y m. h y (List·Memᴰ·tail m)))
+map-same {A} f l h = map-agree f (λ x. x) l h ∙ own l
+  where
+    own : (xs : List A) → map (λ (x : A). x) xs ≡ xs
+    own [] = refl
+    own (x ∷ xs) = ap (λ (r : List A). x ∷ r) (own xs)
 
 -- some changed member is in K
 pub any-map : (K : ℕ → Bool) (f : ℕ → ℕ) (l : List ℕ) → any K (map f l) ≡ any (λ x. K (f x)) l

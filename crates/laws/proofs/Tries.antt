@@ -11,6 +11,7 @@ use lib.ListN.{length, getD}
 use Rattle.laws.specs.Sets.{first, lowest}
 use Rattle.laws.specs.Entry.{FFFF, entry}
 use Rattle.laws.specs.First.{FirstNot}
+use Rattle.laws.proofs.Tests.{clash}
 use Rattle.laws.proofs.Sets.{IsLowest, lowest-is, lowest-eq}
 
 pub first-start : {f : ℕ → Bool} {a : ℕ} → FirstNot f a a a
@@ -29,6 +30,14 @@ module _ {f : ℕ → Bool} {a c : ℕ} (v : FirstNot f a c c) where
       go : (i : ℕ) → a ≤ i → i < c + 1 → Dec (i < c) → f i ≡ true
       go i p q (yes l) = v .before i p l
       go i p q (no l) = let e : i ≡ c = omega arith in rw e t
+
+  -- a number of which the test is known not to hold is not passed
+  pub first-room : {k e : ℕ} → a ≤ k → k < e → f k ≡ false → c < e
+  first-room {k} {e} p h t = go (decLt k c)
+    where
+      go : Dec (k < c) → c < e
+      go (yes l) = clash (v .before k p l) t
+      go (no l) = omega arith
 
   pub first-stop : (e : ℕ) → c < e → f c ≡ false → FirstNot f a e c
   first-stop e h t = record { since = v .since; until = omega arith; before = v .before; stops = λ p. t }

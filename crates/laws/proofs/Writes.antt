@@ -43,30 +43,20 @@ module _ {A : Type 0} where
   unfolding overwrite
   put-front l xs h = put-after [] l xs h
 
-  -- places that are written by a rule, up to number n: the table, written as far as number i and place p, once the rest is
+  -- a table whose first n places are written by a rule: the table, as far as it is written up to place i, once the rest is
   module _ (f : ℕ → A) (n : ℕ) where
-    abbrev pub rest : ℕ → ℕ → List A → List A
-    rest i p l = putAll l p (tabulate f i (n - i))
-
-    pub rest-next : (i p : ℕ) (l : List A) {x : A} → i < n → x ≡ f i → rest (i + 1) (p + 1) (set l p x) ≡ rest i p l
-    unfolding putAll tabulate
-    rest-next i p l h e =
-        let a : n - i ≡ suc (n - (i + 1)) = omega arith in
-        rw (e, a) (ap (λ (j : ℕ). putAll (set l p (f i)) (p + 1) (tabulate f j (n - (i + 1)))) (add-one i))
-
-    pub rest-none : (i p : ℕ) (l : List A) → n ≤ i → rest i p l ≡ l
-    unfolding putAll tabulate
-    rest-none i p l h = let a : n - i ≡ 0 = omega arith in rw a
-
-    -- where the numbers are those of the places
     abbrev pub ruled : ℕ → List A → List A
-    ruled i l = rest i i l
+    ruled i l = putAll l i (tabulate f i (n - i))
 
     pub ruled-next : (i : ℕ) (l : List A) {x : A} → i < n → x ≡ f i → ruled (i + 1) (set l i x) ≡ ruled i l
-    ruled-next i l = rest-next i i l
+    unfolding putAll tabulate
+    ruled-next i l h e =
+        let a : n - i ≡ suc (n - (i + 1)) = omega arith in
+        rw (e, a) (ap (λ (j : ℕ). putAll (set l i (f i)) (i + 1) (tabulate f j (n - (i + 1)))) (add-one i))
 
     pub ruled-last : (i : ℕ) (l : List A) → n ≤ i → ruled i l ≡ l
-    ruled-last i l = rest-none i i l
+    unfolding putAll tabulate
+    ruled-last i l h = let a : n - i ≡ 0 = omega arith in rw a
 
     pub ruled-first : (l : List A) → n ≤ length l → ruled 0 l ≡ overwrite (tabulate f 0 n) l
     ruled-first l h =

@@ -12,7 +12,7 @@ use Rattle.laws.proofs.Sets.{any-hit, any-of, exists-at, exists-of}
 use Rattle.laws.proofs.Grow.{Monotone, grow-first, grow-all, closed}
 use Rattle.model.specs.Plan.{Plan, Valid, ordinary}
 use Rattle.model.specs.Run.{Move, Run, noMoves, _▸_, present, CanMove, IsRun}
-use Rattle.model.specs.Trim.{enters, entered}
+use Rattle.model.specs.Trim.{entersFrom, entered}
 use Rattle.model.specs.Trimmed.{Enters}
 use Rattle.model.proofs.Deciding.{run-inside}
 
@@ -21,9 +21,9 @@ module _ (P : Plan) where
   some-lands t x = exists (λ c. any (eqb x) (P .outcomes t c)) (P .commands t)
 
   -- a state of W from which a move enters x
-  enters-is : (W : ℕ → Bool) (x : ℕ) → enters P W x ≡ true
+  enters-is : (W : ℕ → Bool) (x : ℕ) → entersFrom P W x ≡ true
       → (t : ℕ) × (c : ℕ) × (t < P .states) × (W t ≡ true) × (ordinary P t ≡ true) × (c < P .commands t) × List·Memᴰ x (P .outcomes t c)
-  unfolding enters some-lands
+  unfolding entersFrom some-lands
   enters-is W x e =
       let (t, l, b) = exists-at (λ i. W i && ordinary P i && some-lands i x) (P .states) e in
       let (wo, s) = and-both (W t && ordinary P t) (some-lands t x) b in
@@ -33,19 +33,19 @@ module _ (P : Plan) where
       (t, c, l, w, o, k, Memᴰ·cast (eqb-true x y q) m)
 
   enters-of : (W : ℕ → Bool) (t c x : ℕ) → t < P .states → W t ≡ true → ordinary P t ≡ true → c < P .commands t
-      → List·Memᴰ x (P .outcomes t c) → enters P W x ≡ true
-  unfolding enters some-lands
+      → List·Memᴰ x (P .outcomes t c) → entersFrom P W x ≡ true
+  unfolding entersFrom some-lands
   enters-of W t c x l w o k m =
       exists-of (λ i. W i && ordinary P i && some-lands i x) (P .states) t l
       (and-join (W t && ordinary P t) (some-lands t x) (and-join (W t) (ordinary P t) w o)
       (exists-of (λ d. any (eqb x) (P .outcomes t d)) (P .commands t) c k (any-of (eqb x) (P .outcomes t c) m (eq-eqb x x refl))))
 
-  enters-more : Monotone (P .states) (enters P)
+  enters-more : Monotone (P .states) (entersFrom P)
   enters-more U W h s l e = let (t, c, k, v, o, n, m) = enters-is U s e in enters-of W t c s k (h t k v) o n m
 
   pub start-entered : entered P (P .start) ≡ true
   unfolding entered
-  start-entered = grow-first (enters P) (eqb (P .start)) _ (P .start) (eq-eqb (P .start) (P .start) refl)
+  start-entered = grow-first (entersFrom P) (eqb (P .start)) _ (P .start) (eq-eqb (P .start) (P .start) refl)
 
   -- what holds of the start and goes over to all outcomes holds of all that is entered
   pub entered-all : (Q : ℕ → Type 0) → Q (P .start)
@@ -53,7 +53,7 @@ module _ (P : Plan) where
       → (x : ℕ) → entered P x ≡ true → Q x
   unfolding entered
   entered-all Q first step =
-      grow-all (enters P) (eqb (P .start)) Q (λ x e. rw (eqb-true (P .start) x e) at first)
+      grow-all (entersFrom P) (eqb (P .start)) Q (λ x e. rw (eqb-true (P .start) x e) at first)
       (λ W h x e. let (t, c, l, w, o, k, m) = enters-is W x e in step t c x l (h t w) o k m) _
 
   module _ (S : Valid P) where
@@ -62,7 +62,7 @@ module _ (P : Plan) where
         → List·Memᴰ x (P .outcomes t c) → entered P x ≡ true
     unfolding entered
     enters-on t c x l e o k m =
-        closed (enters P) (eqb (P .start)) (P .states) enters-more x (S .inside t c x l k m) (enters-of (entered P) t c x l e o k m)
+        closed (entersFrom P) (eqb (P .start)) (P .states) enters-more x (S .inside t c x l k m) (enters-of (entered P) t c x l e o k m)
 
     module _ (in-plan : P .start < P .states) where
       pub entered-inside : (x : ℕ) → entered P x ≡ true → x < P .states

@@ -3,10 +3,9 @@ use mathlib.Core.Path.{_≡_, refl, sym, ap, subst, _∙_}
 use mathlib.Core.List.{List}
 use Prim.Native.Nat.{ℕ, _≤_}
 use lib.ListN.{length, take}
-use lib.Seq.{take-length}
 use Rattle.laws.specs.Entry.{Bytes}
 use Rattle.laws.specs.Lists.{overwrite}
-use Rattle.laws.proofs.Lists.{take-overwrite}
+use Rattle.laws.proofs.Lists.{take-written, take-overwrite}
 use Rattle.laws.proofs.Parts.{length-heads}
 use Rattle.model.specs.Refusal.{Answer, given, answer}
 use Rattle.model.specs.File.{Tree}
@@ -25,9 +24,6 @@ use Rattle.model.proofs.SameSound.{same-back, same-on}
 use Rattle.model.proofs.TablesBack.{tables-back}
 use Rattle.model.proofs.GoodTables.{sound-good, good-sound}
 use Rattle.model.proofs.Answering.{reading-iff, writing-iff}
-
-pub take-written : {A : Type 0} (xs l : List A) (k : ℕ) → length xs ≡ k → take k (overwrite xs l) ≡ take k xs
-take-written xs l k e = rw (← e) (take-overwrite xs l ∙ sym (take-length xs))
 
 module _ (file : List ℕ) (rows : List Row) (firsts outcomes : List ℕ) where
   -- what a reading that answers leaves is the same as what the file gives

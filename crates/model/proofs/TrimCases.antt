@@ -15,7 +15,7 @@ use Rattle.model.specs.Places.{rowAt, firstCommand, commandCount, listAt
 use Rattle.model.specs.SoundTest.{sizeSound, tablesLong, rowSound, risesAt, listSound, entrySound, listsSound, sound}
 use Rattle.model.specs.Held.{stateAt, treeOf, stateOf, planOf}
 use Rattle.model.specs.Calls.{left, cleared}
-use Rattle.model.specs.Trim.{enters, entered, mapOf, newNumber, trimState, trimTree, trimming, AfterTrim, trimCall}
+use Rattle.model.specs.Trim.{entersFrom, entered, mapOf, newNumber, trimState, trimTree, trimming, AfterTrim, trimCall}
 use Rattle.model.proofs.CasePlans.{resting-at}
 
 abbrev row : ℕ → ℕ → ℕ → Row
@@ -50,7 +50,7 @@ trim-gaps : lent gaps 3 4 5 3 7
     }
 unfolding any every exists howMany passing grow tabulate joined overwrite startOf ordinary answer need _>>_ allCommands rowsFrom firstsFrom
     tablesOf rowAt firstCommand commandCount listAt sizeSound tablesLong rowSound risesAt listSound entrySound listsSound sound stateAt
-    treeOf stateOf planOf left cleared enters entered mapOf newNumber trimState trimTree trimming
+    treeOf stateOf planOf left cleared entersFrom entered mapOf newNumber trimState trimTree trimming
 trim-gaps = refl
 
 -- none to spare
@@ -65,7 +65,7 @@ trim-exact : lent gaps 2 3 4 2 6
     }
 unfolding any every exists howMany passing grow tabulate joined overwrite startOf ordinary answer need _>>_ allCommands rowsFrom firstsFrom
     tablesOf rowAt firstCommand commandCount listAt sizeSound tablesLong rowSound risesAt listSound entrySound listsSound sound stateAt
-    treeOf stateOf planOf left cleared enters entered mapOf newNumber trimState trimTree trimming
+    treeOf stateOf planOf left cleared entersFrom entered mapOf newNumber trimState trimTree trimming
 trim-exact = refl
 
 -- one place too few in each of the tables, and then scratch with a place for each kept state
@@ -73,7 +73,7 @@ trim-cramped : trimming gaps 1 3 4 2 6 ∷ trimming gaps 2 2 4 2 6 ∷ trimming 
     ∷ trimming gaps 2 3 4 2 5 ∷ trimming gaps 2 3 4 2 2 ∷ []
     ≡ replicate 6 (refused Cramped)
 unfolding any every exists howMany passing grow tabulate joined startOf ordinary need _>>_ allCommands tablesOf rowAt firstCommand
-    commandCount listAt sizeSound tablesLong rowSound risesAt listSound entrySound listsSound sound stateAt treeOf stateOf planOf enters
+    commandCount listAt sizeSound tablesLong rowSound risesAt listSound entrySound listsSound sound stateAt treeOf stateOf planOf entersFrom
     entered mapOf newNumber trimState trimTree trimming
 trim-cramped = refl
 
@@ -89,13 +89,13 @@ trim-unwritten : lent gaps 3 4 5 3 5
     }
 unfolding any every exists howMany passing grow tabulate joined startOf ordinary answer need _>>_ allCommands tablesOf rowAt firstCommand
     commandCount listAt sizeSound tablesLong rowSound risesAt listSound entrySound listsSound sound stateAt treeOf stateOf planOf left
-    enters entered mapOf newNumber trimState trimTree trimming
+    entersFrom entered mapOf newNumber trimState trimTree trimming
 trim-unwritten = refl
 
 -- a start that is no state, and no place: unsound before cramped
 trim-unsound : trimming (resting-at 1) 0 0 0 0 0 ∷ trimming (resting-at 0) 0 0 0 0 0 ∷ [] ≡ refused Unsound ∷ refused Cramped ∷ []
 unfolding any every exists howMany passing grow tabulate joined startOf ordinary need _>>_ allCommands tablesOf rowAt firstCommand
-    commandCount listAt sizeSound tablesLong rowSound risesAt listSound entrySound listsSound sound stateAt treeOf stateOf planOf enters
+    commandCount listAt sizeSound tablesLong rowSound risesAt listSound entrySound listsSound sound stateAt treeOf stateOf planOf entersFrom
     entered mapOf newNumber trimState trimTree trimming
 trim-unsound = refl
 
@@ -122,7 +122,7 @@ only kind = record {
 trim-ended : lent (ends-at 0) 1 0 0 1 2 ∷ lent (ends-at 1) 1 0 0 1 2 ∷ lent (ends-at 2) 1 0 0 1 2 ∷ [] ≡ only 0 ∷ only 1 ∷ only 2 ∷ []
 unfolding any every exists howMany passing grow tabulate joined overwrite startOf ordinary answer need _>>_ allCommands rowsFrom firstsFrom
     tablesOf rowAt firstCommand commandCount listAt sizeSound tablesLong rowSound risesAt listSound entrySound listsSound sound stateAt
-    treeOf stateOf planOf left cleared enters entered mapOf newNumber trimState trimTree trimming
+    treeOf stateOf planOf left cleared entersFrom entered mapOf newNumber trimState trimTree trimming
 trim-ended = refl
 
 -- 2 has {3}, 3 has {0}, 0 has {1} and 1 is failing: from 2, every state is entered, the last after three moves
@@ -145,5 +145,5 @@ trim-whole : lent whole 4 3 3 4 4
     }
 unfolding any every exists howMany passing grow tabulate joined overwrite startOf ordinary answer need _>>_ allCommands rowsFrom firstsFrom
     tablesOf rowAt firstCommand commandCount listAt sizeSound tablesLong rowSound risesAt listSound entrySound listsSound sound stateAt
-    treeOf stateOf planOf left cleared enters entered mapOf newNumber trimState trimTree trimming
+    treeOf stateOf planOf left cleared entersFrom entered mapOf newNumber trimState trimTree trimming
 trim-whole = refl

@@ -11,7 +11,7 @@ use Rattle.laws.specs.Lists.{joined}
 use Rattle.laws.proofs.All.{all-of}
 use Rattle.laws.proofs.Counts.{many-yes, many-upto}
 use Rattle.laws.proofs.Joins.{length-joined}
-use Rattle.laws.proofs.Kept.{kept-sum}
+use Rattle.laws.proofs.PassingSums.{passing-sum}
 use Rattle.laws.proofs.Maps.{length-joined-map}
 use Rattle.model.specs.Refusal.{given}
 use Rattle.model.specs.File.{Tree, rising}
@@ -41,14 +41,14 @@ module _ (p : Tree) where
   trim-few-commands : length (allCommands (trimTree p .states)) ≤ length (allCommands (p .states))
   unfolding trimTree mapOf trimState stateOf allCommands
   trim-few-commands =
-      kept-sum (λ s. length (s .commands)) (λ ss. length (allCommands ss)) refl (λ s ss. length-append (s .commands) (allCommands ss))
+      passing-sum (λ s. length (s .commands)) (λ ss. length (allCommands ss)) refl (λ s ss. length-append (s .commands) (allCommands ss))
       (kept p) (λ s. trimState (newNumber p) (stateOf p s)) (p .states) _
       (λ i. le-of-eq (length-map (stateOf p i .commands) (map (newNumber p))))
 
   trim-few-outcomes : length (joined (allCommands (trimTree p .states))) ≤ length (joined (allCommands (p .states)))
   unfolding trimTree mapOf trimState stateOf allCommands joined
   trim-few-outcomes =
-      kept-sum (λ s. length (joined (s .commands))) (λ ss. length (joined (allCommands ss))) refl
+      passing-sum (λ s. length (joined (s .commands))) (λ ss. length (joined (allCommands ss))) refl
       (λ s ss. length-joined (s .commands) (allCommands ss))
       (kept p) (λ s. trimState (newNumber p) (stateOf p s)) (p .states) _
       (λ i. le-of-eq (length-joined-map (newNumber p) (stateOf p i .commands)))

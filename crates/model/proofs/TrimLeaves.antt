@@ -4,8 +4,7 @@ use mathlib.Core.Bool.{true}
 use mathlib.Core.List.{List}
 use Prim.Native.Nat.{ℕ, _<_}
 use lib.ListN.{length, getD, take}
-use lib.Seq.{getD-take}
-use Rattle.laws.proofs.Lists.{take-overwritten}
+use Rattle.laws.proofs.Lists.{take-overwritten, take-written, getD-taken}
 use Rattle.laws.proofs.Parts.{length-heads}
 use Rattle.model.specs.Refusal.{given}
 use Rattle.model.specs.File.{Tree}
@@ -18,7 +17,6 @@ use Rattle.model.proofs.Answers.{answer-inv}
 use Rattle.model.proofs.Layouts.{by-state, by-command}
 use Rattle.model.proofs.SameTables.{held}
 use Rattle.model.proofs.GoodTables.{sound-good, good-sound}
-use Rattle.model.proofs.RoundTrips.{take-written}
 use Rattle.model.proofs.TrimmedPlan.{oldNumber, trim-long}
 use Rattle.model.proofs.TrimGood.{trim-good}
 use Rattle.model.proofs.TrimCalls.{trimming-iff}
@@ -66,9 +64,7 @@ module _ (T : Tables) (rows : List Row) (firsts outcomes olds scratch : List ℕ
   module _ (z : Size) (t : Trims z) where
     -- the map by its places
     pub trimmed-old : (i : ℕ) → i < z .n → getD (trimCall T rows firsts outcomes olds scratch .olds) i 0 ≡ oldNumber (treeOf T) i
-    trimmed-old i l =
-        let left = trimCall T rows firsts outcomes olds scratch .olds in
-        sym (getD-take (z .n) left i 0 l) ∙ ap (λ (r : List ℕ). getD r i 0) (t .map)
+    trimmed-old i l = getD-taken (z .n) (trimCall T rows firsts outcomes olds scratch .olds) (mapOf (treeOf T)) i 0 (t .map) l
 
     -- the tables hold the trimmed plan, and it is sound
     pub trimmed-tree : treeOf (afterTrimming z T rows firsts outcomes olds scratch) ≡ trimTree (treeOf T)

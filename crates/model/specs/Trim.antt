@@ -17,12 +17,12 @@ use Rattle.model.specs.Calls.{left, cleared}
 -- ---- the trimmed plan
 
 -- x is an outcome of some command of an ordinary state of W
-unfoldable pub enters : Plan → (ℕ → Bool) → ℕ → Bool
-enters P W x = exists (λ t. W t && ordinary P t && exists (λ c. any (eqb x) (P .outcomes t c)) (P .commands t)) (P .states)
+unfoldable pub entersFrom : Plan → (ℕ → Bool) → ℕ → Bool
+entersFrom P W x = exists (λ t. W t && ordinary P t && exists (λ c. any (eqb x) (P .outcomes t c)) (P .commands t)) (P .states)
 
 -- rule X1: the states that are entered from the start, whatever is commanded
 unfoldable pub entered : Plan → ℕ → Bool
-entered P = grow (enters P) (eqb (P .start)) (P .states)
+entered P = grow (entersFrom P) (eqb (P .start)) (P .states)
 
 -- rule X2: the new number of a state that is kept: how many of the kept states are below it
 unfoldable pub newNumber : Tree → ℕ → ℕ

@@ -2,10 +2,11 @@
 use mathlib.Core.Path.{_≡_}
 use mathlib.Core.Bool.{true}
 use mathlib.Core.List.{List}
-use Prim.Native.Nat.{ℕ, suc, _+_, _-_, _<_, _≤_}
+use Prim.Native.Nat.{ℕ, suc, _+_, _-_, _≤_}
 use native.Mathlib.Omega.{arith}
+use lib.ListN.{length, length-map}
 use Rattle.laws.specs.Rising.{RisesIn}
-use Rattle.laws.proofs.Starts.{start-le}
+use Rattle.laws.proofs.Starts.{start-order, start-le}
 use Rattle.model.specs.File.{maxStates, maxCommands, maxOutcomes}
 use Rattle.model.specs.Tables.{Lists}
 use Rattle.model.specs.Places.{startIn}
@@ -15,7 +16,7 @@ use Rattle.model.proofs.ListTable.{ListFits, ListsFit, lists-ordered}
 use Rattle.model.proofs.SoundFacts.{sound-facts}
 use Rattle.tables.specs.declared.Row.{Row}
 use Rattle.tables.specs.declared.Size.{Size}
-use Rattle.tables.specs.Meaning.{held}
+use Rattle.tables.specs.Meaning.{held, rowOf}
 use Rattle.tables.specs.Spans.{commandsOf}
 use Rattle.tables.specs.Ready.{Ready}
 
@@ -48,6 +49,16 @@ sound-ready size rows firsts outcomes e =
     let f = sound-facts (held size rows firsts outcomes) .0 e in
     lists-ready (f .size .few) (f .size .few-commands) (f .size .few-outcomes) (f .long .lists) (f .lists)
 
--- a list ends by the end of all
-pub ready-below : {n : ℕ} {L : Lists} → Ready n L → (i : ℕ) → i < L .count → startIn L (suc i) ≤ L .end
-ready-below {n} {L} r i l = start-le (L .firsts) (L .count) (L .end) (r .parts) (suc i) l
+-- its rows are as many as its states
+pub sound-rows : (size : Size) (rows : List Row) (firsts outcomes : List ℕ) → sound (held size rows firsts outcomes) ≡ true
+    → size .n ≤ length rows
+sound-rows size rows firsts outcomes e =
+    omega (arith, length-map rows rowOf, sound-facts (held size rows firsts outcomes) .0 e .long .rows)
+
+-- the places where lists begin rise, and none is past the end of all
+module _ {n : ℕ} {L : Lists} (r : Ready n L) where
+  pub ready-order : (i j : ℕ) → i ≤ j → j ≤ L .count → startIn L i ≤ startIn L j
+  ready-order = start-order (L .firsts) (L .count) (L .end) (r .parts)
+
+  pub ready-end : (i : ℕ) → i ≤ L .count → startIn L i ≤ L .end
+  ready-end = start-le (L .firsts) (L .count) (L .end) (r .parts)

@@ -19,7 +19,7 @@ use Rattle.tables.specs.Meaning.{rowOf, held}
 use Rattle.tables.specs.Spans.{noRow, spanOf, spanAt, failingSpan, spanSound}
 
 module _ (z : Size) (R : List Row) (F O : List ℕ) where
-  row-held : (s : ℕ) → rowAt (held z R F O) s ≡ rowOf (getD R s noRow)
+  pub row-held : (s : ℕ) → rowAt (held z R F O) s ≡ rowOf (getD R s noRow)
   unfolding rowAt
   row-held s = List·getD-map rowOf R s noRow
 

@@ -32,7 +32,8 @@ unfolding tablesOf
 room-for p rows firsts outcomes e = let h = enough-iff (trimmed p .size) rows firsts outcomes .0 e in (h .0 .0, h .0 .1, h .1)
 
 -- rows₀, firsts₀ and outs₀ are the tables before; the loop has come to row i, command m and outcome t
-pub record Copying (p : Tree) (rows₀ : List Row) (firsts₀ outs₀ : List ℕ) (rows : List Row) (firsts outs : List ℕ) (i m t : ℕ) : Type 0 where
+pub record Copying (p : Tree) (rows₀ : List Row) (firsts₀ outs₀ : List ℕ) (rows : List Row) (firsts outs : List ℕ) (i m t : ℕ)
+    : Type 0 where
   pub left : let ss = trimTree p .states in
       let cs : List (List ℕ) = allCommands ss in
       StatesFilling (putAll (rowsOf rows₀) 0 (rowsFrom 0 ss)) (putAll firsts₀ 0 (firstsFrom 0 cs)) (putAll outs₀ 0 (joined cs))
@@ -67,8 +68,18 @@ module _ {p : Tree} {rows₀ : List Row} {firsts₀ outs₀ : List ℕ} where
       copying-room =
           let e = left-next p i l in
           let rest = allCommands (leftFrom p (i + 1)) in (
-            omega (arith, c .left .lists .in-firsts, ap (λ (ss : List State). length (allCommands ss)) e, length-append (trimmedAt p i .commands) rest),
-            omega (arith, c .left .lists .in-outs, ap (λ (ss : List State). length (joined (allCommands ss))) e, length-joined (trimmedAt p i .commands) rest),
+            omega (
+              arith,
+              c .left .lists .in-firsts,
+              ap (λ (ss : List State). length (allCommands ss)) e,
+              length-append (trimmedAt p i .commands) rest,
+            ),
+            omega (
+              arith,
+              c .left .lists .in-outs,
+              ap (λ (ss : List State). length (joined (allCommands ss))) e,
+              length-joined (trimmedAt p i .commands) rest,
+            ),
           )
 
       pub copying-next : {row : Row} {rows′ : List Row} {firsts′ outs′ : List ℕ} {m′ t′ : ℕ}
@@ -79,7 +90,8 @@ module _ {p : Tree} {rows₀ : List Row} {firsts₀ outs₀ : List ℕ} where
       copying-next {m′ = m′} r w f o =
           let ss = leftFrom p (i + 1) in
           let next = states-next (trimmedAt p i) ss (rw (left-next p i l) at (c .left)) r w (f .stored) (o .stored) in
-          let m-is : m + length (trimmedAt p i .commands) ≡ m′ = omega (arith, f .past, length-heads by-command t (trimmedAt p i .commands)) in
+          let m-is : m + length (trimmedAt p i .commands)
+          ≡ m′ = omega (arith, f .past, length-heads by-command t (trimmedAt p i .commands)) in
           record { left = rw (m-is, ← o .past) at next }
 
     pub copying-done : length (trimTree p .states) ≤ i

@@ -1,7 +1,7 @@
 -- The states that the walk over a sound plan ends with are the entered ones.
-use mathlib.Core.Path.{_≡_, ap, _∙_}
+use mathlib.Core.Path.{_≡_}
 use mathlib.Core.Bool.{true}
-use mathlib.Core.List.{List, [], List·Memᴰ, Memᴰ·cast}
+use mathlib.Core.List.{List, [], List·Memᴰ}
 use Prim.Native.Nat.{ℕ, _<_, _≤_}
 use native.Mathlib.Omega.{arith}
 use lib.ListN.{length, getD}
@@ -14,7 +14,7 @@ use Rattle.model.specs.Tables.{Tables}
 use Rattle.model.specs.SoundTest.{sound}
 use Rattle.model.specs.Held.{treeOf, stateOf, planOf, planIn}
 use Rattle.model.specs.Trim.{entered}
-use Rattle.model.proofs.HeldPlan.{tree-count, states-held, start-held}
+use Rattle.model.proofs.HeldPlan.{tree-count}
 use Rattle.model.proofs.Layouts.{by-command}
 use Rattle.model.proofs.Good.{Good}
 use Rattle.model.proofs.GoodTables.{sound-good}
@@ -22,7 +22,7 @@ use Rattle.model.proofs.Valid.{good-valid}
 use Rattle.model.proofs.Entered.{entered-all}
 use Rattle.model.proofs.TrimmedPlan.{kept, start-kept, outcome-kept}
 use Rattle.walks.specs.Flags.{walkedIn}
-use Rattle.trim.proofs.Walking.{Walking, walking-closed}
+use Rattle.walks.proofs.WholeWalks.{WholeWalk, whole-closed}
 
 -- all outcomes of a state, whatever is commanded
 abbrev pub outcomesOf : Tree → ℕ → List ℕ
@@ -46,10 +46,11 @@ module _ (p : Tree) (g : Good p) where
   outcome-entered s x e m = let (c, k, h) = some-command p s x m in outcome-kept p g s c x e k h .1
 
 module _ (T : Tables) (sounds : sound T ≡ true) {f₀ u₀ : List ℕ} {h q : ℕ} {f u : List ℕ}
-    (w : Walking (T .size .n) (T .size .start) (outcomesOf (treeOf T)) f₀ u₀ h q f u) where
+    (w : WholeWalk (T .size .n) (T .size .start) (outcomesOf (treeOf T)) f₀ u₀ h q f u) where
   pub walked-entered : q ≤ h → (s : ℕ) → s < T .size .n → walkedIn f s ≡ entered (planIn T) s
   unfolding planIn planOf treeOf
-  walked-entered k s l = same-test (walkedIn f s) (kept p s) (w .sure (kept p) (start-kept p) (λ t x i e m. outcome-entered p g t x e m) s l) back
+  walked-entered k s l = same-test (walkedIn f s) (kept p s)
+      (w .sure (kept p) (start-kept p) (λ t x i e m. outcome-entered p g t x e m) s l) back
     where
       p : Tree
       p = treeOf T
@@ -59,5 +60,5 @@ module _ (T : Tables) (sounds : sound T ≡ true) {f₀ u₀ : List ℕ} {h q : 
 
       back : kept p s ≡ true → walkedIn f s ≡ true
       back = entered-all (planOf p) (λ x. walkedIn f x ≡ true) (w .start)
-          (λ t c x i r o m n. walking-closed w k t x (omega (arith, tree-count T)) r
+          (λ t c x i r o m n. whole-closed w k t x (omega (arith, tree-count T)) r
           (mem-all by-command (mem-getD (stateOf p t .commands) c [] m) n)) s

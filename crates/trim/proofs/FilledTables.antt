@@ -1,10 +1,10 @@
 -- What is written once there is room, as the definitions have it: tables written from the front, and scratch that is zero again.
-use mathlib.Core.Path.{_≡_, sym, ap, _∙_}
+use mathlib.Core.Path.{_≡_, ap, _∙_}
 use mathlib.Core.Bool.{true}
 use mathlib.Core.List.{List}
-use Prim.Native.Nat.{ℕ, _<_, _≤_}
+use Prim.Native.Nat.{ℕ, _≤_}
 use native.Mathlib.Omega.{arith}
-use lib.ListN.{length, getD, take, length-map}
+use lib.ListN.{length, length-map}
 use Rattle.laws.specs.Filled.{Filled}
 use Rattle.laws.specs.Lists.{overwrite}
 use Rattle.laws.specs.Writes.{putAll}
@@ -23,7 +23,8 @@ use Rattle.trim.proofs.KeptStates.{kept-inside}
 use Rattle.trim.proofs.CopiedStates.{room-for}
 
 -- the trimmed plan's tables
-module _ (p : Tree) (rows : List Row) (firsts outcomes : List ℕ) (room : enough (trimmed p .size) (length rows) (length firsts) (length outcomes) ≡ true) where
+module _ (p : Tree) (rows : List Row) (firsts outcomes : List ℕ)
+    (room : enough (trimmed p .size) (length rows) (length firsts) (length outcomes) ≡ true) where
   pub rows-left : {l : List ModelRow} → l ≡ putAll (rowsOf rows) 0 (trimmed p .rows) → l ≡ overwrite (trimmed p .rows) (rowsOf rows)
   unfolding tablesOf
   rows-left e =
@@ -43,7 +44,8 @@ module _ (p : Tree) (rows : List Row) (firsts outcomes : List ℕ) (room : enoug
   outcomes-left e = e ∙ put-front outcomes (trimmed p .outcomes) (room-for p _ _ _ room .2)
 
 -- scratch has the new numbers in between, at places that are cleared
-pub scratch-left : {p : Tree} {kept : List ℕ} {n : ℕ} → Kept p kept n → (old : ℕ) → length (p .states) ≡ old → {l₀ l l′ : List ℕ} → old ≤ length l₀
+pub scratch-left : {p : Tree} {kept : List ℕ} {n : ℕ} → Kept p kept n → (old : ℕ) → length (p .states) ≡ old → {l₀ l l′ : List ℕ}
+    → old ≤ length l₀
     → Numbered n kept l₀ l → Filled old (λ _. 0) l l′ → l′ ≡ overwrite (cleared old) l₀
 unfolding cleared
 scratch-left k old e {l₀} long w f =

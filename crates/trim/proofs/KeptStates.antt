@@ -5,12 +5,11 @@ use mathlib.Core.List.{List}
 use Prim.Native.Nat.{ℕ, _<_, _≤_}
 use native.Mathlib.Omega.{arith}
 use lib.ListN.{length, getD, take}
-use lib.Seq.{getD-take}
 use Rattle.laws.specs.Sets.{howMany}
 use Rattle.laws.specs.Passing.{passing}
 use Rattle.laws.specs.Writes.{putAll}
 use Rattle.laws.proofs.Sets.{many-bound}
-use Rattle.laws.proofs.Lists.{take-overwritten}
+use Rattle.laws.proofs.Lists.{take-overwritten, getD-taken}
 use Rattle.laws.proofs.Passing.{length-passing, passing-same}
 use Rattle.laws.proofs.Writes.{put-front}
 use Rattle.model.specs.File.{Tree}
@@ -27,7 +26,8 @@ pub listed-kept : (T : Tables) (f : ℕ → Bool) → ((s : ℕ) → s < T .size
 unfolding mapOf planIn
 listed-kept T f same {r} l₀ long e w =
     let n = T .size .n in
-    let is : passing f n ≡ mapOf (treeOf T) = passing-same f (isKept (treeOf T)) n same ∙ ap (passing (isKept (treeOf T))) (sym (tree-count T)) in
+    let is : passing f n ≡ mapOf (treeOf T) = passing-same f (isKept (treeOf T)) n same
+    ∙ ap (passing (isKept (treeOf T))) (sym (tree-count T)) in
     let count : r ≡ length (passing f n) = e ∙ sym (length-passing f n) in
     let room : length (passing f n) ≤ length l₀ = omega (arith, e, count, many-bound f n) in
     record {
@@ -42,7 +42,7 @@ module _ {p : Tree} {kept : List ℕ} {n : ℕ} (k : Kept p kept n) where
 
   -- each stands at its new number
   pub kept-old : (i : ℕ) → i < n → getD kept i 0 ≡ oldNumber p i
-  kept-old i l = sym (getD-take n kept i 0 l) ∙ ap (λ (r : List ℕ). getD r i 0) (k .holds)
+  kept-old i l = getD-taken n kept (mapOf p) i 0 (k .holds) l
 
   -- it is a state of the plan, and they rise
   pub kept-inside : (i : ℕ) → i < n → getD kept i 0 < length (p .states)

@@ -1,9 +1,6 @@
 pub mod Made
-pub mod Places
-pub mod Listed
 pub mod Numbers
 pub mod Stretching
-pub mod Walking
 pub mod EnteredStates
 pub mod KeptStates
 pub mod LeftStates

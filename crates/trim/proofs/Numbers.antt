@@ -13,7 +13,7 @@ use Rattle.laws.proofs.Writes.{ruled, ruled-next, ruled-last, ruled-first}
 use Rattle.trim.specs.Kept.{Numbered}
 
 -- the first n old numbers rise, so no two are the same, and are places of the table
-pub record Rises (n : ℕ) (kept : List ℕ) (places : ℕ) : Type 0 where
+pub record Distinct (n : ℕ) (kept : List ℕ) (places : ℕ) : Type 0 where
   pub inside : (i : ℕ) → i < n → getD kept i 0 < places
   pub rise : (i j : ℕ) → i < j → j < n → getD kept i 0 < getD kept j 0
 
@@ -34,7 +34,7 @@ module _ {kept : List ℕ} {n : ℕ} {olds₀ scratch₀ : List ℕ} where
   }
 
   module _ {olds scratch : List ℕ} {i : ℕ} (c : Numbering kept n olds₀ scratch₀ olds scratch i) where
-    module _ (r : Rises n kept (length scratch₀)) (h : i < n) where
+    module _ (r : Distinct n kept (length scratch₀)) (h : i < n) where
       s : ℕ
       s = getD kept i 0
 
@@ -43,7 +43,8 @@ module _ {kept : List ℕ} {n : ℕ} {olds₀ scratch₀ : List ℕ} where
       next-numbered = record {
         same = length-set scratch s i ∙ c .numbered .same;
         numbers = λ j l. at-place j l (decLt j i);
-        others = λ x new. getD-set-other scratch s x i 0 (λ e. new i (omega arith) (sym e)) ∙ c .numbered .others x (λ j l. new j (omega arith));
+        others = λ x new. getD-set-other scratch s x i 0 (λ e. new i (omega arith) (sym e))
+            ∙ c .numbered .others x (λ j l. new j (omega arith));
       }
         where
           at-place : (j : ℕ) → j < i + 1 → Dec (j < i) → getD (set scratch s i) (getD kept j 0) 0 ≡ j
@@ -53,12 +54,12 @@ module _ {kept : List ℕ} {n : ℕ} {olds₀ scratch₀ : List ℕ} where
               let e : j ≡ i = omega arith in
               rw e (getD-set-same scratch s i 0 (omega (arith, c .numbered .same, r .inside i h)))
 
-      pub numbering-next : {x y : ℕ} {olds′ scratch′ : List ℕ} → olds′ ≡ set olds i x → x ≡ getD kept i 0
-          → y ≡ getD kept i 0 → scratch′ ≡ set scratch y i → Numbering kept n olds₀ scratch₀ olds′ scratch′ (i + 1)
+      pub numbering-next : {x : ℕ} {olds′ scratch′ : List ℕ} → x ≡ getD kept i 0 → olds′ ≡ set olds i x → scratch′ ≡ set scratch x i
+          → Numbering kept n olds₀ scratch₀ olds′ scratch′ (i + 1)
       unfolding s
-      numbering-next {x} o v w z = rw (o, z, w) (record {
-        same = length-set olds i x ∙ c .same;
-        left = ruled-next (λ j. getD kept j 0) n i olds h v ∙ c .left;
+      numbering-next v o z = rw (o, z, v) (record {
+        same = length-set olds i s ∙ c .same;
+        left = ruled-next (λ j. getD kept j 0) n i olds h refl ∙ c .left;
         numbered = next-numbered;
         high = omega arith;
       })

@@ -37,7 +37,8 @@ module _ (T : Tables) (rows : List Row) (firsts outs olds scratch : List ℕ) wh
   replied r rows′ firsts′ outs′ olds′ scratch′ e = (
     e,
     λ z g.
-        subst (λ (x : AfterTrim). Trimmed T (record { size = z; rows = x .rows; firsts = x .firsts; outcomes = x .outcomes }) (x .olds)) (sym e)
+        subst (λ (x : AfterTrim). Trimmed T (record { size = z; rows = x .rows; firsts = x .firsts; outcomes = x .outcomes }) (x .olds))
+        (sym e)
         (trimmed-tables T (rowsOf rows) firsts outs olds scratch z (sym (ap (λ (x : AfterTrim). x .answers) e) ∙ g)),
   )
 
@@ -49,11 +50,13 @@ module _ (T : Tables) (rows : List Row) (firsts outs olds scratch : List ℕ) wh
   -- z is the trimmed size record, and r whether there is room for it
   module _ (sounds : sound T ≡ true) {z : Size} (is : numbers z ≡ trimmed (treeOf T) .size) {r : Bool}
       (e : r ≡ trimRoom (numbers z) (T .size .n) (length rows) (length firsts) (length outs) (length olds) (length scratch)) where
-    judged : trimming T (length (rowsOf rows)) (length firsts) (length outs) (length olds) (length scratch) ≡ (need ModelRefusal.Cramped r >> given (treeOf T))
+    judged : trimming T (length (rowsOf rows)) (length firsts) (length outs) (length olds) (length scratch)
+        ≡ (need ModelRefusal.Cramped r >> given (treeOf T))
     unfolding trimming need _>>_
     judged =
         let same : r
-        ≡ trimRoom (trimmed (treeOf T) .size) (T .size .n) (length (rowsOf rows)) (length firsts) (length outs) (length olds) (length scratch)
+        ≡ trimRoom (trimmed (treeOf T) .size) (T .size .n) (length (rowsOf rows)) (length firsts) (length outs) (length olds)
+        (length scratch)
         = e ∙ rw (← is, length-map rows rowOf) in
         rw (sounds, same)
 
@@ -61,7 +64,8 @@ module _ (T : Tables) (rows : List Row) (firsts outs olds scratch : List ℕ) wh
     pub refuses-cramped : r ≡ false → Replied (Refused Cramped) rows firsts outs olds scratch
     unfolding need _>>_ answer left
     refuses-cramped f =
-        let t : trimming T (length (rowsOf rows)) (length firsts) (length outs) (length olds) (length scratch) ≡ refused ModelRefusal.Cramped
+        let t : trimming T (length (rowsOf rows)) (length firsts) (length outs) (length olds) (length scratch)
+        ≡ refused ModelRefusal.Cramped
         = judged ∙ rw f in
         replied (Refused Cramped) rows firsts outs olds scratch (rw t)
 
@@ -91,5 +95,6 @@ module _ (T : Tables) (rows : List Row) (firsts outs olds scratch : List ℕ) wh
         → scratch′ ≡ overwrite (cleared (T .size .n)) scratch → Replied (Given z) rows′ firsts′ outs′ olds′ scratch′
     unfolding need _>>_ answer left
     gives f rows′ {firsts′} {outs′} {olds′} {scratch′} rows-are firsts-are outs-are olds-are scratch-is =
-        let t : trimming T (length (rowsOf rows)) (length firsts) (length outs) (length olds) (length scratch) ≡ given (treeOf T) = judged ∙ rw f in
+        let t : trimming T (length (rowsOf rows)) (length firsts) (length outs) (length olds) (length scratch) ≡ given (treeOf T) = judged
+        ∙ rw f in
         replied (Given z) rows′ firsts′ outs′ olds′ scratch′ (rw (t, is, rows-are, firsts-are, outs-are, olds-are, scratch-is))

@@ -22,13 +22,13 @@ use Rattle.tables.specs.declared.Row.{Row}
 use Rattle.tables.specs.Meaning.{held}
 use Rattle.tables.specs.Ready.{Ready}
 use Rattle.tables.specs.Spans.{commandsOf}
-use Rattle.tables.proofs.Readiness.{sound-ready}
-use Rattle.tables.proofs.Stretches.{stretch-order, stretch-end, stretch, stretch-firsts}
+use Rattle.tables.proofs.Readiness.{sound-ready, ready-order, ready-end}
+use Rattle.tables.proofs.Stretches.{stretch, stretch-firsts}
 use Rattle.trim.specs.declared.stretches.Stretch.{Stretch}
 use Rattle.trim.specs.Stretches.{stretchAt}
 
 -- the commands cs lie in the stretch r
-pub record Lies (size : Size) (firsts outcomes : List ℕ) (cs : List (List ℕ)) (r : Stretch) : Type 0 where
+pub record InStretch (size : Size) (firsts outcomes : List ℕ) (cs : List (List ℕ)) (r : Stretch) : Type 0 where
   pub rises : r .first ≤ r .end
   pub below : r .end ≤ size .m
   pub order : r .from ≤ r .to
@@ -48,15 +48,16 @@ module _ (size : Size) (rows : List Row) (firsts outcomes : List ℕ) (sounds : 
 
   module _ (a k : ℕ) (h : a + k ≤ size .m) where
     -- k commands from command a on
-    lies : Lies size firsts outcomes (tabulate (listAt L) a k) (record { first = a; end = a + k; from = startIn L a; to = startIn L (a + k) })
-    lies =
+    run-stretch : InStretch size firsts outcomes (tabulate (listAt L) a k)
+        (record { first = a; end = a + k; from = startIn L a; to = startIn L (a + k) })
+    run-stretch =
         let count : a + k - a ≡ k = omega arith in
-        let within = stretch-end L ready (a + k) h in
+        let within = ready-end ready (a + k) h in
         let outs = stretch L ready a k h in
         record {
           rises = omega arith;
           below = h;
-          order = stretch-order L ready a (a + k) (omega arith) h;
+          order = ready-order ready a (a + k) (omega arith) h;
           within = within;
           count = count ∙ sym (length-tabulate (listAt L) a k);
           outs = sym outs;
@@ -66,19 +67,19 @@ module _ (size : Size) (rows : List Row) (firsts outcomes : List ℕ) (sounds : 
               ∙ ap (tabulate (λ c. getD firsts c 0 - startIn L a + t) a) (sym count);
           each = λ c low high.
               let is = start-in firsts (size .m) (size .t) c (omega arith) in (
-                rw (← is) (stretch-order L ready a c low (omega arith)),
-                rw (← is) (stretch-order L ready c (a + k) (omega arith) h),
+                rw (← is) (ready-order ready a c low (omega arith)),
+                rw (← is) (ready-order ready c (a + k) (omega arith) h),
               );
         }
 
   -- those of the state s
-  pub state-lies : (s : ℕ) → s < size .n → {r : Stretch} → r ≡ stretchAt (held size rows firsts outcomes) s
-      → Lies size firsts outcomes (stateOf (treeOf (held size rows firsts outcomes)) s .commands) r
+  pub state-stretch : (s : ℕ) → s < size .n → {r : Stretch} → r ≡ stretchAt (held size rows firsts outcomes) s
+      → InStretch size firsts outcomes (stateOf (treeOf (held size rows firsts outcomes)) s .commands) r
   unfolding stateAt commandCount
-  state-lies s l is =
+  state-stretch s l is =
       let T = held size rows firsts outcomes in
       let fits = sound-facts T .0 sounds .rows s l in
       let k = firstCommand T (suc s) - firstCommand T s in
       let past : firstCommand T s + k ≡ firstCommand T (s + 1) = omega (arith, fits .rises, ap (firstCommand T) (add-one s)) in
       rw (is, ap (λ (q : State). q .commands) (state-held T s l), ← past)
-      (lies (firstCommand T s) k (omega (arith, fits .rises, fits .below)))
+      (run-stretch (firstCommand T s) k (omega (arith, fits .rises, fits .below)))

@@ -98,7 +98,8 @@ pub fn copy_states(
     requires { ⌜ sound (held size (now rows) (now firsts) (now outcomes)) ≡ true ⌝ }
     requires { ⌜ Kept (treeOf (held size (now rows) (now firsts) (now outcomes))) (now kept) n × (n ≤ length (now kept)) ⌝ }
     requires { ⌜ (size .n ≤ length (now numbers)) × ((i : ℕ) → i < n → getD (now numbers) (getD (now kept) i 0) 0 ≡ i) ⌝ }
-    requires { ⌜ enough (trimmed (treeOf (held size (now rows) (now firsts) (now outcomes))) .size) (length (now rows2)) (length (now firsts2))
+    requires { ⌜ enough (trimmed (treeOf (held size (now rows) (now firsts) (now outcomes))) .size) (length (now rows2))
+        (length (now firsts2))
         (length (now outcomes2)) ≡ true ⌝ }
     ensures rows { λ _. ⌜ rowsOf (now (rows2 .exit)) ≡ putAll (rowsOf (now (rows2 .entry))) 0
         (trimmed (treeOf (held size (now (rows .entry)) (now (firsts .entry)) (now (outcomes .entry)))) .rows) ⌝ }

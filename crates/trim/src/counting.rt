@@ -1,8 +1,10 @@
 // The trimmed plan's size record, and whether there is room for it.
 ghost use mathlib.Core.Path.{_≡_};
-ghost use mathlib.Core.Bool.{true};
+ghost use mathlib.Core.Bool.{true, not};
 ghost use Prim.Native.Nat.{ℕ, _<_, _≤_};
+ghost use lib.Dec.{eqb};
 ghost use lib.ListN.{length, getD};
+ghost use Rattle.laws.specs.First.{FirstNot};
 ghost use Rattle.model.specs.SoundTest.{sound};
 ghost use Rattle.model.specs.Held.{treeOf};
 ghost use Rattle.model.specs.Trim.{trimmed, trimRoom};
@@ -17,7 +19,8 @@ use tables::entries::at;
 // The first place of x, which has one.
 fn place_of(kept: &[u16], x: usize) -> usize
     requires { ⌜ ((k : ℕ) × (k < length (now kept)) × (getD (now kept) k 0 ≡ x)) ⌝ }
-    ensures { λ r. ⌜ (getD (now (kept .entry)) r 0 ≡ x) × ((i : ℕ) → i < r → getD (now (kept .entry)) i 0 ≡ x → ⊥) ⌝ }
+    ensures { λ r. ⌜ FirstNot (λ i. not (eqb (getD (now (kept .entry)) i 0) x)) 0 (length (now (kept .entry))) r ⌝ }
+    ensures { λ r. ⌜ r < length (now (kept .entry)) ⌝ }
 {
     let mut i = 0;
     while at(kept, i) != x {
@@ -66,7 +69,8 @@ pub fn has_room(
     if !long_enough(size, rows, firsts, outcomes) {
         return false;
     }
-    if olds < size.n {
+    let n = size.n;
+    if olds < n {
         return false;
     }
     old <= scratch

@@ -32,7 +32,8 @@ pub fn fill_trimmed(
 )
     requires { ⌜ sound (held size (now rows) (now firsts) (now outcomes)) ≡ true ⌝ }
     requires { ⌜ Kept (treeOf (held size (now rows) (now firsts) (now outcomes))) (now kept) n × (n ≤ length (now kept)) ⌝ }
-    requires { ⌜ enough (trimmed (treeOf (held size (now rows) (now firsts) (now outcomes))) .size) (length (now rows2)) (length (now firsts2))
+    requires { ⌜ enough (trimmed (treeOf (held size (now rows) (now firsts) (now outcomes))) .size) (length (now rows2))
+        (length (now firsts2))
         (length (now outcomes2)) ≡ true ⌝ }
     requires { ⌜ (n ≤ length (now olds)) × (size .n ≤ length (now scratch)) ⌝ }
     ensures rows { λ _. ⌜

@@ -44,7 +44,8 @@ pub fn trim(
     ensures call { λ r. ⌜
         (let T = held size (now (rows .entry)) (now (firsts .entry)) (now (outcomes .entry)) in
         afterTrim r (now (rows2 .exit)) (now (firsts2 .exit)) (now (outcomes2 .exit)) (now (olds .exit)) (now (scratch .exit))
-        ≡ trimCall T (rowsOf (now (rows2 .entry))) (now (firsts2 .entry)) (now (outcomes2 .entry)) (now (olds .entry)) (now (scratch .entry)))
+        ≡ trimCall T (rowsOf (now (rows2 .entry))) (now (firsts2 .entry)) (now (outcomes2 .entry)) (now (olds .entry))
+        (now (scratch .entry)))
         ⌝ }
     ensures trimmed { λ r. ⌜
         (let T = held size (now (rows .entry)) (now (firsts .entry)) (now (outcomes .entry)) in

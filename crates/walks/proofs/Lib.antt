@@ -3,3 +3,4 @@ pub mod Room
 pub mod Spreads
 pub mod Reaching
 pub mod Spreading
+pub mod WholeWalks

@@ -15,7 +15,7 @@ use Rattle.model.specs.Bytes.{commandsBytes}
 use Rattle.model.specs.Tables.{Lists}
 use Rattle.model.specs.Places.{startIn, listAt}
 use Rattle.tables.specs.Ready.{Ready}
-use Rattle.tables.proofs.Readiness.{ready-below}
+use Rattle.tables.proofs.Readiness.{ready-end}
 
 -- one command, of the outcomes from a place up to an end
 module _ (outcomes : List ℕ) (from end : ℕ) (h : end ≤ length outcomes) where
@@ -40,7 +40,7 @@ module _ {n : ℕ} {L : Lists} (k : Ready n L) where
     rises = omega (arith, p, rw add-one at q, k .parts .rises c (lt-of-lt-of-le h l))
 
     below : end ≤ L .end
-    below = omega (arith, rw add-one at q, ready-below k c (lt-of-lt-of-le h l))
+    below = omega (arith, rw add-one at q, ready-end k (suc c) (lt-of-lt-of-le h l))
 
     inside : end ≤ length (L .entries)
     inside = omega (arith, below, k .states .long)

@@ -70,7 +70,8 @@ returns-2 c =
     let past-if1 = past-count .before .before .before .before .before in
     let entry = past-if1-to-entry past-if1 in
     let a = entry .args in
-    refuses-cramped (tablesIn entry) (a .rows2 .now) (a .firsts2 .now) (a .outcomes2 .now) (a .olds .now) (a .scratch .now) (sounds past-if1)
+    refuses-cramped (tablesIn entry) (a .rows2 .now) (a .firsts2 .now) (a .outcomes2 .now) (a .olds .now) (a .scratch .now)
+    (sounds past-if1)
     (past-count .count .ensures) (c .before .has-room .ensures) (not-true _ (c .if2 .taken))
 
 slice-aggregate-fill-trimmed : tie.Need-slice-aggregate-fill-trimmed
@@ -85,7 +86,8 @@ fill-trimmed-requires c κs =
     let entry = past-if1-to-entry past-if1 in
     let a = entry .args in
     let k = past-keep .keep .ensures in
-    let long = room (tablesIn entry) (a .rows2 .now) (a .firsts2 .now) (a .outcomes2 .now) (a .olds .now) (a .scratch .now) (sounds past-if1)
+    let long = room (tablesIn entry) (a .rows2 .now) (a .firsts2 .now) (a .outcomes2 .now) (a .olds .now) (a .scratch .now)
+    (sounds past-if1)
     (past-count .count .ensures) (past-if2 .before .has-room .ensures) (not-false _ (past-if2 .if2 .left)) in (
       sounds past-if1,
       (
@@ -124,5 +126,7 @@ returns-3 c =
     (filled .1 .1 .0) (filled .1 .1 .1 .0) (filled .1 .1 .1 .1)
 
 pub trim-spec : {M : Type 1} → statement M
-trim-spec = tie.close (tie.spec sound-requires returns slice-aggregate-keep keep-requires slice-aggregate-count count-requires has-room-requires
-    returns-2 slice-aggregate-fill-trimmed fill-trimmed-requires same-length same-length-2 same-length-3 same-length-4 same-length-5 returns-3)
+trim-spec = tie.close
+    (tie.spec sound-requires returns slice-aggregate-keep keep-requires slice-aggregate-count count-requires has-room-requires
+    returns-2 slice-aggregate-fill-trimmed fill-trimmed-requires same-length same-length-2 same-length-3 same-length-4 same-length-5
+    returns-3)

@@ -3,7 +3,7 @@ use mathlib.Core.Path.{ap}
 use Prim.Native.Nat.{ℕ, _+_, _-_}
 use native.Mathlib.Omega.{arith}
 use lib.ListN.{getD}
-use Rattle.laws.proofs.Copies.{Copies, copies-start, copies-room, copies-next, copies-done}
+use Rattle.laws.proofs.EntryCopies.{Copies, copies-start, copies-room, copies-next, copies-done}
 use Rattle.trim.proofs.copying.copy_firsts.Statement.{statement}
 use Rattle.trim.proofs.copying.copy_firsts.Tie as tie
 
@@ -14,7 +14,7 @@ abbrev μ-loop : tie.MeasureT-loop
 μ-loop firsts firsts2₀ first end m from t e₀ c₀ firsts2 e c = end - c
 
 loop-holds : tie.Need-loop-holds Inv-loop μ-loop
-loop-holds c = copies-start (c .before .before .pre .0 .0)
+loop-holds c = copies-start (c .before .before .pre .0 .2)
 
 at-requires : tie.Need-at-requires Inv-loop μ-loop
 at-requires c κs = omega (arith, c .before .before .before .before .before .pre .0 .1)
@@ -36,7 +36,7 @@ put-requires c κs =
     let turn = c .before .before .before in
     let entry = turn .before .before .before in
     let in-range = c .before .before .loop-test .taken in
-    (copies-room (turn .loop .inv) (entry .pre .0 .2) in-range, rw (c .at .ensures) (entry .pre .1 _ (turn .loop .inv .low) in-range .1))
+    (copies-room (turn .loop .inv) in-range, omega (arith, c .at .ensures, entry .pre .1 _ (turn .loop .inv .low) in-range .1))
 
 add-e : tie.Need-add-e Inv-loop μ-loop
 add-e c = omega (arith, c .before .firsts2)
@@ -57,7 +57,7 @@ loop-again c =
     (ap (λ (x : ℕ). x - a .from + a .t) (past-at .at .ensures)) (past-put .put .ensures)
 
 same-length : tie.Need-same-length Inv-loop μ-loop
-same-length c = c .before .loop .inv .same
+same-length c = c .before .loop .inv .turn .same
 
 returns : tie.Need-returns Inv-loop μ-loop
 returns c = copies-done (c .before .loop .inv) (c .loop-test .left)

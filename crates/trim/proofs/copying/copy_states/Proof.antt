@@ -14,11 +14,11 @@ use Rattle.model.proofs.TrimmedPlan.{oldNumber}
 use Rattle.model.proofs.TrimGood.{trim-good}
 use Rattle.tables.specs.declared.Row.{Row}
 use Rattle.tables.specs.Meaning.{held, rowOf}
-use Rattle.tables.proofs.Readiness.{sound-ready}
+use Rattle.tables.proofs.Readiness.{sound-ready, sound-rows}
 use Rattle.trim.specs.Kept.{rowAfter}
 use Rattle.trim.proofs.KeptStates.{kept-count}
-use Rattle.trim.proofs.KeptStretches.{long-rows, long-firsts, kept-old-is, kept-in-plan, kept-lies}
-use Rattle.trim.proofs.Stretching.{Lies}
+use Rattle.trim.proofs.KeptStretches.{kept-old-is, kept-in-plan, kept-stretch}
+use Rattle.trim.proofs.Stretching.{InStretch}
 use Rattle.trim.proofs.LeftStates.{trimmed-commands, trimmed-outcomes}
 use Rattle.trim.proofs.Copied.{row-copied, firsts-copied, outcomes-copied}
 use Rattle.trim.proofs.CopiedStates.{
@@ -56,32 +56,33 @@ abbrev treeIn : tie.Start Inv-loop μ-loop → Tree
 treeIn c = treeOf (held (c .args .size) (c .args .rows .now) (c .args .firsts .now) (c .args .outcomes .now))
 
 -- the next state is one of the trimmed plan's, and a state of the plan
-new-state : (c : tie.After-at Inv-loop μ-loop) → past-at-to-turn c .loop .i < length (trimTree (treeIn (turn-to-entry (past-at-to-turn c))) .states)
+new-state : (c : tie.After-at Inv-loop μ-loop)
+    → past-at-to-turn c .loop .i < length (trimTree (treeIn (turn-to-entry (past-at-to-turn c))) .states)
 new-state c = omega (arith, c .before .loop-test .taken, kept-count (turn-to-entry (past-at-to-turn c) .pre .1 .0 .0))
 
 in-plan : (c : tie.After-at Inv-loop μ-loop) → c .at .result < turn-to-entry (past-at-to-turn c) .args .size .n
 in-plan c =
     let entry = turn-to-entry (past-at-to-turn c) in
     let a = entry .args in
-    kept-in-plan (a .size) (a .rows .now) (a .firsts .now) (a .outcomes .now) (entry .pre .0) (entry .pre .1 .0 .0) _
+    kept-in-plan (a .size) (a .rows .now) (a .firsts .now) (a .outcomes .now) (entry .pre .1 .0 .0) _
     (c .before .loop-test .taken) (c .at .ensures)
 
 -- where its commands lie
-abbrev LiesHere : tie.After-stretch-at Inv-loop μ-loop → Type 0
-LiesHere c =
+abbrev StretchHere : tie.After-stretch-at Inv-loop μ-loop → Type 0
+StretchHere c =
     let turn = past-at-to-turn (past-stretch-at-to-at c) in
     let entry = turn-to-entry turn in
     let a = entry .args in
-    Lies (a .size) (a .firsts .now) (a .outcomes .now) (stateOf (treeIn entry) (oldNumber (treeIn entry) (turn .loop .i)) .commands)
+    InStretch (a .size) (a .firsts .now) (a .outcomes .now) (stateOf (treeIn entry) (oldNumber (treeIn entry) (turn .loop .i)) .commands)
     (c .stretch-at .result)
 
-lies-here : (c : tie.After-stretch-at Inv-loop μ-loop) → LiesHere c
-lies-here c =
+stretch-here : (c : tie.After-stretch-at Inv-loop μ-loop) → StretchHere c
+stretch-here c =
     let past-at = past-stretch-at-to-at c in
     let entry = turn-to-entry (past-at-to-turn past-at) in
     let a = entry .args in
-    kept-lies (a .size) (a .rows .now) (a .firsts .now) (a .outcomes .now) (entry .pre .0) (entry .pre .1 .0 .0) _
-    (past-at .before .loop-test .taken) (past-at .at .ensures) (c .stretch-at .ensures (a .outcomes .now))
+    kept-stretch (a .size) (a .rows .now) (a .firsts .now) (a .outcomes .now) (entry .pre .1 .0 .0) _
+    (past-at .before .loop-test .taken) (past-at .at .ensures) (entry .pre .0) (c .stretch-at .ensures (a .outcomes .now))
 
 -- there is room
 abbrev RoomFor : tie.Start Inv-loop μ-loop → Type 0
@@ -103,7 +104,7 @@ row-at-requires : tie.Need-row-at-requires Inv-loop μ-loop
 row-at-requires c κs =
     let entry = turn-to-entry (past-at-to-turn c) in
     let a = entry .args in
-    omega (arith, in-plan c, long-rows (a .size) (a .rows .now) (a .firsts .now) (a .outcomes .now) (entry .pre .0))
+    omega (arith, in-plan c, sound-rows (a .size) (a .rows .now) (a .firsts .now) (a .outcomes .now) (entry .pre .0))
 
 row-after-requires : tie.Need-row-after-requires Inv-loop μ-loop
 row-after-requires c κs =
@@ -122,8 +123,8 @@ stretch-at-requires c κs =
     let entry = turn-to-entry (past-at-to-turn past-at) in
     let a = entry .args in (
       in-plan past-at,
-      long-rows (a .size) (a .rows .now) (a .firsts .now) (a .outcomes .now) (entry .pre .0),
-      long-firsts (a .size) (a .rows .now) (a .firsts .now) (a .outcomes .now) (entry .pre .0),
+      sound-rows (a .size) (a .rows .now) (a .firsts .now) (a .outcomes .now) (entry .pre .0),
+      sound-ready (a .size) (a .rows .now) (a .firsts .now) (a .outcomes .now) (entry .pre .0) .long-firsts,
     )
 
 copy-firsts-requires : tie.Need-copy-firsts-requires Inv-loop μ-loop
@@ -133,12 +134,12 @@ copy-firsts-requires c κs =
     let entry = turn-to-entry turn in
     let a = entry .args in
     let v = turn .loop .inv in
-    let here = lies-here (c .before) in
+    let here = stretch-here (c .before) in
     let next = copying-room v (new-state past-at) in
     let all = trim-good _ (sound-good _ (entry .pre .0)) in (
       (
         here .rises,
-        omega (arith, here .below, long-firsts (a .size) (a .rows .now) (a .firsts .now) (a .outcomes .now) (entry .pre .0)),
+        omega (arith, here .below, sound-ready (a .size) (a .rows .now) (a .firsts .now) (a .outcomes .now) (entry .pre .0) .long-firsts),
         omega (arith, here .count, trimmed-commands (treeIn entry) (turn .loop .i), next .0, room entry .1, copying-firsts v),
       ),
       λ d low high.
@@ -154,7 +155,7 @@ copy-outcomes-requires c κs =
     let entry = turn-to-entry turn in
     let a = entry .args in
     let v = turn .loop .inv in
-    let here = lies-here past-stretch-at in
+    let here = stretch-here past-stretch-at in
     let ready = sound-ready (a .size) (a .rows .now) (a .firsts .now) (a .outcomes .now) (entry .pre .0) in (
       (
         here .order,
@@ -190,18 +191,20 @@ loop-again c =
     let a = entry .args in
     let l = past-at .before .loop-test .taken in
     let k = entry .pre .1 .0 .0 in
-    let here = lies-here past-stretch-at in
+    let here = stretch-here past-stretch-at in
     let ready = sound-ready (a .size) (a .rows .now) (a .firsts .now) (a .outcomes .now) (entry .pre .0) in
-    let row = past-row-after .row-after .ensures ∙ ap (λ (w : Row). rowAfter w (turn .loop .m)) (past-row-after .before .before .row-at .ensures) in
+    let row = past-row-after .row-after .ensures
+    ∙ ap (λ (w : Row). rowAfter w (turn .loop .m)) (past-row-after .before .before .row-at .ensures) in
     copying-next (turn .loop .inv) (new-state past-at)
     (ap rowOf row
-    ∙ row-copied (a .size) (a .rows .now) (a .firsts .now) (a .outcomes .now) (entry .pre .0) _ _ (turn .loop .m)
-    (kept-old-is (a .size) (a .rows .now) (a .firsts .now) (a .outcomes .now) (entry .pre .0) k _ l (past-at .at .ensures)) (in-plan past-at))
+    ∙ row-copied (a .size) (a .rows .now) (a .firsts .now) (a .outcomes .now) _ _ (turn .loop .m)
+    (kept-old-is (a .size) (a .rows .now) (a .firsts .now) (a .outcomes .now) k _ l (past-at .at .ensures)) (in-plan past-at))
     (past-stretch-at .before .before .put-row .ensures)
-    (rw (firsts-copied (a .size) (a .rows .now) (a .firsts .now) (a .outcomes .now) (entry .pre .0) (a .numbers .now) k (entry .pre .1 .1 .0 .1) _
-    (new-state past-at) here (turn .loop .t)) at (past-copy-firsts .copy-firsts .ensures))
-    (rw (outcomes-copied (a .size) (a .rows .now) (a .firsts .now) (a .outcomes .now) (entry .pre .0) (a .numbers .now) k (entry .pre .1 .1 .0 .1) _
-    (new-state past-at) here (ready .states .long)) at (c .before .before .copy-outcomes .ensures))
+    (rw (firsts-copied (a .size) (a .rows .now) (a .firsts .now) (a .outcomes .now) _ (turn .loop .t) here)
+    at (past-copy-firsts .copy-firsts .ensures))
+    (rw (outcomes-copied (a .size) (a .rows .now) (a .firsts .now) (a .outcomes .now) (entry .pre .0) (a .numbers .now) k
+    (entry .pre .1 .1 .0 .1) _ (new-state past-at) here (ready .states .long))
+    at (c .before .before .copy-outcomes .ensures))
 
 same-length : tie.Need-same-length Inv-loop μ-loop
 same-length c = copying-rows (c .before .loop .inv)
@@ -217,4 +220,5 @@ returns c = copying-done (c .before .loop .inv) (omega (arith, c .loop-test .lef
 
 pub copy-states-spec : {M : Type 1} → statement M
 copy-states-spec = tie.close (tie.spec Inv-loop μ-loop loop-holds at-requires row-at-requires row-after-requires put-row-requires
-    stretch-at-requires copy-firsts-requires copy-outcomes-requires add-i loop-less loop-again same-length same-length-2 same-length-3 returns)
+    stretch-at-requires copy-firsts-requires copy-outcomes-requires add-i loop-less loop-again same-length same-length-2 same-length-3
+    returns)

@@ -10,9 +10,10 @@ use Rattle.model.proofs.Good.{Good}
 use Rattle.model.proofs.GoodTables.{sound-good}
 use Rattle.model.proofs.TrimmedPlan.{oldNumber}
 use Rattle.tables.specs.Meaning.{held}
+use Rattle.tables.proofs.Readiness.{sound-ready, sound-rows}
 use Rattle.trim.proofs.KeptStates.{kept-count}
-use Rattle.trim.proofs.Stretching.{Lies}
-use Rattle.trim.proofs.KeptStretches.{long-rows, long-firsts, kept-in-plan, kept-lies}
+use Rattle.trim.proofs.Stretching.{InStretch}
+use Rattle.trim.proofs.KeptStretches.{kept-in-plan, kept-stretch}
 use Rattle.trim.proofs.Counted.{
   Counting,
   counting-start,
@@ -42,20 +43,20 @@ past-stretch-at-to-turn c = c .before .before .before
 abbrev treeIn : tie.Start Inv-loop μ-loop → Tree
 treeIn c = treeOf (held (c .args .size) (c .args .rows .now) (c .args .firsts .now) (c .args .outcomes .now))
 
-abbrev LiesHere : tie.After-stretch-at Inv-loop μ-loop → Type 0
-LiesHere c =
+abbrev StretchHere : tie.After-stretch-at Inv-loop μ-loop → Type 0
+StretchHere c =
     let turn = past-stretch-at-to-turn c in
     let entry = turn-to-entry turn in
     let a = entry .args in
-    Lies (a .size) (a .firsts .now) (a .outcomes .now) (stateOf (treeIn entry) (oldNumber (treeIn entry) (turn .loop .i)) .commands)
+    InStretch (a .size) (a .firsts .now) (a .outcomes .now) (stateOf (treeIn entry) (oldNumber (treeIn entry) (turn .loop .i)) .commands)
     (c .stretch-at .result)
 
-lies-here : (c : tie.After-stretch-at Inv-loop μ-loop) → LiesHere c
-lies-here c =
+stretch-here : (c : tie.After-stretch-at Inv-loop μ-loop) → StretchHere c
+stretch-here c =
     let entry = turn-to-entry (past-stretch-at-to-turn c) in
     let a = entry .args in
-    kept-lies (a .size) (a .rows .now) (a .firsts .now) (a .outcomes .now) (entry .pre .0) (entry .pre .1 .0) _
-    (c .before .before .loop-test .taken) (c .before .at .ensures) (c .stretch-at .ensures (a .outcomes .now))
+    kept-stretch (a .size) (a .rows .now) (a .firsts .now) (a .outcomes .now) (entry .pre .1 .0) _
+    (c .before .before .loop-test .taken) (c .before .at .ensures) (entry .pre .0) (c .stretch-at .ensures (a .outcomes .now))
 
 abbrev Next : tie.After-stretch-at Inv-loop μ-loop → Type 0
 Next c =
@@ -66,7 +67,8 @@ Next c =
 next : (c : tie.After-stretch-at Inv-loop μ-loop) → Next c
 next c =
     let turn = past-stretch-at-to-turn c in
-    counting-next (turn .loop .inv) (omega (arith, c .before .before .loop-test .taken, kept-count (turn-to-entry turn .pre .1 .0))) (lies-here c)
+    counting-next (turn .loop .inv) (omega (arith, c .before .before .loop-test .taken, kept-count (turn-to-entry turn .pre .1 .0)))
+    (stretch-here c)
 
 good : (c : tie.Start Inv-loop μ-loop) → Good (treeIn c)
 good c = sound-good _ (c .pre .0)
@@ -81,20 +83,20 @@ stretch-at-requires : tie.Need-stretch-at-requires Inv-loop μ-loop
 stretch-at-requires c κs =
     let entry = turn-to-entry (c .before .before) in
     let a = entry .args in (
-      kept-in-plan (a .size) (a .rows .now) (a .firsts .now) (a .outcomes .now) (entry .pre .0) (entry .pre .1 .0) _ (c .before .loop-test .taken)
+      kept-in-plan (a .size) (a .rows .now) (a .firsts .now) (a .outcomes .now) (entry .pre .1 .0) _ (c .before .loop-test .taken)
           (c .at .ensures),
-      long-rows (a .size) (a .rows .now) (a .firsts .now) (a .outcomes .now) (entry .pre .0),
-      long-firsts (a .size) (a .rows .now) (a .firsts .now) (a .outcomes .now) (entry .pre .0),
+      sound-rows (a .size) (a .rows .now) (a .firsts .now) (a .outcomes .now) (entry .pre .0),
+      sound-ready (a .size) (a .rows .now) (a .firsts .now) (a .outcomes .now) (entry .pre .0) .long-firsts,
     )
 
 sub-m : tie.Need-sub-m Inv-loop μ-loop
-sub-m c = lies-here (c .before) .rises
+sub-m c = stretch-here (c .before) .rises
 
 add-m : tie.Need-add-m Inv-loop μ-loop
 add-m c = omega (arith, counting-commands (next (c .before)) (good (turn-to-entry (past-stretch-at-to-turn (c .before)))))
 
 sub-t : tie.Need-sub-t Inv-loop μ-loop
-sub-t c = lies-here (c .before .before) .order
+sub-t c = stretch-here (c .before .before) .order
 
 add-t : tie.Need-add-t Inv-loop μ-loop
 add-t c = omega (arith, counting-outcomes (next (c .before .before)) (good (turn-to-entry (past-stretch-at-to-turn (c .before .before)))))

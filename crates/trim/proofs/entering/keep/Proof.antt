@@ -47,7 +47,8 @@ returns c =
     let past-enter-all = past-list .before .before .before .before .before .before in
     let entry = past-enter-all .before .before .before .before .before .before .before .before .before in
     let few = sound-facts _ .0 (entry .pre .0) .size .few in
-    listed-kept (held (entry .args .size) (entry .args .rows .now) (entry .args .firsts .now) (entry .args .outcomes .now)) (walkedIn _) (past-enter-all .enter-all .ensures) _ (omega (arith, few, past-enter-all .enter-all .kept, entry .pre .1))
+    listed-kept (held (entry .args .size) (entry .args .rows .now) (entry .args .firsts .now) (entry .args .outcomes .now)) (walkedIn _)
+    (past-enter-all .enter-all .ensures) _ (omega (arith, few, past-enter-all .enter-all .kept, entry .pre .1))
     (past-list .list .ensures .0) (past-list .list .ensures .1)
 
 pub keep-spec : {M : Type 1} → statement M

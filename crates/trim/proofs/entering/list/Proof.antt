@@ -2,24 +2,24 @@
 use Prim.Native.Nat.{_-_}
 use native.Mathlib.Omega.{arith}
 use Rattle.walks.specs.Flags.{walkedIn}
-use Rattle.trim.proofs.Listed.{Listing, listing-start, listing-room, listing-next, listing-done}
+use Rattle.laws.proofs.Gathers.{Gathers, gathers-start, gathers-room, gathers-next, gathers-done}
 use Rattle.trim.proofs.entering.list.Statement.{statement}
 use Rattle.trim.proofs.entering.list.Tie as tie
 
 abbrev Inv-loop : tie.InvT-loop
-Inv-loop n flags kept₀ i₀ s₀ kept i s = Listing (walkedIn flags) n kept₀ i s kept
+Inv-loop n flags kept₀ i₀ s₀ kept i s = Gathers (walkedIn flags) n kept₀ i s kept
 
 abbrev μ-loop : tie.MeasureT-loop
 μ-loop n flags kept₀ i₀ s₀ kept i s = n - s
 
 loop-holds : tie.Need-loop-holds Inv-loop μ-loop
-loop-holds c = listing-start
+loop-holds c = gathers-start
 
 list-one-requires : tie.Need-list-one-requires Inv-loop μ-loop
 list-one-requires c κs =
     let v = c .before .before .loop .inv in
     let entry = c .before .before .before .before .before in
-    (omega (arith, entry .pre), omega (arith, entry .pre), omega (arith, entry .pre, v .same, listing-room v))
+    (omega (arith, entry .pre), omega (arith, entry .pre), omega (arith, entry .pre, v .same, gathers-room v))
 
 add-s : tie.Need-add-s Inv-loop μ-loop
 add-s c = omega arith
@@ -31,14 +31,14 @@ loop-again : tie.Need-loop-again Inv-loop μ-loop
 loop-again c =
     let past-list-one = c .before .before in
     let past-test = past-list-one .before .before in
-    listing-next (past-test .before .loop .inv) (past-test .loop-test .taken) (past-list-one .list-one .ensures .0)
+    gathers-next (past-test .before .loop .inv) (past-test .loop-test .taken) (past-list-one .list-one .ensures .0)
     (past-list-one .list-one .ensures .1)
 
 same-length : tie.Need-same-length Inv-loop μ-loop
 same-length c = c .before .loop .inv .same
 
 returns : tie.Need-returns Inv-loop μ-loop
-returns c = listing-done (c .before .loop .inv) (c .loop-test .left)
+returns c = gathers-done (c .before .loop .inv) (c .loop-test .left)
 
 pub list-spec : {M : Type 1} → statement M
 list-spec =

@@ -29,7 +29,8 @@ returns-2 c =
     let past-if1 = c .before .before .before .before in
     let past-at = past-if1 .before in
     let a = past-at .before .before .before .args in
-    rw (value-walked (a .flags .now) (a .s) (omega (arith, past-if1 .if1 .left, past-at .at .ensures))) (refl, c .before .before .put .ensures)
+    rw (value-walked (a .flags .now) (a .s) (omega (arith, past-if1 .if1 .left, past-at .at .ensures)))
+    (refl, c .before .before .put .ensures)
 
 pub list-one-spec : {M : Type 1} → statement M
 list-one-spec = tie.close (tie.spec at-requires returns put-requires add-result same-length returns-2)

@@ -24,7 +24,13 @@ number-requires c κs =
     let k = entry .pre .1 .0 .0 in
     let lent = entry .pre .1 .1 .1 in (
       (entry .pre .1 .0 .1, lent .0, omega (arith, kept-count k, trim-good _ (sound-good T (entry .pre .0)) .few)),
-      (λ i l. omega (arith, kept-inside k i l, tree-count T, lent .1), kept-rises k),
+      (
+        λ i l. (
+          omega (arith, kept-inside k i l, tree-count T, lent .1),
+          omega (arith, kept-inside k i l, sound-good T (entry .pre .0) .few),
+        ),
+        kept-rises k,
+      ),
     )
 
 copy-states-requires : tie.Need-copy-states-requires
@@ -38,7 +44,8 @@ copy-states-requires c κs =
 
 fill-requires : tie.Need-fill-requires
 fill-requires c κs =
-    let past-number = c .before .before .before .before .before .before .before .before .before .before .before .before .before .before .before in
+    let past-number = c .before .before .before .before .before .before .before .before .before .before .before .before .before .before
+    .before in
     let entry = past-number .before .before .before .before .before .before .before .before .before .before in
     (omega (arith, entry .pre .1 .1 .1 .1, past-number .number .ensures .1 .same), omega arith)
 
@@ -74,12 +81,14 @@ returns c =
           outcomes-left p (a .rows2 .now) (a .firsts2 .now) (a .outcomes2 .now) room (copied .1 .1),
           (
             past-number .number .ensures .0 ∙ ap (λ (xs : List ℕ). overwrite xs (a .olds .now)) (k .holds),
-            scratch-left k (a .size .n) (tree-count _) (entry .pre .1 .1 .1 .1) (past-number .number .ensures .1) (c .before .before .fill .ensures),
+            scratch-left k (a .size .n) (tree-count _) (entry .pre .1 .1 .1 .1) (past-number .number .ensures .1)
+                (c .before .before .fill .ensures),
           ),
         ),
       ),
     )
 
 pub fill-trimmed-spec : {M : Type 1} → statement M
-fill-trimmed-spec = tie.close (tie.spec number-requires copy-states-requires fill-requires same-length same-length-2 same-length-3 same-length-4
+fill-trimmed-spec = tie.close
+    (tie.spec number-requires copy-states-requires fill-requires same-length same-length-2 same-length-3 same-length-4
     same-length-5 returns)

@@ -1,6 +1,5 @@
 -- Each turn gives one state its number in both tables; old numbers differ, so no new number is written over.
 use Prim.Native.Nat.{_-_}
-use mathlib.Core.Path.{refl}
 use native.Mathlib.Omega.{arith}
 use Rattle.trim.proofs.Numbers.{Numbering, numbering-start, numbering-next, numbering-done}
 use Rattle.trim.proofs.numbering.number.Statement.{statement}
@@ -15,29 +14,24 @@ abbrev μ-loop : tie.MeasureT-loop
 loop-holds : tie.Need-loop-holds Inv-loop μ-loop
 loop-holds c = numbering-start
 
-mul-olds : tie.Need-mul-olds Inv-loop μ-loop
-mul-olds c = omega (arith, c .before .before .before .before .before .pre .0)
-
-shared-slice-read-olds : tie.Need-shared-slice-read-olds Inv-loop μ-loop
-shared-slice-read-olds c = omega (arith, c .before .before .before .before .before .before .pre .0)
-
-mul-olds-2 : tie.Need-mul-olds-2 Inv-loop μ-loop
-mul-olds-2 c = omega (arith, c .before .before .before .before .before .before .pre .0, c .before .before .loop .inv .same)
-
-slice-write-olds : tie.Need-slice-write-olds Inv-loop μ-loop
-slice-write-olds c = omega (arith, c .before .before .before .before .before .before .pre .0, c .before .before .loop .inv .same)
-
 at-requires : tie.Need-at-requires Inv-loop μ-loop
-at-requires c κs = omega (arith, c .before .before .before .before .before .before .before .pre .0)
+at-requires c κs = omega (arith, c .before .before .before .before .before .pre .0)
 
 put-requires : tie.Need-put-requires Inv-loop μ-loop
 put-requires c κs =
-    let past-test = c .before .before .before in
+    let past-at = c .before in
+    let past-test = past-at .before in
     let turn = past-test .before in
-    let entry = turn .before .before .before .before in (
-      omega (arith, c .at .ensures, entry .pre .1 .0 _ (past-test .loop-test .taken), turn .loop .inv .numbered .same),
-      omega (arith, entry .pre .0),
-    )
+    let entry = turn .before .before .before .before in
+    omega (arith, past-at .at .ensures, entry .pre .0, entry .pre .1 .0 _ (past-test .loop-test .taken), turn .loop .inv .same)
+
+put-requires-2 : tie.Need-put-requires-2 Inv-loop μ-loop
+put-requires-2 c κs =
+    let past-at = c .before .before .before .before .before in
+    let past-test = past-at .before in
+    let turn = past-test .before in
+    let entry = turn .before .before .before .before in
+    omega (arith, past-at .at .ensures, entry .pre .0, entry .pre .1 .0 _ (past-test .loop-test .taken), turn .loop .inv .numbered .same)
 
 add-i : tie.Need-add-i Inv-loop μ-loop
 add-i c = omega arith
@@ -47,13 +41,15 @@ loop-less c = omega arith
 
 loop-again : tie.Need-loop-again Inv-loop μ-loop
 loop-again c =
-    let past-put = c .before .before in
-    let past-at = past-put .before in
-    let past-test = past-at .before .before .before in
+    let past-put2 = c .before .before in
+    let past-put = past-put2 .before .before .before .before in
+    let past-at = past-put .before .before in
+    let past-test = past-at .before in
     let turn = past-test .before in
     let entry = turn .before .before .before .before in
-    numbering-next (turn .loop .inv) (record { inside = entry .pre .1 .0; rise = entry .pre .1 .1 }) (past-test .loop-test .taken) refl refl
-    (past-at .at .ensures) (past-put .put .ensures)
+    numbering-next (turn .loop .inv) (record { inside = λ i l. entry .pre .1 .0 i l .0; rise = entry .pre .1 .1 })
+    (past-test .loop-test .taken)
+    (past-at .at .ensures) (past-put .put .ensures) (past-put2 .put2 .ensures)
 
 same-length : tie.Need-same-length Inv-loop μ-loop
 same-length c = c .before .loop .inv .same
@@ -73,12 +69,9 @@ number-spec =
     Inv-loop
     μ-loop
     loop-holds
-    mul-olds
-    shared-slice-read-olds
-    mul-olds-2
-    slice-write-olds
     at-requires
     put-requires
+    put-requires-2
     add-i
     loop-less
     loop-again

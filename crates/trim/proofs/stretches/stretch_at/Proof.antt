@@ -1,13 +1,11 @@
 -- Each field is what the call for it has answered.
 mod Tie
-use mathlib.Core.Path.{_≡_, ap}
-use mathlib.Core.List.{List}
+use mathlib.Core.Path.{_≡_}
 use borrow.Author.Needs.{needs}
 use Prim.Native.Nat.{ℕ}
 use Rattle.tables.specs.declared.spans.Span.{Span}
 use Rattle.tables.specs.Meaning.{held}
 use Rattle.tables.specs.Spans.{spanAt}
-use Rattle.trim.specs.declared.stretches.Stretch.{Stretch}
 use Rattle.trim.specs.Stretches.{stretchAt}
 use Rattle.model.specs.Tables.{Tables}
 use Rattle.model.specs.Places.{firstOutcome}

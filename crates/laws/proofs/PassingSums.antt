@@ -19,11 +19,11 @@ module _ {A : Type 0} (weight : A → ℕ) (sum : List A → ℕ) (sum-nil : sum
 
   -- h gives what the member at a place is kept as, and f which places are kept
   module _ (f : ℕ → Bool) (h : ℕ → A) (xs : List A) (d : A) (no-more : (i : ℕ) → weight (h i) ≤ weight (getD xs i d)) where
-    kept-upto : (n : ℕ) → n ≤ length xs → sum (map h (passing f n)) ≤ sum (take n xs)
+    passing-upto : (n : ℕ) → n ≤ length xs → sum (map h (passing f n)) ≤ sum (take n xs)
     unfolding passing
-    kept-upto zero l = omega arith
-    kept-upto (suc n) l =
-        let before = kept-upto n (omega arith) in
+    passing-upto zero l = omega arith
+    passing-upto (suc n) l =
+        let before = passing-upto n (omega arith) in
         let all : sum (take (suc n) xs) ≡ sum (take n xs) + weight (getD xs n d)
         = ap sum (take-suc xs n d l) ∙ sum-last (take n xs) (getD xs n d) in
         ⊎-elim
@@ -35,5 +35,5 @@ module _ {A : Type 0} (weight : A → ℕ) (sum : List A → ℕ) (sum-nil : sum
         (λ t. omega (arith, ap (λ (r : List ℕ). sum (map h r)) (next-no f n t), all, before))
         (true-or-false (f n))
 
-    pub kept-sum : sum (map h (passing f (length xs))) ≤ sum xs
-    kept-sum = omega (arith, kept-upto (length xs) (omega arith), ap sum (take-length xs))
+    pub passing-sum : sum (map h (passing f (length xs))) ≤ sum xs
+    passing-sum = omega (arith, passing-upto (length xs) (omega arith), ap sum (take-length xs))

@@ -1,5 +1,5 @@
 -- A walk that goes on from each state to all of its outcomes: it ends with the states that are reached from the start, and no others.
-use mathlib.Core.Path.{_≡_, refl, sym, ap, _∙_}
+use mathlib.Core.Path.{_≡_, refl, sym, _∙_}
 use mathlib.Core.Bool.{Bool, true, false, _||_}
 use mathlib.Core.Logic.{⊎-elim}
 use mathlib.Core.List.{List, List·Memᴰ, Memᴰ·cast}
@@ -27,7 +27,7 @@ fresh-queued queue fresh = queued-none queue (λ x l. omega (arith, fresh x l))
 
 -- The walk has gone on from the first h of the q states that it has reached. f₀ and u₀ are flags and queue where only the start is
 -- reached, out the outcomes of a state.
-pub record Walking (n a : ℕ) (out : ℕ → List ℕ) (f₀ u₀ : List ℕ) (h q : ℕ) (flags queue : List ℕ) : Type 0 where
+pub record WholeWalk (n a : ℕ) (out : ℕ → List ℕ) (f₀ u₀ : List ℕ) (h q : ℕ) (flags queue : List ℕ) : Type 0 where
   pub queued : Queued n q flags queue
   pub ahead : h ≤ q
   pub same-flags : length flags ≡ length f₀
@@ -41,9 +41,9 @@ pub record Walking (n a : ℕ) (out : ℕ → List ℕ) (f₀ u₀ : List ℕ) (
 
 module _ {n a : ℕ} {out : ℕ → List ℕ} {f₀ u₀ : List ℕ} where
   -- the start is reached
-  pub walking-start : a < n → Fresh n f₀ → {q : ℕ} {f u : List ℕ} → Spread n 0 (λ y. eqb y a) 2 f₀ u₀ q f u → Walking n a out f u 0 q f u
+  pub whole-start : a < n → Fresh n f₀ → {q : ℕ} {f u : List ℕ} → Spread n 0 (λ y. eqb y a) 2 f₀ u₀ q f u → WholeWalk n a out f u 0 q f u
   unfolding knownIn
-  walking-start in-plan fresh {q} {f} {u} v = record {
+  whole-start in-plan fresh {q} {f} {u} v = record {
     queued = v .queued;
     ahead = omega arith;
     same-flags = refl;
@@ -62,11 +62,11 @@ module _ {n a : ℕ} {out : ℕ → List ℕ} {f₀ u₀ : List ℕ} where
       reached : (y : ℕ) → walkedIn f y ≡ walkedIn f₀ y || eqb y a
       reached = spread-walked v (omega arith) (λ y e. rw (eqb-true y a e) (new a in-plan))
 
-  module _ {h q : ℕ} {f u : List ℕ} (w : Walking n a out f₀ u₀ h q f u) where
+  module _ {h q : ℕ} {f u : List ℕ} (w : WholeWalk n a out f₀ u₀ h q f u) where
     -- the walk goes on from the next state of the queue
-    pub walking-next : h < q → {s : ℕ} → s ≡ getD u h 0 → ((x : ℕ) → List·Memᴰ x (out s) → x < n) → {outs : List ℕ} → outs ≡ out s
-        → {q′ : ℕ} {f′ u′ : List ℕ} → Spread n q (λ y. any (eqb y) outs) 2 f u q′ f′ u′ → Walking n a out f₀ u₀ (h + 1) q′ f′ u′
-    walking-next k {s} is inside {outs} e {q′} {f′} {u′} v = record {
+    pub whole-next : h < q → {s : ℕ} → s ≡ getD u h 0 → ((x : ℕ) → List·Memᴰ x (out s) → x < n) → {outs : List ℕ} → outs ≡ out s
+        → {q′ : ℕ} {f′ u′ : List ℕ} → Spread n q (λ y. any (eqb y) outs) 2 f u q′ f′ u′ → WholeWalk n a out f₀ u₀ (h + 1) q′ f′ u′
+    whole-next k {s} is inside {outs} e {q′} {f′} {u′} v = record {
       queued = v .queued;
       ahead = omega (arith, v .more);
       same-flags = v .same-flags ∙ w .same-flags;
@@ -103,7 +103,7 @@ module _ {n a : ℕ} {out : ℕ → List ℕ} {f₀ u₀ : List ℕ} where
             reached y ∙ or-right (walkedIn f y) (any (eqb y) outs) (any-of (eqb y) outs here (eq-eqb y y refl))
 
     -- it has gone on from all: what is reached is closed
-    pub walking-closed : q ≤ h → (t y : ℕ) → t < n → walkedIn f t ≡ true → List·Memᴰ y (out t) → walkedIn f y ≡ true
-    walking-closed k t y l r m =
+    pub whole-closed : q ≤ h → (t y : ℕ) → t < n → walkedIn f t ≡ true → List·Memᴰ y (out t) → walkedIn f y ≡ true
+    whole-closed k t y l r m =
         let (i, j, e) = w .queued .listed t l r in
         w .closed i y (omega arith) (rw e m)
