@@ -3,13 +3,13 @@ pub mod ContestsAskContest
 pub mod FilesReadAgain
 pub mod FilesWriteAgain
 pub mod Lend
+pub mod LentHoldRows
+pub mod LentPrintRows
 pub mod QuestionsAsk
 pub mod QuestionsAskAll
 pub mod SameSameTables
 pub mod TrimsAskTrim
 pub mod TrimsGoOn
-pub mod TrimsHoldRows
-pub mod TrimsPrintRows
 pub mod TrimsShow
 pub mod TrimsTrimAgain
 pub mod TrimsTryTrim

@@ -25,6 +25,7 @@ use tables::Size;
 
 mod contests;
 mod files;
+mod lent;
 mod numbers;
 mod print;
 mod questions;

@@ -1,10 +1,10 @@
 // The questions on a plan, one after another.
 use crate::contests::ask_contest;
+use crate::lent::next_places;
 use crate::numbers::least;
 use crate::numbers::next;
 use crate::numbers::next_wide;
 use crate::trims::ask_trim;
-use crate::trims::next_places;
 use crate::verdicts::ask_tables;
 use crate::warnings::ask_warning;
 use tables::Row;

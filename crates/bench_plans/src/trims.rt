@@ -4,10 +4,10 @@ ghost use Rattle.model.specs.File.{maxStates, maxCommands, maxOutcomes};
 use crate::files::print_again;
 use crate::files::print_size;
 use crate::files::read_again;
+use crate::lent::hold_rows;
+use crate::lent::print_lent;
+use crate::lent::print_rows;
 use crate::numbers::least;
-use crate::numbers::next;
-use crate::print::print_entries;
-use crate::print::print_entry;
 use crate::print::print_refusal;
 use crate::same::same_tables;
 use crate::verdicts::DECIDING;
@@ -15,87 +15,7 @@ use crate::verdicts::ask_tables;
 use tables::Row;
 use tables::Size;
 use tables::entries::at;
-use tables::entries::narrow;
-use tables::rows::put_row;
-use tables::rows::row_at;
 use trim::TrimAnswer;
-
-// How many places are lent of each table, and what every one of them holds: so it is seen which ones a call has written.
-pub struct Places {
-    pub rows: usize,
-    pub firsts: usize,
-    pub outcomes: usize,
-    pub olds: usize,
-    pub scratch: usize,
-    pub holding: u16,
-}
-
-// The next six numbers of the input, none of the places above what a table has. Two more are passed over: a question is as long as any
-// other.
-pub fn next_places() -> Places
-    ensures { λ r. ⌜ (r .rows ≤ maxStates) × (r .firsts ≤ maxCommands) × (r .outcomes ≤ maxOutcomes) × (r .olds ≤ maxStates)
-        × (r .scratch ≤ maxStates) ⌝ }
-{
-    let rows = next();
-    let firsts = next();
-    let outcomes = next();
-    let olds = next();
-    let scratch = next();
-    let holding = next();
-    next();
-    next();
-    Places {
-        rows: least(rows, Size::STATES),
-        firsts: least(firsts, Size::COMMANDS),
-        outcomes: least(outcomes, Size::OUTCOMES),
-        olds: least(olds, Size::STATES),
-        scratch: least(scratch, Size::STATES),
-        holding: narrow(holding),
-    }
-}
-
-fn row_of(x: u16) -> Row {
-    Row {
-        kind: x,
-        first: x,
-        practice: x,
-    }
-}
-
-pub fn hold_rows(rows: &mut [Row], x: u16) {
-    let mut i = 0;
-    while i < rows.len() {
-        put_row(rows, i, row_of(x));
-        i += 1;
-    }
-}
-
-fn print_row(row: Row) {
-    print_entry(row.kind);
-    print_entry(row.first);
-    print_entry(row.practice);
-}
-
-pub fn print_rows(rows: &[Row]) {
-    io::write_all(1, b"rows");
-    let mut i = 0;
-    while i < rows.len() {
-        print_row(row_at(rows, i));
-        i += 1;
-    }
-    io::write_all(1, b"\n");
-}
-
-fn print_lent(firsts: &[u16], outcomes: &[u16], olds: &[u16], scratch: &[u16]) {
-    io::write_all(1, b"firsts");
-    print_entries(firsts, firsts.len());
-    io::write_all(1, b"outcomes");
-    print_entries(outcomes, outcomes.len());
-    io::write_all(1, b"map");
-    print_entries(olds, olds.len());
-    io::write_all(1, b"scratch");
-    print_entries(scratch, scratch.len());
-}
 
 // Whether each of the first n entries is the number of its place.
 fn own_numbers(olds: &[u16], n: usize) -> bool {
@@ -224,15 +144,16 @@ pub fn ask_trim(
     rows: &[Row],
     firsts: &[u16],
     outcomes: &[u16],
-    states: usize,
-    commands: usize,
-    entries: usize,
-    kept: usize,
-    space: usize,
+    nrows: usize,
+    nfirsts: usize,
+    noutcomes: usize,
+    nolds: usize,
+    nscratch: usize,
     x: u16,
     all: bool,
 )
-    requires { ⌜ (states ≤ maxStates) × (commands ≤ maxCommands) × (entries ≤ maxOutcomes) × (kept ≤ maxStates) × (space ≤ maxStates) ⌝ }
+    requires { ⌜ (nrows ≤ maxStates) × (nfirsts ≤ maxCommands) × (noutcomes ≤ maxOutcomes) × (nolds ≤ maxStates)
+        × (nscratch ≤ maxStates) ⌝ }
 {
     let mut rows2 = [Row::BLANK; Size::STATES];
     let mut firsts2 = [x; Size::COMMANDS];
@@ -244,11 +165,11 @@ pub fn ask_trim(
         rows,
         firsts,
         outcomes,
-        &mut rows2[..states],
-        &mut firsts2[..commands],
-        &mut outcomes2[..entries],
-        &mut olds[..kept],
-        &mut scratch[..space],
+        &mut rows2[..nrows],
+        &mut firsts2[..nfirsts],
+        &mut outcomes2[..noutcomes],
+        &mut olds[..nolds],
+        &mut scratch[..nscratch],
         x,
         all,
     );

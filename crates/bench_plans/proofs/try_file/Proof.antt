@@ -71,4 +71,7 @@ returns-2 : tie.Need-returns-2
 returns-2 c = search needs
 
 pub try-file-spec : {M : Type 1} → statement M
-try-file-spec = tie.close (tie.spec read-requires enum-known-r number-requires print-refusal-requires new-requires ask-all-requires enum-known-r-2 slice-aggregate-write-all write-all-requires print-size-requires write-again-requires read-again-requires print-again-requires ask-all-requires-2 same-length same-length-2 same-length-3 returns same-length-4 same-length-5 same-length-6 returns-2)
+try-file-spec = tie.close (tie.spec read-requires enum-known-r number-requires print-refusal-requires new-requires
+    ask-all-requires enum-known-r-2 slice-aggregate-write-all write-all-requires print-size-requires write-again-requires
+    read-again-requires print-again-requires ask-all-requires-2 same-length same-length-2 same-length-3 returns same-length-4
+    same-length-5 same-length-6 returns-2)

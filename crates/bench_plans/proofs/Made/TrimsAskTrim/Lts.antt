@@ -1283,24 +1283,24 @@ module _ (claims· : Claims) where
           pub rows : Kinds.Den {n = 3} κs (ShrSlice.pShrS T.the-row 0 tt)
           pub firsts : Kinds.Den {n = 3} κs (ShrSlice.pShrS (Referent.rtF (Referent.fInt Syntax.w16)) 1 tt)
           pub outcomes : Kinds.Den {n = 3} κs (ShrSlice.pShrS (Referent.rtF (Referent.fInt Syntax.w16)) 2 tt)
-          pub states : Kinds.Den {n = 3} κs (Num.pNum Syntax.w64)
-          pub commands : Kinds.Den {n = 3} κs (Num.pNum Syntax.w64)
-          pub entries : Kinds.Den {n = 3} κs (Num.pNum Syntax.w64)
-          pub kept : Kinds.Den {n = 3} κs (Num.pNum Syntax.w64)
-          pub space : Kinds.Den {n = 3} κs (Num.pNum Syntax.w64)
+          pub nrows : Kinds.Den {n = 3} κs (Num.pNum Syntax.w64)
+          pub nfirsts : Kinds.Den {n = 3} κs (Num.pNum Syntax.w64)
+          pub noutcomes : Kinds.Den {n = 3} κs (Num.pNum Syntax.w64)
+          pub nolds : Kinds.Den {n = 3} κs (Num.pNum Syntax.w64)
+          pub nscratch : Kinds.Den {n = 3} κs (Num.pNum Syntax.w64)
           pub x : Kinds.Den {n = 3} κs (Num.pNum Syntax.w16)
           pub all : Kinds.Den {n = 3} κs Bool.pBool
 
         abbrev pub dens : (a : Args) → Kinds.Dens κs ps
-        dens = λ a. (a .size, (a .rows, (a .firsts, (a .outcomes, (a .states, (a .commands, (a .entries, (a .kept, (a .space, (a .x, (a .all, tt)))))))))))
+        dens = λ a. (a .size, (a .rows, (a .firsts, (a .outcomes, (a .nrows, (a .nfirsts, (a .noutcomes, (a .nolds, (a .nscratch, (a .x, (a .all, tt)))))))))))
 
         module _ (args· : Args) where
           pub record Ranges : Type 0 where
-            pub states : Val.Fits Syntax.w64 (args· .states)
-            pub commands : Val.Fits Syntax.w64 (args· .commands)
-            pub entries : Val.Fits Syntax.w64 (args· .entries)
-            pub kept : Val.Fits Syntax.w64 (args· .kept)
-            pub space : Val.Fits Syntax.w64 (args· .space)
+            pub nrows : Val.Fits Syntax.w64 (args· .nrows)
+            pub nfirsts : Val.Fits Syntax.w64 (args· .nfirsts)
+            pub noutcomes : Val.Fits Syntax.w64 (args· .noutcomes)
+            pub nolds : Val.Fits Syntax.w64 (args· .nolds)
+            pub nscratch : Val.Fits Syntax.w64 (args· .nscratch)
             pub x : Val.Fits Syntax.w16 (args· .x)
 
       abbrev pub m0 : (κs : Lifetimes.Lfts 3) → (args : Args κs) → Typed.Mo T0
@@ -1606,7 +1606,7 @@ module _ (claims· : Claims) where
 
         module _ (κs : Lifetimes.Lfts 3) (qs : Lifetimes.Shares 3) where
           pub asked : (a : Kinds.Dens κs ps) → (good : Kinds.GoodsP κs ps a) → (pre : Pre· κs a) → (bs : List.List Nat.ℕ) → Φ (Any.wantQ 3 ps r xs m κs qs a (Post· κs a)) (Function.init 3 ps r xs m κs qs a)
-          asked = λ a good pre bs. laid record { κs = κs; args = record { size = a .0; rows = a .1 .0; firsts = a .1 .1 .0; outcomes = a .1 .1 .1 .0; states = a .1 .1 .1 .1 .0; commands = a .1 .1 .1 .1 .1 .0; entries = a .1 .1 .1 .1 .1 .1 .0; kept = a .1 .1 .1 .1 .1 .1 .1 .0; space = a .1 .1 .1 .1 .1 .1 .1 .1 .0; x = a .1 .1 .1 .1 .1 .1 .1 .1 .1 .0; all = a .1 .1 .1 .1 .1 .1 .1 .1 .1 .1 .0 }; good = good; fits = record { states = record { fits = good .1 .1 .1 .1 .0 .1 }; commands = record { fits = good .1 .1 .1 .1 .1 .0 .1 }; entries = record { fits = good .1 .1 .1 .1 .1 .1 .0 .1 }; kept = record { fits = good .1 .1 .1 .1 .1 .1 .1 .0 .1 }; space = record { fits = good .1 .1 .1 .1 .1 .1 .1 .1 .0 .1 }; x = record { fits = good .1 .1 .1 .1 .1 .1 .1 .1 .1 .0 .1 } }; pre = pre }
+          asked = λ a good pre bs. laid record { κs = κs; args = record { size = a .0; rows = a .1 .0; firsts = a .1 .1 .0; outcomes = a .1 .1 .1 .0; nrows = a .1 .1 .1 .1 .0; nfirsts = a .1 .1 .1 .1 .1 .0; noutcomes = a .1 .1 .1 .1 .1 .1 .0; nolds = a .1 .1 .1 .1 .1 .1 .1 .0; nscratch = a .1 .1 .1 .1 .1 .1 .1 .1 .0; x = a .1 .1 .1 .1 .1 .1 .1 .1 .1 .0; all = a .1 .1 .1 .1 .1 .1 .1 .1 .1 .1 .0 }; good = good; fits = record { nrows = record { fits = good .1 .1 .1 .1 .0 .1 }; nfirsts = record { fits = good .1 .1 .1 .1 .1 .0 .1 }; noutcomes = record { fits = good .1 .1 .1 .1 .1 .1 .0 .1 }; nolds = record { fits = good .1 .1 .1 .1 .1 .1 .1 .0 .1 }; nscratch = record { fits = good .1 .1 .1 .1 .1 .1 .1 .1 .0 .1 }; x = record { fits = good .1 .1 .1 .1 .1 .1 .1 .1 .1 .0 .1 } }; pre = pre }
 
         module _ {M : Type 1} (𝓤 : URA.URA M) (H : Wp.Heap 𝓤) (A : Atoms.Atoms 𝓤) (W : Kit.Given 𝓤 H A) (𝓣 : Wp.Tables 𝓤 H) (known0 : Plain.Known 𝓤 H A W 𝓣 8 ps·0 r·0 (claims· .0) (claims· .1) "bench_plans::trims::try_trim") where
           pub spec : Statement.Triple 𝓤 (Wp.WpFn 𝓤 H (𝓣 .C) (𝓣 .Λ) (Function.fnOf 3 ps r xs m hs body)) (Function.plainOf 𝓤 H A 3 ps r Pre· Post·)

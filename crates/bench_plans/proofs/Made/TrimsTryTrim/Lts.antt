@@ -158,7 +158,7 @@ abbrev b1 : Syntax.Body
 b1 = Syntax.assign (Syntax.place 15 List.[]) (Syntax.aggregate (List._∷_ (Syntax.copy (Syntax.place 14 List.[])) (List._∷_ (Syntax.copy (Syntax.place 5 (List._∷_ (Syntax.field 1) List.[]))) List.[])))
 
 abbrev b2 : Syntax.Body
-b2 = Syntax.call "bench_plans::trims::hold_rows" (List._∷_ (Syntax.copy (Syntax.place 15 List.[])) (List._∷_ (Syntax.copy (Syntax.place 10 List.[])) List.[])) (Syntax.place 13 List.[])
+b2 = Syntax.call "bench_plans::lent::hold_rows" (List._∷_ (Syntax.copy (Syntax.place 15 List.[])) (List._∷_ (Syntax.copy (Syntax.place 10 List.[])) List.[])) (Syntax.place 13 List.[])
 
 abbrev b3 : Syntax.Body
 b3 = Syntax.assign (Syntax.place 16 List.[]) (Syntax.addrOf (Syntax.place 5 (List._∷_ (Syntax.field 0) (List._∷_ (Syntax.deref (Memory.lone (T.the-row .mir))) List.[]))))
@@ -962,7 +962,7 @@ module _ (claims· : Claims) where
   module _ (Pre· : (κs : Lifetimes.Lfts 8) → Kinds.Dens κs ps → Type 0) (Post· : (κs : Lifetimes.Lfts 8) → (a : Kinds.Dens κs ps) → Kinds.Plain 8 ps r κs) where
     module _ (M : Type 1) where
       abbrev pub Closed : Type 2
-      Closed = (𝓤 : URA.URA M) (H : Wp.Heap 𝓤) (A : Atoms.Atoms 𝓤) (W : Kit.Given 𝓤 H A) (𝓣 : Wp.Tables 𝓤 H) (known0 : Plain.Known 𝓤 H A W 𝓣 1 ps·0 r·0 (claims· .0) (claims· .1) "bench_plans::trims::hold_rows") (known1 : Plain.Known 𝓤 H A W 𝓣 8 ps·1 r·1 (claims· .2) (claims· .3) "trim::trim") (known2 : Plain.Known 𝓤 H A W 𝓣 0 ps·2 r·2 (claims· .4) (claims· .5) "bench_plans::trims::print_answer") (known3 : Plain.Known 𝓤 H A W 𝓣 5 ps·3 r·3 (claims· .6) (claims· .7) "bench_plans::trims::show") → Statement.Triple 𝓤 (Wp.WpFn 𝓤 H (𝓣 .C) (𝓣 .Λ) (Function.fnOf 8 ps r xs m hs body)) (Function.plainOf 𝓤 H A 8 ps r Pre· Post·)
+      Closed = (𝓤 : URA.URA M) (H : Wp.Heap 𝓤) (A : Atoms.Atoms 𝓤) (W : Kit.Given 𝓤 H A) (𝓣 : Wp.Tables 𝓤 H) (known0 : Plain.Known 𝓤 H A W 𝓣 1 ps·0 r·0 (claims· .0) (claims· .1) "bench_plans::lent::hold_rows") (known1 : Plain.Known 𝓤 H A W 𝓣 8 ps·1 r·1 (claims· .2) (claims· .3) "trim::trim") (known2 : Plain.Known 𝓤 H A W 𝓣 0 ps·2 r·2 (claims· .4) (claims· .5) "bench_plans::trims::print_answer") (known3 : Plain.Known 𝓤 H A W 𝓣 5 ps·3 r·3 (claims· .6) (claims· .7) "bench_plans::trims::show") → Statement.Triple 𝓤 (Wp.WpFn 𝓤 H (𝓣 .C) (𝓣 .Λ) (Function.fnOf 8 ps r xs m hs body)) (Function.plainOf 𝓤 H A 8 ps r Pre· Post·)
 
     module _ where
       abbrev at0 : Typed.TF T60 O1
@@ -1285,7 +1285,7 @@ module _ (claims· : Claims) where
 
       module _ {M : Type 1} (𝓤 : URA.URA M) (H : Wp.Heap 𝓤) (A : Atoms.Atoms 𝓤) (W : Kit.Given 𝓤 H A) (𝓣 : Wp.Tables 𝓤 H) where
         abbrev Knowns : Type 1
-        Knowns = Plain.Known 𝓤 H A W 𝓣 1 ps·0 r·0 (claims· .0) (claims· .1) "bench_plans::trims::hold_rows" × Plain.Known 𝓤 H A W 𝓣 8 ps·1 r·1 (claims· .2) (claims· .3) "trim::trim" × Plain.Known 𝓤 H A W 𝓣 0 ps·2 r·2 (claims· .4) (claims· .5) "bench_plans::trims::print_answer" × Plain.Known 𝓤 H A W 𝓣 5 ps·3 r·3 (claims· .6) (claims· .7) "bench_plans::trims::show"
+        Knowns = Plain.Known 𝓤 H A W 𝓣 1 ps·0 r·0 (claims· .0) (claims· .1) "bench_plans::lent::hold_rows" × Plain.Known 𝓤 H A W 𝓣 8 ps·1 r·1 (claims· .2) (claims· .3) "trim::trim" × Plain.Known 𝓤 H A W 𝓣 0 ps·2 r·2 (claims· .4) (claims· .5) "bench_plans::trims::print_answer" × Plain.Known 𝓤 H A W 𝓣 5 ps·3 r·3 (claims· .6) (claims· .7) "bench_plans::trims::show"
 
       module _ (κs : Lifetimes.Lfts 8) (qs : Lifetimes.Shares 8) where
         abbrev g4 : List.List Row.Entry
@@ -1974,7 +1974,7 @@ module _ (claims· : Claims) where
           d94 = Typed.g-pre 𝓤 H A W 𝓣 E G11 G12 b59 Δ0 (Typed.pass T11 T12 s10) at93 (Scalar.g-room 𝓤 H A W E G11 13 Syntax.tyUnit (Scalar.room-sc 𝓤 H A W Row.sUnit)) d93
 
           d95 : Typed.Typed 𝓤 H A 𝓣 E G10 b60 Δ0 at95
-          d95 = Typed.s-seq 𝓤 H A W 𝓣 E G10 G11 b2 b59 Δ0 (Typed.both s9) at94 (Plain.t-call-plain 𝓤 H A W 𝓣 1 ps·0 r·0 (claims· .0) (claims· .1) "bench_plans::trims::hold_rows" (known .0) E (λ pos β. β) G10 (record { pos = 15; ty = Syntax.tyRef Syntax.erased Syntax.mut (Memory.pointee (T.the-row .written)); ref = λ x. x }, (Num.vAt 10 λ x. x, tt)) 13 (List._∷_ 8 List.[]) (Call.sub-id 𝓤 H A W (G10 .slots)) (Reads.as-is 𝓤 H A (Mut.mslice T.the-row ty·8 8), Mut.reads-mslice 𝓤 H A W T.the-row ty·8 8, Path'.refl, ((Scalar.reads-sc 𝓤 H A W (Row.sInt Syntax.w16), Path'.refl), tt)) (Reads.room-gone 𝓤 H A Syntax.tyUnit) (tt, tt) Path'.refl) d94
+          d95 = Typed.s-seq 𝓤 H A W 𝓣 E G10 G11 b2 b59 Δ0 (Typed.both s9) at94 (Plain.t-call-plain 𝓤 H A W 𝓣 1 ps·0 r·0 (claims· .0) (claims· .1) "bench_plans::lent::hold_rows" (known .0) E (λ pos β. β) G10 (record { pos = 15; ty = Syntax.tyRef Syntax.erased Syntax.mut (Memory.pointee (T.the-row .written)); ref = λ x. x }, (Num.vAt 10 λ x. x, tt)) 13 (List._∷_ 8 List.[]) (Call.sub-id 𝓤 H A W (G10 .slots)) (Reads.as-is 𝓤 H A (Mut.mslice T.the-row ty·8 8), Mut.reads-mslice 𝓤 H A W T.the-row ty·8 8, Path'.refl, ((Scalar.reads-sc 𝓤 H A W (Row.sInt Syntax.w16), Path'.refl), tt)) (Reads.room-gone 𝓤 H A Syntax.tyUnit) (tt, tt) Path'.refl) d94
 
           d96 : Typed.Typed 𝓤 H A 𝓣 E G9 b61 Δ0 at96
           d96 = Typed.s-seq 𝓤 H A W 𝓣 E G9 G10 b1 b60 Δ0 (Typed.ask s8) at95 (Relend.t-sl-aggregate 𝓤 H A W E T.the-row 𝓣 (Relend.asMut T.the-row) G9 14 15 8 ty·8 ty·8 (λ x. x) (Scalar.oFld 5 (List._∷_ (Syntax.field 1) List.[]) (Syntax.tyInt Syntax.w64) 8 λ v. Shared.lenV (v .0)) (Reads.as-is 𝓤 H A (Relend.msptr T.the-row ty·8 8)) (Reads.room-gone 𝓤 H A ty·14) (Relend.reads-owed-len 𝓤 H A W T.the-row ty·11 3 8 (Row.lease (κs .1 .1 .1 .0) (qs .1 .1 .1 .0)) 8 Path'.refl, Path'.refl) Path'.refl Path'.refl λ b o k. tt) d95
@@ -2591,6 +2591,6 @@ module _ (claims· : Claims) where
           pub asked : (a : Kinds.Dens κs ps) → (good : Kinds.GoodsP κs ps a) → (pre : Pre· κs a) → (bs : List.List Nat.ℕ) → Φ (Any.wantQ 8 ps r xs m κs qs a (Post· κs a)) (Function.init 8 ps r xs m κs qs a)
           asked = λ a good pre bs. laid record { κs = κs; args = record { size = a .0; rows = a .1 .0; firsts = a .1 .1 .0; outcomes = a .1 .1 .1 .0; rows2 = a .1 .1 .1 .1 .0; firsts2 = a .1 .1 .1 .1 .1 .0; outcomes2 = a .1 .1 .1 .1 .1 .1 .0; olds = a .1 .1 .1 .1 .1 .1 .1 .0; scratch = a .1 .1 .1 .1 .1 .1 .1 .1 .0; x = a .1 .1 .1 .1 .1 .1 .1 .1 .1 .0; all = a .1 .1 .1 .1 .1 .1 .1 .1 .1 .1 .0 }; good = good; fits = record { x = record { fits = good .1 .1 .1 .1 .1 .1 .1 .1 .1 .0 .1 } }; pre = pre }
 
-        module _ {M : Type 1} (𝓤 : URA.URA M) (H : Wp.Heap 𝓤) (A : Atoms.Atoms 𝓤) (W : Kit.Given 𝓤 H A) (𝓣 : Wp.Tables 𝓤 H) (known0 : Plain.Known 𝓤 H A W 𝓣 1 ps·0 r·0 (claims· .0) (claims· .1) "bench_plans::trims::hold_rows") (known1 : Plain.Known 𝓤 H A W 𝓣 8 ps·1 r·1 (claims· .2) (claims· .3) "trim::trim") (known2 : Plain.Known 𝓤 H A W 𝓣 0 ps·2 r·2 (claims· .4) (claims· .5) "bench_plans::trims::print_answer") (known3 : Plain.Known 𝓤 H A W 𝓣 5 ps·3 r·3 (claims· .6) (claims· .7) "bench_plans::trims::show") where
+        module _ {M : Type 1} (𝓤 : URA.URA M) (H : Wp.Heap 𝓤) (A : Atoms.Atoms 𝓤) (W : Kit.Given 𝓤 H A) (𝓣 : Wp.Tables 𝓤 H) (known0 : Plain.Known 𝓤 H A W 𝓣 1 ps·0 r·0 (claims· .0) (claims· .1) "bench_plans::lent::hold_rows") (known1 : Plain.Known 𝓤 H A W 𝓣 8 ps·1 r·1 (claims· .2) (claims· .3) "trim::trim") (known2 : Plain.Known 𝓤 H A W 𝓣 0 ps·2 r·2 (claims· .4) (claims· .5) "bench_plans::trims::print_answer") (known3 : Plain.Known 𝓤 H A W 𝓣 5 ps·3 r·3 (claims· .6) (claims· .7) "bench_plans::trims::show") where
           pub spec : Statement.Triple 𝓤 (Wp.WpFn 𝓤 H (𝓣 .C) (𝓣 .Λ) (Function.fnOf 8 ps r xs m hs body)) (Function.plainOf 𝓤 H A 8 ps r Pre· Post·)
           spec = Plain.t-fn-plain 𝓤 H A W 𝓣 8 ps r xs m hs body (λ κs qs bs. Φ) (λ κs qs bs bd. typed κs qs 𝓤 H A W 𝓣 (known0, known1, known2, known3) bs bd) Pre· Post· asked

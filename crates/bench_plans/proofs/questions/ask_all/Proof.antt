@@ -1,4 +1,4 @@
--- It is only shown that the loop ends.
+-- It is only shown that the loop ends, and that no more places are lent than a table has.
 mod Tie
 use borrow.Author.Needs.{needs}
 use Rattle.bench_plans.proofs.questions.ask_all.Statement.{statement}
@@ -47,4 +47,5 @@ returns : tie.Need-returns Inv-loop μ-loop
 returns c = search needs
 
 pub ask-all-spec : {M : Type 1} → statement M
-ask-all-spec = tie.close (tie.spec Inv-loop μ-loop loop-holds next-requires is-trimming-requires next-places-requires ask-trim-requires next-wide-requires next-wide-requires-2 ask-requires sub-left loop-less loop-again returns)
+ask-all-spec = tie.close (tie.spec Inv-loop μ-loop loop-holds next-requires is-trimming-requires next-places-requires
+    ask-trim-requires next-wide-requires next-wide-requires-2 ask-requires sub-left loop-less loop-again returns)

@@ -44,4 +44,6 @@ returns : tie.Need-returns
 returns c = search needs
 
 pub ask-trim-spec : {M : Type 1} → statement M
-ask-trim-spec = tie.close (tie.spec array-borrow-prefix-rows2 slice-aggregate-try-trim array-borrow-prefix-firsts2 slice-aggregate-try-trim-2 array-borrow-prefix-outcomes2 slice-aggregate-try-trim-3 array-borrow-prefix-olds slice-aggregate-try-trim-4 array-borrow-prefix-scratch slice-aggregate-try-trim-5 try-trim-requires returns)
+ask-trim-spec = tie.close (tie.spec array-borrow-prefix-rows2 slice-aggregate-try-trim array-borrow-prefix-firsts2
+    slice-aggregate-try-trim-2 array-borrow-prefix-outcomes2 slice-aggregate-try-trim-3 array-borrow-prefix-olds
+    slice-aggregate-try-trim-4 array-borrow-prefix-scratch slice-aggregate-try-trim-5 try-trim-requires returns)

@@ -26,4 +26,5 @@ returns : tie.Need-returns
 returns c = search needs
 
 pub go-on-spec : {M : Type 1} → statement M
-go-on-spec = tie.close (tie.spec read-again-requires trim-again-requires slice-aggregate-write-all write-all-requires print-again-requires ask-tables-requires returns)
+go-on-spec = tie.close (tie.spec read-again-requires trim-again-requires slice-aggregate-write-all write-all-requires
+    print-again-requires ask-tables-requires returns)

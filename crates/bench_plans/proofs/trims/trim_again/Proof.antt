@@ -56,4 +56,6 @@ returns-3 : tie.Need-returns-3
 returns-3 c = search needs
 
 pub trim-again-spec : {M : Type 1} → statement M
-trim-again-spec = tie.close (tie.spec slice-aggregate-trim slice-aggregate-trim-2 slice-aggregate-trim-3 slice-aggregate-trim-4 slice-aggregate-trim-5 trim-requires enum-known-r enum-told returns slice-aggregate-own-numbers own-numbers-requires returns-2 slice-aggregate-same-tables slice-aggregate-same-tables-2 slice-aggregate-same-tables-3 same-tables-requires returns-3)
+trim-again-spec = tie.close (tie.spec slice-aggregate-trim slice-aggregate-trim-2 slice-aggregate-trim-3 slice-aggregate-trim-4
+    slice-aggregate-trim-5 trim-requires enum-known-r enum-told returns slice-aggregate-own-numbers own-numbers-requires returns-2
+    slice-aggregate-same-tables slice-aggregate-same-tables-2 slice-aggregate-same-tables-3 same-tables-requires returns-3)

@@ -53,4 +53,6 @@ returns-2 : tie.Need-returns-2
 returns-2 c = search needs
 
 pub try-trim-spec : {M : Type 1} → statement M
-try-trim-spec = tie.close (tie.spec hold-rows-requires trim-requires print-answer-requires same-length same-length-2 same-length-3 same-length-4 same-length-5 returns show-requires same-length-6 same-length-7 same-length-8 same-length-9 same-length-10 returns-2)
+try-trim-spec = tie.close (tie.spec hold-rows-requires trim-requires print-answer-requires same-length same-length-2 same-length-3
+    same-length-4 same-length-5 returns show-requires same-length-6 same-length-7 same-length-8 same-length-9 same-length-10
+    returns-2)

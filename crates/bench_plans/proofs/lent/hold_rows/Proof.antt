@@ -4,8 +4,8 @@ use Prim.Native.Nat.{_-_}
 use lib.ListN.{length}
 mod Tie
 use borrow.Author.Needs.{needs}
-use Rattle.bench_plans.proofs.trims.hold_rows.Statement.{statement}
-use Rattle.bench_plans.proofs.trims.hold_rows.Proof.Tie as tie
+use Rattle.bench_plans.proofs.lent.hold_rows.Statement.{statement}
+use Rattle.bench_plans.proofs.lent.hold_rows.Proof.Tie as tie
 
 abbrev Inv-loop : tie.InvT-loop
 Inv-loop rows₀ x i₀ rows i = length rows ≡ length rows₀
@@ -38,4 +38,5 @@ returns : tie.Need-returns Inv-loop μ-loop
 returns c = search needs
 
 pub hold-rows-spec : {M : Type 1} → statement M
-hold-rows-spec = tie.close (tie.spec Inv-loop μ-loop loop-holds row-of-requires put-row-requires add-i loop-less loop-again same-length returns)
+hold-rows-spec = tie.close (tie.spec Inv-loop μ-loop loop-holds row-of-requires put-row-requires add-i loop-less loop-again
+    same-length returns)

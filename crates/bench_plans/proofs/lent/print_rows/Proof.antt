@@ -3,8 +3,8 @@ use Prim.Native.Nat.{_-_}
 use lib.ListN.{length}
 mod Tie
 use borrow.Author.Needs.{needs}
-use Rattle.bench_plans.proofs.trims.print_rows.Statement.{statement}
-use Rattle.bench_plans.proofs.trims.print_rows.Proof.Tie as tie
+use Rattle.bench_plans.proofs.lent.print_rows.Statement.{statement}
+use Rattle.bench_plans.proofs.lent.print_rows.Proof.Tie as tie
 
 abbrev Inv-loop : tie.InvT-loop
 Inv-loop rows i₀ word i = Unit {0}
@@ -46,4 +46,5 @@ returns : tie.Need-returns Inv-loop μ-loop
 returns c = search needs
 
 pub print-rows-spec : {M : Type 1} → statement M
-print-rows-spec = tie.close (tie.spec Inv-loop μ-loop slice-aggregate-write-all write-all-requires loop-holds row-at-requires print-row-requires add-i loop-less loop-again slice-aggregate-write-all-2 write-all-requires-2 returns)
+print-rows-spec = tie.close (tie.spec Inv-loop μ-loop slice-aggregate-write-all write-all-requires loop-holds row-at-requires
+    print-row-requires add-i loop-less loop-again slice-aggregate-write-all-2 write-all-requires-2 returns)
