@@ -276,7 +276,9 @@ def cases():
         for change in (1, 128):
             yield usual(data[:i] + bytes([data[i] ^ change]) + data[i + 1:])
     yield usual(data + b"\x00")
-    yield Case(b"", questions=(Question(DECIDING), Question(SEARCH)))
+    for rows in 0, 1, STATES:
+        questions = (Question(call, start, places) for call in (DECIDING, SEARCH) for start in (0, rows, LAST) for places in (0, rows))
+        yield Case(b"", rows, questions=tuple(questions))
     n = case_a().n
     for places in n - 1, n, n + 1, LAST:
         yield Case(data, questions=(Question(DECIDING, 0, places), *(Question(SEARCH, start, places) for start in (n - 1, n, LAST))))

@@ -117,8 +117,8 @@ impl Trimmed {
     }
 }
 
-/// All plans on which trimming is timed. On a file that is refused the program asks of a plan without states: there both must refuse
-/// whatever is lent.
+/// All plans on which trimming is timed. On a file that is refused the program asks of a plan that is not sound, as one without states is:
+/// both must refuse whatever is lent.
 pub fn trimmed(program: &str) -> Result<Vec<Trimmed>, String> {
     let plans = trims::plans().into_iter();
     let plans: Vec<Trimmed> = plans

@@ -88,8 +88,8 @@ impl Warned {
     }
 }
 
-/// All plans on which the warning time is timed. On a file that is refused the program asks of a plan without states: there both
-/// must refuse whatever is asked.
+/// All plans on which the warning time is timed. On a file that is refused the program asks of a plan that is not sound, as one without
+/// states is: both must refuse whatever is asked.
 pub fn warned(program: &str) -> Result<Vec<Warned>, String> {
     let plans = warnings::plans().into_iter();
     let plans: Vec<Warned> = plans

@@ -7,8 +7,8 @@
 // table that the call writes, for 2, the contest, how many moves, for 3, the warning time, how many seconds a move takes. For 4 and 5,
 // trimming, it is the call and, of two bytes each, how many places are lent of rows, first outcomes, outcomes, map and scratch, what every
 // place of these holds, and two numbers that are passed over; for 5 the answer alone is printed, for 4 every table lent as well and what
-// comes of the trimmed plan. Other calls are passed over. On a file that is refused the questions are asked of a plan without states. Past
-// the end of the input every byte is 0.
+// comes of the trimmed plan. Other calls are passed over. On a file that is refused the questions are asked of a plan that is not sound:
+// it has a state for each row that is lent, and its start is none of them. Past the end of the input every byte is 0.
 ghost use Prim.Native.Nat.{_≤_};
 ghost use Rattle.model.specs.File.{maxStates, maxCommands, maxOutcomes};
 use crate::files::print_again;
@@ -45,7 +45,8 @@ fn try_file(
     match r {
         ReadAnswer::Refused(x) => {
             print_refusal(tables::number(x));
-            ask_all(Size::new(0, 0, 0, 0), rows, firsts, outcomes, questions);
+            let n = rows.len();
+            ask_all(Size::new(n, 0, 0, n), rows, firsts, outcomes, questions);
         }
         ReadAnswer::Given(size) => {
             io::write_all(1, b"read");

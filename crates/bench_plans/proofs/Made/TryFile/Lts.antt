@@ -137,7 +137,7 @@ abbrev pub r : Kinds.RK 4
 r = Unit'.rUnit
 
 abbrev pub xs : List.List Syntax.Ty
-xs = List._∷_ ty·18 (List._∷_ ty·17 (List._∷_ ty·16 (List._∷_ Syntax.tyBool (List._∷_ Syntax.tyBool (List._∷_ ty·0 (List._∷_ ty·7 (List._∷_ ty·14 (List._∷_ ty·2 (List._∷_ ty·12 (List._∷_ ty·2 (List._∷_ ty·12 (List._∷_ Syntax.tyUnit (List._∷_ (Syntax.tyInt Syntax.w32) (List._∷_ ty·16 (List._∷_ ty·8 (List._∷_ ty·15 (List._∷_ ty·3 (List._∷_ ty·13 (List._∷_ ty·3 (List._∷_ ty·13 (List._∷_ Syntax.tyBool (List._∷_ ty·10 (List._∷_ ty·11 (List._∷_ Syntax.tyUnit (List._∷_ ty·7 (List._∷_ ty·14 (List._∷_ ty·2 (List._∷_ ty·12 (List._∷_ ty·2 (List._∷_ ty·12 (List._∷_ ty·8 (List._∷_ ty·15 (List._∷_ ty·3 (List._∷_ ty·13 (List._∷_ ty·3 (List._∷_ ty·13 (List._∷_ ty·8 (List._∷_ ty·15 (List._∷_ ty·3 (List._∷_ ty·13 (List._∷_ ty·3 (List._∷_ ty·13 List.[]))))))))))))))))))))))))))))))))))))))))))
+xs = List._∷_ ty·18 (List._∷_ ty·17 (List._∷_ (Syntax.tyInt Syntax.w64) (List._∷_ ty·16 (List._∷_ Syntax.tyBool (List._∷_ Syntax.tyBool (List._∷_ ty·0 (List._∷_ ty·7 (List._∷_ ty·14 (List._∷_ ty·2 (List._∷_ ty·12 (List._∷_ ty·2 (List._∷_ ty·12 (List._∷_ Syntax.tyUnit (List._∷_ (Syntax.tyInt Syntax.w32) (List._∷_ ty·16 (List._∷_ ty·8 (List._∷_ ty·15 (List._∷_ ty·3 (List._∷_ ty·13 (List._∷_ ty·3 (List._∷_ ty·13 (List._∷_ Syntax.tyBool (List._∷_ ty·10 (List._∷_ ty·11 (List._∷_ Syntax.tyUnit (List._∷_ ty·7 (List._∷_ ty·14 (List._∷_ ty·2 (List._∷_ ty·12 (List._∷_ ty·2 (List._∷_ ty·12 (List._∷_ ty·8 (List._∷_ ty·15 (List._∷_ ty·3 (List._∷_ ty·13 (List._∷_ ty·3 (List._∷_ ty·13 (List._∷_ ty·8 (List._∷_ ty·15 (List._∷_ ty·3 (List._∷_ ty·13 (List._∷_ ty·3 (List._∷_ ty·13 List.[])))))))))))))))))))))))))))))))))))))))))))
 
 abbrev pub m : Nat.ℕ
 m = 16
@@ -203,592 +203,610 @@ abbrev pub r·9 : Kinds.RK 0
 r·9 = Unit'.rUnit
 
 abbrev pub hs : List.List Syntax.Home
-hs = List._∷_ Syntax.valueLocal (List._∷_ Syntax.valueLocal (List._∷_ Syntax.valueLocal (List._∷_ Syntax.valueLocal (List._∷_ Syntax.valueLocal (List._∷_ Syntax.valueLocal (List._∷_ Syntax.valueLocal (List._∷_ Syntax.valueLocal (List._∷_ Syntax.valueLocal (List._∷_ Syntax.valueLocal (List._∷_ Syntax.valueLocal (List._∷_ Syntax.memorySlot (List._∷_ Syntax.valueLocal (List._∷_ Syntax.valueLocal (List._∷_ Syntax.valueLocal (List._∷_ Syntax.valueLocal (List._∷_ Syntax.valueLocal (List._∷_ Syntax.valueLocal (List._∷_ Syntax.valueLocal (List._∷_ Syntax.valueLocal (List._∷_ Syntax.valueLocal (List._∷_ Syntax.valueLocal (List._∷_ Syntax.valueLocal (List._∷_ Syntax.valueLocal (List._∷_ Syntax.valueLocal (List._∷_ Syntax.valueLocal (List._∷_ Syntax.valueLocal (List._∷_ Syntax.valueLocal (List._∷_ Syntax.valueLocal (List._∷_ Syntax.valueLocal (List._∷_ Syntax.valueLocal (List._∷_ Syntax.valueLocal (List._∷_ Syntax.valueLocal (List._∷_ Syntax.valueLocal (List._∷_ Syntax.valueLocal (List._∷_ Syntax.valueLocal (List._∷_ Syntax.valueLocal (List._∷_ Syntax.valueLocal (List._∷_ Syntax.valueLocal (List._∷_ Syntax.valueLocal (List._∷_ Syntax.valueLocal (List._∷_ Syntax.valueLocal (List._∷_ Syntax.valueLocal (List._∷_ Syntax.valueLocal (List._∷_ Syntax.valueLocal (List._∷_ Syntax.valueLocal (List._∷_ Syntax.valueLocal (List._∷_ Syntax.valueLocal (List._∷_ Syntax.valueLocal List.[]))))))))))))))))))))))))))))))))))))))))))))))))
+hs = List._∷_ Syntax.valueLocal (List._∷_ Syntax.valueLocal (List._∷_ Syntax.valueLocal (List._∷_ Syntax.valueLocal (List._∷_ Syntax.valueLocal (List._∷_ Syntax.valueLocal (List._∷_ Syntax.valueLocal (List._∷_ Syntax.valueLocal (List._∷_ Syntax.valueLocal (List._∷_ Syntax.valueLocal (List._∷_ Syntax.valueLocal (List._∷_ Syntax.valueLocal (List._∷_ Syntax.memorySlot (List._∷_ Syntax.valueLocal (List._∷_ Syntax.valueLocal (List._∷_ Syntax.valueLocal (List._∷_ Syntax.valueLocal (List._∷_ Syntax.valueLocal (List._∷_ Syntax.valueLocal (List._∷_ Syntax.valueLocal (List._∷_ Syntax.valueLocal (List._∷_ Syntax.valueLocal (List._∷_ Syntax.valueLocal (List._∷_ Syntax.valueLocal (List._∷_ Syntax.valueLocal (List._∷_ Syntax.valueLocal (List._∷_ Syntax.valueLocal (List._∷_ Syntax.valueLocal (List._∷_ Syntax.valueLocal (List._∷_ Syntax.valueLocal (List._∷_ Syntax.valueLocal (List._∷_ Syntax.valueLocal (List._∷_ Syntax.valueLocal (List._∷_ Syntax.valueLocal (List._∷_ Syntax.valueLocal (List._∷_ Syntax.valueLocal (List._∷_ Syntax.valueLocal (List._∷_ Syntax.valueLocal (List._∷_ Syntax.valueLocal (List._∷_ Syntax.valueLocal (List._∷_ Syntax.valueLocal (List._∷_ Syntax.valueLocal (List._∷_ Syntax.valueLocal (List._∷_ Syntax.valueLocal (List._∷_ Syntax.valueLocal (List._∷_ Syntax.valueLocal (List._∷_ Syntax.valueLocal (List._∷_ Syntax.valueLocal (List._∷_ Syntax.valueLocal (List._∷_ Syntax.valueLocal List.[])))))))))))))))))))))))))))))))))))))))))))))))))
 
 abbrev b0 : Syntax.Body
-b0 = Syntax.assign (Syntax.place 11 List.[]) (Syntax.aggregate (List._∷_ (Syntax.int Syntax.w8 114) (List._∷_ (Syntax.int Syntax.w8 101) (List._∷_ (Syntax.int Syntax.w8 97) (List._∷_ (Syntax.int Syntax.w8 100) List.[])))))
+b0 = Syntax.assign (Syntax.place 12 List.[]) (Syntax.aggregate (List._∷_ (Syntax.int Syntax.w8 114) (List._∷_ (Syntax.int Syntax.w8 101) (List._∷_ (Syntax.int Syntax.w8 97) (List._∷_ (Syntax.int Syntax.w8 100) List.[])))))
 
 abbrev b1 : Syntax.Body
-b1 = Syntax.assign (Syntax.place 12 List.[]) (Syntax.addrOf (Syntax.place 2 (List._∷_ (Syntax.field 0) (List._∷_ (Syntax.deref (Memory.lone (T.the-row .mir))) List.[]))))
+b1 = Syntax.assign (Syntax.place 13 List.[]) (Syntax.addrOf (Syntax.place 2 (List._∷_ (Syntax.field 0) (List._∷_ (Syntax.deref (Memory.lone (T.the-row .mir))) List.[]))))
 
 abbrev b2 : Syntax.Body
-b2 = Syntax.assign (Syntax.place 13 List.[]) (Syntax.aggregate (List._∷_ (Syntax.copy (Syntax.place 12 List.[])) (List._∷_ (Syntax.copy (Syntax.place 2 (List._∷_ (Syntax.field 1) List.[]))) List.[])))
+b2 = Syntax.assign (Syntax.place 14 List.[]) (Syntax.aggregate (List._∷_ (Syntax.copy (Syntax.place 13 List.[])) (List._∷_ (Syntax.copy (Syntax.place 2 (List._∷_ (Syntax.field 1) List.[]))) List.[])))
 
 abbrev b3 : Syntax.Body
-b3 = Syntax.assign (Syntax.place 14 List.[]) (Syntax.addrOf (Syntax.place 3 (List._∷_ (Syntax.field 0) (List._∷_ (Syntax.deref (Syntax.tyInt Syntax.w16)) List.[]))))
+b3 = Syntax.assign (Syntax.place 15 List.[]) (Syntax.addrOf (Syntax.place 3 (List._∷_ (Syntax.field 0) (List._∷_ (Syntax.deref (Syntax.tyInt Syntax.w16)) List.[]))))
 
 abbrev b4 : Syntax.Body
-b4 = Syntax.assign (Syntax.place 15 List.[]) (Syntax.aggregate (List._∷_ (Syntax.copy (Syntax.place 14 List.[])) (List._∷_ (Syntax.copy (Syntax.place 3 (List._∷_ (Syntax.field 1) List.[]))) List.[])))
+b4 = Syntax.assign (Syntax.place 16 List.[]) (Syntax.aggregate (List._∷_ (Syntax.copy (Syntax.place 15 List.[])) (List._∷_ (Syntax.copy (Syntax.place 3 (List._∷_ (Syntax.field 1) List.[]))) List.[])))
 
 abbrev b5 : Syntax.Body
-b5 = Syntax.assign (Syntax.place 16 List.[]) (Syntax.addrOf (Syntax.place 4 (List._∷_ (Syntax.field 0) (List._∷_ (Syntax.deref (Syntax.tyInt Syntax.w16)) List.[]))))
+b5 = Syntax.assign (Syntax.place 17 List.[]) (Syntax.addrOf (Syntax.place 4 (List._∷_ (Syntax.field 0) (List._∷_ (Syntax.deref (Syntax.tyInt Syntax.w16)) List.[]))))
 
 abbrev b6 : Syntax.Body
-b6 = Syntax.assign (Syntax.place 17 List.[]) (Syntax.aggregate (List._∷_ (Syntax.copy (Syntax.place 16 List.[])) (List._∷_ (Syntax.copy (Syntax.place 4 (List._∷_ (Syntax.field 1) List.[]))) List.[])))
+b6 = Syntax.assign (Syntax.place 18 List.[]) (Syntax.aggregate (List._∷_ (Syntax.copy (Syntax.place 17 List.[])) (List._∷_ (Syntax.copy (Syntax.place 4 (List._∷_ (Syntax.field 1) List.[]))) List.[])))
 
 abbrev b7 : Syntax.Body
-b7 = Syntax.call "reading::read" (List._∷_ (Syntax.copy (Syntax.place 1 List.[])) (List._∷_ (Syntax.copy (Syntax.place 13 List.[])) (List._∷_ (Syntax.copy (Syntax.place 15 List.[])) (List._∷_ (Syntax.copy (Syntax.place 17 List.[])) List.[])))) (Syntax.place 6 List.[])
+b7 = Syntax.call "reading::read" (List._∷_ (Syntax.copy (Syntax.place 1 List.[])) (List._∷_ (Syntax.copy (Syntax.place 14 List.[])) (List._∷_ (Syntax.copy (Syntax.place 16 List.[])) (List._∷_ (Syntax.copy (Syntax.place 18 List.[])) List.[])))) (Syntax.place 6 List.[])
 
 abbrev b8 : Syntax.Body
 b8 = Syntax.assign (Syntax.place 7 List.[]) (Syntax.rvOpd (Syntax.copy (Syntax.place 6 (List._∷_ (Syntax.variant 1) (List._∷_ (Syntax.field 1) List.[])))))
 
 abbrev b9 : Syntax.Body
-b9 = Syntax.call "tables::number" (List._∷_ (Syntax.copy (Syntax.place 7 List.[])) List.[]) (Syntax.place 19 List.[])
+b9 = Syntax.call "tables::number" (List._∷_ (Syntax.copy (Syntax.place 7 List.[])) List.[]) (Syntax.place 20 List.[])
 
 abbrev b10 : Syntax.Body
-b10 = Syntax.call "bench_plans::print::print_refusal" (List._∷_ (Syntax.copy (Syntax.place 19 List.[])) List.[]) (Syntax.place 18 List.[])
+b10 = Syntax.call "bench_plans::print::print_refusal" (List._∷_ (Syntax.copy (Syntax.place 20 List.[])) List.[]) (Syntax.place 19 List.[])
 
 abbrev b11 : Syntax.Body
-b11 = Syntax.call "tables::Size::new" (List._∷_ (Syntax.int Syntax.w64 0) (List._∷_ (Syntax.int Syntax.w64 0) (List._∷_ (Syntax.int Syntax.w64 0) (List._∷_ (Syntax.int Syntax.w64 0) List.[])))) (Syntax.place 20 List.[])
+b11 = Syntax.assign (Syntax.place 8 List.[]) (Syntax.rvOpd (Syntax.copy (Syntax.place 2 (List._∷_ (Syntax.field 1) List.[]))))
 
 abbrev b12 : Syntax.Body
-b12 = Syntax.assign (Syntax.place 21 List.[]) (Syntax.addrOf (Syntax.place 2 (List._∷_ (Syntax.field 0) (List._∷_ (Syntax.deref (Memory.lone (T.the-row .mir))) List.[]))))
+b12 = Syntax.call "tables::Size::new" (List._∷_ (Syntax.copy (Syntax.place 8 List.[])) (List._∷_ (Syntax.int Syntax.w64 0) (List._∷_ (Syntax.int Syntax.w64 0) (List._∷_ (Syntax.copy (Syntax.place 8 List.[])) List.[])))) (Syntax.place 21 List.[])
 
 abbrev b13 : Syntax.Body
-b13 = Syntax.assign (Syntax.place 22 List.[]) (Syntax.aggregate (List._∷_ (Syntax.copy (Syntax.place 21 List.[])) (List._∷_ (Syntax.copy (Syntax.place 2 (List._∷_ (Syntax.field 1) List.[]))) List.[])))
+b13 = Syntax.assign (Syntax.place 22 List.[]) (Syntax.addrOf (Syntax.place 2 (List._∷_ (Syntax.field 0) (List._∷_ (Syntax.deref (Memory.lone (T.the-row .mir))) List.[]))))
 
 abbrev b14 : Syntax.Body
-b14 = Syntax.assign (Syntax.place 23 List.[]) (Syntax.addrOf (Syntax.place 3 (List._∷_ (Syntax.field 0) (List._∷_ (Syntax.deref (Syntax.tyInt Syntax.w16)) List.[]))))
+b14 = Syntax.assign (Syntax.place 23 List.[]) (Syntax.aggregate (List._∷_ (Syntax.copy (Syntax.place 22 List.[])) (List._∷_ (Syntax.copy (Syntax.place 2 (List._∷_ (Syntax.field 1) List.[]))) List.[])))
 
 abbrev b15 : Syntax.Body
-b15 = Syntax.assign (Syntax.place 24 List.[]) (Syntax.aggregate (List._∷_ (Syntax.copy (Syntax.place 23 List.[])) (List._∷_ (Syntax.copy (Syntax.place 3 (List._∷_ (Syntax.field 1) List.[]))) List.[])))
+b15 = Syntax.assign (Syntax.place 24 List.[]) (Syntax.addrOf (Syntax.place 3 (List._∷_ (Syntax.field 0) (List._∷_ (Syntax.deref (Syntax.tyInt Syntax.w16)) List.[]))))
 
 abbrev b16 : Syntax.Body
-b16 = Syntax.assign (Syntax.place 25 List.[]) (Syntax.addrOf (Syntax.place 4 (List._∷_ (Syntax.field 0) (List._∷_ (Syntax.deref (Syntax.tyInt Syntax.w16)) List.[]))))
+b16 = Syntax.assign (Syntax.place 25 List.[]) (Syntax.aggregate (List._∷_ (Syntax.copy (Syntax.place 24 List.[])) (List._∷_ (Syntax.copy (Syntax.place 3 (List._∷_ (Syntax.field 1) List.[]))) List.[])))
 
 abbrev b17 : Syntax.Body
-b17 = Syntax.assign (Syntax.place 26 List.[]) (Syntax.aggregate (List._∷_ (Syntax.copy (Syntax.place 25 List.[])) (List._∷_ (Syntax.copy (Syntax.place 4 (List._∷_ (Syntax.field 1) List.[]))) List.[])))
+b17 = Syntax.assign (Syntax.place 26 List.[]) (Syntax.addrOf (Syntax.place 4 (List._∷_ (Syntax.field 0) (List._∷_ (Syntax.deref (Syntax.tyInt Syntax.w16)) List.[]))))
 
 abbrev b18 : Syntax.Body
-b18 = Syntax.call "bench_plans::questions::ask_all" (List._∷_ (Syntax.copy (Syntax.place 20 List.[])) (List._∷_ (Syntax.copy (Syntax.place 22 List.[])) (List._∷_ (Syntax.copy (Syntax.place 24 List.[])) (List._∷_ (Syntax.copy (Syntax.place 26 List.[])) (List._∷_ (Syntax.copy (Syntax.place 5 List.[])) List.[]))))) (Syntax.place 18 List.[])
+b18 = Syntax.assign (Syntax.place 27 List.[]) (Syntax.aggregate (List._∷_ (Syntax.copy (Syntax.place 26 List.[])) (List._∷_ (Syntax.copy (Syntax.place 4 (List._∷_ (Syntax.field 1) List.[]))) List.[])))
 
 abbrev b19 : Syntax.Body
-b19 = Syntax.seq b17 b18
+b19 = Syntax.call "bench_plans::questions::ask_all" (List._∷_ (Syntax.copy (Syntax.place 21 List.[])) (List._∷_ (Syntax.copy (Syntax.place 23 List.[])) (List._∷_ (Syntax.copy (Syntax.place 25 List.[])) (List._∷_ (Syntax.copy (Syntax.place 27 List.[])) (List._∷_ (Syntax.copy (Syntax.place 5 List.[])) List.[]))))) (Syntax.place 19 List.[])
 
 abbrev b20 : Syntax.Body
-b20 = Syntax.seq b16 b19
+b20 = Syntax.seq b18 b19
 
 abbrev b21 : Syntax.Body
-b21 = Syntax.seq b15 b20
+b21 = Syntax.seq b17 b20
 
 abbrev b22 : Syntax.Body
-b22 = Syntax.seq b14 b21
+b22 = Syntax.seq b16 b21
 
 abbrev b23 : Syntax.Body
-b23 = Syntax.seq b13 b22
+b23 = Syntax.seq b15 b22
 
 abbrev b24 : Syntax.Body
-b24 = Syntax.seq b12 b23
+b24 = Syntax.seq b14 b23
 
 abbrev b25 : Syntax.Body
-b25 = Syntax.seq b11 b24
+b25 = Syntax.seq b13 b24
 
 abbrev b26 : Syntax.Body
-b26 = Syntax.seq b10 b25
+b26 = Syntax.seq b12 b25
 
 abbrev b27 : Syntax.Body
-b27 = Syntax.seq b9 b26
+b27 = Syntax.seq b11 b26
 
 abbrev b28 : Syntax.Body
-b28 = Syntax.seq b8 b27
+b28 = Syntax.seq b10 b27
 
 abbrev b29 : Syntax.Body
-b29 = Syntax.assign (Syntax.place 8 List.[]) (Syntax.rvOpd (Syntax.copy (Syntax.place 6 (List._∷_ (Syntax.variant 0) (List._∷_ (Syntax.field 1) List.[])))))
+b29 = Syntax.seq b9 b28
 
 abbrev b30 : Syntax.Body
-b30 = Syntax.assign (Syntax.place 28 List.[]) (Syntax.addrOf (Syntax.place 11 List.[]))
+b30 = Syntax.seq b8 b29
 
 abbrev b31 : Syntax.Body
-b31 = Syntax.assign (Syntax.place 29 List.[]) (Syntax.aggregate (List._∷_ (Syntax.copy (Syntax.place 28 List.[])) (List._∷_ (Syntax.int Syntax.w64 4) List.[])))
+b31 = Syntax.assign (Syntax.place 9 List.[]) (Syntax.rvOpd (Syntax.copy (Syntax.place 6 (List._∷_ (Syntax.variant 0) (List._∷_ (Syntax.field 1) List.[])))))
 
 abbrev b32 : Syntax.Body
-b32 = Syntax.call "io::write_all" (List._∷_ (Syntax.int Syntax.w32 1) (List._∷_ (Syntax.copy (Syntax.place 29 List.[])) List.[])) (Syntax.place 27 List.[])
+b32 = Syntax.assign (Syntax.place 29 List.[]) (Syntax.addrOf (Syntax.place 12 List.[]))
 
 abbrev b33 : Syntax.Body
-b33 = Syntax.call "bench_plans::files::print_size" (List._∷_ (Syntax.copy (Syntax.place 8 List.[])) List.[]) (Syntax.place 30 List.[])
+b33 = Syntax.assign (Syntax.place 30 List.[]) (Syntax.aggregate (List._∷_ (Syntax.copy (Syntax.place 29 List.[])) (List._∷_ (Syntax.int Syntax.w64 4) List.[])))
 
 abbrev b34 : Syntax.Body
-b34 = Syntax.assign (Syntax.place 31 List.[]) (Syntax.addrOf (Syntax.place 2 (List._∷_ (Syntax.field 0) (List._∷_ (Syntax.deref (Memory.lone (T.the-row .mir))) List.[]))))
+b34 = Syntax.call "io::write_all" (List._∷_ (Syntax.int Syntax.w32 1) (List._∷_ (Syntax.copy (Syntax.place 30 List.[])) List.[])) (Syntax.place 28 List.[])
 
 abbrev b35 : Syntax.Body
-b35 = Syntax.assign (Syntax.place 32 List.[]) (Syntax.aggregate (List._∷_ (Syntax.copy (Syntax.place 31 List.[])) (List._∷_ (Syntax.copy (Syntax.place 2 (List._∷_ (Syntax.field 1) List.[]))) List.[])))
+b35 = Syntax.call "bench_plans::files::print_size" (List._∷_ (Syntax.copy (Syntax.place 9 List.[])) List.[]) (Syntax.place 31 List.[])
 
 abbrev b36 : Syntax.Body
-b36 = Syntax.assign (Syntax.place 33 List.[]) (Syntax.addrOf (Syntax.place 3 (List._∷_ (Syntax.field 0) (List._∷_ (Syntax.deref (Syntax.tyInt Syntax.w16)) List.[]))))
+b36 = Syntax.assign (Syntax.place 32 List.[]) (Syntax.addrOf (Syntax.place 2 (List._∷_ (Syntax.field 0) (List._∷_ (Syntax.deref (Memory.lone (T.the-row .mir))) List.[]))))
 
 abbrev b37 : Syntax.Body
-b37 = Syntax.assign (Syntax.place 34 List.[]) (Syntax.aggregate (List._∷_ (Syntax.copy (Syntax.place 33 List.[])) (List._∷_ (Syntax.copy (Syntax.place 3 (List._∷_ (Syntax.field 1) List.[]))) List.[])))
+b37 = Syntax.assign (Syntax.place 33 List.[]) (Syntax.aggregate (List._∷_ (Syntax.copy (Syntax.place 32 List.[])) (List._∷_ (Syntax.copy (Syntax.place 2 (List._∷_ (Syntax.field 1) List.[]))) List.[])))
 
 abbrev b38 : Syntax.Body
-b38 = Syntax.assign (Syntax.place 35 List.[]) (Syntax.addrOf (Syntax.place 4 (List._∷_ (Syntax.field 0) (List._∷_ (Syntax.deref (Syntax.tyInt Syntax.w16)) List.[]))))
+b38 = Syntax.assign (Syntax.place 34 List.[]) (Syntax.addrOf (Syntax.place 3 (List._∷_ (Syntax.field 0) (List._∷_ (Syntax.deref (Syntax.tyInt Syntax.w16)) List.[]))))
 
 abbrev b39 : Syntax.Body
-b39 = Syntax.assign (Syntax.place 36 List.[]) (Syntax.aggregate (List._∷_ (Syntax.copy (Syntax.place 35 List.[])) (List._∷_ (Syntax.copy (Syntax.place 4 (List._∷_ (Syntax.field 1) List.[]))) List.[])))
+b39 = Syntax.assign (Syntax.place 35 List.[]) (Syntax.aggregate (List._∷_ (Syntax.copy (Syntax.place 34 List.[])) (List._∷_ (Syntax.copy (Syntax.place 3 (List._∷_ (Syntax.field 1) List.[]))) List.[])))
 
 abbrev b40 : Syntax.Body
-b40 = Syntax.call "bench_plans::files::write_again" (List._∷_ (Syntax.copy (Syntax.place 1 List.[])) (List._∷_ (Syntax.copy (Syntax.place 32 List.[])) (List._∷_ (Syntax.copy (Syntax.place 34 List.[])) (List._∷_ (Syntax.copy (Syntax.place 36 List.[])) List.[])))) (Syntax.place 9 List.[])
+b40 = Syntax.assign (Syntax.place 36 List.[]) (Syntax.addrOf (Syntax.place 4 (List._∷_ (Syntax.field 0) (List._∷_ (Syntax.deref (Syntax.tyInt Syntax.w16)) List.[]))))
 
 abbrev b41 : Syntax.Body
-b41 = Syntax.assign (Syntax.place 37 List.[]) (Syntax.addrOf (Syntax.place 2 (List._∷_ (Syntax.field 0) (List._∷_ (Syntax.deref (Memory.lone (T.the-row .mir))) List.[]))))
+b41 = Syntax.assign (Syntax.place 37 List.[]) (Syntax.aggregate (List._∷_ (Syntax.copy (Syntax.place 36 List.[])) (List._∷_ (Syntax.copy (Syntax.place 4 (List._∷_ (Syntax.field 1) List.[]))) List.[])))
 
 abbrev b42 : Syntax.Body
-b42 = Syntax.assign (Syntax.place 38 List.[]) (Syntax.aggregate (List._∷_ (Syntax.copy (Syntax.place 37 List.[])) (List._∷_ (Syntax.copy (Syntax.place 2 (List._∷_ (Syntax.field 1) List.[]))) List.[])))
+b42 = Syntax.call "bench_plans::files::write_again" (List._∷_ (Syntax.copy (Syntax.place 1 List.[])) (List._∷_ (Syntax.copy (Syntax.place 33 List.[])) (List._∷_ (Syntax.copy (Syntax.place 35 List.[])) (List._∷_ (Syntax.copy (Syntax.place 37 List.[])) List.[])))) (Syntax.place 10 List.[])
 
 abbrev b43 : Syntax.Body
-b43 = Syntax.assign (Syntax.place 39 List.[]) (Syntax.addrOf (Syntax.place 3 (List._∷_ (Syntax.field 0) (List._∷_ (Syntax.deref (Syntax.tyInt Syntax.w16)) List.[]))))
+b43 = Syntax.assign (Syntax.place 38 List.[]) (Syntax.addrOf (Syntax.place 2 (List._∷_ (Syntax.field 0) (List._∷_ (Syntax.deref (Memory.lone (T.the-row .mir))) List.[]))))
 
 abbrev b44 : Syntax.Body
-b44 = Syntax.assign (Syntax.place 40 List.[]) (Syntax.aggregate (List._∷_ (Syntax.copy (Syntax.place 39 List.[])) (List._∷_ (Syntax.copy (Syntax.place 3 (List._∷_ (Syntax.field 1) List.[]))) List.[])))
+b44 = Syntax.assign (Syntax.place 39 List.[]) (Syntax.aggregate (List._∷_ (Syntax.copy (Syntax.place 38 List.[])) (List._∷_ (Syntax.copy (Syntax.place 2 (List._∷_ (Syntax.field 1) List.[]))) List.[])))
 
 abbrev b45 : Syntax.Body
-b45 = Syntax.assign (Syntax.place 41 List.[]) (Syntax.addrOf (Syntax.place 4 (List._∷_ (Syntax.field 0) (List._∷_ (Syntax.deref (Syntax.tyInt Syntax.w16)) List.[]))))
+b45 = Syntax.assign (Syntax.place 40 List.[]) (Syntax.addrOf (Syntax.place 3 (List._∷_ (Syntax.field 0) (List._∷_ (Syntax.deref (Syntax.tyInt Syntax.w16)) List.[]))))
 
 abbrev b46 : Syntax.Body
-b46 = Syntax.assign (Syntax.place 42 List.[]) (Syntax.aggregate (List._∷_ (Syntax.copy (Syntax.place 41 List.[])) (List._∷_ (Syntax.copy (Syntax.place 4 (List._∷_ (Syntax.field 1) List.[]))) List.[])))
+b46 = Syntax.assign (Syntax.place 41 List.[]) (Syntax.aggregate (List._∷_ (Syntax.copy (Syntax.place 40 List.[])) (List._∷_ (Syntax.copy (Syntax.place 3 (List._∷_ (Syntax.field 1) List.[]))) List.[])))
 
 abbrev b47 : Syntax.Body
-b47 = Syntax.call "bench_plans::files::read_again" (List._∷_ (Syntax.copy (Syntax.place 8 List.[])) (List._∷_ (Syntax.copy (Syntax.place 38 List.[])) (List._∷_ (Syntax.copy (Syntax.place 40 List.[])) (List._∷_ (Syntax.copy (Syntax.place 42 List.[])) List.[])))) (Syntax.place 10 List.[])
+b47 = Syntax.assign (Syntax.place 42 List.[]) (Syntax.addrOf (Syntax.place 4 (List._∷_ (Syntax.field 0) (List._∷_ (Syntax.deref (Syntax.tyInt Syntax.w16)) List.[]))))
 
 abbrev b48 : Syntax.Body
-b48 = Syntax.call "bench_plans::files::print_again" (List._∷_ (Syntax.copy (Syntax.place 9 List.[])) (List._∷_ (Syntax.copy (Syntax.place 10 List.[])) List.[])) (Syntax.place 30 List.[])
+b48 = Syntax.assign (Syntax.place 43 List.[]) (Syntax.aggregate (List._∷_ (Syntax.copy (Syntax.place 42 List.[])) (List._∷_ (Syntax.copy (Syntax.place 4 (List._∷_ (Syntax.field 1) List.[]))) List.[])))
 
 abbrev b49 : Syntax.Body
-b49 = Syntax.assign (Syntax.place 43 List.[]) (Syntax.addrOf (Syntax.place 2 (List._∷_ (Syntax.field 0) (List._∷_ (Syntax.deref (Memory.lone (T.the-row .mir))) List.[]))))
+b49 = Syntax.call "bench_plans::files::read_again" (List._∷_ (Syntax.copy (Syntax.place 9 List.[])) (List._∷_ (Syntax.copy (Syntax.place 39 List.[])) (List._∷_ (Syntax.copy (Syntax.place 41 List.[])) (List._∷_ (Syntax.copy (Syntax.place 43 List.[])) List.[])))) (Syntax.place 11 List.[])
 
 abbrev b50 : Syntax.Body
-b50 = Syntax.assign (Syntax.place 44 List.[]) (Syntax.aggregate (List._∷_ (Syntax.copy (Syntax.place 43 List.[])) (List._∷_ (Syntax.copy (Syntax.place 2 (List._∷_ (Syntax.field 1) List.[]))) List.[])))
+b50 = Syntax.call "bench_plans::files::print_again" (List._∷_ (Syntax.copy (Syntax.place 10 List.[])) (List._∷_ (Syntax.copy (Syntax.place 11 List.[])) List.[])) (Syntax.place 31 List.[])
 
 abbrev b51 : Syntax.Body
-b51 = Syntax.assign (Syntax.place 45 List.[]) (Syntax.addrOf (Syntax.place 3 (List._∷_ (Syntax.field 0) (List._∷_ (Syntax.deref (Syntax.tyInt Syntax.w16)) List.[]))))
+b51 = Syntax.assign (Syntax.place 44 List.[]) (Syntax.addrOf (Syntax.place 2 (List._∷_ (Syntax.field 0) (List._∷_ (Syntax.deref (Memory.lone (T.the-row .mir))) List.[]))))
 
 abbrev b52 : Syntax.Body
-b52 = Syntax.assign (Syntax.place 46 List.[]) (Syntax.aggregate (List._∷_ (Syntax.copy (Syntax.place 45 List.[])) (List._∷_ (Syntax.copy (Syntax.place 3 (List._∷_ (Syntax.field 1) List.[]))) List.[])))
+b52 = Syntax.assign (Syntax.place 45 List.[]) (Syntax.aggregate (List._∷_ (Syntax.copy (Syntax.place 44 List.[])) (List._∷_ (Syntax.copy (Syntax.place 2 (List._∷_ (Syntax.field 1) List.[]))) List.[])))
 
 abbrev b53 : Syntax.Body
-b53 = Syntax.assign (Syntax.place 47 List.[]) (Syntax.addrOf (Syntax.place 4 (List._∷_ (Syntax.field 0) (List._∷_ (Syntax.deref (Syntax.tyInt Syntax.w16)) List.[]))))
+b53 = Syntax.assign (Syntax.place 46 List.[]) (Syntax.addrOf (Syntax.place 3 (List._∷_ (Syntax.field 0) (List._∷_ (Syntax.deref (Syntax.tyInt Syntax.w16)) List.[]))))
 
 abbrev b54 : Syntax.Body
-b54 = Syntax.assign (Syntax.place 48 List.[]) (Syntax.aggregate (List._∷_ (Syntax.copy (Syntax.place 47 List.[])) (List._∷_ (Syntax.copy (Syntax.place 4 (List._∷_ (Syntax.field 1) List.[]))) List.[])))
+b54 = Syntax.assign (Syntax.place 47 List.[]) (Syntax.aggregate (List._∷_ (Syntax.copy (Syntax.place 46 List.[])) (List._∷_ (Syntax.copy (Syntax.place 3 (List._∷_ (Syntax.field 1) List.[]))) List.[])))
 
 abbrev b55 : Syntax.Body
-b55 = Syntax.call "bench_plans::questions::ask_all" (List._∷_ (Syntax.copy (Syntax.place 8 List.[])) (List._∷_ (Syntax.copy (Syntax.place 44 List.[])) (List._∷_ (Syntax.copy (Syntax.place 46 List.[])) (List._∷_ (Syntax.copy (Syntax.place 48 List.[])) (List._∷_ (Syntax.copy (Syntax.place 5 List.[])) List.[]))))) (Syntax.place 30 List.[])
+b55 = Syntax.assign (Syntax.place 48 List.[]) (Syntax.addrOf (Syntax.place 4 (List._∷_ (Syntax.field 0) (List._∷_ (Syntax.deref (Syntax.tyInt Syntax.w16)) List.[]))))
 
 abbrev b56 : Syntax.Body
-b56 = Syntax.seq b54 b55
+b56 = Syntax.assign (Syntax.place 49 List.[]) (Syntax.aggregate (List._∷_ (Syntax.copy (Syntax.place 48 List.[])) (List._∷_ (Syntax.copy (Syntax.place 4 (List._∷_ (Syntax.field 1) List.[]))) List.[])))
 
 abbrev b57 : Syntax.Body
-b57 = Syntax.seq b53 b56
+b57 = Syntax.call "bench_plans::questions::ask_all" (List._∷_ (Syntax.copy (Syntax.place 9 List.[])) (List._∷_ (Syntax.copy (Syntax.place 45 List.[])) (List._∷_ (Syntax.copy (Syntax.place 47 List.[])) (List._∷_ (Syntax.copy (Syntax.place 49 List.[])) (List._∷_ (Syntax.copy (Syntax.place 5 List.[])) List.[]))))) (Syntax.place 31 List.[])
 
 abbrev b58 : Syntax.Body
-b58 = Syntax.seq b52 b57
+b58 = Syntax.seq b56 b57
 
 abbrev b59 : Syntax.Body
-b59 = Syntax.seq b51 b58
+b59 = Syntax.seq b55 b58
 
 abbrev b60 : Syntax.Body
-b60 = Syntax.seq b50 b59
+b60 = Syntax.seq b54 b59
 
 abbrev b61 : Syntax.Body
-b61 = Syntax.seq b49 b60
+b61 = Syntax.seq b53 b60
 
 abbrev b62 : Syntax.Body
-b62 = Syntax.seq b48 b61
+b62 = Syntax.seq b52 b61
 
 abbrev b63 : Syntax.Body
-b63 = Syntax.seq b47 b62
+b63 = Syntax.seq b51 b62
 
 abbrev b64 : Syntax.Body
-b64 = Syntax.seq b46 b63
+b64 = Syntax.seq b50 b63
 
 abbrev b65 : Syntax.Body
-b65 = Syntax.seq b45 b64
+b65 = Syntax.seq b49 b64
 
 abbrev b66 : Syntax.Body
-b66 = Syntax.seq b44 b65
+b66 = Syntax.seq b48 b65
 
 abbrev b67 : Syntax.Body
-b67 = Syntax.seq b43 b66
+b67 = Syntax.seq b47 b66
 
 abbrev b68 : Syntax.Body
-b68 = Syntax.seq b42 b67
+b68 = Syntax.seq b46 b67
 
 abbrev b69 : Syntax.Body
-b69 = Syntax.seq b41 b68
+b69 = Syntax.seq b45 b68
 
 abbrev b70 : Syntax.Body
-b70 = Syntax.seq b40 b69
+b70 = Syntax.seq b44 b69
 
 abbrev b71 : Syntax.Body
-b71 = Syntax.seq b39 b70
+b71 = Syntax.seq b43 b70
 
 abbrev b72 : Syntax.Body
-b72 = Syntax.seq b38 b71
+b72 = Syntax.seq b42 b71
 
 abbrev b73 : Syntax.Body
-b73 = Syntax.seq b37 b72
+b73 = Syntax.seq b41 b72
 
 abbrev b74 : Syntax.Body
-b74 = Syntax.seq b36 b73
+b74 = Syntax.seq b40 b73
 
 abbrev b75 : Syntax.Body
-b75 = Syntax.seq b35 b74
+b75 = Syntax.seq b39 b74
 
 abbrev b76 : Syntax.Body
-b76 = Syntax.seq b34 b75
+b76 = Syntax.seq b38 b75
 
 abbrev b77 : Syntax.Body
-b77 = Syntax.seq b33 b76
+b77 = Syntax.seq b37 b76
 
 abbrev b78 : Syntax.Body
-b78 = Syntax.seq b32 b77
+b78 = Syntax.seq b36 b77
 
 abbrev b79 : Syntax.Body
-b79 = Syntax.seq b31 b78
+b79 = Syntax.seq b35 b78
 
 abbrev b80 : Syntax.Body
-b80 = Syntax.seq b30 b79
+b80 = Syntax.seq b34 b79
 
 abbrev b81 : Syntax.Body
-b81 = Syntax.seq b29 b80
+b81 = Syntax.seq b33 b80
 
 abbrev b82 : Syntax.Body
-b82 = Syntax.switch (Syntax.copy (Syntax.place 6 (List._∷_ (Syntax.variant 0) (List._∷_ (Syntax.field 0) List.[])))) (Syntax.arm (List._∷_ 1 List.[]) b28 (Syntax.arm (List._∷_ 0 List.[]) b81 Syntax.noDefault))
+b82 = Syntax.seq b32 b81
 
 abbrev b83 : Syntax.Body
-b83 = Syntax.assign (Syntax.place 0 List.[]) (Syntax.rvOpd Syntax.opdUnit)
+b83 = Syntax.seq b31 b82
 
 abbrev b84 : Syntax.Body
-b84 = Syntax.return
+b84 = Syntax.switch (Syntax.copy (Syntax.place 6 (List._∷_ (Syntax.variant 0) (List._∷_ (Syntax.field 0) List.[])))) (Syntax.arm (List._∷_ 1 List.[]) b30 (Syntax.arm (List._∷_ 0 List.[]) b83 Syntax.noDefault))
 
 abbrev b85 : Syntax.Body
-b85 = Syntax.seq b83 b84
+b85 = Syntax.assign (Syntax.place 0 List.[]) (Syntax.rvOpd Syntax.opdUnit)
 
 abbrev b86 : Syntax.Body
-b86 = Syntax.seq b82 b85
+b86 = Syntax.return
 
 abbrev b87 : Syntax.Body
-b87 = Syntax.seq b7 b86
+b87 = Syntax.seq b85 b86
 
 abbrev b88 : Syntax.Body
-b88 = Syntax.seq b6 b87
+b88 = Syntax.seq b84 b87
 
 abbrev b89 : Syntax.Body
-b89 = Syntax.seq b5 b88
+b89 = Syntax.seq b7 b88
 
 abbrev b90 : Syntax.Body
-b90 = Syntax.seq b4 b89
+b90 = Syntax.seq b6 b89
 
 abbrev b91 : Syntax.Body
-b91 = Syntax.seq b3 b90
+b91 = Syntax.seq b5 b90
 
 abbrev b92 : Syntax.Body
-b92 = Syntax.seq b2 b91
+b92 = Syntax.seq b4 b91
 
 abbrev b93 : Syntax.Body
-b93 = Syntax.seq b1 b92
+b93 = Syntax.seq b3 b92
 
 abbrev b94 : Syntax.Body
-b94 = Syntax.seq b0 b93
+b94 = Syntax.seq b2 b93
+
+abbrev b95 : Syntax.Body
+b95 = Syntax.seq b1 b94
+
+abbrev b96 : Syntax.Body
+b96 = Syntax.seq b0 b95
 
 abbrev pub body : Syntax.Body
-body = b94
+body = b96
 
 abbrev pub Claims : Type 1
 Claims = Kinds.In 4 ps·0 × Kinds.Out 4 ps·0 r·0 × Kinds.In 0 ps·1 × Kinds.Out 0 ps·1 r·1 × Kinds.In 0 ps·2 × Kinds.Out 0 ps·2 r·2 × Kinds.In 0 ps·3 × Kinds.Out 0 ps·3 r·3 × Kinds.In 3 ps·4 × Kinds.Out 3 ps·4 r·4 × Kinds.In 1 ps·5 × Kinds.Out 1 ps·5 r·5 × Kinds.In 0 ps·6 × Kinds.Out 0 ps·6 r·6 × Kinds.In 4 ps·7 × Kinds.Out 4 ps·7 r·7 × Kinds.In 3 ps·8 × Kinds.Out 3 ps·8 r·8 × Kinds.In 0 ps·9 × Kinds.Out 0 ps·9 r·9
 
 abbrev pub t0 : List.List Row.Entry
-t0 = List._∷_ (0, Rows'.any-gone Syntax.tyUnit) (List._∷_ (1, Rows'.sslice (Referent.rtF (Referent.fInt Syntax.w8)) ty·4 0) (List._∷_ (2, Mut.mslice T.the-row ty·9 1) (List._∷_ (3, Mut.mslice (Referent.rtF (Referent.fInt Syntax.w16)) ty·5 2) (List._∷_ (4, Mut.mslice (Referent.rtF (Referent.fInt Syntax.w16)) ty·6 3) (List._∷_ (5, Rows'.sc-here (Row.sInt Syntax.w64)) (List._∷_ (6, Rows'.any-gone ty·18) (List._∷_ (7, Rows'.any-gone ty·17) (List._∷_ (8, Rows'.any-gone ty·16) (List._∷_ (9, Rows'.any-gone Syntax.tyBool) (List._∷_ (10, Rows'.any-gone Syntax.tyBool) (List._∷_ (11, Rows'.any-gone ty·0) (List._∷_ (12, Rows'.any-gone ty·7) (List._∷_ (13, Rows'.any-gone ty·14) (List._∷_ (14, Rows'.any-gone ty·2) (List._∷_ (15, Rows'.any-gone ty·12) List.[])))))))))))))))
+t0 = List._∷_ (0, Rows'.any-gone Syntax.tyUnit) (List._∷_ (1, Rows'.sslice (Referent.rtF (Referent.fInt Syntax.w8)) ty·4 0) (List._∷_ (2, Mut.mslice T.the-row ty·9 1) (List._∷_ (3, Mut.mslice (Referent.rtF (Referent.fInt Syntax.w16)) ty·5 2) (List._∷_ (4, Mut.mslice (Referent.rtF (Referent.fInt Syntax.w16)) ty·6 3) (List._∷_ (5, Rows'.sc-here (Row.sInt Syntax.w64)) (List._∷_ (6, Rows'.any-gone ty·18) (List._∷_ (7, Rows'.any-gone ty·17) (List._∷_ (8, Rows'.any-gone (Syntax.tyInt Syntax.w64)) (List._∷_ (9, Rows'.any-gone ty·16) (List._∷_ (10, Rows'.any-gone Syntax.tyBool) (List._∷_ (11, Rows'.any-gone Syntax.tyBool) (List._∷_ (12, Rows'.any-gone ty·0) (List._∷_ (13, Rows'.any-gone ty·7) (List._∷_ (14, Rows'.any-gone ty·14) (List._∷_ (15, Rows'.any-gone ty·2) List.[])))))))))))))))
 
 abbrev pub t1 : List.List Row.Entry
-t1 = List._∷_ (16, Rows'.any-gone ty·2) (List._∷_ (17, Rows'.any-gone ty·12) (List._∷_ (18, Rows'.any-gone Syntax.tyUnit) (List._∷_ (19, Rows'.any-gone (Syntax.tyInt Syntax.w32)) (List._∷_ (20, Rows'.any-gone ty·16) (List._∷_ (21, Rows'.any-gone ty·8) (List._∷_ (22, Rows'.any-gone ty·15) (List._∷_ (23, Rows'.any-gone ty·3) (List._∷_ (24, Rows'.any-gone ty·13) (List._∷_ (25, Rows'.any-gone ty·3) (List._∷_ (26, Rows'.any-gone ty·13) (List._∷_ (27, Rows'.any-gone Syntax.tyBool) (List._∷_ (28, Rows'.any-gone ty·10) (List._∷_ (29, Rows'.any-gone ty·11) (List._∷_ (30, Rows'.any-gone Syntax.tyUnit) (List._∷_ (31, Rows'.any-gone ty·7) List.[])))))))))))))))
+t1 = List._∷_ (16, Rows'.any-gone ty·12) (List._∷_ (17, Rows'.any-gone ty·2) (List._∷_ (18, Rows'.any-gone ty·12) (List._∷_ (19, Rows'.any-gone Syntax.tyUnit) (List._∷_ (20, Rows'.any-gone (Syntax.tyInt Syntax.w32)) (List._∷_ (21, Rows'.any-gone ty·16) (List._∷_ (22, Rows'.any-gone ty·8) (List._∷_ (23, Rows'.any-gone ty·15) (List._∷_ (24, Rows'.any-gone ty·3) (List._∷_ (25, Rows'.any-gone ty·13) (List._∷_ (26, Rows'.any-gone ty·3) (List._∷_ (27, Rows'.any-gone ty·13) (List._∷_ (28, Rows'.any-gone Syntax.tyBool) (List._∷_ (29, Rows'.any-gone ty·10) (List._∷_ (30, Rows'.any-gone ty·11) (List._∷_ (31, Rows'.any-gone Syntax.tyUnit) List.[])))))))))))))))
 
 abbrev pub t2 : List.List Row.Entry
-t2 = List._∷_ (32, Rows'.any-gone ty·14) (List._∷_ (33, Rows'.any-gone ty·2) (List._∷_ (34, Rows'.any-gone ty·12) (List._∷_ (35, Rows'.any-gone ty·2) (List._∷_ (36, Rows'.any-gone ty·12) (List._∷_ (37, Rows'.any-gone ty·8) (List._∷_ (38, Rows'.any-gone ty·15) (List._∷_ (39, Rows'.any-gone ty·3) (List._∷_ (40, Rows'.any-gone ty·13) (List._∷_ (41, Rows'.any-gone ty·3) (List._∷_ (42, Rows'.any-gone ty·13) (List._∷_ (43, Rows'.any-gone ty·8) (List._∷_ (44, Rows'.any-gone ty·15) (List._∷_ (45, Rows'.any-gone ty·3) (List._∷_ (46, Rows'.any-gone ty·13) (List._∷_ (47, Rows'.any-gone ty·3) List.[])))))))))))))))
+t2 = List._∷_ (32, Rows'.any-gone ty·7) (List._∷_ (33, Rows'.any-gone ty·14) (List._∷_ (34, Rows'.any-gone ty·2) (List._∷_ (35, Rows'.any-gone ty·12) (List._∷_ (36, Rows'.any-gone ty·2) (List._∷_ (37, Rows'.any-gone ty·12) (List._∷_ (38, Rows'.any-gone ty·8) (List._∷_ (39, Rows'.any-gone ty·15) (List._∷_ (40, Rows'.any-gone ty·3) (List._∷_ (41, Rows'.any-gone ty·13) (List._∷_ (42, Rows'.any-gone ty·3) (List._∷_ (43, Rows'.any-gone ty·13) (List._∷_ (44, Rows'.any-gone ty·8) (List._∷_ (45, Rows'.any-gone ty·15) (List._∷_ (46, Rows'.any-gone ty·3) (List._∷_ (47, Rows'.any-gone ty·13) List.[])))))))))))))))
 
 abbrev pub t3 : List.List Row.Entry
-t3 = List._∷_ (48, Rows'.any-gone ty·13) List.[]
+t3 = List._∷_ (48, Rows'.any-gone ty·3) (List._∷_ (49, Rows'.any-gone ty·13) List.[])
 
 abbrev pub t4 : List.List Row.Entry
 t4 = Row.setRow 5 (5, Rows'.any-gone (Syntax.tyInt Syntax.w64)) (Row.setRow 0 (0, Rows'.sc-here Row.sUnit) t0)
 
 abbrev pub t5 : List.List Row.Entry
-t5 = Row.setRow 11 (11, Rows'.whole (Array.Array (Referent.rtF (Referent.fInt Syntax.w8)) 4)) t0
+t5 = Row.setRow 12 (12, Rows'.whole (Array.Array (Referent.rtF (Referent.fInt Syntax.w8)) 4)) t0
 
 abbrev pub t6 : List.List Row.Entry
-t6 = Row.setRow 11 (11, Rows.arrF (Referent.rtF (Referent.fInt Syntax.w8)) 4 0) t0
+t6 = Row.setRow 12 (12, Rows.arrF (Referent.rtF (Referent.fInt Syntax.w8)) 4 0) t0
 
 abbrev pub t7 : List.List Row.Entry
-t7 = Row.setRow 12 (12, Relend.msptr T.the-row ty·7 4) (Row.setRow 2 (2, Relend.mslice-owed T.the-row ty·9 1 4 Row.off) t6)
+t7 = Row.setRow 13 (13, Relend.msptr T.the-row ty·7 4) (Row.setRow 2 (2, Relend.mslice-owed T.the-row ty·9 1 4 Row.off) t6)
 
 abbrev pub t8 : List.List Row.Entry
-t8 = Row.setRow 13 (13, Mut.mslice T.the-row ty·7 4) (Row.setRow 12 (12, Rows'.any-gone ty·7) t7)
+t8 = Row.setRow 14 (14, Mut.mslice T.the-row ty·7 4) (Row.setRow 13 (13, Rows'.any-gone ty·7) t7)
 
 abbrev pub t9 : List.List Row.Entry
-t9 = Row.setRow 14 (14, Relend.msptr (Referent.rtF (Referent.fInt Syntax.w16)) ty·2 5) (Row.setRow 3 (3, Relend.mslice-owed (Referent.rtF (Referent.fInt Syntax.w16)) ty·5 2 5 Row.off) t8)
+t9 = Row.setRow 15 (15, Relend.msptr (Referent.rtF (Referent.fInt Syntax.w16)) ty·2 5) (Row.setRow 3 (3, Relend.mslice-owed (Referent.rtF (Referent.fInt Syntax.w16)) ty·5 2 5 Row.off) t8)
 
 abbrev pub t10 : List.List Row.Entry
-t10 = Row.setRow 15 (15, Mut.mslice (Referent.rtF (Referent.fInt Syntax.w16)) ty·2 5) (Row.setRow 14 (14, Rows'.any-gone ty·2) t9)
+t10 = Row.setRow 15 (15, Rows'.any-gone ty·2) t9
 
 abbrev pub t11 : List.List Row.Entry
-t11 = Row.setRow 4 (4, Relend.mslice-owed (Referent.rtF (Referent.fInt Syntax.w16)) ty·6 3 6 Row.off) t10
+t11 = Row.setRow 0 (16, Mut.mslice (Referent.rtF (Referent.fInt Syntax.w16)) ty·2 5) t1
 
 abbrev pub t12 : List.List Row.Entry
-t12 = Row.setRow 0 (16, Relend.msptr (Referent.rtF (Referent.fInt Syntax.w16)) ty·2 6) t1
+t12 = Row.setRow 4 (4, Relend.mslice-owed (Referent.rtF (Referent.fInt Syntax.w16)) ty·6 3 6 Row.off) t10
 
 abbrev pub t13 : List.List Row.Entry
-t13 = Row.setRow 1 (17, Mut.mslice (Referent.rtF (Referent.fInt Syntax.w16)) ty·2 6) t1
+t13 = Row.setRow 1 (17, Relend.msptr (Referent.rtF (Referent.fInt Syntax.w16)) ty·2 6) t11
 
 abbrev pub t14 : List.List Row.Entry
-t14 = Row.setRow 15 (15, Mut.msleft (Referent.rtF (Referent.fInt Syntax.w16)) ty·2) (Row.setRow 13 (13, Mut.msleft T.the-row ty·7) (Row.setRow 6 (6, Rows'.whole (Declared.row ReadAnswer.the-type)) t11))
+t14 = Row.setRow 2 (18, Mut.mslice (Referent.rtF (Referent.fInt Syntax.w16)) ty·2 6) t11
 
 abbrev pub t15 : List.List Row.Entry
-t15 = Row.setRow 1 (17, Mut.msleft (Referent.rtF (Referent.fInt Syntax.w16)) ty·2) t1
+t15 = Row.setRow 14 (14, Mut.msleft T.the-row ty·7) (Row.setRow 6 (6, Rows'.whole (Declared.row ReadAnswer.the-type)) t12)
 
 abbrev pub t16 : List.List Row.Entry
-t16 = Row.setRow 13 (13, Rows'.any-gone ty·14) (Row.setRow 2 (2, Mut.mslice T.the-row ty·9 1) t14)
+t16 = Row.setRow 2 (18, Mut.msleft (Referent.rtF (Referent.fInt Syntax.w16)) ty·2) (Row.setRow 0 (16, Mut.msleft (Referent.rtF (Referent.fInt Syntax.w16)) ty·2) t1)
 
 abbrev pub t17 : List.List Row.Entry
-t17 = Row.setRow 6 (6, Rows'.whole (Declared.row ReadAnswer.the-type)) (Row.setRow 4 (4, Relend.mslice-owed (Referent.rtF (Referent.fInt Syntax.w16)) ty·6 3 6 Row.off) t6)
+t17 = Row.setRow 14 (14, Rows'.any-gone ty·14) (Row.setRow 2 (2, Mut.mslice T.the-row ty·9 1) t15)
 
 abbrev pub t18 : List.List Row.Entry
-t18 = Row.setRow 6 (6, Rows'.whole (Declared.row ReadAnswer.the-type)) t6
+t18 = Row.setRow 3 (3, Mut.mslice (Referent.rtF (Referent.fInt Syntax.w16)) ty·5 2) t17
 
 abbrev pub t19 : List.List Row.Entry
-t19 = Row.setRow 6 (6, Rows'.whole (Known.Known ReadAnswer.enum 1)) t6
+t19 = Row.setRow 2 (18, Mut.msleft (Referent.rtF (Referent.fInt Syntax.w16)) ty·2) t1
 
 abbrev pub t20 : List.List Row.Entry
-t20 = Row.setRow 6 (6, Rows'.whole (Known.Known ReadAnswer.enum 1)) t0
+t20 = Row.setRow 6 (6, Rows'.whole (Declared.row ReadAnswer.the-type)) t6
 
 abbrev pub t21 : List.List Row.Entry
-t21 = Row.setRow 7 (7, Rows'.whole (Declared.row Refusal.the-type)) t20
+t21 = Row.setRow 6 (6, Rows'.whole (Known.Known ReadAnswer.enum 1)) t6
 
 abbrev pub t22 : List.List Row.Entry
-t22 = Row.setRow 7 (7, Rows'.whole (Declared.row Refusal.the-type)) t0
+t22 = Row.setRow 6 (6, Rows'.whole (Known.Known ReadAnswer.enum 1)) t0
 
 abbrev pub t23 : List.List Row.Entry
-t23 = Row.setRow 3 (19, Rows'.sc-here (Row.sInt Syntax.w32)) t1
+t23 = Row.setRow 7 (7, Rows'.whole (Declared.row Refusal.the-type)) t22
 
 abbrev pub t24 : List.List Row.Entry
-t24 = Row.setRow 2 (18, Rows'.sc-here Row.sUnit) t23
+t24 = Row.setRow 7 (7, Rows'.whole (Declared.row Refusal.the-type)) t0
 
 abbrev pub t25 : List.List Row.Entry
-t25 = Row.setRow 4 (20, Rows'.whole (Declared'.row Size.the-type)) t1
+t25 = Row.setRow 4 (20, Rows'.sc-here (Row.sInt Syntax.w32)) t1
 
 abbrev pub t26 : List.List Row.Entry
-t26 = Row.setRow 2 (2, Reshare.mslice-owedS T.the-row ty·9 1 7 Row.off) t0
+t26 = Row.setRow 3 (19, Rows'.sc-here Row.sUnit) t25
 
 abbrev pub t27 : List.List Row.Entry
-t27 = Row.setRow 5 (21, Relend.ssptr T.the-row ty·8 7) t25
+t27 = Row.setRow 8 (8, Rows'.sc-here (Row.sInt Syntax.w64)) t0
 
 abbrev pub t28 : List.List Row.Entry
-t28 = Row.setRow 6 (22, Rows'.sslice T.the-row ty·8 7) t25
+t28 = Row.setRow 5 (21, Rows'.whole (Declared'.row Size.the-type)) t1
 
 abbrev pub t29 : List.List Row.Entry
-t29 = Row.setRow 3 (3, Reshare.mslice-owedS (Referent.rtF (Referent.fInt Syntax.w16)) ty·5 2 8 Row.off) t26
+t29 = Row.setRow 2 (2, Reshare.mslice-owedS T.the-row ty·9 1 7 Row.off) t27
 
 abbrev pub t30 : List.List Row.Entry
-t30 = Row.setRow 7 (23, Relend.ssptr (Referent.rtF (Referent.fInt Syntax.w16)) ty·3 8) t28
+t30 = Row.setRow 6 (22, Relend.ssptr T.the-row ty·8 7) t28
 
 abbrev pub t31 : List.List Row.Entry
-t31 = Row.setRow 8 (24, Rows'.sslice (Referent.rtF (Referent.fInt Syntax.w16)) ty·3 8) t28
+t31 = Row.setRow 7 (23, Rows'.sslice T.the-row ty·8 7) t28
 
 abbrev pub t32 : List.List Row.Entry
-t32 = Row.setRow 4 (4, Reshare.mslice-owedS (Referent.rtF (Referent.fInt Syntax.w16)) ty·6 3 9 Row.off) t29
+t32 = Row.setRow 3 (3, Reshare.mslice-owedS (Referent.rtF (Referent.fInt Syntax.w16)) ty·5 2 8 Row.off) t29
 
 abbrev pub t33 : List.List Row.Entry
-t33 = Row.setRow 9 (25, Relend.ssptr (Referent.rtF (Referent.fInt Syntax.w16)) ty·3 9) t31
+t33 = Row.setRow 8 (24, Relend.ssptr (Referent.rtF (Referent.fInt Syntax.w16)) ty·3 8) t31
 
 abbrev pub t34 : List.List Row.Entry
-t34 = Row.setRow 10 (26, Rows'.sslice (Referent.rtF (Referent.fInt Syntax.w16)) ty·3 9) t31
+t34 = Row.setRow 9 (25, Rows'.sslice (Referent.rtF (Referent.fInt Syntax.w16)) ty·3 8) t31
 
 abbrev pub t35 : List.List Row.Entry
-t35 = Row.setRow 2 (18, Rows'.sc-here Row.sUnit) t34
+t35 = Row.setRow 4 (4, Reshare.mslice-owedS (Referent.rtF (Referent.fInt Syntax.w16)) ty·6 3 9 Row.off) t32
 
 abbrev pub t36 : List.List Row.Entry
-t36 = Row.setRow 6 (22, Rows'.any-gone ty·15) t35
+t36 = Row.setRow 10 (26, Relend.ssptr (Referent.rtF (Referent.fInt Syntax.w16)) ty·3 9) t34
 
 abbrev pub t37 : List.List Row.Entry
-t37 = Row.setRow 10 (26, Rows'.sslice (Referent.rtF (Referent.fInt Syntax.w16)) ty·3 9) (Row.setRow 2 (18, Rows'.sc-here Row.sUnit) t25)
+t37 = Row.setRow 11 (27, Rows'.sslice (Referent.rtF (Referent.fInt Syntax.w16)) ty·3 9) t34
 
 abbrev pub t38 : List.List Row.Entry
-t38 = Row.setRow 2 (18, Rows'.sc-here Row.sUnit) t25
+t38 = Row.setRow 3 (19, Rows'.sc-here Row.sUnit) t37
 
 abbrev pub t39 : List.List Row.Entry
-t39 = Row.setRow 2 (2, Mut.mslice T.the-row ty·9 1) t32
+t39 = Row.setRow 7 (23, Rows'.any-gone ty·15) t38
 
 abbrev pub t40 : List.List Row.Entry
-t40 = Row.setRow 3 (3, Mut.mslice (Referent.rtF (Referent.fInt Syntax.w16)) ty·5 2) t39
+t40 = Row.setRow 11 (27, Rows'.sslice (Referent.rtF (Referent.fInt Syntax.w16)) ty·3 9) (Row.setRow 3 (19, Rows'.sc-here Row.sUnit) t28)
 
 abbrev pub t41 : List.List Row.Entry
-t41 = Row.setRow 6 (6, Rows'.whole (Known.Known ReadAnswer.enum 0)) t6
+t41 = Row.setRow 3 (19, Rows'.sc-here Row.sUnit) t28
 
 abbrev pub t42 : List.List Row.Entry
-t42 = Row.setRow 8 (8, Rows'.whole (Declared'.row Size.the-type)) t41
+t42 = Row.setRow 8 (8, Rows'.any-gone (Syntax.tyInt Syntax.w64)) t35
 
 abbrev pub t43 : List.List Row.Entry
-t43 = Row.setRow 8 (8, Rows'.whole (Declared'.row Size.the-type)) t6
+t43 = Row.setRow 2 (2, Mut.mslice T.the-row ty·9 1) t42
 
 abbrev pub t44 : List.List Row.Entry
-t44 = Row.setRow 11 (11, Rows.arr-shr (Referent.rtF (Referent.fInt Syntax.w8)) 4 10) t43
+t44 = Row.setRow 3 (3, Mut.mslice (Referent.rtF (Referent.fInt Syntax.w16)) ty·5 2) t43
 
 abbrev pub t45 : List.List Row.Entry
-t45 = Row.setRow 12 (28, Relend.ssptr (Referent.rtF (Referent.fInt Syntax.w8)) ty·10 10) t1
+t45 = Row.setRow 6 (6, Rows'.whole (Known.Known ReadAnswer.enum 0)) t6
 
 abbrev pub t46 : List.List Row.Entry
-t46 = Row.setRow 13 (29, Rows'.sslice (Referent.rtF (Referent.fInt Syntax.w8)) ty·1 10) t1
+t46 = Row.setRow 9 (9, Rows'.whole (Declared'.row Size.the-type)) t45
 
 abbrev pub t47 : List.List Row.Entry
-t47 = Row.setRow 11 (27, Rows'.sc-here Row.sBool) t46
+t47 = Row.setRow 9 (9, Rows'.whole (Declared'.row Size.the-type)) t6
 
 abbrev pub t48 : List.List Row.Entry
-t48 = Row.setRow 11 (27, Rows'.sc-here Row.sBool) t1
+t48 = Row.setRow 12 (12, Rows.arr-shr (Referent.rtF (Referent.fInt Syntax.w8)) 4 10) t47
 
 abbrev pub t49 : List.List Row.Entry
-t49 = Row.setRow 8 (8, Rows'.whole (Declared'.row Size.the-type)) t0
+t49 = Row.setRow 13 (29, Relend.ssptr (Referent.rtF (Referent.fInt Syntax.w8)) ty·10 10) t1
 
 abbrev pub t50 : List.List Row.Entry
-t50 = Row.setRow 14 (30, Rows'.sc-here Row.sUnit) t1
+t50 = Row.setRow 14 (30, Rows'.sslice (Referent.rtF (Referent.fInt Syntax.w8)) ty·1 10) t1
 
 abbrev pub t51 : List.List Row.Entry
-t51 = Row.setRow 2 (2, Relend.mslice-owed T.the-row ty·9 1 11 Row.off) t49
+t51 = Row.setRow 12 (28, Rows'.sc-here Row.sBool) t50
 
 abbrev pub t52 : List.List Row.Entry
-t52 = Row.setRow 15 (31, Relend.msptr T.the-row ty·7 11) t1
+t52 = Row.setRow 12 (28, Rows'.sc-here Row.sBool) t1
 
 abbrev pub t53 : List.List Row.Entry
-t53 = Row.setRow 0 (32, Mut.mslice T.the-row ty·7 11) t2
+t53 = Row.setRow 9 (9, Rows'.whole (Declared'.row Size.the-type)) t0
 
 abbrev pub t54 : List.List Row.Entry
-t54 = Row.setRow 3 (3, Relend.mslice-owed (Referent.rtF (Referent.fInt Syntax.w16)) ty·5 2 12 Row.off) t51
+t54 = Row.setRow 15 (31, Rows'.sc-here Row.sUnit) t1
 
 abbrev pub t55 : List.List Row.Entry
-t55 = Row.setRow 1 (33, Relend.msptr (Referent.rtF (Referent.fInt Syntax.w16)) ty·2 12) t53
+t55 = Row.setRow 2 (2, Relend.mslice-owed T.the-row ty·9 1 11 Row.off) t53
 
 abbrev pub t56 : List.List Row.Entry
-t56 = Row.setRow 2 (34, Mut.mslice (Referent.rtF (Referent.fInt Syntax.w16)) ty·2 12) t53
+t56 = Row.setRow 0 (32, Relend.msptr T.the-row ty·7 11) t2
 
 abbrev pub t57 : List.List Row.Entry
-t57 = Row.setRow 4 (4, Relend.mslice-owed (Referent.rtF (Referent.fInt Syntax.w16)) ty·6 3 13 Row.off) t54
+t57 = Row.setRow 1 (33, Mut.mslice T.the-row ty·7 11) t2
 
 abbrev pub t58 : List.List Row.Entry
-t58 = Row.setRow 3 (35, Relend.msptr (Referent.rtF (Referent.fInt Syntax.w16)) ty·2 13) t56
+t58 = Row.setRow 3 (3, Relend.mslice-owed (Referent.rtF (Referent.fInt Syntax.w16)) ty·5 2 12 Row.off) t55
 
 abbrev pub t59 : List.List Row.Entry
-t59 = Row.setRow 4 (36, Mut.mslice (Referent.rtF (Referent.fInt Syntax.w16)) ty·2 13) t56
+t59 = Row.setRow 2 (34, Relend.msptr (Referent.rtF (Referent.fInt Syntax.w16)) ty·2 12) t57
 
 abbrev pub t60 : List.List Row.Entry
-t60 = Row.setRow 9 (9, Rows'.sc-here Row.sBool) t57
+t60 = Row.setRow 3 (35, Mut.mslice (Referent.rtF (Referent.fInt Syntax.w16)) ty·2 12) t57
 
 abbrev pub t61 : List.List Row.Entry
-t61 = Row.setRow 4 (36, Mut.msleft (Referent.rtF (Referent.fInt Syntax.w16)) ty·2) (Row.setRow 2 (34, Mut.msleft (Referent.rtF (Referent.fInt Syntax.w16)) ty·2) (Row.setRow 0 (32, Mut.msleft T.the-row ty·7) t2))
+t61 = Row.setRow 4 (4, Relend.mslice-owed (Referent.rtF (Referent.fInt Syntax.w16)) ty·6 3 13 Row.off) t58
 
 abbrev pub t62 : List.List Row.Entry
-t62 = Row.setRow 2 (2, Mut.mslice T.the-row ty·9 1) t60
+t62 = Row.setRow 4 (36, Relend.msptr (Referent.rtF (Referent.fInt Syntax.w16)) ty·2 13) t60
 
 abbrev pub t63 : List.List Row.Entry
-t63 = Row.setRow 0 (32, Rows'.any-gone ty·14) t61
+t63 = Row.setRow 5 (37, Mut.mslice (Referent.rtF (Referent.fInt Syntax.w16)) ty·2 13) t60
 
 abbrev pub t64 : List.List Row.Entry
-t64 = Row.setRow 3 (3, Mut.mslice (Referent.rtF (Referent.fInt Syntax.w16)) ty·5 2) t62
+t64 = Row.setRow 10 (10, Rows'.sc-here Row.sBool) t61
 
 abbrev pub t65 : List.List Row.Entry
-t65 = Row.setRow 4 (36, Mut.msleft (Referent.rtF (Referent.fInt Syntax.w16)) ty·2) t2
+t65 = Row.setRow 5 (37, Mut.msleft (Referent.rtF (Referent.fInt Syntax.w16)) ty·2) (Row.setRow 3 (35, Mut.msleft (Referent.rtF (Referent.fInt Syntax.w16)) ty·2) (Row.setRow 1 (33, Mut.msleft T.the-row ty·7) t2))
 
 abbrev pub t66 : List.List Row.Entry
-t66 = Row.setRow 9 (9, Rows'.sc-here Row.sBool) t49
+t66 = Row.setRow 2 (2, Mut.mslice T.the-row ty·9 1) t64
 
 abbrev pub t67 : List.List Row.Entry
-t67 = Row.setRow 2 (2, Reshare.mslice-owedS T.the-row ty·9 1 14 Row.off) t66
+t67 = Row.setRow 1 (33, Rows'.any-gone ty·14) t65
 
 abbrev pub t68 : List.List Row.Entry
-t68 = Row.setRow 5 (37, Relend.ssptr T.the-row ty·8 14) t2
+t68 = Row.setRow 3 (3, Mut.mslice (Referent.rtF (Referent.fInt Syntax.w16)) ty·5 2) t66
 
 abbrev pub t69 : List.List Row.Entry
-t69 = Row.setRow 6 (38, Rows'.sslice T.the-row ty·8 14) t2
+t69 = Row.setRow 5 (37, Mut.msleft (Referent.rtF (Referent.fInt Syntax.w16)) ty·2) t2
 
 abbrev pub t70 : List.List Row.Entry
-t70 = Row.setRow 3 (3, Reshare.mslice-owedS (Referent.rtF (Referent.fInt Syntax.w16)) ty·5 2 15 Row.off) t67
+t70 = Row.setRow 10 (10, Rows'.sc-here Row.sBool) t53
 
 abbrev pub t71 : List.List Row.Entry
-t71 = Row.setRow 7 (39, Relend.ssptr (Referent.rtF (Referent.fInt Syntax.w16)) ty·3 15) t69
+t71 = Row.setRow 2 (2, Reshare.mslice-owedS T.the-row ty·9 1 14 Row.off) t70
 
 abbrev pub t72 : List.List Row.Entry
-t72 = Row.setRow 8 (40, Rows'.sslice (Referent.rtF (Referent.fInt Syntax.w16)) ty·3 15) t69
+t72 = Row.setRow 6 (38, Relend.ssptr T.the-row ty·8 14) t2
 
 abbrev pub t73 : List.List Row.Entry
-t73 = Row.setRow 4 (4, Reshare.mslice-owedS (Referent.rtF (Referent.fInt Syntax.w16)) ty·6 3 16 Row.off) t70
+t73 = Row.setRow 7 (39, Rows'.sslice T.the-row ty·8 14) t2
 
 abbrev pub t74 : List.List Row.Entry
-t74 = Row.setRow 9 (41, Relend.ssptr (Referent.rtF (Referent.fInt Syntax.w16)) ty·3 16) t72
+t74 = Row.setRow 3 (3, Reshare.mslice-owedS (Referent.rtF (Referent.fInt Syntax.w16)) ty·5 2 15 Row.off) t71
 
 abbrev pub t75 : List.List Row.Entry
-t75 = Row.setRow 10 (42, Rows'.sslice (Referent.rtF (Referent.fInt Syntax.w16)) ty·3 16) t72
+t75 = Row.setRow 8 (40, Relend.ssptr (Referent.rtF (Referent.fInt Syntax.w16)) ty·3 15) t73
 
 abbrev pub t76 : List.List Row.Entry
-t76 = Row.setRow 10 (10, Rows'.sc-here Row.sBool) t73
+t76 = Row.setRow 9 (41, Rows'.sslice (Referent.rtF (Referent.fInt Syntax.w16)) ty·3 15) t73
 
 abbrev pub t77 : List.List Row.Entry
-t77 = Row.setRow 6 (38, Rows'.any-gone ty·15) t75
+t77 = Row.setRow 4 (4, Reshare.mslice-owedS (Referent.rtF (Referent.fInt Syntax.w16)) ty·6 3 16 Row.off) t74
 
 abbrev pub t78 : List.List Row.Entry
-t78 = Row.setRow 10 (42, Rows'.sslice (Referent.rtF (Referent.fInt Syntax.w16)) ty·3 16) t2
+t78 = Row.setRow 10 (42, Relend.ssptr (Referent.rtF (Referent.fInt Syntax.w16)) ty·3 16) t76
 
 abbrev pub t79 : List.List Row.Entry
-t79 = Row.setRow 2 (2, Mut.mslice T.the-row ty·9 1) t76
+t79 = Row.setRow 11 (43, Rows'.sslice (Referent.rtF (Referent.fInt Syntax.w16)) ty·3 16) t76
 
 abbrev pub t80 : List.List Row.Entry
-t80 = Row.setRow 3 (3, Mut.mslice (Referent.rtF (Referent.fInt Syntax.w16)) ty·5 2) t79
+t80 = Row.setRow 11 (11, Rows'.sc-here Row.sBool) t77
 
 abbrev pub t81 : List.List Row.Entry
-t81 = Row.setRow 10 (10, Rows'.sc-here Row.sBool) t66
+t81 = Row.setRow 7 (39, Rows'.any-gone ty·15) t79
 
 abbrev pub t82 : List.List Row.Entry
-t82 = Row.setRow 2 (2, Reshare.mslice-owedS T.the-row ty·9 1 17 Row.off) t81
+t82 = Row.setRow 11 (43, Rows'.sslice (Referent.rtF (Referent.fInt Syntax.w16)) ty·3 16) t2
 
 abbrev pub t83 : List.List Row.Entry
-t83 = Row.setRow 11 (43, Relend.ssptr T.the-row ty·8 17) t2
+t83 = Row.setRow 2 (2, Mut.mslice T.the-row ty·9 1) t80
 
 abbrev pub t84 : List.List Row.Entry
-t84 = Row.setRow 12 (44, Rows'.sslice T.the-row ty·8 17) t2
+t84 = Row.setRow 3 (3, Mut.mslice (Referent.rtF (Referent.fInt Syntax.w16)) ty·5 2) t83
 
 abbrev pub t85 : List.List Row.Entry
-t85 = Row.setRow 3 (3, Reshare.mslice-owedS (Referent.rtF (Referent.fInt Syntax.w16)) ty·5 2 18 Row.off) t82
+t85 = Row.setRow 11 (11, Rows'.sc-here Row.sBool) t70
 
 abbrev pub t86 : List.List Row.Entry
-t86 = Row.setRow 13 (45, Relend.ssptr (Referent.rtF (Referent.fInt Syntax.w16)) ty·3 18) t84
+t86 = Row.setRow 2 (2, Reshare.mslice-owedS T.the-row ty·9 1 17 Row.off) t85
 
 abbrev pub t87 : List.List Row.Entry
-t87 = Row.setRow 14 (46, Rows'.sslice (Referent.rtF (Referent.fInt Syntax.w16)) ty·3 18) t84
+t87 = Row.setRow 12 (44, Relend.ssptr T.the-row ty·8 17) t2
 
 abbrev pub t88 : List.List Row.Entry
-t88 = Row.setRow 4 (4, Reshare.mslice-owedS (Referent.rtF (Referent.fInt Syntax.w16)) ty·6 3 19 Row.off) t85
+t88 = Row.setRow 13 (45, Rows'.sslice T.the-row ty·8 17) t2
 
 abbrev pub t89 : List.List Row.Entry
-t89 = Row.setRow 15 (47, Relend.ssptr (Referent.rtF (Referent.fInt Syntax.w16)) ty·3 19) t87
+t89 = Row.setRow 3 (3, Reshare.mslice-owedS (Referent.rtF (Referent.fInt Syntax.w16)) ty·5 2 18 Row.off) t86
 
 abbrev pub t90 : List.List Row.Entry
-t90 = List._∷_ (48, Rows'.sslice (Referent.rtF (Referent.fInt Syntax.w16)) ty·3 19) List.[]
+t90 = Row.setRow 14 (46, Relend.ssptr (Referent.rtF (Referent.fInt Syntax.w16)) ty·3 18) t88
 
 abbrev pub t91 : List.List Row.Entry
-t91 = Row.setRow 14 (46, Rows'.sslice (Referent.rtF (Referent.fInt Syntax.w16)) ty·3 18) t2
+t91 = Row.setRow 15 (47, Rows'.sslice (Referent.rtF (Referent.fInt Syntax.w16)) ty·3 18) t88
 
 abbrev pub t92 : List.List Row.Entry
-t92 = Row.setRow 8 (8, Rows'.any-gone ty·16) t88
+t92 = Row.setRow 4 (4, Reshare.mslice-owedS (Referent.rtF (Referent.fInt Syntax.w16)) ty·6 3 19 Row.off) t89
 
 abbrev pub t93 : List.List Row.Entry
-t93 = Row.setRow 9 (9, Rows'.any-gone Syntax.tyBool) t92
+t93 = Row.setRow 0 (48, Relend.ssptr (Referent.rtF (Referent.fInt Syntax.w16)) ty·3 19) t3
 
 abbrev pub t94 : List.List Row.Entry
-t94 = Row.setRow 10 (10, Rows'.any-gone Syntax.tyBool) t93
+t94 = Row.setRow 1 (49, Rows'.sslice (Referent.rtF (Referent.fInt Syntax.w16)) ty·3 19) t3
 
 abbrev pub t95 : List.List Row.Entry
-t95 = Row.setRow 2 (2, Mut.mslice T.the-row ty·9 1) t94
+t95 = Row.setRow 15 (47, Rows'.sslice (Referent.rtF (Referent.fInt Syntax.w16)) ty·3 18) t2
 
 abbrev pub t96 : List.List Row.Entry
-t96 = Row.setRow 3 (3, Mut.mslice (Referent.rtF (Referent.fInt Syntax.w16)) ty·5 2) t95
+t96 = Row.setRow 9 (9, Rows'.any-gone ty·16) t92
 
 abbrev pub t97 : List.List Row.Entry
-t97 = Row.setRow 0 (0, Rows'.sc-here Row.sUnit) t0
+t97 = Row.setRow 10 (10, Rows'.any-gone Syntax.tyBool) t96
+
+abbrev pub t98 : List.List Row.Entry
+t98 = Row.setRow 11 (11, Rows'.any-gone Syntax.tyBool) t97
+
+abbrev pub t99 : List.List Row.Entry
+t99 = Row.setRow 2 (2, Mut.mslice T.the-row ty·9 1) t98
+
+abbrev pub t100 : List.List Row.Entry
+t100 = Row.setRow 3 (3, Mut.mslice (Referent.rtF (Referent.fInt Syntax.w16)) ty·5 2) t99
+
+abbrev pub t101 : List.List Row.Entry
+t101 = Row.setRow 0 (0, Rows'.sc-here Row.sUnit) t0
 
 abbrev pub T0 : Row.Cx
 T0 = record { locals = List._++_ t0 (List._++_ t1 (List._++_ t2 t3)); slots = List.[] }
@@ -821,289 +839,295 @@ abbrev pub T11 : Row.Cx
 T11 = record { locals = List._++_ t9 (List._++_ t1 (List._++_ t2 t3)); slots = List.[] }
 
 abbrev pub T12 : Row.Cx
-T12 = record { locals = List._++_ t10 (List._++_ t1 (List._++_ t2 t3)); slots = List.[] }
+T12 = record { locals = List._++_ t10 (List._++_ t11 (List._++_ t2 t3)); slots = List.[] }
 
 abbrev pub T14 : Row.Cx
-T14 = record { locals = List._++_ t11 (List._++_ t12 (List._++_ t2 t3)); slots = List.[] }
+T14 = record { locals = List._++_ t12 (List._++_ t13 (List._++_ t2 t3)); slots = List.[] }
 
 abbrev pub T15 : Row.Cx
-T15 = record { locals = List._++_ t11 (List._++_ t13 (List._++_ t2 t3)); slots = List.[] }
+T15 = record { locals = List._++_ t12 (List._++_ t14 (List._++_ t2 t3)); slots = List.[] }
 
 abbrev pub T16 : Row.Cx
-T16 = record { locals = List._++_ t14 (List._++_ t15 (List._++_ t2 t3)); slots = List.[] }
+T16 = record { locals = List._++_ t15 (List._++_ t16 (List._++_ t2 t3)); slots = List.[] }
 
 abbrev pub T17 : Row.Cx
 T17 = record { locals = List._++_ t0 (List._++_ t1 (List._++_ t2 t3)); slots = List.[] }
 
 abbrev pub T19 : Row.Cx
-T19 = record { locals = List._++_ t16 (List._++_ t15 (List._++_ t2 t3)); slots = List.[] }
+T19 = record { locals = List._++_ t17 (List._++_ t16 (List._++_ t2 t3)); slots = List.[] }
 
 abbrev pub T22 : Row.Cx
-T22 = record { locals = List._++_ t17 (List._++_ t15 (List._++_ t2 t3)); slots = List.[] }
+T22 = record { locals = List._++_ t18 (List._++_ t19 (List._++_ t2 t3)); slots = List.[] }
 
 abbrev pub T23 : Row.Cx
-T23 = record { locals = List._++_ t17 (List._++_ t15 (List._++_ t2 t3)); slots = List.[] }
+T23 = record { locals = List._++_ t18 (List._++_ t19 (List._++_ t2 t3)); slots = List.[] }
 
 abbrev pub T26 : Row.Cx
-T26 = record { locals = List._++_ t18 (List._++_ t1 (List._++_ t2 t3)); slots = List.[] }
+T26 = record { locals = List._++_ t20 (List._++_ t1 (List._++_ t2 t3)); slots = List.[] }
 
 abbrev pub T27 : Row.Cx
-T27 = record { locals = List._++_ t18 (List._++_ t1 (List._++_ t2 t3)); slots = List.[] }
+T27 = record { locals = List._++_ t20 (List._++_ t1 (List._++_ t2 t3)); slots = List.[] }
 
 abbrev pub T29 : Row.Cx
-T29 = record { locals = List._++_ t19 (List._++_ t1 (List._++_ t2 t3)); slots = List.[] }
+T29 = record { locals = List._++_ t21 (List._++_ t1 (List._++_ t2 t3)); slots = List.[] }
 
 abbrev pub T30 : Row.Cx
-T30 = record { locals = List._++_ t19 (List._++_ t1 (List._++_ t2 t3)); slots = List.[] }
+T30 = record { locals = List._++_ t21 (List._++_ t1 (List._++_ t2 t3)); slots = List.[] }
 
 abbrev pub T31 : Row.Cx
-T31 = record { locals = List._++_ t20 (List._++_ t1 (List._++_ t2 t3)); slots = List.[] }
+T31 = record { locals = List._++_ t22 (List._++_ t1 (List._++_ t2 t3)); slots = List.[] }
 
 abbrev pub T32 : Row.Cx
-T32 = record { locals = List._++_ t21 (List._++_ t1 (List._++_ t2 t3)); slots = List.[] }
+T32 = record { locals = List._++_ t23 (List._++_ t1 (List._++_ t2 t3)); slots = List.[] }
 
 abbrev pub T33 : Row.Cx
-T33 = record { locals = List._++_ t22 (List._++_ t1 (List._++_ t2 t3)); slots = List.[] }
+T33 = record { locals = List._++_ t24 (List._++_ t1 (List._++_ t2 t3)); slots = List.[] }
 
 abbrev pub T34 : Row.Cx
-T34 = record { locals = List._++_ t22 (List._++_ t23 (List._++_ t2 t3)); slots = List.[] }
+T34 = record { locals = List._++_ t24 (List._++_ t25 (List._++_ t2 t3)); slots = List.[] }
 
 abbrev pub T35 : Row.Cx
-T35 = record { locals = List._++_ t0 (List._++_ t23 (List._++_ t2 t3)); slots = List.[] }
+T35 = record { locals = List._++_ t0 (List._++_ t25 (List._++_ t2 t3)); slots = List.[] }
 
 abbrev pub T36 : Row.Cx
-T36 = record { locals = List._++_ t0 (List._++_ t24 (List._++_ t2 t3)); slots = List.[] }
+T36 = record { locals = List._++_ t0 (List._++_ t26 (List._++_ t2 t3)); slots = List.[] }
 
 abbrev pub T37 : Row.Cx
-T37 = record { locals = List._++_ t0 (List._++_ t23 (List._++_ t2 t3)); slots = List.[] }
+T37 = record { locals = List._++_ t0 (List._++_ t25 (List._++_ t2 t3)); slots = List.[] }
 
 abbrev pub T38 : Row.Cx
 T38 = record { locals = List._++_ t0 (List._++_ t1 (List._++_ t2 t3)); slots = List.[] }
 
 abbrev pub T39 : Row.Cx
-T39 = record { locals = List._++_ t0 (List._++_ t25 (List._++_ t2 t3)); slots = List.[] }
+T39 = record { locals = List._++_ t27 (List._++_ t1 (List._++_ t2 t3)); slots = List.[] }
 
-abbrev pub T41 : Row.Cx
-T41 = record { locals = List._++_ t26 (List._++_ t27 (List._++_ t2 t3)); slots = List.[] }
+abbrev pub T40 : Row.Cx
+T40 = record { locals = List._++_ t27 (List._++_ t28 (List._++_ t2 t3)); slots = List.[] }
 
 abbrev pub T42 : Row.Cx
-T42 = record { locals = List._++_ t26 (List._++_ t28 (List._++_ t2 t3)); slots = List.[] }
+T42 = record { locals = List._++_ t29 (List._++_ t30 (List._++_ t2 t3)); slots = List.[] }
 
-abbrev pub T44 : Row.Cx
-T44 = record { locals = List._++_ t29 (List._++_ t30 (List._++_ t2 t3)); slots = List.[] }
+abbrev pub T43 : Row.Cx
+T43 = record { locals = List._++_ t29 (List._++_ t31 (List._++_ t2 t3)); slots = List.[] }
 
 abbrev pub T45 : Row.Cx
-T45 = record { locals = List._++_ t29 (List._++_ t31 (List._++_ t2 t3)); slots = List.[] }
+T45 = record { locals = List._++_ t32 (List._++_ t33 (List._++_ t2 t3)); slots = List.[] }
 
-abbrev pub T47 : Row.Cx
-T47 = record { locals = List._++_ t32 (List._++_ t33 (List._++_ t2 t3)); slots = List.[] }
+abbrev pub T46 : Row.Cx
+T46 = record { locals = List._++_ t32 (List._++_ t34 (List._++_ t2 t3)); slots = List.[] }
 
 abbrev pub T48 : Row.Cx
-T48 = record { locals = List._++_ t32 (List._++_ t34 (List._++_ t2 t3)); slots = List.[] }
+T48 = record { locals = List._++_ t35 (List._++_ t36 (List._++_ t2 t3)); slots = List.[] }
 
 abbrev pub T49 : Row.Cx
-T49 = record { locals = List._++_ t32 (List._++_ t35 (List._++_ t2 t3)); slots = List.[] }
+T49 = record { locals = List._++_ t35 (List._++_ t37 (List._++_ t2 t3)); slots = List.[] }
 
 abbrev pub T50 : Row.Cx
-T50 = record { locals = List._++_ t32 (List._++_ t36 (List._++_ t2 t3)); slots = List.[] }
+T50 = record { locals = List._++_ t35 (List._++_ t38 (List._++_ t2 t3)); slots = List.[] }
 
 abbrev pub T51 : Row.Cx
-T51 = record { locals = List._++_ t32 (List._++_ t37 (List._++_ t2 t3)); slots = List.[] }
+T51 = record { locals = List._++_ t35 (List._++_ t39 (List._++_ t2 t3)); slots = List.[] }
 
 abbrev pub T52 : Row.Cx
-T52 = record { locals = List._++_ t32 (List._++_ t38 (List._++_ t2 t3)); slots = List.[] }
+T52 = record { locals = List._++_ t35 (List._++_ t40 (List._++_ t2 t3)); slots = List.[] }
 
 abbrev pub T53 : Row.Cx
-T53 = record { locals = List._++_ t32 (List._++_ t25 (List._++_ t2 t3)); slots = List.[] }
+T53 = record { locals = List._++_ t35 (List._++_ t41 (List._++_ t2 t3)); slots = List.[] }
 
 abbrev pub T54 : Row.Cx
-T54 = record { locals = List._++_ t32 (List._++_ t1 (List._++_ t2 t3)); slots = List.[] }
+T54 = record { locals = List._++_ t42 (List._++_ t41 (List._++_ t2 t3)); slots = List.[] }
+
+abbrev pub T55 : Row.Cx
+T55 = record { locals = List._++_ t42 (List._++_ t28 (List._++_ t2 t3)); slots = List.[] }
 
 abbrev pub T56 : Row.Cx
-T56 = record { locals = List._++_ t39 (List._++_ t1 (List._++_ t2 t3)); slots = List.[] }
+T56 = record { locals = List._++_ t42 (List._++_ t1 (List._++_ t2 t3)); slots = List.[] }
 
-abbrev pub T59 : Row.Cx
-T59 = record { locals = List._++_ t40 (List._++_ t1 (List._++_ t2 t3)); slots = List.[] }
+abbrev pub T58 : Row.Cx
+T58 = record { locals = List._++_ t43 (List._++_ t1 (List._++_ t2 t3)); slots = List.[] }
 
-abbrev pub T62 : Row.Cx
-T62 = record { locals = List._++_ t0 (List._++_ t1 (List._++_ t2 t3)); slots = List.[] }
+abbrev pub T61 : Row.Cx
+T61 = record { locals = List._++_ t44 (List._++_ t1 (List._++_ t2 t3)); slots = List.[] }
 
 abbrev pub T64 : Row.Cx
-T64 = record { locals = List._++_ t41 (List._++_ t1 (List._++_ t2 t3)); slots = List.[] }
-
-abbrev pub T65 : Row.Cx
-T65 = record { locals = List._++_ t41 (List._++_ t1 (List._++_ t2 t3)); slots = List.[] }
+T64 = record { locals = List._++_ t0 (List._++_ t1 (List._++_ t2 t3)); slots = List.[] }
 
 abbrev pub T66 : Row.Cx
-T66 = record { locals = List._++_ t42 (List._++_ t1 (List._++_ t2 t3)); slots = List.[] }
+T66 = record { locals = List._++_ t45 (List._++_ t1 (List._++_ t2 t3)); slots = List.[] }
 
 abbrev pub T67 : Row.Cx
-T67 = record { locals = List._++_ t43 (List._++_ t1 (List._++_ t2 t3)); slots = List.[] }
+T67 = record { locals = List._++_ t45 (List._++_ t1 (List._++_ t2 t3)); slots = List.[] }
+
+abbrev pub T68 : Row.Cx
+T68 = record { locals = List._++_ t46 (List._++_ t1 (List._++_ t2 t3)); slots = List.[] }
 
 abbrev pub T69 : Row.Cx
-T69 = record { locals = List._++_ t44 (List._++_ t45 (List._++_ t2 t3)); slots = List.[] }
-
-abbrev pub T70 : Row.Cx
-T70 = record { locals = List._++_ t44 (List._++_ t46 (List._++_ t2 t3)); slots = List.[] }
+T69 = record { locals = List._++_ t47 (List._++_ t1 (List._++_ t2 t3)); slots = List.[] }
 
 abbrev pub T71 : Row.Cx
-T71 = record { locals = List._++_ t44 (List._++_ t47 (List._++_ t2 t3)); slots = List.[] }
+T71 = record { locals = List._++_ t48 (List._++_ t49 (List._++_ t2 t3)); slots = List.[] }
 
 abbrev pub T72 : Row.Cx
-T72 = record { locals = List._++_ t44 (List._++_ t48 (List._++_ t2 t3)); slots = List.[] }
+T72 = record { locals = List._++_ t48 (List._++_ t50 (List._++_ t2 t3)); slots = List.[] }
 
 abbrev pub T73 : Row.Cx
-T73 = record { locals = List._++_ t44 (List._++_ t1 (List._++_ t2 t3)); slots = List.[] }
+T73 = record { locals = List._++_ t48 (List._++_ t51 (List._++_ t2 t3)); slots = List.[] }
+
+abbrev pub T74 : Row.Cx
+T74 = record { locals = List._++_ t48 (List._++_ t52 (List._++_ t2 t3)); slots = List.[] }
 
 abbrev pub T75 : Row.Cx
-T75 = record { locals = List._++_ t43 (List._++_ t1 (List._++_ t2 t3)); slots = List.[] }
+T75 = record { locals = List._++_ t48 (List._++_ t1 (List._++_ t2 t3)); slots = List.[] }
 
 abbrev pub T77 : Row.Cx
-T77 = record { locals = List._++_ t49 (List._++_ t1 (List._++_ t2 t3)); slots = List.[] }
-
-abbrev pub T78 : Row.Cx
-T78 = record { locals = List._++_ t49 (List._++_ t50 (List._++_ t2 t3)); slots = List.[] }
+T77 = record { locals = List._++_ t47 (List._++_ t1 (List._++_ t2 t3)); slots = List.[] }
 
 abbrev pub T79 : Row.Cx
-T79 = record { locals = List._++_ t49 (List._++_ t1 (List._++_ t2 t3)); slots = List.[] }
+T79 = record { locals = List._++_ t53 (List._++_ t1 (List._++_ t2 t3)); slots = List.[] }
+
+abbrev pub T80 : Row.Cx
+T80 = record { locals = List._++_ t53 (List._++_ t54 (List._++_ t2 t3)); slots = List.[] }
 
 abbrev pub T81 : Row.Cx
-T81 = record { locals = List._++_ t51 (List._++_ t52 (List._++_ t2 t3)); slots = List.[] }
+T81 = record { locals = List._++_ t53 (List._++_ t1 (List._++_ t2 t3)); slots = List.[] }
 
-abbrev pub T82 : Row.Cx
-T82 = record { locals = List._++_ t51 (List._++_ t1 (List._++_ t53 t3)); slots = List.[] }
+abbrev pub T83 : Row.Cx
+T83 = record { locals = List._++_ t55 (List._++_ t1 (List._++_ t56 t3)); slots = List.[] }
 
 abbrev pub T84 : Row.Cx
-T84 = record { locals = List._++_ t54 (List._++_ t1 (List._++_ t55 t3)); slots = List.[] }
+T84 = record { locals = List._++_ t55 (List._++_ t1 (List._++_ t57 t3)); slots = List.[] }
 
-abbrev pub T85 : Row.Cx
-T85 = record { locals = List._++_ t54 (List._++_ t1 (List._++_ t56 t3)); slots = List.[] }
+abbrev pub T86 : Row.Cx
+T86 = record { locals = List._++_ t58 (List._++_ t1 (List._++_ t59 t3)); slots = List.[] }
 
 abbrev pub T87 : Row.Cx
-T87 = record { locals = List._++_ t57 (List._++_ t1 (List._++_ t58 t3)); slots = List.[] }
-
-abbrev pub T88 : Row.Cx
-T88 = record { locals = List._++_ t57 (List._++_ t1 (List._++_ t59 t3)); slots = List.[] }
+T87 = record { locals = List._++_ t58 (List._++_ t1 (List._++_ t60 t3)); slots = List.[] }
 
 abbrev pub T89 : Row.Cx
-T89 = record { locals = List._++_ t60 (List._++_ t1 (List._++_ t61 t3)); slots = List.[] }
+T89 = record { locals = List._++_ t61 (List._++_ t1 (List._++_ t62 t3)); slots = List.[] }
+
+abbrev pub T90 : Row.Cx
+T90 = record { locals = List._++_ t61 (List._++_ t1 (List._++_ t63 t3)); slots = List.[] }
 
 abbrev pub T91 : Row.Cx
-T91 = record { locals = List._++_ t62 (List._++_ t1 (List._++_ t63 t3)); slots = List.[] }
+T91 = record { locals = List._++_ t64 (List._++_ t1 (List._++_ t65 t3)); slots = List.[] }
 
-abbrev pub T94 : Row.Cx
-T94 = record { locals = List._++_ t64 (List._++_ t1 (List._++_ t65 t3)); slots = List.[] }
+abbrev pub T93 : Row.Cx
+T93 = record { locals = List._++_ t66 (List._++_ t1 (List._++_ t67 t3)); slots = List.[] }
 
-abbrev pub T95 : Row.Cx
-T95 = record { locals = List._++_ t64 (List._++_ t1 (List._++_ t65 t3)); slots = List.[] }
+abbrev pub T96 : Row.Cx
+T96 = record { locals = List._++_ t68 (List._++_ t1 (List._++_ t69 t3)); slots = List.[] }
 
-abbrev pub T98 : Row.Cx
-T98 = record { locals = List._++_ t66 (List._++_ t1 (List._++_ t2 t3)); slots = List.[] }
+abbrev pub T97 : Row.Cx
+T97 = record { locals = List._++_ t68 (List._++_ t1 (List._++_ t69 t3)); slots = List.[] }
 
-abbrev pub T99 : Row.Cx
-T99 = record { locals = List._++_ t66 (List._++_ t1 (List._++_ t2 t3)); slots = List.[] }
+abbrev pub T100 : Row.Cx
+T100 = record { locals = List._++_ t70 (List._++_ t1 (List._++_ t2 t3)); slots = List.[] }
 
-abbrev pub T102 : Row.Cx
-T102 = record { locals = List._++_ t67 (List._++_ t1 (List._++_ t68 t3)); slots = List.[] }
+abbrev pub T101 : Row.Cx
+T101 = record { locals = List._++_ t70 (List._++_ t1 (List._++_ t2 t3)); slots = List.[] }
 
-abbrev pub T103 : Row.Cx
-T103 = record { locals = List._++_ t67 (List._++_ t1 (List._++_ t69 t3)); slots = List.[] }
+abbrev pub T104 : Row.Cx
+T104 = record { locals = List._++_ t71 (List._++_ t1 (List._++_ t72 t3)); slots = List.[] }
 
 abbrev pub T105 : Row.Cx
-T105 = record { locals = List._++_ t70 (List._++_ t1 (List._++_ t71 t3)); slots = List.[] }
+T105 = record { locals = List._++_ t71 (List._++_ t1 (List._++_ t73 t3)); slots = List.[] }
 
-abbrev pub T106 : Row.Cx
-T106 = record { locals = List._++_ t70 (List._++_ t1 (List._++_ t72 t3)); slots = List.[] }
+abbrev pub T107 : Row.Cx
+T107 = record { locals = List._++_ t74 (List._++_ t1 (List._++_ t75 t3)); slots = List.[] }
 
 abbrev pub T108 : Row.Cx
-T108 = record { locals = List._++_ t73 (List._++_ t1 (List._++_ t74 t3)); slots = List.[] }
-
-abbrev pub T109 : Row.Cx
-T109 = record { locals = List._++_ t73 (List._++_ t1 (List._++_ t75 t3)); slots = List.[] }
+T108 = record { locals = List._++_ t74 (List._++_ t1 (List._++_ t76 t3)); slots = List.[] }
 
 abbrev pub T110 : Row.Cx
-T110 = record { locals = List._++_ t76 (List._++_ t1 (List._++_ t75 t3)); slots = List.[] }
+T110 = record { locals = List._++_ t77 (List._++_ t1 (List._++_ t78 t3)); slots = List.[] }
 
 abbrev pub T111 : Row.Cx
-T111 = record { locals = List._++_ t76 (List._++_ t1 (List._++_ t77 t3)); slots = List.[] }
+T111 = record { locals = List._++_ t77 (List._++_ t1 (List._++_ t79 t3)); slots = List.[] }
 
 abbrev pub T112 : Row.Cx
-T112 = record { locals = List._++_ t76 (List._++_ t1 (List._++_ t78 t3)); slots = List.[] }
+T112 = record { locals = List._++_ t80 (List._++_ t1 (List._++_ t79 t3)); slots = List.[] }
 
 abbrev pub T113 : Row.Cx
-T113 = record { locals = List._++_ t76 (List._++_ t1 (List._++_ t2 t3)); slots = List.[] }
+T113 = record { locals = List._++_ t80 (List._++_ t1 (List._++_ t81 t3)); slots = List.[] }
+
+abbrev pub T114 : Row.Cx
+T114 = record { locals = List._++_ t80 (List._++_ t1 (List._++_ t82 t3)); slots = List.[] }
 
 abbrev pub T115 : Row.Cx
-T115 = record { locals = List._++_ t79 (List._++_ t1 (List._++_ t2 t3)); slots = List.[] }
+T115 = record { locals = List._++_ t80 (List._++_ t1 (List._++_ t2 t3)); slots = List.[] }
 
-abbrev pub T118 : Row.Cx
-T118 = record { locals = List._++_ t80 (List._++_ t1 (List._++_ t2 t3)); slots = List.[] }
+abbrev pub T117 : Row.Cx
+T117 = record { locals = List._++_ t83 (List._++_ t1 (List._++_ t2 t3)); slots = List.[] }
 
-abbrev pub T121 : Row.Cx
-T121 = record { locals = List._++_ t81 (List._++_ t1 (List._++_ t2 t3)); slots = List.[] }
+abbrev pub T120 : Row.Cx
+T120 = record { locals = List._++_ t84 (List._++_ t1 (List._++_ t2 t3)); slots = List.[] }
 
 abbrev pub T123 : Row.Cx
-T123 = record { locals = List._++_ t81 (List._++_ t50 (List._++_ t2 t3)); slots = List.[] }
+T123 = record { locals = List._++_ t85 (List._++_ t1 (List._++_ t2 t3)); slots = List.[] }
 
-abbrev pub T124 : Row.Cx
-T124 = record { locals = List._++_ t81 (List._++_ t1 (List._++_ t2 t3)); slots = List.[] }
+abbrev pub T125 : Row.Cx
+T125 = record { locals = List._++_ t85 (List._++_ t54 (List._++_ t2 t3)); slots = List.[] }
 
 abbrev pub T126 : Row.Cx
-T126 = record { locals = List._++_ t82 (List._++_ t1 (List._++_ t83 t3)); slots = List.[] }
+T126 = record { locals = List._++_ t85 (List._++_ t1 (List._++_ t2 t3)); slots = List.[] }
 
-abbrev pub T127 : Row.Cx
-T127 = record { locals = List._++_ t82 (List._++_ t1 (List._++_ t84 t3)); slots = List.[] }
+abbrev pub T128 : Row.Cx
+T128 = record { locals = List._++_ t86 (List._++_ t1 (List._++_ t87 t3)); slots = List.[] }
 
 abbrev pub T129 : Row.Cx
-T129 = record { locals = List._++_ t85 (List._++_ t1 (List._++_ t86 t3)); slots = List.[] }
+T129 = record { locals = List._++_ t86 (List._++_ t1 (List._++_ t88 t3)); slots = List.[] }
 
-abbrev pub T130 : Row.Cx
-T130 = record { locals = List._++_ t85 (List._++_ t1 (List._++_ t87 t3)); slots = List.[] }
+abbrev pub T131 : Row.Cx
+T131 = record { locals = List._++_ t89 (List._++_ t1 (List._++_ t90 t3)); slots = List.[] }
 
 abbrev pub T132 : Row.Cx
-T132 = record { locals = List._++_ t88 (List._++_ t1 (List._++_ t89 t3)); slots = List.[] }
-
-abbrev pub T133 : Row.Cx
-T133 = record { locals = List._++_ t88 (List._++_ t1 (List._++_ t87 t90)); slots = List.[] }
+T132 = record { locals = List._++_ t89 (List._++_ t1 (List._++_ t91 t3)); slots = List.[] }
 
 abbrev pub T134 : Row.Cx
-T134 = record { locals = List._++_ t88 (List._++_ t50 (List._++_ t87 t90)); slots = List.[] }
+T134 = record { locals = List._++_ t92 (List._++_ t1 (List._++_ t91 t93)); slots = List.[] }
 
 abbrev pub T135 : Row.Cx
-T135 = record { locals = List._++_ t88 (List._++_ t50 (List._++_ t91 t90)); slots = List.[] }
+T135 = record { locals = List._++_ t92 (List._++_ t1 (List._++_ t91 t94)); slots = List.[] }
 
 abbrev pub T136 : Row.Cx
-T136 = record { locals = List._++_ t88 (List._++_ t50 (List._++_ t2 t90)); slots = List.[] }
+T136 = record { locals = List._++_ t92 (List._++_ t54 (List._++_ t91 t94)); slots = List.[] }
 
 abbrev pub T137 : Row.Cx
-T137 = record { locals = List._++_ t88 (List._++_ t50 (List._++_ t2 t3)); slots = List.[] }
+T137 = record { locals = List._++_ t92 (List._++_ t54 (List._++_ t95 t94)); slots = List.[] }
 
 abbrev pub T138 : Row.Cx
-T138 = record { locals = List._++_ t92 (List._++_ t50 (List._++_ t2 t3)); slots = List.[] }
+T138 = record { locals = List._++_ t92 (List._++_ t54 (List._++_ t2 t94)); slots = List.[] }
 
 abbrev pub T139 : Row.Cx
-T139 = record { locals = List._++_ t93 (List._++_ t50 (List._++_ t2 t3)); slots = List.[] }
+T139 = record { locals = List._++_ t92 (List._++_ t54 (List._++_ t2 t3)); slots = List.[] }
 
 abbrev pub T140 : Row.Cx
-T140 = record { locals = List._++_ t94 (List._++_ t50 (List._++_ t2 t3)); slots = List.[] }
+T140 = record { locals = List._++_ t96 (List._++_ t54 (List._++_ t2 t3)); slots = List.[] }
 
 abbrev pub T141 : Row.Cx
-T141 = record { locals = List._++_ t94 (List._++_ t1 (List._++_ t2 t3)); slots = List.[] }
+T141 = record { locals = List._++_ t97 (List._++_ t54 (List._++_ t2 t3)); slots = List.[] }
+
+abbrev pub T142 : Row.Cx
+T142 = record { locals = List._++_ t98 (List._++_ t54 (List._++_ t2 t3)); slots = List.[] }
 
 abbrev pub T143 : Row.Cx
-T143 = record { locals = List._++_ t95 (List._++_ t1 (List._++_ t2 t3)); slots = List.[] }
+T143 = record { locals = List._++_ t98 (List._++_ t1 (List._++_ t2 t3)); slots = List.[] }
 
-abbrev pub T146 : Row.Cx
-T146 = record { locals = List._++_ t96 (List._++_ t1 (List._++_ t2 t3)); slots = List.[] }
+abbrev pub T145 : Row.Cx
+T145 = record { locals = List._++_ t99 (List._++_ t1 (List._++_ t2 t3)); slots = List.[] }
 
-abbrev pub T149 : Row.Cx
-T149 = record { locals = List._++_ t0 (List._++_ t1 (List._++_ t2 t3)); slots = List.[] }
+abbrev pub T148 : Row.Cx
+T148 = record { locals = List._++_ t100 (List._++_ t1 (List._++_ t2 t3)); slots = List.[] }
 
 abbrev pub T151 : Row.Cx
-T151 = record { locals = List._++_ t97 (List._++_ t1 (List._++_ t2 t3)); slots = List.[] }
+T151 = record { locals = List._++_ t0 (List._++_ t1 (List._++_ t2 t3)); slots = List.[] }
 
-abbrev pub T152 : Row.Cx
-T152 = record { locals = List._++_ t4 (List._++_ t1 (List._++_ t2 t3)); slots = List.[] }
+abbrev pub T153 : Row.Cx
+T153 = record { locals = List._++_ t101 (List._++_ t1 (List._++_ t2 t3)); slots = List.[] }
+
+abbrev pub T154 : Row.Cx
+T154 = record { locals = List._++_ t4 (List._++_ t1 (List._++_ t2 t3)); slots = List.[] }
 
 abbrev pub O0 : Typed.Outs
 O0 = record { next = Option.none; exits = List.[]; returns = Option.some T1 }
@@ -1122,43 +1146,43 @@ module _ (claims· : Claims) where
   s2 = Know.k-sl-known (Referent.fInt Syntax.w16) T3 4 3 ty·6 Row.off 0 λ x. x
 
   abbrev s3 : Typed.Mo T4 → Typed.Mo T5
-  s3 = Make.n-make (Array.Array (Referent.rtF (Referent.fInt Syntax.w8)) 4) T4 11 λ m. List._∷_ 114 (List._∷_ 101 (List._∷_ 97 (List._∷_ 100 List.[])))
+  s3 = Make.n-make (Array.Array (Referent.rtF (Referent.fInt Syntax.w8)) 4) T4 12 λ m. List._∷_ 114 (List._∷_ 101 (List._∷_ 97 (List._∷_ 100 List.[])))
 
   abbrev s4 : Typed.Mo T5 → Typed.Mo T6
-  s4 = AtSlots.n-as-by T5 11 (Rows.arrF (Referent.rtF (Referent.fInt Syntax.w8)) 4 0) λ x. x
+  s4 = AtSlots.n-as-by T5 12 (Rows.arrF (Referent.rtF (Referent.fInt Syntax.w8)) 4 0) λ x. x
 
   abbrev s6 : Typed.Gives T6 T8
-  s6 = Relend.k-sl-relend T.the-row T6 2 12 1 4 ty·9 ty·7 Row.off λ x. x
+  s6 = Relend.k-sl-relend T.the-row T6 2 13 1 4 ty·9 ty·7 Row.off λ x. x
 
   abbrev s7 : Typed.Asks T8 T9
-  s7 = Relend.k-sl-aggregate T.the-row (Relend.asMut T.the-row) T8 12 13 4 ty·7 ty·7 (λ x. x) (Scalar.oFld 2 (List._∷_ (Syntax.field 1) List.[]) (Syntax.tyInt Syntax.w64) 8 λ v. Shared.lenV (v .0))
+  s7 = Relend.k-sl-aggregate T.the-row (Relend.asMut T.the-row) T8 13 14 4 ty·7 ty·7 (λ x. x) (Scalar.oFld 2 (List._∷_ (Syntax.field 1) List.[]) (Syntax.tyInt Syntax.w64) 8 λ v. Shared.lenV (v .0))
 
   abbrev s9 : Typed.Gives T9 T11
-  s9 = Relend.k-sl-relend (Referent.rtF (Referent.fInt Syntax.w16)) T9 3 14 2 5 ty·5 ty·2 Row.off λ x. x
+  s9 = Relend.k-sl-relend (Referent.rtF (Referent.fInt Syntax.w16)) T9 3 15 2 5 ty·5 ty·2 Row.off λ x. x
 
   abbrev s10 : Typed.Asks T11 T12
-  s10 = Relend.k-sl-aggregate (Referent.rtF (Referent.fInt Syntax.w16)) (Relend.asMut (Referent.rtF (Referent.fInt Syntax.w16))) T11 14 15 5 ty·2 ty·2 (λ x. x) (Scalar.oFld 3 (List._∷_ (Syntax.field 1) List.[]) (Syntax.tyInt Syntax.w64) 8 λ v. Shared.lenV (v .0))
+  s10 = Relend.k-sl-aggregate (Referent.rtF (Referent.fInt Syntax.w16)) (Relend.asMut (Referent.rtF (Referent.fInt Syntax.w16))) T11 15 16 5 ty·2 ty·2 (λ x. x) (Scalar.oFld 3 (List._∷_ (Syntax.field 1) List.[]) (Syntax.tyInt Syntax.w64) 8 λ v. Shared.lenV (v .0))
 
   abbrev s12 : Typed.Gives T12 T14
-  s12 = Relend.k-sl-relend (Referent.rtF (Referent.fInt Syntax.w16)) T12 4 16 3 6 ty·6 ty·2 Row.off λ x. x
+  s12 = Relend.k-sl-relend (Referent.rtF (Referent.fInt Syntax.w16)) T12 4 17 3 6 ty·6 ty·2 Row.off λ x. x
 
   abbrev s13 : Typed.Asks T14 T15
-  s13 = Relend.k-sl-aggregate (Referent.rtF (Referent.fInt Syntax.w16)) (Relend.asMut (Referent.rtF (Referent.fInt Syntax.w16))) T14 16 17 6 ty·2 ty·2 (λ x. x) (Scalar.oFld 4 (List._∷_ (Syntax.field 1) List.[]) (Syntax.tyInt Syntax.w64) 8 λ v. Shared.lenV (v .0))
+  s13 = Relend.k-sl-aggregate (Referent.rtF (Referent.fInt Syntax.w16)) (Relend.asMut (Referent.rtF (Referent.fInt Syntax.w16))) T14 17 18 6 ty·2 ty·2 (λ x. x) (Scalar.oFld 4 (List._∷_ (Syntax.field 1) List.[]) (Syntax.tyInt Syntax.w64) 8 λ v. Shared.lenV (v .0))
 
   abbrev s14 : Typed.Both T15 T16
-  s14 = Call.callB ps·0 r·0 (claims· .0) (claims· .1) T15 (record { pos = 1; ty = Syntax.tyRef (Syntax.named 0) Syntax.imm (Syntax.tyInt Syntax.w8); ref = λ x. x }, (record { pos = 13; ty = Syntax.tyRef Syntax.erased Syntax.mut (Memory.pointee (T.the-row .written)); ref = λ x. x }, (record { pos = 15; ty = Syntax.tyRef Syntax.erased Syntax.mut (Syntax.tyInt Syntax.w16); ref = λ x. x }, (record { pos = 17; ty = Syntax.tyRef Syntax.erased Syntax.mut (Syntax.tyInt Syntax.w16); ref = λ x. x }, tt)))) 6 (List._∷_ 0 (List._∷_ 4 (List._∷_ 5 (List._∷_ 6 List.[])))) ty·18
+  s14 = Call.callB ps·0 r·0 (claims· .0) (claims· .1) T15 (record { pos = 1; ty = Syntax.tyRef (Syntax.named 0) Syntax.imm (Syntax.tyInt Syntax.w8); ref = λ x. x }, (record { pos = 14; ty = Syntax.tyRef Syntax.erased Syntax.mut (Memory.pointee (T.the-row .written)); ref = λ x. x }, (record { pos = 16; ty = Syntax.tyRef Syntax.erased Syntax.mut (Syntax.tyInt Syntax.w16); ref = λ x. x }, (record { pos = 18; ty = Syntax.tyRef Syntax.erased Syntax.mut (Syntax.tyInt Syntax.w16); ref = λ x. x }, tt)))) 6 (List._∷_ 0 (List._∷_ 4 (List._∷_ 5 (List._∷_ 6 List.[])))) ty·18
 
   abbrev s16 : Typed.Both T16 T19
-  s16 = Relend.k-back-sl T.the-row T16 13 2 1 4 ty·9 ty·7 Row.off (λ x. x) λ x. x
+  s16 = Relend.k-back-sl T.the-row T16 14 2 1 4 ty·9 ty·7 Row.off (λ x. x) λ x. x
 
   abbrev s19 : Typed.Both T19 T22
-  s19 = Relend.k-back-sl (Referent.rtF (Referent.fInt Syntax.w16)) T19 15 3 2 5 ty·5 ty·2 Row.off (λ x. x) λ x. x
+  s19 = Relend.k-back-sl (Referent.rtF (Referent.fInt Syntax.w16)) T19 16 3 2 5 ty·5 ty·2 Row.off (λ x. x) λ x. x
 
   abbrev s20 : Typed.Gives T22 T23
   s20 = Know.k-sl-known (Referent.fInt Syntax.w16) T22 3 2 ty·5 Row.off 0 λ x. x
 
   abbrev s23 : Typed.Both T23 T26
-  s23 = Relend.k-back-sl (Referent.rtF (Referent.fInt Syntax.w16)) T23 17 4 3 6 ty·6 ty·2 Row.off (λ x. x) λ x. x
+  s23 = Relend.k-back-sl (Referent.rtF (Referent.fInt Syntax.w16)) T23 18 4 3 6 ty·6 ty·2 Row.off (λ x. x) λ x. x
 
   abbrev s24 : Typed.Gives T26 T27
   s24 = Know.k-sl-known (Referent.fInt Syntax.w16) T26 4 3 ty·6 Row.off 0 λ x. x
@@ -1170,7 +1194,7 @@ module _ (claims· : Claims) where
   s27 = Known.k-known-told ReadAnswer.enum Laws.the-laws 1 T29 6 λ x. x
 
   abbrev s28 : Typed.Mo T30 → Typed.Mo T31
-  s28 = Scalar.n-room T30 11 ty·0
+  s28 = Scalar.n-room T30 12 ty·0
 
   abbrev s29 : Typed.Mo T31 → Typed.Mo T32
   s29 = Make.n-make (Declared.row Refusal.the-type) T31 7 λ m. m .1 .1 .1 .1 .1 .1 .0 .0
@@ -1179,244 +1203,250 @@ module _ (claims· : Claims) where
   s30 = Scalar.n-room T32 6 ty·18
 
   abbrev s31 : Typed.Both T33 T34
-  s31 = Call.callB ps·1 r·1 (claims· .2) (claims· .3) T33 (record { pos = 7; st = List.[]; d = 0; at = λ x. x }, tt) 19 List.[] (Syntax.tyInt Syntax.w32)
+  s31 = Call.callB ps·1 r·1 (claims· .2) (claims· .3) T33 (record { pos = 7; st = List.[]; d = 0; at = λ x. x }, tt) 20 List.[] (Syntax.tyInt Syntax.w32)
 
   abbrev s32 : Typed.Mo T34 → Typed.Mo T35
   s32 = Scalar.n-room T34 7 ty·17
 
   abbrev s33 : Typed.Both T35 T36
-  s33 = Call.callB ps·2 r·2 (claims· .4) (claims· .5) T35 (Num.vAt 19 λ x. x, tt) 18 List.[] Syntax.tyUnit
+  s33 = Call.callB ps·2 r·2 (claims· .4) (claims· .5) T35 (Num.vAt 20 λ x. x, tt) 19 List.[] Syntax.tyUnit
 
   abbrev s34 : Typed.Mo T36 → Typed.Mo T37
-  s34 = Scalar.n-room T36 18 Syntax.tyUnit
+  s34 = Scalar.n-room T36 19 Syntax.tyUnit
 
   abbrev s35 : Typed.Mo T37 → Typed.Mo T38
-  s35 = Scalar.n-room T37 19 (Syntax.tyInt Syntax.w32)
+  s35 = Scalar.n-room T37 20 (Syntax.tyInt Syntax.w32)
 
-  abbrev s36 : Typed.Both T38 T39
-  s36 = Call.callB ps·3 r·3 (claims· .6) (claims· .7) T38 (Num.vLit 0, (Num.vLit 0, (Num.vLit 0, (Num.vLit 0, tt)))) 20 List.[] ty·16
+  abbrev s36 : Typed.Mo T38 → Typed.Mo T39
+  s36 = Scalar.n-use T38 (Scalar.oFld 2 (List._∷_ (Syntax.field 1) List.[]) (Syntax.tyInt Syntax.w64) 8 Shared.lenV) 8 (Rows'.sc-here (Row.sInt Syntax.w64)) (Row.sInt Syntax.w64 .of)
 
-  abbrev s38 : Typed.Gives T39 T41
-  s38 = Reshare.k-sl-reshare T.the-row T39 2 21 1 7 ty·9 ty·8 Row.off λ x. x
+  abbrev s37 : Typed.Both T39 T40
+  s37 = Call.callB ps·3 r·3 (claims· .6) (claims· .7) T39 (Num.vAt 8 λ x. x, (Num.vLit 0, (Num.vLit 0, (Num.vAt 8 λ x. x, tt)))) 21 List.[] ty·16
 
-  abbrev s39 : Typed.Asks T41 T42
-  s39 = Relend.k-sl-aggregate T.the-row (Relend.asShr T.the-row) T41 21 22 7 ty·8 ty·8 (λ x. x) (Scalar.oFld 2 (List._∷_ (Syntax.field 1) List.[]) (Syntax.tyInt Syntax.w64) 8 λ v. Shared.lenV (v .0))
+  abbrev s39 : Typed.Gives T40 T42
+  s39 = Reshare.k-sl-reshare T.the-row T40 2 22 1 7 ty·9 ty·8 Row.off λ x. x
 
-  abbrev s41 : Typed.Gives T42 T44
-  s41 = Reshare.k-sl-reshare (Referent.rtF (Referent.fInt Syntax.w16)) T42 3 23 2 8 ty·5 ty·3 Row.off λ x. x
+  abbrev s40 : Typed.Asks T42 T43
+  s40 = Relend.k-sl-aggregate T.the-row (Relend.asShr T.the-row) T42 22 23 7 ty·8 ty·8 (λ x. x) (Scalar.oFld 2 (List._∷_ (Syntax.field 1) List.[]) (Syntax.tyInt Syntax.w64) 8 λ v. Shared.lenV (v .0))
 
-  abbrev s42 : Typed.Asks T44 T45
-  s42 = Relend.k-sl-aggregate (Referent.rtF (Referent.fInt Syntax.w16)) (Relend.asShr (Referent.rtF (Referent.fInt Syntax.w16))) T44 23 24 8 ty·3 ty·3 (λ x. x) (Scalar.oFld 3 (List._∷_ (Syntax.field 1) List.[]) (Syntax.tyInt Syntax.w64) 8 λ v. Shared.lenV (v .0))
+  abbrev s42 : Typed.Gives T43 T45
+  s42 = Reshare.k-sl-reshare (Referent.rtF (Referent.fInt Syntax.w16)) T43 3 24 2 8 ty·5 ty·3 Row.off λ x. x
 
-  abbrev s44 : Typed.Gives T45 T47
-  s44 = Reshare.k-sl-reshare (Referent.rtF (Referent.fInt Syntax.w16)) T45 4 25 3 9 ty·6 ty·3 Row.off λ x. x
+  abbrev s43 : Typed.Asks T45 T46
+  s43 = Relend.k-sl-aggregate (Referent.rtF (Referent.fInt Syntax.w16)) (Relend.asShr (Referent.rtF (Referent.fInt Syntax.w16))) T45 24 25 8 ty·3 ty·3 (λ x. x) (Scalar.oFld 3 (List._∷_ (Syntax.field 1) List.[]) (Syntax.tyInt Syntax.w64) 8 λ v. Shared.lenV (v .0))
 
-  abbrev s45 : Typed.Asks T47 T48
-  s45 = Relend.k-sl-aggregate (Referent.rtF (Referent.fInt Syntax.w16)) (Relend.asShr (Referent.rtF (Referent.fInt Syntax.w16))) T47 25 26 9 ty·3 ty·3 (λ x. x) (Scalar.oFld 4 (List._∷_ (Syntax.field 1) List.[]) (Syntax.tyInt Syntax.w64) 8 λ v. Shared.lenV (v .0))
+  abbrev s45 : Typed.Gives T46 T48
+  s45 = Reshare.k-sl-reshare (Referent.rtF (Referent.fInt Syntax.w16)) T46 4 26 3 9 ty·6 ty·3 Row.off λ x. x
 
-  abbrev s46 : Typed.Both T48 T49
-  s46 = Call.callB ps·4 r·4 (claims· .8) (claims· .9) T48 (record { pos = 20; st = List.[]; d = 0; at = λ x. x }, (record { pos = 22; ty = Syntax.tyRef Syntax.erased Syntax.imm (Memory.pointee (T.the-row .written)); ref = λ x. x }, (record { pos = 24; ty = Syntax.tyRef Syntax.erased Syntax.imm (Syntax.tyInt Syntax.w16); ref = λ x. x }, (record { pos = 26; ty = Syntax.tyRef Syntax.erased Syntax.imm (Syntax.tyInt Syntax.w16); ref = λ x. x }, (Num.vAt 5 λ x. x, tt))))) 18 (List._∷_ 7 (List._∷_ 8 (List._∷_ 9 List.[]))) Syntax.tyUnit
+  abbrev s46 : Typed.Asks T48 T49
+  s46 = Relend.k-sl-aggregate (Referent.rtF (Referent.fInt Syntax.w16)) (Relend.asShr (Referent.rtF (Referent.fInt Syntax.w16))) T48 26 27 9 ty·3 ty·3 (λ x. x) (Scalar.oFld 4 (List._∷_ (Syntax.field 1) List.[]) (Syntax.tyInt Syntax.w64) 8 λ v. Shared.lenV (v .0))
 
-  abbrev s47 : Typed.Mo T49 → Typed.Mo T50
-  s47 = Scalar.n-room T49 22 ty·15
+  abbrev s47 : Typed.Both T49 T50
+  s47 = Call.callB ps·4 r·4 (claims· .8) (claims· .9) T49 (record { pos = 21; st = List.[]; d = 0; at = λ x. x }, (record { pos = 23; ty = Syntax.tyRef Syntax.erased Syntax.imm (Memory.pointee (T.the-row .written)); ref = λ x. x }, (record { pos = 25; ty = Syntax.tyRef Syntax.erased Syntax.imm (Syntax.tyInt Syntax.w16); ref = λ x. x }, (record { pos = 27; ty = Syntax.tyRef Syntax.erased Syntax.imm (Syntax.tyInt Syntax.w16); ref = λ x. x }, (Num.vAt 5 λ x. x, tt))))) 19 (List._∷_ 7 (List._∷_ 8 (List._∷_ 9 List.[]))) Syntax.tyUnit
 
   abbrev s48 : Typed.Mo T50 → Typed.Mo T51
-  s48 = Scalar.n-room T50 24 ty·13
+  s48 = Scalar.n-room T50 23 ty·15
 
   abbrev s49 : Typed.Mo T51 → Typed.Mo T52
-  s49 = Scalar.n-room T51 26 ty·13
+  s49 = Scalar.n-room T51 25 ty·13
 
   abbrev s50 : Typed.Mo T52 → Typed.Mo T53
-  s50 = Scalar.n-room T52 18 Syntax.tyUnit
+  s50 = Scalar.n-room T52 27 ty·13
 
   abbrev s51 : Typed.Mo T53 → Typed.Mo T54
-  s51 = Scalar.n-room T53 20 ty·16
+  s51 = Scalar.n-room T53 8 (Syntax.tyInt Syntax.w64)
 
-  abbrev s53 : Typed.Mo T54 → Typed.Mo T56
-  s53 = Reshare.n-back-sl-shr T.the-row T54 2 1 7 ty·9 Row.off λ x. x
+  abbrev s52 : Typed.Mo T54 → Typed.Mo T55
+  s52 = Scalar.n-room T54 19 Syntax.tyUnit
 
-  abbrev s56 : Typed.Mo T56 → Typed.Mo T59
-  s56 = Reshare.n-back-sl-shr (Referent.rtF (Referent.fInt Syntax.w16)) T56 3 2 8 ty·5 Row.off λ x. x
+  abbrev s53 : Typed.Mo T55 → Typed.Mo T56
+  s53 = Scalar.n-room T55 21 ty·16
 
-  abbrev s59 : Typed.Mo T59 → Typed.Mo T62
-  s59 = Reshare.n-back-sl-shr (Referent.rtF (Referent.fInt Syntax.w16)) T59 4 3 9 ty·6 Row.off λ x. x
+  abbrev s55 : Typed.Mo T56 → Typed.Mo T58
+  s55 = Reshare.n-back-sl-shr T.the-row T56 2 1 7 ty·9 Row.off λ x. x
 
-  abbrev s61 : Typed.Both T27 T64
-  s61 = Known.k-enum-known ReadAnswer.enum 0 T27 6 λ x. x
+  abbrev s58 : Typed.Mo T58 → Typed.Mo T61
+  s58 = Reshare.n-back-sl-shr (Referent.rtF (Referent.fInt Syntax.w16)) T58 3 2 8 ty·5 Row.off λ x. x
 
-  abbrev s62 : Typed.Gives T64 T65
-  s62 = Known.k-known-told ReadAnswer.enum Laws.the-laws 0 T64 6 λ x. x
+  abbrev s61 : Typed.Mo T61 → Typed.Mo T64
+  s61 = Reshare.n-back-sl-shr (Referent.rtF (Referent.fInt Syntax.w16)) T61 4 3 9 ty·6 Row.off λ x. x
 
-  abbrev s63 : Typed.Mo T65 → Typed.Mo T66
-  s63 = Make.n-make (Declared'.row Size.the-type) T65 8 λ m. m .1 .1 .1 .1 .1 .1 .0 .0
+  abbrev s63 : Typed.Both T27 T66
+  s63 = Known.k-enum-known ReadAnswer.enum 0 T27 6 λ x. x
 
-  abbrev s64 : Typed.Mo T66 → Typed.Mo T67
-  s64 = Scalar.n-room T66 6 ty·18
+  abbrev s64 : Typed.Gives T66 T67
+  s64 = Known.k-known-told ReadAnswer.enum Laws.the-laws 0 T66 6 λ x. x
 
-  abbrev s66 : Typed.Gives T67 T69
-  s66 = Share.k-arr-share (Referent.rtF (Referent.fInt Syntax.w8)) T67 11 28 4 10 ty·10 λ x. x
+  abbrev s65 : Typed.Mo T67 → Typed.Mo T68
+  s65 = Make.n-make (Declared'.row Size.the-type) T67 9 λ m. m .1 .1 .1 .1 .1 .1 .0 .0
 
-  abbrev s67 : Typed.Asks T69 T70
-  s67 = Relend.k-sl-aggregate (Referent.rtF (Referent.fInt Syntax.w8)) (Relend.asShr (Referent.rtF (Referent.fInt Syntax.w8))) T69 28 29 10 ty·10 ty·1 (λ x. x) (Scalar.oInt Syntax.w64 4)
+  abbrev s66 : Typed.Mo T68 → Typed.Mo T69
+  s66 = Scalar.n-room T68 6 ty·18
 
-  abbrev s68 : Typed.Both T70 T71
-  s68 = Call.callB ps·5 r·5 (claims· .10) (claims· .11) T70 (Num.vLit 1, (record { pos = 29; ty = Syntax.tyRef Syntax.erased Syntax.imm (Syntax.tyInt Syntax.w8); ref = λ x. x }, tt)) 27 (List._∷_ 10 List.[]) Syntax.tyBool
+  abbrev s68 : Typed.Gives T69 T71
+  s68 = Share.k-arr-share (Referent.rtF (Referent.fInt Syntax.w8)) T69 12 29 4 10 ty·10 λ x. x
 
-  abbrev s69 : Typed.Mo T71 → Typed.Mo T72
-  s69 = Scalar.n-room T71 29 ty·11
+  abbrev s69 : Typed.Asks T71 T72
+  s69 = Relend.k-sl-aggregate (Referent.rtF (Referent.fInt Syntax.w8)) (Relend.asShr (Referent.rtF (Referent.fInt Syntax.w8))) T71 29 30 10 ty·10 ty·1 (λ x. x) (Scalar.oInt Syntax.w64 4)
 
-  abbrev s70 : Typed.Mo T72 → Typed.Mo T73
-  s70 = Scalar.n-room T72 27 Syntax.tyBool
+  abbrev s70 : Typed.Both T72 T73
+  s70 = Call.callB ps·5 r·5 (claims· .10) (claims· .11) T72 (Num.vLit 1, (record { pos = 30; ty = Syntax.tyRef Syntax.erased Syntax.imm (Syntax.tyInt Syntax.w8); ref = λ x. x }, tt)) 28 (List._∷_ 10 List.[]) Syntax.tyBool
 
-  abbrev s72 : Typed.Mo T73 → Typed.Mo T75
-  s72 = Share.n-back-arr-shr (Referent.rtF (Referent.fInt Syntax.w8)) T73 11 4 10 λ x. x
+  abbrev s71 : Typed.Mo T73 → Typed.Mo T74
+  s71 = Scalar.n-room T73 30 ty·11
+
+  abbrev s72 : Typed.Mo T74 → Typed.Mo T75
+  s72 = Scalar.n-room T74 28 Syntax.tyBool
 
   abbrev s74 : Typed.Mo T75 → Typed.Mo T77
-  s74 = Scalar.n-room T75 11 ty·0
+  s74 = Share.n-back-arr-shr (Referent.rtF (Referent.fInt Syntax.w8)) T75 12 4 10 λ x. x
 
-  abbrev s75 : Typed.Both T77 T78
-  s75 = Call.callB ps·6 r·6 (claims· .12) (claims· .13) T77 (record { pos = 8; st = List.[]; d = 0; at = λ x. x }, tt) 30 List.[] Syntax.tyUnit
+  abbrev s76 : Typed.Mo T77 → Typed.Mo T79
+  s76 = Scalar.n-room T77 12 ty·0
 
-  abbrev s76 : Typed.Mo T78 → Typed.Mo T79
-  s76 = Scalar.n-room T78 30 Syntax.tyUnit
+  abbrev s77 : Typed.Both T79 T80
+  s77 = Call.callB ps·6 r·6 (claims· .12) (claims· .13) T79 (record { pos = 9; st = List.[]; d = 0; at = λ x. x }, tt) 31 List.[] Syntax.tyUnit
 
-  abbrev s78 : Typed.Gives T79 T81
-  s78 = Relend.k-sl-relend T.the-row T79 2 31 1 11 ty·9 ty·7 Row.off λ x. x
+  abbrev s78 : Typed.Mo T80 → Typed.Mo T81
+  s78 = Scalar.n-room T80 31 Syntax.tyUnit
 
-  abbrev s79 : Typed.Asks T81 T82
-  s79 = Relend.k-sl-aggregate T.the-row (Relend.asMut T.the-row) T81 31 32 11 ty·7 ty·7 (λ x. x) (Scalar.oFld 2 (List._∷_ (Syntax.field 1) List.[]) (Syntax.tyInt Syntax.w64) 8 λ v. Shared.lenV (v .0))
+  abbrev s80 : Typed.Gives T81 T83
+  s80 = Relend.k-sl-relend T.the-row T81 2 32 1 11 ty·9 ty·7 Row.off λ x. x
 
-  abbrev s81 : Typed.Gives T82 T84
-  s81 = Relend.k-sl-relend (Referent.rtF (Referent.fInt Syntax.w16)) T82 3 33 2 12 ty·5 ty·2 Row.off λ x. x
+  abbrev s81 : Typed.Asks T83 T84
+  s81 = Relend.k-sl-aggregate T.the-row (Relend.asMut T.the-row) T83 32 33 11 ty·7 ty·7 (λ x. x) (Scalar.oFld 2 (List._∷_ (Syntax.field 1) List.[]) (Syntax.tyInt Syntax.w64) 8 λ v. Shared.lenV (v .0))
 
-  abbrev s82 : Typed.Asks T84 T85
-  s82 = Relend.k-sl-aggregate (Referent.rtF (Referent.fInt Syntax.w16)) (Relend.asMut (Referent.rtF (Referent.fInt Syntax.w16))) T84 33 34 12 ty·2 ty·2 (λ x. x) (Scalar.oFld 3 (List._∷_ (Syntax.field 1) List.[]) (Syntax.tyInt Syntax.w64) 8 λ v. Shared.lenV (v .0))
+  abbrev s83 : Typed.Gives T84 T86
+  s83 = Relend.k-sl-relend (Referent.rtF (Referent.fInt Syntax.w16)) T84 3 34 2 12 ty·5 ty·2 Row.off λ x. x
 
-  abbrev s84 : Typed.Gives T85 T87
-  s84 = Relend.k-sl-relend (Referent.rtF (Referent.fInt Syntax.w16)) T85 4 35 3 13 ty·6 ty·2 Row.off λ x. x
+  abbrev s84 : Typed.Asks T86 T87
+  s84 = Relend.k-sl-aggregate (Referent.rtF (Referent.fInt Syntax.w16)) (Relend.asMut (Referent.rtF (Referent.fInt Syntax.w16))) T86 34 35 12 ty·2 ty·2 (λ x. x) (Scalar.oFld 3 (List._∷_ (Syntax.field 1) List.[]) (Syntax.tyInt Syntax.w64) 8 λ v. Shared.lenV (v .0))
 
-  abbrev s85 : Typed.Asks T87 T88
-  s85 = Relend.k-sl-aggregate (Referent.rtF (Referent.fInt Syntax.w16)) (Relend.asMut (Referent.rtF (Referent.fInt Syntax.w16))) T87 35 36 13 ty·2 ty·2 (λ x. x) (Scalar.oFld 4 (List._∷_ (Syntax.field 1) List.[]) (Syntax.tyInt Syntax.w64) 8 λ v. Shared.lenV (v .0))
+  abbrev s86 : Typed.Gives T87 T89
+  s86 = Relend.k-sl-relend (Referent.rtF (Referent.fInt Syntax.w16)) T87 4 36 3 13 ty·6 ty·2 Row.off λ x. x
 
-  abbrev s86 : Typed.Both T88 T89
-  s86 = Call.callB ps·7 r·7 (claims· .14) (claims· .15) T88 (record { pos = 1; ty = Syntax.tyRef (Syntax.named 0) Syntax.imm (Syntax.tyInt Syntax.w8); ref = λ x. x }, (record { pos = 32; ty = Syntax.tyRef Syntax.erased Syntax.mut (Memory.pointee (T.the-row .written)); ref = λ x. x }, (record { pos = 34; ty = Syntax.tyRef Syntax.erased Syntax.mut (Syntax.tyInt Syntax.w16); ref = λ x. x }, (record { pos = 36; ty = Syntax.tyRef Syntax.erased Syntax.mut (Syntax.tyInt Syntax.w16); ref = λ x. x }, tt)))) 9 (List._∷_ 0 (List._∷_ 11 (List._∷_ 12 (List._∷_ 13 List.[])))) Syntax.tyBool
+  abbrev s87 : Typed.Asks T89 T90
+  s87 = Relend.k-sl-aggregate (Referent.rtF (Referent.fInt Syntax.w16)) (Relend.asMut (Referent.rtF (Referent.fInt Syntax.w16))) T89 36 37 13 ty·2 ty·2 (λ x. x) (Scalar.oFld 4 (List._∷_ (Syntax.field 1) List.[]) (Syntax.tyInt Syntax.w64) 8 λ v. Shared.lenV (v .0))
 
-  abbrev s88 : Typed.Both T89 T91
-  s88 = Relend.k-back-sl T.the-row T89 32 2 1 11 ty·9 ty·7 Row.off (λ x. x) λ x. x
+  abbrev s88 : Typed.Both T90 T91
+  s88 = Call.callB ps·7 r·7 (claims· .14) (claims· .15) T90 (record { pos = 1; ty = Syntax.tyRef (Syntax.named 0) Syntax.imm (Syntax.tyInt Syntax.w8); ref = λ x. x }, (record { pos = 33; ty = Syntax.tyRef Syntax.erased Syntax.mut (Memory.pointee (T.the-row .written)); ref = λ x. x }, (record { pos = 35; ty = Syntax.tyRef Syntax.erased Syntax.mut (Syntax.tyInt Syntax.w16); ref = λ x. x }, (record { pos = 37; ty = Syntax.tyRef Syntax.erased Syntax.mut (Syntax.tyInt Syntax.w16); ref = λ x. x }, tt)))) 10 (List._∷_ 0 (List._∷_ 11 (List._∷_ 12 (List._∷_ 13 List.[])))) Syntax.tyBool
 
-  abbrev s91 : Typed.Both T91 T94
-  s91 = Relend.k-back-sl (Referent.rtF (Referent.fInt Syntax.w16)) T91 34 3 2 12 ty·5 ty·2 Row.off (λ x. x) λ x. x
+  abbrev s90 : Typed.Both T91 T93
+  s90 = Relend.k-back-sl T.the-row T91 33 2 1 11 ty·9 ty·7 Row.off (λ x. x) λ x. x
 
-  abbrev s92 : Typed.Gives T94 T95
-  s92 = Know.k-sl-known (Referent.fInt Syntax.w16) T94 3 2 ty·5 Row.off 0 λ x. x
+  abbrev s93 : Typed.Both T93 T96
+  s93 = Relend.k-back-sl (Referent.rtF (Referent.fInt Syntax.w16)) T93 35 3 2 12 ty·5 ty·2 Row.off (λ x. x) λ x. x
 
-  abbrev s95 : Typed.Both T95 T98
-  s95 = Relend.k-back-sl (Referent.rtF (Referent.fInt Syntax.w16)) T95 36 4 3 13 ty·6 ty·2 Row.off (λ x. x) λ x. x
+  abbrev s94 : Typed.Gives T96 T97
+  s94 = Know.k-sl-known (Referent.fInt Syntax.w16) T96 3 2 ty·5 Row.off 0 λ x. x
 
-  abbrev s96 : Typed.Gives T98 T99
-  s96 = Know.k-sl-known (Referent.fInt Syntax.w16) T98 4 3 ty·6 Row.off 0 λ x. x
+  abbrev s97 : Typed.Both T97 T100
+  s97 = Relend.k-back-sl (Referent.rtF (Referent.fInt Syntax.w16)) T97 37 4 3 13 ty·6 ty·2 Row.off (λ x. x) λ x. x
 
-  abbrev s99 : Typed.Gives T99 T102
-  s99 = Reshare.k-sl-reshare T.the-row T99 2 37 1 14 ty·9 ty·8 Row.off λ x. x
+  abbrev s98 : Typed.Gives T100 T101
+  s98 = Know.k-sl-known (Referent.fInt Syntax.w16) T100 4 3 ty·6 Row.off 0 λ x. x
 
-  abbrev s100 : Typed.Asks T102 T103
-  s100 = Relend.k-sl-aggregate T.the-row (Relend.asShr T.the-row) T102 37 38 14 ty·8 ty·8 (λ x. x) (Scalar.oFld 2 (List._∷_ (Syntax.field 1) List.[]) (Syntax.tyInt Syntax.w64) 8 λ v. Shared.lenV (v .0))
+  abbrev s101 : Typed.Gives T101 T104
+  s101 = Reshare.k-sl-reshare T.the-row T101 2 38 1 14 ty·9 ty·8 Row.off λ x. x
 
-  abbrev s102 : Typed.Gives T103 T105
-  s102 = Reshare.k-sl-reshare (Referent.rtF (Referent.fInt Syntax.w16)) T103 3 39 2 15 ty·5 ty·3 Row.off λ x. x
+  abbrev s102 : Typed.Asks T104 T105
+  s102 = Relend.k-sl-aggregate T.the-row (Relend.asShr T.the-row) T104 38 39 14 ty·8 ty·8 (λ x. x) (Scalar.oFld 2 (List._∷_ (Syntax.field 1) List.[]) (Syntax.tyInt Syntax.w64) 8 λ v. Shared.lenV (v .0))
 
-  abbrev s103 : Typed.Asks T105 T106
-  s103 = Relend.k-sl-aggregate (Referent.rtF (Referent.fInt Syntax.w16)) (Relend.asShr (Referent.rtF (Referent.fInt Syntax.w16))) T105 39 40 15 ty·3 ty·3 (λ x. x) (Scalar.oFld 3 (List._∷_ (Syntax.field 1) List.[]) (Syntax.tyInt Syntax.w64) 8 λ v. Shared.lenV (v .0))
+  abbrev s104 : Typed.Gives T105 T107
+  s104 = Reshare.k-sl-reshare (Referent.rtF (Referent.fInt Syntax.w16)) T105 3 40 2 15 ty·5 ty·3 Row.off λ x. x
 
-  abbrev s105 : Typed.Gives T106 T108
-  s105 = Reshare.k-sl-reshare (Referent.rtF (Referent.fInt Syntax.w16)) T106 4 41 3 16 ty·6 ty·3 Row.off λ x. x
+  abbrev s105 : Typed.Asks T107 T108
+  s105 = Relend.k-sl-aggregate (Referent.rtF (Referent.fInt Syntax.w16)) (Relend.asShr (Referent.rtF (Referent.fInt Syntax.w16))) T107 40 41 15 ty·3 ty·3 (λ x. x) (Scalar.oFld 3 (List._∷_ (Syntax.field 1) List.[]) (Syntax.tyInt Syntax.w64) 8 λ v. Shared.lenV (v .0))
 
-  abbrev s106 : Typed.Asks T108 T109
-  s106 = Relend.k-sl-aggregate (Referent.rtF (Referent.fInt Syntax.w16)) (Relend.asShr (Referent.rtF (Referent.fInt Syntax.w16))) T108 41 42 16 ty·3 ty·3 (λ x. x) (Scalar.oFld 4 (List._∷_ (Syntax.field 1) List.[]) (Syntax.tyInt Syntax.w64) 8 λ v. Shared.lenV (v .0))
+  abbrev s107 : Typed.Gives T108 T110
+  s107 = Reshare.k-sl-reshare (Referent.rtF (Referent.fInt Syntax.w16)) T108 4 42 3 16 ty·6 ty·3 Row.off λ x. x
 
-  abbrev s107 : Typed.Both T109 T110
-  s107 = Call.callB ps·8 r·8 (claims· .16) (claims· .17) T109 (record { pos = 8; st = List.[]; d = 0; at = λ x. x }, (record { pos = 38; ty = Syntax.tyRef Syntax.erased Syntax.imm (Memory.pointee (T.the-row .written)); ref = λ x. x }, (record { pos = 40; ty = Syntax.tyRef Syntax.erased Syntax.imm (Syntax.tyInt Syntax.w16); ref = λ x. x }, (record { pos = 42; ty = Syntax.tyRef Syntax.erased Syntax.imm (Syntax.tyInt Syntax.w16); ref = λ x. x }, tt)))) 10 (List._∷_ 14 (List._∷_ 15 (List._∷_ 16 List.[]))) Syntax.tyBool
+  abbrev s108 : Typed.Asks T110 T111
+  s108 = Relend.k-sl-aggregate (Referent.rtF (Referent.fInt Syntax.w16)) (Relend.asShr (Referent.rtF (Referent.fInt Syntax.w16))) T110 42 43 16 ty·3 ty·3 (λ x. x) (Scalar.oFld 4 (List._∷_ (Syntax.field 1) List.[]) (Syntax.tyInt Syntax.w64) 8 λ v. Shared.lenV (v .0))
 
-  abbrev s108 : Typed.Mo T110 → Typed.Mo T111
-  s108 = Scalar.n-room T110 38 ty·15
-
-  abbrev s109 : Typed.Mo T111 → Typed.Mo T112
-  s109 = Scalar.n-room T111 40 ty·13
+  abbrev s109 : Typed.Both T111 T112
+  s109 = Call.callB ps·8 r·8 (claims· .16) (claims· .17) T111 (record { pos = 9; st = List.[]; d = 0; at = λ x. x }, (record { pos = 39; ty = Syntax.tyRef Syntax.erased Syntax.imm (Memory.pointee (T.the-row .written)); ref = λ x. x }, (record { pos = 41; ty = Syntax.tyRef Syntax.erased Syntax.imm (Syntax.tyInt Syntax.w16); ref = λ x. x }, (record { pos = 43; ty = Syntax.tyRef Syntax.erased Syntax.imm (Syntax.tyInt Syntax.w16); ref = λ x. x }, tt)))) 11 (List._∷_ 14 (List._∷_ 15 (List._∷_ 16 List.[]))) Syntax.tyBool
 
   abbrev s110 : Typed.Mo T112 → Typed.Mo T113
-  s110 = Scalar.n-room T112 42 ty·13
+  s110 = Scalar.n-room T112 39 ty·15
 
-  abbrev s112 : Typed.Mo T113 → Typed.Mo T115
-  s112 = Reshare.n-back-sl-shr T.the-row T113 2 1 14 ty·9 Row.off λ x. x
+  abbrev s111 : Typed.Mo T113 → Typed.Mo T114
+  s111 = Scalar.n-room T113 41 ty·13
 
-  abbrev s115 : Typed.Mo T115 → Typed.Mo T118
-  s115 = Reshare.n-back-sl-shr (Referent.rtF (Referent.fInt Syntax.w16)) T115 3 2 15 ty·5 Row.off λ x. x
+  abbrev s112 : Typed.Mo T114 → Typed.Mo T115
+  s112 = Scalar.n-room T114 43 ty·13
 
-  abbrev s118 : Typed.Mo T118 → Typed.Mo T121
-  s118 = Reshare.n-back-sl-shr (Referent.rtF (Referent.fInt Syntax.w16)) T118 4 3 16 ty·6 Row.off λ x. x
+  abbrev s114 : Typed.Mo T115 → Typed.Mo T117
+  s114 = Reshare.n-back-sl-shr T.the-row T115 2 1 14 ty·9 Row.off λ x. x
 
-  abbrev s120 : Typed.Both T121 T123
-  s120 = Call.callB ps·9 r·9 (claims· .18) (claims· .19) T121 (Bool.bAt 9 λ x. x, (Bool.bAt 10 λ x. x, tt)) 30 List.[] Syntax.tyUnit
+  abbrev s117 : Typed.Mo T117 → Typed.Mo T120
+  s117 = Reshare.n-back-sl-shr (Referent.rtF (Referent.fInt Syntax.w16)) T117 3 2 15 ty·5 Row.off λ x. x
 
-  abbrev s121 : Typed.Mo T123 → Typed.Mo T124
-  s121 = Scalar.n-room T123 30 Syntax.tyUnit
+  abbrev s120 : Typed.Mo T120 → Typed.Mo T123
+  s120 = Reshare.n-back-sl-shr (Referent.rtF (Referent.fInt Syntax.w16)) T120 4 3 16 ty·6 Row.off λ x. x
 
-  abbrev s123 : Typed.Gives T124 T126
-  s123 = Reshare.k-sl-reshare T.the-row T124 2 43 1 17 ty·9 ty·8 Row.off λ x. x
+  abbrev s122 : Typed.Both T123 T125
+  s122 = Call.callB ps·9 r·9 (claims· .18) (claims· .19) T123 (Bool.bAt 10 λ x. x, (Bool.bAt 11 λ x. x, tt)) 31 List.[] Syntax.tyUnit
 
-  abbrev s124 : Typed.Asks T126 T127
-  s124 = Relend.k-sl-aggregate T.the-row (Relend.asShr T.the-row) T126 43 44 17 ty·8 ty·8 (λ x. x) (Scalar.oFld 2 (List._∷_ (Syntax.field 1) List.[]) (Syntax.tyInt Syntax.w64) 8 λ v. Shared.lenV (v .0))
+  abbrev s123 : Typed.Mo T125 → Typed.Mo T126
+  s123 = Scalar.n-room T125 31 Syntax.tyUnit
 
-  abbrev s126 : Typed.Gives T127 T129
-  s126 = Reshare.k-sl-reshare (Referent.rtF (Referent.fInt Syntax.w16)) T127 3 45 2 18 ty·5 ty·3 Row.off λ x. x
+  abbrev s125 : Typed.Gives T126 T128
+  s125 = Reshare.k-sl-reshare T.the-row T126 2 44 1 17 ty·9 ty·8 Row.off λ x. x
 
-  abbrev s127 : Typed.Asks T129 T130
-  s127 = Relend.k-sl-aggregate (Referent.rtF (Referent.fInt Syntax.w16)) (Relend.asShr (Referent.rtF (Referent.fInt Syntax.w16))) T129 45 46 18 ty·3 ty·3 (λ x. x) (Scalar.oFld 3 (List._∷_ (Syntax.field 1) List.[]) (Syntax.tyInt Syntax.w64) 8 λ v. Shared.lenV (v .0))
+  abbrev s126 : Typed.Asks T128 T129
+  s126 = Relend.k-sl-aggregate T.the-row (Relend.asShr T.the-row) T128 44 45 17 ty·8 ty·8 (λ x. x) (Scalar.oFld 2 (List._∷_ (Syntax.field 1) List.[]) (Syntax.tyInt Syntax.w64) 8 λ v. Shared.lenV (v .0))
 
-  abbrev s129 : Typed.Gives T130 T132
-  s129 = Reshare.k-sl-reshare (Referent.rtF (Referent.fInt Syntax.w16)) T130 4 47 3 19 ty·6 ty·3 Row.off λ x. x
+  abbrev s128 : Typed.Gives T129 T131
+  s128 = Reshare.k-sl-reshare (Referent.rtF (Referent.fInt Syntax.w16)) T129 3 46 2 18 ty·5 ty·3 Row.off λ x. x
 
-  abbrev s130 : Typed.Asks T132 T133
-  s130 = Relend.k-sl-aggregate (Referent.rtF (Referent.fInt Syntax.w16)) (Relend.asShr (Referent.rtF (Referent.fInt Syntax.w16))) T132 47 48 19 ty·3 ty·3 (λ x. x) (Scalar.oFld 4 (List._∷_ (Syntax.field 1) List.[]) (Syntax.tyInt Syntax.w64) 8 λ v. Shared.lenV (v .0))
+  abbrev s129 : Typed.Asks T131 T132
+  s129 = Relend.k-sl-aggregate (Referent.rtF (Referent.fInt Syntax.w16)) (Relend.asShr (Referent.rtF (Referent.fInt Syntax.w16))) T131 46 47 18 ty·3 ty·3 (λ x. x) (Scalar.oFld 3 (List._∷_ (Syntax.field 1) List.[]) (Syntax.tyInt Syntax.w64) 8 λ v. Shared.lenV (v .0))
 
-  abbrev s131 : Typed.Both T133 T134
-  s131 = Call.callB ps·4 r·4 (claims· .8) (claims· .9) T133 (record { pos = 8; st = List.[]; d = 0; at = λ x. x }, (record { pos = 44; ty = Syntax.tyRef Syntax.erased Syntax.imm (Memory.pointee (T.the-row .written)); ref = λ x. x }, (record { pos = 46; ty = Syntax.tyRef Syntax.erased Syntax.imm (Syntax.tyInt Syntax.w16); ref = λ x. x }, (record { pos = 48; ty = Syntax.tyRef Syntax.erased Syntax.imm (Syntax.tyInt Syntax.w16); ref = λ x. x }, (Num.vAt 5 λ x. x, tt))))) 30 (List._∷_ 17 (List._∷_ 18 (List._∷_ 19 List.[]))) Syntax.tyUnit
+  abbrev s131 : Typed.Gives T132 T134
+  s131 = Reshare.k-sl-reshare (Referent.rtF (Referent.fInt Syntax.w16)) T132 4 48 3 19 ty·6 ty·3 Row.off λ x. x
 
-  abbrev s132 : Typed.Mo T134 → Typed.Mo T135
-  s132 = Scalar.n-room T134 44 ty·15
+  abbrev s132 : Typed.Asks T134 T135
+  s132 = Relend.k-sl-aggregate (Referent.rtF (Referent.fInt Syntax.w16)) (Relend.asShr (Referent.rtF (Referent.fInt Syntax.w16))) T134 48 49 19 ty·3 ty·3 (λ x. x) (Scalar.oFld 4 (List._∷_ (Syntax.field 1) List.[]) (Syntax.tyInt Syntax.w64) 8 λ v. Shared.lenV (v .0))
 
-  abbrev s133 : Typed.Mo T135 → Typed.Mo T136
-  s133 = Scalar.n-room T135 46 ty·13
+  abbrev s133 : Typed.Both T135 T136
+  s133 = Call.callB ps·4 r·4 (claims· .8) (claims· .9) T135 (record { pos = 9; st = List.[]; d = 0; at = λ x. x }, (record { pos = 45; ty = Syntax.tyRef Syntax.erased Syntax.imm (Memory.pointee (T.the-row .written)); ref = λ x. x }, (record { pos = 47; ty = Syntax.tyRef Syntax.erased Syntax.imm (Syntax.tyInt Syntax.w16); ref = λ x. x }, (record { pos = 49; ty = Syntax.tyRef Syntax.erased Syntax.imm (Syntax.tyInt Syntax.w16); ref = λ x. x }, (Num.vAt 5 λ x. x, tt))))) 31 (List._∷_ 17 (List._∷_ 18 (List._∷_ 19 List.[]))) Syntax.tyUnit
 
   abbrev s134 : Typed.Mo T136 → Typed.Mo T137
-  s134 = Scalar.n-room T136 48 ty·13
+  s134 = Scalar.n-room T136 45 ty·15
 
   abbrev s135 : Typed.Mo T137 → Typed.Mo T138
-  s135 = Scalar.n-room T137 8 ty·16
+  s135 = Scalar.n-room T137 47 ty·13
 
   abbrev s136 : Typed.Mo T138 → Typed.Mo T139
-  s136 = Scalar.n-room T138 9 Syntax.tyBool
+  s136 = Scalar.n-room T138 49 ty·13
 
   abbrev s137 : Typed.Mo T139 → Typed.Mo T140
-  s137 = Scalar.n-room T139 10 Syntax.tyBool
+  s137 = Scalar.n-room T139 9 ty·16
 
   abbrev s138 : Typed.Mo T140 → Typed.Mo T141
-  s138 = Scalar.n-room T140 30 Syntax.tyUnit
+  s138 = Scalar.n-room T140 10 Syntax.tyBool
 
-  abbrev s140 : Typed.Mo T141 → Typed.Mo T143
-  s140 = Reshare.n-back-sl-shr T.the-row T141 2 1 17 ty·9 Row.off λ x. x
+  abbrev s139 : Typed.Mo T141 → Typed.Mo T142
+  s139 = Scalar.n-room T141 11 Syntax.tyBool
 
-  abbrev s143 : Typed.Mo T143 → Typed.Mo T146
-  s143 = Reshare.n-back-sl-shr (Referent.rtF (Referent.fInt Syntax.w16)) T143 3 2 18 ty·5 Row.off λ x. x
+  abbrev s140 : Typed.Mo T142 → Typed.Mo T143
+  s140 = Scalar.n-room T142 31 Syntax.tyUnit
 
-  abbrev s146 : Typed.Mo T146 → Typed.Mo T149
-  s146 = Reshare.n-back-sl-shr (Referent.rtF (Referent.fInt Syntax.w16)) T146 4 3 19 ty·6 Row.off λ x. x
+  abbrev s142 : Typed.Mo T143 → Typed.Mo T145
+  s142 = Reshare.n-back-sl-shr T.the-row T143 2 1 17 ty·9 Row.off λ x. x
 
-  abbrev s148 : Typed.Mo T17 → Typed.Mo T151
-  s148 = Scalar.n-use T17 Scalar.oUnit 0 (Rows'.sc-here Row.sUnit) (Row.sUnit .of)
+  abbrev s145 : Typed.Mo T145 → Typed.Mo T148
+  s145 = Reshare.n-back-sl-shr (Referent.rtF (Referent.fInt Syntax.w16)) T145 3 2 18 ty·5 Row.off λ x. x
 
-  abbrev s149 : Typed.Mo T151 → Typed.Mo T152
-  s149 = Scalar.n-room T151 5 (Syntax.tyInt Syntax.w64)
+  abbrev s148 : Typed.Mo T148 → Typed.Mo T151
+  s148 = Reshare.n-back-sl-shr (Referent.rtF (Referent.fInt Syntax.w16)) T148 4 3 19 ty·6 Row.off λ x. x
+
+  abbrev s150 : Typed.Mo T17 → Typed.Mo T153
+  s150 = Scalar.n-use T17 Scalar.oUnit 0 (Rows'.sc-here Row.sUnit) (Row.sUnit .of)
+
+  abbrev s151 : Typed.Mo T153 → Typed.Mo T154
+  s151 = Scalar.n-room T153 5 (Syntax.tyInt Syntax.w64)
 
   module _ (Pre· : (κs : Lifetimes.Lfts 4) → Kinds.Dens κs ps → Type 0) (Post· : (κs : Lifetimes.Lfts 4) → (a : Kinds.Dens κs ps) → Kinds.Plain 4 ps r κs) where
     module _ (M : Type 1) where
@@ -1424,377 +1454,380 @@ module _ (claims· : Claims) where
       Closed = (𝓤 : URA.URA M) (H : Wp.Heap 𝓤) (A : Atoms.Atoms 𝓤) (W : Kit.Given 𝓤 H A) (𝓣 : Wp.Tables 𝓤 H) (known0 : Plain.Known 𝓤 H A W 𝓣 4 ps·0 r·0 (claims· .0) (claims· .1) "reading::read") (known1 : Plain.Known 𝓤 H A W 𝓣 0 ps·1 r·1 (claims· .2) (claims· .3) "tables::number") (known2 : Plain.Known 𝓤 H A W 𝓣 0 ps·2 r·2 (claims· .4) (claims· .5) "bench_plans::print::print_refusal") (known3 : Plain.Known 𝓤 H A W 𝓣 0 ps·3 r·3 (claims· .6) (claims· .7) "tables::Size::new") (known4 : Plain.Known 𝓤 H A W 𝓣 3 ps·4 r·4 (claims· .8) (claims· .9) "bench_plans::questions::ask_all") (known5 : Plain.Known 𝓤 H A W 𝓣 1 ps·5 r·5 (claims· .10) (claims· .11) "io::write_all") (known6 : Plain.Known 𝓤 H A W 𝓣 0 ps·6 r·6 (claims· .12) (claims· .13) "bench_plans::files::print_size") (known7 : Plain.Known 𝓤 H A W 𝓣 4 ps·7 r·7 (claims· .14) (claims· .15) "bench_plans::files::write_again") (known8 : Plain.Known 𝓤 H A W 𝓣 3 ps·8 r·8 (claims· .16) (claims· .17) "bench_plans::files::read_again") (known9 : Plain.Known 𝓤 H A W 𝓣 0 ps·9 r·9 (claims· .18) (claims· .19) "bench_plans::files::print_again") → Statement.Triple 𝓤 (Wp.WpFn 𝓤 H (𝓣 .C) (𝓣 .Λ) (Function.fnOf 4 ps r xs m hs body)) (Function.plainOf 𝓤 H A 4 ps r Pre· Post·)
 
     module _ where
-      abbrev at0 : Typed.TF T48 O1
-      at0 = λ Ψ. Typed.both s46 (Typed.pass T49 T50 s47 (Typed.pass T50 T51 s48 (Typed.pass T51 T52 s49 (Typed.pass T52 T53 s50 (Typed.pass T53 T54 s51 (Typed.pass T54 T56 s53 (Typed.pass T56 T59 s56 (Typed.pass T59 T62 s59 (Typed.atNext O1 Ψ)))))))))
+      abbrev at0 : Typed.TF T49 O1
+      at0 = λ Ψ. Typed.both s47 (Typed.pass T50 T51 s48 (Typed.pass T51 T52 s49 (Typed.pass T52 T53 s50 (Typed.pass T53 T54 s51 (Typed.pass T54 T55 s52 (Typed.pass T55 T56 s53 (Typed.pass T56 T58 s55 (Typed.pass T58 T61 s58 (Typed.pass T61 T64 s61 (Typed.atNext O1 Ψ))))))))))
 
-      abbrev at1 : Typed.TF T47 O1
-      at1 = λ Ψ. Typed.ask s45 (at0 Ψ)
+      abbrev at1 : Typed.TF T48 O1
+      at1 = λ Ψ. Typed.ask s46 (at0 Ψ)
 
-      abbrev at2 : Typed.TF T45 O1
-      at2 = λ Ψ. Typed.give s44 (at1 Ψ)
+      abbrev at2 : Typed.TF T46 O1
+      at2 = λ Ψ. Typed.give s45 (at1 Ψ)
 
-      abbrev at3 : Typed.TF T45 O1
+      abbrev at3 : Typed.TF T46 O1
       at3 = λ Ψ. at2 Ψ
 
-      abbrev at4 : Typed.TF T44 O1
-      at4 = λ Ψ. Typed.ask s42 (at3 Ψ)
+      abbrev at4 : Typed.TF T45 O1
+      at4 = λ Ψ. Typed.ask s43 (at3 Ψ)
 
-      abbrev at5 : Typed.TF T42 O1
-      at5 = λ Ψ. Typed.give s41 (at4 Ψ)
+      abbrev at5 : Typed.TF T43 O1
+      at5 = λ Ψ. Typed.give s42 (at4 Ψ)
 
-      abbrev at6 : Typed.TF T42 O1
+      abbrev at6 : Typed.TF T43 O1
       at6 = λ Ψ. at5 Ψ
 
-      abbrev at7 : Typed.TF T41 O1
-      at7 = λ Ψ. Typed.ask s39 (at6 Ψ)
+      abbrev at7 : Typed.TF T42 O1
+      at7 = λ Ψ. Typed.ask s40 (at6 Ψ)
 
-      abbrev at8 : Typed.TF T39 O1
-      at8 = λ Ψ. Typed.give s38 (at7 Ψ)
+      abbrev at8 : Typed.TF T40 O1
+      at8 = λ Ψ. Typed.give s39 (at7 Ψ)
 
-      abbrev at9 : Typed.TF T39 O1
+      abbrev at9 : Typed.TF T40 O1
       at9 = λ Ψ. at8 Ψ
 
-      abbrev at10 : Typed.TF T38 O1
-      at10 = λ Ψ. Typed.both s36 (at9 Ψ)
+      abbrev at10 : Typed.TF T39 O1
+      at10 = λ Ψ. Typed.both s37 (at9 Ψ)
 
-      abbrev at11 : Typed.TF T37 O1
-      at11 = λ Ψ. Typed.pass T37 T38 s35 (at10 Ψ)
+      abbrev at11 : Typed.TF T38 O1
+      at11 = λ Ψ. Typed.pass T38 T39 s36 (at10 Ψ)
 
-      abbrev at12 : Typed.TF T36 O1
-      at12 = λ Ψ. Typed.pass T36 T37 s34 (at11 Ψ)
+      abbrev at12 : Typed.TF T37 O1
+      at12 = λ Ψ. Typed.pass T37 T38 s35 (at11 Ψ)
 
-      abbrev at13 : Typed.TF T35 O1
-      at13 = λ Ψ. Typed.both s33 (at12 Ψ)
+      abbrev at13 : Typed.TF T36 O1
+      at13 = λ Ψ. Typed.pass T36 T37 s34 (at12 Ψ)
 
-      abbrev at14 : Typed.TF T34 O1
-      at14 = λ Ψ. Typed.pass T34 T35 s32 (at13 Ψ)
+      abbrev at14 : Typed.TF T35 O1
+      at14 = λ Ψ. Typed.both s33 (at13 Ψ)
 
-      abbrev at15 : Typed.TF T33 O1
-      at15 = λ Ψ. Typed.both s31 (at14 Ψ)
+      abbrev at15 : Typed.TF T34 O1
+      at15 = λ Ψ. Typed.pass T34 T35 s32 (at14 Ψ)
 
-      abbrev at16 : Typed.TF T32 O1
-      at16 = λ Ψ. Typed.pass T32 T33 s30 (at15 Ψ)
+      abbrev at16 : Typed.TF T33 O1
+      at16 = λ Ψ. Typed.both s31 (at15 Ψ)
 
-      abbrev at17 : Typed.TF T31 O1
-      at17 = λ Ψ. Typed.pass T31 T32 s29 (at16 Ψ)
+      abbrev at17 : Typed.TF T32 O1
+      at17 = λ Ψ. Typed.pass T32 T33 s30 (at16 Ψ)
 
-      abbrev at18 : Typed.TF T30 O1
-      at18 = λ Ψ. Typed.pass T30 T31 s28 (at17 Ψ)
+      abbrev at18 : Typed.TF T31 O1
+      at18 = λ Ψ. Typed.pass T31 T32 s29 (at17 Ψ)
 
-      abbrev at19 : Typed.TF T29 O1
-      at19 = λ Ψ. Typed.give s27 (at18 Ψ)
+      abbrev at19 : Typed.TF T30 O1
+      at19 = λ Ψ. Typed.pass T30 T31 s28 (at18 Ψ)
 
-      abbrev at20 : Typed.TF T27 O1
-      at20 = λ Ψ. Typed.both s26 (at19 Ψ)
+      abbrev at20 : Typed.TF T29 O1
+      at20 = λ Ψ. Typed.give s27 (at19 Ψ)
 
-      abbrev at21 : Typed.TF T133 O1
-      at21 = λ Ψ. Typed.both s131 (Typed.pass T134 T135 s132 (Typed.pass T135 T136 s133 (Typed.pass T136 T137 s134 (Typed.pass T137 T138 s135 (Typed.pass T138 T139 s136 (Typed.pass T139 T140 s137 (Typed.pass T140 T141 s138 (Typed.pass T141 T143 s140 (Typed.pass T143 T146 s143 (Typed.pass T146 T149 s146 (Typed.atNext O1 Ψ)))))))))))
+      abbrev at21 : Typed.TF T27 O1
+      at21 = λ Ψ. Typed.both s26 (at20 Ψ)
 
-      abbrev at22 : Typed.TF T132 O1
-      at22 = λ Ψ. Typed.ask s130 (at21 Ψ)
+      abbrev at22 : Typed.TF T135 O1
+      at22 = λ Ψ. Typed.both s133 (Typed.pass T136 T137 s134 (Typed.pass T137 T138 s135 (Typed.pass T138 T139 s136 (Typed.pass T139 T140 s137 (Typed.pass T140 T141 s138 (Typed.pass T141 T142 s139 (Typed.pass T142 T143 s140 (Typed.pass T143 T145 s142 (Typed.pass T145 T148 s145 (Typed.pass T148 T151 s148 (Typed.atNext O1 Ψ)))))))))))
 
-      abbrev at23 : Typed.TF T130 O1
-      at23 = λ Ψ. Typed.give s129 (at22 Ψ)
+      abbrev at23 : Typed.TF T134 O1
+      at23 = λ Ψ. Typed.ask s132 (at22 Ψ)
 
-      abbrev at24 : Typed.TF T130 O1
-      at24 = λ Ψ. at23 Ψ
+      abbrev at24 : Typed.TF T132 O1
+      at24 = λ Ψ. Typed.give s131 (at23 Ψ)
 
-      abbrev at25 : Typed.TF T129 O1
-      at25 = λ Ψ. Typed.ask s127 (at24 Ψ)
+      abbrev at25 : Typed.TF T132 O1
+      at25 = λ Ψ. at24 Ψ
 
-      abbrev at26 : Typed.TF T127 O1
-      at26 = λ Ψ. Typed.give s126 (at25 Ψ)
+      abbrev at26 : Typed.TF T131 O1
+      at26 = λ Ψ. Typed.ask s129 (at25 Ψ)
 
-      abbrev at27 : Typed.TF T127 O1
-      at27 = λ Ψ. at26 Ψ
+      abbrev at27 : Typed.TF T129 O1
+      at27 = λ Ψ. Typed.give s128 (at26 Ψ)
 
-      abbrev at28 : Typed.TF T126 O1
-      at28 = λ Ψ. Typed.ask s124 (at27 Ψ)
+      abbrev at28 : Typed.TF T129 O1
+      at28 = λ Ψ. at27 Ψ
 
-      abbrev at29 : Typed.TF T124 O1
-      at29 = λ Ψ. Typed.give s123 (at28 Ψ)
+      abbrev at29 : Typed.TF T128 O1
+      at29 = λ Ψ. Typed.ask s126 (at28 Ψ)
 
-      abbrev at30 : Typed.TF T124 O1
-      at30 = λ Ψ. at29 Ψ
+      abbrev at30 : Typed.TF T126 O1
+      at30 = λ Ψ. Typed.give s125 (at29 Ψ)
 
-      abbrev at31 : Typed.TF T123 O1
-      at31 = λ Ψ. Typed.pass T123 T124 s121 (at30 Ψ)
+      abbrev at31 : Typed.TF T126 O1
+      at31 = λ Ψ. at30 Ψ
 
-      abbrev at32 : Typed.TF T121 O1
-      at32 = λ Ψ. Typed.both s120 (at31 Ψ)
+      abbrev at32 : Typed.TF T125 O1
+      at32 = λ Ψ. Typed.pass T125 T126 s123 (at31 Ψ)
 
-      abbrev at33 : Typed.TF T121 O1
-      at33 = λ Ψ. at32 Ψ
+      abbrev at33 : Typed.TF T123 O1
+      at33 = λ Ψ. Typed.both s122 (at32 Ψ)
 
-      abbrev at34 : Typed.TF T118 O1
-      at34 = λ Ψ. Typed.pass T118 T121 s118 (at33 Ψ)
+      abbrev at34 : Typed.TF T123 O1
+      at34 = λ Ψ. at33 Ψ
 
-      abbrev at35 : Typed.TF T118 O1
-      at35 = λ Ψ. at34 Ψ
+      abbrev at35 : Typed.TF T120 O1
+      at35 = λ Ψ. Typed.pass T120 T123 s120 (at34 Ψ)
 
-      abbrev at36 : Typed.TF T118 O1
+      abbrev at36 : Typed.TF T120 O1
       at36 = λ Ψ. at35 Ψ
 
-      abbrev at37 : Typed.TF T115 O1
-      at37 = λ Ψ. Typed.pass T115 T118 s115 (at36 Ψ)
+      abbrev at37 : Typed.TF T120 O1
+      at37 = λ Ψ. at36 Ψ
 
-      abbrev at38 : Typed.TF T115 O1
-      at38 = λ Ψ. at37 Ψ
+      abbrev at38 : Typed.TF T117 O1
+      at38 = λ Ψ. Typed.pass T117 T120 s117 (at37 Ψ)
 
-      abbrev at39 : Typed.TF T115 O1
+      abbrev at39 : Typed.TF T117 O1
       at39 = λ Ψ. at38 Ψ
 
-      abbrev at40 : Typed.TF T113 O1
-      at40 = λ Ψ. Typed.pass T113 T115 s112 (at39 Ψ)
+      abbrev at40 : Typed.TF T117 O1
+      at40 = λ Ψ. at39 Ψ
 
-      abbrev at41 : Typed.TF T113 O1
-      at41 = λ Ψ. at40 Ψ
+      abbrev at41 : Typed.TF T115 O1
+      at41 = λ Ψ. Typed.pass T115 T117 s114 (at40 Ψ)
 
-      abbrev at42 : Typed.TF T112 O1
-      at42 = λ Ψ. Typed.pass T112 T113 s110 (at41 Ψ)
+      abbrev at42 : Typed.TF T115 O1
+      at42 = λ Ψ. at41 Ψ
 
-      abbrev at43 : Typed.TF T111 O1
-      at43 = λ Ψ. Typed.pass T111 T112 s109 (at42 Ψ)
+      abbrev at43 : Typed.TF T114 O1
+      at43 = λ Ψ. Typed.pass T114 T115 s112 (at42 Ψ)
 
-      abbrev at44 : Typed.TF T110 O1
-      at44 = λ Ψ. Typed.pass T110 T111 s108 (at43 Ψ)
+      abbrev at44 : Typed.TF T113 O1
+      at44 = λ Ψ. Typed.pass T113 T114 s111 (at43 Ψ)
 
-      abbrev at45 : Typed.TF T109 O1
-      at45 = λ Ψ. Typed.both s107 (at44 Ψ)
+      abbrev at45 : Typed.TF T112 O1
+      at45 = λ Ψ. Typed.pass T112 T113 s110 (at44 Ψ)
 
-      abbrev at46 : Typed.TF T108 O1
-      at46 = λ Ψ. Typed.ask s106 (at45 Ψ)
+      abbrev at46 : Typed.TF T111 O1
+      at46 = λ Ψ. Typed.both s109 (at45 Ψ)
 
-      abbrev at47 : Typed.TF T106 O1
-      at47 = λ Ψ. Typed.give s105 (at46 Ψ)
+      abbrev at47 : Typed.TF T110 O1
+      at47 = λ Ψ. Typed.ask s108 (at46 Ψ)
 
-      abbrev at48 : Typed.TF T106 O1
-      at48 = λ Ψ. at47 Ψ
+      abbrev at48 : Typed.TF T108 O1
+      at48 = λ Ψ. Typed.give s107 (at47 Ψ)
 
-      abbrev at49 : Typed.TF T105 O1
-      at49 = λ Ψ. Typed.ask s103 (at48 Ψ)
+      abbrev at49 : Typed.TF T108 O1
+      at49 = λ Ψ. at48 Ψ
 
-      abbrev at50 : Typed.TF T103 O1
-      at50 = λ Ψ. Typed.give s102 (at49 Ψ)
+      abbrev at50 : Typed.TF T107 O1
+      at50 = λ Ψ. Typed.ask s105 (at49 Ψ)
 
-      abbrev at51 : Typed.TF T103 O1
-      at51 = λ Ψ. at50 Ψ
+      abbrev at51 : Typed.TF T105 O1
+      at51 = λ Ψ. Typed.give s104 (at50 Ψ)
 
-      abbrev at52 : Typed.TF T102 O1
-      at52 = λ Ψ. Typed.ask s100 (at51 Ψ)
+      abbrev at52 : Typed.TF T105 O1
+      at52 = λ Ψ. at51 Ψ
 
-      abbrev at53 : Typed.TF T99 O1
-      at53 = λ Ψ. Typed.give s99 (at52 Ψ)
+      abbrev at53 : Typed.TF T104 O1
+      at53 = λ Ψ. Typed.ask s102 (at52 Ψ)
 
-      abbrev at54 : Typed.TF T99 O1
-      at54 = λ Ψ. at53 Ψ
+      abbrev at54 : Typed.TF T101 O1
+      at54 = λ Ψ. Typed.give s101 (at53 Ψ)
 
-      abbrev at55 : Typed.TF T99 O1
+      abbrev at55 : Typed.TF T101 O1
       at55 = λ Ψ. at54 Ψ
 
-      abbrev at56 : Typed.TF T98 O1
-      at56 = λ Ψ. Typed.give s96 (at55 Ψ)
+      abbrev at56 : Typed.TF T101 O1
+      at56 = λ Ψ. at55 Ψ
 
-      abbrev at57 : Typed.TF T95 O1
-      at57 = λ Ψ. Typed.both s95 (at56 Ψ)
+      abbrev at57 : Typed.TF T100 O1
+      at57 = λ Ψ. Typed.give s98 (at56 Ψ)
 
-      abbrev at58 : Typed.TF T95 O1
-      at58 = λ Ψ. at57 Ψ
+      abbrev at58 : Typed.TF T97 O1
+      at58 = λ Ψ. Typed.both s97 (at57 Ψ)
 
-      abbrev at59 : Typed.TF T95 O1
+      abbrev at59 : Typed.TF T97 O1
       at59 = λ Ψ. at58 Ψ
 
-      abbrev at60 : Typed.TF T94 O1
-      at60 = λ Ψ. Typed.give s92 (at59 Ψ)
+      abbrev at60 : Typed.TF T97 O1
+      at60 = λ Ψ. at59 Ψ
 
-      abbrev at61 : Typed.TF T91 O1
-      at61 = λ Ψ. Typed.both s91 (at60 Ψ)
+      abbrev at61 : Typed.TF T96 O1
+      at61 = λ Ψ. Typed.give s94 (at60 Ψ)
 
-      abbrev at62 : Typed.TF T91 O1
-      at62 = λ Ψ. at61 Ψ
+      abbrev at62 : Typed.TF T93 O1
+      at62 = λ Ψ. Typed.both s93 (at61 Ψ)
 
-      abbrev at63 : Typed.TF T91 O1
+      abbrev at63 : Typed.TF T93 O1
       at63 = λ Ψ. at62 Ψ
 
-      abbrev at64 : Typed.TF T89 O1
-      at64 = λ Ψ. Typed.both s88 (at63 Ψ)
+      abbrev at64 : Typed.TF T93 O1
+      at64 = λ Ψ. at63 Ψ
 
-      abbrev at65 : Typed.TF T89 O1
-      at65 = λ Ψ. at64 Ψ
+      abbrev at65 : Typed.TF T91 O1
+      at65 = λ Ψ. Typed.both s90 (at64 Ψ)
 
-      abbrev at66 : Typed.TF T88 O1
-      at66 = λ Ψ. Typed.both s86 (at65 Ψ)
+      abbrev at66 : Typed.TF T91 O1
+      at66 = λ Ψ. at65 Ψ
 
-      abbrev at67 : Typed.TF T87 O1
-      at67 = λ Ψ. Typed.ask s85 (at66 Ψ)
+      abbrev at67 : Typed.TF T90 O1
+      at67 = λ Ψ. Typed.both s88 (at66 Ψ)
 
-      abbrev at68 : Typed.TF T85 O1
-      at68 = λ Ψ. Typed.give s84 (at67 Ψ)
+      abbrev at68 : Typed.TF T89 O1
+      at68 = λ Ψ. Typed.ask s87 (at67 Ψ)
 
-      abbrev at69 : Typed.TF T85 O1
-      at69 = λ Ψ. at68 Ψ
+      abbrev at69 : Typed.TF T87 O1
+      at69 = λ Ψ. Typed.give s86 (at68 Ψ)
 
-      abbrev at70 : Typed.TF T84 O1
-      at70 = λ Ψ. Typed.ask s82 (at69 Ψ)
+      abbrev at70 : Typed.TF T87 O1
+      at70 = λ Ψ. at69 Ψ
 
-      abbrev at71 : Typed.TF T82 O1
-      at71 = λ Ψ. Typed.give s81 (at70 Ψ)
+      abbrev at71 : Typed.TF T86 O1
+      at71 = λ Ψ. Typed.ask s84 (at70 Ψ)
 
-      abbrev at72 : Typed.TF T82 O1
-      at72 = λ Ψ. at71 Ψ
+      abbrev at72 : Typed.TF T84 O1
+      at72 = λ Ψ. Typed.give s83 (at71 Ψ)
 
-      abbrev at73 : Typed.TF T81 O1
-      at73 = λ Ψ. Typed.ask s79 (at72 Ψ)
+      abbrev at73 : Typed.TF T84 O1
+      at73 = λ Ψ. at72 Ψ
 
-      abbrev at74 : Typed.TF T79 O1
-      at74 = λ Ψ. Typed.give s78 (at73 Ψ)
+      abbrev at74 : Typed.TF T83 O1
+      at74 = λ Ψ. Typed.ask s81 (at73 Ψ)
 
-      abbrev at75 : Typed.TF T79 O1
-      at75 = λ Ψ. at74 Ψ
+      abbrev at75 : Typed.TF T81 O1
+      at75 = λ Ψ. Typed.give s80 (at74 Ψ)
 
-      abbrev at76 : Typed.TF T78 O1
-      at76 = λ Ψ. Typed.pass T78 T79 s76 (at75 Ψ)
+      abbrev at76 : Typed.TF T81 O1
+      at76 = λ Ψ. at75 Ψ
 
-      abbrev at77 : Typed.TF T77 O1
-      at77 = λ Ψ. Typed.both s75 (at76 Ψ)
+      abbrev at77 : Typed.TF T80 O1
+      at77 = λ Ψ. Typed.pass T80 T81 s78 (at76 Ψ)
 
-      abbrev at78 : Typed.TF T75 O1
-      at78 = λ Ψ. Typed.pass T75 T77 s74 (at77 Ψ)
+      abbrev at78 : Typed.TF T79 O1
+      at78 = λ Ψ. Typed.both s77 (at77 Ψ)
 
-      abbrev at79 : Typed.TF T75 O1
-      at79 = λ Ψ. at78 Ψ
+      abbrev at79 : Typed.TF T77 O1
+      at79 = λ Ψ. Typed.pass T77 T79 s76 (at78 Ψ)
 
-      abbrev at80 : Typed.TF T73 O1
-      at80 = λ Ψ. Typed.pass T73 T75 s72 (at79 Ψ)
+      abbrev at80 : Typed.TF T77 O1
+      at80 = λ Ψ. at79 Ψ
 
-      abbrev at81 : Typed.TF T73 O1
-      at81 = λ Ψ. at80 Ψ
+      abbrev at81 : Typed.TF T75 O1
+      at81 = λ Ψ. Typed.pass T75 T77 s74 (at80 Ψ)
 
-      abbrev at82 : Typed.TF T72 O1
-      at82 = λ Ψ. Typed.pass T72 T73 s70 (at81 Ψ)
+      abbrev at82 : Typed.TF T75 O1
+      at82 = λ Ψ. at81 Ψ
 
-      abbrev at83 : Typed.TF T71 O1
-      at83 = λ Ψ. Typed.pass T71 T72 s69 (at82 Ψ)
+      abbrev at83 : Typed.TF T74 O1
+      at83 = λ Ψ. Typed.pass T74 T75 s72 (at82 Ψ)
 
-      abbrev at84 : Typed.TF T70 O1
-      at84 = λ Ψ. Typed.both s68 (at83 Ψ)
+      abbrev at84 : Typed.TF T73 O1
+      at84 = λ Ψ. Typed.pass T73 T74 s71 (at83 Ψ)
 
-      abbrev at85 : Typed.TF T69 O1
-      at85 = λ Ψ. Typed.ask s67 (at84 Ψ)
+      abbrev at85 : Typed.TF T72 O1
+      at85 = λ Ψ. Typed.both s70 (at84 Ψ)
 
-      abbrev at86 : Typed.TF T67 O1
-      at86 = λ Ψ. Typed.give s66 (at85 Ψ)
+      abbrev at86 : Typed.TF T71 O1
+      at86 = λ Ψ. Typed.ask s69 (at85 Ψ)
 
-      abbrev at87 : Typed.TF T67 O1
-      at87 = λ Ψ. at86 Ψ
+      abbrev at87 : Typed.TF T69 O1
+      at87 = λ Ψ. Typed.give s68 (at86 Ψ)
 
-      abbrev at88 : Typed.TF T66 O1
-      at88 = λ Ψ. Typed.pass T66 T67 s64 (at87 Ψ)
+      abbrev at88 : Typed.TF T69 O1
+      at88 = λ Ψ. at87 Ψ
 
-      abbrev at89 : Typed.TF T65 O1
-      at89 = λ Ψ. Typed.pass T65 T66 s63 (at88 Ψ)
+      abbrev at89 : Typed.TF T68 O1
+      at89 = λ Ψ. Typed.pass T68 T69 s66 (at88 Ψ)
 
-      abbrev at90 : Typed.TF T64 O1
-      at90 = λ Ψ. Typed.give s62 (at89 Ψ)
+      abbrev at90 : Typed.TF T67 O1
+      at90 = λ Ψ. Typed.pass T67 T68 s65 (at89 Ψ)
 
-      abbrev at91 : Typed.TF T27 O1
-      at91 = λ Ψ. Typed.both s61 (at90 Ψ)
+      abbrev at91 : Typed.TF T66 O1
+      at91 = λ Ψ. Typed.give s64 (at90 Ψ)
 
       abbrev at92 : Typed.TF T27 O1
-      at92 = Switch.Φswitch T27 O1 6 (λ x. Declared.tagOf ReadAnswer.the-type x) (Syntax.arm (List._∷_ 1 List.[]) b28 (Syntax.arm (List._∷_ 0 List.[]) b81 Syntax.noDefault)) (at20, (at91, tt))
+      at92 = λ Ψ. Typed.both s63 (at91 Ψ)
 
       abbrev at93 : Typed.TF T27 O1
-      at93 = λ Ψ. at92 Ψ
+      at93 = Switch.Φswitch T27 O1 6 (λ x. Declared.tagOf ReadAnswer.the-type x) (Syntax.arm (List._∷_ 1 List.[]) b30 (Syntax.arm (List._∷_ 0 List.[]) b83 Syntax.noDefault)) (at21, (at92, tt))
 
-      abbrev at94 : Typed.TF T26 O1
-      at94 = λ Ψ. Typed.give s24 (at93 Ψ)
+      abbrev at94 : Typed.TF T27 O1
+      at94 = λ Ψ. at93 Ψ
 
-      abbrev at95 : Typed.TF T23 O1
-      at95 = λ Ψ. Typed.both s23 (at94 Ψ)
+      abbrev at95 : Typed.TF T26 O1
+      at95 = λ Ψ. Typed.give s24 (at94 Ψ)
 
       abbrev at96 : Typed.TF T23 O1
-      at96 = λ Ψ. at95 Ψ
+      at96 = λ Ψ. Typed.both s23 (at95 Ψ)
 
       abbrev at97 : Typed.TF T23 O1
       at97 = λ Ψ. at96 Ψ
 
-      abbrev at98 : Typed.TF T22 O1
-      at98 = λ Ψ. Typed.give s20 (at97 Ψ)
+      abbrev at98 : Typed.TF T23 O1
+      at98 = λ Ψ. at97 Ψ
 
-      abbrev at99 : Typed.TF T19 O1
-      at99 = λ Ψ. Typed.both s19 (at98 Ψ)
+      abbrev at99 : Typed.TF T22 O1
+      at99 = λ Ψ. Typed.give s20 (at98 Ψ)
 
       abbrev at100 : Typed.TF T19 O1
-      at100 = λ Ψ. at99 Ψ
+      at100 = λ Ψ. Typed.both s19 (at99 Ψ)
 
       abbrev at101 : Typed.TF T19 O1
       at101 = λ Ψ. at100 Ψ
 
-      abbrev at102 : Typed.TF T16 O1
-      at102 = λ Ψ. Typed.both s16 (at101 Ψ)
+      abbrev at102 : Typed.TF T19 O1
+      at102 = λ Ψ. at101 Ψ
 
       abbrev at103 : Typed.TF T16 O1
-      at103 = λ Ψ. at102 Ψ
+      at103 = λ Ψ. Typed.both s16 (at102 Ψ)
 
-      abbrev at104 : Typed.TF T152 O0
-      at104 = Typed.atRet O0
+      abbrev at104 : Typed.TF T16 O1
+      at104 = λ Ψ. at103 Ψ
 
-      abbrev at105 : Typed.TF T151 O0
-      at105 = λ Ψ. Typed.pass T151 T152 s149 (at104 Ψ)
+      abbrev at105 : Typed.TF T154 O0
+      at105 = Typed.atRet O0
 
-      abbrev at106 : Typed.TF T17 O0
-      at106 = λ Ψ. Typed.pass T17 T151 s148 (at105 Ψ)
+      abbrev at106 : Typed.TF T153 O0
+      at106 = λ Ψ. Typed.pass T153 T154 s151 (at105 Ψ)
 
-      abbrev at107 : Typed.TF T16 O0
-      at107 = λ Ψ. at103 (Typed.wantNext T17 O0 (at106 Ψ) Ψ)
+      abbrev at107 : Typed.TF T17 O0
+      at107 = λ Ψ. Typed.pass T17 T153 s150 (at106 Ψ)
 
-      abbrev at108 : Typed.TF T15 O0
-      at108 = λ Ψ. Typed.both s14 (at107 Ψ)
+      abbrev at108 : Typed.TF T16 O0
+      at108 = λ Ψ. at104 (Typed.wantNext T17 O0 (at107 Ψ) Ψ)
 
-      abbrev at109 : Typed.TF T14 O0
-      at109 = λ Ψ. Typed.ask s13 (at108 Ψ)
+      abbrev at109 : Typed.TF T15 O0
+      at109 = λ Ψ. Typed.both s14 (at108 Ψ)
 
-      abbrev at110 : Typed.TF T12 O0
-      at110 = λ Ψ. Typed.give s12 (at109 Ψ)
+      abbrev at110 : Typed.TF T14 O0
+      at110 = λ Ψ. Typed.ask s13 (at109 Ψ)
 
       abbrev at111 : Typed.TF T12 O0
-      at111 = λ Ψ. at110 Ψ
+      at111 = λ Ψ. Typed.give s12 (at110 Ψ)
 
-      abbrev at112 : Typed.TF T11 O0
-      at112 = λ Ψ. Typed.ask s10 (at111 Ψ)
+      abbrev at112 : Typed.TF T12 O0
+      at112 = λ Ψ. at111 Ψ
 
-      abbrev at113 : Typed.TF T9 O0
-      at113 = λ Ψ. Typed.give s9 (at112 Ψ)
+      abbrev at113 : Typed.TF T11 O0
+      at113 = λ Ψ. Typed.ask s10 (at112 Ψ)
 
       abbrev at114 : Typed.TF T9 O0
-      at114 = λ Ψ. at113 Ψ
+      at114 = λ Ψ. Typed.give s9 (at113 Ψ)
 
-      abbrev at115 : Typed.TF T8 O0
-      at115 = λ Ψ. Typed.ask s7 (at114 Ψ)
+      abbrev at115 : Typed.TF T9 O0
+      at115 = λ Ψ. at114 Ψ
 
-      abbrev at116 : Typed.TF T6 O0
-      at116 = λ Ψ. Typed.give s6 (at115 Ψ)
+      abbrev at116 : Typed.TF T8 O0
+      at116 = λ Ψ. Typed.ask s7 (at115 Ψ)
 
       abbrev at117 : Typed.TF T6 O0
-      at117 = λ Ψ. at116 Ψ
+      at117 = λ Ψ. Typed.give s6 (at116 Ψ)
 
-      abbrev at118 : Typed.TF T5 O0
-      at118 = λ Ψ. Typed.pass T5 T6 s4 (at117 Ψ)
+      abbrev at118 : Typed.TF T6 O0
+      at118 = λ Ψ. at117 Ψ
 
-      abbrev at119 : Typed.TF T4 O0
-      at119 = λ Ψ. Typed.pass T4 T5 s3 (at118 Ψ)
+      abbrev at119 : Typed.TF T5 O0
+      at119 = λ Ψ. Typed.pass T5 T6 s4 (at118 Ψ)
 
-      abbrev at120 : Typed.TF T3 O0
-      at120 = λ Ψ. Typed.give s2 (at119 Ψ)
+      abbrev at120 : Typed.TF T4 O0
+      at120 = λ Ψ. Typed.pass T4 T5 s3 (at119 Ψ)
 
-      abbrev at121 : Typed.TF T2 O0
-      at121 = λ Ψ. Typed.give s1 (at120 Ψ)
+      abbrev at121 : Typed.TF T3 O0
+      at121 = λ Ψ. Typed.give s2 (at120 Ψ)
 
-      abbrev at122 : Typed.TF T0 O0
-      at122 = λ Ψ. Typed.give s0 (at121 Ψ)
+      abbrev at122 : Typed.TF T2 O0
+      at122 = λ Ψ. Typed.give s1 (at121 Ψ)
+
+      abbrev at123 : Typed.TF T0 O0
+      at123 = λ Ψ. Typed.give s0 (at122 Ψ)
 
       abbrev pub Φ : Typed.TF T0 O0
-      Φ = at122
+      Φ = at123
 
       module _ {M : Type 1} (𝓤 : URA.URA M) (H : Wp.Heap 𝓤) (A : Atoms.Atoms 𝓤) (W : Kit.Given 𝓤 H A) (𝓣 : Wp.Tables 𝓤 H) where
         abbrev Knowns : Type 1
@@ -1808,97 +1841,100 @@ module _ (claims· : Claims) where
         g8 = Row.setRow 2 (2, Relend.mslice-owed T.the-row ty·9 1 4 (Row.lease (κs .1 .0) (qs .1 .0))) t8
 
         abbrev g9 : List.List Row.Entry
-        g9 = Row.setRow 14 (14, Relend.msptr (Referent.rtF (Referent.fInt Syntax.w16)) ty·2 5) (Row.setRow 3 (3, Relend.mslice-owed (Referent.rtF (Referent.fInt Syntax.w16)) ty·5 2 5 (Row.lease (κs .1 .1 .0) (qs .1 .1 .0))) g8)
+        g9 = Row.setRow 15 (15, Relend.msptr (Referent.rtF (Referent.fInt Syntax.w16)) ty·2 5) (Row.setRow 3 (3, Relend.mslice-owed (Referent.rtF (Referent.fInt Syntax.w16)) ty·5 2 5 (Row.lease (κs .1 .1 .0) (qs .1 .1 .0))) g8)
 
         abbrev g10 : List.List Row.Entry
-        g10 = Row.setRow 15 (15, Mut.mslice (Referent.rtF (Referent.fInt Syntax.w16)) ty·2 5) (Row.setRow 14 (14, Rows'.any-gone ty·2) g9)
+        g10 = Row.setRow 15 (15, Rows'.any-gone ty·2) g9
 
-        abbrev g11 : List.List Row.Entry
-        g11 = Row.setRow 4 (4, Relend.mslice-owed (Referent.rtF (Referent.fInt Syntax.w16)) ty·6 3 6 (Row.lease (κs .1 .1 .1 .0) (qs .1 .1 .1 .0))) g10
+        abbrev g12 : List.List Row.Entry
+        g12 = Row.setRow 4 (4, Relend.mslice-owed (Referent.rtF (Referent.fInt Syntax.w16)) ty·6 3 6 (Row.lease (κs .1 .1 .1 .0) (qs .1 .1 .1 .0))) g10
 
-        abbrev g14 : List.List Row.Entry
-        g14 = Row.setRow 15 (15, Mut.msleft (Referent.rtF (Referent.fInt Syntax.w16)) ty·2) (Row.setRow 13 (13, Mut.msleft T.the-row ty·7) (Row.setRow 6 (6, Rows'.whole (Declared.row ReadAnswer.the-type)) g11))
-
-        abbrev g16 : List.List Row.Entry
-        g16 = Row.setRow 13 (13, Rows'.any-gone ty·14) (Row.setRow 2 (2, Mut.mslice T.the-row ty·9 1) g14)
+        abbrev g15 : List.List Row.Entry
+        g15 = Row.setRow 14 (14, Mut.msleft T.the-row ty·7) (Row.setRow 6 (6, Rows'.whole (Declared.row ReadAnswer.the-type)) g12)
 
         abbrev g17 : List.List Row.Entry
-        g17 = Row.setRow 4 (4, Relend.mslice-owed (Referent.rtF (Referent.fInt Syntax.w16)) ty·6 3 6 (Row.lease (κs .1 .1 .1 .0) (qs .1 .1 .1 .0))) t17
+        g17 = Row.setRow 14 (14, Rows'.any-gone ty·14) (Row.setRow 2 (2, Mut.mslice T.the-row ty·9 1) g15)
 
-        abbrev g26 : List.List Row.Entry
-        g26 = Row.setRow 2 (2, Reshare.mslice-owedS T.the-row ty·9 1 7 (Row.lease (κs .1 .0) (qs .1 .0))) t0
+        abbrev g18 : List.List Row.Entry
+        g18 = Row.setRow 3 (3, Mut.mslice (Referent.rtF (Referent.fInt Syntax.w16)) ty·5 2) g17
 
         abbrev g29 : List.List Row.Entry
-        g29 = Row.setRow 3 (3, Reshare.mslice-owedS (Referent.rtF (Referent.fInt Syntax.w16)) ty·5 2 8 (Row.lease (κs .1 .1 .0) (qs .1 .1 .0))) g26
+        g29 = Row.setRow 2 (2, Reshare.mslice-owedS T.the-row ty·9 1 7 (Row.lease (κs .1 .0) (qs .1 .0))) t27
 
         abbrev g32 : List.List Row.Entry
-        g32 = Row.setRow 4 (4, Reshare.mslice-owedS (Referent.rtF (Referent.fInt Syntax.w16)) ty·6 3 9 (Row.lease (κs .1 .1 .1 .0) (qs .1 .1 .1 .0))) g29
+        g32 = Row.setRow 3 (3, Reshare.mslice-owedS (Referent.rtF (Referent.fInt Syntax.w16)) ty·5 2 8 (Row.lease (κs .1 .1 .0) (qs .1 .1 .0))) g29
 
-        abbrev g39 : List.List Row.Entry
-        g39 = Row.setRow 2 (2, Mut.mslice T.the-row ty·9 1) g32
+        abbrev g35 : List.List Row.Entry
+        g35 = Row.setRow 4 (4, Reshare.mslice-owedS (Referent.rtF (Referent.fInt Syntax.w16)) ty·6 3 9 (Row.lease (κs .1 .1 .1 .0) (qs .1 .1 .1 .0))) g32
 
-        abbrev g40 : List.List Row.Entry
-        g40 = Row.setRow 3 (3, Mut.mslice (Referent.rtF (Referent.fInt Syntax.w16)) ty·5 2) g39
+        abbrev g42 : List.List Row.Entry
+        g42 = Row.setRow 8 (8, Rows'.any-gone (Syntax.tyInt Syntax.w64)) g35
 
-        abbrev g51 : List.List Row.Entry
-        g51 = Row.setRow 2 (2, Relend.mslice-owed T.the-row ty·9 1 11 (Row.lease (κs .1 .0) (qs .1 .0))) t49
+        abbrev g43 : List.List Row.Entry
+        g43 = Row.setRow 2 (2, Mut.mslice T.the-row ty·9 1) g42
 
-        abbrev g54 : List.List Row.Entry
-        g54 = Row.setRow 3 (3, Relend.mslice-owed (Referent.rtF (Referent.fInt Syntax.w16)) ty·5 2 12 (Row.lease (κs .1 .1 .0) (qs .1 .1 .0))) g51
+        abbrev g44 : List.List Row.Entry
+        g44 = Row.setRow 3 (3, Mut.mslice (Referent.rtF (Referent.fInt Syntax.w16)) ty·5 2) g43
 
-        abbrev g57 : List.List Row.Entry
-        g57 = Row.setRow 4 (4, Relend.mslice-owed (Referent.rtF (Referent.fInt Syntax.w16)) ty·6 3 13 (Row.lease (κs .1 .1 .1 .0) (qs .1 .1 .1 .0))) g54
+        abbrev g55 : List.List Row.Entry
+        g55 = Row.setRow 2 (2, Relend.mslice-owed T.the-row ty·9 1 11 (Row.lease (κs .1 .0) (qs .1 .0))) t53
 
-        abbrev g60 : List.List Row.Entry
-        g60 = Row.setRow 9 (9, Rows'.sc-here Row.sBool) g57
+        abbrev g58 : List.List Row.Entry
+        g58 = Row.setRow 3 (3, Relend.mslice-owed (Referent.rtF (Referent.fInt Syntax.w16)) ty·5 2 12 (Row.lease (κs .1 .1 .0) (qs .1 .1 .0))) g55
 
-        abbrev g62 : List.List Row.Entry
-        g62 = Row.setRow 2 (2, Mut.mslice T.the-row ty·9 1) g60
+        abbrev g61 : List.List Row.Entry
+        g61 = Row.setRow 4 (4, Relend.mslice-owed (Referent.rtF (Referent.fInt Syntax.w16)) ty·6 3 13 (Row.lease (κs .1 .1 .1 .0) (qs .1 .1 .1 .0))) g58
 
         abbrev g64 : List.List Row.Entry
-        g64 = Row.setRow 3 (3, Mut.mslice (Referent.rtF (Referent.fInt Syntax.w16)) ty·5 2) g62
+        g64 = Row.setRow 10 (10, Rows'.sc-here Row.sBool) g61
 
-        abbrev g67 : List.List Row.Entry
-        g67 = Row.setRow 2 (2, Reshare.mslice-owedS T.the-row ty·9 1 14 (Row.lease (κs .1 .0) (qs .1 .0))) t66
+        abbrev g66 : List.List Row.Entry
+        g66 = Row.setRow 2 (2, Mut.mslice T.the-row ty·9 1) g64
 
-        abbrev g70 : List.List Row.Entry
-        g70 = Row.setRow 3 (3, Reshare.mslice-owedS (Referent.rtF (Referent.fInt Syntax.w16)) ty·5 2 15 (Row.lease (κs .1 .1 .0) (qs .1 .1 .0))) g67
+        abbrev g68 : List.List Row.Entry
+        g68 = Row.setRow 3 (3, Mut.mslice (Referent.rtF (Referent.fInt Syntax.w16)) ty·5 2) g66
 
-        abbrev g73 : List.List Row.Entry
-        g73 = Row.setRow 4 (4, Reshare.mslice-owedS (Referent.rtF (Referent.fInt Syntax.w16)) ty·6 3 16 (Row.lease (κs .1 .1 .1 .0) (qs .1 .1 .1 .0))) g70
+        abbrev g71 : List.List Row.Entry
+        g71 = Row.setRow 2 (2, Reshare.mslice-owedS T.the-row ty·9 1 14 (Row.lease (κs .1 .0) (qs .1 .0))) t70
 
-        abbrev g76 : List.List Row.Entry
-        g76 = Row.setRow 10 (10, Rows'.sc-here Row.sBool) g73
+        abbrev g74 : List.List Row.Entry
+        g74 = Row.setRow 3 (3, Reshare.mslice-owedS (Referent.rtF (Referent.fInt Syntax.w16)) ty·5 2 15 (Row.lease (κs .1 .1 .0) (qs .1 .1 .0))) g71
 
-        abbrev g79 : List.List Row.Entry
-        g79 = Row.setRow 2 (2, Mut.mslice T.the-row ty·9 1) g76
+        abbrev g77 : List.List Row.Entry
+        g77 = Row.setRow 4 (4, Reshare.mslice-owedS (Referent.rtF (Referent.fInt Syntax.w16)) ty·6 3 16 (Row.lease (κs .1 .1 .1 .0) (qs .1 .1 .1 .0))) g74
 
         abbrev g80 : List.List Row.Entry
-        g80 = Row.setRow 3 (3, Mut.mslice (Referent.rtF (Referent.fInt Syntax.w16)) ty·5 2) g79
+        g80 = Row.setRow 11 (11, Rows'.sc-here Row.sBool) g77
 
-        abbrev g82 : List.List Row.Entry
-        g82 = Row.setRow 2 (2, Reshare.mslice-owedS T.the-row ty·9 1 17 (Row.lease (κs .1 .0) (qs .1 .0))) t81
+        abbrev g83 : List.List Row.Entry
+        g83 = Row.setRow 2 (2, Mut.mslice T.the-row ty·9 1) g80
 
-        abbrev g85 : List.List Row.Entry
-        g85 = Row.setRow 3 (3, Reshare.mslice-owedS (Referent.rtF (Referent.fInt Syntax.w16)) ty·5 2 18 (Row.lease (κs .1 .1 .0) (qs .1 .1 .0))) g82
+        abbrev g84 : List.List Row.Entry
+        g84 = Row.setRow 3 (3, Mut.mslice (Referent.rtF (Referent.fInt Syntax.w16)) ty·5 2) g83
 
-        abbrev g88 : List.List Row.Entry
-        g88 = Row.setRow 4 (4, Reshare.mslice-owedS (Referent.rtF (Referent.fInt Syntax.w16)) ty·6 3 19 (Row.lease (κs .1 .1 .1 .0) (qs .1 .1 .1 .0))) g85
+        abbrev g86 : List.List Row.Entry
+        g86 = Row.setRow 2 (2, Reshare.mslice-owedS T.the-row ty·9 1 17 (Row.lease (κs .1 .0) (qs .1 .0))) t85
+
+        abbrev g89 : List.List Row.Entry
+        g89 = Row.setRow 3 (3, Reshare.mslice-owedS (Referent.rtF (Referent.fInt Syntax.w16)) ty·5 2 18 (Row.lease (κs .1 .1 .0) (qs .1 .1 .0))) g86
 
         abbrev g92 : List.List Row.Entry
-        g92 = Row.setRow 8 (8, Rows'.any-gone ty·16) g88
-
-        abbrev g93 : List.List Row.Entry
-        g93 = Row.setRow 9 (9, Rows'.any-gone Syntax.tyBool) g92
-
-        abbrev g94 : List.List Row.Entry
-        g94 = Row.setRow 10 (10, Rows'.any-gone Syntax.tyBool) g93
-
-        abbrev g95 : List.List Row.Entry
-        g95 = Row.setRow 2 (2, Mut.mslice T.the-row ty·9 1) g94
+        g92 = Row.setRow 4 (4, Reshare.mslice-owedS (Referent.rtF (Referent.fInt Syntax.w16)) ty·6 3 19 (Row.lease (κs .1 .1 .1 .0) (qs .1 .1 .1 .0))) g89
 
         abbrev g96 : List.List Row.Entry
-        g96 = Row.setRow 3 (3, Mut.mslice (Referent.rtF (Referent.fInt Syntax.w16)) ty·5 2) g95
+        g96 = Row.setRow 9 (9, Rows'.any-gone ty·16) g92
+
+        abbrev g97 : List.List Row.Entry
+        g97 = Row.setRow 10 (10, Rows'.any-gone Syntax.tyBool) g96
+
+        abbrev g98 : List.List Row.Entry
+        g98 = Row.setRow 11 (11, Rows'.any-gone Syntax.tyBool) g97
+
+        abbrev g99 : List.List Row.Entry
+        g99 = Row.setRow 2 (2, Mut.mslice T.the-row ty·9 1) g98
+
+        abbrev g100 : List.List Row.Entry
+        g100 = Row.setRow 3 (3, Mut.mslice (Referent.rtF (Referent.fInt Syntax.w16)) ty·5 2) g99
 
         abbrev G0 : Row.Cx
         G0 = record { locals = List._++_ t0 (List._++_ t1 (List._++_ t2 t3)); slots = List._∷_ (Row.lease (κs .0) (qs .0)) (List._∷_ (Row.lease (κs .1 .0) (qs .1 .0)) (List._∷_ (Row.lease (κs .1 .1 .0) (qs .1 .1 .0)) (List._∷_ (Row.lease (κs .1 .1 .1 .0) (qs .1 .1 .1 .0)) (List._∷_ Row.off (List._∷_ Row.off (List._∷_ Row.off (List._∷_ Row.off (List._∷_ Row.off (List._∷_ Row.off (List._∷_ Row.off (List._∷_ Row.off (List._∷_ Row.off (List._∷_ Row.off (List._∷_ Row.off (List._∷_ Row.off (List._∷_ Row.off (List._∷_ Row.off (List._∷_ Row.off (List._∷_ Row.off List.[]))))))))))))))))))) }
@@ -1937,427 +1973,433 @@ module _ (claims· : Claims) where
         G11 = record { locals = List._++_ g9 (List._++_ t1 (List._++_ t2 t3)); slots = List._∷_ (Row.lease (κs .0) (qs .0)) (List._∷_ Row.off (List._∷_ Row.off (List._∷_ (Row.lease (κs .1 .1 .1 .0) (qs .1 .1 .1 .0)) (List._∷_ Row.alive (List._∷_ Row.alive (List._∷_ Row.off (List._∷_ Row.off (List._∷_ Row.off (List._∷_ Row.off (List._∷_ Row.off (List._∷_ Row.off (List._∷_ Row.off (List._∷_ Row.off (List._∷_ Row.off (List._∷_ Row.off (List._∷_ Row.off (List._∷_ Row.off (List._∷_ Row.off (List._∷_ Row.off List.[]))))))))))))))))))) }
 
         abbrev G12 : Row.Cx
-        G12 = record { locals = List._++_ g10 (List._++_ t1 (List._++_ t2 t3)); slots = List._∷_ (Row.lease (κs .0) (qs .0)) (List._∷_ Row.off (List._∷_ Row.off (List._∷_ (Row.lease (κs .1 .1 .1 .0) (qs .1 .1 .1 .0)) (List._∷_ Row.alive (List._∷_ Row.alive (List._∷_ Row.off (List._∷_ Row.off (List._∷_ Row.off (List._∷_ Row.off (List._∷_ Row.off (List._∷_ Row.off (List._∷_ Row.off (List._∷_ Row.off (List._∷_ Row.off (List._∷_ Row.off (List._∷_ Row.off (List._∷_ Row.off (List._∷_ Row.off (List._∷_ Row.off List.[]))))))))))))))))))) }
+        G12 = record { locals = List._++_ g10 (List._++_ t11 (List._++_ t2 t3)); slots = List._∷_ (Row.lease (κs .0) (qs .0)) (List._∷_ Row.off (List._∷_ Row.off (List._∷_ (Row.lease (κs .1 .1 .1 .0) (qs .1 .1 .1 .0)) (List._∷_ Row.alive (List._∷_ Row.alive (List._∷_ Row.off (List._∷_ Row.off (List._∷_ Row.off (List._∷_ Row.off (List._∷_ Row.off (List._∷_ Row.off (List._∷_ Row.off (List._∷_ Row.off (List._∷_ Row.off (List._∷_ Row.off (List._∷_ Row.off (List._∷_ Row.off (List._∷_ Row.off (List._∷_ Row.off List.[]))))))))))))))))))) }
 
         abbrev G13 : Row.Cx
-        G13 = record { locals = List._++_ g10 (List._++_ t1 (List._++_ t2 t3)); slots = List._∷_ (Row.lease (κs .0) (qs .0)) (List._∷_ Row.off (List._∷_ Row.off (List._∷_ (Row.lease (κs .1 .1 .1 .0) (qs .1 .1 .1 .0)) (List._∷_ Row.alive (List._∷_ Row.alive (List._∷_ Row.alive (List._∷_ Row.off (List._∷_ Row.off (List._∷_ Row.off (List._∷_ Row.off (List._∷_ Row.off (List._∷_ Row.off (List._∷_ Row.off (List._∷_ Row.off (List._∷_ Row.off (List._∷_ Row.off (List._∷_ Row.off (List._∷_ Row.off (List._∷_ Row.off List.[]))))))))))))))))))) }
+        G13 = record { locals = List._++_ g10 (List._++_ t11 (List._++_ t2 t3)); slots = List._∷_ (Row.lease (κs .0) (qs .0)) (List._∷_ Row.off (List._∷_ Row.off (List._∷_ (Row.lease (κs .1 .1 .1 .0) (qs .1 .1 .1 .0)) (List._∷_ Row.alive (List._∷_ Row.alive (List._∷_ Row.alive (List._∷_ Row.off (List._∷_ Row.off (List._∷_ Row.off (List._∷_ Row.off (List._∷_ Row.off (List._∷_ Row.off (List._∷_ Row.off (List._∷_ Row.off (List._∷_ Row.off (List._∷_ Row.off (List._∷_ Row.off (List._∷_ Row.off (List._∷_ Row.off List.[]))))))))))))))))))) }
 
         abbrev G14 : Row.Cx
-        G14 = record { locals = List._++_ g11 (List._++_ t12 (List._++_ t2 t3)); slots = List._∷_ (Row.lease (κs .0) (qs .0)) (List._∷_ Row.off (List._∷_ Row.off (List._∷_ Row.off (List._∷_ Row.alive (List._∷_ Row.alive (List._∷_ Row.alive (List._∷_ Row.off (List._∷_ Row.off (List._∷_ Row.off (List._∷_ Row.off (List._∷_ Row.off (List._∷_ Row.off (List._∷_ Row.off (List._∷_ Row.off (List._∷_ Row.off (List._∷_ Row.off (List._∷_ Row.off (List._∷_ Row.off (List._∷_ Row.off List.[]))))))))))))))))))) }
+        G14 = record { locals = List._++_ g12 (List._++_ t13 (List._++_ t2 t3)); slots = List._∷_ (Row.lease (κs .0) (qs .0)) (List._∷_ Row.off (List._∷_ Row.off (List._∷_ Row.off (List._∷_ Row.alive (List._∷_ Row.alive (List._∷_ Row.alive (List._∷_ Row.off (List._∷_ Row.off (List._∷_ Row.off (List._∷_ Row.off (List._∷_ Row.off (List._∷_ Row.off (List._∷_ Row.off (List._∷_ Row.off (List._∷_ Row.off (List._∷_ Row.off (List._∷_ Row.off (List._∷_ Row.off (List._∷_ Row.off List.[]))))))))))))))))))) }
 
         abbrev G15 : Row.Cx
-        G15 = record { locals = List._++_ g11 (List._++_ t13 (List._++_ t2 t3)); slots = List._∷_ (Row.lease (κs .0) (qs .0)) (List._∷_ Row.off (List._∷_ Row.off (List._∷_ Row.off (List._∷_ Row.alive (List._∷_ Row.alive (List._∷_ Row.alive (List._∷_ Row.off (List._∷_ Row.off (List._∷_ Row.off (List._∷_ Row.off (List._∷_ Row.off (List._∷_ Row.off (List._∷_ Row.off (List._∷_ Row.off (List._∷_ Row.off (List._∷_ Row.off (List._∷_ Row.off (List._∷_ Row.off (List._∷_ Row.off List.[]))))))))))))))))))) }
+        G15 = record { locals = List._++_ g12 (List._++_ t14 (List._++_ t2 t3)); slots = List._∷_ (Row.lease (κs .0) (qs .0)) (List._∷_ Row.off (List._∷_ Row.off (List._∷_ Row.off (List._∷_ Row.alive (List._∷_ Row.alive (List._∷_ Row.alive (List._∷_ Row.off (List._∷_ Row.off (List._∷_ Row.off (List._∷_ Row.off (List._∷_ Row.off (List._∷_ Row.off (List._∷_ Row.off (List._∷_ Row.off (List._∷_ Row.off (List._∷_ Row.off (List._∷_ Row.off (List._∷_ Row.off (List._∷_ Row.off List.[]))))))))))))))))))) }
 
         abbrev G16 : Row.Cx
-        G16 = record { locals = List._++_ g14 (List._++_ t15 (List._++_ t2 t3)); slots = List._∷_ (Row.lease (κs .0) (qs .0)) (List._∷_ Row.off (List._∷_ Row.off (List._∷_ Row.off (List._∷_ Row.alive (List._∷_ Row.alive (List._∷_ Row.alive (List._∷_ Row.off (List._∷_ Row.off (List._∷_ Row.off (List._∷_ Row.off (List._∷_ Row.off (List._∷_ Row.off (List._∷_ Row.off (List._∷_ Row.off (List._∷_ Row.off (List._∷_ Row.off (List._∷_ Row.off (List._∷_ Row.off (List._∷_ Row.off List.[]))))))))))))))))))) }
+        G16 = record { locals = List._++_ g15 (List._++_ t16 (List._++_ t2 t3)); slots = List._∷_ (Row.lease (κs .0) (qs .0)) (List._∷_ Row.off (List._∷_ Row.off (List._∷_ Row.off (List._∷_ Row.alive (List._∷_ Row.alive (List._∷_ Row.alive (List._∷_ Row.off (List._∷_ Row.off (List._∷_ Row.off (List._∷_ Row.off (List._∷_ Row.off (List._∷_ Row.off (List._∷_ Row.off (List._∷_ Row.off (List._∷_ Row.off (List._∷_ Row.off (List._∷_ Row.off (List._∷_ Row.off (List._∷_ Row.off List.[]))))))))))))))))))) }
 
         abbrev G17 : Row.Cx
         G17 = record { locals = List._++_ t0 (List._++_ t1 (List._++_ t2 t3)); slots = List._∷_ (Row.lease (κs .0) (qs .0)) (List._∷_ (Row.lease (κs .1 .0) (qs .1 .0)) (List._∷_ (Row.lease (κs .1 .1 .0) (qs .1 .1 .0)) (List._∷_ (Row.lease (κs .1 .1 .1 .0) (qs .1 .1 .1 .0)) (List._∷_ Row.off (List._∷_ Row.off (List._∷_ Row.off (List._∷_ Row.off (List._∷_ Row.off (List._∷_ Row.off (List._∷_ Row.off (List._∷_ Row.off (List._∷_ Row.off (List._∷_ Row.off (List._∷_ Row.off (List._∷_ Row.off (List._∷_ Row.off (List._∷_ Row.off (List._∷_ Row.off (List._∷_ Row.off List.[]))))))))))))))))))) }
 
         abbrev G18 : Row.Cx
-        G18 = record { locals = List._++_ g14 (List._++_ t15 (List._++_ t2 t3)); slots = List._∷_ (Row.lease (κs .0) (qs .0)) (List._∷_ Row.off (List._∷_ Row.off (List._∷_ Row.off (List._∷_ Row.dead (List._∷_ Row.alive (List._∷_ Row.alive (List._∷_ Row.off (List._∷_ Row.off (List._∷_ Row.off (List._∷_ Row.off (List._∷_ Row.off (List._∷_ Row.off (List._∷_ Row.off (List._∷_ Row.off (List._∷_ Row.off (List._∷_ Row.off (List._∷_ Row.off (List._∷_ Row.off (List._∷_ Row.off List.[]))))))))))))))))))) }
+        G18 = record { locals = List._++_ g15 (List._++_ t16 (List._++_ t2 t3)); slots = List._∷_ (Row.lease (κs .0) (qs .0)) (List._∷_ Row.off (List._∷_ Row.off (List._∷_ Row.off (List._∷_ Row.dead (List._∷_ Row.alive (List._∷_ Row.alive (List._∷_ Row.off (List._∷_ Row.off (List._∷_ Row.off (List._∷_ Row.off (List._∷_ Row.off (List._∷_ Row.off (List._∷_ Row.off (List._∷_ Row.off (List._∷_ Row.off (List._∷_ Row.off (List._∷_ Row.off (List._∷_ Row.off (List._∷_ Row.off List.[]))))))))))))))))))) }
 
         abbrev G19 : Row.Cx
-        G19 = record { locals = List._++_ g16 (List._++_ t15 (List._++_ t2 t3)); slots = List._∷_ (Row.lease (κs .0) (qs .0)) (List._∷_ (Row.lease (κs .1 .0) (qs .1 .0)) (List._∷_ Row.off (List._∷_ Row.off (List._∷_ Row.dead (List._∷_ Row.alive (List._∷_ Row.alive (List._∷_ Row.off (List._∷_ Row.off (List._∷_ Row.off (List._∷_ Row.off (List._∷_ Row.off (List._∷_ Row.off (List._∷_ Row.off (List._∷_ Row.off (List._∷_ Row.off (List._∷_ Row.off (List._∷_ Row.off (List._∷_ Row.off (List._∷_ Row.off List.[]))))))))))))))))))) }
+        G19 = record { locals = List._++_ g17 (List._++_ t16 (List._++_ t2 t3)); slots = List._∷_ (Row.lease (κs .0) (qs .0)) (List._∷_ (Row.lease (κs .1 .0) (qs .1 .0)) (List._∷_ Row.off (List._∷_ Row.off (List._∷_ Row.dead (List._∷_ Row.alive (List._∷_ Row.alive (List._∷_ Row.off (List._∷_ Row.off (List._∷_ Row.off (List._∷_ Row.off (List._∷_ Row.off (List._∷_ Row.off (List._∷_ Row.off (List._∷_ Row.off (List._∷_ Row.off (List._∷_ Row.off (List._∷_ Row.off (List._∷_ Row.off (List._∷_ Row.off List.[]))))))))))))))))))) }
 
         abbrev G20 : Row.Cx
-        G20 = record { locals = List._++_ g16 (List._++_ t15 (List._++_ t2 t3)); slots = List._∷_ (Row.lease (κs .0) (qs .0)) (List._∷_ (Row.lease (κs .1 .0) (qs .1 .0)) (List._∷_ Row.off (List._∷_ Row.off (List._∷_ Row.off (List._∷_ Row.alive (List._∷_ Row.alive (List._∷_ Row.off (List._∷_ Row.off (List._∷_ Row.off (List._∷_ Row.off (List._∷_ Row.off (List._∷_ Row.off (List._∷_ Row.off (List._∷_ Row.off (List._∷_ Row.off (List._∷_ Row.off (List._∷_ Row.off (List._∷_ Row.off (List._∷_ Row.off List.[]))))))))))))))))))) }
+        G20 = record { locals = List._++_ g17 (List._++_ t16 (List._++_ t2 t3)); slots = List._∷_ (Row.lease (κs .0) (qs .0)) (List._∷_ (Row.lease (κs .1 .0) (qs .1 .0)) (List._∷_ Row.off (List._∷_ Row.off (List._∷_ Row.off (List._∷_ Row.alive (List._∷_ Row.alive (List._∷_ Row.off (List._∷_ Row.off (List._∷_ Row.off (List._∷_ Row.off (List._∷_ Row.off (List._∷_ Row.off (List._∷_ Row.off (List._∷_ Row.off (List._∷_ Row.off (List._∷_ Row.off (List._∷_ Row.off (List._∷_ Row.off (List._∷_ Row.off List.[]))))))))))))))))))) }
 
         abbrev G21 : Row.Cx
-        G21 = record { locals = List._++_ g16 (List._++_ t15 (List._++_ t2 t3)); slots = List._∷_ (Row.lease (κs .0) (qs .0)) (List._∷_ (Row.lease (κs .1 .0) (qs .1 .0)) (List._∷_ Row.off (List._∷_ Row.off (List._∷_ Row.off (List._∷_ Row.dead (List._∷_ Row.alive (List._∷_ Row.off (List._∷_ Row.off (List._∷_ Row.off (List._∷_ Row.off (List._∷_ Row.off (List._∷_ Row.off (List._∷_ Row.off (List._∷_ Row.off (List._∷_ Row.off (List._∷_ Row.off (List._∷_ Row.off (List._∷_ Row.off (List._∷_ Row.off List.[]))))))))))))))))))) }
+        G21 = record { locals = List._++_ g17 (List._++_ t16 (List._++_ t2 t3)); slots = List._∷_ (Row.lease (κs .0) (qs .0)) (List._∷_ (Row.lease (κs .1 .0) (qs .1 .0)) (List._∷_ Row.off (List._∷_ Row.off (List._∷_ Row.off (List._∷_ Row.dead (List._∷_ Row.alive (List._∷_ Row.off (List._∷_ Row.off (List._∷_ Row.off (List._∷_ Row.off (List._∷_ Row.off (List._∷_ Row.off (List._∷_ Row.off (List._∷_ Row.off (List._∷_ Row.off (List._∷_ Row.off (List._∷_ Row.off (List._∷_ Row.off (List._∷_ Row.off List.[]))))))))))))))))))) }
 
         abbrev G22 : Row.Cx
-        G22 = record { locals = List._++_ g17 (List._++_ t15 (List._++_ t2 t3)); slots = List._∷_ (Row.lease (κs .0) (qs .0)) (List._∷_ (Row.lease (κs .1 .0) (qs .1 .0)) (List._∷_ (Row.lease (κs .1 .1 .0) (qs .1 .1 .0)) (List._∷_ Row.off (List._∷_ Row.off (List._∷_ Row.dead (List._∷_ Row.alive (List._∷_ Row.off (List._∷_ Row.off (List._∷_ Row.off (List._∷_ Row.off (List._∷_ Row.off (List._∷_ Row.off (List._∷_ Row.off (List._∷_ Row.off (List._∷_ Row.off (List._∷_ Row.off (List._∷_ Row.off (List._∷_ Row.off (List._∷_ Row.off List.[]))))))))))))))))))) }
+        G22 = record { locals = List._++_ g18 (List._++_ t19 (List._++_ t2 t3)); slots = List._∷_ (Row.lease (κs .0) (qs .0)) (List._∷_ (Row.lease (κs .1 .0) (qs .1 .0)) (List._∷_ (Row.lease (κs .1 .1 .0) (qs .1 .1 .0)) (List._∷_ Row.off (List._∷_ Row.off (List._∷_ Row.dead (List._∷_ Row.alive (List._∷_ Row.off (List._∷_ Row.off (List._∷_ Row.off (List._∷_ Row.off (List._∷_ Row.off (List._∷_ Row.off (List._∷_ Row.off (List._∷_ Row.off (List._∷_ Row.off (List._∷_ Row.off (List._∷_ Row.off (List._∷_ Row.off (List._∷_ Row.off List.[]))))))))))))))))))) }
 
         abbrev G23 : Row.Cx
-        G23 = record { locals = List._++_ g17 (List._++_ t15 (List._++_ t2 t3)); slots = List._∷_ (Row.lease (κs .0) (qs .0)) (List._∷_ (Row.lease (κs .1 .0) (qs .1 .0)) (List._∷_ (Row.lease (κs .1 .1 .0) (qs .1 .1 .0)) (List._∷_ Row.off (List._∷_ Row.off (List._∷_ Row.dead (List._∷_ Row.alive (List._∷_ Row.off (List._∷_ Row.off (List._∷_ Row.off (List._∷_ Row.off (List._∷_ Row.off (List._∷_ Row.off (List._∷_ Row.off (List._∷_ Row.off (List._∷_ Row.off (List._∷_ Row.off (List._∷_ Row.off (List._∷_ Row.off (List._∷_ Row.off List.[]))))))))))))))))))) }
+        G23 = record { locals = List._++_ g18 (List._++_ t19 (List._++_ t2 t3)); slots = List._∷_ (Row.lease (κs .0) (qs .0)) (List._∷_ (Row.lease (κs .1 .0) (qs .1 .0)) (List._∷_ (Row.lease (κs .1 .1 .0) (qs .1 .1 .0)) (List._∷_ Row.off (List._∷_ Row.off (List._∷_ Row.dead (List._∷_ Row.alive (List._∷_ Row.off (List._∷_ Row.off (List._∷_ Row.off (List._∷_ Row.off (List._∷_ Row.off (List._∷_ Row.off (List._∷_ Row.off (List._∷_ Row.off (List._∷_ Row.off (List._∷_ Row.off (List._∷_ Row.off (List._∷_ Row.off (List._∷_ Row.off List.[]))))))))))))))))))) }
 
         abbrev G24 : Row.Cx
-        G24 = record { locals = List._++_ g17 (List._++_ t15 (List._++_ t2 t3)); slots = List._∷_ (Row.lease (κs .0) (qs .0)) (List._∷_ (Row.lease (κs .1 .0) (qs .1 .0)) (List._∷_ (Row.lease (κs .1 .1 .0) (qs .1 .1 .0)) (List._∷_ Row.off (List._∷_ Row.off (List._∷_ Row.off (List._∷_ Row.alive (List._∷_ Row.off (List._∷_ Row.off (List._∷_ Row.off (List._∷_ Row.off (List._∷_ Row.off (List._∷_ Row.off (List._∷_ Row.off (List._∷_ Row.off (List._∷_ Row.off (List._∷_ Row.off (List._∷_ Row.off (List._∷_ Row.off (List._∷_ Row.off List.[]))))))))))))))))))) }
+        G24 = record { locals = List._++_ g18 (List._++_ t19 (List._++_ t2 t3)); slots = List._∷_ (Row.lease (κs .0) (qs .0)) (List._∷_ (Row.lease (κs .1 .0) (qs .1 .0)) (List._∷_ (Row.lease (κs .1 .1 .0) (qs .1 .1 .0)) (List._∷_ Row.off (List._∷_ Row.off (List._∷_ Row.off (List._∷_ Row.alive (List._∷_ Row.off (List._∷_ Row.off (List._∷_ Row.off (List._∷_ Row.off (List._∷_ Row.off (List._∷_ Row.off (List._∷_ Row.off (List._∷_ Row.off (List._∷_ Row.off (List._∷_ Row.off (List._∷_ Row.off (List._∷_ Row.off (List._∷_ Row.off List.[]))))))))))))))))))) }
 
         abbrev G25 : Row.Cx
-        G25 = record { locals = List._++_ g17 (List._++_ t15 (List._++_ t2 t3)); slots = List._∷_ (Row.lease (κs .0) (qs .0)) (List._∷_ (Row.lease (κs .1 .0) (qs .1 .0)) (List._∷_ (Row.lease (κs .1 .1 .0) (qs .1 .1 .0)) (List._∷_ Row.off (List._∷_ Row.off (List._∷_ Row.off (List._∷_ Row.dead (List._∷_ Row.off (List._∷_ Row.off (List._∷_ Row.off (List._∷_ Row.off (List._∷_ Row.off (List._∷_ Row.off (List._∷_ Row.off (List._∷_ Row.off (List._∷_ Row.off (List._∷_ Row.off (List._∷_ Row.off (List._∷_ Row.off (List._∷_ Row.off List.[]))))))))))))))))))) }
+        G25 = record { locals = List._++_ g18 (List._++_ t19 (List._++_ t2 t3)); slots = List._∷_ (Row.lease (κs .0) (qs .0)) (List._∷_ (Row.lease (κs .1 .0) (qs .1 .0)) (List._∷_ (Row.lease (κs .1 .1 .0) (qs .1 .1 .0)) (List._∷_ Row.off (List._∷_ Row.off (List._∷_ Row.off (List._∷_ Row.dead (List._∷_ Row.off (List._∷_ Row.off (List._∷_ Row.off (List._∷_ Row.off (List._∷_ Row.off (List._∷_ Row.off (List._∷_ Row.off (List._∷_ Row.off (List._∷_ Row.off (List._∷_ Row.off (List._∷_ Row.off (List._∷_ Row.off (List._∷_ Row.off List.[]))))))))))))))))))) }
 
         abbrev G26 : Row.Cx
-        G26 = record { locals = List._++_ t18 (List._++_ t1 (List._++_ t2 t3)); slots = List._∷_ (Row.lease (κs .0) (qs .0)) (List._∷_ (Row.lease (κs .1 .0) (qs .1 .0)) (List._∷_ (Row.lease (κs .1 .1 .0) (qs .1 .1 .0)) (List._∷_ (Row.lease (κs .1 .1 .1 .0) (qs .1 .1 .1 .0)) (List._∷_ Row.off (List._∷_ Row.off (List._∷_ Row.dead (List._∷_ Row.off (List._∷_ Row.off (List._∷_ Row.off (List._∷_ Row.off (List._∷_ Row.off (List._∷_ Row.off (List._∷_ Row.off (List._∷_ Row.off (List._∷_ Row.off (List._∷_ Row.off (List._∷_ Row.off (List._∷_ Row.off (List._∷_ Row.off List.[]))))))))))))))))))) }
+        G26 = record { locals = List._++_ t20 (List._++_ t1 (List._++_ t2 t3)); slots = List._∷_ (Row.lease (κs .0) (qs .0)) (List._∷_ (Row.lease (κs .1 .0) (qs .1 .0)) (List._∷_ (Row.lease (κs .1 .1 .0) (qs .1 .1 .0)) (List._∷_ (Row.lease (κs .1 .1 .1 .0) (qs .1 .1 .1 .0)) (List._∷_ Row.off (List._∷_ Row.off (List._∷_ Row.dead (List._∷_ Row.off (List._∷_ Row.off (List._∷_ Row.off (List._∷_ Row.off (List._∷_ Row.off (List._∷_ Row.off (List._∷_ Row.off (List._∷_ Row.off (List._∷_ Row.off (List._∷_ Row.off (List._∷_ Row.off (List._∷_ Row.off (List._∷_ Row.off List.[]))))))))))))))))))) }
 
         abbrev G27 : Row.Cx
-        G27 = record { locals = List._++_ t18 (List._++_ t1 (List._++_ t2 t3)); slots = List._∷_ (Row.lease (κs .0) (qs .0)) (List._∷_ (Row.lease (κs .1 .0) (qs .1 .0)) (List._∷_ (Row.lease (κs .1 .1 .0) (qs .1 .1 .0)) (List._∷_ (Row.lease (κs .1 .1 .1 .0) (qs .1 .1 .1 .0)) (List._∷_ Row.off (List._∷_ Row.off (List._∷_ Row.dead (List._∷_ Row.off (List._∷_ Row.off (List._∷_ Row.off (List._∷_ Row.off (List._∷_ Row.off (List._∷_ Row.off (List._∷_ Row.off (List._∷_ Row.off (List._∷_ Row.off (List._∷_ Row.off (List._∷_ Row.off (List._∷_ Row.off (List._∷_ Row.off List.[]))))))))))))))))))) }
+        G27 = record { locals = List._++_ t20 (List._++_ t1 (List._++_ t2 t3)); slots = List._∷_ (Row.lease (κs .0) (qs .0)) (List._∷_ (Row.lease (κs .1 .0) (qs .1 .0)) (List._∷_ (Row.lease (κs .1 .1 .0) (qs .1 .1 .0)) (List._∷_ (Row.lease (κs .1 .1 .1 .0) (qs .1 .1 .1 .0)) (List._∷_ Row.off (List._∷_ Row.off (List._∷_ Row.dead (List._∷_ Row.off (List._∷_ Row.off (List._∷_ Row.off (List._∷_ Row.off (List._∷_ Row.off (List._∷_ Row.off (List._∷_ Row.off (List._∷_ Row.off (List._∷_ Row.off (List._∷_ Row.off (List._∷_ Row.off (List._∷_ Row.off (List._∷_ Row.off List.[]))))))))))))))))))) }
 
         abbrev G28 : Row.Cx
-        G28 = record { locals = List._++_ t18 (List._++_ t1 (List._++_ t2 t3)); slots = List._∷_ (Row.lease (κs .0) (qs .0)) (List._∷_ (Row.lease (κs .1 .0) (qs .1 .0)) (List._∷_ (Row.lease (κs .1 .1 .0) (qs .1 .1 .0)) (List._∷_ (Row.lease (κs .1 .1 .1 .0) (qs .1 .1 .1 .0)) (List._∷_ Row.off (List._∷_ Row.off (List._∷_ Row.off (List._∷_ Row.off (List._∷_ Row.off (List._∷_ Row.off (List._∷_ Row.off (List._∷_ Row.off (List._∷_ Row.off (List._∷_ Row.off (List._∷_ Row.off (List._∷_ Row.off (List._∷_ Row.off (List._∷_ Row.off (List._∷_ Row.off (List._∷_ Row.off List.[]))))))))))))))))))) }
+        G28 = record { locals = List._++_ t20 (List._++_ t1 (List._++_ t2 t3)); slots = List._∷_ (Row.lease (κs .0) (qs .0)) (List._∷_ (Row.lease (κs .1 .0) (qs .1 .0)) (List._∷_ (Row.lease (κs .1 .1 .0) (qs .1 .1 .0)) (List._∷_ (Row.lease (κs .1 .1 .1 .0) (qs .1 .1 .1 .0)) (List._∷_ Row.off (List._∷_ Row.off (List._∷_ Row.off (List._∷_ Row.off (List._∷_ Row.off (List._∷_ Row.off (List._∷_ Row.off (List._∷_ Row.off (List._∷_ Row.off (List._∷_ Row.off (List._∷_ Row.off (List._∷_ Row.off (List._∷_ Row.off (List._∷_ Row.off (List._∷_ Row.off (List._∷_ Row.off List.[]))))))))))))))))))) }
 
         abbrev G29 : Row.Cx
-        G29 = record { locals = List._++_ t19 (List._++_ t1 (List._++_ t2 t3)); slots = List._∷_ (Row.lease (κs .0) (qs .0)) (List._∷_ (Row.lease (κs .1 .0) (qs .1 .0)) (List._∷_ (Row.lease (κs .1 .1 .0) (qs .1 .1 .0)) (List._∷_ (Row.lease (κs .1 .1 .1 .0) (qs .1 .1 .1 .0)) (List._∷_ Row.off (List._∷_ Row.off (List._∷_ Row.off (List._∷_ Row.off (List._∷_ Row.off (List._∷_ Row.off (List._∷_ Row.off (List._∷_ Row.off (List._∷_ Row.off (List._∷_ Row.off (List._∷_ Row.off (List._∷_ Row.off (List._∷_ Row.off (List._∷_ Row.off (List._∷_ Row.off (List._∷_ Row.off List.[]))))))))))))))))))) }
+        G29 = record { locals = List._++_ t21 (List._++_ t1 (List._++_ t2 t3)); slots = List._∷_ (Row.lease (κs .0) (qs .0)) (List._∷_ (Row.lease (κs .1 .0) (qs .1 .0)) (List._∷_ (Row.lease (κs .1 .1 .0) (qs .1 .1 .0)) (List._∷_ (Row.lease (κs .1 .1 .1 .0) (qs .1 .1 .1 .0)) (List._∷_ Row.off (List._∷_ Row.off (List._∷_ Row.off (List._∷_ Row.off (List._∷_ Row.off (List._∷_ Row.off (List._∷_ Row.off (List._∷_ Row.off (List._∷_ Row.off (List._∷_ Row.off (List._∷_ Row.off (List._∷_ Row.off (List._∷_ Row.off (List._∷_ Row.off (List._∷_ Row.off (List._∷_ Row.off List.[]))))))))))))))))))) }
 
         abbrev G30 : Row.Cx
-        G30 = record { locals = List._++_ t19 (List._++_ t1 (List._++_ t2 t3)); slots = List._∷_ (Row.lease (κs .0) (qs .0)) (List._∷_ (Row.lease (κs .1 .0) (qs .1 .0)) (List._∷_ (Row.lease (κs .1 .1 .0) (qs .1 .1 .0)) (List._∷_ (Row.lease (κs .1 .1 .1 .0) (qs .1 .1 .1 .0)) (List._∷_ Row.off (List._∷_ Row.off (List._∷_ Row.off (List._∷_ Row.off (List._∷_ Row.off (List._∷_ Row.off (List._∷_ Row.off (List._∷_ Row.off (List._∷_ Row.off (List._∷_ Row.off (List._∷_ Row.off (List._∷_ Row.off (List._∷_ Row.off (List._∷_ Row.off (List._∷_ Row.off (List._∷_ Row.off List.[]))))))))))))))))))) }
+        G30 = record { locals = List._++_ t21 (List._++_ t1 (List._++_ t2 t3)); slots = List._∷_ (Row.lease (κs .0) (qs .0)) (List._∷_ (Row.lease (κs .1 .0) (qs .1 .0)) (List._∷_ (Row.lease (κs .1 .1 .0) (qs .1 .1 .0)) (List._∷_ (Row.lease (κs .1 .1 .1 .0) (qs .1 .1 .1 .0)) (List._∷_ Row.off (List._∷_ Row.off (List._∷_ Row.off (List._∷_ Row.off (List._∷_ Row.off (List._∷_ Row.off (List._∷_ Row.off (List._∷_ Row.off (List._∷_ Row.off (List._∷_ Row.off (List._∷_ Row.off (List._∷_ Row.off (List._∷_ Row.off (List._∷_ Row.off (List._∷_ Row.off (List._∷_ Row.off List.[]))))))))))))))))))) }
 
         abbrev G31 : Row.Cx
-        G31 = record { locals = List._++_ t20 (List._++_ t1 (List._++_ t2 t3)); slots = List._∷_ (Row.lease (κs .0) (qs .0)) (List._∷_ (Row.lease (κs .1 .0) (qs .1 .0)) (List._∷_ (Row.lease (κs .1 .1 .0) (qs .1 .1 .0)) (List._∷_ (Row.lease (κs .1 .1 .1 .0) (qs .1 .1 .1 .0)) (List._∷_ Row.off (List._∷_ Row.off (List._∷_ Row.off (List._∷_ Row.off (List._∷_ Row.off (List._∷_ Row.off (List._∷_ Row.off (List._∷_ Row.off (List._∷_ Row.off (List._∷_ Row.off (List._∷_ Row.off (List._∷_ Row.off (List._∷_ Row.off (List._∷_ Row.off (List._∷_ Row.off (List._∷_ Row.off List.[]))))))))))))))))))) }
+        G31 = record { locals = List._++_ t22 (List._++_ t1 (List._++_ t2 t3)); slots = List._∷_ (Row.lease (κs .0) (qs .0)) (List._∷_ (Row.lease (κs .1 .0) (qs .1 .0)) (List._∷_ (Row.lease (κs .1 .1 .0) (qs .1 .1 .0)) (List._∷_ (Row.lease (κs .1 .1 .1 .0) (qs .1 .1 .1 .0)) (List._∷_ Row.off (List._∷_ Row.off (List._∷_ Row.off (List._∷_ Row.off (List._∷_ Row.off (List._∷_ Row.off (List._∷_ Row.off (List._∷_ Row.off (List._∷_ Row.off (List._∷_ Row.off (List._∷_ Row.off (List._∷_ Row.off (List._∷_ Row.off (List._∷_ Row.off (List._∷_ Row.off (List._∷_ Row.off List.[]))))))))))))))))))) }
 
         abbrev G32 : Row.Cx
-        G32 = record { locals = List._++_ t21 (List._++_ t1 (List._++_ t2 t3)); slots = List._∷_ (Row.lease (κs .0) (qs .0)) (List._∷_ (Row.lease (κs .1 .0) (qs .1 .0)) (List._∷_ (Row.lease (κs .1 .1 .0) (qs .1 .1 .0)) (List._∷_ (Row.lease (κs .1 .1 .1 .0) (qs .1 .1 .1 .0)) (List._∷_ Row.off (List._∷_ Row.off (List._∷_ Row.off (List._∷_ Row.off (List._∷_ Row.off (List._∷_ Row.off (List._∷_ Row.off (List._∷_ Row.off (List._∷_ Row.off (List._∷_ Row.off (List._∷_ Row.off (List._∷_ Row.off (List._∷_ Row.off (List._∷_ Row.off (List._∷_ Row.off (List._∷_ Row.off List.[]))))))))))))))))))) }
+        G32 = record { locals = List._++_ t23 (List._++_ t1 (List._++_ t2 t3)); slots = List._∷_ (Row.lease (κs .0) (qs .0)) (List._∷_ (Row.lease (κs .1 .0) (qs .1 .0)) (List._∷_ (Row.lease (κs .1 .1 .0) (qs .1 .1 .0)) (List._∷_ (Row.lease (κs .1 .1 .1 .0) (qs .1 .1 .1 .0)) (List._∷_ Row.off (List._∷_ Row.off (List._∷_ Row.off (List._∷_ Row.off (List._∷_ Row.off (List._∷_ Row.off (List._∷_ Row.off (List._∷_ Row.off (List._∷_ Row.off (List._∷_ Row.off (List._∷_ Row.off (List._∷_ Row.off (List._∷_ Row.off (List._∷_ Row.off (List._∷_ Row.off (List._∷_ Row.off List.[]))))))))))))))))))) }
 
         abbrev G33 : Row.Cx
-        G33 = record { locals = List._++_ t22 (List._++_ t1 (List._++_ t2 t3)); slots = List._∷_ (Row.lease (κs .0) (qs .0)) (List._∷_ (Row.lease (κs .1 .0) (qs .1 .0)) (List._∷_ (Row.lease (κs .1 .1 .0) (qs .1 .1 .0)) (List._∷_ (Row.lease (κs .1 .1 .1 .0) (qs .1 .1 .1 .0)) (List._∷_ Row.off (List._∷_ Row.off (List._∷_ Row.off (List._∷_ Row.off (List._∷_ Row.off (List._∷_ Row.off (List._∷_ Row.off (List._∷_ Row.off (List._∷_ Row.off (List._∷_ Row.off (List._∷_ Row.off (List._∷_ Row.off (List._∷_ Row.off (List._∷_ Row.off (List._∷_ Row.off (List._∷_ Row.off List.[]))))))))))))))))))) }
+        G33 = record { locals = List._++_ t24 (List._++_ t1 (List._++_ t2 t3)); slots = List._∷_ (Row.lease (κs .0) (qs .0)) (List._∷_ (Row.lease (κs .1 .0) (qs .1 .0)) (List._∷_ (Row.lease (κs .1 .1 .0) (qs .1 .1 .0)) (List._∷_ (Row.lease (κs .1 .1 .1 .0) (qs .1 .1 .1 .0)) (List._∷_ Row.off (List._∷_ Row.off (List._∷_ Row.off (List._∷_ Row.off (List._∷_ Row.off (List._∷_ Row.off (List._∷_ Row.off (List._∷_ Row.off (List._∷_ Row.off (List._∷_ Row.off (List._∷_ Row.off (List._∷_ Row.off (List._∷_ Row.off (List._∷_ Row.off (List._∷_ Row.off (List._∷_ Row.off List.[]))))))))))))))))))) }
 
         abbrev G34 : Row.Cx
-        G34 = record { locals = List._++_ t22 (List._++_ t23 (List._++_ t2 t3)); slots = List._∷_ (Row.lease (κs .0) (qs .0)) (List._∷_ (Row.lease (κs .1 .0) (qs .1 .0)) (List._∷_ (Row.lease (κs .1 .1 .0) (qs .1 .1 .0)) (List._∷_ (Row.lease (κs .1 .1 .1 .0) (qs .1 .1 .1 .0)) (List._∷_ Row.off (List._∷_ Row.off (List._∷_ Row.off (List._∷_ Row.off (List._∷_ Row.off (List._∷_ Row.off (List._∷_ Row.off (List._∷_ Row.off (List._∷_ Row.off (List._∷_ Row.off (List._∷_ Row.off (List._∷_ Row.off (List._∷_ Row.off (List._∷_ Row.off (List._∷_ Row.off (List._∷_ Row.off List.[]))))))))))))))))))) }
+        G34 = record { locals = List._++_ t24 (List._++_ t25 (List._++_ t2 t3)); slots = List._∷_ (Row.lease (κs .0) (qs .0)) (List._∷_ (Row.lease (κs .1 .0) (qs .1 .0)) (List._∷_ (Row.lease (κs .1 .1 .0) (qs .1 .1 .0)) (List._∷_ (Row.lease (κs .1 .1 .1 .0) (qs .1 .1 .1 .0)) (List._∷_ Row.off (List._∷_ Row.off (List._∷_ Row.off (List._∷_ Row.off (List._∷_ Row.off (List._∷_ Row.off (List._∷_ Row.off (List._∷_ Row.off (List._∷_ Row.off (List._∷_ Row.off (List._∷_ Row.off (List._∷_ Row.off (List._∷_ Row.off (List._∷_ Row.off (List._∷_ Row.off (List._∷_ Row.off List.[]))))))))))))))))))) }
 
         abbrev G35 : Row.Cx
-        G35 = record { locals = List._++_ t0 (List._++_ t23 (List._++_ t2 t3)); slots = List._∷_ (Row.lease (κs .0) (qs .0)) (List._∷_ (Row.lease (κs .1 .0) (qs .1 .0)) (List._∷_ (Row.lease (κs .1 .1 .0) (qs .1 .1 .0)) (List._∷_ (Row.lease (κs .1 .1 .1 .0) (qs .1 .1 .1 .0)) (List._∷_ Row.off (List._∷_ Row.off (List._∷_ Row.off (List._∷_ Row.off (List._∷_ Row.off (List._∷_ Row.off (List._∷_ Row.off (List._∷_ Row.off (List._∷_ Row.off (List._∷_ Row.off (List._∷_ Row.off (List._∷_ Row.off (List._∷_ Row.off (List._∷_ Row.off (List._∷_ Row.off (List._∷_ Row.off List.[]))))))))))))))))))) }
+        G35 = record { locals = List._++_ t0 (List._++_ t25 (List._++_ t2 t3)); slots = List._∷_ (Row.lease (κs .0) (qs .0)) (List._∷_ (Row.lease (κs .1 .0) (qs .1 .0)) (List._∷_ (Row.lease (κs .1 .1 .0) (qs .1 .1 .0)) (List._∷_ (Row.lease (κs .1 .1 .1 .0) (qs .1 .1 .1 .0)) (List._∷_ Row.off (List._∷_ Row.off (List._∷_ Row.off (List._∷_ Row.off (List._∷_ Row.off (List._∷_ Row.off (List._∷_ Row.off (List._∷_ Row.off (List._∷_ Row.off (List._∷_ Row.off (List._∷_ Row.off (List._∷_ Row.off (List._∷_ Row.off (List._∷_ Row.off (List._∷_ Row.off (List._∷_ Row.off List.[]))))))))))))))))))) }
 
         abbrev G36 : Row.Cx
-        G36 = record { locals = List._++_ t0 (List._++_ t24 (List._++_ t2 t3)); slots = List._∷_ (Row.lease (κs .0) (qs .0)) (List._∷_ (Row.lease (κs .1 .0) (qs .1 .0)) (List._∷_ (Row.lease (κs .1 .1 .0) (qs .1 .1 .0)) (List._∷_ (Row.lease (κs .1 .1 .1 .0) (qs .1 .1 .1 .0)) (List._∷_ Row.off (List._∷_ Row.off (List._∷_ Row.off (List._∷_ Row.off (List._∷_ Row.off (List._∷_ Row.off (List._∷_ Row.off (List._∷_ Row.off (List._∷_ Row.off (List._∷_ Row.off (List._∷_ Row.off (List._∷_ Row.off (List._∷_ Row.off (List._∷_ Row.off (List._∷_ Row.off (List._∷_ Row.off List.[]))))))))))))))))))) }
+        G36 = record { locals = List._++_ t0 (List._++_ t26 (List._++_ t2 t3)); slots = List._∷_ (Row.lease (κs .0) (qs .0)) (List._∷_ (Row.lease (κs .1 .0) (qs .1 .0)) (List._∷_ (Row.lease (κs .1 .1 .0) (qs .1 .1 .0)) (List._∷_ (Row.lease (κs .1 .1 .1 .0) (qs .1 .1 .1 .0)) (List._∷_ Row.off (List._∷_ Row.off (List._∷_ Row.off (List._∷_ Row.off (List._∷_ Row.off (List._∷_ Row.off (List._∷_ Row.off (List._∷_ Row.off (List._∷_ Row.off (List._∷_ Row.off (List._∷_ Row.off (List._∷_ Row.off (List._∷_ Row.off (List._∷_ Row.off (List._∷_ Row.off (List._∷_ Row.off List.[]))))))))))))))))))) }
 
         abbrev G37 : Row.Cx
-        G37 = record { locals = List._++_ t0 (List._++_ t23 (List._++_ t2 t3)); slots = List._∷_ (Row.lease (κs .0) (qs .0)) (List._∷_ (Row.lease (κs .1 .0) (qs .1 .0)) (List._∷_ (Row.lease (κs .1 .1 .0) (qs .1 .1 .0)) (List._∷_ (Row.lease (κs .1 .1 .1 .0) (qs .1 .1 .1 .0)) (List._∷_ Row.off (List._∷_ Row.off (List._∷_ Row.off (List._∷_ Row.off (List._∷_ Row.off (List._∷_ Row.off (List._∷_ Row.off (List._∷_ Row.off (List._∷_ Row.off (List._∷_ Row.off (List._∷_ Row.off (List._∷_ Row.off (List._∷_ Row.off (List._∷_ Row.off (List._∷_ Row.off (List._∷_ Row.off List.[]))))))))))))))))))) }
+        G37 = record { locals = List._++_ t0 (List._++_ t25 (List._++_ t2 t3)); slots = List._∷_ (Row.lease (κs .0) (qs .0)) (List._∷_ (Row.lease (κs .1 .0) (qs .1 .0)) (List._∷_ (Row.lease (κs .1 .1 .0) (qs .1 .1 .0)) (List._∷_ (Row.lease (κs .1 .1 .1 .0) (qs .1 .1 .1 .0)) (List._∷_ Row.off (List._∷_ Row.off (List._∷_ Row.off (List._∷_ Row.off (List._∷_ Row.off (List._∷_ Row.off (List._∷_ Row.off (List._∷_ Row.off (List._∷_ Row.off (List._∷_ Row.off (List._∷_ Row.off (List._∷_ Row.off (List._∷_ Row.off (List._∷_ Row.off (List._∷_ Row.off (List._∷_ Row.off List.[]))))))))))))))))))) }
 
         abbrev G38 : Row.Cx
         G38 = record { locals = List._++_ t0 (List._++_ t1 (List._++_ t2 t3)); slots = List._∷_ (Row.lease (κs .0) (qs .0)) (List._∷_ (Row.lease (κs .1 .0) (qs .1 .0)) (List._∷_ (Row.lease (κs .1 .1 .0) (qs .1 .1 .0)) (List._∷_ (Row.lease (κs .1 .1 .1 .0) (qs .1 .1 .1 .0)) (List._∷_ Row.off (List._∷_ Row.off (List._∷_ Row.off (List._∷_ Row.off (List._∷_ Row.off (List._∷_ Row.off (List._∷_ Row.off (List._∷_ Row.off (List._∷_ Row.off (List._∷_ Row.off (List._∷_ Row.off (List._∷_ Row.off (List._∷_ Row.off (List._∷_ Row.off (List._∷_ Row.off (List._∷_ Row.off List.[]))))))))))))))))))) }
 
         abbrev G39 : Row.Cx
-        G39 = record { locals = List._++_ t0 (List._++_ t25 (List._++_ t2 t3)); slots = List._∷_ (Row.lease (κs .0) (qs .0)) (List._∷_ (Row.lease (κs .1 .0) (qs .1 .0)) (List._∷_ (Row.lease (κs .1 .1 .0) (qs .1 .1 .0)) (List._∷_ (Row.lease (κs .1 .1 .1 .0) (qs .1 .1 .1 .0)) (List._∷_ Row.off (List._∷_ Row.off (List._∷_ Row.off (List._∷_ Row.off (List._∷_ Row.off (List._∷_ Row.off (List._∷_ Row.off (List._∷_ Row.off (List._∷_ Row.off (List._∷_ Row.off (List._∷_ Row.off (List._∷_ Row.off (List._∷_ Row.off (List._∷_ Row.off (List._∷_ Row.off (List._∷_ Row.off List.[]))))))))))))))))))) }
+        G39 = record { locals = List._++_ t27 (List._++_ t1 (List._++_ t2 t3)); slots = List._∷_ (Row.lease (κs .0) (qs .0)) (List._∷_ (Row.lease (κs .1 .0) (qs .1 .0)) (List._∷_ (Row.lease (κs .1 .1 .0) (qs .1 .1 .0)) (List._∷_ (Row.lease (κs .1 .1 .1 .0) (qs .1 .1 .1 .0)) (List._∷_ Row.off (List._∷_ Row.off (List._∷_ Row.off (List._∷_ Row.off (List._∷_ Row.off (List._∷_ Row.off (List._∷_ Row.off (List._∷_ Row.off (List._∷_ Row.off (List._∷_ Row.off (List._∷_ Row.off (List._∷_ Row.off (List._∷_ Row.off (List._∷_ Row.off (List._∷_ Row.off (List._∷_ Row.off List.[]))))))))))))))))))) }
 
         abbrev G40 : Row.Cx
-        G40 = record { locals = List._++_ t0 (List._++_ t25 (List._++_ t2 t3)); slots = List._∷_ (Row.lease (κs .0) (qs .0)) (List._∷_ (Row.lease (κs .1 .0) (qs .1 .0)) (List._∷_ (Row.lease (κs .1 .1 .0) (qs .1 .1 .0)) (List._∷_ (Row.lease (κs .1 .1 .1 .0) (qs .1 .1 .1 .0)) (List._∷_ Row.off (List._∷_ Row.off (List._∷_ Row.off (List._∷_ Row.alive (List._∷_ Row.off (List._∷_ Row.off (List._∷_ Row.off (List._∷_ Row.off (List._∷_ Row.off (List._∷_ Row.off (List._∷_ Row.off (List._∷_ Row.off (List._∷_ Row.off (List._∷_ Row.off (List._∷_ Row.off (List._∷_ Row.off List.[]))))))))))))))))))) }
+        G40 = record { locals = List._++_ t27 (List._++_ t28 (List._++_ t2 t3)); slots = List._∷_ (Row.lease (κs .0) (qs .0)) (List._∷_ (Row.lease (κs .1 .0) (qs .1 .0)) (List._∷_ (Row.lease (κs .1 .1 .0) (qs .1 .1 .0)) (List._∷_ (Row.lease (κs .1 .1 .1 .0) (qs .1 .1 .1 .0)) (List._∷_ Row.off (List._∷_ Row.off (List._∷_ Row.off (List._∷_ Row.off (List._∷_ Row.off (List._∷_ Row.off (List._∷_ Row.off (List._∷_ Row.off (List._∷_ Row.off (List._∷_ Row.off (List._∷_ Row.off (List._∷_ Row.off (List._∷_ Row.off (List._∷_ Row.off (List._∷_ Row.off (List._∷_ Row.off List.[]))))))))))))))))))) }
 
         abbrev G41 : Row.Cx
-        G41 = record { locals = List._++_ g26 (List._++_ t27 (List._++_ t2 t3)); slots = List._∷_ (Row.lease (κs .0) (qs .0)) (List._∷_ Row.off (List._∷_ (Row.lease (κs .1 .1 .0) (qs .1 .1 .0)) (List._∷_ (Row.lease (κs .1 .1 .1 .0) (qs .1 .1 .1 .0)) (List._∷_ Row.off (List._∷_ Row.off (List._∷_ Row.off (List._∷_ Row.alive (List._∷_ Row.off (List._∷_ Row.off (List._∷_ Row.off (List._∷_ Row.off (List._∷_ Row.off (List._∷_ Row.off (List._∷_ Row.off (List._∷_ Row.off (List._∷_ Row.off (List._∷_ Row.off (List._∷_ Row.off (List._∷_ Row.off List.[]))))))))))))))))))) }
+        G41 = record { locals = List._++_ t27 (List._++_ t28 (List._++_ t2 t3)); slots = List._∷_ (Row.lease (κs .0) (qs .0)) (List._∷_ (Row.lease (κs .1 .0) (qs .1 .0)) (List._∷_ (Row.lease (κs .1 .1 .0) (qs .1 .1 .0)) (List._∷_ (Row.lease (κs .1 .1 .1 .0) (qs .1 .1 .1 .0)) (List._∷_ Row.off (List._∷_ Row.off (List._∷_ Row.off (List._∷_ Row.alive (List._∷_ Row.off (List._∷_ Row.off (List._∷_ Row.off (List._∷_ Row.off (List._∷_ Row.off (List._∷_ Row.off (List._∷_ Row.off (List._∷_ Row.off (List._∷_ Row.off (List._∷_ Row.off (List._∷_ Row.off (List._∷_ Row.off List.[]))))))))))))))))))) }
 
         abbrev G42 : Row.Cx
-        G42 = record { locals = List._++_ g26 (List._++_ t28 (List._++_ t2 t3)); slots = List._∷_ (Row.lease (κs .0) (qs .0)) (List._∷_ Row.off (List._∷_ (Row.lease (κs .1 .1 .0) (qs .1 .1 .0)) (List._∷_ (Row.lease (κs .1 .1 .1 .0) (qs .1 .1 .1 .0)) (List._∷_ Row.off (List._∷_ Row.off (List._∷_ Row.off (List._∷_ Row.alive (List._∷_ Row.off (List._∷_ Row.off (List._∷_ Row.off (List._∷_ Row.off (List._∷_ Row.off (List._∷_ Row.off (List._∷_ Row.off (List._∷_ Row.off (List._∷_ Row.off (List._∷_ Row.off (List._∷_ Row.off (List._∷_ Row.off List.[]))))))))))))))))))) }
+        G42 = record { locals = List._++_ g29 (List._++_ t30 (List._++_ t2 t3)); slots = List._∷_ (Row.lease (κs .0) (qs .0)) (List._∷_ Row.off (List._∷_ (Row.lease (κs .1 .1 .0) (qs .1 .1 .0)) (List._∷_ (Row.lease (κs .1 .1 .1 .0) (qs .1 .1 .1 .0)) (List._∷_ Row.off (List._∷_ Row.off (List._∷_ Row.off (List._∷_ Row.alive (List._∷_ Row.off (List._∷_ Row.off (List._∷_ Row.off (List._∷_ Row.off (List._∷_ Row.off (List._∷_ Row.off (List._∷_ Row.off (List._∷_ Row.off (List._∷_ Row.off (List._∷_ Row.off (List._∷_ Row.off (List._∷_ Row.off List.[]))))))))))))))))))) }
 
         abbrev G43 : Row.Cx
-        G43 = record { locals = List._++_ g26 (List._++_ t28 (List._++_ t2 t3)); slots = List._∷_ (Row.lease (κs .0) (qs .0)) (List._∷_ Row.off (List._∷_ (Row.lease (κs .1 .1 .0) (qs .1 .1 .0)) (List._∷_ (Row.lease (κs .1 .1 .1 .0) (qs .1 .1 .1 .0)) (List._∷_ Row.off (List._∷_ Row.off (List._∷_ Row.off (List._∷_ Row.alive (List._∷_ Row.alive (List._∷_ Row.off (List._∷_ Row.off (List._∷_ Row.off (List._∷_ Row.off (List._∷_ Row.off (List._∷_ Row.off (List._∷_ Row.off (List._∷_ Row.off (List._∷_ Row.off (List._∷_ Row.off (List._∷_ Row.off List.[]))))))))))))))))))) }
+        G43 = record { locals = List._++_ g29 (List._++_ t31 (List._++_ t2 t3)); slots = List._∷_ (Row.lease (κs .0) (qs .0)) (List._∷_ Row.off (List._∷_ (Row.lease (κs .1 .1 .0) (qs .1 .1 .0)) (List._∷_ (Row.lease (κs .1 .1 .1 .0) (qs .1 .1 .1 .0)) (List._∷_ Row.off (List._∷_ Row.off (List._∷_ Row.off (List._∷_ Row.alive (List._∷_ Row.off (List._∷_ Row.off (List._∷_ Row.off (List._∷_ Row.off (List._∷_ Row.off (List._∷_ Row.off (List._∷_ Row.off (List._∷_ Row.off (List._∷_ Row.off (List._∷_ Row.off (List._∷_ Row.off (List._∷_ Row.off List.[]))))))))))))))))))) }
 
         abbrev G44 : Row.Cx
-        G44 = record { locals = List._++_ g29 (List._++_ t30 (List._++_ t2 t3)); slots = List._∷_ (Row.lease (κs .0) (qs .0)) (List._∷_ Row.off (List._∷_ Row.off (List._∷_ (Row.lease (κs .1 .1 .1 .0) (qs .1 .1 .1 .0)) (List._∷_ Row.off (List._∷_ Row.off (List._∷_ Row.off (List._∷_ Row.alive (List._∷_ Row.alive (List._∷_ Row.off (List._∷_ Row.off (List._∷_ Row.off (List._∷_ Row.off (List._∷_ Row.off (List._∷_ Row.off (List._∷_ Row.off (List._∷_ Row.off (List._∷_ Row.off (List._∷_ Row.off (List._∷_ Row.off List.[]))))))))))))))))))) }
+        G44 = record { locals = List._++_ g29 (List._++_ t31 (List._++_ t2 t3)); slots = List._∷_ (Row.lease (κs .0) (qs .0)) (List._∷_ Row.off (List._∷_ (Row.lease (κs .1 .1 .0) (qs .1 .1 .0)) (List._∷_ (Row.lease (κs .1 .1 .1 .0) (qs .1 .1 .1 .0)) (List._∷_ Row.off (List._∷_ Row.off (List._∷_ Row.off (List._∷_ Row.alive (List._∷_ Row.alive (List._∷_ Row.off (List._∷_ Row.off (List._∷_ Row.off (List._∷_ Row.off (List._∷_ Row.off (List._∷_ Row.off (List._∷_ Row.off (List._∷_ Row.off (List._∷_ Row.off (List._∷_ Row.off (List._∷_ Row.off List.[]))))))))))))))))))) }
 
         abbrev G45 : Row.Cx
-        G45 = record { locals = List._++_ g29 (List._++_ t31 (List._++_ t2 t3)); slots = List._∷_ (Row.lease (κs .0) (qs .0)) (List._∷_ Row.off (List._∷_ Row.off (List._∷_ (Row.lease (κs .1 .1 .1 .0) (qs .1 .1 .1 .0)) (List._∷_ Row.off (List._∷_ Row.off (List._∷_ Row.off (List._∷_ Row.alive (List._∷_ Row.alive (List._∷_ Row.off (List._∷_ Row.off (List._∷_ Row.off (List._∷_ Row.off (List._∷_ Row.off (List._∷_ Row.off (List._∷_ Row.off (List._∷_ Row.off (List._∷_ Row.off (List._∷_ Row.off (List._∷_ Row.off List.[]))))))))))))))))))) }
+        G45 = record { locals = List._++_ g32 (List._++_ t33 (List._++_ t2 t3)); slots = List._∷_ (Row.lease (κs .0) (qs .0)) (List._∷_ Row.off (List._∷_ Row.off (List._∷_ (Row.lease (κs .1 .1 .1 .0) (qs .1 .1 .1 .0)) (List._∷_ Row.off (List._∷_ Row.off (List._∷_ Row.off (List._∷_ Row.alive (List._∷_ Row.alive (List._∷_ Row.off (List._∷_ Row.off (List._∷_ Row.off (List._∷_ Row.off (List._∷_ Row.off (List._∷_ Row.off (List._∷_ Row.off (List._∷_ Row.off (List._∷_ Row.off (List._∷_ Row.off (List._∷_ Row.off List.[]))))))))))))))))))) }
 
         abbrev G46 : Row.Cx
-        G46 = record { locals = List._++_ g29 (List._++_ t31 (List._++_ t2 t3)); slots = List._∷_ (Row.lease (κs .0) (qs .0)) (List._∷_ Row.off (List._∷_ Row.off (List._∷_ (Row.lease (κs .1 .1 .1 .0) (qs .1 .1 .1 .0)) (List._∷_ Row.off (List._∷_ Row.off (List._∷_ Row.off (List._∷_ Row.alive (List._∷_ Row.alive (List._∷_ Row.alive (List._∷_ Row.off (List._∷_ Row.off (List._∷_ Row.off (List._∷_ Row.off (List._∷_ Row.off (List._∷_ Row.off (List._∷_ Row.off (List._∷_ Row.off (List._∷_ Row.off (List._∷_ Row.off List.[]))))))))))))))))))) }
+        G46 = record { locals = List._++_ g32 (List._++_ t34 (List._++_ t2 t3)); slots = List._∷_ (Row.lease (κs .0) (qs .0)) (List._∷_ Row.off (List._∷_ Row.off (List._∷_ (Row.lease (κs .1 .1 .1 .0) (qs .1 .1 .1 .0)) (List._∷_ Row.off (List._∷_ Row.off (List._∷_ Row.off (List._∷_ Row.alive (List._∷_ Row.alive (List._∷_ Row.off (List._∷_ Row.off (List._∷_ Row.off (List._∷_ Row.off (List._∷_ Row.off (List._∷_ Row.off (List._∷_ Row.off (List._∷_ Row.off (List._∷_ Row.off (List._∷_ Row.off (List._∷_ Row.off List.[]))))))))))))))))))) }
 
         abbrev G47 : Row.Cx
-        G47 = record { locals = List._++_ g32 (List._++_ t33 (List._++_ t2 t3)); slots = List._∷_ (Row.lease (κs .0) (qs .0)) (List._∷_ Row.off (List._∷_ Row.off (List._∷_ Row.off (List._∷_ Row.off (List._∷_ Row.off (List._∷_ Row.off (List._∷_ Row.alive (List._∷_ Row.alive (List._∷_ Row.alive (List._∷_ Row.off (List._∷_ Row.off (List._∷_ Row.off (List._∷_ Row.off (List._∷_ Row.off (List._∷_ Row.off (List._∷_ Row.off (List._∷_ Row.off (List._∷_ Row.off (List._∷_ Row.off List.[]))))))))))))))))))) }
+        G47 = record { locals = List._++_ g32 (List._++_ t34 (List._++_ t2 t3)); slots = List._∷_ (Row.lease (κs .0) (qs .0)) (List._∷_ Row.off (List._∷_ Row.off (List._∷_ (Row.lease (κs .1 .1 .1 .0) (qs .1 .1 .1 .0)) (List._∷_ Row.off (List._∷_ Row.off (List._∷_ Row.off (List._∷_ Row.alive (List._∷_ Row.alive (List._∷_ Row.alive (List._∷_ Row.off (List._∷_ Row.off (List._∷_ Row.off (List._∷_ Row.off (List._∷_ Row.off (List._∷_ Row.off (List._∷_ Row.off (List._∷_ Row.off (List._∷_ Row.off (List._∷_ Row.off List.[]))))))))))))))))))) }
 
         abbrev G48 : Row.Cx
-        G48 = record { locals = List._++_ g32 (List._++_ t34 (List._++_ t2 t3)); slots = List._∷_ (Row.lease (κs .0) (qs .0)) (List._∷_ Row.off (List._∷_ Row.off (List._∷_ Row.off (List._∷_ Row.off (List._∷_ Row.off (List._∷_ Row.off (List._∷_ Row.alive (List._∷_ Row.alive (List._∷_ Row.alive (List._∷_ Row.off (List._∷_ Row.off (List._∷_ Row.off (List._∷_ Row.off (List._∷_ Row.off (List._∷_ Row.off (List._∷_ Row.off (List._∷_ Row.off (List._∷_ Row.off (List._∷_ Row.off List.[]))))))))))))))))))) }
+        G48 = record { locals = List._++_ g35 (List._++_ t36 (List._++_ t2 t3)); slots = List._∷_ (Row.lease (κs .0) (qs .0)) (List._∷_ Row.off (List._∷_ Row.off (List._∷_ Row.off (List._∷_ Row.off (List._∷_ Row.off (List._∷_ Row.off (List._∷_ Row.alive (List._∷_ Row.alive (List._∷_ Row.alive (List._∷_ Row.off (List._∷_ Row.off (List._∷_ Row.off (List._∷_ Row.off (List._∷_ Row.off (List._∷_ Row.off (List._∷_ Row.off (List._∷_ Row.off (List._∷_ Row.off (List._∷_ Row.off List.[]))))))))))))))))))) }
 
         abbrev G49 : Row.Cx
-        G49 = record { locals = List._++_ g32 (List._++_ t35 (List._++_ t2 t3)); slots = List._∷_ (Row.lease (κs .0) (qs .0)) (List._∷_ Row.off (List._∷_ Row.off (List._∷_ Row.off (List._∷_ Row.off (List._∷_ Row.off (List._∷_ Row.off (List._∷_ Row.alive (List._∷_ Row.alive (List._∷_ Row.alive (List._∷_ Row.off (List._∷_ Row.off (List._∷_ Row.off (List._∷_ Row.off (List._∷_ Row.off (List._∷_ Row.off (List._∷_ Row.off (List._∷_ Row.off (List._∷_ Row.off (List._∷_ Row.off List.[]))))))))))))))))))) }
+        G49 = record { locals = List._++_ g35 (List._++_ t37 (List._++_ t2 t3)); slots = List._∷_ (Row.lease (κs .0) (qs .0)) (List._∷_ Row.off (List._∷_ Row.off (List._∷_ Row.off (List._∷_ Row.off (List._∷_ Row.off (List._∷_ Row.off (List._∷_ Row.alive (List._∷_ Row.alive (List._∷_ Row.alive (List._∷_ Row.off (List._∷_ Row.off (List._∷_ Row.off (List._∷_ Row.off (List._∷_ Row.off (List._∷_ Row.off (List._∷_ Row.off (List._∷_ Row.off (List._∷_ Row.off (List._∷_ Row.off List.[]))))))))))))))))))) }
 
         abbrev G50 : Row.Cx
-        G50 = record { locals = List._++_ g32 (List._++_ t36 (List._++_ t2 t3)); slots = List._∷_ (Row.lease (κs .0) (qs .0)) (List._∷_ Row.off (List._∷_ Row.off (List._∷_ Row.off (List._∷_ Row.off (List._∷_ Row.off (List._∷_ Row.off (List._∷_ Row.alive (List._∷_ Row.alive (List._∷_ Row.alive (List._∷_ Row.off (List._∷_ Row.off (List._∷_ Row.off (List._∷_ Row.off (List._∷_ Row.off (List._∷_ Row.off (List._∷_ Row.off (List._∷_ Row.off (List._∷_ Row.off (List._∷_ Row.off List.[]))))))))))))))))))) }
+        G50 = record { locals = List._++_ g35 (List._++_ t38 (List._++_ t2 t3)); slots = List._∷_ (Row.lease (κs .0) (qs .0)) (List._∷_ Row.off (List._∷_ Row.off (List._∷_ Row.off (List._∷_ Row.off (List._∷_ Row.off (List._∷_ Row.off (List._∷_ Row.alive (List._∷_ Row.alive (List._∷_ Row.alive (List._∷_ Row.off (List._∷_ Row.off (List._∷_ Row.off (List._∷_ Row.off (List._∷_ Row.off (List._∷_ Row.off (List._∷_ Row.off (List._∷_ Row.off (List._∷_ Row.off (List._∷_ Row.off List.[]))))))))))))))))))) }
 
         abbrev G51 : Row.Cx
-        G51 = record { locals = List._++_ g32 (List._++_ t37 (List._++_ t2 t3)); slots = List._∷_ (Row.lease (κs .0) (qs .0)) (List._∷_ Row.off (List._∷_ Row.off (List._∷_ Row.off (List._∷_ Row.off (List._∷_ Row.off (List._∷_ Row.off (List._∷_ Row.alive (List._∷_ Row.alive (List._∷_ Row.alive (List._∷_ Row.off (List._∷_ Row.off (List._∷_ Row.off (List._∷_ Row.off (List._∷_ Row.off (List._∷_ Row.off (List._∷_ Row.off (List._∷_ Row.off (List._∷_ Row.off (List._∷_ Row.off List.[]))))))))))))))))))) }
+        G51 = record { locals = List._++_ g35 (List._++_ t39 (List._++_ t2 t3)); slots = List._∷_ (Row.lease (κs .0) (qs .0)) (List._∷_ Row.off (List._∷_ Row.off (List._∷_ Row.off (List._∷_ Row.off (List._∷_ Row.off (List._∷_ Row.off (List._∷_ Row.alive (List._∷_ Row.alive (List._∷_ Row.alive (List._∷_ Row.off (List._∷_ Row.off (List._∷_ Row.off (List._∷_ Row.off (List._∷_ Row.off (List._∷_ Row.off (List._∷_ Row.off (List._∷_ Row.off (List._∷_ Row.off (List._∷_ Row.off List.[]))))))))))))))))))) }
 
         abbrev G52 : Row.Cx
-        G52 = record { locals = List._++_ g32 (List._++_ t38 (List._++_ t2 t3)); slots = List._∷_ (Row.lease (κs .0) (qs .0)) (List._∷_ Row.off (List._∷_ Row.off (List._∷_ Row.off (List._∷_ Row.off (List._∷_ Row.off (List._∷_ Row.off (List._∷_ Row.alive (List._∷_ Row.alive (List._∷_ Row.alive (List._∷_ Row.off (List._∷_ Row.off (List._∷_ Row.off (List._∷_ Row.off (List._∷_ Row.off (List._∷_ Row.off (List._∷_ Row.off (List._∷_ Row.off (List._∷_ Row.off (List._∷_ Row.off List.[]))))))))))))))))))) }
+        G52 = record { locals = List._++_ g35 (List._++_ t40 (List._++_ t2 t3)); slots = List._∷_ (Row.lease (κs .0) (qs .0)) (List._∷_ Row.off (List._∷_ Row.off (List._∷_ Row.off (List._∷_ Row.off (List._∷_ Row.off (List._∷_ Row.off (List._∷_ Row.alive (List._∷_ Row.alive (List._∷_ Row.alive (List._∷_ Row.off (List._∷_ Row.off (List._∷_ Row.off (List._∷_ Row.off (List._∷_ Row.off (List._∷_ Row.off (List._∷_ Row.off (List._∷_ Row.off (List._∷_ Row.off (List._∷_ Row.off List.[]))))))))))))))))))) }
 
         abbrev G53 : Row.Cx
-        G53 = record { locals = List._++_ g32 (List._++_ t25 (List._++_ t2 t3)); slots = List._∷_ (Row.lease (κs .0) (qs .0)) (List._∷_ Row.off (List._∷_ Row.off (List._∷_ Row.off (List._∷_ Row.off (List._∷_ Row.off (List._∷_ Row.off (List._∷_ Row.alive (List._∷_ Row.alive (List._∷_ Row.alive (List._∷_ Row.off (List._∷_ Row.off (List._∷_ Row.off (List._∷_ Row.off (List._∷_ Row.off (List._∷_ Row.off (List._∷_ Row.off (List._∷_ Row.off (List._∷_ Row.off (List._∷_ Row.off List.[]))))))))))))))))))) }
+        G53 = record { locals = List._++_ g35 (List._++_ t41 (List._++_ t2 t3)); slots = List._∷_ (Row.lease (κs .0) (qs .0)) (List._∷_ Row.off (List._∷_ Row.off (List._∷_ Row.off (List._∷_ Row.off (List._∷_ Row.off (List._∷_ Row.off (List._∷_ Row.alive (List._∷_ Row.alive (List._∷_ Row.alive (List._∷_ Row.off (List._∷_ Row.off (List._∷_ Row.off (List._∷_ Row.off (List._∷_ Row.off (List._∷_ Row.off (List._∷_ Row.off (List._∷_ Row.off (List._∷_ Row.off (List._∷_ Row.off List.[]))))))))))))))))))) }
 
         abbrev G54 : Row.Cx
-        G54 = record { locals = List._++_ g32 (List._++_ t1 (List._++_ t2 t3)); slots = List._∷_ (Row.lease (κs .0) (qs .0)) (List._∷_ Row.off (List._∷_ Row.off (List._∷_ Row.off (List._∷_ Row.off (List._∷_ Row.off (List._∷_ Row.off (List._∷_ Row.alive (List._∷_ Row.alive (List._∷_ Row.alive (List._∷_ Row.off (List._∷_ Row.off (List._∷_ Row.off (List._∷_ Row.off (List._∷_ Row.off (List._∷_ Row.off (List._∷_ Row.off (List._∷_ Row.off (List._∷_ Row.off (List._∷_ Row.off List.[]))))))))))))))))))) }
+        G54 = record { locals = List._++_ g42 (List._++_ t41 (List._++_ t2 t3)); slots = List._∷_ (Row.lease (κs .0) (qs .0)) (List._∷_ Row.off (List._∷_ Row.off (List._∷_ Row.off (List._∷_ Row.off (List._∷_ Row.off (List._∷_ Row.off (List._∷_ Row.alive (List._∷_ Row.alive (List._∷_ Row.alive (List._∷_ Row.off (List._∷_ Row.off (List._∷_ Row.off (List._∷_ Row.off (List._∷_ Row.off (List._∷_ Row.off (List._∷_ Row.off (List._∷_ Row.off (List._∷_ Row.off (List._∷_ Row.off List.[]))))))))))))))))))) }
 
         abbrev G55 : Row.Cx
-        G55 = record { locals = List._++_ g32 (List._++_ t1 (List._++_ t2 t3)); slots = List._∷_ (Row.lease (κs .0) (qs .0)) (List._∷_ Row.off (List._∷_ Row.off (List._∷_ Row.off (List._∷_ Row.off (List._∷_ Row.off (List._∷_ Row.off (List._∷_ Row.dead (List._∷_ Row.alive (List._∷_ Row.alive (List._∷_ Row.off (List._∷_ Row.off (List._∷_ Row.off (List._∷_ Row.off (List._∷_ Row.off (List._∷_ Row.off (List._∷_ Row.off (List._∷_ Row.off (List._∷_ Row.off (List._∷_ Row.off List.[]))))))))))))))))))) }
+        G55 = record { locals = List._++_ g42 (List._++_ t28 (List._++_ t2 t3)); slots = List._∷_ (Row.lease (κs .0) (qs .0)) (List._∷_ Row.off (List._∷_ Row.off (List._∷_ Row.off (List._∷_ Row.off (List._∷_ Row.off (List._∷_ Row.off (List._∷_ Row.alive (List._∷_ Row.alive (List._∷_ Row.alive (List._∷_ Row.off (List._∷_ Row.off (List._∷_ Row.off (List._∷_ Row.off (List._∷_ Row.off (List._∷_ Row.off (List._∷_ Row.off (List._∷_ Row.off (List._∷_ Row.off (List._∷_ Row.off List.[]))))))))))))))))))) }
 
         abbrev G56 : Row.Cx
-        G56 = record { locals = List._++_ g39 (List._++_ t1 (List._++_ t2 t3)); slots = List._∷_ (Row.lease (κs .0) (qs .0)) (List._∷_ (Row.lease (κs .1 .0) (qs .1 .0)) (List._∷_ Row.off (List._∷_ Row.off (List._∷_ Row.off (List._∷_ Row.off (List._∷_ Row.off (List._∷_ Row.dead (List._∷_ Row.alive (List._∷_ Row.alive (List._∷_ Row.off (List._∷_ Row.off (List._∷_ Row.off (List._∷_ Row.off (List._∷_ Row.off (List._∷_ Row.off (List._∷_ Row.off (List._∷_ Row.off (List._∷_ Row.off (List._∷_ Row.off List.[]))))))))))))))))))) }
+        G56 = record { locals = List._++_ g42 (List._++_ t1 (List._++_ t2 t3)); slots = List._∷_ (Row.lease (κs .0) (qs .0)) (List._∷_ Row.off (List._∷_ Row.off (List._∷_ Row.off (List._∷_ Row.off (List._∷_ Row.off (List._∷_ Row.off (List._∷_ Row.alive (List._∷_ Row.alive (List._∷_ Row.alive (List._∷_ Row.off (List._∷_ Row.off (List._∷_ Row.off (List._∷_ Row.off (List._∷_ Row.off (List._∷_ Row.off (List._∷_ Row.off (List._∷_ Row.off (List._∷_ Row.off (List._∷_ Row.off List.[]))))))))))))))))))) }
 
         abbrev G57 : Row.Cx
-        G57 = record { locals = List._++_ g39 (List._++_ t1 (List._++_ t2 t3)); slots = List._∷_ (Row.lease (κs .0) (qs .0)) (List._∷_ (Row.lease (κs .1 .0) (qs .1 .0)) (List._∷_ Row.off (List._∷_ Row.off (List._∷_ Row.off (List._∷_ Row.off (List._∷_ Row.off (List._∷_ Row.off (List._∷_ Row.alive (List._∷_ Row.alive (List._∷_ Row.off (List._∷_ Row.off (List._∷_ Row.off (List._∷_ Row.off (List._∷_ Row.off (List._∷_ Row.off (List._∷_ Row.off (List._∷_ Row.off (List._∷_ Row.off (List._∷_ Row.off List.[]))))))))))))))))))) }
+        G57 = record { locals = List._++_ g42 (List._++_ t1 (List._++_ t2 t3)); slots = List._∷_ (Row.lease (κs .0) (qs .0)) (List._∷_ Row.off (List._∷_ Row.off (List._∷_ Row.off (List._∷_ Row.off (List._∷_ Row.off (List._∷_ Row.off (List._∷_ Row.dead (List._∷_ Row.alive (List._∷_ Row.alive (List._∷_ Row.off (List._∷_ Row.off (List._∷_ Row.off (List._∷_ Row.off (List._∷_ Row.off (List._∷_ Row.off (List._∷_ Row.off (List._∷_ Row.off (List._∷_ Row.off (List._∷_ Row.off List.[]))))))))))))))))))) }
 
         abbrev G58 : Row.Cx
-        G58 = record { locals = List._++_ g39 (List._++_ t1 (List._++_ t2 t3)); slots = List._∷_ (Row.lease (κs .0) (qs .0)) (List._∷_ (Row.lease (κs .1 .0) (qs .1 .0)) (List._∷_ Row.off (List._∷_ Row.off (List._∷_ Row.off (List._∷_ Row.off (List._∷_ Row.off (List._∷_ Row.off (List._∷_ Row.dead (List._∷_ Row.alive (List._∷_ Row.off (List._∷_ Row.off (List._∷_ Row.off (List._∷_ Row.off (List._∷_ Row.off (List._∷_ Row.off (List._∷_ Row.off (List._∷_ Row.off (List._∷_ Row.off (List._∷_ Row.off List.[]))))))))))))))))))) }
+        G58 = record { locals = List._++_ g43 (List._++_ t1 (List._++_ t2 t3)); slots = List._∷_ (Row.lease (κs .0) (qs .0)) (List._∷_ (Row.lease (κs .1 .0) (qs .1 .0)) (List._∷_ Row.off (List._∷_ Row.off (List._∷_ Row.off (List._∷_ Row.off (List._∷_ Row.off (List._∷_ Row.dead (List._∷_ Row.alive (List._∷_ Row.alive (List._∷_ Row.off (List._∷_ Row.off (List._∷_ Row.off (List._∷_ Row.off (List._∷_ Row.off (List._∷_ Row.off (List._∷_ Row.off (List._∷_ Row.off (List._∷_ Row.off (List._∷_ Row.off List.[]))))))))))))))))))) }
 
         abbrev G59 : Row.Cx
-        G59 = record { locals = List._++_ g40 (List._++_ t1 (List._++_ t2 t3)); slots = List._∷_ (Row.lease (κs .0) (qs .0)) (List._∷_ (Row.lease (κs .1 .0) (qs .1 .0)) (List._∷_ (Row.lease (κs .1 .1 .0) (qs .1 .1 .0)) (List._∷_ Row.off (List._∷_ Row.off (List._∷_ Row.off (List._∷_ Row.off (List._∷_ Row.off (List._∷_ Row.dead (List._∷_ Row.alive (List._∷_ Row.off (List._∷_ Row.off (List._∷_ Row.off (List._∷_ Row.off (List._∷_ Row.off (List._∷_ Row.off (List._∷_ Row.off (List._∷_ Row.off (List._∷_ Row.off (List._∷_ Row.off List.[]))))))))))))))))))) }
+        G59 = record { locals = List._++_ g43 (List._++_ t1 (List._++_ t2 t3)); slots = List._∷_ (Row.lease (κs .0) (qs .0)) (List._∷_ (Row.lease (κs .1 .0) (qs .1 .0)) (List._∷_ Row.off (List._∷_ Row.off (List._∷_ Row.off (List._∷_ Row.off (List._∷_ Row.off (List._∷_ Row.off (List._∷_ Row.alive (List._∷_ Row.alive (List._∷_ Row.off (List._∷_ Row.off (List._∷_ Row.off (List._∷_ Row.off (List._∷_ Row.off (List._∷_ Row.off (List._∷_ Row.off (List._∷_ Row.off (List._∷_ Row.off (List._∷_ Row.off List.[]))))))))))))))))))) }
 
         abbrev G60 : Row.Cx
-        G60 = record { locals = List._++_ g40 (List._++_ t1 (List._++_ t2 t3)); slots = List._∷_ (Row.lease (κs .0) (qs .0)) (List._∷_ (Row.lease (κs .1 .0) (qs .1 .0)) (List._∷_ (Row.lease (κs .1 .1 .0) (qs .1 .1 .0)) (List._∷_ Row.off (List._∷_ Row.off (List._∷_ Row.off (List._∷_ Row.off (List._∷_ Row.off (List._∷_ Row.off (List._∷_ Row.alive (List._∷_ Row.off (List._∷_ Row.off (List._∷_ Row.off (List._∷_ Row.off (List._∷_ Row.off (List._∷_ Row.off (List._∷_ Row.off (List._∷_ Row.off (List._∷_ Row.off (List._∷_ Row.off List.[]))))))))))))))))))) }
+        G60 = record { locals = List._++_ g43 (List._++_ t1 (List._++_ t2 t3)); slots = List._∷_ (Row.lease (κs .0) (qs .0)) (List._∷_ (Row.lease (κs .1 .0) (qs .1 .0)) (List._∷_ Row.off (List._∷_ Row.off (List._∷_ Row.off (List._∷_ Row.off (List._∷_ Row.off (List._∷_ Row.off (List._∷_ Row.dead (List._∷_ Row.alive (List._∷_ Row.off (List._∷_ Row.off (List._∷_ Row.off (List._∷_ Row.off (List._∷_ Row.off (List._∷_ Row.off (List._∷_ Row.off (List._∷_ Row.off (List._∷_ Row.off (List._∷_ Row.off List.[]))))))))))))))))))) }
 
         abbrev G61 : Row.Cx
-        G61 = record { locals = List._++_ g40 (List._++_ t1 (List._++_ t2 t3)); slots = List._∷_ (Row.lease (κs .0) (qs .0)) (List._∷_ (Row.lease (κs .1 .0) (qs .1 .0)) (List._∷_ (Row.lease (κs .1 .1 .0) (qs .1 .1 .0)) (List._∷_ Row.off (List._∷_ Row.off (List._∷_ Row.off (List._∷_ Row.off (List._∷_ Row.off (List._∷_ Row.off (List._∷_ Row.dead (List._∷_ Row.off (List._∷_ Row.off (List._∷_ Row.off (List._∷_ Row.off (List._∷_ Row.off (List._∷_ Row.off (List._∷_ Row.off (List._∷_ Row.off (List._∷_ Row.off (List._∷_ Row.off List.[]))))))))))))))))))) }
+        G61 = record { locals = List._++_ g44 (List._++_ t1 (List._++_ t2 t3)); slots = List._∷_ (Row.lease (κs .0) (qs .0)) (List._∷_ (Row.lease (κs .1 .0) (qs .1 .0)) (List._∷_ (Row.lease (κs .1 .1 .0) (qs .1 .1 .0)) (List._∷_ Row.off (List._∷_ Row.off (List._∷_ Row.off (List._∷_ Row.off (List._∷_ Row.off (List._∷_ Row.dead (List._∷_ Row.alive (List._∷_ Row.off (List._∷_ Row.off (List._∷_ Row.off (List._∷_ Row.off (List._∷_ Row.off (List._∷_ Row.off (List._∷_ Row.off (List._∷_ Row.off (List._∷_ Row.off (List._∷_ Row.off List.[]))))))))))))))))))) }
 
         abbrev G62 : Row.Cx
-        G62 = record { locals = List._++_ t0 (List._++_ t1 (List._++_ t2 t3)); slots = List._∷_ (Row.lease (κs .0) (qs .0)) (List._∷_ (Row.lease (κs .1 .0) (qs .1 .0)) (List._∷_ (Row.lease (κs .1 .1 .0) (qs .1 .1 .0)) (List._∷_ (Row.lease (κs .1 .1 .1 .0) (qs .1 .1 .1 .0)) (List._∷_ Row.off (List._∷_ Row.off (List._∷_ Row.off (List._∷_ Row.off (List._∷_ Row.off (List._∷_ Row.dead (List._∷_ Row.off (List._∷_ Row.off (List._∷_ Row.off (List._∷_ Row.off (List._∷_ Row.off (List._∷_ Row.off (List._∷_ Row.off (List._∷_ Row.off (List._∷_ Row.off (List._∷_ Row.off List.[]))))))))))))))))))) }
+        G62 = record { locals = List._++_ g44 (List._++_ t1 (List._++_ t2 t3)); slots = List._∷_ (Row.lease (κs .0) (qs .0)) (List._∷_ (Row.lease (κs .1 .0) (qs .1 .0)) (List._∷_ (Row.lease (κs .1 .1 .0) (qs .1 .1 .0)) (List._∷_ Row.off (List._∷_ Row.off (List._∷_ Row.off (List._∷_ Row.off (List._∷_ Row.off (List._∷_ Row.off (List._∷_ Row.alive (List._∷_ Row.off (List._∷_ Row.off (List._∷_ Row.off (List._∷_ Row.off (List._∷_ Row.off (List._∷_ Row.off (List._∷_ Row.off (List._∷_ Row.off (List._∷_ Row.off (List._∷_ Row.off List.[]))))))))))))))))))) }
 
         abbrev G63 : Row.Cx
-        G63 = record { locals = List._++_ t0 (List._++_ t1 (List._++_ t2 t3)); slots = List._∷_ (Row.lease (κs .0) (qs .0)) (List._∷_ (Row.lease (κs .1 .0) (qs .1 .0)) (List._∷_ (Row.lease (κs .1 .1 .0) (qs .1 .1 .0)) (List._∷_ (Row.lease (κs .1 .1 .1 .0) (qs .1 .1 .1 .0)) (List._∷_ Row.off (List._∷_ Row.off (List._∷_ Row.off (List._∷_ Row.off (List._∷_ Row.off (List._∷_ Row.off (List._∷_ Row.off (List._∷_ Row.off (List._∷_ Row.off (List._∷_ Row.off (List._∷_ Row.off (List._∷_ Row.off (List._∷_ Row.off (List._∷_ Row.off (List._∷_ Row.off (List._∷_ Row.off List.[]))))))))))))))))))) }
+        G63 = record { locals = List._++_ g44 (List._++_ t1 (List._++_ t2 t3)); slots = List._∷_ (Row.lease (κs .0) (qs .0)) (List._∷_ (Row.lease (κs .1 .0) (qs .1 .0)) (List._∷_ (Row.lease (κs .1 .1 .0) (qs .1 .1 .0)) (List._∷_ Row.off (List._∷_ Row.off (List._∷_ Row.off (List._∷_ Row.off (List._∷_ Row.off (List._∷_ Row.off (List._∷_ Row.dead (List._∷_ Row.off (List._∷_ Row.off (List._∷_ Row.off (List._∷_ Row.off (List._∷_ Row.off (List._∷_ Row.off (List._∷_ Row.off (List._∷_ Row.off (List._∷_ Row.off (List._∷_ Row.off List.[]))))))))))))))))))) }
 
         abbrev G64 : Row.Cx
-        G64 = record { locals = List._++_ t41 (List._++_ t1 (List._++_ t2 t3)); slots = List._∷_ (Row.lease (κs .0) (qs .0)) (List._∷_ (Row.lease (κs .1 .0) (qs .1 .0)) (List._∷_ (Row.lease (κs .1 .1 .0) (qs .1 .1 .0)) (List._∷_ (Row.lease (κs .1 .1 .1 .0) (qs .1 .1 .1 .0)) (List._∷_ Row.off (List._∷_ Row.off (List._∷_ Row.off (List._∷_ Row.off (List._∷_ Row.off (List._∷_ Row.off (List._∷_ Row.off (List._∷_ Row.off (List._∷_ Row.off (List._∷_ Row.off (List._∷_ Row.off (List._∷_ Row.off (List._∷_ Row.off (List._∷_ Row.off (List._∷_ Row.off (List._∷_ Row.off List.[]))))))))))))))))))) }
+        G64 = record { locals = List._++_ t0 (List._++_ t1 (List._++_ t2 t3)); slots = List._∷_ (Row.lease (κs .0) (qs .0)) (List._∷_ (Row.lease (κs .1 .0) (qs .1 .0)) (List._∷_ (Row.lease (κs .1 .1 .0) (qs .1 .1 .0)) (List._∷_ (Row.lease (κs .1 .1 .1 .0) (qs .1 .1 .1 .0)) (List._∷_ Row.off (List._∷_ Row.off (List._∷_ Row.off (List._∷_ Row.off (List._∷_ Row.off (List._∷_ Row.dead (List._∷_ Row.off (List._∷_ Row.off (List._∷_ Row.off (List._∷_ Row.off (List._∷_ Row.off (List._∷_ Row.off (List._∷_ Row.off (List._∷_ Row.off (List._∷_ Row.off (List._∷_ Row.off List.[]))))))))))))))))))) }
 
         abbrev G65 : Row.Cx
-        G65 = record { locals = List._++_ t41 (List._++_ t1 (List._++_ t2 t3)); slots = List._∷_ (Row.lease (κs .0) (qs .0)) (List._∷_ (Row.lease (κs .1 .0) (qs .1 .0)) (List._∷_ (Row.lease (κs .1 .1 .0) (qs .1 .1 .0)) (List._∷_ (Row.lease (κs .1 .1 .1 .0) (qs .1 .1 .1 .0)) (List._∷_ Row.off (List._∷_ Row.off (List._∷_ Row.off (List._∷_ Row.off (List._∷_ Row.off (List._∷_ Row.off (List._∷_ Row.off (List._∷_ Row.off (List._∷_ Row.off (List._∷_ Row.off (List._∷_ Row.off (List._∷_ Row.off (List._∷_ Row.off (List._∷_ Row.off (List._∷_ Row.off (List._∷_ Row.off List.[]))))))))))))))))))) }
+        G65 = record { locals = List._++_ t0 (List._++_ t1 (List._++_ t2 t3)); slots = List._∷_ (Row.lease (κs .0) (qs .0)) (List._∷_ (Row.lease (κs .1 .0) (qs .1 .0)) (List._∷_ (Row.lease (κs .1 .1 .0) (qs .1 .1 .0)) (List._∷_ (Row.lease (κs .1 .1 .1 .0) (qs .1 .1 .1 .0)) (List._∷_ Row.off (List._∷_ Row.off (List._∷_ Row.off (List._∷_ Row.off (List._∷_ Row.off (List._∷_ Row.off (List._∷_ Row.off (List._∷_ Row.off (List._∷_ Row.off (List._∷_ Row.off (List._∷_ Row.off (List._∷_ Row.off (List._∷_ Row.off (List._∷_ Row.off (List._∷_ Row.off (List._∷_ Row.off List.[]))))))))))))))))))) }
 
         abbrev G66 : Row.Cx
-        G66 = record { locals = List._++_ t42 (List._++_ t1 (List._++_ t2 t3)); slots = List._∷_ (Row.lease (κs .0) (qs .0)) (List._∷_ (Row.lease (κs .1 .0) (qs .1 .0)) (List._∷_ (Row.lease (κs .1 .1 .0) (qs .1 .1 .0)) (List._∷_ (Row.lease (κs .1 .1 .1 .0) (qs .1 .1 .1 .0)) (List._∷_ Row.off (List._∷_ Row.off (List._∷_ Row.off (List._∷_ Row.off (List._∷_ Row.off (List._∷_ Row.off (List._∷_ Row.off (List._∷_ Row.off (List._∷_ Row.off (List._∷_ Row.off (List._∷_ Row.off (List._∷_ Row.off (List._∷_ Row.off (List._∷_ Row.off (List._∷_ Row.off (List._∷_ Row.off List.[]))))))))))))))))))) }
+        G66 = record { locals = List._++_ t45 (List._++_ t1 (List._++_ t2 t3)); slots = List._∷_ (Row.lease (κs .0) (qs .0)) (List._∷_ (Row.lease (κs .1 .0) (qs .1 .0)) (List._∷_ (Row.lease (κs .1 .1 .0) (qs .1 .1 .0)) (List._∷_ (Row.lease (κs .1 .1 .1 .0) (qs .1 .1 .1 .0)) (List._∷_ Row.off (List._∷_ Row.off (List._∷_ Row.off (List._∷_ Row.off (List._∷_ Row.off (List._∷_ Row.off (List._∷_ Row.off (List._∷_ Row.off (List._∷_ Row.off (List._∷_ Row.off (List._∷_ Row.off (List._∷_ Row.off (List._∷_ Row.off (List._∷_ Row.off (List._∷_ Row.off (List._∷_ Row.off List.[]))))))))))))))))))) }
 
         abbrev G67 : Row.Cx
-        G67 = record { locals = List._++_ t43 (List._++_ t1 (List._++_ t2 t3)); slots = List._∷_ (Row.lease (κs .0) (qs .0)) (List._∷_ (Row.lease (κs .1 .0) (qs .1 .0)) (List._∷_ (Row.lease (κs .1 .1 .0) (qs .1 .1 .0)) (List._∷_ (Row.lease (κs .1 .1 .1 .0) (qs .1 .1 .1 .0)) (List._∷_ Row.off (List._∷_ Row.off (List._∷_ Row.off (List._∷_ Row.off (List._∷_ Row.off (List._∷_ Row.off (List._∷_ Row.off (List._∷_ Row.off (List._∷_ Row.off (List._∷_ Row.off (List._∷_ Row.off (List._∷_ Row.off (List._∷_ Row.off (List._∷_ Row.off (List._∷_ Row.off (List._∷_ Row.off List.[]))))))))))))))))))) }
+        G67 = record { locals = List._++_ t45 (List._++_ t1 (List._++_ t2 t3)); slots = List._∷_ (Row.lease (κs .0) (qs .0)) (List._∷_ (Row.lease (κs .1 .0) (qs .1 .0)) (List._∷_ (Row.lease (κs .1 .1 .0) (qs .1 .1 .0)) (List._∷_ (Row.lease (κs .1 .1 .1 .0) (qs .1 .1 .1 .0)) (List._∷_ Row.off (List._∷_ Row.off (List._∷_ Row.off (List._∷_ Row.off (List._∷_ Row.off (List._∷_ Row.off (List._∷_ Row.off (List._∷_ Row.off (List._∷_ Row.off (List._∷_ Row.off (List._∷_ Row.off (List._∷_ Row.off (List._∷_ Row.off (List._∷_ Row.off (List._∷_ Row.off (List._∷_ Row.off List.[]))))))))))))))))))) }
 
         abbrev G68 : Row.Cx
-        G68 = record { locals = List._++_ t43 (List._++_ t1 (List._++_ t2 t3)); slots = List._∷_ (Row.lease (κs .0) (qs .0)) (List._∷_ (Row.lease (κs .1 .0) (qs .1 .0)) (List._∷_ (Row.lease (κs .1 .1 .0) (qs .1 .1 .0)) (List._∷_ (Row.lease (κs .1 .1 .1 .0) (qs .1 .1 .1 .0)) (List._∷_ Row.off (List._∷_ Row.off (List._∷_ Row.off (List._∷_ Row.off (List._∷_ Row.off (List._∷_ Row.off (List._∷_ Row.alive (List._∷_ Row.off (List._∷_ Row.off (List._∷_ Row.off (List._∷_ Row.off (List._∷_ Row.off (List._∷_ Row.off (List._∷_ Row.off (List._∷_ Row.off (List._∷_ Row.off List.[]))))))))))))))))))) }
+        G68 = record { locals = List._++_ t46 (List._++_ t1 (List._++_ t2 t3)); slots = List._∷_ (Row.lease (κs .0) (qs .0)) (List._∷_ (Row.lease (κs .1 .0) (qs .1 .0)) (List._∷_ (Row.lease (κs .1 .1 .0) (qs .1 .1 .0)) (List._∷_ (Row.lease (κs .1 .1 .1 .0) (qs .1 .1 .1 .0)) (List._∷_ Row.off (List._∷_ Row.off (List._∷_ Row.off (List._∷_ Row.off (List._∷_ Row.off (List._∷_ Row.off (List._∷_ Row.off (List._∷_ Row.off (List._∷_ Row.off (List._∷_ Row.off (List._∷_ Row.off (List._∷_ Row.off (List._∷_ Row.off (List._∷_ Row.off (List._∷_ Row.off (List._∷_ Row.off List.[]))))))))))))))))))) }
 
         abbrev G69 : Row.Cx
-        G69 = record { locals = List._++_ t44 (List._++_ t45 (List._++_ t2 t3)); slots = List._∷_ (Row.lease (κs .0) (qs .0)) (List._∷_ (Row.lease (κs .1 .0) (qs .1 .0)) (List._∷_ (Row.lease (κs .1 .1 .0) (qs .1 .1 .0)) (List._∷_ (Row.lease (κs .1 .1 .1 .0) (qs .1 .1 .1 .0)) (List._∷_ Row.off (List._∷_ Row.off (List._∷_ Row.off (List._∷_ Row.off (List._∷_ Row.off (List._∷_ Row.off (List._∷_ Row.alive (List._∷_ Row.off (List._∷_ Row.off (List._∷_ Row.off (List._∷_ Row.off (List._∷_ Row.off (List._∷_ Row.off (List._∷_ Row.off (List._∷_ Row.off (List._∷_ Row.off List.[]))))))))))))))))))) }
+        G69 = record { locals = List._++_ t47 (List._++_ t1 (List._++_ t2 t3)); slots = List._∷_ (Row.lease (κs .0) (qs .0)) (List._∷_ (Row.lease (κs .1 .0) (qs .1 .0)) (List._∷_ (Row.lease (κs .1 .1 .0) (qs .1 .1 .0)) (List._∷_ (Row.lease (κs .1 .1 .1 .0) (qs .1 .1 .1 .0)) (List._∷_ Row.off (List._∷_ Row.off (List._∷_ Row.off (List._∷_ Row.off (List._∷_ Row.off (List._∷_ Row.off (List._∷_ Row.off (List._∷_ Row.off (List._∷_ Row.off (List._∷_ Row.off (List._∷_ Row.off (List._∷_ Row.off (List._∷_ Row.off (List._∷_ Row.off (List._∷_ Row.off (List._∷_ Row.off List.[]))))))))))))))))))) }
 
         abbrev G70 : Row.Cx
-        G70 = record { locals = List._++_ t44 (List._++_ t46 (List._++_ t2 t3)); slots = List._∷_ (Row.lease (κs .0) (qs .0)) (List._∷_ (Row.lease (κs .1 .0) (qs .1 .0)) (List._∷_ (Row.lease (κs .1 .1 .0) (qs .1 .1 .0)) (List._∷_ (Row.lease (κs .1 .1 .1 .0) (qs .1 .1 .1 .0)) (List._∷_ Row.off (List._∷_ Row.off (List._∷_ Row.off (List._∷_ Row.off (List._∷_ Row.off (List._∷_ Row.off (List._∷_ Row.alive (List._∷_ Row.off (List._∷_ Row.off (List._∷_ Row.off (List._∷_ Row.off (List._∷_ Row.off (List._∷_ Row.off (List._∷_ Row.off (List._∷_ Row.off (List._∷_ Row.off List.[]))))))))))))))))))) }
+        G70 = record { locals = List._++_ t47 (List._++_ t1 (List._++_ t2 t3)); slots = List._∷_ (Row.lease (κs .0) (qs .0)) (List._∷_ (Row.lease (κs .1 .0) (qs .1 .0)) (List._∷_ (Row.lease (κs .1 .1 .0) (qs .1 .1 .0)) (List._∷_ (Row.lease (κs .1 .1 .1 .0) (qs .1 .1 .1 .0)) (List._∷_ Row.off (List._∷_ Row.off (List._∷_ Row.off (List._∷_ Row.off (List._∷_ Row.off (List._∷_ Row.off (List._∷_ Row.alive (List._∷_ Row.off (List._∷_ Row.off (List._∷_ Row.off (List._∷_ Row.off (List._∷_ Row.off (List._∷_ Row.off (List._∷_ Row.off (List._∷_ Row.off (List._∷_ Row.off List.[]))))))))))))))))))) }
 
         abbrev G71 : Row.Cx
-        G71 = record { locals = List._++_ t44 (List._++_ t47 (List._++_ t2 t3)); slots = List._∷_ (Row.lease (κs .0) (qs .0)) (List._∷_ (Row.lease (κs .1 .0) (qs .1 .0)) (List._∷_ (Row.lease (κs .1 .1 .0) (qs .1 .1 .0)) (List._∷_ (Row.lease (κs .1 .1 .1 .0) (qs .1 .1 .1 .0)) (List._∷_ Row.off (List._∷_ Row.off (List._∷_ Row.off (List._∷_ Row.off (List._∷_ Row.off (List._∷_ Row.off (List._∷_ Row.alive (List._∷_ Row.off (List._∷_ Row.off (List._∷_ Row.off (List._∷_ Row.off (List._∷_ Row.off (List._∷_ Row.off (List._∷_ Row.off (List._∷_ Row.off (List._∷_ Row.off List.[]))))))))))))))))))) }
+        G71 = record { locals = List._++_ t48 (List._++_ t49 (List._++_ t2 t3)); slots = List._∷_ (Row.lease (κs .0) (qs .0)) (List._∷_ (Row.lease (κs .1 .0) (qs .1 .0)) (List._∷_ (Row.lease (κs .1 .1 .0) (qs .1 .1 .0)) (List._∷_ (Row.lease (κs .1 .1 .1 .0) (qs .1 .1 .1 .0)) (List._∷_ Row.off (List._∷_ Row.off (List._∷_ Row.off (List._∷_ Row.off (List._∷_ Row.off (List._∷_ Row.off (List._∷_ Row.alive (List._∷_ Row.off (List._∷_ Row.off (List._∷_ Row.off (List._∷_ Row.off (List._∷_ Row.off (List._∷_ Row.off (List._∷_ Row.off (List._∷_ Row.off (List._∷_ Row.off List.[]))))))))))))))))))) }
 
         abbrev G72 : Row.Cx
-        G72 = record { locals = List._++_ t44 (List._++_ t48 (List._++_ t2 t3)); slots = List._∷_ (Row.lease (κs .0) (qs .0)) (List._∷_ (Row.lease (κs .1 .0) (qs .1 .0)) (List._∷_ (Row.lease (κs .1 .1 .0) (qs .1 .1 .0)) (List._∷_ (Row.lease (κs .1 .1 .1 .0) (qs .1 .1 .1 .0)) (List._∷_ Row.off (List._∷_ Row.off (List._∷_ Row.off (List._∷_ Row.off (List._∷_ Row.off (List._∷_ Row.off (List._∷_ Row.alive (List._∷_ Row.off (List._∷_ Row.off (List._∷_ Row.off (List._∷_ Row.off (List._∷_ Row.off (List._∷_ Row.off (List._∷_ Row.off (List._∷_ Row.off (List._∷_ Row.off List.[]))))))))))))))))))) }
+        G72 = record { locals = List._++_ t48 (List._++_ t50 (List._++_ t2 t3)); slots = List._∷_ (Row.lease (κs .0) (qs .0)) (List._∷_ (Row.lease (κs .1 .0) (qs .1 .0)) (List._∷_ (Row.lease (κs .1 .1 .0) (qs .1 .1 .0)) (List._∷_ (Row.lease (κs .1 .1 .1 .0) (qs .1 .1 .1 .0)) (List._∷_ Row.off (List._∷_ Row.off (List._∷_ Row.off (List._∷_ Row.off (List._∷_ Row.off (List._∷_ Row.off (List._∷_ Row.alive (List._∷_ Row.off (List._∷_ Row.off (List._∷_ Row.off (List._∷_ Row.off (List._∷_ Row.off (List._∷_ Row.off (List._∷_ Row.off (List._∷_ Row.off (List._∷_ Row.off List.[]))))))))))))))))))) }
 
         abbrev G73 : Row.Cx
-        G73 = record { locals = List._++_ t44 (List._++_ t1 (List._++_ t2 t3)); slots = List._∷_ (Row.lease (κs .0) (qs .0)) (List._∷_ (Row.lease (κs .1 .0) (qs .1 .0)) (List._∷_ (Row.lease (κs .1 .1 .0) (qs .1 .1 .0)) (List._∷_ (Row.lease (κs .1 .1 .1 .0) (qs .1 .1 .1 .0)) (List._∷_ Row.off (List._∷_ Row.off (List._∷_ Row.off (List._∷_ Row.off (List._∷_ Row.off (List._∷_ Row.off (List._∷_ Row.alive (List._∷_ Row.off (List._∷_ Row.off (List._∷_ Row.off (List._∷_ Row.off (List._∷_ Row.off (List._∷_ Row.off (List._∷_ Row.off (List._∷_ Row.off (List._∷_ Row.off List.[]))))))))))))))))))) }
+        G73 = record { locals = List._++_ t48 (List._++_ t51 (List._++_ t2 t3)); slots = List._∷_ (Row.lease (κs .0) (qs .0)) (List._∷_ (Row.lease (κs .1 .0) (qs .1 .0)) (List._∷_ (Row.lease (κs .1 .1 .0) (qs .1 .1 .0)) (List._∷_ (Row.lease (κs .1 .1 .1 .0) (qs .1 .1 .1 .0)) (List._∷_ Row.off (List._∷_ Row.off (List._∷_ Row.off (List._∷_ Row.off (List._∷_ Row.off (List._∷_ Row.off (List._∷_ Row.alive (List._∷_ Row.off (List._∷_ Row.off (List._∷_ Row.off (List._∷_ Row.off (List._∷_ Row.off (List._∷_ Row.off (List._∷_ Row.off (List._∷_ Row.off (List._∷_ Row.off List.[]))))))))))))))))))) }
 
         abbrev G74 : Row.Cx
-        G74 = record { locals = List._++_ t44 (List._++_ t1 (List._++_ t2 t3)); slots = List._∷_ (Row.lease (κs .0) (qs .0)) (List._∷_ (Row.lease (κs .1 .0) (qs .1 .0)) (List._∷_ (Row.lease (κs .1 .1 .0) (qs .1 .1 .0)) (List._∷_ (Row.lease (κs .1 .1 .1 .0) (qs .1 .1 .1 .0)) (List._∷_ Row.off (List._∷_ Row.off (List._∷_ Row.off (List._∷_ Row.off (List._∷_ Row.off (List._∷_ Row.off (List._∷_ Row.dead (List._∷_ Row.off (List._∷_ Row.off (List._∷_ Row.off (List._∷_ Row.off (List._∷_ Row.off (List._∷_ Row.off (List._∷_ Row.off (List._∷_ Row.off (List._∷_ Row.off List.[]))))))))))))))))))) }
+        G74 = record { locals = List._++_ t48 (List._++_ t52 (List._++_ t2 t3)); slots = List._∷_ (Row.lease (κs .0) (qs .0)) (List._∷_ (Row.lease (κs .1 .0) (qs .1 .0)) (List._∷_ (Row.lease (κs .1 .1 .0) (qs .1 .1 .0)) (List._∷_ (Row.lease (κs .1 .1 .1 .0) (qs .1 .1 .1 .0)) (List._∷_ Row.off (List._∷_ Row.off (List._∷_ Row.off (List._∷_ Row.off (List._∷_ Row.off (List._∷_ Row.off (List._∷_ Row.alive (List._∷_ Row.off (List._∷_ Row.off (List._∷_ Row.off (List._∷_ Row.off (List._∷_ Row.off (List._∷_ Row.off (List._∷_ Row.off (List._∷_ Row.off (List._∷_ Row.off List.[]))))))))))))))))))) }
 
         abbrev G75 : Row.Cx
-        G75 = record { locals = List._++_ t43 (List._++_ t1 (List._++_ t2 t3)); slots = List._∷_ (Row.lease (κs .0) (qs .0)) (List._∷_ (Row.lease (κs .1 .0) (qs .1 .0)) (List._∷_ (Row.lease (κs .1 .1 .0) (qs .1 .1 .0)) (List._∷_ (Row.lease (κs .1 .1 .1 .0) (qs .1 .1 .1 .0)) (List._∷_ Row.off (List._∷_ Row.off (List._∷_ Row.off (List._∷_ Row.off (List._∷_ Row.off (List._∷_ Row.off (List._∷_ Row.dead (List._∷_ Row.off (List._∷_ Row.off (List._∷_ Row.off (List._∷_ Row.off (List._∷_ Row.off (List._∷_ Row.off (List._∷_ Row.off (List._∷_ Row.off (List._∷_ Row.off List.[]))))))))))))))))))) }
+        G75 = record { locals = List._++_ t48 (List._++_ t1 (List._++_ t2 t3)); slots = List._∷_ (Row.lease (κs .0) (qs .0)) (List._∷_ (Row.lease (κs .1 .0) (qs .1 .0)) (List._∷_ (Row.lease (κs .1 .1 .0) (qs .1 .1 .0)) (List._∷_ (Row.lease (κs .1 .1 .1 .0) (qs .1 .1 .1 .0)) (List._∷_ Row.off (List._∷_ Row.off (List._∷_ Row.off (List._∷_ Row.off (List._∷_ Row.off (List._∷_ Row.off (List._∷_ Row.alive (List._∷_ Row.off (List._∷_ Row.off (List._∷_ Row.off (List._∷_ Row.off (List._∷_ Row.off (List._∷_ Row.off (List._∷_ Row.off (List._∷_ Row.off (List._∷_ Row.off List.[]))))))))))))))))))) }
 
         abbrev G76 : Row.Cx
-        G76 = record { locals = List._++_ t43 (List._++_ t1 (List._++_ t2 t3)); slots = List._∷_ (Row.lease (κs .0) (qs .0)) (List._∷_ (Row.lease (κs .1 .0) (qs .1 .0)) (List._∷_ (Row.lease (κs .1 .1 .0) (qs .1 .1 .0)) (List._∷_ (Row.lease (κs .1 .1 .1 .0) (qs .1 .1 .1 .0)) (List._∷_ Row.off (List._∷_ Row.off (List._∷_ Row.off (List._∷_ Row.off (List._∷_ Row.off (List._∷_ Row.off (List._∷_ Row.off (List._∷_ Row.off (List._∷_ Row.off (List._∷_ Row.off (List._∷_ Row.off (List._∷_ Row.off (List._∷_ Row.off (List._∷_ Row.off (List._∷_ Row.off (List._∷_ Row.off List.[]))))))))))))))))))) }
+        G76 = record { locals = List._++_ t48 (List._++_ t1 (List._++_ t2 t3)); slots = List._∷_ (Row.lease (κs .0) (qs .0)) (List._∷_ (Row.lease (κs .1 .0) (qs .1 .0)) (List._∷_ (Row.lease (κs .1 .1 .0) (qs .1 .1 .0)) (List._∷_ (Row.lease (κs .1 .1 .1 .0) (qs .1 .1 .1 .0)) (List._∷_ Row.off (List._∷_ Row.off (List._∷_ Row.off (List._∷_ Row.off (List._∷_ Row.off (List._∷_ Row.off (List._∷_ Row.dead (List._∷_ Row.off (List._∷_ Row.off (List._∷_ Row.off (List._∷_ Row.off (List._∷_ Row.off (List._∷_ Row.off (List._∷_ Row.off (List._∷_ Row.off (List._∷_ Row.off List.[]))))))))))))))))))) }
 
         abbrev G77 : Row.Cx
-        G77 = record { locals = List._++_ t49 (List._++_ t1 (List._++_ t2 t3)); slots = List._∷_ (Row.lease (κs .0) (qs .0)) (List._∷_ (Row.lease (κs .1 .0) (qs .1 .0)) (List._∷_ (Row.lease (κs .1 .1 .0) (qs .1 .1 .0)) (List._∷_ (Row.lease (κs .1 .1 .1 .0) (qs .1 .1 .1 .0)) (List._∷_ Row.off (List._∷_ Row.off (List._∷_ Row.off (List._∷_ Row.off (List._∷_ Row.off (List._∷_ Row.off (List._∷_ Row.off (List._∷_ Row.off (List._∷_ Row.off (List._∷_ Row.off (List._∷_ Row.off (List._∷_ Row.off (List._∷_ Row.off (List._∷_ Row.off (List._∷_ Row.off (List._∷_ Row.off List.[]))))))))))))))))))) }
+        G77 = record { locals = List._++_ t47 (List._++_ t1 (List._++_ t2 t3)); slots = List._∷_ (Row.lease (κs .0) (qs .0)) (List._∷_ (Row.lease (κs .1 .0) (qs .1 .0)) (List._∷_ (Row.lease (κs .1 .1 .0) (qs .1 .1 .0)) (List._∷_ (Row.lease (κs .1 .1 .1 .0) (qs .1 .1 .1 .0)) (List._∷_ Row.off (List._∷_ Row.off (List._∷_ Row.off (List._∷_ Row.off (List._∷_ Row.off (List._∷_ Row.off (List._∷_ Row.dead (List._∷_ Row.off (List._∷_ Row.off (List._∷_ Row.off (List._∷_ Row.off (List._∷_ Row.off (List._∷_ Row.off (List._∷_ Row.off (List._∷_ Row.off (List._∷_ Row.off List.[]))))))))))))))))))) }
 
         abbrev G78 : Row.Cx
-        G78 = record { locals = List._++_ t49 (List._++_ t50 (List._++_ t2 t3)); slots = List._∷_ (Row.lease (κs .0) (qs .0)) (List._∷_ (Row.lease (κs .1 .0) (qs .1 .0)) (List._∷_ (Row.lease (κs .1 .1 .0) (qs .1 .1 .0)) (List._∷_ (Row.lease (κs .1 .1 .1 .0) (qs .1 .1 .1 .0)) (List._∷_ Row.off (List._∷_ Row.off (List._∷_ Row.off (List._∷_ Row.off (List._∷_ Row.off (List._∷_ Row.off (List._∷_ Row.off (List._∷_ Row.off (List._∷_ Row.off (List._∷_ Row.off (List._∷_ Row.off (List._∷_ Row.off (List._∷_ Row.off (List._∷_ Row.off (List._∷_ Row.off (List._∷_ Row.off List.[]))))))))))))))))))) }
+        G78 = record { locals = List._++_ t47 (List._++_ t1 (List._++_ t2 t3)); slots = List._∷_ (Row.lease (κs .0) (qs .0)) (List._∷_ (Row.lease (κs .1 .0) (qs .1 .0)) (List._∷_ (Row.lease (κs .1 .1 .0) (qs .1 .1 .0)) (List._∷_ (Row.lease (κs .1 .1 .1 .0) (qs .1 .1 .1 .0)) (List._∷_ Row.off (List._∷_ Row.off (List._∷_ Row.off (List._∷_ Row.off (List._∷_ Row.off (List._∷_ Row.off (List._∷_ Row.off (List._∷_ Row.off (List._∷_ Row.off (List._∷_ Row.off (List._∷_ Row.off (List._∷_ Row.off (List._∷_ Row.off (List._∷_ Row.off (List._∷_ Row.off (List._∷_ Row.off List.[]))))))))))))))))))) }
 
         abbrev G79 : Row.Cx
-        G79 = record { locals = List._++_ t49 (List._++_ t1 (List._++_ t2 t3)); slots = List._∷_ (Row.lease (κs .0) (qs .0)) (List._∷_ (Row.lease (κs .1 .0) (qs .1 .0)) (List._∷_ (Row.lease (κs .1 .1 .0) (qs .1 .1 .0)) (List._∷_ (Row.lease (κs .1 .1 .1 .0) (qs .1 .1 .1 .0)) (List._∷_ Row.off (List._∷_ Row.off (List._∷_ Row.off (List._∷_ Row.off (List._∷_ Row.off (List._∷_ Row.off (List._∷_ Row.off (List._∷_ Row.off (List._∷_ Row.off (List._∷_ Row.off (List._∷_ Row.off (List._∷_ Row.off (List._∷_ Row.off (List._∷_ Row.off (List._∷_ Row.off (List._∷_ Row.off List.[]))))))))))))))))))) }
+        G79 = record { locals = List._++_ t53 (List._++_ t1 (List._++_ t2 t3)); slots = List._∷_ (Row.lease (κs .0) (qs .0)) (List._∷_ (Row.lease (κs .1 .0) (qs .1 .0)) (List._∷_ (Row.lease (κs .1 .1 .0) (qs .1 .1 .0)) (List._∷_ (Row.lease (κs .1 .1 .1 .0) (qs .1 .1 .1 .0)) (List._∷_ Row.off (List._∷_ Row.off (List._∷_ Row.off (List._∷_ Row.off (List._∷_ Row.off (List._∷_ Row.off (List._∷_ Row.off (List._∷_ Row.off (List._∷_ Row.off (List._∷_ Row.off (List._∷_ Row.off (List._∷_ Row.off (List._∷_ Row.off (List._∷_ Row.off (List._∷_ Row.off (List._∷_ Row.off List.[]))))))))))))))))))) }
 
         abbrev G80 : Row.Cx
-        G80 = record { locals = List._++_ t49 (List._++_ t1 (List._++_ t2 t3)); slots = List._∷_ (Row.lease (κs .0) (qs .0)) (List._∷_ (Row.lease (κs .1 .0) (qs .1 .0)) (List._∷_ (Row.lease (κs .1 .1 .0) (qs .1 .1 .0)) (List._∷_ (Row.lease (κs .1 .1 .1 .0) (qs .1 .1 .1 .0)) (List._∷_ Row.off (List._∷_ Row.off (List._∷_ Row.off (List._∷_ Row.off (List._∷_ Row.off (List._∷_ Row.off (List._∷_ Row.off (List._∷_ Row.alive (List._∷_ Row.off (List._∷_ Row.off (List._∷_ Row.off (List._∷_ Row.off (List._∷_ Row.off (List._∷_ Row.off (List._∷_ Row.off (List._∷_ Row.off List.[]))))))))))))))))))) }
+        G80 = record { locals = List._++_ t53 (List._++_ t54 (List._++_ t2 t3)); slots = List._∷_ (Row.lease (κs .0) (qs .0)) (List._∷_ (Row.lease (κs .1 .0) (qs .1 .0)) (List._∷_ (Row.lease (κs .1 .1 .0) (qs .1 .1 .0)) (List._∷_ (Row.lease (κs .1 .1 .1 .0) (qs .1 .1 .1 .0)) (List._∷_ Row.off (List._∷_ Row.off (List._∷_ Row.off (List._∷_ Row.off (List._∷_ Row.off (List._∷_ Row.off (List._∷_ Row.off (List._∷_ Row.off (List._∷_ Row.off (List._∷_ Row.off (List._∷_ Row.off (List._∷_ Row.off (List._∷_ Row.off (List._∷_ Row.off (List._∷_ Row.off (List._∷_ Row.off List.[]))))))))))))))))))) }
 
         abbrev G81 : Row.Cx
-        G81 = record { locals = List._++_ g51 (List._++_ t52 (List._++_ t2 t3)); slots = List._∷_ (Row.lease (κs .0) (qs .0)) (List._∷_ Row.off (List._∷_ (Row.lease (κs .1 .1 .0) (qs .1 .1 .0)) (List._∷_ (Row.lease (κs .1 .1 .1 .0) (qs .1 .1 .1 .0)) (List._∷_ Row.off (List._∷_ Row.off (List._∷_ Row.off (List._∷_ Row.off (List._∷_ Row.off (List._∷_ Row.off (List._∷_ Row.off (List._∷_ Row.alive (List._∷_ Row.off (List._∷_ Row.off (List._∷_ Row.off (List._∷_ Row.off (List._∷_ Row.off (List._∷_ Row.off (List._∷_ Row.off (List._∷_ Row.off List.[]))))))))))))))))))) }
+        G81 = record { locals = List._++_ t53 (List._++_ t1 (List._++_ t2 t3)); slots = List._∷_ (Row.lease (κs .0) (qs .0)) (List._∷_ (Row.lease (κs .1 .0) (qs .1 .0)) (List._∷_ (Row.lease (κs .1 .1 .0) (qs .1 .1 .0)) (List._∷_ (Row.lease (κs .1 .1 .1 .0) (qs .1 .1 .1 .0)) (List._∷_ Row.off (List._∷_ Row.off (List._∷_ Row.off (List._∷_ Row.off (List._∷_ Row.off (List._∷_ Row.off (List._∷_ Row.off (List._∷_ Row.off (List._∷_ Row.off (List._∷_ Row.off (List._∷_ Row.off (List._∷_ Row.off (List._∷_ Row.off (List._∷_ Row.off (List._∷_ Row.off (List._∷_ Row.off List.[]))))))))))))))))))) }
 
         abbrev G82 : Row.Cx
-        G82 = record { locals = List._++_ g51 (List._++_ t1 (List._++_ t53 t3)); slots = List._∷_ (Row.lease (κs .0) (qs .0)) (List._∷_ Row.off (List._∷_ (Row.lease (κs .1 .1 .0) (qs .1 .1 .0)) (List._∷_ (Row.lease (κs .1 .1 .1 .0) (qs .1 .1 .1 .0)) (List._∷_ Row.off (List._∷_ Row.off (List._∷_ Row.off (List._∷_ Row.off (List._∷_ Row.off (List._∷_ Row.off (List._∷_ Row.off (List._∷_ Row.alive (List._∷_ Row.off (List._∷_ Row.off (List._∷_ Row.off (List._∷_ Row.off (List._∷_ Row.off (List._∷_ Row.off (List._∷_ Row.off (List._∷_ Row.off List.[]))))))))))))))))))) }
+        G82 = record { locals = List._++_ t53 (List._++_ t1 (List._++_ t2 t3)); slots = List._∷_ (Row.lease (κs .0) (qs .0)) (List._∷_ (Row.lease (κs .1 .0) (qs .1 .0)) (List._∷_ (Row.lease (κs .1 .1 .0) (qs .1 .1 .0)) (List._∷_ (Row.lease (κs .1 .1 .1 .0) (qs .1 .1 .1 .0)) (List._∷_ Row.off (List._∷_ Row.off (List._∷_ Row.off (List._∷_ Row.off (List._∷_ Row.off (List._∷_ Row.off (List._∷_ Row.off (List._∷_ Row.alive (List._∷_ Row.off (List._∷_ Row.off (List._∷_ Row.off (List._∷_ Row.off (List._∷_ Row.off (List._∷_ Row.off (List._∷_ Row.off (List._∷_ Row.off List.[]))))))))))))))))))) }
 
         abbrev G83 : Row.Cx
-        G83 = record { locals = List._++_ g51 (List._++_ t1 (List._++_ t53 t3)); slots = List._∷_ (Row.lease (κs .0) (qs .0)) (List._∷_ Row.off (List._∷_ (Row.lease (κs .1 .1 .0) (qs .1 .1 .0)) (List._∷_ (Row.lease (κs .1 .1 .1 .0) (qs .1 .1 .1 .0)) (List._∷_ Row.off (List._∷_ Row.off (List._∷_ Row.off (List._∷_ Row.off (List._∷_ Row.off (List._∷_ Row.off (List._∷_ Row.off (List._∷_ Row.alive (List._∷_ Row.alive (List._∷_ Row.off (List._∷_ Row.off (List._∷_ Row.off (List._∷_ Row.off (List._∷_ Row.off (List._∷_ Row.off (List._∷_ Row.off List.[]))))))))))))))))))) }
+        G83 = record { locals = List._++_ g55 (List._++_ t1 (List._++_ t56 t3)); slots = List._∷_ (Row.lease (κs .0) (qs .0)) (List._∷_ Row.off (List._∷_ (Row.lease (κs .1 .1 .0) (qs .1 .1 .0)) (List._∷_ (Row.lease (κs .1 .1 .1 .0) (qs .1 .1 .1 .0)) (List._∷_ Row.off (List._∷_ Row.off (List._∷_ Row.off (List._∷_ Row.off (List._∷_ Row.off (List._∷_ Row.off (List._∷_ Row.off (List._∷_ Row.alive (List._∷_ Row.off (List._∷_ Row.off (List._∷_ Row.off (List._∷_ Row.off (List._∷_ Row.off (List._∷_ Row.off (List._∷_ Row.off (List._∷_ Row.off List.[]))))))))))))))))))) }
 
         abbrev G84 : Row.Cx
-        G84 = record { locals = List._++_ g54 (List._++_ t1 (List._++_ t55 t3)); slots = List._∷_ (Row.lease (κs .0) (qs .0)) (List._∷_ Row.off (List._∷_ Row.off (List._∷_ (Row.lease (κs .1 .1 .1 .0) (qs .1 .1 .1 .0)) (List._∷_ Row.off (List._∷_ Row.off (List._∷_ Row.off (List._∷_ Row.off (List._∷_ Row.off (List._∷_ Row.off (List._∷_ Row.off (List._∷_ Row.alive (List._∷_ Row.alive (List._∷_ Row.off (List._∷_ Row.off (List._∷_ Row.off (List._∷_ Row.off (List._∷_ Row.off (List._∷_ Row.off (List._∷_ Row.off List.[]))))))))))))))))))) }
+        G84 = record { locals = List._++_ g55 (List._++_ t1 (List._++_ t57 t3)); slots = List._∷_ (Row.lease (κs .0) (qs .0)) (List._∷_ Row.off (List._∷_ (Row.lease (κs .1 .1 .0) (qs .1 .1 .0)) (List._∷_ (Row.lease (κs .1 .1 .1 .0) (qs .1 .1 .1 .0)) (List._∷_ Row.off (List._∷_ Row.off (List._∷_ Row.off (List._∷_ Row.off (List._∷_ Row.off (List._∷_ Row.off (List._∷_ Row.off (List._∷_ Row.alive (List._∷_ Row.off (List._∷_ Row.off (List._∷_ Row.off (List._∷_ Row.off (List._∷_ Row.off (List._∷_ Row.off (List._∷_ Row.off (List._∷_ Row.off List.[]))))))))))))))))))) }
 
         abbrev G85 : Row.Cx
-        G85 = record { locals = List._++_ g54 (List._++_ t1 (List._++_ t56 t3)); slots = List._∷_ (Row.lease (κs .0) (qs .0)) (List._∷_ Row.off (List._∷_ Row.off (List._∷_ (Row.lease (κs .1 .1 .1 .0) (qs .1 .1 .1 .0)) (List._∷_ Row.off (List._∷_ Row.off (List._∷_ Row.off (List._∷_ Row.off (List._∷_ Row.off (List._∷_ Row.off (List._∷_ Row.off (List._∷_ Row.alive (List._∷_ Row.alive (List._∷_ Row.off (List._∷_ Row.off (List._∷_ Row.off (List._∷_ Row.off (List._∷_ Row.off (List._∷_ Row.off (List._∷_ Row.off List.[]))))))))))))))))))) }
+        G85 = record { locals = List._++_ g55 (List._++_ t1 (List._++_ t57 t3)); slots = List._∷_ (Row.lease (κs .0) (qs .0)) (List._∷_ Row.off (List._∷_ (Row.lease (κs .1 .1 .0) (qs .1 .1 .0)) (List._∷_ (Row.lease (κs .1 .1 .1 .0) (qs .1 .1 .1 .0)) (List._∷_ Row.off (List._∷_ Row.off (List._∷_ Row.off (List._∷_ Row.off (List._∷_ Row.off (List._∷_ Row.off (List._∷_ Row.off (List._∷_ Row.alive (List._∷_ Row.alive (List._∷_ Row.off (List._∷_ Row.off (List._∷_ Row.off (List._∷_ Row.off (List._∷_ Row.off (List._∷_ Row.off (List._∷_ Row.off List.[]))))))))))))))))))) }
 
         abbrev G86 : Row.Cx
-        G86 = record { locals = List._++_ g54 (List._++_ t1 (List._++_ t56 t3)); slots = List._∷_ (Row.lease (κs .0) (qs .0)) (List._∷_ Row.off (List._∷_ Row.off (List._∷_ (Row.lease (κs .1 .1 .1 .0) (qs .1 .1 .1 .0)) (List._∷_ Row.off (List._∷_ Row.off (List._∷_ Row.off (List._∷_ Row.off (List._∷_ Row.off (List._∷_ Row.off (List._∷_ Row.off (List._∷_ Row.alive (List._∷_ Row.alive (List._∷_ Row.alive (List._∷_ Row.off (List._∷_ Row.off (List._∷_ Row.off (List._∷_ Row.off (List._∷_ Row.off (List._∷_ Row.off List.[]))))))))))))))))))) }
+        G86 = record { locals = List._++_ g58 (List._++_ t1 (List._++_ t59 t3)); slots = List._∷_ (Row.lease (κs .0) (qs .0)) (List._∷_ Row.off (List._∷_ Row.off (List._∷_ (Row.lease (κs .1 .1 .1 .0) (qs .1 .1 .1 .0)) (List._∷_ Row.off (List._∷_ Row.off (List._∷_ Row.off (List._∷_ Row.off (List._∷_ Row.off (List._∷_ Row.off (List._∷_ Row.off (List._∷_ Row.alive (List._∷_ Row.alive (List._∷_ Row.off (List._∷_ Row.off (List._∷_ Row.off (List._∷_ Row.off (List._∷_ Row.off (List._∷_ Row.off (List._∷_ Row.off List.[]))))))))))))))))))) }
 
         abbrev G87 : Row.Cx
-        G87 = record { locals = List._++_ g57 (List._++_ t1 (List._++_ t58 t3)); slots = List._∷_ (Row.lease (κs .0) (qs .0)) (List._∷_ Row.off (List._∷_ Row.off (List._∷_ Row.off (List._∷_ Row.off (List._∷_ Row.off (List._∷_ Row.off (List._∷_ Row.off (List._∷_ Row.off (List._∷_ Row.off (List._∷_ Row.off (List._∷_ Row.alive (List._∷_ Row.alive (List._∷_ Row.alive (List._∷_ Row.off (List._∷_ Row.off (List._∷_ Row.off (List._∷_ Row.off (List._∷_ Row.off (List._∷_ Row.off List.[]))))))))))))))))))) }
+        G87 = record { locals = List._++_ g58 (List._++_ t1 (List._++_ t60 t3)); slots = List._∷_ (Row.lease (κs .0) (qs .0)) (List._∷_ Row.off (List._∷_ Row.off (List._∷_ (Row.lease (κs .1 .1 .1 .0) (qs .1 .1 .1 .0)) (List._∷_ Row.off (List._∷_ Row.off (List._∷_ Row.off (List._∷_ Row.off (List._∷_ Row.off (List._∷_ Row.off (List._∷_ Row.off (List._∷_ Row.alive (List._∷_ Row.alive (List._∷_ Row.off (List._∷_ Row.off (List._∷_ Row.off (List._∷_ Row.off (List._∷_ Row.off (List._∷_ Row.off (List._∷_ Row.off List.[]))))))))))))))))))) }
 
         abbrev G88 : Row.Cx
-        G88 = record { locals = List._++_ g57 (List._++_ t1 (List._++_ t59 t3)); slots = List._∷_ (Row.lease (κs .0) (qs .0)) (List._∷_ Row.off (List._∷_ Row.off (List._∷_ Row.off (List._∷_ Row.off (List._∷_ Row.off (List._∷_ Row.off (List._∷_ Row.off (List._∷_ Row.off (List._∷_ Row.off (List._∷_ Row.off (List._∷_ Row.alive (List._∷_ Row.alive (List._∷_ Row.alive (List._∷_ Row.off (List._∷_ Row.off (List._∷_ Row.off (List._∷_ Row.off (List._∷_ Row.off (List._∷_ Row.off List.[]))))))))))))))))))) }
+        G88 = record { locals = List._++_ g58 (List._++_ t1 (List._++_ t60 t3)); slots = List._∷_ (Row.lease (κs .0) (qs .0)) (List._∷_ Row.off (List._∷_ Row.off (List._∷_ (Row.lease (κs .1 .1 .1 .0) (qs .1 .1 .1 .0)) (List._∷_ Row.off (List._∷_ Row.off (List._∷_ Row.off (List._∷_ Row.off (List._∷_ Row.off (List._∷_ Row.off (List._∷_ Row.off (List._∷_ Row.alive (List._∷_ Row.alive (List._∷_ Row.alive (List._∷_ Row.off (List._∷_ Row.off (List._∷_ Row.off (List._∷_ Row.off (List._∷_ Row.off (List._∷_ Row.off List.[]))))))))))))))))))) }
 
         abbrev G89 : Row.Cx
-        G89 = record { locals = List._++_ g60 (List._++_ t1 (List._++_ t61 t3)); slots = List._∷_ (Row.lease (κs .0) (qs .0)) (List._∷_ Row.off (List._∷_ Row.off (List._∷_ Row.off (List._∷_ Row.off (List._∷_ Row.off (List._∷_ Row.off (List._∷_ Row.off (List._∷_ Row.off (List._∷_ Row.off (List._∷_ Row.off (List._∷_ Row.alive (List._∷_ Row.alive (List._∷_ Row.alive (List._∷_ Row.off (List._∷_ Row.off (List._∷_ Row.off (List._∷_ Row.off (List._∷_ Row.off (List._∷_ Row.off List.[]))))))))))))))))))) }
+        G89 = record { locals = List._++_ g61 (List._++_ t1 (List._++_ t62 t3)); slots = List._∷_ (Row.lease (κs .0) (qs .0)) (List._∷_ Row.off (List._∷_ Row.off (List._∷_ Row.off (List._∷_ Row.off (List._∷_ Row.off (List._∷_ Row.off (List._∷_ Row.off (List._∷_ Row.off (List._∷_ Row.off (List._∷_ Row.off (List._∷_ Row.alive (List._∷_ Row.alive (List._∷_ Row.alive (List._∷_ Row.off (List._∷_ Row.off (List._∷_ Row.off (List._∷_ Row.off (List._∷_ Row.off (List._∷_ Row.off List.[]))))))))))))))))))) }
 
         abbrev G90 : Row.Cx
-        G90 = record { locals = List._++_ g60 (List._++_ t1 (List._++_ t61 t3)); slots = List._∷_ (Row.lease (κs .0) (qs .0)) (List._∷_ Row.off (List._∷_ Row.off (List._∷_ Row.off (List._∷_ Row.off (List._∷_ Row.off (List._∷_ Row.off (List._∷_ Row.off (List._∷_ Row.off (List._∷_ Row.off (List._∷_ Row.off (List._∷_ Row.dead (List._∷_ Row.alive (List._∷_ Row.alive (List._∷_ Row.off (List._∷_ Row.off (List._∷_ Row.off (List._∷_ Row.off (List._∷_ Row.off (List._∷_ Row.off List.[]))))))))))))))))))) }
+        G90 = record { locals = List._++_ g61 (List._++_ t1 (List._++_ t63 t3)); slots = List._∷_ (Row.lease (κs .0) (qs .0)) (List._∷_ Row.off (List._∷_ Row.off (List._∷_ Row.off (List._∷_ Row.off (List._∷_ Row.off (List._∷_ Row.off (List._∷_ Row.off (List._∷_ Row.off (List._∷_ Row.off (List._∷_ Row.off (List._∷_ Row.alive (List._∷_ Row.alive (List._∷_ Row.alive (List._∷_ Row.off (List._∷_ Row.off (List._∷_ Row.off (List._∷_ Row.off (List._∷_ Row.off (List._∷_ Row.off List.[]))))))))))))))))))) }
 
         abbrev G91 : Row.Cx
-        G91 = record { locals = List._++_ g62 (List._++_ t1 (List._++_ t63 t3)); slots = List._∷_ (Row.lease (κs .0) (qs .0)) (List._∷_ (Row.lease (κs .1 .0) (qs .1 .0)) (List._∷_ Row.off (List._∷_ Row.off (List._∷_ Row.off (List._∷_ Row.off (List._∷_ Row.off (List._∷_ Row.off (List._∷_ Row.off (List._∷_ Row.off (List._∷_ Row.off (List._∷_ Row.dead (List._∷_ Row.alive (List._∷_ Row.alive (List._∷_ Row.off (List._∷_ Row.off (List._∷_ Row.off (List._∷_ Row.off (List._∷_ Row.off (List._∷_ Row.off List.[]))))))))))))))))))) }
+        G91 = record { locals = List._++_ g64 (List._++_ t1 (List._++_ t65 t3)); slots = List._∷_ (Row.lease (κs .0) (qs .0)) (List._∷_ Row.off (List._∷_ Row.off (List._∷_ Row.off (List._∷_ Row.off (List._∷_ Row.off (List._∷_ Row.off (List._∷_ Row.off (List._∷_ Row.off (List._∷_ Row.off (List._∷_ Row.off (List._∷_ Row.alive (List._∷_ Row.alive (List._∷_ Row.alive (List._∷_ Row.off (List._∷_ Row.off (List._∷_ Row.off (List._∷_ Row.off (List._∷_ Row.off (List._∷_ Row.off List.[]))))))))))))))))))) }
 
         abbrev G92 : Row.Cx
-        G92 = record { locals = List._++_ g62 (List._++_ t1 (List._++_ t63 t3)); slots = List._∷_ (Row.lease (κs .0) (qs .0)) (List._∷_ (Row.lease (κs .1 .0) (qs .1 .0)) (List._∷_ Row.off (List._∷_ Row.off (List._∷_ Row.off (List._∷_ Row.off (List._∷_ Row.off (List._∷_ Row.off (List._∷_ Row.off (List._∷_ Row.off (List._∷_ Row.off (List._∷_ Row.off (List._∷_ Row.alive (List._∷_ Row.alive (List._∷_ Row.off (List._∷_ Row.off (List._∷_ Row.off (List._∷_ Row.off (List._∷_ Row.off (List._∷_ Row.off List.[]))))))))))))))))))) }
+        G92 = record { locals = List._++_ g64 (List._++_ t1 (List._++_ t65 t3)); slots = List._∷_ (Row.lease (κs .0) (qs .0)) (List._∷_ Row.off (List._∷_ Row.off (List._∷_ Row.off (List._∷_ Row.off (List._∷_ Row.off (List._∷_ Row.off (List._∷_ Row.off (List._∷_ Row.off (List._∷_ Row.off (List._∷_ Row.off (List._∷_ Row.dead (List._∷_ Row.alive (List._∷_ Row.alive (List._∷_ Row.off (List._∷_ Row.off (List._∷_ Row.off (List._∷_ Row.off (List._∷_ Row.off (List._∷_ Row.off List.[]))))))))))))))))))) }
 
         abbrev G93 : Row.Cx
-        G93 = record { locals = List._++_ g62 (List._++_ t1 (List._++_ t63 t3)); slots = List._∷_ (Row.lease (κs .0) (qs .0)) (List._∷_ (Row.lease (κs .1 .0) (qs .1 .0)) (List._∷_ Row.off (List._∷_ Row.off (List._∷_ Row.off (List._∷_ Row.off (List._∷_ Row.off (List._∷_ Row.off (List._∷_ Row.off (List._∷_ Row.off (List._∷_ Row.off (List._∷_ Row.off (List._∷_ Row.dead (List._∷_ Row.alive (List._∷_ Row.off (List._∷_ Row.off (List._∷_ Row.off (List._∷_ Row.off (List._∷_ Row.off (List._∷_ Row.off List.[]))))))))))))))))))) }
+        G93 = record { locals = List._++_ g66 (List._++_ t1 (List._++_ t67 t3)); slots = List._∷_ (Row.lease (κs .0) (qs .0)) (List._∷_ (Row.lease (κs .1 .0) (qs .1 .0)) (List._∷_ Row.off (List._∷_ Row.off (List._∷_ Row.off (List._∷_ Row.off (List._∷_ Row.off (List._∷_ Row.off (List._∷_ Row.off (List._∷_ Row.off (List._∷_ Row.off (List._∷_ Row.dead (List._∷_ Row.alive (List._∷_ Row.alive (List._∷_ Row.off (List._∷_ Row.off (List._∷_ Row.off (List._∷_ Row.off (List._∷_ Row.off (List._∷_ Row.off List.[]))))))))))))))))))) }
 
         abbrev G94 : Row.Cx
-        G94 = record { locals = List._++_ g64 (List._++_ t1 (List._++_ t65 t3)); slots = List._∷_ (Row.lease (κs .0) (qs .0)) (List._∷_ (Row.lease (κs .1 .0) (qs .1 .0)) (List._∷_ (Row.lease (κs .1 .1 .0) (qs .1 .1 .0)) (List._∷_ Row.off (List._∷_ Row.off (List._∷_ Row.off (List._∷_ Row.off (List._∷_ Row.off (List._∷_ Row.off (List._∷_ Row.off (List._∷_ Row.off (List._∷_ Row.off (List._∷_ Row.dead (List._∷_ Row.alive (List._∷_ Row.off (List._∷_ Row.off (List._∷_ Row.off (List._∷_ Row.off (List._∷_ Row.off (List._∷_ Row.off List.[]))))))))))))))))))) }
+        G94 = record { locals = List._++_ g66 (List._++_ t1 (List._++_ t67 t3)); slots = List._∷_ (Row.lease (κs .0) (qs .0)) (List._∷_ (Row.lease (κs .1 .0) (qs .1 .0)) (List._∷_ Row.off (List._∷_ Row.off (List._∷_ Row.off (List._∷_ Row.off (List._∷_ Row.off (List._∷_ Row.off (List._∷_ Row.off (List._∷_ Row.off (List._∷_ Row.off (List._∷_ Row.off (List._∷_ Row.alive (List._∷_ Row.alive (List._∷_ Row.off (List._∷_ Row.off (List._∷_ Row.off (List._∷_ Row.off (List._∷_ Row.off (List._∷_ Row.off List.[]))))))))))))))))))) }
 
         abbrev G95 : Row.Cx
-        G95 = record { locals = List._++_ g64 (List._++_ t1 (List._++_ t65 t3)); slots = List._∷_ (Row.lease (κs .0) (qs .0)) (List._∷_ (Row.lease (κs .1 .0) (qs .1 .0)) (List._∷_ (Row.lease (κs .1 .1 .0) (qs .1 .1 .0)) (List._∷_ Row.off (List._∷_ Row.off (List._∷_ Row.off (List._∷_ Row.off (List._∷_ Row.off (List._∷_ Row.off (List._∷_ Row.off (List._∷_ Row.off (List._∷_ Row.off (List._∷_ Row.dead (List._∷_ Row.alive (List._∷_ Row.off (List._∷_ Row.off (List._∷_ Row.off (List._∷_ Row.off (List._∷_ Row.off (List._∷_ Row.off List.[]))))))))))))))))))) }
+        G95 = record { locals = List._++_ g66 (List._++_ t1 (List._++_ t67 t3)); slots = List._∷_ (Row.lease (κs .0) (qs .0)) (List._∷_ (Row.lease (κs .1 .0) (qs .1 .0)) (List._∷_ Row.off (List._∷_ Row.off (List._∷_ Row.off (List._∷_ Row.off (List._∷_ Row.off (List._∷_ Row.off (List._∷_ Row.off (List._∷_ Row.off (List._∷_ Row.off (List._∷_ Row.off (List._∷_ Row.dead (List._∷_ Row.alive (List._∷_ Row.off (List._∷_ Row.off (List._∷_ Row.off (List._∷_ Row.off (List._∷_ Row.off (List._∷_ Row.off List.[]))))))))))))))))))) }
 
         abbrev G96 : Row.Cx
-        G96 = record { locals = List._++_ g64 (List._++_ t1 (List._++_ t65 t3)); slots = List._∷_ (Row.lease (κs .0) (qs .0)) (List._∷_ (Row.lease (κs .1 .0) (qs .1 .0)) (List._∷_ (Row.lease (κs .1 .1 .0) (qs .1 .1 .0)) (List._∷_ Row.off (List._∷_ Row.off (List._∷_ Row.off (List._∷_ Row.off (List._∷_ Row.off (List._∷_ Row.off (List._∷_ Row.off (List._∷_ Row.off (List._∷_ Row.off (List._∷_ Row.off (List._∷_ Row.alive (List._∷_ Row.off (List._∷_ Row.off (List._∷_ Row.off (List._∷_ Row.off (List._∷_ Row.off (List._∷_ Row.off List.[]))))))))))))))))))) }
+        G96 = record { locals = List._++_ g68 (List._++_ t1 (List._++_ t69 t3)); slots = List._∷_ (Row.lease (κs .0) (qs .0)) (List._∷_ (Row.lease (κs .1 .0) (qs .1 .0)) (List._∷_ (Row.lease (κs .1 .1 .0) (qs .1 .1 .0)) (List._∷_ Row.off (List._∷_ Row.off (List._∷_ Row.off (List._∷_ Row.off (List._∷_ Row.off (List._∷_ Row.off (List._∷_ Row.off (List._∷_ Row.off (List._∷_ Row.off (List._∷_ Row.dead (List._∷_ Row.alive (List._∷_ Row.off (List._∷_ Row.off (List._∷_ Row.off (List._∷_ Row.off (List._∷_ Row.off (List._∷_ Row.off List.[]))))))))))))))))))) }
 
         abbrev G97 : Row.Cx
-        G97 = record { locals = List._++_ g64 (List._++_ t1 (List._++_ t65 t3)); slots = List._∷_ (Row.lease (κs .0) (qs .0)) (List._∷_ (Row.lease (κs .1 .0) (qs .1 .0)) (List._∷_ (Row.lease (κs .1 .1 .0) (qs .1 .1 .0)) (List._∷_ Row.off (List._∷_ Row.off (List._∷_ Row.off (List._∷_ Row.off (List._∷_ Row.off (List._∷_ Row.off (List._∷_ Row.off (List._∷_ Row.off (List._∷_ Row.off (List._∷_ Row.off (List._∷_ Row.dead (List._∷_ Row.off (List._∷_ Row.off (List._∷_ Row.off (List._∷_ Row.off (List._∷_ Row.off (List._∷_ Row.off List.[]))))))))))))))))))) }
+        G97 = record { locals = List._++_ g68 (List._++_ t1 (List._++_ t69 t3)); slots = List._∷_ (Row.lease (κs .0) (qs .0)) (List._∷_ (Row.lease (κs .1 .0) (qs .1 .0)) (List._∷_ (Row.lease (κs .1 .1 .0) (qs .1 .1 .0)) (List._∷_ Row.off (List._∷_ Row.off (List._∷_ Row.off (List._∷_ Row.off (List._∷_ Row.off (List._∷_ Row.off (List._∷_ Row.off (List._∷_ Row.off (List._∷_ Row.off (List._∷_ Row.dead (List._∷_ Row.alive (List._∷_ Row.off (List._∷_ Row.off (List._∷_ Row.off (List._∷_ Row.off (List._∷_ Row.off (List._∷_ Row.off List.[]))))))))))))))))))) }
 
         abbrev G98 : Row.Cx
-        G98 = record { locals = List._++_ t66 (List._++_ t1 (List._++_ t2 t3)); slots = List._∷_ (Row.lease (κs .0) (qs .0)) (List._∷_ (Row.lease (κs .1 .0) (qs .1 .0)) (List._∷_ (Row.lease (κs .1 .1 .0) (qs .1 .1 .0)) (List._∷_ (Row.lease (κs .1 .1 .1 .0) (qs .1 .1 .1 .0)) (List._∷_ Row.off (List._∷_ Row.off (List._∷_ Row.off (List._∷_ Row.off (List._∷_ Row.off (List._∷_ Row.off (List._∷_ Row.off (List._∷_ Row.off (List._∷_ Row.off (List._∷_ Row.dead (List._∷_ Row.off (List._∷_ Row.off (List._∷_ Row.off (List._∷_ Row.off (List._∷_ Row.off (List._∷_ Row.off List.[]))))))))))))))))))) }
+        G98 = record { locals = List._++_ g68 (List._++_ t1 (List._++_ t69 t3)); slots = List._∷_ (Row.lease (κs .0) (qs .0)) (List._∷_ (Row.lease (κs .1 .0) (qs .1 .0)) (List._∷_ (Row.lease (κs .1 .1 .0) (qs .1 .1 .0)) (List._∷_ Row.off (List._∷_ Row.off (List._∷_ Row.off (List._∷_ Row.off (List._∷_ Row.off (List._∷_ Row.off (List._∷_ Row.off (List._∷_ Row.off (List._∷_ Row.off (List._∷_ Row.off (List._∷_ Row.alive (List._∷_ Row.off (List._∷_ Row.off (List._∷_ Row.off (List._∷_ Row.off (List._∷_ Row.off (List._∷_ Row.off List.[]))))))))))))))))))) }
 
         abbrev G99 : Row.Cx
-        G99 = record { locals = List._++_ t66 (List._++_ t1 (List._++_ t2 t3)); slots = List._∷_ (Row.lease (κs .0) (qs .0)) (List._∷_ (Row.lease (κs .1 .0) (qs .1 .0)) (List._∷_ (Row.lease (κs .1 .1 .0) (qs .1 .1 .0)) (List._∷_ (Row.lease (κs .1 .1 .1 .0) (qs .1 .1 .1 .0)) (List._∷_ Row.off (List._∷_ Row.off (List._∷_ Row.off (List._∷_ Row.off (List._∷_ Row.off (List._∷_ Row.off (List._∷_ Row.off (List._∷_ Row.off (List._∷_ Row.off (List._∷_ Row.dead (List._∷_ Row.off (List._∷_ Row.off (List._∷_ Row.off (List._∷_ Row.off (List._∷_ Row.off (List._∷_ Row.off List.[]))))))))))))))))))) }
+        G99 = record { locals = List._++_ g68 (List._++_ t1 (List._++_ t69 t3)); slots = List._∷_ (Row.lease (κs .0) (qs .0)) (List._∷_ (Row.lease (κs .1 .0) (qs .1 .0)) (List._∷_ (Row.lease (κs .1 .1 .0) (qs .1 .1 .0)) (List._∷_ Row.off (List._∷_ Row.off (List._∷_ Row.off (List._∷_ Row.off (List._∷_ Row.off (List._∷_ Row.off (List._∷_ Row.off (List._∷_ Row.off (List._∷_ Row.off (List._∷_ Row.off (List._∷_ Row.dead (List._∷_ Row.off (List._∷_ Row.off (List._∷_ Row.off (List._∷_ Row.off (List._∷_ Row.off (List._∷_ Row.off List.[]))))))))))))))))))) }
 
         abbrev G100 : Row.Cx
-        G100 = record { locals = List._++_ t66 (List._++_ t1 (List._++_ t2 t3)); slots = List._∷_ (Row.lease (κs .0) (qs .0)) (List._∷_ (Row.lease (κs .1 .0) (qs .1 .0)) (List._∷_ (Row.lease (κs .1 .1 .0) (qs .1 .1 .0)) (List._∷_ (Row.lease (κs .1 .1 .1 .0) (qs .1 .1 .1 .0)) (List._∷_ Row.off (List._∷_ Row.off (List._∷_ Row.off (List._∷_ Row.off (List._∷_ Row.off (List._∷_ Row.off (List._∷_ Row.off (List._∷_ Row.off (List._∷_ Row.off (List._∷_ Row.off (List._∷_ Row.off (List._∷_ Row.off (List._∷_ Row.off (List._∷_ Row.off (List._∷_ Row.off (List._∷_ Row.off List.[]))))))))))))))))))) }
+        G100 = record { locals = List._++_ t70 (List._++_ t1 (List._++_ t2 t3)); slots = List._∷_ (Row.lease (κs .0) (qs .0)) (List._∷_ (Row.lease (κs .1 .0) (qs .1 .0)) (List._∷_ (Row.lease (κs .1 .1 .0) (qs .1 .1 .0)) (List._∷_ (Row.lease (κs .1 .1 .1 .0) (qs .1 .1 .1 .0)) (List._∷_ Row.off (List._∷_ Row.off (List._∷_ Row.off (List._∷_ Row.off (List._∷_ Row.off (List._∷_ Row.off (List._∷_ Row.off (List._∷_ Row.off (List._∷_ Row.off (List._∷_ Row.dead (List._∷_ Row.off (List._∷_ Row.off (List._∷_ Row.off (List._∷_ Row.off (List._∷_ Row.off (List._∷_ Row.off List.[]))))))))))))))))))) }
 
         abbrev G101 : Row.Cx
-        G101 = record { locals = List._++_ t66 (List._++_ t1 (List._++_ t2 t3)); slots = List._∷_ (Row.lease (κs .0) (qs .0)) (List._∷_ (Row.lease (κs .1 .0) (qs .1 .0)) (List._∷_ (Row.lease (κs .1 .1 .0) (qs .1 .1 .0)) (List._∷_ (Row.lease (κs .1 .1 .1 .0) (qs .1 .1 .1 .0)) (List._∷_ Row.off (List._∷_ Row.off (List._∷_ Row.off (List._∷_ Row.off (List._∷_ Row.off (List._∷_ Row.off (List._∷_ Row.off (List._∷_ Row.off (List._∷_ Row.off (List._∷_ Row.off (List._∷_ Row.alive (List._∷_ Row.off (List._∷_ Row.off (List._∷_ Row.off (List._∷_ Row.off (List._∷_ Row.off List.[]))))))))))))))))))) }
+        G101 = record { locals = List._++_ t70 (List._++_ t1 (List._++_ t2 t3)); slots = List._∷_ (Row.lease (κs .0) (qs .0)) (List._∷_ (Row.lease (κs .1 .0) (qs .1 .0)) (List._∷_ (Row.lease (κs .1 .1 .0) (qs .1 .1 .0)) (List._∷_ (Row.lease (κs .1 .1 .1 .0) (qs .1 .1 .1 .0)) (List._∷_ Row.off (List._∷_ Row.off (List._∷_ Row.off (List._∷_ Row.off (List._∷_ Row.off (List._∷_ Row.off (List._∷_ Row.off (List._∷_ Row.off (List._∷_ Row.off (List._∷_ Row.dead (List._∷_ Row.off (List._∷_ Row.off (List._∷_ Row.off (List._∷_ Row.off (List._∷_ Row.off (List._∷_ Row.off List.[]))))))))))))))))))) }
 
         abbrev G102 : Row.Cx
-        G102 = record { locals = List._++_ g67 (List._++_ t1 (List._++_ t68 t3)); slots = List._∷_ (Row.lease (κs .0) (qs .0)) (List._∷_ Row.off (List._∷_ (Row.lease (κs .1 .1 .0) (qs .1 .1 .0)) (List._∷_ (Row.lease (κs .1 .1 .1 .0) (qs .1 .1 .1 .0)) (List._∷_ Row.off (List._∷_ Row.off (List._∷_ Row.off (List._∷_ Row.off (List._∷_ Row.off (List._∷_ Row.off (List._∷_ Row.off (List._∷_ Row.off (List._∷_ Row.off (List._∷_ Row.off (List._∷_ Row.alive (List._∷_ Row.off (List._∷_ Row.off (List._∷_ Row.off (List._∷_ Row.off (List._∷_ Row.off List.[]))))))))))))))))))) }
+        G102 = record { locals = List._++_ t70 (List._++_ t1 (List._++_ t2 t3)); slots = List._∷_ (Row.lease (κs .0) (qs .0)) (List._∷_ (Row.lease (κs .1 .0) (qs .1 .0)) (List._∷_ (Row.lease (κs .1 .1 .0) (qs .1 .1 .0)) (List._∷_ (Row.lease (κs .1 .1 .1 .0) (qs .1 .1 .1 .0)) (List._∷_ Row.off (List._∷_ Row.off (List._∷_ Row.off (List._∷_ Row.off (List._∷_ Row.off (List._∷_ Row.off (List._∷_ Row.off (List._∷_ Row.off (List._∷_ Row.off (List._∷_ Row.off (List._∷_ Row.off (List._∷_ Row.off (List._∷_ Row.off (List._∷_ Row.off (List._∷_ Row.off (List._∷_ Row.off List.[]))))))))))))))))))) }
 
         abbrev G103 : Row.Cx
-        G103 = record { locals = List._++_ g67 (List._++_ t1 (List._++_ t69 t3)); slots = List._∷_ (Row.lease (κs .0) (qs .0)) (List._∷_ Row.off (List._∷_ (Row.lease (κs .1 .1 .0) (qs .1 .1 .0)) (List._∷_ (Row.lease (κs .1 .1 .1 .0) (qs .1 .1 .1 .0)) (List._∷_ Row.off (List._∷_ Row.off (List._∷_ Row.off (List._∷_ Row.off (List._∷_ Row.off (List._∷_ Row.off (List._∷_ Row.off (List._∷_ Row.off (List._∷_ Row.off (List._∷_ Row.off (List._∷_ Row.alive (List._∷_ Row.off (List._∷_ Row.off (List._∷_ Row.off (List._∷_ Row.off (List._∷_ Row.off List.[]))))))))))))))))))) }
+        G103 = record { locals = List._++_ t70 (List._++_ t1 (List._++_ t2 t3)); slots = List._∷_ (Row.lease (κs .0) (qs .0)) (List._∷_ (Row.lease (κs .1 .0) (qs .1 .0)) (List._∷_ (Row.lease (κs .1 .1 .0) (qs .1 .1 .0)) (List._∷_ (Row.lease (κs .1 .1 .1 .0) (qs .1 .1 .1 .0)) (List._∷_ Row.off (List._∷_ Row.off (List._∷_ Row.off (List._∷_ Row.off (List._∷_ Row.off (List._∷_ Row.off (List._∷_ Row.off (List._∷_ Row.off (List._∷_ Row.off (List._∷_ Row.off (List._∷_ Row.alive (List._∷_ Row.off (List._∷_ Row.off (List._∷_ Row.off (List._∷_ Row.off (List._∷_ Row.off List.[]))))))))))))))))))) }
 
         abbrev G104 : Row.Cx
-        G104 = record { locals = List._++_ g67 (List._++_ t1 (List._++_ t69 t3)); slots = List._∷_ (Row.lease (κs .0) (qs .0)) (List._∷_ Row.off (List._∷_ (Row.lease (κs .1 .1 .0) (qs .1 .1 .0)) (List._∷_ (Row.lease (κs .1 .1 .1 .0) (qs .1 .1 .1 .0)) (List._∷_ Row.off (List._∷_ Row.off (List._∷_ Row.off (List._∷_ Row.off (List._∷_ Row.off (List._∷_ Row.off (List._∷_ Row.off (List._∷_ Row.off (List._∷_ Row.off (List._∷_ Row.off (List._∷_ Row.alive (List._∷_ Row.alive (List._∷_ Row.off (List._∷_ Row.off (List._∷_ Row.off (List._∷_ Row.off List.[]))))))))))))))))))) }
+        G104 = record { locals = List._++_ g71 (List._++_ t1 (List._++_ t72 t3)); slots = List._∷_ (Row.lease (κs .0) (qs .0)) (List._∷_ Row.off (List._∷_ (Row.lease (κs .1 .1 .0) (qs .1 .1 .0)) (List._∷_ (Row.lease (κs .1 .1 .1 .0) (qs .1 .1 .1 .0)) (List._∷_ Row.off (List._∷_ Row.off (List._∷_ Row.off (List._∷_ Row.off (List._∷_ Row.off (List._∷_ Row.off (List._∷_ Row.off (List._∷_ Row.off (List._∷_ Row.off (List._∷_ Row.off (List._∷_ Row.alive (List._∷_ Row.off (List._∷_ Row.off (List._∷_ Row.off (List._∷_ Row.off (List._∷_ Row.off List.[]))))))))))))))))))) }
 
         abbrev G105 : Row.Cx
-        G105 = record { locals = List._++_ g70 (List._++_ t1 (List._++_ t71 t3)); slots = List._∷_ (Row.lease (κs .0) (qs .0)) (List._∷_ Row.off (List._∷_ Row.off (List._∷_ (Row.lease (κs .1 .1 .1 .0) (qs .1 .1 .1 .0)) (List._∷_ Row.off (List._∷_ Row.off (List._∷_ Row.off (List._∷_ Row.off (List._∷_ Row.off (List._∷_ Row.off (List._∷_ Row.off (List._∷_ Row.off (List._∷_ Row.off (List._∷_ Row.off (List._∷_ Row.alive (List._∷_ Row.alive (List._∷_ Row.off (List._∷_ Row.off (List._∷_ Row.off (List._∷_ Row.off List.[]))))))))))))))))))) }
+        G105 = record { locals = List._++_ g71 (List._++_ t1 (List._++_ t73 t3)); slots = List._∷_ (Row.lease (κs .0) (qs .0)) (List._∷_ Row.off (List._∷_ (Row.lease (κs .1 .1 .0) (qs .1 .1 .0)) (List._∷_ (Row.lease (κs .1 .1 .1 .0) (qs .1 .1 .1 .0)) (List._∷_ Row.off (List._∷_ Row.off (List._∷_ Row.off (List._∷_ Row.off (List._∷_ Row.off (List._∷_ Row.off (List._∷_ Row.off (List._∷_ Row.off (List._∷_ Row.off (List._∷_ Row.off (List._∷_ Row.alive (List._∷_ Row.off (List._∷_ Row.off (List._∷_ Row.off (List._∷_ Row.off (List._∷_ Row.off List.[]))))))))))))))))))) }
 
         abbrev G106 : Row.Cx
-        G106 = record { locals = List._++_ g70 (List._++_ t1 (List._++_ t72 t3)); slots = List._∷_ (Row.lease (κs .0) (qs .0)) (List._∷_ Row.off (List._∷_ Row.off (List._∷_ (Row.lease (κs .1 .1 .1 .0) (qs .1 .1 .1 .0)) (List._∷_ Row.off (List._∷_ Row.off (List._∷_ Row.off (List._∷_ Row.off (List._∷_ Row.off (List._∷_ Row.off (List._∷_ Row.off (List._∷_ Row.off (List._∷_ Row.off (List._∷_ Row.off (List._∷_ Row.alive (List._∷_ Row.alive (List._∷_ Row.off (List._∷_ Row.off (List._∷_ Row.off (List._∷_ Row.off List.[]))))))))))))))))))) }
+        G106 = record { locals = List._++_ g71 (List._++_ t1 (List._++_ t73 t3)); slots = List._∷_ (Row.lease (κs .0) (qs .0)) (List._∷_ Row.off (List._∷_ (Row.lease (κs .1 .1 .0) (qs .1 .1 .0)) (List._∷_ (Row.lease (κs .1 .1 .1 .0) (qs .1 .1 .1 .0)) (List._∷_ Row.off (List._∷_ Row.off (List._∷_ Row.off (List._∷_ Row.off (List._∷_ Row.off (List._∷_ Row.off (List._∷_ Row.off (List._∷_ Row.off (List._∷_ Row.off (List._∷_ Row.off (List._∷_ Row.alive (List._∷_ Row.alive (List._∷_ Row.off (List._∷_ Row.off (List._∷_ Row.off (List._∷_ Row.off List.[]))))))))))))))))))) }
 
         abbrev G107 : Row.Cx
-        G107 = record { locals = List._++_ g70 (List._++_ t1 (List._++_ t72 t3)); slots = List._∷_ (Row.lease (κs .0) (qs .0)) (List._∷_ Row.off (List._∷_ Row.off (List._∷_ (Row.lease (κs .1 .1 .1 .0) (qs .1 .1 .1 .0)) (List._∷_ Row.off (List._∷_ Row.off (List._∷_ Row.off (List._∷_ Row.off (List._∷_ Row.off (List._∷_ Row.off (List._∷_ Row.off (List._∷_ Row.off (List._∷_ Row.off (List._∷_ Row.off (List._∷_ Row.alive (List._∷_ Row.alive (List._∷_ Row.alive (List._∷_ Row.off (List._∷_ Row.off (List._∷_ Row.off List.[]))))))))))))))))))) }
+        G107 = record { locals = List._++_ g74 (List._++_ t1 (List._++_ t75 t3)); slots = List._∷_ (Row.lease (κs .0) (qs .0)) (List._∷_ Row.off (List._∷_ Row.off (List._∷_ (Row.lease (κs .1 .1 .1 .0) (qs .1 .1 .1 .0)) (List._∷_ Row.off (List._∷_ Row.off (List._∷_ Row.off (List._∷_ Row.off (List._∷_ Row.off (List._∷_ Row.off (List._∷_ Row.off (List._∷_ Row.off (List._∷_ Row.off (List._∷_ Row.off (List._∷_ Row.alive (List._∷_ Row.alive (List._∷_ Row.off (List._∷_ Row.off (List._∷_ Row.off (List._∷_ Row.off List.[]))))))))))))))))))) }
 
         abbrev G108 : Row.Cx
-        G108 = record { locals = List._++_ g73 (List._++_ t1 (List._++_ t74 t3)); slots = List._∷_ (Row.lease (κs .0) (qs .0)) (List._∷_ Row.off (List._∷_ Row.off (List._∷_ Row.off (List._∷_ Row.off (List._∷_ Row.off (List._∷_ Row.off (List._∷_ Row.off (List._∷_ Row.off (List._∷_ Row.off (List._∷_ Row.off (List._∷_ Row.off (List._∷_ Row.off (List._∷_ Row.off (List._∷_ Row.alive (List._∷_ Row.alive (List._∷_ Row.alive (List._∷_ Row.off (List._∷_ Row.off (List._∷_ Row.off List.[]))))))))))))))))))) }
+        G108 = record { locals = List._++_ g74 (List._++_ t1 (List._++_ t76 t3)); slots = List._∷_ (Row.lease (κs .0) (qs .0)) (List._∷_ Row.off (List._∷_ Row.off (List._∷_ (Row.lease (κs .1 .1 .1 .0) (qs .1 .1 .1 .0)) (List._∷_ Row.off (List._∷_ Row.off (List._∷_ Row.off (List._∷_ Row.off (List._∷_ Row.off (List._∷_ Row.off (List._∷_ Row.off (List._∷_ Row.off (List._∷_ Row.off (List._∷_ Row.off (List._∷_ Row.alive (List._∷_ Row.alive (List._∷_ Row.off (List._∷_ Row.off (List._∷_ Row.off (List._∷_ Row.off List.[]))))))))))))))))))) }
 
         abbrev G109 : Row.Cx
-        G109 = record { locals = List._++_ g73 (List._++_ t1 (List._++_ t75 t3)); slots = List._∷_ (Row.lease (κs .0) (qs .0)) (List._∷_ Row.off (List._∷_ Row.off (List._∷_ Row.off (List._∷_ Row.off (List._∷_ Row.off (List._∷_ Row.off (List._∷_ Row.off (List._∷_ Row.off (List._∷_ Row.off (List._∷_ Row.off (List._∷_ Row.off (List._∷_ Row.off (List._∷_ Row.off (List._∷_ Row.alive (List._∷_ Row.alive (List._∷_ Row.alive (List._∷_ Row.off (List._∷_ Row.off (List._∷_ Row.off List.[]))))))))))))))))))) }
+        G109 = record { locals = List._++_ g74 (List._++_ t1 (List._++_ t76 t3)); slots = List._∷_ (Row.lease (κs .0) (qs .0)) (List._∷_ Row.off (List._∷_ Row.off (List._∷_ (Row.lease (κs .1 .1 .1 .0) (qs .1 .1 .1 .0)) (List._∷_ Row.off (List._∷_ Row.off (List._∷_ Row.off (List._∷_ Row.off (List._∷_ Row.off (List._∷_ Row.off (List._∷_ Row.off (List._∷_ Row.off (List._∷_ Row.off (List._∷_ Row.off (List._∷_ Row.alive (List._∷_ Row.alive (List._∷_ Row.alive (List._∷_ Row.off (List._∷_ Row.off (List._∷_ Row.off List.[]))))))))))))))))))) }
 
         abbrev G110 : Row.Cx
-        G110 = record { locals = List._++_ g76 (List._++_ t1 (List._++_ t75 t3)); slots = List._∷_ (Row.lease (κs .0) (qs .0)) (List._∷_ Row.off (List._∷_ Row.off (List._∷_ Row.off (List._∷_ Row.off (List._∷_ Row.off (List._∷_ Row.off (List._∷_ Row.off (List._∷_ Row.off (List._∷_ Row.off (List._∷_ Row.off (List._∷_ Row.off (List._∷_ Row.off (List._∷_ Row.off (List._∷_ Row.alive (List._∷_ Row.alive (List._∷_ Row.alive (List._∷_ Row.off (List._∷_ Row.off (List._∷_ Row.off List.[]))))))))))))))))))) }
+        G110 = record { locals = List._++_ g77 (List._++_ t1 (List._++_ t78 t3)); slots = List._∷_ (Row.lease (κs .0) (qs .0)) (List._∷_ Row.off (List._∷_ Row.off (List._∷_ Row.off (List._∷_ Row.off (List._∷_ Row.off (List._∷_ Row.off (List._∷_ Row.off (List._∷_ Row.off (List._∷_ Row.off (List._∷_ Row.off (List._∷_ Row.off (List._∷_ Row.off (List._∷_ Row.off (List._∷_ Row.alive (List._∷_ Row.alive (List._∷_ Row.alive (List._∷_ Row.off (List._∷_ Row.off (List._∷_ Row.off List.[]))))))))))))))))))) }
 
         abbrev G111 : Row.Cx
-        G111 = record { locals = List._++_ g76 (List._++_ t1 (List._++_ t77 t3)); slots = List._∷_ (Row.lease (κs .0) (qs .0)) (List._∷_ Row.off (List._∷_ Row.off (List._∷_ Row.off (List._∷_ Row.off (List._∷_ Row.off (List._∷_ Row.off (List._∷_ Row.off (List._∷_ Row.off (List._∷_ Row.off (List._∷_ Row.off (List._∷_ Row.off (List._∷_ Row.off (List._∷_ Row.off (List._∷_ Row.alive (List._∷_ Row.alive (List._∷_ Row.alive (List._∷_ Row.off (List._∷_ Row.off (List._∷_ Row.off List.[]))))))))))))))))))) }
+        G111 = record { locals = List._++_ g77 (List._++_ t1 (List._++_ t79 t3)); slots = List._∷_ (Row.lease (κs .0) (qs .0)) (List._∷_ Row.off (List._∷_ Row.off (List._∷_ Row.off (List._∷_ Row.off (List._∷_ Row.off (List._∷_ Row.off (List._∷_ Row.off (List._∷_ Row.off (List._∷_ Row.off (List._∷_ Row.off (List._∷_ Row.off (List._∷_ Row.off (List._∷_ Row.off (List._∷_ Row.alive (List._∷_ Row.alive (List._∷_ Row.alive (List._∷_ Row.off (List._∷_ Row.off (List._∷_ Row.off List.[]))))))))))))))))))) }
 
         abbrev G112 : Row.Cx
-        G112 = record { locals = List._++_ g76 (List._++_ t1 (List._++_ t78 t3)); slots = List._∷_ (Row.lease (κs .0) (qs .0)) (List._∷_ Row.off (List._∷_ Row.off (List._∷_ Row.off (List._∷_ Row.off (List._∷_ Row.off (List._∷_ Row.off (List._∷_ Row.off (List._∷_ Row.off (List._∷_ Row.off (List._∷_ Row.off (List._∷_ Row.off (List._∷_ Row.off (List._∷_ Row.off (List._∷_ Row.alive (List._∷_ Row.alive (List._∷_ Row.alive (List._∷_ Row.off (List._∷_ Row.off (List._∷_ Row.off List.[]))))))))))))))))))) }
+        G112 = record { locals = List._++_ g80 (List._++_ t1 (List._++_ t79 t3)); slots = List._∷_ (Row.lease (κs .0) (qs .0)) (List._∷_ Row.off (List._∷_ Row.off (List._∷_ Row.off (List._∷_ Row.off (List._∷_ Row.off (List._∷_ Row.off (List._∷_ Row.off (List._∷_ Row.off (List._∷_ Row.off (List._∷_ Row.off (List._∷_ Row.off (List._∷_ Row.off (List._∷_ Row.off (List._∷_ Row.alive (List._∷_ Row.alive (List._∷_ Row.alive (List._∷_ Row.off (List._∷_ Row.off (List._∷_ Row.off List.[]))))))))))))))))))) }
 
         abbrev G113 : Row.Cx
-        G113 = record { locals = List._++_ g76 (List._++_ t1 (List._++_ t2 t3)); slots = List._∷_ (Row.lease (κs .0) (qs .0)) (List._∷_ Row.off (List._∷_ Row.off (List._∷_ Row.off (List._∷_ Row.off (List._∷_ Row.off (List._∷_ Row.off (List._∷_ Row.off (List._∷_ Row.off (List._∷_ Row.off (List._∷_ Row.off (List._∷_ Row.off (List._∷_ Row.off (List._∷_ Row.off (List._∷_ Row.alive (List._∷_ Row.alive (List._∷_ Row.alive (List._∷_ Row.off (List._∷_ Row.off (List._∷_ Row.off List.[]))))))))))))))))))) }
+        G113 = record { locals = List._++_ g80 (List._++_ t1 (List._++_ t81 t3)); slots = List._∷_ (Row.lease (κs .0) (qs .0)) (List._∷_ Row.off (List._∷_ Row.off (List._∷_ Row.off (List._∷_ Row.off (List._∷_ Row.off (List._∷_ Row.off (List._∷_ Row.off (List._∷_ Row.off (List._∷_ Row.off (List._∷_ Row.off (List._∷_ Row.off (List._∷_ Row.off (List._∷_ Row.off (List._∷_ Row.alive (List._∷_ Row.alive (List._∷_ Row.alive (List._∷_ Row.off (List._∷_ Row.off (List._∷_ Row.off List.[]))))))))))))))))))) }
 
         abbrev G114 : Row.Cx
-        G114 = record { locals = List._++_ g76 (List._++_ t1 (List._++_ t2 t3)); slots = List._∷_ (Row.lease (κs .0) (qs .0)) (List._∷_ Row.off (List._∷_ Row.off (List._∷_ Row.off (List._∷_ Row.off (List._∷_ Row.off (List._∷_ Row.off (List._∷_ Row.off (List._∷_ Row.off (List._∷_ Row.off (List._∷_ Row.off (List._∷_ Row.off (List._∷_ Row.off (List._∷_ Row.off (List._∷_ Row.dead (List._∷_ Row.alive (List._∷_ Row.alive (List._∷_ Row.off (List._∷_ Row.off (List._∷_ Row.off List.[]))))))))))))))))))) }
+        G114 = record { locals = List._++_ g80 (List._++_ t1 (List._++_ t82 t3)); slots = List._∷_ (Row.lease (κs .0) (qs .0)) (List._∷_ Row.off (List._∷_ Row.off (List._∷_ Row.off (List._∷_ Row.off (List._∷_ Row.off (List._∷_ Row.off (List._∷_ Row.off (List._∷_ Row.off (List._∷_ Row.off (List._∷_ Row.off (List._∷_ Row.off (List._∷_ Row.off (List._∷_ Row.off (List._∷_ Row.alive (List._∷_ Row.alive (List._∷_ Row.alive (List._∷_ Row.off (List._∷_ Row.off (List._∷_ Row.off List.[]))))))))))))))))))) }
 
         abbrev G115 : Row.Cx
-        G115 = record { locals = List._++_ g79 (List._++_ t1 (List._++_ t2 t3)); slots = List._∷_ (Row.lease (κs .0) (qs .0)) (List._∷_ (Row.lease (κs .1 .0) (qs .1 .0)) (List._∷_ Row.off (List._∷_ Row.off (List._∷_ Row.off (List._∷_ Row.off (List._∷_ Row.off (List._∷_ Row.off (List._∷_ Row.off (List._∷_ Row.off (List._∷_ Row.off (List._∷_ Row.off (List._∷_ Row.off (List._∷_ Row.off (List._∷_ Row.dead (List._∷_ Row.alive (List._∷_ Row.alive (List._∷_ Row.off (List._∷_ Row.off (List._∷_ Row.off List.[]))))))))))))))))))) }
+        G115 = record { locals = List._++_ g80 (List._++_ t1 (List._++_ t2 t3)); slots = List._∷_ (Row.lease (κs .0) (qs .0)) (List._∷_ Row.off (List._∷_ Row.off (List._∷_ Row.off (List._∷_ Row.off (List._∷_ Row.off (List._∷_ Row.off (List._∷_ Row.off (List._∷_ Row.off (List._∷_ Row.off (List._∷_ Row.off (List._∷_ Row.off (List._∷_ Row.off (List._∷_ Row.off (List._∷_ Row.alive (List._∷_ Row.alive (List._∷_ Row.alive (List._∷_ Row.off (List._∷_ Row.off (List._∷_ Row.off List.[]))))))))))))))))))) }
 
         abbrev G116 : Row.Cx
-        G116 = record { locals = List._++_ g79 (List._++_ t1 (List._++_ t2 t3)); slots = List._∷_ (Row.lease (κs .0) (qs .0)) (List._∷_ (Row.lease (κs .1 .0) (qs .1 .0)) (List._∷_ Row.off (List._∷_ Row.off (List._∷_ Row.off (List._∷_ Row.off (List._∷_ Row.off (List._∷_ Row.off (List._∷_ Row.off (List._∷_ Row.off (List._∷_ Row.off (List._∷_ Row.off (List._∷_ Row.off (List._∷_ Row.off (List._∷_ Row.off (List._∷_ Row.alive (List._∷_ Row.alive (List._∷_ Row.off (List._∷_ Row.off (List._∷_ Row.off List.[]))))))))))))))))))) }
+        G116 = record { locals = List._++_ g80 (List._++_ t1 (List._++_ t2 t3)); slots = List._∷_ (Row.lease (κs .0) (qs .0)) (List._∷_ Row.off (List._∷_ Row.off (List._∷_ Row.off (List._∷_ Row.off (List._∷_ Row.off (List._∷_ Row.off (List._∷_ Row.off (List._∷_ Row.off (List._∷_ Row.off (List._∷_ Row.off (List._∷_ Row.off (List._∷_ Row.off (List._∷_ Row.off (List._∷_ Row.dead (List._∷_ Row.alive (List._∷_ Row.alive (List._∷_ Row.off (List._∷_ Row.off (List._∷_ Row.off List.[]))))))))))))))))))) }
 
         abbrev G117 : Row.Cx
-        G117 = record { locals = List._++_ g79 (List._++_ t1 (List._++_ t2 t3)); slots = List._∷_ (Row.lease (κs .0) (qs .0)) (List._∷_ (Row.lease (κs .1 .0) (qs .1 .0)) (List._∷_ Row.off (List._∷_ Row.off (List._∷_ Row.off (List._∷_ Row.off (List._∷_ Row.off (List._∷_ Row.off (List._∷_ Row.off (List._∷_ Row.off (List._∷_ Row.off (List._∷_ Row.off (List._∷_ Row.off (List._∷_ Row.off (List._∷_ Row.off (List._∷_ Row.dead (List._∷_ Row.alive (List._∷_ Row.off (List._∷_ Row.off (List._∷_ Row.off List.[]))))))))))))))))))) }
+        G117 = record { locals = List._++_ g83 (List._++_ t1 (List._++_ t2 t3)); slots = List._∷_ (Row.lease (κs .0) (qs .0)) (List._∷_ (Row.lease (κs .1 .0) (qs .1 .0)) (List._∷_ Row.off (List._∷_ Row.off (List._∷_ Row.off (List._∷_ Row.off (List._∷_ Row.off (List._∷_ Row.off (List._∷_ Row.off (List._∷_ Row.off (List._∷_ Row.off (List._∷_ Row.off (List._∷_ Row.off (List._∷_ Row.off (List._∷_ Row.dead (List._∷_ Row.alive (List._∷_ Row.alive (List._∷_ Row.off (List._∷_ Row.off (List._∷_ Row.off List.[]))))))))))))))))))) }
 
         abbrev G118 : Row.Cx
-        G118 = record { locals = List._++_ g80 (List._++_ t1 (List._++_ t2 t3)); slots = List._∷_ (Row.lease (κs .0) (qs .0)) (List._∷_ (Row.lease (κs .1 .0) (qs .1 .0)) (List._∷_ (Row.lease (κs .1 .1 .0) (qs .1 .1 .0)) (List._∷_ Row.off (List._∷_ Row.off (List._∷_ Row.off (List._∷_ Row.off (List._∷_ Row.off (List._∷_ Row.off (List._∷_ Row.off (List._∷_ Row.off (List._∷_ Row.off (List._∷_ Row.off (List._∷_ Row.off (List._∷_ Row.off (List._∷_ Row.dead (List._∷_ Row.alive (List._∷_ Row.off (List._∷_ Row.off (List._∷_ Row.off List.[]))))))))))))))))))) }
+        G118 = record { locals = List._++_ g83 (List._++_ t1 (List._++_ t2 t3)); slots = List._∷_ (Row.lease (κs .0) (qs .0)) (List._∷_ (Row.lease (κs .1 .0) (qs .1 .0)) (List._∷_ Row.off (List._∷_ Row.off (List._∷_ Row.off (List._∷_ Row.off (List._∷_ Row.off (List._∷_ Row.off (List._∷_ Row.off (List._∷_ Row.off (List._∷_ Row.off (List._∷_ Row.off (List._∷_ Row.off (List._∷_ Row.off (List._∷_ Row.off (List._∷_ Row.alive (List._∷_ Row.alive (List._∷_ Row.off (List._∷_ Row.off (List._∷_ Row.off List.[]))))))))))))))))))) }
 
         abbrev G119 : Row.Cx
-        G119 = record { locals = List._++_ g80 (List._++_ t1 (List._++_ t2 t3)); slots = List._∷_ (Row.lease (κs .0) (qs .0)) (List._∷_ (Row.lease (κs .1 .0) (qs .1 .0)) (List._∷_ (Row.lease (κs .1 .1 .0) (qs .1 .1 .0)) (List._∷_ Row.off (List._∷_ Row.off (List._∷_ Row.off (List._∷_ Row.off (List._∷_ Row.off (List._∷_ Row.off (List._∷_ Row.off (List._∷_ Row.off (List._∷_ Row.off (List._∷_ Row.off (List._∷_ Row.off (List._∷_ Row.off (List._∷_ Row.off (List._∷_ Row.alive (List._∷_ Row.off (List._∷_ Row.off (List._∷_ Row.off List.[]))))))))))))))))))) }
+        G119 = record { locals = List._++_ g83 (List._++_ t1 (List._++_ t2 t3)); slots = List._∷_ (Row.lease (κs .0) (qs .0)) (List._∷_ (Row.lease (κs .1 .0) (qs .1 .0)) (List._∷_ Row.off (List._∷_ Row.off (List._∷_ Row.off (List._∷_ Row.off (List._∷_ Row.off (List._∷_ Row.off (List._∷_ Row.off (List._∷_ Row.off (List._∷_ Row.off (List._∷_ Row.off (List._∷_ Row.off (List._∷_ Row.off (List._∷_ Row.off (List._∷_ Row.dead (List._∷_ Row.alive (List._∷_ Row.off (List._∷_ Row.off (List._∷_ Row.off List.[]))))))))))))))))))) }
 
         abbrev G120 : Row.Cx
-        G120 = record { locals = List._++_ g80 (List._++_ t1 (List._++_ t2 t3)); slots = List._∷_ (Row.lease (κs .0) (qs .0)) (List._∷_ (Row.lease (κs .1 .0) (qs .1 .0)) (List._∷_ (Row.lease (κs .1 .1 .0) (qs .1 .1 .0)) (List._∷_ Row.off (List._∷_ Row.off (List._∷_ Row.off (List._∷_ Row.off (List._∷_ Row.off (List._∷_ Row.off (List._∷_ Row.off (List._∷_ Row.off (List._∷_ Row.off (List._∷_ Row.off (List._∷_ Row.off (List._∷_ Row.off (List._∷_ Row.off (List._∷_ Row.dead (List._∷_ Row.off (List._∷_ Row.off (List._∷_ Row.off List.[]))))))))))))))))))) }
+        G120 = record { locals = List._++_ g84 (List._++_ t1 (List._++_ t2 t3)); slots = List._∷_ (Row.lease (κs .0) (qs .0)) (List._∷_ (Row.lease (κs .1 .0) (qs .1 .0)) (List._∷_ (Row.lease (κs .1 .1 .0) (qs .1 .1 .0)) (List._∷_ Row.off (List._∷_ Row.off (List._∷_ Row.off (List._∷_ Row.off (List._∷_ Row.off (List._∷_ Row.off (List._∷_ Row.off (List._∷_ Row.off (List._∷_ Row.off (List._∷_ Row.off (List._∷_ Row.off (List._∷_ Row.off (List._∷_ Row.dead (List._∷_ Row.alive (List._∷_ Row.off (List._∷_ Row.off (List._∷_ Row.off List.[]))))))))))))))))))) }
 
         abbrev G121 : Row.Cx
-        G121 = record { locals = List._++_ t81 (List._++_ t1 (List._++_ t2 t3)); slots = List._∷_ (Row.lease (κs .0) (qs .0)) (List._∷_ (Row.lease (κs .1 .0) (qs .1 .0)) (List._∷_ (Row.lease (κs .1 .1 .0) (qs .1 .1 .0)) (List._∷_ (Row.lease (κs .1 .1 .1 .0) (qs .1 .1 .1 .0)) (List._∷_ Row.off (List._∷_ Row.off (List._∷_ Row.off (List._∷_ Row.off (List._∷_ Row.off (List._∷_ Row.off (List._∷_ Row.off (List._∷_ Row.off (List._∷_ Row.off (List._∷_ Row.off (List._∷_ Row.off (List._∷_ Row.off (List._∷_ Row.dead (List._∷_ Row.off (List._∷_ Row.off (List._∷_ Row.off List.[]))))))))))))))))))) }
+        G121 = record { locals = List._++_ g84 (List._++_ t1 (List._++_ t2 t3)); slots = List._∷_ (Row.lease (κs .0) (qs .0)) (List._∷_ (Row.lease (κs .1 .0) (qs .1 .0)) (List._∷_ (Row.lease (κs .1 .1 .0) (qs .1 .1 .0)) (List._∷_ Row.off (List._∷_ Row.off (List._∷_ Row.off (List._∷_ Row.off (List._∷_ Row.off (List._∷_ Row.off (List._∷_ Row.off (List._∷_ Row.off (List._∷_ Row.off (List._∷_ Row.off (List._∷_ Row.off (List._∷_ Row.off (List._∷_ Row.off (List._∷_ Row.alive (List._∷_ Row.off (List._∷_ Row.off (List._∷_ Row.off List.[]))))))))))))))))))) }
 
         abbrev G122 : Row.Cx
-        G122 = record { locals = List._++_ t81 (List._++_ t1 (List._++_ t2 t3)); slots = List._∷_ (Row.lease (κs .0) (qs .0)) (List._∷_ (Row.lease (κs .1 .0) (qs .1 .0)) (List._∷_ (Row.lease (κs .1 .1 .0) (qs .1 .1 .0)) (List._∷_ (Row.lease (κs .1 .1 .1 .0) (qs .1 .1 .1 .0)) (List._∷_ Row.off (List._∷_ Row.off (List._∷_ Row.off (List._∷_ Row.off (List._∷_ Row.off (List._∷_ Row.off (List._∷_ Row.off (List._∷_ Row.off (List._∷_ Row.off (List._∷_ Row.off (List._∷_ Row.off (List._∷_ Row.off (List._∷_ Row.off (List._∷_ Row.off (List._∷_ Row.off (List._∷_ Row.off List.[]))))))))))))))))))) }
+        G122 = record { locals = List._++_ g84 (List._++_ t1 (List._++_ t2 t3)); slots = List._∷_ (Row.lease (κs .0) (qs .0)) (List._∷_ (Row.lease (κs .1 .0) (qs .1 .0)) (List._∷_ (Row.lease (κs .1 .1 .0) (qs .1 .1 .0)) (List._∷_ Row.off (List._∷_ Row.off (List._∷_ Row.off (List._∷_ Row.off (List._∷_ Row.off (List._∷_ Row.off (List._∷_ Row.off (List._∷_ Row.off (List._∷_ Row.off (List._∷_ Row.off (List._∷_ Row.off (List._∷_ Row.off (List._∷_ Row.off (List._∷_ Row.dead (List._∷_ Row.off (List._∷_ Row.off (List._∷_ Row.off List.[]))))))))))))))))))) }
 
         abbrev G123 : Row.Cx
-        G123 = record { locals = List._++_ t81 (List._++_ t50 (List._++_ t2 t3)); slots = List._∷_ (Row.lease (κs .0) (qs .0)) (List._∷_ (Row.lease (κs .1 .0) (qs .1 .0)) (List._∷_ (Row.lease (κs .1 .1 .0) (qs .1 .1 .0)) (List._∷_ (Row.lease (κs .1 .1 .1 .0) (qs .1 .1 .1 .0)) (List._∷_ Row.off (List._∷_ Row.off (List._∷_ Row.off (List._∷_ Row.off (List._∷_ Row.off (List._∷_ Row.off (List._∷_ Row.off (List._∷_ Row.off (List._∷_ Row.off (List._∷_ Row.off (List._∷_ Row.off (List._∷_ Row.off (List._∷_ Row.off (List._∷_ Row.off (List._∷_ Row.off (List._∷_ Row.off List.[]))))))))))))))))))) }
+        G123 = record { locals = List._++_ t85 (List._++_ t1 (List._++_ t2 t3)); slots = List._∷_ (Row.lease (κs .0) (qs .0)) (List._∷_ (Row.lease (κs .1 .0) (qs .1 .0)) (List._∷_ (Row.lease (κs .1 .1 .0) (qs .1 .1 .0)) (List._∷_ (Row.lease (κs .1 .1 .1 .0) (qs .1 .1 .1 .0)) (List._∷_ Row.off (List._∷_ Row.off (List._∷_ Row.off (List._∷_ Row.off (List._∷_ Row.off (List._∷_ Row.off (List._∷_ Row.off (List._∷_ Row.off (List._∷_ Row.off (List._∷_ Row.off (List._∷_ Row.off (List._∷_ Row.off (List._∷_ Row.dead (List._∷_ Row.off (List._∷_ Row.off (List._∷_ Row.off List.[]))))))))))))))))))) }
 
         abbrev G124 : Row.Cx
-        G124 = record { locals = List._++_ t81 (List._++_ t1 (List._++_ t2 t3)); slots = List._∷_ (Row.lease (κs .0) (qs .0)) (List._∷_ (Row.lease (κs .1 .0) (qs .1 .0)) (List._∷_ (Row.lease (κs .1 .1 .0) (qs .1 .1 .0)) (List._∷_ (Row.lease (κs .1 .1 .1 .0) (qs .1 .1 .1 .0)) (List._∷_ Row.off (List._∷_ Row.off (List._∷_ Row.off (List._∷_ Row.off (List._∷_ Row.off (List._∷_ Row.off (List._∷_ Row.off (List._∷_ Row.off (List._∷_ Row.off (List._∷_ Row.off (List._∷_ Row.off (List._∷_ Row.off (List._∷_ Row.off (List._∷_ Row.off (List._∷_ Row.off (List._∷_ Row.off List.[]))))))))))))))))))) }
+        G124 = record { locals = List._++_ t85 (List._++_ t1 (List._++_ t2 t3)); slots = List._∷_ (Row.lease (κs .0) (qs .0)) (List._∷_ (Row.lease (κs .1 .0) (qs .1 .0)) (List._∷_ (Row.lease (κs .1 .1 .0) (qs .1 .1 .0)) (List._∷_ (Row.lease (κs .1 .1 .1 .0) (qs .1 .1 .1 .0)) (List._∷_ Row.off (List._∷_ Row.off (List._∷_ Row.off (List._∷_ Row.off (List._∷_ Row.off (List._∷_ Row.off (List._∷_ Row.off (List._∷_ Row.off (List._∷_ Row.off (List._∷_ Row.off (List._∷_ Row.off (List._∷_ Row.off (List._∷_ Row.off (List._∷_ Row.off (List._∷_ Row.off (List._∷_ Row.off List.[]))))))))))))))))))) }
 
         abbrev G125 : Row.Cx
-        G125 = record { locals = List._++_ t81 (List._++_ t1 (List._++_ t2 t3)); slots = List._∷_ (Row.lease (κs .0) (qs .0)) (List._∷_ (Row.lease (κs .1 .0) (qs .1 .0)) (List._∷_ (Row.lease (κs .1 .1 .0) (qs .1 .1 .0)) (List._∷_ (Row.lease (κs .1 .1 .1 .0) (qs .1 .1 .1 .0)) (List._∷_ Row.off (List._∷_ Row.off (List._∷_ Row.off (List._∷_ Row.off (List._∷_ Row.off (List._∷_ Row.off (List._∷_ Row.off (List._∷_ Row.off (List._∷_ Row.off (List._∷_ Row.off (List._∷_ Row.off (List._∷_ Row.off (List._∷_ Row.off (List._∷_ Row.alive (List._∷_ Row.off (List._∷_ Row.off List.[]))))))))))))))))))) }
+        G125 = record { locals = List._++_ t85 (List._++_ t54 (List._++_ t2 t3)); slots = List._∷_ (Row.lease (κs .0) (qs .0)) (List._∷_ (Row.lease (κs .1 .0) (qs .1 .0)) (List._∷_ (Row.lease (κs .1 .1 .0) (qs .1 .1 .0)) (List._∷_ (Row.lease (κs .1 .1 .1 .0) (qs .1 .1 .1 .0)) (List._∷_ Row.off (List._∷_ Row.off (List._∷_ Row.off (List._∷_ Row.off (List._∷_ Row.off (List._∷_ Row.off (List._∷_ Row.off (List._∷_ Row.off (List._∷_ Row.off (List._∷_ Row.off (List._∷_ Row.off (List._∷_ Row.off (List._∷_ Row.off (List._∷_ Row.off (List._∷_ Row.off (List._∷_ Row.off List.[]))))))))))))))))))) }
 
         abbrev G126 : Row.Cx
-        G126 = record { locals = List._++_ g82 (List._++_ t1 (List._++_ t83 t3)); slots = List._∷_ (Row.lease (κs .0) (qs .0)) (List._∷_ Row.off (List._∷_ (Row.lease (κs .1 .1 .0) (qs .1 .1 .0)) (List._∷_ (Row.lease (κs .1 .1 .1 .0) (qs .1 .1 .1 .0)) (List._∷_ Row.off (List._∷_ Row.off (List._∷_ Row.off (List._∷_ Row.off (List._∷_ Row.off (List._∷_ Row.off (List._∷_ Row.off (List._∷_ Row.off (List._∷_ Row.off (List._∷_ Row.off (List._∷_ Row.off (List._∷_ Row.off (List._∷_ Row.off (List._∷_ Row.alive (List._∷_ Row.off (List._∷_ Row.off List.[]))))))))))))))))))) }
+        G126 = record { locals = List._++_ t85 (List._++_ t1 (List._++_ t2 t3)); slots = List._∷_ (Row.lease (κs .0) (qs .0)) (List._∷_ (Row.lease (κs .1 .0) (qs .1 .0)) (List._∷_ (Row.lease (κs .1 .1 .0) (qs .1 .1 .0)) (List._∷_ (Row.lease (κs .1 .1 .1 .0) (qs .1 .1 .1 .0)) (List._∷_ Row.off (List._∷_ Row.off (List._∷_ Row.off (List._∷_ Row.off (List._∷_ Row.off (List._∷_ Row.off (List._∷_ Row.off (List._∷_ Row.off (List._∷_ Row.off (List._∷_ Row.off (List._∷_ Row.off (List._∷_ Row.off (List._∷_ Row.off (List._∷_ Row.off (List._∷_ Row.off (List._∷_ Row.off List.[]))))))))))))))))))) }
 
         abbrev G127 : Row.Cx
-        G127 = record { locals = List._++_ g82 (List._++_ t1 (List._++_ t84 t3)); slots = List._∷_ (Row.lease (κs .0) (qs .0)) (List._∷_ Row.off (List._∷_ (Row.lease (κs .1 .1 .0) (qs .1 .1 .0)) (List._∷_ (Row.lease (κs .1 .1 .1 .0) (qs .1 .1 .1 .0)) (List._∷_ Row.off (List._∷_ Row.off (List._∷_ Row.off (List._∷_ Row.off (List._∷_ Row.off (List._∷_ Row.off (List._∷_ Row.off (List._∷_ Row.off (List._∷_ Row.off (List._∷_ Row.off (List._∷_ Row.off (List._∷_ Row.off (List._∷_ Row.off (List._∷_ Row.alive (List._∷_ Row.off (List._∷_ Row.off List.[]))))))))))))))))))) }
+        G127 = record { locals = List._++_ t85 (List._++_ t1 (List._++_ t2 t3)); slots = List._∷_ (Row.lease (κs .0) (qs .0)) (List._∷_ (Row.lease (κs .1 .0) (qs .1 .0)) (List._∷_ (Row.lease (κs .1 .1 .0) (qs .1 .1 .0)) (List._∷_ (Row.lease (κs .1 .1 .1 .0) (qs .1 .1 .1 .0)) (List._∷_ Row.off (List._∷_ Row.off (List._∷_ Row.off (List._∷_ Row.off (List._∷_ Row.off (List._∷_ Row.off (List._∷_ Row.off (List._∷_ Row.off (List._∷_ Row.off (List._∷_ Row.off (List._∷_ Row.off (List._∷_ Row.off (List._∷_ Row.off (List._∷_ Row.alive (List._∷_ Row.off (List._∷_ Row.off List.[]))))))))))))))))))) }
 
         abbrev G128 : Row.Cx
-        G128 = record { locals = List._++_ g82 (List._++_ t1 (List._++_ t84 t3)); slots = List._∷_ (Row.lease (κs .0) (qs .0)) (List._∷_ Row.off (List._∷_ (Row.lease (κs .1 .1 .0) (qs .1 .1 .0)) (List._∷_ (Row.lease (κs .1 .1 .1 .0) (qs .1 .1 .1 .0)) (List._∷_ Row.off (List._∷_ Row.off (List._∷_ Row.off (List._∷_ Row.off (List._∷_ Row.off (List._∷_ Row.off (List._∷_ Row.off (List._∷_ Row.off (List._∷_ Row.off (List._∷_ Row.off (List._∷_ Row.off (List._∷_ Row.off (List._∷_ Row.off (List._∷_ Row.alive (List._∷_ Row.alive (List._∷_ Row.off List.[]))))))))))))))))))) }
+        G128 = record { locals = List._++_ g86 (List._++_ t1 (List._++_ t87 t3)); slots = List._∷_ (Row.lease (κs .0) (qs .0)) (List._∷_ Row.off (List._∷_ (Row.lease (κs .1 .1 .0) (qs .1 .1 .0)) (List._∷_ (Row.lease (κs .1 .1 .1 .0) (qs .1 .1 .1 .0)) (List._∷_ Row.off (List._∷_ Row.off (List._∷_ Row.off (List._∷_ Row.off (List._∷_ Row.off (List._∷_ Row.off (List._∷_ Row.off (List._∷_ Row.off (List._∷_ Row.off (List._∷_ Row.off (List._∷_ Row.off (List._∷_ Row.off (List._∷_ Row.off (List._∷_ Row.alive (List._∷_ Row.off (List._∷_ Row.off List.[]))))))))))))))))))) }
 
         abbrev G129 : Row.Cx
-        G129 = record { locals = List._++_ g85 (List._++_ t1 (List._++_ t86 t3)); slots = List._∷_ (Row.lease (κs .0) (qs .0)) (List._∷_ Row.off (List._∷_ Row.off (List._∷_ (Row.lease (κs .1 .1 .1 .0) (qs .1 .1 .1 .0)) (List._∷_ Row.off (List._∷_ Row.off (List._∷_ Row.off (List._∷_ Row.off (List._∷_ Row.off (List._∷_ Row.off (List._∷_ Row.off (List._∷_ Row.off (List._∷_ Row.off (List._∷_ Row.off (List._∷_ Row.off (List._∷_ Row.off (List._∷_ Row.off (List._∷_ Row.alive (List._∷_ Row.alive (List._∷_ Row.off List.[]))))))))))))))))))) }
+        G129 = record { locals = List._++_ g86 (List._++_ t1 (List._++_ t88 t3)); slots = List._∷_ (Row.lease (κs .0) (qs .0)) (List._∷_ Row.off (List._∷_ (Row.lease (κs .1 .1 .0) (qs .1 .1 .0)) (List._∷_ (Row.lease (κs .1 .1 .1 .0) (qs .1 .1 .1 .0)) (List._∷_ Row.off (List._∷_ Row.off (List._∷_ Row.off (List._∷_ Row.off (List._∷_ Row.off (List._∷_ Row.off (List._∷_ Row.off (List._∷_ Row.off (List._∷_ Row.off (List._∷_ Row.off (List._∷_ Row.off (List._∷_ Row.off (List._∷_ Row.off (List._∷_ Row.alive (List._∷_ Row.off (List._∷_ Row.off List.[]))))))))))))))))))) }
 
         abbrev G130 : Row.Cx
-        G130 = record { locals = List._++_ g85 (List._++_ t1 (List._++_ t87 t3)); slots = List._∷_ (Row.lease (κs .0) (qs .0)) (List._∷_ Row.off (List._∷_ Row.off (List._∷_ (Row.lease (κs .1 .1 .1 .0) (qs .1 .1 .1 .0)) (List._∷_ Row.off (List._∷_ Row.off (List._∷_ Row.off (List._∷_ Row.off (List._∷_ Row.off (List._∷_ Row.off (List._∷_ Row.off (List._∷_ Row.off (List._∷_ Row.off (List._∷_ Row.off (List._∷_ Row.off (List._∷_ Row.off (List._∷_ Row.off (List._∷_ Row.alive (List._∷_ Row.alive (List._∷_ Row.off List.[]))))))))))))))))))) }
+        G130 = record { locals = List._++_ g86 (List._++_ t1 (List._++_ t88 t3)); slots = List._∷_ (Row.lease (κs .0) (qs .0)) (List._∷_ Row.off (List._∷_ (Row.lease (κs .1 .1 .0) (qs .1 .1 .0)) (List._∷_ (Row.lease (κs .1 .1 .1 .0) (qs .1 .1 .1 .0)) (List._∷_ Row.off (List._∷_ Row.off (List._∷_ Row.off (List._∷_ Row.off (List._∷_ Row.off (List._∷_ Row.off (List._∷_ Row.off (List._∷_ Row.off (List._∷_ Row.off (List._∷_ Row.off (List._∷_ Row.off (List._∷_ Row.off (List._∷_ Row.off (List._∷_ Row.alive (List._∷_ Row.alive (List._∷_ Row.off List.[]))))))))))))))))))) }
 
         abbrev G131 : Row.Cx
-        G131 = record { locals = List._++_ g85 (List._++_ t1 (List._++_ t87 t3)); slots = List._∷_ (Row.lease (κs .0) (qs .0)) (List._∷_ Row.off (List._∷_ Row.off (List._∷_ (Row.lease (κs .1 .1 .1 .0) (qs .1 .1 .1 .0)) (List._∷_ Row.off (List._∷_ Row.off (List._∷_ Row.off (List._∷_ Row.off (List._∷_ Row.off (List._∷_ Row.off (List._∷_ Row.off (List._∷_ Row.off (List._∷_ Row.off (List._∷_ Row.off (List._∷_ Row.off (List._∷_ Row.off (List._∷_ Row.off (List._∷_ Row.alive (List._∷_ Row.alive (List._∷_ Row.alive List.[]))))))))))))))))))) }
+        G131 = record { locals = List._++_ g89 (List._++_ t1 (List._++_ t90 t3)); slots = List._∷_ (Row.lease (κs .0) (qs .0)) (List._∷_ Row.off (List._∷_ Row.off (List._∷_ (Row.lease (κs .1 .1 .1 .0) (qs .1 .1 .1 .0)) (List._∷_ Row.off (List._∷_ Row.off (List._∷_ Row.off (List._∷_ Row.off (List._∷_ Row.off (List._∷_ Row.off (List._∷_ Row.off (List._∷_ Row.off (List._∷_ Row.off (List._∷_ Row.off (List._∷_ Row.off (List._∷_ Row.off (List._∷_ Row.off (List._∷_ Row.alive (List._∷_ Row.alive (List._∷_ Row.off List.[]))))))))))))))))))) }
 
         abbrev G132 : Row.Cx
-        G132 = record { locals = List._++_ g88 (List._++_ t1 (List._++_ t89 t3)); slots = List._∷_ (Row.lease (κs .0) (qs .0)) (List._∷_ Row.off (List._∷_ Row.off (List._∷_ Row.off (List._∷_ Row.off (List._∷_ Row.off (List._∷_ Row.off (List._∷_ Row.off (List._∷_ Row.off (List._∷_ Row.off (List._∷_ Row.off (List._∷_ Row.off (List._∷_ Row.off (List._∷_ Row.off (List._∷_ Row.off (List._∷_ Row.off (List._∷_ Row.off (List._∷_ Row.alive (List._∷_ Row.alive (List._∷_ Row.alive List.[]))))))))))))))))))) }
+        G132 = record { locals = List._++_ g89 (List._++_ t1 (List._++_ t91 t3)); slots = List._∷_ (Row.lease (κs .0) (qs .0)) (List._∷_ Row.off (List._∷_ Row.off (List._∷_ (Row.lease (κs .1 .1 .1 .0) (qs .1 .1 .1 .0)) (List._∷_ Row.off (List._∷_ Row.off (List._∷_ Row.off (List._∷_ Row.off (List._∷_ Row.off (List._∷_ Row.off (List._∷_ Row.off (List._∷_ Row.off (List._∷_ Row.off (List._∷_ Row.off (List._∷_ Row.off (List._∷_ Row.off (List._∷_ Row.off (List._∷_ Row.alive (List._∷_ Row.alive (List._∷_ Row.off List.[]))))))))))))))))))) }
 
         abbrev G133 : Row.Cx
-        G133 = record { locals = List._++_ g88 (List._++_ t1 (List._++_ t87 t90)); slots = List._∷_ (Row.lease (κs .0) (qs .0)) (List._∷_ Row.off (List._∷_ Row.off (List._∷_ Row.off (List._∷_ Row.off (List._∷_ Row.off (List._∷_ Row.off (List._∷_ Row.off (List._∷_ Row.off (List._∷_ Row.off (List._∷_ Row.off (List._∷_ Row.off (List._∷_ Row.off (List._∷_ Row.off (List._∷_ Row.off (List._∷_ Row.off (List._∷_ Row.off (List._∷_ Row.alive (List._∷_ Row.alive (List._∷_ Row.alive List.[]))))))))))))))))))) }
+        G133 = record { locals = List._++_ g89 (List._++_ t1 (List._++_ t91 t3)); slots = List._∷_ (Row.lease (κs .0) (qs .0)) (List._∷_ Row.off (List._∷_ Row.off (List._∷_ (Row.lease (κs .1 .1 .1 .0) (qs .1 .1 .1 .0)) (List._∷_ Row.off (List._∷_ Row.off (List._∷_ Row.off (List._∷_ Row.off (List._∷_ Row.off (List._∷_ Row.off (List._∷_ Row.off (List._∷_ Row.off (List._∷_ Row.off (List._∷_ Row.off (List._∷_ Row.off (List._∷_ Row.off (List._∷_ Row.off (List._∷_ Row.alive (List._∷_ Row.alive (List._∷_ Row.alive List.[]))))))))))))))))))) }
 
         abbrev G134 : Row.Cx
-        G134 = record { locals = List._++_ g88 (List._++_ t50 (List._++_ t87 t90)); slots = List._∷_ (Row.lease (κs .0) (qs .0)) (List._∷_ Row.off (List._∷_ Row.off (List._∷_ Row.off (List._∷_ Row.off (List._∷_ Row.off (List._∷_ Row.off (List._∷_ Row.off (List._∷_ Row.off (List._∷_ Row.off (List._∷_ Row.off (List._∷_ Row.off (List._∷_ Row.off (List._∷_ Row.off (List._∷_ Row.off (List._∷_ Row.off (List._∷_ Row.off (List._∷_ Row.alive (List._∷_ Row.alive (List._∷_ Row.alive List.[]))))))))))))))))))) }
+        G134 = record { locals = List._++_ g92 (List._++_ t1 (List._++_ t91 t93)); slots = List._∷_ (Row.lease (κs .0) (qs .0)) (List._∷_ Row.off (List._∷_ Row.off (List._∷_ Row.off (List._∷_ Row.off (List._∷_ Row.off (List._∷_ Row.off (List._∷_ Row.off (List._∷_ Row.off (List._∷_ Row.off (List._∷_ Row.off (List._∷_ Row.off (List._∷_ Row.off (List._∷_ Row.off (List._∷_ Row.off (List._∷_ Row.off (List._∷_ Row.off (List._∷_ Row.alive (List._∷_ Row.alive (List._∷_ Row.alive List.[]))))))))))))))))))) }
 
         abbrev G135 : Row.Cx
-        G135 = record { locals = List._++_ g88 (List._++_ t50 (List._++_ t91 t90)); slots = List._∷_ (Row.lease (κs .0) (qs .0)) (List._∷_ Row.off (List._∷_ Row.off (List._∷_ Row.off (List._∷_ Row.off (List._∷_ Row.off (List._∷_ Row.off (List._∷_ Row.off (List._∷_ Row.off (List._∷_ Row.off (List._∷_ Row.off (List._∷_ Row.off (List._∷_ Row.off (List._∷_ Row.off (List._∷_ Row.off (List._∷_ Row.off (List._∷_ Row.off (List._∷_ Row.alive (List._∷_ Row.alive (List._∷_ Row.alive List.[]))))))))))))))))))) }
+        G135 = record { locals = List._++_ g92 (List._++_ t1 (List._++_ t91 t94)); slots = List._∷_ (Row.lease (κs .0) (qs .0)) (List._∷_ Row.off (List._∷_ Row.off (List._∷_ Row.off (List._∷_ Row.off (List._∷_ Row.off (List._∷_ Row.off (List._∷_ Row.off (List._∷_ Row.off (List._∷_ Row.off (List._∷_ Row.off (List._∷_ Row.off (List._∷_ Row.off (List._∷_ Row.off (List._∷_ Row.off (List._∷_ Row.off (List._∷_ Row.off (List._∷_ Row.alive (List._∷_ Row.alive (List._∷_ Row.alive List.[]))))))))))))))))))) }
 
         abbrev G136 : Row.Cx
-        G136 = record { locals = List._++_ g88 (List._++_ t50 (List._++_ t2 t90)); slots = List._∷_ (Row.lease (κs .0) (qs .0)) (List._∷_ Row.off (List._∷_ Row.off (List._∷_ Row.off (List._∷_ Row.off (List._∷_ Row.off (List._∷_ Row.off (List._∷_ Row.off (List._∷_ Row.off (List._∷_ Row.off (List._∷_ Row.off (List._∷_ Row.off (List._∷_ Row.off (List._∷_ Row.off (List._∷_ Row.off (List._∷_ Row.off (List._∷_ Row.off (List._∷_ Row.alive (List._∷_ Row.alive (List._∷_ Row.alive List.[]))))))))))))))))))) }
+        G136 = record { locals = List._++_ g92 (List._++_ t54 (List._++_ t91 t94)); slots = List._∷_ (Row.lease (κs .0) (qs .0)) (List._∷_ Row.off (List._∷_ Row.off (List._∷_ Row.off (List._∷_ Row.off (List._∷_ Row.off (List._∷_ Row.off (List._∷_ Row.off (List._∷_ Row.off (List._∷_ Row.off (List._∷_ Row.off (List._∷_ Row.off (List._∷_ Row.off (List._∷_ Row.off (List._∷_ Row.off (List._∷_ Row.off (List._∷_ Row.off (List._∷_ Row.alive (List._∷_ Row.alive (List._∷_ Row.alive List.[]))))))))))))))))))) }
 
         abbrev G137 : Row.Cx
-        G137 = record { locals = List._++_ g88 (List._++_ t50 (List._++_ t2 t3)); slots = List._∷_ (Row.lease (κs .0) (qs .0)) (List._∷_ Row.off (List._∷_ Row.off (List._∷_ Row.off (List._∷_ Row.off (List._∷_ Row.off (List._∷_ Row.off (List._∷_ Row.off (List._∷_ Row.off (List._∷_ Row.off (List._∷_ Row.off (List._∷_ Row.off (List._∷_ Row.off (List._∷_ Row.off (List._∷_ Row.off (List._∷_ Row.off (List._∷_ Row.off (List._∷_ Row.alive (List._∷_ Row.alive (List._∷_ Row.alive List.[]))))))))))))))))))) }
+        G137 = record { locals = List._++_ g92 (List._++_ t54 (List._++_ t95 t94)); slots = List._∷_ (Row.lease (κs .0) (qs .0)) (List._∷_ Row.off (List._∷_ Row.off (List._∷_ Row.off (List._∷_ Row.off (List._∷_ Row.off (List._∷_ Row.off (List._∷_ Row.off (List._∷_ Row.off (List._∷_ Row.off (List._∷_ Row.off (List._∷_ Row.off (List._∷_ Row.off (List._∷_ Row.off (List._∷_ Row.off (List._∷_ Row.off (List._∷_ Row.off (List._∷_ Row.alive (List._∷_ Row.alive (List._∷_ Row.alive List.[]))))))))))))))))))) }
 
         abbrev G138 : Row.Cx
-        G138 = record { locals = List._++_ g92 (List._++_ t50 (List._++_ t2 t3)); slots = List._∷_ (Row.lease (κs .0) (qs .0)) (List._∷_ Row.off (List._∷_ Row.off (List._∷_ Row.off (List._∷_ Row.off (List._∷_ Row.off (List._∷_ Row.off (List._∷_ Row.off (List._∷_ Row.off (List._∷_ Row.off (List._∷_ Row.off (List._∷_ Row.off (List._∷_ Row.off (List._∷_ Row.off (List._∷_ Row.off (List._∷_ Row.off (List._∷_ Row.off (List._∷_ Row.alive (List._∷_ Row.alive (List._∷_ Row.alive List.[]))))))))))))))))))) }
+        G138 = record { locals = List._++_ g92 (List._++_ t54 (List._++_ t2 t94)); slots = List._∷_ (Row.lease (κs .0) (qs .0)) (List._∷_ Row.off (List._∷_ Row.off (List._∷_ Row.off (List._∷_ Row.off (List._∷_ Row.off (List._∷_ Row.off (List._∷_ Row.off (List._∷_ Row.off (List._∷_ Row.off (List._∷_ Row.off (List._∷_ Row.off (List._∷_ Row.off (List._∷_ Row.off (List._∷_ Row.off (List._∷_ Row.off (List._∷_ Row.off (List._∷_ Row.alive (List._∷_ Row.alive (List._∷_ Row.alive List.[]))))))))))))))))))) }
 
         abbrev G139 : Row.Cx
-        G139 = record { locals = List._++_ g93 (List._++_ t50 (List._++_ t2 t3)); slots = List._∷_ (Row.lease (κs .0) (qs .0)) (List._∷_ Row.off (List._∷_ Row.off (List._∷_ Row.off (List._∷_ Row.off (List._∷_ Row.off (List._∷_ Row.off (List._∷_ Row.off (List._∷_ Row.off (List._∷_ Row.off (List._∷_ Row.off (List._∷_ Row.off (List._∷_ Row.off (List._∷_ Row.off (List._∷_ Row.off (List._∷_ Row.off (List._∷_ Row.off (List._∷_ Row.alive (List._∷_ Row.alive (List._∷_ Row.alive List.[]))))))))))))))))))) }
+        G139 = record { locals = List._++_ g92 (List._++_ t54 (List._++_ t2 t3)); slots = List._∷_ (Row.lease (κs .0) (qs .0)) (List._∷_ Row.off (List._∷_ Row.off (List._∷_ Row.off (List._∷_ Row.off (List._∷_ Row.off (List._∷_ Row.off (List._∷_ Row.off (List._∷_ Row.off (List._∷_ Row.off (List._∷_ Row.off (List._∷_ Row.off (List._∷_ Row.off (List._∷_ Row.off (List._∷_ Row.off (List._∷_ Row.off (List._∷_ Row.off (List._∷_ Row.alive (List._∷_ Row.alive (List._∷_ Row.alive List.[]))))))))))))))))))) }
 
         abbrev G140 : Row.Cx
-        G140 = record { locals = List._++_ g94 (List._++_ t50 (List._++_ t2 t3)); slots = List._∷_ (Row.lease (κs .0) (qs .0)) (List._∷_ Row.off (List._∷_ Row.off (List._∷_ Row.off (List._∷_ Row.off (List._∷_ Row.off (List._∷_ Row.off (List._∷_ Row.off (List._∷_ Row.off (List._∷_ Row.off (List._∷_ Row.off (List._∷_ Row.off (List._∷_ Row.off (List._∷_ Row.off (List._∷_ Row.off (List._∷_ Row.off (List._∷_ Row.off (List._∷_ Row.alive (List._∷_ Row.alive (List._∷_ Row.alive List.[]))))))))))))))))))) }
+        G140 = record { locals = List._++_ g96 (List._++_ t54 (List._++_ t2 t3)); slots = List._∷_ (Row.lease (κs .0) (qs .0)) (List._∷_ Row.off (List._∷_ Row.off (List._∷_ Row.off (List._∷_ Row.off (List._∷_ Row.off (List._∷_ Row.off (List._∷_ Row.off (List._∷_ Row.off (List._∷_ Row.off (List._∷_ Row.off (List._∷_ Row.off (List._∷_ Row.off (List._∷_ Row.off (List._∷_ Row.off (List._∷_ Row.off (List._∷_ Row.off (List._∷_ Row.alive (List._∷_ Row.alive (List._∷_ Row.alive List.[]))))))))))))))))))) }
 
         abbrev G141 : Row.Cx
-        G141 = record { locals = List._++_ g94 (List._++_ t1 (List._++_ t2 t3)); slots = List._∷_ (Row.lease (κs .0) (qs .0)) (List._∷_ Row.off (List._∷_ Row.off (List._∷_ Row.off (List._∷_ Row.off (List._∷_ Row.off (List._∷_ Row.off (List._∷_ Row.off (List._∷_ Row.off (List._∷_ Row.off (List._∷_ Row.off (List._∷_ Row.off (List._∷_ Row.off (List._∷_ Row.off (List._∷_ Row.off (List._∷_ Row.off (List._∷_ Row.off (List._∷_ Row.alive (List._∷_ Row.alive (List._∷_ Row.alive List.[]))))))))))))))))))) }
+        G141 = record { locals = List._++_ g97 (List._++_ t54 (List._++_ t2 t3)); slots = List._∷_ (Row.lease (κs .0) (qs .0)) (List._∷_ Row.off (List._∷_ Row.off (List._∷_ Row.off (List._∷_ Row.off (List._∷_ Row.off (List._∷_ Row.off (List._∷_ Row.off (List._∷_ Row.off (List._∷_ Row.off (List._∷_ Row.off (List._∷_ Row.off (List._∷_ Row.off (List._∷_ Row.off (List._∷_ Row.off (List._∷_ Row.off (List._∷_ Row.off (List._∷_ Row.alive (List._∷_ Row.alive (List._∷_ Row.alive List.[]))))))))))))))))))) }
 
         abbrev G142 : Row.Cx
-        G142 = record { locals = List._++_ g94 (List._++_ t1 (List._++_ t2 t3)); slots = List._∷_ (Row.lease (κs .0) (qs .0)) (List._∷_ Row.off (List._∷_ Row.off (List._∷_ Row.off (List._∷_ Row.off (List._∷_ Row.off (List._∷_ Row.off (List._∷_ Row.off (List._∷_ Row.off (List._∷_ Row.off (List._∷_ Row.off (List._∷_ Row.off (List._∷_ Row.off (List._∷_ Row.off (List._∷_ Row.off (List._∷_ Row.off (List._∷_ Row.off (List._∷_ Row.dead (List._∷_ Row.alive (List._∷_ Row.alive List.[]))))))))))))))))))) }
+        G142 = record { locals = List._++_ g98 (List._++_ t54 (List._++_ t2 t3)); slots = List._∷_ (Row.lease (κs .0) (qs .0)) (List._∷_ Row.off (List._∷_ Row.off (List._∷_ Row.off (List._∷_ Row.off (List._∷_ Row.off (List._∷_ Row.off (List._∷_ Row.off (List._∷_ Row.off (List._∷_ Row.off (List._∷_ Row.off (List._∷_ Row.off (List._∷_ Row.off (List._∷_ Row.off (List._∷_ Row.off (List._∷_ Row.off (List._∷_ Row.off (List._∷_ Row.alive (List._∷_ Row.alive (List._∷_ Row.alive List.[]))))))))))))))))))) }
 
         abbrev G143 : Row.Cx
-        G143 = record { locals = List._++_ g95 (List._++_ t1 (List._++_ t2 t3)); slots = List._∷_ (Row.lease (κs .0) (qs .0)) (List._∷_ (Row.lease (κs .1 .0) (qs .1 .0)) (List._∷_ Row.off (List._∷_ Row.off (List._∷_ Row.off (List._∷_ Row.off (List._∷_ Row.off (List._∷_ Row.off (List._∷_ Row.off (List._∷_ Row.off (List._∷_ Row.off (List._∷_ Row.off (List._∷_ Row.off (List._∷_ Row.off (List._∷_ Row.off (List._∷_ Row.off (List._∷_ Row.off (List._∷_ Row.dead (List._∷_ Row.alive (List._∷_ Row.alive List.[]))))))))))))))))))) }
+        G143 = record { locals = List._++_ g98 (List._++_ t1 (List._++_ t2 t3)); slots = List._∷_ (Row.lease (κs .0) (qs .0)) (List._∷_ Row.off (List._∷_ Row.off (List._∷_ Row.off (List._∷_ Row.off (List._∷_ Row.off (List._∷_ Row.off (List._∷_ Row.off (List._∷_ Row.off (List._∷_ Row.off (List._∷_ Row.off (List._∷_ Row.off (List._∷_ Row.off (List._∷_ Row.off (List._∷_ Row.off (List._∷_ Row.off (List._∷_ Row.off (List._∷_ Row.alive (List._∷_ Row.alive (List._∷_ Row.alive List.[]))))))))))))))))))) }
 
         abbrev G144 : Row.Cx
-        G144 = record { locals = List._++_ g95 (List._++_ t1 (List._++_ t2 t3)); slots = List._∷_ (Row.lease (κs .0) (qs .0)) (List._∷_ (Row.lease (κs .1 .0) (qs .1 .0)) (List._∷_ Row.off (List._∷_ Row.off (List._∷_ Row.off (List._∷_ Row.off (List._∷_ Row.off (List._∷_ Row.off (List._∷_ Row.off (List._∷_ Row.off (List._∷_ Row.off (List._∷_ Row.off (List._∷_ Row.off (List._∷_ Row.off (List._∷_ Row.off (List._∷_ Row.off (List._∷_ Row.off (List._∷_ Row.off (List._∷_ Row.alive (List._∷_ Row.alive List.[]))))))))))))))))))) }
+        G144 = record { locals = List._++_ g98 (List._++_ t1 (List._++_ t2 t3)); slots = List._∷_ (Row.lease (κs .0) (qs .0)) (List._∷_ Row.off (List._∷_ Row.off (List._∷_ Row.off (List._∷_ Row.off (List._∷_ Row.off (List._∷_ Row.off (List._∷_ Row.off (List._∷_ Row.off (List._∷_ Row.off (List._∷_ Row.off (List._∷_ Row.off (List._∷_ Row.off (List._∷_ Row.off (List._∷_ Row.off (List._∷_ Row.off (List._∷_ Row.off (List._∷_ Row.dead (List._∷_ Row.alive (List._∷_ Row.alive List.[]))))))))))))))))))) }
 
         abbrev G145 : Row.Cx
-        G145 = record { locals = List._++_ g95 (List._++_ t1 (List._++_ t2 t3)); slots = List._∷_ (Row.lease (κs .0) (qs .0)) (List._∷_ (Row.lease (κs .1 .0) (qs .1 .0)) (List._∷_ Row.off (List._∷_ Row.off (List._∷_ Row.off (List._∷_ Row.off (List._∷_ Row.off (List._∷_ Row.off (List._∷_ Row.off (List._∷_ Row.off (List._∷_ Row.off (List._∷_ Row.off (List._∷_ Row.off (List._∷_ Row.off (List._∷_ Row.off (List._∷_ Row.off (List._∷_ Row.off (List._∷_ Row.off (List._∷_ Row.dead (List._∷_ Row.alive List.[]))))))))))))))))))) }
+        G145 = record { locals = List._++_ g99 (List._++_ t1 (List._++_ t2 t3)); slots = List._∷_ (Row.lease (κs .0) (qs .0)) (List._∷_ (Row.lease (κs .1 .0) (qs .1 .0)) (List._∷_ Row.off (List._∷_ Row.off (List._∷_ Row.off (List._∷_ Row.off (List._∷_ Row.off (List._∷_ Row.off (List._∷_ Row.off (List._∷_ Row.off (List._∷_ Row.off (List._∷_ Row.off (List._∷_ Row.off (List._∷_ Row.off (List._∷_ Row.off (List._∷_ Row.off (List._∷_ Row.off (List._∷_ Row.dead (List._∷_ Row.alive (List._∷_ Row.alive List.[]))))))))))))))))))) }
 
         abbrev G146 : Row.Cx
-        G146 = record { locals = List._++_ g96 (List._++_ t1 (List._++_ t2 t3)); slots = List._∷_ (Row.lease (κs .0) (qs .0)) (List._∷_ (Row.lease (κs .1 .0) (qs .1 .0)) (List._∷_ (Row.lease (κs .1 .1 .0) (qs .1 .1 .0)) (List._∷_ Row.off (List._∷_ Row.off (List._∷_ Row.off (List._∷_ Row.off (List._∷_ Row.off (List._∷_ Row.off (List._∷_ Row.off (List._∷_ Row.off (List._∷_ Row.off (List._∷_ Row.off (List._∷_ Row.off (List._∷_ Row.off (List._∷_ Row.off (List._∷_ Row.off (List._∷_ Row.off (List._∷_ Row.dead (List._∷_ Row.alive List.[]))))))))))))))))))) }
+        G146 = record { locals = List._++_ g99 (List._++_ t1 (List._++_ t2 t3)); slots = List._∷_ (Row.lease (κs .0) (qs .0)) (List._∷_ (Row.lease (κs .1 .0) (qs .1 .0)) (List._∷_ Row.off (List._∷_ Row.off (List._∷_ Row.off (List._∷_ Row.off (List._∷_ Row.off (List._∷_ Row.off (List._∷_ Row.off (List._∷_ Row.off (List._∷_ Row.off (List._∷_ Row.off (List._∷_ Row.off (List._∷_ Row.off (List._∷_ Row.off (List._∷_ Row.off (List._∷_ Row.off (List._∷_ Row.off (List._∷_ Row.alive (List._∷_ Row.alive List.[]))))))))))))))))))) }
 
         abbrev G147 : Row.Cx
-        G147 = record { locals = List._++_ g96 (List._++_ t1 (List._++_ t2 t3)); slots = List._∷_ (Row.lease (κs .0) (qs .0)) (List._∷_ (Row.lease (κs .1 .0) (qs .1 .0)) (List._∷_ (Row.lease (κs .1 .1 .0) (qs .1 .1 .0)) (List._∷_ Row.off (List._∷_ Row.off (List._∷_ Row.off (List._∷_ Row.off (List._∷_ Row.off (List._∷_ Row.off (List._∷_ Row.off (List._∷_ Row.off (List._∷_ Row.off (List._∷_ Row.off (List._∷_ Row.off (List._∷_ Row.off (List._∷_ Row.off (List._∷_ Row.off (List._∷_ Row.off (List._∷_ Row.off (List._∷_ Row.alive List.[]))))))))))))))))))) }
+        G147 = record { locals = List._++_ g99 (List._++_ t1 (List._++_ t2 t3)); slots = List._∷_ (Row.lease (κs .0) (qs .0)) (List._∷_ (Row.lease (κs .1 .0) (qs .1 .0)) (List._∷_ Row.off (List._∷_ Row.off (List._∷_ Row.off (List._∷_ Row.off (List._∷_ Row.off (List._∷_ Row.off (List._∷_ Row.off (List._∷_ Row.off (List._∷_ Row.off (List._∷_ Row.off (List._∷_ Row.off (List._∷_ Row.off (List._∷_ Row.off (List._∷_ Row.off (List._∷_ Row.off (List._∷_ Row.off (List._∷_ Row.dead (List._∷_ Row.alive List.[]))))))))))))))))))) }
 
         abbrev G148 : Row.Cx
-        G148 = record { locals = List._++_ g96 (List._++_ t1 (List._++_ t2 t3)); slots = List._∷_ (Row.lease (κs .0) (qs .0)) (List._∷_ (Row.lease (κs .1 .0) (qs .1 .0)) (List._∷_ (Row.lease (κs .1 .1 .0) (qs .1 .1 .0)) (List._∷_ Row.off (List._∷_ Row.off (List._∷_ Row.off (List._∷_ Row.off (List._∷_ Row.off (List._∷_ Row.off (List._∷_ Row.off (List._∷_ Row.off (List._∷_ Row.off (List._∷_ Row.off (List._∷_ Row.off (List._∷_ Row.off (List._∷_ Row.off (List._∷_ Row.off (List._∷_ Row.off (List._∷_ Row.off (List._∷_ Row.dead List.[]))))))))))))))))))) }
+        G148 = record { locals = List._++_ g100 (List._++_ t1 (List._++_ t2 t3)); slots = List._∷_ (Row.lease (κs .0) (qs .0)) (List._∷_ (Row.lease (κs .1 .0) (qs .1 .0)) (List._∷_ (Row.lease (κs .1 .1 .0) (qs .1 .1 .0)) (List._∷_ Row.off (List._∷_ Row.off (List._∷_ Row.off (List._∷_ Row.off (List._∷_ Row.off (List._∷_ Row.off (List._∷_ Row.off (List._∷_ Row.off (List._∷_ Row.off (List._∷_ Row.off (List._∷_ Row.off (List._∷_ Row.off (List._∷_ Row.off (List._∷_ Row.off (List._∷_ Row.off (List._∷_ Row.dead (List._∷_ Row.alive List.[]))))))))))))))))))) }
 
         abbrev G149 : Row.Cx
-        G149 = record { locals = List._++_ t0 (List._++_ t1 (List._++_ t2 t3)); slots = List._∷_ (Row.lease (κs .0) (qs .0)) (List._∷_ (Row.lease (κs .1 .0) (qs .1 .0)) (List._∷_ (Row.lease (κs .1 .1 .0) (qs .1 .1 .0)) (List._∷_ (Row.lease (κs .1 .1 .1 .0) (qs .1 .1 .1 .0)) (List._∷_ Row.off (List._∷_ Row.off (List._∷_ Row.off (List._∷_ Row.off (List._∷_ Row.off (List._∷_ Row.off (List._∷_ Row.off (List._∷_ Row.off (List._∷_ Row.off (List._∷_ Row.off (List._∷_ Row.off (List._∷_ Row.off (List._∷_ Row.off (List._∷_ Row.off (List._∷_ Row.off (List._∷_ Row.dead List.[]))))))))))))))))))) }
+        G149 = record { locals = List._++_ g100 (List._++_ t1 (List._++_ t2 t3)); slots = List._∷_ (Row.lease (κs .0) (qs .0)) (List._∷_ (Row.lease (κs .1 .0) (qs .1 .0)) (List._∷_ (Row.lease (κs .1 .1 .0) (qs .1 .1 .0)) (List._∷_ Row.off (List._∷_ Row.off (List._∷_ Row.off (List._∷_ Row.off (List._∷_ Row.off (List._∷_ Row.off (List._∷_ Row.off (List._∷_ Row.off (List._∷_ Row.off (List._∷_ Row.off (List._∷_ Row.off (List._∷_ Row.off (List._∷_ Row.off (List._∷_ Row.off (List._∷_ Row.off (List._∷_ Row.off (List._∷_ Row.alive List.[]))))))))))))))))))) }
 
         abbrev G150 : Row.Cx
-        G150 = record { locals = List._++_ t0 (List._++_ t1 (List._++_ t2 t3)); slots = List._∷_ (Row.lease (κs .0) (qs .0)) (List._∷_ (Row.lease (κs .1 .0) (qs .1 .0)) (List._∷_ (Row.lease (κs .1 .1 .0) (qs .1 .1 .0)) (List._∷_ (Row.lease (κs .1 .1 .1 .0) (qs .1 .1 .1 .0)) (List._∷_ Row.off (List._∷_ Row.off (List._∷_ Row.off (List._∷_ Row.off (List._∷_ Row.off (List._∷_ Row.off (List._∷_ Row.off (List._∷_ Row.off (List._∷_ Row.off (List._∷_ Row.off (List._∷_ Row.off (List._∷_ Row.off (List._∷_ Row.off (List._∷_ Row.off (List._∷_ Row.off (List._∷_ Row.off List.[]))))))))))))))))))) }
+        G150 = record { locals = List._++_ g100 (List._++_ t1 (List._++_ t2 t3)); slots = List._∷_ (Row.lease (κs .0) (qs .0)) (List._∷_ (Row.lease (κs .1 .0) (qs .1 .0)) (List._∷_ (Row.lease (κs .1 .1 .0) (qs .1 .1 .0)) (List._∷_ Row.off (List._∷_ Row.off (List._∷_ Row.off (List._∷_ Row.off (List._∷_ Row.off (List._∷_ Row.off (List._∷_ Row.off (List._∷_ Row.off (List._∷_ Row.off (List._∷_ Row.off (List._∷_ Row.off (List._∷_ Row.off (List._∷_ Row.off (List._∷_ Row.off (List._∷_ Row.off (List._∷_ Row.off (List._∷_ Row.dead List.[]))))))))))))))))))) }
 
         abbrev G151 : Row.Cx
-        G151 = record { locals = List._++_ t97 (List._++_ t1 (List._++_ t2 t3)); slots = List._∷_ (Row.lease (κs .0) (qs .0)) (List._∷_ (Row.lease (κs .1 .0) (qs .1 .0)) (List._∷_ (Row.lease (κs .1 .1 .0) (qs .1 .1 .0)) (List._∷_ (Row.lease (κs .1 .1 .1 .0) (qs .1 .1 .1 .0)) (List._∷_ Row.off (List._∷_ Row.off (List._∷_ Row.off (List._∷_ Row.off (List._∷_ Row.off (List._∷_ Row.off (List._∷_ Row.off (List._∷_ Row.off (List._∷_ Row.off (List._∷_ Row.off (List._∷_ Row.off (List._∷_ Row.off (List._∷_ Row.off (List._∷_ Row.off (List._∷_ Row.off (List._∷_ Row.off List.[]))))))))))))))))))) }
+        G151 = record { locals = List._++_ t0 (List._++_ t1 (List._++_ t2 t3)); slots = List._∷_ (Row.lease (κs .0) (qs .0)) (List._∷_ (Row.lease (κs .1 .0) (qs .1 .0)) (List._∷_ (Row.lease (κs .1 .1 .0) (qs .1 .1 .0)) (List._∷_ (Row.lease (κs .1 .1 .1 .0) (qs .1 .1 .1 .0)) (List._∷_ Row.off (List._∷_ Row.off (List._∷_ Row.off (List._∷_ Row.off (List._∷_ Row.off (List._∷_ Row.off (List._∷_ Row.off (List._∷_ Row.off (List._∷_ Row.off (List._∷_ Row.off (List._∷_ Row.off (List._∷_ Row.off (List._∷_ Row.off (List._∷_ Row.off (List._∷_ Row.off (List._∷_ Row.dead List.[]))))))))))))))))))) }
 
         abbrev G152 : Row.Cx
-        G152 = record { locals = List._++_ t4 (List._++_ t1 (List._++_ t2 t3)); slots = List._∷_ (Row.lease (κs .0) (qs .0)) (List._∷_ (Row.lease (κs .1 .0) (qs .1 .0)) (List._∷_ (Row.lease (κs .1 .1 .0) (qs .1 .1 .0)) (List._∷_ (Row.lease (κs .1 .1 .1 .0) (qs .1 .1 .1 .0)) (List._∷_ Row.off (List._∷_ Row.off (List._∷_ Row.off (List._∷_ Row.off (List._∷_ Row.off (List._∷_ Row.off (List._∷_ Row.off (List._∷_ Row.off (List._∷_ Row.off (List._∷_ Row.off (List._∷_ Row.off (List._∷_ Row.off (List._∷_ Row.off (List._∷_ Row.off (List._∷_ Row.off (List._∷_ Row.off List.[]))))))))))))))))))) }
+        G152 = record { locals = List._++_ t0 (List._++_ t1 (List._++_ t2 t3)); slots = List._∷_ (Row.lease (κs .0) (qs .0)) (List._∷_ (Row.lease (κs .1 .0) (qs .1 .0)) (List._∷_ (Row.lease (κs .1 .1 .0) (qs .1 .1 .0)) (List._∷_ (Row.lease (κs .1 .1 .1 .0) (qs .1 .1 .1 .0)) (List._∷_ Row.off (List._∷_ Row.off (List._∷_ Row.off (List._∷_ Row.off (List._∷_ Row.off (List._∷_ Row.off (List._∷_ Row.off (List._∷_ Row.off (List._∷_ Row.off (List._∷_ Row.off (List._∷_ Row.off (List._∷_ Row.off (List._∷_ Row.off (List._∷_ Row.off (List._∷_ Row.off (List._∷_ Row.off List.[]))))))))))))))))))) }
+
+        abbrev G153 : Row.Cx
+        G153 = record { locals = List._++_ t101 (List._++_ t1 (List._++_ t2 t3)); slots = List._∷_ (Row.lease (κs .0) (qs .0)) (List._∷_ (Row.lease (κs .1 .0) (qs .1 .0)) (List._∷_ (Row.lease (κs .1 .1 .0) (qs .1 .1 .0)) (List._∷_ (Row.lease (κs .1 .1 .1 .0) (qs .1 .1 .1 .0)) (List._∷_ Row.off (List._∷_ Row.off (List._∷_ Row.off (List._∷_ Row.off (List._∷_ Row.off (List._∷_ Row.off (List._∷_ Row.off (List._∷_ Row.off (List._∷_ Row.off (List._∷_ Row.off (List._∷_ Row.off (List._∷_ Row.off (List._∷_ Row.off (List._∷_ Row.off (List._∷_ Row.off (List._∷_ Row.off List.[]))))))))))))))))))) }
+
+        abbrev G154 : Row.Cx
+        G154 = record { locals = List._++_ t4 (List._++_ t1 (List._++_ t2 t3)); slots = List._∷_ (Row.lease (κs .0) (qs .0)) (List._∷_ (Row.lease (κs .1 .0) (qs .1 .0)) (List._∷_ (Row.lease (κs .1 .1 .0) (qs .1 .1 .0)) (List._∷_ (Row.lease (κs .1 .1 .1 .0) (qs .1 .1 .1 .0)) (List._∷_ Row.off (List._∷_ Row.off (List._∷_ Row.off (List._∷_ Row.off (List._∷_ Row.off (List._∷_ Row.off (List._∷_ Row.off (List._∷_ Row.off (List._∷_ Row.off (List._∷_ Row.off (List._∷_ Row.off (List._∷_ Row.off (List._∷_ Row.off (List._∷_ Row.off (List._∷_ Row.off (List._∷_ Row.off List.[]))))))))))))))))))) }
 
         abbrev Δ0 : Typed.Outs
         Δ0 = record { next = Option.none; exits = List.[]; returns = Option.some G1 }
@@ -2369,377 +2411,380 @@ module _ (claims· : Claims) where
           abbrev E : Wp.Env 𝓤 H
           E = Frame.EnvOf 𝓤 H (List._∷_ (Kinds.tyR r) (Enter.tysP ps xs)) bs
 
-          d0 : Typed.Typed 𝓤 H A 𝓣 E G48 b18 Δ1 at0
-          d0 = Typed.s-typed 𝓤 H A W 𝓣 E G48 b18 Δ1 (λ Ψ. Typed.both s46 (Typed.pass T49 T50 s47 (Typed.pass T50 T51 s48 (Typed.pass T51 T52 s49 (Typed.pass T52 T53 s50 (Typed.pass T53 T54 s51 (Typed.pass T54 T56 s53 (Typed.pass T56 T59 s56 (Typed.pass T59 T62 s59 Ψ))))))))) tt (Typed.g-post 𝓤 H A W 𝓣 E G48 G62 G63 b18 (λ Ψ. Typed.both s46 (Typed.pass T49 T50 s47 (Typed.pass T50 T51 s48 (Typed.pass T51 T52 s49 (Typed.pass T52 T53 s50 (Typed.pass T53 T54 s51 (Typed.pass T54 T56 s53 (Typed.pass T56 T59 s56 (Typed.pass T59 T62 s59 Ψ))))))))) (λ Ψ. Ψ) (Typed.g-post 𝓤 H A W 𝓣 E G48 G61 G62 b18 (λ Ψ. Typed.both s46 (Typed.pass T49 T50 s47 (Typed.pass T50 T51 s48 (Typed.pass T51 T52 s49 (Typed.pass T52 T53 s50 (Typed.pass T53 T54 s51 (Typed.pass T54 T56 s53 (Typed.pass T56 T59 s56 Ψ)))))))) (Typed.pass T59 T62 s59) (Typed.g-post 𝓤 H A W 𝓣 E G48 G60 G61 b18 (λ Ψ. Typed.both s46 (Typed.pass T49 T50 s47 (Typed.pass T50 T51 s48 (Typed.pass T51 T52 s49 (Typed.pass T52 T53 s50 (Typed.pass T53 T54 s51 (Typed.pass T54 T56 s53 (Typed.pass T56 T59 s56 Ψ)))))))) (λ Ψ. Ψ) (Typed.g-post 𝓤 H A W 𝓣 E G48 G59 G60 b18 (λ Ψ. Typed.both s46 (Typed.pass T49 T50 s47 (Typed.pass T50 T51 s48 (Typed.pass T51 T52 s49 (Typed.pass T52 T53 s50 (Typed.pass T53 T54 s51 (Typed.pass T54 T56 s53 (Typed.pass T56 T59 s56 Ψ)))))))) (λ Ψ. Ψ) (Typed.g-post 𝓤 H A W 𝓣 E G48 G58 G59 b18 (λ Ψ. Typed.both s46 (Typed.pass T49 T50 s47 (Typed.pass T50 T51 s48 (Typed.pass T51 T52 s49 (Typed.pass T52 T53 s50 (Typed.pass T53 T54 s51 (Typed.pass T54 T56 s53 Ψ))))))) (Typed.pass T56 T59 s56) (Typed.g-post 𝓤 H A W 𝓣 E G48 G57 G58 b18 (λ Ψ. Typed.both s46 (Typed.pass T49 T50 s47 (Typed.pass T50 T51 s48 (Typed.pass T51 T52 s49 (Typed.pass T52 T53 s50 (Typed.pass T53 T54 s51 (Typed.pass T54 T56 s53 Ψ))))))) (λ Ψ. Ψ) (Typed.g-post 𝓤 H A W 𝓣 E G48 G56 G57 b18 (λ Ψ. Typed.both s46 (Typed.pass T49 T50 s47 (Typed.pass T50 T51 s48 (Typed.pass T51 T52 s49 (Typed.pass T52 T53 s50 (Typed.pass T53 T54 s51 (Typed.pass T54 T56 s53 Ψ))))))) (λ Ψ. Ψ) (Typed.g-post 𝓤 H A W 𝓣 E G48 G55 G56 b18 (λ Ψ. Typed.both s46 (Typed.pass T49 T50 s47 (Typed.pass T50 T51 s48 (Typed.pass T51 T52 s49 (Typed.pass T52 T53 s50 (Typed.pass T53 T54 s51 Ψ)))))) (Typed.pass T54 T56 s53) (Typed.g-post 𝓤 H A W 𝓣 E G48 G54 G55 b18 (λ Ψ. Typed.both s46 (Typed.pass T49 T50 s47 (Typed.pass T50 T51 s48 (Typed.pass T51 T52 s49 (Typed.pass T52 T53 s50 (Typed.pass T53 T54 s51 Ψ)))))) (λ Ψ. Ψ) (Typed.g-post 𝓤 H A W 𝓣 E G48 G53 G54 b18 (λ Ψ. Typed.both s46 (Typed.pass T49 T50 s47 (Typed.pass T50 T51 s48 (Typed.pass T51 T52 s49 (Typed.pass T52 T53 s50 Ψ))))) (Typed.pass T53 T54 s51) (Typed.g-post 𝓤 H A W 𝓣 E G48 G52 G53 b18 (λ Ψ. Typed.both s46 (Typed.pass T49 T50 s47 (Typed.pass T50 T51 s48 (Typed.pass T51 T52 s49 Ψ)))) (Typed.pass T52 T53 s50) (Typed.g-post 𝓤 H A W 𝓣 E G48 G51 G52 b18 (λ Ψ. Typed.both s46 (Typed.pass T49 T50 s47 (Typed.pass T50 T51 s48 Ψ))) (Typed.pass T51 T52 s49) (Typed.g-post 𝓤 H A W 𝓣 E G48 G50 G51 b18 (λ Ψ. Typed.both s46 (Typed.pass T49 T50 s47 Ψ)) (Typed.pass T50 T51 s48) (Typed.g-post 𝓤 H A W 𝓣 E G48 G49 G50 b18 (Typed.both s46) (Typed.pass T49 T50 s47) (Plain.t-call-plain 𝓤 H A W 𝓣 3 ps·4 r·4 (claims· .8) (claims· .9) "bench_plans::questions::ask_all" (known .4) E (λ pos β. β) G48 (record { pos = 20; st = List.[]; d = 0; at = λ x. x }, (record { pos = 22; ty = Syntax.tyRef Syntax.erased Syntax.imm (Memory.pointee (T.the-row .written)); ref = λ x. x }, (record { pos = 24; ty = Syntax.tyRef Syntax.erased Syntax.imm (Syntax.tyInt Syntax.w16); ref = λ x. x }, (record { pos = 26; ty = Syntax.tyRef Syntax.erased Syntax.imm (Syntax.tyInt Syntax.w16); ref = λ x. x }, (Num.vAt 5 λ x. x, tt))))) 18 (List._∷_ 7 (List._∷_ 8 (List._∷_ 9 List.[]))) (Call.sub-id 𝓤 H A W (G48 .slots)) ((Yields.yields-copy 𝓤 H A W (λ ρ. Unit) (Declared'.row Size.the-type) Path'.refl (Copies.cStruct Size.the-type Laws''.the-laws Laws''.the-copy .copy 𝓤 H A W) (Rows'.whole (Declared'.row Size.the-type)) (λ x. x) (λ x. x) (λ ρ told. Local.mem-whole 𝓤 H A W (Declared'.row Size.the-type) ρ) λ ρ told. Local.whole-mem 𝓤 H A W (Declared'.row Size.the-type) ρ, Path'.refl), (ShrSlice.spares-sslice 𝓤 H A W T.the-row ty·8 7, Shared.reads-sslice 𝓤 H A W T.the-row ty·8 7, Path'.refl, (ShrSlice.spares-sslice 𝓤 H A W (Referent.rtF (Referent.fInt Syntax.w16)) ty·3 8, Shared.reads-sslice 𝓤 H A W (Referent.rtF (Referent.fInt Syntax.w16)) ty·3 8, Path'.refl, (ShrSlice.spares-sslice 𝓤 H A W (Referent.rtF (Referent.fInt Syntax.w16)) ty·3 9, Shared.reads-sslice 𝓤 H A W (Referent.rtF (Referent.fInt Syntax.w16)) ty·3 9, Path'.refl, ((Scalar.reads-sc 𝓤 H A W (Row.sInt Syntax.w64), Path'.refl), tt))))) (Reads.room-gone 𝓤 H A Syntax.tyUnit) (tt, (tt, (tt, tt))) Path'.refl) (Scalar.g-room 𝓤 H A W E G49 22 ty·15 (Shared.room-sslice 𝓤 H A W T.the-row ty·8 7))) (Scalar.g-room 𝓤 H A W E G50 24 ty·13 (Shared.room-sslice 𝓤 H A W (Referent.rtF (Referent.fInt Syntax.w16)) ty·3 8))) (Scalar.g-room 𝓤 H A W E G51 26 ty·13 (Shared.room-sslice 𝓤 H A W (Referent.rtF (Referent.fInt Syntax.w16)) ty·3 9))) (Scalar.g-room 𝓤 H A W E G52 18 Syntax.tyUnit (Scalar.room-sc 𝓤 H A W Row.sUnit))) (Scalar.g-room 𝓤 H A W E G53 20 ty·16 (Local.room-whole 𝓤 H A W (Declared'.row Size.the-type) ty·16 Path'.refl))) (Lifetime.g-end 𝓤 H A W E G54 7 Path'.refl)) (Reshare.g-back-sl-shr 𝓤 H A W E T.the-row G55 2 1 7 ty·9 (Row.lease (κs .1 .0) (qs .1 .0)) (λ x. x) (Reads.as-is 𝓤 H A (Reshare.mslice-owedS T.the-row ty·9 1 7 (Row.lease (κs .1 .0) (qs .1 .0)))) Path'.refl Path'.refl)) (Lifetime.g-forget 𝓤 H A W E G56 7 Row.dead Path'.refl)) (Lifetime.g-end 𝓤 H A W E G57 8 Path'.refl)) (Reshare.g-back-sl-shr 𝓤 H A W E (Referent.rtF (Referent.fInt Syntax.w16)) G58 3 2 8 ty·5 (Row.lease (κs .1 .1 .0) (qs .1 .1 .0)) (λ x. x) (Reads.as-is 𝓤 H A (Reshare.mslice-owedS (Referent.rtF (Referent.fInt Syntax.w16)) ty·5 2 8 (Row.lease (κs .1 .1 .0) (qs .1 .1 .0)))) Path'.refl Path'.refl)) (Lifetime.g-forget 𝓤 H A W E G59 8 Row.dead Path'.refl)) (Lifetime.g-end 𝓤 H A W E G60 9 Path'.refl)) (Reshare.g-back-sl-shr 𝓤 H A W E (Referent.rtF (Referent.fInt Syntax.w16)) G61 4 3 9 ty·6 (Row.lease (κs .1 .1 .1 .0) (qs .1 .1 .1 .0)) (λ x. x) (Reads.as-is 𝓤 H A (Reshare.mslice-owedS (Referent.rtF (Referent.fInt Syntax.w16)) ty·6 3 9 (Row.lease (κs .1 .1 .1 .0) (qs .1 .1 .1 .0)))) Path'.refl Path'.refl)) (Lifetime.g-forget 𝓤 H A W E G62 9 Row.dead Path'.refl))
+          d0 : Typed.Typed 𝓤 H A 𝓣 E G49 b19 Δ1 at0
+          d0 = Typed.s-typed 𝓤 H A W 𝓣 E G49 b19 Δ1 (λ Ψ. Typed.both s47 (Typed.pass T50 T51 s48 (Typed.pass T51 T52 s49 (Typed.pass T52 T53 s50 (Typed.pass T53 T54 s51 (Typed.pass T54 T55 s52 (Typed.pass T55 T56 s53 (Typed.pass T56 T58 s55 (Typed.pass T58 T61 s58 (Typed.pass T61 T64 s61 Ψ)))))))))) tt (Typed.g-post 𝓤 H A W 𝓣 E G49 G64 G65 b19 (λ Ψ. Typed.both s47 (Typed.pass T50 T51 s48 (Typed.pass T51 T52 s49 (Typed.pass T52 T53 s50 (Typed.pass T53 T54 s51 (Typed.pass T54 T55 s52 (Typed.pass T55 T56 s53 (Typed.pass T56 T58 s55 (Typed.pass T58 T61 s58 (Typed.pass T61 T64 s61 Ψ)))))))))) (λ Ψ. Ψ) (Typed.g-post 𝓤 H A W 𝓣 E G49 G63 G64 b19 (λ Ψ. Typed.both s47 (Typed.pass T50 T51 s48 (Typed.pass T51 T52 s49 (Typed.pass T52 T53 s50 (Typed.pass T53 T54 s51 (Typed.pass T54 T55 s52 (Typed.pass T55 T56 s53 (Typed.pass T56 T58 s55 (Typed.pass T58 T61 s58 Ψ))))))))) (Typed.pass T61 T64 s61) (Typed.g-post 𝓤 H A W 𝓣 E G49 G62 G63 b19 (λ Ψ. Typed.both s47 (Typed.pass T50 T51 s48 (Typed.pass T51 T52 s49 (Typed.pass T52 T53 s50 (Typed.pass T53 T54 s51 (Typed.pass T54 T55 s52 (Typed.pass T55 T56 s53 (Typed.pass T56 T58 s55 (Typed.pass T58 T61 s58 Ψ))))))))) (λ Ψ. Ψ) (Typed.g-post 𝓤 H A W 𝓣 E G49 G61 G62 b19 (λ Ψ. Typed.both s47 (Typed.pass T50 T51 s48 (Typed.pass T51 T52 s49 (Typed.pass T52 T53 s50 (Typed.pass T53 T54 s51 (Typed.pass T54 T55 s52 (Typed.pass T55 T56 s53 (Typed.pass T56 T58 s55 (Typed.pass T58 T61 s58 Ψ))))))))) (λ Ψ. Ψ) (Typed.g-post 𝓤 H A W 𝓣 E G49 G60 G61 b19 (λ Ψ. Typed.both s47 (Typed.pass T50 T51 s48 (Typed.pass T51 T52 s49 (Typed.pass T52 T53 s50 (Typed.pass T53 T54 s51 (Typed.pass T54 T55 s52 (Typed.pass T55 T56 s53 (Typed.pass T56 T58 s55 Ψ)))))))) (Typed.pass T58 T61 s58) (Typed.g-post 𝓤 H A W 𝓣 E G49 G59 G60 b19 (λ Ψ. Typed.both s47 (Typed.pass T50 T51 s48 (Typed.pass T51 T52 s49 (Typed.pass T52 T53 s50 (Typed.pass T53 T54 s51 (Typed.pass T54 T55 s52 (Typed.pass T55 T56 s53 (Typed.pass T56 T58 s55 Ψ)))))))) (λ Ψ. Ψ) (Typed.g-post 𝓤 H A W 𝓣 E G49 G58 G59 b19 (λ Ψ. Typed.both s47 (Typed.pass T50 T51 s48 (Typed.pass T51 T52 s49 (Typed.pass T52 T53 s50 (Typed.pass T53 T54 s51 (Typed.pass T54 T55 s52 (Typed.pass T55 T56 s53 (Typed.pass T56 T58 s55 Ψ)))))))) (λ Ψ. Ψ) (Typed.g-post 𝓤 H A W 𝓣 E G49 G57 G58 b19 (λ Ψ. Typed.both s47 (Typed.pass T50 T51 s48 (Typed.pass T51 T52 s49 (Typed.pass T52 T53 s50 (Typed.pass T53 T54 s51 (Typed.pass T54 T55 s52 (Typed.pass T55 T56 s53 Ψ))))))) (Typed.pass T56 T58 s55) (Typed.g-post 𝓤 H A W 𝓣 E G49 G56 G57 b19 (λ Ψ. Typed.both s47 (Typed.pass T50 T51 s48 (Typed.pass T51 T52 s49 (Typed.pass T52 T53 s50 (Typed.pass T53 T54 s51 (Typed.pass T54 T55 s52 (Typed.pass T55 T56 s53 Ψ))))))) (λ Ψ. Ψ) (Typed.g-post 𝓤 H A W 𝓣 E G49 G55 G56 b19 (λ Ψ. Typed.both s47 (Typed.pass T50 T51 s48 (Typed.pass T51 T52 s49 (Typed.pass T52 T53 s50 (Typed.pass T53 T54 s51 (Typed.pass T54 T55 s52 Ψ)))))) (Typed.pass T55 T56 s53) (Typed.g-post 𝓤 H A W 𝓣 E G49 G54 G55 b19 (λ Ψ. Typed.both s47 (Typed.pass T50 T51 s48 (Typed.pass T51 T52 s49 (Typed.pass T52 T53 s50 (Typed.pass T53 T54 s51 Ψ))))) (Typed.pass T54 T55 s52) (Typed.g-post 𝓤 H A W 𝓣 E G49 G53 G54 b19 (λ Ψ. Typed.both s47 (Typed.pass T50 T51 s48 (Typed.pass T51 T52 s49 (Typed.pass T52 T53 s50 Ψ)))) (Typed.pass T53 T54 s51) (Typed.g-post 𝓤 H A W 𝓣 E G49 G52 G53 b19 (λ Ψ. Typed.both s47 (Typed.pass T50 T51 s48 (Typed.pass T51 T52 s49 Ψ))) (Typed.pass T52 T53 s50) (Typed.g-post 𝓤 H A W 𝓣 E G49 G51 G52 b19 (λ Ψ. Typed.both s47 (Typed.pass T50 T51 s48 Ψ)) (Typed.pass T51 T52 s49) (Typed.g-post 𝓤 H A W 𝓣 E G49 G50 G51 b19 (Typed.both s47) (Typed.pass T50 T51 s48) (Plain.t-call-plain 𝓤 H A W 𝓣 3 ps·4 r·4 (claims· .8) (claims· .9) "bench_plans::questions::ask_all" (known .4) E (λ pos β. β) G49 (record { pos = 21; st = List.[]; d = 0; at = λ x. x }, (record { pos = 23; ty = Syntax.tyRef Syntax.erased Syntax.imm (Memory.pointee (T.the-row .written)); ref = λ x. x }, (record { pos = 25; ty = Syntax.tyRef Syntax.erased Syntax.imm (Syntax.tyInt Syntax.w16); ref = λ x. x }, (record { pos = 27; ty = Syntax.tyRef Syntax.erased Syntax.imm (Syntax.tyInt Syntax.w16); ref = λ x. x }, (Num.vAt 5 λ x. x, tt))))) 19 (List._∷_ 7 (List._∷_ 8 (List._∷_ 9 List.[]))) (Call.sub-id 𝓤 H A W (G49 .slots)) ((Yields.yields-copy 𝓤 H A W (λ ρ. Unit) (Declared'.row Size.the-type) Path'.refl (Copies.cStruct Size.the-type Laws''.the-laws Laws''.the-copy .copy 𝓤 H A W) (Rows'.whole (Declared'.row Size.the-type)) (λ x. x) (λ x. x) (λ ρ told. Local.mem-whole 𝓤 H A W (Declared'.row Size.the-type) ρ) λ ρ told. Local.whole-mem 𝓤 H A W (Declared'.row Size.the-type) ρ, Path'.refl), (ShrSlice.spares-sslice 𝓤 H A W T.the-row ty·8 7, Shared.reads-sslice 𝓤 H A W T.the-row ty·8 7, Path'.refl, (ShrSlice.spares-sslice 𝓤 H A W (Referent.rtF (Referent.fInt Syntax.w16)) ty·3 8, Shared.reads-sslice 𝓤 H A W (Referent.rtF (Referent.fInt Syntax.w16)) ty·3 8, Path'.refl, (ShrSlice.spares-sslice 𝓤 H A W (Referent.rtF (Referent.fInt Syntax.w16)) ty·3 9, Shared.reads-sslice 𝓤 H A W (Referent.rtF (Referent.fInt Syntax.w16)) ty·3 9, Path'.refl, ((Scalar.reads-sc 𝓤 H A W (Row.sInt Syntax.w64), Path'.refl), tt))))) (Reads.room-gone 𝓤 H A Syntax.tyUnit) (tt, (tt, (tt, tt))) Path'.refl) (Scalar.g-room 𝓤 H A W E G50 23 ty·15 (Shared.room-sslice 𝓤 H A W T.the-row ty·8 7))) (Scalar.g-room 𝓤 H A W E G51 25 ty·13 (Shared.room-sslice 𝓤 H A W (Referent.rtF (Referent.fInt Syntax.w16)) ty·3 8))) (Scalar.g-room 𝓤 H A W E G52 27 ty·13 (Shared.room-sslice 𝓤 H A W (Referent.rtF (Referent.fInt Syntax.w16)) ty·3 9))) (Scalar.g-room 𝓤 H A W E G53 8 (Syntax.tyInt Syntax.w64) (Scalar.room-sc 𝓤 H A W (Row.sInt Syntax.w64)))) (Scalar.g-room 𝓤 H A W E G54 19 Syntax.tyUnit (Scalar.room-sc 𝓤 H A W Row.sUnit))) (Scalar.g-room 𝓤 H A W E G55 21 ty·16 (Local.room-whole 𝓤 H A W (Declared'.row Size.the-type) ty·16 Path'.refl))) (Lifetime.g-end 𝓤 H A W E G56 7 Path'.refl)) (Reshare.g-back-sl-shr 𝓤 H A W E T.the-row G57 2 1 7 ty·9 (Row.lease (κs .1 .0) (qs .1 .0)) (λ x. x) (Reads.as-is 𝓤 H A (Reshare.mslice-owedS T.the-row ty·9 1 7 (Row.lease (κs .1 .0) (qs .1 .0)))) Path'.refl Path'.refl)) (Lifetime.g-forget 𝓤 H A W E G58 7 Row.dead Path'.refl)) (Lifetime.g-end 𝓤 H A W E G59 8 Path'.refl)) (Reshare.g-back-sl-shr 𝓤 H A W E (Referent.rtF (Referent.fInt Syntax.w16)) G60 3 2 8 ty·5 (Row.lease (κs .1 .1 .0) (qs .1 .1 .0)) (λ x. x) (Reads.as-is 𝓤 H A (Reshare.mslice-owedS (Referent.rtF (Referent.fInt Syntax.w16)) ty·5 2 8 (Row.lease (κs .1 .1 .0) (qs .1 .1 .0)))) Path'.refl Path'.refl)) (Lifetime.g-forget 𝓤 H A W E G61 8 Row.dead Path'.refl)) (Lifetime.g-end 𝓤 H A W E G62 9 Path'.refl)) (Reshare.g-back-sl-shr 𝓤 H A W E (Referent.rtF (Referent.fInt Syntax.w16)) G63 4 3 9 ty·6 (Row.lease (κs .1 .1 .1 .0) (qs .1 .1 .1 .0)) (λ x. x) (Reads.as-is 𝓤 H A (Reshare.mslice-owedS (Referent.rtF (Referent.fInt Syntax.w16)) ty·6 3 9 (Row.lease (κs .1 .1 .1 .0) (qs .1 .1 .1 .0)))) Path'.refl Path'.refl)) (Lifetime.g-forget 𝓤 H A W E G64 9 Row.dead Path'.refl))
 
-          d1 : Typed.Typed 𝓤 H A 𝓣 E G47 b19 Δ1 at1
-          d1 = Typed.s-seq 𝓤 H A W 𝓣 E G47 G48 b17 b18 Δ1 (Typed.ask s45) at0 (Relend.t-sl-aggregate 𝓤 H A W E (Referent.rtF (Referent.fInt Syntax.w16)) 𝓣 (Relend.asShr (Referent.rtF (Referent.fInt Syntax.w16))) G47 25 26 9 ty·3 ty·3 (λ x. x) (Scalar.oFld 4 (List._∷_ (Syntax.field 1) List.[]) (Syntax.tyInt Syntax.w64) 8 λ v. Shared.lenV (v .0)) (Reads.as-is 𝓤 H A (Relend.ssptr (Referent.rtF (Referent.fInt Syntax.w16)) ty·3 9)) (Reads.room-gone 𝓤 H A ty·13) (Reshare.reads-owedS-len 𝓤 H A W (Referent.rtF (Referent.fInt Syntax.w16)) ty·6 3 9 (Row.lease (κs .1 .1 .1 .0) (qs .1 .1 .1 .0)) 8 Path'.refl, Path'.refl) Path'.refl Path'.refl λ b o k. tt) d0
+          d1 : Typed.Typed 𝓤 H A 𝓣 E G48 b20 Δ1 at1
+          d1 = Typed.s-seq 𝓤 H A W 𝓣 E G48 G49 b18 b19 Δ1 (Typed.ask s46) at0 (Relend.t-sl-aggregate 𝓤 H A W E (Referent.rtF (Referent.fInt Syntax.w16)) 𝓣 (Relend.asShr (Referent.rtF (Referent.fInt Syntax.w16))) G48 26 27 9 ty·3 ty·3 (λ x. x) (Scalar.oFld 4 (List._∷_ (Syntax.field 1) List.[]) (Syntax.tyInt Syntax.w64) 8 λ v. Shared.lenV (v .0)) (Reads.as-is 𝓤 H A (Relend.ssptr (Referent.rtF (Referent.fInt Syntax.w16)) ty·3 9)) (Reads.room-gone 𝓤 H A ty·13) (Reshare.reads-owedS-len 𝓤 H A W (Referent.rtF (Referent.fInt Syntax.w16)) ty·6 3 9 (Row.lease (κs .1 .1 .1 .0) (qs .1 .1 .1 .0)) 8 Path'.refl, Path'.refl) Path'.refl Path'.refl λ b o k. tt) d0
 
-          d2 : Typed.Typed 𝓤 H A 𝓣 E G46 b20 Δ1 at2
-          d2 = Typed.s-seq 𝓤 H A W 𝓣 E G46 G47 b16 b19 Δ1 (Typed.give s44) at1 (Reshare.t-sl-reshare 𝓤 H A W E (Referent.rtF (Referent.fInt Syntax.w16)) 𝓣 G46 4 25 3 9 ty·6 ty·3 (Row.lease (κs .1 .1 .1 .0) (qs .1 .1 .1 .0)) 0 (λ x. x) (Reads.as-is 𝓤 H A (Mut.mslice (Referent.rtF (Referent.fInt Syntax.w16)) ty·6 3)) (Reads.room-gone 𝓤 H A ty·3) Path'.refl tt Path'.refl Path'.refl Path'.refl λ b o. tt) d1
+          d2 : Typed.Typed 𝓤 H A 𝓣 E G47 b21 Δ1 at2
+          d2 = Typed.s-seq 𝓤 H A W 𝓣 E G47 G48 b17 b20 Δ1 (Typed.give s45) at1 (Reshare.t-sl-reshare 𝓤 H A W E (Referent.rtF (Referent.fInt Syntax.w16)) 𝓣 G47 4 26 3 9 ty·6 ty·3 (Row.lease (κs .1 .1 .1 .0) (qs .1 .1 .1 .0)) 0 (λ x. x) (Reads.as-is 𝓤 H A (Mut.mslice (Referent.rtF (Referent.fInt Syntax.w16)) ty·6 3)) (Reads.room-gone 𝓤 H A ty·3) Path'.refl tt Path'.refl Path'.refl Path'.refl λ b o. tt) d1
 
-          d3 : Typed.Typed 𝓤 H A 𝓣 E G45 b20 Δ1 at3
-          d3 = Typed.g-pre 𝓤 H A W 𝓣 E G45 G46 b20 Δ1 (λ Ψ. Ψ) at2 (Lifetime.g-begin 𝓤 H A W E G45 9 (tt, (tt, ((tt, tt), ((tt, tt), (tt, (tt, (tt, (tt, (tt, (tt, (tt, (tt, (tt, (tt, (tt, (tt, (tt, (tt, (tt, (tt, (tt, (tt, (tt, (tt, (tt, (tt, (tt, (tt, (tt, (tt, (tt, (tt, (tt, (tt, (tt, (tt, (tt, (tt, (tt, (tt, (tt, (tt, (tt, (tt, (tt, (tt, (tt, (tt, (tt, tt)))))))))))))))))))))))))))))))))))))))))))))))))) d2
+          d3 : Typed.Typed 𝓤 H A 𝓣 E G46 b21 Δ1 at3
+          d3 = Typed.g-pre 𝓤 H A W 𝓣 E G46 G47 b21 Δ1 (λ Ψ. Ψ) at2 (Lifetime.g-begin 𝓤 H A W E G46 9 (tt, (tt, ((tt, tt), ((tt, tt), (tt, (tt, (tt, (tt, (tt, (tt, (tt, (tt, (tt, (tt, (tt, (tt, (tt, (tt, (tt, (tt, (tt, (tt, (tt, (tt, (tt, (tt, (tt, (tt, (tt, (tt, (tt, (tt, (tt, (tt, (tt, (tt, (tt, (tt, (tt, (tt, (tt, (tt, (tt, (tt, (tt, (tt, (tt, (tt, (tt, (tt, tt))))))))))))))))))))))))))))))))))))))))))))))))))) d2
 
-          d4 : Typed.Typed 𝓤 H A 𝓣 E G44 b21 Δ1 at4
-          d4 = Typed.s-seq 𝓤 H A W 𝓣 E G44 G45 b15 b20 Δ1 (Typed.ask s42) at3 (Relend.t-sl-aggregate 𝓤 H A W E (Referent.rtF (Referent.fInt Syntax.w16)) 𝓣 (Relend.asShr (Referent.rtF (Referent.fInt Syntax.w16))) G44 23 24 8 ty·3 ty·3 (λ x. x) (Scalar.oFld 3 (List._∷_ (Syntax.field 1) List.[]) (Syntax.tyInt Syntax.w64) 8 λ v. Shared.lenV (v .0)) (Reads.as-is 𝓤 H A (Relend.ssptr (Referent.rtF (Referent.fInt Syntax.w16)) ty·3 8)) (Reads.room-gone 𝓤 H A ty·13) (Reshare.reads-owedS-len 𝓤 H A W (Referent.rtF (Referent.fInt Syntax.w16)) ty·5 2 8 (Row.lease (κs .1 .1 .0) (qs .1 .1 .0)) 8 Path'.refl, Path'.refl) Path'.refl Path'.refl λ b o k. tt) d3
+          d4 : Typed.Typed 𝓤 H A 𝓣 E G45 b22 Δ1 at4
+          d4 = Typed.s-seq 𝓤 H A W 𝓣 E G45 G46 b16 b21 Δ1 (Typed.ask s43) at3 (Relend.t-sl-aggregate 𝓤 H A W E (Referent.rtF (Referent.fInt Syntax.w16)) 𝓣 (Relend.asShr (Referent.rtF (Referent.fInt Syntax.w16))) G45 24 25 8 ty·3 ty·3 (λ x. x) (Scalar.oFld 3 (List._∷_ (Syntax.field 1) List.[]) (Syntax.tyInt Syntax.w64) 8 λ v. Shared.lenV (v .0)) (Reads.as-is 𝓤 H A (Relend.ssptr (Referent.rtF (Referent.fInt Syntax.w16)) ty·3 8)) (Reads.room-gone 𝓤 H A ty·13) (Reshare.reads-owedS-len 𝓤 H A W (Referent.rtF (Referent.fInt Syntax.w16)) ty·5 2 8 (Row.lease (κs .1 .1 .0) (qs .1 .1 .0)) 8 Path'.refl, Path'.refl) Path'.refl Path'.refl λ b o k. tt) d3
 
-          d5 : Typed.Typed 𝓤 H A 𝓣 E G43 b22 Δ1 at5
-          d5 = Typed.s-seq 𝓤 H A W 𝓣 E G43 G44 b14 b21 Δ1 (Typed.give s41) at4 (Reshare.t-sl-reshare 𝓤 H A W E (Referent.rtF (Referent.fInt Syntax.w16)) 𝓣 G43 3 23 2 8 ty·5 ty·3 (Row.lease (κs .1 .1 .0) (qs .1 .1 .0)) 0 (λ x. x) (Reads.as-is 𝓤 H A (Mut.mslice (Referent.rtF (Referent.fInt Syntax.w16)) ty·5 2)) (Reads.room-gone 𝓤 H A ty·3) Path'.refl tt Path'.refl Path'.refl Path'.refl λ b o. tt) d4
+          d5 : Typed.Typed 𝓤 H A 𝓣 E G44 b23 Δ1 at5
+          d5 = Typed.s-seq 𝓤 H A W 𝓣 E G44 G45 b15 b22 Δ1 (Typed.give s42) at4 (Reshare.t-sl-reshare 𝓤 H A W E (Referent.rtF (Referent.fInt Syntax.w16)) 𝓣 G44 3 24 2 8 ty·5 ty·3 (Row.lease (κs .1 .1 .0) (qs .1 .1 .0)) 0 (λ x. x) (Reads.as-is 𝓤 H A (Mut.mslice (Referent.rtF (Referent.fInt Syntax.w16)) ty·5 2)) (Reads.room-gone 𝓤 H A ty·3) Path'.refl tt Path'.refl Path'.refl Path'.refl λ b o. tt) d4
 
-          d6 : Typed.Typed 𝓤 H A 𝓣 E G42 b22 Δ1 at6
-          d6 = Typed.g-pre 𝓤 H A W 𝓣 E G42 G43 b22 Δ1 (λ Ψ. Ψ) at5 (Lifetime.g-begin 𝓤 H A W E G42 8 (tt, (tt, ((tt, tt), (tt, (tt, (tt, (tt, (tt, (tt, (tt, (tt, (tt, (tt, (tt, (tt, (tt, (tt, (tt, (tt, (tt, (tt, (tt, (tt, (tt, (tt, (tt, (tt, (tt, (tt, (tt, (tt, (tt, (tt, (tt, (tt, (tt, (tt, (tt, (tt, (tt, (tt, (tt, (tt, (tt, (tt, (tt, (tt, (tt, (tt, tt)))))))))))))))))))))))))))))))))))))))))))))))))) d5
+          d6 : Typed.Typed 𝓤 H A 𝓣 E G43 b23 Δ1 at6
+          d6 = Typed.g-pre 𝓤 H A W 𝓣 E G43 G44 b23 Δ1 (λ Ψ. Ψ) at5 (Lifetime.g-begin 𝓤 H A W E G43 8 (tt, (tt, ((tt, tt), (tt, (tt, (tt, (tt, (tt, (tt, (tt, (tt, (tt, (tt, (tt, (tt, (tt, (tt, (tt, (tt, (tt, (tt, (tt, (tt, (tt, (tt, (tt, (tt, (tt, (tt, (tt, (tt, (tt, (tt, (tt, (tt, (tt, (tt, (tt, (tt, (tt, (tt, (tt, (tt, (tt, (tt, (tt, (tt, (tt, (tt, (tt, tt))))))))))))))))))))))))))))))))))))))))))))))))))) d5
 
-          d7 : Typed.Typed 𝓤 H A 𝓣 E G41 b23 Δ1 at7
-          d7 = Typed.s-seq 𝓤 H A W 𝓣 E G41 G42 b13 b22 Δ1 (Typed.ask s39) at6 (Relend.t-sl-aggregate 𝓤 H A W E T.the-row 𝓣 (Relend.asShr T.the-row) G41 21 22 7 ty·8 ty·8 (λ x. x) (Scalar.oFld 2 (List._∷_ (Syntax.field 1) List.[]) (Syntax.tyInt Syntax.w64) 8 λ v. Shared.lenV (v .0)) (Reads.as-is 𝓤 H A (Relend.ssptr T.the-row ty·8 7)) (Reads.room-gone 𝓤 H A ty·15) (Reshare.reads-owedS-len 𝓤 H A W T.the-row ty·9 1 7 (Row.lease (κs .1 .0) (qs .1 .0)) 8 Path'.refl, Path'.refl) Path'.refl Path'.refl λ b o k. tt) d6
+          d7 : Typed.Typed 𝓤 H A 𝓣 E G42 b24 Δ1 at7
+          d7 = Typed.s-seq 𝓤 H A W 𝓣 E G42 G43 b14 b23 Δ1 (Typed.ask s40) at6 (Relend.t-sl-aggregate 𝓤 H A W E T.the-row 𝓣 (Relend.asShr T.the-row) G42 22 23 7 ty·8 ty·8 (λ x. x) (Scalar.oFld 2 (List._∷_ (Syntax.field 1) List.[]) (Syntax.tyInt Syntax.w64) 8 λ v. Shared.lenV (v .0)) (Reads.as-is 𝓤 H A (Relend.ssptr T.the-row ty·8 7)) (Reads.room-gone 𝓤 H A ty·15) (Reshare.reads-owedS-len 𝓤 H A W T.the-row ty·9 1 7 (Row.lease (κs .1 .0) (qs .1 .0)) 8 Path'.refl, Path'.refl) Path'.refl Path'.refl λ b o k. tt) d6
 
-          d8 : Typed.Typed 𝓤 H A 𝓣 E G40 b24 Δ1 at8
-          d8 = Typed.s-seq 𝓤 H A W 𝓣 E G40 G41 b12 b23 Δ1 (Typed.give s38) at7 (Reshare.t-sl-reshare 𝓤 H A W E T.the-row 𝓣 G40 2 21 1 7 ty·9 ty·8 (Row.lease (κs .1 .0) (qs .1 .0)) 0 (λ x. x) (Reads.as-is 𝓤 H A (Mut.mslice T.the-row ty·9 1)) (Reads.room-gone 𝓤 H A ty·8) Path'.refl tt Path'.refl Path'.refl Path'.refl λ b o. tt) d7
+          d8 : Typed.Typed 𝓤 H A 𝓣 E G41 b25 Δ1 at8
+          d8 = Typed.s-seq 𝓤 H A W 𝓣 E G41 G42 b13 b24 Δ1 (Typed.give s39) at7 (Reshare.t-sl-reshare 𝓤 H A W E T.the-row 𝓣 G41 2 22 1 7 ty·9 ty·8 (Row.lease (κs .1 .0) (qs .1 .0)) 0 (λ x. x) (Reads.as-is 𝓤 H A (Mut.mslice T.the-row ty·9 1)) (Reads.room-gone 𝓤 H A ty·8) Path'.refl tt Path'.refl Path'.refl Path'.refl λ b o. tt) d7
 
-          d9 : Typed.Typed 𝓤 H A 𝓣 E G39 b24 Δ1 at9
-          d9 = Typed.g-pre 𝓤 H A W 𝓣 E G39 G40 b24 Δ1 (λ Ψ. Ψ) at8 (Lifetime.g-begin 𝓤 H A W E G39 7 (tt, (tt, (tt, (tt, (tt, (tt, (tt, (tt, (tt, (tt, (tt, (tt, (tt, (tt, (tt, (tt, (tt, (tt, (tt, (tt, (tt, (tt, (tt, (tt, (tt, (tt, (tt, (tt, (tt, (tt, (tt, (tt, (tt, (tt, (tt, (tt, (tt, (tt, (tt, (tt, (tt, (tt, (tt, (tt, (tt, (tt, (tt, (tt, (tt, tt)))))))))))))))))))))))))))))))))))))))))))))))))) d8
+          d9 : Typed.Typed 𝓤 H A 𝓣 E G40 b25 Δ1 at9
+          d9 = Typed.g-pre 𝓤 H A W 𝓣 E G40 G41 b25 Δ1 (λ Ψ. Ψ) at8 (Lifetime.g-begin 𝓤 H A W E G40 7 (tt, (tt, (tt, (tt, (tt, (tt, (tt, (tt, (tt, (tt, (tt, (tt, (tt, (tt, (tt, (tt, (tt, (tt, (tt, (tt, (tt, (tt, (tt, (tt, (tt, (tt, (tt, (tt, (tt, (tt, (tt, (tt, (tt, (tt, (tt, (tt, (tt, (tt, (tt, (tt, (tt, (tt, (tt, (tt, (tt, (tt, (tt, (tt, (tt, (tt, tt))))))))))))))))))))))))))))))))))))))))))))))))))) d8
 
-          d10 : Typed.Typed 𝓤 H A 𝓣 E G38 b25 Δ1 at10
-          d10 = Typed.s-seq 𝓤 H A W 𝓣 E G38 G39 b11 b24 Δ1 (Typed.both s36) at9 (Plain.t-call-plain 𝓤 H A W 𝓣 0 ps·3 r·3 (claims· .6) (claims· .7) "tables::Size::new" (known .3) E (λ pos β. β) G38 (Num.vLit 0, (Num.vLit 0, (Num.vLit 0, (Num.vLit 0, tt)))) 20 List.[] (Call.sub-id 𝓤 H A W (G38 .slots)) (tt, (tt, (tt, (tt, tt)))) (Reads.room-gone 𝓤 H A ty·16) tt Path'.refl) d9
+          d10 : Typed.Typed 𝓤 H A 𝓣 E G39 b26 Δ1 at10
+          d10 = Typed.s-seq 𝓤 H A W 𝓣 E G39 G40 b12 b25 Δ1 (Typed.both s37) at9 (Plain.t-call-plain 𝓤 H A W 𝓣 0 ps·3 r·3 (claims· .6) (claims· .7) "tables::Size::new" (known .3) E (λ pos β. β) G39 (Num.vAt 8 λ x. x, (Num.vLit 0, (Num.vLit 0, (Num.vAt 8 λ x. x, tt)))) 21 List.[] (Call.sub-id 𝓤 H A W (G39 .slots)) ((Scalar.reads-sc 𝓤 H A W (Row.sInt Syntax.w64), Path'.refl), (tt, (tt, ((Scalar.reads-sc 𝓤 H A W (Row.sInt Syntax.w64), Path'.refl), tt)))) (Reads.room-gone 𝓤 H A ty·16) tt Path'.refl) d9
 
-          d11 : Typed.Typed 𝓤 H A 𝓣 E G37 b25 Δ1 at11
-          d11 = Typed.g-pre 𝓤 H A W 𝓣 E G37 G38 b25 Δ1 (Typed.pass T37 T38 s35) at10 (Scalar.g-room 𝓤 H A W E G37 19 (Syntax.tyInt Syntax.w32) (Scalar.room-sc 𝓤 H A W (Row.sInt Syntax.w32))) d10
+          d11 : Typed.Typed 𝓤 H A 𝓣 E G38 b27 Δ1 at11
+          d11 = Typed.s-seq 𝓤 H A W 𝓣 E G38 G39 b11 b26 Δ1 (Typed.pass T38 T39 s36) at10 (Scalar.t-use 𝓤 H A W E 𝓣 G38 (Scalar.oFld 2 (List._∷_ (Syntax.field 1) List.[]) (Syntax.tyInt Syntax.w64) 8 Shared.lenV) 8 (Rows'.sc-here (Row.sInt Syntax.w64)) (Syntax.tyInt Syntax.w64) (Row.valS (Row.sInt Syntax.w64)) (Row.sInt Syntax.w64 .of) (Mut.reads-mslice-len 𝓤 H A W T.the-row ty·9 1 8 Path'.refl, Path'.refl) (Reads.room-gone 𝓤 H A (Syntax.tyInt Syntax.w64)) (Scalar.holds-sc 𝓤 H A W (Row.sInt Syntax.w64)) Path'.refl (λ u. Path'.refl) λ u. tt) d10
 
-          d12 : Typed.Typed 𝓤 H A 𝓣 E G36 b25 Δ1 at12
-          d12 = Typed.g-pre 𝓤 H A W 𝓣 E G36 G37 b25 Δ1 (Typed.pass T36 T37 s34) at11 (Scalar.g-room 𝓤 H A W E G36 18 Syntax.tyUnit (Scalar.room-sc 𝓤 H A W Row.sUnit)) d11
+          d12 : Typed.Typed 𝓤 H A 𝓣 E G37 b27 Δ1 at12
+          d12 = Typed.g-pre 𝓤 H A W 𝓣 E G37 G38 b27 Δ1 (Typed.pass T37 T38 s35) at11 (Scalar.g-room 𝓤 H A W E G37 20 (Syntax.tyInt Syntax.w32) (Scalar.room-sc 𝓤 H A W (Row.sInt Syntax.w32))) d11
 
-          d13 : Typed.Typed 𝓤 H A 𝓣 E G35 b26 Δ1 at13
-          d13 = Typed.s-seq 𝓤 H A W 𝓣 E G35 G36 b10 b25 Δ1 (Typed.both s33) at12 (Plain.t-call-plain 𝓤 H A W 𝓣 0 ps·2 r·2 (claims· .4) (claims· .5) "bench_plans::print::print_refusal" (known .2) E (λ pos β. β) G35 (Num.vAt 19 λ x. x, tt) 18 List.[] (Call.sub-id 𝓤 H A W (G35 .slots)) ((Scalar.reads-sc 𝓤 H A W (Row.sInt Syntax.w32), Path'.refl), tt) (Reads.room-gone 𝓤 H A Syntax.tyUnit) tt Path'.refl) d12
+          d13 : Typed.Typed 𝓤 H A 𝓣 E G36 b27 Δ1 at13
+          d13 = Typed.g-pre 𝓤 H A W 𝓣 E G36 G37 b27 Δ1 (Typed.pass T36 T37 s34) at12 (Scalar.g-room 𝓤 H A W E G36 19 Syntax.tyUnit (Scalar.room-sc 𝓤 H A W Row.sUnit)) d12
 
-          d14 : Typed.Typed 𝓤 H A 𝓣 E G34 b26 Δ1 at14
-          d14 = Typed.g-pre 𝓤 H A W 𝓣 E G34 G35 b26 Δ1 (Typed.pass T34 T35 s32) at13 (Scalar.g-room 𝓤 H A W E G34 7 ty·17 (Local.room-whole 𝓤 H A W (Declared.row Refusal.the-type) ty·17 Path'.refl)) d13
+          d14 : Typed.Typed 𝓤 H A 𝓣 E G35 b28 Δ1 at14
+          d14 = Typed.s-seq 𝓤 H A W 𝓣 E G35 G36 b10 b27 Δ1 (Typed.both s33) at13 (Plain.t-call-plain 𝓤 H A W 𝓣 0 ps·2 r·2 (claims· .4) (claims· .5) "bench_plans::print::print_refusal" (known .2) E (λ pos β. β) G35 (Num.vAt 20 λ x. x, tt) 19 List.[] (Call.sub-id 𝓤 H A W (G35 .slots)) ((Scalar.reads-sc 𝓤 H A W (Row.sInt Syntax.w32), Path'.refl), tt) (Reads.room-gone 𝓤 H A Syntax.tyUnit) tt Path'.refl) d13
 
-          d15 : Typed.Typed 𝓤 H A 𝓣 E G33 b27 Δ1 at15
-          d15 = Typed.s-seq 𝓤 H A W 𝓣 E G33 G34 b9 b26 Δ1 (Typed.both s31) at14 (Plain.t-call-plain 𝓤 H A W 𝓣 0 ps·1 r·1 (claims· .2) (claims· .3) "tables::number" (known .1) E (λ pos β. β) G33 (record { pos = 7; st = List.[]; d = 0; at = λ x. x }, tt) 19 List.[] (Call.sub-id 𝓤 H A W (G33 .slots)) ((Yields.yields-copy 𝓤 H A W (λ ρ. Unit) (Declared.row Refusal.the-type) Path'.refl (Copies.cEnum Refusal.the-type Laws'.the-laws Laws'.the-copy .copy 𝓤 H A W) (Rows'.whole (Declared.row Refusal.the-type)) (λ x. x) (λ x. x) (λ ρ told. Local.mem-whole 𝓤 H A W (Declared.row Refusal.the-type) ρ) λ ρ told. Local.whole-mem 𝓤 H A W (Declared.row Refusal.the-type) ρ, Path'.refl), tt) (Reads.room-gone 𝓤 H A (Syntax.tyInt Syntax.w32)) tt Path'.refl) d14
+          d15 : Typed.Typed 𝓤 H A 𝓣 E G34 b28 Δ1 at15
+          d15 = Typed.g-pre 𝓤 H A W 𝓣 E G34 G35 b28 Δ1 (Typed.pass T34 T35 s32) at14 (Scalar.g-room 𝓤 H A W E G34 7 ty·17 (Local.room-whole 𝓤 H A W (Declared.row Refusal.the-type) ty·17 Path'.refl)) d14
 
-          d16 : Typed.Typed 𝓤 H A 𝓣 E G32 b27 Δ1 at16
-          d16 = Typed.g-pre 𝓤 H A W 𝓣 E G32 G33 b27 Δ1 (Typed.pass T32 T33 s30) at15 (Scalar.g-room 𝓤 H A W E G32 6 ty·18 (Local.room-whole 𝓤 H A W (Known.Known ReadAnswer.enum 1) ty·18 Path'.refl)) d15
+          d16 : Typed.Typed 𝓤 H A 𝓣 E G33 b29 Δ1 at16
+          d16 = Typed.s-seq 𝓤 H A W 𝓣 E G33 G34 b9 b28 Δ1 (Typed.both s31) at15 (Plain.t-call-plain 𝓤 H A W 𝓣 0 ps·1 r·1 (claims· .2) (claims· .3) "tables::number" (known .1) E (λ pos β. β) G33 (record { pos = 7; st = List.[]; d = 0; at = λ x. x }, tt) 20 List.[] (Call.sub-id 𝓤 H A W (G33 .slots)) ((Yields.yields-copy 𝓤 H A W (λ ρ. Unit) (Declared.row Refusal.the-type) Path'.refl (Copies.cEnum Refusal.the-type Laws'.the-laws Laws'.the-copy .copy 𝓤 H A W) (Rows'.whole (Declared.row Refusal.the-type)) (λ x. x) (λ x. x) (λ ρ told. Local.mem-whole 𝓤 H A W (Declared.row Refusal.the-type) ρ) λ ρ told. Local.whole-mem 𝓤 H A W (Declared.row Refusal.the-type) ρ, Path'.refl), tt) (Reads.room-gone 𝓤 H A (Syntax.tyInt Syntax.w32)) tt Path'.refl) d15
 
-          d17 : Typed.Typed 𝓤 H A 𝓣 E G31 b28 Δ1 at17
-          d17 = Typed.s-seq 𝓤 H A W 𝓣 E G31 G32 b8 b27 Δ1 (Typed.pass T31 T32 s29) at16 (CopyOut.t-copy-told 𝓤 H A W E 𝓣 (Declared.row Refusal.the-type) Path'.refl (Laws'3.val Refusal.the-type Laws'.the-laws) (Laws'3.lawful Refusal.the-type Laws'.the-laws 𝓤 H A W tt) (Laws'3.makes Refusal.the-type Laws'.the-plain 𝓤 H A) G31 7 (Scalar.oFld 6 (List._∷_ (Syntax.variant 1) (List._∷_ (Syntax.field 1) List.[])) ty·17 1 λ v. Laws'3.val Refusal.the-type Laws'.the-laws (v .0)) (λ m. m .1 .1 .1 .1 .1 .1 .0 .0) (λ m. Laws'3.Fields (Declared.variants ReadAnswer.the-type) (Laws'3.spellss (ReadAnswer.enum .parts) Laws.the-laws) (ReadAnswer.the-type .to (Known.at ReadAnswer.enum 1 (m .1 .1 .1 .1 .1 .1 .0)))) (Reads.room-gone 𝓤 H A ty·17) (Match.reads-payload 𝓤 H A W ReadAnswer.enum Laws.the-laws 1 Path'.refl Path'.refl (λ v. Val.vcons (Laws'3.val Refusal.the-type Laws'.the-laws (v .0)) Val.vnil) (λ v. Path'.refl) 0 ty·17 1 Path'.refl, Path'.refl) Path'.refl (λ ρ m. Make.tells-row 𝓤 H A W E ρ (Row.out 7 (G31 .locals)) m 6 (Laws'3.Fields (Declared.variants ReadAnswer.the-type) (Laws'3.spellss (ReadAnswer.enum .parts) Laws.the-laws) (ReadAnswer.the-type .to (Known.at ReadAnswer.enum 1 (m .1 .1 .1 .1 .1 .1 .0)))) (Known.known-is 𝓤 H A W E ReadAnswer.enum 1 Laws.the-laws ρ 6 (m .1 .1 .1 .1 .1 .1 .0))) (λ m k wa. Path'.refl) λ m k wa. k .0) d16
+          d17 : Typed.Typed 𝓤 H A 𝓣 E G32 b29 Δ1 at17
+          d17 = Typed.g-pre 𝓤 H A W 𝓣 E G32 G33 b29 Δ1 (Typed.pass T32 T33 s30) at16 (Scalar.g-room 𝓤 H A W E G32 6 ty·18 (Local.room-whole 𝓤 H A W (Known.Known ReadAnswer.enum 1) ty·18 Path'.refl)) d16
 
-          d18 : Typed.Typed 𝓤 H A 𝓣 E G30 b28 Δ1 at18
-          d18 = Typed.g-pre 𝓤 H A W 𝓣 E G30 G31 b28 Δ1 (Typed.pass T30 T31 s28) at17 (Scalar.g-room 𝓤 H A W E G30 11 ty·0 (Init.room-arr 𝓤 H A W (Referent.rtF (Referent.fInt Syntax.w8)) 4 0 4 Path'.refl)) d17
+          d18 : Typed.Typed 𝓤 H A 𝓣 E G31 b30 Δ1 at18
+          d18 = Typed.s-seq 𝓤 H A W 𝓣 E G31 G32 b8 b29 Δ1 (Typed.pass T31 T32 s29) at17 (CopyOut.t-copy-told 𝓤 H A W E 𝓣 (Declared.row Refusal.the-type) Path'.refl (Laws'3.val Refusal.the-type Laws'.the-laws) (Laws'3.lawful Refusal.the-type Laws'.the-laws 𝓤 H A W tt) (Laws'3.makes Refusal.the-type Laws'.the-plain 𝓤 H A) G31 7 (Scalar.oFld 6 (List._∷_ (Syntax.variant 1) (List._∷_ (Syntax.field 1) List.[])) ty·17 1 λ v. Laws'3.val Refusal.the-type Laws'.the-laws (v .0)) (λ m. m .1 .1 .1 .1 .1 .1 .0 .0) (λ m. Laws'3.Fields (Declared.variants ReadAnswer.the-type) (Laws'3.spellss (ReadAnswer.enum .parts) Laws.the-laws) (ReadAnswer.the-type .to (Known.at ReadAnswer.enum 1 (m .1 .1 .1 .1 .1 .1 .0)))) (Reads.room-gone 𝓤 H A ty·17) (Match.reads-payload 𝓤 H A W ReadAnswer.enum Laws.the-laws 1 Path'.refl Path'.refl (λ v. Val.vcons (Laws'3.val Refusal.the-type Laws'.the-laws (v .0)) Val.vnil) (λ v. Path'.refl) 0 ty·17 1 Path'.refl, Path'.refl) Path'.refl (λ ρ m. Make.tells-row 𝓤 H A W E ρ (Row.out 7 (G31 .locals)) m 6 (Laws'3.Fields (Declared.variants ReadAnswer.the-type) (Laws'3.spellss (ReadAnswer.enum .parts) Laws.the-laws) (ReadAnswer.the-type .to (Known.at ReadAnswer.enum 1 (m .1 .1 .1 .1 .1 .1 .0)))) (Known.known-is 𝓤 H A W E ReadAnswer.enum 1 Laws.the-laws ρ 6 (m .1 .1 .1 .1 .1 .1 .0))) (λ m k wa. Path'.refl) λ m k wa. k .0) d17
 
-          d19 : Typed.Typed 𝓤 H A 𝓣 E G29 b28 Δ1 at19
-          d19 = Typed.g-pre 𝓤 H A W 𝓣 E G29 G30 b28 Δ1 (Typed.give s27) at18 (Known.g-known-told 𝓤 H A W E ReadAnswer.enum 1 G29 6 Laws.the-laws (λ x. x) (Reads.as-is 𝓤 H A (Rows'.whole (Known.Known ReadAnswer.enum 1)))) d18
+          d19 : Typed.Typed 𝓤 H A 𝓣 E G30 b30 Δ1 at19
+          d19 = Typed.g-pre 𝓤 H A W 𝓣 E G30 G31 b30 Δ1 (Typed.pass T30 T31 s28) at18 (Scalar.g-room 𝓤 H A W E G30 12 ty·0 (Init.room-arr 𝓤 H A W (Referent.rtF (Referent.fInt Syntax.w8)) 4 0 4 Path'.refl)) d18
 
-          d20 : Typed.Typed 𝓤 H A 𝓣 E G28 b28 Δ1 at20
-          d20 = Typed.g-pre 𝓤 H A W 𝓣 E G28 G29 b28 Δ1 (Typed.both s26) at19 (Known.g-enum-known 𝓤 H A W E ReadAnswer.enum 1 G28 6 (λ x. x) (Reads.as-is 𝓤 H A (Rows'.whole (Declared.row ReadAnswer.the-type)))) d19
+          d20 : Typed.Typed 𝓤 H A 𝓣 E G29 b30 Δ1 at20
+          d20 = Typed.g-pre 𝓤 H A W 𝓣 E G29 G30 b30 Δ1 (Typed.give s27) at19 (Known.g-known-told 𝓤 H A W E ReadAnswer.enum 1 G29 6 Laws.the-laws (λ x. x) (Reads.as-is 𝓤 H A (Rows'.whole (Known.Known ReadAnswer.enum 1)))) d19
 
-          d21 : Typed.Typed 𝓤 H A 𝓣 E G133 b55 Δ1 at21
-          d21 = Typed.s-typed 𝓤 H A W 𝓣 E G133 b55 Δ1 (λ Ψ. Typed.both s131 (Typed.pass T134 T135 s132 (Typed.pass T135 T136 s133 (Typed.pass T136 T137 s134 (Typed.pass T137 T138 s135 (Typed.pass T138 T139 s136 (Typed.pass T139 T140 s137 (Typed.pass T140 T141 s138 (Typed.pass T141 T143 s140 (Typed.pass T143 T146 s143 (Typed.pass T146 T149 s146 Ψ))))))))))) tt (Typed.g-post 𝓤 H A W 𝓣 E G133 G149 G150 b55 (λ Ψ. Typed.both s131 (Typed.pass T134 T135 s132 (Typed.pass T135 T136 s133 (Typed.pass T136 T137 s134 (Typed.pass T137 T138 s135 (Typed.pass T138 T139 s136 (Typed.pass T139 T140 s137 (Typed.pass T140 T141 s138 (Typed.pass T141 T143 s140 (Typed.pass T143 T146 s143 (Typed.pass T146 T149 s146 Ψ))))))))))) (λ Ψ. Ψ) (Typed.g-post 𝓤 H A W 𝓣 E G133 G148 G149 b55 (λ Ψ. Typed.both s131 (Typed.pass T134 T135 s132 (Typed.pass T135 T136 s133 (Typed.pass T136 T137 s134 (Typed.pass T137 T138 s135 (Typed.pass T138 T139 s136 (Typed.pass T139 T140 s137 (Typed.pass T140 T141 s138 (Typed.pass T141 T143 s140 (Typed.pass T143 T146 s143 Ψ)))))))))) (Typed.pass T146 T149 s146) (Typed.g-post 𝓤 H A W 𝓣 E G133 G147 G148 b55 (λ Ψ. Typed.both s131 (Typed.pass T134 T135 s132 (Typed.pass T135 T136 s133 (Typed.pass T136 T137 s134 (Typed.pass T137 T138 s135 (Typed.pass T138 T139 s136 (Typed.pass T139 T140 s137 (Typed.pass T140 T141 s138 (Typed.pass T141 T143 s140 (Typed.pass T143 T146 s143 Ψ)))))))))) (λ Ψ. Ψ) (Typed.g-post 𝓤 H A W 𝓣 E G133 G146 G147 b55 (λ Ψ. Typed.both s131 (Typed.pass T134 T135 s132 (Typed.pass T135 T136 s133 (Typed.pass T136 T137 s134 (Typed.pass T137 T138 s135 (Typed.pass T138 T139 s136 (Typed.pass T139 T140 s137 (Typed.pass T140 T141 s138 (Typed.pass T141 T143 s140 (Typed.pass T143 T146 s143 Ψ)))))))))) (λ Ψ. Ψ) (Typed.g-post 𝓤 H A W 𝓣 E G133 G145 G146 b55 (λ Ψ. Typed.both s131 (Typed.pass T134 T135 s132 (Typed.pass T135 T136 s133 (Typed.pass T136 T137 s134 (Typed.pass T137 T138 s135 (Typed.pass T138 T139 s136 (Typed.pass T139 T140 s137 (Typed.pass T140 T141 s138 (Typed.pass T141 T143 s140 Ψ))))))))) (Typed.pass T143 T146 s143) (Typed.g-post 𝓤 H A W 𝓣 E G133 G144 G145 b55 (λ Ψ. Typed.both s131 (Typed.pass T134 T135 s132 (Typed.pass T135 T136 s133 (Typed.pass T136 T137 s134 (Typed.pass T137 T138 s135 (Typed.pass T138 T139 s136 (Typed.pass T139 T140 s137 (Typed.pass T140 T141 s138 (Typed.pass T141 T143 s140 Ψ))))))))) (λ Ψ. Ψ) (Typed.g-post 𝓤 H A W 𝓣 E G133 G143 G144 b55 (λ Ψ. Typed.both s131 (Typed.pass T134 T135 s132 (Typed.pass T135 T136 s133 (Typed.pass T136 T137 s134 (Typed.pass T137 T138 s135 (Typed.pass T138 T139 s136 (Typed.pass T139 T140 s137 (Typed.pass T140 T141 s138 (Typed.pass T141 T143 s140 Ψ))))))))) (λ Ψ. Ψ) (Typed.g-post 𝓤 H A W 𝓣 E G133 G142 G143 b55 (λ Ψ. Typed.both s131 (Typed.pass T134 T135 s132 (Typed.pass T135 T136 s133 (Typed.pass T136 T137 s134 (Typed.pass T137 T138 s135 (Typed.pass T138 T139 s136 (Typed.pass T139 T140 s137 (Typed.pass T140 T141 s138 Ψ)))))))) (Typed.pass T141 T143 s140) (Typed.g-post 𝓤 H A W 𝓣 E G133 G141 G142 b55 (λ Ψ. Typed.both s131 (Typed.pass T134 T135 s132 (Typed.pass T135 T136 s133 (Typed.pass T136 T137 s134 (Typed.pass T137 T138 s135 (Typed.pass T138 T139 s136 (Typed.pass T139 T140 s137 (Typed.pass T140 T141 s138 Ψ)))))))) (λ Ψ. Ψ) (Typed.g-post 𝓤 H A W 𝓣 E G133 G140 G141 b55 (λ Ψ. Typed.both s131 (Typed.pass T134 T135 s132 (Typed.pass T135 T136 s133 (Typed.pass T136 T137 s134 (Typed.pass T137 T138 s135 (Typed.pass T138 T139 s136 (Typed.pass T139 T140 s137 Ψ))))))) (Typed.pass T140 T141 s138) (Typed.g-post 𝓤 H A W 𝓣 E G133 G139 G140 b55 (λ Ψ. Typed.both s131 (Typed.pass T134 T135 s132 (Typed.pass T135 T136 s133 (Typed.pass T136 T137 s134 (Typed.pass T137 T138 s135 (Typed.pass T138 T139 s136 Ψ)))))) (Typed.pass T139 T140 s137) (Typed.g-post 𝓤 H A W 𝓣 E G133 G138 G139 b55 (λ Ψ. Typed.both s131 (Typed.pass T134 T135 s132 (Typed.pass T135 T136 s133 (Typed.pass T136 T137 s134 (Typed.pass T137 T138 s135 Ψ))))) (Typed.pass T138 T139 s136) (Typed.g-post 𝓤 H A W 𝓣 E G133 G137 G138 b55 (λ Ψ. Typed.both s131 (Typed.pass T134 T135 s132 (Typed.pass T135 T136 s133 (Typed.pass T136 T137 s134 Ψ)))) (Typed.pass T137 T138 s135) (Typed.g-post 𝓤 H A W 𝓣 E G133 G136 G137 b55 (λ Ψ. Typed.both s131 (Typed.pass T134 T135 s132 (Typed.pass T135 T136 s133 Ψ))) (Typed.pass T136 T137 s134) (Typed.g-post 𝓤 H A W 𝓣 E G133 G135 G136 b55 (λ Ψ. Typed.both s131 (Typed.pass T134 T135 s132 Ψ)) (Typed.pass T135 T136 s133) (Typed.g-post 𝓤 H A W 𝓣 E G133 G134 G135 b55 (Typed.both s131) (Typed.pass T134 T135 s132) (Plain.t-call-plain 𝓤 H A W 𝓣 3 ps·4 r·4 (claims· .8) (claims· .9) "bench_plans::questions::ask_all" (known .4) E (λ pos β. β) G133 (record { pos = 8; st = List.[]; d = 0; at = λ x. x }, (record { pos = 44; ty = Syntax.tyRef Syntax.erased Syntax.imm (Memory.pointee (T.the-row .written)); ref = λ x. x }, (record { pos = 46; ty = Syntax.tyRef Syntax.erased Syntax.imm (Syntax.tyInt Syntax.w16); ref = λ x. x }, (record { pos = 48; ty = Syntax.tyRef Syntax.erased Syntax.imm (Syntax.tyInt Syntax.w16); ref = λ x. x }, (Num.vAt 5 λ x. x, tt))))) 30 (List._∷_ 17 (List._∷_ 18 (List._∷_ 19 List.[]))) (Call.sub-id 𝓤 H A W (G133 .slots)) ((Yields.yields-copy 𝓤 H A W (λ ρ. Unit) (Declared'.row Size.the-type) Path'.refl (Copies.cStruct Size.the-type Laws''.the-laws Laws''.the-copy .copy 𝓤 H A W) (Rows'.whole (Declared'.row Size.the-type)) (λ x. x) (λ x. x) (λ ρ told. Local.mem-whole 𝓤 H A W (Declared'.row Size.the-type) ρ) λ ρ told. Local.whole-mem 𝓤 H A W (Declared'.row Size.the-type) ρ, Path'.refl), (ShrSlice.spares-sslice 𝓤 H A W T.the-row ty·8 17, Shared.reads-sslice 𝓤 H A W T.the-row ty·8 17, Path'.refl, (ShrSlice.spares-sslice 𝓤 H A W (Referent.rtF (Referent.fInt Syntax.w16)) ty·3 18, Shared.reads-sslice 𝓤 H A W (Referent.rtF (Referent.fInt Syntax.w16)) ty·3 18, Path'.refl, (ShrSlice.spares-sslice 𝓤 H A W (Referent.rtF (Referent.fInt Syntax.w16)) ty·3 19, Shared.reads-sslice 𝓤 H A W (Referent.rtF (Referent.fInt Syntax.w16)) ty·3 19, Path'.refl, ((Scalar.reads-sc 𝓤 H A W (Row.sInt Syntax.w64), Path'.refl), tt))))) (Reads.room-gone 𝓤 H A Syntax.tyUnit) (tt, (tt, (tt, tt))) Path'.refl) (Scalar.g-room 𝓤 H A W E G134 44 ty·15 (Shared.room-sslice 𝓤 H A W T.the-row ty·8 17))) (Scalar.g-room 𝓤 H A W E G135 46 ty·13 (Shared.room-sslice 𝓤 H A W (Referent.rtF (Referent.fInt Syntax.w16)) ty·3 18))) (Scalar.g-room 𝓤 H A W E G136 48 ty·13 (Shared.room-sslice 𝓤 H A W (Referent.rtF (Referent.fInt Syntax.w16)) ty·3 19))) (Scalar.g-room 𝓤 H A W E G137 8 ty·16 (Local.room-whole 𝓤 H A W (Declared'.row Size.the-type) ty·16 Path'.refl))) (Scalar.g-room 𝓤 H A W E G138 9 Syntax.tyBool (Scalar.room-sc 𝓤 H A W Row.sBool))) (Scalar.g-room 𝓤 H A W E G139 10 Syntax.tyBool (Scalar.room-sc 𝓤 H A W Row.sBool))) (Scalar.g-room 𝓤 H A W E G140 30 Syntax.tyUnit (Scalar.room-sc 𝓤 H A W Row.sUnit))) (Lifetime.g-end 𝓤 H A W E G141 17 Path'.refl)) (Reshare.g-back-sl-shr 𝓤 H A W E T.the-row G142 2 1 17 ty·9 (Row.lease (κs .1 .0) (qs .1 .0)) (λ x. x) (Reads.as-is 𝓤 H A (Reshare.mslice-owedS T.the-row ty·9 1 17 (Row.lease (κs .1 .0) (qs .1 .0)))) Path'.refl Path'.refl)) (Lifetime.g-forget 𝓤 H A W E G143 17 Row.dead Path'.refl)) (Lifetime.g-end 𝓤 H A W E G144 18 Path'.refl)) (Reshare.g-back-sl-shr 𝓤 H A W E (Referent.rtF (Referent.fInt Syntax.w16)) G145 3 2 18 ty·5 (Row.lease (κs .1 .1 .0) (qs .1 .1 .0)) (λ x. x) (Reads.as-is 𝓤 H A (Reshare.mslice-owedS (Referent.rtF (Referent.fInt Syntax.w16)) ty·5 2 18 (Row.lease (κs .1 .1 .0) (qs .1 .1 .0)))) Path'.refl Path'.refl)) (Lifetime.g-forget 𝓤 H A W E G146 18 Row.dead Path'.refl)) (Lifetime.g-end 𝓤 H A W E G147 19 Path'.refl)) (Reshare.g-back-sl-shr 𝓤 H A W E (Referent.rtF (Referent.fInt Syntax.w16)) G148 4 3 19 ty·6 (Row.lease (κs .1 .1 .1 .0) (qs .1 .1 .1 .0)) (λ x. x) (Reads.as-is 𝓤 H A (Reshare.mslice-owedS (Referent.rtF (Referent.fInt Syntax.w16)) ty·6 3 19 (Row.lease (κs .1 .1 .1 .0) (qs .1 .1 .1 .0)))) Path'.refl Path'.refl)) (Lifetime.g-forget 𝓤 H A W E G149 19 Row.dead Path'.refl))
+          d21 : Typed.Typed 𝓤 H A 𝓣 E G28 b30 Δ1 at21
+          d21 = Typed.g-pre 𝓤 H A W 𝓣 E G28 G29 b30 Δ1 (Typed.both s26) at20 (Known.g-enum-known 𝓤 H A W E ReadAnswer.enum 1 G28 6 (λ x. x) (Reads.as-is 𝓤 H A (Rows'.whole (Declared.row ReadAnswer.the-type)))) d20
 
-          d22 : Typed.Typed 𝓤 H A 𝓣 E G132 b56 Δ1 at22
-          d22 = Typed.s-seq 𝓤 H A W 𝓣 E G132 G133 b54 b55 Δ1 (Typed.ask s130) at21 (Relend.t-sl-aggregate 𝓤 H A W E (Referent.rtF (Referent.fInt Syntax.w16)) 𝓣 (Relend.asShr (Referent.rtF (Referent.fInt Syntax.w16))) G132 47 48 19 ty·3 ty·3 (λ x. x) (Scalar.oFld 4 (List._∷_ (Syntax.field 1) List.[]) (Syntax.tyInt Syntax.w64) 8 λ v. Shared.lenV (v .0)) (Reads.as-is 𝓤 H A (Relend.ssptr (Referent.rtF (Referent.fInt Syntax.w16)) ty·3 19)) (Reads.room-gone 𝓤 H A ty·13) (Reshare.reads-owedS-len 𝓤 H A W (Referent.rtF (Referent.fInt Syntax.w16)) ty·6 3 19 (Row.lease (κs .1 .1 .1 .0) (qs .1 .1 .1 .0)) 8 Path'.refl, Path'.refl) Path'.refl Path'.refl λ b o k. tt) d21
+          d22 : Typed.Typed 𝓤 H A 𝓣 E G135 b57 Δ1 at22
+          d22 = Typed.s-typed 𝓤 H A W 𝓣 E G135 b57 Δ1 (λ Ψ. Typed.both s133 (Typed.pass T136 T137 s134 (Typed.pass T137 T138 s135 (Typed.pass T138 T139 s136 (Typed.pass T139 T140 s137 (Typed.pass T140 T141 s138 (Typed.pass T141 T142 s139 (Typed.pass T142 T143 s140 (Typed.pass T143 T145 s142 (Typed.pass T145 T148 s145 (Typed.pass T148 T151 s148 Ψ))))))))))) tt (Typed.g-post 𝓤 H A W 𝓣 E G135 G151 G152 b57 (λ Ψ. Typed.both s133 (Typed.pass T136 T137 s134 (Typed.pass T137 T138 s135 (Typed.pass T138 T139 s136 (Typed.pass T139 T140 s137 (Typed.pass T140 T141 s138 (Typed.pass T141 T142 s139 (Typed.pass T142 T143 s140 (Typed.pass T143 T145 s142 (Typed.pass T145 T148 s145 (Typed.pass T148 T151 s148 Ψ))))))))))) (λ Ψ. Ψ) (Typed.g-post 𝓤 H A W 𝓣 E G135 G150 G151 b57 (λ Ψ. Typed.both s133 (Typed.pass T136 T137 s134 (Typed.pass T137 T138 s135 (Typed.pass T138 T139 s136 (Typed.pass T139 T140 s137 (Typed.pass T140 T141 s138 (Typed.pass T141 T142 s139 (Typed.pass T142 T143 s140 (Typed.pass T143 T145 s142 (Typed.pass T145 T148 s145 Ψ)))))))))) (Typed.pass T148 T151 s148) (Typed.g-post 𝓤 H A W 𝓣 E G135 G149 G150 b57 (λ Ψ. Typed.both s133 (Typed.pass T136 T137 s134 (Typed.pass T137 T138 s135 (Typed.pass T138 T139 s136 (Typed.pass T139 T140 s137 (Typed.pass T140 T141 s138 (Typed.pass T141 T142 s139 (Typed.pass T142 T143 s140 (Typed.pass T143 T145 s142 (Typed.pass T145 T148 s145 Ψ)))))))))) (λ Ψ. Ψ) (Typed.g-post 𝓤 H A W 𝓣 E G135 G148 G149 b57 (λ Ψ. Typed.both s133 (Typed.pass T136 T137 s134 (Typed.pass T137 T138 s135 (Typed.pass T138 T139 s136 (Typed.pass T139 T140 s137 (Typed.pass T140 T141 s138 (Typed.pass T141 T142 s139 (Typed.pass T142 T143 s140 (Typed.pass T143 T145 s142 (Typed.pass T145 T148 s145 Ψ)))))))))) (λ Ψ. Ψ) (Typed.g-post 𝓤 H A W 𝓣 E G135 G147 G148 b57 (λ Ψ. Typed.both s133 (Typed.pass T136 T137 s134 (Typed.pass T137 T138 s135 (Typed.pass T138 T139 s136 (Typed.pass T139 T140 s137 (Typed.pass T140 T141 s138 (Typed.pass T141 T142 s139 (Typed.pass T142 T143 s140 (Typed.pass T143 T145 s142 Ψ))))))))) (Typed.pass T145 T148 s145) (Typed.g-post 𝓤 H A W 𝓣 E G135 G146 G147 b57 (λ Ψ. Typed.both s133 (Typed.pass T136 T137 s134 (Typed.pass T137 T138 s135 (Typed.pass T138 T139 s136 (Typed.pass T139 T140 s137 (Typed.pass T140 T141 s138 (Typed.pass T141 T142 s139 (Typed.pass T142 T143 s140 (Typed.pass T143 T145 s142 Ψ))))))))) (λ Ψ. Ψ) (Typed.g-post 𝓤 H A W 𝓣 E G135 G145 G146 b57 (λ Ψ. Typed.both s133 (Typed.pass T136 T137 s134 (Typed.pass T137 T138 s135 (Typed.pass T138 T139 s136 (Typed.pass T139 T140 s137 (Typed.pass T140 T141 s138 (Typed.pass T141 T142 s139 (Typed.pass T142 T143 s140 (Typed.pass T143 T145 s142 Ψ))))))))) (λ Ψ. Ψ) (Typed.g-post 𝓤 H A W 𝓣 E G135 G144 G145 b57 (λ Ψ. Typed.both s133 (Typed.pass T136 T137 s134 (Typed.pass T137 T138 s135 (Typed.pass T138 T139 s136 (Typed.pass T139 T140 s137 (Typed.pass T140 T141 s138 (Typed.pass T141 T142 s139 (Typed.pass T142 T143 s140 Ψ)))))))) (Typed.pass T143 T145 s142) (Typed.g-post 𝓤 H A W 𝓣 E G135 G143 G144 b57 (λ Ψ. Typed.both s133 (Typed.pass T136 T137 s134 (Typed.pass T137 T138 s135 (Typed.pass T138 T139 s136 (Typed.pass T139 T140 s137 (Typed.pass T140 T141 s138 (Typed.pass T141 T142 s139 (Typed.pass T142 T143 s140 Ψ)))))))) (λ Ψ. Ψ) (Typed.g-post 𝓤 H A W 𝓣 E G135 G142 G143 b57 (λ Ψ. Typed.both s133 (Typed.pass T136 T137 s134 (Typed.pass T137 T138 s135 (Typed.pass T138 T139 s136 (Typed.pass T139 T140 s137 (Typed.pass T140 T141 s138 (Typed.pass T141 T142 s139 Ψ))))))) (Typed.pass T142 T143 s140) (Typed.g-post 𝓤 H A W 𝓣 E G135 G141 G142 b57 (λ Ψ. Typed.both s133 (Typed.pass T136 T137 s134 (Typed.pass T137 T138 s135 (Typed.pass T138 T139 s136 (Typed.pass T139 T140 s137 (Typed.pass T140 T141 s138 Ψ)))))) (Typed.pass T141 T142 s139) (Typed.g-post 𝓤 H A W 𝓣 E G135 G140 G141 b57 (λ Ψ. Typed.both s133 (Typed.pass T136 T137 s134 (Typed.pass T137 T138 s135 (Typed.pass T138 T139 s136 (Typed.pass T139 T140 s137 Ψ))))) (Typed.pass T140 T141 s138) (Typed.g-post 𝓤 H A W 𝓣 E G135 G139 G140 b57 (λ Ψ. Typed.both s133 (Typed.pass T136 T137 s134 (Typed.pass T137 T138 s135 (Typed.pass T138 T139 s136 Ψ)))) (Typed.pass T139 T140 s137) (Typed.g-post 𝓤 H A W 𝓣 E G135 G138 G139 b57 (λ Ψ. Typed.both s133 (Typed.pass T136 T137 s134 (Typed.pass T137 T138 s135 Ψ))) (Typed.pass T138 T139 s136) (Typed.g-post 𝓤 H A W 𝓣 E G135 G137 G138 b57 (λ Ψ. Typed.both s133 (Typed.pass T136 T137 s134 Ψ)) (Typed.pass T137 T138 s135) (Typed.g-post 𝓤 H A W 𝓣 E G135 G136 G137 b57 (Typed.both s133) (Typed.pass T136 T137 s134) (Plain.t-call-plain 𝓤 H A W 𝓣 3 ps·4 r·4 (claims· .8) (claims· .9) "bench_plans::questions::ask_all" (known .4) E (λ pos β. β) G135 (record { pos = 9; st = List.[]; d = 0; at = λ x. x }, (record { pos = 45; ty = Syntax.tyRef Syntax.erased Syntax.imm (Memory.pointee (T.the-row .written)); ref = λ x. x }, (record { pos = 47; ty = Syntax.tyRef Syntax.erased Syntax.imm (Syntax.tyInt Syntax.w16); ref = λ x. x }, (record { pos = 49; ty = Syntax.tyRef Syntax.erased Syntax.imm (Syntax.tyInt Syntax.w16); ref = λ x. x }, (Num.vAt 5 λ x. x, tt))))) 31 (List._∷_ 17 (List._∷_ 18 (List._∷_ 19 List.[]))) (Call.sub-id 𝓤 H A W (G135 .slots)) ((Yields.yields-copy 𝓤 H A W (λ ρ. Unit) (Declared'.row Size.the-type) Path'.refl (Copies.cStruct Size.the-type Laws''.the-laws Laws''.the-copy .copy 𝓤 H A W) (Rows'.whole (Declared'.row Size.the-type)) (λ x. x) (λ x. x) (λ ρ told. Local.mem-whole 𝓤 H A W (Declared'.row Size.the-type) ρ) λ ρ told. Local.whole-mem 𝓤 H A W (Declared'.row Size.the-type) ρ, Path'.refl), (ShrSlice.spares-sslice 𝓤 H A W T.the-row ty·8 17, Shared.reads-sslice 𝓤 H A W T.the-row ty·8 17, Path'.refl, (ShrSlice.spares-sslice 𝓤 H A W (Referent.rtF (Referent.fInt Syntax.w16)) ty·3 18, Shared.reads-sslice 𝓤 H A W (Referent.rtF (Referent.fInt Syntax.w16)) ty·3 18, Path'.refl, (ShrSlice.spares-sslice 𝓤 H A W (Referent.rtF (Referent.fInt Syntax.w16)) ty·3 19, Shared.reads-sslice 𝓤 H A W (Referent.rtF (Referent.fInt Syntax.w16)) ty·3 19, Path'.refl, ((Scalar.reads-sc 𝓤 H A W (Row.sInt Syntax.w64), Path'.refl), tt))))) (Reads.room-gone 𝓤 H A Syntax.tyUnit) (tt, (tt, (tt, tt))) Path'.refl) (Scalar.g-room 𝓤 H A W E G136 45 ty·15 (Shared.room-sslice 𝓤 H A W T.the-row ty·8 17))) (Scalar.g-room 𝓤 H A W E G137 47 ty·13 (Shared.room-sslice 𝓤 H A W (Referent.rtF (Referent.fInt Syntax.w16)) ty·3 18))) (Scalar.g-room 𝓤 H A W E G138 49 ty·13 (Shared.room-sslice 𝓤 H A W (Referent.rtF (Referent.fInt Syntax.w16)) ty·3 19))) (Scalar.g-room 𝓤 H A W E G139 9 ty·16 (Local.room-whole 𝓤 H A W (Declared'.row Size.the-type) ty·16 Path'.refl))) (Scalar.g-room 𝓤 H A W E G140 10 Syntax.tyBool (Scalar.room-sc 𝓤 H A W Row.sBool))) (Scalar.g-room 𝓤 H A W E G141 11 Syntax.tyBool (Scalar.room-sc 𝓤 H A W Row.sBool))) (Scalar.g-room 𝓤 H A W E G142 31 Syntax.tyUnit (Scalar.room-sc 𝓤 H A W Row.sUnit))) (Lifetime.g-end 𝓤 H A W E G143 17 Path'.refl)) (Reshare.g-back-sl-shr 𝓤 H A W E T.the-row G144 2 1 17 ty·9 (Row.lease (κs .1 .0) (qs .1 .0)) (λ x. x) (Reads.as-is 𝓤 H A (Reshare.mslice-owedS T.the-row ty·9 1 17 (Row.lease (κs .1 .0) (qs .1 .0)))) Path'.refl Path'.refl)) (Lifetime.g-forget 𝓤 H A W E G145 17 Row.dead Path'.refl)) (Lifetime.g-end 𝓤 H A W E G146 18 Path'.refl)) (Reshare.g-back-sl-shr 𝓤 H A W E (Referent.rtF (Referent.fInt Syntax.w16)) G147 3 2 18 ty·5 (Row.lease (κs .1 .1 .0) (qs .1 .1 .0)) (λ x. x) (Reads.as-is 𝓤 H A (Reshare.mslice-owedS (Referent.rtF (Referent.fInt Syntax.w16)) ty·5 2 18 (Row.lease (κs .1 .1 .0) (qs .1 .1 .0)))) Path'.refl Path'.refl)) (Lifetime.g-forget 𝓤 H A W E G148 18 Row.dead Path'.refl)) (Lifetime.g-end 𝓤 H A W E G149 19 Path'.refl)) (Reshare.g-back-sl-shr 𝓤 H A W E (Referent.rtF (Referent.fInt Syntax.w16)) G150 4 3 19 ty·6 (Row.lease (κs .1 .1 .1 .0) (qs .1 .1 .1 .0)) (λ x. x) (Reads.as-is 𝓤 H A (Reshare.mslice-owedS (Referent.rtF (Referent.fInt Syntax.w16)) ty·6 3 19 (Row.lease (κs .1 .1 .1 .0) (qs .1 .1 .1 .0)))) Path'.refl Path'.refl)) (Lifetime.g-forget 𝓤 H A W E G151 19 Row.dead Path'.refl))
 
-          d23 : Typed.Typed 𝓤 H A 𝓣 E G131 b57 Δ1 at23
-          d23 = Typed.s-seq 𝓤 H A W 𝓣 E G131 G132 b53 b56 Δ1 (Typed.give s129) at22 (Reshare.t-sl-reshare 𝓤 H A W E (Referent.rtF (Referent.fInt Syntax.w16)) 𝓣 G131 4 47 3 19 ty·6 ty·3 (Row.lease (κs .1 .1 .1 .0) (qs .1 .1 .1 .0)) 0 (λ x. x) (Reads.as-is 𝓤 H A (Mut.mslice (Referent.rtF (Referent.fInt Syntax.w16)) ty·6 3)) (Reads.room-gone 𝓤 H A ty·3) Path'.refl tt Path'.refl Path'.refl Path'.refl λ b o. tt) d22
+          d23 : Typed.Typed 𝓤 H A 𝓣 E G134 b58 Δ1 at23
+          d23 = Typed.s-seq 𝓤 H A W 𝓣 E G134 G135 b56 b57 Δ1 (Typed.ask s132) at22 (Relend.t-sl-aggregate 𝓤 H A W E (Referent.rtF (Referent.fInt Syntax.w16)) 𝓣 (Relend.asShr (Referent.rtF (Referent.fInt Syntax.w16))) G134 48 49 19 ty·3 ty·3 (λ x. x) (Scalar.oFld 4 (List._∷_ (Syntax.field 1) List.[]) (Syntax.tyInt Syntax.w64) 8 λ v. Shared.lenV (v .0)) (Reads.as-is 𝓤 H A (Relend.ssptr (Referent.rtF (Referent.fInt Syntax.w16)) ty·3 19)) (Reads.room-gone 𝓤 H A ty·13) (Reshare.reads-owedS-len 𝓤 H A W (Referent.rtF (Referent.fInt Syntax.w16)) ty·6 3 19 (Row.lease (κs .1 .1 .1 .0) (qs .1 .1 .1 .0)) 8 Path'.refl, Path'.refl) Path'.refl Path'.refl λ b o k. tt) d22
 
-          d24 : Typed.Typed 𝓤 H A 𝓣 E G130 b57 Δ1 at24
-          d24 = Typed.g-pre 𝓤 H A W 𝓣 E G130 G131 b57 Δ1 (λ Ψ. Ψ) at23 (Lifetime.g-begin 𝓤 H A W E G130 19 (tt, (tt, ((tt, tt), ((tt, tt), (tt, (tt, (tt, (tt, (tt, (tt, (tt, (tt, (tt, (tt, (tt, (tt, (tt, (tt, (tt, (tt, (tt, (tt, (tt, (tt, (tt, (tt, (tt, (tt, (tt, (tt, (tt, (tt, (tt, (tt, (tt, (tt, (tt, (tt, (tt, (tt, (tt, (tt, (tt, (tt, (tt, (tt, (tt, (tt, (tt, tt)))))))))))))))))))))))))))))))))))))))))))))))))) d23
+          d24 : Typed.Typed 𝓤 H A 𝓣 E G133 b59 Δ1 at24
+          d24 = Typed.s-seq 𝓤 H A W 𝓣 E G133 G134 b55 b58 Δ1 (Typed.give s131) at23 (Reshare.t-sl-reshare 𝓤 H A W E (Referent.rtF (Referent.fInt Syntax.w16)) 𝓣 G133 4 48 3 19 ty·6 ty·3 (Row.lease (κs .1 .1 .1 .0) (qs .1 .1 .1 .0)) 0 (λ x. x) (Reads.as-is 𝓤 H A (Mut.mslice (Referent.rtF (Referent.fInt Syntax.w16)) ty·6 3)) (Reads.room-gone 𝓤 H A ty·3) Path'.refl tt Path'.refl Path'.refl Path'.refl λ b o. tt) d23
 
-          d25 : Typed.Typed 𝓤 H A 𝓣 E G129 b58 Δ1 at25
-          d25 = Typed.s-seq 𝓤 H A W 𝓣 E G129 G130 b52 b57 Δ1 (Typed.ask s127) at24 (Relend.t-sl-aggregate 𝓤 H A W E (Referent.rtF (Referent.fInt Syntax.w16)) 𝓣 (Relend.asShr (Referent.rtF (Referent.fInt Syntax.w16))) G129 45 46 18 ty·3 ty·3 (λ x. x) (Scalar.oFld 3 (List._∷_ (Syntax.field 1) List.[]) (Syntax.tyInt Syntax.w64) 8 λ v. Shared.lenV (v .0)) (Reads.as-is 𝓤 H A (Relend.ssptr (Referent.rtF (Referent.fInt Syntax.w16)) ty·3 18)) (Reads.room-gone 𝓤 H A ty·13) (Reshare.reads-owedS-len 𝓤 H A W (Referent.rtF (Referent.fInt Syntax.w16)) ty·5 2 18 (Row.lease (κs .1 .1 .0) (qs .1 .1 .0)) 8 Path'.refl, Path'.refl) Path'.refl Path'.refl λ b o k. tt) d24
+          d25 : Typed.Typed 𝓤 H A 𝓣 E G132 b59 Δ1 at25
+          d25 = Typed.g-pre 𝓤 H A W 𝓣 E G132 G133 b59 Δ1 (λ Ψ. Ψ) at24 (Lifetime.g-begin 𝓤 H A W E G132 19 (tt, (tt, ((tt, tt), ((tt, tt), (tt, (tt, (tt, (tt, (tt, (tt, (tt, (tt, (tt, (tt, (tt, (tt, (tt, (tt, (tt, (tt, (tt, (tt, (tt, (tt, (tt, (tt, (tt, (tt, (tt, (tt, (tt, (tt, (tt, (tt, (tt, (tt, (tt, (tt, (tt, (tt, (tt, (tt, (tt, (tt, (tt, (tt, (tt, (tt, (tt, (tt, tt))))))))))))))))))))))))))))))))))))))))))))))))))) d24
 
-          d26 : Typed.Typed 𝓤 H A 𝓣 E G128 b59 Δ1 at26
-          d26 = Typed.s-seq 𝓤 H A W 𝓣 E G128 G129 b51 b58 Δ1 (Typed.give s126) at25 (Reshare.t-sl-reshare 𝓤 H A W E (Referent.rtF (Referent.fInt Syntax.w16)) 𝓣 G128 3 45 2 18 ty·5 ty·3 (Row.lease (κs .1 .1 .0) (qs .1 .1 .0)) 0 (λ x. x) (Reads.as-is 𝓤 H A (Mut.mslice (Referent.rtF (Referent.fInt Syntax.w16)) ty·5 2)) (Reads.room-gone 𝓤 H A ty·3) Path'.refl tt Path'.refl Path'.refl Path'.refl λ b o. tt) d25
+          d26 : Typed.Typed 𝓤 H A 𝓣 E G131 b60 Δ1 at26
+          d26 = Typed.s-seq 𝓤 H A W 𝓣 E G131 G132 b54 b59 Δ1 (Typed.ask s129) at25 (Relend.t-sl-aggregate 𝓤 H A W E (Referent.rtF (Referent.fInt Syntax.w16)) 𝓣 (Relend.asShr (Referent.rtF (Referent.fInt Syntax.w16))) G131 46 47 18 ty·3 ty·3 (λ x. x) (Scalar.oFld 3 (List._∷_ (Syntax.field 1) List.[]) (Syntax.tyInt Syntax.w64) 8 λ v. Shared.lenV (v .0)) (Reads.as-is 𝓤 H A (Relend.ssptr (Referent.rtF (Referent.fInt Syntax.w16)) ty·3 18)) (Reads.room-gone 𝓤 H A ty·13) (Reshare.reads-owedS-len 𝓤 H A W (Referent.rtF (Referent.fInt Syntax.w16)) ty·5 2 18 (Row.lease (κs .1 .1 .0) (qs .1 .1 .0)) 8 Path'.refl, Path'.refl) Path'.refl Path'.refl λ b o k. tt) d25
 
-          d27 : Typed.Typed 𝓤 H A 𝓣 E G127 b59 Δ1 at27
-          d27 = Typed.g-pre 𝓤 H A W 𝓣 E G127 G128 b59 Δ1 (λ Ψ. Ψ) at26 (Lifetime.g-begin 𝓤 H A W E G127 18 (tt, (tt, ((tt, tt), (tt, (tt, (tt, (tt, (tt, (tt, (tt, (tt, (tt, (tt, (tt, (tt, (tt, (tt, (tt, (tt, (tt, (tt, (tt, (tt, (tt, (tt, (tt, (tt, (tt, (tt, (tt, (tt, (tt, (tt, (tt, (tt, (tt, (tt, (tt, (tt, (tt, (tt, (tt, (tt, (tt, (tt, (tt, (tt, (tt, (tt, tt)))))))))))))))))))))))))))))))))))))))))))))))))) d26
+          d27 : Typed.Typed 𝓤 H A 𝓣 E G130 b61 Δ1 at27
+          d27 = Typed.s-seq 𝓤 H A W 𝓣 E G130 G131 b53 b60 Δ1 (Typed.give s128) at26 (Reshare.t-sl-reshare 𝓤 H A W E (Referent.rtF (Referent.fInt Syntax.w16)) 𝓣 G130 3 46 2 18 ty·5 ty·3 (Row.lease (κs .1 .1 .0) (qs .1 .1 .0)) 0 (λ x. x) (Reads.as-is 𝓤 H A (Mut.mslice (Referent.rtF (Referent.fInt Syntax.w16)) ty·5 2)) (Reads.room-gone 𝓤 H A ty·3) Path'.refl tt Path'.refl Path'.refl Path'.refl λ b o. tt) d26
 
-          d28 : Typed.Typed 𝓤 H A 𝓣 E G126 b60 Δ1 at28
-          d28 = Typed.s-seq 𝓤 H A W 𝓣 E G126 G127 b50 b59 Δ1 (Typed.ask s124) at27 (Relend.t-sl-aggregate 𝓤 H A W E T.the-row 𝓣 (Relend.asShr T.the-row) G126 43 44 17 ty·8 ty·8 (λ x. x) (Scalar.oFld 2 (List._∷_ (Syntax.field 1) List.[]) (Syntax.tyInt Syntax.w64) 8 λ v. Shared.lenV (v .0)) (Reads.as-is 𝓤 H A (Relend.ssptr T.the-row ty·8 17)) (Reads.room-gone 𝓤 H A ty·15) (Reshare.reads-owedS-len 𝓤 H A W T.the-row ty·9 1 17 (Row.lease (κs .1 .0) (qs .1 .0)) 8 Path'.refl, Path'.refl) Path'.refl Path'.refl λ b o k. tt) d27
+          d28 : Typed.Typed 𝓤 H A 𝓣 E G129 b61 Δ1 at28
+          d28 = Typed.g-pre 𝓤 H A W 𝓣 E G129 G130 b61 Δ1 (λ Ψ. Ψ) at27 (Lifetime.g-begin 𝓤 H A W E G129 18 (tt, (tt, ((tt, tt), (tt, (tt, (tt, (tt, (tt, (tt, (tt, (tt, (tt, (tt, (tt, (tt, (tt, (tt, (tt, (tt, (tt, (tt, (tt, (tt, (tt, (tt, (tt, (tt, (tt, (tt, (tt, (tt, (tt, (tt, (tt, (tt, (tt, (tt, (tt, (tt, (tt, (tt, (tt, (tt, (tt, (tt, (tt, (tt, (tt, (tt, (tt, tt))))))))))))))))))))))))))))))))))))))))))))))))))) d27
 
-          d29 : Typed.Typed 𝓤 H A 𝓣 E G125 b61 Δ1 at29
-          d29 = Typed.s-seq 𝓤 H A W 𝓣 E G125 G126 b49 b60 Δ1 (Typed.give s123) at28 (Reshare.t-sl-reshare 𝓤 H A W E T.the-row 𝓣 G125 2 43 1 17 ty·9 ty·8 (Row.lease (κs .1 .0) (qs .1 .0)) 0 (λ x. x) (Reads.as-is 𝓤 H A (Mut.mslice T.the-row ty·9 1)) (Reads.room-gone 𝓤 H A ty·8) Path'.refl tt Path'.refl Path'.refl Path'.refl λ b o. tt) d28
+          d29 : Typed.Typed 𝓤 H A 𝓣 E G128 b62 Δ1 at29
+          d29 = Typed.s-seq 𝓤 H A W 𝓣 E G128 G129 b52 b61 Δ1 (Typed.ask s126) at28 (Relend.t-sl-aggregate 𝓤 H A W E T.the-row 𝓣 (Relend.asShr T.the-row) G128 44 45 17 ty·8 ty·8 (λ x. x) (Scalar.oFld 2 (List._∷_ (Syntax.field 1) List.[]) (Syntax.tyInt Syntax.w64) 8 λ v. Shared.lenV (v .0)) (Reads.as-is 𝓤 H A (Relend.ssptr T.the-row ty·8 17)) (Reads.room-gone 𝓤 H A ty·15) (Reshare.reads-owedS-len 𝓤 H A W T.the-row ty·9 1 17 (Row.lease (κs .1 .0) (qs .1 .0)) 8 Path'.refl, Path'.refl) Path'.refl Path'.refl λ b o k. tt) d28
 
-          d30 : Typed.Typed 𝓤 H A 𝓣 E G124 b61 Δ1 at30
-          d30 = Typed.g-pre 𝓤 H A W 𝓣 E G124 G125 b61 Δ1 (λ Ψ. Ψ) at29 (Lifetime.g-begin 𝓤 H A W E G124 17 (tt, (tt, (tt, (tt, (tt, (tt, (tt, (tt, (tt, (tt, (tt, (tt, (tt, (tt, (tt, (tt, (tt, (tt, (tt, (tt, (tt, (tt, (tt, (tt, (tt, (tt, (tt, (tt, (tt, (tt, (tt, (tt, (tt, (tt, (tt, (tt, (tt, (tt, (tt, (tt, (tt, (tt, (tt, (tt, (tt, (tt, (tt, (tt, (tt, tt)))))))))))))))))))))))))))))))))))))))))))))))))) d29
+          d30 : Typed.Typed 𝓤 H A 𝓣 E G127 b63 Δ1 at30
+          d30 = Typed.s-seq 𝓤 H A W 𝓣 E G127 G128 b51 b62 Δ1 (Typed.give s125) at29 (Reshare.t-sl-reshare 𝓤 H A W E T.the-row 𝓣 G127 2 44 1 17 ty·9 ty·8 (Row.lease (κs .1 .0) (qs .1 .0)) 0 (λ x. x) (Reads.as-is 𝓤 H A (Mut.mslice T.the-row ty·9 1)) (Reads.room-gone 𝓤 H A ty·8) Path'.refl tt Path'.refl Path'.refl Path'.refl λ b o. tt) d29
 
-          d31 : Typed.Typed 𝓤 H A 𝓣 E G123 b61 Δ1 at31
-          d31 = Typed.g-pre 𝓤 H A W 𝓣 E G123 G124 b61 Δ1 (Typed.pass T123 T124 s121) at30 (Scalar.g-room 𝓤 H A W E G123 30 Syntax.tyUnit (Scalar.room-sc 𝓤 H A W Row.sUnit)) d30
+          d31 : Typed.Typed 𝓤 H A 𝓣 E G126 b63 Δ1 at31
+          d31 = Typed.g-pre 𝓤 H A W 𝓣 E G126 G127 b63 Δ1 (λ Ψ. Ψ) at30 (Lifetime.g-begin 𝓤 H A W E G126 17 (tt, (tt, (tt, (tt, (tt, (tt, (tt, (tt, (tt, (tt, (tt, (tt, (tt, (tt, (tt, (tt, (tt, (tt, (tt, (tt, (tt, (tt, (tt, (tt, (tt, (tt, (tt, (tt, (tt, (tt, (tt, (tt, (tt, (tt, (tt, (tt, (tt, (tt, (tt, (tt, (tt, (tt, (tt, (tt, (tt, (tt, (tt, (tt, (tt, (tt, tt))))))))))))))))))))))))))))))))))))))))))))))))))) d30
 
-          d32 : Typed.Typed 𝓤 H A 𝓣 E G122 b62 Δ1 at32
-          d32 = Typed.s-seq 𝓤 H A W 𝓣 E G122 G123 b48 b61 Δ1 (Typed.both s120) at31 (Plain.t-call-plain 𝓤 H A W 𝓣 0 ps·9 r·9 (claims· .18) (claims· .19) "bench_plans::files::print_again" (known .9) E (λ pos β. β) G122 (Bool.bAt 9 λ x. x, (Bool.bAt 10 λ x. x, tt)) 30 List.[] (Call.sub-id 𝓤 H A W (G122 .slots)) ((Scalar.reads-sc 𝓤 H A W Row.sBool, Path'.refl), ((Scalar.reads-sc 𝓤 H A W Row.sBool, Path'.refl), tt)) (Reads.room-gone 𝓤 H A Syntax.tyUnit) tt Path'.refl) d31
+          d32 : Typed.Typed 𝓤 H A 𝓣 E G125 b63 Δ1 at32
+          d32 = Typed.g-pre 𝓤 H A W 𝓣 E G125 G126 b63 Δ1 (Typed.pass T125 T126 s123) at31 (Scalar.g-room 𝓤 H A W E G125 31 Syntax.tyUnit (Scalar.room-sc 𝓤 H A W Row.sUnit)) d31
 
-          d33 : Typed.Typed 𝓤 H A 𝓣 E G121 b62 Δ1 at33
-          d33 = Typed.g-pre 𝓤 H A W 𝓣 E G121 G122 b62 Δ1 (λ Ψ. Ψ) at32 (Lifetime.g-forget 𝓤 H A W E G121 16 Row.dead Path'.refl) d32
+          d33 : Typed.Typed 𝓤 H A 𝓣 E G124 b64 Δ1 at33
+          d33 = Typed.s-seq 𝓤 H A W 𝓣 E G124 G125 b50 b63 Δ1 (Typed.both s122) at32 (Plain.t-call-plain 𝓤 H A W 𝓣 0 ps·9 r·9 (claims· .18) (claims· .19) "bench_plans::files::print_again" (known .9) E (λ pos β. β) G124 (Bool.bAt 10 λ x. x, (Bool.bAt 11 λ x. x, tt)) 31 List.[] (Call.sub-id 𝓤 H A W (G124 .slots)) ((Scalar.reads-sc 𝓤 H A W Row.sBool, Path'.refl), ((Scalar.reads-sc 𝓤 H A W Row.sBool, Path'.refl), tt)) (Reads.room-gone 𝓤 H A Syntax.tyUnit) tt Path'.refl) d32
 
-          d34 : Typed.Typed 𝓤 H A 𝓣 E G120 b62 Δ1 at34
-          d34 = Typed.g-pre 𝓤 H A W 𝓣 E G120 G121 b62 Δ1 (Typed.pass T118 T121 s118) at33 (Reshare.g-back-sl-shr 𝓤 H A W E (Referent.rtF (Referent.fInt Syntax.w16)) G120 4 3 16 ty·6 (Row.lease (κs .1 .1 .1 .0) (qs .1 .1 .1 .0)) (λ x. x) (Reads.as-is 𝓤 H A (Reshare.mslice-owedS (Referent.rtF (Referent.fInt Syntax.w16)) ty·6 3 16 (Row.lease (κs .1 .1 .1 .0) (qs .1 .1 .1 .0)))) Path'.refl Path'.refl) d33
+          d34 : Typed.Typed 𝓤 H A 𝓣 E G123 b64 Δ1 at34
+          d34 = Typed.g-pre 𝓤 H A W 𝓣 E G123 G124 b64 Δ1 (λ Ψ. Ψ) at33 (Lifetime.g-forget 𝓤 H A W E G123 16 Row.dead Path'.refl) d33
 
-          d35 : Typed.Typed 𝓤 H A 𝓣 E G119 b62 Δ1 at35
-          d35 = Typed.g-pre 𝓤 H A W 𝓣 E G119 G120 b62 Δ1 (λ Ψ. Ψ) at34 (Lifetime.g-end 𝓤 H A W E G119 16 Path'.refl) d34
+          d35 : Typed.Typed 𝓤 H A 𝓣 E G122 b64 Δ1 at35
+          d35 = Typed.g-pre 𝓤 H A W 𝓣 E G122 G123 b64 Δ1 (Typed.pass T120 T123 s120) at34 (Reshare.g-back-sl-shr 𝓤 H A W E (Referent.rtF (Referent.fInt Syntax.w16)) G122 4 3 16 ty·6 (Row.lease (κs .1 .1 .1 .0) (qs .1 .1 .1 .0)) (λ x. x) (Reads.as-is 𝓤 H A (Reshare.mslice-owedS (Referent.rtF (Referent.fInt Syntax.w16)) ty·6 3 16 (Row.lease (κs .1 .1 .1 .0) (qs .1 .1 .1 .0)))) Path'.refl Path'.refl) d34
 
-          d36 : Typed.Typed 𝓤 H A 𝓣 E G118 b62 Δ1 at36
-          d36 = Typed.g-pre 𝓤 H A W 𝓣 E G118 G119 b62 Δ1 (λ Ψ. Ψ) at35 (Lifetime.g-forget 𝓤 H A W E G118 15 Row.dead Path'.refl) d35
+          d36 : Typed.Typed 𝓤 H A 𝓣 E G121 b64 Δ1 at36
+          d36 = Typed.g-pre 𝓤 H A W 𝓣 E G121 G122 b64 Δ1 (λ Ψ. Ψ) at35 (Lifetime.g-end 𝓤 H A W E G121 16 Path'.refl) d35
 
-          d37 : Typed.Typed 𝓤 H A 𝓣 E G117 b62 Δ1 at37
-          d37 = Typed.g-pre 𝓤 H A W 𝓣 E G117 G118 b62 Δ1 (Typed.pass T115 T118 s115) at36 (Reshare.g-back-sl-shr 𝓤 H A W E (Referent.rtF (Referent.fInt Syntax.w16)) G117 3 2 15 ty·5 (Row.lease (κs .1 .1 .0) (qs .1 .1 .0)) (λ x. x) (Reads.as-is 𝓤 H A (Reshare.mslice-owedS (Referent.rtF (Referent.fInt Syntax.w16)) ty·5 2 15 (Row.lease (κs .1 .1 .0) (qs .1 .1 .0)))) Path'.refl Path'.refl) d36
+          d37 : Typed.Typed 𝓤 H A 𝓣 E G120 b64 Δ1 at37
+          d37 = Typed.g-pre 𝓤 H A W 𝓣 E G120 G121 b64 Δ1 (λ Ψ. Ψ) at36 (Lifetime.g-forget 𝓤 H A W E G120 15 Row.dead Path'.refl) d36
 
-          d38 : Typed.Typed 𝓤 H A 𝓣 E G116 b62 Δ1 at38
-          d38 = Typed.g-pre 𝓤 H A W 𝓣 E G116 G117 b62 Δ1 (λ Ψ. Ψ) at37 (Lifetime.g-end 𝓤 H A W E G116 15 Path'.refl) d37
+          d38 : Typed.Typed 𝓤 H A 𝓣 E G119 b64 Δ1 at38
+          d38 = Typed.g-pre 𝓤 H A W 𝓣 E G119 G120 b64 Δ1 (Typed.pass T117 T120 s117) at37 (Reshare.g-back-sl-shr 𝓤 H A W E (Referent.rtF (Referent.fInt Syntax.w16)) G119 3 2 15 ty·5 (Row.lease (κs .1 .1 .0) (qs .1 .1 .0)) (λ x. x) (Reads.as-is 𝓤 H A (Reshare.mslice-owedS (Referent.rtF (Referent.fInt Syntax.w16)) ty·5 2 15 (Row.lease (κs .1 .1 .0) (qs .1 .1 .0)))) Path'.refl Path'.refl) d37
 
-          d39 : Typed.Typed 𝓤 H A 𝓣 E G115 b62 Δ1 at39
-          d39 = Typed.g-pre 𝓤 H A W 𝓣 E G115 G116 b62 Δ1 (λ Ψ. Ψ) at38 (Lifetime.g-forget 𝓤 H A W E G115 14 Row.dead Path'.refl) d38
+          d39 : Typed.Typed 𝓤 H A 𝓣 E G118 b64 Δ1 at39
+          d39 = Typed.g-pre 𝓤 H A W 𝓣 E G118 G119 b64 Δ1 (λ Ψ. Ψ) at38 (Lifetime.g-end 𝓤 H A W E G118 15 Path'.refl) d38
 
-          d40 : Typed.Typed 𝓤 H A 𝓣 E G114 b62 Δ1 at40
-          d40 = Typed.g-pre 𝓤 H A W 𝓣 E G114 G115 b62 Δ1 (Typed.pass T113 T115 s112) at39 (Reshare.g-back-sl-shr 𝓤 H A W E T.the-row G114 2 1 14 ty·9 (Row.lease (κs .1 .0) (qs .1 .0)) (λ x. x) (Reads.as-is 𝓤 H A (Reshare.mslice-owedS T.the-row ty·9 1 14 (Row.lease (κs .1 .0) (qs .1 .0)))) Path'.refl Path'.refl) d39
+          d40 : Typed.Typed 𝓤 H A 𝓣 E G117 b64 Δ1 at40
+          d40 = Typed.g-pre 𝓤 H A W 𝓣 E G117 G118 b64 Δ1 (λ Ψ. Ψ) at39 (Lifetime.g-forget 𝓤 H A W E G117 14 Row.dead Path'.refl) d39
 
-          d41 : Typed.Typed 𝓤 H A 𝓣 E G113 b62 Δ1 at41
-          d41 = Typed.g-pre 𝓤 H A W 𝓣 E G113 G114 b62 Δ1 (λ Ψ. Ψ) at40 (Lifetime.g-end 𝓤 H A W E G113 14 Path'.refl) d40
+          d41 : Typed.Typed 𝓤 H A 𝓣 E G116 b64 Δ1 at41
+          d41 = Typed.g-pre 𝓤 H A W 𝓣 E G116 G117 b64 Δ1 (Typed.pass T115 T117 s114) at40 (Reshare.g-back-sl-shr 𝓤 H A W E T.the-row G116 2 1 14 ty·9 (Row.lease (κs .1 .0) (qs .1 .0)) (λ x. x) (Reads.as-is 𝓤 H A (Reshare.mslice-owedS T.the-row ty·9 1 14 (Row.lease (κs .1 .0) (qs .1 .0)))) Path'.refl Path'.refl) d40
 
-          d42 : Typed.Typed 𝓤 H A 𝓣 E G112 b62 Δ1 at42
-          d42 = Typed.g-pre 𝓤 H A W 𝓣 E G112 G113 b62 Δ1 (Typed.pass T112 T113 s110) at41 (Scalar.g-room 𝓤 H A W E G112 42 ty·13 (Shared.room-sslice 𝓤 H A W (Referent.rtF (Referent.fInt Syntax.w16)) ty·3 16)) d41
+          d42 : Typed.Typed 𝓤 H A 𝓣 E G115 b64 Δ1 at42
+          d42 = Typed.g-pre 𝓤 H A W 𝓣 E G115 G116 b64 Δ1 (λ Ψ. Ψ) at41 (Lifetime.g-end 𝓤 H A W E G115 14 Path'.refl) d41
 
-          d43 : Typed.Typed 𝓤 H A 𝓣 E G111 b62 Δ1 at43
-          d43 = Typed.g-pre 𝓤 H A W 𝓣 E G111 G112 b62 Δ1 (Typed.pass T111 T112 s109) at42 (Scalar.g-room 𝓤 H A W E G111 40 ty·13 (Shared.room-sslice 𝓤 H A W (Referent.rtF (Referent.fInt Syntax.w16)) ty·3 15)) d42
+          d43 : Typed.Typed 𝓤 H A 𝓣 E G114 b64 Δ1 at43
+          d43 = Typed.g-pre 𝓤 H A W 𝓣 E G114 G115 b64 Δ1 (Typed.pass T114 T115 s112) at42 (Scalar.g-room 𝓤 H A W E G114 43 ty·13 (Shared.room-sslice 𝓤 H A W (Referent.rtF (Referent.fInt Syntax.w16)) ty·3 16)) d42
 
-          d44 : Typed.Typed 𝓤 H A 𝓣 E G110 b62 Δ1 at44
-          d44 = Typed.g-pre 𝓤 H A W 𝓣 E G110 G111 b62 Δ1 (Typed.pass T110 T111 s108) at43 (Scalar.g-room 𝓤 H A W E G110 38 ty·15 (Shared.room-sslice 𝓤 H A W T.the-row ty·8 14)) d43
+          d44 : Typed.Typed 𝓤 H A 𝓣 E G113 b64 Δ1 at44
+          d44 = Typed.g-pre 𝓤 H A W 𝓣 E G113 G114 b64 Δ1 (Typed.pass T113 T114 s111) at43 (Scalar.g-room 𝓤 H A W E G113 41 ty·13 (Shared.room-sslice 𝓤 H A W (Referent.rtF (Referent.fInt Syntax.w16)) ty·3 15)) d43
 
-          d45 : Typed.Typed 𝓤 H A 𝓣 E G109 b63 Δ1 at45
-          d45 = Typed.s-seq 𝓤 H A W 𝓣 E G109 G110 b47 b62 Δ1 (Typed.both s107) at44 (Plain.t-call-plain 𝓤 H A W 𝓣 3 ps·8 r·8 (claims· .16) (claims· .17) "bench_plans::files::read_again" (known .8) E (λ pos β. β) G109 (record { pos = 8; st = List.[]; d = 0; at = λ x. x }, (record { pos = 38; ty = Syntax.tyRef Syntax.erased Syntax.imm (Memory.pointee (T.the-row .written)); ref = λ x. x }, (record { pos = 40; ty = Syntax.tyRef Syntax.erased Syntax.imm (Syntax.tyInt Syntax.w16); ref = λ x. x }, (record { pos = 42; ty = Syntax.tyRef Syntax.erased Syntax.imm (Syntax.tyInt Syntax.w16); ref = λ x. x }, tt)))) 10 (List._∷_ 14 (List._∷_ 15 (List._∷_ 16 List.[]))) (Call.sub-id 𝓤 H A W (G109 .slots)) ((Yields.yields-copy 𝓤 H A W (λ ρ. Unit) (Declared'.row Size.the-type) Path'.refl (Copies.cStruct Size.the-type Laws''.the-laws Laws''.the-copy .copy 𝓤 H A W) (Rows'.whole (Declared'.row Size.the-type)) (λ x. x) (λ x. x) (λ ρ told. Local.mem-whole 𝓤 H A W (Declared'.row Size.the-type) ρ) λ ρ told. Local.whole-mem 𝓤 H A W (Declared'.row Size.the-type) ρ, Path'.refl), (ShrSlice.spares-sslice 𝓤 H A W T.the-row ty·8 14, Shared.reads-sslice 𝓤 H A W T.the-row ty·8 14, Path'.refl, (ShrSlice.spares-sslice 𝓤 H A W (Referent.rtF (Referent.fInt Syntax.w16)) ty·3 15, Shared.reads-sslice 𝓤 H A W (Referent.rtF (Referent.fInt Syntax.w16)) ty·3 15, Path'.refl, (ShrSlice.spares-sslice 𝓤 H A W (Referent.rtF (Referent.fInt Syntax.w16)) ty·3 16, Shared.reads-sslice 𝓤 H A W (Referent.rtF (Referent.fInt Syntax.w16)) ty·3 16, Path'.refl, tt)))) (Reads.room-gone 𝓤 H A Syntax.tyBool) (tt, (tt, (tt, tt))) Path'.refl) d44
+          d45 : Typed.Typed 𝓤 H A 𝓣 E G112 b64 Δ1 at45
+          d45 = Typed.g-pre 𝓤 H A W 𝓣 E G112 G113 b64 Δ1 (Typed.pass T112 T113 s110) at44 (Scalar.g-room 𝓤 H A W E G112 39 ty·15 (Shared.room-sslice 𝓤 H A W T.the-row ty·8 14)) d44
 
-          d46 : Typed.Typed 𝓤 H A 𝓣 E G108 b64 Δ1 at46
-          d46 = Typed.s-seq 𝓤 H A W 𝓣 E G108 G109 b46 b63 Δ1 (Typed.ask s106) at45 (Relend.t-sl-aggregate 𝓤 H A W E (Referent.rtF (Referent.fInt Syntax.w16)) 𝓣 (Relend.asShr (Referent.rtF (Referent.fInt Syntax.w16))) G108 41 42 16 ty·3 ty·3 (λ x. x) (Scalar.oFld 4 (List._∷_ (Syntax.field 1) List.[]) (Syntax.tyInt Syntax.w64) 8 λ v. Shared.lenV (v .0)) (Reads.as-is 𝓤 H A (Relend.ssptr (Referent.rtF (Referent.fInt Syntax.w16)) ty·3 16)) (Reads.room-gone 𝓤 H A ty·13) (Reshare.reads-owedS-len 𝓤 H A W (Referent.rtF (Referent.fInt Syntax.w16)) ty·6 3 16 (Row.lease (κs .1 .1 .1 .0) (qs .1 .1 .1 .0)) 8 Path'.refl, Path'.refl) Path'.refl Path'.refl λ b o k. tt) d45
+          d46 : Typed.Typed 𝓤 H A 𝓣 E G111 b65 Δ1 at46
+          d46 = Typed.s-seq 𝓤 H A W 𝓣 E G111 G112 b49 b64 Δ1 (Typed.both s109) at45 (Plain.t-call-plain 𝓤 H A W 𝓣 3 ps·8 r·8 (claims· .16) (claims· .17) "bench_plans::files::read_again" (known .8) E (λ pos β. β) G111 (record { pos = 9; st = List.[]; d = 0; at = λ x. x }, (record { pos = 39; ty = Syntax.tyRef Syntax.erased Syntax.imm (Memory.pointee (T.the-row .written)); ref = λ x. x }, (record { pos = 41; ty = Syntax.tyRef Syntax.erased Syntax.imm (Syntax.tyInt Syntax.w16); ref = λ x. x }, (record { pos = 43; ty = Syntax.tyRef Syntax.erased Syntax.imm (Syntax.tyInt Syntax.w16); ref = λ x. x }, tt)))) 11 (List._∷_ 14 (List._∷_ 15 (List._∷_ 16 List.[]))) (Call.sub-id 𝓤 H A W (G111 .slots)) ((Yields.yields-copy 𝓤 H A W (λ ρ. Unit) (Declared'.row Size.the-type) Path'.refl (Copies.cStruct Size.the-type Laws''.the-laws Laws''.the-copy .copy 𝓤 H A W) (Rows'.whole (Declared'.row Size.the-type)) (λ x. x) (λ x. x) (λ ρ told. Local.mem-whole 𝓤 H A W (Declared'.row Size.the-type) ρ) λ ρ told. Local.whole-mem 𝓤 H A W (Declared'.row Size.the-type) ρ, Path'.refl), (ShrSlice.spares-sslice 𝓤 H A W T.the-row ty·8 14, Shared.reads-sslice 𝓤 H A W T.the-row ty·8 14, Path'.refl, (ShrSlice.spares-sslice 𝓤 H A W (Referent.rtF (Referent.fInt Syntax.w16)) ty·3 15, Shared.reads-sslice 𝓤 H A W (Referent.rtF (Referent.fInt Syntax.w16)) ty·3 15, Path'.refl, (ShrSlice.spares-sslice 𝓤 H A W (Referent.rtF (Referent.fInt Syntax.w16)) ty·3 16, Shared.reads-sslice 𝓤 H A W (Referent.rtF (Referent.fInt Syntax.w16)) ty·3 16, Path'.refl, tt)))) (Reads.room-gone 𝓤 H A Syntax.tyBool) (tt, (tt, (tt, tt))) Path'.refl) d45
 
-          d47 : Typed.Typed 𝓤 H A 𝓣 E G107 b65 Δ1 at47
-          d47 = Typed.s-seq 𝓤 H A W 𝓣 E G107 G108 b45 b64 Δ1 (Typed.give s105) at46 (Reshare.t-sl-reshare 𝓤 H A W E (Referent.rtF (Referent.fInt Syntax.w16)) 𝓣 G107 4 41 3 16 ty·6 ty·3 (Row.lease (κs .1 .1 .1 .0) (qs .1 .1 .1 .0)) 0 (λ x. x) (Reads.as-is 𝓤 H A (Mut.mslice (Referent.rtF (Referent.fInt Syntax.w16)) ty·6 3)) (Reads.room-gone 𝓤 H A ty·3) Path'.refl tt Path'.refl Path'.refl Path'.refl λ b o. tt) d46
+          d47 : Typed.Typed 𝓤 H A 𝓣 E G110 b66 Δ1 at47
+          d47 = Typed.s-seq 𝓤 H A W 𝓣 E G110 G111 b48 b65 Δ1 (Typed.ask s108) at46 (Relend.t-sl-aggregate 𝓤 H A W E (Referent.rtF (Referent.fInt Syntax.w16)) 𝓣 (Relend.asShr (Referent.rtF (Referent.fInt Syntax.w16))) G110 42 43 16 ty·3 ty·3 (λ x. x) (Scalar.oFld 4 (List._∷_ (Syntax.field 1) List.[]) (Syntax.tyInt Syntax.w64) 8 λ v. Shared.lenV (v .0)) (Reads.as-is 𝓤 H A (Relend.ssptr (Referent.rtF (Referent.fInt Syntax.w16)) ty·3 16)) (Reads.room-gone 𝓤 H A ty·13) (Reshare.reads-owedS-len 𝓤 H A W (Referent.rtF (Referent.fInt Syntax.w16)) ty·6 3 16 (Row.lease (κs .1 .1 .1 .0) (qs .1 .1 .1 .0)) 8 Path'.refl, Path'.refl) Path'.refl Path'.refl λ b o k. tt) d46
 
-          d48 : Typed.Typed 𝓤 H A 𝓣 E G106 b65 Δ1 at48
-          d48 = Typed.g-pre 𝓤 H A W 𝓣 E G106 G107 b65 Δ1 (λ Ψ. Ψ) at47 (Lifetime.g-begin 𝓤 H A W E G106 16 (tt, (tt, ((tt, tt), ((tt, tt), (tt, (tt, (tt, (tt, (tt, (tt, (tt, (tt, (tt, (tt, (tt, (tt, (tt, (tt, (tt, (tt, (tt, (tt, (tt, (tt, (tt, (tt, (tt, (tt, (tt, (tt, (tt, (tt, (tt, (tt, (tt, (tt, (tt, (tt, (tt, (tt, (tt, (tt, (tt, (tt, (tt, (tt, (tt, (tt, (tt, tt)))))))))))))))))))))))))))))))))))))))))))))))))) d47
+          d48 : Typed.Typed 𝓤 H A 𝓣 E G109 b67 Δ1 at48
+          d48 = Typed.s-seq 𝓤 H A W 𝓣 E G109 G110 b47 b66 Δ1 (Typed.give s107) at47 (Reshare.t-sl-reshare 𝓤 H A W E (Referent.rtF (Referent.fInt Syntax.w16)) 𝓣 G109 4 42 3 16 ty·6 ty·3 (Row.lease (κs .1 .1 .1 .0) (qs .1 .1 .1 .0)) 0 (λ x. x) (Reads.as-is 𝓤 H A (Mut.mslice (Referent.rtF (Referent.fInt Syntax.w16)) ty·6 3)) (Reads.room-gone 𝓤 H A ty·3) Path'.refl tt Path'.refl Path'.refl Path'.refl λ b o. tt) d47
 
-          d49 : Typed.Typed 𝓤 H A 𝓣 E G105 b66 Δ1 at49
-          d49 = Typed.s-seq 𝓤 H A W 𝓣 E G105 G106 b44 b65 Δ1 (Typed.ask s103) at48 (Relend.t-sl-aggregate 𝓤 H A W E (Referent.rtF (Referent.fInt Syntax.w16)) 𝓣 (Relend.asShr (Referent.rtF (Referent.fInt Syntax.w16))) G105 39 40 15 ty·3 ty·3 (λ x. x) (Scalar.oFld 3 (List._∷_ (Syntax.field 1) List.[]) (Syntax.tyInt Syntax.w64) 8 λ v. Shared.lenV (v .0)) (Reads.as-is 𝓤 H A (Relend.ssptr (Referent.rtF (Referent.fInt Syntax.w16)) ty·3 15)) (Reads.room-gone 𝓤 H A ty·13) (Reshare.reads-owedS-len 𝓤 H A W (Referent.rtF (Referent.fInt Syntax.w16)) ty·5 2 15 (Row.lease (κs .1 .1 .0) (qs .1 .1 .0)) 8 Path'.refl, Path'.refl) Path'.refl Path'.refl λ b o k. tt) d48
+          d49 : Typed.Typed 𝓤 H A 𝓣 E G108 b67 Δ1 at49
+          d49 = Typed.g-pre 𝓤 H A W 𝓣 E G108 G109 b67 Δ1 (λ Ψ. Ψ) at48 (Lifetime.g-begin 𝓤 H A W E G108 16 (tt, (tt, ((tt, tt), ((tt, tt), (tt, (tt, (tt, (tt, (tt, (tt, (tt, (tt, (tt, (tt, (tt, (tt, (tt, (tt, (tt, (tt, (tt, (tt, (tt, (tt, (tt, (tt, (tt, (tt, (tt, (tt, (tt, (tt, (tt, (tt, (tt, (tt, (tt, (tt, (tt, (tt, (tt, (tt, (tt, (tt, (tt, (tt, (tt, (tt, (tt, (tt, tt))))))))))))))))))))))))))))))))))))))))))))))))))) d48
 
-          d50 : Typed.Typed 𝓤 H A 𝓣 E G104 b67 Δ1 at50
-          d50 = Typed.s-seq 𝓤 H A W 𝓣 E G104 G105 b43 b66 Δ1 (Typed.give s102) at49 (Reshare.t-sl-reshare 𝓤 H A W E (Referent.rtF (Referent.fInt Syntax.w16)) 𝓣 G104 3 39 2 15 ty·5 ty·3 (Row.lease (κs .1 .1 .0) (qs .1 .1 .0)) 0 (λ x. x) (Reads.as-is 𝓤 H A (Mut.mslice (Referent.rtF (Referent.fInt Syntax.w16)) ty·5 2)) (Reads.room-gone 𝓤 H A ty·3) Path'.refl tt Path'.refl Path'.refl Path'.refl λ b o. tt) d49
+          d50 : Typed.Typed 𝓤 H A 𝓣 E G107 b68 Δ1 at50
+          d50 = Typed.s-seq 𝓤 H A W 𝓣 E G107 G108 b46 b67 Δ1 (Typed.ask s105) at49 (Relend.t-sl-aggregate 𝓤 H A W E (Referent.rtF (Referent.fInt Syntax.w16)) 𝓣 (Relend.asShr (Referent.rtF (Referent.fInt Syntax.w16))) G107 40 41 15 ty·3 ty·3 (λ x. x) (Scalar.oFld 3 (List._∷_ (Syntax.field 1) List.[]) (Syntax.tyInt Syntax.w64) 8 λ v. Shared.lenV (v .0)) (Reads.as-is 𝓤 H A (Relend.ssptr (Referent.rtF (Referent.fInt Syntax.w16)) ty·3 15)) (Reads.room-gone 𝓤 H A ty·13) (Reshare.reads-owedS-len 𝓤 H A W (Referent.rtF (Referent.fInt Syntax.w16)) ty·5 2 15 (Row.lease (κs .1 .1 .0) (qs .1 .1 .0)) 8 Path'.refl, Path'.refl) Path'.refl Path'.refl λ b o k. tt) d49
 
-          d51 : Typed.Typed 𝓤 H A 𝓣 E G103 b67 Δ1 at51
-          d51 = Typed.g-pre 𝓤 H A W 𝓣 E G103 G104 b67 Δ1 (λ Ψ. Ψ) at50 (Lifetime.g-begin 𝓤 H A W E G103 15 (tt, (tt, ((tt, tt), (tt, (tt, (tt, (tt, (tt, (tt, (tt, (tt, (tt, (tt, (tt, (tt, (tt, (tt, (tt, (tt, (tt, (tt, (tt, (tt, (tt, (tt, (tt, (tt, (tt, (tt, (tt, (tt, (tt, (tt, (tt, (tt, (tt, (tt, (tt, (tt, (tt, (tt, (tt, (tt, (tt, (tt, (tt, (tt, (tt, (tt, tt)))))))))))))))))))))))))))))))))))))))))))))))))) d50
+          d51 : Typed.Typed 𝓤 H A 𝓣 E G106 b69 Δ1 at51
+          d51 = Typed.s-seq 𝓤 H A W 𝓣 E G106 G107 b45 b68 Δ1 (Typed.give s104) at50 (Reshare.t-sl-reshare 𝓤 H A W E (Referent.rtF (Referent.fInt Syntax.w16)) 𝓣 G106 3 40 2 15 ty·5 ty·3 (Row.lease (κs .1 .1 .0) (qs .1 .1 .0)) 0 (λ x. x) (Reads.as-is 𝓤 H A (Mut.mslice (Referent.rtF (Referent.fInt Syntax.w16)) ty·5 2)) (Reads.room-gone 𝓤 H A ty·3) Path'.refl tt Path'.refl Path'.refl Path'.refl λ b o. tt) d50
 
-          d52 : Typed.Typed 𝓤 H A 𝓣 E G102 b68 Δ1 at52
-          d52 = Typed.s-seq 𝓤 H A W 𝓣 E G102 G103 b42 b67 Δ1 (Typed.ask s100) at51 (Relend.t-sl-aggregate 𝓤 H A W E T.the-row 𝓣 (Relend.asShr T.the-row) G102 37 38 14 ty·8 ty·8 (λ x. x) (Scalar.oFld 2 (List._∷_ (Syntax.field 1) List.[]) (Syntax.tyInt Syntax.w64) 8 λ v. Shared.lenV (v .0)) (Reads.as-is 𝓤 H A (Relend.ssptr T.the-row ty·8 14)) (Reads.room-gone 𝓤 H A ty·15) (Reshare.reads-owedS-len 𝓤 H A W T.the-row ty·9 1 14 (Row.lease (κs .1 .0) (qs .1 .0)) 8 Path'.refl, Path'.refl) Path'.refl Path'.refl λ b o k. tt) d51
+          d52 : Typed.Typed 𝓤 H A 𝓣 E G105 b69 Δ1 at52
+          d52 = Typed.g-pre 𝓤 H A W 𝓣 E G105 G106 b69 Δ1 (λ Ψ. Ψ) at51 (Lifetime.g-begin 𝓤 H A W E G105 15 (tt, (tt, ((tt, tt), (tt, (tt, (tt, (tt, (tt, (tt, (tt, (tt, (tt, (tt, (tt, (tt, (tt, (tt, (tt, (tt, (tt, (tt, (tt, (tt, (tt, (tt, (tt, (tt, (tt, (tt, (tt, (tt, (tt, (tt, (tt, (tt, (tt, (tt, (tt, (tt, (tt, (tt, (tt, (tt, (tt, (tt, (tt, (tt, (tt, (tt, (tt, tt))))))))))))))))))))))))))))))))))))))))))))))))))) d51
 
-          d53 : Typed.Typed 𝓤 H A 𝓣 E G101 b69 Δ1 at53
-          d53 = Typed.s-seq 𝓤 H A W 𝓣 E G101 G102 b41 b68 Δ1 (Typed.give s99) at52 (Reshare.t-sl-reshare 𝓤 H A W E T.the-row 𝓣 G101 2 37 1 14 ty·9 ty·8 (Row.lease (κs .1 .0) (qs .1 .0)) 0 (λ x. x) (Reads.as-is 𝓤 H A (Mut.mslice T.the-row ty·9 1)) (Reads.room-gone 𝓤 H A ty·8) Path'.refl tt Path'.refl Path'.refl Path'.refl λ b o. tt) d52
+          d53 : Typed.Typed 𝓤 H A 𝓣 E G104 b70 Δ1 at53
+          d53 = Typed.s-seq 𝓤 H A W 𝓣 E G104 G105 b44 b69 Δ1 (Typed.ask s102) at52 (Relend.t-sl-aggregate 𝓤 H A W E T.the-row 𝓣 (Relend.asShr T.the-row) G104 38 39 14 ty·8 ty·8 (λ x. x) (Scalar.oFld 2 (List._∷_ (Syntax.field 1) List.[]) (Syntax.tyInt Syntax.w64) 8 λ v. Shared.lenV (v .0)) (Reads.as-is 𝓤 H A (Relend.ssptr T.the-row ty·8 14)) (Reads.room-gone 𝓤 H A ty·15) (Reshare.reads-owedS-len 𝓤 H A W T.the-row ty·9 1 14 (Row.lease (κs .1 .0) (qs .1 .0)) 8 Path'.refl, Path'.refl) Path'.refl Path'.refl λ b o k. tt) d52
 
-          d54 : Typed.Typed 𝓤 H A 𝓣 E G100 b69 Δ1 at54
-          d54 = Typed.g-pre 𝓤 H A W 𝓣 E G100 G101 b69 Δ1 (λ Ψ. Ψ) at53 (Lifetime.g-begin 𝓤 H A W E G100 14 (tt, (tt, (tt, (tt, (tt, (tt, (tt, (tt, (tt, (tt, (tt, (tt, (tt, (tt, (tt, (tt, (tt, (tt, (tt, (tt, (tt, (tt, (tt, (tt, (tt, (tt, (tt, (tt, (tt, (tt, (tt, (tt, (tt, (tt, (tt, (tt, (tt, (tt, (tt, (tt, (tt, (tt, (tt, (tt, (tt, (tt, (tt, (tt, (tt, tt)))))))))))))))))))))))))))))))))))))))))))))))))) d53
+          d54 : Typed.Typed 𝓤 H A 𝓣 E G103 b71 Δ1 at54
+          d54 = Typed.s-seq 𝓤 H A W 𝓣 E G103 G104 b43 b70 Δ1 (Typed.give s101) at53 (Reshare.t-sl-reshare 𝓤 H A W E T.the-row 𝓣 G103 2 38 1 14 ty·9 ty·8 (Row.lease (κs .1 .0) (qs .1 .0)) 0 (λ x. x) (Reads.as-is 𝓤 H A (Mut.mslice T.the-row ty·9 1)) (Reads.room-gone 𝓤 H A ty·8) Path'.refl tt Path'.refl Path'.refl Path'.refl λ b o. tt) d53
 
-          d55 : Typed.Typed 𝓤 H A 𝓣 E G99 b69 Δ1 at55
-          d55 = Typed.g-pre 𝓤 H A W 𝓣 E G99 G100 b69 Δ1 (λ Ψ. Ψ) at54 (Lifetime.g-forget 𝓤 H A W E G99 13 Row.dead Path'.refl) d54
+          d55 : Typed.Typed 𝓤 H A 𝓣 E G102 b71 Δ1 at55
+          d55 = Typed.g-pre 𝓤 H A W 𝓣 E G102 G103 b71 Δ1 (λ Ψ. Ψ) at54 (Lifetime.g-begin 𝓤 H A W E G102 14 (tt, (tt, (tt, (tt, (tt, (tt, (tt, (tt, (tt, (tt, (tt, (tt, (tt, (tt, (tt, (tt, (tt, (tt, (tt, (tt, (tt, (tt, (tt, (tt, (tt, (tt, (tt, (tt, (tt, (tt, (tt, (tt, (tt, (tt, (tt, (tt, (tt, (tt, (tt, (tt, (tt, (tt, (tt, (tt, (tt, (tt, (tt, (tt, (tt, (tt, tt))))))))))))))))))))))))))))))))))))))))))))))))))) d54
 
-          d56 : Typed.Typed 𝓤 H A 𝓣 E G98 b69 Δ1 at56
-          d56 = Typed.g-pre 𝓤 H A W 𝓣 E G98 G99 b69 Δ1 (Typed.give s96) at55 (Know.g-sl-known 𝓤 H A W (Referent.fInt Syntax.w16) E G98 4 3 ty·6 (Row.lease (κs .1 .1 .1 .0) (qs .1 .1 .1 .0)) 0 (λ x. x) record { fits = Dec'.lit< tt } (Reads.as-is 𝓤 H A (Mut.mslice (Referent.rtF (Referent.fInt Syntax.w16)) ty·6 3)) Path'.refl tt) d55
+          d56 : Typed.Typed 𝓤 H A 𝓣 E G101 b71 Δ1 at56
+          d56 = Typed.g-pre 𝓤 H A W 𝓣 E G101 G102 b71 Δ1 (λ Ψ. Ψ) at55 (Lifetime.g-forget 𝓤 H A W E G101 13 Row.dead Path'.refl) d55
 
-          d57 : Typed.Typed 𝓤 H A 𝓣 E G97 b69 Δ1 at57
-          d57 = Typed.g-pre 𝓤 H A W 𝓣 E G97 G98 b69 Δ1 (Typed.both s95) at56 (Relend.g-back-sl 𝓤 H A W E (Referent.rtF (Referent.fInt Syntax.w16)) G97 36 4 3 13 ty·6 ty·2 (Row.lease (κs .1 .1 .1 .0) (qs .1 .1 .1 .0)) (λ x. x) (λ x. x) (Reads.as-is 𝓤 H A (Mut.msleft (Referent.rtF (Referent.fInt Syntax.w16)) ty·2)) (Reads.as-is 𝓤 H A (Relend.mslice-owed (Referent.rtF (Referent.fInt Syntax.w16)) ty·6 3 13 (Row.lease (κs .1 .1 .1 .0) (qs .1 .1 .1 .0)))) Path'.refl Path'.refl) d56
+          d57 : Typed.Typed 𝓤 H A 𝓣 E G100 b71 Δ1 at57
+          d57 = Typed.g-pre 𝓤 H A W 𝓣 E G100 G101 b71 Δ1 (Typed.give s98) at56 (Know.g-sl-known 𝓤 H A W (Referent.fInt Syntax.w16) E G100 4 3 ty·6 (Row.lease (κs .1 .1 .1 .0) (qs .1 .1 .1 .0)) 0 (λ x. x) record { fits = Dec'.lit< tt } (Reads.as-is 𝓤 H A (Mut.mslice (Referent.rtF (Referent.fInt Syntax.w16)) ty·6 3)) Path'.refl tt) d56
 
-          d58 : Typed.Typed 𝓤 H A 𝓣 E G96 b69 Δ1 at58
-          d58 = Typed.g-pre 𝓤 H A W 𝓣 E G96 G97 b69 Δ1 (λ Ψ. Ψ) at57 (Lifetime.g-end 𝓤 H A W E G96 13 Path'.refl) d57
+          d58 : Typed.Typed 𝓤 H A 𝓣 E G99 b71 Δ1 at58
+          d58 = Typed.g-pre 𝓤 H A W 𝓣 E G99 G100 b71 Δ1 (Typed.both s97) at57 (Relend.g-back-sl 𝓤 H A W E (Referent.rtF (Referent.fInt Syntax.w16)) G99 37 4 3 13 ty·6 ty·2 (Row.lease (κs .1 .1 .1 .0) (qs .1 .1 .1 .0)) (λ x. x) (λ x. x) (Reads.as-is 𝓤 H A (Mut.msleft (Referent.rtF (Referent.fInt Syntax.w16)) ty·2)) (Reads.as-is 𝓤 H A (Relend.mslice-owed (Referent.rtF (Referent.fInt Syntax.w16)) ty·6 3 13 (Row.lease (κs .1 .1 .1 .0) (qs .1 .1 .1 .0)))) Path'.refl Path'.refl) d57
 
-          d59 : Typed.Typed 𝓤 H A 𝓣 E G95 b69 Δ1 at59
-          d59 = Typed.g-pre 𝓤 H A W 𝓣 E G95 G96 b69 Δ1 (λ Ψ. Ψ) at58 (Lifetime.g-forget 𝓤 H A W E G95 12 Row.dead Path'.refl) d58
+          d59 : Typed.Typed 𝓤 H A 𝓣 E G98 b71 Δ1 at59
+          d59 = Typed.g-pre 𝓤 H A W 𝓣 E G98 G99 b71 Δ1 (λ Ψ. Ψ) at58 (Lifetime.g-end 𝓤 H A W E G98 13 Path'.refl) d58
 
-          d60 : Typed.Typed 𝓤 H A 𝓣 E G94 b69 Δ1 at60
-          d60 = Typed.g-pre 𝓤 H A W 𝓣 E G94 G95 b69 Δ1 (Typed.give s92) at59 (Know.g-sl-known 𝓤 H A W (Referent.fInt Syntax.w16) E G94 3 2 ty·5 (Row.lease (κs .1 .1 .0) (qs .1 .1 .0)) 0 (λ x. x) record { fits = Dec'.lit< tt } (Reads.as-is 𝓤 H A (Mut.mslice (Referent.rtF (Referent.fInt Syntax.w16)) ty·5 2)) Path'.refl tt) d59
+          d60 : Typed.Typed 𝓤 H A 𝓣 E G97 b71 Δ1 at60
+          d60 = Typed.g-pre 𝓤 H A W 𝓣 E G97 G98 b71 Δ1 (λ Ψ. Ψ) at59 (Lifetime.g-forget 𝓤 H A W E G97 12 Row.dead Path'.refl) d59
 
-          d61 : Typed.Typed 𝓤 H A 𝓣 E G93 b69 Δ1 at61
-          d61 = Typed.g-pre 𝓤 H A W 𝓣 E G93 G94 b69 Δ1 (Typed.both s91) at60 (Relend.g-back-sl 𝓤 H A W E (Referent.rtF (Referent.fInt Syntax.w16)) G93 34 3 2 12 ty·5 ty·2 (Row.lease (κs .1 .1 .0) (qs .1 .1 .0)) (λ x. x) (λ x. x) (Reads.as-is 𝓤 H A (Mut.msleft (Referent.rtF (Referent.fInt Syntax.w16)) ty·2)) (Reads.as-is 𝓤 H A (Relend.mslice-owed (Referent.rtF (Referent.fInt Syntax.w16)) ty·5 2 12 (Row.lease (κs .1 .1 .0) (qs .1 .1 .0)))) Path'.refl Path'.refl) d60
+          d61 : Typed.Typed 𝓤 H A 𝓣 E G96 b71 Δ1 at61
+          d61 = Typed.g-pre 𝓤 H A W 𝓣 E G96 G97 b71 Δ1 (Typed.give s94) at60 (Know.g-sl-known 𝓤 H A W (Referent.fInt Syntax.w16) E G96 3 2 ty·5 (Row.lease (κs .1 .1 .0) (qs .1 .1 .0)) 0 (λ x. x) record { fits = Dec'.lit< tt } (Reads.as-is 𝓤 H A (Mut.mslice (Referent.rtF (Referent.fInt Syntax.w16)) ty·5 2)) Path'.refl tt) d60
 
-          d62 : Typed.Typed 𝓤 H A 𝓣 E G92 b69 Δ1 at62
-          d62 = Typed.g-pre 𝓤 H A W 𝓣 E G92 G93 b69 Δ1 (λ Ψ. Ψ) at61 (Lifetime.g-end 𝓤 H A W E G92 12 Path'.refl) d61
+          d62 : Typed.Typed 𝓤 H A 𝓣 E G95 b71 Δ1 at62
+          d62 = Typed.g-pre 𝓤 H A W 𝓣 E G95 G96 b71 Δ1 (Typed.both s93) at61 (Relend.g-back-sl 𝓤 H A W E (Referent.rtF (Referent.fInt Syntax.w16)) G95 35 3 2 12 ty·5 ty·2 (Row.lease (κs .1 .1 .0) (qs .1 .1 .0)) (λ x. x) (λ x. x) (Reads.as-is 𝓤 H A (Mut.msleft (Referent.rtF (Referent.fInt Syntax.w16)) ty·2)) (Reads.as-is 𝓤 H A (Relend.mslice-owed (Referent.rtF (Referent.fInt Syntax.w16)) ty·5 2 12 (Row.lease (κs .1 .1 .0) (qs .1 .1 .0)))) Path'.refl Path'.refl) d61
 
-          d63 : Typed.Typed 𝓤 H A 𝓣 E G91 b69 Δ1 at63
-          d63 = Typed.g-pre 𝓤 H A W 𝓣 E G91 G92 b69 Δ1 (λ Ψ. Ψ) at62 (Lifetime.g-forget 𝓤 H A W E G91 11 Row.dead Path'.refl) d62
+          d63 : Typed.Typed 𝓤 H A 𝓣 E G94 b71 Δ1 at63
+          d63 = Typed.g-pre 𝓤 H A W 𝓣 E G94 G95 b71 Δ1 (λ Ψ. Ψ) at62 (Lifetime.g-end 𝓤 H A W E G94 12 Path'.refl) d62
 
-          d64 : Typed.Typed 𝓤 H A 𝓣 E G90 b69 Δ1 at64
-          d64 = Typed.g-pre 𝓤 H A W 𝓣 E G90 G91 b69 Δ1 (Typed.both s88) at63 (Relend.g-back-sl 𝓤 H A W E T.the-row G90 32 2 1 11 ty·9 ty·7 (Row.lease (κs .1 .0) (qs .1 .0)) (λ x. x) (λ x. x) (Reads.as-is 𝓤 H A (Mut.msleft T.the-row ty·7)) (Reads.as-is 𝓤 H A (Relend.mslice-owed T.the-row ty·9 1 11 (Row.lease (κs .1 .0) (qs .1 .0)))) Path'.refl Path'.refl) d63
+          d64 : Typed.Typed 𝓤 H A 𝓣 E G93 b71 Δ1 at64
+          d64 = Typed.g-pre 𝓤 H A W 𝓣 E G93 G94 b71 Δ1 (λ Ψ. Ψ) at63 (Lifetime.g-forget 𝓤 H A W E G93 11 Row.dead Path'.refl) d63
 
-          d65 : Typed.Typed 𝓤 H A 𝓣 E G89 b69 Δ1 at65
-          d65 = Typed.g-pre 𝓤 H A W 𝓣 E G89 G90 b69 Δ1 (λ Ψ. Ψ) at64 (Lifetime.g-end 𝓤 H A W E G89 11 Path'.refl) d64
+          d65 : Typed.Typed 𝓤 H A 𝓣 E G92 b71 Δ1 at65
+          d65 = Typed.g-pre 𝓤 H A W 𝓣 E G92 G93 b71 Δ1 (Typed.both s90) at64 (Relend.g-back-sl 𝓤 H A W E T.the-row G92 33 2 1 11 ty·9 ty·7 (Row.lease (κs .1 .0) (qs .1 .0)) (λ x. x) (λ x. x) (Reads.as-is 𝓤 H A (Mut.msleft T.the-row ty·7)) (Reads.as-is 𝓤 H A (Relend.mslice-owed T.the-row ty·9 1 11 (Row.lease (κs .1 .0) (qs .1 .0)))) Path'.refl Path'.refl) d64
 
-          d66 : Typed.Typed 𝓤 H A 𝓣 E G88 b70 Δ1 at66
-          d66 = Typed.s-seq 𝓤 H A W 𝓣 E G88 G89 b40 b69 Δ1 (Typed.both s86) at65 (Plain.t-call-plain 𝓤 H A W 𝓣 4 ps·7 r·7 (claims· .14) (claims· .15) "bench_plans::files::write_again" (known .7) E (λ pos β. β) G88 (record { pos = 1; ty = Syntax.tyRef (Syntax.named 0) Syntax.imm (Syntax.tyInt Syntax.w8); ref = λ x. x }, (record { pos = 32; ty = Syntax.tyRef Syntax.erased Syntax.mut (Memory.pointee (T.the-row .written)); ref = λ x. x }, (record { pos = 34; ty = Syntax.tyRef Syntax.erased Syntax.mut (Syntax.tyInt Syntax.w16); ref = λ x. x }, (record { pos = 36; ty = Syntax.tyRef Syntax.erased Syntax.mut (Syntax.tyInt Syntax.w16); ref = λ x. x }, tt)))) 9 (List._∷_ 0 (List._∷_ 11 (List._∷_ 12 (List._∷_ 13 List.[])))) (Call.sub-id 𝓤 H A W (G88 .slots)) (ShrSlice.spares-sslice 𝓤 H A W (Referent.rtF (Referent.fInt Syntax.w8)) ty·4 0, Shared.reads-sslice 𝓤 H A W (Referent.rtF (Referent.fInt Syntax.w8)) ty·4 0, Path'.refl, (Reads.as-is 𝓤 H A (Mut.mslice T.the-row ty·7 11), Mut.reads-mslice 𝓤 H A W T.the-row ty·7 11, Path'.refl, (Reads.as-is 𝓤 H A (Mut.mslice (Referent.rtF (Referent.fInt Syntax.w16)) ty·2 12), Mut.reads-mslice 𝓤 H A W (Referent.rtF (Referent.fInt Syntax.w16)) ty·2 12, Path'.refl, (Reads.as-is 𝓤 H A (Mut.mslice (Referent.rtF (Referent.fInt Syntax.w16)) ty·2 13), Mut.reads-mslice 𝓤 H A W (Referent.rtF (Referent.fInt Syntax.w16)) ty·2 13, Path'.refl, tt)))) (Reads.room-gone 𝓤 H A Syntax.tyBool) (tt, (tt, (tt, (tt, tt)))) Path'.refl) d65
+          d66 : Typed.Typed 𝓤 H A 𝓣 E G91 b71 Δ1 at66
+          d66 = Typed.g-pre 𝓤 H A W 𝓣 E G91 G92 b71 Δ1 (λ Ψ. Ψ) at65 (Lifetime.g-end 𝓤 H A W E G91 11 Path'.refl) d65
 
-          d67 : Typed.Typed 𝓤 H A 𝓣 E G87 b71 Δ1 at67
-          d67 = Typed.s-seq 𝓤 H A W 𝓣 E G87 G88 b39 b70 Δ1 (Typed.ask s85) at66 (Relend.t-sl-aggregate 𝓤 H A W E (Referent.rtF (Referent.fInt Syntax.w16)) 𝓣 (Relend.asMut (Referent.rtF (Referent.fInt Syntax.w16))) G87 35 36 13 ty·2 ty·2 (λ x. x) (Scalar.oFld 4 (List._∷_ (Syntax.field 1) List.[]) (Syntax.tyInt Syntax.w64) 8 λ v. Shared.lenV (v .0)) (Reads.as-is 𝓤 H A (Relend.msptr (Referent.rtF (Referent.fInt Syntax.w16)) ty·2 13)) (Reads.room-gone 𝓤 H A ty·12) (Relend.reads-owed-len 𝓤 H A W (Referent.rtF (Referent.fInt Syntax.w16)) ty·6 3 13 (Row.lease (κs .1 .1 .1 .0) (qs .1 .1 .1 .0)) 8 Path'.refl, Path'.refl) Path'.refl Path'.refl λ b o k. tt) d66
+          d67 : Typed.Typed 𝓤 H A 𝓣 E G90 b72 Δ1 at67
+          d67 = Typed.s-seq 𝓤 H A W 𝓣 E G90 G91 b42 b71 Δ1 (Typed.both s88) at66 (Plain.t-call-plain 𝓤 H A W 𝓣 4 ps·7 r·7 (claims· .14) (claims· .15) "bench_plans::files::write_again" (known .7) E (λ pos β. β) G90 (record { pos = 1; ty = Syntax.tyRef (Syntax.named 0) Syntax.imm (Syntax.tyInt Syntax.w8); ref = λ x. x }, (record { pos = 33; ty = Syntax.tyRef Syntax.erased Syntax.mut (Memory.pointee (T.the-row .written)); ref = λ x. x }, (record { pos = 35; ty = Syntax.tyRef Syntax.erased Syntax.mut (Syntax.tyInt Syntax.w16); ref = λ x. x }, (record { pos = 37; ty = Syntax.tyRef Syntax.erased Syntax.mut (Syntax.tyInt Syntax.w16); ref = λ x. x }, tt)))) 10 (List._∷_ 0 (List._∷_ 11 (List._∷_ 12 (List._∷_ 13 List.[])))) (Call.sub-id 𝓤 H A W (G90 .slots)) (ShrSlice.spares-sslice 𝓤 H A W (Referent.rtF (Referent.fInt Syntax.w8)) ty·4 0, Shared.reads-sslice 𝓤 H A W (Referent.rtF (Referent.fInt Syntax.w8)) ty·4 0, Path'.refl, (Reads.as-is 𝓤 H A (Mut.mslice T.the-row ty·7 11), Mut.reads-mslice 𝓤 H A W T.the-row ty·7 11, Path'.refl, (Reads.as-is 𝓤 H A (Mut.mslice (Referent.rtF (Referent.fInt Syntax.w16)) ty·2 12), Mut.reads-mslice 𝓤 H A W (Referent.rtF (Referent.fInt Syntax.w16)) ty·2 12, Path'.refl, (Reads.as-is 𝓤 H A (Mut.mslice (Referent.rtF (Referent.fInt Syntax.w16)) ty·2 13), Mut.reads-mslice 𝓤 H A W (Referent.rtF (Referent.fInt Syntax.w16)) ty·2 13, Path'.refl, tt)))) (Reads.room-gone 𝓤 H A Syntax.tyBool) (tt, (tt, (tt, (tt, tt)))) Path'.refl) d66
 
-          d68 : Typed.Typed 𝓤 H A 𝓣 E G86 b72 Δ1 at68
-          d68 = Typed.s-seq 𝓤 H A W 𝓣 E G86 G87 b38 b71 Δ1 (Typed.give s84) at67 (Relend.t-sl-relend 𝓤 H A W E (Referent.rtF (Referent.fInt Syntax.w16)) 𝓣 G86 4 35 3 13 ty·6 ty·2 (Row.lease (κs .1 .1 .1 .0) (qs .1 .1 .1 .0)) 0 (λ x. x) (Reads.as-is 𝓤 H A (Mut.mslice (Referent.rtF (Referent.fInt Syntax.w16)) ty·6 3)) (Reads.room-gone 𝓤 H A ty·2) Path'.refl tt Path'.refl Path'.refl Path'.refl λ b o. tt) d67
+          d68 : Typed.Typed 𝓤 H A 𝓣 E G89 b73 Δ1 at68
+          d68 = Typed.s-seq 𝓤 H A W 𝓣 E G89 G90 b41 b72 Δ1 (Typed.ask s87) at67 (Relend.t-sl-aggregate 𝓤 H A W E (Referent.rtF (Referent.fInt Syntax.w16)) 𝓣 (Relend.asMut (Referent.rtF (Referent.fInt Syntax.w16))) G89 36 37 13 ty·2 ty·2 (λ x. x) (Scalar.oFld 4 (List._∷_ (Syntax.field 1) List.[]) (Syntax.tyInt Syntax.w64) 8 λ v. Shared.lenV (v .0)) (Reads.as-is 𝓤 H A (Relend.msptr (Referent.rtF (Referent.fInt Syntax.w16)) ty·2 13)) (Reads.room-gone 𝓤 H A ty·12) (Relend.reads-owed-len 𝓤 H A W (Referent.rtF (Referent.fInt Syntax.w16)) ty·6 3 13 (Row.lease (κs .1 .1 .1 .0) (qs .1 .1 .1 .0)) 8 Path'.refl, Path'.refl) Path'.refl Path'.refl λ b o k. tt) d67
 
-          d69 : Typed.Typed 𝓤 H A 𝓣 E G85 b72 Δ1 at69
-          d69 = Typed.g-pre 𝓤 H A W 𝓣 E G85 G86 b72 Δ1 (λ Ψ. Ψ) at68 (Lifetime.g-begin 𝓤 H A W E G85 13 (tt, (tt, ((tt, tt), ((tt, tt), (tt, (tt, (tt, (tt, (tt, (tt, (tt, (tt, (tt, (tt, (tt, (tt, (tt, (tt, (tt, (tt, (tt, (tt, (tt, (tt, (tt, (tt, (tt, (tt, (tt, (tt, (tt, (tt, (tt, (tt, (tt, (tt, (tt, (tt, (tt, (tt, (tt, (tt, (tt, (tt, (tt, (tt, (tt, (tt, (tt, tt)))))))))))))))))))))))))))))))))))))))))))))))))) d68
+          d69 : Typed.Typed 𝓤 H A 𝓣 E G88 b74 Δ1 at69
+          d69 = Typed.s-seq 𝓤 H A W 𝓣 E G88 G89 b40 b73 Δ1 (Typed.give s86) at68 (Relend.t-sl-relend 𝓤 H A W E (Referent.rtF (Referent.fInt Syntax.w16)) 𝓣 G88 4 36 3 13 ty·6 ty·2 (Row.lease (κs .1 .1 .1 .0) (qs .1 .1 .1 .0)) 0 (λ x. x) (Reads.as-is 𝓤 H A (Mut.mslice (Referent.rtF (Referent.fInt Syntax.w16)) ty·6 3)) (Reads.room-gone 𝓤 H A ty·2) Path'.refl tt Path'.refl Path'.refl Path'.refl λ b o. tt) d68
 
-          d70 : Typed.Typed 𝓤 H A 𝓣 E G84 b73 Δ1 at70
-          d70 = Typed.s-seq 𝓤 H A W 𝓣 E G84 G85 b37 b72 Δ1 (Typed.ask s82) at69 (Relend.t-sl-aggregate 𝓤 H A W E (Referent.rtF (Referent.fInt Syntax.w16)) 𝓣 (Relend.asMut (Referent.rtF (Referent.fInt Syntax.w16))) G84 33 34 12 ty·2 ty·2 (λ x. x) (Scalar.oFld 3 (List._∷_ (Syntax.field 1) List.[]) (Syntax.tyInt Syntax.w64) 8 λ v. Shared.lenV (v .0)) (Reads.as-is 𝓤 H A (Relend.msptr (Referent.rtF (Referent.fInt Syntax.w16)) ty·2 12)) (Reads.room-gone 𝓤 H A ty·12) (Relend.reads-owed-len 𝓤 H A W (Referent.rtF (Referent.fInt Syntax.w16)) ty·5 2 12 (Row.lease (κs .1 .1 .0) (qs .1 .1 .0)) 8 Path'.refl, Path'.refl) Path'.refl Path'.refl λ b o k. tt) d69
+          d70 : Typed.Typed 𝓤 H A 𝓣 E G87 b74 Δ1 at70
+          d70 = Typed.g-pre 𝓤 H A W 𝓣 E G87 G88 b74 Δ1 (λ Ψ. Ψ) at69 (Lifetime.g-begin 𝓤 H A W E G87 13 (tt, (tt, ((tt, tt), ((tt, tt), (tt, (tt, (tt, (tt, (tt, (tt, (tt, (tt, (tt, (tt, (tt, (tt, (tt, (tt, (tt, (tt, (tt, (tt, (tt, (tt, (tt, (tt, (tt, (tt, (tt, (tt, (tt, (tt, (tt, (tt, (tt, (tt, (tt, (tt, (tt, (tt, (tt, (tt, (tt, (tt, (tt, (tt, (tt, (tt, (tt, (tt, tt))))))))))))))))))))))))))))))))))))))))))))))))))) d69
 
-          d71 : Typed.Typed 𝓤 H A 𝓣 E G83 b74 Δ1 at71
-          d71 = Typed.s-seq 𝓤 H A W 𝓣 E G83 G84 b36 b73 Δ1 (Typed.give s81) at70 (Relend.t-sl-relend 𝓤 H A W E (Referent.rtF (Referent.fInt Syntax.w16)) 𝓣 G83 3 33 2 12 ty·5 ty·2 (Row.lease (κs .1 .1 .0) (qs .1 .1 .0)) 0 (λ x. x) (Reads.as-is 𝓤 H A (Mut.mslice (Referent.rtF (Referent.fInt Syntax.w16)) ty·5 2)) (Reads.room-gone 𝓤 H A ty·2) Path'.refl tt Path'.refl Path'.refl Path'.refl λ b o. tt) d70
+          d71 : Typed.Typed 𝓤 H A 𝓣 E G86 b75 Δ1 at71
+          d71 = Typed.s-seq 𝓤 H A W 𝓣 E G86 G87 b39 b74 Δ1 (Typed.ask s84) at70 (Relend.t-sl-aggregate 𝓤 H A W E (Referent.rtF (Referent.fInt Syntax.w16)) 𝓣 (Relend.asMut (Referent.rtF (Referent.fInt Syntax.w16))) G86 34 35 12 ty·2 ty·2 (λ x. x) (Scalar.oFld 3 (List._∷_ (Syntax.field 1) List.[]) (Syntax.tyInt Syntax.w64) 8 λ v. Shared.lenV (v .0)) (Reads.as-is 𝓤 H A (Relend.msptr (Referent.rtF (Referent.fInt Syntax.w16)) ty·2 12)) (Reads.room-gone 𝓤 H A ty·12) (Relend.reads-owed-len 𝓤 H A W (Referent.rtF (Referent.fInt Syntax.w16)) ty·5 2 12 (Row.lease (κs .1 .1 .0) (qs .1 .1 .0)) 8 Path'.refl, Path'.refl) Path'.refl Path'.refl λ b o k. tt) d70
 
-          d72 : Typed.Typed 𝓤 H A 𝓣 E G82 b74 Δ1 at72
-          d72 = Typed.g-pre 𝓤 H A W 𝓣 E G82 G83 b74 Δ1 (λ Ψ. Ψ) at71 (Lifetime.g-begin 𝓤 H A W E G82 12 (tt, (tt, ((tt, tt), (tt, (tt, (tt, (tt, (tt, (tt, (tt, (tt, (tt, (tt, (tt, (tt, (tt, (tt, (tt, (tt, (tt, (tt, (tt, (tt, (tt, (tt, (tt, (tt, (tt, (tt, (tt, (tt, (tt, (tt, (tt, (tt, (tt, (tt, (tt, (tt, (tt, (tt, (tt, (tt, (tt, (tt, (tt, (tt, (tt, (tt, tt)))))))))))))))))))))))))))))))))))))))))))))))))) d71
+          d72 : Typed.Typed 𝓤 H A 𝓣 E G85 b76 Δ1 at72
+          d72 = Typed.s-seq 𝓤 H A W 𝓣 E G85 G86 b38 b75 Δ1 (Typed.give s83) at71 (Relend.t-sl-relend 𝓤 H A W E (Referent.rtF (Referent.fInt Syntax.w16)) 𝓣 G85 3 34 2 12 ty·5 ty·2 (Row.lease (κs .1 .1 .0) (qs .1 .1 .0)) 0 (λ x. x) (Reads.as-is 𝓤 H A (Mut.mslice (Referent.rtF (Referent.fInt Syntax.w16)) ty·5 2)) (Reads.room-gone 𝓤 H A ty·2) Path'.refl tt Path'.refl Path'.refl Path'.refl λ b o. tt) d71
 
-          d73 : Typed.Typed 𝓤 H A 𝓣 E G81 b75 Δ1 at73
-          d73 = Typed.s-seq 𝓤 H A W 𝓣 E G81 G82 b35 b74 Δ1 (Typed.ask s79) at72 (Relend.t-sl-aggregate 𝓤 H A W E T.the-row 𝓣 (Relend.asMut T.the-row) G81 31 32 11 ty·7 ty·7 (λ x. x) (Scalar.oFld 2 (List._∷_ (Syntax.field 1) List.[]) (Syntax.tyInt Syntax.w64) 8 λ v. Shared.lenV (v .0)) (Reads.as-is 𝓤 H A (Relend.msptr T.the-row ty·7 11)) (Reads.room-gone 𝓤 H A ty·14) (Relend.reads-owed-len 𝓤 H A W T.the-row ty·9 1 11 (Row.lease (κs .1 .0) (qs .1 .0)) 8 Path'.refl, Path'.refl) Path'.refl Path'.refl λ b o k. tt) d72
+          d73 : Typed.Typed 𝓤 H A 𝓣 E G84 b76 Δ1 at73
+          d73 = Typed.g-pre 𝓤 H A W 𝓣 E G84 G85 b76 Δ1 (λ Ψ. Ψ) at72 (Lifetime.g-begin 𝓤 H A W E G84 12 (tt, (tt, ((tt, tt), (tt, (tt, (tt, (tt, (tt, (tt, (tt, (tt, (tt, (tt, (tt, (tt, (tt, (tt, (tt, (tt, (tt, (tt, (tt, (tt, (tt, (tt, (tt, (tt, (tt, (tt, (tt, (tt, (tt, (tt, (tt, (tt, (tt, (tt, (tt, (tt, (tt, (tt, (tt, (tt, (tt, (tt, (tt, (tt, (tt, (tt, (tt, tt))))))))))))))))))))))))))))))))))))))))))))))))))) d72
 
-          d74 : Typed.Typed 𝓤 H A 𝓣 E G80 b76 Δ1 at74
-          d74 = Typed.s-seq 𝓤 H A W 𝓣 E G80 G81 b34 b75 Δ1 (Typed.give s78) at73 (Relend.t-sl-relend 𝓤 H A W E T.the-row 𝓣 G80 2 31 1 11 ty·9 ty·7 (Row.lease (κs .1 .0) (qs .1 .0)) 0 (λ x. x) (Reads.as-is 𝓤 H A (Mut.mslice T.the-row ty·9 1)) (Reads.room-gone 𝓤 H A ty·7) Path'.refl tt Path'.refl Path'.refl Path'.refl λ b o. tt) d73
+          d74 : Typed.Typed 𝓤 H A 𝓣 E G83 b77 Δ1 at74
+          d74 = Typed.s-seq 𝓤 H A W 𝓣 E G83 G84 b37 b76 Δ1 (Typed.ask s81) at73 (Relend.t-sl-aggregate 𝓤 H A W E T.the-row 𝓣 (Relend.asMut T.the-row) G83 32 33 11 ty·7 ty·7 (λ x. x) (Scalar.oFld 2 (List._∷_ (Syntax.field 1) List.[]) (Syntax.tyInt Syntax.w64) 8 λ v. Shared.lenV (v .0)) (Reads.as-is 𝓤 H A (Relend.msptr T.the-row ty·7 11)) (Reads.room-gone 𝓤 H A ty·14) (Relend.reads-owed-len 𝓤 H A W T.the-row ty·9 1 11 (Row.lease (κs .1 .0) (qs .1 .0)) 8 Path'.refl, Path'.refl) Path'.refl Path'.refl λ b o k. tt) d73
 
-          d75 : Typed.Typed 𝓤 H A 𝓣 E G79 b76 Δ1 at75
-          d75 = Typed.g-pre 𝓤 H A W 𝓣 E G79 G80 b76 Δ1 (λ Ψ. Ψ) at74 (Lifetime.g-begin 𝓤 H A W E G79 11 (tt, (tt, (tt, (tt, (tt, (tt, (tt, (tt, (tt, (tt, (tt, (tt, (tt, (tt, (tt, (tt, (tt, (tt, (tt, (tt, (tt, (tt, (tt, (tt, (tt, (tt, (tt, (tt, (tt, (tt, (tt, (tt, (tt, (tt, (tt, (tt, (tt, (tt, (tt, (tt, (tt, (tt, (tt, (tt, (tt, (tt, (tt, (tt, (tt, tt)))))))))))))))))))))))))))))))))))))))))))))))))) d74
+          d75 : Typed.Typed 𝓤 H A 𝓣 E G82 b78 Δ1 at75
+          d75 = Typed.s-seq 𝓤 H A W 𝓣 E G82 G83 b36 b77 Δ1 (Typed.give s80) at74 (Relend.t-sl-relend 𝓤 H A W E T.the-row 𝓣 G82 2 32 1 11 ty·9 ty·7 (Row.lease (κs .1 .0) (qs .1 .0)) 0 (λ x. x) (Reads.as-is 𝓤 H A (Mut.mslice T.the-row ty·9 1)) (Reads.room-gone 𝓤 H A ty·7) Path'.refl tt Path'.refl Path'.refl Path'.refl λ b o. tt) d74
 
-          d76 : Typed.Typed 𝓤 H A 𝓣 E G78 b76 Δ1 at76
-          d76 = Typed.g-pre 𝓤 H A W 𝓣 E G78 G79 b76 Δ1 (Typed.pass T78 T79 s76) at75 (Scalar.g-room 𝓤 H A W E G78 30 Syntax.tyUnit (Scalar.room-sc 𝓤 H A W Row.sUnit)) d75
+          d76 : Typed.Typed 𝓤 H A 𝓣 E G81 b78 Δ1 at76
+          d76 = Typed.g-pre 𝓤 H A W 𝓣 E G81 G82 b78 Δ1 (λ Ψ. Ψ) at75 (Lifetime.g-begin 𝓤 H A W E G81 11 (tt, (tt, (tt, (tt, (tt, (tt, (tt, (tt, (tt, (tt, (tt, (tt, (tt, (tt, (tt, (tt, (tt, (tt, (tt, (tt, (tt, (tt, (tt, (tt, (tt, (tt, (tt, (tt, (tt, (tt, (tt, (tt, (tt, (tt, (tt, (tt, (tt, (tt, (tt, (tt, (tt, (tt, (tt, (tt, (tt, (tt, (tt, (tt, (tt, (tt, tt))))))))))))))))))))))))))))))))))))))))))))))))))) d75
 
-          d77 : Typed.Typed 𝓤 H A 𝓣 E G77 b77 Δ1 at77
-          d77 = Typed.s-seq 𝓤 H A W 𝓣 E G77 G78 b33 b76 Δ1 (Typed.both s75) at76 (Plain.t-call-plain 𝓤 H A W 𝓣 0 ps·6 r·6 (claims· .12) (claims· .13) "bench_plans::files::print_size" (known .6) E (λ pos β. β) G77 (record { pos = 8; st = List.[]; d = 0; at = λ x. x }, tt) 30 List.[] (Call.sub-id 𝓤 H A W (G77 .slots)) ((Yields.yields-copy 𝓤 H A W (λ ρ. Unit) (Declared'.row Size.the-type) Path'.refl (Copies.cStruct Size.the-type Laws''.the-laws Laws''.the-copy .copy 𝓤 H A W) (Rows'.whole (Declared'.row Size.the-type)) (λ x. x) (λ x. x) (λ ρ told. Local.mem-whole 𝓤 H A W (Declared'.row Size.the-type) ρ) λ ρ told. Local.whole-mem 𝓤 H A W (Declared'.row Size.the-type) ρ, Path'.refl), tt) (Reads.room-gone 𝓤 H A Syntax.tyUnit) tt Path'.refl) d76
+          d77 : Typed.Typed 𝓤 H A 𝓣 E G80 b78 Δ1 at77
+          d77 = Typed.g-pre 𝓤 H A W 𝓣 E G80 G81 b78 Δ1 (Typed.pass T80 T81 s78) at76 (Scalar.g-room 𝓤 H A W E G80 31 Syntax.tyUnit (Scalar.room-sc 𝓤 H A W Row.sUnit)) d76
 
-          d78 : Typed.Typed 𝓤 H A 𝓣 E G76 b77 Δ1 at78
-          d78 = Typed.g-pre 𝓤 H A W 𝓣 E G76 G77 b77 Δ1 (Typed.pass T75 T77 s74) at77 (Scalar.g-room 𝓤 H A W E G76 11 ty·0 (Init.room-arr 𝓤 H A W (Referent.rtF (Referent.fInt Syntax.w8)) 4 0 4 Path'.refl)) d77
+          d78 : Typed.Typed 𝓤 H A 𝓣 E G79 b79 Δ1 at78
+          d78 = Typed.s-seq 𝓤 H A W 𝓣 E G79 G80 b35 b78 Δ1 (Typed.both s77) at77 (Plain.t-call-plain 𝓤 H A W 𝓣 0 ps·6 r·6 (claims· .12) (claims· .13) "bench_plans::files::print_size" (known .6) E (λ pos β. β) G79 (record { pos = 9; st = List.[]; d = 0; at = λ x. x }, tt) 31 List.[] (Call.sub-id 𝓤 H A W (G79 .slots)) ((Yields.yields-copy 𝓤 H A W (λ ρ. Unit) (Declared'.row Size.the-type) Path'.refl (Copies.cStruct Size.the-type Laws''.the-laws Laws''.the-copy .copy 𝓤 H A W) (Rows'.whole (Declared'.row Size.the-type)) (λ x. x) (λ x. x) (λ ρ told. Local.mem-whole 𝓤 H A W (Declared'.row Size.the-type) ρ) λ ρ told. Local.whole-mem 𝓤 H A W (Declared'.row Size.the-type) ρ, Path'.refl), tt) (Reads.room-gone 𝓤 H A Syntax.tyUnit) tt Path'.refl) d77
 
-          d79 : Typed.Typed 𝓤 H A 𝓣 E G75 b77 Δ1 at79
-          d79 = Typed.g-pre 𝓤 H A W 𝓣 E G75 G76 b77 Δ1 (λ Ψ. Ψ) at78 (Lifetime.g-forget 𝓤 H A W E G75 10 Row.dead Path'.refl) d78
+          d79 : Typed.Typed 𝓤 H A 𝓣 E G78 b79 Δ1 at79
+          d79 = Typed.g-pre 𝓤 H A W 𝓣 E G78 G79 b79 Δ1 (Typed.pass T77 T79 s76) at78 (Scalar.g-room 𝓤 H A W E G78 12 ty·0 (Init.room-arr 𝓤 H A W (Referent.rtF (Referent.fInt Syntax.w8)) 4 0 4 Path'.refl)) d78
 
-          d80 : Typed.Typed 𝓤 H A 𝓣 E G74 b77 Δ1 at80
-          d80 = Typed.g-pre 𝓤 H A W 𝓣 E G74 G75 b77 Δ1 (Typed.pass T73 T75 s72) at79 (Share.g-back-arr-shr 𝓤 H A W E (Referent.rtF (Referent.fInt Syntax.w8)) G74 11 4 10 (λ x. x) (Reads.as-is 𝓤 H A (Rows.arr-shr (Referent.rtF (Referent.fInt Syntax.w8)) 4 10)) Path'.refl) d79
+          d80 : Typed.Typed 𝓤 H A 𝓣 E G77 b79 Δ1 at80
+          d80 = Typed.g-pre 𝓤 H A W 𝓣 E G77 G78 b79 Δ1 (λ Ψ. Ψ) at79 (Lifetime.g-forget 𝓤 H A W E G77 10 Row.dead Path'.refl) d79
 
-          d81 : Typed.Typed 𝓤 H A 𝓣 E G73 b77 Δ1 at81
-          d81 = Typed.g-pre 𝓤 H A W 𝓣 E G73 G74 b77 Δ1 (λ Ψ. Ψ) at80 (Lifetime.g-end 𝓤 H A W E G73 10 Path'.refl) d80
+          d81 : Typed.Typed 𝓤 H A 𝓣 E G76 b79 Δ1 at81
+          d81 = Typed.g-pre 𝓤 H A W 𝓣 E G76 G77 b79 Δ1 (Typed.pass T75 T77 s74) at80 (Share.g-back-arr-shr 𝓤 H A W E (Referent.rtF (Referent.fInt Syntax.w8)) G76 12 4 10 (λ x. x) (Reads.as-is 𝓤 H A (Rows.arr-shr (Referent.rtF (Referent.fInt Syntax.w8)) 4 10)) Path'.refl) d80
 
-          d82 : Typed.Typed 𝓤 H A 𝓣 E G72 b77 Δ1 at82
-          d82 = Typed.g-pre 𝓤 H A W 𝓣 E G72 G73 b77 Δ1 (Typed.pass T72 T73 s70) at81 (Scalar.g-room 𝓤 H A W E G72 27 Syntax.tyBool (Scalar.room-sc 𝓤 H A W Row.sBool)) d81
+          d82 : Typed.Typed 𝓤 H A 𝓣 E G75 b79 Δ1 at82
+          d82 = Typed.g-pre 𝓤 H A W 𝓣 E G75 G76 b79 Δ1 (λ Ψ. Ψ) at81 (Lifetime.g-end 𝓤 H A W E G75 10 Path'.refl) d81
 
-          d83 : Typed.Typed 𝓤 H A 𝓣 E G71 b77 Δ1 at83
-          d83 = Typed.g-pre 𝓤 H A W 𝓣 E G71 G72 b77 Δ1 (Typed.pass T71 T72 s69) at82 (Scalar.g-room 𝓤 H A W E G71 29 ty·11 (Shared.room-sslice 𝓤 H A W (Referent.rtF (Referent.fInt Syntax.w8)) ty·1 10)) d82
+          d83 : Typed.Typed 𝓤 H A 𝓣 E G74 b79 Δ1 at83
+          d83 = Typed.g-pre 𝓤 H A W 𝓣 E G74 G75 b79 Δ1 (Typed.pass T74 T75 s72) at82 (Scalar.g-room 𝓤 H A W E G74 28 Syntax.tyBool (Scalar.room-sc 𝓤 H A W Row.sBool)) d82
 
-          d84 : Typed.Typed 𝓤 H A 𝓣 E G70 b78 Δ1 at84
-          d84 = Typed.s-seq 𝓤 H A W 𝓣 E G70 G71 b32 b77 Δ1 (Typed.both s68) at83 (Plain.t-call-plain 𝓤 H A W 𝓣 1 ps·5 r·5 (claims· .10) (claims· .11) "io::write_all" (known .5) E (λ pos β. β) G70 (Num.vLit 1, (record { pos = 29; ty = Syntax.tyRef Syntax.erased Syntax.imm (Syntax.tyInt Syntax.w8); ref = λ x. x }, tt)) 27 (List._∷_ 10 List.[]) (Call.sub-id 𝓤 H A W (G70 .slots)) (tt, (ShrSlice.spares-sslice 𝓤 H A W (Referent.rtF (Referent.fInt Syntax.w8)) ty·1 10, Shared.reads-sslice 𝓤 H A W (Referent.rtF (Referent.fInt Syntax.w8)) ty·1 10, Path'.refl, tt)) (Reads.room-gone 𝓤 H A Syntax.tyBool) (tt, tt) Path'.refl) d83
+          d84 : Typed.Typed 𝓤 H A 𝓣 E G73 b79 Δ1 at84
+          d84 = Typed.g-pre 𝓤 H A W 𝓣 E G73 G74 b79 Δ1 (Typed.pass T73 T74 s71) at83 (Scalar.g-room 𝓤 H A W E G73 30 ty·11 (Shared.room-sslice 𝓤 H A W (Referent.rtF (Referent.fInt Syntax.w8)) ty·1 10)) d83
 
-          d85 : Typed.Typed 𝓤 H A 𝓣 E G69 b79 Δ1 at85
-          d85 = Typed.s-seq 𝓤 H A W 𝓣 E G69 G70 b31 b78 Δ1 (Typed.ask s67) at84 (Relend.t-sl-aggregate 𝓤 H A W E (Referent.rtF (Referent.fInt Syntax.w8)) 𝓣 (Relend.asShr (Referent.rtF (Referent.fInt Syntax.w8))) G69 28 29 10 ty·10 ty·1 (λ x. x) (Scalar.oInt Syntax.w64 4) (Reads.as-is 𝓤 H A (Relend.ssptr (Referent.rtF (Referent.fInt Syntax.w8)) ty·10 10)) (Reads.room-gone 𝓤 H A ty·11) tt Path'.refl Path'.refl λ b o k. tt) d84
+          d85 : Typed.Typed 𝓤 H A 𝓣 E G72 b80 Δ1 at85
+          d85 = Typed.s-seq 𝓤 H A W 𝓣 E G72 G73 b34 b79 Δ1 (Typed.both s70) at84 (Plain.t-call-plain 𝓤 H A W 𝓣 1 ps·5 r·5 (claims· .10) (claims· .11) "io::write_all" (known .5) E (λ pos β. β) G72 (Num.vLit 1, (record { pos = 30; ty = Syntax.tyRef Syntax.erased Syntax.imm (Syntax.tyInt Syntax.w8); ref = λ x. x }, tt)) 28 (List._∷_ 10 List.[]) (Call.sub-id 𝓤 H A W (G72 .slots)) (tt, (ShrSlice.spares-sslice 𝓤 H A W (Referent.rtF (Referent.fInt Syntax.w8)) ty·1 10, Shared.reads-sslice 𝓤 H A W (Referent.rtF (Referent.fInt Syntax.w8)) ty·1 10, Path'.refl, tt)) (Reads.room-gone 𝓤 H A Syntax.tyBool) (tt, tt) Path'.refl) d84
 
-          d86 : Typed.Typed 𝓤 H A 𝓣 E G68 b80 Δ1 at86
-          d86 = Typed.s-seq 𝓤 H A W 𝓣 E G68 G69 b30 b79 Δ1 (Typed.give s66) at85 (Share.t-arr-share 𝓤 H A W E 𝓣 (Referent.rtF (Referent.fInt Syntax.w8)) G68 11 28 4 10 ty·10 (λ x. x) (Reads.as-is 𝓤 H A (Rows.arrF (Referent.rtF (Referent.fInt Syntax.w8)) 4 0)) (Reads.room-gone 𝓤 H A ty·10) Path'.refl (λ b o. tt) (Dec'.lit< tt, Dec'.lit< tt)) d85
+          d86 : Typed.Typed 𝓤 H A 𝓣 E G71 b81 Δ1 at86
+          d86 = Typed.s-seq 𝓤 H A W 𝓣 E G71 G72 b33 b80 Δ1 (Typed.ask s69) at85 (Relend.t-sl-aggregate 𝓤 H A W E (Referent.rtF (Referent.fInt Syntax.w8)) 𝓣 (Relend.asShr (Referent.rtF (Referent.fInt Syntax.w8))) G71 29 30 10 ty·10 ty·1 (λ x. x) (Scalar.oInt Syntax.w64 4) (Reads.as-is 𝓤 H A (Relend.ssptr (Referent.rtF (Referent.fInt Syntax.w8)) ty·10 10)) (Reads.room-gone 𝓤 H A ty·11) tt Path'.refl Path'.refl λ b o k. tt) d85
 
-          d87 : Typed.Typed 𝓤 H A 𝓣 E G67 b80 Δ1 at87
-          d87 = Typed.g-pre 𝓤 H A W 𝓣 E G67 G68 b80 Δ1 (λ Ψ. Ψ) at86 (Lifetime.g-begin 𝓤 H A W E G67 10 (tt, (tt, (tt, (tt, (tt, (tt, (tt, (tt, (tt, (tt, (tt, (tt, (tt, (tt, (tt, (tt, (tt, (tt, (tt, (tt, (tt, (tt, (tt, (tt, (tt, (tt, (tt, (tt, (tt, (tt, (tt, (tt, (tt, (tt, (tt, (tt, (tt, (tt, (tt, (tt, (tt, (tt, (tt, (tt, (tt, (tt, (tt, (tt, (tt, tt)))))))))))))))))))))))))))))))))))))))))))))))))) d86
+          d87 : Typed.Typed 𝓤 H A 𝓣 E G70 b82 Δ1 at87
+          d87 = Typed.s-seq 𝓤 H A W 𝓣 E G70 G71 b32 b81 Δ1 (Typed.give s68) at86 (Share.t-arr-share 𝓤 H A W E 𝓣 (Referent.rtF (Referent.fInt Syntax.w8)) G70 12 29 4 10 ty·10 (λ x. x) (Reads.as-is 𝓤 H A (Rows.arrF (Referent.rtF (Referent.fInt Syntax.w8)) 4 0)) (Reads.room-gone 𝓤 H A ty·10) Path'.refl (λ b o. tt) (Dec'.lit< tt, Dec'.lit< tt)) d86
 
-          d88 : Typed.Typed 𝓤 H A 𝓣 E G66 b80 Δ1 at88
-          d88 = Typed.g-pre 𝓤 H A W 𝓣 E G66 G67 b80 Δ1 (Typed.pass T66 T67 s64) at87 (Scalar.g-room 𝓤 H A W E G66 6 ty·18 (Local.room-whole 𝓤 H A W (Known.Known ReadAnswer.enum 0) ty·18 Path'.refl)) d87
+          d88 : Typed.Typed 𝓤 H A 𝓣 E G69 b82 Δ1 at88
+          d88 = Typed.g-pre 𝓤 H A W 𝓣 E G69 G70 b82 Δ1 (λ Ψ. Ψ) at87 (Lifetime.g-begin 𝓤 H A W E G69 10 (tt, (tt, (tt, (tt, (tt, (tt, (tt, (tt, (tt, (tt, (tt, (tt, (tt, (tt, (tt, (tt, (tt, (tt, (tt, (tt, (tt, (tt, (tt, (tt, (tt, (tt, (tt, (tt, (tt, (tt, (tt, (tt, (tt, (tt, (tt, (tt, (tt, (tt, (tt, (tt, (tt, (tt, (tt, (tt, (tt, (tt, (tt, (tt, (tt, (tt, tt))))))))))))))))))))))))))))))))))))))))))))))))))) d87
 
-          d89 : Typed.Typed 𝓤 H A 𝓣 E G65 b81 Δ1 at89
-          d89 = Typed.s-seq 𝓤 H A W 𝓣 E G65 G66 b29 b80 Δ1 (Typed.pass T65 T66 s63) at88 (CopyOut.t-copy-told 𝓤 H A W E 𝓣 (Declared'.row Size.the-type) Path'.refl (Laws'4.val Size.the-type Laws''.the-laws) (Laws'4.lawful Size.the-type Laws''.the-laws 𝓤 H A W) (Laws'4.makes Size.the-type Laws''.the-plain 𝓤 H A) G65 8 (Scalar.oFld 6 (List._∷_ (Syntax.variant 0) (List._∷_ (Syntax.field 1) List.[])) ty·16 8 λ v. Laws'4.val Size.the-type Laws''.the-laws (v .0)) (λ m. m .1 .1 .1 .1 .1 .1 .0 .0) (λ m. Laws'3.Fields (Declared.variants ReadAnswer.the-type) (Laws'3.spellss (ReadAnswer.enum .parts) Laws.the-laws) (ReadAnswer.the-type .to (Known.at ReadAnswer.enum 0 (m .1 .1 .1 .1 .1 .1 .0)))) (Reads.room-gone 𝓤 H A ty·16) (Match.reads-payload 𝓤 H A W ReadAnswer.enum Laws.the-laws 0 Path'.refl Path'.refl (λ v. Val.vcons (Laws'4.val Size.the-type Laws''.the-laws (v .0)) Val.vnil) (λ v. Path'.refl) 0 ty·16 8 Path'.refl, Path'.refl) Path'.refl (λ ρ m. Make.tells-row 𝓤 H A W E ρ (Row.out 8 (G65 .locals)) m 6 (Laws'3.Fields (Declared.variants ReadAnswer.the-type) (Laws'3.spellss (ReadAnswer.enum .parts) Laws.the-laws) (ReadAnswer.the-type .to (Known.at ReadAnswer.enum 0 (m .1 .1 .1 .1 .1 .1 .0)))) (Known.known-is 𝓤 H A W E ReadAnswer.enum 0 Laws.the-laws ρ 6 (m .1 .1 .1 .1 .1 .1 .0))) (λ m k wa. Path'.refl) λ m k wa. k .0) d88
+          d89 : Typed.Typed 𝓤 H A 𝓣 E G68 b82 Δ1 at89
+          d89 = Typed.g-pre 𝓤 H A W 𝓣 E G68 G69 b82 Δ1 (Typed.pass T68 T69 s66) at88 (Scalar.g-room 𝓤 H A W E G68 6 ty·18 (Local.room-whole 𝓤 H A W (Known.Known ReadAnswer.enum 0) ty·18 Path'.refl)) d88
 
-          d90 : Typed.Typed 𝓤 H A 𝓣 E G64 b81 Δ1 at90
-          d90 = Typed.g-pre 𝓤 H A W 𝓣 E G64 G65 b81 Δ1 (Typed.give s62) at89 (Known.g-known-told 𝓤 H A W E ReadAnswer.enum 0 G64 6 Laws.the-laws (λ x. x) (Reads.as-is 𝓤 H A (Rows'.whole (Known.Known ReadAnswer.enum 0)))) d89
+          d90 : Typed.Typed 𝓤 H A 𝓣 E G67 b83 Δ1 at90
+          d90 = Typed.s-seq 𝓤 H A W 𝓣 E G67 G68 b31 b82 Δ1 (Typed.pass T67 T68 s65) at89 (CopyOut.t-copy-told 𝓤 H A W E 𝓣 (Declared'.row Size.the-type) Path'.refl (Laws'4.val Size.the-type Laws''.the-laws) (Laws'4.lawful Size.the-type Laws''.the-laws 𝓤 H A W) (Laws'4.makes Size.the-type Laws''.the-plain 𝓤 H A) G67 9 (Scalar.oFld 6 (List._∷_ (Syntax.variant 0) (List._∷_ (Syntax.field 1) List.[])) ty·16 8 λ v. Laws'4.val Size.the-type Laws''.the-laws (v .0)) (λ m. m .1 .1 .1 .1 .1 .1 .0 .0) (λ m. Laws'3.Fields (Declared.variants ReadAnswer.the-type) (Laws'3.spellss (ReadAnswer.enum .parts) Laws.the-laws) (ReadAnswer.the-type .to (Known.at ReadAnswer.enum 0 (m .1 .1 .1 .1 .1 .1 .0)))) (Reads.room-gone 𝓤 H A ty·16) (Match.reads-payload 𝓤 H A W ReadAnswer.enum Laws.the-laws 0 Path'.refl Path'.refl (λ v. Val.vcons (Laws'4.val Size.the-type Laws''.the-laws (v .0)) Val.vnil) (λ v. Path'.refl) 0 ty·16 8 Path'.refl, Path'.refl) Path'.refl (λ ρ m. Make.tells-row 𝓤 H A W E ρ (Row.out 9 (G67 .locals)) m 6 (Laws'3.Fields (Declared.variants ReadAnswer.the-type) (Laws'3.spellss (ReadAnswer.enum .parts) Laws.the-laws) (ReadAnswer.the-type .to (Known.at ReadAnswer.enum 0 (m .1 .1 .1 .1 .1 .1 .0)))) (Known.known-is 𝓤 H A W E ReadAnswer.enum 0 Laws.the-laws ρ 6 (m .1 .1 .1 .1 .1 .1 .0))) (λ m k wa. Path'.refl) λ m k wa. k .0) d89
 
-          d91 : Typed.Typed 𝓤 H A 𝓣 E G28 b81 Δ1 at91
-          d91 = Typed.g-pre 𝓤 H A W 𝓣 E G28 G64 b81 Δ1 (Typed.both s61) at90 (Known.g-enum-known 𝓤 H A W E ReadAnswer.enum 0 G28 6 (λ x. x) (Reads.as-is 𝓤 H A (Rows'.whole (Declared.row ReadAnswer.the-type)))) d90
+          d91 : Typed.Typed 𝓤 H A 𝓣 E G66 b83 Δ1 at91
+          d91 = Typed.g-pre 𝓤 H A W 𝓣 E G66 G67 b83 Δ1 (Typed.give s64) at90 (Known.g-known-told 𝓤 H A W E ReadAnswer.enum 0 G66 6 Laws.the-laws (λ x. x) (Reads.as-is 𝓤 H A (Rows'.whole (Known.Known ReadAnswer.enum 0)))) d90
 
-          d92 : Typed.Typed 𝓤 H A 𝓣 E G28 b82 Δ1 at92
-          d92 = Switch.t-switch-on 𝓤 H A W E 𝓣 G28 (Scalar.oFld 6 (List._∷_ (Syntax.variant 0) (List._∷_ (Syntax.field 0) List.[])) (Syntax.tyInt Syntax.w8) 0 λ x. Val.vint Syntax.w8 (Declared.tagOf ReadAnswer.the-type x)) Syntax.w8 (λ u. Declared.tagOf ReadAnswer.the-type (u .1 .1 .1 .1 .1 .1 .0)) (Syntax.arm (List._∷_ 1 List.[]) b28 (Syntax.arm (List._∷_ 0 List.[]) b81 Syntax.noDefault)) Δ1 (at20, (at91, tt)) (Match.reads-tag 𝓤 H A W ReadAnswer.the-type Laws.the-laws (Rows'.whole (Declared.row ReadAnswer.the-type)) 0 (λ x. x) (Whole.reads-enum 𝓤 H A W ReadAnswer.the-type Laws.the-laws), Path'.refl) (λ u. Path'.refl) (d20, (d91, tt))
+          d92 : Typed.Typed 𝓤 H A 𝓣 E G28 b83 Δ1 at92
+          d92 = Typed.g-pre 𝓤 H A W 𝓣 E G28 G66 b83 Δ1 (Typed.both s63) at91 (Known.g-enum-known 𝓤 H A W E ReadAnswer.enum 0 G28 6 (λ x. x) (Reads.as-is 𝓤 H A (Rows'.whole (Declared.row ReadAnswer.the-type)))) d91
 
-          d93 : Typed.Typed 𝓤 H A 𝓣 E G27 b82 Δ1 at93
-          d93 = Typed.g-pre 𝓤 H A W 𝓣 E G27 G28 b82 Δ1 (λ Ψ. Ψ) at92 (Lifetime.g-forget 𝓤 H A W E G27 6 Row.dead Path'.refl) d92
+          d93 : Typed.Typed 𝓤 H A 𝓣 E G28 b84 Δ1 at93
+          d93 = Switch.t-switch-on 𝓤 H A W E 𝓣 G28 (Scalar.oFld 6 (List._∷_ (Syntax.variant 0) (List._∷_ (Syntax.field 0) List.[])) (Syntax.tyInt Syntax.w8) 0 λ x. Val.vint Syntax.w8 (Declared.tagOf ReadAnswer.the-type x)) Syntax.w8 (λ u. Declared.tagOf ReadAnswer.the-type (u .1 .1 .1 .1 .1 .1 .0)) (Syntax.arm (List._∷_ 1 List.[]) b30 (Syntax.arm (List._∷_ 0 List.[]) b83 Syntax.noDefault)) Δ1 (at21, (at92, tt)) (Match.reads-tag 𝓤 H A W ReadAnswer.the-type Laws.the-laws (Rows'.whole (Declared.row ReadAnswer.the-type)) 0 (λ x. x) (Whole.reads-enum 𝓤 H A W ReadAnswer.the-type Laws.the-laws), Path'.refl) (λ u. Path'.refl) (d21, (d92, tt))
 
-          d94 : Typed.Typed 𝓤 H A 𝓣 E G26 b82 Δ1 at94
-          d94 = Typed.g-pre 𝓤 H A W 𝓣 E G26 G27 b82 Δ1 (Typed.give s24) at93 (Know.g-sl-known 𝓤 H A W (Referent.fInt Syntax.w16) E G26 4 3 ty·6 (Row.lease (κs .1 .1 .1 .0) (qs .1 .1 .1 .0)) 0 (λ x. x) record { fits = Dec'.lit< tt } (Reads.as-is 𝓤 H A (Mut.mslice (Referent.rtF (Referent.fInt Syntax.w16)) ty·6 3)) Path'.refl tt) d93
+          d94 : Typed.Typed 𝓤 H A 𝓣 E G27 b84 Δ1 at94
+          d94 = Typed.g-pre 𝓤 H A W 𝓣 E G27 G28 b84 Δ1 (λ Ψ. Ψ) at93 (Lifetime.g-forget 𝓤 H A W E G27 6 Row.dead Path'.refl) d93
 
-          d95 : Typed.Typed 𝓤 H A 𝓣 E G25 b82 Δ1 at95
-          d95 = Typed.g-pre 𝓤 H A W 𝓣 E G25 G26 b82 Δ1 (Typed.both s23) at94 (Relend.g-back-sl 𝓤 H A W E (Referent.rtF (Referent.fInt Syntax.w16)) G25 17 4 3 6 ty·6 ty·2 (Row.lease (κs .1 .1 .1 .0) (qs .1 .1 .1 .0)) (λ x. x) (λ x. x) (Reads.as-is 𝓤 H A (Mut.msleft (Referent.rtF (Referent.fInt Syntax.w16)) ty·2)) (Reads.as-is 𝓤 H A (Relend.mslice-owed (Referent.rtF (Referent.fInt Syntax.w16)) ty·6 3 6 (Row.lease (κs .1 .1 .1 .0) (qs .1 .1 .1 .0)))) Path'.refl Path'.refl) d94
+          d95 : Typed.Typed 𝓤 H A 𝓣 E G26 b84 Δ1 at95
+          d95 = Typed.g-pre 𝓤 H A W 𝓣 E G26 G27 b84 Δ1 (Typed.give s24) at94 (Know.g-sl-known 𝓤 H A W (Referent.fInt Syntax.w16) E G26 4 3 ty·6 (Row.lease (κs .1 .1 .1 .0) (qs .1 .1 .1 .0)) 0 (λ x. x) record { fits = Dec'.lit< tt } (Reads.as-is 𝓤 H A (Mut.mslice (Referent.rtF (Referent.fInt Syntax.w16)) ty·6 3)) Path'.refl tt) d94
 
-          d96 : Typed.Typed 𝓤 H A 𝓣 E G24 b82 Δ1 at96
-          d96 = Typed.g-pre 𝓤 H A W 𝓣 E G24 G25 b82 Δ1 (λ Ψ. Ψ) at95 (Lifetime.g-end 𝓤 H A W E G24 6 Path'.refl) d95
+          d96 : Typed.Typed 𝓤 H A 𝓣 E G25 b84 Δ1 at96
+          d96 = Typed.g-pre 𝓤 H A W 𝓣 E G25 G26 b84 Δ1 (Typed.both s23) at95 (Relend.g-back-sl 𝓤 H A W E (Referent.rtF (Referent.fInt Syntax.w16)) G25 18 4 3 6 ty·6 ty·2 (Row.lease (κs .1 .1 .1 .0) (qs .1 .1 .1 .0)) (λ x. x) (λ x. x) (Reads.as-is 𝓤 H A (Mut.msleft (Referent.rtF (Referent.fInt Syntax.w16)) ty·2)) (Reads.as-is 𝓤 H A (Relend.mslice-owed (Referent.rtF (Referent.fInt Syntax.w16)) ty·6 3 6 (Row.lease (κs .1 .1 .1 .0) (qs .1 .1 .1 .0)))) Path'.refl Path'.refl) d95
 
-          d97 : Typed.Typed 𝓤 H A 𝓣 E G23 b82 Δ1 at97
-          d97 = Typed.g-pre 𝓤 H A W 𝓣 E G23 G24 b82 Δ1 (λ Ψ. Ψ) at96 (Lifetime.g-forget 𝓤 H A W E G23 5 Row.dead Path'.refl) d96
+          d97 : Typed.Typed 𝓤 H A 𝓣 E G24 b84 Δ1 at97
+          d97 = Typed.g-pre 𝓤 H A W 𝓣 E G24 G25 b84 Δ1 (λ Ψ. Ψ) at96 (Lifetime.g-end 𝓤 H A W E G24 6 Path'.refl) d96
 
-          d98 : Typed.Typed 𝓤 H A 𝓣 E G22 b82 Δ1 at98
-          d98 = Typed.g-pre 𝓤 H A W 𝓣 E G22 G23 b82 Δ1 (Typed.give s20) at97 (Know.g-sl-known 𝓤 H A W (Referent.fInt Syntax.w16) E G22 3 2 ty·5 (Row.lease (κs .1 .1 .0) (qs .1 .1 .0)) 0 (λ x. x) record { fits = Dec'.lit< tt } (Reads.as-is 𝓤 H A (Mut.mslice (Referent.rtF (Referent.fInt Syntax.w16)) ty·5 2)) Path'.refl tt) d97
+          d98 : Typed.Typed 𝓤 H A 𝓣 E G23 b84 Δ1 at98
+          d98 = Typed.g-pre 𝓤 H A W 𝓣 E G23 G24 b84 Δ1 (λ Ψ. Ψ) at97 (Lifetime.g-forget 𝓤 H A W E G23 5 Row.dead Path'.refl) d97
 
-          d99 : Typed.Typed 𝓤 H A 𝓣 E G21 b82 Δ1 at99
-          d99 = Typed.g-pre 𝓤 H A W 𝓣 E G21 G22 b82 Δ1 (Typed.both s19) at98 (Relend.g-back-sl 𝓤 H A W E (Referent.rtF (Referent.fInt Syntax.w16)) G21 15 3 2 5 ty·5 ty·2 (Row.lease (κs .1 .1 .0) (qs .1 .1 .0)) (λ x. x) (λ x. x) (Reads.as-is 𝓤 H A (Mut.msleft (Referent.rtF (Referent.fInt Syntax.w16)) ty·2)) (Reads.as-is 𝓤 H A (Relend.mslice-owed (Referent.rtF (Referent.fInt Syntax.w16)) ty·5 2 5 (Row.lease (κs .1 .1 .0) (qs .1 .1 .0)))) Path'.refl Path'.refl) d98
+          d99 : Typed.Typed 𝓤 H A 𝓣 E G22 b84 Δ1 at99
+          d99 = Typed.g-pre 𝓤 H A W 𝓣 E G22 G23 b84 Δ1 (Typed.give s20) at98 (Know.g-sl-known 𝓤 H A W (Referent.fInt Syntax.w16) E G22 3 2 ty·5 (Row.lease (κs .1 .1 .0) (qs .1 .1 .0)) 0 (λ x. x) record { fits = Dec'.lit< tt } (Reads.as-is 𝓤 H A (Mut.mslice (Referent.rtF (Referent.fInt Syntax.w16)) ty·5 2)) Path'.refl tt) d98
 
-          d100 : Typed.Typed 𝓤 H A 𝓣 E G20 b82 Δ1 at100
-          d100 = Typed.g-pre 𝓤 H A W 𝓣 E G20 G21 b82 Δ1 (λ Ψ. Ψ) at99 (Lifetime.g-end 𝓤 H A W E G20 5 Path'.refl) d99
+          d100 : Typed.Typed 𝓤 H A 𝓣 E G21 b84 Δ1 at100
+          d100 = Typed.g-pre 𝓤 H A W 𝓣 E G21 G22 b84 Δ1 (Typed.both s19) at99 (Relend.g-back-sl 𝓤 H A W E (Referent.rtF (Referent.fInt Syntax.w16)) G21 16 3 2 5 ty·5 ty·2 (Row.lease (κs .1 .1 .0) (qs .1 .1 .0)) (λ x. x) (λ x. x) (Reads.as-is 𝓤 H A (Mut.msleft (Referent.rtF (Referent.fInt Syntax.w16)) ty·2)) (Reads.as-is 𝓤 H A (Relend.mslice-owed (Referent.rtF (Referent.fInt Syntax.w16)) ty·5 2 5 (Row.lease (κs .1 .1 .0) (qs .1 .1 .0)))) Path'.refl Path'.refl) d99
 
-          d101 : Typed.Typed 𝓤 H A 𝓣 E G19 b82 Δ1 at101
-          d101 = Typed.g-pre 𝓤 H A W 𝓣 E G19 G20 b82 Δ1 (λ Ψ. Ψ) at100 (Lifetime.g-forget 𝓤 H A W E G19 4 Row.dead Path'.refl) d100
+          d101 : Typed.Typed 𝓤 H A 𝓣 E G20 b84 Δ1 at101
+          d101 = Typed.g-pre 𝓤 H A W 𝓣 E G20 G21 b84 Δ1 (λ Ψ. Ψ) at100 (Lifetime.g-end 𝓤 H A W E G20 5 Path'.refl) d100
 
-          d102 : Typed.Typed 𝓤 H A 𝓣 E G18 b82 Δ1 at102
-          d102 = Typed.g-pre 𝓤 H A W 𝓣 E G18 G19 b82 Δ1 (Typed.both s16) at101 (Relend.g-back-sl 𝓤 H A W E T.the-row G18 13 2 1 4 ty·9 ty·7 (Row.lease (κs .1 .0) (qs .1 .0)) (λ x. x) (λ x. x) (Reads.as-is 𝓤 H A (Mut.msleft T.the-row ty·7)) (Reads.as-is 𝓤 H A (Relend.mslice-owed T.the-row ty·9 1 4 (Row.lease (κs .1 .0) (qs .1 .0)))) Path'.refl Path'.refl) d101
+          d102 : Typed.Typed 𝓤 H A 𝓣 E G19 b84 Δ1 at102
+          d102 = Typed.g-pre 𝓤 H A W 𝓣 E G19 G20 b84 Δ1 (λ Ψ. Ψ) at101 (Lifetime.g-forget 𝓤 H A W E G19 4 Row.dead Path'.refl) d101
 
-          d103 : Typed.Typed 𝓤 H A 𝓣 E G16 b82 Δ1 at103
-          d103 = Typed.g-pre 𝓤 H A W 𝓣 E G16 G18 b82 Δ1 (λ Ψ. Ψ) at102 (Lifetime.g-end 𝓤 H A W E G16 4 Path'.refl) d102
+          d103 : Typed.Typed 𝓤 H A 𝓣 E G18 b84 Δ1 at103
+          d103 = Typed.g-pre 𝓤 H A W 𝓣 E G18 G19 b84 Δ1 (Typed.both s16) at102 (Relend.g-back-sl 𝓤 H A W E T.the-row G18 14 2 1 4 ty·9 ty·7 (Row.lease (κs .1 .0) (qs .1 .0)) (λ x. x) (λ x. x) (Reads.as-is 𝓤 H A (Mut.msleft T.the-row ty·7)) (Reads.as-is 𝓤 H A (Relend.mslice-owed T.the-row ty·9 1 4 (Row.lease (κs .1 .0) (qs .1 .0)))) Path'.refl Path'.refl) d102
 
-          d104 : Typed.Typed 𝓤 H A 𝓣 E G152 b84 Δ0 at104
-          d104 = Typed.t-return 𝓤 H A W 𝓣 E Δ0 tt
+          d104 : Typed.Typed 𝓤 H A 𝓣 E G16 b84 Δ1 at104
+          d104 = Typed.g-pre 𝓤 H A W 𝓣 E G16 G18 b84 Δ1 (λ Ψ. Ψ) at103 (Lifetime.g-end 𝓤 H A W E G16 4 Path'.refl) d103
 
-          d105 : Typed.Typed 𝓤 H A 𝓣 E G151 b84 Δ0 at105
-          d105 = Typed.g-pre 𝓤 H A W 𝓣 E G151 G152 b84 Δ0 (Typed.pass T151 T152 s149) at104 (Scalar.g-room 𝓤 H A W E G151 5 (Syntax.tyInt Syntax.w64) (Scalar.room-sc 𝓤 H A W (Row.sInt Syntax.w64))) d104
+          d105 : Typed.Typed 𝓤 H A 𝓣 E G154 b86 Δ0 at105
+          d105 = Typed.t-return 𝓤 H A W 𝓣 E Δ0 tt
 
-          d106 : Typed.Typed 𝓤 H A 𝓣 E G17 b85 Δ0 at106
-          d106 = Typed.s-seq 𝓤 H A W 𝓣 E G17 G151 b83 b84 Δ0 (Typed.pass T17 T151 s148) at105 (Scalar.t-use 𝓤 H A W E 𝓣 G17 Scalar.oUnit 0 (Rows'.sc-here Row.sUnit) Syntax.tyUnit (Row.valS Row.sUnit) (Row.sUnit .of) tt (Reads.room-gone 𝓤 H A Syntax.tyUnit) (Scalar.holds-sc 𝓤 H A W Row.sUnit) Path'.refl (λ u. Path'.refl) λ u. tt) d105
+          d106 : Typed.Typed 𝓤 H A 𝓣 E G153 b86 Δ0 at106
+          d106 = Typed.g-pre 𝓤 H A W 𝓣 E G153 G154 b86 Δ0 (Typed.pass T153 T154 s151) at105 (Scalar.g-room 𝓤 H A W E G153 5 (Syntax.tyInt Syntax.w64) (Scalar.room-sc 𝓤 H A W (Row.sInt Syntax.w64))) d105
 
-          d107 : Typed.Typed 𝓤 H A 𝓣 E G16 b86 Δ0 at107
-          d107 = Typed.t-seq 𝓤 H A W 𝓣 E G16 G17 b82 b85 Δ0 at103 at106 d103 d106
+          d107 : Typed.Typed 𝓤 H A 𝓣 E G17 b87 Δ0 at107
+          d107 = Typed.s-seq 𝓤 H A W 𝓣 E G17 G153 b85 b86 Δ0 (Typed.pass T17 T153 s150) at106 (Scalar.t-use 𝓤 H A W E 𝓣 G17 Scalar.oUnit 0 (Rows'.sc-here Row.sUnit) Syntax.tyUnit (Row.valS Row.sUnit) (Row.sUnit .of) tt (Reads.room-gone 𝓤 H A Syntax.tyUnit) (Scalar.holds-sc 𝓤 H A W Row.sUnit) Path'.refl (λ u. Path'.refl) λ u. tt) d106
 
-          d108 : Typed.Typed 𝓤 H A 𝓣 E G15 b87 Δ0 at108
-          d108 = Typed.s-seq 𝓤 H A W 𝓣 E G15 G16 b7 b86 Δ0 (Typed.both s14) at107 (Plain.t-call-plain 𝓤 H A W 𝓣 4 ps·0 r·0 (claims· .0) (claims· .1) "reading::read" (known .0) E (λ pos β. β) G15 (record { pos = 1; ty = Syntax.tyRef (Syntax.named 0) Syntax.imm (Syntax.tyInt Syntax.w8); ref = λ x. x }, (record { pos = 13; ty = Syntax.tyRef Syntax.erased Syntax.mut (Memory.pointee (T.the-row .written)); ref = λ x. x }, (record { pos = 15; ty = Syntax.tyRef Syntax.erased Syntax.mut (Syntax.tyInt Syntax.w16); ref = λ x. x }, (record { pos = 17; ty = Syntax.tyRef Syntax.erased Syntax.mut (Syntax.tyInt Syntax.w16); ref = λ x. x }, tt)))) 6 (List._∷_ 0 (List._∷_ 4 (List._∷_ 5 (List._∷_ 6 List.[])))) (Call.sub-id 𝓤 H A W (G15 .slots)) (ShrSlice.spares-sslice 𝓤 H A W (Referent.rtF (Referent.fInt Syntax.w8)) ty·4 0, Shared.reads-sslice 𝓤 H A W (Referent.rtF (Referent.fInt Syntax.w8)) ty·4 0, Path'.refl, (Reads.as-is 𝓤 H A (Mut.mslice T.the-row ty·7 4), Mut.reads-mslice 𝓤 H A W T.the-row ty·7 4, Path'.refl, (Reads.as-is 𝓤 H A (Mut.mslice (Referent.rtF (Referent.fInt Syntax.w16)) ty·2 5), Mut.reads-mslice 𝓤 H A W (Referent.rtF (Referent.fInt Syntax.w16)) ty·2 5, Path'.refl, (Reads.as-is 𝓤 H A (Mut.mslice (Referent.rtF (Referent.fInt Syntax.w16)) ty·2 6), Mut.reads-mslice 𝓤 H A W (Referent.rtF (Referent.fInt Syntax.w16)) ty·2 6, Path'.refl, tt)))) (Reads.room-gone 𝓤 H A ty·18) (tt, (tt, (tt, (tt, tt)))) Path'.refl) d107
+          d108 : Typed.Typed 𝓤 H A 𝓣 E G16 b88 Δ0 at108
+          d108 = Typed.t-seq 𝓤 H A W 𝓣 E G16 G17 b84 b87 Δ0 at104 at107 d104 d107
 
-          d109 : Typed.Typed 𝓤 H A 𝓣 E G14 b88 Δ0 at109
-          d109 = Typed.s-seq 𝓤 H A W 𝓣 E G14 G15 b6 b87 Δ0 (Typed.ask s13) at108 (Relend.t-sl-aggregate 𝓤 H A W E (Referent.rtF (Referent.fInt Syntax.w16)) 𝓣 (Relend.asMut (Referent.rtF (Referent.fInt Syntax.w16))) G14 16 17 6 ty·2 ty·2 (λ x. x) (Scalar.oFld 4 (List._∷_ (Syntax.field 1) List.[]) (Syntax.tyInt Syntax.w64) 8 λ v. Shared.lenV (v .0)) (Reads.as-is 𝓤 H A (Relend.msptr (Referent.rtF (Referent.fInt Syntax.w16)) ty·2 6)) (Reads.room-gone 𝓤 H A ty·12) (Relend.reads-owed-len 𝓤 H A W (Referent.rtF (Referent.fInt Syntax.w16)) ty·6 3 6 (Row.lease (κs .1 .1 .1 .0) (qs .1 .1 .1 .0)) 8 Path'.refl, Path'.refl) Path'.refl Path'.refl λ b o k. tt) d108
+          d109 : Typed.Typed 𝓤 H A 𝓣 E G15 b89 Δ0 at109
+          d109 = Typed.s-seq 𝓤 H A W 𝓣 E G15 G16 b7 b88 Δ0 (Typed.both s14) at108 (Plain.t-call-plain 𝓤 H A W 𝓣 4 ps·0 r·0 (claims· .0) (claims· .1) "reading::read" (known .0) E (λ pos β. β) G15 (record { pos = 1; ty = Syntax.tyRef (Syntax.named 0) Syntax.imm (Syntax.tyInt Syntax.w8); ref = λ x. x }, (record { pos = 14; ty = Syntax.tyRef Syntax.erased Syntax.mut (Memory.pointee (T.the-row .written)); ref = λ x. x }, (record { pos = 16; ty = Syntax.tyRef Syntax.erased Syntax.mut (Syntax.tyInt Syntax.w16); ref = λ x. x }, (record { pos = 18; ty = Syntax.tyRef Syntax.erased Syntax.mut (Syntax.tyInt Syntax.w16); ref = λ x. x }, tt)))) 6 (List._∷_ 0 (List._∷_ 4 (List._∷_ 5 (List._∷_ 6 List.[])))) (Call.sub-id 𝓤 H A W (G15 .slots)) (ShrSlice.spares-sslice 𝓤 H A W (Referent.rtF (Referent.fInt Syntax.w8)) ty·4 0, Shared.reads-sslice 𝓤 H A W (Referent.rtF (Referent.fInt Syntax.w8)) ty·4 0, Path'.refl, (Reads.as-is 𝓤 H A (Mut.mslice T.the-row ty·7 4), Mut.reads-mslice 𝓤 H A W T.the-row ty·7 4, Path'.refl, (Reads.as-is 𝓤 H A (Mut.mslice (Referent.rtF (Referent.fInt Syntax.w16)) ty·2 5), Mut.reads-mslice 𝓤 H A W (Referent.rtF (Referent.fInt Syntax.w16)) ty·2 5, Path'.refl, (Reads.as-is 𝓤 H A (Mut.mslice (Referent.rtF (Referent.fInt Syntax.w16)) ty·2 6), Mut.reads-mslice 𝓤 H A W (Referent.rtF (Referent.fInt Syntax.w16)) ty·2 6, Path'.refl, tt)))) (Reads.room-gone 𝓤 H A ty·18) (tt, (tt, (tt, (tt, tt)))) Path'.refl) d108
 
-          d110 : Typed.Typed 𝓤 H A 𝓣 E G13 b89 Δ0 at110
-          d110 = Typed.s-seq 𝓤 H A W 𝓣 E G13 G14 b5 b88 Δ0 (Typed.give s12) at109 (Relend.t-sl-relend 𝓤 H A W E (Referent.rtF (Referent.fInt Syntax.w16)) 𝓣 G13 4 16 3 6 ty·6 ty·2 (Row.lease (κs .1 .1 .1 .0) (qs .1 .1 .1 .0)) 0 (λ x. x) (Reads.as-is 𝓤 H A (Mut.mslice (Referent.rtF (Referent.fInt Syntax.w16)) ty·6 3)) (Reads.room-gone 𝓤 H A ty·2) Path'.refl tt Path'.refl Path'.refl Path'.refl λ b o. tt) d109
+          d110 : Typed.Typed 𝓤 H A 𝓣 E G14 b90 Δ0 at110
+          d110 = Typed.s-seq 𝓤 H A W 𝓣 E G14 G15 b6 b89 Δ0 (Typed.ask s13) at109 (Relend.t-sl-aggregate 𝓤 H A W E (Referent.rtF (Referent.fInt Syntax.w16)) 𝓣 (Relend.asMut (Referent.rtF (Referent.fInt Syntax.w16))) G14 17 18 6 ty·2 ty·2 (λ x. x) (Scalar.oFld 4 (List._∷_ (Syntax.field 1) List.[]) (Syntax.tyInt Syntax.w64) 8 λ v. Shared.lenV (v .0)) (Reads.as-is 𝓤 H A (Relend.msptr (Referent.rtF (Referent.fInt Syntax.w16)) ty·2 6)) (Reads.room-gone 𝓤 H A ty·12) (Relend.reads-owed-len 𝓤 H A W (Referent.rtF (Referent.fInt Syntax.w16)) ty·6 3 6 (Row.lease (κs .1 .1 .1 .0) (qs .1 .1 .1 .0)) 8 Path'.refl, Path'.refl) Path'.refl Path'.refl λ b o k. tt) d109
 
-          d111 : Typed.Typed 𝓤 H A 𝓣 E G12 b89 Δ0 at111
-          d111 = Typed.g-pre 𝓤 H A W 𝓣 E G12 G13 b89 Δ0 (λ Ψ. Ψ) at110 (Lifetime.g-begin 𝓤 H A W E G12 6 (tt, (tt, ((tt, tt), ((tt, tt), (tt, (tt, (tt, (tt, (tt, (tt, (tt, (tt, (tt, (tt, (tt, (tt, (tt, (tt, (tt, (tt, (tt, (tt, (tt, (tt, (tt, (tt, (tt, (tt, (tt, (tt, (tt, (tt, (tt, (tt, (tt, (tt, (tt, (tt, (tt, (tt, (tt, (tt, (tt, (tt, (tt, (tt, (tt, (tt, (tt, tt)))))))))))))))))))))))))))))))))))))))))))))))))) d110
+          d111 : Typed.Typed 𝓤 H A 𝓣 E G13 b91 Δ0 at111
+          d111 = Typed.s-seq 𝓤 H A W 𝓣 E G13 G14 b5 b90 Δ0 (Typed.give s12) at110 (Relend.t-sl-relend 𝓤 H A W E (Referent.rtF (Referent.fInt Syntax.w16)) 𝓣 G13 4 17 3 6 ty·6 ty·2 (Row.lease (κs .1 .1 .1 .0) (qs .1 .1 .1 .0)) 0 (λ x. x) (Reads.as-is 𝓤 H A (Mut.mslice (Referent.rtF (Referent.fInt Syntax.w16)) ty·6 3)) (Reads.room-gone 𝓤 H A ty·2) Path'.refl tt Path'.refl Path'.refl Path'.refl λ b o. tt) d110
 
-          d112 : Typed.Typed 𝓤 H A 𝓣 E G11 b90 Δ0 at112
-          d112 = Typed.s-seq 𝓤 H A W 𝓣 E G11 G12 b4 b89 Δ0 (Typed.ask s10) at111 (Relend.t-sl-aggregate 𝓤 H A W E (Referent.rtF (Referent.fInt Syntax.w16)) 𝓣 (Relend.asMut (Referent.rtF (Referent.fInt Syntax.w16))) G11 14 15 5 ty·2 ty·2 (λ x. x) (Scalar.oFld 3 (List._∷_ (Syntax.field 1) List.[]) (Syntax.tyInt Syntax.w64) 8 λ v. Shared.lenV (v .0)) (Reads.as-is 𝓤 H A (Relend.msptr (Referent.rtF (Referent.fInt Syntax.w16)) ty·2 5)) (Reads.room-gone 𝓤 H A ty·12) (Relend.reads-owed-len 𝓤 H A W (Referent.rtF (Referent.fInt Syntax.w16)) ty·5 2 5 (Row.lease (κs .1 .1 .0) (qs .1 .1 .0)) 8 Path'.refl, Path'.refl) Path'.refl Path'.refl λ b o k. tt) d111
+          d112 : Typed.Typed 𝓤 H A 𝓣 E G12 b91 Δ0 at112
+          d112 = Typed.g-pre 𝓤 H A W 𝓣 E G12 G13 b91 Δ0 (λ Ψ. Ψ) at111 (Lifetime.g-begin 𝓤 H A W E G12 6 (tt, (tt, ((tt, tt), ((tt, tt), (tt, (tt, (tt, (tt, (tt, (tt, (tt, (tt, (tt, (tt, (tt, (tt, (tt, (tt, (tt, (tt, (tt, (tt, (tt, (tt, (tt, (tt, (tt, (tt, (tt, (tt, (tt, (tt, (tt, (tt, (tt, (tt, (tt, (tt, (tt, (tt, (tt, (tt, (tt, (tt, (tt, (tt, (tt, (tt, (tt, (tt, tt))))))))))))))))))))))))))))))))))))))))))))))))))) d111
 
-          d113 : Typed.Typed 𝓤 H A 𝓣 E G10 b91 Δ0 at113
-          d113 = Typed.s-seq 𝓤 H A W 𝓣 E G10 G11 b3 b90 Δ0 (Typed.give s9) at112 (Relend.t-sl-relend 𝓤 H A W E (Referent.rtF (Referent.fInt Syntax.w16)) 𝓣 G10 3 14 2 5 ty·5 ty·2 (Row.lease (κs .1 .1 .0) (qs .1 .1 .0)) 0 (λ x. x) (Reads.as-is 𝓤 H A (Mut.mslice (Referent.rtF (Referent.fInt Syntax.w16)) ty·5 2)) (Reads.room-gone 𝓤 H A ty·2) Path'.refl tt Path'.refl Path'.refl Path'.refl λ b o. tt) d112
+          d113 : Typed.Typed 𝓤 H A 𝓣 E G11 b92 Δ0 at113
+          d113 = Typed.s-seq 𝓤 H A W 𝓣 E G11 G12 b4 b91 Δ0 (Typed.ask s10) at112 (Relend.t-sl-aggregate 𝓤 H A W E (Referent.rtF (Referent.fInt Syntax.w16)) 𝓣 (Relend.asMut (Referent.rtF (Referent.fInt Syntax.w16))) G11 15 16 5 ty·2 ty·2 (λ x. x) (Scalar.oFld 3 (List._∷_ (Syntax.field 1) List.[]) (Syntax.tyInt Syntax.w64) 8 λ v. Shared.lenV (v .0)) (Reads.as-is 𝓤 H A (Relend.msptr (Referent.rtF (Referent.fInt Syntax.w16)) ty·2 5)) (Reads.room-gone 𝓤 H A ty·12) (Relend.reads-owed-len 𝓤 H A W (Referent.rtF (Referent.fInt Syntax.w16)) ty·5 2 5 (Row.lease (κs .1 .1 .0) (qs .1 .1 .0)) 8 Path'.refl, Path'.refl) Path'.refl Path'.refl λ b o k. tt) d112
 
-          d114 : Typed.Typed 𝓤 H A 𝓣 E G9 b91 Δ0 at114
-          d114 = Typed.g-pre 𝓤 H A W 𝓣 E G9 G10 b91 Δ0 (λ Ψ. Ψ) at113 (Lifetime.g-begin 𝓤 H A W E G9 5 (tt, (tt, ((tt, tt), (tt, (tt, (tt, (tt, (tt, (tt, (tt, (tt, (tt, (tt, (tt, (tt, (tt, (tt, (tt, (tt, (tt, (tt, (tt, (tt, (tt, (tt, (tt, (tt, (tt, (tt, (tt, (tt, (tt, (tt, (tt, (tt, (tt, (tt, (tt, (tt, (tt, (tt, (tt, (tt, (tt, (tt, (tt, (tt, (tt, (tt, tt)))))))))))))))))))))))))))))))))))))))))))))))))) d113
+          d114 : Typed.Typed 𝓤 H A 𝓣 E G10 b93 Δ0 at114
+          d114 = Typed.s-seq 𝓤 H A W 𝓣 E G10 G11 b3 b92 Δ0 (Typed.give s9) at113 (Relend.t-sl-relend 𝓤 H A W E (Referent.rtF (Referent.fInt Syntax.w16)) 𝓣 G10 3 15 2 5 ty·5 ty·2 (Row.lease (κs .1 .1 .0) (qs .1 .1 .0)) 0 (λ x. x) (Reads.as-is 𝓤 H A (Mut.mslice (Referent.rtF (Referent.fInt Syntax.w16)) ty·5 2)) (Reads.room-gone 𝓤 H A ty·2) Path'.refl tt Path'.refl Path'.refl Path'.refl λ b o. tt) d113
 
-          d115 : Typed.Typed 𝓤 H A 𝓣 E G8 b92 Δ0 at115
-          d115 = Typed.s-seq 𝓤 H A W 𝓣 E G8 G9 b2 b91 Δ0 (Typed.ask s7) at114 (Relend.t-sl-aggregate 𝓤 H A W E T.the-row 𝓣 (Relend.asMut T.the-row) G8 12 13 4 ty·7 ty·7 (λ x. x) (Scalar.oFld 2 (List._∷_ (Syntax.field 1) List.[]) (Syntax.tyInt Syntax.w64) 8 λ v. Shared.lenV (v .0)) (Reads.as-is 𝓤 H A (Relend.msptr T.the-row ty·7 4)) (Reads.room-gone 𝓤 H A ty·14) (Relend.reads-owed-len 𝓤 H A W T.the-row ty·9 1 4 (Row.lease (κs .1 .0) (qs .1 .0)) 8 Path'.refl, Path'.refl) Path'.refl Path'.refl λ b o k. tt) d114
+          d115 : Typed.Typed 𝓤 H A 𝓣 E G9 b93 Δ0 at115
+          d115 = Typed.g-pre 𝓤 H A W 𝓣 E G9 G10 b93 Δ0 (λ Ψ. Ψ) at114 (Lifetime.g-begin 𝓤 H A W E G9 5 (tt, (tt, ((tt, tt), (tt, (tt, (tt, (tt, (tt, (tt, (tt, (tt, (tt, (tt, (tt, (tt, (tt, (tt, (tt, (tt, (tt, (tt, (tt, (tt, (tt, (tt, (tt, (tt, (tt, (tt, (tt, (tt, (tt, (tt, (tt, (tt, (tt, (tt, (tt, (tt, (tt, (tt, (tt, (tt, (tt, (tt, (tt, (tt, (tt, (tt, (tt, tt))))))))))))))))))))))))))))))))))))))))))))))))))) d114
 
-          d116 : Typed.Typed 𝓤 H A 𝓣 E G7 b93 Δ0 at116
-          d116 = Typed.s-seq 𝓤 H A W 𝓣 E G7 G8 b1 b92 Δ0 (Typed.give s6) at115 (Relend.t-sl-relend 𝓤 H A W E T.the-row 𝓣 G7 2 12 1 4 ty·9 ty·7 (Row.lease (κs .1 .0) (qs .1 .0)) 0 (λ x. x) (Reads.as-is 𝓤 H A (Mut.mslice T.the-row ty·9 1)) (Reads.room-gone 𝓤 H A ty·7) Path'.refl tt Path'.refl Path'.refl Path'.refl λ b o. tt) d115
+          d116 : Typed.Typed 𝓤 H A 𝓣 E G8 b94 Δ0 at116
+          d116 = Typed.s-seq 𝓤 H A W 𝓣 E G8 G9 b2 b93 Δ0 (Typed.ask s7) at115 (Relend.t-sl-aggregate 𝓤 H A W E T.the-row 𝓣 (Relend.asMut T.the-row) G8 13 14 4 ty·7 ty·7 (λ x. x) (Scalar.oFld 2 (List._∷_ (Syntax.field 1) List.[]) (Syntax.tyInt Syntax.w64) 8 λ v. Shared.lenV (v .0)) (Reads.as-is 𝓤 H A (Relend.msptr T.the-row ty·7 4)) (Reads.room-gone 𝓤 H A ty·14) (Relend.reads-owed-len 𝓤 H A W T.the-row ty·9 1 4 (Row.lease (κs .1 .0) (qs .1 .0)) 8 Path'.refl, Path'.refl) Path'.refl Path'.refl λ b o k. tt) d115
 
-          d117 : Typed.Typed 𝓤 H A 𝓣 E G6 b93 Δ0 at117
-          d117 = Typed.g-pre 𝓤 H A W 𝓣 E G6 G7 b93 Δ0 (λ Ψ. Ψ) at116 (Lifetime.g-begin 𝓤 H A W E G6 4 (tt, (tt, (tt, (tt, (tt, (tt, (tt, (tt, (tt, (tt, (tt, (tt, (tt, (tt, (tt, (tt, (tt, (tt, (tt, (tt, (tt, (tt, (tt, (tt, (tt, (tt, (tt, (tt, (tt, (tt, (tt, (tt, (tt, (tt, (tt, (tt, (tt, (tt, (tt, (tt, (tt, (tt, (tt, (tt, (tt, (tt, (tt, (tt, (tt, tt)))))))))))))))))))))))))))))))))))))))))))))))))) d116
+          d117 : Typed.Typed 𝓤 H A 𝓣 E G7 b95 Δ0 at117
+          d117 = Typed.s-seq 𝓤 H A W 𝓣 E G7 G8 b1 b94 Δ0 (Typed.give s6) at116 (Relend.t-sl-relend 𝓤 H A W E T.the-row 𝓣 G7 2 13 1 4 ty·9 ty·7 (Row.lease (κs .1 .0) (qs .1 .0)) 0 (λ x. x) (Reads.as-is 𝓤 H A (Mut.mslice T.the-row ty·9 1)) (Reads.room-gone 𝓤 H A ty·7) Path'.refl tt Path'.refl Path'.refl Path'.refl λ b o. tt) d116
 
-          d118 : Typed.Typed 𝓤 H A 𝓣 E G5 b93 Δ0 at118
-          d118 = Typed.g-pre 𝓤 H A W 𝓣 E G5 G6 b93 Δ0 (Typed.pass T5 T6 s4) at117 (AtSlots.g-as-by 𝓤 H A W E (λ ρ. Unit) G5 11 (Rows.arrF (Referent.rtF (Referent.fInt Syntax.w8)) 4 0) (λ x. x) (Own.told-none 𝓤 H A (G5 .slots)) λ ρ told. Repeat.whole-arr 𝓤 H A W (Referent.rtF (Referent.fInt Syntax.w8)) 4 tt ρ) d117
+          d118 : Typed.Typed 𝓤 H A 𝓣 E G6 b95 Δ0 at118
+          d118 = Typed.g-pre 𝓤 H A W 𝓣 E G6 G7 b95 Δ0 (λ Ψ. Ψ) at117 (Lifetime.g-begin 𝓤 H A W E G6 4 (tt, (tt, (tt, (tt, (tt, (tt, (tt, (tt, (tt, (tt, (tt, (tt, (tt, (tt, (tt, (tt, (tt, (tt, (tt, (tt, (tt, (tt, (tt, (tt, (tt, (tt, (tt, (tt, (tt, (tt, (tt, (tt, (tt, (tt, (tt, (tt, (tt, (tt, (tt, (tt, (tt, (tt, (tt, (tt, (tt, (tt, (tt, (tt, (tt, (tt, tt))))))))))))))))))))))))))))))))))))))))))))))))))) d117
 
-          d119 : Typed.Typed 𝓤 H A 𝓣 E G4 b94 Δ0 at119
-          d119 = Typed.s-seq 𝓤 H A W 𝓣 E G4 G5 b0 b93 Δ0 (Typed.pass T4 T5 s3) at118 (Make.t-make-wt 𝓤 H A W E 𝓣 (Array.Array (Referent.rtF (Referent.fInt Syntax.w8)) 4) Path'.refl (Gives.arrayValOf λ x. Steps.only (Copies.cRf (Referent.fInt Syntax.w8) .vals x)) (Array.array-lawful 𝓤 H A W (Referent.rtF (Referent.fInt Syntax.w8)) (Plain'.uint-lawful 𝓤 H A W Syntax.w8) 4) (Array.array-makes 𝓤 H A W (Referent.rtF (Referent.fInt Syntax.w8)) (Plain'.uint-makes 𝓤 H A W Syntax.w8) 4) G4 11 (List._∷_ (Scalar.oInt Syntax.w8 114) (List._∷_ (Scalar.oInt Syntax.w8 101) (List._∷_ (Scalar.oInt Syntax.w8 97) (List._∷_ (Scalar.oInt Syntax.w8 100) List.[])))) (λ m. List._∷_ 114 (List._∷_ 101 (List._∷_ 97 (List._∷_ 100 List.[])))) (Reads.room-gone 𝓤 H A ty·0) (tt, (tt, (tt, (tt, tt)))) Path'.refl (λ m wa. Path'.refl) λ m wa. (List._∷_ (Row.valS (Row.sInt Syntax.w8) 114) (List._∷_ (Row.valS (Row.sInt Syntax.w8) 101) (List._∷_ (Row.valS (Row.sInt Syntax.w8) 97) (List._∷_ (Row.valS (Row.sInt Syntax.w8) 100) List.[]))), ((Path'.refl, Path'.refl), ((Path'.refl, Dec'.lit< tt), ((Path'.refl, Dec'.lit< tt), ((Path'.refl, Dec'.lit< tt), ((Path'.refl, Dec'.lit< tt), tt))))))) d118
+          d119 : Typed.Typed 𝓤 H A 𝓣 E G5 b95 Δ0 at119
+          d119 = Typed.g-pre 𝓤 H A W 𝓣 E G5 G6 b95 Δ0 (Typed.pass T5 T6 s4) at118 (AtSlots.g-as-by 𝓤 H A W E (λ ρ. Unit) G5 12 (Rows.arrF (Referent.rtF (Referent.fInt Syntax.w8)) 4 0) (λ x. x) (Own.told-none 𝓤 H A (G5 .slots)) λ ρ told. Repeat.whole-arr 𝓤 H A W (Referent.rtF (Referent.fInt Syntax.w8)) 4 tt ρ) d118
 
-          d120 : Typed.Typed 𝓤 H A 𝓣 E G3 b94 Δ0 at120
-          d120 = Typed.g-pre 𝓤 H A W 𝓣 E G3 G4 b94 Δ0 (Typed.give s2) at119 (Know.g-sl-known 𝓤 H A W (Referent.fInt Syntax.w16) E G3 4 3 ty·6 (Row.lease (κs .1 .1 .1 .0) (qs .1 .1 .1 .0)) 0 (λ x. x) record { fits = Dec'.lit< tt } (Reads.as-is 𝓤 H A (Mut.mslice (Referent.rtF (Referent.fInt Syntax.w16)) ty·6 3)) Path'.refl tt) d119
+          d120 : Typed.Typed 𝓤 H A 𝓣 E G4 b96 Δ0 at120
+          d120 = Typed.s-seq 𝓤 H A W 𝓣 E G4 G5 b0 b95 Δ0 (Typed.pass T4 T5 s3) at119 (Make.t-make-wt 𝓤 H A W E 𝓣 (Array.Array (Referent.rtF (Referent.fInt Syntax.w8)) 4) Path'.refl (Gives.arrayValOf λ x. Steps.only (Copies.cRf (Referent.fInt Syntax.w8) .vals x)) (Array.array-lawful 𝓤 H A W (Referent.rtF (Referent.fInt Syntax.w8)) (Plain'.uint-lawful 𝓤 H A W Syntax.w8) 4) (Array.array-makes 𝓤 H A W (Referent.rtF (Referent.fInt Syntax.w8)) (Plain'.uint-makes 𝓤 H A W Syntax.w8) 4) G4 12 (List._∷_ (Scalar.oInt Syntax.w8 114) (List._∷_ (Scalar.oInt Syntax.w8 101) (List._∷_ (Scalar.oInt Syntax.w8 97) (List._∷_ (Scalar.oInt Syntax.w8 100) List.[])))) (λ m. List._∷_ 114 (List._∷_ 101 (List._∷_ 97 (List._∷_ 100 List.[])))) (Reads.room-gone 𝓤 H A ty·0) (tt, (tt, (tt, (tt, tt)))) Path'.refl (λ m wa. Path'.refl) λ m wa. (List._∷_ (Row.valS (Row.sInt Syntax.w8) 114) (List._∷_ (Row.valS (Row.sInt Syntax.w8) 101) (List._∷_ (Row.valS (Row.sInt Syntax.w8) 97) (List._∷_ (Row.valS (Row.sInt Syntax.w8) 100) List.[]))), ((Path'.refl, Path'.refl), ((Path'.refl, Dec'.lit< tt), ((Path'.refl, Dec'.lit< tt), ((Path'.refl, Dec'.lit< tt), ((Path'.refl, Dec'.lit< tt), tt))))))) d119
 
-          d121 : Typed.Typed 𝓤 H A 𝓣 E G2 b94 Δ0 at121
-          d121 = Typed.g-pre 𝓤 H A W 𝓣 E G2 G3 b94 Δ0 (Typed.give s1) at120 (Know.g-sl-known 𝓤 H A W (Referent.fInt Syntax.w16) E G2 3 2 ty·5 (Row.lease (κs .1 .1 .0) (qs .1 .1 .0)) 0 (λ x. x) record { fits = Dec'.lit< tt } (Reads.as-is 𝓤 H A (Mut.mslice (Referent.rtF (Referent.fInt Syntax.w16)) ty·5 2)) Path'.refl tt) d120
+          d121 : Typed.Typed 𝓤 H A 𝓣 E G3 b96 Δ0 at121
+          d121 = Typed.g-pre 𝓤 H A W 𝓣 E G3 G4 b96 Δ0 (Typed.give s2) at120 (Know.g-sl-known 𝓤 H A W (Referent.fInt Syntax.w16) E G3 4 3 ty·6 (Row.lease (κs .1 .1 .1 .0) (qs .1 .1 .1 .0)) 0 (λ x. x) record { fits = Dec'.lit< tt } (Reads.as-is 𝓤 H A (Mut.mslice (Referent.rtF (Referent.fInt Syntax.w16)) ty·6 3)) Path'.refl tt) d120
 
-          d122 : Typed.Typed 𝓤 H A 𝓣 E G0 b94 Δ0 at122
-          d122 = Typed.g-pre 𝓤 H A W 𝓣 E G0 G2 b94 Δ0 (Typed.give s0) at121 (Know.g-shs-known 𝓤 H A W (Referent.fInt Syntax.w8) E G0 1 0 ty·4 (Row.lease (κs .0) (qs .0)) 0 (λ x. x) record { fits = Dec'.lit< tt } (Reads.as-is 𝓤 H A (Rows'.sslice (Referent.rtF (Referent.fInt Syntax.w8)) ty·4 0)) Path'.refl tt) d121
+          d122 : Typed.Typed 𝓤 H A 𝓣 E G2 b96 Δ0 at122
+          d122 = Typed.g-pre 𝓤 H A W 𝓣 E G2 G3 b96 Δ0 (Typed.give s1) at121 (Know.g-sl-known 𝓤 H A W (Referent.fInt Syntax.w16) E G2 3 2 ty·5 (Row.lease (κs .1 .1 .0) (qs .1 .1 .0)) 0 (λ x. x) record { fits = Dec'.lit< tt } (Reads.as-is 𝓤 H A (Mut.mslice (Referent.rtF (Referent.fInt Syntax.w16)) ty·5 2)) Path'.refl tt) d121
 
-          pub typed : Typed.Typed 𝓤 H A 𝓣 E (Function.Γin 4 ps r xs m κs qs) b94 (Function.Δret 4 ps r xs m κs qs) Φ
-          typed = d122
+          d123 : Typed.Typed 𝓤 H A 𝓣 E G0 b96 Δ0 at123
+          d123 = Typed.g-pre 𝓤 H A W 𝓣 E G0 G2 b96 Δ0 (Typed.give s0) at122 (Know.g-shs-known 𝓤 H A W (Referent.fInt Syntax.w8) E G0 1 0 ty·4 (Row.lease (κs .0) (qs .0)) 0 (λ x. x) record { fits = Dec'.lit< tt } (Reads.as-is 𝓤 H A (Rows'.sslice (Referent.rtF (Referent.fInt Syntax.w8)) ty·4 0)) Path'.refl tt) d122
+
+          pub typed : Typed.Typed 𝓤 H A 𝓣 E (Function.Γin 4 ps r xs m κs qs) b96 (Function.Δret 4 ps r xs m κs qs) Φ
+          typed = d123
 
       module _ (κs : Lifetimes.Lfts 4) where
         pub record Args : Type 0 where
@@ -2858,17 +2903,17 @@ module _ (claims· : Claims) where
 
       module _ (before· : After-read-arg3) where
         abbrev pub After-read·own : Type 0
-        After-read·own = Called.Called ps·0 r·0 (claims· .1) T15 (record { pos = 1; ty = Syntax.tyRef (Syntax.named 0) Syntax.imm (Syntax.tyInt Syntax.w8); ref = λ x. x }, (record { pos = 13; ty = Syntax.tyRef Syntax.erased Syntax.mut (Memory.pointee (T.the-row .written)); ref = λ x. x }, (record { pos = 15; ty = Syntax.tyRef Syntax.erased Syntax.mut (Syntax.tyInt Syntax.w16); ref = λ x. x }, (record { pos = 17; ty = Syntax.tyRef Syntax.erased Syntax.mut (Syntax.tyInt Syntax.w16); ref = λ x. x }, tt)))) (m11 (before· .before) (before· .read-arg3 .given))
+        After-read·own = Called.Called ps·0 r·0 (claims· .1) T15 (record { pos = 1; ty = Syntax.tyRef (Syntax.named 0) Syntax.imm (Syntax.tyInt Syntax.w8); ref = λ x. x }, (record { pos = 14; ty = Syntax.tyRef Syntax.erased Syntax.mut (Memory.pointee (T.the-row .written)); ref = λ x. x }, (record { pos = 16; ty = Syntax.tyRef Syntax.erased Syntax.mut (Syntax.tyInt Syntax.w16); ref = λ x. x }, (record { pos = 18; ty = Syntax.tyRef Syntax.erased Syntax.mut (Syntax.tyInt Syntax.w16); ref = λ x. x }, tt)))) (m11 (before· .before) (before· .read-arg3 .given))
 
       pub record After-read : Type 0 where
         pub before : After-read-arg3
         pub read : After-read·own before
 
       abbrev pub After-read·gave : (c : After-read) → s14 .gives (m11 (c .before .before) (c .before .read-arg3 .given))
-      After-read·gave = λ c. Called.given ps·0 r·0 (claims· .1) T15 (record { pos = 1; ty = Syntax.tyRef (Syntax.named 0) Syntax.imm (Syntax.tyInt Syntax.w8); ref = λ x. x }, (record { pos = 13; ty = Syntax.tyRef Syntax.erased Syntax.mut (Memory.pointee (T.the-row .written)); ref = λ x. x }, (record { pos = 15; ty = Syntax.tyRef Syntax.erased Syntax.mut (Syntax.tyInt Syntax.w16); ref = λ x. x }, (record { pos = 17; ty = Syntax.tyRef Syntax.erased Syntax.mut (Syntax.tyInt Syntax.w16); ref = λ x. x }, tt)))) (m11 (c .before .before) (c .before .read-arg3 .given)) (c .read)
+      After-read·gave = λ c. Called.given ps·0 r·0 (claims· .1) T15 (record { pos = 1; ty = Syntax.tyRef (Syntax.named 0) Syntax.imm (Syntax.tyInt Syntax.w8); ref = λ x. x }, (record { pos = 14; ty = Syntax.tyRef Syntax.erased Syntax.mut (Memory.pointee (T.the-row .written)); ref = λ x. x }, (record { pos = 16; ty = Syntax.tyRef Syntax.erased Syntax.mut (Syntax.tyInt Syntax.w16); ref = λ x. x }, (record { pos = 18; ty = Syntax.tyRef Syntax.erased Syntax.mut (Syntax.tyInt Syntax.w16); ref = λ x. x }, tt)))) (m11 (c .before .before) (c .before .read-arg3 .given)) (c .read)
 
       abbrev W1 : (before : After-read-arg3) → (given : s14 .gives (m11 (before .before) (before .read-arg3 .given))) → Typed.Want O1
-      W1 = λ before given. Typed.wantNext T17 O0 (at106 (W0 (before .before .before .before .before .before .before .κs) (before .before .before .before .before .before .before .args))) (W0 (before .before .before .before .before .before .before .κs) (before .before .before .before .before .before .before .args))
+      W1 = λ before given. Typed.wantNext T17 O0 (at107 (W0 (before .before .before .before .before .before .before .κs) (before .before .before .before .before .before .before .args))) (W0 (before .before .before .before .before .before .before .κs) (before .before .before .before .before .before .before .args))
 
       abbrev pub m13 : (before : After-read) → (given : s16 .gives (m12 (before .before) (After-read·gave before))) → Typed.Mo T19
       m13 = λ before given. s16 .next (m12 (before .before) (After-read·gave before)) given
@@ -2995,14 +3040,14 @@ module _ (claims· : Claims) where
 
       module _ (before· : After-number) where
         abbrev pub After-print-refusal·own : Type 0
-        After-print-refusal·own = Called.Called ps·2 r·2 (claims· .5) T35 (Num.vAt 19 λ x. x, tt) (m24 (before· .before) (After-number·gave before·))
+        After-print-refusal·own = Called.Called ps·2 r·2 (claims· .5) T35 (Num.vAt 20 λ x. x, tt) (m24 (before· .before) (After-number·gave before·))
 
       pub record After-print-refusal : Type 0 where
         pub before : After-number
         pub print-refusal : After-print-refusal·own before
 
       abbrev pub After-print-refusal·gave : (c : After-print-refusal) → s33 .gives (m24 (c .before .before) (After-number·gave (c .before)))
-      After-print-refusal·gave = λ c. Called.given ps·2 r·2 (claims· .5) T35 (Num.vAt 19 λ x. x, tt) (m24 (c .before .before) (After-number·gave (c .before))) (c .print-refusal)
+      After-print-refusal·gave = λ c. Called.given ps·2 r·2 (claims· .5) T35 (Num.vAt 20 λ x. x, tt) (m24 (c .before .before) (After-number·gave (c .before))) (c .print-refusal)
 
       abbrev pub m26 : (before : After-number) → (given : s33 .gives (m24 (before .before) (After-number·gave before))) → Typed.Mo T37
       m26 = λ before given. s34 (m25 before given)
@@ -3010,105 +3055,111 @@ module _ (claims· : Claims) where
       abbrev pub m27 : (before : After-number) → (given : s33 .gives (m24 (before .before) (After-number·gave before))) → Typed.Mo T38
       m27 = λ before given. s35 (m26 before given)
 
-      abbrev pub Need-new-requires : Type 0
-      Need-new-requires = (c : After-print-refusal) → s36 .asks (m27 (c .before) (After-print-refusal·gave c))
+      abbrev pub m28 : (before : After-number) → (given : s33 .gives (m24 (before .before) (After-number·gave before))) → Typed.Mo T39
+      m28 = λ before given. s36 (m27 before given)
 
-      abbrev pub m28 : (before : After-print-refusal) → (given : s36 .gives (m27 (before .before) (After-print-refusal·gave before))) → Typed.Mo T39
-      m28 = λ before given. s36 .next (m27 (before .before) (After-print-refusal·gave before)) given
+      abbrev pub Need-new-requires : Type 0
+      Need-new-requires = (c : After-print-refusal) → s37 .asks (m28 (c .before) (After-print-refusal·gave c))
+
+      abbrev pub m29 : (before : After-print-refusal) → (given : s37 .gives (m28 (before .before) (After-print-refusal·gave before))) → Typed.Mo T40
+      m29 = λ before given. s37 .next (m28 (before .before) (After-print-refusal·gave before)) given
 
       module _ (before· : After-print-refusal) where
         abbrev pub After-new·own : Type 0
-        After-new·own = Called.Called ps·3 r·3 (claims· .7) T38 (Num.vLit 0, (Num.vLit 0, (Num.vLit 0, (Num.vLit 0, tt)))) (m27 (before· .before) (After-print-refusal·gave before·))
+        After-new·own = Called.Called ps·3 r·3 (claims· .7) T39 (Num.vAt 8 λ x. x, (Num.vLit 0, (Num.vLit 0, (Num.vAt 8 λ x. x, tt)))) (m28 (before· .before) (After-print-refusal·gave before·))
 
       pub record After-new : Type 0 where
         pub before : After-print-refusal
         pub new : After-new·own before
 
-      abbrev pub After-new·gave : (c : After-new) → s36 .gives (m27 (c .before .before) (After-print-refusal·gave (c .before)))
-      After-new·gave = λ c. Called.given ps·3 r·3 (claims· .7) T38 (Num.vLit 0, (Num.vLit 0, (Num.vLit 0, (Num.vLit 0, tt)))) (m27 (c .before .before) (After-print-refusal·gave (c .before))) (c .new)
+      abbrev pub After-new·gave : (c : After-new) → s37 .gives (m28 (c .before .before) (After-print-refusal·gave (c .before)))
+      After-new·gave = λ c. Called.given ps·3 r·3 (claims· .7) T39 (Num.vAt 8 λ x. x, (Num.vLit 0, (Num.vLit 0, (Num.vAt 8 λ x. x, tt)))) (m28 (c .before .before) (After-print-refusal·gave (c .before))) (c .new)
 
-      abbrev pub m29 : (before : After-new) → (given : s38 .gives (m28 (before .before) (After-new·gave before))) → Typed.Mo T41
-      m29 = λ before given. s38 .next (m28 (before .before) (After-new·gave before)) given
+      abbrev pub m30 : (before : After-new) → (given : s39 .gives (m29 (before .before) (After-new·gave before))) → Typed.Mo T42
+      m30 = λ before given. s39 .next (m29 (before .before) (After-new·gave before)) given
 
-      abbrev pub m30 : (before : After-new) → (given : s38 .gives (m28 (before .before) (After-new·gave before))) → Typed.Mo T42
-      m30 = λ before given. s39 .next (m29 before given)
+      abbrev pub m31 : (before : After-new) → (given : s39 .gives (m29 (before .before) (After-new·gave before))) → Typed.Mo T43
+      m31 = λ before given. s40 .next (m30 before given)
 
       module _ (before· : After-new) where
         pub record After-ask-all-arg·own : Type 0 where
-          pub given : s38 .gives (m28 (before· .before) (After-new·gave before·))
+          pub given : s39 .gives (m29 (before· .before) (After-new·gave before·))
 
       pub record After-ask-all-arg : Type 0 where
         pub before : After-new
         pub ask-all-arg : After-ask-all-arg·own before
 
-      abbrev pub m31 : (before : After-ask-all-arg) → (given : s41 .gives (m30 (before .before) (before .ask-all-arg .given))) → Typed.Mo T44
-      m31 = λ before given. s41 .next (m30 (before .before) (before .ask-all-arg .given)) given
+      abbrev pub m32 : (before : After-ask-all-arg) → (given : s42 .gives (m31 (before .before) (before .ask-all-arg .given))) → Typed.Mo T45
+      m32 = λ before given. s42 .next (m31 (before .before) (before .ask-all-arg .given)) given
 
-      abbrev pub m32 : (before : After-ask-all-arg) → (given : s41 .gives (m30 (before .before) (before .ask-all-arg .given))) → Typed.Mo T45
-      m32 = λ before given. s42 .next (m31 before given)
+      abbrev pub m33 : (before : After-ask-all-arg) → (given : s42 .gives (m31 (before .before) (before .ask-all-arg .given))) → Typed.Mo T46
+      m33 = λ before given. s43 .next (m32 before given)
 
       module _ (before· : After-ask-all-arg) where
         pub record After-ask-all-arg2·own : Type 0 where
-          pub given : s41 .gives (m30 (before· .before) (before· .ask-all-arg .given))
+          pub given : s42 .gives (m31 (before· .before) (before· .ask-all-arg .given))
 
       pub record After-ask-all-arg2 : Type 0 where
         pub before : After-ask-all-arg
         pub ask-all-arg2 : After-ask-all-arg2·own before
 
-      abbrev pub m33 : (before : After-ask-all-arg2) → (given : s44 .gives (m32 (before .before) (before .ask-all-arg2 .given))) → Typed.Mo T47
-      m33 = λ before given. s44 .next (m32 (before .before) (before .ask-all-arg2 .given)) given
+      abbrev pub m34 : (before : After-ask-all-arg2) → (given : s45 .gives (m33 (before .before) (before .ask-all-arg2 .given))) → Typed.Mo T48
+      m34 = λ before given. s45 .next (m33 (before .before) (before .ask-all-arg2 .given)) given
 
-      abbrev pub m34 : (before : After-ask-all-arg2) → (given : s44 .gives (m32 (before .before) (before .ask-all-arg2 .given))) → Typed.Mo T48
-      m34 = λ before given. s45 .next (m33 before given)
+      abbrev pub m35 : (before : After-ask-all-arg2) → (given : s45 .gives (m33 (before .before) (before .ask-all-arg2 .given))) → Typed.Mo T49
+      m35 = λ before given. s46 .next (m34 before given)
 
       module _ (before· : After-ask-all-arg2) where
         pub record After-ask-all-arg3·own : Type 0 where
-          pub given : s44 .gives (m32 (before· .before) (before· .ask-all-arg2 .given))
+          pub given : s45 .gives (m33 (before· .before) (before· .ask-all-arg2 .given))
 
       pub record After-ask-all-arg3 : Type 0 where
         pub before : After-ask-all-arg2
         pub ask-all-arg3 : After-ask-all-arg3·own before
 
       abbrev pub Need-ask-all-requires : Type 0
-      Need-ask-all-requires = (c : After-ask-all-arg3) → s46 .asks (m34 (c .before) (c .ask-all-arg3 .given))
+      Need-ask-all-requires = (c : After-ask-all-arg3) → s47 .asks (m35 (c .before) (c .ask-all-arg3 .given))
 
-      abbrev pub m35 : (before : After-ask-all-arg3) → (given : s46 .gives (m34 (before .before) (before .ask-all-arg3 .given))) → Typed.Mo T49
-      m35 = λ before given. s46 .next (m34 (before .before) (before .ask-all-arg3 .given)) given
+      abbrev pub m36 : (before : After-ask-all-arg3) → (given : s47 .gives (m35 (before .before) (before .ask-all-arg3 .given))) → Typed.Mo T50
+      m36 = λ before given. s47 .next (m35 (before .before) (before .ask-all-arg3 .given)) given
 
-      abbrev pub m36 : (before : After-ask-all-arg3) → (given : s46 .gives (m34 (before .before) (before .ask-all-arg3 .given))) → Typed.Mo T50
-      m36 = λ before given. s47 (m35 before given)
-
-      abbrev pub m37 : (before : After-ask-all-arg3) → (given : s46 .gives (m34 (before .before) (before .ask-all-arg3 .given))) → Typed.Mo T51
+      abbrev pub m37 : (before : After-ask-all-arg3) → (given : s47 .gives (m35 (before .before) (before .ask-all-arg3 .given))) → Typed.Mo T51
       m37 = λ before given. s48 (m36 before given)
 
-      abbrev pub m38 : (before : After-ask-all-arg3) → (given : s46 .gives (m34 (before .before) (before .ask-all-arg3 .given))) → Typed.Mo T52
+      abbrev pub m38 : (before : After-ask-all-arg3) → (given : s47 .gives (m35 (before .before) (before .ask-all-arg3 .given))) → Typed.Mo T52
       m38 = λ before given. s49 (m37 before given)
 
-      abbrev pub m39 : (before : After-ask-all-arg3) → (given : s46 .gives (m34 (before .before) (before .ask-all-arg3 .given))) → Typed.Mo T53
+      abbrev pub m39 : (before : After-ask-all-arg3) → (given : s47 .gives (m35 (before .before) (before .ask-all-arg3 .given))) → Typed.Mo T53
       m39 = λ before given. s50 (m38 before given)
 
-      abbrev pub m40 : (before : After-ask-all-arg3) → (given : s46 .gives (m34 (before .before) (before .ask-all-arg3 .given))) → Typed.Mo T54
+      abbrev pub m40 : (before : After-ask-all-arg3) → (given : s47 .gives (m35 (before .before) (before .ask-all-arg3 .given))) → Typed.Mo T54
       m40 = λ before given. s51 (m39 before given)
 
-      abbrev pub m41 : (before : After-ask-all-arg3) → (given : s46 .gives (m34 (before .before) (before .ask-all-arg3 .given))) → Typed.Mo T56
-      m41 = λ before given. s53 (m40 before given)
+      abbrev pub m41 : (before : After-ask-all-arg3) → (given : s47 .gives (m35 (before .before) (before .ask-all-arg3 .given))) → Typed.Mo T55
+      m41 = λ before given. s52 (m40 before given)
 
-      abbrev pub m42 : (before : After-ask-all-arg3) → (given : s46 .gives (m34 (before .before) (before .ask-all-arg3 .given))) → Typed.Mo T59
-      m42 = λ before given. s56 (m41 before given)
+      abbrev pub m42 : (before : After-ask-all-arg3) → (given : s47 .gives (m35 (before .before) (before .ask-all-arg3 .given))) → Typed.Mo T56
+      m42 = λ before given. s53 (m41 before given)
 
-      abbrev pub m43 : (before : After-ask-all-arg3) → (given : s46 .gives (m34 (before .before) (before .ask-all-arg3 .given))) → Typed.Mo T62
-      m43 = λ before given. s59 (m42 before given)
+      abbrev pub m43 : (before : After-ask-all-arg3) → (given : s47 .gives (m35 (before .before) (before .ask-all-arg3 .given))) → Typed.Mo T58
+      m43 = λ before given. s55 (m42 before given)
+
+      abbrev pub m44 : (before : After-ask-all-arg3) → (given : s47 .gives (m35 (before .before) (before .ask-all-arg3 .given))) → Typed.Mo T61
+      m44 = λ before given. s58 (m43 before given)
+
+      abbrev pub m45 : (before : After-ask-all-arg3) → (given : s47 .gives (m35 (before .before) (before .ask-all-arg3 .given))) → Typed.Mo T64
+      m45 = λ before given. s61 (m44 before given)
 
       module _ (before· : After-ask-all-arg3) where
         abbrev pub After-ask-all·own : Type 0
-        After-ask-all·own = Called.Called ps·4 r·4 (claims· .9) T48 (record { pos = 20; st = List.[]; d = 0; at = λ x. x }, (record { pos = 22; ty = Syntax.tyRef Syntax.erased Syntax.imm (Memory.pointee (T.the-row .written)); ref = λ x. x }, (record { pos = 24; ty = Syntax.tyRef Syntax.erased Syntax.imm (Syntax.tyInt Syntax.w16); ref = λ x. x }, (record { pos = 26; ty = Syntax.tyRef Syntax.erased Syntax.imm (Syntax.tyInt Syntax.w16); ref = λ x. x }, (Num.vAt 5 λ x. x, tt))))) (m34 (before· .before) (before· .ask-all-arg3 .given))
+        After-ask-all·own = Called.Called ps·4 r·4 (claims· .9) T49 (record { pos = 21; st = List.[]; d = 0; at = λ x. x }, (record { pos = 23; ty = Syntax.tyRef Syntax.erased Syntax.imm (Memory.pointee (T.the-row .written)); ref = λ x. x }, (record { pos = 25; ty = Syntax.tyRef Syntax.erased Syntax.imm (Syntax.tyInt Syntax.w16); ref = λ x. x }, (record { pos = 27; ty = Syntax.tyRef Syntax.erased Syntax.imm (Syntax.tyInt Syntax.w16); ref = λ x. x }, (Num.vAt 5 λ x. x, tt))))) (m35 (before· .before) (before· .ask-all-arg3 .given))
 
       pub record After-ask-all : Type 0 where
         pub before : After-ask-all-arg3
         pub ask-all : After-ask-all·own before
 
-      abbrev pub After-ask-all·gave : (c : After-ask-all) → s46 .gives (m34 (c .before .before) (c .before .ask-all-arg3 .given))
-      After-ask-all·gave = λ c. Called.given ps·4 r·4 (claims· .9) T48 (record { pos = 20; st = List.[]; d = 0; at = λ x. x }, (record { pos = 22; ty = Syntax.tyRef Syntax.erased Syntax.imm (Memory.pointee (T.the-row .written)); ref = λ x. x }, (record { pos = 24; ty = Syntax.tyRef Syntax.erased Syntax.imm (Syntax.tyInt Syntax.w16); ref = λ x. x }, (record { pos = 26; ty = Syntax.tyRef Syntax.erased Syntax.imm (Syntax.tyInt Syntax.w16); ref = λ x. x }, (Num.vAt 5 λ x. x, tt))))) (m34 (c .before .before) (c .before .ask-all-arg3 .given)) (c .ask-all)
+      abbrev pub After-ask-all·gave : (c : After-ask-all) → s47 .gives (m35 (c .before .before) (c .before .ask-all-arg3 .given))
+      After-ask-all·gave = λ c. Called.given ps·4 r·4 (claims· .9) T49 (record { pos = 21; st = List.[]; d = 0; at = λ x. x }, (record { pos = 23; ty = Syntax.tyRef Syntax.erased Syntax.imm (Memory.pointee (T.the-row .written)); ref = λ x. x }, (record { pos = 25; ty = Syntax.tyRef Syntax.erased Syntax.imm (Syntax.tyInt Syntax.w16); ref = λ x. x }, (record { pos = 27; ty = Syntax.tyRef Syntax.erased Syntax.imm (Syntax.tyInt Syntax.w16); ref = λ x. x }, (Num.vAt 5 λ x. x, tt))))) (m35 (c .before .before) (c .before .ask-all-arg3 .given)) (c .ask-all)
 
       module _ (before· : After-slice-known4) where
         pub record At-match-keys2·own : Type 0 where
@@ -3119,474 +3170,474 @@ module _ (claims· : Claims) where
         pub match : At-match-keys2·own before
 
       abbrev pub Need-enum-known-r-2 : Type 0
-      Need-enum-known-r-2 = (c : At-match-keys2) → s61 .asks (m17 (c .before .before) (c .before .slice-known4 .given))
+      Need-enum-known-r-2 = (c : At-match-keys2) → s63 .asks (m17 (c .before .before) (c .before .slice-known4 .given))
 
-      abbrev pub m44 : (before : At-match-keys2) → (given : s61 .gives (m17 (before .before .before) (before .before .slice-known4 .given))) → Typed.Mo T64
-      m44 = λ before given. s61 .next (m17 (before .before .before) (before .before .slice-known4 .given)) given
+      abbrev pub m46 : (before : At-match-keys2) → (given : s63 .gives (m17 (before .before .before) (before .before .slice-known4 .given))) → Typed.Mo T66
+      m46 = λ before given. s63 .next (m17 (before .before .before) (before .before .slice-known4 .given)) given
 
       module _ (before· : At-match-keys2) where
         pub record After-r2·own : Type 0 where
-          pub given : s61 .gives (m17 (before· .before .before) (before· .before .slice-known4 .given))
+          pub given : s63 .gives (m17 (before· .before .before) (before· .before .slice-known4 .given))
 
       pub record After-r2 : Type 0 where
         pub before : At-match-keys2
         pub r2 : After-r2·own before
 
-      abbrev pub m45 : (before : After-r2) → (given : s62 .gives (m44 (before .before) (before .r2 .given))) → Typed.Mo T65
-      m45 = λ before given. s62 .next (m44 (before .before) (before .r2 .given)) given
+      abbrev pub m47 : (before : After-r2) → (given : s64 .gives (m46 (before .before) (before .r2 .given))) → Typed.Mo T67
+      m47 = λ before given. s64 .next (m46 (before .before) (before .r2 .given)) given
 
-      abbrev pub m46 : (before : After-r2) → (given : s62 .gives (m44 (before .before) (before .r2 .given))) → Typed.Mo T66
-      m46 = λ before given. s63 (m45 before given)
+      abbrev pub m48 : (before : After-r2) → (given : s64 .gives (m46 (before .before) (before .r2 .given))) → Typed.Mo T68
+      m48 = λ before given. s65 (m47 before given)
 
-      abbrev pub m47 : (before : After-r2) → (given : s62 .gives (m44 (before .before) (before .r2 .given))) → Typed.Mo T67
-      m47 = λ before given. s64 (m46 before given)
+      abbrev pub m49 : (before : After-r2) → (given : s64 .gives (m46 (before .before) (before .r2 .given))) → Typed.Mo T69
+      m49 = λ before given. s66 (m48 before given)
 
       module _ (before· : After-r2) where
         pub record After-known-told2·own : Type 0 where
-          pub given : s62 .gives (m44 (before· .before) (before· .r2 .given))
+          pub given : s64 .gives (m46 (before· .before) (before· .r2 .given))
 
       pub record After-known-told2 : Type 0 where
         pub before : After-r2
         pub known-told2 : After-known-told2·own before
 
-      abbrev pub m48 : (before : After-known-told2) → (given : s66 .gives (m47 (before .before) (before .known-told2 .given))) → Typed.Mo T69
-      m48 = λ before given. s66 .next (m47 (before .before) (before .known-told2 .given)) given
+      abbrev pub m50 : (before : After-known-told2) → (given : s68 .gives (m49 (before .before) (before .known-told2 .given))) → Typed.Mo T71
+      m50 = λ before given. s68 .next (m49 (before .before) (before .known-told2 .given)) given
 
       module _ (before· : After-known-told2) where
         pub record After-write-all-arg·own : Type 0 where
-          pub given : s66 .gives (m47 (before· .before) (before· .known-told2 .given))
+          pub given : s68 .gives (m49 (before· .before) (before· .known-told2 .given))
 
       pub record After-write-all-arg : Type 0 where
         pub before : After-known-told2
         pub write-all-arg : After-write-all-arg·own before
 
       abbrev pub Need-slice-aggregate-write-all : Type 0
-      Need-slice-aggregate-write-all = (c : After-write-all-arg) → Relend.CountIs T69 28 29 (λ x. x) (λ u. 4) (m48 (c .before) (c .write-all-arg .given))
+      Need-slice-aggregate-write-all = (c : After-write-all-arg) → Relend.CountIs T71 29 30 (λ x. x) (λ u. 4) (m50 (c .before) (c .write-all-arg .given))
 
-      abbrev pub m49 : (before : After-known-told2) → (given : s66 .gives (m47 (before .before) (before .known-told2 .given))) → Typed.Mo T70
-      m49 = λ before given. s67 .next (m48 before given)
+      abbrev pub m51 : (before : After-known-told2) → (given : s68 .gives (m49 (before .before) (before .known-told2 .given))) → Typed.Mo T72
+      m51 = λ before given. s69 .next (m50 before given)
 
       abbrev pub Need-write-all-requires : Type 0
-      Need-write-all-requires = (c : After-write-all-arg) → s68 .asks (m49 (c .before) (c .write-all-arg .given))
+      Need-write-all-requires = (c : After-write-all-arg) → s70 .asks (m51 (c .before) (c .write-all-arg .given))
 
-      abbrev pub m50 : (before : After-write-all-arg) → (given : s68 .gives (m49 (before .before) (before .write-all-arg .given))) → Typed.Mo T71
-      m50 = λ before given. s68 .next (m49 (before .before) (before .write-all-arg .given)) given
+      abbrev pub m52 : (before : After-write-all-arg) → (given : s70 .gives (m51 (before .before) (before .write-all-arg .given))) → Typed.Mo T73
+      m52 = λ before given. s70 .next (m51 (before .before) (before .write-all-arg .given)) given
 
       module _ (before· : After-write-all-arg) where
         abbrev pub After-write-all·own : Type 0
-        After-write-all·own = Called.Called ps·5 r·5 (claims· .11) T70 (Num.vLit 1, (record { pos = 29; ty = Syntax.tyRef Syntax.erased Syntax.imm (Syntax.tyInt Syntax.w8); ref = λ x. x }, tt)) (m49 (before· .before) (before· .write-all-arg .given))
+        After-write-all·own = Called.Called ps·5 r·5 (claims· .11) T72 (Num.vLit 1, (record { pos = 30; ty = Syntax.tyRef Syntax.erased Syntax.imm (Syntax.tyInt Syntax.w8); ref = λ x. x }, tt)) (m51 (before· .before) (before· .write-all-arg .given))
 
       pub record After-write-all : Type 0 where
         pub before : After-write-all-arg
         pub write-all : After-write-all·own before
 
-      abbrev pub After-write-all·gave : (c : After-write-all) → s68 .gives (m49 (c .before .before) (c .before .write-all-arg .given))
-      After-write-all·gave = λ c. Called.given ps·5 r·5 (claims· .11) T70 (Num.vLit 1, (record { pos = 29; ty = Syntax.tyRef Syntax.erased Syntax.imm (Syntax.tyInt Syntax.w8); ref = λ x. x }, tt)) (m49 (c .before .before) (c .before .write-all-arg .given)) (c .write-all)
+      abbrev pub After-write-all·gave : (c : After-write-all) → s70 .gives (m51 (c .before .before) (c .before .write-all-arg .given))
+      After-write-all·gave = λ c. Called.given ps·5 r·5 (claims· .11) T72 (Num.vLit 1, (record { pos = 30; ty = Syntax.tyRef Syntax.erased Syntax.imm (Syntax.tyInt Syntax.w8); ref = λ x. x }, tt)) (m51 (c .before .before) (c .before .write-all-arg .given)) (c .write-all)
 
-      abbrev pub m51 : (before : After-write-all-arg) → (given : s68 .gives (m49 (before .before) (before .write-all-arg .given))) → Typed.Mo T72
-      m51 = λ before given. s69 (m50 before given)
+      abbrev pub m53 : (before : After-write-all-arg) → (given : s70 .gives (m51 (before .before) (before .write-all-arg .given))) → Typed.Mo T74
+      m53 = λ before given. s71 (m52 before given)
 
-      abbrev pub m52 : (before : After-write-all-arg) → (given : s68 .gives (m49 (before .before) (before .write-all-arg .given))) → Typed.Mo T73
-      m52 = λ before given. s70 (m51 before given)
+      abbrev pub m54 : (before : After-write-all-arg) → (given : s70 .gives (m51 (before .before) (before .write-all-arg .given))) → Typed.Mo T75
+      m54 = λ before given. s72 (m53 before given)
 
-      abbrev pub m53 : (before : After-write-all-arg) → (given : s68 .gives (m49 (before .before) (before .write-all-arg .given))) → Typed.Mo T75
-      m53 = λ before given. s72 (m52 before given)
+      abbrev pub m55 : (before : After-write-all-arg) → (given : s70 .gives (m51 (before .before) (before .write-all-arg .given))) → Typed.Mo T77
+      m55 = λ before given. s74 (m54 before given)
 
-      abbrev pub m54 : (before : After-write-all-arg) → (given : s68 .gives (m49 (before .before) (before .write-all-arg .given))) → Typed.Mo T77
-      m54 = λ before given. s74 (m53 before given)
+      abbrev pub m56 : (before : After-write-all-arg) → (given : s70 .gives (m51 (before .before) (before .write-all-arg .given))) → Typed.Mo T79
+      m56 = λ before given. s76 (m55 before given)
 
       abbrev pub Need-print-size-requires : Type 0
-      Need-print-size-requires = (c : After-write-all) → s75 .asks (m54 (c .before) (After-write-all·gave c))
+      Need-print-size-requires = (c : After-write-all) → s77 .asks (m56 (c .before) (After-write-all·gave c))
 
-      abbrev pub m55 : (before : After-write-all) → (given : s75 .gives (m54 (before .before) (After-write-all·gave before))) → Typed.Mo T78
-      m55 = λ before given. s75 .next (m54 (before .before) (After-write-all·gave before)) given
+      abbrev pub m57 : (before : After-write-all) → (given : s77 .gives (m56 (before .before) (After-write-all·gave before))) → Typed.Mo T80
+      m57 = λ before given. s77 .next (m56 (before .before) (After-write-all·gave before)) given
 
       module _ (before· : After-write-all) where
         abbrev pub After-print-size·own : Type 0
-        After-print-size·own = Called.Called ps·6 r·6 (claims· .13) T77 (record { pos = 8; st = List.[]; d = 0; at = λ x. x }, tt) (m54 (before· .before) (After-write-all·gave before·))
+        After-print-size·own = Called.Called ps·6 r·6 (claims· .13) T79 (record { pos = 9; st = List.[]; d = 0; at = λ x. x }, tt) (m56 (before· .before) (After-write-all·gave before·))
 
       pub record After-print-size : Type 0 where
         pub before : After-write-all
         pub print-size : After-print-size·own before
 
-      abbrev pub After-print-size·gave : (c : After-print-size) → s75 .gives (m54 (c .before .before) (After-write-all·gave (c .before)))
-      After-print-size·gave = λ c. Called.given ps·6 r·6 (claims· .13) T77 (record { pos = 8; st = List.[]; d = 0; at = λ x. x }, tt) (m54 (c .before .before) (After-write-all·gave (c .before))) (c .print-size)
+      abbrev pub After-print-size·gave : (c : After-print-size) → s77 .gives (m56 (c .before .before) (After-write-all·gave (c .before)))
+      After-print-size·gave = λ c. Called.given ps·6 r·6 (claims· .13) T79 (record { pos = 9; st = List.[]; d = 0; at = λ x. x }, tt) (m56 (c .before .before) (After-write-all·gave (c .before))) (c .print-size)
 
-      abbrev pub m56 : (before : After-write-all) → (given : s75 .gives (m54 (before .before) (After-write-all·gave before))) → Typed.Mo T79
-      m56 = λ before given. s76 (m55 before given)
+      abbrev pub m58 : (before : After-write-all) → (given : s77 .gives (m56 (before .before) (After-write-all·gave before))) → Typed.Mo T81
+      m58 = λ before given. s78 (m57 before given)
 
-      abbrev pub m57 : (before : After-print-size) → (given : s78 .gives (m56 (before .before) (After-print-size·gave before))) → Typed.Mo T81
-      m57 = λ before given. s78 .next (m56 (before .before) (After-print-size·gave before)) given
+      abbrev pub m59 : (before : After-print-size) → (given : s80 .gives (m58 (before .before) (After-print-size·gave before))) → Typed.Mo T83
+      m59 = λ before given. s80 .next (m58 (before .before) (After-print-size·gave before)) given
 
-      abbrev pub m58 : (before : After-print-size) → (given : s78 .gives (m56 (before .before) (After-print-size·gave before))) → Typed.Mo T82
-      m58 = λ before given. s79 .next (m57 before given)
+      abbrev pub m60 : (before : After-print-size) → (given : s80 .gives (m58 (before .before) (After-print-size·gave before))) → Typed.Mo T84
+      m60 = λ before given. s81 .next (m59 before given)
 
       module _ (before· : After-print-size) where
         pub record After-write-again-arg·own : Type 0 where
-          pub given : s78 .gives (m56 (before· .before) (After-print-size·gave before·))
+          pub given : s80 .gives (m58 (before· .before) (After-print-size·gave before·))
 
       pub record After-write-again-arg : Type 0 where
         pub before : After-print-size
         pub write-again-arg : After-write-again-arg·own before
 
-      abbrev pub m59 : (before : After-write-again-arg) → (given : s81 .gives (m58 (before .before) (before .write-again-arg .given))) → Typed.Mo T84
-      m59 = λ before given. s81 .next (m58 (before .before) (before .write-again-arg .given)) given
+      abbrev pub m61 : (before : After-write-again-arg) → (given : s83 .gives (m60 (before .before) (before .write-again-arg .given))) → Typed.Mo T86
+      m61 = λ before given. s83 .next (m60 (before .before) (before .write-again-arg .given)) given
 
-      abbrev pub m60 : (before : After-write-again-arg) → (given : s81 .gives (m58 (before .before) (before .write-again-arg .given))) → Typed.Mo T85
-      m60 = λ before given. s82 .next (m59 before given)
+      abbrev pub m62 : (before : After-write-again-arg) → (given : s83 .gives (m60 (before .before) (before .write-again-arg .given))) → Typed.Mo T87
+      m62 = λ before given. s84 .next (m61 before given)
 
       module _ (before· : After-write-again-arg) where
         pub record After-write-again-arg2·own : Type 0 where
-          pub given : s81 .gives (m58 (before· .before) (before· .write-again-arg .given))
+          pub given : s83 .gives (m60 (before· .before) (before· .write-again-arg .given))
 
       pub record After-write-again-arg2 : Type 0 where
         pub before : After-write-again-arg
         pub write-again-arg2 : After-write-again-arg2·own before
 
-      abbrev pub m61 : (before : After-write-again-arg2) → (given : s84 .gives (m60 (before .before) (before .write-again-arg2 .given))) → Typed.Mo T87
-      m61 = λ before given. s84 .next (m60 (before .before) (before .write-again-arg2 .given)) given
+      abbrev pub m63 : (before : After-write-again-arg2) → (given : s86 .gives (m62 (before .before) (before .write-again-arg2 .given))) → Typed.Mo T89
+      m63 = λ before given. s86 .next (m62 (before .before) (before .write-again-arg2 .given)) given
 
-      abbrev pub m62 : (before : After-write-again-arg2) → (given : s84 .gives (m60 (before .before) (before .write-again-arg2 .given))) → Typed.Mo T88
-      m62 = λ before given. s85 .next (m61 before given)
+      abbrev pub m64 : (before : After-write-again-arg2) → (given : s86 .gives (m62 (before .before) (before .write-again-arg2 .given))) → Typed.Mo T90
+      m64 = λ before given. s87 .next (m63 before given)
 
       module _ (before· : After-write-again-arg2) where
         pub record After-write-again-arg3·own : Type 0 where
-          pub given : s84 .gives (m60 (before· .before) (before· .write-again-arg2 .given))
+          pub given : s86 .gives (m62 (before· .before) (before· .write-again-arg2 .given))
 
       pub record After-write-again-arg3 : Type 0 where
         pub before : After-write-again-arg2
         pub write-again-arg3 : After-write-again-arg3·own before
 
       abbrev pub Need-write-again-requires : Type 0
-      Need-write-again-requires = (c : After-write-again-arg3) → s86 .asks (m62 (c .before) (c .write-again-arg3 .given))
+      Need-write-again-requires = (c : After-write-again-arg3) → s88 .asks (m64 (c .before) (c .write-again-arg3 .given))
 
-      abbrev pub m63 : (before : After-write-again-arg3) → (given : s86 .gives (m62 (before .before) (before .write-again-arg3 .given))) → Typed.Mo T89
-      m63 = λ before given. s86 .next (m62 (before .before) (before .write-again-arg3 .given)) given
+      abbrev pub m65 : (before : After-write-again-arg3) → (given : s88 .gives (m64 (before .before) (before .write-again-arg3 .given))) → Typed.Mo T91
+      m65 = λ before given. s88 .next (m64 (before .before) (before .write-again-arg3 .given)) given
 
       module _ (before· : After-write-again-arg3) where
         abbrev pub After-write-again·own : Type 0
-        After-write-again·own = Called.Called ps·7 r·7 (claims· .15) T88 (record { pos = 1; ty = Syntax.tyRef (Syntax.named 0) Syntax.imm (Syntax.tyInt Syntax.w8); ref = λ x. x }, (record { pos = 32; ty = Syntax.tyRef Syntax.erased Syntax.mut (Memory.pointee (T.the-row .written)); ref = λ x. x }, (record { pos = 34; ty = Syntax.tyRef Syntax.erased Syntax.mut (Syntax.tyInt Syntax.w16); ref = λ x. x }, (record { pos = 36; ty = Syntax.tyRef Syntax.erased Syntax.mut (Syntax.tyInt Syntax.w16); ref = λ x. x }, tt)))) (m62 (before· .before) (before· .write-again-arg3 .given))
+        After-write-again·own = Called.Called ps·7 r·7 (claims· .15) T90 (record { pos = 1; ty = Syntax.tyRef (Syntax.named 0) Syntax.imm (Syntax.tyInt Syntax.w8); ref = λ x. x }, (record { pos = 33; ty = Syntax.tyRef Syntax.erased Syntax.mut (Memory.pointee (T.the-row .written)); ref = λ x. x }, (record { pos = 35; ty = Syntax.tyRef Syntax.erased Syntax.mut (Syntax.tyInt Syntax.w16); ref = λ x. x }, (record { pos = 37; ty = Syntax.tyRef Syntax.erased Syntax.mut (Syntax.tyInt Syntax.w16); ref = λ x. x }, tt)))) (m64 (before· .before) (before· .write-again-arg3 .given))
 
       pub record After-write-again : Type 0 where
         pub before : After-write-again-arg3
         pub write-again : After-write-again·own before
 
-      abbrev pub After-write-again·gave : (c : After-write-again) → s86 .gives (m62 (c .before .before) (c .before .write-again-arg3 .given))
-      After-write-again·gave = λ c. Called.given ps·7 r·7 (claims· .15) T88 (record { pos = 1; ty = Syntax.tyRef (Syntax.named 0) Syntax.imm (Syntax.tyInt Syntax.w8); ref = λ x. x }, (record { pos = 32; ty = Syntax.tyRef Syntax.erased Syntax.mut (Memory.pointee (T.the-row .written)); ref = λ x. x }, (record { pos = 34; ty = Syntax.tyRef Syntax.erased Syntax.mut (Syntax.tyInt Syntax.w16); ref = λ x. x }, (record { pos = 36; ty = Syntax.tyRef Syntax.erased Syntax.mut (Syntax.tyInt Syntax.w16); ref = λ x. x }, tt)))) (m62 (c .before .before) (c .before .write-again-arg3 .given)) (c .write-again)
+      abbrev pub After-write-again·gave : (c : After-write-again) → s88 .gives (m64 (c .before .before) (c .before .write-again-arg3 .given))
+      After-write-again·gave = λ c. Called.given ps·7 r·7 (claims· .15) T90 (record { pos = 1; ty = Syntax.tyRef (Syntax.named 0) Syntax.imm (Syntax.tyInt Syntax.w8); ref = λ x. x }, (record { pos = 33; ty = Syntax.tyRef Syntax.erased Syntax.mut (Memory.pointee (T.the-row .written)); ref = λ x. x }, (record { pos = 35; ty = Syntax.tyRef Syntax.erased Syntax.mut (Syntax.tyInt Syntax.w16); ref = λ x. x }, (record { pos = 37; ty = Syntax.tyRef Syntax.erased Syntax.mut (Syntax.tyInt Syntax.w16); ref = λ x. x }, tt)))) (m64 (c .before .before) (c .before .write-again-arg3 .given)) (c .write-again)
 
-      abbrev pub m64 : (before : After-write-again) → (given : s88 .gives (m63 (before .before) (After-write-again·gave before))) → Typed.Mo T91
-      m64 = λ before given. s88 .next (m63 (before .before) (After-write-again·gave before)) given
+      abbrev pub m66 : (before : After-write-again) → (given : s90 .gives (m65 (before .before) (After-write-again·gave before))) → Typed.Mo T93
+      m66 = λ before given. s90 .next (m65 (before .before) (After-write-again·gave before)) given
 
       module _ (before· : After-write-again) where
         pub record After-rows2·own : Type 0 where
-          pub given : s88 .gives (m63 (before· .before) (After-write-again·gave before·))
+          pub given : s90 .gives (m65 (before· .before) (After-write-again·gave before·))
 
       pub record After-rows2 : Type 0 where
         pub before : After-write-again
         pub rows2 : After-rows2·own before
 
-      abbrev pub m65 : (before : After-rows2) → (given : s91 .gives (m64 (before .before) (before .rows2 .given))) → Typed.Mo T94
-      m65 = λ before given. s91 .next (m64 (before .before) (before .rows2 .given)) given
+      abbrev pub m67 : (before : After-rows2) → (given : s93 .gives (m66 (before .before) (before .rows2 .given))) → Typed.Mo T96
+      m67 = λ before given. s93 .next (m66 (before .before) (before .rows2 .given)) given
 
       module _ (before· : After-rows2) where
         pub record After-firsts2·own : Type 0 where
-          pub given : s91 .gives (m64 (before· .before) (before· .rows2 .given))
+          pub given : s93 .gives (m66 (before· .before) (before· .rows2 .given))
 
       pub record After-firsts2 : Type 0 where
         pub before : After-rows2
         pub firsts2 : After-firsts2·own before
 
-      abbrev pub m66 : (before : After-firsts2) → (given : s92 .gives (m65 (before .before) (before .firsts2 .given))) → Typed.Mo T95
-      m66 = λ before given. s92 .next (m65 (before .before) (before .firsts2 .given)) given
+      abbrev pub m68 : (before : After-firsts2) → (given : s94 .gives (m67 (before .before) (before .firsts2 .given))) → Typed.Mo T97
+      m68 = λ before given. s94 .next (m67 (before .before) (before .firsts2 .given)) given
 
       module _ (before· : After-firsts2) where
         pub record After-slice-known5·own : Type 0 where
-          pub given : s92 .gives (m65 (before· .before) (before· .firsts2 .given))
+          pub given : s94 .gives (m67 (before· .before) (before· .firsts2 .given))
 
       pub record After-slice-known5 : Type 0 where
         pub before : After-firsts2
         pub slice-known5 : After-slice-known5·own before
 
-      abbrev pub m67 : (before : After-slice-known5) → (given : s95 .gives (m66 (before .before) (before .slice-known5 .given))) → Typed.Mo T98
-      m67 = λ before given. s95 .next (m66 (before .before) (before .slice-known5 .given)) given
+      abbrev pub m69 : (before : After-slice-known5) → (given : s97 .gives (m68 (before .before) (before .slice-known5 .given))) → Typed.Mo T100
+      m69 = λ before given. s97 .next (m68 (before .before) (before .slice-known5 .given)) given
 
       module _ (before· : After-slice-known5) where
         pub record After-outcomes2·own : Type 0 where
-          pub given : s95 .gives (m66 (before· .before) (before· .slice-known5 .given))
+          pub given : s97 .gives (m68 (before· .before) (before· .slice-known5 .given))
 
       pub record After-outcomes2 : Type 0 where
         pub before : After-slice-known5
         pub outcomes2 : After-outcomes2·own before
 
-      abbrev pub m68 : (before : After-outcomes2) → (given : s96 .gives (m67 (before .before) (before .outcomes2 .given))) → Typed.Mo T99
-      m68 = λ before given. s96 .next (m67 (before .before) (before .outcomes2 .given)) given
+      abbrev pub m70 : (before : After-outcomes2) → (given : s98 .gives (m69 (before .before) (before .outcomes2 .given))) → Typed.Mo T101
+      m70 = λ before given. s98 .next (m69 (before .before) (before .outcomes2 .given)) given
 
       module _ (before· : After-outcomes2) where
         pub record After-slice-known6·own : Type 0 where
-          pub given : s96 .gives (m67 (before· .before) (before· .outcomes2 .given))
+          pub given : s98 .gives (m69 (before· .before) (before· .outcomes2 .given))
 
       pub record After-slice-known6 : Type 0 where
         pub before : After-outcomes2
         pub slice-known6 : After-slice-known6·own before
 
-      abbrev pub m69 : (before : After-slice-known6) → (given : s99 .gives (m68 (before .before) (before .slice-known6 .given))) → Typed.Mo T102
-      m69 = λ before given. s99 .next (m68 (before .before) (before .slice-known6 .given)) given
+      abbrev pub m71 : (before : After-slice-known6) → (given : s101 .gives (m70 (before .before) (before .slice-known6 .given))) → Typed.Mo T104
+      m71 = λ before given. s101 .next (m70 (before .before) (before .slice-known6 .given)) given
 
-      abbrev pub m70 : (before : After-slice-known6) → (given : s99 .gives (m68 (before .before) (before .slice-known6 .given))) → Typed.Mo T103
-      m70 = λ before given. s100 .next (m69 before given)
+      abbrev pub m72 : (before : After-slice-known6) → (given : s101 .gives (m70 (before .before) (before .slice-known6 .given))) → Typed.Mo T105
+      m72 = λ before given. s102 .next (m71 before given)
 
       module _ (before· : After-slice-known6) where
         pub record After-read-again-arg·own : Type 0 where
-          pub given : s99 .gives (m68 (before· .before) (before· .slice-known6 .given))
+          pub given : s101 .gives (m70 (before· .before) (before· .slice-known6 .given))
 
       pub record After-read-again-arg : Type 0 where
         pub before : After-slice-known6
         pub read-again-arg : After-read-again-arg·own before
 
-      abbrev pub m71 : (before : After-read-again-arg) → (given : s102 .gives (m70 (before .before) (before .read-again-arg .given))) → Typed.Mo T105
-      m71 = λ before given. s102 .next (m70 (before .before) (before .read-again-arg .given)) given
+      abbrev pub m73 : (before : After-read-again-arg) → (given : s104 .gives (m72 (before .before) (before .read-again-arg .given))) → Typed.Mo T107
+      m73 = λ before given. s104 .next (m72 (before .before) (before .read-again-arg .given)) given
 
-      abbrev pub m72 : (before : After-read-again-arg) → (given : s102 .gives (m70 (before .before) (before .read-again-arg .given))) → Typed.Mo T106
-      m72 = λ before given. s103 .next (m71 before given)
+      abbrev pub m74 : (before : After-read-again-arg) → (given : s104 .gives (m72 (before .before) (before .read-again-arg .given))) → Typed.Mo T108
+      m74 = λ before given. s105 .next (m73 before given)
 
       module _ (before· : After-read-again-arg) where
         pub record After-read-again-arg2·own : Type 0 where
-          pub given : s102 .gives (m70 (before· .before) (before· .read-again-arg .given))
+          pub given : s104 .gives (m72 (before· .before) (before· .read-again-arg .given))
 
       pub record After-read-again-arg2 : Type 0 where
         pub before : After-read-again-arg
         pub read-again-arg2 : After-read-again-arg2·own before
 
-      abbrev pub m73 : (before : After-read-again-arg2) → (given : s105 .gives (m72 (before .before) (before .read-again-arg2 .given))) → Typed.Mo T108
-      m73 = λ before given. s105 .next (m72 (before .before) (before .read-again-arg2 .given)) given
+      abbrev pub m75 : (before : After-read-again-arg2) → (given : s107 .gives (m74 (before .before) (before .read-again-arg2 .given))) → Typed.Mo T110
+      m75 = λ before given. s107 .next (m74 (before .before) (before .read-again-arg2 .given)) given
 
-      abbrev pub m74 : (before : After-read-again-arg2) → (given : s105 .gives (m72 (before .before) (before .read-again-arg2 .given))) → Typed.Mo T109
-      m74 = λ before given. s106 .next (m73 before given)
+      abbrev pub m76 : (before : After-read-again-arg2) → (given : s107 .gives (m74 (before .before) (before .read-again-arg2 .given))) → Typed.Mo T111
+      m76 = λ before given. s108 .next (m75 before given)
 
       module _ (before· : After-read-again-arg2) where
         pub record After-read-again-arg3·own : Type 0 where
-          pub given : s105 .gives (m72 (before· .before) (before· .read-again-arg2 .given))
+          pub given : s107 .gives (m74 (before· .before) (before· .read-again-arg2 .given))
 
       pub record After-read-again-arg3 : Type 0 where
         pub before : After-read-again-arg2
         pub read-again-arg3 : After-read-again-arg3·own before
 
       abbrev pub Need-read-again-requires : Type 0
-      Need-read-again-requires = (c : After-read-again-arg3) → s107 .asks (m74 (c .before) (c .read-again-arg3 .given))
+      Need-read-again-requires = (c : After-read-again-arg3) → s109 .asks (m76 (c .before) (c .read-again-arg3 .given))
 
-      abbrev pub m75 : (before : After-read-again-arg3) → (given : s107 .gives (m74 (before .before) (before .read-again-arg3 .given))) → Typed.Mo T110
-      m75 = λ before given. s107 .next (m74 (before .before) (before .read-again-arg3 .given)) given
+      abbrev pub m77 : (before : After-read-again-arg3) → (given : s109 .gives (m76 (before .before) (before .read-again-arg3 .given))) → Typed.Mo T112
+      m77 = λ before given. s109 .next (m76 (before .before) (before .read-again-arg3 .given)) given
 
       module _ (before· : After-read-again-arg3) where
         abbrev pub After-read-again·own : Type 0
-        After-read-again·own = Called.Called ps·8 r·8 (claims· .17) T109 (record { pos = 8; st = List.[]; d = 0; at = λ x. x }, (record { pos = 38; ty = Syntax.tyRef Syntax.erased Syntax.imm (Memory.pointee (T.the-row .written)); ref = λ x. x }, (record { pos = 40; ty = Syntax.tyRef Syntax.erased Syntax.imm (Syntax.tyInt Syntax.w16); ref = λ x. x }, (record { pos = 42; ty = Syntax.tyRef Syntax.erased Syntax.imm (Syntax.tyInt Syntax.w16); ref = λ x. x }, tt)))) (m74 (before· .before) (before· .read-again-arg3 .given))
+        After-read-again·own = Called.Called ps·8 r·8 (claims· .17) T111 (record { pos = 9; st = List.[]; d = 0; at = λ x. x }, (record { pos = 39; ty = Syntax.tyRef Syntax.erased Syntax.imm (Memory.pointee (T.the-row .written)); ref = λ x. x }, (record { pos = 41; ty = Syntax.tyRef Syntax.erased Syntax.imm (Syntax.tyInt Syntax.w16); ref = λ x. x }, (record { pos = 43; ty = Syntax.tyRef Syntax.erased Syntax.imm (Syntax.tyInt Syntax.w16); ref = λ x. x }, tt)))) (m76 (before· .before) (before· .read-again-arg3 .given))
 
       pub record After-read-again : Type 0 where
         pub before : After-read-again-arg3
         pub read-again : After-read-again·own before
 
-      abbrev pub After-read-again·gave : (c : After-read-again) → s107 .gives (m74 (c .before .before) (c .before .read-again-arg3 .given))
-      After-read-again·gave = λ c. Called.given ps·8 r·8 (claims· .17) T109 (record { pos = 8; st = List.[]; d = 0; at = λ x. x }, (record { pos = 38; ty = Syntax.tyRef Syntax.erased Syntax.imm (Memory.pointee (T.the-row .written)); ref = λ x. x }, (record { pos = 40; ty = Syntax.tyRef Syntax.erased Syntax.imm (Syntax.tyInt Syntax.w16); ref = λ x. x }, (record { pos = 42; ty = Syntax.tyRef Syntax.erased Syntax.imm (Syntax.tyInt Syntax.w16); ref = λ x. x }, tt)))) (m74 (c .before .before) (c .before .read-again-arg3 .given)) (c .read-again)
+      abbrev pub After-read-again·gave : (c : After-read-again) → s109 .gives (m76 (c .before .before) (c .before .read-again-arg3 .given))
+      After-read-again·gave = λ c. Called.given ps·8 r·8 (claims· .17) T111 (record { pos = 9; st = List.[]; d = 0; at = λ x. x }, (record { pos = 39; ty = Syntax.tyRef Syntax.erased Syntax.imm (Memory.pointee (T.the-row .written)); ref = λ x. x }, (record { pos = 41; ty = Syntax.tyRef Syntax.erased Syntax.imm (Syntax.tyInt Syntax.w16); ref = λ x. x }, (record { pos = 43; ty = Syntax.tyRef Syntax.erased Syntax.imm (Syntax.tyInt Syntax.w16); ref = λ x. x }, tt)))) (m76 (c .before .before) (c .before .read-again-arg3 .given)) (c .read-again)
 
-      abbrev pub m76 : (before : After-read-again-arg3) → (given : s107 .gives (m74 (before .before) (before .read-again-arg3 .given))) → Typed.Mo T111
-      m76 = λ before given. s108 (m75 before given)
-
-      abbrev pub m77 : (before : After-read-again-arg3) → (given : s107 .gives (m74 (before .before) (before .read-again-arg3 .given))) → Typed.Mo T112
-      m77 = λ before given. s109 (m76 before given)
-
-      abbrev pub m78 : (before : After-read-again-arg3) → (given : s107 .gives (m74 (before .before) (before .read-again-arg3 .given))) → Typed.Mo T113
+      abbrev pub m78 : (before : After-read-again-arg3) → (given : s109 .gives (m76 (before .before) (before .read-again-arg3 .given))) → Typed.Mo T113
       m78 = λ before given. s110 (m77 before given)
 
-      abbrev pub m79 : (before : After-read-again-arg3) → (given : s107 .gives (m74 (before .before) (before .read-again-arg3 .given))) → Typed.Mo T115
-      m79 = λ before given. s112 (m78 before given)
+      abbrev pub m79 : (before : After-read-again-arg3) → (given : s109 .gives (m76 (before .before) (before .read-again-arg3 .given))) → Typed.Mo T114
+      m79 = λ before given. s111 (m78 before given)
 
-      abbrev pub m80 : (before : After-read-again-arg3) → (given : s107 .gives (m74 (before .before) (before .read-again-arg3 .given))) → Typed.Mo T118
-      m80 = λ before given. s115 (m79 before given)
+      abbrev pub m80 : (before : After-read-again-arg3) → (given : s109 .gives (m76 (before .before) (before .read-again-arg3 .given))) → Typed.Mo T115
+      m80 = λ before given. s112 (m79 before given)
 
-      abbrev pub m81 : (before : After-read-again-arg3) → (given : s107 .gives (m74 (before .before) (before .read-again-arg3 .given))) → Typed.Mo T121
-      m81 = λ before given. s118 (m80 before given)
+      abbrev pub m81 : (before : After-read-again-arg3) → (given : s109 .gives (m76 (before .before) (before .read-again-arg3 .given))) → Typed.Mo T117
+      m81 = λ before given. s114 (m80 before given)
+
+      abbrev pub m82 : (before : After-read-again-arg3) → (given : s109 .gives (m76 (before .before) (before .read-again-arg3 .given))) → Typed.Mo T120
+      m82 = λ before given. s117 (m81 before given)
+
+      abbrev pub m83 : (before : After-read-again-arg3) → (given : s109 .gives (m76 (before .before) (before .read-again-arg3 .given))) → Typed.Mo T123
+      m83 = λ before given. s120 (m82 before given)
 
       abbrev pub Need-print-again-requires : Type 0
-      Need-print-again-requires = (c : After-read-again) → s120 .asks (m81 (c .before) (After-read-again·gave c))
+      Need-print-again-requires = (c : After-read-again) → s122 .asks (m83 (c .before) (After-read-again·gave c))
 
-      abbrev pub m82 : (before : After-read-again) → (given : s120 .gives (m81 (before .before) (After-read-again·gave before))) → Typed.Mo T123
-      m82 = λ before given. s120 .next (m81 (before .before) (After-read-again·gave before)) given
+      abbrev pub m84 : (before : After-read-again) → (given : s122 .gives (m83 (before .before) (After-read-again·gave before))) → Typed.Mo T125
+      m84 = λ before given. s122 .next (m83 (before .before) (After-read-again·gave before)) given
 
       module _ (before· : After-read-again) where
         abbrev pub After-print-again·own : Type 0
-        After-print-again·own = Called.Called ps·9 r·9 (claims· .19) T121 (Bool.bAt 9 λ x. x, (Bool.bAt 10 λ x. x, tt)) (m81 (before· .before) (After-read-again·gave before·))
+        After-print-again·own = Called.Called ps·9 r·9 (claims· .19) T123 (Bool.bAt 10 λ x. x, (Bool.bAt 11 λ x. x, tt)) (m83 (before· .before) (After-read-again·gave before·))
 
       pub record After-print-again : Type 0 where
         pub before : After-read-again
         pub print-again : After-print-again·own before
 
-      abbrev pub After-print-again·gave : (c : After-print-again) → s120 .gives (m81 (c .before .before) (After-read-again·gave (c .before)))
-      After-print-again·gave = λ c. Called.given ps·9 r·9 (claims· .19) T121 (Bool.bAt 9 λ x. x, (Bool.bAt 10 λ x. x, tt)) (m81 (c .before .before) (After-read-again·gave (c .before))) (c .print-again)
+      abbrev pub After-print-again·gave : (c : After-print-again) → s122 .gives (m83 (c .before .before) (After-read-again·gave (c .before)))
+      After-print-again·gave = λ c. Called.given ps·9 r·9 (claims· .19) T123 (Bool.bAt 10 λ x. x, (Bool.bAt 11 λ x. x, tt)) (m83 (c .before .before) (After-read-again·gave (c .before))) (c .print-again)
 
-      abbrev pub m83 : (before : After-read-again) → (given : s120 .gives (m81 (before .before) (After-read-again·gave before))) → Typed.Mo T124
-      m83 = λ before given. s121 (m82 before given)
+      abbrev pub m85 : (before : After-read-again) → (given : s122 .gives (m83 (before .before) (After-read-again·gave before))) → Typed.Mo T126
+      m85 = λ before given. s123 (m84 before given)
 
-      abbrev pub m84 : (before : After-print-again) → (given : s123 .gives (m83 (before .before) (After-print-again·gave before))) → Typed.Mo T126
-      m84 = λ before given. s123 .next (m83 (before .before) (After-print-again·gave before)) given
+      abbrev pub m86 : (before : After-print-again) → (given : s125 .gives (m85 (before .before) (After-print-again·gave before))) → Typed.Mo T128
+      m86 = λ before given. s125 .next (m85 (before .before) (After-print-again·gave before)) given
 
-      abbrev pub m85 : (before : After-print-again) → (given : s123 .gives (m83 (before .before) (After-print-again·gave before))) → Typed.Mo T127
-      m85 = λ before given. s124 .next (m84 before given)
+      abbrev pub m87 : (before : After-print-again) → (given : s125 .gives (m85 (before .before) (After-print-again·gave before))) → Typed.Mo T129
+      m87 = λ before given. s126 .next (m86 before given)
 
       module _ (before· : After-print-again) where
         pub record After-ask-all-arg4·own : Type 0 where
-          pub given : s123 .gives (m83 (before· .before) (After-print-again·gave before·))
+          pub given : s125 .gives (m85 (before· .before) (After-print-again·gave before·))
 
       pub record After-ask-all-arg4 : Type 0 where
         pub before : After-print-again
         pub ask-all-arg4 : After-ask-all-arg4·own before
 
-      abbrev pub m86 : (before : After-ask-all-arg4) → (given : s126 .gives (m85 (before .before) (before .ask-all-arg4 .given))) → Typed.Mo T129
-      m86 = λ before given. s126 .next (m85 (before .before) (before .ask-all-arg4 .given)) given
+      abbrev pub m88 : (before : After-ask-all-arg4) → (given : s128 .gives (m87 (before .before) (before .ask-all-arg4 .given))) → Typed.Mo T131
+      m88 = λ before given. s128 .next (m87 (before .before) (before .ask-all-arg4 .given)) given
 
-      abbrev pub m87 : (before : After-ask-all-arg4) → (given : s126 .gives (m85 (before .before) (before .ask-all-arg4 .given))) → Typed.Mo T130
-      m87 = λ before given. s127 .next (m86 before given)
+      abbrev pub m89 : (before : After-ask-all-arg4) → (given : s128 .gives (m87 (before .before) (before .ask-all-arg4 .given))) → Typed.Mo T132
+      m89 = λ before given. s129 .next (m88 before given)
 
       module _ (before· : After-ask-all-arg4) where
         pub record After-ask-all-arg5·own : Type 0 where
-          pub given : s126 .gives (m85 (before· .before) (before· .ask-all-arg4 .given))
+          pub given : s128 .gives (m87 (before· .before) (before· .ask-all-arg4 .given))
 
       pub record After-ask-all-arg5 : Type 0 where
         pub before : After-ask-all-arg4
         pub ask-all-arg5 : After-ask-all-arg5·own before
 
-      abbrev pub m88 : (before : After-ask-all-arg5) → (given : s129 .gives (m87 (before .before) (before .ask-all-arg5 .given))) → Typed.Mo T132
-      m88 = λ before given. s129 .next (m87 (before .before) (before .ask-all-arg5 .given)) given
+      abbrev pub m90 : (before : After-ask-all-arg5) → (given : s131 .gives (m89 (before .before) (before .ask-all-arg5 .given))) → Typed.Mo T134
+      m90 = λ before given. s131 .next (m89 (before .before) (before .ask-all-arg5 .given)) given
 
-      abbrev pub m89 : (before : After-ask-all-arg5) → (given : s129 .gives (m87 (before .before) (before .ask-all-arg5 .given))) → Typed.Mo T133
-      m89 = λ before given. s130 .next (m88 before given)
+      abbrev pub m91 : (before : After-ask-all-arg5) → (given : s131 .gives (m89 (before .before) (before .ask-all-arg5 .given))) → Typed.Mo T135
+      m91 = λ before given. s132 .next (m90 before given)
 
       module _ (before· : After-ask-all-arg5) where
         pub record After-ask-all-arg6·own : Type 0 where
-          pub given : s129 .gives (m87 (before· .before) (before· .ask-all-arg5 .given))
+          pub given : s131 .gives (m89 (before· .before) (before· .ask-all-arg5 .given))
 
       pub record After-ask-all-arg6 : Type 0 where
         pub before : After-ask-all-arg5
         pub ask-all-arg6 : After-ask-all-arg6·own before
 
       abbrev pub Need-ask-all-requires-2 : Type 0
-      Need-ask-all-requires-2 = (c : After-ask-all-arg6) → s131 .asks (m89 (c .before) (c .ask-all-arg6 .given))
+      Need-ask-all-requires-2 = (c : After-ask-all-arg6) → s133 .asks (m91 (c .before) (c .ask-all-arg6 .given))
 
-      abbrev pub m90 : (before : After-ask-all-arg6) → (given : s131 .gives (m89 (before .before) (before .ask-all-arg6 .given))) → Typed.Mo T134
-      m90 = λ before given. s131 .next (m89 (before .before) (before .ask-all-arg6 .given)) given
+      abbrev pub m92 : (before : After-ask-all-arg6) → (given : s133 .gives (m91 (before .before) (before .ask-all-arg6 .given))) → Typed.Mo T136
+      m92 = λ before given. s133 .next (m91 (before .before) (before .ask-all-arg6 .given)) given
 
-      abbrev pub m91 : (before : After-ask-all-arg6) → (given : s131 .gives (m89 (before .before) (before .ask-all-arg6 .given))) → Typed.Mo T135
-      m91 = λ before given. s132 (m90 before given)
-
-      abbrev pub m92 : (before : After-ask-all-arg6) → (given : s131 .gives (m89 (before .before) (before .ask-all-arg6 .given))) → Typed.Mo T136
-      m92 = λ before given. s133 (m91 before given)
-
-      abbrev pub m93 : (before : After-ask-all-arg6) → (given : s131 .gives (m89 (before .before) (before .ask-all-arg6 .given))) → Typed.Mo T137
+      abbrev pub m93 : (before : After-ask-all-arg6) → (given : s133 .gives (m91 (before .before) (before .ask-all-arg6 .given))) → Typed.Mo T137
       m93 = λ before given. s134 (m92 before given)
 
-      abbrev pub m94 : (before : After-ask-all-arg6) → (given : s131 .gives (m89 (before .before) (before .ask-all-arg6 .given))) → Typed.Mo T138
+      abbrev pub m94 : (before : After-ask-all-arg6) → (given : s133 .gives (m91 (before .before) (before .ask-all-arg6 .given))) → Typed.Mo T138
       m94 = λ before given. s135 (m93 before given)
 
-      abbrev pub m95 : (before : After-ask-all-arg6) → (given : s131 .gives (m89 (before .before) (before .ask-all-arg6 .given))) → Typed.Mo T139
+      abbrev pub m95 : (before : After-ask-all-arg6) → (given : s133 .gives (m91 (before .before) (before .ask-all-arg6 .given))) → Typed.Mo T139
       m95 = λ before given. s136 (m94 before given)
 
-      abbrev pub m96 : (before : After-ask-all-arg6) → (given : s131 .gives (m89 (before .before) (before .ask-all-arg6 .given))) → Typed.Mo T140
+      abbrev pub m96 : (before : After-ask-all-arg6) → (given : s133 .gives (m91 (before .before) (before .ask-all-arg6 .given))) → Typed.Mo T140
       m96 = λ before given. s137 (m95 before given)
 
-      abbrev pub m97 : (before : After-ask-all-arg6) → (given : s131 .gives (m89 (before .before) (before .ask-all-arg6 .given))) → Typed.Mo T141
+      abbrev pub m97 : (before : After-ask-all-arg6) → (given : s133 .gives (m91 (before .before) (before .ask-all-arg6 .given))) → Typed.Mo T141
       m97 = λ before given. s138 (m96 before given)
 
-      abbrev pub m98 : (before : After-ask-all-arg6) → (given : s131 .gives (m89 (before .before) (before .ask-all-arg6 .given))) → Typed.Mo T143
-      m98 = λ before given. s140 (m97 before given)
+      abbrev pub m98 : (before : After-ask-all-arg6) → (given : s133 .gives (m91 (before .before) (before .ask-all-arg6 .given))) → Typed.Mo T142
+      m98 = λ before given. s139 (m97 before given)
 
-      abbrev pub m99 : (before : After-ask-all-arg6) → (given : s131 .gives (m89 (before .before) (before .ask-all-arg6 .given))) → Typed.Mo T146
-      m99 = λ before given. s143 (m98 before given)
+      abbrev pub m99 : (before : After-ask-all-arg6) → (given : s133 .gives (m91 (before .before) (before .ask-all-arg6 .given))) → Typed.Mo T143
+      m99 = λ before given. s140 (m98 before given)
 
-      abbrev pub m100 : (before : After-ask-all-arg6) → (given : s131 .gives (m89 (before .before) (before .ask-all-arg6 .given))) → Typed.Mo T149
-      m100 = λ before given. s146 (m99 before given)
+      abbrev pub m100 : (before : After-ask-all-arg6) → (given : s133 .gives (m91 (before .before) (before .ask-all-arg6 .given))) → Typed.Mo T145
+      m100 = λ before given. s142 (m99 before given)
+
+      abbrev pub m101 : (before : After-ask-all-arg6) → (given : s133 .gives (m91 (before .before) (before .ask-all-arg6 .given))) → Typed.Mo T148
+      m101 = λ before given. s145 (m100 before given)
+
+      abbrev pub m102 : (before : After-ask-all-arg6) → (given : s133 .gives (m91 (before .before) (before .ask-all-arg6 .given))) → Typed.Mo T151
+      m102 = λ before given. s148 (m101 before given)
 
       module _ (before· : After-ask-all-arg6) where
         abbrev pub After-ask-all2·own : Type 0
-        After-ask-all2·own = Called.Called ps·4 r·4 (claims· .9) T133 (record { pos = 8; st = List.[]; d = 0; at = λ x. x }, (record { pos = 44; ty = Syntax.tyRef Syntax.erased Syntax.imm (Memory.pointee (T.the-row .written)); ref = λ x. x }, (record { pos = 46; ty = Syntax.tyRef Syntax.erased Syntax.imm (Syntax.tyInt Syntax.w16); ref = λ x. x }, (record { pos = 48; ty = Syntax.tyRef Syntax.erased Syntax.imm (Syntax.tyInt Syntax.w16); ref = λ x. x }, (Num.vAt 5 λ x. x, tt))))) (m89 (before· .before) (before· .ask-all-arg6 .given))
+        After-ask-all2·own = Called.Called ps·4 r·4 (claims· .9) T135 (record { pos = 9; st = List.[]; d = 0; at = λ x. x }, (record { pos = 45; ty = Syntax.tyRef Syntax.erased Syntax.imm (Memory.pointee (T.the-row .written)); ref = λ x. x }, (record { pos = 47; ty = Syntax.tyRef Syntax.erased Syntax.imm (Syntax.tyInt Syntax.w16); ref = λ x. x }, (record { pos = 49; ty = Syntax.tyRef Syntax.erased Syntax.imm (Syntax.tyInt Syntax.w16); ref = λ x. x }, (Num.vAt 5 λ x. x, tt))))) (m91 (before· .before) (before· .ask-all-arg6 .given))
 
       pub record After-ask-all2 : Type 0 where
         pub before : After-ask-all-arg6
         pub ask-all2 : After-ask-all2·own before
 
-      abbrev pub After-ask-all2·gave : (c : After-ask-all2) → s131 .gives (m89 (c .before .before) (c .before .ask-all-arg6 .given))
-      After-ask-all2·gave = λ c. Called.given ps·4 r·4 (claims· .9) T133 (record { pos = 8; st = List.[]; d = 0; at = λ x. x }, (record { pos = 44; ty = Syntax.tyRef Syntax.erased Syntax.imm (Memory.pointee (T.the-row .written)); ref = λ x. x }, (record { pos = 46; ty = Syntax.tyRef Syntax.erased Syntax.imm (Syntax.tyInt Syntax.w16); ref = λ x. x }, (record { pos = 48; ty = Syntax.tyRef Syntax.erased Syntax.imm (Syntax.tyInt Syntax.w16); ref = λ x. x }, (Num.vAt 5 λ x. x, tt))))) (m89 (c .before .before) (c .before .ask-all-arg6 .given)) (c .ask-all2)
+      abbrev pub After-ask-all2·gave : (c : After-ask-all2) → s133 .gives (m91 (c .before .before) (c .before .ask-all-arg6 .given))
+      After-ask-all2·gave = λ c. Called.given ps·4 r·4 (claims· .9) T135 (record { pos = 9; st = List.[]; d = 0; at = λ x. x }, (record { pos = 45; ty = Syntax.tyRef Syntax.erased Syntax.imm (Memory.pointee (T.the-row .written)); ref = λ x. x }, (record { pos = 47; ty = Syntax.tyRef Syntax.erased Syntax.imm (Syntax.tyInt Syntax.w16); ref = λ x. x }, (record { pos = 49; ty = Syntax.tyRef Syntax.erased Syntax.imm (Syntax.tyInt Syntax.w16); ref = λ x. x }, (Num.vAt 5 λ x. x, tt))))) (m91 (c .before .before) (c .before .ask-all-arg6 .given)) (c .ask-all2)
 
-      abbrev pub m101 : (before : After-ask-all-arg3) → (given : s46 .gives (m34 (before .before) (before .ask-all-arg3 .given))) → Typed.Mo T151
-      m101 = λ before given. s148 (m43 before given)
+      abbrev pub m103 : (before : After-ask-all-arg3) → (given : s47 .gives (m35 (before .before) (before .ask-all-arg3 .given))) → Typed.Mo T153
+      m103 = λ before given. s150 (m45 before given)
 
-      abbrev pub m102 : (before : After-ask-all-arg3) → (given : s46 .gives (m34 (before .before) (before .ask-all-arg3 .given))) → Typed.Mo T152
-      m102 = λ before given. s149 (m101 before given)
+      abbrev pub m104 : (before : After-ask-all-arg3) → (given : s47 .gives (m35 (before .before) (before .ask-all-arg3 .given))) → Typed.Mo T154
+      m104 = λ before given. s151 (m103 before given)
 
       abbrev pub Need-same-length : Type 0
-      Need-same-length = (c : After-ask-all) → MutSlice.SameLen (Row.get 2 (T152 .locals) (m102 (c .before) (After-ask-all·gave c))) (dens (c .before .before .before .before .before .before .before .before .before .before .before .before .before .before .before .before .before .before .before .before .before .before .κs) (c .before .before .before .before .before .before .before .before .before .before .before .before .before .before .before .before .before .before .before .before .before .before .args) .1 .0)
+      Need-same-length = (c : After-ask-all) → MutSlice.SameLen (Row.get 2 (T154 .locals) (m104 (c .before) (After-ask-all·gave c))) (dens (c .before .before .before .before .before .before .before .before .before .before .before .before .before .before .before .before .before .before .before .before .before .before .κs) (c .before .before .before .before .before .before .before .before .before .before .before .before .before .before .before .before .before .before .before .before .before .before .args) .1 .0)
 
       abbrev pub Need-same-length-2 : Type 0
-      Need-same-length-2 = (c : After-ask-all) → MutSlice.SameLen (Row.get 3 (T152 .locals) (m102 (c .before) (After-ask-all·gave c))) (dens (c .before .before .before .before .before .before .before .before .before .before .before .before .before .before .before .before .before .before .before .before .before .before .κs) (c .before .before .before .before .before .before .before .before .before .before .before .before .before .before .before .before .before .before .before .before .before .before .args) .1 .1 .0)
+      Need-same-length-2 = (c : After-ask-all) → MutSlice.SameLen (Row.get 3 (T154 .locals) (m104 (c .before) (After-ask-all·gave c))) (dens (c .before .before .before .before .before .before .before .before .before .before .before .before .before .before .before .before .before .before .before .before .before .before .κs) (c .before .before .before .before .before .before .before .before .before .before .before .before .before .before .before .before .before .before .before .before .before .before .args) .1 .1 .0)
 
       abbrev pub Need-same-length-3 : Type 0
-      Need-same-length-3 = (c : After-ask-all) → MutSlice.SameLen (Row.get 4 (T152 .locals) (m102 (c .before) (After-ask-all·gave c))) (dens (c .before .before .before .before .before .before .before .before .before .before .before .before .before .before .before .before .before .before .before .before .before .before .κs) (c .before .before .before .before .before .before .before .before .before .before .before .before .before .before .before .before .before .before .before .before .before .before .args) .1 .1 .1 .0)
+      Need-same-length-3 = (c : After-ask-all) → MutSlice.SameLen (Row.get 4 (T154 .locals) (m104 (c .before) (After-ask-all·gave c))) (dens (c .before .before .before .before .before .before .before .before .before .before .before .before .before .before .before .before .before .before .before .before .before .before .κs) (c .before .before .before .before .before .before .before .before .before .before .before .before .before .before .before .before .before .before .before .before .before .before .args) .1 .1 .1 .0)
 
       abbrev pub Need-returns : Type 0
-      Need-returns = (c : After-ask-all) → Post· (c .before .before .before .before .before .before .before .before .before .before .before .before .before .before .before .before .before .before .before .before .before .before .κs) (dens (c .before .before .before .before .before .before .before .before .before .before .before .before .before .before .before .before .before .before .before .before .before .before .κs) (c .before .before .before .before .before .before .before .before .before .before .before .before .before .before .before .before .before .before .before .before .before .before .args)) (Function.resV r (c .before .before .before .before .before .before .before .before .before .before .before .before .before .before .before .before .before .before .before .before .before .before .κs) (m102 (c .before) (After-ask-all·gave c) .0)) (Clauses.atExit (Kinds.endedOf 4 ps r) (c .before .before .before .before .before .before .before .before .before .before .before .before .before .before .before .before .before .before .before .before .before .before .κs) (dens (c .before .before .before .before .before .before .before .before .before .before .before .before .before .before .before .before .before .before .before .before .before .before .κs) (c .before .before .before .before .before .before .before .before .before .before .before .before .before .before .before .before .before .before .before .before .before .before .args)) (Enter.lastsP (c .before .before .before .before .before .before .before .before .before .before .before .before .before .before .before .before .before .before .before .before .before .before .κs) 1 ps xs (dens (c .before .before .before .before .before .before .before .before .before .before .before .before .before .before .before .before .before .before .before .before .before .before .κs) (c .before .before .before .before .before .before .before .before .before .before .before .before .before .before .before .before .before .before .before .before .before .before .args)) (m102 (c .before) (After-ask-all·gave c) .1)))
+      Need-returns = (c : After-ask-all) → Post· (c .before .before .before .before .before .before .before .before .before .before .before .before .before .before .before .before .before .before .before .before .before .before .κs) (dens (c .before .before .before .before .before .before .before .before .before .before .before .before .before .before .before .before .before .before .before .before .before .before .κs) (c .before .before .before .before .before .before .before .before .before .before .before .before .before .before .before .before .before .before .before .before .before .before .args)) (Function.resV r (c .before .before .before .before .before .before .before .before .before .before .before .before .before .before .before .before .before .before .before .before .before .before .κs) (m104 (c .before) (After-ask-all·gave c) .0)) (Clauses.atExit (Kinds.endedOf 4 ps r) (c .before .before .before .before .before .before .before .before .before .before .before .before .before .before .before .before .before .before .before .before .before .before .κs) (dens (c .before .before .before .before .before .before .before .before .before .before .before .before .before .before .before .before .before .before .before .before .before .before .κs) (c .before .before .before .before .before .before .before .before .before .before .before .before .before .before .before .before .before .before .before .before .before .before .args)) (Enter.lastsP (c .before .before .before .before .before .before .before .before .before .before .before .before .before .before .before .before .before .before .before .before .before .before .κs) 1 ps xs (dens (c .before .before .before .before .before .before .before .before .before .before .before .before .before .before .before .before .before .before .before .before .before .before .κs) (c .before .before .before .before .before .before .before .before .before .before .before .before .before .before .before .before .before .before .before .before .before .before .args)) (m104 (c .before) (After-ask-all·gave c) .1)))
 
-      abbrev pub m103 : (before : After-ask-all-arg6) → (given : s131 .gives (m89 (before .before) (before .ask-all-arg6 .given))) → Typed.Mo T151
-      m103 = λ before given. s148 (m100 before given)
+      abbrev pub m105 : (before : After-ask-all-arg6) → (given : s133 .gives (m91 (before .before) (before .ask-all-arg6 .given))) → Typed.Mo T153
+      m105 = λ before given. s150 (m102 before given)
 
-      abbrev pub m104 : (before : After-ask-all-arg6) → (given : s131 .gives (m89 (before .before) (before .ask-all-arg6 .given))) → Typed.Mo T152
-      m104 = λ before given. s149 (m103 before given)
+      abbrev pub m106 : (before : After-ask-all-arg6) → (given : s133 .gives (m91 (before .before) (before .ask-all-arg6 .given))) → Typed.Mo T154
+      m106 = λ before given. s151 (m105 before given)
 
       abbrev pub Need-same-length-4 : Type 0
-      Need-same-length-4 = (c : After-ask-all2) → MutSlice.SameLen (Row.get 2 (T152 .locals) (m104 (c .before) (After-ask-all2·gave c))) (dens (c .before .before .before .before .before .before .before .before .before .before .before .before .before .before .before .before .before .before .before .before .before .before .before .before .before .before .before .before .before .before .before .before .before .before .before .before .κs) (c .before .before .before .before .before .before .before .before .before .before .before .before .before .before .before .before .before .before .before .before .before .before .before .before .before .before .before .before .before .before .before .before .before .before .before .before .args) .1 .0)
+      Need-same-length-4 = (c : After-ask-all2) → MutSlice.SameLen (Row.get 2 (T154 .locals) (m106 (c .before) (After-ask-all2·gave c))) (dens (c .before .before .before .before .before .before .before .before .before .before .before .before .before .before .before .before .before .before .before .before .before .before .before .before .before .before .before .before .before .before .before .before .before .before .before .before .κs) (c .before .before .before .before .before .before .before .before .before .before .before .before .before .before .before .before .before .before .before .before .before .before .before .before .before .before .before .before .before .before .before .before .before .before .before .before .args) .1 .0)
 
       abbrev pub Need-same-length-5 : Type 0
-      Need-same-length-5 = (c : After-ask-all2) → MutSlice.SameLen (Row.get 3 (T152 .locals) (m104 (c .before) (After-ask-all2·gave c))) (dens (c .before .before .before .before .before .before .before .before .before .before .before .before .before .before .before .before .before .before .before .before .before .before .before .before .before .before .before .before .before .before .before .before .before .before .before .before .κs) (c .before .before .before .before .before .before .before .before .before .before .before .before .before .before .before .before .before .before .before .before .before .before .before .before .before .before .before .before .before .before .before .before .before .before .before .before .args) .1 .1 .0)
+      Need-same-length-5 = (c : After-ask-all2) → MutSlice.SameLen (Row.get 3 (T154 .locals) (m106 (c .before) (After-ask-all2·gave c))) (dens (c .before .before .before .before .before .before .before .before .before .before .before .before .before .before .before .before .before .before .before .before .before .before .before .before .before .before .before .before .before .before .before .before .before .before .before .before .κs) (c .before .before .before .before .before .before .before .before .before .before .before .before .before .before .before .before .before .before .before .before .before .before .before .before .before .before .before .before .before .before .before .before .before .before .before .before .args) .1 .1 .0)
 
       abbrev pub Need-same-length-6 : Type 0
-      Need-same-length-6 = (c : After-ask-all2) → MutSlice.SameLen (Row.get 4 (T152 .locals) (m104 (c .before) (After-ask-all2·gave c))) (dens (c .before .before .before .before .before .before .before .before .before .before .before .before .before .before .before .before .before .before .before .before .before .before .before .before .before .before .before .before .before .before .before .before .before .before .before .before .κs) (c .before .before .before .before .before .before .before .before .before .before .before .before .before .before .before .before .before .before .before .before .before .before .before .before .before .before .before .before .before .before .before .before .before .before .before .before .args) .1 .1 .1 .0)
+      Need-same-length-6 = (c : After-ask-all2) → MutSlice.SameLen (Row.get 4 (T154 .locals) (m106 (c .before) (After-ask-all2·gave c))) (dens (c .before .before .before .before .before .before .before .before .before .before .before .before .before .before .before .before .before .before .before .before .before .before .before .before .before .before .before .before .before .before .before .before .before .before .before .before .κs) (c .before .before .before .before .before .before .before .before .before .before .before .before .before .before .before .before .before .before .before .before .before .before .before .before .before .before .before .before .before .before .before .before .before .before .before .before .args) .1 .1 .1 .0)
 
       abbrev pub Need-returns-2 : Type 0
-      Need-returns-2 = (c : After-ask-all2) → Post· (c .before .before .before .before .before .before .before .before .before .before .before .before .before .before .before .before .before .before .before .before .before .before .before .before .before .before .before .before .before .before .before .before .before .before .before .before .κs) (dens (c .before .before .before .before .before .before .before .before .before .before .before .before .before .before .before .before .before .before .before .before .before .before .before .before .before .before .before .before .before .before .before .before .before .before .before .before .κs) (c .before .before .before .before .before .before .before .before .before .before .before .before .before .before .before .before .before .before .before .before .before .before .before .before .before .before .before .before .before .before .before .before .before .before .before .before .args)) (Function.resV r (c .before .before .before .before .before .before .before .before .before .before .before .before .before .before .before .before .before .before .before .before .before .before .before .before .before .before .before .before .before .before .before .before .before .before .before .before .κs) (m104 (c .before) (After-ask-all2·gave c) .0)) (Clauses.atExit (Kinds.endedOf 4 ps r) (c .before .before .before .before .before .before .before .before .before .before .before .before .before .before .before .before .before .before .before .before .before .before .before .before .before .before .before .before .before .before .before .before .before .before .before .before .κs) (dens (c .before .before .before .before .before .before .before .before .before .before .before .before .before .before .before .before .before .before .before .before .before .before .before .before .before .before .before .before .before .before .before .before .before .before .before .before .κs) (c .before .before .before .before .before .before .before .before .before .before .before .before .before .before .before .before .before .before .before .before .before .before .before .before .before .before .before .before .before .before .before .before .before .before .before .before .args)) (Enter.lastsP (c .before .before .before .before .before .before .before .before .before .before .before .before .before .before .before .before .before .before .before .before .before .before .before .before .before .before .before .before .before .before .before .before .before .before .before .before .κs) 1 ps xs (dens (c .before .before .before .before .before .before .before .before .before .before .before .before .before .before .before .before .before .before .before .before .before .before .before .before .before .before .before .before .before .before .before .before .before .before .before .before .κs) (c .before .before .before .before .before .before .before .before .before .before .before .before .before .before .before .before .before .before .before .before .before .before .before .before .before .before .before .before .before .before .before .before .before .before .before .before .args)) (m104 (c .before) (After-ask-all2·gave c) .1)))
+      Need-returns-2 = (c : After-ask-all2) → Post· (c .before .before .before .before .before .before .before .before .before .before .before .before .before .before .before .before .before .before .before .before .before .before .before .before .before .before .before .before .before .before .before .before .before .before .before .before .κs) (dens (c .before .before .before .before .before .before .before .before .before .before .before .before .before .before .before .before .before .before .before .before .before .before .before .before .before .before .before .before .before .before .before .before .before .before .before .before .κs) (c .before .before .before .before .before .before .before .before .before .before .before .before .before .before .before .before .before .before .before .before .before .before .before .before .before .before .before .before .before .before .before .before .before .before .before .before .args)) (Function.resV r (c .before .before .before .before .before .before .before .before .before .before .before .before .before .before .before .before .before .before .before .before .before .before .before .before .before .before .before .before .before .before .before .before .before .before .before .before .κs) (m106 (c .before) (After-ask-all2·gave c) .0)) (Clauses.atExit (Kinds.endedOf 4 ps r) (c .before .before .before .before .before .before .before .before .before .before .before .before .before .before .before .before .before .before .before .before .before .before .before .before .before .before .before .before .before .before .before .before .before .before .before .before .κs) (dens (c .before .before .before .before .before .before .before .before .before .before .before .before .before .before .before .before .before .before .before .before .before .before .before .before .before .before .before .before .before .before .before .before .before .before .before .before .κs) (c .before .before .before .before .before .before .before .before .before .before .before .before .before .before .before .before .before .before .before .before .before .before .before .before .before .before .before .before .before .before .before .before .before .before .before .before .args)) (Enter.lastsP (c .before .before .before .before .before .before .before .before .before .before .before .before .before .before .before .before .before .before .before .before .before .before .before .before .before .before .before .before .before .before .before .before .before .before .before .before .κs) 1 ps xs (dens (c .before .before .before .before .before .before .before .before .before .before .before .before .before .before .before .before .before .before .before .before .before .before .before .before .before .before .before .before .before .before .before .before .before .before .before .before .κs) (c .before .before .before .before .before .before .before .before .before .before .before .before .before .before .before .before .before .before .before .before .before .before .before .before .before .before .before .before .before .before .before .before .before .before .before .before .args)) (m106 (c .before) (After-ask-all2·gave c) .1)))
 
       module _ (read-requires : Need-read-requires) (enum-known-r : Need-enum-known-r) (number-requires : Need-number-requires) (print-refusal-requires : Need-print-refusal-requires) (new-requires : Need-new-requires) (ask-all-requires : Need-ask-all-requires) (enum-known-r-2 : Need-enum-known-r-2) (slice-aggregate-write-all : Need-slice-aggregate-write-all) (write-all-requires : Need-write-all-requires) (print-size-requires : Need-print-size-requires) (write-again-requires : Need-write-again-requires) (read-again-requires : Need-read-again-requires) (print-again-requires : Need-print-again-requires) (ask-all-requires-2 : Need-ask-all-requires-2) (same-length : Need-same-length) (same-length-2 : Need-same-length-2) (same-length-3 : Need-same-length-3) (returns : Need-returns) (same-length-4 : Need-same-length-4) (same-length-5 : Need-same-length-5) (same-length-6 : Need-same-length-6) (returns-2 : Need-returns-2) where
-        lay11 : (c : After-ask-all2) → at106 (W0 (c .before .before .before .before .before .before .before .before .before .before .before .before .before .before .before .before .before .before .before .before .before .before .before .before .before .before .before .before .before .before .before .before .before .before .before .before .κs) (c .before .before .before .before .before .before .before .before .before .before .before .before .before .before .before .before .before .before .before .before .before .before .before .before .before .before .before .before .before .before .before .before .before .before .before .before .args)) (m100 (c .before) (After-ask-all2·gave c))
-        lay11 = λ c. ((Path'.refl, (MutSlice.fix-len (Row.get 2 (T152 .locals) (m104 (c .before) (After-ask-all2·gave c)) .ptr) (Row.get 2 (T152 .locals) (m104 (c .before) (After-ask-all2·gave c)) .name) (Row.get 2 (T152 .locals) (m104 (c .before) (After-ask-all2·gave c)) .now) (dens (c .before .before .before .before .before .before .before .before .before .before .before .before .before .before .before .before .before .before .before .before .before .before .before .before .before .before .before .before .before .before .before .before .before .before .before .before .κs) (c .before .before .before .before .before .before .before .before .before .before .before .before .before .before .before .before .before .before .before .before .before .before .before .before .before .before .before .before .before .before .before .before .before .before .before .before .args) .1 .0 .now) (same-length-4 record { before = c .before; ask-all2 = c .ask-all2 }), (MutSlice.fix-len (Row.get 3 (T152 .locals) (m104 (c .before) (After-ask-all2·gave c)) .ptr) (Row.get 3 (T152 .locals) (m104 (c .before) (After-ask-all2·gave c)) .name) (Row.get 3 (T152 .locals) (m104 (c .before) (After-ask-all2·gave c)) .now) (dens (c .before .before .before .before .before .before .before .before .before .before .before .before .before .before .before .before .before .before .before .before .before .before .before .before .before .before .before .before .before .before .before .before .before .before .before .before .κs) (c .before .before .before .before .before .before .before .before .before .before .before .before .before .before .before .before .before .before .before .before .before .before .before .before .before .before .before .before .before .before .before .before .before .before .before .before .args) .1 .1 .0 .now) (same-length-5 record { before = c .before; ask-all2 = c .ask-all2 }), (MutSlice.fix-len (Row.get 4 (T152 .locals) (m104 (c .before) (After-ask-all2·gave c)) .ptr) (Row.get 4 (T152 .locals) (m104 (c .before) (After-ask-all2·gave c)) .name) (Row.get 4 (T152 .locals) (m104 (c .before) (After-ask-all2·gave c)) .now) (dens (c .before .before .before .before .before .before .before .before .before .before .before .before .before .before .before .before .before .before .before .before .before .before .before .before .before .before .before .before .before .before .before .before .before .before .before .before .κs) (c .before .before .before .before .before .before .before .before .before .before .before .before .before .before .before .before .before .before .before .before .before .before .before .before .before .before .before .before .before .before .before .before .before .before .before .before .args) .1 .1 .1 .0 .now) (same-length-6 record { before = c .before; ask-all2 = c .ask-all2 }), (tt, tt))))), returns-2 record { before = c .before; ask-all2 = c .ask-all2 })
+        lay11 : (c : After-ask-all2) → at107 (W0 (c .before .before .before .before .before .before .before .before .before .before .before .before .before .before .before .before .before .before .before .before .before .before .before .before .before .before .before .before .before .before .before .before .before .before .before .before .κs) (c .before .before .before .before .before .before .before .before .before .before .before .before .before .before .before .before .before .before .before .before .before .before .before .before .before .before .before .before .before .before .before .before .before .before .before .before .args)) (m102 (c .before) (After-ask-all2·gave c))
+        lay11 = λ c. ((Path'.refl, (MutSlice.fix-len (Row.get 2 (T154 .locals) (m106 (c .before) (After-ask-all2·gave c)) .ptr) (Row.get 2 (T154 .locals) (m106 (c .before) (After-ask-all2·gave c)) .name) (Row.get 2 (T154 .locals) (m106 (c .before) (After-ask-all2·gave c)) .now) (dens (c .before .before .before .before .before .before .before .before .before .before .before .before .before .before .before .before .before .before .before .before .before .before .before .before .before .before .before .before .before .before .before .before .before .before .before .before .κs) (c .before .before .before .before .before .before .before .before .before .before .before .before .before .before .before .before .before .before .before .before .before .before .before .before .before .before .before .before .before .before .before .before .before .before .before .before .args) .1 .0 .now) (same-length-4 record { before = c .before; ask-all2 = c .ask-all2 }), (MutSlice.fix-len (Row.get 3 (T154 .locals) (m106 (c .before) (After-ask-all2·gave c)) .ptr) (Row.get 3 (T154 .locals) (m106 (c .before) (After-ask-all2·gave c)) .name) (Row.get 3 (T154 .locals) (m106 (c .before) (After-ask-all2·gave c)) .now) (dens (c .before .before .before .before .before .before .before .before .before .before .before .before .before .before .before .before .before .before .before .before .before .before .before .before .before .before .before .before .before .before .before .before .before .before .before .before .κs) (c .before .before .before .before .before .before .before .before .before .before .before .before .before .before .before .before .before .before .before .before .before .before .before .before .before .before .before .before .before .before .before .before .before .before .before .before .args) .1 .1 .0 .now) (same-length-5 record { before = c .before; ask-all2 = c .ask-all2 }), (MutSlice.fix-len (Row.get 4 (T154 .locals) (m106 (c .before) (After-ask-all2·gave c)) .ptr) (Row.get 4 (T154 .locals) (m106 (c .before) (After-ask-all2·gave c)) .name) (Row.get 4 (T154 .locals) (m106 (c .before) (After-ask-all2·gave c)) .now) (dens (c .before .before .before .before .before .before .before .before .before .before .before .before .before .before .before .before .before .before .before .before .before .before .before .before .before .before .before .before .before .before .before .before .before .before .before .before .κs) (c .before .before .before .before .before .before .before .before .before .before .before .before .before .before .before .before .before .before .before .before .before .before .before .before .before .before .before .before .before .before .before .before .before .before .before .before .args) .1 .1 .1 .0 .now) (same-length-6 record { before = c .before; ask-all2 = c .ask-all2 }), (tt, tt))))), returns-2 record { before = c .before; ask-all2 = c .ask-all2 })
 
-        lay10 : (c : After-ask-all) → at106 (W0 (c .before .before .before .before .before .before .before .before .before .before .before .before .before .before .before .before .before .before .before .before .before .before .κs) (c .before .before .before .before .before .before .before .before .before .before .before .before .before .before .before .before .before .before .before .before .before .before .args)) (m43 (c .before) (After-ask-all·gave c))
-        lay10 = λ c. ((Path'.refl, (MutSlice.fix-len (Row.get 2 (T152 .locals) (m102 (c .before) (After-ask-all·gave c)) .ptr) (Row.get 2 (T152 .locals) (m102 (c .before) (After-ask-all·gave c)) .name) (Row.get 2 (T152 .locals) (m102 (c .before) (After-ask-all·gave c)) .now) (dens (c .before .before .before .before .before .before .before .before .before .before .before .before .before .before .before .before .before .before .before .before .before .before .κs) (c .before .before .before .before .before .before .before .before .before .before .before .before .before .before .before .before .before .before .before .before .before .before .args) .1 .0 .now) (same-length record { before = c .before; ask-all = c .ask-all }), (MutSlice.fix-len (Row.get 3 (T152 .locals) (m102 (c .before) (After-ask-all·gave c)) .ptr) (Row.get 3 (T152 .locals) (m102 (c .before) (After-ask-all·gave c)) .name) (Row.get 3 (T152 .locals) (m102 (c .before) (After-ask-all·gave c)) .now) (dens (c .before .before .before .before .before .before .before .before .before .before .before .before .before .before .before .before .before .before .before .before .before .before .κs) (c .before .before .before .before .before .before .before .before .before .before .before .before .before .before .before .before .before .before .before .before .before .before .args) .1 .1 .0 .now) (same-length-2 record { before = c .before; ask-all = c .ask-all }), (MutSlice.fix-len (Row.get 4 (T152 .locals) (m102 (c .before) (After-ask-all·gave c)) .ptr) (Row.get 4 (T152 .locals) (m102 (c .before) (After-ask-all·gave c)) .name) (Row.get 4 (T152 .locals) (m102 (c .before) (After-ask-all·gave c)) .now) (dens (c .before .before .before .before .before .before .before .before .before .before .before .before .before .before .before .before .before .before .before .before .before .before .κs) (c .before .before .before .before .before .before .before .before .before .before .before .before .before .before .before .before .before .before .before .before .before .before .args) .1 .1 .1 .0 .now) (same-length-3 record { before = c .before; ask-all = c .ask-all }), (tt, tt))))), returns record { before = c .before; ask-all = c .ask-all })
+        lay10 : (c : After-ask-all) → at107 (W0 (c .before .before .before .before .before .before .before .before .before .before .before .before .before .before .before .before .before .before .before .before .before .before .κs) (c .before .before .before .before .before .before .before .before .before .before .before .before .before .before .before .before .before .before .before .before .before .before .args)) (m45 (c .before) (After-ask-all·gave c))
+        lay10 = λ c. ((Path'.refl, (MutSlice.fix-len (Row.get 2 (T154 .locals) (m104 (c .before) (After-ask-all·gave c)) .ptr) (Row.get 2 (T154 .locals) (m104 (c .before) (After-ask-all·gave c)) .name) (Row.get 2 (T154 .locals) (m104 (c .before) (After-ask-all·gave c)) .now) (dens (c .before .before .before .before .before .before .before .before .before .before .before .before .before .before .before .before .before .before .before .before .before .before .κs) (c .before .before .before .before .before .before .before .before .before .before .before .before .before .before .before .before .before .before .before .before .before .before .args) .1 .0 .now) (same-length record { before = c .before; ask-all = c .ask-all }), (MutSlice.fix-len (Row.get 3 (T154 .locals) (m104 (c .before) (After-ask-all·gave c)) .ptr) (Row.get 3 (T154 .locals) (m104 (c .before) (After-ask-all·gave c)) .name) (Row.get 3 (T154 .locals) (m104 (c .before) (After-ask-all·gave c)) .now) (dens (c .before .before .before .before .before .before .before .before .before .before .before .before .before .before .before .before .before .before .before .before .before .before .κs) (c .before .before .before .before .before .before .before .before .before .before .before .before .before .before .before .before .before .before .before .before .before .before .args) .1 .1 .0 .now) (same-length-2 record { before = c .before; ask-all = c .ask-all }), (MutSlice.fix-len (Row.get 4 (T154 .locals) (m104 (c .before) (After-ask-all·gave c)) .ptr) (Row.get 4 (T154 .locals) (m104 (c .before) (After-ask-all·gave c)) .name) (Row.get 4 (T154 .locals) (m104 (c .before) (After-ask-all·gave c)) .now) (dens (c .before .before .before .before .before .before .before .before .before .before .before .before .before .before .before .before .before .before .before .before .before .before .κs) (c .before .before .before .before .before .before .before .before .before .before .before .before .before .before .before .before .before .before .before .before .before .before .args) .1 .1 .1 .0 .now) (same-length-3 record { before = c .before; ask-all = c .ask-all }), (tt, tt))))), returns record { before = c .before; ask-all = c .ask-all })
 
-        lay9 : (c : After-print-again) → at31 (W1 (c .before .before .before .before .before .before .before .before .before .before .before .before .before .before .before .before .before .before .before .before .before .before .before .before .before .before) (After-read·gave (c .before .before .before .before .before .before .before .before .before .before .before .before .before .before .before .before .before .before .before .before .before .before .before .before .before))) (m82 (c .before) (After-print-again·gave c))
-        lay9 = λ c. λ g. (Path'.refl, λ g'. (Path'.refl, λ g''. (Path'.refl, (ask-all-requires-2 record { before = record { before = record { before = record { before = c .before; print-again = c .print-again }; ask-all-arg4 = record { given = g } }; ask-all-arg5 = record { given = g' } }; ask-all-arg6 = record { given = g'' } }, λ g'3. lay11 record { before = record { before = record { before = record { before = record { before = c .before; print-again = c .print-again }; ask-all-arg4 = record { given = g } }; ask-all-arg5 = record { given = g' } }; ask-all-arg6 = record { given = g'' } }; ask-all2 = Called.called ps·4 r·4 (claims· .9) T133 (record { pos = 8; st = List.[]; d = 0; at = λ x. x }, (record { pos = 44; ty = Syntax.tyRef Syntax.erased Syntax.imm (Memory.pointee (T.the-row .written)); ref = λ x. x }, (record { pos = 46; ty = Syntax.tyRef Syntax.erased Syntax.imm (Syntax.tyInt Syntax.w16); ref = λ x. x }, (record { pos = 48; ty = Syntax.tyRef Syntax.erased Syntax.imm (Syntax.tyInt Syntax.w16); ref = λ x. x }, (Num.vAt 5 λ x. x, tt))))) (m89 record { before = record { before = record { before = c .before; print-again = c .print-again }; ask-all-arg4 = record { given = g } }; ask-all-arg5 = record { given = g' } } g'') g'3 }))))
+        lay9 : (c : After-print-again) → at32 (W1 (c .before .before .before .before .before .before .before .before .before .before .before .before .before .before .before .before .before .before .before .before .before .before .before .before .before .before) (After-read·gave (c .before .before .before .before .before .before .before .before .before .before .before .before .before .before .before .before .before .before .before .before .before .before .before .before .before))) (m84 (c .before) (After-print-again·gave c))
+        lay9 = λ c. λ g. (Path'.refl, λ g'. (Path'.refl, λ g''. (Path'.refl, (ask-all-requires-2 record { before = record { before = record { before = record { before = c .before; print-again = c .print-again }; ask-all-arg4 = record { given = g } }; ask-all-arg5 = record { given = g' } }; ask-all-arg6 = record { given = g'' } }, λ g'3. lay11 record { before = record { before = record { before = record { before = record { before = c .before; print-again = c .print-again }; ask-all-arg4 = record { given = g } }; ask-all-arg5 = record { given = g' } }; ask-all-arg6 = record { given = g'' } }; ask-all2 = Called.called ps·4 r·4 (claims· .9) T135 (record { pos = 9; st = List.[]; d = 0; at = λ x. x }, (record { pos = 45; ty = Syntax.tyRef Syntax.erased Syntax.imm (Memory.pointee (T.the-row .written)); ref = λ x. x }, (record { pos = 47; ty = Syntax.tyRef Syntax.erased Syntax.imm (Syntax.tyInt Syntax.w16); ref = λ x. x }, (record { pos = 49; ty = Syntax.tyRef Syntax.erased Syntax.imm (Syntax.tyInt Syntax.w16); ref = λ x. x }, (Num.vAt 5 λ x. x, tt))))) (m91 record { before = record { before = record { before = c .before; print-again = c .print-again }; ask-all-arg4 = record { given = g } }; ask-all-arg5 = record { given = g' } } g'') g'3 }))))
 
-        lay8 : (c : After-read-again) → at44 (W1 (c .before .before .before .before .before .before .before .before .before .before .before .before .before .before .before .before .before .before .before .before .before .before .before .before .before) (After-read·gave (c .before .before .before .before .before .before .before .before .before .before .before .before .before .before .before .before .before .before .before .before .before .before .before .before))) (m75 (c .before) (After-read-again·gave c))
-        lay8 = λ c. (print-again-requires record { before = c .before; read-again = c .read-again }, λ g. lay9 record { before = record { before = c .before; read-again = c .read-again }; print-again = Called.called ps·9 r·9 (claims· .19) T121 (Bool.bAt 9 λ x. x, (Bool.bAt 10 λ x. x, tt)) (m81 (c .before) (After-read-again·gave c)) g })
+        lay8 : (c : After-read-again) → at45 (W1 (c .before .before .before .before .before .before .before .before .before .before .before .before .before .before .before .before .before .before .before .before .before .before .before .before .before) (After-read·gave (c .before .before .before .before .before .before .before .before .before .before .before .before .before .before .before .before .before .before .before .before .before .before .before .before))) (m77 (c .before) (After-read-again·gave c))
+        lay8 = λ c. (print-again-requires record { before = c .before; read-again = c .read-again }, λ g. lay9 record { before = record { before = c .before; read-again = c .read-again }; print-again = Called.called ps·9 r·9 (claims· .19) T123 (Bool.bAt 10 λ x. x, (Bool.bAt 11 λ x. x, tt)) (m83 (c .before) (After-read-again·gave c)) g })
 
-        lay7 : (c : After-write-again) → at65 (W1 (c .before .before .before .before .before .before .before .before .before .before .before .before .before .before .before .before) (After-read·gave (c .before .before .before .before .before .before .before .before .before .before .before .before .before .before .before))) (m63 (c .before) (After-write-again·gave c))
-        lay7 = λ c. (Path'.refl, λ g. (Path'.refl, λ g'. λ g''. (Path'.refl, λ g'3. λ g'4. λ g'5. (Path'.refl, λ g'6. (Path'.refl, λ g'7. (Path'.refl, (read-again-requires record { before = record { before = record { before = record { before = record { before = record { before = record { before = record { before = record { before = c .before; write-again = c .write-again }; rows2 = record { given = g } }; firsts2 = record { given = g' } }; slice-known5 = record { given = g'' } }; outcomes2 = record { given = g'3 } }; slice-known6 = record { given = g'4 } }; read-again-arg = record { given = g'5 } }; read-again-arg2 = record { given = g'6 } }; read-again-arg3 = record { given = g'7 } }, λ g'8. lay8 record { before = record { before = record { before = record { before = record { before = record { before = record { before = record { before = record { before = record { before = c .before; write-again = c .write-again }; rows2 = record { given = g } }; firsts2 = record { given = g' } }; slice-known5 = record { given = g'' } }; outcomes2 = record { given = g'3 } }; slice-known6 = record { given = g'4 } }; read-again-arg = record { given = g'5 } }; read-again-arg2 = record { given = g'6 } }; read-again-arg3 = record { given = g'7 } }; read-again = Called.called ps·8 r·8 (claims· .17) T109 (record { pos = 8; st = List.[]; d = 0; at = λ x. x }, (record { pos = 38; ty = Syntax.tyRef Syntax.erased Syntax.imm (Memory.pointee (T.the-row .written)); ref = λ x. x }, (record { pos = 40; ty = Syntax.tyRef Syntax.erased Syntax.imm (Syntax.tyInt Syntax.w16); ref = λ x. x }, (record { pos = 42; ty = Syntax.tyRef Syntax.erased Syntax.imm (Syntax.tyInt Syntax.w16); ref = λ x. x }, tt)))) (m74 record { before = record { before = record { before = record { before = record { before = record { before = record { before = record { before = c .before; write-again = c .write-again }; rows2 = record { given = g } }; firsts2 = record { given = g' } }; slice-known5 = record { given = g'' } }; outcomes2 = record { given = g'3 } }; slice-known6 = record { given = g'4 } }; read-again-arg = record { given = g'5 } }; read-again-arg2 = record { given = g'6 } } g'7) g'8 })))))))
+        lay7 : (c : After-write-again) → at66 (W1 (c .before .before .before .before .before .before .before .before .before .before .before .before .before .before .before .before) (After-read·gave (c .before .before .before .before .before .before .before .before .before .before .before .before .before .before .before))) (m65 (c .before) (After-write-again·gave c))
+        lay7 = λ c. (Path'.refl, λ g. (Path'.refl, λ g'. λ g''. (Path'.refl, λ g'3. λ g'4. λ g'5. (Path'.refl, λ g'6. (Path'.refl, λ g'7. (Path'.refl, (read-again-requires record { before = record { before = record { before = record { before = record { before = record { before = record { before = record { before = record { before = c .before; write-again = c .write-again }; rows2 = record { given = g } }; firsts2 = record { given = g' } }; slice-known5 = record { given = g'' } }; outcomes2 = record { given = g'3 } }; slice-known6 = record { given = g'4 } }; read-again-arg = record { given = g'5 } }; read-again-arg2 = record { given = g'6 } }; read-again-arg3 = record { given = g'7 } }, λ g'8. lay8 record { before = record { before = record { before = record { before = record { before = record { before = record { before = record { before = record { before = record { before = c .before; write-again = c .write-again }; rows2 = record { given = g } }; firsts2 = record { given = g' } }; slice-known5 = record { given = g'' } }; outcomes2 = record { given = g'3 } }; slice-known6 = record { given = g'4 } }; read-again-arg = record { given = g'5 } }; read-again-arg2 = record { given = g'6 } }; read-again-arg3 = record { given = g'7 } }; read-again = Called.called ps·8 r·8 (claims· .17) T111 (record { pos = 9; st = List.[]; d = 0; at = λ x. x }, (record { pos = 39; ty = Syntax.tyRef Syntax.erased Syntax.imm (Memory.pointee (T.the-row .written)); ref = λ x. x }, (record { pos = 41; ty = Syntax.tyRef Syntax.erased Syntax.imm (Syntax.tyInt Syntax.w16); ref = λ x. x }, (record { pos = 43; ty = Syntax.tyRef Syntax.erased Syntax.imm (Syntax.tyInt Syntax.w16); ref = λ x. x }, tt)))) (m76 record { before = record { before = record { before = record { before = record { before = record { before = record { before = record { before = c .before; write-again = c .write-again }; rows2 = record { given = g } }; firsts2 = record { given = g' } }; slice-known5 = record { given = g'' } }; outcomes2 = record { given = g'3 } }; slice-known6 = record { given = g'4 } }; read-again-arg = record { given = g'5 } }; read-again-arg2 = record { given = g'6 } } g'7) g'8 })))))))
 
-        lay6 : (c : After-print-size) → at76 (W1 (c .before .before .before .before .before .before .before .before .before .before .before .before) (After-read·gave (c .before .before .before .before .before .before .before .before .before .before .before))) (m55 (c .before) (After-print-size·gave c))
-        lay6 = λ c. λ g. (Path'.refl, λ g'. (Path'.refl, λ g''. (Path'.refl, (write-again-requires record { before = record { before = record { before = record { before = c .before; print-size = c .print-size }; write-again-arg = record { given = g } }; write-again-arg2 = record { given = g' } }; write-again-arg3 = record { given = g'' } }, λ g'3. lay7 record { before = record { before = record { before = record { before = record { before = c .before; print-size = c .print-size }; write-again-arg = record { given = g } }; write-again-arg2 = record { given = g' } }; write-again-arg3 = record { given = g'' } }; write-again = Called.called ps·7 r·7 (claims· .15) T88 (record { pos = 1; ty = Syntax.tyRef (Syntax.named 0) Syntax.imm (Syntax.tyInt Syntax.w8); ref = λ x. x }, (record { pos = 32; ty = Syntax.tyRef Syntax.erased Syntax.mut (Memory.pointee (T.the-row .written)); ref = λ x. x }, (record { pos = 34; ty = Syntax.tyRef Syntax.erased Syntax.mut (Syntax.tyInt Syntax.w16); ref = λ x. x }, (record { pos = 36; ty = Syntax.tyRef Syntax.erased Syntax.mut (Syntax.tyInt Syntax.w16); ref = λ x. x }, tt)))) (m62 record { before = record { before = record { before = c .before; print-size = c .print-size }; write-again-arg = record { given = g } }; write-again-arg2 = record { given = g' } } g'') g'3 }))))
+        lay6 : (c : After-print-size) → at77 (W1 (c .before .before .before .before .before .before .before .before .before .before .before .before) (After-read·gave (c .before .before .before .before .before .before .before .before .before .before .before))) (m57 (c .before) (After-print-size·gave c))
+        lay6 = λ c. λ g. (Path'.refl, λ g'. (Path'.refl, λ g''. (Path'.refl, (write-again-requires record { before = record { before = record { before = record { before = c .before; print-size = c .print-size }; write-again-arg = record { given = g } }; write-again-arg2 = record { given = g' } }; write-again-arg3 = record { given = g'' } }, λ g'3. lay7 record { before = record { before = record { before = record { before = record { before = c .before; print-size = c .print-size }; write-again-arg = record { given = g } }; write-again-arg2 = record { given = g' } }; write-again-arg3 = record { given = g'' } }; write-again = Called.called ps·7 r·7 (claims· .15) T90 (record { pos = 1; ty = Syntax.tyRef (Syntax.named 0) Syntax.imm (Syntax.tyInt Syntax.w8); ref = λ x. x }, (record { pos = 33; ty = Syntax.tyRef Syntax.erased Syntax.mut (Memory.pointee (T.the-row .written)); ref = λ x. x }, (record { pos = 35; ty = Syntax.tyRef Syntax.erased Syntax.mut (Syntax.tyInt Syntax.w16); ref = λ x. x }, (record { pos = 37; ty = Syntax.tyRef Syntax.erased Syntax.mut (Syntax.tyInt Syntax.w16); ref = λ x. x }, tt)))) (m64 record { before = record { before = record { before = c .before; print-size = c .print-size }; write-again-arg = record { given = g } }; write-again-arg2 = record { given = g' } } g'') g'3 }))))
 
-        lay5 : (c : After-write-all) → at83 (W1 (c .before .before .before .before .before .before .before .before .before .before .before) (After-read·gave (c .before .before .before .before .before .before .before .before .before .before))) (m50 (c .before) (After-write-all·gave c))
-        lay5 = λ c. (print-size-requires record { before = c .before; write-all = c .write-all }, λ g. lay6 record { before = record { before = c .before; write-all = c .write-all }; print-size = Called.called ps·6 r·6 (claims· .13) T77 (record { pos = 8; st = List.[]; d = 0; at = λ x. x }, tt) (m54 (c .before) (After-write-all·gave c)) g })
+        lay5 : (c : After-write-all) → at84 (W1 (c .before .before .before .before .before .before .before .before .before .before .before) (After-read·gave (c .before .before .before .before .before .before .before .before .before .before))) (m52 (c .before) (After-write-all·gave c))
+        lay5 = λ c. (print-size-requires record { before = c .before; write-all = c .write-all }, λ g. lay6 record { before = record { before = c .before; write-all = c .write-all }; print-size = Called.called ps·6 r·6 (claims· .13) T79 (record { pos = 9; st = List.[]; d = 0; at = λ x. x }, tt) (m56 (c .before) (After-write-all·gave c)) g })
 
-        lay4 : (c : After-new) → at9 (W1 (c .before .before .before .before .before .before .before .before .before .before .before .before) (After-read·gave (c .before .before .before .before .before .before .before .before .before .before .before))) (m28 (c .before) (After-new·gave c))
-        lay4 = λ c. λ g. (Path'.refl, λ g'. (Path'.refl, λ g''. (Path'.refl, (ask-all-requires record { before = record { before = record { before = record { before = c .before; new = c .new }; ask-all-arg = record { given = g } }; ask-all-arg2 = record { given = g' } }; ask-all-arg3 = record { given = g'' } }, λ g'3. lay10 record { before = record { before = record { before = record { before = record { before = c .before; new = c .new }; ask-all-arg = record { given = g } }; ask-all-arg2 = record { given = g' } }; ask-all-arg3 = record { given = g'' } }; ask-all = Called.called ps·4 r·4 (claims· .9) T48 (record { pos = 20; st = List.[]; d = 0; at = λ x. x }, (record { pos = 22; ty = Syntax.tyRef Syntax.erased Syntax.imm (Memory.pointee (T.the-row .written)); ref = λ x. x }, (record { pos = 24; ty = Syntax.tyRef Syntax.erased Syntax.imm (Syntax.tyInt Syntax.w16); ref = λ x. x }, (record { pos = 26; ty = Syntax.tyRef Syntax.erased Syntax.imm (Syntax.tyInt Syntax.w16); ref = λ x. x }, (Num.vAt 5 λ x. x, tt))))) (m34 record { before = record { before = record { before = c .before; new = c .new }; ask-all-arg = record { given = g } }; ask-all-arg2 = record { given = g' } } g'') g'3 }))))
+        lay4 : (c : After-new) → at9 (W1 (c .before .before .before .before .before .before .before .before .before .before .before .before) (After-read·gave (c .before .before .before .before .before .before .before .before .before .before .before))) (m29 (c .before) (After-new·gave c))
+        lay4 = λ c. λ g. (Path'.refl, λ g'. (Path'.refl, λ g''. (Path'.refl, (ask-all-requires record { before = record { before = record { before = record { before = c .before; new = c .new }; ask-all-arg = record { given = g } }; ask-all-arg2 = record { given = g' } }; ask-all-arg3 = record { given = g'' } }, λ g'3. lay10 record { before = record { before = record { before = record { before = record { before = c .before; new = c .new }; ask-all-arg = record { given = g } }; ask-all-arg2 = record { given = g' } }; ask-all-arg3 = record { given = g'' } }; ask-all = Called.called ps·4 r·4 (claims· .9) T49 (record { pos = 21; st = List.[]; d = 0; at = λ x. x }, (record { pos = 23; ty = Syntax.tyRef Syntax.erased Syntax.imm (Memory.pointee (T.the-row .written)); ref = λ x. x }, (record { pos = 25; ty = Syntax.tyRef Syntax.erased Syntax.imm (Syntax.tyInt Syntax.w16); ref = λ x. x }, (record { pos = 27; ty = Syntax.tyRef Syntax.erased Syntax.imm (Syntax.tyInt Syntax.w16); ref = λ x. x }, (Num.vAt 5 λ x. x, tt))))) (m35 record { before = record { before = record { before = c .before; new = c .new }; ask-all-arg = record { given = g } }; ask-all-arg2 = record { given = g' } } g'') g'3 }))))
 
-        lay3 : (c : After-print-refusal) → at12 (W1 (c .before .before .before .before .before .before .before .before .before .before .before) (After-read·gave (c .before .before .before .before .before .before .before .before .before .before))) (m25 (c .before) (After-print-refusal·gave c))
-        lay3 = λ c. (new-requires record { before = c .before; print-refusal = c .print-refusal }, λ g. lay4 record { before = record { before = c .before; print-refusal = c .print-refusal }; new = Called.called ps·3 r·3 (claims· .7) T38 (Num.vLit 0, (Num.vLit 0, (Num.vLit 0, (Num.vLit 0, tt)))) (m27 (c .before) (After-print-refusal·gave c)) g })
+        lay3 : (c : After-print-refusal) → at13 (W1 (c .before .before .before .before .before .before .before .before .before .before .before) (After-read·gave (c .before .before .before .before .before .before .before .before .before .before))) (m25 (c .before) (After-print-refusal·gave c))
+        lay3 = λ c. (new-requires record { before = c .before; print-refusal = c .print-refusal }, λ g. lay4 record { before = record { before = c .before; print-refusal = c .print-refusal }; new = Called.called ps·3 r·3 (claims· .7) T39 (Num.vAt 8 λ x. x, (Num.vLit 0, (Num.vLit 0, (Num.vAt 8 λ x. x, tt)))) (m28 (c .before) (After-print-refusal·gave c)) g })
 
-        lay2 : (c : After-number) → at14 (W1 (c .before .before .before .before .before .before .before .before .before .before) (After-read·gave (c .before .before .before .before .before .before .before .before .before))) (m23 (c .before) (After-number·gave c))
-        lay2 = λ c. (print-refusal-requires record { before = c .before; number = c .number }, λ g. lay3 record { before = record { before = c .before; number = c .number }; print-refusal = Called.called ps·2 r·2 (claims· .5) T35 (Num.vAt 19 λ x. x, tt) (m24 (c .before) (After-number·gave c)) g })
+        lay2 : (c : After-number) → at15 (W1 (c .before .before .before .before .before .before .before .before .before .before) (After-read·gave (c .before .before .before .before .before .before .before .before .before))) (m23 (c .before) (After-number·gave c))
+        lay2 = λ c. (print-refusal-requires record { before = c .before; number = c .number }, λ g. lay3 record { before = record { before = c .before; number = c .number }; print-refusal = Called.called ps·2 r·2 (claims· .5) T35 (Num.vAt 20 λ x. x, tt) (m24 (c .before) (After-number·gave c)) g })
 
-        lay1 : (c : After-read) → at107 (W0 (c .before .before .before .before .before .before .before .κs) (c .before .before .before .before .before .before .before .args)) (m12 (c .before) (After-read·gave c))
-        lay1 = λ c. (Path'.refl, λ g. (Path'.refl, λ g'. λ g''. (Path'.refl, λ g'3. λ g'4. (λ k. (enum-known-r record { before = record { before = record { before = record { before = record { before = record { before = record { before = c .before; read = c .read }; rows = record { given = g } }; firsts = record { given = g' } }; slice-known3 = record { given = g'' } }; outcomes = record { given = g'3 } }; slice-known4 = record { given = g'4 } }; match = record { keys1 = k } }, λ g'5. λ g'6. (number-requires record { before = record { before = record { before = record { before = record { before = record { before = record { before = record { before = record { before = c .before; read = c .read }; rows = record { given = g } }; firsts = record { given = g' } }; slice-known3 = record { given = g'' } }; outcomes = record { given = g'3 } }; slice-known4 = record { given = g'4 } }; match = record { keys1 = k } }; r = record { given = g'5 } }; known-told = record { given = g'6 } }, λ g'7. lay2 record { before = record { before = record { before = record { before = record { before = record { before = record { before = record { before = record { before = record { before = c .before; read = c .read }; rows = record { given = g } }; firsts = record { given = g' } }; slice-known3 = record { given = g'' } }; outcomes = record { given = g'3 } }; slice-known4 = record { given = g'4 } }; match = record { keys1 = k } }; r = record { given = g'5 } }; known-told = record { given = g'6 } }; number = Called.called ps·1 r·1 (claims· .3) T33 (record { pos = 7; st = List.[]; d = 0; at = λ x. x }, tt) (m22 record { before = record { before = record { before = record { before = record { before = record { before = record { before = record { before = c .before; read = c .read }; rows = record { given = g } }; firsts = record { given = g' } }; slice-known3 = record { given = g'' } }; outcomes = record { given = g'3 } }; slice-known4 = record { given = g'4 } }; match = record { keys1 = k } }; r = record { given = g'5 } } g'6) g'7 })), (λ k. (enum-known-r-2 record { before = record { before = record { before = record { before = record { before = record { before = record { before = c .before; read = c .read }; rows = record { given = g } }; firsts = record { given = g' } }; slice-known3 = record { given = g'' } }; outcomes = record { given = g'3 } }; slice-known4 = record { given = g'4 } }; match = record { keys2 = k } }, λ g'8. λ g'9. λ g'10. (Relend.count-is T69 28 29 (λ x. x) (λ u. 4) (m48 record { before = record { before = record { before = record { before = record { before = record { before = record { before = record { before = record { before = c .before; read = c .read }; rows = record { given = g } }; firsts = record { given = g' } }; slice-known3 = record { given = g'' } }; outcomes = record { given = g'3 } }; slice-known4 = record { given = g'4 } }; match = record { keys2 = k } }; r2 = record { given = g'8 } }; known-told2 = record { given = g'9 } } g'10) (slice-aggregate-write-all record { before = record { before = record { before = record { before = record { before = record { before = record { before = record { before = record { before = record { before = c .before; read = c .read }; rows = record { given = g } }; firsts = record { given = g' } }; slice-known3 = record { given = g'' } }; outcomes = record { given = g'3 } }; slice-known4 = record { given = g'4 } }; match = record { keys2 = k } }; r2 = record { given = g'8 } }; known-told2 = record { given = g'9 } }; write-all-arg = record { given = g'10 } }), (write-all-requires record { before = record { before = record { before = record { before = record { before = record { before = record { before = record { before = record { before = record { before = c .before; read = c .read }; rows = record { given = g } }; firsts = record { given = g' } }; slice-known3 = record { given = g'' } }; outcomes = record { given = g'3 } }; slice-known4 = record { given = g'4 } }; match = record { keys2 = k } }; r2 = record { given = g'8 } }; known-told2 = record { given = g'9 } }; write-all-arg = record { given = g'10 } }, λ g'11. lay5 record { before = record { before = record { before = record { before = record { before = record { before = record { before = record { before = record { before = record { before = record { before = c .before; read = c .read }; rows = record { given = g } }; firsts = record { given = g' } }; slice-known3 = record { given = g'' } }; outcomes = record { given = g'3 } }; slice-known4 = record { given = g'4 } }; match = record { keys2 = k } }; r2 = record { given = g'8 } }; known-told2 = record { given = g'9 } }; write-all-arg = record { given = g'10 } }; write-all = Called.called ps·5 r·5 (claims· .11) T70 (Num.vLit 1, (record { pos = 29; ty = Syntax.tyRef Syntax.erased Syntax.imm (Syntax.tyInt Syntax.w8); ref = λ x. x }, tt)) (m49 record { before = record { before = record { before = record { before = record { before = record { before = record { before = record { before = record { before = c .before; read = c .read }; rows = record { given = g } }; firsts = record { given = g' } }; slice-known3 = record { given = g'' } }; outcomes = record { given = g'3 } }; slice-known4 = record { given = g'4 } }; match = record { keys2 = k } }; r2 = record { given = g'8 } }; known-told2 = record { given = g'9 } } g'10) g'11 }))), Match.each-below 2 (λ j. (Unit {0} × (Run.OneOf (List._∷_ 1 List.[]) j → ⊥)) × (Run.OneOf (List._∷_ 0 List.[]) j → ⊥) → ⊥) (λ n. n .0 .1 Path'.refl, (λ n. n .1 Path'.refl, tt)) (Declared.tagOf ReadAnswer.the-type (Row.get 6 (T27 .locals) (m17 record { before = record { before = record { before = record { before = record { before = c .before; read = c .read }; rows = record { given = g } }; firsts = record { given = g' } }; slice-known3 = record { given = g'' } }; outcomes = record { given = g'3 } } g'4))) (Match.tag-small ReadAnswer.the-type (Row.get 6 (T27 .locals) (m17 record { before = record { before = record { before = record { before = record { before = c .before; read = c .read }; rows = record { given = g } }; firsts = record { given = g' } }; slice-known3 = record { given = g'' } }; outcomes = record { given = g'3 } } g'4))))))))
+        lay1 : (c : After-read) → at108 (W0 (c .before .before .before .before .before .before .before .κs) (c .before .before .before .before .before .before .before .args)) (m12 (c .before) (After-read·gave c))
+        lay1 = λ c. (Path'.refl, λ g. (Path'.refl, λ g'. λ g''. (Path'.refl, λ g'3. λ g'4. (λ k. (enum-known-r record { before = record { before = record { before = record { before = record { before = record { before = record { before = c .before; read = c .read }; rows = record { given = g } }; firsts = record { given = g' } }; slice-known3 = record { given = g'' } }; outcomes = record { given = g'3 } }; slice-known4 = record { given = g'4 } }; match = record { keys1 = k } }, λ g'5. λ g'6. (number-requires record { before = record { before = record { before = record { before = record { before = record { before = record { before = record { before = record { before = c .before; read = c .read }; rows = record { given = g } }; firsts = record { given = g' } }; slice-known3 = record { given = g'' } }; outcomes = record { given = g'3 } }; slice-known4 = record { given = g'4 } }; match = record { keys1 = k } }; r = record { given = g'5 } }; known-told = record { given = g'6 } }, λ g'7. lay2 record { before = record { before = record { before = record { before = record { before = record { before = record { before = record { before = record { before = record { before = c .before; read = c .read }; rows = record { given = g } }; firsts = record { given = g' } }; slice-known3 = record { given = g'' } }; outcomes = record { given = g'3 } }; slice-known4 = record { given = g'4 } }; match = record { keys1 = k } }; r = record { given = g'5 } }; known-told = record { given = g'6 } }; number = Called.called ps·1 r·1 (claims· .3) T33 (record { pos = 7; st = List.[]; d = 0; at = λ x. x }, tt) (m22 record { before = record { before = record { before = record { before = record { before = record { before = record { before = record { before = c .before; read = c .read }; rows = record { given = g } }; firsts = record { given = g' } }; slice-known3 = record { given = g'' } }; outcomes = record { given = g'3 } }; slice-known4 = record { given = g'4 } }; match = record { keys1 = k } }; r = record { given = g'5 } } g'6) g'7 })), (λ k. (enum-known-r-2 record { before = record { before = record { before = record { before = record { before = record { before = record { before = c .before; read = c .read }; rows = record { given = g } }; firsts = record { given = g' } }; slice-known3 = record { given = g'' } }; outcomes = record { given = g'3 } }; slice-known4 = record { given = g'4 } }; match = record { keys2 = k } }, λ g'8. λ g'9. λ g'10. (Relend.count-is T71 29 30 (λ x. x) (λ u. 4) (m50 record { before = record { before = record { before = record { before = record { before = record { before = record { before = record { before = record { before = c .before; read = c .read }; rows = record { given = g } }; firsts = record { given = g' } }; slice-known3 = record { given = g'' } }; outcomes = record { given = g'3 } }; slice-known4 = record { given = g'4 } }; match = record { keys2 = k } }; r2 = record { given = g'8 } }; known-told2 = record { given = g'9 } } g'10) (slice-aggregate-write-all record { before = record { before = record { before = record { before = record { before = record { before = record { before = record { before = record { before = record { before = c .before; read = c .read }; rows = record { given = g } }; firsts = record { given = g' } }; slice-known3 = record { given = g'' } }; outcomes = record { given = g'3 } }; slice-known4 = record { given = g'4 } }; match = record { keys2 = k } }; r2 = record { given = g'8 } }; known-told2 = record { given = g'9 } }; write-all-arg = record { given = g'10 } }), (write-all-requires record { before = record { before = record { before = record { before = record { before = record { before = record { before = record { before = record { before = record { before = c .before; read = c .read }; rows = record { given = g } }; firsts = record { given = g' } }; slice-known3 = record { given = g'' } }; outcomes = record { given = g'3 } }; slice-known4 = record { given = g'4 } }; match = record { keys2 = k } }; r2 = record { given = g'8 } }; known-told2 = record { given = g'9 } }; write-all-arg = record { given = g'10 } }, λ g'11. lay5 record { before = record { before = record { before = record { before = record { before = record { before = record { before = record { before = record { before = record { before = record { before = c .before; read = c .read }; rows = record { given = g } }; firsts = record { given = g' } }; slice-known3 = record { given = g'' } }; outcomes = record { given = g'3 } }; slice-known4 = record { given = g'4 } }; match = record { keys2 = k } }; r2 = record { given = g'8 } }; known-told2 = record { given = g'9 } }; write-all-arg = record { given = g'10 } }; write-all = Called.called ps·5 r·5 (claims· .11) T72 (Num.vLit 1, (record { pos = 30; ty = Syntax.tyRef Syntax.erased Syntax.imm (Syntax.tyInt Syntax.w8); ref = λ x. x }, tt)) (m51 record { before = record { before = record { before = record { before = record { before = record { before = record { before = record { before = record { before = c .before; read = c .read }; rows = record { given = g } }; firsts = record { given = g' } }; slice-known3 = record { given = g'' } }; outcomes = record { given = g'3 } }; slice-known4 = record { given = g'4 } }; match = record { keys2 = k } }; r2 = record { given = g'8 } }; known-told2 = record { given = g'9 } } g'10) g'11 }))), Match.each-below 2 (λ j. (Unit {0} × (Run.OneOf (List._∷_ 1 List.[]) j → ⊥)) × (Run.OneOf (List._∷_ 0 List.[]) j → ⊥) → ⊥) (λ n. n .0 .1 Path'.refl, (λ n. n .1 Path'.refl, tt)) (Declared.tagOf ReadAnswer.the-type (Row.get 6 (T27 .locals) (m17 record { before = record { before = record { before = record { before = record { before = c .before; read = c .read }; rows = record { given = g } }; firsts = record { given = g' } }; slice-known3 = record { given = g'' } }; outcomes = record { given = g'3 } } g'4))) (Match.tag-small ReadAnswer.the-type (Row.get 6 (T27 .locals) (m17 record { before = record { before = record { before = record { before = record { before = c .before; read = c .read }; rows = record { given = g } }; firsts = record { given = g' } }; slice-known3 = record { given = g'' } }; outcomes = record { given = g'3 } } g'4))))))))
 
-        pub laid : (c : Start) → at122 (W0 (c .κs) (c .args)) (m0 (c .κs) (c .args))
-        laid = λ c. λ g. λ g'. λ g''. λ g'3. (Path'.refl, λ g'4. (Path'.refl, λ g'5. (Path'.refl, (read-requires record { before = record { before = record { before = record { before = record { before = record { before = c; shared-slice-known = record { given = g } }; slice-known = record { given = g' } }; slice-known2 = record { given = g'' } }; read-arg = record { given = g'3 } }; read-arg2 = record { given = g'4 } }; read-arg3 = record { given = g'5 } }, λ g'6. lay1 record { before = record { before = record { before = record { before = record { before = record { before = record { before = c; shared-slice-known = record { given = g } }; slice-known = record { given = g' } }; slice-known2 = record { given = g'' } }; read-arg = record { given = g'3 } }; read-arg2 = record { given = g'4 } }; read-arg3 = record { given = g'5 } }; read = Called.called ps·0 r·0 (claims· .1) T15 (record { pos = 1; ty = Syntax.tyRef (Syntax.named 0) Syntax.imm (Syntax.tyInt Syntax.w8); ref = λ x. x }, (record { pos = 13; ty = Syntax.tyRef Syntax.erased Syntax.mut (Memory.pointee (T.the-row .written)); ref = λ x. x }, (record { pos = 15; ty = Syntax.tyRef Syntax.erased Syntax.mut (Syntax.tyInt Syntax.w16); ref = λ x. x }, (record { pos = 17; ty = Syntax.tyRef Syntax.erased Syntax.mut (Syntax.tyInt Syntax.w16); ref = λ x. x }, tt)))) (m11 record { before = record { before = record { before = record { before = record { before = c; shared-slice-known = record { given = g } }; slice-known = record { given = g' } }; slice-known2 = record { given = g'' } }; read-arg = record { given = g'3 } }; read-arg2 = record { given = g'4 } } g'5) g'6 }))))
+        pub laid : (c : Start) → at123 (W0 (c .κs) (c .args)) (m0 (c .κs) (c .args))
+        laid = λ c. λ g. λ g'. λ g''. λ g'3. (Path'.refl, λ g'4. (Path'.refl, λ g'5. (Path'.refl, (read-requires record { before = record { before = record { before = record { before = record { before = record { before = c; shared-slice-known = record { given = g } }; slice-known = record { given = g' } }; slice-known2 = record { given = g'' } }; read-arg = record { given = g'3 } }; read-arg2 = record { given = g'4 } }; read-arg3 = record { given = g'5 } }, λ g'6. lay1 record { before = record { before = record { before = record { before = record { before = record { before = record { before = c; shared-slice-known = record { given = g } }; slice-known = record { given = g' } }; slice-known2 = record { given = g'' } }; read-arg = record { given = g'3 } }; read-arg2 = record { given = g'4 } }; read-arg3 = record { given = g'5 } }; read = Called.called ps·0 r·0 (claims· .1) T15 (record { pos = 1; ty = Syntax.tyRef (Syntax.named 0) Syntax.imm (Syntax.tyInt Syntax.w8); ref = λ x. x }, (record { pos = 14; ty = Syntax.tyRef Syntax.erased Syntax.mut (Memory.pointee (T.the-row .written)); ref = λ x. x }, (record { pos = 16; ty = Syntax.tyRef Syntax.erased Syntax.mut (Syntax.tyInt Syntax.w16); ref = λ x. x }, (record { pos = 18; ty = Syntax.tyRef Syntax.erased Syntax.mut (Syntax.tyInt Syntax.w16); ref = λ x. x }, tt)))) (m11 record { before = record { before = record { before = record { before = record { before = c; shared-slice-known = record { given = g } }; slice-known = record { given = g' } }; slice-known2 = record { given = g'' } }; read-arg = record { given = g'3 } }; read-arg2 = record { given = g'4 } } g'5) g'6 }))))
 
         module _ (κs : Lifetimes.Lfts 4) (qs : Lifetimes.Shares 4) where
           pub asked : (a : Kinds.Dens κs ps) → (good : Kinds.GoodsP κs ps a) → (pre : Pre· κs a) → (bs : List.List Nat.ℕ) → Φ (Any.wantQ 4 ps r xs m κs qs a (Post· κs a)) (Function.init 4 ps r xs m κs qs a)
