@@ -100,6 +100,12 @@ def among_dead(plan, seed):
     return Plan([next(dead) if s is None else s for s in states], old[plan.start])
 
 
+def fans():
+    """40 states, by turns with 40 commands of one outcome and with one command of 40 outcomes."""
+    every = range(40)
+    return Plan([State(0, [[o] for o in every], i) if i % 2 else State(0, [every]) for i in every])
+
+
 def case_a():
     return Plan([State(0, [[1], [2, 3]], 1), State(0, [[0, 1]], 0), rest(), State(0, [[4], [2, 4]], 0), failing(), State(0, [[3]])])
 
@@ -129,6 +135,7 @@ def trimmed_shapes():
         yield among_dead(plan, seed)
     for seed in range(500, 560):
         yield scattered(seed, 2 + seed % 14, 2, 2, (3, 1, 1))
+    yield among_dead(fans(), 560)
 
 
 def small_shapes():

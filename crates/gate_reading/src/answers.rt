@@ -13,6 +13,7 @@ use store::encoding::store;
 use store::encoding::store_size;
 use tables::Refusal;
 use tables::Size;
+use tables::admission::long_enough;
 use tables::entries::ENTRY_BYTES;
 use tables::rows::ROW_BYTES;
 use tables::rows::SIZE_BYTES;
@@ -21,13 +22,13 @@ use tables::rows::SIZE_BYTES;
 fn room(z: Size, size: usize, rows: usize, firsts: usize, outcomes: usize) -> bool
     ensures { λ r. ⌜ r ≡ readRoom (numbers z) size rows firsts outcomes ⌝ }
 {
-    if rows / ROW_BYTES < z.n {
-        return false;
-    }
-    if firsts / ENTRY_BYTES < z.m {
-        return false;
-    }
-    if outcomes / ENTRY_BYTES < z.t {
+    let long = long_enough(
+        z,
+        rows / ROW_BYTES,
+        firsts / ENTRY_BYTES,
+        outcomes / ENTRY_BYTES,
+    );
+    if !long {
         return false;
     }
     SIZE_BYTES <= size

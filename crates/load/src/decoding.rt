@@ -1,12 +1,12 @@
 // What the calls of the gate controller's C program read the lent plan with. Only the planner's own crates call this.
 ghost use mathlib.Core.Path.{_≡_};
-ghost use Prim.Native.Nat.{_+_, _*_, _/_, _<_, _≤_};
+ghost use Prim.Native.Nat.{_+_, _*_, _<_, _≤_};
 ghost use lib.ListN.{length, take};
 ghost use Rattle.laws.specs.Lists.{overwrite};
 ghost use Rattle.laws.specs.Entry.{be16};
 ghost use Rattle.model.specs.Refusal.{answer};
 ghost use Rattle.model.specs.File.{maxStates, maxCommands, maxOutcomes};
-ghost use Rattle.model.specs.Tables.{Tables, enough};
+ghost use Rattle.model.specs.Tables.{Tables};
 ghost use Rattle.model.specs.Calls.{left};
 ghost use Rattle.model.specs.Boundary.{entriesIn, rowsIn, rowIn, sizeIn, entryBytes, rowBytes, sizeBytes};
 ghost use Rattle.tables.specs.Meaning.{numbers, rowOf, rowsOf};
@@ -14,6 +14,7 @@ ghost use Rattle.load.specs.Loading.{few, loading, answerOf};
 use tables::Refusal;
 use tables::Row;
 use tables::Size;
+use tables::admission::long_enough;
 use tables::entries::ENTRY_BYTES;
 use tables::entries::join;
 use tables::entries::wide;
@@ -99,19 +100,6 @@ fn few(size: Size) -> bool
     size.t <= Size::OUTCOMES
 }
 
-// No slice, of so many bytes, is shorter than its count.
-fn long(size: Size, rows: usize, firsts: usize, outcomes: usize) -> bool
-    ensures { λ r. ⌜ r ≡ enough (numbers size) (rows / rowBytes) (firsts / entryBytes) (outcomes / entryBytes) ⌝ }
-{
-    if rows / ROW_BYTES < size.n {
-        return false;
-    }
-    if firsts / ENTRY_BYTES < size.m {
-        return false;
-    }
-    size.t <= outcomes / ENTRY_BYTES
-}
-
 // The lent plan's size record, where tables of the limits' lengths hold the plan; else it is unsound.
 fn plan_size(size: &[u8], rows: &[u8], firsts: &[u8], outcomes: &[u8]) -> PlanAnswer
     ensures { λ r. ⌜
@@ -126,7 +114,13 @@ fn plan_size(size: &[u8], rows: &[u8], firsts: &[u8], outcomes: &[u8]) -> PlanAn
     if !few(read) {
         return PlanAnswer::Refused(Refusal::Unsound);
     }
-    if !long(read, rows.len(), firsts.len(), outcomes.len()) {
+    let long = long_enough(
+        read,
+        rows.len() / ROW_BYTES,
+        firsts.len() / ENTRY_BYTES,
+        outcomes.len() / ENTRY_BYTES,
+    );
+    if !long {
         return PlanAnswer::Refused(Refusal::Unsound);
     }
     PlanAnswer::Given(read)

@@ -15,7 +15,7 @@ use Rattle.model.specs.Contest.{keeperTurn, maxMoves, contestCall, Conte
 use Rattle.model.proofs.StateCalls.{stateCall, state-given}
 use Rattle.model.proofs.HeldPlan.{states-held}
 use Rattle.model.proofs.Valid.{sound-valid}
-use Rattle.model.proofs.Delivered.{ranks-read}
+use Rattle.model.proofs.Delivered.{entries-read}
 use Rattle.model.proofs.Contests.{turn-fewer, contest-ranked, contest-exactly, contest-rules}
 
 -- the test of the moves
@@ -54,7 +54,7 @@ contested T s k held e =
     rw (← (w .is)) record {
       exactly = contest-exactly (planIn T) S k s l;
       by-ranks = λ ranks commands marks scratch counts d.
-          rw (ranks-read T ranks commands marks scratch counts d s (w .inside)) (contest-ranked (planIn T) S k s l);
+          rw (entries-read T ranks commands marks scratch counts d s (w .inside) .0) (contest-ranked (planIn T) S k s l);
       fewer = λ h j m.
           contest-iff T s j true .1 (record {
             sounds = w .sounds;

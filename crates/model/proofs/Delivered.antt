@@ -31,16 +31,29 @@ entry-written f n table s default h =
     getD-overwrite-below (tabulate f 0 n) table s default (rw (length-tabulate f 0 n) h) ∙ tabulate-at f n s default h
 
 module _ (T : Tables) (sounds : sound T ≡ true) where
+  few : planIn T .states < 65535
+  unfolding planIn
+  few = omega (arith, few-states (treeOf T) (sound-good T sounds))
+
+  fit : (s : ℕ) → s < planIn T .states → planIn T .commands s < 65535
+  unfolding planIn
+  fit s l = omega (arith, few-commands (treeOf T) (sound-good T sounds) s l)
+
+  -- ranks and chosen commands are read from their entries
+  pub rank-of-entry : (s : ℕ) → fromEntry (entry (rank (planIn T) s)) ≡ rank (planIn T) s
+  rank-of-entry = rank-entry (planIn T) (sound-valid T sounds) few fit
+
+  chosen-of-entry : (s : ℕ) → s < planIn T .states → fromEntry (entry (chosen (planIn T) s)) ≡ chosen (planIn T) s
+  chosen-of-entry = chosen-entry (planIn T) (sound-valid T sounds) few fit
+
   -- the tables of ranks and commands of a sound plan, and the search's, whatever the tables held before
   of-tables : (ranks commands : List ℕ) (a : ℕ) → a < T .size .n → (table : List ℕ)
       → Demand3 (planIn T) (overwrite (rankTable (planIn T)) ranks) (overwrite (commandTable (planIn T)) commands) a
       (search (planIn T) a .lost) (search (planIn T) a .rounds) (overwrite (resultTable (T .size .n) (search (planIn T) a)) table)
-  unfolding rankTable commandTable resultTable planIn
+  unfolding rankTable commandTable resultTable
   of-tables ranks commands a inside table =
-      let g = sound-good T sounds in
       let n = states-held T in
-      demand3 (planIn T) (sound-valid T sounds) (omega (arith, few-states (treeOf T) g))
-      (λ s h. omega (arith, few-commands (treeOf T) g s h))
+      demand3 (planIn T) (sound-valid T sounds) few fit
       _ _ _
       (λ s h. entry-written (λ t. entry (rank (planIn T) t)) (planIn T .states) ranks s FFFF h)
       (λ s h. entry-written (λ t. entry (chosen (planIn T) t)) (planIn T .states) commands s FFFF h)
@@ -66,46 +79,21 @@ module _ (T : Tables) (sounds : sound T ≡ true) where
       let D = deciding-iff T (length ranks) (length commands) (length marks) (length scratch) P .0 decided in
       rw (decided, ← (D .is)) (of-tables ranks commands a inside table)
 
--- a rank's entry is read as the rank
-pub rank-of-entry : (T : Tables) → sound T ≡ true → (s : ℕ) → fromEntry (entry (rank (planIn T) s)) ≡ rank (planIn T) s
-unfolding planIn
-rank-of-entry T sounds =
-    let g = sound-good T sounds in
-    rank-entry (planIn T) (sound-valid T sounds) (omega (arith, few-states (treeOf T) g))
-    (λ t h. omega (arith, few-commands (treeOf T) g t h))
-
--- the ranks that deciding leaves are read as what they are
-pub ranks-read : (T : Tables) (ranks commands marks scratch : List ℕ) (counts : List (List ℕ))
-    → decideCall T ranks commands marks scratch .answers ≡ given counts
-    → (s : ℕ) → s < T .size .n → readEntry (decideCall T ranks commands marks scratch .ranks) s ≡ rank (planIn T) s
-unfolding left rankTable readEntry
-ranks-read T ranks commands marks scratch counts e s inside =
-    let (P, decided, _) = answer-inv tally _ counts e in
-    let D = deciding-iff T (length ranks) (length commands) (length marks) (length scratch) P .0 decided in
-    rw (decided, ← (D .is))
-    (ap fromEntry (entry-written (λ t. entry (rank (planIn T) t)) (planIn T .states) ranks s FFFF (rw (states-held T) inside))
-    ∙ rank-of-entry T (D .sounds) s)
-
--- and the commands
-chosen-of-entry : (T : Tables) → sound T ≡ true → (s : ℕ) → s < planIn T .states
-    → fromEntry (entry (chosen (planIn T) s)) ≡ chosen (planIn T) s
-unfolding planIn
-chosen-of-entry T sounds =
-    let g = sound-good T sounds in
-    chosen-entry (planIn T) (sound-valid T sounds) (omega (arith, few-states (treeOf T) g))
-    (λ t h. omega (arith, few-commands (treeOf T) g t h))
-
-pub commands-read : (T : Tables) (ranks commands marks scratch : List ℕ) (counts : List (List ℕ))
-    → decideCall T ranks commands marks scratch .answers ≡ given counts
-    → (s : ℕ) → s < T .size .n → readEntry (decideCall T ranks commands marks scratch .commands) s ≡ chosen (planIn T) s
-unfolding left commandTable readEntry
-commands-read T ranks commands marks scratch counts e s inside =
+-- the ranks and commands that deciding leaves are read as what they are
+pub entries-read : (T : Tables) (ranks commands marks scratch : List ℕ) (counts : List (List ℕ))
+    → let D = decideCall T ranks commands marks scratch in
+    D .answers ≡ given counts → (s : ℕ) → s < T .size .n
+    → (readEntry (D .ranks) s ≡ rank (planIn T) s) × (readEntry (D .commands) s ≡ chosen (planIn T) s)
+unfolding left rankTable commandTable readEntry
+entries-read T ranks commands marks scratch counts e s inside =
     let (P, decided, _) = answer-inv tally _ counts e in
     let D = deciding-iff T (length ranks) (length commands) (length marks) (length scratch) P .0 decided in
     let l : s < planIn T .states = rw (states-held T) inside in
-    rw (decided, ← (D .is))
-    (ap fromEntry (entry-written (λ t. entry (chosen (planIn T) t)) (planIn T .states) commands s FFFF l)
-    ∙ chosen-of-entry T (D .sounds) s l)
+    rw (decided, ← (D .is)) (
+      ap fromEntry (entry-written (λ t. entry (rank (planIn T) t)) (planIn T .states) ranks s FFFF l) ∙ rank-of-entry T (D .sounds) s,
+      ap fromEntry (entry-written (λ t. entry (chosen (planIn T) t)) (planIn T .states) commands s FFFF l)
+          ∙ chosen-of-entry T (D .sounds) s l,
+    )
 
 -- of deciding's call, where it answers
 pub decide-demand3 : (T : Tables) (ranks commands marks scratch : List ℕ) (counts : List (List ℕ))

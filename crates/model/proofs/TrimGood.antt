@@ -12,7 +12,6 @@ use Rattle.laws.proofs.All.{all-of}
 use Rattle.laws.proofs.Counts.{many-yes, many-upto}
 use Rattle.laws.proofs.Joins.{length-joined}
 use Rattle.laws.proofs.PassingSums.{passing-sum}
-use Rattle.laws.proofs.Maps.{length-joined-map}
 use Rattle.model.specs.Refusal.{given}
 use Rattle.model.specs.File.{Tree, rising}
 use Rattle.model.specs.Tables.{Size, allCommands, tablesOf}
@@ -23,6 +22,8 @@ use Rattle.model.proofs.Risings.{rising-cons}
 use Rattle.model.proofs.TrimmedPlan.{
   kept,
   oldNumber,
+  same-commands,
+  same-outcomes,
   trim-few,
   trim-state,
   old-kept,
@@ -43,7 +44,7 @@ module _ (p : Tree) where
   trim-few-commands =
       passing-sum (λ s. length (s .commands)) (λ ss. length (allCommands ss)) refl (λ s ss. length-append (s .commands) (allCommands ss))
       (kept p) (λ s. trimState (newNumber p) (stateOf p s)) (p .states) _
-      (λ i. le-of-eq (length-map (stateOf p i .commands) (map (newNumber p))))
+      (λ i. le-of-eq (same-commands (newNumber p) (stateOf p i)))
 
   trim-few-outcomes : length (joined (allCommands (trimTree p .states))) ≤ length (joined (allCommands (p .states)))
   unfolding trimTree mapOf trimState stateOf allCommands joined
@@ -51,7 +52,7 @@ module _ (p : Tree) where
       passing-sum (λ s. length (joined (s .commands))) (λ ss. length (joined (allCommands ss))) refl
       (λ s ss. length-joined (s .commands) (allCommands ss))
       (kept p) (λ s. trimState (newNumber p) (stateOf p s)) (p .states) _
-      (λ i. le-of-eq (length-joined-map (newNumber p) (stateOf p i .commands)))
+      (λ i. le-of-eq (same-outcomes (newNumber p) (stateOf p i)))
 
   pub trim-no-larger : NoLarger (trimmed p .size) (tablesOf p .size)
   unfolding tablesOf
@@ -90,12 +91,12 @@ module _ (p : Tree) where
     trim-good-state s e =
         let cs = stateOf p s .commands in
         let good = good-state p g s (kept-inside p g s e) in
-        let count : length (map (map (newNumber p)) cs) ≡ length cs = length-map cs (map (newNumber p)) in
+        let count = same-commands (newNumber p) (stateOf p s) in
         record {
           low = good .low;
           works = rw count (good .works);
           good = all-of (map (map (newNumber p)) cs) [] (λ c l.
-              rw (List·getD-map (map (newNumber p)) cs c []) (trim-good-command s c e (omega arith)));
+              rw (List·getD-map (map (newNumber p)) cs c []) (trim-good-command s c e (omega (arith, count))));
         }
 
     trim-start : trimTree p .start < length (trimTree p .states)

@@ -19,7 +19,7 @@ use Rattle.model.proofs.SameSound.{same-back, same-on}
 use Rattle.model.proofs.TablesBack.{tables-back}
 use Rattle.model.proofs.GoodTables.{sound-good}
 use Rattle.model.proofs.Soundness.{sound-iff}
-use Rattle.model.proofs.Delivered.{ranks-read, commands-read}
+use Rattle.model.proofs.Delivered.{entries-read}
 use Rattle.model.proofs.TrimmedPlan.{trim-long}
 use Rattle.model.proofs.TrimGood.{NoLarger, trim-no-larger}
 use Rattle.model.proofs.TrimKeeps.{trim-keeps}
@@ -36,12 +36,10 @@ module _ (T U : Tables) (old : ℕ → ℕ) (k : Keeps (planIn T) (planIn U) old
       → (readEntry (E .ranks) i ≡ readEntry (D .ranks) (old i)) × (readEntry (E .commands) i ≡ readEntry (D .commands) (old i))
   kept-entries ranks commands marks scratch ranks′ commands′ marks′ scratch′ counts counts′ d e i l =
       let inside : i < planIn U .states = rw (states-held U) l in
-      let old-inside : old i < T .size .n = omega (arith, k .inside i inside, states-held T) in (
-        ranks-read U ranks′ commands′ marks′ scratch′ counts′ e i l ∙ k .ranks i inside
-            ∙ sym (ranks-read T ranks commands marks scratch counts d (old i) old-inside),
-        commands-read U ranks′ commands′ marks′ scratch′ counts′ e i l ∙ k .choices i inside
-            ∙ sym (commands-read T ranks commands marks scratch counts d (old i) old-inside),
-      )
+      let old-inside : old i < T .size .n = omega (arith, k .inside i inside, states-held T) in
+      let (new-rank, new-choice) = entries-read U ranks′ commands′ marks′ scratch′ counts′ e i l in
+      let (old-rank, old-choice) = entries-read T ranks commands marks scratch counts d (old i) old-inside in
+      (new-rank ∙ k .ranks i inside ∙ sym old-rank, new-choice ∙ k .choices i inside ∙ sym old-choice)
 
 module _ (T : Tables) (rows : List Row) (firsts outcomes olds scratch : List ℕ) (z : Size)
     (answered : trimCall T rows firsts outcomes olds scratch .answers ≡ given z) where

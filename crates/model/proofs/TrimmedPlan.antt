@@ -6,9 +6,10 @@ use Prim.Native.Nat.{ℕ, _<_, _≤_}
 use native.Mathlib.Omega.{arith}
 use lib.ListN.{length, getD, length-map, List·getD-map}
 use borrow.Author.Tests.{eq-eqb}
+use Rattle.laws.specs.Lists.{joined}
 use Rattle.laws.specs.Sets.{howMany}
 use Rattle.laws.proofs.Sets.{many-bound}
-use Rattle.laws.proofs.Maps.{getD-map}
+use Rattle.laws.proofs.Maps.{getD-map, length-joined-map}
 use Rattle.laws.proofs.Passing.{Stands, many-above, length-passing, passing-at, at-passing, passing-rises}
 use Rattle.model.specs.Plan.{ordinary}
 use Rattle.model.specs.File.{State, Tree}
@@ -26,6 +27,16 @@ kept p = entered (planOf p)
 -- the old number of a kept state
 abbrev pub oldNumber : Tree → ℕ → ℕ
 oldNumber p i = getD (mapOf p) i 0
+
+-- a trimmed state has as many commands and outcomes
+module _ (new : ℕ → ℕ) (s : State) where
+  pub same-commands : length (trimState new s .commands) ≡ length (s .commands)
+  unfolding trimState
+  same-commands = length-map (s .commands) _
+
+  pub same-outcomes : length (joined (trimState new s .commands)) ≡ length (joined (s .commands))
+  unfolding trimState
+  same-outcomes = length-joined-map _ (s .commands)
 
 module _ (p : Tree) where
   map-count : length (mapOf p) ≡ howMany (kept p) (length (p .states))
@@ -68,8 +79,7 @@ module _ (p : Tree) where
     trim-state = getD-map (λ s. trimState (newNumber p) (stateOf p s)) (mapOf p) i 0 _ (omega (arith, trim-long))
 
     trim-commands : length (stateOf (trimTree p) i .commands) ≡ length (stateOf p (oldNumber p i) .commands)
-    unfolding trimState
-    trim-commands = ap (λ (s : State). length (s .commands)) trim-state ∙ length-map (stateOf p (oldNumber p i) .commands) _
+    trim-commands = ap (λ (s : State). length (s .commands)) trim-state ∙ same-commands (newNumber p) _
 
   -- a kept state and its new number
   module _ (x : ℕ) (l : x < length (p .states)) (e : kept p x ≡ true) where

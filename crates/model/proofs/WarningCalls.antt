@@ -20,7 +20,7 @@ use Rattle.model.proofs.StateCalls.{stateCall, state-given}
 use Rattle.model.proofs.HeldPlan.{states-held}
 use Rattle.model.proofs.SoundFacts.{sound-facts}
 use Rattle.model.proofs.Valid.{sound-valid}
-use Rattle.model.proofs.Delivered.{ranks-read}
+use Rattle.model.proofs.Delivered.{entries-read}
 use Rattle.model.proofs.Warnings.{
   time-left,
   unlimited,
@@ -87,7 +87,7 @@ warned T s d answer e =
       left-over = λ t q. let (r, _, is) = limited (rank P s) d t q in rw is (time-left (r * d));
       fits = warned-fits P S s l d (rw (states-held T) (sound-facts T .0 (w .sounds) .size .few)) (w .few-seconds);
       by-ranks = λ ranks commands marks scratch counts q.
-          rw (ranks-read T ranks commands marks scratch counts q s (w .inside)) (unlimited (rank P s) d, limit-exact (rank P s) d);
+          rw (entries-read T ranks commands marks scratch counts q s (w .inside) .0) (unlimited (rank P s) d, limit-exact (rank P s) d);
       at-once = warned-failing P S s l d (w .some-length);
       within = warned-within P s d;
       not-sooner = warned-later P s d;

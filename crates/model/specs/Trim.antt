@@ -40,6 +40,7 @@ withCommands s cs = record { kind = s .kind; practice = s .practice; commands = 
 unfoldable pub trimState : (ℕ → ℕ) → State → State
 trimState new s = withCommands s (map (map new) (s .commands))
 
+-- rules X2 and X3: the kept states in the sequence of their old numbers, and the start, all under new numbers
 unfoldable pub trimTree : Tree → Tree
 trimTree p = record { start = newNumber p (p .start); states = map (λ s. trimState (newNumber p) (stateOf p s)) (mapOf p) }
 
@@ -49,7 +50,7 @@ trimmed p = tablesOf (trimTree p)
 
 -- ---- the call
 
--- room for a plan of size z that is trimmed from one of n states: for the plan, its map, and in scratch for the old states
+-- rule C11: room for a plan of size z that is trimmed from one of n states: for the plan, its map, and in scratch for the old states
 abbrev pub trimRoom : Size → ℕ → ℕ → ℕ → ℕ → ℕ → ℕ → Bool
 trimRoom z n rows firsts outcomes olds scratch = enough z rows firsts outcomes && leb (z .n) olds && leb n scratch
 

@@ -17,7 +17,7 @@ use Rattle.model.specs.Calls.{decideCall}
 use Rattle.model.specs.Demand3.{readEntry}
 use Rattle.model.specs.Trim.{trimCall, afterTrimming}
 
--- some run from the start ends at x
+-- rule X1: some run from the start ends at x
 pub record Enters (P : Plan) (x : ℕ) : Type 0 where
   pub run : Run
   pub is-run : IsRun P (P .start) run

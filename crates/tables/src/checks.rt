@@ -13,6 +13,7 @@ ghost use Rattle.tables.specs.Ready.{listTable};
 ghost use Rattle.tables.specs.Lasts.{listBelow};
 use crate::Row;
 use crate::Size;
+use crate::admission::long_enough;
 use crate::entries::at;
 use crate::entries::start_of;
 use crate::spans::Span;
@@ -41,13 +42,7 @@ pub fn size_sound(size: Size) -> bool
 pub fn long(size: Size, rows: usize, firsts: &[u16], outcomes: &[u16]) -> bool
     ensures { λ r. ⌜ ((R : List Row) → rows ≡ length R → r ≡ tablesLong (held size R (now (firsts .entry)) (now (outcomes .entry)))) ⌝ }
 {
-    if rows < size.n {
-        return false;
-    }
-    if firsts.len() < size.m {
-        return false;
-    }
-    size.t <= outcomes.len()
+    long_enough(size, rows, firsts.len(), outcomes.len())
 }
 
 fn span_sound(span: Span, m: usize) -> bool

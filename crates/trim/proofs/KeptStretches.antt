@@ -18,6 +18,12 @@ use Rattle.trim.specs.Kept.{Kept}
 use Rattle.trim.proofs.KeptStates.{kept-old, kept-inside}
 use Rattle.trim.proofs.Stretching.{InStretch, state-stretch}
 
+-- r is the stretch of new state i
+abbrev pub StretchOf : Size → List Row → List ℕ → List ℕ → ℕ → Stretch → Type 0
+StretchOf size rows firsts outcomes i r =
+    let p = treeOf (held size rows firsts outcomes) in
+    InStretch size firsts outcomes (stateOf p (oldNumber p i) .commands) r
+
 module _ (size : Size) (rows : List Row) (firsts outcomes : List ℕ) {kept : List ℕ} {n : ℕ}
     (k : Kept (treeOf (held size rows firsts outcomes)) kept n) (i : ℕ) (l : i < n) {s : ℕ} (is : s ≡ getD kept i 0) where
   pub kept-old-is : s ≡ oldNumber (treeOf (held size rows firsts outcomes)) i
@@ -27,6 +33,5 @@ module _ (size : Size) (rows : List Row) (firsts outcomes : List ℕ) {kept : Li
   kept-in-plan = omega (arith, is, kept-inside k i l, tree-count (held size rows firsts outcomes))
 
   pub kept-stretch : sound (held size rows firsts outcomes) ≡ true → {r : Stretch} → r ≡ stretchAt (held size rows firsts outcomes) s
-      → InStretch size firsts outcomes
-      (stateOf (treeOf (held size rows firsts outcomes)) (oldNumber (treeOf (held size rows firsts outcomes)) i) .commands) r
+      → StretchOf size rows firsts outcomes i r
   kept-stretch sounds e = rw kept-old-is at (state-stretch size rows firsts outcomes sounds s kept-in-plan e)

@@ -1,16 +1,15 @@
 -- The states of the trimmed plan from new number i on: what a loop over the kept states has still before it.
 use mathlib.Core.Path.{_≡_, sym, ap, ap₂, _∙_}
-use mathlib.Core.List.{List, [], _∷_, map}
+use mathlib.Core.List.{List, [], _∷_}
 use Prim.Native.Nat.{ℕ, _+_, _<_, _≤_}
 use native.Mathlib.Numerals.{add-one}
-use lib.ListN.{length, drop, length-map, drop-of-length-le}
+use lib.ListN.{length, drop, drop-of-length-le}
 use lib.Seq.{drop-cons}
 use Rattle.laws.specs.Lists.{joined}
-use Rattle.laws.proofs.Maps.{length-joined-map}
 use Rattle.model.specs.File.{State, Tree}
 use Rattle.model.specs.Held.{stateOf}
 use Rattle.model.specs.Trim.{newNumber, trimState, trimTree}
-use Rattle.model.proofs.TrimmedPlan.{oldNumber, trim-state}
+use Rattle.model.proofs.TrimmedPlan.{oldNumber, same-commands, same-outcomes, trim-state}
 
 -- the trimmed state i
 abbrev pub trimmedAt : Tree → ℕ → State
@@ -31,9 +30,7 @@ module _ (p : Tree) (i : ℕ) where
 
   -- it has as many commands and outcomes as the old one
   pub trimmed-commands : length (trimmedAt p i .commands) ≡ length (stateOf p (oldNumber p i) .commands)
-  unfolding trimState
-  trimmed-commands = length-map (stateOf p (oldNumber p i) .commands) (map (newNumber p))
+  trimmed-commands = same-commands (newNumber p) (stateOf p (oldNumber p i))
 
   pub trimmed-outcomes : length (joined (trimmedAt p i .commands)) ≡ length (joined (stateOf p (oldNumber p i) .commands))
-  unfolding trimState
-  trimmed-outcomes = length-joined-map (newNumber p) (stateOf p (oldNumber p i) .commands)
+  trimmed-outcomes = same-outcomes (newNumber p) (stateOf p (oldNumber p i))

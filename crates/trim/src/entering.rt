@@ -22,7 +22,7 @@ use tables::entries::put;
 use walks::queue::reach;
 use walks::queue::spread;
 
-// The flag of a state that is not reached, and the mark under which every state is: from where does not matter here.
+// The flag of a state that is not reached, and the one mark of all that are: from where they were does not matter here.
 const UNREACHED: usize = 1;
 
 const REACHED: usize = 2;

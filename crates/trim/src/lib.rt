@@ -25,11 +25,11 @@ pub enum TrimAnswer {
 
 // Trims a plan into lent tables, with the old number of each new one in `olds`. Refused with 10, then 9: the trimmed counts are what the
 // tables must hold, and scratch must have a place for each old state. So the kept states are found and counted in local tables, of 4,096
-// bytes whatever the plan is; scratch is used when there is room, and is zero in its first n places then. Linear in n + m + t, as the
+// bytes whatever the plan is; scratch is used when there is room, and its first n places are zero then. Linear in n + m + t, as the
 // soundness test is: after it each kept state is walked from, counted and copied once, each of its outcomes is looked at once in the walk
-// and once to be copied, and the flags are gone over once. docs/PERFORMANCE.md has the times and the stack. Free is the order of the walk:
-// neither the answer nor a table shows it. Ruled out: scratch that is cleared as far as the trimmed plan has states only, and 9 for tables
-// that hold the trimmed plan but not the old one.
+// and once to be copied, and flags, kept states and scratch are gone over a fixed number of times. docs/PERFORMANCE.md has the times and
+// the stack. Free is the order of the walk: neither the answer nor a table shows it. Ruled out: scratch that is cleared as far as the
+// trimmed plan has states only, and 9 for tables that hold the trimmed plan but not the old one.
 pub fn trim(
     size: Size,
     rows: &[Row],

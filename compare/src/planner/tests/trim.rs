@@ -116,7 +116,7 @@ fn from_a_corner_of_case_a() {
 
 /// The start is state 6. States 0, 2, 4, 5, 7 and 9 are dead, of every kind and some with commands to others, and so is the last.
 #[test]
-fn dead_states_of_every_kind_between_kept_ones() {
+fn dead_states_among_the_kept() {
     let mut states = vec![
         State::failing(),
         to(&[&[3, 6], &[1]]),

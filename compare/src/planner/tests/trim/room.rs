@@ -91,7 +91,7 @@ fn scratch_is_for_the_old_states() {
     assert!(answer.is_ok());
 }
 
-/// From state 0, state 5 of case A and its command are dead: what is wrong there would not be in the trimmed plan.
+/// From state 0, state 5 of case A and its command are dead: what is wrong with the first four would not be in the trimmed plan.
 fn unsound() -> Vec<Held> {
     let damages: [fn(&mut Held); 6] = [
         |held| held.rows[5].kind = 3,

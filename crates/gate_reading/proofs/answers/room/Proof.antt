@@ -1,22 +1,17 @@
--- The four comparisons are the four parts of `readRoom`; the first that fails makes it false.
-use borrow.Author.Tests.{lt-leb, le-leb}
-use mathlib.Core.Bool.{and-false}
+-- Whether the tables are long enough and whether the size record has its place are the two parts of `readRoom`.
+use borrow.Author.Needs.{needs}
+use Rattle.laws.proofs.Loops.{stopped, passed}
 use Rattle.gate_reading.proofs.answers.room.Statement.{statement}
 use Rattle.gate_reading.proofs.answers.room.Tie as tie
 
+long-enough-requires : tie.Need-long-enough-requires
+long-enough-requires c κs = search needs
+
 returns : tie.Need-returns
-returns c = rw (lt-leb _ _ (c .if1 .taken))
+returns c = rw (stopped (c .before .long-enough .ensures) (c .if1 .taken))
 
 returns-2 : tie.Need-returns-2
-returns-2 c = simp (lt-leb _ _ (c .if2 .taken), and-false)
-
-returns-3 : tie.Need-returns-3
-returns-3 c = simp (lt-leb _ _ (c .if3 .taken), and-false)
-
-returns-4 : tie.Need-returns-4
-returns-4 c =
-    let branch1 = c .before .before .before .before in
-    rw (le-leb _ _ (branch1 .if1 .left), le-leb _ _ (c .before .before .if2 .left), le-leb _ _ (c .if3 .left))
+returns-2 c = rw (passed (c .before .long-enough .ensures) (c .if1 .left))
 
 pub room-spec : {M : Type 1} → statement M
-room-spec = tie.close (tie.spec returns returns-2 returns-3 returns-4)
+room-spec = tie.close (tie.spec long-enough-requires returns returns-2)

@@ -20,15 +20,15 @@ returns-2 c =
     size-refused _ _ _ _ (loading-many _ _ _ _ (branch1 .if1 .left) _ (c .before .before .size-in .ensures)
     (stopped (c .before .few .ensures) (c .if2 .taken)))
 
-long-requires : tie.Need-long-requires
-long-requires c κs = search needs
+long-enough-requires : tie.Need-long-enough-requires
+long-enough-requires c κs = search needs
 
 returns-3 : tie.Need-returns-3
 returns-3 c =
     let past-size-in = c .before .before .before .before in
     let branch1 = past-size-in .before in
     size-refused _ _ _ _ (loading-long _ _ _ _ (branch1 .if1 .left) _ (past-size-in .size-in .ensures)
-    (stopped (c .before .long .ensures) (c .if3 .taken)))
+    (stopped (c .before .long-enough .ensures) (c .if3 .taken)))
 
 returns-4 : tie.Need-returns-4
 returns-4 c =
@@ -37,9 +37,9 @@ returns-4 c =
     let branch1 = past-size-in .before in
     size-answered _ _ _ _ (branch1 .if1 .left) _ (past-size-in .size-in .ensures)
     (loading-whole _ _ _ _ (branch1 .if1 .left) _ (past-size-in .size-in .ensures)
-    (passed (past-few .few .ensures) (c .before .before .if2 .left)) (passed (c .before .long .ensures) (c .if3 .left)))
+    (passed (past-few .few .ensures) (c .before .before .if2 .left)) (passed (c .before .long-enough .ensures) (c .if3 .left)))
 
 pub plan-size-spec : {M : Type 1} → statement M
 plan-size-spec =
     tie.close
-    (tie.spec returns size-in-requires few-requires returns-2 long-requires returns-3 returns-4)
+    (tie.spec returns size-in-requires few-requires returns-2 long-enough-requires returns-3 returns-4)

@@ -7,18 +7,16 @@ use lib.ListN.{length}
 use Rattle.laws.specs.Lists.{joined}
 use Rattle.model.specs.File.{Tree}
 use Rattle.model.specs.Tables.{allCommands}
-use Rattle.model.specs.Held.{treeOf, stateOf}
+use Rattle.model.specs.Held.{treeOf}
 use Rattle.model.specs.Trim.{trimTree}
 use Rattle.model.proofs.GoodTables.{sound-good}
-use Rattle.model.proofs.TrimmedPlan.{oldNumber}
 use Rattle.model.proofs.TrimGood.{trim-good}
 use Rattle.tables.specs.declared.Row.{Row}
 use Rattle.tables.specs.Meaning.{held, rowOf}
 use Rattle.tables.proofs.Readiness.{sound-ready, sound-rows}
 use Rattle.trim.specs.Kept.{rowAfter}
 use Rattle.trim.proofs.KeptStates.{kept-count}
-use Rattle.trim.proofs.KeptStretches.{kept-old-is, kept-in-plan, kept-stretch}
-use Rattle.trim.proofs.Stretching.{InStretch}
+use Rattle.trim.proofs.KeptStretches.{StretchOf, kept-old-is, kept-in-plan, kept-stretch}
 use Rattle.trim.proofs.LeftStates.{trimmed-commands, trimmed-outcomes}
 use Rattle.trim.proofs.Copied.{row-copied, firsts-copied, outcomes-copied}
 use Rattle.trim.proofs.CopiedStates.{
@@ -71,10 +69,8 @@ in-plan c =
 abbrev StretchHere : tie.After-stretch-at Inv-loop μ-loop → Type 0
 StretchHere c =
     let turn = past-at-to-turn (past-stretch-at-to-at c) in
-    let entry = turn-to-entry turn in
-    let a = entry .args in
-    InStretch (a .size) (a .firsts .now) (a .outcomes .now) (stateOf (treeIn entry) (oldNumber (treeIn entry) (turn .loop .i)) .commands)
-    (c .stretch-at .result)
+    let a = turn-to-entry turn .args in
+    StretchOf (a .size) (a .rows .now) (a .firsts .now) (a .outcomes .now) (turn .loop .i) (c .stretch-at .result)
 
 stretch-here : (c : tie.After-stretch-at Inv-loop μ-loop) → StretchHere c
 stretch-here c =

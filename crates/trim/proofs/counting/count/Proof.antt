@@ -5,15 +5,13 @@ use Prim.Native.Nat.{_+_, _-_}
 use native.Mathlib.Omega.{arith}
 use borrow.Author.Needs.{needs}
 use Rattle.model.specs.File.{Tree}
-use Rattle.model.specs.Held.{treeOf, stateOf}
+use Rattle.model.specs.Held.{treeOf}
 use Rattle.model.proofs.Good.{Good}
 use Rattle.model.proofs.GoodTables.{sound-good}
-use Rattle.model.proofs.TrimmedPlan.{oldNumber}
 use Rattle.tables.specs.Meaning.{held}
 use Rattle.tables.proofs.Readiness.{sound-ready, sound-rows}
 use Rattle.trim.proofs.KeptStates.{kept-count}
-use Rattle.trim.proofs.Stretching.{InStretch}
-use Rattle.trim.proofs.KeptStretches.{kept-in-plan, kept-stretch}
+use Rattle.trim.proofs.KeptStretches.{StretchOf, kept-in-plan, kept-stretch}
 use Rattle.trim.proofs.Counted.{
   Counting,
   counting-start,
@@ -46,10 +44,8 @@ treeIn c = treeOf (held (c .args .size) (c .args .rows .now) (c .args .firsts .n
 abbrev StretchHere : tie.After-stretch-at Inv-loop μ-loop → Type 0
 StretchHere c =
     let turn = past-stretch-at-to-turn c in
-    let entry = turn-to-entry turn in
-    let a = entry .args in
-    InStretch (a .size) (a .firsts .now) (a .outcomes .now) (stateOf (treeIn entry) (oldNumber (treeIn entry) (turn .loop .i)) .commands)
-    (c .stretch-at .result)
+    let a = turn-to-entry turn .args in
+    StretchOf (a .size) (a .rows .now) (a .firsts .now) (a .outcomes .now) (turn .loop .i) (c .stretch-at .result)
 
 stretch-here : (c : tie.After-stretch-at Inv-loop μ-loop) → StretchHere c
 stretch-here c =
