@@ -49,7 +49,7 @@ test: kit need-gcc need-g++ need-cargo quick
 # What needs nothing proved comes first, so that it fails early.
 quick: kit trace
 	rt fmt --check
-	cd tests && python3 -B contest.py && python3 -B rules.py && python3 -B trims.py && python3 -B bench_plans.py --check && \
+	cd tests && python3 -B contest.py && python3 -B rules.py && python3 -B trims.py && python3 -B carries.py && python3 -B bench_plans.py --check && \
 	    python3 -B examples.py --check
 	python3 -B tools/rows --check tables load store
 

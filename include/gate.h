@@ -221,7 +221,8 @@ uint32_t gate_decide(const uint8_t *size, size_t size_length,
  *
  *   size, rows, firsts, outcomes   in   the plan, as gate_read gave it
  *   start     in    the state to judge. No bit of it is dropped: 65,539 is no name for state 3, and is
- *                   refused. The plan's own start (the last entry of size) does not matter here.
+ *                   refused. The plan's own start (the last entry of size) is not used here; but it has to
+ *                   be below n, as in every call, else the plan is unsound.
  *   commands  out   GATE_STATES_BYTES(n): if the start is safe, the commands that hold it, at the states that
  *                   they can lead to: they are those of gate_decide. GATE_NONE at every other state, and
  *                   everywhere if the start is rest or lost, as failing and stuck states are.

@@ -1,4 +1,5 @@
 """What the program bench_plans is run on, and what it must print. With --check: whether the two files are what this makes."""
+import itertools
 import pathlib
 from typing import NamedTuple
 
@@ -10,7 +11,7 @@ from reference import COMMANDS, LONGEST_MOVE, MOVES, NONE, OUTCOMES, STATES, Pla
 HERE = pathlib.Path(__file__).resolve().parent.parent / "crates" / "bench_plans"
 STARTS = 32  # how many states of a plan are searched from, at most: 1,024 command tables of 1,024 states would be two megabytes
 LAST = 2 ** 16 - 1  # the largest entry
-DECIDING, SEARCH, CONTEST, WARNING, TRIMMING, TRIMMING_ALONE = range(6)
+DECIDING, SEARCH, CONTEST, WARNING, TRIMMING, TRIMMING_ALONE, CARRYING, CARRYING_ALONE = range(8)
 ALLOWED = 1, 59, 60, 61, LONGEST_MOVE - 1, LONGEST_MOVE  # seconds a move
 WIDE = 2 ** 16, 2 ** 32, 2 ** 48  # who drops the high bits of one of these and a number takes the sum for the number
 FORBIDDEN = 0, LONGEST_MOVE + 1, LAST, *WIDE, *(wide + 60 for wide in WIDE), 2 ** 63, 2 ** 64 - 1
@@ -49,6 +50,16 @@ class Trim(NamedTuple):
         return tuple(map(min, self[1:6], (STATES, COMMANDS, OUTCOMES, STATES, STATES)))
 
 
+class Carry(NamedTuple):
+    """The old n, how many entries map and table have, how many places are lent, and what each of them holds."""
+    call: int
+    n: int
+    olds: int
+    table: int
+    places: int
+    holding: int = 7
+
+
 class Case(NamedTuple):
     """A file, what is lent for it, and what is asked on it."""
     file: bytes
@@ -70,6 +81,9 @@ class Case(NamedTuple):
 def framed(question):
     if isinstance(question, Trim):
         return b"".join(map(two, question)) + bytes(4)
+    if isinstance(question, Carry):
+        call, n, *numbers = question
+        return two(call) + n.to_bytes(8, "big") + b"".join(map(two, numbers))
     call, *numbers = question
     return two(call) + b"".join(number.to_bytes(8, "big") for number in numbers)
 
@@ -134,6 +148,12 @@ def decided_before(plan, olds):
     return "".join(numbers(*entries) for entries in kept) + numbers("tally", tally[0] + tally[1])
 
 
+def decided_back(plan, olds):
+    """And its commands carried back: each kept state has the command of the whole plan."""
+    chosen = reference.decide(plan)[1]
+    return "carried\n" + numbers("commands", (chosen[s] if s in olds else None for s in range(plan.n)))
+
+
 def trimmed(plan, question):
     """The answer, and unless it alone is asked for every table, and what comes of the trimmed plan."""
     rows, firsts, outcomes, olds, scratch = question.places()
@@ -149,11 +169,31 @@ def trimmed(plan, question):
         row_table, *lists = reference.tables(new)
         out = f"trimmed {new.n} {new.m} {new.t} {new.start}\n"
         tables = sum(row_table, ()), *lists, kept, (0,) * plan.n
-        after = "again same\n" + decided_before(plan, kept)
+        after = "again same\n" + decided_before(plan, kept) + decided_back(plan, kept)
     return out if question.call == TRIMMING_ALONE else out + left(names, places, question.holding, tables) + after
 
 
-def answered(plan, question):
+def entries_of(file):
+    return [int.from_bytes(file[i:i + 2], "big") for i in range(0, len(file), 2)]
+
+
+def carried(file, question):
+    """The answer, and unless it alone is asked for every place that is lent."""
+    entries = entries_of(file)
+    olds, table = entries[:question.olds], entries[question.olds:question.olds + question.table]
+    try:
+        back = reference.carry(question.n, olds, table)
+        reference.need(9, question.n <= question.places)
+    except Refused as r:
+        out, back = f"refused {r.number}\n", ()
+    else:
+        out = "carried\n"
+    return out if question.call == CARRYING_ALONE else out + left(("places",), (question.places,), question.holding, (back,))
+
+
+def answered(file, plan, question):
+    if isinstance(question, Carry):
+        return carried(file, question)
     if isinstance(question, Trim):
         return trimmed(plan, question)
     reference.need(10, plan is not None)
@@ -180,7 +220,7 @@ def said(case):
         plan, out = None, f"refused {r.number}\n"
     else:
         out = f"read {plan.n} {plan.m} {plan.t} {plan.start} same\n"
-    return out + "".join(or_refusal(answered, plan, question) for question in case.questions)
+    return out + "".join(or_refusal(answered, case.file, plan, question) for question in case.questions)
 
 
 def wide_states(n):
@@ -256,9 +296,54 @@ def trim_cases():
     yield Case(write(case_a()), questions=lent)
 
 
+def carry_case(olds, table, questions):
+    """Map and table as one file, of which each question takes as many entries as it says."""
+    return Case(b"".join(map(two, (*olds, *table))), questions=tuple(questions))
+
+
+def small_maps():
+    """Every map of up to three entries, for few states: with as many places as states, and with one too few."""
+    for n in 1, 2, 3:
+        for count in range(4):
+            for olds in itertools.product((*range(n + 1), LAST), repeat=count):
+                exact = Carry(CARRYING, n, count, count, n)
+                yield carry_case(olds, (5, LAST, 0), (exact, exact._replace(places=n - 1)))
+
+
+def lengths(n, count):
+    """Tables and places one short, exact and longer, both short, and none at all; then old numbers that do not fit."""
+    for entries in count - 1, count, count + 3:
+        for places in 0, n - 1, n, n + 2:
+            yield Carry(CARRYING, n, count, entries, places)
+    for other in 0, 1, n - 1, n + 1, STATES, STATES + 1, 2 ** 15, LAST, *WIDE, *(wide + n for wide in WIDE), 2 ** 63, 2 ** 64 - 1:
+        for places in 0, n, STATES, STATES + 1:
+            yield Carry(CARRYING if places < STATES else CARRYING_ALONE, other, count, count, places, LAST)
+
+
+def carry_cases():
+    """Maps that rise or do not, entries about n and as large as can be, tables of every length, and as many states as there can be."""
+    yield from small_maps()
+    full = STATES - 1
+    yield carry_case((), (1, 2, 3), (question for question in lengths(6, 0) if question.table >= 0))
+    yield carry_case((1, 2, 4, 5), (9, LAST, 0, 8, 3, 3, 3), lengths(6, 4))
+    for olds in (1, 2, 2, 5), (1, 4, 2, 5), (5, 4, 2, 1), (0, 0, 0, 0), (1, 2, 4, 6), (6, 7, 8, 9), (1, 2, 4, LAST), (LAST, 1, 2, 4):
+        yield carry_case(olds, (9, LAST, 0, 8), (Carry(CARRYING, 6, 4, 4, places, holding) for places, holding in ((6, 1), (8, 0), (5, LAST))))
+    whole, entries = range(STATES), [(i * 77) % 2 ** 16 for i in range(STATES + 2)]
+    for n in STATES - 1, STATES, STATES + 1:
+        questions = (Carry(CARRYING, n, STATES, count, places) for count in (full, STATES) for places in (n - 1, n, n + 2))
+        yield carry_case(whole, entries, questions)
+    for last in full, STATES, LAST:
+        longer = Carry(CARRYING, STATES, STATES + 1, STATES + 1, STATES)
+        yield carry_case((*whole, last), entries, (longer, longer._replace(n=STATES + 1, places=STATES + 1), longer._replace(olds=STATES)))
+    some = tuple(range(3, STATES, 5))
+    yield carry_case(some, entries, (Carry(CARRYING, STATES, len(some), len(some), places, LAST) for places in (full, STATES, STATES + 1)))
+    yield carry_case((full,), (0,), (Carry(CARRYING, n, 1, 1, STATES) for n in (full, STATES)))
+
+
 def cases():
     """Document 01's bench plans that are not starred, then damaged files, then questions that are refused, then plans of many shapes;
-    then contests and warning times that are refused, and plans for contests and for warning times; then plans that are trimmed."""
+    then contests and warning times that are refused, and plans for contests and for warning times; then plans that are trimmed, and tables
+    that are carried back."""
     hexa = bytes.fromhex
     wide = write(Plan([State(2)] * STATES))
     yield usual(wide)
@@ -290,6 +375,7 @@ def cases():
     yield from contest_plans()
     yield from warning_plans()
     yield from trim_cases()
+    yield from carry_cases()
 
 
 def main():

@@ -255,6 +255,22 @@ def trim(plan):
     return Plan([State(s.kind, [[new[o] for o in c] for c in s.commands], s.practice) for s in kept], new[plan.start]), olds
 
 
+def carry(n, olds, table):
+    """The table of a trimmed plan under the old numbers, of which there are n (T-07)."""
+    need(10, 1 <= n <= STATES)
+    need(10, all(before < old for before, old in zip(olds, olds[1:])) and all(old < n for old in olds))
+    need(10, len(olds) <= len(table))
+    back = [NONE] * n
+    for old, entry in zip(olds, table):
+        back[old] = entry
+    return back
+
+
+def pick(olds, table):
+    """The entries at the kept states (T-07)."""
+    return [table[old] for old in olds]
+
+
 def tables(plan):
     """The plan in memory: kind, first command and practice of each state, first outcomes, and outcomes."""
     rows, firsts, outcomes = [], [], []

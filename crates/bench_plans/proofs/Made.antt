@@ -9,6 +9,7 @@ pub mod QuestionsAsk
 pub mod QuestionsAskAll
 pub mod SameSameTables
 pub mod TrimsAskTrim
+pub mod TrimsCarryDecided
 pub mod TrimsGoOn
 pub mod TrimsShow
 pub mod TrimsTrimAgain

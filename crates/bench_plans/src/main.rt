@@ -7,7 +7,9 @@
 // table that the call writes, for 2, the contest, how many moves, for 3, the warning time, how many seconds a move takes. For 4 and 5,
 // trimming, it is the call and, of two bytes each, how many places are lent of rows, first outcomes, outcomes, map and scratch, what every
 // place of these holds, and two numbers that are passed over; for 5 the answer alone is printed, for 4 every table lent as well and what
-// comes of the trimmed plan. Other calls are passed over. On a file that is refused the questions are asked of a plan that is not sound:
+// comes of the trimmed plan. For 6 and 7, carrying back, it is the call, of eight bytes the old n, and of two bytes each how many entries
+// map and table have, how many places are lent, and what every one of these holds; map and table are the entries that the file's bytes
+// are, plan or not, and for 7 the answer alone is printed. Other calls are passed over. On a file that is refused the questions are asked of a plan that is not sound:
 // it has a state for each row that is lent, and its start is none of them. Past the end of the input every byte is 0.
 ghost use Prim.Native.Nat.{_≤_};
 ghost use Rattle.model.specs.File.{maxStates, maxCommands, maxOutcomes};
@@ -23,6 +25,7 @@ use reading::ReadAnswer;
 use tables::Row;
 use tables::Size;
 
+mod carries;
 mod contests;
 mod files;
 mod lent;
@@ -46,7 +49,14 @@ fn try_file(
         ReadAnswer::Refused(x) => {
             print_refusal(tables::number(x));
             let n = rows.len();
-            ask_all(Size::new(n, 0, 0, n), rows, firsts, outcomes, questions);
+            ask_all(
+                file,
+                Size::new(n, 0, 0, n),
+                rows,
+                firsts,
+                outcomes,
+                questions,
+            );
         }
         ReadAnswer::Given(size) => {
             io::write_all(1, b"read");
@@ -54,7 +64,7 @@ fn try_file(
             let bytes = write_again(file, rows, firsts, outcomes);
             let tables = read_again(size, rows, firsts, outcomes);
             print_again(bytes, tables);
-            ask_all(size, rows, firsts, outcomes, questions);
+            ask_all(file, size, rows, firsts, outcomes, questions);
         }
     }
 }

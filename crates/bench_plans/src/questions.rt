@@ -1,4 +1,5 @@
 // The questions on a plan, one after another.
+use crate::carries::ask_carry;
 use crate::contests::ask_contest;
 use crate::lent::next_places;
 use crate::numbers::least;
@@ -10,7 +11,7 @@ use crate::warnings::ask_warning;
 use tables::Row;
 use tables::Size;
 
-// The contest, the warning time and both ways to ask for a trimming, as a question names them.
+// The contest, the warning time, and both ways to ask for a trimming and for a table that is carried back, as a question names them.
 const CONTEST: usize = 2;
 
 const WARNING: usize = 3;
@@ -18,6 +19,10 @@ const WARNING: usize = 3;
 const TRIMMING: usize = 4;
 
 const TRIMMING_ALONE: usize = 5;
+
+const CARRYING: usize = 6;
+
+const CARRYING_ALONE: usize = 7;
 
 pub fn ask(
     size: Size,
@@ -56,8 +61,22 @@ fn is_trimming(call: usize) -> bool {
     call == TRIMMING_ALONE
 }
 
-// As many questions as the input has on this plan.
-pub fn ask_all(size: Size, rows: &[Row], firsts: &[u16], outcomes: &[u16], questions: usize) {
+fn is_carrying(call: usize) -> bool {
+    if call == CARRYING {
+        return true;
+    }
+    call == CARRYING_ALONE
+}
+
+// As many questions as the input has on this plan, or on the file that was to give it.
+pub fn ask_all(
+    file: &[u8],
+    size: Size,
+    rows: &[Row],
+    firsts: &[u16],
+    outcomes: &[u16],
+    questions: usize,
+) {
     let mut left = questions;
     while left > 0 {
         let call = next();
@@ -76,6 +95,8 @@ pub fn ask_all(size: Size, rows: &[Row], firsts: &[u16], outcomes: &[u16], quest
                 places.holding,
                 call == TRIMMING,
             );
+        } else if is_carrying(call) {
+            ask_carry(file, call == CARRYING);
         } else {
             let state = next_wide();
             let number = next_wide();

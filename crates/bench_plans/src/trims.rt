@@ -1,6 +1,8 @@
-// Trimming: what is answered, all that is lent, and whether the trimmed plan comes back when it is written and read, or trimmed again.
+// Trimming: what is answered, all that is lent, whether the trimmed plan comes back when it is written and read, or trimmed again, and its
+// commands under the old numbers.
 ghost use Prim.Native.Nat.{_≤_};
 ghost use Rattle.model.specs.File.{maxStates, maxCommands, maxOutcomes};
+use crate::carries::carry_commands;
 use crate::files::print_again;
 use crate::files::print_size;
 use crate::files::read_again;
@@ -66,13 +68,40 @@ pub fn trim_again(size: Size, rows: &[Row], firsts: &[u16], outcomes: &[u16]) ->
     )
 }
 
-// What comes of the trimmed plan: written and read, trimmed again, and decided.
-pub fn go_on(size: Size, rows: &[Row], firsts: &[u16], outcomes: &[u16]) {
+// The commands that deciding leaves of the trimmed plan, carried back to the n old numbers.
+pub fn carry_decided(
+    n: usize,
+    size: Size,
+    rows: &[Row],
+    firsts: &[u16],
+    outcomes: &[u16],
+    olds: &[u16],
+) {
+    let mut ranks = [0u16; Size::STATES];
+    let mut commands = [0u16; Size::STATES];
+    let mut marks = [0u16; Size::STATES];
+    let mut scratch = [0u16; Size::STATES];
+    decide::decide(
+        size,
+        rows,
+        firsts,
+        outcomes,
+        &mut ranks,
+        &mut commands,
+        &mut marks,
+        &mut scratch,
+    );
+    carry_commands(n, olds, size.n, &commands);
+}
+
+// What comes of the trimmed plan: written and read, trimmed again, decided, and its commands carried back.
+pub fn go_on(n: usize, size: Size, rows: &[Row], firsts: &[u16], outcomes: &[u16], olds: &[u16]) {
     let written = read_again(size, rows, firsts, outcomes);
     let trimmed = trim_again(size, rows, firsts, outcomes);
     io::write_all(1, b"again");
     print_again(written, trimmed);
     ask_tables(size, rows, firsts, outcomes, DECIDING, 0, Size::STATES);
+    carry_decided(n, size, rows, firsts, outcomes, olds);
 }
 
 fn print_answer(r: TrimAnswer) {
@@ -88,9 +117,10 @@ fn print_answer(r: TrimAnswer) {
     }
 }
 
-// Every table to its last place, and where there is a trimmed plan what comes of it.
+// Every table to its last place, and where there is a trimmed plan what comes of it; n is how many states the plan had.
 pub fn show(
     r: TrimAnswer,
+    n: usize,
     rows: &[Row],
     firsts: &[u16],
     outcomes: &[u16],
@@ -102,7 +132,7 @@ pub fn show(
     let TrimAnswer::Given(size) = r else {
         return;
     };
-    go_on(size, rows, firsts, outcomes);
+    go_on(n, size, rows, firsts, outcomes, olds);
 }
 
 // The rows hold x as the other tables do. Where `all` is false the answer alone is printed.
@@ -135,7 +165,7 @@ pub fn try_trim(
     if !all {
         return;
     }
-    show(r, rows2, firsts2, outcomes2, olds, scratch);
+    show(r, size.n, rows2, firsts2, outcomes2, olds, scratch);
 }
 
 // Lends as many places of each table as are asked for: of rows, first outcomes, outcomes, map and scratch.

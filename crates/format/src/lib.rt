@@ -1,4 +1,4 @@
-// Reading and writing, one after the other: both round trips.
+// Reading and writing, one after the other: both round trips. Where the second of the two refuses, what the first has written stays.
 ghost use mathlib.Core.Path.{_≡_};
 ghost use Prim.Native.Nat.{_≤_};
 ghost use lib.ListN.{length};

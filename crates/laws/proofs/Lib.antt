@@ -12,6 +12,7 @@ pub mod Entry
 pub mod Writes
 pub mod Steps
 pub mod Fills
+pub mod Placed
 pub mod RangeFills
 pub mod Scans
 pub mod Stores

@@ -126,6 +126,16 @@ unfolding every
 every-of f zero h = refl
 every-of f (suc n) h = and-join (every f n) (f n) (every-of f n (λ i l. h i (omega arith))) (h n (omega arith))
 
+-- one that fails
+pub every-fails : (f : ℕ → Bool) (n : ℕ) → every f n ≡ false → (i : ℕ) × (i < n) × (f i ≡ false)
+unfolding every
+every-fails f zero e = clash refl e
+every-fails f (suc n) e =
+    ⊎-elim
+    (λ h. (n, omega arith, rw h at e))
+    (λ h. let (i, l, t) = every-fails f n h in (i, omega arith, t))
+    (true-or-false (every f n))
+
 pub exists-at : (f : ℕ → Bool) (n : ℕ) → exists f n ≡ true → (i : ℕ) × (i < n) × (f i ≡ true)
 unfolding exists
 exists-at f zero e = clash e refl

@@ -5,6 +5,7 @@ pub mod Passing
 pub mod Entry
 pub mod Writes
 pub mod Filled
+pub mod Placed
 pub mod Wrote
 pub mod Starts
 pub mod First

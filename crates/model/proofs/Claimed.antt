@@ -24,7 +24,7 @@ use Rattle.model.specs.Calls.{writeCall}
 use Rattle.model.specs.Contest.{keeperTurn, maxMoves}
 use Rattle.model.specs.Warning.{warning, lengthAllowed}
 use Rattle.model.specs.Trim.{trimmed}
-use Rattle.model.specs.Claims.{Short, Conditions, Meanings, Rules, Failings, Contests, Warnings, Trimmings}
+use Rattle.model.specs.Claims.{Short, Conditions, Meanings, Rules, Failings, Contests, Warnings, Trimmings, Carryings}
 use Rattle.model.proofs.StateKinds.{bound-counts}
 use Rattle.model.proofs.HeldPlan.{states-held}
 use Rattle.model.proofs.SoundFacts.{sound-facts}
@@ -59,6 +59,16 @@ use Rattle.model.proofs.ContestCalls.{contest-tests, contest-iff, moves
 use Rattle.model.proofs.WarningCalls.{length-refused, warning-tests, warning-iff, warned}
 use Rattle.model.proofs.TrimCalls.{trimming-iff, trimming-unsound, trimming-cramped, trimming-only}
 use Rattle.model.proofs.TrimTables.{trimmed-tables}
+use Rattle.model.proofs.CarryCalls.{
+  misfit-iff,
+  fits-unless,
+  fits-not,
+  carrying-iff,
+  carrying-unsound,
+  carrying-cramped,
+  carrying-only,
+}
+use Rattle.model.proofs.CarryTables.{carried-back, map-accepted, decided-back}
 use Rattle.model.proofs.GateDemands.{gate-decide-demand3, gate-search-demand3}
 use Rattle.model.proofs.Stuck.{rank-zero, rest-safe, stuck-state, stuck-line}
 use Rattle.model.proofs.StuckCalls.{
@@ -206,6 +216,17 @@ conditions = record {
     ⊎-elim (λ (u, is). rw is (trimming-unsound T rows firsts outcomes olds scratch (stops T u)))
         (λ (S, short, is). rw is (trimming-cramped T rows firsts outcomes olds scratch (passes T S) short)),
   );
+  carrying-given = λ n olds table places entries. (
+    λ e. let (f, l, is) = carrying-iff n olds table places entries .0 e in (fits-not n olds (length table) f, l, is),
+    λ (h, l, is). carrying-iff n olds table places entries .1 (fits-unless n olds (length table) h, l, is),
+  );
+  carrying-refused = λ n olds table places r. (
+    λ e. ⊎-elim (λ (m, is). inl (misfit-iff n olds (length table) .0 m, is))
+        (λ (f, short, is). inr (fits-not n olds (length table) f, short, is))
+        (carrying-only n olds table places r e),
+    ⊎-elim (λ (m, is). rw is (carrying-unsound n olds table places (misfit-iff n olds (length table) .1 m)))
+        (λ (h, short, is). rw is (carrying-cramped n olds table places (fits-unless n olds (length table) h) short)),
+  );
 }
 
 -- ---- demand 2
@@ -307,3 +328,8 @@ warnings = record { warned = warned }
 
 pub trimmings : Trimmings
 trimmings = record { trimmed-tables = trimmed-tables }
+
+-- ---- carrying back
+
+pub carryings : Carryings
+carryings = record { carried-back = carried-back; map-accepted = map-accepted; decided-back = decided-back }

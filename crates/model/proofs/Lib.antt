@@ -56,6 +56,8 @@ pub mod TrimAgain
 pub mod TrimCalls
 pub mod TrimLeaves
 pub mod TrimTables
+pub mod CarryCalls
+pub mod CarryTables
 pub mod Bench
 pub mod CasePlans
 pub mod BenchCases
@@ -66,6 +68,7 @@ pub mod ListingCases
 pub mod FileCases
 pub mod CallCases
 pub mod TrimCases
+pub mod CarryCases
 pub mod PracticeCases
 pub mod RunCases
 pub mod Decimals

@@ -30,6 +30,8 @@ use Rattle.model.specs.Contest.{keeperTurn, maxMoves, contestCall, Conte
 use Rattle.model.specs.Warning.{Time, noTime, warning, longestMove, warningCall, Warned}
 use Rattle.model.specs.Trim.{trimmed, trimming, trimCall, afterTrimming}
 use Rattle.model.specs.Trimmed.{Trimmed}
+use Rattle.model.specs.Carry.{carried, Misfit, carrying, carryCall}
+use Rattle.model.specs.Carried.{KeptOf, Carried}
 use Rattle.model.specs.Stuck.{StuckState, StuckEntries, StuckCounted, StuckSearched}
 use Rattle.model.specs.Boundary.{entriesIn, verdictIn, roundsIn, gateDecideCall, gateSearchCall}
 use Rattle.model.specs.Listing.{decimal, told, line, faultSign, stateLine, maxListing, listing}
@@ -79,6 +81,10 @@ pub record Conditions : Type 0 where
       (trimming T rows firsts outcomes olds scratch ≡ refused r)
       ↔ (((Sound T → ⊥) × (r ≡ Unsound))
       ⊎ (Sound T × (Short z rows firsts outcomes ⊎ ((olds < z .n) ⊎ (scratch < T .size .n))) × (r ≡ Cramped)))
+  pub carrying-given : (n : ℕ) (olds table : List ℕ) (places : ℕ) (entries : List ℕ) → (carrying n olds table places ≡ given entries)
+      ↔ ((Misfit n olds (length table) → ⊥) × (n ≤ places) × (carried n olds table ≡ entries))
+  pub carrying-refused : (n : ℕ) (olds table : List ℕ) (places : ℕ) (r : Refusal) → (carrying n olds table places ≡ refused r)
+      ↔ ((Misfit n olds (length table) × (r ≡ Unsound)) ⊎ ((Misfit n olds (length table) → ⊥) × (places < n) × (r ≡ Cramped)))
 
 -- ---- rule D2: the definitions that compute say what the words say, and both round trips
 
@@ -210,3 +216,24 @@ pub record Trimmings : Type 0 where
   pub trimmed-tables : (T : Tables) (rows : List Row) (firsts outcomes olds scratch : List ℕ) (z : Size)
       → let X = trimCall T rows firsts outcomes olds scratch in
       X .answers ≡ given z → Trimmed T (afterTrimming z T rows firsts outcomes olds scratch) (X .olds)
+
+-- ---- part Y: carrying back, of the table that it leaves
+
+pub record Carryings : Type 0 where
+  pub carried-back : (n : ℕ) (olds table places : List ℕ) → let C = carryCall n olds table places in
+      C .answers ≡ given tt → Carried n olds table (C .places)
+  -- rule Y5: a map that trimming left is not refused with the old n
+  pub map-accepted : (T : Tables) (rows : List Row) (firsts outcomes olds scratch : List ℕ) (z : Size)
+      → let X = trimCall T rows firsts outcomes olds scratch in
+      X .answers ≡ given z → (table places : List ℕ) → z .n ≤ length table → T .size .n ≤ length places
+      → carryCall (T .size .n) (take (z .n) (X .olds)) table places .answers ≡ given tt
+  -- rule Y6: trimmed, decided and carried back, beside deciding the plan itself
+  pub decided-back : (T : Tables) (rows : List Row) (firsts outcomes olds scratch : List ℕ) (z : Size)
+      → let X = trimCall T rows firsts outcomes olds scratch in
+      X .answers ≡ given z
+      → (ranks commands marks scratch₀ ranks′ commands′ marks′ scratch′ : List ℕ) (counts counts′ : List (List ℕ))
+      → let D = decideCall T ranks commands marks scratch₀ in
+      let E = decideCall (afterTrimming z T rows firsts outcomes olds scratch) ranks′ commands′ marks′ scratch′ in
+      D .answers ≡ given counts → E .answers ≡ given counts′ → (places : List ℕ) → T .size .n ≤ length places
+      → let C = carryCall (T .size .n) (take (z .n) (X .olds)) (E .commands) places in
+      (C .answers ≡ given tt) × KeptOf T (D .commands) (C .places)

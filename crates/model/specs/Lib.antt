@@ -22,6 +22,8 @@ pub mod Contest
 pub mod Warning
 pub mod Trim
 pub mod Trimmed
+pub mod Carry
+pub mod Carried
 pub mod Stuck
 pub mod Boundary
 pub mod Rooms

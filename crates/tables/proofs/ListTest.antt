@@ -1,21 +1,21 @@
 -- The test of a list, by what is read of it.
-use mathlib.Core.Path.{_≡_, sym, ap, _∙_}
-use mathlib.Core.Bool.{Bool, true, false, _&&_}
+use mathlib.Core.Path.{_≡_, sym, _∙_}
+use mathlib.Core.Bool.{Bool, true, false, and-true, _&&_}
 use mathlib.Core.List.{List}
 use Prim.Native.Nat.{ℕ, _+_, _-_, _<_, _≤_}
 use native.Mathlib.Numerals.{add-one}
 use native.Mathlib.Omega.{arith}
 use native.Mathlib.Decide.{decLe}
-use borrow.Author.Tests.{lt-leb, le-leb}
+use borrow.Author.Tests.{lt-leb, le-leb, lt-ltb, le-ltb}
 use lib.Dec.{leb, ltb}
 use lib.ListN.{getD}
 use Rattle.laws.specs.Sets.{every}
-use Rattle.laws.proofs.Loops.{every-none}
+use Rattle.laws.proofs.Tests.{and-false-right}
 use Rattle.model.specs.Tables.{Lists}
 use Rattle.model.specs.Places.{startIn}
 use Rattle.model.specs.SoundTest.{risesAt, after, listSound, entrySound}
 use Rattle.model.proofs.ListTable.{after-is}
-use Rattle.tables.specs.Lasts.{lastBelow, listBelow}
+use Rattle.tables.specs.Lasts.{lastBelow, risesBelow, listBelow}
 
 -- two entries in a row, at the places j and j + 1
 pub rises-test : (entries : List ℕ) (j x y : ℕ) → x ≡ getD entries j 0 → y ≡ getD entries (j + 1) 0 → risesAt entries j ≡ ltb x y
@@ -29,18 +29,32 @@ pub list-test : (least n : ℕ) (L : Lists) (i a e : ℕ) → a ≡ startIn L i 
 unfolding listBelow listSound
 list-test least n L i a e p q = rw (p, q, add-one i)
 
--- one without entries
-pub no-entries : (f : ℕ → Bool) (a e : ℕ) → e ≤ a → every f (e - a - 1) ≡ true
-no-entries f a e h = let none : e - a - 1 ≡ 0 = omega arith in ap (every f) none ∙ every-none f
+-- which is long enough, and ends within the table
+pub list-rises : (least n : ℕ) (L : Lists) (i a e : ℕ) → a ≡ startIn L i → e ≡ startIn L (i + 1) → leb (after least a) e ≡ true
+    → leb e (L .end) ≡ true → {r : Bool} → r ≡ risesBelow n (L .entries) a e → r ≡ listBelow least n L i
+unfolding risesBelow
+list-rises least n L i a e p q h k w = w ∙ sym (list-test least n L i a e p q ∙ rw (h, k))
 
-pub last-none : (n : ℕ) (entries : List ℕ) (a e : ℕ) → e ≤ a → lastBelow n entries a e ≡ true
-unfolding lastBelow
-last-none n entries a e h = rw (le-leb e a h)
+-- entries from place a up to place e
+module _ (n : ℕ) (entries : List ℕ) (a e : ℕ) where
+  -- there are none
+  pub rises-none : e ≤ a → true ≡ risesBelow n entries a e
+  unfolding risesBelow lastBelow every
+  rises-none h = let none : e - a - 1 ≡ 0 = omega arith in rw (none, le-leb e a h)
 
--- one whose last entry is x
-pub last-test : (n : ℕ) (entries : List ℕ) (a e x : ℕ) → a < e → x ≡ getD entries (e - 1) 0 → lastBelow n entries a e ≡ ltb x n
-unfolding lastBelow entrySound
-last-test n entries a e x h p = rw (lt-leb e a h, p)
+  -- the last is x
+  module _ {x : ℕ} (h : a < e) (p : x ≡ getD entries (e - 1) 0) where
+    last-test : lastBelow n entries a e ≡ ltb x n
+    unfolding lastBelow entrySound
+    last-test = rw (lt-leb e a h, p)
+
+    pub rises-beyond : n ≤ x → false ≡ risesBelow n entries a e
+    unfolding risesBelow
+    rises-beyond k = sym (and-false-right (every (λ d. risesAt entries (a + d)) (e - a - 1)) _ (last-test ∙ le-ltb x n k))
+
+    pub rises-within : x < n → {r : Bool} → r ≡ every (λ d. risesAt entries (a + d)) (e - a - 1) → r ≡ risesBelow n entries a e
+    unfolding risesBelow
+    rises-within k w = w ∙ rw (last-test ∙ lt-ltb x n k) (sym (and-true _))
 
 -- how many places there are
 module _ (least from to : ℕ) where

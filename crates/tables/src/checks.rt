@@ -5,7 +5,7 @@ ghost use Prim.Native.Nat.{ℕ, _<_, _≤_, _+_, _-_};
 ghost use lib.Dec.{leb};
 ghost use lib.ListN.{length};
 ghost use Rattle.laws.specs.Sets.{every};
-ghost use Rattle.model.specs.SoundTest.{sizeSound, tablesLong, rowSound, risesAt, after, listsSound};
+ghost use Rattle.model.specs.SoundTest.{sizeSound, tablesLong, rowSound, after, listsSound};
 ghost use Rattle.tables.specs.declared.Row.{Row};
 ghost use Rattle.tables.specs.Meaning.{held, numbers};
 ghost use Rattle.tables.specs.Spans.{spanSound};
@@ -14,8 +14,8 @@ ghost use Rattle.tables.specs.Lasts.{listBelow};
 use crate::Row;
 use crate::Size;
 use crate::admission::long_enough;
-use crate::entries::at;
 use crate::entries::start_of;
+use crate::rising::rises_below;
 use crate::spans::Span;
 use crate::spans::not_idle;
 use crate::spans::span_at;
@@ -75,21 +75,6 @@ pub fn rows_sound(size: Size, rows: &[Row]) -> bool
     true
 }
 
-// The entries at the k + 1 places from `from` on rise.
-fn rises(entries: &[u16], from: usize, k: usize) -> bool
-    requires { ⌜ (k < length (now entries) - from) ⌝ }
-    ensures { λ r. ⌜ r ≡ every (λ i. risesAt (now (entries .entry)) (from + i)) k ⌝ }
-{
-    let mut i = 0;
-    while i < k {
-        if at(entries, from + i + 1) <= at(entries, from + i) {
-            return false;
-        }
-        i += 1;
-    }
-    true
-}
-
 // At least so many places from `from` up to `to`.
 fn at_least(least: usize, from: usize, to: usize) -> bool
     ensures { λ r. ⌜ r ≡ leb (after least from) to ⌝ }
@@ -100,7 +85,7 @@ fn at_least(least: usize, from: usize, to: usize) -> bool
     least <= to - from
 }
 
-// List i has at least so many entries, they rise, and the last is below n, if there is one: then all are.
+// List i has at least so many entries, they rise, and are below n.
 fn list_sound(
     least: usize,
     n: usize,
@@ -121,14 +106,7 @@ fn list_sound(
     if end < to {
         return false;
     }
-    if to <= from {
-        return true;
-    }
-    let last = to - 1;
-    if n <= at(entries, last) {
-        return false;
-    }
-    rises(entries, from, to - from - 1)
+    rises_below(n, entries, from, to)
 }
 
 fn each_list_sound(

@@ -12,6 +12,7 @@ pub mod admission;
 pub mod bytes;
 mod checks;
 pub mod entries;
+pub mod rising;
 pub mod rows;
 pub mod spans;
 pub mod tags;

@@ -52,28 +52,31 @@ use prog.Wp
 use types.Kit
 
 abbrev ty·0 : Syntax.Ty
-ty·0 = Syntax.tyRef (Syntax.named 1) Syntax.imm (Syntax.tyInt Syntax.w16)
+ty·0 = Syntax.tyRef (Syntax.named 0) Syntax.imm (Syntax.tyInt Syntax.w8)
 
 abbrev ty·1 : Syntax.Ty
 ty·1 = Syntax.tyRef (Syntax.named 2) Syntax.imm (Syntax.tyInt Syntax.w16)
 
 abbrev ty·2 : Syntax.Ty
-ty·2 = Syntax.tyRef (Syntax.named 0) Syntax.imm (Memory.pointee (T.the-row .written))
+ty·2 = Syntax.tyRef (Syntax.named 3) Syntax.imm (Syntax.tyInt Syntax.w16)
 
 abbrev ty·3 : Syntax.Ty
-ty·3 = Syntax.tyStruct (List._∷_ 116 (List._∷_ 97 (List._∷_ 98 (List._∷_ 108 (List._∷_ 101 (List._∷_ 115 (List._∷_ 58 (List._∷_ 58 (List._∷_ 83 (List._∷_ 105 (List._∷_ 122 (List._∷_ 101 List.[])))))))))))) (Syntax.tcons (Syntax.tyInt Syntax.w64) (Syntax.tcons (Syntax.tyInt Syntax.w64) (Syntax.tcons (Syntax.tyInt Syntax.w64) (Syntax.tcons (Syntax.tyInt Syntax.w64) Syntax.tnil))))
+ty·3 = Syntax.tyRef (Syntax.named 1) Syntax.imm (Memory.pointee (T.the-row .written))
 
 abbrev ty·4 : Syntax.Ty
-ty·4 = Syntax.tyStruct (List._∷_ 98 (List._∷_ 101 (List._∷_ 110 (List._∷_ 99 (List._∷_ 104 (List._∷_ 95 (List._∷_ 112 (List._∷_ 108 (List._∷_ 97 (List._∷_ 110 (List._∷_ 115 (List._∷_ 58 (List._∷_ 58 (List._∷_ 108 (List._∷_ 101 (List._∷_ 110 (List._∷_ 116 (List._∷_ 58 (List._∷_ 58 (List._∷_ 80 (List._∷_ 108 (List._∷_ 97 (List._∷_ 99 (List._∷_ 101 (List._∷_ 115 List.[]))))))))))))))))))))))))) (Syntax.tcons (Syntax.tyInt Syntax.w64) (Syntax.tcons (Syntax.tyInt Syntax.w64) (Syntax.tcons (Syntax.tyInt Syntax.w64) (Syntax.tcons (Syntax.tyInt Syntax.w64) (Syntax.tcons (Syntax.tyInt Syntax.w64) (Syntax.tcons (Syntax.tyInt Syntax.w16) Syntax.tnil))))))
+ty·4 = Syntax.tyStruct (List._∷_ 116 (List._∷_ 97 (List._∷_ 98 (List._∷_ 108 (List._∷_ 101 (List._∷_ 115 (List._∷_ 58 (List._∷_ 58 (List._∷_ 83 (List._∷_ 105 (List._∷_ 122 (List._∷_ 101 List.[])))))))))))) (Syntax.tcons (Syntax.tyInt Syntax.w64) (Syntax.tcons (Syntax.tyInt Syntax.w64) (Syntax.tcons (Syntax.tyInt Syntax.w64) (Syntax.tcons (Syntax.tyInt Syntax.w64) Syntax.tnil))))
 
-abbrev pub ps : List.List (Kinds.PK 3)
-ps = List._∷_ (Value.pVal record { ty = Declared.row Size.the-type; one = Path'.refl; val = Laws''.val Size.the-type Laws'.the-laws; tells = Laws''.tells Size.the-type Laws'.the-laws; still = Laws''.still Size.the-type Laws'.the-copy Exit.yes; row = Rows.whole (Declared.row Size.the-type); rd = λ x. x; mk = λ x. x } λ M 𝓤 H A W. record { copies = Laws''.copy Size.the-type Laws'.the-copy 𝓤 H A W; lawful = Laws''.lawful Size.the-type Laws'.the-laws 𝓤 H A W; makes = Laws''.makes Size.the-type Laws'.the-plain 𝓤 H A; in-mem = Local.mem-whole 𝓤 H A W (Declared.row Size.the-type); of-mem = Local.whole-mem 𝓤 H A W (Declared.row Size.the-type) }) (List._∷_ (ShrSlice.pShrS T.the-row 0 tt) (List._∷_ (ShrSlice.pShrS (Referent.rtF (Referent.fInt Syntax.w16)) 1 tt) (List._∷_ (ShrSlice.pShrS (Referent.rtF (Referent.fInt Syntax.w16)) 2 tt) (List._∷_ (Num.pNum Syntax.w64) List.[]))))
+abbrev ty·5 : Syntax.Ty
+ty·5 = Syntax.tyStruct (List._∷_ 98 (List._∷_ 101 (List._∷_ 110 (List._∷_ 99 (List._∷_ 104 (List._∷_ 95 (List._∷_ 112 (List._∷_ 108 (List._∷_ 97 (List._∷_ 110 (List._∷_ 115 (List._∷_ 58 (List._∷_ 58 (List._∷_ 108 (List._∷_ 101 (List._∷_ 110 (List._∷_ 116 (List._∷_ 58 (List._∷_ 58 (List._∷_ 80 (List._∷_ 108 (List._∷_ 97 (List._∷_ 99 (List._∷_ 101 (List._∷_ 115 List.[]))))))))))))))))))))))))) (Syntax.tcons (Syntax.tyInt Syntax.w64) (Syntax.tcons (Syntax.tyInt Syntax.w64) (Syntax.tcons (Syntax.tyInt Syntax.w64) (Syntax.tcons (Syntax.tyInt Syntax.w64) (Syntax.tcons (Syntax.tyInt Syntax.w64) (Syntax.tcons (Syntax.tyInt Syntax.w16) Syntax.tnil))))))
 
-abbrev pub r : Kinds.RK 3
+abbrev pub ps : List.List (Kinds.PK 4)
+ps = List._∷_ (ShrSlice.pShrS (Referent.rtF (Referent.fInt Syntax.w8)) 0 tt) (List._∷_ (Value.pVal record { ty = Declared.row Size.the-type; one = Path'.refl; val = Laws''.val Size.the-type Laws'.the-laws; tells = Laws''.tells Size.the-type Laws'.the-laws; still = Laws''.still Size.the-type Laws'.the-copy Exit.yes; row = Rows.whole (Declared.row Size.the-type); rd = λ x. x; mk = λ x. x } λ M 𝓤 H A W. record { copies = Laws''.copy Size.the-type Laws'.the-copy 𝓤 H A W; lawful = Laws''.lawful Size.the-type Laws'.the-laws 𝓤 H A W; makes = Laws''.makes Size.the-type Laws'.the-plain 𝓤 H A; in-mem = Local.mem-whole 𝓤 H A W (Declared.row Size.the-type); of-mem = Local.whole-mem 𝓤 H A W (Declared.row Size.the-type) }) (List._∷_ (ShrSlice.pShrS T.the-row 1 tt) (List._∷_ (ShrSlice.pShrS (Referent.rtF (Referent.fInt Syntax.w16)) 2 tt) (List._∷_ (ShrSlice.pShrS (Referent.rtF (Referent.fInt Syntax.w16)) 3 tt) (List._∷_ (Num.pNum Syntax.w64) List.[])))))
+
+abbrev pub r : Kinds.RK 4
 r = Unit'.rUnit
 
 abbrev pub xs : List.List Syntax.Ty
-xs = List._∷_ (Syntax.tyInt Syntax.w64) (List._∷_ (Syntax.tyInt Syntax.w64) (List._∷_ ty·4 (List._∷_ (Syntax.tyInt Syntax.w64) (List._∷_ (Syntax.tyInt Syntax.w64) (List._∷_ Syntax.tyBool (List._∷_ Syntax.tyBool (List._∷_ Syntax.tyUnit (List._∷_ Syntax.tyBool (List._∷_ Syntax.tyUnit List.[])))))))))
+xs = List._∷_ (Syntax.tyInt Syntax.w64) (List._∷_ (Syntax.tyInt Syntax.w64) (List._∷_ ty·5 (List._∷_ (Syntax.tyInt Syntax.w64) (List._∷_ (Syntax.tyInt Syntax.w64) (List._∷_ Syntax.tyBool (List._∷_ Syntax.tyBool (List._∷_ Syntax.tyUnit (List._∷_ Syntax.tyBool (List._∷_ Syntax.tyBool (List._∷_ Syntax.tyUnit (List._∷_ Syntax.tyBool (List._∷_ Syntax.tyUnit List.[]))))))))))))
 
 abbrev pub m : Nat.ℕ
 m = 0
@@ -103,25 +106,37 @@ abbrev pub r·3 : Kinds.RK 3
 r·3 = Unit'.rUnit
 
 abbrev pub ps·4 : List.List (Kinds.PK 0)
-ps·4 = List.[]
+ps·4 = List._∷_ (Num.pNum Syntax.w64) List.[]
 
 abbrev pub r·4 : Kinds.RK 0
-r·4 = Num.rNum Syntax.w64
+r·4 = Bool.rBool
 
-abbrev pub ps·5 : List.List (Kinds.PK 3)
-ps·5 = List._∷_ (Value.pVal record { ty = Declared.row Size.the-type; one = Path'.refl; val = Laws''.val Size.the-type Laws'.the-laws; tells = Laws''.tells Size.the-type Laws'.the-laws; still = Laws''.still Size.the-type Laws'.the-copy Exit.yes; row = Rows.whole (Declared.row Size.the-type); rd = λ x. x; mk = λ x. x } λ M 𝓤 H A W. record { copies = Laws''.copy Size.the-type Laws'.the-copy 𝓤 H A W; lawful = Laws''.lawful Size.the-type Laws'.the-laws 𝓤 H A W; makes = Laws''.makes Size.the-type Laws'.the-plain 𝓤 H A; in-mem = Local.mem-whole 𝓤 H A W (Declared.row Size.the-type); of-mem = Local.whole-mem 𝓤 H A W (Declared.row Size.the-type) }) (List._∷_ (ShrSlice.pShrS T.the-row 0 tt) (List._∷_ (ShrSlice.pShrS (Referent.rtF (Referent.fInt Syntax.w16)) 1 tt) (List._∷_ (ShrSlice.pShrS (Referent.rtF (Referent.fInt Syntax.w16)) 2 tt) (List._∷_ (Num.pNum Syntax.w64) (List._∷_ (Num.pNum Syntax.w64) (List._∷_ (Num.pNum Syntax.w64) List.[]))))))
+abbrev pub ps·5 : List.List (Kinds.PK 1)
+ps·5 = List._∷_ (ShrSlice.pShrS (Referent.rtF (Referent.fInt Syntax.w8)) 0 tt) (List._∷_ Bool.pBool List.[])
 
-abbrev pub r·5 : Kinds.RK 3
+abbrev pub r·5 : Kinds.RK 1
 r·5 = Unit'.rUnit
 
+abbrev pub ps·6 : List.List (Kinds.PK 0)
+ps·6 = List.[]
+
+abbrev pub r·6 : Kinds.RK 0
+r·6 = Num.rNum Syntax.w64
+
+abbrev pub ps·7 : List.List (Kinds.PK 3)
+ps·7 = List._∷_ (Value.pVal record { ty = Declared.row Size.the-type; one = Path'.refl; val = Laws''.val Size.the-type Laws'.the-laws; tells = Laws''.tells Size.the-type Laws'.the-laws; still = Laws''.still Size.the-type Laws'.the-copy Exit.yes; row = Rows.whole (Declared.row Size.the-type); rd = λ x. x; mk = λ x. x } λ M 𝓤 H A W. record { copies = Laws''.copy Size.the-type Laws'.the-copy 𝓤 H A W; lawful = Laws''.lawful Size.the-type Laws'.the-laws 𝓤 H A W; makes = Laws''.makes Size.the-type Laws'.the-plain 𝓤 H A; in-mem = Local.mem-whole 𝓤 H A W (Declared.row Size.the-type); of-mem = Local.whole-mem 𝓤 H A W (Declared.row Size.the-type) }) (List._∷_ (ShrSlice.pShrS T.the-row 0 tt) (List._∷_ (ShrSlice.pShrS (Referent.rtF (Referent.fInt Syntax.w16)) 1 tt) (List._∷_ (ShrSlice.pShrS (Referent.rtF (Referent.fInt Syntax.w16)) 2 tt) (List._∷_ (Num.pNum Syntax.w64) (List._∷_ (Num.pNum Syntax.w64) (List._∷_ (Num.pNum Syntax.w64) List.[]))))))
+
+abbrev pub r·7 : Kinds.RK 3
+r·7 = Unit'.rUnit
+
 abbrev pub hs : List.List Syntax.Home
-hs = List._∷_ Syntax.valueLocal (List._∷_ Syntax.valueLocal (List._∷_ Syntax.valueLocal (List._∷_ Syntax.valueLocal (List._∷_ Syntax.valueLocal (List._∷_ Syntax.valueLocal (List._∷_ Syntax.valueLocal (List._∷_ Syntax.valueLocal (List._∷_ Syntax.valueLocal (List._∷_ Syntax.valueLocal (List._∷_ Syntax.valueLocal (List._∷_ Syntax.valueLocal (List._∷_ Syntax.valueLocal (List._∷_ Syntax.valueLocal (List._∷_ Syntax.valueLocal (List._∷_ Syntax.valueLocal List.[])))))))))))))))
+hs = List._∷_ Syntax.valueLocal (List._∷_ Syntax.valueLocal (List._∷_ Syntax.valueLocal (List._∷_ Syntax.valueLocal (List._∷_ Syntax.valueLocal (List._∷_ Syntax.valueLocal (List._∷_ Syntax.valueLocal (List._∷_ Syntax.valueLocal (List._∷_ Syntax.valueLocal (List._∷_ Syntax.valueLocal (List._∷_ Syntax.valueLocal (List._∷_ Syntax.valueLocal (List._∷_ Syntax.valueLocal (List._∷_ Syntax.valueLocal (List._∷_ Syntax.valueLocal (List._∷_ Syntax.valueLocal (List._∷_ Syntax.valueLocal (List._∷_ Syntax.valueLocal (List._∷_ Syntax.valueLocal (List._∷_ Syntax.valueLocal List.[])))))))))))))))))))
 
 abbrev b0 : Syntax.Body
-b0 = Syntax.assign (Syntax.place 6 List.[]) (Syntax.rvOpd (Syntax.copy (Syntax.place 5 List.[])))
+b0 = Syntax.assign (Syntax.place 7 List.[]) (Syntax.rvOpd (Syntax.copy (Syntax.place 6 List.[])))
 
 abbrev b1 : Syntax.Body
-b1 = Syntax.assign (Syntax.place 11 List.[]) (Syntax.op2 (Syntax.lt Syntax.unsigned) (Syntax.int Syntax.w64 0) (Syntax.copy (Syntax.place 6 List.[])))
+b1 = Syntax.assign (Syntax.place 12 List.[]) (Syntax.op2 (Syntax.lt Syntax.unsigned) (Syntax.int Syntax.w64 0) (Syntax.copy (Syntax.place 7 List.[])))
 
 abbrev b2 : Syntax.Body
 b2 = Syntax.skip
@@ -130,22 +145,22 @@ abbrev b3 : Syntax.Body
 b3 = Syntax.exit 1
 
 abbrev b4 : Syntax.Body
-b4 = Syntax.cond (Syntax.copy (Syntax.place 11 List.[])) b2 b3
+b4 = Syntax.cond (Syntax.copy (Syntax.place 12 List.[])) b2 b3
 
 abbrev b5 : Syntax.Body
-b5 = Syntax.call "bench_plans::numbers::next" List.[] (Syntax.place 7 List.[])
+b5 = Syntax.call "bench_plans::numbers::next" List.[] (Syntax.place 8 List.[])
 
 abbrev b6 : Syntax.Body
-b6 = Syntax.call "bench_plans::questions::is_trimming" (List._∷_ (Syntax.copy (Syntax.place 7 List.[])) List.[]) (Syntax.place 12 List.[])
+b6 = Syntax.call "bench_plans::questions::is_trimming" (List._∷_ (Syntax.copy (Syntax.place 8 List.[])) List.[]) (Syntax.place 13 List.[])
 
 abbrev b7 : Syntax.Body
-b7 = Syntax.call "bench_plans::lent::next_places" List.[] (Syntax.place 8 List.[])
+b7 = Syntax.call "bench_plans::lent::next_places" List.[] (Syntax.place 9 List.[])
 
 abbrev b8 : Syntax.Body
-b8 = Syntax.assign (Syntax.place 14 List.[]) (Syntax.op2 Syntax.eq (Syntax.copy (Syntax.place 7 List.[])) (Syntax.int Syntax.w64 4))
+b8 = Syntax.assign (Syntax.place 15 List.[]) (Syntax.op2 Syntax.eq (Syntax.copy (Syntax.place 8 List.[])) (Syntax.int Syntax.w64 4))
 
 abbrev b9 : Syntax.Body
-b9 = Syntax.call "bench_plans::trims::ask_trim" (List._∷_ (Syntax.copy (Syntax.place 1 List.[])) (List._∷_ (Syntax.copy (Syntax.place 2 List.[])) (List._∷_ (Syntax.copy (Syntax.place 3 List.[])) (List._∷_ (Syntax.copy (Syntax.place 4 List.[])) (List._∷_ (Syntax.copy (Syntax.place 8 (List._∷_ (Syntax.field 0) List.[]))) (List._∷_ (Syntax.copy (Syntax.place 8 (List._∷_ (Syntax.field 1) List.[]))) (List._∷_ (Syntax.copy (Syntax.place 8 (List._∷_ (Syntax.field 2) List.[]))) (List._∷_ (Syntax.copy (Syntax.place 8 (List._∷_ (Syntax.field 3) List.[]))) (List._∷_ (Syntax.copy (Syntax.place 8 (List._∷_ (Syntax.field 4) List.[]))) (List._∷_ (Syntax.copy (Syntax.place 8 (List._∷_ (Syntax.field 5) List.[]))) (List._∷_ (Syntax.copy (Syntax.place 14 List.[])) List.[]))))))))))) (Syntax.place 13 List.[])
+b9 = Syntax.call "bench_plans::trims::ask_trim" (List._∷_ (Syntax.copy (Syntax.place 2 List.[])) (List._∷_ (Syntax.copy (Syntax.place 3 List.[])) (List._∷_ (Syntax.copy (Syntax.place 4 List.[])) (List._∷_ (Syntax.copy (Syntax.place 5 List.[])) (List._∷_ (Syntax.copy (Syntax.place 9 (List._∷_ (Syntax.field 0) List.[]))) (List._∷_ (Syntax.copy (Syntax.place 9 (List._∷_ (Syntax.field 1) List.[]))) (List._∷_ (Syntax.copy (Syntax.place 9 (List._∷_ (Syntax.field 2) List.[]))) (List._∷_ (Syntax.copy (Syntax.place 9 (List._∷_ (Syntax.field 3) List.[]))) (List._∷_ (Syntax.copy (Syntax.place 9 (List._∷_ (Syntax.field 4) List.[]))) (List._∷_ (Syntax.copy (Syntax.place 9 (List._∷_ (Syntax.field 5) List.[]))) (List._∷_ (Syntax.copy (Syntax.place 15 List.[])) List.[]))))))))))) (Syntax.place 14 List.[])
 
 abbrev b10 : Syntax.Body
 b10 = Syntax.seq b8 b9
@@ -154,687 +169,829 @@ abbrev b11 : Syntax.Body
 b11 = Syntax.seq b7 b10
 
 abbrev b12 : Syntax.Body
-b12 = Syntax.call "bench_plans::numbers::next_wide" List.[] (Syntax.place 9 List.[])
+b12 = Syntax.call "bench_plans::questions::is_carrying" (List._∷_ (Syntax.copy (Syntax.place 8 List.[])) List.[]) (Syntax.place 16 List.[])
 
 abbrev b13 : Syntax.Body
-b13 = Syntax.call "bench_plans::numbers::next_wide" List.[] (Syntax.place 10 List.[])
+b13 = Syntax.assign (Syntax.place 18 List.[]) (Syntax.op2 Syntax.eq (Syntax.copy (Syntax.place 8 List.[])) (Syntax.int Syntax.w64 6))
 
 abbrev b14 : Syntax.Body
-b14 = Syntax.call "bench_plans::questions::ask" (List._∷_ (Syntax.copy (Syntax.place 1 List.[])) (List._∷_ (Syntax.copy (Syntax.place 2 List.[])) (List._∷_ (Syntax.copy (Syntax.place 3 List.[])) (List._∷_ (Syntax.copy (Syntax.place 4 List.[])) (List._∷_ (Syntax.copy (Syntax.place 7 List.[])) (List._∷_ (Syntax.copy (Syntax.place 9 List.[])) (List._∷_ (Syntax.copy (Syntax.place 10 List.[])) List.[]))))))) (Syntax.place 15 List.[])
+b14 = Syntax.call "bench_plans::carries::ask_carry" (List._∷_ (Syntax.copy (Syntax.place 1 List.[])) (List._∷_ (Syntax.copy (Syntax.place 18 List.[])) List.[])) (Syntax.place 17 List.[])
 
 abbrev b15 : Syntax.Body
 b15 = Syntax.seq b13 b14
 
 abbrev b16 : Syntax.Body
-b16 = Syntax.seq b12 b15
+b16 = Syntax.call "bench_plans::numbers::next_wide" List.[] (Syntax.place 10 List.[])
 
 abbrev b17 : Syntax.Body
-b17 = Syntax.cond (Syntax.copy (Syntax.place 12 List.[])) b11 b16
+b17 = Syntax.call "bench_plans::numbers::next_wide" List.[] (Syntax.place 11 List.[])
 
 abbrev b18 : Syntax.Body
-b18 = Syntax.assign (Syntax.place 6 List.[]) (Syntax.op2 (Syntax.sub Syntax.unsigned) (Syntax.copy (Syntax.place 6 List.[])) (Syntax.int Syntax.w64 1))
+b18 = Syntax.call "bench_plans::questions::ask" (List._∷_ (Syntax.copy (Syntax.place 2 List.[])) (List._∷_ (Syntax.copy (Syntax.place 3 List.[])) (List._∷_ (Syntax.copy (Syntax.place 4 List.[])) (List._∷_ (Syntax.copy (Syntax.place 5 List.[])) (List._∷_ (Syntax.copy (Syntax.place 8 List.[])) (List._∷_ (Syntax.copy (Syntax.place 10 List.[])) (List._∷_ (Syntax.copy (Syntax.place 11 List.[])) List.[]))))))) (Syntax.place 19 List.[])
 
 abbrev b19 : Syntax.Body
 b19 = Syntax.seq b17 b18
 
 abbrev b20 : Syntax.Body
-b20 = Syntax.seq b6 b19
+b20 = Syntax.seq b16 b19
 
 abbrev b21 : Syntax.Body
-b21 = Syntax.seq b5 b20
+b21 = Syntax.cond (Syntax.copy (Syntax.place 16 List.[])) b15 b20
 
 abbrev b22 : Syntax.Body
-b22 = Syntax.seq b4 b21
+b22 = Syntax.seq b12 b21
 
 abbrev b23 : Syntax.Body
-b23 = Syntax.seq b1 b22
+b23 = Syntax.cond (Syntax.copy (Syntax.place 13 List.[])) b11 b22
 
 abbrev b24 : Syntax.Body
-b24 = Syntax.loop b23
+b24 = Syntax.assign (Syntax.place 7 List.[]) (Syntax.op2 (Syntax.sub Syntax.unsigned) (Syntax.copy (Syntax.place 7 List.[])) (Syntax.int Syntax.w64 1))
 
 abbrev b25 : Syntax.Body
-b25 = Syntax.block b24
+b25 = Syntax.seq b23 b24
 
 abbrev b26 : Syntax.Body
-b26 = Syntax.assign (Syntax.place 0 List.[]) (Syntax.rvOpd Syntax.opdUnit)
+b26 = Syntax.seq b6 b25
 
 abbrev b27 : Syntax.Body
-b27 = Syntax.return
+b27 = Syntax.seq b5 b26
 
 abbrev b28 : Syntax.Body
-b28 = Syntax.seq b26 b27
+b28 = Syntax.seq b4 b27
 
 abbrev b29 : Syntax.Body
-b29 = Syntax.seq b25 b28
+b29 = Syntax.seq b1 b28
 
 abbrev b30 : Syntax.Body
-b30 = Syntax.seq b0 b29
+b30 = Syntax.loop b29
+
+abbrev b31 : Syntax.Body
+b31 = Syntax.block b30
+
+abbrev b32 : Syntax.Body
+b32 = Syntax.assign (Syntax.place 0 List.[]) (Syntax.rvOpd Syntax.opdUnit)
+
+abbrev b33 : Syntax.Body
+b33 = Syntax.return
+
+abbrev b34 : Syntax.Body
+b34 = Syntax.seq b32 b33
+
+abbrev b35 : Syntax.Body
+b35 = Syntax.seq b31 b34
+
+abbrev b36 : Syntax.Body
+b36 = Syntax.seq b0 b35
 
 abbrev pub body : Syntax.Body
-body = b30
+body = b36
 
 abbrev pub Claims : Type 1
-Claims = Kinds.In 0 ps·0 × Kinds.Out 0 ps·0 r·0 × Kinds.In 0 ps·1 × Kinds.Out 0 ps·1 r·1 × Kinds.In 0 ps·2 × Kinds.Out 0 ps·2 r·2 × Kinds.In 3 ps·3 × Kinds.Out 3 ps·3 r·3 × Kinds.In 0 ps·4 × Kinds.Out 0 ps·4 r·4 × Kinds.In 3 ps·5 × Kinds.Out 3 ps·5 r·5
+Claims = Kinds.In 0 ps·0 × Kinds.Out 0 ps·0 r·0 × Kinds.In 0 ps·1 × Kinds.Out 0 ps·1 r·1 × Kinds.In 0 ps·2 × Kinds.Out 0 ps·2 r·2 × Kinds.In 3 ps·3 × Kinds.Out 3 ps·3 r·3 × Kinds.In 0 ps·4 × Kinds.Out 0 ps·4 r·4 × Kinds.In 1 ps·5 × Kinds.Out 1 ps·5 r·5 × Kinds.In 0 ps·6 × Kinds.Out 0 ps·6 r·6 × Kinds.In 3 ps·7 × Kinds.Out 3 ps·7 r·7
 
 abbrev pub t0 : List.List Row.Entry
-t0 = List._∷_ (0, Rows.any-gone Syntax.tyUnit) (List._∷_ (1, Rows.whole (Declared.row Size.the-type)) (List._∷_ (2, Rows.sslice T.the-row ty·2 0) (List._∷_ (3, Rows.sslice (Referent.rtF (Referent.fInt Syntax.w16)) ty·0 1) (List._∷_ (4, Rows.sslice (Referent.rtF (Referent.fInt Syntax.w16)) ty·1 2) (List._∷_ (5, Rows.sc-here (Row.sInt Syntax.w64)) (List._∷_ (6, Rows.any-gone (Syntax.tyInt Syntax.w64)) (List._∷_ (7, Rows.any-gone (Syntax.tyInt Syntax.w64)) (List._∷_ (8, Rows.any-gone ty·4) (List._∷_ (9, Rows.any-gone (Syntax.tyInt Syntax.w64)) (List._∷_ (10, Rows.any-gone (Syntax.tyInt Syntax.w64)) (List._∷_ (11, Rows.any-gone Syntax.tyBool) (List._∷_ (12, Rows.any-gone Syntax.tyBool) (List._∷_ (13, Rows.any-gone Syntax.tyUnit) (List._∷_ (14, Rows.any-gone Syntax.tyBool) (List._∷_ (15, Rows.any-gone Syntax.tyUnit) List.[])))))))))))))))
+t0 = List._∷_ (0, Rows.any-gone Syntax.tyUnit) (List._∷_ (1, Rows.sslice (Referent.rtF (Referent.fInt Syntax.w8)) ty·0 0) (List._∷_ (2, Rows.whole (Declared.row Size.the-type)) (List._∷_ (3, Rows.sslice T.the-row ty·3 1) (List._∷_ (4, Rows.sslice (Referent.rtF (Referent.fInt Syntax.w16)) ty·1 2) (List._∷_ (5, Rows.sslice (Referent.rtF (Referent.fInt Syntax.w16)) ty·2 3) (List._∷_ (6, Rows.sc-here (Row.sInt Syntax.w64)) (List._∷_ (7, Rows.any-gone (Syntax.tyInt Syntax.w64)) (List._∷_ (8, Rows.any-gone (Syntax.tyInt Syntax.w64)) (List._∷_ (9, Rows.any-gone ty·5) (List._∷_ (10, Rows.any-gone (Syntax.tyInt Syntax.w64)) (List._∷_ (11, Rows.any-gone (Syntax.tyInt Syntax.w64)) (List._∷_ (12, Rows.any-gone Syntax.tyBool) (List._∷_ (13, Rows.any-gone Syntax.tyBool) (List._∷_ (14, Rows.any-gone Syntax.tyUnit) (List._∷_ (15, Rows.any-gone Syntax.tyBool) List.[])))))))))))))))
 
 abbrev pub t1 : List.List Row.Entry
-t1 = Row.setRow 5 (5, Rows.any-gone (Syntax.tyInt Syntax.w64)) (Row.setRow 1 (1, Rows.any-gone ty·3) (Row.setRow 0 (0, Rows.sc-here Row.sUnit) t0))
+t1 = List._∷_ (16, Rows.any-gone Syntax.tyBool) (List._∷_ (17, Rows.any-gone Syntax.tyUnit) (List._∷_ (18, Rows.any-gone Syntax.tyBool) (List._∷_ (19, Rows.any-gone Syntax.tyUnit) List.[])))
 
 abbrev pub t2 : List.List Row.Entry
-t2 = Row.setRow 6 (6, Rows.sc-here (Row.sInt Syntax.w64)) t0
+t2 = Row.setRow 6 (6, Rows.any-gone (Syntax.tyInt Syntax.w64)) (Row.setRow 2 (2, Rows.any-gone ty·4) (Row.setRow 0 (0, Rows.sc-here Row.sUnit) t0))
 
 abbrev pub t3 : List.List Row.Entry
-t3 = Row.setRow 6 (6, Rows.sc-here (Row.sInt Syntax.w64)) (Row.setRow 5 (5, Rows.sc-here (Row.sInt Syntax.w64)) (Row.setRow 0 (0, Rows.any-gone Syntax.tyUnit) t1))
+t3 = Row.setRow 7 (7, Rows.sc-here (Row.sInt Syntax.w64)) t0
 
 abbrev pub t4 : List.List Row.Entry
-t4 = Row.setRow 11 (11, Rows.sc-here Row.sBool) t2
+t4 = Row.setRow 7 (7, Rows.sc-here (Row.sInt Syntax.w64)) (Row.setRow 6 (6, Rows.sc-here (Row.sInt Syntax.w64)) (Row.setRow 0 (0, Rows.any-gone Syntax.tyUnit) t2))
 
 abbrev pub t5 : List.List Row.Entry
-t5 = Row.setRow 11 (11, Rows.sc-here Row.sBool) t3
+t5 = Row.setRow 12 (12, Rows.sc-here Row.sBool) t3
 
 abbrev pub t6 : List.List Row.Entry
-t6 = Row.setRow 7 (7, Rows.sc-here (Row.sInt Syntax.w64)) t2
+t6 = Row.setRow 12 (12, Rows.sc-here Row.sBool) t4
 
 abbrev pub t7 : List.List Row.Entry
-t7 = Row.setRow 12 (12, Rows.sc-here Row.sBool) t6
+t7 = Row.setRow 8 (8, Rows.sc-here (Row.sInt Syntax.w64)) t3
 
 abbrev pub t8 : List.List Row.Entry
-t8 = Row.setRow 8 (8, Rows.whole (Declared.row Places.the-type)) t6
+t8 = Row.setRow 13 (13, Rows.sc-here Row.sBool) t7
 
 abbrev pub t9 : List.List Row.Entry
-t9 = Row.setRow 14 (14, Rows.sc-here Row.sBool) t8
+t9 = Row.setRow 9 (9, Rows.whole (Declared.row Places.the-type)) t7
 
 abbrev pub t10 : List.List Row.Entry
-t10 = Row.setRow 13 (13, Rows.sc-here Row.sUnit) t9
+t10 = Row.setRow 15 (15, Rows.sc-here Row.sBool) t9
 
 abbrev pub t11 : List.List Row.Entry
-t11 = Row.setRow 14 (14, Rows.sc-here Row.sBool) (Row.setRow 13 (13, Rows.sc-here Row.sUnit) t6)
+t11 = Row.setRow 14 (14, Rows.sc-here Row.sUnit) t10
 
 abbrev pub t12 : List.List Row.Entry
-t12 = Row.setRow 14 (14, Rows.sc-here Row.sBool) t6
+t12 = Row.setRow 15 (15, Rows.sc-here Row.sBool) (Row.setRow 14 (14, Rows.sc-here Row.sUnit) t7)
 
 abbrev pub t13 : List.List Row.Entry
-t13 = Row.setRow 9 (9, Rows.sc-here (Row.sInt Syntax.w64)) t6
+t13 = Row.setRow 15 (15, Rows.sc-here Row.sBool) t7
 
 abbrev pub t14 : List.List Row.Entry
-t14 = Row.setRow 10 (10, Rows.sc-here (Row.sInt Syntax.w64)) t13
+t14 = Row.setRow 0 (16, Rows.sc-here Row.sBool) t1
 
 abbrev pub t15 : List.List Row.Entry
-t15 = Row.setRow 15 (15, Rows.sc-here Row.sUnit) t14
+t15 = Row.setRow 2 (18, Rows.sc-here Row.sBool) t1
 
 abbrev pub t16 : List.List Row.Entry
-t16 = Row.setRow 9 (9, Rows.any-gone (Syntax.tyInt Syntax.w64)) t15
+t16 = Row.setRow 1 (17, Rows.sc-here Row.sUnit) t15
 
 abbrev pub t17 : List.List Row.Entry
-t17 = Row.setRow 15 (15, Rows.sc-here Row.sUnit) t6
+t17 = Row.setRow 10 (10, Rows.sc-here (Row.sInt Syntax.w64)) t7
 
 abbrev pub t18 : List.List Row.Entry
-t18 = Row.setRow 0 (0, Rows.sc-here Row.sUnit) t3
+t18 = Row.setRow 11 (11, Rows.sc-here (Row.sInt Syntax.w64)) t17
 
 abbrev pub t19 : List.List Row.Entry
-t19 = Row.setRow 5 (5, Rows.sc-here (Row.sInt Syntax.w64)) t1
+t19 = Row.setRow 3 (19, Rows.sc-here Row.sUnit) t1
+
+abbrev pub t20 : List.List Row.Entry
+t20 = Row.setRow 11 (11, Rows.sc-here (Row.sInt Syntax.w64)) t7
+
+abbrev pub t21 : List.List Row.Entry
+t21 = Row.setRow 0 (0, Rows.sc-here Row.sUnit) t4
+
+abbrev pub t22 : List.List Row.Entry
+t22 = Row.setRow 6 (6, Rows.sc-here (Row.sInt Syntax.w64)) t2
 
 abbrev pub T0 : Row.Cx
-T0 = record { locals = t0; slots = List.[] }
+T0 = record { locals = List._++_ t0 t1; slots = List.[] }
 
 abbrev pub T1 : Row.Cx
-T1 = record { locals = t1; slots = List.[] }
+T1 = record { locals = List._++_ t2 t1; slots = List.[] }
 
 abbrev pub T2 : Row.Cx
-T2 = record { locals = t0; slots = List.[] }
+T2 = record { locals = List._++_ t0 t1; slots = List.[] }
 
 abbrev pub T3 : Row.Cx
-T3 = record { locals = t0; slots = List.[] }
+T3 = record { locals = List._++_ t0 t1; slots = List.[] }
 
 abbrev pub T4 : Row.Cx
-T4 = record { locals = t2; slots = List.[] }
+T4 = record { locals = List._++_ t0 t1; slots = List.[] }
 
 abbrev pub T5 : Row.Cx
-T5 = record { locals = t3; slots = List.[] }
+T5 = record { locals = List._++_ t3 t1; slots = List.[] }
 
 abbrev pub T6 : Row.Cx
-T6 = record { locals = t4; slots = List.[] }
+T6 = record { locals = List._++_ t4 t1; slots = List.[] }
 
 abbrev pub T7 : Row.Cx
-T7 = record { locals = t2; slots = List.[] }
+T7 = record { locals = List._++_ t5 t1; slots = List.[] }
 
 abbrev pub T8 : Row.Cx
-T8 = record { locals = t2; slots = List.[] }
+T8 = record { locals = List._++_ t3 t1; slots = List.[] }
 
 abbrev pub T9 : Row.Cx
-T9 = record { locals = t5; slots = List.[] }
+T9 = record { locals = List._++_ t3 t1; slots = List.[] }
 
 abbrev pub T10 : Row.Cx
-T10 = record { locals = t3; slots = List.[] }
+T10 = record { locals = List._++_ t6 t1; slots = List.[] }
 
 abbrev pub T11 : Row.Cx
-T11 = record { locals = t6; slots = List.[] }
+T11 = record { locals = List._++_ t4 t1; slots = List.[] }
 
 abbrev pub T12 : Row.Cx
-T12 = record { locals = t7; slots = List.[] }
+T12 = record { locals = List._++_ t7 t1; slots = List.[] }
 
 abbrev pub T13 : Row.Cx
-T13 = record { locals = t6; slots = List.[] }
+T13 = record { locals = List._++_ t8 t1; slots = List.[] }
 
 abbrev pub T14 : Row.Cx
-T14 = record { locals = t6; slots = List.[] }
+T14 = record { locals = List._++_ t7 t1; slots = List.[] }
 
 abbrev pub T15 : Row.Cx
-T15 = record { locals = t8; slots = List.[] }
+T15 = record { locals = List._++_ t7 t1; slots = List.[] }
 
 abbrev pub T16 : Row.Cx
-T16 = record { locals = t9; slots = List.[] }
+T16 = record { locals = List._++_ t9 t1; slots = List.[] }
 
 abbrev pub T17 : Row.Cx
-T17 = record { locals = t10; slots = List.[] }
+T17 = record { locals = List._++_ t10 t1; slots = List.[] }
 
 abbrev pub T18 : Row.Cx
-T18 = record { locals = t11; slots = List.[] }
+T18 = record { locals = List._++_ t11 t1; slots = List.[] }
 
 abbrev pub T19 : Row.Cx
-T19 = record { locals = t12; slots = List.[] }
+T19 = record { locals = List._++_ t12 t1; slots = List.[] }
 
 abbrev pub T20 : Row.Cx
-T20 = record { locals = t6; slots = List.[] }
+T20 = record { locals = List._++_ t13 t1; slots = List.[] }
 
 abbrev pub T21 : Row.Cx
-T21 = record { locals = t6; slots = List.[] }
+T21 = record { locals = List._++_ t7 t1; slots = List.[] }
 
 abbrev pub T22 : Row.Cx
-T22 = record { locals = t13; slots = List.[] }
+T22 = record { locals = List._++_ t7 t1; slots = List.[] }
 
 abbrev pub T23 : Row.Cx
-T23 = record { locals = t14; slots = List.[] }
+T23 = record { locals = List._++_ t7 t14; slots = List.[] }
 
 abbrev pub T24 : Row.Cx
-T24 = record { locals = t15; slots = List.[] }
+T24 = record { locals = List._++_ t7 t1; slots = List.[] }
 
 abbrev pub T25 : Row.Cx
-T25 = record { locals = t16; slots = List.[] }
+T25 = record { locals = List._++_ t7 t15; slots = List.[] }
 
 abbrev pub T26 : Row.Cx
-T26 = record { locals = t17; slots = List.[] }
+T26 = record { locals = List._++_ t7 t16; slots = List.[] }
 
 abbrev pub T27 : Row.Cx
-T27 = record { locals = t6; slots = List.[] }
+T27 = record { locals = List._++_ t7 t15; slots = List.[] }
 
 abbrev pub T28 : Row.Cx
-T28 = record { locals = t6; slots = List.[] }
+T28 = record { locals = List._++_ t7 t1; slots = List.[] }
 
 abbrev pub T29 : Row.Cx
-T29 = record { locals = t2; slots = List.[] }
+T29 = record { locals = List._++_ t7 t1; slots = List.[] }
 
 abbrev pub T30 : Row.Cx
-T30 = record { locals = t18; slots = List.[] }
+T30 = record { locals = List._++_ t17 t1; slots = List.[] }
 
 abbrev pub T31 : Row.Cx
-T31 = record { locals = t19; slots = List.[] }
+T31 = record { locals = List._++_ t18 t1; slots = List.[] }
 
 abbrev pub T32 : Row.Cx
-T32 = record { locals = t1; slots = List.[] }
+T32 = record { locals = List._++_ t18 t19; slots = List.[] }
+
+abbrev pub T33 : Row.Cx
+T33 = record { locals = List._++_ t20 t19; slots = List.[] }
+
+abbrev pub T34 : Row.Cx
+T34 = record { locals = List._++_ t7 t19; slots = List.[] }
+
+abbrev pub T35 : Row.Cx
+T35 = record { locals = List._++_ t7 t1; slots = List.[] }
+
+abbrev pub T36 : Row.Cx
+T36 = record { locals = List._++_ t7 t1; slots = List.[] }
+
+abbrev pub T37 : Row.Cx
+T37 = record { locals = List._++_ t3 t1; slots = List.[] }
+
+abbrev pub T38 : Row.Cx
+T38 = record { locals = List._++_ t21 t1; slots = List.[] }
+
+abbrev pub T39 : Row.Cx
+T39 = record { locals = List._++_ t22 t1; slots = List.[] }
+
+abbrev pub T40 : Row.Cx
+T40 = record { locals = List._++_ t2 t1; slots = List.[] }
 
 abbrev pub O0 : Typed.Outs
 O0 = record { next = Option.none; exits = List.[]; returns = Option.some T1 }
 
 abbrev pub O1 : Typed.Outs
-O1 = Typed.withNext (Option.some T5) O0
+O1 = Typed.withNext (Option.some T6) O0
 
 abbrev pub O2 : Typed.Outs
 O2 = Typed.inBlock₀ O1
 
 abbrev pub O3 : Typed.Outs
-O3 = Typed.inLoop₀ T4 O2
+O3 = Typed.inLoop₀ T5 O2
 
 abbrev pub O4 : Typed.Outs
-O4 = Typed.withNext (Option.some T7) O3
+O4 = Typed.withNext (Option.some T8) O3
 
 abbrev pub O5 : Typed.Outs
-O5 = Typed.withNext (Option.some T13) O3
+O5 = Typed.withNext (Option.some T14) O3
 
 abbrev pub InvT-loop : Type 1
-InvT-loop = Rows.whole (Declared.row Size.the-type) .Mod → List.List (T.the-row .Denot) → List.List (Referent.rtF (Referent.fInt Syntax.w16) .Denot) → List.List (Referent.rtF (Referent.fInt Syntax.w16) .Denot) → Rows.sc-here (Row.sInt Syntax.w64) .Mod → Rows.sc-here (Row.sInt Syntax.w64) .Mod → Rows.sc-here (Row.sInt Syntax.w64) .Mod → Type 0
+InvT-loop = List.List (Referent.rtF (Referent.fInt Syntax.w8) .Denot) → Rows.whole (Declared.row Size.the-type) .Mod → List.List (T.the-row .Denot) → List.List (Referent.rtF (Referent.fInt Syntax.w16) .Denot) → List.List (Referent.rtF (Referent.fInt Syntax.w16) .Denot) → Rows.sc-here (Row.sInt Syntax.w64) .Mod → Rows.sc-here (Row.sInt Syntax.w64) .Mod → Rows.sc-here (Row.sInt Syntax.w64) .Mod → Type 0
 
 abbrev pub MeasureT-loop : Type 0
-MeasureT-loop = Rows.whole (Declared.row Size.the-type) .Mod → List.List (T.the-row .Denot) → List.List (Referent.rtF (Referent.fInt Syntax.w16) .Denot) → List.List (Referent.rtF (Referent.fInt Syntax.w16) .Denot) → Rows.sc-here (Row.sInt Syntax.w64) .Mod → Rows.sc-here (Row.sInt Syntax.w64) .Mod → Rows.sc-here (Row.sInt Syntax.w64) .Mod → Nat.ℕ
+MeasureT-loop = List.List (Referent.rtF (Referent.fInt Syntax.w8) .Denot) → Rows.whole (Declared.row Size.the-type) .Mod → List.List (T.the-row .Denot) → List.List (Referent.rtF (Referent.fInt Syntax.w16) .Denot) → List.List (Referent.rtF (Referent.fInt Syntax.w16) .Denot) → Rows.sc-here (Row.sInt Syntax.w64) .Mod → Rows.sc-here (Row.sInt Syntax.w64) .Mod → Rows.sc-here (Row.sInt Syntax.w64) .Mod → Nat.ℕ
 
 module _ (claims· : Claims) where
   abbrev s0 : Typed.Gives T0 T2
-  s0 = Know.k-shs-known (Referent.fInt Syntax.w16) T0 3 1 ty·0 Row.off 0 λ x. x
+  s0 = Know.k-shs-known (Referent.fInt Syntax.w8) T0 1 0 ty·0 Row.off 0 λ x. x
 
   abbrev s1 : Typed.Gives T2 T3
   s1 = Know.k-shs-known (Referent.fInt Syntax.w16) T2 4 2 ty·1 Row.off 0 λ x. x
 
-  abbrev s2 : Typed.Mo T3 → Typed.Mo T4
-  s2 = Scalar.n-use T3 (Scalar.oAt 5 (Syntax.tyInt Syntax.w64) (Row.valS (Row.sInt Syntax.w64))) 6 (Rows.sc-here (Row.sInt Syntax.w64)) (Row.sInt Syntax.w64 .of)
+  abbrev s2 : Typed.Gives T3 T4
+  s2 = Know.k-shs-known (Referent.fInt Syntax.w16) T3 5 3 ty·2 Row.off 0 λ x. x
 
-  abbrev s3 : Typed.Asks T4 T6
-  s3 = Scalar.k-op2 T4 (Syntax.lt Syntax.unsigned) (Scalar.oInt Syntax.w64 0) (Scalar.oAt 6 (Syntax.tyInt Syntax.w64) (Row.valS (Row.sInt Syntax.w64))) 11 (Rows.sc-here Row.sBool) (Row.sBool .of)
+  abbrev s3 : Typed.Mo T4 → Typed.Mo T5
+  s3 = Scalar.n-use T4 (Scalar.oAt 6 (Syntax.tyInt Syntax.w64) (Row.valS (Row.sInt Syntax.w64))) 7 (Rows.sc-here (Row.sInt Syntax.w64)) (Row.sInt Syntax.w64 .of)
 
-  abbrev s4 : Typed.Mo T6 → Typed.Mo T8
-  s4 = Scalar.n-room T6 11 Syntax.tyBool
+  abbrev s4 : Typed.Asks T5 T7
+  s4 = Scalar.k-op2 T5 (Syntax.lt Syntax.unsigned) (Scalar.oInt Syntax.w64 0) (Scalar.oAt 7 (Syntax.tyInt Syntax.w64) (Row.valS (Row.sInt Syntax.w64))) 12 (Rows.sc-here Row.sBool) (Row.sBool .of)
 
-  abbrev s5 : Typed.Mo T6 → Typed.Mo T9
-  s5 = Scalar.n-room T6 1 ty·3
+  abbrev s5 : Typed.Mo T7 → Typed.Mo T9
+  s5 = Scalar.n-room T7 12 Syntax.tyBool
 
-  abbrev s6 : Typed.Mo T9 → Typed.Mo T10
-  s6 = Scalar.n-room T9 11 Syntax.tyBool
+  abbrev s6 : Typed.Mo T7 → Typed.Mo T10
+  s6 = Scalar.n-room T7 2 ty·4
 
-  abbrev s7 : Typed.Both T7 T11
-  s7 = Call.callB ps·0 r·0 (claims· .0) (claims· .1) T7 tt 7 List.[] (Syntax.tyInt Syntax.w64)
+  abbrev s7 : Typed.Mo T10 → Typed.Mo T11
+  s7 = Scalar.n-room T10 12 Syntax.tyBool
 
-  abbrev s8 : Typed.Both T11 T12
-  s8 = Call.callB ps·1 r·1 (claims· .2) (claims· .3) T11 (Num.vAt 7 λ x. x, tt) 12 List.[] Syntax.tyBool
+  abbrev s8 : Typed.Both T8 T12
+  s8 = Call.callB ps·0 r·0 (claims· .0) (claims· .1) T8 tt 8 List.[] (Syntax.tyInt Syntax.w64)
 
-  abbrev s9 : Typed.Mo T12 → Typed.Mo T14
-  s9 = Scalar.n-room T12 12 Syntax.tyBool
+  abbrev s9 : Typed.Both T12 T13
+  s9 = Call.callB ps·1 r·1 (claims· .2) (claims· .3) T12 (Num.vAt 8 λ x. x, tt) 13 List.[] Syntax.tyBool
 
-  abbrev s10 : Typed.Both T14 T15
-  s10 = Call.callB ps·2 r·2 (claims· .4) (claims· .5) T14 tt 8 List.[] ty·4
+  abbrev s10 : Typed.Mo T13 → Typed.Mo T15
+  s10 = Scalar.n-room T13 13 Syntax.tyBool
 
-  abbrev s11 : Typed.Asks T15 T16
-  s11 = Scalar.k-op2 T15 Syntax.eq (Scalar.oAt 7 (Syntax.tyInt Syntax.w64) (Row.valS (Row.sInt Syntax.w64))) (Scalar.oInt Syntax.w64 4) 14 (Rows.sc-here Row.sBool) (Row.sBool .of)
+  abbrev s11 : Typed.Both T15 T16
+  s11 = Call.callB ps·2 r·2 (claims· .4) (claims· .5) T15 tt 9 List.[] ty·5
 
-  abbrev s12 : Typed.Both T16 T17
-  s12 = Call.callB ps·3 r·3 (claims· .6) (claims· .7) T16 (record { pos = 1; st = List.[]; d = 0; at = λ x. x }, (record { pos = 2; ty = Syntax.tyRef (Syntax.named 0) Syntax.imm (Memory.pointee (T.the-row .written)); ref = λ x. x }, (record { pos = 3; ty = Syntax.tyRef (Syntax.named 1) Syntax.imm (Syntax.tyInt Syntax.w16); ref = λ x. x }, (record { pos = 4; ty = Syntax.tyRef (Syntax.named 2) Syntax.imm (Syntax.tyInt Syntax.w16); ref = λ x. x }, (Num.vFld 8 (List._∷_ (Syntax.field 0) List.[]) 0 λ x. Places.struct .as-values x .0, (Num.vFld 8 (List._∷_ (Syntax.field 1) List.[]) 8 λ x. Places.struct .as-values x .1 .0, (Num.vFld 8 (List._∷_ (Syntax.field 2) List.[]) 16 λ x. Places.struct .as-values x .1 .1 .0, (Num.vFld 8 (List._∷_ (Syntax.field 3) List.[]) 24 λ x. Places.struct .as-values x .1 .1 .1 .0, (Num.vFld 8 (List._∷_ (Syntax.field 4) List.[]) 32 λ x. Places.struct .as-values x .1 .1 .1 .1 .0, (Num.vFld 8 (List._∷_ (Syntax.field 5) List.[]) 40 λ x. Places.struct .as-values x .1 .1 .1 .1 .1 .0, (Bool.bAt 14 λ x. x, tt))))))))))) 13 (List._∷_ 0 (List._∷_ 1 (List._∷_ 2 List.[]))) Syntax.tyUnit
+  abbrev s12 : Typed.Asks T16 T17
+  s12 = Scalar.k-op2 T16 Syntax.eq (Scalar.oAt 8 (Syntax.tyInt Syntax.w64) (Row.valS (Row.sInt Syntax.w64))) (Scalar.oInt Syntax.w64 4) 15 (Rows.sc-here Row.sBool) (Row.sBool .of)
 
-  abbrev s13 : Typed.Mo T17 → Typed.Mo T18
-  s13 = Scalar.n-room T17 8 ty·4
+  abbrev s13 : Typed.Both T17 T18
+  s13 = Call.callB ps·3 r·3 (claims· .6) (claims· .7) T17 (record { pos = 2; st = List.[]; d = 0; at = λ x. x }, (record { pos = 3; ty = Syntax.tyRef (Syntax.named 1) Syntax.imm (Memory.pointee (T.the-row .written)); ref = λ x. x }, (record { pos = 4; ty = Syntax.tyRef (Syntax.named 2) Syntax.imm (Syntax.tyInt Syntax.w16); ref = λ x. x }, (record { pos = 5; ty = Syntax.tyRef (Syntax.named 3) Syntax.imm (Syntax.tyInt Syntax.w16); ref = λ x. x }, (Num.vFld 9 (List._∷_ (Syntax.field 0) List.[]) 0 λ x. Places.struct .as-values x .0, (Num.vFld 9 (List._∷_ (Syntax.field 1) List.[]) 8 λ x. Places.struct .as-values x .1 .0, (Num.vFld 9 (List._∷_ (Syntax.field 2) List.[]) 16 λ x. Places.struct .as-values x .1 .1 .0, (Num.vFld 9 (List._∷_ (Syntax.field 3) List.[]) 24 λ x. Places.struct .as-values x .1 .1 .1 .0, (Num.vFld 9 (List._∷_ (Syntax.field 4) List.[]) 32 λ x. Places.struct .as-values x .1 .1 .1 .1 .0, (Num.vFld 9 (List._∷_ (Syntax.field 5) List.[]) 40 λ x. Places.struct .as-values x .1 .1 .1 .1 .1 .0, (Bool.bAt 15 λ x. x, tt))))))))))) 14 (List._∷_ 1 (List._∷_ 2 (List._∷_ 3 List.[]))) Syntax.tyUnit
 
   abbrev s14 : Typed.Mo T18 → Typed.Mo T19
-  s14 = Scalar.n-room T18 13 Syntax.tyUnit
+  s14 = Scalar.n-room T18 9 ty·5
 
   abbrev s15 : Typed.Mo T19 → Typed.Mo T20
-  s15 = Scalar.n-room T19 14 Syntax.tyBool
+  s15 = Scalar.n-room T19 14 Syntax.tyUnit
 
-  abbrev s16 : Typed.Mo T12 → Typed.Mo T21
-  s16 = Scalar.n-room T12 12 Syntax.tyBool
+  abbrev s16 : Typed.Mo T20 → Typed.Mo T21
+  s16 = Scalar.n-room T20 15 Syntax.tyBool
 
-  abbrev s17 : Typed.Both T21 T22
-  s17 = Call.callB ps·4 r·4 (claims· .8) (claims· .9) T21 tt 9 List.[] (Syntax.tyInt Syntax.w64)
+  abbrev s17 : Typed.Mo T13 → Typed.Mo T22
+  s17 = Scalar.n-room T13 13 Syntax.tyBool
 
   abbrev s18 : Typed.Both T22 T23
-  s18 = Call.callB ps·4 r·4 (claims· .8) (claims· .9) T22 tt 10 List.[] (Syntax.tyInt Syntax.w64)
+  s18 = Call.callB ps·4 r·4 (claims· .8) (claims· .9) T22 (Num.vAt 8 λ x. x, tt) 16 List.[] Syntax.tyBool
 
-  abbrev s19 : Typed.Both T23 T24
-  s19 = Call.callB ps·5 r·5 (claims· .10) (claims· .11) T23 (record { pos = 1; st = List.[]; d = 0; at = λ x. x }, (record { pos = 2; ty = Syntax.tyRef (Syntax.named 0) Syntax.imm (Memory.pointee (T.the-row .written)); ref = λ x. x }, (record { pos = 3; ty = Syntax.tyRef (Syntax.named 1) Syntax.imm (Syntax.tyInt Syntax.w16); ref = λ x. x }, (record { pos = 4; ty = Syntax.tyRef (Syntax.named 2) Syntax.imm (Syntax.tyInt Syntax.w16); ref = λ x. x }, (Num.vAt 7 λ x. x, (Num.vAt 9 λ x. x, (Num.vAt 10 λ x. x, tt))))))) 15 (List._∷_ 0 (List._∷_ 1 (List._∷_ 2 List.[]))) Syntax.tyUnit
+  abbrev s19 : Typed.Mo T23 → Typed.Mo T24
+  s19 = Scalar.n-room T23 16 Syntax.tyBool
 
-  abbrev s20 : Typed.Mo T24 → Typed.Mo T25
-  s20 = Scalar.n-room T24 9 (Syntax.tyInt Syntax.w64)
+  abbrev s20 : Typed.Asks T24 T25
+  s20 = Scalar.k-op2 T24 Syntax.eq (Scalar.oAt 8 (Syntax.tyInt Syntax.w64) (Row.valS (Row.sInt Syntax.w64))) (Scalar.oInt Syntax.w64 6) 18 (Rows.sc-here Row.sBool) (Row.sBool .of)
 
-  abbrev s21 : Typed.Mo T25 → Typed.Mo T26
-  s21 = Scalar.n-room T25 10 (Syntax.tyInt Syntax.w64)
+  abbrev s21 : Typed.Both T25 T26
+  s21 = Call.callB ps·5 r·5 (claims· .10) (claims· .11) T25 (record { pos = 1; ty = Syntax.tyRef (Syntax.named 0) Syntax.imm (Syntax.tyInt Syntax.w8); ref = λ x. x }, (Bool.bAt 18 λ x. x, tt)) 17 (List._∷_ 0 List.[]) Syntax.tyUnit
 
   abbrev s22 : Typed.Mo T26 → Typed.Mo T27
-  s22 = Scalar.n-room T26 15 Syntax.tyUnit
+  s22 = Scalar.n-room T26 17 Syntax.tyUnit
 
-  abbrev s23 : Typed.Asks T13 T28
-  s23 = Scalar.k-op2 T13 (Syntax.sub Syntax.unsigned) (Scalar.oAt 6 (Syntax.tyInt Syntax.w64) (Row.valS (Row.sInt Syntax.w64))) (Scalar.oInt Syntax.w64 1) 6 (Rows.sc-here (Row.sInt Syntax.w64)) (Row.sInt Syntax.w64 .of)
+  abbrev s23 : Typed.Mo T27 → Typed.Mo T28
+  s23 = Scalar.n-room T27 18 Syntax.tyBool
 
-  abbrev s24 : Typed.Mo T28 → Typed.Mo T29
-  s24 = Scalar.n-room T28 7 (Syntax.tyInt Syntax.w64)
+  abbrev s24 : Typed.Mo T23 → Typed.Mo T29
+  s24 = Scalar.n-room T23 16 Syntax.tyBool
 
-  abbrev s25 : Typed.Mo T5 → Typed.Mo T30
-  s25 = Scalar.n-use T5 Scalar.oUnit 0 (Rows.sc-here Row.sUnit) (Row.sUnit .of)
+  abbrev s25 : Typed.Both T29 T30
+  s25 = Call.callB ps·6 r·6 (claims· .12) (claims· .13) T29 tt 10 List.[] (Syntax.tyInt Syntax.w64)
 
-  abbrev s26 : Typed.Mo T30 → Typed.Mo T31
-  s26 = Scalar.n-room T30 6 (Syntax.tyInt Syntax.w64)
+  abbrev s26 : Typed.Both T30 T31
+  s26 = Call.callB ps·6 r·6 (claims· .12) (claims· .13) T30 tt 11 List.[] (Syntax.tyInt Syntax.w64)
 
-  abbrev s27 : Typed.Mo T31 → Typed.Mo T32
-  s27 = Scalar.n-room T31 5 (Syntax.tyInt Syntax.w64)
+  abbrev s27 : Typed.Both T31 T32
+  s27 = Call.callB ps·7 r·7 (claims· .14) (claims· .15) T31 (record { pos = 2; st = List.[]; d = 0; at = λ x. x }, (record { pos = 3; ty = Syntax.tyRef (Syntax.named 1) Syntax.imm (Memory.pointee (T.the-row .written)); ref = λ x. x }, (record { pos = 4; ty = Syntax.tyRef (Syntax.named 2) Syntax.imm (Syntax.tyInt Syntax.w16); ref = λ x. x }, (record { pos = 5; ty = Syntax.tyRef (Syntax.named 3) Syntax.imm (Syntax.tyInt Syntax.w16); ref = λ x. x }, (Num.vAt 8 λ x. x, (Num.vAt 10 λ x. x, (Num.vAt 11 λ x. x, tt))))))) 19 (List._∷_ 1 (List._∷_ 2 (List._∷_ 3 List.[]))) Syntax.tyUnit
 
-  abbrev put0 : Rows.sc-here (Row.sInt Syntax.w64) .Mod → Typed.Mo T4 → Typed.Mo T4
-  put0 = λ vs u. Row.set 6 (6, Rows.sc-here (Row.sInt Syntax.w64)) vs (T4 .locals) u
+  abbrev s28 : Typed.Mo T32 → Typed.Mo T33
+  s28 = Scalar.n-room T32 10 (Syntax.tyInt Syntax.w64)
 
-  module _ (Pre· : (κs : Lifetimes.Lfts 3) → Kinds.Dens κs ps → Type 0) (Post· : (κs : Lifetimes.Lfts 3) → (a : Kinds.Dens κs ps) → Kinds.Plain 3 ps r κs) where
+  abbrev s29 : Typed.Mo T33 → Typed.Mo T34
+  s29 = Scalar.n-room T33 11 (Syntax.tyInt Syntax.w64)
+
+  abbrev s30 : Typed.Mo T34 → Typed.Mo T35
+  s30 = Scalar.n-room T34 19 Syntax.tyUnit
+
+  abbrev s31 : Typed.Asks T14 T36
+  s31 = Scalar.k-op2 T14 (Syntax.sub Syntax.unsigned) (Scalar.oAt 7 (Syntax.tyInt Syntax.w64) (Row.valS (Row.sInt Syntax.w64))) (Scalar.oInt Syntax.w64 1) 7 (Rows.sc-here (Row.sInt Syntax.w64)) (Row.sInt Syntax.w64 .of)
+
+  abbrev s32 : Typed.Mo T36 → Typed.Mo T37
+  s32 = Scalar.n-room T36 8 (Syntax.tyInt Syntax.w64)
+
+  abbrev s33 : Typed.Mo T6 → Typed.Mo T38
+  s33 = Scalar.n-use T6 Scalar.oUnit 0 (Rows.sc-here Row.sUnit) (Row.sUnit .of)
+
+  abbrev s34 : Typed.Mo T38 → Typed.Mo T39
+  s34 = Scalar.n-room T38 7 (Syntax.tyInt Syntax.w64)
+
+  abbrev s35 : Typed.Mo T39 → Typed.Mo T40
+  s35 = Scalar.n-room T39 6 (Syntax.tyInt Syntax.w64)
+
+  abbrev put0 : Rows.sc-here (Row.sInt Syntax.w64) .Mod → Typed.Mo T5 → Typed.Mo T5
+  put0 = λ vs u. Row.set 7 (7, Rows.sc-here (Row.sInt Syntax.w64)) vs (T5 .locals) u
+
+  module _ (Pre· : (κs : Lifetimes.Lfts 4) → Kinds.Dens κs ps → Type 0) (Post· : (κs : Lifetimes.Lfts 4) → (a : Kinds.Dens κs ps) → Kinds.Plain 4 ps r κs) where
     module _ (M : Type 1) where
       abbrev pub Closed : Type 2
-      Closed = (𝓤 : URA.URA M) (H : Wp.Heap 𝓤) (A : Atoms.Atoms 𝓤) (W : Kit.Given 𝓤 H A) (𝓣 : Wp.Tables 𝓤 H) (known0 : Plain.Known 𝓤 H A W 𝓣 0 ps·0 r·0 (claims· .0) (claims· .1) "bench_plans::numbers::next") (known1 : Plain.Known 𝓤 H A W 𝓣 0 ps·1 r·1 (claims· .2) (claims· .3) "bench_plans::questions::is_trimming") (known2 : Plain.Known 𝓤 H A W 𝓣 0 ps·2 r·2 (claims· .4) (claims· .5) "bench_plans::lent::next_places") (known3 : Plain.Known 𝓤 H A W 𝓣 3 ps·3 r·3 (claims· .6) (claims· .7) "bench_plans::trims::ask_trim") (known4 : Plain.Known 𝓤 H A W 𝓣 0 ps·4 r·4 (claims· .8) (claims· .9) "bench_plans::numbers::next_wide") (known5 : Plain.Known 𝓤 H A W 𝓣 3 ps·5 r·5 (claims· .10) (claims· .11) "bench_plans::questions::ask") → Statement.Triple 𝓤 (Wp.WpFn 𝓤 H (𝓣 .C) (𝓣 .Λ) (Function.fnOf 3 ps r xs m hs body)) (Function.plainOf 𝓤 H A 3 ps r Pre· Post·)
+      Closed = (𝓤 : URA.URA M) (H : Wp.Heap 𝓤) (A : Atoms.Atoms 𝓤) (W : Kit.Given 𝓤 H A) (𝓣 : Wp.Tables 𝓤 H) (known0 : Plain.Known 𝓤 H A W 𝓣 0 ps·0 r·0 (claims· .0) (claims· .1) "bench_plans::numbers::next") (known1 : Plain.Known 𝓤 H A W 𝓣 0 ps·1 r·1 (claims· .2) (claims· .3) "bench_plans::questions::is_trimming") (known2 : Plain.Known 𝓤 H A W 𝓣 0 ps·2 r·2 (claims· .4) (claims· .5) "bench_plans::lent::next_places") (known3 : Plain.Known 𝓤 H A W 𝓣 3 ps·3 r·3 (claims· .6) (claims· .7) "bench_plans::trims::ask_trim") (known4 : Plain.Known 𝓤 H A W 𝓣 0 ps·4 r·4 (claims· .8) (claims· .9) "bench_plans::questions::is_carrying") (known5 : Plain.Known 𝓤 H A W 𝓣 1 ps·5 r·5 (claims· .10) (claims· .11) "bench_plans::carries::ask_carry") (known6 : Plain.Known 𝓤 H A W 𝓣 0 ps·6 r·6 (claims· .12) (claims· .13) "bench_plans::numbers::next_wide") (known7 : Plain.Known 𝓤 H A W 𝓣 3 ps·7 r·7 (claims· .14) (claims· .15) "bench_plans::questions::ask") → Statement.Triple 𝓤 (Wp.WpFn 𝓤 H (𝓣 .C) (𝓣 .Λ) (Function.fnOf 4 ps r xs m hs body)) (Function.plainOf 𝓤 H A 4 ps r Pre· Post·)
 
     module _ (Inv·0 : InvT-loop) (μ·0 : MeasureT-loop) where
-      abbrev at0 : Typed.TF T8 O4
+      abbrev at0 : Typed.TF T9 O4
       at0 = Typed.atNext O4
 
-      abbrev at1 : Typed.TF T6 O4
-      at1 = λ Ψ. Typed.pass T6 T8 s4 (at0 Ψ)
+      abbrev at1 : Typed.TF T7 O4
+      at1 = λ Ψ. Typed.pass T7 T9 s5 (at0 Ψ)
 
-      abbrev at2 : Typed.TF T10 O4
+      abbrev at2 : Typed.TF T11 O4
       at2 = Typed.atExit 1 O4
 
-      abbrev at3 : Typed.TF T9 O4
-      at3 = λ Ψ. Typed.pass T9 T10 s6 (at2 Ψ)
+      abbrev at3 : Typed.TF T10 O4
+      at3 = λ Ψ. Typed.pass T10 T11 s7 (at2 Ψ)
 
-      abbrev at4 : Typed.TF T6 O4
-      at4 = λ Ψ. Typed.pass T6 T9 s5 (at3 Ψ)
+      abbrev at4 : Typed.TF T7 O4
+      at4 = λ Ψ. Typed.pass T7 T10 s6 (at3 Ψ)
 
-      abbrev at5 : Typed.TF T6 O4
-      at5 = Scalar.Φcond T6 O4 11 (λ x. x) at1 at4
+      abbrev at5 : Typed.TF T7 O4
+      at5 = Scalar.Φcond T7 O4 12 (λ x. x) at1 at4
 
-      abbrev at6 : Typed.TF T16 O5
-      at6 = λ Ψ. Typed.both s12 (Typed.pass T17 T18 s13 (Typed.pass T18 T19 s14 (Typed.pass T19 T20 s15 (Typed.atNext O5 Ψ))))
+      abbrev at6 : Typed.TF T17 O5
+      at6 = λ Ψ. Typed.both s13 (Typed.pass T18 T19 s14 (Typed.pass T19 T20 s15 (Typed.pass T20 T21 s16 (Typed.atNext O5 Ψ))))
 
-      abbrev at7 : Typed.TF T15 O5
-      at7 = λ Ψ. Typed.ask s11 (at6 Ψ)
+      abbrev at7 : Typed.TF T16 O5
+      at7 = λ Ψ. Typed.ask s12 (at6 Ψ)
 
-      abbrev at8 : Typed.TF T14 O5
-      at8 = λ Ψ. Typed.both s10 (at7 Ψ)
+      abbrev at8 : Typed.TF T15 O5
+      at8 = λ Ψ. Typed.both s11 (at7 Ψ)
 
-      abbrev at9 : Typed.TF T12 O5
-      at9 = λ Ψ. Typed.pass T12 T14 s9 (at8 Ψ)
+      abbrev at9 : Typed.TF T13 O5
+      at9 = λ Ψ. Typed.pass T13 T15 s10 (at8 Ψ)
 
-      abbrev at10 : Typed.TF T23 O5
-      at10 = λ Ψ. Typed.both s19 (Typed.pass T24 T25 s20 (Typed.pass T25 T26 s21 (Typed.pass T26 T27 s22 (Typed.atNext O5 Ψ))))
+      abbrev at10 : Typed.TF T25 O5
+      at10 = λ Ψ. Typed.both s21 (Typed.pass T26 T27 s22 (Typed.pass T27 T28 s23 (Typed.atNext O5 Ψ)))
 
-      abbrev at11 : Typed.TF T22 O5
-      at11 = λ Ψ. Typed.both s18 (at10 Ψ)
+      abbrev at11 : Typed.TF T24 O5
+      at11 = λ Ψ. Typed.ask s20 (at10 Ψ)
 
-      abbrev at12 : Typed.TF T21 O5
-      at12 = λ Ψ. Typed.both s17 (at11 Ψ)
+      abbrev at12 : Typed.TF T23 O5
+      at12 = λ Ψ. Typed.pass T23 T24 s19 (at11 Ψ)
 
-      abbrev at13 : Typed.TF T12 O5
-      at13 = λ Ψ. Typed.pass T12 T21 s16 (at12 Ψ)
+      abbrev at13 : Typed.TF T31 O5
+      at13 = λ Ψ. Typed.both s27 (Typed.pass T32 T33 s28 (Typed.pass T33 T34 s29 (Typed.pass T34 T35 s30 (Typed.atNext O5 Ψ))))
 
-      abbrev at14 : Typed.TF T12 O5
-      at14 = Scalar.Φcond T12 O5 12 (λ x. x) at9 at13
+      abbrev at14 : Typed.TF T30 O5
+      at14 = λ Ψ. Typed.both s26 (at13 Ψ)
 
-      pub at15 : Typed.TF T13 O3
-      at15 = λ Ψ. Typed.ask s23 (Typed.pass T28 T29 s24 (Typed.atNext O3 Ψ))
+      abbrev at15 : Typed.TF T29 O5
+      at15 = λ Ψ. Typed.both s25 (at14 Ψ)
 
-      abbrev at16 : Typed.TF T12 O3
-      at16 = λ Ψ. at14 (Typed.wantNext T13 O3 (at15 Ψ) Ψ)
+      abbrev at16 : Typed.TF T23 O5
+      at16 = λ Ψ. Typed.pass T23 T29 s24 (at15 Ψ)
 
-      abbrev at17 : Typed.TF T11 O3
-      at17 = λ Ψ. Typed.both s8 (at16 Ψ)
+      abbrev at17 : Typed.TF T23 O5
+      at17 = Scalar.Φcond T23 O5 16 (λ x. x) at12 at16
 
-      abbrev at18 : Typed.TF T7 O3
-      at18 = λ Ψ. Typed.both s7 (at17 Ψ)
+      abbrev at18 : Typed.TF T22 O5
+      at18 = λ Ψ. Typed.both s18 (at17 Ψ)
 
-      abbrev at19 : Typed.TF T6 O3
-      at19 = λ Ψ. at5 (Typed.wantNext T7 O3 (at18 Ψ) Ψ)
+      abbrev at19 : Typed.TF T13 O5
+      at19 = λ Ψ. Typed.pass T13 T22 s17 (at18 Ψ)
 
-      abbrev at20 : Typed.TF T4 O3
-      at20 = λ Ψ. Typed.ask s3 (at19 Ψ)
+      abbrev at20 : Typed.TF T13 O5
+      at20 = Scalar.Φcond T13 O5 13 (λ x. x) at9 at19
 
-      abbrev at21 : Typed.TF T4 O2
-      at21 = Typed.LoopBy T4 O2 put0 (λ u vs. Inv·0 (Row.get 1 (T4 .locals) u) (Row.get 2 (T4 .locals) u .now) (Row.get 3 (T4 .locals) u .now) (Row.get 4 (T4 .locals) u .now) (Row.get 5 (T4 .locals) u) (Row.get 6 (T4 .locals) u) vs) (λ u vs. μ·0 (Row.get 1 (T4 .locals) u) (Row.get 2 (T4 .locals) u .now) (Row.get 3 (T4 .locals) u .now) (Row.get 4 (T4 .locals) u .now) (Row.get 5 (T4 .locals) u) (Row.get 6 (T4 .locals) u) vs) at20
+      pub at21 : Typed.TF T14 O3
+      at21 = λ Ψ. Typed.ask s31 (Typed.pass T36 T37 s32 (Typed.atNext O3 Ψ))
 
-      abbrev at22 : Typed.TF T4 O1
-      at22 = λ Ψ. at21 (Typed.inBlock O1 Ψ)
+      abbrev at22 : Typed.TF T13 O3
+      at22 = λ Ψ. at20 (Typed.wantNext T14 O3 (at21 Ψ) Ψ)
 
-      abbrev at23 : Typed.TF T32 O0
-      at23 = Typed.atRet O0
+      abbrev at23 : Typed.TF T12 O3
+      at23 = λ Ψ. Typed.both s9 (at22 Ψ)
 
-      abbrev at24 : Typed.TF T31 O0
-      at24 = λ Ψ. Typed.pass T31 T32 s27 (at23 Ψ)
+      abbrev at24 : Typed.TF T8 O3
+      at24 = λ Ψ. Typed.both s8 (at23 Ψ)
 
-      abbrev at25 : Typed.TF T30 O0
-      at25 = λ Ψ. Typed.pass T30 T31 s26 (at24 Ψ)
+      abbrev at25 : Typed.TF T7 O3
+      at25 = λ Ψ. at5 (Typed.wantNext T8 O3 (at24 Ψ) Ψ)
 
-      abbrev at26 : Typed.TF T5 O0
-      at26 = λ Ψ. Typed.pass T5 T30 s25 (at25 Ψ)
+      abbrev at26 : Typed.TF T5 O3
+      at26 = λ Ψ. Typed.ask s4 (at25 Ψ)
 
-      abbrev at27 : Typed.TF T4 O0
-      at27 = λ Ψ. at22 (Typed.wantNext T5 O0 (at26 Ψ) Ψ)
+      abbrev at27 : Typed.TF T5 O2
+      at27 = Typed.LoopBy T5 O2 put0 (λ u vs. Inv·0 (Row.get 1 (T5 .locals) u .now) (Row.get 2 (T5 .locals) u) (Row.get 3 (T5 .locals) u .now) (Row.get 4 (T5 .locals) u .now) (Row.get 5 (T5 .locals) u .now) (Row.get 6 (T5 .locals) u) (Row.get 7 (T5 .locals) u) vs) (λ u vs. μ·0 (Row.get 1 (T5 .locals) u .now) (Row.get 2 (T5 .locals) u) (Row.get 3 (T5 .locals) u .now) (Row.get 4 (T5 .locals) u .now) (Row.get 5 (T5 .locals) u .now) (Row.get 6 (T5 .locals) u) (Row.get 7 (T5 .locals) u) vs) at26
 
-      abbrev at28 : Typed.TF T3 O0
-      at28 = λ Ψ. Typed.pass T3 T4 s2 (at27 Ψ)
+      abbrev at28 : Typed.TF T5 O1
+      at28 = λ Ψ. at27 (Typed.inBlock O1 Ψ)
 
-      abbrev at29 : Typed.TF T2 O0
-      at29 = λ Ψ. Typed.give s1 (at28 Ψ)
+      abbrev at29 : Typed.TF T40 O0
+      at29 = Typed.atRet O0
 
-      abbrev at30 : Typed.TF T0 O0
-      at30 = λ Ψ. Typed.give s0 (at29 Ψ)
+      abbrev at30 : Typed.TF T39 O0
+      at30 = λ Ψ. Typed.pass T39 T40 s35 (at29 Ψ)
+
+      abbrev at31 : Typed.TF T38 O0
+      at31 = λ Ψ. Typed.pass T38 T39 s34 (at30 Ψ)
+
+      abbrev at32 : Typed.TF T6 O0
+      at32 = λ Ψ. Typed.pass T6 T38 s33 (at31 Ψ)
+
+      abbrev at33 : Typed.TF T5 O0
+      at33 = λ Ψ. at28 (Typed.wantNext T6 O0 (at32 Ψ) Ψ)
+
+      abbrev at34 : Typed.TF T4 O0
+      at34 = λ Ψ. Typed.pass T4 T5 s3 (at33 Ψ)
+
+      abbrev at35 : Typed.TF T3 O0
+      at35 = λ Ψ. Typed.give s2 (at34 Ψ)
+
+      abbrev at36 : Typed.TF T2 O0
+      at36 = λ Ψ. Typed.give s1 (at35 Ψ)
+
+      abbrev at37 : Typed.TF T0 O0
+      at37 = λ Ψ. Typed.give s0 (at36 Ψ)
 
       abbrev pub Φ : Typed.TF T0 O0
-      Φ = at30
+      Φ = at37
 
       module _ {M : Type 1} (𝓤 : URA.URA M) (H : Wp.Heap 𝓤) (A : Atoms.Atoms 𝓤) (W : Kit.Given 𝓤 H A) (𝓣 : Wp.Tables 𝓤 H) where
         abbrev Knowns : Type 1
-        Knowns = Plain.Known 𝓤 H A W 𝓣 0 ps·0 r·0 (claims· .0) (claims· .1) "bench_plans::numbers::next" × Plain.Known 𝓤 H A W 𝓣 0 ps·1 r·1 (claims· .2) (claims· .3) "bench_plans::questions::is_trimming" × Plain.Known 𝓤 H A W 𝓣 0 ps·2 r·2 (claims· .4) (claims· .5) "bench_plans::lent::next_places" × Plain.Known 𝓤 H A W 𝓣 3 ps·3 r·3 (claims· .6) (claims· .7) "bench_plans::trims::ask_trim" × Plain.Known 𝓤 H A W 𝓣 0 ps·4 r·4 (claims· .8) (claims· .9) "bench_plans::numbers::next_wide" × Plain.Known 𝓤 H A W 𝓣 3 ps·5 r·5 (claims· .10) (claims· .11) "bench_plans::questions::ask"
+        Knowns = Plain.Known 𝓤 H A W 𝓣 0 ps·0 r·0 (claims· .0) (claims· .1) "bench_plans::numbers::next" × Plain.Known 𝓤 H A W 𝓣 0 ps·1 r·1 (claims· .2) (claims· .3) "bench_plans::questions::is_trimming" × Plain.Known 𝓤 H A W 𝓣 0 ps·2 r·2 (claims· .4) (claims· .5) "bench_plans::lent::next_places" × Plain.Known 𝓤 H A W 𝓣 3 ps·3 r·3 (claims· .6) (claims· .7) "bench_plans::trims::ask_trim" × Plain.Known 𝓤 H A W 𝓣 0 ps·4 r·4 (claims· .8) (claims· .9) "bench_plans::questions::is_carrying" × Plain.Known 𝓤 H A W 𝓣 1 ps·5 r·5 (claims· .10) (claims· .11) "bench_plans::carries::ask_carry" × Plain.Known 𝓤 H A W 𝓣 0 ps·6 r·6 (claims· .12) (claims· .13) "bench_plans::numbers::next_wide" × Plain.Known 𝓤 H A W 𝓣 3 ps·7 r·7 (claims· .14) (claims· .15) "bench_plans::questions::ask"
 
-      module _ (κs : Lifetimes.Lfts 3) (qs : Lifetimes.Shares 3) where
+      module _ (κs : Lifetimes.Lfts 4) (qs : Lifetimes.Shares 4) where
         abbrev G0 : Row.Cx
-        G0 = record { locals = t0; slots = List._∷_ (Row.lease (κs .0) (qs .0)) (List._∷_ (Row.lease (κs .1 .0) (qs .1 .0)) (List._∷_ (Row.lease (κs .1 .1 .0) (qs .1 .1 .0)) List.[])) }
+        G0 = record { locals = List._++_ t0 t1; slots = List._∷_ (Row.lease (κs .0) (qs .0)) (List._∷_ (Row.lease (κs .1 .0) (qs .1 .0)) (List._∷_ (Row.lease (κs .1 .1 .0) (qs .1 .1 .0)) (List._∷_ (Row.lease (κs .1 .1 .1 .0) (qs .1 .1 .1 .0)) List.[]))) }
 
         abbrev G1 : Row.Cx
-        G1 = record { locals = t1; slots = List._∷_ (Row.lease (κs .0) (qs .0)) (List._∷_ (Row.lease (κs .1 .0) (qs .1 .0)) (List._∷_ (Row.lease (κs .1 .1 .0) (qs .1 .1 .0)) List.[])) }
+        G1 = record { locals = List._++_ t2 t1; slots = List._∷_ (Row.lease (κs .0) (qs .0)) (List._∷_ (Row.lease (κs .1 .0) (qs .1 .0)) (List._∷_ (Row.lease (κs .1 .1 .0) (qs .1 .1 .0)) (List._∷_ (Row.lease (κs .1 .1 .1 .0) (qs .1 .1 .1 .0)) List.[]))) }
 
         abbrev G2 : Row.Cx
-        G2 = record { locals = t0; slots = List._∷_ (Row.lease (κs .0) (qs .0)) (List._∷_ (Row.lease (κs .1 .0) (qs .1 .0)) (List._∷_ (Row.lease (κs .1 .1 .0) (qs .1 .1 .0)) List.[])) }
+        G2 = record { locals = List._++_ t0 t1; slots = List._∷_ (Row.lease (κs .0) (qs .0)) (List._∷_ (Row.lease (κs .1 .0) (qs .1 .0)) (List._∷_ (Row.lease (κs .1 .1 .0) (qs .1 .1 .0)) (List._∷_ (Row.lease (κs .1 .1 .1 .0) (qs .1 .1 .1 .0)) List.[]))) }
 
         abbrev G3 : Row.Cx
-        G3 = record { locals = t0; slots = List._∷_ (Row.lease (κs .0) (qs .0)) (List._∷_ (Row.lease (κs .1 .0) (qs .1 .0)) (List._∷_ (Row.lease (κs .1 .1 .0) (qs .1 .1 .0)) List.[])) }
+        G3 = record { locals = List._++_ t0 t1; slots = List._∷_ (Row.lease (κs .0) (qs .0)) (List._∷_ (Row.lease (κs .1 .0) (qs .1 .0)) (List._∷_ (Row.lease (κs .1 .1 .0) (qs .1 .1 .0)) (List._∷_ (Row.lease (κs .1 .1 .1 .0) (qs .1 .1 .1 .0)) List.[]))) }
 
         abbrev G4 : Row.Cx
-        G4 = record { locals = t2; slots = List._∷_ (Row.lease (κs .0) (qs .0)) (List._∷_ (Row.lease (κs .1 .0) (qs .1 .0)) (List._∷_ (Row.lease (κs .1 .1 .0) (qs .1 .1 .0)) List.[])) }
+        G4 = record { locals = List._++_ t0 t1; slots = List._∷_ (Row.lease (κs .0) (qs .0)) (List._∷_ (Row.lease (κs .1 .0) (qs .1 .0)) (List._∷_ (Row.lease (κs .1 .1 .0) (qs .1 .1 .0)) (List._∷_ (Row.lease (κs .1 .1 .1 .0) (qs .1 .1 .1 .0)) List.[]))) }
 
         abbrev G5 : Row.Cx
-        G5 = record { locals = t3; slots = List._∷_ (Row.lease (κs .0) (qs .0)) (List._∷_ (Row.lease (κs .1 .0) (qs .1 .0)) (List._∷_ (Row.lease (κs .1 .1 .0) (qs .1 .1 .0)) List.[])) }
+        G5 = record { locals = List._++_ t3 t1; slots = List._∷_ (Row.lease (κs .0) (qs .0)) (List._∷_ (Row.lease (κs .1 .0) (qs .1 .0)) (List._∷_ (Row.lease (κs .1 .1 .0) (qs .1 .1 .0)) (List._∷_ (Row.lease (κs .1 .1 .1 .0) (qs .1 .1 .1 .0)) List.[]))) }
 
         abbrev G6 : Row.Cx
-        G6 = record { locals = t4; slots = List._∷_ (Row.lease (κs .0) (qs .0)) (List._∷_ (Row.lease (κs .1 .0) (qs .1 .0)) (List._∷_ (Row.lease (κs .1 .1 .0) (qs .1 .1 .0)) List.[])) }
+        G6 = record { locals = List._++_ t4 t1; slots = List._∷_ (Row.lease (κs .0) (qs .0)) (List._∷_ (Row.lease (κs .1 .0) (qs .1 .0)) (List._∷_ (Row.lease (κs .1 .1 .0) (qs .1 .1 .0)) (List._∷_ (Row.lease (κs .1 .1 .1 .0) (qs .1 .1 .1 .0)) List.[]))) }
 
         abbrev G7 : Row.Cx
-        G7 = record { locals = t2; slots = List._∷_ (Row.lease (κs .0) (qs .0)) (List._∷_ (Row.lease (κs .1 .0) (qs .1 .0)) (List._∷_ (Row.lease (κs .1 .1 .0) (qs .1 .1 .0)) List.[])) }
+        G7 = record { locals = List._++_ t5 t1; slots = List._∷_ (Row.lease (κs .0) (qs .0)) (List._∷_ (Row.lease (κs .1 .0) (qs .1 .0)) (List._∷_ (Row.lease (κs .1 .1 .0) (qs .1 .1 .0)) (List._∷_ (Row.lease (κs .1 .1 .1 .0) (qs .1 .1 .1 .0)) List.[]))) }
 
         abbrev G8 : Row.Cx
-        G8 = record { locals = t2; slots = List._∷_ (Row.lease (κs .0) (qs .0)) (List._∷_ (Row.lease (κs .1 .0) (qs .1 .0)) (List._∷_ (Row.lease (κs .1 .1 .0) (qs .1 .1 .0)) List.[])) }
+        G8 = record { locals = List._++_ t3 t1; slots = List._∷_ (Row.lease (κs .0) (qs .0)) (List._∷_ (Row.lease (κs .1 .0) (qs .1 .0)) (List._∷_ (Row.lease (κs .1 .1 .0) (qs .1 .1 .0)) (List._∷_ (Row.lease (κs .1 .1 .1 .0) (qs .1 .1 .1 .0)) List.[]))) }
 
         abbrev G9 : Row.Cx
-        G9 = record { locals = t5; slots = List._∷_ (Row.lease (κs .0) (qs .0)) (List._∷_ (Row.lease (κs .1 .0) (qs .1 .0)) (List._∷_ (Row.lease (κs .1 .1 .0) (qs .1 .1 .0)) List.[])) }
+        G9 = record { locals = List._++_ t3 t1; slots = List._∷_ (Row.lease (κs .0) (qs .0)) (List._∷_ (Row.lease (κs .1 .0) (qs .1 .0)) (List._∷_ (Row.lease (κs .1 .1 .0) (qs .1 .1 .0)) (List._∷_ (Row.lease (κs .1 .1 .1 .0) (qs .1 .1 .1 .0)) List.[]))) }
 
         abbrev G10 : Row.Cx
-        G10 = record { locals = t3; slots = List._∷_ (Row.lease (κs .0) (qs .0)) (List._∷_ (Row.lease (κs .1 .0) (qs .1 .0)) (List._∷_ (Row.lease (κs .1 .1 .0) (qs .1 .1 .0)) List.[])) }
+        G10 = record { locals = List._++_ t6 t1; slots = List._∷_ (Row.lease (κs .0) (qs .0)) (List._∷_ (Row.lease (κs .1 .0) (qs .1 .0)) (List._∷_ (Row.lease (κs .1 .1 .0) (qs .1 .1 .0)) (List._∷_ (Row.lease (κs .1 .1 .1 .0) (qs .1 .1 .1 .0)) List.[]))) }
 
         abbrev G11 : Row.Cx
-        G11 = record { locals = t6; slots = List._∷_ (Row.lease (κs .0) (qs .0)) (List._∷_ (Row.lease (κs .1 .0) (qs .1 .0)) (List._∷_ (Row.lease (κs .1 .1 .0) (qs .1 .1 .0)) List.[])) }
+        G11 = record { locals = List._++_ t4 t1; slots = List._∷_ (Row.lease (κs .0) (qs .0)) (List._∷_ (Row.lease (κs .1 .0) (qs .1 .0)) (List._∷_ (Row.lease (κs .1 .1 .0) (qs .1 .1 .0)) (List._∷_ (Row.lease (κs .1 .1 .1 .0) (qs .1 .1 .1 .0)) List.[]))) }
 
         abbrev G12 : Row.Cx
-        G12 = record { locals = t7; slots = List._∷_ (Row.lease (κs .0) (qs .0)) (List._∷_ (Row.lease (κs .1 .0) (qs .1 .0)) (List._∷_ (Row.lease (κs .1 .1 .0) (qs .1 .1 .0)) List.[])) }
+        G12 = record { locals = List._++_ t7 t1; slots = List._∷_ (Row.lease (κs .0) (qs .0)) (List._∷_ (Row.lease (κs .1 .0) (qs .1 .0)) (List._∷_ (Row.lease (κs .1 .1 .0) (qs .1 .1 .0)) (List._∷_ (Row.lease (κs .1 .1 .1 .0) (qs .1 .1 .1 .0)) List.[]))) }
 
         abbrev G13 : Row.Cx
-        G13 = record { locals = t6; slots = List._∷_ (Row.lease (κs .0) (qs .0)) (List._∷_ (Row.lease (κs .1 .0) (qs .1 .0)) (List._∷_ (Row.lease (κs .1 .1 .0) (qs .1 .1 .0)) List.[])) }
+        G13 = record { locals = List._++_ t8 t1; slots = List._∷_ (Row.lease (κs .0) (qs .0)) (List._∷_ (Row.lease (κs .1 .0) (qs .1 .0)) (List._∷_ (Row.lease (κs .1 .1 .0) (qs .1 .1 .0)) (List._∷_ (Row.lease (κs .1 .1 .1 .0) (qs .1 .1 .1 .0)) List.[]))) }
 
         abbrev G14 : Row.Cx
-        G14 = record { locals = t6; slots = List._∷_ (Row.lease (κs .0) (qs .0)) (List._∷_ (Row.lease (κs .1 .0) (qs .1 .0)) (List._∷_ (Row.lease (κs .1 .1 .0) (qs .1 .1 .0)) List.[])) }
+        G14 = record { locals = List._++_ t7 t1; slots = List._∷_ (Row.lease (κs .0) (qs .0)) (List._∷_ (Row.lease (κs .1 .0) (qs .1 .0)) (List._∷_ (Row.lease (κs .1 .1 .0) (qs .1 .1 .0)) (List._∷_ (Row.lease (κs .1 .1 .1 .0) (qs .1 .1 .1 .0)) List.[]))) }
 
         abbrev G15 : Row.Cx
-        G15 = record { locals = t8; slots = List._∷_ (Row.lease (κs .0) (qs .0)) (List._∷_ (Row.lease (κs .1 .0) (qs .1 .0)) (List._∷_ (Row.lease (κs .1 .1 .0) (qs .1 .1 .0)) List.[])) }
+        G15 = record { locals = List._++_ t7 t1; slots = List._∷_ (Row.lease (κs .0) (qs .0)) (List._∷_ (Row.lease (κs .1 .0) (qs .1 .0)) (List._∷_ (Row.lease (κs .1 .1 .0) (qs .1 .1 .0)) (List._∷_ (Row.lease (κs .1 .1 .1 .0) (qs .1 .1 .1 .0)) List.[]))) }
 
         abbrev G16 : Row.Cx
-        G16 = record { locals = t9; slots = List._∷_ (Row.lease (κs .0) (qs .0)) (List._∷_ (Row.lease (κs .1 .0) (qs .1 .0)) (List._∷_ (Row.lease (κs .1 .1 .0) (qs .1 .1 .0)) List.[])) }
+        G16 = record { locals = List._++_ t9 t1; slots = List._∷_ (Row.lease (κs .0) (qs .0)) (List._∷_ (Row.lease (κs .1 .0) (qs .1 .0)) (List._∷_ (Row.lease (κs .1 .1 .0) (qs .1 .1 .0)) (List._∷_ (Row.lease (κs .1 .1 .1 .0) (qs .1 .1 .1 .0)) List.[]))) }
 
         abbrev G17 : Row.Cx
-        G17 = record { locals = t10; slots = List._∷_ (Row.lease (κs .0) (qs .0)) (List._∷_ (Row.lease (κs .1 .0) (qs .1 .0)) (List._∷_ (Row.lease (κs .1 .1 .0) (qs .1 .1 .0)) List.[])) }
+        G17 = record { locals = List._++_ t10 t1; slots = List._∷_ (Row.lease (κs .0) (qs .0)) (List._∷_ (Row.lease (κs .1 .0) (qs .1 .0)) (List._∷_ (Row.lease (κs .1 .1 .0) (qs .1 .1 .0)) (List._∷_ (Row.lease (κs .1 .1 .1 .0) (qs .1 .1 .1 .0)) List.[]))) }
 
         abbrev G18 : Row.Cx
-        G18 = record { locals = t11; slots = List._∷_ (Row.lease (κs .0) (qs .0)) (List._∷_ (Row.lease (κs .1 .0) (qs .1 .0)) (List._∷_ (Row.lease (κs .1 .1 .0) (qs .1 .1 .0)) List.[])) }
+        G18 = record { locals = List._++_ t11 t1; slots = List._∷_ (Row.lease (κs .0) (qs .0)) (List._∷_ (Row.lease (κs .1 .0) (qs .1 .0)) (List._∷_ (Row.lease (κs .1 .1 .0) (qs .1 .1 .0)) (List._∷_ (Row.lease (κs .1 .1 .1 .0) (qs .1 .1 .1 .0)) List.[]))) }
 
         abbrev G19 : Row.Cx
-        G19 = record { locals = t12; slots = List._∷_ (Row.lease (κs .0) (qs .0)) (List._∷_ (Row.lease (κs .1 .0) (qs .1 .0)) (List._∷_ (Row.lease (κs .1 .1 .0) (qs .1 .1 .0)) List.[])) }
+        G19 = record { locals = List._++_ t12 t1; slots = List._∷_ (Row.lease (κs .0) (qs .0)) (List._∷_ (Row.lease (κs .1 .0) (qs .1 .0)) (List._∷_ (Row.lease (κs .1 .1 .0) (qs .1 .1 .0)) (List._∷_ (Row.lease (κs .1 .1 .1 .0) (qs .1 .1 .1 .0)) List.[]))) }
 
         abbrev G20 : Row.Cx
-        G20 = record { locals = t6; slots = List._∷_ (Row.lease (κs .0) (qs .0)) (List._∷_ (Row.lease (κs .1 .0) (qs .1 .0)) (List._∷_ (Row.lease (κs .1 .1 .0) (qs .1 .1 .0)) List.[])) }
+        G20 = record { locals = List._++_ t13 t1; slots = List._∷_ (Row.lease (κs .0) (qs .0)) (List._∷_ (Row.lease (κs .1 .0) (qs .1 .0)) (List._∷_ (Row.lease (κs .1 .1 .0) (qs .1 .1 .0)) (List._∷_ (Row.lease (κs .1 .1 .1 .0) (qs .1 .1 .1 .0)) List.[]))) }
 
         abbrev G21 : Row.Cx
-        G21 = record { locals = t6; slots = List._∷_ (Row.lease (κs .0) (qs .0)) (List._∷_ (Row.lease (κs .1 .0) (qs .1 .0)) (List._∷_ (Row.lease (κs .1 .1 .0) (qs .1 .1 .0)) List.[])) }
+        G21 = record { locals = List._++_ t7 t1; slots = List._∷_ (Row.lease (κs .0) (qs .0)) (List._∷_ (Row.lease (κs .1 .0) (qs .1 .0)) (List._∷_ (Row.lease (κs .1 .1 .0) (qs .1 .1 .0)) (List._∷_ (Row.lease (κs .1 .1 .1 .0) (qs .1 .1 .1 .0)) List.[]))) }
 
         abbrev G22 : Row.Cx
-        G22 = record { locals = t13; slots = List._∷_ (Row.lease (κs .0) (qs .0)) (List._∷_ (Row.lease (κs .1 .0) (qs .1 .0)) (List._∷_ (Row.lease (κs .1 .1 .0) (qs .1 .1 .0)) List.[])) }
+        G22 = record { locals = List._++_ t7 t1; slots = List._∷_ (Row.lease (κs .0) (qs .0)) (List._∷_ (Row.lease (κs .1 .0) (qs .1 .0)) (List._∷_ (Row.lease (κs .1 .1 .0) (qs .1 .1 .0)) (List._∷_ (Row.lease (κs .1 .1 .1 .0) (qs .1 .1 .1 .0)) List.[]))) }
 
         abbrev G23 : Row.Cx
-        G23 = record { locals = t14; slots = List._∷_ (Row.lease (κs .0) (qs .0)) (List._∷_ (Row.lease (κs .1 .0) (qs .1 .0)) (List._∷_ (Row.lease (κs .1 .1 .0) (qs .1 .1 .0)) List.[])) }
+        G23 = record { locals = List._++_ t7 t14; slots = List._∷_ (Row.lease (κs .0) (qs .0)) (List._∷_ (Row.lease (κs .1 .0) (qs .1 .0)) (List._∷_ (Row.lease (κs .1 .1 .0) (qs .1 .1 .0)) (List._∷_ (Row.lease (κs .1 .1 .1 .0) (qs .1 .1 .1 .0)) List.[]))) }
 
         abbrev G24 : Row.Cx
-        G24 = record { locals = t15; slots = List._∷_ (Row.lease (κs .0) (qs .0)) (List._∷_ (Row.lease (κs .1 .0) (qs .1 .0)) (List._∷_ (Row.lease (κs .1 .1 .0) (qs .1 .1 .0)) List.[])) }
+        G24 = record { locals = List._++_ t7 t1; slots = List._∷_ (Row.lease (κs .0) (qs .0)) (List._∷_ (Row.lease (κs .1 .0) (qs .1 .0)) (List._∷_ (Row.lease (κs .1 .1 .0) (qs .1 .1 .0)) (List._∷_ (Row.lease (κs .1 .1 .1 .0) (qs .1 .1 .1 .0)) List.[]))) }
 
         abbrev G25 : Row.Cx
-        G25 = record { locals = t16; slots = List._∷_ (Row.lease (κs .0) (qs .0)) (List._∷_ (Row.lease (κs .1 .0) (qs .1 .0)) (List._∷_ (Row.lease (κs .1 .1 .0) (qs .1 .1 .0)) List.[])) }
+        G25 = record { locals = List._++_ t7 t15; slots = List._∷_ (Row.lease (κs .0) (qs .0)) (List._∷_ (Row.lease (κs .1 .0) (qs .1 .0)) (List._∷_ (Row.lease (κs .1 .1 .0) (qs .1 .1 .0)) (List._∷_ (Row.lease (κs .1 .1 .1 .0) (qs .1 .1 .1 .0)) List.[]))) }
 
         abbrev G26 : Row.Cx
-        G26 = record { locals = t17; slots = List._∷_ (Row.lease (κs .0) (qs .0)) (List._∷_ (Row.lease (κs .1 .0) (qs .1 .0)) (List._∷_ (Row.lease (κs .1 .1 .0) (qs .1 .1 .0)) List.[])) }
+        G26 = record { locals = List._++_ t7 t16; slots = List._∷_ (Row.lease (κs .0) (qs .0)) (List._∷_ (Row.lease (κs .1 .0) (qs .1 .0)) (List._∷_ (Row.lease (κs .1 .1 .0) (qs .1 .1 .0)) (List._∷_ (Row.lease (κs .1 .1 .1 .0) (qs .1 .1 .1 .0)) List.[]))) }
 
         abbrev G27 : Row.Cx
-        G27 = record { locals = t6; slots = List._∷_ (Row.lease (κs .0) (qs .0)) (List._∷_ (Row.lease (κs .1 .0) (qs .1 .0)) (List._∷_ (Row.lease (κs .1 .1 .0) (qs .1 .1 .0)) List.[])) }
+        G27 = record { locals = List._++_ t7 t15; slots = List._∷_ (Row.lease (κs .0) (qs .0)) (List._∷_ (Row.lease (κs .1 .0) (qs .1 .0)) (List._∷_ (Row.lease (κs .1 .1 .0) (qs .1 .1 .0)) (List._∷_ (Row.lease (κs .1 .1 .1 .0) (qs .1 .1 .1 .0)) List.[]))) }
 
         abbrev G28 : Row.Cx
-        G28 = record { locals = t6; slots = List._∷_ (Row.lease (κs .0) (qs .0)) (List._∷_ (Row.lease (κs .1 .0) (qs .1 .0)) (List._∷_ (Row.lease (κs .1 .1 .0) (qs .1 .1 .0)) List.[])) }
+        G28 = record { locals = List._++_ t7 t1; slots = List._∷_ (Row.lease (κs .0) (qs .0)) (List._∷_ (Row.lease (κs .1 .0) (qs .1 .0)) (List._∷_ (Row.lease (κs .1 .1 .0) (qs .1 .1 .0)) (List._∷_ (Row.lease (κs .1 .1 .1 .0) (qs .1 .1 .1 .0)) List.[]))) }
 
         abbrev G29 : Row.Cx
-        G29 = record { locals = t2; slots = List._∷_ (Row.lease (κs .0) (qs .0)) (List._∷_ (Row.lease (κs .1 .0) (qs .1 .0)) (List._∷_ (Row.lease (κs .1 .1 .0) (qs .1 .1 .0)) List.[])) }
+        G29 = record { locals = List._++_ t7 t1; slots = List._∷_ (Row.lease (κs .0) (qs .0)) (List._∷_ (Row.lease (κs .1 .0) (qs .1 .0)) (List._∷_ (Row.lease (κs .1 .1 .0) (qs .1 .1 .0)) (List._∷_ (Row.lease (κs .1 .1 .1 .0) (qs .1 .1 .1 .0)) List.[]))) }
 
         abbrev G30 : Row.Cx
-        G30 = record { locals = t18; slots = List._∷_ (Row.lease (κs .0) (qs .0)) (List._∷_ (Row.lease (κs .1 .0) (qs .1 .0)) (List._∷_ (Row.lease (κs .1 .1 .0) (qs .1 .1 .0)) List.[])) }
+        G30 = record { locals = List._++_ t17 t1; slots = List._∷_ (Row.lease (κs .0) (qs .0)) (List._∷_ (Row.lease (κs .1 .0) (qs .1 .0)) (List._∷_ (Row.lease (κs .1 .1 .0) (qs .1 .1 .0)) (List._∷_ (Row.lease (κs .1 .1 .1 .0) (qs .1 .1 .1 .0)) List.[]))) }
 
         abbrev G31 : Row.Cx
-        G31 = record { locals = t19; slots = List._∷_ (Row.lease (κs .0) (qs .0)) (List._∷_ (Row.lease (κs .1 .0) (qs .1 .0)) (List._∷_ (Row.lease (κs .1 .1 .0) (qs .1 .1 .0)) List.[])) }
+        G31 = record { locals = List._++_ t18 t1; slots = List._∷_ (Row.lease (κs .0) (qs .0)) (List._∷_ (Row.lease (κs .1 .0) (qs .1 .0)) (List._∷_ (Row.lease (κs .1 .1 .0) (qs .1 .1 .0)) (List._∷_ (Row.lease (κs .1 .1 .1 .0) (qs .1 .1 .1 .0)) List.[]))) }
 
         abbrev G32 : Row.Cx
-        G32 = record { locals = t1; slots = List._∷_ (Row.lease (κs .0) (qs .0)) (List._∷_ (Row.lease (κs .1 .0) (qs .1 .0)) (List._∷_ (Row.lease (κs .1 .1 .0) (qs .1 .1 .0)) List.[])) }
+        G32 = record { locals = List._++_ t18 t19; slots = List._∷_ (Row.lease (κs .0) (qs .0)) (List._∷_ (Row.lease (κs .1 .0) (qs .1 .0)) (List._∷_ (Row.lease (κs .1 .1 .0) (qs .1 .1 .0)) (List._∷_ (Row.lease (κs .1 .1 .1 .0) (qs .1 .1 .1 .0)) List.[]))) }
+
+        abbrev G33 : Row.Cx
+        G33 = record { locals = List._++_ t20 t19; slots = List._∷_ (Row.lease (κs .0) (qs .0)) (List._∷_ (Row.lease (κs .1 .0) (qs .1 .0)) (List._∷_ (Row.lease (κs .1 .1 .0) (qs .1 .1 .0)) (List._∷_ (Row.lease (κs .1 .1 .1 .0) (qs .1 .1 .1 .0)) List.[]))) }
+
+        abbrev G34 : Row.Cx
+        G34 = record { locals = List._++_ t7 t19; slots = List._∷_ (Row.lease (κs .0) (qs .0)) (List._∷_ (Row.lease (κs .1 .0) (qs .1 .0)) (List._∷_ (Row.lease (κs .1 .1 .0) (qs .1 .1 .0)) (List._∷_ (Row.lease (κs .1 .1 .1 .0) (qs .1 .1 .1 .0)) List.[]))) }
+
+        abbrev G35 : Row.Cx
+        G35 = record { locals = List._++_ t7 t1; slots = List._∷_ (Row.lease (κs .0) (qs .0)) (List._∷_ (Row.lease (κs .1 .0) (qs .1 .0)) (List._∷_ (Row.lease (κs .1 .1 .0) (qs .1 .1 .0)) (List._∷_ (Row.lease (κs .1 .1 .1 .0) (qs .1 .1 .1 .0)) List.[]))) }
+
+        abbrev G36 : Row.Cx
+        G36 = record { locals = List._++_ t7 t1; slots = List._∷_ (Row.lease (κs .0) (qs .0)) (List._∷_ (Row.lease (κs .1 .0) (qs .1 .0)) (List._∷_ (Row.lease (κs .1 .1 .0) (qs .1 .1 .0)) (List._∷_ (Row.lease (κs .1 .1 .1 .0) (qs .1 .1 .1 .0)) List.[]))) }
+
+        abbrev G37 : Row.Cx
+        G37 = record { locals = List._++_ t3 t1; slots = List._∷_ (Row.lease (κs .0) (qs .0)) (List._∷_ (Row.lease (κs .1 .0) (qs .1 .0)) (List._∷_ (Row.lease (κs .1 .1 .0) (qs .1 .1 .0)) (List._∷_ (Row.lease (κs .1 .1 .1 .0) (qs .1 .1 .1 .0)) List.[]))) }
+
+        abbrev G38 : Row.Cx
+        G38 = record { locals = List._++_ t21 t1; slots = List._∷_ (Row.lease (κs .0) (qs .0)) (List._∷_ (Row.lease (κs .1 .0) (qs .1 .0)) (List._∷_ (Row.lease (κs .1 .1 .0) (qs .1 .1 .0)) (List._∷_ (Row.lease (κs .1 .1 .1 .0) (qs .1 .1 .1 .0)) List.[]))) }
+
+        abbrev G39 : Row.Cx
+        G39 = record { locals = List._++_ t22 t1; slots = List._∷_ (Row.lease (κs .0) (qs .0)) (List._∷_ (Row.lease (κs .1 .0) (qs .1 .0)) (List._∷_ (Row.lease (κs .1 .1 .0) (qs .1 .1 .0)) (List._∷_ (Row.lease (κs .1 .1 .1 .0) (qs .1 .1 .1 .0)) List.[]))) }
+
+        abbrev G40 : Row.Cx
+        G40 = record { locals = List._++_ t2 t1; slots = List._∷_ (Row.lease (κs .0) (qs .0)) (List._∷_ (Row.lease (κs .1 .0) (qs .1 .0)) (List._∷_ (Row.lease (κs .1 .1 .0) (qs .1 .1 .0)) (List._∷_ (Row.lease (κs .1 .1 .1 .0) (qs .1 .1 .1 .0)) List.[]))) }
 
         abbrev Δ0 : Typed.Outs
         Δ0 = record { next = Option.none; exits = List.[]; returns = Option.some G1 }
 
         abbrev Δ1 : Typed.Outs
-        Δ1 = Typed.withNext (Option.some G5) Δ0
+        Δ1 = Typed.withNext (Option.some G6) Δ0
 
         abbrev Δ2 : Typed.Outs
         Δ2 = Typed.inBlock₀ Δ1
 
         abbrev Δ3 : Typed.Outs
-        Δ3 = Typed.inLoop₀ G4 Δ2
+        Δ3 = Typed.inLoop₀ G5 Δ2
 
         abbrev Δ4 : Typed.Outs
-        Δ4 = Typed.withNext (Option.some G7) Δ3
+        Δ4 = Typed.withNext (Option.some G8) Δ3
 
         abbrev Δ5 : Typed.Outs
-        Δ5 = Typed.withNext (Option.some G13) Δ3
+        Δ5 = Typed.withNext (Option.some G14) Δ3
 
-        module _ {M : Type 1} (𝓤 : URA.URA M) (H : Wp.Heap 𝓤) (A : Atoms.Atoms 𝓤) (W : Kit.Given 𝓤 H A) (𝓣 : Wp.Tables 𝓤 H) (known : Knowns 𝓤 H A W 𝓣) (bs : List.List Nat.ℕ) (bd : Lifetimes.AllOutlive 3 (Kinds.osR r) κs) where
+        module _ {M : Type 1} (𝓤 : URA.URA M) (H : Wp.Heap 𝓤) (A : Atoms.Atoms 𝓤) (W : Kit.Given 𝓤 H A) (𝓣 : Wp.Tables 𝓤 H) (known : Knowns 𝓤 H A W 𝓣) (bs : List.List Nat.ℕ) (bd : Lifetimes.AllOutlive 4 (Kinds.osR r) κs) where
           abbrev E : Wp.Env 𝓤 H
           E = Frame.EnvOf 𝓤 H (List._∷_ (Kinds.tyR r) (Enter.tysP ps xs)) bs
 
-          d0 : Typed.Typed 𝓤 H A 𝓣 E G8 b2 Δ4 at0
+          d0 : Typed.Typed 𝓤 H A 𝓣 E G9 b2 Δ4 at0
           d0 = Typed.t-skip 𝓤 H A W 𝓣 E Δ4 tt
 
-          d1 : Typed.Typed 𝓤 H A 𝓣 E G6 b2 Δ4 at1
-          d1 = Typed.g-pre 𝓤 H A W 𝓣 E G6 G8 b2 Δ4 (Typed.pass T6 T8 s4) at0 (Scalar.g-room 𝓤 H A W E G6 11 Syntax.tyBool (Scalar.room-sc 𝓤 H A W Row.sBool)) d0
+          d1 : Typed.Typed 𝓤 H A 𝓣 E G7 b2 Δ4 at1
+          d1 = Typed.g-pre 𝓤 H A W 𝓣 E G7 G9 b2 Δ4 (Typed.pass T7 T9 s5) at0 (Scalar.g-room 𝓤 H A W E G7 12 Syntax.tyBool (Scalar.room-sc 𝓤 H A W Row.sBool)) d0
 
-          d2 : Typed.Typed 𝓤 H A 𝓣 E G10 b3 Δ4 at2
+          d2 : Typed.Typed 𝓤 H A 𝓣 E G11 b3 Δ4 at2
           d2 = Typed.t-exit 𝓤 H A W 𝓣 E 1 Δ4 tt
 
-          d3 : Typed.Typed 𝓤 H A 𝓣 E G9 b3 Δ4 at3
-          d3 = Typed.g-pre 𝓤 H A W 𝓣 E G9 G10 b3 Δ4 (Typed.pass T9 T10 s6) at2 (Scalar.g-room 𝓤 H A W E G9 11 Syntax.tyBool (Scalar.room-sc 𝓤 H A W Row.sBool)) d2
+          d3 : Typed.Typed 𝓤 H A 𝓣 E G10 b3 Δ4 at3
+          d3 = Typed.g-pre 𝓤 H A W 𝓣 E G10 G11 b3 Δ4 (Typed.pass T10 T11 s7) at2 (Scalar.g-room 𝓤 H A W E G10 12 Syntax.tyBool (Scalar.room-sc 𝓤 H A W Row.sBool)) d2
 
-          d4 : Typed.Typed 𝓤 H A 𝓣 E G6 b3 Δ4 at4
-          d4 = Typed.g-pre 𝓤 H A W 𝓣 E G6 G9 b3 Δ4 (Typed.pass T6 T9 s5) at3 (Scalar.g-room 𝓤 H A W E G6 1 ty·3 (Local.room-whole 𝓤 H A W (Declared.row Size.the-type) ty·3 Path'.refl)) d3
+          d4 : Typed.Typed 𝓤 H A 𝓣 E G7 b3 Δ4 at4
+          d4 = Typed.g-pre 𝓤 H A W 𝓣 E G7 G10 b3 Δ4 (Typed.pass T7 T10 s6) at3 (Scalar.g-room 𝓤 H A W E G7 2 ty·4 (Local.room-whole 𝓤 H A W (Declared.row Size.the-type) ty·4 Path'.refl)) d3
 
-          d5 : Typed.Typed 𝓤 H A 𝓣 E G6 b4 Δ4 at5
-          d5 = Scalar.t-cond 𝓤 H A W E 𝓣 G6 11 (λ x. x) b2 b3 Δ4 at1 at4 (Scalar.reads-sc 𝓤 H A W Row.sBool) Path'.refl d1 d4
+          d5 : Typed.Typed 𝓤 H A 𝓣 E G7 b4 Δ4 at5
+          d5 = Scalar.t-cond 𝓤 H A W E 𝓣 G7 12 (λ x. x) b2 b3 Δ4 at1 at4 (Scalar.reads-sc 𝓤 H A W Row.sBool) Path'.refl d1 d4
 
-          d6 : Typed.Typed 𝓤 H A 𝓣 E G16 b9 Δ5 at6
-          d6 = Typed.s-typed 𝓤 H A W 𝓣 E G16 b9 Δ5 (λ Ψ. Typed.both s12 (Typed.pass T17 T18 s13 (Typed.pass T18 T19 s14 (Typed.pass T19 T20 s15 Ψ)))) tt (Typed.g-post 𝓤 H A W 𝓣 E G16 G19 G20 b9 (λ Ψ. Typed.both s12 (Typed.pass T17 T18 s13 (Typed.pass T18 T19 s14 Ψ))) (Typed.pass T19 T20 s15) (Typed.g-post 𝓤 H A W 𝓣 E G16 G18 G19 b9 (λ Ψ. Typed.both s12 (Typed.pass T17 T18 s13 Ψ)) (Typed.pass T18 T19 s14) (Typed.g-post 𝓤 H A W 𝓣 E G16 G17 G18 b9 (Typed.both s12) (Typed.pass T17 T18 s13) (Plain.t-call-plain 𝓤 H A W 𝓣 3 ps·3 r·3 (claims· .6) (claims· .7) "bench_plans::trims::ask_trim" (known .3) E (λ pos β. β) G16 (record { pos = 1; st = List.[]; d = 0; at = λ x. x }, (record { pos = 2; ty = Syntax.tyRef (Syntax.named 0) Syntax.imm (Memory.pointee (T.the-row .written)); ref = λ x. x }, (record { pos = 3; ty = Syntax.tyRef (Syntax.named 1) Syntax.imm (Syntax.tyInt Syntax.w16); ref = λ x. x }, (record { pos = 4; ty = Syntax.tyRef (Syntax.named 2) Syntax.imm (Syntax.tyInt Syntax.w16); ref = λ x. x }, (Num.vFld 8 (List._∷_ (Syntax.field 0) List.[]) 0 λ x. Places.struct .as-values x .0, (Num.vFld 8 (List._∷_ (Syntax.field 1) List.[]) 8 λ x. Places.struct .as-values x .1 .0, (Num.vFld 8 (List._∷_ (Syntax.field 2) List.[]) 16 λ x. Places.struct .as-values x .1 .1 .0, (Num.vFld 8 (List._∷_ (Syntax.field 3) List.[]) 24 λ x. Places.struct .as-values x .1 .1 .1 .0, (Num.vFld 8 (List._∷_ (Syntax.field 4) List.[]) 32 λ x. Places.struct .as-values x .1 .1 .1 .1 .0, (Num.vFld 8 (List._∷_ (Syntax.field 5) List.[]) 40 λ x. Places.struct .as-values x .1 .1 .1 .1 .1 .0, (Bool.bAt 14 λ x. x, tt))))))))))) 13 (List._∷_ 0 (List._∷_ 1 (List._∷_ 2 List.[]))) (Call.sub-id 𝓤 H A W (G16 .slots)) ((Yields.yields-copy 𝓤 H A W (λ ρ. Unit) (Declared.row Size.the-type) Path'.refl (Copies.cStruct Size.the-type Laws'.the-laws Laws'.the-copy .copy 𝓤 H A W) (Rows.whole (Declared.row Size.the-type)) (λ x. x) (λ x. x) (λ ρ told. Local.mem-whole 𝓤 H A W (Declared.row Size.the-type) ρ) λ ρ told. Local.whole-mem 𝓤 H A W (Declared.row Size.the-type) ρ, Path'.refl), (ShrSlice.spares-sslice 𝓤 H A W T.the-row ty·2 0, Shared.reads-sslice 𝓤 H A W T.the-row ty·2 0, Path'.refl, (ShrSlice.spares-sslice 𝓤 H A W (Referent.rtF (Referent.fInt Syntax.w16)) ty·0 1, Shared.reads-sslice 𝓤 H A W (Referent.rtF (Referent.fInt Syntax.w16)) ty·0 1, Path'.refl, (ShrSlice.spares-sslice 𝓤 H A W (Referent.rtF (Referent.fInt Syntax.w16)) ty·1 2, Shared.reads-sslice 𝓤 H A W (Referent.rtF (Referent.fInt Syntax.w16)) ty·1 2, Path'.refl, ((Reads.reads-field 𝓤 H A W Places.the-type Laws.the-laws 0 (Syntax.tyInt Syntax.w64) 0 Path'.refl, Path'.refl), ((Reads.reads-field 𝓤 H A W Places.the-type Laws.the-laws 1 (Syntax.tyInt Syntax.w64) 8 Path'.refl, Path'.refl), ((Reads.reads-field 𝓤 H A W Places.the-type Laws.the-laws 2 (Syntax.tyInt Syntax.w64) 16 Path'.refl, Path'.refl), ((Reads.reads-field 𝓤 H A W Places.the-type Laws.the-laws 3 (Syntax.tyInt Syntax.w64) 24 Path'.refl, Path'.refl), ((Reads.reads-field 𝓤 H A W Places.the-type Laws.the-laws 4 (Syntax.tyInt Syntax.w64) 32 Path'.refl, Path'.refl), ((Reads.reads-field 𝓤 H A W Places.the-type Laws.the-laws 5 (Syntax.tyInt Syntax.w16) 40 Path'.refl, Path'.refl), ((Scalar.reads-sc 𝓤 H A W Row.sBool, Path'.refl), tt))))))))))) (Reads'.room-gone 𝓤 H A Syntax.tyUnit) (tt, (tt, (tt, tt))) Path'.refl) (Scalar.g-room 𝓤 H A W E G17 8 ty·4 (Local.room-whole 𝓤 H A W (Declared.row Places.the-type) ty·4 Path'.refl))) (Scalar.g-room 𝓤 H A W E G18 13 Syntax.tyUnit (Scalar.room-sc 𝓤 H A W Row.sUnit))) (Scalar.g-room 𝓤 H A W E G19 14 Syntax.tyBool (Scalar.room-sc 𝓤 H A W Row.sBool)))
+          d6 : Typed.Typed 𝓤 H A 𝓣 E G17 b9 Δ5 at6
+          d6 = Typed.s-typed 𝓤 H A W 𝓣 E G17 b9 Δ5 (λ Ψ. Typed.both s13 (Typed.pass T18 T19 s14 (Typed.pass T19 T20 s15 (Typed.pass T20 T21 s16 Ψ)))) tt (Typed.g-post 𝓤 H A W 𝓣 E G17 G20 G21 b9 (λ Ψ. Typed.both s13 (Typed.pass T18 T19 s14 (Typed.pass T19 T20 s15 Ψ))) (Typed.pass T20 T21 s16) (Typed.g-post 𝓤 H A W 𝓣 E G17 G19 G20 b9 (λ Ψ. Typed.both s13 (Typed.pass T18 T19 s14 Ψ)) (Typed.pass T19 T20 s15) (Typed.g-post 𝓤 H A W 𝓣 E G17 G18 G19 b9 (Typed.both s13) (Typed.pass T18 T19 s14) (Plain.t-call-plain 𝓤 H A W 𝓣 3 ps·3 r·3 (claims· .6) (claims· .7) "bench_plans::trims::ask_trim" (known .3) E (λ pos β. β) G17 (record { pos = 2; st = List.[]; d = 0; at = λ x. x }, (record { pos = 3; ty = Syntax.tyRef (Syntax.named 1) Syntax.imm (Memory.pointee (T.the-row .written)); ref = λ x. x }, (record { pos = 4; ty = Syntax.tyRef (Syntax.named 2) Syntax.imm (Syntax.tyInt Syntax.w16); ref = λ x. x }, (record { pos = 5; ty = Syntax.tyRef (Syntax.named 3) Syntax.imm (Syntax.tyInt Syntax.w16); ref = λ x. x }, (Num.vFld 9 (List._∷_ (Syntax.field 0) List.[]) 0 λ x. Places.struct .as-values x .0, (Num.vFld 9 (List._∷_ (Syntax.field 1) List.[]) 8 λ x. Places.struct .as-values x .1 .0, (Num.vFld 9 (List._∷_ (Syntax.field 2) List.[]) 16 λ x. Places.struct .as-values x .1 .1 .0, (Num.vFld 9 (List._∷_ (Syntax.field 3) List.[]) 24 λ x. Places.struct .as-values x .1 .1 .1 .0, (Num.vFld 9 (List._∷_ (Syntax.field 4) List.[]) 32 λ x. Places.struct .as-values x .1 .1 .1 .1 .0, (Num.vFld 9 (List._∷_ (Syntax.field 5) List.[]) 40 λ x. Places.struct .as-values x .1 .1 .1 .1 .1 .0, (Bool.bAt 15 λ x. x, tt))))))))))) 14 (List._∷_ 1 (List._∷_ 2 (List._∷_ 3 List.[]))) (Call.sub-id 𝓤 H A W (G17 .slots)) ((Yields.yields-copy 𝓤 H A W (λ ρ. Unit) (Declared.row Size.the-type) Path'.refl (Copies.cStruct Size.the-type Laws'.the-laws Laws'.the-copy .copy 𝓤 H A W) (Rows.whole (Declared.row Size.the-type)) (λ x. x) (λ x. x) (λ ρ told. Local.mem-whole 𝓤 H A W (Declared.row Size.the-type) ρ) λ ρ told. Local.whole-mem 𝓤 H A W (Declared.row Size.the-type) ρ, Path'.refl), (ShrSlice.spares-sslice 𝓤 H A W T.the-row ty·3 1, Shared.reads-sslice 𝓤 H A W T.the-row ty·3 1, Path'.refl, (ShrSlice.spares-sslice 𝓤 H A W (Referent.rtF (Referent.fInt Syntax.w16)) ty·1 2, Shared.reads-sslice 𝓤 H A W (Referent.rtF (Referent.fInt Syntax.w16)) ty·1 2, Path'.refl, (ShrSlice.spares-sslice 𝓤 H A W (Referent.rtF (Referent.fInt Syntax.w16)) ty·2 3, Shared.reads-sslice 𝓤 H A W (Referent.rtF (Referent.fInt Syntax.w16)) ty·2 3, Path'.refl, ((Reads.reads-field 𝓤 H A W Places.the-type Laws.the-laws 0 (Syntax.tyInt Syntax.w64) 0 Path'.refl, Path'.refl), ((Reads.reads-field 𝓤 H A W Places.the-type Laws.the-laws 1 (Syntax.tyInt Syntax.w64) 8 Path'.refl, Path'.refl), ((Reads.reads-field 𝓤 H A W Places.the-type Laws.the-laws 2 (Syntax.tyInt Syntax.w64) 16 Path'.refl, Path'.refl), ((Reads.reads-field 𝓤 H A W Places.the-type Laws.the-laws 3 (Syntax.tyInt Syntax.w64) 24 Path'.refl, Path'.refl), ((Reads.reads-field 𝓤 H A W Places.the-type Laws.the-laws 4 (Syntax.tyInt Syntax.w64) 32 Path'.refl, Path'.refl), ((Reads.reads-field 𝓤 H A W Places.the-type Laws.the-laws 5 (Syntax.tyInt Syntax.w16) 40 Path'.refl, Path'.refl), ((Scalar.reads-sc 𝓤 H A W Row.sBool, Path'.refl), tt))))))))))) (Reads'.room-gone 𝓤 H A Syntax.tyUnit) (tt, (tt, (tt, tt))) Path'.refl) (Scalar.g-room 𝓤 H A W E G18 9 ty·5 (Local.room-whole 𝓤 H A W (Declared.row Places.the-type) ty·5 Path'.refl))) (Scalar.g-room 𝓤 H A W E G19 14 Syntax.tyUnit (Scalar.room-sc 𝓤 H A W Row.sUnit))) (Scalar.g-room 𝓤 H A W E G20 15 Syntax.tyBool (Scalar.room-sc 𝓤 H A W Row.sBool)))
 
-          d7 : Typed.Typed 𝓤 H A 𝓣 E G15 b10 Δ5 at7
-          d7 = Typed.s-seq 𝓤 H A W 𝓣 E G15 G16 b8 b9 Δ5 (Typed.ask s11) at6 (Scalar.t-op2 𝓤 H A W E 𝓣 G15 Syntax.eq (Scalar.oAt 7 (Syntax.tyInt Syntax.w64) (Row.valS (Row.sInt Syntax.w64))) (Scalar.oInt Syntax.w64 4) 14 (Rows.sc-here Row.sBool) Syntax.tyBool (Row.valS Row.sBool) (Row.sBool .of) (Scalar.reads-sc 𝓤 H A W (Row.sInt Syntax.w64), Path'.refl) tt (Reads'.room-gone 𝓤 H A Syntax.tyBool) (Scalar.holds-sc 𝓤 H A W Row.sBool) Path'.refl (λ u. Path'.refl) λ u. tt) d6
+          d7 : Typed.Typed 𝓤 H A 𝓣 E G16 b10 Δ5 at7
+          d7 = Typed.s-seq 𝓤 H A W 𝓣 E G16 G17 b8 b9 Δ5 (Typed.ask s12) at6 (Scalar.t-op2 𝓤 H A W E 𝓣 G16 Syntax.eq (Scalar.oAt 8 (Syntax.tyInt Syntax.w64) (Row.valS (Row.sInt Syntax.w64))) (Scalar.oInt Syntax.w64 4) 15 (Rows.sc-here Row.sBool) Syntax.tyBool (Row.valS Row.sBool) (Row.sBool .of) (Scalar.reads-sc 𝓤 H A W (Row.sInt Syntax.w64), Path'.refl) tt (Reads'.room-gone 𝓤 H A Syntax.tyBool) (Scalar.holds-sc 𝓤 H A W Row.sBool) Path'.refl (λ u. Path'.refl) λ u. tt) d6
 
-          d8 : Typed.Typed 𝓤 H A 𝓣 E G14 b11 Δ5 at8
-          d8 = Typed.s-seq 𝓤 H A W 𝓣 E G14 G15 b7 b10 Δ5 (Typed.both s10) at7 (Plain.t-call-plain 𝓤 H A W 𝓣 0 ps·2 r·2 (claims· .4) (claims· .5) "bench_plans::lent::next_places" (known .2) E (λ pos β. β) G14 tt 8 List.[] (Call.sub-id 𝓤 H A W (G14 .slots)) tt (Reads'.room-gone 𝓤 H A ty·4) tt Path'.refl) d7
+          d8 : Typed.Typed 𝓤 H A 𝓣 E G15 b11 Δ5 at8
+          d8 = Typed.s-seq 𝓤 H A W 𝓣 E G15 G16 b7 b10 Δ5 (Typed.both s11) at7 (Plain.t-call-plain 𝓤 H A W 𝓣 0 ps·2 r·2 (claims· .4) (claims· .5) "bench_plans::lent::next_places" (known .2) E (λ pos β. β) G15 tt 9 List.[] (Call.sub-id 𝓤 H A W (G15 .slots)) tt (Reads'.room-gone 𝓤 H A ty·5) tt Path'.refl) d7
 
-          d9 : Typed.Typed 𝓤 H A 𝓣 E G12 b11 Δ5 at9
-          d9 = Typed.g-pre 𝓤 H A W 𝓣 E G12 G14 b11 Δ5 (Typed.pass T12 T14 s9) at8 (Scalar.g-room 𝓤 H A W E G12 12 Syntax.tyBool (Scalar.room-sc 𝓤 H A W Row.sBool)) d8
+          d9 : Typed.Typed 𝓤 H A 𝓣 E G13 b11 Δ5 at9
+          d9 = Typed.g-pre 𝓤 H A W 𝓣 E G13 G15 b11 Δ5 (Typed.pass T13 T15 s10) at8 (Scalar.g-room 𝓤 H A W E G13 13 Syntax.tyBool (Scalar.room-sc 𝓤 H A W Row.sBool)) d8
 
-          d10 : Typed.Typed 𝓤 H A 𝓣 E G23 b14 Δ5 at10
-          d10 = Typed.s-typed 𝓤 H A W 𝓣 E G23 b14 Δ5 (λ Ψ. Typed.both s19 (Typed.pass T24 T25 s20 (Typed.pass T25 T26 s21 (Typed.pass T26 T27 s22 Ψ)))) tt (Typed.g-post 𝓤 H A W 𝓣 E G23 G26 G27 b14 (λ Ψ. Typed.both s19 (Typed.pass T24 T25 s20 (Typed.pass T25 T26 s21 Ψ))) (Typed.pass T26 T27 s22) (Typed.g-post 𝓤 H A W 𝓣 E G23 G25 G26 b14 (λ Ψ. Typed.both s19 (Typed.pass T24 T25 s20 Ψ)) (Typed.pass T25 T26 s21) (Typed.g-post 𝓤 H A W 𝓣 E G23 G24 G25 b14 (Typed.both s19) (Typed.pass T24 T25 s20) (Plain.t-call-plain 𝓤 H A W 𝓣 3 ps·5 r·5 (claims· .10) (claims· .11) "bench_plans::questions::ask" (known .5) E (λ pos β. β) G23 (record { pos = 1; st = List.[]; d = 0; at = λ x. x }, (record { pos = 2; ty = Syntax.tyRef (Syntax.named 0) Syntax.imm (Memory.pointee (T.the-row .written)); ref = λ x. x }, (record { pos = 3; ty = Syntax.tyRef (Syntax.named 1) Syntax.imm (Syntax.tyInt Syntax.w16); ref = λ x. x }, (record { pos = 4; ty = Syntax.tyRef (Syntax.named 2) Syntax.imm (Syntax.tyInt Syntax.w16); ref = λ x. x }, (Num.vAt 7 λ x. x, (Num.vAt 9 λ x. x, (Num.vAt 10 λ x. x, tt))))))) 15 (List._∷_ 0 (List._∷_ 1 (List._∷_ 2 List.[]))) (Call.sub-id 𝓤 H A W (G23 .slots)) ((Yields.yields-copy 𝓤 H A W (λ ρ. Unit) (Declared.row Size.the-type) Path'.refl (Copies.cStruct Size.the-type Laws'.the-laws Laws'.the-copy .copy 𝓤 H A W) (Rows.whole (Declared.row Size.the-type)) (λ x. x) (λ x. x) (λ ρ told. Local.mem-whole 𝓤 H A W (Declared.row Size.the-type) ρ) λ ρ told. Local.whole-mem 𝓤 H A W (Declared.row Size.the-type) ρ, Path'.refl), (ShrSlice.spares-sslice 𝓤 H A W T.the-row ty·2 0, Shared.reads-sslice 𝓤 H A W T.the-row ty·2 0, Path'.refl, (ShrSlice.spares-sslice 𝓤 H A W (Referent.rtF (Referent.fInt Syntax.w16)) ty·0 1, Shared.reads-sslice 𝓤 H A W (Referent.rtF (Referent.fInt Syntax.w16)) ty·0 1, Path'.refl, (ShrSlice.spares-sslice 𝓤 H A W (Referent.rtF (Referent.fInt Syntax.w16)) ty·1 2, Shared.reads-sslice 𝓤 H A W (Referent.rtF (Referent.fInt Syntax.w16)) ty·1 2, Path'.refl, ((Scalar.reads-sc 𝓤 H A W (Row.sInt Syntax.w64), Path'.refl), ((Scalar.reads-sc 𝓤 H A W (Row.sInt Syntax.w64), Path'.refl), ((Scalar.reads-sc 𝓤 H A W (Row.sInt Syntax.w64), Path'.refl), tt))))))) (Reads'.room-gone 𝓤 H A Syntax.tyUnit) (tt, (tt, (tt, tt))) Path'.refl) (Scalar.g-room 𝓤 H A W E G24 9 (Syntax.tyInt Syntax.w64) (Scalar.room-sc 𝓤 H A W (Row.sInt Syntax.w64)))) (Scalar.g-room 𝓤 H A W E G25 10 (Syntax.tyInt Syntax.w64) (Scalar.room-sc 𝓤 H A W (Row.sInt Syntax.w64)))) (Scalar.g-room 𝓤 H A W E G26 15 Syntax.tyUnit (Scalar.room-sc 𝓤 H A W Row.sUnit)))
+          d10 : Typed.Typed 𝓤 H A 𝓣 E G25 b14 Δ5 at10
+          d10 = Typed.s-typed 𝓤 H A W 𝓣 E G25 b14 Δ5 (λ Ψ. Typed.both s21 (Typed.pass T26 T27 s22 (Typed.pass T27 T28 s23 Ψ))) tt (Typed.g-post 𝓤 H A W 𝓣 E G25 G27 G28 b14 (λ Ψ. Typed.both s21 (Typed.pass T26 T27 s22 Ψ)) (Typed.pass T27 T28 s23) (Typed.g-post 𝓤 H A W 𝓣 E G25 G26 G27 b14 (Typed.both s21) (Typed.pass T26 T27 s22) (Plain.t-call-plain 𝓤 H A W 𝓣 1 ps·5 r·5 (claims· .10) (claims· .11) "bench_plans::carries::ask_carry" (known .5) E (λ pos β. β) G25 (record { pos = 1; ty = Syntax.tyRef (Syntax.named 0) Syntax.imm (Syntax.tyInt Syntax.w8); ref = λ x. x }, (Bool.bAt 18 λ x. x, tt)) 17 (List._∷_ 0 List.[]) (Call.sub-id 𝓤 H A W (G25 .slots)) (ShrSlice.spares-sslice 𝓤 H A W (Referent.rtF (Referent.fInt Syntax.w8)) ty·0 0, Shared.reads-sslice 𝓤 H A W (Referent.rtF (Referent.fInt Syntax.w8)) ty·0 0, Path'.refl, ((Scalar.reads-sc 𝓤 H A W Row.sBool, Path'.refl), tt)) (Reads'.room-gone 𝓤 H A Syntax.tyUnit) (tt, tt) Path'.refl) (Scalar.g-room 𝓤 H A W E G26 17 Syntax.tyUnit (Scalar.room-sc 𝓤 H A W Row.sUnit))) (Scalar.g-room 𝓤 H A W E G27 18 Syntax.tyBool (Scalar.room-sc 𝓤 H A W Row.sBool)))
 
-          d11 : Typed.Typed 𝓤 H A 𝓣 E G22 b15 Δ5 at11
-          d11 = Typed.s-seq 𝓤 H A W 𝓣 E G22 G23 b13 b14 Δ5 (Typed.both s18) at10 (Plain.t-call-plain 𝓤 H A W 𝓣 0 ps·4 r·4 (claims· .8) (claims· .9) "bench_plans::numbers::next_wide" (known .4) E (λ pos β. β) G22 tt 10 List.[] (Call.sub-id 𝓤 H A W (G22 .slots)) tt (Reads'.room-gone 𝓤 H A (Syntax.tyInt Syntax.w64)) tt Path'.refl) d10
+          d11 : Typed.Typed 𝓤 H A 𝓣 E G24 b15 Δ5 at11
+          d11 = Typed.s-seq 𝓤 H A W 𝓣 E G24 G25 b13 b14 Δ5 (Typed.ask s20) at10 (Scalar.t-op2 𝓤 H A W E 𝓣 G24 Syntax.eq (Scalar.oAt 8 (Syntax.tyInt Syntax.w64) (Row.valS (Row.sInt Syntax.w64))) (Scalar.oInt Syntax.w64 6) 18 (Rows.sc-here Row.sBool) Syntax.tyBool (Row.valS Row.sBool) (Row.sBool .of) (Scalar.reads-sc 𝓤 H A W (Row.sInt Syntax.w64), Path'.refl) tt (Reads'.room-gone 𝓤 H A Syntax.tyBool) (Scalar.holds-sc 𝓤 H A W Row.sBool) Path'.refl (λ u. Path'.refl) λ u. tt) d10
 
-          d12 : Typed.Typed 𝓤 H A 𝓣 E G21 b16 Δ5 at12
-          d12 = Typed.s-seq 𝓤 H A W 𝓣 E G21 G22 b12 b15 Δ5 (Typed.both s17) at11 (Plain.t-call-plain 𝓤 H A W 𝓣 0 ps·4 r·4 (claims· .8) (claims· .9) "bench_plans::numbers::next_wide" (known .4) E (λ pos β. β) G21 tt 9 List.[] (Call.sub-id 𝓤 H A W (G21 .slots)) tt (Reads'.room-gone 𝓤 H A (Syntax.tyInt Syntax.w64)) tt Path'.refl) d11
+          d12 : Typed.Typed 𝓤 H A 𝓣 E G23 b15 Δ5 at12
+          d12 = Typed.g-pre 𝓤 H A W 𝓣 E G23 G24 b15 Δ5 (Typed.pass T23 T24 s19) at11 (Scalar.g-room 𝓤 H A W E G23 16 Syntax.tyBool (Scalar.room-sc 𝓤 H A W Row.sBool)) d11
 
-          d13 : Typed.Typed 𝓤 H A 𝓣 E G12 b16 Δ5 at13
-          d13 = Typed.g-pre 𝓤 H A W 𝓣 E G12 G21 b16 Δ5 (Typed.pass T12 T21 s16) at12 (Scalar.g-room 𝓤 H A W E G12 12 Syntax.tyBool (Scalar.room-sc 𝓤 H A W Row.sBool)) d12
+          d13 : Typed.Typed 𝓤 H A 𝓣 E G31 b18 Δ5 at13
+          d13 = Typed.s-typed 𝓤 H A W 𝓣 E G31 b18 Δ5 (λ Ψ. Typed.both s27 (Typed.pass T32 T33 s28 (Typed.pass T33 T34 s29 (Typed.pass T34 T35 s30 Ψ)))) tt (Typed.g-post 𝓤 H A W 𝓣 E G31 G34 G35 b18 (λ Ψ. Typed.both s27 (Typed.pass T32 T33 s28 (Typed.pass T33 T34 s29 Ψ))) (Typed.pass T34 T35 s30) (Typed.g-post 𝓤 H A W 𝓣 E G31 G33 G34 b18 (λ Ψ. Typed.both s27 (Typed.pass T32 T33 s28 Ψ)) (Typed.pass T33 T34 s29) (Typed.g-post 𝓤 H A W 𝓣 E G31 G32 G33 b18 (Typed.both s27) (Typed.pass T32 T33 s28) (Plain.t-call-plain 𝓤 H A W 𝓣 3 ps·7 r·7 (claims· .14) (claims· .15) "bench_plans::questions::ask" (known .7) E (λ pos β. β) G31 (record { pos = 2; st = List.[]; d = 0; at = λ x. x }, (record { pos = 3; ty = Syntax.tyRef (Syntax.named 1) Syntax.imm (Memory.pointee (T.the-row .written)); ref = λ x. x }, (record { pos = 4; ty = Syntax.tyRef (Syntax.named 2) Syntax.imm (Syntax.tyInt Syntax.w16); ref = λ x. x }, (record { pos = 5; ty = Syntax.tyRef (Syntax.named 3) Syntax.imm (Syntax.tyInt Syntax.w16); ref = λ x. x }, (Num.vAt 8 λ x. x, (Num.vAt 10 λ x. x, (Num.vAt 11 λ x. x, tt))))))) 19 (List._∷_ 1 (List._∷_ 2 (List._∷_ 3 List.[]))) (Call.sub-id 𝓤 H A W (G31 .slots)) ((Yields.yields-copy 𝓤 H A W (λ ρ. Unit) (Declared.row Size.the-type) Path'.refl (Copies.cStruct Size.the-type Laws'.the-laws Laws'.the-copy .copy 𝓤 H A W) (Rows.whole (Declared.row Size.the-type)) (λ x. x) (λ x. x) (λ ρ told. Local.mem-whole 𝓤 H A W (Declared.row Size.the-type) ρ) λ ρ told. Local.whole-mem 𝓤 H A W (Declared.row Size.the-type) ρ, Path'.refl), (ShrSlice.spares-sslice 𝓤 H A W T.the-row ty·3 1, Shared.reads-sslice 𝓤 H A W T.the-row ty·3 1, Path'.refl, (ShrSlice.spares-sslice 𝓤 H A W (Referent.rtF (Referent.fInt Syntax.w16)) ty·1 2, Shared.reads-sslice 𝓤 H A W (Referent.rtF (Referent.fInt Syntax.w16)) ty·1 2, Path'.refl, (ShrSlice.spares-sslice 𝓤 H A W (Referent.rtF (Referent.fInt Syntax.w16)) ty·2 3, Shared.reads-sslice 𝓤 H A W (Referent.rtF (Referent.fInt Syntax.w16)) ty·2 3, Path'.refl, ((Scalar.reads-sc 𝓤 H A W (Row.sInt Syntax.w64), Path'.refl), ((Scalar.reads-sc 𝓤 H A W (Row.sInt Syntax.w64), Path'.refl), ((Scalar.reads-sc 𝓤 H A W (Row.sInt Syntax.w64), Path'.refl), tt))))))) (Reads'.room-gone 𝓤 H A Syntax.tyUnit) (tt, (tt, (tt, tt))) Path'.refl) (Scalar.g-room 𝓤 H A W E G32 10 (Syntax.tyInt Syntax.w64) (Scalar.room-sc 𝓤 H A W (Row.sInt Syntax.w64)))) (Scalar.g-room 𝓤 H A W E G33 11 (Syntax.tyInt Syntax.w64) (Scalar.room-sc 𝓤 H A W (Row.sInt Syntax.w64)))) (Scalar.g-room 𝓤 H A W E G34 19 Syntax.tyUnit (Scalar.room-sc 𝓤 H A W Row.sUnit)))
 
-          d14 : Typed.Typed 𝓤 H A 𝓣 E G12 b17 Δ5 at14
-          d14 = Scalar.t-cond 𝓤 H A W E 𝓣 G12 12 (λ x. x) b11 b16 Δ5 at9 at13 (Scalar.reads-sc 𝓤 H A W Row.sBool) Path'.refl d9 d13
+          d14 : Typed.Typed 𝓤 H A 𝓣 E G30 b19 Δ5 at14
+          d14 = Typed.s-seq 𝓤 H A W 𝓣 E G30 G31 b17 b18 Δ5 (Typed.both s26) at13 (Plain.t-call-plain 𝓤 H A W 𝓣 0 ps·6 r·6 (claims· .12) (claims· .13) "bench_plans::numbers::next_wide" (known .6) E (λ pos β. β) G30 tt 11 List.[] (Call.sub-id 𝓤 H A W (G30 .slots)) tt (Reads'.room-gone 𝓤 H A (Syntax.tyInt Syntax.w64)) tt Path'.refl) d13
 
-          d15 : Typed.Typed 𝓤 H A 𝓣 E G13 b18 Δ3 at15
-          unfolding at15
-          d15 = Typed.s-typed 𝓤 H A W 𝓣 E G13 b18 Δ3 (λ Ψ. Typed.ask s23 (Typed.pass T28 T29 s24 Ψ)) tt (Typed.g-post 𝓤 H A W 𝓣 E G13 G28 G29 b18 (Typed.ask s23) (Typed.pass T28 T29 s24) (Scalar.t-op2 𝓤 H A W E 𝓣 G13 (Syntax.sub Syntax.unsigned) (Scalar.oAt 6 (Syntax.tyInt Syntax.w64) (Row.valS (Row.sInt Syntax.w64))) (Scalar.oInt Syntax.w64 1) 6 (Rows.sc-here (Row.sInt Syntax.w64)) (Syntax.tyInt Syntax.w64) (Row.valS (Row.sInt Syntax.w64)) (Row.sInt Syntax.w64 .of) (Scalar.reads-sc 𝓤 H A W (Row.sInt Syntax.w64), Path'.refl) tt (Scalar.room-sc 𝓤 H A W (Row.sInt Syntax.w64)) (Scalar.holds-sc 𝓤 H A W (Row.sInt Syntax.w64)) Path'.refl (λ u. Path'.refl) λ u. tt) (Scalar.g-room 𝓤 H A W E G28 7 (Syntax.tyInt Syntax.w64) (Scalar.room-sc 𝓤 H A W (Row.sInt Syntax.w64))))
+          d15 : Typed.Typed 𝓤 H A 𝓣 E G29 b20 Δ5 at15
+          d15 = Typed.s-seq 𝓤 H A W 𝓣 E G29 G30 b16 b19 Δ5 (Typed.both s25) at14 (Plain.t-call-plain 𝓤 H A W 𝓣 0 ps·6 r·6 (claims· .12) (claims· .13) "bench_plans::numbers::next_wide" (known .6) E (λ pos β. β) G29 tt 10 List.[] (Call.sub-id 𝓤 H A W (G29 .slots)) tt (Reads'.room-gone 𝓤 H A (Syntax.tyInt Syntax.w64)) tt Path'.refl) d14
 
-          d16 : Typed.Typed 𝓤 H A 𝓣 E G12 b19 Δ3 at16
-          d16 = Typed.t-seq 𝓤 H A W 𝓣 E G12 G13 b17 b18 Δ3 at14 at15 d14 d15
+          d16 : Typed.Typed 𝓤 H A 𝓣 E G23 b20 Δ5 at16
+          d16 = Typed.g-pre 𝓤 H A W 𝓣 E G23 G29 b20 Δ5 (Typed.pass T23 T29 s24) at15 (Scalar.g-room 𝓤 H A W E G23 16 Syntax.tyBool (Scalar.room-sc 𝓤 H A W Row.sBool)) d15
 
-          d17 : Typed.Typed 𝓤 H A 𝓣 E G11 b20 Δ3 at17
-          d17 = Typed.s-seq 𝓤 H A W 𝓣 E G11 G12 b6 b19 Δ3 (Typed.both s8) at16 (Plain.t-call-plain 𝓤 H A W 𝓣 0 ps·1 r·1 (claims· .2) (claims· .3) "bench_plans::questions::is_trimming" (known .1) E (λ pos β. β) G11 (Num.vAt 7 λ x. x, tt) 12 List.[] (Call.sub-id 𝓤 H A W (G11 .slots)) ((Scalar.reads-sc 𝓤 H A W (Row.sInt Syntax.w64), Path'.refl), tt) (Reads'.room-gone 𝓤 H A Syntax.tyBool) tt Path'.refl) d16
+          d17 : Typed.Typed 𝓤 H A 𝓣 E G23 b21 Δ5 at17
+          d17 = Scalar.t-cond 𝓤 H A W E 𝓣 G23 16 (λ x. x) b15 b20 Δ5 at12 at16 (Scalar.reads-sc 𝓤 H A W Row.sBool) Path'.refl d12 d16
 
-          d18 : Typed.Typed 𝓤 H A 𝓣 E G7 b21 Δ3 at18
-          d18 = Typed.s-seq 𝓤 H A W 𝓣 E G7 G11 b5 b20 Δ3 (Typed.both s7) at17 (Plain.t-call-plain 𝓤 H A W 𝓣 0 ps·0 r·0 (claims· .0) (claims· .1) "bench_plans::numbers::next" (known .0) E (λ pos β. β) G7 tt 7 List.[] (Call.sub-id 𝓤 H A W (G7 .slots)) tt (Reads'.room-gone 𝓤 H A (Syntax.tyInt Syntax.w64)) tt Path'.refl) d17
+          d18 : Typed.Typed 𝓤 H A 𝓣 E G22 b22 Δ5 at18
+          d18 = Typed.s-seq 𝓤 H A W 𝓣 E G22 G23 b12 b21 Δ5 (Typed.both s18) at17 (Plain.t-call-plain 𝓤 H A W 𝓣 0 ps·4 r·4 (claims· .8) (claims· .9) "bench_plans::questions::is_carrying" (known .4) E (λ pos β. β) G22 (Num.vAt 8 λ x. x, tt) 16 List.[] (Call.sub-id 𝓤 H A W (G22 .slots)) ((Scalar.reads-sc 𝓤 H A W (Row.sInt Syntax.w64), Path'.refl), tt) (Reads'.room-gone 𝓤 H A Syntax.tyBool) tt Path'.refl) d17
 
-          d19 : Typed.Typed 𝓤 H A 𝓣 E G6 b22 Δ3 at19
-          d19 = Typed.t-seq 𝓤 H A W 𝓣 E G6 G7 b4 b21 Δ3 at5 at18 d5 d18
+          d19 : Typed.Typed 𝓤 H A 𝓣 E G13 b22 Δ5 at19
+          d19 = Typed.g-pre 𝓤 H A W 𝓣 E G13 G22 b22 Δ5 (Typed.pass T13 T22 s17) at18 (Scalar.g-room 𝓤 H A W E G13 13 Syntax.tyBool (Scalar.room-sc 𝓤 H A W Row.sBool)) d18
 
-          d20 : Typed.Typed 𝓤 H A 𝓣 E G4 b23 Δ3 at20
-          d20 = Typed.s-seq 𝓤 H A W 𝓣 E G4 G6 b1 b22 Δ3 (Typed.ask s3) at19 (Scalar.t-op2 𝓤 H A W E 𝓣 G4 (Syntax.lt Syntax.unsigned) (Scalar.oInt Syntax.w64 0) (Scalar.oAt 6 (Syntax.tyInt Syntax.w64) (Row.valS (Row.sInt Syntax.w64))) 11 (Rows.sc-here Row.sBool) Syntax.tyBool (Row.valS Row.sBool) (Row.sBool .of) tt (Scalar.reads-sc 𝓤 H A W (Row.sInt Syntax.w64), Path'.refl) (Reads'.room-gone 𝓤 H A Syntax.tyBool) (Scalar.holds-sc 𝓤 H A W Row.sBool) Path'.refl (λ u. Path'.refl) λ u. tt) d19
+          d20 : Typed.Typed 𝓤 H A 𝓣 E G13 b23 Δ5 at20
+          d20 = Scalar.t-cond 𝓤 H A W E 𝓣 G13 13 (λ x. x) b11 b22 Δ5 at9 at19 (Scalar.reads-sc 𝓤 H A W Row.sBool) Path'.refl d9 d19
 
-          d21 : Typed.Typed 𝓤 H A 𝓣 E G4 b24 Δ2 at21
-          d21 = Typed.t-loop-by 𝓤 H A W 𝓣 E G4 b23 Δ2 put0 (λ u vs. Inv·0 (Row.get 1 (T4 .locals) u) (Row.get 2 (T4 .locals) u .now) (Row.get 3 (T4 .locals) u .now) (Row.get 4 (T4 .locals) u .now) (Row.get 5 (T4 .locals) u) (Row.get 6 (T4 .locals) u) vs) (λ u vs. μ·0 (Row.get 1 (T4 .locals) u) (Row.get 2 (T4 .locals) u .now) (Row.get 3 (T4 .locals) u .now) (Row.get 4 (T4 .locals) u .now) (Row.get 5 (T4 .locals) u) (Row.get 6 (T4 .locals) u) vs) at20 d20
+          d21 : Typed.Typed 𝓤 H A 𝓣 E G14 b24 Δ3 at21
+          unfolding at21
+          d21 = Typed.s-typed 𝓤 H A W 𝓣 E G14 b24 Δ3 (λ Ψ. Typed.ask s31 (Typed.pass T36 T37 s32 Ψ)) tt (Typed.g-post 𝓤 H A W 𝓣 E G14 G36 G37 b24 (Typed.ask s31) (Typed.pass T36 T37 s32) (Scalar.t-op2 𝓤 H A W E 𝓣 G14 (Syntax.sub Syntax.unsigned) (Scalar.oAt 7 (Syntax.tyInt Syntax.w64) (Row.valS (Row.sInt Syntax.w64))) (Scalar.oInt Syntax.w64 1) 7 (Rows.sc-here (Row.sInt Syntax.w64)) (Syntax.tyInt Syntax.w64) (Row.valS (Row.sInt Syntax.w64)) (Row.sInt Syntax.w64 .of) (Scalar.reads-sc 𝓤 H A W (Row.sInt Syntax.w64), Path'.refl) tt (Scalar.room-sc 𝓤 H A W (Row.sInt Syntax.w64)) (Scalar.holds-sc 𝓤 H A W (Row.sInt Syntax.w64)) Path'.refl (λ u. Path'.refl) λ u. tt) (Scalar.g-room 𝓤 H A W E G36 8 (Syntax.tyInt Syntax.w64) (Scalar.room-sc 𝓤 H A W (Row.sInt Syntax.w64))))
 
-          d22 : Typed.Typed 𝓤 H A 𝓣 E G4 b25 Δ1 at22
-          d22 = Typed.t-block 𝓤 H A W 𝓣 E G4 b24 Δ1 at21 d21
+          d22 : Typed.Typed 𝓤 H A 𝓣 E G13 b25 Δ3 at22
+          d22 = Typed.t-seq 𝓤 H A W 𝓣 E G13 G14 b23 b24 Δ3 at20 at21 d20 d21
 
-          d23 : Typed.Typed 𝓤 H A 𝓣 E G32 b27 Δ0 at23
-          d23 = Typed.t-return 𝓤 H A W 𝓣 E Δ0 tt
+          d23 : Typed.Typed 𝓤 H A 𝓣 E G12 b26 Δ3 at23
+          d23 = Typed.s-seq 𝓤 H A W 𝓣 E G12 G13 b6 b25 Δ3 (Typed.both s9) at22 (Plain.t-call-plain 𝓤 H A W 𝓣 0 ps·1 r·1 (claims· .2) (claims· .3) "bench_plans::questions::is_trimming" (known .1) E (λ pos β. β) G12 (Num.vAt 8 λ x. x, tt) 13 List.[] (Call.sub-id 𝓤 H A W (G12 .slots)) ((Scalar.reads-sc 𝓤 H A W (Row.sInt Syntax.w64), Path'.refl), tt) (Reads'.room-gone 𝓤 H A Syntax.tyBool) tt Path'.refl) d22
 
-          d24 : Typed.Typed 𝓤 H A 𝓣 E G31 b27 Δ0 at24
-          d24 = Typed.g-pre 𝓤 H A W 𝓣 E G31 G32 b27 Δ0 (Typed.pass T31 T32 s27) at23 (Scalar.g-room 𝓤 H A W E G31 5 (Syntax.tyInt Syntax.w64) (Scalar.room-sc 𝓤 H A W (Row.sInt Syntax.w64))) d23
+          d24 : Typed.Typed 𝓤 H A 𝓣 E G8 b27 Δ3 at24
+          d24 = Typed.s-seq 𝓤 H A W 𝓣 E G8 G12 b5 b26 Δ3 (Typed.both s8) at23 (Plain.t-call-plain 𝓤 H A W 𝓣 0 ps·0 r·0 (claims· .0) (claims· .1) "bench_plans::numbers::next" (known .0) E (λ pos β. β) G8 tt 8 List.[] (Call.sub-id 𝓤 H A W (G8 .slots)) tt (Reads'.room-gone 𝓤 H A (Syntax.tyInt Syntax.w64)) tt Path'.refl) d23
 
-          d25 : Typed.Typed 𝓤 H A 𝓣 E G30 b27 Δ0 at25
-          d25 = Typed.g-pre 𝓤 H A W 𝓣 E G30 G31 b27 Δ0 (Typed.pass T30 T31 s26) at24 (Scalar.g-room 𝓤 H A W E G30 6 (Syntax.tyInt Syntax.w64) (Scalar.room-sc 𝓤 H A W (Row.sInt Syntax.w64))) d24
+          d25 : Typed.Typed 𝓤 H A 𝓣 E G7 b28 Δ3 at25
+          d25 = Typed.t-seq 𝓤 H A W 𝓣 E G7 G8 b4 b27 Δ3 at5 at24 d5 d24
 
-          d26 : Typed.Typed 𝓤 H A 𝓣 E G5 b28 Δ0 at26
-          d26 = Typed.s-seq 𝓤 H A W 𝓣 E G5 G30 b26 b27 Δ0 (Typed.pass T5 T30 s25) at25 (Scalar.t-use 𝓤 H A W E 𝓣 G5 Scalar.oUnit 0 (Rows.sc-here Row.sUnit) Syntax.tyUnit (Row.valS Row.sUnit) (Row.sUnit .of) tt (Reads'.room-gone 𝓤 H A Syntax.tyUnit) (Scalar.holds-sc 𝓤 H A W Row.sUnit) Path'.refl (λ u. Path'.refl) λ u. tt) d25
+          d26 : Typed.Typed 𝓤 H A 𝓣 E G5 b29 Δ3 at26
+          d26 = Typed.s-seq 𝓤 H A W 𝓣 E G5 G7 b1 b28 Δ3 (Typed.ask s4) at25 (Scalar.t-op2 𝓤 H A W E 𝓣 G5 (Syntax.lt Syntax.unsigned) (Scalar.oInt Syntax.w64 0) (Scalar.oAt 7 (Syntax.tyInt Syntax.w64) (Row.valS (Row.sInt Syntax.w64))) 12 (Rows.sc-here Row.sBool) Syntax.tyBool (Row.valS Row.sBool) (Row.sBool .of) tt (Scalar.reads-sc 𝓤 H A W (Row.sInt Syntax.w64), Path'.refl) (Reads'.room-gone 𝓤 H A Syntax.tyBool) (Scalar.holds-sc 𝓤 H A W Row.sBool) Path'.refl (λ u. Path'.refl) λ u. tt) d25
 
-          d27 : Typed.Typed 𝓤 H A 𝓣 E G4 b29 Δ0 at27
-          d27 = Typed.t-seq 𝓤 H A W 𝓣 E G4 G5 b25 b28 Δ0 at22 at26 d22 d26
+          d27 : Typed.Typed 𝓤 H A 𝓣 E G5 b30 Δ2 at27
+          d27 = Typed.t-loop-by 𝓤 H A W 𝓣 E G5 b29 Δ2 put0 (λ u vs. Inv·0 (Row.get 1 (T5 .locals) u .now) (Row.get 2 (T5 .locals) u) (Row.get 3 (T5 .locals) u .now) (Row.get 4 (T5 .locals) u .now) (Row.get 5 (T5 .locals) u .now) (Row.get 6 (T5 .locals) u) (Row.get 7 (T5 .locals) u) vs) (λ u vs. μ·0 (Row.get 1 (T5 .locals) u .now) (Row.get 2 (T5 .locals) u) (Row.get 3 (T5 .locals) u .now) (Row.get 4 (T5 .locals) u .now) (Row.get 5 (T5 .locals) u .now) (Row.get 6 (T5 .locals) u) (Row.get 7 (T5 .locals) u) vs) at26 d26
 
-          d28 : Typed.Typed 𝓤 H A 𝓣 E G3 b30 Δ0 at28
-          d28 = Typed.s-seq 𝓤 H A W 𝓣 E G3 G4 b0 b29 Δ0 (Typed.pass T3 T4 s2) at27 (Scalar.t-use 𝓤 H A W E 𝓣 G3 (Scalar.oAt 5 (Syntax.tyInt Syntax.w64) (Row.valS (Row.sInt Syntax.w64))) 6 (Rows.sc-here (Row.sInt Syntax.w64)) (Syntax.tyInt Syntax.w64) (Row.valS (Row.sInt Syntax.w64)) (Row.sInt Syntax.w64 .of) (Scalar.reads-sc 𝓤 H A W (Row.sInt Syntax.w64), Path'.refl) (Reads'.room-gone 𝓤 H A (Syntax.tyInt Syntax.w64)) (Scalar.holds-sc 𝓤 H A W (Row.sInt Syntax.w64)) Path'.refl (λ u. Path'.refl) λ u. tt) d27
+          d28 : Typed.Typed 𝓤 H A 𝓣 E G5 b31 Δ1 at28
+          d28 = Typed.t-block 𝓤 H A W 𝓣 E G5 b30 Δ1 at27 d27
 
-          d29 : Typed.Typed 𝓤 H A 𝓣 E G2 b30 Δ0 at29
-          d29 = Typed.g-pre 𝓤 H A W 𝓣 E G2 G3 b30 Δ0 (Typed.give s1) at28 (Know.g-shs-known 𝓤 H A W (Referent.fInt Syntax.w16) E G2 4 2 ty·1 (Row.lease (κs .1 .1 .0) (qs .1 .1 .0)) 0 (λ x. x) record { fits = Dec'.lit< tt } (Reads'.as-is 𝓤 H A (Rows.sslice (Referent.rtF (Referent.fInt Syntax.w16)) ty·1 2)) Path'.refl tt) d28
+          d29 : Typed.Typed 𝓤 H A 𝓣 E G40 b33 Δ0 at29
+          d29 = Typed.t-return 𝓤 H A W 𝓣 E Δ0 tt
 
-          d30 : Typed.Typed 𝓤 H A 𝓣 E G0 b30 Δ0 at30
-          d30 = Typed.g-pre 𝓤 H A W 𝓣 E G0 G2 b30 Δ0 (Typed.give s0) at29 (Know.g-shs-known 𝓤 H A W (Referent.fInt Syntax.w16) E G0 3 1 ty·0 (Row.lease (κs .1 .0) (qs .1 .0)) 0 (λ x. x) record { fits = Dec'.lit< tt } (Reads'.as-is 𝓤 H A (Rows.sslice (Referent.rtF (Referent.fInt Syntax.w16)) ty·0 1)) Path'.refl tt) d29
+          d30 : Typed.Typed 𝓤 H A 𝓣 E G39 b33 Δ0 at30
+          d30 = Typed.g-pre 𝓤 H A W 𝓣 E G39 G40 b33 Δ0 (Typed.pass T39 T40 s35) at29 (Scalar.g-room 𝓤 H A W E G39 6 (Syntax.tyInt Syntax.w64) (Scalar.room-sc 𝓤 H A W (Row.sInt Syntax.w64))) d29
 
-          pub typed : Typed.Typed 𝓤 H A 𝓣 E (Function.Γin 3 ps r xs m κs qs) b30 (Function.Δret 3 ps r xs m κs qs) Φ
-          typed = d30
+          d31 : Typed.Typed 𝓤 H A 𝓣 E G38 b33 Δ0 at31
+          d31 = Typed.g-pre 𝓤 H A W 𝓣 E G38 G39 b33 Δ0 (Typed.pass T38 T39 s34) at30 (Scalar.g-room 𝓤 H A W E G38 7 (Syntax.tyInt Syntax.w64) (Scalar.room-sc 𝓤 H A W (Row.sInt Syntax.w64))) d30
 
-      module _ (κs : Lifetimes.Lfts 3) where
+          d32 : Typed.Typed 𝓤 H A 𝓣 E G6 b34 Δ0 at32
+          d32 = Typed.s-seq 𝓤 H A W 𝓣 E G6 G38 b32 b33 Δ0 (Typed.pass T6 T38 s33) at31 (Scalar.t-use 𝓤 H A W E 𝓣 G6 Scalar.oUnit 0 (Rows.sc-here Row.sUnit) Syntax.tyUnit (Row.valS Row.sUnit) (Row.sUnit .of) tt (Reads'.room-gone 𝓤 H A Syntax.tyUnit) (Scalar.holds-sc 𝓤 H A W Row.sUnit) Path'.refl (λ u. Path'.refl) λ u. tt) d31
+
+          d33 : Typed.Typed 𝓤 H A 𝓣 E G5 b35 Δ0 at33
+          d33 = Typed.t-seq 𝓤 H A W 𝓣 E G5 G6 b31 b34 Δ0 at28 at32 d28 d32
+
+          d34 : Typed.Typed 𝓤 H A 𝓣 E G4 b36 Δ0 at34
+          d34 = Typed.s-seq 𝓤 H A W 𝓣 E G4 G5 b0 b35 Δ0 (Typed.pass T4 T5 s3) at33 (Scalar.t-use 𝓤 H A W E 𝓣 G4 (Scalar.oAt 6 (Syntax.tyInt Syntax.w64) (Row.valS (Row.sInt Syntax.w64))) 7 (Rows.sc-here (Row.sInt Syntax.w64)) (Syntax.tyInt Syntax.w64) (Row.valS (Row.sInt Syntax.w64)) (Row.sInt Syntax.w64 .of) (Scalar.reads-sc 𝓤 H A W (Row.sInt Syntax.w64), Path'.refl) (Reads'.room-gone 𝓤 H A (Syntax.tyInt Syntax.w64)) (Scalar.holds-sc 𝓤 H A W (Row.sInt Syntax.w64)) Path'.refl (λ u. Path'.refl) λ u. tt) d33
+
+          d35 : Typed.Typed 𝓤 H A 𝓣 E G3 b36 Δ0 at35
+          d35 = Typed.g-pre 𝓤 H A W 𝓣 E G3 G4 b36 Δ0 (Typed.give s2) at34 (Know.g-shs-known 𝓤 H A W (Referent.fInt Syntax.w16) E G3 5 3 ty·2 (Row.lease (κs .1 .1 .1 .0) (qs .1 .1 .1 .0)) 0 (λ x. x) record { fits = Dec'.lit< tt } (Reads'.as-is 𝓤 H A (Rows.sslice (Referent.rtF (Referent.fInt Syntax.w16)) ty·2 3)) Path'.refl tt) d34
+
+          d36 : Typed.Typed 𝓤 H A 𝓣 E G2 b36 Δ0 at36
+          d36 = Typed.g-pre 𝓤 H A W 𝓣 E G2 G3 b36 Δ0 (Typed.give s1) at35 (Know.g-shs-known 𝓤 H A W (Referent.fInt Syntax.w16) E G2 4 2 ty·1 (Row.lease (κs .1 .1 .0) (qs .1 .1 .0)) 0 (λ x. x) record { fits = Dec'.lit< tt } (Reads'.as-is 𝓤 H A (Rows.sslice (Referent.rtF (Referent.fInt Syntax.w16)) ty·1 2)) Path'.refl tt) d35
+
+          d37 : Typed.Typed 𝓤 H A 𝓣 E G0 b36 Δ0 at37
+          d37 = Typed.g-pre 𝓤 H A W 𝓣 E G0 G2 b36 Δ0 (Typed.give s0) at36 (Know.g-shs-known 𝓤 H A W (Referent.fInt Syntax.w8) E G0 1 0 ty·0 (Row.lease (κs .0) (qs .0)) 0 (λ x. x) record { fits = Dec'.lit< tt } (Reads'.as-is 𝓤 H A (Rows.sslice (Referent.rtF (Referent.fInt Syntax.w8)) ty·0 0)) Path'.refl tt) d36
+
+          pub typed : Typed.Typed 𝓤 H A 𝓣 E (Function.Γin 4 ps r xs m κs qs) b36 (Function.Δret 4 ps r xs m κs qs) Φ
+          typed = d37
+
+      module _ (κs : Lifetimes.Lfts 4) where
         pub record Args : Type 0 where
-          pub size : Kinds.Den {n = 3} κs (Value.pVal record { ty = Declared.row Size.the-type; one = Path'.refl; val = Laws''.val Size.the-type Laws'.the-laws; tells = Laws''.tells Size.the-type Laws'.the-laws; still = Laws''.still Size.the-type Laws'.the-copy Exit.yes; row = Rows.whole (Declared.row Size.the-type); rd = λ x. x; mk = λ x. x } λ M 𝓤 H A W. record { copies = Laws''.copy Size.the-type Laws'.the-copy 𝓤 H A W; lawful = Laws''.lawful Size.the-type Laws'.the-laws 𝓤 H A W; makes = Laws''.makes Size.the-type Laws'.the-plain 𝓤 H A; in-mem = Local.mem-whole 𝓤 H A W (Declared.row Size.the-type); of-mem = Local.whole-mem 𝓤 H A W (Declared.row Size.the-type) })
-          pub rows : Kinds.Den {n = 3} κs (ShrSlice.pShrS T.the-row 0 tt)
-          pub firsts : Kinds.Den {n = 3} κs (ShrSlice.pShrS (Referent.rtF (Referent.fInt Syntax.w16)) 1 tt)
-          pub outcomes : Kinds.Den {n = 3} κs (ShrSlice.pShrS (Referent.rtF (Referent.fInt Syntax.w16)) 2 tt)
-          pub questions : Kinds.Den {n = 3} κs (Num.pNum Syntax.w64)
+          pub file : Kinds.Den {n = 4} κs (ShrSlice.pShrS (Referent.rtF (Referent.fInt Syntax.w8)) 0 tt)
+          pub size : Kinds.Den {n = 4} κs (Value.pVal record { ty = Declared.row Size.the-type; one = Path'.refl; val = Laws''.val Size.the-type Laws'.the-laws; tells = Laws''.tells Size.the-type Laws'.the-laws; still = Laws''.still Size.the-type Laws'.the-copy Exit.yes; row = Rows.whole (Declared.row Size.the-type); rd = λ x. x; mk = λ x. x } λ M 𝓤 H A W. record { copies = Laws''.copy Size.the-type Laws'.the-copy 𝓤 H A W; lawful = Laws''.lawful Size.the-type Laws'.the-laws 𝓤 H A W; makes = Laws''.makes Size.the-type Laws'.the-plain 𝓤 H A; in-mem = Local.mem-whole 𝓤 H A W (Declared.row Size.the-type); of-mem = Local.whole-mem 𝓤 H A W (Declared.row Size.the-type) })
+          pub rows : Kinds.Den {n = 4} κs (ShrSlice.pShrS T.the-row 1 tt)
+          pub firsts : Kinds.Den {n = 4} κs (ShrSlice.pShrS (Referent.rtF (Referent.fInt Syntax.w16)) 2 tt)
+          pub outcomes : Kinds.Den {n = 4} κs (ShrSlice.pShrS (Referent.rtF (Referent.fInt Syntax.w16)) 3 tt)
+          pub questions : Kinds.Den {n = 4} κs (Num.pNum Syntax.w64)
 
         abbrev pub dens : (a : Args) → Kinds.Dens κs ps
-        dens = λ a. (a .size, (a .rows, (a .firsts, (a .outcomes, (a .questions, tt)))))
+        dens = λ a. (a .file, (a .size, (a .rows, (a .firsts, (a .outcomes, (a .questions, tt))))))
 
         module _ (args· : Args) where
           pub record Ranges : Type 0 where
             pub questions : Val.Fits Syntax.w64 (args· .questions)
 
-      abbrev pub m0 : (κs : Lifetimes.Lfts 3) → (args : Args κs) → Typed.Mo T0
+      abbrev pub m0 : (κs : Lifetimes.Lfts 4) → (args : Args κs) → Typed.Mo T0
       m0 = λ κs args. (tt, Enter.partsP κs 1 ps xs (dens κs args))
 
-      abbrev W0 : (κs : Lifetimes.Lfts 3) → (args : Args κs) → Typed.Want O0
-      W0 = λ κs args. (λ u. ⊥, tt, λ u. Enter.Fixs κs 1 ps xs (dens κs args) (u .1) × Post· κs (dens κs args) (Function.resV r κs (u .0)) (Clauses.atExit (Kinds.endedOf 3 ps r) κs (dens κs args) (Enter.lastsP κs 1 ps xs (dens κs args) (u .1))))
+      abbrev W0 : (κs : Lifetimes.Lfts 4) → (args : Args κs) → Typed.Want O0
+      W0 = λ κs args. (λ u. ⊥, tt, λ u. Enter.Fixs κs 1 ps xs (dens κs args) (u .1) × Post· κs (dens κs args) (Function.resV r κs (u .0)) (Clauses.atExit (Kinds.endedOf 4 ps r) κs (dens κs args) (Enter.lastsP κs 1 ps xs (dens κs args) (u .1))))
 
       pub record Start : Type 0 where
-        pub κs : Lifetimes.Lfts 3
+        pub κs : Lifetimes.Lfts 4
         pub args : Args κs
         pub good : Kinds.GoodsP κs ps (dens κs args)
         pub fits : Ranges κs args
@@ -854,15 +1011,6 @@ module _ (claims· : Claims) where
       abbrev pub m2 : (before : After-shared-slice-known) → (given : s1 .gives (m1 (before .before) (before .shared-slice-known .given))) → Typed.Mo T3
       m2 = λ before given. s1 .next (m1 (before .before) (before .shared-slice-known .given)) given
 
-      abbrev pub m3 : (before : After-shared-slice-known) → (given : s1 .gives (m1 (before .before) (before .shared-slice-known .given))) → Typed.Mo T4
-      m3 = λ before given. s2 (m2 before given)
-
-      abbrev W1 : (before : After-shared-slice-known) → (given : s1 .gives (m1 (before .before) (before .shared-slice-known .given))) → Typed.Want O1
-      W1 = λ before given. Typed.wantNext T5 O0 (at26 (W0 (before .before .κs) (before .before .args))) (W0 (before .before .κs) (before .before .args))
-
-      abbrev W2 : (before : After-shared-slice-known) → (given : s1 .gives (m1 (before .before) (before .shared-slice-known .given))) → Typed.Want O2
-      W2 = λ before given. Typed.inBlock O1 (W1 before given)
-
       module _ (before· : After-shared-slice-known) where
         pub record After-shared-slice-known2·own : Type 0 where
           pub given : s1 .gives (m1 (before· .before) (before· .shared-slice-known .given))
@@ -871,297 +1019,385 @@ module _ (claims· : Claims) where
         pub before : After-shared-slice-known
         pub shared-slice-known2 : After-shared-slice-known2·own before
 
-      abbrev pub Need-loop-holds : Type 0
-      Need-loop-holds = (c : After-shared-slice-known2) → Inv·0 (Row.get 1 (T4 .locals) (m3 (c .before) (c .shared-slice-known2 .given))) (Row.get 2 (T4 .locals) (m3 (c .before) (c .shared-slice-known2 .given)) .now) (Row.get 3 (T4 .locals) (m3 (c .before) (c .shared-slice-known2 .given)) .now) (Row.get 4 (T4 .locals) (m3 (c .before) (c .shared-slice-known2 .given)) .now) (Row.get 5 (T4 .locals) (m3 (c .before) (c .shared-slice-known2 .given))) (Row.get 6 (T4 .locals) (m3 (c .before) (c .shared-slice-known2 .given))) (Row.get 6 (T4 .locals) (m3 (c .before) (c .shared-slice-known2 .given)))
+      abbrev pub m3 : (before : After-shared-slice-known2) → (given : s2 .gives (m2 (before .before) (before .shared-slice-known2 .given))) → Typed.Mo T4
+      m3 = λ before given. s2 .next (m2 (before .before) (before .shared-slice-known2 .given)) given
 
-      abbrev pub m4 : (before : After-shared-slice-known2) → (left : Rows.sc-here (Row.sInt Syntax.w64) .Mod) → Typed.Mo T4
-      m4 = λ before left. Row.set 6 (6, Rows.sc-here (Row.sInt Syntax.w64)) left (T4 .locals) (m3 (before .before) (before .shared-slice-known2 .given))
+      abbrev pub m4 : (before : After-shared-slice-known2) → (given : s2 .gives (m2 (before .before) (before .shared-slice-known2 .given))) → Typed.Mo T5
+      m4 = λ before given. s3 (m3 before given)
 
-      abbrev W3 : (before : After-shared-slice-known2) → (left : Rows.sc-here (Row.sInt Syntax.w64) .Mod) → Typed.Want O3
-      W3 = λ before left. Typed.inLoop T4 O2 (Typed.Round T4 O2 put0 (λ u vs. Inv·0 (Row.get 1 (T4 .locals) u) (Row.get 2 (T4 .locals) u .now) (Row.get 3 (T4 .locals) u .now) (Row.get 4 (T4 .locals) u .now) (Row.get 5 (T4 .locals) u) (Row.get 6 (T4 .locals) u) vs) (λ u vs. μ·0 (Row.get 1 (T4 .locals) u) (Row.get 2 (T4 .locals) u .now) (Row.get 3 (T4 .locals) u .now) (Row.get 4 (T4 .locals) u .now) (Row.get 5 (T4 .locals) u) (Row.get 6 (T4 .locals) u) vs) at20 (m3 (before .before) (before .shared-slice-known2 .given)) left) (W2 (before .before) (before .shared-slice-known2 .given))
+      abbrev W1 : (before : After-shared-slice-known2) → (given : s2 .gives (m2 (before .before) (before .shared-slice-known2 .given))) → Typed.Want O1
+      W1 = λ before given. Typed.wantNext T6 O0 (at32 (W0 (before .before .before .κs) (before .before .before .args))) (W0 (before .before .before .κs) (before .before .before .args))
 
-      abbrev pub m5 : (before : After-shared-slice-known2) → (left : Rows.sc-here (Row.sInt Syntax.w64) .Mod) → Typed.Mo T6
-      m5 = λ before left. s3 .next (m4 before left)
-
-      abbrev W4 : (before : After-shared-slice-known2) → (left : Rows.sc-here (Row.sInt Syntax.w64) .Mod) → Typed.Want O4
-      W4 = λ before left. Typed.wantNext T7 O3 (at18 (W3 before left)) (W3 before left)
+      abbrev W2 : (before : After-shared-slice-known2) → (given : s2 .gives (m2 (before .before) (before .shared-slice-known2 .given))) → Typed.Want O2
+      W2 = λ before given. Typed.inBlock O1 (W1 before given)
 
       module _ (before· : After-shared-slice-known2) where
+        pub record After-shared-slice-known3·own : Type 0 where
+          pub given : s2 .gives (m2 (before· .before) (before· .shared-slice-known2 .given))
+
+      pub record After-shared-slice-known3 : Type 0 where
+        pub before : After-shared-slice-known2
+        pub shared-slice-known3 : After-shared-slice-known3·own before
+
+      abbrev pub Need-loop-holds : Type 0
+      Need-loop-holds = (c : After-shared-slice-known3) → Inv·0 (Row.get 1 (T5 .locals) (m4 (c .before) (c .shared-slice-known3 .given)) .now) (Row.get 2 (T5 .locals) (m4 (c .before) (c .shared-slice-known3 .given))) (Row.get 3 (T5 .locals) (m4 (c .before) (c .shared-slice-known3 .given)) .now) (Row.get 4 (T5 .locals) (m4 (c .before) (c .shared-slice-known3 .given)) .now) (Row.get 5 (T5 .locals) (m4 (c .before) (c .shared-slice-known3 .given)) .now) (Row.get 6 (T5 .locals) (m4 (c .before) (c .shared-slice-known3 .given))) (Row.get 7 (T5 .locals) (m4 (c .before) (c .shared-slice-known3 .given))) (Row.get 7 (T5 .locals) (m4 (c .before) (c .shared-slice-known3 .given)))
+
+      abbrev pub m5 : (before : After-shared-slice-known3) → (left : Rows.sc-here (Row.sInt Syntax.w64) .Mod) → Typed.Mo T5
+      m5 = λ before left. Row.set 7 (7, Rows.sc-here (Row.sInt Syntax.w64)) left (T5 .locals) (m4 (before .before) (before .shared-slice-known3 .given))
+
+      abbrev W3 : (before : After-shared-slice-known3) → (left : Rows.sc-here (Row.sInt Syntax.w64) .Mod) → Typed.Want O3
+      W3 = λ before left. Typed.inLoop T5 O2 (Typed.Round T5 O2 put0 (λ u vs. Inv·0 (Row.get 1 (T5 .locals) u .now) (Row.get 2 (T5 .locals) u) (Row.get 3 (T5 .locals) u .now) (Row.get 4 (T5 .locals) u .now) (Row.get 5 (T5 .locals) u .now) (Row.get 6 (T5 .locals) u) (Row.get 7 (T5 .locals) u) vs) (λ u vs. μ·0 (Row.get 1 (T5 .locals) u .now) (Row.get 2 (T5 .locals) u) (Row.get 3 (T5 .locals) u .now) (Row.get 4 (T5 .locals) u .now) (Row.get 5 (T5 .locals) u .now) (Row.get 6 (T5 .locals) u) (Row.get 7 (T5 .locals) u) vs) at26 (m4 (before .before) (before .shared-slice-known3 .given)) left) (W2 (before .before) (before .shared-slice-known3 .given))
+
+      abbrev pub m6 : (before : After-shared-slice-known3) → (left : Rows.sc-here (Row.sInt Syntax.w64) .Mod) → Typed.Mo T7
+      m6 = λ before left. s4 .next (m5 before left)
+
+      abbrev W4 : (before : After-shared-slice-known3) → (left : Rows.sc-here (Row.sInt Syntax.w64) .Mod) → Typed.Want O4
+      W4 = λ before left. Typed.wantNext T8 O3 (at24 (W3 before left)) (W3 before left)
+
+      module _ (before· : After-shared-slice-known3) where
         pub record At-loop·own : Type 0 where
           pub left : Rows.sc-here (Row.sInt Syntax.w64) .Mod
-          pub inv : Inv·0 (Row.get 1 (T4 .locals) (m3 (before· .before) (before· .shared-slice-known2 .given))) (Row.get 2 (T4 .locals) (m3 (before· .before) (before· .shared-slice-known2 .given)) .now) (Row.get 3 (T4 .locals) (m3 (before· .before) (before· .shared-slice-known2 .given)) .now) (Row.get 4 (T4 .locals) (m3 (before· .before) (before· .shared-slice-known2 .given)) .now) (Row.get 5 (T4 .locals) (m3 (before· .before) (before· .shared-slice-known2 .given))) (Row.get 6 (T4 .locals) (m3 (before· .before) (before· .shared-slice-known2 .given))) left
+          pub inv : Inv·0 (Row.get 1 (T5 .locals) (m4 (before· .before) (before· .shared-slice-known3 .given)) .now) (Row.get 2 (T5 .locals) (m4 (before· .before) (before· .shared-slice-known3 .given))) (Row.get 3 (T5 .locals) (m4 (before· .before) (before· .shared-slice-known3 .given)) .now) (Row.get 4 (T5 .locals) (m4 (before· .before) (before· .shared-slice-known3 .given)) .now) (Row.get 5 (T5 .locals) (m4 (before· .before) (before· .shared-slice-known3 .given)) .now) (Row.get 6 (T5 .locals) (m4 (before· .before) (before· .shared-slice-known3 .given))) (Row.get 7 (T5 .locals) (m4 (before· .before) (before· .shared-slice-known3 .given))) left
 
       pub record At-loop : Type 0 where
-        pub before : After-shared-slice-known2
+        pub before : After-shared-slice-known3
         pub loop : At-loop·own before
 
       module _ (before· : At-loop) where
         pub record In-loop·own : Type 0 where
-          pub taken : Nat._<_ 0 (Row.get 6 (T4 .locals) (m4 (before· .before) (before· .loop .left)))
+          pub taken : Nat._<_ 0 (Row.get 7 (T5 .locals) (m5 (before· .before) (before· .loop .left)))
 
       pub record In-loop : Type 0 where
         pub before : At-loop
         pub loop-test : In-loop·own before
 
-      abbrev pub m6 : (before : At-loop) → Typed.Mo T8
-      m6 = λ before. s4 (m5 (before .before) (before .loop .left))
+      abbrev pub m7 : (before : At-loop) → Typed.Mo T9
+      m7 = λ before. s5 (m6 (before .before) (before .loop .left))
 
       module _ (before· : At-loop) where
         pub record After-loop·own : Type 0 where
-          pub left : Nat._≤_ (Row.get 6 (T4 .locals) (m4 (before· .before) (before· .loop .left))) 0
+          pub left : Nat._≤_ (Row.get 7 (T5 .locals) (m5 (before· .before) (before· .loop .left))) 0
 
       pub record After-loop : Type 0 where
         pub before : At-loop
         pub loop-test : After-loop·own before
 
-      abbrev pub m7 : (before : At-loop) → Typed.Mo T9
-      m7 = λ before. s5 (m5 (before .before) (before .loop .left))
-
       abbrev pub m8 : (before : At-loop) → Typed.Mo T10
-      m8 = λ before. s6 (m7 before)
+      m8 = λ before. s6 (m6 (before .before) (before .loop .left))
+
+      abbrev pub m9 : (before : At-loop) → Typed.Mo T11
+      m9 = λ before. s7 (m8 before)
 
       abbrev pub Need-next-requires : Type 0
-      Need-next-requires = (c : In-loop) → s7 .asks (m6 (c .before))
+      Need-next-requires = (c : In-loop) → s8 .asks (m7 (c .before))
 
-      abbrev pub m9 : (before : In-loop) → (given : s7 .gives (m6 (before .before))) → Typed.Mo T11
-      m9 = λ before given. s7 .next (m6 (before .before)) given
+      abbrev pub m10 : (before : In-loop) → (given : s8 .gives (m7 (before .before))) → Typed.Mo T12
+      m10 = λ before given. s8 .next (m7 (before .before)) given
 
       module _ (before· : In-loop) where
         abbrev pub After-next·own : Type 0
-        After-next·own = Called.Called ps·0 r·0 (claims· .1) T7 tt (m6 (before· .before))
+        After-next·own = Called.Called ps·0 r·0 (claims· .1) T8 tt (m7 (before· .before))
 
       pub record After-next : Type 0 where
         pub before : In-loop
         pub next : After-next·own before
 
-      abbrev pub After-next·gave : (c : After-next) → s7 .gives (m6 (c .before .before))
-      After-next·gave = λ c. Called.given ps·0 r·0 (claims· .1) T7 tt (m6 (c .before .before)) (c .next)
+      abbrev pub After-next·gave : (c : After-next) → s8 .gives (m7 (c .before .before))
+      After-next·gave = λ c. Called.given ps·0 r·0 (claims· .1) T8 tt (m7 (c .before .before)) (c .next)
 
       abbrev pub Need-is-trimming-requires : Type 0
-      Need-is-trimming-requires = (c : After-next) → s8 .asks (m9 (c .before) (After-next·gave c))
+      Need-is-trimming-requires = (c : After-next) → s9 .asks (m10 (c .before) (After-next·gave c))
 
-      abbrev pub m10 : (before : After-next) → (given : s8 .gives (m9 (before .before) (After-next·gave before))) → Typed.Mo T12
-      m10 = λ before given. s8 .next (m9 (before .before) (After-next·gave before)) given
+      abbrev pub m11 : (before : After-next) → (given : s9 .gives (m10 (before .before) (After-next·gave before))) → Typed.Mo T13
+      m11 = λ before given. s9 .next (m10 (before .before) (After-next·gave before)) given
 
       module _ (before· : After-next) where
         abbrev pub After-is-trimming·own : Type 0
-        After-is-trimming·own = Called.Called ps·1 r·1 (claims· .3) T11 (Num.vAt 7 λ x. x, tt) (m9 (before· .before) (After-next·gave before·))
+        After-is-trimming·own = Called.Called ps·1 r·1 (claims· .3) T12 (Num.vAt 8 λ x. x, tt) (m10 (before· .before) (After-next·gave before·))
 
       pub record After-is-trimming : Type 0 where
         pub before : After-next
         pub is-trimming : After-is-trimming·own before
 
-      abbrev pub After-is-trimming·gave : (c : After-is-trimming) → s8 .gives (m9 (c .before .before) (After-next·gave (c .before)))
-      After-is-trimming·gave = λ c. Called.given ps·1 r·1 (claims· .3) T11 (Num.vAt 7 λ x. x, tt) (m9 (c .before .before) (After-next·gave (c .before))) (c .is-trimming)
+      abbrev pub After-is-trimming·gave : (c : After-is-trimming) → s9 .gives (m10 (c .before .before) (After-next·gave (c .before)))
+      After-is-trimming·gave = λ c. Called.given ps·1 r·1 (claims· .3) T12 (Num.vAt 8 λ x. x, tt) (m10 (c .before .before) (After-next·gave (c .before))) (c .is-trimming)
 
-      abbrev W5 : (before : After-next) → (given : s8 .gives (m9 (before .before) (After-next·gave before))) → Typed.Want O5
-      W5 = λ before given. Typed.wantNext T13 O3 (at15 (W3 (before .before .before .before) (before .before .before .loop .left))) (W3 (before .before .before .before) (before .before .before .loop .left))
+      abbrev W5 : (before : After-next) → (given : s9 .gives (m10 (before .before) (After-next·gave before))) → Typed.Want O5
+      W5 = λ before given. Typed.wantNext T14 O3 (at21 (W3 (before .before .before .before) (before .before .before .loop .left))) (W3 (before .before .before .before) (before .before .before .loop .left))
 
-      abbrev pub m11 : (before : After-is-trimming) → Typed.Mo T14
-      m11 = λ before. s9 (m10 (before .before) (After-is-trimming·gave before))
+      abbrev pub m12 : (before : After-is-trimming) → Typed.Mo T15
+      m12 = λ before. s10 (m11 (before .before) (After-is-trimming·gave before))
 
       module _ (before· : After-is-trimming) where
         pub record Then1·own : Type 0 where
-          pub taken : Path'._≡_ (Row.get 12 (T12 .locals) (m10 (before· .before) (After-is-trimming·gave before·))) Bool'.true
+          pub taken : Path'._≡_ (Row.get 13 (T13 .locals) (m11 (before· .before) (After-is-trimming·gave before·))) Bool'.true
 
       pub record Then1 : Type 0 where
         pub before : After-is-trimming
         pub if1 : Then1·own before
 
       abbrev pub Need-next-places-requires : Type 0
-      Need-next-places-requires = (c : Then1) → s10 .asks (m11 (c .before))
+      Need-next-places-requires = (c : Then1) → s11 .asks (m12 (c .before))
 
-      abbrev pub m12 : (before : Then1) → (given : s10 .gives (m11 (before .before))) → Typed.Mo T15
-      m12 = λ before given. s10 .next (m11 (before .before)) given
+      abbrev pub m13 : (before : Then1) → (given : s11 .gives (m12 (before .before))) → Typed.Mo T16
+      m13 = λ before given. s11 .next (m12 (before .before)) given
 
       module _ (before· : Then1) where
         abbrev pub After-next-places·own : Type 0
-        After-next-places·own = Called.Called ps·2 r·2 (claims· .5) T14 tt (m11 (before· .before))
+        After-next-places·own = Called.Called ps·2 r·2 (claims· .5) T15 tt (m12 (before· .before))
 
       pub record After-next-places : Type 0 where
         pub before : Then1
         pub next-places : After-next-places·own before
 
-      abbrev pub After-next-places·gave : (c : After-next-places) → s10 .gives (m11 (c .before .before))
-      After-next-places·gave = λ c. Called.given ps·2 r·2 (claims· .5) T14 tt (m11 (c .before .before)) (c .next-places)
+      abbrev pub After-next-places·gave : (c : After-next-places) → s11 .gives (m12 (c .before .before))
+      After-next-places·gave = λ c. Called.given ps·2 r·2 (claims· .5) T15 tt (m12 (c .before .before)) (c .next-places)
 
-      abbrev pub m13 : (before : Then1) → (given : s10 .gives (m11 (before .before))) → Typed.Mo T16
-      m13 = λ before given. s11 .next (m12 before given)
+      abbrev pub m14 : (before : Then1) → (given : s11 .gives (m12 (before .before))) → Typed.Mo T17
+      m14 = λ before given. s12 .next (m13 before given)
 
       abbrev pub Need-ask-trim-requires : Type 0
-      Need-ask-trim-requires = (c : After-next-places) → s12 .asks (m13 (c .before) (After-next-places·gave c))
+      Need-ask-trim-requires = (c : After-next-places) → s13 .asks (m14 (c .before) (After-next-places·gave c))
 
-      abbrev pub m14 : (before : After-next-places) → (given : s12 .gives (m13 (before .before) (After-next-places·gave before))) → Typed.Mo T17
-      m14 = λ before given. s12 .next (m13 (before .before) (After-next-places·gave before)) given
+      abbrev pub m15 : (before : After-next-places) → (given : s13 .gives (m14 (before .before) (After-next-places·gave before))) → Typed.Mo T18
+      m15 = λ before given. s13 .next (m14 (before .before) (After-next-places·gave before)) given
 
-      abbrev pub m15 : (before : After-next-places) → (given : s12 .gives (m13 (before .before) (After-next-places·gave before))) → Typed.Mo T18
-      m15 = λ before given. s13 (m14 before given)
-
-      abbrev pub m16 : (before : After-next-places) → (given : s12 .gives (m13 (before .before) (After-next-places·gave before))) → Typed.Mo T19
+      abbrev pub m16 : (before : After-next-places) → (given : s13 .gives (m14 (before .before) (After-next-places·gave before))) → Typed.Mo T19
       m16 = λ before given. s14 (m15 before given)
 
-      abbrev pub m17 : (before : After-next-places) → (given : s12 .gives (m13 (before .before) (After-next-places·gave before))) → Typed.Mo T20
+      abbrev pub m17 : (before : After-next-places) → (given : s13 .gives (m14 (before .before) (After-next-places·gave before))) → Typed.Mo T20
       m17 = λ before given. s15 (m16 before given)
+
+      abbrev pub m18 : (before : After-next-places) → (given : s13 .gives (m14 (before .before) (After-next-places·gave before))) → Typed.Mo T21
+      m18 = λ before given. s16 (m17 before given)
 
       module _ (before· : After-next-places) where
         abbrev pub After-ask-trim·own : Type 0
-        After-ask-trim·own = Called.Called ps·3 r·3 (claims· .7) T16 (record { pos = 1; st = List.[]; d = 0; at = λ x. x }, (record { pos = 2; ty = Syntax.tyRef (Syntax.named 0) Syntax.imm (Memory.pointee (T.the-row .written)); ref = λ x. x }, (record { pos = 3; ty = Syntax.tyRef (Syntax.named 1) Syntax.imm (Syntax.tyInt Syntax.w16); ref = λ x. x }, (record { pos = 4; ty = Syntax.tyRef (Syntax.named 2) Syntax.imm (Syntax.tyInt Syntax.w16); ref = λ x. x }, (Num.vFld 8 (List._∷_ (Syntax.field 0) List.[]) 0 λ x. Places.struct .as-values x .0, (Num.vFld 8 (List._∷_ (Syntax.field 1) List.[]) 8 λ x. Places.struct .as-values x .1 .0, (Num.vFld 8 (List._∷_ (Syntax.field 2) List.[]) 16 λ x. Places.struct .as-values x .1 .1 .0, (Num.vFld 8 (List._∷_ (Syntax.field 3) List.[]) 24 λ x. Places.struct .as-values x .1 .1 .1 .0, (Num.vFld 8 (List._∷_ (Syntax.field 4) List.[]) 32 λ x. Places.struct .as-values x .1 .1 .1 .1 .0, (Num.vFld 8 (List._∷_ (Syntax.field 5) List.[]) 40 λ x. Places.struct .as-values x .1 .1 .1 .1 .1 .0, (Bool.bAt 14 λ x. x, tt))))))))))) (m13 (before· .before) (After-next-places·gave before·))
+        After-ask-trim·own = Called.Called ps·3 r·3 (claims· .7) T17 (record { pos = 2; st = List.[]; d = 0; at = λ x. x }, (record { pos = 3; ty = Syntax.tyRef (Syntax.named 1) Syntax.imm (Memory.pointee (T.the-row .written)); ref = λ x. x }, (record { pos = 4; ty = Syntax.tyRef (Syntax.named 2) Syntax.imm (Syntax.tyInt Syntax.w16); ref = λ x. x }, (record { pos = 5; ty = Syntax.tyRef (Syntax.named 3) Syntax.imm (Syntax.tyInt Syntax.w16); ref = λ x. x }, (Num.vFld 9 (List._∷_ (Syntax.field 0) List.[]) 0 λ x. Places.struct .as-values x .0, (Num.vFld 9 (List._∷_ (Syntax.field 1) List.[]) 8 λ x. Places.struct .as-values x .1 .0, (Num.vFld 9 (List._∷_ (Syntax.field 2) List.[]) 16 λ x. Places.struct .as-values x .1 .1 .0, (Num.vFld 9 (List._∷_ (Syntax.field 3) List.[]) 24 λ x. Places.struct .as-values x .1 .1 .1 .0, (Num.vFld 9 (List._∷_ (Syntax.field 4) List.[]) 32 λ x. Places.struct .as-values x .1 .1 .1 .1 .0, (Num.vFld 9 (List._∷_ (Syntax.field 5) List.[]) 40 λ x. Places.struct .as-values x .1 .1 .1 .1 .1 .0, (Bool.bAt 15 λ x. x, tt))))))))))) (m14 (before· .before) (After-next-places·gave before·))
 
       pub record After-ask-trim : Type 0 where
         pub before : After-next-places
         pub ask-trim : After-ask-trim·own before
 
-      abbrev pub After-ask-trim·gave : (c : After-ask-trim) → s12 .gives (m13 (c .before .before) (After-next-places·gave (c .before)))
-      After-ask-trim·gave = λ c. Called.given ps·3 r·3 (claims· .7) T16 (record { pos = 1; st = List.[]; d = 0; at = λ x. x }, (record { pos = 2; ty = Syntax.tyRef (Syntax.named 0) Syntax.imm (Memory.pointee (T.the-row .written)); ref = λ x. x }, (record { pos = 3; ty = Syntax.tyRef (Syntax.named 1) Syntax.imm (Syntax.tyInt Syntax.w16); ref = λ x. x }, (record { pos = 4; ty = Syntax.tyRef (Syntax.named 2) Syntax.imm (Syntax.tyInt Syntax.w16); ref = λ x. x }, (Num.vFld 8 (List._∷_ (Syntax.field 0) List.[]) 0 λ x. Places.struct .as-values x .0, (Num.vFld 8 (List._∷_ (Syntax.field 1) List.[]) 8 λ x. Places.struct .as-values x .1 .0, (Num.vFld 8 (List._∷_ (Syntax.field 2) List.[]) 16 λ x. Places.struct .as-values x .1 .1 .0, (Num.vFld 8 (List._∷_ (Syntax.field 3) List.[]) 24 λ x. Places.struct .as-values x .1 .1 .1 .0, (Num.vFld 8 (List._∷_ (Syntax.field 4) List.[]) 32 λ x. Places.struct .as-values x .1 .1 .1 .1 .0, (Num.vFld 8 (List._∷_ (Syntax.field 5) List.[]) 40 λ x. Places.struct .as-values x .1 .1 .1 .1 .1 .0, (Bool.bAt 14 λ x. x, tt))))))))))) (m13 (c .before .before) (After-next-places·gave (c .before))) (c .ask-trim)
+      abbrev pub After-ask-trim·gave : (c : After-ask-trim) → s13 .gives (m14 (c .before .before) (After-next-places·gave (c .before)))
+      After-ask-trim·gave = λ c. Called.given ps·3 r·3 (claims· .7) T17 (record { pos = 2; st = List.[]; d = 0; at = λ x. x }, (record { pos = 3; ty = Syntax.tyRef (Syntax.named 1) Syntax.imm (Memory.pointee (T.the-row .written)); ref = λ x. x }, (record { pos = 4; ty = Syntax.tyRef (Syntax.named 2) Syntax.imm (Syntax.tyInt Syntax.w16); ref = λ x. x }, (record { pos = 5; ty = Syntax.tyRef (Syntax.named 3) Syntax.imm (Syntax.tyInt Syntax.w16); ref = λ x. x }, (Num.vFld 9 (List._∷_ (Syntax.field 0) List.[]) 0 λ x. Places.struct .as-values x .0, (Num.vFld 9 (List._∷_ (Syntax.field 1) List.[]) 8 λ x. Places.struct .as-values x .1 .0, (Num.vFld 9 (List._∷_ (Syntax.field 2) List.[]) 16 λ x. Places.struct .as-values x .1 .1 .0, (Num.vFld 9 (List._∷_ (Syntax.field 3) List.[]) 24 λ x. Places.struct .as-values x .1 .1 .1 .0, (Num.vFld 9 (List._∷_ (Syntax.field 4) List.[]) 32 λ x. Places.struct .as-values x .1 .1 .1 .1 .0, (Num.vFld 9 (List._∷_ (Syntax.field 5) List.[]) 40 λ x. Places.struct .as-values x .1 .1 .1 .1 .1 .0, (Bool.bAt 15 λ x. x, tt))))))))))) (m14 (c .before .before) (After-next-places·gave (c .before))) (c .ask-trim)
 
-      abbrev pub m18 : (before : After-is-trimming) → Typed.Mo T21
-      m18 = λ before. s16 (m10 (before .before) (After-is-trimming·gave before))
+      abbrev pub m19 : (before : After-is-trimming) → Typed.Mo T22
+      m19 = λ before. s17 (m11 (before .before) (After-is-trimming·gave before))
 
       module _ (before· : After-is-trimming) where
         pub record Else1·own : Type 0 where
-          pub left : Path'._≡_ (Row.get 12 (T12 .locals) (m10 (before· .before) (After-is-trimming·gave before·))) Bool'.false
+          pub left : Path'._≡_ (Row.get 13 (T13 .locals) (m11 (before· .before) (After-is-trimming·gave before·))) Bool'.false
 
       pub record Else1 : Type 0 where
         pub before : After-is-trimming
         pub if1 : Else1·own before
 
-      abbrev pub Need-next-wide-requires : Type 0
-      Need-next-wide-requires = (c : Else1) → s17 .asks (m18 (c .before))
+      abbrev pub Need-is-carrying-requires : Type 0
+      Need-is-carrying-requires = (c : Else1) → s18 .asks (m19 (c .before))
 
-      abbrev pub m19 : (before : Else1) → (given : s17 .gives (m18 (before .before))) → Typed.Mo T22
-      m19 = λ before given. s17 .next (m18 (before .before)) given
+      abbrev pub m20 : (before : Else1) → (given : s18 .gives (m19 (before .before))) → Typed.Mo T23
+      m20 = λ before given. s18 .next (m19 (before .before)) given
 
       module _ (before· : Else1) where
+        abbrev pub After-is-carrying·own : Type 0
+        After-is-carrying·own = Called.Called ps·4 r·4 (claims· .9) T22 (Num.vAt 8 λ x. x, tt) (m19 (before· .before))
+
+      pub record After-is-carrying : Type 0 where
+        pub before : Else1
+        pub is-carrying : After-is-carrying·own before
+
+      abbrev pub After-is-carrying·gave : (c : After-is-carrying) → s18 .gives (m19 (c .before .before))
+      After-is-carrying·gave = λ c. Called.given ps·4 r·4 (claims· .9) T22 (Num.vAt 8 λ x. x, tt) (m19 (c .before .before)) (c .is-carrying)
+
+      abbrev pub m21 : (before : After-is-carrying) → Typed.Mo T24
+      m21 = λ before. s19 (m20 (before .before) (After-is-carrying·gave before))
+
+      abbrev pub m22 : (before : After-is-carrying) → Typed.Mo T25
+      m22 = λ before. s20 .next (m21 before)
+
+      module _ (before· : After-is-carrying) where
+        pub record Then2·own : Type 0 where
+          pub taken : Path'._≡_ (Row.get 16 (T23 .locals) (m20 (before· .before) (After-is-carrying·gave before·))) Bool'.true
+
+      pub record Then2 : Type 0 where
+        pub before : After-is-carrying
+        pub if2 : Then2·own before
+
+      abbrev pub Need-ask-carry-requires : Type 0
+      Need-ask-carry-requires = (c : Then2) → s21 .asks (m22 (c .before))
+
+      abbrev pub m23 : (before : Then2) → (given : s21 .gives (m22 (before .before))) → Typed.Mo T26
+      m23 = λ before given. s21 .next (m22 (before .before)) given
+
+      abbrev pub m24 : (before : Then2) → (given : s21 .gives (m22 (before .before))) → Typed.Mo T27
+      m24 = λ before given. s22 (m23 before given)
+
+      abbrev pub m25 : (before : Then2) → (given : s21 .gives (m22 (before .before))) → Typed.Mo T28
+      m25 = λ before given. s23 (m24 before given)
+
+      module _ (before· : Then2) where
+        abbrev pub After-ask-carry·own : Type 0
+        After-ask-carry·own = Called.Called ps·5 r·5 (claims· .11) T25 (record { pos = 1; ty = Syntax.tyRef (Syntax.named 0) Syntax.imm (Syntax.tyInt Syntax.w8); ref = λ x. x }, (Bool.bAt 18 λ x. x, tt)) (m22 (before· .before))
+
+      pub record After-ask-carry : Type 0 where
+        pub before : Then2
+        pub ask-carry : After-ask-carry·own before
+
+      abbrev pub After-ask-carry·gave : (c : After-ask-carry) → s21 .gives (m22 (c .before .before))
+      After-ask-carry·gave = λ c. Called.given ps·5 r·5 (claims· .11) T25 (record { pos = 1; ty = Syntax.tyRef (Syntax.named 0) Syntax.imm (Syntax.tyInt Syntax.w8); ref = λ x. x }, (Bool.bAt 18 λ x. x, tt)) (m22 (c .before .before)) (c .ask-carry)
+
+      abbrev pub m26 : (before : After-is-carrying) → Typed.Mo T29
+      m26 = λ before. s24 (m20 (before .before) (After-is-carrying·gave before))
+
+      module _ (before· : After-is-carrying) where
+        pub record Else2·own : Type 0 where
+          pub left : Path'._≡_ (Row.get 16 (T23 .locals) (m20 (before· .before) (After-is-carrying·gave before·))) Bool'.false
+
+      pub record Else2 : Type 0 where
+        pub before : After-is-carrying
+        pub if2 : Else2·own before
+
+      abbrev pub Need-next-wide-requires : Type 0
+      Need-next-wide-requires = (c : Else2) → s25 .asks (m26 (c .before))
+
+      abbrev pub m27 : (before : Else2) → (given : s25 .gives (m26 (before .before))) → Typed.Mo T30
+      m27 = λ before given. s25 .next (m26 (before .before)) given
+
+      module _ (before· : Else2) where
         abbrev pub After-next-wide·own : Type 0
-        After-next-wide·own = Called.Called ps·4 r·4 (claims· .9) T21 tt (m18 (before· .before))
+        After-next-wide·own = Called.Called ps·6 r·6 (claims· .13) T29 tt (m26 (before· .before))
 
       pub record After-next-wide : Type 0 where
-        pub before : Else1
+        pub before : Else2
         pub next-wide : After-next-wide·own before
 
-      abbrev pub After-next-wide·gave : (c : After-next-wide) → s17 .gives (m18 (c .before .before))
-      After-next-wide·gave = λ c. Called.given ps·4 r·4 (claims· .9) T21 tt (m18 (c .before .before)) (c .next-wide)
+      abbrev pub After-next-wide·gave : (c : After-next-wide) → s25 .gives (m26 (c .before .before))
+      After-next-wide·gave = λ c. Called.given ps·6 r·6 (claims· .13) T29 tt (m26 (c .before .before)) (c .next-wide)
 
       abbrev pub Need-next-wide-requires-2 : Type 0
-      Need-next-wide-requires-2 = (c : After-next-wide) → s18 .asks (m19 (c .before) (After-next-wide·gave c))
+      Need-next-wide-requires-2 = (c : After-next-wide) → s26 .asks (m27 (c .before) (After-next-wide·gave c))
 
-      abbrev pub m20 : (before : After-next-wide) → (given : s18 .gives (m19 (before .before) (After-next-wide·gave before))) → Typed.Mo T23
-      m20 = λ before given. s18 .next (m19 (before .before) (After-next-wide·gave before)) given
+      abbrev pub m28 : (before : After-next-wide) → (given : s26 .gives (m27 (before .before) (After-next-wide·gave before))) → Typed.Mo T31
+      m28 = λ before given. s26 .next (m27 (before .before) (After-next-wide·gave before)) given
 
       module _ (before· : After-next-wide) where
         abbrev pub After-next-wide2·own : Type 0
-        After-next-wide2·own = Called.Called ps·4 r·4 (claims· .9) T22 tt (m19 (before· .before) (After-next-wide·gave before·))
+        After-next-wide2·own = Called.Called ps·6 r·6 (claims· .13) T30 tt (m27 (before· .before) (After-next-wide·gave before·))
 
       pub record After-next-wide2 : Type 0 where
         pub before : After-next-wide
         pub next-wide2 : After-next-wide2·own before
 
-      abbrev pub After-next-wide2·gave : (c : After-next-wide2) → s18 .gives (m19 (c .before .before) (After-next-wide·gave (c .before)))
-      After-next-wide2·gave = λ c. Called.given ps·4 r·4 (claims· .9) T22 tt (m19 (c .before .before) (After-next-wide·gave (c .before))) (c .next-wide2)
+      abbrev pub After-next-wide2·gave : (c : After-next-wide2) → s26 .gives (m27 (c .before .before) (After-next-wide·gave (c .before)))
+      After-next-wide2·gave = λ c. Called.given ps·6 r·6 (claims· .13) T30 tt (m27 (c .before .before) (After-next-wide·gave (c .before))) (c .next-wide2)
 
       abbrev pub Need-ask-requires : Type 0
-      Need-ask-requires = (c : After-next-wide2) → s19 .asks (m20 (c .before) (After-next-wide2·gave c))
+      Need-ask-requires = (c : After-next-wide2) → s27 .asks (m28 (c .before) (After-next-wide2·gave c))
 
-      abbrev pub m21 : (before : After-next-wide2) → (given : s19 .gives (m20 (before .before) (After-next-wide2·gave before))) → Typed.Mo T24
-      m21 = λ before given. s19 .next (m20 (before .before) (After-next-wide2·gave before)) given
+      abbrev pub m29 : (before : After-next-wide2) → (given : s27 .gives (m28 (before .before) (After-next-wide2·gave before))) → Typed.Mo T32
+      m29 = λ before given. s27 .next (m28 (before .before) (After-next-wide2·gave before)) given
 
-      abbrev pub m22 : (before : After-next-wide2) → (given : s19 .gives (m20 (before .before) (After-next-wide2·gave before))) → Typed.Mo T25
-      m22 = λ before given. s20 (m21 before given)
+      abbrev pub m30 : (before : After-next-wide2) → (given : s27 .gives (m28 (before .before) (After-next-wide2·gave before))) → Typed.Mo T33
+      m30 = λ before given. s28 (m29 before given)
 
-      abbrev pub m23 : (before : After-next-wide2) → (given : s19 .gives (m20 (before .before) (After-next-wide2·gave before))) → Typed.Mo T26
-      m23 = λ before given. s21 (m22 before given)
+      abbrev pub m31 : (before : After-next-wide2) → (given : s27 .gives (m28 (before .before) (After-next-wide2·gave before))) → Typed.Mo T34
+      m31 = λ before given. s29 (m30 before given)
 
-      abbrev pub m24 : (before : After-next-wide2) → (given : s19 .gives (m20 (before .before) (After-next-wide2·gave before))) → Typed.Mo T27
-      m24 = λ before given. s22 (m23 before given)
+      abbrev pub m32 : (before : After-next-wide2) → (given : s27 .gives (m28 (before .before) (After-next-wide2·gave before))) → Typed.Mo T35
+      m32 = λ before given. s30 (m31 before given)
 
       module _ (before· : After-next-wide2) where
         abbrev pub After-ask·own : Type 0
-        After-ask·own = Called.Called ps·5 r·5 (claims· .11) T23 (record { pos = 1; st = List.[]; d = 0; at = λ x. x }, (record { pos = 2; ty = Syntax.tyRef (Syntax.named 0) Syntax.imm (Memory.pointee (T.the-row .written)); ref = λ x. x }, (record { pos = 3; ty = Syntax.tyRef (Syntax.named 1) Syntax.imm (Syntax.tyInt Syntax.w16); ref = λ x. x }, (record { pos = 4; ty = Syntax.tyRef (Syntax.named 2) Syntax.imm (Syntax.tyInt Syntax.w16); ref = λ x. x }, (Num.vAt 7 λ x. x, (Num.vAt 9 λ x. x, (Num.vAt 10 λ x. x, tt))))))) (m20 (before· .before) (After-next-wide2·gave before·))
+        After-ask·own = Called.Called ps·7 r·7 (claims· .15) T31 (record { pos = 2; st = List.[]; d = 0; at = λ x. x }, (record { pos = 3; ty = Syntax.tyRef (Syntax.named 1) Syntax.imm (Memory.pointee (T.the-row .written)); ref = λ x. x }, (record { pos = 4; ty = Syntax.tyRef (Syntax.named 2) Syntax.imm (Syntax.tyInt Syntax.w16); ref = λ x. x }, (record { pos = 5; ty = Syntax.tyRef (Syntax.named 3) Syntax.imm (Syntax.tyInt Syntax.w16); ref = λ x. x }, (Num.vAt 8 λ x. x, (Num.vAt 10 λ x. x, (Num.vAt 11 λ x. x, tt))))))) (m28 (before· .before) (After-next-wide2·gave before·))
 
       pub record After-ask : Type 0 where
         pub before : After-next-wide2
         pub ask : After-ask·own before
 
-      abbrev pub After-ask·gave : (c : After-ask) → s19 .gives (m20 (c .before .before) (After-next-wide2·gave (c .before)))
-      After-ask·gave = λ c. Called.given ps·5 r·5 (claims· .11) T23 (record { pos = 1; st = List.[]; d = 0; at = λ x. x }, (record { pos = 2; ty = Syntax.tyRef (Syntax.named 0) Syntax.imm (Memory.pointee (T.the-row .written)); ref = λ x. x }, (record { pos = 3; ty = Syntax.tyRef (Syntax.named 1) Syntax.imm (Syntax.tyInt Syntax.w16); ref = λ x. x }, (record { pos = 4; ty = Syntax.tyRef (Syntax.named 2) Syntax.imm (Syntax.tyInt Syntax.w16); ref = λ x. x }, (Num.vAt 7 λ x. x, (Num.vAt 9 λ x. x, (Num.vAt 10 λ x. x, tt))))))) (m20 (c .before .before) (After-next-wide2·gave (c .before))) (c .ask)
+      abbrev pub After-ask·gave : (c : After-ask) → s27 .gives (m28 (c .before .before) (After-next-wide2·gave (c .before)))
+      After-ask·gave = λ c. Called.given ps·7 r·7 (claims· .15) T31 (record { pos = 2; st = List.[]; d = 0; at = λ x. x }, (record { pos = 3; ty = Syntax.tyRef (Syntax.named 1) Syntax.imm (Memory.pointee (T.the-row .written)); ref = λ x. x }, (record { pos = 4; ty = Syntax.tyRef (Syntax.named 2) Syntax.imm (Syntax.tyInt Syntax.w16); ref = λ x. x }, (record { pos = 5; ty = Syntax.tyRef (Syntax.named 3) Syntax.imm (Syntax.tyInt Syntax.w16); ref = λ x. x }, (Num.vAt 8 λ x. x, (Num.vAt 10 λ x. x, (Num.vAt 11 λ x. x, tt))))))) (m28 (c .before .before) (After-next-wide2·gave (c .before))) (c .ask)
 
-      abbrev pub m25 : (before : After-is-trimming) → Typed.Mo T13
-      m25 = λ before. Row.set 15 (15, Rows.any-gone Syntax.tyUnit) tt (Row.setRow 14 (14, Rows.any-gone Syntax.tyBool) (Row.setRow 13 (13, Rows.any-gone Syntax.tyUnit) (Row.setRow 12 (12, Rows.any-gone Syntax.tyBool) (Row.setRow 10 (10, Rows.any-gone (Syntax.tyInt Syntax.w64)) (Row.setRow 9 (9, Rows.any-gone (Syntax.tyInt Syntax.w64)) (Row.setRow 8 (8, Rows.any-gone ty·4) (T12 .locals))))))) (Row.set 14 (14, Rows.any-gone Syntax.tyBool) tt (Row.setRow 13 (13, Rows.any-gone Syntax.tyUnit) (Row.setRow 12 (12, Rows.any-gone Syntax.tyBool) (Row.setRow 10 (10, Rows.any-gone (Syntax.tyInt Syntax.w64)) (Row.setRow 9 (9, Rows.any-gone (Syntax.tyInt Syntax.w64)) (Row.setRow 8 (8, Rows.any-gone ty·4) (T12 .locals)))))) (Row.set 13 (13, Rows.any-gone Syntax.tyUnit) tt (Row.setRow 12 (12, Rows.any-gone Syntax.tyBool) (Row.setRow 10 (10, Rows.any-gone (Syntax.tyInt Syntax.w64)) (Row.setRow 9 (9, Rows.any-gone (Syntax.tyInt Syntax.w64)) (Row.setRow 8 (8, Rows.any-gone ty·4) (T12 .locals))))) (Row.set 12 (12, Rows.any-gone Syntax.tyBool) tt (Row.setRow 10 (10, Rows.any-gone (Syntax.tyInt Syntax.w64)) (Row.setRow 9 (9, Rows.any-gone (Syntax.tyInt Syntax.w64)) (Row.setRow 8 (8, Rows.any-gone ty·4) (T12 .locals)))) (Row.set 10 (10, Rows.any-gone (Syntax.tyInt Syntax.w64)) tt (Row.setRow 9 (9, Rows.any-gone (Syntax.tyInt Syntax.w64)) (Row.setRow 8 (8, Rows.any-gone ty·4) (T12 .locals))) (Row.set 9 (9, Rows.any-gone (Syntax.tyInt Syntax.w64)) tt (Row.setRow 8 (8, Rows.any-gone ty·4) (T12 .locals)) (Row.set 8 (8, Rows.any-gone ty·4) tt (T12 .locals) (m10 (before .before) (After-is-trimming·gave before))))))))
+      abbrev pub m33 : (before : After-is-trimming) → Typed.Mo T14
+      m33 = λ before. Row.set 19 (19, Rows.any-gone Syntax.tyUnit) tt (Row.setRow 18 (18, Rows.any-gone Syntax.tyBool) (Row.setRow 17 (17, Rows.any-gone Syntax.tyUnit) (Row.setRow 16 (16, Rows.any-gone Syntax.tyBool) (Row.setRow 15 (15, Rows.any-gone Syntax.tyBool) (Row.setRow 14 (14, Rows.any-gone Syntax.tyUnit) (Row.setRow 13 (13, Rows.any-gone Syntax.tyBool) (Row.setRow 11 (11, Rows.any-gone (Syntax.tyInt Syntax.w64)) (Row.setRow 10 (10, Rows.any-gone (Syntax.tyInt Syntax.w64)) (Row.setRow 9 (9, Rows.any-gone ty·5) (T13 .locals)))))))))) (Row.set 18 (18, Rows.any-gone Syntax.tyBool) tt (Row.setRow 17 (17, Rows.any-gone Syntax.tyUnit) (Row.setRow 16 (16, Rows.any-gone Syntax.tyBool) (Row.setRow 15 (15, Rows.any-gone Syntax.tyBool) (Row.setRow 14 (14, Rows.any-gone Syntax.tyUnit) (Row.setRow 13 (13, Rows.any-gone Syntax.tyBool) (Row.setRow 11 (11, Rows.any-gone (Syntax.tyInt Syntax.w64)) (Row.setRow 10 (10, Rows.any-gone (Syntax.tyInt Syntax.w64)) (Row.setRow 9 (9, Rows.any-gone ty·5) (T13 .locals))))))))) (Row.set 17 (17, Rows.any-gone Syntax.tyUnit) tt (Row.setRow 16 (16, Rows.any-gone Syntax.tyBool) (Row.setRow 15 (15, Rows.any-gone Syntax.tyBool) (Row.setRow 14 (14, Rows.any-gone Syntax.tyUnit) (Row.setRow 13 (13, Rows.any-gone Syntax.tyBool) (Row.setRow 11 (11, Rows.any-gone (Syntax.tyInt Syntax.w64)) (Row.setRow 10 (10, Rows.any-gone (Syntax.tyInt Syntax.w64)) (Row.setRow 9 (9, Rows.any-gone ty·5) (T13 .locals)))))))) (Row.set 16 (16, Rows.any-gone Syntax.tyBool) tt (Row.setRow 15 (15, Rows.any-gone Syntax.tyBool) (Row.setRow 14 (14, Rows.any-gone Syntax.tyUnit) (Row.setRow 13 (13, Rows.any-gone Syntax.tyBool) (Row.setRow 11 (11, Rows.any-gone (Syntax.tyInt Syntax.w64)) (Row.setRow 10 (10, Rows.any-gone (Syntax.tyInt Syntax.w64)) (Row.setRow 9 (9, Rows.any-gone ty·5) (T13 .locals))))))) (Row.set 15 (15, Rows.any-gone Syntax.tyBool) tt (Row.setRow 14 (14, Rows.any-gone Syntax.tyUnit) (Row.setRow 13 (13, Rows.any-gone Syntax.tyBool) (Row.setRow 11 (11, Rows.any-gone (Syntax.tyInt Syntax.w64)) (Row.setRow 10 (10, Rows.any-gone (Syntax.tyInt Syntax.w64)) (Row.setRow 9 (9, Rows.any-gone ty·5) (T13 .locals)))))) (Row.set 14 (14, Rows.any-gone Syntax.tyUnit) tt (Row.setRow 13 (13, Rows.any-gone Syntax.tyBool) (Row.setRow 11 (11, Rows.any-gone (Syntax.tyInt Syntax.w64)) (Row.setRow 10 (10, Rows.any-gone (Syntax.tyInt Syntax.w64)) (Row.setRow 9 (9, Rows.any-gone ty·5) (T13 .locals))))) (Row.set 13 (13, Rows.any-gone Syntax.tyBool) tt (Row.setRow 11 (11, Rows.any-gone (Syntax.tyInt Syntax.w64)) (Row.setRow 10 (10, Rows.any-gone (Syntax.tyInt Syntax.w64)) (Row.setRow 9 (9, Rows.any-gone ty·5) (T13 .locals)))) (Row.set 11 (11, Rows.any-gone (Syntax.tyInt Syntax.w64)) tt (Row.setRow 10 (10, Rows.any-gone (Syntax.tyInt Syntax.w64)) (Row.setRow 9 (9, Rows.any-gone ty·5) (T13 .locals))) (Row.set 10 (10, Rows.any-gone (Syntax.tyInt Syntax.w64)) tt (Row.setRow 9 (9, Rows.any-gone ty·5) (T13 .locals)) (Row.set 9 (9, Rows.any-gone ty·5) tt (T13 .locals) (m11 (before .before) (After-is-trimming·gave before)))))))))))
 
       module _ (before· : After-is-trimming) where
         pub record Joined1·own : Type 0 where
-          pub came : Logic._⊎_ ((if1 : Then1·own before·) × (next-places : After-next-places·own record { before = before·; if1 = if1 }) × After-ask-trim·own record { before = record { before = before·; if1 = if1 }; next-places = next-places }) ((if1 : Else1·own before·) × (next-wide : After-next-wide·own record { before = before·; if1 = if1 }) × (next-wide2 : After-next-wide2·own record { before = record { before = before·; if1 = if1 }; next-wide = next-wide }) × After-ask·own record { before = record { before = record { before = before·; if1 = if1 }; next-wide = next-wide }; next-wide2 = next-wide2 })
+          pub came : Logic._⊎_ ((if1 : Then1·own before·) × (next-places : After-next-places·own record { before = before·; if1 = if1 }) × After-ask-trim·own record { before = record { before = before·; if1 = if1 }; next-places = next-places }) (Logic._⊎_ ((if1 : Else1·own before·) × (is-carrying : After-is-carrying·own record { before = before·; if1 = if1 }) × (if2 : Then2·own record { before = record { before = before·; if1 = if1 }; is-carrying = is-carrying }) × After-ask-carry·own record { before = record { before = record { before = before·; if1 = if1 }; is-carrying = is-carrying }; if2 = if2 }) ((if1 : Else1·own before·) × (is-carrying : After-is-carrying·own record { before = before·; if1 = if1 }) × (if2 : Else2·own record { before = record { before = before·; if1 = if1 }; is-carrying = is-carrying }) × (next-wide : After-next-wide·own record { before = record { before = record { before = before·; if1 = if1 }; is-carrying = is-carrying }; if2 = if2 }) × (next-wide2 : After-next-wide2·own record { before = record { before = record { before = record { before = before·; if1 = if1 }; is-carrying = is-carrying }; if2 = if2 }; next-wide = next-wide }) × After-ask·own record { before = record { before = record { before = record { before = record { before = before·; if1 = if1 }; is-carrying = is-carrying }; if2 = if2 }; next-wide = next-wide }; next-wide2 = next-wide2 }))
 
       pub record Joined1 : Type 0 where
         pub before : After-is-trimming
         pub if1 : Joined1·own before
 
       abbrev pub Need-sub-left : Type 0
-      Need-sub-left = (c : Joined1) → s23 .asks (m25 (c .before))
+      Need-sub-left = (c : Joined1) → s31 .asks (m33 (c .before))
 
-      abbrev pub m26 : (before : After-is-trimming) → Typed.Mo T28
-      m26 = λ before. s23 .next (m25 before)
+      abbrev pub m34 : (before : After-is-trimming) → Typed.Mo T36
+      m34 = λ before. s31 .next (m33 before)
 
-      abbrev pub m27 : (before : After-is-trimming) → Typed.Mo T29
-      m27 = λ before. s24 (m26 before)
+      abbrev pub m35 : (before : After-is-trimming) → Typed.Mo T37
+      m35 = λ before. s32 (m34 before)
 
       abbrev pub Need-loop-less : Type 0
-      Need-loop-less = (c : Joined1) → Nat._<_ (μ·0 (Row.get 1 (T4 .locals) (m3 (c .before .before .before .before .before .before) (c .before .before .before .before .before .shared-slice-known2 .given))) (Row.get 2 (T4 .locals) (m3 (c .before .before .before .before .before .before) (c .before .before .before .before .before .shared-slice-known2 .given)) .now) (Row.get 3 (T4 .locals) (m3 (c .before .before .before .before .before .before) (c .before .before .before .before .before .shared-slice-known2 .given)) .now) (Row.get 4 (T4 .locals) (m3 (c .before .before .before .before .before .before) (c .before .before .before .before .before .shared-slice-known2 .given)) .now) (Row.get 5 (T4 .locals) (m3 (c .before .before .before .before .before .before) (c .before .before .before .before .before .shared-slice-known2 .given))) (Row.get 6 (T4 .locals) (m3 (c .before .before .before .before .before .before) (c .before .before .before .before .before .shared-slice-known2 .given))) (Row.get 6 (T4 .locals) (m27 (c .before)))) (μ·0 (Row.get 1 (T4 .locals) (m3 (c .before .before .before .before .before .before) (c .before .before .before .before .before .shared-slice-known2 .given))) (Row.get 2 (T4 .locals) (m3 (c .before .before .before .before .before .before) (c .before .before .before .before .before .shared-slice-known2 .given)) .now) (Row.get 3 (T4 .locals) (m3 (c .before .before .before .before .before .before) (c .before .before .before .before .before .shared-slice-known2 .given)) .now) (Row.get 4 (T4 .locals) (m3 (c .before .before .before .before .before .before) (c .before .before .before .before .before .shared-slice-known2 .given)) .now) (Row.get 5 (T4 .locals) (m3 (c .before .before .before .before .before .before) (c .before .before .before .before .before .shared-slice-known2 .given))) (Row.get 6 (T4 .locals) (m3 (c .before .before .before .before .before .before) (c .before .before .before .before .before .shared-slice-known2 .given))) (c .before .before .before .before .loop .left))
+      Need-loop-less = (c : Joined1) → Nat._<_ (μ·0 (Row.get 1 (T5 .locals) (m4 (c .before .before .before .before .before .before) (c .before .before .before .before .before .shared-slice-known3 .given)) .now) (Row.get 2 (T5 .locals) (m4 (c .before .before .before .before .before .before) (c .before .before .before .before .before .shared-slice-known3 .given))) (Row.get 3 (T5 .locals) (m4 (c .before .before .before .before .before .before) (c .before .before .before .before .before .shared-slice-known3 .given)) .now) (Row.get 4 (T5 .locals) (m4 (c .before .before .before .before .before .before) (c .before .before .before .before .before .shared-slice-known3 .given)) .now) (Row.get 5 (T5 .locals) (m4 (c .before .before .before .before .before .before) (c .before .before .before .before .before .shared-slice-known3 .given)) .now) (Row.get 6 (T5 .locals) (m4 (c .before .before .before .before .before .before) (c .before .before .before .before .before .shared-slice-known3 .given))) (Row.get 7 (T5 .locals) (m4 (c .before .before .before .before .before .before) (c .before .before .before .before .before .shared-slice-known3 .given))) (Row.get 7 (T5 .locals) (m35 (c .before)))) (μ·0 (Row.get 1 (T5 .locals) (m4 (c .before .before .before .before .before .before) (c .before .before .before .before .before .shared-slice-known3 .given)) .now) (Row.get 2 (T5 .locals) (m4 (c .before .before .before .before .before .before) (c .before .before .before .before .before .shared-slice-known3 .given))) (Row.get 3 (T5 .locals) (m4 (c .before .before .before .before .before .before) (c .before .before .before .before .before .shared-slice-known3 .given)) .now) (Row.get 4 (T5 .locals) (m4 (c .before .before .before .before .before .before) (c .before .before .before .before .before .shared-slice-known3 .given)) .now) (Row.get 5 (T5 .locals) (m4 (c .before .before .before .before .before .before) (c .before .before .before .before .before .shared-slice-known3 .given)) .now) (Row.get 6 (T5 .locals) (m4 (c .before .before .before .before .before .before) (c .before .before .before .before .before .shared-slice-known3 .given))) (Row.get 7 (T5 .locals) (m4 (c .before .before .before .before .before .before) (c .before .before .before .before .before .shared-slice-known3 .given))) (c .before .before .before .before .loop .left))
 
       abbrev pub Need-loop-again : Type 0
-      Need-loop-again = (c : Joined1) → Inv·0 (Row.get 1 (T4 .locals) (m3 (c .before .before .before .before .before .before) (c .before .before .before .before .before .shared-slice-known2 .given))) (Row.get 2 (T4 .locals) (m3 (c .before .before .before .before .before .before) (c .before .before .before .before .before .shared-slice-known2 .given)) .now) (Row.get 3 (T4 .locals) (m3 (c .before .before .before .before .before .before) (c .before .before .before .before .before .shared-slice-known2 .given)) .now) (Row.get 4 (T4 .locals) (m3 (c .before .before .before .before .before .before) (c .before .before .before .before .before .shared-slice-known2 .given)) .now) (Row.get 5 (T4 .locals) (m3 (c .before .before .before .before .before .before) (c .before .before .before .before .before .shared-slice-known2 .given))) (Row.get 6 (T4 .locals) (m3 (c .before .before .before .before .before .before) (c .before .before .before .before .before .shared-slice-known2 .given))) (Row.get 6 (T4 .locals) (m27 (c .before)))
+      Need-loop-again = (c : Joined1) → Inv·0 (Row.get 1 (T5 .locals) (m4 (c .before .before .before .before .before .before) (c .before .before .before .before .before .shared-slice-known3 .given)) .now) (Row.get 2 (T5 .locals) (m4 (c .before .before .before .before .before .before) (c .before .before .before .before .before .shared-slice-known3 .given))) (Row.get 3 (T5 .locals) (m4 (c .before .before .before .before .before .before) (c .before .before .before .before .before .shared-slice-known3 .given)) .now) (Row.get 4 (T5 .locals) (m4 (c .before .before .before .before .before .before) (c .before .before .before .before .before .shared-slice-known3 .given)) .now) (Row.get 5 (T5 .locals) (m4 (c .before .before .before .before .before .before) (c .before .before .before .before .before .shared-slice-known3 .given)) .now) (Row.get 6 (T5 .locals) (m4 (c .before .before .before .before .before .before) (c .before .before .before .before .before .shared-slice-known3 .given))) (Row.get 7 (T5 .locals) (m4 (c .before .before .before .before .before .before) (c .before .before .before .before .before .shared-slice-known3 .given))) (Row.get 7 (T5 .locals) (m35 (c .before)))
 
-      abbrev pub m28 : (before : At-loop) → Typed.Mo T30
-      m28 = λ before. s25 (m8 before)
+      abbrev pub m36 : (before : At-loop) → Typed.Mo T38
+      m36 = λ before. s33 (m9 before)
 
-      abbrev pub m29 : (before : At-loop) → Typed.Mo T31
-      m29 = λ before. s26 (m28 before)
+      abbrev pub m37 : (before : At-loop) → Typed.Mo T39
+      m37 = λ before. s34 (m36 before)
 
-      abbrev pub m30 : (before : At-loop) → Typed.Mo T32
-      m30 = λ before. s27 (m29 before)
+      abbrev pub m38 : (before : At-loop) → Typed.Mo T40
+      m38 = λ before. s35 (m37 before)
 
       abbrev pub Need-returns : Type 0
-      Need-returns = (c : After-loop) → Post· (c .before .before .before .before .κs) (dens (c .before .before .before .before .κs) (c .before .before .before .before .args)) (Function.resV r (c .before .before .before .before .κs) (m30 (c .before) .0)) (Clauses.atExit (Kinds.endedOf 3 ps r) (c .before .before .before .before .κs) (dens (c .before .before .before .before .κs) (c .before .before .before .before .args)) (Enter.lastsP (c .before .before .before .before .κs) 1 ps xs (dens (c .before .before .before .before .κs) (c .before .before .before .before .args)) (m30 (c .before) .1)))
+      Need-returns = (c : After-loop) → Post· (c .before .before .before .before .before .κs) (dens (c .before .before .before .before .before .κs) (c .before .before .before .before .before .args)) (Function.resV r (c .before .before .before .before .before .κs) (m38 (c .before) .0)) (Clauses.atExit (Kinds.endedOf 4 ps r) (c .before .before .before .before .before .κs) (dens (c .before .before .before .before .before .κs) (c .before .before .before .before .before .args)) (Enter.lastsP (c .before .before .before .before .before .κs) 1 ps xs (dens (c .before .before .before .before .before .κs) (c .before .before .before .before .before .args)) (m38 (c .before) .1)))
 
-      module _ (loop-holds : Need-loop-holds) (next-requires : Need-next-requires) (is-trimming-requires : Need-is-trimming-requires) (next-places-requires : Need-next-places-requires) (ask-trim-requires : Need-ask-trim-requires) (next-wide-requires : Need-next-wide-requires) (next-wide-requires-2 : Need-next-wide-requires-2) (ask-requires : Need-ask-requires) (sub-left : Need-sub-left) (loop-less : Need-loop-less) (loop-again : Need-loop-again) (returns : Need-returns) where
-        lay10 : (c : After-loop) → at26 (W0 (c .before .before .before .before .κs) (c .before .before .before .before .args)) (m8 (c .before))
-        lay10 = λ c. ((tt, (Path'.refl, (Path'.refl, (Path'.refl, (tt, tt))))), returns record { before = c .before; loop-test = c .loop-test })
+      module _ (loop-holds : Need-loop-holds) (next-requires : Need-next-requires) (is-trimming-requires : Need-is-trimming-requires) (next-places-requires : Need-next-places-requires) (ask-trim-requires : Need-ask-trim-requires) (is-carrying-requires : Need-is-carrying-requires) (ask-carry-requires : Need-ask-carry-requires) (next-wide-requires : Need-next-wide-requires) (next-wide-requires-2 : Need-next-wide-requires-2) (ask-requires : Need-ask-requires) (sub-left : Need-sub-left) (loop-less : Need-loop-less) (loop-again : Need-loop-again) (returns : Need-returns) where
+        lay11 : (c : After-loop) → at32 (W0 (c .before .before .before .before .before .κs) (c .before .before .before .before .before .args)) (m9 (c .before))
+        lay11 = λ c. ((Path'.refl, (tt, (Path'.refl, (Path'.refl, (Path'.refl, (tt, tt)))))), returns record { before = c .before; loop-test = c .loop-test })
 
-        lay9 : (c : Joined1) → at15 (W3 (c .before .before .before .before .before) (c .before .before .before .before .loop .left)) (m25 (c .before))
-        unfolding at15
-        lay9 = λ c. (sub-left record { before = c .before; if1 = c .if1 }, (μ·0 (Row.get 1 (T4 .locals) (m3 (c .before .before .before .before .before .before) (c .before .before .before .before .before .shared-slice-known2 .given))) (Row.get 2 (T4 .locals) (m3 (c .before .before .before .before .before .before) (c .before .before .before .before .before .shared-slice-known2 .given)) .now) (Row.get 3 (T4 .locals) (m3 (c .before .before .before .before .before .before) (c .before .before .before .before .before .shared-slice-known2 .given)) .now) (Row.get 4 (T4 .locals) (m3 (c .before .before .before .before .before .before) (c .before .before .before .before .before .shared-slice-known2 .given)) .now) (Row.get 5 (T4 .locals) (m3 (c .before .before .before .before .before .before) (c .before .before .before .before .before .shared-slice-known2 .given))) (Row.get 6 (T4 .locals) (m3 (c .before .before .before .before .before .before) (c .before .before .before .before .before .shared-slice-known2 .given))) (Row.get 6 (T4 .locals) (m27 (c .before))), loop-less record { before = c .before; if1 = c .if1 }, (Row.get 6 (T4 .locals) (m27 (c .before)), Path'.refl {a = m27 (c .before)}, loop-again record { before = c .before; if1 = c .if1 }, Path'.refl {a = μ·0 (Row.get 1 (T4 .locals) (m3 (c .before .before .before .before .before .before) (c .before .before .before .before .before .shared-slice-known2 .given))) (Row.get 2 (T4 .locals) (m3 (c .before .before .before .before .before .before) (c .before .before .before .before .before .shared-slice-known2 .given)) .now) (Row.get 3 (T4 .locals) (m3 (c .before .before .before .before .before .before) (c .before .before .before .before .before .shared-slice-known2 .given)) .now) (Row.get 4 (T4 .locals) (m3 (c .before .before .before .before .before .before) (c .before .before .before .before .before .shared-slice-known2 .given)) .now) (Row.get 5 (T4 .locals) (m3 (c .before .before .before .before .before .before) (c .before .before .before .before .before .shared-slice-known2 .given))) (Row.get 6 (T4 .locals) (m3 (c .before .before .before .before .before .before) (c .before .before .before .before .before .shared-slice-known2 .given))) (Row.get 6 (T4 .locals) (m27 (c .before)))})))
+        lay10 : (c : Joined1) → at21 (W3 (c .before .before .before .before .before) (c .before .before .before .before .loop .left)) (m33 (c .before))
+        unfolding at21
+        lay10 = λ c. (sub-left record { before = c .before; if1 = c .if1 }, (μ·0 (Row.get 1 (T5 .locals) (m4 (c .before .before .before .before .before .before) (c .before .before .before .before .before .shared-slice-known3 .given)) .now) (Row.get 2 (T5 .locals) (m4 (c .before .before .before .before .before .before) (c .before .before .before .before .before .shared-slice-known3 .given))) (Row.get 3 (T5 .locals) (m4 (c .before .before .before .before .before .before) (c .before .before .before .before .before .shared-slice-known3 .given)) .now) (Row.get 4 (T5 .locals) (m4 (c .before .before .before .before .before .before) (c .before .before .before .before .before .shared-slice-known3 .given)) .now) (Row.get 5 (T5 .locals) (m4 (c .before .before .before .before .before .before) (c .before .before .before .before .before .shared-slice-known3 .given)) .now) (Row.get 6 (T5 .locals) (m4 (c .before .before .before .before .before .before) (c .before .before .before .before .before .shared-slice-known3 .given))) (Row.get 7 (T5 .locals) (m4 (c .before .before .before .before .before .before) (c .before .before .before .before .before .shared-slice-known3 .given))) (Row.get 7 (T5 .locals) (m35 (c .before))), loop-less record { before = c .before; if1 = c .if1 }, (Row.get 7 (T5 .locals) (m35 (c .before)), Path'.refl {a = m35 (c .before)}, loop-again record { before = c .before; if1 = c .if1 }, Path'.refl {a = μ·0 (Row.get 1 (T5 .locals) (m4 (c .before .before .before .before .before .before) (c .before .before .before .before .before .shared-slice-known3 .given)) .now) (Row.get 2 (T5 .locals) (m4 (c .before .before .before .before .before .before) (c .before .before .before .before .before .shared-slice-known3 .given))) (Row.get 3 (T5 .locals) (m4 (c .before .before .before .before .before .before) (c .before .before .before .before .before .shared-slice-known3 .given)) .now) (Row.get 4 (T5 .locals) (m4 (c .before .before .before .before .before .before) (c .before .before .before .before .before .shared-slice-known3 .given)) .now) (Row.get 5 (T5 .locals) (m4 (c .before .before .before .before .before .before) (c .before .before .before .before .before .shared-slice-known3 .given)) .now) (Row.get 6 (T5 .locals) (m4 (c .before .before .before .before .before .before) (c .before .before .before .before .before .shared-slice-known3 .given))) (Row.get 7 (T5 .locals) (m4 (c .before .before .before .before .before .before) (c .before .before .before .before .before .shared-slice-known3 .given))) (Row.get 7 (T5 .locals) (m35 (c .before)))})))
 
-        lay8 : (c : After-next-wide2) → at10 (W5 (c .before .before .before .before) (After-is-trimming·gave (c .before .before .before))) (m20 (c .before) (After-next-wide2·gave c))
-        lay8 = λ c. (ask-requires record { before = c .before; next-wide2 = c .next-wide2 }, λ g. lay9 record { before = record { before = c .before .before .before .before; is-trimming = c .before .before .before .is-trimming }; if1 = record { came = Logic.inr (c .before .before .if1, c .before .next-wide, c .next-wide2, Called.called ps·5 r·5 (claims· .11) T23 (record { pos = 1; st = List.[]; d = 0; at = λ x. x }, (record { pos = 2; ty = Syntax.tyRef (Syntax.named 0) Syntax.imm (Memory.pointee (T.the-row .written)); ref = λ x. x }, (record { pos = 3; ty = Syntax.tyRef (Syntax.named 1) Syntax.imm (Syntax.tyInt Syntax.w16); ref = λ x. x }, (record { pos = 4; ty = Syntax.tyRef (Syntax.named 2) Syntax.imm (Syntax.tyInt Syntax.w16); ref = λ x. x }, (Num.vAt 7 λ x. x, (Num.vAt 9 λ x. x, (Num.vAt 10 λ x. x, tt))))))) (m20 (c .before) (After-next-wide2·gave c)) g) } })
+        lay9 : (c : After-next-wide2) → at13 (W5 (c .before .before .before .before .before .before) (After-is-trimming·gave (c .before .before .before .before .before))) (m28 (c .before) (After-next-wide2·gave c))
+        lay9 = λ c. (ask-requires record { before = c .before; next-wide2 = c .next-wide2 }, λ g. lay10 record { before = record { before = c .before .before .before .before .before .before; is-trimming = c .before .before .before .before .before .is-trimming }; if1 = record { came = Logic.inr (Logic.inr (c .before .before .before .before .if1, c .before .before .before .is-carrying, c .before .before .if2, c .before .next-wide, c .next-wide2, Called.called ps·7 r·7 (claims· .15) T31 (record { pos = 2; st = List.[]; d = 0; at = λ x. x }, (record { pos = 3; ty = Syntax.tyRef (Syntax.named 1) Syntax.imm (Memory.pointee (T.the-row .written)); ref = λ x. x }, (record { pos = 4; ty = Syntax.tyRef (Syntax.named 2) Syntax.imm (Syntax.tyInt Syntax.w16); ref = λ x. x }, (record { pos = 5; ty = Syntax.tyRef (Syntax.named 3) Syntax.imm (Syntax.tyInt Syntax.w16); ref = λ x. x }, (Num.vAt 8 λ x. x, (Num.vAt 10 λ x. x, (Num.vAt 11 λ x. x, tt))))))) (m28 (c .before) (After-next-wide2·gave c)) g)) } })
 
-        lay7 : (c : After-next-wide) → at11 (W5 (c .before .before .before) (After-is-trimming·gave (c .before .before))) (m19 (c .before) (After-next-wide·gave c))
-        lay7 = λ c. (next-wide-requires-2 record { before = c .before; next-wide = c .next-wide }, λ g. lay8 record { before = record { before = c .before; next-wide = c .next-wide }; next-wide2 = Called.called ps·4 r·4 (claims· .9) T22 tt (m19 (c .before) (After-next-wide·gave c)) g })
+        lay8 : (c : After-next-wide) → at14 (W5 (c .before .before .before .before .before) (After-is-trimming·gave (c .before .before .before .before))) (m27 (c .before) (After-next-wide·gave c))
+        lay8 = λ c. (next-wide-requires-2 record { before = c .before; next-wide = c .next-wide }, λ g. lay9 record { before = record { before = c .before; next-wide = c .next-wide }; next-wide2 = Called.called ps·6 r·6 (claims· .13) T30 tt (m27 (c .before) (After-next-wide·gave c)) g })
 
-        lay6 : (c : After-next-places) → at7 (W5 (c .before .before .before) (After-is-trimming·gave (c .before .before))) (m12 (c .before) (After-next-places·gave c))
-        lay6 = λ c. (tt, (ask-trim-requires record { before = c .before; next-places = c .next-places }, λ g. lay9 record { before = record { before = c .before .before .before; is-trimming = c .before .before .is-trimming }; if1 = record { came = Logic.inl (c .before .if1, c .next-places, Called.called ps·3 r·3 (claims· .7) T16 (record { pos = 1; st = List.[]; d = 0; at = λ x. x }, (record { pos = 2; ty = Syntax.tyRef (Syntax.named 0) Syntax.imm (Memory.pointee (T.the-row .written)); ref = λ x. x }, (record { pos = 3; ty = Syntax.tyRef (Syntax.named 1) Syntax.imm (Syntax.tyInt Syntax.w16); ref = λ x. x }, (record { pos = 4; ty = Syntax.tyRef (Syntax.named 2) Syntax.imm (Syntax.tyInt Syntax.w16); ref = λ x. x }, (Num.vFld 8 (List._∷_ (Syntax.field 0) List.[]) 0 λ x. Places.struct .as-values x .0, (Num.vFld 8 (List._∷_ (Syntax.field 1) List.[]) 8 λ x. Places.struct .as-values x .1 .0, (Num.vFld 8 (List._∷_ (Syntax.field 2) List.[]) 16 λ x. Places.struct .as-values x .1 .1 .0, (Num.vFld 8 (List._∷_ (Syntax.field 3) List.[]) 24 λ x. Places.struct .as-values x .1 .1 .1 .0, (Num.vFld 8 (List._∷_ (Syntax.field 4) List.[]) 32 λ x. Places.struct .as-values x .1 .1 .1 .1 .0, (Num.vFld 8 (List._∷_ (Syntax.field 5) List.[]) 40 λ x. Places.struct .as-values x .1 .1 .1 .1 .1 .0, (Bool.bAt 14 λ x. x, tt))))))))))) (m13 (c .before) (After-next-places·gave c)) g) } }))
+        lay7 : (c : After-is-carrying) → at17 (W5 (c .before .before .before) (After-is-trimming·gave (c .before .before))) (m20 (c .before) (After-is-carrying·gave c))
+        lay7 = λ c. (λ taken. (tt, (ask-carry-requires record { before = record { before = c .before; is-carrying = c .is-carrying }; if2 = record { taken = taken } }, λ g. lay10 record { before = record { before = c .before .before .before; is-trimming = c .before .before .is-trimming }; if1 = record { came = Logic.inr (Logic.inl (c .before .if1, c .is-carrying, record { taken = taken }, Called.called ps·5 r·5 (claims· .11) T25 (record { pos = 1; ty = Syntax.tyRef (Syntax.named 0) Syntax.imm (Syntax.tyInt Syntax.w8); ref = λ x. x }, (Bool.bAt 18 λ x. x, tt)) (m22 record { before = c .before; is-carrying = c .is-carrying }) g)) } })), λ left. (next-wide-requires record { before = record { before = c .before; is-carrying = c .is-carrying }; if2 = record { left = left } }, λ g. lay8 record { before = record { before = record { before = c .before; is-carrying = c .is-carrying }; if2 = record { left = left } }; next-wide = Called.called ps·6 r·6 (claims· .13) T29 tt (m26 record { before = c .before; is-carrying = c .is-carrying }) g }))
 
-        lay5 : (c : After-is-trimming) → at16 (W3 (c .before .before .before .before) (c .before .before .before .loop .left)) (m10 (c .before) (After-is-trimming·gave c))
-        lay5 = λ c. (λ taken. (next-places-requires record { before = record { before = c .before; is-trimming = c .is-trimming }; if1 = record { taken = taken } }, λ g. lay6 record { before = record { before = record { before = c .before; is-trimming = c .is-trimming }; if1 = record { taken = taken } }; next-places = Called.called ps·2 r·2 (claims· .5) T14 tt (m11 record { before = c .before; is-trimming = c .is-trimming }) g }), λ left. (next-wide-requires record { before = record { before = c .before; is-trimming = c .is-trimming }; if1 = record { left = left } }, λ g. lay7 record { before = record { before = record { before = c .before; is-trimming = c .is-trimming }; if1 = record { left = left } }; next-wide = Called.called ps·4 r·4 (claims· .9) T21 tt (m18 record { before = c .before; is-trimming = c .is-trimming }) g }))
+        lay6 : (c : After-next-places) → at7 (W5 (c .before .before .before) (After-is-trimming·gave (c .before .before))) (m13 (c .before) (After-next-places·gave c))
+        lay6 = λ c. (tt, (ask-trim-requires record { before = c .before; next-places = c .next-places }, λ g. lay10 record { before = record { before = c .before .before .before; is-trimming = c .before .before .is-trimming }; if1 = record { came = Logic.inl (c .before .if1, c .next-places, Called.called ps·3 r·3 (claims· .7) T17 (record { pos = 2; st = List.[]; d = 0; at = λ x. x }, (record { pos = 3; ty = Syntax.tyRef (Syntax.named 1) Syntax.imm (Memory.pointee (T.the-row .written)); ref = λ x. x }, (record { pos = 4; ty = Syntax.tyRef (Syntax.named 2) Syntax.imm (Syntax.tyInt Syntax.w16); ref = λ x. x }, (record { pos = 5; ty = Syntax.tyRef (Syntax.named 3) Syntax.imm (Syntax.tyInt Syntax.w16); ref = λ x. x }, (Num.vFld 9 (List._∷_ (Syntax.field 0) List.[]) 0 λ x. Places.struct .as-values x .0, (Num.vFld 9 (List._∷_ (Syntax.field 1) List.[]) 8 λ x. Places.struct .as-values x .1 .0, (Num.vFld 9 (List._∷_ (Syntax.field 2) List.[]) 16 λ x. Places.struct .as-values x .1 .1 .0, (Num.vFld 9 (List._∷_ (Syntax.field 3) List.[]) 24 λ x. Places.struct .as-values x .1 .1 .1 .0, (Num.vFld 9 (List._∷_ (Syntax.field 4) List.[]) 32 λ x. Places.struct .as-values x .1 .1 .1 .1 .0, (Num.vFld 9 (List._∷_ (Syntax.field 5) List.[]) 40 λ x. Places.struct .as-values x .1 .1 .1 .1 .1 .0, (Bool.bAt 15 λ x. x, tt))))))))))) (m14 (c .before) (After-next-places·gave c)) g) } }))
 
-        lay4 : (c : After-next) → at17 (W3 (c .before .before .before) (c .before .before .loop .left)) (m9 (c .before) (After-next·gave c))
-        lay4 = λ c. (is-trimming-requires record { before = c .before; next = c .next }, λ g. lay5 record { before = record { before = c .before; next = c .next }; is-trimming = Called.called ps·1 r·1 (claims· .3) T11 (Num.vAt 7 λ x. x, tt) (m9 (c .before) (After-next·gave c)) g })
+        lay5 : (c : After-is-trimming) → at22 (W3 (c .before .before .before .before) (c .before .before .before .loop .left)) (m11 (c .before) (After-is-trimming·gave c))
+        lay5 = λ c. (λ taken. (next-places-requires record { before = record { before = c .before; is-trimming = c .is-trimming }; if1 = record { taken = taken } }, λ g. lay6 record { before = record { before = record { before = c .before; is-trimming = c .is-trimming }; if1 = record { taken = taken } }; next-places = Called.called ps·2 r·2 (claims· .5) T15 tt (m12 record { before = c .before; is-trimming = c .is-trimming }) g }), λ left. (is-carrying-requires record { before = record { before = c .before; is-trimming = c .is-trimming }; if1 = record { left = left } }, λ g. lay7 record { before = record { before = record { before = c .before; is-trimming = c .is-trimming }; if1 = record { left = left } }; is-carrying = Called.called ps·4 r·4 (claims· .9) T22 (Num.vAt 8 λ x. x, tt) (m19 record { before = c .before; is-trimming = c .is-trimming }) g }))
 
-        lay3 : (c : In-loop) → at18 (W3 (c .before .before) (c .before .loop .left)) (m6 (c .before))
-        lay3 = λ c. (next-requires record { before = c .before; loop-test = c .loop-test }, λ g. lay4 record { before = record { before = c .before; loop-test = c .loop-test }; next = Called.called ps·0 r·0 (claims· .1) T7 tt (m6 (c .before)) g })
+        lay4 : (c : After-next) → at23 (W3 (c .before .before .before) (c .before .before .loop .left)) (m10 (c .before) (After-next·gave c))
+        lay4 = λ c. (is-trimming-requires record { before = c .before; next = c .next }, λ g. lay5 record { before = record { before = c .before; next = c .next }; is-trimming = Called.called ps·1 r·1 (claims· .3) T12 (Num.vAt 8 λ x. x, tt) (m10 (c .before) (After-next·gave c)) g })
 
-        lay2 : (c : After-loop) → at4 (W4 (c .before .before) (c .before .loop .left)) (m5 (c .before .before) (c .before .loop .left))
-        lay2 = λ c. lay10 record { before = c .before; loop-test = c .loop-test }
+        lay3 : (c : In-loop) → at24 (W3 (c .before .before) (c .before .loop .left)) (m7 (c .before))
+        lay3 = λ c. (next-requires record { before = c .before; loop-test = c .loop-test }, λ g. lay4 record { before = record { before = c .before; loop-test = c .loop-test }; next = Called.called ps·0 r·0 (claims· .1) T8 tt (m7 (c .before)) g })
 
-        lay1 : (c : In-loop) → at1 (W4 (c .before .before) (c .before .loop .left)) (m5 (c .before .before) (c .before .loop .left))
+        lay2 : (c : After-loop) → at4 (W4 (c .before .before) (c .before .loop .left)) (m6 (c .before .before) (c .before .loop .left))
+        lay2 = λ c. lay11 record { before = c .before; loop-test = c .loop-test }
+
+        lay1 : (c : In-loop) → at1 (W4 (c .before .before) (c .before .loop .left)) (m6 (c .before .before) (c .before .loop .left))
         lay1 = λ c. lay3 record { before = c .before; loop-test = c .loop-test }
 
-        pub laid : (c : Start) → at30 (W0 (c .κs) (c .args)) (m0 (c .κs) (c .args))
-        laid = λ c. λ g. λ g'. ((Row.get 6 (T4 .locals) (m3 record { before = c; shared-slice-known = record { given = g } } g'), Path'.refl {a = m3 record { before = c; shared-slice-known = record { given = g } } g'}, loop-holds record { before = record { before = c; shared-slice-known = record { given = g } }; shared-slice-known2 = record { given = g' } }), λ vs inv. (tt, (λ taken. lay1 record { before = record { before = record { before = record { before = c; shared-slice-known = record { given = g } }; shared-slice-known2 = record { given = g' } }; loop = record { left = vs; inv = inv } }; loop-test = record { taken = Tests.ltb-true 0 (Row.get 6 (T4 .locals) (m4 record { before = record { before = c; shared-slice-known = record { given = g } }; shared-slice-known2 = record { given = g' } } vs)) taken } }, λ left. lay2 record { before = record { before = record { before = record { before = c; shared-slice-known = record { given = g } }; shared-slice-known2 = record { given = g' } }; loop = record { left = vs; inv = inv } }; loop-test = record { left = Tests.ltb-false 0 (Row.get 6 (T4 .locals) (m4 record { before = record { before = c; shared-slice-known = record { given = g } }; shared-slice-known2 = record { given = g' } } vs)) left } })))
+        pub laid : (c : Start) → at37 (W0 (c .κs) (c .args)) (m0 (c .κs) (c .args))
+        laid = λ c. λ g. λ g'. λ g''. ((Row.get 7 (T5 .locals) (m4 record { before = record { before = c; shared-slice-known = record { given = g } }; shared-slice-known2 = record { given = g' } } g''), Path'.refl {a = m4 record { before = record { before = c; shared-slice-known = record { given = g } }; shared-slice-known2 = record { given = g' } } g''}, loop-holds record { before = record { before = record { before = c; shared-slice-known = record { given = g } }; shared-slice-known2 = record { given = g' } }; shared-slice-known3 = record { given = g'' } }), λ vs inv. (tt, (λ taken. lay1 record { before = record { before = record { before = record { before = record { before = c; shared-slice-known = record { given = g } }; shared-slice-known2 = record { given = g' } }; shared-slice-known3 = record { given = g'' } }; loop = record { left = vs; inv = inv } }; loop-test = record { taken = Tests.ltb-true 0 (Row.get 7 (T5 .locals) (m5 record { before = record { before = record { before = c; shared-slice-known = record { given = g } }; shared-slice-known2 = record { given = g' } }; shared-slice-known3 = record { given = g'' } } vs)) taken } }, λ left. lay2 record { before = record { before = record { before = record { before = record { before = c; shared-slice-known = record { given = g } }; shared-slice-known2 = record { given = g' } }; shared-slice-known3 = record { given = g'' } }; loop = record { left = vs; inv = inv } }; loop-test = record { left = Tests.ltb-false 0 (Row.get 7 (T5 .locals) (m5 record { before = record { before = record { before = c; shared-slice-known = record { given = g } }; shared-slice-known2 = record { given = g' } }; shared-slice-known3 = record { given = g'' } } vs)) left } })))
 
-        module _ (κs : Lifetimes.Lfts 3) (qs : Lifetimes.Shares 3) where
-          pub asked : (a : Kinds.Dens κs ps) → (good : Kinds.GoodsP κs ps a) → (pre : Pre· κs a) → (bs : List.List Nat.ℕ) → Φ (Any.wantQ 3 ps r xs m κs qs a (Post· κs a)) (Function.init 3 ps r xs m κs qs a)
-          asked = λ a good pre bs. laid record { κs = κs; args = record { size = a .0; rows = a .1 .0; firsts = a .1 .1 .0; outcomes = a .1 .1 .1 .0; questions = a .1 .1 .1 .1 .0 }; good = good; fits = record { questions = record { fits = good .1 .1 .1 .1 .0 .1 } }; pre = pre }
+        module _ (κs : Lifetimes.Lfts 4) (qs : Lifetimes.Shares 4) where
+          pub asked : (a : Kinds.Dens κs ps) → (good : Kinds.GoodsP κs ps a) → (pre : Pre· κs a) → (bs : List.List Nat.ℕ) → Φ (Any.wantQ 4 ps r xs m κs qs a (Post· κs a)) (Function.init 4 ps r xs m κs qs a)
+          asked = λ a good pre bs. laid record { κs = κs; args = record { file = a .0; size = a .1 .0; rows = a .1 .1 .0; firsts = a .1 .1 .1 .0; outcomes = a .1 .1 .1 .1 .0; questions = a .1 .1 .1 .1 .1 .0 }; good = good; fits = record { questions = record { fits = good .1 .1 .1 .1 .1 .0 .1 } }; pre = pre }
 
-        module _ {M : Type 1} (𝓤 : URA.URA M) (H : Wp.Heap 𝓤) (A : Atoms.Atoms 𝓤) (W : Kit.Given 𝓤 H A) (𝓣 : Wp.Tables 𝓤 H) (known0 : Plain.Known 𝓤 H A W 𝓣 0 ps·0 r·0 (claims· .0) (claims· .1) "bench_plans::numbers::next") (known1 : Plain.Known 𝓤 H A W 𝓣 0 ps·1 r·1 (claims· .2) (claims· .3) "bench_plans::questions::is_trimming") (known2 : Plain.Known 𝓤 H A W 𝓣 0 ps·2 r·2 (claims· .4) (claims· .5) "bench_plans::lent::next_places") (known3 : Plain.Known 𝓤 H A W 𝓣 3 ps·3 r·3 (claims· .6) (claims· .7) "bench_plans::trims::ask_trim") (known4 : Plain.Known 𝓤 H A W 𝓣 0 ps·4 r·4 (claims· .8) (claims· .9) "bench_plans::numbers::next_wide") (known5 : Plain.Known 𝓤 H A W 𝓣 3 ps·5 r·5 (claims· .10) (claims· .11) "bench_plans::questions::ask") where
-          pub spec : Statement.Triple 𝓤 (Wp.WpFn 𝓤 H (𝓣 .C) (𝓣 .Λ) (Function.fnOf 3 ps r xs m hs body)) (Function.plainOf 𝓤 H A 3 ps r Pre· Post·)
-          spec = Plain.t-fn-plain 𝓤 H A W 𝓣 3 ps r xs m hs body (λ κs qs bs. Φ) (λ κs qs bs bd. typed κs qs 𝓤 H A W 𝓣 (known0, known1, known2, known3, known4, known5) bs bd) Pre· Post· asked
+        module _ {M : Type 1} (𝓤 : URA.URA M) (H : Wp.Heap 𝓤) (A : Atoms.Atoms 𝓤) (W : Kit.Given 𝓤 H A) (𝓣 : Wp.Tables 𝓤 H) (known0 : Plain.Known 𝓤 H A W 𝓣 0 ps·0 r·0 (claims· .0) (claims· .1) "bench_plans::numbers::next") (known1 : Plain.Known 𝓤 H A W 𝓣 0 ps·1 r·1 (claims· .2) (claims· .3) "bench_plans::questions::is_trimming") (known2 : Plain.Known 𝓤 H A W 𝓣 0 ps·2 r·2 (claims· .4) (claims· .5) "bench_plans::lent::next_places") (known3 : Plain.Known 𝓤 H A W 𝓣 3 ps·3 r·3 (claims· .6) (claims· .7) "bench_plans::trims::ask_trim") (known4 : Plain.Known 𝓤 H A W 𝓣 0 ps·4 r·4 (claims· .8) (claims· .9) "bench_plans::questions::is_carrying") (known5 : Plain.Known 𝓤 H A W 𝓣 1 ps·5 r·5 (claims· .10) (claims· .11) "bench_plans::carries::ask_carry") (known6 : Plain.Known 𝓤 H A W 𝓣 0 ps·6 r·6 (claims· .12) (claims· .13) "bench_plans::numbers::next_wide") (known7 : Plain.Known 𝓤 H A W 𝓣 3 ps·7 r·7 (claims· .14) (claims· .15) "bench_plans::questions::ask") where
+          pub spec : Statement.Triple 𝓤 (Wp.WpFn 𝓤 H (𝓣 .C) (𝓣 .Λ) (Function.fnOf 4 ps r xs m hs body)) (Function.plainOf 𝓤 H A 4 ps r Pre· Post·)
+          spec = Plain.t-fn-plain 𝓤 H A W 𝓣 4 ps r xs m hs body (λ κs qs bs. Φ) (λ κs qs bs bd. typed κs qs 𝓤 H A W 𝓣 (known0, known1, known2, known3, known4, known5, known6, known7) bs bd) Pre· Post· asked

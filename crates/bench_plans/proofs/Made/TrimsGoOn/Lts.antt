@@ -54,6 +54,7 @@ use mathlib.Core.List
 use mathlib.Core.Option
 use mathlib.Core.Path as Path'
 use mir.Syntax
+use mir.Val
 use prog.Wp
 use types.Kit
 
@@ -70,25 +71,28 @@ abbrev ty·3 : Syntax.Ty
 ty·3 = Syntax.tyRef (Syntax.named 2) Syntax.imm (Syntax.tyInt Syntax.w16)
 
 abbrev ty·4 : Syntax.Ty
-ty·4 = Syntax.tyRef (Syntax.named 0) Syntax.imm (Memory.pointee (T.the-row .written))
+ty·4 = Syntax.tyRef (Syntax.named 3) Syntax.imm (Syntax.tyInt Syntax.w16)
 
 abbrev ty·5 : Syntax.Ty
-ty·5 = Syntax.tyRef Syntax.erased Syntax.imm ty·0
+ty·5 = Syntax.tyRef (Syntax.named 0) Syntax.imm (Memory.pointee (T.the-row .written))
 
 abbrev ty·6 : Syntax.Ty
-ty·6 = Syntax.tyStruct (List._∷_ 38 (List._∷_ 91 (List._∷_ 93 List.[]))) (Syntax.tcons ty·1 (Syntax.tcons (Syntax.tyInt Syntax.w64) Syntax.tnil))
+ty·6 = Syntax.tyRef Syntax.erased Syntax.imm ty·0
 
 abbrev ty·7 : Syntax.Ty
-ty·7 = Syntax.tyStruct (List._∷_ 116 (List._∷_ 97 (List._∷_ 98 (List._∷_ 108 (List._∷_ 101 (List._∷_ 115 (List._∷_ 58 (List._∷_ 58 (List._∷_ 83 (List._∷_ 105 (List._∷_ 122 (List._∷_ 101 List.[])))))))))))) (Syntax.tcons (Syntax.tyInt Syntax.w64) (Syntax.tcons (Syntax.tyInt Syntax.w64) (Syntax.tcons (Syntax.tyInt Syntax.w64) (Syntax.tcons (Syntax.tyInt Syntax.w64) Syntax.tnil))))
+ty·7 = Syntax.tyStruct (List._∷_ 38 (List._∷_ 91 (List._∷_ 93 List.[]))) (Syntax.tcons ty·1 (Syntax.tcons (Syntax.tyInt Syntax.w64) Syntax.tnil))
 
-abbrev pub ps : List.List (Kinds.PK 3)
-ps = List._∷_ (Value.pVal record { ty = Declared.row Size.the-type; one = Path'.refl; val = Laws'.val Size.the-type Laws.the-laws; tells = Laws'.tells Size.the-type Laws.the-laws; still = Laws'.still Size.the-type Laws.the-copy Exit.yes; row = Rows'.whole (Declared.row Size.the-type); rd = λ x. x; mk = λ x. x } λ M 𝓤 H A W. record { copies = Laws'.copy Size.the-type Laws.the-copy 𝓤 H A W; lawful = Laws'.lawful Size.the-type Laws.the-laws 𝓤 H A W; makes = Laws'.makes Size.the-type Laws.the-plain 𝓤 H A; in-mem = Local.mem-whole 𝓤 H A W (Declared.row Size.the-type); of-mem = Local.whole-mem 𝓤 H A W (Declared.row Size.the-type) }) (List._∷_ (ShrSlice.pShrS T.the-row 0 tt) (List._∷_ (ShrSlice.pShrS (Referent.rtF (Referent.fInt Syntax.w16)) 1 tt) (List._∷_ (ShrSlice.pShrS (Referent.rtF (Referent.fInt Syntax.w16)) 2 tt) List.[])))
+abbrev ty·8 : Syntax.Ty
+ty·8 = Syntax.tyStruct (List._∷_ 116 (List._∷_ 97 (List._∷_ 98 (List._∷_ 108 (List._∷_ 101 (List._∷_ 115 (List._∷_ 58 (List._∷_ 58 (List._∷_ 83 (List._∷_ 105 (List._∷_ 122 (List._∷_ 101 List.[])))))))))))) (Syntax.tcons (Syntax.tyInt Syntax.w64) (Syntax.tcons (Syntax.tyInt Syntax.w64) (Syntax.tcons (Syntax.tyInt Syntax.w64) (Syntax.tcons (Syntax.tyInt Syntax.w64) Syntax.tnil))))
 
-abbrev pub r : Kinds.RK 3
+abbrev pub ps : List.List (Kinds.PK 4)
+ps = List._∷_ (Num.pNum Syntax.w64) (List._∷_ (Value.pVal record { ty = Declared.row Size.the-type; one = Path'.refl; val = Laws'.val Size.the-type Laws.the-laws; tells = Laws'.tells Size.the-type Laws.the-laws; still = Laws'.still Size.the-type Laws.the-copy Exit.yes; row = Rows'.whole (Declared.row Size.the-type); rd = λ x. x; mk = λ x. x } λ M 𝓤 H A W. record { copies = Laws'.copy Size.the-type Laws.the-copy 𝓤 H A W; lawful = Laws'.lawful Size.the-type Laws.the-laws 𝓤 H A W; makes = Laws'.makes Size.the-type Laws.the-plain 𝓤 H A; in-mem = Local.mem-whole 𝓤 H A W (Declared.row Size.the-type); of-mem = Local.whole-mem 𝓤 H A W (Declared.row Size.the-type) }) (List._∷_ (ShrSlice.pShrS T.the-row 0 tt) (List._∷_ (ShrSlice.pShrS (Referent.rtF (Referent.fInt Syntax.w16)) 1 tt) (List._∷_ (ShrSlice.pShrS (Referent.rtF (Referent.fInt Syntax.w16)) 2 tt) (List._∷_ (ShrSlice.pShrS (Referent.rtF (Referent.fInt Syntax.w16)) 3 tt) List.[])))))
+
+abbrev pub r : Kinds.RK 4
 r = Unit'.rUnit
 
 abbrev pub xs : List.List Syntax.Ty
-xs = List._∷_ Syntax.tyBool (List._∷_ Syntax.tyBool (List._∷_ ty·0 (List._∷_ Syntax.tyBool (List._∷_ ty·5 (List._∷_ ty·6 (List._∷_ Syntax.tyUnit List.[]))))))
+xs = List._∷_ Syntax.tyBool (List._∷_ Syntax.tyBool (List._∷_ ty·0 (List._∷_ Syntax.tyBool (List._∷_ ty·6 (List._∷_ ty·7 (List._∷_ Syntax.tyUnit List.[]))))))
 
 abbrev pub m : Nat.ℕ
 m = 1
@@ -123,122 +127,137 @@ ps·4 = List._∷_ (Value.pVal record { ty = Declared.row Size.the-type; one = P
 abbrev pub r·4 : Kinds.RK 3
 r·4 = Unit'.rUnit
 
+abbrev pub ps·5 : List.List (Kinds.PK 4)
+ps·5 = List._∷_ (Num.pNum Syntax.w64) (List._∷_ (Value.pVal record { ty = Declared.row Size.the-type; one = Path'.refl; val = Laws'.val Size.the-type Laws.the-laws; tells = Laws'.tells Size.the-type Laws.the-laws; still = Laws'.still Size.the-type Laws.the-copy Exit.yes; row = Rows'.whole (Declared.row Size.the-type); rd = λ x. x; mk = λ x. x } λ M 𝓤 H A W. record { copies = Laws'.copy Size.the-type Laws.the-copy 𝓤 H A W; lawful = Laws'.lawful Size.the-type Laws.the-laws 𝓤 H A W; makes = Laws'.makes Size.the-type Laws.the-plain 𝓤 H A; in-mem = Local.mem-whole 𝓤 H A W (Declared.row Size.the-type); of-mem = Local.whole-mem 𝓤 H A W (Declared.row Size.the-type) }) (List._∷_ (ShrSlice.pShrS T.the-row 0 tt) (List._∷_ (ShrSlice.pShrS (Referent.rtF (Referent.fInt Syntax.w16)) 1 tt) (List._∷_ (ShrSlice.pShrS (Referent.rtF (Referent.fInt Syntax.w16)) 2 tt) (List._∷_ (ShrSlice.pShrS (Referent.rtF (Referent.fInt Syntax.w16)) 3 tt) List.[])))))
+
+abbrev pub r·5 : Kinds.RK 4
+r·5 = Unit'.rUnit
+
 abbrev pub hs : List.List Syntax.Home
-hs = List._∷_ Syntax.valueLocal (List._∷_ Syntax.valueLocal (List._∷_ Syntax.valueLocal (List._∷_ Syntax.valueLocal (List._∷_ Syntax.valueLocal (List._∷_ Syntax.valueLocal (List._∷_ Syntax.valueLocal (List._∷_ Syntax.memorySlot (List._∷_ Syntax.valueLocal (List._∷_ Syntax.valueLocal (List._∷_ Syntax.valueLocal (List._∷_ Syntax.valueLocal List.[])))))))))))
+hs = List._∷_ Syntax.valueLocal (List._∷_ Syntax.valueLocal (List._∷_ Syntax.valueLocal (List._∷_ Syntax.valueLocal (List._∷_ Syntax.valueLocal (List._∷_ Syntax.valueLocal (List._∷_ Syntax.valueLocal (List._∷_ Syntax.valueLocal (List._∷_ Syntax.valueLocal (List._∷_ Syntax.memorySlot (List._∷_ Syntax.valueLocal (List._∷_ Syntax.valueLocal (List._∷_ Syntax.valueLocal (List._∷_ Syntax.valueLocal List.[])))))))))))))
 
 abbrev b0 : Syntax.Body
-b0 = Syntax.assign (Syntax.place 7 List.[]) (Syntax.aggregate (List._∷_ (Syntax.int Syntax.w8 97) (List._∷_ (Syntax.int Syntax.w8 103) (List._∷_ (Syntax.int Syntax.w8 97) (List._∷_ (Syntax.int Syntax.w8 105) (List._∷_ (Syntax.int Syntax.w8 110) List.[]))))))
+b0 = Syntax.assign (Syntax.place 9 List.[]) (Syntax.aggregate (List._∷_ (Syntax.int Syntax.w8 97) (List._∷_ (Syntax.int Syntax.w8 103) (List._∷_ (Syntax.int Syntax.w8 97) (List._∷_ (Syntax.int Syntax.w8 105) (List._∷_ (Syntax.int Syntax.w8 110) List.[]))))))
 
 abbrev b1 : Syntax.Body
-b1 = Syntax.call "bench_plans::files::read_again" (List._∷_ (Syntax.copy (Syntax.place 1 List.[])) (List._∷_ (Syntax.copy (Syntax.place 2 List.[])) (List._∷_ (Syntax.copy (Syntax.place 3 List.[])) (List._∷_ (Syntax.copy (Syntax.place 4 List.[])) List.[])))) (Syntax.place 5 List.[])
+b1 = Syntax.call "bench_plans::files::read_again" (List._∷_ (Syntax.copy (Syntax.place 2 List.[])) (List._∷_ (Syntax.copy (Syntax.place 3 List.[])) (List._∷_ (Syntax.copy (Syntax.place 4 List.[])) (List._∷_ (Syntax.copy (Syntax.place 5 List.[])) List.[])))) (Syntax.place 7 List.[])
 
 abbrev b2 : Syntax.Body
-b2 = Syntax.call "bench_plans::trims::trim_again" (List._∷_ (Syntax.copy (Syntax.place 1 List.[])) (List._∷_ (Syntax.copy (Syntax.place 2 List.[])) (List._∷_ (Syntax.copy (Syntax.place 3 List.[])) (List._∷_ (Syntax.copy (Syntax.place 4 List.[])) List.[])))) (Syntax.place 6 List.[])
+b2 = Syntax.call "bench_plans::trims::trim_again" (List._∷_ (Syntax.copy (Syntax.place 2 List.[])) (List._∷_ (Syntax.copy (Syntax.place 3 List.[])) (List._∷_ (Syntax.copy (Syntax.place 4 List.[])) (List._∷_ (Syntax.copy (Syntax.place 5 List.[])) List.[])))) (Syntax.place 8 List.[])
 
 abbrev b3 : Syntax.Body
-b3 = Syntax.assign (Syntax.place 9 List.[]) (Syntax.addrOf (Syntax.place 7 List.[]))
+b3 = Syntax.assign (Syntax.place 11 List.[]) (Syntax.addrOf (Syntax.place 9 List.[]))
 
 abbrev b4 : Syntax.Body
-b4 = Syntax.assign (Syntax.place 10 List.[]) (Syntax.aggregate (List._∷_ (Syntax.copy (Syntax.place 9 List.[])) (List._∷_ (Syntax.int Syntax.w64 5) List.[])))
+b4 = Syntax.assign (Syntax.place 12 List.[]) (Syntax.aggregate (List._∷_ (Syntax.copy (Syntax.place 11 List.[])) (List._∷_ (Syntax.int Syntax.w64 5) List.[])))
 
 abbrev b5 : Syntax.Body
-b5 = Syntax.call "io::write_all" (List._∷_ (Syntax.int Syntax.w32 1) (List._∷_ (Syntax.copy (Syntax.place 10 List.[])) List.[])) (Syntax.place 8 List.[])
+b5 = Syntax.call "io::write_all" (List._∷_ (Syntax.int Syntax.w32 1) (List._∷_ (Syntax.copy (Syntax.place 12 List.[])) List.[])) (Syntax.place 10 List.[])
 
 abbrev b6 : Syntax.Body
-b6 = Syntax.call "bench_plans::files::print_again" (List._∷_ (Syntax.copy (Syntax.place 5 List.[])) (List._∷_ (Syntax.copy (Syntax.place 6 List.[])) List.[])) (Syntax.place 11 List.[])
+b6 = Syntax.call "bench_plans::files::print_again" (List._∷_ (Syntax.copy (Syntax.place 7 List.[])) (List._∷_ (Syntax.copy (Syntax.place 8 List.[])) List.[])) (Syntax.place 13 List.[])
 
 abbrev b7 : Syntax.Body
-b7 = Syntax.call "bench_plans::verdicts::ask_tables" (List._∷_ (Syntax.copy (Syntax.place 1 List.[])) (List._∷_ (Syntax.copy (Syntax.place 2 List.[])) (List._∷_ (Syntax.copy (Syntax.place 3 List.[])) (List._∷_ (Syntax.copy (Syntax.place 4 List.[])) (List._∷_ (Syntax.int Syntax.w64 0) (List._∷_ (Syntax.int Syntax.w64 0) (List._∷_ (Syntax.intBig Syntax.w64 1024) List.[]))))))) (Syntax.place 11 List.[])
+b7 = Syntax.call "bench_plans::verdicts::ask_tables" (List._∷_ (Syntax.copy (Syntax.place 2 List.[])) (List._∷_ (Syntax.copy (Syntax.place 3 List.[])) (List._∷_ (Syntax.copy (Syntax.place 4 List.[])) (List._∷_ (Syntax.copy (Syntax.place 5 List.[])) (List._∷_ (Syntax.int Syntax.w64 0) (List._∷_ (Syntax.int Syntax.w64 0) (List._∷_ (Syntax.intBig Syntax.w64 1024) List.[]))))))) (Syntax.place 13 List.[])
 
 abbrev b8 : Syntax.Body
-b8 = Syntax.assign (Syntax.place 0 List.[]) (Syntax.rvOpd Syntax.opdUnit)
+b8 = Syntax.call "bench_plans::trims::carry_decided" (List._∷_ (Syntax.copy (Syntax.place 1 List.[])) (List._∷_ (Syntax.copy (Syntax.place 2 List.[])) (List._∷_ (Syntax.copy (Syntax.place 3 List.[])) (List._∷_ (Syntax.copy (Syntax.place 4 List.[])) (List._∷_ (Syntax.copy (Syntax.place 5 List.[])) (List._∷_ (Syntax.copy (Syntax.place 6 List.[])) List.[])))))) (Syntax.place 13 List.[])
 
 abbrev b9 : Syntax.Body
-b9 = Syntax.return
+b9 = Syntax.assign (Syntax.place 0 List.[]) (Syntax.rvOpd Syntax.opdUnit)
 
 abbrev b10 : Syntax.Body
-b10 = Syntax.seq b8 b9
+b10 = Syntax.return
 
 abbrev b11 : Syntax.Body
-b11 = Syntax.seq b7 b10
+b11 = Syntax.seq b9 b10
 
 abbrev b12 : Syntax.Body
-b12 = Syntax.seq b6 b11
+b12 = Syntax.seq b8 b11
 
 abbrev b13 : Syntax.Body
-b13 = Syntax.seq b5 b12
+b13 = Syntax.seq b7 b12
 
 abbrev b14 : Syntax.Body
-b14 = Syntax.seq b4 b13
+b14 = Syntax.seq b6 b13
 
 abbrev b15 : Syntax.Body
-b15 = Syntax.seq b3 b14
+b15 = Syntax.seq b5 b14
 
 abbrev b16 : Syntax.Body
-b16 = Syntax.seq b2 b15
+b16 = Syntax.seq b4 b15
 
 abbrev b17 : Syntax.Body
-b17 = Syntax.seq b1 b16
+b17 = Syntax.seq b3 b16
 
 abbrev b18 : Syntax.Body
-b18 = Syntax.seq b0 b17
+b18 = Syntax.seq b2 b17
+
+abbrev b19 : Syntax.Body
+b19 = Syntax.seq b1 b18
+
+abbrev b20 : Syntax.Body
+b20 = Syntax.seq b0 b19
 
 abbrev pub body : Syntax.Body
-body = b18
+body = b20
 
 abbrev pub Claims : Type 1
-Claims = Kinds.In 3 ps·0 × Kinds.Out 3 ps·0 r·0 × Kinds.In 3 ps·1 × Kinds.Out 3 ps·1 r·1 × Kinds.In 1 ps·2 × Kinds.Out 1 ps·2 r·2 × Kinds.In 0 ps·3 × Kinds.Out 0 ps·3 r·3 × Kinds.In 3 ps·4 × Kinds.Out 3 ps·4 r·4
+Claims = Kinds.In 3 ps·0 × Kinds.Out 3 ps·0 r·0 × Kinds.In 3 ps·1 × Kinds.Out 3 ps·1 r·1 × Kinds.In 1 ps·2 × Kinds.Out 1 ps·2 r·2 × Kinds.In 0 ps·3 × Kinds.Out 0 ps·3 r·3 × Kinds.In 3 ps·4 × Kinds.Out 3 ps·4 r·4 × Kinds.In 4 ps·5 × Kinds.Out 4 ps·5 r·5
 
 abbrev pub t0 : List.List Row.Entry
-t0 = List._∷_ (0, Rows'.any-gone Syntax.tyUnit) (List._∷_ (1, Rows'.whole (Declared.row Size.the-type)) (List._∷_ (2, Rows'.sslice T.the-row ty·4 0) (List._∷_ (3, Rows'.sslice (Referent.rtF (Referent.fInt Syntax.w16)) ty·2 1) (List._∷_ (4, Rows'.sslice (Referent.rtF (Referent.fInt Syntax.w16)) ty·3 2) (List._∷_ (5, Rows'.any-gone Syntax.tyBool) (List._∷_ (6, Rows'.any-gone Syntax.tyBool) (List._∷_ (7, Rows'.any-gone ty·0) (List._∷_ (8, Rows'.any-gone Syntax.tyBool) (List._∷_ (9, Rows'.any-gone ty·5) (List._∷_ (10, Rows'.any-gone ty·6) (List._∷_ (11, Rows'.any-gone Syntax.tyUnit) List.[])))))))))))
+t0 = List._∷_ (0, Rows'.any-gone Syntax.tyUnit) (List._∷_ (1, Rows'.sc-here (Row.sInt Syntax.w64)) (List._∷_ (2, Rows'.whole (Declared.row Size.the-type)) (List._∷_ (3, Rows'.sslice T.the-row ty·5 0) (List._∷_ (4, Rows'.sslice (Referent.rtF (Referent.fInt Syntax.w16)) ty·2 1) (List._∷_ (5, Rows'.sslice (Referent.rtF (Referent.fInt Syntax.w16)) ty·3 2) (List._∷_ (6, Rows'.sslice (Referent.rtF (Referent.fInt Syntax.w16)) ty·4 3) (List._∷_ (7, Rows'.any-gone Syntax.tyBool) (List._∷_ (8, Rows'.any-gone Syntax.tyBool) (List._∷_ (9, Rows'.any-gone ty·0) (List._∷_ (10, Rows'.any-gone Syntax.tyBool) (List._∷_ (11, Rows'.any-gone ty·6) (List._∷_ (12, Rows'.any-gone ty·7) (List._∷_ (13, Rows'.any-gone Syntax.tyUnit) List.[])))))))))))))
 
 abbrev pub t1 : List.List Row.Entry
-t1 = Row.setRow 1 (1, Rows'.any-gone ty·7) (Row.setRow 0 (0, Rows'.sc-here Row.sUnit) t0)
+t1 = Row.setRow 2 (2, Rows'.any-gone ty·8) (Row.setRow 1 (1, Rows'.any-gone (Syntax.tyInt Syntax.w64)) (Row.setRow 0 (0, Rows'.sc-here Row.sUnit) t0))
 
 abbrev pub t2 : List.List Row.Entry
-t2 = Row.setRow 7 (7, Rows'.whole (Array.Array (Referent.rtF (Referent.fInt Syntax.w8)) 5)) t0
+t2 = Row.setRow 9 (9, Rows'.whole (Array.Array (Referent.rtF (Referent.fInt Syntax.w8)) 5)) t0
 
 abbrev pub t3 : List.List Row.Entry
-t3 = Row.setRow 7 (7, Rows.arrF (Referent.rtF (Referent.fInt Syntax.w8)) 5 0) t0
+t3 = Row.setRow 9 (9, Rows.arrF (Referent.rtF (Referent.fInt Syntax.w8)) 5 0) t0
 
 abbrev pub t4 : List.List Row.Entry
-t4 = Row.setRow 5 (5, Rows'.sc-here Row.sBool) t3
+t4 = Row.setRow 7 (7, Rows'.sc-here Row.sBool) t3
 
 abbrev pub t5 : List.List Row.Entry
-t5 = Row.setRow 6 (6, Rows'.sc-here Row.sBool) t4
+t5 = Row.setRow 8 (8, Rows'.sc-here Row.sBool) t4
 
 abbrev pub t6 : List.List Row.Entry
-t6 = Row.setRow 9 (9, Relend.ssptr (Referent.rtF (Referent.fInt Syntax.w8)) ty·5 3) (Row.setRow 7 (7, Rows.arr-shr (Referent.rtF (Referent.fInt Syntax.w8)) 5 3) t5)
+t6 = Row.setRow 11 (11, Relend.ssptr (Referent.rtF (Referent.fInt Syntax.w8)) ty·6 4) (Row.setRow 9 (9, Rows.arr-shr (Referent.rtF (Referent.fInt Syntax.w8)) 5 4) t5)
 
 abbrev pub t7 : List.List Row.Entry
-t7 = Row.setRow 10 (10, Rows'.sslice (Referent.rtF (Referent.fInt Syntax.w8)) ty·1 3) (Row.setRow 7 (7, Rows.arr-shr (Referent.rtF (Referent.fInt Syntax.w8)) 5 3) t5)
+t7 = Row.setRow 12 (12, Rows'.sslice (Referent.rtF (Referent.fInt Syntax.w8)) ty·1 4) (Row.setRow 9 (9, Rows.arr-shr (Referent.rtF (Referent.fInt Syntax.w8)) 5 4) t5)
 
 abbrev pub t8 : List.List Row.Entry
-t8 = Row.setRow 8 (8, Rows'.sc-here Row.sBool) t7
+t8 = Row.setRow 10 (10, Rows'.sc-here Row.sBool) t7
 
 abbrev pub t9 : List.List Row.Entry
-t9 = Row.setRow 8 (8, Rows'.sc-here Row.sBool) (Row.setRow 7 (7, Rows.arr-shr (Referent.rtF (Referent.fInt Syntax.w8)) 5 3) t5)
+t9 = Row.setRow 10 (10, Rows'.sc-here Row.sBool) (Row.setRow 9 (9, Rows.arr-shr (Referent.rtF (Referent.fInt Syntax.w8)) 5 4) t5)
 
 abbrev pub t10 : List.List Row.Entry
-t10 = Row.setRow 8 (8, Rows'.any-gone Syntax.tyBool) t9
+t10 = Row.setRow 10 (10, Rows'.any-gone Syntax.tyBool) t9
 
 abbrev pub t11 : List.List Row.Entry
-t11 = Row.setRow 7 (7, Rows'.any-gone ty·0) t5
+t11 = Row.setRow 9 (9, Rows'.any-gone ty·0) t5
 
 abbrev pub t12 : List.List Row.Entry
-t12 = Row.setRow 11 (11, Rows'.sc-here Row.sUnit) t11
+t12 = Row.setRow 13 (13, Rows'.sc-here Row.sUnit) t11
 
 abbrev pub t13 : List.List Row.Entry
-t13 = Row.setRow 11 (11, Rows'.sc-here Row.sUnit) (Row.setRow 6 (6, Rows'.sc-here Row.sBool) (Row.setRow 5 (5, Rows'.sc-here Row.sBool) (Row.setRow 0 (0, Rows'.any-gone Syntax.tyUnit) t1)))
+t13 = Row.setRow 13 (13, Rows'.sc-here Row.sUnit) (Row.setRow 8 (8, Rows'.sc-here Row.sBool) (Row.setRow 7 (7, Rows'.sc-here Row.sBool) (Row.setRow 1 (1, Rows'.sc-here (Row.sInt Syntax.w64)) (Row.setRow 0 (0, Rows'.any-gone Syntax.tyUnit) t1))))
 
 abbrev pub t14 : List.List Row.Entry
-t14 = Row.setRow 11 (11, Rows'.any-gone Syntax.tyUnit) t13
+t14 = Row.setRow 13 (13, Rows'.any-gone Syntax.tyUnit) t13
 
 abbrev pub t15 : List.List Row.Entry
 t15 = Row.setRow 0 (0, Rows'.sc-here Row.sUnit) t14
 
 abbrev pub t16 : List.List Row.Entry
-t16 = Row.setRow 6 (6, Rows'.sc-here Row.sBool) t1
+t16 = Row.setRow 7 (7, Rows'.any-gone Syntax.tyBool) t15
+
+abbrev pub t17 : List.List Row.Entry
+t17 = Row.setRow 8 (8, Rows'.any-gone Syntax.tyBool) t16
 
 abbrev pub T0 : Row.Cx
 T0 = record { locals = t0; slots = List.[] }
@@ -253,401 +272,468 @@ abbrev pub T3 : Row.Cx
 T3 = record { locals = t0; slots = List.[] }
 
 abbrev pub T4 : Row.Cx
-T4 = record { locals = t2; slots = List.[] }
+T4 = record { locals = t0; slots = List.[] }
 
 abbrev pub T5 : Row.Cx
-T5 = record { locals = t3; slots = List.[] }
+T5 = record { locals = t2; slots = List.[] }
 
 abbrev pub T6 : Row.Cx
-T6 = record { locals = t4; slots = List.[] }
+T6 = record { locals = t3; slots = List.[] }
 
 abbrev pub T7 : Row.Cx
-T7 = record { locals = t5; slots = List.[] }
+T7 = record { locals = t4; slots = List.[] }
 
-abbrev pub T9 : Row.Cx
-T9 = record { locals = t6; slots = List.[] }
+abbrev pub T8 : Row.Cx
+T8 = record { locals = t5; slots = List.[] }
 
 abbrev pub T10 : Row.Cx
-T10 = record { locals = t7; slots = List.[] }
+T10 = record { locals = t6; slots = List.[] }
 
 abbrev pub T11 : Row.Cx
-T11 = record { locals = t8; slots = List.[] }
+T11 = record { locals = t7; slots = List.[] }
 
 abbrev pub T12 : Row.Cx
-T12 = record { locals = t9; slots = List.[] }
+T12 = record { locals = t8; slots = List.[] }
 
 abbrev pub T13 : Row.Cx
-T13 = record { locals = t10; slots = List.[] }
+T13 = record { locals = t9; slots = List.[] }
 
-abbrev pub T15 : Row.Cx
-T15 = record { locals = t5; slots = List.[] }
+abbrev pub T14 : Row.Cx
+T14 = record { locals = t10; slots = List.[] }
 
-abbrev pub T17 : Row.Cx
-T17 = record { locals = t11; slots = List.[] }
+abbrev pub T16 : Row.Cx
+T16 = record { locals = t5; slots = List.[] }
 
 abbrev pub T18 : Row.Cx
-T18 = record { locals = t12; slots = List.[] }
+T18 = record { locals = t11; slots = List.[] }
 
 abbrev pub T19 : Row.Cx
-T19 = record { locals = t11; slots = List.[] }
+T19 = record { locals = t12; slots = List.[] }
 
 abbrev pub T20 : Row.Cx
-T20 = record { locals = t12; slots = List.[] }
+T20 = record { locals = t11; slots = List.[] }
 
 abbrev pub T21 : Row.Cx
-T21 = record { locals = t13; slots = List.[] }
+T21 = record { locals = t12; slots = List.[] }
 
 abbrev pub T22 : Row.Cx
-T22 = record { locals = t14; slots = List.[] }
+T22 = record { locals = t11; slots = List.[] }
 
 abbrev pub T23 : Row.Cx
-T23 = record { locals = t15; slots = List.[] }
+T23 = record { locals = t12; slots = List.[] }
 
 abbrev pub T24 : Row.Cx
-T24 = record { locals = t16; slots = List.[] }
+T24 = record { locals = t13; slots = List.[] }
 
 abbrev pub T25 : Row.Cx
-T25 = record { locals = t1; slots = List.[] }
+T25 = record { locals = t14; slots = List.[] }
+
+abbrev pub T26 : Row.Cx
+T26 = record { locals = t15; slots = List.[] }
+
+abbrev pub T27 : Row.Cx
+T27 = record { locals = t16; slots = List.[] }
+
+abbrev pub T28 : Row.Cx
+T28 = record { locals = t17; slots = List.[] }
+
+abbrev pub T29 : Row.Cx
+T29 = record { locals = t1; slots = List.[] }
 
 abbrev pub O0 : Typed.Outs
 O0 = record { next = Option.none; exits = List.[]; returns = Option.some T1 }
 
 module _ (claims· : Claims) where
   abbrev s0 : Typed.Gives T0 T2
-  s0 = Know.k-shs-known (Referent.fInt Syntax.w16) T0 3 1 ty·2 Row.off 0 λ x. x
+  s0 = Know.k-shs-known (Referent.fInt Syntax.w16) T0 4 1 ty·2 Row.off 0 λ x. x
 
   abbrev s1 : Typed.Gives T2 T3
-  s1 = Know.k-shs-known (Referent.fInt Syntax.w16) T2 4 2 ty·3 Row.off 0 λ x. x
+  s1 = Know.k-shs-known (Referent.fInt Syntax.w16) T2 5 2 ty·3 Row.off 0 λ x. x
 
-  abbrev s2 : Typed.Mo T3 → Typed.Mo T4
-  s2 = Make.n-make (Array.Array (Referent.rtF (Referent.fInt Syntax.w8)) 5) T3 7 λ m. List._∷_ 97 (List._∷_ 103 (List._∷_ 97 (List._∷_ 105 (List._∷_ 110 List.[]))))
+  abbrev s2 : Typed.Gives T3 T4
+  s2 = Know.k-shs-known (Referent.fInt Syntax.w16) T3 6 3 ty·4 Row.off 0 λ x. x
 
   abbrev s3 : Typed.Mo T4 → Typed.Mo T5
-  s3 = AtSlots.n-as-by T4 7 (Rows.arrF (Referent.rtF (Referent.fInt Syntax.w8)) 5 0) λ x. x
+  s3 = Make.n-make (Array.Array (Referent.rtF (Referent.fInt Syntax.w8)) 5) T4 9 λ m. List._∷_ 97 (List._∷_ 103 (List._∷_ 97 (List._∷_ 105 (List._∷_ 110 List.[]))))
 
-  abbrev s4 : Typed.Both T5 T6
-  s4 = Call.callB ps·0 r·0 (claims· .0) (claims· .1) T5 (record { pos = 1; st = List.[]; d = 0; at = λ x. x }, (record { pos = 2; ty = Syntax.tyRef (Syntax.named 0) Syntax.imm (Memory.pointee (T.the-row .written)); ref = λ x. x }, (record { pos = 3; ty = Syntax.tyRef (Syntax.named 1) Syntax.imm (Syntax.tyInt Syntax.w16); ref = λ x. x }, (record { pos = 4; ty = Syntax.tyRef (Syntax.named 2) Syntax.imm (Syntax.tyInt Syntax.w16); ref = λ x. x }, tt)))) 5 (List._∷_ 0 (List._∷_ 1 (List._∷_ 2 List.[]))) Syntax.tyBool
+  abbrev s4 : Typed.Mo T5 → Typed.Mo T6
+  s4 = AtSlots.n-as-by T5 9 (Rows.arrF (Referent.rtF (Referent.fInt Syntax.w8)) 5 0) λ x. x
 
   abbrev s5 : Typed.Both T6 T7
-  s5 = Call.callB ps·1 r·1 (claims· .2) (claims· .3) T6 (record { pos = 1; st = List.[]; d = 0; at = λ x. x }, (record { pos = 2; ty = Syntax.tyRef (Syntax.named 0) Syntax.imm (Memory.pointee (T.the-row .written)); ref = λ x. x }, (record { pos = 3; ty = Syntax.tyRef (Syntax.named 1) Syntax.imm (Syntax.tyInt Syntax.w16); ref = λ x. x }, (record { pos = 4; ty = Syntax.tyRef (Syntax.named 2) Syntax.imm (Syntax.tyInt Syntax.w16); ref = λ x. x }, tt)))) 6 (List._∷_ 0 (List._∷_ 1 (List._∷_ 2 List.[]))) Syntax.tyBool
+  s5 = Call.callB ps·0 r·0 (claims· .0) (claims· .1) T6 (record { pos = 2; st = List.[]; d = 0; at = λ x. x }, (record { pos = 3; ty = Syntax.tyRef (Syntax.named 0) Syntax.imm (Memory.pointee (T.the-row .written)); ref = λ x. x }, (record { pos = 4; ty = Syntax.tyRef (Syntax.named 1) Syntax.imm (Syntax.tyInt Syntax.w16); ref = λ x. x }, (record { pos = 5; ty = Syntax.tyRef (Syntax.named 2) Syntax.imm (Syntax.tyInt Syntax.w16); ref = λ x. x }, tt)))) 7 (List._∷_ 0 (List._∷_ 1 (List._∷_ 2 List.[]))) Syntax.tyBool
 
-  abbrev s7 : Typed.Gives T7 T9
-  s7 = Share.k-arr-share (Referent.rtF (Referent.fInt Syntax.w8)) T7 7 9 5 3 ty·5 λ x. x
+  abbrev s6 : Typed.Both T7 T8
+  s6 = Call.callB ps·1 r·1 (claims· .2) (claims· .3) T7 (record { pos = 2; st = List.[]; d = 0; at = λ x. x }, (record { pos = 3; ty = Syntax.tyRef (Syntax.named 0) Syntax.imm (Memory.pointee (T.the-row .written)); ref = λ x. x }, (record { pos = 4; ty = Syntax.tyRef (Syntax.named 1) Syntax.imm (Syntax.tyInt Syntax.w16); ref = λ x. x }, (record { pos = 5; ty = Syntax.tyRef (Syntax.named 2) Syntax.imm (Syntax.tyInt Syntax.w16); ref = λ x. x }, tt)))) 8 (List._∷_ 0 (List._∷_ 1 (List._∷_ 2 List.[]))) Syntax.tyBool
 
-  abbrev s8 : Typed.Asks T9 T10
-  s8 = Relend.k-sl-aggregate (Referent.rtF (Referent.fInt Syntax.w8)) (Relend.asShr (Referent.rtF (Referent.fInt Syntax.w8))) T9 9 10 3 ty·5 ty·1 (λ x. x) (Scalar.oInt Syntax.w64 5)
+  abbrev s8 : Typed.Gives T8 T10
+  s8 = Share.k-arr-share (Referent.rtF (Referent.fInt Syntax.w8)) T8 9 11 5 4 ty·6 λ x. x
 
-  abbrev s9 : Typed.Both T10 T11
-  s9 = Call.callB ps·2 r·2 (claims· .4) (claims· .5) T10 (Num.vLit 1, (record { pos = 10; ty = Syntax.tyRef Syntax.erased Syntax.imm (Syntax.tyInt Syntax.w8); ref = λ x. x }, tt)) 8 (List._∷_ 3 List.[]) Syntax.tyBool
+  abbrev s9 : Typed.Asks T10 T11
+  s9 = Relend.k-sl-aggregate (Referent.rtF (Referent.fInt Syntax.w8)) (Relend.asShr (Referent.rtF (Referent.fInt Syntax.w8))) T10 11 12 4 ty·6 ty·1 (λ x. x) (Scalar.oInt Syntax.w64 5)
 
-  abbrev s10 : Typed.Mo T11 → Typed.Mo T12
-  s10 = Scalar.n-room T11 10 ty·6
+  abbrev s10 : Typed.Both T11 T12
+  s10 = Call.callB ps·2 r·2 (claims· .4) (claims· .5) T11 (Num.vLit 1, (record { pos = 12; ty = Syntax.tyRef Syntax.erased Syntax.imm (Syntax.tyInt Syntax.w8); ref = λ x. x }, tt)) 10 (List._∷_ 4 List.[]) Syntax.tyBool
 
   abbrev s11 : Typed.Mo T12 → Typed.Mo T13
-  s11 = Scalar.n-room T12 8 Syntax.tyBool
+  s11 = Scalar.n-room T12 12 ty·7
 
-  abbrev s13 : Typed.Mo T13 → Typed.Mo T15
-  s13 = Share.n-back-arr-shr (Referent.rtF (Referent.fInt Syntax.w8)) T13 7 5 3 λ x. x
+  abbrev s12 : Typed.Mo T13 → Typed.Mo T14
+  s12 = Scalar.n-room T13 10 Syntax.tyBool
 
-  abbrev s15 : Typed.Mo T15 → Typed.Mo T17
-  s15 = Scalar.n-room T15 7 ty·0
+  abbrev s14 : Typed.Mo T14 → Typed.Mo T16
+  s14 = Share.n-back-arr-shr (Referent.rtF (Referent.fInt Syntax.w8)) T14 9 5 4 λ x. x
 
-  abbrev s16 : Typed.Both T17 T18
-  s16 = Call.callB ps·3 r·3 (claims· .6) (claims· .7) T17 (Bool.bAt 5 λ x. x, (Bool.bAt 6 λ x. x, tt)) 11 List.[] Syntax.tyUnit
+  abbrev s16 : Typed.Mo T16 → Typed.Mo T18
+  s16 = Scalar.n-room T16 9 ty·0
 
-  abbrev s17 : Typed.Mo T18 → Typed.Mo T19
-  s17 = Scalar.n-room T18 11 Syntax.tyUnit
+  abbrev s17 : Typed.Both T18 T19
+  s17 = Call.callB ps·3 r·3 (claims· .6) (claims· .7) T18 (Bool.bAt 7 λ x. x, (Bool.bAt 8 λ x. x, tt)) 13 List.[] Syntax.tyUnit
 
-  abbrev s18 : Typed.Both T19 T20
-  s18 = Call.callB ps·4 r·4 (claims· .8) (claims· .9) T19 (record { pos = 1; st = List.[]; d = 0; at = λ x. x }, (record { pos = 2; ty = Syntax.tyRef (Syntax.named 0) Syntax.imm (Memory.pointee (T.the-row .written)); ref = λ x. x }, (record { pos = 3; ty = Syntax.tyRef (Syntax.named 1) Syntax.imm (Syntax.tyInt Syntax.w16); ref = λ x. x }, (record { pos = 4; ty = Syntax.tyRef (Syntax.named 2) Syntax.imm (Syntax.tyInt Syntax.w16); ref = λ x. x }, (Num.vLit 0, (Num.vLit 0, (Num.vBig 1024, tt))))))) 11 (List._∷_ 0 (List._∷_ 1 (List._∷_ 2 List.[]))) Syntax.tyUnit
+  abbrev s18 : Typed.Mo T19 → Typed.Mo T20
+  s18 = Scalar.n-room T19 13 Syntax.tyUnit
 
-  abbrev s19 : Typed.Mo T20 → Typed.Mo T21
-  s19 = Scalar.n-room T20 1 ty·7
+  abbrev s19 : Typed.Both T20 T21
+  s19 = Call.callB ps·4 r·4 (claims· .8) (claims· .9) T20 (record { pos = 2; st = List.[]; d = 0; at = λ x. x }, (record { pos = 3; ty = Syntax.tyRef (Syntax.named 0) Syntax.imm (Memory.pointee (T.the-row .written)); ref = λ x. x }, (record { pos = 4; ty = Syntax.tyRef (Syntax.named 1) Syntax.imm (Syntax.tyInt Syntax.w16); ref = λ x. x }, (record { pos = 5; ty = Syntax.tyRef (Syntax.named 2) Syntax.imm (Syntax.tyInt Syntax.w16); ref = λ x. x }, (Num.vLit 0, (Num.vLit 0, (Num.vBig 1024, tt))))))) 13 (List._∷_ 0 (List._∷_ 1 (List._∷_ 2 List.[]))) Syntax.tyUnit
 
   abbrev s20 : Typed.Mo T21 → Typed.Mo T22
-  s20 = Scalar.n-room T21 11 Syntax.tyUnit
+  s20 = Scalar.n-room T21 13 Syntax.tyUnit
 
-  abbrev s21 : Typed.Mo T22 → Typed.Mo T23
-  s21 = Scalar.n-use T22 Scalar.oUnit 0 (Rows'.sc-here Row.sUnit) (Row.sUnit .of)
+  abbrev s21 : Typed.Both T22 T23
+  s21 = Call.callB ps·5 r·5 (claims· .10) (claims· .11) T22 (Num.vAt 1 λ x. x, (record { pos = 2; st = List.[]; d = 0; at = λ x. x }, (record { pos = 3; ty = Syntax.tyRef (Syntax.named 0) Syntax.imm (Memory.pointee (T.the-row .written)); ref = λ x. x }, (record { pos = 4; ty = Syntax.tyRef (Syntax.named 1) Syntax.imm (Syntax.tyInt Syntax.w16); ref = λ x. x }, (record { pos = 5; ty = Syntax.tyRef (Syntax.named 2) Syntax.imm (Syntax.tyInt Syntax.w16); ref = λ x. x }, (record { pos = 6; ty = Syntax.tyRef (Syntax.named 3) Syntax.imm (Syntax.tyInt Syntax.w16); ref = λ x. x }, tt)))))) 13 (List._∷_ 0 (List._∷_ 1 (List._∷_ 2 (List._∷_ 3 List.[])))) Syntax.tyUnit
 
   abbrev s22 : Typed.Mo T23 → Typed.Mo T24
-  s22 = Scalar.n-room T23 5 Syntax.tyBool
+  s22 = Scalar.n-room T23 2 ty·8
 
   abbrev s23 : Typed.Mo T24 → Typed.Mo T25
-  s23 = Scalar.n-room T24 6 Syntax.tyBool
+  s23 = Scalar.n-room T24 13 Syntax.tyUnit
 
-  module _ (Pre· : (κs : Lifetimes.Lfts 3) → Kinds.Dens κs ps → Type 0) (Post· : (κs : Lifetimes.Lfts 3) → (a : Kinds.Dens κs ps) → Kinds.Plain 3 ps r κs) where
+  abbrev s24 : Typed.Mo T25 → Typed.Mo T26
+  s24 = Scalar.n-use T25 Scalar.oUnit 0 (Rows'.sc-here Row.sUnit) (Row.sUnit .of)
+
+  abbrev s25 : Typed.Mo T26 → Typed.Mo T27
+  s25 = Scalar.n-room T26 7 Syntax.tyBool
+
+  abbrev s26 : Typed.Mo T27 → Typed.Mo T28
+  s26 = Scalar.n-room T27 8 Syntax.tyBool
+
+  abbrev s27 : Typed.Mo T28 → Typed.Mo T29
+  s27 = Scalar.n-room T28 1 (Syntax.tyInt Syntax.w64)
+
+  module _ (Pre· : (κs : Lifetimes.Lfts 4) → Kinds.Dens κs ps → Type 0) (Post· : (κs : Lifetimes.Lfts 4) → (a : Kinds.Dens κs ps) → Kinds.Plain 4 ps r κs) where
     module _ (M : Type 1) where
       abbrev pub Closed : Type 2
-      Closed = (𝓤 : URA.URA M) (H : Wp.Heap 𝓤) (A : Atoms.Atoms 𝓤) (W : Kit.Given 𝓤 H A) (𝓣 : Wp.Tables 𝓤 H) (known0 : Plain.Known 𝓤 H A W 𝓣 3 ps·0 r·0 (claims· .0) (claims· .1) "bench_plans::files::read_again") (known1 : Plain.Known 𝓤 H A W 𝓣 3 ps·1 r·1 (claims· .2) (claims· .3) "bench_plans::trims::trim_again") (known2 : Plain.Known 𝓤 H A W 𝓣 1 ps·2 r·2 (claims· .4) (claims· .5) "io::write_all") (known3 : Plain.Known 𝓤 H A W 𝓣 0 ps·3 r·3 (claims· .6) (claims· .7) "bench_plans::files::print_again") (known4 : Plain.Known 𝓤 H A W 𝓣 3 ps·4 r·4 (claims· .8) (claims· .9) "bench_plans::verdicts::ask_tables") → Statement.Triple 𝓤 (Wp.WpFn 𝓤 H (𝓣 .C) (𝓣 .Λ) (Function.fnOf 3 ps r xs m hs body)) (Function.plainOf 𝓤 H A 3 ps r Pre· Post·)
+      Closed = (𝓤 : URA.URA M) (H : Wp.Heap 𝓤) (A : Atoms.Atoms 𝓤) (W : Kit.Given 𝓤 H A) (𝓣 : Wp.Tables 𝓤 H) (known0 : Plain.Known 𝓤 H A W 𝓣 3 ps·0 r·0 (claims· .0) (claims· .1) "bench_plans::files::read_again") (known1 : Plain.Known 𝓤 H A W 𝓣 3 ps·1 r·1 (claims· .2) (claims· .3) "bench_plans::trims::trim_again") (known2 : Plain.Known 𝓤 H A W 𝓣 1 ps·2 r·2 (claims· .4) (claims· .5) "io::write_all") (known3 : Plain.Known 𝓤 H A W 𝓣 0 ps·3 r·3 (claims· .6) (claims· .7) "bench_plans::files::print_again") (known4 : Plain.Known 𝓤 H A W 𝓣 3 ps·4 r·4 (claims· .8) (claims· .9) "bench_plans::verdicts::ask_tables") (known5 : Plain.Known 𝓤 H A W 𝓣 4 ps·5 r·5 (claims· .10) (claims· .11) "bench_plans::trims::carry_decided") → Statement.Triple 𝓤 (Wp.WpFn 𝓤 H (𝓣 .C) (𝓣 .Λ) (Function.fnOf 4 ps r xs m hs body)) (Function.plainOf 𝓤 H A 4 ps r Pre· Post·)
 
     module _ where
-      abbrev at0 : Typed.TF T25 O0
+      abbrev at0 : Typed.TF T29 O0
       at0 = Typed.atRet O0
 
-      abbrev at1 : Typed.TF T24 O0
-      at1 = λ Ψ. Typed.pass T24 T25 s23 (at0 Ψ)
+      abbrev at1 : Typed.TF T28 O0
+      at1 = λ Ψ. Typed.pass T28 T29 s27 (at0 Ψ)
 
-      abbrev at2 : Typed.TF T23 O0
-      at2 = λ Ψ. Typed.pass T23 T24 s22 (at1 Ψ)
+      abbrev at2 : Typed.TF T27 O0
+      at2 = λ Ψ. Typed.pass T27 T28 s26 (at1 Ψ)
 
-      abbrev at3 : Typed.TF T22 O0
-      at3 = λ Ψ. Typed.pass T22 T23 s21 (at2 Ψ)
+      abbrev at3 : Typed.TF T26 O0
+      at3 = λ Ψ. Typed.pass T26 T27 s25 (at2 Ψ)
 
-      abbrev at4 : Typed.TF T21 O0
-      at4 = λ Ψ. Typed.pass T21 T22 s20 (at3 Ψ)
+      abbrev at4 : Typed.TF T25 O0
+      at4 = λ Ψ. Typed.pass T25 T26 s24 (at3 Ψ)
 
-      abbrev at5 : Typed.TF T20 O0
-      at5 = λ Ψ. Typed.pass T20 T21 s19 (at4 Ψ)
+      abbrev at5 : Typed.TF T24 O0
+      at5 = λ Ψ. Typed.pass T24 T25 s23 (at4 Ψ)
 
-      abbrev at6 : Typed.TF T19 O0
-      at6 = λ Ψ. Typed.both s18 (at5 Ψ)
+      abbrev at6 : Typed.TF T23 O0
+      at6 = λ Ψ. Typed.pass T23 T24 s22 (at5 Ψ)
 
-      abbrev at7 : Typed.TF T18 O0
-      at7 = λ Ψ. Typed.pass T18 T19 s17 (at6 Ψ)
+      abbrev at7 : Typed.TF T22 O0
+      at7 = λ Ψ. Typed.both s21 (at6 Ψ)
 
-      abbrev at8 : Typed.TF T17 O0
-      at8 = λ Ψ. Typed.both s16 (at7 Ψ)
+      abbrev at8 : Typed.TF T21 O0
+      at8 = λ Ψ. Typed.pass T21 T22 s20 (at7 Ψ)
 
-      abbrev at9 : Typed.TF T15 O0
-      at9 = λ Ψ. Typed.pass T15 T17 s15 (at8 Ψ)
+      abbrev at9 : Typed.TF T20 O0
+      at9 = λ Ψ. Typed.both s19 (at8 Ψ)
 
-      abbrev at10 : Typed.TF T15 O0
-      at10 = λ Ψ. at9 Ψ
+      abbrev at10 : Typed.TF T19 O0
+      at10 = λ Ψ. Typed.pass T19 T20 s18 (at9 Ψ)
 
-      abbrev at11 : Typed.TF T13 O0
-      at11 = λ Ψ. Typed.pass T13 T15 s13 (at10 Ψ)
+      abbrev at11 : Typed.TF T18 O0
+      at11 = λ Ψ. Typed.both s17 (at10 Ψ)
 
-      abbrev at12 : Typed.TF T13 O0
-      at12 = λ Ψ. at11 Ψ
+      abbrev at12 : Typed.TF T16 O0
+      at12 = λ Ψ. Typed.pass T16 T18 s16 (at11 Ψ)
 
-      abbrev at13 : Typed.TF T12 O0
-      at13 = λ Ψ. Typed.pass T12 T13 s11 (at12 Ψ)
+      abbrev at13 : Typed.TF T16 O0
+      at13 = λ Ψ. at12 Ψ
 
-      abbrev at14 : Typed.TF T11 O0
-      at14 = λ Ψ. Typed.pass T11 T12 s10 (at13 Ψ)
+      abbrev at14 : Typed.TF T14 O0
+      at14 = λ Ψ. Typed.pass T14 T16 s14 (at13 Ψ)
 
-      abbrev at15 : Typed.TF T10 O0
-      at15 = λ Ψ. Typed.both s9 (at14 Ψ)
+      abbrev at15 : Typed.TF T14 O0
+      at15 = λ Ψ. at14 Ψ
 
-      abbrev at16 : Typed.TF T9 O0
-      at16 = λ Ψ. Typed.ask s8 (at15 Ψ)
+      abbrev at16 : Typed.TF T13 O0
+      at16 = λ Ψ. Typed.pass T13 T14 s12 (at15 Ψ)
 
-      abbrev at17 : Typed.TF T7 O0
-      at17 = λ Ψ. Typed.give s7 (at16 Ψ)
+      abbrev at17 : Typed.TF T12 O0
+      at17 = λ Ψ. Typed.pass T12 T13 s11 (at16 Ψ)
 
-      abbrev at18 : Typed.TF T7 O0
-      at18 = λ Ψ. at17 Ψ
+      abbrev at18 : Typed.TF T11 O0
+      at18 = λ Ψ. Typed.both s10 (at17 Ψ)
 
-      abbrev at19 : Typed.TF T6 O0
-      at19 = λ Ψ. Typed.both s5 (at18 Ψ)
+      abbrev at19 : Typed.TF T10 O0
+      at19 = λ Ψ. Typed.ask s9 (at18 Ψ)
 
-      abbrev at20 : Typed.TF T5 O0
-      at20 = λ Ψ. Typed.both s4 (at19 Ψ)
+      abbrev at20 : Typed.TF T8 O0
+      at20 = λ Ψ. Typed.give s8 (at19 Ψ)
 
-      abbrev at21 : Typed.TF T4 O0
-      at21 = λ Ψ. Typed.pass T4 T5 s3 (at20 Ψ)
+      abbrev at21 : Typed.TF T8 O0
+      at21 = λ Ψ. at20 Ψ
 
-      abbrev at22 : Typed.TF T3 O0
-      at22 = λ Ψ. Typed.pass T3 T4 s2 (at21 Ψ)
+      abbrev at22 : Typed.TF T7 O0
+      at22 = λ Ψ. Typed.both s6 (at21 Ψ)
 
-      abbrev at23 : Typed.TF T2 O0
-      at23 = λ Ψ. Typed.give s1 (at22 Ψ)
+      abbrev at23 : Typed.TF T6 O0
+      at23 = λ Ψ. Typed.both s5 (at22 Ψ)
 
-      abbrev at24 : Typed.TF T0 O0
-      at24 = λ Ψ. Typed.give s0 (at23 Ψ)
+      abbrev at24 : Typed.TF T5 O0
+      at24 = λ Ψ. Typed.pass T5 T6 s4 (at23 Ψ)
+
+      abbrev at25 : Typed.TF T4 O0
+      at25 = λ Ψ. Typed.pass T4 T5 s3 (at24 Ψ)
+
+      abbrev at26 : Typed.TF T3 O0
+      at26 = λ Ψ. Typed.give s2 (at25 Ψ)
+
+      abbrev at27 : Typed.TF T2 O0
+      at27 = λ Ψ. Typed.give s1 (at26 Ψ)
+
+      abbrev at28 : Typed.TF T0 O0
+      at28 = λ Ψ. Typed.give s0 (at27 Ψ)
 
       abbrev pub Φ : Typed.TF T0 O0
-      Φ = at24
+      Φ = at28
 
       module _ {M : Type 1} (𝓤 : URA.URA M) (H : Wp.Heap 𝓤) (A : Atoms.Atoms 𝓤) (W : Kit.Given 𝓤 H A) (𝓣 : Wp.Tables 𝓤 H) where
         abbrev Knowns : Type 1
-        Knowns = Plain.Known 𝓤 H A W 𝓣 3 ps·0 r·0 (claims· .0) (claims· .1) "bench_plans::files::read_again" × Plain.Known 𝓤 H A W 𝓣 3 ps·1 r·1 (claims· .2) (claims· .3) "bench_plans::trims::trim_again" × Plain.Known 𝓤 H A W 𝓣 1 ps·2 r·2 (claims· .4) (claims· .5) "io::write_all" × Plain.Known 𝓤 H A W 𝓣 0 ps·3 r·3 (claims· .6) (claims· .7) "bench_plans::files::print_again" × Plain.Known 𝓤 H A W 𝓣 3 ps·4 r·4 (claims· .8) (claims· .9) "bench_plans::verdicts::ask_tables"
+        Knowns = Plain.Known 𝓤 H A W 𝓣 3 ps·0 r·0 (claims· .0) (claims· .1) "bench_plans::files::read_again" × Plain.Known 𝓤 H A W 𝓣 3 ps·1 r·1 (claims· .2) (claims· .3) "bench_plans::trims::trim_again" × Plain.Known 𝓤 H A W 𝓣 1 ps·2 r·2 (claims· .4) (claims· .5) "io::write_all" × Plain.Known 𝓤 H A W 𝓣 0 ps·3 r·3 (claims· .6) (claims· .7) "bench_plans::files::print_again" × Plain.Known 𝓤 H A W 𝓣 3 ps·4 r·4 (claims· .8) (claims· .9) "bench_plans::verdicts::ask_tables" × Plain.Known 𝓤 H A W 𝓣 4 ps·5 r·5 (claims· .10) (claims· .11) "bench_plans::trims::carry_decided"
 
-      module _ (κs : Lifetimes.Lfts 3) (qs : Lifetimes.Shares 3) where
+      module _ (κs : Lifetimes.Lfts 4) (qs : Lifetimes.Shares 4) where
         abbrev G0 : Row.Cx
-        G0 = record { locals = t0; slots = List._∷_ (Row.lease (κs .0) (qs .0)) (List._∷_ (Row.lease (κs .1 .0) (qs .1 .0)) (List._∷_ (Row.lease (κs .1 .1 .0) (qs .1 .1 .0)) (List._∷_ Row.off List.[]))) }
+        G0 = record { locals = t0; slots = List._∷_ (Row.lease (κs .0) (qs .0)) (List._∷_ (Row.lease (κs .1 .0) (qs .1 .0)) (List._∷_ (Row.lease (κs .1 .1 .0) (qs .1 .1 .0)) (List._∷_ (Row.lease (κs .1 .1 .1 .0) (qs .1 .1 .1 .0)) (List._∷_ Row.off List.[])))) }
 
         abbrev G1 : Row.Cx
-        G1 = record { locals = t1; slots = List._∷_ (Row.lease (κs .0) (qs .0)) (List._∷_ (Row.lease (κs .1 .0) (qs .1 .0)) (List._∷_ (Row.lease (κs .1 .1 .0) (qs .1 .1 .0)) (List._∷_ Row.off List.[]))) }
+        G1 = record { locals = t1; slots = List._∷_ (Row.lease (κs .0) (qs .0)) (List._∷_ (Row.lease (κs .1 .0) (qs .1 .0)) (List._∷_ (Row.lease (κs .1 .1 .0) (qs .1 .1 .0)) (List._∷_ (Row.lease (κs .1 .1 .1 .0) (qs .1 .1 .1 .0)) (List._∷_ Row.off List.[])))) }
 
         abbrev G2 : Row.Cx
-        G2 = record { locals = t0; slots = List._∷_ (Row.lease (κs .0) (qs .0)) (List._∷_ (Row.lease (κs .1 .0) (qs .1 .0)) (List._∷_ (Row.lease (κs .1 .1 .0) (qs .1 .1 .0)) (List._∷_ Row.off List.[]))) }
+        G2 = record { locals = t0; slots = List._∷_ (Row.lease (κs .0) (qs .0)) (List._∷_ (Row.lease (κs .1 .0) (qs .1 .0)) (List._∷_ (Row.lease (κs .1 .1 .0) (qs .1 .1 .0)) (List._∷_ (Row.lease (κs .1 .1 .1 .0) (qs .1 .1 .1 .0)) (List._∷_ Row.off List.[])))) }
 
         abbrev G3 : Row.Cx
-        G3 = record { locals = t0; slots = List._∷_ (Row.lease (κs .0) (qs .0)) (List._∷_ (Row.lease (κs .1 .0) (qs .1 .0)) (List._∷_ (Row.lease (κs .1 .1 .0) (qs .1 .1 .0)) (List._∷_ Row.off List.[]))) }
+        G3 = record { locals = t0; slots = List._∷_ (Row.lease (κs .0) (qs .0)) (List._∷_ (Row.lease (κs .1 .0) (qs .1 .0)) (List._∷_ (Row.lease (κs .1 .1 .0) (qs .1 .1 .0)) (List._∷_ (Row.lease (κs .1 .1 .1 .0) (qs .1 .1 .1 .0)) (List._∷_ Row.off List.[])))) }
 
         abbrev G4 : Row.Cx
-        G4 = record { locals = t2; slots = List._∷_ (Row.lease (κs .0) (qs .0)) (List._∷_ (Row.lease (κs .1 .0) (qs .1 .0)) (List._∷_ (Row.lease (κs .1 .1 .0) (qs .1 .1 .0)) (List._∷_ Row.off List.[]))) }
+        G4 = record { locals = t0; slots = List._∷_ (Row.lease (κs .0) (qs .0)) (List._∷_ (Row.lease (κs .1 .0) (qs .1 .0)) (List._∷_ (Row.lease (κs .1 .1 .0) (qs .1 .1 .0)) (List._∷_ (Row.lease (κs .1 .1 .1 .0) (qs .1 .1 .1 .0)) (List._∷_ Row.off List.[])))) }
 
         abbrev G5 : Row.Cx
-        G5 = record { locals = t3; slots = List._∷_ (Row.lease (κs .0) (qs .0)) (List._∷_ (Row.lease (κs .1 .0) (qs .1 .0)) (List._∷_ (Row.lease (κs .1 .1 .0) (qs .1 .1 .0)) (List._∷_ Row.off List.[]))) }
+        G5 = record { locals = t2; slots = List._∷_ (Row.lease (κs .0) (qs .0)) (List._∷_ (Row.lease (κs .1 .0) (qs .1 .0)) (List._∷_ (Row.lease (κs .1 .1 .0) (qs .1 .1 .0)) (List._∷_ (Row.lease (κs .1 .1 .1 .0) (qs .1 .1 .1 .0)) (List._∷_ Row.off List.[])))) }
 
         abbrev G6 : Row.Cx
-        G6 = record { locals = t4; slots = List._∷_ (Row.lease (κs .0) (qs .0)) (List._∷_ (Row.lease (κs .1 .0) (qs .1 .0)) (List._∷_ (Row.lease (κs .1 .1 .0) (qs .1 .1 .0)) (List._∷_ Row.off List.[]))) }
+        G6 = record { locals = t3; slots = List._∷_ (Row.lease (κs .0) (qs .0)) (List._∷_ (Row.lease (κs .1 .0) (qs .1 .0)) (List._∷_ (Row.lease (κs .1 .1 .0) (qs .1 .1 .0)) (List._∷_ (Row.lease (κs .1 .1 .1 .0) (qs .1 .1 .1 .0)) (List._∷_ Row.off List.[])))) }
 
         abbrev G7 : Row.Cx
-        G7 = record { locals = t5; slots = List._∷_ (Row.lease (κs .0) (qs .0)) (List._∷_ (Row.lease (κs .1 .0) (qs .1 .0)) (List._∷_ (Row.lease (κs .1 .1 .0) (qs .1 .1 .0)) (List._∷_ Row.off List.[]))) }
+        G7 = record { locals = t4; slots = List._∷_ (Row.lease (κs .0) (qs .0)) (List._∷_ (Row.lease (κs .1 .0) (qs .1 .0)) (List._∷_ (Row.lease (κs .1 .1 .0) (qs .1 .1 .0)) (List._∷_ (Row.lease (κs .1 .1 .1 .0) (qs .1 .1 .1 .0)) (List._∷_ Row.off List.[])))) }
 
         abbrev G8 : Row.Cx
-        G8 = record { locals = t5; slots = List._∷_ (Row.lease (κs .0) (qs .0)) (List._∷_ (Row.lease (κs .1 .0) (qs .1 .0)) (List._∷_ (Row.lease (κs .1 .1 .0) (qs .1 .1 .0)) (List._∷_ Row.alive List.[]))) }
+        G8 = record { locals = t5; slots = List._∷_ (Row.lease (κs .0) (qs .0)) (List._∷_ (Row.lease (κs .1 .0) (qs .1 .0)) (List._∷_ (Row.lease (κs .1 .1 .0) (qs .1 .1 .0)) (List._∷_ (Row.lease (κs .1 .1 .1 .0) (qs .1 .1 .1 .0)) (List._∷_ Row.off List.[])))) }
 
         abbrev G9 : Row.Cx
-        G9 = record { locals = t6; slots = List._∷_ (Row.lease (κs .0) (qs .0)) (List._∷_ (Row.lease (κs .1 .0) (qs .1 .0)) (List._∷_ (Row.lease (κs .1 .1 .0) (qs .1 .1 .0)) (List._∷_ Row.alive List.[]))) }
+        G9 = record { locals = t5; slots = List._∷_ (Row.lease (κs .0) (qs .0)) (List._∷_ (Row.lease (κs .1 .0) (qs .1 .0)) (List._∷_ (Row.lease (κs .1 .1 .0) (qs .1 .1 .0)) (List._∷_ (Row.lease (κs .1 .1 .1 .0) (qs .1 .1 .1 .0)) (List._∷_ Row.alive List.[])))) }
 
         abbrev G10 : Row.Cx
-        G10 = record { locals = t7; slots = List._∷_ (Row.lease (κs .0) (qs .0)) (List._∷_ (Row.lease (κs .1 .0) (qs .1 .0)) (List._∷_ (Row.lease (κs .1 .1 .0) (qs .1 .1 .0)) (List._∷_ Row.alive List.[]))) }
+        G10 = record { locals = t6; slots = List._∷_ (Row.lease (κs .0) (qs .0)) (List._∷_ (Row.lease (κs .1 .0) (qs .1 .0)) (List._∷_ (Row.lease (κs .1 .1 .0) (qs .1 .1 .0)) (List._∷_ (Row.lease (κs .1 .1 .1 .0) (qs .1 .1 .1 .0)) (List._∷_ Row.alive List.[])))) }
 
         abbrev G11 : Row.Cx
-        G11 = record { locals = t8; slots = List._∷_ (Row.lease (κs .0) (qs .0)) (List._∷_ (Row.lease (κs .1 .0) (qs .1 .0)) (List._∷_ (Row.lease (κs .1 .1 .0) (qs .1 .1 .0)) (List._∷_ Row.alive List.[]))) }
+        G11 = record { locals = t7; slots = List._∷_ (Row.lease (κs .0) (qs .0)) (List._∷_ (Row.lease (κs .1 .0) (qs .1 .0)) (List._∷_ (Row.lease (κs .1 .1 .0) (qs .1 .1 .0)) (List._∷_ (Row.lease (κs .1 .1 .1 .0) (qs .1 .1 .1 .0)) (List._∷_ Row.alive List.[])))) }
 
         abbrev G12 : Row.Cx
-        G12 = record { locals = t9; slots = List._∷_ (Row.lease (κs .0) (qs .0)) (List._∷_ (Row.lease (κs .1 .0) (qs .1 .0)) (List._∷_ (Row.lease (κs .1 .1 .0) (qs .1 .1 .0)) (List._∷_ Row.alive List.[]))) }
+        G12 = record { locals = t8; slots = List._∷_ (Row.lease (κs .0) (qs .0)) (List._∷_ (Row.lease (κs .1 .0) (qs .1 .0)) (List._∷_ (Row.lease (κs .1 .1 .0) (qs .1 .1 .0)) (List._∷_ (Row.lease (κs .1 .1 .1 .0) (qs .1 .1 .1 .0)) (List._∷_ Row.alive List.[])))) }
 
         abbrev G13 : Row.Cx
-        G13 = record { locals = t10; slots = List._∷_ (Row.lease (κs .0) (qs .0)) (List._∷_ (Row.lease (κs .1 .0) (qs .1 .0)) (List._∷_ (Row.lease (κs .1 .1 .0) (qs .1 .1 .0)) (List._∷_ Row.alive List.[]))) }
+        G13 = record { locals = t9; slots = List._∷_ (Row.lease (κs .0) (qs .0)) (List._∷_ (Row.lease (κs .1 .0) (qs .1 .0)) (List._∷_ (Row.lease (κs .1 .1 .0) (qs .1 .1 .0)) (List._∷_ (Row.lease (κs .1 .1 .1 .0) (qs .1 .1 .1 .0)) (List._∷_ Row.alive List.[])))) }
 
         abbrev G14 : Row.Cx
-        G14 = record { locals = t10; slots = List._∷_ (Row.lease (κs .0) (qs .0)) (List._∷_ (Row.lease (κs .1 .0) (qs .1 .0)) (List._∷_ (Row.lease (κs .1 .1 .0) (qs .1 .1 .0)) (List._∷_ Row.dead List.[]))) }
+        G14 = record { locals = t10; slots = List._∷_ (Row.lease (κs .0) (qs .0)) (List._∷_ (Row.lease (κs .1 .0) (qs .1 .0)) (List._∷_ (Row.lease (κs .1 .1 .0) (qs .1 .1 .0)) (List._∷_ (Row.lease (κs .1 .1 .1 .0) (qs .1 .1 .1 .0)) (List._∷_ Row.alive List.[])))) }
 
         abbrev G15 : Row.Cx
-        G15 = record { locals = t5; slots = List._∷_ (Row.lease (κs .0) (qs .0)) (List._∷_ (Row.lease (κs .1 .0) (qs .1 .0)) (List._∷_ (Row.lease (κs .1 .1 .0) (qs .1 .1 .0)) (List._∷_ Row.dead List.[]))) }
+        G15 = record { locals = t10; slots = List._∷_ (Row.lease (κs .0) (qs .0)) (List._∷_ (Row.lease (κs .1 .0) (qs .1 .0)) (List._∷_ (Row.lease (κs .1 .1 .0) (qs .1 .1 .0)) (List._∷_ (Row.lease (κs .1 .1 .1 .0) (qs .1 .1 .1 .0)) (List._∷_ Row.dead List.[])))) }
 
         abbrev G16 : Row.Cx
-        G16 = record { locals = t5; slots = List._∷_ (Row.lease (κs .0) (qs .0)) (List._∷_ (Row.lease (κs .1 .0) (qs .1 .0)) (List._∷_ (Row.lease (κs .1 .1 .0) (qs .1 .1 .0)) (List._∷_ Row.off List.[]))) }
+        G16 = record { locals = t5; slots = List._∷_ (Row.lease (κs .0) (qs .0)) (List._∷_ (Row.lease (κs .1 .0) (qs .1 .0)) (List._∷_ (Row.lease (κs .1 .1 .0) (qs .1 .1 .0)) (List._∷_ (Row.lease (κs .1 .1 .1 .0) (qs .1 .1 .1 .0)) (List._∷_ Row.dead List.[])))) }
 
         abbrev G17 : Row.Cx
-        G17 = record { locals = t11; slots = List._∷_ (Row.lease (κs .0) (qs .0)) (List._∷_ (Row.lease (κs .1 .0) (qs .1 .0)) (List._∷_ (Row.lease (κs .1 .1 .0) (qs .1 .1 .0)) (List._∷_ Row.off List.[]))) }
+        G17 = record { locals = t5; slots = List._∷_ (Row.lease (κs .0) (qs .0)) (List._∷_ (Row.lease (κs .1 .0) (qs .1 .0)) (List._∷_ (Row.lease (κs .1 .1 .0) (qs .1 .1 .0)) (List._∷_ (Row.lease (κs .1 .1 .1 .0) (qs .1 .1 .1 .0)) (List._∷_ Row.off List.[])))) }
 
         abbrev G18 : Row.Cx
-        G18 = record { locals = t12; slots = List._∷_ (Row.lease (κs .0) (qs .0)) (List._∷_ (Row.lease (κs .1 .0) (qs .1 .0)) (List._∷_ (Row.lease (κs .1 .1 .0) (qs .1 .1 .0)) (List._∷_ Row.off List.[]))) }
+        G18 = record { locals = t11; slots = List._∷_ (Row.lease (κs .0) (qs .0)) (List._∷_ (Row.lease (κs .1 .0) (qs .1 .0)) (List._∷_ (Row.lease (κs .1 .1 .0) (qs .1 .1 .0)) (List._∷_ (Row.lease (κs .1 .1 .1 .0) (qs .1 .1 .1 .0)) (List._∷_ Row.off List.[])))) }
 
         abbrev G19 : Row.Cx
-        G19 = record { locals = t11; slots = List._∷_ (Row.lease (κs .0) (qs .0)) (List._∷_ (Row.lease (κs .1 .0) (qs .1 .0)) (List._∷_ (Row.lease (κs .1 .1 .0) (qs .1 .1 .0)) (List._∷_ Row.off List.[]))) }
+        G19 = record { locals = t12; slots = List._∷_ (Row.lease (κs .0) (qs .0)) (List._∷_ (Row.lease (κs .1 .0) (qs .1 .0)) (List._∷_ (Row.lease (κs .1 .1 .0) (qs .1 .1 .0)) (List._∷_ (Row.lease (κs .1 .1 .1 .0) (qs .1 .1 .1 .0)) (List._∷_ Row.off List.[])))) }
 
         abbrev G20 : Row.Cx
-        G20 = record { locals = t12; slots = List._∷_ (Row.lease (κs .0) (qs .0)) (List._∷_ (Row.lease (κs .1 .0) (qs .1 .0)) (List._∷_ (Row.lease (κs .1 .1 .0) (qs .1 .1 .0)) (List._∷_ Row.off List.[]))) }
+        G20 = record { locals = t11; slots = List._∷_ (Row.lease (κs .0) (qs .0)) (List._∷_ (Row.lease (κs .1 .0) (qs .1 .0)) (List._∷_ (Row.lease (κs .1 .1 .0) (qs .1 .1 .0)) (List._∷_ (Row.lease (κs .1 .1 .1 .0) (qs .1 .1 .1 .0)) (List._∷_ Row.off List.[])))) }
 
         abbrev G21 : Row.Cx
-        G21 = record { locals = t13; slots = List._∷_ (Row.lease (κs .0) (qs .0)) (List._∷_ (Row.lease (κs .1 .0) (qs .1 .0)) (List._∷_ (Row.lease (κs .1 .1 .0) (qs .1 .1 .0)) (List._∷_ Row.off List.[]))) }
+        G21 = record { locals = t12; slots = List._∷_ (Row.lease (κs .0) (qs .0)) (List._∷_ (Row.lease (κs .1 .0) (qs .1 .0)) (List._∷_ (Row.lease (κs .1 .1 .0) (qs .1 .1 .0)) (List._∷_ (Row.lease (κs .1 .1 .1 .0) (qs .1 .1 .1 .0)) (List._∷_ Row.off List.[])))) }
 
         abbrev G22 : Row.Cx
-        G22 = record { locals = t14; slots = List._∷_ (Row.lease (κs .0) (qs .0)) (List._∷_ (Row.lease (κs .1 .0) (qs .1 .0)) (List._∷_ (Row.lease (κs .1 .1 .0) (qs .1 .1 .0)) (List._∷_ Row.off List.[]))) }
+        G22 = record { locals = t11; slots = List._∷_ (Row.lease (κs .0) (qs .0)) (List._∷_ (Row.lease (κs .1 .0) (qs .1 .0)) (List._∷_ (Row.lease (κs .1 .1 .0) (qs .1 .1 .0)) (List._∷_ (Row.lease (κs .1 .1 .1 .0) (qs .1 .1 .1 .0)) (List._∷_ Row.off List.[])))) }
 
         abbrev G23 : Row.Cx
-        G23 = record { locals = t15; slots = List._∷_ (Row.lease (κs .0) (qs .0)) (List._∷_ (Row.lease (κs .1 .0) (qs .1 .0)) (List._∷_ (Row.lease (κs .1 .1 .0) (qs .1 .1 .0)) (List._∷_ Row.off List.[]))) }
+        G23 = record { locals = t12; slots = List._∷_ (Row.lease (κs .0) (qs .0)) (List._∷_ (Row.lease (κs .1 .0) (qs .1 .0)) (List._∷_ (Row.lease (κs .1 .1 .0) (qs .1 .1 .0)) (List._∷_ (Row.lease (κs .1 .1 .1 .0) (qs .1 .1 .1 .0)) (List._∷_ Row.off List.[])))) }
 
         abbrev G24 : Row.Cx
-        G24 = record { locals = t16; slots = List._∷_ (Row.lease (κs .0) (qs .0)) (List._∷_ (Row.lease (κs .1 .0) (qs .1 .0)) (List._∷_ (Row.lease (κs .1 .1 .0) (qs .1 .1 .0)) (List._∷_ Row.off List.[]))) }
+        G24 = record { locals = t13; slots = List._∷_ (Row.lease (κs .0) (qs .0)) (List._∷_ (Row.lease (κs .1 .0) (qs .1 .0)) (List._∷_ (Row.lease (κs .1 .1 .0) (qs .1 .1 .0)) (List._∷_ (Row.lease (κs .1 .1 .1 .0) (qs .1 .1 .1 .0)) (List._∷_ Row.off List.[])))) }
 
         abbrev G25 : Row.Cx
-        G25 = record { locals = t1; slots = List._∷_ (Row.lease (κs .0) (qs .0)) (List._∷_ (Row.lease (κs .1 .0) (qs .1 .0)) (List._∷_ (Row.lease (κs .1 .1 .0) (qs .1 .1 .0)) (List._∷_ Row.off List.[]))) }
+        G25 = record { locals = t14; slots = List._∷_ (Row.lease (κs .0) (qs .0)) (List._∷_ (Row.lease (κs .1 .0) (qs .1 .0)) (List._∷_ (Row.lease (κs .1 .1 .0) (qs .1 .1 .0)) (List._∷_ (Row.lease (κs .1 .1 .1 .0) (qs .1 .1 .1 .0)) (List._∷_ Row.off List.[])))) }
+
+        abbrev G26 : Row.Cx
+        G26 = record { locals = t15; slots = List._∷_ (Row.lease (κs .0) (qs .0)) (List._∷_ (Row.lease (κs .1 .0) (qs .1 .0)) (List._∷_ (Row.lease (κs .1 .1 .0) (qs .1 .1 .0)) (List._∷_ (Row.lease (κs .1 .1 .1 .0) (qs .1 .1 .1 .0)) (List._∷_ Row.off List.[])))) }
+
+        abbrev G27 : Row.Cx
+        G27 = record { locals = t16; slots = List._∷_ (Row.lease (κs .0) (qs .0)) (List._∷_ (Row.lease (κs .1 .0) (qs .1 .0)) (List._∷_ (Row.lease (κs .1 .1 .0) (qs .1 .1 .0)) (List._∷_ (Row.lease (κs .1 .1 .1 .0) (qs .1 .1 .1 .0)) (List._∷_ Row.off List.[])))) }
+
+        abbrev G28 : Row.Cx
+        G28 = record { locals = t17; slots = List._∷_ (Row.lease (κs .0) (qs .0)) (List._∷_ (Row.lease (κs .1 .0) (qs .1 .0)) (List._∷_ (Row.lease (κs .1 .1 .0) (qs .1 .1 .0)) (List._∷_ (Row.lease (κs .1 .1 .1 .0) (qs .1 .1 .1 .0)) (List._∷_ Row.off List.[])))) }
+
+        abbrev G29 : Row.Cx
+        G29 = record { locals = t1; slots = List._∷_ (Row.lease (κs .0) (qs .0)) (List._∷_ (Row.lease (κs .1 .0) (qs .1 .0)) (List._∷_ (Row.lease (κs .1 .1 .0) (qs .1 .1 .0)) (List._∷_ (Row.lease (κs .1 .1 .1 .0) (qs .1 .1 .1 .0)) (List._∷_ Row.off List.[])))) }
 
         abbrev Δ0 : Typed.Outs
         Δ0 = record { next = Option.none; exits = List.[]; returns = Option.some G1 }
 
-        module _ {M : Type 1} (𝓤 : URA.URA M) (H : Wp.Heap 𝓤) (A : Atoms.Atoms 𝓤) (W : Kit.Given 𝓤 H A) (𝓣 : Wp.Tables 𝓤 H) (known : Knowns 𝓤 H A W 𝓣) (bs : List.List Nat.ℕ) (bd : Lifetimes.AllOutlive 3 (Kinds.osR r) κs) where
+        module _ {M : Type 1} (𝓤 : URA.URA M) (H : Wp.Heap 𝓤) (A : Atoms.Atoms 𝓤) (W : Kit.Given 𝓤 H A) (𝓣 : Wp.Tables 𝓤 H) (known : Knowns 𝓤 H A W 𝓣) (bs : List.List Nat.ℕ) (bd : Lifetimes.AllOutlive 4 (Kinds.osR r) κs) where
           abbrev E : Wp.Env 𝓤 H
           E = Frame.EnvOf 𝓤 H (List._∷_ (Kinds.tyR r) (Enter.tysP ps xs)) bs
 
-          d0 : Typed.Typed 𝓤 H A 𝓣 E G25 b9 Δ0 at0
+          d0 : Typed.Typed 𝓤 H A 𝓣 E G29 b10 Δ0 at0
           d0 = Typed.t-return 𝓤 H A W 𝓣 E Δ0 tt
 
-          d1 : Typed.Typed 𝓤 H A 𝓣 E G24 b9 Δ0 at1
-          d1 = Typed.g-pre 𝓤 H A W 𝓣 E G24 G25 b9 Δ0 (Typed.pass T24 T25 s23) at0 (Scalar.g-room 𝓤 H A W E G24 6 Syntax.tyBool (Scalar.room-sc 𝓤 H A W Row.sBool)) d0
+          d1 : Typed.Typed 𝓤 H A 𝓣 E G28 b10 Δ0 at1
+          d1 = Typed.g-pre 𝓤 H A W 𝓣 E G28 G29 b10 Δ0 (Typed.pass T28 T29 s27) at0 (Scalar.g-room 𝓤 H A W E G28 1 (Syntax.tyInt Syntax.w64) (Scalar.room-sc 𝓤 H A W (Row.sInt Syntax.w64))) d0
 
-          d2 : Typed.Typed 𝓤 H A 𝓣 E G23 b9 Δ0 at2
-          d2 = Typed.g-pre 𝓤 H A W 𝓣 E G23 G24 b9 Δ0 (Typed.pass T23 T24 s22) at1 (Scalar.g-room 𝓤 H A W E G23 5 Syntax.tyBool (Scalar.room-sc 𝓤 H A W Row.sBool)) d1
+          d2 : Typed.Typed 𝓤 H A 𝓣 E G27 b10 Δ0 at2
+          d2 = Typed.g-pre 𝓤 H A W 𝓣 E G27 G28 b10 Δ0 (Typed.pass T27 T28 s26) at1 (Scalar.g-room 𝓤 H A W E G27 8 Syntax.tyBool (Scalar.room-sc 𝓤 H A W Row.sBool)) d1
 
-          d3 : Typed.Typed 𝓤 H A 𝓣 E G22 b10 Δ0 at3
-          d3 = Typed.s-seq 𝓤 H A W 𝓣 E G22 G23 b8 b9 Δ0 (Typed.pass T22 T23 s21) at2 (Scalar.t-use 𝓤 H A W E 𝓣 G22 Scalar.oUnit 0 (Rows'.sc-here Row.sUnit) Syntax.tyUnit (Row.valS Row.sUnit) (Row.sUnit .of) tt (Reads.room-gone 𝓤 H A Syntax.tyUnit) (Scalar.holds-sc 𝓤 H A W Row.sUnit) Path'.refl (λ u. Path'.refl) λ u. tt) d2
+          d3 : Typed.Typed 𝓤 H A 𝓣 E G26 b10 Δ0 at3
+          d3 = Typed.g-pre 𝓤 H A W 𝓣 E G26 G27 b10 Δ0 (Typed.pass T26 T27 s25) at2 (Scalar.g-room 𝓤 H A W E G26 7 Syntax.tyBool (Scalar.room-sc 𝓤 H A W Row.sBool)) d2
 
-          d4 : Typed.Typed 𝓤 H A 𝓣 E G21 b10 Δ0 at4
-          d4 = Typed.g-pre 𝓤 H A W 𝓣 E G21 G22 b10 Δ0 (Typed.pass T21 T22 s20) at3 (Scalar.g-room 𝓤 H A W E G21 11 Syntax.tyUnit (Scalar.room-sc 𝓤 H A W Row.sUnit)) d3
+          d4 : Typed.Typed 𝓤 H A 𝓣 E G25 b11 Δ0 at4
+          d4 = Typed.s-seq 𝓤 H A W 𝓣 E G25 G26 b9 b10 Δ0 (Typed.pass T25 T26 s24) at3 (Scalar.t-use 𝓤 H A W E 𝓣 G25 Scalar.oUnit 0 (Rows'.sc-here Row.sUnit) Syntax.tyUnit (Row.valS Row.sUnit) (Row.sUnit .of) tt (Reads.room-gone 𝓤 H A Syntax.tyUnit) (Scalar.holds-sc 𝓤 H A W Row.sUnit) Path'.refl (λ u. Path'.refl) λ u. tt) d3
 
-          d5 : Typed.Typed 𝓤 H A 𝓣 E G20 b10 Δ0 at5
-          d5 = Typed.g-pre 𝓤 H A W 𝓣 E G20 G21 b10 Δ0 (Typed.pass T20 T21 s19) at4 (Scalar.g-room 𝓤 H A W E G20 1 ty·7 (Local.room-whole 𝓤 H A W (Declared.row Size.the-type) ty·7 Path'.refl)) d4
+          d5 : Typed.Typed 𝓤 H A 𝓣 E G24 b11 Δ0 at5
+          d5 = Typed.g-pre 𝓤 H A W 𝓣 E G24 G25 b11 Δ0 (Typed.pass T24 T25 s23) at4 (Scalar.g-room 𝓤 H A W E G24 13 Syntax.tyUnit (Scalar.room-sc 𝓤 H A W Row.sUnit)) d4
 
-          d6 : Typed.Typed 𝓤 H A 𝓣 E G19 b11 Δ0 at6
-          d6 = Typed.s-seq 𝓤 H A W 𝓣 E G19 G20 b7 b10 Δ0 (Typed.both s18) at5 (Plain.t-call-plain 𝓤 H A W 𝓣 3 ps·4 r·4 (claims· .8) (claims· .9) "bench_plans::verdicts::ask_tables" (known .4) E (λ pos β. β) G19 (record { pos = 1; st = List.[]; d = 0; at = λ x. x }, (record { pos = 2; ty = Syntax.tyRef (Syntax.named 0) Syntax.imm (Memory.pointee (T.the-row .written)); ref = λ x. x }, (record { pos = 3; ty = Syntax.tyRef (Syntax.named 1) Syntax.imm (Syntax.tyInt Syntax.w16); ref = λ x. x }, (record { pos = 4; ty = Syntax.tyRef (Syntax.named 2) Syntax.imm (Syntax.tyInt Syntax.w16); ref = λ x. x }, (Num.vLit 0, (Num.vLit 0, (Num.vBig 1024, tt))))))) 11 (List._∷_ 0 (List._∷_ 1 (List._∷_ 2 List.[]))) (Call.sub-id 𝓤 H A W (G19 .slots)) ((Yields.yields-copy 𝓤 H A W (λ ρ. Unit) (Declared.row Size.the-type) Path'.refl (Copies.cStruct Size.the-type Laws.the-laws Laws.the-copy .copy 𝓤 H A W) (Rows'.whole (Declared.row Size.the-type)) (λ x. x) (λ x. x) (λ ρ told. Local.mem-whole 𝓤 H A W (Declared.row Size.the-type) ρ) λ ρ told. Local.whole-mem 𝓤 H A W (Declared.row Size.the-type) ρ, Path'.refl), (ShrSlice.spares-sslice 𝓤 H A W T.the-row ty·4 0, Shared.reads-sslice 𝓤 H A W T.the-row ty·4 0, Path'.refl, (ShrSlice.spares-sslice 𝓤 H A W (Referent.rtF (Referent.fInt Syntax.w16)) ty·2 1, Shared.reads-sslice 𝓤 H A W (Referent.rtF (Referent.fInt Syntax.w16)) ty·2 1, Path'.refl, (ShrSlice.spares-sslice 𝓤 H A W (Referent.rtF (Referent.fInt Syntax.w16)) ty·3 2, Shared.reads-sslice 𝓤 H A W (Referent.rtF (Referent.fInt Syntax.w16)) ty·3 2, Path'.refl, (tt, (tt, (record { lower = record { fits = Dec'.lit< tt } }, tt))))))) (Reads.room-gone 𝓤 H A Syntax.tyUnit) (tt, (tt, (tt, tt))) Path'.refl) d5
+          d6 : Typed.Typed 𝓤 H A 𝓣 E G23 b11 Δ0 at6
+          d6 = Typed.g-pre 𝓤 H A W 𝓣 E G23 G24 b11 Δ0 (Typed.pass T23 T24 s22) at5 (Scalar.g-room 𝓤 H A W E G23 2 ty·8 (Local.room-whole 𝓤 H A W (Declared.row Size.the-type) ty·8 Path'.refl)) d5
 
-          d7 : Typed.Typed 𝓤 H A 𝓣 E G18 b11 Δ0 at7
-          d7 = Typed.g-pre 𝓤 H A W 𝓣 E G18 G19 b11 Δ0 (Typed.pass T18 T19 s17) at6 (Scalar.g-room 𝓤 H A W E G18 11 Syntax.tyUnit (Scalar.room-sc 𝓤 H A W Row.sUnit)) d6
+          d7 : Typed.Typed 𝓤 H A 𝓣 E G22 b12 Δ0 at7
+          d7 = Typed.s-seq 𝓤 H A W 𝓣 E G22 G23 b8 b11 Δ0 (Typed.both s21) at6 (Plain.t-call-plain 𝓤 H A W 𝓣 4 ps·5 r·5 (claims· .10) (claims· .11) "bench_plans::trims::carry_decided" (known .5) E (λ pos β. β) G22 (Num.vAt 1 λ x. x, (record { pos = 2; st = List.[]; d = 0; at = λ x. x }, (record { pos = 3; ty = Syntax.tyRef (Syntax.named 0) Syntax.imm (Memory.pointee (T.the-row .written)); ref = λ x. x }, (record { pos = 4; ty = Syntax.tyRef (Syntax.named 1) Syntax.imm (Syntax.tyInt Syntax.w16); ref = λ x. x }, (record { pos = 5; ty = Syntax.tyRef (Syntax.named 2) Syntax.imm (Syntax.tyInt Syntax.w16); ref = λ x. x }, (record { pos = 6; ty = Syntax.tyRef (Syntax.named 3) Syntax.imm (Syntax.tyInt Syntax.w16); ref = λ x. x }, tt)))))) 13 (List._∷_ 0 (List._∷_ 1 (List._∷_ 2 (List._∷_ 3 List.[])))) (Call.sub-id 𝓤 H A W (G22 .slots)) ((Scalar.reads-sc 𝓤 H A W (Row.sInt Syntax.w64), Path'.refl), ((Yields.yields-copy 𝓤 H A W (λ ρ. Unit) (Declared.row Size.the-type) Path'.refl (Copies.cStruct Size.the-type Laws.the-laws Laws.the-copy .copy 𝓤 H A W) (Rows'.whole (Declared.row Size.the-type)) (λ x. x) (λ x. x) (λ ρ told. Local.mem-whole 𝓤 H A W (Declared.row Size.the-type) ρ) λ ρ told. Local.whole-mem 𝓤 H A W (Declared.row Size.the-type) ρ, Path'.refl), (ShrSlice.spares-sslice 𝓤 H A W T.the-row ty·5 0, Shared.reads-sslice 𝓤 H A W T.the-row ty·5 0, Path'.refl, (ShrSlice.spares-sslice 𝓤 H A W (Referent.rtF (Referent.fInt Syntax.w16)) ty·2 1, Shared.reads-sslice 𝓤 H A W (Referent.rtF (Referent.fInt Syntax.w16)) ty·2 1, Path'.refl, (ShrSlice.spares-sslice 𝓤 H A W (Referent.rtF (Referent.fInt Syntax.w16)) ty·3 2, Shared.reads-sslice 𝓤 H A W (Referent.rtF (Referent.fInt Syntax.w16)) ty·3 2, Path'.refl, (ShrSlice.spares-sslice 𝓤 H A W (Referent.rtF (Referent.fInt Syntax.w16)) ty·4 3, Shared.reads-sslice 𝓤 H A W (Referent.rtF (Referent.fInt Syntax.w16)) ty·4 3, Path'.refl, tt)))))) (Reads.room-gone 𝓤 H A Syntax.tyUnit) (tt, (tt, (tt, (tt, tt)))) Path'.refl) d6
 
-          d8 : Typed.Typed 𝓤 H A 𝓣 E G17 b12 Δ0 at8
-          d8 = Typed.s-seq 𝓤 H A W 𝓣 E G17 G18 b6 b11 Δ0 (Typed.both s16) at7 (Plain.t-call-plain 𝓤 H A W 𝓣 0 ps·3 r·3 (claims· .6) (claims· .7) "bench_plans::files::print_again" (known .3) E (λ pos β. β) G17 (Bool.bAt 5 λ x. x, (Bool.bAt 6 λ x. x, tt)) 11 List.[] (Call.sub-id 𝓤 H A W (G17 .slots)) ((Scalar.reads-sc 𝓤 H A W Row.sBool, Path'.refl), ((Scalar.reads-sc 𝓤 H A W Row.sBool, Path'.refl), tt)) (Reads.room-gone 𝓤 H A Syntax.tyUnit) tt Path'.refl) d7
+          d8 : Typed.Typed 𝓤 H A 𝓣 E G21 b12 Δ0 at8
+          d8 = Typed.g-pre 𝓤 H A W 𝓣 E G21 G22 b12 Δ0 (Typed.pass T21 T22 s20) at7 (Scalar.g-room 𝓤 H A W E G21 13 Syntax.tyUnit (Scalar.room-sc 𝓤 H A W Row.sUnit)) d7
 
-          d9 : Typed.Typed 𝓤 H A 𝓣 E G16 b12 Δ0 at9
-          d9 = Typed.g-pre 𝓤 H A W 𝓣 E G16 G17 b12 Δ0 (Typed.pass T15 T17 s15) at8 (Scalar.g-room 𝓤 H A W E G16 7 ty·0 (Init.room-arr 𝓤 H A W (Referent.rtF (Referent.fInt Syntax.w8)) 5 0 5 Path'.refl)) d8
+          d9 : Typed.Typed 𝓤 H A 𝓣 E G20 b13 Δ0 at9
+          d9 = Typed.s-seq 𝓤 H A W 𝓣 E G20 G21 b7 b12 Δ0 (Typed.both s19) at8 (Plain.t-call-plain 𝓤 H A W 𝓣 3 ps·4 r·4 (claims· .8) (claims· .9) "bench_plans::verdicts::ask_tables" (known .4) E (λ pos β. β) G20 (record { pos = 2; st = List.[]; d = 0; at = λ x. x }, (record { pos = 3; ty = Syntax.tyRef (Syntax.named 0) Syntax.imm (Memory.pointee (T.the-row .written)); ref = λ x. x }, (record { pos = 4; ty = Syntax.tyRef (Syntax.named 1) Syntax.imm (Syntax.tyInt Syntax.w16); ref = λ x. x }, (record { pos = 5; ty = Syntax.tyRef (Syntax.named 2) Syntax.imm (Syntax.tyInt Syntax.w16); ref = λ x. x }, (Num.vLit 0, (Num.vLit 0, (Num.vBig 1024, tt))))))) 13 (List._∷_ 0 (List._∷_ 1 (List._∷_ 2 List.[]))) (Call.sub-id 𝓤 H A W (G20 .slots)) ((Yields.yields-copy 𝓤 H A W (λ ρ. Unit) (Declared.row Size.the-type) Path'.refl (Copies.cStruct Size.the-type Laws.the-laws Laws.the-copy .copy 𝓤 H A W) (Rows'.whole (Declared.row Size.the-type)) (λ x. x) (λ x. x) (λ ρ told. Local.mem-whole 𝓤 H A W (Declared.row Size.the-type) ρ) λ ρ told. Local.whole-mem 𝓤 H A W (Declared.row Size.the-type) ρ, Path'.refl), (ShrSlice.spares-sslice 𝓤 H A W T.the-row ty·5 0, Shared.reads-sslice 𝓤 H A W T.the-row ty·5 0, Path'.refl, (ShrSlice.spares-sslice 𝓤 H A W (Referent.rtF (Referent.fInt Syntax.w16)) ty·2 1, Shared.reads-sslice 𝓤 H A W (Referent.rtF (Referent.fInt Syntax.w16)) ty·2 1, Path'.refl, (ShrSlice.spares-sslice 𝓤 H A W (Referent.rtF (Referent.fInt Syntax.w16)) ty·3 2, Shared.reads-sslice 𝓤 H A W (Referent.rtF (Referent.fInt Syntax.w16)) ty·3 2, Path'.refl, (tt, (tt, (record { lower = record { fits = Dec'.lit< tt } }, tt))))))) (Reads.room-gone 𝓤 H A Syntax.tyUnit) (tt, (tt, (tt, tt))) Path'.refl) d8
 
-          d10 : Typed.Typed 𝓤 H A 𝓣 E G15 b12 Δ0 at10
-          d10 = Typed.g-pre 𝓤 H A W 𝓣 E G15 G16 b12 Δ0 (λ Ψ. Ψ) at9 (Lifetime.g-forget 𝓤 H A W E G15 3 Row.dead Path'.refl) d9
+          d10 : Typed.Typed 𝓤 H A 𝓣 E G19 b13 Δ0 at10
+          d10 = Typed.g-pre 𝓤 H A W 𝓣 E G19 G20 b13 Δ0 (Typed.pass T19 T20 s18) at9 (Scalar.g-room 𝓤 H A W E G19 13 Syntax.tyUnit (Scalar.room-sc 𝓤 H A W Row.sUnit)) d9
 
-          d11 : Typed.Typed 𝓤 H A 𝓣 E G14 b12 Δ0 at11
-          d11 = Typed.g-pre 𝓤 H A W 𝓣 E G14 G15 b12 Δ0 (Typed.pass T13 T15 s13) at10 (Share.g-back-arr-shr 𝓤 H A W E (Referent.rtF (Referent.fInt Syntax.w8)) G14 7 5 3 (λ x. x) (Reads.as-is 𝓤 H A (Rows.arr-shr (Referent.rtF (Referent.fInt Syntax.w8)) 5 3)) Path'.refl) d10
+          d11 : Typed.Typed 𝓤 H A 𝓣 E G18 b14 Δ0 at11
+          d11 = Typed.s-seq 𝓤 H A W 𝓣 E G18 G19 b6 b13 Δ0 (Typed.both s17) at10 (Plain.t-call-plain 𝓤 H A W 𝓣 0 ps·3 r·3 (claims· .6) (claims· .7) "bench_plans::files::print_again" (known .3) E (λ pos β. β) G18 (Bool.bAt 7 λ x. x, (Bool.bAt 8 λ x. x, tt)) 13 List.[] (Call.sub-id 𝓤 H A W (G18 .slots)) ((Scalar.reads-sc 𝓤 H A W Row.sBool, Path'.refl), ((Scalar.reads-sc 𝓤 H A W Row.sBool, Path'.refl), tt)) (Reads.room-gone 𝓤 H A Syntax.tyUnit) tt Path'.refl) d10
 
-          d12 : Typed.Typed 𝓤 H A 𝓣 E G13 b12 Δ0 at12
-          d12 = Typed.g-pre 𝓤 H A W 𝓣 E G13 G14 b12 Δ0 (λ Ψ. Ψ) at11 (Lifetime.g-end 𝓤 H A W E G13 3 Path'.refl) d11
+          d12 : Typed.Typed 𝓤 H A 𝓣 E G17 b14 Δ0 at12
+          d12 = Typed.g-pre 𝓤 H A W 𝓣 E G17 G18 b14 Δ0 (Typed.pass T16 T18 s16) at11 (Scalar.g-room 𝓤 H A W E G17 9 ty·0 (Init.room-arr 𝓤 H A W (Referent.rtF (Referent.fInt Syntax.w8)) 5 0 5 Path'.refl)) d11
 
-          d13 : Typed.Typed 𝓤 H A 𝓣 E G12 b12 Δ0 at13
-          d13 = Typed.g-pre 𝓤 H A W 𝓣 E G12 G13 b12 Δ0 (Typed.pass T12 T13 s11) at12 (Scalar.g-room 𝓤 H A W E G12 8 Syntax.tyBool (Scalar.room-sc 𝓤 H A W Row.sBool)) d12
+          d13 : Typed.Typed 𝓤 H A 𝓣 E G16 b14 Δ0 at13
+          d13 = Typed.g-pre 𝓤 H A W 𝓣 E G16 G17 b14 Δ0 (λ Ψ. Ψ) at12 (Lifetime.g-forget 𝓤 H A W E G16 4 Row.dead Path'.refl) d12
 
-          d14 : Typed.Typed 𝓤 H A 𝓣 E G11 b12 Δ0 at14
-          d14 = Typed.g-pre 𝓤 H A W 𝓣 E G11 G12 b12 Δ0 (Typed.pass T11 T12 s10) at13 (Scalar.g-room 𝓤 H A W E G11 10 ty·6 (Shared.room-sslice 𝓤 H A W (Referent.rtF (Referent.fInt Syntax.w8)) ty·1 3)) d13
+          d14 : Typed.Typed 𝓤 H A 𝓣 E G15 b14 Δ0 at14
+          d14 = Typed.g-pre 𝓤 H A W 𝓣 E G15 G16 b14 Δ0 (Typed.pass T14 T16 s14) at13 (Share.g-back-arr-shr 𝓤 H A W E (Referent.rtF (Referent.fInt Syntax.w8)) G15 9 5 4 (λ x. x) (Reads.as-is 𝓤 H A (Rows.arr-shr (Referent.rtF (Referent.fInt Syntax.w8)) 5 4)) Path'.refl) d13
 
-          d15 : Typed.Typed 𝓤 H A 𝓣 E G10 b13 Δ0 at15
-          d15 = Typed.s-seq 𝓤 H A W 𝓣 E G10 G11 b5 b12 Δ0 (Typed.both s9) at14 (Plain.t-call-plain 𝓤 H A W 𝓣 1 ps·2 r·2 (claims· .4) (claims· .5) "io::write_all" (known .2) E (λ pos β. β) G10 (Num.vLit 1, (record { pos = 10; ty = Syntax.tyRef Syntax.erased Syntax.imm (Syntax.tyInt Syntax.w8); ref = λ x. x }, tt)) 8 (List._∷_ 3 List.[]) (Call.sub-id 𝓤 H A W (G10 .slots)) (tt, (ShrSlice.spares-sslice 𝓤 H A W (Referent.rtF (Referent.fInt Syntax.w8)) ty·1 3, Shared.reads-sslice 𝓤 H A W (Referent.rtF (Referent.fInt Syntax.w8)) ty·1 3, Path'.refl, tt)) (Reads.room-gone 𝓤 H A Syntax.tyBool) (tt, tt) Path'.refl) d14
+          d15 : Typed.Typed 𝓤 H A 𝓣 E G14 b14 Δ0 at15
+          d15 = Typed.g-pre 𝓤 H A W 𝓣 E G14 G15 b14 Δ0 (λ Ψ. Ψ) at14 (Lifetime.g-end 𝓤 H A W E G14 4 Path'.refl) d14
 
-          d16 : Typed.Typed 𝓤 H A 𝓣 E G9 b14 Δ0 at16
-          d16 = Typed.s-seq 𝓤 H A W 𝓣 E G9 G10 b4 b13 Δ0 (Typed.ask s8) at15 (Relend.t-sl-aggregate 𝓤 H A W E (Referent.rtF (Referent.fInt Syntax.w8)) 𝓣 (Relend.asShr (Referent.rtF (Referent.fInt Syntax.w8))) G9 9 10 3 ty·5 ty·1 (λ x. x) (Scalar.oInt Syntax.w64 5) (Reads.as-is 𝓤 H A (Relend.ssptr (Referent.rtF (Referent.fInt Syntax.w8)) ty·5 3)) (Reads.room-gone 𝓤 H A ty·6) tt Path'.refl Path'.refl λ b o k. tt) d15
+          d16 : Typed.Typed 𝓤 H A 𝓣 E G13 b14 Δ0 at16
+          d16 = Typed.g-pre 𝓤 H A W 𝓣 E G13 G14 b14 Δ0 (Typed.pass T13 T14 s12) at15 (Scalar.g-room 𝓤 H A W E G13 10 Syntax.tyBool (Scalar.room-sc 𝓤 H A W Row.sBool)) d15
 
-          d17 : Typed.Typed 𝓤 H A 𝓣 E G8 b15 Δ0 at17
-          d17 = Typed.s-seq 𝓤 H A W 𝓣 E G8 G9 b3 b14 Δ0 (Typed.give s7) at16 (Share.t-arr-share 𝓤 H A W E 𝓣 (Referent.rtF (Referent.fInt Syntax.w8)) G8 7 9 5 3 ty·5 (λ x. x) (Reads.as-is 𝓤 H A (Rows.arrF (Referent.rtF (Referent.fInt Syntax.w8)) 5 0)) (Reads.room-gone 𝓤 H A ty·5) Path'.refl (λ b o. tt) (Dec'.lit< tt, Dec'.lit< tt)) d16
+          d17 : Typed.Typed 𝓤 H A 𝓣 E G12 b14 Δ0 at17
+          d17 = Typed.g-pre 𝓤 H A W 𝓣 E G12 G13 b14 Δ0 (Typed.pass T12 T13 s11) at16 (Scalar.g-room 𝓤 H A W E G12 12 ty·7 (Shared.room-sslice 𝓤 H A W (Referent.rtF (Referent.fInt Syntax.w8)) ty·1 4)) d16
 
-          d18 : Typed.Typed 𝓤 H A 𝓣 E G7 b15 Δ0 at18
-          d18 = Typed.g-pre 𝓤 H A W 𝓣 E G7 G8 b15 Δ0 (λ Ψ. Ψ) at17 (Lifetime.g-begin 𝓤 H A W E G7 3 (tt, (tt, (tt, (tt, (tt, (tt, (tt, (tt, (tt, (tt, (tt, (tt, tt))))))))))))) d17
+          d18 : Typed.Typed 𝓤 H A 𝓣 E G11 b15 Δ0 at18
+          d18 = Typed.s-seq 𝓤 H A W 𝓣 E G11 G12 b5 b14 Δ0 (Typed.both s10) at17 (Plain.t-call-plain 𝓤 H A W 𝓣 1 ps·2 r·2 (claims· .4) (claims· .5) "io::write_all" (known .2) E (λ pos β. β) G11 (Num.vLit 1, (record { pos = 12; ty = Syntax.tyRef Syntax.erased Syntax.imm (Syntax.tyInt Syntax.w8); ref = λ x. x }, tt)) 10 (List._∷_ 4 List.[]) (Call.sub-id 𝓤 H A W (G11 .slots)) (tt, (ShrSlice.spares-sslice 𝓤 H A W (Referent.rtF (Referent.fInt Syntax.w8)) ty·1 4, Shared.reads-sslice 𝓤 H A W (Referent.rtF (Referent.fInt Syntax.w8)) ty·1 4, Path'.refl, tt)) (Reads.room-gone 𝓤 H A Syntax.tyBool) (tt, tt) Path'.refl) d17
 
-          d19 : Typed.Typed 𝓤 H A 𝓣 E G6 b16 Δ0 at19
-          d19 = Typed.s-seq 𝓤 H A W 𝓣 E G6 G7 b2 b15 Δ0 (Typed.both s5) at18 (Plain.t-call-plain 𝓤 H A W 𝓣 3 ps·1 r·1 (claims· .2) (claims· .3) "bench_plans::trims::trim_again" (known .1) E (λ pos β. β) G6 (record { pos = 1; st = List.[]; d = 0; at = λ x. x }, (record { pos = 2; ty = Syntax.tyRef (Syntax.named 0) Syntax.imm (Memory.pointee (T.the-row .written)); ref = λ x. x }, (record { pos = 3; ty = Syntax.tyRef (Syntax.named 1) Syntax.imm (Syntax.tyInt Syntax.w16); ref = λ x. x }, (record { pos = 4; ty = Syntax.tyRef (Syntax.named 2) Syntax.imm (Syntax.tyInt Syntax.w16); ref = λ x. x }, tt)))) 6 (List._∷_ 0 (List._∷_ 1 (List._∷_ 2 List.[]))) (Call.sub-id 𝓤 H A W (G6 .slots)) ((Yields.yields-copy 𝓤 H A W (λ ρ. Unit) (Declared.row Size.the-type) Path'.refl (Copies.cStruct Size.the-type Laws.the-laws Laws.the-copy .copy 𝓤 H A W) (Rows'.whole (Declared.row Size.the-type)) (λ x. x) (λ x. x) (λ ρ told. Local.mem-whole 𝓤 H A W (Declared.row Size.the-type) ρ) λ ρ told. Local.whole-mem 𝓤 H A W (Declared.row Size.the-type) ρ, Path'.refl), (ShrSlice.spares-sslice 𝓤 H A W T.the-row ty·4 0, Shared.reads-sslice 𝓤 H A W T.the-row ty·4 0, Path'.refl, (ShrSlice.spares-sslice 𝓤 H A W (Referent.rtF (Referent.fInt Syntax.w16)) ty·2 1, Shared.reads-sslice 𝓤 H A W (Referent.rtF (Referent.fInt Syntax.w16)) ty·2 1, Path'.refl, (ShrSlice.spares-sslice 𝓤 H A W (Referent.rtF (Referent.fInt Syntax.w16)) ty·3 2, Shared.reads-sslice 𝓤 H A W (Referent.rtF (Referent.fInt Syntax.w16)) ty·3 2, Path'.refl, tt)))) (Reads.room-gone 𝓤 H A Syntax.tyBool) (tt, (tt, (tt, tt))) Path'.refl) d18
+          d19 : Typed.Typed 𝓤 H A 𝓣 E G10 b16 Δ0 at19
+          d19 = Typed.s-seq 𝓤 H A W 𝓣 E G10 G11 b4 b15 Δ0 (Typed.ask s9) at18 (Relend.t-sl-aggregate 𝓤 H A W E (Referent.rtF (Referent.fInt Syntax.w8)) 𝓣 (Relend.asShr (Referent.rtF (Referent.fInt Syntax.w8))) G10 11 12 4 ty·6 ty·1 (λ x. x) (Scalar.oInt Syntax.w64 5) (Reads.as-is 𝓤 H A (Relend.ssptr (Referent.rtF (Referent.fInt Syntax.w8)) ty·6 4)) (Reads.room-gone 𝓤 H A ty·7) tt Path'.refl Path'.refl λ b o k. tt) d18
 
-          d20 : Typed.Typed 𝓤 H A 𝓣 E G5 b17 Δ0 at20
-          d20 = Typed.s-seq 𝓤 H A W 𝓣 E G5 G6 b1 b16 Δ0 (Typed.both s4) at19 (Plain.t-call-plain 𝓤 H A W 𝓣 3 ps·0 r·0 (claims· .0) (claims· .1) "bench_plans::files::read_again" (known .0) E (λ pos β. β) G5 (record { pos = 1; st = List.[]; d = 0; at = λ x. x }, (record { pos = 2; ty = Syntax.tyRef (Syntax.named 0) Syntax.imm (Memory.pointee (T.the-row .written)); ref = λ x. x }, (record { pos = 3; ty = Syntax.tyRef (Syntax.named 1) Syntax.imm (Syntax.tyInt Syntax.w16); ref = λ x. x }, (record { pos = 4; ty = Syntax.tyRef (Syntax.named 2) Syntax.imm (Syntax.tyInt Syntax.w16); ref = λ x. x }, tt)))) 5 (List._∷_ 0 (List._∷_ 1 (List._∷_ 2 List.[]))) (Call.sub-id 𝓤 H A W (G5 .slots)) ((Yields.yields-copy 𝓤 H A W (λ ρ. Unit) (Declared.row Size.the-type) Path'.refl (Copies.cStruct Size.the-type Laws.the-laws Laws.the-copy .copy 𝓤 H A W) (Rows'.whole (Declared.row Size.the-type)) (λ x. x) (λ x. x) (λ ρ told. Local.mem-whole 𝓤 H A W (Declared.row Size.the-type) ρ) λ ρ told. Local.whole-mem 𝓤 H A W (Declared.row Size.the-type) ρ, Path'.refl), (ShrSlice.spares-sslice 𝓤 H A W T.the-row ty·4 0, Shared.reads-sslice 𝓤 H A W T.the-row ty·4 0, Path'.refl, (ShrSlice.spares-sslice 𝓤 H A W (Referent.rtF (Referent.fInt Syntax.w16)) ty·2 1, Shared.reads-sslice 𝓤 H A W (Referent.rtF (Referent.fInt Syntax.w16)) ty·2 1, Path'.refl, (ShrSlice.spares-sslice 𝓤 H A W (Referent.rtF (Referent.fInt Syntax.w16)) ty·3 2, Shared.reads-sslice 𝓤 H A W (Referent.rtF (Referent.fInt Syntax.w16)) ty·3 2, Path'.refl, tt)))) (Reads.room-gone 𝓤 H A Syntax.tyBool) (tt, (tt, (tt, tt))) Path'.refl) d19
+          d20 : Typed.Typed 𝓤 H A 𝓣 E G9 b17 Δ0 at20
+          d20 = Typed.s-seq 𝓤 H A W 𝓣 E G9 G10 b3 b16 Δ0 (Typed.give s8) at19 (Share.t-arr-share 𝓤 H A W E 𝓣 (Referent.rtF (Referent.fInt Syntax.w8)) G9 9 11 5 4 ty·6 (λ x. x) (Reads.as-is 𝓤 H A (Rows.arrF (Referent.rtF (Referent.fInt Syntax.w8)) 5 0)) (Reads.room-gone 𝓤 H A ty·6) Path'.refl (λ b o. tt) (Dec'.lit< tt, Dec'.lit< tt)) d19
 
-          d21 : Typed.Typed 𝓤 H A 𝓣 E G4 b17 Δ0 at21
-          d21 = Typed.g-pre 𝓤 H A W 𝓣 E G4 G5 b17 Δ0 (Typed.pass T4 T5 s3) at20 (AtSlots.g-as-by 𝓤 H A W E (λ ρ. Unit) G4 7 (Rows.arrF (Referent.rtF (Referent.fInt Syntax.w8)) 5 0) (λ x. x) (Own.told-none 𝓤 H A (G4 .slots)) λ ρ told. Repeat.whole-arr 𝓤 H A W (Referent.rtF (Referent.fInt Syntax.w8)) 5 tt ρ) d20
+          d21 : Typed.Typed 𝓤 H A 𝓣 E G8 b17 Δ0 at21
+          d21 = Typed.g-pre 𝓤 H A W 𝓣 E G8 G9 b17 Δ0 (λ Ψ. Ψ) at20 (Lifetime.g-begin 𝓤 H A W E G8 4 (tt, (tt, (tt, (tt, (tt, (tt, (tt, (tt, (tt, (tt, (tt, (tt, (tt, (tt, tt))))))))))))))) d20
 
-          d22 : Typed.Typed 𝓤 H A 𝓣 E G3 b18 Δ0 at22
-          d22 = Typed.s-seq 𝓤 H A W 𝓣 E G3 G4 b0 b17 Δ0 (Typed.pass T3 T4 s2) at21 (Make.t-make-wt 𝓤 H A W E 𝓣 (Array.Array (Referent.rtF (Referent.fInt Syntax.w8)) 5) Path'.refl (Gives.arrayValOf λ x. Steps.only (Copies.cRf (Referent.fInt Syntax.w8) .vals x)) (Array.array-lawful 𝓤 H A W (Referent.rtF (Referent.fInt Syntax.w8)) (Plain'.uint-lawful 𝓤 H A W Syntax.w8) 5) (Array.array-makes 𝓤 H A W (Referent.rtF (Referent.fInt Syntax.w8)) (Plain'.uint-makes 𝓤 H A W Syntax.w8) 5) G3 7 (List._∷_ (Scalar.oInt Syntax.w8 97) (List._∷_ (Scalar.oInt Syntax.w8 103) (List._∷_ (Scalar.oInt Syntax.w8 97) (List._∷_ (Scalar.oInt Syntax.w8 105) (List._∷_ (Scalar.oInt Syntax.w8 110) List.[]))))) (λ m. List._∷_ 97 (List._∷_ 103 (List._∷_ 97 (List._∷_ 105 (List._∷_ 110 List.[]))))) (Reads.room-gone 𝓤 H A ty·0) (tt, (tt, (tt, (tt, (tt, tt))))) Path'.refl (λ m wa. Path'.refl) λ m wa. (List._∷_ (Row.valS (Row.sInt Syntax.w8) 97) (List._∷_ (Row.valS (Row.sInt Syntax.w8) 103) (List._∷_ (Row.valS (Row.sInt Syntax.w8) 97) (List._∷_ (Row.valS (Row.sInt Syntax.w8) 105) (List._∷_ (Row.valS (Row.sInt Syntax.w8) 110) List.[])))), ((Path'.refl, Path'.refl), ((Path'.refl, Dec'.lit< tt), ((Path'.refl, Dec'.lit< tt), ((Path'.refl, Dec'.lit< tt), ((Path'.refl, Dec'.lit< tt), ((Path'.refl, Dec'.lit< tt), tt)))))))) d21
+          d22 : Typed.Typed 𝓤 H A 𝓣 E G7 b18 Δ0 at22
+          d22 = Typed.s-seq 𝓤 H A W 𝓣 E G7 G8 b2 b17 Δ0 (Typed.both s6) at21 (Plain.t-call-plain 𝓤 H A W 𝓣 3 ps·1 r·1 (claims· .2) (claims· .3) "bench_plans::trims::trim_again" (known .1) E (λ pos β. β) G7 (record { pos = 2; st = List.[]; d = 0; at = λ x. x }, (record { pos = 3; ty = Syntax.tyRef (Syntax.named 0) Syntax.imm (Memory.pointee (T.the-row .written)); ref = λ x. x }, (record { pos = 4; ty = Syntax.tyRef (Syntax.named 1) Syntax.imm (Syntax.tyInt Syntax.w16); ref = λ x. x }, (record { pos = 5; ty = Syntax.tyRef (Syntax.named 2) Syntax.imm (Syntax.tyInt Syntax.w16); ref = λ x. x }, tt)))) 8 (List._∷_ 0 (List._∷_ 1 (List._∷_ 2 List.[]))) (Call.sub-id 𝓤 H A W (G7 .slots)) ((Yields.yields-copy 𝓤 H A W (λ ρ. Unit) (Declared.row Size.the-type) Path'.refl (Copies.cStruct Size.the-type Laws.the-laws Laws.the-copy .copy 𝓤 H A W) (Rows'.whole (Declared.row Size.the-type)) (λ x. x) (λ x. x) (λ ρ told. Local.mem-whole 𝓤 H A W (Declared.row Size.the-type) ρ) λ ρ told. Local.whole-mem 𝓤 H A W (Declared.row Size.the-type) ρ, Path'.refl), (ShrSlice.spares-sslice 𝓤 H A W T.the-row ty·5 0, Shared.reads-sslice 𝓤 H A W T.the-row ty·5 0, Path'.refl, (ShrSlice.spares-sslice 𝓤 H A W (Referent.rtF (Referent.fInt Syntax.w16)) ty·2 1, Shared.reads-sslice 𝓤 H A W (Referent.rtF (Referent.fInt Syntax.w16)) ty·2 1, Path'.refl, (ShrSlice.spares-sslice 𝓤 H A W (Referent.rtF (Referent.fInt Syntax.w16)) ty·3 2, Shared.reads-sslice 𝓤 H A W (Referent.rtF (Referent.fInt Syntax.w16)) ty·3 2, Path'.refl, tt)))) (Reads.room-gone 𝓤 H A Syntax.tyBool) (tt, (tt, (tt, tt))) Path'.refl) d21
 
-          d23 : Typed.Typed 𝓤 H A 𝓣 E G2 b18 Δ0 at23
-          d23 = Typed.g-pre 𝓤 H A W 𝓣 E G2 G3 b18 Δ0 (Typed.give s1) at22 (Know.g-shs-known 𝓤 H A W (Referent.fInt Syntax.w16) E G2 4 2 ty·3 (Row.lease (κs .1 .1 .0) (qs .1 .1 .0)) 0 (λ x. x) record { fits = Dec'.lit< tt } (Reads.as-is 𝓤 H A (Rows'.sslice (Referent.rtF (Referent.fInt Syntax.w16)) ty·3 2)) Path'.refl tt) d22
+          d23 : Typed.Typed 𝓤 H A 𝓣 E G6 b19 Δ0 at23
+          d23 = Typed.s-seq 𝓤 H A W 𝓣 E G6 G7 b1 b18 Δ0 (Typed.both s5) at22 (Plain.t-call-plain 𝓤 H A W 𝓣 3 ps·0 r·0 (claims· .0) (claims· .1) "bench_plans::files::read_again" (known .0) E (λ pos β. β) G6 (record { pos = 2; st = List.[]; d = 0; at = λ x. x }, (record { pos = 3; ty = Syntax.tyRef (Syntax.named 0) Syntax.imm (Memory.pointee (T.the-row .written)); ref = λ x. x }, (record { pos = 4; ty = Syntax.tyRef (Syntax.named 1) Syntax.imm (Syntax.tyInt Syntax.w16); ref = λ x. x }, (record { pos = 5; ty = Syntax.tyRef (Syntax.named 2) Syntax.imm (Syntax.tyInt Syntax.w16); ref = λ x. x }, tt)))) 7 (List._∷_ 0 (List._∷_ 1 (List._∷_ 2 List.[]))) (Call.sub-id 𝓤 H A W (G6 .slots)) ((Yields.yields-copy 𝓤 H A W (λ ρ. Unit) (Declared.row Size.the-type) Path'.refl (Copies.cStruct Size.the-type Laws.the-laws Laws.the-copy .copy 𝓤 H A W) (Rows'.whole (Declared.row Size.the-type)) (λ x. x) (λ x. x) (λ ρ told. Local.mem-whole 𝓤 H A W (Declared.row Size.the-type) ρ) λ ρ told. Local.whole-mem 𝓤 H A W (Declared.row Size.the-type) ρ, Path'.refl), (ShrSlice.spares-sslice 𝓤 H A W T.the-row ty·5 0, Shared.reads-sslice 𝓤 H A W T.the-row ty·5 0, Path'.refl, (ShrSlice.spares-sslice 𝓤 H A W (Referent.rtF (Referent.fInt Syntax.w16)) ty·2 1, Shared.reads-sslice 𝓤 H A W (Referent.rtF (Referent.fInt Syntax.w16)) ty·2 1, Path'.refl, (ShrSlice.spares-sslice 𝓤 H A W (Referent.rtF (Referent.fInt Syntax.w16)) ty·3 2, Shared.reads-sslice 𝓤 H A W (Referent.rtF (Referent.fInt Syntax.w16)) ty·3 2, Path'.refl, tt)))) (Reads.room-gone 𝓤 H A Syntax.tyBool) (tt, (tt, (tt, tt))) Path'.refl) d22
 
-          d24 : Typed.Typed 𝓤 H A 𝓣 E G0 b18 Δ0 at24
-          d24 = Typed.g-pre 𝓤 H A W 𝓣 E G0 G2 b18 Δ0 (Typed.give s0) at23 (Know.g-shs-known 𝓤 H A W (Referent.fInt Syntax.w16) E G0 3 1 ty·2 (Row.lease (κs .1 .0) (qs .1 .0)) 0 (λ x. x) record { fits = Dec'.lit< tt } (Reads.as-is 𝓤 H A (Rows'.sslice (Referent.rtF (Referent.fInt Syntax.w16)) ty·2 1)) Path'.refl tt) d23
+          d24 : Typed.Typed 𝓤 H A 𝓣 E G5 b19 Δ0 at24
+          d24 = Typed.g-pre 𝓤 H A W 𝓣 E G5 G6 b19 Δ0 (Typed.pass T5 T6 s4) at23 (AtSlots.g-as-by 𝓤 H A W E (λ ρ. Unit) G5 9 (Rows.arrF (Referent.rtF (Referent.fInt Syntax.w8)) 5 0) (λ x. x) (Own.told-none 𝓤 H A (G5 .slots)) λ ρ told. Repeat.whole-arr 𝓤 H A W (Referent.rtF (Referent.fInt Syntax.w8)) 5 tt ρ) d23
 
-          pub typed : Typed.Typed 𝓤 H A 𝓣 E (Function.Γin 3 ps r xs m κs qs) b18 (Function.Δret 3 ps r xs m κs qs) Φ
-          typed = d24
+          d25 : Typed.Typed 𝓤 H A 𝓣 E G4 b20 Δ0 at25
+          d25 = Typed.s-seq 𝓤 H A W 𝓣 E G4 G5 b0 b19 Δ0 (Typed.pass T4 T5 s3) at24 (Make.t-make-wt 𝓤 H A W E 𝓣 (Array.Array (Referent.rtF (Referent.fInt Syntax.w8)) 5) Path'.refl (Gives.arrayValOf λ x. Steps.only (Copies.cRf (Referent.fInt Syntax.w8) .vals x)) (Array.array-lawful 𝓤 H A W (Referent.rtF (Referent.fInt Syntax.w8)) (Plain'.uint-lawful 𝓤 H A W Syntax.w8) 5) (Array.array-makes 𝓤 H A W (Referent.rtF (Referent.fInt Syntax.w8)) (Plain'.uint-makes 𝓤 H A W Syntax.w8) 5) G4 9 (List._∷_ (Scalar.oInt Syntax.w8 97) (List._∷_ (Scalar.oInt Syntax.w8 103) (List._∷_ (Scalar.oInt Syntax.w8 97) (List._∷_ (Scalar.oInt Syntax.w8 105) (List._∷_ (Scalar.oInt Syntax.w8 110) List.[]))))) (λ m. List._∷_ 97 (List._∷_ 103 (List._∷_ 97 (List._∷_ 105 (List._∷_ 110 List.[]))))) (Reads.room-gone 𝓤 H A ty·0) (tt, (tt, (tt, (tt, (tt, tt))))) Path'.refl (λ m wa. Path'.refl) λ m wa. (List._∷_ (Row.valS (Row.sInt Syntax.w8) 97) (List._∷_ (Row.valS (Row.sInt Syntax.w8) 103) (List._∷_ (Row.valS (Row.sInt Syntax.w8) 97) (List._∷_ (Row.valS (Row.sInt Syntax.w8) 105) (List._∷_ (Row.valS (Row.sInt Syntax.w8) 110) List.[])))), ((Path'.refl, Path'.refl), ((Path'.refl, Dec'.lit< tt), ((Path'.refl, Dec'.lit< tt), ((Path'.refl, Dec'.lit< tt), ((Path'.refl, Dec'.lit< tt), ((Path'.refl, Dec'.lit< tt), tt)))))))) d24
 
-      module _ (κs : Lifetimes.Lfts 3) where
+          d26 : Typed.Typed 𝓤 H A 𝓣 E G3 b20 Δ0 at26
+          d26 = Typed.g-pre 𝓤 H A W 𝓣 E G3 G4 b20 Δ0 (Typed.give s2) at25 (Know.g-shs-known 𝓤 H A W (Referent.fInt Syntax.w16) E G3 6 3 ty·4 (Row.lease (κs .1 .1 .1 .0) (qs .1 .1 .1 .0)) 0 (λ x. x) record { fits = Dec'.lit< tt } (Reads.as-is 𝓤 H A (Rows'.sslice (Referent.rtF (Referent.fInt Syntax.w16)) ty·4 3)) Path'.refl tt) d25
+
+          d27 : Typed.Typed 𝓤 H A 𝓣 E G2 b20 Δ0 at27
+          d27 = Typed.g-pre 𝓤 H A W 𝓣 E G2 G3 b20 Δ0 (Typed.give s1) at26 (Know.g-shs-known 𝓤 H A W (Referent.fInt Syntax.w16) E G2 5 2 ty·3 (Row.lease (κs .1 .1 .0) (qs .1 .1 .0)) 0 (λ x. x) record { fits = Dec'.lit< tt } (Reads.as-is 𝓤 H A (Rows'.sslice (Referent.rtF (Referent.fInt Syntax.w16)) ty·3 2)) Path'.refl tt) d26
+
+          d28 : Typed.Typed 𝓤 H A 𝓣 E G0 b20 Δ0 at28
+          d28 = Typed.g-pre 𝓤 H A W 𝓣 E G0 G2 b20 Δ0 (Typed.give s0) at27 (Know.g-shs-known 𝓤 H A W (Referent.fInt Syntax.w16) E G0 4 1 ty·2 (Row.lease (κs .1 .0) (qs .1 .0)) 0 (λ x. x) record { fits = Dec'.lit< tt } (Reads.as-is 𝓤 H A (Rows'.sslice (Referent.rtF (Referent.fInt Syntax.w16)) ty·2 1)) Path'.refl tt) d27
+
+          pub typed : Typed.Typed 𝓤 H A 𝓣 E (Function.Γin 4 ps r xs m κs qs) b20 (Function.Δret 4 ps r xs m κs qs) Φ
+          typed = d28
+
+      module _ (κs : Lifetimes.Lfts 4) where
         pub record Args : Type 0 where
-          pub size : Kinds.Den {n = 3} κs (Value.pVal record { ty = Declared.row Size.the-type; one = Path'.refl; val = Laws'.val Size.the-type Laws.the-laws; tells = Laws'.tells Size.the-type Laws.the-laws; still = Laws'.still Size.the-type Laws.the-copy Exit.yes; row = Rows'.whole (Declared.row Size.the-type); rd = λ x. x; mk = λ x. x } λ M 𝓤 H A W. record { copies = Laws'.copy Size.the-type Laws.the-copy 𝓤 H A W; lawful = Laws'.lawful Size.the-type Laws.the-laws 𝓤 H A W; makes = Laws'.makes Size.the-type Laws.the-plain 𝓤 H A; in-mem = Local.mem-whole 𝓤 H A W (Declared.row Size.the-type); of-mem = Local.whole-mem 𝓤 H A W (Declared.row Size.the-type) })
-          pub rows : Kinds.Den {n = 3} κs (ShrSlice.pShrS T.the-row 0 tt)
-          pub firsts : Kinds.Den {n = 3} κs (ShrSlice.pShrS (Referent.rtF (Referent.fInt Syntax.w16)) 1 tt)
-          pub outcomes : Kinds.Den {n = 3} κs (ShrSlice.pShrS (Referent.rtF (Referent.fInt Syntax.w16)) 2 tt)
+          pub n : Kinds.Den {n = 4} κs (Num.pNum Syntax.w64)
+          pub size : Kinds.Den {n = 4} κs (Value.pVal record { ty = Declared.row Size.the-type; one = Path'.refl; val = Laws'.val Size.the-type Laws.the-laws; tells = Laws'.tells Size.the-type Laws.the-laws; still = Laws'.still Size.the-type Laws.the-copy Exit.yes; row = Rows'.whole (Declared.row Size.the-type); rd = λ x. x; mk = λ x. x } λ M 𝓤 H A W. record { copies = Laws'.copy Size.the-type Laws.the-copy 𝓤 H A W; lawful = Laws'.lawful Size.the-type Laws.the-laws 𝓤 H A W; makes = Laws'.makes Size.the-type Laws.the-plain 𝓤 H A; in-mem = Local.mem-whole 𝓤 H A W (Declared.row Size.the-type); of-mem = Local.whole-mem 𝓤 H A W (Declared.row Size.the-type) })
+          pub rows : Kinds.Den {n = 4} κs (ShrSlice.pShrS T.the-row 0 tt)
+          pub firsts : Kinds.Den {n = 4} κs (ShrSlice.pShrS (Referent.rtF (Referent.fInt Syntax.w16)) 1 tt)
+          pub outcomes : Kinds.Den {n = 4} κs (ShrSlice.pShrS (Referent.rtF (Referent.fInt Syntax.w16)) 2 tt)
+          pub olds : Kinds.Den {n = 4} κs (ShrSlice.pShrS (Referent.rtF (Referent.fInt Syntax.w16)) 3 tt)
 
         abbrev pub dens : (a : Args) → Kinds.Dens κs ps
-        dens = λ a. (a .size, (a .rows, (a .firsts, (a .outcomes, tt))))
+        dens = λ a. (a .n, (a .size, (a .rows, (a .firsts, (a .outcomes, (a .olds, tt))))))
 
-      abbrev pub m0 : (κs : Lifetimes.Lfts 3) → (args : Args κs) → Typed.Mo T0
+        module _ (args· : Args) where
+          pub record Ranges : Type 0 where
+            pub n : Val.Fits Syntax.w64 (args· .n)
+
+      abbrev pub m0 : (κs : Lifetimes.Lfts 4) → (args : Args κs) → Typed.Mo T0
       m0 = λ κs args. (tt, Enter.partsP κs 1 ps xs (dens κs args))
 
-      abbrev W0 : (κs : Lifetimes.Lfts 3) → (args : Args κs) → Typed.Want O0
-      W0 = λ κs args. (λ u. ⊥, tt, λ u. Enter.Fixs κs 1 ps xs (dens κs args) (u .1) × Post· κs (dens κs args) (Function.resV r κs (u .0)) (Clauses.atExit (Kinds.endedOf 3 ps r) κs (dens κs args) (Enter.lastsP κs 1 ps xs (dens κs args) (u .1))))
+      abbrev W0 : (κs : Lifetimes.Lfts 4) → (args : Args κs) → Typed.Want O0
+      W0 = λ κs args. (λ u. ⊥, tt, λ u. Enter.Fixs κs 1 ps xs (dens κs args) (u .1) × Post· κs (dens κs args) (Function.resV r κs (u .0)) (Clauses.atExit (Kinds.endedOf 4 ps r) κs (dens κs args) (Enter.lastsP κs 1 ps xs (dens κs args) (u .1))))
 
       pub record Start : Type 0 where
-        pub κs : Lifetimes.Lfts 3
+        pub κs : Lifetimes.Lfts 4
         pub args : Args κs
         pub good : Kinds.GoodsP κs ps (dens κs args)
+        pub fits : Ranges κs args
         pub pre : Pre· κs (dens κs args)
 
       abbrev pub m1 : (before : Start) → (given : s0 .gives (m0 (before .κs) (before .args))) → Typed.Mo T2
@@ -664,12 +750,6 @@ module _ (claims· : Claims) where
       abbrev pub m2 : (before : After-shared-slice-known) → (given : s1 .gives (m1 (before .before) (before .shared-slice-known .given))) → Typed.Mo T3
       m2 = λ before given. s1 .next (m1 (before .before) (before .shared-slice-known .given)) given
 
-      abbrev pub m3 : (before : After-shared-slice-known) → (given : s1 .gives (m1 (before .before) (before .shared-slice-known .given))) → Typed.Mo T4
-      m3 = λ before given. s2 (m2 before given)
-
-      abbrev pub m4 : (before : After-shared-slice-known) → (given : s1 .gives (m1 (before .before) (before .shared-slice-known .given))) → Typed.Mo T5
-      m4 = λ before given. s3 (m3 before given)
-
       module _ (before· : After-shared-slice-known) where
         pub record After-shared-slice-known2·own : Type 0 where
           pub given : s1 .gives (m1 (before· .before) (before· .shared-slice-known .given))
@@ -678,164 +758,207 @@ module _ (claims· : Claims) where
         pub before : After-shared-slice-known
         pub shared-slice-known2 : After-shared-slice-known2·own before
 
-      abbrev pub Need-read-again-requires : Type 0
-      Need-read-again-requires = (c : After-shared-slice-known2) → s4 .asks (m4 (c .before) (c .shared-slice-known2 .given))
+      abbrev pub m3 : (before : After-shared-slice-known2) → (given : s2 .gives (m2 (before .before) (before .shared-slice-known2 .given))) → Typed.Mo T4
+      m3 = λ before given. s2 .next (m2 (before .before) (before .shared-slice-known2 .given)) given
 
-      abbrev pub m5 : (before : After-shared-slice-known2) → (given : s4 .gives (m4 (before .before) (before .shared-slice-known2 .given))) → Typed.Mo T6
-      m5 = λ before given. s4 .next (m4 (before .before) (before .shared-slice-known2 .given)) given
+      abbrev pub m4 : (before : After-shared-slice-known2) → (given : s2 .gives (m2 (before .before) (before .shared-slice-known2 .given))) → Typed.Mo T5
+      m4 = λ before given. s3 (m3 before given)
+
+      abbrev pub m5 : (before : After-shared-slice-known2) → (given : s2 .gives (m2 (before .before) (before .shared-slice-known2 .given))) → Typed.Mo T6
+      m5 = λ before given. s4 (m4 before given)
 
       module _ (before· : After-shared-slice-known2) where
+        pub record After-shared-slice-known3·own : Type 0 where
+          pub given : s2 .gives (m2 (before· .before) (before· .shared-slice-known2 .given))
+
+      pub record After-shared-slice-known3 : Type 0 where
+        pub before : After-shared-slice-known2
+        pub shared-slice-known3 : After-shared-slice-known3·own before
+
+      abbrev pub Need-read-again-requires : Type 0
+      Need-read-again-requires = (c : After-shared-slice-known3) → s5 .asks (m5 (c .before) (c .shared-slice-known3 .given))
+
+      abbrev pub m6 : (before : After-shared-slice-known3) → (given : s5 .gives (m5 (before .before) (before .shared-slice-known3 .given))) → Typed.Mo T7
+      m6 = λ before given. s5 .next (m5 (before .before) (before .shared-slice-known3 .given)) given
+
+      module _ (before· : After-shared-slice-known3) where
         abbrev pub After-read-again·own : Type 0
-        After-read-again·own = Called.Called ps·0 r·0 (claims· .1) T5 (record { pos = 1; st = List.[]; d = 0; at = λ x. x }, (record { pos = 2; ty = Syntax.tyRef (Syntax.named 0) Syntax.imm (Memory.pointee (T.the-row .written)); ref = λ x. x }, (record { pos = 3; ty = Syntax.tyRef (Syntax.named 1) Syntax.imm (Syntax.tyInt Syntax.w16); ref = λ x. x }, (record { pos = 4; ty = Syntax.tyRef (Syntax.named 2) Syntax.imm (Syntax.tyInt Syntax.w16); ref = λ x. x }, tt)))) (m4 (before· .before) (before· .shared-slice-known2 .given))
+        After-read-again·own = Called.Called ps·0 r·0 (claims· .1) T6 (record { pos = 2; st = List.[]; d = 0; at = λ x. x }, (record { pos = 3; ty = Syntax.tyRef (Syntax.named 0) Syntax.imm (Memory.pointee (T.the-row .written)); ref = λ x. x }, (record { pos = 4; ty = Syntax.tyRef (Syntax.named 1) Syntax.imm (Syntax.tyInt Syntax.w16); ref = λ x. x }, (record { pos = 5; ty = Syntax.tyRef (Syntax.named 2) Syntax.imm (Syntax.tyInt Syntax.w16); ref = λ x. x }, tt)))) (m5 (before· .before) (before· .shared-slice-known3 .given))
 
       pub record After-read-again : Type 0 where
-        pub before : After-shared-slice-known2
+        pub before : After-shared-slice-known3
         pub read-again : After-read-again·own before
 
-      abbrev pub After-read-again·gave : (c : After-read-again) → s4 .gives (m4 (c .before .before) (c .before .shared-slice-known2 .given))
-      After-read-again·gave = λ c. Called.given ps·0 r·0 (claims· .1) T5 (record { pos = 1; st = List.[]; d = 0; at = λ x. x }, (record { pos = 2; ty = Syntax.tyRef (Syntax.named 0) Syntax.imm (Memory.pointee (T.the-row .written)); ref = λ x. x }, (record { pos = 3; ty = Syntax.tyRef (Syntax.named 1) Syntax.imm (Syntax.tyInt Syntax.w16); ref = λ x. x }, (record { pos = 4; ty = Syntax.tyRef (Syntax.named 2) Syntax.imm (Syntax.tyInt Syntax.w16); ref = λ x. x }, tt)))) (m4 (c .before .before) (c .before .shared-slice-known2 .given)) (c .read-again)
+      abbrev pub After-read-again·gave : (c : After-read-again) → s5 .gives (m5 (c .before .before) (c .before .shared-slice-known3 .given))
+      After-read-again·gave = λ c. Called.given ps·0 r·0 (claims· .1) T6 (record { pos = 2; st = List.[]; d = 0; at = λ x. x }, (record { pos = 3; ty = Syntax.tyRef (Syntax.named 0) Syntax.imm (Memory.pointee (T.the-row .written)); ref = λ x. x }, (record { pos = 4; ty = Syntax.tyRef (Syntax.named 1) Syntax.imm (Syntax.tyInt Syntax.w16); ref = λ x. x }, (record { pos = 5; ty = Syntax.tyRef (Syntax.named 2) Syntax.imm (Syntax.tyInt Syntax.w16); ref = λ x. x }, tt)))) (m5 (c .before .before) (c .before .shared-slice-known3 .given)) (c .read-again)
 
       abbrev pub Need-trim-again-requires : Type 0
-      Need-trim-again-requires = (c : After-read-again) → s5 .asks (m5 (c .before) (After-read-again·gave c))
+      Need-trim-again-requires = (c : After-read-again) → s6 .asks (m6 (c .before) (After-read-again·gave c))
 
-      abbrev pub m6 : (before : After-read-again) → (given : s5 .gives (m5 (before .before) (After-read-again·gave before))) → Typed.Mo T7
-      m6 = λ before given. s5 .next (m5 (before .before) (After-read-again·gave before)) given
+      abbrev pub m7 : (before : After-read-again) → (given : s6 .gives (m6 (before .before) (After-read-again·gave before))) → Typed.Mo T8
+      m7 = λ before given. s6 .next (m6 (before .before) (After-read-again·gave before)) given
 
       module _ (before· : After-read-again) where
         abbrev pub After-trim-again·own : Type 0
-        After-trim-again·own = Called.Called ps·1 r·1 (claims· .3) T6 (record { pos = 1; st = List.[]; d = 0; at = λ x. x }, (record { pos = 2; ty = Syntax.tyRef (Syntax.named 0) Syntax.imm (Memory.pointee (T.the-row .written)); ref = λ x. x }, (record { pos = 3; ty = Syntax.tyRef (Syntax.named 1) Syntax.imm (Syntax.tyInt Syntax.w16); ref = λ x. x }, (record { pos = 4; ty = Syntax.tyRef (Syntax.named 2) Syntax.imm (Syntax.tyInt Syntax.w16); ref = λ x. x }, tt)))) (m5 (before· .before) (After-read-again·gave before·))
+        After-trim-again·own = Called.Called ps·1 r·1 (claims· .3) T7 (record { pos = 2; st = List.[]; d = 0; at = λ x. x }, (record { pos = 3; ty = Syntax.tyRef (Syntax.named 0) Syntax.imm (Memory.pointee (T.the-row .written)); ref = λ x. x }, (record { pos = 4; ty = Syntax.tyRef (Syntax.named 1) Syntax.imm (Syntax.tyInt Syntax.w16); ref = λ x. x }, (record { pos = 5; ty = Syntax.tyRef (Syntax.named 2) Syntax.imm (Syntax.tyInt Syntax.w16); ref = λ x. x }, tt)))) (m6 (before· .before) (After-read-again·gave before·))
 
       pub record After-trim-again : Type 0 where
         pub before : After-read-again
         pub trim-again : After-trim-again·own before
 
-      abbrev pub After-trim-again·gave : (c : After-trim-again) → s5 .gives (m5 (c .before .before) (After-read-again·gave (c .before)))
-      After-trim-again·gave = λ c. Called.given ps·1 r·1 (claims· .3) T6 (record { pos = 1; st = List.[]; d = 0; at = λ x. x }, (record { pos = 2; ty = Syntax.tyRef (Syntax.named 0) Syntax.imm (Memory.pointee (T.the-row .written)); ref = λ x. x }, (record { pos = 3; ty = Syntax.tyRef (Syntax.named 1) Syntax.imm (Syntax.tyInt Syntax.w16); ref = λ x. x }, (record { pos = 4; ty = Syntax.tyRef (Syntax.named 2) Syntax.imm (Syntax.tyInt Syntax.w16); ref = λ x. x }, tt)))) (m5 (c .before .before) (After-read-again·gave (c .before))) (c .trim-again)
+      abbrev pub After-trim-again·gave : (c : After-trim-again) → s6 .gives (m6 (c .before .before) (After-read-again·gave (c .before)))
+      After-trim-again·gave = λ c. Called.given ps·1 r·1 (claims· .3) T7 (record { pos = 2; st = List.[]; d = 0; at = λ x. x }, (record { pos = 3; ty = Syntax.tyRef (Syntax.named 0) Syntax.imm (Memory.pointee (T.the-row .written)); ref = λ x. x }, (record { pos = 4; ty = Syntax.tyRef (Syntax.named 1) Syntax.imm (Syntax.tyInt Syntax.w16); ref = λ x. x }, (record { pos = 5; ty = Syntax.tyRef (Syntax.named 2) Syntax.imm (Syntax.tyInt Syntax.w16); ref = λ x. x }, tt)))) (m6 (c .before .before) (After-read-again·gave (c .before))) (c .trim-again)
 
-      abbrev pub m7 : (before : After-trim-again) → (given : s7 .gives (m6 (before .before) (After-trim-again·gave before))) → Typed.Mo T9
-      m7 = λ before given. s7 .next (m6 (before .before) (After-trim-again·gave before)) given
+      abbrev pub m8 : (before : After-trim-again) → (given : s8 .gives (m7 (before .before) (After-trim-again·gave before))) → Typed.Mo T10
+      m8 = λ before given. s8 .next (m7 (before .before) (After-trim-again·gave before)) given
 
       module _ (before· : After-trim-again) where
         pub record After-write-all-arg·own : Type 0 where
-          pub given : s7 .gives (m6 (before· .before) (After-trim-again·gave before·))
+          pub given : s8 .gives (m7 (before· .before) (After-trim-again·gave before·))
 
       pub record After-write-all-arg : Type 0 where
         pub before : After-trim-again
         pub write-all-arg : After-write-all-arg·own before
 
       abbrev pub Need-slice-aggregate-write-all : Type 0
-      Need-slice-aggregate-write-all = (c : After-write-all-arg) → Relend.CountIs T9 9 10 (λ x. x) (λ u. 5) (m7 (c .before) (c .write-all-arg .given))
+      Need-slice-aggregate-write-all = (c : After-write-all-arg) → Relend.CountIs T10 11 12 (λ x. x) (λ u. 5) (m8 (c .before) (c .write-all-arg .given))
 
-      abbrev pub m8 : (before : After-trim-again) → (given : s7 .gives (m6 (before .before) (After-trim-again·gave before))) → Typed.Mo T10
-      m8 = λ before given. s8 .next (m7 before given)
+      abbrev pub m9 : (before : After-trim-again) → (given : s8 .gives (m7 (before .before) (After-trim-again·gave before))) → Typed.Mo T11
+      m9 = λ before given. s9 .next (m8 before given)
 
       abbrev pub Need-write-all-requires : Type 0
-      Need-write-all-requires = (c : After-write-all-arg) → s9 .asks (m8 (c .before) (c .write-all-arg .given))
+      Need-write-all-requires = (c : After-write-all-arg) → s10 .asks (m9 (c .before) (c .write-all-arg .given))
 
-      abbrev pub m9 : (before : After-write-all-arg) → (given : s9 .gives (m8 (before .before) (before .write-all-arg .given))) → Typed.Mo T11
-      m9 = λ before given. s9 .next (m8 (before .before) (before .write-all-arg .given)) given
+      abbrev pub m10 : (before : After-write-all-arg) → (given : s10 .gives (m9 (before .before) (before .write-all-arg .given))) → Typed.Mo T12
+      m10 = λ before given. s10 .next (m9 (before .before) (before .write-all-arg .given)) given
 
       module _ (before· : After-write-all-arg) where
         abbrev pub After-write-all·own : Type 0
-        After-write-all·own = Called.Called ps·2 r·2 (claims· .5) T10 (Num.vLit 1, (record { pos = 10; ty = Syntax.tyRef Syntax.erased Syntax.imm (Syntax.tyInt Syntax.w8); ref = λ x. x }, tt)) (m8 (before· .before) (before· .write-all-arg .given))
+        After-write-all·own = Called.Called ps·2 r·2 (claims· .5) T11 (Num.vLit 1, (record { pos = 12; ty = Syntax.tyRef Syntax.erased Syntax.imm (Syntax.tyInt Syntax.w8); ref = λ x. x }, tt)) (m9 (before· .before) (before· .write-all-arg .given))
 
       pub record After-write-all : Type 0 where
         pub before : After-write-all-arg
         pub write-all : After-write-all·own before
 
-      abbrev pub After-write-all·gave : (c : After-write-all) → s9 .gives (m8 (c .before .before) (c .before .write-all-arg .given))
-      After-write-all·gave = λ c. Called.given ps·2 r·2 (claims· .5) T10 (Num.vLit 1, (record { pos = 10; ty = Syntax.tyRef Syntax.erased Syntax.imm (Syntax.tyInt Syntax.w8); ref = λ x. x }, tt)) (m8 (c .before .before) (c .before .write-all-arg .given)) (c .write-all)
+      abbrev pub After-write-all·gave : (c : After-write-all) → s10 .gives (m9 (c .before .before) (c .before .write-all-arg .given))
+      After-write-all·gave = λ c. Called.given ps·2 r·2 (claims· .5) T11 (Num.vLit 1, (record { pos = 12; ty = Syntax.tyRef Syntax.erased Syntax.imm (Syntax.tyInt Syntax.w8); ref = λ x. x }, tt)) (m9 (c .before .before) (c .before .write-all-arg .given)) (c .write-all)
 
-      abbrev pub m10 : (before : After-write-all-arg) → (given : s9 .gives (m8 (before .before) (before .write-all-arg .given))) → Typed.Mo T12
-      m10 = λ before given. s10 (m9 before given)
-
-      abbrev pub m11 : (before : After-write-all-arg) → (given : s9 .gives (m8 (before .before) (before .write-all-arg .given))) → Typed.Mo T13
+      abbrev pub m11 : (before : After-write-all-arg) → (given : s10 .gives (m9 (before .before) (before .write-all-arg .given))) → Typed.Mo T13
       m11 = λ before given. s11 (m10 before given)
 
-      abbrev pub m12 : (before : After-write-all-arg) → (given : s9 .gives (m8 (before .before) (before .write-all-arg .given))) → Typed.Mo T15
-      m12 = λ before given. s13 (m11 before given)
+      abbrev pub m12 : (before : After-write-all-arg) → (given : s10 .gives (m9 (before .before) (before .write-all-arg .given))) → Typed.Mo T14
+      m12 = λ before given. s12 (m11 before given)
 
-      abbrev pub m13 : (before : After-write-all-arg) → (given : s9 .gives (m8 (before .before) (before .write-all-arg .given))) → Typed.Mo T17
-      m13 = λ before given. s15 (m12 before given)
+      abbrev pub m13 : (before : After-write-all-arg) → (given : s10 .gives (m9 (before .before) (before .write-all-arg .given))) → Typed.Mo T16
+      m13 = λ before given. s14 (m12 before given)
+
+      abbrev pub m14 : (before : After-write-all-arg) → (given : s10 .gives (m9 (before .before) (before .write-all-arg .given))) → Typed.Mo T18
+      m14 = λ before given. s16 (m13 before given)
 
       abbrev pub Need-print-again-requires : Type 0
-      Need-print-again-requires = (c : After-write-all) → s16 .asks (m13 (c .before) (After-write-all·gave c))
+      Need-print-again-requires = (c : After-write-all) → s17 .asks (m14 (c .before) (After-write-all·gave c))
 
-      abbrev pub m14 : (before : After-write-all) → (given : s16 .gives (m13 (before .before) (After-write-all·gave before))) → Typed.Mo T18
-      m14 = λ before given. s16 .next (m13 (before .before) (After-write-all·gave before)) given
+      abbrev pub m15 : (before : After-write-all) → (given : s17 .gives (m14 (before .before) (After-write-all·gave before))) → Typed.Mo T19
+      m15 = λ before given. s17 .next (m14 (before .before) (After-write-all·gave before)) given
 
       module _ (before· : After-write-all) where
         abbrev pub After-print-again·own : Type 0
-        After-print-again·own = Called.Called ps·3 r·3 (claims· .7) T17 (Bool.bAt 5 λ x. x, (Bool.bAt 6 λ x. x, tt)) (m13 (before· .before) (After-write-all·gave before·))
+        After-print-again·own = Called.Called ps·3 r·3 (claims· .7) T18 (Bool.bAt 7 λ x. x, (Bool.bAt 8 λ x. x, tt)) (m14 (before· .before) (After-write-all·gave before·))
 
       pub record After-print-again : Type 0 where
         pub before : After-write-all
         pub print-again : After-print-again·own before
 
-      abbrev pub After-print-again·gave : (c : After-print-again) → s16 .gives (m13 (c .before .before) (After-write-all·gave (c .before)))
-      After-print-again·gave = λ c. Called.given ps·3 r·3 (claims· .7) T17 (Bool.bAt 5 λ x. x, (Bool.bAt 6 λ x. x, tt)) (m13 (c .before .before) (After-write-all·gave (c .before))) (c .print-again)
+      abbrev pub After-print-again·gave : (c : After-print-again) → s17 .gives (m14 (c .before .before) (After-write-all·gave (c .before)))
+      After-print-again·gave = λ c. Called.given ps·3 r·3 (claims· .7) T18 (Bool.bAt 7 λ x. x, (Bool.bAt 8 λ x. x, tt)) (m14 (c .before .before) (After-write-all·gave (c .before))) (c .print-again)
 
-      abbrev pub m15 : (before : After-write-all) → (given : s16 .gives (m13 (before .before) (After-write-all·gave before))) → Typed.Mo T19
-      m15 = λ before given. s17 (m14 before given)
+      abbrev pub m16 : (before : After-write-all) → (given : s17 .gives (m14 (before .before) (After-write-all·gave before))) → Typed.Mo T20
+      m16 = λ before given. s18 (m15 before given)
 
       abbrev pub Need-ask-tables-requires : Type 0
-      Need-ask-tables-requires = (c : After-print-again) → s18 .asks (m15 (c .before) (After-print-again·gave c))
+      Need-ask-tables-requires = (c : After-print-again) → s19 .asks (m16 (c .before) (After-print-again·gave c))
 
-      abbrev pub m16 : (before : After-print-again) → (given : s18 .gives (m15 (before .before) (After-print-again·gave before))) → Typed.Mo T20
-      m16 = λ before given. s18 .next (m15 (before .before) (After-print-again·gave before)) given
+      abbrev pub m17 : (before : After-print-again) → (given : s19 .gives (m16 (before .before) (After-print-again·gave before))) → Typed.Mo T21
+      m17 = λ before given. s19 .next (m16 (before .before) (After-print-again·gave before)) given
 
       module _ (before· : After-print-again) where
         abbrev pub After-ask-tables·own : Type 0
-        After-ask-tables·own = Called.Called ps·4 r·4 (claims· .9) T19 (record { pos = 1; st = List.[]; d = 0; at = λ x. x }, (record { pos = 2; ty = Syntax.tyRef (Syntax.named 0) Syntax.imm (Memory.pointee (T.the-row .written)); ref = λ x. x }, (record { pos = 3; ty = Syntax.tyRef (Syntax.named 1) Syntax.imm (Syntax.tyInt Syntax.w16); ref = λ x. x }, (record { pos = 4; ty = Syntax.tyRef (Syntax.named 2) Syntax.imm (Syntax.tyInt Syntax.w16); ref = λ x. x }, (Num.vLit 0, (Num.vLit 0, (Num.vBig 1024, tt))))))) (m15 (before· .before) (After-print-again·gave before·))
+        After-ask-tables·own = Called.Called ps·4 r·4 (claims· .9) T20 (record { pos = 2; st = List.[]; d = 0; at = λ x. x }, (record { pos = 3; ty = Syntax.tyRef (Syntax.named 0) Syntax.imm (Memory.pointee (T.the-row .written)); ref = λ x. x }, (record { pos = 4; ty = Syntax.tyRef (Syntax.named 1) Syntax.imm (Syntax.tyInt Syntax.w16); ref = λ x. x }, (record { pos = 5; ty = Syntax.tyRef (Syntax.named 2) Syntax.imm (Syntax.tyInt Syntax.w16); ref = λ x. x }, (Num.vLit 0, (Num.vLit 0, (Num.vBig 1024, tt))))))) (m16 (before· .before) (After-print-again·gave before·))
 
       pub record After-ask-tables : Type 0 where
         pub before : After-print-again
         pub ask-tables : After-ask-tables·own before
 
-      abbrev pub After-ask-tables·gave : (c : After-ask-tables) → s18 .gives (m15 (c .before .before) (After-print-again·gave (c .before)))
-      After-ask-tables·gave = λ c. Called.given ps·4 r·4 (claims· .9) T19 (record { pos = 1; st = List.[]; d = 0; at = λ x. x }, (record { pos = 2; ty = Syntax.tyRef (Syntax.named 0) Syntax.imm (Memory.pointee (T.the-row .written)); ref = λ x. x }, (record { pos = 3; ty = Syntax.tyRef (Syntax.named 1) Syntax.imm (Syntax.tyInt Syntax.w16); ref = λ x. x }, (record { pos = 4; ty = Syntax.tyRef (Syntax.named 2) Syntax.imm (Syntax.tyInt Syntax.w16); ref = λ x. x }, (Num.vLit 0, (Num.vLit 0, (Num.vBig 1024, tt))))))) (m15 (c .before .before) (After-print-again·gave (c .before))) (c .ask-tables)
+      abbrev pub After-ask-tables·gave : (c : After-ask-tables) → s19 .gives (m16 (c .before .before) (After-print-again·gave (c .before)))
+      After-ask-tables·gave = λ c. Called.given ps·4 r·4 (claims· .9) T20 (record { pos = 2; st = List.[]; d = 0; at = λ x. x }, (record { pos = 3; ty = Syntax.tyRef (Syntax.named 0) Syntax.imm (Memory.pointee (T.the-row .written)); ref = λ x. x }, (record { pos = 4; ty = Syntax.tyRef (Syntax.named 1) Syntax.imm (Syntax.tyInt Syntax.w16); ref = λ x. x }, (record { pos = 5; ty = Syntax.tyRef (Syntax.named 2) Syntax.imm (Syntax.tyInt Syntax.w16); ref = λ x. x }, (Num.vLit 0, (Num.vLit 0, (Num.vBig 1024, tt))))))) (m16 (c .before .before) (After-print-again·gave (c .before))) (c .ask-tables)
 
-      abbrev pub m17 : (before : After-print-again) → (given : s18 .gives (m15 (before .before) (After-print-again·gave before))) → Typed.Mo T21
-      m17 = λ before given. s19 (m16 before given)
-
-      abbrev pub m18 : (before : After-print-again) → (given : s18 .gives (m15 (before .before) (After-print-again·gave before))) → Typed.Mo T22
+      abbrev pub m18 : (before : After-print-again) → (given : s19 .gives (m16 (before .before) (After-print-again·gave before))) → Typed.Mo T22
       m18 = λ before given. s20 (m17 before given)
 
-      abbrev pub m19 : (before : After-print-again) → (given : s18 .gives (m15 (before .before) (After-print-again·gave before))) → Typed.Mo T23
-      m19 = λ before given. s21 (m18 before given)
+      abbrev pub Need-carry-decided-requires : Type 0
+      Need-carry-decided-requires = (c : After-ask-tables) → s21 .asks (m18 (c .before) (After-ask-tables·gave c))
 
-      abbrev pub m20 : (before : After-print-again) → (given : s18 .gives (m15 (before .before) (After-print-again·gave before))) → Typed.Mo T24
+      abbrev pub m19 : (before : After-ask-tables) → (given : s21 .gives (m18 (before .before) (After-ask-tables·gave before))) → Typed.Mo T23
+      m19 = λ before given. s21 .next (m18 (before .before) (After-ask-tables·gave before)) given
+
+      module _ (before· : After-ask-tables) where
+        abbrev pub After-carry-decided·own : Type 0
+        After-carry-decided·own = Called.Called ps·5 r·5 (claims· .11) T22 (Num.vAt 1 λ x. x, (record { pos = 2; st = List.[]; d = 0; at = λ x. x }, (record { pos = 3; ty = Syntax.tyRef (Syntax.named 0) Syntax.imm (Memory.pointee (T.the-row .written)); ref = λ x. x }, (record { pos = 4; ty = Syntax.tyRef (Syntax.named 1) Syntax.imm (Syntax.tyInt Syntax.w16); ref = λ x. x }, (record { pos = 5; ty = Syntax.tyRef (Syntax.named 2) Syntax.imm (Syntax.tyInt Syntax.w16); ref = λ x. x }, (record { pos = 6; ty = Syntax.tyRef (Syntax.named 3) Syntax.imm (Syntax.tyInt Syntax.w16); ref = λ x. x }, tt)))))) (m18 (before· .before) (After-ask-tables·gave before·))
+
+      pub record After-carry-decided : Type 0 where
+        pub before : After-ask-tables
+        pub carry-decided : After-carry-decided·own before
+
+      abbrev pub After-carry-decided·gave : (c : After-carry-decided) → s21 .gives (m18 (c .before .before) (After-ask-tables·gave (c .before)))
+      After-carry-decided·gave = λ c. Called.given ps·5 r·5 (claims· .11) T22 (Num.vAt 1 λ x. x, (record { pos = 2; st = List.[]; d = 0; at = λ x. x }, (record { pos = 3; ty = Syntax.tyRef (Syntax.named 0) Syntax.imm (Memory.pointee (T.the-row .written)); ref = λ x. x }, (record { pos = 4; ty = Syntax.tyRef (Syntax.named 1) Syntax.imm (Syntax.tyInt Syntax.w16); ref = λ x. x }, (record { pos = 5; ty = Syntax.tyRef (Syntax.named 2) Syntax.imm (Syntax.tyInt Syntax.w16); ref = λ x. x }, (record { pos = 6; ty = Syntax.tyRef (Syntax.named 3) Syntax.imm (Syntax.tyInt Syntax.w16); ref = λ x. x }, tt)))))) (m18 (c .before .before) (After-ask-tables·gave (c .before))) (c .carry-decided)
+
+      abbrev pub m20 : (before : After-ask-tables) → (given : s21 .gives (m18 (before .before) (After-ask-tables·gave before))) → Typed.Mo T24
       m20 = λ before given. s22 (m19 before given)
 
-      abbrev pub m21 : (before : After-print-again) → (given : s18 .gives (m15 (before .before) (After-print-again·gave before))) → Typed.Mo T25
+      abbrev pub m21 : (before : After-ask-tables) → (given : s21 .gives (m18 (before .before) (After-ask-tables·gave before))) → Typed.Mo T25
       m21 = λ before given. s23 (m20 before given)
 
+      abbrev pub m22 : (before : After-ask-tables) → (given : s21 .gives (m18 (before .before) (After-ask-tables·gave before))) → Typed.Mo T26
+      m22 = λ before given. s24 (m21 before given)
+
+      abbrev pub m23 : (before : After-ask-tables) → (given : s21 .gives (m18 (before .before) (After-ask-tables·gave before))) → Typed.Mo T27
+      m23 = λ before given. s25 (m22 before given)
+
+      abbrev pub m24 : (before : After-ask-tables) → (given : s21 .gives (m18 (before .before) (After-ask-tables·gave before))) → Typed.Mo T28
+      m24 = λ before given. s26 (m23 before given)
+
+      abbrev pub m25 : (before : After-ask-tables) → (given : s21 .gives (m18 (before .before) (After-ask-tables·gave before))) → Typed.Mo T29
+      m25 = λ before given. s27 (m24 before given)
+
       abbrev pub Need-returns : Type 0
-      Need-returns = (c : After-ask-tables) → Post· (c .before .before .before .before .before .before .before .before .κs) (dens (c .before .before .before .before .before .before .before .before .κs) (c .before .before .before .before .before .before .before .before .args)) (Function.resV r (c .before .before .before .before .before .before .before .before .κs) (m21 (c .before) (After-ask-tables·gave c) .0)) (Clauses.atExit (Kinds.endedOf 3 ps r) (c .before .before .before .before .before .before .before .before .κs) (dens (c .before .before .before .before .before .before .before .before .κs) (c .before .before .before .before .before .before .before .before .args)) (Enter.lastsP (c .before .before .before .before .before .before .before .before .κs) 1 ps xs (dens (c .before .before .before .before .before .before .before .before .κs) (c .before .before .before .before .before .before .before .before .args)) (m21 (c .before) (After-ask-tables·gave c) .1)))
+      Need-returns = (c : After-carry-decided) → Post· (c .before .before .before .before .before .before .before .before .before .before .κs) (dens (c .before .before .before .before .before .before .before .before .before .before .κs) (c .before .before .before .before .before .before .before .before .before .before .args)) (Function.resV r (c .before .before .before .before .before .before .before .before .before .before .κs) (m25 (c .before) (After-carry-decided·gave c) .0)) (Clauses.atExit (Kinds.endedOf 4 ps r) (c .before .before .before .before .before .before .before .before .before .before .κs) (dens (c .before .before .before .before .before .before .before .before .before .before .κs) (c .before .before .before .before .before .before .before .before .before .before .args)) (Enter.lastsP (c .before .before .before .before .before .before .before .before .before .before .κs) 1 ps xs (dens (c .before .before .before .before .before .before .before .before .before .before .κs) (c .before .before .before .before .before .before .before .before .before .before .args)) (m25 (c .before) (After-carry-decided·gave c) .1)))
 
-      module _ (read-again-requires : Need-read-again-requires) (trim-again-requires : Need-trim-again-requires) (slice-aggregate-write-all : Need-slice-aggregate-write-all) (write-all-requires : Need-write-all-requires) (print-again-requires : Need-print-again-requires) (ask-tables-requires : Need-ask-tables-requires) (returns : Need-returns) where
-        lay5 : (c : After-ask-tables) → at5 (W0 (c .before .before .before .before .before .before .before .before .κs) (c .before .before .before .before .before .before .before .before .args)) (m16 (c .before) (After-ask-tables·gave c))
-        lay5 = λ c. ((tt, (Path'.refl, (Path'.refl, (Path'.refl, tt)))), returns record { before = c .before; ask-tables = c .ask-tables })
+      module _ (read-again-requires : Need-read-again-requires) (trim-again-requires : Need-trim-again-requires) (slice-aggregate-write-all : Need-slice-aggregate-write-all) (write-all-requires : Need-write-all-requires) (print-again-requires : Need-print-again-requires) (ask-tables-requires : Need-ask-tables-requires) (carry-decided-requires : Need-carry-decided-requires) (returns : Need-returns) where
+        lay6 : (c : After-carry-decided) → at6 (W0 (c .before .before .before .before .before .before .before .before .before .before .κs) (c .before .before .before .before .before .before .before .before .before .before .args)) (m19 (c .before) (After-carry-decided·gave c))
+        lay6 = λ c. ((tt, (tt, (Path'.refl, (Path'.refl, (Path'.refl, (Path'.refl, tt)))))), returns record { before = c .before; carry-decided = c .carry-decided })
 
-        lay4 : (c : After-print-again) → at7 (W0 (c .before .before .before .before .before .before .before .κs) (c .before .before .before .before .before .before .before .args)) (m14 (c .before) (After-print-again·gave c))
-        lay4 = λ c. (ask-tables-requires record { before = c .before; print-again = c .print-again }, λ g. lay5 record { before = record { before = c .before; print-again = c .print-again }; ask-tables = Called.called ps·4 r·4 (claims· .9) T19 (record { pos = 1; st = List.[]; d = 0; at = λ x. x }, (record { pos = 2; ty = Syntax.tyRef (Syntax.named 0) Syntax.imm (Memory.pointee (T.the-row .written)); ref = λ x. x }, (record { pos = 3; ty = Syntax.tyRef (Syntax.named 1) Syntax.imm (Syntax.tyInt Syntax.w16); ref = λ x. x }, (record { pos = 4; ty = Syntax.tyRef (Syntax.named 2) Syntax.imm (Syntax.tyInt Syntax.w16); ref = λ x. x }, (Num.vLit 0, (Num.vLit 0, (Num.vBig 1024, tt))))))) (m15 (c .before) (After-print-again·gave c)) g })
+        lay5 : (c : After-ask-tables) → at8 (W0 (c .before .before .before .before .before .before .before .before .before .κs) (c .before .before .before .before .before .before .before .before .before .args)) (m17 (c .before) (After-ask-tables·gave c))
+        lay5 = λ c. (carry-decided-requires record { before = c .before; ask-tables = c .ask-tables }, λ g. lay6 record { before = record { before = c .before; ask-tables = c .ask-tables }; carry-decided = Called.called ps·5 r·5 (claims· .11) T22 (Num.vAt 1 λ x. x, (record { pos = 2; st = List.[]; d = 0; at = λ x. x }, (record { pos = 3; ty = Syntax.tyRef (Syntax.named 0) Syntax.imm (Memory.pointee (T.the-row .written)); ref = λ x. x }, (record { pos = 4; ty = Syntax.tyRef (Syntax.named 1) Syntax.imm (Syntax.tyInt Syntax.w16); ref = λ x. x }, (record { pos = 5; ty = Syntax.tyRef (Syntax.named 2) Syntax.imm (Syntax.tyInt Syntax.w16); ref = λ x. x }, (record { pos = 6; ty = Syntax.tyRef (Syntax.named 3) Syntax.imm (Syntax.tyInt Syntax.w16); ref = λ x. x }, tt)))))) (m18 (c .before) (After-ask-tables·gave c)) g })
 
-        lay3 : (c : After-write-all) → at14 (W0 (c .before .before .before .before .before .before .κs) (c .before .before .before .before .before .before .args)) (m9 (c .before) (After-write-all·gave c))
-        lay3 = λ c. (print-again-requires record { before = c .before; write-all = c .write-all }, λ g. lay4 record { before = record { before = c .before; write-all = c .write-all }; print-again = Called.called ps·3 r·3 (claims· .7) T17 (Bool.bAt 5 λ x. x, (Bool.bAt 6 λ x. x, tt)) (m13 (c .before) (After-write-all·gave c)) g })
+        lay4 : (c : After-print-again) → at10 (W0 (c .before .before .before .before .before .before .before .before .κs) (c .before .before .before .before .before .before .before .before .args)) (m15 (c .before) (After-print-again·gave c))
+        lay4 = λ c. (ask-tables-requires record { before = c .before; print-again = c .print-again }, λ g. lay5 record { before = record { before = c .before; print-again = c .print-again }; ask-tables = Called.called ps·4 r·4 (claims· .9) T20 (record { pos = 2; st = List.[]; d = 0; at = λ x. x }, (record { pos = 3; ty = Syntax.tyRef (Syntax.named 0) Syntax.imm (Memory.pointee (T.the-row .written)); ref = λ x. x }, (record { pos = 4; ty = Syntax.tyRef (Syntax.named 1) Syntax.imm (Syntax.tyInt Syntax.w16); ref = λ x. x }, (record { pos = 5; ty = Syntax.tyRef (Syntax.named 2) Syntax.imm (Syntax.tyInt Syntax.w16); ref = λ x. x }, (Num.vLit 0, (Num.vLit 0, (Num.vBig 1024, tt))))))) (m16 (c .before) (After-print-again·gave c)) g })
 
-        lay2 : (c : After-trim-again) → at18 (W0 (c .before .before .before .before .κs) (c .before .before .before .before .args)) (m6 (c .before) (After-trim-again·gave c))
-        lay2 = λ c. λ g. (Relend.count-is T9 9 10 (λ x. x) (λ u. 5) (m7 record { before = c .before; trim-again = c .trim-again } g) (slice-aggregate-write-all record { before = record { before = c .before; trim-again = c .trim-again }; write-all-arg = record { given = g } }), (write-all-requires record { before = record { before = c .before; trim-again = c .trim-again }; write-all-arg = record { given = g } }, λ g'. lay3 record { before = record { before = record { before = c .before; trim-again = c .trim-again }; write-all-arg = record { given = g } }; write-all = Called.called ps·2 r·2 (claims· .5) T10 (Num.vLit 1, (record { pos = 10; ty = Syntax.tyRef Syntax.erased Syntax.imm (Syntax.tyInt Syntax.w8); ref = λ x. x }, tt)) (m8 record { before = c .before; trim-again = c .trim-again } g) g' }))
+        lay3 : (c : After-write-all) → at17 (W0 (c .before .before .before .before .before .before .before .κs) (c .before .before .before .before .before .before .before .args)) (m10 (c .before) (After-write-all·gave c))
+        lay3 = λ c. (print-again-requires record { before = c .before; write-all = c .write-all }, λ g. lay4 record { before = record { before = c .before; write-all = c .write-all }; print-again = Called.called ps·3 r·3 (claims· .7) T18 (Bool.bAt 7 λ x. x, (Bool.bAt 8 λ x. x, tt)) (m14 (c .before) (After-write-all·gave c)) g })
 
-        lay1 : (c : After-read-again) → at19 (W0 (c .before .before .before .κs) (c .before .before .before .args)) (m5 (c .before) (After-read-again·gave c))
-        lay1 = λ c. (trim-again-requires record { before = c .before; read-again = c .read-again }, λ g. lay2 record { before = record { before = c .before; read-again = c .read-again }; trim-again = Called.called ps·1 r·1 (claims· .3) T6 (record { pos = 1; st = List.[]; d = 0; at = λ x. x }, (record { pos = 2; ty = Syntax.tyRef (Syntax.named 0) Syntax.imm (Memory.pointee (T.the-row .written)); ref = λ x. x }, (record { pos = 3; ty = Syntax.tyRef (Syntax.named 1) Syntax.imm (Syntax.tyInt Syntax.w16); ref = λ x. x }, (record { pos = 4; ty = Syntax.tyRef (Syntax.named 2) Syntax.imm (Syntax.tyInt Syntax.w16); ref = λ x. x }, tt)))) (m5 (c .before) (After-read-again·gave c)) g })
+        lay2 : (c : After-trim-again) → at21 (W0 (c .before .before .before .before .before .κs) (c .before .before .before .before .before .args)) (m7 (c .before) (After-trim-again·gave c))
+        lay2 = λ c. λ g. (Relend.count-is T10 11 12 (λ x. x) (λ u. 5) (m8 record { before = c .before; trim-again = c .trim-again } g) (slice-aggregate-write-all record { before = record { before = c .before; trim-again = c .trim-again }; write-all-arg = record { given = g } }), (write-all-requires record { before = record { before = c .before; trim-again = c .trim-again }; write-all-arg = record { given = g } }, λ g'. lay3 record { before = record { before = record { before = c .before; trim-again = c .trim-again }; write-all-arg = record { given = g } }; write-all = Called.called ps·2 r·2 (claims· .5) T11 (Num.vLit 1, (record { pos = 12; ty = Syntax.tyRef Syntax.erased Syntax.imm (Syntax.tyInt Syntax.w8); ref = λ x. x }, tt)) (m9 record { before = c .before; trim-again = c .trim-again } g) g' }))
 
-        pub laid : (c : Start) → at24 (W0 (c .κs) (c .args)) (m0 (c .κs) (c .args))
-        laid = λ c. λ g. λ g'. (read-again-requires record { before = record { before = c; shared-slice-known = record { given = g } }; shared-slice-known2 = record { given = g' } }, λ g''. lay1 record { before = record { before = record { before = c; shared-slice-known = record { given = g } }; shared-slice-known2 = record { given = g' } }; read-again = Called.called ps·0 r·0 (claims· .1) T5 (record { pos = 1; st = List.[]; d = 0; at = λ x. x }, (record { pos = 2; ty = Syntax.tyRef (Syntax.named 0) Syntax.imm (Memory.pointee (T.the-row .written)); ref = λ x. x }, (record { pos = 3; ty = Syntax.tyRef (Syntax.named 1) Syntax.imm (Syntax.tyInt Syntax.w16); ref = λ x. x }, (record { pos = 4; ty = Syntax.tyRef (Syntax.named 2) Syntax.imm (Syntax.tyInt Syntax.w16); ref = λ x. x }, tt)))) (m4 record { before = c; shared-slice-known = record { given = g } } g') g'' })
+        lay1 : (c : After-read-again) → at22 (W0 (c .before .before .before .before .κs) (c .before .before .before .before .args)) (m6 (c .before) (After-read-again·gave c))
+        lay1 = λ c. (trim-again-requires record { before = c .before; read-again = c .read-again }, λ g. lay2 record { before = record { before = c .before; read-again = c .read-again }; trim-again = Called.called ps·1 r·1 (claims· .3) T7 (record { pos = 2; st = List.[]; d = 0; at = λ x. x }, (record { pos = 3; ty = Syntax.tyRef (Syntax.named 0) Syntax.imm (Memory.pointee (T.the-row .written)); ref = λ x. x }, (record { pos = 4; ty = Syntax.tyRef (Syntax.named 1) Syntax.imm (Syntax.tyInt Syntax.w16); ref = λ x. x }, (record { pos = 5; ty = Syntax.tyRef (Syntax.named 2) Syntax.imm (Syntax.tyInt Syntax.w16); ref = λ x. x }, tt)))) (m6 (c .before) (After-read-again·gave c)) g })
 
-        module _ (κs : Lifetimes.Lfts 3) (qs : Lifetimes.Shares 3) where
-          pub asked : (a : Kinds.Dens κs ps) → (good : Kinds.GoodsP κs ps a) → (pre : Pre· κs a) → (bs : List.List Nat.ℕ) → Φ (Any.wantQ 3 ps r xs m κs qs a (Post· κs a)) (Function.init 3 ps r xs m κs qs a)
-          asked = λ a good pre bs. laid record { κs = κs; args = record { size = a .0; rows = a .1 .0; firsts = a .1 .1 .0; outcomes = a .1 .1 .1 .0 }; good = good; pre = pre }
+        pub laid : (c : Start) → at28 (W0 (c .κs) (c .args)) (m0 (c .κs) (c .args))
+        laid = λ c. λ g. λ g'. λ g''. (read-again-requires record { before = record { before = record { before = c; shared-slice-known = record { given = g } }; shared-slice-known2 = record { given = g' } }; shared-slice-known3 = record { given = g'' } }, λ g'3. lay1 record { before = record { before = record { before = record { before = c; shared-slice-known = record { given = g } }; shared-slice-known2 = record { given = g' } }; shared-slice-known3 = record { given = g'' } }; read-again = Called.called ps·0 r·0 (claims· .1) T6 (record { pos = 2; st = List.[]; d = 0; at = λ x. x }, (record { pos = 3; ty = Syntax.tyRef (Syntax.named 0) Syntax.imm (Memory.pointee (T.the-row .written)); ref = λ x. x }, (record { pos = 4; ty = Syntax.tyRef (Syntax.named 1) Syntax.imm (Syntax.tyInt Syntax.w16); ref = λ x. x }, (record { pos = 5; ty = Syntax.tyRef (Syntax.named 2) Syntax.imm (Syntax.tyInt Syntax.w16); ref = λ x. x }, tt)))) (m5 record { before = record { before = c; shared-slice-known = record { given = g } }; shared-slice-known2 = record { given = g' } } g'') g'3 })
 
-        module _ {M : Type 1} (𝓤 : URA.URA M) (H : Wp.Heap 𝓤) (A : Atoms.Atoms 𝓤) (W : Kit.Given 𝓤 H A) (𝓣 : Wp.Tables 𝓤 H) (known0 : Plain.Known 𝓤 H A W 𝓣 3 ps·0 r·0 (claims· .0) (claims· .1) "bench_plans::files::read_again") (known1 : Plain.Known 𝓤 H A W 𝓣 3 ps·1 r·1 (claims· .2) (claims· .3) "bench_plans::trims::trim_again") (known2 : Plain.Known 𝓤 H A W 𝓣 1 ps·2 r·2 (claims· .4) (claims· .5) "io::write_all") (known3 : Plain.Known 𝓤 H A W 𝓣 0 ps·3 r·3 (claims· .6) (claims· .7) "bench_plans::files::print_again") (known4 : Plain.Known 𝓤 H A W 𝓣 3 ps·4 r·4 (claims· .8) (claims· .9) "bench_plans::verdicts::ask_tables") where
-          pub spec : Statement.Triple 𝓤 (Wp.WpFn 𝓤 H (𝓣 .C) (𝓣 .Λ) (Function.fnOf 3 ps r xs m hs body)) (Function.plainOf 𝓤 H A 3 ps r Pre· Post·)
-          spec = Plain.t-fn-plain 𝓤 H A W 𝓣 3 ps r xs m hs body (λ κs qs bs. Φ) (λ κs qs bs bd. typed κs qs 𝓤 H A W 𝓣 (known0, known1, known2, known3, known4) bs bd) Pre· Post· asked
+        module _ (κs : Lifetimes.Lfts 4) (qs : Lifetimes.Shares 4) where
+          pub asked : (a : Kinds.Dens κs ps) → (good : Kinds.GoodsP κs ps a) → (pre : Pre· κs a) → (bs : List.List Nat.ℕ) → Φ (Any.wantQ 4 ps r xs m κs qs a (Post· κs a)) (Function.init 4 ps r xs m κs qs a)
+          asked = λ a good pre bs. laid record { κs = κs; args = record { n = a .0; size = a .1 .0; rows = a .1 .1 .0; firsts = a .1 .1 .1 .0; outcomes = a .1 .1 .1 .1 .0; olds = a .1 .1 .1 .1 .1 .0 }; good = good; fits = record { n = record { fits = good .0 .1 } }; pre = pre }
+
+        module _ {M : Type 1} (𝓤 : URA.URA M) (H : Wp.Heap 𝓤) (A : Atoms.Atoms 𝓤) (W : Kit.Given 𝓤 H A) (𝓣 : Wp.Tables 𝓤 H) (known0 : Plain.Known 𝓤 H A W 𝓣 3 ps·0 r·0 (claims· .0) (claims· .1) "bench_plans::files::read_again") (known1 : Plain.Known 𝓤 H A W 𝓣 3 ps·1 r·1 (claims· .2) (claims· .3) "bench_plans::trims::trim_again") (known2 : Plain.Known 𝓤 H A W 𝓣 1 ps·2 r·2 (claims· .4) (claims· .5) "io::write_all") (known3 : Plain.Known 𝓤 H A W 𝓣 0 ps·3 r·3 (claims· .6) (claims· .7) "bench_plans::files::print_again") (known4 : Plain.Known 𝓤 H A W 𝓣 3 ps·4 r·4 (claims· .8) (claims· .9) "bench_plans::verdicts::ask_tables") (known5 : Plain.Known 𝓤 H A W 𝓣 4 ps·5 r·5 (claims· .10) (claims· .11) "bench_plans::trims::carry_decided") where
+          pub spec : Statement.Triple 𝓤 (Wp.WpFn 𝓤 H (𝓣 .C) (𝓣 .Λ) (Function.fnOf 4 ps r xs m hs body)) (Function.plainOf 𝓤 H A 4 ps r Pre· Post·)
+          spec = Plain.t-fn-plain 𝓤 H A W 𝓣 4 ps r xs m hs body (λ κs qs bs. Φ) (λ κs qs bs bd. typed κs qs 𝓤 H A W 𝓣 (known0, known1, known2, known3, known4, known5) bs bd) Pre· Post· asked

@@ -16,6 +16,7 @@ use borrow.Fn.Frame
 use borrow.Fn.Function
 use borrow.Fn.Kinds
 use borrow.Fn.Plain
+use borrow.Kind.Num
 use borrow.Kind.ShrSlice
 use borrow.Kind.Unit as Unit'
 use borrow.Kind.Value
@@ -79,7 +80,7 @@ abbrev ty·7 : Syntax.Ty
 ty·7 = Syntax.tyEnum (List._∷_ 116 (List._∷_ 114 (List._∷_ 105 (List._∷_ 109 (List._∷_ 58 (List._∷_ 58 (List._∷_ 84 (List._∷_ 114 (List._∷_ 105 (List._∷_ 109 (List._∷_ 65 (List._∷_ 110 (List._∷_ 115 (List._∷_ 119 (List._∷_ 101 (List._∷_ 114 List.[])))))))))))))))) (Syntax.ttcons (Syntax.tcons ty·5 Syntax.tnil) (Syntax.ttcons (Syntax.tcons ty·6 Syntax.tnil) Syntax.ttnil))
 
 abbrev pub ps : List.List (Kinds.PK 5)
-ps = List._∷_ (Value.pVal record { ty = Declared.row TrimAnswer.the-type; one = Path'.refl; val = Laws''.val TrimAnswer.the-type Laws'.the-laws; tells = Laws''.tells TrimAnswer.the-type Laws'.the-laws; still = Laws''.still TrimAnswer.the-type Laws'.the-copy Exit.yes; row = Rows.whole (Declared.row TrimAnswer.the-type); rd = λ x. x; mk = λ x. x } λ M 𝓤 H A W. record { copies = Laws''.copy TrimAnswer.the-type Laws'.the-copy 𝓤 H A W; lawful = Laws''.lawful TrimAnswer.the-type Laws'.the-laws 𝓤 H A W tt; makes = Laws''.makes TrimAnswer.the-type Laws'.the-plain 𝓤 H A; in-mem = Local.mem-whole 𝓤 H A W (Declared.row TrimAnswer.the-type); of-mem = Local.whole-mem 𝓤 H A W (Declared.row TrimAnswer.the-type) }) (List._∷_ (ShrSlice.pShrS T.the-row 0 tt) (List._∷_ (ShrSlice.pShrS (Referent.rtF (Referent.fInt Syntax.w16)) 1 tt) (List._∷_ (ShrSlice.pShrS (Referent.rtF (Referent.fInt Syntax.w16)) 2 tt) (List._∷_ (ShrSlice.pShrS (Referent.rtF (Referent.fInt Syntax.w16)) 3 tt) (List._∷_ (ShrSlice.pShrS (Referent.rtF (Referent.fInt Syntax.w16)) 4 tt) List.[])))))
+ps = List._∷_ (Value.pVal record { ty = Declared.row TrimAnswer.the-type; one = Path'.refl; val = Laws''.val TrimAnswer.the-type Laws'.the-laws; tells = Laws''.tells TrimAnswer.the-type Laws'.the-laws; still = Laws''.still TrimAnswer.the-type Laws'.the-copy Exit.yes; row = Rows.whole (Declared.row TrimAnswer.the-type); rd = λ x. x; mk = λ x. x } λ M 𝓤 H A W. record { copies = Laws''.copy TrimAnswer.the-type Laws'.the-copy 𝓤 H A W; lawful = Laws''.lawful TrimAnswer.the-type Laws'.the-laws 𝓤 H A W tt; makes = Laws''.makes TrimAnswer.the-type Laws'.the-plain 𝓤 H A; in-mem = Local.mem-whole 𝓤 H A W (Declared.row TrimAnswer.the-type); of-mem = Local.whole-mem 𝓤 H A W (Declared.row TrimAnswer.the-type) }) (List._∷_ (Num.pNum Syntax.w64) (List._∷_ (ShrSlice.pShrS T.the-row 0 tt) (List._∷_ (ShrSlice.pShrS (Referent.rtF (Referent.fInt Syntax.w16)) 1 tt) (List._∷_ (ShrSlice.pShrS (Referent.rtF (Referent.fInt Syntax.w16)) 2 tt) (List._∷_ (ShrSlice.pShrS (Referent.rtF (Referent.fInt Syntax.w16)) 3 tt) (List._∷_ (ShrSlice.pShrS (Referent.rtF (Referent.fInt Syntax.w16)) 4 tt) List.[]))))))
 
 abbrev pub r : Kinds.RK 5
 r = Unit'.rUnit
@@ -102,23 +103,23 @@ ps·1 = List._∷_ (ShrSlice.pShrS (Referent.rtF (Referent.fInt Syntax.w16)) 0 t
 abbrev pub r·1 : Kinds.RK 4
 r·1 = Unit'.rUnit
 
-abbrev pub ps·2 : List.List (Kinds.PK 3)
-ps·2 = List._∷_ (Value.pVal record { ty = Declared'.row Size.the-type; one = Path'.refl; val = Laws'3.val Size.the-type Laws.the-laws; tells = Laws'3.tells Size.the-type Laws.the-laws; still = Laws'3.still Size.the-type Laws.the-copy Exit.yes; row = Rows.whole (Declared'.row Size.the-type); rd = λ x. x; mk = λ x. x } λ M 𝓤 H A W. record { copies = Laws'3.copy Size.the-type Laws.the-copy 𝓤 H A W; lawful = Laws'3.lawful Size.the-type Laws.the-laws 𝓤 H A W; makes = Laws'3.makes Size.the-type Laws.the-plain 𝓤 H A; in-mem = Local.mem-whole 𝓤 H A W (Declared'.row Size.the-type); of-mem = Local.whole-mem 𝓤 H A W (Declared'.row Size.the-type) }) (List._∷_ (ShrSlice.pShrS T.the-row 0 tt) (List._∷_ (ShrSlice.pShrS (Referent.rtF (Referent.fInt Syntax.w16)) 1 tt) (List._∷_ (ShrSlice.pShrS (Referent.rtF (Referent.fInt Syntax.w16)) 2 tt) List.[])))
+abbrev pub ps·2 : List.List (Kinds.PK 4)
+ps·2 = List._∷_ (Num.pNum Syntax.w64) (List._∷_ (Value.pVal record { ty = Declared'.row Size.the-type; one = Path'.refl; val = Laws'3.val Size.the-type Laws.the-laws; tells = Laws'3.tells Size.the-type Laws.the-laws; still = Laws'3.still Size.the-type Laws.the-copy Exit.yes; row = Rows.whole (Declared'.row Size.the-type); rd = λ x. x; mk = λ x. x } λ M 𝓤 H A W. record { copies = Laws'3.copy Size.the-type Laws.the-copy 𝓤 H A W; lawful = Laws'3.lawful Size.the-type Laws.the-laws 𝓤 H A W; makes = Laws'3.makes Size.the-type Laws.the-plain 𝓤 H A; in-mem = Local.mem-whole 𝓤 H A W (Declared'.row Size.the-type); of-mem = Local.whole-mem 𝓤 H A W (Declared'.row Size.the-type) }) (List._∷_ (ShrSlice.pShrS T.the-row 0 tt) (List._∷_ (ShrSlice.pShrS (Referent.rtF (Referent.fInt Syntax.w16)) 1 tt) (List._∷_ (ShrSlice.pShrS (Referent.rtF (Referent.fInt Syntax.w16)) 2 tt) (List._∷_ (ShrSlice.pShrS (Referent.rtF (Referent.fInt Syntax.w16)) 3 tt) List.[])))))
 
-abbrev pub r·2 : Kinds.RK 3
+abbrev pub r·2 : Kinds.RK 4
 r·2 = Unit'.rUnit
 
 abbrev pub hs : List.List Syntax.Home
-hs = List._∷_ Syntax.valueLocal (List._∷_ Syntax.valueLocal (List._∷_ Syntax.valueLocal (List._∷_ Syntax.valueLocal (List._∷_ Syntax.valueLocal (List._∷_ Syntax.valueLocal (List._∷_ Syntax.valueLocal (List._∷_ Syntax.valueLocal (List._∷_ Syntax.valueLocal List.[]))))))))
+hs = List._∷_ Syntax.valueLocal (List._∷_ Syntax.valueLocal (List._∷_ Syntax.valueLocal (List._∷_ Syntax.valueLocal (List._∷_ Syntax.valueLocal (List._∷_ Syntax.valueLocal (List._∷_ Syntax.valueLocal (List._∷_ Syntax.valueLocal (List._∷_ Syntax.valueLocal (List._∷_ Syntax.valueLocal List.[])))))))))
 
 abbrev b0 : Syntax.Body
-b0 = Syntax.call "bench_plans::lent::print_rows" (List._∷_ (Syntax.copy (Syntax.place 2 List.[])) List.[]) (Syntax.place 8 List.[])
+b0 = Syntax.call "bench_plans::lent::print_rows" (List._∷_ (Syntax.copy (Syntax.place 3 List.[])) List.[]) (Syntax.place 9 List.[])
 
 abbrev b1 : Syntax.Body
-b1 = Syntax.call "bench_plans::lent::print_lent" (List._∷_ (Syntax.copy (Syntax.place 3 List.[])) (List._∷_ (Syntax.copy (Syntax.place 4 List.[])) (List._∷_ (Syntax.copy (Syntax.place 5 List.[])) (List._∷_ (Syntax.copy (Syntax.place 6 List.[])) List.[])))) (Syntax.place 8 List.[])
+b1 = Syntax.call "bench_plans::lent::print_lent" (List._∷_ (Syntax.copy (Syntax.place 4 List.[])) (List._∷_ (Syntax.copy (Syntax.place 5 List.[])) (List._∷_ (Syntax.copy (Syntax.place 6 List.[])) (List._∷_ (Syntax.copy (Syntax.place 7 List.[])) List.[])))) (Syntax.place 9 List.[])
 
 abbrev b2 : Syntax.Body
-b2 = Syntax.assign (Syntax.place 7 List.[]) (Syntax.rvOpd (Syntax.copy (Syntax.place 1 (List._∷_ (Syntax.variant 0) (List._∷_ (Syntax.field 1) List.[])))))
+b2 = Syntax.assign (Syntax.place 8 List.[]) (Syntax.rvOpd (Syntax.copy (Syntax.place 1 (List._∷_ (Syntax.variant 0) (List._∷_ (Syntax.field 1) List.[])))))
 
 abbrev b3 : Syntax.Body
 b3 = Syntax.assign (Syntax.place 0 List.[]) (Syntax.rvOpd Syntax.opdUnit)
@@ -133,7 +134,7 @@ abbrev b6 : Syntax.Body
 b6 = Syntax.switch (Syntax.copy (Syntax.place 1 (List._∷_ (Syntax.variant 0) (List._∷_ (Syntax.field 0) List.[])))) (Syntax.arm (List._∷_ 0 List.[]) b2 (Syntax.arm (List._∷_ 1 List.[]) b5 Syntax.noDefault))
 
 abbrev b7 : Syntax.Body
-b7 = Syntax.call "bench_plans::trims::go_on" (List._∷_ (Syntax.copy (Syntax.place 7 List.[])) (List._∷_ (Syntax.copy (Syntax.place 2 List.[])) (List._∷_ (Syntax.copy (Syntax.place 3 List.[])) (List._∷_ (Syntax.copy (Syntax.place 4 List.[])) List.[])))) (Syntax.place 8 List.[])
+b7 = Syntax.call "bench_plans::trims::go_on" (List._∷_ (Syntax.copy (Syntax.place 2 List.[])) (List._∷_ (Syntax.copy (Syntax.place 8 List.[])) (List._∷_ (Syntax.copy (Syntax.place 3 List.[])) (List._∷_ (Syntax.copy (Syntax.place 4 List.[])) (List._∷_ (Syntax.copy (Syntax.place 5 List.[])) (List._∷_ (Syntax.copy (Syntax.place 6 List.[])) List.[])))))) (Syntax.place 9 List.[])
 
 abbrev b8 : Syntax.Body
 b8 = Syntax.assign (Syntax.place 0 List.[]) (Syntax.rvOpd Syntax.opdUnit)
@@ -160,34 +161,37 @@ abbrev pub body : Syntax.Body
 body = b14
 
 abbrev pub Claims : Type 1
-Claims = Kinds.In 1 ps·0 × Kinds.Out 1 ps·0 r·0 × Kinds.In 4 ps·1 × Kinds.Out 4 ps·1 r·1 × Kinds.In 3 ps·2 × Kinds.Out 3 ps·2 r·2
+Claims = Kinds.In 1 ps·0 × Kinds.Out 1 ps·0 r·0 × Kinds.In 4 ps·1 × Kinds.Out 4 ps·1 r·1 × Kinds.In 4 ps·2 × Kinds.Out 4 ps·2 r·2
 
 abbrev pub t0 : List.List Row.Entry
-t0 = List._∷_ (0, Rows.any-gone Syntax.tyUnit) (List._∷_ (1, Rows.whole (Declared.row TrimAnswer.the-type)) (List._∷_ (2, Rows.sslice T.the-row ty·4 0) (List._∷_ (3, Rows.sslice (Referent.rtF (Referent.fInt Syntax.w16)) ty·0 1) (List._∷_ (4, Rows.sslice (Referent.rtF (Referent.fInt Syntax.w16)) ty·1 2) (List._∷_ (5, Rows.sslice (Referent.rtF (Referent.fInt Syntax.w16)) ty·2 3) (List._∷_ (6, Rows.sslice (Referent.rtF (Referent.fInt Syntax.w16)) ty·3 4) (List._∷_ (7, Rows.any-gone ty·5) (List._∷_ (8, Rows.any-gone Syntax.tyUnit) List.[]))))))))
+t0 = List._∷_ (0, Rows.any-gone Syntax.tyUnit) (List._∷_ (1, Rows.whole (Declared.row TrimAnswer.the-type)) (List._∷_ (2, Rows.sc-here (Row.sInt Syntax.w64)) (List._∷_ (3, Rows.sslice T.the-row ty·4 0) (List._∷_ (4, Rows.sslice (Referent.rtF (Referent.fInt Syntax.w16)) ty·0 1) (List._∷_ (5, Rows.sslice (Referent.rtF (Referent.fInt Syntax.w16)) ty·1 2) (List._∷_ (6, Rows.sslice (Referent.rtF (Referent.fInt Syntax.w16)) ty·2 3) (List._∷_ (7, Rows.sslice (Referent.rtF (Referent.fInt Syntax.w16)) ty·3 4) (List._∷_ (8, Rows.any-gone ty·5) (List._∷_ (9, Rows.any-gone Syntax.tyUnit) List.[])))))))))
 
 abbrev pub t1 : List.List Row.Entry
-t1 = Row.setRow 1 (1, Rows.any-gone ty·7) (Row.setRow 0 (0, Rows.sc-here Row.sUnit) t0)
+t1 = Row.setRow 2 (2, Rows.any-gone (Syntax.tyInt Syntax.w64)) (Row.setRow 1 (1, Rows.any-gone ty·7) (Row.setRow 0 (0, Rows.sc-here Row.sUnit) t0))
 
 abbrev pub t2 : List.List Row.Entry
-t2 = Row.setRow 8 (8, Rows.sc-here Row.sUnit) t0
+t2 = Row.setRow 9 (9, Rows.sc-here Row.sUnit) t0
 
 abbrev pub t3 : List.List Row.Entry
-t3 = Row.setRow 7 (7, Rows.whole (Declared'.row Size.the-type)) (Row.setRow 0 (0, Rows.any-gone Syntax.tyUnit) t1)
+t3 = Row.setRow 8 (8, Rows.whole (Declared'.row Size.the-type)) (Row.setRow 2 (2, Rows.sc-here (Row.sInt Syntax.w64)) (Row.setRow 0 (0, Rows.any-gone Syntax.tyUnit) t1))
 
 abbrev pub t4 : List.List Row.Entry
 t4 = Row.setRow 1 (1, Rows.whole (Known.Known TrimAnswer.enum 0)) t0
 
 abbrev pub t5 : List.List Row.Entry
-t5 = Row.setRow 7 (7, Rows.whole (Declared'.row Size.the-type)) t4
+t5 = Row.setRow 8 (8, Rows.whole (Declared'.row Size.the-type)) t4
 
 abbrev pub t6 : List.List Row.Entry
-t6 = Row.setRow 0 (0, Rows.any-gone Syntax.tyUnit) t1
+t6 = Row.setRow 2 (2, Rows.sc-here (Row.sInt Syntax.w64)) (Row.setRow 0 (0, Rows.any-gone Syntax.tyUnit) t1)
 
 abbrev pub t7 : List.List Row.Entry
-t7 = Row.setRow 8 (8, Rows.sc-here Row.sUnit) t3
+t7 = Row.setRow 0 (0, Rows.sc-here Row.sUnit) t6
 
 abbrev pub t8 : List.List Row.Entry
-t8 = Row.setRow 8 (8, Rows.sc-here Row.sUnit) t6
+t8 = Row.setRow 9 (9, Rows.sc-here Row.sUnit) t3
+
+abbrev pub t9 : List.List Row.Entry
+t9 = Row.setRow 9 (9, Rows.sc-here Row.sUnit) t6
 
 abbrev pub T0 : Row.Cx
 T0 = record { locals = t0; slots = List.[] }
@@ -241,19 +245,25 @@ abbrev pub T16 : Row.Cx
 T16 = record { locals = t6; slots = List.[] }
 
 abbrev pub T17 : Row.Cx
-T17 = record { locals = t1; slots = List.[] }
+T17 = record { locals = t7; slots = List.[] }
 
 abbrev pub T18 : Row.Cx
-T18 = record { locals = t7; slots = List.[] }
+T18 = record { locals = t1; slots = List.[] }
 
 abbrev pub T19 : Row.Cx
 T19 = record { locals = t8; slots = List.[] }
 
 abbrev pub T20 : Row.Cx
-T20 = record { locals = t6; slots = List.[] }
+T20 = record { locals = t9; slots = List.[] }
 
 abbrev pub T21 : Row.Cx
-T21 = record { locals = t1; slots = List.[] }
+T21 = record { locals = t6; slots = List.[] }
+
+abbrev pub T22 : Row.Cx
+T22 = record { locals = t7; slots = List.[] }
+
+abbrev pub T23 : Row.Cx
+T23 = record { locals = t1; slots = List.[] }
 
 abbrev pub O0 : Typed.Outs
 O0 = record { next = Option.none; exits = List.[]; returns = Option.some T1 }
@@ -263,28 +273,28 @@ O1 = Typed.withNext (Option.some T9) O0
 
 module _ (claims· : Claims) where
   abbrev s0 : Typed.Gives T0 T2
-  s0 = Know.k-shs-known (Referent.fInt Syntax.w16) T0 3 1 ty·0 Row.off 0 λ x. x
+  s0 = Know.k-shs-known (Referent.fInt Syntax.w16) T0 4 1 ty·0 Row.off 0 λ x. x
 
   abbrev s1 : Typed.Gives T2 T3
-  s1 = Know.k-shs-known (Referent.fInt Syntax.w16) T2 4 2 ty·1 Row.off 0 λ x. x
+  s1 = Know.k-shs-known (Referent.fInt Syntax.w16) T2 5 2 ty·1 Row.off 0 λ x. x
 
   abbrev s2 : Typed.Gives T3 T4
-  s2 = Know.k-shs-known (Referent.fInt Syntax.w16) T3 5 3 ty·2 Row.off 0 λ x. x
+  s2 = Know.k-shs-known (Referent.fInt Syntax.w16) T3 6 3 ty·2 Row.off 0 λ x. x
 
   abbrev s3 : Typed.Gives T4 T5
-  s3 = Know.k-shs-known (Referent.fInt Syntax.w16) T4 6 4 ty·3 Row.off 0 λ x. x
+  s3 = Know.k-shs-known (Referent.fInt Syntax.w16) T4 7 4 ty·3 Row.off 0 λ x. x
 
   abbrev s4 : Typed.Both T5 T6
-  s4 = Call.callB ps·0 r·0 (claims· .0) (claims· .1) T5 (record { pos = 2; ty = Syntax.tyRef (Syntax.named 0) Syntax.imm (Memory.pointee (T.the-row .written)); ref = λ x. x }, tt) 8 (List._∷_ 0 List.[]) Syntax.tyUnit
+  s4 = Call.callB ps·0 r·0 (claims· .0) (claims· .1) T5 (record { pos = 3; ty = Syntax.tyRef (Syntax.named 0) Syntax.imm (Memory.pointee (T.the-row .written)); ref = λ x. x }, tt) 9 (List._∷_ 0 List.[]) Syntax.tyUnit
 
   abbrev s5 : Typed.Mo T6 → Typed.Mo T7
-  s5 = Scalar.n-room T6 8 Syntax.tyUnit
+  s5 = Scalar.n-room T6 9 Syntax.tyUnit
 
   abbrev s6 : Typed.Both T7 T8
-  s6 = Call.callB ps·1 r·1 (claims· .2) (claims· .3) T7 (record { pos = 3; ty = Syntax.tyRef (Syntax.named 1) Syntax.imm (Syntax.tyInt Syntax.w16); ref = λ x. x }, (record { pos = 4; ty = Syntax.tyRef (Syntax.named 2) Syntax.imm (Syntax.tyInt Syntax.w16); ref = λ x. x }, (record { pos = 5; ty = Syntax.tyRef (Syntax.named 3) Syntax.imm (Syntax.tyInt Syntax.w16); ref = λ x. x }, (record { pos = 6; ty = Syntax.tyRef (Syntax.named 4) Syntax.imm (Syntax.tyInt Syntax.w16); ref = λ x. x }, tt)))) 8 (List._∷_ 1 (List._∷_ 2 (List._∷_ 3 (List._∷_ 4 List.[])))) Syntax.tyUnit
+  s6 = Call.callB ps·1 r·1 (claims· .2) (claims· .3) T7 (record { pos = 4; ty = Syntax.tyRef (Syntax.named 1) Syntax.imm (Syntax.tyInt Syntax.w16); ref = λ x. x }, (record { pos = 5; ty = Syntax.tyRef (Syntax.named 2) Syntax.imm (Syntax.tyInt Syntax.w16); ref = λ x. x }, (record { pos = 6; ty = Syntax.tyRef (Syntax.named 3) Syntax.imm (Syntax.tyInt Syntax.w16); ref = λ x. x }, (record { pos = 7; ty = Syntax.tyRef (Syntax.named 4) Syntax.imm (Syntax.tyInt Syntax.w16); ref = λ x. x }, tt)))) 9 (List._∷_ 1 (List._∷_ 2 (List._∷_ 3 (List._∷_ 4 List.[])))) Syntax.tyUnit
 
   abbrev s7 : Typed.Mo T8 → Typed.Mo T10
-  s7 = Scalar.n-room T8 8 Syntax.tyUnit
+  s7 = Scalar.n-room T8 9 Syntax.tyUnit
 
   abbrev s8 : Typed.Both T10 T11
   s8 = Known.k-enum-known TrimAnswer.enum 0 T10 1 λ x. x
@@ -293,7 +303,7 @@ module _ (claims· : Claims) where
   s9 = Known.k-known-told TrimAnswer.enum Laws'.the-laws 0 T11 1 λ x. x
 
   abbrev s10 : Typed.Mo T12 → Typed.Mo T13
-  s10 = Make.n-make (Declared'.row Size.the-type) T12 7 λ m. m .1 .0 .0
+  s10 = Make.n-make (Declared'.row Size.the-type) T12 8 λ m. m .1 .0 .0
 
   abbrev s11 : Typed.Mo T13 → Typed.Mo T14
   s11 = Scalar.n-room T13 1 ty·7
@@ -307,22 +317,28 @@ module _ (claims· : Claims) where
   abbrev s14 : Typed.Mo T16 → Typed.Mo T17
   s14 = Scalar.n-use T16 Scalar.oUnit 0 (Rows.sc-here Row.sUnit) (Row.sUnit .of)
 
-  abbrev s15 : Typed.Both T9 T18
-  s15 = Call.callB ps·2 r·2 (claims· .4) (claims· .5) T9 (record { pos = 7; st = List.[]; d = 0; at = λ x. x }, (record { pos = 2; ty = Syntax.tyRef (Syntax.named 0) Syntax.imm (Memory.pointee (T.the-row .written)); ref = λ x. x }, (record { pos = 3; ty = Syntax.tyRef (Syntax.named 1) Syntax.imm (Syntax.tyInt Syntax.w16); ref = λ x. x }, (record { pos = 4; ty = Syntax.tyRef (Syntax.named 2) Syntax.imm (Syntax.tyInt Syntax.w16); ref = λ x. x }, tt)))) 8 (List._∷_ 0 (List._∷_ 1 (List._∷_ 2 List.[]))) Syntax.tyUnit
+  abbrev s15 : Typed.Mo T17 → Typed.Mo T18
+  s15 = Scalar.n-room T17 2 (Syntax.tyInt Syntax.w64)
 
-  abbrev s16 : Typed.Mo T18 → Typed.Mo T19
-  s16 = Scalar.n-room T18 7 ty·5
+  abbrev s16 : Typed.Both T9 T19
+  s16 = Call.callB ps·2 r·2 (claims· .4) (claims· .5) T9 (Num.vAt 2 λ x. x, (record { pos = 8; st = List.[]; d = 0; at = λ x. x }, (record { pos = 3; ty = Syntax.tyRef (Syntax.named 0) Syntax.imm (Memory.pointee (T.the-row .written)); ref = λ x. x }, (record { pos = 4; ty = Syntax.tyRef (Syntax.named 1) Syntax.imm (Syntax.tyInt Syntax.w16); ref = λ x. x }, (record { pos = 5; ty = Syntax.tyRef (Syntax.named 2) Syntax.imm (Syntax.tyInt Syntax.w16); ref = λ x. x }, (record { pos = 6; ty = Syntax.tyRef (Syntax.named 3) Syntax.imm (Syntax.tyInt Syntax.w16); ref = λ x. x }, tt)))))) 9 (List._∷_ 0 (List._∷_ 1 (List._∷_ 2 (List._∷_ 3 List.[])))) Syntax.tyUnit
 
   abbrev s17 : Typed.Mo T19 → Typed.Mo T20
-  s17 = Scalar.n-room T19 8 Syntax.tyUnit
+  s17 = Scalar.n-room T19 8 ty·5
 
   abbrev s18 : Typed.Mo T20 → Typed.Mo T21
-  s18 = Scalar.n-use T20 Scalar.oUnit 0 (Rows.sc-here Row.sUnit) (Row.sUnit .of)
+  s18 = Scalar.n-room T20 9 Syntax.tyUnit
+
+  abbrev s19 : Typed.Mo T21 → Typed.Mo T22
+  s19 = Scalar.n-use T21 Scalar.oUnit 0 (Rows.sc-here Row.sUnit) (Row.sUnit .of)
+
+  abbrev s20 : Typed.Mo T22 → Typed.Mo T23
+  s20 = Scalar.n-room T22 2 (Syntax.tyInt Syntax.w64)
 
   module _ (Pre· : (κs : Lifetimes.Lfts 5) → Kinds.Dens κs ps → Type 0) (Post· : (κs : Lifetimes.Lfts 5) → (a : Kinds.Dens κs ps) → Kinds.Plain 5 ps r κs) where
     module _ (M : Type 1) where
       abbrev pub Closed : Type 2
-      Closed = (𝓤 : URA.URA M) (H : Wp.Heap 𝓤) (A : Atoms.Atoms 𝓤) (W : Kit.Given 𝓤 H A) (𝓣 : Wp.Tables 𝓤 H) (known0 : Plain.Known 𝓤 H A W 𝓣 1 ps·0 r·0 (claims· .0) (claims· .1) "bench_plans::lent::print_rows") (known1 : Plain.Known 𝓤 H A W 𝓣 4 ps·1 r·1 (claims· .2) (claims· .3) "bench_plans::lent::print_lent") (known2 : Plain.Known 𝓤 H A W 𝓣 3 ps·2 r·2 (claims· .4) (claims· .5) "bench_plans::trims::go_on") → Statement.Triple 𝓤 (Wp.WpFn 𝓤 H (𝓣 .C) (𝓣 .Λ) (Function.fnOf 5 ps r xs m hs body)) (Function.plainOf 𝓤 H A 5 ps r Pre· Post·)
+      Closed = (𝓤 : URA.URA M) (H : Wp.Heap 𝓤) (A : Atoms.Atoms 𝓤) (W : Kit.Given 𝓤 H A) (𝓣 : Wp.Tables 𝓤 H) (known0 : Plain.Known 𝓤 H A W 𝓣 1 ps·0 r·0 (claims· .0) (claims· .1) "bench_plans::lent::print_rows") (known1 : Plain.Known 𝓤 H A W 𝓣 4 ps·1 r·1 (claims· .2) (claims· .3) "bench_plans::lent::print_lent") (known2 : Plain.Known 𝓤 H A W 𝓣 4 ps·2 r·2 (claims· .4) (claims· .5) "bench_plans::trims::go_on") → Statement.Triple 𝓤 (Wp.WpFn 𝓤 H (𝓣 .C) (𝓣 .Λ) (Function.fnOf 5 ps r xs m hs body)) (Function.plainOf 𝓤 H A 5 ps r Pre· Post·)
 
     module _ where
       abbrev at0 : Typed.TF T12 O1
@@ -334,69 +350,75 @@ module _ (claims· : Claims) where
       abbrev at2 : Typed.TF T10 O1
       at2 = λ Ψ. Typed.both s8 (at1 Ψ)
 
-      abbrev at3 : Typed.TF T17 O1
+      abbrev at3 : Typed.TF T18 O1
       at3 = Typed.atRet O1
 
-      abbrev at4 : Typed.TF T16 O1
-      at4 = λ Ψ. Typed.pass T16 T17 s14 (at3 Ψ)
+      abbrev at4 : Typed.TF T17 O1
+      at4 = λ Ψ. Typed.pass T17 T18 s15 (at3 Ψ)
 
-      abbrev at5 : Typed.TF T15 O1
-      at5 = λ Ψ. Typed.pass T15 T16 s13 (at4 Ψ)
+      abbrev at5 : Typed.TF T16 O1
+      at5 = λ Ψ. Typed.pass T16 T17 s14 (at4 Ψ)
 
-      abbrev at6 : Typed.TF T10 O1
-      at6 = λ Ψ. Typed.both s12 (at5 Ψ)
+      abbrev at6 : Typed.TF T15 O1
+      at6 = λ Ψ. Typed.pass T15 T16 s13 (at5 Ψ)
 
       abbrev at7 : Typed.TF T10 O1
-      at7 = Switch.Φswitch T10 O1 1 (λ x. Declared.tagOf TrimAnswer.the-type x) (Syntax.arm (List._∷_ 0 List.[]) b2 (Syntax.arm (List._∷_ 1 List.[]) b5 Syntax.noDefault)) (at2, (at6, tt))
+      at7 = λ Ψ. Typed.both s12 (at6 Ψ)
 
-      abbrev at8 : Typed.TF T8 O1
-      at8 = λ Ψ. Typed.pass T8 T10 s7 (at7 Ψ)
+      abbrev at8 : Typed.TF T10 O1
+      at8 = Switch.Φswitch T10 O1 1 (λ x. Declared.tagOf TrimAnswer.the-type x) (Syntax.arm (List._∷_ 0 List.[]) b2 (Syntax.arm (List._∷_ 1 List.[]) b5 Syntax.noDefault)) (at2, (at7, tt))
 
-      abbrev at9 : Typed.TF T21 O0
-      at9 = Typed.atRet O0
+      abbrev at9 : Typed.TF T8 O1
+      at9 = λ Ψ. Typed.pass T8 T10 s7 (at8 Ψ)
 
-      abbrev at10 : Typed.TF T20 O0
-      at10 = λ Ψ. Typed.pass T20 T21 s18 (at9 Ψ)
+      abbrev at10 : Typed.TF T23 O0
+      at10 = Typed.atRet O0
 
-      abbrev at11 : Typed.TF T19 O0
-      at11 = λ Ψ. Typed.pass T19 T20 s17 (at10 Ψ)
+      abbrev at11 : Typed.TF T22 O0
+      at11 = λ Ψ. Typed.pass T22 T23 s20 (at10 Ψ)
 
-      abbrev at12 : Typed.TF T18 O0
-      at12 = λ Ψ. Typed.pass T18 T19 s16 (at11 Ψ)
+      abbrev at12 : Typed.TF T21 O0
+      at12 = λ Ψ. Typed.pass T21 T22 s19 (at11 Ψ)
 
-      abbrev at13 : Typed.TF T9 O0
-      at13 = λ Ψ. Typed.both s15 (at12 Ψ)
+      abbrev at13 : Typed.TF T20 O0
+      at13 = λ Ψ. Typed.pass T20 T21 s18 (at12 Ψ)
 
-      abbrev at14 : Typed.TF T8 O0
-      at14 = λ Ψ. at8 (Typed.wantNext T9 O0 (at13 Ψ) Ψ)
+      abbrev at14 : Typed.TF T19 O0
+      at14 = λ Ψ. Typed.pass T19 T20 s17 (at13 Ψ)
 
-      abbrev at15 : Typed.TF T7 O0
-      at15 = λ Ψ. Typed.both s6 (at14 Ψ)
+      abbrev at15 : Typed.TF T9 O0
+      at15 = λ Ψ. Typed.both s16 (at14 Ψ)
 
-      abbrev at16 : Typed.TF T6 O0
-      at16 = λ Ψ. Typed.pass T6 T7 s5 (at15 Ψ)
+      abbrev at16 : Typed.TF T8 O0
+      at16 = λ Ψ. at9 (Typed.wantNext T9 O0 (at15 Ψ) Ψ)
 
-      abbrev at17 : Typed.TF T5 O0
-      at17 = λ Ψ. Typed.both s4 (at16 Ψ)
+      abbrev at17 : Typed.TF T7 O0
+      at17 = λ Ψ. Typed.both s6 (at16 Ψ)
 
-      abbrev at18 : Typed.TF T4 O0
-      at18 = λ Ψ. Typed.give s3 (at17 Ψ)
+      abbrev at18 : Typed.TF T6 O0
+      at18 = λ Ψ. Typed.pass T6 T7 s5 (at17 Ψ)
 
-      abbrev at19 : Typed.TF T3 O0
-      at19 = λ Ψ. Typed.give s2 (at18 Ψ)
+      abbrev at19 : Typed.TF T5 O0
+      at19 = λ Ψ. Typed.both s4 (at18 Ψ)
 
-      abbrev at20 : Typed.TF T2 O0
-      at20 = λ Ψ. Typed.give s1 (at19 Ψ)
+      abbrev at20 : Typed.TF T4 O0
+      at20 = λ Ψ. Typed.give s3 (at19 Ψ)
 
-      abbrev at21 : Typed.TF T0 O0
-      at21 = λ Ψ. Typed.give s0 (at20 Ψ)
+      abbrev at21 : Typed.TF T3 O0
+      at21 = λ Ψ. Typed.give s2 (at20 Ψ)
+
+      abbrev at22 : Typed.TF T2 O0
+      at22 = λ Ψ. Typed.give s1 (at21 Ψ)
+
+      abbrev at23 : Typed.TF T0 O0
+      at23 = λ Ψ. Typed.give s0 (at22 Ψ)
 
       abbrev pub Φ : Typed.TF T0 O0
-      Φ = at21
+      Φ = at23
 
       module _ {M : Type 1} (𝓤 : URA.URA M) (H : Wp.Heap 𝓤) (A : Atoms.Atoms 𝓤) (W : Kit.Given 𝓤 H A) (𝓣 : Wp.Tables 𝓤 H) where
         abbrev Knowns : Type 1
-        Knowns = Plain.Known 𝓤 H A W 𝓣 1 ps·0 r·0 (claims· .0) (claims· .1) "bench_plans::lent::print_rows" × Plain.Known 𝓤 H A W 𝓣 4 ps·1 r·1 (claims· .2) (claims· .3) "bench_plans::lent::print_lent" × Plain.Known 𝓤 H A W 𝓣 3 ps·2 r·2 (claims· .4) (claims· .5) "bench_plans::trims::go_on"
+        Knowns = Plain.Known 𝓤 H A W 𝓣 1 ps·0 r·0 (claims· .0) (claims· .1) "bench_plans::lent::print_rows" × Plain.Known 𝓤 H A W 𝓣 4 ps·1 r·1 (claims· .2) (claims· .3) "bench_plans::lent::print_lent" × Plain.Known 𝓤 H A W 𝓣 4 ps·2 r·2 (claims· .4) (claims· .5) "bench_plans::trims::go_on"
 
       module _ (κs : Lifetimes.Lfts 5) (qs : Lifetimes.Shares 5) where
         abbrev G0 : Row.Cx
@@ -451,19 +473,25 @@ module _ (claims· : Claims) where
         G16 = record { locals = t6; slots = List._∷_ (Row.lease (κs .0) (qs .0)) (List._∷_ (Row.lease (κs .1 .0) (qs .1 .0)) (List._∷_ (Row.lease (κs .1 .1 .0) (qs .1 .1 .0)) (List._∷_ (Row.lease (κs .1 .1 .1 .0) (qs .1 .1 .1 .0)) (List._∷_ (Row.lease (κs .1 .1 .1 .1 .0) (qs .1 .1 .1 .1 .0)) List.[])))) }
 
         abbrev G17 : Row.Cx
-        G17 = record { locals = t1; slots = List._∷_ (Row.lease (κs .0) (qs .0)) (List._∷_ (Row.lease (κs .1 .0) (qs .1 .0)) (List._∷_ (Row.lease (κs .1 .1 .0) (qs .1 .1 .0)) (List._∷_ (Row.lease (κs .1 .1 .1 .0) (qs .1 .1 .1 .0)) (List._∷_ (Row.lease (κs .1 .1 .1 .1 .0) (qs .1 .1 .1 .1 .0)) List.[])))) }
+        G17 = record { locals = t7; slots = List._∷_ (Row.lease (κs .0) (qs .0)) (List._∷_ (Row.lease (κs .1 .0) (qs .1 .0)) (List._∷_ (Row.lease (κs .1 .1 .0) (qs .1 .1 .0)) (List._∷_ (Row.lease (κs .1 .1 .1 .0) (qs .1 .1 .1 .0)) (List._∷_ (Row.lease (κs .1 .1 .1 .1 .0) (qs .1 .1 .1 .1 .0)) List.[])))) }
 
         abbrev G18 : Row.Cx
-        G18 = record { locals = t7; slots = List._∷_ (Row.lease (κs .0) (qs .0)) (List._∷_ (Row.lease (κs .1 .0) (qs .1 .0)) (List._∷_ (Row.lease (κs .1 .1 .0) (qs .1 .1 .0)) (List._∷_ (Row.lease (κs .1 .1 .1 .0) (qs .1 .1 .1 .0)) (List._∷_ (Row.lease (κs .1 .1 .1 .1 .0) (qs .1 .1 .1 .1 .0)) List.[])))) }
+        G18 = record { locals = t1; slots = List._∷_ (Row.lease (κs .0) (qs .0)) (List._∷_ (Row.lease (κs .1 .0) (qs .1 .0)) (List._∷_ (Row.lease (κs .1 .1 .0) (qs .1 .1 .0)) (List._∷_ (Row.lease (κs .1 .1 .1 .0) (qs .1 .1 .1 .0)) (List._∷_ (Row.lease (κs .1 .1 .1 .1 .0) (qs .1 .1 .1 .1 .0)) List.[])))) }
 
         abbrev G19 : Row.Cx
         G19 = record { locals = t8; slots = List._∷_ (Row.lease (κs .0) (qs .0)) (List._∷_ (Row.lease (κs .1 .0) (qs .1 .0)) (List._∷_ (Row.lease (κs .1 .1 .0) (qs .1 .1 .0)) (List._∷_ (Row.lease (κs .1 .1 .1 .0) (qs .1 .1 .1 .0)) (List._∷_ (Row.lease (κs .1 .1 .1 .1 .0) (qs .1 .1 .1 .1 .0)) List.[])))) }
 
         abbrev G20 : Row.Cx
-        G20 = record { locals = t6; slots = List._∷_ (Row.lease (κs .0) (qs .0)) (List._∷_ (Row.lease (κs .1 .0) (qs .1 .0)) (List._∷_ (Row.lease (κs .1 .1 .0) (qs .1 .1 .0)) (List._∷_ (Row.lease (κs .1 .1 .1 .0) (qs .1 .1 .1 .0)) (List._∷_ (Row.lease (κs .1 .1 .1 .1 .0) (qs .1 .1 .1 .1 .0)) List.[])))) }
+        G20 = record { locals = t9; slots = List._∷_ (Row.lease (κs .0) (qs .0)) (List._∷_ (Row.lease (κs .1 .0) (qs .1 .0)) (List._∷_ (Row.lease (κs .1 .1 .0) (qs .1 .1 .0)) (List._∷_ (Row.lease (κs .1 .1 .1 .0) (qs .1 .1 .1 .0)) (List._∷_ (Row.lease (κs .1 .1 .1 .1 .0) (qs .1 .1 .1 .1 .0)) List.[])))) }
 
         abbrev G21 : Row.Cx
-        G21 = record { locals = t1; slots = List._∷_ (Row.lease (κs .0) (qs .0)) (List._∷_ (Row.lease (κs .1 .0) (qs .1 .0)) (List._∷_ (Row.lease (κs .1 .1 .0) (qs .1 .1 .0)) (List._∷_ (Row.lease (κs .1 .1 .1 .0) (qs .1 .1 .1 .0)) (List._∷_ (Row.lease (κs .1 .1 .1 .1 .0) (qs .1 .1 .1 .1 .0)) List.[])))) }
+        G21 = record { locals = t6; slots = List._∷_ (Row.lease (κs .0) (qs .0)) (List._∷_ (Row.lease (κs .1 .0) (qs .1 .0)) (List._∷_ (Row.lease (κs .1 .1 .0) (qs .1 .1 .0)) (List._∷_ (Row.lease (κs .1 .1 .1 .0) (qs .1 .1 .1 .0)) (List._∷_ (Row.lease (κs .1 .1 .1 .1 .0) (qs .1 .1 .1 .1 .0)) List.[])))) }
+
+        abbrev G22 : Row.Cx
+        G22 = record { locals = t7; slots = List._∷_ (Row.lease (κs .0) (qs .0)) (List._∷_ (Row.lease (κs .1 .0) (qs .1 .0)) (List._∷_ (Row.lease (κs .1 .1 .0) (qs .1 .1 .0)) (List._∷_ (Row.lease (κs .1 .1 .1 .0) (qs .1 .1 .1 .0)) (List._∷_ (Row.lease (κs .1 .1 .1 .1 .0) (qs .1 .1 .1 .1 .0)) List.[])))) }
+
+        abbrev G23 : Row.Cx
+        G23 = record { locals = t1; slots = List._∷_ (Row.lease (κs .0) (qs .0)) (List._∷_ (Row.lease (κs .1 .0) (qs .1 .0)) (List._∷_ (Row.lease (κs .1 .1 .0) (qs .1 .1 .0)) (List._∷_ (Row.lease (κs .1 .1 .1 .0) (qs .1 .1 .1 .0)) (List._∷_ (Row.lease (κs .1 .1 .1 .1 .0) (qs .1 .1 .1 .1 .0)) List.[])))) }
 
         abbrev Δ0 : Typed.Outs
         Δ0 = record { next = Option.none; exits = List.[]; returns = Option.some G1 }
@@ -476,7 +504,7 @@ module _ (claims· : Claims) where
           E = Frame.EnvOf 𝓤 H (List._∷_ (Kinds.tyR r) (Enter.tysP ps xs)) bs
 
           d0 : Typed.Typed 𝓤 H A 𝓣 E G12 b2 Δ1 at0
-          d0 = Typed.s-typed 𝓤 H A W 𝓣 E G12 b2 Δ1 (λ Ψ. Typed.pass T12 T13 s10 (Typed.pass T13 T14 s11 Ψ)) tt (Typed.g-post 𝓤 H A W 𝓣 E G12 G13 G14 b2 (Typed.pass T12 T13 s10) (Typed.pass T13 T14 s11) (CopyOut.t-copy-told 𝓤 H A W E 𝓣 (Declared'.row Size.the-type) Path'.refl (Laws'3.val Size.the-type Laws.the-laws) (Laws'3.lawful Size.the-type Laws.the-laws 𝓤 H A W) (Laws'3.makes Size.the-type Laws.the-plain 𝓤 H A) G12 7 (Scalar.oFld 1 (List._∷_ (Syntax.variant 0) (List._∷_ (Syntax.field 1) List.[])) ty·5 8 λ v. Laws'3.val Size.the-type Laws.the-laws (v .0)) (λ m. m .1 .0 .0) (λ m. Laws''.Fields (Declared.variants TrimAnswer.the-type) (Laws''.spellss (TrimAnswer.enum .parts) Laws'.the-laws) (TrimAnswer.the-type .to (Known.at TrimAnswer.enum 0 (m .1 .0)))) (Reads.room-gone 𝓤 H A ty·5) (Match.reads-payload 𝓤 H A W TrimAnswer.enum Laws'.the-laws 0 Path'.refl Path'.refl (λ v. Val.vcons (Laws'3.val Size.the-type Laws.the-laws (v .0)) Val.vnil) (λ v. Path'.refl) 0 ty·5 8 Path'.refl, Path'.refl) Path'.refl (λ ρ m. Make.tells-row 𝓤 H A W E ρ (Row.out 7 (G12 .locals)) m 1 (Laws''.Fields (Declared.variants TrimAnswer.the-type) (Laws''.spellss (TrimAnswer.enum .parts) Laws'.the-laws) (TrimAnswer.the-type .to (Known.at TrimAnswer.enum 0 (m .1 .0)))) (Known.known-is 𝓤 H A W E TrimAnswer.enum 0 Laws'.the-laws ρ 1 (m .1 .0))) (λ m k wa. Path'.refl) λ m k wa. k .0) (Scalar.g-room 𝓤 H A W E G13 1 ty·7 (Local.room-whole 𝓤 H A W (Known.Known TrimAnswer.enum 0) ty·7 Path'.refl)))
+          d0 = Typed.s-typed 𝓤 H A W 𝓣 E G12 b2 Δ1 (λ Ψ. Typed.pass T12 T13 s10 (Typed.pass T13 T14 s11 Ψ)) tt (Typed.g-post 𝓤 H A W 𝓣 E G12 G13 G14 b2 (Typed.pass T12 T13 s10) (Typed.pass T13 T14 s11) (CopyOut.t-copy-told 𝓤 H A W E 𝓣 (Declared'.row Size.the-type) Path'.refl (Laws'3.val Size.the-type Laws.the-laws) (Laws'3.lawful Size.the-type Laws.the-laws 𝓤 H A W) (Laws'3.makes Size.the-type Laws.the-plain 𝓤 H A) G12 8 (Scalar.oFld 1 (List._∷_ (Syntax.variant 0) (List._∷_ (Syntax.field 1) List.[])) ty·5 8 λ v. Laws'3.val Size.the-type Laws.the-laws (v .0)) (λ m. m .1 .0 .0) (λ m. Laws''.Fields (Declared.variants TrimAnswer.the-type) (Laws''.spellss (TrimAnswer.enum .parts) Laws'.the-laws) (TrimAnswer.the-type .to (Known.at TrimAnswer.enum 0 (m .1 .0)))) (Reads.room-gone 𝓤 H A ty·5) (Match.reads-payload 𝓤 H A W TrimAnswer.enum Laws'.the-laws 0 Path'.refl Path'.refl (λ v. Val.vcons (Laws'3.val Size.the-type Laws.the-laws (v .0)) Val.vnil) (λ v. Path'.refl) 0 ty·5 8 Path'.refl, Path'.refl) Path'.refl (λ ρ m. Make.tells-row 𝓤 H A W E ρ (Row.out 8 (G12 .locals)) m 1 (Laws''.Fields (Declared.variants TrimAnswer.the-type) (Laws''.spellss (TrimAnswer.enum .parts) Laws'.the-laws) (TrimAnswer.the-type .to (Known.at TrimAnswer.enum 0 (m .1 .0)))) (Known.known-is 𝓤 H A W E TrimAnswer.enum 0 Laws'.the-laws ρ 1 (m .1 .0))) (λ m k wa. Path'.refl) λ m k wa. k .0) (Scalar.g-room 𝓤 H A W E G13 1 ty·7 (Local.room-whole 𝓤 H A W (Known.Known TrimAnswer.enum 0) ty·7 Path'.refl)))
 
           d1 : Typed.Typed 𝓤 H A 𝓣 E G11 b2 Δ1 at1
           d1 = Typed.g-pre 𝓤 H A W 𝓣 E G11 G12 b2 Δ1 (Typed.give s9) at0 (Known.g-known-told 𝓤 H A W E TrimAnswer.enum 0 G11 1 Laws'.the-laws (λ x. x) (Reads.as-is 𝓤 H A (Rows.whole (Known.Known TrimAnswer.enum 0)))) d0
@@ -484,69 +512,76 @@ module _ (claims· : Claims) where
           d2 : Typed.Typed 𝓤 H A 𝓣 E G10 b2 Δ1 at2
           d2 = Typed.g-pre 𝓤 H A W 𝓣 E G10 G11 b2 Δ1 (Typed.both s8) at1 (Known.g-enum-known 𝓤 H A W E TrimAnswer.enum 0 G10 1 (λ x. x) (Reads.as-is 𝓤 H A (Rows.whole (Declared.row TrimAnswer.the-type)))) d1
 
-          d3 : Typed.Typed 𝓤 H A 𝓣 E G17 b4 Δ1 at3
+          d3 : Typed.Typed 𝓤 H A 𝓣 E G18 b4 Δ1 at3
           d3 = Typed.t-return 𝓤 H A W 𝓣 E Δ1 tt
 
-          d4 : Typed.Typed 𝓤 H A 𝓣 E G16 b5 Δ1 at4
-          d4 = Typed.s-seq 𝓤 H A W 𝓣 E G16 G17 b3 b4 Δ1 (Typed.pass T16 T17 s14) at3 (Scalar.t-use 𝓤 H A W E 𝓣 G16 Scalar.oUnit 0 (Rows.sc-here Row.sUnit) Syntax.tyUnit (Row.valS Row.sUnit) (Row.sUnit .of) tt (Reads.room-gone 𝓤 H A Syntax.tyUnit) (Scalar.holds-sc 𝓤 H A W Row.sUnit) Path'.refl (λ u. Path'.refl) λ u. tt) d3
+          d4 : Typed.Typed 𝓤 H A 𝓣 E G17 b4 Δ1 at4
+          d4 = Typed.g-pre 𝓤 H A W 𝓣 E G17 G18 b4 Δ1 (Typed.pass T17 T18 s15) at3 (Scalar.g-room 𝓤 H A W E G17 2 (Syntax.tyInt Syntax.w64) (Scalar.room-sc 𝓤 H A W (Row.sInt Syntax.w64))) d3
 
-          d5 : Typed.Typed 𝓤 H A 𝓣 E G15 b5 Δ1 at5
-          d5 = Typed.g-pre 𝓤 H A W 𝓣 E G15 G16 b5 Δ1 (Typed.pass T15 T16 s13) at4 (Scalar.g-room 𝓤 H A W E G15 1 ty·7 (Local.room-whole 𝓤 H A W (Declared.row TrimAnswer.the-type) ty·7 Path'.refl)) d4
+          d5 : Typed.Typed 𝓤 H A 𝓣 E G16 b5 Δ1 at5
+          d5 = Typed.s-seq 𝓤 H A W 𝓣 E G16 G17 b3 b4 Δ1 (Typed.pass T16 T17 s14) at4 (Scalar.t-use 𝓤 H A W E 𝓣 G16 Scalar.oUnit 0 (Rows.sc-here Row.sUnit) Syntax.tyUnit (Row.valS Row.sUnit) (Row.sUnit .of) tt (Reads.room-gone 𝓤 H A Syntax.tyUnit) (Scalar.holds-sc 𝓤 H A W Row.sUnit) Path'.refl (λ u. Path'.refl) λ u. tt) d4
 
-          d6 : Typed.Typed 𝓤 H A 𝓣 E G10 b5 Δ1 at6
-          d6 = Typed.g-pre 𝓤 H A W 𝓣 E G10 G15 b5 Δ1 (Typed.both s12) at5 (Known.g-enum-told 𝓤 H A W E TrimAnswer.enum 1 G10 1 λ x. x) d5
+          d6 : Typed.Typed 𝓤 H A 𝓣 E G15 b5 Δ1 at6
+          d6 = Typed.g-pre 𝓤 H A W 𝓣 E G15 G16 b5 Δ1 (Typed.pass T15 T16 s13) at5 (Scalar.g-room 𝓤 H A W E G15 1 ty·7 (Local.room-whole 𝓤 H A W (Declared.row TrimAnswer.the-type) ty·7 Path'.refl)) d5
 
-          d7 : Typed.Typed 𝓤 H A 𝓣 E G10 b6 Δ1 at7
-          d7 = Switch.t-switch-on 𝓤 H A W E 𝓣 G10 (Scalar.oFld 1 (List._∷_ (Syntax.variant 0) (List._∷_ (Syntax.field 0) List.[])) (Syntax.tyInt Syntax.w8) 0 λ x. Val.vint Syntax.w8 (Declared.tagOf TrimAnswer.the-type x)) Syntax.w8 (λ u. Declared.tagOf TrimAnswer.the-type (u .1 .0)) (Syntax.arm (List._∷_ 0 List.[]) b2 (Syntax.arm (List._∷_ 1 List.[]) b5 Syntax.noDefault)) Δ1 (at2, (at6, tt)) (Match.reads-tag 𝓤 H A W TrimAnswer.the-type Laws'.the-laws (Rows.whole (Declared.row TrimAnswer.the-type)) 0 (λ x. x) (Whole.reads-enum 𝓤 H A W TrimAnswer.the-type Laws'.the-laws), Path'.refl) (λ u. Path'.refl) (d2, (d6, tt))
+          d7 : Typed.Typed 𝓤 H A 𝓣 E G10 b5 Δ1 at7
+          d7 = Typed.g-pre 𝓤 H A W 𝓣 E G10 G15 b5 Δ1 (Typed.both s12) at6 (Known.g-enum-told 𝓤 H A W E TrimAnswer.enum 1 G10 1 λ x. x) d6
 
-          d8 : Typed.Typed 𝓤 H A 𝓣 E G8 b6 Δ1 at8
-          d8 = Typed.g-pre 𝓤 H A W 𝓣 E G8 G10 b6 Δ1 (Typed.pass T8 T10 s7) at7 (Scalar.g-room 𝓤 H A W E G8 8 Syntax.tyUnit (Scalar.room-sc 𝓤 H A W Row.sUnit)) d7
+          d8 : Typed.Typed 𝓤 H A 𝓣 E G10 b6 Δ1 at8
+          d8 = Switch.t-switch-on 𝓤 H A W E 𝓣 G10 (Scalar.oFld 1 (List._∷_ (Syntax.variant 0) (List._∷_ (Syntax.field 0) List.[])) (Syntax.tyInt Syntax.w8) 0 λ x. Val.vint Syntax.w8 (Declared.tagOf TrimAnswer.the-type x)) Syntax.w8 (λ u. Declared.tagOf TrimAnswer.the-type (u .1 .0)) (Syntax.arm (List._∷_ 0 List.[]) b2 (Syntax.arm (List._∷_ 1 List.[]) b5 Syntax.noDefault)) Δ1 (at2, (at7, tt)) (Match.reads-tag 𝓤 H A W TrimAnswer.the-type Laws'.the-laws (Rows.whole (Declared.row TrimAnswer.the-type)) 0 (λ x. x) (Whole.reads-enum 𝓤 H A W TrimAnswer.the-type Laws'.the-laws), Path'.refl) (λ u. Path'.refl) (d2, (d7, tt))
 
-          d9 : Typed.Typed 𝓤 H A 𝓣 E G21 b9 Δ0 at9
-          d9 = Typed.t-return 𝓤 H A W 𝓣 E Δ0 tt
+          d9 : Typed.Typed 𝓤 H A 𝓣 E G8 b6 Δ1 at9
+          d9 = Typed.g-pre 𝓤 H A W 𝓣 E G8 G10 b6 Δ1 (Typed.pass T8 T10 s7) at8 (Scalar.g-room 𝓤 H A W E G8 9 Syntax.tyUnit (Scalar.room-sc 𝓤 H A W Row.sUnit)) d8
 
-          d10 : Typed.Typed 𝓤 H A 𝓣 E G20 b10 Δ0 at10
-          d10 = Typed.s-seq 𝓤 H A W 𝓣 E G20 G21 b8 b9 Δ0 (Typed.pass T20 T21 s18) at9 (Scalar.t-use 𝓤 H A W E 𝓣 G20 Scalar.oUnit 0 (Rows.sc-here Row.sUnit) Syntax.tyUnit (Row.valS Row.sUnit) (Row.sUnit .of) tt (Reads.room-gone 𝓤 H A Syntax.tyUnit) (Scalar.holds-sc 𝓤 H A W Row.sUnit) Path'.refl (λ u. Path'.refl) λ u. tt) d9
+          d10 : Typed.Typed 𝓤 H A 𝓣 E G23 b9 Δ0 at10
+          d10 = Typed.t-return 𝓤 H A W 𝓣 E Δ0 tt
 
-          d11 : Typed.Typed 𝓤 H A 𝓣 E G19 b10 Δ0 at11
-          d11 = Typed.g-pre 𝓤 H A W 𝓣 E G19 G20 b10 Δ0 (Typed.pass T19 T20 s17) at10 (Scalar.g-room 𝓤 H A W E G19 8 Syntax.tyUnit (Scalar.room-sc 𝓤 H A W Row.sUnit)) d10
+          d11 : Typed.Typed 𝓤 H A 𝓣 E G22 b9 Δ0 at11
+          d11 = Typed.g-pre 𝓤 H A W 𝓣 E G22 G23 b9 Δ0 (Typed.pass T22 T23 s20) at10 (Scalar.g-room 𝓤 H A W E G22 2 (Syntax.tyInt Syntax.w64) (Scalar.room-sc 𝓤 H A W (Row.sInt Syntax.w64))) d10
 
-          d12 : Typed.Typed 𝓤 H A 𝓣 E G18 b10 Δ0 at12
-          d12 = Typed.g-pre 𝓤 H A W 𝓣 E G18 G19 b10 Δ0 (Typed.pass T18 T19 s16) at11 (Scalar.g-room 𝓤 H A W E G18 7 ty·5 (Local.room-whole 𝓤 H A W (Declared'.row Size.the-type) ty·5 Path'.refl)) d11
+          d12 : Typed.Typed 𝓤 H A 𝓣 E G21 b10 Δ0 at12
+          d12 = Typed.s-seq 𝓤 H A W 𝓣 E G21 G22 b8 b9 Δ0 (Typed.pass T21 T22 s19) at11 (Scalar.t-use 𝓤 H A W E 𝓣 G21 Scalar.oUnit 0 (Rows.sc-here Row.sUnit) Syntax.tyUnit (Row.valS Row.sUnit) (Row.sUnit .of) tt (Reads.room-gone 𝓤 H A Syntax.tyUnit) (Scalar.holds-sc 𝓤 H A W Row.sUnit) Path'.refl (λ u. Path'.refl) λ u. tt) d11
 
-          d13 : Typed.Typed 𝓤 H A 𝓣 E G9 b11 Δ0 at13
-          d13 = Typed.s-seq 𝓤 H A W 𝓣 E G9 G18 b7 b10 Δ0 (Typed.both s15) at12 (Plain.t-call-plain 𝓤 H A W 𝓣 3 ps·2 r·2 (claims· .4) (claims· .5) "bench_plans::trims::go_on" (known .2) E (λ pos β. β) G9 (record { pos = 7; st = List.[]; d = 0; at = λ x. x }, (record { pos = 2; ty = Syntax.tyRef (Syntax.named 0) Syntax.imm (Memory.pointee (T.the-row .written)); ref = λ x. x }, (record { pos = 3; ty = Syntax.tyRef (Syntax.named 1) Syntax.imm (Syntax.tyInt Syntax.w16); ref = λ x. x }, (record { pos = 4; ty = Syntax.tyRef (Syntax.named 2) Syntax.imm (Syntax.tyInt Syntax.w16); ref = λ x. x }, tt)))) 8 (List._∷_ 0 (List._∷_ 1 (List._∷_ 2 List.[]))) (Call.sub-id 𝓤 H A W (G9 .slots)) ((Yields.yields-copy 𝓤 H A W (λ ρ. Unit) (Declared'.row Size.the-type) Path'.refl (Copies.cStruct Size.the-type Laws.the-laws Laws.the-copy .copy 𝓤 H A W) (Rows.whole (Declared'.row Size.the-type)) (λ x. x) (λ x. x) (λ ρ told. Local.mem-whole 𝓤 H A W (Declared'.row Size.the-type) ρ) λ ρ told. Local.whole-mem 𝓤 H A W (Declared'.row Size.the-type) ρ, Path'.refl), (ShrSlice.spares-sslice 𝓤 H A W T.the-row ty·4 0, Shared.reads-sslice 𝓤 H A W T.the-row ty·4 0, Path'.refl, (ShrSlice.spares-sslice 𝓤 H A W (Referent.rtF (Referent.fInt Syntax.w16)) ty·0 1, Shared.reads-sslice 𝓤 H A W (Referent.rtF (Referent.fInt Syntax.w16)) ty·0 1, Path'.refl, (ShrSlice.spares-sslice 𝓤 H A W (Referent.rtF (Referent.fInt Syntax.w16)) ty·1 2, Shared.reads-sslice 𝓤 H A W (Referent.rtF (Referent.fInt Syntax.w16)) ty·1 2, Path'.refl, tt)))) (Reads.room-gone 𝓤 H A Syntax.tyUnit) (tt, (tt, (tt, tt))) Path'.refl) d12
+          d13 : Typed.Typed 𝓤 H A 𝓣 E G20 b10 Δ0 at13
+          d13 = Typed.g-pre 𝓤 H A W 𝓣 E G20 G21 b10 Δ0 (Typed.pass T20 T21 s18) at12 (Scalar.g-room 𝓤 H A W E G20 9 Syntax.tyUnit (Scalar.room-sc 𝓤 H A W Row.sUnit)) d12
 
-          d14 : Typed.Typed 𝓤 H A 𝓣 E G8 b12 Δ0 at14
-          d14 = Typed.t-seq 𝓤 H A W 𝓣 E G8 G9 b6 b11 Δ0 at8 at13 d8 d13
+          d14 : Typed.Typed 𝓤 H A 𝓣 E G19 b10 Δ0 at14
+          d14 = Typed.g-pre 𝓤 H A W 𝓣 E G19 G20 b10 Δ0 (Typed.pass T19 T20 s17) at13 (Scalar.g-room 𝓤 H A W E G19 8 ty·5 (Local.room-whole 𝓤 H A W (Declared'.row Size.the-type) ty·5 Path'.refl)) d13
 
-          d15 : Typed.Typed 𝓤 H A 𝓣 E G7 b13 Δ0 at15
-          d15 = Typed.s-seq 𝓤 H A W 𝓣 E G7 G8 b1 b12 Δ0 (Typed.both s6) at14 (Plain.t-call-plain 𝓤 H A W 𝓣 4 ps·1 r·1 (claims· .2) (claims· .3) "bench_plans::lent::print_lent" (known .1) E (λ pos β. β) G7 (record { pos = 3; ty = Syntax.tyRef (Syntax.named 1) Syntax.imm (Syntax.tyInt Syntax.w16); ref = λ x. x }, (record { pos = 4; ty = Syntax.tyRef (Syntax.named 2) Syntax.imm (Syntax.tyInt Syntax.w16); ref = λ x. x }, (record { pos = 5; ty = Syntax.tyRef (Syntax.named 3) Syntax.imm (Syntax.tyInt Syntax.w16); ref = λ x. x }, (record { pos = 6; ty = Syntax.tyRef (Syntax.named 4) Syntax.imm (Syntax.tyInt Syntax.w16); ref = λ x. x }, tt)))) 8 (List._∷_ 1 (List._∷_ 2 (List._∷_ 3 (List._∷_ 4 List.[])))) (Call.sub-id 𝓤 H A W (G7 .slots)) (ShrSlice.spares-sslice 𝓤 H A W (Referent.rtF (Referent.fInt Syntax.w16)) ty·0 1, Shared.reads-sslice 𝓤 H A W (Referent.rtF (Referent.fInt Syntax.w16)) ty·0 1, Path'.refl, (ShrSlice.spares-sslice 𝓤 H A W (Referent.rtF (Referent.fInt Syntax.w16)) ty·1 2, Shared.reads-sslice 𝓤 H A W (Referent.rtF (Referent.fInt Syntax.w16)) ty·1 2, Path'.refl, (ShrSlice.spares-sslice 𝓤 H A W (Referent.rtF (Referent.fInt Syntax.w16)) ty·2 3, Shared.reads-sslice 𝓤 H A W (Referent.rtF (Referent.fInt Syntax.w16)) ty·2 3, Path'.refl, (ShrSlice.spares-sslice 𝓤 H A W (Referent.rtF (Referent.fInt Syntax.w16)) ty·3 4, Shared.reads-sslice 𝓤 H A W (Referent.rtF (Referent.fInt Syntax.w16)) ty·3 4, Path'.refl, tt)))) (Reads.room-gone 𝓤 H A Syntax.tyUnit) (tt, (tt, (tt, (tt, tt)))) Path'.refl) d14
+          d15 : Typed.Typed 𝓤 H A 𝓣 E G9 b11 Δ0 at15
+          d15 = Typed.s-seq 𝓤 H A W 𝓣 E G9 G19 b7 b10 Δ0 (Typed.both s16) at14 (Plain.t-call-plain 𝓤 H A W 𝓣 4 ps·2 r·2 (claims· .4) (claims· .5) "bench_plans::trims::go_on" (known .2) E (λ pos β. β) G9 (Num.vAt 2 λ x. x, (record { pos = 8; st = List.[]; d = 0; at = λ x. x }, (record { pos = 3; ty = Syntax.tyRef (Syntax.named 0) Syntax.imm (Memory.pointee (T.the-row .written)); ref = λ x. x }, (record { pos = 4; ty = Syntax.tyRef (Syntax.named 1) Syntax.imm (Syntax.tyInt Syntax.w16); ref = λ x. x }, (record { pos = 5; ty = Syntax.tyRef (Syntax.named 2) Syntax.imm (Syntax.tyInt Syntax.w16); ref = λ x. x }, (record { pos = 6; ty = Syntax.tyRef (Syntax.named 3) Syntax.imm (Syntax.tyInt Syntax.w16); ref = λ x. x }, tt)))))) 9 (List._∷_ 0 (List._∷_ 1 (List._∷_ 2 (List._∷_ 3 List.[])))) (Call.sub-id 𝓤 H A W (G9 .slots)) ((Scalar.reads-sc 𝓤 H A W (Row.sInt Syntax.w64), Path'.refl), ((Yields.yields-copy 𝓤 H A W (λ ρ. Unit) (Declared'.row Size.the-type) Path'.refl (Copies.cStruct Size.the-type Laws.the-laws Laws.the-copy .copy 𝓤 H A W) (Rows.whole (Declared'.row Size.the-type)) (λ x. x) (λ x. x) (λ ρ told. Local.mem-whole 𝓤 H A W (Declared'.row Size.the-type) ρ) λ ρ told. Local.whole-mem 𝓤 H A W (Declared'.row Size.the-type) ρ, Path'.refl), (ShrSlice.spares-sslice 𝓤 H A W T.the-row ty·4 0, Shared.reads-sslice 𝓤 H A W T.the-row ty·4 0, Path'.refl, (ShrSlice.spares-sslice 𝓤 H A W (Referent.rtF (Referent.fInt Syntax.w16)) ty·0 1, Shared.reads-sslice 𝓤 H A W (Referent.rtF (Referent.fInt Syntax.w16)) ty·0 1, Path'.refl, (ShrSlice.spares-sslice 𝓤 H A W (Referent.rtF (Referent.fInt Syntax.w16)) ty·1 2, Shared.reads-sslice 𝓤 H A W (Referent.rtF (Referent.fInt Syntax.w16)) ty·1 2, Path'.refl, (ShrSlice.spares-sslice 𝓤 H A W (Referent.rtF (Referent.fInt Syntax.w16)) ty·2 3, Shared.reads-sslice 𝓤 H A W (Referent.rtF (Referent.fInt Syntax.w16)) ty·2 3, Path'.refl, tt)))))) (Reads.room-gone 𝓤 H A Syntax.tyUnit) (tt, (tt, (tt, (tt, tt)))) Path'.refl) d14
 
-          d16 : Typed.Typed 𝓤 H A 𝓣 E G6 b13 Δ0 at16
-          d16 = Typed.g-pre 𝓤 H A W 𝓣 E G6 G7 b13 Δ0 (Typed.pass T6 T7 s5) at15 (Scalar.g-room 𝓤 H A W E G6 8 Syntax.tyUnit (Scalar.room-sc 𝓤 H A W Row.sUnit)) d15
+          d16 : Typed.Typed 𝓤 H A 𝓣 E G8 b12 Δ0 at16
+          d16 = Typed.t-seq 𝓤 H A W 𝓣 E G8 G9 b6 b11 Δ0 at9 at15 d9 d15
 
-          d17 : Typed.Typed 𝓤 H A 𝓣 E G5 b14 Δ0 at17
-          d17 = Typed.s-seq 𝓤 H A W 𝓣 E G5 G6 b0 b13 Δ0 (Typed.both s4) at16 (Plain.t-call-plain 𝓤 H A W 𝓣 1 ps·0 r·0 (claims· .0) (claims· .1) "bench_plans::lent::print_rows" (known .0) E (λ pos β. β) G5 (record { pos = 2; ty = Syntax.tyRef (Syntax.named 0) Syntax.imm (Memory.pointee (T.the-row .written)); ref = λ x. x }, tt) 8 (List._∷_ 0 List.[]) (Call.sub-id 𝓤 H A W (G5 .slots)) (ShrSlice.spares-sslice 𝓤 H A W T.the-row ty·4 0, Shared.reads-sslice 𝓤 H A W T.the-row ty·4 0, Path'.refl, tt) (Reads.room-gone 𝓤 H A Syntax.tyUnit) (tt, tt) Path'.refl) d16
+          d17 : Typed.Typed 𝓤 H A 𝓣 E G7 b13 Δ0 at17
+          d17 = Typed.s-seq 𝓤 H A W 𝓣 E G7 G8 b1 b12 Δ0 (Typed.both s6) at16 (Plain.t-call-plain 𝓤 H A W 𝓣 4 ps·1 r·1 (claims· .2) (claims· .3) "bench_plans::lent::print_lent" (known .1) E (λ pos β. β) G7 (record { pos = 4; ty = Syntax.tyRef (Syntax.named 1) Syntax.imm (Syntax.tyInt Syntax.w16); ref = λ x. x }, (record { pos = 5; ty = Syntax.tyRef (Syntax.named 2) Syntax.imm (Syntax.tyInt Syntax.w16); ref = λ x. x }, (record { pos = 6; ty = Syntax.tyRef (Syntax.named 3) Syntax.imm (Syntax.tyInt Syntax.w16); ref = λ x. x }, (record { pos = 7; ty = Syntax.tyRef (Syntax.named 4) Syntax.imm (Syntax.tyInt Syntax.w16); ref = λ x. x }, tt)))) 9 (List._∷_ 1 (List._∷_ 2 (List._∷_ 3 (List._∷_ 4 List.[])))) (Call.sub-id 𝓤 H A W (G7 .slots)) (ShrSlice.spares-sslice 𝓤 H A W (Referent.rtF (Referent.fInt Syntax.w16)) ty·0 1, Shared.reads-sslice 𝓤 H A W (Referent.rtF (Referent.fInt Syntax.w16)) ty·0 1, Path'.refl, (ShrSlice.spares-sslice 𝓤 H A W (Referent.rtF (Referent.fInt Syntax.w16)) ty·1 2, Shared.reads-sslice 𝓤 H A W (Referent.rtF (Referent.fInt Syntax.w16)) ty·1 2, Path'.refl, (ShrSlice.spares-sslice 𝓤 H A W (Referent.rtF (Referent.fInt Syntax.w16)) ty·2 3, Shared.reads-sslice 𝓤 H A W (Referent.rtF (Referent.fInt Syntax.w16)) ty·2 3, Path'.refl, (ShrSlice.spares-sslice 𝓤 H A W (Referent.rtF (Referent.fInt Syntax.w16)) ty·3 4, Shared.reads-sslice 𝓤 H A W (Referent.rtF (Referent.fInt Syntax.w16)) ty·3 4, Path'.refl, tt)))) (Reads.room-gone 𝓤 H A Syntax.tyUnit) (tt, (tt, (tt, (tt, tt)))) Path'.refl) d16
 
-          d18 : Typed.Typed 𝓤 H A 𝓣 E G4 b14 Δ0 at18
-          d18 = Typed.g-pre 𝓤 H A W 𝓣 E G4 G5 b14 Δ0 (Typed.give s3) at17 (Know.g-shs-known 𝓤 H A W (Referent.fInt Syntax.w16) E G4 6 4 ty·3 (Row.lease (κs .1 .1 .1 .1 .0) (qs .1 .1 .1 .1 .0)) 0 (λ x. x) record { fits = Dec'.lit< tt } (Reads.as-is 𝓤 H A (Rows.sslice (Referent.rtF (Referent.fInt Syntax.w16)) ty·3 4)) Path'.refl tt) d17
+          d18 : Typed.Typed 𝓤 H A 𝓣 E G6 b13 Δ0 at18
+          d18 = Typed.g-pre 𝓤 H A W 𝓣 E G6 G7 b13 Δ0 (Typed.pass T6 T7 s5) at17 (Scalar.g-room 𝓤 H A W E G6 9 Syntax.tyUnit (Scalar.room-sc 𝓤 H A W Row.sUnit)) d17
 
-          d19 : Typed.Typed 𝓤 H A 𝓣 E G3 b14 Δ0 at19
-          d19 = Typed.g-pre 𝓤 H A W 𝓣 E G3 G4 b14 Δ0 (Typed.give s2) at18 (Know.g-shs-known 𝓤 H A W (Referent.fInt Syntax.w16) E G3 5 3 ty·2 (Row.lease (κs .1 .1 .1 .0) (qs .1 .1 .1 .0)) 0 (λ x. x) record { fits = Dec'.lit< tt } (Reads.as-is 𝓤 H A (Rows.sslice (Referent.rtF (Referent.fInt Syntax.w16)) ty·2 3)) Path'.refl tt) d18
+          d19 : Typed.Typed 𝓤 H A 𝓣 E G5 b14 Δ0 at19
+          d19 = Typed.s-seq 𝓤 H A W 𝓣 E G5 G6 b0 b13 Δ0 (Typed.both s4) at18 (Plain.t-call-plain 𝓤 H A W 𝓣 1 ps·0 r·0 (claims· .0) (claims· .1) "bench_plans::lent::print_rows" (known .0) E (λ pos β. β) G5 (record { pos = 3; ty = Syntax.tyRef (Syntax.named 0) Syntax.imm (Memory.pointee (T.the-row .written)); ref = λ x. x }, tt) 9 (List._∷_ 0 List.[]) (Call.sub-id 𝓤 H A W (G5 .slots)) (ShrSlice.spares-sslice 𝓤 H A W T.the-row ty·4 0, Shared.reads-sslice 𝓤 H A W T.the-row ty·4 0, Path'.refl, tt) (Reads.room-gone 𝓤 H A Syntax.tyUnit) (tt, tt) Path'.refl) d18
 
-          d20 : Typed.Typed 𝓤 H A 𝓣 E G2 b14 Δ0 at20
-          d20 = Typed.g-pre 𝓤 H A W 𝓣 E G2 G3 b14 Δ0 (Typed.give s1) at19 (Know.g-shs-known 𝓤 H A W (Referent.fInt Syntax.w16) E G2 4 2 ty·1 (Row.lease (κs .1 .1 .0) (qs .1 .1 .0)) 0 (λ x. x) record { fits = Dec'.lit< tt } (Reads.as-is 𝓤 H A (Rows.sslice (Referent.rtF (Referent.fInt Syntax.w16)) ty·1 2)) Path'.refl tt) d19
+          d20 : Typed.Typed 𝓤 H A 𝓣 E G4 b14 Δ0 at20
+          d20 = Typed.g-pre 𝓤 H A W 𝓣 E G4 G5 b14 Δ0 (Typed.give s3) at19 (Know.g-shs-known 𝓤 H A W (Referent.fInt Syntax.w16) E G4 7 4 ty·3 (Row.lease (κs .1 .1 .1 .1 .0) (qs .1 .1 .1 .1 .0)) 0 (λ x. x) record { fits = Dec'.lit< tt } (Reads.as-is 𝓤 H A (Rows.sslice (Referent.rtF (Referent.fInt Syntax.w16)) ty·3 4)) Path'.refl tt) d19
 
-          d21 : Typed.Typed 𝓤 H A 𝓣 E G0 b14 Δ0 at21
-          d21 = Typed.g-pre 𝓤 H A W 𝓣 E G0 G2 b14 Δ0 (Typed.give s0) at20 (Know.g-shs-known 𝓤 H A W (Referent.fInt Syntax.w16) E G0 3 1 ty·0 (Row.lease (κs .1 .0) (qs .1 .0)) 0 (λ x. x) record { fits = Dec'.lit< tt } (Reads.as-is 𝓤 H A (Rows.sslice (Referent.rtF (Referent.fInt Syntax.w16)) ty·0 1)) Path'.refl tt) d20
+          d21 : Typed.Typed 𝓤 H A 𝓣 E G3 b14 Δ0 at21
+          d21 = Typed.g-pre 𝓤 H A W 𝓣 E G3 G4 b14 Δ0 (Typed.give s2) at20 (Know.g-shs-known 𝓤 H A W (Referent.fInt Syntax.w16) E G3 6 3 ty·2 (Row.lease (κs .1 .1 .1 .0) (qs .1 .1 .1 .0)) 0 (λ x. x) record { fits = Dec'.lit< tt } (Reads.as-is 𝓤 H A (Rows.sslice (Referent.rtF (Referent.fInt Syntax.w16)) ty·2 3)) Path'.refl tt) d20
+
+          d22 : Typed.Typed 𝓤 H A 𝓣 E G2 b14 Δ0 at22
+          d22 = Typed.g-pre 𝓤 H A W 𝓣 E G2 G3 b14 Δ0 (Typed.give s1) at21 (Know.g-shs-known 𝓤 H A W (Referent.fInt Syntax.w16) E G2 5 2 ty·1 (Row.lease (κs .1 .1 .0) (qs .1 .1 .0)) 0 (λ x. x) record { fits = Dec'.lit< tt } (Reads.as-is 𝓤 H A (Rows.sslice (Referent.rtF (Referent.fInt Syntax.w16)) ty·1 2)) Path'.refl tt) d21
+
+          d23 : Typed.Typed 𝓤 H A 𝓣 E G0 b14 Δ0 at23
+          d23 = Typed.g-pre 𝓤 H A W 𝓣 E G0 G2 b14 Δ0 (Typed.give s0) at22 (Know.g-shs-known 𝓤 H A W (Referent.fInt Syntax.w16) E G0 4 1 ty·0 (Row.lease (κs .1 .0) (qs .1 .0)) 0 (λ x. x) record { fits = Dec'.lit< tt } (Reads.as-is 𝓤 H A (Rows.sslice (Referent.rtF (Referent.fInt Syntax.w16)) ty·0 1)) Path'.refl tt) d22
 
           pub typed : Typed.Typed 𝓤 H A 𝓣 E (Function.Γin 5 ps r xs m κs qs) b14 (Function.Δret 5 ps r xs m κs qs) Φ
-          typed = d21
+          typed = d23
 
       module _ (κs : Lifetimes.Lfts 5) where
         pub record Args : Type 0 where
           pub r : Kinds.Den {n = 5} κs (Value.pVal record { ty = Declared.row TrimAnswer.the-type; one = Path'.refl; val = Laws''.val TrimAnswer.the-type Laws'.the-laws; tells = Laws''.tells TrimAnswer.the-type Laws'.the-laws; still = Laws''.still TrimAnswer.the-type Laws'.the-copy Exit.yes; row = Rows.whole (Declared.row TrimAnswer.the-type); rd = λ x. x; mk = λ x. x } λ M 𝓤 H A W. record { copies = Laws''.copy TrimAnswer.the-type Laws'.the-copy 𝓤 H A W; lawful = Laws''.lawful TrimAnswer.the-type Laws'.the-laws 𝓤 H A W tt; makes = Laws''.makes TrimAnswer.the-type Laws'.the-plain 𝓤 H A; in-mem = Local.mem-whole 𝓤 H A W (Declared.row TrimAnswer.the-type); of-mem = Local.whole-mem 𝓤 H A W (Declared.row TrimAnswer.the-type) })
+          pub n : Kinds.Den {n = 5} κs (Num.pNum Syntax.w64)
           pub rows : Kinds.Den {n = 5} κs (ShrSlice.pShrS T.the-row 0 tt)
           pub firsts : Kinds.Den {n = 5} κs (ShrSlice.pShrS (Referent.rtF (Referent.fInt Syntax.w16)) 1 tt)
           pub outcomes : Kinds.Den {n = 5} κs (ShrSlice.pShrS (Referent.rtF (Referent.fInt Syntax.w16)) 2 tt)
@@ -554,7 +589,11 @@ module _ (claims· : Claims) where
           pub scratch : Kinds.Den {n = 5} κs (ShrSlice.pShrS (Referent.rtF (Referent.fInt Syntax.w16)) 4 tt)
 
         abbrev pub dens : (a : Args) → Kinds.Dens κs ps
-        dens = λ a. (a .r, (a .rows, (a .firsts, (a .outcomes, (a .olds, (a .scratch, tt))))))
+        dens = λ a. (a .r, (a .n, (a .rows, (a .firsts, (a .outcomes, (a .olds, (a .scratch, tt)))))))
+
+        module _ (args· : Args) where
+          pub record Ranges : Type 0 where
+            pub n : Val.Fits Syntax.w64 (args· .n)
 
       abbrev pub m0 : (κs : Lifetimes.Lfts 5) → (args : Args κs) → Typed.Mo T0
       m0 = λ κs args. (tt, Enter.partsP κs 1 ps xs (dens κs args))
@@ -566,6 +605,7 @@ module _ (claims· : Claims) where
         pub κs : Lifetimes.Lfts 5
         pub args : Args κs
         pub good : Kinds.GoodsP κs ps (dens κs args)
+        pub fits : Ranges κs args
         pub pre : Pre· κs (dens κs args)
 
       abbrev pub m1 : (before : Start) → (given : s0 .gives (m0 (before .κs) (before .args))) → Typed.Mo T2
@@ -620,14 +660,14 @@ module _ (claims· : Claims) where
 
       module _ (before· : After-shared-slice-known4) where
         abbrev pub After-print-rows·own : Type 0
-        After-print-rows·own = Called.Called ps·0 r·0 (claims· .1) T5 (record { pos = 2; ty = Syntax.tyRef (Syntax.named 0) Syntax.imm (Memory.pointee (T.the-row .written)); ref = λ x. x }, tt) (m4 (before· .before) (before· .shared-slice-known4 .given))
+        After-print-rows·own = Called.Called ps·0 r·0 (claims· .1) T5 (record { pos = 3; ty = Syntax.tyRef (Syntax.named 0) Syntax.imm (Memory.pointee (T.the-row .written)); ref = λ x. x }, tt) (m4 (before· .before) (before· .shared-slice-known4 .given))
 
       pub record After-print-rows : Type 0 where
         pub before : After-shared-slice-known4
         pub print-rows : After-print-rows·own before
 
       abbrev pub After-print-rows·gave : (c : After-print-rows) → s4 .gives (m4 (c .before .before) (c .before .shared-slice-known4 .given))
-      After-print-rows·gave = λ c. Called.given ps·0 r·0 (claims· .1) T5 (record { pos = 2; ty = Syntax.tyRef (Syntax.named 0) Syntax.imm (Memory.pointee (T.the-row .written)); ref = λ x. x }, tt) (m4 (c .before .before) (c .before .shared-slice-known4 .given)) (c .print-rows)
+      After-print-rows·gave = λ c. Called.given ps·0 r·0 (claims· .1) T5 (record { pos = 3; ty = Syntax.tyRef (Syntax.named 0) Syntax.imm (Memory.pointee (T.the-row .written)); ref = λ x. x }, tt) (m4 (c .before .before) (c .before .shared-slice-known4 .given)) (c .print-rows)
 
       abbrev pub m6 : (before : After-shared-slice-known4) → (given : s4 .gives (m4 (before .before) (before .shared-slice-known4 .given))) → Typed.Mo T7
       m6 = λ before given. s5 (m5 before given)
@@ -640,17 +680,17 @@ module _ (claims· : Claims) where
 
       module _ (before· : After-print-rows) where
         abbrev pub After-print-lent·own : Type 0
-        After-print-lent·own = Called.Called ps·1 r·1 (claims· .3) T7 (record { pos = 3; ty = Syntax.tyRef (Syntax.named 1) Syntax.imm (Syntax.tyInt Syntax.w16); ref = λ x. x }, (record { pos = 4; ty = Syntax.tyRef (Syntax.named 2) Syntax.imm (Syntax.tyInt Syntax.w16); ref = λ x. x }, (record { pos = 5; ty = Syntax.tyRef (Syntax.named 3) Syntax.imm (Syntax.tyInt Syntax.w16); ref = λ x. x }, (record { pos = 6; ty = Syntax.tyRef (Syntax.named 4) Syntax.imm (Syntax.tyInt Syntax.w16); ref = λ x. x }, tt)))) (m6 (before· .before) (After-print-rows·gave before·))
+        After-print-lent·own = Called.Called ps·1 r·1 (claims· .3) T7 (record { pos = 4; ty = Syntax.tyRef (Syntax.named 1) Syntax.imm (Syntax.tyInt Syntax.w16); ref = λ x. x }, (record { pos = 5; ty = Syntax.tyRef (Syntax.named 2) Syntax.imm (Syntax.tyInt Syntax.w16); ref = λ x. x }, (record { pos = 6; ty = Syntax.tyRef (Syntax.named 3) Syntax.imm (Syntax.tyInt Syntax.w16); ref = λ x. x }, (record { pos = 7; ty = Syntax.tyRef (Syntax.named 4) Syntax.imm (Syntax.tyInt Syntax.w16); ref = λ x. x }, tt)))) (m6 (before· .before) (After-print-rows·gave before·))
 
       pub record After-print-lent : Type 0 where
         pub before : After-print-rows
         pub print-lent : After-print-lent·own before
 
       abbrev pub After-print-lent·gave : (c : After-print-lent) → s6 .gives (m6 (c .before .before) (After-print-rows·gave (c .before)))
-      After-print-lent·gave = λ c. Called.given ps·1 r·1 (claims· .3) T7 (record { pos = 3; ty = Syntax.tyRef (Syntax.named 1) Syntax.imm (Syntax.tyInt Syntax.w16); ref = λ x. x }, (record { pos = 4; ty = Syntax.tyRef (Syntax.named 2) Syntax.imm (Syntax.tyInt Syntax.w16); ref = λ x. x }, (record { pos = 5; ty = Syntax.tyRef (Syntax.named 3) Syntax.imm (Syntax.tyInt Syntax.w16); ref = λ x. x }, (record { pos = 6; ty = Syntax.tyRef (Syntax.named 4) Syntax.imm (Syntax.tyInt Syntax.w16); ref = λ x. x }, tt)))) (m6 (c .before .before) (After-print-rows·gave (c .before))) (c .print-lent)
+      After-print-lent·gave = λ c. Called.given ps·1 r·1 (claims· .3) T7 (record { pos = 4; ty = Syntax.tyRef (Syntax.named 1) Syntax.imm (Syntax.tyInt Syntax.w16); ref = λ x. x }, (record { pos = 5; ty = Syntax.tyRef (Syntax.named 2) Syntax.imm (Syntax.tyInt Syntax.w16); ref = λ x. x }, (record { pos = 6; ty = Syntax.tyRef (Syntax.named 3) Syntax.imm (Syntax.tyInt Syntax.w16); ref = λ x. x }, (record { pos = 7; ty = Syntax.tyRef (Syntax.named 4) Syntax.imm (Syntax.tyInt Syntax.w16); ref = λ x. x }, tt)))) (m6 (c .before .before) (After-print-rows·gave (c .before))) (c .print-lent)
 
       abbrev W1 : (before : After-print-rows) → (given : s6 .gives (m6 (before .before) (After-print-rows·gave before))) → Typed.Want O1
-      W1 = λ before given. Typed.wantNext T9 O0 (at13 (W0 (before .before .before .before .before .before .κs) (before .before .before .before .before .before .args))) (W0 (before .before .before .before .before .before .κs) (before .before .before .before .before .before .args))
+      W1 = λ before given. Typed.wantNext T9 O0 (at15 (W0 (before .before .before .before .before .before .κs) (before .before .before .before .before .before .args))) (W0 (before .before .before .before .before .before .κs) (before .before .before .before .before .before .args))
 
       abbrev pub m8 : (before : After-print-rows) → (given : s6 .gives (m6 (before .before) (After-print-rows·gave before))) → Typed.Mo T10
       m8 = λ before given. s7 (m7 before given)
@@ -714,6 +754,9 @@ module _ (claims· : Claims) where
       abbrev pub m15 : (before : At-match-keys2) → (given : s12 .gives (m8 (before .before .before) (After-print-lent·gave (before .before)))) → Typed.Mo T17
       m15 = λ before given. s14 (m14 before given)
 
+      abbrev pub m16 : (before : At-match-keys2) → (given : s12 .gives (m8 (before .before .before) (After-print-lent·gave (before .before)))) → Typed.Mo T18
+      m16 = λ before given. s15 (m15 before given)
+
       module _ (before· : At-match-keys2) where
         pub record After-enum-told·own : Type 0 where
           pub given : s12 .gives (m8 (before· .before .before) (After-print-lent·gave (before· .before)))
@@ -723,57 +766,60 @@ module _ (claims· : Claims) where
         pub enum-told : After-enum-told·own before
 
       abbrev pub Need-returns : Type 0
-      Need-returns = (c : After-enum-told) → Post· (c .before .before .before .before .before .before .before .before .κs) (dens (c .before .before .before .before .before .before .before .before .κs) (c .before .before .before .before .before .before .before .before .args)) (Function.resV r (c .before .before .before .before .before .before .before .before .κs) (m15 (c .before) (c .enum-told .given) .0)) (Clauses.atExit (Kinds.endedOf 5 ps r) (c .before .before .before .before .before .before .before .before .κs) (dens (c .before .before .before .before .before .before .before .before .κs) (c .before .before .before .before .before .before .before .before .args)) (Enter.lastsP (c .before .before .before .before .before .before .before .before .κs) 1 ps xs (dens (c .before .before .before .before .before .before .before .before .κs) (c .before .before .before .before .before .before .before .before .args)) (m15 (c .before) (c .enum-told .given) .1)))
+      Need-returns = (c : After-enum-told) → Post· (c .before .before .before .before .before .before .before .before .κs) (dens (c .before .before .before .before .before .before .before .before .κs) (c .before .before .before .before .before .before .before .before .args)) (Function.resV r (c .before .before .before .before .before .before .before .before .κs) (m16 (c .before) (c .enum-told .given) .0)) (Clauses.atExit (Kinds.endedOf 5 ps r) (c .before .before .before .before .before .before .before .before .κs) (dens (c .before .before .before .before .before .before .before .before .κs) (c .before .before .before .before .before .before .before .before .args)) (Enter.lastsP (c .before .before .before .before .before .before .before .before .κs) 1 ps xs (dens (c .before .before .before .before .before .before .before .before .κs) (c .before .before .before .before .before .before .before .before .args)) (m16 (c .before) (c .enum-told .given) .1)))
 
       abbrev pub Need-go-on-requires : Type 0
-      Need-go-on-requires = (c : After-known-told) → s15 .asks (m12 (c .before) (c .known-told .given))
+      Need-go-on-requires = (c : After-known-told) → s16 .asks (m12 (c .before) (c .known-told .given))
 
-      abbrev pub m16 : (before : After-known-told) → (given : s15 .gives (m12 (before .before) (before .known-told .given))) → Typed.Mo T18
-      m16 = λ before given. s15 .next (m12 (before .before) (before .known-told .given)) given
+      abbrev pub m17 : (before : After-known-told) → (given : s16 .gives (m12 (before .before) (before .known-told .given))) → Typed.Mo T19
+      m17 = λ before given. s16 .next (m12 (before .before) (before .known-told .given)) given
 
       module _ (before· : After-known-told) where
         abbrev pub After-go-on·own : Type 0
-        After-go-on·own = Called.Called ps·2 r·2 (claims· .5) T9 (record { pos = 7; st = List.[]; d = 0; at = λ x. x }, (record { pos = 2; ty = Syntax.tyRef (Syntax.named 0) Syntax.imm (Memory.pointee (T.the-row .written)); ref = λ x. x }, (record { pos = 3; ty = Syntax.tyRef (Syntax.named 1) Syntax.imm (Syntax.tyInt Syntax.w16); ref = λ x. x }, (record { pos = 4; ty = Syntax.tyRef (Syntax.named 2) Syntax.imm (Syntax.tyInt Syntax.w16); ref = λ x. x }, tt)))) (m12 (before· .before) (before· .known-told .given))
+        After-go-on·own = Called.Called ps·2 r·2 (claims· .5) T9 (Num.vAt 2 λ x. x, (record { pos = 8; st = List.[]; d = 0; at = λ x. x }, (record { pos = 3; ty = Syntax.tyRef (Syntax.named 0) Syntax.imm (Memory.pointee (T.the-row .written)); ref = λ x. x }, (record { pos = 4; ty = Syntax.tyRef (Syntax.named 1) Syntax.imm (Syntax.tyInt Syntax.w16); ref = λ x. x }, (record { pos = 5; ty = Syntax.tyRef (Syntax.named 2) Syntax.imm (Syntax.tyInt Syntax.w16); ref = λ x. x }, (record { pos = 6; ty = Syntax.tyRef (Syntax.named 3) Syntax.imm (Syntax.tyInt Syntax.w16); ref = λ x. x }, tt)))))) (m12 (before· .before) (before· .known-told .given))
 
       pub record After-go-on : Type 0 where
         pub before : After-known-told
         pub go-on : After-go-on·own before
 
-      abbrev pub After-go-on·gave : (c : After-go-on) → s15 .gives (m12 (c .before .before) (c .before .known-told .given))
-      After-go-on·gave = λ c. Called.given ps·2 r·2 (claims· .5) T9 (record { pos = 7; st = List.[]; d = 0; at = λ x. x }, (record { pos = 2; ty = Syntax.tyRef (Syntax.named 0) Syntax.imm (Memory.pointee (T.the-row .written)); ref = λ x. x }, (record { pos = 3; ty = Syntax.tyRef (Syntax.named 1) Syntax.imm (Syntax.tyInt Syntax.w16); ref = λ x. x }, (record { pos = 4; ty = Syntax.tyRef (Syntax.named 2) Syntax.imm (Syntax.tyInt Syntax.w16); ref = λ x. x }, tt)))) (m12 (c .before .before) (c .before .known-told .given)) (c .go-on)
+      abbrev pub After-go-on·gave : (c : After-go-on) → s16 .gives (m12 (c .before .before) (c .before .known-told .given))
+      After-go-on·gave = λ c. Called.given ps·2 r·2 (claims· .5) T9 (Num.vAt 2 λ x. x, (record { pos = 8; st = List.[]; d = 0; at = λ x. x }, (record { pos = 3; ty = Syntax.tyRef (Syntax.named 0) Syntax.imm (Memory.pointee (T.the-row .written)); ref = λ x. x }, (record { pos = 4; ty = Syntax.tyRef (Syntax.named 1) Syntax.imm (Syntax.tyInt Syntax.w16); ref = λ x. x }, (record { pos = 5; ty = Syntax.tyRef (Syntax.named 2) Syntax.imm (Syntax.tyInt Syntax.w16); ref = λ x. x }, (record { pos = 6; ty = Syntax.tyRef (Syntax.named 3) Syntax.imm (Syntax.tyInt Syntax.w16); ref = λ x. x }, tt)))))) (m12 (c .before .before) (c .before .known-told .given)) (c .go-on)
 
-      abbrev pub m17 : (before : After-known-told) → (given : s15 .gives (m12 (before .before) (before .known-told .given))) → Typed.Mo T19
-      m17 = λ before given. s16 (m16 before given)
-
-      abbrev pub m18 : (before : After-known-told) → (given : s15 .gives (m12 (before .before) (before .known-told .given))) → Typed.Mo T20
+      abbrev pub m18 : (before : After-known-told) → (given : s16 .gives (m12 (before .before) (before .known-told .given))) → Typed.Mo T20
       m18 = λ before given. s17 (m17 before given)
 
-      abbrev pub m19 : (before : After-known-told) → (given : s15 .gives (m12 (before .before) (before .known-told .given))) → Typed.Mo T21
+      abbrev pub m19 : (before : After-known-told) → (given : s16 .gives (m12 (before .before) (before .known-told .given))) → Typed.Mo T21
       m19 = λ before given. s18 (m18 before given)
 
+      abbrev pub m20 : (before : After-known-told) → (given : s16 .gives (m12 (before .before) (before .known-told .given))) → Typed.Mo T22
+      m20 = λ before given. s19 (m19 before given)
+
+      abbrev pub m21 : (before : After-known-told) → (given : s16 .gives (m12 (before .before) (before .known-told .given))) → Typed.Mo T23
+      m21 = λ before given. s20 (m20 before given)
+
       abbrev pub Need-returns-2 : Type 0
-      Need-returns-2 = (c : After-go-on) → Post· (c .before .before .before .before .before .before .before .before .before .before .κs) (dens (c .before .before .before .before .before .before .before .before .before .before .κs) (c .before .before .before .before .before .before .before .before .before .before .args)) (Function.resV r (c .before .before .before .before .before .before .before .before .before .before .κs) (m19 (c .before) (After-go-on·gave c) .0)) (Clauses.atExit (Kinds.endedOf 5 ps r) (c .before .before .before .before .before .before .before .before .before .before .κs) (dens (c .before .before .before .before .before .before .before .before .before .before .κs) (c .before .before .before .before .before .before .before .before .before .before .args)) (Enter.lastsP (c .before .before .before .before .before .before .before .before .before .before .κs) 1 ps xs (dens (c .before .before .before .before .before .before .before .before .before .before .κs) (c .before .before .before .before .before .before .before .before .before .before .args)) (m19 (c .before) (After-go-on·gave c) .1)))
+      Need-returns-2 = (c : After-go-on) → Post· (c .before .before .before .before .before .before .before .before .before .before .κs) (dens (c .before .before .before .before .before .before .before .before .before .before .κs) (c .before .before .before .before .before .before .before .before .before .before .args)) (Function.resV r (c .before .before .before .before .before .before .before .before .before .before .κs) (m21 (c .before) (After-go-on·gave c) .0)) (Clauses.atExit (Kinds.endedOf 5 ps r) (c .before .before .before .before .before .before .before .before .before .before .κs) (dens (c .before .before .before .before .before .before .before .before .before .before .κs) (c .before .before .before .before .before .before .before .before .before .before .args)) (Enter.lastsP (c .before .before .before .before .before .before .before .before .before .before .κs) 1 ps xs (dens (c .before .before .before .before .before .before .before .before .before .before .κs) (c .before .before .before .before .before .before .before .before .before .before .args)) (m21 (c .before) (After-go-on·gave c) .1)))
 
       module _ (print-rows-requires : Need-print-rows-requires) (print-lent-requires : Need-print-lent-requires) (enum-known-r : Need-enum-known-r) (enum-told : Need-enum-told) (returns : Need-returns) (go-on-requires : Need-go-on-requires) (returns-2 : Need-returns-2) where
-        lay4 : (c : After-go-on) → at12 (W0 (c .before .before .before .before .before .before .before .before .before .before .κs) (c .before .before .before .before .before .before .before .before .before .before .args)) (m16 (c .before) (After-go-on·gave c))
-        lay4 = λ c. ((tt, (Path'.refl, (Path'.refl, (Path'.refl, (Path'.refl, (Path'.refl, tt)))))), returns-2 record { before = c .before; go-on = c .go-on })
+        lay4 : (c : After-go-on) → at14 (W0 (c .before .before .before .before .before .before .before .before .before .before .κs) (c .before .before .before .before .before .before .before .before .before .before .args)) (m17 (c .before) (After-go-on·gave c))
+        lay4 = λ c. ((tt, (tt, (Path'.refl, (Path'.refl, (Path'.refl, (Path'.refl, (Path'.refl, tt))))))), returns-2 record { before = c .before; go-on = c .go-on })
 
-        lay3 : (c : After-known-told) → at13 (W0 (c .before .before .before .before .before .before .before .before .before .κs) (c .before .before .before .before .before .before .before .before .before .args)) (m12 (c .before) (c .known-told .given))
-        lay3 = λ c. (go-on-requires record { before = c .before; known-told = c .known-told }, λ g. lay4 record { before = record { before = c .before; known-told = c .known-told }; go-on = Called.called ps·2 r·2 (claims· .5) T9 (record { pos = 7; st = List.[]; d = 0; at = λ x. x }, (record { pos = 2; ty = Syntax.tyRef (Syntax.named 0) Syntax.imm (Memory.pointee (T.the-row .written)); ref = λ x. x }, (record { pos = 3; ty = Syntax.tyRef (Syntax.named 1) Syntax.imm (Syntax.tyInt Syntax.w16); ref = λ x. x }, (record { pos = 4; ty = Syntax.tyRef (Syntax.named 2) Syntax.imm (Syntax.tyInt Syntax.w16); ref = λ x. x }, tt)))) (m12 (c .before) (c .known-told .given)) g })
+        lay3 : (c : After-known-told) → at15 (W0 (c .before .before .before .before .before .before .before .before .before .κs) (c .before .before .before .before .before .before .before .before .before .args)) (m12 (c .before) (c .known-told .given))
+        lay3 = λ c. (go-on-requires record { before = c .before; known-told = c .known-told }, λ g. lay4 record { before = record { before = c .before; known-told = c .known-told }; go-on = Called.called ps·2 r·2 (claims· .5) T9 (Num.vAt 2 λ x. x, (record { pos = 8; st = List.[]; d = 0; at = λ x. x }, (record { pos = 3; ty = Syntax.tyRef (Syntax.named 0) Syntax.imm (Memory.pointee (T.the-row .written)); ref = λ x. x }, (record { pos = 4; ty = Syntax.tyRef (Syntax.named 1) Syntax.imm (Syntax.tyInt Syntax.w16); ref = λ x. x }, (record { pos = 5; ty = Syntax.tyRef (Syntax.named 2) Syntax.imm (Syntax.tyInt Syntax.w16); ref = λ x. x }, (record { pos = 6; ty = Syntax.tyRef (Syntax.named 3) Syntax.imm (Syntax.tyInt Syntax.w16); ref = λ x. x }, tt)))))) (m12 (c .before) (c .known-told .given)) g })
 
-        lay2 : (c : After-print-lent) → at14 (W0 (c .before .before .before .before .before .before .κs) (c .before .before .before .before .before .before .args)) (m7 (c .before) (After-print-lent·gave c))
-        lay2 = λ c. (λ k. (enum-known-r record { before = record { before = c .before; print-lent = c .print-lent }; match = record { keys1 = k } }, λ g. λ g'. lay3 record { before = record { before = record { before = record { before = c .before; print-lent = c .print-lent }; match = record { keys1 = k } }; r = record { given = g } }; known-told = record { given = g' } }), (λ k. (enum-told record { before = record { before = c .before; print-lent = c .print-lent }; match = record { keys2 = k } }, λ g. ((tt, (Path'.refl, (Path'.refl, (Path'.refl, (Path'.refl, (Path'.refl, tt)))))), returns record { before = record { before = record { before = c .before; print-lent = c .print-lent }; match = record { keys2 = k } }; enum-told = record { given = g } })), Match.each-below 2 (λ j. (Unit {0} × (Run.OneOf (List._∷_ 0 List.[]) j → ⊥)) × (Run.OneOf (List._∷_ 1 List.[]) j → ⊥) → ⊥) (λ n. n .1 Path'.refl, (λ n. n .0 .1 Path'.refl, tt)) (Declared.tagOf TrimAnswer.the-type (Row.get 1 (T10 .locals) (m8 (c .before) (After-print-lent·gave c)))) (Match.tag-small TrimAnswer.the-type (Row.get 1 (T10 .locals) (m8 (c .before) (After-print-lent·gave c))))))
+        lay2 : (c : After-print-lent) → at16 (W0 (c .before .before .before .before .before .before .κs) (c .before .before .before .before .before .before .args)) (m7 (c .before) (After-print-lent·gave c))
+        lay2 = λ c. (λ k. (enum-known-r record { before = record { before = c .before; print-lent = c .print-lent }; match = record { keys1 = k } }, λ g. λ g'. lay3 record { before = record { before = record { before = record { before = c .before; print-lent = c .print-lent }; match = record { keys1 = k } }; r = record { given = g } }; known-told = record { given = g' } }), (λ k. (enum-told record { before = record { before = c .before; print-lent = c .print-lent }; match = record { keys2 = k } }, λ g. ((tt, (tt, (Path'.refl, (Path'.refl, (Path'.refl, (Path'.refl, (Path'.refl, tt))))))), returns record { before = record { before = record { before = c .before; print-lent = c .print-lent }; match = record { keys2 = k } }; enum-told = record { given = g } })), Match.each-below 2 (λ j. (Unit {0} × (Run.OneOf (List._∷_ 0 List.[]) j → ⊥)) × (Run.OneOf (List._∷_ 1 List.[]) j → ⊥) → ⊥) (λ n. n .1 Path'.refl, (λ n. n .0 .1 Path'.refl, tt)) (Declared.tagOf TrimAnswer.the-type (Row.get 1 (T10 .locals) (m8 (c .before) (After-print-lent·gave c)))) (Match.tag-small TrimAnswer.the-type (Row.get 1 (T10 .locals) (m8 (c .before) (After-print-lent·gave c))))))
 
-        lay1 : (c : After-print-rows) → at16 (W0 (c .before .before .before .before .before .κs) (c .before .before .before .before .before .args)) (m5 (c .before) (After-print-rows·gave c))
-        lay1 = λ c. (print-lent-requires record { before = c .before; print-rows = c .print-rows }, λ g. lay2 record { before = record { before = c .before; print-rows = c .print-rows }; print-lent = Called.called ps·1 r·1 (claims· .3) T7 (record { pos = 3; ty = Syntax.tyRef (Syntax.named 1) Syntax.imm (Syntax.tyInt Syntax.w16); ref = λ x. x }, (record { pos = 4; ty = Syntax.tyRef (Syntax.named 2) Syntax.imm (Syntax.tyInt Syntax.w16); ref = λ x. x }, (record { pos = 5; ty = Syntax.tyRef (Syntax.named 3) Syntax.imm (Syntax.tyInt Syntax.w16); ref = λ x. x }, (record { pos = 6; ty = Syntax.tyRef (Syntax.named 4) Syntax.imm (Syntax.tyInt Syntax.w16); ref = λ x. x }, tt)))) (m6 (c .before) (After-print-rows·gave c)) g })
+        lay1 : (c : After-print-rows) → at18 (W0 (c .before .before .before .before .before .κs) (c .before .before .before .before .before .args)) (m5 (c .before) (After-print-rows·gave c))
+        lay1 = λ c. (print-lent-requires record { before = c .before; print-rows = c .print-rows }, λ g. lay2 record { before = record { before = c .before; print-rows = c .print-rows }; print-lent = Called.called ps·1 r·1 (claims· .3) T7 (record { pos = 4; ty = Syntax.tyRef (Syntax.named 1) Syntax.imm (Syntax.tyInt Syntax.w16); ref = λ x. x }, (record { pos = 5; ty = Syntax.tyRef (Syntax.named 2) Syntax.imm (Syntax.tyInt Syntax.w16); ref = λ x. x }, (record { pos = 6; ty = Syntax.tyRef (Syntax.named 3) Syntax.imm (Syntax.tyInt Syntax.w16); ref = λ x. x }, (record { pos = 7; ty = Syntax.tyRef (Syntax.named 4) Syntax.imm (Syntax.tyInt Syntax.w16); ref = λ x. x }, tt)))) (m6 (c .before) (After-print-rows·gave c)) g })
 
-        pub laid : (c : Start) → at21 (W0 (c .κs) (c .args)) (m0 (c .κs) (c .args))
-        laid = λ c. λ g. λ g'. λ g''. λ g'3. (print-rows-requires record { before = record { before = record { before = record { before = c; shared-slice-known = record { given = g } }; shared-slice-known2 = record { given = g' } }; shared-slice-known3 = record { given = g'' } }; shared-slice-known4 = record { given = g'3 } }, λ g'4. lay1 record { before = record { before = record { before = record { before = record { before = c; shared-slice-known = record { given = g } }; shared-slice-known2 = record { given = g' } }; shared-slice-known3 = record { given = g'' } }; shared-slice-known4 = record { given = g'3 } }; print-rows = Called.called ps·0 r·0 (claims· .1) T5 (record { pos = 2; ty = Syntax.tyRef (Syntax.named 0) Syntax.imm (Memory.pointee (T.the-row .written)); ref = λ x. x }, tt) (m4 record { before = record { before = record { before = c; shared-slice-known = record { given = g } }; shared-slice-known2 = record { given = g' } }; shared-slice-known3 = record { given = g'' } } g'3) g'4 })
+        pub laid : (c : Start) → at23 (W0 (c .κs) (c .args)) (m0 (c .κs) (c .args))
+        laid = λ c. λ g. λ g'. λ g''. λ g'3. (print-rows-requires record { before = record { before = record { before = record { before = c; shared-slice-known = record { given = g } }; shared-slice-known2 = record { given = g' } }; shared-slice-known3 = record { given = g'' } }; shared-slice-known4 = record { given = g'3 } }, λ g'4. lay1 record { before = record { before = record { before = record { before = record { before = c; shared-slice-known = record { given = g } }; shared-slice-known2 = record { given = g' } }; shared-slice-known3 = record { given = g'' } }; shared-slice-known4 = record { given = g'3 } }; print-rows = Called.called ps·0 r·0 (claims· .1) T5 (record { pos = 3; ty = Syntax.tyRef (Syntax.named 0) Syntax.imm (Memory.pointee (T.the-row .written)); ref = λ x. x }, tt) (m4 record { before = record { before = record { before = c; shared-slice-known = record { given = g } }; shared-slice-known2 = record { given = g' } }; shared-slice-known3 = record { given = g'' } } g'3) g'4 })
 
         module _ (κs : Lifetimes.Lfts 5) (qs : Lifetimes.Shares 5) where
           pub asked : (a : Kinds.Dens κs ps) → (good : Kinds.GoodsP κs ps a) → (pre : Pre· κs a) → (bs : List.List Nat.ℕ) → Φ (Any.wantQ 5 ps r xs m κs qs a (Post· κs a)) (Function.init 5 ps r xs m κs qs a)
-          asked = λ a good pre bs. laid record { κs = κs; args = record { r = a .0; rows = a .1 .0; firsts = a .1 .1 .0; outcomes = a .1 .1 .1 .0; olds = a .1 .1 .1 .1 .0; scratch = a .1 .1 .1 .1 .1 .0 }; good = good; pre = pre }
+          asked = λ a good pre bs. laid record { κs = κs; args = record { r = a .0; n = a .1 .0; rows = a .1 .1 .0; firsts = a .1 .1 .1 .0; outcomes = a .1 .1 .1 .1 .0; olds = a .1 .1 .1 .1 .1 .0; scratch = a .1 .1 .1 .1 .1 .1 .0 }; good = good; fits = record { n = record { fits = good .1 .0 .1 } }; pre = pre }
 
-        module _ {M : Type 1} (𝓤 : URA.URA M) (H : Wp.Heap 𝓤) (A : Atoms.Atoms 𝓤) (W : Kit.Given 𝓤 H A) (𝓣 : Wp.Tables 𝓤 H) (known0 : Plain.Known 𝓤 H A W 𝓣 1 ps·0 r·0 (claims· .0) (claims· .1) "bench_plans::lent::print_rows") (known1 : Plain.Known 𝓤 H A W 𝓣 4 ps·1 r·1 (claims· .2) (claims· .3) "bench_plans::lent::print_lent") (known2 : Plain.Known 𝓤 H A W 𝓣 3 ps·2 r·2 (claims· .4) (claims· .5) "bench_plans::trims::go_on") where
+        module _ {M : Type 1} (𝓤 : URA.URA M) (H : Wp.Heap 𝓤) (A : Atoms.Atoms 𝓤) (W : Kit.Given 𝓤 H A) (𝓣 : Wp.Tables 𝓤 H) (known0 : Plain.Known 𝓤 H A W 𝓣 1 ps·0 r·0 (claims· .0) (claims· .1) "bench_plans::lent::print_rows") (known1 : Plain.Known 𝓤 H A W 𝓣 4 ps·1 r·1 (claims· .2) (claims· .3) "bench_plans::lent::print_lent") (known2 : Plain.Known 𝓤 H A W 𝓣 4 ps·2 r·2 (claims· .4) (claims· .5) "bench_plans::trims::go_on") where
           pub spec : Statement.Triple 𝓤 (Wp.WpFn 𝓤 H (𝓣 .C) (𝓣 .Λ) (Function.fnOf 5 ps r xs m hs body)) (Function.plainOf 𝓤 H A 5 ps r Pre· Post·)
           spec = Plain.t-fn-plain 𝓤 H A W 𝓣 5 ps r xs m hs body (λ κs qs bs. Φ) (λ κs qs bs bd. typed κs qs 𝓤 H A W 𝓣 (known0, known1, known2) bs bd) Pre· Post· asked

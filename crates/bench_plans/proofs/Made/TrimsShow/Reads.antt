@@ -26,7 +26,7 @@ use Rattle.tables.proofs.Reading as R
 use Rattle.bench_plans.proofs.trims.show as f
 
 abbrev pub ps : List.List (Kinds.PK 5)
-ps = List._∷_ (Value.pVal record { ty = Declared.row TrimAnswer.the-type; one = refl; val = Laws'.val TrimAnswer.the-type Laws.the-laws; tells = Laws'.tells TrimAnswer.the-type Laws.the-laws; still = Laws'.still TrimAnswer.the-type Laws.the-copy Exit.yes; row = Rows.whole (Declared.row TrimAnswer.the-type); rd = λ x. x; mk = λ x. x } λ M 𝓤 H A W. record { copies = Laws'.copy TrimAnswer.the-type Laws.the-copy 𝓤 H A W; lawful = Laws'.lawful TrimAnswer.the-type Laws.the-laws 𝓤 H A W tt; makes = Laws'.makes TrimAnswer.the-type Laws.the-plain 𝓤 H A; in-mem = Local.mem-whole 𝓤 H A W (Declared.row TrimAnswer.the-type); of-mem = Local.whole-mem 𝓤 H A W (Declared.row TrimAnswer.the-type) }) (List._∷_ (ShrSlice.pShrS T.the-row 0 tt) (List._∷_ (ShrSlice.pShrS (Referent.rtF (Referent.fInt Syntax.w16)) 1 tt) (List._∷_ (ShrSlice.pShrS (Referent.rtF (Referent.fInt Syntax.w16)) 2 tt) (List._∷_ (ShrSlice.pShrS (Referent.rtF (Referent.fInt Syntax.w16)) 3 tt) (List._∷_ (ShrSlice.pShrS (Referent.rtF (Referent.fInt Syntax.w16)) 4 tt) List.[])))))
+ps = List._∷_ (Value.pVal record { ty = Declared.row TrimAnswer.the-type; one = refl; val = Laws'.val TrimAnswer.the-type Laws.the-laws; tells = Laws'.tells TrimAnswer.the-type Laws.the-laws; still = Laws'.still TrimAnswer.the-type Laws.the-copy Exit.yes; row = Rows.whole (Declared.row TrimAnswer.the-type); rd = λ x. x; mk = λ x. x } λ M 𝓤 H A W. record { copies = Laws'.copy TrimAnswer.the-type Laws.the-copy 𝓤 H A W; lawful = Laws'.lawful TrimAnswer.the-type Laws.the-laws 𝓤 H A W tt; makes = Laws'.makes TrimAnswer.the-type Laws.the-plain 𝓤 H A; in-mem = Local.mem-whole 𝓤 H A W (Declared.row TrimAnswer.the-type); of-mem = Local.whole-mem 𝓤 H A W (Declared.row TrimAnswer.the-type) }) (List._∷_ (Kinds.pNum Syntax.w64) (List._∷_ (ShrSlice.pShrS T.the-row 0 tt) (List._∷_ (ShrSlice.pShrS (Referent.rtF (Referent.fInt Syntax.w16)) 1 tt) (List._∷_ (ShrSlice.pShrS (Referent.rtF (Referent.fInt Syntax.w16)) 2 tt) (List._∷_ (ShrSlice.pShrS (Referent.rtF (Referent.fInt Syntax.w16)) 3 tt) (List._∷_ (ShrSlice.pShrS (Referent.rtF (Referent.fInt Syntax.w16)) 4 tt) List.[]))))))
 
 abbrev pub r : Kinds.RK 5
 r = Kinds.rUnit

@@ -28,8 +28,9 @@ use borrow.Rule.Slice.Relend
 use borrow.Rule.Slice.Reshare
 use borrow.Rule.Slice.Shared
 use borrow.Rule.Yields
+use borrow.Struct.Reads
 use borrow.Table.Copies
-use borrow.Table.Reads
+use borrow.Table.Reads as Reads'
 use borrow.Table.Referent
 use borrow.Table.Row
 use borrow.Table.Rows
@@ -143,7 +144,7 @@ abbrev pub r·2 : Kinds.RK 0
 r·2 = Unit'.rUnit
 
 abbrev pub ps·3 : List.List (Kinds.PK 5)
-ps·3 = List._∷_ (Value.pVal record { ty = Declared.row TrimAnswer.the-type; one = Path'.refl; val = Laws''.val TrimAnswer.the-type Laws'.the-laws; tells = Laws''.tells TrimAnswer.the-type Laws'.the-laws; still = Laws''.still TrimAnswer.the-type Laws'.the-copy Exit.yes; row = Rows.whole (Declared.row TrimAnswer.the-type); rd = λ x. x; mk = λ x. x } λ M 𝓤 H A W. record { copies = Laws''.copy TrimAnswer.the-type Laws'.the-copy 𝓤 H A W; lawful = Laws''.lawful TrimAnswer.the-type Laws'.the-laws 𝓤 H A W tt; makes = Laws''.makes TrimAnswer.the-type Laws'.the-plain 𝓤 H A; in-mem = Local.mem-whole 𝓤 H A W (Declared.row TrimAnswer.the-type); of-mem = Local.whole-mem 𝓤 H A W (Declared.row TrimAnswer.the-type) }) (List._∷_ (ShrSlice.pShrS T.the-row 0 tt) (List._∷_ (ShrSlice.pShrS (Referent.rtF (Referent.fInt Syntax.w16)) 1 tt) (List._∷_ (ShrSlice.pShrS (Referent.rtF (Referent.fInt Syntax.w16)) 2 tt) (List._∷_ (ShrSlice.pShrS (Referent.rtF (Referent.fInt Syntax.w16)) 3 tt) (List._∷_ (ShrSlice.pShrS (Referent.rtF (Referent.fInt Syntax.w16)) 4 tt) List.[])))))
+ps·3 = List._∷_ (Value.pVal record { ty = Declared.row TrimAnswer.the-type; one = Path'.refl; val = Laws''.val TrimAnswer.the-type Laws'.the-laws; tells = Laws''.tells TrimAnswer.the-type Laws'.the-laws; still = Laws''.still TrimAnswer.the-type Laws'.the-copy Exit.yes; row = Rows.whole (Declared.row TrimAnswer.the-type); rd = λ x. x; mk = λ x. x } λ M 𝓤 H A W. record { copies = Laws''.copy TrimAnswer.the-type Laws'.the-copy 𝓤 H A W; lawful = Laws''.lawful TrimAnswer.the-type Laws'.the-laws 𝓤 H A W tt; makes = Laws''.makes TrimAnswer.the-type Laws'.the-plain 𝓤 H A; in-mem = Local.mem-whole 𝓤 H A W (Declared.row TrimAnswer.the-type); of-mem = Local.whole-mem 𝓤 H A W (Declared.row TrimAnswer.the-type) }) (List._∷_ (Num.pNum Syntax.w64) (List._∷_ (ShrSlice.pShrS T.the-row 0 tt) (List._∷_ (ShrSlice.pShrS (Referent.rtF (Referent.fInt Syntax.w16)) 1 tt) (List._∷_ (ShrSlice.pShrS (Referent.rtF (Referent.fInt Syntax.w16)) 2 tt) (List._∷_ (ShrSlice.pShrS (Referent.rtF (Referent.fInt Syntax.w16)) 3 tt) (List._∷_ (ShrSlice.pShrS (Referent.rtF (Referent.fInt Syntax.w16)) 4 tt) List.[]))))))
 
 abbrev pub r·3 : Kinds.RK 5
 r·3 = Unit'.rUnit
@@ -245,7 +246,7 @@ abbrev b30 : Syntax.Body
 b30 = Syntax.assign (Syntax.place 36 List.[]) (Syntax.aggregate (List._∷_ (Syntax.copy (Syntax.place 35 List.[])) (List._∷_ (Syntax.copy (Syntax.place 9 (List._∷_ (Syntax.field 1) List.[]))) List.[])))
 
 abbrev b31 : Syntax.Body
-b31 = Syntax.call "bench_plans::trims::show" (List._∷_ (Syntax.copy (Syntax.place 12 List.[])) (List._∷_ (Syntax.copy (Syntax.place 28 List.[])) (List._∷_ (Syntax.copy (Syntax.place 30 List.[])) (List._∷_ (Syntax.copy (Syntax.place 32 List.[])) (List._∷_ (Syntax.copy (Syntax.place 34 List.[])) (List._∷_ (Syntax.copy (Syntax.place 36 List.[])) List.[])))))) (Syntax.place 13 List.[])
+b31 = Syntax.call "bench_plans::trims::show" (List._∷_ (Syntax.copy (Syntax.place 12 List.[])) (List._∷_ (Syntax.copy (Syntax.place 1 (List._∷_ (Syntax.field 0) List.[]))) (List._∷_ (Syntax.copy (Syntax.place 28 List.[])) (List._∷_ (Syntax.copy (Syntax.place 30 List.[])) (List._∷_ (Syntax.copy (Syntax.place 32 List.[])) (List._∷_ (Syntax.copy (Syntax.place 34 List.[])) (List._∷_ (Syntax.copy (Syntax.place 36 List.[])) List.[]))))))) (Syntax.place 13 List.[])
 
 abbrev b32 : Syntax.Body
 b32 = Syntax.assign (Syntax.place 0 List.[]) (Syntax.rvOpd Syntax.opdUnit)
@@ -422,40 +423,40 @@ abbrev pub t24 : List.List Row.Entry
 t24 = Row.setRow 9 (25, Mut.msleft (Referent.rtF (Referent.fInt Syntax.w16)) ty·0) (Row.setRow 7 (23, Mut.msleft (Referent.rtF (Referent.fInt Syntax.w16)) ty·0) (Row.setRow 5 (21, Mut.msleft (Referent.rtF (Referent.fInt Syntax.w16)) ty·0) (Row.setRow 3 (19, Mut.msleft (Referent.rtF (Referent.fInt Syntax.w16)) ty·0) (Row.setRow 1 (17, Mut.msleft T.the-row ty·8) t1))))
 
 abbrev pub t25 : List.List Row.Entry
-t25 = Row.setRow 1 (1, Rows.any-gone ty·16) t23
+t25 = Row.setRow 5 (5, Mut.mslice T.the-row ty·11 3) t23
 
 abbrev pub t26 : List.List Row.Entry
-t26 = Row.setRow 5 (5, Mut.mslice T.the-row ty·11 3) t25
+t26 = Row.setRow 1 (17, Rows.any-gone ty·14) t24
 
 abbrev pub t27 : List.List Row.Entry
-t27 = Row.setRow 1 (17, Rows.any-gone ty·14) t24
+t27 = Row.setRow 6 (6, Mut.mslice (Referent.rtF (Referent.fInt Syntax.w16)) ty·4 4) t25
 
 abbrev pub t28 : List.List Row.Entry
-t28 = Row.setRow 6 (6, Mut.mslice (Referent.rtF (Referent.fInt Syntax.w16)) ty·4 4) t26
+t28 = Row.setRow 3 (19, Rows.any-gone ty·12) t26
 
 abbrev pub t29 : List.List Row.Entry
-t29 = Row.setRow 3 (19, Rows.any-gone ty·12) t27
+t29 = Row.setRow 7 (7, Mut.mslice (Referent.rtF (Referent.fInt Syntax.w16)) ty·5 5) t27
 
 abbrev pub t30 : List.List Row.Entry
-t30 = Row.setRow 7 (7, Mut.mslice (Referent.rtF (Referent.fInt Syntax.w16)) ty·5 5) t28
+t30 = Row.setRow 5 (21, Rows.any-gone ty·12) t28
 
 abbrev pub t31 : List.List Row.Entry
-t31 = Row.setRow 5 (21, Rows.any-gone ty·12) t29
+t31 = Row.setRow 8 (8, Mut.mslice (Referent.rtF (Referent.fInt Syntax.w16)) ty·6 6) t29
 
 abbrev pub t32 : List.List Row.Entry
-t32 = Row.setRow 8 (8, Mut.mslice (Referent.rtF (Referent.fInt Syntax.w16)) ty·6 6) t30
+t32 = Row.setRow 9 (25, Mut.msleft (Referent.rtF (Referent.fInt Syntax.w16)) ty·0) t1
 
 abbrev pub t33 : List.List Row.Entry
-t33 = Row.setRow 9 (25, Mut.msleft (Referent.rtF (Referent.fInt Syntax.w16)) ty·0) t1
+t33 = Row.setRow 12 (12, Rows.whole (Declared.row TrimAnswer.the-type)) t0
 
 abbrev pub t34 : List.List Row.Entry
-t34 = Row.setRow 9 (9, Mut.mslice (Referent.rtF (Referent.fInt Syntax.w16)) ty·7 7) t32
+t34 = Row.setRow 13 (13, Rows.sc-here Row.sUnit) t33
 
 abbrev pub t35 : List.List Row.Entry
-t35 = Row.setRow 13 (13, Rows.sc-here Row.sUnit) t34
+t35 = Row.setRow 10 (26, Rows.sc-here Row.sBool) t1
 
 abbrev pub t36 : List.List Row.Entry
-t36 = Row.setRow 10 (26, Rows.sc-here Row.sBool) t1
+t36 = Row.setRow 12 (12, Rows.whole (Declared.row TrimAnswer.the-type)) (Row.setRow 11 (11, Rows.sc-here Row.sBool) (Row.setRow 10 (10, Rows.sc-here (Row.sInt Syntax.w16)) (Row.setRow 0 (0, Rows.any-gone Syntax.tyUnit) t3)))
 
 abbrev pub t37 : List.List Row.Entry
 t37 = Row.setRow 11 (11, Rows.sc-here Row.sBool) (Row.setRow 10 (10, Rows.sc-here (Row.sInt Syntax.w16)) (Row.setRow 0 (0, Rows.any-gone Syntax.tyUnit) t3))
@@ -467,7 +468,7 @@ abbrev pub t39 : List.List Row.Entry
 t39 = Row.setRow 11 (11, Rows.sc-here Row.sBool) t3
 
 abbrev pub t40 : List.List Row.Entry
-t40 = Row.setRow 5 (5, Reshare.mslice-owedS T.the-row ty·11 3 14 Row.off) t34
+t40 = Row.setRow 5 (5, Reshare.mslice-owedS T.the-row ty·11 3 14 Row.off) t33
 
 abbrev pub t41 : List.List Row.Entry
 t41 = Row.setRow 11 (27, Relend.ssptr T.the-row ty·9 14) t1
@@ -524,22 +525,25 @@ abbrev pub t58 : List.List Row.Entry
 t58 = Row.setRow 4 (36, Rows.sslice (Referent.rtF (Referent.fInt Syntax.w16)) ty·1 18) t2
 
 abbrev pub t59 : List.List Row.Entry
-t59 = Row.setRow 13 (13, Rows.sc-here Row.sUnit) (Row.setRow 9 (9, Reshare.mslice-owedS (Referent.rtF (Referent.fInt Syntax.w16)) ty·7 7 18 Row.off) (Row.setRow 8 (8, Reshare.mslice-owedS (Referent.rtF (Referent.fInt Syntax.w16)) ty·6 6 17 Row.off) (Row.setRow 7 (7, Reshare.mslice-owedS (Referent.rtF (Referent.fInt Syntax.w16)) ty·5 5 16 Row.off) (Row.setRow 6 (6, Reshare.mslice-owedS (Referent.rtF (Referent.fInt Syntax.w16)) ty·4 4 15 Row.off) (Row.setRow 5 (5, Reshare.mslice-owedS T.the-row ty·11 3 14 Row.off) t37)))))
+t59 = Row.setRow 1 (1, Rows.any-gone ty·16) t55
 
 abbrev pub t60 : List.List Row.Entry
-t60 = Row.setRow 13 (13, Rows.any-gone Syntax.tyUnit) t59
+t60 = Row.setRow 13 (13, Rows.sc-here Row.sUnit) (Row.setRow 9 (9, Reshare.mslice-owedS (Referent.rtF (Referent.fInt Syntax.w16)) ty·7 7 18 Row.off) (Row.setRow 8 (8, Reshare.mslice-owedS (Referent.rtF (Referent.fInt Syntax.w16)) ty·6 6 17 Row.off) (Row.setRow 7 (7, Reshare.mslice-owedS (Referent.rtF (Referent.fInt Syntax.w16)) ty·5 5 16 Row.off) (Row.setRow 6 (6, Reshare.mslice-owedS (Referent.rtF (Referent.fInt Syntax.w16)) ty·4 4 15 Row.off) (Row.setRow 5 (5, Reshare.mslice-owedS T.the-row ty·11 3 14 Row.off) t37)))))
 
 abbrev pub t61 : List.List Row.Entry
-t61 = Row.setRow 5 (5, Mut.mslice T.the-row ty·11 3) t60
+t61 = Row.setRow 13 (13, Rows.any-gone Syntax.tyUnit) t60
 
 abbrev pub t62 : List.List Row.Entry
-t62 = Row.setRow 6 (6, Mut.mslice (Referent.rtF (Referent.fInt Syntax.w16)) ty·4 4) t61
+t62 = Row.setRow 5 (5, Mut.mslice T.the-row ty·11 3) t61
 
 abbrev pub t63 : List.List Row.Entry
-t63 = Row.setRow 7 (7, Mut.mslice (Referent.rtF (Referent.fInt Syntax.w16)) ty·5 5) t62
+t63 = Row.setRow 6 (6, Mut.mslice (Referent.rtF (Referent.fInt Syntax.w16)) ty·4 4) t62
 
 abbrev pub t64 : List.List Row.Entry
-t64 = Row.setRow 8 (8, Mut.mslice (Referent.rtF (Referent.fInt Syntax.w16)) ty·6 6) t63
+t64 = Row.setRow 7 (7, Mut.mslice (Referent.rtF (Referent.fInt Syntax.w16)) ty·5 5) t63
+
+abbrev pub t65 : List.List Row.Entry
+t65 = Row.setRow 8 (8, Mut.mslice (Referent.rtF (Referent.fInt Syntax.w16)) ty·6 6) t64
 
 abbrev pub T0 : Row.Cx
 T0 = record { locals = List._++_ t0 (List._++_ t1 t2); slots = List.[] }
@@ -613,50 +617,50 @@ T30 = record { locals = List._++_ t20 (List._++_ t22 t2); slots = List.[] }
 abbrev pub T31 : Row.Cx
 T31 = record { locals = List._++_ t23 (List._++_ t24 t2); slots = List.[] }
 
-abbrev pub T32 : Row.Cx
-T32 = record { locals = List._++_ t25 (List._++_ t24 t2); slots = List.[] }
+abbrev pub T33 : Row.Cx
+T33 = record { locals = List._++_ t25 (List._++_ t26 t2); slots = List.[] }
 
-abbrev pub T34 : Row.Cx
-T34 = record { locals = List._++_ t26 (List._++_ t27 t2); slots = List.[] }
+abbrev pub T36 : Row.Cx
+T36 = record { locals = List._++_ t27 (List._++_ t28 t2); slots = List.[] }
 
 abbrev pub T37 : Row.Cx
-T37 = record { locals = List._++_ t28 (List._++_ t29 t2); slots = List.[] }
+T37 = record { locals = List._++_ t27 (List._++_ t28 t2); slots = List.[] }
 
-abbrev pub T38 : Row.Cx
-T38 = record { locals = List._++_ t28 (List._++_ t29 t2); slots = List.[] }
+abbrev pub T40 : Row.Cx
+T40 = record { locals = List._++_ t29 (List._++_ t30 t2); slots = List.[] }
 
 abbrev pub T41 : Row.Cx
-T41 = record { locals = List._++_ t30 (List._++_ t31 t2); slots = List.[] }
+T41 = record { locals = List._++_ t29 (List._++_ t30 t2); slots = List.[] }
 
-abbrev pub T42 : Row.Cx
-T42 = record { locals = List._++_ t30 (List._++_ t31 t2); slots = List.[] }
+abbrev pub T44 : Row.Cx
+T44 = record { locals = List._++_ t31 (List._++_ t32 t2); slots = List.[] }
 
 abbrev pub T45 : Row.Cx
-T45 = record { locals = List._++_ t32 (List._++_ t33 t2); slots = List.[] }
+T45 = record { locals = List._++_ t31 (List._++_ t32 t2); slots = List.[] }
 
-abbrev pub T46 : Row.Cx
-T46 = record { locals = List._++_ t32 (List._++_ t33 t2); slots = List.[] }
+abbrev pub T48 : Row.Cx
+T48 = record { locals = List._++_ t33 (List._++_ t1 t2); slots = List.[] }
 
 abbrev pub T49 : Row.Cx
-T49 = record { locals = List._++_ t34 (List._++_ t1 t2); slots = List.[] }
+T49 = record { locals = List._++_ t33 (List._++_ t1 t2); slots = List.[] }
 
-abbrev pub T50 : Row.Cx
-T50 = record { locals = List._++_ t34 (List._++_ t1 t2); slots = List.[] }
+abbrev pub T51 : Row.Cx
+T51 = record { locals = List._++_ t34 (List._++_ t1 t2); slots = List.[] }
 
 abbrev pub T52 : Row.Cx
-T52 = record { locals = List._++_ t35 (List._++_ t1 t2); slots = List.[] }
+T52 = record { locals = List._++_ t33 (List._++_ t1 t2); slots = List.[] }
 
 abbrev pub T53 : Row.Cx
-T53 = record { locals = List._++_ t34 (List._++_ t1 t2); slots = List.[] }
+T53 = record { locals = List._++_ t33 (List._++_ t35 t2); slots = List.[] }
 
 abbrev pub T54 : Row.Cx
-T54 = record { locals = List._++_ t34 (List._++_ t36 t2); slots = List.[] }
+T54 = record { locals = List._++_ t33 (List._++_ t1 t2); slots = List.[] }
 
 abbrev pub T55 : Row.Cx
-T55 = record { locals = List._++_ t34 (List._++_ t1 t2); slots = List.[] }
+T55 = record { locals = List._++_ t36 (List._++_ t35 t2); slots = List.[] }
 
 abbrev pub T56 : Row.Cx
-T56 = record { locals = List._++_ t37 (List._++_ t36 t2); slots = List.[] }
+T56 = record { locals = List._++_ t37 (List._++_ t35 t2); slots = List.[] }
 
 abbrev pub T57 : Row.Cx
 T57 = record { locals = List._++_ t37 (List._++_ t1 t2); slots = List.[] }
@@ -671,7 +675,7 @@ abbrev pub T60 : Row.Cx
 T60 = record { locals = List._++_ t3 (List._++_ t1 t2); slots = List.[] }
 
 abbrev pub T61 : Row.Cx
-T61 = record { locals = List._++_ t34 (List._++_ t1 t2); slots = List.[] }
+T61 = record { locals = List._++_ t33 (List._++_ t1 t2); slots = List.[] }
 
 abbrev pub T63 : Row.Cx
 T63 = record { locals = List._++_ t40 (List._++_ t41 t2); slots = List.[] }
@@ -727,35 +731,38 @@ T83 = record { locals = List._++_ t59 (List._++_ t1 t2); slots = List.[] }
 abbrev pub T84 : Row.Cx
 T84 = record { locals = List._++_ t60 (List._++_ t1 t2); slots = List.[] }
 
-abbrev pub T86 : Row.Cx
-T86 = record { locals = List._++_ t61 (List._++_ t1 t2); slots = List.[] }
+abbrev pub T85 : Row.Cx
+T85 = record { locals = List._++_ t61 (List._++_ t1 t2); slots = List.[] }
 
-abbrev pub T89 : Row.Cx
-T89 = record { locals = List._++_ t62 (List._++_ t1 t2); slots = List.[] }
+abbrev pub T87 : Row.Cx
+T87 = record { locals = List._++_ t62 (List._++_ t1 t2); slots = List.[] }
 
-abbrev pub T92 : Row.Cx
-T92 = record { locals = List._++_ t63 (List._++_ t1 t2); slots = List.[] }
+abbrev pub T90 : Row.Cx
+T90 = record { locals = List._++_ t63 (List._++_ t1 t2); slots = List.[] }
 
-abbrev pub T95 : Row.Cx
-T95 = record { locals = List._++_ t64 (List._++_ t1 t2); slots = List.[] }
+abbrev pub T93 : Row.Cx
+T93 = record { locals = List._++_ t64 (List._++_ t1 t2); slots = List.[] }
 
-abbrev pub T98 : Row.Cx
-T98 = record { locals = List._++_ t37 (List._++_ t1 t2); slots = List.[] }
+abbrev pub T96 : Row.Cx
+T96 = record { locals = List._++_ t65 (List._++_ t1 t2); slots = List.[] }
 
-abbrev pub T100 : Row.Cx
-T100 = record { locals = List._++_ t38 (List._++_ t1 t2); slots = List.[] }
+abbrev pub T99 : Row.Cx
+T99 = record { locals = List._++_ t37 (List._++_ t1 t2); slots = List.[] }
 
 abbrev pub T101 : Row.Cx
-T101 = record { locals = List._++_ t39 (List._++_ t1 t2); slots = List.[] }
+T101 = record { locals = List._++_ t38 (List._++_ t1 t2); slots = List.[] }
 
 abbrev pub T102 : Row.Cx
-T102 = record { locals = List._++_ t3 (List._++_ t1 t2); slots = List.[] }
+T102 = record { locals = List._++_ t39 (List._++_ t1 t2); slots = List.[] }
+
+abbrev pub T103 : Row.Cx
+T103 = record { locals = List._++_ t3 (List._++_ t1 t2); slots = List.[] }
 
 abbrev pub O0 : Typed.Outs
 O0 = record { next = Option.none; exits = List.[]; returns = Option.some T1 }
 
 abbrev pub O1 : Typed.Outs
-O1 = Typed.withNext (Option.some T55) O0
+O1 = Typed.withNext (Option.some T54) O0
 
 module _ (claims· : Claims) where
   abbrev s0 : Typed.Gives T0 T2
@@ -824,47 +831,47 @@ module _ (claims· : Claims) where
   abbrev s29 : Typed.Both T30 T31
   s29 = Call.callB ps·1 r·1 (claims· .2) (claims· .3) T30 (record { pos = 1; st = List.[]; d = 0; at = λ x. x }, (record { pos = 2; ty = Syntax.tyRef (Syntax.named 0) Syntax.imm (Memory.pointee (T.the-row .written)); ref = λ x. x }, (record { pos = 3; ty = Syntax.tyRef (Syntax.named 1) Syntax.imm (Syntax.tyInt Syntax.w16); ref = λ x. x }, (record { pos = 4; ty = Syntax.tyRef (Syntax.named 2) Syntax.imm (Syntax.tyInt Syntax.w16); ref = λ x. x }, (record { pos = 17; ty = Syntax.tyRef Syntax.erased Syntax.mut (Memory.pointee (T.the-row .written)); ref = λ x. x }, (record { pos = 19; ty = Syntax.tyRef Syntax.erased Syntax.mut (Syntax.tyInt Syntax.w16); ref = λ x. x }, (record { pos = 21; ty = Syntax.tyRef Syntax.erased Syntax.mut (Syntax.tyInt Syntax.w16); ref = λ x. x }, (record { pos = 23; ty = Syntax.tyRef Syntax.erased Syntax.mut (Syntax.tyInt Syntax.w16); ref = λ x. x }, (record { pos = 25; ty = Syntax.tyRef Syntax.erased Syntax.mut (Syntax.tyInt Syntax.w16); ref = λ x. x }, tt))))))))) 12 (List._∷_ 0 (List._∷_ 1 (List._∷_ 2 (List._∷_ 9 (List._∷_ 10 (List._∷_ 11 (List._∷_ 12 (List._∷_ 13 List.[])))))))) ty·18
 
-  abbrev s30 : Typed.Mo T31 → Typed.Mo T32
-  s30 = Scalar.n-room T31 1 ty·16
+  abbrev s31 : Typed.Both T31 T33
+  s31 = Relend.k-back-sl T.the-row T31 17 5 3 9 ty·11 ty·8 Row.off (λ x. x) λ x. x
 
-  abbrev s32 : Typed.Both T32 T34
-  s32 = Relend.k-back-sl T.the-row T32 17 5 3 9 ty·11 ty·8 Row.off (λ x. x) λ x. x
+  abbrev s34 : Typed.Both T33 T36
+  s34 = Relend.k-back-sl (Referent.rtF (Referent.fInt Syntax.w16)) T33 19 6 4 10 ty·4 ty·0 Row.off (λ x. x) λ x. x
 
-  abbrev s35 : Typed.Both T34 T37
-  s35 = Relend.k-back-sl (Referent.rtF (Referent.fInt Syntax.w16)) T34 19 6 4 10 ty·4 ty·0 Row.off (λ x. x) λ x. x
+  abbrev s35 : Typed.Gives T36 T37
+  s35 = Know.k-sl-known (Referent.fInt Syntax.w16) T36 6 4 ty·4 Row.off 0 λ x. x
 
-  abbrev s36 : Typed.Gives T37 T38
-  s36 = Know.k-sl-known (Referent.fInt Syntax.w16) T37 6 4 ty·4 Row.off 0 λ x. x
+  abbrev s38 : Typed.Both T37 T40
+  s38 = Relend.k-back-sl (Referent.rtF (Referent.fInt Syntax.w16)) T37 21 7 5 11 ty·5 ty·0 Row.off (λ x. x) λ x. x
 
-  abbrev s39 : Typed.Both T38 T41
-  s39 = Relend.k-back-sl (Referent.rtF (Referent.fInt Syntax.w16)) T38 21 7 5 11 ty·5 ty·0 Row.off (λ x. x) λ x. x
+  abbrev s39 : Typed.Gives T40 T41
+  s39 = Know.k-sl-known (Referent.fInt Syntax.w16) T40 7 5 ty·5 Row.off 0 λ x. x
 
-  abbrev s40 : Typed.Gives T41 T42
-  s40 = Know.k-sl-known (Referent.fInt Syntax.w16) T41 7 5 ty·5 Row.off 0 λ x. x
+  abbrev s42 : Typed.Both T41 T44
+  s42 = Relend.k-back-sl (Referent.rtF (Referent.fInt Syntax.w16)) T41 23 8 6 12 ty·6 ty·0 Row.off (λ x. x) λ x. x
 
-  abbrev s43 : Typed.Both T42 T45
-  s43 = Relend.k-back-sl (Referent.rtF (Referent.fInt Syntax.w16)) T42 23 8 6 12 ty·6 ty·0 Row.off (λ x. x) λ x. x
+  abbrev s43 : Typed.Gives T44 T45
+  s43 = Know.k-sl-known (Referent.fInt Syntax.w16) T44 8 6 ty·6 Row.off 0 λ x. x
 
-  abbrev s44 : Typed.Gives T45 T46
-  s44 = Know.k-sl-known (Referent.fInt Syntax.w16) T45 8 6 ty·6 Row.off 0 λ x. x
+  abbrev s46 : Typed.Both T45 T48
+  s46 = Relend.k-back-sl (Referent.rtF (Referent.fInt Syntax.w16)) T45 25 9 7 13 ty·7 ty·0 Row.off (λ x. x) λ x. x
 
-  abbrev s47 : Typed.Both T46 T49
-  s47 = Relend.k-back-sl (Referent.rtF (Referent.fInt Syntax.w16)) T46 25 9 7 13 ty·7 ty·0 Row.off (λ x. x) λ x. x
+  abbrev s47 : Typed.Gives T48 T49
+  s47 = Know.k-sl-known (Referent.fInt Syntax.w16) T48 9 7 ty·7 Row.off 0 λ x. x
 
-  abbrev s48 : Typed.Gives T49 T50
-  s48 = Know.k-sl-known (Referent.fInt Syntax.w16) T49 9 7 ty·7 Row.off 0 λ x. x
+  abbrev s49 : Typed.Both T49 T51
+  s49 = Call.callB ps·2 r·2 (claims· .4) (claims· .5) T49 (record { pos = 12; st = List.[]; d = 0; at = λ x. x }, tt) 13 List.[] Syntax.tyUnit
 
-  abbrev s50 : Typed.Both T50 T52
-  s50 = Call.callB ps·2 r·2 (claims· .4) (claims· .5) T50 (record { pos = 12; st = List.[]; d = 0; at = λ x. x }, tt) 13 List.[] Syntax.tyUnit
+  abbrev s50 : Typed.Mo T51 → Typed.Mo T52
+  s50 = Scalar.n-room T51 13 Syntax.tyUnit
 
-  abbrev s51 : Typed.Mo T52 → Typed.Mo T53
-  s51 = Scalar.n-room T52 13 Syntax.tyUnit
+  abbrev s51 : Typed.Asks T52 T53
+  s51 = Scalar.k-op1 T52 Syntax.bitNot (Scalar.oAt 11 Syntax.tyBool (Row.valS Row.sBool)) 26 (Rows.sc-here Row.sBool) (Row.sBool .of)
 
-  abbrev s52 : Typed.Asks T53 T54
-  s52 = Scalar.k-op1 T53 Syntax.bitNot (Scalar.oAt 11 Syntax.tyBool (Row.valS Row.sBool)) 26 (Rows.sc-here Row.sBool) (Row.sBool .of)
+  abbrev s52 : Typed.Mo T53 → Typed.Mo T55
+  s52 = Scalar.n-room T53 1 ty·16
 
-  abbrev s53 : Typed.Mo T54 → Typed.Mo T56
-  s53 = Scalar.n-room T54 12 ty·18
+  abbrev s53 : Typed.Mo T55 → Typed.Mo T56
+  s53 = Scalar.n-room T55 12 ty·18
 
   abbrev s54 : Typed.Mo T56 → Typed.Mo T57
   s54 = Scalar.n-room T56 26 Syntax.tyBool
@@ -878,11 +885,11 @@ module _ (claims· : Claims) where
   abbrev s57 : Typed.Mo T59 → Typed.Mo T60
   s57 = Scalar.n-room T59 11 Syntax.tyBool
 
-  abbrev s58 : Typed.Mo T54 → Typed.Mo T61
-  s58 = Scalar.n-room T54 26 Syntax.tyBool
+  abbrev s58 : Typed.Mo T53 → Typed.Mo T61
+  s58 = Scalar.n-room T53 26 Syntax.tyBool
 
-  abbrev s60 : Typed.Gives T55 T63
-  s60 = Reshare.k-sl-reshare T.the-row T55 5 27 3 14 ty·11 ty·9 Row.off λ x. x
+  abbrev s60 : Typed.Gives T54 T63
+  s60 = Reshare.k-sl-reshare T.the-row T54 5 27 3 14 ty·11 ty·9 Row.off λ x. x
 
   abbrev s61 : Typed.Asks T63 T64
   s61 = Relend.k-sl-aggregate T.the-row (Relend.asShr T.the-row) T63 27 28 14 ty·9 ty·9 (λ x. x) (Scalar.oFld 5 (List._∷_ (Syntax.field 1) List.[]) (Syntax.tyInt Syntax.w64) 8 λ v. Shared.lenV (v .0))
@@ -912,7 +919,7 @@ module _ (claims· : Claims) where
   s73 = Relend.k-sl-aggregate (Referent.rtF (Referent.fInt Syntax.w16)) (Relend.asShr (Referent.rtF (Referent.fInt Syntax.w16))) T75 35 36 18 ty·1 ty·1 (λ x. x) (Scalar.oFld 9 (List._∷_ (Syntax.field 1) List.[]) (Syntax.tyInt Syntax.w64) 8 λ v. Shared.lenV (v .0))
 
   abbrev s74 : Typed.Both T76 T77
-  s74 = Call.callB ps·3 r·3 (claims· .6) (claims· .7) T76 (record { pos = 12; st = List.[]; d = 0; at = λ x. x }, (record { pos = 28; ty = Syntax.tyRef Syntax.erased Syntax.imm (Memory.pointee (T.the-row .written)); ref = λ x. x }, (record { pos = 30; ty = Syntax.tyRef Syntax.erased Syntax.imm (Syntax.tyInt Syntax.w16); ref = λ x. x }, (record { pos = 32; ty = Syntax.tyRef Syntax.erased Syntax.imm (Syntax.tyInt Syntax.w16); ref = λ x. x }, (record { pos = 34; ty = Syntax.tyRef Syntax.erased Syntax.imm (Syntax.tyInt Syntax.w16); ref = λ x. x }, (record { pos = 36; ty = Syntax.tyRef Syntax.erased Syntax.imm (Syntax.tyInt Syntax.w16); ref = λ x. x }, tt)))))) 13 (List._∷_ 14 (List._∷_ 15 (List._∷_ 16 (List._∷_ 17 (List._∷_ 18 List.[]))))) Syntax.tyUnit
+  s74 = Call.callB ps·3 r·3 (claims· .6) (claims· .7) T76 (record { pos = 12; st = List.[]; d = 0; at = λ x. x }, (Num.vFld 1 (List._∷_ (Syntax.field 0) List.[]) 0 λ x. Size.struct .as-values x .0, (record { pos = 28; ty = Syntax.tyRef Syntax.erased Syntax.imm (Memory.pointee (T.the-row .written)); ref = λ x. x }, (record { pos = 30; ty = Syntax.tyRef Syntax.erased Syntax.imm (Syntax.tyInt Syntax.w16); ref = λ x. x }, (record { pos = 32; ty = Syntax.tyRef Syntax.erased Syntax.imm (Syntax.tyInt Syntax.w16); ref = λ x. x }, (record { pos = 34; ty = Syntax.tyRef Syntax.erased Syntax.imm (Syntax.tyInt Syntax.w16); ref = λ x. x }, (record { pos = 36; ty = Syntax.tyRef Syntax.erased Syntax.imm (Syntax.tyInt Syntax.w16); ref = λ x. x }, tt))))))) 13 (List._∷_ 14 (List._∷_ 15 (List._∷_ 16 (List._∷_ 17 (List._∷_ 18 List.[]))))) Syntax.tyUnit
 
   abbrev s75 : Typed.Mo T77 → Typed.Mo T78
   s75 = Scalar.n-room T77 28 ty·15
@@ -930,34 +937,37 @@ module _ (claims· : Claims) where
   s79 = Scalar.n-room T81 36 ty·13
 
   abbrev s80 : Typed.Mo T82 → Typed.Mo T83
-  s80 = Scalar.n-room T82 12 ty·18
+  s80 = Scalar.n-room T82 1 ty·16
 
   abbrev s81 : Typed.Mo T83 → Typed.Mo T84
-  s81 = Scalar.n-room T83 13 Syntax.tyUnit
+  s81 = Scalar.n-room T83 12 ty·18
 
-  abbrev s83 : Typed.Mo T84 → Typed.Mo T86
-  s83 = Reshare.n-back-sl-shr T.the-row T84 5 3 14 ty·11 Row.off λ x. x
+  abbrev s82 : Typed.Mo T84 → Typed.Mo T85
+  s82 = Scalar.n-room T84 13 Syntax.tyUnit
 
-  abbrev s86 : Typed.Mo T86 → Typed.Mo T89
-  s86 = Reshare.n-back-sl-shr (Referent.rtF (Referent.fInt Syntax.w16)) T86 6 4 15 ty·4 Row.off λ x. x
+  abbrev s84 : Typed.Mo T85 → Typed.Mo T87
+  s84 = Reshare.n-back-sl-shr T.the-row T85 5 3 14 ty·11 Row.off λ x. x
 
-  abbrev s89 : Typed.Mo T89 → Typed.Mo T92
-  s89 = Reshare.n-back-sl-shr (Referent.rtF (Referent.fInt Syntax.w16)) T89 7 5 16 ty·5 Row.off λ x. x
+  abbrev s87 : Typed.Mo T87 → Typed.Mo T90
+  s87 = Reshare.n-back-sl-shr (Referent.rtF (Referent.fInt Syntax.w16)) T87 6 4 15 ty·4 Row.off λ x. x
 
-  abbrev s92 : Typed.Mo T92 → Typed.Mo T95
-  s92 = Reshare.n-back-sl-shr (Referent.rtF (Referent.fInt Syntax.w16)) T92 8 6 17 ty·6 Row.off λ x. x
+  abbrev s90 : Typed.Mo T90 → Typed.Mo T93
+  s90 = Reshare.n-back-sl-shr (Referent.rtF (Referent.fInt Syntax.w16)) T90 7 5 16 ty·5 Row.off λ x. x
 
-  abbrev s95 : Typed.Mo T95 → Typed.Mo T98
-  s95 = Reshare.n-back-sl-shr (Referent.rtF (Referent.fInt Syntax.w16)) T95 9 7 18 ty·7 Row.off λ x. x
+  abbrev s93 : Typed.Mo T93 → Typed.Mo T96
+  s93 = Reshare.n-back-sl-shr (Referent.rtF (Referent.fInt Syntax.w16)) T93 8 6 17 ty·6 Row.off λ x. x
 
-  abbrev s97 : Typed.Mo T98 → Typed.Mo T100
-  s97 = Scalar.n-use T98 Scalar.oUnit 0 (Rows.sc-here Row.sUnit) (Row.sUnit .of)
+  abbrev s96 : Typed.Mo T96 → Typed.Mo T99
+  s96 = Reshare.n-back-sl-shr (Referent.rtF (Referent.fInt Syntax.w16)) T96 9 7 18 ty·7 Row.off λ x. x
 
-  abbrev s98 : Typed.Mo T100 → Typed.Mo T101
-  s98 = Scalar.n-room T100 10 (Syntax.tyInt Syntax.w16)
+  abbrev s98 : Typed.Mo T99 → Typed.Mo T101
+  s98 = Scalar.n-use T99 Scalar.oUnit 0 (Rows.sc-here Row.sUnit) (Row.sUnit .of)
 
   abbrev s99 : Typed.Mo T101 → Typed.Mo T102
-  s99 = Scalar.n-room T101 11 Syntax.tyBool
+  s99 = Scalar.n-room T101 10 (Syntax.tyInt Syntax.w16)
+
+  abbrev s100 : Typed.Mo T102 → Typed.Mo T103
+  s100 = Scalar.n-room T102 11 Syntax.tyBool
 
   module _ (Pre· : (κs : Lifetimes.Lfts 8) → Kinds.Dens κs ps → Type 0) (Post· : (κs : Lifetimes.Lfts 8) → (a : Kinds.Dens κs ps) → Kinds.Plain 8 ps r κs) where
     module _ (M : Type 1) where
@@ -980,308 +990,311 @@ module _ (claims· : Claims) where
       abbrev at4 : Typed.TF T56 O1
       at4 = λ Ψ. Typed.pass T56 T57 s54 (at3 Ψ)
 
-      abbrev at5 : Typed.TF T54 O1
-      at5 = λ Ψ. Typed.pass T54 T56 s53 (at4 Ψ)
+      abbrev at5 : Typed.TF T55 O1
+      at5 = λ Ψ. Typed.pass T55 T56 s53 (at4 Ψ)
 
-      abbrev at6 : Typed.TF T61 O1
-      at6 = Typed.atNext O1
+      abbrev at6 : Typed.TF T53 O1
+      at6 = λ Ψ. Typed.pass T53 T55 s52 (at5 Ψ)
 
-      abbrev at7 : Typed.TF T54 O1
-      at7 = λ Ψ. Typed.pass T54 T61 s58 (at6 Ψ)
+      abbrev at7 : Typed.TF T61 O1
+      at7 = Typed.atNext O1
 
-      abbrev at8 : Typed.TF T54 O1
-      at8 = Scalar.Φcond T54 O1 26 (λ x. x) at5 at7
+      abbrev at8 : Typed.TF T53 O1
+      at8 = λ Ψ. Typed.pass T53 T61 s58 (at7 Ψ)
 
-      abbrev at9 : Typed.TF T102 O0
-      at9 = Typed.atRet O0
+      abbrev at9 : Typed.TF T53 O1
+      at9 = Scalar.Φcond T53 O1 26 (λ x. x) at6 at8
 
-      abbrev at10 : Typed.TF T101 O0
-      at10 = λ Ψ. Typed.pass T101 T102 s99 (at9 Ψ)
+      abbrev at10 : Typed.TF T103 O0
+      at10 = Typed.atRet O0
 
-      abbrev at11 : Typed.TF T100 O0
-      at11 = λ Ψ. Typed.pass T100 T101 s98 (at10 Ψ)
+      abbrev at11 : Typed.TF T102 O0
+      at11 = λ Ψ. Typed.pass T102 T103 s100 (at10 Ψ)
 
-      abbrev at12 : Typed.TF T98 O0
-      at12 = λ Ψ. Typed.pass T98 T100 s97 (at11 Ψ)
+      abbrev at12 : Typed.TF T101 O0
+      at12 = λ Ψ. Typed.pass T101 T102 s99 (at11 Ψ)
 
-      abbrev at13 : Typed.TF T98 O0
-      at13 = λ Ψ. at12 Ψ
+      abbrev at13 : Typed.TF T99 O0
+      at13 = λ Ψ. Typed.pass T99 T101 s98 (at12 Ψ)
 
-      abbrev at14 : Typed.TF T95 O0
-      at14 = λ Ψ. Typed.pass T95 T98 s95 (at13 Ψ)
+      abbrev at14 : Typed.TF T99 O0
+      at14 = λ Ψ. at13 Ψ
 
-      abbrev at15 : Typed.TF T95 O0
-      at15 = λ Ψ. at14 Ψ
+      abbrev at15 : Typed.TF T96 O0
+      at15 = λ Ψ. Typed.pass T96 T99 s96 (at14 Ψ)
 
-      abbrev at16 : Typed.TF T95 O0
+      abbrev at16 : Typed.TF T96 O0
       at16 = λ Ψ. at15 Ψ
 
-      abbrev at17 : Typed.TF T92 O0
-      at17 = λ Ψ. Typed.pass T92 T95 s92 (at16 Ψ)
+      abbrev at17 : Typed.TF T96 O0
+      at17 = λ Ψ. at16 Ψ
 
-      abbrev at18 : Typed.TF T92 O0
-      at18 = λ Ψ. at17 Ψ
+      abbrev at18 : Typed.TF T93 O0
+      at18 = λ Ψ. Typed.pass T93 T96 s93 (at17 Ψ)
 
-      abbrev at19 : Typed.TF T92 O0
+      abbrev at19 : Typed.TF T93 O0
       at19 = λ Ψ. at18 Ψ
 
-      abbrev at20 : Typed.TF T89 O0
-      at20 = λ Ψ. Typed.pass T89 T92 s89 (at19 Ψ)
+      abbrev at20 : Typed.TF T93 O0
+      at20 = λ Ψ. at19 Ψ
 
-      abbrev at21 : Typed.TF T89 O0
-      at21 = λ Ψ. at20 Ψ
+      abbrev at21 : Typed.TF T90 O0
+      at21 = λ Ψ. Typed.pass T90 T93 s90 (at20 Ψ)
 
-      abbrev at22 : Typed.TF T89 O0
+      abbrev at22 : Typed.TF T90 O0
       at22 = λ Ψ. at21 Ψ
 
-      abbrev at23 : Typed.TF T86 O0
-      at23 = λ Ψ. Typed.pass T86 T89 s86 (at22 Ψ)
+      abbrev at23 : Typed.TF T90 O0
+      at23 = λ Ψ. at22 Ψ
 
-      abbrev at24 : Typed.TF T86 O0
-      at24 = λ Ψ. at23 Ψ
+      abbrev at24 : Typed.TF T87 O0
+      at24 = λ Ψ. Typed.pass T87 T90 s87 (at23 Ψ)
 
-      abbrev at25 : Typed.TF T86 O0
+      abbrev at25 : Typed.TF T87 O0
       at25 = λ Ψ. at24 Ψ
 
-      abbrev at26 : Typed.TF T84 O0
-      at26 = λ Ψ. Typed.pass T84 T86 s83 (at25 Ψ)
+      abbrev at26 : Typed.TF T87 O0
+      at26 = λ Ψ. at25 Ψ
 
-      abbrev at27 : Typed.TF T84 O0
-      at27 = λ Ψ. at26 Ψ
+      abbrev at27 : Typed.TF T85 O0
+      at27 = λ Ψ. Typed.pass T85 T87 s84 (at26 Ψ)
 
-      abbrev at28 : Typed.TF T83 O0
-      at28 = λ Ψ. Typed.pass T83 T84 s81 (at27 Ψ)
+      abbrev at28 : Typed.TF T85 O0
+      at28 = λ Ψ. at27 Ψ
 
-      abbrev at29 : Typed.TF T82 O0
-      at29 = λ Ψ. Typed.pass T82 T83 s80 (at28 Ψ)
+      abbrev at29 : Typed.TF T84 O0
+      at29 = λ Ψ. Typed.pass T84 T85 s82 (at28 Ψ)
 
-      abbrev at30 : Typed.TF T81 O0
-      at30 = λ Ψ. Typed.pass T81 T82 s79 (at29 Ψ)
+      abbrev at30 : Typed.TF T83 O0
+      at30 = λ Ψ. Typed.pass T83 T84 s81 (at29 Ψ)
 
-      abbrev at31 : Typed.TF T80 O0
-      at31 = λ Ψ. Typed.pass T80 T81 s78 (at30 Ψ)
+      abbrev at31 : Typed.TF T82 O0
+      at31 = λ Ψ. Typed.pass T82 T83 s80 (at30 Ψ)
 
-      abbrev at32 : Typed.TF T79 O0
-      at32 = λ Ψ. Typed.pass T79 T80 s77 (at31 Ψ)
+      abbrev at32 : Typed.TF T81 O0
+      at32 = λ Ψ. Typed.pass T81 T82 s79 (at31 Ψ)
 
-      abbrev at33 : Typed.TF T78 O0
-      at33 = λ Ψ. Typed.pass T78 T79 s76 (at32 Ψ)
+      abbrev at33 : Typed.TF T80 O0
+      at33 = λ Ψ. Typed.pass T80 T81 s78 (at32 Ψ)
 
-      abbrev at34 : Typed.TF T77 O0
-      at34 = λ Ψ. Typed.pass T77 T78 s75 (at33 Ψ)
+      abbrev at34 : Typed.TF T79 O0
+      at34 = λ Ψ. Typed.pass T79 T80 s77 (at33 Ψ)
 
-      abbrev at35 : Typed.TF T76 O0
-      at35 = λ Ψ. Typed.both s74 (at34 Ψ)
+      abbrev at35 : Typed.TF T78 O0
+      at35 = λ Ψ. Typed.pass T78 T79 s76 (at34 Ψ)
 
-      abbrev at36 : Typed.TF T75 O0
-      at36 = λ Ψ. Typed.ask s73 (at35 Ψ)
+      abbrev at36 : Typed.TF T77 O0
+      at36 = λ Ψ. Typed.pass T77 T78 s75 (at35 Ψ)
 
-      abbrev at37 : Typed.TF T73 O0
-      at37 = λ Ψ. Typed.give s72 (at36 Ψ)
+      abbrev at37 : Typed.TF T76 O0
+      at37 = λ Ψ. Typed.both s74 (at36 Ψ)
 
-      abbrev at38 : Typed.TF T73 O0
-      at38 = λ Ψ. at37 Ψ
+      abbrev at38 : Typed.TF T75 O0
+      at38 = λ Ψ. Typed.ask s73 (at37 Ψ)
 
-      abbrev at39 : Typed.TF T72 O0
-      at39 = λ Ψ. Typed.ask s70 (at38 Ψ)
+      abbrev at39 : Typed.TF T73 O0
+      at39 = λ Ψ. Typed.give s72 (at38 Ψ)
 
-      abbrev at40 : Typed.TF T70 O0
-      at40 = λ Ψ. Typed.give s69 (at39 Ψ)
+      abbrev at40 : Typed.TF T73 O0
+      at40 = λ Ψ. at39 Ψ
 
-      abbrev at41 : Typed.TF T70 O0
-      at41 = λ Ψ. at40 Ψ
+      abbrev at41 : Typed.TF T72 O0
+      at41 = λ Ψ. Typed.ask s70 (at40 Ψ)
 
-      abbrev at42 : Typed.TF T69 O0
-      at42 = λ Ψ. Typed.ask s67 (at41 Ψ)
+      abbrev at42 : Typed.TF T70 O0
+      at42 = λ Ψ. Typed.give s69 (at41 Ψ)
 
-      abbrev at43 : Typed.TF T67 O0
-      at43 = λ Ψ. Typed.give s66 (at42 Ψ)
+      abbrev at43 : Typed.TF T70 O0
+      at43 = λ Ψ. at42 Ψ
 
-      abbrev at44 : Typed.TF T67 O0
-      at44 = λ Ψ. at43 Ψ
+      abbrev at44 : Typed.TF T69 O0
+      at44 = λ Ψ. Typed.ask s67 (at43 Ψ)
 
-      abbrev at45 : Typed.TF T66 O0
-      at45 = λ Ψ. Typed.ask s64 (at44 Ψ)
+      abbrev at45 : Typed.TF T67 O0
+      at45 = λ Ψ. Typed.give s66 (at44 Ψ)
 
-      abbrev at46 : Typed.TF T64 O0
-      at46 = λ Ψ. Typed.give s63 (at45 Ψ)
+      abbrev at46 : Typed.TF T67 O0
+      at46 = λ Ψ. at45 Ψ
 
-      abbrev at47 : Typed.TF T64 O0
-      at47 = λ Ψ. at46 Ψ
+      abbrev at47 : Typed.TF T66 O0
+      at47 = λ Ψ. Typed.ask s64 (at46 Ψ)
 
-      abbrev at48 : Typed.TF T63 O0
-      at48 = λ Ψ. Typed.ask s61 (at47 Ψ)
+      abbrev at48 : Typed.TF T64 O0
+      at48 = λ Ψ. Typed.give s63 (at47 Ψ)
 
-      abbrev at49 : Typed.TF T55 O0
-      at49 = λ Ψ. Typed.give s60 (at48 Ψ)
+      abbrev at49 : Typed.TF T64 O0
+      at49 = λ Ψ. at48 Ψ
 
-      abbrev at50 : Typed.TF T55 O0
-      at50 = λ Ψ. at49 Ψ
+      abbrev at50 : Typed.TF T63 O0
+      at50 = λ Ψ. Typed.ask s61 (at49 Ψ)
 
       abbrev at51 : Typed.TF T54 O0
-      at51 = λ Ψ. at8 (Typed.wantNext T55 O0 (at50 Ψ) Ψ)
+      at51 = λ Ψ. Typed.give s60 (at50 Ψ)
 
-      abbrev at52 : Typed.TF T53 O0
-      at52 = λ Ψ. Typed.ask s52 (at51 Ψ)
+      abbrev at52 : Typed.TF T54 O0
+      at52 = λ Ψ. at51 Ψ
 
-      abbrev at53 : Typed.TF T52 O0
-      at53 = λ Ψ. Typed.pass T52 T53 s51 (at52 Ψ)
+      abbrev at53 : Typed.TF T53 O0
+      at53 = λ Ψ. at9 (Typed.wantNext T54 O0 (at52 Ψ) Ψ)
 
-      abbrev at54 : Typed.TF T50 O0
-      at54 = λ Ψ. Typed.both s50 (at53 Ψ)
+      abbrev at54 : Typed.TF T52 O0
+      at54 = λ Ψ. Typed.ask s51 (at53 Ψ)
 
-      abbrev at55 : Typed.TF T50 O0
-      at55 = λ Ψ. at54 Ψ
+      abbrev at55 : Typed.TF T51 O0
+      at55 = λ Ψ. Typed.pass T51 T52 s50 (at54 Ψ)
 
       abbrev at56 : Typed.TF T49 O0
-      at56 = λ Ψ. Typed.give s48 (at55 Ψ)
+      at56 = λ Ψ. Typed.both s49 (at55 Ψ)
 
-      abbrev at57 : Typed.TF T46 O0
-      at57 = λ Ψ. Typed.both s47 (at56 Ψ)
+      abbrev at57 : Typed.TF T49 O0
+      at57 = λ Ψ. at56 Ψ
 
-      abbrev at58 : Typed.TF T46 O0
-      at58 = λ Ψ. at57 Ψ
+      abbrev at58 : Typed.TF T48 O0
+      at58 = λ Ψ. Typed.give s47 (at57 Ψ)
 
-      abbrev at59 : Typed.TF T46 O0
-      at59 = λ Ψ. at58 Ψ
+      abbrev at59 : Typed.TF T45 O0
+      at59 = λ Ψ. Typed.both s46 (at58 Ψ)
 
       abbrev at60 : Typed.TF T45 O0
-      at60 = λ Ψ. Typed.give s44 (at59 Ψ)
+      at60 = λ Ψ. at59 Ψ
 
-      abbrev at61 : Typed.TF T42 O0
-      at61 = λ Ψ. Typed.both s43 (at60 Ψ)
+      abbrev at61 : Typed.TF T45 O0
+      at61 = λ Ψ. at60 Ψ
 
-      abbrev at62 : Typed.TF T42 O0
-      at62 = λ Ψ. at61 Ψ
+      abbrev at62 : Typed.TF T44 O0
+      at62 = λ Ψ. Typed.give s43 (at61 Ψ)
 
-      abbrev at63 : Typed.TF T42 O0
-      at63 = λ Ψ. at62 Ψ
+      abbrev at63 : Typed.TF T41 O0
+      at63 = λ Ψ. Typed.both s42 (at62 Ψ)
 
       abbrev at64 : Typed.TF T41 O0
-      at64 = λ Ψ. Typed.give s40 (at63 Ψ)
+      at64 = λ Ψ. at63 Ψ
 
-      abbrev at65 : Typed.TF T38 O0
-      at65 = λ Ψ. Typed.both s39 (at64 Ψ)
+      abbrev at65 : Typed.TF T41 O0
+      at65 = λ Ψ. at64 Ψ
 
-      abbrev at66 : Typed.TF T38 O0
-      at66 = λ Ψ. at65 Ψ
+      abbrev at66 : Typed.TF T40 O0
+      at66 = λ Ψ. Typed.give s39 (at65 Ψ)
 
-      abbrev at67 : Typed.TF T38 O0
-      at67 = λ Ψ. at66 Ψ
+      abbrev at67 : Typed.TF T37 O0
+      at67 = λ Ψ. Typed.both s38 (at66 Ψ)
 
       abbrev at68 : Typed.TF T37 O0
-      at68 = λ Ψ. Typed.give s36 (at67 Ψ)
+      at68 = λ Ψ. at67 Ψ
 
-      abbrev at69 : Typed.TF T34 O0
-      at69 = λ Ψ. Typed.both s35 (at68 Ψ)
+      abbrev at69 : Typed.TF T37 O0
+      at69 = λ Ψ. at68 Ψ
 
-      abbrev at70 : Typed.TF T34 O0
-      at70 = λ Ψ. at69 Ψ
+      abbrev at70 : Typed.TF T36 O0
+      at70 = λ Ψ. Typed.give s35 (at69 Ψ)
 
-      abbrev at71 : Typed.TF T34 O0
-      at71 = λ Ψ. at70 Ψ
+      abbrev at71 : Typed.TF T33 O0
+      at71 = λ Ψ. Typed.both s34 (at70 Ψ)
 
-      abbrev at72 : Typed.TF T32 O0
-      at72 = λ Ψ. Typed.both s32 (at71 Ψ)
+      abbrev at72 : Typed.TF T33 O0
+      at72 = λ Ψ. at71 Ψ
 
-      abbrev at73 : Typed.TF T32 O0
+      abbrev at73 : Typed.TF T33 O0
       at73 = λ Ψ. at72 Ψ
 
       abbrev at74 : Typed.TF T31 O0
-      at74 = λ Ψ. Typed.pass T31 T32 s30 (at73 Ψ)
+      at74 = λ Ψ. Typed.both s31 (at73 Ψ)
 
-      abbrev at75 : Typed.TF T30 O0
-      at75 = λ Ψ. Typed.both s29 (at74 Ψ)
+      abbrev at75 : Typed.TF T31 O0
+      at75 = λ Ψ. at74 Ψ
 
-      abbrev at76 : Typed.TF T29 O0
-      at76 = λ Ψ. Typed.ask s28 (at75 Ψ)
+      abbrev at76 : Typed.TF T30 O0
+      at76 = λ Ψ. Typed.both s29 (at75 Ψ)
 
-      abbrev at77 : Typed.TF T27 O0
-      at77 = λ Ψ. Typed.give s27 (at76 Ψ)
+      abbrev at77 : Typed.TF T29 O0
+      at77 = λ Ψ. Typed.ask s28 (at76 Ψ)
 
       abbrev at78 : Typed.TF T27 O0
-      at78 = λ Ψ. at77 Ψ
+      at78 = λ Ψ. Typed.give s27 (at77 Ψ)
 
-      abbrev at79 : Typed.TF T26 O0
-      at79 = λ Ψ. Typed.ask s25 (at78 Ψ)
+      abbrev at79 : Typed.TF T27 O0
+      at79 = λ Ψ. at78 Ψ
 
-      abbrev at80 : Typed.TF T24 O0
-      at80 = λ Ψ. Typed.give s24 (at79 Ψ)
+      abbrev at80 : Typed.TF T26 O0
+      at80 = λ Ψ. Typed.ask s25 (at79 Ψ)
 
       abbrev at81 : Typed.TF T24 O0
-      at81 = λ Ψ. at80 Ψ
+      at81 = λ Ψ. Typed.give s24 (at80 Ψ)
 
-      abbrev at82 : Typed.TF T23 O0
-      at82 = λ Ψ. Typed.ask s22 (at81 Ψ)
+      abbrev at82 : Typed.TF T24 O0
+      at82 = λ Ψ. at81 Ψ
 
-      abbrev at83 : Typed.TF T21 O0
-      at83 = λ Ψ. Typed.give s21 (at82 Ψ)
+      abbrev at83 : Typed.TF T23 O0
+      at83 = λ Ψ. Typed.ask s22 (at82 Ψ)
 
       abbrev at84 : Typed.TF T21 O0
-      at84 = λ Ψ. at83 Ψ
+      at84 = λ Ψ. Typed.give s21 (at83 Ψ)
 
-      abbrev at85 : Typed.TF T20 O0
-      at85 = λ Ψ. Typed.ask s19 (at84 Ψ)
+      abbrev at85 : Typed.TF T21 O0
+      at85 = λ Ψ. at84 Ψ
 
-      abbrev at86 : Typed.TF T18 O0
-      at86 = λ Ψ. Typed.give s18 (at85 Ψ)
+      abbrev at86 : Typed.TF T20 O0
+      at86 = λ Ψ. Typed.ask s19 (at85 Ψ)
 
       abbrev at87 : Typed.TF T18 O0
-      at87 = λ Ψ. at86 Ψ
+      at87 = λ Ψ. Typed.give s18 (at86 Ψ)
 
-      abbrev at88 : Typed.TF T17 O0
-      at88 = λ Ψ. Typed.ask s16 (at87 Ψ)
+      abbrev at88 : Typed.TF T18 O0
+      at88 = λ Ψ. at87 Ψ
 
-      abbrev at89 : Typed.TF T14 O0
-      at89 = λ Ψ. Typed.give s15 (at88 Ψ)
+      abbrev at89 : Typed.TF T17 O0
+      at89 = λ Ψ. Typed.ask s16 (at88 Ψ)
 
       abbrev at90 : Typed.TF T14 O0
-      at90 = λ Ψ. at89 Ψ
+      at90 = λ Ψ. Typed.give s15 (at89 Ψ)
 
       abbrev at91 : Typed.TF T14 O0
       at91 = λ Ψ. at90 Ψ
 
-      abbrev at92 : Typed.TF T12 O0
-      at92 = λ Ψ. Typed.both s12 (at91 Ψ)
+      abbrev at92 : Typed.TF T14 O0
+      at92 = λ Ψ. at91 Ψ
 
       abbrev at93 : Typed.TF T12 O0
-      at93 = λ Ψ. at92 Ψ
+      at93 = λ Ψ. Typed.both s12 (at92 Ψ)
 
-      abbrev at94 : Typed.TF T11 O0
-      at94 = λ Ψ. Typed.pass T11 T12 s10 (at93 Ψ)
+      abbrev at94 : Typed.TF T12 O0
+      at94 = λ Ψ. at93 Ψ
 
-      abbrev at95 : Typed.TF T10 O0
-      at95 = λ Ψ. Typed.both s9 (at94 Ψ)
+      abbrev at95 : Typed.TF T11 O0
+      at95 = λ Ψ. Typed.pass T11 T12 s10 (at94 Ψ)
 
-      abbrev at96 : Typed.TF T9 O0
-      at96 = λ Ψ. Typed.ask s8 (at95 Ψ)
+      abbrev at96 : Typed.TF T10 O0
+      at96 = λ Ψ. Typed.both s9 (at95 Ψ)
 
-      abbrev at97 : Typed.TF T7 O0
-      at97 = λ Ψ. Typed.give s7 (at96 Ψ)
+      abbrev at97 : Typed.TF T9 O0
+      at97 = λ Ψ. Typed.ask s8 (at96 Ψ)
 
       abbrev at98 : Typed.TF T7 O0
-      at98 = λ Ψ. at97 Ψ
+      at98 = λ Ψ. Typed.give s7 (at97 Ψ)
 
-      abbrev at99 : Typed.TF T6 O0
-      at99 = λ Ψ. Typed.give s5 (at98 Ψ)
+      abbrev at99 : Typed.TF T7 O0
+      at99 = λ Ψ. at98 Ψ
 
-      abbrev at100 : Typed.TF T5 O0
-      at100 = λ Ψ. Typed.give s4 (at99 Ψ)
+      abbrev at100 : Typed.TF T6 O0
+      at100 = λ Ψ. Typed.give s5 (at99 Ψ)
 
-      abbrev at101 : Typed.TF T4 O0
-      at101 = λ Ψ. Typed.give s3 (at100 Ψ)
+      abbrev at101 : Typed.TF T5 O0
+      at101 = λ Ψ. Typed.give s4 (at100 Ψ)
 
-      abbrev at102 : Typed.TF T3 O0
-      at102 = λ Ψ. Typed.give s2 (at101 Ψ)
+      abbrev at102 : Typed.TF T4 O0
+      at102 = λ Ψ. Typed.give s3 (at101 Ψ)
 
-      abbrev at103 : Typed.TF T2 O0
-      at103 = λ Ψ. Typed.give s1 (at102 Ψ)
+      abbrev at103 : Typed.TF T3 O0
+      at103 = λ Ψ. Typed.give s2 (at102 Ψ)
 
-      abbrev at104 : Typed.TF T0 O0
-      at104 = λ Ψ. Typed.give s0 (at103 Ψ)
+      abbrev at104 : Typed.TF T2 O0
+      at104 = λ Ψ. Typed.give s1 (at103 Ψ)
+
+      abbrev at105 : Typed.TF T0 O0
+      at105 = λ Ψ. Typed.give s0 (at104 Ψ)
 
       abbrev pub Φ : Typed.TF T0 O0
-      Φ = at104
+      Φ = at105
 
       module _ {M : Type 1} (𝓤 : URA.URA M) (H : Wp.Heap 𝓤) (A : Atoms.Atoms 𝓤) (W : Kit.Given 𝓤 H A) (𝓣 : Wp.Tables 𝓤 H) where
         abbrev Knowns : Type 1
@@ -1319,22 +1332,19 @@ module _ (claims· : Claims) where
         g23 = Row.setRow 12 (12, Rows.whole (Declared.row TrimAnswer.the-type)) g20
 
         abbrev g25 : List.List Row.Entry
-        g25 = Row.setRow 1 (1, Rows.any-gone ty·16) g23
+        g25 = Row.setRow 5 (5, Mut.mslice T.the-row ty·11 3) g23
 
-        abbrev g26 : List.List Row.Entry
-        g26 = Row.setRow 5 (5, Mut.mslice T.the-row ty·11 3) g25
+        abbrev g27 : List.List Row.Entry
+        g27 = Row.setRow 6 (6, Mut.mslice (Referent.rtF (Referent.fInt Syntax.w16)) ty·4 4) g25
 
-        abbrev g28 : List.List Row.Entry
-        g28 = Row.setRow 6 (6, Mut.mslice (Referent.rtF (Referent.fInt Syntax.w16)) ty·4 4) g26
+        abbrev g29 : List.List Row.Entry
+        g29 = Row.setRow 7 (7, Mut.mslice (Referent.rtF (Referent.fInt Syntax.w16)) ty·5 5) g27
 
-        abbrev g30 : List.List Row.Entry
-        g30 = Row.setRow 7 (7, Mut.mslice (Referent.rtF (Referent.fInt Syntax.w16)) ty·5 5) g28
-
-        abbrev g32 : List.List Row.Entry
-        g32 = Row.setRow 8 (8, Mut.mslice (Referent.rtF (Referent.fInt Syntax.w16)) ty·6 6) g30
+        abbrev g31 : List.List Row.Entry
+        g31 = Row.setRow 8 (8, Mut.mslice (Referent.rtF (Referent.fInt Syntax.w16)) ty·6 6) g29
 
         abbrev g40 : List.List Row.Entry
-        g40 = Row.setRow 5 (5, Reshare.mslice-owedS T.the-row ty·11 3 14 (Row.lease (κs .1 .1 .1 .0) (qs .1 .1 .1 .0))) t34
+        g40 = Row.setRow 5 (5, Reshare.mslice-owedS T.the-row ty·11 3 14 (Row.lease (κs .1 .1 .1 .0) (qs .1 .1 .1 .0))) t33
 
         abbrev g43 : List.List Row.Entry
         g43 = Row.setRow 6 (6, Reshare.mslice-owedS (Referent.rtF (Referent.fInt Syntax.w16)) ty·4 4 15 (Row.lease (κs .1 .1 .1 .1 .0) (qs .1 .1 .1 .1 .0))) g40
@@ -1352,22 +1362,25 @@ module _ (claims· : Claims) where
         g55 = Row.setRow 13 (13, Rows.sc-here Row.sUnit) g52
 
         abbrev g59 : List.List Row.Entry
-        g59 = Row.setRow 9 (9, Reshare.mslice-owedS (Referent.rtF (Referent.fInt Syntax.w16)) ty·7 7 18 (Row.lease (κs .1 .1 .1 .1 .1 .1 .1 .0) (qs .1 .1 .1 .1 .1 .1 .1 .0))) (Row.setRow 8 (8, Reshare.mslice-owedS (Referent.rtF (Referent.fInt Syntax.w16)) ty·6 6 17 (Row.lease (κs .1 .1 .1 .1 .1 .1 .0) (qs .1 .1 .1 .1 .1 .1 .0))) (Row.setRow 7 (7, Reshare.mslice-owedS (Referent.rtF (Referent.fInt Syntax.w16)) ty·5 5 16 (Row.lease (κs .1 .1 .1 .1 .1 .0) (qs .1 .1 .1 .1 .1 .0))) (Row.setRow 6 (6, Reshare.mslice-owedS (Referent.rtF (Referent.fInt Syntax.w16)) ty·4 4 15 (Row.lease (κs .1 .1 .1 .1 .0) (qs .1 .1 .1 .1 .0))) (Row.setRow 5 (5, Reshare.mslice-owedS T.the-row ty·11 3 14 (Row.lease (κs .1 .1 .1 .0) (qs .1 .1 .1 .0))) t59))))
+        g59 = Row.setRow 1 (1, Rows.any-gone ty·16) g55
 
         abbrev g60 : List.List Row.Entry
-        g60 = Row.setRow 13 (13, Rows.any-gone Syntax.tyUnit) g59
+        g60 = Row.setRow 9 (9, Reshare.mslice-owedS (Referent.rtF (Referent.fInt Syntax.w16)) ty·7 7 18 (Row.lease (κs .1 .1 .1 .1 .1 .1 .1 .0) (qs .1 .1 .1 .1 .1 .1 .1 .0))) (Row.setRow 8 (8, Reshare.mslice-owedS (Referent.rtF (Referent.fInt Syntax.w16)) ty·6 6 17 (Row.lease (κs .1 .1 .1 .1 .1 .1 .0) (qs .1 .1 .1 .1 .1 .1 .0))) (Row.setRow 7 (7, Reshare.mslice-owedS (Referent.rtF (Referent.fInt Syntax.w16)) ty·5 5 16 (Row.lease (κs .1 .1 .1 .1 .1 .0) (qs .1 .1 .1 .1 .1 .0))) (Row.setRow 6 (6, Reshare.mslice-owedS (Referent.rtF (Referent.fInt Syntax.w16)) ty·4 4 15 (Row.lease (κs .1 .1 .1 .1 .0) (qs .1 .1 .1 .1 .0))) (Row.setRow 5 (5, Reshare.mslice-owedS T.the-row ty·11 3 14 (Row.lease (κs .1 .1 .1 .0) (qs .1 .1 .1 .0))) t60))))
 
         abbrev g61 : List.List Row.Entry
-        g61 = Row.setRow 5 (5, Mut.mslice T.the-row ty·11 3) g60
+        g61 = Row.setRow 13 (13, Rows.any-gone Syntax.tyUnit) g60
 
         abbrev g62 : List.List Row.Entry
-        g62 = Row.setRow 6 (6, Mut.mslice (Referent.rtF (Referent.fInt Syntax.w16)) ty·4 4) g61
+        g62 = Row.setRow 5 (5, Mut.mslice T.the-row ty·11 3) g61
 
         abbrev g63 : List.List Row.Entry
-        g63 = Row.setRow 7 (7, Mut.mslice (Referent.rtF (Referent.fInt Syntax.w16)) ty·5 5) g62
+        g63 = Row.setRow 6 (6, Mut.mslice (Referent.rtF (Referent.fInt Syntax.w16)) ty·4 4) g62
 
         abbrev g64 : List.List Row.Entry
-        g64 = Row.setRow 8 (8, Mut.mslice (Referent.rtF (Referent.fInt Syntax.w16)) ty·6 6) g63
+        g64 = Row.setRow 7 (7, Mut.mslice (Referent.rtF (Referent.fInt Syntax.w16)) ty·5 5) g63
+
+        abbrev g65 : List.List Row.Entry
+        g65 = Row.setRow 8 (8, Mut.mslice (Referent.rtF (Referent.fInt Syntax.w16)) ty·6 6) g64
 
         abbrev G0 : Row.Cx
         G0 = record { locals = List._++_ t0 (List._++_ t1 t2); slots = List._∷_ (Row.lease (κs .0) (qs .0)) (List._∷_ (Row.lease (κs .1 .0) (qs .1 .0)) (List._∷_ (Row.lease (κs .1 .1 .0) (qs .1 .1 .0)) (List._∷_ (Row.lease (κs .1 .1 .1 .0) (qs .1 .1 .1 .0)) (List._∷_ (Row.lease (κs .1 .1 .1 .1 .0) (qs .1 .1 .1 .1 .0)) (List._∷_ (Row.lease (κs .1 .1 .1 .1 .1 .0) (qs .1 .1 .1 .1 .1 .0)) (List._∷_ (Row.lease (κs .1 .1 .1 .1 .1 .1 .0) (qs .1 .1 .1 .1 .1 .1 .0)) (List._∷_ (Row.lease (κs .1 .1 .1 .1 .1 .1 .1 .0) (qs .1 .1 .1 .1 .1 .1 .1 .0)) (List._∷_ Row.off (List._∷_ Row.off (List._∷_ Row.off (List._∷_ Row.off (List._∷_ Row.off (List._∷_ Row.off (List._∷_ Row.off (List._∷_ Row.off (List._∷_ Row.off (List._∷_ Row.off (List._∷_ Row.off List.[])))))))))))))))))) }
@@ -1466,79 +1479,79 @@ module _ (claims· : Claims) where
         G31 = record { locals = List._++_ g23 (List._++_ t24 t2); slots = List._∷_ (Row.lease (κs .0) (qs .0)) (List._∷_ (Row.lease (κs .1 .0) (qs .1 .0)) (List._∷_ (Row.lease (κs .1 .1 .0) (qs .1 .1 .0)) (List._∷_ Row.off (List._∷_ Row.off (List._∷_ Row.off (List._∷_ Row.off (List._∷_ Row.off (List._∷_ Row.off (List._∷_ Row.alive (List._∷_ Row.alive (List._∷_ Row.alive (List._∷_ Row.alive (List._∷_ Row.alive (List._∷_ Row.off (List._∷_ Row.off (List._∷_ Row.off (List._∷_ Row.off (List._∷_ Row.off List.[])))))))))))))))))) }
 
         abbrev G32 : Row.Cx
-        G32 = record { locals = List._++_ g25 (List._++_ t24 t2); slots = List._∷_ (Row.lease (κs .0) (qs .0)) (List._∷_ (Row.lease (κs .1 .0) (qs .1 .0)) (List._∷_ (Row.lease (κs .1 .1 .0) (qs .1 .1 .0)) (List._∷_ Row.off (List._∷_ Row.off (List._∷_ Row.off (List._∷_ Row.off (List._∷_ Row.off (List._∷_ Row.off (List._∷_ Row.alive (List._∷_ Row.alive (List._∷_ Row.alive (List._∷_ Row.alive (List._∷_ Row.alive (List._∷_ Row.off (List._∷_ Row.off (List._∷_ Row.off (List._∷_ Row.off (List._∷_ Row.off List.[])))))))))))))))))) }
+        G32 = record { locals = List._++_ g23 (List._++_ t24 t2); slots = List._∷_ (Row.lease (κs .0) (qs .0)) (List._∷_ (Row.lease (κs .1 .0) (qs .1 .0)) (List._∷_ (Row.lease (κs .1 .1 .0) (qs .1 .1 .0)) (List._∷_ Row.off (List._∷_ Row.off (List._∷_ Row.off (List._∷_ Row.off (List._∷_ Row.off (List._∷_ Row.off (List._∷_ Row.dead (List._∷_ Row.alive (List._∷_ Row.alive (List._∷_ Row.alive (List._∷_ Row.alive (List._∷_ Row.off (List._∷_ Row.off (List._∷_ Row.off (List._∷_ Row.off (List._∷_ Row.off List.[])))))))))))))))))) }
 
         abbrev G33 : Row.Cx
-        G33 = record { locals = List._++_ g25 (List._++_ t24 t2); slots = List._∷_ (Row.lease (κs .0) (qs .0)) (List._∷_ (Row.lease (κs .1 .0) (qs .1 .0)) (List._∷_ (Row.lease (κs .1 .1 .0) (qs .1 .1 .0)) (List._∷_ Row.off (List._∷_ Row.off (List._∷_ Row.off (List._∷_ Row.off (List._∷_ Row.off (List._∷_ Row.off (List._∷_ Row.dead (List._∷_ Row.alive (List._∷_ Row.alive (List._∷_ Row.alive (List._∷_ Row.alive (List._∷_ Row.off (List._∷_ Row.off (List._∷_ Row.off (List._∷_ Row.off (List._∷_ Row.off List.[])))))))))))))))))) }
+        G33 = record { locals = List._++_ g25 (List._++_ t26 t2); slots = List._∷_ (Row.lease (κs .0) (qs .0)) (List._∷_ (Row.lease (κs .1 .0) (qs .1 .0)) (List._∷_ (Row.lease (κs .1 .1 .0) (qs .1 .1 .0)) (List._∷_ (Row.lease (κs .1 .1 .1 .0) (qs .1 .1 .1 .0)) (List._∷_ Row.off (List._∷_ Row.off (List._∷_ Row.off (List._∷_ Row.off (List._∷_ Row.off (List._∷_ Row.dead (List._∷_ Row.alive (List._∷_ Row.alive (List._∷_ Row.alive (List._∷_ Row.alive (List._∷_ Row.off (List._∷_ Row.off (List._∷_ Row.off (List._∷_ Row.off (List._∷_ Row.off List.[])))))))))))))))))) }
 
         abbrev G34 : Row.Cx
-        G34 = record { locals = List._++_ g26 (List._++_ t27 t2); slots = List._∷_ (Row.lease (κs .0) (qs .0)) (List._∷_ (Row.lease (κs .1 .0) (qs .1 .0)) (List._∷_ (Row.lease (κs .1 .1 .0) (qs .1 .1 .0)) (List._∷_ (Row.lease (κs .1 .1 .1 .0) (qs .1 .1 .1 .0)) (List._∷_ Row.off (List._∷_ Row.off (List._∷_ Row.off (List._∷_ Row.off (List._∷_ Row.off (List._∷_ Row.dead (List._∷_ Row.alive (List._∷_ Row.alive (List._∷_ Row.alive (List._∷_ Row.alive (List._∷_ Row.off (List._∷_ Row.off (List._∷_ Row.off (List._∷_ Row.off (List._∷_ Row.off List.[])))))))))))))))))) }
+        G34 = record { locals = List._++_ g25 (List._++_ t26 t2); slots = List._∷_ (Row.lease (κs .0) (qs .0)) (List._∷_ (Row.lease (κs .1 .0) (qs .1 .0)) (List._∷_ (Row.lease (κs .1 .1 .0) (qs .1 .1 .0)) (List._∷_ (Row.lease (κs .1 .1 .1 .0) (qs .1 .1 .1 .0)) (List._∷_ Row.off (List._∷_ Row.off (List._∷_ Row.off (List._∷_ Row.off (List._∷_ Row.off (List._∷_ Row.off (List._∷_ Row.alive (List._∷_ Row.alive (List._∷_ Row.alive (List._∷_ Row.alive (List._∷_ Row.off (List._∷_ Row.off (List._∷_ Row.off (List._∷_ Row.off (List._∷_ Row.off List.[])))))))))))))))))) }
 
         abbrev G35 : Row.Cx
-        G35 = record { locals = List._++_ g26 (List._++_ t27 t2); slots = List._∷_ (Row.lease (κs .0) (qs .0)) (List._∷_ (Row.lease (κs .1 .0) (qs .1 .0)) (List._∷_ (Row.lease (κs .1 .1 .0) (qs .1 .1 .0)) (List._∷_ (Row.lease (κs .1 .1 .1 .0) (qs .1 .1 .1 .0)) (List._∷_ Row.off (List._∷_ Row.off (List._∷_ Row.off (List._∷_ Row.off (List._∷_ Row.off (List._∷_ Row.off (List._∷_ Row.alive (List._∷_ Row.alive (List._∷_ Row.alive (List._∷_ Row.alive (List._∷_ Row.off (List._∷_ Row.off (List._∷_ Row.off (List._∷_ Row.off (List._∷_ Row.off List.[])))))))))))))))))) }
+        G35 = record { locals = List._++_ g25 (List._++_ t26 t2); slots = List._∷_ (Row.lease (κs .0) (qs .0)) (List._∷_ (Row.lease (κs .1 .0) (qs .1 .0)) (List._∷_ (Row.lease (κs .1 .1 .0) (qs .1 .1 .0)) (List._∷_ (Row.lease (κs .1 .1 .1 .0) (qs .1 .1 .1 .0)) (List._∷_ Row.off (List._∷_ Row.off (List._∷_ Row.off (List._∷_ Row.off (List._∷_ Row.off (List._∷_ Row.off (List._∷_ Row.dead (List._∷_ Row.alive (List._∷_ Row.alive (List._∷_ Row.alive (List._∷_ Row.off (List._∷_ Row.off (List._∷_ Row.off (List._∷_ Row.off (List._∷_ Row.off List.[])))))))))))))))))) }
 
         abbrev G36 : Row.Cx
-        G36 = record { locals = List._++_ g26 (List._++_ t27 t2); slots = List._∷_ (Row.lease (κs .0) (qs .0)) (List._∷_ (Row.lease (κs .1 .0) (qs .1 .0)) (List._∷_ (Row.lease (κs .1 .1 .0) (qs .1 .1 .0)) (List._∷_ (Row.lease (κs .1 .1 .1 .0) (qs .1 .1 .1 .0)) (List._∷_ Row.off (List._∷_ Row.off (List._∷_ Row.off (List._∷_ Row.off (List._∷_ Row.off (List._∷_ Row.off (List._∷_ Row.dead (List._∷_ Row.alive (List._∷_ Row.alive (List._∷_ Row.alive (List._∷_ Row.off (List._∷_ Row.off (List._∷_ Row.off (List._∷_ Row.off (List._∷_ Row.off List.[])))))))))))))))))) }
+        G36 = record { locals = List._++_ g27 (List._++_ t28 t2); slots = List._∷_ (Row.lease (κs .0) (qs .0)) (List._∷_ (Row.lease (κs .1 .0) (qs .1 .0)) (List._∷_ (Row.lease (κs .1 .1 .0) (qs .1 .1 .0)) (List._∷_ (Row.lease (κs .1 .1 .1 .0) (qs .1 .1 .1 .0)) (List._∷_ (Row.lease (κs .1 .1 .1 .1 .0) (qs .1 .1 .1 .1 .0)) (List._∷_ Row.off (List._∷_ Row.off (List._∷_ Row.off (List._∷_ Row.off (List._∷_ Row.off (List._∷_ Row.dead (List._∷_ Row.alive (List._∷_ Row.alive (List._∷_ Row.alive (List._∷_ Row.off (List._∷_ Row.off (List._∷_ Row.off (List._∷_ Row.off (List._∷_ Row.off List.[])))))))))))))))))) }
 
         abbrev G37 : Row.Cx
-        G37 = record { locals = List._++_ g28 (List._++_ t29 t2); slots = List._∷_ (Row.lease (κs .0) (qs .0)) (List._∷_ (Row.lease (κs .1 .0) (qs .1 .0)) (List._∷_ (Row.lease (κs .1 .1 .0) (qs .1 .1 .0)) (List._∷_ (Row.lease (κs .1 .1 .1 .0) (qs .1 .1 .1 .0)) (List._∷_ (Row.lease (κs .1 .1 .1 .1 .0) (qs .1 .1 .1 .1 .0)) (List._∷_ Row.off (List._∷_ Row.off (List._∷_ Row.off (List._∷_ Row.off (List._∷_ Row.off (List._∷_ Row.dead (List._∷_ Row.alive (List._∷_ Row.alive (List._∷_ Row.alive (List._∷_ Row.off (List._∷_ Row.off (List._∷_ Row.off (List._∷_ Row.off (List._∷_ Row.off List.[])))))))))))))))))) }
+        G37 = record { locals = List._++_ g27 (List._++_ t28 t2); slots = List._∷_ (Row.lease (κs .0) (qs .0)) (List._∷_ (Row.lease (κs .1 .0) (qs .1 .0)) (List._∷_ (Row.lease (κs .1 .1 .0) (qs .1 .1 .0)) (List._∷_ (Row.lease (κs .1 .1 .1 .0) (qs .1 .1 .1 .0)) (List._∷_ (Row.lease (κs .1 .1 .1 .1 .0) (qs .1 .1 .1 .1 .0)) (List._∷_ Row.off (List._∷_ Row.off (List._∷_ Row.off (List._∷_ Row.off (List._∷_ Row.off (List._∷_ Row.dead (List._∷_ Row.alive (List._∷_ Row.alive (List._∷_ Row.alive (List._∷_ Row.off (List._∷_ Row.off (List._∷_ Row.off (List._∷_ Row.off (List._∷_ Row.off List.[])))))))))))))))))) }
 
         abbrev G38 : Row.Cx
-        G38 = record { locals = List._++_ g28 (List._++_ t29 t2); slots = List._∷_ (Row.lease (κs .0) (qs .0)) (List._∷_ (Row.lease (κs .1 .0) (qs .1 .0)) (List._∷_ (Row.lease (κs .1 .1 .0) (qs .1 .1 .0)) (List._∷_ (Row.lease (κs .1 .1 .1 .0) (qs .1 .1 .1 .0)) (List._∷_ (Row.lease (κs .1 .1 .1 .1 .0) (qs .1 .1 .1 .1 .0)) (List._∷_ Row.off (List._∷_ Row.off (List._∷_ Row.off (List._∷_ Row.off (List._∷_ Row.off (List._∷_ Row.dead (List._∷_ Row.alive (List._∷_ Row.alive (List._∷_ Row.alive (List._∷_ Row.off (List._∷_ Row.off (List._∷_ Row.off (List._∷_ Row.off (List._∷_ Row.off List.[])))))))))))))))))) }
+        G38 = record { locals = List._++_ g27 (List._++_ t28 t2); slots = List._∷_ (Row.lease (κs .0) (qs .0)) (List._∷_ (Row.lease (κs .1 .0) (qs .1 .0)) (List._∷_ (Row.lease (κs .1 .1 .0) (qs .1 .1 .0)) (List._∷_ (Row.lease (κs .1 .1 .1 .0) (qs .1 .1 .1 .0)) (List._∷_ (Row.lease (κs .1 .1 .1 .1 .0) (qs .1 .1 .1 .1 .0)) (List._∷_ Row.off (List._∷_ Row.off (List._∷_ Row.off (List._∷_ Row.off (List._∷_ Row.off (List._∷_ Row.off (List._∷_ Row.alive (List._∷_ Row.alive (List._∷_ Row.alive (List._∷_ Row.off (List._∷_ Row.off (List._∷_ Row.off (List._∷_ Row.off (List._∷_ Row.off List.[])))))))))))))))))) }
 
         abbrev G39 : Row.Cx
-        G39 = record { locals = List._++_ g28 (List._++_ t29 t2); slots = List._∷_ (Row.lease (κs .0) (qs .0)) (List._∷_ (Row.lease (κs .1 .0) (qs .1 .0)) (List._∷_ (Row.lease (κs .1 .1 .0) (qs .1 .1 .0)) (List._∷_ (Row.lease (κs .1 .1 .1 .0) (qs .1 .1 .1 .0)) (List._∷_ (Row.lease (κs .1 .1 .1 .1 .0) (qs .1 .1 .1 .1 .0)) (List._∷_ Row.off (List._∷_ Row.off (List._∷_ Row.off (List._∷_ Row.off (List._∷_ Row.off (List._∷_ Row.off (List._∷_ Row.alive (List._∷_ Row.alive (List._∷_ Row.alive (List._∷_ Row.off (List._∷_ Row.off (List._∷_ Row.off (List._∷_ Row.off (List._∷_ Row.off List.[])))))))))))))))))) }
+        G39 = record { locals = List._++_ g27 (List._++_ t28 t2); slots = List._∷_ (Row.lease (κs .0) (qs .0)) (List._∷_ (Row.lease (κs .1 .0) (qs .1 .0)) (List._∷_ (Row.lease (κs .1 .1 .0) (qs .1 .1 .0)) (List._∷_ (Row.lease (κs .1 .1 .1 .0) (qs .1 .1 .1 .0)) (List._∷_ (Row.lease (κs .1 .1 .1 .1 .0) (qs .1 .1 .1 .1 .0)) (List._∷_ Row.off (List._∷_ Row.off (List._∷_ Row.off (List._∷_ Row.off (List._∷_ Row.off (List._∷_ Row.off (List._∷_ Row.dead (List._∷_ Row.alive (List._∷_ Row.alive (List._∷_ Row.off (List._∷_ Row.off (List._∷_ Row.off (List._∷_ Row.off (List._∷_ Row.off List.[])))))))))))))))))) }
 
         abbrev G40 : Row.Cx
-        G40 = record { locals = List._++_ g28 (List._++_ t29 t2); slots = List._∷_ (Row.lease (κs .0) (qs .0)) (List._∷_ (Row.lease (κs .1 .0) (qs .1 .0)) (List._∷_ (Row.lease (κs .1 .1 .0) (qs .1 .1 .0)) (List._∷_ (Row.lease (κs .1 .1 .1 .0) (qs .1 .1 .1 .0)) (List._∷_ (Row.lease (κs .1 .1 .1 .1 .0) (qs .1 .1 .1 .1 .0)) (List._∷_ Row.off (List._∷_ Row.off (List._∷_ Row.off (List._∷_ Row.off (List._∷_ Row.off (List._∷_ Row.off (List._∷_ Row.dead (List._∷_ Row.alive (List._∷_ Row.alive (List._∷_ Row.off (List._∷_ Row.off (List._∷_ Row.off (List._∷_ Row.off (List._∷_ Row.off List.[])))))))))))))))))) }
+        G40 = record { locals = List._++_ g29 (List._++_ t30 t2); slots = List._∷_ (Row.lease (κs .0) (qs .0)) (List._∷_ (Row.lease (κs .1 .0) (qs .1 .0)) (List._∷_ (Row.lease (κs .1 .1 .0) (qs .1 .1 .0)) (List._∷_ (Row.lease (κs .1 .1 .1 .0) (qs .1 .1 .1 .0)) (List._∷_ (Row.lease (κs .1 .1 .1 .1 .0) (qs .1 .1 .1 .1 .0)) (List._∷_ (Row.lease (κs .1 .1 .1 .1 .1 .0) (qs .1 .1 .1 .1 .1 .0)) (List._∷_ Row.off (List._∷_ Row.off (List._∷_ Row.off (List._∷_ Row.off (List._∷_ Row.off (List._∷_ Row.dead (List._∷_ Row.alive (List._∷_ Row.alive (List._∷_ Row.off (List._∷_ Row.off (List._∷_ Row.off (List._∷_ Row.off (List._∷_ Row.off List.[])))))))))))))))))) }
 
         abbrev G41 : Row.Cx
-        G41 = record { locals = List._++_ g30 (List._++_ t31 t2); slots = List._∷_ (Row.lease (κs .0) (qs .0)) (List._∷_ (Row.lease (κs .1 .0) (qs .1 .0)) (List._∷_ (Row.lease (κs .1 .1 .0) (qs .1 .1 .0)) (List._∷_ (Row.lease (κs .1 .1 .1 .0) (qs .1 .1 .1 .0)) (List._∷_ (Row.lease (κs .1 .1 .1 .1 .0) (qs .1 .1 .1 .1 .0)) (List._∷_ (Row.lease (κs .1 .1 .1 .1 .1 .0) (qs .1 .1 .1 .1 .1 .0)) (List._∷_ Row.off (List._∷_ Row.off (List._∷_ Row.off (List._∷_ Row.off (List._∷_ Row.off (List._∷_ Row.dead (List._∷_ Row.alive (List._∷_ Row.alive (List._∷_ Row.off (List._∷_ Row.off (List._∷_ Row.off (List._∷_ Row.off (List._∷_ Row.off List.[])))))))))))))))))) }
+        G41 = record { locals = List._++_ g29 (List._++_ t30 t2); slots = List._∷_ (Row.lease (κs .0) (qs .0)) (List._∷_ (Row.lease (κs .1 .0) (qs .1 .0)) (List._∷_ (Row.lease (κs .1 .1 .0) (qs .1 .1 .0)) (List._∷_ (Row.lease (κs .1 .1 .1 .0) (qs .1 .1 .1 .0)) (List._∷_ (Row.lease (κs .1 .1 .1 .1 .0) (qs .1 .1 .1 .1 .0)) (List._∷_ (Row.lease (κs .1 .1 .1 .1 .1 .0) (qs .1 .1 .1 .1 .1 .0)) (List._∷_ Row.off (List._∷_ Row.off (List._∷_ Row.off (List._∷_ Row.off (List._∷_ Row.off (List._∷_ Row.dead (List._∷_ Row.alive (List._∷_ Row.alive (List._∷_ Row.off (List._∷_ Row.off (List._∷_ Row.off (List._∷_ Row.off (List._∷_ Row.off List.[])))))))))))))))))) }
 
         abbrev G42 : Row.Cx
-        G42 = record { locals = List._++_ g30 (List._++_ t31 t2); slots = List._∷_ (Row.lease (κs .0) (qs .0)) (List._∷_ (Row.lease (κs .1 .0) (qs .1 .0)) (List._∷_ (Row.lease (κs .1 .1 .0) (qs .1 .1 .0)) (List._∷_ (Row.lease (κs .1 .1 .1 .0) (qs .1 .1 .1 .0)) (List._∷_ (Row.lease (κs .1 .1 .1 .1 .0) (qs .1 .1 .1 .1 .0)) (List._∷_ (Row.lease (κs .1 .1 .1 .1 .1 .0) (qs .1 .1 .1 .1 .1 .0)) (List._∷_ Row.off (List._∷_ Row.off (List._∷_ Row.off (List._∷_ Row.off (List._∷_ Row.off (List._∷_ Row.dead (List._∷_ Row.alive (List._∷_ Row.alive (List._∷_ Row.off (List._∷_ Row.off (List._∷_ Row.off (List._∷_ Row.off (List._∷_ Row.off List.[])))))))))))))))))) }
+        G42 = record { locals = List._++_ g29 (List._++_ t30 t2); slots = List._∷_ (Row.lease (κs .0) (qs .0)) (List._∷_ (Row.lease (κs .1 .0) (qs .1 .0)) (List._∷_ (Row.lease (κs .1 .1 .0) (qs .1 .1 .0)) (List._∷_ (Row.lease (κs .1 .1 .1 .0) (qs .1 .1 .1 .0)) (List._∷_ (Row.lease (κs .1 .1 .1 .1 .0) (qs .1 .1 .1 .1 .0)) (List._∷_ (Row.lease (κs .1 .1 .1 .1 .1 .0) (qs .1 .1 .1 .1 .1 .0)) (List._∷_ Row.off (List._∷_ Row.off (List._∷_ Row.off (List._∷_ Row.off (List._∷_ Row.off (List._∷_ Row.off (List._∷_ Row.alive (List._∷_ Row.alive (List._∷_ Row.off (List._∷_ Row.off (List._∷_ Row.off (List._∷_ Row.off (List._∷_ Row.off List.[])))))))))))))))))) }
 
         abbrev G43 : Row.Cx
-        G43 = record { locals = List._++_ g30 (List._++_ t31 t2); slots = List._∷_ (Row.lease (κs .0) (qs .0)) (List._∷_ (Row.lease (κs .1 .0) (qs .1 .0)) (List._∷_ (Row.lease (κs .1 .1 .0) (qs .1 .1 .0)) (List._∷_ (Row.lease (κs .1 .1 .1 .0) (qs .1 .1 .1 .0)) (List._∷_ (Row.lease (κs .1 .1 .1 .1 .0) (qs .1 .1 .1 .1 .0)) (List._∷_ (Row.lease (κs .1 .1 .1 .1 .1 .0) (qs .1 .1 .1 .1 .1 .0)) (List._∷_ Row.off (List._∷_ Row.off (List._∷_ Row.off (List._∷_ Row.off (List._∷_ Row.off (List._∷_ Row.off (List._∷_ Row.alive (List._∷_ Row.alive (List._∷_ Row.off (List._∷_ Row.off (List._∷_ Row.off (List._∷_ Row.off (List._∷_ Row.off List.[])))))))))))))))))) }
+        G43 = record { locals = List._++_ g29 (List._++_ t30 t2); slots = List._∷_ (Row.lease (κs .0) (qs .0)) (List._∷_ (Row.lease (κs .1 .0) (qs .1 .0)) (List._∷_ (Row.lease (κs .1 .1 .0) (qs .1 .1 .0)) (List._∷_ (Row.lease (κs .1 .1 .1 .0) (qs .1 .1 .1 .0)) (List._∷_ (Row.lease (κs .1 .1 .1 .1 .0) (qs .1 .1 .1 .1 .0)) (List._∷_ (Row.lease (κs .1 .1 .1 .1 .1 .0) (qs .1 .1 .1 .1 .1 .0)) (List._∷_ Row.off (List._∷_ Row.off (List._∷_ Row.off (List._∷_ Row.off (List._∷_ Row.off (List._∷_ Row.off (List._∷_ Row.dead (List._∷_ Row.alive (List._∷_ Row.off (List._∷_ Row.off (List._∷_ Row.off (List._∷_ Row.off (List._∷_ Row.off List.[])))))))))))))))))) }
 
         abbrev G44 : Row.Cx
-        G44 = record { locals = List._++_ g30 (List._++_ t31 t2); slots = List._∷_ (Row.lease (κs .0) (qs .0)) (List._∷_ (Row.lease (κs .1 .0) (qs .1 .0)) (List._∷_ (Row.lease (κs .1 .1 .0) (qs .1 .1 .0)) (List._∷_ (Row.lease (κs .1 .1 .1 .0) (qs .1 .1 .1 .0)) (List._∷_ (Row.lease (κs .1 .1 .1 .1 .0) (qs .1 .1 .1 .1 .0)) (List._∷_ (Row.lease (κs .1 .1 .1 .1 .1 .0) (qs .1 .1 .1 .1 .1 .0)) (List._∷_ Row.off (List._∷_ Row.off (List._∷_ Row.off (List._∷_ Row.off (List._∷_ Row.off (List._∷_ Row.off (List._∷_ Row.dead (List._∷_ Row.alive (List._∷_ Row.off (List._∷_ Row.off (List._∷_ Row.off (List._∷_ Row.off (List._∷_ Row.off List.[])))))))))))))))))) }
+        G44 = record { locals = List._++_ g31 (List._++_ t32 t2); slots = List._∷_ (Row.lease (κs .0) (qs .0)) (List._∷_ (Row.lease (κs .1 .0) (qs .1 .0)) (List._∷_ (Row.lease (κs .1 .1 .0) (qs .1 .1 .0)) (List._∷_ (Row.lease (κs .1 .1 .1 .0) (qs .1 .1 .1 .0)) (List._∷_ (Row.lease (κs .1 .1 .1 .1 .0) (qs .1 .1 .1 .1 .0)) (List._∷_ (Row.lease (κs .1 .1 .1 .1 .1 .0) (qs .1 .1 .1 .1 .1 .0)) (List._∷_ (Row.lease (κs .1 .1 .1 .1 .1 .1 .0) (qs .1 .1 .1 .1 .1 .1 .0)) (List._∷_ Row.off (List._∷_ Row.off (List._∷_ Row.off (List._∷_ Row.off (List._∷_ Row.off (List._∷_ Row.dead (List._∷_ Row.alive (List._∷_ Row.off (List._∷_ Row.off (List._∷_ Row.off (List._∷_ Row.off (List._∷_ Row.off List.[])))))))))))))))))) }
 
         abbrev G45 : Row.Cx
-        G45 = record { locals = List._++_ g32 (List._++_ t33 t2); slots = List._∷_ (Row.lease (κs .0) (qs .0)) (List._∷_ (Row.lease (κs .1 .0) (qs .1 .0)) (List._∷_ (Row.lease (κs .1 .1 .0) (qs .1 .1 .0)) (List._∷_ (Row.lease (κs .1 .1 .1 .0) (qs .1 .1 .1 .0)) (List._∷_ (Row.lease (κs .1 .1 .1 .1 .0) (qs .1 .1 .1 .1 .0)) (List._∷_ (Row.lease (κs .1 .1 .1 .1 .1 .0) (qs .1 .1 .1 .1 .1 .0)) (List._∷_ (Row.lease (κs .1 .1 .1 .1 .1 .1 .0) (qs .1 .1 .1 .1 .1 .1 .0)) (List._∷_ Row.off (List._∷_ Row.off (List._∷_ Row.off (List._∷_ Row.off (List._∷_ Row.off (List._∷_ Row.dead (List._∷_ Row.alive (List._∷_ Row.off (List._∷_ Row.off (List._∷_ Row.off (List._∷_ Row.off (List._∷_ Row.off List.[])))))))))))))))))) }
+        G45 = record { locals = List._++_ g31 (List._++_ t32 t2); slots = List._∷_ (Row.lease (κs .0) (qs .0)) (List._∷_ (Row.lease (κs .1 .0) (qs .1 .0)) (List._∷_ (Row.lease (κs .1 .1 .0) (qs .1 .1 .0)) (List._∷_ (Row.lease (κs .1 .1 .1 .0) (qs .1 .1 .1 .0)) (List._∷_ (Row.lease (κs .1 .1 .1 .1 .0) (qs .1 .1 .1 .1 .0)) (List._∷_ (Row.lease (κs .1 .1 .1 .1 .1 .0) (qs .1 .1 .1 .1 .1 .0)) (List._∷_ (Row.lease (κs .1 .1 .1 .1 .1 .1 .0) (qs .1 .1 .1 .1 .1 .1 .0)) (List._∷_ Row.off (List._∷_ Row.off (List._∷_ Row.off (List._∷_ Row.off (List._∷_ Row.off (List._∷_ Row.dead (List._∷_ Row.alive (List._∷_ Row.off (List._∷_ Row.off (List._∷_ Row.off (List._∷_ Row.off (List._∷_ Row.off List.[])))))))))))))))))) }
 
         abbrev G46 : Row.Cx
-        G46 = record { locals = List._++_ g32 (List._++_ t33 t2); slots = List._∷_ (Row.lease (κs .0) (qs .0)) (List._∷_ (Row.lease (κs .1 .0) (qs .1 .0)) (List._∷_ (Row.lease (κs .1 .1 .0) (qs .1 .1 .0)) (List._∷_ (Row.lease (κs .1 .1 .1 .0) (qs .1 .1 .1 .0)) (List._∷_ (Row.lease (κs .1 .1 .1 .1 .0) (qs .1 .1 .1 .1 .0)) (List._∷_ (Row.lease (κs .1 .1 .1 .1 .1 .0) (qs .1 .1 .1 .1 .1 .0)) (List._∷_ (Row.lease (κs .1 .1 .1 .1 .1 .1 .0) (qs .1 .1 .1 .1 .1 .1 .0)) (List._∷_ Row.off (List._∷_ Row.off (List._∷_ Row.off (List._∷_ Row.off (List._∷_ Row.off (List._∷_ Row.dead (List._∷_ Row.alive (List._∷_ Row.off (List._∷_ Row.off (List._∷_ Row.off (List._∷_ Row.off (List._∷_ Row.off List.[])))))))))))))))))) }
+        G46 = record { locals = List._++_ g31 (List._++_ t32 t2); slots = List._∷_ (Row.lease (κs .0) (qs .0)) (List._∷_ (Row.lease (κs .1 .0) (qs .1 .0)) (List._∷_ (Row.lease (κs .1 .1 .0) (qs .1 .1 .0)) (List._∷_ (Row.lease (κs .1 .1 .1 .0) (qs .1 .1 .1 .0)) (List._∷_ (Row.lease (κs .1 .1 .1 .1 .0) (qs .1 .1 .1 .1 .0)) (List._∷_ (Row.lease (κs .1 .1 .1 .1 .1 .0) (qs .1 .1 .1 .1 .1 .0)) (List._∷_ (Row.lease (κs .1 .1 .1 .1 .1 .1 .0) (qs .1 .1 .1 .1 .1 .1 .0)) (List._∷_ Row.off (List._∷_ Row.off (List._∷_ Row.off (List._∷_ Row.off (List._∷_ Row.off (List._∷_ Row.off (List._∷_ Row.alive (List._∷_ Row.off (List._∷_ Row.off (List._∷_ Row.off (List._∷_ Row.off (List._∷_ Row.off List.[])))))))))))))))))) }
 
         abbrev G47 : Row.Cx
-        G47 = record { locals = List._++_ g32 (List._++_ t33 t2); slots = List._∷_ (Row.lease (κs .0) (qs .0)) (List._∷_ (Row.lease (κs .1 .0) (qs .1 .0)) (List._∷_ (Row.lease (κs .1 .1 .0) (qs .1 .1 .0)) (List._∷_ (Row.lease (κs .1 .1 .1 .0) (qs .1 .1 .1 .0)) (List._∷_ (Row.lease (κs .1 .1 .1 .1 .0) (qs .1 .1 .1 .1 .0)) (List._∷_ (Row.lease (κs .1 .1 .1 .1 .1 .0) (qs .1 .1 .1 .1 .1 .0)) (List._∷_ (Row.lease (κs .1 .1 .1 .1 .1 .1 .0) (qs .1 .1 .1 .1 .1 .1 .0)) (List._∷_ Row.off (List._∷_ Row.off (List._∷_ Row.off (List._∷_ Row.off (List._∷_ Row.off (List._∷_ Row.off (List._∷_ Row.alive (List._∷_ Row.off (List._∷_ Row.off (List._∷_ Row.off (List._∷_ Row.off (List._∷_ Row.off List.[])))))))))))))))))) }
+        G47 = record { locals = List._++_ g31 (List._++_ t32 t2); slots = List._∷_ (Row.lease (κs .0) (qs .0)) (List._∷_ (Row.lease (κs .1 .0) (qs .1 .0)) (List._∷_ (Row.lease (κs .1 .1 .0) (qs .1 .1 .0)) (List._∷_ (Row.lease (κs .1 .1 .1 .0) (qs .1 .1 .1 .0)) (List._∷_ (Row.lease (κs .1 .1 .1 .1 .0) (qs .1 .1 .1 .1 .0)) (List._∷_ (Row.lease (κs .1 .1 .1 .1 .1 .0) (qs .1 .1 .1 .1 .1 .0)) (List._∷_ (Row.lease (κs .1 .1 .1 .1 .1 .1 .0) (qs .1 .1 .1 .1 .1 .1 .0)) (List._∷_ Row.off (List._∷_ Row.off (List._∷_ Row.off (List._∷_ Row.off (List._∷_ Row.off (List._∷_ Row.off (List._∷_ Row.dead (List._∷_ Row.off (List._∷_ Row.off (List._∷_ Row.off (List._∷_ Row.off (List._∷_ Row.off List.[])))))))))))))))))) }
 
         abbrev G48 : Row.Cx
-        G48 = record { locals = List._++_ g32 (List._++_ t33 t2); slots = List._∷_ (Row.lease (κs .0) (qs .0)) (List._∷_ (Row.lease (κs .1 .0) (qs .1 .0)) (List._∷_ (Row.lease (κs .1 .1 .0) (qs .1 .1 .0)) (List._∷_ (Row.lease (κs .1 .1 .1 .0) (qs .1 .1 .1 .0)) (List._∷_ (Row.lease (κs .1 .1 .1 .1 .0) (qs .1 .1 .1 .1 .0)) (List._∷_ (Row.lease (κs .1 .1 .1 .1 .1 .0) (qs .1 .1 .1 .1 .1 .0)) (List._∷_ (Row.lease (κs .1 .1 .1 .1 .1 .1 .0) (qs .1 .1 .1 .1 .1 .1 .0)) (List._∷_ Row.off (List._∷_ Row.off (List._∷_ Row.off (List._∷_ Row.off (List._∷_ Row.off (List._∷_ Row.off (List._∷_ Row.dead (List._∷_ Row.off (List._∷_ Row.off (List._∷_ Row.off (List._∷_ Row.off (List._∷_ Row.off List.[])))))))))))))))))) }
+        G48 = record { locals = List._++_ t33 (List._++_ t1 t2); slots = List._∷_ (Row.lease (κs .0) (qs .0)) (List._∷_ (Row.lease (κs .1 .0) (qs .1 .0)) (List._∷_ (Row.lease (κs .1 .1 .0) (qs .1 .1 .0)) (List._∷_ (Row.lease (κs .1 .1 .1 .0) (qs .1 .1 .1 .0)) (List._∷_ (Row.lease (κs .1 .1 .1 .1 .0) (qs .1 .1 .1 .1 .0)) (List._∷_ (Row.lease (κs .1 .1 .1 .1 .1 .0) (qs .1 .1 .1 .1 .1 .0)) (List._∷_ (Row.lease (κs .1 .1 .1 .1 .1 .1 .0) (qs .1 .1 .1 .1 .1 .1 .0)) (List._∷_ (Row.lease (κs .1 .1 .1 .1 .1 .1 .1 .0) (qs .1 .1 .1 .1 .1 .1 .1 .0)) (List._∷_ Row.off (List._∷_ Row.off (List._∷_ Row.off (List._∷_ Row.off (List._∷_ Row.off (List._∷_ Row.dead (List._∷_ Row.off (List._∷_ Row.off (List._∷_ Row.off (List._∷_ Row.off (List._∷_ Row.off List.[])))))))))))))))))) }
 
         abbrev G49 : Row.Cx
-        G49 = record { locals = List._++_ t34 (List._++_ t1 t2); slots = List._∷_ (Row.lease (κs .0) (qs .0)) (List._∷_ (Row.lease (κs .1 .0) (qs .1 .0)) (List._∷_ (Row.lease (κs .1 .1 .0) (qs .1 .1 .0)) (List._∷_ (Row.lease (κs .1 .1 .1 .0) (qs .1 .1 .1 .0)) (List._∷_ (Row.lease (κs .1 .1 .1 .1 .0) (qs .1 .1 .1 .1 .0)) (List._∷_ (Row.lease (κs .1 .1 .1 .1 .1 .0) (qs .1 .1 .1 .1 .1 .0)) (List._∷_ (Row.lease (κs .1 .1 .1 .1 .1 .1 .0) (qs .1 .1 .1 .1 .1 .1 .0)) (List._∷_ (Row.lease (κs .1 .1 .1 .1 .1 .1 .1 .0) (qs .1 .1 .1 .1 .1 .1 .1 .0)) (List._∷_ Row.off (List._∷_ Row.off (List._∷_ Row.off (List._∷_ Row.off (List._∷_ Row.off (List._∷_ Row.dead (List._∷_ Row.off (List._∷_ Row.off (List._∷_ Row.off (List._∷_ Row.off (List._∷_ Row.off List.[])))))))))))))))))) }
+        G49 = record { locals = List._++_ t33 (List._++_ t1 t2); slots = List._∷_ (Row.lease (κs .0) (qs .0)) (List._∷_ (Row.lease (κs .1 .0) (qs .1 .0)) (List._∷_ (Row.lease (κs .1 .1 .0) (qs .1 .1 .0)) (List._∷_ (Row.lease (κs .1 .1 .1 .0) (qs .1 .1 .1 .0)) (List._∷_ (Row.lease (κs .1 .1 .1 .1 .0) (qs .1 .1 .1 .1 .0)) (List._∷_ (Row.lease (κs .1 .1 .1 .1 .1 .0) (qs .1 .1 .1 .1 .1 .0)) (List._∷_ (Row.lease (κs .1 .1 .1 .1 .1 .1 .0) (qs .1 .1 .1 .1 .1 .1 .0)) (List._∷_ (Row.lease (κs .1 .1 .1 .1 .1 .1 .1 .0) (qs .1 .1 .1 .1 .1 .1 .1 .0)) (List._∷_ Row.off (List._∷_ Row.off (List._∷_ Row.off (List._∷_ Row.off (List._∷_ Row.off (List._∷_ Row.dead (List._∷_ Row.off (List._∷_ Row.off (List._∷_ Row.off (List._∷_ Row.off (List._∷_ Row.off List.[])))))))))))))))))) }
 
         abbrev G50 : Row.Cx
-        G50 = record { locals = List._++_ t34 (List._++_ t1 t2); slots = List._∷_ (Row.lease (κs .0) (qs .0)) (List._∷_ (Row.lease (κs .1 .0) (qs .1 .0)) (List._∷_ (Row.lease (κs .1 .1 .0) (qs .1 .1 .0)) (List._∷_ (Row.lease (κs .1 .1 .1 .0) (qs .1 .1 .1 .0)) (List._∷_ (Row.lease (κs .1 .1 .1 .1 .0) (qs .1 .1 .1 .1 .0)) (List._∷_ (Row.lease (κs .1 .1 .1 .1 .1 .0) (qs .1 .1 .1 .1 .1 .0)) (List._∷_ (Row.lease (κs .1 .1 .1 .1 .1 .1 .0) (qs .1 .1 .1 .1 .1 .1 .0)) (List._∷_ (Row.lease (κs .1 .1 .1 .1 .1 .1 .1 .0) (qs .1 .1 .1 .1 .1 .1 .1 .0)) (List._∷_ Row.off (List._∷_ Row.off (List._∷_ Row.off (List._∷_ Row.off (List._∷_ Row.off (List._∷_ Row.dead (List._∷_ Row.off (List._∷_ Row.off (List._∷_ Row.off (List._∷_ Row.off (List._∷_ Row.off List.[])))))))))))))))))) }
+        G50 = record { locals = List._++_ t33 (List._++_ t1 t2); slots = List._∷_ (Row.lease (κs .0) (qs .0)) (List._∷_ (Row.lease (κs .1 .0) (qs .1 .0)) (List._∷_ (Row.lease (κs .1 .1 .0) (qs .1 .1 .0)) (List._∷_ (Row.lease (κs .1 .1 .1 .0) (qs .1 .1 .1 .0)) (List._∷_ (Row.lease (κs .1 .1 .1 .1 .0) (qs .1 .1 .1 .1 .0)) (List._∷_ (Row.lease (κs .1 .1 .1 .1 .1 .0) (qs .1 .1 .1 .1 .1 .0)) (List._∷_ (Row.lease (κs .1 .1 .1 .1 .1 .1 .0) (qs .1 .1 .1 .1 .1 .1 .0)) (List._∷_ (Row.lease (κs .1 .1 .1 .1 .1 .1 .1 .0) (qs .1 .1 .1 .1 .1 .1 .1 .0)) (List._∷_ Row.off (List._∷_ Row.off (List._∷_ Row.off (List._∷_ Row.off (List._∷_ Row.off (List._∷_ Row.off (List._∷_ Row.off (List._∷_ Row.off (List._∷_ Row.off (List._∷_ Row.off (List._∷_ Row.off List.[])))))))))))))))))) }
 
         abbrev G51 : Row.Cx
         G51 = record { locals = List._++_ t34 (List._++_ t1 t2); slots = List._∷_ (Row.lease (κs .0) (qs .0)) (List._∷_ (Row.lease (κs .1 .0) (qs .1 .0)) (List._∷_ (Row.lease (κs .1 .1 .0) (qs .1 .1 .0)) (List._∷_ (Row.lease (κs .1 .1 .1 .0) (qs .1 .1 .1 .0)) (List._∷_ (Row.lease (κs .1 .1 .1 .1 .0) (qs .1 .1 .1 .1 .0)) (List._∷_ (Row.lease (κs .1 .1 .1 .1 .1 .0) (qs .1 .1 .1 .1 .1 .0)) (List._∷_ (Row.lease (κs .1 .1 .1 .1 .1 .1 .0) (qs .1 .1 .1 .1 .1 .1 .0)) (List._∷_ (Row.lease (κs .1 .1 .1 .1 .1 .1 .1 .0) (qs .1 .1 .1 .1 .1 .1 .1 .0)) (List._∷_ Row.off (List._∷_ Row.off (List._∷_ Row.off (List._∷_ Row.off (List._∷_ Row.off (List._∷_ Row.off (List._∷_ Row.off (List._∷_ Row.off (List._∷_ Row.off (List._∷_ Row.off (List._∷_ Row.off List.[])))))))))))))))))) }
 
         abbrev G52 : Row.Cx
-        G52 = record { locals = List._++_ t35 (List._++_ t1 t2); slots = List._∷_ (Row.lease (κs .0) (qs .0)) (List._∷_ (Row.lease (κs .1 .0) (qs .1 .0)) (List._∷_ (Row.lease (κs .1 .1 .0) (qs .1 .1 .0)) (List._∷_ (Row.lease (κs .1 .1 .1 .0) (qs .1 .1 .1 .0)) (List._∷_ (Row.lease (κs .1 .1 .1 .1 .0) (qs .1 .1 .1 .1 .0)) (List._∷_ (Row.lease (κs .1 .1 .1 .1 .1 .0) (qs .1 .1 .1 .1 .1 .0)) (List._∷_ (Row.lease (κs .1 .1 .1 .1 .1 .1 .0) (qs .1 .1 .1 .1 .1 .1 .0)) (List._∷_ (Row.lease (κs .1 .1 .1 .1 .1 .1 .1 .0) (qs .1 .1 .1 .1 .1 .1 .1 .0)) (List._∷_ Row.off (List._∷_ Row.off (List._∷_ Row.off (List._∷_ Row.off (List._∷_ Row.off (List._∷_ Row.off (List._∷_ Row.off (List._∷_ Row.off (List._∷_ Row.off (List._∷_ Row.off (List._∷_ Row.off List.[])))))))))))))))))) }
+        G52 = record { locals = List._++_ t33 (List._++_ t1 t2); slots = List._∷_ (Row.lease (κs .0) (qs .0)) (List._∷_ (Row.lease (κs .1 .0) (qs .1 .0)) (List._∷_ (Row.lease (κs .1 .1 .0) (qs .1 .1 .0)) (List._∷_ (Row.lease (κs .1 .1 .1 .0) (qs .1 .1 .1 .0)) (List._∷_ (Row.lease (κs .1 .1 .1 .1 .0) (qs .1 .1 .1 .1 .0)) (List._∷_ (Row.lease (κs .1 .1 .1 .1 .1 .0) (qs .1 .1 .1 .1 .1 .0)) (List._∷_ (Row.lease (κs .1 .1 .1 .1 .1 .1 .0) (qs .1 .1 .1 .1 .1 .1 .0)) (List._∷_ (Row.lease (κs .1 .1 .1 .1 .1 .1 .1 .0) (qs .1 .1 .1 .1 .1 .1 .1 .0)) (List._∷_ Row.off (List._∷_ Row.off (List._∷_ Row.off (List._∷_ Row.off (List._∷_ Row.off (List._∷_ Row.off (List._∷_ Row.off (List._∷_ Row.off (List._∷_ Row.off (List._∷_ Row.off (List._∷_ Row.off List.[])))))))))))))))))) }
 
         abbrev G53 : Row.Cx
-        G53 = record { locals = List._++_ t34 (List._++_ t1 t2); slots = List._∷_ (Row.lease (κs .0) (qs .0)) (List._∷_ (Row.lease (κs .1 .0) (qs .1 .0)) (List._∷_ (Row.lease (κs .1 .1 .0) (qs .1 .1 .0)) (List._∷_ (Row.lease (κs .1 .1 .1 .0) (qs .1 .1 .1 .0)) (List._∷_ (Row.lease (κs .1 .1 .1 .1 .0) (qs .1 .1 .1 .1 .0)) (List._∷_ (Row.lease (κs .1 .1 .1 .1 .1 .0) (qs .1 .1 .1 .1 .1 .0)) (List._∷_ (Row.lease (κs .1 .1 .1 .1 .1 .1 .0) (qs .1 .1 .1 .1 .1 .1 .0)) (List._∷_ (Row.lease (κs .1 .1 .1 .1 .1 .1 .1 .0) (qs .1 .1 .1 .1 .1 .1 .1 .0)) (List._∷_ Row.off (List._∷_ Row.off (List._∷_ Row.off (List._∷_ Row.off (List._∷_ Row.off (List._∷_ Row.off (List._∷_ Row.off (List._∷_ Row.off (List._∷_ Row.off (List._∷_ Row.off (List._∷_ Row.off List.[])))))))))))))))))) }
+        G53 = record { locals = List._++_ t33 (List._++_ t35 t2); slots = List._∷_ (Row.lease (κs .0) (qs .0)) (List._∷_ (Row.lease (κs .1 .0) (qs .1 .0)) (List._∷_ (Row.lease (κs .1 .1 .0) (qs .1 .1 .0)) (List._∷_ (Row.lease (κs .1 .1 .1 .0) (qs .1 .1 .1 .0)) (List._∷_ (Row.lease (κs .1 .1 .1 .1 .0) (qs .1 .1 .1 .1 .0)) (List._∷_ (Row.lease (κs .1 .1 .1 .1 .1 .0) (qs .1 .1 .1 .1 .1 .0)) (List._∷_ (Row.lease (κs .1 .1 .1 .1 .1 .1 .0) (qs .1 .1 .1 .1 .1 .1 .0)) (List._∷_ (Row.lease (κs .1 .1 .1 .1 .1 .1 .1 .0) (qs .1 .1 .1 .1 .1 .1 .1 .0)) (List._∷_ Row.off (List._∷_ Row.off (List._∷_ Row.off (List._∷_ Row.off (List._∷_ Row.off (List._∷_ Row.off (List._∷_ Row.off (List._∷_ Row.off (List._∷_ Row.off (List._∷_ Row.off (List._∷_ Row.off List.[])))))))))))))))))) }
 
         abbrev G54 : Row.Cx
-        G54 = record { locals = List._++_ t34 (List._++_ t36 t2); slots = List._∷_ (Row.lease (κs .0) (qs .0)) (List._∷_ (Row.lease (κs .1 .0) (qs .1 .0)) (List._∷_ (Row.lease (κs .1 .1 .0) (qs .1 .1 .0)) (List._∷_ (Row.lease (κs .1 .1 .1 .0) (qs .1 .1 .1 .0)) (List._∷_ (Row.lease (κs .1 .1 .1 .1 .0) (qs .1 .1 .1 .1 .0)) (List._∷_ (Row.lease (κs .1 .1 .1 .1 .1 .0) (qs .1 .1 .1 .1 .1 .0)) (List._∷_ (Row.lease (κs .1 .1 .1 .1 .1 .1 .0) (qs .1 .1 .1 .1 .1 .1 .0)) (List._∷_ (Row.lease (κs .1 .1 .1 .1 .1 .1 .1 .0) (qs .1 .1 .1 .1 .1 .1 .1 .0)) (List._∷_ Row.off (List._∷_ Row.off (List._∷_ Row.off (List._∷_ Row.off (List._∷_ Row.off (List._∷_ Row.off (List._∷_ Row.off (List._∷_ Row.off (List._∷_ Row.off (List._∷_ Row.off (List._∷_ Row.off List.[])))))))))))))))))) }
+        G54 = record { locals = List._++_ t33 (List._++_ t1 t2); slots = List._∷_ (Row.lease (κs .0) (qs .0)) (List._∷_ (Row.lease (κs .1 .0) (qs .1 .0)) (List._∷_ (Row.lease (κs .1 .1 .0) (qs .1 .1 .0)) (List._∷_ (Row.lease (κs .1 .1 .1 .0) (qs .1 .1 .1 .0)) (List._∷_ (Row.lease (κs .1 .1 .1 .1 .0) (qs .1 .1 .1 .1 .0)) (List._∷_ (Row.lease (κs .1 .1 .1 .1 .1 .0) (qs .1 .1 .1 .1 .1 .0)) (List._∷_ (Row.lease (κs .1 .1 .1 .1 .1 .1 .0) (qs .1 .1 .1 .1 .1 .1 .0)) (List._∷_ (Row.lease (κs .1 .1 .1 .1 .1 .1 .1 .0) (qs .1 .1 .1 .1 .1 .1 .1 .0)) (List._∷_ Row.off (List._∷_ Row.off (List._∷_ Row.off (List._∷_ Row.off (List._∷_ Row.off (List._∷_ Row.off (List._∷_ Row.off (List._∷_ Row.off (List._∷_ Row.off (List._∷_ Row.off (List._∷_ Row.off List.[])))))))))))))))))) }
 
         abbrev G55 : Row.Cx
-        G55 = record { locals = List._++_ t34 (List._++_ t1 t2); slots = List._∷_ (Row.lease (κs .0) (qs .0)) (List._∷_ (Row.lease (κs .1 .0) (qs .1 .0)) (List._∷_ (Row.lease (κs .1 .1 .0) (qs .1 .1 .0)) (List._∷_ (Row.lease (κs .1 .1 .1 .0) (qs .1 .1 .1 .0)) (List._∷_ (Row.lease (κs .1 .1 .1 .1 .0) (qs .1 .1 .1 .1 .0)) (List._∷_ (Row.lease (κs .1 .1 .1 .1 .1 .0) (qs .1 .1 .1 .1 .1 .0)) (List._∷_ (Row.lease (κs .1 .1 .1 .1 .1 .1 .0) (qs .1 .1 .1 .1 .1 .1 .0)) (List._∷_ (Row.lease (κs .1 .1 .1 .1 .1 .1 .1 .0) (qs .1 .1 .1 .1 .1 .1 .1 .0)) (List._∷_ Row.off (List._∷_ Row.off (List._∷_ Row.off (List._∷_ Row.off (List._∷_ Row.off (List._∷_ Row.off (List._∷_ Row.off (List._∷_ Row.off (List._∷_ Row.off (List._∷_ Row.off (List._∷_ Row.off List.[])))))))))))))))))) }
+        G55 = record { locals = List._++_ t36 (List._++_ t35 t2); slots = List._∷_ (Row.lease (κs .0) (qs .0)) (List._∷_ (Row.lease (κs .1 .0) (qs .1 .0)) (List._∷_ (Row.lease (κs .1 .1 .0) (qs .1 .1 .0)) (List._∷_ (Row.lease (κs .1 .1 .1 .0) (qs .1 .1 .1 .0)) (List._∷_ (Row.lease (κs .1 .1 .1 .1 .0) (qs .1 .1 .1 .1 .0)) (List._∷_ (Row.lease (κs .1 .1 .1 .1 .1 .0) (qs .1 .1 .1 .1 .1 .0)) (List._∷_ (Row.lease (κs .1 .1 .1 .1 .1 .1 .0) (qs .1 .1 .1 .1 .1 .1 .0)) (List._∷_ (Row.lease (κs .1 .1 .1 .1 .1 .1 .1 .0) (qs .1 .1 .1 .1 .1 .1 .1 .0)) (List._∷_ Row.off (List._∷_ Row.off (List._∷_ Row.off (List._∷_ Row.off (List._∷_ Row.off (List._∷_ Row.off (List._∷_ Row.off (List._∷_ Row.off (List._∷_ Row.off (List._∷_ Row.off (List._∷_ Row.off List.[])))))))))))))))))) }
 
         abbrev G56 : Row.Cx
-        G56 = record { locals = List._++_ t37 (List._++_ t36 t2); slots = List._∷_ (Row.lease (κs .0) (qs .0)) (List._∷_ (Row.lease (κs .1 .0) (qs .1 .0)) (List._∷_ (Row.lease (κs .1 .1 .0) (qs .1 .1 .0)) (List._∷_ (Row.lease (κs .1 .1 .1 .0) (qs .1 .1 .1 .0)) (List._∷_ (Row.lease (κs .1 .1 .1 .1 .0) (qs .1 .1 .1 .1 .0)) (List._∷_ (Row.lease (κs .1 .1 .1 .1 .1 .0) (qs .1 .1 .1 .1 .1 .0)) (List._∷_ (Row.lease (κs .1 .1 .1 .1 .1 .1 .0) (qs .1 .1 .1 .1 .1 .1 .0)) (List._∷_ (Row.lease (κs .1 .1 .1 .1 .1 .1 .1 .0) (qs .1 .1 .1 .1 .1 .1 .1 .0)) (List._∷_ Row.off (List._∷_ Row.off (List._∷_ Row.off (List._∷_ Row.off (List._∷_ Row.off (List._∷_ Row.off (List._∷_ Row.off (List._∷_ Row.off (List._∷_ Row.off (List._∷_ Row.off (List._∷_ Row.off List.[])))))))))))))))))) }
+        G56 = record { locals = List._++_ t37 (List._++_ t35 t2); slots = List._∷_ (Row.lease (κs .0) (qs .0)) (List._∷_ (Row.lease (κs .1 .0) (qs .1 .0)) (List._∷_ (Row.lease (κs .1 .1 .0) (qs .1 .1 .0)) (List._∷_ (Row.lease (κs .1 .1 .1 .0) (qs .1 .1 .1 .0)) (List._∷_ (Row.lease (κs .1 .1 .1 .1 .0) (qs .1 .1 .1 .1 .0)) (List._∷_ (Row.lease (κs .1 .1 .1 .1 .1 .0) (qs .1 .1 .1 .1 .1 .0)) (List._∷_ (Row.lease (κs .1 .1 .1 .1 .1 .1 .0) (qs .1 .1 .1 .1 .1 .1 .0)) (List._∷_ (Row.lease (κs .1 .1 .1 .1 .1 .1 .1 .0) (qs .1 .1 .1 .1 .1 .1 .1 .0)) (List._∷_ Row.off (List._∷_ Row.off (List._∷_ Row.off (List._∷_ Row.off (List._∷_ Row.off (List._∷_ Row.off (List._∷_ Row.off (List._∷_ Row.off (List._∷_ Row.off (List._∷_ Row.off (List._∷_ Row.off List.[])))))))))))))))))) }
 
         abbrev G57 : Row.Cx
         G57 = record { locals = List._++_ t37 (List._++_ t1 t2); slots = List._∷_ (Row.lease (κs .0) (qs .0)) (List._∷_ (Row.lease (κs .1 .0) (qs .1 .0)) (List._∷_ (Row.lease (κs .1 .1 .0) (qs .1 .1 .0)) (List._∷_ (Row.lease (κs .1 .1 .1 .0) (qs .1 .1 .1 .0)) (List._∷_ (Row.lease (κs .1 .1 .1 .1 .0) (qs .1 .1 .1 .1 .0)) (List._∷_ (Row.lease (κs .1 .1 .1 .1 .1 .0) (qs .1 .1 .1 .1 .1 .0)) (List._∷_ (Row.lease (κs .1 .1 .1 .1 .1 .1 .0) (qs .1 .1 .1 .1 .1 .1 .0)) (List._∷_ (Row.lease (κs .1 .1 .1 .1 .1 .1 .1 .0) (qs .1 .1 .1 .1 .1 .1 .1 .0)) (List._∷_ Row.off (List._∷_ Row.off (List._∷_ Row.off (List._∷_ Row.off (List._∷_ Row.off (List._∷_ Row.off (List._∷_ Row.off (List._∷_ Row.off (List._∷_ Row.off (List._∷_ Row.off (List._∷_ Row.off List.[])))))))))))))))))) }
@@ -1553,10 +1566,10 @@ module _ (claims· : Claims) where
         G60 = record { locals = List._++_ t3 (List._++_ t1 t2); slots = List._∷_ (Row.lease (κs .0) (qs .0)) (List._∷_ (Row.lease (κs .1 .0) (qs .1 .0)) (List._∷_ (Row.lease (κs .1 .1 .0) (qs .1 .1 .0)) (List._∷_ (Row.lease (κs .1 .1 .1 .0) (qs .1 .1 .1 .0)) (List._∷_ (Row.lease (κs .1 .1 .1 .1 .0) (qs .1 .1 .1 .1 .0)) (List._∷_ (Row.lease (κs .1 .1 .1 .1 .1 .0) (qs .1 .1 .1 .1 .1 .0)) (List._∷_ (Row.lease (κs .1 .1 .1 .1 .1 .1 .0) (qs .1 .1 .1 .1 .1 .1 .0)) (List._∷_ (Row.lease (κs .1 .1 .1 .1 .1 .1 .1 .0) (qs .1 .1 .1 .1 .1 .1 .1 .0)) (List._∷_ Row.off (List._∷_ Row.off (List._∷_ Row.off (List._∷_ Row.off (List._∷_ Row.off (List._∷_ Row.off (List._∷_ Row.off (List._∷_ Row.off (List._∷_ Row.off (List._∷_ Row.off (List._∷_ Row.off List.[])))))))))))))))))) }
 
         abbrev G61 : Row.Cx
-        G61 = record { locals = List._++_ t34 (List._++_ t1 t2); slots = List._∷_ (Row.lease (κs .0) (qs .0)) (List._∷_ (Row.lease (κs .1 .0) (qs .1 .0)) (List._∷_ (Row.lease (κs .1 .1 .0) (qs .1 .1 .0)) (List._∷_ (Row.lease (κs .1 .1 .1 .0) (qs .1 .1 .1 .0)) (List._∷_ (Row.lease (κs .1 .1 .1 .1 .0) (qs .1 .1 .1 .1 .0)) (List._∷_ (Row.lease (κs .1 .1 .1 .1 .1 .0) (qs .1 .1 .1 .1 .1 .0)) (List._∷_ (Row.lease (κs .1 .1 .1 .1 .1 .1 .0) (qs .1 .1 .1 .1 .1 .1 .0)) (List._∷_ (Row.lease (κs .1 .1 .1 .1 .1 .1 .1 .0) (qs .1 .1 .1 .1 .1 .1 .1 .0)) (List._∷_ Row.off (List._∷_ Row.off (List._∷_ Row.off (List._∷_ Row.off (List._∷_ Row.off (List._∷_ Row.off (List._∷_ Row.off (List._∷_ Row.off (List._∷_ Row.off (List._∷_ Row.off (List._∷_ Row.off List.[])))))))))))))))))) }
+        G61 = record { locals = List._++_ t33 (List._++_ t1 t2); slots = List._∷_ (Row.lease (κs .0) (qs .0)) (List._∷_ (Row.lease (κs .1 .0) (qs .1 .0)) (List._∷_ (Row.lease (κs .1 .1 .0) (qs .1 .1 .0)) (List._∷_ (Row.lease (κs .1 .1 .1 .0) (qs .1 .1 .1 .0)) (List._∷_ (Row.lease (κs .1 .1 .1 .1 .0) (qs .1 .1 .1 .1 .0)) (List._∷_ (Row.lease (κs .1 .1 .1 .1 .1 .0) (qs .1 .1 .1 .1 .1 .0)) (List._∷_ (Row.lease (κs .1 .1 .1 .1 .1 .1 .0) (qs .1 .1 .1 .1 .1 .1 .0)) (List._∷_ (Row.lease (κs .1 .1 .1 .1 .1 .1 .1 .0) (qs .1 .1 .1 .1 .1 .1 .1 .0)) (List._∷_ Row.off (List._∷_ Row.off (List._∷_ Row.off (List._∷_ Row.off (List._∷_ Row.off (List._∷_ Row.off (List._∷_ Row.off (List._∷_ Row.off (List._∷_ Row.off (List._∷_ Row.off (List._∷_ Row.off List.[])))))))))))))))))) }
 
         abbrev G62 : Row.Cx
-        G62 = record { locals = List._++_ t34 (List._++_ t1 t2); slots = List._∷_ (Row.lease (κs .0) (qs .0)) (List._∷_ (Row.lease (κs .1 .0) (qs .1 .0)) (List._∷_ (Row.lease (κs .1 .1 .0) (qs .1 .1 .0)) (List._∷_ (Row.lease (κs .1 .1 .1 .0) (qs .1 .1 .1 .0)) (List._∷_ (Row.lease (κs .1 .1 .1 .1 .0) (qs .1 .1 .1 .1 .0)) (List._∷_ (Row.lease (κs .1 .1 .1 .1 .1 .0) (qs .1 .1 .1 .1 .1 .0)) (List._∷_ (Row.lease (κs .1 .1 .1 .1 .1 .1 .0) (qs .1 .1 .1 .1 .1 .1 .0)) (List._∷_ (Row.lease (κs .1 .1 .1 .1 .1 .1 .1 .0) (qs .1 .1 .1 .1 .1 .1 .1 .0)) (List._∷_ Row.off (List._∷_ Row.off (List._∷_ Row.off (List._∷_ Row.off (List._∷_ Row.off (List._∷_ Row.off (List._∷_ Row.alive (List._∷_ Row.off (List._∷_ Row.off (List._∷_ Row.off (List._∷_ Row.off List.[])))))))))))))))))) }
+        G62 = record { locals = List._++_ t33 (List._++_ t1 t2); slots = List._∷_ (Row.lease (κs .0) (qs .0)) (List._∷_ (Row.lease (κs .1 .0) (qs .1 .0)) (List._∷_ (Row.lease (κs .1 .1 .0) (qs .1 .1 .0)) (List._∷_ (Row.lease (κs .1 .1 .1 .0) (qs .1 .1 .1 .0)) (List._∷_ (Row.lease (κs .1 .1 .1 .1 .0) (qs .1 .1 .1 .1 .0)) (List._∷_ (Row.lease (κs .1 .1 .1 .1 .1 .0) (qs .1 .1 .1 .1 .1 .0)) (List._∷_ (Row.lease (κs .1 .1 .1 .1 .1 .1 .0) (qs .1 .1 .1 .1 .1 .1 .0)) (List._∷_ (Row.lease (κs .1 .1 .1 .1 .1 .1 .1 .0) (qs .1 .1 .1 .1 .1 .1 .1 .0)) (List._∷_ Row.off (List._∷_ Row.off (List._∷_ Row.off (List._∷_ Row.off (List._∷_ Row.off (List._∷_ Row.off (List._∷_ Row.alive (List._∷_ Row.off (List._∷_ Row.off (List._∷_ Row.off (List._∷_ Row.off List.[])))))))))))))))))) }
 
         abbrev G63 : Row.Cx
         G63 = record { locals = List._++_ g40 (List._++_ t41 t2); slots = List._∷_ (Row.lease (κs .0) (qs .0)) (List._∷_ (Row.lease (κs .1 .0) (qs .1 .0)) (List._∷_ (Row.lease (κs .1 .1 .0) (qs .1 .1 .0)) (List._∷_ Row.off (List._∷_ (Row.lease (κs .1 .1 .1 .1 .0) (qs .1 .1 .1 .1 .0)) (List._∷_ (Row.lease (κs .1 .1 .1 .1 .1 .0) (qs .1 .1 .1 .1 .1 .0)) (List._∷_ (Row.lease (κs .1 .1 .1 .1 .1 .1 .0) (qs .1 .1 .1 .1 .1 .1 .0)) (List._∷_ (Row.lease (κs .1 .1 .1 .1 .1 .1 .1 .0) (qs .1 .1 .1 .1 .1 .1 .1 .0)) (List._∷_ Row.off (List._∷_ Row.off (List._∷_ Row.off (List._∷_ Row.off (List._∷_ Row.off (List._∷_ Row.off (List._∷_ Row.alive (List._∷_ Row.off (List._∷_ Row.off (List._∷_ Row.off (List._∷_ Row.off List.[])))))))))))))))))) }
@@ -1625,64 +1638,67 @@ module _ (claims· : Claims) where
         G84 = record { locals = List._++_ g60 (List._++_ t1 t2); slots = List._∷_ (Row.lease (κs .0) (qs .0)) (List._∷_ (Row.lease (κs .1 .0) (qs .1 .0)) (List._∷_ (Row.lease (κs .1 .1 .0) (qs .1 .1 .0)) (List._∷_ Row.off (List._∷_ Row.off (List._∷_ Row.off (List._∷_ Row.off (List._∷_ Row.off (List._∷_ Row.off (List._∷_ Row.off (List._∷_ Row.off (List._∷_ Row.off (List._∷_ Row.off (List._∷_ Row.off (List._∷_ Row.alive (List._∷_ Row.alive (List._∷_ Row.alive (List._∷_ Row.alive (List._∷_ Row.alive List.[])))))))))))))))))) }
 
         abbrev G85 : Row.Cx
-        G85 = record { locals = List._++_ g60 (List._++_ t1 t2); slots = List._∷_ (Row.lease (κs .0) (qs .0)) (List._∷_ (Row.lease (κs .1 .0) (qs .1 .0)) (List._∷_ (Row.lease (κs .1 .1 .0) (qs .1 .1 .0)) (List._∷_ Row.off (List._∷_ Row.off (List._∷_ Row.off (List._∷_ Row.off (List._∷_ Row.off (List._∷_ Row.off (List._∷_ Row.off (List._∷_ Row.off (List._∷_ Row.off (List._∷_ Row.off (List._∷_ Row.off (List._∷_ Row.dead (List._∷_ Row.alive (List._∷_ Row.alive (List._∷_ Row.alive (List._∷_ Row.alive List.[])))))))))))))))))) }
+        G85 = record { locals = List._++_ g61 (List._++_ t1 t2); slots = List._∷_ (Row.lease (κs .0) (qs .0)) (List._∷_ (Row.lease (κs .1 .0) (qs .1 .0)) (List._∷_ (Row.lease (κs .1 .1 .0) (qs .1 .1 .0)) (List._∷_ Row.off (List._∷_ Row.off (List._∷_ Row.off (List._∷_ Row.off (List._∷_ Row.off (List._∷_ Row.off (List._∷_ Row.off (List._∷_ Row.off (List._∷_ Row.off (List._∷_ Row.off (List._∷_ Row.off (List._∷_ Row.alive (List._∷_ Row.alive (List._∷_ Row.alive (List._∷_ Row.alive (List._∷_ Row.alive List.[])))))))))))))))))) }
 
         abbrev G86 : Row.Cx
-        G86 = record { locals = List._++_ g61 (List._++_ t1 t2); slots = List._∷_ (Row.lease (κs .0) (qs .0)) (List._∷_ (Row.lease (κs .1 .0) (qs .1 .0)) (List._∷_ (Row.lease (κs .1 .1 .0) (qs .1 .1 .0)) (List._∷_ (Row.lease (κs .1 .1 .1 .0) (qs .1 .1 .1 .0)) (List._∷_ Row.off (List._∷_ Row.off (List._∷_ Row.off (List._∷_ Row.off (List._∷_ Row.off (List._∷_ Row.off (List._∷_ Row.off (List._∷_ Row.off (List._∷_ Row.off (List._∷_ Row.off (List._∷_ Row.dead (List._∷_ Row.alive (List._∷_ Row.alive (List._∷_ Row.alive (List._∷_ Row.alive List.[])))))))))))))))))) }
+        G86 = record { locals = List._++_ g61 (List._++_ t1 t2); slots = List._∷_ (Row.lease (κs .0) (qs .0)) (List._∷_ (Row.lease (κs .1 .0) (qs .1 .0)) (List._∷_ (Row.lease (κs .1 .1 .0) (qs .1 .1 .0)) (List._∷_ Row.off (List._∷_ Row.off (List._∷_ Row.off (List._∷_ Row.off (List._∷_ Row.off (List._∷_ Row.off (List._∷_ Row.off (List._∷_ Row.off (List._∷_ Row.off (List._∷_ Row.off (List._∷_ Row.off (List._∷_ Row.dead (List._∷_ Row.alive (List._∷_ Row.alive (List._∷_ Row.alive (List._∷_ Row.alive List.[])))))))))))))))))) }
 
         abbrev G87 : Row.Cx
-        G87 = record { locals = List._++_ g61 (List._++_ t1 t2); slots = List._∷_ (Row.lease (κs .0) (qs .0)) (List._∷_ (Row.lease (κs .1 .0) (qs .1 .0)) (List._∷_ (Row.lease (κs .1 .1 .0) (qs .1 .1 .0)) (List._∷_ (Row.lease (κs .1 .1 .1 .0) (qs .1 .1 .1 .0)) (List._∷_ Row.off (List._∷_ Row.off (List._∷_ Row.off (List._∷_ Row.off (List._∷_ Row.off (List._∷_ Row.off (List._∷_ Row.off (List._∷_ Row.off (List._∷_ Row.off (List._∷_ Row.off (List._∷_ Row.off (List._∷_ Row.alive (List._∷_ Row.alive (List._∷_ Row.alive (List._∷_ Row.alive List.[])))))))))))))))))) }
+        G87 = record { locals = List._++_ g62 (List._++_ t1 t2); slots = List._∷_ (Row.lease (κs .0) (qs .0)) (List._∷_ (Row.lease (κs .1 .0) (qs .1 .0)) (List._∷_ (Row.lease (κs .1 .1 .0) (qs .1 .1 .0)) (List._∷_ (Row.lease (κs .1 .1 .1 .0) (qs .1 .1 .1 .0)) (List._∷_ Row.off (List._∷_ Row.off (List._∷_ Row.off (List._∷_ Row.off (List._∷_ Row.off (List._∷_ Row.off (List._∷_ Row.off (List._∷_ Row.off (List._∷_ Row.off (List._∷_ Row.off (List._∷_ Row.dead (List._∷_ Row.alive (List._∷_ Row.alive (List._∷_ Row.alive (List._∷_ Row.alive List.[])))))))))))))))))) }
 
         abbrev G88 : Row.Cx
-        G88 = record { locals = List._++_ g61 (List._++_ t1 t2); slots = List._∷_ (Row.lease (κs .0) (qs .0)) (List._∷_ (Row.lease (κs .1 .0) (qs .1 .0)) (List._∷_ (Row.lease (κs .1 .1 .0) (qs .1 .1 .0)) (List._∷_ (Row.lease (κs .1 .1 .1 .0) (qs .1 .1 .1 .0)) (List._∷_ Row.off (List._∷_ Row.off (List._∷_ Row.off (List._∷_ Row.off (List._∷_ Row.off (List._∷_ Row.off (List._∷_ Row.off (List._∷_ Row.off (List._∷_ Row.off (List._∷_ Row.off (List._∷_ Row.off (List._∷_ Row.dead (List._∷_ Row.alive (List._∷_ Row.alive (List._∷_ Row.alive List.[])))))))))))))))))) }
+        G88 = record { locals = List._++_ g62 (List._++_ t1 t2); slots = List._∷_ (Row.lease (κs .0) (qs .0)) (List._∷_ (Row.lease (κs .1 .0) (qs .1 .0)) (List._∷_ (Row.lease (κs .1 .1 .0) (qs .1 .1 .0)) (List._∷_ (Row.lease (κs .1 .1 .1 .0) (qs .1 .1 .1 .0)) (List._∷_ Row.off (List._∷_ Row.off (List._∷_ Row.off (List._∷_ Row.off (List._∷_ Row.off (List._∷_ Row.off (List._∷_ Row.off (List._∷_ Row.off (List._∷_ Row.off (List._∷_ Row.off (List._∷_ Row.off (List._∷_ Row.alive (List._∷_ Row.alive (List._∷_ Row.alive (List._∷_ Row.alive List.[])))))))))))))))))) }
 
         abbrev G89 : Row.Cx
-        G89 = record { locals = List._++_ g62 (List._++_ t1 t2); slots = List._∷_ (Row.lease (κs .0) (qs .0)) (List._∷_ (Row.lease (κs .1 .0) (qs .1 .0)) (List._∷_ (Row.lease (κs .1 .1 .0) (qs .1 .1 .0)) (List._∷_ (Row.lease (κs .1 .1 .1 .0) (qs .1 .1 .1 .0)) (List._∷_ (Row.lease (κs .1 .1 .1 .1 .0) (qs .1 .1 .1 .1 .0)) (List._∷_ Row.off (List._∷_ Row.off (List._∷_ Row.off (List._∷_ Row.off (List._∷_ Row.off (List._∷_ Row.off (List._∷_ Row.off (List._∷_ Row.off (List._∷_ Row.off (List._∷_ Row.off (List._∷_ Row.dead (List._∷_ Row.alive (List._∷_ Row.alive (List._∷_ Row.alive List.[])))))))))))))))))) }
+        G89 = record { locals = List._++_ g62 (List._++_ t1 t2); slots = List._∷_ (Row.lease (κs .0) (qs .0)) (List._∷_ (Row.lease (κs .1 .0) (qs .1 .0)) (List._∷_ (Row.lease (κs .1 .1 .0) (qs .1 .1 .0)) (List._∷_ (Row.lease (κs .1 .1 .1 .0) (qs .1 .1 .1 .0)) (List._∷_ Row.off (List._∷_ Row.off (List._∷_ Row.off (List._∷_ Row.off (List._∷_ Row.off (List._∷_ Row.off (List._∷_ Row.off (List._∷_ Row.off (List._∷_ Row.off (List._∷_ Row.off (List._∷_ Row.off (List._∷_ Row.dead (List._∷_ Row.alive (List._∷_ Row.alive (List._∷_ Row.alive List.[])))))))))))))))))) }
 
         abbrev G90 : Row.Cx
-        G90 = record { locals = List._++_ g62 (List._++_ t1 t2); slots = List._∷_ (Row.lease (κs .0) (qs .0)) (List._∷_ (Row.lease (κs .1 .0) (qs .1 .0)) (List._∷_ (Row.lease (κs .1 .1 .0) (qs .1 .1 .0)) (List._∷_ (Row.lease (κs .1 .1 .1 .0) (qs .1 .1 .1 .0)) (List._∷_ (Row.lease (κs .1 .1 .1 .1 .0) (qs .1 .1 .1 .1 .0)) (List._∷_ Row.off (List._∷_ Row.off (List._∷_ Row.off (List._∷_ Row.off (List._∷_ Row.off (List._∷_ Row.off (List._∷_ Row.off (List._∷_ Row.off (List._∷_ Row.off (List._∷_ Row.off (List._∷_ Row.off (List._∷_ Row.alive (List._∷_ Row.alive (List._∷_ Row.alive List.[])))))))))))))))))) }
+        G90 = record { locals = List._++_ g63 (List._++_ t1 t2); slots = List._∷_ (Row.lease (κs .0) (qs .0)) (List._∷_ (Row.lease (κs .1 .0) (qs .1 .0)) (List._∷_ (Row.lease (κs .1 .1 .0) (qs .1 .1 .0)) (List._∷_ (Row.lease (κs .1 .1 .1 .0) (qs .1 .1 .1 .0)) (List._∷_ (Row.lease (κs .1 .1 .1 .1 .0) (qs .1 .1 .1 .1 .0)) (List._∷_ Row.off (List._∷_ Row.off (List._∷_ Row.off (List._∷_ Row.off (List._∷_ Row.off (List._∷_ Row.off (List._∷_ Row.off (List._∷_ Row.off (List._∷_ Row.off (List._∷_ Row.off (List._∷_ Row.dead (List._∷_ Row.alive (List._∷_ Row.alive (List._∷_ Row.alive List.[])))))))))))))))))) }
 
         abbrev G91 : Row.Cx
-        G91 = record { locals = List._++_ g62 (List._++_ t1 t2); slots = List._∷_ (Row.lease (κs .0) (qs .0)) (List._∷_ (Row.lease (κs .1 .0) (qs .1 .0)) (List._∷_ (Row.lease (κs .1 .1 .0) (qs .1 .1 .0)) (List._∷_ (Row.lease (κs .1 .1 .1 .0) (qs .1 .1 .1 .0)) (List._∷_ (Row.lease (κs .1 .1 .1 .1 .0) (qs .1 .1 .1 .1 .0)) (List._∷_ Row.off (List._∷_ Row.off (List._∷_ Row.off (List._∷_ Row.off (List._∷_ Row.off (List._∷_ Row.off (List._∷_ Row.off (List._∷_ Row.off (List._∷_ Row.off (List._∷_ Row.off (List._∷_ Row.off (List._∷_ Row.dead (List._∷_ Row.alive (List._∷_ Row.alive List.[])))))))))))))))))) }
+        G91 = record { locals = List._++_ g63 (List._++_ t1 t2); slots = List._∷_ (Row.lease (κs .0) (qs .0)) (List._∷_ (Row.lease (κs .1 .0) (qs .1 .0)) (List._∷_ (Row.lease (κs .1 .1 .0) (qs .1 .1 .0)) (List._∷_ (Row.lease (κs .1 .1 .1 .0) (qs .1 .1 .1 .0)) (List._∷_ (Row.lease (κs .1 .1 .1 .1 .0) (qs .1 .1 .1 .1 .0)) (List._∷_ Row.off (List._∷_ Row.off (List._∷_ Row.off (List._∷_ Row.off (List._∷_ Row.off (List._∷_ Row.off (List._∷_ Row.off (List._∷_ Row.off (List._∷_ Row.off (List._∷_ Row.off (List._∷_ Row.off (List._∷_ Row.alive (List._∷_ Row.alive (List._∷_ Row.alive List.[])))))))))))))))))) }
 
         abbrev G92 : Row.Cx
-        G92 = record { locals = List._++_ g63 (List._++_ t1 t2); slots = List._∷_ (Row.lease (κs .0) (qs .0)) (List._∷_ (Row.lease (κs .1 .0) (qs .1 .0)) (List._∷_ (Row.lease (κs .1 .1 .0) (qs .1 .1 .0)) (List._∷_ (Row.lease (κs .1 .1 .1 .0) (qs .1 .1 .1 .0)) (List._∷_ (Row.lease (κs .1 .1 .1 .1 .0) (qs .1 .1 .1 .1 .0)) (List._∷_ (Row.lease (κs .1 .1 .1 .1 .1 .0) (qs .1 .1 .1 .1 .1 .0)) (List._∷_ Row.off (List._∷_ Row.off (List._∷_ Row.off (List._∷_ Row.off (List._∷_ Row.off (List._∷_ Row.off (List._∷_ Row.off (List._∷_ Row.off (List._∷_ Row.off (List._∷_ Row.off (List._∷_ Row.dead (List._∷_ Row.alive (List._∷_ Row.alive List.[])))))))))))))))))) }
+        G92 = record { locals = List._++_ g63 (List._++_ t1 t2); slots = List._∷_ (Row.lease (κs .0) (qs .0)) (List._∷_ (Row.lease (κs .1 .0) (qs .1 .0)) (List._∷_ (Row.lease (κs .1 .1 .0) (qs .1 .1 .0)) (List._∷_ (Row.lease (κs .1 .1 .1 .0) (qs .1 .1 .1 .0)) (List._∷_ (Row.lease (κs .1 .1 .1 .1 .0) (qs .1 .1 .1 .1 .0)) (List._∷_ Row.off (List._∷_ Row.off (List._∷_ Row.off (List._∷_ Row.off (List._∷_ Row.off (List._∷_ Row.off (List._∷_ Row.off (List._∷_ Row.off (List._∷_ Row.off (List._∷_ Row.off (List._∷_ Row.off (List._∷_ Row.dead (List._∷_ Row.alive (List._∷_ Row.alive List.[])))))))))))))))))) }
 
         abbrev G93 : Row.Cx
-        G93 = record { locals = List._++_ g63 (List._++_ t1 t2); slots = List._∷_ (Row.lease (κs .0) (qs .0)) (List._∷_ (Row.lease (κs .1 .0) (qs .1 .0)) (List._∷_ (Row.lease (κs .1 .1 .0) (qs .1 .1 .0)) (List._∷_ (Row.lease (κs .1 .1 .1 .0) (qs .1 .1 .1 .0)) (List._∷_ (Row.lease (κs .1 .1 .1 .1 .0) (qs .1 .1 .1 .1 .0)) (List._∷_ (Row.lease (κs .1 .1 .1 .1 .1 .0) (qs .1 .1 .1 .1 .1 .0)) (List._∷_ Row.off (List._∷_ Row.off (List._∷_ Row.off (List._∷_ Row.off (List._∷_ Row.off (List._∷_ Row.off (List._∷_ Row.off (List._∷_ Row.off (List._∷_ Row.off (List._∷_ Row.off (List._∷_ Row.off (List._∷_ Row.alive (List._∷_ Row.alive List.[])))))))))))))))))) }
+        G93 = record { locals = List._++_ g64 (List._++_ t1 t2); slots = List._∷_ (Row.lease (κs .0) (qs .0)) (List._∷_ (Row.lease (κs .1 .0) (qs .1 .0)) (List._∷_ (Row.lease (κs .1 .1 .0) (qs .1 .1 .0)) (List._∷_ (Row.lease (κs .1 .1 .1 .0) (qs .1 .1 .1 .0)) (List._∷_ (Row.lease (κs .1 .1 .1 .1 .0) (qs .1 .1 .1 .1 .0)) (List._∷_ (Row.lease (κs .1 .1 .1 .1 .1 .0) (qs .1 .1 .1 .1 .1 .0)) (List._∷_ Row.off (List._∷_ Row.off (List._∷_ Row.off (List._∷_ Row.off (List._∷_ Row.off (List._∷_ Row.off (List._∷_ Row.off (List._∷_ Row.off (List._∷_ Row.off (List._∷_ Row.off (List._∷_ Row.dead (List._∷_ Row.alive (List._∷_ Row.alive List.[])))))))))))))))))) }
 
         abbrev G94 : Row.Cx
-        G94 = record { locals = List._++_ g63 (List._++_ t1 t2); slots = List._∷_ (Row.lease (κs .0) (qs .0)) (List._∷_ (Row.lease (κs .1 .0) (qs .1 .0)) (List._∷_ (Row.lease (κs .1 .1 .0) (qs .1 .1 .0)) (List._∷_ (Row.lease (κs .1 .1 .1 .0) (qs .1 .1 .1 .0)) (List._∷_ (Row.lease (κs .1 .1 .1 .1 .0) (qs .1 .1 .1 .1 .0)) (List._∷_ (Row.lease (κs .1 .1 .1 .1 .1 .0) (qs .1 .1 .1 .1 .1 .0)) (List._∷_ Row.off (List._∷_ Row.off (List._∷_ Row.off (List._∷_ Row.off (List._∷_ Row.off (List._∷_ Row.off (List._∷_ Row.off (List._∷_ Row.off (List._∷_ Row.off (List._∷_ Row.off (List._∷_ Row.off (List._∷_ Row.dead (List._∷_ Row.alive List.[])))))))))))))))))) }
+        G94 = record { locals = List._++_ g64 (List._++_ t1 t2); slots = List._∷_ (Row.lease (κs .0) (qs .0)) (List._∷_ (Row.lease (κs .1 .0) (qs .1 .0)) (List._∷_ (Row.lease (κs .1 .1 .0) (qs .1 .1 .0)) (List._∷_ (Row.lease (κs .1 .1 .1 .0) (qs .1 .1 .1 .0)) (List._∷_ (Row.lease (κs .1 .1 .1 .1 .0) (qs .1 .1 .1 .1 .0)) (List._∷_ (Row.lease (κs .1 .1 .1 .1 .1 .0) (qs .1 .1 .1 .1 .1 .0)) (List._∷_ Row.off (List._∷_ Row.off (List._∷_ Row.off (List._∷_ Row.off (List._∷_ Row.off (List._∷_ Row.off (List._∷_ Row.off (List._∷_ Row.off (List._∷_ Row.off (List._∷_ Row.off (List._∷_ Row.off (List._∷_ Row.alive (List._∷_ Row.alive List.[])))))))))))))))))) }
 
         abbrev G95 : Row.Cx
-        G95 = record { locals = List._++_ g64 (List._++_ t1 t2); slots = List._∷_ (Row.lease (κs .0) (qs .0)) (List._∷_ (Row.lease (κs .1 .0) (qs .1 .0)) (List._∷_ (Row.lease (κs .1 .1 .0) (qs .1 .1 .0)) (List._∷_ (Row.lease (κs .1 .1 .1 .0) (qs .1 .1 .1 .0)) (List._∷_ (Row.lease (κs .1 .1 .1 .1 .0) (qs .1 .1 .1 .1 .0)) (List._∷_ (Row.lease (κs .1 .1 .1 .1 .1 .0) (qs .1 .1 .1 .1 .1 .0)) (List._∷_ (Row.lease (κs .1 .1 .1 .1 .1 .1 .0) (qs .1 .1 .1 .1 .1 .1 .0)) (List._∷_ Row.off (List._∷_ Row.off (List._∷_ Row.off (List._∷_ Row.off (List._∷_ Row.off (List._∷_ Row.off (List._∷_ Row.off (List._∷_ Row.off (List._∷_ Row.off (List._∷_ Row.off (List._∷_ Row.dead (List._∷_ Row.alive List.[])))))))))))))))))) }
+        G95 = record { locals = List._++_ g64 (List._++_ t1 t2); slots = List._∷_ (Row.lease (κs .0) (qs .0)) (List._∷_ (Row.lease (κs .1 .0) (qs .1 .0)) (List._∷_ (Row.lease (κs .1 .1 .0) (qs .1 .1 .0)) (List._∷_ (Row.lease (κs .1 .1 .1 .0) (qs .1 .1 .1 .0)) (List._∷_ (Row.lease (κs .1 .1 .1 .1 .0) (qs .1 .1 .1 .1 .0)) (List._∷_ (Row.lease (κs .1 .1 .1 .1 .1 .0) (qs .1 .1 .1 .1 .1 .0)) (List._∷_ Row.off (List._∷_ Row.off (List._∷_ Row.off (List._∷_ Row.off (List._∷_ Row.off (List._∷_ Row.off (List._∷_ Row.off (List._∷_ Row.off (List._∷_ Row.off (List._∷_ Row.off (List._∷_ Row.off (List._∷_ Row.dead (List._∷_ Row.alive List.[])))))))))))))))))) }
 
         abbrev G96 : Row.Cx
-        G96 = record { locals = List._++_ g64 (List._++_ t1 t2); slots = List._∷_ (Row.lease (κs .0) (qs .0)) (List._∷_ (Row.lease (κs .1 .0) (qs .1 .0)) (List._∷_ (Row.lease (κs .1 .1 .0) (qs .1 .1 .0)) (List._∷_ (Row.lease (κs .1 .1 .1 .0) (qs .1 .1 .1 .0)) (List._∷_ (Row.lease (κs .1 .1 .1 .1 .0) (qs .1 .1 .1 .1 .0)) (List._∷_ (Row.lease (κs .1 .1 .1 .1 .1 .0) (qs .1 .1 .1 .1 .1 .0)) (List._∷_ (Row.lease (κs .1 .1 .1 .1 .1 .1 .0) (qs .1 .1 .1 .1 .1 .1 .0)) (List._∷_ Row.off (List._∷_ Row.off (List._∷_ Row.off (List._∷_ Row.off (List._∷_ Row.off (List._∷_ Row.off (List._∷_ Row.off (List._∷_ Row.off (List._∷_ Row.off (List._∷_ Row.off (List._∷_ Row.off (List._∷_ Row.alive List.[])))))))))))))))))) }
+        G96 = record { locals = List._++_ g65 (List._++_ t1 t2); slots = List._∷_ (Row.lease (κs .0) (qs .0)) (List._∷_ (Row.lease (κs .1 .0) (qs .1 .0)) (List._∷_ (Row.lease (κs .1 .1 .0) (qs .1 .1 .0)) (List._∷_ (Row.lease (κs .1 .1 .1 .0) (qs .1 .1 .1 .0)) (List._∷_ (Row.lease (κs .1 .1 .1 .1 .0) (qs .1 .1 .1 .1 .0)) (List._∷_ (Row.lease (κs .1 .1 .1 .1 .1 .0) (qs .1 .1 .1 .1 .1 .0)) (List._∷_ (Row.lease (κs .1 .1 .1 .1 .1 .1 .0) (qs .1 .1 .1 .1 .1 .1 .0)) (List._∷_ Row.off (List._∷_ Row.off (List._∷_ Row.off (List._∷_ Row.off (List._∷_ Row.off (List._∷_ Row.off (List._∷_ Row.off (List._∷_ Row.off (List._∷_ Row.off (List._∷_ Row.off (List._∷_ Row.dead (List._∷_ Row.alive List.[])))))))))))))))))) }
 
         abbrev G97 : Row.Cx
-        G97 = record { locals = List._++_ g64 (List._++_ t1 t2); slots = List._∷_ (Row.lease (κs .0) (qs .0)) (List._∷_ (Row.lease (κs .1 .0) (qs .1 .0)) (List._∷_ (Row.lease (κs .1 .1 .0) (qs .1 .1 .0)) (List._∷_ (Row.lease (κs .1 .1 .1 .0) (qs .1 .1 .1 .0)) (List._∷_ (Row.lease (κs .1 .1 .1 .1 .0) (qs .1 .1 .1 .1 .0)) (List._∷_ (Row.lease (κs .1 .1 .1 .1 .1 .0) (qs .1 .1 .1 .1 .1 .0)) (List._∷_ (Row.lease (κs .1 .1 .1 .1 .1 .1 .0) (qs .1 .1 .1 .1 .1 .1 .0)) (List._∷_ Row.off (List._∷_ Row.off (List._∷_ Row.off (List._∷_ Row.off (List._∷_ Row.off (List._∷_ Row.off (List._∷_ Row.off (List._∷_ Row.off (List._∷_ Row.off (List._∷_ Row.off (List._∷_ Row.off (List._∷_ Row.dead List.[])))))))))))))))))) }
+        G97 = record { locals = List._++_ g65 (List._++_ t1 t2); slots = List._∷_ (Row.lease (κs .0) (qs .0)) (List._∷_ (Row.lease (κs .1 .0) (qs .1 .0)) (List._∷_ (Row.lease (κs .1 .1 .0) (qs .1 .1 .0)) (List._∷_ (Row.lease (κs .1 .1 .1 .0) (qs .1 .1 .1 .0)) (List._∷_ (Row.lease (κs .1 .1 .1 .1 .0) (qs .1 .1 .1 .1 .0)) (List._∷_ (Row.lease (κs .1 .1 .1 .1 .1 .0) (qs .1 .1 .1 .1 .1 .0)) (List._∷_ (Row.lease (κs .1 .1 .1 .1 .1 .1 .0) (qs .1 .1 .1 .1 .1 .1 .0)) (List._∷_ Row.off (List._∷_ Row.off (List._∷_ Row.off (List._∷_ Row.off (List._∷_ Row.off (List._∷_ Row.off (List._∷_ Row.off (List._∷_ Row.off (List._∷_ Row.off (List._∷_ Row.off (List._∷_ Row.off (List._∷_ Row.alive List.[])))))))))))))))))) }
 
         abbrev G98 : Row.Cx
-        G98 = record { locals = List._++_ t37 (List._++_ t1 t2); slots = List._∷_ (Row.lease (κs .0) (qs .0)) (List._∷_ (Row.lease (κs .1 .0) (qs .1 .0)) (List._∷_ (Row.lease (κs .1 .1 .0) (qs .1 .1 .0)) (List._∷_ (Row.lease (κs .1 .1 .1 .0) (qs .1 .1 .1 .0)) (List._∷_ (Row.lease (κs .1 .1 .1 .1 .0) (qs .1 .1 .1 .1 .0)) (List._∷_ (Row.lease (κs .1 .1 .1 .1 .1 .0) (qs .1 .1 .1 .1 .1 .0)) (List._∷_ (Row.lease (κs .1 .1 .1 .1 .1 .1 .0) (qs .1 .1 .1 .1 .1 .1 .0)) (List._∷_ (Row.lease (κs .1 .1 .1 .1 .1 .1 .1 .0) (qs .1 .1 .1 .1 .1 .1 .1 .0)) (List._∷_ Row.off (List._∷_ Row.off (List._∷_ Row.off (List._∷_ Row.off (List._∷_ Row.off (List._∷_ Row.off (List._∷_ Row.off (List._∷_ Row.off (List._∷_ Row.off (List._∷_ Row.off (List._∷_ Row.dead List.[])))))))))))))))))) }
+        G98 = record { locals = List._++_ g65 (List._++_ t1 t2); slots = List._∷_ (Row.lease (κs .0) (qs .0)) (List._∷_ (Row.lease (κs .1 .0) (qs .1 .0)) (List._∷_ (Row.lease (κs .1 .1 .0) (qs .1 .1 .0)) (List._∷_ (Row.lease (κs .1 .1 .1 .0) (qs .1 .1 .1 .0)) (List._∷_ (Row.lease (κs .1 .1 .1 .1 .0) (qs .1 .1 .1 .1 .0)) (List._∷_ (Row.lease (κs .1 .1 .1 .1 .1 .0) (qs .1 .1 .1 .1 .1 .0)) (List._∷_ (Row.lease (κs .1 .1 .1 .1 .1 .1 .0) (qs .1 .1 .1 .1 .1 .1 .0)) (List._∷_ Row.off (List._∷_ Row.off (List._∷_ Row.off (List._∷_ Row.off (List._∷_ Row.off (List._∷_ Row.off (List._∷_ Row.off (List._∷_ Row.off (List._∷_ Row.off (List._∷_ Row.off (List._∷_ Row.off (List._∷_ Row.dead List.[])))))))))))))))))) }
 
         abbrev G99 : Row.Cx
-        G99 = record { locals = List._++_ t37 (List._++_ t1 t2); slots = List._∷_ (Row.lease (κs .0) (qs .0)) (List._∷_ (Row.lease (κs .1 .0) (qs .1 .0)) (List._∷_ (Row.lease (κs .1 .1 .0) (qs .1 .1 .0)) (List._∷_ (Row.lease (κs .1 .1 .1 .0) (qs .1 .1 .1 .0)) (List._∷_ (Row.lease (κs .1 .1 .1 .1 .0) (qs .1 .1 .1 .1 .0)) (List._∷_ (Row.lease (κs .1 .1 .1 .1 .1 .0) (qs .1 .1 .1 .1 .1 .0)) (List._∷_ (Row.lease (κs .1 .1 .1 .1 .1 .1 .0) (qs .1 .1 .1 .1 .1 .1 .0)) (List._∷_ (Row.lease (κs .1 .1 .1 .1 .1 .1 .1 .0) (qs .1 .1 .1 .1 .1 .1 .1 .0)) (List._∷_ Row.off (List._∷_ Row.off (List._∷_ Row.off (List._∷_ Row.off (List._∷_ Row.off (List._∷_ Row.off (List._∷_ Row.off (List._∷_ Row.off (List._∷_ Row.off (List._∷_ Row.off (List._∷_ Row.off List.[])))))))))))))))))) }
+        G99 = record { locals = List._++_ t37 (List._++_ t1 t2); slots = List._∷_ (Row.lease (κs .0) (qs .0)) (List._∷_ (Row.lease (κs .1 .0) (qs .1 .0)) (List._∷_ (Row.lease (κs .1 .1 .0) (qs .1 .1 .0)) (List._∷_ (Row.lease (κs .1 .1 .1 .0) (qs .1 .1 .1 .0)) (List._∷_ (Row.lease (κs .1 .1 .1 .1 .0) (qs .1 .1 .1 .1 .0)) (List._∷_ (Row.lease (κs .1 .1 .1 .1 .1 .0) (qs .1 .1 .1 .1 .1 .0)) (List._∷_ (Row.lease (κs .1 .1 .1 .1 .1 .1 .0) (qs .1 .1 .1 .1 .1 .1 .0)) (List._∷_ (Row.lease (κs .1 .1 .1 .1 .1 .1 .1 .0) (qs .1 .1 .1 .1 .1 .1 .1 .0)) (List._∷_ Row.off (List._∷_ Row.off (List._∷_ Row.off (List._∷_ Row.off (List._∷_ Row.off (List._∷_ Row.off (List._∷_ Row.off (List._∷_ Row.off (List._∷_ Row.off (List._∷_ Row.off (List._∷_ Row.dead List.[])))))))))))))))))) }
 
         abbrev G100 : Row.Cx
-        G100 = record { locals = List._++_ t38 (List._++_ t1 t2); slots = List._∷_ (Row.lease (κs .0) (qs .0)) (List._∷_ (Row.lease (κs .1 .0) (qs .1 .0)) (List._∷_ (Row.lease (κs .1 .1 .0) (qs .1 .1 .0)) (List._∷_ (Row.lease (κs .1 .1 .1 .0) (qs .1 .1 .1 .0)) (List._∷_ (Row.lease (κs .1 .1 .1 .1 .0) (qs .1 .1 .1 .1 .0)) (List._∷_ (Row.lease (κs .1 .1 .1 .1 .1 .0) (qs .1 .1 .1 .1 .1 .0)) (List._∷_ (Row.lease (κs .1 .1 .1 .1 .1 .1 .0) (qs .1 .1 .1 .1 .1 .1 .0)) (List._∷_ (Row.lease (κs .1 .1 .1 .1 .1 .1 .1 .0) (qs .1 .1 .1 .1 .1 .1 .1 .0)) (List._∷_ Row.off (List._∷_ Row.off (List._∷_ Row.off (List._∷_ Row.off (List._∷_ Row.off (List._∷_ Row.off (List._∷_ Row.off (List._∷_ Row.off (List._∷_ Row.off (List._∷_ Row.off (List._∷_ Row.off List.[])))))))))))))))))) }
+        G100 = record { locals = List._++_ t37 (List._++_ t1 t2); slots = List._∷_ (Row.lease (κs .0) (qs .0)) (List._∷_ (Row.lease (κs .1 .0) (qs .1 .0)) (List._∷_ (Row.lease (κs .1 .1 .0) (qs .1 .1 .0)) (List._∷_ (Row.lease (κs .1 .1 .1 .0) (qs .1 .1 .1 .0)) (List._∷_ (Row.lease (κs .1 .1 .1 .1 .0) (qs .1 .1 .1 .1 .0)) (List._∷_ (Row.lease (κs .1 .1 .1 .1 .1 .0) (qs .1 .1 .1 .1 .1 .0)) (List._∷_ (Row.lease (κs .1 .1 .1 .1 .1 .1 .0) (qs .1 .1 .1 .1 .1 .1 .0)) (List._∷_ (Row.lease (κs .1 .1 .1 .1 .1 .1 .1 .0) (qs .1 .1 .1 .1 .1 .1 .1 .0)) (List._∷_ Row.off (List._∷_ Row.off (List._∷_ Row.off (List._∷_ Row.off (List._∷_ Row.off (List._∷_ Row.off (List._∷_ Row.off (List._∷_ Row.off (List._∷_ Row.off (List._∷_ Row.off (List._∷_ Row.off List.[])))))))))))))))))) }
 
         abbrev G101 : Row.Cx
-        G101 = record { locals = List._++_ t39 (List._++_ t1 t2); slots = List._∷_ (Row.lease (κs .0) (qs .0)) (List._∷_ (Row.lease (κs .1 .0) (qs .1 .0)) (List._∷_ (Row.lease (κs .1 .1 .0) (qs .1 .1 .0)) (List._∷_ (Row.lease (κs .1 .1 .1 .0) (qs .1 .1 .1 .0)) (List._∷_ (Row.lease (κs .1 .1 .1 .1 .0) (qs .1 .1 .1 .1 .0)) (List._∷_ (Row.lease (κs .1 .1 .1 .1 .1 .0) (qs .1 .1 .1 .1 .1 .0)) (List._∷_ (Row.lease (κs .1 .1 .1 .1 .1 .1 .0) (qs .1 .1 .1 .1 .1 .1 .0)) (List._∷_ (Row.lease (κs .1 .1 .1 .1 .1 .1 .1 .0) (qs .1 .1 .1 .1 .1 .1 .1 .0)) (List._∷_ Row.off (List._∷_ Row.off (List._∷_ Row.off (List._∷_ Row.off (List._∷_ Row.off (List._∷_ Row.off (List._∷_ Row.off (List._∷_ Row.off (List._∷_ Row.off (List._∷_ Row.off (List._∷_ Row.off List.[])))))))))))))))))) }
+        G101 = record { locals = List._++_ t38 (List._++_ t1 t2); slots = List._∷_ (Row.lease (κs .0) (qs .0)) (List._∷_ (Row.lease (κs .1 .0) (qs .1 .0)) (List._∷_ (Row.lease (κs .1 .1 .0) (qs .1 .1 .0)) (List._∷_ (Row.lease (κs .1 .1 .1 .0) (qs .1 .1 .1 .0)) (List._∷_ (Row.lease (κs .1 .1 .1 .1 .0) (qs .1 .1 .1 .1 .0)) (List._∷_ (Row.lease (κs .1 .1 .1 .1 .1 .0) (qs .1 .1 .1 .1 .1 .0)) (List._∷_ (Row.lease (κs .1 .1 .1 .1 .1 .1 .0) (qs .1 .1 .1 .1 .1 .1 .0)) (List._∷_ (Row.lease (κs .1 .1 .1 .1 .1 .1 .1 .0) (qs .1 .1 .1 .1 .1 .1 .1 .0)) (List._∷_ Row.off (List._∷_ Row.off (List._∷_ Row.off (List._∷_ Row.off (List._∷_ Row.off (List._∷_ Row.off (List._∷_ Row.off (List._∷_ Row.off (List._∷_ Row.off (List._∷_ Row.off (List._∷_ Row.off List.[])))))))))))))))))) }
 
         abbrev G102 : Row.Cx
-        G102 = record { locals = List._++_ t3 (List._++_ t1 t2); slots = List._∷_ (Row.lease (κs .0) (qs .0)) (List._∷_ (Row.lease (κs .1 .0) (qs .1 .0)) (List._∷_ (Row.lease (κs .1 .1 .0) (qs .1 .1 .0)) (List._∷_ (Row.lease (κs .1 .1 .1 .0) (qs .1 .1 .1 .0)) (List._∷_ (Row.lease (κs .1 .1 .1 .1 .0) (qs .1 .1 .1 .1 .0)) (List._∷_ (Row.lease (κs .1 .1 .1 .1 .1 .0) (qs .1 .1 .1 .1 .1 .0)) (List._∷_ (Row.lease (κs .1 .1 .1 .1 .1 .1 .0) (qs .1 .1 .1 .1 .1 .1 .0)) (List._∷_ (Row.lease (κs .1 .1 .1 .1 .1 .1 .1 .0) (qs .1 .1 .1 .1 .1 .1 .1 .0)) (List._∷_ Row.off (List._∷_ Row.off (List._∷_ Row.off (List._∷_ Row.off (List._∷_ Row.off (List._∷_ Row.off (List._∷_ Row.off (List._∷_ Row.off (List._∷_ Row.off (List._∷_ Row.off (List._∷_ Row.off List.[])))))))))))))))))) }
+        G102 = record { locals = List._++_ t39 (List._++_ t1 t2); slots = List._∷_ (Row.lease (κs .0) (qs .0)) (List._∷_ (Row.lease (κs .1 .0) (qs .1 .0)) (List._∷_ (Row.lease (κs .1 .1 .0) (qs .1 .1 .0)) (List._∷_ (Row.lease (κs .1 .1 .1 .0) (qs .1 .1 .1 .0)) (List._∷_ (Row.lease (κs .1 .1 .1 .1 .0) (qs .1 .1 .1 .1 .0)) (List._∷_ (Row.lease (κs .1 .1 .1 .1 .1 .0) (qs .1 .1 .1 .1 .1 .0)) (List._∷_ (Row.lease (κs .1 .1 .1 .1 .1 .1 .0) (qs .1 .1 .1 .1 .1 .1 .0)) (List._∷_ (Row.lease (κs .1 .1 .1 .1 .1 .1 .1 .0) (qs .1 .1 .1 .1 .1 .1 .1 .0)) (List._∷_ Row.off (List._∷_ Row.off (List._∷_ Row.off (List._∷_ Row.off (List._∷_ Row.off (List._∷_ Row.off (List._∷_ Row.off (List._∷_ Row.off (List._∷_ Row.off (List._∷_ Row.off (List._∷_ Row.off List.[])))))))))))))))))) }
+
+        abbrev G103 : Row.Cx
+        G103 = record { locals = List._++_ t3 (List._++_ t1 t2); slots = List._∷_ (Row.lease (κs .0) (qs .0)) (List._∷_ (Row.lease (κs .1 .0) (qs .1 .0)) (List._∷_ (Row.lease (κs .1 .1 .0) (qs .1 .1 .0)) (List._∷_ (Row.lease (κs .1 .1 .1 .0) (qs .1 .1 .1 .0)) (List._∷_ (Row.lease (κs .1 .1 .1 .1 .0) (qs .1 .1 .1 .1 .0)) (List._∷_ (Row.lease (κs .1 .1 .1 .1 .1 .0) (qs .1 .1 .1 .1 .1 .0)) (List._∷_ (Row.lease (κs .1 .1 .1 .1 .1 .1 .0) (qs .1 .1 .1 .1 .1 .1 .0)) (List._∷_ (Row.lease (κs .1 .1 .1 .1 .1 .1 .1 .0) (qs .1 .1 .1 .1 .1 .1 .1 .0)) (List._∷_ Row.off (List._∷_ Row.off (List._∷_ Row.off (List._∷_ Row.off (List._∷_ Row.off (List._∷_ Row.off (List._∷_ Row.off (List._∷_ Row.off (List._∷_ Row.off (List._∷_ Row.off (List._∷_ Row.off List.[])))))))))))))))))) }
 
         abbrev Δ0 : Typed.Outs
         Δ0 = record { next = Option.none; exits = List.[]; returns = Option.some G1 }
 
         abbrev Δ1 : Typed.Outs
-        Δ1 = Typed.withNext (Option.some G55) Δ0
+        Δ1 = Typed.withNext (Option.some G54) Δ0
 
         module _ {M : Type 1} (𝓤 : URA.URA M) (H : Wp.Heap 𝓤) (A : Atoms.Atoms 𝓤) (W : Kit.Given 𝓤 H A) (𝓣 : Wp.Tables 𝓤 H) (known : Knowns 𝓤 H A W 𝓣) (bs : List.List Nat.ℕ) (bd : Lifetimes.AllOutlive 8 (Kinds.osR r) κs) where
           abbrev E : Wp.Env 𝓤 H
@@ -1698,313 +1714,316 @@ module _ (claims· : Claims) where
           d2 = Typed.g-pre 𝓤 H A W 𝓣 E G58 G59 b17 Δ1 (Typed.pass T58 T59 s56) at1 (Scalar.g-room 𝓤 H A W E G58 10 (Syntax.tyInt Syntax.w16) (Scalar.room-sc 𝓤 H A W (Row.sInt Syntax.w16))) d1
 
           d3 : Typed.Typed 𝓤 H A 𝓣 E G57 b18 Δ1 at3
-          d3 = Typed.s-seq 𝓤 H A W 𝓣 E G57 G58 b16 b17 Δ1 (Typed.pass T57 T58 s55) at2 (Scalar.t-use 𝓤 H A W E 𝓣 G57 Scalar.oUnit 0 (Rows.sc-here Row.sUnit) Syntax.tyUnit (Row.valS Row.sUnit) (Row.sUnit .of) tt (Reads.room-gone 𝓤 H A Syntax.tyUnit) (Scalar.holds-sc 𝓤 H A W Row.sUnit) Path'.refl (λ u. Path'.refl) λ u. tt) d2
+          d3 = Typed.s-seq 𝓤 H A W 𝓣 E G57 G58 b16 b17 Δ1 (Typed.pass T57 T58 s55) at2 (Scalar.t-use 𝓤 H A W E 𝓣 G57 Scalar.oUnit 0 (Rows.sc-here Row.sUnit) Syntax.tyUnit (Row.valS Row.sUnit) (Row.sUnit .of) tt (Reads'.room-gone 𝓤 H A Syntax.tyUnit) (Scalar.holds-sc 𝓤 H A W Row.sUnit) Path'.refl (λ u. Path'.refl) λ u. tt) d2
 
           d4 : Typed.Typed 𝓤 H A 𝓣 E G56 b18 Δ1 at4
           d4 = Typed.g-pre 𝓤 H A W 𝓣 E G56 G57 b18 Δ1 (Typed.pass T56 T57 s54) at3 (Scalar.g-room 𝓤 H A W E G56 26 Syntax.tyBool (Scalar.room-sc 𝓤 H A W Row.sBool)) d3
 
-          d5 : Typed.Typed 𝓤 H A 𝓣 E G54 b18 Δ1 at5
-          d5 = Typed.g-pre 𝓤 H A W 𝓣 E G54 G56 b18 Δ1 (Typed.pass T54 T56 s53) at4 (Scalar.g-room 𝓤 H A W E G54 12 ty·18 (Local.room-whole 𝓤 H A W (Declared.row TrimAnswer.the-type) ty·18 Path'.refl)) d4
+          d5 : Typed.Typed 𝓤 H A 𝓣 E G55 b18 Δ1 at5
+          d5 = Typed.g-pre 𝓤 H A W 𝓣 E G55 G56 b18 Δ1 (Typed.pass T55 T56 s53) at4 (Scalar.g-room 𝓤 H A W E G55 12 ty·18 (Local.room-whole 𝓤 H A W (Declared.row TrimAnswer.the-type) ty·18 Path'.refl)) d4
 
-          d6 : Typed.Typed 𝓤 H A 𝓣 E G61 b19 Δ1 at6
-          d6 = Typed.t-skip 𝓤 H A W 𝓣 E Δ1 tt
+          d6 : Typed.Typed 𝓤 H A 𝓣 E G53 b18 Δ1 at6
+          d6 = Typed.g-pre 𝓤 H A W 𝓣 E G53 G55 b18 Δ1 (Typed.pass T53 T55 s52) at5 (Scalar.g-room 𝓤 H A W E G53 1 ty·16 (Local.room-whole 𝓤 H A W (Declared'.row Size.the-type) ty·16 Path'.refl)) d5
 
-          d7 : Typed.Typed 𝓤 H A 𝓣 E G54 b19 Δ1 at7
-          d7 = Typed.g-pre 𝓤 H A W 𝓣 E G54 G61 b19 Δ1 (Typed.pass T54 T61 s58) at6 (Scalar.g-room 𝓤 H A W E G54 26 Syntax.tyBool (Scalar.room-sc 𝓤 H A W Row.sBool)) d6
+          d7 : Typed.Typed 𝓤 H A 𝓣 E G61 b19 Δ1 at7
+          d7 = Typed.t-skip 𝓤 H A W 𝓣 E Δ1 tt
 
-          d8 : Typed.Typed 𝓤 H A 𝓣 E G54 b20 Δ1 at8
-          d8 = Scalar.t-cond 𝓤 H A W E 𝓣 G54 26 (λ x. x) b18 b19 Δ1 at5 at7 (Scalar.reads-sc 𝓤 H A W Row.sBool) Path'.refl d5 d7
+          d8 : Typed.Typed 𝓤 H A 𝓣 E G53 b19 Δ1 at8
+          d8 = Typed.g-pre 𝓤 H A W 𝓣 E G53 G61 b19 Δ1 (Typed.pass T53 T61 s58) at7 (Scalar.g-room 𝓤 H A W E G53 26 Syntax.tyBool (Scalar.room-sc 𝓤 H A W Row.sBool)) d7
 
-          d9 : Typed.Typed 𝓤 H A 𝓣 E G102 b33 Δ0 at9
-          d9 = Typed.t-return 𝓤 H A W 𝓣 E Δ0 tt
+          d9 : Typed.Typed 𝓤 H A 𝓣 E G53 b20 Δ1 at9
+          d9 = Scalar.t-cond 𝓤 H A W E 𝓣 G53 26 (λ x. x) b18 b19 Δ1 at6 at8 (Scalar.reads-sc 𝓤 H A W Row.sBool) Path'.refl d6 d8
 
-          d10 : Typed.Typed 𝓤 H A 𝓣 E G101 b33 Δ0 at10
-          d10 = Typed.g-pre 𝓤 H A W 𝓣 E G101 G102 b33 Δ0 (Typed.pass T101 T102 s99) at9 (Scalar.g-room 𝓤 H A W E G101 11 Syntax.tyBool (Scalar.room-sc 𝓤 H A W Row.sBool)) d9
+          d10 : Typed.Typed 𝓤 H A 𝓣 E G103 b33 Δ0 at10
+          d10 = Typed.t-return 𝓤 H A W 𝓣 E Δ0 tt
 
-          d11 : Typed.Typed 𝓤 H A 𝓣 E G100 b33 Δ0 at11
-          d11 = Typed.g-pre 𝓤 H A W 𝓣 E G100 G101 b33 Δ0 (Typed.pass T100 T101 s98) at10 (Scalar.g-room 𝓤 H A W E G100 10 (Syntax.tyInt Syntax.w16) (Scalar.room-sc 𝓤 H A W (Row.sInt Syntax.w16))) d10
+          d11 : Typed.Typed 𝓤 H A 𝓣 E G102 b33 Δ0 at11
+          d11 = Typed.g-pre 𝓤 H A W 𝓣 E G102 G103 b33 Δ0 (Typed.pass T102 T103 s100) at10 (Scalar.g-room 𝓤 H A W E G102 11 Syntax.tyBool (Scalar.room-sc 𝓤 H A W Row.sBool)) d10
 
-          d12 : Typed.Typed 𝓤 H A 𝓣 E G99 b34 Δ0 at12
-          d12 = Typed.s-seq 𝓤 H A W 𝓣 E G99 G100 b32 b33 Δ0 (Typed.pass T98 T100 s97) at11 (Scalar.t-use 𝓤 H A W E 𝓣 G99 Scalar.oUnit 0 (Rows.sc-here Row.sUnit) Syntax.tyUnit (Row.valS Row.sUnit) (Row.sUnit .of) tt (Reads.room-gone 𝓤 H A Syntax.tyUnit) (Scalar.holds-sc 𝓤 H A W Row.sUnit) Path'.refl (λ u. Path'.refl) λ u. tt) d11
+          d12 : Typed.Typed 𝓤 H A 𝓣 E G101 b33 Δ0 at12
+          d12 = Typed.g-pre 𝓤 H A W 𝓣 E G101 G102 b33 Δ0 (Typed.pass T101 T102 s99) at11 (Scalar.g-room 𝓤 H A W E G101 10 (Syntax.tyInt Syntax.w16) (Scalar.room-sc 𝓤 H A W (Row.sInt Syntax.w16))) d11
 
-          d13 : Typed.Typed 𝓤 H A 𝓣 E G98 b34 Δ0 at13
-          d13 = Typed.g-pre 𝓤 H A W 𝓣 E G98 G99 b34 Δ0 (λ Ψ. Ψ) at12 (Lifetime.g-forget 𝓤 H A W E G98 18 Row.dead Path'.refl) d12
+          d13 : Typed.Typed 𝓤 H A 𝓣 E G100 b34 Δ0 at13
+          d13 = Typed.s-seq 𝓤 H A W 𝓣 E G100 G101 b32 b33 Δ0 (Typed.pass T99 T101 s98) at12 (Scalar.t-use 𝓤 H A W E 𝓣 G100 Scalar.oUnit 0 (Rows.sc-here Row.sUnit) Syntax.tyUnit (Row.valS Row.sUnit) (Row.sUnit .of) tt (Reads'.room-gone 𝓤 H A Syntax.tyUnit) (Scalar.holds-sc 𝓤 H A W Row.sUnit) Path'.refl (λ u. Path'.refl) λ u. tt) d12
 
-          d14 : Typed.Typed 𝓤 H A 𝓣 E G97 b34 Δ0 at14
-          d14 = Typed.g-pre 𝓤 H A W 𝓣 E G97 G98 b34 Δ0 (Typed.pass T95 T98 s95) at13 (Reshare.g-back-sl-shr 𝓤 H A W E (Referent.rtF (Referent.fInt Syntax.w16)) G97 9 7 18 ty·7 (Row.lease (κs .1 .1 .1 .1 .1 .1 .1 .0) (qs .1 .1 .1 .1 .1 .1 .1 .0)) (λ x. x) (Reads.as-is 𝓤 H A (Reshare.mslice-owedS (Referent.rtF (Referent.fInt Syntax.w16)) ty·7 7 18 (Row.lease (κs .1 .1 .1 .1 .1 .1 .1 .0) (qs .1 .1 .1 .1 .1 .1 .1 .0)))) Path'.refl Path'.refl) d13
+          d14 : Typed.Typed 𝓤 H A 𝓣 E G99 b34 Δ0 at14
+          d14 = Typed.g-pre 𝓤 H A W 𝓣 E G99 G100 b34 Δ0 (λ Ψ. Ψ) at13 (Lifetime.g-forget 𝓤 H A W E G99 18 Row.dead Path'.refl) d13
 
-          d15 : Typed.Typed 𝓤 H A 𝓣 E G96 b34 Δ0 at15
-          d15 = Typed.g-pre 𝓤 H A W 𝓣 E G96 G97 b34 Δ0 (λ Ψ. Ψ) at14 (Lifetime.g-end 𝓤 H A W E G96 18 Path'.refl) d14
+          d15 : Typed.Typed 𝓤 H A 𝓣 E G98 b34 Δ0 at15
+          d15 = Typed.g-pre 𝓤 H A W 𝓣 E G98 G99 b34 Δ0 (Typed.pass T96 T99 s96) at14 (Reshare.g-back-sl-shr 𝓤 H A W E (Referent.rtF (Referent.fInt Syntax.w16)) G98 9 7 18 ty·7 (Row.lease (κs .1 .1 .1 .1 .1 .1 .1 .0) (qs .1 .1 .1 .1 .1 .1 .1 .0)) (λ x. x) (Reads'.as-is 𝓤 H A (Reshare.mslice-owedS (Referent.rtF (Referent.fInt Syntax.w16)) ty·7 7 18 (Row.lease (κs .1 .1 .1 .1 .1 .1 .1 .0) (qs .1 .1 .1 .1 .1 .1 .1 .0)))) Path'.refl Path'.refl) d14
 
-          d16 : Typed.Typed 𝓤 H A 𝓣 E G95 b34 Δ0 at16
-          d16 = Typed.g-pre 𝓤 H A W 𝓣 E G95 G96 b34 Δ0 (λ Ψ. Ψ) at15 (Lifetime.g-forget 𝓤 H A W E G95 17 Row.dead Path'.refl) d15
+          d16 : Typed.Typed 𝓤 H A 𝓣 E G97 b34 Δ0 at16
+          d16 = Typed.g-pre 𝓤 H A W 𝓣 E G97 G98 b34 Δ0 (λ Ψ. Ψ) at15 (Lifetime.g-end 𝓤 H A W E G97 18 Path'.refl) d15
 
-          d17 : Typed.Typed 𝓤 H A 𝓣 E G94 b34 Δ0 at17
-          d17 = Typed.g-pre 𝓤 H A W 𝓣 E G94 G95 b34 Δ0 (Typed.pass T92 T95 s92) at16 (Reshare.g-back-sl-shr 𝓤 H A W E (Referent.rtF (Referent.fInt Syntax.w16)) G94 8 6 17 ty·6 (Row.lease (κs .1 .1 .1 .1 .1 .1 .0) (qs .1 .1 .1 .1 .1 .1 .0)) (λ x. x) (Reads.as-is 𝓤 H A (Reshare.mslice-owedS (Referent.rtF (Referent.fInt Syntax.w16)) ty·6 6 17 (Row.lease (κs .1 .1 .1 .1 .1 .1 .0) (qs .1 .1 .1 .1 .1 .1 .0)))) Path'.refl Path'.refl) d16
+          d17 : Typed.Typed 𝓤 H A 𝓣 E G96 b34 Δ0 at17
+          d17 = Typed.g-pre 𝓤 H A W 𝓣 E G96 G97 b34 Δ0 (λ Ψ. Ψ) at16 (Lifetime.g-forget 𝓤 H A W E G96 17 Row.dead Path'.refl) d16
 
-          d18 : Typed.Typed 𝓤 H A 𝓣 E G93 b34 Δ0 at18
-          d18 = Typed.g-pre 𝓤 H A W 𝓣 E G93 G94 b34 Δ0 (λ Ψ. Ψ) at17 (Lifetime.g-end 𝓤 H A W E G93 17 Path'.refl) d17
+          d18 : Typed.Typed 𝓤 H A 𝓣 E G95 b34 Δ0 at18
+          d18 = Typed.g-pre 𝓤 H A W 𝓣 E G95 G96 b34 Δ0 (Typed.pass T93 T96 s93) at17 (Reshare.g-back-sl-shr 𝓤 H A W E (Referent.rtF (Referent.fInt Syntax.w16)) G95 8 6 17 ty·6 (Row.lease (κs .1 .1 .1 .1 .1 .1 .0) (qs .1 .1 .1 .1 .1 .1 .0)) (λ x. x) (Reads'.as-is 𝓤 H A (Reshare.mslice-owedS (Referent.rtF (Referent.fInt Syntax.w16)) ty·6 6 17 (Row.lease (κs .1 .1 .1 .1 .1 .1 .0) (qs .1 .1 .1 .1 .1 .1 .0)))) Path'.refl Path'.refl) d17
 
-          d19 : Typed.Typed 𝓤 H A 𝓣 E G92 b34 Δ0 at19
-          d19 = Typed.g-pre 𝓤 H A W 𝓣 E G92 G93 b34 Δ0 (λ Ψ. Ψ) at18 (Lifetime.g-forget 𝓤 H A W E G92 16 Row.dead Path'.refl) d18
+          d19 : Typed.Typed 𝓤 H A 𝓣 E G94 b34 Δ0 at19
+          d19 = Typed.g-pre 𝓤 H A W 𝓣 E G94 G95 b34 Δ0 (λ Ψ. Ψ) at18 (Lifetime.g-end 𝓤 H A W E G94 17 Path'.refl) d18
 
-          d20 : Typed.Typed 𝓤 H A 𝓣 E G91 b34 Δ0 at20
-          d20 = Typed.g-pre 𝓤 H A W 𝓣 E G91 G92 b34 Δ0 (Typed.pass T89 T92 s89) at19 (Reshare.g-back-sl-shr 𝓤 H A W E (Referent.rtF (Referent.fInt Syntax.w16)) G91 7 5 16 ty·5 (Row.lease (κs .1 .1 .1 .1 .1 .0) (qs .1 .1 .1 .1 .1 .0)) (λ x. x) (Reads.as-is 𝓤 H A (Reshare.mslice-owedS (Referent.rtF (Referent.fInt Syntax.w16)) ty·5 5 16 (Row.lease (κs .1 .1 .1 .1 .1 .0) (qs .1 .1 .1 .1 .1 .0)))) Path'.refl Path'.refl) d19
+          d20 : Typed.Typed 𝓤 H A 𝓣 E G93 b34 Δ0 at20
+          d20 = Typed.g-pre 𝓤 H A W 𝓣 E G93 G94 b34 Δ0 (λ Ψ. Ψ) at19 (Lifetime.g-forget 𝓤 H A W E G93 16 Row.dead Path'.refl) d19
 
-          d21 : Typed.Typed 𝓤 H A 𝓣 E G90 b34 Δ0 at21
-          d21 = Typed.g-pre 𝓤 H A W 𝓣 E G90 G91 b34 Δ0 (λ Ψ. Ψ) at20 (Lifetime.g-end 𝓤 H A W E G90 16 Path'.refl) d20
+          d21 : Typed.Typed 𝓤 H A 𝓣 E G92 b34 Δ0 at21
+          d21 = Typed.g-pre 𝓤 H A W 𝓣 E G92 G93 b34 Δ0 (Typed.pass T90 T93 s90) at20 (Reshare.g-back-sl-shr 𝓤 H A W E (Referent.rtF (Referent.fInt Syntax.w16)) G92 7 5 16 ty·5 (Row.lease (κs .1 .1 .1 .1 .1 .0) (qs .1 .1 .1 .1 .1 .0)) (λ x. x) (Reads'.as-is 𝓤 H A (Reshare.mslice-owedS (Referent.rtF (Referent.fInt Syntax.w16)) ty·5 5 16 (Row.lease (κs .1 .1 .1 .1 .1 .0) (qs .1 .1 .1 .1 .1 .0)))) Path'.refl Path'.refl) d20
 
-          d22 : Typed.Typed 𝓤 H A 𝓣 E G89 b34 Δ0 at22
-          d22 = Typed.g-pre 𝓤 H A W 𝓣 E G89 G90 b34 Δ0 (λ Ψ. Ψ) at21 (Lifetime.g-forget 𝓤 H A W E G89 15 Row.dead Path'.refl) d21
+          d22 : Typed.Typed 𝓤 H A 𝓣 E G91 b34 Δ0 at22
+          d22 = Typed.g-pre 𝓤 H A W 𝓣 E G91 G92 b34 Δ0 (λ Ψ. Ψ) at21 (Lifetime.g-end 𝓤 H A W E G91 16 Path'.refl) d21
 
-          d23 : Typed.Typed 𝓤 H A 𝓣 E G88 b34 Δ0 at23
-          d23 = Typed.g-pre 𝓤 H A W 𝓣 E G88 G89 b34 Δ0 (Typed.pass T86 T89 s86) at22 (Reshare.g-back-sl-shr 𝓤 H A W E (Referent.rtF (Referent.fInt Syntax.w16)) G88 6 4 15 ty·4 (Row.lease (κs .1 .1 .1 .1 .0) (qs .1 .1 .1 .1 .0)) (λ x. x) (Reads.as-is 𝓤 H A (Reshare.mslice-owedS (Referent.rtF (Referent.fInt Syntax.w16)) ty·4 4 15 (Row.lease (κs .1 .1 .1 .1 .0) (qs .1 .1 .1 .1 .0)))) Path'.refl Path'.refl) d22
+          d23 : Typed.Typed 𝓤 H A 𝓣 E G90 b34 Δ0 at23
+          d23 = Typed.g-pre 𝓤 H A W 𝓣 E G90 G91 b34 Δ0 (λ Ψ. Ψ) at22 (Lifetime.g-forget 𝓤 H A W E G90 15 Row.dead Path'.refl) d22
 
-          d24 : Typed.Typed 𝓤 H A 𝓣 E G87 b34 Δ0 at24
-          d24 = Typed.g-pre 𝓤 H A W 𝓣 E G87 G88 b34 Δ0 (λ Ψ. Ψ) at23 (Lifetime.g-end 𝓤 H A W E G87 15 Path'.refl) d23
+          d24 : Typed.Typed 𝓤 H A 𝓣 E G89 b34 Δ0 at24
+          d24 = Typed.g-pre 𝓤 H A W 𝓣 E G89 G90 b34 Δ0 (Typed.pass T87 T90 s87) at23 (Reshare.g-back-sl-shr 𝓤 H A W E (Referent.rtF (Referent.fInt Syntax.w16)) G89 6 4 15 ty·4 (Row.lease (κs .1 .1 .1 .1 .0) (qs .1 .1 .1 .1 .0)) (λ x. x) (Reads'.as-is 𝓤 H A (Reshare.mslice-owedS (Referent.rtF (Referent.fInt Syntax.w16)) ty·4 4 15 (Row.lease (κs .1 .1 .1 .1 .0) (qs .1 .1 .1 .1 .0)))) Path'.refl Path'.refl) d23
 
-          d25 : Typed.Typed 𝓤 H A 𝓣 E G86 b34 Δ0 at25
-          d25 = Typed.g-pre 𝓤 H A W 𝓣 E G86 G87 b34 Δ0 (λ Ψ. Ψ) at24 (Lifetime.g-forget 𝓤 H A W E G86 14 Row.dead Path'.refl) d24
+          d25 : Typed.Typed 𝓤 H A 𝓣 E G88 b34 Δ0 at25
+          d25 = Typed.g-pre 𝓤 H A W 𝓣 E G88 G89 b34 Δ0 (λ Ψ. Ψ) at24 (Lifetime.g-end 𝓤 H A W E G88 15 Path'.refl) d24
 
-          d26 : Typed.Typed 𝓤 H A 𝓣 E G85 b34 Δ0 at26
-          d26 = Typed.g-pre 𝓤 H A W 𝓣 E G85 G86 b34 Δ0 (Typed.pass T84 T86 s83) at25 (Reshare.g-back-sl-shr 𝓤 H A W E T.the-row G85 5 3 14 ty·11 (Row.lease (κs .1 .1 .1 .0) (qs .1 .1 .1 .0)) (λ x. x) (Reads.as-is 𝓤 H A (Reshare.mslice-owedS T.the-row ty·11 3 14 (Row.lease (κs .1 .1 .1 .0) (qs .1 .1 .1 .0)))) Path'.refl Path'.refl) d25
+          d26 : Typed.Typed 𝓤 H A 𝓣 E G87 b34 Δ0 at26
+          d26 = Typed.g-pre 𝓤 H A W 𝓣 E G87 G88 b34 Δ0 (λ Ψ. Ψ) at25 (Lifetime.g-forget 𝓤 H A W E G87 14 Row.dead Path'.refl) d25
 
-          d27 : Typed.Typed 𝓤 H A 𝓣 E G84 b34 Δ0 at27
-          d27 = Typed.g-pre 𝓤 H A W 𝓣 E G84 G85 b34 Δ0 (λ Ψ. Ψ) at26 (Lifetime.g-end 𝓤 H A W E G84 14 Path'.refl) d26
+          d27 : Typed.Typed 𝓤 H A 𝓣 E G86 b34 Δ0 at27
+          d27 = Typed.g-pre 𝓤 H A W 𝓣 E G86 G87 b34 Δ0 (Typed.pass T85 T87 s84) at26 (Reshare.g-back-sl-shr 𝓤 H A W E T.the-row G86 5 3 14 ty·11 (Row.lease (κs .1 .1 .1 .0) (qs .1 .1 .1 .0)) (λ x. x) (Reads'.as-is 𝓤 H A (Reshare.mslice-owedS T.the-row ty·11 3 14 (Row.lease (κs .1 .1 .1 .0) (qs .1 .1 .1 .0)))) Path'.refl Path'.refl) d26
 
-          d28 : Typed.Typed 𝓤 H A 𝓣 E G83 b34 Δ0 at28
-          d28 = Typed.g-pre 𝓤 H A W 𝓣 E G83 G84 b34 Δ0 (Typed.pass T83 T84 s81) at27 (Scalar.g-room 𝓤 H A W E G83 13 Syntax.tyUnit (Scalar.room-sc 𝓤 H A W Row.sUnit)) d27
+          d28 : Typed.Typed 𝓤 H A 𝓣 E G85 b34 Δ0 at28
+          d28 = Typed.g-pre 𝓤 H A W 𝓣 E G85 G86 b34 Δ0 (λ Ψ. Ψ) at27 (Lifetime.g-end 𝓤 H A W E G85 14 Path'.refl) d27
 
-          d29 : Typed.Typed 𝓤 H A 𝓣 E G82 b34 Δ0 at29
-          d29 = Typed.g-pre 𝓤 H A W 𝓣 E G82 G83 b34 Δ0 (Typed.pass T82 T83 s80) at28 (Scalar.g-room 𝓤 H A W E G82 12 ty·18 (Local.room-whole 𝓤 H A W (Declared.row TrimAnswer.the-type) ty·18 Path'.refl)) d28
+          d29 : Typed.Typed 𝓤 H A 𝓣 E G84 b34 Δ0 at29
+          d29 = Typed.g-pre 𝓤 H A W 𝓣 E G84 G85 b34 Δ0 (Typed.pass T84 T85 s82) at28 (Scalar.g-room 𝓤 H A W E G84 13 Syntax.tyUnit (Scalar.room-sc 𝓤 H A W Row.sUnit)) d28
 
-          d30 : Typed.Typed 𝓤 H A 𝓣 E G81 b34 Δ0 at30
-          d30 = Typed.g-pre 𝓤 H A W 𝓣 E G81 G82 b34 Δ0 (Typed.pass T81 T82 s79) at29 (Scalar.g-room 𝓤 H A W E G81 36 ty·13 (Shared.room-sslice 𝓤 H A W (Referent.rtF (Referent.fInt Syntax.w16)) ty·1 18)) d29
+          d30 : Typed.Typed 𝓤 H A 𝓣 E G83 b34 Δ0 at30
+          d30 = Typed.g-pre 𝓤 H A W 𝓣 E G83 G84 b34 Δ0 (Typed.pass T83 T84 s81) at29 (Scalar.g-room 𝓤 H A W E G83 12 ty·18 (Local.room-whole 𝓤 H A W (Declared.row TrimAnswer.the-type) ty·18 Path'.refl)) d29
 
-          d31 : Typed.Typed 𝓤 H A 𝓣 E G80 b34 Δ0 at31
-          d31 = Typed.g-pre 𝓤 H A W 𝓣 E G80 G81 b34 Δ0 (Typed.pass T80 T81 s78) at30 (Scalar.g-room 𝓤 H A W E G80 34 ty·13 (Shared.room-sslice 𝓤 H A W (Referent.rtF (Referent.fInt Syntax.w16)) ty·1 17)) d30
+          d31 : Typed.Typed 𝓤 H A 𝓣 E G82 b34 Δ0 at31
+          d31 = Typed.g-pre 𝓤 H A W 𝓣 E G82 G83 b34 Δ0 (Typed.pass T82 T83 s80) at30 (Scalar.g-room 𝓤 H A W E G82 1 ty·16 (Local.room-whole 𝓤 H A W (Declared'.row Size.the-type) ty·16 Path'.refl)) d30
 
-          d32 : Typed.Typed 𝓤 H A 𝓣 E G79 b34 Δ0 at32
-          d32 = Typed.g-pre 𝓤 H A W 𝓣 E G79 G80 b34 Δ0 (Typed.pass T79 T80 s77) at31 (Scalar.g-room 𝓤 H A W E G79 32 ty·13 (Shared.room-sslice 𝓤 H A W (Referent.rtF (Referent.fInt Syntax.w16)) ty·1 16)) d31
+          d32 : Typed.Typed 𝓤 H A 𝓣 E G81 b34 Δ0 at32
+          d32 = Typed.g-pre 𝓤 H A W 𝓣 E G81 G82 b34 Δ0 (Typed.pass T81 T82 s79) at31 (Scalar.g-room 𝓤 H A W E G81 36 ty·13 (Shared.room-sslice 𝓤 H A W (Referent.rtF (Referent.fInt Syntax.w16)) ty·1 18)) d31
 
-          d33 : Typed.Typed 𝓤 H A 𝓣 E G78 b34 Δ0 at33
-          d33 = Typed.g-pre 𝓤 H A W 𝓣 E G78 G79 b34 Δ0 (Typed.pass T78 T79 s76) at32 (Scalar.g-room 𝓤 H A W E G78 30 ty·13 (Shared.room-sslice 𝓤 H A W (Referent.rtF (Referent.fInt Syntax.w16)) ty·1 15)) d32
+          d33 : Typed.Typed 𝓤 H A 𝓣 E G80 b34 Δ0 at33
+          d33 = Typed.g-pre 𝓤 H A W 𝓣 E G80 G81 b34 Δ0 (Typed.pass T80 T81 s78) at32 (Scalar.g-room 𝓤 H A W E G80 34 ty·13 (Shared.room-sslice 𝓤 H A W (Referent.rtF (Referent.fInt Syntax.w16)) ty·1 17)) d32
 
-          d34 : Typed.Typed 𝓤 H A 𝓣 E G77 b34 Δ0 at34
-          d34 = Typed.g-pre 𝓤 H A W 𝓣 E G77 G78 b34 Δ0 (Typed.pass T77 T78 s75) at33 (Scalar.g-room 𝓤 H A W E G77 28 ty·15 (Shared.room-sslice 𝓤 H A W T.the-row ty·9 14)) d33
+          d34 : Typed.Typed 𝓤 H A 𝓣 E G79 b34 Δ0 at34
+          d34 = Typed.g-pre 𝓤 H A W 𝓣 E G79 G80 b34 Δ0 (Typed.pass T79 T80 s77) at33 (Scalar.g-room 𝓤 H A W E G79 32 ty·13 (Shared.room-sslice 𝓤 H A W (Referent.rtF (Referent.fInt Syntax.w16)) ty·1 16)) d33
 
-          d35 : Typed.Typed 𝓤 H A 𝓣 E G76 b35 Δ0 at35
-          d35 = Typed.s-seq 𝓤 H A W 𝓣 E G76 G77 b31 b34 Δ0 (Typed.both s74) at34 (Plain.t-call-plain 𝓤 H A W 𝓣 5 ps·3 r·3 (claims· .6) (claims· .7) "bench_plans::trims::show" (known .3) E (λ pos β. β) G76 (record { pos = 12; st = List.[]; d = 0; at = λ x. x }, (record { pos = 28; ty = Syntax.tyRef Syntax.erased Syntax.imm (Memory.pointee (T.the-row .written)); ref = λ x. x }, (record { pos = 30; ty = Syntax.tyRef Syntax.erased Syntax.imm (Syntax.tyInt Syntax.w16); ref = λ x. x }, (record { pos = 32; ty = Syntax.tyRef Syntax.erased Syntax.imm (Syntax.tyInt Syntax.w16); ref = λ x. x }, (record { pos = 34; ty = Syntax.tyRef Syntax.erased Syntax.imm (Syntax.tyInt Syntax.w16); ref = λ x. x }, (record { pos = 36; ty = Syntax.tyRef Syntax.erased Syntax.imm (Syntax.tyInt Syntax.w16); ref = λ x. x }, tt)))))) 13 (List._∷_ 14 (List._∷_ 15 (List._∷_ 16 (List._∷_ 17 (List._∷_ 18 List.[]))))) (Call.sub-id 𝓤 H A W (G76 .slots)) ((Yields.yields-copy 𝓤 H A W (λ ρ. Unit) (Declared.row TrimAnswer.the-type) Path'.refl (Copies.cEnum TrimAnswer.the-type Laws'.the-laws Laws'.the-copy .copy 𝓤 H A W) (Rows.whole (Declared.row TrimAnswer.the-type)) (λ x. x) (λ x. x) (λ ρ told. Local.mem-whole 𝓤 H A W (Declared.row TrimAnswer.the-type) ρ) λ ρ told. Local.whole-mem 𝓤 H A W (Declared.row TrimAnswer.the-type) ρ, Path'.refl), (ShrSlice.spares-sslice 𝓤 H A W T.the-row ty·9 14, Shared.reads-sslice 𝓤 H A W T.the-row ty·9 14, Path'.refl, (ShrSlice.spares-sslice 𝓤 H A W (Referent.rtF (Referent.fInt Syntax.w16)) ty·1 15, Shared.reads-sslice 𝓤 H A W (Referent.rtF (Referent.fInt Syntax.w16)) ty·1 15, Path'.refl, (ShrSlice.spares-sslice 𝓤 H A W (Referent.rtF (Referent.fInt Syntax.w16)) ty·1 16, Shared.reads-sslice 𝓤 H A W (Referent.rtF (Referent.fInt Syntax.w16)) ty·1 16, Path'.refl, (ShrSlice.spares-sslice 𝓤 H A W (Referent.rtF (Referent.fInt Syntax.w16)) ty·1 17, Shared.reads-sslice 𝓤 H A W (Referent.rtF (Referent.fInt Syntax.w16)) ty·1 17, Path'.refl, (ShrSlice.spares-sslice 𝓤 H A W (Referent.rtF (Referent.fInt Syntax.w16)) ty·1 18, Shared.reads-sslice 𝓤 H A W (Referent.rtF (Referent.fInt Syntax.w16)) ty·1 18, Path'.refl, tt)))))) (Reads.room-gone 𝓤 H A Syntax.tyUnit) (tt, (tt, (tt, (tt, (tt, tt))))) Path'.refl) d34
+          d35 : Typed.Typed 𝓤 H A 𝓣 E G78 b34 Δ0 at35
+          d35 = Typed.g-pre 𝓤 H A W 𝓣 E G78 G79 b34 Δ0 (Typed.pass T78 T79 s76) at34 (Scalar.g-room 𝓤 H A W E G78 30 ty·13 (Shared.room-sslice 𝓤 H A W (Referent.rtF (Referent.fInt Syntax.w16)) ty·1 15)) d34
 
-          d36 : Typed.Typed 𝓤 H A 𝓣 E G75 b36 Δ0 at36
-          d36 = Typed.s-seq 𝓤 H A W 𝓣 E G75 G76 b30 b35 Δ0 (Typed.ask s73) at35 (Relend.t-sl-aggregate 𝓤 H A W E (Referent.rtF (Referent.fInt Syntax.w16)) 𝓣 (Relend.asShr (Referent.rtF (Referent.fInt Syntax.w16))) G75 35 36 18 ty·1 ty·1 (λ x. x) (Scalar.oFld 9 (List._∷_ (Syntax.field 1) List.[]) (Syntax.tyInt Syntax.w64) 8 λ v. Shared.lenV (v .0)) (Reads.as-is 𝓤 H A (Relend.ssptr (Referent.rtF (Referent.fInt Syntax.w16)) ty·1 18)) (Reads.room-gone 𝓤 H A ty·13) (Reshare.reads-owedS-len 𝓤 H A W (Referent.rtF (Referent.fInt Syntax.w16)) ty·7 7 18 (Row.lease (κs .1 .1 .1 .1 .1 .1 .1 .0) (qs .1 .1 .1 .1 .1 .1 .1 .0)) 8 Path'.refl, Path'.refl) Path'.refl Path'.refl λ b o k. tt) d35
+          d36 : Typed.Typed 𝓤 H A 𝓣 E G77 b34 Δ0 at36
+          d36 = Typed.g-pre 𝓤 H A W 𝓣 E G77 G78 b34 Δ0 (Typed.pass T77 T78 s75) at35 (Scalar.g-room 𝓤 H A W E G77 28 ty·15 (Shared.room-sslice 𝓤 H A W T.the-row ty·9 14)) d35
 
-          d37 : Typed.Typed 𝓤 H A 𝓣 E G74 b37 Δ0 at37
-          d37 = Typed.s-seq 𝓤 H A W 𝓣 E G74 G75 b29 b36 Δ0 (Typed.give s72) at36 (Reshare.t-sl-reshare 𝓤 H A W E (Referent.rtF (Referent.fInt Syntax.w16)) 𝓣 G74 9 35 7 18 ty·7 ty·1 (Row.lease (κs .1 .1 .1 .1 .1 .1 .1 .0) (qs .1 .1 .1 .1 .1 .1 .1 .0)) 0 (λ x. x) (Reads.as-is 𝓤 H A (Mut.mslice (Referent.rtF (Referent.fInt Syntax.w16)) ty·7 7)) (Reads.room-gone 𝓤 H A ty·1) Path'.refl tt Path'.refl Path'.refl Path'.refl λ b o. tt) d36
+          d37 : Typed.Typed 𝓤 H A 𝓣 E G76 b35 Δ0 at37
+          d37 = Typed.s-seq 𝓤 H A W 𝓣 E G76 G77 b31 b34 Δ0 (Typed.both s74) at36 (Plain.t-call-plain 𝓤 H A W 𝓣 5 ps·3 r·3 (claims· .6) (claims· .7) "bench_plans::trims::show" (known .3) E (λ pos β. β) G76 (record { pos = 12; st = List.[]; d = 0; at = λ x. x }, (Num.vFld 1 (List._∷_ (Syntax.field 0) List.[]) 0 λ x. Size.struct .as-values x .0, (record { pos = 28; ty = Syntax.tyRef Syntax.erased Syntax.imm (Memory.pointee (T.the-row .written)); ref = λ x. x }, (record { pos = 30; ty = Syntax.tyRef Syntax.erased Syntax.imm (Syntax.tyInt Syntax.w16); ref = λ x. x }, (record { pos = 32; ty = Syntax.tyRef Syntax.erased Syntax.imm (Syntax.tyInt Syntax.w16); ref = λ x. x }, (record { pos = 34; ty = Syntax.tyRef Syntax.erased Syntax.imm (Syntax.tyInt Syntax.w16); ref = λ x. x }, (record { pos = 36; ty = Syntax.tyRef Syntax.erased Syntax.imm (Syntax.tyInt Syntax.w16); ref = λ x. x }, tt))))))) 13 (List._∷_ 14 (List._∷_ 15 (List._∷_ 16 (List._∷_ 17 (List._∷_ 18 List.[]))))) (Call.sub-id 𝓤 H A W (G76 .slots)) ((Yields.yields-copy 𝓤 H A W (λ ρ. Unit) (Declared.row TrimAnswer.the-type) Path'.refl (Copies.cEnum TrimAnswer.the-type Laws'.the-laws Laws'.the-copy .copy 𝓤 H A W) (Rows.whole (Declared.row TrimAnswer.the-type)) (λ x. x) (λ x. x) (λ ρ told. Local.mem-whole 𝓤 H A W (Declared.row TrimAnswer.the-type) ρ) λ ρ told. Local.whole-mem 𝓤 H A W (Declared.row TrimAnswer.the-type) ρ, Path'.refl), ((Reads.reads-field 𝓤 H A W Size.the-type Laws.the-laws 0 (Syntax.tyInt Syntax.w64) 0 Path'.refl, Path'.refl), (ShrSlice.spares-sslice 𝓤 H A W T.the-row ty·9 14, Shared.reads-sslice 𝓤 H A W T.the-row ty·9 14, Path'.refl, (ShrSlice.spares-sslice 𝓤 H A W (Referent.rtF (Referent.fInt Syntax.w16)) ty·1 15, Shared.reads-sslice 𝓤 H A W (Referent.rtF (Referent.fInt Syntax.w16)) ty·1 15, Path'.refl, (ShrSlice.spares-sslice 𝓤 H A W (Referent.rtF (Referent.fInt Syntax.w16)) ty·1 16, Shared.reads-sslice 𝓤 H A W (Referent.rtF (Referent.fInt Syntax.w16)) ty·1 16, Path'.refl, (ShrSlice.spares-sslice 𝓤 H A W (Referent.rtF (Referent.fInt Syntax.w16)) ty·1 17, Shared.reads-sslice 𝓤 H A W (Referent.rtF (Referent.fInt Syntax.w16)) ty·1 17, Path'.refl, (ShrSlice.spares-sslice 𝓤 H A W (Referent.rtF (Referent.fInt Syntax.w16)) ty·1 18, Shared.reads-sslice 𝓤 H A W (Referent.rtF (Referent.fInt Syntax.w16)) ty·1 18, Path'.refl, tt))))))) (Reads'.room-gone 𝓤 H A Syntax.tyUnit) (tt, (tt, (tt, (tt, (tt, tt))))) Path'.refl) d36
 
-          d38 : Typed.Typed 𝓤 H A 𝓣 E G73 b37 Δ0 at38
-          d38 = Typed.g-pre 𝓤 H A W 𝓣 E G73 G74 b37 Δ0 (λ Ψ. Ψ) at37 (Lifetime.g-begin 𝓤 H A W E G73 18 (tt, (tt, (tt, (tt, (tt, ((tt, tt), ((tt, tt), ((tt, tt), ((tt, tt), (tt, (tt, (tt, (tt, (tt, (tt, (tt, (tt, (tt, (tt, (tt, (tt, (tt, (tt, (tt, (tt, (tt, (tt, (tt, (tt, (tt, (tt, (tt, (tt, (tt, (tt, (tt, (tt, tt)))))))))))))))))))))))))))))))))))))) d37
+          d38 : Typed.Typed 𝓤 H A 𝓣 E G75 b36 Δ0 at38
+          d38 = Typed.s-seq 𝓤 H A W 𝓣 E G75 G76 b30 b35 Δ0 (Typed.ask s73) at37 (Relend.t-sl-aggregate 𝓤 H A W E (Referent.rtF (Referent.fInt Syntax.w16)) 𝓣 (Relend.asShr (Referent.rtF (Referent.fInt Syntax.w16))) G75 35 36 18 ty·1 ty·1 (λ x. x) (Scalar.oFld 9 (List._∷_ (Syntax.field 1) List.[]) (Syntax.tyInt Syntax.w64) 8 λ v. Shared.lenV (v .0)) (Reads'.as-is 𝓤 H A (Relend.ssptr (Referent.rtF (Referent.fInt Syntax.w16)) ty·1 18)) (Reads'.room-gone 𝓤 H A ty·13) (Reshare.reads-owedS-len 𝓤 H A W (Referent.rtF (Referent.fInt Syntax.w16)) ty·7 7 18 (Row.lease (κs .1 .1 .1 .1 .1 .1 .1 .0) (qs .1 .1 .1 .1 .1 .1 .1 .0)) 8 Path'.refl, Path'.refl) Path'.refl Path'.refl λ b o k. tt) d37
 
-          d39 : Typed.Typed 𝓤 H A 𝓣 E G72 b38 Δ0 at39
-          d39 = Typed.s-seq 𝓤 H A W 𝓣 E G72 G73 b28 b37 Δ0 (Typed.ask s70) at38 (Relend.t-sl-aggregate 𝓤 H A W E (Referent.rtF (Referent.fInt Syntax.w16)) 𝓣 (Relend.asShr (Referent.rtF (Referent.fInt Syntax.w16))) G72 33 34 17 ty·1 ty·1 (λ x. x) (Scalar.oFld 8 (List._∷_ (Syntax.field 1) List.[]) (Syntax.tyInt Syntax.w64) 8 λ v. Shared.lenV (v .0)) (Reads.as-is 𝓤 H A (Relend.ssptr (Referent.rtF (Referent.fInt Syntax.w16)) ty·1 17)) (Reads.room-gone 𝓤 H A ty·13) (Reshare.reads-owedS-len 𝓤 H A W (Referent.rtF (Referent.fInt Syntax.w16)) ty·6 6 17 (Row.lease (κs .1 .1 .1 .1 .1 .1 .0) (qs .1 .1 .1 .1 .1 .1 .0)) 8 Path'.refl, Path'.refl) Path'.refl Path'.refl λ b o k. tt) d38
+          d39 : Typed.Typed 𝓤 H A 𝓣 E G74 b37 Δ0 at39
+          d39 = Typed.s-seq 𝓤 H A W 𝓣 E G74 G75 b29 b36 Δ0 (Typed.give s72) at38 (Reshare.t-sl-reshare 𝓤 H A W E (Referent.rtF (Referent.fInt Syntax.w16)) 𝓣 G74 9 35 7 18 ty·7 ty·1 (Row.lease (κs .1 .1 .1 .1 .1 .1 .1 .0) (qs .1 .1 .1 .1 .1 .1 .1 .0)) 0 (λ x. x) (Reads'.as-is 𝓤 H A (Mut.mslice (Referent.rtF (Referent.fInt Syntax.w16)) ty·7 7)) (Reads'.room-gone 𝓤 H A ty·1) Path'.refl tt Path'.refl Path'.refl Path'.refl λ b o. tt) d38
 
-          d40 : Typed.Typed 𝓤 H A 𝓣 E G71 b39 Δ0 at40
-          d40 = Typed.s-seq 𝓤 H A W 𝓣 E G71 G72 b27 b38 Δ0 (Typed.give s69) at39 (Reshare.t-sl-reshare 𝓤 H A W E (Referent.rtF (Referent.fInt Syntax.w16)) 𝓣 G71 8 33 6 17 ty·6 ty·1 (Row.lease (κs .1 .1 .1 .1 .1 .1 .0) (qs .1 .1 .1 .1 .1 .1 .0)) 0 (λ x. x) (Reads.as-is 𝓤 H A (Mut.mslice (Referent.rtF (Referent.fInt Syntax.w16)) ty·6 6)) (Reads.room-gone 𝓤 H A ty·1) Path'.refl tt Path'.refl Path'.refl Path'.refl λ b o. tt) d39
+          d40 : Typed.Typed 𝓤 H A 𝓣 E G73 b37 Δ0 at40
+          d40 = Typed.g-pre 𝓤 H A W 𝓣 E G73 G74 b37 Δ0 (λ Ψ. Ψ) at39 (Lifetime.g-begin 𝓤 H A W E G73 18 (tt, (tt, (tt, (tt, (tt, ((tt, tt), ((tt, tt), ((tt, tt), ((tt, tt), (tt, (tt, (tt, (tt, (tt, (tt, (tt, (tt, (tt, (tt, (tt, (tt, (tt, (tt, (tt, (tt, (tt, (tt, (tt, (tt, (tt, (tt, (tt, (tt, (tt, (tt, (tt, (tt, tt)))))))))))))))))))))))))))))))))))))) d39
 
-          d41 : Typed.Typed 𝓤 H A 𝓣 E G70 b39 Δ0 at41
-          d41 = Typed.g-pre 𝓤 H A W 𝓣 E G70 G71 b39 Δ0 (λ Ψ. Ψ) at40 (Lifetime.g-begin 𝓤 H A W E G70 17 (tt, (tt, (tt, (tt, (tt, ((tt, tt), ((tt, tt), ((tt, tt), (tt, (tt, (tt, (tt, (tt, (tt, (tt, (tt, (tt, (tt, (tt, (tt, (tt, (tt, (tt, (tt, (tt, (tt, (tt, (tt, (tt, (tt, (tt, (tt, (tt, (tt, (tt, (tt, (tt, tt)))))))))))))))))))))))))))))))))))))) d40
+          d41 : Typed.Typed 𝓤 H A 𝓣 E G72 b38 Δ0 at41
+          d41 = Typed.s-seq 𝓤 H A W 𝓣 E G72 G73 b28 b37 Δ0 (Typed.ask s70) at40 (Relend.t-sl-aggregate 𝓤 H A W E (Referent.rtF (Referent.fInt Syntax.w16)) 𝓣 (Relend.asShr (Referent.rtF (Referent.fInt Syntax.w16))) G72 33 34 17 ty·1 ty·1 (λ x. x) (Scalar.oFld 8 (List._∷_ (Syntax.field 1) List.[]) (Syntax.tyInt Syntax.w64) 8 λ v. Shared.lenV (v .0)) (Reads'.as-is 𝓤 H A (Relend.ssptr (Referent.rtF (Referent.fInt Syntax.w16)) ty·1 17)) (Reads'.room-gone 𝓤 H A ty·13) (Reshare.reads-owedS-len 𝓤 H A W (Referent.rtF (Referent.fInt Syntax.w16)) ty·6 6 17 (Row.lease (κs .1 .1 .1 .1 .1 .1 .0) (qs .1 .1 .1 .1 .1 .1 .0)) 8 Path'.refl, Path'.refl) Path'.refl Path'.refl λ b o k. tt) d40
 
-          d42 : Typed.Typed 𝓤 H A 𝓣 E G69 b40 Δ0 at42
-          d42 = Typed.s-seq 𝓤 H A W 𝓣 E G69 G70 b26 b39 Δ0 (Typed.ask s67) at41 (Relend.t-sl-aggregate 𝓤 H A W E (Referent.rtF (Referent.fInt Syntax.w16)) 𝓣 (Relend.asShr (Referent.rtF (Referent.fInt Syntax.w16))) G69 31 32 16 ty·1 ty·1 (λ x. x) (Scalar.oFld 7 (List._∷_ (Syntax.field 1) List.[]) (Syntax.tyInt Syntax.w64) 8 λ v. Shared.lenV (v .0)) (Reads.as-is 𝓤 H A (Relend.ssptr (Referent.rtF (Referent.fInt Syntax.w16)) ty·1 16)) (Reads.room-gone 𝓤 H A ty·13) (Reshare.reads-owedS-len 𝓤 H A W (Referent.rtF (Referent.fInt Syntax.w16)) ty·5 5 16 (Row.lease (κs .1 .1 .1 .1 .1 .0) (qs .1 .1 .1 .1 .1 .0)) 8 Path'.refl, Path'.refl) Path'.refl Path'.refl λ b o k. tt) d41
+          d42 : Typed.Typed 𝓤 H A 𝓣 E G71 b39 Δ0 at42
+          d42 = Typed.s-seq 𝓤 H A W 𝓣 E G71 G72 b27 b38 Δ0 (Typed.give s69) at41 (Reshare.t-sl-reshare 𝓤 H A W E (Referent.rtF (Referent.fInt Syntax.w16)) 𝓣 G71 8 33 6 17 ty·6 ty·1 (Row.lease (κs .1 .1 .1 .1 .1 .1 .0) (qs .1 .1 .1 .1 .1 .1 .0)) 0 (λ x. x) (Reads'.as-is 𝓤 H A (Mut.mslice (Referent.rtF (Referent.fInt Syntax.w16)) ty·6 6)) (Reads'.room-gone 𝓤 H A ty·1) Path'.refl tt Path'.refl Path'.refl Path'.refl λ b o. tt) d41
 
-          d43 : Typed.Typed 𝓤 H A 𝓣 E G68 b41 Δ0 at43
-          d43 = Typed.s-seq 𝓤 H A W 𝓣 E G68 G69 b25 b40 Δ0 (Typed.give s66) at42 (Reshare.t-sl-reshare 𝓤 H A W E (Referent.rtF (Referent.fInt Syntax.w16)) 𝓣 G68 7 31 5 16 ty·5 ty·1 (Row.lease (κs .1 .1 .1 .1 .1 .0) (qs .1 .1 .1 .1 .1 .0)) 0 (λ x. x) (Reads.as-is 𝓤 H A (Mut.mslice (Referent.rtF (Referent.fInt Syntax.w16)) ty·5 5)) (Reads.room-gone 𝓤 H A ty·1) Path'.refl tt Path'.refl Path'.refl Path'.refl λ b o. tt) d42
+          d43 : Typed.Typed 𝓤 H A 𝓣 E G70 b39 Δ0 at43
+          d43 = Typed.g-pre 𝓤 H A W 𝓣 E G70 G71 b39 Δ0 (λ Ψ. Ψ) at42 (Lifetime.g-begin 𝓤 H A W E G70 17 (tt, (tt, (tt, (tt, (tt, ((tt, tt), ((tt, tt), ((tt, tt), (tt, (tt, (tt, (tt, (tt, (tt, (tt, (tt, (tt, (tt, (tt, (tt, (tt, (tt, (tt, (tt, (tt, (tt, (tt, (tt, (tt, (tt, (tt, (tt, (tt, (tt, (tt, (tt, (tt, tt)))))))))))))))))))))))))))))))))))))) d42
 
-          d44 : Typed.Typed 𝓤 H A 𝓣 E G67 b41 Δ0 at44
-          d44 = Typed.g-pre 𝓤 H A W 𝓣 E G67 G68 b41 Δ0 (λ Ψ. Ψ) at43 (Lifetime.g-begin 𝓤 H A W E G67 16 (tt, (tt, (tt, (tt, (tt, ((tt, tt), ((tt, tt), (tt, (tt, (tt, (tt, (tt, (tt, (tt, (tt, (tt, (tt, (tt, (tt, (tt, (tt, (tt, (tt, (tt, (tt, (tt, (tt, (tt, (tt, (tt, (tt, (tt, (tt, (tt, (tt, (tt, (tt, tt)))))))))))))))))))))))))))))))))))))) d43
+          d44 : Typed.Typed 𝓤 H A 𝓣 E G69 b40 Δ0 at44
+          d44 = Typed.s-seq 𝓤 H A W 𝓣 E G69 G70 b26 b39 Δ0 (Typed.ask s67) at43 (Relend.t-sl-aggregate 𝓤 H A W E (Referent.rtF (Referent.fInt Syntax.w16)) 𝓣 (Relend.asShr (Referent.rtF (Referent.fInt Syntax.w16))) G69 31 32 16 ty·1 ty·1 (λ x. x) (Scalar.oFld 7 (List._∷_ (Syntax.field 1) List.[]) (Syntax.tyInt Syntax.w64) 8 λ v. Shared.lenV (v .0)) (Reads'.as-is 𝓤 H A (Relend.ssptr (Referent.rtF (Referent.fInt Syntax.w16)) ty·1 16)) (Reads'.room-gone 𝓤 H A ty·13) (Reshare.reads-owedS-len 𝓤 H A W (Referent.rtF (Referent.fInt Syntax.w16)) ty·5 5 16 (Row.lease (κs .1 .1 .1 .1 .1 .0) (qs .1 .1 .1 .1 .1 .0)) 8 Path'.refl, Path'.refl) Path'.refl Path'.refl λ b o k. tt) d43
 
-          d45 : Typed.Typed 𝓤 H A 𝓣 E G66 b42 Δ0 at45
-          d45 = Typed.s-seq 𝓤 H A W 𝓣 E G66 G67 b24 b41 Δ0 (Typed.ask s64) at44 (Relend.t-sl-aggregate 𝓤 H A W E (Referent.rtF (Referent.fInt Syntax.w16)) 𝓣 (Relend.asShr (Referent.rtF (Referent.fInt Syntax.w16))) G66 29 30 15 ty·1 ty·1 (λ x. x) (Scalar.oFld 6 (List._∷_ (Syntax.field 1) List.[]) (Syntax.tyInt Syntax.w64) 8 λ v. Shared.lenV (v .0)) (Reads.as-is 𝓤 H A (Relend.ssptr (Referent.rtF (Referent.fInt Syntax.w16)) ty·1 15)) (Reads.room-gone 𝓤 H A ty·13) (Reshare.reads-owedS-len 𝓤 H A W (Referent.rtF (Referent.fInt Syntax.w16)) ty·4 4 15 (Row.lease (κs .1 .1 .1 .1 .0) (qs .1 .1 .1 .1 .0)) 8 Path'.refl, Path'.refl) Path'.refl Path'.refl λ b o k. tt) d44
+          d45 : Typed.Typed 𝓤 H A 𝓣 E G68 b41 Δ0 at45
+          d45 = Typed.s-seq 𝓤 H A W 𝓣 E G68 G69 b25 b40 Δ0 (Typed.give s66) at44 (Reshare.t-sl-reshare 𝓤 H A W E (Referent.rtF (Referent.fInt Syntax.w16)) 𝓣 G68 7 31 5 16 ty·5 ty·1 (Row.lease (κs .1 .1 .1 .1 .1 .0) (qs .1 .1 .1 .1 .1 .0)) 0 (λ x. x) (Reads'.as-is 𝓤 H A (Mut.mslice (Referent.rtF (Referent.fInt Syntax.w16)) ty·5 5)) (Reads'.room-gone 𝓤 H A ty·1) Path'.refl tt Path'.refl Path'.refl Path'.refl λ b o. tt) d44
 
-          d46 : Typed.Typed 𝓤 H A 𝓣 E G65 b43 Δ0 at46
-          d46 = Typed.s-seq 𝓤 H A W 𝓣 E G65 G66 b23 b42 Δ0 (Typed.give s63) at45 (Reshare.t-sl-reshare 𝓤 H A W E (Referent.rtF (Referent.fInt Syntax.w16)) 𝓣 G65 6 29 4 15 ty·4 ty·1 (Row.lease (κs .1 .1 .1 .1 .0) (qs .1 .1 .1 .1 .0)) 0 (λ x. x) (Reads.as-is 𝓤 H A (Mut.mslice (Referent.rtF (Referent.fInt Syntax.w16)) ty·4 4)) (Reads.room-gone 𝓤 H A ty·1) Path'.refl tt Path'.refl Path'.refl Path'.refl λ b o. tt) d45
+          d46 : Typed.Typed 𝓤 H A 𝓣 E G67 b41 Δ0 at46
+          d46 = Typed.g-pre 𝓤 H A W 𝓣 E G67 G68 b41 Δ0 (λ Ψ. Ψ) at45 (Lifetime.g-begin 𝓤 H A W E G67 16 (tt, (tt, (tt, (tt, (tt, ((tt, tt), ((tt, tt), (tt, (tt, (tt, (tt, (tt, (tt, (tt, (tt, (tt, (tt, (tt, (tt, (tt, (tt, (tt, (tt, (tt, (tt, (tt, (tt, (tt, (tt, (tt, (tt, (tt, (tt, (tt, (tt, (tt, (tt, tt)))))))))))))))))))))))))))))))))))))) d45
 
-          d47 : Typed.Typed 𝓤 H A 𝓣 E G64 b43 Δ0 at47
-          d47 = Typed.g-pre 𝓤 H A W 𝓣 E G64 G65 b43 Δ0 (λ Ψ. Ψ) at46 (Lifetime.g-begin 𝓤 H A W E G64 15 (tt, (tt, (tt, (tt, (tt, ((tt, tt), (tt, (tt, (tt, (tt, (tt, (tt, (tt, (tt, (tt, (tt, (tt, (tt, (tt, (tt, (tt, (tt, (tt, (tt, (tt, (tt, (tt, (tt, (tt, (tt, (tt, (tt, (tt, (tt, (tt, (tt, (tt, tt)))))))))))))))))))))))))))))))))))))) d46
+          d47 : Typed.Typed 𝓤 H A 𝓣 E G66 b42 Δ0 at47
+          d47 = Typed.s-seq 𝓤 H A W 𝓣 E G66 G67 b24 b41 Δ0 (Typed.ask s64) at46 (Relend.t-sl-aggregate 𝓤 H A W E (Referent.rtF (Referent.fInt Syntax.w16)) 𝓣 (Relend.asShr (Referent.rtF (Referent.fInt Syntax.w16))) G66 29 30 15 ty·1 ty·1 (λ x. x) (Scalar.oFld 6 (List._∷_ (Syntax.field 1) List.[]) (Syntax.tyInt Syntax.w64) 8 λ v. Shared.lenV (v .0)) (Reads'.as-is 𝓤 H A (Relend.ssptr (Referent.rtF (Referent.fInt Syntax.w16)) ty·1 15)) (Reads'.room-gone 𝓤 H A ty·13) (Reshare.reads-owedS-len 𝓤 H A W (Referent.rtF (Referent.fInt Syntax.w16)) ty·4 4 15 (Row.lease (κs .1 .1 .1 .1 .0) (qs .1 .1 .1 .1 .0)) 8 Path'.refl, Path'.refl) Path'.refl Path'.refl λ b o k. tt) d46
 
-          d48 : Typed.Typed 𝓤 H A 𝓣 E G63 b44 Δ0 at48
-          d48 = Typed.s-seq 𝓤 H A W 𝓣 E G63 G64 b22 b43 Δ0 (Typed.ask s61) at47 (Relend.t-sl-aggregate 𝓤 H A W E T.the-row 𝓣 (Relend.asShr T.the-row) G63 27 28 14 ty·9 ty·9 (λ x. x) (Scalar.oFld 5 (List._∷_ (Syntax.field 1) List.[]) (Syntax.tyInt Syntax.w64) 8 λ v. Shared.lenV (v .0)) (Reads.as-is 𝓤 H A (Relend.ssptr T.the-row ty·9 14)) (Reads.room-gone 𝓤 H A ty·15) (Reshare.reads-owedS-len 𝓤 H A W T.the-row ty·11 3 14 (Row.lease (κs .1 .1 .1 .0) (qs .1 .1 .1 .0)) 8 Path'.refl, Path'.refl) Path'.refl Path'.refl λ b o k. tt) d47
+          d48 : Typed.Typed 𝓤 H A 𝓣 E G65 b43 Δ0 at48
+          d48 = Typed.s-seq 𝓤 H A W 𝓣 E G65 G66 b23 b42 Δ0 (Typed.give s63) at47 (Reshare.t-sl-reshare 𝓤 H A W E (Referent.rtF (Referent.fInt Syntax.w16)) 𝓣 G65 6 29 4 15 ty·4 ty·1 (Row.lease (κs .1 .1 .1 .1 .0) (qs .1 .1 .1 .1 .0)) 0 (λ x. x) (Reads'.as-is 𝓤 H A (Mut.mslice (Referent.rtF (Referent.fInt Syntax.w16)) ty·4 4)) (Reads'.room-gone 𝓤 H A ty·1) Path'.refl tt Path'.refl Path'.refl Path'.refl λ b o. tt) d47
 
-          d49 : Typed.Typed 𝓤 H A 𝓣 E G62 b45 Δ0 at49
-          d49 = Typed.s-seq 𝓤 H A W 𝓣 E G62 G63 b21 b44 Δ0 (Typed.give s60) at48 (Reshare.t-sl-reshare 𝓤 H A W E T.the-row 𝓣 G62 5 27 3 14 ty·11 ty·9 (Row.lease (κs .1 .1 .1 .0) (qs .1 .1 .1 .0)) 0 (λ x. x) (Reads.as-is 𝓤 H A (Mut.mslice T.the-row ty·11 3)) (Reads.room-gone 𝓤 H A ty·9) Path'.refl tt Path'.refl Path'.refl Path'.refl λ b o. tt) d48
+          d49 : Typed.Typed 𝓤 H A 𝓣 E G64 b43 Δ0 at49
+          d49 = Typed.g-pre 𝓤 H A W 𝓣 E G64 G65 b43 Δ0 (λ Ψ. Ψ) at48 (Lifetime.g-begin 𝓤 H A W E G64 15 (tt, (tt, (tt, (tt, (tt, ((tt, tt), (tt, (tt, (tt, (tt, (tt, (tt, (tt, (tt, (tt, (tt, (tt, (tt, (tt, (tt, (tt, (tt, (tt, (tt, (tt, (tt, (tt, (tt, (tt, (tt, (tt, (tt, (tt, (tt, (tt, (tt, (tt, tt)))))))))))))))))))))))))))))))))))))) d48
 
-          d50 : Typed.Typed 𝓤 H A 𝓣 E G55 b45 Δ0 at50
-          d50 = Typed.g-pre 𝓤 H A W 𝓣 E G55 G62 b45 Δ0 (λ Ψ. Ψ) at49 (Lifetime.g-begin 𝓤 H A W E G55 14 (tt, (tt, (tt, (tt, (tt, (tt, (tt, (tt, (tt, (tt, (tt, (tt, (tt, (tt, (tt, (tt, (tt, (tt, (tt, (tt, (tt, (tt, (tt, (tt, (tt, (tt, (tt, (tt, (tt, (tt, (tt, (tt, (tt, (tt, (tt, (tt, (tt, tt)))))))))))))))))))))))))))))))))))))) d49
+          d50 : Typed.Typed 𝓤 H A 𝓣 E G63 b44 Δ0 at50
+          d50 = Typed.s-seq 𝓤 H A W 𝓣 E G63 G64 b22 b43 Δ0 (Typed.ask s61) at49 (Relend.t-sl-aggregate 𝓤 H A W E T.the-row 𝓣 (Relend.asShr T.the-row) G63 27 28 14 ty·9 ty·9 (λ x. x) (Scalar.oFld 5 (List._∷_ (Syntax.field 1) List.[]) (Syntax.tyInt Syntax.w64) 8 λ v. Shared.lenV (v .0)) (Reads'.as-is 𝓤 H A (Relend.ssptr T.the-row ty·9 14)) (Reads'.room-gone 𝓤 H A ty·15) (Reshare.reads-owedS-len 𝓤 H A W T.the-row ty·11 3 14 (Row.lease (κs .1 .1 .1 .0) (qs .1 .1 .1 .0)) 8 Path'.refl, Path'.refl) Path'.refl Path'.refl λ b o k. tt) d49
 
-          d51 : Typed.Typed 𝓤 H A 𝓣 E G54 b46 Δ0 at51
-          d51 = Typed.t-seq 𝓤 H A W 𝓣 E G54 G55 b20 b45 Δ0 at8 at50 d8 d50
+          d51 : Typed.Typed 𝓤 H A 𝓣 E G62 b45 Δ0 at51
+          d51 = Typed.s-seq 𝓤 H A W 𝓣 E G62 G63 b21 b44 Δ0 (Typed.give s60) at50 (Reshare.t-sl-reshare 𝓤 H A W E T.the-row 𝓣 G62 5 27 3 14 ty·11 ty·9 (Row.lease (κs .1 .1 .1 .0) (qs .1 .1 .1 .0)) 0 (λ x. x) (Reads'.as-is 𝓤 H A (Mut.mslice T.the-row ty·11 3)) (Reads'.room-gone 𝓤 H A ty·9) Path'.refl tt Path'.refl Path'.refl Path'.refl λ b o. tt) d50
 
-          d52 : Typed.Typed 𝓤 H A 𝓣 E G53 b47 Δ0 at52
-          d52 = Typed.s-seq 𝓤 H A W 𝓣 E G53 G54 b15 b46 Δ0 (Typed.ask s52) at51 (Scalar.t-op1 𝓤 H A W E 𝓣 G53 Syntax.bitNot (Scalar.oAt 11 Syntax.tyBool (Row.valS Row.sBool)) 26 (Rows.sc-here Row.sBool) Syntax.tyBool (Row.valS Row.sBool) (Row.sBool .of) (Scalar.reads-sc 𝓤 H A W Row.sBool, Path'.refl) (Reads.room-gone 𝓤 H A Syntax.tyBool) (Scalar.holds-sc 𝓤 H A W Row.sBool) Path'.refl (λ u. Path'.refl) λ u. tt) d51
+          d52 : Typed.Typed 𝓤 H A 𝓣 E G54 b45 Δ0 at52
+          d52 = Typed.g-pre 𝓤 H A W 𝓣 E G54 G62 b45 Δ0 (λ Ψ. Ψ) at51 (Lifetime.g-begin 𝓤 H A W E G54 14 (tt, (tt, (tt, (tt, (tt, (tt, (tt, (tt, (tt, (tt, (tt, (tt, (tt, (tt, (tt, (tt, (tt, (tt, (tt, (tt, (tt, (tt, (tt, (tt, (tt, (tt, (tt, (tt, (tt, (tt, (tt, (tt, (tt, (tt, (tt, (tt, (tt, tt)))))))))))))))))))))))))))))))))))))) d51
 
-          d53 : Typed.Typed 𝓤 H A 𝓣 E G52 b47 Δ0 at53
-          d53 = Typed.g-pre 𝓤 H A W 𝓣 E G52 G53 b47 Δ0 (Typed.pass T52 T53 s51) at52 (Scalar.g-room 𝓤 H A W E G52 13 Syntax.tyUnit (Scalar.room-sc 𝓤 H A W Row.sUnit)) d52
+          d53 : Typed.Typed 𝓤 H A 𝓣 E G53 b46 Δ0 at53
+          d53 = Typed.t-seq 𝓤 H A W 𝓣 E G53 G54 b20 b45 Δ0 at9 at52 d9 d52
 
-          d54 : Typed.Typed 𝓤 H A 𝓣 E G51 b48 Δ0 at54
-          d54 = Typed.s-seq 𝓤 H A W 𝓣 E G51 G52 b14 b47 Δ0 (Typed.both s50) at53 (Plain.t-call-plain 𝓤 H A W 𝓣 0 ps·2 r·2 (claims· .4) (claims· .5) "bench_plans::trims::print_answer" (known .2) E (λ pos β. β) G51 (record { pos = 12; st = List.[]; d = 0; at = λ x. x }, tt) 13 List.[] (Call.sub-id 𝓤 H A W (G51 .slots)) ((Yields.yields-copy 𝓤 H A W (λ ρ. Unit) (Declared.row TrimAnswer.the-type) Path'.refl (Copies.cEnum TrimAnswer.the-type Laws'.the-laws Laws'.the-copy .copy 𝓤 H A W) (Rows.whole (Declared.row TrimAnswer.the-type)) (λ x. x) (λ x. x) (λ ρ told. Local.mem-whole 𝓤 H A W (Declared.row TrimAnswer.the-type) ρ) λ ρ told. Local.whole-mem 𝓤 H A W (Declared.row TrimAnswer.the-type) ρ, Path'.refl), tt) (Reads.room-gone 𝓤 H A Syntax.tyUnit) tt Path'.refl) d53
+          d54 : Typed.Typed 𝓤 H A 𝓣 E G52 b47 Δ0 at54
+          d54 = Typed.s-seq 𝓤 H A W 𝓣 E G52 G53 b15 b46 Δ0 (Typed.ask s51) at53 (Scalar.t-op1 𝓤 H A W E 𝓣 G52 Syntax.bitNot (Scalar.oAt 11 Syntax.tyBool (Row.valS Row.sBool)) 26 (Rows.sc-here Row.sBool) Syntax.tyBool (Row.valS Row.sBool) (Row.sBool .of) (Scalar.reads-sc 𝓤 H A W Row.sBool, Path'.refl) (Reads'.room-gone 𝓤 H A Syntax.tyBool) (Scalar.holds-sc 𝓤 H A W Row.sBool) Path'.refl (λ u. Path'.refl) λ u. tt) d53
 
-          d55 : Typed.Typed 𝓤 H A 𝓣 E G50 b48 Δ0 at55
-          d55 = Typed.g-pre 𝓤 H A W 𝓣 E G50 G51 b48 Δ0 (λ Ψ. Ψ) at54 (Lifetime.g-forget 𝓤 H A W E G50 13 Row.dead Path'.refl) d54
+          d55 : Typed.Typed 𝓤 H A 𝓣 E G51 b47 Δ0 at55
+          d55 = Typed.g-pre 𝓤 H A W 𝓣 E G51 G52 b47 Δ0 (Typed.pass T51 T52 s50) at54 (Scalar.g-room 𝓤 H A W E G51 13 Syntax.tyUnit (Scalar.room-sc 𝓤 H A W Row.sUnit)) d54
 
-          d56 : Typed.Typed 𝓤 H A 𝓣 E G49 b48 Δ0 at56
-          d56 = Typed.g-pre 𝓤 H A W 𝓣 E G49 G50 b48 Δ0 (Typed.give s48) at55 (Know.g-sl-known 𝓤 H A W (Referent.fInt Syntax.w16) E G49 9 7 ty·7 (Row.lease (κs .1 .1 .1 .1 .1 .1 .1 .0) (qs .1 .1 .1 .1 .1 .1 .1 .0)) 0 (λ x. x) record { fits = Dec'.lit< tt } (Reads.as-is 𝓤 H A (Mut.mslice (Referent.rtF (Referent.fInt Syntax.w16)) ty·7 7)) Path'.refl tt) d55
+          d56 : Typed.Typed 𝓤 H A 𝓣 E G50 b48 Δ0 at56
+          d56 = Typed.s-seq 𝓤 H A W 𝓣 E G50 G51 b14 b47 Δ0 (Typed.both s49) at55 (Plain.t-call-plain 𝓤 H A W 𝓣 0 ps·2 r·2 (claims· .4) (claims· .5) "bench_plans::trims::print_answer" (known .2) E (λ pos β. β) G50 (record { pos = 12; st = List.[]; d = 0; at = λ x. x }, tt) 13 List.[] (Call.sub-id 𝓤 H A W (G50 .slots)) ((Yields.yields-copy 𝓤 H A W (λ ρ. Unit) (Declared.row TrimAnswer.the-type) Path'.refl (Copies.cEnum TrimAnswer.the-type Laws'.the-laws Laws'.the-copy .copy 𝓤 H A W) (Rows.whole (Declared.row TrimAnswer.the-type)) (λ x. x) (λ x. x) (λ ρ told. Local.mem-whole 𝓤 H A W (Declared.row TrimAnswer.the-type) ρ) λ ρ told. Local.whole-mem 𝓤 H A W (Declared.row TrimAnswer.the-type) ρ, Path'.refl), tt) (Reads'.room-gone 𝓤 H A Syntax.tyUnit) tt Path'.refl) d55
 
-          d57 : Typed.Typed 𝓤 H A 𝓣 E G48 b48 Δ0 at57
-          d57 = Typed.g-pre 𝓤 H A W 𝓣 E G48 G49 b48 Δ0 (Typed.both s47) at56 (Relend.g-back-sl 𝓤 H A W E (Referent.rtF (Referent.fInt Syntax.w16)) G48 25 9 7 13 ty·7 ty·0 (Row.lease (κs .1 .1 .1 .1 .1 .1 .1 .0) (qs .1 .1 .1 .1 .1 .1 .1 .0)) (λ x. x) (λ x. x) (Reads.as-is 𝓤 H A (Mut.msleft (Referent.rtF (Referent.fInt Syntax.w16)) ty·0)) (Reads.as-is 𝓤 H A (Relend.mslice-owed (Referent.rtF (Referent.fInt Syntax.w16)) ty·7 7 13 (Row.lease (κs .1 .1 .1 .1 .1 .1 .1 .0) (qs .1 .1 .1 .1 .1 .1 .1 .0)))) Path'.refl Path'.refl) d56
+          d57 : Typed.Typed 𝓤 H A 𝓣 E G49 b48 Δ0 at57
+          d57 = Typed.g-pre 𝓤 H A W 𝓣 E G49 G50 b48 Δ0 (λ Ψ. Ψ) at56 (Lifetime.g-forget 𝓤 H A W E G49 13 Row.dead Path'.refl) d56
 
-          d58 : Typed.Typed 𝓤 H A 𝓣 E G47 b48 Δ0 at58
-          d58 = Typed.g-pre 𝓤 H A W 𝓣 E G47 G48 b48 Δ0 (λ Ψ. Ψ) at57 (Lifetime.g-end 𝓤 H A W E G47 13 Path'.refl) d57
+          d58 : Typed.Typed 𝓤 H A 𝓣 E G48 b48 Δ0 at58
+          d58 = Typed.g-pre 𝓤 H A W 𝓣 E G48 G49 b48 Δ0 (Typed.give s47) at57 (Know.g-sl-known 𝓤 H A W (Referent.fInt Syntax.w16) E G48 9 7 ty·7 (Row.lease (κs .1 .1 .1 .1 .1 .1 .1 .0) (qs .1 .1 .1 .1 .1 .1 .1 .0)) 0 (λ x. x) record { fits = Dec'.lit< tt } (Reads'.as-is 𝓤 H A (Mut.mslice (Referent.rtF (Referent.fInt Syntax.w16)) ty·7 7)) Path'.refl tt) d57
 
-          d59 : Typed.Typed 𝓤 H A 𝓣 E G46 b48 Δ0 at59
-          d59 = Typed.g-pre 𝓤 H A W 𝓣 E G46 G47 b48 Δ0 (λ Ψ. Ψ) at58 (Lifetime.g-forget 𝓤 H A W E G46 12 Row.dead Path'.refl) d58
+          d59 : Typed.Typed 𝓤 H A 𝓣 E G47 b48 Δ0 at59
+          d59 = Typed.g-pre 𝓤 H A W 𝓣 E G47 G48 b48 Δ0 (Typed.both s46) at58 (Relend.g-back-sl 𝓤 H A W E (Referent.rtF (Referent.fInt Syntax.w16)) G47 25 9 7 13 ty·7 ty·0 (Row.lease (κs .1 .1 .1 .1 .1 .1 .1 .0) (qs .1 .1 .1 .1 .1 .1 .1 .0)) (λ x. x) (λ x. x) (Reads'.as-is 𝓤 H A (Mut.msleft (Referent.rtF (Referent.fInt Syntax.w16)) ty·0)) (Reads'.as-is 𝓤 H A (Relend.mslice-owed (Referent.rtF (Referent.fInt Syntax.w16)) ty·7 7 13 (Row.lease (κs .1 .1 .1 .1 .1 .1 .1 .0) (qs .1 .1 .1 .1 .1 .1 .1 .0)))) Path'.refl Path'.refl) d58
 
-          d60 : Typed.Typed 𝓤 H A 𝓣 E G45 b48 Δ0 at60
-          d60 = Typed.g-pre 𝓤 H A W 𝓣 E G45 G46 b48 Δ0 (Typed.give s44) at59 (Know.g-sl-known 𝓤 H A W (Referent.fInt Syntax.w16) E G45 8 6 ty·6 (Row.lease (κs .1 .1 .1 .1 .1 .1 .0) (qs .1 .1 .1 .1 .1 .1 .0)) 0 (λ x. x) record { fits = Dec'.lit< tt } (Reads.as-is 𝓤 H A (Mut.mslice (Referent.rtF (Referent.fInt Syntax.w16)) ty·6 6)) Path'.refl tt) d59
+          d60 : Typed.Typed 𝓤 H A 𝓣 E G46 b48 Δ0 at60
+          d60 = Typed.g-pre 𝓤 H A W 𝓣 E G46 G47 b48 Δ0 (λ Ψ. Ψ) at59 (Lifetime.g-end 𝓤 H A W E G46 13 Path'.refl) d59
 
-          d61 : Typed.Typed 𝓤 H A 𝓣 E G44 b48 Δ0 at61
-          d61 = Typed.g-pre 𝓤 H A W 𝓣 E G44 G45 b48 Δ0 (Typed.both s43) at60 (Relend.g-back-sl 𝓤 H A W E (Referent.rtF (Referent.fInt Syntax.w16)) G44 23 8 6 12 ty·6 ty·0 (Row.lease (κs .1 .1 .1 .1 .1 .1 .0) (qs .1 .1 .1 .1 .1 .1 .0)) (λ x. x) (λ x. x) (Reads.as-is 𝓤 H A (Mut.msleft (Referent.rtF (Referent.fInt Syntax.w16)) ty·0)) (Reads.as-is 𝓤 H A (Relend.mslice-owed (Referent.rtF (Referent.fInt Syntax.w16)) ty·6 6 12 (Row.lease (κs .1 .1 .1 .1 .1 .1 .0) (qs .1 .1 .1 .1 .1 .1 .0)))) Path'.refl Path'.refl) d60
+          d61 : Typed.Typed 𝓤 H A 𝓣 E G45 b48 Δ0 at61
+          d61 = Typed.g-pre 𝓤 H A W 𝓣 E G45 G46 b48 Δ0 (λ Ψ. Ψ) at60 (Lifetime.g-forget 𝓤 H A W E G45 12 Row.dead Path'.refl) d60
 
-          d62 : Typed.Typed 𝓤 H A 𝓣 E G43 b48 Δ0 at62
-          d62 = Typed.g-pre 𝓤 H A W 𝓣 E G43 G44 b48 Δ0 (λ Ψ. Ψ) at61 (Lifetime.g-end 𝓤 H A W E G43 12 Path'.refl) d61
+          d62 : Typed.Typed 𝓤 H A 𝓣 E G44 b48 Δ0 at62
+          d62 = Typed.g-pre 𝓤 H A W 𝓣 E G44 G45 b48 Δ0 (Typed.give s43) at61 (Know.g-sl-known 𝓤 H A W (Referent.fInt Syntax.w16) E G44 8 6 ty·6 (Row.lease (κs .1 .1 .1 .1 .1 .1 .0) (qs .1 .1 .1 .1 .1 .1 .0)) 0 (λ x. x) record { fits = Dec'.lit< tt } (Reads'.as-is 𝓤 H A (Mut.mslice (Referent.rtF (Referent.fInt Syntax.w16)) ty·6 6)) Path'.refl tt) d61
 
-          d63 : Typed.Typed 𝓤 H A 𝓣 E G42 b48 Δ0 at63
-          d63 = Typed.g-pre 𝓤 H A W 𝓣 E G42 G43 b48 Δ0 (λ Ψ. Ψ) at62 (Lifetime.g-forget 𝓤 H A W E G42 11 Row.dead Path'.refl) d62
+          d63 : Typed.Typed 𝓤 H A 𝓣 E G43 b48 Δ0 at63
+          d63 = Typed.g-pre 𝓤 H A W 𝓣 E G43 G44 b48 Δ0 (Typed.both s42) at62 (Relend.g-back-sl 𝓤 H A W E (Referent.rtF (Referent.fInt Syntax.w16)) G43 23 8 6 12 ty·6 ty·0 (Row.lease (κs .1 .1 .1 .1 .1 .1 .0) (qs .1 .1 .1 .1 .1 .1 .0)) (λ x. x) (λ x. x) (Reads'.as-is 𝓤 H A (Mut.msleft (Referent.rtF (Referent.fInt Syntax.w16)) ty·0)) (Reads'.as-is 𝓤 H A (Relend.mslice-owed (Referent.rtF (Referent.fInt Syntax.w16)) ty·6 6 12 (Row.lease (κs .1 .1 .1 .1 .1 .1 .0) (qs .1 .1 .1 .1 .1 .1 .0)))) Path'.refl Path'.refl) d62
 
-          d64 : Typed.Typed 𝓤 H A 𝓣 E G41 b48 Δ0 at64
-          d64 = Typed.g-pre 𝓤 H A W 𝓣 E G41 G42 b48 Δ0 (Typed.give s40) at63 (Know.g-sl-known 𝓤 H A W (Referent.fInt Syntax.w16) E G41 7 5 ty·5 (Row.lease (κs .1 .1 .1 .1 .1 .0) (qs .1 .1 .1 .1 .1 .0)) 0 (λ x. x) record { fits = Dec'.lit< tt } (Reads.as-is 𝓤 H A (Mut.mslice (Referent.rtF (Referent.fInt Syntax.w16)) ty·5 5)) Path'.refl tt) d63
+          d64 : Typed.Typed 𝓤 H A 𝓣 E G42 b48 Δ0 at64
+          d64 = Typed.g-pre 𝓤 H A W 𝓣 E G42 G43 b48 Δ0 (λ Ψ. Ψ) at63 (Lifetime.g-end 𝓤 H A W E G42 12 Path'.refl) d63
 
-          d65 : Typed.Typed 𝓤 H A 𝓣 E G40 b48 Δ0 at65
-          d65 = Typed.g-pre 𝓤 H A W 𝓣 E G40 G41 b48 Δ0 (Typed.both s39) at64 (Relend.g-back-sl 𝓤 H A W E (Referent.rtF (Referent.fInt Syntax.w16)) G40 21 7 5 11 ty·5 ty·0 (Row.lease (κs .1 .1 .1 .1 .1 .0) (qs .1 .1 .1 .1 .1 .0)) (λ x. x) (λ x. x) (Reads.as-is 𝓤 H A (Mut.msleft (Referent.rtF (Referent.fInt Syntax.w16)) ty·0)) (Reads.as-is 𝓤 H A (Relend.mslice-owed (Referent.rtF (Referent.fInt Syntax.w16)) ty·5 5 11 (Row.lease (κs .1 .1 .1 .1 .1 .0) (qs .1 .1 .1 .1 .1 .0)))) Path'.refl Path'.refl) d64
+          d65 : Typed.Typed 𝓤 H A 𝓣 E G41 b48 Δ0 at65
+          d65 = Typed.g-pre 𝓤 H A W 𝓣 E G41 G42 b48 Δ0 (λ Ψ. Ψ) at64 (Lifetime.g-forget 𝓤 H A W E G41 11 Row.dead Path'.refl) d64
 
-          d66 : Typed.Typed 𝓤 H A 𝓣 E G39 b48 Δ0 at66
-          d66 = Typed.g-pre 𝓤 H A W 𝓣 E G39 G40 b48 Δ0 (λ Ψ. Ψ) at65 (Lifetime.g-end 𝓤 H A W E G39 11 Path'.refl) d65
+          d66 : Typed.Typed 𝓤 H A 𝓣 E G40 b48 Δ0 at66
+          d66 = Typed.g-pre 𝓤 H A W 𝓣 E G40 G41 b48 Δ0 (Typed.give s39) at65 (Know.g-sl-known 𝓤 H A W (Referent.fInt Syntax.w16) E G40 7 5 ty·5 (Row.lease (κs .1 .1 .1 .1 .1 .0) (qs .1 .1 .1 .1 .1 .0)) 0 (λ x. x) record { fits = Dec'.lit< tt } (Reads'.as-is 𝓤 H A (Mut.mslice (Referent.rtF (Referent.fInt Syntax.w16)) ty·5 5)) Path'.refl tt) d65
 
-          d67 : Typed.Typed 𝓤 H A 𝓣 E G38 b48 Δ0 at67
-          d67 = Typed.g-pre 𝓤 H A W 𝓣 E G38 G39 b48 Δ0 (λ Ψ. Ψ) at66 (Lifetime.g-forget 𝓤 H A W E G38 10 Row.dead Path'.refl) d66
+          d67 : Typed.Typed 𝓤 H A 𝓣 E G39 b48 Δ0 at67
+          d67 = Typed.g-pre 𝓤 H A W 𝓣 E G39 G40 b48 Δ0 (Typed.both s38) at66 (Relend.g-back-sl 𝓤 H A W E (Referent.rtF (Referent.fInt Syntax.w16)) G39 21 7 5 11 ty·5 ty·0 (Row.lease (κs .1 .1 .1 .1 .1 .0) (qs .1 .1 .1 .1 .1 .0)) (λ x. x) (λ x. x) (Reads'.as-is 𝓤 H A (Mut.msleft (Referent.rtF (Referent.fInt Syntax.w16)) ty·0)) (Reads'.as-is 𝓤 H A (Relend.mslice-owed (Referent.rtF (Referent.fInt Syntax.w16)) ty·5 5 11 (Row.lease (κs .1 .1 .1 .1 .1 .0) (qs .1 .1 .1 .1 .1 .0)))) Path'.refl Path'.refl) d66
 
-          d68 : Typed.Typed 𝓤 H A 𝓣 E G37 b48 Δ0 at68
-          d68 = Typed.g-pre 𝓤 H A W 𝓣 E G37 G38 b48 Δ0 (Typed.give s36) at67 (Know.g-sl-known 𝓤 H A W (Referent.fInt Syntax.w16) E G37 6 4 ty·4 (Row.lease (κs .1 .1 .1 .1 .0) (qs .1 .1 .1 .1 .0)) 0 (λ x. x) record { fits = Dec'.lit< tt } (Reads.as-is 𝓤 H A (Mut.mslice (Referent.rtF (Referent.fInt Syntax.w16)) ty·4 4)) Path'.refl tt) d67
+          d68 : Typed.Typed 𝓤 H A 𝓣 E G38 b48 Δ0 at68
+          d68 = Typed.g-pre 𝓤 H A W 𝓣 E G38 G39 b48 Δ0 (λ Ψ. Ψ) at67 (Lifetime.g-end 𝓤 H A W E G38 11 Path'.refl) d67
 
-          d69 : Typed.Typed 𝓤 H A 𝓣 E G36 b48 Δ0 at69
-          d69 = Typed.g-pre 𝓤 H A W 𝓣 E G36 G37 b48 Δ0 (Typed.both s35) at68 (Relend.g-back-sl 𝓤 H A W E (Referent.rtF (Referent.fInt Syntax.w16)) G36 19 6 4 10 ty·4 ty·0 (Row.lease (κs .1 .1 .1 .1 .0) (qs .1 .1 .1 .1 .0)) (λ x. x) (λ x. x) (Reads.as-is 𝓤 H A (Mut.msleft (Referent.rtF (Referent.fInt Syntax.w16)) ty·0)) (Reads.as-is 𝓤 H A (Relend.mslice-owed (Referent.rtF (Referent.fInt Syntax.w16)) ty·4 4 10 (Row.lease (κs .1 .1 .1 .1 .0) (qs .1 .1 .1 .1 .0)))) Path'.refl Path'.refl) d68
+          d69 : Typed.Typed 𝓤 H A 𝓣 E G37 b48 Δ0 at69
+          d69 = Typed.g-pre 𝓤 H A W 𝓣 E G37 G38 b48 Δ0 (λ Ψ. Ψ) at68 (Lifetime.g-forget 𝓤 H A W E G37 10 Row.dead Path'.refl) d68
 
-          d70 : Typed.Typed 𝓤 H A 𝓣 E G35 b48 Δ0 at70
-          d70 = Typed.g-pre 𝓤 H A W 𝓣 E G35 G36 b48 Δ0 (λ Ψ. Ψ) at69 (Lifetime.g-end 𝓤 H A W E G35 10 Path'.refl) d69
+          d70 : Typed.Typed 𝓤 H A 𝓣 E G36 b48 Δ0 at70
+          d70 = Typed.g-pre 𝓤 H A W 𝓣 E G36 G37 b48 Δ0 (Typed.give s35) at69 (Know.g-sl-known 𝓤 H A W (Referent.fInt Syntax.w16) E G36 6 4 ty·4 (Row.lease (κs .1 .1 .1 .1 .0) (qs .1 .1 .1 .1 .0)) 0 (λ x. x) record { fits = Dec'.lit< tt } (Reads'.as-is 𝓤 H A (Mut.mslice (Referent.rtF (Referent.fInt Syntax.w16)) ty·4 4)) Path'.refl tt) d69
 
-          d71 : Typed.Typed 𝓤 H A 𝓣 E G34 b48 Δ0 at71
-          d71 = Typed.g-pre 𝓤 H A W 𝓣 E G34 G35 b48 Δ0 (λ Ψ. Ψ) at70 (Lifetime.g-forget 𝓤 H A W E G34 9 Row.dead Path'.refl) d70
+          d71 : Typed.Typed 𝓤 H A 𝓣 E G35 b48 Δ0 at71
+          d71 = Typed.g-pre 𝓤 H A W 𝓣 E G35 G36 b48 Δ0 (Typed.both s34) at70 (Relend.g-back-sl 𝓤 H A W E (Referent.rtF (Referent.fInt Syntax.w16)) G35 19 6 4 10 ty·4 ty·0 (Row.lease (κs .1 .1 .1 .1 .0) (qs .1 .1 .1 .1 .0)) (λ x. x) (λ x. x) (Reads'.as-is 𝓤 H A (Mut.msleft (Referent.rtF (Referent.fInt Syntax.w16)) ty·0)) (Reads'.as-is 𝓤 H A (Relend.mslice-owed (Referent.rtF (Referent.fInt Syntax.w16)) ty·4 4 10 (Row.lease (κs .1 .1 .1 .1 .0) (qs .1 .1 .1 .1 .0)))) Path'.refl Path'.refl) d70
 
-          d72 : Typed.Typed 𝓤 H A 𝓣 E G33 b48 Δ0 at72
-          d72 = Typed.g-pre 𝓤 H A W 𝓣 E G33 G34 b48 Δ0 (Typed.both s32) at71 (Relend.g-back-sl 𝓤 H A W E T.the-row G33 17 5 3 9 ty·11 ty·8 (Row.lease (κs .1 .1 .1 .0) (qs .1 .1 .1 .0)) (λ x. x) (λ x. x) (Reads.as-is 𝓤 H A (Mut.msleft T.the-row ty·8)) (Reads.as-is 𝓤 H A (Relend.mslice-owed T.the-row ty·11 3 9 (Row.lease (κs .1 .1 .1 .0) (qs .1 .1 .1 .0)))) Path'.refl Path'.refl) d71
+          d72 : Typed.Typed 𝓤 H A 𝓣 E G34 b48 Δ0 at72
+          d72 = Typed.g-pre 𝓤 H A W 𝓣 E G34 G35 b48 Δ0 (λ Ψ. Ψ) at71 (Lifetime.g-end 𝓤 H A W E G34 10 Path'.refl) d71
 
-          d73 : Typed.Typed 𝓤 H A 𝓣 E G32 b48 Δ0 at73
-          d73 = Typed.g-pre 𝓤 H A W 𝓣 E G32 G33 b48 Δ0 (λ Ψ. Ψ) at72 (Lifetime.g-end 𝓤 H A W E G32 9 Path'.refl) d72
+          d73 : Typed.Typed 𝓤 H A 𝓣 E G33 b48 Δ0 at73
+          d73 = Typed.g-pre 𝓤 H A W 𝓣 E G33 G34 b48 Δ0 (λ Ψ. Ψ) at72 (Lifetime.g-forget 𝓤 H A W E G33 9 Row.dead Path'.refl) d72
 
-          d74 : Typed.Typed 𝓤 H A 𝓣 E G31 b48 Δ0 at74
-          d74 = Typed.g-pre 𝓤 H A W 𝓣 E G31 G32 b48 Δ0 (Typed.pass T31 T32 s30) at73 (Scalar.g-room 𝓤 H A W E G31 1 ty·16 (Local.room-whole 𝓤 H A W (Declared'.row Size.the-type) ty·16 Path'.refl)) d73
+          d74 : Typed.Typed 𝓤 H A 𝓣 E G32 b48 Δ0 at74
+          d74 = Typed.g-pre 𝓤 H A W 𝓣 E G32 G33 b48 Δ0 (Typed.both s31) at73 (Relend.g-back-sl 𝓤 H A W E T.the-row G32 17 5 3 9 ty·11 ty·8 (Row.lease (κs .1 .1 .1 .0) (qs .1 .1 .1 .0)) (λ x. x) (λ x. x) (Reads'.as-is 𝓤 H A (Mut.msleft T.the-row ty·8)) (Reads'.as-is 𝓤 H A (Relend.mslice-owed T.the-row ty·11 3 9 (Row.lease (κs .1 .1 .1 .0) (qs .1 .1 .1 .0)))) Path'.refl Path'.refl) d73
 
-          d75 : Typed.Typed 𝓤 H A 𝓣 E G30 b49 Δ0 at75
-          d75 = Typed.s-seq 𝓤 H A W 𝓣 E G30 G31 b13 b48 Δ0 (Typed.both s29) at74 (Plain.t-call-plain 𝓤 H A W 𝓣 8 ps·1 r·1 (claims· .2) (claims· .3) "trim::trim" (known .1) E (λ pos β. β) G30 (record { pos = 1; st = List.[]; d = 0; at = λ x. x }, (record { pos = 2; ty = Syntax.tyRef (Syntax.named 0) Syntax.imm (Memory.pointee (T.the-row .written)); ref = λ x. x }, (record { pos = 3; ty = Syntax.tyRef (Syntax.named 1) Syntax.imm (Syntax.tyInt Syntax.w16); ref = λ x. x }, (record { pos = 4; ty = Syntax.tyRef (Syntax.named 2) Syntax.imm (Syntax.tyInt Syntax.w16); ref = λ x. x }, (record { pos = 17; ty = Syntax.tyRef Syntax.erased Syntax.mut (Memory.pointee (T.the-row .written)); ref = λ x. x }, (record { pos = 19; ty = Syntax.tyRef Syntax.erased Syntax.mut (Syntax.tyInt Syntax.w16); ref = λ x. x }, (record { pos = 21; ty = Syntax.tyRef Syntax.erased Syntax.mut (Syntax.tyInt Syntax.w16); ref = λ x. x }, (record { pos = 23; ty = Syntax.tyRef Syntax.erased Syntax.mut (Syntax.tyInt Syntax.w16); ref = λ x. x }, (record { pos = 25; ty = Syntax.tyRef Syntax.erased Syntax.mut (Syntax.tyInt Syntax.w16); ref = λ x. x }, tt))))))))) 12 (List._∷_ 0 (List._∷_ 1 (List._∷_ 2 (List._∷_ 9 (List._∷_ 10 (List._∷_ 11 (List._∷_ 12 (List._∷_ 13 List.[])))))))) (Call.sub-id 𝓤 H A W (G30 .slots)) ((Yields.yields-copy 𝓤 H A W (λ ρ. Unit) (Declared'.row Size.the-type) Path'.refl (Copies.cStruct Size.the-type Laws.the-laws Laws.the-copy .copy 𝓤 H A W) (Rows.whole (Declared'.row Size.the-type)) (λ x. x) (λ x. x) (λ ρ told. Local.mem-whole 𝓤 H A W (Declared'.row Size.the-type) ρ) λ ρ told. Local.whole-mem 𝓤 H A W (Declared'.row Size.the-type) ρ, Path'.refl), (ShrSlice.spares-sslice 𝓤 H A W T.the-row ty·10 0, Shared.reads-sslice 𝓤 H A W T.the-row ty·10 0, Path'.refl, (ShrSlice.spares-sslice 𝓤 H A W (Referent.rtF (Referent.fInt Syntax.w16)) ty·2 1, Shared.reads-sslice 𝓤 H A W (Referent.rtF (Referent.fInt Syntax.w16)) ty·2 1, Path'.refl, (ShrSlice.spares-sslice 𝓤 H A W (Referent.rtF (Referent.fInt Syntax.w16)) ty·3 2, Shared.reads-sslice 𝓤 H A W (Referent.rtF (Referent.fInt Syntax.w16)) ty·3 2, Path'.refl, (Reads.as-is 𝓤 H A (Mut.mslice T.the-row ty·8 9), Mut.reads-mslice 𝓤 H A W T.the-row ty·8 9, Path'.refl, (Reads.as-is 𝓤 H A (Mut.mslice (Referent.rtF (Referent.fInt Syntax.w16)) ty·0 10), Mut.reads-mslice 𝓤 H A W (Referent.rtF (Referent.fInt Syntax.w16)) ty·0 10, Path'.refl, (Reads.as-is 𝓤 H A (Mut.mslice (Referent.rtF (Referent.fInt Syntax.w16)) ty·0 11), Mut.reads-mslice 𝓤 H A W (Referent.rtF (Referent.fInt Syntax.w16)) ty·0 11, Path'.refl, (Reads.as-is 𝓤 H A (Mut.mslice (Referent.rtF (Referent.fInt Syntax.w16)) ty·0 12), Mut.reads-mslice 𝓤 H A W (Referent.rtF (Referent.fInt Syntax.w16)) ty·0 12, Path'.refl, (Reads.as-is 𝓤 H A (Mut.mslice (Referent.rtF (Referent.fInt Syntax.w16)) ty·0 13), Mut.reads-mslice 𝓤 H A W (Referent.rtF (Referent.fInt Syntax.w16)) ty·0 13, Path'.refl, tt))))))))) (Reads.room-gone 𝓤 H A ty·18) (tt, (tt, (tt, (tt, (tt, (tt, (tt, (tt, tt)))))))) Path'.refl) d74
+          d75 : Typed.Typed 𝓤 H A 𝓣 E G31 b48 Δ0 at75
+          d75 = Typed.g-pre 𝓤 H A W 𝓣 E G31 G32 b48 Δ0 (λ Ψ. Ψ) at74 (Lifetime.g-end 𝓤 H A W E G31 9 Path'.refl) d74
 
-          d76 : Typed.Typed 𝓤 H A 𝓣 E G29 b50 Δ0 at76
-          d76 = Typed.s-seq 𝓤 H A W 𝓣 E G29 G30 b12 b49 Δ0 (Typed.ask s28) at75 (Relend.t-sl-aggregate 𝓤 H A W E (Referent.rtF (Referent.fInt Syntax.w16)) 𝓣 (Relend.asMut (Referent.rtF (Referent.fInt Syntax.w16))) G29 24 25 13 ty·0 ty·0 (λ x. x) (Scalar.oFld 9 (List._∷_ (Syntax.field 1) List.[]) (Syntax.tyInt Syntax.w64) 8 λ v. Shared.lenV (v .0)) (Reads.as-is 𝓤 H A (Relend.msptr (Referent.rtF (Referent.fInt Syntax.w16)) ty·0 13)) (Reads.room-gone 𝓤 H A ty·12) (Relend.reads-owed-len 𝓤 H A W (Referent.rtF (Referent.fInt Syntax.w16)) ty·7 7 13 (Row.lease (κs .1 .1 .1 .1 .1 .1 .1 .0) (qs .1 .1 .1 .1 .1 .1 .1 .0)) 8 Path'.refl, Path'.refl) Path'.refl Path'.refl λ b o k. tt) d75
+          d76 : Typed.Typed 𝓤 H A 𝓣 E G30 b49 Δ0 at76
+          d76 = Typed.s-seq 𝓤 H A W 𝓣 E G30 G31 b13 b48 Δ0 (Typed.both s29) at75 (Plain.t-call-plain 𝓤 H A W 𝓣 8 ps·1 r·1 (claims· .2) (claims· .3) "trim::trim" (known .1) E (λ pos β. β) G30 (record { pos = 1; st = List.[]; d = 0; at = λ x. x }, (record { pos = 2; ty = Syntax.tyRef (Syntax.named 0) Syntax.imm (Memory.pointee (T.the-row .written)); ref = λ x. x }, (record { pos = 3; ty = Syntax.tyRef (Syntax.named 1) Syntax.imm (Syntax.tyInt Syntax.w16); ref = λ x. x }, (record { pos = 4; ty = Syntax.tyRef (Syntax.named 2) Syntax.imm (Syntax.tyInt Syntax.w16); ref = λ x. x }, (record { pos = 17; ty = Syntax.tyRef Syntax.erased Syntax.mut (Memory.pointee (T.the-row .written)); ref = λ x. x }, (record { pos = 19; ty = Syntax.tyRef Syntax.erased Syntax.mut (Syntax.tyInt Syntax.w16); ref = λ x. x }, (record { pos = 21; ty = Syntax.tyRef Syntax.erased Syntax.mut (Syntax.tyInt Syntax.w16); ref = λ x. x }, (record { pos = 23; ty = Syntax.tyRef Syntax.erased Syntax.mut (Syntax.tyInt Syntax.w16); ref = λ x. x }, (record { pos = 25; ty = Syntax.tyRef Syntax.erased Syntax.mut (Syntax.tyInt Syntax.w16); ref = λ x. x }, tt))))))))) 12 (List._∷_ 0 (List._∷_ 1 (List._∷_ 2 (List._∷_ 9 (List._∷_ 10 (List._∷_ 11 (List._∷_ 12 (List._∷_ 13 List.[])))))))) (Call.sub-id 𝓤 H A W (G30 .slots)) ((Yields.yields-copy 𝓤 H A W (λ ρ. Unit) (Declared'.row Size.the-type) Path'.refl (Copies.cStruct Size.the-type Laws.the-laws Laws.the-copy .copy 𝓤 H A W) (Rows.whole (Declared'.row Size.the-type)) (λ x. x) (λ x. x) (λ ρ told. Local.mem-whole 𝓤 H A W (Declared'.row Size.the-type) ρ) λ ρ told. Local.whole-mem 𝓤 H A W (Declared'.row Size.the-type) ρ, Path'.refl), (ShrSlice.spares-sslice 𝓤 H A W T.the-row ty·10 0, Shared.reads-sslice 𝓤 H A W T.the-row ty·10 0, Path'.refl, (ShrSlice.spares-sslice 𝓤 H A W (Referent.rtF (Referent.fInt Syntax.w16)) ty·2 1, Shared.reads-sslice 𝓤 H A W (Referent.rtF (Referent.fInt Syntax.w16)) ty·2 1, Path'.refl, (ShrSlice.spares-sslice 𝓤 H A W (Referent.rtF (Referent.fInt Syntax.w16)) ty·3 2, Shared.reads-sslice 𝓤 H A W (Referent.rtF (Referent.fInt Syntax.w16)) ty·3 2, Path'.refl, (Reads'.as-is 𝓤 H A (Mut.mslice T.the-row ty·8 9), Mut.reads-mslice 𝓤 H A W T.the-row ty·8 9, Path'.refl, (Reads'.as-is 𝓤 H A (Mut.mslice (Referent.rtF (Referent.fInt Syntax.w16)) ty·0 10), Mut.reads-mslice 𝓤 H A W (Referent.rtF (Referent.fInt Syntax.w16)) ty·0 10, Path'.refl, (Reads'.as-is 𝓤 H A (Mut.mslice (Referent.rtF (Referent.fInt Syntax.w16)) ty·0 11), Mut.reads-mslice 𝓤 H A W (Referent.rtF (Referent.fInt Syntax.w16)) ty·0 11, Path'.refl, (Reads'.as-is 𝓤 H A (Mut.mslice (Referent.rtF (Referent.fInt Syntax.w16)) ty·0 12), Mut.reads-mslice 𝓤 H A W (Referent.rtF (Referent.fInt Syntax.w16)) ty·0 12, Path'.refl, (Reads'.as-is 𝓤 H A (Mut.mslice (Referent.rtF (Referent.fInt Syntax.w16)) ty·0 13), Mut.reads-mslice 𝓤 H A W (Referent.rtF (Referent.fInt Syntax.w16)) ty·0 13, Path'.refl, tt))))))))) (Reads'.room-gone 𝓤 H A ty·18) (tt, (tt, (tt, (tt, (tt, (tt, (tt, (tt, tt)))))))) Path'.refl) d75
 
-          d77 : Typed.Typed 𝓤 H A 𝓣 E G28 b51 Δ0 at77
-          d77 = Typed.s-seq 𝓤 H A W 𝓣 E G28 G29 b11 b50 Δ0 (Typed.give s27) at76 (Relend.t-sl-relend 𝓤 H A W E (Referent.rtF (Referent.fInt Syntax.w16)) 𝓣 G28 9 24 7 13 ty·7 ty·0 (Row.lease (κs .1 .1 .1 .1 .1 .1 .1 .0) (qs .1 .1 .1 .1 .1 .1 .1 .0)) 0 (λ x. x) (Reads.as-is 𝓤 H A (Mut.mslice (Referent.rtF (Referent.fInt Syntax.w16)) ty·7 7)) (Reads.room-gone 𝓤 H A ty·0) Path'.refl tt Path'.refl Path'.refl Path'.refl λ b o. tt) d76
+          d77 : Typed.Typed 𝓤 H A 𝓣 E G29 b50 Δ0 at77
+          d77 = Typed.s-seq 𝓤 H A W 𝓣 E G29 G30 b12 b49 Δ0 (Typed.ask s28) at76 (Relend.t-sl-aggregate 𝓤 H A W E (Referent.rtF (Referent.fInt Syntax.w16)) 𝓣 (Relend.asMut (Referent.rtF (Referent.fInt Syntax.w16))) G29 24 25 13 ty·0 ty·0 (λ x. x) (Scalar.oFld 9 (List._∷_ (Syntax.field 1) List.[]) (Syntax.tyInt Syntax.w64) 8 λ v. Shared.lenV (v .0)) (Reads'.as-is 𝓤 H A (Relend.msptr (Referent.rtF (Referent.fInt Syntax.w16)) ty·0 13)) (Reads'.room-gone 𝓤 H A ty·12) (Relend.reads-owed-len 𝓤 H A W (Referent.rtF (Referent.fInt Syntax.w16)) ty·7 7 13 (Row.lease (κs .1 .1 .1 .1 .1 .1 .1 .0) (qs .1 .1 .1 .1 .1 .1 .1 .0)) 8 Path'.refl, Path'.refl) Path'.refl Path'.refl λ b o k. tt) d76
 
-          d78 : Typed.Typed 𝓤 H A 𝓣 E G27 b51 Δ0 at78
-          d78 = Typed.g-pre 𝓤 H A W 𝓣 E G27 G28 b51 Δ0 (λ Ψ. Ψ) at77 (Lifetime.g-begin 𝓤 H A W E G27 13 (tt, (tt, (tt, (tt, (tt, ((tt, tt), ((tt, tt), ((tt, tt), ((tt, tt), (tt, (tt, (tt, (tt, (tt, (tt, (tt, (tt, (tt, (tt, (tt, (tt, (tt, (tt, (tt, (tt, (tt, (tt, (tt, (tt, (tt, (tt, (tt, (tt, (tt, (tt, (tt, (tt, tt)))))))))))))))))))))))))))))))))))))) d77
+          d78 : Typed.Typed 𝓤 H A 𝓣 E G28 b51 Δ0 at78
+          d78 = Typed.s-seq 𝓤 H A W 𝓣 E G28 G29 b11 b50 Δ0 (Typed.give s27) at77 (Relend.t-sl-relend 𝓤 H A W E (Referent.rtF (Referent.fInt Syntax.w16)) 𝓣 G28 9 24 7 13 ty·7 ty·0 (Row.lease (κs .1 .1 .1 .1 .1 .1 .1 .0) (qs .1 .1 .1 .1 .1 .1 .1 .0)) 0 (λ x. x) (Reads'.as-is 𝓤 H A (Mut.mslice (Referent.rtF (Referent.fInt Syntax.w16)) ty·7 7)) (Reads'.room-gone 𝓤 H A ty·0) Path'.refl tt Path'.refl Path'.refl Path'.refl λ b o. tt) d77
 
-          d79 : Typed.Typed 𝓤 H A 𝓣 E G26 b52 Δ0 at79
-          d79 = Typed.s-seq 𝓤 H A W 𝓣 E G26 G27 b10 b51 Δ0 (Typed.ask s25) at78 (Relend.t-sl-aggregate 𝓤 H A W E (Referent.rtF (Referent.fInt Syntax.w16)) 𝓣 (Relend.asMut (Referent.rtF (Referent.fInt Syntax.w16))) G26 22 23 12 ty·0 ty·0 (λ x. x) (Scalar.oFld 8 (List._∷_ (Syntax.field 1) List.[]) (Syntax.tyInt Syntax.w64) 8 λ v. Shared.lenV (v .0)) (Reads.as-is 𝓤 H A (Relend.msptr (Referent.rtF (Referent.fInt Syntax.w16)) ty·0 12)) (Reads.room-gone 𝓤 H A ty·12) (Relend.reads-owed-len 𝓤 H A W (Referent.rtF (Referent.fInt Syntax.w16)) ty·6 6 12 (Row.lease (κs .1 .1 .1 .1 .1 .1 .0) (qs .1 .1 .1 .1 .1 .1 .0)) 8 Path'.refl, Path'.refl) Path'.refl Path'.refl λ b o k. tt) d78
+          d79 : Typed.Typed 𝓤 H A 𝓣 E G27 b51 Δ0 at79
+          d79 = Typed.g-pre 𝓤 H A W 𝓣 E G27 G28 b51 Δ0 (λ Ψ. Ψ) at78 (Lifetime.g-begin 𝓤 H A W E G27 13 (tt, (tt, (tt, (tt, (tt, ((tt, tt), ((tt, tt), ((tt, tt), ((tt, tt), (tt, (tt, (tt, (tt, (tt, (tt, (tt, (tt, (tt, (tt, (tt, (tt, (tt, (tt, (tt, (tt, (tt, (tt, (tt, (tt, (tt, (tt, (tt, (tt, (tt, (tt, (tt, (tt, tt)))))))))))))))))))))))))))))))))))))) d78
 
-          d80 : Typed.Typed 𝓤 H A 𝓣 E G25 b53 Δ0 at80
-          d80 = Typed.s-seq 𝓤 H A W 𝓣 E G25 G26 b9 b52 Δ0 (Typed.give s24) at79 (Relend.t-sl-relend 𝓤 H A W E (Referent.rtF (Referent.fInt Syntax.w16)) 𝓣 G25 8 22 6 12 ty·6 ty·0 (Row.lease (κs .1 .1 .1 .1 .1 .1 .0) (qs .1 .1 .1 .1 .1 .1 .0)) 0 (λ x. x) (Reads.as-is 𝓤 H A (Mut.mslice (Referent.rtF (Referent.fInt Syntax.w16)) ty·6 6)) (Reads.room-gone 𝓤 H A ty·0) Path'.refl tt Path'.refl Path'.refl Path'.refl λ b o. tt) d79
+          d80 : Typed.Typed 𝓤 H A 𝓣 E G26 b52 Δ0 at80
+          d80 = Typed.s-seq 𝓤 H A W 𝓣 E G26 G27 b10 b51 Δ0 (Typed.ask s25) at79 (Relend.t-sl-aggregate 𝓤 H A W E (Referent.rtF (Referent.fInt Syntax.w16)) 𝓣 (Relend.asMut (Referent.rtF (Referent.fInt Syntax.w16))) G26 22 23 12 ty·0 ty·0 (λ x. x) (Scalar.oFld 8 (List._∷_ (Syntax.field 1) List.[]) (Syntax.tyInt Syntax.w64) 8 λ v. Shared.lenV (v .0)) (Reads'.as-is 𝓤 H A (Relend.msptr (Referent.rtF (Referent.fInt Syntax.w16)) ty·0 12)) (Reads'.room-gone 𝓤 H A ty·12) (Relend.reads-owed-len 𝓤 H A W (Referent.rtF (Referent.fInt Syntax.w16)) ty·6 6 12 (Row.lease (κs .1 .1 .1 .1 .1 .1 .0) (qs .1 .1 .1 .1 .1 .1 .0)) 8 Path'.refl, Path'.refl) Path'.refl Path'.refl λ b o k. tt) d79
 
-          d81 : Typed.Typed 𝓤 H A 𝓣 E G24 b53 Δ0 at81
-          d81 = Typed.g-pre 𝓤 H A W 𝓣 E G24 G25 b53 Δ0 (λ Ψ. Ψ) at80 (Lifetime.g-begin 𝓤 H A W E G24 12 (tt, (tt, (tt, (tt, (tt, ((tt, tt), ((tt, tt), ((tt, tt), (tt, (tt, (tt, (tt, (tt, (tt, (tt, (tt, (tt, (tt, (tt, (tt, (tt, (tt, (tt, (tt, (tt, (tt, (tt, (tt, (tt, (tt, (tt, (tt, (tt, (tt, (tt, (tt, (tt, tt)))))))))))))))))))))))))))))))))))))) d80
+          d81 : Typed.Typed 𝓤 H A 𝓣 E G25 b53 Δ0 at81
+          d81 = Typed.s-seq 𝓤 H A W 𝓣 E G25 G26 b9 b52 Δ0 (Typed.give s24) at80 (Relend.t-sl-relend 𝓤 H A W E (Referent.rtF (Referent.fInt Syntax.w16)) 𝓣 G25 8 22 6 12 ty·6 ty·0 (Row.lease (κs .1 .1 .1 .1 .1 .1 .0) (qs .1 .1 .1 .1 .1 .1 .0)) 0 (λ x. x) (Reads'.as-is 𝓤 H A (Mut.mslice (Referent.rtF (Referent.fInt Syntax.w16)) ty·6 6)) (Reads'.room-gone 𝓤 H A ty·0) Path'.refl tt Path'.refl Path'.refl Path'.refl λ b o. tt) d80
 
-          d82 : Typed.Typed 𝓤 H A 𝓣 E G23 b54 Δ0 at82
-          d82 = Typed.s-seq 𝓤 H A W 𝓣 E G23 G24 b8 b53 Δ0 (Typed.ask s22) at81 (Relend.t-sl-aggregate 𝓤 H A W E (Referent.rtF (Referent.fInt Syntax.w16)) 𝓣 (Relend.asMut (Referent.rtF (Referent.fInt Syntax.w16))) G23 20 21 11 ty·0 ty·0 (λ x. x) (Scalar.oFld 7 (List._∷_ (Syntax.field 1) List.[]) (Syntax.tyInt Syntax.w64) 8 λ v. Shared.lenV (v .0)) (Reads.as-is 𝓤 H A (Relend.msptr (Referent.rtF (Referent.fInt Syntax.w16)) ty·0 11)) (Reads.room-gone 𝓤 H A ty·12) (Relend.reads-owed-len 𝓤 H A W (Referent.rtF (Referent.fInt Syntax.w16)) ty·5 5 11 (Row.lease (κs .1 .1 .1 .1 .1 .0) (qs .1 .1 .1 .1 .1 .0)) 8 Path'.refl, Path'.refl) Path'.refl Path'.refl λ b o k. tt) d81
+          d82 : Typed.Typed 𝓤 H A 𝓣 E G24 b53 Δ0 at82
+          d82 = Typed.g-pre 𝓤 H A W 𝓣 E G24 G25 b53 Δ0 (λ Ψ. Ψ) at81 (Lifetime.g-begin 𝓤 H A W E G24 12 (tt, (tt, (tt, (tt, (tt, ((tt, tt), ((tt, tt), ((tt, tt), (tt, (tt, (tt, (tt, (tt, (tt, (tt, (tt, (tt, (tt, (tt, (tt, (tt, (tt, (tt, (tt, (tt, (tt, (tt, (tt, (tt, (tt, (tt, (tt, (tt, (tt, (tt, (tt, (tt, tt)))))))))))))))))))))))))))))))))))))) d81
 
-          d83 : Typed.Typed 𝓤 H A 𝓣 E G22 b55 Δ0 at83
-          d83 = Typed.s-seq 𝓤 H A W 𝓣 E G22 G23 b7 b54 Δ0 (Typed.give s21) at82 (Relend.t-sl-relend 𝓤 H A W E (Referent.rtF (Referent.fInt Syntax.w16)) 𝓣 G22 7 20 5 11 ty·5 ty·0 (Row.lease (κs .1 .1 .1 .1 .1 .0) (qs .1 .1 .1 .1 .1 .0)) 0 (λ x. x) (Reads.as-is 𝓤 H A (Mut.mslice (Referent.rtF (Referent.fInt Syntax.w16)) ty·5 5)) (Reads.room-gone 𝓤 H A ty·0) Path'.refl tt Path'.refl Path'.refl Path'.refl λ b o. tt) d82
+          d83 : Typed.Typed 𝓤 H A 𝓣 E G23 b54 Δ0 at83
+          d83 = Typed.s-seq 𝓤 H A W 𝓣 E G23 G24 b8 b53 Δ0 (Typed.ask s22) at82 (Relend.t-sl-aggregate 𝓤 H A W E (Referent.rtF (Referent.fInt Syntax.w16)) 𝓣 (Relend.asMut (Referent.rtF (Referent.fInt Syntax.w16))) G23 20 21 11 ty·0 ty·0 (λ x. x) (Scalar.oFld 7 (List._∷_ (Syntax.field 1) List.[]) (Syntax.tyInt Syntax.w64) 8 λ v. Shared.lenV (v .0)) (Reads'.as-is 𝓤 H A (Relend.msptr (Referent.rtF (Referent.fInt Syntax.w16)) ty·0 11)) (Reads'.room-gone 𝓤 H A ty·12) (Relend.reads-owed-len 𝓤 H A W (Referent.rtF (Referent.fInt Syntax.w16)) ty·5 5 11 (Row.lease (κs .1 .1 .1 .1 .1 .0) (qs .1 .1 .1 .1 .1 .0)) 8 Path'.refl, Path'.refl) Path'.refl Path'.refl λ b o k. tt) d82
 
-          d84 : Typed.Typed 𝓤 H A 𝓣 E G21 b55 Δ0 at84
-          d84 = Typed.g-pre 𝓤 H A W 𝓣 E G21 G22 b55 Δ0 (λ Ψ. Ψ) at83 (Lifetime.g-begin 𝓤 H A W E G21 11 (tt, (tt, (tt, (tt, (tt, ((tt, tt), ((tt, tt), (tt, (tt, (tt, (tt, (tt, (tt, (tt, (tt, (tt, (tt, (tt, (tt, (tt, (tt, (tt, (tt, (tt, (tt, (tt, (tt, (tt, (tt, (tt, (tt, (tt, (tt, (tt, (tt, (tt, (tt, tt)))))))))))))))))))))))))))))))))))))) d83
+          d84 : Typed.Typed 𝓤 H A 𝓣 E G22 b55 Δ0 at84
+          d84 = Typed.s-seq 𝓤 H A W 𝓣 E G22 G23 b7 b54 Δ0 (Typed.give s21) at83 (Relend.t-sl-relend 𝓤 H A W E (Referent.rtF (Referent.fInt Syntax.w16)) 𝓣 G22 7 20 5 11 ty·5 ty·0 (Row.lease (κs .1 .1 .1 .1 .1 .0) (qs .1 .1 .1 .1 .1 .0)) 0 (λ x. x) (Reads'.as-is 𝓤 H A (Mut.mslice (Referent.rtF (Referent.fInt Syntax.w16)) ty·5 5)) (Reads'.room-gone 𝓤 H A ty·0) Path'.refl tt Path'.refl Path'.refl Path'.refl λ b o. tt) d83
 
-          d85 : Typed.Typed 𝓤 H A 𝓣 E G20 b56 Δ0 at85
-          d85 = Typed.s-seq 𝓤 H A W 𝓣 E G20 G21 b6 b55 Δ0 (Typed.ask s19) at84 (Relend.t-sl-aggregate 𝓤 H A W E (Referent.rtF (Referent.fInt Syntax.w16)) 𝓣 (Relend.asMut (Referent.rtF (Referent.fInt Syntax.w16))) G20 18 19 10 ty·0 ty·0 (λ x. x) (Scalar.oFld 6 (List._∷_ (Syntax.field 1) List.[]) (Syntax.tyInt Syntax.w64) 8 λ v. Shared.lenV (v .0)) (Reads.as-is 𝓤 H A (Relend.msptr (Referent.rtF (Referent.fInt Syntax.w16)) ty·0 10)) (Reads.room-gone 𝓤 H A ty·12) (Relend.reads-owed-len 𝓤 H A W (Referent.rtF (Referent.fInt Syntax.w16)) ty·4 4 10 (Row.lease (κs .1 .1 .1 .1 .0) (qs .1 .1 .1 .1 .0)) 8 Path'.refl, Path'.refl) Path'.refl Path'.refl λ b o k. tt) d84
+          d85 : Typed.Typed 𝓤 H A 𝓣 E G21 b55 Δ0 at85
+          d85 = Typed.g-pre 𝓤 H A W 𝓣 E G21 G22 b55 Δ0 (λ Ψ. Ψ) at84 (Lifetime.g-begin 𝓤 H A W E G21 11 (tt, (tt, (tt, (tt, (tt, ((tt, tt), ((tt, tt), (tt, (tt, (tt, (tt, (tt, (tt, (tt, (tt, (tt, (tt, (tt, (tt, (tt, (tt, (tt, (tt, (tt, (tt, (tt, (tt, (tt, (tt, (tt, (tt, (tt, (tt, (tt, (tt, (tt, (tt, tt)))))))))))))))))))))))))))))))))))))) d84
 
-          d86 : Typed.Typed 𝓤 H A 𝓣 E G19 b57 Δ0 at86
-          d86 = Typed.s-seq 𝓤 H A W 𝓣 E G19 G20 b5 b56 Δ0 (Typed.give s18) at85 (Relend.t-sl-relend 𝓤 H A W E (Referent.rtF (Referent.fInt Syntax.w16)) 𝓣 G19 6 18 4 10 ty·4 ty·0 (Row.lease (κs .1 .1 .1 .1 .0) (qs .1 .1 .1 .1 .0)) 0 (λ x. x) (Reads.as-is 𝓤 H A (Mut.mslice (Referent.rtF (Referent.fInt Syntax.w16)) ty·4 4)) (Reads.room-gone 𝓤 H A ty·0) Path'.refl tt Path'.refl Path'.refl Path'.refl λ b o. tt) d85
+          d86 : Typed.Typed 𝓤 H A 𝓣 E G20 b56 Δ0 at86
+          d86 = Typed.s-seq 𝓤 H A W 𝓣 E G20 G21 b6 b55 Δ0 (Typed.ask s19) at85 (Relend.t-sl-aggregate 𝓤 H A W E (Referent.rtF (Referent.fInt Syntax.w16)) 𝓣 (Relend.asMut (Referent.rtF (Referent.fInt Syntax.w16))) G20 18 19 10 ty·0 ty·0 (λ x. x) (Scalar.oFld 6 (List._∷_ (Syntax.field 1) List.[]) (Syntax.tyInt Syntax.w64) 8 λ v. Shared.lenV (v .0)) (Reads'.as-is 𝓤 H A (Relend.msptr (Referent.rtF (Referent.fInt Syntax.w16)) ty·0 10)) (Reads'.room-gone 𝓤 H A ty·12) (Relend.reads-owed-len 𝓤 H A W (Referent.rtF (Referent.fInt Syntax.w16)) ty·4 4 10 (Row.lease (κs .1 .1 .1 .1 .0) (qs .1 .1 .1 .1 .0)) 8 Path'.refl, Path'.refl) Path'.refl Path'.refl λ b o k. tt) d85
 
-          d87 : Typed.Typed 𝓤 H A 𝓣 E G18 b57 Δ0 at87
-          d87 = Typed.g-pre 𝓤 H A W 𝓣 E G18 G19 b57 Δ0 (λ Ψ. Ψ) at86 (Lifetime.g-begin 𝓤 H A W E G18 10 (tt, (tt, (tt, (tt, (tt, ((tt, tt), (tt, (tt, (tt, (tt, (tt, (tt, (tt, (tt, (tt, (tt, (tt, (tt, (tt, (tt, (tt, (tt, (tt, (tt, (tt, (tt, (tt, (tt, (tt, (tt, (tt, (tt, (tt, (tt, (tt, (tt, (tt, tt)))))))))))))))))))))))))))))))))))))) d86
+          d87 : Typed.Typed 𝓤 H A 𝓣 E G19 b57 Δ0 at87
+          d87 = Typed.s-seq 𝓤 H A W 𝓣 E G19 G20 b5 b56 Δ0 (Typed.give s18) at86 (Relend.t-sl-relend 𝓤 H A W E (Referent.rtF (Referent.fInt Syntax.w16)) 𝓣 G19 6 18 4 10 ty·4 ty·0 (Row.lease (κs .1 .1 .1 .1 .0) (qs .1 .1 .1 .1 .0)) 0 (λ x. x) (Reads'.as-is 𝓤 H A (Mut.mslice (Referent.rtF (Referent.fInt Syntax.w16)) ty·4 4)) (Reads'.room-gone 𝓤 H A ty·0) Path'.refl tt Path'.refl Path'.refl Path'.refl λ b o. tt) d86
 
-          d88 : Typed.Typed 𝓤 H A 𝓣 E G17 b58 Δ0 at88
-          d88 = Typed.s-seq 𝓤 H A W 𝓣 E G17 G18 b4 b57 Δ0 (Typed.ask s16) at87 (Relend.t-sl-aggregate 𝓤 H A W E T.the-row 𝓣 (Relend.asMut T.the-row) G17 16 17 9 ty·8 ty·8 (λ x. x) (Scalar.oFld 5 (List._∷_ (Syntax.field 1) List.[]) (Syntax.tyInt Syntax.w64) 8 λ v. Shared.lenV (v .0)) (Reads.as-is 𝓤 H A (Relend.msptr T.the-row ty·8 9)) (Reads.room-gone 𝓤 H A ty·14) (Relend.reads-owed-len 𝓤 H A W T.the-row ty·11 3 9 (Row.lease (κs .1 .1 .1 .0) (qs .1 .1 .1 .0)) 8 Path'.refl, Path'.refl) Path'.refl Path'.refl λ b o k. tt) d87
+          d88 : Typed.Typed 𝓤 H A 𝓣 E G18 b57 Δ0 at88
+          d88 = Typed.g-pre 𝓤 H A W 𝓣 E G18 G19 b57 Δ0 (λ Ψ. Ψ) at87 (Lifetime.g-begin 𝓤 H A W E G18 10 (tt, (tt, (tt, (tt, (tt, ((tt, tt), (tt, (tt, (tt, (tt, (tt, (tt, (tt, (tt, (tt, (tt, (tt, (tt, (tt, (tt, (tt, (tt, (tt, (tt, (tt, (tt, (tt, (tt, (tt, (tt, (tt, (tt, (tt, (tt, (tt, (tt, (tt, tt)))))))))))))))))))))))))))))))))))))) d87
 
-          d89 : Typed.Typed 𝓤 H A 𝓣 E G16 b59 Δ0 at89
-          d89 = Typed.s-seq 𝓤 H A W 𝓣 E G16 G17 b3 b58 Δ0 (Typed.give s15) at88 (Relend.t-sl-relend 𝓤 H A W E T.the-row 𝓣 G16 5 16 3 9 ty·11 ty·8 (Row.lease (κs .1 .1 .1 .0) (qs .1 .1 .1 .0)) 0 (λ x. x) (Reads.as-is 𝓤 H A (Mut.mslice T.the-row ty·11 3)) (Reads.room-gone 𝓤 H A ty·8) Path'.refl tt Path'.refl Path'.refl Path'.refl λ b o. tt) d88
+          d89 : Typed.Typed 𝓤 H A 𝓣 E G17 b58 Δ0 at89
+          d89 = Typed.s-seq 𝓤 H A W 𝓣 E G17 G18 b4 b57 Δ0 (Typed.ask s16) at88 (Relend.t-sl-aggregate 𝓤 H A W E T.the-row 𝓣 (Relend.asMut T.the-row) G17 16 17 9 ty·8 ty·8 (λ x. x) (Scalar.oFld 5 (List._∷_ (Syntax.field 1) List.[]) (Syntax.tyInt Syntax.w64) 8 λ v. Shared.lenV (v .0)) (Reads'.as-is 𝓤 H A (Relend.msptr T.the-row ty·8 9)) (Reads'.room-gone 𝓤 H A ty·14) (Relend.reads-owed-len 𝓤 H A W T.the-row ty·11 3 9 (Row.lease (κs .1 .1 .1 .0) (qs .1 .1 .1 .0)) 8 Path'.refl, Path'.refl) Path'.refl Path'.refl λ b o k. tt) d88
 
-          d90 : Typed.Typed 𝓤 H A 𝓣 E G15 b59 Δ0 at90
-          d90 = Typed.g-pre 𝓤 H A W 𝓣 E G15 G16 b59 Δ0 (λ Ψ. Ψ) at89 (Lifetime.g-begin 𝓤 H A W E G15 9 (tt, (tt, (tt, (tt, (tt, (tt, (tt, (tt, (tt, (tt, (tt, (tt, (tt, (tt, (tt, (tt, (tt, (tt, (tt, (tt, (tt, (tt, (tt, (tt, (tt, (tt, (tt, (tt, (tt, (tt, (tt, (tt, (tt, (tt, (tt, (tt, (tt, tt)))))))))))))))))))))))))))))))))))))) d89
+          d90 : Typed.Typed 𝓤 H A 𝓣 E G16 b59 Δ0 at90
+          d90 = Typed.s-seq 𝓤 H A W 𝓣 E G16 G17 b3 b58 Δ0 (Typed.give s15) at89 (Relend.t-sl-relend 𝓤 H A W E T.the-row 𝓣 G16 5 16 3 9 ty·11 ty·8 (Row.lease (κs .1 .1 .1 .0) (qs .1 .1 .1 .0)) 0 (λ x. x) (Reads'.as-is 𝓤 H A (Mut.mslice T.the-row ty·11 3)) (Reads'.room-gone 𝓤 H A ty·8) Path'.refl tt Path'.refl Path'.refl Path'.refl λ b o. tt) d89
 
-          d91 : Typed.Typed 𝓤 H A 𝓣 E G14 b59 Δ0 at91
-          d91 = Typed.g-pre 𝓤 H A W 𝓣 E G14 G15 b59 Δ0 (λ Ψ. Ψ) at90 (Lifetime.g-forget 𝓤 H A W E G14 8 Row.dead Path'.refl) d90
+          d91 : Typed.Typed 𝓤 H A 𝓣 E G15 b59 Δ0 at91
+          d91 = Typed.g-pre 𝓤 H A W 𝓣 E G15 G16 b59 Δ0 (λ Ψ. Ψ) at90 (Lifetime.g-begin 𝓤 H A W E G15 9 (tt, (tt, (tt, (tt, (tt, (tt, (tt, (tt, (tt, (tt, (tt, (tt, (tt, (tt, (tt, (tt, (tt, (tt, (tt, (tt, (tt, (tt, (tt, (tt, (tt, (tt, (tt, (tt, (tt, (tt, (tt, (tt, (tt, (tt, (tt, (tt, (tt, tt)))))))))))))))))))))))))))))))))))))) d90
 
-          d92 : Typed.Typed 𝓤 H A 𝓣 E G13 b59 Δ0 at92
-          d92 = Typed.g-pre 𝓤 H A W 𝓣 E G13 G14 b59 Δ0 (Typed.both s12) at91 (Relend.g-back-sl 𝓤 H A W E T.the-row G13 15 5 3 8 ty·11 ty·8 (Row.lease (κs .1 .1 .1 .0) (qs .1 .1 .1 .0)) (λ x. x) (λ x. x) (Reads.as-is 𝓤 H A (Mut.msleft T.the-row ty·8)) (Reads.as-is 𝓤 H A (Relend.mslice-owed T.the-row ty·11 3 8 (Row.lease (κs .1 .1 .1 .0) (qs .1 .1 .1 .0)))) Path'.refl Path'.refl) d91
+          d92 : Typed.Typed 𝓤 H A 𝓣 E G14 b59 Δ0 at92
+          d92 = Typed.g-pre 𝓤 H A W 𝓣 E G14 G15 b59 Δ0 (λ Ψ. Ψ) at91 (Lifetime.g-forget 𝓤 H A W E G14 8 Row.dead Path'.refl) d91
 
-          d93 : Typed.Typed 𝓤 H A 𝓣 E G12 b59 Δ0 at93
-          d93 = Typed.g-pre 𝓤 H A W 𝓣 E G12 G13 b59 Δ0 (λ Ψ. Ψ) at92 (Lifetime.g-end 𝓤 H A W E G12 8 Path'.refl) d92
+          d93 : Typed.Typed 𝓤 H A 𝓣 E G13 b59 Δ0 at93
+          d93 = Typed.g-pre 𝓤 H A W 𝓣 E G13 G14 b59 Δ0 (Typed.both s12) at92 (Relend.g-back-sl 𝓤 H A W E T.the-row G13 15 5 3 8 ty·11 ty·8 (Row.lease (κs .1 .1 .1 .0) (qs .1 .1 .1 .0)) (λ x. x) (λ x. x) (Reads'.as-is 𝓤 H A (Mut.msleft T.the-row ty·8)) (Reads'.as-is 𝓤 H A (Relend.mslice-owed T.the-row ty·11 3 8 (Row.lease (κs .1 .1 .1 .0) (qs .1 .1 .1 .0)))) Path'.refl Path'.refl) d92
 
-          d94 : Typed.Typed 𝓤 H A 𝓣 E G11 b59 Δ0 at94
-          d94 = Typed.g-pre 𝓤 H A W 𝓣 E G11 G12 b59 Δ0 (Typed.pass T11 T12 s10) at93 (Scalar.g-room 𝓤 H A W E G11 13 Syntax.tyUnit (Scalar.room-sc 𝓤 H A W Row.sUnit)) d93
+          d94 : Typed.Typed 𝓤 H A 𝓣 E G12 b59 Δ0 at94
+          d94 = Typed.g-pre 𝓤 H A W 𝓣 E G12 G13 b59 Δ0 (λ Ψ. Ψ) at93 (Lifetime.g-end 𝓤 H A W E G12 8 Path'.refl) d93
 
-          d95 : Typed.Typed 𝓤 H A 𝓣 E G10 b60 Δ0 at95
-          d95 = Typed.s-seq 𝓤 H A W 𝓣 E G10 G11 b2 b59 Δ0 (Typed.both s9) at94 (Plain.t-call-plain 𝓤 H A W 𝓣 1 ps·0 r·0 (claims· .0) (claims· .1) "bench_plans::lent::hold_rows" (known .0) E (λ pos β. β) G10 (record { pos = 15; ty = Syntax.tyRef Syntax.erased Syntax.mut (Memory.pointee (T.the-row .written)); ref = λ x. x }, (Num.vAt 10 λ x. x, tt)) 13 (List._∷_ 8 List.[]) (Call.sub-id 𝓤 H A W (G10 .slots)) (Reads.as-is 𝓤 H A (Mut.mslice T.the-row ty·8 8), Mut.reads-mslice 𝓤 H A W T.the-row ty·8 8, Path'.refl, ((Scalar.reads-sc 𝓤 H A W (Row.sInt Syntax.w16), Path'.refl), tt)) (Reads.room-gone 𝓤 H A Syntax.tyUnit) (tt, tt) Path'.refl) d94
+          d95 : Typed.Typed 𝓤 H A 𝓣 E G11 b59 Δ0 at95
+          d95 = Typed.g-pre 𝓤 H A W 𝓣 E G11 G12 b59 Δ0 (Typed.pass T11 T12 s10) at94 (Scalar.g-room 𝓤 H A W E G11 13 Syntax.tyUnit (Scalar.room-sc 𝓤 H A W Row.sUnit)) d94
 
-          d96 : Typed.Typed 𝓤 H A 𝓣 E G9 b61 Δ0 at96
-          d96 = Typed.s-seq 𝓤 H A W 𝓣 E G9 G10 b1 b60 Δ0 (Typed.ask s8) at95 (Relend.t-sl-aggregate 𝓤 H A W E T.the-row 𝓣 (Relend.asMut T.the-row) G9 14 15 8 ty·8 ty·8 (λ x. x) (Scalar.oFld 5 (List._∷_ (Syntax.field 1) List.[]) (Syntax.tyInt Syntax.w64) 8 λ v. Shared.lenV (v .0)) (Reads.as-is 𝓤 H A (Relend.msptr T.the-row ty·8 8)) (Reads.room-gone 𝓤 H A ty·14) (Relend.reads-owed-len 𝓤 H A W T.the-row ty·11 3 8 (Row.lease (κs .1 .1 .1 .0) (qs .1 .1 .1 .0)) 8 Path'.refl, Path'.refl) Path'.refl Path'.refl λ b o k. tt) d95
+          d96 : Typed.Typed 𝓤 H A 𝓣 E G10 b60 Δ0 at96
+          d96 = Typed.s-seq 𝓤 H A W 𝓣 E G10 G11 b2 b59 Δ0 (Typed.both s9) at95 (Plain.t-call-plain 𝓤 H A W 𝓣 1 ps·0 r·0 (claims· .0) (claims· .1) "bench_plans::lent::hold_rows" (known .0) E (λ pos β. β) G10 (record { pos = 15; ty = Syntax.tyRef Syntax.erased Syntax.mut (Memory.pointee (T.the-row .written)); ref = λ x. x }, (Num.vAt 10 λ x. x, tt)) 13 (List._∷_ 8 List.[]) (Call.sub-id 𝓤 H A W (G10 .slots)) (Reads'.as-is 𝓤 H A (Mut.mslice T.the-row ty·8 8), Mut.reads-mslice 𝓤 H A W T.the-row ty·8 8, Path'.refl, ((Scalar.reads-sc 𝓤 H A W (Row.sInt Syntax.w16), Path'.refl), tt)) (Reads'.room-gone 𝓤 H A Syntax.tyUnit) (tt, tt) Path'.refl) d95
 
-          d97 : Typed.Typed 𝓤 H A 𝓣 E G8 b62 Δ0 at97
-          d97 = Typed.s-seq 𝓤 H A W 𝓣 E G8 G9 b0 b61 Δ0 (Typed.give s7) at96 (Relend.t-sl-relend 𝓤 H A W E T.the-row 𝓣 G8 5 14 3 8 ty·11 ty·8 (Row.lease (κs .1 .1 .1 .0) (qs .1 .1 .1 .0)) 0 (λ x. x) (Reads.as-is 𝓤 H A (Mut.mslice T.the-row ty·11 3)) (Reads.room-gone 𝓤 H A ty·8) Path'.refl tt Path'.refl Path'.refl Path'.refl λ b o. tt) d96
+          d97 : Typed.Typed 𝓤 H A 𝓣 E G9 b61 Δ0 at97
+          d97 = Typed.s-seq 𝓤 H A W 𝓣 E G9 G10 b1 b60 Δ0 (Typed.ask s8) at96 (Relend.t-sl-aggregate 𝓤 H A W E T.the-row 𝓣 (Relend.asMut T.the-row) G9 14 15 8 ty·8 ty·8 (λ x. x) (Scalar.oFld 5 (List._∷_ (Syntax.field 1) List.[]) (Syntax.tyInt Syntax.w64) 8 λ v. Shared.lenV (v .0)) (Reads'.as-is 𝓤 H A (Relend.msptr T.the-row ty·8 8)) (Reads'.room-gone 𝓤 H A ty·14) (Relend.reads-owed-len 𝓤 H A W T.the-row ty·11 3 8 (Row.lease (κs .1 .1 .1 .0) (qs .1 .1 .1 .0)) 8 Path'.refl, Path'.refl) Path'.refl Path'.refl λ b o k. tt) d96
 
-          d98 : Typed.Typed 𝓤 H A 𝓣 E G7 b62 Δ0 at98
-          d98 = Typed.g-pre 𝓤 H A W 𝓣 E G7 G8 b62 Δ0 (λ Ψ. Ψ) at97 (Lifetime.g-begin 𝓤 H A W E G7 8 (tt, (tt, (tt, (tt, (tt, (tt, (tt, (tt, (tt, (tt, (tt, (tt, (tt, (tt, (tt, (tt, (tt, (tt, (tt, (tt, (tt, (tt, (tt, (tt, (tt, (tt, (tt, (tt, (tt, (tt, (tt, (tt, (tt, (tt, (tt, (tt, (tt, tt)))))))))))))))))))))))))))))))))))))) d97
+          d98 : Typed.Typed 𝓤 H A 𝓣 E G8 b62 Δ0 at98
+          d98 = Typed.s-seq 𝓤 H A W 𝓣 E G8 G9 b0 b61 Δ0 (Typed.give s7) at97 (Relend.t-sl-relend 𝓤 H A W E T.the-row 𝓣 G8 5 14 3 8 ty·11 ty·8 (Row.lease (κs .1 .1 .1 .0) (qs .1 .1 .1 .0)) 0 (λ x. x) (Reads'.as-is 𝓤 H A (Mut.mslice T.the-row ty·11 3)) (Reads'.room-gone 𝓤 H A ty·8) Path'.refl tt Path'.refl Path'.refl Path'.refl λ b o. tt) d97
 
-          d99 : Typed.Typed 𝓤 H A 𝓣 E G6 b62 Δ0 at99
-          d99 = Typed.g-pre 𝓤 H A W 𝓣 E G6 G7 b62 Δ0 (Typed.give s5) at98 (Know.g-sl-known 𝓤 H A W (Referent.fInt Syntax.w16) E G6 9 7 ty·7 (Row.lease (κs .1 .1 .1 .1 .1 .1 .1 .0) (qs .1 .1 .1 .1 .1 .1 .1 .0)) 0 (λ x. x) record { fits = Dec'.lit< tt } (Reads.as-is 𝓤 H A (Mut.mslice (Referent.rtF (Referent.fInt Syntax.w16)) ty·7 7)) Path'.refl tt) d98
+          d99 : Typed.Typed 𝓤 H A 𝓣 E G7 b62 Δ0 at99
+          d99 = Typed.g-pre 𝓤 H A W 𝓣 E G7 G8 b62 Δ0 (λ Ψ. Ψ) at98 (Lifetime.g-begin 𝓤 H A W E G7 8 (tt, (tt, (tt, (tt, (tt, (tt, (tt, (tt, (tt, (tt, (tt, (tt, (tt, (tt, (tt, (tt, (tt, (tt, (tt, (tt, (tt, (tt, (tt, (tt, (tt, (tt, (tt, (tt, (tt, (tt, (tt, (tt, (tt, (tt, (tt, (tt, (tt, tt)))))))))))))))))))))))))))))))))))))) d98
 
-          d100 : Typed.Typed 𝓤 H A 𝓣 E G5 b62 Δ0 at100
-          d100 = Typed.g-pre 𝓤 H A W 𝓣 E G5 G6 b62 Δ0 (Typed.give s4) at99 (Know.g-sl-known 𝓤 H A W (Referent.fInt Syntax.w16) E G5 8 6 ty·6 (Row.lease (κs .1 .1 .1 .1 .1 .1 .0) (qs .1 .1 .1 .1 .1 .1 .0)) 0 (λ x. x) record { fits = Dec'.lit< tt } (Reads.as-is 𝓤 H A (Mut.mslice (Referent.rtF (Referent.fInt Syntax.w16)) ty·6 6)) Path'.refl tt) d99
+          d100 : Typed.Typed 𝓤 H A 𝓣 E G6 b62 Δ0 at100
+          d100 = Typed.g-pre 𝓤 H A W 𝓣 E G6 G7 b62 Δ0 (Typed.give s5) at99 (Know.g-sl-known 𝓤 H A W (Referent.fInt Syntax.w16) E G6 9 7 ty·7 (Row.lease (κs .1 .1 .1 .1 .1 .1 .1 .0) (qs .1 .1 .1 .1 .1 .1 .1 .0)) 0 (λ x. x) record { fits = Dec'.lit< tt } (Reads'.as-is 𝓤 H A (Mut.mslice (Referent.rtF (Referent.fInt Syntax.w16)) ty·7 7)) Path'.refl tt) d99
 
-          d101 : Typed.Typed 𝓤 H A 𝓣 E G4 b62 Δ0 at101
-          d101 = Typed.g-pre 𝓤 H A W 𝓣 E G4 G5 b62 Δ0 (Typed.give s3) at100 (Know.g-sl-known 𝓤 H A W (Referent.fInt Syntax.w16) E G4 7 5 ty·5 (Row.lease (κs .1 .1 .1 .1 .1 .0) (qs .1 .1 .1 .1 .1 .0)) 0 (λ x. x) record { fits = Dec'.lit< tt } (Reads.as-is 𝓤 H A (Mut.mslice (Referent.rtF (Referent.fInt Syntax.w16)) ty·5 5)) Path'.refl tt) d100
+          d101 : Typed.Typed 𝓤 H A 𝓣 E G5 b62 Δ0 at101
+          d101 = Typed.g-pre 𝓤 H A W 𝓣 E G5 G6 b62 Δ0 (Typed.give s4) at100 (Know.g-sl-known 𝓤 H A W (Referent.fInt Syntax.w16) E G5 8 6 ty·6 (Row.lease (κs .1 .1 .1 .1 .1 .1 .0) (qs .1 .1 .1 .1 .1 .1 .0)) 0 (λ x. x) record { fits = Dec'.lit< tt } (Reads'.as-is 𝓤 H A (Mut.mslice (Referent.rtF (Referent.fInt Syntax.w16)) ty·6 6)) Path'.refl tt) d100
 
-          d102 : Typed.Typed 𝓤 H A 𝓣 E G3 b62 Δ0 at102
-          d102 = Typed.g-pre 𝓤 H A W 𝓣 E G3 G4 b62 Δ0 (Typed.give s2) at101 (Know.g-sl-known 𝓤 H A W (Referent.fInt Syntax.w16) E G3 6 4 ty·4 (Row.lease (κs .1 .1 .1 .1 .0) (qs .1 .1 .1 .1 .0)) 0 (λ x. x) record { fits = Dec'.lit< tt } (Reads.as-is 𝓤 H A (Mut.mslice (Referent.rtF (Referent.fInt Syntax.w16)) ty·4 4)) Path'.refl tt) d101
+          d102 : Typed.Typed 𝓤 H A 𝓣 E G4 b62 Δ0 at102
+          d102 = Typed.g-pre 𝓤 H A W 𝓣 E G4 G5 b62 Δ0 (Typed.give s3) at101 (Know.g-sl-known 𝓤 H A W (Referent.fInt Syntax.w16) E G4 7 5 ty·5 (Row.lease (κs .1 .1 .1 .1 .1 .0) (qs .1 .1 .1 .1 .1 .0)) 0 (λ x. x) record { fits = Dec'.lit< tt } (Reads'.as-is 𝓤 H A (Mut.mslice (Referent.rtF (Referent.fInt Syntax.w16)) ty·5 5)) Path'.refl tt) d101
 
-          d103 : Typed.Typed 𝓤 H A 𝓣 E G2 b62 Δ0 at103
-          d103 = Typed.g-pre 𝓤 H A W 𝓣 E G2 G3 b62 Δ0 (Typed.give s1) at102 (Know.g-shs-known 𝓤 H A W (Referent.fInt Syntax.w16) E G2 4 2 ty·3 (Row.lease (κs .1 .1 .0) (qs .1 .1 .0)) 0 (λ x. x) record { fits = Dec'.lit< tt } (Reads.as-is 𝓤 H A (Rows.sslice (Referent.rtF (Referent.fInt Syntax.w16)) ty·3 2)) Path'.refl tt) d102
+          d103 : Typed.Typed 𝓤 H A 𝓣 E G3 b62 Δ0 at103
+          d103 = Typed.g-pre 𝓤 H A W 𝓣 E G3 G4 b62 Δ0 (Typed.give s2) at102 (Know.g-sl-known 𝓤 H A W (Referent.fInt Syntax.w16) E G3 6 4 ty·4 (Row.lease (κs .1 .1 .1 .1 .0) (qs .1 .1 .1 .1 .0)) 0 (λ x. x) record { fits = Dec'.lit< tt } (Reads'.as-is 𝓤 H A (Mut.mslice (Referent.rtF (Referent.fInt Syntax.w16)) ty·4 4)) Path'.refl tt) d102
 
-          d104 : Typed.Typed 𝓤 H A 𝓣 E G0 b62 Δ0 at104
-          d104 = Typed.g-pre 𝓤 H A W 𝓣 E G0 G2 b62 Δ0 (Typed.give s0) at103 (Know.g-shs-known 𝓤 H A W (Referent.fInt Syntax.w16) E G0 3 1 ty·2 (Row.lease (κs .1 .0) (qs .1 .0)) 0 (λ x. x) record { fits = Dec'.lit< tt } (Reads.as-is 𝓤 H A (Rows.sslice (Referent.rtF (Referent.fInt Syntax.w16)) ty·2 1)) Path'.refl tt) d103
+          d104 : Typed.Typed 𝓤 H A 𝓣 E G2 b62 Δ0 at104
+          d104 = Typed.g-pre 𝓤 H A W 𝓣 E G2 G3 b62 Δ0 (Typed.give s1) at103 (Know.g-shs-known 𝓤 H A W (Referent.fInt Syntax.w16) E G2 4 2 ty·3 (Row.lease (κs .1 .1 .0) (qs .1 .1 .0)) 0 (λ x. x) record { fits = Dec'.lit< tt } (Reads'.as-is 𝓤 H A (Rows.sslice (Referent.rtF (Referent.fInt Syntax.w16)) ty·3 2)) Path'.refl tt) d103
+
+          d105 : Typed.Typed 𝓤 H A 𝓣 E G0 b62 Δ0 at105
+          d105 = Typed.g-pre 𝓤 H A W 𝓣 E G0 G2 b62 Δ0 (Typed.give s0) at104 (Know.g-shs-known 𝓤 H A W (Referent.fInt Syntax.w16) E G0 3 1 ty·2 (Row.lease (κs .1 .0) (qs .1 .0)) 0 (λ x. x) record { fits = Dec'.lit< tt } (Reads'.as-is 𝓤 H A (Rows.sslice (Referent.rtF (Referent.fInt Syntax.w16)) ty·2 1)) Path'.refl tt) d104
 
           pub typed : Typed.Typed 𝓤 H A 𝓣 E (Function.Γin 8 ps r xs m κs qs) b62 (Function.Δret 8 ps r xs m κs qs) Φ
-          typed = d104
+          typed = d105
 
       module _ (κs : Lifetimes.Lfts 8) where
         pub record Args : Type 0 where
@@ -2238,136 +2257,136 @@ module _ (claims· : Claims) where
       abbrev pub After-trim·gave : (c : After-trim) → s29 .gives (m21 (c .before .before) (c .before .trim-arg5 .given))
       After-trim·gave = λ c. Called.given ps·1 r·1 (claims· .3) T30 (record { pos = 1; st = List.[]; d = 0; at = λ x. x }, (record { pos = 2; ty = Syntax.tyRef (Syntax.named 0) Syntax.imm (Memory.pointee (T.the-row .written)); ref = λ x. x }, (record { pos = 3; ty = Syntax.tyRef (Syntax.named 1) Syntax.imm (Syntax.tyInt Syntax.w16); ref = λ x. x }, (record { pos = 4; ty = Syntax.tyRef (Syntax.named 2) Syntax.imm (Syntax.tyInt Syntax.w16); ref = λ x. x }, (record { pos = 17; ty = Syntax.tyRef Syntax.erased Syntax.mut (Memory.pointee (T.the-row .written)); ref = λ x. x }, (record { pos = 19; ty = Syntax.tyRef Syntax.erased Syntax.mut (Syntax.tyInt Syntax.w16); ref = λ x. x }, (record { pos = 21; ty = Syntax.tyRef Syntax.erased Syntax.mut (Syntax.tyInt Syntax.w16); ref = λ x. x }, (record { pos = 23; ty = Syntax.tyRef Syntax.erased Syntax.mut (Syntax.tyInt Syntax.w16); ref = λ x. x }, (record { pos = 25; ty = Syntax.tyRef Syntax.erased Syntax.mut (Syntax.tyInt Syntax.w16); ref = λ x. x }, tt))))))))) (m21 (c .before .before) (c .before .trim-arg5 .given)) (c .trim)
 
-      abbrev pub m23 : (before : After-trim-arg5) → (given : s29 .gives (m21 (before .before) (before .trim-arg5 .given))) → Typed.Mo T32
-      m23 = λ before given. s30 (m22 before given)
-
-      abbrev pub m24 : (before : After-trim) → (given : s32 .gives (m23 (before .before) (After-trim·gave before))) → Typed.Mo T34
-      m24 = λ before given. s32 .next (m23 (before .before) (After-trim·gave before)) given
+      abbrev pub m23 : (before : After-trim) → (given : s31 .gives (m22 (before .before) (After-trim·gave before))) → Typed.Mo T33
+      m23 = λ before given. s31 .next (m22 (before .before) (After-trim·gave before)) given
 
       module _ (before· : After-trim) where
         pub record After-rows22·own : Type 0 where
-          pub given : s32 .gives (m23 (before· .before) (After-trim·gave before·))
+          pub given : s31 .gives (m22 (before· .before) (After-trim·gave before·))
 
       pub record After-rows22 : Type 0 where
         pub before : After-trim
         pub rows22 : After-rows22·own before
 
-      abbrev pub m25 : (before : After-rows22) → (given : s35 .gives (m24 (before .before) (before .rows22 .given))) → Typed.Mo T37
-      m25 = λ before given. s35 .next (m24 (before .before) (before .rows22 .given)) given
+      abbrev pub m24 : (before : After-rows22) → (given : s34 .gives (m23 (before .before) (before .rows22 .given))) → Typed.Mo T36
+      m24 = λ before given. s34 .next (m23 (before .before) (before .rows22 .given)) given
 
       module _ (before· : After-rows22) where
         pub record After-firsts2·own : Type 0 where
-          pub given : s35 .gives (m24 (before· .before) (before· .rows22 .given))
+          pub given : s34 .gives (m23 (before· .before) (before· .rows22 .given))
 
       pub record After-firsts2 : Type 0 where
         pub before : After-rows22
         pub firsts2 : After-firsts2·own before
 
-      abbrev pub m26 : (before : After-firsts2) → (given : s36 .gives (m25 (before .before) (before .firsts2 .given))) → Typed.Mo T38
-      m26 = λ before given. s36 .next (m25 (before .before) (before .firsts2 .given)) given
+      abbrev pub m25 : (before : After-firsts2) → (given : s35 .gives (m24 (before .before) (before .firsts2 .given))) → Typed.Mo T37
+      m25 = λ before given. s35 .next (m24 (before .before) (before .firsts2 .given)) given
 
       module _ (before· : After-firsts2) where
         pub record After-slice-known5·own : Type 0 where
-          pub given : s36 .gives (m25 (before· .before) (before· .firsts2 .given))
+          pub given : s35 .gives (m24 (before· .before) (before· .firsts2 .given))
 
       pub record After-slice-known5 : Type 0 where
         pub before : After-firsts2
         pub slice-known5 : After-slice-known5·own before
 
-      abbrev pub m27 : (before : After-slice-known5) → (given : s39 .gives (m26 (before .before) (before .slice-known5 .given))) → Typed.Mo T41
-      m27 = λ before given. s39 .next (m26 (before .before) (before .slice-known5 .given)) given
+      abbrev pub m26 : (before : After-slice-known5) → (given : s38 .gives (m25 (before .before) (before .slice-known5 .given))) → Typed.Mo T40
+      m26 = λ before given. s38 .next (m25 (before .before) (before .slice-known5 .given)) given
 
       module _ (before· : After-slice-known5) where
         pub record After-outcomes2·own : Type 0 where
-          pub given : s39 .gives (m26 (before· .before) (before· .slice-known5 .given))
+          pub given : s38 .gives (m25 (before· .before) (before· .slice-known5 .given))
 
       pub record After-outcomes2 : Type 0 where
         pub before : After-slice-known5
         pub outcomes2 : After-outcomes2·own before
 
-      abbrev pub m28 : (before : After-outcomes2) → (given : s40 .gives (m27 (before .before) (before .outcomes2 .given))) → Typed.Mo T42
-      m28 = λ before given. s40 .next (m27 (before .before) (before .outcomes2 .given)) given
+      abbrev pub m27 : (before : After-outcomes2) → (given : s39 .gives (m26 (before .before) (before .outcomes2 .given))) → Typed.Mo T41
+      m27 = λ before given. s39 .next (m26 (before .before) (before .outcomes2 .given)) given
 
       module _ (before· : After-outcomes2) where
         pub record After-slice-known6·own : Type 0 where
-          pub given : s40 .gives (m27 (before· .before) (before· .outcomes2 .given))
+          pub given : s39 .gives (m26 (before· .before) (before· .outcomes2 .given))
 
       pub record After-slice-known6 : Type 0 where
         pub before : After-outcomes2
         pub slice-known6 : After-slice-known6·own before
 
-      abbrev pub m29 : (before : After-slice-known6) → (given : s43 .gives (m28 (before .before) (before .slice-known6 .given))) → Typed.Mo T45
-      m29 = λ before given. s43 .next (m28 (before .before) (before .slice-known6 .given)) given
+      abbrev pub m28 : (before : After-slice-known6) → (given : s42 .gives (m27 (before .before) (before .slice-known6 .given))) → Typed.Mo T44
+      m28 = λ before given. s42 .next (m27 (before .before) (before .slice-known6 .given)) given
 
       module _ (before· : After-slice-known6) where
         pub record After-olds·own : Type 0 where
-          pub given : s43 .gives (m28 (before· .before) (before· .slice-known6 .given))
+          pub given : s42 .gives (m27 (before· .before) (before· .slice-known6 .given))
 
       pub record After-olds : Type 0 where
         pub before : After-slice-known6
         pub olds : After-olds·own before
 
-      abbrev pub m30 : (before : After-olds) → (given : s44 .gives (m29 (before .before) (before .olds .given))) → Typed.Mo T46
-      m30 = λ before given. s44 .next (m29 (before .before) (before .olds .given)) given
+      abbrev pub m29 : (before : After-olds) → (given : s43 .gives (m28 (before .before) (before .olds .given))) → Typed.Mo T45
+      m29 = λ before given. s43 .next (m28 (before .before) (before .olds .given)) given
 
       module _ (before· : After-olds) where
         pub record After-slice-known7·own : Type 0 where
-          pub given : s44 .gives (m29 (before· .before) (before· .olds .given))
+          pub given : s43 .gives (m28 (before· .before) (before· .olds .given))
 
       pub record After-slice-known7 : Type 0 where
         pub before : After-olds
         pub slice-known7 : After-slice-known7·own before
 
-      abbrev pub m31 : (before : After-slice-known7) → (given : s47 .gives (m30 (before .before) (before .slice-known7 .given))) → Typed.Mo T49
-      m31 = λ before given. s47 .next (m30 (before .before) (before .slice-known7 .given)) given
+      abbrev pub m30 : (before : After-slice-known7) → (given : s46 .gives (m29 (before .before) (before .slice-known7 .given))) → Typed.Mo T48
+      m30 = λ before given. s46 .next (m29 (before .before) (before .slice-known7 .given)) given
 
       module _ (before· : After-slice-known7) where
         pub record After-scratch·own : Type 0 where
-          pub given : s47 .gives (m30 (before· .before) (before· .slice-known7 .given))
+          pub given : s46 .gives (m29 (before· .before) (before· .slice-known7 .given))
 
       pub record After-scratch : Type 0 where
         pub before : After-slice-known7
         pub scratch : After-scratch·own before
 
-      abbrev pub m32 : (before : After-scratch) → (given : s48 .gives (m31 (before .before) (before .scratch .given))) → Typed.Mo T50
-      m32 = λ before given. s48 .next (m31 (before .before) (before .scratch .given)) given
+      abbrev pub m31 : (before : After-scratch) → (given : s47 .gives (m30 (before .before) (before .scratch .given))) → Typed.Mo T49
+      m31 = λ before given. s47 .next (m30 (before .before) (before .scratch .given)) given
 
       module _ (before· : After-scratch) where
         pub record After-slice-known8·own : Type 0 where
-          pub given : s48 .gives (m31 (before· .before) (before· .scratch .given))
+          pub given : s47 .gives (m30 (before· .before) (before· .scratch .given))
 
       pub record After-slice-known8 : Type 0 where
         pub before : After-scratch
         pub slice-known8 : After-slice-known8·own before
 
       abbrev pub Need-print-answer-requires : Type 0
-      Need-print-answer-requires = (c : After-slice-known8) → s50 .asks (m32 (c .before) (c .slice-known8 .given))
+      Need-print-answer-requires = (c : After-slice-known8) → s49 .asks (m31 (c .before) (c .slice-known8 .given))
 
-      abbrev pub m33 : (before : After-slice-known8) → (given : s50 .gives (m32 (before .before) (before .slice-known8 .given))) → Typed.Mo T52
-      m33 = λ before given. s50 .next (m32 (before .before) (before .slice-known8 .given)) given
+      abbrev pub m32 : (before : After-slice-known8) → (given : s49 .gives (m31 (before .before) (before .slice-known8 .given))) → Typed.Mo T51
+      m32 = λ before given. s49 .next (m31 (before .before) (before .slice-known8 .given)) given
 
       module _ (before· : After-slice-known8) where
         abbrev pub After-print-answer·own : Type 0
-        After-print-answer·own = Called.Called ps·2 r·2 (claims· .5) T50 (record { pos = 12; st = List.[]; d = 0; at = λ x. x }, tt) (m32 (before· .before) (before· .slice-known8 .given))
+        After-print-answer·own = Called.Called ps·2 r·2 (claims· .5) T49 (record { pos = 12; st = List.[]; d = 0; at = λ x. x }, tt) (m31 (before· .before) (before· .slice-known8 .given))
 
       pub record After-print-answer : Type 0 where
         pub before : After-slice-known8
         pub print-answer : After-print-answer·own before
 
-      abbrev pub After-print-answer·gave : (c : After-print-answer) → s50 .gives (m32 (c .before .before) (c .before .slice-known8 .given))
-      After-print-answer·gave = λ c. Called.given ps·2 r·2 (claims· .5) T50 (record { pos = 12; st = List.[]; d = 0; at = λ x. x }, tt) (m32 (c .before .before) (c .before .slice-known8 .given)) (c .print-answer)
+      abbrev pub After-print-answer·gave : (c : After-print-answer) → s49 .gives (m31 (c .before .before) (c .before .slice-known8 .given))
+      After-print-answer·gave = λ c. Called.given ps·2 r·2 (claims· .5) T49 (record { pos = 12; st = List.[]; d = 0; at = λ x. x }, tt) (m31 (c .before .before) (c .before .slice-known8 .given)) (c .print-answer)
 
-      abbrev pub m34 : (before : After-slice-known8) → (given : s50 .gives (m32 (before .before) (before .slice-known8 .given))) → Typed.Mo T53
-      m34 = λ before given. s51 (m33 before given)
+      abbrev pub m33 : (before : After-slice-known8) → (given : s49 .gives (m31 (before .before) (before .slice-known8 .given))) → Typed.Mo T52
+      m33 = λ before given. s50 (m32 before given)
 
-      abbrev pub m35 : (before : After-slice-known8) → (given : s50 .gives (m32 (before .before) (before .slice-known8 .given))) → Typed.Mo T54
-      m35 = λ before given. s52 .next (m34 before given)
+      abbrev pub m34 : (before : After-slice-known8) → (given : s49 .gives (m31 (before .before) (before .slice-known8 .given))) → Typed.Mo T53
+      m34 = λ before given. s51 .next (m33 before given)
 
-      abbrev W1 : (before : After-slice-known8) → (given : s50 .gives (m32 (before .before) (before .slice-known8 .given))) → Typed.Want O1
-      W1 = λ before given. Typed.wantNext T55 O0 (at50 (W0 (before .before .before .before .before .before .before .before .before .before .before .before .before .before .before .before .before .before .before .before .before .before .before .before .before .κs) (before .before .before .before .before .before .before .before .before .before .before .before .before .before .before .before .before .before .before .before .before .before .before .before .before .args))) (W0 (before .before .before .before .before .before .before .before .before .before .before .before .before .before .before .before .before .before .before .before .before .before .before .before .before .κs) (before .before .before .before .before .before .before .before .before .before .before .before .before .before .before .before .before .before .before .before .before .before .before .before .before .args))
+      abbrev W1 : (before : After-slice-known8) → (given : s49 .gives (m31 (before .before) (before .slice-known8 .given))) → Typed.Want O1
+      W1 = λ before given. Typed.wantNext T54 O0 (at52 (W0 (before .before .before .before .before .before .before .before .before .before .before .before .before .before .before .before .before .before .before .before .before .before .before .before .before .κs) (before .before .before .before .before .before .before .before .before .before .before .before .before .before .before .before .before .before .before .before .before .before .before .before .before .args))) (W0 (before .before .before .before .before .before .before .before .before .before .before .before .before .before .before .before .before .before .before .before .before .before .before .before .before .κs) (before .before .before .before .before .before .before .before .before .before .before .before .before .before .before .before .before .before .before .before .before .before .before .before .before .args))
+
+      abbrev pub m35 : (before : After-print-answer) → Typed.Mo T55
+      m35 = λ before. s52 (m34 (before .before) (After-print-answer·gave before))
 
       abbrev pub m36 : (before : After-print-answer) → Typed.Mo T56
-      m36 = λ before. s53 (m35 (before .before) (After-print-answer·gave before))
+      m36 = λ before. s53 (m35 before)
 
       abbrev pub m37 : (before : After-print-answer) → Typed.Mo T57
       m37 = λ before. s54 (m36 before)
@@ -2383,7 +2402,7 @@ module _ (claims· : Claims) where
 
       module _ (before· : After-print-answer) where
         pub record Then1·own : Type 0 where
-          pub taken : Path'._≡_ (Row.get 26 (T54 .locals) (m35 (before· .before) (After-print-answer·gave before·))) Bool'.true
+          pub taken : Path'._≡_ (Row.get 26 (T53 .locals) (m34 (before· .before) (After-print-answer·gave before·))) Bool'.true
 
       pub record Then1 : Type 0 where
         pub before : After-print-answer
@@ -2408,11 +2427,11 @@ module _ (claims· : Claims) where
       Need-returns = (c : Then1) → Post· (c .before .before .before .before .before .before .before .before .before .before .before .before .before .before .before .before .before .before .before .before .before .before .before .before .before .before .κs) (dens (c .before .before .before .before .before .before .before .before .before .before .before .before .before .before .before .before .before .before .before .before .before .before .before .before .before .before .κs) (c .before .before .before .before .before .before .before .before .before .before .before .before .before .before .before .before .before .before .before .before .before .before .before .before .before .before .args)) (Function.resV r (c .before .before .before .before .before .before .before .before .before .before .before .before .before .before .before .before .before .before .before .before .before .before .before .before .before .before .κs) (m40 (c .before) .0)) (Clauses.atExit (Kinds.endedOf 8 ps r) (c .before .before .before .before .before .before .before .before .before .before .before .before .before .before .before .before .before .before .before .before .before .before .before .before .before .before .κs) (dens (c .before .before .before .before .before .before .before .before .before .before .before .before .before .before .before .before .before .before .before .before .before .before .before .before .before .before .κs) (c .before .before .before .before .before .before .before .before .before .before .before .before .before .before .before .before .before .before .before .before .before .before .before .before .before .before .args)) (Enter.lastsP (c .before .before .before .before .before .before .before .before .before .before .before .before .before .before .before .before .before .before .before .before .before .before .before .before .before .before .κs) 1 ps xs (dens (c .before .before .before .before .before .before .before .before .before .before .before .before .before .before .before .before .before .before .before .before .before .before .before .before .before .before .κs) (c .before .before .before .before .before .before .before .before .before .before .before .before .before .before .before .before .before .before .before .before .before .before .before .before .before .before .args)) (m40 (c .before) .1)))
 
       abbrev pub m41 : (before : After-print-answer) → Typed.Mo T61
-      m41 = λ before. s58 (m35 (before .before) (After-print-answer·gave before))
+      m41 = λ before. s58 (m34 (before .before) (After-print-answer·gave before))
 
       module _ (before· : After-print-answer) where
         pub record Else1·own : Type 0 where
-          pub left : Path'._≡_ (Row.get 26 (T54 .locals) (m35 (before· .before) (After-print-answer·gave before·))) Bool'.false
+          pub left : Path'._≡_ (Row.get 26 (T53 .locals) (m34 (before· .before) (After-print-answer·gave before·))) Bool'.false
 
       pub record Else1 : Type 0 where
         pub before : After-print-answer
@@ -2496,14 +2515,14 @@ module _ (claims· : Claims) where
 
       module _ (before· : After-show-arg5) where
         abbrev pub After-show·own : Type 0
-        After-show·own = Called.Called ps·3 r·3 (claims· .7) T76 (record { pos = 12; st = List.[]; d = 0; at = λ x. x }, (record { pos = 28; ty = Syntax.tyRef Syntax.erased Syntax.imm (Memory.pointee (T.the-row .written)); ref = λ x. x }, (record { pos = 30; ty = Syntax.tyRef Syntax.erased Syntax.imm (Syntax.tyInt Syntax.w16); ref = λ x. x }, (record { pos = 32; ty = Syntax.tyRef Syntax.erased Syntax.imm (Syntax.tyInt Syntax.w16); ref = λ x. x }, (record { pos = 34; ty = Syntax.tyRef Syntax.erased Syntax.imm (Syntax.tyInt Syntax.w16); ref = λ x. x }, (record { pos = 36; ty = Syntax.tyRef Syntax.erased Syntax.imm (Syntax.tyInt Syntax.w16); ref = λ x. x }, tt)))))) (m51 (before· .before) (before· .show-arg5 .given))
+        After-show·own = Called.Called ps·3 r·3 (claims· .7) T76 (record { pos = 12; st = List.[]; d = 0; at = λ x. x }, (Num.vFld 1 (List._∷_ (Syntax.field 0) List.[]) 0 λ x. Size.struct .as-values x .0, (record { pos = 28; ty = Syntax.tyRef Syntax.erased Syntax.imm (Memory.pointee (T.the-row .written)); ref = λ x. x }, (record { pos = 30; ty = Syntax.tyRef Syntax.erased Syntax.imm (Syntax.tyInt Syntax.w16); ref = λ x. x }, (record { pos = 32; ty = Syntax.tyRef Syntax.erased Syntax.imm (Syntax.tyInt Syntax.w16); ref = λ x. x }, (record { pos = 34; ty = Syntax.tyRef Syntax.erased Syntax.imm (Syntax.tyInt Syntax.w16); ref = λ x. x }, (record { pos = 36; ty = Syntax.tyRef Syntax.erased Syntax.imm (Syntax.tyInt Syntax.w16); ref = λ x. x }, tt))))))) (m51 (before· .before) (before· .show-arg5 .given))
 
       pub record After-show : Type 0 where
         pub before : After-show-arg5
         pub show : After-show·own before
 
       abbrev pub After-show·gave : (c : After-show) → s74 .gives (m51 (c .before .before) (c .before .show-arg5 .given))
-      After-show·gave = λ c. Called.given ps·3 r·3 (claims· .7) T76 (record { pos = 12; st = List.[]; d = 0; at = λ x. x }, (record { pos = 28; ty = Syntax.tyRef Syntax.erased Syntax.imm (Memory.pointee (T.the-row .written)); ref = λ x. x }, (record { pos = 30; ty = Syntax.tyRef Syntax.erased Syntax.imm (Syntax.tyInt Syntax.w16); ref = λ x. x }, (record { pos = 32; ty = Syntax.tyRef Syntax.erased Syntax.imm (Syntax.tyInt Syntax.w16); ref = λ x. x }, (record { pos = 34; ty = Syntax.tyRef Syntax.erased Syntax.imm (Syntax.tyInt Syntax.w16); ref = λ x. x }, (record { pos = 36; ty = Syntax.tyRef Syntax.erased Syntax.imm (Syntax.tyInt Syntax.w16); ref = λ x. x }, tt)))))) (m51 (c .before .before) (c .before .show-arg5 .given)) (c .show)
+      After-show·gave = λ c. Called.given ps·3 r·3 (claims· .7) T76 (record { pos = 12; st = List.[]; d = 0; at = λ x. x }, (Num.vFld 1 (List._∷_ (Syntax.field 0) List.[]) 0 λ x. Size.struct .as-values x .0, (record { pos = 28; ty = Syntax.tyRef Syntax.erased Syntax.imm (Memory.pointee (T.the-row .written)); ref = λ x. x }, (record { pos = 30; ty = Syntax.tyRef Syntax.erased Syntax.imm (Syntax.tyInt Syntax.w16); ref = λ x. x }, (record { pos = 32; ty = Syntax.tyRef Syntax.erased Syntax.imm (Syntax.tyInt Syntax.w16); ref = λ x. x }, (record { pos = 34; ty = Syntax.tyRef Syntax.erased Syntax.imm (Syntax.tyInt Syntax.w16); ref = λ x. x }, (record { pos = 36; ty = Syntax.tyRef Syntax.erased Syntax.imm (Syntax.tyInt Syntax.w16); ref = λ x. x }, tt))))))) (m51 (c .before .before) (c .before .show-arg5 .given)) (c .show)
 
       abbrev pub m53 : (before : After-show-arg5) → (given : s74 .gives (m51 (before .before) (before .show-arg5 .given))) → Typed.Mo T78
       m53 = λ before given. s75 (m52 before given)
@@ -2526,23 +2545,23 @@ module _ (claims· : Claims) where
       abbrev pub m59 : (before : After-show-arg5) → (given : s74 .gives (m51 (before .before) (before .show-arg5 .given))) → Typed.Mo T84
       m59 = λ before given. s81 (m58 before given)
 
-      abbrev pub m60 : (before : After-show-arg5) → (given : s74 .gives (m51 (before .before) (before .show-arg5 .given))) → Typed.Mo T86
-      m60 = λ before given. s83 (m59 before given)
+      abbrev pub m60 : (before : After-show-arg5) → (given : s74 .gives (m51 (before .before) (before .show-arg5 .given))) → Typed.Mo T85
+      m60 = λ before given. s82 (m59 before given)
 
-      abbrev pub m61 : (before : After-show-arg5) → (given : s74 .gives (m51 (before .before) (before .show-arg5 .given))) → Typed.Mo T89
-      m61 = λ before given. s86 (m60 before given)
+      abbrev pub m61 : (before : After-show-arg5) → (given : s74 .gives (m51 (before .before) (before .show-arg5 .given))) → Typed.Mo T87
+      m61 = λ before given. s84 (m60 before given)
 
-      abbrev pub m62 : (before : After-show-arg5) → (given : s74 .gives (m51 (before .before) (before .show-arg5 .given))) → Typed.Mo T92
-      m62 = λ before given. s89 (m61 before given)
+      abbrev pub m62 : (before : After-show-arg5) → (given : s74 .gives (m51 (before .before) (before .show-arg5 .given))) → Typed.Mo T90
+      m62 = λ before given. s87 (m61 before given)
 
-      abbrev pub m63 : (before : After-show-arg5) → (given : s74 .gives (m51 (before .before) (before .show-arg5 .given))) → Typed.Mo T95
-      m63 = λ before given. s92 (m62 before given)
+      abbrev pub m63 : (before : After-show-arg5) → (given : s74 .gives (m51 (before .before) (before .show-arg5 .given))) → Typed.Mo T93
+      m63 = λ before given. s90 (m62 before given)
 
-      abbrev pub m64 : (before : After-show-arg5) → (given : s74 .gives (m51 (before .before) (before .show-arg5 .given))) → Typed.Mo T98
-      m64 = λ before given. s95 (m63 before given)
+      abbrev pub m64 : (before : After-show-arg5) → (given : s74 .gives (m51 (before .before) (before .show-arg5 .given))) → Typed.Mo T96
+      m64 = λ before given. s93 (m63 before given)
 
-      abbrev pub m65 : (before : After-show-arg5) → (given : s74 .gives (m51 (before .before) (before .show-arg5 .given))) → Typed.Mo T100
-      m65 = λ before given. s97 (m64 before given)
+      abbrev pub m65 : (before : After-show-arg5) → (given : s74 .gives (m51 (before .before) (before .show-arg5 .given))) → Typed.Mo T99
+      m65 = λ before given. s96 (m64 before given)
 
       abbrev pub m66 : (before : After-show-arg5) → (given : s74 .gives (m51 (before .before) (before .show-arg5 .given))) → Typed.Mo T101
       m66 = λ before given. s98 (m65 before given)
@@ -2550,41 +2569,44 @@ module _ (claims· : Claims) where
       abbrev pub m67 : (before : After-show-arg5) → (given : s74 .gives (m51 (before .before) (before .show-arg5 .given))) → Typed.Mo T102
       m67 = λ before given. s99 (m66 before given)
 
+      abbrev pub m68 : (before : After-show-arg5) → (given : s74 .gives (m51 (before .before) (before .show-arg5 .given))) → Typed.Mo T103
+      m68 = λ before given. s100 (m67 before given)
+
       abbrev pub Need-same-length-6 : Type 0
-      Need-same-length-6 = (c : After-show) → MutSlice.SameLen (Row.get 5 (T102 .locals) (m67 (c .before) (After-show·gave c))) (dens (c .before .before .before .before .before .before .before .before .before .before .before .before .before .before .before .before .before .before .before .before .before .before .before .before .before .before .before .before .before .before .before .before .κs) (c .before .before .before .before .before .before .before .before .before .before .before .before .before .before .before .before .before .before .before .before .before .before .before .before .before .before .before .before .before .before .before .before .args) .1 .1 .1 .1 .0)
+      Need-same-length-6 = (c : After-show) → MutSlice.SameLen (Row.get 5 (T103 .locals) (m68 (c .before) (After-show·gave c))) (dens (c .before .before .before .before .before .before .before .before .before .before .before .before .before .before .before .before .before .before .before .before .before .before .before .before .before .before .before .before .before .before .before .before .κs) (c .before .before .before .before .before .before .before .before .before .before .before .before .before .before .before .before .before .before .before .before .before .before .before .before .before .before .before .before .before .before .before .before .args) .1 .1 .1 .1 .0)
 
       abbrev pub Need-same-length-7 : Type 0
-      Need-same-length-7 = (c : After-show) → MutSlice.SameLen (Row.get 6 (T102 .locals) (m67 (c .before) (After-show·gave c))) (dens (c .before .before .before .before .before .before .before .before .before .before .before .before .before .before .before .before .before .before .before .before .before .before .before .before .before .before .before .before .before .before .before .before .κs) (c .before .before .before .before .before .before .before .before .before .before .before .before .before .before .before .before .before .before .before .before .before .before .before .before .before .before .before .before .before .before .before .before .args) .1 .1 .1 .1 .1 .0)
+      Need-same-length-7 = (c : After-show) → MutSlice.SameLen (Row.get 6 (T103 .locals) (m68 (c .before) (After-show·gave c))) (dens (c .before .before .before .before .before .before .before .before .before .before .before .before .before .before .before .before .before .before .before .before .before .before .before .before .before .before .before .before .before .before .before .before .κs) (c .before .before .before .before .before .before .before .before .before .before .before .before .before .before .before .before .before .before .before .before .before .before .before .before .before .before .before .before .before .before .before .before .args) .1 .1 .1 .1 .1 .0)
 
       abbrev pub Need-same-length-8 : Type 0
-      Need-same-length-8 = (c : After-show) → MutSlice.SameLen (Row.get 7 (T102 .locals) (m67 (c .before) (After-show·gave c))) (dens (c .before .before .before .before .before .before .before .before .before .before .before .before .before .before .before .before .before .before .before .before .before .before .before .before .before .before .before .before .before .before .before .before .κs) (c .before .before .before .before .before .before .before .before .before .before .before .before .before .before .before .before .before .before .before .before .before .before .before .before .before .before .before .before .before .before .before .before .args) .1 .1 .1 .1 .1 .1 .0)
+      Need-same-length-8 = (c : After-show) → MutSlice.SameLen (Row.get 7 (T103 .locals) (m68 (c .before) (After-show·gave c))) (dens (c .before .before .before .before .before .before .before .before .before .before .before .before .before .before .before .before .before .before .before .before .before .before .before .before .before .before .before .before .before .before .before .before .κs) (c .before .before .before .before .before .before .before .before .before .before .before .before .before .before .before .before .before .before .before .before .before .before .before .before .before .before .before .before .before .before .before .before .args) .1 .1 .1 .1 .1 .1 .0)
 
       abbrev pub Need-same-length-9 : Type 0
-      Need-same-length-9 = (c : After-show) → MutSlice.SameLen (Row.get 8 (T102 .locals) (m67 (c .before) (After-show·gave c))) (dens (c .before .before .before .before .before .before .before .before .before .before .before .before .before .before .before .before .before .before .before .before .before .before .before .before .before .before .before .before .before .before .before .before .κs) (c .before .before .before .before .before .before .before .before .before .before .before .before .before .before .before .before .before .before .before .before .before .before .before .before .before .before .before .before .before .before .before .before .args) .1 .1 .1 .1 .1 .1 .1 .0)
+      Need-same-length-9 = (c : After-show) → MutSlice.SameLen (Row.get 8 (T103 .locals) (m68 (c .before) (After-show·gave c))) (dens (c .before .before .before .before .before .before .before .before .before .before .before .before .before .before .before .before .before .before .before .before .before .before .before .before .before .before .before .before .before .before .before .before .κs) (c .before .before .before .before .before .before .before .before .before .before .before .before .before .before .before .before .before .before .before .before .before .before .before .before .before .before .before .before .before .before .before .before .args) .1 .1 .1 .1 .1 .1 .1 .0)
 
       abbrev pub Need-same-length-10 : Type 0
-      Need-same-length-10 = (c : After-show) → MutSlice.SameLen (Row.get 9 (T102 .locals) (m67 (c .before) (After-show·gave c))) (dens (c .before .before .before .before .before .before .before .before .before .before .before .before .before .before .before .before .before .before .before .before .before .before .before .before .before .before .before .before .before .before .before .before .κs) (c .before .before .before .before .before .before .before .before .before .before .before .before .before .before .before .before .before .before .before .before .before .before .before .before .before .before .before .before .before .before .before .before .args) .1 .1 .1 .1 .1 .1 .1 .1 .0)
+      Need-same-length-10 = (c : After-show) → MutSlice.SameLen (Row.get 9 (T103 .locals) (m68 (c .before) (After-show·gave c))) (dens (c .before .before .before .before .before .before .before .before .before .before .before .before .before .before .before .before .before .before .before .before .before .before .before .before .before .before .before .before .before .before .before .before .κs) (c .before .before .before .before .before .before .before .before .before .before .before .before .before .before .before .before .before .before .before .before .before .before .before .before .before .before .before .before .before .before .before .before .args) .1 .1 .1 .1 .1 .1 .1 .1 .0)
 
       abbrev pub Need-returns-2 : Type 0
-      Need-returns-2 = (c : After-show) → Post· (c .before .before .before .before .before .before .before .before .before .before .before .before .before .before .before .before .before .before .before .before .before .before .before .before .before .before .before .before .before .before .before .before .κs) (dens (c .before .before .before .before .before .before .before .before .before .before .before .before .before .before .before .before .before .before .before .before .before .before .before .before .before .before .before .before .before .before .before .before .κs) (c .before .before .before .before .before .before .before .before .before .before .before .before .before .before .before .before .before .before .before .before .before .before .before .before .before .before .before .before .before .before .before .before .args)) (Function.resV r (c .before .before .before .before .before .before .before .before .before .before .before .before .before .before .before .before .before .before .before .before .before .before .before .before .before .before .before .before .before .before .before .before .κs) (m67 (c .before) (After-show·gave c) .0)) (Clauses.atExit (Kinds.endedOf 8 ps r) (c .before .before .before .before .before .before .before .before .before .before .before .before .before .before .before .before .before .before .before .before .before .before .before .before .before .before .before .before .before .before .before .before .κs) (dens (c .before .before .before .before .before .before .before .before .before .before .before .before .before .before .before .before .before .before .before .before .before .before .before .before .before .before .before .before .before .before .before .before .κs) (c .before .before .before .before .before .before .before .before .before .before .before .before .before .before .before .before .before .before .before .before .before .before .before .before .before .before .before .before .before .before .before .before .args)) (Enter.lastsP (c .before .before .before .before .before .before .before .before .before .before .before .before .before .before .before .before .before .before .before .before .before .before .before .before .before .before .before .before .before .before .before .before .κs) 1 ps xs (dens (c .before .before .before .before .before .before .before .before .before .before .before .before .before .before .before .before .before .before .before .before .before .before .before .before .before .before .before .before .before .before .before .before .κs) (c .before .before .before .before .before .before .before .before .before .before .before .before .before .before .before .before .before .before .before .before .before .before .before .before .before .before .before .before .before .before .before .before .args)) (m67 (c .before) (After-show·gave c) .1)))
+      Need-returns-2 = (c : After-show) → Post· (c .before .before .before .before .before .before .before .before .before .before .before .before .before .before .before .before .before .before .before .before .before .before .before .before .before .before .before .before .before .before .before .before .κs) (dens (c .before .before .before .before .before .before .before .before .before .before .before .before .before .before .before .before .before .before .before .before .before .before .before .before .before .before .before .before .before .before .before .before .κs) (c .before .before .before .before .before .before .before .before .before .before .before .before .before .before .before .before .before .before .before .before .before .before .before .before .before .before .before .before .before .before .before .before .args)) (Function.resV r (c .before .before .before .before .before .before .before .before .before .before .before .before .before .before .before .before .before .before .before .before .before .before .before .before .before .before .before .before .before .before .before .before .κs) (m68 (c .before) (After-show·gave c) .0)) (Clauses.atExit (Kinds.endedOf 8 ps r) (c .before .before .before .before .before .before .before .before .before .before .before .before .before .before .before .before .before .before .before .before .before .before .before .before .before .before .before .before .before .before .before .before .κs) (dens (c .before .before .before .before .before .before .before .before .before .before .before .before .before .before .before .before .before .before .before .before .before .before .before .before .before .before .before .before .before .before .before .before .κs) (c .before .before .before .before .before .before .before .before .before .before .before .before .before .before .before .before .before .before .before .before .before .before .before .before .before .before .before .before .before .before .before .before .args)) (Enter.lastsP (c .before .before .before .before .before .before .before .before .before .before .before .before .before .before .before .before .before .before .before .before .before .before .before .before .before .before .before .before .before .before .before .before .κs) 1 ps xs (dens (c .before .before .before .before .before .before .before .before .before .before .before .before .before .before .before .before .before .before .before .before .before .before .before .before .before .before .before .before .before .before .before .before .κs) (c .before .before .before .before .before .before .before .before .before .before .before .before .before .before .before .before .before .before .before .before .before .before .before .before .before .before .before .before .before .before .before .before .args)) (m68 (c .before) (After-show·gave c) .1)))
 
       module _ (hold-rows-requires : Need-hold-rows-requires) (trim-requires : Need-trim-requires) (print-answer-requires : Need-print-answer-requires) (same-length : Need-same-length) (same-length-2 : Need-same-length-2) (same-length-3 : Need-same-length-3) (same-length-4 : Need-same-length-4) (same-length-5 : Need-same-length-5) (returns : Need-returns) (show-requires : Need-show-requires) (same-length-6 : Need-same-length-6) (same-length-7 : Need-same-length-7) (same-length-8 : Need-same-length-8) (same-length-9 : Need-same-length-9) (same-length-10 : Need-same-length-10) (returns-2 : Need-returns-2) where
-        lay5 : (c : After-show) → at34 (W0 (c .before .before .before .before .before .before .before .before .before .before .before .before .before .before .before .before .before .before .before .before .before .before .before .before .before .before .before .before .before .before .before .before .κs) (c .before .before .before .before .before .before .before .before .before .before .before .before .before .before .before .before .before .before .before .before .before .before .before .before .before .before .before .before .before .before .before .before .args)) (m52 (c .before) (After-show·gave c))
-        lay5 = λ c. ((tt, (Path'.refl, (Path'.refl, (Path'.refl, (MutSlice.fix-len (Row.get 5 (T102 .locals) (m67 (c .before) (After-show·gave c)) .ptr) (Row.get 5 (T102 .locals) (m67 (c .before) (After-show·gave c)) .name) (Row.get 5 (T102 .locals) (m67 (c .before) (After-show·gave c)) .now) (dens (c .before .before .before .before .before .before .before .before .before .before .before .before .before .before .before .before .before .before .before .before .before .before .before .before .before .before .before .before .before .before .before .before .κs) (c .before .before .before .before .before .before .before .before .before .before .before .before .before .before .before .before .before .before .before .before .before .before .before .before .before .before .before .before .before .before .before .before .args) .1 .1 .1 .1 .0 .now) (same-length-6 record { before = c .before; show = c .show }), (MutSlice.fix-len (Row.get 6 (T102 .locals) (m67 (c .before) (After-show·gave c)) .ptr) (Row.get 6 (T102 .locals) (m67 (c .before) (After-show·gave c)) .name) (Row.get 6 (T102 .locals) (m67 (c .before) (After-show·gave c)) .now) (dens (c .before .before .before .before .before .before .before .before .before .before .before .before .before .before .before .before .before .before .before .before .before .before .before .before .before .before .before .before .before .before .before .before .κs) (c .before .before .before .before .before .before .before .before .before .before .before .before .before .before .before .before .before .before .before .before .before .before .before .before .before .before .before .before .before .before .before .before .args) .1 .1 .1 .1 .1 .0 .now) (same-length-7 record { before = c .before; show = c .show }), (MutSlice.fix-len (Row.get 7 (T102 .locals) (m67 (c .before) (After-show·gave c)) .ptr) (Row.get 7 (T102 .locals) (m67 (c .before) (After-show·gave c)) .name) (Row.get 7 (T102 .locals) (m67 (c .before) (After-show·gave c)) .now) (dens (c .before .before .before .before .before .before .before .before .before .before .before .before .before .before .before .before .before .before .before .before .before .before .before .before .before .before .before .before .before .before .before .before .κs) (c .before .before .before .before .before .before .before .before .before .before .before .before .before .before .before .before .before .before .before .before .before .before .before .before .before .before .before .before .before .before .before .before .args) .1 .1 .1 .1 .1 .1 .0 .now) (same-length-8 record { before = c .before; show = c .show }), (MutSlice.fix-len (Row.get 8 (T102 .locals) (m67 (c .before) (After-show·gave c)) .ptr) (Row.get 8 (T102 .locals) (m67 (c .before) (After-show·gave c)) .name) (Row.get 8 (T102 .locals) (m67 (c .before) (After-show·gave c)) .now) (dens (c .before .before .before .before .before .before .before .before .before .before .before .before .before .before .before .before .before .before .before .before .before .before .before .before .before .before .before .before .before .before .before .before .κs) (c .before .before .before .before .before .before .before .before .before .before .before .before .before .before .before .before .before .before .before .before .before .before .before .before .before .before .before .before .before .before .before .before .args) .1 .1 .1 .1 .1 .1 .1 .0 .now) (same-length-9 record { before = c .before; show = c .show }), (MutSlice.fix-len (Row.get 9 (T102 .locals) (m67 (c .before) (After-show·gave c)) .ptr) (Row.get 9 (T102 .locals) (m67 (c .before) (After-show·gave c)) .name) (Row.get 9 (T102 .locals) (m67 (c .before) (After-show·gave c)) .now) (dens (c .before .before .before .before .before .before .before .before .before .before .before .before .before .before .before .before .before .before .before .before .before .before .before .before .before .before .before .before .before .before .before .before .κs) (c .before .before .before .before .before .before .before .before .before .before .before .before .before .before .before .before .before .before .before .before .before .before .before .before .before .before .before .before .before .before .before .before .args) .1 .1 .1 .1 .1 .1 .1 .1 .0 .now) (same-length-10 record { before = c .before; show = c .show }), (tt, (tt, tt))))))))))), returns-2 record { before = c .before; show = c .show })
+        lay5 : (c : After-show) → at36 (W0 (c .before .before .before .before .before .before .before .before .before .before .before .before .before .before .before .before .before .before .before .before .before .before .before .before .before .before .before .before .before .before .before .before .κs) (c .before .before .before .before .before .before .before .before .before .before .before .before .before .before .before .before .before .before .before .before .before .before .before .before .before .before .before .before .before .before .before .before .args)) (m52 (c .before) (After-show·gave c))
+        lay5 = λ c. ((tt, (Path'.refl, (Path'.refl, (Path'.refl, (MutSlice.fix-len (Row.get 5 (T103 .locals) (m68 (c .before) (After-show·gave c)) .ptr) (Row.get 5 (T103 .locals) (m68 (c .before) (After-show·gave c)) .name) (Row.get 5 (T103 .locals) (m68 (c .before) (After-show·gave c)) .now) (dens (c .before .before .before .before .before .before .before .before .before .before .before .before .before .before .before .before .before .before .before .before .before .before .before .before .before .before .before .before .before .before .before .before .κs) (c .before .before .before .before .before .before .before .before .before .before .before .before .before .before .before .before .before .before .before .before .before .before .before .before .before .before .before .before .before .before .before .before .args) .1 .1 .1 .1 .0 .now) (same-length-6 record { before = c .before; show = c .show }), (MutSlice.fix-len (Row.get 6 (T103 .locals) (m68 (c .before) (After-show·gave c)) .ptr) (Row.get 6 (T103 .locals) (m68 (c .before) (After-show·gave c)) .name) (Row.get 6 (T103 .locals) (m68 (c .before) (After-show·gave c)) .now) (dens (c .before .before .before .before .before .before .before .before .before .before .before .before .before .before .before .before .before .before .before .before .before .before .before .before .before .before .before .before .before .before .before .before .κs) (c .before .before .before .before .before .before .before .before .before .before .before .before .before .before .before .before .before .before .before .before .before .before .before .before .before .before .before .before .before .before .before .before .args) .1 .1 .1 .1 .1 .0 .now) (same-length-7 record { before = c .before; show = c .show }), (MutSlice.fix-len (Row.get 7 (T103 .locals) (m68 (c .before) (After-show·gave c)) .ptr) (Row.get 7 (T103 .locals) (m68 (c .before) (After-show·gave c)) .name) (Row.get 7 (T103 .locals) (m68 (c .before) (After-show·gave c)) .now) (dens (c .before .before .before .before .before .before .before .before .before .before .before .before .before .before .before .before .before .before .before .before .before .before .before .before .before .before .before .before .before .before .before .before .κs) (c .before .before .before .before .before .before .before .before .before .before .before .before .before .before .before .before .before .before .before .before .before .before .before .before .before .before .before .before .before .before .before .before .args) .1 .1 .1 .1 .1 .1 .0 .now) (same-length-8 record { before = c .before; show = c .show }), (MutSlice.fix-len (Row.get 8 (T103 .locals) (m68 (c .before) (After-show·gave c)) .ptr) (Row.get 8 (T103 .locals) (m68 (c .before) (After-show·gave c)) .name) (Row.get 8 (T103 .locals) (m68 (c .before) (After-show·gave c)) .now) (dens (c .before .before .before .before .before .before .before .before .before .before .before .before .before .before .before .before .before .before .before .before .before .before .before .before .before .before .before .before .before .before .before .before .κs) (c .before .before .before .before .before .before .before .before .before .before .before .before .before .before .before .before .before .before .before .before .before .before .before .before .before .before .before .before .before .before .before .before .args) .1 .1 .1 .1 .1 .1 .1 .0 .now) (same-length-9 record { before = c .before; show = c .show }), (MutSlice.fix-len (Row.get 9 (T103 .locals) (m68 (c .before) (After-show·gave c)) .ptr) (Row.get 9 (T103 .locals) (m68 (c .before) (After-show·gave c)) .name) (Row.get 9 (T103 .locals) (m68 (c .before) (After-show·gave c)) .now) (dens (c .before .before .before .before .before .before .before .before .before .before .before .before .before .before .before .before .before .before .before .before .before .before .before .before .before .before .before .before .before .before .before .before .κs) (c .before .before .before .before .before .before .before .before .before .before .before .before .before .before .before .before .before .before .before .before .before .before .before .before .before .before .before .before .before .before .before .before .args) .1 .1 .1 .1 .1 .1 .1 .1 .0 .now) (same-length-10 record { before = c .before; show = c .show }), (tt, (tt, tt))))))))))), returns-2 record { before = c .before; show = c .show })
 
-        lay4 : (c : Else1) → at50 (W0 (c .before .before .before .before .before .before .before .before .before .before .before .before .before .before .before .before .before .before .before .before .before .before .before .before .before .before .κs) (c .before .before .before .before .before .before .before .before .before .before .before .before .before .before .before .before .before .before .before .before .before .before .before .before .before .before .args)) (m41 (c .before))
-        lay4 = λ c. λ g. (Path'.refl, λ g'. (Path'.refl, λ g''. (Path'.refl, λ g'3. (Path'.refl, λ g'4. (Path'.refl, (show-requires record { before = record { before = record { before = record { before = record { before = record { before = c .before; if1 = c .if1 }; show-arg = record { given = g } }; show-arg2 = record { given = g' } }; show-arg3 = record { given = g'' } }; show-arg4 = record { given = g'3 } }; show-arg5 = record { given = g'4 } }, λ g'5. lay5 record { before = record { before = record { before = record { before = record { before = record { before = record { before = c .before; if1 = c .if1 }; show-arg = record { given = g } }; show-arg2 = record { given = g' } }; show-arg3 = record { given = g'' } }; show-arg4 = record { given = g'3 } }; show-arg5 = record { given = g'4 } }; show = Called.called ps·3 r·3 (claims· .7) T76 (record { pos = 12; st = List.[]; d = 0; at = λ x. x }, (record { pos = 28; ty = Syntax.tyRef Syntax.erased Syntax.imm (Memory.pointee (T.the-row .written)); ref = λ x. x }, (record { pos = 30; ty = Syntax.tyRef Syntax.erased Syntax.imm (Syntax.tyInt Syntax.w16); ref = λ x. x }, (record { pos = 32; ty = Syntax.tyRef Syntax.erased Syntax.imm (Syntax.tyInt Syntax.w16); ref = λ x. x }, (record { pos = 34; ty = Syntax.tyRef Syntax.erased Syntax.imm (Syntax.tyInt Syntax.w16); ref = λ x. x }, (record { pos = 36; ty = Syntax.tyRef Syntax.erased Syntax.imm (Syntax.tyInt Syntax.w16); ref = λ x. x }, tt)))))) (m51 record { before = record { before = record { before = record { before = record { before = c .before; if1 = c .if1 }; show-arg = record { given = g } }; show-arg2 = record { given = g' } }; show-arg3 = record { given = g'' } }; show-arg4 = record { given = g'3 } } g'4) g'5 }))))))
+        lay4 : (c : Else1) → at52 (W0 (c .before .before .before .before .before .before .before .before .before .before .before .before .before .before .before .before .before .before .before .before .before .before .before .before .before .before .κs) (c .before .before .before .before .before .before .before .before .before .before .before .before .before .before .before .before .before .before .before .before .before .before .before .before .before .before .args)) (m41 (c .before))
+        lay4 = λ c. λ g. (Path'.refl, λ g'. (Path'.refl, λ g''. (Path'.refl, λ g'3. (Path'.refl, λ g'4. (Path'.refl, (show-requires record { before = record { before = record { before = record { before = record { before = record { before = c .before; if1 = c .if1 }; show-arg = record { given = g } }; show-arg2 = record { given = g' } }; show-arg3 = record { given = g'' } }; show-arg4 = record { given = g'3 } }; show-arg5 = record { given = g'4 } }, λ g'5. lay5 record { before = record { before = record { before = record { before = record { before = record { before = record { before = c .before; if1 = c .if1 }; show-arg = record { given = g } }; show-arg2 = record { given = g' } }; show-arg3 = record { given = g'' } }; show-arg4 = record { given = g'3 } }; show-arg5 = record { given = g'4 } }; show = Called.called ps·3 r·3 (claims· .7) T76 (record { pos = 12; st = List.[]; d = 0; at = λ x. x }, (Num.vFld 1 (List._∷_ (Syntax.field 0) List.[]) 0 λ x. Size.struct .as-values x .0, (record { pos = 28; ty = Syntax.tyRef Syntax.erased Syntax.imm (Memory.pointee (T.the-row .written)); ref = λ x. x }, (record { pos = 30; ty = Syntax.tyRef Syntax.erased Syntax.imm (Syntax.tyInt Syntax.w16); ref = λ x. x }, (record { pos = 32; ty = Syntax.tyRef Syntax.erased Syntax.imm (Syntax.tyInt Syntax.w16); ref = λ x. x }, (record { pos = 34; ty = Syntax.tyRef Syntax.erased Syntax.imm (Syntax.tyInt Syntax.w16); ref = λ x. x }, (record { pos = 36; ty = Syntax.tyRef Syntax.erased Syntax.imm (Syntax.tyInt Syntax.w16); ref = λ x. x }, tt))))))) (m51 record { before = record { before = record { before = record { before = record { before = c .before; if1 = c .if1 }; show-arg = record { given = g } }; show-arg2 = record { given = g' } }; show-arg3 = record { given = g'' } }; show-arg4 = record { given = g'3 } } g'4) g'5 }))))))
 
-        lay3 : (c : After-print-answer) → at53 (W0 (c .before .before .before .before .before .before .before .before .before .before .before .before .before .before .before .before .before .before .before .before .before .before .before .before .before .κs) (c .before .before .before .before .before .before .before .before .before .before .before .before .before .before .before .before .before .before .before .before .before .before .before .before .before .args)) (m33 (c .before) (After-print-answer·gave c))
+        lay3 : (c : After-print-answer) → at55 (W0 (c .before .before .before .before .before .before .before .before .before .before .before .before .before .before .before .before .before .before .before .before .before .before .before .before .before .κs) (c .before .before .before .before .before .before .before .before .before .before .before .before .before .before .before .before .before .before .before .before .before .before .before .before .before .args)) (m32 (c .before) (After-print-answer·gave c))
         lay3 = λ c. (tt, (λ taken. ((tt, (Path'.refl, (Path'.refl, (Path'.refl, (MutSlice.fix-len (Row.get 5 (T60 .locals) (m40 record { before = c .before; print-answer = c .print-answer }) .ptr) (Row.get 5 (T60 .locals) (m40 record { before = c .before; print-answer = c .print-answer }) .name) (Row.get 5 (T60 .locals) (m40 record { before = c .before; print-answer = c .print-answer }) .now) (dens (c .before .before .before .before .before .before .before .before .before .before .before .before .before .before .before .before .before .before .before .before .before .before .before .before .before .κs) (c .before .before .before .before .before .before .before .before .before .before .before .before .before .before .before .before .before .before .before .before .before .before .before .before .before .args) .1 .1 .1 .1 .0 .now) (same-length record { before = record { before = c .before; print-answer = c .print-answer }; if1 = record { taken = taken } }), (MutSlice.fix-len (Row.get 6 (T60 .locals) (m40 record { before = c .before; print-answer = c .print-answer }) .ptr) (Row.get 6 (T60 .locals) (m40 record { before = c .before; print-answer = c .print-answer }) .name) (Row.get 6 (T60 .locals) (m40 record { before = c .before; print-answer = c .print-answer }) .now) (dens (c .before .before .before .before .before .before .before .before .before .before .before .before .before .before .before .before .before .before .before .before .before .before .before .before .before .κs) (c .before .before .before .before .before .before .before .before .before .before .before .before .before .before .before .before .before .before .before .before .before .before .before .before .before .args) .1 .1 .1 .1 .1 .0 .now) (same-length-2 record { before = record { before = c .before; print-answer = c .print-answer }; if1 = record { taken = taken } }), (MutSlice.fix-len (Row.get 7 (T60 .locals) (m40 record { before = c .before; print-answer = c .print-answer }) .ptr) (Row.get 7 (T60 .locals) (m40 record { before = c .before; print-answer = c .print-answer }) .name) (Row.get 7 (T60 .locals) (m40 record { before = c .before; print-answer = c .print-answer }) .now) (dens (c .before .before .before .before .before .before .before .before .before .before .before .before .before .before .before .before .before .before .before .before .before .before .before .before .before .κs) (c .before .before .before .before .before .before .before .before .before .before .before .before .before .before .before .before .before .before .before .before .before .before .before .before .before .args) .1 .1 .1 .1 .1 .1 .0 .now) (same-length-3 record { before = record { before = c .before; print-answer = c .print-answer }; if1 = record { taken = taken } }), (MutSlice.fix-len (Row.get 8 (T60 .locals) (m40 record { before = c .before; print-answer = c .print-answer }) .ptr) (Row.get 8 (T60 .locals) (m40 record { before = c .before; print-answer = c .print-answer }) .name) (Row.get 8 (T60 .locals) (m40 record { before = c .before; print-answer = c .print-answer }) .now) (dens (c .before .before .before .before .before .before .before .before .before .before .before .before .before .before .before .before .before .before .before .before .before .before .before .before .before .κs) (c .before .before .before .before .before .before .before .before .before .before .before .before .before .before .before .before .before .before .before .before .before .before .before .before .before .args) .1 .1 .1 .1 .1 .1 .1 .0 .now) (same-length-4 record { before = record { before = c .before; print-answer = c .print-answer }; if1 = record { taken = taken } }), (MutSlice.fix-len (Row.get 9 (T60 .locals) (m40 record { before = c .before; print-answer = c .print-answer }) .ptr) (Row.get 9 (T60 .locals) (m40 record { before = c .before; print-answer = c .print-answer }) .name) (Row.get 9 (T60 .locals) (m40 record { before = c .before; print-answer = c .print-answer }) .now) (dens (c .before .before .before .before .before .before .before .before .before .before .before .before .before .before .before .before .before .before .before .before .before .before .before .before .before .κs) (c .before .before .before .before .before .before .before .before .before .before .before .before .before .before .before .before .before .before .before .before .before .before .before .before .before .args) .1 .1 .1 .1 .1 .1 .1 .1 .0 .now) (same-length-5 record { before = record { before = c .before; print-answer = c .print-answer }; if1 = record { taken = taken } }), (tt, (tt, tt))))))))))), returns record { before = record { before = c .before; print-answer = c .print-answer }; if1 = record { taken = taken } }), λ left. lay4 record { before = record { before = c .before; print-answer = c .print-answer }; if1 = record { left = left } }))
 
-        lay2 : (c : After-trim) → at74 (W0 (c .before .before .before .before .before .before .before .before .before .before .before .before .before .before .before .κs) (c .before .before .before .before .before .before .before .before .before .before .before .before .before .before .before .args)) (m22 (c .before) (After-trim·gave c))
-        lay2 = λ c. (Path'.refl, λ g. (Path'.refl, λ g'. λ g''. (Path'.refl, λ g'3. λ g'4. (Path'.refl, λ g'5. λ g'6. (Path'.refl, λ g'7. λ g'8. (print-answer-requires record { before = record { before = record { before = record { before = record { before = record { before = record { before = record { before = record { before = record { before = c .before; trim = c .trim }; rows22 = record { given = g } }; firsts2 = record { given = g' } }; slice-known5 = record { given = g'' } }; outcomes2 = record { given = g'3 } }; slice-known6 = record { given = g'4 } }; olds = record { given = g'5 } }; slice-known7 = record { given = g'6 } }; scratch = record { given = g'7 } }; slice-known8 = record { given = g'8 } }, λ g'9. lay3 record { before = record { before = record { before = record { before = record { before = record { before = record { before = record { before = record { before = record { before = record { before = c .before; trim = c .trim }; rows22 = record { given = g } }; firsts2 = record { given = g' } }; slice-known5 = record { given = g'' } }; outcomes2 = record { given = g'3 } }; slice-known6 = record { given = g'4 } }; olds = record { given = g'5 } }; slice-known7 = record { given = g'6 } }; scratch = record { given = g'7 } }; slice-known8 = record { given = g'8 } }; print-answer = Called.called ps·2 r·2 (claims· .5) T50 (record { pos = 12; st = List.[]; d = 0; at = λ x. x }, tt) (m32 record { before = record { before = record { before = record { before = record { before = record { before = record { before = record { before = record { before = c .before; trim = c .trim }; rows22 = record { given = g } }; firsts2 = record { given = g' } }; slice-known5 = record { given = g'' } }; outcomes2 = record { given = g'3 } }; slice-known6 = record { given = g'4 } }; olds = record { given = g'5 } }; slice-known7 = record { given = g'6 } }; scratch = record { given = g'7 } } g'8) g'9 }))))))
+        lay2 : (c : After-trim) → at75 (W0 (c .before .before .before .before .before .before .before .before .before .before .before .before .before .before .before .κs) (c .before .before .before .before .before .before .before .before .before .before .before .before .before .before .before .args)) (m22 (c .before) (After-trim·gave c))
+        lay2 = λ c. (Path'.refl, λ g. (Path'.refl, λ g'. λ g''. (Path'.refl, λ g'3. λ g'4. (Path'.refl, λ g'5. λ g'6. (Path'.refl, λ g'7. λ g'8. (print-answer-requires record { before = record { before = record { before = record { before = record { before = record { before = record { before = record { before = record { before = record { before = c .before; trim = c .trim }; rows22 = record { given = g } }; firsts2 = record { given = g' } }; slice-known5 = record { given = g'' } }; outcomes2 = record { given = g'3 } }; slice-known6 = record { given = g'4 } }; olds = record { given = g'5 } }; slice-known7 = record { given = g'6 } }; scratch = record { given = g'7 } }; slice-known8 = record { given = g'8 } }, λ g'9. lay3 record { before = record { before = record { before = record { before = record { before = record { before = record { before = record { before = record { before = record { before = record { before = c .before; trim = c .trim }; rows22 = record { given = g } }; firsts2 = record { given = g' } }; slice-known5 = record { given = g'' } }; outcomes2 = record { given = g'3 } }; slice-known6 = record { given = g'4 } }; olds = record { given = g'5 } }; slice-known7 = record { given = g'6 } }; scratch = record { given = g'7 } }; slice-known8 = record { given = g'8 } }; print-answer = Called.called ps·2 r·2 (claims· .5) T49 (record { pos = 12; st = List.[]; d = 0; at = λ x. x }, tt) (m31 record { before = record { before = record { before = record { before = record { before = record { before = record { before = record { before = record { before = c .before; trim = c .trim }; rows22 = record { given = g } }; firsts2 = record { given = g' } }; slice-known5 = record { given = g'' } }; outcomes2 = record { given = g'3 } }; slice-known6 = record { given = g'4 } }; olds = record { given = g'5 } }; slice-known7 = record { given = g'6 } }; scratch = record { given = g'7 } } g'8) g'9 }))))))
 
-        lay1 : (c : After-hold-rows) → at94 (W0 (c .before .before .before .before .before .before .before .before .κs) (c .before .before .before .before .before .before .before .before .args)) (m9 (c .before) (After-hold-rows·gave c))
+        lay1 : (c : After-hold-rows) → at95 (W0 (c .before .before .before .before .before .before .before .before .κs) (c .before .before .before .before .before .before .before .before .args)) (m9 (c .before) (After-hold-rows·gave c))
         lay1 = λ c. (Path'.refl, λ g. λ g'. (Path'.refl, λ g''. (Path'.refl, λ g'3. (Path'.refl, λ g'4. (Path'.refl, λ g'5. (Path'.refl, (trim-requires record { before = record { before = record { before = record { before = record { before = record { before = record { before = c .before; hold-rows = c .hold-rows }; rows2 = record { given = g } }; trim-arg = record { given = g' } }; trim-arg2 = record { given = g'' } }; trim-arg3 = record { given = g'3 } }; trim-arg4 = record { given = g'4 } }; trim-arg5 = record { given = g'5 } }, λ g'6. lay2 record { before = record { before = record { before = record { before = record { before = record { before = record { before = record { before = c .before; hold-rows = c .hold-rows }; rows2 = record { given = g } }; trim-arg = record { given = g' } }; trim-arg2 = record { given = g'' } }; trim-arg3 = record { given = g'3 } }; trim-arg4 = record { given = g'4 } }; trim-arg5 = record { given = g'5 } }; trim = Called.called ps·1 r·1 (claims· .3) T30 (record { pos = 1; st = List.[]; d = 0; at = λ x. x }, (record { pos = 2; ty = Syntax.tyRef (Syntax.named 0) Syntax.imm (Memory.pointee (T.the-row .written)); ref = λ x. x }, (record { pos = 3; ty = Syntax.tyRef (Syntax.named 1) Syntax.imm (Syntax.tyInt Syntax.w16); ref = λ x. x }, (record { pos = 4; ty = Syntax.tyRef (Syntax.named 2) Syntax.imm (Syntax.tyInt Syntax.w16); ref = λ x. x }, (record { pos = 17; ty = Syntax.tyRef Syntax.erased Syntax.mut (Memory.pointee (T.the-row .written)); ref = λ x. x }, (record { pos = 19; ty = Syntax.tyRef Syntax.erased Syntax.mut (Syntax.tyInt Syntax.w16); ref = λ x. x }, (record { pos = 21; ty = Syntax.tyRef Syntax.erased Syntax.mut (Syntax.tyInt Syntax.w16); ref = λ x. x }, (record { pos = 23; ty = Syntax.tyRef Syntax.erased Syntax.mut (Syntax.tyInt Syntax.w16); ref = λ x. x }, (record { pos = 25; ty = Syntax.tyRef Syntax.erased Syntax.mut (Syntax.tyInt Syntax.w16); ref = λ x. x }, tt))))))))) (m21 record { before = record { before = record { before = record { before = record { before = record { before = c .before; hold-rows = c .hold-rows }; rows2 = record { given = g } }; trim-arg = record { given = g' } }; trim-arg2 = record { given = g'' } }; trim-arg3 = record { given = g'3 } }; trim-arg4 = record { given = g'4 } } g'5) g'6 })))))))
 
-        pub laid : (c : Start) → at104 (W0 (c .κs) (c .args)) (m0 (c .κs) (c .args))
+        pub laid : (c : Start) → at105 (W0 (c .κs) (c .args)) (m0 (c .κs) (c .args))
         laid = λ c. λ g. λ g'. λ g''. λ g'3. λ g'4. λ g'5. λ g'6. (Path'.refl, (hold-rows-requires record { before = record { before = record { before = record { before = record { before = record { before = record { before = c; shared-slice-known = record { given = g } }; shared-slice-known2 = record { given = g' } }; slice-known = record { given = g'' } }; slice-known2 = record { given = g'3 } }; slice-known3 = record { given = g'4 } }; slice-known4 = record { given = g'5 } }; hold-rows-arg = record { given = g'6 } }, λ g'7. lay1 record { before = record { before = record { before = record { before = record { before = record { before = record { before = record { before = c; shared-slice-known = record { given = g } }; shared-slice-known2 = record { given = g' } }; slice-known = record { given = g'' } }; slice-known2 = record { given = g'3 } }; slice-known3 = record { given = g'4 } }; slice-known4 = record { given = g'5 } }; hold-rows-arg = record { given = g'6 } }; hold-rows = Called.called ps·0 r·0 (claims· .1) T10 (record { pos = 15; ty = Syntax.tyRef Syntax.erased Syntax.mut (Memory.pointee (T.the-row .written)); ref = λ x. x }, (Num.vAt 10 λ x. x, tt)) (m8 record { before = record { before = record { before = record { before = record { before = record { before = c; shared-slice-known = record { given = g } }; shared-slice-known2 = record { given = g' } }; slice-known = record { given = g'' } }; slice-known2 = record { given = g'3 } }; slice-known3 = record { given = g'4 } }; slice-known4 = record { given = g'5 } } g'6) g'7 }))
 
         module _ (κs : Lifetimes.Lfts 8) (qs : Lifetimes.Shares 8) where

@@ -166,10 +166,10 @@ ps·3 = List._∷_ (Num.pNum Syntax.w64) (List._∷_ (Num.pNum Syntax.w64) (List
 abbrev pub r·3 : Kinds.RK 0
 r·3 = Value.rVal record { ty = Declared'.row Size.the-type; one = Path'.refl; val = Laws'4.val Size.the-type Laws''.the-laws; tells = Laws'4.tells Size.the-type Laws''.the-laws; still = Laws'4.still Size.the-type Laws''.the-copy Exit.yes; row = Rows'.whole (Declared'.row Size.the-type); rd = λ x. x; mk = λ x. x } λ M 𝓤 H A W. record { copies = Laws'4.copy Size.the-type Laws''.the-copy 𝓤 H A W; lawful = Laws'4.lawful Size.the-type Laws''.the-laws 𝓤 H A W; makes = Laws'4.makes Size.the-type Laws''.the-plain 𝓤 H A; in-mem = Local.mem-whole 𝓤 H A W (Declared'.row Size.the-type); of-mem = Local.whole-mem 𝓤 H A W (Declared'.row Size.the-type) }
 
-abbrev pub ps·4 : List.List (Kinds.PK 3)
-ps·4 = List._∷_ (Value.pVal record { ty = Declared'.row Size.the-type; one = Path'.refl; val = Laws'4.val Size.the-type Laws''.the-laws; tells = Laws'4.tells Size.the-type Laws''.the-laws; still = Laws'4.still Size.the-type Laws''.the-copy Exit.yes; row = Rows'.whole (Declared'.row Size.the-type); rd = λ x. x; mk = λ x. x } λ M 𝓤 H A W. record { copies = Laws'4.copy Size.the-type Laws''.the-copy 𝓤 H A W; lawful = Laws'4.lawful Size.the-type Laws''.the-laws 𝓤 H A W; makes = Laws'4.makes Size.the-type Laws''.the-plain 𝓤 H A; in-mem = Local.mem-whole 𝓤 H A W (Declared'.row Size.the-type); of-mem = Local.whole-mem 𝓤 H A W (Declared'.row Size.the-type) }) (List._∷_ (ShrSlice.pShrS T.the-row 0 tt) (List._∷_ (ShrSlice.pShrS (Referent.rtF (Referent.fInt Syntax.w16)) 1 tt) (List._∷_ (ShrSlice.pShrS (Referent.rtF (Referent.fInt Syntax.w16)) 2 tt) (List._∷_ (Num.pNum Syntax.w64) List.[]))))
+abbrev pub ps·4 : List.List (Kinds.PK 4)
+ps·4 = List._∷_ (ShrSlice.pShrS (Referent.rtF (Referent.fInt Syntax.w8)) 0 tt) (List._∷_ (Value.pVal record { ty = Declared'.row Size.the-type; one = Path'.refl; val = Laws'4.val Size.the-type Laws''.the-laws; tells = Laws'4.tells Size.the-type Laws''.the-laws; still = Laws'4.still Size.the-type Laws''.the-copy Exit.yes; row = Rows'.whole (Declared'.row Size.the-type); rd = λ x. x; mk = λ x. x } λ M 𝓤 H A W. record { copies = Laws'4.copy Size.the-type Laws''.the-copy 𝓤 H A W; lawful = Laws'4.lawful Size.the-type Laws''.the-laws 𝓤 H A W; makes = Laws'4.makes Size.the-type Laws''.the-plain 𝓤 H A; in-mem = Local.mem-whole 𝓤 H A W (Declared'.row Size.the-type); of-mem = Local.whole-mem 𝓤 H A W (Declared'.row Size.the-type) }) (List._∷_ (ShrSlice.pShrS T.the-row 1 tt) (List._∷_ (ShrSlice.pShrS (Referent.rtF (Referent.fInt Syntax.w16)) 2 tt) (List._∷_ (ShrSlice.pShrS (Referent.rtF (Referent.fInt Syntax.w16)) 3 tt) (List._∷_ (Num.pNum Syntax.w64) List.[])))))
 
-abbrev pub r·4 : Kinds.RK 3
+abbrev pub r·4 : Kinds.RK 4
 r·4 = Unit'.rUnit
 
 abbrev pub ps·5 : List.List (Kinds.PK 1)
@@ -263,7 +263,7 @@ abbrev b18 : Syntax.Body
 b18 = Syntax.assign (Syntax.place 27 List.[]) (Syntax.aggregate (List._∷_ (Syntax.copy (Syntax.place 26 List.[])) (List._∷_ (Syntax.copy (Syntax.place 4 (List._∷_ (Syntax.field 1) List.[]))) List.[])))
 
 abbrev b19 : Syntax.Body
-b19 = Syntax.call "bench_plans::questions::ask_all" (List._∷_ (Syntax.copy (Syntax.place 21 List.[])) (List._∷_ (Syntax.copy (Syntax.place 23 List.[])) (List._∷_ (Syntax.copy (Syntax.place 25 List.[])) (List._∷_ (Syntax.copy (Syntax.place 27 List.[])) (List._∷_ (Syntax.copy (Syntax.place 5 List.[])) List.[]))))) (Syntax.place 19 List.[])
+b19 = Syntax.call "bench_plans::questions::ask_all" (List._∷_ (Syntax.copy (Syntax.place 1 List.[])) (List._∷_ (Syntax.copy (Syntax.place 21 List.[])) (List._∷_ (Syntax.copy (Syntax.place 23 List.[])) (List._∷_ (Syntax.copy (Syntax.place 25 List.[])) (List._∷_ (Syntax.copy (Syntax.place 27 List.[])) (List._∷_ (Syntax.copy (Syntax.place 5 List.[])) List.[])))))) (Syntax.place 19 List.[])
 
 abbrev b20 : Syntax.Body
 b20 = Syntax.seq b18 b19
@@ -377,7 +377,7 @@ abbrev b56 : Syntax.Body
 b56 = Syntax.assign (Syntax.place 49 List.[]) (Syntax.aggregate (List._∷_ (Syntax.copy (Syntax.place 48 List.[])) (List._∷_ (Syntax.copy (Syntax.place 4 (List._∷_ (Syntax.field 1) List.[]))) List.[])))
 
 abbrev b57 : Syntax.Body
-b57 = Syntax.call "bench_plans::questions::ask_all" (List._∷_ (Syntax.copy (Syntax.place 9 List.[])) (List._∷_ (Syntax.copy (Syntax.place 45 List.[])) (List._∷_ (Syntax.copy (Syntax.place 47 List.[])) (List._∷_ (Syntax.copy (Syntax.place 49 List.[])) (List._∷_ (Syntax.copy (Syntax.place 5 List.[])) List.[]))))) (Syntax.place 31 List.[])
+b57 = Syntax.call "bench_plans::questions::ask_all" (List._∷_ (Syntax.copy (Syntax.place 1 List.[])) (List._∷_ (Syntax.copy (Syntax.place 9 List.[])) (List._∷_ (Syntax.copy (Syntax.place 45 List.[])) (List._∷_ (Syntax.copy (Syntax.place 47 List.[])) (List._∷_ (Syntax.copy (Syntax.place 49 List.[])) (List._∷_ (Syntax.copy (Syntax.place 5 List.[])) List.[])))))) (Syntax.place 31 List.[])
 
 abbrev b58 : Syntax.Body
 b58 = Syntax.seq b56 b57
@@ -500,7 +500,7 @@ abbrev pub body : Syntax.Body
 body = b96
 
 abbrev pub Claims : Type 1
-Claims = Kinds.In 4 ps·0 × Kinds.Out 4 ps·0 r·0 × Kinds.In 0 ps·1 × Kinds.Out 0 ps·1 r·1 × Kinds.In 0 ps·2 × Kinds.Out 0 ps·2 r·2 × Kinds.In 0 ps·3 × Kinds.Out 0 ps·3 r·3 × Kinds.In 3 ps·4 × Kinds.Out 3 ps·4 r·4 × Kinds.In 1 ps·5 × Kinds.Out 1 ps·5 r·5 × Kinds.In 0 ps·6 × Kinds.Out 0 ps·6 r·6 × Kinds.In 4 ps·7 × Kinds.Out 4 ps·7 r·7 × Kinds.In 3 ps·8 × Kinds.Out 3 ps·8 r·8 × Kinds.In 0 ps·9 × Kinds.Out 0 ps·9 r·9
+Claims = Kinds.In 4 ps·0 × Kinds.Out 4 ps·0 r·0 × Kinds.In 0 ps·1 × Kinds.Out 0 ps·1 r·1 × Kinds.In 0 ps·2 × Kinds.Out 0 ps·2 r·2 × Kinds.In 0 ps·3 × Kinds.Out 0 ps·3 r·3 × Kinds.In 4 ps·4 × Kinds.Out 4 ps·4 r·4 × Kinds.In 1 ps·5 × Kinds.Out 1 ps·5 r·5 × Kinds.In 0 ps·6 × Kinds.Out 0 ps·6 r·6 × Kinds.In 4 ps·7 × Kinds.Out 4 ps·7 r·7 × Kinds.In 3 ps·8 × Kinds.Out 3 ps·8 r·8 × Kinds.In 0 ps·9 × Kinds.Out 0 ps·9 r·9
 
 abbrev pub t0 : List.List Row.Entry
 t0 = List._∷_ (0, Rows'.any-gone Syntax.tyUnit) (List._∷_ (1, Rows'.sslice (Referent.rtF (Referent.fInt Syntax.w8)) ty·4 0) (List._∷_ (2, Mut.mslice T.the-row ty·9 1) (List._∷_ (3, Mut.mslice (Referent.rtF (Referent.fInt Syntax.w16)) ty·5 2) (List._∷_ (4, Mut.mslice (Referent.rtF (Referent.fInt Syntax.w16)) ty·6 3) (List._∷_ (5, Rows'.sc-here (Row.sInt Syntax.w64)) (List._∷_ (6, Rows'.any-gone ty·18) (List._∷_ (7, Rows'.any-gone ty·17) (List._∷_ (8, Rows'.any-gone (Syntax.tyInt Syntax.w64)) (List._∷_ (9, Rows'.any-gone ty·16) (List._∷_ (10, Rows'.any-gone Syntax.tyBool) (List._∷_ (11, Rows'.any-gone Syntax.tyBool) (List._∷_ (12, Rows'.any-gone ty·0) (List._∷_ (13, Rows'.any-gone ty·7) (List._∷_ (14, Rows'.any-gone ty·14) (List._∷_ (15, Rows'.any-gone ty·2) List.[])))))))))))))))
@@ -1242,7 +1242,7 @@ module _ (claims· : Claims) where
   s46 = Relend.k-sl-aggregate (Referent.rtF (Referent.fInt Syntax.w16)) (Relend.asShr (Referent.rtF (Referent.fInt Syntax.w16))) T48 26 27 9 ty·3 ty·3 (λ x. x) (Scalar.oFld 4 (List._∷_ (Syntax.field 1) List.[]) (Syntax.tyInt Syntax.w64) 8 λ v. Shared.lenV (v .0))
 
   abbrev s47 : Typed.Both T49 T50
-  s47 = Call.callB ps·4 r·4 (claims· .8) (claims· .9) T49 (record { pos = 21; st = List.[]; d = 0; at = λ x. x }, (record { pos = 23; ty = Syntax.tyRef Syntax.erased Syntax.imm (Memory.pointee (T.the-row .written)); ref = λ x. x }, (record { pos = 25; ty = Syntax.tyRef Syntax.erased Syntax.imm (Syntax.tyInt Syntax.w16); ref = λ x. x }, (record { pos = 27; ty = Syntax.tyRef Syntax.erased Syntax.imm (Syntax.tyInt Syntax.w16); ref = λ x. x }, (Num.vAt 5 λ x. x, tt))))) 19 (List._∷_ 7 (List._∷_ 8 (List._∷_ 9 List.[]))) Syntax.tyUnit
+  s47 = Call.callB ps·4 r·4 (claims· .8) (claims· .9) T49 (record { pos = 1; ty = Syntax.tyRef (Syntax.named 0) Syntax.imm (Syntax.tyInt Syntax.w8); ref = λ x. x }, (record { pos = 21; st = List.[]; d = 0; at = λ x. x }, (record { pos = 23; ty = Syntax.tyRef Syntax.erased Syntax.imm (Memory.pointee (T.the-row .written)); ref = λ x. x }, (record { pos = 25; ty = Syntax.tyRef Syntax.erased Syntax.imm (Syntax.tyInt Syntax.w16); ref = λ x. x }, (record { pos = 27; ty = Syntax.tyRef Syntax.erased Syntax.imm (Syntax.tyInt Syntax.w16); ref = λ x. x }, (Num.vAt 5 λ x. x, tt)))))) 19 (List._∷_ 0 (List._∷_ 7 (List._∷_ 8 (List._∷_ 9 List.[])))) Syntax.tyUnit
 
   abbrev s48 : Typed.Mo T50 → Typed.Mo T51
   s48 = Scalar.n-room T50 23 ty·15
@@ -1410,7 +1410,7 @@ module _ (claims· : Claims) where
   s132 = Relend.k-sl-aggregate (Referent.rtF (Referent.fInt Syntax.w16)) (Relend.asShr (Referent.rtF (Referent.fInt Syntax.w16))) T134 48 49 19 ty·3 ty·3 (λ x. x) (Scalar.oFld 4 (List._∷_ (Syntax.field 1) List.[]) (Syntax.tyInt Syntax.w64) 8 λ v. Shared.lenV (v .0))
 
   abbrev s133 : Typed.Both T135 T136
-  s133 = Call.callB ps·4 r·4 (claims· .8) (claims· .9) T135 (record { pos = 9; st = List.[]; d = 0; at = λ x. x }, (record { pos = 45; ty = Syntax.tyRef Syntax.erased Syntax.imm (Memory.pointee (T.the-row .written)); ref = λ x. x }, (record { pos = 47; ty = Syntax.tyRef Syntax.erased Syntax.imm (Syntax.tyInt Syntax.w16); ref = λ x. x }, (record { pos = 49; ty = Syntax.tyRef Syntax.erased Syntax.imm (Syntax.tyInt Syntax.w16); ref = λ x. x }, (Num.vAt 5 λ x. x, tt))))) 31 (List._∷_ 17 (List._∷_ 18 (List._∷_ 19 List.[]))) Syntax.tyUnit
+  s133 = Call.callB ps·4 r·4 (claims· .8) (claims· .9) T135 (record { pos = 1; ty = Syntax.tyRef (Syntax.named 0) Syntax.imm (Syntax.tyInt Syntax.w8); ref = λ x. x }, (record { pos = 9; st = List.[]; d = 0; at = λ x. x }, (record { pos = 45; ty = Syntax.tyRef Syntax.erased Syntax.imm (Memory.pointee (T.the-row .written)); ref = λ x. x }, (record { pos = 47; ty = Syntax.tyRef Syntax.erased Syntax.imm (Syntax.tyInt Syntax.w16); ref = λ x. x }, (record { pos = 49; ty = Syntax.tyRef Syntax.erased Syntax.imm (Syntax.tyInt Syntax.w16); ref = λ x. x }, (Num.vAt 5 λ x. x, tt)))))) 31 (List._∷_ 0 (List._∷_ 17 (List._∷_ 18 (List._∷_ 19 List.[])))) Syntax.tyUnit
 
   abbrev s134 : Typed.Mo T136 → Typed.Mo T137
   s134 = Scalar.n-room T136 45 ty·15
@@ -1451,7 +1451,7 @@ module _ (claims· : Claims) where
   module _ (Pre· : (κs : Lifetimes.Lfts 4) → Kinds.Dens κs ps → Type 0) (Post· : (κs : Lifetimes.Lfts 4) → (a : Kinds.Dens κs ps) → Kinds.Plain 4 ps r κs) where
     module _ (M : Type 1) where
       abbrev pub Closed : Type 2
-      Closed = (𝓤 : URA.URA M) (H : Wp.Heap 𝓤) (A : Atoms.Atoms 𝓤) (W : Kit.Given 𝓤 H A) (𝓣 : Wp.Tables 𝓤 H) (known0 : Plain.Known 𝓤 H A W 𝓣 4 ps·0 r·0 (claims· .0) (claims· .1) "reading::read") (known1 : Plain.Known 𝓤 H A W 𝓣 0 ps·1 r·1 (claims· .2) (claims· .3) "tables::number") (known2 : Plain.Known 𝓤 H A W 𝓣 0 ps·2 r·2 (claims· .4) (claims· .5) "bench_plans::print::print_refusal") (known3 : Plain.Known 𝓤 H A W 𝓣 0 ps·3 r·3 (claims· .6) (claims· .7) "tables::Size::new") (known4 : Plain.Known 𝓤 H A W 𝓣 3 ps·4 r·4 (claims· .8) (claims· .9) "bench_plans::questions::ask_all") (known5 : Plain.Known 𝓤 H A W 𝓣 1 ps·5 r·5 (claims· .10) (claims· .11) "io::write_all") (known6 : Plain.Known 𝓤 H A W 𝓣 0 ps·6 r·6 (claims· .12) (claims· .13) "bench_plans::files::print_size") (known7 : Plain.Known 𝓤 H A W 𝓣 4 ps·7 r·7 (claims· .14) (claims· .15) "bench_plans::files::write_again") (known8 : Plain.Known 𝓤 H A W 𝓣 3 ps·8 r·8 (claims· .16) (claims· .17) "bench_plans::files::read_again") (known9 : Plain.Known 𝓤 H A W 𝓣 0 ps·9 r·9 (claims· .18) (claims· .19) "bench_plans::files::print_again") → Statement.Triple 𝓤 (Wp.WpFn 𝓤 H (𝓣 .C) (𝓣 .Λ) (Function.fnOf 4 ps r xs m hs body)) (Function.plainOf 𝓤 H A 4 ps r Pre· Post·)
+      Closed = (𝓤 : URA.URA M) (H : Wp.Heap 𝓤) (A : Atoms.Atoms 𝓤) (W : Kit.Given 𝓤 H A) (𝓣 : Wp.Tables 𝓤 H) (known0 : Plain.Known 𝓤 H A W 𝓣 4 ps·0 r·0 (claims· .0) (claims· .1) "reading::read") (known1 : Plain.Known 𝓤 H A W 𝓣 0 ps·1 r·1 (claims· .2) (claims· .3) "tables::number") (known2 : Plain.Known 𝓤 H A W 𝓣 0 ps·2 r·2 (claims· .4) (claims· .5) "bench_plans::print::print_refusal") (known3 : Plain.Known 𝓤 H A W 𝓣 0 ps·3 r·3 (claims· .6) (claims· .7) "tables::Size::new") (known4 : Plain.Known 𝓤 H A W 𝓣 4 ps·4 r·4 (claims· .8) (claims· .9) "bench_plans::questions::ask_all") (known5 : Plain.Known 𝓤 H A W 𝓣 1 ps·5 r·5 (claims· .10) (claims· .11) "io::write_all") (known6 : Plain.Known 𝓤 H A W 𝓣 0 ps·6 r·6 (claims· .12) (claims· .13) "bench_plans::files::print_size") (known7 : Plain.Known 𝓤 H A W 𝓣 4 ps·7 r·7 (claims· .14) (claims· .15) "bench_plans::files::write_again") (known8 : Plain.Known 𝓤 H A W 𝓣 3 ps·8 r·8 (claims· .16) (claims· .17) "bench_plans::files::read_again") (known9 : Plain.Known 𝓤 H A W 𝓣 0 ps·9 r·9 (claims· .18) (claims· .19) "bench_plans::files::print_again") → Statement.Triple 𝓤 (Wp.WpFn 𝓤 H (𝓣 .C) (𝓣 .Λ) (Function.fnOf 4 ps r xs m hs body)) (Function.plainOf 𝓤 H A 4 ps r Pre· Post·)
 
     module _ where
       abbrev at0 : Typed.TF T49 O1
@@ -1831,7 +1831,7 @@ module _ (claims· : Claims) where
 
       module _ {M : Type 1} (𝓤 : URA.URA M) (H : Wp.Heap 𝓤) (A : Atoms.Atoms 𝓤) (W : Kit.Given 𝓤 H A) (𝓣 : Wp.Tables 𝓤 H) where
         abbrev Knowns : Type 1
-        Knowns = Plain.Known 𝓤 H A W 𝓣 4 ps·0 r·0 (claims· .0) (claims· .1) "reading::read" × Plain.Known 𝓤 H A W 𝓣 0 ps·1 r·1 (claims· .2) (claims· .3) "tables::number" × Plain.Known 𝓤 H A W 𝓣 0 ps·2 r·2 (claims· .4) (claims· .5) "bench_plans::print::print_refusal" × Plain.Known 𝓤 H A W 𝓣 0 ps·3 r·3 (claims· .6) (claims· .7) "tables::Size::new" × Plain.Known 𝓤 H A W 𝓣 3 ps·4 r·4 (claims· .8) (claims· .9) "bench_plans::questions::ask_all" × Plain.Known 𝓤 H A W 𝓣 1 ps·5 r·5 (claims· .10) (claims· .11) "io::write_all" × Plain.Known 𝓤 H A W 𝓣 0 ps·6 r·6 (claims· .12) (claims· .13) "bench_plans::files::print_size" × Plain.Known 𝓤 H A W 𝓣 4 ps·7 r·7 (claims· .14) (claims· .15) "bench_plans::files::write_again" × Plain.Known 𝓤 H A W 𝓣 3 ps·8 r·8 (claims· .16) (claims· .17) "bench_plans::files::read_again" × Plain.Known 𝓤 H A W 𝓣 0 ps·9 r·9 (claims· .18) (claims· .19) "bench_plans::files::print_again"
+        Knowns = Plain.Known 𝓤 H A W 𝓣 4 ps·0 r·0 (claims· .0) (claims· .1) "reading::read" × Plain.Known 𝓤 H A W 𝓣 0 ps·1 r·1 (claims· .2) (claims· .3) "tables::number" × Plain.Known 𝓤 H A W 𝓣 0 ps·2 r·2 (claims· .4) (claims· .5) "bench_plans::print::print_refusal" × Plain.Known 𝓤 H A W 𝓣 0 ps·3 r·3 (claims· .6) (claims· .7) "tables::Size::new" × Plain.Known 𝓤 H A W 𝓣 4 ps·4 r·4 (claims· .8) (claims· .9) "bench_plans::questions::ask_all" × Plain.Known 𝓤 H A W 𝓣 1 ps·5 r·5 (claims· .10) (claims· .11) "io::write_all" × Plain.Known 𝓤 H A W 𝓣 0 ps·6 r·6 (claims· .12) (claims· .13) "bench_plans::files::print_size" × Plain.Known 𝓤 H A W 𝓣 4 ps·7 r·7 (claims· .14) (claims· .15) "bench_plans::files::write_again" × Plain.Known 𝓤 H A W 𝓣 3 ps·8 r·8 (claims· .16) (claims· .17) "bench_plans::files::read_again" × Plain.Known 𝓤 H A W 𝓣 0 ps·9 r·9 (claims· .18) (claims· .19) "bench_plans::files::print_again"
 
       module _ (κs : Lifetimes.Lfts 4) (qs : Lifetimes.Shares 4) where
         abbrev g7 : List.List Row.Entry
@@ -2412,7 +2412,7 @@ module _ (claims· : Claims) where
           E = Frame.EnvOf 𝓤 H (List._∷_ (Kinds.tyR r) (Enter.tysP ps xs)) bs
 
           d0 : Typed.Typed 𝓤 H A 𝓣 E G49 b19 Δ1 at0
-          d0 = Typed.s-typed 𝓤 H A W 𝓣 E G49 b19 Δ1 (λ Ψ. Typed.both s47 (Typed.pass T50 T51 s48 (Typed.pass T51 T52 s49 (Typed.pass T52 T53 s50 (Typed.pass T53 T54 s51 (Typed.pass T54 T55 s52 (Typed.pass T55 T56 s53 (Typed.pass T56 T58 s55 (Typed.pass T58 T61 s58 (Typed.pass T61 T64 s61 Ψ)))))))))) tt (Typed.g-post 𝓤 H A W 𝓣 E G49 G64 G65 b19 (λ Ψ. Typed.both s47 (Typed.pass T50 T51 s48 (Typed.pass T51 T52 s49 (Typed.pass T52 T53 s50 (Typed.pass T53 T54 s51 (Typed.pass T54 T55 s52 (Typed.pass T55 T56 s53 (Typed.pass T56 T58 s55 (Typed.pass T58 T61 s58 (Typed.pass T61 T64 s61 Ψ)))))))))) (λ Ψ. Ψ) (Typed.g-post 𝓤 H A W 𝓣 E G49 G63 G64 b19 (λ Ψ. Typed.both s47 (Typed.pass T50 T51 s48 (Typed.pass T51 T52 s49 (Typed.pass T52 T53 s50 (Typed.pass T53 T54 s51 (Typed.pass T54 T55 s52 (Typed.pass T55 T56 s53 (Typed.pass T56 T58 s55 (Typed.pass T58 T61 s58 Ψ))))))))) (Typed.pass T61 T64 s61) (Typed.g-post 𝓤 H A W 𝓣 E G49 G62 G63 b19 (λ Ψ. Typed.both s47 (Typed.pass T50 T51 s48 (Typed.pass T51 T52 s49 (Typed.pass T52 T53 s50 (Typed.pass T53 T54 s51 (Typed.pass T54 T55 s52 (Typed.pass T55 T56 s53 (Typed.pass T56 T58 s55 (Typed.pass T58 T61 s58 Ψ))))))))) (λ Ψ. Ψ) (Typed.g-post 𝓤 H A W 𝓣 E G49 G61 G62 b19 (λ Ψ. Typed.both s47 (Typed.pass T50 T51 s48 (Typed.pass T51 T52 s49 (Typed.pass T52 T53 s50 (Typed.pass T53 T54 s51 (Typed.pass T54 T55 s52 (Typed.pass T55 T56 s53 (Typed.pass T56 T58 s55 (Typed.pass T58 T61 s58 Ψ))))))))) (λ Ψ. Ψ) (Typed.g-post 𝓤 H A W 𝓣 E G49 G60 G61 b19 (λ Ψ. Typed.both s47 (Typed.pass T50 T51 s48 (Typed.pass T51 T52 s49 (Typed.pass T52 T53 s50 (Typed.pass T53 T54 s51 (Typed.pass T54 T55 s52 (Typed.pass T55 T56 s53 (Typed.pass T56 T58 s55 Ψ)))))))) (Typed.pass T58 T61 s58) (Typed.g-post 𝓤 H A W 𝓣 E G49 G59 G60 b19 (λ Ψ. Typed.both s47 (Typed.pass T50 T51 s48 (Typed.pass T51 T52 s49 (Typed.pass T52 T53 s50 (Typed.pass T53 T54 s51 (Typed.pass T54 T55 s52 (Typed.pass T55 T56 s53 (Typed.pass T56 T58 s55 Ψ)))))))) (λ Ψ. Ψ) (Typed.g-post 𝓤 H A W 𝓣 E G49 G58 G59 b19 (λ Ψ. Typed.both s47 (Typed.pass T50 T51 s48 (Typed.pass T51 T52 s49 (Typed.pass T52 T53 s50 (Typed.pass T53 T54 s51 (Typed.pass T54 T55 s52 (Typed.pass T55 T56 s53 (Typed.pass T56 T58 s55 Ψ)))))))) (λ Ψ. Ψ) (Typed.g-post 𝓤 H A W 𝓣 E G49 G57 G58 b19 (λ Ψ. Typed.both s47 (Typed.pass T50 T51 s48 (Typed.pass T51 T52 s49 (Typed.pass T52 T53 s50 (Typed.pass T53 T54 s51 (Typed.pass T54 T55 s52 (Typed.pass T55 T56 s53 Ψ))))))) (Typed.pass T56 T58 s55) (Typed.g-post 𝓤 H A W 𝓣 E G49 G56 G57 b19 (λ Ψ. Typed.both s47 (Typed.pass T50 T51 s48 (Typed.pass T51 T52 s49 (Typed.pass T52 T53 s50 (Typed.pass T53 T54 s51 (Typed.pass T54 T55 s52 (Typed.pass T55 T56 s53 Ψ))))))) (λ Ψ. Ψ) (Typed.g-post 𝓤 H A W 𝓣 E G49 G55 G56 b19 (λ Ψ. Typed.both s47 (Typed.pass T50 T51 s48 (Typed.pass T51 T52 s49 (Typed.pass T52 T53 s50 (Typed.pass T53 T54 s51 (Typed.pass T54 T55 s52 Ψ)))))) (Typed.pass T55 T56 s53) (Typed.g-post 𝓤 H A W 𝓣 E G49 G54 G55 b19 (λ Ψ. Typed.both s47 (Typed.pass T50 T51 s48 (Typed.pass T51 T52 s49 (Typed.pass T52 T53 s50 (Typed.pass T53 T54 s51 Ψ))))) (Typed.pass T54 T55 s52) (Typed.g-post 𝓤 H A W 𝓣 E G49 G53 G54 b19 (λ Ψ. Typed.both s47 (Typed.pass T50 T51 s48 (Typed.pass T51 T52 s49 (Typed.pass T52 T53 s50 Ψ)))) (Typed.pass T53 T54 s51) (Typed.g-post 𝓤 H A W 𝓣 E G49 G52 G53 b19 (λ Ψ. Typed.both s47 (Typed.pass T50 T51 s48 (Typed.pass T51 T52 s49 Ψ))) (Typed.pass T52 T53 s50) (Typed.g-post 𝓤 H A W 𝓣 E G49 G51 G52 b19 (λ Ψ. Typed.both s47 (Typed.pass T50 T51 s48 Ψ)) (Typed.pass T51 T52 s49) (Typed.g-post 𝓤 H A W 𝓣 E G49 G50 G51 b19 (Typed.both s47) (Typed.pass T50 T51 s48) (Plain.t-call-plain 𝓤 H A W 𝓣 3 ps·4 r·4 (claims· .8) (claims· .9) "bench_plans::questions::ask_all" (known .4) E (λ pos β. β) G49 (record { pos = 21; st = List.[]; d = 0; at = λ x. x }, (record { pos = 23; ty = Syntax.tyRef Syntax.erased Syntax.imm (Memory.pointee (T.the-row .written)); ref = λ x. x }, (record { pos = 25; ty = Syntax.tyRef Syntax.erased Syntax.imm (Syntax.tyInt Syntax.w16); ref = λ x. x }, (record { pos = 27; ty = Syntax.tyRef Syntax.erased Syntax.imm (Syntax.tyInt Syntax.w16); ref = λ x. x }, (Num.vAt 5 λ x. x, tt))))) 19 (List._∷_ 7 (List._∷_ 8 (List._∷_ 9 List.[]))) (Call.sub-id 𝓤 H A W (G49 .slots)) ((Yields.yields-copy 𝓤 H A W (λ ρ. Unit) (Declared'.row Size.the-type) Path'.refl (Copies.cStruct Size.the-type Laws''.the-laws Laws''.the-copy .copy 𝓤 H A W) (Rows'.whole (Declared'.row Size.the-type)) (λ x. x) (λ x. x) (λ ρ told. Local.mem-whole 𝓤 H A W (Declared'.row Size.the-type) ρ) λ ρ told. Local.whole-mem 𝓤 H A W (Declared'.row Size.the-type) ρ, Path'.refl), (ShrSlice.spares-sslice 𝓤 H A W T.the-row ty·8 7, Shared.reads-sslice 𝓤 H A W T.the-row ty·8 7, Path'.refl, (ShrSlice.spares-sslice 𝓤 H A W (Referent.rtF (Referent.fInt Syntax.w16)) ty·3 8, Shared.reads-sslice 𝓤 H A W (Referent.rtF (Referent.fInt Syntax.w16)) ty·3 8, Path'.refl, (ShrSlice.spares-sslice 𝓤 H A W (Referent.rtF (Referent.fInt Syntax.w16)) ty·3 9, Shared.reads-sslice 𝓤 H A W (Referent.rtF (Referent.fInt Syntax.w16)) ty·3 9, Path'.refl, ((Scalar.reads-sc 𝓤 H A W (Row.sInt Syntax.w64), Path'.refl), tt))))) (Reads.room-gone 𝓤 H A Syntax.tyUnit) (tt, (tt, (tt, tt))) Path'.refl) (Scalar.g-room 𝓤 H A W E G50 23 ty·15 (Shared.room-sslice 𝓤 H A W T.the-row ty·8 7))) (Scalar.g-room 𝓤 H A W E G51 25 ty·13 (Shared.room-sslice 𝓤 H A W (Referent.rtF (Referent.fInt Syntax.w16)) ty·3 8))) (Scalar.g-room 𝓤 H A W E G52 27 ty·13 (Shared.room-sslice 𝓤 H A W (Referent.rtF (Referent.fInt Syntax.w16)) ty·3 9))) (Scalar.g-room 𝓤 H A W E G53 8 (Syntax.tyInt Syntax.w64) (Scalar.room-sc 𝓤 H A W (Row.sInt Syntax.w64)))) (Scalar.g-room 𝓤 H A W E G54 19 Syntax.tyUnit (Scalar.room-sc 𝓤 H A W Row.sUnit))) (Scalar.g-room 𝓤 H A W E G55 21 ty·16 (Local.room-whole 𝓤 H A W (Declared'.row Size.the-type) ty·16 Path'.refl))) (Lifetime.g-end 𝓤 H A W E G56 7 Path'.refl)) (Reshare.g-back-sl-shr 𝓤 H A W E T.the-row G57 2 1 7 ty·9 (Row.lease (κs .1 .0) (qs .1 .0)) (λ x. x) (Reads.as-is 𝓤 H A (Reshare.mslice-owedS T.the-row ty·9 1 7 (Row.lease (κs .1 .0) (qs .1 .0)))) Path'.refl Path'.refl)) (Lifetime.g-forget 𝓤 H A W E G58 7 Row.dead Path'.refl)) (Lifetime.g-end 𝓤 H A W E G59 8 Path'.refl)) (Reshare.g-back-sl-shr 𝓤 H A W E (Referent.rtF (Referent.fInt Syntax.w16)) G60 3 2 8 ty·5 (Row.lease (κs .1 .1 .0) (qs .1 .1 .0)) (λ x. x) (Reads.as-is 𝓤 H A (Reshare.mslice-owedS (Referent.rtF (Referent.fInt Syntax.w16)) ty·5 2 8 (Row.lease (κs .1 .1 .0) (qs .1 .1 .0)))) Path'.refl Path'.refl)) (Lifetime.g-forget 𝓤 H A W E G61 8 Row.dead Path'.refl)) (Lifetime.g-end 𝓤 H A W E G62 9 Path'.refl)) (Reshare.g-back-sl-shr 𝓤 H A W E (Referent.rtF (Referent.fInt Syntax.w16)) G63 4 3 9 ty·6 (Row.lease (κs .1 .1 .1 .0) (qs .1 .1 .1 .0)) (λ x. x) (Reads.as-is 𝓤 H A (Reshare.mslice-owedS (Referent.rtF (Referent.fInt Syntax.w16)) ty·6 3 9 (Row.lease (κs .1 .1 .1 .0) (qs .1 .1 .1 .0)))) Path'.refl Path'.refl)) (Lifetime.g-forget 𝓤 H A W E G64 9 Row.dead Path'.refl))
+          d0 = Typed.s-typed 𝓤 H A W 𝓣 E G49 b19 Δ1 (λ Ψ. Typed.both s47 (Typed.pass T50 T51 s48 (Typed.pass T51 T52 s49 (Typed.pass T52 T53 s50 (Typed.pass T53 T54 s51 (Typed.pass T54 T55 s52 (Typed.pass T55 T56 s53 (Typed.pass T56 T58 s55 (Typed.pass T58 T61 s58 (Typed.pass T61 T64 s61 Ψ)))))))))) tt (Typed.g-post 𝓤 H A W 𝓣 E G49 G64 G65 b19 (λ Ψ. Typed.both s47 (Typed.pass T50 T51 s48 (Typed.pass T51 T52 s49 (Typed.pass T52 T53 s50 (Typed.pass T53 T54 s51 (Typed.pass T54 T55 s52 (Typed.pass T55 T56 s53 (Typed.pass T56 T58 s55 (Typed.pass T58 T61 s58 (Typed.pass T61 T64 s61 Ψ)))))))))) (λ Ψ. Ψ) (Typed.g-post 𝓤 H A W 𝓣 E G49 G63 G64 b19 (λ Ψ. Typed.both s47 (Typed.pass T50 T51 s48 (Typed.pass T51 T52 s49 (Typed.pass T52 T53 s50 (Typed.pass T53 T54 s51 (Typed.pass T54 T55 s52 (Typed.pass T55 T56 s53 (Typed.pass T56 T58 s55 (Typed.pass T58 T61 s58 Ψ))))))))) (Typed.pass T61 T64 s61) (Typed.g-post 𝓤 H A W 𝓣 E G49 G62 G63 b19 (λ Ψ. Typed.both s47 (Typed.pass T50 T51 s48 (Typed.pass T51 T52 s49 (Typed.pass T52 T53 s50 (Typed.pass T53 T54 s51 (Typed.pass T54 T55 s52 (Typed.pass T55 T56 s53 (Typed.pass T56 T58 s55 (Typed.pass T58 T61 s58 Ψ))))))))) (λ Ψ. Ψ) (Typed.g-post 𝓤 H A W 𝓣 E G49 G61 G62 b19 (λ Ψ. Typed.both s47 (Typed.pass T50 T51 s48 (Typed.pass T51 T52 s49 (Typed.pass T52 T53 s50 (Typed.pass T53 T54 s51 (Typed.pass T54 T55 s52 (Typed.pass T55 T56 s53 (Typed.pass T56 T58 s55 (Typed.pass T58 T61 s58 Ψ))))))))) (λ Ψ. Ψ) (Typed.g-post 𝓤 H A W 𝓣 E G49 G60 G61 b19 (λ Ψ. Typed.both s47 (Typed.pass T50 T51 s48 (Typed.pass T51 T52 s49 (Typed.pass T52 T53 s50 (Typed.pass T53 T54 s51 (Typed.pass T54 T55 s52 (Typed.pass T55 T56 s53 (Typed.pass T56 T58 s55 Ψ)))))))) (Typed.pass T58 T61 s58) (Typed.g-post 𝓤 H A W 𝓣 E G49 G59 G60 b19 (λ Ψ. Typed.both s47 (Typed.pass T50 T51 s48 (Typed.pass T51 T52 s49 (Typed.pass T52 T53 s50 (Typed.pass T53 T54 s51 (Typed.pass T54 T55 s52 (Typed.pass T55 T56 s53 (Typed.pass T56 T58 s55 Ψ)))))))) (λ Ψ. Ψ) (Typed.g-post 𝓤 H A W 𝓣 E G49 G58 G59 b19 (λ Ψ. Typed.both s47 (Typed.pass T50 T51 s48 (Typed.pass T51 T52 s49 (Typed.pass T52 T53 s50 (Typed.pass T53 T54 s51 (Typed.pass T54 T55 s52 (Typed.pass T55 T56 s53 (Typed.pass T56 T58 s55 Ψ)))))))) (λ Ψ. Ψ) (Typed.g-post 𝓤 H A W 𝓣 E G49 G57 G58 b19 (λ Ψ. Typed.both s47 (Typed.pass T50 T51 s48 (Typed.pass T51 T52 s49 (Typed.pass T52 T53 s50 (Typed.pass T53 T54 s51 (Typed.pass T54 T55 s52 (Typed.pass T55 T56 s53 Ψ))))))) (Typed.pass T56 T58 s55) (Typed.g-post 𝓤 H A W 𝓣 E G49 G56 G57 b19 (λ Ψ. Typed.both s47 (Typed.pass T50 T51 s48 (Typed.pass T51 T52 s49 (Typed.pass T52 T53 s50 (Typed.pass T53 T54 s51 (Typed.pass T54 T55 s52 (Typed.pass T55 T56 s53 Ψ))))))) (λ Ψ. Ψ) (Typed.g-post 𝓤 H A W 𝓣 E G49 G55 G56 b19 (λ Ψ. Typed.both s47 (Typed.pass T50 T51 s48 (Typed.pass T51 T52 s49 (Typed.pass T52 T53 s50 (Typed.pass T53 T54 s51 (Typed.pass T54 T55 s52 Ψ)))))) (Typed.pass T55 T56 s53) (Typed.g-post 𝓤 H A W 𝓣 E G49 G54 G55 b19 (λ Ψ. Typed.both s47 (Typed.pass T50 T51 s48 (Typed.pass T51 T52 s49 (Typed.pass T52 T53 s50 (Typed.pass T53 T54 s51 Ψ))))) (Typed.pass T54 T55 s52) (Typed.g-post 𝓤 H A W 𝓣 E G49 G53 G54 b19 (λ Ψ. Typed.both s47 (Typed.pass T50 T51 s48 (Typed.pass T51 T52 s49 (Typed.pass T52 T53 s50 Ψ)))) (Typed.pass T53 T54 s51) (Typed.g-post 𝓤 H A W 𝓣 E G49 G52 G53 b19 (λ Ψ. Typed.both s47 (Typed.pass T50 T51 s48 (Typed.pass T51 T52 s49 Ψ))) (Typed.pass T52 T53 s50) (Typed.g-post 𝓤 H A W 𝓣 E G49 G51 G52 b19 (λ Ψ. Typed.both s47 (Typed.pass T50 T51 s48 Ψ)) (Typed.pass T51 T52 s49) (Typed.g-post 𝓤 H A W 𝓣 E G49 G50 G51 b19 (Typed.both s47) (Typed.pass T50 T51 s48) (Plain.t-call-plain 𝓤 H A W 𝓣 4 ps·4 r·4 (claims· .8) (claims· .9) "bench_plans::questions::ask_all" (known .4) E (λ pos β. β) G49 (record { pos = 1; ty = Syntax.tyRef (Syntax.named 0) Syntax.imm (Syntax.tyInt Syntax.w8); ref = λ x. x }, (record { pos = 21; st = List.[]; d = 0; at = λ x. x }, (record { pos = 23; ty = Syntax.tyRef Syntax.erased Syntax.imm (Memory.pointee (T.the-row .written)); ref = λ x. x }, (record { pos = 25; ty = Syntax.tyRef Syntax.erased Syntax.imm (Syntax.tyInt Syntax.w16); ref = λ x. x }, (record { pos = 27; ty = Syntax.tyRef Syntax.erased Syntax.imm (Syntax.tyInt Syntax.w16); ref = λ x. x }, (Num.vAt 5 λ x. x, tt)))))) 19 (List._∷_ 0 (List._∷_ 7 (List._∷_ 8 (List._∷_ 9 List.[])))) (Call.sub-id 𝓤 H A W (G49 .slots)) (ShrSlice.spares-sslice 𝓤 H A W (Referent.rtF (Referent.fInt Syntax.w8)) ty·4 0, Shared.reads-sslice 𝓤 H A W (Referent.rtF (Referent.fInt Syntax.w8)) ty·4 0, Path'.refl, ((Yields.yields-copy 𝓤 H A W (λ ρ. Unit) (Declared'.row Size.the-type) Path'.refl (Copies.cStruct Size.the-type Laws''.the-laws Laws''.the-copy .copy 𝓤 H A W) (Rows'.whole (Declared'.row Size.the-type)) (λ x. x) (λ x. x) (λ ρ told. Local.mem-whole 𝓤 H A W (Declared'.row Size.the-type) ρ) λ ρ told. Local.whole-mem 𝓤 H A W (Declared'.row Size.the-type) ρ, Path'.refl), (ShrSlice.spares-sslice 𝓤 H A W T.the-row ty·8 7, Shared.reads-sslice 𝓤 H A W T.the-row ty·8 7, Path'.refl, (ShrSlice.spares-sslice 𝓤 H A W (Referent.rtF (Referent.fInt Syntax.w16)) ty·3 8, Shared.reads-sslice 𝓤 H A W (Referent.rtF (Referent.fInt Syntax.w16)) ty·3 8, Path'.refl, (ShrSlice.spares-sslice 𝓤 H A W (Referent.rtF (Referent.fInt Syntax.w16)) ty·3 9, Shared.reads-sslice 𝓤 H A W (Referent.rtF (Referent.fInt Syntax.w16)) ty·3 9, Path'.refl, ((Scalar.reads-sc 𝓤 H A W (Row.sInt Syntax.w64), Path'.refl), tt)))))) (Reads.room-gone 𝓤 H A Syntax.tyUnit) (tt, (tt, (tt, (tt, tt)))) Path'.refl) (Scalar.g-room 𝓤 H A W E G50 23 ty·15 (Shared.room-sslice 𝓤 H A W T.the-row ty·8 7))) (Scalar.g-room 𝓤 H A W E G51 25 ty·13 (Shared.room-sslice 𝓤 H A W (Referent.rtF (Referent.fInt Syntax.w16)) ty·3 8))) (Scalar.g-room 𝓤 H A W E G52 27 ty·13 (Shared.room-sslice 𝓤 H A W (Referent.rtF (Referent.fInt Syntax.w16)) ty·3 9))) (Scalar.g-room 𝓤 H A W E G53 8 (Syntax.tyInt Syntax.w64) (Scalar.room-sc 𝓤 H A W (Row.sInt Syntax.w64)))) (Scalar.g-room 𝓤 H A W E G54 19 Syntax.tyUnit (Scalar.room-sc 𝓤 H A W Row.sUnit))) (Scalar.g-room 𝓤 H A W E G55 21 ty·16 (Local.room-whole 𝓤 H A W (Declared'.row Size.the-type) ty·16 Path'.refl))) (Lifetime.g-end 𝓤 H A W E G56 7 Path'.refl)) (Reshare.g-back-sl-shr 𝓤 H A W E T.the-row G57 2 1 7 ty·9 (Row.lease (κs .1 .0) (qs .1 .0)) (λ x. x) (Reads.as-is 𝓤 H A (Reshare.mslice-owedS T.the-row ty·9 1 7 (Row.lease (κs .1 .0) (qs .1 .0)))) Path'.refl Path'.refl)) (Lifetime.g-forget 𝓤 H A W E G58 7 Row.dead Path'.refl)) (Lifetime.g-end 𝓤 H A W E G59 8 Path'.refl)) (Reshare.g-back-sl-shr 𝓤 H A W E (Referent.rtF (Referent.fInt Syntax.w16)) G60 3 2 8 ty·5 (Row.lease (κs .1 .1 .0) (qs .1 .1 .0)) (λ x. x) (Reads.as-is 𝓤 H A (Reshare.mslice-owedS (Referent.rtF (Referent.fInt Syntax.w16)) ty·5 2 8 (Row.lease (κs .1 .1 .0) (qs .1 .1 .0)))) Path'.refl Path'.refl)) (Lifetime.g-forget 𝓤 H A W E G61 8 Row.dead Path'.refl)) (Lifetime.g-end 𝓤 H A W E G62 9 Path'.refl)) (Reshare.g-back-sl-shr 𝓤 H A W E (Referent.rtF (Referent.fInt Syntax.w16)) G63 4 3 9 ty·6 (Row.lease (κs .1 .1 .1 .0) (qs .1 .1 .1 .0)) (λ x. x) (Reads.as-is 𝓤 H A (Reshare.mslice-owedS (Referent.rtF (Referent.fInt Syntax.w16)) ty·6 3 9 (Row.lease (κs .1 .1 .1 .0) (qs .1 .1 .1 .0)))) Path'.refl Path'.refl)) (Lifetime.g-forget 𝓤 H A W E G64 9 Row.dead Path'.refl))
 
           d1 : Typed.Typed 𝓤 H A 𝓣 E G48 b20 Δ1 at1
           d1 = Typed.s-seq 𝓤 H A W 𝓣 E G48 G49 b18 b19 Δ1 (Typed.ask s46) at0 (Relend.t-sl-aggregate 𝓤 H A W E (Referent.rtF (Referent.fInt Syntax.w16)) 𝓣 (Relend.asShr (Referent.rtF (Referent.fInt Syntax.w16))) G48 26 27 9 ty·3 ty·3 (λ x. x) (Scalar.oFld 4 (List._∷_ (Syntax.field 1) List.[]) (Syntax.tyInt Syntax.w64) 8 λ v. Shared.lenV (v .0)) (Reads.as-is 𝓤 H A (Relend.ssptr (Referent.rtF (Referent.fInt Syntax.w16)) ty·3 9)) (Reads.room-gone 𝓤 H A ty·13) (Reshare.reads-owedS-len 𝓤 H A W (Referent.rtF (Referent.fInt Syntax.w16)) ty·6 3 9 (Row.lease (κs .1 .1 .1 .0) (qs .1 .1 .1 .0)) 8 Path'.refl, Path'.refl) Path'.refl Path'.refl λ b o k. tt) d0
@@ -2478,7 +2478,7 @@ module _ (claims· : Claims) where
           d21 = Typed.g-pre 𝓤 H A W 𝓣 E G28 G29 b30 Δ1 (Typed.both s26) at20 (Known.g-enum-known 𝓤 H A W E ReadAnswer.enum 1 G28 6 (λ x. x) (Reads.as-is 𝓤 H A (Rows'.whole (Declared.row ReadAnswer.the-type)))) d20
 
           d22 : Typed.Typed 𝓤 H A 𝓣 E G135 b57 Δ1 at22
-          d22 = Typed.s-typed 𝓤 H A W 𝓣 E G135 b57 Δ1 (λ Ψ. Typed.both s133 (Typed.pass T136 T137 s134 (Typed.pass T137 T138 s135 (Typed.pass T138 T139 s136 (Typed.pass T139 T140 s137 (Typed.pass T140 T141 s138 (Typed.pass T141 T142 s139 (Typed.pass T142 T143 s140 (Typed.pass T143 T145 s142 (Typed.pass T145 T148 s145 (Typed.pass T148 T151 s148 Ψ))))))))))) tt (Typed.g-post 𝓤 H A W 𝓣 E G135 G151 G152 b57 (λ Ψ. Typed.both s133 (Typed.pass T136 T137 s134 (Typed.pass T137 T138 s135 (Typed.pass T138 T139 s136 (Typed.pass T139 T140 s137 (Typed.pass T140 T141 s138 (Typed.pass T141 T142 s139 (Typed.pass T142 T143 s140 (Typed.pass T143 T145 s142 (Typed.pass T145 T148 s145 (Typed.pass T148 T151 s148 Ψ))))))))))) (λ Ψ. Ψ) (Typed.g-post 𝓤 H A W 𝓣 E G135 G150 G151 b57 (λ Ψ. Typed.both s133 (Typed.pass T136 T137 s134 (Typed.pass T137 T138 s135 (Typed.pass T138 T139 s136 (Typed.pass T139 T140 s137 (Typed.pass T140 T141 s138 (Typed.pass T141 T142 s139 (Typed.pass T142 T143 s140 (Typed.pass T143 T145 s142 (Typed.pass T145 T148 s145 Ψ)))))))))) (Typed.pass T148 T151 s148) (Typed.g-post 𝓤 H A W 𝓣 E G135 G149 G150 b57 (λ Ψ. Typed.both s133 (Typed.pass T136 T137 s134 (Typed.pass T137 T138 s135 (Typed.pass T138 T139 s136 (Typed.pass T139 T140 s137 (Typed.pass T140 T141 s138 (Typed.pass T141 T142 s139 (Typed.pass T142 T143 s140 (Typed.pass T143 T145 s142 (Typed.pass T145 T148 s145 Ψ)))))))))) (λ Ψ. Ψ) (Typed.g-post 𝓤 H A W 𝓣 E G135 G148 G149 b57 (λ Ψ. Typed.both s133 (Typed.pass T136 T137 s134 (Typed.pass T137 T138 s135 (Typed.pass T138 T139 s136 (Typed.pass T139 T140 s137 (Typed.pass T140 T141 s138 (Typed.pass T141 T142 s139 (Typed.pass T142 T143 s140 (Typed.pass T143 T145 s142 (Typed.pass T145 T148 s145 Ψ)))))))))) (λ Ψ. Ψ) (Typed.g-post 𝓤 H A W 𝓣 E G135 G147 G148 b57 (λ Ψ. Typed.both s133 (Typed.pass T136 T137 s134 (Typed.pass T137 T138 s135 (Typed.pass T138 T139 s136 (Typed.pass T139 T140 s137 (Typed.pass T140 T141 s138 (Typed.pass T141 T142 s139 (Typed.pass T142 T143 s140 (Typed.pass T143 T145 s142 Ψ))))))))) (Typed.pass T145 T148 s145) (Typed.g-post 𝓤 H A W 𝓣 E G135 G146 G147 b57 (λ Ψ. Typed.both s133 (Typed.pass T136 T137 s134 (Typed.pass T137 T138 s135 (Typed.pass T138 T139 s136 (Typed.pass T139 T140 s137 (Typed.pass T140 T141 s138 (Typed.pass T141 T142 s139 (Typed.pass T142 T143 s140 (Typed.pass T143 T145 s142 Ψ))))))))) (λ Ψ. Ψ) (Typed.g-post 𝓤 H A W 𝓣 E G135 G145 G146 b57 (λ Ψ. Typed.both s133 (Typed.pass T136 T137 s134 (Typed.pass T137 T138 s135 (Typed.pass T138 T139 s136 (Typed.pass T139 T140 s137 (Typed.pass T140 T141 s138 (Typed.pass T141 T142 s139 (Typed.pass T142 T143 s140 (Typed.pass T143 T145 s142 Ψ))))))))) (λ Ψ. Ψ) (Typed.g-post 𝓤 H A W 𝓣 E G135 G144 G145 b57 (λ Ψ. Typed.both s133 (Typed.pass T136 T137 s134 (Typed.pass T137 T138 s135 (Typed.pass T138 T139 s136 (Typed.pass T139 T140 s137 (Typed.pass T140 T141 s138 (Typed.pass T141 T142 s139 (Typed.pass T142 T143 s140 Ψ)))))))) (Typed.pass T143 T145 s142) (Typed.g-post 𝓤 H A W 𝓣 E G135 G143 G144 b57 (λ Ψ. Typed.both s133 (Typed.pass T136 T137 s134 (Typed.pass T137 T138 s135 (Typed.pass T138 T139 s136 (Typed.pass T139 T140 s137 (Typed.pass T140 T141 s138 (Typed.pass T141 T142 s139 (Typed.pass T142 T143 s140 Ψ)))))))) (λ Ψ. Ψ) (Typed.g-post 𝓤 H A W 𝓣 E G135 G142 G143 b57 (λ Ψ. Typed.both s133 (Typed.pass T136 T137 s134 (Typed.pass T137 T138 s135 (Typed.pass T138 T139 s136 (Typed.pass T139 T140 s137 (Typed.pass T140 T141 s138 (Typed.pass T141 T142 s139 Ψ))))))) (Typed.pass T142 T143 s140) (Typed.g-post 𝓤 H A W 𝓣 E G135 G141 G142 b57 (λ Ψ. Typed.both s133 (Typed.pass T136 T137 s134 (Typed.pass T137 T138 s135 (Typed.pass T138 T139 s136 (Typed.pass T139 T140 s137 (Typed.pass T140 T141 s138 Ψ)))))) (Typed.pass T141 T142 s139) (Typed.g-post 𝓤 H A W 𝓣 E G135 G140 G141 b57 (λ Ψ. Typed.both s133 (Typed.pass T136 T137 s134 (Typed.pass T137 T138 s135 (Typed.pass T138 T139 s136 (Typed.pass T139 T140 s137 Ψ))))) (Typed.pass T140 T141 s138) (Typed.g-post 𝓤 H A W 𝓣 E G135 G139 G140 b57 (λ Ψ. Typed.both s133 (Typed.pass T136 T137 s134 (Typed.pass T137 T138 s135 (Typed.pass T138 T139 s136 Ψ)))) (Typed.pass T139 T140 s137) (Typed.g-post 𝓤 H A W 𝓣 E G135 G138 G139 b57 (λ Ψ. Typed.both s133 (Typed.pass T136 T137 s134 (Typed.pass T137 T138 s135 Ψ))) (Typed.pass T138 T139 s136) (Typed.g-post 𝓤 H A W 𝓣 E G135 G137 G138 b57 (λ Ψ. Typed.both s133 (Typed.pass T136 T137 s134 Ψ)) (Typed.pass T137 T138 s135) (Typed.g-post 𝓤 H A W 𝓣 E G135 G136 G137 b57 (Typed.both s133) (Typed.pass T136 T137 s134) (Plain.t-call-plain 𝓤 H A W 𝓣 3 ps·4 r·4 (claims· .8) (claims· .9) "bench_plans::questions::ask_all" (known .4) E (λ pos β. β) G135 (record { pos = 9; st = List.[]; d = 0; at = λ x. x }, (record { pos = 45; ty = Syntax.tyRef Syntax.erased Syntax.imm (Memory.pointee (T.the-row .written)); ref = λ x. x }, (record { pos = 47; ty = Syntax.tyRef Syntax.erased Syntax.imm (Syntax.tyInt Syntax.w16); ref = λ x. x }, (record { pos = 49; ty = Syntax.tyRef Syntax.erased Syntax.imm (Syntax.tyInt Syntax.w16); ref = λ x. x }, (Num.vAt 5 λ x. x, tt))))) 31 (List._∷_ 17 (List._∷_ 18 (List._∷_ 19 List.[]))) (Call.sub-id 𝓤 H A W (G135 .slots)) ((Yields.yields-copy 𝓤 H A W (λ ρ. Unit) (Declared'.row Size.the-type) Path'.refl (Copies.cStruct Size.the-type Laws''.the-laws Laws''.the-copy .copy 𝓤 H A W) (Rows'.whole (Declared'.row Size.the-type)) (λ x. x) (λ x. x) (λ ρ told. Local.mem-whole 𝓤 H A W (Declared'.row Size.the-type) ρ) λ ρ told. Local.whole-mem 𝓤 H A W (Declared'.row Size.the-type) ρ, Path'.refl), (ShrSlice.spares-sslice 𝓤 H A W T.the-row ty·8 17, Shared.reads-sslice 𝓤 H A W T.the-row ty·8 17, Path'.refl, (ShrSlice.spares-sslice 𝓤 H A W (Referent.rtF (Referent.fInt Syntax.w16)) ty·3 18, Shared.reads-sslice 𝓤 H A W (Referent.rtF (Referent.fInt Syntax.w16)) ty·3 18, Path'.refl, (ShrSlice.spares-sslice 𝓤 H A W (Referent.rtF (Referent.fInt Syntax.w16)) ty·3 19, Shared.reads-sslice 𝓤 H A W (Referent.rtF (Referent.fInt Syntax.w16)) ty·3 19, Path'.refl, ((Scalar.reads-sc 𝓤 H A W (Row.sInt Syntax.w64), Path'.refl), tt))))) (Reads.room-gone 𝓤 H A Syntax.tyUnit) (tt, (tt, (tt, tt))) Path'.refl) (Scalar.g-room 𝓤 H A W E G136 45 ty·15 (Shared.room-sslice 𝓤 H A W T.the-row ty·8 17))) (Scalar.g-room 𝓤 H A W E G137 47 ty·13 (Shared.room-sslice 𝓤 H A W (Referent.rtF (Referent.fInt Syntax.w16)) ty·3 18))) (Scalar.g-room 𝓤 H A W E G138 49 ty·13 (Shared.room-sslice 𝓤 H A W (Referent.rtF (Referent.fInt Syntax.w16)) ty·3 19))) (Scalar.g-room 𝓤 H A W E G139 9 ty·16 (Local.room-whole 𝓤 H A W (Declared'.row Size.the-type) ty·16 Path'.refl))) (Scalar.g-room 𝓤 H A W E G140 10 Syntax.tyBool (Scalar.room-sc 𝓤 H A W Row.sBool))) (Scalar.g-room 𝓤 H A W E G141 11 Syntax.tyBool (Scalar.room-sc 𝓤 H A W Row.sBool))) (Scalar.g-room 𝓤 H A W E G142 31 Syntax.tyUnit (Scalar.room-sc 𝓤 H A W Row.sUnit))) (Lifetime.g-end 𝓤 H A W E G143 17 Path'.refl)) (Reshare.g-back-sl-shr 𝓤 H A W E T.the-row G144 2 1 17 ty·9 (Row.lease (κs .1 .0) (qs .1 .0)) (λ x. x) (Reads.as-is 𝓤 H A (Reshare.mslice-owedS T.the-row ty·9 1 17 (Row.lease (κs .1 .0) (qs .1 .0)))) Path'.refl Path'.refl)) (Lifetime.g-forget 𝓤 H A W E G145 17 Row.dead Path'.refl)) (Lifetime.g-end 𝓤 H A W E G146 18 Path'.refl)) (Reshare.g-back-sl-shr 𝓤 H A W E (Referent.rtF (Referent.fInt Syntax.w16)) G147 3 2 18 ty·5 (Row.lease (κs .1 .1 .0) (qs .1 .1 .0)) (λ x. x) (Reads.as-is 𝓤 H A (Reshare.mslice-owedS (Referent.rtF (Referent.fInt Syntax.w16)) ty·5 2 18 (Row.lease (κs .1 .1 .0) (qs .1 .1 .0)))) Path'.refl Path'.refl)) (Lifetime.g-forget 𝓤 H A W E G148 18 Row.dead Path'.refl)) (Lifetime.g-end 𝓤 H A W E G149 19 Path'.refl)) (Reshare.g-back-sl-shr 𝓤 H A W E (Referent.rtF (Referent.fInt Syntax.w16)) G150 4 3 19 ty·6 (Row.lease (κs .1 .1 .1 .0) (qs .1 .1 .1 .0)) (λ x. x) (Reads.as-is 𝓤 H A (Reshare.mslice-owedS (Referent.rtF (Referent.fInt Syntax.w16)) ty·6 3 19 (Row.lease (κs .1 .1 .1 .0) (qs .1 .1 .1 .0)))) Path'.refl Path'.refl)) (Lifetime.g-forget 𝓤 H A W E G151 19 Row.dead Path'.refl))
+          d22 = Typed.s-typed 𝓤 H A W 𝓣 E G135 b57 Δ1 (λ Ψ. Typed.both s133 (Typed.pass T136 T137 s134 (Typed.pass T137 T138 s135 (Typed.pass T138 T139 s136 (Typed.pass T139 T140 s137 (Typed.pass T140 T141 s138 (Typed.pass T141 T142 s139 (Typed.pass T142 T143 s140 (Typed.pass T143 T145 s142 (Typed.pass T145 T148 s145 (Typed.pass T148 T151 s148 Ψ))))))))))) tt (Typed.g-post 𝓤 H A W 𝓣 E G135 G151 G152 b57 (λ Ψ. Typed.both s133 (Typed.pass T136 T137 s134 (Typed.pass T137 T138 s135 (Typed.pass T138 T139 s136 (Typed.pass T139 T140 s137 (Typed.pass T140 T141 s138 (Typed.pass T141 T142 s139 (Typed.pass T142 T143 s140 (Typed.pass T143 T145 s142 (Typed.pass T145 T148 s145 (Typed.pass T148 T151 s148 Ψ))))))))))) (λ Ψ. Ψ) (Typed.g-post 𝓤 H A W 𝓣 E G135 G150 G151 b57 (λ Ψ. Typed.both s133 (Typed.pass T136 T137 s134 (Typed.pass T137 T138 s135 (Typed.pass T138 T139 s136 (Typed.pass T139 T140 s137 (Typed.pass T140 T141 s138 (Typed.pass T141 T142 s139 (Typed.pass T142 T143 s140 (Typed.pass T143 T145 s142 (Typed.pass T145 T148 s145 Ψ)))))))))) (Typed.pass T148 T151 s148) (Typed.g-post 𝓤 H A W 𝓣 E G135 G149 G150 b57 (λ Ψ. Typed.both s133 (Typed.pass T136 T137 s134 (Typed.pass T137 T138 s135 (Typed.pass T138 T139 s136 (Typed.pass T139 T140 s137 (Typed.pass T140 T141 s138 (Typed.pass T141 T142 s139 (Typed.pass T142 T143 s140 (Typed.pass T143 T145 s142 (Typed.pass T145 T148 s145 Ψ)))))))))) (λ Ψ. Ψ) (Typed.g-post 𝓤 H A W 𝓣 E G135 G148 G149 b57 (λ Ψ. Typed.both s133 (Typed.pass T136 T137 s134 (Typed.pass T137 T138 s135 (Typed.pass T138 T139 s136 (Typed.pass T139 T140 s137 (Typed.pass T140 T141 s138 (Typed.pass T141 T142 s139 (Typed.pass T142 T143 s140 (Typed.pass T143 T145 s142 (Typed.pass T145 T148 s145 Ψ)))))))))) (λ Ψ. Ψ) (Typed.g-post 𝓤 H A W 𝓣 E G135 G147 G148 b57 (λ Ψ. Typed.both s133 (Typed.pass T136 T137 s134 (Typed.pass T137 T138 s135 (Typed.pass T138 T139 s136 (Typed.pass T139 T140 s137 (Typed.pass T140 T141 s138 (Typed.pass T141 T142 s139 (Typed.pass T142 T143 s140 (Typed.pass T143 T145 s142 Ψ))))))))) (Typed.pass T145 T148 s145) (Typed.g-post 𝓤 H A W 𝓣 E G135 G146 G147 b57 (λ Ψ. Typed.both s133 (Typed.pass T136 T137 s134 (Typed.pass T137 T138 s135 (Typed.pass T138 T139 s136 (Typed.pass T139 T140 s137 (Typed.pass T140 T141 s138 (Typed.pass T141 T142 s139 (Typed.pass T142 T143 s140 (Typed.pass T143 T145 s142 Ψ))))))))) (λ Ψ. Ψ) (Typed.g-post 𝓤 H A W 𝓣 E G135 G145 G146 b57 (λ Ψ. Typed.both s133 (Typed.pass T136 T137 s134 (Typed.pass T137 T138 s135 (Typed.pass T138 T139 s136 (Typed.pass T139 T140 s137 (Typed.pass T140 T141 s138 (Typed.pass T141 T142 s139 (Typed.pass T142 T143 s140 (Typed.pass T143 T145 s142 Ψ))))))))) (λ Ψ. Ψ) (Typed.g-post 𝓤 H A W 𝓣 E G135 G144 G145 b57 (λ Ψ. Typed.both s133 (Typed.pass T136 T137 s134 (Typed.pass T137 T138 s135 (Typed.pass T138 T139 s136 (Typed.pass T139 T140 s137 (Typed.pass T140 T141 s138 (Typed.pass T141 T142 s139 (Typed.pass T142 T143 s140 Ψ)))))))) (Typed.pass T143 T145 s142) (Typed.g-post 𝓤 H A W 𝓣 E G135 G143 G144 b57 (λ Ψ. Typed.both s133 (Typed.pass T136 T137 s134 (Typed.pass T137 T138 s135 (Typed.pass T138 T139 s136 (Typed.pass T139 T140 s137 (Typed.pass T140 T141 s138 (Typed.pass T141 T142 s139 (Typed.pass T142 T143 s140 Ψ)))))))) (λ Ψ. Ψ) (Typed.g-post 𝓤 H A W 𝓣 E G135 G142 G143 b57 (λ Ψ. Typed.both s133 (Typed.pass T136 T137 s134 (Typed.pass T137 T138 s135 (Typed.pass T138 T139 s136 (Typed.pass T139 T140 s137 (Typed.pass T140 T141 s138 (Typed.pass T141 T142 s139 Ψ))))))) (Typed.pass T142 T143 s140) (Typed.g-post 𝓤 H A W 𝓣 E G135 G141 G142 b57 (λ Ψ. Typed.both s133 (Typed.pass T136 T137 s134 (Typed.pass T137 T138 s135 (Typed.pass T138 T139 s136 (Typed.pass T139 T140 s137 (Typed.pass T140 T141 s138 Ψ)))))) (Typed.pass T141 T142 s139) (Typed.g-post 𝓤 H A W 𝓣 E G135 G140 G141 b57 (λ Ψ. Typed.both s133 (Typed.pass T136 T137 s134 (Typed.pass T137 T138 s135 (Typed.pass T138 T139 s136 (Typed.pass T139 T140 s137 Ψ))))) (Typed.pass T140 T141 s138) (Typed.g-post 𝓤 H A W 𝓣 E G135 G139 G140 b57 (λ Ψ. Typed.both s133 (Typed.pass T136 T137 s134 (Typed.pass T137 T138 s135 (Typed.pass T138 T139 s136 Ψ)))) (Typed.pass T139 T140 s137) (Typed.g-post 𝓤 H A W 𝓣 E G135 G138 G139 b57 (λ Ψ. Typed.both s133 (Typed.pass T136 T137 s134 (Typed.pass T137 T138 s135 Ψ))) (Typed.pass T138 T139 s136) (Typed.g-post 𝓤 H A W 𝓣 E G135 G137 G138 b57 (λ Ψ. Typed.both s133 (Typed.pass T136 T137 s134 Ψ)) (Typed.pass T137 T138 s135) (Typed.g-post 𝓤 H A W 𝓣 E G135 G136 G137 b57 (Typed.both s133) (Typed.pass T136 T137 s134) (Plain.t-call-plain 𝓤 H A W 𝓣 4 ps·4 r·4 (claims· .8) (claims· .9) "bench_plans::questions::ask_all" (known .4) E (λ pos β. β) G135 (record { pos = 1; ty = Syntax.tyRef (Syntax.named 0) Syntax.imm (Syntax.tyInt Syntax.w8); ref = λ x. x }, (record { pos = 9; st = List.[]; d = 0; at = λ x. x }, (record { pos = 45; ty = Syntax.tyRef Syntax.erased Syntax.imm (Memory.pointee (T.the-row .written)); ref = λ x. x }, (record { pos = 47; ty = Syntax.tyRef Syntax.erased Syntax.imm (Syntax.tyInt Syntax.w16); ref = λ x. x }, (record { pos = 49; ty = Syntax.tyRef Syntax.erased Syntax.imm (Syntax.tyInt Syntax.w16); ref = λ x. x }, (Num.vAt 5 λ x. x, tt)))))) 31 (List._∷_ 0 (List._∷_ 17 (List._∷_ 18 (List._∷_ 19 List.[])))) (Call.sub-id 𝓤 H A W (G135 .slots)) (ShrSlice.spares-sslice 𝓤 H A W (Referent.rtF (Referent.fInt Syntax.w8)) ty·4 0, Shared.reads-sslice 𝓤 H A W (Referent.rtF (Referent.fInt Syntax.w8)) ty·4 0, Path'.refl, ((Yields.yields-copy 𝓤 H A W (λ ρ. Unit) (Declared'.row Size.the-type) Path'.refl (Copies.cStruct Size.the-type Laws''.the-laws Laws''.the-copy .copy 𝓤 H A W) (Rows'.whole (Declared'.row Size.the-type)) (λ x. x) (λ x. x) (λ ρ told. Local.mem-whole 𝓤 H A W (Declared'.row Size.the-type) ρ) λ ρ told. Local.whole-mem 𝓤 H A W (Declared'.row Size.the-type) ρ, Path'.refl), (ShrSlice.spares-sslice 𝓤 H A W T.the-row ty·8 17, Shared.reads-sslice 𝓤 H A W T.the-row ty·8 17, Path'.refl, (ShrSlice.spares-sslice 𝓤 H A W (Referent.rtF (Referent.fInt Syntax.w16)) ty·3 18, Shared.reads-sslice 𝓤 H A W (Referent.rtF (Referent.fInt Syntax.w16)) ty·3 18, Path'.refl, (ShrSlice.spares-sslice 𝓤 H A W (Referent.rtF (Referent.fInt Syntax.w16)) ty·3 19, Shared.reads-sslice 𝓤 H A W (Referent.rtF (Referent.fInt Syntax.w16)) ty·3 19, Path'.refl, ((Scalar.reads-sc 𝓤 H A W (Row.sInt Syntax.w64), Path'.refl), tt)))))) (Reads.room-gone 𝓤 H A Syntax.tyUnit) (tt, (tt, (tt, (tt, tt)))) Path'.refl) (Scalar.g-room 𝓤 H A W E G136 45 ty·15 (Shared.room-sslice 𝓤 H A W T.the-row ty·8 17))) (Scalar.g-room 𝓤 H A W E G137 47 ty·13 (Shared.room-sslice 𝓤 H A W (Referent.rtF (Referent.fInt Syntax.w16)) ty·3 18))) (Scalar.g-room 𝓤 H A W E G138 49 ty·13 (Shared.room-sslice 𝓤 H A W (Referent.rtF (Referent.fInt Syntax.w16)) ty·3 19))) (Scalar.g-room 𝓤 H A W E G139 9 ty·16 (Local.room-whole 𝓤 H A W (Declared'.row Size.the-type) ty·16 Path'.refl))) (Scalar.g-room 𝓤 H A W E G140 10 Syntax.tyBool (Scalar.room-sc 𝓤 H A W Row.sBool))) (Scalar.g-room 𝓤 H A W E G141 11 Syntax.tyBool (Scalar.room-sc 𝓤 H A W Row.sBool))) (Scalar.g-room 𝓤 H A W E G142 31 Syntax.tyUnit (Scalar.room-sc 𝓤 H A W Row.sUnit))) (Lifetime.g-end 𝓤 H A W E G143 17 Path'.refl)) (Reshare.g-back-sl-shr 𝓤 H A W E T.the-row G144 2 1 17 ty·9 (Row.lease (κs .1 .0) (qs .1 .0)) (λ x. x) (Reads.as-is 𝓤 H A (Reshare.mslice-owedS T.the-row ty·9 1 17 (Row.lease (κs .1 .0) (qs .1 .0)))) Path'.refl Path'.refl)) (Lifetime.g-forget 𝓤 H A W E G145 17 Row.dead Path'.refl)) (Lifetime.g-end 𝓤 H A W E G146 18 Path'.refl)) (Reshare.g-back-sl-shr 𝓤 H A W E (Referent.rtF (Referent.fInt Syntax.w16)) G147 3 2 18 ty·5 (Row.lease (κs .1 .1 .0) (qs .1 .1 .0)) (λ x. x) (Reads.as-is 𝓤 H A (Reshare.mslice-owedS (Referent.rtF (Referent.fInt Syntax.w16)) ty·5 2 18 (Row.lease (κs .1 .1 .0) (qs .1 .1 .0)))) Path'.refl Path'.refl)) (Lifetime.g-forget 𝓤 H A W E G148 18 Row.dead Path'.refl)) (Lifetime.g-end 𝓤 H A W E G149 19 Path'.refl)) (Reshare.g-back-sl-shr 𝓤 H A W E (Referent.rtF (Referent.fInt Syntax.w16)) G150 4 3 19 ty·6 (Row.lease (κs .1 .1 .1 .0) (qs .1 .1 .1 .0)) (λ x. x) (Reads.as-is 𝓤 H A (Reshare.mslice-owedS (Referent.rtF (Referent.fInt Syntax.w16)) ty·6 3 19 (Row.lease (κs .1 .1 .1 .0) (qs .1 .1 .1 .0)))) Path'.refl Path'.refl)) (Lifetime.g-forget 𝓤 H A W E G151 19 Row.dead Path'.refl))
 
           d23 : Typed.Typed 𝓤 H A 𝓣 E G134 b58 Δ1 at23
           d23 = Typed.s-seq 𝓤 H A W 𝓣 E G134 G135 b56 b57 Δ1 (Typed.ask s132) at22 (Relend.t-sl-aggregate 𝓤 H A W E (Referent.rtF (Referent.fInt Syntax.w16)) 𝓣 (Relend.asShr (Referent.rtF (Referent.fInt Syntax.w16))) G134 48 49 19 ty·3 ty·3 (λ x. x) (Scalar.oFld 4 (List._∷_ (Syntax.field 1) List.[]) (Syntax.tyInt Syntax.w64) 8 λ v. Shared.lenV (v .0)) (Reads.as-is 𝓤 H A (Relend.ssptr (Referent.rtF (Referent.fInt Syntax.w16)) ty·3 19)) (Reads.room-gone 𝓤 H A ty·13) (Reshare.reads-owedS-len 𝓤 H A W (Referent.rtF (Referent.fInt Syntax.w16)) ty·6 3 19 (Row.lease (κs .1 .1 .1 .0) (qs .1 .1 .1 .0)) 8 Path'.refl, Path'.refl) Path'.refl Path'.refl λ b o k. tt) d22
@@ -3152,14 +3152,14 @@ module _ (claims· : Claims) where
 
       module _ (before· : After-ask-all-arg3) where
         abbrev pub After-ask-all·own : Type 0
-        After-ask-all·own = Called.Called ps·4 r·4 (claims· .9) T49 (record { pos = 21; st = List.[]; d = 0; at = λ x. x }, (record { pos = 23; ty = Syntax.tyRef Syntax.erased Syntax.imm (Memory.pointee (T.the-row .written)); ref = λ x. x }, (record { pos = 25; ty = Syntax.tyRef Syntax.erased Syntax.imm (Syntax.tyInt Syntax.w16); ref = λ x. x }, (record { pos = 27; ty = Syntax.tyRef Syntax.erased Syntax.imm (Syntax.tyInt Syntax.w16); ref = λ x. x }, (Num.vAt 5 λ x. x, tt))))) (m35 (before· .before) (before· .ask-all-arg3 .given))
+        After-ask-all·own = Called.Called ps·4 r·4 (claims· .9) T49 (record { pos = 1; ty = Syntax.tyRef (Syntax.named 0) Syntax.imm (Syntax.tyInt Syntax.w8); ref = λ x. x }, (record { pos = 21; st = List.[]; d = 0; at = λ x. x }, (record { pos = 23; ty = Syntax.tyRef Syntax.erased Syntax.imm (Memory.pointee (T.the-row .written)); ref = λ x. x }, (record { pos = 25; ty = Syntax.tyRef Syntax.erased Syntax.imm (Syntax.tyInt Syntax.w16); ref = λ x. x }, (record { pos = 27; ty = Syntax.tyRef Syntax.erased Syntax.imm (Syntax.tyInt Syntax.w16); ref = λ x. x }, (Num.vAt 5 λ x. x, tt)))))) (m35 (before· .before) (before· .ask-all-arg3 .given))
 
       pub record After-ask-all : Type 0 where
         pub before : After-ask-all-arg3
         pub ask-all : After-ask-all·own before
 
       abbrev pub After-ask-all·gave : (c : After-ask-all) → s47 .gives (m35 (c .before .before) (c .before .ask-all-arg3 .given))
-      After-ask-all·gave = λ c. Called.given ps·4 r·4 (claims· .9) T49 (record { pos = 21; st = List.[]; d = 0; at = λ x. x }, (record { pos = 23; ty = Syntax.tyRef Syntax.erased Syntax.imm (Memory.pointee (T.the-row .written)); ref = λ x. x }, (record { pos = 25; ty = Syntax.tyRef Syntax.erased Syntax.imm (Syntax.tyInt Syntax.w16); ref = λ x. x }, (record { pos = 27; ty = Syntax.tyRef Syntax.erased Syntax.imm (Syntax.tyInt Syntax.w16); ref = λ x. x }, (Num.vAt 5 λ x. x, tt))))) (m35 (c .before .before) (c .before .ask-all-arg3 .given)) (c .ask-all)
+      After-ask-all·gave = λ c. Called.given ps·4 r·4 (claims· .9) T49 (record { pos = 1; ty = Syntax.tyRef (Syntax.named 0) Syntax.imm (Syntax.tyInt Syntax.w8); ref = λ x. x }, (record { pos = 21; st = List.[]; d = 0; at = λ x. x }, (record { pos = 23; ty = Syntax.tyRef Syntax.erased Syntax.imm (Memory.pointee (T.the-row .written)); ref = λ x. x }, (record { pos = 25; ty = Syntax.tyRef Syntax.erased Syntax.imm (Syntax.tyInt Syntax.w16); ref = λ x. x }, (record { pos = 27; ty = Syntax.tyRef Syntax.erased Syntax.imm (Syntax.tyInt Syntax.w16); ref = λ x. x }, (Num.vAt 5 λ x. x, tt)))))) (m35 (c .before .before) (c .before .ask-all-arg3 .given)) (c .ask-all)
 
       module _ (before· : After-slice-known4) where
         pub record At-match-keys2·own : Type 0 where
@@ -3557,14 +3557,14 @@ module _ (claims· : Claims) where
 
       module _ (before· : After-ask-all-arg6) where
         abbrev pub After-ask-all2·own : Type 0
-        After-ask-all2·own = Called.Called ps·4 r·4 (claims· .9) T135 (record { pos = 9; st = List.[]; d = 0; at = λ x. x }, (record { pos = 45; ty = Syntax.tyRef Syntax.erased Syntax.imm (Memory.pointee (T.the-row .written)); ref = λ x. x }, (record { pos = 47; ty = Syntax.tyRef Syntax.erased Syntax.imm (Syntax.tyInt Syntax.w16); ref = λ x. x }, (record { pos = 49; ty = Syntax.tyRef Syntax.erased Syntax.imm (Syntax.tyInt Syntax.w16); ref = λ x. x }, (Num.vAt 5 λ x. x, tt))))) (m91 (before· .before) (before· .ask-all-arg6 .given))
+        After-ask-all2·own = Called.Called ps·4 r·4 (claims· .9) T135 (record { pos = 1; ty = Syntax.tyRef (Syntax.named 0) Syntax.imm (Syntax.tyInt Syntax.w8); ref = λ x. x }, (record { pos = 9; st = List.[]; d = 0; at = λ x. x }, (record { pos = 45; ty = Syntax.tyRef Syntax.erased Syntax.imm (Memory.pointee (T.the-row .written)); ref = λ x. x }, (record { pos = 47; ty = Syntax.tyRef Syntax.erased Syntax.imm (Syntax.tyInt Syntax.w16); ref = λ x. x }, (record { pos = 49; ty = Syntax.tyRef Syntax.erased Syntax.imm (Syntax.tyInt Syntax.w16); ref = λ x. x }, (Num.vAt 5 λ x. x, tt)))))) (m91 (before· .before) (before· .ask-all-arg6 .given))
 
       pub record After-ask-all2 : Type 0 where
         pub before : After-ask-all-arg6
         pub ask-all2 : After-ask-all2·own before
 
       abbrev pub After-ask-all2·gave : (c : After-ask-all2) → s133 .gives (m91 (c .before .before) (c .before .ask-all-arg6 .given))
-      After-ask-all2·gave = λ c. Called.given ps·4 r·4 (claims· .9) T135 (record { pos = 9; st = List.[]; d = 0; at = λ x. x }, (record { pos = 45; ty = Syntax.tyRef Syntax.erased Syntax.imm (Memory.pointee (T.the-row .written)); ref = λ x. x }, (record { pos = 47; ty = Syntax.tyRef Syntax.erased Syntax.imm (Syntax.tyInt Syntax.w16); ref = λ x. x }, (record { pos = 49; ty = Syntax.tyRef Syntax.erased Syntax.imm (Syntax.tyInt Syntax.w16); ref = λ x. x }, (Num.vAt 5 λ x. x, tt))))) (m91 (c .before .before) (c .before .ask-all-arg6 .given)) (c .ask-all2)
+      After-ask-all2·gave = λ c. Called.given ps·4 r·4 (claims· .9) T135 (record { pos = 1; ty = Syntax.tyRef (Syntax.named 0) Syntax.imm (Syntax.tyInt Syntax.w8); ref = λ x. x }, (record { pos = 9; st = List.[]; d = 0; at = λ x. x }, (record { pos = 45; ty = Syntax.tyRef Syntax.erased Syntax.imm (Memory.pointee (T.the-row .written)); ref = λ x. x }, (record { pos = 47; ty = Syntax.tyRef Syntax.erased Syntax.imm (Syntax.tyInt Syntax.w16); ref = λ x. x }, (record { pos = 49; ty = Syntax.tyRef Syntax.erased Syntax.imm (Syntax.tyInt Syntax.w16); ref = λ x. x }, (Num.vAt 5 λ x. x, tt)))))) (m91 (c .before .before) (c .before .ask-all-arg6 .given)) (c .ask-all2)
 
       abbrev pub m103 : (before : After-ask-all-arg3) → (given : s47 .gives (m35 (before .before) (before .ask-all-arg3 .given))) → Typed.Mo T153
       m103 = λ before given. s150 (m45 before given)
@@ -3610,7 +3610,7 @@ module _ (claims· : Claims) where
         lay10 = λ c. ((Path'.refl, (MutSlice.fix-len (Row.get 2 (T154 .locals) (m104 (c .before) (After-ask-all·gave c)) .ptr) (Row.get 2 (T154 .locals) (m104 (c .before) (After-ask-all·gave c)) .name) (Row.get 2 (T154 .locals) (m104 (c .before) (After-ask-all·gave c)) .now) (dens (c .before .before .before .before .before .before .before .before .before .before .before .before .before .before .before .before .before .before .before .before .before .before .κs) (c .before .before .before .before .before .before .before .before .before .before .before .before .before .before .before .before .before .before .before .before .before .before .args) .1 .0 .now) (same-length record { before = c .before; ask-all = c .ask-all }), (MutSlice.fix-len (Row.get 3 (T154 .locals) (m104 (c .before) (After-ask-all·gave c)) .ptr) (Row.get 3 (T154 .locals) (m104 (c .before) (After-ask-all·gave c)) .name) (Row.get 3 (T154 .locals) (m104 (c .before) (After-ask-all·gave c)) .now) (dens (c .before .before .before .before .before .before .before .before .before .before .before .before .before .before .before .before .before .before .before .before .before .before .κs) (c .before .before .before .before .before .before .before .before .before .before .before .before .before .before .before .before .before .before .before .before .before .before .args) .1 .1 .0 .now) (same-length-2 record { before = c .before; ask-all = c .ask-all }), (MutSlice.fix-len (Row.get 4 (T154 .locals) (m104 (c .before) (After-ask-all·gave c)) .ptr) (Row.get 4 (T154 .locals) (m104 (c .before) (After-ask-all·gave c)) .name) (Row.get 4 (T154 .locals) (m104 (c .before) (After-ask-all·gave c)) .now) (dens (c .before .before .before .before .before .before .before .before .before .before .before .before .before .before .before .before .before .before .before .before .before .before .κs) (c .before .before .before .before .before .before .before .before .before .before .before .before .before .before .before .before .before .before .before .before .before .before .args) .1 .1 .1 .0 .now) (same-length-3 record { before = c .before; ask-all = c .ask-all }), (tt, tt))))), returns record { before = c .before; ask-all = c .ask-all })
 
         lay9 : (c : After-print-again) → at32 (W1 (c .before .before .before .before .before .before .before .before .before .before .before .before .before .before .before .before .before .before .before .before .before .before .before .before .before .before) (After-read·gave (c .before .before .before .before .before .before .before .before .before .before .before .before .before .before .before .before .before .before .before .before .before .before .before .before .before))) (m84 (c .before) (After-print-again·gave c))
-        lay9 = λ c. λ g. (Path'.refl, λ g'. (Path'.refl, λ g''. (Path'.refl, (ask-all-requires-2 record { before = record { before = record { before = record { before = c .before; print-again = c .print-again }; ask-all-arg4 = record { given = g } }; ask-all-arg5 = record { given = g' } }; ask-all-arg6 = record { given = g'' } }, λ g'3. lay11 record { before = record { before = record { before = record { before = record { before = c .before; print-again = c .print-again }; ask-all-arg4 = record { given = g } }; ask-all-arg5 = record { given = g' } }; ask-all-arg6 = record { given = g'' } }; ask-all2 = Called.called ps·4 r·4 (claims· .9) T135 (record { pos = 9; st = List.[]; d = 0; at = λ x. x }, (record { pos = 45; ty = Syntax.tyRef Syntax.erased Syntax.imm (Memory.pointee (T.the-row .written)); ref = λ x. x }, (record { pos = 47; ty = Syntax.tyRef Syntax.erased Syntax.imm (Syntax.tyInt Syntax.w16); ref = λ x. x }, (record { pos = 49; ty = Syntax.tyRef Syntax.erased Syntax.imm (Syntax.tyInt Syntax.w16); ref = λ x. x }, (Num.vAt 5 λ x. x, tt))))) (m91 record { before = record { before = record { before = c .before; print-again = c .print-again }; ask-all-arg4 = record { given = g } }; ask-all-arg5 = record { given = g' } } g'') g'3 }))))
+        lay9 = λ c. λ g. (Path'.refl, λ g'. (Path'.refl, λ g''. (Path'.refl, (ask-all-requires-2 record { before = record { before = record { before = record { before = c .before; print-again = c .print-again }; ask-all-arg4 = record { given = g } }; ask-all-arg5 = record { given = g' } }; ask-all-arg6 = record { given = g'' } }, λ g'3. lay11 record { before = record { before = record { before = record { before = record { before = c .before; print-again = c .print-again }; ask-all-arg4 = record { given = g } }; ask-all-arg5 = record { given = g' } }; ask-all-arg6 = record { given = g'' } }; ask-all2 = Called.called ps·4 r·4 (claims· .9) T135 (record { pos = 1; ty = Syntax.tyRef (Syntax.named 0) Syntax.imm (Syntax.tyInt Syntax.w8); ref = λ x. x }, (record { pos = 9; st = List.[]; d = 0; at = λ x. x }, (record { pos = 45; ty = Syntax.tyRef Syntax.erased Syntax.imm (Memory.pointee (T.the-row .written)); ref = λ x. x }, (record { pos = 47; ty = Syntax.tyRef Syntax.erased Syntax.imm (Syntax.tyInt Syntax.w16); ref = λ x. x }, (record { pos = 49; ty = Syntax.tyRef Syntax.erased Syntax.imm (Syntax.tyInt Syntax.w16); ref = λ x. x }, (Num.vAt 5 λ x. x, tt)))))) (m91 record { before = record { before = record { before = c .before; print-again = c .print-again }; ask-all-arg4 = record { given = g } }; ask-all-arg5 = record { given = g' } } g'') g'3 }))))
 
         lay8 : (c : After-read-again) → at45 (W1 (c .before .before .before .before .before .before .before .before .before .before .before .before .before .before .before .before .before .before .before .before .before .before .before .before .before) (After-read·gave (c .before .before .before .before .before .before .before .before .before .before .before .before .before .before .before .before .before .before .before .before .before .before .before .before))) (m77 (c .before) (After-read-again·gave c))
         lay8 = λ c. (print-again-requires record { before = c .before; read-again = c .read-again }, λ g. lay9 record { before = record { before = c .before; read-again = c .read-again }; print-again = Called.called ps·9 r·9 (claims· .19) T123 (Bool.bAt 10 λ x. x, (Bool.bAt 11 λ x. x, tt)) (m83 (c .before) (After-read-again·gave c)) g })
@@ -3625,7 +3625,7 @@ module _ (claims· : Claims) where
         lay5 = λ c. (print-size-requires record { before = c .before; write-all = c .write-all }, λ g. lay6 record { before = record { before = c .before; write-all = c .write-all }; print-size = Called.called ps·6 r·6 (claims· .13) T79 (record { pos = 9; st = List.[]; d = 0; at = λ x. x }, tt) (m56 (c .before) (After-write-all·gave c)) g })
 
         lay4 : (c : After-new) → at9 (W1 (c .before .before .before .before .before .before .before .before .before .before .before .before) (After-read·gave (c .before .before .before .before .before .before .before .before .before .before .before))) (m29 (c .before) (After-new·gave c))
-        lay4 = λ c. λ g. (Path'.refl, λ g'. (Path'.refl, λ g''. (Path'.refl, (ask-all-requires record { before = record { before = record { before = record { before = c .before; new = c .new }; ask-all-arg = record { given = g } }; ask-all-arg2 = record { given = g' } }; ask-all-arg3 = record { given = g'' } }, λ g'3. lay10 record { before = record { before = record { before = record { before = record { before = c .before; new = c .new }; ask-all-arg = record { given = g } }; ask-all-arg2 = record { given = g' } }; ask-all-arg3 = record { given = g'' } }; ask-all = Called.called ps·4 r·4 (claims· .9) T49 (record { pos = 21; st = List.[]; d = 0; at = λ x. x }, (record { pos = 23; ty = Syntax.tyRef Syntax.erased Syntax.imm (Memory.pointee (T.the-row .written)); ref = λ x. x }, (record { pos = 25; ty = Syntax.tyRef Syntax.erased Syntax.imm (Syntax.tyInt Syntax.w16); ref = λ x. x }, (record { pos = 27; ty = Syntax.tyRef Syntax.erased Syntax.imm (Syntax.tyInt Syntax.w16); ref = λ x. x }, (Num.vAt 5 λ x. x, tt))))) (m35 record { before = record { before = record { before = c .before; new = c .new }; ask-all-arg = record { given = g } }; ask-all-arg2 = record { given = g' } } g'') g'3 }))))
+        lay4 = λ c. λ g. (Path'.refl, λ g'. (Path'.refl, λ g''. (Path'.refl, (ask-all-requires record { before = record { before = record { before = record { before = c .before; new = c .new }; ask-all-arg = record { given = g } }; ask-all-arg2 = record { given = g' } }; ask-all-arg3 = record { given = g'' } }, λ g'3. lay10 record { before = record { before = record { before = record { before = record { before = c .before; new = c .new }; ask-all-arg = record { given = g } }; ask-all-arg2 = record { given = g' } }; ask-all-arg3 = record { given = g'' } }; ask-all = Called.called ps·4 r·4 (claims· .9) T49 (record { pos = 1; ty = Syntax.tyRef (Syntax.named 0) Syntax.imm (Syntax.tyInt Syntax.w8); ref = λ x. x }, (record { pos = 21; st = List.[]; d = 0; at = λ x. x }, (record { pos = 23; ty = Syntax.tyRef Syntax.erased Syntax.imm (Memory.pointee (T.the-row .written)); ref = λ x. x }, (record { pos = 25; ty = Syntax.tyRef Syntax.erased Syntax.imm (Syntax.tyInt Syntax.w16); ref = λ x. x }, (record { pos = 27; ty = Syntax.tyRef Syntax.erased Syntax.imm (Syntax.tyInt Syntax.w16); ref = λ x. x }, (Num.vAt 5 λ x. x, tt)))))) (m35 record { before = record { before = record { before = c .before; new = c .new }; ask-all-arg = record { given = g } }; ask-all-arg2 = record { given = g' } } g'') g'3 }))))
 
         lay3 : (c : After-print-refusal) → at13 (W1 (c .before .before .before .before .before .before .before .before .before .before .before) (After-read·gave (c .before .before .before .before .before .before .before .before .before .before))) (m25 (c .before) (After-print-refusal·gave c))
         lay3 = λ c. (new-requires record { before = c .before; print-refusal = c .print-refusal }, λ g. lay4 record { before = record { before = c .before; print-refusal = c .print-refusal }; new = Called.called ps·3 r·3 (claims· .7) T39 (Num.vAt 8 λ x. x, (Num.vLit 0, (Num.vLit 0, (Num.vAt 8 λ x. x, tt)))) (m28 (c .before) (After-print-refusal·gave c)) g })
@@ -3643,6 +3643,6 @@ module _ (claims· : Claims) where
           pub asked : (a : Kinds.Dens κs ps) → (good : Kinds.GoodsP κs ps a) → (pre : Pre· κs a) → (bs : List.List Nat.ℕ) → Φ (Any.wantQ 4 ps r xs m κs qs a (Post· κs a)) (Function.init 4 ps r xs m κs qs a)
           asked = λ a good pre bs. laid record { κs = κs; args = record { file = a .0; rows = a .1 .0; firsts = a .1 .1 .0; outcomes = a .1 .1 .1 .0; questions = a .1 .1 .1 .1 .0 }; good = good; fits = record { questions = record { fits = good .1 .1 .1 .1 .0 .1 } }; pre = pre }
 
-        module _ {M : Type 1} (𝓤 : URA.URA M) (H : Wp.Heap 𝓤) (A : Atoms.Atoms 𝓤) (W : Kit.Given 𝓤 H A) (𝓣 : Wp.Tables 𝓤 H) (known0 : Plain.Known 𝓤 H A W 𝓣 4 ps·0 r·0 (claims· .0) (claims· .1) "reading::read") (known1 : Plain.Known 𝓤 H A W 𝓣 0 ps·1 r·1 (claims· .2) (claims· .3) "tables::number") (known2 : Plain.Known 𝓤 H A W 𝓣 0 ps·2 r·2 (claims· .4) (claims· .5) "bench_plans::print::print_refusal") (known3 : Plain.Known 𝓤 H A W 𝓣 0 ps·3 r·3 (claims· .6) (claims· .7) "tables::Size::new") (known4 : Plain.Known 𝓤 H A W 𝓣 3 ps·4 r·4 (claims· .8) (claims· .9) "bench_plans::questions::ask_all") (known5 : Plain.Known 𝓤 H A W 𝓣 1 ps·5 r·5 (claims· .10) (claims· .11) "io::write_all") (known6 : Plain.Known 𝓤 H A W 𝓣 0 ps·6 r·6 (claims· .12) (claims· .13) "bench_plans::files::print_size") (known7 : Plain.Known 𝓤 H A W 𝓣 4 ps·7 r·7 (claims· .14) (claims· .15) "bench_plans::files::write_again") (known8 : Plain.Known 𝓤 H A W 𝓣 3 ps·8 r·8 (claims· .16) (claims· .17) "bench_plans::files::read_again") (known9 : Plain.Known 𝓤 H A W 𝓣 0 ps·9 r·9 (claims· .18) (claims· .19) "bench_plans::files::print_again") where
+        module _ {M : Type 1} (𝓤 : URA.URA M) (H : Wp.Heap 𝓤) (A : Atoms.Atoms 𝓤) (W : Kit.Given 𝓤 H A) (𝓣 : Wp.Tables 𝓤 H) (known0 : Plain.Known 𝓤 H A W 𝓣 4 ps·0 r·0 (claims· .0) (claims· .1) "reading::read") (known1 : Plain.Known 𝓤 H A W 𝓣 0 ps·1 r·1 (claims· .2) (claims· .3) "tables::number") (known2 : Plain.Known 𝓤 H A W 𝓣 0 ps·2 r·2 (claims· .4) (claims· .5) "bench_plans::print::print_refusal") (known3 : Plain.Known 𝓤 H A W 𝓣 0 ps·3 r·3 (claims· .6) (claims· .7) "tables::Size::new") (known4 : Plain.Known 𝓤 H A W 𝓣 4 ps·4 r·4 (claims· .8) (claims· .9) "bench_plans::questions::ask_all") (known5 : Plain.Known 𝓤 H A W 𝓣 1 ps·5 r·5 (claims· .10) (claims· .11) "io::write_all") (known6 : Plain.Known 𝓤 H A W 𝓣 0 ps·6 r·6 (claims· .12) (claims· .13) "bench_plans::files::print_size") (known7 : Plain.Known 𝓤 H A W 𝓣 4 ps·7 r·7 (claims· .14) (claims· .15) "bench_plans::files::write_again") (known8 : Plain.Known 𝓤 H A W 𝓣 3 ps·8 r·8 (claims· .16) (claims· .17) "bench_plans::files::read_again") (known9 : Plain.Known 𝓤 H A W 𝓣 0 ps·9 r·9 (claims· .18) (claims· .19) "bench_plans::files::print_again") where
           pub spec : Statement.Triple 𝓤 (Wp.WpFn 𝓤 H (𝓣 .C) (𝓣 .Λ) (Function.fnOf 4 ps r xs m hs body)) (Function.plainOf 𝓤 H A 4 ps r Pre· Post·)
           spec = Plain.t-fn-plain 𝓤 H A W 𝓣 4 ps r xs m hs body (λ κs qs bs. Φ) (λ κs qs bs bd. typed κs qs 𝓤 H A W 𝓣 (known0, known1, known2, known3, known4, known5, known6, known7, known8, known9) bs bd) Pre· Post· asked

@@ -5,10 +5,10 @@ use Rattle.bench_plans.proofs.questions.ask_all.Statement.{statement}
 use Rattle.bench_plans.proofs.questions.ask_all.Proof.Tie as tie
 
 abbrev Inv-loop : tie.InvT-loop
-Inv-loop size rows firsts outcomes questions left₀ left = Unit {0}
+Inv-loop file size rows firsts outcomes questions left₀ left = Unit {0}
 
 abbrev μ-loop : tie.MeasureT-loop
-μ-loop size rows firsts outcomes questions left₀ left = left
+μ-loop file size rows firsts outcomes questions left₀ left = left
 
 loop-holds : tie.Need-loop-holds Inv-loop μ-loop
 loop-holds c = search needs
@@ -24,6 +24,12 @@ next-places-requires c κs = search needs
 
 ask-trim-requires : tie.Need-ask-trim-requires Inv-loop μ-loop
 ask-trim-requires c κs = search needs
+
+is-carrying-requires : tie.Need-is-carrying-requires Inv-loop μ-loop
+is-carrying-requires c κs = search needs
+
+ask-carry-requires : tie.Need-ask-carry-requires Inv-loop μ-loop
+ask-carry-requires c κs = search needs
 
 next-wide-requires : tie.Need-next-wide-requires Inv-loop μ-loop
 next-wide-requires c κs = search needs
@@ -48,4 +54,5 @@ returns c = search needs
 
 pub ask-all-spec : {M : Type 1} → statement M
 ask-all-spec = tie.close (tie.spec Inv-loop μ-loop loop-holds next-requires is-trimming-requires next-places-requires
-    ask-trim-requires next-wide-requires next-wide-requires-2 ask-requires sub-left loop-less loop-again returns)
+    ask-trim-requires is-carrying-requires ask-carry-requires next-wide-requires next-wide-requires-2 ask-requires sub-left loop-less
+    loop-again returns)

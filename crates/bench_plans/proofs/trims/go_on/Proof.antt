@@ -22,9 +22,12 @@ print-again-requires c κs = search needs
 ask-tables-requires : tie.Need-ask-tables-requires
 ask-tables-requires c κs = search needs
 
+carry-decided-requires : tie.Need-carry-decided-requires
+carry-decided-requires c κs = search needs
+
 returns : tie.Need-returns
 returns c = search needs
 
 pub go-on-spec : {M : Type 1} → statement M
 go-on-spec = tie.close (tie.spec read-again-requires trim-again-requires slice-aggregate-write-all write-all-requires
-    print-again-requires ask-tables-requires returns)
+    print-again-requires ask-tables-requires carry-decided-requires returns)

@@ -39,7 +39,7 @@ copy-states-requires c κs =
     let entry = past-number .before .before .before .before .before .before .before .before .before .before in
     let numbered = past-number .number .ensures .1 in (
       entry .pre .0,
-      (entry .pre .1 .0, ((omega (arith, entry .pre .1 .1 .1 .1, numbered .same), numbered .numbers), entry .pre .1 .1 .0)),
+      (entry .pre .1 .0, ((omega (arith, entry .pre .1 .1 .1 .1, numbered .same), numbered .named), entry .pre .1 .1 .0)),
     )
 
 fill-requires : tie.Need-fill-requires

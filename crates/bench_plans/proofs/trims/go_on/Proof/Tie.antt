@@ -5,76 +5,88 @@ use Rattle.bench_plans.proofs.files.print_again.Symbol
 use Rattle.bench_plans.proofs.files.read_again.Met as Met'
 use Rattle.bench_plans.proofs.Made.FilesReadAgain.Reads as Reads'
 use Rattle.bench_plans.proofs.files.read_again.Symbol as Symbol'
+use Rattle.bench_plans.proofs.trims.carry_decided.Met as Met''
+use Rattle.bench_plans.proofs.Made.TrimsCarryDecided.Reads as Reads''
+use Rattle.bench_plans.proofs.trims.carry_decided.Symbol as Symbol''
 use Rattle.bench_plans.proofs.trims.go_on.Code
 use Rattle.bench_plans.proofs.trims.go_on.Key
 use Rattle.bench_plans.proofs.Made.TrimsGoOn.Lts as Lts
-use Rattle.bench_plans.proofs.Made.TrimsGoOn.Reads as Reads''
+use Rattle.bench_plans.proofs.Made.TrimsGoOn.Reads as Reads'3
 use Rattle.bench_plans.proofs.trims.go_on.Statement
-use Rattle.bench_plans.proofs.trims.trim_again.Met as Met''
-use Rattle.bench_plans.proofs.Made.TrimsTrimAgain.Reads as Reads'3
-use Rattle.bench_plans.proofs.trims.trim_again.Symbol as Symbol''
-use Rattle.bench_plans.proofs.verdicts.ask_tables.Met as Met'3
-use Rattle.bench_plans.proofs.Made.VerdictsAskTables.Reads as Reads'4
-use Rattle.bench_plans.proofs.verdicts.ask_tables.Symbol as Symbol'3
-use Rattle.io.proofs.write_all.Met as Met'4
-use Rattle.io.proofs.write_all.Reads as Reads'5
-use Rattle.io.proofs.write_all.Symbol as Symbol'4
+use Rattle.bench_plans.proofs.trims.trim_again.Met as Met'3
+use Rattle.bench_plans.proofs.Made.TrimsTrimAgain.Reads as Reads'4
+use Rattle.bench_plans.proofs.trims.trim_again.Symbol as Symbol'3
+use Rattle.bench_plans.proofs.verdicts.ask_tables.Met as Met'4
+use Rattle.bench_plans.proofs.Made.VerdictsAskTables.Reads as Reads'5
+use Rattle.bench_plans.proofs.verdicts.ask_tables.Symbol as Symbol'4
+use Rattle.io.proofs.write_all.Met as Met'5
+use Rattle.io.proofs.write_all.Reads as Reads'6
+use Rattle.io.proofs.write_all.Symbol as Symbol'5
 use borrow.Fn.Run
 use borrow.Fn.Written
 use contract.Running
 
 abbrev pub Start : Type 0
-Start = Lts.Start (Reads'.Asked, Reads'.Learnt, Reads'3.Asked, Reads'3.Learnt, Reads'5.Asked, Reads'5.Learnt, Reads.Asked, Reads.Learnt, Reads'4.Asked, Reads'4.Learnt) Reads''.Pre Reads''.Post
+Start = Lts.Start (Reads'.Asked, Reads'.Learnt, Reads'4.Asked, Reads'4.Learnt, Reads'6.Asked, Reads'6.Learnt, Reads.Asked, Reads.Learnt, Reads'5.Asked, Reads'5.Learnt, Reads''.Asked, Reads''.Learnt) Reads'3.Pre Reads'3.Post
 
 abbrev pub After-shared-slice-known : Type 0
-After-shared-slice-known = Lts.After-shared-slice-known (Reads'.Asked, Reads'.Learnt, Reads'3.Asked, Reads'3.Learnt, Reads'5.Asked, Reads'5.Learnt, Reads.Asked, Reads.Learnt, Reads'4.Asked, Reads'4.Learnt) Reads''.Pre Reads''.Post
+After-shared-slice-known = Lts.After-shared-slice-known (Reads'.Asked, Reads'.Learnt, Reads'4.Asked, Reads'4.Learnt, Reads'6.Asked, Reads'6.Learnt, Reads.Asked, Reads.Learnt, Reads'5.Asked, Reads'5.Learnt, Reads''.Asked, Reads''.Learnt) Reads'3.Pre Reads'3.Post
 
 abbrev pub After-shared-slice-known2 : Type 0
-After-shared-slice-known2 = Lts.After-shared-slice-known2 (Reads'.Asked, Reads'.Learnt, Reads'3.Asked, Reads'3.Learnt, Reads'5.Asked, Reads'5.Learnt, Reads.Asked, Reads.Learnt, Reads'4.Asked, Reads'4.Learnt) Reads''.Pre Reads''.Post
+After-shared-slice-known2 = Lts.After-shared-slice-known2 (Reads'.Asked, Reads'.Learnt, Reads'4.Asked, Reads'4.Learnt, Reads'6.Asked, Reads'6.Learnt, Reads.Asked, Reads.Learnt, Reads'5.Asked, Reads'5.Learnt, Reads''.Asked, Reads''.Learnt) Reads'3.Pre Reads'3.Post
+
+abbrev pub After-shared-slice-known3 : Type 0
+After-shared-slice-known3 = Lts.After-shared-slice-known3 (Reads'.Asked, Reads'.Learnt, Reads'4.Asked, Reads'4.Learnt, Reads'6.Asked, Reads'6.Learnt, Reads.Asked, Reads.Learnt, Reads'5.Asked, Reads'5.Learnt, Reads''.Asked, Reads''.Learnt) Reads'3.Pre Reads'3.Post
 
 abbrev pub After-read-again : Type 0
-After-read-again = Lts.After-read-again (Reads'.Asked, Reads'.Learnt, Reads'3.Asked, Reads'3.Learnt, Reads'5.Asked, Reads'5.Learnt, Reads.Asked, Reads.Learnt, Reads'4.Asked, Reads'4.Learnt) Reads''.Pre Reads''.Post
+After-read-again = Lts.After-read-again (Reads'.Asked, Reads'.Learnt, Reads'4.Asked, Reads'4.Learnt, Reads'6.Asked, Reads'6.Learnt, Reads.Asked, Reads.Learnt, Reads'5.Asked, Reads'5.Learnt, Reads''.Asked, Reads''.Learnt) Reads'3.Pre Reads'3.Post
 
 abbrev pub After-trim-again : Type 0
-After-trim-again = Lts.After-trim-again (Reads'.Asked, Reads'.Learnt, Reads'3.Asked, Reads'3.Learnt, Reads'5.Asked, Reads'5.Learnt, Reads.Asked, Reads.Learnt, Reads'4.Asked, Reads'4.Learnt) Reads''.Pre Reads''.Post
+After-trim-again = Lts.After-trim-again (Reads'.Asked, Reads'.Learnt, Reads'4.Asked, Reads'4.Learnt, Reads'6.Asked, Reads'6.Learnt, Reads.Asked, Reads.Learnt, Reads'5.Asked, Reads'5.Learnt, Reads''.Asked, Reads''.Learnt) Reads'3.Pre Reads'3.Post
 
 abbrev pub After-write-all-arg : Type 0
-After-write-all-arg = Lts.After-write-all-arg (Reads'.Asked, Reads'.Learnt, Reads'3.Asked, Reads'3.Learnt, Reads'5.Asked, Reads'5.Learnt, Reads.Asked, Reads.Learnt, Reads'4.Asked, Reads'4.Learnt) Reads''.Pre Reads''.Post
+After-write-all-arg = Lts.After-write-all-arg (Reads'.Asked, Reads'.Learnt, Reads'4.Asked, Reads'4.Learnt, Reads'6.Asked, Reads'6.Learnt, Reads.Asked, Reads.Learnt, Reads'5.Asked, Reads'5.Learnt, Reads''.Asked, Reads''.Learnt) Reads'3.Pre Reads'3.Post
 
 abbrev pub After-write-all : Type 0
-After-write-all = Lts.After-write-all (Reads'.Asked, Reads'.Learnt, Reads'3.Asked, Reads'3.Learnt, Reads'5.Asked, Reads'5.Learnt, Reads.Asked, Reads.Learnt, Reads'4.Asked, Reads'4.Learnt) Reads''.Pre Reads''.Post
+After-write-all = Lts.After-write-all (Reads'.Asked, Reads'.Learnt, Reads'4.Asked, Reads'4.Learnt, Reads'6.Asked, Reads'6.Learnt, Reads.Asked, Reads.Learnt, Reads'5.Asked, Reads'5.Learnt, Reads''.Asked, Reads''.Learnt) Reads'3.Pre Reads'3.Post
 
 abbrev pub After-print-again : Type 0
-After-print-again = Lts.After-print-again (Reads'.Asked, Reads'.Learnt, Reads'3.Asked, Reads'3.Learnt, Reads'5.Asked, Reads'5.Learnt, Reads.Asked, Reads.Learnt, Reads'4.Asked, Reads'4.Learnt) Reads''.Pre Reads''.Post
+After-print-again = Lts.After-print-again (Reads'.Asked, Reads'.Learnt, Reads'4.Asked, Reads'4.Learnt, Reads'6.Asked, Reads'6.Learnt, Reads.Asked, Reads.Learnt, Reads'5.Asked, Reads'5.Learnt, Reads''.Asked, Reads''.Learnt) Reads'3.Pre Reads'3.Post
 
 abbrev pub After-ask-tables : Type 0
-After-ask-tables = Lts.After-ask-tables (Reads'.Asked, Reads'.Learnt, Reads'3.Asked, Reads'3.Learnt, Reads'5.Asked, Reads'5.Learnt, Reads.Asked, Reads.Learnt, Reads'4.Asked, Reads'4.Learnt) Reads''.Pre Reads''.Post
+After-ask-tables = Lts.After-ask-tables (Reads'.Asked, Reads'.Learnt, Reads'4.Asked, Reads'4.Learnt, Reads'6.Asked, Reads'6.Learnt, Reads.Asked, Reads.Learnt, Reads'5.Asked, Reads'5.Learnt, Reads''.Asked, Reads''.Learnt) Reads'3.Pre Reads'3.Post
+
+abbrev pub After-carry-decided : Type 0
+After-carry-decided = Lts.After-carry-decided (Reads'.Asked, Reads'.Learnt, Reads'4.Asked, Reads'4.Learnt, Reads'6.Asked, Reads'6.Learnt, Reads.Asked, Reads.Learnt, Reads'5.Asked, Reads'5.Learnt, Reads''.Asked, Reads''.Learnt) Reads'3.Pre Reads'3.Post
 
 abbrev pub Need-read-again-requires : Type 0
-Need-read-again-requires = Lts.Need-read-again-requires (Reads'.Asked, Reads'.Learnt, Reads'3.Asked, Reads'3.Learnt, Reads'5.Asked, Reads'5.Learnt, Reads.Asked, Reads.Learnt, Reads'4.Asked, Reads'4.Learnt) Reads''.Pre Reads''.Post
+Need-read-again-requires = Lts.Need-read-again-requires (Reads'.Asked, Reads'.Learnt, Reads'4.Asked, Reads'4.Learnt, Reads'6.Asked, Reads'6.Learnt, Reads.Asked, Reads.Learnt, Reads'5.Asked, Reads'5.Learnt, Reads''.Asked, Reads''.Learnt) Reads'3.Pre Reads'3.Post
 
 abbrev pub Need-trim-again-requires : Type 0
-Need-trim-again-requires = Lts.Need-trim-again-requires (Reads'.Asked, Reads'.Learnt, Reads'3.Asked, Reads'3.Learnt, Reads'5.Asked, Reads'5.Learnt, Reads.Asked, Reads.Learnt, Reads'4.Asked, Reads'4.Learnt) Reads''.Pre Reads''.Post
+Need-trim-again-requires = Lts.Need-trim-again-requires (Reads'.Asked, Reads'.Learnt, Reads'4.Asked, Reads'4.Learnt, Reads'6.Asked, Reads'6.Learnt, Reads.Asked, Reads.Learnt, Reads'5.Asked, Reads'5.Learnt, Reads''.Asked, Reads''.Learnt) Reads'3.Pre Reads'3.Post
 
 abbrev pub Need-slice-aggregate-write-all : Type 0
-Need-slice-aggregate-write-all = Lts.Need-slice-aggregate-write-all (Reads'.Asked, Reads'.Learnt, Reads'3.Asked, Reads'3.Learnt, Reads'5.Asked, Reads'5.Learnt, Reads.Asked, Reads.Learnt, Reads'4.Asked, Reads'4.Learnt) Reads''.Pre Reads''.Post
+Need-slice-aggregate-write-all = Lts.Need-slice-aggregate-write-all (Reads'.Asked, Reads'.Learnt, Reads'4.Asked, Reads'4.Learnt, Reads'6.Asked, Reads'6.Learnt, Reads.Asked, Reads.Learnt, Reads'5.Asked, Reads'5.Learnt, Reads''.Asked, Reads''.Learnt) Reads'3.Pre Reads'3.Post
 
 abbrev pub Need-write-all-requires : Type 0
-Need-write-all-requires = Lts.Need-write-all-requires (Reads'.Asked, Reads'.Learnt, Reads'3.Asked, Reads'3.Learnt, Reads'5.Asked, Reads'5.Learnt, Reads.Asked, Reads.Learnt, Reads'4.Asked, Reads'4.Learnt) Reads''.Pre Reads''.Post
+Need-write-all-requires = Lts.Need-write-all-requires (Reads'.Asked, Reads'.Learnt, Reads'4.Asked, Reads'4.Learnt, Reads'6.Asked, Reads'6.Learnt, Reads.Asked, Reads.Learnt, Reads'5.Asked, Reads'5.Learnt, Reads''.Asked, Reads''.Learnt) Reads'3.Pre Reads'3.Post
 
 abbrev pub Need-print-again-requires : Type 0
-Need-print-again-requires = Lts.Need-print-again-requires (Reads'.Asked, Reads'.Learnt, Reads'3.Asked, Reads'3.Learnt, Reads'5.Asked, Reads'5.Learnt, Reads.Asked, Reads.Learnt, Reads'4.Asked, Reads'4.Learnt) Reads''.Pre Reads''.Post
+Need-print-again-requires = Lts.Need-print-again-requires (Reads'.Asked, Reads'.Learnt, Reads'4.Asked, Reads'4.Learnt, Reads'6.Asked, Reads'6.Learnt, Reads.Asked, Reads.Learnt, Reads'5.Asked, Reads'5.Learnt, Reads''.Asked, Reads''.Learnt) Reads'3.Pre Reads'3.Post
 
 abbrev pub Need-ask-tables-requires : Type 0
-Need-ask-tables-requires = Lts.Need-ask-tables-requires (Reads'.Asked, Reads'.Learnt, Reads'3.Asked, Reads'3.Learnt, Reads'5.Asked, Reads'5.Learnt, Reads.Asked, Reads.Learnt, Reads'4.Asked, Reads'4.Learnt) Reads''.Pre Reads''.Post
+Need-ask-tables-requires = Lts.Need-ask-tables-requires (Reads'.Asked, Reads'.Learnt, Reads'4.Asked, Reads'4.Learnt, Reads'6.Asked, Reads'6.Learnt, Reads.Asked, Reads.Learnt, Reads'5.Asked, Reads'5.Learnt, Reads''.Asked, Reads''.Learnt) Reads'3.Pre Reads'3.Post
+
+abbrev pub Need-carry-decided-requires : Type 0
+Need-carry-decided-requires = Lts.Need-carry-decided-requires (Reads'.Asked, Reads'.Learnt, Reads'4.Asked, Reads'4.Learnt, Reads'6.Asked, Reads'6.Learnt, Reads.Asked, Reads.Learnt, Reads'5.Asked, Reads'5.Learnt, Reads''.Asked, Reads''.Learnt) Reads'3.Pre Reads'3.Post
 
 abbrev pub Need-returns : Type 0
-Need-returns = Lts.Need-returns (Reads'.Asked, Reads'.Learnt, Reads'3.Asked, Reads'3.Learnt, Reads'5.Asked, Reads'5.Learnt, Reads.Asked, Reads.Learnt, Reads'4.Asked, Reads'4.Learnt) Reads''.Pre Reads''.Post
+Need-returns = Lts.Need-returns (Reads'.Asked, Reads'.Learnt, Reads'4.Asked, Reads'4.Learnt, Reads'6.Asked, Reads'6.Learnt, Reads.Asked, Reads.Learnt, Reads'5.Asked, Reads'5.Learnt, Reads''.Asked, Reads''.Learnt) Reads'3.Pre Reads'3.Post
 
 module _ {M : Type 1} where
-  pub spec : (answer : Need-read-again-requires) → (answer : Need-trim-again-requires) → (answer : Need-slice-aggregate-write-all) → (answer : Need-write-all-requires) → (answer : Need-print-again-requires) → (answer : Need-ask-tables-requires) → (answer : Need-returns) → Lts.Closed (Reads'.Asked, Reads'.Learnt, Reads'3.Asked, Reads'3.Learnt, Reads'5.Asked, Reads'5.Learnt, Reads.Asked, Reads.Learnt, Reads'4.Asked, Reads'4.Learnt) Reads''.Pre Reads''.Post M
-  spec = λ answer answer' answer'' answer'3 answer'4 answer'5 answer'6. Lts.spec (Reads'.Asked, Reads'.Learnt, Reads'3.Asked, Reads'3.Learnt, Reads'5.Asked, Reads'5.Learnt, Reads.Asked, Reads.Learnt, Reads'4.Asked, Reads'4.Learnt) Reads''.Pre Reads''.Post answer answer' answer'' answer'3 answer'4 answer'5 answer'6
+  pub spec : (answer : Need-read-again-requires) → (answer : Need-trim-again-requires) → (answer : Need-slice-aggregate-write-all) → (answer : Need-write-all-requires) → (answer : Need-print-again-requires) → (answer : Need-ask-tables-requires) → (answer : Need-carry-decided-requires) → (answer : Need-returns) → Lts.Closed (Reads'.Asked, Reads'.Learnt, Reads'4.Asked, Reads'4.Learnt, Reads'6.Asked, Reads'6.Learnt, Reads.Asked, Reads.Learnt, Reads'5.Asked, Reads'5.Learnt, Reads''.Asked, Reads''.Learnt) Reads'3.Pre Reads'3.Post M
+  spec = λ answer answer' answer'' answer'3 answer'4 answer'5 answer'6 answer'7. Lts.spec (Reads'.Asked, Reads'.Learnt, Reads'4.Asked, Reads'4.Learnt, Reads'6.Asked, Reads'6.Learnt, Reads.Asked, Reads.Learnt, Reads'5.Asked, Reads'5.Learnt, Reads''.Asked, Reads''.Learnt) Reads'3.Pre Reads'3.Post answer answer' answer'' answer'3 answer'4 answer'5 answer'6 answer'7
 
-  pub close : Lts.Closed (Reads'.Asked, Reads'.Learnt, Reads'3.Asked, Reads'3.Learnt, Reads'5.Asked, Reads'5.Learnt, Reads.Asked, Reads.Learnt, Reads'4.Asked, Reads'4.Learnt) Reads''.Pre Reads''.Post M → Statement.statement M
+  pub close : Lts.Closed (Reads'.Asked, Reads'.Learnt, Reads'4.Asked, Reads'4.Learnt, Reads'6.Asked, Reads'6.Learnt, Reads.Asked, Reads.Learnt, Reads'5.Asked, Reads'5.Learnt, Reads''.Asked, Reads''.Learnt) Reads'3.Pre Reads'3.Post M → Statement.statement M
   unfolding Code.routine Running.tablesOf
-  close = λ closed 𝓤 H 𝓜 𝓖 𝓡. Written.close 3 Reads''.ps Reads''.r Reads''.Ghost Reads''.requires Reads''.ensures Reads''.pre-read Reads''.Pinned Reads''.Owned Reads''.post-read record { M = M; 𝓤 = 𝓤; H = H; 𝓜 = 𝓜; 𝓖 = 𝓖; 𝓡 = 𝓡 } Code.env Key.name Code.function (Code.unfolded 𝓤 H 𝓜 𝓡) (λ κs a g. tt) (λ κs. Reads''.owns κs record { M = M; 𝓤 = 𝓤; H = H; 𝓜 = 𝓜; 𝓖 = 𝓖; 𝓡 = 𝓡 }) (Reads''.passes record { M = M; 𝓤 = 𝓤; H = H; 𝓜 = 𝓜; 𝓖 = 𝓖; 𝓡 = 𝓡 }) λ g. closed 𝓤 H (𝓖 .A) (Running.givenOf 𝓤 H 𝓜 𝓖) (Run.Over 𝓤 H 𝓜 𝓖 𝓡 Code.env) (Reads'.known record { M = M; 𝓤 = 𝓤; H = H; 𝓜 = 𝓜; 𝓖 = 𝓖; 𝓡 = 𝓡 } Code.env Symbol'.name Symbol'.routine Code.calls-bench-plans·files·read-again (Met'.met 𝓤 H 𝓜 𝓖 𝓡)) (Reads'3.known record { M = M; 𝓤 = 𝓤; H = H; 𝓜 = 𝓜; 𝓖 = 𝓖; 𝓡 = 𝓡 } Code.env Symbol''.name Symbol''.routine Code.calls-bench-plans·trims·trim-again (Met''.met 𝓤 H 𝓜 𝓖 𝓡)) (Reads'5.known record { M = M; 𝓤 = 𝓤; H = H; 𝓜 = 𝓜; 𝓖 = 𝓖; 𝓡 = 𝓡 } Code.env Symbol'4.name Symbol'4.routine Code.calls-io·write-all (Met'4.met 𝓤 H 𝓜 𝓖 𝓡)) (Reads.known record { M = M; 𝓤 = 𝓤; H = H; 𝓜 = 𝓜; 𝓖 = 𝓖; 𝓡 = 𝓡 } Code.env Symbol.name Symbol.routine Code.calls-bench-plans·files·print-again (Met.met 𝓤 H 𝓜 𝓖 𝓡)) (Reads'4.known record { M = M; 𝓤 = 𝓤; H = H; 𝓜 = 𝓜; 𝓖 = 𝓖; 𝓡 = 𝓡 } Code.env Symbol'3.name Symbol'3.routine Code.calls-bench-plans·verdicts·ask-tables (Met'3.met 𝓤 H 𝓜 𝓖 𝓡))
+  close = λ closed 𝓤 H 𝓜 𝓖 𝓡. Written.close 4 Reads'3.ps Reads'3.r Reads'3.Ghost Reads'3.requires Reads'3.ensures Reads'3.pre-read Reads'3.Pinned Reads'3.Owned Reads'3.post-read record { M = M; 𝓤 = 𝓤; H = H; 𝓜 = 𝓜; 𝓖 = 𝓖; 𝓡 = 𝓡 } Code.env Key.name Code.function (Code.unfolded 𝓤 H 𝓜 𝓡) (λ κs a g. tt) (λ κs. Reads'3.owns κs record { M = M; 𝓤 = 𝓤; H = H; 𝓜 = 𝓜; 𝓖 = 𝓖; 𝓡 = 𝓡 }) (Reads'3.passes record { M = M; 𝓤 = 𝓤; H = H; 𝓜 = 𝓜; 𝓖 = 𝓖; 𝓡 = 𝓡 }) λ g. closed 𝓤 H (𝓖 .A) (Running.givenOf 𝓤 H 𝓜 𝓖) (Run.Over 𝓤 H 𝓜 𝓖 𝓡 Code.env) (Reads'.known record { M = M; 𝓤 = 𝓤; H = H; 𝓜 = 𝓜; 𝓖 = 𝓖; 𝓡 = 𝓡 } Code.env Symbol'.name Symbol'.routine Code.calls-bench-plans·files·read-again (Met'.met 𝓤 H 𝓜 𝓖 𝓡)) (Reads'4.known record { M = M; 𝓤 = 𝓤; H = H; 𝓜 = 𝓜; 𝓖 = 𝓖; 𝓡 = 𝓡 } Code.env Symbol'3.name Symbol'3.routine Code.calls-bench-plans·trims·trim-again (Met'3.met 𝓤 H 𝓜 𝓖 𝓡)) (Reads'6.known record { M = M; 𝓤 = 𝓤; H = H; 𝓜 = 𝓜; 𝓖 = 𝓖; 𝓡 = 𝓡 } Code.env Symbol'5.name Symbol'5.routine Code.calls-io·write-all (Met'5.met 𝓤 H 𝓜 𝓖 𝓡)) (Reads.known record { M = M; 𝓤 = 𝓤; H = H; 𝓜 = 𝓜; 𝓖 = 𝓖; 𝓡 = 𝓡 } Code.env Symbol.name Symbol.routine Code.calls-bench-plans·files·print-again (Met.met 𝓤 H 𝓜 𝓖 𝓡)) (Reads'5.known record { M = M; 𝓤 = 𝓤; H = H; 𝓜 = 𝓜; 𝓖 = 𝓖; 𝓡 = 𝓡 } Code.env Symbol'4.name Symbol'4.routine Code.calls-bench-plans·verdicts·ask-tables (Met'4.met 𝓤 H 𝓜 𝓖 𝓡)) (Reads''.known record { M = M; 𝓤 = 𝓤; H = H; 𝓜 = 𝓜; 𝓖 = 𝓖; 𝓡 = 𝓡 } Code.env Symbol''.name Symbol''.routine Code.calls-bench-plans·trims·carry-decided (Met''.met 𝓤 H 𝓜 𝓖 𝓡))

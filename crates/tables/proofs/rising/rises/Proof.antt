@@ -8,8 +8,8 @@ use Rattle.laws.specs.Sets.{every}
 use Rattle.laws.proofs.Loops.{every-none, every-next, every-stop, every-done}
 use Rattle.model.specs.SoundTest.{risesAt}
 use Rattle.tables.proofs.ListTest.{rises-test}
-use Rattle.tables.proofs.checks.rises.Statement.{statement}
-use Rattle.tables.proofs.checks.rises.Tie as tie
+use Rattle.tables.proofs.rising.rises.Statement.{statement}
+use Rattle.tables.proofs.rising.rises.Tie as tie
 
 abbrev Inv-loop : tie.InvT-loop
 Inv-loop entries from k i₀ i = every (λ j. risesAt entries (from + j)) i ≡ true
