@@ -82,14 +82,15 @@ module _ (n : ℕ) (olds table places : List ℕ) where
       pub room : n ≤ length places
       room = carrying-iff n olds table (length places) (carried n olds table) .0 goes-on .1
 
-      module _ {blank : List ℕ} (v : Filled n (λ _. FFFF) places blank) where
-        pub may-place : (length olds ≤ length table) × Distinct (length olds) olds (length blank)
-        may-place =
-            let f = fitting in (
-              f .long,
-              record { inside = λ i l. omega (arith, f .below i l, v .same, room); rise = fits-rise n olds (length table) f },
-            )
+      pub may-place : {k : ℕ} → k ≡ length places
+          → (length olds ≤ length table) × Distinct (length olds) olds k
+      may-place same =
+          let f = fitting in (
+            f .long,
+            record { inside = λ i l. omega (arith, f .below i l, same, room); rise = fits-rise n olds (length table) f },
+          )
 
-        pub gives : {after : List ℕ} → Placed (length olds) olds (λ i. getD table i 0) blank after → Replied Given after
-        unfolding answer left
-        gives {after} w = replied Given after (rw (goes-on, carried-placed n olds table places fitting v w room))
+      pub gives : {blank after : List ℕ} → Filled n (λ _. FFFF) places blank → Placed (length olds) olds (λ i. getD table i 0) blank after
+          → Replied Given after
+      unfolding answer left
+      gives {after = after} v w = replied Given after (rw (goes-on, carried-placed n olds table places fitting v w room))

@@ -30,7 +30,7 @@ place-all-requires c κs =
     let a = past-admit .before .before .before .before .args in
     may-place (a .n) (a .olds .now) (a .table .now) (a .places .now) (past-admit .admit .ensures _ refl)
     (past-fill .before .before .enum-told .given .1)
-    (past-fill .fill .ensures)
+    (past-fill .fill .ensures .same)
 
 returns : tie.Need-returns
 returns c =

@@ -6,13 +6,13 @@ use Rattle.carry.proofs.admission.admit.Statement.{statement}
 use Rattle.carry.proofs.admission.admit.Tie as tie
 
 returns : tie.Need-returns
-returns c = λ T. denies-none _ _ _ T (c .if1 .taken)
+returns c = λ T. denies-none _ _ _ T (omega (arith, c .if1 .taken))
 
 returns-2 : tie.Need-returns-2
-returns-2 c = λ T. denies-many _ _ _ T (c .if2 .taken)
+returns-2 c = λ T. denies-many _ _ _ T (omega (arith, c .if2 .taken))
 
 returns-3 : tie.Need-returns-3
-returns-3 c = λ T. denies-short _ _ _ T (c .if3 .taken)
+returns-3 c = λ T. denies-short _ _ _ T (omega (arith, c .if3 .taken))
 
 rises-below-requires : tie.Need-rises-below-requires
 rises-below-requires c κs = search needs
@@ -24,7 +24,8 @@ returns-5 : tie.Need-returns-5
 returns-5 c =
     let past-if3 = c .before .before .before in
     λ T e. denies-cramped _ _ _ T (c .before .before .rises-below .ensures) (omega (arith, past-if3 .before .before .if1 .left))
-    (omega (arith, past-if3 .before .if2 .left)) (omega (arith, past-if3 .if3 .left)) (c .before .if4 .left) e (c .if5 .taken)
+    (omega (arith, past-if3 .before .if2 .left)) (omega (arith, past-if3 .if3 .left)) (c .before .if4 .left) e
+    (omega (arith, c .if5 .taken))
 
 returns-6 : tie.Need-returns-6
 returns-6 c =
