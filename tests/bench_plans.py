@@ -310,8 +310,16 @@ def small_maps():
                 yield carry_case(olds, (5, LAST, 0), (exact, exact._replace(places=n - 1)))
 
 
+def kept_of_six():
+    """Every set of states that can be kept of six: with nothing to spare, and with longer tables."""
+    for count in range(7):
+        for olds in itertools.combinations(range(6), count):
+            exact = Carry(CARRYING, 6, count, count, 6, LAST)
+            yield carry_case(olds, (7, 0, LAST, 1, 2 ** 15, 6, 8, 9), (exact, exact._replace(table=count + 2, places=9, holding=0)))
+
+
 def lengths(n, count):
-    """Tables and places one short, exact and longer, both short, and none at all; then old numbers that do not fit."""
+    """Tables and places one short, exact and longer, both short, and none at all; then other numbers as the old n."""
     for entries in count - 1, count, count + 3:
         for places in 0, n - 1, n, n + 2:
             yield Carry(CARRYING, n, count, entries, places)
@@ -321,13 +329,15 @@ def lengths(n, count):
 
 
 def carry_cases():
-    """Maps that rise or do not, entries about n and as large as can be, tables of every length, and as many states as there can be."""
+    """Maps that rise or do not, entries about n and as large as can be, tables of several lengths, and as many states as there can be."""
     yield from small_maps()
+    yield from kept_of_six()
     full = STATES - 1
     yield carry_case((), (1, 2, 3), (question for question in lengths(6, 0) if question.table >= 0))
     yield carry_case((1, 2, 4, 5), (9, LAST, 0, 8, 3, 3, 3), lengths(6, 4))
     for olds in (1, 2, 2, 5), (1, 4, 2, 5), (5, 4, 2, 1), (0, 0, 0, 0), (1, 2, 4, 6), (6, 7, 8, 9), (1, 2, 4, LAST), (LAST, 1, 2, 4):
-        yield carry_case(olds, (9, LAST, 0, 8), (Carry(CARRYING, 6, 4, 4, places, holding) for places, holding in ((6, 1), (8, 0), (5, LAST))))
+        lent = (6, 1), (8, 0), (5, LAST)
+        yield carry_case(olds, (9, LAST, 0, 8), (Carry(CARRYING, 6, 4, 4, places, holding) for places, holding in lent))
     whole, entries = range(STATES), [(i * 77) % 2 ** 16 for i in range(STATES + 2)]
     for n in STATES - 1, STATES, STATES + 1:
         questions = (Carry(CARRYING, n, STATES, count, places) for count in (full, STATES) for places in (n - 1, n, n + 2))

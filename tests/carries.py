@@ -72,17 +72,20 @@ def wrong_random():
     return None
 
 
+def commands(plan):
+    return [NONE if c is None else c for c in reference.decide(plan)[1]]
+
+
 def wrong_trimmed():
     """The map of a trimmed plan, and its chosen commands, which are those of the whole plan at the states that are kept."""
     met = 0
     for plan in *shapes(), *trimmed_shapes():
         new, olds = reference.trim(plan)
-        chosen, chosen_before = reference.decide(new)[1], reference.decide(plan)[1]
-        entries = [NONE if c is None else c for c in chosen]
+        chosen, chosen_before = commands(new), commands(plan)
         kept = reference.entered(plan)
-        if answer(plan.n, olds, entries) != [chosen_before[s] if s in kept and chosen_before[s] is not None else NONE for s in range(plan.n)]:
+        if answer(plan.n, olds, chosen) != [chosen_before[s] if s in kept else NONE for s in range(plan.n)]:
             return f"other commands: {plan}"
-        met += 1 < len(olds) < plan.n and any(c is not None for c in chosen)
+        met += 1 < len(olds) < plan.n and any(c != NONE for c in chosen)
     return None if met >= FEW else f"too few plans to tell: {met}"
 
 

@@ -1,7 +1,8 @@
-//! Times the library beside the peer, by turns: the same bytes in, the same bytes out. For the contest, the warning time and trimming the
-//! program `bench_plans` stands in the library's place.
+//! Times the library beside the peer, by turns: the same bytes in, the same bytes out. For the contest, the warning time, trimming and
+//! carrying back the program `bench_plans` stands in the library's place.
 mod asked;
 mod beside;
+mod carry;
 mod contest;
 mod printed;
 mod run;
@@ -10,6 +11,7 @@ mod warning;
 
 use crate::calls::Peer;
 use crate::case::CALLS;
+use carry::carried;
 use contest::contested;
 use run::{verified, Verified, BATCH, BATCHES};
 use std::process::{Command, Stdio};
@@ -33,7 +35,8 @@ fn print_pairs(pairs: impl Iterator<Item = Result<[f64; 2], String>>) -> Result<
     Ok(())
 }
 
-/// One run: for each plan a line of times, and then for each plan of the contest, of the warning time and of trimming.
+/// One run: for each plan a line of times, and then for each plan of the contest, of the warning time and of trimming, and for each map of
+/// carrying back.
 pub fn times(bench_plans: &str) -> Result<(), String> {
     let mut peer = Peer::new();
     for mut plan in verified(&mut peer)? {
@@ -44,7 +47,9 @@ pub fn times(bench_plans: &str) -> Result<(), String> {
     let warnings = warned(bench_plans)?;
     print_pairs(warnings.iter().map(|plan| plan.times(bench_plans)))?;
     let trims = trimmed(bench_plans)?;
-    print_pairs(trims.iter().map(|plan| plan.times(bench_plans)))
+    print_pairs(trims.iter().map(|plan| plan.times(bench_plans)))?;
+    let maps = carried(bench_plans)?;
+    print_pairs(maps.iter().map(|map| map.times(bench_plans)))
 }
 
 /// The times of a run of a program that has the same plans.
@@ -126,16 +131,19 @@ pub fn bench(bench_plans: &str, programs: &[String]) -> Result<(), String> {
     let contests = contested(bench_plans)?;
     let warnings = warned(bench_plans)?;
     let trims = trimmed(bench_plans)?;
+    let maps = carried(bench_plans)?;
     let runs = programs.len();
     let of_calls = 2 * CALLS.len() * plans.len();
     let of_contests = 2 * contests.len();
     let of_warnings = 2 * warnings.len();
     let of_trims = 2 * trims.len();
-    let count = of_calls + of_contests + of_warnings + of_trims;
+    let of_maps = 2 * maps.len();
+    let count = of_calls + of_contests + of_warnings + of_trims + of_maps;
     let least = least(programs, bench_plans, count)?;
     let (call_times, others) = least.split_at(of_calls);
     let (contest_times, others) = others.split_at(of_contests);
-    let (warning_times, trim_times) = others.split_at(of_warnings);
+    let (warning_times, others) = others.split_at(of_warnings);
+    let (trim_times, map_times) = others.split_at(of_trims);
     print(&plans, call_times, runs);
     println!();
     contest::print(&contests, contest_times, runs);
@@ -143,5 +151,7 @@ pub fn bench(bench_plans: &str, programs: &[String]) -> Result<(), String> {
     warning::print(&warnings, warning_times, runs);
     println!();
     trim::print(&trims, trim_times, runs);
+    println!();
+    carry::print(&maps, map_times, runs);
     Ok(())
 }

@@ -1,6 +1,6 @@
 //! The library beside a planner of its own: `check` compares them byte for byte, `times` times them, and
-//! `bench` makes tables of the times of several builds of this program. The contest, the warning time and trimming, which the library does
-//! not have, are asked of the program `bench_plans`.
+//! `bench` makes tables of the times of several builds of this program. The contest, the warning time, trimming and carrying back, which
+//! the library does not have, are asked of the program `bench_plans`.
 mod bench;
 mod calls;
 mod case;

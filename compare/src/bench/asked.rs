@@ -1,5 +1,4 @@
 //! The program `bench_plans`, which is asked on standard input: `crates/bench_plans/src/main.rt` says how.
-use crate::generate::draft::Held;
 use crate::planner::plan::Size;
 use crate::planner::refusal::Refusal;
 use std::io::Write;
@@ -14,11 +13,18 @@ pub const WARNING: usize = 3;
 pub const TRIMMING: usize = 4;
 /// Trimming, with its answer alone.
 pub const TRIMMING_ALONE: usize = 5;
+/// Carrying back, with every place that it was lent printed as well.
+pub const CARRYING: usize = 6;
+/// Carrying back, with its answer alone.
+pub const CARRYING_ALONE: usize = 7;
 /// Names no call: the program reads such a question and goes on.
 const NO_CALL: usize = 9;
 
 /// Every question has as many bytes, the call in the first two.
 const LENGTH: usize = 18;
+
+/// The most questions of a case: how many there are is told in two bytes.
+pub const MOST: usize = 65_535;
 
 #[derive(Clone, Copy)]
 pub struct Question {
@@ -46,15 +52,22 @@ impl Question {
         Question::of(call, &rest)
     }
 
+    /// Either call of carrying back: the old n, how many entries map and table have and how many places are lent, and what each of these
+    /// holds.
+    pub fn carrying(call: usize, n: usize, lengths: [usize; 3], holding: u16) -> Question {
+        let lengths = [entries(&lengths), entries(&[holding.into()])].concat();
+        let n = (n as u64).to_be_bytes();
+        Question::of(call, &[&n, &lengths[..]].concat())
+    }
+
     /// The same bytes under another call, so that it is passed over.
     pub fn of_no_call(self) -> Question {
         Question::of(NO_CALL, &self.bytes[2..])
     }
 }
 
-/// One case: the plan's file, with room for any plan lent, and the questions.
-pub fn input(held: &Held, questions: &[Question]) -> Vec<u8> {
-    let file = held.file();
+/// One case: a file, with room for any plan lent, and the questions.
+pub fn input(file: &[u8], questions: &[Question]) -> Vec<u8> {
     let room = [Size::STATES, Size::COMMANDS, Size::OUTCOMES];
     let mut numbers = vec![1, file.len()];
     numbers.extend(room);
@@ -69,7 +82,8 @@ pub fn input(held: &Held, questions: &[Question]) -> Vec<u8> {
 
 /// Two bytes each.
 fn entries(numbers: &[usize]) -> Vec<u8> {
-    let entries = numbers.iter().map(|&number| number as u16);
+    let entries = numbers.iter().map(|&number| u16::try_from(number));
+    let entries = entries.map(|entry| entry.expect("two bytes hold the number"));
     entries.flat_map(u16::to_be_bytes).collect()
 }
 
@@ -124,4 +138,22 @@ fn a_trimming_has_six_numbers_and_is_as_long() {
     assert_eq!(question.bytes[..], [&[0, 4], &numbers[..]].concat());
     let passed_over = question.of_no_call().bytes;
     assert_eq!(passed_over[..], [&[0, 9], &numbers[..]].concat());
+}
+
+#[test]
+fn carrying_back_has_a_wide_number_and_four_and_is_as_long() {
+    let question = Question::carrying(CARRYING, (1 << 48) + 6, [1_024, 1_025, 2_048], 32_775);
+    let lengths = [4, 0, 4, 1, 8, 0, 128, 7];
+    let numbers = [&[0, 1, 0, 0, 0, 0, 0, 6], &lengths[..]].concat();
+    assert_eq!(question.bytes[..], [&[0, 6], &numbers[..]].concat());
+}
+
+#[test]
+fn a_case_has_its_file_and_all_its_questions() {
+    let question = Question::new(CONTEST, 1, 2);
+    let input = input(&[8, 9], &vec![question; MOST]);
+    let numbers = [0, 1, 0, 2, 4, 0, 16, 0, 64, 0, 255, 255];
+    assert_eq!(input[..14], [&numbers[..], &[8, 9]].concat());
+    assert_eq!(input.len(), 14 + MOST * LENGTH);
+    assert_eq!(input[input.len() - LENGTH..], question.bytes);
 }

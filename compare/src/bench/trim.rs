@@ -1,16 +1,12 @@
 //! Trimming: the program `bench_plans` beside the peer, both on tables and with the soundness test.
 use super::asked::{self, Question, TRIMMING, TRIMMING_ALONE};
-use super::beside::{self, Beside};
+use super::beside::{self, Beside, HELD, OLD};
 use super::printed;
 use crate::generate::draft::{Draft, Held};
 use crate::generate::trims;
 use crate::planner::plan::{Plan, Size};
 use crate::planner::refusal::Refusal;
 use crate::planner::trim::{trim, Lent, Space};
-
-/// What every place holds that is lent where times are taken, and all that places hold in turn where answers are compared.
-const OLD: u16 = 7;
-const HELD: [u16; 5] = [OLD, 0, 1, 1 << 15, u16::MAX];
 
 /// The most places that the program lends, of rows, first outcomes, outcomes, map and scratch.
 const MOST: [usize; 5] = [
@@ -34,11 +30,11 @@ fn line(answer: Result<Size, Refusal>) -> String {
     }
 }
 
-/// All that the program must print: the answer, the tables as they are left, and of a trimmed plan that it comes back and how it is
-/// decided.
-fn all_lines(answer: Result<Size, Refusal>, lent: &Lent) -> String {
+/// All that the program must print: the answer, the tables as they are left, and of a trimmed plan that it comes back, how it is decided,
+/// and its commands for the `n` old states.
+fn all_lines(n: usize, answer: Result<Size, Refusal>, lent: &Lent) -> String {
     let goes_on = answer.map(|size| {
-        let decided = printed::decided(&lent.plan(size));
+        let decided = printed::decided(&lent.plan(size), n, &lent.map[..size.n]);
         format!("again same\n{decided}")
     });
     line(answer) + &printed::lent(lent) + &goes_on.unwrap_or_default()
@@ -55,7 +51,8 @@ fn asked_for(
     let answer = trim(plan, &mut lent, space);
     let alone = Question::trimming(TRIMMING_ALONE, places, holding);
     let all = Question::trimming(TRIMMING, places, holding);
-    [(alone, line(answer)), (all, all_lines(answer, &lent))]
+    let lines = all_lines(plan.size.n, answer, &lent);
+    [(alone, line(answer)), (all, lines)]
 }
 
 /// Each table as long as it must be, each longer, each as long as can be, each one short, scratch for the kept states alone, and none.
@@ -159,9 +156,10 @@ fn all_is_printed() {
     let [_, (_, lines)] = asked_for(&held.plan(), [3, 2, 3, 2, 4], OLD, &mut space);
     let lent = "rows 0 0 0 2 1 - 7 7 7\nfirsts 0 7\noutcomes 0 1 7\nmap 1 2\nscratch 0 0 0 7\n";
     let decided = "ranks - -\ncommands 0 -\nmarks 0 0\ntally 1 0 1 0 0 0\n";
+    let back = "carried\ncommands - 0 -\n";
     assert_eq!(
         lines,
-        format!("trimmed 2 1 2 0\n{lent}again same\n{decided}")
+        format!("trimmed 2 1 2 0\n{lent}again same\n{decided}{back}")
     );
     let [_, (_, lines)] = asked_for(&held.plan(), [1, 2, 0, 2, 3], OLD, &mut space);
     let lent = "rows 7 7 7\nfirsts 7 7\noutcomes\nmap 7 7\nscratch 7 7 7\n";

@@ -1,4 +1,5 @@
 //! Inputs made from a seed: plans of many shapes, damaged files and tables, slices of any length.
+pub mod carries;
 pub mod contests;
 pub mod damage;
 pub mod draft;

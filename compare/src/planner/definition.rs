@@ -1,5 +1,5 @@
-//! Verdicts, rounds and contests by the words of documents 01 and 02, and what trimming keeps, with no thought of time: what the planner's
-//! tests hold it to.
+//! Verdicts, rounds and contests by the words of documents 01 and 02, what trimming keeps, and what is carried back, with no thought of
+//! time: what the planner's tests hold it to.
 use super::decide::Tally;
 use super::plan::{Plan, FAILING, NONE, ORDINARY, REST};
 
@@ -179,4 +179,17 @@ pub fn kept(plan: &Plan) -> Vec<usize> {
         }
     }
     (0..n).filter(|&s| kept[s]).collect()
+}
+
+/// The table that is carried back to `n` states, each of which is looked up in the map; nothing if `n`, the map and the table do not fit
+/// together.
+pub fn carried(n: usize, olds: &[u16], table: &[u16]) -> Option<Vec<u16>> {
+    let rises = (1..olds.len()).all(|i| olds[i - 1] < olds[i]);
+    let below = olds.iter().all(|&old| usize::from(old) < n);
+    let fits = (1..=1024).contains(&n) && rises && below && olds.len() <= table.len();
+    let entry = |s: usize| {
+        let place = olds.iter().position(|&old| usize::from(old) == s);
+        place.map_or(NONE, |i| table[i])
+    };
+    fits.then(|| (0..n).map(entry).collect())
 }

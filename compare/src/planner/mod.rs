@@ -1,5 +1,6 @@
 //! A planner of its own, written from documents 01 and 02 alone: what the library is held to, and timed beside.
 pub mod boundary;
+pub mod carry;
 pub mod contest;
 pub mod decide;
 #[cfg(test)]

@@ -1,4 +1,5 @@
 //! The planner held to documents 01 and 02: case A, the bench plans, and the definitions on plans of every shape.
+mod carry;
 mod contest;
 mod stuck;
 mod trim;

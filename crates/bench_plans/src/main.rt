@@ -5,12 +5,13 @@
 // file; how many rows, first outcomes and outcomes are lent for it; how many questions there are; the file; and the questions. A question
 // is the call, and then, of eight bytes each, a state and a number: for 0, deciding, and 1, the search, how many places are lent of each
 // table that the call writes, for 2, the contest, how many moves, for 3, the warning time, how many seconds a move takes. For 4 and 5,
-// trimming, it is the call and, of two bytes each, how many places are lent of rows, first outcomes, outcomes, map and scratch, what every
-// place of these holds, and two numbers that are passed over; for 5 the answer alone is printed, for 4 every table lent as well and what
-// comes of the trimmed plan. For 6 and 7, carrying back, it is the call, of eight bytes the old n, and of two bytes each how many entries
-// map and table have, how many places are lent, and what every one of these holds; map and table are the entries that the file's bytes
-// are, plan or not, and for 7 the answer alone is printed. Other calls are passed over. On a file that is refused the questions are asked of a plan that is not sound:
-// it has a state for each row that is lent, and its start is none of them. Past the end of the input every byte is 0.
+// trimming, it is the call and, of two bytes each, how many places are lent of rows, first outcomes, outcomes, map and scratch, what
+// every place of these holds, and two numbers that are passed over; for 5 the answer alone is printed, for 4 every table lent as well and
+// what comes of the trimmed plan. For 6 and 7, carrying back, it is the call, of eight bytes the old n, and of two bytes each how many
+// entries map and table have, how many places are lent, and what every one of these holds; map and table are the entries that the file's
+// bytes are, plan or not, and for 7 the answer alone is printed. Other calls are passed over. On a file that is refused the questions are
+// asked of a plan that is not sound: it has a state for each row that is lent, and its start is none of them. Past the end of the input
+// every byte is 0.
 ghost use Prim.Native.Nat.{_≤_};
 ghost use Rattle.model.specs.File.{maxStates, maxCommands, maxOutcomes};
 use crate::files::print_again;

@@ -10,15 +10,15 @@ use borrow.Author.Tests.{eqb-true, eqb-false}
 use Rattle.laws.specs.Entry.{FFFF}
 use Rattle.laws.specs.Filled.{Filled}
 use Rattle.laws.specs.Lists.{overwrite}
-use Rattle.laws.specs.Placed.{Distinct, Placed}
+use Rattle.laws.specs.Placed.{RisingPlaces, Placed}
 use Rattle.laws.proofs.Defaults.{getD-inside}
 use Rattle.laws.proofs.Fills.{filled-is}
 use Rattle.laws.proofs.Sets.{lowest-some, lowest-none}
-use Rattle.model.specs.Refusal.{given, refused, answer}
+use Rattle.model.specs.Refusal.{given, answer}
 use Rattle.model.specs.Calls.{left}
 use Rattle.model.specs.Carry.{newIn, entryAt, carried, carrying, AfterCarry, carryCall}
 use Rattle.model.specs.Carried.{Carried}
-use Rattle.model.proofs.CarryCalls.{CarryFits, fits-iff, fits-rise, carrying-iff}
+use Rattle.model.proofs.CarryCalls.{CarrySound, carry-sound-iff, map-rise, carrying-iff}
 use Rattle.model.proofs.CarryTables.{carried-back}
 use Rattle.tables.specs.declared.Refusal.{Refusal}
 use Rattle.tables.specs.declared.admission.Admission.{Admission}
@@ -28,7 +28,7 @@ use Rattle.carry.specs.declared.CarryAnswer.{CarryAnswer}
 use Rattle.carry.specs.declared.CarryAnswer.the-variants.{Given, Refused}
 use Rattle.carry.specs.Answers.{answerOf, afterCarry}
 
-module _ (n : ℕ) (olds table places : List ℕ) {blank after : List ℕ} (f : CarryFits n olds (length table))
+module _ (n : ℕ) (olds table places : List ℕ) {blank after : List ℕ} (f : CarrySound n olds (length table))
     (v : Filled n (λ _. FFFF) places blank) (w : Placed (length olds) olds (λ i. getD table i 0) blank after) where
   -- a place below n, by whether the map has it
   entry-placed : (s : ℕ) → s < n → getD after s 0 ≡ entryAt table (newIn olds s)
@@ -76,18 +76,18 @@ module _ (n : ℕ) (olds table places : List ℕ) where
       goes-on : carrying n olds table (length places) ≡ given (carried n olds table)
       goes-on = answers ∙ rw q
 
-      fitting : CarryFits n olds (length table)
-      fitting = fits-iff n olds (length table) .0 (carrying-iff n olds table (length places) (carried n olds table) .0 goes-on .0)
+      fitting : CarrySound n olds (length table)
+      fitting = carry-sound-iff n olds (length table) .0 (carrying-iff n olds table (length places) (carried n olds table) .0 goes-on .0)
 
       pub room : n ≤ length places
       room = carrying-iff n olds table (length places) (carried n olds table) .0 goes-on .1
 
       pub may-place : {k : ℕ} → k ≡ length places
-          → (length olds ≤ length table) × Distinct (length olds) olds k
+          → (length olds ≤ length table) × RisingPlaces (length olds) olds k
       may-place same =
           let f = fitting in (
             f .long,
-            record { inside = λ i l. omega (arith, f .below i l, same, room); rise = fits-rise n olds (length table) f },
+            record { inside = λ i l. omega (arith, f .below i l, same, room); rise = map-rise n olds (length table) f },
           )
 
       pub gives : {blank after : List ℕ} → Filled n (λ _. FFFF) places blank → Placed (length olds) olds (λ i. getD table i 0) blank after

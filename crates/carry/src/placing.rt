@@ -1,12 +1,12 @@
-// Each entry under its old number.
+// Where the entries go.
 ghost use Prim.Native.Nat.{_≤_};
 ghost use lib.ListN.{length, getD};
-ghost use Rattle.laws.specs.Placed.{Distinct, Placed};
+ghost use Rattle.laws.specs.Placed.{RisingPlaces, Placed};
 use tables::entries::at;
 
 // Entry i of the table goes to the place that entry i of `olds` names.
 pub fn place_all(olds: &[u16], table: &[u16], places: &mut [u16])
-    requires { ⌜ (length (now olds) ≤ length (now table)) × Distinct (length (now olds)) (now olds) (length (now places)) ⌝ }
+    requires { ⌜ (length (now olds) ≤ length (now table)) × RisingPlaces (length (now olds)) (now olds) (length (now places)) ⌝ }
     ensures { λ _. ⌜ Placed (length (now (olds .entry))) (now (olds .entry)) (λ i. getD (now (table .entry)) i 0) (now (places .entry))
         (now (places .exit)) ⌝ }
 {

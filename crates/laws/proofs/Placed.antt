@@ -6,14 +6,14 @@ use native.Mathlib.Decide.{decLt}
 use native.Mathlib.Omega.{arith}
 use lib.ListN.{length, getD, set, length-set}
 use lib.Seq.{getD-set-same, getD-set-other}
-use Rattle.laws.specs.Placed.{Distinct, Placed}
+use Rattle.laws.specs.Placed.{RisingPlaces, Placed}
 
 module _ {at : List ℕ} {f : ℕ → ℕ} {l₀ : List ℕ} where
   pub placed-none : Placed 0 at f l₀ l₀
   placed-none = record { same = refl; named = λ i l. absurd (omega arith); others = λ x h. refl }
 
   -- one entry more
-  pub placed-next : {n i : ℕ} {l : List ℕ} → Placed i at f l₀ l → Distinct n at (length l₀) → i < n → {x v : ℕ} → x ≡ getD at i 0 → v ≡ f i
+  pub placed-next : {n i : ℕ} {l : List ℕ} → Placed i at f l₀ l → RisingPlaces n at (length l₀) → i < n → {x v : ℕ} → x ≡ getD at i 0 → v ≡ f i
       → {l′ : List ℕ} → l′ ≡ set l x v → Placed (i + 1) at f l₀ l′
   placed-next {n} {i} {l} c r h p q w = rw (w, p, q) (record {
     same = length-set l s (f i) ∙ c .same;

@@ -5,7 +5,7 @@ use Prim.Native.Nat.{ℕ, _<_}
 use lib.ListN.{length, getD}
 
 -- the first n of the names rise, so no two are the same, and are places of the table
-pub record Distinct (n : ℕ) (at : List ℕ) (places : ℕ) : Type 0 where
+pub record RisingPlaces (n : ℕ) (at : List ℕ) (places : ℕ) : Type 0 where
   pub inside : (i : ℕ) → i < n → getD at i 0 < places
   pub rise : (i j : ℕ) → i < j → j < n → getD at i 0 < getD at j 0
 

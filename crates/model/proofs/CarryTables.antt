@@ -1,10 +1,10 @@
 -- What it means that carrying back is answered, of the table that it leaves; and of what trimming and deciding leave.
-use mathlib.Core.Path.{_≡_, refl, sym, ap, subst, _∙_}
+use mathlib.Core.Path.{_≡_, refl, sym, ap, _∙_}
 use mathlib.Core.Bool.{true}
 use mathlib.Core.List.{List}
 use mathlib.Core.Logic.{_↔_}
-use mathlib.Core.Option.{Option, none, some}
-use Prim.Native.Nat.{ℕ, suc, _-_, _<_, _≤_}
+use mathlib.Core.Option.{none, some}
+use Prim.Native.Nat.{ℕ, suc, _<_, _≤_}
 use native.Mathlib.Omega.{arith}
 use lib.Dec.{eqb}
 use lib.ListN.{length, getD, take, length-map}
@@ -27,7 +27,7 @@ use Rattle.model.specs.Calls.{left, commandTable, decideCall}
 use Rattle.model.specs.Demand3.{readEntry}
 use Rattle.model.specs.Trim.{trimCall, afterTrimming}
 use Rattle.model.specs.Trimmed.{Enters, Trimmed}
-use Rattle.model.specs.Carry.{newIn, entryAt, carried, picked, fits, carryCall}
+use Rattle.model.specs.Carry.{newIn, entryAt, carried, picked, CarryUnsound, carryCall}
 use Rattle.model.specs.Carried.{KeptOf, Carried}
 use Rattle.model.proofs.Answers.{answer-inv}
 use Rattle.model.proofs.Answering.{deciding-iff}
@@ -36,17 +36,17 @@ use Rattle.model.proofs.SoundFacts.{sound-facts}
 use Rattle.model.proofs.Delivered.{entry-written}
 use Rattle.model.proofs.TrimLeaves.{trims}
 use Rattle.model.proofs.TrimTables.{trimmed-tables}
-use Rattle.model.proofs.CarryCalls.{CarryFits, fits-iff, fits-rise, carrying-iff}
+use Rattle.model.proofs.CarryCalls.{CarrySound, carry-sound-iff, map-rise, sound-not, carrying-iff}
 
 -- where the map has an old number, and where it has none
-module _ {n : ℕ} {olds : List ℕ} {entries : ℕ} (f : CarryFits n olds entries) where
+module _ {n : ℕ} {olds : List ℕ} {entries : ℕ} (f : CarrySound n olds entries) where
   pub new-at : (i : ℕ) → i < length olds → newIn olds (getD olds i 0) ≡ some i
   unfolding newIn
   new-at i l =
       lowest-eq (λ j. eqb (getD olds j 0) (getD olds i 0)) (length olds) (some i) (
         l,
         eq-eqb (getD olds i 0) (getD olds i 0) refl,
-        λ j k. ne-eqb (getD olds j 0) (getD olds i 0) (λ e. omega (arith, fits-rise n olds entries f j i k l)),
+        λ j k. ne-eqb (getD olds j 0) (getD olds i 0) (λ e. omega (arith, map-rise n olds entries f j i k l)),
       )
 
 pub new-none : (olds : List ℕ) (s : ℕ) → ((i : ℕ) → i < length olds → getD olds i 0 ≡ s → ⊥) → newIn olds s ≡ none
@@ -55,22 +55,22 @@ new-none olds s h = lowest-eq (λ i. eqb (getD olds i 0) s) (length olds) none (
 
 -- ---- what is left
 
-module _ (n : ℕ) (olds table places : List ℕ) (f : CarryFits n olds (length table)) where
+module _ (n : ℕ) (olds table places : List ℕ) (f : CarrySound n olds (length table)) where
   -- the lent table, n places of which are written
   abbrev back : List ℕ
   back = overwrite (carried n olds table) places
 
-  back-at : (s : ℕ) → s < n → getD back s FFFF ≡ entryAt table (newIn olds s)
+  back-at : (s default : ℕ) → s < n → getD back s default ≡ entryAt table (newIn olds s)
   unfolding carried
-  back-at s l = entry-written (λ x. entryAt table (newIn olds x)) n places s FFFF l
+  back-at s default l = entry-written (λ x. entryAt table (newIn olds x)) n places s default l
 
   back-kept : (i : ℕ) → i < length olds → getD back (getD olds i 0) FFFF ≡ getD table i FFFF
   unfolding entryAt
-  back-kept i l = back-at (getD olds i 0) (f .below i l) ∙ ap (entryAt table) (new-at f i l)
+  back-kept i l = back-at (getD olds i 0) FFFF (f .below i l) ∙ ap (entryAt table) (new-at f i l)
 
-  back-others : (s : ℕ) → s < n → ((i : ℕ) → i < length olds → getD olds i 0 ≡ s → ⊥) → getD back s FFFF ≡ FFFF
+  back-others : (s : ℕ) → s < n → ((i : ℕ) → i < length olds → getD olds i 0 ≡ s → ⊥) → getD back s 0 ≡ FFFF
   unfolding entryAt
-  back-others s l h = back-at s l ∙ ap (entryAt table) (new-none olds s h)
+  back-others s l h = back-at s 0 l ∙ ap (entryAt table) (new-none olds s h)
 
   back-picks : picked olds back ≡ take (length olds) table
   unfolding picked
@@ -117,8 +117,8 @@ module _ (n : ℕ) (olds table places : List ℕ) (f : CarryFits n olds (length 
         others = λ s l apart. back-others s (rw (← n-is) l) (λ i k q. apart (in-map s .1 (i, k, q)));
       }
 
-  pub carried-fits : Carried n olds table back
-  carried-fits = record { kept = back-kept; others = back-others; picks = back-picks; decided = back-decided }
+  pub carried-sound : Carried n olds table back
+  carried-sound = record { kept = back-kept; others = back-others; picks = back-picks; decided = back-decided }
 
 -- of the call, where it answers
 pub carried-back : (n : ℕ) (olds table places : List ℕ) → carryCall n olds table places .answers ≡ given tt
@@ -127,7 +127,7 @@ unfolding left
 carried-back n olds table places e =
     let (xs, answered, _) = answer-inv (λ (_ : List ℕ). tt) _ tt e in
     let (t, _, is) = carrying-iff n olds table (length places) xs .0 answered in
-    rw (answered, ← is) (carried-fits n olds table places (fits-iff n olds (length table) .0 t))
+    rw (answered, ← is) (carried-sound n olds table places (carry-sound-iff n olds (length table) .0 t))
 
 -- ---- beside trimming and deciding
 
@@ -143,10 +143,10 @@ commands-long T ranks commands marks scratch counts e =
     rw (answers, ← (w .is))
     (omega (arith, w .long-commands, overwrite-length (λ s. entry (chosen (planIn T) s)) (planIn T .states) commands long))
 
--- a map that trimming left fits, with the old n and any table that has an entry for each of its states
+-- a map that trimming left carrySound, with the old n and any table that has an entry for each of its states
 module _ (T U : Tables) (map : List ℕ) (t : Trimmed T U map) (sounds : sound T ≡ true) where
-  map-fits : (table : List ℕ) → U .size .n ≤ length table → CarryFits (T .size .n) (take (U .size .n) map) (length table)
-  map-fits table h =
+  map-sound : (table : List ℕ) → U .size .n ≤ length table → CarrySound (T .size .n) (take (U .size .n) map) (length table)
+  map-sound table h =
       let k = t .keeps in
       let long : length (take (U .size .n) map) ≡ U .size .n = length-take-le (U .size .n) map (t .map-long) in
       let size = sound-facts T .0 sounds .size in
@@ -172,12 +172,17 @@ module _ (T : Tables) (rows : List Row) (firsts outcomes olds scratch : List ℕ
   trimmed-is : Trimmed T U (trimCall T rows firsts outcomes olds scratch .olds)
   trimmed-is = trimmed-tables T rows firsts outcomes olds scratch z answered
 
+  left-sound : (table : List ℕ) → z .n ≤ length table → CarrySound (T .size .n) X (length table)
+  left-sound = map-sound T U _ trimmed-is (trims T rows firsts outcomes olds scratch z answered .sounds)
+
+  pub map-fits : (table : List ℕ) → z .n ≤ length table → CarryUnsound (T .size .n) X (length table) → ⊥
+  map-fits table h = sound-not (T .size .n) X (length table) (carry-sound-iff (T .size .n) X (length table) .1 (left-sound table h))
+
   pub map-accepted : (table places : List ℕ) → z .n ≤ length table → T .size .n ≤ length places
       → carryCall (T .size .n) X table places .answers ≡ given tt
   unfolding answer
   map-accepted table places h l =
-      let f = map-fits T U _ trimmed-is (trims T rows firsts outcomes olds scratch z answered .sounds) table h in
-      rw (carrying-iff (T .size .n) X table (length places) (carried (T .size .n) X table) .1 (fits-iff (T .size .n) X (length table) .1 f, l, refl))
+      rw (carrying-iff (T .size .n) X table (length places) (carried (T .size .n) X table) .1 (carry-sound-iff (T .size .n) X (length table) .1 (left-sound table h), l, refl))
 
   -- deciding's commands for the trimmed plan, carried back
   module _ (ranks commands marks scratch₀ ranks′ commands′ marks′ scratch′ : List ℕ) (counts counts′ : List (List ℕ))

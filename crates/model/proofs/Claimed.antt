@@ -60,15 +60,15 @@ use Rattle.model.proofs.WarningCalls.{length-refused, warning-tests, wa
 use Rattle.model.proofs.TrimCalls.{trimming-iff, trimming-unsound, trimming-cramped, trimming-only}
 use Rattle.model.proofs.TrimTables.{trimmed-tables}
 use Rattle.model.proofs.CarryCalls.{
-  misfit-iff,
-  fits-unless,
-  fits-not,
+  carry-unsound-iff,
+  sound-unless,
+  sound-not,
   carrying-iff,
   carrying-unsound,
   carrying-cramped,
   carrying-only,
 }
-use Rattle.model.proofs.CarryTables.{carried-back, map-accepted, decided-back}
+use Rattle.model.proofs.CarryTables.{carried-back, map-fits, map-accepted, decided-back}
 use Rattle.model.proofs.GateDemands.{gate-decide-demand3, gate-search-demand3}
 use Rattle.model.proofs.Stuck.{rank-zero, rest-safe, stuck-state, stuck-line}
 use Rattle.model.proofs.StuckCalls.{
@@ -217,15 +217,15 @@ conditions = record {
         (λ (S, short, is). rw is (trimming-cramped T rows firsts outcomes olds scratch (passes T S) short)),
   );
   carrying-given = λ n olds table places entries. (
-    λ e. let (f, l, is) = carrying-iff n olds table places entries .0 e in (fits-not n olds (length table) f, l, is),
-    λ (h, l, is). carrying-iff n olds table places entries .1 (fits-unless n olds (length table) h, l, is),
+    λ e. let (f, l, is) = carrying-iff n olds table places entries .0 e in (sound-not n olds (length table) f, l, is),
+    λ (h, l, is). carrying-iff n olds table places entries .1 (sound-unless n olds (length table) h, l, is),
   );
   carrying-refused = λ n olds table places r. (
-    λ e. ⊎-elim (λ (m, is). inl (misfit-iff n olds (length table) .0 m, is))
-        (λ (f, short, is). inr (fits-not n olds (length table) f, short, is))
+    λ e. ⊎-elim (λ (m, is). inl (carry-unsound-iff n olds (length table) .0 m, is))
+        (λ (f, short, is). inr (sound-not n olds (length table) f, short, is))
         (carrying-only n olds table places r e),
-    ⊎-elim (λ (m, is). rw is (carrying-unsound n olds table places (misfit-iff n olds (length table) .1 m)))
-        (λ (h, short, is). rw is (carrying-cramped n olds table places (fits-unless n olds (length table) h) short)),
+    ⊎-elim (λ (m, is). rw is (carrying-unsound n olds table places (carry-unsound-iff n olds (length table) .1 m)))
+        (λ (h, short, is). rw is (carrying-cramped n olds table places (sound-unless n olds (length table) h) short)),
   );
 }
 
@@ -332,4 +332,4 @@ trimmings = record { trimmed-tables = trimmed-tables }
 -- ---- carrying back
 
 pub carryings : Carryings
-carryings = record { carried-back = carried-back; map-accepted = map-accepted; decided-back = decided-back }
+carryings = record { carried-back = carried-back; map-fits = map-fits; map-accepted = map-accepted; decided-back = decided-back }

@@ -14,13 +14,13 @@ use Rattle.model.specs.Carry.{picked}
 -- rule Y6: `back` has the entries of `commands` at the states of T that a run from the start comes to, and FFFF at the others
 pub record KeptOf (T : Tables) (commands back : List ℕ) : Type 0 where
   pub kept : (s : ℕ) → s < T .size .n → Enters (planIn T) s → getD back s FFFF ≡ getD commands s FFFF
-  pub others : (s : ℕ) → s < T .size .n → (Enters (planIn T) s → ⊥) → getD back s FFFF ≡ FFFF
+  pub others : (s : ℕ) → s < T .size .n → (Enters (planIn T) s → ⊥) → getD back s 0 ≡ FFFF
 
 -- What it means that the table is carried back by the map `olds` to n old numbers, and `back` is left.
 pub record Carried (n : ℕ) (olds table back : List ℕ) : Type 0 where
   -- rule Y2: a state that the map names has the entry of its new number, and any other has FFFF
   pub kept : (i : ℕ) → i < length olds → getD back (getD olds i 0) FFFF ≡ getD table i FFFF
-  pub others : (s : ℕ) → s < n → ((i : ℕ) → i < length olds → getD olds i 0 ≡ s → ⊥) → getD back s FFFF ≡ FFFF
+  pub others : (s : ℕ) → s < n → ((i : ℕ) → i < length olds → getD olds i 0 ≡ s → ⊥) → getD back s 0 ≡ FFFF
   -- rule Y3: what is picked out of it is the front of the table
   pub picks : picked olds back ≡ take (length olds) table
   -- rule Y6: if the map is what trimming T left beside U, and the table the commands that deciding U leaves, they are those of deciding T,

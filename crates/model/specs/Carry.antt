@@ -36,23 +36,23 @@ picked olds table = map (λ s. getD table s FFFF) olds
 -- ---- the call
 
 -- rule Y4: what refusal 10 is for. The trimmed table has `entries` entries.
-abbrev pub Misfit : ℕ → List ℕ → ℕ → Type 0
-Misfit n olds entries =
+abbrev pub CarryUnsound : ℕ → List ℕ → ℕ → Type 0
+CarryUnsound n olds entries =
     ((n ≡ 0) ⊎ (maxStates < n))
     ⊎ (((i : ℕ) × (suc i < length olds) × (getD olds (suc i) 0 ≤ getD olds i 0))
     ⊎ (((i : ℕ) × (i < length olds) × (n ≤ getD olds i 0)) ⊎ (entries < length olds)))
 
--- rule Y4 as a test that computes: none of that is so
-unfoldable pub fits : ℕ → List ℕ → ℕ → Bool
-fits n olds entries =
+-- rule Y4 as a test that computes: nothing of that is so
+unfoldable pub carrySound : ℕ → List ℕ → ℕ → Bool
+carrySound n olds entries =
     leb 1 n && leb n maxStates && every (λ i. ltb (getD olds i 0) (getD olds (suc i) 0)) (length olds - 1)
     && every (λ i. ltb (getD olds i 0) n) (length olds) && leb (length olds) entries
 
--- rules C12 and E17: what is lent fits together, then there is room.
+-- rules C12 and E17: old n, map and trimmed table are sound, then there is room.
 -- Given is the table under the old numbers; `carryCall` has what is answered.
 unfoldable pub carrying : ℕ → List ℕ → List ℕ → ℕ → Answer (List ℕ)
 carrying n olds table places = do
-  need Unsound (fits n olds (length table))
+  need Unsound (carrySound n olds (length table))
   need Cramped (leb n places)
   given (carried n olds table)
 

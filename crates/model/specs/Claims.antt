@@ -30,7 +30,7 @@ use Rattle.model.specs.Contest.{keeperTurn, maxMoves, contestCall, Conte
 use Rattle.model.specs.Warning.{Time, noTime, warning, longestMove, warningCall, Warned}
 use Rattle.model.specs.Trim.{trimmed, trimming, trimCall, afterTrimming}
 use Rattle.model.specs.Trimmed.{Trimmed}
-use Rattle.model.specs.Carry.{carried, Misfit, carrying, carryCall}
+use Rattle.model.specs.Carry.{carried, CarryUnsound, carrying, carryCall}
 use Rattle.model.specs.Carried.{KeptOf, Carried}
 use Rattle.model.specs.Stuck.{StuckState, StuckEntries, StuckCounted, StuckSearched}
 use Rattle.model.specs.Boundary.{entriesIn, verdictIn, roundsIn, gateDecideCall, gateSearchCall}
@@ -82,9 +82,9 @@ pub record Conditions : Type 0 where
       ↔ (((Sound T → ⊥) × (r ≡ Unsound))
       ⊎ (Sound T × (Short z rows firsts outcomes ⊎ ((olds < z .n) ⊎ (scratch < T .size .n))) × (r ≡ Cramped)))
   pub carrying-given : (n : ℕ) (olds table : List ℕ) (places : ℕ) (entries : List ℕ) → (carrying n olds table places ≡ given entries)
-      ↔ ((Misfit n olds (length table) → ⊥) × (n ≤ places) × (carried n olds table ≡ entries))
+      ↔ ((CarryUnsound n olds (length table) → ⊥) × (n ≤ places) × (carried n olds table ≡ entries))
   pub carrying-refused : (n : ℕ) (olds table : List ℕ) (places : ℕ) (r : Refusal) → (carrying n olds table places ≡ refused r)
-      ↔ ((Misfit n olds (length table) × (r ≡ Unsound)) ⊎ ((Misfit n olds (length table) → ⊥) × (places < n) × (r ≡ Cramped)))
+      ↔ ((CarryUnsound n olds (length table) × (r ≡ Unsound)) ⊎ ((CarryUnsound n olds (length table) → ⊥) × (places < n) × (r ≡ Cramped)))
 
 -- ---- rule D2: the definitions that compute say what the words say, and both round trips
 
@@ -222,7 +222,11 @@ pub record Trimmings : Type 0 where
 pub record Carryings : Type 0 where
   pub carried-back : (n : ℕ) (olds table places : List ℕ) → let C = carryCall n olds table places in
       C .answers ≡ given tt → Carried n olds table (C .places)
-  -- rule Y5: a map that trimming left is not refused with the old n
+  -- rule Y5: a map that trimming left is never refused with the old n; it is answered if there is room
+  pub map-fits : (T : Tables) (rows : List Row) (firsts outcomes olds scratch : List ℕ) (z : Size)
+      → let X = trimCall T rows firsts outcomes olds scratch in
+      X .answers ≡ given z → (table : List ℕ) → z .n ≤ length table
+      → CarryUnsound (T .size .n) (take (z .n) (X .olds)) (length table) → ⊥
   pub map-accepted : (T : Tables) (rows : List Row) (firsts outcomes olds scratch : List ℕ) (z : Size)
       → let X = trimCall T rows firsts outcomes olds scratch in
       X .answers ≡ given z → (table places : List ℕ) → z .n ≤ length table → T .size .n ≤ length places

@@ -6,7 +6,7 @@ use native.Mathlib.Nat.{sub-zero}
 use native.Mathlib.Omega.{arith}
 use lib.ListN.{length, getD, set, take, length-set}
 use Rattle.laws.specs.Lists.{overwrite}
-use Rattle.laws.specs.Placed.{Distinct}
+use Rattle.laws.specs.Placed.{RisingPlaces}
 use Rattle.laws.proofs.Placed.{placed-none, placed-next, placed-done}
 use Rattle.laws.proofs.Steps.{tabulate-slice}
 use Rattle.laws.proofs.Writes.{ruled, ruled-next, ruled-last, ruled-first}
@@ -29,7 +29,7 @@ module _ {kept : List ℕ} {n : ℕ} {olds₀ scratch₀ : List ℕ} where
   }
 
   module _ {olds scratch : List ℕ} {i : ℕ} (c : Numbering kept n olds₀ scratch₀ olds scratch i) where
-    module _ (r : Distinct n kept (length scratch₀)) (h : i < n) where
+    module _ (r : RisingPlaces n kept (length scratch₀)) (h : i < n) where
       pub numbering-next : {x : ℕ} {olds′ scratch′ : List ℕ} → x ≡ getD kept i 0 → olds′ ≡ set olds i x → scratch′ ≡ set scratch x i
           → Numbering kept n olds₀ scratch₀ olds′ scratch′ (i + 1)
       numbering-next v o z = record {

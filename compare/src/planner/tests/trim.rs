@@ -1,4 +1,5 @@
 //! Trimming: small plans by hand, plans of every shape by the definition, and what the trimmed plan has of the old one.
+mod back;
 mod room;
 
 use super::{any_plan, bytes, decided, read_file, row, CASE_A};

@@ -1,5 +1,5 @@
 -- What is refused is so before the first store; else FFFF goes to all places, and then each entry to its own.
-use mathlib.Core.Path.{refl, _∙_}
+use mathlib.Core.Path.{refl}
 use native.Mathlib.Omega.{arith}
 use borrow.Author.Needs.{needs}
 use Rattle.carry.proofs.Placement.{refuses, room, may-place, gives}
