@@ -1,13 +1,14 @@
 # make run       print the listing of a plan: PLAN=examples/case-a.plan unless another is named
 # make test      prove every crate from nothing, try the edits that must be refused, run all tests;
 #                the last line is 'N passed, 0 failed'
-# make quick     what make test begins with: layout, files that scripts make, the reference held to rules, ranks and runs, docs/TRACE.md
+# make quick     what make test begins with: layout, files that scripts make, the reference held to rules, ranks, runs and maps,
+#                docs/TRACE.md
 # make wrong     try every edit that must be refused, those too for which make test has no time (crates/*/wrong)
 # make lib       the C library, target/staticlib/libgate.a (header: include/gate.h)
 # make c-test    the C library's tests and examples, and the header's in C and C++
 # make compare   hold the C library to a planner in Rust, byte for byte over COUNT inputs made from SEED
-# make bench     time the two beside each other, contest, warning time and trimming in the program bench_plans: the best of RUNS runs
-#                (4 are enough)
+# make bench     time the two beside each other, and contest, warning time, trimming and carrying back in the program bench_plans: the
+#                best of RUNS runs (4 are enough)
 # make rows      check that every machine-made proof file is what tools/rows makes (some minutes)
 # make trace     check that all that docs/TRACE.md names is there
 

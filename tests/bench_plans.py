@@ -173,14 +173,15 @@ def trimmed(plan, question):
     return out if question.call == TRIMMING_ALONE else out + left(names, places, question.holding, tables) + after
 
 
-def entries_of(file):
-    return [int.from_bytes(file[i:i + 2], "big") for i in range(0, len(file), 2)]
+def entries_of(file, count):
+    """The first entries of the file; past its last whole one they are 0."""
+    return [int.from_bytes(file[i:i + 2], "big") if i + 1 < len(file) else 0 for i in range(0, 2 * count, 2)]
 
 
 def carried(file, question):
     """The answer, and unless it alone is asked for every place that is lent."""
-    entries = entries_of(file)
-    olds, table = entries[:question.olds], entries[question.olds:question.olds + question.table]
+    entries = entries_of(file, question.olds + question.table)
+    olds, table = entries[:question.olds], entries[question.olds:]
     try:
         back = reference.carry(question.n, olds, table)
         reference.need(9, question.n <= question.places)
@@ -345,6 +346,8 @@ def carry_cases():
     for last in full, STATES, LAST:
         longer = Carry(CARRYING, STATES, STATES + 1, STATES + 1, STATES)
         yield carry_case((*whole, last), entries, (longer, longer._replace(n=STATES + 1, places=STATES + 1), longer._replace(olds=STATES)))
+    yield Case(write(case_a()), questions=tuple(Carry(CARRYING, n, 1, 50, 300) for n in (256, 257)))
+    yield Case(two(1) + b"\x00", questions=(Carry(CARRYING, 2, 1, 1, 2), Carry(CARRYING, 2, 2, 2, 2)))
     some = tuple(range(3, STATES, 5))
     yield carry_case(some, entries, (Carry(CARRYING, STATES, len(some), len(some), places, LAST) for places in (full, STATES, STATES + 1)))
     yield carry_case((full,), (0,), (Carry(CARRYING, n, 1, 1, STATES) for n in (full, STATES)))
