@@ -1,6 +1,6 @@
 // What a trimming is lent, printed to the last place, and what it holds before.
 ghost use Rattle.std.specs.Prelude.{◌≤◌};
-ghost use Rattle.model.specs.File.{maxStates, maxCommands, maxOutcomes};
+ghost use Rattle.model.specs.File.{max_states, max_commands, max_outcomes};
 
 use crate::numbers::{least, next};
 use crate::print::{print_entries, print_entry};
@@ -22,8 +22,8 @@ pub struct Places {
 // The next six numbers of the input, none of the places above what a table has. Two more are passed over: a question is as long as any
 // other.
 pub fn next_places() -> Places
-    ensures { (result.rows ≤ maxStates) × (result.firsts ≤ maxCommands) × (result.outcomes ≤ maxOutcomes) × (result.olds ≤ maxStates)
-        × (result.scratch ≤ maxStates) }
+    ensures { (result.rows ≤ max_states) × (result.firsts ≤ max_commands) × (result.outcomes ≤ max_outcomes) × (result.olds ≤ max_states)
+        × (result.scratch ≤ max_states) }
 {
     let rows = next();
     let firsts = next();

@@ -13,7 +13,7 @@
 // asked of a plan that is not sound: it has a state for each row that is lent, and its start is none of them. Past the end of the input
 // every byte is 0.
 ghost use Rattle.std.specs.Prelude.{◌≤◌};
-ghost use Rattle.model.specs.File.{maxStates, maxCommands, maxOutcomes};
+ghost use Rattle.model.specs.File.{max_states, max_commands, max_outcomes};
 
 use crate::files::{print_again, print_size, read_again, write_again};
 use crate::numbers::{least, next};
@@ -68,7 +68,7 @@ fn try_file(
 
 // Lends as many places as are asked for.
 fn lend(file: &[u8], rows: usize, firsts: usize, outcomes: usize, questions: usize)
-    requires { (rows ≤ maxStates) × (firsts ≤ maxCommands) × (outcomes ≤ maxOutcomes) }
+    requires { (rows ≤ max_states) × (firsts ≤ max_commands) × (outcomes ≤ max_outcomes) }
 {
     let mut row_table = [Row::BLANK; Size::STATES];
     let mut first_table = [0u16; Size::COMMANDS];

@@ -1,7 +1,7 @@
 // Trimming: what is answered, all that is lent, whether the trimmed plan comes back when it is written and read, or trimmed again, and its
 // commands under the old numbers.
 ghost use Rattle.std.specs.Prelude.{◌≤◌};
-ghost use Rattle.model.specs.File.{maxStates, maxCommands, maxOutcomes};
+ghost use Rattle.model.specs.File.{max_states, max_commands, max_outcomes};
 
 use crate::carries::carry_commands;
 use crate::files::{print_again, print_size, read_again};
@@ -169,8 +169,8 @@ pub fn ask_trim(
     x: u16,
     all: bool,
 )
-    requires { (nrows ≤ maxStates) × (nfirsts ≤ maxCommands) × (noutcomes ≤ maxOutcomes) × (nolds ≤ maxStates)
-        × (nscratch ≤ maxStates) }
+    requires { (nrows ≤ max_states) × (nfirsts ≤ max_commands) × (noutcomes ≤ max_outcomes) × (nolds ≤ max_states)
+        × (nscratch ≤ max_states) }
 {
     let mut rows2 = [Row::BLANK; Size::STATES];
     let mut firsts2 = [x; Size::COMMANDS];

@@ -1,6 +1,6 @@
 // Deciding and the search: all that is answered and left in the tables.
 ghost use Rattle.std.specs.Prelude.{◌≤◌};
-ghost use Rattle.model.specs.File.{maxStates};
+ghost use Rattle.model.specs.File.{max_states};
 
 use crate::print::{print_entries, print_number, print_refusal};
 use decide::{DecideAnswer, Decision};
@@ -105,7 +105,7 @@ pub fn ask_tables(
     start: usize,
     places: usize,
 )
-    requires { places ≤ maxStates }
+    requires { places ≤ max_states }
 {
     let mut ranks = [0u16; Size::STATES];
     let mut commands = [0u16; Size::STATES];

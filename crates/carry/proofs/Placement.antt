@@ -11,60 +11,60 @@ use Rattle.laws.specs.Entry.{FFFF}
 use Rattle.laws.specs.Filled.{Filled}
 use Rattle.laws.specs.Lists.{overwrite}
 use Rattle.laws.specs.Placed.{RisingPlaces, Placed}
-use Rattle.laws.proofs.Defaults.{getD-inside}
+use Rattle.laws.proofs.Defaults.{get_or_inside}
 use Rattle.laws.proofs.Fills.{filled_is}
-use Rattle.laws.proofs.Sets.{lowest-some, lowest-none}
+use Rattle.laws.proofs.Sets.{lowest_some, lowest_none}
 use Rattle.model.specs.Refusal.{given, answer}
 use Rattle.model.specs.Calls.{left}
-use Rattle.model.specs.Carry.{newIn, entry_at, carried, carrying, AfterCarry, carryCall}
+use Rattle.model.specs.Carry.{new_in, entry_at, carried, carrying, AfterCarry, carry_call}
 use Rattle.model.specs.Carried.{Carried}
-use Rattle.model.proofs.CarryCalls.{CarrySound, carry-sound-iff, map-rise, carrying-iff}
-use Rattle.model.proofs.CarryTables.{carried-back}
+use Rattle.model.proofs.CarryCalls.{CarrySound, carry_sound_iff, map_rise, carrying_iff}
+use Rattle.model.proofs.CarryTables.{carried_back}
 use Rattle.tables.specs.declared.Refusal.{Refusal}
 use Rattle.tables.specs.declared.admission.Admission.{Admission}
 use Rattle.tables.specs.declared.admission.Admission.TheVariants.{Granted, Denied}
 use Rattle.tables.specs.Spans.{admitted}
 use Rattle.carry.specs.declared.CarryAnswer.{CarryAnswer}
 use Rattle.carry.specs.declared.CarryAnswer.TheVariants.{Given, Refused}
-use Rattle.carry.specs.Answers.{answer_of, afterCarry}
+use Rattle.carry.specs.Answers.{answer_of, after_carry}
 
 module _ (n : ℕ) (olds table places : List ℕ) {blank after : List ℕ} (f : CarrySound n olds (length table))
     (v : Filled n (λ _. FFFF) places blank) (w : Placed (length olds) olds (λ i. get_or table i 0) blank after) where
   -- a place below n, by whether the map has it
-  entry-placed : (s : ℕ) → s < n → get_or after s 0 ≡ entry_at table (newIn olds s)
-  unfolding newIn entry_at
-  entry-placed s l = go (newIn olds s) refl
+  entry_placed : (s : ℕ) → s < n → get_or after s 0 ≡ entry_at table (new_in olds s)
+  unfolding new_in entry_at
+  entry_placed s l = go (new_in olds s) refl
     where
-      go : (o : Option ℕ) → newIn olds s ≡ o → get_or after s 0 ≡ entry_at table o
+      go : (o : Option ℕ) → new_in olds s ≡ o → get_or after s 0 ≡ entry_at table o
       go (some i) e =
-          let (k, t, _) = lowest-some (λ j. eqb (get_or olds j 0) s) (length olds) i e in
+          let (k, t, _) = lowest_some (λ j. eqb (get_or olds j 0) s) (length olds) i e in
           ap (λ (x : ℕ). get_or after x 0) (sym (eqb-true (get_or olds i 0) s t)) ∙ w.named i k
-          ∙ getD-inside table i 0 FFFF (omega (arith, f.long))
+          ∙ get_or_inside table i 0 FFFF (omega (arith, f.long))
       go none e =
-          w.others s (λ i k. eqb-false (get_or olds i 0) s (lowest-none (λ j. eqb (get_or olds j 0) s) (length olds) e i k)) ∙ v.low s l
+          w.others s (λ i k. eqb-false (get_or olds i 0) s (lowest_none (λ j. eqb (get_or olds j 0) s) (length olds) e i k)) ∙ v.low s l
 
   -- and one past them is as it was
-  placed-filled : Filled n (λ s. entry_at table (newIn olds s)) places after
-  placed-filled = record {
+  placed_filled : Filled n (λ s. entry_at table (new_in olds s)) places after
+  placed_filled = record {
     same = w.same ∙ v.same;
-    low = entry-placed;
+    low = entry_placed;
     high = λ x k. w.others x (λ i l e. omega (arith, f.below i l)) ∙ v.high x k;
   }
 
-  carried-placed : n ≤ length places → after ≡ overwrite (carried n olds table) places
+  carried_placed : n ≤ length places → after ≡ overwrite (carried n olds table) places
   unfolding carried
-  carried-placed h = filled_is h placed-filled
+  carried_placed h = filled_is h placed_filled
 
 module _ (n : ℕ) (olds table places : List ℕ) where
   -- what is promised of the call
   abbrev pub Replied : CarryAnswer → List ℕ → Type 0
-  Replied r after = (afterCarry r after ≡ carryCall n olds table places) × (answer_of r ≡ given tt → Carried n olds table after)
+  Replied r after = (after_carry r after ≡ carry_call n olds table places) × (answer_of r ≡ given tt → Carried n olds table after)
 
-  replied : (r : CarryAnswer) (after : List ℕ) → afterCarry r after ≡ carryCall n olds table places → Replied r after
+  replied : (r : CarryAnswer) (after : List ℕ) → after_carry r after ≡ carry_call n olds table places → Replied r after
   replied r after e = (
     e,
     λ q. subst (Carried n olds table) (sym (ap (λ (x : AfterCarry). x.places) e))
-        (carried-back n olds table places (sym (ap (λ (x : AfterCarry). x.answers) e) ∙ q)),
+        (carried_back n olds table places (sym (ap (λ (x : AfterCarry). x.answers) e) ∙ q)),
   )
 
   module _ {g : Admission} (answers : carrying n olds table (length places) ≡ admitted g (carried n olds table)) where
@@ -77,20 +77,20 @@ module _ (n : ℕ) (olds table places : List ℕ) where
       goes_on = answers ∙ rw q
 
       fitting : CarrySound n olds (length table)
-      fitting = (carry-sound-iff n olds (length table)).0 ((carrying-iff n olds table (length places) (carried n olds table)).0 goes_on).0
+      fitting = (carry_sound_iff n olds (length table)).0 ((carrying_iff n olds table (length places) (carried n olds table)).0 goes_on).0
 
       pub room : n ≤ length places
-      room = ((carrying-iff n olds table (length places) (carried n olds table)).0 goes_on).1
+      room = ((carrying_iff n olds table (length places) (carried n olds table)).0 goes_on).1
 
-      pub may-place : {k : ℕ} → k ≡ length places
+      pub may_place : {k : ℕ} → k ≡ length places
           → (length olds ≤ length table) × RisingPlaces (length olds) olds k
-      may-place same =
+      may_place same =
           let f = fitting in (
             f.long,
-            record { inside = λ i l. omega (arith, f.below i l, same, room); rise = map-rise n olds (length table) f },
+            record { inside = λ i l. omega (arith, f.below i l, same, room); rise = map_rise n olds (length table) f },
           )
 
       pub gives : {blank after : List ℕ} → Filled n (λ _. FFFF) places blank → Placed (length olds) olds (λ i. get_or table i 0) blank after
           → Replied Given after
       unfolding answer left
-      gives {after = after} v w = replied Given after (rw (goes_on, carried-placed n olds table places fitting v w room))
+      gives {after = after} v w = replied Given after (rw (goes_on, carried_placed n olds table places fitting v w room))

@@ -1,9 +1,9 @@
 // Carrying back: a table of a trimmed plan under the old numbers.
 ghost use Rattle.std.specs.Prelude.{◌≡◌};
 ghost use Rattle.model.specs.Refusal.{given};
-ghost use Rattle.model.specs.Carry.{carryCall};
+ghost use Rattle.model.specs.Carry.{carry_call};
 ghost use Rattle.model.specs.Carried.{Carried};
-ghost use Rattle.carry.specs.Answers.{answer_of, afterCarry};
+ghost use Rattle.carry.specs.Answers.{answer_of, after_carry};
 
 use tables::Refusal;
 use tables::admission::Admission;
@@ -27,7 +27,7 @@ pub enum CarryAnswer {
 // no local table. docs/PERFORMANCE.md has the times and the stack. Free is the order in which places are stored to, and which of several
 // reasons for 10 is looked at first (rules U2 and U3). Ruled out: 0 in place of FFFF, and a map with equal entries that is let through.
 pub fn carry_back(n: usize, olds: &[u16], table: &[u16], places: &mut [u16]) -> CarryAnswer
-    ensures call { afterCarry result places.new ≡ carryCall n olds.now table.now places.old }
+    ensures call { after_carry result places.new ≡ carry_call n olds.now table.now places.old }
     ensures carried { answer_of result ≡ given tt → Carried n olds.now table.now places.new }
 {
     let admission = admission::admit(n, olds, table.len(), places.len());

@@ -13,102 +13,102 @@ use Rattle.laws.specs.Sets.{any, least, first, found}
 use Rattle.laws.specs.Lists.{tabulate}
 use Rattle.laws.specs.Entry.{entry}
 use Rattle.laws.specs.First.{FirstNot}
-use Rattle.laws.proofs.Tests.{clash, true-or-false}
-use Rattle.laws.proofs.Tries.{first-at}
-use Rattle.model.specs.Plan.{active, hasPractice}
+use Rattle.laws.proofs.Tests.{clash, true_or_false}
+use Rattle.laws.proofs.Tries.{first_at}
+use Rattle.model.specs.Plan.{active, has_practice}
 use Rattle.model.specs.Verdict.{hit, hits}
-use Rattle.model.specs.Command.{tryOrder, choice}
-use Rattle.model.specs.Tables.{Tables, listsIn}
-use Rattle.model.specs.Places.{firstCommand, commandCount, outcomesAt}
+use Rattle.model.specs.Command.{try_order, choice}
+use Rattle.model.specs.Tables.{Tables, lists_in}
+use Rattle.model.specs.Places.{first_command, command_count, outcomes_at}
 use Rattle.model.specs.SoundTest.{sound}
-use Rattle.model.specs.Held.{planIn}
-use Rattle.model.proofs.StateKinds.{command-active}
-use Rattle.model.proofs.Choices.{hits-any, choice-idle}
-use Rattle.model.proofs.HeldPlan.{states-held, practice-held, commands-held, outcomes-held}
-use Rattle.model.proofs.Valid.{sound-valid}
+use Rattle.model.specs.Held.{plan_in}
+use Rattle.model.proofs.StateKinds.{command_active}
+use Rattle.model.proofs.Choices.{hits_any, choice_idle}
+use Rattle.model.proofs.HeldPlan.{states_held, practice_held, commands_held, outcomes_held}
+use Rattle.model.proofs.Valid.{sound_valid}
 use Rattle.tables.specs.declared.spans.Span.{Span}
-use Rattle.tables.specs.Spans.{spanAt}
-use Rattle.choice.specs.Within.{commandHit}
-use Rattle.choice.specs.Order.{alone, places, tried_at, hitAt, AllHit}
-use Rattle.choice.proofs.Orders.{tried-below}
+use Rattle.tables.specs.Spans.{span_at}
+use Rattle.choice.specs.Within.{command_hit}
+use Rattle.choice.specs.Order.{alone, places, tried_at, hit_at, AllHit}
+use Rattle.choice.proofs.Orders.{tried_below}
 
 module _ (T : Tables) (K : ℕ → Bool) (s : ℕ) (l : s < T.size.n) where
   -- a command's outcomes, by its place
-  pub hit-held : (c : ℕ) → c < commandCount T s → hit (planIn T) K s c ≡ commandHit (listsIn T) K (firstCommand T s + c)
-  unfolding hit commandHit
-  hit-held c h = ap (least K) (outcomes-held T s l c h)
+  pub hit_held : (c : ℕ) → c < command_count T s → hit (plan_in T) K s c ≡ command_hit (lists_in T) K (first_command T s + c)
+  unfolding hit command_hit
+  hit_held c h = ap (least K) (outcomes_held T s l c h)
 
-  pub hits-held : (c : ℕ) → c < commandCount T s → hits (planIn T) K s c ≡ any K (outcomesAt T (firstCommand T s + c))
-  hits-held c h = hits-any (planIn T) K s c ∙ ap (any K) (outcomes-held T s l c h)
+  pub hits_held : (c : ℕ) → c < command_count T s → hits (plan_in T) K s c ≡ any K (outcomes_at T (first_command T s + c))
+  hits_held c h = hits_any (plan_in T) K s c ∙ ap (any K) (outcomes_held T s l c h)
 
   module _ (sounds : sound T ≡ true) where
-    no-commands : active (planIn T) s ≡ false → (planIn T).commands s ≡ 0
-    no-commands e = go (dec_lt 0 ((planIn T).commands s))
+    no_commands_lem : active (plan_in T) s ≡ false → (plan_in T).commands s ≡ 0
+    no_commands_lem e = go (dec_lt 0 ((plan_in T).commands s))
       where
-        go : Dec (0 < (planIn T).commands s) → (planIn T).commands s ≡ 0
-        go (yes h) = clash (command-active (planIn T) s (sound-valid T sounds) (rw (states-held T) l) 0 h) e
+        go : Dec (0 < (plan_in T).commands s) → (plan_in T).commands s ≡ 0
+        go (yes h) = clash (command_active (plan_in T) s (sound_valid T sounds) (rw (states_held T) l) 0 h) e
         go (no h) = omega arith
 
     -- a state that is not active has no commands to try
-    none_tried : (planIn T).commands s ≡ 0 → tryOrder (planIn T) s ≡ []
-    unfolding tryOrder hasPractice tabulate
-    none_tried e = rw (e, le-ltb ((planIn T).practice s) 0 (omega arith))
+    none_tried : (plan_in T).commands s ≡ 0 → try_order (plan_in T) s ≡ []
+    unfolding try_order has_practice tabulate
+    none_tried e = rw (e, le-ltb ((plan_in T).practice s) 0 (omega arith))
 
-    choice-first : choice (planIn T) K s ≡ first (λ c. not (hits (planIn T) K s c)) (tryOrder (planIn T) s)
+    choice_first : choice (plan_in T) K s ≡ first (λ c. not (hits (plan_in T) K s c)) (try_order (plan_in T) s)
     unfolding choice first
-    choice-first =
-        ⊎_elim (λ e. rw e) (λ e. choice-idle (planIn T) K s e ∙ rw (none_tried (no-commands e))) (true-or-false (active (planIn T) s))
+    choice_first =
+        ⊎_elim (λ e. rw e) (λ e. choice_idle (plan_in T) K s e ∙ rw (none_tried (no_commands_lem e))) (true_or_false (active (plan_in T) s))
 
-    choice-at : (r : ℕ) → FirstNot (hitAt (planIn T) K s) 0 (places (planIn T) s) r → tried_at (planIn T) s r ≡ entry (choice (planIn T) K s)
-    unfolding places tried_at hitAt
-    choice-at r v = first-at (hits (planIn T) K s) (tryOrder (planIn T) s) r v ∙ ap entry (sym choice-first)
+    choice_at : (r : ℕ) → FirstNot (hit_at (plan_in T) K s) 0 (places (plan_in T) s) r → tried_at (plan_in T) s r ≡ entry (choice (plan_in T) K s)
+    unfolding places tried_at hit_at
+    choice_at r v = first_at (hits (plan_in T) K s) (try_order (plan_in T) s) r v ∙ ap entry (sym choice_first)
 
 -- what was read of the state s, as a plan of its own
-module _ (T : Tables) (q : Span) (s : ℕ) (l : s < T.size.n) (e : q ≡ spanAt T s) where
-  order-read : tryOrder (alone (listsIn T) q) 0 ≡ tryOrder (planIn T) s
-  unfolding tryOrder hasPractice commandCount
-  order-read = rw (commands-held T s l, practice-held T s l, e, add-one s)
+module _ (T : Tables) (q : Span) (s : ℕ) (l : s < T.size.n) (e : q ≡ span_at T s) where
+  order_read : try_order (alone (lists_in T) q) 0 ≡ try_order (plan_in T) s
+  unfolding try_order has_practice command_count
+  order_read = rw (commands_held T s l, practice_held T s l, e, add-one s)
 
-  places-read : places (alone (listsIn T) q) 0 ≡ places (planIn T) s
+  places_read : places (alone (lists_in T) q) 0 ≡ places (plan_in T) s
   unfolding places
-  places-read = ap length order-read
+  places_read = ap length order_read
 
-  tried-read : (i : ℕ) → tried_at (alone (listsIn T) q) 0 i ≡ tried_at (planIn T) s i
+  tried_read : (i : ℕ) → tried_at (alone (lists_in T) q) 0 i ≡ tried_at (plan_in T) s i
   unfolding tried_at
-  tried-read i = rw order-read
+  tried_read i = rw order_read
 
   module _ (K : ℕ → Bool) where
-    hit-read : (i : ℕ) → i < places (planIn T) s → hitAt (alone (listsIn T) q) K 0 i ≡ hitAt (planIn T) K s i
-    unfolding hitAt hits hit
-    hit-read i k =
-        let c = tried_at (planIn T) s i in
-        let first-is : q.first ≡ firstCommand T s = ap (λ (p : Span). p.first) e in
-        let own = rw (commands-held T s l) at (tried-below (planIn T) s i k) in
-        rw (tried-read i, first-is) (ap (λ (xs : List ℕ). found (least K xs)) (sym (outcomes-held T s l c own)))
+    hit_read : (i : ℕ) → i < places (plan_in T) s → hit_at (alone (lists_in T) q) K 0 i ≡ hit_at (plan_in T) K s i
+    unfolding hit_at hits hit
+    hit_read i k =
+        let c = tried_at (plan_in T) s i in
+        let first_is : q.first ≡ first_command T s = ap (λ (p : Span). p.first) e in
+        let own = rw (commands_held T s l) at (tried_below (plan_in T) s i k) in
+        rw (tried_read i, first_is) (ap (λ (xs : List ℕ). found (least K xs)) (sym (outcomes_held T s l c own)))
 
-    pub all-alone : {k : ℕ} → AllHit (planIn T) K s k → AllHit (alone (listsIn T) q) K 0 k
-    all-alone v = record {
-      part = rw places-read v.part;
-      hit = λ i m. hit-read i (omega (arith, v.part)) ∙ v.hit i m;
+    pub all_alone : {k : ℕ} → AllHit (plan_in T) K s k → AllHit (alone (lists_in T) q) K 0 k
+    all_alone v = record {
+      part = rw places_read v.part;
+      hit = λ i m. hit_read i (omega (arith, v.part)) ∙ v.hit i m;
     }
 
-    pub all_placed : {k : ℕ} → AllHit (alone (listsIn T) q) K 0 k → AllHit (planIn T) K s k
+    pub all_placed : {k : ℕ} → AllHit (alone (lists_in T) q) K 0 k → AllHit (plan_in T) K s k
     all_placed v =
-        let p = rw places-read at v.part in
-        record { part = p; hit = λ i m. sym (hit-read i (omega (arith, p))) ∙ v.hit i m }
+        let p = rw places_read at v.part in
+        record { part = p; hit = λ i m. sym (hit_read i (omega (arith, p))) ∙ v.hit i m }
 
-    first_read : {r : ℕ} → FirstNot (hitAt (alone (listsIn T) q) K 0) 0 (places (alone (listsIn T) q) 0) r
-        → FirstNot (hitAt (planIn T) K s) 0 (places (planIn T) s) r
+    first_read : {r : ℕ} → FirstNot (hit_at (alone (lists_in T) q) K 0) 0 (places (alone (lists_in T) q) 0) r
+        → FirstNot (hit_at (plan_in T) K s) 0 (places (plan_in T) s) r
     first_read v =
-        let u = rw places-read at v.until in
+        let u = rw places_read at v.until in
         record {
           since = v.since;
           until = u;
-          before = λ i p k. sym (hit-read i (omega (arith, u))) ∙ v.before i p k;
-          stops = λ k. sym (hit-read _ k) ∙ v.stops (rw places-read k);
+          before = λ i p k. sym (hit_read i (omega (arith, u))) ∙ v.before i p k;
+          stops = λ k. sym (hit_read _ k) ∙ v.stops (rw places_read k);
         }
 
     -- the command at the first place that is clear
-    pub first-chosen : sound T ≡ true → {r c : ℕ} → FirstNot (hitAt (alone (listsIn T) q) K 0) 0 (places (alone (listsIn T) q) 0) r
-        → c ≡ tried_at (alone (listsIn T) q) 0 r → c ≡ entry (choice (planIn T) K s)
-    first-chosen sounds {r} v z = z ∙ tried-read r ∙ choice-at T K s l sounds r (first_read v)
+    pub first_chosen : sound T ≡ true → {r c : ℕ} → FirstNot (hit_at (alone (lists_in T) q) K 0) 0 (places (alone (lists_in T) q) 0) r
+        → c ≡ tried_at (alone (lists_in T) q) 0 r → c ≡ entry (choice (plan_in T) K s)
+    first_chosen sounds {r} v z = z ∙ tried_read r ∙ choice_at T K s l sounds r (first_read v)

@@ -11,5 +11,5 @@ module _ (table : List ℕ) (limit x r : ℕ) (e : r ≡ get_or table x 0) where
   pub member : r ≤ limit → within table limit x ≡ true
   member h = rw (← e) (le-leb r limit h)
 
-  pub not-member : limit < r → within table limit x ≡ false
-  not-member h = rw (← e) (lt-leb r limit h)
+  pub not_member : limit < r → within table limit x ≡ false
+  not_member h = rw (← e) (lt-leb r limit h)

@@ -8,89 +8,89 @@ use lib.ListN.{get_or, get_or-eq_default}
 use borrow.Author.Tests.{le-ltb, lt-ltb}
 use Rattle.laws.specs.Entry.{FFFF}
 use Rattle.laws.specs.First.{FirstNot}
-use Rattle.laws.proofs.Lists.{length-tabulate, tabulate-at, mem-getD}
-use Rattle.model.specs.Plan.{Plan, hasPractice}
+use Rattle.laws.proofs.Lists.{length_tabulate, tabulate_at, mem_get_or}
+use Rattle.model.specs.Plan.{Plan, has_practice}
 use Rattle.model.specs.Verdict.{hit, hits}
-use Rattle.model.specs.Command.{tryOrder}
+use Rattle.model.specs.Command.{try_order}
 use Rattle.model.specs.Tables.{Lists}
-use Rattle.model.proofs.Choices.{tried-command, hits-is, hits-of}
+use Rattle.model.proofs.Choices.{tried_command, hits_is, hits_of}
 use Rattle.tables.specs.declared.spans.Span.{Span}
-use Rattle.choice.specs.Within.{commandHit, commandHits}
-use Rattle.choice.specs.Order.{alone, places, tried_at, hitAt, AllHit}
+use Rattle.choice.specs.Within.{command_hit, command_hits}
+use Rattle.choice.specs.Order.{alone, places, tried_at, hit_at, AllHit}
 
 module _ (P : Plan) (s : ℕ) where
   -- what stands in the order is a command
-  pub tried-below : (i : ℕ) → i < places P s → tried_at P s i < P.commands s
+  pub tried_below : (i : ℕ) → i < places P s → tried_at P s i < P.commands s
   unfolding places tried_at
-  tried-below i l = tried-command P s (get_or (tryOrder P s) i FFFF) (mem-getD (tryOrder P s) i FFFF l)
+  tried_below i l = tried_command P s (get_or (try_order P s) i FFFF) (mem_get_or (try_order P s) i FFFF l)
 
-  pub tried-past : (i : ℕ) → places P s ≤ i → FFFF ≡ tried_at P s i
+  pub tried_past : (i : ℕ) → places P s ≤ i → FFFF ≡ tried_at P s i
   unfolding places tried_at
-  tried-past i l = sym (get_or-eq_default (tryOrder P s) FFFF l)
+  tried_past i l = sym (get_or-eq_default (try_order P s) FFFF l)
 
   -- there is no practice
   module _ (h : P.commands s ≤ P.practice s) where
-    pub places-all : P.commands s ≡ places P s
-    unfolding places tryOrder hasPractice
-    places-all = rw (le-ltb (P.practice s) (P.commands s) h) (sym (length-tabulate (λ c. c) 0 (P.commands s)))
+    pub places_all : P.commands s ≡ places P s
+    unfolding places try_order has_practice
+    places_all = rw (le-ltb (P.practice s) (P.commands s) h) (sym (length_tabulate (λ c. c) 0 (P.commands s)))
 
-    pub tried-all : (i : ℕ) → i < places P s → i ≡ tried_at P s i
-    unfolding tried_at tryOrder hasPractice
-    tried-all i l =
-        rw (le-ltb (P.practice s) (P.commands s) h) (sym (tabulate-at (λ c. c) (P.commands s) i FFFF (omega (arith, places-all))))
+    pub tried_all : (i : ℕ) → i < places P s → i ≡ tried_at P s i
+    unfolding tried_at try_order has_practice
+    tried_all i l =
+        rw (le-ltb (P.practice s) (P.commands s) h) (sym (tabulate_at (λ c. c) (P.commands s) i FFFF (omega (arith, places_all))))
 
   -- there is one
   module _ (h : P.practice s < P.commands s) where
-    pub places-more : P.commands s + 1 ≡ places P s
-    unfolding places tryOrder hasPractice
-    places-more =
-        rw (lt-ltb (P.practice s) (P.commands s) h) (omega (arith, length-tabulate (λ c. c) 0 (P.commands s)))
+    pub places_more : P.commands s + 1 ≡ places P s
+    unfolding places try_order has_practice
+    places_more =
+        rw (lt-ltb (P.practice s) (P.commands s) h) (omega (arith, length_tabulate (λ c. c) 0 (P.commands s)))
 
-    pub tried-first : (i : ℕ) → i ≡ 0 → P.practice s ≡ tried_at P s i
-    unfolding tried_at tryOrder hasPractice
-    tried-first i e = rw (e, lt-ltb (P.practice s) (P.commands s) h)
+    pub tried_first : (i : ℕ) → i ≡ 0 → P.practice s ≡ tried_at P s i
+    unfolding tried_at try_order has_practice
+    tried_first i e = rw (e, lt-ltb (P.practice s) (P.commands s) h)
 
     pub tried_then : (i : ℕ) → (i ≡ 0 → ⊥) → i < places P s → i - 1 ≡ tried_at P s i
-    unfolding tried_at tryOrder hasPractice
+    unfolding tried_at try_order has_practice
     tried_then zero z l = absurd (z (omega arith))
     tried_then (suc i) z l =
         rw (lt-ltb (P.practice s) (P.commands s) h)
-        (back ∙ sym (tabulate-at (λ c. c) (P.commands s) i FFFF (omega (arith, places-more))))
+        (back ∙ sym (tabulate_at (λ c. c) (P.commands s) i FFFF (omega (arith, places_more))))
       where
         back : suc i - 1 ≡ i
         back = omega arith
 
-  pub places-few : places P s ≤ P.commands s + 1
-  places-few = go (dec_lt (P.practice s) (P.commands s))
+  pub places_few : places P s ≤ P.commands s + 1
+  places_few = go (dec_lt (P.practice s) (P.commands s))
     where
       go : Dec (P.practice s < P.commands s) → places P s ≤ P.commands s + 1
-      go (yes h) = omega (arith, places-more h)
-      go (no h) = omega (arith, places-all (omega arith))
+      go (yes h) = omega (arith, places_more h)
+      go (no h) = omega (arith, places_all (omega arith))
 
 -- ---- the command at a place, by what was read of the state
 
 module _ (L : Lists) (q : Span) (i c : ℕ) (e : c ≡ tried_at (alone L q) 0 i) where
-  pub tried-inside : q.first ≤ q.end → {end : ℕ} → end ≡ places (alone L q) 0 → i < end → q.first + c < q.end
-  tried-inside h p l = omega (arith, e, tried-below (alone L q) 0 i (omega arith))
+  pub tried_inside : q.first ≤ q.end → {end : ℕ} → end ≡ places (alone L q) 0 → i < end → q.first + c < q.end
+  tried_inside h p l = omega (arith, e, tried_below (alone L q) 0 i (omega arith))
 
-  pub hit-is : (K : ℕ → Bool) → hitAt (alone L q) K 0 i ≡ commandHits L K (q.first + c)
-  unfolding hitAt hits hit commandHits commandHit
-  hit-is K = sym (rw e)
+  pub hit_is : (K : ℕ → Bool) → hit_at (alone L q) K 0 i ≡ command_hits L K (q.first + c)
+  unfolding hit_at hits hit command_hits command_hit
+  hit_is K = sym (rw e)
 
 -- ---- the first places
 
 module _ {P : Plan} {K : ℕ → Bool} {s : ℕ} where
-  pub none-hit : AllHit P K s 0
-  none-hit = record { part = omega arith; hit = λ i l. absurd (omega arith) }
+  pub none_hit : AllHit P K s 0
+  none_hit = record { part = omega arith; hit = λ i l. absurd (omega arith) }
 
   -- all before the first that is clear
-  pub first-hit : {k : ℕ} → FirstNot (hitAt P K s) 0 (places P s) k → AllHit P K s k
-  first-hit v = record { part = v.until; hit = λ i l. v.before i (omega arith) l }
+  pub first_hit : {k : ℕ} → FirstNot (hit_at P K s) 0 (places P s) k → AllHit P K s k
+  first_hit v = record { part = v.until; hit = λ i l. v.before i (omega arith) l }
 
   -- what is hit stays hit with a larger set
-  pub more-hit : {L : ℕ → Bool} → ((x : ℕ) → K x ≡ true → L x ≡ true) → {k : ℕ} → AllHit P K s k → AllHit P L s k
-  unfolding hitAt
-  more-hit {L} more v = record {
+  pub more_hit : {L : ℕ → Bool} → ((x : ℕ) → K x ≡ true → L x ≡ true) → {k : ℕ} → AllHit P K s k → AllHit P L s k
+  unfolding hit_at
+  more_hit {L} more v = record {
     part = v.part;
-    hit = λ i l. let (x, m, t) = hits-is P K s (tried_at P s i) (v.hit i l) in hits-of P L s (tried_at P s i) x m (more x t);
+    hit = λ i l. let (x, m, t) = hits_is P K s (tried_at P s i) (v.hit i l) in hits_of P L s (tried_at P s i) x m (more x t);
   }

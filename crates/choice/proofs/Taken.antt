@@ -9,62 +9,62 @@ use Rattle.laws.specs.Sets.{any}
 use Rattle.laws.specs.Entry.{FFFF, entry}
 use Rattle.model.specs.Command.{choice}
 use Rattle.model.specs.Tables.{Tables}
-use Rattle.model.specs.Places.{firstCommand, commandCount, outcomesAt}
+use Rattle.model.specs.Places.{first_command, command_count, outcomes_at}
 use Rattle.model.specs.SoundTest.{sound}
-use Rattle.model.specs.Held.{planIn}
-use Rattle.model.proofs.Choices.{choice-some}
-use Rattle.model.proofs.HeldPlan.{commands-held}
-use Rattle.model.proofs.SoundFacts.{sound-facts}
+use Rattle.model.specs.Held.{plan_in}
+use Rattle.model.proofs.Choices.{choice_some}
+use Rattle.model.proofs.HeldPlan.{commands_held}
+use Rattle.model.proofs.SoundFacts.{sound_facts}
 use Rattle.tables.specs.declared.spans.Span.{Span}
-use Rattle.tables.specs.Spans.{spanAt}
-use Rattle.choice.proofs.Choices.{hits-held}
+use Rattle.tables.specs.Spans.{span_at}
+use Rattle.choice.proofs.Choices.{hits_held}
 
 module _ (T : Tables) (sounds : sound T ≡ true) (s : ℕ) (l : s < T.size.n) where
   -- the places of the commands of s are in range
-  pub span-inside : (q : Span) → q ≡ spanAt T s → (q.first ≤ q.end) × (q.end ≤ T.size.m)
-  span-inside q e =
-      let f = ((sound-facts T).0 sounds).rows s l in
+  pub span_inside : (q : Span) → q ≡ span_at T s → (q.first ≤ q.end) × (q.end ≤ T.size.m)
+  span_inside q e =
+      let f = ((sound_facts T).0 sounds).rows s l in
       rw (e, add-one s) (f.rises, f.below)
 
   module _ (K : ℕ → Bool) where
     -- of a command that is chosen: its place, and that it stays out of K
-    pub taken-place : (c : ℕ) → choice (planIn T) K s ≡ some c → firstCommand T s + c < T.size.m
-    unfolding commandCount
-    taken-place c e =
-        let own = (choice-some (planIn T) K s c e).1 in
-        let f = ((sound-facts T).0 sounds).rows s l in
-        omega (arith, commands-held T s l, f.rises, f.below)
+    pub taken_place : (c : ℕ) → choice (plan_in T) K s ≡ some c → first_command T s + c < T.size.m
+    unfolding command_count
+    taken_place c e =
+        let own = (choice_some (plan_in T) K s c e).1 in
+        let f = ((sound_facts T).0 sounds).rows s l in
+        omega (arith, commands_held T s l, f.rises, f.below)
 
-    pub taken-clear : (c : ℕ) → choice (planIn T) K s ≡ some c → any K (outcomesAt T (firstCommand T s + c)) ≡ false
-    taken-clear c e =
-        let (act, own, out) = choice-some (planIn T) K s c e in
-        sym (hits-held T K s l c (rw (commands-held T s l) at own)) ∙ out
+    pub taken_clear : (c : ℕ) → choice (plan_in T) K s ≡ some c → any K (outcomes_at T (first_command T s + c)) ≡ false
+    taken_clear c e =
+        let (act, own, out) = choice_some (plan_in T) K s c e in
+        sym (hits_held T K s l c (rw (commands_held T s l) at own)) ∙ out
 
-    pub few-commands : (c : ℕ) → choice (planIn T) K s ≡ some c → c < FFFF
-    few-commands c e = omega (arith, taken-place c e, ((sound-facts T).0 sounds).size.few-commands)
+    pub few_commands : (c : ℕ) → choice (plan_in T) K s ≡ some c → c < FFFF
+    few_commands c e = omega (arith, taken_place c e, ((sound_facts T).0 sounds).size.few_commands)
 
     -- an entry that was answered
-    module _ (r : ℕ) (e : r ≡ entry (choice (planIn T) K s)) where
-      pub entry-fits : r < 65536
+    module _ (r : ℕ) (e : r ≡ entry (choice (plan_in T) K s)) where
+      pub entry_fits : r < 65536
       unfolding entry
-      entry-fits = go (choice (planIn T) K s) refl
+      entry_fits = go (choice (plan_in T) K s) refl
         where
-          go : (o : Option ℕ) → choice (planIn T) K s ≡ o → r < 65536
+          go : (o : Option ℕ) → choice (plan_in T) K s ≡ o → r < 65536
           go none q = omega (arith, e ∙ ap entry q)
-          go (some c) q = omega (arith, e ∙ ap entry q, few-commands c q)
+          go (some c) q = omega (arith, e ∙ ap entry q, few_commands c q)
 
-      pub none-taken : r ≡ FFFF → choice (planIn T) K s ≡ none
+      pub none_taken : r ≡ FFFF → choice (plan_in T) K s ≡ none
       unfolding entry
-      none-taken z = go (choice (planIn T) K s) refl
+      none_taken z = go (choice (plan_in T) K s) refl
         where
-          go : (o : Option ℕ) → choice (planIn T) K s ≡ o → choice (planIn T) K s ≡ none
+          go : (o : Option ℕ) → choice (plan_in T) K s ≡ o → choice (plan_in T) K s ≡ none
           go none q = q
-          go (some c) q = absurd (omega (arith, e ∙ ap entry q, few-commands c q))
+          go (some c) q = absurd (omega (arith, e ∙ ap entry q, few_commands c q))
 
-      pub some-taken : (r ≡ FFFF → ⊥) → choice (planIn T) K s ≡ some r
+      pub some_taken : (r ≡ FFFF → ⊥) → choice (plan_in T) K s ≡ some r
       unfolding entry
-      some-taken z = go (choice (planIn T) K s) refl
+      some_taken z = go (choice (plan_in T) K s) refl
         where
-          go : (o : Option ℕ) → choice (planIn T) K s ≡ o → choice (planIn T) K s ≡ some r
+          go : (o : Option ℕ) → choice (plan_in T) K s ≡ o → choice (plan_in T) K s ≡ some r
           go none q = absurd (z (e ∙ ap entry q))
           go (some c) q = q ∙ ap some (sym (e ∙ ap entry q))

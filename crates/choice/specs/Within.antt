@@ -3,16 +3,16 @@ use Rattle.std.specs.Prelude.{Bool, List, ℕ, leb, get_or}
 use Rattle.std.proofs.Math.Option.{Option}
 use Rattle.laws.specs.Sets.{least, found}
 use Rattle.model.specs.Tables.{Lists}
-use Rattle.model.specs.Places.{listAt}
+use Rattle.model.specs.Places.{list_at}
 
 -- the states whose entry is at most the limit
 abbrev pub within : List ℕ → ℕ → ℕ → Bool
 within table limit x = leb (get_or table x 0) limit
 
 -- the lowest outcome in K of the command c, whose outcomes are list c
-unfoldable pub commandHit : Lists → (ℕ → Bool) → ℕ → Option ℕ
-commandHit L K c = least K (listAt L c)
+unfoldable pub command_hit : Lists → (ℕ → Bool) → ℕ → Option ℕ
+command_hit L K c = least K (list_at L c)
 
 -- it has one
-unfoldable pub commandHits : Lists → (ℕ → Bool) → ℕ → Bool
-commandHits L K c = found (commandHit L K c)
+unfoldable pub command_hits : Lists → (ℕ → Bool) → ℕ → Bool
+command_hits L K c = found (command_hit L K c)

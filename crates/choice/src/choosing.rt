@@ -9,14 +9,14 @@ ghost use Rattle.laws.specs.Rising.{RisesIn};
 ghost use Rattle.laws.specs.Entry.{entry};
 ghost use Rattle.model.specs.Places.{start_in};
 ghost use Rattle.model.specs.SoundTest.{sound};
-ghost use Rattle.model.specs.Held.{planIn};
+ghost use Rattle.model.specs.Held.{plan_in};
 ghost use Rattle.model.specs.Command.{choice};
 ghost use Rattle.tables.specs.declared.Row.{Row};
 ghost use Rattle.tables.specs.Meaning.{held};
-ghost use Rattle.tables.specs.Spans.{spanAt, commandsOf};
-ghost use Rattle.tables.specs.Ready.{listTable, States, Ready};
-ghost use Rattle.choice.specs.Within.{within, commandHit, commandHits};
-ghost use Rattle.choice.specs.Order.{alone, places, hitAt};
+ghost use Rattle.tables.specs.Spans.{span_at, commands_of};
+ghost use Rattle.tables.specs.Ready.{list_table, States, Ready};
+ghost use Rattle.choice.specs.Within.{within, command_hit, command_hits};
+ghost use Rattle.choice.specs.Order.{alone, places, hit_at};
 
 use crate::order::{tried_at, tries};
 use tables::Size;
@@ -52,9 +52,9 @@ fn list_hit(
 ) -> usize
     requires i_lt_count { (i < count) × (count ≤ length firsts.now) × Parts firsts.now count end
         × States (length table.now) end entries.now }
-    requires fact { let L = listTable count end firsts.now entries.now in RisesIn entries.now (start_in L i) (start_in L (suc i)) }
+    requires fact { let L = list_table count end firsts.now entries.now in RisesIn entries.now (start_in L i) (start_in L (suc i)) }
     ensures { result ≡ entry
-        (commandHit (listTable count end firsts.now entries.now) (within table.now limit) i) }
+        (command_hit (list_table count end firsts.now entries.now) (within table.now limit) i) }
 {
     let from = start_of(firsts, count, end, i);
     let to = start_of(firsts, count, end, i + 1);
@@ -70,10 +70,10 @@ pub fn command_hit(
     limit: usize,
     c: usize,
 ) -> usize
-    requires ready { Ready size.n (commandsOf size firsts.now outcomes.now) }
+    requires ready { Ready size.n (commands_of size firsts.now outcomes.now) }
     requires c_lt_m { (c < size.m) × (size.n ≤ length table.now) }
     ensures { result ≡ entry
-        (commandHit (commandsOf size firsts.now outcomes.now) (within table.now limit) c) }
+        (command_hit (commands_of size firsts.now outcomes.now) (within table.now limit) c) }
 {
     list_hit(size.m, size.t, firsts, outcomes, table, limit, c)
 }
@@ -88,10 +88,10 @@ pub fn first_clear(
     from: usize,
     to: usize,
 ) -> usize
-    requires ready { Ready size.n (commandsOf size firsts.now outcomes.now) }
+    requires ready { Ready size.n (commands_of size firsts.now outcomes.now) }
     requires from_le_to { (from ≤ to) × (to ≤ size.m) × (size.n ≤ length table.now) }
     ensures { FirstNot
-        (commandHits (commandsOf size firsts.now outcomes.now) (within table.now limit)) from to result }
+        (command_hits (commands_of size firsts.now outcomes.now) (within table.now limit)) from to result }
 {
     let mut c = from;
     while c < to {
@@ -114,11 +114,11 @@ pub fn choose_from(
     limit: usize,
     from: usize,
 ) -> usize
-    requires ready { Ready size.n (commandsOf size firsts.now outcomes.now) }
+    requires ready { Ready size.n (commands_of size firsts.now outcomes.now) }
     requires first_le_end { (span.first ≤ span.end) × (span.end ≤ size.m) × (size.n ≤ length table.now) }
-    requires from_bound { from ≤ places (alone (commandsOf size firsts.now outcomes.now) span) 0 }
-    ensures { let P = alone (commandsOf size firsts.now outcomes.now) span in
-        FirstNot (hitAt P (within table.now limit) 0) from (places P 0) result }
+    requires from_bound { from ≤ places (alone (commands_of size firsts.now outcomes.now) span) 0 }
+    ensures { let P = alone (commands_of size firsts.now outcomes.now) span in
+        FirstNot (hit_at P (within table.now limit) 0) from (places P 0) result }
 {
     let end = tries(span);
     let mut place = from;
@@ -141,11 +141,11 @@ pub fn choose(
     table: &[u16],
     limit: usize,
 ) -> usize
-    requires ready { Ready size.n (commandsOf size firsts.now outcomes.now) }
+    requires ready { Ready size.n (commands_of size firsts.now outcomes.now) }
     requires first_le_end { (span.first ≤ span.end) × (span.end ≤ size.m) × (size.n ≤ length table.now) }
     ensures { (R : List Row) (s : ℕ) → sound (held size R firsts.now outcomes.now) ≡ true → s < size.n → span
-        ≡ spanAt (held size R firsts.now outcomes.now) s → result
-        ≡ entry (choice (planIn (held size R firsts.now outcomes.now)) (within table.now limit) s) }
+        ≡ span_at (held size R firsts.now outcomes.now) s → result
+        ≡ entry (choice (plan_in (held size R firsts.now outcomes.now)) (within table.now limit) s) }
 {
     let place = choose_from(size, span, firsts, outcomes, table, limit, 0);
     tried_at(span, place)

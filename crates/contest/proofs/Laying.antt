@@ -7,26 +7,26 @@ use native.Mathlib.Numerals.{add-one}
 use native.Mathlib.Omega.{arith}
 use lib.ListN.{length, get_or}
 use Rattle.model.specs.Plan.{Plan, failing, resting}
-use Rattle.model.specs.Contest.{keeperTurn}
+use Rattle.model.specs.Contest.{keeper_turn}
 use Rattle.model.specs.Tables.{Tables}
-use Rattle.model.specs.Places.{commandCount}
+use Rattle.model.specs.Places.{command_count}
 use Rattle.model.specs.SoundTest.{sound}
-use Rattle.model.specs.Held.{planIn}
-use Rattle.model.proofs.StateKinds.{Kind, fails, rests, acts, kind-of, active-is, idle-none}
-use Rattle.model.proofs.HeldPlan.{states-held, commands-held, outcomes-held}
-use Rattle.model.proofs.Valid.{sound-valid}
+use Rattle.model.specs.Held.{plan_in}
+use Rattle.model.proofs.StateKinds.{Kind, fails, rests, acts, kind_of, active_is, idle_none}
+use Rattle.model.proofs.HeldPlan.{states_held, commands_held, outcomes_held}
+use Rattle.model.proofs.Valid.{sound_valid}
 use Rattle.tables.specs.declared.Row.{Row}
 use Rattle.tables.specs.declared.Size.{Size}
 use Rattle.tables.specs.Meaning.{held}
-use Rattle.tables.specs.Spans.{spanAt}
-use Rattle.tables.proofs.Readiness.{sound-ready}
-use Rattle.tables.proofs.SpanFacts.{span-failing}
+use Rattle.tables.specs.Spans.{span_at}
+use Rattle.tables.proofs.Readiness.{sound_ready}
+use Rattle.tables.proofs.SpanFacts.{span_failing}
 use Rattle.nets.specs.Nets.{Initialized}
-use Rattle.nets.proofs.Initializing.{seed-failing, seed-other}
-use Rattle.nets.proofs.Settings.{sound-spans}
-use Rattle.contest.specs.Laid.{laidPlan, Laid}
-use Rattle.contest.proofs.LaidPlans.{laid-commands, laid-fails, laid-fails-on, laid-stands, laid-rests, laid-tries}
-use Rattle.contest.proofs.SameTurns.{Alike, turn-same}
+use Rattle.nets.proofs.Initializing.{seed_failing, seed_other}
+use Rattle.nets.proofs.Settings.{sound_spans}
+use Rattle.contest.specs.Laid.{laid_plan, Laid}
+use Rattle.contest.proofs.LaidPlans.{laid_commands, laid_fails, laid_fails_on, laid_stands, laid_rests, laid_tries}
+use Rattle.contest.proofs.SameTurns.{Alike, turn_same}
 
 module _ (size : Size) (rows : List Row) (firsts outcomes : List ℕ) (sounds : sound (held size rows firsts outcomes) ≡ true)
     {r₀ w₀ e₀ p₀ seeds froms tos places : List ℕ}
@@ -35,33 +35,33 @@ module _ (size : Size) (rows : List Row) (firsts outcomes : List ℕ) (sounds : 
   T = held size rows firsts outcomes
 
   abbrev P : Plan
-  P = planIn T
+  P = plan_in T
 
   abbrev Q : Plan
-  Q = laidPlan size seeds froms tos firsts outcomes
+  Q = laid_plan size seeds froms tos firsts outcomes
 
   pub laid : size.n ≤ length r₀ → size.n ≤ length w₀ → size.n ≤ length e₀ → Laid size seeds froms tos firsts outcomes
   laid a b c = record {
-    ready = sound-ready size rows firsts outcomes sounds;
-    long-seeds = omega (arith, v.seeded.same);
-    long-froms = omega (arith, v.begins.same);
-    long-tos = omega (arith, v.stops.same);
-    inside = λ s l. rw (v.stops.low s l) ((sound-spans size rows firsts outcomes sounds).inside firsts outcomes s l).1;
+    ready = sound_ready size rows firsts outcomes sounds;
+    long_seeds = omega (arith, v.seeded.same);
+    long_froms = omega (arith, v.begins.same);
+    long_tos = omega (arith, v.stops.same);
+    inside = λ s l. rw (v.stops.low s l) ((sound_spans size rows firsts outcomes sounds).inside firsts outcomes s l).1;
   }
 
   module _ (s : ℕ) (l : s < size.n) where
-    count : P.commands s ≡ (spanAt T s).end - (spanAt T s).first
-    unfolding commandCount
-    count = rw (add-one s) (commands-held T s l)
+    count : P.commands s ≡ (span_at T s).end - (span_at T s).first
+    unfolding command_count
+    count = rw (add-one s) (commands_held T s l)
 
     many : Q.commands s ≡ P.commands s
-    many = laid-commands size seeds froms tos firsts outcomes s ∙ rw (v.begins.low s l, v.stops.low s l) (sym count)
+    many = laid_commands size seeds froms tos firsts outcomes s ∙ rw (v.begins.low s l, v.stops.low s l) (sym count)
 
-    seed-zero : failing P s ≡ true → get_or seeds s 0 ≡ 0
-    seed-zero f = v.seeded.low s l ∙ sym (seed-failing (spanAt T s) (span-failing T s l ∙ f))
+    seed_zero : failing P s ≡ true → get_or seeds s 0 ≡ 0
+    seed_zero f = v.seeded.low s l ∙ sym (seed_failing (span_at T s) (span_failing T s l ∙ f))
 
-    seed-none : failing P s ≡ false → get_or seeds s 0 ≡ 0 → ⊥
-    seed-none f z = omega (arith, seed-other (spanAt T s) (span-failing T s l ∙ f), v.seeded.low s l, z)
+    seed_none : failing P s ≡ false → get_or seeds s 0 ≡ 0 → ⊥
+    seed_none f z = omega (arith, seed_other (span_at T s) (span_failing T s l ∙ f), v.seeded.low s l, z)
 
     -- both plans count the state as the same
     abbrev Same : Type 0
@@ -69,27 +69,27 @@ module _ (size : Size) (rows : List Row) (firsts outcomes : List ℕ) (sounds : 
 
     counts_same : Kind P s → Same
     counts_same (fails f r a) = (
-      laid-fails size seeds froms tos firsts outcomes s _ refl (seed-zero f) ∙ sym f,
-      laid-fails-on size seeds froms tos firsts outcomes s _ refl (seed-zero f) ∙ sym r,
+      laid_fails size seeds froms tos firsts outcomes s _ refl (seed_zero f) ∙ sym f,
+      laid_fails_on size seeds froms tos firsts outcomes s _ refl (seed_zero f) ∙ sym r,
     )
     counts_same (rests f r a) =
-        let none = idle-none P s (sound-valid T sounds) (rw (states-held T) l) a in (
-          laid-stands size seeds froms tos firsts outcomes s _ refl (seed-none f) ∙ sym f,
-          laid-rests size seeds froms tos firsts outcomes s _ refl (seed-none f) _ _ refl refl
-              (omega (arith, many, none, laid-commands size seeds froms tos firsts outcomes s)) ∙ sym r,
+        let none = idle_none P s (sound_valid T sounds) (rw (states_held T) l) a in (
+          laid_stands size seeds froms tos firsts outcomes s _ refl (seed_none f) ∙ sym f,
+          laid_rests size seeds froms tos firsts outcomes s _ refl (seed_none f) _ _ refl refl
+              (omega (arith, many, none, laid_commands size seeds froms tos firsts outcomes s)) ∙ sym r,
         )
     counts_same (acts f r a) = (
-      laid-stands size seeds froms tos firsts outcomes s _ refl (seed-none f) ∙ sym f,
-      laid-tries size seeds froms tos firsts outcomes s _ refl (seed-none f) _ _ refl refl
-          (omega (arith, many, (active-is P s a).1, laid-commands size seeds froms tos firsts outcomes s)) ∙ sym r,
+      laid_stands size seeds froms tos firsts outcomes s _ refl (seed_none f) ∙ sym f,
+      laid_tries size seeds froms tos firsts outcomes s _ refl (seed_none f) _ _ refl refl
+          (omega (arith, many, (active_is P s a).1, laid_commands size seeds froms tos firsts outcomes s)) ∙ sym r,
     )
 
     same : Same
-    same = counts_same (kind-of P s (sound-valid T sounds) (rw (states-held T) l))
+    same = counts_same (kind_of P s (sound_valid T sounds) (rw (states_held T) l))
 
     outs : (c : ℕ) → c < P.commands s → Q.outcomes s c ≡ P.outcomes s c
-    unfolding laidPlan
-    outs c m = rw (v.begins.low s l) (sym (outcomes-held T s l c (rw (commands-held T s l) at m)))
+    unfolding laid_plan
+    outs c m = rw (v.begins.low s l) (sym (outcomes_held T s l c (rw (commands_held T s l) at m)))
 
   alike : Alike P Q size.n
   alike = record {
@@ -97,9 +97,9 @@ module _ (size : Size) (rows : List Row) (firsts outcomes : List ℕ) (sounds : 
     rests = λ s l. (same s l).1;
     many = many;
     outs = λ s c l m. outs s l c m;
-    inside = λ s c x l m o. rw (states-held T) at ((sound-valid T sounds).inside s c x (rw (states-held T) l) m o);
+    inside = λ s c x l m o. rw (states_held T) at ((sound_valid T sounds).inside s c x (rw (states_held T) l) m o);
   }
 
   -- the plan's own turns
-  pub laid-turn : (k s : ℕ) → s < size.n → keeperTurn Q k s ≡ keeperTurn P k s
-  laid-turn = turn-same alike
+  pub laid_turn : (k s : ℕ) → s < size.n → keeper_turn Q k s ≡ keeper_turn P k s
+  laid_turn = turn_same alike

@@ -1,7 +1,7 @@
 // The contest over a few moves: whether the keeper can hold a state against whatever the works do.
 ghost use Rattle.std.specs.Prelude.{◌≡◌, Bool};
 ghost use Rattle.model.specs.Refusal.{given};
-ghost use Rattle.model.specs.Contest.{contestCall, Contested};
+ghost use Rattle.model.specs.Contest.{contest_call, Contested};
 ghost use Rattle.tables.specs.Meaning.{held};
 ghost use Rattle.contest.specs.Answers.{answer_of};
 
@@ -35,7 +35,7 @@ pub fn contest(
     moves: usize,
 ) -> ContestAnswer
     ensures call { let T = held size rows.now firsts.now outcomes.now in
-        answer_of result ≡ contestCall T state moves }
+        answer_of result ≡ contest_call T state moves }
     ensures contested { let T = held size rows.now firsts.now outcomes.now in
         (answer : Bool) → answer_of result ≡ given answer → Contested T state moves answer }
 {

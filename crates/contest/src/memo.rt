@@ -1,8 +1,8 @@
 // The memo: what is known of the keeper's turn at each state with each number of moves left.
 ghost use Rattle.std.specs.Prelude.{◌≡◌, ◌<◌, ◌≤◌};
-ghost use Rattle.model.specs.File.{maxStates};
-ghost use Rattle.model.specs.Contest.{maxMoves};
-ghost use Rattle.contest.specs.Memo.{memoPlace};
+ghost use Rattle.model.specs.File.{max_states};
+ghost use Rattle.model.specs.Contest.{max_moves};
+ghost use Rattle.contest.specs.Memo.{memo_place};
 
 use tables::Size;
 
@@ -24,8 +24,8 @@ pub const NOT_HELD: usize = 2;
 
 // The place of the turn at s with k moves left.
 pub fn memo_place(s: usize, k: usize) -> usize
-    requires { (s < maxStates) × (k ≤ maxMoves) }
-    ensures { result ≡ memoPlace s k }
+    requires { (s < max_states) × (k ≤ max_moves) }
+    ensures { result ≡ memo_place s k }
 {
     TURNS * s + k
 }

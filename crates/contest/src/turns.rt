@@ -2,10 +2,10 @@
 // would work a turn out again wherever it is met, which no controller lives to see the end of; the memo has each turn of the keeper once it
 // is worked out.
 ghost use Rattle.std.specs.Prelude.{◌≡◌, List, ℕ, ◌-◌, ◌<◌, ◌≤◌, length, get_or};
-ghost use Rattle.model.specs.Contest.{worksTurn, keeperTurn, maxMoves};
+ghost use Rattle.model.specs.Contest.{works_turn, keeper_turn, max_moves};
 ghost use Rattle.tables.specs.declared.Size.{Size};
-ghost use Rattle.contest.specs.Laid.{laidPlan, Laid};
-ghost use Rattle.contest.specs.Memo.{memoPlace, Told, Known, Remembers, Knows};
+ghost use Rattle.contest.specs.Laid.{laid_plan, Laid};
+ghost use Rattle.contest.specs.Memo.{memo_place, Told, Known, Remembers, Knows};
 
 use crate::memo::{HELD, NOT_HELD, UNKNOWN, memo_place};
 use tables::Size;
@@ -15,7 +15,7 @@ use tables::entries::{at, first_outcome, put};
 fn sure_turn(seeds: &[u16], froms: &[u16], tos: &[u16], s: usize, k: usize) -> usize
     requires { (s < length seeds.now) × (s < length froms.now) × (s < length tos.now) }
     ensures { (size : Size) (F O : List ℕ)
-        → Known (laidPlan size seeds.now froms.now tos.now F O) k s result }
+        → Known (laid_plan size seeds.now froms.now tos.now F O) k s result }
 {
     if at(seeds, s) == 0 {
         return NOT_HELD;
@@ -45,14 +45,14 @@ pub fn keeper_turn(
     k: usize,
 ) -> bool
     requires laid { Laid size seeds.now froms.now tos.now firsts.now outcomes.now }
-    requires s_lt_n { (s < size.n) × (k ≤ maxMoves) }
-    requires told { Told (laidPlan size seeds.now froms.now tos.now firsts.now outcomes.now) size.n memo.old }
-    requires k_value { get_or memo.old (memoPlace s k) 0 ≡ 0 }
-    ensures result_value { let P = laidPlan size seeds.now froms.now tos.now firsts.now outcomes.now in
-        result ≡ keeperTurn P k s }
-    ensures fact { let P = laidPlan size seeds.now froms.now tos.now firsts.now outcomes.now in
+    requires s_lt_n { (s < size.n) × (k ≤ max_moves) }
+    requires told { Told (laid_plan size seeds.now froms.now tos.now firsts.now outcomes.now) size.n memo.old }
+    requires k_value { get_or memo.old (memo_place s k) 0 ≡ 0 }
+    ensures result_value { let P = laid_plan size seeds.now froms.now tos.now firsts.now outcomes.now in
+        result ≡ keeper_turn P k s }
+    ensures fact { let P = laid_plan size seeds.now froms.now tos.now firsts.now outcomes.now in
         Remembers P size.n memo.old memo.new }
-    ensures fact_2 { let P = laidPlan size seeds.now froms.now tos.now firsts.now outcomes.now in
+    ensures fact_2 { let P = laid_plan size seeds.now froms.now tos.now firsts.now outcomes.now in
         Knows P memo.new s k }
 {
     let sure = sure_turn(seeds, froms, tos, s, k);
@@ -89,11 +89,11 @@ fn works_turn(
     k: usize,
 ) -> bool
     requires laid { Laid size seeds.now froms.now tos.now firsts.now outcomes.now }
-    requires s_lt_n { (s < size.n) × ((c < get_or tos.now s 0 - get_or froms.now s 0) × (k ≤ maxMoves)) }
-    requires told { Told (laidPlan size seeds.now froms.now tos.now firsts.now outcomes.now) size.n memo.old }
-    ensures result_value { let P = laidPlan size seeds.now froms.now tos.now firsts.now outcomes.now in
-        result ≡ worksTurn P (keeperTurn P k) s c }
-    ensures fact { let P = laidPlan size seeds.now froms.now tos.now firsts.now outcomes.now in
+    requires s_lt_n { (s < size.n) × ((c < get_or tos.now s 0 - get_or froms.now s 0) × (k ≤ max_moves)) }
+    requires told { Told (laid_plan size seeds.now froms.now tos.now firsts.now outcomes.now) size.n memo.old }
+    ensures result_value { let P = laid_plan size seeds.now froms.now tos.now firsts.now outcomes.now in
+        result ≡ works_turn P (keeper_turn P k) s c }
+    ensures fact { let P = laid_plan size seeds.now froms.now tos.now firsts.now outcomes.now in
         Remembers P size.n memo.old memo.new }
 {
     let place = at(froms, s) + c;

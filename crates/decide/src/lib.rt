@@ -2,14 +2,14 @@
 ghost use Rattle.std.specs.Prelude.{◌≡◌, ◌&&◌, leb};
 ghost use Rattle.model.specs.Tables.{Tables};
 ghost use Rattle.model.specs.SoundTest.{sound};
-ghost use Rattle.model.specs.Held.{planIn};
-ghost use Rattle.model.specs.Calls.{deciding, decideCall};
+ghost use Rattle.model.specs.Held.{plan_in};
+ghost use Rattle.model.specs.Calls.{deciding, decide_call};
 ghost use Rattle.model.specs.Demand3.{DecidingDemand3};
 ghost use Rattle.tables.specs.Meaning.{held};
 ghost use Rattle.tables.specs.Spans.{admitted};
 ghost use Rattle.decide.specs.declared.DecideAnswer.TheVariants.{Given};
-ghost use Rattle.decide.specs.Calls.{refusedWith, decided};
-ghost use Rattle.decide.specs.Answers.{noCounts, afterDecide};
+ghost use Rattle.decide.specs.Calls.{refused_with, decided};
+ghost use Rattle.decide.specs.Answers.{no_counts, after_decide};
 
 use nets::propagations::propagate_plan;
 use tables::admission::Admission;
@@ -59,7 +59,7 @@ fn admit(
     marks: usize,
     scratch: usize,
 ) -> Admission
-    ensures { (T : Tables) → sounds ≡ sound T → n ≡ T.size.n → deciding T ranks commands marks scratch ≡ admitted result (planIn T) }
+    ensures { (T : Tables) → sounds ≡ sound T → n ≡ T.size.n → deciding T ranks commands marks scratch ≡ admitted result (plan_in T) }
 {
     let long = long_enough(n, ranks, commands, marks, scratch);
     if !sounds {
@@ -72,7 +72,7 @@ fn admit(
 }
 
 fn refuse(r: Refusal) -> Decision
-    ensures { result ≡ refusedWith r }
+    ensures { result ≡ refused_with r }
 {
     Decision {
         answer: DecideAnswer::Refused(r),
@@ -111,9 +111,9 @@ pub fn decide(
     scratch: &mut [u16],
 ) -> Decision
     ensures call { let T = held size rows.now firsts.now outcomes.now in
-        afterDecide result ranks.new commands.new marks.new scratch.new
-        ≡ decideCall T ranks.old commands.old marks.old scratch.old }
-    ensures no_counts { (result.answer ≡ Given → ⊥) → (result.safe ≡ noCounts) × (result.lost ≡ noCounts) }
+        after_decide result ranks.new commands.new marks.new scratch.new
+        ≡ decide_call T ranks.old commands.old marks.old scratch.old }
+    ensures no_counts { (result.answer ≡ Given → ⊥) → (result.safe ≡ no_counts) × (result.lost ≡ no_counts) }
     ensures demand3 { let T = held size rows.now firsts.now outcomes.now in
         result.answer ≡ Given → DecidingDemand3 T ranks.new commands.new }
 {

@@ -1,18 +1,18 @@
 // The last pass over the states: commands, practice marks and the tally.
 ghost use Rattle.std.specs.Prelude.{◌≡◌, true, not, ◌&&◌, List, ℕ, ◌+◌, ◌<◌, ◌≤◌, eqb, length};
 ghost use Rattle.laws.specs.Entry.{entry};
-ghost use Rattle.model.specs.File.{maxStates};
+ghost use Rattle.model.specs.File.{max_states};
 ghost use Rattle.model.specs.SoundTest.{sound};
-ghost use Rattle.model.specs.Held.{planIn};
+ghost use Rattle.model.specs.Held.{plan_in};
 ghost use Rattle.model.specs.Command.{choice};
 ghost use Rattle.model.specs.Practice.{mark_of};
 ghost use Rattle.tables.specs.declared.Row.{Row};
 ghost use Rattle.tables.specs.Meaning.{held};
-ghost use Rattle.tables.specs.Spans.{spanAt, commandsOf};
+ghost use Rattle.tables.specs.Spans.{span_at, commands_of};
 ghost use Rattle.tables.specs.Seen.{Seen};
 ghost use Rattle.tables.specs.Ready.{Ready};
 ghost use Rattle.nets.specs.Nets.{practised};
-ghost use Rattle.decide.specs.Verdicts.{numbered, unlessLost, oneIf, columnOf, added, Counts, StateJudged, StatesJudged};
+ghost use Rattle.decide.specs.Verdicts.{numbered, unless_lost, one_if, column_of, added, Counts, StateJudged, StatesJudged};
 
 use choice::choosing::choose;
 use nets::propagations::has_practice;
@@ -44,12 +44,12 @@ fn command_of(
     ranks: &[u16],
     lost: bool,
 ) -> usize
-    requires ready { Ready size.n (commandsOf size firsts.now outcomes.now) }
+    requires ready { Ready size.n (commands_of size firsts.now outcomes.now) }
     requires first_le_end { (span.first ≤ span.end) × (span.end ≤ size.m) × (size.n ≤ length ranks.now) }
     ensures { (R : List Row) (s : ℕ) →
         let T = held size R firsts.now outcomes.now in
-        sound T ≡ true → s < size.n → span ≡ spanAt T s
-        → result ≡ entry (unlessLost lost (choice (planIn T) (numbered ranks.now) s)) }
+        sound T ≡ true → s < size.n → span ≡ span_at T s
+        → result ≡ entry (unless_lost lost (choice (plan_in T) (numbered ranks.now) s)) }
 {
     if lost {
         return NONE;
@@ -73,7 +73,7 @@ fn is_fault(span: Span, lost: bool, command: usize) -> bool
 }
 
 fn one_if(b: bool) -> usize
-    ensures { result ≡ oneIf b }
+    ensures { result ≡ one_if b }
 {
     if b {
         return 1;
@@ -93,7 +93,7 @@ fn mark_of(fails: bool, fault: bool) -> usize
 }
 
 fn column_of(given: bool, fails: bool) -> usize
-    ensures { result ≡ columnOf given fails }
+    ensures { result ≡ column_of given fails }
 {
     if !given {
         return 2;
@@ -112,13 +112,13 @@ fn judge(
     marks: &mut [u16],
     s: usize,
 ) -> Place
-    requires ready { Ready size.n (commandsOf size firsts.now outcomes.now) }
+    requires ready { Ready size.n (commands_of size firsts.now outcomes.now) }
     requires seen { Seen size firsts.now outcomes.now s span }
     requires n_in_bounds { (size.n ≤ length ranks.now) × (size.n ≤ length commands.old) × (size.n ≤ length marks.old) }
     ensures { (R : List Row) →
         let T = held size R firsts.now outcomes.now in
-        sound T ≡ true → span ≡ spanAt T s
-        → StateJudged (planIn T) (numbered ranks.now) (numbered marks.old s) s
+        sound T ≡ true → span ≡ span_at T s
+        → StateJudged (plan_in T) (numbered ranks.now) (numbered marks.old s) s
         commands.old marks.old result commands.new marks.new }
 {
     let lost = has_number(ranks, s);
@@ -135,8 +135,8 @@ fn judge(
 
 // A count, with one more where the state belongs to it.
 fn more_if(count: u16, here: bool) -> u16
-    requires { count < maxStates }
-    ensures { result ≡ count + oneIf here }
+    requires { count < max_states }
+    ensures { result ≡ count + one_if here }
 {
     if here {
         return count + 1;
@@ -177,7 +177,7 @@ pub fn judge_all(
     requires outcomes_value { sound (held size rows.now firsts.now outcomes.now) ≡ true }
     requires n_in_bounds { (size.n ≤ length ranks.now) × (size.n ≤ length commands.old) × (size.n ≤ length marks.old) }
     ensures { let T = held size rows.now firsts.now outcomes.now in
-        StatesJudged (planIn T) (numbered ranks.now) size.n
+        StatesJudged (plan_in T) (numbered ranks.now) size.n
         commands.old marks.old result commands.new marks.new }
 {
     let mut tally = [[0u16; 3]; 2];

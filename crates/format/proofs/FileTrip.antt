@@ -7,39 +7,39 @@ use Rattle.laws.specs.Entry.{Bytes}
 use Rattle.laws.specs.Lists.{overwrite}
 use Rattle.model.specs.Refusal.{given, refused}
 use Rattle.model.specs.Tables.{Size as ModelSize, Tables}
-use Rattle.model.specs.Calls.{AfterRead, AfterWrite, readCall, writeCall}
-use Rattle.model.proofs.RoundTrips.{read-write}
+use Rattle.model.specs.Calls.{AfterRead, AfterWrite, read_call, write_call}
+use Rattle.model.proofs.RoundTrips.{read_write}
 use Rattle.tables.specs.declared.Size.{Size}
 use Rattle.tables.specs.declared.Row.{Row}
 use Rattle.tables.specs.declared.Refusal.{Refusal}
-use Rattle.tables.specs.Meaning.{refusalOf, rows_of, held}
+use Rattle.tables.specs.Meaning.{refusal_of, rows_of, held}
 use Rattle.reading.specs.declared.ReadAnswer.{ReadAnswer}
 use Rattle.reading.specs.declared.ReadAnswer.TheVariants.{Given, Refused}
-use Rattle.reading.specs.Answers.{afterRead, answer_of as readAnswer}
+use Rattle.reading.specs.Answers.{after_read, answer_of as readAnswer}
 use Rattle.reading.proofs.Leaves.{answered, leaves}
 use Rattle.writing.specs.declared.WriteAnswer.{WriteAnswer}
-use Rattle.writing.specs.Answers.{answer_of as writeAnswer, afterWrite}
-use Rattle.format.specs.Trips.{AfterReadWrite, thenWrite, readWriteCall}
-use Rattle.format.specs.Meaning.{afterReadWrite}
+use Rattle.writing.specs.Answers.{answer_of as writeAnswer, after_write}
+use Rattle.format.specs.Trips.{AfterReadWrite, then_write, read_write_call}
+use Rattle.format.specs.Meaning.{after_read_write}
 
 module _ (file : List ℕ) (rows : List Row) (firsts outcomes bytes : List ℕ) (b : Bytes file) where
-  trip : (z : ModelSize) → (readCall file (rows_of rows) firsts outcomes).answers ≡ given z → length file ≤ length bytes
-      → let x = readWriteCall file (rows_of rows) firsts outcomes bytes in
+  trip : (z : ModelSize) → (read_call file (rows_of rows) firsts outcomes).answers ≡ given z → length file ≤ length bytes
+      → let x = read_write_call file (rows_of rows) firsts outcomes bytes in
       (x.answers ≡ given (length file)) × (x.bytes ≡ overwrite file bytes)
-  unfolding thenWrite
+  unfolding then_write
   trip z e h =
-      let w = read-write file (rows_of rows) firsts outcomes b z e bytes h in
+      let w = read_write file (rows_of rows) firsts outcomes b z e bytes h in
       rw e (ap (λ (x : AfterWrite). x.answers) w, ap (λ (x : AfterWrite). x.bytes) w)
 
   -- both clauses
   abbrev Says : WriteAnswer → List Row → List ℕ → List ℕ → List ℕ → Type 0
   Says w rows' firsts' outcomes' bytes' =
-      (afterReadWrite w rows' firsts' outcomes' bytes' ≡ readWriteCall file (rows_of rows) firsts outcomes bytes)
-      × ((z : ModelSize) → (readCall file (rows_of rows) firsts outcomes).answers ≡ given z → length file ≤ length bytes
+      (after_read_write w rows' firsts' outcomes' bytes' ≡ read_write_call file (rows_of rows) firsts outcomes bytes)
+      × ((z : ModelSize) → (read_call file (rows_of rows) firsts outcomes).answers ≡ given z → length file ≤ length bytes
       → (writeAnswer w ≡ given (length file)) × (bytes' ≡ overwrite file bytes))
 
   says : (w : WriteAnswer) (rows' : List Row) (firsts' outcomes' bytes' : List ℕ)
-      → afterReadWrite w rows' firsts' outcomes' bytes' ≡ readWriteCall file (rows_of rows) firsts outcomes bytes
+      → after_read_write w rows' firsts' outcomes' bytes' ≡ read_write_call file (rows_of rows) firsts outcomes bytes
       → Says w rows' firsts' outcomes' bytes'
   says w rows' firsts' outcomes' bytes' e = (
     e,
@@ -50,26 +50,26 @@ module _ (file : List ℕ) (rows : List Row) (firsts outcomes bytes : List ℕ) 
 
   -- the equation of the reading's contract
   module _ (r : ReadAnswer) (rows' : List Row) (firsts' outcomes' : List ℕ)
-      (e : afterRead r rows' firsts' outcomes' ≡ readCall file (rows_of rows) firsts outcomes) where
-    pub file-refused : (x : Refusal) → r ≡ Refused x → (w : WriteAnswer) → writeAnswer w ≡ refused (refusalOf x)
+      (e : after_read r rows' firsts' outcomes' ≡ read_call file (rows_of rows) firsts outcomes) where
+    pub file_refused : (x : Refusal) → r ≡ Refused x → (w : WriteAnswer) → writeAnswer w ≡ refused (refusal_of x)
         → Says w rows' firsts' outcomes' bytes
-    unfolding thenWrite
-    file-refused x q w a =
-        let d : (readCall file (rows_of rows) firsts outcomes).answers ≡ refused (refusalOf x) = ap (λ (y : AfterRead). y.answers) (sym e)
+    unfolding then_write
+    file_refused x q w a =
+        let d : (read_call file (rows_of rows) firsts outcomes).answers ≡ refused (refusal_of x) = ap (λ (y : AfterRead). y.answers) (sym e)
         ∙ ap readAnswer q in
-        let answers : writeAnswer w ≡ (readWriteCall file (rows_of rows) firsts outcomes bytes).answers = rw d a in
-        let kept : bytes ≡ (readWriteCall file (rows_of rows) firsts outcomes bytes).bytes = rw d refl in
+        let answers : writeAnswer w ≡ (read_write_call file (rows_of rows) firsts outcomes bytes).answers = rw d a in
+        let kept : bytes ≡ (read_write_call file (rows_of rows) firsts outcomes bytes).bytes = rw d refl in
         says w rows' firsts' outcomes' bytes
         (λ i. record { answers = answers i; rows = (e i).rows; firsts = (e i).firsts; outcomes = (e i).outcomes; bytes = kept i })
 
     -- with that of the writing's
-    pub file-written : (z : Size) → r ≡ Given z → (w : WriteAnswer) (bytes' : List ℕ)
-        → afterWrite w bytes' ≡ writeCall (held z rows' firsts' outcomes') bytes → Says w rows' firsts' outcomes' bytes'
-    unfolding thenWrite
-    file-written z q w bytes' f =
+    pub file_written : (z : Size) → r ≡ Given z → (w : WriteAnswer) (bytes' : List ℕ)
+        → after_write w bytes' ≡ write_call (held z rows' firsts' outcomes') bytes → Says w rows' firsts' outcomes' bytes'
+    unfolding then_write
+    file_written z q w bytes' f =
         let d = answered file rows firsts outcomes r rows' firsts' outcomes' e z q in
         let T = leaves file rows firsts outcomes r rows' firsts' outcomes' e z in
-        let x = readCall file (rows_of rows) firsts outcomes in
-        let g : afterWrite w bytes' ≡ thenWrite x x.answers bytes = rw d (f ∙ ap (λ (U : Tables). writeCall U bytes) T) in
+        let x = read_call file (rows_of rows) firsts outcomes in
+        let g : after_write w bytes' ≡ then_write x x.answers bytes = rw d (f ∙ ap (λ (U : Tables). write_call U bytes) T) in
         says w rows' firsts' outcomes' bytes'
         (λ i. record { answers = (g i).answers; rows = (e i).rows; firsts = (e i).firsts; outcomes = (e i).outcomes; bytes = (g i).bytes })

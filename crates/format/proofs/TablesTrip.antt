@@ -6,65 +6,65 @@ use native.Mathlib.Omega.{arith}
 use lib.ListN.{length, take, length-map}
 use Rattle.model.specs.Refusal.{given, refused, answer}
 use Rattle.model.specs.Bytes.{bytes_of}
-use Rattle.model.specs.Tables.{Tables, Same, fileLength}
+use Rattle.model.specs.Tables.{Tables, Same, file_length}
 use Rattle.model.specs.Sound.{Sound}
 use Rattle.model.specs.Held.{tree_of}
-use Rattle.model.specs.Calls.{AfterWrite, writing, readCall, writeCall}
-use Rattle.model.proofs.Answers.{answer-inv}
-use Rattle.model.proofs.Answering.{writing-iff}
-use Rattle.model.proofs.Soundness.{sound-iff}
-use Rattle.model.proofs.RoundTrips.{write_read, written-length}
+use Rattle.model.specs.Calls.{AfterWrite, writing, read_call, write_call}
+use Rattle.model.proofs.Answers.{answer_inv}
+use Rattle.model.proofs.Answering.{writing_iff}
+use Rattle.model.proofs.Soundness.{sound_iff}
+use Rattle.model.proofs.RoundTrips.{write_read, written_length}
 use Rattle.tables.specs.declared.Size.{Size}
 use Rattle.tables.specs.declared.Row.{Row}
 use Rattle.tables.specs.declared.Refusal.{Refusal}
-use Rattle.tables.specs.Meaning.{numbers, refusalOf, row_of, rows_of, held}
+use Rattle.tables.specs.Meaning.{numbers, refusal_of, row_of, rows_of, held}
 use Rattle.reading.specs.declared.ReadAnswer.{ReadAnswer}
-use Rattle.reading.specs.Answers.{afterRead, answer_of as readAnswer}
+use Rattle.reading.specs.Answers.{after_read, answer_of as readAnswer}
 use Rattle.writing.specs.declared.WriteAnswer.{WriteAnswer}
 use Rattle.writing.specs.declared.WriteAnswer.TheVariants.{Given, Refused}
-use Rattle.writing.specs.Answers.{answer_of as writeAnswer, afterWrite}
-use Rattle.format.specs.Trips.{AfterWriteRead, thenRead, writeReadCall}
-use Rattle.format.specs.Meaning.{afterWriteRead}
+use Rattle.writing.specs.Answers.{answer_of as writeAnswer, after_write}
+use Rattle.format.specs.Trips.{AfterWriteRead, then_read, write_read_call}
+use Rattle.format.specs.Meaning.{after_write_read}
 
 -- what is written fits the bytes lent
-pub written-fits : (T : Tables) (bytes : List ℕ) (w : WriteAnswer) {bytes' : List ℕ} (k : ℕ) → afterWrite w bytes' ≡ writeCall T bytes → w
+pub written_fits : (T : Tables) (bytes : List ℕ) (w : WriteAnswer) {bytes' : List ℕ} (k : ℕ) → after_write w bytes' ≡ write_call T bytes → w
     ≡ Given k → k ≤ length bytes
-written-fits T bytes w k e q =
-    let (file, written, count) = answer-inv length (writing T (length bytes)) k
+written_fits T bytes w k e q =
+    let (file, written, count) = answer_inv length (writing T (length bytes)) k
     (ap (λ (x : AfterWrite). x.answers) (sym e) ∙ ap writeAnswer q) in
-    omega (arith, count, written-length T (length bytes) file written, ((writing-iff T (length bytes) file).0 written).long)
+    omega (arith, count, written_length T (length bytes) file written, ((writing_iff T (length bytes) file).0 written).long)
 
 module _ (z : Size) (rows : List Row) (firsts outcomes bytes : List ℕ) (rows2 : List Row) (firsts2 outcomes2 : List ℕ) where
   abbrev T : Tables
   T = held z rows firsts outcomes
 
   abbrev whole : AfterWriteRead
-  whole = writeReadCall T bytes (rows_of rows2) firsts2 outcomes2
+  whole = write_read_call T bytes (rows_of rows2) firsts2 outcomes2
 
-  trip : Sound T → fileLength T ≤ length bytes → z.n ≤ length rows2 → z.m ≤ length firsts2 → z.t ≤ length outcomes2
+  trip : Sound T → file_length T ≤ length bytes → z.n ≤ length rows2 → z.m ≤ length firsts2 → z.t ≤ length outcomes2
       → (whole.answers ≡ given T.size)
       × Same T (record { size = T.size; rows = whole.rows; firsts = whole.firsts; outcomes = whole.outcomes })
-  unfolding thenRead answer
-  trip s room long-rows long-firsts long-outcomes =
+  unfolding then_read answer
+  trip s room long_rows long_firsts long_outcomes =
       let file = bytes_of (tree_of T) in
-      let written = (writing-iff T (length bytes) file).1 (record { sounds = (sound-iff T).1 s; long = room; is = refl }) in
-      let e : (writeCall T bytes).answers ≡ given (length file) = rw written refl in
-      rw e (write_read T bytes (length file) e (rows_of rows2) firsts2 outcomes2 (rw (length-map rows2 row_of) long-rows) long-firsts
-      long-outcomes)
+      let written = (writing_iff T (length bytes) file).1 (record { sounds = (sound_iff T).1 s; long = room; is = refl }) in
+      let e : (write_call T bytes).answers ≡ given (length file) = rw written refl in
+      rw e (write_read T bytes (length file) e (rows_of rows2) firsts2 outcomes2 (rw (length-map rows2 row_of) long_rows) long_firsts
+      long_outcomes)
 
   -- both clauses
   abbrev Says : ReadAnswer → List ℕ → List Row → List ℕ → List ℕ → Type 0
   Says r bytes' rows' firsts' outcomes' =
-      (afterWriteRead r bytes' rows' firsts' outcomes' ≡ whole)
-      × (Sound T → fileLength T ≤ length bytes → z.n ≤ length rows2 → z.m ≤ length firsts2 → z.t ≤ length outcomes2
+      (after_write_read r bytes' rows' firsts' outcomes' ≡ whole)
+      × (Sound T → file_length T ≤ length bytes → z.n ≤ length rows2 → z.m ≤ length firsts2 → z.t ≤ length outcomes2
       → (readAnswer r ≡ given T.size) × Same T (held z rows' firsts' outcomes'))
 
   says : (r : ReadAnswer) (bytes' : List ℕ) (rows' : List Row) (firsts' outcomes' : List ℕ)
-      → afterWriteRead r bytes' rows' firsts' outcomes' ≡ whole → Says r bytes' rows' firsts' outcomes'
+      → after_write_read r bytes' rows' firsts' outcomes' ≡ whole → Says r bytes' rows' firsts' outcomes'
   says r bytes' rows' firsts' outcomes' e = (
     e,
-    λ s room long-rows long-firsts long-outcomes.
-        let (answers, same) = trip s room long-rows long-firsts long-outcomes in
+    λ s room long_rows long_firsts long_outcomes.
+        let (answers, same) = trip s room long_rows long_firsts long_outcomes in
         let left : record { size = T.size; rows = whole.rows; firsts = whole.firsts; outcomes = whole.outcomes }
         ≡ held z rows' firsts' outcomes'
         = λ i. record { size = numbers z; rows = (sym e i).rows; firsts = (sym e i).firsts; outcomes = (sym e i).outcomes } in
@@ -72,33 +72,33 @@ module _ (z : Size) (rows : List Row) (firsts outcomes bytes : List ℕ) (rows2 
   )
 
   -- the equation of the writing's contract
-  module _ (w : WriteAnswer) (bytes' : List ℕ) (f : afterWrite w bytes' ≡ writeCall T bytes) where
-    a : writeAnswer w ≡ (writeCall T bytes).answers
+  module _ (w : WriteAnswer) (bytes' : List ℕ) (f : after_write w bytes' ≡ write_call T bytes) where
+    a : writeAnswer w ≡ (write_call T bytes).answers
     a = ap (λ (x : AfterWrite). x.answers) f
 
-    s : bytes' ≡ (writeCall T bytes).bytes
+    s : bytes' ≡ (write_call T bytes).bytes
     s = ap (λ (x : AfterWrite). x.bytes) f
 
-    pub tables-refused : (x : Refusal) → w ≡ Refused x → (r : ReadAnswer) → readAnswer r ≡ refused (refusalOf x)
+    pub tables_refused : (x : Refusal) → w ≡ Refused x → (r : ReadAnswer) → readAnswer r ≡ refused (refusal_of x)
         → Says r bytes' rows2 firsts2 outcomes2
-    unfolding thenRead
-    tables-refused x q r c =
-        let d : (writeCall T bytes).answers ≡ refused (refusalOf x) = sym a ∙ ap writeAnswer q in
+    unfolding then_read
+    tables_refused x q r c =
+        let d : (write_call T bytes).answers ≡ refused (refusal_of x) = sym a ∙ ap writeAnswer q in
         let kept : record { answers = readAnswer r; rows = rows_of rows2; firsts = firsts2; outcomes = outcomes2 }
-        ≡ thenRead (writeCall T bytes) (writeCall T bytes).answers (rows_of rows2) firsts2 outcomes2
+        ≡ then_read (write_call T bytes) (write_call T bytes).answers (rows_of rows2) firsts2 outcomes2
         = rw (d, c) refl in
         says r bytes' rows2 firsts2 outcomes2
         (λ i. record { answers = (kept i).answers; bytes = s i; rows = (kept i).rows; firsts = (kept i).firsts; outcomes = (kept i).outcomes })
 
     -- with that of the reading's
-    pub tables-read : (k : ℕ) → w ≡ Given k → (r : ReadAnswer) (rows' : List Row) (firsts' outcomes' : List ℕ)
-        → afterRead r rows' firsts' outcomes' ≡ readCall (take k bytes') (rows_of rows2) firsts2 outcomes2
+    pub tables_read : (k : ℕ) → w ≡ Given k → (r : ReadAnswer) (rows' : List Row) (firsts' outcomes' : List ℕ)
+        → after_read r rows' firsts' outcomes' ≡ read_call (take k bytes') (rows_of rows2) firsts2 outcomes2
         → Says r bytes' rows' firsts' outcomes'
-    unfolding thenRead
-    tables-read k q r rows' firsts' outcomes' e =
-        let d : (writeCall T bytes).answers ≡ given k = sym a ∙ ap writeAnswer q in
-        let read : afterRead r rows' firsts' outcomes'
-        ≡ thenRead (writeCall T bytes) (writeCall T bytes).answers (rows_of rows2) firsts2 outcomes2
-        = rw d (e ∙ ap (λ (f : List ℕ). readCall (take k f) (rows_of rows2) firsts2 outcomes2) s) in
+    unfolding then_read
+    tables_read k q r rows' firsts' outcomes' e =
+        let d : (write_call T bytes).answers ≡ given k = sym a ∙ ap writeAnswer q in
+        let read : after_read r rows' firsts' outcomes'
+        ≡ then_read (write_call T bytes) (write_call T bytes).answers (rows_of rows2) firsts2 outcomes2
+        = rw d (e ∙ ap (λ (f : List ℕ). read_call (take k f) (rows_of rows2) firsts2 outcomes2) s) in
         says r bytes' rows' firsts' outcomes'
         (λ i. record { answers = (read i).answers; bytes = s i; rows = (read i).rows; firsts = (read i).firsts; outcomes = (read i).outcomes })

@@ -8,8 +8,8 @@ use Rattle.writing.specs.declared.WriteAnswer.{WriteAnswer}
 use Rattle.writing.specs.Answers as W
 use Rattle.format.specs.Trips.{AfterReadWrite, AfterWriteRead}
 
-abbrev pub afterReadWrite : WriteAnswer → List Row → List ℕ → List ℕ → List ℕ → AfterReadWrite
-afterReadWrite r rows firsts outcomes bytes = record {
+abbrev pub after_read_write : WriteAnswer → List Row → List ℕ → List ℕ → List ℕ → AfterReadWrite
+after_read_write r rows firsts outcomes bytes = record {
   answers = W.answer_of r;
   rows = rows_of rows;
   firsts = firsts;
@@ -17,8 +17,8 @@ afterReadWrite r rows firsts outcomes bytes = record {
   bytes = bytes;
 }
 
-abbrev pub afterWriteRead : ReadAnswer → List ℕ → List Row → List ℕ → List ℕ → AfterWriteRead
-afterWriteRead r bytes rows firsts outcomes = record {
+abbrev pub after_write_read : ReadAnswer → List ℕ → List Row → List ℕ → List ℕ → AfterWriteRead
+after_write_read r bytes rows firsts outcomes = record {
   answers = R.answer_of r;
   bytes = bytes;
   rows = rows_of rows;

@@ -2,14 +2,14 @@
 ghost use Rattle.std.specs.Prelude.{◌≡◌, ◌≤◌, length};
 ghost use Rattle.laws.specs.Lists.{overwrite};
 ghost use Rattle.model.specs.Refusal.{given, refused};
-ghost use Rattle.model.specs.Tables.{Size as ModelSize, Same, fileLength};
+ghost use Rattle.model.specs.Tables.{Size as ModelSize, Same, file_length};
 ghost use Rattle.model.specs.Sound.{Sound};
-ghost use Rattle.model.specs.Calls.{readCall};
-ghost use Rattle.tables.specs.Meaning.{refusalOf, rows_of, held};
+ghost use Rattle.model.specs.Calls.{read_call};
+ghost use Rattle.tables.specs.Meaning.{refusal_of, rows_of, held};
 ghost use Rattle.reading.specs.Answers.{answer_of as readAnswer};
 ghost use Rattle.writing.specs.Answers.{answer_of as writeAnswer};
-ghost use Rattle.format.specs.Trips.{readWriteCall, writeReadCall};
-ghost use Rattle.format.specs.Meaning.{afterReadWrite, afterWriteRead};
+ghost use Rattle.format.specs.Trips.{read_write_call, write_read_call};
+ghost use Rattle.format.specs.Meaning.{after_read_write, after_write_read};
 
 use reading::ReadAnswer;
 use tables::{Refusal, Row, Size};
@@ -17,14 +17,14 @@ use writing::WriteAnswer;
 
 // A file that is not read is not written.
 fn not_read(why: Refusal) -> WriteAnswer
-    ensures { writeAnswer result ≡ refused (refusalOf why) }
+    ensures { writeAnswer result ≡ refused (refusal_of why) }
 {
     WriteAnswer::Refused(why)
 }
 
 // Tables that are not written are not read again.
 fn not_written(why: Refusal) -> ReadAnswer
-    ensures { readAnswer result ≡ refused (refusalOf why) }
+    ensures { readAnswer result ≡ refused (refusal_of why) }
 {
     ReadAnswer::Refused(why)
 }
@@ -38,10 +38,10 @@ pub fn read_write(
     outcomes: &mut [u16],
     bytes: &mut [u8],
 ) -> WriteAnswer
-    ensures call { afterReadWrite result rows.new firsts.new outcomes.new bytes.new
-        ≡ readWriteCall file.now (rows_of rows.old) firsts.old outcomes.old bytes.old }
+    ensures call { after_read_write result rows.new firsts.new outcomes.new bytes.new
+        ≡ read_write_call file.now (rows_of rows.old) firsts.old outcomes.old bytes.old }
     ensures again { (z : ModelSize)
-        → (readCall file.now (rows_of rows.old) firsts.old outcomes.old).answers ≡ given z
+        → (read_call file.now (rows_of rows.old) firsts.old outcomes.old).answers ≡ given z
         → length file.now ≤ length bytes.old → (writeAnswer result ≡ given (length file.now))
         × (bytes.new ≡ overwrite file.now bytes.old) }
 {
@@ -65,11 +65,11 @@ pub fn write_read(
     firsts2: &mut [u16],
     outcomes2: &mut [u16],
 ) -> ReadAnswer
-    ensures call { afterWriteRead result bytes.new rows2.new firsts2.new outcomes2.new
-        ≡ writeReadCall (held size rows.now firsts.now outcomes.now) bytes.old
+    ensures call { after_write_read result bytes.new rows2.new firsts2.new outcomes2.new
+        ≡ write_read_call (held size rows.now firsts.now outcomes.now) bytes.old
         (rows_of rows2.old) firsts2.old outcomes2.old }
     ensures again { let T = held size rows.now firsts.now outcomes.now in
-        Sound T → fileLength T ≤ length bytes.old
+        Sound T → file_length T ≤ length bytes.old
         → size.n ≤ length rows2.old → size.m ≤ length firsts2.old → size.t ≤ length outcomes2.old
         → (readAnswer result ≡ given T.size) × Same T (held size rows2.new firsts2.new outcomes2.new) }
 {

@@ -3,7 +3,7 @@ ghost use Rattle.std.specs.Prelude.{◌≡◌};
 ghost use Rattle.model.specs.Refusal.{given};
 ghost use Rattle.model.specs.Tables.{Tables};
 ghost use Rattle.model.specs.Demand3.{DecidingDemand3, SearchDemand3};
-ghost use Rattle.model.specs.Boundary.{entriesIn, verdictIn, roundsIn, tablesIn, gateReadCall, gateDecideCall, gateSearchCall};
+ghost use Rattle.model.specs.Boundary.{entries_in, verdict_in, rounds_in, tables_in, gate_read_call, gate_decide_call, gate_search_call};
 
 // Reads a plan file. Ruled out: 0 for a file that is not all written, and a slice altered by a refusal.
 #[unsafe(no_mangle)]
@@ -14,7 +14,7 @@ pub extern "C" fn gate_read(
     firsts: &mut [u8],
     outcomes: &mut [u8],
 ) -> u32
-    ensures call { gateReadCall file.now size.old rows.old firsts.old outcomes.old
+    ensures call { gate_read_call file.now size.old rows.old firsts.old outcomes.old
         ≡ record {
           returns = result;
           size = size.new;
@@ -39,8 +39,8 @@ pub extern "C" fn gate_decide(
     scratch: &mut [u8],
     tally: &mut [u8],
 ) -> u32
-    ensures call { let lent = tablesIn size.now rows.now firsts.now outcomes.now in
-        gateDecideCall lent ranks.old commands.old marks.old scratch.old tally.old
+    ensures call { let lent = tables_in size.now rows.now firsts.now outcomes.now in
+        gate_decide_call lent ranks.old commands.old marks.old scratch.old tally.old
         ≡ record {
           returns = result;
           ranks = ranks.new;
@@ -49,8 +49,8 @@ pub extern "C" fn gate_decide(
           scratch = scratch.new;
           tally = tally.new;
         } }
-    ensures demand3 { let lent = tablesIn size.now rows.now firsts.now outcomes.now in
-        (T : Tables) → lent ≡ given T → result ≡ 0 → DecidingDemand3 T (entriesIn ranks.new) (entriesIn commands.new) }
+    ensures demand3 { let lent = tables_in size.now rows.now firsts.now outcomes.now in
+        (T : Tables) → lent ≡ given T → result ≡ 0 → DecidingDemand3 T (entries_in ranks.new) (entries_in commands.new) }
 {
     gate_deciding::call::decide_call(
         size, rows, firsts, outcomes, ranks, commands, marks, scratch, tally,
@@ -69,12 +69,12 @@ pub extern "C" fn gate_search(
     scratch: &mut [u8],
     answer: &mut [u8],
 ) -> u32
-    ensures call { let lent = tablesIn size.now rows.now firsts.now outcomes.now in
-        gateSearchCall lent start commands.old scratch.old answer.old
+    ensures call { let lent = tables_in size.now rows.now firsts.now outcomes.now in
+        gate_search_call lent start commands.old scratch.old answer.old
         ≡ record { returns = result; commands = commands.new; scratch = scratch.new; answer = answer.new } }
-    ensures demand3 { let lent = tablesIn size.now rows.now firsts.now outcomes.now in
+    ensures demand3 { let lent = tables_in size.now rows.now firsts.now outcomes.now in
         (T : Tables) → lent ≡ given T → result ≡ 0
-        → SearchDemand3 T start (verdictIn answer.new) (roundsIn answer.new) (entriesIn commands.new) }
+        → SearchDemand3 T start (verdict_in answer.new) (rounds_in answer.new) (entries_in commands.new) }
 {
     gate_searching::call::search_call(
         size, rows, firsts, outcomes, start, commands, scratch, answer,

@@ -1,10 +1,10 @@
 // A decision, as bytes.
 ghost use Rattle.std.specs.Prelude.{◌≡◌, [], ◌∷◌, ◌≤◌, length};
 ghost use Rattle.laws.specs.Lists.{joined, overwrite};
-ghost use Rattle.model.specs.Boundary.{bytesFor, tallyBytes};
-ghost use Rattle.decide.specs.Answers.{afterDecide};
-ghost use Rattle.model.specs.Rooms.{decideRoom};
-ghost use Rattle.gate_deciding.specs.Delivery.{afterGateDecide, deliveryCall, Deliverable};
+ghost use Rattle.model.specs.Boundary.{bytes_for, tally_bytes};
+ghost use Rattle.decide.specs.Answers.{after_decide};
+ghost use Rattle.model.specs.Rooms.{decide_room};
+ghost use Rattle.gate_deciding.specs.Delivery.{after_gate_decide, delivery_call, Deliverable};
 
 use decide::{DecideAnswer, Decision};
 use store::encoding::{store, store_entry};
@@ -16,7 +16,7 @@ const TALLY_BYTES: usize = 12;
 
 // Whether slices of so many bytes have room for the entries of n states and for the tally's six.
 fn room(n: usize, ranks: usize, commands: usize, marks: usize, scratch: usize, tally: usize) -> bool
-    ensures { result ≡ decideRoom n ranks commands marks scratch tally }
+    ensures { result ≡ decide_room n ranks commands marks scratch tally }
 {
     if ranks / ENTRY_BYTES < n {
         return false;
@@ -35,8 +35,8 @@ fn room(n: usize, ranks: usize, commands: usize, marks: usize, scratch: usize, t
 
 // The tally's two rows, one after the other.
 fn store_tally(safe: [u16; 3], lost: [u16; 3], tally: &mut [u8])
-    requires { tallyBytes ≤ length tally.old }
-    ensures { tally.new ≡ overwrite (bytesFor (joined (safe ∷ lost ∷ []))) tally.old }
+    requires { tally_bytes ≤ length tally.old }
+    ensures { tally.new ≡ overwrite (bytes_for (joined (safe ∷ lost ∷ []))) tally.old }
 {
     store_entry(tally, 0, safe[0]);
     store_entry(tally, 1, safe[1]);
@@ -60,10 +60,10 @@ pub fn deliver(
     scratch: &mut [u8],
     tally: &mut [u8],
 ) -> u32
-    requires { Deliverable (afterDecide decision ranked.now chosen.now marked.now clean.now) n }
-    ensures call { let decided = afterDecide decision ranked.now chosen.now marked.now clean.now in
-        afterGateDecide result ranks.new commands.new marks.new scratch.new tally.new
-        ≡ deliveryCall decided n ranks.old commands.old marks.old scratch.old
+    requires { Deliverable (after_decide decision ranked.now chosen.now marked.now clean.now) n }
+    ensures call { let decided = after_decide decision ranked.now chosen.now marked.now clean.now in
+        after_gate_decide result ranks.new commands.new marks.new scratch.new tally.new
+        ≡ delivery_call decided n ranks.old commands.old marks.old scratch.old
         tally.old }
 {
     let answer = decision.answer;

@@ -1,9 +1,9 @@
 // What only the planner's own crates call: deciding, on bytes.
 ghost use Rattle.std.specs.Prelude.{◌≡◌};
 ghost use Rattle.model.specs.Refusal.{given};
-ghost use Rattle.model.specs.Boundary.{tablesIn, gateDecideCall};
+ghost use Rattle.model.specs.Boundary.{tables_in, gate_decide_call};
 ghost use Rattle.tables.specs.Meaning.{held};
-ghost use Rattle.gate_deciding.specs.Delivery.{afterGateDecide};
+ghost use Rattle.gate_deciding.specs.Delivery.{after_gate_decide};
 
 use crate::answers::deliver;
 use load::decoding::{PlanAnswer, load_plan};
@@ -22,8 +22,8 @@ pub fn decide_loaded(
     tally: &mut [u8],
 ) -> u32
     ensures call { let T = held size rows.now firsts.now outcomes.now in
-        afterGateDecide result ranks.new commands.new marks.new scratch.new tally.new
-        ≡ gateDecideCall (given T) ranks.old commands.old marks.old scratch.old
+        after_gate_decide result ranks.new commands.new marks.new scratch.new tally.new
+        ≡ gate_decide_call (given T) ranks.old commands.old marks.old scratch.old
         tally.old }
 {
     let mut ranked = [0u16; Size::STATES];
@@ -57,9 +57,9 @@ pub fn decide_call(
     scratch: &mut [u8],
     tally: &mut [u8],
 ) -> u32
-    ensures call { let lent = tablesIn size.now rows.now firsts.now outcomes.now in
-        afterGateDecide result ranks.new commands.new marks.new scratch.new tally.new
-        ≡ gateDecideCall lent ranks.old commands.old marks.old scratch.old tally.old }
+    ensures call { let lent = tables_in size.now rows.now firsts.now outcomes.now in
+        after_gate_decide result ranks.new commands.new marks.new scratch.new tally.new
+        ≡ gate_decide_call lent ranks.old commands.old marks.old scratch.old tally.old }
 {
     let mut states = [Row::BLANK; Size::STATES];
     let mut heads = [0u16; Size::COMMANDS];

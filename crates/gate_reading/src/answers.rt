@@ -1,10 +1,10 @@
 // What was read, as bytes.
 ghost use Rattle.std.specs.Prelude.{◌≡◌, ◌*◌, ◌<◌, ◌≤◌, length, take};
 ghost use Rattle.laws.specs.Lists.{overwrite};
-ghost use Rattle.model.specs.Boundary.{bytesFor, entryBytes, sizeBytes, sizeEntries};
+ghost use Rattle.model.specs.Boundary.{bytes_for, entry_bytes, size_bytes, size_entries};
 ghost use Rattle.tables.specs.Meaning.{numbers};
 ghost use Rattle.reading.specs.Answers.{answer_of};
-ghost use Rattle.model.specs.Rooms.{readRoom};
+ghost use Rattle.model.specs.Rooms.{read_room};
 ghost use Rattle.gate_reading.specs.Lent.{admitted};
 
 use reading::ReadAnswer;
@@ -16,7 +16,7 @@ use tables::{Refusal, Size};
 
 // Whether slices of these lengths have room for a plan.
 fn room(z: Size, size: usize, rows: usize, firsts: usize, outcomes: usize) -> bool
-    ensures { result ≡ readRoom (numbers z) size rows firsts outcomes }
+    ensures { result ≡ read_room (numbers z) size rows firsts outcomes }
 {
     let long = long_enough(
         z,
@@ -58,12 +58,12 @@ pub fn store_lists(
     firsts: &mut [u8],
     outcomes: &mut [u8],
 )
-    requires size_bytes_in_bounds { (sizeBytes ≤ length size.old) × (z.n < 65536) × (z.m < 65536) × (z.t < 65536) × (z.start < 65536) }
-    requires m_in_bounds { (z.m ≤ length commands.now) × (z.m * entryBytes ≤ length firsts.old) }
-    requires t_in_bounds { (z.t ≤ length entries.now) × (z.t * entryBytes ≤ length outcomes.old) }
-    ensures size { size.new ≡ overwrite (bytesFor (sizeEntries (numbers z))) size.old }
-    ensures firsts { firsts.new ≡ overwrite (bytesFor (take z.m commands.now)) firsts.old }
-    ensures outcomes { outcomes.new ≡ overwrite (bytesFor (take z.t entries.now)) outcomes.old }
+    requires size_bytes_in_bounds { (size_bytes ≤ length size.old) × (z.n < 65536) × (z.m < 65536) × (z.t < 65536) × (z.start < 65536) }
+    requires m_in_bounds { (z.m ≤ length commands.now) × (z.m * entry_bytes ≤ length firsts.old) }
+    requires t_in_bounds { (z.t ≤ length entries.now) × (z.t * entry_bytes ≤ length outcomes.old) }
+    ensures size { size.new ≡ overwrite (bytes_for (size_entries (numbers z))) size.old }
+    ensures firsts { firsts.new ≡ overwrite (bytes_for (take z.m commands.now)) firsts.old }
+    ensures outcomes { outcomes.new ≡ overwrite (bytes_for (take z.t entries.now)) outcomes.old }
 {
     store_size(z, size);
     store(commands, firsts, z.m);

@@ -1,7 +1,7 @@
 // What only the planner's own crates call: reading, to bytes.
 ghost use Rattle.std.specs.Prelude.{◌≡◌};
-ghost use Rattle.model.specs.Boundary.{gateReadCall};
-ghost use Rattle.gate_reading.specs.Lent.{afterGateRead};
+ghost use Rattle.model.specs.Boundary.{gate_read_call};
+ghost use Rattle.gate_reading.specs.Lent.{after_gate_read};
 
 use crate::answers::{admit, store_lists};
 use reading::{ReadAnswer, read};
@@ -17,8 +17,8 @@ pub fn read_call(
     firsts: &mut [u8],
     outcomes: &mut [u8],
 ) -> u32
-    ensures call { afterGateRead result size.new rows.new firsts.new outcomes.new
-        ≡ gateReadCall file.now size.old rows.old firsts.old outcomes.old }
+    ensures call { after_gate_read result size.new rows.new firsts.new outcomes.new
+        ≡ gate_read_call file.now size.old rows.old firsts.old outcomes.old }
 {
     let mut states = [Row::BLANK; Size::STATES];
     let mut commands = [0u16; Size::COMMANDS];

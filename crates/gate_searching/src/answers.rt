@@ -1,10 +1,10 @@
 // What the search found, as bytes.
 ghost use Rattle.std.specs.Prelude.{◌≡◌, cond, ◌<◌, ◌≤◌, length};
 ghost use Rattle.laws.specs.Lists.{overwrite};
-ghost use Rattle.model.specs.Boundary.{bytesFor, resultEntries, answerBytes};
+ghost use Rattle.model.specs.Boundary.{bytes_for, result_entries, answer_bytes};
 ghost use Rattle.search.specs.Answers.{answer_of};
-ghost use Rattle.model.specs.Rooms.{searchRoom};
-ghost use Rattle.gate_searching.specs.Delivery.{afterGateSearch, Deliverable, delivered};
+ghost use Rattle.model.specs.Rooms.{search_room};
+ghost use Rattle.gate_searching.specs.Delivery.{after_gate_search, Deliverable, delivered};
 
 use search::{Found, SearchAnswer};
 use store::encoding::{store, store_entry};
@@ -16,7 +16,7 @@ const ANSWER_BYTES: usize = 4;
 
 // Whether slices of so many bytes have room for the entries of n states and for the answer.
 fn room(n: usize, commands: usize, scratch: usize, answer: usize) -> bool
-    ensures tested { result ≡ searchRoom n commands scratch answer }
+    ensures tested { result ≡ search_room n commands scratch answer }
 {
     if commands / ENTRY_BYTES < n {
         return false;
@@ -38,8 +38,8 @@ fn flag(lost: bool) -> u16
 
 // The verdict, then the rounds.
 fn store_found(found: Found, answer: &mut [u8])
-    requires fits { (found.rounds < 65536) × (answerBytes ≤ length answer.old) }
-    ensures stored { answer.new ≡ overwrite (bytesFor (resultEntries (found.lost, found.rounds))) answer.old }
+    requires fits { (found.rounds < 65536) × (answer_bytes ≤ length answer.old) }
+    ensures stored { answer.new ≡ overwrite (bytes_for (result_entries (found.lost, found.rounds))) answer.old }
 {
     store_entry(answer, 0, flag(found.lost));
     store_entry(answer, 1, narrow(found.rounds));
@@ -56,7 +56,7 @@ pub fn deliver(
     answer: &mut [u8],
 ) -> u32
     requires fits { Deliverable (answer_of found) n (length takes.now) (length clean.now) }
-    ensures call { afterGateSearch result commands.new scratch.new answer.new
+    ensures call { after_gate_search result commands.new scratch.new answer.new
         ≡ delivered (answer_of found) n takes.now clean.now commands.old scratch.old
         answer.old }
 {

@@ -1,9 +1,9 @@
 // What only the planner's own crates call: the search, on bytes.
 ghost use Rattle.std.specs.Prelude.{◌≡◌};
 ghost use Rattle.model.specs.Refusal.{given};
-ghost use Rattle.model.specs.Boundary.{tablesIn, gateSearchCall};
+ghost use Rattle.model.specs.Boundary.{tables_in, gate_search_call};
 ghost use Rattle.tables.specs.Meaning.{held};
-ghost use Rattle.gate_searching.specs.Delivery.{afterGateSearch};
+ghost use Rattle.gate_searching.specs.Delivery.{after_gate_search};
 
 use crate::answers::deliver;
 use load::decoding::{PlanAnswer, load_plan};
@@ -21,8 +21,8 @@ pub fn search_loaded(
     answer: &mut [u8],
 ) -> u32
     ensures call { let T = held size rows.now firsts.now outcomes.now in
-        afterGateSearch result commands.new scratch.new answer.new
-        ≡ gateSearchCall (given T) start commands.old scratch.old answer.old }
+        after_gate_search result commands.new scratch.new answer.new
+        ≡ gate_search_call (given T) start commands.old scratch.old answer.old }
 {
     let mut takes = [0u16; Size::STATES];
     let mut clean = [0u16; Size::STATES];
@@ -42,9 +42,9 @@ pub fn search_call(
     scratch: &mut [u8],
     answer: &mut [u8],
 ) -> u32
-    ensures call { let lent = tablesIn size.now rows.now firsts.now outcomes.now in
-        afterGateSearch result commands.new scratch.new answer.new
-        ≡ gateSearchCall lent start commands.old scratch.old answer.old }
+    ensures call { let lent = tables_in size.now rows.now firsts.now outcomes.now in
+        after_gate_search result commands.new scratch.new answer.new
+        ≡ gate_search_call lent start commands.old scratch.old answer.old }
 {
     let mut states = [Row::BLANK; Size::STATES];
     let mut heads = [0u16; Size::COMMANDS];

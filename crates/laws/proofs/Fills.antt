@@ -9,9 +9,9 @@ use lib.ListN.{length, get_or, set, drop, replicate, length-set}
 use lib.Seq.{get_or-set_same, get_or-set_other, ext_get_or}
 use Rattle.laws.specs.Filled.{Filled}
 use Rattle.laws.specs.Lists.{tabulate, overwrite}
-use Rattle.laws.proofs.Overwrites.{overwrite-length, overwrite-low, overwrite-high}
+use Rattle.laws.proofs.Overwrites.{overwrite_length, overwrite_low, overwrite_high}
 use Rattle.laws.proofs.Sets.{below_suc}
-use Rattle.laws.proofs.Lists.{length-tabulate, tabulate-at, length-overwrite, getD-overwrite-below, getD-overwrite-above}
+use Rattle.laws.proofs.Lists.{length_tabulate, tabulate_at, length_overwrite, get_or_overwrite_below, get_or_overwrite_above}
 
 pub filled_none : {f : ℕ → ℕ} {l : List ℕ} → Filled 0 f l l
 filled_none = record { same = refl; low = λ x k. absurd (omega arith); high = λ x k. refl }
@@ -27,50 +27,50 @@ filled_next {i} {f} {l₀} {l} w h v p l' q = rw (q, p, add-one i) (record {
 })
 
 -- another rule that says the same
-pub filled-as : {n : ℕ} {f g : ℕ → ℕ} {l₀ l : List ℕ} → ((x : ℕ) → x < n → f x ≡ g x) → Filled n f l₀ l → Filled n g l₀ l
-filled-as h w = record { same = w.same; low = λ x k. w.low x k ∙ h x k; high = w.high }
+pub filled_as : {n : ℕ} {f g : ℕ → ℕ} {l₀ l : List ℕ} → ((x : ℕ) → x < n → f x ≡ g x) → Filled n f l₀ l → Filled n g l₀ l
+filled_as h w = record { same = w.same; low = λ x k. w.low x k ∙ h x k; high = w.high }
 
 -- the places are written over a list that differs from l₀ in them only
-pub filled-from : {n : ℕ} {f : ℕ → ℕ} {l₀ l l' : List ℕ} → length l ≡ length l₀ → ((x : ℕ) → n ≤ x → get_or l x 0 ≡ get_or l₀ x 0)
+pub filled_from : {n : ℕ} {f : ℕ → ℕ} {l₀ l l' : List ℕ} → length l ≡ length l₀ → ((x : ℕ) → n ≤ x → get_or l x 0 ≡ get_or l₀ x 0)
     → Filled n f l l'
     → Filled n f l₀ l'
-filled-from e h w = record { same = w.same ∙ e; low = w.low; high = λ x k. w.high x k ∙ h x k }
+filled_from e h w = record { same = w.same ∙ e; low = w.low; high = λ x k. w.high x k ∙ h x k }
 
-pub filled-over : {n : ℕ} {f g : ℕ → ℕ} {l₀ l l' : List ℕ} → Filled n f l₀ l → Filled n g l l' → Filled n g l₀ l'
-filled-over v w = filled-from v.same v.high w
+pub filled_over : {n : ℕ} {f g : ℕ → ℕ} {l₀ l l' : List ℕ} → Filled n f l₀ l → Filled n g l l' → Filled n g l₀ l'
+filled_over v w = filled_from v.same v.high w
 
 -- as an equation
 pub filled_is : {n : ℕ} {f : ℕ → ℕ} {l₀ l : List ℕ} → n ≤ length l₀ → Filled n f l₀ l → l ≡ overwrite (tabulate f 0 n) l₀
 filled_is {n} {f} {l₀} {l} h w =
-    let e = length-tabulate f 0 n in
-    ext_get_or 0 l (overwrite (tabulate f 0 n) l₀) (w.same ∙ sym (length-overwrite (tabulate f 0 n) l₀ (omega arith)))
+    let e = length_tabulate f 0 n in
+    ext_get_or 0 l (overwrite (tabulate f 0 n) l₀) (w.same ∙ sym (length_overwrite (tabulate f 0 n) l₀ (omega arith)))
     (λ i k. go i (dec_lt i n))
   where
     go : (i : ℕ) → Dec (i < n) → get_or l i 0 ≡ get_or (overwrite (tabulate f 0 n) l₀) i 0
     go i (yes p) =
         w.low i p
-        ∙ sym (getD-overwrite-below (tabulate f 0 n) l₀ i 0 (omega (arith, length-tabulate f 0 n)) ∙ tabulate-at f n i 0 p)
-    go i (no p) = w.high i (omega arith) ∙ sym (getD-overwrite-above (tabulate f 0 n) l₀ i 0 (omega (arith, length-tabulate f 0 n)))
+        ∙ sym (get_or_overwrite_below (tabulate f 0 n) l₀ i 0 (omega (arith, length_tabulate f 0 n)) ∙ tabulate_at f n i 0 p)
+    go i (no p) = w.high i (omega arith) ∙ sym (get_or_overwrite_above (tabulate f 0 n) l₀ i 0 (omega (arith, length_tabulate f 0 n)))
 
 -- the loop is over
-pub filled-done : {i n : ℕ} {f : ℕ → ℕ} {l₀ l : List ℕ} → Filled i f l₀ l → i ≤ n → n ≤ i → Filled n f l₀ l
-filled-done {i} {n} w h k = let e : i ≡ n = omega arith in rw e at w
+pub filled_done : {i n : ℕ} {f : ℕ → ℕ} {l₀ l : List ℕ} → Filled i f l₀ l → i ≤ n → n ≤ i → Filled n f l₀ l
+filled_done {i} {n} w h k = let e : i ≡ n = omega arith in rw e at w
 
-pub tabulate-constant : (v a n : ℕ) → tabulate (λ _. v) a n ≡ replicate n v
+pub tabulate_constant : (v a n : ℕ) → tabulate (λ _. v) a n ≡ replicate n v
 unfolding tabulate
-tabulate-constant v a zero = refl
-tabulate-constant v a (suc n) = ap (λ (r : List ℕ). v ∷ r) (tabulate-constant v (suc a) n)
+tabulate_constant v a zero = refl
+tabulate_constant v a (suc n) = ap (λ (r : List ℕ). v ∷ r) (tabulate_constant v (suc a) n)
 
 -- a table that is known by an equation
 pub filled_of : {n : ℕ} {f : ℕ → ℕ} {l₀ l : List ℕ} → n ≤ length l₀ → l ≡ overwrite (tabulate f 0 n) l₀ → Filled n f l₀ l
 filled_of {n} {f} {l₀} h e = rw e
-    (record { same = overwrite-length f n l₀ h; low = overwrite-low f n l₀ h; high = overwrite-high f n l₀ h })
+    (record { same = overwrite_length f n l₀ h; low = overwrite_low f n l₀ h; high = overwrite_high f n l₀ h })
 
 -- xs in the first places
-pub filled-front : (n : ℕ) (xs l : List ℕ) → length xs ≡ n → n ≤ length l → Filled n (λ i. get_or (xs ++ drop n l) i 0) l (xs ++ drop n l)
+pub filled_front : (n : ℕ) (xs l : List ℕ) → length xs ≡ n → n ≤ length l → Filled n (λ i. get_or (xs ++ drop n l) i 0) l (xs ++ drop n l)
 unfolding overwrite
-filled-front n xs l e h = rw (← e) (record {
-  same = length-overwrite xs l (omega arith);
+filled_front n xs l e h = rw (← e) (record {
+  same = length_overwrite xs l (omega arith);
   low = λ i k. refl;
-  high = λ i k. getD-overwrite-above xs l i 0 k;
+  high = λ i k. get_or_overwrite_above xs l i 0 k;
 })

@@ -18,9 +18,9 @@ use Rattle.laws.specs.Sets.{any, lesser, least, found}
 use Rattle.laws.specs.First.{FirstNot}
 use Rattle.laws.specs.Rising.{RisesIn}
 use Rattle.laws.proofs.Tests.{clash, same_test}
-use Rattle.laws.proofs.Sets.{any-hit, any_of}
-use Rattle.laws.proofs.Rising.{rises-along}
-use Rattle.laws.proofs.Slices.{slice_at, slice-mem}
+use Rattle.laws.proofs.Sets.{any_hit, any_of}
+use Rattle.laws.proofs.Rising.{rises_along}
+use Rattle.laws.proofs.Slices.{slice_at, slice_mem}
 
 -- what `least` answers
 abbrev pub IsLeast : (ℕ → Bool) → List ℕ → Option ℕ → Type 0
@@ -59,25 +59,25 @@ module _ (f : ℕ → Bool) where
         λ y m t. ⊎_elim (λ q. omega arith) (λ n. omega (arith, ltb-false z x l, h.2 y n t)) (Memᴰ.cases_cons m),
       )
 
-  least-is : (xs : List ℕ) → IsLeast f xs (least f xs)
+  least_is : (xs : List ℕ) → IsLeast f xs (least f xs)
   unfolding least
-  least-is [] = λ x m. absurd (Memᴰ.not-nil m)
-  least-is (x ∷ xs) = go (f x) refl (least f xs) (least-is xs)
+  least_is [] = λ x m. absurd (Memᴰ.not-nil m)
+  least_is (x ∷ xs) = go (f x) refl (least f xs) (least_is xs)
     where
       go : (b : Bool) → f x ≡ b → (o : Option ℕ) → IsLeast f xs o → IsLeast f (x ∷ xs) (cond b (some (lesser x o)) o)
       go true e o h = taken x xs o e h
       go false e o h = skipped x xs o e h
 
-  pub least-some : (xs : List ℕ) (x : ℕ) → least f xs ≡ some x
+  pub least_some : (xs : List ℕ) (x : ℕ) → least f xs ≡ some x
       → Memᴰ x xs × (f x ≡ true) × ((y : ℕ) → Memᴰ y xs → f y ≡ true → x ≤ y)
-  least-some xs x e = subst (IsLeast f xs) e (least-is xs)
+  least_some xs x e = subst (IsLeast f xs) e (least_is xs)
 
-  pub least-none : (xs : List ℕ) → least f xs ≡ none → (x : ℕ) → Memᴰ x xs → f x ≡ false
-  least-none xs e = subst (IsLeast f xs) e (least-is xs)
+  pub least_none : (xs : List ℕ) → least f xs ≡ none → (x : ℕ) → Memᴰ x xs → f x ≡ false
+  least_none xs e = subst (IsLeast f xs) e (least_is xs)
 
   -- and nothing else is the least
-  pub least-eq : (xs : List ℕ) (o : Option ℕ) → IsLeast f xs o → least f xs ≡ o
-  least-eq xs o h = go (least f xs) o (least-is xs) h
+  pub least_eq : (xs : List ℕ) (o : Option ℕ) → IsLeast f xs o → least f xs ≡ o
+  least_eq xs o h = go (least f xs) o (least_is xs) h
     where
       go : (p q : Option ℕ) → IsLeast f xs p → IsLeast f xs q → p ≡ q
       go none none a b = refl
@@ -86,22 +86,22 @@ module _ (f : ℕ → Bool) where
       go (some x) (some y) a b = ap some (le_antisymm (a.2 y b.0 b.1) (b.2 x a.0 a.1))
 
   -- there is one exactly if some member passes
-  pub found-least : (xs : List ℕ) → found (least f xs) ≡ any f xs
+  pub found_least : (xs : List ℕ) → found (least f xs) ≡ any f xs
   unfolding found
-  found-least xs = go (least f xs) refl
+  found_least xs = go (least f xs) refl
     where
       go : (o : Option ℕ) → least f xs ≡ o → found o ≡ any f xs
       go none e = same_test false (any f xs) (λ t. clash t refl)
-          (λ t. let (x, m, h) = any-hit f xs t in clash h (least-none xs e x m))
-      go (some x) e = let (m, h, low) = least-some xs x e in sym (any_of f xs m h)
+          (λ t. let (x, m, h) = any_hit f xs t in clash h (least_none xs e x m))
+      go (some x) e = let (m, h, low) = least_some xs x e in sym (any_of f xs m h)
 
 -- tests that agree on the members have the same least
-pub least-same : (f g : ℕ → Bool) (xs : List ℕ) → ((x : ℕ) → Memᴰ x xs → f x ≡ g x) → least f xs ≡ least g xs
+pub least_same : (f g : ℕ → Bool) (xs : List ℕ) → ((x : ℕ) → Memᴰ x xs → f x ≡ g x) → least f xs ≡ least g xs
 unfolding least
-least-same f g [] h = refl
-least-same f g (x ∷ xs) h =
+least_same f g [] h = refl
+least_same f g (x ∷ xs) h =
     ap₂ (λ (b : Bool) (o : Option ℕ). cond b (some (lesser x o)) o) (h x (Memᴰ.head refl))
-    (least-same f g xs (λ y m. h y (Memᴰ.tail m)))
+    (least_same f g xs (λ y m. h y (Memᴰ.tail m)))
 
 -- ---- in a part of a table
 
@@ -112,16 +112,16 @@ module _ (f : ℕ → Bool) (l : List ℕ) (a e r : ℕ) (p : a ≤ e) (long : e
 
   pub least_first : RisesIn l a e → r < e → least f (slice a e l) ≡ some (get_or l r 0)
   least_first rise h =
-      least-eq f (slice a e l) (some (get_or l r 0))
-      (slice-mem l e long a r v.since h, not-false (f (get_or l r 0)) (v.stops h), below)
+      least_eq f (slice a e l) (some (get_or l r 0))
+      (slice_mem l e long a r v.since h, not-false (f (get_or l r 0)) (v.stops h), below)
     where
       below : (y : ℕ) → Memᴰ y (slice a e l) → f y ≡ true → get_or l r 0 ≤ y
       below y m t = let (i, g, k, q) = slice_at l e long a y p m in go i g k q (dec_lt i r)
         where
           go : (i : ℕ) → a ≤ i → i < e → get_or l i 0 ≡ y → Dec (i < r) → get_or l r 0 ≤ y
           go i g k q (yes b) = clash t (rw q at (passed_over i g b))
-          go i g k q (no b) = rw (← q) (rises-along rise r i v.since (omega arith) k)
+          go i g k q (no b) = rw (← q) (rises_along rise r i v.since (omega arith) k)
 
-  pub least-missing : e ≤ r → least f (slice a e l) ≡ none
-  least-missing h = least-eq f (slice a e l) none
+  pub least_missing : e ≤ r → least f (slice a e l) ≡ none
+  least_missing h = least_eq f (slice a e l) none
       (λ y m. let (i, g, k, q) = slice_at l e long a y p m in rw (← q) (passed_over i g (omega arith)))

@@ -6,8 +6,8 @@ use native.Mathlib.Numerals.{add-one}
 use native.Mathlib.Omega.{arith}
 use borrow.Author.Tests.{not-true, not-false}
 use Rattle.laws.specs.Sets.{every}
-use Rattle.laws.proofs.Tests.{clash, refute, and-join}
-use Rattle.laws.proofs.Sets.{every-at, every_of}
+use Rattle.laws.proofs.Tests.{clash, refute, and_join}
+use Rattle.laws.proofs.Sets.{every_at, every_of}
 
 -- a test that is a call's answer t, asked as `if !t`
 module _ {t a : Bool} (e : t ≡ a) where
@@ -19,16 +19,16 @@ module _ {t a : Bool} (e : t ≡ a) where
 
 -- a loop that tests f at each number from 0 on: before i all pass
 module _ (f : ℕ → Bool) where
-  pub every-none : every f 0 ≡ true
+  pub every_none : every f 0 ≡ true
   unfolding every
-  every-none = refl
+  every_none = refl
 
-  pub every-next : (i : ℕ) → every f i ≡ true → f i ≡ true → every f (i + 1) ≡ true
+  pub every_next : (i : ℕ) → every f i ≡ true → f i ≡ true → every f (i + 1) ≡ true
   unfolding every
-  every-next i e t = rw (add-one i) (and-join (every f i) (f i) e t)
+  every_next i e t = rw (add-one i) (and_join (every f i) (f i) e t)
 
-  pub every-stop : {i n : ℕ} → i < n → f i ≡ false → false ≡ every f n
-  every-stop {i} {n} l e = sym (refute (every f n) (λ t. clash (every-at f n t i l) e))
+  pub every_stop : {i n : ℕ} → i < n → f i ≡ false → false ≡ every f n
+  every_stop {i} {n} l e = sym (refute (every f n) (λ t. clash (every_at f n t i l) e))
 
-  pub every-done : {i n : ℕ} → every f i ≡ true → n ≤ i → true ≡ every f n
-  every-done {i} {n} e l = sym (every_of f n (λ j k. every-at f i e j (omega arith)))
+  pub every_done : {i n : ℕ} → every f i ≡ true → n ≤ i → true ≡ every f n
+  every_done {i} {n} e l = sym (every_of f n (λ j k. every_at f i e j (omega arith)))

@@ -8,32 +8,32 @@ use native.Mathlib.Omega.{arith}
 use lib.ListN.{length, get_or, take}
 use lib.Seq.{take-suc, take-length}
 use Rattle.laws.specs.Passing.{passing}
-use Rattle.laws.proofs.Tests.{true-or-false}
-use Rattle.laws.proofs.Passing.{next-yes, next-no}
+use Rattle.laws.proofs.Tests.{true_or_false}
+use Rattle.laws.proofs.Passing.{next_yes, next_no}
 
-module _ {A : Type 0} (weight : A → ℕ) (sum : List A → ℕ) (sum-nil : sum [] ≡ 0)
-    (sum-cons : (x : A) (xs : List A) → sum (x ∷ xs) ≡ weight x + sum xs) where
-  sum-last : (xs : List A) (x : A) → sum (xs ++ x ∷ []) ≡ sum xs + weight x
-  sum-last [] x = omega (arith, sum-cons x [], sum-nil)
-  sum-last (y ∷ ys) x = omega (arith, sum-cons y (ys ++ x ∷ []), sum-last ys x, sum-cons y ys)
+module _ {A : Type 0} (weight : A → ℕ) (sum : List A → ℕ) (sum_nil : sum [] ≡ 0)
+    (sum_cons : (x : A) (xs : List A) → sum (x ∷ xs) ≡ weight x + sum xs) where
+  sum_last : (xs : List A) (x : A) → sum (xs ++ x ∷ []) ≡ sum xs + weight x
+  sum_last [] x = omega (arith, sum_cons x [], sum_nil)
+  sum_last (y ∷ ys) x = omega (arith, sum_cons y (ys ++ x ∷ []), sum_last ys x, sum_cons y ys)
 
   -- h gives what the member at a place is kept as, and f which places are kept
   module _ (f : ℕ → Bool) (h : ℕ → A) (xs : List A) (d : A) (no_more : (i : ℕ) → weight (h i) ≤ weight (get_or xs i d)) where
-    passing-upto : (n : ℕ) → n ≤ length xs → sum (map h (passing f n)) ≤ sum (take n xs)
+    passing_upto : (n : ℕ) → n ≤ length xs → sum (map h (passing f n)) ≤ sum (take n xs)
     unfolding passing
-    passing-upto zero l = omega arith
-    passing-upto (suc n) l =
-        let before = passing-upto n (omega arith) in
+    passing_upto zero l = omega arith
+    passing_upto (suc n) l =
+        let before = passing_upto n (omega arith) in
         let all : sum (take (suc n) xs) ≡ sum (take n xs) + weight (get_or xs n d)
-        = ap sum (take-suc xs n d l) ∙ sum-last (take n xs) (get_or xs n d) in
+        = ap sum (take-suc xs n d l) ∙ sum_last (take n xs) (get_or xs n d) in
         ⊎_elim
         (λ t.
         let kept : sum (map h (passing f (suc n))) ≡ sum (map h (passing f n)) + weight (h n)
-        = ap (λ (r : List ℕ). sum (map h r)) (next-yes f n t) ∙ ap sum (map-append h (passing f n) (n ∷ []))
-        ∙ sum-last (map h (passing f n)) (h n) in
+        = ap (λ (r : List ℕ). sum (map h r)) (next_yes f n t) ∙ ap sum (map-append h (passing f n) (n ∷ []))
+        ∙ sum_last (map h (passing f n)) (h n) in
         omega (arith, kept, all, no_more n, before))
-        (λ t. omega (arith, ap (λ (r : List ℕ). sum (map h r)) (next-no f n t), all, before))
-        (true-or-false (f n))
+        (λ t. omega (arith, ap (λ (r : List ℕ). sum (map h r)) (next_no f n t), all, before))
+        (true_or_false (f n))
 
-    pub passing-sum : sum (map h (passing f (length xs))) ≤ sum xs
-    passing-sum = omega (arith, passing-upto (length xs) (omega arith), ap sum (take-length xs))
+    pub passing_sum : sum (map h (passing f (length xs))) ≤ sum xs
+    passing_sum = omega (arith, passing_upto (length xs) (omega arith), ap sum (take-length xs))

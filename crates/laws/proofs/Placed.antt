@@ -9,13 +9,13 @@ use lib.Seq.{get_or-set_same, get_or-set_other}
 use Rattle.laws.specs.Placed.{RisingPlaces, Placed}
 
 module _ {at : List ℕ} {f : ℕ → ℕ} {l₀ : List ℕ} where
-  pub placed-none : Placed 0 at f l₀ l₀
-  placed-none = record { same = refl; named = λ i l. absurd (omega arith); others = λ x h. refl }
+  pub placed_none : Placed 0 at f l₀ l₀
+  placed_none = record { same = refl; named = λ i l. absurd (omega arith); others = λ x h. refl }
 
   -- one entry more
-  pub placed-next : {n i : ℕ} {l : List ℕ} → Placed i at f l₀ l → RisingPlaces n at (length l₀) → i < n → {x v : ℕ} → x ≡ get_or at i 0 → v ≡ f i
+  pub placed_next : {n i : ℕ} {l : List ℕ} → Placed i at f l₀ l → RisingPlaces n at (length l₀) → i < n → {x v : ℕ} → x ≡ get_or at i 0 → v ≡ f i
       → {l' : List ℕ} → l' ≡ set l x v → Placed (i + 1) at f l₀ l'
-  placed-next {n} {i} {l} c r h p q w = rw (w, p, q) (record {
+  placed_next {n} {i} {l} c r h p q w = rw (w, p, q) (record {
     same = length-set l s (f i) ∙ c.same;
     named = λ j k. named j k (dec_lt j i);
     others = λ x new. get_or-set_other l s x (f i) 0 (λ e. new i (omega arith) (sym e)) ∙ c.others x (λ j k. new j (omega arith));
@@ -31,5 +31,5 @@ module _ {at : List ℕ} {f : ℕ → ℕ} {l₀ : List ℕ} where
           rw e (get_or-set_same l s (f i) 0 (omega (arith, c.same, r.inside i h)))
 
   -- the loop is over
-  pub placed-done : {n i : ℕ} {l : List ℕ} → Placed i at f l₀ l → i ≤ n → n ≤ i → Placed n at f l₀ l
-  placed-done {n} {i} c h k = let e : i ≡ n = omega arith in rw e at c
+  pub placed_done : {n i : ℕ} {l : List ℕ} → Placed i at f l₀ l → i ≤ n → n ≤ i → Placed n at f l₀ l
+  placed_done {n} {i} c h k = let e : i ≡ n = omega arith in rw e at c

@@ -12,9 +12,9 @@ pub range_none : {a x : ℕ} {l : List ℕ} → FilledRange a a x l l
 range_none = record { same = refl; below = λ i p. refl; inside = λ i p q. absurd (omega arith); above = λ i p. refl }
 
 -- one place more
-pub range-next : {a i x : ℕ} {l₀ l : List ℕ} → FilledRange a i x l₀ l → a ≤ i → i < length l₀ → (l' : List ℕ) → l' ≡ set l i x
+pub range_next : {a i x : ℕ} {l₀ l : List ℕ} → FilledRange a i x l₀ l → a ≤ i → i < length l₀ → (l' : List ℕ) → l' ≡ set l i x
     → FilledRange a (i + 1) x l₀ l'
-range-next {a} {i} {x} {l₀} {l} v g h l' e = rw e (record {
+range_next {a} {i} {x} {l₀} {l} v g h l' e = rw e (record {
   same = length-set l i x ∙ v.same;
   below = λ j p. other j (omega arith) ∙ v.below j p;
   inside = λ j p q. go j p q (dec_lt j i);
@@ -29,9 +29,9 @@ range-next {a} {i} {x} {l₀} {l} v g h l' e = rw e (record {
     go j p q (no d) = let z : j ≡ i = omega arith in rw z (get_or-set_same l i x 0 (omega (arith, v.same)))
 
 -- the loop is over
-pub range-done : {a i e x : ℕ} {l₀ l : List ℕ} → FilledRange a i x l₀ l → i ≤ e → e ≤ i → FilledRange a e x l₀ l
-range-done {a} {i} {e} w h k = let z : i ≡ e = omega arith in rw z at w
+pub range_done : {a i e x : ℕ} {l₀ l : List ℕ} → FilledRange a i x l₀ l → i ≤ e → e ≤ i → FilledRange a e x l₀ l
+range_done {a} {i} {e} w h k = let z : i ≡ e = omega arith in rw z at w
 
 -- a range from place 0 on
-pub range-filled : {n x : ℕ} {l₀ l : List ℕ} → FilledRange 0 n x l₀ l → Filled n (λ _. x) l₀ l
-range-filled v = record { same = v.same; low = λ i h. v.inside i (omega arith) h; high = v.above }
+pub range_filled : {n x : ℕ} {l₀ l : List ℕ} → FilledRange 0 n x l₀ l → Filled n (λ _. x) l₀ l
+range_filled v = record { same = v.same; low = λ i h. v.inside i (omega arith) h; high = v.above }

@@ -18,9 +18,9 @@ module _ (f : ℕ → ℕ) (n : ℕ) (step : (i : ℕ) → i < n → f i ≤ f (
   rises i j p q = let e : i + (j - i) ≡ j = omega arith in subst (λ (x : ℕ). f i ≤ f x) e (rises_by i (j - i) (omega arith))
 
 -- the same of the n numbers after the one at index a: none from there on is above the last
-pub up-to-last : (f : ℕ → ℕ) (a n : ℕ) → ((k : ℕ) → k < n → f (a + k) ≤ f (suc (a + k))) → (j : ℕ) → a ≤ j → j ≤ a + n
+pub up_to_last : (f : ℕ → ℕ) (a n : ℕ) → ((k : ℕ) → k < n → f (a + k) ≤ f (suc (a + k))) → (j : ℕ) → a ≤ j → j ≤ a + n
     → f j ≤ f (a + n)
-up-to-last f a n step j p q =
+up_to_last f a n step j p q =
     let e : a + (j - a) ≡ j = omega arith in
     subst (λ (x : ℕ). f x ≤ f (a + n)) e
     (rises (λ k. f (a + k)) n (λ k l. rw (add-suc a k) (step k l)) (j - a) n (omega arith) (omega arith))
@@ -36,9 +36,9 @@ between f j (suc n) p q = go (between f j n p) (dec_lt j (f n))
     go before (no d) = (n, omega arith, omega arith, q)
 
 -- entries of a part of a table that rise
-pub rises-along : {l : List ℕ} {a e : ℕ} → RisesIn l a e → (i j : ℕ) → a ≤ i → i ≤ j → j < e → get_or l i 0 ≤ get_or l j 0
-rises-along {l} r i j p q h =
+pub rises_along : {l : List ℕ} {a e : ℕ} → RisesIn l a e → (i j : ℕ) → a ≤ i → i ≤ j → j < e → get_or l i 0 ≤ get_or l j 0
+rises_along {l} r i j p q h =
     let z : i + (j - i) ≡ j = omega arith in
     subst (λ (k : ℕ). get_or l i 0 ≤ get_or l k 0) z
-    (up-to-last (λ k. get_or l k 0) i (j - i) (λ k b. omega (arith, r.next (i + k) (omega arith) (omega arith))) i (omega arith)
+    (up_to_last (λ k. get_or l k 0) i (j - i) (λ k b. omega (arith, r.next (i + k) (omega arith) (omega arith))) i (omega arith)
     (omega arith))

@@ -14,14 +14,14 @@ module _ (f : ℕ → Bool) (l : List ℕ) where
   unfolding any
   any_part i end h k = rw (add-one i) (ap (any f) (slice-cons i end l 0 h k))
 
-  pub any-no-part : (i end : ℕ) → i ≤ end → end ≤ i → any f (slice i end l) ≡ false
+  pub any_no_part : (i end : ℕ) → i ≤ end → end ≤ i → any f (slice i end l) ≡ false
   unfolding any
-  any-no-part i end h k = let e : i ≡ end = omega arith in rw e (ap (any f) (slice_empty end l))
+  any_no_part i end h k = let e : i ≡ end = omega arith in rw e (ap (any f) (slice_empty end l))
 
   pub each_part : (i end : ℕ) → i < end → end ≤ length l → each f (slice i end l) ≡ f (get_or l i 0) && each f (slice (i + 1) end l)
   unfolding each
   each_part i end h k = rw (add-one i) (ap (each f) (slice-cons i end l 0 h k))
 
-  pub each-no-part : (i end : ℕ) → i ≤ end → end ≤ i → each f (slice i end l) ≡ true
+  pub each_no_part : (i end : ℕ) → i ≤ end → end ≤ i → each f (slice i end l) ≡ true
   unfolding each
-  each-no-part i end h k = let e : i ≡ end = omega arith in rw e (ap (each f) (slice_empty end l))
+  each_no_part i end h k = let e : i ≡ end = omega arith in rw e (ap (each f) (slice_empty end l))

@@ -10,15 +10,15 @@ use native.Mathlib.Nat.{le_of_suc-le-suc, not-suc-le-zero, eq-or-lt_of_le, le_an
 use native.Mathlib.Omega.{arith}
 use lib.Dec.{ltb}
 use borrow.Author.Tests.{ltb-true, ltb-false, not-true}
-use Rattle.laws.specs.Sets.{any, first, every, exists, or_else, lowest, found, howMany}
-use Rattle.laws.proofs.Tests.{clash, true-or-false, refute, and_both, and-join, or_cases, or_left, or_right}
+use Rattle.laws.specs.Sets.{any, first, every, exists, or_else, lowest, found, how_many}
+use Rattle.laws.proofs.Tests.{clash, true_or_false, refute, and_both, and_join, or_cases, or_left, or_right}
 
 -- ---- some member of a list
 
-pub any-hit : (f : ℕ → Bool) (xs : List ℕ) → any f xs ≡ true → (x : ℕ) × Memᴰ x xs × (f x ≡ true)
+pub any_hit : (f : ℕ → Bool) (xs : List ℕ) → any f xs ≡ true → (x : ℕ) × Memᴰ x xs × (f x ≡ true)
 unfolding any
-any-hit f [] e = clash e refl
-any-hit f (x ∷ xs) e = go (λ t. any-hit f xs t) (or_cases (f x) (any f xs) e)
+any_hit f [] e = clash e refl
+any_hit f (x ∷ xs) e = go (λ t. any_hit f xs t) (or_cases (f x) (any f xs) e)
   where
     later : (y : ℕ) × Memᴰ y xs × (f y ≡ true) → (y : ℕ) × Memᴰ y (x ∷ xs) × (f y ≡ true)
     later t = (t.0, Memᴰ.tail t.1, t.2)
@@ -47,18 +47,18 @@ abbrev IsFirst : (ℕ → Bool) → List ℕ → Option ℕ → Type 0
 IsFirst f xs none = (x : ℕ) → Memᴰ x xs → f x ≡ false
 IsFirst f xs (some x) = Memᴰ x xs × (f x ≡ true)
 
-first-here : (f : ℕ → Bool) (x : ℕ) (xs : List ℕ) → f x ≡ true → first f (x ∷ xs) ≡ some x
+first_here : (f : ℕ → Bool) (x : ℕ) (xs : List ℕ) → f x ≡ true → first f (x ∷ xs) ≡ some x
 unfolding first
-first-here f x xs e = rw e
+first_here f x xs e = rw e
 
-first-later : (f : ℕ → Bool) (x : ℕ) (xs : List ℕ) → f x ≡ false → first f (x ∷ xs) ≡ first f xs
+first_later : (f : ℕ → Bool) (x : ℕ) (xs : List ℕ) → f x ≡ false → first f (x ∷ xs) ≡ first f xs
 unfolding first
-first-later f x xs e = rw e
+first_later f x xs e = rw e
 
-first-is : (f : ℕ → Bool) (xs : List ℕ) → IsFirst f xs (first f xs)
+first_is : (f : ℕ → Bool) (xs : List ℕ) → IsFirst f xs (first f xs)
 unfolding first
-first-is f [] = λ x m. absurd (Memᴰ.not-nil m)
-first-is f (x ∷ xs) = go (f x) refl (first f xs) (first-is f xs)
+first_is f [] = λ x m. absurd (Memᴰ.not-nil m)
+first_is f (x ∷ xs) = go (f x) refl (first f xs) (first_is f xs)
   where
     go : (b : Bool) → f x ≡ b → (o : Option ℕ) → IsFirst f xs o → IsFirst f (x ∷ xs) (cond b (some x) o)
     go true e o h = (Memᴰ.head refl, e)
@@ -66,27 +66,27 @@ first-is f (x ∷ xs) = go (f x) refl (first f xs) (first-is f xs)
     go false e (some y) h = (Memᴰ.tail h.0, h.1)
 
 pub first_some : (f : ℕ → Bool) (xs : List ℕ) (x : ℕ) → first f xs ≡ some x → Memᴰ x xs × (f x ≡ true)
-first_some f xs x e = subst (IsFirst f xs) e (first-is f xs)
+first_some f xs x e = subst (IsFirst f xs) e (first_is f xs)
 
-pub first-none : (f : ℕ → Bool) (xs : List ℕ) → first f xs ≡ none → (x : ℕ) → Memᴰ x xs → f x ≡ false
-first-none f xs e = subst (IsFirst f xs) e (first-is f xs)
+pub first_none : (f : ℕ → Bool) (xs : List ℕ) → first f xs ≡ none → (x : ℕ) → Memᴰ x xs → f x ≡ false
+first_none f xs e = subst (IsFirst f xs) e (first_is f xs)
 
 -- a narrower test that the first to pass still passes has the same first
-pub first-same : (f g : ℕ → Bool) (xs : List ℕ) → ((x : ℕ) → Memᴰ x xs → g x ≡ true → f x ≡ true)
+pub first_same : (f g : ℕ → Bool) (xs : List ℕ) → ((x : ℕ) → Memᴰ x xs → g x ≡ true → f x ≡ true)
     → ((x : ℕ) → first f xs ≡ some x → g x ≡ true) → first f xs ≡ first g xs
 unfolding first
-first-same f g [] narrow still = refl
-first-same f g (x ∷ xs) narrow still =
-    ⊎_elim here (later (first-same f g xs (λ y m. narrow y (Memᴰ.tail m)))) (true-or-false (f x))
+first_same f g [] narrow still = refl
+first_same f g (x ∷ xs) narrow still =
+    ⊎_elim here (later (first_same f g xs (λ y m. narrow y (Memᴰ.tail m)))) (true_or_false (f x))
   where
     here : f x ≡ true → first f (x ∷ xs) ≡ first g (x ∷ xs)
-    here e = first-here f x xs e ∙ sym (first-here g x xs (still x (first-here f x xs e)))
+    here e = first_here f x xs e ∙ sym (first_here g x xs (still x (first_here f x xs e)))
 
     later : (((y : ℕ) → first f xs ≡ some y → g y ≡ true) → first f xs ≡ first g xs)
         → f x ≡ false → first f (x ∷ xs) ≡ first g (x ∷ xs)
     later below e =
-        let q = first-later f x xs e in
-        let q' = first-later g x xs (refute (g x) (λ t. clash (narrow x (Memᴰ.head refl) t) e)) in
+        let q = first_later f x xs e in
+        let q' = first_later g x xs (refute (g x) (λ t. clash (narrow x (Memᴰ.head refl) t) e)) in
         q ∙ below (λ y p. still y (q ∙ p)) ∙ sym q'
 
 -- ---- a number or none
@@ -95,10 +95,10 @@ pub is_some : (o : Option ℕ) → (o ≡ none → ⊥) → (i : ℕ) × (o ≡ 
 is_some none h = absurd (h refl)
 is_some (some i) h = (i, refl)
 
-pub found-is : (o : Option ℕ) → found o ≡ true → (i : ℕ) × (o ≡ some i)
+pub found_is : (o : Option ℕ) → found o ≡ true → (i : ℕ) × (o ≡ some i)
 unfolding found
-found-is none e = clash e refl
-found-is (some i) e = (i, refl)
+found_is none e = clash e refl
+found_is (some i) e = (i, refl)
 
 pub found_none : (o : Option ℕ) → found o ≡ false → o ≡ none
 unfolding found
@@ -115,44 +115,44 @@ below_suc Q n h q i l = go (eq-or-lt_of_le (le_of_suc-le-suc l))
     go (inl e) = rw e q
     go (inr k) = h i k
 
-pub every-at : (f : ℕ → Bool) (n : ℕ) → every f n ≡ true → (i : ℕ) → i < n → f i ≡ true
+pub every_at : (f : ℕ → Bool) (n : ℕ) → every f n ≡ true → (i : ℕ) → i < n → f i ≡ true
 unfolding every
-every-at f zero e i l = absurd (not-suc-le-zero l)
-every-at f (suc n) e i l =
+every_at f zero e i l = absurd (not-suc-le-zero l)
+every_at f (suc n) e i l =
     let both = and_both (every f n) (f n) e in
-    below_suc (λ j. f j ≡ true) n (every-at f n both.0) both.1 i l
+    below_suc (λ j. f j ≡ true) n (every_at f n both.0) both.1 i l
 
 pub every_of : (f : ℕ → Bool) (n : ℕ) → ((i : ℕ) → i < n → f i ≡ true) → every f n ≡ true
 unfolding every
 every_of f zero h = refl
-every_of f (suc n) h = and-join (every f n) (f n) (every_of f n (λ i l. h i (omega arith))) (h n (omega arith))
+every_of f (suc n) h = and_join (every f n) (f n) (every_of f n (λ i l. h i (omega arith))) (h n (omega arith))
 
 -- one that fails
-pub every-fails : (f : ℕ → Bool) (n : ℕ) → every f n ≡ false → (i : ℕ) × (i < n) × (f i ≡ false)
+pub every_fails : (f : ℕ → Bool) (n : ℕ) → every f n ≡ false → (i : ℕ) × (i < n) × (f i ≡ false)
 unfolding every
-every-fails f zero e = clash refl e
-every-fails f (suc n) e =
+every_fails f zero e = clash refl e
+every_fails f (suc n) e =
     ⊎_elim
     (λ h. (n, omega arith, rw h at e))
-    (λ h. let (i, l, t) = every-fails f n h in (i, omega arith, t))
-    (true-or-false (every f n))
+    (λ h. let (i, l, t) = every_fails f n h in (i, omega arith, t))
+    (true_or_false (every f n))
 
-pub exists-at : (f : ℕ → Bool) (n : ℕ) → exists f n ≡ true → (i : ℕ) × (i < n) × (f i ≡ true)
+pub exists_at : (f : ℕ → Bool) (n : ℕ) → exists f n ≡ true → (i : ℕ) × (i < n) × (f i ≡ true)
 unfolding exists
-exists-at f zero e = clash e refl
-exists-at f (suc n) e =
+exists_at f zero e = clash e refl
+exists_at f (suc n) e =
     ⊎_elim
-    (λ h. let (i, l, t) = exists-at f n h in (i, omega arith, t))
+    (λ h. let (i, l, t) = exists_at f n h in (i, omega arith, t))
     (λ h. (n, omega arith, h))
     (or_cases (exists f n) (f n) e)
 
-pub exists-of : (f : ℕ → Bool) (n i : ℕ) → i < n → f i ≡ true → exists f n ≡ true
+pub exists_of : (f : ℕ → Bool) (n i : ℕ) → i < n → f i ≡ true → exists f n ≡ true
 unfolding exists
-exists-of f zero i l e = absurd (not-suc-le-zero l)
-exists-of f (suc n) i l e =
+exists_of f zero i l e = absurd (not-suc-le-zero l)
+exists_of f (suc n) i l e =
     ⊎_elim
     (λ q. or_right (exists f n) (f n) (rw q at e))
-    (λ k. or_left (exists f n) (f n) (exists-of f n i k e))
+    (λ k. or_left (exists f n) (f n) (exists_of f n i k e))
     (eq-or-lt_of_le (le_of_suc-le-suc l))
 
 -- what `lowest` answers
@@ -160,37 +160,37 @@ abbrev pub IsLowest : (ℕ → Bool) → ℕ → Option ℕ → Type 0
 IsLowest f n none = (i : ℕ) → i < n → f i ≡ false
 IsLowest f n (some i) = (i < n) × (f i ≡ true) × ((j : ℕ) → j < i → f j ≡ false)
 
-or-else-is : (f : ℕ → Bool) (n : ℕ) (o : Option ℕ) (b : Bool) → f n ≡ b → IsLowest f n o → IsLowest f (suc n) (or_else o b n)
+or_else_is : (f : ℕ → Bool) (n : ℕ) (o : Option ℕ) (b : Bool) → f n ≡ b → IsLowest f n o → IsLowest f (suc n) (or_else o b n)
 unfolding or_else
-or-else-is f n (some i) b e h = (omega (arith, h.0), h.1, h.2)
-or-else-is f n none true e h = (omega arith, e, h)
-or-else-is f n none false e h = below_suc (λ j. f j ≡ false) n h e
+or_else_is f n (some i) b e h = (omega (arith, h.0), h.1, h.2)
+or_else_is f n none true e h = (omega arith, e, h)
+or_else_is f n none false e h = below_suc (λ j. f j ≡ false) n h e
 
-pub lowest-is : (f : ℕ → Bool) (n : ℕ) → IsLowest f n (lowest f n)
+pub lowest_is : (f : ℕ → Bool) (n : ℕ) → IsLowest f n (lowest f n)
 unfolding lowest
-lowest-is f zero = λ i l. absurd (not-suc-le-zero l)
-lowest-is f (suc n) = or-else-is f n (lowest f n) (f n) refl (lowest-is f n)
+lowest_is f zero = λ i l. absurd (not-suc-le-zero l)
+lowest_is f (suc n) = or_else_is f n (lowest f n) (f n) refl (lowest_is f n)
 
-pub lowest-some : (f : ℕ → Bool) (n i : ℕ) → lowest f n ≡ some i → (i < n) × (f i ≡ true) × ((j : ℕ) → j < i → f j ≡ false)
-lowest-some f n i e = subst (IsLowest f n) e (lowest-is f n)
+pub lowest_some : (f : ℕ → Bool) (n i : ℕ) → lowest f n ≡ some i → (i < n) × (f i ≡ true) × ((j : ℕ) → j < i → f j ≡ false)
+lowest_some f n i e = subst (IsLowest f n) e (lowest_is f n)
 
-pub lowest-none : (f : ℕ → Bool) (n : ℕ) → lowest f n ≡ none → (i : ℕ) → i < n → f i ≡ false
-lowest-none f n e = subst (IsLowest f n) e (lowest-is f n)
+pub lowest_none : (f : ℕ → Bool) (n : ℕ) → lowest f n ≡ none → (i : ℕ) → i < n → f i ≡ false
+lowest_none f n e = subst (IsLowest f n) e (lowest_is f n)
 
 -- what passes is not before the first that does
-pub not-before : (f : ℕ → Bool) (i j : ℕ) → ((k : ℕ) → k < i → f k ≡ false) → f j ≡ true → i ≤ j
-not-before f i j none_yet e =
-    ⊎_elim (λ l. clash e (none_yet j (ltb-true j i l))) (ltb-false j i) (true-or-false (ltb j i))
+pub not_before : (f : ℕ → Bool) (i j : ℕ) → ((k : ℕ) → k < i → f k ≡ false) → f j ≡ true → i ≤ j
+not_before f i j none_yet e =
+    ⊎_elim (λ l. clash e (none_yet j (ltb-true j i l))) (ltb-false j i) (true_or_false (ltb j i))
 
 -- there is one answer only
-pub lowest-eq : (f : ℕ → Bool) (n : ℕ) (o : Option ℕ) → IsLowest f n o → lowest f n ≡ o
-lowest-eq f n o h = same (lowest f n) o (lowest-is f n) h
+pub lowest_eq : (f : ℕ → Bool) (n : ℕ) (o : Option ℕ) → IsLowest f n o → lowest f n ≡ o
+lowest_eq f n o h = same (lowest f n) o (lowest_is f n) h
   where
     same : (p q : Option ℕ) → IsLowest f n p → IsLowest f n q → p ≡ q
     same none none g h' = refl
     same none (some j) g h' = clash h'.1 (g j h'.0)
     same (some i) none g h' = clash g.1 (h' i g.0)
-    same (some i) (some j) g h' = ap some (le_antisymm (not-before f i j g.2 h'.1) (not-before f j i h'.2 g.1))
+    same (some i) (some j) g h' = ap some (le_antisymm (not_before f i j g.2 h'.1) (not_before f j i h'.2 g.1))
 
 -- ---- how many
 
@@ -198,71 +198,71 @@ lowest-eq f n o h = same (lowest f n) o (lowest-is f n) h
 abbrev pub Part : ℕ → (ℕ → Bool) → (ℕ → Bool) → Type 0
 Part n A B = (x : ℕ) → x < n → A x ≡ true → B x ≡ true
 
-pub many-bound : (f : ℕ → Bool) (n : ℕ) → howMany f n ≤ n
-unfolding howMany
-many-bound f zero = omega arith
-many-bound f (suc n) =
-    let below : howMany f n ≤ n = many-bound f n in
-    ⊎_elim (λ e. rw e (omega arith)) (λ e. rw e (omega arith)) (true-or-false (f n))
+pub many_bound : (f : ℕ → Bool) (n : ℕ) → how_many f n ≤ n
+unfolding how_many
+many_bound f zero = omega arith
+many_bound f (suc n) =
+    let below : how_many f n ≤ n = many_bound f n in
+    ⊎_elim (λ e. rw e (omega arith)) (λ e. rw e (omega arith)) (true_or_false (f n))
 
 -- a set in two parts has as many members as both
-pub many-parts : (f g h : ℕ → Bool) (n : ℕ) → ((x : ℕ) → x < n → cond (f x) 1 0 + cond (g x) 1 0 ≡ cond (h x) 1 0)
-    → howMany f n + howMany g n ≡ howMany h n
-unfolding howMany
-many-parts f g h zero both = refl
-many-parts f g h (suc n) both = omega (arith, both n (omega arith), many-parts f g h n (λ x l. both x (omega arith)))
+pub many_parts : (f g h : ℕ → Bool) (n : ℕ) → ((x : ℕ) → x < n → cond (f x) 1 0 + cond (g x) 1 0 ≡ cond (h x) 1 0)
+    → how_many f n + how_many g n ≡ how_many h n
+unfolding how_many
+many_parts f g h zero both = refl
+many_parts f g h (suc n) both = omega (arith, both n (omega arith), many_parts f g h n (λ x l. both x (omega arith)))
 
 module _ (f g : ℕ → Bool) where
-  pub many-le : (n : ℕ) → Part n f g → howMany f n ≤ howMany g n
-  unfolding howMany
-  many-le zero h = omega arith
-  many-le (suc n) h =
-      let below : howMany f n ≤ howMany g n = many-le n (λ i l. h i (omega arith)) in
-      ⊎_elim (λ e. rw e (rw (h n (omega arith) e) (omega arith))) (λ e. rw e (omega arith)) (true-or-false (f n))
+  pub many_le : (n : ℕ) → Part n f g → how_many f n ≤ how_many g n
+  unfolding how_many
+  many_le zero h = omega arith
+  many_le (suc n) h =
+      let below : how_many f n ≤ how_many g n = many_le n (λ i l. h i (omega arith)) in
+      ⊎_elim (λ e. rw e (rw (h n (omega arith) e) (omega arith))) (λ e. rw e (omega arith)) (true_or_false (f n))
 
   -- a member of the larger set only: it has more
-  pub many-lt : (n : ℕ) → Part n f g → (i : ℕ) → i < n → f i ≡ false → g i ≡ true → howMany f n < howMany g n
-  unfolding howMany
-  many-lt zero h i l e e' = absurd (not-suc-le-zero l)
-  many-lt (suc n) h i l e e' = go (λ k. many-lt n (λ j m. h j (omega arith)) i k e e') (eq-or-lt_of_le (le_of_suc-le-suc l))
+  pub many_lt : (n : ℕ) → Part n f g → (i : ℕ) → i < n → f i ≡ false → g i ≡ true → how_many f n < how_many g n
+  unfolding how_many
+  many_lt zero h i l e e' = absurd (not-suc-le-zero l)
+  many_lt (suc n) h i l e e' = go (λ k. many_lt n (λ j m. h j (omega arith)) i k e e') (eq-or-lt_of_le (le_of_suc-le-suc l))
     where
-      go : (i < n → howMany f n < howMany g n) → (i ≡ n) ⊎ (i < n) → cond (f n) 1 0 + howMany f n < cond (g n) 1 0 + howMany g n
+      go : (i < n → how_many f n < how_many g n) → (i ≡ n) ⊎ (i < n) → cond (f n) 1 0 + how_many f n < cond (g n) 1 0 + how_many g n
       go below (inl q) =
-          let le : howMany f n ≤ howMany g n = many-le n (λ j m. h j (omega arith)) in
+          let le : how_many f n ≤ how_many g n = many_le n (λ j m. h j (omega arith)) in
           rw (rw q at e) (rw (rw q at e') (omega arith))
       go below (inr k) =
-          let lt : howMany f n < howMany g n = below k in
-          ⊎_elim (λ t. rw t (rw (h n (omega arith) t) (omega arith))) (λ t. rw t (omega arith)) (true-or-false (f n))
+          let lt : how_many f n < how_many g n = below k in
+          ⊎_elim (λ t. rw t (rw (h n (omega arith) t) (omega arith))) (λ t. rw t (omega arith)) (true_or_false (f n))
 
   -- a part that has as many is the whole
-  pub many-all : (n : ℕ) → Part n f g → howMany g n ≤ howMany f n → Part n g f
-  many-all n h le i l e = ⊎_elim (λ t. t) (λ t. absurd (go (many-lt n h i l t e))) (true-or-false (f i))
+  pub many_all : (n : ℕ) → Part n f g → how_many g n ≤ how_many f n → Part n g f
+  many_all n h le i l e = ⊎_elim (λ t. t) (λ t. absurd (go (many_lt n h i l t e))) (true_or_false (f i))
     where
-      go : howMany f n < howMany g n → ⊥
+      go : how_many f n < how_many g n → ⊥
       go lt = omega arith
 
 -- ---- a growing chain of sets
 
 module _ (n : ℕ) (K : ℕ → ℕ → Bool) (grows : (k : ℕ) → Part n (K k) (K (suc k))) where
   -- the step from k adds nothing, or it adds a member
-  adds : (k : ℕ) → Part n (K (suc k)) (K k) ⊎ (howMany (K k) n < howMany (K (suc k)) n)
+  adds : (k : ℕ) → Part n (K (suc k)) (K k) ⊎ (how_many (K k) n < how_many (K (suc k)) n)
   adds k = go (lowest (λ i. K (suc k) i && not (K k i)) n) refl
     where
       fresh : ℕ → Bool
       fresh i = K (suc k) i && not (K k i)
 
       old : (i : ℕ) → fresh i ≡ false → K (suc k) i ≡ true → K k i ≡ true
-      old i e t = ⊎_elim (λ h. h) (λ h. clash (and-join (K (suc k) i) (not (K k i)) t (rw h)) e) (true-or-false (K k i))
+      old i e t = ⊎_elim (λ h. h) (λ h. clash (and_join (K (suc k) i) (not (K k i)) t (rw h)) e) (true_or_false (K k i))
 
-      go : (o : Option ℕ) → lowest fresh n ≡ o → Part n (K (suc k)) (K k) ⊎ (howMany (K k) n < howMany (K (suc k)) n)
-      go none e = inl (λ i l. old i (lowest-none fresh n e i l))
+      go : (o : Option ℕ) → lowest fresh n ≡ o → Part n (K (suc k)) (K k) ⊎ (how_many (K k) n < how_many (K (suc k)) n)
+      go none e = inl (λ i l. old i (lowest_none fresh n e i l))
       go (some i) e =
-          let f = lowest-some fresh n i e in
+          let f = lowest_some fresh n i e in
           let b = and_both (K (suc k) i) (not (K k i)) f.1 in
-          inr (many-lt (K k) (K (suc k)) n (grows k) i f.0 (not-true (K k i) b.1) b.0)
+          inr (many_lt (K k) (K (suc k)) n (grows k) i f.0 (not-true (K k i) b.1) b.0)
 
   -- some step before k adds nothing, or there are k members more by then
-  pub settles : (k : ℕ) → ((j : ℕ) × (j < k) × Part n (K (suc j)) (K j)) ⊎ (howMany (K 0) n + k ≤ howMany (K k) n)
+  pub settles : (k : ℕ) → ((j : ℕ) × (j < k) × Part n (K (suc j)) (K j)) ⊎ (how_many (K 0) n + k ≤ how_many (K k) n)
   settles zero = inr (omega arith)
   settles (suc k) =
       ⊎_elim
@@ -270,8 +270,8 @@ module _ (n : ℕ) (K : ℕ → ℕ → Bool) (grows : (k : ℕ) → Part n (K k
       (λ c. ⊎_elim (λ p. inl (k, omega arith, p)) (λ l. inr (omega arith)) (adds k))
       (settles k)
 
-  pub settles-by : (j : ℕ) × (j ≤ n) × Part n (K (suc j)) (K j)
-  settles-by = ⊎_elim (λ t. (t.0, omega (arith, t.1), t.2)) (λ c. absurd (go c (many-bound (K (suc n)) n))) (settles (suc n))
+  pub settles_by : (j : ℕ) × (j ≤ n) × Part n (K (suc j)) (K j)
+  settles_by = ⊎_elim (λ t. (t.0, omega (arith, t.1), t.2)) (λ c. absurd (go c (many_bound (K (suc n)) n))) (settles (suc n))
     where
-      go : howMany (K 0) n + suc n ≤ howMany (K (suc n)) n → howMany (K (suc n)) n ≤ n → ⊥
+      go : how_many (K 0) n + suc n ≤ how_many (K (suc n)) n → how_many (K (suc n)) n ≤ n → ⊥
       go a b = omega arith

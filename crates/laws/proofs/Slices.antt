@@ -27,5 +27,5 @@ module _ (l : List ℕ) (e : ℕ) (long : e ≤ length l) where
   at_part (suc d) a i q h =
       rw (slice-cons a e l 0 (omega arith) long) (Memᴰ.tail (at_part d (suc a) i (omega arith) h))
 
-  pub slice-mem : (a i : ℕ) → a ≤ i → i < e → Memᴰ (get_or l i 0) (slice a e l)
-  slice-mem a i p h = at_part (i - a) a i (omega arith) h
+  pub slice_mem : (a i : ℕ) → a ≤ i → i < e → Memᴰ (get_or l i 0) (slice a e l)
+  slice_mem a i p h = at_part (i - a) a i (omega arith) h

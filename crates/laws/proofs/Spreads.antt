@@ -15,18 +15,18 @@ front p [] r = rw (p.none r, p.none [])
 front {g = g} p (x ∷ xs) r =
     rw (p.more x xs r, p.more x xs [], front p xs r) (sym (append_assoc (g (x ∷ []) []) (g xs []) r))
 
-pub twos-spread : Spread twos
+pub twos_spread : Spread twos
 unfolding twos
-twos-spread = record { none = λ r. refl; more = λ x xs r. refl }
+twos_spread = record { none = λ r. refl; more = λ x xs r. refl }
 
 -- bytes as they are
 pub bytes_spread : Spread (λ (xs r : List ℕ). xs ++ r)
 bytes_spread = record { none = λ r. refl; more = λ x xs r. refl }
 
 -- texts one after another
-pub joined-spread : Spread (λ (xs : List (List ℕ)) (r : List ℕ). joined xs ++ r)
+pub joined_spread : Spread (λ (xs : List (List ℕ)) (r : List ℕ). joined xs ++ r)
 unfolding joined
-joined-spread = record {
+joined_spread = record {
   none = λ r. refl;
   more = λ x xs r. rw (append-nil x, append-nil x) (append_assoc x (joined xs) r);
 }

@@ -7,22 +7,22 @@ use native.Mathlib.Omega.{arith}
 use lib.ListN.{length, get_or}
 use lib.Seq.{slice}
 use Rattle.laws.specs.Lists.{tabulate}
-use Rattle.laws.proofs.Lists.{tabulate-is, slice-tabulate}
+use Rattle.laws.proofs.Lists.{tabulate_is, slice_tabulate}
 
 module _ {A : Type 0} where
   -- the numbers from i up to an end: the first of them, and none
-  pub tabulate-more : (f : ℕ → A) (i end : ℕ) → i < end → tabulate f i (end - i) ≡ f i ∷ tabulate f (i + 1) (end - (i + 1))
+  pub tabulate_more : (f : ℕ → A) (i end : ℕ) → i < end → tabulate f i (end - i) ≡ f i ∷ tabulate f (i + 1) (end - (i + 1))
   unfolding tabulate
-  tabulate-more f i end h =
+  tabulate_more f i end h =
       let e : end - i ≡ suc (end - (i + 1)) = omega arith in
       rw (e, add-one i)
 
-  pub tabulate-none : (f : ℕ → A) (i end : ℕ) → end ≤ i → tabulate f i (end - i) ≡ []
+  pub tabulate_none : (f : ℕ → A) (i end : ℕ) → end ≤ i → tabulate f i (end - i) ≡ []
   unfolding tabulate
-  tabulate-none f i end h = let e : end - i ≡ 0 = omega arith in rw e
+  tabulate_none f i end h = let e : end - i ≡ 0 = omega arith in rw e
 
   -- a part of a list is made by the rule that tells the list's members
-  pub tabulate-slice : (l : List A) (d : A) (a b : ℕ) → a ≤ b → b ≤ length l → tabulate (λ i. get_or l i d) a (b - a) ≡ slice a b l
-  tabulate-slice l d a b h k =
-      sym (slice-tabulate (λ i. get_or l i d) a b (length l) h k)
-      ∙ ap (λ (r : List A). slice a b r) (tabulate-is (λ i. get_or l i d) l d (λ i m. refl))
+  pub tabulate_slice : (l : List A) (d : A) (a b : ℕ) → a ≤ b → b ≤ length l → tabulate (λ i. get_or l i d) a (b - a) ≡ slice a b l
+  tabulate_slice l d a b h k =
+      sym (slice_tabulate (λ i. get_or l i d) a b (length l) h k)
+      ∙ ap (λ (r : List A). slice a b r) (tabulate_is (λ i. get_or l i d) l d (λ i m. refl))

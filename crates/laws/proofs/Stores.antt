@@ -8,11 +8,11 @@ use lib.Dec.{eqb}
 use lib.ListN.{length, get_or, set}
 use lib.Seq.{get_or-set_same, get_or-set_other}
 use borrow.Author.Tests.{eqb-true, eqb-false}
-use Rattle.laws.proofs.Tests.{true-or-false}
+use Rattle.laws.proofs.Tests.{true_or_false}
 
-pub entry-after : (l : List ℕ) (x v y : ℕ) → x < length l → get_or (set l x v) y 0 ≡ cond (eqb y x) v (get_or l y 0)
-entry-after l x v y h =
+pub entry_after : (l : List ℕ) (x v y : ℕ) → x < length l → get_or (set l x v) y 0 ≡ cond (eqb y x) v (get_or l y 0)
+entry_after l x v y h =
     ⊎_elim
     (λ e. let q = eqb-true y x e in rw (e, q) (get_or-set_same l x v 0 h))
     (λ e. rw e (get_or-set_other l x y v 0 (eqb-false y x e)))
-    (true-or-false (eqb y x))
+    (true_or_false (eqb y x))

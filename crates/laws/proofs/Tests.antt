@@ -6,9 +6,9 @@ use mathlib.Core.Logic.{◌⊎◌, inl, inr}
 pub clash {ℓ} : {A : Type ℓ} {b : Bool} → b ≡ true → b ≡ false → A
 clash e f = absurd (true≢false (sym e ∙ f))
 
-pub true-or-false : (b : Bool) → (b ≡ true) ⊎ (b ≡ false)
-true-or-false true = inl refl
-true-or-false false = inr refl
+pub true_or_false : (b : Bool) → (b ≡ true) ⊎ (b ≡ false)
+true_or_false true = inl refl
+true_or_false false = inr refl
 
 pub refute : (b : Bool) → (b ≡ true → ⊥) → b ≡ false
 refute true h = absurd (h refl)
@@ -28,17 +28,17 @@ pub and_both : (a b : Bool) → a && b ≡ true → (a ≡ true) × (b ≡ true)
 and_both true b e = (refl, e)
 and_both false b e = clash e refl
 
-pub and-join : (a b : Bool) → a ≡ true → b ≡ true → a && b ≡ true
-and-join true b e f = f
-and-join false b e f = e
+pub and_join : (a b : Bool) → a ≡ true → b ≡ true → a && b ≡ true
+and_join true b e f = f
+and_join false b e f = e
 
-pub and-false-left : (a b : Bool) → a ≡ false → a && b ≡ false
-and-false-left true b e = clash refl e
-and-false-left false b e = refl
+pub and_false_left : (a b : Bool) → a ≡ false → a && b ≡ false
+and_false_left true b e = clash refl e
+and_false_left false b e = refl
 
-pub and-false-right : (a b : Bool) → b ≡ false → a && b ≡ false
-and-false-right true b e = e
-and-false-right false b e = refl
+pub and_false_right : (a b : Bool) → b ≡ false → a && b ≡ false
+and_false_right true b e = e
+and_false_right false b e = refl
 
 pub or_cases : (a b : Bool) → a || b ≡ true → (a ≡ true) ⊎ (b ≡ true)
 or_cases true b e = inl refl

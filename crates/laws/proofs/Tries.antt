@@ -12,10 +12,10 @@ use Rattle.laws.specs.Sets.{first, lowest}
 use Rattle.laws.specs.Entry.{FFFF, entry}
 use Rattle.laws.specs.First.{FirstNot}
 use Rattle.laws.proofs.Tests.{clash}
-use Rattle.laws.proofs.Sets.{IsLowest, lowest-is, lowest-eq}
+use Rattle.laws.proofs.Sets.{IsLowest, lowest_is, lowest_eq}
 
-pub first-start : {f : ℕ → Bool} {a : ℕ} → FirstNot f a a a
-first-start = record { since = omega arith; until = omega arith; before = λ i p q. absurd (omega arith); stops = λ p. absurd (omega arith) }
+pub first_start : {f : ℕ → Bool} {a : ℕ} → FirstNot f a a a
+first_start = record { since = omega arith; until = omega arith; before = λ i p q. absurd (omega arith); stops = λ p. absurd (omega arith) }
 
 -- the loop at c
 module _ {f : ℕ → Bool} {a c : ℕ} (v : FirstNot f a c c) where
@@ -32,15 +32,15 @@ module _ {f : ℕ → Bool} {a c : ℕ} (v : FirstNot f a c c) where
       go i p q (no l) = let e : i ≡ c = omega arith in rw e t
 
   -- a number of which the test is known not to hold is not passed
-  pub first-room : {k e : ℕ} → a ≤ k → k < e → f k ≡ false → c < e
-  first-room {k} {e} p h t = go (dec_lt k c)
+  pub first_room : {k e : ℕ} → a ≤ k → k < e → f k ≡ false → c < e
+  first_room {k} {e} p h t = go (dec_lt k c)
     where
       go : Dec (k < c) → c < e
       go (yes l) = clash (v.before k p l) t
       go (no l) = omega arith
 
-  pub first-stop : (e : ℕ) → c < e → f c ≡ false → FirstNot f a e c
-  first-stop e h t = record { since = v.since; until = omega arith; before = v.before; stops = λ p. t }
+  pub first_stop : (e : ℕ) → c < e → f c ≡ false → FirstNot f a e c
+  first_stop e h t = record { since = v.since; until = omega arith; before = v.before; stops = λ p. t }
 
   pub first_done : (e : ℕ) → c ≤ e → e ≤ c → FirstNot f a e c
   first_done e g h = record { since = v.since; until = g; before = v.before; stops = λ p. absurd (omega arith) }
@@ -48,8 +48,8 @@ module _ {f : ℕ → Bool} {a c : ℕ} (v : FirstNot f a c c) where
 -- ---- the members of a list, tried by their places
 
 -- where the test holds of all numbers before the range, its first number is the first of all
-pub first-earlier : {f : ℕ → Bool} {a e r : ℕ} → ((i : ℕ) → i < a → f i ≡ true) → FirstNot f a e r → FirstNot f 0 e r
-first-earlier {f} {a} {e} {r} all v =
+pub first_earlier : {f : ℕ → Bool} {a e r : ℕ} → ((i : ℕ) → i < a → f i ≡ true) → FirstNot f a e r → FirstNot f 0 e r
+first_earlier {f} {a} {e} {r} all v =
     record { since = omega arith; until = v.until; before = λ i p q. go i q (dec_lt i a); stops = v.stops }
   where
     go : (i : ℕ) → i < r → Dec (i < a) → f i ≡ true
@@ -57,14 +57,14 @@ first-earlier {f} {a} {e} {r} all v =
     go i q (no l) = v.before i (omega arith) q
 
 -- the first member of which f does not hold stands at the first place of which it does not; FFFF where it holds of all
-pub first-at : (f : ℕ → Bool) (l : List ℕ) (r : ℕ) → FirstNot (λ i. f (get_or l i FFFF)) 0 (length l) r
+pub first_at : (f : ℕ → Bool) (l : List ℕ) (r : ℕ) → FirstNot (λ i. f (get_or l i FFFF)) 0 (length l) r
     → get_or l r FFFF ≡ entry (first (λ x. not (f x)) l)
 unfolding first entry
-first-at f [] r v = refl
-first-at f (x ∷ xs) zero v = let e : f x ≡ false = v.stops (omega arith) in rw e
-first-at f (x ∷ xs) (suc r) v =
+first_at f [] r v = refl
+first_at f (x ∷ xs) zero v = let e : f x ≡ false = v.stops (omega arith) in rw e
+first_at f (x ∷ xs) (suc r) v =
     let e : f x ≡ true = v.before 0 (omega arith) (omega arith) in
-    rw e (first-at f xs r (record {
+    rw e (first_at f xs r (record {
       since = omega arith;
       until = omega (arith, v.until);
       before = λ i p q. v.before (suc i) (omega arith) (omega arith);
@@ -72,8 +72,8 @@ first-at f (x ∷ xs) (suc r) v =
     }))
 
 -- tests that agree below the bound have the same lowest
-pub lowest-same : (f g : ℕ → Bool) (n : ℕ) → ((i : ℕ) → i < n → f i ≡ g i) → lowest f n ≡ lowest g n
-lowest-same f g n same = lowest-eq f n (lowest g n) (go (lowest g n) (lowest-is g n))
+pub lowest_same : (f g : ℕ → Bool) (n : ℕ) → ((i : ℕ) → i < n → f i ≡ g i) → lowest f n ≡ lowest g n
+lowest_same f g n same = lowest_eq f n (lowest g n) (go (lowest g n) (lowest_is g n))
   where
     go : (o : Option ℕ) → IsLowest g n o → IsLowest f n o
     go none h = λ i l. rw (same i l) (h i l)

@@ -33,5 +33,5 @@ entry none = FFFF
 entry (some i) = i
 
 -- how an entry is read
-unfoldable pub fromEntry : ℕ → Option ℕ
-fromEntry e = cond (eqb e FFFF) none (some e)
+unfoldable pub from_entry : ℕ → Option ℕ
+from_entry e = cond (eqb e FFFF) none (some e)

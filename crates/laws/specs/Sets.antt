@@ -53,9 +53,9 @@ found none = false
 found (some i) = true
 
 -- how many numbers below the bound pass
-unfoldable pub howMany : (ℕ → Bool) → ℕ → ℕ
-howMany f zero = 0
-howMany f (suc n) = cond (f n) 1 0 + howMany f n
+unfoldable pub how_many : (ℕ → Bool) → ℕ → ℕ
+how_many f zero = 0
+how_many f (suc n) = cond (f n) 1 0 + how_many f n
 
 -- the set K and, k times over, what F adds to the set so far
 unfoldable pub grow : ((ℕ → Bool) → ℕ → Bool) → (ℕ → Bool) → ℕ → ℕ → Bool

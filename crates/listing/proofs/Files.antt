@@ -9,79 +9,79 @@ use lib.ListN.{length, take, drop, replicate, length-map, length-append, length-
 use borrow.Author.Tests.{lt-ltb, le-ltb}
 use Rattle.laws.specs.Lists.{overwrite}
 use Rattle.laws.specs.Wrote.{Wrote}
-use Rattle.laws.proofs.Lists.{take-overwrite}
+use Rattle.laws.proofs.Lists.{take_overwrite}
 use Rattle.laws.proofs.Writes.{put_front}
 use Rattle.model.specs.Refusal.{Limit}
 use Rattle.model.specs.File.{read}
 use Rattle.model.specs.Tables.{Size as ModelSize, Tables}
 use Rattle.model.specs.Held.{tree_of}
 use Rattle.model.specs.SoundTest.{sound}
-use Rattle.model.specs.Calls.{reading, AfterRead, readCall}
-use Rattle.model.specs.Listing.{maxInput, maxListing, refusalText, planText, answerText, listing}
-use Rattle.model.proofs.ListingLength.{listing-length}
-use Rattle.model.proofs.ReadPlans.{reads-plan, refuses-file}
+use Rattle.model.specs.Calls.{reading, AfterRead, read_call}
+use Rattle.model.specs.Listing.{max_input, max_listing, refusal_text, plan_text, answer_text, listing}
+use Rattle.model.proofs.ListingLength.{listing_length}
+use Rattle.model.proofs.ReadPlans.{reads_plan, refuses_file}
 use Rattle.tables.specs.declared.Row.{Row}
 use Rattle.tables.specs.declared.Size.{Size}
 use Rattle.tables.specs.declared.Refusal.{Refusal}
-use Rattle.tables.specs.Meaning.{numbers, refusalOf, row_of, rows_of, held}
+use Rattle.tables.specs.Meaning.{numbers, refusal_of, row_of, rows_of, held}
 use Rattle.reading.specs.declared.ReadAnswer.{ReadAnswer}
 use Rattle.reading.specs.declared.ReadAnswer.TheVariants.{Given, Refused}
-use Rattle.reading.specs.Answers.{answer_of, afterRead}
-use Rattle.reading.proofs.Passing.{refused-inv}
+use Rattle.reading.specs.Answers.{answer_of, after_read}
+use Rattle.reading.proofs.Passing.{refused_inv}
 use Rattle.reading.proofs.Leaves.{answered, leaves}
 use Rattle.listing.specs.declared.Text.{Text}
 use Rattle.listing.specs.Texts.{text_of}
 
 -- by the equation of the reading's contract
 module _ (file : List ℕ) (rows : List Row) (firsts outcomes : List ℕ) (r : ReadAnswer) (rows' : List Row) (firsts' outcomes' : List ℕ)
-    (e : afterRead r rows' firsts' outcomes' ≡ readCall file (rows_of rows) firsts outcomes) where
-  pub plan-read : (z : Size) → r ≡ Given z
-      → (sound (held z rows' firsts' outcomes') ≡ true) × (answerText (read file) ≡ planText (tree_of (held z rows' firsts' outcomes')))
-  unfolding answerText
-  plan-read z q =
-      let (sounds, reads) = reads-plan file (rows_of rows) firsts outcomes (numbers z)
+    (e : after_read r rows' firsts' outcomes' ≡ read_call file (rows_of rows) firsts outcomes) where
+  pub plan_read : (z : Size) → r ≡ Given z
+      → (sound (held z rows' firsts' outcomes') ≡ true) × (answer_text (read file) ≡ plan_text (tree_of (held z rows' firsts' outcomes')))
+  unfolding answer_text
+  plan_read z q =
+      let (sounds, reads) = reads_plan file (rows_of rows) firsts outcomes (numbers z)
       (answered file rows firsts outcomes r rows' firsts' outcomes' e z q) in
-      subst (λ (T : Tables). (sound T ≡ true) × (answerText (read file) ≡ planText (tree_of T)))
+      subst (λ (T : Tables). (sound T ≡ true) × (answer_text (read file) ≡ plan_text (tree_of T)))
       (sym (leaves file rows firsts outcomes r rows' firsts' outcomes' e z))
-      (sounds, ap answerText reads)
+      (sounds, ap answer_text reads)
 
-  pub refusal-read : (w : Refusal) → r ≡ Refused w → 1024 ≤ length rows → 4096 ≤ length firsts → 16384 ≤ length outcomes
-      → answerText (read file) ≡ refusalText (refusalOf w)
-  unfolding answerText
-  refusal-read w q lr lf lo =
+  pub refusal_read : (w : Refusal) → r ≡ Refused w → 1024 ≤ length rows → 4096 ≤ length firsts → 16384 ≤ length outcomes
+      → answer_text (read file) ≡ refusal_text (refusal_of w)
+  unfolding answer_text
+  refusal_read w q lr lf lo =
       let size : Tables → ModelSize = λ T. T.size in
       let long : 1024 ≤ length (rows_of rows) = rw (length-map rows row_of) lr in
-      ap answerText (refuses-file (length (rows_of rows)) (length firsts) (length outcomes) long lf lo file (refusalOf w)
-      (refused-inv size (reading (length (rows_of rows)) (length firsts) (length outcomes) file)
+      ap answer_text (refuses_file (length (rows_of rows)) (length firsts) (length outcomes) long lf lo file (refusal_of w)
+      (refused_inv size (reading (length (rows_of rows)) (length firsts) (length outcomes) file)
       (ap (λ (x : AfterRead). x.answers) (sym e) ∙ ap answer_of q)))
 
-abbrev textWith : List ℕ → ℕ → Text
-textWith bytes length = record { bytes = bytes; length = length }
+abbrev text_with : List ℕ → ℕ → Text
+text_with bytes length = record { bytes = bytes; length = length }
 
 module _ (input : List ℕ) where
-  pub over-limit : maxInput < length input → listing input ≡ refusalText Limit
+  pub over_limit : max_input < length input → listing input ≡ refusal_text Limit
   unfolding listing
-  over-limit h = rw (lt-ltb maxInput (length input) h)
+  over_limit h = rw (lt-ltb max_input (length input) h)
 
-  pub in-limit : length input ≤ maxInput → listing input ≡ answerText (read input)
+  pub in_limit : length input ≤ max_input → listing input ≡ answer_text (read input)
   unfolding listing
-  in-limit h = rw (le-ltb maxInput (length input) h)
+  in_limit h = rw (le-ltb max_input (length input) h)
 
   -- the text stands at the front of zeros
-  pub text-stands : {after : List ℕ} {k : ℕ} → Wrote (replicate maxListing 0) 0 (listing input) after k → textWith after k
+  pub text_stands : {after : List ℕ} {k : ℕ} → Wrote (replicate max_listing 0) 0 (listing input) after k → text_with after k
       ≡ text_of (listing input)
-  text-stands w =
-      let zeros : List ℕ = replicate maxListing 0 in
+  text_stands w =
+      let zeros : List ℕ = replicate max_listing 0 in
       let count = w.past ∙ zero-add _ in
-      let fits : length (listing input) ≤ length zeros = omega (arith, listing-length input, length-replicate {A = ℕ} maxListing 0) in
+      let fits : length (listing input) ≤ length zeros = omega (arith, listing_length input, length-replicate {A = ℕ} max_listing 0) in
       let whole = w.stored ∙ put_front zeros (listing input) fits in
-      λ i. textWith (whole i) (count i)
+      λ i. text_with (whole i) (count i)
 
   -- it is no longer than the bytes that hold it
-  pub text-room : (r : Text) → r ≡ text_of (listing input) → r.length ≤ length r.bytes
+  pub text_room : (r : Text) → r ≡ text_of (listing input) → r.length ≤ length r.bytes
   unfolding overwrite
-  text-room r e = rw e (omega (arith, length-append (listing input) (drop (length (listing input)) (replicate {A = ℕ} maxListing 0))))
+  text_room r e = rw e (omega (arith, length-append (listing input) (drop (length (listing input)) (replicate {A = ℕ} max_listing 0))))
 
   -- its bytes are as many as are said
-  pub text-fits : (r : Text) → r ≡ text_of (listing input) → length (take r.length r.bytes) ≡ r.length
-  text-fits r e = rw e (ap length (take-overwrite (listing input) (replicate maxListing 0)))
+  pub text_fits : (r : Text) → r ≡ text_of (listing input) → length (take r.length r.bytes) ≡ r.length
+  text_fits r e = rw e (ap length (take_overwrite (listing input) (replicate max_listing 0)))

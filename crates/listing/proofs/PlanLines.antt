@@ -7,77 +7,77 @@ use native.Mathlib.Omega.{arith}
 use lib.ListN.{length, length-append}
 use Rattle.laws.specs.Lists.{tabulate, joined}
 use Rattle.laws.specs.Wrote.{Wrote}
-use Rattle.laws.proofs.Joins.{joined-bound}
-use Rattle.laws.proofs.Wrote.{wrote_then, wrote-length}
+use Rattle.laws.proofs.Joins.{joined_bound}
+use Rattle.laws.proofs.Wrote.{wrote_then, wrote_length}
 use Rattle.model.specs.Plan.{Plan}
 use Rattle.model.specs.Practice.{tally}
 use Rattle.model.specs.Search.{search}
 use Rattle.model.specs.Tables.{Size, Tables, tables_of}
-use Rattle.model.specs.Held.{tree_of, planIn}
+use Rattle.model.specs.Held.{tree_of, plan_in}
 use Rattle.model.specs.SoundTest.{sound}
-use Rattle.model.specs.Listing.{planLine, stateLine, tallyLine, startLine, planText}
-use Rattle.model.proofs.HeldPlan.{states-held, start-held}
-use Rattle.model.proofs.ListingLength.{plan-length, state-length, tally-length}
-use Rattle.model.proofs.SoundFacts.{sound-facts}
-use Rattle.model.proofs.TablesBack.{tables-back}
+use Rattle.model.specs.Listing.{plan_line, state_line, tally_line, start_line, plan_text}
+use Rattle.model.proofs.HeldPlan.{states_held, start_held}
+use Rattle.model.proofs.ListingLength.{plan_length, state_length, tally_length}
+use Rattle.model.proofs.SoundFacts.{sound_facts}
+use Rattle.model.proofs.TablesBack.{tables_back}
 
 module _ (P : Plan) (n : ℕ) where
-  abbrev stateLines : List ℕ
-  stateLines = joined (tabulate (stateLine P) 0 n)
+  abbrev state_lines : List ℕ
+  state_lines = joined (tabulate (state_line P) 0 n)
 
   -- the tally's line, after the states'
-  pub tally-room : {l after : List ℕ} {place next : ℕ} → place + n * 35 + 50 ≤ length l → Wrote l place stateLines after next → next
+  pub tally_room : {l after : List ℕ} {place next : ℕ} → place + n * 35 + 50 ≤ length l → Wrote l place state_lines after next → next
       + 50 ≤ length after
-  tally-room room w = omega (arith, room, joined-bound (stateLine P) 0 n 35 (state-length P), w.past, wrote-length w)
+  tally_room room w = omega (arith, room, joined_bound (state_line P) 0 n 35 (state_length P), w.past, wrote_length w)
 
 module _ (T : Tables) (e : sound T ≡ true) where
-  abbrev verdictLines : List ℕ
-  verdictLines = stateLines (planIn T) T.size.n ++ tallyLine (tally (planIn T))
+  abbrev verdict_lines : List ℕ
+  verdict_lines = state_lines (plan_in T) T.size.n ++ tally_line (tally (plan_in T))
 
-  abbrev lastLine : List ℕ
-  lastLine = startLine T.size.start (search (planIn T) T.size.start)
+  abbrev last_line : List ℕ
+  last_line = start_line T.size.start (search (plan_in T) T.size.start)
 
   text_of : Size → ℕ → ℕ → List ℕ
-  text_of z n start = planLine z ++ stateLines (planIn T) n ++ tallyLine (tally (planIn T)) ++ startLine start (search (planIn T) start)
+  text_of z n start = plan_line z ++ state_lines (plan_in T) n ++ tally_line (tally (plan_in T)) ++ start_line start (search (plan_in T) start)
 
-  text-of : planText (tree_of T) ≡ text_of (tables_of (tree_of T)).size (planIn T).states (planIn T).start
-  unfolding text_of planText planIn
-  text-of = refl
+  text_of_lem : plan_text (tree_of T) ≡ text_of (tables_of (tree_of T)).size (plan_in T).states (plan_in T).start
+  unfolding text_of plan_text plan_in
+  text_of_lem = refl
 
-  text-is : planText (tree_of T) ≡ planLine T.size ++ (verdictLines ++ lastLine)
+  text_is : plan_text (tree_of T) ≡ plan_line T.size ++ (verdict_lines ++ last_line)
   unfolding text_of
-  text-is =
-      text-of ∙ ap (λ (z : Size). text_of z (planIn T).states (planIn T).start) (sym (tables-back T e).size)
-      ∙ ap₂ (text_of T.size) (states-held T) (start-held T)
-      ∙ ap (λ (l : List ℕ). l ++ lastLine)
-      (append_assoc (planLine T.size) (stateLines (planIn T) T.size.n) (tallyLine (tally (planIn T))))
-      ∙ append_assoc (planLine T.size) verdictLines lastLine
+  text_is =
+      text_of_lem ∙ ap (λ (z : Size). text_of z (plan_in T).states (plan_in T).start) (sym (tables_back T e).size)
+      ∙ ap₂ (text_of T.size) (states_held T) (start_held T)
+      ∙ ap (λ (l : List ℕ). l ++ last_line)
+      (append_assoc (plan_line T.size) (state_lines (plan_in T) T.size.n) (tally_line (tally (plan_in T))))
+      ∙ append_assoc (plan_line T.size) verdict_lines last_line
 
-  pub numbers-small : (T.size.n < 1000000) × (T.size.m < 1000000) × (T.size.t < 1000000)
-  numbers-small =
-      let f = ((sound-facts T).0 e).size in
-      (omega (arith, f.few), omega (arith, f.few-commands), omega (arith, f.few-outcomes))
+  pub numbers_small : (T.size.n < 1000000) × (T.size.m < 1000000) × (T.size.t < 1000000)
+  numbers_small =
+      let f = ((sound_facts T).0 e).size in
+      (omega (arith, f.few), omega (arith, f.few_commands), omega (arith, f.few_outcomes))
 
-  module _ {l₀ l₁ : List ℕ} {i₁ : ℕ} (long : 65536 ≤ length l₀) (first : Wrote l₀ 0 (planLine T.size) l₁ i₁) where
-    pub verdicts-room : i₁ + T.size.n * 35 + 50 ≤ length l₁
-    verdicts-room = omega (arith, long, ((sound-facts T).0 e).size.few, plan-length T.size, first.past, wrote-length first)
+  module _ {l₀ l₁ : List ℕ} {i₁ : ℕ} (long : 65536 ≤ length l₀) (first : Wrote l₀ 0 (plan_line T.size) l₁ i₁) where
+    pub verdicts_room : i₁ + T.size.n * 35 + 50 ≤ length l₁
+    verdicts_room = omega (arith, long, ((sound_facts T).0 e).size.few, plan_length T.size, first.past, wrote_length first)
 
-    module _ {l₂ : List ℕ} {i₂ : ℕ} (verdicts : Wrote l₁ i₁ verdictLines l₂ i₂) where
-      pub start-room : i₂ + 22 ≤ length l₂
-      start-room =
+    module _ {l₂ : List ℕ} {i₂ : ℕ} (verdicts : Wrote l₁ i₁ verdict_lines l₂ i₂) where
+      pub start_room : i₂ + 22 ≤ length l₂
+      start_room =
           omega (
             arith,
             long,
-            ((sound-facts T).0 e).size.few,
-            plan-length T.size,
+            ((sound_facts T).0 e).size.few,
+            plan_length T.size,
             first.past,
-            wrote-length first,
-            joined-bound (stateLine (planIn T)) 0 T.size.n 35 (state-length (planIn T)),
-            tally-length (tally (planIn T)),
-            length-append (stateLines (planIn T) T.size.n) (tallyLine (tally (planIn T))),
+            wrote_length first,
+            joined_bound (state_line (plan_in T)) 0 T.size.n 35 (state_length (plan_in T)),
+            tally_length (tally (plan_in T)),
+            length-append (state_lines (plan_in T) T.size.n) (tally_line (tally (plan_in T))),
             verdicts.past,
-            wrote-length verdicts,
+            wrote_length verdicts,
           )
 
-      pub plan-wrote : {l₃ : List ℕ} {i₃ : ℕ} → Wrote l₂ i₂ lastLine l₃ i₃ → Wrote l₀ 0 (planText (tree_of T)) l₃ i₃
-      plan-wrote last = rw text-is (wrote_then first (wrote_then verdicts last))
+      pub plan_wrote : {l₃ : List ℕ} {i₃ : ℕ} → Wrote l₂ i₂ last_line l₃ i₃ → Wrote l₀ 0 (plan_text (tree_of T)) l₃ i₃
+      plan_wrote last = rw text_is (wrote_then first (wrote_then verdicts last))

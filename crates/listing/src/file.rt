@@ -2,7 +2,7 @@
 ghost use Rattle.std.specs.Prelude.{◌≤◌, length};
 ghost use Rattle.laws.specs.Wrote.{Wrote};
 ghost use Rattle.model.specs.File.{read};
-ghost use Rattle.model.specs.Listing.{maxListing, answerText};
+ghost use Rattle.model.specs.Listing.{max_listing, answer_text};
 
 use crate::plan::list_plan;
 use listing_text::lines::put_refusal;
@@ -11,8 +11,8 @@ use tables::{Row, Size};
 
 // The file's listing, or the line of its refusal. The tables it is read into are of the limits' lengths, which hold every plan.
 pub fn list_file(file: &[u8], out: &mut [u8]) -> usize
-    requires { maxListing ≤ length out.old }
-    ensures { Wrote out.old 0 (answerText (read file.now)) out.new result }
+    requires { max_listing ≤ length out.old }
+    ensures { Wrote out.old 0 (answer_text (read file.now)) out.new result }
 {
     let mut rows = [Row::BLANK; Size::STATES];
     let mut firsts = [0u16; Size::COMMANDS];

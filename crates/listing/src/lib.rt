@@ -1,7 +1,7 @@
 // The listing of a plan file, as text.
 ghost use Rattle.std.specs.Prelude.{◌≡◌, ◌≤◌, length};
 ghost use Rattle.laws.specs.Wrote.{Wrote};
-ghost use Rattle.model.specs.Listing.{maxListing, listing};
+ghost use Rattle.model.specs.Listing.{max_listing, listing};
 ghost use Rattle.listing.specs.Texts.{text_of};
 
 use crate::file::list_file;
@@ -29,7 +29,7 @@ pub struct Text {
 
 // A longer input is refused before it is read.
 fn write_listing(input: &[u8], out: &mut [u8]) -> usize
-    requires { maxListing ≤ length out.old }
+    requires { max_listing ≤ length out.old }
     ensures { Wrote out.old 0 (listing input.now) out.new result }
 {
     if LIMIT < input.len() {

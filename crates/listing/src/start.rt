@@ -3,8 +3,8 @@ ghost use Rattle.std.specs.Prelude.{◌≡◌, Bool, true, ℕ, ◌+◌, ◌<◌
 ghost use Rattle.laws.specs.Wrote.{Wrote};
 ghost use Rattle.model.specs.Refusal.{given};
 ghost use Rattle.model.specs.Search.{Result, search};
-ghost use Rattle.model.specs.Held.{planIn};
-ghost use Rattle.model.specs.Listing.{startLine};
+ghost use Rattle.model.specs.Held.{plan_in};
+ghost use Rattle.model.specs.Listing.{start_line};
 ghost use Rattle.model.specs.SoundTest.{sound};
 ghost use Rattle.tables.specs.Meaning.{held};
 ghost use Rattle.search.specs.Answers.{answer_of};
@@ -18,7 +18,7 @@ fn put_answer(answer: SearchAnswer, start: usize, out: &mut [u8], place: usize) 
     requires { (place + 22 ≤ length out.old) × (start < 1000000)
         × ((lost : Bool) (rounds : ℕ) → answer_of answer ≡ given (lost, rounds) → rounds < 1000000) }
     ensures { (R : Result) → answer_of answer ≡ given (R.lost, R.rounds)
-        → Wrote out.old place (startLine start R) out.new result }
+        → Wrote out.old place (start_line start R) out.new result }
 {
     let SearchAnswer::Given(found) = answer else {
         return place;
@@ -36,7 +36,7 @@ pub fn list_start(
 ) -> usize
     requires { (sound (held size rows.now firsts.now outcomes.now) ≡ true) × (place + 22 ≤ length out.old) }
     ensures { Wrote out.old place
-        (startLine size.start (search (planIn (held size rows.now firsts.now outcomes.now))
+        (start_line size.start (search (plan_in (held size rows.now firsts.now outcomes.now))
         size.start)) out.new result }
 {
     let mut commands = [0u16; Size::STATES];

@@ -4,10 +4,10 @@ ghost use Rattle.laws.specs.Entry.{entry};
 ghost use Rattle.laws.specs.Lists.{tabulate, joined};
 ghost use Rattle.laws.specs.Wrote.{Wrote};
 ghost use Rattle.model.specs.Plan.{Plan};
-ghost use Rattle.model.specs.Held.{planIn};
-ghost use Rattle.model.specs.Listing.{stateLine};
+ghost use Rattle.model.specs.Held.{plan_in};
+ghost use Rattle.model.specs.Listing.{state_line};
 ghost use Rattle.tables.specs.Meaning.{held};
-ghost use Rattle.tables.specs.Spans.{commandsOf};
+ghost use Rattle.tables.specs.Spans.{commands_of};
 ghost use Rattle.tables.specs.Ready.{Ready};
 ghost use Rattle.listing_text.specs.Listed.{Listed};
 ghost use Rattle.listing.specs.Named.{named_at};
@@ -28,10 +28,10 @@ fn fault_outcome(
     ranks: &[u16],
     mark: usize,
 ) -> usize
-    requires ready { Ready size.n (commandsOf size firsts.now outcomes.now) }
+    requires ready { Ready size.n (commands_of size firsts.now outcomes.now) }
     requires n_in_bounds { (size.n ≤ length ranks.now) × (2 ≤ mark → span.first + span.practice < size.m) }
     ensures named { result
-        ≡ entry (named_at (commandsOf size firsts.now outcomes.now) ranks.now span mark) }
+        ≡ entry (named_at (commands_of size firsts.now outcomes.now) ranks.now span mark) }
     ensures fits { result < 65536 }
 {
     if mark < 2 {
@@ -60,15 +60,15 @@ fn put_state(
     out: &mut [u8],
     place: usize,
 ) -> usize
-    requires ready { Ready size.n (commandsOf size firsts.now outcomes.now) }
+    requires ready { Ready size.n (commands_of size firsts.now outcomes.now) }
     requires s_lt_n { (s < size.n) × (size.n ≤ length ranks.now) × (size.n ≤ length commands.now) × (size.n ≤ length marks.now)
         × (place + 35 ≤ length out.old) }
     requires practice_bound { 2 ≤ get_or marks.now s 0 → span.first + span.practice < size.m }
     ensures wrote { (P : Plan)
         → Listed P s span.kind (get_or ranks.now s 0) (get_or commands.now s 0) (get_or marks.now s 0)
-        (entry (named_at (commandsOf size firsts.now outcomes.now) ranks.now span
+        (entry (named_at (commands_of size firsts.now outcomes.now) ranks.now span
         (get_or marks.now s 0)))
-        → Wrote out.old place (stateLine P s) out.new result }
+        → Wrote out.old place (state_line P s) out.new result }
     ensures ends { result ≤ place + 35 }
     ensures same { length out.new ≡ length out.old }
 {
@@ -97,12 +97,12 @@ pub fn list_states(
     out: &mut [u8],
     place: usize,
 ) -> usize
-    requires ready { Ready size.n (commandsOf size firsts.now outcomes.now) }
+    requires ready { Ready size.n (commands_of size firsts.now outcomes.now) }
     requires all_listed { AllListed (held size rows.now firsts.now outcomes.now) ranks.now commands.now marks.now }
     requires n_in_bounds { (size.n ≤ length rows.now) × (size.n ≤ length ranks.now) × (size.n ≤ length commands.now)
         × (size.n ≤ length marks.now) × (place + size.n * 35 ≤ length out.old) }
-    ensures { let P = planIn (held size rows.now firsts.now outcomes.now) in
-        Wrote out.old place (joined (tabulate (stateLine P) 0 size.n)) out.new result }
+    ensures { let P = plan_in (held size rows.now firsts.now outcomes.now) in
+        Wrote out.old place (joined (tabulate (state_line P) 0 size.n)) out.new result }
 {
     let mut next = place;
     let mut s = 0;

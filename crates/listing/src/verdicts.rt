@@ -2,9 +2,9 @@
 ghost use Rattle.std.specs.Prelude.{◌≡◌, true, [], ◌∷◌, ◌++◌, ◌+◌, ◌*◌, ◌≤◌, length};
 ghost use Rattle.laws.specs.Lists.{tabulate, joined};
 ghost use Rattle.laws.specs.Wrote.{Wrote};
-ghost use Rattle.model.specs.Held.{planIn};
+ghost use Rattle.model.specs.Held.{plan_in};
 ghost use Rattle.model.specs.Practice.{tally};
-ghost use Rattle.model.specs.Listing.{stateLine, tallyLine};
+ghost use Rattle.model.specs.Listing.{state_line, tally_line};
 ghost use Rattle.model.specs.SoundTest.{sound};
 ghost use Rattle.tables.specs.Meaning.{held};
 
@@ -15,7 +15,7 @@ use tables::{Row, Size};
 
 fn put_tally(d: Decision, out: &mut [u8], place: usize) -> usize
     requires { place + 50 ≤ length out.old }
-    ensures { Wrote out.old place (tallyLine (d.safe ∷ d.lost ∷ [])) out.new result }
+    ensures { Wrote out.old place (tally_line (d.safe ∷ d.lost ∷ [])) out.new result }
 {
     let safe = d.safe;
     let lost = d.lost;
@@ -32,8 +32,8 @@ pub fn list_verdicts(
 ) -> usize
     requires { (sound (held size rows.now firsts.now outcomes.now) ≡ true) × (place + size.n * 35 + 50 ≤ length out.old) }
     ensures { Wrote out.old place
-        (joined (tabulate (stateLine (planIn (held size rows.now firsts.now outcomes.now))) 0 size.n)
-        ++ tallyLine (tally (planIn (held size rows.now firsts.now outcomes.now)))) out.new result }
+        (joined (tabulate (state_line (plan_in (held size rows.now firsts.now outcomes.now))) 0 size.n)
+        ++ tally_line (tally (plan_in (held size rows.now firsts.now outcomes.now)))) out.new result }
 {
     let mut ranks = [0u16; Size::STATES];
     let mut commands = [0u16; Size::STATES];

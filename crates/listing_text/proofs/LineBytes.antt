@@ -7,24 +7,24 @@ use Rattle.laws.proofs.Wrote.{wrote_then}
 use Rattle.model.specs.Listing.{line}
 use Rattle.listing_text.specs.Words.{spaced}
 
-spaced-append : (ws vs : List (List ℕ)) → spaced ws ++ spaced vs ≡ spaced (ws ++ vs)
+spaced_append : (ws vs : List (List ℕ)) → spaced ws ++ spaced vs ≡ spaced (ws ++ vs)
 unfolding spaced
-spaced-append [] vs = refl
-spaced-append (w ∷ ws) vs = rw (append_assoc w (spaced ws) (spaced vs), spaced-append ws vs)
+spaced_append [] vs = refl
+spaced_append (w ∷ ws) vs = rw (append_assoc w (spaced ws) (spaced vs), spaced_append ws vs)
 
-line-words : (w : List ℕ) (ws : List (List ℕ)) → w ++ (spaced ws ++ (10 ∷ [])) ≡ line (w ∷ ws)
+line_words : (w : List ℕ) (ws : List (List ℕ)) → w ++ (spaced ws ++ (10 ∷ [])) ≡ line (w ∷ ws)
 unfolding spaced line
-line-words w [] = refl
-line-words w (v ∷ ws) = rw (append_assoc v (spaced ws) (10 ∷ []), line-words v ws)
+line_words w [] = refl
+line_words w (v ∷ ws) = rw (append_assoc v (spaced ws) (10 ∷ []), line_words v ws)
 
-pub word-wrote : {l m w : List ℕ} {i j : ℕ} → Wrote l i (32 ∷ w) m j → Wrote l i (spaced (w ∷ [])) m j
+pub word_wrote : {l m w : List ℕ} {i j : ℕ} → Wrote l i (32 ∷ w) m j → Wrote l i (spaced (w ∷ [])) m j
 unfolding spaced
-word-wrote {w = w} x = rw (append-nil w) x
+word_wrote {w = w} x = rw (append-nil w) x
 
-pub words-wrote : {l m r : List ℕ} {i j k : ℕ} (ws vs : List (List ℕ)) → Wrote l i (spaced ws) m j → Wrote m j (spaced vs) r k
+pub words_wrote : {l m r : List ℕ} {i j k : ℕ} (ws vs : List (List ℕ)) → Wrote l i (spaced ws) m j → Wrote m j (spaced vs) r k
     → Wrote l i (spaced (ws ++ vs)) r k
-words-wrote ws vs x y = rw (← spaced-append ws vs) (wrote_then x y)
+words_wrote ws vs x y = rw (← spaced_append ws vs) (wrote_then x y)
 
 pub line_wrote : {l m n r w : List ℕ} {i j k e : ℕ} (ws : List (List ℕ))
     → Wrote l i w m j → Wrote m j (spaced ws) n k → Wrote n k (10 ∷ []) r e → Wrote l i (line (w ∷ ws)) r e
-line_wrote {w = w} ws x y z = rw (← line-words w ws) (wrote_then x (wrote_then y z))
+line_wrote {w = w} ws x y z = rw (← line_words w ws) (wrote_then x (wrote_then y z))

@@ -1,12 +1,12 @@
 // Decimal digits, by division (rule L5).
 ghost use Rattle.std.specs.Prelude.{◌≡◌, ◌+◌, ◌<◌, ◌≤◌, length};
 ghost use Rattle.laws.specs.Wrote.{Wrote};
-ghost use Rattle.model.specs.Listing.{lastDigit, decimal};
+ghost use Rattle.model.specs.Listing.{last_digit, decimal};
 
 use tables::bytes::put_one;
 
 fn last_digit(x: usize) -> u8
-    ensures { result ≡ lastDigit x }
+    ensures { result ≡ last_digit x }
 {
     b'0' + (x % 10) as u8
 }

@@ -3,8 +3,8 @@ ghost use Rattle.std.specs.Prelude.{◌≡◌, [], ◌∷◌, ◌+◌, ◌<◌, 
 ghost use Rattle.laws.specs.Wrote.{Wrote};
 ghost use Rattle.model.specs.Plan.{Plan};
 ghost use Rattle.model.specs.Search.{Result};
-ghost use Rattle.model.specs.Listing.{refusalText, planLine, stateLine, tallyLine, startLine};
-ghost use Rattle.tables.specs.Meaning.{numbers, refusalOf};
+ghost use Rattle.model.specs.Listing.{refusal_text, plan_line, state_line, tally_line, start_line};
+ghost use Rattle.tables.specs.Meaning.{numbers, refusal_of};
 ghost use Rattle.listing_text.specs.Listed.{Listed};
 
 use crate::bytes::put_word;
@@ -18,7 +18,7 @@ const END: u8 = 10;
 
 pub fn put_refusal(out: &mut [u8], place: usize, refusal: Refusal) -> usize
     requires { place + 15 ≤ length out.old }
-    ensures wrote { Wrote out.old place (refusalText (refusalOf refusal)) out.new result }
+    ensures wrote { Wrote out.old place (refusal_text (refusal_of refusal)) out.new result }
     ensures ends { result ≤ place + 15 }
 {
     let next = put_word(out, place, b"refused");
@@ -28,7 +28,7 @@ pub fn put_refusal(out: &mut [u8], place: usize, refusal: Refusal) -> usize
 
 pub fn put_plan_line(out: &mut [u8], place: usize, size: Size) -> usize
     requires { (place + 26 ≤ length out.old) × (size.n < 1000000) × (size.m < 1000000) × (size.t < 1000000) }
-    ensures wrote { Wrote out.old place (planLine (numbers size)) out.new result }
+    ensures wrote { Wrote out.old place (plan_line (numbers size)) out.new result }
     ensures ends { result ≤ place + 26 }
 {
     let next = put_word(out, place, b"plan");
@@ -49,7 +49,7 @@ pub fn put_state_line(
 ) -> usize
     requires { (place + 35 ≤ length out.old) × (s < 1000000) × (outcome < 1000000) }
     ensures wrote { (P : Plan) → Listed P s kind rank command mark outcome
-        → Wrote out.old place (stateLine P s) out.new result }
+        → Wrote out.old place (state_line P s) out.new result }
     ensures ends { result ≤ place + 35 }
 {
     let second = put_decimal(out, place, s);
@@ -62,7 +62,7 @@ pub fn put_state_line(
 
 pub fn put_tally_line(out: &mut [u8], place: usize, safe: [u16; 3], lost: [u16; 3]) -> usize
     requires { place + 50 ≤ length out.old }
-    ensures wrote { Wrote out.old place (tallyLine (safe ∷ lost ∷ [])) out.new result }
+    ensures wrote { Wrote out.old place (tally_line (safe ∷ lost ∷ [])) out.new result }
     ensures ends { result ≤ place + 50 }
 {
     let next = put_word(out, place, b"tally");
@@ -82,7 +82,7 @@ pub fn put_start_line(
 ) -> usize
     requires { (place + 22 ≤ length out.old) × (start < 1000000) × (rounds < 1000000) }
     ensures wrote { (R : Result) → R.lost ≡ lost → R.rounds ≡ rounds
-        → Wrote out.old place (startLine start R) out.new result }
+        → Wrote out.old place (start_line start R) out.new result }
     ensures ends { result ≤ place + 22 }
 {
     let next = put_word(out, place, b"start");

@@ -1,9 +1,9 @@
 // Words with a space before each.
 ghost use Rattle.std.specs.Prelude.{[], ◌∷◌, ◌+◌, ◌%◌, ◌<◌, ◌≤◌, eqb, length, get_or};
-ghost use Rattle.laws.specs.Entry.{fromEntry};
+ghost use Rattle.laws.specs.Entry.{from_entry};
 ghost use Rattle.laws.specs.Sets.{found};
 ghost use Rattle.laws.specs.Wrote.{Wrote};
-ghost use Rattle.model.specs.Listing.{decimal, verdictLetter, numberOrDash, practiceLetter, faultSign};
+ghost use Rattle.model.specs.Listing.{decimal, verdict_letter, number_or_dash, practice_letter, fault_sign};
 ghost use Rattle.listing_text.specs.Words.{spaced};
 
 use crate::digits::put_decimal;
@@ -56,7 +56,7 @@ pub fn put_row(out: &mut [u8], place: usize, row: [u16; 3]) -> usize
 // An entry's number, or a dash for none.
 pub fn put_entry(out: &mut [u8], place: usize, e: u16) -> usize
     requires { place + 7 ≤ length out.old }
-    ensures wrote { Wrote out.old place (spaced (numberOrDash (fromEntry e) ∷ [])) out.new result }
+    ensures wrote { Wrote out.old place (spaced (number_or_dash (from_entry e) ∷ [])) out.new result }
     ensures ends { result ≤ place + 7 }
 {
     if e == NONE {
@@ -69,7 +69,7 @@ pub fn put_entry(out: &mut [u8], place: usize, e: u16) -> usize
 pub fn put_verdict(out: &mut [u8], place: usize, rank: u16) -> usize
     requires { place + 9 ≤ length out.old }
     ensures wrote { Wrote out.old place
-        (spaced (verdictLetter (found (fromEntry rank)) ∷ numberOrDash (fromEntry rank) ∷ [])) out.new result }
+        (spaced (verdict_letter (found (from_entry rank)) ∷ number_or_dash (from_entry rank) ∷ [])) out.new result }
     ensures ends { result ≤ place + 9 }
 {
     let next = put_letter(out, place, verdict_letter(rank != NONE));
@@ -79,7 +79,7 @@ pub fn put_verdict(out: &mut [u8], place: usize, rank: u16) -> usize
 // The sign of a fault and the outcome that is named there, or a dot where none is.
 fn put_fault(out: &mut [u8], place: usize, outcome: usize) -> usize
     requires { (place + 8 ≤ length out.old) × (outcome < 1000000) }
-    ensures wrote { Wrote out.old place (spaced (faultSign (fromEntry outcome) ∷ [])) out.new result }
+    ensures wrote { Wrote out.old place (spaced (fault_sign (from_entry outcome) ∷ [])) out.new result }
     ensures ends { result ≤ place + 8 }
 {
     if outcome == tables::entries::NONE {
@@ -93,7 +93,7 @@ fn put_fault(out: &mut [u8], place: usize, outcome: usize) -> usize
 pub fn put_marks(out: &mut [u8], place: usize, mark: u16, outcome: usize) -> usize
     requires { (place + 10 ≤ length out.old) × (outcome < 1000000) }
     ensures wrote { Wrote out.old place
-        (spaced (practiceLetter (eqb (mark % 2) 1) ∷ faultSign (fromEntry outcome) ∷ [])) out.new result }
+        (spaced (practice_letter (eqb (mark % 2) 1) ∷ fault_sign (from_entry outcome) ∷ [])) out.new result }
     ensures ends { result ≤ place + 10 }
 {
     let next = put_letter(out, place, practice_letter(mark));

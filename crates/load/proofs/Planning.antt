@@ -5,12 +5,12 @@ use mathlib.Core.List.{List}
 use Prim.Native.Nat.{ℕ, ◌/◌, ◌<◌, ◌≤◌}
 use lib.ListN.{length}
 use borrow.Author.Tests.{le-leb, lt-leb}
-use Rattle.laws.proofs.Tests.{and-false-left, and-false-right}
+use Rattle.laws.proofs.Tests.{and_false_left, and_false_right}
 use Rattle.model.specs.Refusal.{Unsound, given, refused, answer, need, ◌>>=◌, ◌>>◌}
 use Rattle.model.specs.Tables.{Size as ModelSize, Tables, enough}
-use Rattle.model.specs.SoundTest.{tablesLong}
-use Rattle.model.specs.Boundary.{tablesIn, entriesIn, rowsIn, sizeIn, entryBytes, rowBytes, sizeBytes}
-use Rattle.model.proofs.Lent.{length-entries-in, length-rows-in}
+use Rattle.model.specs.SoundTest.{tables_long}
+use Rattle.model.specs.Boundary.{tables_in, entries_in, rows_in, size_in, entry_bytes, row_bytes, size_bytes}
+use Rattle.model.proofs.Lent.{length_entries_in, length_rows_in}
 use Rattle.tables.specs.declared.Size.{Size}
 use Rattle.tables.specs.Meaning.{numbers}
 use Rattle.load.specs.Loading.{few, loading}
@@ -22,58 +22,58 @@ size_of T = T.size
 module _ (S R F O : List ℕ) where
   -- the plan that is lent
   abbrev pub lent : Tables
-  lent = record { size = sizeIn S; rows = rowsIn (entriesIn R); firsts = entriesIn F; outcomes = entriesIn O }
+  lent = record { size = size_in S; rows = rows_in (entries_in R); firsts = entries_in F; outcomes = entries_in O }
 
-  pub lent-short : length S < sizeBytes → tablesIn S R F O ≡ refused Unsound
-  unfolding tablesIn need ◌>>◌
-  lent-short h = rw (lt-leb sizeBytes (length S) h)
+  pub lent_short : length S < size_bytes → tables_in S R F O ≡ refused Unsound
+  unfolding tables_in need ◌>>◌
+  lent_short h = rw (lt-leb size_bytes (length S) h)
 
-  pub lent_is : sizeBytes ≤ length S → tablesIn S R F O ≡ given lent
-  unfolding tablesIn need ◌>>◌
-  lent_is h = rw (le-leb sizeBytes (length S) h)
+  pub lent_is : size_bytes ≤ length S → tables_in S R F O ≡ given lent
+  unfolding tables_in need ◌>>◌
+  lent_is h = rw (le-leb size_bytes (length S) h)
 
-  long-is : tablesLong lent ≡ enough (sizeIn S) (length R / rowBytes) (length F / entryBytes) (length O / entryBytes)
-  unfolding tablesLong
-  long-is = rw (length-rows-in R, length-entries-in F, length-entries-in O)
+  long_is : tables_long lent ≡ enough (size_in S) (length R / row_bytes) (length F / entry_bytes) (length O / entry_bytes)
+  unfolding tables_long
+  long_is = rw (length_rows_in R, length_entries_in F, length_entries_in O)
 
-  loading-is : sizeBytes ≤ length S → loading S R F O
-      ≡ (need Unsound (few (sizeIn S) && enough (sizeIn S) (length R / rowBytes) (length F / entryBytes) (length O / entryBytes)) >> given
+  loading_is : size_bytes ≤ length S → loading S R F O
+      ≡ (need Unsound (few (size_in S) && enough (size_in S) (length R / row_bytes) (length F / entry_bytes) (length O / entry_bytes)) >> given
       lent)
   unfolding loading ◌>>=◌
-  loading-is h = rw (lent_is h, long-is)
+  loading_is h = rw (lent_is h, long_is)
 
-  pub loading-short : length S < sizeBytes → loading S R F O ≡ refused Unsound
+  pub loading_short : length S < size_bytes → loading S R F O ≡ refused Unsound
   unfolding loading ◌>>=◌
-  loading-short h = rw (lent-short h)
+  loading_short h = rw (lent_short h)
 
-  module _ (h : sizeBytes ≤ length S) (z : Size) (e : numbers z ≡ sizeIn S) where
-    pub loading-many : few (numbers z) ≡ false → loading S R F O ≡ refused Unsound
+  module _ (h : size_bytes ≤ length S) (z : Size) (e : numbers z ≡ size_in S) where
+    pub loading_many : few (numbers z) ≡ false → loading S R F O ≡ refused Unsound
     unfolding need ◌>>◌
-    loading-many f =
-        let f' : few (sizeIn S) ≡ false = rw e at f in
-        loading-is h ∙ rw (and-false-left (few (sizeIn S))
-        (enough (sizeIn S) (length R / rowBytes) (length F / entryBytes) (length O / entryBytes)) f')
+    loading_many f =
+        let f' : few (size_in S) ≡ false = rw e at f in
+        loading_is h ∙ rw (and_false_left (few (size_in S))
+        (enough (size_in S) (length R / row_bytes) (length F / entry_bytes) (length O / entry_bytes)) f')
 
-    pub loading-long : enough (numbers z) (length R / rowBytes) (length F / entryBytes) (length O / entryBytes) ≡ false → loading S R F O
+    pub loading_long : enough (numbers z) (length R / row_bytes) (length F / entry_bytes) (length O / entry_bytes) ≡ false → loading S R F O
         ≡ refused Unsound
     unfolding need ◌>>◌
-    loading-long f =
-        let f' : enough (sizeIn S) (length R / rowBytes) (length F / entryBytes) (length O / entryBytes) ≡ false = rw e at f in
-        loading-is h ∙ rw (and-false-right (few (sizeIn S))
-        (enough (sizeIn S) (length R / rowBytes) (length F / entryBytes) (length O / entryBytes)) f')
+    loading_long f =
+        let f' : enough (size_in S) (length R / row_bytes) (length F / entry_bytes) (length O / entry_bytes) ≡ false = rw e at f in
+        loading_is h ∙ rw (and_false_right (few (size_in S))
+        (enough (size_in S) (length R / row_bytes) (length F / entry_bytes) (length O / entry_bytes)) f')
 
-    pub loading-whole : few (numbers z) ≡ true → enough (numbers z) (length R / rowBytes) (length F / entryBytes) (length O / entryBytes)
+    pub loading_whole : few (numbers z) ≡ true → enough (numbers z) (length R / row_bytes) (length F / entry_bytes) (length O / entry_bytes)
         ≡ true → loading S R F O ≡ given lent
     unfolding need ◌>>◌
-    loading-whole f g =
-        let f' : few (sizeIn S) ≡ true = rw e at f in
-        let g' : enough (sizeIn S) (length R / rowBytes) (length F / entryBytes) (length O / entryBytes) ≡ true = rw e at g in
-        loading-is h ∙ rw (f', g')
+    loading_whole f g =
+        let f' : few (size_in S) ≡ true = rw e at f in
+        let g' : enough (size_in S) (length R / row_bytes) (length F / entry_bytes) (length O / entry_bytes) ≡ true = rw e at g in
+        loading_is h ∙ rw (f', g')
 
-    pub size-answered : loading S R F O ≡ given lent → given (numbers z) ≡ answer size_of (loading S R F O)
+    pub size_answered : loading S R F O ≡ given lent → given (numbers z) ≡ answer size_of (loading S R F O)
     unfolding answer
-    size-answered f = rw (f, e)
+    size_answered f = rw (f, e)
 
-  pub size-refused : loading S R F O ≡ refused Unsound → refused Unsound ≡ answer size_of (loading S R F O)
+  pub size_refused : loading S R F O ≡ refused Unsound → refused Unsound ≡ answer size_of (loading S R F O)
   unfolding answer
-  size-refused f = rw f
+  size_refused f = rw f

@@ -3,10 +3,10 @@ ghost use Rattle.std.specs.Prelude.{◌≡◌, ◌+◌, ◌*◌, ◌<◌, ◌≤
 ghost use Rattle.laws.specs.Lists.{overwrite};
 ghost use Rattle.laws.specs.Entry.{be16};
 ghost use Rattle.model.specs.Refusal.{answer};
-ghost use Rattle.model.specs.File.{maxStates, maxCommands, maxOutcomes};
+ghost use Rattle.model.specs.File.{max_states, max_commands, max_outcomes};
 ghost use Rattle.model.specs.Tables.{Tables};
 ghost use Rattle.model.specs.Calls.{left};
-ghost use Rattle.model.specs.Boundary.{entriesIn, rowsIn, row_in, sizeIn, entryBytes, rowBytes, sizeBytes};
+ghost use Rattle.model.specs.Boundary.{entries_in, rows_in, row_in, size_in, entry_bytes, row_bytes, size_bytes};
 ghost use Rattle.tables.specs.Meaning.{numbers, row_of, rows_of};
 ghost use Rattle.load.specs.Loading.{few, loading, answer_of};
 
@@ -32,8 +32,8 @@ fn entry_at(bytes: &[u8], i: usize) -> u16
 
 // The first n entries, to the first n places of a table.
 pub fn load(bytes: &[u8], table: &mut [u16], n: usize)
-    requires { (n * entryBytes ≤ length bytes.now) × (n ≤ length table.old) }
-    ensures { table.new ≡ overwrite (take n (entriesIn bytes.now)) table.old }
+    requires { (n * entry_bytes ≤ length bytes.now) × (n ≤ length table.old) }
+    ensures { table.new ≡ overwrite (take n (entries_in bytes.now)) table.old }
 {
     let mut i = 0;
     while i < n {
@@ -44,7 +44,7 @@ pub fn load(bytes: &[u8], table: &mut [u16], n: usize)
 
 // The row of state s.
 fn row_in(bytes: &[u8], s: usize) -> Row
-    requires { s * rowBytes + rowBytes ≤ length bytes.now }
+    requires { s * row_bytes + row_bytes ≤ length bytes.now }
     ensures { row_of result ≡ row_in bytes.now s }
 {
     let from = s * ROW_ENTRIES;
@@ -57,9 +57,9 @@ fn row_in(bytes: &[u8], s: usize) -> Row
 
 // The first n rows, to the first n places of a table.
 pub fn load_rows(bytes: &[u8], rows: &mut [Row], n: usize)
-    requires { (n * rowBytes ≤ length bytes.now) × (n ≤ length rows.old) }
+    requires { (n * row_bytes ≤ length bytes.now) × (n ≤ length rows.old) }
     ensures { rows_of rows.new
-        ≡ overwrite (take n (rowsIn (entriesIn bytes.now))) (rows_of rows.old) }
+        ≡ overwrite (take n (rows_in (entries_in bytes.now))) (rows_of rows.old) }
 {
     let mut s = 0;
     while s < n {
@@ -70,8 +70,8 @@ pub fn load_rows(bytes: &[u8], rows: &mut [Row], n: usize)
 }
 
 fn size_in(bytes: &[u8]) -> Size
-    requires { sizeBytes ≤ length bytes.now }
-    ensures { numbers result ≡ sizeIn bytes.now }
+    requires { size_bytes ≤ length bytes.now }
+    ensures { numbers result ≡ size_in bytes.now }
 {
     let n = entry_at(bytes, 0);
     let m = entry_at(bytes, 1);
@@ -128,7 +128,7 @@ pub fn load_plan(
     commands: &mut [u16],
     entries: &mut [u16],
 ) -> PlanAnswer
-    requires { (maxStates ≤ length states.old) × (maxCommands ≤ length commands.old) × (maxOutcomes ≤ length entries.old) }
+    requires { (max_states ≤ length states.old) × (max_commands ≤ length commands.old) × (max_outcomes ≤ length entries.old) }
     ensures answered { let lent = loading size.now rows.now firsts.now outcomes.now in
         answer_of result ≡ answer (λ (T : Tables). T.size) lent }
     ensures rows { let lent = loading size.now rows.now firsts.now outcomes.now in

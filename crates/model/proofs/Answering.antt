@@ -4,91 +4,91 @@ use mathlib.Core.Bool.{true}
 use mathlib.Core.Logic.{◌↔◌}
 use mathlib.Core.List.{List}
 use Prim.Native.Nat.{ℕ, ◌<◌, ◌≤◌}
-use Rattle.laws.proofs.TestFacts.{and-iff, leb-iff}
+use Rattle.laws.proofs.TestFacts.{and_iff, leb_iff}
 use Rattle.model.specs.Plan.{Plan}
 use Rattle.model.specs.Search.{Result, search}
 use Rattle.model.specs.Refusal.{Cramped, given, ◌>>=◌}
 use Rattle.model.specs.File.{Tree, read}
 use Rattle.model.specs.Bytes.{bytes_of}
-use Rattle.model.specs.Tables.{Size, Tables, enough, tables_of, fileLength}
+use Rattle.model.specs.Tables.{Size, Tables, enough, tables_of, file_length}
 use Rattle.model.specs.SoundTest.{sound}
-use Rattle.model.specs.Held.{tree_of, planIn}
+use Rattle.model.specs.Held.{tree_of, plan_in}
 use Rattle.model.specs.Calls.{reading, writing, deciding, searching}
-use Rattle.model.proofs.Answers.{given-inj, need-iff, bind_inv}
-use Rattle.model.proofs.StateCalls.{roomTest, state-given, searching-tests}
+use Rattle.model.proofs.Answers.{given_inj, need_iff, bind_inv}
+use Rattle.model.proofs.StateCalls.{room_test, state_given, searching_tests}
 
 pub record ReadAnswers (rows firsts outcomes : ℕ) (file : List ℕ) (T : Tables) : Type 0 where
   pub tree : Tree
   pub reads : read file ≡ given tree
   pub is : tables_of tree ≡ T
-  pub long-rows : T.size.n ≤ rows
-  pub long-firsts : T.size.m ≤ firsts
-  pub long-outcomes : T.size.t ≤ outcomes
+  pub long_rows : T.size.n ≤ rows
+  pub long_firsts : T.size.m ≤ firsts
+  pub long_outcomes : T.size.t ≤ outcomes
 
 -- tables that are long enough
-pub enough-iff : (z : Size) (rows firsts outcomes : ℕ)
+pub enough_iff : (z : Size) (rows firsts outcomes : ℕ)
     → (enough z rows firsts outcomes ≡ true) ↔ (((z.n ≤ rows) × (z.m ≤ firsts)) × (z.t ≤ outcomes))
-enough-iff z rows firsts outcomes = (λ e. simp (and-iff, leb-iff) at e, λ h. simp (and-iff, leb-iff) h)
+enough_iff z rows firsts outcomes = (λ e. simp (and_iff, leb_iff) at e, λ h. simp (and_iff, leb_iff) h)
 
-pub reading-iff : (rows firsts outcomes : ℕ) (file : List ℕ) (T : Tables)
+pub reading_iff : (rows firsts outcomes : ℕ) (file : List ℕ) (T : Tables)
     → (reading rows firsts outcomes file ≡ given T) ↔ ReadAnswers rows firsts outcomes file T
 unfolding reading ◌>>=◌
-reading-iff rows firsts outcomes file T = (
+reading_iff rows firsts outcomes file T = (
   λ e.
       let (p, r, f) = bind_inv (read file) _ e in
-      let (long, q) = (need-iff _ _ _ _).0 f in
-      let z : tables_of p ≡ T = given-inj q in
-      let l = (enough-iff T.size rows firsts outcomes).0 (rw z at long) in
-      record { tree = p; reads = r; is = z; long-rows = l.0.0; long-firsts = l.0.1; long-outcomes = l.1 },
+      let (long, q) = (need_iff _ _ _ _).0 f in
+      let z : tables_of p ≡ T = given_inj q in
+      let l = (enough_iff T.size rows firsts outcomes).0 (rw z at long) in
+      record { tree = p; reads = r; is = z; long_rows = l.0.0; long_firsts = l.0.1; long_outcomes = l.1 },
   λ h.
-      let long = (enough-iff T.size rows firsts outcomes).1 ((h.long-rows, h.long-firsts), h.long-outcomes) in
-      rw h.reads ((need-iff _ _ _ _).1 (rw h.is long, ap given h.is)),
+      let long = (enough_iff T.size rows firsts outcomes).1 ((h.long_rows, h.long_firsts), h.long_outcomes) in
+      rw h.reads ((need_iff _ _ _ _).1 (rw h.is long, ap given h.is)),
 )
 
 pub record WriteAnswers (T : Tables) (bytes : ℕ) (file : List ℕ) : Type 0 where
   pub sounds : sound T ≡ true
-  pub long : fileLength T ≤ bytes
+  pub long : file_length T ≤ bytes
   pub is : bytes_of (tree_of T) ≡ file
 
-pub writing-iff : (T : Tables) (bytes : ℕ) (file : List ℕ) → (writing T bytes ≡ given file) ↔ WriteAnswers T bytes file
+pub writing_iff : (T : Tables) (bytes : ℕ) (file : List ℕ) → (writing T bytes ≡ given file) ↔ WriteAnswers T bytes file
 unfolding writing
-writing-iff T bytes file = (
+writing_iff T bytes file = (
   λ e.
-      let (s, f) = (need-iff _ _ _ _).0 e in
-      let (l, q) = (need-iff _ _ _ _).0 f in
-      record { sounds = s; long = (leb-iff _ _).0 l; is = given-inj q },
-  λ h. (need-iff _ _ _ _).1 (h.sounds, (need-iff _ _ _ _).1 ((leb-iff _ _).1 h.long, ap given h.is)),
+      let (s, f) = (need_iff _ _ _ _).0 e in
+      let (l, q) = (need_iff _ _ _ _).0 f in
+      record { sounds = s; long = (leb_iff _ _).0 l; is = given_inj q },
+  λ h. (need_iff _ _ _ _).1 (h.sounds, (need_iff _ _ _ _).1 ((leb_iff _ _).1 h.long, ap given h.is)),
 )
 
 pub record DecideAnswers (T : Tables) (ranks commands marks scratch : ℕ) (P : Plan) : Type 0 where
   pub sounds : sound T ≡ true
-  pub long-ranks : T.size.n ≤ ranks
-  pub long-commands : T.size.n ≤ commands
-  pub long-marks : T.size.n ≤ marks
-  pub long-scratch : T.size.n ≤ scratch
-  pub is : planIn T ≡ P
+  pub long_ranks : T.size.n ≤ ranks
+  pub long_commands : T.size.n ≤ commands
+  pub long_marks : T.size.n ≤ marks
+  pub long_scratch : T.size.n ≤ scratch
+  pub is : plan_in T ≡ P
 
-pub deciding-iff : (T : Tables) (ranks commands marks scratch : ℕ) (P : Plan)
+pub deciding_iff : (T : Tables) (ranks commands marks scratch : ℕ) (P : Plan)
     → (deciding T ranks commands marks scratch ≡ given P) ↔ DecideAnswers T ranks commands marks scratch P
 unfolding deciding
-deciding-iff T ranks commands marks scratch P = (
+deciding_iff T ranks commands marks scratch P = (
   λ e.
-      let (s, f) = (need-iff _ _ _ _).0 e in
-      let (l, q) = (need-iff _ _ _ _).0 f in
-      let h = simp (and-iff, leb-iff) at l in
+      let (s, f) = (need_iff _ _ _ _).0 e in
+      let (l, q) = (need_iff _ _ _ _).0 f in
+      let h = simp (and_iff, leb_iff) at l in
       record {
         sounds = s;
-        long-ranks = h.0.0.0;
-        long-commands = h.0.0.1;
-        long-marks = h.0.1;
-        long-scratch = h.1;
-        is = given-inj q;
+        long_ranks = h.0.0.0;
+        long_commands = h.0.0.1;
+        long_marks = h.0.1;
+        long_scratch = h.1;
+        is = given_inj q;
       },
   λ h.
-      (need-iff _ _ _ _).1 (
+      (need_iff _ _ _ _).1 (
         h.sounds,
-        (need-iff _ _ _ _).1 (
-          simp (and-iff, leb-iff) (((h.long-ranks, h.long-commands), h.long-marks), h.long-scratch),
+        (need_iff _ _ _ _).1 (
+          simp (and_iff, leb_iff) (((h.long_ranks, h.long_commands), h.long_marks), h.long_scratch),
           ap given h.is,
         ),
       ),
@@ -97,18 +97,18 @@ deciding-iff T ranks commands marks scratch P = (
 pub record SearchAnswers (T : Tables) (start commands scratch : ℕ) (R : Result) : Type 0 where
   pub sounds : sound T ≡ true
   pub inside : start < T.size.n
-  pub long-commands : T.size.n ≤ commands
-  pub long-scratch : T.size.n ≤ scratch
-  pub is : search (planIn T) start ≡ R
+  pub long_commands : T.size.n ≤ commands
+  pub long_scratch : T.size.n ≤ scratch
+  pub is : search (plan_in T) start ≡ R
 
-pub searching-iff : (T : Tables) (start commands scratch : ℕ) (R : Result)
+pub searching_iff : (T : Tables) (start commands scratch : ℕ) (R : Result)
     → (searching T start commands scratch ≡ given R) ↔ SearchAnswers T start commands scratch R
-searching-iff T start commands scratch R = rw (searching-tests T start commands scratch) (
+searching_iff T start commands scratch R = rw (searching_tests T start commands scratch) (
   λ e.
-      let (s, b, l, q) = (state-given T start Cramped (roomTest T commands scratch) (search (planIn T) start) R).0 e in
-      let h = simp (and-iff, leb-iff) at l in
-      record { sounds = s; inside = b; long-commands = h.0; long-scratch = h.1; is = q },
+      let (s, b, l, q) = (state_given T start Cramped (room_test T commands scratch) (search (plan_in T) start) R).0 e in
+      let h = simp (and_iff, leb_iff) at l in
+      record { sounds = s; inside = b; long_commands = h.0; long_scratch = h.1; is = q },
   λ h.
-      (state-given T start Cramped (roomTest T commands scratch) (search (planIn T) start) R).1
-      (h.sounds, h.inside, simp (and-iff, leb-iff) (h.long-commands, h.long-scratch), h.is),
+      (state_given T start Cramped (room_test T commands scratch) (search (plan_in T) start) R).1
+      (h.sounds, h.inside, simp (and_iff, leb_iff) (h.long_commands, h.long_scratch), h.is),
 )

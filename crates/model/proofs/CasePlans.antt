@@ -20,8 +20,8 @@ abbrev pub planned : List State → Plan
 planned ss = plan_of (record { start = 0; states = ss })
 
 -- one state, which is at rest; the start is said to be s
-abbrev pub resting-at : ℕ → Tables
-resting-at s = record {
+abbrev pub resting_at : ℕ → Tables
+resting_at s = record {
   size = record { n = 1; m = 0; t = 0; start = s };
   rows = record { kind = 2; first = 0; practice = FFFF } ∷ [];
   firsts = [];

@@ -8,15 +8,15 @@ use Rattle.laws.specs.Starts.{start_of}
 use Rattle.model.specs.Plan.{ordinary, failing, resting}
 use Rattle.model.specs.Refusal.{Unsound, Stranger, Moves, given, refused, answer, ◌>>=◌, need, ◌>>◌}
 use Rattle.model.specs.File.{field, head, state, entries, rising, command, commands, states, read}
-use Rattle.model.specs.Places.{row_at, firstCommand, commandCount}
-use Rattle.model.specs.SoundTest.{sizeSound, tablesLong, rowSound, listsSound, sound}
-use Rattle.model.specs.Held.{stateAt, tree_of, state_of, plan_of, planIn}
-use Rattle.model.specs.Contest.{worksTurn, keeperTurn, contestCall}
-use Rattle.model.specs.Bench.{caseA, chain, noCommands}
-use Rattle.model.proofs.CasePlans.{resting-at}
+use Rattle.model.specs.Places.{row_at, first_command, command_count}
+use Rattle.model.specs.SoundTest.{size_sound, tables_long, row_sound, lists_sound, sound}
+use Rattle.model.specs.Held.{state_at, tree_of, state_of, plan_of, plan_in}
+use Rattle.model.specs.Contest.{works_turn, keeper_turn, contest_call}
+use Rattle.model.specs.Bench.{case_a, chain, no_commands}
+use Rattle.model.proofs.CasePlans.{resting_at}
 
 -- Case A: 3 is lost with rank 1, 4 is failing and 5 lost with rank 2; the others are safe.
-case-A-turns : answer (λ p. tabulate (λ k. tabulate (keeperTurn (plan_of p) k) 0 6) 0 4) (read caseA)
+case_a_turns : answer (λ p. tabulate (λ k. tabulate (keeper_turn (plan_of p) k) 0 6) 0 4) (read case_a)
     ≡ given (
     (true ∷ true ∷ true ∷ true ∷ false ∷ true ∷ [])
     ∷ (true ∷ true ∷ true ∷ false ∷ false ∷ true ∷ [])
@@ -24,37 +24,37 @@ case-A-turns : answer (λ p. tabulate (λ k. tabulate (keeperTurn (plan_of p) k)
     ∷ (true ∷ true ∷ true ∷ false ∷ false ∷ false ∷ [])
     ∷ []
     )
-unfolding each exists tabulate ordinary failing resting worksTurn keeperTurn answer ◌>>=◌ need ◌>>◌ field head state entries rising
+unfolding each exists tabulate ordinary failing resting works_turn keeper_turn answer ◌>>=◌ need ◌>>◌ field head state entries rising
     command commands states read state_of plan_of
-case-A-turns = refl
+case_a_turns = refl
 
 -- the chain to a failing state, whose ranks are 2, 1 and 0
-chain-turns : answer (λ p. tabulate (λ k. tabulate (keeperTurn (plan_of p) k) 0 3) 0 3) (read chain)
+chain_turns : answer (λ p. tabulate (λ k. tabulate (keeper_turn (plan_of p) k) 0 3) 0 3) (read chain)
     ≡ given ((true ∷ true ∷ false ∷ []) ∷ (true ∷ false ∷ false ∷ []) ∷ (false ∷ false ∷ false ∷ []) ∷ [])
-unfolding each exists tabulate ordinary failing resting worksTurn keeperTurn answer ◌>>=◌ need ◌>>◌ field head state entries rising
+unfolding each exists tabulate ordinary failing resting works_turn keeper_turn answer ◌>>=◌ need ◌>>◌ field head state entries rising
     command commands states read state_of plan_of
-chain-turns = refl
+chain_turns = refl
 
 -- a stuck state, which is not held though no moves are left, nor with any
-stuck-turns : answer (λ p. tabulate (λ k. keeperTurn (plan_of p) k 0) 0 3) (read noCommands) ≡ given (false ∷ false ∷ false ∷ [])
-unfolding each exists tabulate ordinary failing resting worksTurn keeperTurn answer ◌>>=◌ need ◌>>◌ field head state entries rising
+stuck_turns : answer (λ p. tabulate (λ k. keeper_turn (plan_of p) k 0) 0 3) (read no_commands) ≡ given (false ∷ false ∷ false ∷ [])
+unfolding each exists tabulate ordinary failing resting works_turn keeper_turn answer ◌>>=◌ need ◌>>◌ field head state entries rising
     command commands states read state_of plan_of
-stuck-turns = refl
+stuck_turns = refl
 
 -- 8 moves are answered and 9 are not; a state that there is not comes before, and a plan that is not sound before both
-eight : contestCall (resting-at 0) 0 8 ≡ given true
-unfolding every tabulate row_at firstCommand commandCount sizeSound tablesLong rowSound listsSound sound start_of need ◌>>◌ failing resting
-    keeperTurn contestCall stateAt tree_of state_of plan_of planIn
+eight : contest_call (resting_at 0) 0 8 ≡ given true
+unfolding every tabulate row_at first_command command_count size_sound tables_long row_sound lists_sound sound start_of need ◌>>◌ failing resting
+    keeper_turn contest_call state_at tree_of state_of plan_of plan_in
 eight = refl
 
-nine : contestCall (resting-at 0) 0 9 ≡ refused Moves
-unfolding every row_at firstCommand commandCount sizeSound tablesLong rowSound listsSound sound start_of need ◌>>◌ contestCall
+nine : contest_call (resting_at 0) 0 9 ≡ refused Moves
+unfolding every row_at first_command command_count size_sound tables_long row_sound lists_sound sound start_of need ◌>>◌ contest_call
 nine = refl
 
-stranger-first : contestCall (resting-at 0) 1 9 ≡ refused Stranger
-unfolding every row_at firstCommand commandCount sizeSound tablesLong rowSound listsSound sound start_of need ◌>>◌ contestCall
-stranger-first = refl
+stranger_first : contest_call (resting_at 0) 1 9 ≡ refused Stranger
+unfolding every row_at first_command command_count size_sound tables_long row_sound lists_sound sound start_of need ◌>>◌ contest_call
+stranger_first = refl
 
-unsound-first : contestCall (resting-at 1) 1 9 ≡ refused Unsound
-unfolding sizeSound sound need ◌>>◌ contestCall
-unsound-first = refl
+unsound_first : contest_call (resting_at 1) 1 9 ≡ refused Unsound
+unfolding size_sound sound need ◌>>◌ contest_call
+unsound_first = refl

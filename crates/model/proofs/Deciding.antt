@@ -7,31 +7,31 @@ use mathlib.Core.Option.{Option, none, some}
 use Prim.Native.Nat.{ℕ, zero, suc, ◌+◌, ◌-◌, ◌<◌, ◌≤◌}
 use native.Mathlib.Omega.{arith}
 use Rattle.laws.specs.Sets.{grow}
-use Rattle.laws.proofs.Tests.{clash, true-or-false}
+use Rattle.laws.proofs.Tests.{clash, true_or_false}
 use Rattle.model.specs.Plan.{Plan, Valid}
 use Rattle.model.specs.Verdict.{forced, layer, rank, lost}
 use Rattle.model.specs.Command.{choice, chosen}
-use Rattle.model.specs.Run.{Move, Run, noMoves, ◌▸◌, present, moves, CanMove, IsRun, RunHolds}
+use Rattle.model.specs.Run.{Move, Run, no_moves, ◌▸◌, present, moves, CanMove, IsRun, RunHolds}
 use Rattle.model.specs.Rule.{Rule, Under, Commanding, Fails, Survives, positional}
 use Rattle.model.specs.Demand3.{Decided, read_entry}
-use Rattle.model.proofs.StateKinds.{active-is, active-of}
-use Rattle.model.proofs.Choices.{hits-is, misses, forced-is, forced-of, choice-some, choice-none}
+use Rattle.model.proofs.StateKinds.{active_is, active_of}
+use Rattle.model.proofs.Choices.{hits_is, misses, forced_is, forced_of, choice_some, choice_none}
 use Rattle.model.proofs.Layers.{
-  layer-step,
-  not-failing,
-  not-forced,
-  rank-some,
-  lost-rank,
-  rank-safe,
-  safe-stands,
-  safe-takes,
-  chosen-choice,
+  layer_step,
+  not_failing,
+  not_forced,
+  rank_some,
+  lost_rank,
+  rank_safe,
+  safe_stands,
+  safe_takes,
+  chosen_choice,
 }
 
 -- a run stays in the plan
 pub run_inside : (P : Plan) → Valid P → (s : ℕ) → s < P.states → (w : Run) → IsRun P s w → present s w < P.states
 unfolding present
-run_inside P S s l noMoves i = l
+run_inside P S s l no_moves i = l
 run_inside P S s l (w ▸ m) i =
     let can = i.1 in
     S.inside (present s w) m.command m.landing (run_inside P S s l w i.0) can.issued can.landed
@@ -47,9 +47,9 @@ module _ (P : Plan) (s : ℕ) (ρ : Rule) (C : Commanding P s ρ) where
   abbrev Caught : ℕ → Type 0
   Caught k = (w : Run) → IsRun P s w → Under ρ w → layer P k (present s w) ≡ true → Within (moves w + k)
 
-  caught-next : (k : ℕ) → Caught k → Caught (suc k)
+  caught_next : (k : ℕ) → Caught k → Caught (suc k)
   unfolding present
-  caught-next k below w i u e = ⊎_elim sooner moved (layer-step P k t e)
+  caught_next k below w i u e = ⊎_elim sooner moved (layer_step P k t e)
     where
       t : ℕ
       t = present s w
@@ -59,87 +59,87 @@ module _ (P : Plan) (s : ℕ) (ρ : Rule) (C : Commanding P s ρ) where
 
       moved : forced P (layer P k) t ≡ true → Within (moves w + suc k)
       moved h =
-          let (act, hit) = forced-is P (layer P k) t h in
+          let (act, hit) = forced_is P (layer P k) t h in
           let (c, named) = C.acts w i u act in
           let mine = C.own w c i named in
-          let (x, out, in-k) = hits-is P (layer P k) t c (hit c mine) in
+          let (x, out, in_k) = hits_is P (layer P k) t c (hit c mine) in
           let m : Move = record { command = c; landing = x } in
-          let can : CanMove P t m = record { leaves = (active-is P t act).0; issued = mine; landed = out } in
-          let r = below (w ▸ m) (i, can) (u, named) in-k in
+          let can : CanMove P t m = record { leaves = (active_is P t act).0; issued = mine; landed = out } in
+          let r = below (w ▸ m) (i, can) (u, named) in_k in
           (r.0, omega (arith, r.1))
 
   caught : (k : ℕ) → Caught k
   unfolding grow
-  caught zero = λ w i u e. (record { run = w; is-run = i; under = u; fails = e }, omega arith)
-  caught (suc k) = caught-next k (caught k)
+  caught zero = λ w i u e. (record { run = w; is_run = i; under = u; fails = e }, omega arith)
+  caught (suc k) = caught_next k (caught k)
 
-  pub rank-within : (r : ℕ) → rank P s ≡ some r → Within r
+  pub rank_within : (r : ℕ) → rank P s ≡ some r → Within r
   unfolding present
-  rank-within r e = let f = caught r noMoves tt tt (rank-some P s r e).0 in (f.0, omega (arith, f.1))
+  rank_within r e = let f = caught r no_moves tt tt (rank_some P s r e).0 in (f.0, omega (arith, f.1))
 
 -- ---- a safe state: the chosen commands are a rule that commands, and no run under them fails
 
-module _ (P : Plan) (S : Valid P) (C : ℕ → Option ℕ) (is-chosen : (t : ℕ) → t < P.states → C t ≡ chosen P t)
-    (s : ℕ) (in-plan : s < P.states) (kept : lost P s ≡ false) where
+module _ (P : Plan) (S : Valid P) (C : ℕ → Option ℕ) (is_chosen : (t : ℕ) → t < P.states → C t ≡ chosen P t)
+    (s : ℕ) (in_plan : s < P.states) (kept : lost P s ≡ false) where
   taken : (w : Run) → IsRun P s w → positional C s w ≡ choice P (lost P) (present s w)
   unfolding positional
   taken w i =
-      let l = run_inside P S s in-plan w i in
-      is-chosen (present s w) l ∙ chosen-choice P S (present s w) l
+      let l = run_inside P S s in_plan w i in
+      is_chosen (present s w) l ∙ chosen_choice P S (present s w) l
 
   -- every run under them stays at safe states
   stays : (w : Run) → IsRun P s w → Under (positional C s) w → lost P (present s w) ≡ false
   unfolding present
-  stays noMoves i u = kept
+  stays no_moves i u = kept
   stays (w ▸ m) i u =
-      let (act, own, out) = choice-some P (lost P) (present s w) m.command (sym (taken w i.0) ∙ u.1) in
+      let (act, own, out) = choice_some P (lost P) (present s w) m.command (sym (taken w i.0) ∙ u.1) in
       misses P (lost P) (present s w) m.command m.landing out i.1.landed
 
-  pub chosen-commanding : Commanding P s (positional C s)
-  chosen-commanding = record {
-    own = λ w c i e. (choice-some P (lost P) (present s w) c (sym (taken w i) ∙ e)).1;
+  pub chosen_commanding : Commanding P s (positional C s)
+  chosen_commanding = record {
+    own = λ w c i e. (choice_some P (lost P) (present s w) c (sym (taken w i) ∙ e)).1;
     acts = λ w i u a.
-        let (c, e) = safe-takes P S (present s w) (run_inside P S s in-plan w i) a (stays w i u) in
+        let (c, e) = safe_takes P S (present s w) (run_inside P S s in_plan w i) a (stays w i u) in
         (c, taken w i ∙ e);
   }
 
-  pub chosen-holds : (w : Run) → IsRun P s w → Under (positional C s) w → RunHolds P s w
-  chosen-holds w i u = safe-stands P S (present s w) (run_inside P S s in-plan w i) (stays w i u)
+  pub chosen_holds : (w : Run) → IsRun P s w → Under (positional C s) w → RunHolds P s w
+  chosen_holds w i u = safe_stands P S (present s w) (run_inside P S s in_plan w i) (stays w i u)
 
-  chosen-spared : Fails P s (positional C s) → ⊥
-  chosen-spared f = clash f.fails (chosen-holds f.run f.is-run f.under)
+  chosen_spared : Fails P s (positional C s) → ⊥
+  chosen_spared f = clash f.fails (chosen_holds f.run f.is_run f.under)
 
 -- ---- a lost state of rank r: a rule that survives r - 1 moves
 
 -- the command taken, or command 0 where there is a command and none is taken
-unfoldable pub else-first : Option ℕ → ℕ → Option ℕ
-else-first (some c) n = some c
-else-first none zero = none
-else-first none (suc n) = some 0
+unfoldable pub else_first : Option ℕ → ℕ → Option ℕ
+else_first (some c) n = some c
+else_first none zero = none
+else_first none (suc n) = some 0
 
-else-own : (o : Option ℕ) (n c : ℕ) → ((d : ℕ) → o ≡ some d → d < n) → else-first o n ≡ some c → c < n
-unfolding else-first
-else-own (some d) n c h e = h c e
-else-own none zero c h e = let z : ◌≡◌ {A = ℕ} 0 1 = cc in omega arith
-else-own none (suc n) c h e = let z : 0 ≡ c = cc in omega arith
+else_own : (o : Option ℕ) (n c : ℕ) → ((d : ℕ) → o ≡ some d → d < n) → else_first o n ≡ some c → c < n
+unfolding else_first
+else_own (some d) n c h e = h c e
+else_own none zero c h e = let z : ◌≡◌ {A = ℕ} 0 1 = cc in omega arith
+else_own none (suc n) c h e = let z : 0 ≡ c = cc in omega arith
 
-else-acts : (o : Option ℕ) (n : ℕ) → 0 < n → (c : ℕ) × (else-first o n ≡ some c)
-unfolding else-first
-else-acts (some d) n l = (d, refl)
-else-acts none zero l = absurd (omega arith)
-else-acts none (suc n) l = (0, refl)
+else_acts : (o : Option ℕ) (n : ℕ) → 0 < n → (c : ℕ) × (else_first o n ≡ some c)
+unfolding else_first
+else_acts (some d) n l = (d, refl)
+else_acts none zero l = absurd (omega arith)
+else_acts none (suc n) l = (0, refl)
 
 -- at a state that is not forced, the move of such a rule stays out of K
 avoids : (P : Plan) (K : ℕ → Bool) (t : ℕ) (m : Move) → forced P K t ≡ false → CanMove P t m
-    → else-first (choice P K t) (P.commands t) ≡ some m.command → K m.landing ≡ false
-unfolding else-first
+    → else_first (choice P K t) (P.commands t) ≡ some m.command → K m.landing ≡ false
+unfolding else_first
 avoids P K t m free can e = go (choice P K t) refl e
   where
-    go : (o : Option ℕ) → choice P K t ≡ o → else-first o (P.commands t) ≡ some m.command → K m.landing ≡ false
-    go (some d) q e' = misses P K t m.command m.landing (choice-some P K t m.command (q ∙ e')).2 can.landed
+    go : (o : Option ℕ) → choice P K t ≡ o → else_first o (P.commands t) ≡ some m.command → K m.landing ≡ false
+    go (some d) q e' = misses P K t m.command m.landing (choice_some P K t m.command (q ∙ e')).2 can.landed
     go none q e' =
-        let act = active-of P t can.leaves (omega (arith, can.issued)) in
-        clash (forced-of P K t act (choice-none P K t act q)) free
+        let act = active_of P t can.leaves (omega (arith, can.issued)) in
+        clash (forced_of P K t act (choice_none P K t act q)) free
 
 module _ (P : Plan) (s r : ℕ) where
   -- what is taken after a run: after j moves, a command that stays out of layer r - 2 - j
@@ -147,62 +147,62 @@ module _ (P : Plan) (s r : ℕ) where
   evading w = choice P (layer P (r - 2 - moves w)) (present s w)
 
   unfoldable pub delaying : Rule
-  delaying w = else-first (evading w) (P.commands (present s w))
+  delaying w = else_first (evading w) (P.commands (present s w))
 
-  pub delaying-commanding : Commanding P s delaying
+  pub delaying_commanding : Commanding P s delaying
   unfolding delaying
-  delaying-commanding = record {
+  delaying_commanding = record {
     own = λ w c i e.
-        else-own (evading w) (P.commands (present s w)) c
-        (λ d q. (choice-some P (layer P (r - 2 - moves w)) (present s w) d q).1) e;
-    acts = λ w i u a. else-acts (evading w) (P.commands (present s w)) (active-is P (present s w) a).1;
+        else_own (evading w) (P.commands (present s w)) c
+        (λ d q. (choice_some P (layer P (r - 2 - moves w)) (present s w) d q).1) e;
+    acts = λ w i u a. else_acts (evading w) (P.commands (present s w)) (active_is P (present s w) a).1;
   }
 
-  module _ (is-rank : rank P s ≡ some r) where
+  module _ (is_rank : rank P s ≡ some r) where
     -- after j of at most r - 1 moves the run is not yet in layer r - 1 - j
     later : (w : Run) → IsRun P s w → Under delaying w → moves w < r → layer P (r - 1 - moves w) (present s w) ≡ false
     unfolding present delaying
-    later noMoves i u l = (rank-some P s r is-rank).1 (r - 1 - 0) (omega arith)
+    later no_moves i u l = (rank_some P s r is_rank).1 (r - 1 - 0) (omega arith)
     later (w ▸ m) i u l =
         let below = later w i.0 u.0 (omega arith) in
         let q : r - 1 - moves w ≡ suc (r - 2 - moves w) = omega arith in
         let q' : r - 1 - suc (moves w) ≡ r - 2 - moves w = omega arith in
-        let free = not-forced P (r - 2 - moves w) (present s w) (rw q at below) in
+        let free = not_forced P (r - 2 - moves w) (present s w) (rw q at below) in
         rw q' (avoids P (layer P (r - 2 - moves w)) (present s w) m free i.1 u.1)
 
-    pub delaying-survives : 0 < r → Survives P s delaying (λ w. moves w ≤ r - 1)
-    delaying-survives pos w i u k = not-failing P (r - 1 - moves w) (present s w) (later w i u (omega arith))
+    pub delaying_survives : 0 < r → Survives P s delaying (λ w. moves w ≤ r - 1)
+    delaying_survives pos w i u k = not_failing P (r - 1 - moves w) (present s w) (later w i u (omega arith))
 
 -- ---- the claim
 
 module _ (P : Plan) (S : Valid P) (ranks commands : List ℕ)
-    (is-rank : (t : ℕ) → t < P.states → read_entry ranks t ≡ rank P t)
-    (is-chosen : (t : ℕ) → t < P.states → read_entry commands t ≡ chosen P t)
+    (is_rank : (t : ℕ) → t < P.states → read_entry ranks t ≡ rank P t)
+    (is_chosen : (t : ℕ) → t < P.states → read_entry commands t ≡ chosen P t)
     (s : ℕ) (l : s < P.states) where
   pub decided : Decided P ranks commands s
   unfolding lost
   decided = record {
-    lost-iff = (
-      λ e ρ T. let (r, q) = lost-rank P s (rw (is-rank s l) at e) in (rank-within P s ρ T r q).0,
-      λ h. rw (is-rank s l) (⊎_elim (λ e. e) (λ e. absurd (spared e (h rule (commanding e)))) (true-or-false (lost P s))),
+    lost_iff = (
+      λ e ρ T. let (r, q) = lost_rank P s (rw (is_rank s l) at e) in (rank_within P s ρ T r q).0,
+      λ h. rw (is_rank s l) (⊎_elim (λ e. e) (λ e. absurd (spared e (h rule (commanding e)))) (true_or_false (lost P s))),
     );
     returned = λ e. commanding (kept e);
-    holds = λ e w i u k. chosen-holds P S (read_entry commands) is-chosen s l (kept e) w i u;
-    within = λ r e ρ T. rank-within P s ρ T r (ranked r e);
-    delays = λ r e pos. (delaying P s r, delaying-commanding P s r, delaying-survives P s r (ranked r e) pos);
+    holds = λ e w i u k. chosen_holds P S (read_entry commands) is_chosen s l (kept e) w i u;
+    within = λ r e ρ T. rank_within P s ρ T r (ranked r e);
+    delays = λ r e pos. (delaying P s r, delaying_commanding P s r, delaying_survives P s r (ranked r e) pos);
   }
     where
       rule : Rule
       rule = positional (read_entry commands) s
 
       ranked : (r : ℕ) → read_entry ranks s ≡ some r → rank P s ≡ some r
-      ranked r e = sym (is-rank s l) ∙ e
+      ranked r e = sym (is_rank s l) ∙ e
 
       kept : read_entry ranks s ≡ none → lost P s ≡ false
-      kept e = rank-safe P s (sym (is-rank s l) ∙ e)
+      kept e = rank_safe P s (sym (is_rank s l) ∙ e)
 
       commanding : lost P s ≡ false → Commanding P s rule
-      commanding = chosen-commanding P S (read_entry commands) is-chosen s l
+      commanding = chosen_commanding P S (read_entry commands) is_chosen s l
 
       spared : lost P s ≡ false → Fails P s rule → ⊥
-      spared = chosen-spared P S (read_entry commands) is-chosen s l
+      spared = chosen_spared P S (read_entry commands) is_chosen s l

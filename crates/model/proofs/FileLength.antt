@@ -6,33 +6,33 @@ use native.Mathlib.Omega.{arith}
 use lib.ListN.{length, length-append}
 use Rattle.laws.specs.Entry.{two}
 use Rattle.laws.specs.Lists.{joined}
-use Rattle.laws.proofs.Entry.{length-twos}
-use Rattle.laws.proofs.Joins.{length-joined}
-use Rattle.model.specs.File.{State, Tree, endTag}
-use Rattle.model.specs.Bytes.{commandsBytes, statesBytes, bytes_of}
-use Rattle.model.specs.Tables.{Tables, Same, allCommands, tables_of, sizeLength, fileLength}
+use Rattle.laws.proofs.Entry.{length_twos}
+use Rattle.laws.proofs.Joins.{length_joined}
+use Rattle.model.specs.File.{State, Tree, end_tag}
+use Rattle.model.specs.Bytes.{commands_bytes, states_bytes, bytes_of}
+use Rattle.model.specs.Tables.{Tables, Same, all_commands, tables_of, size_length, file_length}
 
-length-commands : (cs : List (List ℕ)) (r : List ℕ) → length (commandsBytes cs r) ≡ 3 * length cs + 2 * length (joined cs) + length r
-unfolding commandsBytes joined
-length-commands [] r = omega arith
-length-commands (c ∷ cs) r = omega (arith, length-commands cs r, length-twos c (commandsBytes cs r), length-append c (joined cs))
+length_commands : (cs : List (List ℕ)) (r : List ℕ) → length (commands_bytes cs r) ≡ 3 * length cs + 2 * length (joined cs) + length r
+unfolding commands_bytes joined
+length_commands [] r = omega arith
+length_commands (c ∷ cs) r = omega (arith, length_commands cs r, length_twos c (commands_bytes cs r), length-append c (joined cs))
 
-length-states : (ss : List State) (r : List ℕ)
-    → length (statesBytes ss r) ≡ 8 * length ss + 3 * length (allCommands ss) + 2 * length (joined (allCommands ss)) + length r
-unfolding statesBytes allCommands joined
-length-states [] r = omega arith
-length-states (s ∷ ss) r = omega (
+length_states : (ss : List State) (r : List ℕ)
+    → length (states_bytes ss r) ≡ 8 * length ss + 3 * length (all_commands ss) + 2 * length (joined (all_commands ss)) + length r
+unfolding states_bytes all_commands joined
+length_states [] r = omega arith
+length_states (s ∷ ss) r = omega (
   arith,
-  length-states ss r,
-  length-commands s.commands (statesBytes ss r),
-  length-append s.commands (allCommands ss),
-  length-joined s.commands (allCommands ss),
+  length_states ss r,
+  length_commands s.commands (states_bytes ss r),
+  length-append s.commands (all_commands ss),
+  length_joined s.commands (all_commands ss),
 )
 
-pub length-bytes : (p : Tree) → length (bytes_of p) ≡ fileLength (tables_of p)
-unfolding bytes_of tables_of sizeLength
-length-bytes p = omega (arith, length-states p.states (endTag ∷ two 0 []))
+pub length_bytes : (p : Tree) → length (bytes_of p) ≡ file_length (tables_of p)
+unfolding bytes_of tables_of size_length
+length_bytes p = omega (arith, length_states p.states (end_tag ∷ two 0 []))
 
 -- tables that are the same have files of the same length
-pub length-same : {T U : Tables} → Same T U → fileLength T ≡ fileLength U
-length-same same = ap sizeLength same.size
+pub length_same : {T U : Tables} → Same T U → file_length T ≡ file_length U
+length_same same = ap size_length same.size

@@ -3,13 +3,13 @@ use mathlib.Core.Path.{◌≡◌}
 use Prim.Native.Nat.{ℕ, ◌<◌, ◌≤◌}
 use borrow.Author.Tests.{lt-ltb, le-ltb}
 use Rattle.model.specs.Tables.{Tables}
-use Rattle.model.specs.Places.{row_at, firstCommand}
+use Rattle.model.specs.Places.{row_at, first_command}
 
 module _ (T : Tables) where
-  pub command-entry : (s : ℕ) → s < T.size.n → firstCommand T s ≡ (row_at T s).first
-  unfolding firstCommand
-  command-entry s h = rw (lt-ltb s T.size.n h)
+  pub command_entry_lem : (s : ℕ) → s < T.size.n → first_command T s ≡ (row_at T s).first
+  unfolding first_command
+  command_entry_lem s h = rw (lt-ltb s T.size.n h)
 
-  pub command-end : (s : ℕ) → T.size.n ≤ s → firstCommand T s ≡ T.size.m
-  unfolding firstCommand
-  command-end s h = rw (le-ltb s T.size.n h)
+  pub command_end : (s : ℕ) → T.size.n ≤ s → first_command T s ≡ T.size.m
+  unfolding first_command
+  command_end s h = rw (le-ltb s T.size.n h)

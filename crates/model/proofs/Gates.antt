@@ -10,14 +10,14 @@ use Rattle.laws.specs.Lists.{overwrite}
 use Rattle.model.specs.Plan.{Plan}
 use Rattle.model.specs.Search.{Result}
 use Rattle.model.specs.Refusal.{Refusal, Cramped, Unsound, Stranger, Answer, given, refused, number, answer, need, ◌>>=◌, ◌>>◌}
-use Rattle.model.specs.File.{maxStates}
+use Rattle.model.specs.File.{max_states}
 use Rattle.model.specs.Tables.{Size, Tables, Same}
 use Rattle.model.specs.SoundTest.{sound}
 use Rattle.model.specs.Calls.{left, deciding, searching}
-use Rattle.model.specs.Boundary.{entryBytes, answerBytes, code, gateDecide, gateSearch}
-use Rattle.model.specs.Rooms.{decideRoom, searchRoom}
-use Rattle.model.proofs.SoundFacts.{sound-facts}
-use Rattle.model.proofs.SameSound.{deciding-same, searching-same}
+use Rattle.model.specs.Boundary.{entry_bytes, answer_bytes, code, gate_decide, gate_search}
+use Rattle.model.specs.Rooms.{decide_room, search_room}
+use Rattle.model.proofs.SoundFacts.{sound_facts}
+use Rattle.model.proofs.SameSound.{deciding_same, searching_same}
 
 -- what comes behind a test, asked before and after it
 behind : {A B : Type 0} (r : Refusal) (b : Bool) (x : Answer B) (y : Answer A) (f : A → Answer B) → (b ≡ true → x ≡ (y >>= f))
@@ -27,74 +27,74 @@ behind r true x y f h = h refl
 behind r false x y f h = refl
 
 -- two tests for room, one after the other, are one
-two-needs : {A B : Type 0} (x : Answer A) (k : A → B) (p q : Bool)
+two_needs : {A B : Type 0} (x : Answer A) (k : A → B) (p q : Bool)
     → ((x >>= λ a. need Cramped p >> given a) >>= λ a. need Cramped q >> given (k a)) ≡ (x >>= λ a. need Cramped (p && q) >> given (k a))
 unfolding need ◌>>◌ ◌>>=◌
-two-needs (given a) k true q = refl
-two-needs (given a) k false q = refl
-two-needs (refused r) k p q = refl
+two_needs (given a) k true q = refl
+two_needs (given a) k false q = refl
+two_needs (refused r) k p q = refl
 
 module _ (T : Tables) where
   -- the plan decided, with tables of the limit's length
-  abbrev pub wholeDeciding : Answer Plan
-  wholeDeciding = deciding T maxStates maxStates maxStates maxStates
+  abbrev pub whole_deciding : Answer Plan
+  whole_deciding = deciding T max_states max_states max_states max_states
 
-  abbrev pub wholeSearch : ℕ → Answer Result
-  wholeSearch start = searching T start maxStates maxStates
+  abbrev pub whole_search : ℕ → Answer Result
+  whole_search start = searching T start max_states max_states
 
-  deciding-after : (a b c d : ℕ)
+  deciding_after : (a b c d : ℕ)
       → deciding T a b c d
-      ≡ (wholeDeciding >>= λ P. need Cramped (leb T.size.n a && leb T.size.n b && leb T.size.n c && leb T.size.n d) >> given
+      ≡ (whole_deciding >>= λ P. need Cramped (leb T.size.n a && leb T.size.n b && leb T.size.n c && leb T.size.n d) >> given
       P)
   unfolding deciding need ◌>>◌ ◌>>=◌
-  deciding-after a b c d =
-      behind Unsound (sound T) _ _ _ (λ e. let few = le-leb _ _ ((sound-facts T).0 e).size.few in rw few)
+  deciding_after a b c d =
+      behind Unsound (sound T) _ _ _ (λ e. let few = le-leb _ _ ((sound_facts T).0 e).size.few in rw few)
 
-  searching-after : (start a b : ℕ)
-      → searching T start a b ≡ (wholeSearch start >>= λ R. need Cramped (leb T.size.n a && leb T.size.n b) >> given R)
+  searching_after : (start a b : ℕ)
+      → searching T start a b ≡ (whole_search start >>= λ R. need Cramped (leb T.size.n a && leb T.size.n b) >> given R)
   unfolding searching need ◌>>◌ ◌>>=◌
-  searching-after start a b =
+  searching_after start a b =
       behind Unsound (sound T) _ _ _
-      (λ e. let few = le-leb _ _ ((sound-facts T).0 e).size.few in behind Stranger (ltb start T.size.n) _ _ _ (λ _. rw few))
+      (λ e. let few = le-leb _ _ ((sound_facts T).0 e).size.few in behind Stranger (ltb start T.size.n) _ _ _ (λ _. rw few))
 
-  pub gate-decide : (ranks commands marks scratch tally : ℕ) → gateDecide (given T) ranks commands marks scratch tally
-      ≡ (wholeDeciding >>= λ P. need Cramped (decideRoom T.size.n ranks commands marks scratch tally) >> given P)
-  unfolding gateDecide ◌>>=◌
-  gate-decide ranks commands marks scratch tally = rw
-      (deciding-after (ranks / entryBytes) (commands / entryBytes) (marks / entryBytes) (scratch / entryBytes))
-      (two-needs wholeDeciding (λ P. P) _ _)
+  pub gate_decide_lem : (ranks commands marks scratch tally : ℕ) → gate_decide (given T) ranks commands marks scratch tally
+      ≡ (whole_deciding >>= λ P. need Cramped (decide_room T.size.n ranks commands marks scratch tally) >> given P)
+  unfolding gate_decide ◌>>=◌
+  gate_decide_lem ranks commands marks scratch tally = rw
+      (deciding_after (ranks / entry_bytes) (commands / entry_bytes) (marks / entry_bytes) (scratch / entry_bytes))
+      (two_needs whole_deciding (λ P. P) _ _)
 
-  pub gate-search : (start commands scratch answer : ℕ) → gateSearch (given T) start commands scratch answer
-      ≡ (wholeSearch start >>= λ R. need Cramped (searchRoom T.size.n commands scratch answer) >> given (T.size.n, R))
-  unfolding gateSearch ◌>>=◌
-  gate-search start commands scratch answer = rw (searching-after start (commands / entryBytes) (scratch / entryBytes))
-      (two-needs (wholeSearch start) (λ R. (T.size.n, R)) _ _)
+  pub gate_search_lem : (start commands scratch answer : ℕ) → gate_search (given T) start commands scratch answer
+      ≡ (whole_search start >>= λ R. need Cramped (search_room T.size.n commands scratch answer) >> given (T.size.n, R))
+  unfolding gate_search ◌>>=◌
+  gate_search_lem start commands scratch answer = rw (searching_after start (commands / entry_bytes) (scratch / entry_bytes))
+      (two_needs (whole_search start) (λ R. (T.size.n, R)) _ _)
 
 -- what a call returns and what it leaves, where it is refused and where it answers
 module _ {A : Type 0} {x : Answer A} where
   module _ {r : Refusal} (e : x ≡ refused r) where
-    pub refused-code : {k : ℕ} → k ≡ number r → k ≡ code x
+    pub refused_code : {k : ℕ} → k ≡ number r → k ≡ code x
     unfolding code
-    refused-code f = rw e f
+    refused_code f = rw e f
 
-    pub refused-left : {B : Type 0} (f : A → List B) (l : List B) → l ≡ left f x l
+    pub refused_left : {B : Type 0} (f : A → List B) (l : List B) → l ≡ left f x l
     unfolding left
-    refused-left f l = rw e
+    refused_left f l = rw e
 
   module _ {a : A} (e : x ≡ given a) where
-    pub given-code : 0 ≡ code x
+    pub given_code : 0 ≡ code x
     unfolding code
-    given-code = rw e
+    given_code = rw e
 
-    pub given-left : {B : Type 0} (f : A → List B) (l : List B) {l' : List B} → l' ≡ overwrite (f a) l → l' ≡ left f x l
+    pub given_left : {B : Type 0} (f : A → List B) (l : List B) {l' : List B} → l' ≡ overwrite (f a) l → l' ≡ left f x l
     unfolding left
-    given-left f l g = rw e g
+    given_left f l g = rw e g
 
 -- what is given of an answer v is what is given of x, from which it comes
 module _ {A B D : Type 0} (x : Answer A) (h : A → D) (v : Answer D) (from : v ≡ answer h x) (k : A → B) (q : Bool) where
-  pub code-from : code (v >>= λ d. need Cramped q >> given d) ≡ code (x >>= λ a. need Cramped q >> given (k a))
+  pub code_from : code (v >>= λ d. need Cramped q >> given d) ≡ code (x >>= λ a. need Cramped q >> given (k a))
   unfolding code answer need ◌>>◌ ◌>>=◌
-  code-from = rw from (go x q)
+  code_from = rw from (go x q)
     where
       go : (x : Answer A) (q : Bool) → code (answer h x >>= λ d. need Cramped q >> given d)
           ≡ code (x >>= λ a. need Cramped q >> given (k a))
@@ -102,10 +102,10 @@ module _ {A B D : Type 0} (x : Answer A) (h : A → D) (v : Answer D) (from : v 
       go (given a) false = refl
       go (refused r) q = refl
 
-  pub left-from : {E : Type 0} (f : D → List E) (g : B → List E) → ((a : A) → x ≡ given a → f (h a) ≡ g (k a)) → (l : List E)
+  pub left_from_lem : {E : Type 0} (f : D → List E) (g : B → List E) → ((a : A) → x ≡ given a → f (h a) ≡ g (k a)) → (l : List E)
       → left f (v >>= λ d. need Cramped q >> given d) l ≡ left g (x >>= λ a. need Cramped q >> given (k a)) l
   unfolding left answer need ◌>>◌ ◌>>=◌
-  left-from {E} f g same l = rw from (go x q same)
+  left_from_lem {E} f g same l = rw from (go x q same)
     where
       go : (x : Answer A) (q : Bool) → ((a : A) → x ≡ given a → f (h a) ≡ g (k a))
           → left f (answer h x >>= λ d. need Cramped q >> given d) l ≡ left g (x >>= λ a. need Cramped q >> given (k a)) l
@@ -115,39 +115,39 @@ module _ {A B D : Type 0} (x : Answer A) (h : A → D) (v : Answer D) (from : v 
 
 -- tables that agree are answered the same
 module _ {T U : Tables} (same : Same T U) where
-  pub gate-decide-same : (ranks commands marks scratch tally : ℕ) → gateDecide (given T) ranks commands marks scratch tally
-      ≡ gateDecide (given U) ranks commands marks scratch tally
-  unfolding gateDecide ◌>>=◌
-  gate-decide-same a b c d e =
-      rw (deciding-same same (a / entryBytes) (b / entryBytes) (c / entryBytes) (d / entryBytes))
+  pub gate_decide_same : (ranks commands marks scratch tally : ℕ) → gate_decide (given T) ranks commands marks scratch tally
+      ≡ gate_decide (given U) ranks commands marks scratch tally
+  unfolding gate_decide ◌>>=◌
+  gate_decide_same a b c d e =
+      rw (deciding_same same (a / entry_bytes) (b / entry_bytes) (c / entry_bytes) (d / entry_bytes))
 
-  pub gate-search-same : (start commands scratch answer : ℕ) → gateSearch (given T) start commands scratch answer
-      ≡ gateSearch (given U) start commands scratch answer
-  unfolding gateSearch ◌>>=◌
-  gate-search-same start a b c =
-      rw (searching-same same start (a / entryBytes) (b / entryBytes))
-      (ap (λ (z : Size). searching U start (a / entryBytes) (b / entryBytes) >>= λ R. need Cramped (leb answerBytes c) >> given (z.n, R))
+  pub gate_search_same : (start commands scratch answer : ℕ) → gate_search (given T) start commands scratch answer
+      ≡ gate_search (given U) start commands scratch answer
+  unfolding gate_search ◌>>=◌
+  gate_search_same start a b c =
+      rw (searching_same same start (a / entry_bytes) (b / entry_bytes))
+      (ap (λ (z : Size). searching U start (a / entry_bytes) (b / entry_bytes) >>= λ R. need Cramped (leb answer_bytes c) >> given (z.n, R))
       same.size)
 
 -- the plan lent comes first
 module _ (lent : Answer Tables) where
-  pub gate-decide-lent : (ranks commands marks scratch tally : ℕ) → gateDecide lent ranks commands marks scratch tally
-      ≡ (lent >>= λ T. gateDecide (given T) ranks commands marks scratch tally)
-  unfolding gateDecide ◌>>=◌
-  gate-decide-lent a b c d t = refl
+  pub gate_decide_lent : (ranks commands marks scratch tally : ℕ) → gate_decide lent ranks commands marks scratch tally
+      ≡ (lent >>= λ T. gate_decide (given T) ranks commands marks scratch tally)
+  unfolding gate_decide ◌>>=◌
+  gate_decide_lent a b c d t = refl
 
-  pub gate-search-lent : (start commands scratch answer : ℕ) → gateSearch lent start commands scratch answer
-      ≡ (lent >>= λ T. gateSearch (given T) start commands scratch answer)
-  unfolding gateSearch ◌>>=◌
-  gate-search-lent start a b c = refl
+  pub gate_search_lent : (start commands scratch answer : ℕ) → gate_search lent start commands scratch answer
+      ≡ (lent >>= λ T. gate_search (given T) start commands scratch answer)
+  unfolding gate_search ◌>>=◌
+  gate_search_lent start a b c = refl
 
 -- an unsound plan is refused with 10
 module _ (T : Tables) (e : sound T ≡ false) where
-  pub gate-decide-unsound : (ranks commands marks scratch tally : ℕ) → gateDecide (given T) ranks commands marks scratch tally
+  pub gate_decide_unsound : (ranks commands marks scratch tally : ℕ) → gate_decide (given T) ranks commands marks scratch tally
       ≡ refused Unsound
-  unfolding gateDecide deciding need ◌>>◌ ◌>>=◌
-  gate-decide-unsound a b c d t = rw e
+  unfolding gate_decide deciding need ◌>>◌ ◌>>=◌
+  gate_decide_unsound a b c d t = rw e
 
-  pub gate-search-unsound : (start commands scratch answer : ℕ) → gateSearch (given T) start commands scratch answer ≡ refused Unsound
-  unfolding gateSearch searching need ◌>>◌ ◌>>=◌
-  gate-search-unsound start a b c = rw e
+  pub gate_search_unsound : (start commands scratch answer : ℕ) → gate_search (given T) start commands scratch answer ≡ refused Unsound
+  unfolding gate_search searching need ◌>>◌ ◌>>=◌
+  gate_search_unsound start a b c = rw e

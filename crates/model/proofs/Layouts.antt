@@ -5,23 +5,23 @@ use Prim.Native.Nat.{ℕ}
 use Rattle.laws.specs.Lists.{joined}
 use Rattle.laws.proofs.Parts.{Layout, Lays}
 use Rattle.model.specs.File.{State}
-use Rattle.model.specs.Tables.{Row, allCommands, rowFor, rows_from, firstsFrom}
+use Rattle.model.specs.Tables.{Row, all_commands, row_for, rows_from, firsts_from}
 
-abbrev pub byState : Layout (List ℕ) State Row
-byState = record {
+abbrev pub by_state : Layout (List ℕ) State Row
+by_state = record {
   part = λ s. s.commands;
-  all = allCommands;
-  head = rowFor;
+  all = all_commands;
+  head = row_for;
   heads = rows_from;
 }
 
-abbrev pub byCommand : Layout ℕ (List ℕ) ℕ
-byCommand = record { part = λ c. c; all = joined; head = λ t c. t; heads = firstsFrom }
+abbrev pub by_command : Layout ℕ (List ℕ) ℕ
+by_command = record { part = λ c. c; all = joined; head = λ t c. t; heads = firsts_from }
 
-pub by_state : Lays byState
-unfolding allCommands rows_from
-by_state = record { all_nil = refl; all_cons = λ s ss. refl; heads-nil = λ m. refl; heads-cons = λ m s ss. refl }
+pub by_state_lem : Lays by_state
+unfolding all_commands rows_from
+by_state_lem = record { all_nil = refl; all_cons = λ s ss. refl; heads_nil = λ m. refl; heads_cons = λ m s ss. refl }
 
-pub by-command : Lays byCommand
-unfolding joined firstsFrom
-by-command = record { all_nil = refl; all_cons = λ c cs. refl; heads-nil = λ t. refl; heads-cons = λ t c cs. refl }
+pub by_command_lem : Lays by_command
+unfolding joined firsts_from
+by_command_lem = record { all_nil = refl; all_cons = λ c cs. refl; heads_nil = λ t. refl; heads_cons = λ t c cs. refl }

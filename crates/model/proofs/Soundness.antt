@@ -7,25 +7,25 @@ use Rattle.model.specs.Tables.{Tables}
 use Rattle.model.specs.Sound.{Sound}
 use Rattle.model.specs.SoundTest.{sound}
 use Rattle.model.specs.Held.{tree_of}
-use Rattle.model.proofs.Good.{read-good, bytes_good}
-use Rattle.model.proofs.ReadForth.{read-forth}
-use Rattle.model.proofs.SoundFacts.{sound-facts}
-use Rattle.model.proofs.TablesBack.{tables-back}
-use Rattle.model.proofs.GoodTables.{sound-good, good-sound}
+use Rattle.model.proofs.Good.{read_good, bytes_good}
+use Rattle.model.proofs.ReadForth.{read_forth}
+use Rattle.model.proofs.SoundFacts.{sound_facts}
+use Rattle.model.proofs.TablesBack.{tables_back}
+use Rattle.model.proofs.GoodTables.{sound_good, good_sound}
 
-pub sound-iff : (T : Tables) → (sound T ≡ true) ↔ Sound T
-sound-iff T = (
+pub sound_iff : (T : Tables) → (sound T ≡ true) ↔ Sound T
+sound_iff T = (
   λ e.
-      let g = sound-good T e in
+      let g = sound_good T e in
       record {
-        from-file = record {
+        from_file = record {
           file = bytes_of (tree_of T);
           bytes = bytes_good (tree_of T) g;
           tree = tree_of T;
-          reads = read-forth (tree_of T) g;
-          same = tables-back T e;
+          reads = read_forth (tree_of T) g;
+          same = tables_back T e;
         };
-        long = ((sound-facts T).0 e).long;
+        long = ((sound_facts T).0 e).long;
       },
-  λ s. let f = s.from-file in good-sound T f.tree (read-good f.file f.tree f.reads) f.same,
+  λ s. let f = s.from_file in good_sound T f.tree (read_good f.file f.tree f.reads) f.same,
 )

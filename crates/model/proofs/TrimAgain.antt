@@ -8,102 +8,102 @@ use native.Mathlib.Omega.{arith}
 use lib.ListN.{length, get_or, length-map, get_or-map}
 use lib.Seq.{ext_get_or}
 use Rattle.laws.specs.Lists.{tabulate}
-use Rattle.laws.proofs.All.{all-member}
-use Rattle.laws.proofs.Counts.{many-all-pass}
-use Rattle.laws.proofs.Lists.{tabulate-at}
+use Rattle.laws.proofs.All.{all_member}
+use Rattle.laws.proofs.Counts.{many_all_pass}
+use Rattle.laws.proofs.Lists.{tabulate_at}
 use Rattle.laws.proofs.Maps.{map_same}
-use Rattle.laws.proofs.Passing.{passing-all}
+use Rattle.laws.proofs.Passing.{passing_all}
 use Rattle.model.specs.File.{State, Tree}
 use Rattle.model.specs.Held.{state_of, plan_of}
-use Rattle.model.specs.Trim.{mapOf, newNumber, withCommands, trimState, trimTree}
-use Rattle.model.proofs.Good.{Good, good-state, rising-below}
+use Rattle.model.specs.Trim.{map_of, new_number, with_commands, trim_state, trim_tree}
+use Rattle.model.proofs.Good.{Good, good_state, rising_below}
 use Rattle.model.proofs.Entered.{entered_all}
 use Rattle.model.proofs.TrimmedPlan.{
   kept,
-  oldNumber,
-  trim-count,
-  trim-state,
-  new-old,
-  old-kept,
-  new-inside,
-  old-new,
-  start-kept,
-  kept-inside,
-  outcome-kept,
+  old_number,
+  trim_count,
+  trim_state_lem,
+  new_old,
+  old_kept,
+  new_inside,
+  old_new,
+  start_kept,
+  kept_inside,
+  outcome_kept,
 }
-use Rattle.model.proofs.TrimGood.{trim-good}
+use Rattle.model.proofs.TrimGood.{trim_good}
 
 -- a plan of which every state is entered
 module _ (q : Tree) (g : Good q) (all : (i : ℕ) → i < length q.states → kept q i ≡ true) where
   -- every state has its own number
-  whole-map : mapOf q ≡ tabulate (λ i. i) 0 (length q.states)
-  unfolding mapOf
-  whole-map = passing-all (kept q) (length q.states) all
+  whole_map : map_of q ≡ tabulate (λ i. i) 0 (length q.states)
+  unfolding map_of
+  whole_map = passing_all (kept q) (length q.states) all
 
-  whole-count : length (trimTree q).states ≡ length q.states
-  whole-count = trim-count q ∙ many-all-pass (kept q) (length q.states) all
+  whole_count : length (trim_tree q).states ≡ length q.states
+  whole_count = trim_count q ∙ many_all_pass (kept q) (length q.states) all
 
-  whole-old : (i : ℕ) → i < length q.states → oldNumber q i ≡ i
-  whole-old i l = rw whole-map (tabulate-at (λ j. j) (length q.states) i 0 l)
+  whole_old : (i : ℕ) → i < length q.states → old_number q i ≡ i
+  whole_old i l = rw whole_map (tabulate_at (λ j. j) (length q.states) i 0 l)
 
-  whole-new : (x : ℕ) → x < length q.states → newNumber q x ≡ x
-  unfolding newNumber
-  whole-new x l = many-all-pass (kept q) x (λ i k. all i (omega arith))
+  whole_new : (x : ℕ) → x < length q.states → new_number q x ≡ x
+  unfolding new_number
+  whole_new x l = many_all_pass (kept q) x (λ i k. all i (omega arith))
 
-  whole-state : (s : ℕ) → s < length q.states → trimState (newNumber q) (state_of q s) ≡ state_of q s
-  unfolding trimState
-  whole-state s l =
-      ap (withCommands (state_of q s)) (map_same (map (newNumber q)) (state_of q s).commands (λ os m.
-      map_same (newNumber q) os (λ x k. whole-new x (all-member (rising-below _ 0 os (all-member (good-state q g s l).good m).rise) k))))
+  whole_state : (s : ℕ) → s < length q.states → trim_state (new_number q) (state_of q s) ≡ state_of q s
+  unfolding trim_state
+  whole_state s l =
+      ap (with_commands (state_of q s)) (map_same (map (new_number q)) (state_of q s).commands (λ os m.
+      map_same (new_number q) os (λ x k. whole_new x (all_member (rising_below _ 0 os (all_member (good_state q g s l).good m).rise) k))))
 
-  whole-states : (trimTree q).states ≡ q.states
+  whole_states : (trim_tree q).states ≡ q.states
   unfolding state_of
-  whole-states = ext_get_or _ (trimTree q).states q.states whole-count (λ i l.
-      let k : i < length q.states = omega (arith, whole-count) in
-      trim-state q i l ∙ ap (λ (s : ℕ). trimState (newNumber q) (state_of q s)) (whole-old i k) ∙ whole-state i k)
+  whole_states = ext_get_or _ (trim_tree q).states q.states whole_count (λ i l.
+      let k : i < length q.states = omega (arith, whole_count) in
+      trim_state_lem q i l ∙ ap (λ (s : ℕ). trim_state (new_number q) (state_of q s)) (whole_old i k) ∙ whole_state i k)
 
-  whole-start : (trimTree q).start ≡ q.start
-  unfolding trimTree
-  whole-start = whole-new q.start g.inside
+  whole_start : (trim_tree q).start ≡ q.start
+  unfolding trim_tree
+  whole_start = whole_new q.start g.inside
 
-  whole_same : trimTree q ≡ q
-  whole_same = λ i. record { start = whole-start i; states = whole-states i }
+  whole_same : trim_tree q ≡ q
+  whole_same = λ i. record { start = whole_start i; states = whole_states i }
 
 module _ (p : Tree) (g : Good p) where
   -- the state of a kept state's new number
-  kept-state : (s : ℕ) → kept p s ≡ true → state_of (trimTree p) (newNumber p s) ≡ trimState (newNumber p) (state_of p s)
-  kept-state s e =
-      let l = kept-inside p g s e in
-      trim-state p (newNumber p s) (new-inside p s l e) ∙ ap (λ (t : ℕ). trimState (newNumber p) (state_of p t)) (old-new p s l e)
+  kept_state : (s : ℕ) → kept p s ≡ true → state_of (trim_tree p) (new_number p s) ≡ trim_state (new_number p) (state_of p s)
+  kept_state s e =
+      let l = kept_inside p g s e in
+      trim_state_lem p (new_number p s) (new_inside p s l e) ∙ ap (λ (t : ℕ). trim_state (new_number p) (state_of p t)) (old_new p s l e)
 
   -- an outcome of a state that is entered in both plans is entered in both
-  both : (t c x : ℕ) → (kept p t ≡ true) × (kept (trimTree p) (newNumber p t) ≡ true) → c < length (state_of p t).commands
-      → Memᴰ x (get_or (state_of p t).commands c []) → (kept p x ≡ true) × (kept (trimTree p) (newNumber p x) ≡ true)
-  unfolding trimState
+  both : (t c x : ℕ) → (kept p t ≡ true) × (kept (trim_tree p) (new_number p t) ≡ true) → c < length (state_of p t).commands
+      → Memᴰ x (get_or (state_of p t).commands c []) → (kept p x ≡ true) × (kept (trim_tree p) (new_number p x) ≡ true)
+  unfolding trim_state
   both t c x (k, e) n m =
       let cs = (state_of p t).commands in
-      let new : (state_of (trimTree p) (newNumber p t)).commands ≡ map (map (newNumber p)) cs
-      = ap (λ (s : State). s.commands) (kept-state t k) in
-      let own : c < length (state_of (trimTree p) (newNumber p t)).commands = rw (new, length-map cs (map (newNumber p))) n in
-      let out : Memᴰ (newNumber p x) (get_or (state_of (trimTree p) (newNumber p t)).commands c [])
-      = rw (new, get_or-map (map (newNumber p)) cs c []) (Memᴰ.map (newNumber p) m) in
-      ((outcome-kept p g t c x k n m).1, (outcome-kept (trimTree p) (trim-good p g) (newNumber p t) c (newNumber p x) e own out).1)
+      let new : (state_of (trim_tree p) (new_number p t)).commands ≡ map (map (new_number p)) cs
+      = ap (λ (s : State). s.commands) (kept_state t k) in
+      let own : c < length (state_of (trim_tree p) (new_number p t)).commands = rw (new, length-map cs (map (new_number p))) n in
+      let out : Memᴰ (new_number p x) (get_or (state_of (trim_tree p) (new_number p t)).commands c [])
+      = rw (new, get_or-map (map (new_number p)) cs c []) (Memᴰ.map (new_number p) m) in
+      ((outcome_kept p g t c x k n m).1, (outcome_kept (trim_tree p) (trim_good p g) (new_number p t) c (new_number p x) e own out).1)
 
-  start-both : (kept p p.start ≡ true) × (kept (trimTree p) (newNumber p p.start) ≡ true)
-  unfolding trimTree
-  start-both = (start-kept p, start-kept (trimTree p))
+  start_both : (kept p p.start ≡ true) × (kept (trim_tree p) (new_number p p.start) ≡ true)
+  unfolding trim_tree
+  start_both = (start_kept p, start_kept (trim_tree p))
 
   -- in the trimmed plan every state is entered
-  trim-entered : (i : ℕ) → i < length (trimTree p).states → kept (trimTree p) i ≡ true
+  trim_entered : (i : ℕ) → i < length (trim_tree p).states → kept (trim_tree p) i ≡ true
   unfolding plan_of
-  trim-entered i l =
-      let reached = entered_all (plan_of p) (λ x. (kept p x ≡ true) × (kept (trimTree p) (newNumber p x) ≡ true)) start-both
-      (λ t c x k e o n m. both t c x e n m) (oldNumber p i) (old-kept p i l) in
-      rw (new-old p i l) at reached.1
+  trim_entered i l =
+      let reached = entered_all (plan_of p) (λ x. (kept p x ≡ true) × (kept (trim_tree p) (new_number p x) ≡ true)) start_both
+      (λ t c x k e o n m. both t c x e n m) (old_number p i) (old_kept p i l) in
+      rw (new_old p i l) at reached.1
 
-  pub trim-again : trimTree (trimTree p) ≡ trimTree p
-  trim-again = whole_same (trimTree p) (trim-good p g) trim-entered
+  pub trim_again : trim_tree (trim_tree p) ≡ trim_tree p
+  trim_again = whole_same (trim_tree p) (trim_good p g) trim_entered
 
   -- and every state keeps its number
-  pub map-again : mapOf (trimTree p) ≡ tabulate (λ i. i) 0 (length (trimTree p).states)
-  map-again = whole-map (trimTree p) (trim-good p g) trim-entered
+  pub map_again : map_of (trim_tree p) ≡ tabulate (λ i. i) 0 (length (trim_tree p).states)
+  map_again = whole_map (trim_tree p) (trim_good p g) trim_entered

@@ -3,20 +3,20 @@ use mathlib.Core.Path.{◌≡◌, refl}
 use mathlib.Core.List.{[], ◌∷◌}
 use Prim.Native.Nat.{ℕ}
 use lib.ListN.{replicate}
-use Rattle.laws.specs.Sets.{any, every, exists, howMany, grow}
+use Rattle.laws.specs.Sets.{any, every, exists, how_many, grow}
 use Rattle.laws.specs.Passing.{passing}
 use Rattle.laws.specs.Lists.{tabulate, joined, overwrite}
 use Rattle.laws.specs.Entry.{FFFF}
 use Rattle.laws.specs.Starts.{start_of}
 use Rattle.model.specs.Plan.{ordinary}
 use Rattle.model.specs.Refusal.{Cramped, Unsound, given, refused, answer, need, ◌>>◌}
-use Rattle.model.specs.Tables.{Size, Row, Tables, allCommands, rows_from, firstsFrom, tables_of}
-use Rattle.model.specs.Places.{row_at, firstCommand, commandCount, listAt}
-use Rattle.model.specs.SoundTest.{sizeSound, tablesLong, rowSound, risesAt, listSound, entrySound, listsSound, sound}
-use Rattle.model.specs.Held.{stateAt, tree_of, state_of, plan_of}
+use Rattle.model.specs.Tables.{Size, Row, Tables, all_commands, rows_from, firsts_from, tables_of}
+use Rattle.model.specs.Places.{row_at, first_command, command_count, list_at}
+use Rattle.model.specs.SoundTest.{size_sound, tables_long, row_sound, rises_at, list_sound, entry_sound, lists_sound, sound}
+use Rattle.model.specs.Held.{state_at, tree_of, state_of, plan_of}
 use Rattle.model.specs.Calls.{left, cleared}
-use Rattle.model.specs.Trim.{entersFrom, entered, mapOf, newNumber, trimState, trimTree, trimming, AfterTrim, trimCall}
-use Rattle.model.proofs.CasePlans.{resting-at}
+use Rattle.model.specs.Trim.{enters_from, entered, map_of, new_number, trim_state, trim_tree, trimming, AfterTrim, trim_call}
+use Rattle.model.proofs.CasePlans.{resting_at}
 
 abbrev row : ℕ → ℕ → ℕ → Row
 row kind first practice = record { kind = kind; first = first; practice = practice }
@@ -27,7 +27,7 @@ sized n m t start = record { n = n; m = m; t = t; start = start }
 -- the call, lent tables of so many places that are all 7
 abbrev lent : Tables → ℕ → ℕ → ℕ → ℕ → ℕ → AfterTrim
 lent T rows firsts outcomes olds scratch =
-    trimCall T (replicate rows (row 7 7 7)) (replicate firsts 7) (replicate outcomes 7) (replicate olds 7) (replicate scratch 7)
+    trim_call T (replicate rows (row 7 7 7)) (replicate firsts 7) (replicate outcomes 7) (replicate olds 7) (replicate scratch 7)
 
 -- The start is 3 with {1} and {1, 3}, and 1 has {3} and the practice 0. Not entered are 0 with {1, 4} and {5}, 2 stuck, 4 failing, 5 rest.
 abbrev gaps : Tables
@@ -39,7 +39,7 @@ gaps = record {
 }
 
 -- a place to spare in every table, which stays as it was
-trim-gaps : lent gaps 3 4 5 3 7
+trim_gaps : lent gaps 3 4 5 3 7
     ≡ record {
       answers = given (sized 2 3 4 1);
       rows = row 0 0 0 ∷ row 0 1 FFFF ∷ row 7 7 7 ∷ [];
@@ -48,13 +48,13 @@ trim-gaps : lent gaps 3 4 5 3 7
       olds = 1 ∷ 3 ∷ 7 ∷ [];
       scratch = 0 ∷ 0 ∷ 0 ∷ 0 ∷ 0 ∷ 0 ∷ 7 ∷ [];
     }
-unfolding any every exists howMany passing grow tabulate joined overwrite start_of ordinary answer need ◌>>◌ allCommands rows_from firstsFrom
-    tables_of row_at firstCommand commandCount listAt sizeSound tablesLong rowSound risesAt listSound entrySound listsSound sound stateAt
-    tree_of state_of plan_of left cleared entersFrom entered mapOf newNumber trimState trimTree trimming
-trim-gaps = refl
+unfolding any every exists how_many passing grow tabulate joined overwrite start_of ordinary answer need ◌>>◌ all_commands rows_from firsts_from
+    tables_of row_at first_command command_count list_at size_sound tables_long row_sound rises_at list_sound entry_sound lists_sound sound state_at
+    tree_of state_of plan_of left cleared enters_from entered map_of new_number trim_state trim_tree trimming
+trim_gaps = refl
 
 -- none to spare
-trim-exact : lent gaps 2 3 4 2 6
+trim_exact : lent gaps 2 3 4 2 6
     ≡ record {
       answers = given (sized 2 3 4 1);
       rows = row 0 0 0 ∷ row 0 1 FFFF ∷ [];
@@ -63,22 +63,22 @@ trim-exact : lent gaps 2 3 4 2 6
       olds = 1 ∷ 3 ∷ [];
       scratch = replicate 6 0;
     }
-unfolding any every exists howMany passing grow tabulate joined overwrite start_of ordinary answer need ◌>>◌ allCommands rows_from firstsFrom
-    tables_of row_at firstCommand commandCount listAt sizeSound tablesLong rowSound risesAt listSound entrySound listsSound sound stateAt
-    tree_of state_of plan_of left cleared entersFrom entered mapOf newNumber trimState trimTree trimming
-trim-exact = refl
+unfolding any every exists how_many passing grow tabulate joined overwrite start_of ordinary answer need ◌>>◌ all_commands rows_from firsts_from
+    tables_of row_at first_command command_count list_at size_sound tables_long row_sound rises_at list_sound entry_sound lists_sound sound state_at
+    tree_of state_of plan_of left cleared enters_from entered map_of new_number trim_state trim_tree trimming
+trim_exact = refl
 
 -- one place too few in each of the tables, and then scratch with a place for each kept state
-trim-cramped : trimming gaps 1 3 4 2 6 ∷ trimming gaps 2 2 4 2 6 ∷ trimming gaps 2 3 3 2 6 ∷ trimming gaps 2 3 4 1 6
+trim_cramped : trimming gaps 1 3 4 2 6 ∷ trimming gaps 2 2 4 2 6 ∷ trimming gaps 2 3 3 2 6 ∷ trimming gaps 2 3 4 1 6
     ∷ trimming gaps 2 3 4 2 5 ∷ trimming gaps 2 3 4 2 2 ∷ []
     ≡ replicate 6 (refused Cramped)
-unfolding any every exists howMany passing grow tabulate joined start_of ordinary need ◌>>◌ allCommands tables_of row_at firstCommand
-    commandCount listAt sizeSound tablesLong rowSound risesAt listSound entrySound listsSound sound stateAt tree_of state_of plan_of entersFrom
-    entered mapOf newNumber trimState trimTree trimming
-trim-cramped = refl
+unfolding any every exists how_many passing grow tabulate joined start_of ordinary need ◌>>◌ all_commands tables_of row_at first_command
+    command_count list_at size_sound tables_long row_sound rises_at list_sound entry_sound lists_sound sound state_at tree_of state_of plan_of enters_from
+    entered map_of new_number trim_state trim_tree trimming
+trim_cramped = refl
 
 -- what is refused leaves every table as it was
-trim-unwritten : lent gaps 3 4 5 3 5
+trim_unwritten : lent gaps 3 4 5 3 5
     ≡ record {
       answers = refused Cramped;
       rows = replicate 3 (row 7 7 7);
@@ -87,17 +87,17 @@ trim-unwritten : lent gaps 3 4 5 3 5
       olds = replicate 3 7;
       scratch = replicate 5 7;
     }
-unfolding any every exists howMany passing grow tabulate joined start_of ordinary answer need ◌>>◌ allCommands tables_of row_at firstCommand
-    commandCount listAt sizeSound tablesLong rowSound risesAt listSound entrySound listsSound sound stateAt tree_of state_of plan_of left
-    entersFrom entered mapOf newNumber trimState trimTree trimming
-trim-unwritten = refl
+unfolding any every exists how_many passing grow tabulate joined start_of ordinary answer need ◌>>◌ all_commands tables_of row_at first_command
+    command_count list_at size_sound tables_long row_sound rises_at list_sound entry_sound lists_sound sound state_at tree_of state_of plan_of left
+    enters_from entered map_of new_number trim_state trim_tree trimming
+trim_unwritten = refl
 
 -- a start that is no state, and no place: unsound before cramped
-trim-unsound : trimming (resting-at 1) 0 0 0 0 0 ∷ trimming (resting-at 0) 0 0 0 0 0 ∷ [] ≡ refused Unsound ∷ refused Cramped ∷ []
-unfolding any every exists howMany passing grow tabulate joined start_of ordinary need ◌>>◌ allCommands tables_of row_at firstCommand
-    commandCount listAt sizeSound tablesLong rowSound risesAt listSound entrySound listsSound sound stateAt tree_of state_of plan_of entersFrom
-    entered mapOf newNumber trimState trimTree trimming
-trim-unsound = refl
+trim_unsound : trimming (resting_at 1) 0 0 0 0 0 ∷ trimming (resting_at 0) 0 0 0 0 0 ∷ [] ≡ refused Unsound ∷ refused Cramped ∷ []
+unfolding any every exists how_many passing grow tabulate joined start_of ordinary need ◌>>◌ all_commands tables_of row_at first_command
+    command_count list_at size_sound tables_long row_sound rises_at list_sound entry_sound lists_sound sound state_at tree_of state_of plan_of enters_from
+    entered map_of new_number trim_state trim_tree trimming
+trim_unsound = refl
 
 -- 0 has {0, 1}, and 1, which is the start, has no commands
 abbrev ends_at : ℕ → Tables
@@ -119,11 +119,11 @@ only kind = record {
 }
 
 -- a start that is stuck, failing or at rest is kept alone
-trim-ended : lent (ends_at 0) 1 0 0 1 2 ∷ lent (ends_at 1) 1 0 0 1 2 ∷ lent (ends_at 2) 1 0 0 1 2 ∷ [] ≡ only 0 ∷ only 1 ∷ only 2 ∷ []
-unfolding any every exists howMany passing grow tabulate joined overwrite start_of ordinary answer need ◌>>◌ allCommands rows_from firstsFrom
-    tables_of row_at firstCommand commandCount listAt sizeSound tablesLong rowSound risesAt listSound entrySound listsSound sound stateAt
-    tree_of state_of plan_of left cleared entersFrom entered mapOf newNumber trimState trimTree trimming
-trim-ended = refl
+trim_ended : lent (ends_at 0) 1 0 0 1 2 ∷ lent (ends_at 1) 1 0 0 1 2 ∷ lent (ends_at 2) 1 0 0 1 2 ∷ [] ≡ only 0 ∷ only 1 ∷ only 2 ∷ []
+unfolding any every exists how_many passing grow tabulate joined overwrite start_of ordinary answer need ◌>>◌ all_commands rows_from firsts_from
+    tables_of row_at first_command command_count list_at size_sound tables_long row_sound rises_at list_sound entry_sound lists_sound sound state_at
+    tree_of state_of plan_of left cleared enters_from entered map_of new_number trim_state trim_tree trimming
+trim_ended = refl
 
 -- 2 has {3}, 3 has {0}, 0 has {1} and 1 is failing: from 2, every state is entered, the last after three moves
 abbrev whole : Tables
@@ -134,7 +134,7 @@ whole = record {
   outcomes = 1 ∷ 3 ∷ 0 ∷ [];
 }
 
-trim-whole : lent whole 4 3 3 4 4
+trim_whole : lent whole 4 3 3 4 4
     ≡ record {
       answers = given whole.size;
       rows = whole.rows;
@@ -143,7 +143,7 @@ trim-whole : lent whole 4 3 3 4 4
       olds = 0 ∷ 1 ∷ 2 ∷ 3 ∷ [];
       scratch = replicate 4 0;
     }
-unfolding any every exists howMany passing grow tabulate joined overwrite start_of ordinary answer need ◌>>◌ allCommands rows_from firstsFrom
-    tables_of row_at firstCommand commandCount listAt sizeSound tablesLong rowSound risesAt listSound entrySound listsSound sound stateAt
-    tree_of state_of plan_of left cleared entersFrom entered mapOf newNumber trimState trimTree trimming
-trim-whole = refl
+unfolding any every exists how_many passing grow tabulate joined overwrite start_of ordinary answer need ◌>>◌ all_commands rows_from firsts_from
+    tables_of row_at first_command command_count list_at size_sound tables_long row_sound rises_at list_sound entry_sound lists_sound sound state_at
+    tree_of state_of plan_of left cleared enters_from entered map_of new_number trim_state trim_tree trimming
+trim_whole = refl

@@ -9,54 +9,54 @@ use native.Mathlib.Nat.{max-zero}
 use native.Mathlib.Omega.{arith}
 use Rattle.laws.specs.Sets.{grow}
 use Rattle.laws.specs.Lists.{tabulate}
-use Rattle.laws.proofs.Tests.{true-or-false}
-use Rattle.laws.proofs.Grow.{grow-all}
-use Rattle.laws.proofs.Lists.{mem-at, at_mem}
+use Rattle.laws.proofs.Tests.{true_or_false}
+use Rattle.laws.proofs.Grow.{grow_all}
+use Rattle.laws.proofs.Lists.{mem_at, at_mem}
 use Rattle.model.specs.Plan.{Plan, Valid, failing, active}
 use Rattle.model.specs.Verdict.{forced, lost}
 use Rattle.model.specs.Value.{successors, maximum, minimum, backup, Solves, value, LeastSolution}
-use Rattle.model.proofs.StateKinds.{Kind, fails, rests, acts, kind-of, active-is, active-stands}
-use Rattle.model.proofs.Choices.{hits-is, misses, forced-is, choice-some}
-use Rattle.model.proofs.Layers.{failing-lost, lost-forced, lost-layer, safe-takes}
+use Rattle.model.proofs.StateKinds.{Kind, fails, rests, acts, kind_of, active_is, active_stands}
+use Rattle.model.proofs.Choices.{hits_is, misses, forced_is, choice_some}
+use Rattle.model.proofs.Layers.{failing_lost, lost_forced, lost_layer, safe_takes}
 
 -- ---- the largest and the least of a list of values
 
 module _ {A : Type 0} (v : A → ℕ) (k : ℕ) where
-  maximum-under : (xs : List A) → ((x : A) → Memᴰ x xs → v x ≤ k) → maximum (map v xs) ≤ k
+  maximum_under : (xs : List A) → ((x : A) → Memᴰ x xs → v x ≤ k) → maximum (map v xs) ≤ k
   unfolding maximum
-  maximum-under [] h = omega arith
-  maximum-under (x ∷ xs) h =
+  maximum_under [] h = omega arith
+  maximum_under (x ∷ xs) h =
       let here : v x ≤ k = h x (Memᴰ.head refl) in
-      let rest : maximum (map v xs) ≤ k = maximum-under xs (λ y m. h y (Memᴰ.tail m)) in
+      let rest : maximum (map v xs) ≤ k = maximum_under xs (λ y m. h y (Memᴰ.tail m)) in
       omega arith
 
-  maximum-over : (xs : List A) (x : A) → Memᴰ x xs → k ≤ v x → k ≤ maximum (map v xs)
+  maximum_over : (xs : List A) (x : A) → Memᴰ x xs → k ≤ v x → k ≤ maximum (map v xs)
   unfolding maximum
-  maximum-over [] x m h = absurd (Memᴰ.not-nil m)
-  maximum-over (y ∷ xs) x m h =
+  maximum_over [] x m h = absurd (Memᴰ.not-nil m)
+  maximum_over (y ∷ xs) x m h =
       ⊎_elim
       (λ q. let here : k ≤ v y = rw q at h in omega arith)
-      (λ t. let rest : k ≤ maximum (map v xs) = maximum-over xs x t h in omega arith)
+      (λ t. let rest : k ≤ maximum (map v xs) = maximum_over xs x t h in omega arith)
       (Memᴰ.cases_cons m)
 
-  minimum-over : (xs : List A) (x : A) → Memᴰ x xs → ((y : A) → Memᴰ y xs → k ≤ v y) → k ≤ minimum (map v xs)
+  minimum_over : (xs : List A) (x : A) → Memᴰ x xs → ((y : A) → Memᴰ y xs → k ≤ v y) → k ≤ minimum (map v xs)
   unfolding minimum
-  minimum-over [] x m h = absurd (Memᴰ.not-nil m)
-  minimum-over (y ∷ []) x m h = h y (Memᴰ.head refl)
-  minimum-over (y ∷ z ∷ xs) x m h =
+  minimum_over [] x m h = absurd (Memᴰ.not-nil m)
+  minimum_over (y ∷ []) x m h = h y (Memᴰ.head refl)
+  minimum_over (y ∷ z ∷ xs) x m h =
       let here : k ≤ v y = h y (Memᴰ.head refl) in
-      let rest : k ≤ minimum (map v (z ∷ xs)) = minimum-over (z ∷ xs) z (Memᴰ.head refl) (λ u t. h u (Memᴰ.tail t)) in
+      let rest : k ≤ minimum (map v (z ∷ xs)) = minimum_over (z ∷ xs) z (Memᴰ.head refl) (λ u t. h u (Memᴰ.tail t)) in
       omega arith
 
-  minimum-under : (xs : List A) (x : A) → Memᴰ x xs → v x ≤ k → minimum (map v xs) ≤ k
+  minimum_under : (xs : List A) (x : A) → Memᴰ x xs → v x ≤ k → minimum (map v xs) ≤ k
   unfolding minimum
-  minimum-under [] x m h = absurd (Memᴰ.not-nil m)
-  minimum-under (y ∷ []) x m h =
+  minimum_under [] x m h = absurd (Memᴰ.not-nil m)
+  minimum_under (y ∷ []) x m h =
       ⊎_elim (λ q. rw q at h) (λ t. absurd (Memᴰ.not-nil t)) (Memᴰ.cases_cons m)
-  minimum-under (y ∷ z ∷ xs) x m h =
+  minimum_under (y ∷ z ∷ xs) x m h =
       ⊎_elim
       (λ q. let here : v y ≤ k = rw q at h in omega arith)
-      (λ t. let rest : minimum (map v (z ∷ xs)) ≤ k = minimum-under (z ∷ xs) x t h in omega arith)
+      (λ t. let rest : minimum (map v (z ∷ xs)) ≤ k = minimum_under (z ∷ xs) x t h in omega arith)
       (Memᴰ.cases_cons m)
 
 -- ---- the right side of the equation, at an active state
@@ -68,93 +68,93 @@ module _ (P : Plan) (v : ℕ → ℕ) (s : ℕ) (act : active P s ≡ true) wher
   sets : List (List ℕ)
   sets = tabulate (P.outcomes s) 0 (P.commands s)
 
-  backup-active : backup P v s ≡ minimum (map worst sets)
+  backup_active : backup P v s ≡ minimum (map worst sets)
   unfolding backup successors worst sets
-  backup-active = rw (active-stands P s act, act)
+  backup_active = rw (active_stands P s act, act)
 
   has : (c : ℕ) → c < P.commands s → Memᴰ (P.outcomes s c) sets
   unfolding sets
-  has c l = mem-at (P.outcomes s) (P.commands s) c l
+  has c l = mem_at (P.outcomes s) (P.commands s) c l
 
   -- every command has an outcome worth k or more
-  backup-over : (k : ℕ) → ((c : ℕ) → c < P.commands s → (x : ℕ) × Memᴰ x (P.outcomes s c) × (k ≤ v x))
+  backup_over : (k : ℕ) → ((c : ℕ) → c < P.commands s → (x : ℕ) × Memᴰ x (P.outcomes s c) × (k ≤ v x))
       → k ≤ backup P v s
   unfolding worst sets
-  backup-over k h =
-      rw backup-active
-      (minimum-over worst k sets (P.outcomes s 0) (has 0 (active-is P s act).1) (λ xs m.
+  backup_over k h =
+      rw backup_active
+      (minimum_over worst k sets (P.outcomes s 0) (has 0 (active_is P s act).1) (λ xs m.
       let (c, l, q) = at_mem (P.outcomes s) (P.commands s) m in
       let (x, out, le) = h c (omega arith) in
-      subst (λ ys. k ≤ worst ys) (sym q) (maximum-over v k (P.outcomes s c) x out le)))
+      subst (λ ys. k ≤ worst ys) (sym q) (maximum_over v k (P.outcomes s c) x out le)))
 
   -- some command has no outcome worth more than k
-  backup-under : (k c : ℕ) → c < P.commands s → ((x : ℕ) → Memᴰ x (P.outcomes s c) → v x ≤ k) → backup P v s ≤ k
+  backup_under : (k c : ℕ) → c < P.commands s → ((x : ℕ) → Memᴰ x (P.outcomes s c) → v x ≤ k) → backup P v s ≤ k
   unfolding worst
-  backup-under k c l h =
-      rw backup-active
-      (minimum-under worst k sets (P.outcomes s c) (has c l) (maximum-under v k (P.outcomes s c) h))
+  backup_under k c l h =
+      rw backup_active
+      (minimum_under worst k sets (P.outcomes s c) (has c l) (maximum_under v k (P.outcomes s c) h))
 
 -- ---- the verdict's value
 
 module _ (P : Plan) (s : ℕ) where
-  value-lost : lost P s ≡ true → value P s ≡ 1
+  value_lost : lost P s ≡ true → value P s ≡ 1
   unfolding value
-  value-lost e = rw e
+  value_lost e = rw e
 
-  value-safe : lost P s ≡ false → value P s ≡ 0
+  value_safe : lost P s ≡ false → value P s ≡ 0
   unfolding value
-  value-safe e = rw e
+  value_safe e = rw e
 
-  value-bound : value P s ≤ 1
-  value-bound = ⊎_elim (λ e. omega (arith, value-lost e)) (λ e. omega (arith, value-safe e)) (true-or-false (lost P s))
+  value_bound : value P s ≤ 1
+  value_bound = ⊎_elim (λ e. omega (arith, value_lost e)) (λ e. omega (arith, value_safe e)) (true_or_false (lost P s))
 
 module _ (P : Plan) (S : Valid P) where
   module _ (s : ℕ) (l : s < P.states) (act : active P s ≡ true) where
-    solves-lost : lost P s ≡ true → value P s ≡ backup P (value P) s
-    solves-lost e =
-        let (a, hit) = forced-is P (lost P) s (lost-forced P S s l act e) in
-        let over = backup-over P (value P) s act 1 (λ c m.
-        let (x, out, t) = hits-is P (lost P) s c (hit c m) in
-        (x, out, omega (arith, value-lost P x t))) in
-        let under = backup-under P (value P) s act 1 0 (active-is P s act).1 (λ x m. value-bound P x) in
-        rw (value-lost P s e) (omega arith)
+    solves_lost : lost P s ≡ true → value P s ≡ backup P (value P) s
+    solves_lost e =
+        let (a, hit) = forced_is P (lost P) s (lost_forced P S s l act e) in
+        let over = backup_over P (value P) s act 1 (λ c m.
+        let (x, out, t) = hits_is P (lost P) s c (hit c m) in
+        (x, out, omega (arith, value_lost P x t))) in
+        let under = backup_under P (value P) s act 1 0 (active_is P s act).1 (λ x m. value_bound P x) in
+        rw (value_lost P s e) (omega arith)
 
-    solves-safe : lost P s ≡ false → value P s ≡ backup P (value P) s
-    solves-safe e =
-        let (c, q) = safe-takes P S s l act e in
-        let (a, m, out) = choice-some P (lost P) s c q in
-        let low = backup-under P (value P) s act 0 c m (λ x t. omega (arith, value-safe P x (misses P (lost P) s c x out t))) in
-        rw (value-safe P s e) (omega arith)
+    solves_safe : lost P s ≡ false → value P s ≡ backup P (value P) s
+    solves_safe e =
+        let (c, q) = safe_takes P S s l act e in
+        let (a, m, out) = choice_some P (lost P) s c q in
+        let low = backup_under P (value P) s act 0 c m (λ x t. omega (arith, value_safe P x (misses P (lost P) s c x out t))) in
+        rw (value_safe P s e) (omega arith)
 
   solves : Solves P (value P)
   unfolding backup successors maximum minimum
-  solves s l = go (kind-of P s S l)
+  solves s l = go (kind_of P s S l)
     where
       go : Kind P s → value P s ≡ backup P (value P) s
-      go (fails f t i) = rw f (value-lost P s (failing-lost P S s l f))
+      go (fails f t i) = rw f (value_lost P s (failing_lost P S s l f))
       go (rests f t i) = rw (f, i) (sym (max-zero (value P s)))
-      go (acts f t a) = ⊎_elim (solves-lost s l a) (solves-safe s l a) (true-or-false (lost P s))
+      go (acts f t a) = ⊎_elim (solves_lost s l a) (solves_safe s l a) (true_or_false (lost P s))
 
   module _ (v : ℕ → ℕ) (solved : Solves P v) where
     -- a solution is 1 or more at every state of a layer
-    layers-over : (k s : ℕ) → grow (forced P) (failing P) k s ≡ true → s < P.states → 1 ≤ v s
+    layers_over : (k s : ℕ) → grow (forced P) (failing P) k s ≡ true → s < P.states → 1 ≤ v s
     unfolding backup
-    layers-over =
-        grow-all (forced P) (failing P) (λ s. s < P.states → 1 ≤ v s)
+    layers_over =
+        grow_all (forced P) (failing P) (λ s. s < P.states → 1 ≤ v s)
         (λ s e l. let q : v s ≡ 1 = rw e at (solved s l) in omega arith)
         (λ A below s e l.
-        let (act, hit) = forced-is P A s e in
+        let (act, hit) = forced_is P A s e in
         rw (solved s l)
-        (backup-over P v s act 1 (λ c m.
-        let (x, out, t) = hits-is P A s c (hit c m) in
+        (backup_over P v s act 1 (λ c m.
+        let (x, out, t) = hits_is P A s c (hit c m) in
         (x, out, below x t (S.inside s c x l m out)))))
 
     least : (s : ℕ) → s < P.states → value P s ≤ v s
     least s l =
         ⊎_elim
-        (λ e. omega (arith, value-lost P s e, layers-over P.states s (lost-layer P s e) l))
-        (λ e. omega (arith, value-safe P s e))
-        (true-or-false (lost P s))
+        (λ e. omega (arith, value_lost P s e, layers_over P.states s (lost_layer P s e) l))
+        (λ e. omega (arith, value_safe P s e))
+        (true_or_false (lost P s))
 
-  pub least-solution : LeastSolution P
-  least-solution = record { solves = solves; least = least }
+  pub least_solution : LeastSolution P
+  least_solution = record { solves = solves; least = least }

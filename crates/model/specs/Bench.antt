@@ -4,7 +4,7 @@ use Rattle.std.specs.Prelude.{Bool, true, false, List, [], ◌∷◌, ℕ}
 use Rattle.laws.specs.Entry.{FFFF}
 use Rattle.model.specs.Practice.{tally}
 use Rattle.model.specs.Refusal.{Cut, Beyond, Answer, given, refused, ◌>>=◌}
-use Rattle.model.specs.Calls.{reading, deciding, searching, rankTable, commandTable, markTable}
+use Rattle.model.specs.Calls.{reading, deciding, searching, rank_table, command_table, mark_table}
 
 -- what deciding and the search from the plan's start give
 pub record Judged : Type 0 where
@@ -22,9 +22,9 @@ judged file = do
   P ← deciding T 1024 1024 1024 1024
   R ← searching T T.size.start 1024 1024
   given (record {
-    ranks = rankTable P;
-    commands = commandTable P;
-    marks = markTable P;
+    ranks = rank_table P;
+    commands = command_table P;
+    marks = mark_table P;
     tally = tally P;
     lost = R.lost;
     rounds = R.rounds;
@@ -46,8 +46,8 @@ abbrev pub refusal : List ℕ → Answer Judged → Bench
 refusal file r = record { file = file; says = r }
 
 -- rules B3 and L10: case A
-abbrev pub caseA : List ℕ
-caseA =
+abbrev pub case_a : List ℕ
+case_a =
     0x01 ∷ 0x00 ∷ 0x04 ∷ 0x00 ∷ 0x06 ∷ 0x00 ∷ 0x00 ∷ 0x02 ∷ 0x00 ∷ 0x05 ∷ 0x00 ∷ 0x00 ∷ 0x02 ∷ 0x00 ∷ 0x01 ∷ 0x03
     ∷ 0x00 ∷ 0x02 ∷ 0x00 ∷ 0x01 ∷ 0x03 ∷ 0x00 ∷ 0x04 ∷ 0x00 ∷ 0x02 ∷ 0x00 ∷ 0x03 ∷ 0x02 ∷ 0x00 ∷ 0x05 ∷ 0x00 ∷ 0x00
     ∷ 0x01 ∷ 0x00 ∷ 0x00 ∷ 0x03 ∷ 0x00 ∷ 0x04 ∷ 0x00 ∷ 0x00 ∷ 0x00 ∷ 0x01 ∷ 0x02 ∷ 0x00 ∷ 0x05 ∷ 0x02 ∷ 0x00 ∷ 0x00
@@ -56,33 +56,33 @@ caseA =
     ∷ 0x05 ∷ 0x00 ∷ 0x00 ∷ 0x01 ∷ 0xff ∷ 0xff ∷ 0x03 ∷ 0x00 ∷ 0x02 ∷ 0x00 ∷ 0x03 ∷ 0x04 ∷ 0x00 ∷ 0x00 ∷ []
 
 -- rule B4: one state, at rest
-abbrev pub oneRest : List ℕ
-oneRest =
+abbrev pub one_rest : List ℕ
+one_rest =
     0x01 ∷ 0x00 ∷ 0x04 ∷ 0x00 ∷ 0x01 ∷ 0x00 ∷ 0x00 ∷ 0x02 ∷ 0x00 ∷ 0x05 ∷ 0x02 ∷ 0x00 ∷ 0x00 ∷ 0xff ∷ 0xff ∷ 0x04
     ∷ 0x00 ∷ 0x00 ∷ []
 
 -- rule B5: one state, failing
-abbrev pub oneFailing : List ℕ
-oneFailing =
+abbrev pub one_failing : List ℕ
+one_failing =
     0x01 ∷ 0x00 ∷ 0x04 ∷ 0x00 ∷ 0x01 ∷ 0x00 ∷ 0x00 ∷ 0x02 ∷ 0x00 ∷ 0x05 ∷ 0x01 ∷ 0x00 ∷ 0x00 ∷ 0xff ∷ 0xff ∷ 0x04
     ∷ 0x00 ∷ 0x00 ∷ []
 
 -- rule B6: 0 leads to 0
-abbrev pub toItself : List ℕ
-toItself =
+abbrev pub to_itself : List ℕ
+to_itself =
     0x01 ∷ 0x00 ∷ 0x04 ∷ 0x00 ∷ 0x01 ∷ 0x00 ∷ 0x00 ∷ 0x02 ∷ 0x00 ∷ 0x05 ∷ 0x00 ∷ 0x00 ∷ 0x01 ∷ 0xff ∷ 0xff ∷ 0x03
     ∷ 0x00 ∷ 0x02 ∷ 0x00 ∷ 0x00 ∷ 0x04 ∷ 0x00 ∷ 0x00 ∷ []
 
 -- rule B7: 0 leads to 0 or 1, which is failing
-abbrev pub toItselfOrFailing : List ℕ
-toItselfOrFailing =
+abbrev pub to_itself_or_failing : List ℕ
+to_itself_or_failing =
     0x01 ∷ 0x00 ∷ 0x04 ∷ 0x00 ∷ 0x02 ∷ 0x00 ∷ 0x00 ∷ 0x02 ∷ 0x00 ∷ 0x05 ∷ 0x00 ∷ 0x00 ∷ 0x01 ∷ 0xff ∷ 0xff ∷ 0x03
     ∷ 0x00 ∷ 0x04 ∷ 0x00 ∷ 0x00 ∷ 0x00 ∷ 0x01 ∷ 0x02 ∷ 0x00 ∷ 0x05 ∷ 0x01 ∷ 0x00 ∷ 0x00 ∷ 0xff ∷ 0xff ∷ 0x04 ∷ 0x00
     ∷ 0x00 ∷ []
 
 -- rule B8: 0 leads to 1, which is failing, or by its other command to 0
-abbrev pub secondCommand : List ℕ
-secondCommand =
+abbrev pub second_command : List ℕ
+second_command =
     0x01 ∷ 0x00 ∷ 0x04 ∷ 0x00 ∷ 0x02 ∷ 0x00 ∷ 0x00 ∷ 0x02 ∷ 0x00 ∷ 0x05 ∷ 0x00 ∷ 0x00 ∷ 0x02 ∷ 0xff ∷ 0xff ∷ 0x03
     ∷ 0x00 ∷ 0x02 ∷ 0x00 ∷ 0x01 ∷ 0x03 ∷ 0x00 ∷ 0x02 ∷ 0x00 ∷ 0x00 ∷ 0x02 ∷ 0x00 ∷ 0x05 ∷ 0x01 ∷ 0x00 ∷ 0x00 ∷ 0xff
     ∷ 0xff ∷ 0x04 ∷ 0x00 ∷ 0x00 ∷ []
@@ -95,34 +95,34 @@ chain =
     ∷ 0x02 ∷ 0x02 ∷ 0x00 ∷ 0x05 ∷ 0x01 ∷ 0x00 ∷ 0x00 ∷ 0xff ∷ 0xff ∷ 0x04 ∷ 0x00 ∷ 0x00 ∷ []
 
 -- rule B10: one state, ordinary, that has no command: it is stuck
-abbrev pub noCommands : List ℕ
-noCommands =
+abbrev pub no_commands : List ℕ
+no_commands =
     0x01 ∷ 0x00 ∷ 0x04 ∷ 0x00 ∷ 0x01 ∷ 0x00 ∷ 0x00 ∷ 0x02 ∷ 0x00 ∷ 0x05 ∷ 0x00 ∷ 0x00 ∷ 0x00 ∷ 0xff ∷ 0xff ∷ 0x04
     ∷ 0x00 ∷ 0x00 ∷ []
 
 -- rule B12: no state
-abbrev pub noStates : List ℕ
-noStates = 0x01 ∷ 0x00 ∷ 0x04 ∷ 0x00 ∷ 0x00 ∷ 0x00 ∷ 0x00 ∷ []
+abbrev pub no_states : List ℕ
+no_states = 0x01 ∷ 0x00 ∷ 0x04 ∷ 0x00 ∷ 0x00 ∷ 0x00 ∷ 0x00 ∷ []
 
 -- rule B1: the table, whose rows are rules B3 to B12
 abbrev pub benches : List Bench
 benches =
-    bench caseA (FFFF ∷ FFFF ∷ FFFF ∷ 1 ∷ 0 ∷ 2 ∷ []) (0 ∷ 0 ∷ FFFF ∷ FFFF ∷ FFFF ∷ FFFF ∷ []) (3 ∷ 1 ∷ 0 ∷ 1 ∷ 1 ∷ 0 ∷ [])
+    bench case_a (FFFF ∷ FFFF ∷ FFFF ∷ 1 ∷ 0 ∷ 2 ∷ []) (0 ∷ 0 ∷ FFFF ∷ FFFF ∷ FFFF ∷ FFFF ∷ []) (3 ∷ 1 ∷ 0 ∷ 1 ∷ 1 ∷ 0 ∷ [])
     ((0 ∷ 2 ∷ 1 ∷ []) ∷ (0 ∷ 1 ∷ 2 ∷ []) ∷ []) false 2
-    ∷ bench oneRest (FFFF ∷ []) (FFFF ∷ []) (0 ∷ []) ((0 ∷ 0 ∷ 1 ∷ []) ∷ (0 ∷ 0 ∷ 0 ∷ []) ∷ []) false 0
-    ∷ bench oneFailing (0 ∷ []) (FFFF ∷ []) (1 ∷ []) ((0 ∷ 0 ∷ 0 ∷ []) ∷ (0 ∷ 0 ∷ 1 ∷ []) ∷ []) true 0
-    ∷ bench toItself (FFFF ∷ []) (0 ∷ []) (0 ∷ []) ((0 ∷ 0 ∷ 1 ∷ []) ∷ (0 ∷ 0 ∷ 0 ∷ []) ∷ []) false 1
-    ∷ bench toItselfOrFailing (1 ∷ 0 ∷ []) (FFFF ∷ FFFF ∷ []) (0 ∷ 1 ∷ []) ((0 ∷ 0 ∷ 0 ∷ []) ∷ (0 ∷ 0 ∷ 2 ∷ []) ∷ []) true 1
-    ∷ bench secondCommand (FFFF ∷ 0 ∷ []) (1 ∷ FFFF ∷ []) (0 ∷ 1 ∷ []) ((0 ∷ 0 ∷ 1 ∷ []) ∷ (0 ∷ 0 ∷ 1 ∷ []) ∷ []) false 1
+    ∷ bench one_rest (FFFF ∷ []) (FFFF ∷ []) (0 ∷ []) ((0 ∷ 0 ∷ 1 ∷ []) ∷ (0 ∷ 0 ∷ 0 ∷ []) ∷ []) false 0
+    ∷ bench one_failing (0 ∷ []) (FFFF ∷ []) (1 ∷ []) ((0 ∷ 0 ∷ 0 ∷ []) ∷ (0 ∷ 0 ∷ 1 ∷ []) ∷ []) true 0
+    ∷ bench to_itself (FFFF ∷ []) (0 ∷ []) (0 ∷ []) ((0 ∷ 0 ∷ 1 ∷ []) ∷ (0 ∷ 0 ∷ 0 ∷ []) ∷ []) false 1
+    ∷ bench to_itself_or_failing (1 ∷ 0 ∷ []) (FFFF ∷ FFFF ∷ []) (0 ∷ 1 ∷ []) ((0 ∷ 0 ∷ 0 ∷ []) ∷ (0 ∷ 0 ∷ 2 ∷ []) ∷ []) true 1
+    ∷ bench second_command (FFFF ∷ 0 ∷ []) (1 ∷ FFFF ∷ []) (0 ∷ 1 ∷ []) ((0 ∷ 0 ∷ 1 ∷ []) ∷ (0 ∷ 0 ∷ 1 ∷ []) ∷ []) false 1
     ∷ bench chain (2 ∷ 1 ∷ 0 ∷ []) (FFFF ∷ FFFF ∷ FFFF ∷ []) (0 ∷ 0 ∷ 1 ∷ []) ((0 ∷ 0 ∷ 0 ∷ []) ∷ (0 ∷ 0 ∷ 3 ∷ []) ∷ []) true 2
-    ∷ bench noCommands (0 ∷ []) (FFFF ∷ []) (1 ∷ []) ((0 ∷ 0 ∷ 0 ∷ []) ∷ (0 ∷ 0 ∷ 1 ∷ []) ∷ []) true 0
+    ∷ bench no_commands (0 ∷ []) (FFFF ∷ []) (1 ∷ []) ((0 ∷ 0 ∷ 0 ∷ []) ∷ (0 ∷ 0 ∷ 1 ∷ []) ∷ []) true 0
     ∷ refusal [] (refused Cut)
-    ∷ refusal noStates (refused Beyond)
+    ∷ refusal no_states (refused Beyond)
     ∷ []
 
 -- rule L11: case A's listing, a line of bytes for each of its lines
-abbrev pub caseAListing : List ℕ
-caseAListing =
+abbrev pub case_a_listing : List ℕ
+case_a_listing =
     112 ∷ 108 ∷ 97 ∷ 110 ∷ 32 ∷ 54 ∷ 32 ∷ 54 ∷ 32 ∷ 57 ∷ 10
     ∷ 48 ∷ 32 ∷ 111 ∷ 32 ∷ 83 ∷ 32 ∷ 45 ∷ 32 ∷ 48 ∷ 32 ∷ 70 ∷ 32 ∷ 33 ∷ 51 ∷ 10
     ∷ 49 ∷ 32 ∷ 111 ∷ 32 ∷ 83 ∷ 32 ∷ 45 ∷ 32 ∷ 48 ∷ 32 ∷ 70 ∷ 32 ∷ 46 ∷ 10

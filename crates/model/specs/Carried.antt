@@ -3,15 +3,15 @@ use Rattle.std.specs.Prelude.{◌≡◌, List, ℕ, ◌<◌, length, get_or, tak
 use Rattle.laws.specs.Entry.{FFFF}
 use Rattle.model.specs.Refusal.{given}
 use Rattle.model.specs.Tables.{Tables}
-use Rattle.model.specs.Held.{planIn}
-use Rattle.model.specs.Calls.{decideCall}
+use Rattle.model.specs.Held.{plan_in}
+use Rattle.model.specs.Calls.{decide_call}
 use Rattle.model.specs.Trimmed.{Enters, Trimmed}
 use Rattle.model.specs.Carry.{picked}
 
 -- rule Y6: `back` has the entries of `commands` at the states of T that a run from the start comes to, and FFFF at the others
 pub record KeptOf (T : Tables) (commands back : List ℕ) : Type 0 where
-  pub kept : (s : ℕ) → s < T.size.n → Enters (planIn T) s → get_or back s FFFF ≡ get_or commands s FFFF
-  pub others : (s : ℕ) → s < T.size.n → (Enters (planIn T) s → ⊥) → get_or back s 0 ≡ FFFF
+  pub kept : (s : ℕ) → s < T.size.n → Enters (plan_in T) s → get_or back s FFFF ≡ get_or commands s FFFF
+  pub others : (s : ℕ) → s < T.size.n → (Enters (plan_in T) s → ⊥) → get_or back s 0 ≡ FFFF
 
 -- What it means that the table is carried back by the map `olds` to n old numbers, and `back` is left.
 pub record Carried (n : ℕ) (olds table back : List ℕ) : Type 0 where
@@ -24,7 +24,7 @@ pub record Carried (n : ℕ) (olds table back : List ℕ) : Type 0 where
   -- whatever deciding is lent on either plan, if it answers
   pub decided : (T U : Tables) (map : List ℕ) → Trimmed T U map → T.size.n ≡ n → take U.size.n map ≡ olds
       → (ranks commands marks scratch ranks' commands' marks' scratch' : List ℕ) (counts counts' : List (List ℕ))
-      → let D = decideCall T ranks commands marks scratch in
-      let E = decideCall U ranks' commands' marks' scratch' in
+      → let D = decide_call T ranks commands marks scratch in
+      let E = decide_call U ranks' commands' marks' scratch' in
       D.answers ≡ given counts → E.answers ≡ given counts' → take U.size.n table ≡ take U.size.n E.commands
       → KeptOf T D.commands back

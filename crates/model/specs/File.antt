@@ -5,14 +5,14 @@ use Rattle.laws.specs.Entry.{be16, FFFF}
 use Rattle.model.specs.Refusal.{Cut, Surplus, Tag, Length, Beyond, Unsorted, Idle, Limit, Answer, given, need, ◌>>=◌, ◌>>◌}
 
 -- rule P6: the most states, commands and outcomes that a plan may have
-abbrev pub maxStates : ℕ
-maxStates = 1024
+abbrev pub max_states : ℕ
+max_states = 1024
 
-abbrev pub maxCommands : ℕ
-maxCommands = 4096
+abbrev pub max_commands : ℕ
+max_commands = 4096
 
-abbrev pub maxOutcomes : ℕ
-maxOutcomes = 16384
+abbrev pub max_outcomes : ℕ
+max_outcomes = 16384
 
 -- What a file describes: the states in number order, each with its commands, each of those with its outcomes.
 pub record State : Type 0 where
@@ -27,8 +27,8 @@ pub record StateField : Type 0 where
   pub practice : ℕ
 
 -- the state that a state field and the commands after it describe, and the state field of a state
-abbrev pub stateFrom : StateField → List (List ℕ) → State
-stateFrom q cs = record { kind = q.kind; practice = q.practice; commands = cs }
+abbrev pub state_from : StateField → List (List ℕ) → State
+state_from q cs = record { kind = q.kind; practice = q.practice; commands = cs }
 
 abbrev pub field_of : State → StateField
 field_of s = record { kind = s.kind; count = length s.commands; practice = s.practice }
@@ -38,24 +38,24 @@ pub record Tree : Type 0 where
   pub states : List State
 
 -- the tags (rules F4 to F7)
-abbrev pub headTag : ℕ
-headTag = 1
+abbrev pub head_tag : ℕ
+head_tag = 1
 
-abbrev pub stateTag : ℕ
-stateTag = 2
+abbrev pub state_tag : ℕ
+state_tag = 2
 
-abbrev pub commandTag : ℕ
-commandTag = 3
+abbrev pub command_tag : ℕ
+command_tag = 3
 
-abbrev pub endTag : ℕ
-endTag = 4
+abbrev pub end_tag : ℕ
+end_tag = 4
 
 -- the lengths that rules F4 to F7 allow: head 4, state 5, end 0; a command's is even and not 0
-abbrev pub fixedLength : ℕ → ℕ
-fixedLength tag = cond (eqb tag headTag) 4 (cond (eqb tag stateTag) 5 0)
+abbrev pub fixed_length : ℕ → ℕ
+fixed_length tag = cond (eqb tag head_tag) 4 (cond (eqb tag state_tag) 5 0)
 
 abbrev pub allowed : ℕ → ℕ → Bool
-allowed tag len = cond (eqb tag commandTag) (eqb (len % 2) 0 && leb 2 len) (eqb len (fixedLength tag))
+allowed tag len = cond (eqb tag command_tag) (eqb (len % 2) 0 && leb 2 len) (eqb len (fixed_length tag))
 
 -- rule E12: a field with the tag that is due, and its length
 unfoldable pub field : ℕ → List ℕ → Answer ℕ
@@ -69,27 +69,27 @@ field tag s = do
 -- rule E13: n and the start
 unfoldable pub head : List ℕ → Answer (ℕ × ℕ)
 head s = do
-  _ ← field headTag s
-  need Beyond (leb 1 (be16 s 3) && leb (be16 s 3) maxStates)
+  _ ← field head_tag s
+  need Beyond (leb 1 (be16 s 3) && leb (be16 s 3) max_states)
   need Beyond (ltb (be16 s 5) (be16 s 3))
   given (be16 s 3, be16 s 5)
 
 -- rule E7 does not apply: only an ordinary state has commands, and a practice is FFFF or one of them
-abbrev pub notIdle : StateField → Bool
-notIdle q = (eqb q.kind 0 || eqb q.count 0) && (eqb q.practice FFFF || ltb q.practice q.count)
+abbrev pub not_idle : StateField → Bool
+not_idle q = (eqb q.kind 0 || eqb q.count 0) && (eqb q.practice FFFF || ltb q.practice q.count)
 
 -- the values of a state field
-abbrev pub stateValues : List ℕ → StateField
-stateValues s = record { kind = get_or s 3 0; count = be16 s 4; practice = be16 s 6 }
+abbrev pub state_values : List ℕ → StateField
+state_values s = record { kind = get_or s 3 0; count = be16 s 4; practice = be16 s 6 }
 
 -- rule E14: a state field, with m commands so far
 unfoldable pub state : ℕ → List ℕ → Answer StateField
 state m s = do
-  _ ← field stateTag s
-  need Beyond (leb (stateValues s).kind 2)
-  need Idle (notIdle (stateValues s))
-  need Limit (leb (m + (stateValues s).count) maxCommands)
-  given (stateValues s)
+  _ ← field state_tag s
+  need Beyond (leb (state_values s).kind 2)
+  need Idle (not_idle (state_values s))
+  need Limit (leb (m + (state_values s).count) max_commands)
+  given (state_values s)
 
 -- the k numbers at the front
 unfoldable pub entries : ℕ → List ℕ → List ℕ
@@ -107,8 +107,8 @@ rising n low (o ∷ os) = do
 -- rule E15: a command field, with t outcomes so far: its outcomes
 unfoldable pub command : ℕ → ℕ → List ℕ → Answer (List ℕ)
 command n t s = do
-  len ← field commandTag s
-  need Limit (leb (t + len / 2) maxOutcomes)
+  len ← field command_tag s
+  need Limit (leb (t + len / 2) max_outcomes)
   rising n 0 (entries (len / 2) (drop 3 s))
   given (entries (len / 2) (drop 3 s))
 
@@ -127,14 +127,14 @@ states n (suc k) m t s = do
   q ← state m s
   (cs, t₁, s₁) ← commands n q.count t (drop 8 s)
   (ss, s₂) ← states n k (m + q.count) t₁ s₁
-  given (stateFrom q cs ∷ ss, s₂)
+  given (state_from q cs ∷ ss, s₂)
 
 -- rule F3: a file; rule E16: nothing is behind the end
 unfoldable pub read : List ℕ → Answer Tree
 read s = do
   (n, start) ← head s
   (ss, s₁) ← states n n 0 0 (drop 7 s)
-  _ ← field endTag s₁
+  _ ← field end_tag s₁
   -- rule E2: the end has three bytes, and none is behind it
   need Surplus (leb (length s₁) 3)
   given (record { start = start; states = ss })

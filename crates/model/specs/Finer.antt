@@ -4,8 +4,8 @@ use mathlib.Core.List.{List, Memᴰ}
 use Rattle.model.specs.Plan.{Plan}
 
 -- the plan with other outcomes
-abbrev pub withOutcomes : Plan → (ℕ → ℕ → List ℕ) → Plan
-withOutcomes P os = record {
+abbrev pub with_outcomes : Plan → (ℕ → ℕ → List ℕ) → Plan
+with_outcomes P os = record {
   states = P.states;
   start = P.start;
   kind = P.kind;

@@ -3,16 +3,16 @@ use Rattle.std.specs.Prelude.{[], ℕ, length, get_or}
 use Rattle.laws.specs.Lists.{tabulate}
 use Rattle.laws.specs.Entry.{FFFF}
 use Rattle.model.specs.Plan.{Plan}
-use Rattle.model.specs.File.{State, stateFrom, Tree}
+use Rattle.model.specs.File.{State, state_from, Tree}
 use Rattle.model.specs.Tables.{Tables}
-use Rattle.model.specs.Places.{firstCommand, commandCount, field_at, outcomesAt}
+use Rattle.model.specs.Places.{first_command, command_count, field_at, outcomes_at}
 
 -- the state s, read off the tables
-unfoldable pub stateAt : Tables → ℕ → State
-stateAt T s = stateFrom (field_at T s) (tabulate (outcomesAt T) (firstCommand T s) (commandCount T s))
+unfoldable pub state_at : Tables → ℕ → State
+state_at T s = state_from (field_at T s) (tabulate (outcomes_at T) (first_command T s) (command_count T s))
 
 unfoldable pub tree_of : Tables → Tree
-tree_of T = record { start = T.size.start; states = tabulate (stateAt T) 0 T.size.n }
+tree_of T = record { start = T.size.start; states = tabulate (state_at T) 0 T.size.n }
 
 -- the state s; past the last, a rest state
 unfoldable pub state_of : Tree → ℕ → State
@@ -30,5 +30,5 @@ plan_of p = record {
 }
 
 -- the plan that tables hold
-unfoldable pub planIn : Tables → Plan
-planIn T = plan_of (tree_of T)
+unfoldable pub plan_in : Tables → Plan
+plan_in T = plan_of (tree_of T)

@@ -4,7 +4,7 @@ use Rattle.std.proofs.Math.Seq.{slice}
 use Rattle.laws.specs.Entry.{FFFF}
 use Rattle.laws.specs.Starts.{start_of}
 use Rattle.model.specs.File.{StateField}
-use Rattle.model.specs.Tables.{Row, Tables, Lists, listsIn}
+use Rattle.model.specs.Tables.{Row, Tables, Lists, lists_in}
 
 -- what stands for a row past the table: a rest state's
 abbrev pub no_row : Row
@@ -15,31 +15,31 @@ unfoldable pub row_at : Tables → ℕ → Row
 row_at T s = get_or T.rows s no_row
 
 -- where the commands of s begin, and those of the state before it end
-unfoldable pub firstCommand : Tables → ℕ → ℕ
-firstCommand T s = cond (ltb s T.size.n) (row_at T s).first T.size.m
+unfoldable pub first_command : Tables → ℕ → ℕ
+first_command T s = cond (ltb s T.size.n) (row_at T s).first T.size.m
 
 -- where list i begins, and the list before it ends
 abbrev pub start_in : Lists → ℕ → ℕ
 start_in L i = start_of L.firsts L.count L.end i
 
 -- list i
-unfoldable pub listAt : Lists → ℕ → List ℕ
-listAt L i = slice (start_in L i) (start_in L (suc i)) L.entries
+unfoldable pub list_at : Lists → ℕ → List ℕ
+list_at L i = slice (start_in L i) (start_in L (suc i)) L.entries
 
 -- where the outcomes of the command c begin, and those of the command before it end
-abbrev pub firstOutcome : Tables → ℕ → ℕ
-firstOutcome T = start_in (listsIn T)
+abbrev pub first_outcome : Tables → ℕ → ℕ
+first_outcome T = start_in (lists_in T)
 
-unfoldable pub commandCount : Tables → ℕ → ℕ
-commandCount T s = firstCommand T (suc s) - firstCommand T s
+unfoldable pub command_count : Tables → ℕ → ℕ
+command_count T s = first_command T (suc s) - first_command T s
 
 -- what a state field says where there is a row, and how many commands there are
-abbrev pub fieldFor : Row → ℕ → StateField
-fieldFor r count = record { kind = r.kind; count = count; practice = r.practice }
+abbrev pub field_for : Row → ℕ → StateField
+field_for r count = record { kind = r.kind; count = count; practice = r.practice }
 
 abbrev pub field_at : Tables → ℕ → StateField
-field_at T s = fieldFor (row_at T s) (commandCount T s)
+field_at T s = field_for (row_at T s) (command_count T s)
 
 -- the outcomes of the command c
-abbrev pub outcomesAt : Tables → ℕ → List ℕ
-outcomesAt T = listAt (listsIn T)
+abbrev pub outcomes_at : Tables → ℕ → List ℕ
+outcomes_at T = list_at (lists_in T)

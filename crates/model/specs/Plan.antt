@@ -23,28 +23,28 @@ unfoldable pub active : Plan → ℕ → Bool
 active P s = ordinary P s && ltb 0 (P.commands s)
 
 -- and one that has none, by a state's kind and the number of its commands
-abbrev pub stuckAt : ℕ → ℕ → Bool
-stuckAt kind count = eqb kind 0 && eqb count 0
+abbrev pub stuck_at : ℕ → ℕ → Bool
+stuck_at kind count = eqb kind 0 && eqb count 0
 
 unfoldable pub stuck : Plan → ℕ → Bool
-stuck P s = stuckAt (P.kind s) (P.commands s)
+stuck P s = stuck_at (P.kind s) (P.commands s)
 
 -- what counts as failing (rule P9): a state of kind failing, and a stuck one
-abbrev pub failingAt : ℕ → ℕ → Bool
-failingAt kind count = eqb kind 1 || stuckAt kind count
+abbrev pub failing_at : ℕ → ℕ → Bool
+failing_at kind count = eqb kind 1 || stuck_at kind count
 
 unfoldable pub failing : Plan → ℕ → Bool
-failing P s = failingAt (P.kind s) (P.commands s)
+failing P s = failing_at (P.kind s) (P.commands s)
 
 -- what is at rest (rule P9): a state of kind rest, and no other
 unfoldable pub resting : Plan → ℕ → Bool
 resting P s = eqb (P.kind s) 2
 
 -- the practice names a command
-unfoldable pub hasPractice : Plan → ℕ → Bool
-hasPractice P s = ltb (P.practice s) (P.commands s)
+unfoldable pub has_practice : Plan → ℕ → Bool
+has_practice P s = ltb (P.practice s) (P.commands s)
 
--- What the theory asks of a plan. Every plan that a file gives has it (proofs/Valid.antt, `file-valid`).
+-- What the theory asks of a plan. Every plan that a file gives has it (proofs/Valid.antt, `file_valid`).
 pub record Valid (P : Plan) : Type 0 where
   pub kinds : (s : ℕ) → s < P.states → P.kind s ≤ 2
   -- rule P3: only ordinary states have commands

@@ -2,18 +2,18 @@
 -- this is what the calls ask for.
 use Rattle.std.specs.Prelude.{Bool, ◌&&◌, ℕ, ◌/◌, leb}
 use Rattle.model.specs.Tables.{Size, enough}
-use Rattle.model.specs.Boundary.{entryBytes, rowBytes, sizeBytes, tallyBytes, answerBytes}
+use Rattle.model.specs.Boundary.{entry_bytes, row_bytes, size_bytes, tally_bytes, answer_bytes}
 
 -- for a plan, and its size record
-abbrev pub readRoom : Size → ℕ → ℕ → ℕ → ℕ → Bool
-readRoom z size rows firsts outcomes = enough z (rows / rowBytes) (firsts / entryBytes) (outcomes / entryBytes) && leb sizeBytes size
+abbrev pub read_room : Size → ℕ → ℕ → ℕ → ℕ → Bool
+read_room z size rows firsts outcomes = enough z (rows / row_bytes) (firsts / entry_bytes) (outcomes / entry_bytes) && leb size_bytes size
 
 -- for the verdicts on n states, and the tally
-abbrev pub decideRoom : ℕ → ℕ → ℕ → ℕ → ℕ → ℕ → Bool
-decideRoom n ranks commands marks scratch tally =
-    leb n (ranks / entryBytes) && leb n (commands / entryBytes) && leb n (marks / entryBytes) && leb n (scratch / entryBytes)
-    && leb tallyBytes tally
+abbrev pub decide_room : ℕ → ℕ → ℕ → ℕ → ℕ → ℕ → Bool
+decide_room n ranks commands marks scratch tally =
+    leb n (ranks / entry_bytes) && leb n (commands / entry_bytes) && leb n (marks / entry_bytes) && leb n (scratch / entry_bytes)
+    && leb tally_bytes tally
 
 -- for the search's command table of n states, and its answer
-abbrev pub searchRoom : ℕ → ℕ → ℕ → ℕ → Bool
-searchRoom n commands scratch answer = leb n (commands / entryBytes) && leb n (scratch / entryBytes) && leb answerBytes answer
+abbrev pub search_room : ℕ → ℕ → ℕ → ℕ → Bool
+search_room n commands scratch answer = leb n (commands / entry_bytes) && leb n (scratch / entry_bytes) && leb answer_bytes answer

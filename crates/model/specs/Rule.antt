@@ -2,7 +2,7 @@
 use Rattle.std.specs.Prelude.{◌≡◌, true, ℕ, ◌<◌}
 use Rattle.std.proofs.Math.Option.{Option, some}
 use Rattle.model.specs.Plan.{Plan, active}
-use Rattle.model.specs.Run.{Run, noMoves, ◌▸◌, present, IsRun, RunFails, RunHolds}
+use Rattle.model.specs.Run.{Run, no_moves, ◌▸◌, present, IsRun, RunFails, RunHolds}
 
 -- rule R4: what is commanded after each run, if anything
 abbrev pub Rule : Type 0
@@ -10,7 +10,7 @@ Rule = Run → Option ℕ
 
 -- rule R5: each move issues what the rule answers to the run before it
 abbrev pub Under : Rule → Run → Type 0
-Under ρ noMoves = Unit {0}
+Under ρ no_moves = Unit {0}
 Under ρ (w ▸ m) = Under ρ w × (ρ w ≡ some m.command)
 
 -- rule R6: an operating rule, from the state s judged, that is commanding
@@ -23,7 +23,7 @@ pub record Commanding (P : Plan) (s : ℕ) (ρ : Rule) : Type 0 where
 -- the rule has a run from s into failure
 pub record Fails (P : Plan) (s : ℕ) (ρ : Rule) : Type 0 where
   pub run : Run
-  pub is-run : IsRun P s run
+  pub is_run : IsRun P s run
   pub under : Under ρ run
   pub fails : RunFails P s run
 

@@ -11,17 +11,17 @@ pub record Move : Type 0 where
 
 -- rule R2: no move yet, or a run and the move that follows it
 pub data Run : Type 0 where
-  noMoves : Run
+  no_moves : Run
   ◌▸◌ : Run → Move → Run
 
 -- the state where a run from s has come to
 unfoldable pub present : ℕ → Run → ℕ
-present s noMoves = s
+present s no_moves = s
 present s (w ▸ m) = m.landing
 
 -- how many moves a run has
 abbrev pub moves : Run → ℕ
-moves noMoves = 0
+moves no_moves = 0
 moves (w ▸ m) = suc (moves w)
 
 -- The move m can be made at t (rules R1, R3): t is ordinary and has the command, and the command has the landing.
@@ -32,7 +32,7 @@ pub record CanMove (P : Plan) (t : ℕ) (m : Move) : Type 0 where
 
 -- rule R2: each move can be made where the moves before it have come to
 abbrev pub IsRun : Plan → ℕ → Run → Type 0
-IsRun P s noMoves = Unit {0}
+IsRun P s no_moves = Unit {0}
 IsRun P s (w ▸ m) = IsRun P s w × CanMove P (present s w) m
 
 -- rule R7: it has come to a failing state

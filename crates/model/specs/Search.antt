@@ -2,7 +2,7 @@
 -- The order in which a round walks is free (rule U1): what it reaches, takes and marks does not depend on it.
 use Rattle.std.specs.Prelude.{Bool, true, false, not, cond, ◌&&◌, ◌||◌, ℕ, suc, eqb}
 use Rattle.std.proofs.Math.Option.{Option, none, some, get_or}
-use Rattle.laws.specs.Sets.{any, every, exists, lowest, found, howMany, grow}
+use Rattle.laws.specs.Sets.{any, every, exists, lowest, found, how_many, grow}
 use Rattle.model.specs.Plan.{Plan, failing, active, resting}
 use Rattle.model.specs.Command.{choice}
 
@@ -28,14 +28,14 @@ abbrev pub known : Plan → ℕ → ℕ → ℕ → Bool
 known P a = grow (λ K. marked P K a) (failing P)
 
 -- the round after j rounds marks no state
-unfoldable pub withoutMarks : Plan → ℕ → ℕ → Bool
-withoutMarks P a j = every (λ s. not (marked P (known P a j) a s)) P.states
+unfoldable pub without_marks : Plan → ℕ → ℕ → Bool
+without_marks P a j = every (λ s. not (marked P (known P a j) a s)) P.states
 
 -- the round after j rounds ends the search (rules S8, S9): it is without marks, or the start is known at its end
 unfoldable pub ends : Plan → ℕ → ℕ → Bool
-ends P a j = withoutMarks P a j || known P a (suc j) a
+ends P a j = without_marks P a j || known P a (suc j) a
 
--- how many rounds come before the last; some round up to the n-th is the last (proofs/Searching.antt, `last-round`)
+-- how many rounds come before the last; some round up to the n-th is the last (proofs/Searching.antt, `last_round`)
 unfoldable pub before : Plan → ℕ → ℕ
 before P a = get_or (lowest (ends P a) P.states) 0
 
@@ -52,8 +52,8 @@ unfoldable pub at_once : Bool → Result
 at_once verdict = record { lost = verdict; rounds = 0; reached = λ s. false; command = λ s. none }
 
 -- rule S11: the commands are those that the last walk takes, and there are none if the start is lost
-unfoldable pub inRounds : Plan → ℕ → ℕ → Result
-inRounds P a j = record {
+unfoldable pub in_rounds : Plan → ℕ → ℕ → Result
+in_rounds P a j = record {
   lost = known P a (suc j) a;
   rounds = suc j;
   reached = reached P (known P a j) a;
@@ -62,8 +62,8 @@ inRounds P a j = record {
 
 -- rules S2 and S3: rounds are walked from an active start only
 unfoldable pub search : Plan → ℕ → Result
-search P a = cond (failing P a) (at_once true) (cond (resting P a) (at_once false) (inRounds P a (before P a)))
+search P a = cond (failing P a) (at_once true) (cond (resting P a) (at_once false) (in_rounds P a (before P a)))
 
 -- how many ordinary states with commands there are
 unfoldable pub actives : Plan → ℕ
-actives P = howMany (active P) P.states
+actives P = how_many (active P) P.states

@@ -34,41 +34,41 @@ pub record Lists : Type 0 where
   pub entries : List ℕ
 
 -- the outcomes, a list for each command
-abbrev pub listsIn : Tables → Lists
-listsIn T = record { count = T.size.m; end = T.size.t; firsts = T.firsts; entries = T.outcomes }
+abbrev pub lists_in : Tables → Lists
+lists_in T = record { count = T.size.m; end = T.size.t; firsts = T.firsts; entries = T.outcomes }
 
 -- the commands of the states, one after another
-unfoldable pub allCommands : List State → List (List ℕ)
-allCommands [] = []
-allCommands (s ∷ ss) = s.commands ++ allCommands ss
+unfoldable pub all_commands : List State → List (List ℕ)
+all_commands [] = []
+all_commands (s ∷ ss) = s.commands ++ all_commands ss
 
 -- the row of a state that m commands come before, by what its state field says
-abbrev pub rowWith : ℕ → StateField → Row
-rowWith m q = record { kind = q.kind; first = m; practice = q.practice }
+abbrev pub row_with : ℕ → StateField → Row
+row_with m q = record { kind = q.kind; first = m; practice = q.practice }
 
-abbrev pub rowFor : ℕ → State → Row
-rowFor m s = rowWith m (field_of s)
+abbrev pub row_for : ℕ → State → Row
+row_for m s = row_with m (field_of s)
 
 -- rule T2: the rows of states that m commands come before
 unfoldable pub rows_from : ℕ → List State → List Row
 rows_from m [] = []
-rows_from m (s ∷ ss) = rowFor m s ∷ rows_from (m + length s.commands) ss
+rows_from m (s ∷ ss) = row_for m s ∷ rows_from (m + length s.commands) ss
 
 -- rule T3: the first outcomes of commands that t outcomes come before
-unfoldable pub firstsFrom : ℕ → List (List ℕ) → List ℕ
-firstsFrom t [] = []
-firstsFrom t (c ∷ cs) = t ∷ firstsFrom (t + length c) cs
+unfoldable pub firsts_from : ℕ → List (List ℕ) → List ℕ
+firsts_from t [] = []
+firsts_from t (c ∷ cs) = t ∷ firsts_from (t + length c) cs
 
 -- the tables of lists
 abbrev pub lists_of : List (List ℕ) → Lists
 lists_of cs =
     let os = joined cs in
-    record { count = length cs; end = length os; firsts = firstsFrom 0 cs; entries = os }
+    record { count = length cs; end = length os; firsts = firsts_from 0 cs; entries = os }
 
 -- the size record and tables that a file gives
 unfoldable pub tables_of : Tree → Tables
 tables_of p =
-    let L = lists_of (allCommands p.states) in
+    let L = lists_of (all_commands p.states) in
     record {
       size = record { n = length p.states; m = L.count; t = L.end; start = p.start };
       rows = rows_from 0 p.states;
@@ -77,11 +77,11 @@ tables_of p =
     }
 
 -- rule F8: how many bytes the file has
-unfoldable pub sizeLength : Size → ℕ
-sizeLength z = 10 + 8 * z.n + 3 * z.m + 2 * z.t
+unfoldable pub size_length : Size → ℕ
+size_length z = 10 + 8 * z.n + 3 * z.m + 2 * z.t
 
-abbrev pub fileLength : Tables → ℕ
-fileLength T = sizeLength T.size
+abbrev pub file_length : Tables → ℕ
+file_length T = size_length T.size
 
 -- lists agree up to their counts
 pub record SameLists (L M : Lists) : Type 0 where
@@ -92,4 +92,4 @@ pub record SameLists (L M : Lists) : Type 0 where
 pub record Same (T U : Tables) : Type 0 where
   pub size : T.size ≡ U.size
   pub rows : take T.size.n T.rows ≡ take U.size.n U.rows
-  pub lists : SameLists (listsIn T) (listsIn U)
+  pub lists : SameLists (lists_in T) (lists_in U)

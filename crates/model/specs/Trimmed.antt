@@ -8,15 +8,15 @@ use Rattle.model.specs.Command.{chosen}
 use Rattle.model.specs.Refusal.{given}
 use Rattle.model.specs.Tables.{Row, Tables, Same}
 use Rattle.model.specs.Sound.{Sound}
-use Rattle.model.specs.Held.{planIn}
-use Rattle.model.specs.Calls.{decideCall}
+use Rattle.model.specs.Held.{plan_in}
+use Rattle.model.specs.Calls.{decide_call}
 use Rattle.model.specs.Demand3.{read_entry}
-use Rattle.model.specs.Trim.{trimCall, afterTrimming}
+use Rattle.model.specs.Trim.{trim_call, after_trimming}
 
 -- rule X1: some run from the start ends at x
 pub record Enters (P : Plan) (x : ℕ) : Type 0 where
   pub run : Run
-  pub is-run : IsRun P P.start run
+  pub is_run : IsRun P P.start run
   pub ends : present P.start run ≡ x
 
 -- What Q, which is trimmed from P, has of P, where `old` gives the old numbers.
@@ -41,14 +41,14 @@ pub record Keeps (P Q : Plan) (old : ℕ → ℕ) : Type 0 where
 pub record Trimmed (T U : Tables) (olds : List ℕ) : Type 0 where
   -- rule X5: U is a plan that a file gives, and no larger
   pub sounds : Sound U
-  pub no-larger : (U.size.n ≤ T.size.n) × (U.size.m ≤ T.size.m) × (U.size.t ≤ T.size.t)
+  pub no_larger : (U.size.n ≤ T.size.n) × (U.size.m ≤ T.size.m) × (U.size.t ≤ T.size.t)
   -- rule X4: the map has a place for each state of U
-  pub map-long : U.size.n ≤ length olds
-  pub keeps : Keeps (planIn T) (planIn U) (λ i. get_or olds i 0)
+  pub map_long : U.size.n ≤ length olds
+  pub keeps : Keeps (plan_in T) (plan_in U) (λ i. get_or olds i 0)
   -- rule X6 by what deciding leaves, whatever it is lent on either plan, if it answers
-  pub by-tables : (ranks commands marks scratch ranks' commands' marks' scratch' : List ℕ) (counts counts' : List (List ℕ))
-      → let D = decideCall T ranks commands marks scratch in
-      let E = decideCall U ranks' commands' marks' scratch' in
+  pub by_tables : (ranks commands marks scratch ranks' commands' marks' scratch' : List ℕ) (counts counts' : List (List ℕ))
+      → let D = decide_call T ranks commands marks scratch in
+      let E = decide_call U ranks' commands' marks' scratch' in
       D.answers ≡ given counts → E.answers ≡ given counts' → (i : ℕ) → i < U.size.n
       → (read_entry E.ranks i ≡ read_entry D.ranks (get_or olds i 0))
       × (read_entry E.commands i ≡ read_entry D.commands (get_or olds i 0))
@@ -56,6 +56,6 @@ pub record Trimmed (T U : Tables) (olds : List ℕ) : Type 0 where
   pub again : (rows : List Row) (firsts outcomes olds' scratch : List ℕ)
       → U.size.n ≤ length rows → U.size.m ≤ length firsts → U.size.t ≤ length outcomes → U.size.n ≤ length olds'
       → U.size.n ≤ length scratch
-      → let A = trimCall U rows firsts outcomes olds' scratch in
-      (A.answers ≡ given U.size) × Same U (afterTrimming U.size U rows firsts outcomes olds' scratch)
+      → let A = trim_call U rows firsts outcomes olds' scratch in
+      (A.answers ≡ given U.size) × Same U (after_trimming U.size U rows firsts outcomes olds' scratch)
       × (take U.size.n A.olds ≡ tabulate (λ i. i) 0 U.size.n)

@@ -27,7 +27,7 @@ forced P K s = active P s && every (hits P K s) (P.commands s)
 abbrev pub layer : Plan → ℕ → ℕ → Bool
 layer P = grow (forced P) (failing P)
 
--- rule V4. No layer past n adds a state (proofs/Layers.antt, `layer-rank`), so none is looked at.
+-- rule V4. No layer past n adds a state (proofs/Layers.antt, `layer_rank`), so none is looked at.
 unfoldable pub rank : Plan → ℕ → Option ℕ
 rank P s = lowest (λ k. layer P k s) (suc P.states)
 

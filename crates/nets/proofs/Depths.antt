@@ -11,109 +11,109 @@ use lib.ListN.{length, get_or}
 use Rattle.laws.specs.Entry.{FFFF, highest, entry}
 use Rattle.laws.specs.Filled.{Filled}
 use Rattle.laws.specs.Sets.{lowest, grow}
-use Rattle.laws.proofs.Defaults.{getD-inside}
-use Rattle.laws.proofs.Tries.{lowest-same}
-use Rattle.laws.proofs.Sets.{lowest-some}
-use Rattle.laws.proofs.Fills.{filled-as, filled_of}
+use Rattle.laws.proofs.Defaults.{get_or_inside}
+use Rattle.laws.proofs.Tries.{lowest_same}
+use Rattle.laws.proofs.Sets.{lowest_some}
+use Rattle.laws.proofs.Fills.{filled_as, filled_of}
 use Rattle.laws.proofs.Agree.{Agree}
-use Rattle.laws.proofs.GrowSame.{grow-same, grow-found}
+use Rattle.laws.proofs.GrowSame.{grow_same, grow_found}
 use Rattle.laws.proofs.EntryFound.{entry_found}
-use Rattle.model.specs.File.{maxStates}
+use Rattle.model.specs.File.{max_states}
 use Rattle.model.specs.Plan.{Plan, failing}
 use Rattle.model.specs.Verdict.{forced, layer, rank, lost}
-use Rattle.model.specs.Practice.{practiceHits, practiceFails}
+use Rattle.model.specs.Practice.{practice_hits, practice_fails}
 use Rattle.model.specs.Tables.{Tables}
 use Rattle.model.specs.SoundTest.{sound}
-use Rattle.model.specs.Held.{planIn}
-use Rattle.model.proofs.HeldPlan.{states-held}
-use Rattle.model.proofs.Layers.{rank-bound}
-use Rattle.model.proofs.SoundFacts.{sound-facts}
+use Rattle.model.specs.Held.{plan_in}
+use Rattle.model.proofs.HeldPlan.{states_held}
+use Rattle.model.proofs.Layers.{rank_bound}
+use Rattle.model.proofs.SoundFacts.{sound_facts}
 use Rattle.tables.specs.declared.Row.{Row}
 use Rattle.tables.specs.declared.Size.{Size}
 use Rattle.tables.specs.Meaning.{held}
-use Rattle.tables.specs.Spans.{spanAt, failingSpan, commandsOf}
-use Rattle.tables.proofs.SpanFacts.{span-failing}
+use Rattle.tables.specs.Spans.{span_at, failing_span, commands_of}
+use Rattle.tables.proofs.SpanFacts.{span_failing}
 use Rattle.choice.specs.Within.{within}
-use Rattle.propagate.specs.Net.{netOf, losing, depth, seeds, Seeded}
-use Rattle.nets.specs.Nets.{practicePlace, seedOf, oneEnd}
-use Rattle.nets.specs.Found.{depthTable}
-use Rattle.nets.proofs.NetSteps.{losing-all, losing-practice}
+use Rattle.propagate.specs.Net.{net_of, losing, depth, seeds, Seeded}
+use Rattle.nets.specs.Nets.{practice_place, seed_of, one_end}
+use Rattle.nets.specs.Found.{depth_table}
+use Rattle.nets.proofs.NetSteps.{losing_all, losing_practice}
 
 zero_test : (b : Bool) → eqb (cond b 0 FFFF) 0 ≡ b
 zero_test true = refl
 zero_test false = refl
 
-zero-or-none : (b : Bool) → (cond b 0 FFFF ≡ 0) ⊎ (cond b 0 FFFF ≡ FFFF)
-zero-or-none true = inl refl
-zero-or-none false = inr refl
+zero_or_none : (b : Bool) → (cond b 0 FFFF ≡ 0) ⊎ (cond b 0 FFFF ≡ FFFF)
+zero_or_none true = inl refl
+zero_or_none false = inr refl
 
 -- what is left below n may be anything
-pub filled-past : {n : ℕ} {f : ℕ → ℕ} {l₀ l : List ℕ} → Filled n f l₀ l → Filled n (λ s. get_or l s 0) l₀ l
-filled-past v = record { same = v.same; low = λ x h. refl; high = v.high }
+pub filled_past : {n : ℕ} {f : ℕ → ℕ} {l₀ l : List ℕ} → Filled n f l₀ l → Filled n (λ s. get_or l s 0) l₀ l
+filled_past v = record { same = v.same; low = λ x h. refl; high = v.high }
 
 module _ (size : Size) (rows : List Row) (firsts outcomes : List ℕ) (sounds : sound (held size rows firsts outcomes) ≡ true) where
   abbrev T : Tables
   T = held size rows firsts outcomes
 
   abbrev P : Plan
-  P = planIn T
+  P = plan_in T
 
-  few : size.n ≤ maxStates
-  few = ((sound-facts T).0 sounds).size.few
+  few : size.n ≤ max_states
+  few = ((sound_facts T).0 sounds).size.few
 
   -- a table of seeds
-  module _ (r : List ℕ) (long : size.n ≤ length r) (sown : (s : ℕ) → s < size.n → get_or r s 0 ≡ seedOf (spanAt T s)) where
-    pub sown-seeded : Seeded size.n r
-    unfolding seedOf
-    sown-seeded = record { seeded = λ s l. rw (sown s l) (zero-or-none (failingSpan (spanAt T s))) }
+  module _ (r : List ℕ) (long : size.n ≤ length r) (sown : (s : ℕ) → s < size.n → get_or r s 0 ≡ seed_of (span_at T s)) where
+    pub sown_seeded : Seeded size.n r
+    unfolding seed_of
+    sown_seeded = record { seeded = λ s l. rw (sown s l) (zero_or_none (failing_span (span_at T s))) }
 
-    seeds-are : Agree size.n (seeds r) (failing P)
-    unfolding seedOf
-    seeds-are s l = rw (getD-inside r s 1 0 (omega arith), sown s l) (zero_test (failingSpan (spanAt T s))) ∙ span-failing T s l
+    seeds_are : Agree size.n (seeds r) (failing P)
+    unfolding seed_of
+    seeds_are s l = rw (get_or_inside r s 1 0 (omega arith), sown s l) (zero_test (failing_span (span_at T s))) ∙ span_failing T s l
 
-    module _ (w e : List ℕ) {r' : List ℕ} (found : r' ≡ depthTable (netOf size.n (commandsOf size firsts outcomes) w e) r) where
-      filled : Filled size.n (λ s. entry (depth (netOf size.n (commandsOf size firsts outcomes) w e) (seeds r) s)) r r'
+    module _ (w e : List ℕ) {r' : List ℕ} (found : r' ≡ depth_table (net_of size.n (commands_of size firsts outcomes) w e) r) where
+      filled : Filled size.n (λ s. entry (depth (net_of size.n (commands_of size firsts outcomes) w e) (seeds r) s)) r r'
       filled = filled_of long found
 
-      pub depths-filled : Filled size.n (λ s. get_or r' s 0) r r'
-      depths-filled = filled-past filled
+      pub depths_filled : Filled size.n (λ s. get_or r' s 0) r r'
+      depths_filled = filled_past filled
 
       -- ---- all commands
 
-      module _ (begins : (s : ℕ) → s < size.n → get_or w s 0 ≡ (spanAt T s).first)
-          (stops : (s : ℕ) → s < size.n → get_or e s 0 ≡ (spanAt T s).end) where
-        depth-rank : (s : ℕ) → s < size.n → depth (netOf size.n (commandsOf size firsts outcomes) w e) (seeds r) s ≡ rank P s
+      module _ (begins : (s : ℕ) → s < size.n → get_or w s 0 ≡ (span_at T s).first)
+          (stops : (s : ℕ) → s < size.n → get_or e s 0 ≡ (span_at T s).end) where
+        depth_rank : (s : ℕ) → s < size.n → depth (net_of size.n (commands_of size firsts outcomes) w e) (seeds r) s ≡ rank P s
         unfolding depth rank
-        depth-rank s l =
-            lowest-same _ _ (suc size.n) (λ k _.
-            grow-same size.n (losing (netOf size.n (commandsOf size firsts outcomes) w e)) (forced P)
-            (λ A B h x g. losing-all size rows firsts outcomes w e sounds A B h x g (begins x g) (stops x g))
-            (seeds r) (failing P) seeds-are k s l)
-            ∙ ap (λ (j : ℕ). lowest (λ k. layer P k s) (suc j)) (sym (states-held T))
+        depth_rank s l =
+            lowest_same _ _ (suc size.n) (λ k _.
+            grow_same size.n (losing (net_of size.n (commands_of size firsts outcomes) w e)) (forced P)
+            (λ A B h x g. losing_all size rows firsts outcomes w e sounds A B h x g (begins x g) (stops x g))
+            (seeds r) (failing P) seeds_are k s l)
+            ∙ ap (λ (j : ℕ). lowest (λ k. layer P k s) (suc j)) (sym (states_held T))
 
-        pub ranks-found : Filled size.n (λ s. entry (rank P s)) r r'
-        ranks-found = filled-as (λ s l. ap entry (depth-rank s l)) filled
+        pub ranks_found : Filled size.n (λ s. entry (rank P s)) r r'
+        ranks_found = filled_as (λ s l. ap entry (depth_rank s l)) filled
 
       -- ---- the practice alone
 
-      depth_small : (s i : ℕ) → depth (netOf size.n (commandsOf size firsts outcomes) w e) (seeds r) s ≡ some i → i ≤ highest
+      depth_small : (s i : ℕ) → depth (net_of size.n (commands_of size firsts outcomes) w e) (seeds r) s ≡ some i → i ≤ highest
       unfolding depth
-      depth_small s i q = omega (arith, (lowest-some _ (suc size.n) i q).0, few)
+      depth_small s i q = omega (arith, (lowest_some _ (suc size.n) i q).0, few)
 
-      module _ (begins : (s : ℕ) → s < size.n → get_or w s 0 ≡ practicePlace (spanAt T s))
-          (stops : (s : ℕ) → s < size.n → get_or e s 0 ≡ oneEnd (practicePlace (spanAt T s)) (spanAt T s).end) where
-        pub fails-found : Agree size.n (within r' highest) (practiceFails P)
-        unfolding depth practiceFails
-        fails-found s l =
+      module _ (begins : (s : ℕ) → s < size.n → get_or w s 0 ≡ practice_place (span_at T s))
+          (stops : (s : ℕ) → s < size.n → get_or e s 0 ≡ one_end (practice_place (span_at T s)) (span_at T s).end) where
+        pub fails_found : Agree size.n (within r' highest) (practice_fails P)
+        unfolding depth practice_fails
+        fails_found s l =
             rw (filled.low s l)
-            (entry_found (depth (netOf size.n (commandsOf size firsts outcomes) w e) (seeds r) s) (depth_small s)
-            ∙ grow-found (losing (netOf size.n (commandsOf size firsts outcomes) w e)) (seeds r) size.n s
-            ∙ grow-same size.n _ (practiceHits P)
-            (λ A B h x g. losing-practice size rows firsts outcomes w e sounds A B h x g (begins x g) (stops x g))
-            (seeds r) (failing P) seeds-are size.n s l
-            ∙ ap (λ (j : ℕ). grow (practiceHits P) (failing P) j s) (sym (states-held T)))
+            (entry_found (depth (net_of size.n (commands_of size firsts outcomes) w e) (seeds r) s) (depth_small s)
+            ∙ grow_found (losing (net_of size.n (commands_of size firsts outcomes) w e)) (seeds r) size.n s
+            ∙ grow_same size.n _ (practice_hits P)
+            (λ A B h x g. losing_practice size rows firsts outcomes w e sounds A B h x g (begins x g) (stops x g))
+            (seeds r) (failing P) seeds_are size.n s l
+            ∙ ap (λ (j : ℕ). grow (practice_hits P) (failing P) j s) (sym (states_held T)))
 
   -- the lost states are those of a rank
-  pub lost-found : {r₀ r' : List ℕ} → Filled size.n (λ s. entry (rank P s)) r₀ r' → Agree size.n (within r' highest) (lost P)
+  pub lost_found : {r₀ r' : List ℕ} → Filled size.n (λ s. entry (rank P s)) r₀ r' → Agree size.n (within r' highest) (lost P)
   unfolding lost
-  lost-found v s l = rw (v.low s l) (entry_found (rank P s) (λ i q. omega (arith, rank-bound P s i q, states-held T, few)))
+  lost_found v s l = rw (v.low s l) (entry_found (rank P s) (λ i q. omega (arith, rank_bound P s i q, states_held T, few)))

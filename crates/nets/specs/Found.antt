@@ -5,16 +5,16 @@ use Rattle.laws.specs.Filled.{Filled}
 use Rattle.laws.specs.Lists.{tabulate, overwrite}
 use Rattle.laws.specs.Starts.{start_of}
 use Rattle.model.specs.Verdict.{rank}
-use Rattle.model.specs.Practice.{practiceFails}
+use Rattle.model.specs.Practice.{practice_fails}
 use Rattle.model.specs.Tables.{Lists, Tables}
-use Rattle.model.specs.Held.{planIn}
+use Rattle.model.specs.Held.{plan_in}
 use Rattle.choice.specs.Within.{within}
-use Rattle.propagate.specs.Net.{Net, netOf, depth, seeds}
-use Rattle.nets.specs.Nets.{oneEnd}
+use Rattle.propagate.specs.Net.{Net, net_of, depth, seeds}
+use Rattle.nets.specs.Nets.{one_end}
 
 -- a table of seeds, with the number of steps in which each state is lost, or FFFF, in their place
-abbrev pub depthTable : Net → List ℕ → List ℕ
-depthTable N ranks = overwrite (tabulate (λ (s : ℕ). entry (depth N (seeds ranks) s)) 0 N.states) ranks
+abbrev pub depth_table : Net → List ℕ → List ℕ
+depth_table N ranks = overwrite (tabulate (λ (s : ℕ). entry (depth N (seeds ranks) s)) 0 N.states) ranks
 
 -- a table with the first n entries of another
 abbrev pub copied : ℕ → List ℕ → List ℕ → List ℕ
@@ -22,8 +22,8 @@ copied n from table = overwrite (tabulate (λ (s : ℕ). get_or from s 0) 0 n) t
 
 -- the commands that count at each of n states are among its own, which start where `starts` says, the last ending at m
 pub record OwnRanges (n m : ℕ) (starts froms tos : List ℕ) : Type 0 where
-  pub long-froms : n ≤ length froms
-  pub long-tos : n ≤ length tos
+  pub long_froms : n ≤ length froms
+  pub long_tos : n ≤ length tos
   pub inside : (s : ℕ) → s < n
       → (start_of starts n m s ≤ get_or froms s 0) × (get_or froms s 0 ≤ get_or tos s 0) × (get_or tos s 0 ≤ start_of starts n m (suc s))
 
@@ -32,14 +32,14 @@ pub record OwnRanges (n m : ℕ) (starts froms tos : List ℕ) : Type 0 where
 pub record PracticeFound (n : ℕ) (C : Lists) (ranks tos fails tos' fails' : List ℕ) : Type 0 where
   pub froms : List ℕ
   pub begins : (s : ℕ) → s < n → get_or froms s 0 ≡ get_or fails s 0
-  pub stops : Filled n (λ s. oneEnd (get_or fails s 0) (get_or tos s 0)) tos tos'
-  pub failed : fails' ≡ depthTable (netOf n C froms tos') (copied n ranks fails)
+  pub stops : Filled n (λ s. one_end (get_or fails s 0) (get_or tos s 0)) tos tos'
+  pub failed : fails' ≡ depth_table (net_of n C froms tos') (copied n ranks fails)
 
 -- The rank of each state, and a number where the practice fails. In the first n places of the two tables that are worked in is left what
 -- may be.
 pub record Found (T : Tables) (ranks tos fails scratch ranks' tos' fails' scratch' : List ℕ) : Type 0 where
-  pub ranked : Filled T.size.n (λ s. entry (rank (planIn T) s)) ranks ranks'
-  pub failed : (s : ℕ) → s < T.size.n → within fails' highest s ≡ practiceFails (planIn T) s
-  pub fails-past : Filled T.size.n (λ s. get_or fails' s 0) fails fails'
-  pub tos-past : Filled T.size.n (λ s. get_or tos' s 0) tos tos'
-  pub scratch-past : Filled T.size.n (λ i. get_or scratch' i 0) scratch scratch'
+  pub ranked : Filled T.size.n (λ s. entry (rank (plan_in T) s)) ranks ranks'
+  pub failed : (s : ℕ) → s < T.size.n → within fails' highest s ≡ practice_fails (plan_in T) s
+  pub fails_past : Filled T.size.n (λ s. get_or fails' s 0) fails fails'
+  pub tos_past : Filled T.size.n (λ s. get_or tos' s 0) tos tos'
+  pub scratch_past : Filled T.size.n (λ i. get_or scratch' i 0) scratch scratch'

@@ -4,12 +4,12 @@ ghost use Rattle.laws.specs.Filled.{Filled};
 ghost use Rattle.laws.specs.Starts.{Parts};
 ghost use Rattle.model.specs.SoundTest.{sound};
 ghost use Rattle.tables.specs.Meaning.{held};
-ghost use Rattle.tables.specs.Spans.{commandsOf};
+ghost use Rattle.tables.specs.Spans.{commands_of};
 ghost use Rattle.tables.specs.Ready.{Ready};
 ghost use Rattle.index.specs.Parts.{Owned};
-ghost use Rattle.propagate.specs.Net.{netOf, Seeded, Ranges, Indexed, Owns};
+ghost use Rattle.propagate.specs.Net.{net_of, Seeded, Ranges, Indexed, Owns};
 ghost use Rattle.nets.specs.Nets.{practised, Spans, Initialized};
-ghost use Rattle.nets.specs.Found.{depthTable, OwnRanges, PracticeFound, Found};
+ghost use Rattle.nets.specs.Found.{depth_table, OwnRanges, PracticeFound, Found};
 
 use crate::ranges::{initialize_state, keep_practice};
 use index::grouping::{group, own};
@@ -60,11 +60,11 @@ pub fn index_all(
     offsets: &mut [u16],
     users: &mut [u16],
 )
-    requires ready { Ready size.n (commandsOf size firsts.now outcomes.now) }
+    requires ready { Ready size.n (commands_of size firsts.now outcomes.now) }
     requires parts { Parts starts.now size.n size.m }
     requires n_in_bounds { (size.n ≤ length starts.now)
         × ((size.m ≤ length owner.old) × ((size.n ≤ length offsets.old) × (size.t ≤ length users.old))) }
-    ensures indexed { Indexed size.n (commandsOf size firsts.now outcomes.now) offsets.new
+    ensures indexed { Indexed size.n (commands_of size firsts.now outcomes.now) offsets.new
         users.new owner.new }
     ensures owned { Owned starts.now size.n size.m owner.new }
 {
@@ -85,14 +85,14 @@ pub fn propagate_in(
     froms: &mut [u16],
     scratch: &mut [u16],
 )
-    requires ready { Ready size.n (commandsOf size firsts.now outcomes.now) }
+    requires ready { Ready size.n (commands_of size firsts.now outcomes.now) }
     requires ranges { Ranges size.n size.m tos.now }
-    requires indexed { Indexed size.n (commandsOf size firsts.now outcomes.now) offsets.now users.now owner.now }
-    requires owns { Owns (netOf size.n (commandsOf size firsts.now outcomes.now) froms.old tos.now) owner.now }
+    requires indexed { Indexed size.n (commands_of size firsts.now outcomes.now) offsets.now users.now owner.now }
+    requires owns { Owns (net_of size.n (commands_of size firsts.now outcomes.now) froms.old tos.now) owner.now }
     requires n_in_bounds { (size.n ≤ length ranks.old)
         × ((size.n ≤ length froms.old) × ((size.n ≤ length scratch.old) × Seeded size.n ranks.old)) }
     ensures ranked { ranks.new
-        ≡ depthTable (netOf size.n (commandsOf size firsts.now outcomes.now) froms.old
+        ≡ depth_table (net_of size.n (commands_of size firsts.now outcomes.now) froms.old
         tos.now) ranks.old }
     ensures queued { Filled size.n (λ i. get_or scratch.new i 0) scratch.old scratch.new }
 {
@@ -124,15 +124,15 @@ pub fn propagate_both(
     fails: &mut [u16],
     scratch: &mut [u16],
 )
-    requires ready { Ready size.n (commandsOf size firsts.now outcomes.now) }
+    requires ready { Ready size.n (commands_of size firsts.now outcomes.now) }
     requires parts { Parts froms.old size.n size.m }
     requires own_ranges { OwnRanges size.n size.m froms.old froms.old tos.old }
     requires own_ranges_2 { OwnRanges size.n size.m froms.old fails.old tos.old }
     requires n_in_bounds { (size.n ≤ length ranks.old) × (size.n ≤ length scratch.old) × Seeded size.n ranks.old }
     ensures ranked { ranks.new
-        ≡ depthTable (netOf size.n (commandsOf size firsts.now outcomes.now) froms.old
+        ≡ depth_table (net_of size.n (commands_of size firsts.now outcomes.now) froms.old
         tos.old) ranks.old }
-    ensures failed { PracticeFound size.n (commandsOf size firsts.now outcomes.now) ranks.old tos.old
+    ensures failed { PracticeFound size.n (commands_of size firsts.now outcomes.now) ranks.old tos.old
         fails.old tos.new fails.new }
     ensures queued { Filled size.n (λ i. get_or scratch.new i 0) scratch.old scratch.new }
 {

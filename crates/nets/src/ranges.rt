@@ -1,7 +1,7 @@
 // What the propagations start from, state by state.
 ghost use Rattle.std.specs.Prelude.{◌≡◌, ℕ, ◌<◌, ◌≤◌, length, get_or};
-ghost use Rattle.model.specs.File.{maxStates, maxCommands};
-ghost use Rattle.nets.specs.Nets.{practicePlace, seedOf, oneEnd, seedAgain, StateInitialized, StateKept, PracticeKept};
+ghost use Rattle.model.specs.File.{max_states, max_commands};
+ghost use Rattle.nets.specs.Nets.{practice_place, seed_of, one_end, seed_again, StateInitialized, StateKept, PracticeKept};
 
 use crate::propagations::has_practice;
 use tables::entries::{NONE, at, put};
@@ -9,8 +9,8 @@ use tables::spans::{Span, is_failing};
 
 // Where the practice stands among all commands, or where the state's commands end.
 fn practice_place(span: Span) -> usize
-    requires { (span.first ≤ span.end) × (span.end ≤ maxCommands) }
-    ensures { result ≡ practicePlace span }
+    requires { (span.first ≤ span.end) × (span.end ≤ max_commands) }
+    ensures { result ≡ practice_place span }
 {
     if !has_practice(span) {
         return span.end;
@@ -20,7 +20,7 @@ fn practice_place(span: Span) -> usize
 
 // Rank 0 at a failing state, else none.
 fn seed_of(span: Span) -> usize
-    ensures { result ≡ seedOf span }
+    ensures { result ≡ seed_of span }
 {
     if !is_failing(span) {
         return NONE;
@@ -37,7 +37,7 @@ pub fn initialize_state(
     places: &mut [u16],
     s: usize,
 )
-    requires first_le_end { (span.first ≤ span.end) × (span.end ≤ maxCommands) }
+    requires first_le_end { (span.first ≤ span.end) × (span.end ≤ max_commands) }
     requires s_in_bounds { (s < length ranks.old) × (s < length froms.old) × (s < length tos.old) × (s < length places.old) }
     ensures { StateInitialized span s ranks.old froms.old tos.old places.old
         ranks.new froms.new tos.new places.new }
@@ -50,8 +50,8 @@ pub fn initialize_state(
 
 // The end of a range that begins at `from` and has at most one command, below `to`.
 fn one_end(from: usize, to: usize) -> usize
-    requires { to ≤ maxCommands }
-    ensures { result ≡ oneEnd from to }
+    requires { to ≤ max_commands }
+    ensures { result ≡ one_end from to }
 {
     if from < to {
         return from + 1;
@@ -61,7 +61,7 @@ fn one_end(from: usize, to: usize) -> usize
 
 // A state's seed, by its rank: only where the seed is 0 is the rank 0.
 fn seed_again(rank: usize) -> usize
-    ensures { result ≡ seedAgain rank }
+    ensures { result ≡ seed_again rank }
 {
     if rank != 0 {
         return NONE;
@@ -72,7 +72,7 @@ fn seed_again(rank: usize) -> usize
 // Of the commands that count at state s, keeps the practice alone.
 fn keep_practice_at(ranks: &[u16], froms: &mut [u16], tos: &mut [u16], fails: &mut [u16], s: usize)
     requires s_in_bounds { (s < length ranks.now) × (s < length froms.old) × (s < length tos.old) × (s < length fails.old) }
-    requires s_bound { (get_or fails.old s 0 ≤ get_or tos.old s 0) × (get_or tos.old s 0 ≤ maxCommands) }
+    requires s_bound { (get_or fails.old s 0 ≤ get_or tos.old s 0) × (get_or tos.old s 0 ≤ max_commands) }
     ensures { StateKept s ranks.now froms.old tos.old fails.old
         froms.new tos.new fails.new }
 {
@@ -86,9 +86,9 @@ fn keep_practice_at(ranks: &[u16], froms: &mut [u16], tos: &mut [u16], fails: &m
 // Of the commands that count at each state, keeps the practice alone. At entry `fails` says where it stands; afterwards it has the seeds,
 // made again from the ranks.
 pub fn keep_practice(n: usize, ranks: &[u16], froms: &mut [u16], tos: &mut [u16], fails: &mut [u16])
-    requires n_le_max_states { (n ≤ maxStates)
+    requires n_le_max_states { (n ≤ max_states)
         × (n ≤ length ranks.now) × (n ≤ length froms.old) × (n ≤ length tos.old) × (n ≤ length fails.old) }
-    requires by_index { (s : ℕ) → s < n → (get_or fails.old s 0 ≤ get_or tos.old s 0) × (get_or tos.old s 0 ≤ maxCommands) }
+    requires by_index { (s : ℕ) → s < n → (get_or fails.old s 0 ≤ get_or tos.old s 0) × (get_or tos.old s 0 ≤ max_commands) }
     ensures { PracticeKept n ranks.now froms.old tos.old fails.old
         froms.new tos.new fails.new }
 {

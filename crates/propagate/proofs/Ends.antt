@@ -13,16 +13,16 @@ use Rattle.laws.specs.Entry.{FFFF, entry}
 use Rattle.laws.specs.Lists.{tabulate, overwrite}
 use Rattle.laws.specs.Sets.{lowest}
 use Rattle.laws.proofs.Tests.{clash, refute}
-use Rattle.laws.proofs.Sets.{Part, lowest-eq}
-use Rattle.laws.proofs.Grow.{grow-step, still-all}
-use Rattle.laws.proofs.Overwrites.{overwrite-is}
+use Rattle.laws.proofs.Sets.{Part, lowest_eq}
+use Rattle.laws.proofs.Grow.{grow_step, still_all}
+use Rattle.laws.proofs.Overwrites.{overwrite_is}
 use Rattle.model.specs.Tables.{Lists}
 use Rattle.tables.specs.Ready.{Ready}
-use Rattle.propagate.specs.Net.{Net, netOf, losing, netLayer, depth, seeds, Ranges, Owns}
+use Rattle.propagate.specs.Net.{Net, net_of, losing, net_layer, depth, seeds, Ranges, Owns}
 use Rattle.propagate.specs.Progress.{Progress, progress, QueueBound, AtLayer, Layered}
-use Rattle.propagate.proofs.Hits.{lose-mono}
-use Rattle.propagate.proofs.Counting.{count-le}
-use Rattle.propagate.proofs.LayerSteps.{none-waits, lost-waits}
+use Rattle.propagate.proofs.Hits.{lose_mono}
+use Rattle.propagate.proofs.Counting.{count_le}
+use Rattle.propagate.proofs.LayerSteps.{none_waits, lost_waits}
 
 -- when no state waits, the ranks are the depths
 module _ (N : Net) (R : Ready N.states N.commands) (ends : Ranges N.states N.commands.count N.tos) (K : ℕ → Bool) (k lo : ℕ)
@@ -35,34 +35,34 @@ module _ (N : Net) (R : Ready N.states N.commands) (ends : Ranges N.states N.com
   r s = get_or X.ranks s 0
 
   -- the next layer adds no state
-  still : Part n (netLayer N K (suc k)) (netLayer N K k)
-  still s h t = ⊎_elim (λ e. e) (λ e. go e (ℕ_discrete (r s) FFFF)) (grow-step (losing N) K k s t)
+  still : Part n (net_layer N K (suc k)) (net_layer N K k)
+  still s h t = ⊎_elim (λ e. e) (λ e. go e (ℕ_discrete (r s) FFFF)) (grow_step (losing N) K k s t)
     where
-      go : losing N (netLayer N K k) s ≡ true → Dec (r s ≡ FFFF) → netLayer N K k s ≡ true
-      go e (yes z) = absurd (none-waits N.commands X.queue lo X.end (get_or X.watch s 0) over
-          (lost-waits N K _ k X.end X u.towards s h e z))
+      go : losing N (net_layer N K k) s ≡ true → Dec (r s ≡ FFFF) → net_layer N K k s ≡ true
+      go e (yes z) = absurd (none_waits N.commands X.queue lo X.end (get_or X.watch s 0) over
+          (lost_waits N K _ k X.end X u.towards s h e z))
       go e (no z) = sym (u.towards.ranked k s (omega arith) h) ∙ le-leb (r s) k (u.low s h z)
 
   depth_is : (s : ℕ) → s < n → r s ≡ entry (depth N K s)
   unfolding depth entry
   depth_is s h = go (ℕ_discrete (r s) FFFF)
     where
-      go : Dec (r s ≡ FFFF) → r s ≡ entry (lowest (λ j. netLayer N K j s) (suc n))
-      go (yes z) = rw (lowest-eq (λ j. netLayer N K j s) (suc n) none (λ j l. never j)) z
+      go : Dec (r s ≡ FFFF) → r s ≡ entry (lowest (λ j. net_layer N K j s) (suc n))
+      go (yes z) = rw (lowest_eq (λ j. net_layer N K j s) (suc n) none (λ j l. never j)) z
         where
-          never : (j : ℕ) → netLayer N K j s ≡ false
+          never : (j : ℕ) → net_layer N K j s ≡ false
           never j =
-              refute (netLayer N K j s) (λ t.
-              clash (still-all (losing N) K n (lose-mono N R ends) k still j s h t)
+              refute (net_layer N K j s) (λ t.
+              clash (still_all (losing N) K n (lose_mono N R ends) k still j s h t)
               (sym (u.towards.ranked k s (omega arith) h) ∙ lt-leb (r s) k (omega arith)))
       go (no z) =
           let l : r s ≤ k = u.low s h z in
-          rw (lowest-eq (λ j. netLayer N K j s) (suc n) (some (r s)) (omega arith, here l, before l)) refl
+          rw (lowest_eq (λ j. net_layer N K j s) (suc n) (some (r s)) (omega arith, here l, before l)) refl
         where
-          here : r s ≤ k → netLayer N K (r s) s ≡ true
+          here : r s ≤ k → net_layer N K (r s) s ≡ true
           here l = sym (u.towards.ranked (r s) s l h) ∙ le-leb (r s) (r s) (omega arith)
 
-          before : r s ≤ k → (j : ℕ) → j < r s → netLayer N K j s ≡ false
+          before : r s ≤ k → (j : ℕ) → j < r s → net_layer N K j s ≡ false
           before l j g = sym (u.towards.ranked j s (omega arith) h) ∙ lt-leb (r s) j g
 
 -- The loop at layer k, from the tables r₀, w₀, q₀. As many states wait or have waited as layers are done, so there are no more than n.
@@ -71,14 +71,14 @@ pub record Going (n : ℕ) (C : Lists) (tos r₀ w₀ q₀ : List ℕ) (r w q : 
   pub layers : k ≤ lo
   pub bound : QueueBound (n) (progress r w q hi)
   pub rest : (i : ℕ) → n ≤ i → get_or r i 0 ≡ get_or r₀ i 0
-  pub at-layer : AtLayer (netOf n C w₀ tos) (seeds r₀) k lo (progress r w q hi)
+  pub at_layer : AtLayer (net_of n C w₀ tos) (seeds r₀) k lo (progress r w q hi)
   pub long : length r ≡ length r₀
   pub wlong : length w ≡ length w₀
   pub qlong : length q ≡ length q₀
 
 module _ {n : ℕ} (C : Lists) (tos r₀ w₀ : List ℕ) where
   pub going_start : (q₀ q : List ℕ) (e : ℕ) → QueueBound (n) (progress r₀ w₀ q e)
-      → AtLayer (netOf n C w₀ tos) (seeds r₀) 0 0 (progress r₀ w₀ q e)
+      → AtLayer (net_of n C w₀ tos) (seeds r₀) 0 0 (progress r₀ w₀ q e)
       → length q ≡ length q₀
       → Going n C tos r₀ w₀ q₀ r₀ w₀ q 0 e 0
   going_start q₀ q e bound u l = record {
@@ -86,17 +86,17 @@ module _ {n : ℕ} (C : Lists) (tos r₀ w₀ : List ℕ) where
     layers = omega arith;
     bound = bound;
     rest = λ i h. refl;
-    at-layer = u;
+    at_layer = u;
     long = refl;
     wlong = refl;
     qlong = l;
   }
 
   module _ (q₀ r w q : List ℕ) (lo hi k : ℕ) (v : Going n C tos r₀ w₀ q₀ r w q lo hi k) where
-    pub going-few : hi ≤ n
-    going-few = omega (arith, v.bound.few, count-le (n) r)
+    pub going_few : hi ≤ n
+    going_few = omega (arith, v.bound.few, count_le (n) r)
 
-    pub going_next : (owner : List ℕ) → Owns (netOf n C w₀ tos) owner → lo < hi → (r' w' q' : List ℕ) (e : ℕ)
+    pub going_next : (owner : List ℕ) → Owns (net_of n C w₀ tos) owner → lo < hi → (r' w' q' : List ℕ) (e : ℕ)
         → Layered n C tos owner k lo (progress r w q hi) (progress r' w' q' e)
         → length r' ≡ length r → length w' ≡ length w → length q' ≡ length q → Going n C tos r₀ w₀ q₀ r' w' q' hi e (k + 1)
     going_next owner own h r' w' q' e L lr lw lq = record {
@@ -104,16 +104,16 @@ module _ {n : ℕ} (C : Lists) (tos r₀ w₀ : List ℕ) where
       layers = omega (arith, v.layers);
       bound = L.bound;
       rest = λ i g. L.rest i g ∙ v.rest i g;
-      at-layer = L.at-layer w₀ (seeds r₀) own v.at-layer;
+      at_layer = L.at_layer w₀ (seeds r₀) own v.at_layer;
       long = lr ∙ v.long;
       wlong = lw ∙ v.wlong;
       qlong = lq ∙ v.qlong;
     }
 
     pub going_done : Ready n C → Ranges n C.count tos → n ≤ length r₀ → hi ≤ lo
-        → r ≡ overwrite (tabulate (λ (s : ℕ). entry (depth (netOf n C w₀ tos) (seeds r₀) s)) 0 (n)) r₀
+        → r ≡ overwrite (tabulate (λ (s : ℕ). entry (depth (net_of n C w₀ tos) (seeds r₀) s)) 0 (n)) r₀
     going_done R ends long h =
-        overwrite-is (λ (s : ℕ). entry (depth (netOf n C w₀ tos) (seeds r₀) s)) (n) r₀ long r v.long
-        (depth_is (netOf n C w₀ tos) R ends (seeds r₀) k lo (omega (arith, v.layers, v.order, going-few)) (progress r w q hi)
-        v.at-layer h)
+        overwrite_is (λ (s : ℕ). entry (depth (net_of n C w₀ tos) (seeds r₀) s)) (n) r₀ long r v.long
+        (depth_is (net_of n C w₀ tos) R ends (seeds r₀) k lo (omega (arith, v.layers, v.order, going_few)) (progress r w q hi)
+        v.at_layer h)
         v.rest

@@ -11,12 +11,12 @@ use lib.Dec.{eqb}
 use lib.ListN.{length, get_or}
 use Rattle.laws.specs.Starts.{start_of}
 use Rattle.laws.proofs.Tests.{or_cases, or_left, or_right}
-use Rattle.laws.proofs.Starts.{start-next}
+use Rattle.laws.proofs.Starts.{start_next}
 use Rattle.model.specs.Tables.{Lists}
-use Rattle.propagate.specs.Net.{netOf, netLayer, Ranges, Indexed}
+use Rattle.propagate.specs.Net.{net_of, net_layer, Ranges, Indexed}
 use Rattle.propagate.specs.Progress.{Progress, QueueBound, Moved, Among}
 use Rattle.propagate.proofs.Hits.{to_in}
-use Rattle.propagate.proofs.Visits.{watch-more}
+use Rattle.propagate.proofs.Visits.{watch_more}
 
 module _ {n : ℕ} (C : Lists) (tos owner : List ℕ) (k : ℕ) where
   -- nothing is looked at yet
@@ -29,9 +29,9 @@ module _ {n : ℕ} (C : Lists) (tos owner : List ℕ) (k : ℕ) where
           fresh = v.fresh;
           queued = v.queued;
           watches = λ s h e.
-              let N = netOf n C froms tos in
+              let N = net_of n C froms tos in
               let c = get_or X.watch s 0 in
-              watch-more N (netLayer N K k) G G' s c (v.watches s h e) (λ l t. left c (omega (arith, to_in N ends s h)) t (none c));
+              watch_more N (net_layer N K k) G G' s c (v.watches s h e) (λ l t. left c (omega (arith, to_in N ends s h)) t (none c));
         };
     bound = bound;
     kept = λ i g. refl;
@@ -40,10 +40,10 @@ module _ {n : ℕ} (C : Lists) (tos owner : List ℕ) (k : ℕ) where
   }
 
   -- one command more
-  pub moved-next : (D E : ℕ → Type 0) (X Y Z : Progress) (c : ℕ) → Moved n C tos owner k D X Y
+  pub moved_next : (D E : ℕ → Type 0) (X Y Z : Progress) (c : ℕ) → Moved n C tos owner k D X Y
       → Moved n C tos owner k (λ (d : ℕ). d ≡ c) Y Z
       → ((d : ℕ) → E d → D d ⊎ (d ≡ c)) → Moved n C tos owner k E X Z
-  moved-next D E X Y Z c M P sub = record {
+  moved_next D E X Y Z c M P sub = record {
     towards = λ froms K G G' hi low own left v.
         P.towards froms K (λ d. G' d || eqb d c) G' hi (omega (arith, M.more)) own (λ d l t n. drop G' d t n)
         (M.towards froms K G (λ d. G' d || eqb d c) hi low own (λ d l t n. keep G G' left d l t n (ℕ_discrete d c)) v);
@@ -64,40 +64,40 @@ module _ {n : ℕ} (C : Lists) (tos owner : List ℕ) (k : ℕ) where
 
 -- The walk over the users from place a on, at place p.
 module _ {n : ℕ} (C : Lists) (tos owner : List ℕ) (k : ℕ) (users : List ℕ) (a : ℕ) (X : Progress) where
-  pub spread-start : Ranges n C.count tos → QueueBound (n) X → Moved n C tos owner k (Among users a a) X X
-  spread-start ends bound = moved_none C tos owner k ends (Among users a a) X bound (λ c t. omega (arith, t.since, t.below))
+  pub spread_start : Ranges n C.count tos → QueueBound (n) X → Moved n C tos owner k (Among users a a) X X
+  spread_start ends bound = moved_none C tos owner k ends (Among users a a) X bound (λ c t. omega (arith, t.since, t.below))
 
-  pub spread-next : (p : ℕ) (Y Z : Progress) (c : ℕ) → c ≡ get_or users p 0 → Moved n C tos owner k (Among users a p) X Y
+  pub spread_next : (p : ℕ) (Y Z : Progress) (c : ℕ) → c ≡ get_or users p 0 → Moved n C tos owner k (Among users a p) X Y
       → Moved n C tos owner k (λ (d : ℕ). d ≡ c) Y Z → Moved n C tos owner k (Among users a (p + 1)) X Z
-  spread-next p Y Z c e M P =
-      moved-next C tos owner k (Among users a p) (Among users a (p + 1)) X Y Z c M P (λ d t. go d t (dec_lt t.place p))
+  spread_next p Y Z c e M P =
+      moved_next C tos owner k (Among users a p) (Among users a (p + 1)) X Y Z c M P (λ d t. go d t (dec_lt t.place p))
     where
       go : (d : ℕ) → (t : Among users a (p + 1) d) → Dec (t.place < p) → Among users a p d ⊎ (d ≡ c)
       go d t (yes h) = inl (record { place = t.place; since = t.since; below = h; stands = t.stands })
       go d t (no h) = let z : t.place ≡ p = omega (arith, t.below) in inr (sym t.stands ∙ rw z (sym e))
 
-  pub spread-done : (p z : ℕ) (Y : Progress) → Moved n C tos owner k (Among users a p) X Y → p ≤ z → z ≤ p → (b e : ℕ) → a ≡ b → z ≡ e
+  pub spread_done : (p z : ℕ) (Y : Progress) → Moved n C tos owner k (Among users a p) X Y → p ≤ z → z ≤ p → (b e : ℕ) → a ≡ b → z ≡ e
       → Moved n C tos owner k (Among users b e) X Y
-  spread-done p z Y M g h b e q f = let y : p ≡ e = omega arith in rw (← q, ← y) M
+  spread_done p z Y M g h b e q f = let y : p ≡ e = omega arith in rw (← q, ← y) M
 
 -- the places of a group, and the command that is read there
 module _ {n : ℕ} (C : Lists) (offsets users owner : List ℕ) (I : Indexed n C offsets users owner) (o : ℕ) (h : o < n) (a z : ℕ)
     (q : a ≡ start_of offsets (n) C.end o) (r : z ≡ start_of offsets (n) C.end (o + 1)) where
   top : z ≡ start_of offsets (n) C.end (suc o)
-  top = r ∙ start-next offsets (n) C.end o
+  top = r ∙ start_next offsets (n) C.end o
 
-  pub group-order : a ≤ z
-  group-order = omega (arith, top, I.grouped.rises o h)
+  pub group_order : a ≤ z
+  group_order = omega (arith, top, I.grouped.rises o h)
 
   module _ (p : ℕ) (g : a ≤ p) (l : p < z) where
-    pub group-place : p < length users
-    group-place = omega (arith, top, I.grouped.within o h, I.users-long)
+    pub group_place : p < length users
+    group_place = omega (arith, top, I.grouped.within o h, I.users_long)
 
-    pub group-end : p < C.end
-    group-end = omega (arith, top, I.grouped.within o h)
+    pub group_end : p < C.end
+    group_end = omega (arith, top, I.grouped.within o h)
 
-    pub group-command : (c : ℕ) → c ≡ get_or users p 0 → c < C.count
-    group-command c e = omega (arith, e, I.grouped.inside o p h (omega arith) (omega (arith, top)))
+    pub group_command : (c : ℕ) → c ≡ get_or users p 0 → c < C.count
+    group_command c e = omega (arith, e, I.grouped.inside o p h (omega arith) (omega (arith, top)))
 
-    pub group-owner : (c : ℕ) → c ≡ get_or users p 0 → (c < length owner) × (get_or owner c 0 < n)
-    group-owner c e = let m = group-command c e in (omega (arith, I.owner-long), I.inside c m)
+    pub group_owner : (c : ℕ) → c ≡ get_or users p 0 → (c < length owner) × (get_or owner c 0 < n)
+    group_owner c e = let m = group_command c e in (omega (arith, I.owner_long), I.inside c m)

@@ -13,33 +13,33 @@ use lib.ListN.{length, get_or, set}
 use lib.Seq.{get_or-set_same, get_or-set_other}
 use Rattle.laws.specs.Entry.{FFFF}
 use Rattle.laws.specs.Sets.{grow}
-use Rattle.laws.proofs.Counts.{many-yes, many-upto}
-use Rattle.laws.proofs.Defaults.{getD-inside}
+use Rattle.laws.proofs.Counts.{many_yes, many_upto}
+use Rattle.laws.proofs.Defaults.{get_or_inside}
 use Rattle.model.specs.Tables.{Lists}
 use Rattle.tables.specs.Ready.{Ready}
 use Rattle.index.proofs.Groups.{entry_in}
-use Rattle.choice.specs.Within.{commandHits}
-use Rattle.propagate.specs.Net.{Net, netOf, from, netLayer, seeds, Seeded, Ranges}
-use Rattle.propagate.specs.Progress.{progress, rankCount, QueueBound, waiting, AtLayer, SeedsQueued}
-use Rattle.propagate.proofs.Hits.{hit-some, hit-of, to_in}
-use Rattle.propagate.proofs.Counting.{has-rank, count-le}
-use Rattle.propagate.proofs.LayerSteps.{wait-of}
+use Rattle.choice.specs.Within.{command_hits}
+use Rattle.propagate.specs.Net.{Net, net_of, from, net_layer, seeds, Seeded, Ranges}
+use Rattle.propagate.specs.Progress.{progress, rank_count, QueueBound, waiting, AtLayer, SeedsQueued}
+use Rattle.propagate.proofs.Hits.{hit_some, hit_of, to_in}
+use Rattle.propagate.proofs.Counting.{has_rank, count_le}
+use Rattle.propagate.proofs.LayerSteps.{wait_of}
 
-pub seeds-start : (r q : List ℕ) → SeedsQueued r q 0 0
-seeds-start r q = record { few = omega arith; states = λ i p. absurd (omega arith); found = λ u p. absurd (omega arith) }
+pub seeds_start : (r q : List ℕ) → SeedsQueued r q 0 0
+seeds_start r q = record { few = omega arith; states = λ i p. absurd (omega arith); found = λ u p. absurd (omega arith) }
 
-pub seeds-end : (r q : List ℕ) (s e : ℕ) → SeedsQueued r q s e → e ≤ s
-seeds-end r q s e v = omega (arith, v.few, count-le s r)
+pub seeds_end : (r q : List ℕ) (s e : ℕ) → SeedsQueued r q s e → e ≤ s
+seeds_end r q s e v = omega (arith, v.few, count_le s r)
 
-pub seeds-done : (r q : List ℕ) (s e : ℕ) → SeedsQueued r q s e → (n : ℕ) → s ≤ n → n ≤ s → SeedsQueued r q n e
-seeds-done r q s e v n g h = let z : s ≡ n = omega arith in subst (λ (i : ℕ). SeedsQueued r q i e) z v
+pub seeds_done : (r q : List ℕ) (s e : ℕ) → SeedsQueued r q s e → (n : ℕ) → s ≤ n → n ≤ s → SeedsQueued r q n e
+seeds_done r q s e v n g h = let z : s ≡ n = omega arith in subst (λ (i : ℕ). SeedsQueued r q i e) z v
 
 -- the state s, of which x was read
 module _ (r q : List ℕ) (s e : ℕ) (v : SeedsQueued r q s e) (x : ℕ) (p : x ≡ get_or r s 0) where
-  pub seeds-skip : (x ≡ 0 → ⊥) → SeedsQueued r q (s + 1) e
-  unfolding rankCount
-  seeds-skip n = record {
-    few = omega (arith, v.few, many-upto (λ i. not (eqb (get_or r i 0) FFFF)) s (s + 1) (omega arith));
+  pub seeds_skip : (x ≡ 0 → ⊥) → SeedsQueued r q (s + 1) e
+  unfolding rank_count
+  seeds_skip n = record {
+    few = omega (arith, v.few, many_upto (λ i. not (eqb (get_or r i 0) FFFF)) s (s + 1) (omega arith));
     states = λ i l. omega (arith, v.states i l);
     found = λ u l z. find u l z (dec_lt u s);
   }
@@ -48,10 +48,10 @@ module _ (r q : List ℕ) (s e : ℕ) (v : SeedsQueued r q s e) (x : ℕ) (p : x
       find u l z (yes d) = v.found u d z
       find u l z (no d) = let y : u ≡ s = omega arith in absurd (n (p ∙ (rw y at z)))
 
-  pub seeds-add : x ≡ 0 → s < length q → (q' : List ℕ) → q' ≡ set q e s → SeedsQueued r q' (s + 1) (e + 1)
-  unfolding rankCount
-  seeds-add z long q' f = record {
-    few = rw (add-one s) (omega (arith, v.few, many-yes (λ i. not (eqb (get_or r i 0) FFFF)) s (has-rank (get_or r s 0) (λ y. omega arith))));
+  pub seeds_add : x ≡ 0 → s < length q → (q' : List ℕ) → q' ≡ set q e s → SeedsQueued r q' (s + 1) (e + 1)
+  unfolding rank_count
+  seeds_add z long q' f = record {
+    few = rw (add-one s) (omega (arith, v.few, many_yes (λ i. not (eqb (get_or r i 0) FFFF)) s (has_rank (get_or r s 0) (λ y. omega arith))));
     states = λ i l. state i l (dec_lt i e);
     found = λ u l y. find u l y (dec_lt u s);
   }
@@ -60,7 +60,7 @@ module _ (r q : List ℕ) (s e : ℕ) (v : SeedsQueued r q s e) (x : ℕ) (p : x
       old i l = rw f (get_or-set_other q e i s 0 (omega arith))
 
       new : get_or q' e 0 ≡ s
-      new = rw f (get_or-set_same q e s 0 (omega (arith, seeds-end r q s e v)))
+      new = rw f (get_or-set_same q e s 0 (omega (arith, seeds_end r q s e v)))
 
       state : (i : ℕ) → i < e + 1 → Dec (i < e) → get_or q' i 0 < s + 1
       state i l (yes d) = omega (arith, old i d, v.states i d)
@@ -73,10 +73,10 @@ module _ (r q : List ℕ) (s e : ℕ) (v : SeedsQueued r q s e) (x : ℕ) (p : x
 module _ {n : ℕ} (C : Lists) (R : Ready n C) (tos : List ℕ) (ends : Ranges n C.count tos) (r w q : List ℕ) (long : n ≤ length r)
     (a : Seeded (n) r) (e : ℕ) (v : SeedsQueued r q (n) e) where
   abbrev N : Net
-  N = netOf n C w tos
+  N = net_of n C w tos
 
-  pub start-bound : QueueBound (n) (progress r w q e)
-  start-bound = record { few = v.few; states = v.states }
+  pub start_bound : QueueBound (n) (progress r w q e)
+  start_bound = record { few = v.few; states = v.states }
 
   low : (s : ℕ) → s < n → (get_or r s 0 ≡ FFFF → ⊥) → get_or r s 0 ≤ 0
   low s h n = go (a.seeded s h)
@@ -85,34 +85,34 @@ module _ {n : ℕ} (C : Lists) (R : Ready n C) (tos : List ℕ) (ends : Ranges n
       go (inl z) = omega arith
       go (inr z) = absurd (n z)
 
-  zero_rank : (s : ℕ) → s < n → netLayer N (seeds r) 0 s ≡ true → get_or r s 0 ≡ 0
+  zero_rank : (s : ℕ) → s < n → net_layer N (seeds r) 0 s ≡ true → get_or r s 0 ≡ 0
   unfolding grow
-  zero_rank s h t = getD-inside r s 0 1 (omega arith) ∙ eqb-true (get_or r s 1) 0 t
+  zero_rank s h t = get_or_inside r s 0 1 (omega arith) ∙ eqb-true (get_or r s 1) 0 t
 
-  ranked : (s : ℕ) → s < n → leb (get_or r s 0) 0 ≡ netLayer N (seeds r) 0 s
+  ranked : (s : ℕ) → s < n → leb (get_or r s 0) 0 ≡ net_layer N (seeds r) 0 s
   unfolding grow
   ranked s h = go (a.seeded s h)
     where
       here : get_or r s 1 ≡ get_or r s 0
-      here = getD-inside r s 1 0 (omega arith)
+      here = get_or_inside r s 1 0 (omega arith)
 
       go : (get_or r s 0 ≡ 0) ⊎ (get_or r s 0 ≡ FFFF) → leb (get_or r s 0) 0 ≡ eqb (get_or r s 1) 0
       go (inl z) = le-leb (get_or r s 0) 0 (omega arith) ∙ sym (eq-eqb (get_or r s 1) 0 (here ∙ z))
       go (inr z) = lt-leb (get_or r s 0) 0 (omega arith) ∙ sym (ne_eqb (get_or r s 1) 0 (λ y. omega (arith, here)))
 
-  waits : (c : ℕ) → c < C.count → commandHits C (netLayer N (seeds r) 0) c ≡ true → commandHits C (waiting q 0 e) c ≡ true
+  waits : (c : ℕ) → c < C.count → command_hits C (net_layer N (seeds r) 0) c ≡ true → command_hits C (waiting q 0 e) c ≡ true
   waits c l t =
-      let (o, m, f) = hit-some C (netLayer N (seeds r) 0) c t in
+      let (o, m, f) = hit_some C (net_layer N (seeds r) 0) c t in
       let h = entry_in C R c o l m in
       let (i, b, d) = v.found o h (zero_rank o h f) in
-      hit-of C (waiting q 0 e) c o m (wait-of q 0 e o i (omega arith) b d)
+      hit_of C (waiting q 0 e) c o m (wait_of q 0 e o i (omega arith) b d)
 
   first : (s : ℕ) → from N s ≡ get_or w s 0
   unfolding from
   first s = refl
 
-  pub start-at-layer : AtLayer N (seeds r) 0 0 (progress r w q e)
-  start-at-layer = record {
+  pub start_at_layer : AtLayer N (seeds r) 0 0 (progress r w q e)
+  start_at_layer = record {
     low = low;
     towards = record {
       ranked = λ j s l h. let z : j ≡ 0 = omega arith in rw z (ranked s h);

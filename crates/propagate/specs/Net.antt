@@ -5,7 +5,7 @@ use Rattle.std.proofs.Math.Option.{Option}
 use Rattle.laws.specs.Entry.{FFFF}
 use Rattle.laws.specs.Sets.{every, lowest, grow}
 use Rattle.model.specs.Tables.{Lists}
-use Rattle.choice.specs.Within.{commandHits}
+use Rattle.choice.specs.Within.{command_hits}
 use Rattle.index.specs.Grouping.{Grouped}
 
 -- so many states, and commands with their outcomes; the commands that count at s are those from `froms` at s up to `tos` at s
@@ -15,8 +15,8 @@ pub record Net : Type 0 where
   pub froms : List ℕ
   pub tos : List ℕ
 
-abbrev pub netOf : ℕ → Lists → List ℕ → List ℕ → Net
-netOf n C froms tos = record { states = n; commands = C; froms = froms; tos = tos }
+abbrev pub net_of : ℕ → Lists → List ℕ → List ℕ → Net
+net_of n C froms tos = record { states = n; commands = C; froms = froms; tos = tos }
 
 unfoldable pub from : Net → ℕ → ℕ
 from N s = get_or N.froms s 0
@@ -26,15 +26,15 @@ to N s = get_or N.tos s 0
 
 -- s has commands that count, every one of which has an outcome in K
 unfoldable pub losing : Net → (ℕ → Bool) → ℕ → Bool
-losing N K s = ltb (from N s) (to N s) && every (λ i. commandHits N.commands K (from N s + i)) (to N s - from N s)
+losing N K s = ltb (from N s) (to N s) && every (λ i. command_hits N.commands K (from N s + i)) (to N s - from N s)
 
 -- K, and what loses by it in k steps
-abbrev pub netLayer : Net → (ℕ → Bool) → ℕ → ℕ → Bool
-netLayer N K = grow (losing N) K
+abbrev pub net_layer : Net → (ℕ → Bool) → ℕ → ℕ → Bool
+net_layer N K = grow (losing N) K
 
 -- in how many steps s is lost. No step after n adds a state, so no more are looked at.
 unfoldable pub depth : Net → (ℕ → Bool) → ℕ → Option ℕ
-depth N K s = lowest (λ k. netLayer N K k s) (suc N.states)
+depth N K s = lowest (λ k. net_layer N K k s) (suc N.states)
 
 -- the states that a table gives rank 0
 abbrev pub seeds : List ℕ → ℕ → Bool
@@ -51,9 +51,9 @@ pub record Ranges (n count : ℕ) (tos : List ℕ) : Type 0 where
 
 -- what is asked of the index: the commands that have each state as an outcome, and a state for each command
 pub record Indexed (n : ℕ) (C : Lists) (offsets users owner : List ℕ) : Type 0 where
-  pub offsets-long : n ≤ length offsets
-  pub users-long : C.end ≤ length users
-  pub owner-long : C.count ≤ length owner
+  pub offsets_long : n ≤ length offsets
+  pub users_long : C.end ≤ length users
+  pub owner_long : C.count ≤ length owner
   pub grouped : Grouped n C offsets users
   pub inside : (c : ℕ) → c < C.count → get_or owner c 0 < n
 

@@ -5,10 +5,10 @@ ghost use Rattle.std.specs.Prelude.{◌≡◌, ℕ, ◌+◌, ◌≤◌, ◌<◌,
 ghost use Rattle.laws.specs.Entry.{entry};
 ghost use Rattle.laws.specs.Lists.{tabulate, overwrite};
 ghost use Rattle.laws.specs.Starts.{start_of};
-ghost use Rattle.model.specs.File.{maxStates};
-ghost use Rattle.tables.specs.Spans.{commandsOf};
+ghost use Rattle.model.specs.File.{max_states};
+ghost use Rattle.tables.specs.Spans.{commands_of};
 ghost use Rattle.tables.specs.Ready.{Ready};
-ghost use Rattle.propagate.specs.Net.{netOf, depth, seeds, Seeded, Ranges, Indexed, Owns};
+ghost use Rattle.propagate.specs.Net.{net_of, depth, seeds, Seeded, Ranges, Indexed, Owns};
 ghost use Rattle.propagate.specs.Progress.{progress, QueueBound, Moved, Among, Layered, SeedsQueued};
 
 use choice::choosing::first_clear;
@@ -30,13 +30,13 @@ fn visit(
     end: usize,
     k: usize,
 ) -> usize
-    requires ready { Ready size.n (commandsOf size firsts.now outcomes.now) }
+    requires ready { Ready size.n (commands_of size firsts.now outcomes.now) }
     requires ranges { Ranges size.n size.m tos.now }
     requires c_in_bounds { (c < length owner.now)
         × ((get_or owner.now c 0 < size.n)
-        × ((size.n ≤ length ranks.old) × ((size.n ≤ length watch.old) × ((size.n ≤ length queue.old) × (k < maxStates))))) }
+        × ((size.n ≤ length ranks.old) × ((size.n ≤ length watch.old) × ((size.n ≤ length queue.old) × (k < max_states))))) }
     requires queue_bound { QueueBound size.n (progress ranks.old watch.old queue.old end) }
-    ensures { Moved size.n (commandsOf size firsts.now outcomes.now) tos.now owner.now
+    ensures { Moved size.n (commands_of size firsts.now outcomes.now) tos.now owner.now
         k (λ (d : ℕ). d ≡ c) (progress ranks.old watch.old queue.old end)
         (progress ranks.new watch.new queue.new result) }
 {
@@ -78,13 +78,13 @@ fn spread(
     end: usize,
     k: usize,
 ) -> usize
-    requires ready { Ready size.n (commandsOf size firsts.now outcomes.now) }
+    requires ready { Ready size.n (commands_of size firsts.now outcomes.now) }
     requires ranges { Ranges size.n size.m tos.now }
-    requires indexed { Indexed size.n (commandsOf size firsts.now outcomes.now) offsets.now users.now owner.now }
+    requires indexed { Indexed size.n (commands_of size firsts.now outcomes.now) offsets.now users.now owner.now }
     requires o_lt_n { (o < size.n)
-        × ((size.n ≤ length ranks.old) × ((size.n ≤ length watch.old) × ((size.n ≤ length queue.old) × (k < maxStates)))) }
+        × ((size.n ≤ length ranks.old) × ((size.n ≤ length watch.old) × ((size.n ≤ length queue.old) × (k < max_states)))) }
     requires queue_bound { QueueBound size.n (progress ranks.old watch.old queue.old end) }
-    ensures { Moved size.n (commandsOf size firsts.now outcomes.now) tos.now owner.now
+    ensures { Moved size.n (commands_of size firsts.now outcomes.now) tos.now owner.now
         k (Among users.now (start_of offsets.now size.n size.t o)
         (start_of offsets.now size.n size.t (o + 1)))
         (progress ranks.old watch.old queue.old end)
@@ -119,13 +119,13 @@ fn add_layer(
     hi: usize,
     k: usize,
 ) -> usize
-    requires ready { Ready size.n (commandsOf size firsts.now outcomes.now) }
+    requires ready { Ready size.n (commands_of size firsts.now outcomes.now) }
     requires ranges { Ranges size.n size.m tos.now }
-    requires indexed { Indexed size.n (commandsOf size firsts.now outcomes.now) offsets.now users.now owner.now }
+    requires indexed { Indexed size.n (commands_of size firsts.now outcomes.now) offsets.now users.now owner.now }
     requires lo_le_hi { (lo ≤ hi) × ((size.n ≤ length ranks.old)
-        × ((size.n ≤ length watch.old) × ((size.n ≤ length queue.old) × (k < maxStates)))) }
+        × ((size.n ≤ length watch.old) × ((size.n ≤ length queue.old) × (k < max_states)))) }
     requires queue_bound { QueueBound size.n (progress ranks.old watch.old queue.old hi) }
-    ensures { Layered size.n (commandsOf size firsts.now outcomes.now) tos.now
+    ensures { Layered size.n (commands_of size firsts.now outcomes.now) tos.now
         owner.now k lo (progress ranks.old watch.old queue.old hi)
         (progress ranks.new watch.new queue.new result) }
 {
@@ -143,7 +143,7 @@ fn add_layer(
 
 // The state s waits in the queue, behind those in it already, if it has rank 0.
 fn enqueue_seed(ranks: &[u16], queue: &mut [u16], s: usize, count: usize) -> usize
-    requires s_in_bounds { (s < length ranks.now) × ((s < length queue.old) × (s < maxStates)) }
+    requires s_in_bounds { (s < length ranks.now) × ((s < length queue.old) × (s < max_states)) }
     requires seeds_queued { SeedsQueued ranks.now queue.old s count }
     ensures { SeedsQueued ranks.now queue.new (s + 1) result }
 {
@@ -156,7 +156,7 @@ fn enqueue_seed(ranks: &[u16], queue: &mut [u16], s: usize, count: usize) -> usi
 
 // The states of rank 0 wait in the queue.
 fn enqueue_seeds(n: usize, ranks: &[u16], queue: &mut [u16]) -> usize
-    requires { (n ≤ maxStates) × ((n ≤ length ranks.now) × (n ≤ length queue.old)) }
+    requires { (n ≤ max_states) × ((n ≤ length ranks.now) × (n ≤ length queue.old)) }
     ensures { SeedsQueued ranks.now queue.new n result }
 {
     let mut e = 0;
@@ -182,15 +182,15 @@ pub fn propagate(
     watch: &mut [u16],
     queue: &mut [u16],
 )
-    requires ready { Ready size.n (commandsOf size firsts.now outcomes.now) }
+    requires ready { Ready size.n (commands_of size firsts.now outcomes.now) }
     requires ranges { Ranges size.n size.m tos.now }
-    requires indexed { Indexed size.n (commandsOf size firsts.now outcomes.now) offsets.now users.now owner.now }
-    requires owns { Owns (netOf size.n (commandsOf size firsts.now outcomes.now) watch.old tos.now) owner.now }
+    requires indexed { Indexed size.n (commands_of size firsts.now outcomes.now) offsets.now users.now owner.now }
+    requires owns { Owns (net_of size.n (commands_of size firsts.now outcomes.now) watch.old tos.now) owner.now }
     requires n_in_bounds { (size.n ≤ length ranks.old)
         × ((size.n ≤ length watch.old) × ((size.n ≤ length queue.old) × Seeded size.n ranks.old)) }
     ensures { ranks.new
         ≡ overwrite (tabulate (λ (s : ℕ). entry
-        (depth (netOf size.n (commandsOf size firsts.now outcomes.now) watch.old tos.now)
+        (depth (net_of size.n (commands_of size firsts.now outcomes.now) watch.old tos.now)
         (seeds ranks.old) s)) 0 size.n) ranks.old }
 {
     let mut lo = 0;

@@ -3,19 +3,19 @@ use mathlib.Core.Path.{◌≡◌, sym, ap, ◌∙◌}
 use mathlib.Core.List.{List}
 use Prim.Native.Nat.{ℕ}
 use Rattle.model.specs.Refusal.{given}
-use Rattle.model.specs.Calls.{AfterRead, readCall, afterReading}
+use Rattle.model.specs.Calls.{AfterRead, read_call, after_reading}
 use Rattle.tables.specs.declared.Size.{Size}
 use Rattle.tables.specs.declared.Row.{Row}
 use Rattle.tables.specs.Meaning.{numbers, rows_of, held}
 use Rattle.reading.specs.declared.ReadAnswer.{ReadAnswer}
 use Rattle.reading.specs.declared.ReadAnswer.TheVariants.{Given}
-use Rattle.reading.specs.Answers.{answer_of, afterRead}
+use Rattle.reading.specs.Answers.{answer_of, after_read}
 
 module _ (file : List ℕ) (rows : List Row) (firsts outcomes : List ℕ) (r : ReadAnswer) (rows' : List Row) (firsts' outcomes' : List ℕ)
-    (e : afterRead r rows' firsts' outcomes' ≡ readCall file (rows_of rows) firsts outcomes) where
-  pub answered : (z : Size) → r ≡ Given z → (readCall file (rows_of rows) firsts outcomes).answers ≡ given (numbers z)
+    (e : after_read r rows' firsts' outcomes' ≡ read_call file (rows_of rows) firsts outcomes) where
+  pub answered : (z : Size) → r ≡ Given z → (read_call file (rows_of rows) firsts outcomes).answers ≡ given (numbers z)
   answered z q = ap (λ (x : AfterRead). x.answers) (sym e) ∙ ap answer_of q
 
   -- the tables that it leaves, with a size record
-  pub leaves : (z : Size) → held z rows' firsts' outcomes' ≡ afterReading (numbers z) file (rows_of rows) firsts outcomes
+  pub leaves : (z : Size) → held z rows' firsts' outcomes' ≡ after_reading (numbers z) file (rows_of rows) firsts outcomes
   leaves z = λ i. record { size = numbers z; rows = (e i).rows; firsts = (e i).firsts; outcomes = (e i).outcomes }

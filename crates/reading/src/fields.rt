@@ -1,8 +1,8 @@
 // Each field from a mark on, in the order of rules E13 to E15: the mark past the field, or the refusal.
 ghost use Rattle.std.specs.Prelude.{◌+◌, ◌*◌, ◌<◌, ◌≤◌, length, drop};
 ghost use Rattle.model.specs.Refusal.{answer};
-ghost use Rattle.model.specs.File.{maxCommands, head, state, entries, rising, command};
-ghost use Rattle.reading.specs.Meaning.{Within, Walks, bytesFrom, headMark, afterField, afterCommand};
+ghost use Rattle.model.specs.File.{max_commands, head, state, entries, rising, command};
+ghost use Rattle.reading.specs.Meaning.{Within, Walks, bytes_from, head_mark, after_field, after_command};
 
 use crate::bytes::{Mark, number, small};
 use crate::frame::Passed;
@@ -12,7 +12,7 @@ use tables::tags::{COMMAND, HEAD, STATE};
 use tables::{Refusal, Size};
 
 pub fn read_head(file: &[u8]) -> Passed
-    ensures { Walks file.now result (answer (λ x. afterField file.now headMark 4) (head file.now)) }
+    ensures { Walks file.now result (answer (λ x. after_field file.now head_mark 4) (head file.now)) }
 {
     let f = field(file, Mark { at: 0, m: 0, t: 0 }, HEAD);
     let Passed::To(next) = f else {
@@ -34,7 +34,7 @@ pub fn read_head(file: &[u8]) -> Passed
 pub fn read_state(file: &[u8], k: Mark) -> Passed
     requires { Within file.now k }
     ensures { Walks file.now result
-        (answer (λ x. afterField file.now k 5) (state k.m (bytesFrom file.now k))) }
+        (answer (λ x. after_field file.now k 5) (state k.m (bytes_from file.now k))) }
 {
     let f = field(file, k, STATE);
     let Passed::To(next) = f else {
@@ -58,7 +58,7 @@ pub fn read_state(file: &[u8], k: Mark) -> Passed
 fn check_outcomes(file: &[u8], at: usize, n: usize, count: usize, past: Mark) -> Passed
     requires { Within file.now past × (count * 2 ≤ length (drop at file.now)) }
     ensures { Walks file.now result
-        (answer (λ x. (past.m, past.t, bytesFrom file.now past))
+        (answer (λ x. (past.m, past.t, bytes_from file.now past))
         (rising n 0 (entries count (drop at file.now)))) }
 {
     let mut low = 0;
@@ -78,9 +78,9 @@ fn check_outcomes(file: &[u8], at: usize, n: usize, count: usize, past: Mark) ->
 }
 
 pub fn read_command(file: &[u8], n: usize, k: Mark) -> Passed
-    requires { Within file.now k × (k.m < maxCommands) }
+    requires { Within file.now k × (k.m < max_commands) }
     ensures { Walks file.now result
-        (answer (afterCommand file.now k) (command n k.t (bytesFrom file.now k))) }
+        (answer (after_command file.now k) (command n k.t (bytes_from file.now k))) }
 {
     let f = field(file, k, COMMAND);
     let Passed::To(next) = f else {

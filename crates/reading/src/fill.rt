@@ -2,11 +2,11 @@
 ghost use Rattle.std.specs.Prelude.{◌≡◌, ◌+◌, ◌<◌, ◌≤◌, length, drop};
 ghost use Rattle.laws.specs.Lists.{joined};
 ghost use Rattle.laws.specs.Writes.{put_all};
-ghost use Rattle.model.specs.File.{stateValues};
-ghost use Rattle.model.specs.Tables.{allCommands, rowWith, rows_from, firstsFrom};
+ghost use Rattle.model.specs.File.{state_values};
+ghost use Rattle.model.specs.Tables.{all_commands, row_with, rows_from, firsts_from};
 ghost use Rattle.tables.specs.Meaning.{row_of, rows_of};
-ghost use Rattle.reading.specs.Meaning.{bytesFrom, moved};
-ghost use Rattle.reading.specs.Filling.{commandsIn, commandsAt, statesIn, statesMark, pastCommands, Room, StatesRoom};
+ghost use Rattle.reading.specs.Meaning.{bytes_from, moved};
+ghost use Rattle.reading.specs.Filling.{commands_in, commands_at, states_in, states_mark, past_commands, Room, StatesRoom};
 
 use crate::bytes::{Mark, byte, entry, moved, number};
 use tables::Row;
@@ -22,12 +22,12 @@ fn fill_commands(
     firsts: &mut [u16],
     outcomes: &mut [u16],
 ) -> Mark
-    requires { Room (length file.now) (length firsts.old) (length outcomes.old) from (commandsIn count (bytesFrom file.now from)) }
+    requires { Room (length file.now) (length firsts.old) (length outcomes.old) from (commands_in count (bytes_from file.now from)) }
     ensures firsts { firsts.new
-        ≡ put_all firsts.old from.m (firstsFrom from.t (commandsIn count (bytesFrom file.now from))) }
+        ≡ put_all firsts.old from.m (firsts_from from.t (commands_in count (bytes_from file.now from))) }
     ensures outcomes { outcomes.new
-        ≡ put_all outcomes.old from.t (joined (commandsIn count (bytesFrom file.now from))) }
-    ensures mark { result ≡ pastCommands from (commandsIn count (bytesFrom file.now from)) }
+        ≡ put_all outcomes.old from.t (joined (commands_in count (bytes_from file.now from))) }
+    ensures mark { result ≡ past_commands from (commands_in count (bytes_from file.now from)) }
 {
     let end = from.m + count;
     let mut at = from.at;
@@ -60,8 +60,8 @@ fn wide(x: u8) -> u16
 
 // The row of the state at a mark.
 fn row_in(file: &[u8], k: Mark) -> Row
-    requires { (7 < length (bytesFrom file.now k)) × (k.m < 65536) }
-    ensures { row_of result ≡ rowWith k.m (stateValues (bytesFrom file.now k)) }
+    requires { (7 < length (bytes_from file.now k)) × (k.m < 65536) }
+    ensures { row_of result ≡ row_with k.m (state_values (bytes_from file.now k)) }
 {
     Row {
         kind: wide(byte(file, k.at, 3)),
@@ -73,11 +73,11 @@ fn row_in(file: &[u8], k: Mark) -> Row
 // The commands of the state at a mark.
 fn fill_state(file: &[u8], k: Mark, firsts: &mut [u16], outcomes: &mut [u16]) -> Mark
     requires { (k.at + 8 ≤ length file.now)
-        × Room (length file.now) (length firsts.old) (length outcomes.old) (moved k 8) (commandsAt file.now k) }
+        × Room (length file.now) (length firsts.old) (length outcomes.old) (moved k 8) (commands_at file.now k) }
     ensures firsts { firsts.new
-        ≡ put_all firsts.old k.m (firstsFrom k.t (commandsAt file.now k)) }
-    ensures outcomes { outcomes.new ≡ put_all outcomes.old k.t (joined (commandsAt file.now k)) }
-    ensures mark { result ≡ pastCommands (moved k 8) (commandsAt file.now k) }
+        ≡ put_all firsts.old k.m (firsts_from k.t (commands_at file.now k)) }
+    ensures outcomes { outcomes.new ≡ put_all outcomes.old k.t (joined (commands_at file.now k)) }
+    ensures mark { result ≡ past_commands (moved k 8) (commands_at file.now k) }
 {
     let count = number(file, k.at, 4);
     fill_commands(file, count, moved(k, 8), firsts, outcomes)
@@ -90,14 +90,14 @@ pub fn fill_states(
     firsts: &mut [u16],
     outcomes: &mut [u16],
 )
-    requires { StatesRoom (length file.now) (length rows.old) (length firsts.old) (length outcomes.old) 0 statesMark
-        (statesIn n (drop 7 file.now)) }
+    requires { StatesRoom (length file.now) (length rows.old) (length firsts.old) (length outcomes.old) 0 states_mark
+        (states_in n (drop 7 file.now)) }
     ensures rows { rows_of rows.new
-        ≡ put_all (rows_of rows.old) 0 (rows_from 0 (statesIn n (drop 7 file.now))) }
+        ≡ put_all (rows_of rows.old) 0 (rows_from 0 (states_in n (drop 7 file.now))) }
     ensures firsts { firsts.new
-        ≡ put_all firsts.old 0 (firstsFrom 0 (allCommands (statesIn n (drop 7 file.now)))) }
+        ≡ put_all firsts.old 0 (firsts_from 0 (all_commands (states_in n (drop 7 file.now)))) }
     ensures outcomes { outcomes.new
-        ≡ put_all outcomes.old 0 (joined (allCommands (statesIn n (drop 7 file.now)))) }
+        ≡ put_all outcomes.old 0 (joined (all_commands (states_in n (drop 7 file.now)))) }
 {
     let mut k = Mark { at: 7, m: 0, t: 0 };
     let mut i = 0;

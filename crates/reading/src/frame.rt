@@ -1,8 +1,8 @@
 // The frame of a field, in the order of rule E12: three bytes are there, the tag, the length, the whole value is there.
 ghost use Rattle.std.specs.Prelude.{◌≡◌};
 ghost use Rattle.model.specs.Refusal.{answer};
-ghost use Rattle.model.specs.File.{fixedLength, allowed, field};
-ghost use Rattle.reading.specs.Meaning.{Within, Walks, bytesFrom, afterField};
+ghost use Rattle.model.specs.File.{fixed_length, allowed, field};
+ghost use Rattle.reading.specs.Meaning.{Within, Walks, bytes_from, after_field};
 
 use crate::bytes::{Mark, byte, moved, number, remaining};
 use tables::Refusal;
@@ -16,7 +16,7 @@ pub enum Passed {
 }
 
 fn fixed_length(tag: u8) -> usize
-    ensures { result ≡ fixedLength tag }
+    ensures { result ≡ fixed_length tag }
 {
     if tag == HEAD {
         return 4;
@@ -43,7 +43,7 @@ fn allowed(tag: u8, len: usize) -> bool
 pub fn check_frame(file: &[u8], k: Mark, due: u8) -> Passed
     requires { Within file.now k }
     ensures { Walks file.now result
-        (answer (afterField file.now k) (field due (bytesFrom file.now k))) }
+        (answer (after_field file.now k) (field due (bytes_from file.now k))) }
 {
     let left = remaining(file, k.at);
     if left < 3 {

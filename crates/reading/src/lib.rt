@@ -1,8 +1,8 @@
 // Reading a plan file into lent tables.
 ghost use Rattle.std.specs.Prelude.{◌≡◌};
-ghost use Rattle.model.specs.Calls.{readCall};
+ghost use Rattle.model.specs.Calls.{read_call};
 ghost use Rattle.tables.specs.Meaning.{rows_of};
-ghost use Rattle.reading.specs.Answers.{afterRead};
+ghost use Rattle.reading.specs.Answers.{after_read};
 
 use tables::admission::long_enough;
 use tables::{Refusal, Row, Size};
@@ -24,8 +24,8 @@ pub enum ReadAnswer {
 // Reads a file into lent tables. A refusal leaves each table as it was. Ruled out: refusing a file that can be read, and answering a size
 // record while a table is not written.
 pub fn read(file: &[u8], rows: &mut [Row], firsts: &mut [u16], outcomes: &mut [u16]) -> ReadAnswer
-    ensures call { afterRead result rows.new firsts.new outcomes.new
-        ≡ readCall file.now (rows_of rows.old) firsts.old outcomes.old }
+    ensures call { after_read result rows.new firsts.new outcomes.new
+        ≡ read_call file.now (rows_of rows.old) firsts.old outcomes.old }
 {
     let s = scan::scan(file);
     let ReadAnswer::Given(size) = s else {

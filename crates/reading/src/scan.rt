@@ -1,9 +1,9 @@
 // The judging pass: it writes nothing.
 ghost use Rattle.std.specs.Prelude.{◌≡◌, ◌+◌, ◌≤◌};
 ghost use Rattle.model.specs.Refusal.{answer};
-ghost use Rattle.model.specs.File.{maxCommands, commands, states, read};
+ghost use Rattle.model.specs.File.{max_commands, commands, states, read};
 ghost use Rattle.model.specs.Tables.{tables_of};
-ghost use Rattle.reading.specs.Meaning.{Within, Walks, bytesFrom, afterCommands, afterStates, afterFile};
+ghost use Rattle.reading.specs.Meaning.{Within, Walks, bytes_from, after_commands, after_states, after_file};
 ghost use Rattle.reading.specs.Answers.{answer_of};
 
 use crate::ReadAnswer;
@@ -15,9 +15,9 @@ use tables::tags::END;
 use tables::{Refusal, Size};
 
 fn scan_commands(file: &[u8], n: usize, count: usize, from: Mark) -> Passed
-    requires { Within file.now from × (from.m + count ≤ maxCommands) }
+    requires { Within file.now from × (from.m + count ≤ max_commands) }
     ensures { Walks file.now result
-        (answer (afterCommands from.m) (commands n count from.t (bytesFrom file.now from))) }
+        (answer (after_commands from.m) (commands n count from.t (bytes_from file.now from))) }
 {
     let end = from.m + count;
     let mut k = from;
@@ -34,7 +34,7 @@ fn scan_commands(file: &[u8], n: usize, count: usize, from: Mark) -> Passed
 fn scan_states(file: &[u8], n: usize, from: Mark) -> Passed
     requires { Within file.now from }
     ensures { Walks file.now result
-        (answer (afterStates from.m from.t) (states n n from.m from.t (bytesFrom file.now from))) }
+        (answer (after_states from.m from.t) (states n n from.m from.t (bytes_from file.now from))) }
 {
     let mut k = from;
     let mut i = 0;
@@ -55,7 +55,7 @@ fn scan_states(file: &[u8], n: usize, from: Mark) -> Passed
 
 // The whole file.
 fn judge(file: &[u8]) -> Passed
-    ensures { Walks file.now result (answer afterFile (read file.now)) }
+    ensures { Walks file.now result (answer after_file (read file.now)) }
 {
     let h = read_head(file);
     let Passed::To(first) = h else {

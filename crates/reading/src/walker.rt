@@ -2,7 +2,7 @@
 ghost use Rattle.std.specs.Prelude.{◌≡◌};
 ghost use Rattle.model.specs.Refusal.{answer};
 ghost use Rattle.model.specs.File.{field};
-ghost use Rattle.reading.specs.Meaning.{Within, Walks, bytesFrom, afterField};
+ghost use Rattle.reading.specs.Meaning.{Within, Walks, bytes_from, after_field};
 
 use crate::bytes::Mark;
 use crate::frame::{Passed, check_frame};
@@ -23,7 +23,7 @@ fn walker_at<'a>(file: &'a [u8], k: Mark) -> FieldWalker<'a>
 fn next<'a>(w: FieldWalker<'a>, due: u8) -> Passed
     requires { Within w.file.now w.mark }
     ensures { Walks w.entry.file.now result
-        (answer (afterField w.entry.file.now w.entry.mark) (field due (bytesFrom w.entry.file.now w.entry.mark))) }
+        (answer (after_field w.entry.file.now w.entry.mark) (field due (bytes_from w.entry.file.now w.entry.mark))) }
 {
     check_frame(w.file, w.mark, due)
 }
@@ -32,7 +32,7 @@ fn next<'a>(w: FieldWalker<'a>, due: u8) -> Passed
 pub fn field(file: &[u8], k: Mark, due: u8) -> Passed
     requires { Within file.now k }
     ensures { Walks file.now result
-        (answer (afterField file.now k) (field due (bytesFrom file.now k))) }
+        (answer (after_field file.now k) (field due (bytes_from file.now k))) }
 {
     next(walker_at(file, k), due)
 }

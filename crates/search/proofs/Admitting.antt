@@ -6,31 +6,31 @@ use borrow.Author.Tests.{le-leb, lt-leb}
 use Rattle.model.specs.Refusal.{Cramped, Unsound, Stranger, given, refused}
 use Rattle.model.specs.Tables.{Tables}
 use Rattle.model.specs.SoundTest.{sound}
-use Rattle.model.specs.Held.{planIn}
+use Rattle.model.specs.Held.{plan_in}
 use Rattle.model.specs.Search.{search}
 use Rattle.model.specs.Calls.{searching}
 use Rattle.model.proofs.StateCalls as calls
 
 module _ (T : Tables) (start commands scratch : ℕ) {t : Bool} {n : ℕ} where
-  pub denies-unsound : not t ≡ true → t ≡ sound T → n ≡ T.size.n → searching T start commands scratch ≡ refused Unsound
-  denies-unsound h e k = calls.searching-tests T start commands scratch ∙ calls.denies-unsound T start Cramped _ _ h e k
+  pub denies_unsound : not t ≡ true → t ≡ sound T → n ≡ T.size.n → searching T start commands scratch ≡ refused Unsound
+  denies_unsound h e k = calls.searching_tests T start commands scratch ∙ calls.denies_unsound T start Cramped _ _ h e k
 
   module _ (h : not t ≡ false) where
-    pub denies-stranger : n ≤ start → t ≡ sound T → n ≡ T.size.n → searching T start commands scratch ≡ refused Stranger
-    denies-stranger l e k = calls.searching-tests T start commands scratch ∙ calls.denies-stranger T start Cramped _ _ h l e k
+    pub denies_stranger : n ≤ start → t ≡ sound T → n ≡ T.size.n → searching T start commands scratch ≡ refused Stranger
+    denies_stranger l e k = calls.searching_tests T start commands scratch ∙ calls.denies_stranger T start Cramped _ _ h l e k
 
     module _ (l : start < n) where
-      pub denies-commands : commands < n → t ≡ sound T → n ≡ T.size.n → searching T start commands scratch ≡ refused Cramped
-      denies-commands c e k =
-          calls.searching-tests T start commands scratch ∙ calls.denies-own T start Cramped _ _ h l (rw (← k, lt-leb n commands c)) e k
+      pub denies_commands : commands < n → t ≡ sound T → n ≡ T.size.n → searching T start commands scratch ≡ refused Cramped
+      denies_commands c e k =
+          calls.searching_tests T start commands scratch ∙ calls.denies_own T start Cramped _ _ h l (rw (← k, lt-leb n commands c)) e k
 
       module _ (lc : n ≤ commands) where
-        pub denies-scratch : scratch < n → t ≡ sound T → n ≡ T.size.n → searching T start commands scratch ≡ refused Cramped
-        denies-scratch s e k =
-            calls.searching-tests T start commands scratch
-            ∙ calls.denies-own T start Cramped _ _ h l (rw (← k, le-leb n commands lc, lt-leb n scratch s)) e k
+        pub denies_scratch : scratch < n → t ≡ sound T → n ≡ T.size.n → searching T start commands scratch ≡ refused Cramped
+        denies_scratch s e k =
+            calls.searching_tests T start commands scratch
+            ∙ calls.denies_own T start Cramped _ _ h l (rw (← k, le-leb n commands lc, lt-leb n scratch s)) e k
 
-        pub grants : n ≤ scratch → t ≡ sound T → n ≡ T.size.n → searching T start commands scratch ≡ given (search (planIn T) start)
+        pub grants : n ≤ scratch → t ≡ sound T → n ≡ T.size.n → searching T start commands scratch ≡ given (search (plan_in T) start)
         grants s e k =
-            calls.searching-tests T start commands scratch
+            calls.searching_tests T start commands scratch
             ∙ calls.grants T start Cramped _ _ h l (rw (← k, le-leb n commands lc, le-leb n scratch s)) e k

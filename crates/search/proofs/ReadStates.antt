@@ -9,31 +9,31 @@ use lib.Dec.{eqb}
 use borrow.Author.Tests.{ne_eqb}
 use Rattle.laws.specs.Sets.{found}
 use Rattle.laws.specs.Entry.{FFFF, entry}
-use Rattle.laws.proofs.TestFacts.{ltb-gap}
+use Rattle.laws.proofs.TestFacts.{ltb_gap}
 use Rattle.model.specs.Plan.{ordinary, failing, active}
 use Rattle.model.specs.Tables.{Tables}
-use Rattle.model.specs.Places.{firstCommand, commandCount}
-use Rattle.model.specs.Held.{planIn}
-use Rattle.model.proofs.HeldPlan.{kind-held, commands-held}
-use Rattle.tables.specs.Spans.{spanAt}
-use Rattle.tables.proofs.SpanFacts.{span-failing}
-use Rattle.search.specs.Marks.{activeSpan, startFlag, startEnd}
+use Rattle.model.specs.Places.{first_command, command_count}
+use Rattle.model.specs.Held.{plan_in}
+use Rattle.model.proofs.HeldPlan.{kind_held, commands_held}
+use Rattle.tables.specs.Spans.{span_at}
+use Rattle.tables.proofs.SpanFacts.{span_failing}
+use Rattle.search.specs.Marks.{active_span, start_flag, start_end}
 
 module _ (T : Tables) (s : ℕ) (l : s < T.size.n) where
-  pub span-active : activeSpan (spanAt T s) ≡ active (planIn T) s
-  unfolding activeSpan active ordinary commandCount
-  span-active = rw (kind-held T s l, commands-held T s l, add-one s, ltb-gap (firstCommand T s) _)
+  pub span_active : active_span (span_at T s) ≡ active (plan_in T) s
+  unfolding active_span active ordinary command_count
+  span_active = rw (kind_held T s l, commands_held T s l, add-one s, ltb_gap (first_command T s) _)
 
-  pub start-flag-is : startFlag (spanAt T s) ≡ cond (failing (planIn T) s) 0 1
-  unfolding startFlag
-  start-flag-is = rw (span-failing T s l)
+  pub start_flag_is : start_flag (span_at T s) ≡ cond (failing (plan_in T) s) 0 1
+  unfolding start_flag
+  start_flag_is = rw (span_failing T s l)
 
-  pub start-end-is : startEnd (spanAt T s) ≡ cond (active (planIn T) s) 2 (cond (failing (planIn T) s) 1 0)
-  unfolding startEnd
-  start-end-is = rw (span-active, span-failing T s l)
+  pub start_end_is : start_end (span_at T s) ≡ cond (active (plan_in T) s) 2 (cond (failing (plan_in T) s) 1 0)
+  unfolding start_end
+  start_end_is = rw (span_active, span_failing T s l)
 
 -- an entry FFFF is no command's
-pub entry-none : (o : Option ℕ) → ((c : ℕ) → o ≡ some c → c < FFFF) → eqb (entry o) FFFF ≡ not (found o)
+pub entry_none : (o : Option ℕ) → ((c : ℕ) → o ≡ some c → c < FFFF) → eqb (entry o) FFFF ≡ not (found o)
 unfolding entry found
-entry-none none h = refl
-entry-none (some c) h = ne_eqb c FFFF (λ z. omega (arith, h c refl))
+entry_none none h = refl
+entry_none (some c) h = ne_eqb c FFFF (λ z. omega (arith, h c refl))

@@ -9,43 +9,43 @@ use lib.Seq.{get_or-set_other}
 use Rattle.laws.specs.Entry.{FFFF}
 use Rattle.laws.specs.Filled.{Filled}
 use Rattle.model.specs.Plan.{Plan}
-use Rattle.model.specs.Tables.{Tables, listsIn}
+use Rattle.model.specs.Tables.{Tables, lists_in}
 use Rattle.model.specs.SoundTest.{sound}
-use Rattle.model.specs.Held.{planIn}
-use Rattle.model.proofs.HeldPlan.{states-held}
-use Rattle.model.proofs.Valid.{sound-valid}
+use Rattle.model.specs.Held.{plan_in}
+use Rattle.model.proofs.HeldPlan.{states_held}
+use Rattle.model.proofs.Valid.{sound_valid}
 use Rattle.tables.specs.declared.spans.Span.{Span}
-use Rattle.tables.specs.Spans.{spanAt}
+use Rattle.tables.specs.Spans.{span_at}
 use Rattle.choice.specs.Order.{alone}
 use Rattle.walks.specs.Flags.{known_in}
 use Rattle.walks.specs.Queued.{Queued}
 use Rattle.walks.specs.Spread.{Spread}
-use Rattle.walks.proofs.FlagValues.{walked-value}
-use Rattle.walks.proofs.Spreads.{flag-reached, flag-past, spread-known}
+use Rattle.walks.proofs.FlagValues.{walked_value}
+use Rattle.walks.proofs.Spreads.{flag_reached, flag_past, spread_known}
 use Rattle.search.specs.Past.{Past}
-use Rattle.search.specs.Marks.{markedAt, noneLeft, lowerOf}
+use Rattle.search.specs.Marks.{marked_at, none_left, lower_of}
 use Rattle.search.specs.Underway.{Underway}
 use Rattle.search.specs.Walked.{Expanded, Lowest, Walked}
 use Rattle.search.specs.Tried.{Tried, Retried}
-use Rattle.search.proofs.Trying.{tried-more, tried-next}
-use Rattle.search.proofs.WalkSteps.{underway-expanded}
-use Rattle.search.proofs.Lowering.{marked-left, lowest_start, lowest-next}
+use Rattle.search.proofs.Trying.{tried_more, tried_next}
+use Rattle.search.proofs.WalkSteps.{underway_expanded}
+use Rattle.search.proofs.Lowering.{marked_left, lowest_start, lowest_next}
 
-pub past-none : {n : ℕ} {l : List ℕ} → Past n l l
-past-none = record { same = refl; low = λ x k. refl; high = λ x k. refl }
+pub past_none : {n : ℕ} {l : List ℕ} → Past n l l
+past_none = record { same = refl; low = λ x k. refl; high = λ x k. refl }
 
-pub past-then : {n : ℕ} {l₁ l₂ l₃ : List ℕ} → Past n l₁ l₂ → Past n l₂ l₃ → Past n l₁ l₃
-past-then v w = record { same = w.same ∙ v.same; low = λ x k. refl; high = λ x k. w.high x k ∙ v.high x k }
+pub past_then : {n : ℕ} {l₁ l₂ l₃ : List ℕ} → Past n l₁ l₂ → Past n l₂ l₃ → Past n l₁ l₃
+past_then v w = record { same = w.same ∙ v.same; low = λ x k. refl; high = λ x k. w.high x k ∙ v.high x k }
 
-pub past-filled : {n : ℕ} {f : ℕ → ℕ} {l₀ l : List ℕ} → Filled n f l₀ l → Past n l₀ l
-past-filled w = record { same = w.same; low = λ x k. refl; high = w.high }
+pub past_filled : {n : ℕ} {f : ℕ → ℕ} {l₀ l : List ℕ} → Filled n f l₀ l → Past n l₀ l
+past_filled w = record { same = w.same; low = λ x k. refl; high = w.high }
 
-pub past-spread : {n q : ℕ} {X : ℕ → Bool} {mark : ℕ} {s u : List ℕ} {q' : ℕ} {s' u' : List ℕ} → Spread n q X mark s u q' s' u'
+pub past_spread : {n q : ℕ} {X : ℕ → Bool} {mark : ℕ} {s u : List ℕ} {q' : ℕ} {s' u' : List ℕ} → Spread n q X mark s u q' s' u'
     → Past n s s'
-past-spread v = record { same = v.same_flags; low = λ x k. refl; high = flag-past v }
+past_spread v = record { same = v.same_flags; low = λ x k. refl; high = flag_past v }
 
-past-set : {n : ℕ} {l₀ l : List ℕ} (x v : ℕ) → x < n → Past n l₀ l → (l' : List ℕ) → l' ≡ set l x v → Past n l₀ l'
-past-set {l = l} x v k w l' e = rw e (record {
+past_set : {n : ℕ} {l₀ l : List ℕ} (x v : ℕ) → x < n → Past n l₀ l → (l' : List ℕ) → l' ≡ set l x v → Past n l₀ l'
+past_set {l = l} x v k w l' e = rw e (record {
   same = length-set l x v ∙ w.same;
   low = λ y m. refl;
   high = λ y m. get_or-set_other l x y v 0 (λ z. omega arith) ∙ w.high y m;
@@ -53,7 +53,7 @@ past-set {l = l} x v k w l' e = rw e (record {
 
 -- no state before place h is marked
 abbrev pub Clear : Plan → (ℕ → Bool) → ℕ → List ℕ → Type 0
-Clear P K h u = (i : ℕ) → i < h → noneLeft P K (get_or u i 0) ≡ false
+Clear P K h u = (i : ℕ) → i < h → none_left P K (get_or u i 0) ≡ false
 
 -- `from`, `reached`, c₀, s₀, u₀ and t₀ are as when the loop begins
 pub record Walking (P : Plan) (n from reached : ℕ) (c₀ s₀ u₀ t₀ : List ℕ) (h q low : ℕ) (cs s u t : List ℕ) : Type 0 where
@@ -62,7 +62,7 @@ pub record Walking (P : Plan) (n from reached : ℕ) (c₀ s₀ u₀ t₀ : List
   pub commands : Past n c₀ cs
   pub flags : Past n s₀ s
   pub same_queue : length u ≡ length u₀
-  pub same-tried : length t ≡ length t₀
+  pub same_tried : length t ≡ length t₀
   pub goes : (K : ℕ → Bool) (a : ℕ) → Underway P n K a from reached c₀ s₀ u₀ → Clear P K from u₀
       → Underway P n K a h q cs s u × Lowest P K low h s u
 
@@ -71,63 +71,63 @@ pub walking_start : (P : Plan) {n from reached : ℕ} {c₀ s₀ u₀ t₀ : Lis
 walking_start P L v = record {
   queued = L;
   tried = v;
-  commands = past-none;
-  flags = past-none;
+  commands = past_none;
+  flags = past_none;
   same_queue = refl;
-  same-tried = refl;
+  same_tried = refl;
   goes = λ K a d clear. (d, lowest_start clear);
 }
 
 module _ (T : Tables) (sounds : sound T ≡ true) {from reached : ℕ} {c₀ s₀ u₀ t₀ : List ℕ} {h q low : ℕ} {cs s u t : List ℕ}
-    (w : Walking (planIn T) T.size.n from reached c₀ s₀ u₀ t₀ h q low cs s u t) where
+    (w : Walking (plan_in T) T.size.n from reached c₀ s₀ u₀ t₀ h q low cs s u t) where
   -- the next state of the queue was gone on from
   module _ (k : h < q) (x : ℕ) (p : x ≡ get_or u h 0) (long : T.size.n ≤ length cs) {q' : ℕ} {cs' s' u' : List ℕ}
-      (g : Expanded (planIn T) T.size.n q x (h + 2) cs s u q' cs' s' u') (span : Span) (is : span ≡ spanAt T x)
-      (v : ℕ) (e : v ≡ lowerOf (markedAt span cs' s' x) (get_or s' x 0) low) where
+      (g : Expanded (plan_in T) T.size.n q x (h + 2) cs s u q' cs' s' u') (span : Span) (is : span ≡ span_at T x)
+      (v : ℕ) (e : v ≡ lower_of (marked_at span cs' s' x) (get_or s' x 0) low) where
     state : x < T.size.n
     state = rw p (w.queued.states h k)
 
     here : get_or u' h 0 ≡ x
     here = g.spreads.kept h k ∙ sym p
 
-    flag-stays : (i : ℕ) → i < h → get_or s' (get_or u' i 0) 0 ≡ get_or s (get_or u i 0) 0
-    flag-stays i m = rw (g.spreads.kept i (omega arith)) (flag-reached g.spreads (get_or u i 0) (w.queued.placed i (omega arith)))
+    flag_stays : (i : ℕ) → i < h → get_or s' (get_or u' i 0) 0 ≡ get_or s (get_or u i 0) 0
+    flag_stays i m = rw (g.spreads.kept i (omega arith)) (flag_reached g.spreads (get_or u i 0) (w.queued.placed i (omega arith)))
 
-    module _ (K : ℕ → Bool) (a : ℕ) (d : Underway (planIn T) T.size.n K a h q cs s u) (lowest : Lowest (planIn T) K low h s u) where
-      next : Underway (planIn T) T.size.n K a (h + 1) q' cs' s' u'
-      next = underway-expanded d (sound-valid T sounds) (states-held T) k x p long g
+    module _ (K : ℕ → Bool) (a : ℕ) (d : Underway (plan_in T) T.size.n K a h q cs s u) (lowest : Lowest (plan_in T) K low h s u) where
+      next : Underway (plan_in T) T.size.n K a (h + 1) q' cs' s' u'
+      next = underway_expanded d (sound_valid T sounds) (states_held T) k x p long g
 
-      left : markedAt span cs' s' x ≡ noneLeft (planIn T) K x
+      left : marked_at span cs' s' x ≡ none_left (plan_in T) K x
       left =
-          ap (λ (t : Span). markedAt t cs' s' x) is
-          ∙ marked-left T sounds K x state cs' s' (rw here at (next.queued.placed h (omega (arith, next.ahead))))
+          ap (λ (t : Span). marked_at t cs' s' x) is
+          ∙ marked_left T sounds K x state cs' s' (rw here at (next.queued.placed h (omega (arith, next.ahead))))
           (rw here at (next.took h (omega arith)))
 
-      lowest-then : Lowest (planIn T) K v (h + 1) s' u'
-      lowest-then =
-          lowest-next lowest s' u' (λ i m. g.spreads.kept i (omega arith)) flag-stays x here
-          (walked-value s' x (rw here at (next.queued.placed h (omega (arith, next.ahead))))) _ left v e
+      lowest_then : Lowest (plan_in T) K v (h + 1) s' u'
+      lowest_then =
+          lowest_next lowest s' u' (λ i m. g.spreads.kept i (omega arith)) flag_stays x here
+          (walked_value s' x (rw here at (next.queued.placed h (omega (arith, next.ahead))))) _ left v e
 
-    pub walking-next : {t' : List ℕ} → Retried (alone (listsIn T) span) (known_in s) x t t' → length t' ≡ length t
-        → Walking (planIn T) T.size.n from reached c₀ s₀ u₀ t₀ (h + 1) q' v cs' s' u' t'
-    walking-next y z = record {
+    pub walking_next : {t' : List ℕ} → Retried (alone (lists_in T) span) (known_in s) x t t' → length t' ≡ length t
+        → Walking (plan_in T) T.size.n from reached c₀ s₀ u₀ t₀ (h + 1) q' v cs' s' u' t'
+    walking_next y z = record {
       queued = g.spreads.queued;
-      tried = tried-more (λ r b. spread-known g.spreads (omega arith) r ∙ b) (tried-next T x state span is y z w.tried);
-      commands = past-set x _ state w.commands cs' g.took;
-      flags = past-then w.flags (past-spread g.spreads);
+      tried = tried_more (λ r b. spread_known g.spreads (omega arith) r ∙ b) (tried_next T x state span is y z w.tried);
+      commands = past_set x _ state w.commands cs' g.took;
+      flags = past_then w.flags (past_spread g.spreads);
       same_queue = g.spreads.same_queue ∙ w.same_queue;
-      same-tried = z ∙ w.same-tried;
-      goes = λ K a d clear. let (now, lowest) = w.goes K a d clear in (next K a now lowest, lowest-then K a now lowest);
+      same_tried = z ∙ w.same_tried;
+      goes = λ K a d clear. let (now, lowest) = w.goes K a d clear in (next K a now lowest, lowest_then K a now lowest);
     }
 
   -- all are gone on from
-  pub walking-done : q ≤ h → (K : ℕ → Bool) (a : ℕ) → Underway (planIn T) T.size.n K a from reached c₀ s₀ u₀
-      → Clear (planIn T) K from u₀
-      → Walked (planIn T) T.size.n K a (record { reached = q; low = low }) cs s u
-  walking-done z K a d clear =
+  pub walking_done : q ≤ h → (K : ℕ → Bool) (a : ℕ) → Underway (plan_in T) T.size.n K a from reached c₀ s₀ u₀
+      → Clear (plan_in T) K from u₀
+      → Walked (plan_in T) T.size.n K a (record { reached = q; low = low }) cs s u
+  walking_done z K a d clear =
       let (now, lowest) = w.goes K a d clear in
       let e : h ≡ q = omega (arith, now.ahead) in
       record {
-        done = subst (λ i. Underway (planIn T) T.size.n K a i q cs s u) e now;
-        lowest = subst (λ i. Lowest (planIn T) K low i s u) e lowest;
+        done = subst (λ i. Underway (plan_in T) T.size.n K a i q cs s u) e now;
+        lowest = subst (λ i. Lowest (plan_in T) K low i s u) e lowest;
       }

@@ -5,29 +5,29 @@ use Rattle.laws.specs.Entry.{FFFF}
 use Rattle.model.specs.Plan.{Plan, active}
 use Rattle.model.specs.Command.{choice}
 use Rattle.tables.specs.declared.spans.Span.{Span}
-use Rattle.tables.specs.Spans.{failingSpan}
-use Rattle.walks.specs.Flags.{walkedIn}
+use Rattle.tables.specs.Spans.{failing_span}
+use Rattle.walks.specs.Flags.{walked_in}
 
 -- an ordinary state with commands
-unfoldable pub activeSpan : Span → Bool
-activeSpan q = eqb q.kind 0 && ltb q.first q.end
+unfoldable pub active_span : Span → Bool
+active_span q = eqb q.kind 0 && ltb q.first q.end
 
 -- before the first round: the failing states are known
-unfoldable pub startFlag : Span → ℕ
-startFlag q = cond (failingSpan q) 0 1
+unfoldable pub start_flag : Span → ℕ
+start_flag q = cond (failing_span q) 0 1
 
 -- 2 where rounds are to be walked, else the verdict: 1 lost, 0 safe
-unfoldable pub startEnd : Span → ℕ
-startEnd q = cond (activeSpan q) 2 (cond (failingSpan q) 1 0)
+unfoldable pub start_end : Span → ℕ
+start_end q = cond (active_span q) 2 (cond (failing_span q) 1 0)
 
 -- the walk reached s, which has commands, and took none of them
-unfoldable pub markedAt : Span → List ℕ → List ℕ → ℕ → Bool
-markedAt q commands flags s = walkedIn flags s && activeSpan q && eqb (get_or commands s 0) FFFF
+unfoldable pub marked_at : Span → List ℕ → List ℕ → ℕ → Bool
+marked_at q commands flags s = walked_in flags s && active_span q && eqb (get_or commands s 0) FFFF
 
 -- x has commands and none of them is left: where a walk reaches x, it is marked
-unfoldable pub noneLeft : Plan → (ℕ → Bool) → ℕ → Bool
-noneLeft P K x = active P x && not (found (choice P K x))
+unfoldable pub none_left : Plan → (ℕ → Bool) → ℕ → Bool
+none_left P K x = active P x && not (found (choice P K x))
 
 -- the lower of `low` and the place that the flag of a marked state tells
-unfoldable pub lowerOf : Bool → ℕ → ℕ → ℕ
-lowerOf marked flag low = cond (marked && ltb (flag - 2) low) (flag - 2) low
+unfoldable pub lower_of : Bool → ℕ → ℕ → ℕ
+lower_of marked flag low = cond (marked && ltb (flag - 2) low) (flag - 2) low

@@ -18,4 +18,4 @@ pub record Settled (q' q : ℕ) (M : ℕ → Bool) (queue commands flags command
   pub kept : (y : ℕ) → ((i : ℕ) → q' ≤ i → i < q → get_or queue i 0 ≡ y → ⊥)
       → (get_or flags' y 0 ≡ get_or flags y 0) × (get_or commands' y 0 ≡ get_or commands y 0)
   pub same_flags : length flags' ≡ length flags
-  pub same-commands : length commands' ≡ length commands
+  pub same_commands : length commands' ≡ length commands

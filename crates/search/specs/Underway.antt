@@ -6,7 +6,7 @@ use Rattle.laws.specs.Entry.{FFFF, entry}
 use Rattle.model.specs.Plan.{Plan}
 use Rattle.model.specs.Command.{choice}
 use Rattle.model.specs.Search.{lands}
-use Rattle.walks.specs.Flags.{known_in, walkedIn}
+use Rattle.walks.specs.Flags.{known_in, walked_in}
 use Rattle.walks.specs.Queued.{Queued}
 
 -- y is an outcome of the command taken at place i of the queue, where one is taken
@@ -19,12 +19,12 @@ pub record Underway (P : Plan) (n : ℕ) (K : ℕ → Bool) (a h q : ℕ) (comma
   pub ahead : h ≤ q
   pub known : (y : ℕ) → y < n → known_in flags y ≡ K y
   pub start : get_or queue 0 0 ≡ a
-  pub start-flag : get_or flags a 0 ≡ 2
+  pub start_flag_lem : get_or flags a 0 ≡ 2
   -- each further state was reached from an earlier place
   pub from : (i : ℕ) → 0 < i → i < q
       → (j : ℕ) × (j < i) × (j < h) × (get_or flags (get_or queue i 0) 0 ≡ j + 2) × (leads P K queue j (get_or queue i 0) ≡ true)
   -- and from the first place that leads there; closed, but for the places that are still to be gone on from
-  pub closed : (j y : ℕ) → j < h → leads P K queue j y ≡ true → (walkedIn flags y ≡ true) × (get_or flags y 0 ≤ j + 2)
+  pub closed : (j y : ℕ) → j < h → leads P K queue j y ≡ true → (walked_in flags y ≡ true) × (get_or flags y 0 ≤ j + 2)
   pub rising : (i j : ℕ) → i < j → j < q → get_or flags (get_or queue i 0) 0 ≤ get_or flags (get_or queue j 0) 0
   pub took : (i : ℕ) → i < h → get_or commands (get_or queue i 0) 0 ≡ entry (choice P K (get_or queue i 0))
-  pub blank : (x : ℕ) → x < n → walkedIn flags x ≡ false → get_or commands x 0 ≡ FFFF
+  pub blank : (x : ℕ) → x < n → walked_in flags x ≡ false → get_or commands x 0 ≡ FFFF

@@ -7,7 +7,7 @@ use Rattle.model.specs.Search.{lands}
 use Rattle.walks.specs.Flags.{known_in}
 use Rattle.walks.specs.Spread.{Spread}
 use Rattle.search.specs.declared.walk.Progress.{Progress}
-use Rattle.search.specs.Marks.{noneLeft}
+use Rattle.search.specs.Marks.{none_left}
 use Rattle.search.specs.Underway.{Underway}
 
 -- the walk went on from s: it took the command there, and that command's outcomes into the walk
@@ -17,8 +17,8 @@ pub record Expanded (P : Plan) (n q s mark : ℕ) (commands flags queue : List �
 
 -- `low` is the lowest place from which a marked state among the first h of the queue was reached, and FFFF if none of them is marked
 pub record Lowest (P : Plan) (K : ℕ → Bool) (low h : ℕ) (flags queue : List ℕ) : Type 0 where
-  pub each : (i : ℕ) → i < h → noneLeft P K (get_or queue i 0) ≡ true → low + 2 ≤ get_or flags (get_or queue i 0) 0
-  pub one : (low ≡ FFFF) ⊎ ((i : ℕ) × (i < h) × (noneLeft P K (get_or queue i 0) ≡ true) × (get_or flags (get_or queue i 0) 0 ≡ low + 2))
+  pub each : (i : ℕ) → i < h → none_left P K (get_or queue i 0) ≡ true → low + 2 ≤ get_or flags (get_or queue i 0) 0
+  pub one : (low ≡ FFFF) ⊎ ((i : ℕ) × (i < h) × (none_left P K (get_or queue i 0) ≡ true) × (get_or flags (get_or queue i 0) 0 ≡ low + 2))
 
 -- the walk from a is done
 pub record Walked (P : Plan) (n : ℕ) (K : ℕ → Bool) (a : ℕ) (r : Progress) (commands flags queue : List ℕ) : Type 0 where

@@ -1,10 +1,10 @@
 // The search from one start: the start's verdict, and the commands that hold it, without deciding the whole plan.
 ghost use Rattle.std.specs.Prelude.{◌≡◌, Bool, ℕ};
 ghost use Rattle.model.specs.Refusal.{given};
-ghost use Rattle.model.specs.Calls.{searchCall};
+ghost use Rattle.model.specs.Calls.{search_call};
 ghost use Rattle.model.specs.Demand3.{SearchDemand3};
 ghost use Rattle.tables.specs.Meaning.{held};
-ghost use Rattle.search.specs.Answers.{answer_of, afterSearch};
+ghost use Rattle.search.specs.Answers.{answer_of, after_search};
 
 use tables::admission::Admission;
 use tables::{Refusal, Row, Size};
@@ -41,7 +41,7 @@ pub fn search(
     scratch: &mut [u16],
 ) -> SearchAnswer
     ensures call { let T = held size rows.now firsts.now outcomes.now in
-        afterSearch result commands.new scratch.new ≡ searchCall T start commands.old scratch.old }
+        after_search result commands.new scratch.new ≡ search_call T start commands.old scratch.old }
     ensures demand3 { let T = held size rows.now firsts.now outcomes.now in
         (lost : Bool) (rounds : ℕ) → answer_of result ≡ given (lost, rounds) → SearchDemand3 T start lost rounds commands.new }
 {

@@ -3,9 +3,9 @@ ghost use Rattle.std.specs.Prelude.{◌≡◌, cond, List, ℕ, ◌+◌, ◌<◌
 ghost use Rattle.laws.specs.Entry.{FFFF};
 ghost use Rattle.laws.specs.Filled.{Filled};
 ghost use Rattle.tables.specs.Meaning.{held};
-ghost use Rattle.tables.specs.Spans.{spanAt};
+ghost use Rattle.tables.specs.Spans.{span_at};
 ghost use Rattle.walks.specs.Queued.{Queued};
-ghost use Rattle.search.specs.Marks.{activeSpan, startFlag, startEnd, markedAt};
+ghost use Rattle.search.specs.Marks.{active_span, start_flag, start_end, marked_at};
 ghost use Rattle.search.specs.Settled.{Cut, Settled};
 
 use tables::entries::{NONE, at, put};
@@ -14,7 +14,7 @@ use tables::{Row, Size};
 
 // Whether the state is ordinary and has commands.
 fn has_commands(span: Span) -> bool
-    ensures { result ≡ activeSpan span }
+    ensures { result ≡ active_span span }
 {
     if span.kind != 0 {
         return false;
@@ -23,7 +23,7 @@ fn has_commands(span: Span) -> bool
 }
 
 fn start_flag(span: Span) -> usize
-    ensures { (result ≡ startFlag span) × (result < 65536) }
+    ensures { (result ≡ start_flag span) × (result < 65536) }
 {
     if !is_failing(span) {
         return 1;
@@ -33,7 +33,7 @@ fn start_flag(span: Span) -> usize
 
 // What is known of the start before the first round: 1 lost, 0 safe, 2 neither.
 pub fn start_end(start: Span) -> usize
-    ensures { result ≡ startEnd start }
+    ensures { result ≡ start_end start }
 {
     if has_commands(start) {
         return 2;
@@ -48,7 +48,7 @@ pub fn start_end(start: Span) -> usize
 pub fn start_known(size: Size, rows: &[Row], scratch: &mut [u16])
     requires { (size.n ≤ length rows.now) × (size.n ≤ length scratch.old) }
     ensures { (F O : List ℕ)
-        → Filled size.n (λ s. startFlag (spanAt (held size rows.now F O) s)) scratch.old scratch.new }
+        → Filled size.n (λ s. start_flag (span_at (held size rows.now F O) s)) scratch.old scratch.new }
 {
     let mut s = 0;
     while s < size.n {
@@ -61,7 +61,7 @@ pub fn start_known(size: Size, rows: &[Row], scratch: &mut [u16])
 // Whether state s is marked: the walk reached it and took none of the commands that it has.
 pub fn is_marked(span: Span, commands: &[u16], scratch: &[u16], s: usize) -> bool
     requires { (s < length commands.now) × (s < length scratch.now) }
-    ensures { result ≡ markedAt span commands.now scratch.now s }
+    ensures { result ≡ marked_at span commands.now scratch.now s }
 {
     if at(scratch, s) < 2 {
         return false;
@@ -93,7 +93,7 @@ fn settle_one(span: Span, commands: &mut [u16], scratch: &mut [u16], s: usize)
     requires { (s < length commands.old) × (s < length scratch.old) }
     ensures commands_after { commands.new ≡ set commands.old s FFFF }
     ensures scratch_after { scratch.new
-        ≡ set scratch.old s (cond (markedAt span commands.old scratch.old s) 0 1) }
+        ≡ set scratch.old s (cond (marked_at span commands.old scratch.old s) 0 1) }
 {
     let marked = is_marked(span, commands, scratch, s);
     put(commands, s, NONE);
@@ -119,7 +119,7 @@ pub fn settle(
     requires from_le_reached { from ≤ reached }
     requires queued { Queued size.n reached scratch.old queue.now }
     ensures { (F O : List ℕ)
-        → Settled from reached (λ x. markedAt (spanAt (held size rows.now F O) x) commands.old scratch.old
+        → Settled from reached (λ x. marked_at (span_at (held size rows.now F O) x) commands.old scratch.old
         x) queue.now commands.old scratch.old commands.new scratch.new }
 {
     let mut i = from;

@@ -1,6 +1,6 @@
 // The rounds of the search.
 ghost use Rattle.std.specs.Prelude.{◌≡◌, ℕ, ◌<◌, ◌≤◌, length, get_or};
-ghost use Rattle.model.specs.Held.{planIn};
+ghost use Rattle.model.specs.Held.{plan_in};
 ghost use Rattle.tables.specs.Meaning.{held};
 ghost use Rattle.search.specs.Prepared.{Prepared};
 ghost use Rattle.search.specs.Ends.{end_of, Finished, Answered};
@@ -59,7 +59,7 @@ pub fn walk_rounds(
 ) -> Found
     requires prepared { Prepared size rows.now firsts.now outcomes.now commands.old scratch.old queue.old }
     requires start_lt_n { (start < size.n) × (size.n ≤ length tried.old) × ((s : ℕ) → s < size.n → get_or tried.old s 0 ≡ 0) }
-    ensures { Answered (planIn (held size rows.now firsts.now outcomes.now)) size.n start
+    ensures { Answered (plan_in (held size rows.now firsts.now outcomes.now)) size.n start
         commands.old scratch.old result commands.new scratch.new }
 {
     fill(commands, size.n, NONE);

@@ -6,10 +6,10 @@ ghost use Rattle.std.specs.Prelude.{◌≡◌, Bool, true, false, List, ℕ, ◌
 ghost use Rattle.laws.specs.Entry.{entry};
 ghost use Rattle.model.specs.Command.{choice};
 ghost use Rattle.model.specs.SoundTest.{sound};
-ghost use Rattle.model.specs.Held.{planIn};
+ghost use Rattle.model.specs.Held.{plan_in};
 ghost use Rattle.tables.specs.declared.Row.{Row};
 ghost use Rattle.tables.specs.Meaning.{held};
-ghost use Rattle.tables.specs.Spans.{spanAt, commandsOf};
+ghost use Rattle.tables.specs.Spans.{span_at, commands_of};
 ghost use Rattle.tables.specs.Seen.{Seen};
 ghost use Rattle.tables.specs.Ready.{Ready};
 ghost use Rattle.choice.specs.Order.{alone, AllHit};
@@ -17,7 +17,7 @@ ghost use Rattle.walks.specs.Flags.{known_in};
 ghost use Rattle.walks.specs.Queued.{Queued};
 ghost use Rattle.search.specs.Prepared.{Prepared};
 ghost use Rattle.search.specs.Past.{Past};
-ghost use Rattle.search.specs.Marks.{markedAt, lowerOf, noneLeft};
+ghost use Rattle.search.specs.Marks.{marked_at, lower_of, none_left};
 ghost use Rattle.search.specs.Underway.{Underway};
 ghost use Rattle.search.specs.Walked.{Expanded, Walked};
 ghost use Rattle.search.specs.Tried.{Tried, Retried};
@@ -40,7 +40,7 @@ pub struct Progress {
 // The lower of `low` and the place from which s was reached, if s is marked.
 fn lower(span: Span, commands: &[u16], scratch: &[u16], s: usize, low: usize) -> usize
     requires { (s < length commands.now) × (s < length scratch.now) }
-    ensures { result ≡ lowerOf (markedAt span commands.now scratch.now s) (get_or scratch.now s 0) low }
+    ensures { result ≡ lower_of (marked_at span commands.now scratch.now s) (get_or scratch.now s 0) low }
 {
     if !is_marked(span, commands, scratch, s) {
         return low;
@@ -63,14 +63,14 @@ fn take(
     tried: &mut [u16],
     s: usize,
 ) -> usize
-    requires ready { Ready size.n (commandsOf size firsts.now outcomes.now) }
+    requires ready { Ready size.n (commands_of size firsts.now outcomes.now) }
     requires seen { Seen size firsts.now outcomes.now s span }
     requires n_in_bounds { (size.n ≤ length scratch.now) × (s < length tried.old) }
-    requires all_hit { AllHit (alone (commandsOf size firsts.now outcomes.now) span) (known_in scratch.now) 0 (get_or tried.old s 0) }
+    requires all_hit { AllHit (alone (commands_of size firsts.now outcomes.now) span) (known_in scratch.now) 0 (get_or tried.old s 0) }
     ensures value { (R : List Row) → sound (held size R firsts.now outcomes.now) ≡ true → span
-        ≡ spanAt (held size R firsts.now outcomes.now) s → result
-        ≡ entry (choice (planIn (held size R firsts.now outcomes.now)) (known_in scratch.now) s) }
-    ensures retried { Retried (alone (commandsOf size firsts.now outcomes.now) span) (known_in scratch.now) s
+        ≡ span_at (held size R firsts.now outcomes.now) s → result
+        ≡ entry (choice (plan_in (held size R firsts.now outcomes.now)) (known_in scratch.now) s) }
+    ensures retried { Retried (alone (commands_of size firsts.now outcomes.now) span) (known_in scratch.now) s
         tried.old tried.new }
 {
     let from = at(tried, s);
@@ -93,18 +93,18 @@ fn expand(
     s: usize,
     mark: usize,
 ) -> usize
-    requires ready { Ready size.n (commandsOf size firsts.now outcomes.now) }
+    requires ready { Ready size.n (commands_of size firsts.now outcomes.now) }
     requires seen { Seen size firsts.now outcomes.now s span }
     requires n_in_bounds { (size.n ≤ length commands.old) × (size.n ≤ length scratch.old) × (size.n ≤ length queue.old) × (2 ≤ mark)
         × (mark < 65536) }
     requires queued { Queued size.n q scratch.old queue.old }
     requires s_in_bounds { s < length tried.old }
-    requires all_hit { AllHit (alone (commandsOf size firsts.now outcomes.now) span) (known_in scratch.old) 0 (get_or tried.old s 0) }
+    requires all_hit { AllHit (alone (commands_of size firsts.now outcomes.now) span) (known_in scratch.old) 0 (get_or tried.old s 0) }
     ensures expanded { (R : List Row) → sound (held size R firsts.now outcomes.now) ≡ true → span
-        ≡ spanAt (held size R firsts.now outcomes.now) s
-        → Expanded (planIn (held size R firsts.now outcomes.now)) size.n q s mark commands.old
+        ≡ span_at (held size R firsts.now outcomes.now) s
+        → Expanded (plan_in (held size R firsts.now outcomes.now)) size.n q s mark commands.old
         scratch.old queue.old result commands.new scratch.new queue.new }
-    ensures retried { Retried (alone (commandsOf size firsts.now outcomes.now) span) (known_in scratch.old) s
+    ensures retried { Retried (alone (commands_of size firsts.now outcomes.now) span) (known_in scratch.old) s
         tried.old tried.new }
 {
     let c = take(size, span, firsts, outcomes, scratch, tried, s);
@@ -134,18 +134,18 @@ pub fn walk(
 ) -> Progress
     requires prepared { Prepared size rows.now firsts.now outcomes.now commands.old scratch.old queue.old }
     requires queued { Queued size.n reached scratch.old queue.old }
-    requires tried { Tried (planIn (held size rows.now firsts.now outcomes.now)) size.n (known_in scratch.old) tried.old }
+    requires tried { Tried (plan_in (held size rows.now firsts.now outcomes.now)) size.n (known_in scratch.old) tried.old }
     ensures past { Past size.n commands.old commands.new }
     ensures past_2 { Past size.n scratch.old scratch.new }
     ensures queued_2 { Queued size.n result.reached scratch.new queue.new }
-    ensures tried_2 { Tried (planIn (held size rows.now firsts.now outcomes.now)) size.n
+    ensures tried_2 { Tried (plan_in (held size rows.now firsts.now outcomes.now)) size.n
         (known_in scratch.new) tried.new }
     ensures by_index { (K : ℕ → Bool) (a : ℕ)
-        → Underway (planIn (held size rows.now firsts.now outcomes.now)) size.n K a from reached
+        → Underway (plan_in (held size rows.now firsts.now outcomes.now)) size.n K a from reached
         commands.old scratch.old queue.old
-        → ((i : ℕ) → i < from → noneLeft (planIn (held size rows.now firsts.now outcomes.now)) K
+        → ((i : ℕ) → i < from → none_left (plan_in (held size rows.now firsts.now outcomes.now)) K
         (get_or queue.old i 0) ≡ false)
-        → Walked (planIn (held size rows.now firsts.now outcomes.now)) size.n K a result
+        → Walked (plan_in (held size rows.now firsts.now outcomes.now)) size.n K a result
         commands.new scratch.new queue.new }
 {
     let mut q = reached;

@@ -3,7 +3,7 @@ ghost use Rattle.std.specs.Prelude.{◌≡◌, [], ◌∷◌, ◌+◌, ◌*◌, 
 ghost use Rattle.laws.specs.Entry.{two};
 ghost use Rattle.laws.specs.Lists.{overwrite};
 ghost use Rattle.laws.specs.Writes.{put_all};
-ghost use Rattle.model.specs.Boundary.{bytesFor, rowEntries, sizeEntries, entryBytes, rowBytes, sizeBytes};
+ghost use Rattle.model.specs.Boundary.{bytes_for, row_entries, size_entries, entry_bytes, row_bytes, size_bytes};
 ghost use Rattle.tables.specs.Meaning.{numbers, row_of, rows_of};
 
 use tables::entries::narrow;
@@ -21,8 +21,8 @@ pub fn store_entry(bytes: &mut [u8], i: usize, x: u16)
 
 // Stores the first n entries of a table.
 pub fn store(table: &[u16], bytes: &mut [u8], n: usize)
-    requires { (n ≤ length table.now) × (n * entryBytes ≤ length bytes.old) }
-    ensures { bytes.new ≡ overwrite (bytesFor (take n table.now)) bytes.old }
+    requires { (n ≤ length table.now) × (n * entry_bytes ≤ length bytes.old) }
+    ensures { bytes.new ≡ overwrite (bytes_for (take n table.now)) bytes.old }
 {
     let mut i = 0;
     while i < n {
@@ -33,8 +33,8 @@ pub fn store(table: &[u16], bytes: &mut [u8], n: usize)
 
 // Stores the row of state s.
 fn store_row(row: Row, bytes: &mut [u8], s: usize)
-    requires { s * rowBytes + rowBytes ≤ length bytes.old }
-    ensures { bytes.new ≡ put_all bytes.old (s * rowBytes) (bytesFor (rowEntries (row_of row ∷ []))) }
+    requires { s * row_bytes + row_bytes ≤ length bytes.old }
+    ensures { bytes.new ≡ put_all bytes.old (s * row_bytes) (bytes_for (row_entries (row_of row ∷ []))) }
 {
     let from = s * ROW_ENTRIES;
     store_entry(bytes, from, row.kind);
@@ -44,8 +44,8 @@ fn store_row(row: Row, bytes: &mut [u8], s: usize)
 
 // Stores the first n rows of a table.
 pub fn store_rows(rows: &[Row], bytes: &mut [u8], n: usize)
-    requires { (n ≤ length rows.now) × (n * rowBytes ≤ length bytes.old) }
-    ensures { bytes.new ≡ overwrite (bytesFor (rowEntries (take n (rows_of rows.now)))) bytes.old }
+    requires { (n ≤ length rows.now) × (n * row_bytes ≤ length bytes.old) }
+    ensures { bytes.new ≡ overwrite (bytes_for (row_entries (take n (rows_of rows.now)))) bytes.old }
 {
     let mut s = 0;
     while s < n {
@@ -57,8 +57,8 @@ pub fn store_rows(rows: &[Row], bytes: &mut [u8], n: usize)
 
 // Stores a size record: n, m, t, start.
 pub fn store_size(size: Size, bytes: &mut [u8])
-    requires { (sizeBytes ≤ length bytes.old) × (size.n < 65536) × (size.m < 65536) × (size.t < 65536) × (size.start < 65536) }
-    ensures { bytes.new ≡ overwrite (bytesFor (sizeEntries (numbers size))) bytes.old }
+    requires { (size_bytes ≤ length bytes.old) × (size.n < 65536) × (size.m < 65536) × (size.t < 65536) × (size.start < 65536) }
+    ensures { bytes.new ≡ overwrite (bytes_for (size_entries (numbers size))) bytes.old }
 {
     store_entry(bytes, 0, narrow(size.n));
     store_entry(bytes, 1, narrow(size.m));

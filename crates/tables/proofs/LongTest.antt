@@ -7,7 +7,7 @@ use lib.Dec.{leb}
 use lib.ListN.{length, length-map}
 use borrow.Author.Tests.{leb-true}
 use Rattle.laws.proofs.Tests.{and_both}
-use Rattle.model.specs.SoundTest.{tablesLong}
+use Rattle.model.specs.SoundTest.{tables_long}
 use Rattle.tables.specs.declared.Size.{Size}
 use Rattle.tables.specs.declared.Row.{Row}
 use Rattle.tables.specs.Meaning.{row_of, held}
@@ -16,10 +16,10 @@ use Rattle.tables.specs.Meaning.{row_of, held}
 pub rows_long : (R : List Row) (n : ℕ) → n ≤ length (map row_of R) → n ≤ length R
 rows_long R n h = subst (λ (k : ℕ). n ≤ k) (length-map R row_of) h
 
-pub all-long : (z : Size) (R : List Row) (F O : List ℕ) → tablesLong (held z R F O) ≡ true
+pub all_long : (z : Size) (R : List Row) (F O : List ℕ) → tables_long (held z R F O) ≡ true
     → (z.n ≤ length R) × (z.m ≤ length F) × (z.t ≤ length O)
-unfolding tablesLong
-all-long z R F O h =
+unfolding tables_long
+all_long z R F O h =
     let rows = leb z.n (length (map row_of R)) in
     let firsts = leb z.m (length F) in
     let three = and_both (rows && firsts) _ h in

@@ -8,5 +8,5 @@ abbrev pub width : ℕ
 width = (mem T.the_row).size
 
 -- a row's place fits
-pub place-fits : (i n : ℕ) → i < n → n * width < 2 ^ 63 → i * width < 2 ^ 64
-place-fits i n l g = omega (arith, l, g)
+pub place_fits : (i n : ℕ) → i < n → n * width < 2 ^ 63 → i * width < 2 ^ 64
+place_fits i n l g = omega (arith, l, g)

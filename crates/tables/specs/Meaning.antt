@@ -32,25 +32,25 @@ sized n m t start = record { n = n; m = m; t = t; start = start }
 abbrev pub numbers : Size → ModelSize
 numbers z = record { n = z.n; m = z.m; t = z.t; start = z.start }
 
-abbrev pub refusalOf : Refusal → ModelRefusal
-refusalOf Cut = ModelRefusal.Cut
-refusalOf Surplus = ModelRefusal.Surplus
-refusalOf Tag = ModelRefusal.Tag
-refusalOf Length = ModelRefusal.Length
-refusalOf Beyond = ModelRefusal.Beyond
-refusalOf Unsorted = ModelRefusal.Unsorted
-refusalOf Idle = ModelRefusal.Idle
-refusalOf Limit = ModelRefusal.Limit
-refusalOf Cramped = ModelRefusal.Cramped
-refusalOf Unsound = ModelRefusal.Unsound
-refusalOf Stranger = ModelRefusal.Stranger
-refusalOf Moves = ModelRefusal.Moves
-refusalOf Seconds = ModelRefusal.Seconds
-refusalOf Doubtful = ModelRefusal.Doubtful
-refusalOf Departures = ModelRefusal.Departures
-refusalOf Chambers = ModelRefusal.Chambers
-refusalOf Report = ModelRefusal.Report
-refusalOf Grant = ModelRefusal.Grant
+abbrev pub refusal_of : Refusal → ModelRefusal
+refusal_of Cut = ModelRefusal.Cut
+refusal_of Surplus = ModelRefusal.Surplus
+refusal_of Tag = ModelRefusal.Tag
+refusal_of Length = ModelRefusal.Length
+refusal_of Beyond = ModelRefusal.Beyond
+refusal_of Unsorted = ModelRefusal.Unsorted
+refusal_of Idle = ModelRefusal.Idle
+refusal_of Limit = ModelRefusal.Limit
+refusal_of Cramped = ModelRefusal.Cramped
+refusal_of Unsound = ModelRefusal.Unsound
+refusal_of Stranger = ModelRefusal.Stranger
+refusal_of Moves = ModelRefusal.Moves
+refusal_of Seconds = ModelRefusal.Seconds
+refusal_of Doubtful = ModelRefusal.Doubtful
+refusal_of Departures = ModelRefusal.Departures
+refusal_of Chambers = ModelRefusal.Chambers
+refusal_of Report = ModelRefusal.Report
+refusal_of Grant = ModelRefusal.Grant
 
 abbrev pub row_of : Row → ModelRow
 row_of r = record { kind = r.kind; first = r.first; practice = r.practice }

@@ -1,12 +1,12 @@
 // The parts of the test for sound tables.
 ghost use Rattle.std.specs.Prelude.{◌≡◌, List, ℕ, ◌<◌, ◌≤◌, ◌+◌, ◌-◌, leb, length};
 ghost use Rattle.laws.specs.Sets.{every};
-ghost use Rattle.model.specs.SoundTest.{sizeSound, tablesLong, rowSound, after, listsSound};
+ghost use Rattle.model.specs.SoundTest.{size_sound, tables_long, row_sound, after, lists_sound};
 ghost use Rattle.tables.specs.declared.Row.{Row};
 ghost use Rattle.tables.specs.Meaning.{held, numbers};
-ghost use Rattle.tables.specs.Spans.{spanSound};
-ghost use Rattle.tables.specs.Ready.{listTable};
-ghost use Rattle.tables.specs.Lasts.{listBelow};
+ghost use Rattle.tables.specs.Spans.{span_sound};
+ghost use Rattle.tables.specs.Ready.{list_table};
+ghost use Rattle.tables.specs.Lasts.{list_below};
 
 use crate::admission::long_enough;
 use crate::entries::start_of;
@@ -15,7 +15,7 @@ use crate::spans::{Span, not_idle, span_at};
 use crate::{Row, Size};
 
 pub fn size_sound(size: Size) -> bool
-    ensures { result ≡ sizeSound (numbers size) }
+    ensures { result ≡ size_sound (numbers size) }
 {
     if size.n < 1 {
         return false;
@@ -34,13 +34,13 @@ pub fn size_sound(size: Size) -> bool
 
 // No table is too short: `rows` says how many rows there are.
 pub fn long(size: Size, rows: usize, firsts: &[u16], outcomes: &[u16]) -> bool
-    ensures { (R : List Row) → rows ≡ length R → result ≡ tablesLong (held size R firsts.now outcomes.now) }
+    ensures { (R : List Row) → rows ≡ length R → result ≡ tables_long (held size R firsts.now outcomes.now) }
 {
     long_enough(size, rows, firsts.len(), outcomes.len())
 }
 
 fn span_sound(span: Span, m: usize) -> bool
-    ensures { result ≡ spanSound span m }
+    ensures { result ≡ span_sound span m }
 {
     if span.end < span.first {
         return false;
@@ -56,7 +56,7 @@ fn span_sound(span: Span, m: usize) -> bool
 
 pub fn rows_sound(size: Size, rows: &[Row]) -> bool
     requires { size.n ≤ length rows.now }
-    ensures { (F O : List ℕ) → result ≡ every (rowSound (held size rows.now F O)) size.n }
+    ensures { (F O : List ℕ) → result ≡ every (row_sound (held size rows.now F O)) size.n }
 {
     let mut s = 0;
     while s < size.n {
@@ -90,7 +90,7 @@ fn list_sound(
     i: usize,
 ) -> bool
     requires { (count ≤ length firsts.now) × (end ≤ length entries.now) × (i < count) }
-    ensures { result ≡ listBelow least n (listTable count end firsts.now entries.now) i }
+    ensures { result ≡ list_below least n (list_table count end firsts.now entries.now) i }
 {
     let from = start_of(firsts, count, end, i);
     let to = start_of(firsts, count, end, i + 1);
@@ -112,7 +112,7 @@ fn each_list_sound(
     entries: &[u16],
 ) -> bool
     requires { (count ≤ length firsts.now) × (end ≤ length entries.now) }
-    ensures { result ≡ every (listBelow least n (listTable count end firsts.now entries.now)) count }
+    ensures { result ≡ every (list_below least n (list_table count end firsts.now entries.now)) count }
 {
     let mut i = 0;
     while i < count {
@@ -134,7 +134,7 @@ pub fn lists_sound(
     entries: &[u16],
 ) -> bool
     requires { (count ≤ length firsts.now) × (end ≤ length entries.now) }
-    ensures { result ≡ listsSound least n (listTable count end firsts.now entries.now) }
+    ensures { result ≡ lists_sound least n (list_table count end firsts.now entries.now) }
 {
     if start_of(firsts, count, end, 0) != 0 {
         return false;

@@ -2,7 +2,7 @@
 ghost use Rattle.std.specs.Prelude.{◌≡◌, List, ℕ, ◌+◌, ◌*◌, ◌<◌, ◌≤◌, length, get_or, set};
 ghost use Rattle.laws.specs.Filled.{Filled, FilledRange};
 ghost use Rattle.laws.specs.Starts.{start_of};
-ghost use Rattle.model.specs.Places.{firstOutcome};
+ghost use Rattle.model.specs.Places.{first_outcome};
 ghost use Rattle.tables.specs.declared.Row.{Row};
 ghost use Rattle.tables.specs.Meaning.{held};
 
@@ -87,7 +87,7 @@ pub fn start_of(starts: &[u16], count: usize, end: usize, i: usize) -> usize
 // Where the outcomes of command c begin; for c = m, where the last ones end.
 pub fn first_outcome(size: Size, firsts: &[u16], c: usize) -> usize
     requires { size.m ≤ length firsts.now }
-    ensures { (R : List Row) (O : List ℕ) → result ≡ firstOutcome (held size R firsts.now O) c }
+    ensures { (R : List Row) (O : List ℕ) → result ≡ first_outcome (held size R firsts.now O) c }
 {
     start_of(firsts, size.m, size.t, c)
 }

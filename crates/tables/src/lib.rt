@@ -1,6 +1,6 @@
 // The plan in memory: the size record, the refusals, and the test for sound tables.
 ghost use Rattle.std.specs.Prelude.{◌≡◌, true, ◌↔◌};
-ghost use Rattle.tables.specs.Meaning.{sized, refusalOf, held};
+ghost use Rattle.tables.specs.Meaning.{sized, refusal_of, held};
 ghost use Rattle.model.specs.Refusal.{number};
 ghost use Rattle.model.specs.Sound.{Sound};
 ghost use Rattle.model.specs.SoundTest.{sound};
@@ -85,7 +85,7 @@ pub enum Refusal {
 
 // The number of a refusal. Ruled out: one number for two refusals, and a number that is not the specification's.
 pub fn number(r: Refusal) -> u32
-    ensures numbered { result ≡ number (refusalOf r) }
+    ensures numbered { result ≡ number (refusal_of r) }
 {
     match r {
         Refusal::Cut => 1,

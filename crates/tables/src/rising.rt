@@ -1,15 +1,15 @@
 // Entries of a table that rise. Only the planner's own crates call this.
 ghost use Rattle.std.specs.Prelude.{◌≡◌, ◌<◌, ◌≤◌, ◌+◌, ◌-◌, length};
 ghost use Rattle.laws.specs.Sets.{every};
-ghost use Rattle.model.specs.SoundTest.{risesAt};
-ghost use Rattle.tables.specs.Lasts.{risesBelow};
+ghost use Rattle.model.specs.SoundTest.{rises_at};
+ghost use Rattle.tables.specs.Lasts.{rises_below};
 
 use crate::entries::at;
 
 // The entries at the k + 1 places from `from` on rise.
 fn rises(entries: &[u16], from: usize, k: usize) -> bool
     requires { k < length entries.now - from }
-    ensures { result ≡ every (λ i. risesAt entries.now (from + i)) k }
+    ensures { result ≡ every (λ i. rises_at entries.now (from + i)) k }
 {
     let mut i = 0;
     while i < k {
@@ -24,7 +24,7 @@ fn rises(entries: &[u16], from: usize, k: usize) -> bool
 // The entries from place `from` up to `to` rise, and the last is below n, if there is one: then all are.
 pub fn rises_below(n: usize, entries: &[u16], from: usize, to: usize) -> bool
     requires { to ≤ length entries.now }
-    ensures { result ≡ risesBelow n entries.now from to }
+    ensures { result ≡ rises_below n entries.now from to }
 {
     if to <= from {
         return true;

@@ -1,10 +1,10 @@
 // What is read of a state at once, and the tests on it. Only the planner's own crates call this.
 ghost use Rattle.std.specs.Prelude.{◌≡◌, ◌||◌, List, ℕ, ◌<◌, ◌≤◌, ltb, eqb, length};
 ghost use Rattle.laws.specs.Entry.{FFFF};
-ghost use Rattle.model.specs.File.{notIdle};
+ghost use Rattle.model.specs.File.{not_idle};
 ghost use Rattle.tables.specs.declared.Row.{Row};
 ghost use Rattle.tables.specs.Meaning.{held};
-ghost use Rattle.tables.specs.Spans.{fieldWith, span_of, spanAt, failingSpan};
+ghost use Rattle.tables.specs.Spans.{field_with, span_of, span_at, failing_span};
 
 use crate::entries::{NONE, wide};
 use crate::rows::row_at;
@@ -21,7 +21,7 @@ pub struct Span {
 
 // Whether the state counts as failing: by its kind, or, if it is ordinary, for want of commands, since then nobody can move the chamber.
 pub fn is_failing(span: Span) -> bool
-    ensures { result ≡ failingSpan span }
+    ensures { result ≡ failing_span span }
 {
     if span.kind == 0 {
         return span.end <= span.first;
@@ -44,7 +44,7 @@ fn span_of(row: Row, end: usize) -> Span
 // The commands of state s end where those of the next state begin, and the last ones at m.
 pub fn span_at(size: Size, rows: &[Row], s: usize) -> Span
     requires { (s < size.n) × (size.n ≤ length rows.now) }
-    ensures { (F O : List ℕ) → result ≡ spanAt (held size rows.now F O) s }
+    ensures { (F O : List ℕ) → result ≡ span_at (held size rows.now F O) s }
 {
     let row = row_at(rows, s);
     if size.n <= s + 1 {
@@ -76,7 +76,7 @@ fn practice_fits(practice: usize, count: usize) -> bool
 
 // No commands under kind 1 or 2, and a practice that fits: what refusal 7 asks for.
 pub fn not_idle(kind: usize, count: usize, practice: usize) -> bool
-    ensures { result ≡ notIdle (fieldWith kind count practice) }
+    ensures { result ≡ not_idle (field_with kind count practice) }
 {
     if !kind_fits(kind, count) {
         return false;

@@ -8,18 +8,18 @@ use lib.ListN.{length, length-map}
 use Rattle.laws.specs.Filled.{Filled}
 use Rattle.laws.specs.Lists.{overwrite}
 use Rattle.laws.specs.Writes.{put_all}
-use Rattle.laws.proofs.Fills.{filled-from, filled_is, tabulate-constant}
-use Rattle.laws.proofs.Parts.{length-heads}
+use Rattle.laws.proofs.Fills.{filled_from, filled_is, tabulate_constant}
+use Rattle.laws.proofs.Parts.{length_heads}
 use Rattle.laws.proofs.Writes.{put_front}
 use Rattle.model.specs.File.{Tree}
-use Rattle.model.specs.Tables.{Row as ModelRow, allCommands, enough, tables_of}
+use Rattle.model.specs.Tables.{Row as ModelRow, all_commands, enough, tables_of}
 use Rattle.model.specs.Calls.{cleared}
-use Rattle.model.specs.Trim.{trimTree, trimmed}
-use Rattle.model.proofs.Layouts.{by_state, by-command}
+use Rattle.model.specs.Trim.{trim_tree, trimmed}
+use Rattle.model.proofs.Layouts.{by_state_lem, by_command_lem}
 use Rattle.tables.specs.declared.Row.{Row}
 use Rattle.tables.specs.Meaning.{row_of, rows_of}
 use Rattle.trim.specs.Kept.{Kept, Numbered}
-use Rattle.trim.proofs.KeptStates.{kept-inside}
+use Rattle.trim.proofs.KeptStates.{kept_inside}
 use Rattle.trim.proofs.CopiedStates.{room_for}
 
 -- the trimmed plan's tables
@@ -30,24 +30,24 @@ module _ (p : Tree) (rows : List Row) (firsts outcomes : List ℕ)
   rows_left e =
       e
       ∙ put_front (rows_of rows) (trimmed p).rows
-      (omega (arith, length-heads by_state 0 (trimTree p).states, length-map rows row_of, (room_for p _ _ _ room).0))
+      (omega (arith, length_heads by_state_lem 0 (trim_tree p).states, length-map rows row_of, (room_for p _ _ _ room).0))
 
-  pub firsts-left : {l : List ℕ} → l ≡ put_all firsts 0 (trimmed p).firsts → l ≡ overwrite (trimmed p).firsts firsts
+  pub firsts_left : {l : List ℕ} → l ≡ put_all firsts 0 (trimmed p).firsts → l ≡ overwrite (trimmed p).firsts firsts
   unfolding tables_of
-  firsts-left e =
+  firsts_left e =
       e
       ∙ put_front firsts (trimmed p).firsts
-      (omega (arith, length-heads by-command 0 (allCommands (trimTree p).states), (room_for p _ _ _ room).1))
+      (omega (arith, length_heads by_command_lem 0 (all_commands (trim_tree p).states), (room_for p _ _ _ room).1))
 
-  pub outcomes-left : {l : List ℕ} → l ≡ put_all outcomes 0 (trimmed p).outcomes → l ≡ overwrite (trimmed p).outcomes outcomes
+  pub outcomes_left : {l : List ℕ} → l ≡ put_all outcomes 0 (trimmed p).outcomes → l ≡ overwrite (trimmed p).outcomes outcomes
   unfolding tables_of
-  outcomes-left e = e ∙ put_front outcomes (trimmed p).outcomes (room_for p _ _ _ room).2
+  outcomes_left e = e ∙ put_front outcomes (trimmed p).outcomes (room_for p _ _ _ room).2
 
 -- scratch has the new numbers in between, at places that are cleared
-pub scratch-left : {p : Tree} {kept : List ℕ} {n : ℕ} → Kept p kept n → (old : ℕ) → length p.states ≡ old → {l₀ l l' : List ℕ}
+pub scratch_left : {p : Tree} {kept : List ℕ} {n : ℕ} → Kept p kept n → (old : ℕ) → length p.states ≡ old → {l₀ l l' : List ℕ}
     → old ≤ length l₀
     → Numbered n kept l₀ l → Filled old (λ _. 0) l l' → l' ≡ overwrite (cleared old) l₀
 unfolding cleared
-scratch-left k old e {l₀} long w f =
-    filled_is long (filled-from w.same (λ x h. w.others x (λ i l q. omega (arith, kept-inside k i l))) f)
-    ∙ ap (λ (xs : List ℕ). overwrite xs l₀) (tabulate-constant 0 0 old)
+scratch_left k old e {l₀} long w f =
+    filled_is long (filled_from w.same (λ x h. w.others x (λ i l q. omega (arith, kept_inside k i l))) f)
+    ∙ ap (λ (xs : List ℕ). overwrite xs l₀) (tabulate_constant 0 0 old)

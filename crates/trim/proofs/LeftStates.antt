@@ -8,29 +8,29 @@ use lib.Seq.{drop-cons}
 use Rattle.laws.specs.Lists.{joined}
 use Rattle.model.specs.File.{State, Tree}
 use Rattle.model.specs.Held.{state_of}
-use Rattle.model.specs.Trim.{newNumber, trimState, trimTree}
-use Rattle.model.proofs.TrimmedPlan.{oldNumber, same-commands, same-outcomes, trim-state}
+use Rattle.model.specs.Trim.{new_number, trim_state, trim_tree}
+use Rattle.model.proofs.TrimmedPlan.{old_number, same_commands, same_outcomes, trim_state_lem}
 
 -- the trimmed state i
-abbrev pub trimmedAt : Tree → ℕ → State
-trimmedAt p i = trimState (newNumber p) (state_of p (oldNumber p i))
+abbrev pub trimmed_at : Tree → ℕ → State
+trimmed_at p i = trim_state (new_number p) (state_of p (old_number p i))
 
-abbrev pub leftFrom : Tree → ℕ → List State
-leftFrom p i = drop i (trimTree p).states
+abbrev pub left_from : Tree → ℕ → List State
+left_from p i = drop i (trim_tree p).states
 
 module _ (p : Tree) (i : ℕ) where
-  pub left-next : i < length (trimTree p).states → leftFrom p i ≡ trimmedAt p i ∷ leftFrom p (i + 1)
+  pub left_next : i < length (trim_tree p).states → left_from p i ≡ trimmed_at p i ∷ left_from p (i + 1)
   unfolding state_of
-  left-next l =
-      drop-cons (trimTree p).states i _ l ∙ ap₂ (λ (s : State) (ss : List State). s ∷ ss) (trim-state p i l)
-      (ap (λ (j : ℕ). drop j (trimTree p).states) (sym (add-one i)))
+  left_next l =
+      drop-cons (trim_tree p).states i _ l ∙ ap₂ (λ (s : State) (ss : List State). s ∷ ss) (trim_state_lem p i l)
+      (ap (λ (j : ℕ). drop j (trim_tree p).states) (sym (add-one i)))
 
-  pub left-none : length (trimTree p).states ≤ i → leftFrom p i ≡ []
-  left-none l = drop_of_length-le (trimTree p).states l
+  pub left_none : length (trim_tree p).states ≤ i → left_from p i ≡ []
+  left_none l = drop_of_length-le (trim_tree p).states l
 
   -- it has as many commands and outcomes as the old one
-  pub trimmed-commands : length (trimmedAt p i).commands ≡ length (state_of p (oldNumber p i)).commands
-  trimmed-commands = same-commands (newNumber p) (state_of p (oldNumber p i))
+  pub trimmed_commands : length (trimmed_at p i).commands ≡ length (state_of p (old_number p i)).commands
+  trimmed_commands = same_commands (new_number p) (state_of p (old_number p i))
 
-  pub trimmed-outcomes : length (joined (trimmedAt p i).commands) ≡ length (joined (state_of p (oldNumber p i)).commands)
-  trimmed-outcomes = same-outcomes (newNumber p) (state_of p (oldNumber p i))
+  pub trimmed_outcomes : length (joined (trimmed_at p i).commands) ≡ length (joined (state_of p (old_number p i)).commands)
+  trimmed_outcomes = same_outcomes (new_number p) (state_of p (old_number p i))

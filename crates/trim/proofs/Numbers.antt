@@ -7,9 +7,9 @@ use native.Mathlib.Omega.{arith}
 use lib.ListN.{length, get_or, set, take, length-set}
 use Rattle.laws.specs.Lists.{overwrite}
 use Rattle.laws.specs.Placed.{RisingPlaces}
-use Rattle.laws.proofs.Placed.{placed-none, placed-next, placed-done}
-use Rattle.laws.proofs.Steps.{tabulate-slice}
-use Rattle.laws.proofs.Writes.{ruled, ruled-next, ruled-last, ruled-first}
+use Rattle.laws.proofs.Placed.{placed_none, placed_next, placed_done}
+use Rattle.laws.proofs.Steps.{tabulate_slice}
+use Rattle.laws.proofs.Writes.{ruled, ruled_next, ruled_last, ruled_first}
 use Rattle.trim.specs.Kept.{Numbered}
 
 -- olds₀ and scratch₀ are the tables before
@@ -24,25 +24,25 @@ module _ {kept : List ℕ} {n : ℕ} {olds₀ scratch₀ : List ℕ} where
   numbering_start = record {
     same = refl;
     left = refl;
-    numbered = placed-none;
+    numbered = placed_none;
     high = omega arith;
   }
 
   module _ {olds scratch : List ℕ} {i : ℕ} (c : Numbering kept n olds₀ scratch₀ olds scratch i) where
     module _ (r : RisingPlaces n kept (length scratch₀)) (h : i < n) where
-      pub numbering-next : {x : ℕ} {olds' scratch' : List ℕ} → x ≡ get_or kept i 0 → olds' ≡ set olds i x → scratch' ≡ set scratch x i
+      pub numbering_next : {x : ℕ} {olds' scratch' : List ℕ} → x ≡ get_or kept i 0 → olds' ≡ set olds i x → scratch' ≡ set scratch x i
           → Numbering kept n olds₀ scratch₀ olds' scratch' (i + 1)
-      numbering-next v o z = record {
+      numbering_next v o z = record {
         same = rw (o, v) (length-set olds i (get_or kept i 0) ∙ c.same);
-        left = rw (o, v) (ruled-next (λ j. get_or kept j 0) n i olds h refl ∙ c.left);
-        numbered = placed-next c.numbered r h v refl z;
+        left = rw (o, v) (ruled_next (λ j. get_or kept j 0) n i olds h refl ∙ c.left);
+        numbered = placed_next c.numbered r h v refl z;
         high = omega arith;
       }
 
-    pub numbering-done : n ≤ length kept → n ≤ length olds₀ → n ≤ i
+    pub numbering_done : n ≤ length kept → n ≤ length olds₀ → n ≤ i
         → (olds ≡ overwrite (take n kept) olds₀) × Numbered n kept scratch₀ scratch
-    numbering-done k l h = (
-      sym (ruled-last (λ j. get_or kept j 0) n i olds h) ∙ c.left ∙ ruled-first (λ j. get_or kept j 0) n olds₀ l
-          ∙ ap (λ (xs : List ℕ). overwrite xs olds₀) (rw (sub-zero n) at (tabulate-slice kept 0 0 n (omega arith) k)),
-      placed-done c.numbered c.high h,
+    numbering_done k l h = (
+      sym (ruled_last (λ j. get_or kept j 0) n i olds h) ∙ c.left ∙ ruled_first (λ j. get_or kept j 0) n olds₀ l
+          ∙ ap (λ (xs : List ℕ). overwrite xs olds₀) (rw (sub-zero n) at (tabulate_slice kept 0 0 n (omega arith) k)),
+      placed_done c.numbered c.high h,
     )

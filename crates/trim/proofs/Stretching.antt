@@ -8,24 +8,24 @@ use native.Mathlib.Omega.{arith}
 use lib.ListN.{length, get_or}
 use lib.Seq.{slice, length-slice}
 use Rattle.laws.specs.Lists.{tabulate, joined}
-use Rattle.laws.proofs.Lists.{length-tabulate}
-use Rattle.laws.proofs.Starts.{start-in}
+use Rattle.laws.proofs.Lists.{length_tabulate}
+use Rattle.laws.proofs.Starts.{start_in_lem}
 use Rattle.model.specs.File.{State}
-use Rattle.model.specs.Tables.{Lists, firstsFrom}
-use Rattle.model.specs.Places.{firstCommand, commandCount, listAt, start_in}
+use Rattle.model.specs.Tables.{Lists, firsts_from}
+use Rattle.model.specs.Places.{first_command, command_count, list_at, start_in}
 use Rattle.model.specs.SoundTest.{sound}
-use Rattle.model.specs.Held.{stateAt, tree_of, state_of}
-use Rattle.model.proofs.HeldPlan.{state-held}
-use Rattle.model.proofs.SoundFacts.{sound-facts}
+use Rattle.model.specs.Held.{state_at, tree_of, state_of}
+use Rattle.model.proofs.HeldPlan.{state_held}
+use Rattle.model.proofs.SoundFacts.{sound_facts}
 use Rattle.tables.specs.declared.Size.{Size}
 use Rattle.tables.specs.declared.Row.{Row}
 use Rattle.tables.specs.Meaning.{held}
 use Rattle.tables.specs.Ready.{Ready}
-use Rattle.tables.specs.Spans.{commandsOf}
-use Rattle.tables.proofs.Readiness.{sound-ready, ready-order, ready-end}
-use Rattle.tables.proofs.Stretches.{stretch, stretch-firsts}
+use Rattle.tables.specs.Spans.{commands_of}
+use Rattle.tables.proofs.Readiness.{sound_ready, ready_order, ready_end}
+use Rattle.tables.proofs.Stretches.{stretch, stretch_firsts}
 use Rattle.trim.specs.declared.stretches.Stretch.{Stretch}
-use Rattle.trim.specs.Stretches.{stretchAt}
+use Rattle.trim.specs.Stretches.{stretch_at}
 
 -- the commands cs lie in the stretch r
 pub record InStretch (size : Size) (firsts outcomes : List ℕ) (cs : List (List ℕ)) (r : Stretch) : Type 0 where
@@ -36,50 +36,50 @@ pub record InStretch (size : Size) (firsts outcomes : List ℕ) (cs : List (List
   pub count : r.end - r.first ≡ length cs
   pub outs : slice r.from r.to outcomes ≡ joined cs
   pub many : r.to - r.from ≡ length (joined cs)
-  pub begins : (t : ℕ) → firstsFrom t cs ≡ tabulate (λ c. get_or firsts c 0 - r.from + t) r.first (r.end - r.first)
+  pub begins : (t : ℕ) → firsts_from t cs ≡ tabulate (λ c. get_or firsts c 0 - r.from + t) r.first (r.end - r.first)
   pub each : (c : ℕ) → r.first ≤ c → c < r.end → (r.from ≤ get_or firsts c 0) × (get_or firsts c 0 ≤ r.to)
 
 module _ (size : Size) (rows : List Row) (firsts outcomes : List ℕ) (sounds : sound (held size rows firsts outcomes) ≡ true) where
   abbrev L : Lists
-  L = commandsOf size firsts outcomes
+  L = commands_of size firsts outcomes
 
   ready : Ready size.n L
-  ready = sound-ready size rows firsts outcomes sounds
+  ready = sound_ready size rows firsts outcomes sounds
 
   module _ (a k : ℕ) (h : a + k ≤ size.m) where
     -- k commands from command a on
-    run-stretch : InStretch size firsts outcomes (tabulate (listAt L) a k)
+    run_stretch : InStretch size firsts outcomes (tabulate (list_at L) a k)
         (record { first = a; end = a + k; from = start_in L a; to = start_in L (a + k) })
-    run-stretch =
+    run_stretch =
         let count : a + k - a ≡ k = omega arith in
-        let within = ready-end ready (a + k) h in
+        let within = ready_end ready (a + k) h in
         let outs = stretch L ready a k h in
         record {
           rises = omega arith;
           below = h;
-          order = ready-order ready a (a + k) (omega arith) h;
+          order = ready_order ready a (a + k) (omega arith) h;
           within = within;
-          count = count ∙ sym (length-tabulate (listAt L) a k);
+          count = count ∙ sym (length_tabulate (list_at L) a k);
           outs = sym outs;
           many = sym (ap length outs ∙ length-slice (start_in L a) (start_in L (a + k)) outcomes (omega (arith, ready.states.long)));
           begins = λ t.
-              stretch-firsts L ready (start_in L a) t a k t h (omega arith) (omega arith)
+              stretch_firsts L ready (start_in L a) t a k t h (omega arith) (omega arith)
               ∙ ap (tabulate (λ c. get_or firsts c 0 - start_in L a + t) a) (sym count);
           each = λ c low high.
-              let is = start-in firsts size.m size.t c (omega arith) in (
-                rw (← is) (ready-order ready a c low (omega arith)),
-                rw (← is) (ready-order ready c (a + k) (omega arith) h),
+              let is = start_in_lem firsts size.m size.t c (omega arith) in (
+                rw (← is) (ready_order ready a c low (omega arith)),
+                rw (← is) (ready_order ready c (a + k) (omega arith) h),
               );
         }
 
   -- those of the state s
-  pub state-stretch : (s : ℕ) → s < size.n → {r : Stretch} → r ≡ stretchAt (held size rows firsts outcomes) s
+  pub state_stretch : (s : ℕ) → s < size.n → {r : Stretch} → r ≡ stretch_at (held size rows firsts outcomes) s
       → InStretch size firsts outcomes (state_of (tree_of (held size rows firsts outcomes)) s).commands r
-  unfolding stateAt commandCount
-  state-stretch s l is =
+  unfolding state_at command_count
+  state_stretch s l is =
       let T = held size rows firsts outcomes in
-      let fits = ((sound-facts T).0 sounds).rows s l in
-      let k = firstCommand T (suc s) - firstCommand T s in
-      let past : firstCommand T s + k ≡ firstCommand T (s + 1) = omega (arith, fits.rises, ap (firstCommand T) (add-one s)) in
-      rw (is, ap (λ (q : State). q.commands) (state-held T s l), ← past)
-      (run-stretch (firstCommand T s) k (omega (arith, fits.rises, fits.below)))
+      let fits = ((sound_facts T).0 sounds).rows s l in
+      let k = first_command T (suc s) - first_command T s in
+      let past : first_command T s + k ≡ first_command T (s + 1) = omega (arith, fits.rises, ap (first_command T) (add-one s)) in
+      rw (is, ap (λ (q : State). q.commands) (state_held T s l), ← past)
+      (run_stretch (first_command T s) k (omega (arith, fits.rises, fits.below)))

@@ -8,7 +8,7 @@ ghost use Rattle.model.specs.SoundTest.{sound};
 ghost use Rattle.model.specs.Held.{tree_of};
 ghost use Rattle.model.specs.Trim.{trimmed};
 ghost use Rattle.tables.specs.Meaning.{held, rows_of};
-ghost use Rattle.trim.specs.Kept.{Kept, rowAfter};
+ghost use Rattle.trim.specs.Kept.{Kept, row_after};
 
 use crate::stretches::stretch_at;
 use tables::entries::{at, narrow, put};
@@ -18,7 +18,7 @@ use tables::{Row, Size};
 // The row of a state, before which m commands are kept.
 fn row_after(row: Row, m: usize) -> Row
     requires { m < 65536 }
-    ensures { result ≡ rowAfter row m }
+    ensures { result ≡ row_after row m }
 {
     Row {
         kind: row.kind,

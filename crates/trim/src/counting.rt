@@ -3,7 +3,7 @@ ghost use Rattle.std.specs.Prelude.{◌≡◌, true, not, ℕ, ◌<◌, ◌≤�
 ghost use Rattle.laws.specs.First.{FirstNot};
 ghost use Rattle.model.specs.SoundTest.{sound};
 ghost use Rattle.model.specs.Held.{tree_of};
-ghost use Rattle.model.specs.Trim.{trimmed, trimRoom};
+ghost use Rattle.model.specs.Trim.{trimmed, trim_room};
 ghost use Rattle.tables.specs.Meaning.{numbers, held};
 ghost use Rattle.trim.specs.Kept.{Kept};
 
@@ -60,7 +60,7 @@ pub fn has_room(
     olds: usize,
     scratch: usize,
 ) -> bool
-    ensures { result ≡ trimRoom (numbers size) old rows firsts outcomes olds scratch }
+    ensures { result ≡ trim_room (numbers size) old rows firsts outcomes olds scratch }
 {
     if !long_enough(size, rows, firsts, outcomes) {
         return false;

@@ -5,7 +5,7 @@ ghost use Rattle.model.specs.Tables.{enough};
 ghost use Rattle.model.specs.SoundTest.{sound};
 ghost use Rattle.model.specs.Held.{tree_of};
 ghost use Rattle.model.specs.Calls.{cleared};
-ghost use Rattle.model.specs.Trim.{mapOf, trimmed};
+ghost use Rattle.model.specs.Trim.{map_of, trimmed};
 ghost use Rattle.tables.specs.Meaning.{held, rows_of};
 ghost use Rattle.trim.specs.Kept.{Kept};
 
@@ -40,7 +40,7 @@ pub fn fill_trimmed(
     ensures outcomes { let p = tree_of (held size rows.now firsts.now outcomes.now) in
         outcomes2.new ≡ overwrite (trimmed p).outcomes outcomes2.old }
     ensures olds { let p = tree_of (held size rows.now firsts.now outcomes.now) in
-        olds.new ≡ overwrite (mapOf p) olds.old }
+        olds.new ≡ overwrite (map_of p) olds.old }
     ensures scratch { scratch.new ≡ overwrite (cleared size.n) scratch.old }
 {
     number(kept, n, olds, scratch);

@@ -2,10 +2,10 @@
 ghost use Rattle.std.specs.Prelude.{◌≡◌};
 ghost use Rattle.model.specs.Refusal.{given};
 ghost use Rattle.model.specs.Tables.{Size as ModelSize};
-ghost use Rattle.model.specs.Trim.{trimCall};
+ghost use Rattle.model.specs.Trim.{trim_call};
 ghost use Rattle.model.specs.Trimmed.{Trimmed};
 ghost use Rattle.tables.specs.Meaning.{held, rows_of};
-ghost use Rattle.trim.specs.Answers.{answer_of, afterTrim, leaves};
+ghost use Rattle.trim.specs.Answers.{answer_of, after_trim, leaves};
 
 use tables::{Refusal, Row, Size};
 
@@ -42,8 +42,8 @@ pub fn trim(
     scratch: &mut [u16],
 ) -> TrimAnswer
     ensures call { let T = held size rows.now firsts.now outcomes.now in
-        afterTrim result rows2.new firsts2.new outcomes2.new olds.new scratch.new
-        ≡ trimCall T (rows_of rows2.old) firsts2.old outcomes2.old olds.old
+        after_trim result rows2.new firsts2.new outcomes2.new olds.new scratch.new
+        ≡ trim_call T (rows_of rows2.old) firsts2.old outcomes2.old olds.old
         scratch.old }
     ensures trimmed { let T = held size rows.now firsts.now outcomes.now in
         (z : ModelSize) → answer_of result ≡ given z

@@ -1,7 +1,7 @@
 // What is read of a state at once.
 ghost use Rattle.std.specs.Prelude.{◌≡◌, List, ℕ, ◌<◌, ◌≤◌, length};
 ghost use Rattle.tables.specs.Meaning.{held};
-ghost use Rattle.trim.specs.Stretches.{stretchAt};
+ghost use Rattle.trim.specs.Stretches.{stretch_at};
 
 use tables::entries::first_outcome;
 use tables::spans::span_at;
@@ -19,7 +19,7 @@ pub struct Stretch {
 // The stretch of state s.
 pub fn stretch_at(size: Size, rows: &[Row], firsts: &[u16], s: usize) -> Stretch
     requires { (s < size.n) × (size.n ≤ length rows.now) × (size.m ≤ length firsts.now) }
-    ensures { (O : List ℕ) → result ≡ stretchAt (held size rows.now firsts.now O) s }
+    ensures { (O : List ℕ) → result ≡ stretch_at (held size rows.now firsts.now O) s }
 {
     let span = span_at(size, rows, s);
     Stretch {

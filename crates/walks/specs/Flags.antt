@@ -5,9 +5,9 @@ use Rattle.std.specs.Prelude.{Bool, ◌&&◌, List, ℕ, eqb, leb, get_or}
 unfoldable pub known_in : List ℕ → ℕ → Bool
 known_in flags x = leb (get_or flags x 0) 0
 
-unfoldable pub walkedIn : List ℕ → ℕ → Bool
-walkedIn flags x = leb 2 (get_or flags x 0)
+unfoldable pub walked_in : List ℕ → ℕ → Bool
+walked_in flags x = leb 2 (get_or flags x 0)
 
 -- the states of X that the walk may enter and has not reached
-unfoldable pub newIn : List ℕ → (ℕ → Bool) → ℕ → Bool
-newIn flags X x = eqb (get_or flags x 0) 1 && X x
+unfoldable pub new_in : List ℕ → (ℕ → Bool) → ℕ → Bool
+new_in flags X x = eqb (get_or flags x 0) 1 && X x

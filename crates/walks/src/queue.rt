@@ -3,7 +3,7 @@
 ghost use Rattle.std.specs.Prelude.{ℕ, ◌<◌, ◌≤◌, eqb, length, get_or};
 ghost use Rattle.std.proofs.Math.Seq.{slice};
 ghost use Rattle.laws.specs.Sets.{any};
-ghost use Rattle.model.specs.File.{maxStates};
+ghost use Rattle.model.specs.File.{max_states};
 ghost use Rattle.walks.specs.Queued.{Queued};
 ghost use Rattle.walks.specs.Spread.{Spread};
 
@@ -20,7 +20,7 @@ pub fn reach(
     mark: usize,
 ) -> usize
     requires queued { Queued n q flags.old queue.old }
-    requires x_lt_n { (x < n) × (n ≤ maxStates) × (n ≤ length flags.old) × (n ≤ length queue.old) × (2 ≤ mark) × (mark < 65536) }
+    requires x_lt_n { (x < n) × (n ≤ max_states) × (n ≤ length flags.old) × (n ≤ length queue.old) × (2 ≤ mark) × (mark < 65536) }
     ensures { Spread n q (λ y. eqb y x) mark flags.old queue.old result flags.new queue.new }
 {
     if at(flags, x) != 1 {
@@ -43,7 +43,7 @@ pub fn spread(
     mark: usize,
 ) -> usize
     requires queued { Queued n q flags.old queue.old }
-    requires n_le_max_states { (n ≤ maxStates) × (n ≤ length flags.old) × (n ≤ length queue.old) × (2 ≤ mark) × (mark < 65536) }
+    requires n_le_max_states { (n ≤ max_states) × (n ≤ length flags.old) × (n ≤ length queue.old) × (2 ≤ mark) × (mark < 65536) }
     requires from_le_end { (from ≤ end) × (end ≤ length outcomes.now) × ((j : ℕ) → j < end → get_or outcomes.now j 0 < n) }
     ensures { Spread n q (λ y. any (eqb y) (slice from end outcomes.now)) mark flags.old queue.old result
         flags.new queue.new }

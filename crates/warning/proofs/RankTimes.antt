@@ -2,25 +2,25 @@
 use mathlib.Core.Path.{◌≡◌}
 use mathlib.Core.Option.{none, some}
 use Prim.Native.Nat.{ℕ, ◌*◌, ◌<◌}
-use Rattle.laws.specs.Entry.{FFFF, fromEntry}
-use Rattle.laws.proofs.EntryFound.{from-number}
+use Rattle.laws.specs.Entry.{FFFF, from_entry}
+use Rattle.laws.proofs.EntryFound.{from_number}
 use Rattle.model.specs.Refusal.{given}
-use Rattle.model.specs.File.{maxStates}
-use Rattle.model.specs.Warning.{Time, timeOf, warning}
+use Rattle.model.specs.File.{max_states}
+use Rattle.model.specs.Warning.{Time, time_of, warning}
 
 module _ {e x : ℕ} (read : x ≡ e) where
   -- FFFF is no rank
-  pub entry-none : (d : ℕ) → x ≡ FFFF → given none ≡ given (warning (fromEntry e) d)
-  unfolding fromEntry warning
-  entry-none d q = rw (← read, q)
+  pub entry_none : (d : ℕ) → x ≡ FFFF → given none ≡ given (warning (from_entry e) d)
+  unfolding from_entry warning
+  entry_none d q = rw (← read, q)
 
   module _ (h : x ≡ FFFF → ⊥) where
-    is-rank : fromEntry e ≡ some x
-    is-rank = rw (← read) (from-number x h)
+    is_rank : from_entry e ≡ some x
+    is_rank = rw (← read) (from_number x h)
 
-    pub entry-below : ((r : ℕ) → fromEntry e ≡ some r → r < maxStates) → x < maxStates
-    entry-below low = low x is-rank
+    pub entry_below : ((r : ℕ) → from_entry e ≡ some r → r < max_states) → x < max_states
+    entry_below low = low x is_rank
 
-    pub entry-some : (d : ℕ) (t : Time) → t ≡ timeOf (x * d) → given (some t) ≡ given (warning (fromEntry e) d)
+    pub entry_some : (d : ℕ) (t : Time) → t ≡ time_of (x * d) → given (some t) ≡ given (warning (from_entry e) d)
     unfolding warning
-    entry-some d t q = rw (is-rank, q)
+    entry_some d t q = rw (is_rank, q)

@@ -2,7 +2,7 @@
 use Rattle.std.proofs.Math.Option.{Option, none, some}
 use Rattle.model.specs.Refusal.{Answer, given, refused}
 use Rattle.model.specs.Warning.{Time as ModelTime}
-use Rattle.tables.specs.Meaning.{refusalOf}
+use Rattle.tables.specs.Meaning.{refusal_of}
 use Rattle.warning.specs.declared.Time.{Time}
 use Rattle.warning.specs.declared.WarningAnswer.{WarningAnswer}
 use Rattle.warning.specs.declared.WarningAnswer.TheVariants.{Given, NoLimit, Refused}
@@ -14,4 +14,4 @@ meant t = record { minutes = t.minutes; seconds = t.seconds }
 abbrev pub answer_of : WarningAnswer → Answer (Option ModelTime)
 answer_of (Given t) = given (some (meant t))
 answer_of NoLimit = given none
-answer_of (Refused r) = refused (refusalOf r)
+answer_of (Refused r) = refused (refusal_of r)

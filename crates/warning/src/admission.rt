@@ -3,8 +3,8 @@ ghost use Rattle.std.specs.Prelude.{◌≡◌};
 ghost use Rattle.model.specs.Verdict.{rank};
 ghost use Rattle.model.specs.Tables.{Tables};
 ghost use Rattle.model.specs.SoundTest.{sound};
-ghost use Rattle.model.specs.Held.{planIn};
-ghost use Rattle.model.specs.Warning.{warning, warningCall};
+ghost use Rattle.model.specs.Held.{plan_in};
+ghost use Rattle.model.specs.Warning.{warning, warning_call};
 ghost use Rattle.tables.specs.Spans.{admitted};
 
 use crate::times::LONGEST_MOVE;
@@ -13,8 +13,8 @@ use tables::admission::Admission;
 
 // Refusal 10, then 11, then 13: `sounds` says whether the plan is sound.
 pub fn admit(sounds: bool, n: usize, state: usize, seconds: usize) -> Admission
-    ensures { (T : Tables) → sounds ≡ sound T → n ≡ T.size.n → warningCall T state seconds
-        ≡ admitted result (warning (rank (planIn T) state) seconds) }
+    ensures { (T : Tables) → sounds ≡ sound T → n ≡ T.size.n → warning_call T state seconds
+        ≡ admitted result (warning (rank (plan_in T) state) seconds) }
 {
     if !sounds {
         return Admission::Denied(Refusal::Unsound);

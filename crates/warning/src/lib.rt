@@ -2,7 +2,7 @@
 ghost use Rattle.std.specs.Prelude.{◌≡◌};
 ghost use Rattle.std.proofs.Math.Option.{Option};
 ghost use Rattle.model.specs.Refusal.{given};
-ghost use Rattle.model.specs.Warning.{Time as ModelTime, warningCall, Warned};
+ghost use Rattle.model.specs.Warning.{Time as ModelTime, warning_call, Warned};
 ghost use Rattle.tables.specs.Meaning.{held};
 ghost use Rattle.warning.specs.Answers.{answer_of};
 
@@ -42,7 +42,7 @@ pub fn warning_time(
     seconds: usize,
 ) -> WarningAnswer
     ensures call { let T = held size rows.now firsts.now outcomes.now in
-        answer_of result ≡ warningCall T state seconds }
+        answer_of result ≡ warning_call T state seconds }
     ensures warned { let T = held size rows.now firsts.now outcomes.now in
         (answer : Option ModelTime) → answer_of result ≡ given answer → Warned T state seconds answer }
 {

@@ -1,10 +1,10 @@
 // A rank as a time.
 ghost use Rattle.std.specs.Prelude.{◌≡◌, ℕ, ◌*◌, ◌/◌, ◌%◌, ◌<◌, ◌≤◌, length, get_or};
 ghost use Rattle.std.proofs.Math.Option.{some};
-ghost use Rattle.laws.specs.Entry.{fromEntry};
+ghost use Rattle.laws.specs.Entry.{from_entry};
 ghost use Rattle.model.specs.Refusal.{given};
-ghost use Rattle.model.specs.File.{maxStates};
-ghost use Rattle.model.specs.Warning.{timeOf, warning as modelWarning, longestMove};
+ghost use Rattle.model.specs.File.{max_states};
+ghost use Rattle.model.specs.Warning.{time_of, warning as modelWarning, longest_move};
 ghost use Rattle.warning.specs.Answers.{meant, answer_of};
 
 use crate::{Time, WarningAnswer};
@@ -32,8 +32,8 @@ fn seconds_left(x: usize) -> u16
 
 // The rank times the length of a move. It is 3,682,800 seconds at most, which 16 bits do not hold.
 fn rank_time(rank: usize, seconds: usize) -> Time
-    requires { (rank < maxStates) × (seconds ≤ longestMove) }
-    ensures { meant result ≡ timeOf (rank * seconds) }
+    requires { (rank < max_states) × (seconds ≤ longest_move) }
+    ensures { meant result ≡ time_of (rank * seconds) }
 {
     let all = (rank as u32) * (seconds as u32);
     Time {
@@ -44,9 +44,9 @@ fn rank_time(rank: usize, seconds: usize) -> Time
 
 // The warning time of a state, by its entry in the ranks.
 pub fn warning(ranks: &[u16], state: usize, seconds: usize) -> WarningAnswer
-    requires state_in_bounds { (state < length ranks.now) × (seconds ≤ longestMove) }
-    requires by_index { (r : ℕ) → fromEntry (get_or ranks.now state 0) ≡ some r → r < maxStates }
-    ensures { answer_of result ≡ given (modelWarning (fromEntry (get_or ranks.now state 0)) seconds) }
+    requires state_in_bounds { (state < length ranks.now) × (seconds ≤ longest_move) }
+    requires by_index { (r : ℕ) → from_entry (get_or ranks.now state 0) ≡ some r → r < max_states }
+    ensures { answer_of result ≡ given (modelWarning (from_entry (get_or ranks.now state 0)) seconds) }
 {
     let rank = at(ranks, state);
     if rank == NONE {

@@ -10,102 +10,102 @@ use borrow.Author.Tests.{not-true, not-false, lt-leb, le-leb}
 use Rattle.laws.specs.Entry.{two}
 use Rattle.laws.specs.Lists.{tabulate}
 use Rattle.laws.specs.Wrote.{Wrote}
-use Rattle.laws.proofs.Lists.{length-tabulate}
+use Rattle.laws.proofs.Lists.{length_tabulate}
 use Rattle.laws.proofs.Writes.{put_front}
-use Rattle.laws.proofs.Wrote.{wrote_then, wrote-length}
+use Rattle.laws.proofs.Wrote.{wrote_then, wrote_length}
 use Rattle.laws.proofs.Spreads.{front}
 use Rattle.model.specs.Refusal.{Unsound, Cramped, given, refused, answer, need, ◌>>◌}
-use Rattle.model.specs.File.{maxStates, maxCommands, maxOutcomes, headTag, endTag}
-use Rattle.model.specs.Bytes.{statesBytes, bytes_of}
-use Rattle.model.specs.Tables.{Size as ModelSize, Tables, sizeLength}
+use Rattle.model.specs.File.{max_states, max_commands, max_outcomes, head_tag, end_tag}
+use Rattle.model.specs.Bytes.{states_bytes, bytes_of}
+use Rattle.model.specs.Tables.{Size as ModelSize, Tables, size_length}
 use Rattle.model.specs.SoundTest.{sound}
-use Rattle.model.specs.Held.{stateAt, tree_of}
-use Rattle.model.specs.Calls.{left, writing, writeCall}
-use Rattle.model.proofs.SoundFacts.{sound-facts}
-use Rattle.model.proofs.Answering.{writing-iff}
-use Rattle.model.proofs.RoundTrips.{written-length}
+use Rattle.model.specs.Held.{state_at, tree_of}
+use Rattle.model.specs.Calls.{left, writing, write_call}
+use Rattle.model.proofs.SoundFacts.{sound_facts}
+use Rattle.model.proofs.Answering.{writing_iff}
+use Rattle.model.proofs.RoundTrips.{written_length}
 use Rattle.tables.specs.declared.Refusal.{Refusal}
 use Rattle.tables.specs.declared.admission.Admission.{Admission}
 use Rattle.tables.specs.declared.admission.Admission.TheVariants.{Granted, Denied}
-use Rattle.tables.specs.Meaning.{refusalOf}
+use Rattle.tables.specs.Meaning.{refusal_of}
 use Rattle.tables.specs.Spans.{admitted}
 use Rattle.writing.specs.declared.WriteAnswer.TheVariants.{Given, Refused}
-use Rattle.writing.specs.Answers.{afterWrite}
-use Rattle.writing.proofs.Spreads.{states-spread}
+use Rattle.writing.specs.Answers.{after_write}
+use Rattle.writing.proofs.Spreads.{states_spread}
 
 module _ (T : Tables) where
-  abbrev headBytes : List ℕ
-  headBytes = headTag ∷ two 4 (two T.size.n (two T.size.start []))
+  abbrev head_bytes : List ℕ
+  head_bytes = head_tag ∷ two 4 (two T.size.n (two T.size.start []))
 
-  abbrev allStates : List ℕ
-  allStates = statesBytes (tabulate (stateAt T) 0 T.size.n) []
+  abbrev all_states : List ℕ
+  all_states = states_bytes (tabulate (state_at T) 0 T.size.n) []
 
-  abbrev endBytes : List ℕ
-  endBytes = endTag ∷ two 0 []
+  abbrev end_bytes : List ℕ
+  end_bytes = end_tag ∷ two 0 []
 
-  file-bytes : bytes_of (tree_of T) ≡ headBytes ++ (allStates ++ endBytes)
+  file_bytes : bytes_of (tree_of T) ≡ head_bytes ++ (all_states ++ end_bytes)
   unfolding bytes_of tree_of
-  file-bytes = rw (length-tabulate (stateAt T) 0 T.size.n, front states-spread (tabulate (stateAt T) 0 T.size.n) endBytes)
+  file_bytes = rw (length_tabulate (state_at T) 0 T.size.n, front states_spread (tabulate (state_at T) 0 T.size.n) end_bytes)
 
-  parts-length : length (bytes_of (tree_of T)) ≡ 7 + length allStates + 3
-  parts-length = omega (arith, ap length file-bytes, length-append allStates endBytes)
+  parts_length : length (bytes_of (tree_of T)) ≡ 7 + length all_states + 3
+  parts_length = omega (arith, ap length file_bytes, length-append all_states end_bytes)
 
-  pub head-ready : (size : ℕ) → sound T ≡ true → length (bytes_of (tree_of T)) ≤ size → (7 ≤ size) × (T.size.n < 65536)
+  pub head_ready : (size : ℕ) → sound T ≡ true → length (bytes_of (tree_of T)) ≤ size → (7 ≤ size) × (T.size.n < 65536)
       × (T.size.start < 65536)
-  head-ready size e room =
-      let f = ((sound-facts T).0 e).size in
-      (omega (arith, room, parts-length), omega (arith, f.few), omega (arith, f.few, f.starts))
+  head_ready size e room =
+      let f = ((sound_facts T).0 e).size in
+      (omega (arith, room, parts_length), omega (arith, f.few), omega (arith, f.few, f.starts))
 
-  module _ {before after : List ℕ} {next : ℕ} (room : length (bytes_of (tree_of T)) ≤ length before) (w : Wrote before 0 headBytes after next)
+  module _ {before after : List ℕ} {next : ℕ} (room : length (bytes_of (tree_of T)) ≤ length before) (w : Wrote before 0 head_bytes after next)
     where
-      pub states-ready : next + length allStates ≤ length after
-      states-ready = omega (arith, room, parts-length, w.past, wrote-length w)
+      pub states_ready : next + length all_states ≤ length after
+      states_ready = omega (arith, room, parts_length, w.past, wrote_length w)
 
-      module _ {last : List ℕ} {end : ℕ} (v : Wrote after next allStates last end) where
-        pub end-ready : end + 3 ≤ length last
-        end-ready = omega (arith, room, parts-length, w.past, wrote-length w, v.past, wrote-length v)
+      module _ {last : List ℕ} {end : ℕ} (v : Wrote after next all_states last end) where
+        pub end_ready : end + 3 ≤ length last
+        end_ready = omega (arith, room, parts_length, w.past, wrote_length w, v.past, wrote_length v)
 
-        pub file-stored : {whole : List ℕ} {count : ℕ} → Wrote last end endBytes whole count
+        pub file_stored : {whole : List ℕ} {count : ℕ} → Wrote last end end_bytes whole count
             → Wrote before 0 (bytes_of (tree_of T)) whole count
-        file-stored u = rw file-bytes (wrote_then w (wrote_then v u))
+        file_stored u = rw file_bytes (wrote_then w (wrote_then v u))
 
-  pub size-ready : sound T ≡ true → (T.size.n ≤ maxStates) × (T.size.m ≤ maxCommands) × (T.size.t ≤ maxOutcomes)
-  size-ready e = let f = ((sound-facts T).0 e).size in (f.few, f.few-commands, f.few-outcomes)
+  pub size_ready : sound T ≡ true → (T.size.n ≤ max_states) × (T.size.m ≤ max_commands) × (T.size.t ≤ max_outcomes)
+  size_ready e = let f = ((sound_facts T).0 e).size in (f.few, f.few_commands, f.few_outcomes)
 
   -- the admission g
   module _ (table : List ℕ) (g : Admission) (answers : writing T (length table) ≡ admitted g (bytes_of (tree_of T))) where
     -- denied: the bytes are as they were
-    pub refuses : (w : Refusal) → g ≡ Denied w → afterWrite (Refused w) table ≡ writeCall T table
+    pub refuses : (w : Refusal) → g ≡ Denied w → after_write (Refused w) table ≡ write_call T table
     unfolding answer left
-    refuses w q = let z : writing T (length table) ≡ refused (refusalOf w) = answers ∙ rw q in rw z
+    refuses w q = let z : writing T (length table) ≡ refused (refusal_of w) = answers ∙ rw q in rw z
 
     module _ (q : g ≡ Granted) where
       gives : writing T (length table) ≡ given (bytes_of (tree_of T))
       gives = answers ∙ rw q
 
-      pub file-ready : (sound T ≡ true) × (length (bytes_of (tree_of T)) ≤ length table)
-      file-ready =
-          let w = (writing-iff T (length table) (bytes_of (tree_of T))).0 gives in
-          (w.sounds, omega (arith, w.long, written-length T (length table) (bytes_of (tree_of T)) gives))
+      pub file_ready : (sound T ≡ true) × (length (bytes_of (tree_of T)) ≤ length table)
+      file_ready =
+          let w = (writing_iff T (length table) (bytes_of (tree_of T))).0 gives in
+          (w.sounds, omega (arith, w.long, written_length T (length table) (bytes_of (tree_of T)) gives))
 
-      pub written : {after : List ℕ} {next : ℕ} → Wrote table 0 (bytes_of (tree_of T)) after next → afterWrite (Given next) after
-          ≡ writeCall T table
+      pub written : {after : List ℕ} {next : ℕ} → Wrote table 0 (bytes_of (tree_of T)) after next → after_write (Given next) after
+          ≡ write_call T table
       unfolding answer left
       written w =
-          let stored = w.stored ∙ put_front table (bytes_of (tree_of T)) file-ready.1 in
+          let stored = w.stored ∙ put_front table (bytes_of (tree_of T)) file_ready.1 in
           rw (gives, w.past ∙ zero-add _, stored)
 
 -- the tests in their order
 module _ (T : Tables) (bytes : ℕ) {t : Bool} {z : ModelSize} where
-  pub denies-unsound : not t ≡ true → t ≡ sound T → z ≡ T.size → writing T bytes ≡ refused Unsound
+  pub denies_unsound : not t ≡ true → t ≡ sound T → z ≡ T.size → writing T bytes ≡ refused Unsound
   unfolding writing need ◌>>◌
-  denies-unsound h e k = rw (← e, not-true t h)
+  denies_unsound h e k = rw (← e, not-true t h)
 
-  module _ (h : not t ≡ false) {count : ℕ} (w : count ≡ sizeLength z) where
-    pub denies-cramped : bytes < count → t ≡ sound T → z ≡ T.size → writing T bytes ≡ refused Cramped
+  module _ (h : not t ≡ false) {count : ℕ} (w : count ≡ size_length z) where
+    pub denies_cramped : bytes < count → t ≡ sound T → z ≡ T.size → writing T bytes ≡ refused Cramped
     unfolding writing need ◌>>◌
-    denies-cramped l e k = rw (← e, not-false t h, ← k, lt-leb (sizeLength z) bytes (rw w at l))
+    denies_cramped l e k = rw (← e, not-false t h, ← k, lt-leb (size_length z) bytes (rw w at l))
 
     pub grants : count ≤ bytes → t ≡ sound T → z ≡ T.size → writing T bytes ≡ given (bytes_of (tree_of T))
     unfolding writing need ◌>>◌
-    grants l e k = rw (← e, not-false t h, ← k, le-leb (sizeLength z) bytes (rw w at l))
+    grants l e k = rw (← e, not-false t h, ← k, le-leb (size_length z) bytes (rw w at l))

@@ -7,14 +7,14 @@ use lib.Seq.{slice}
 use Rattle.laws.specs.Entry.{twos}
 use Rattle.laws.specs.Lists.{tabulate}
 use Rattle.laws.specs.Wrote.{Wrote}
-use Rattle.laws.proofs.Entry.{length-twos}
-use Rattle.laws.proofs.Lists.{length-tabulate}
-use Rattle.laws.proofs.Steps.{tabulate-slice}
+use Rattle.laws.proofs.Entry.{length_twos}
+use Rattle.laws.proofs.Lists.{length_tabulate}
+use Rattle.laws.proofs.Steps.{tabulate_slice}
 
-pub outcomes-ready : (f : ℕ → ℕ) (a k place size : ℕ) → place + k * 2 ≤ size → place + length (twos (tabulate f a k) []) ≤ size
-outcomes-ready f a k place size h = omega (arith, length-twos (tabulate f a k) [], length-tabulate f a k)
+pub outcomes_ready : (f : ℕ → ℕ) (a k place size : ℕ) → place + k * 2 ≤ size → place + length (twos (tabulate f a k) []) ≤ size
+outcomes_ready f a k place size h = omega (arith, length_twos (tabulate f a k) [], length_tabulate f a k)
 
-pub outcomes-stored : {before after : List ℕ} {place next : ℕ} (outcomes : List ℕ) (from end : ℕ) → from ≤ end → end ≤ length outcomes
+pub outcomes_stored : {before after : List ℕ} {place next : ℕ} (outcomes : List ℕ) (from end : ℕ) → from ≤ end → end ≤ length outcomes
     → Wrote before place (twos (tabulate (λ j. get_or outcomes j 0) from (end - from)) []) after next
     → Wrote before place (twos (slice from end outcomes) []) after next
-outcomes-stored outcomes from end h k w = rw (tabulate-slice outcomes 0 from end h k) at w
+outcomes_stored outcomes from end h k w = rw (tabulate_slice outcomes 0 from end h k) at w

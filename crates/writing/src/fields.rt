@@ -3,9 +3,9 @@ ghost use Rattle.std.specs.Prelude.{[], ◌∷◌, ◌+◌, ◌-◌, ◌*◌, �
 ghost use Rattle.std.proofs.Math.Seq.{slice};
 ghost use Rattle.laws.specs.Entry.{two, twos};
 ghost use Rattle.laws.specs.Wrote.{Wrote};
-ghost use Rattle.model.specs.File.{headTag, endTag};
-ghost use Rattle.model.specs.Bytes.{stateBytes, commandsBytes};
-ghost use Rattle.tables.specs.Spans.{fieldIn};
+ghost use Rattle.model.specs.File.{head_tag, end_tag};
+ghost use Rattle.model.specs.Bytes.{state_bytes, commands_bytes};
+ghost use Rattle.tables.specs.Spans.{field_in};
 
 use crate::bytes::{put_pair, put_two};
 use tables::Size;
@@ -16,7 +16,7 @@ use tables::tags::{COMMAND, END, HEAD, STATE};
 
 pub fn write_head(size: Size, out: &mut [u8]) -> usize
     requires { (7 ≤ length out.old) × (size.n < 65536) × (size.start < 65536) }
-    ensures { Wrote out.old 0 (headTag ∷ two 4 (two size.n (two size.start []))) out.new result }
+    ensures { Wrote out.old 0 (head_tag ∷ two 4 (two size.n (two size.start []))) out.new result }
 {
     let length = put_one(out, 0, HEAD);
     let n = put_two(out, length, 4);
@@ -27,7 +27,7 @@ pub fn write_head(size: Size, out: &mut [u8]) -> usize
 pub fn write_row(span: Span, out: &mut [u8], place: usize) -> usize
     requires { (place + 8 ≤ length out.old) × (span.kind < 256) × (span.first ≤ span.end) × (span.end < 65536)
         × (span.practice < 65536) }
-    ensures { Wrote out.old place (stateBytes (fieldIn span) []) out.new result }
+    ensures { Wrote out.old place (state_bytes (field_in span) []) out.new result }
 {
     let length = put_one(out, place, STATE);
     let kind = put_two(out, length, 5);
@@ -58,7 +58,7 @@ pub fn write_command(
     place: usize,
 ) -> usize
     requires { (from ≤ end) × (end ≤ length outcomes.now) × (end < 32768) × (place + 3 + (end - from) * 2 ≤ length out.old) }
-    ensures { Wrote out.old place (commandsBytes (slice from end outcomes.now ∷ []) []) out.new result }
+    ensures { Wrote out.old place (commands_bytes (slice from end outcomes.now ∷ []) []) out.new result }
 {
     let length = put_one(out, place, COMMAND);
     let first = put_two(out, length, (end - from) * 2);
@@ -67,7 +67,7 @@ pub fn write_command(
 
 pub fn write_end(out: &mut [u8], place: usize) -> usize
     requires { place + 3 ≤ length out.old }
-    ensures { Wrote out.old place (endTag ∷ two 0 []) out.new result }
+    ensures { Wrote out.old place (end_tag ∷ two 0 []) out.new result }
 {
     let length = put_one(out, place, END);
     put_two(out, length, 0)

@@ -1,14 +1,14 @@
 // Writing a plan file from plan tables.
 ghost use Rattle.std.specs.Prelude.{◌≡◌, true, ◌≤◌};
-ghost use Rattle.model.specs.File.{maxStates, maxCommands, maxOutcomes};
+ghost use Rattle.model.specs.File.{max_states, max_commands, max_outcomes};
 ghost use Rattle.model.specs.Bytes.{bytes_of};
-ghost use Rattle.model.specs.Tables.{Tables, sizeLength};
+ghost use Rattle.model.specs.Tables.{Tables, size_length};
 ghost use Rattle.model.specs.SoundTest.{sound};
 ghost use Rattle.model.specs.Held.{tree_of};
-ghost use Rattle.model.specs.Calls.{writing, writeCall};
+ghost use Rattle.model.specs.Calls.{writing, write_call};
 ghost use Rattle.tables.specs.Meaning.{held, numbers};
 ghost use Rattle.tables.specs.Spans.{admitted};
-ghost use Rattle.writing.specs.Answers.{afterWrite};
+ghost use Rattle.writing.specs.Answers.{after_write};
 
 use crate::fields::{write_end, write_head};
 use crate::states::write_states;
@@ -27,15 +27,15 @@ pub enum WriteAnswer {
 }
 
 fn file_length(size: Size) -> usize
-    requires { (size.n ≤ maxStates) × (size.m ≤ maxCommands) × (size.t ≤ maxOutcomes) }
-    ensures { result ≡ sizeLength (numbers size) }
+    requires { (size.n ≤ max_states) × (size.m ≤ max_commands) × (size.t ≤ max_outcomes) }
+    ensures { result ≡ size_length (numbers size) }
 {
     10 + 8 * size.n + 3 * size.m + 2 * size.t
 }
 
 // Refusal 10, then 9: `sounds` says whether the plan is sound, `bytes` how many bytes are lent.
 fn admit(sounds: bool, size: Size, bytes: usize) -> Admission
-    requires { sounds ≡ true → (size.n ≤ maxStates) × (size.m ≤ maxCommands) × (size.t ≤ maxOutcomes) }
+    requires { sounds ≡ true → (size.n ≤ max_states) × (size.m ≤ max_commands) × (size.t ≤ max_outcomes) }
     ensures { (T : Tables) → sounds ≡ sound T → numbers size ≡ T.size → writing T bytes ≡ admitted result (bytes_of (tree_of T)) }
 {
     if !sounds {
@@ -57,7 +57,7 @@ pub fn write(
     bytes: &mut [u8],
 ) -> WriteAnswer
     ensures call { let T = held size rows.now firsts.now outcomes.now in
-        afterWrite result bytes.new ≡ writeCall T bytes.old }
+        after_write result bytes.new ≡ write_call T bytes.old }
 {
     let sounds = sound(size, rows, firsts, outcomes);
     let admission = admit(sounds, size, bytes.len());

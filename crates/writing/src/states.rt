@@ -2,13 +2,13 @@
 ghost use Rattle.std.specs.Prelude.{◌≡◌, true, [], ◌+◌, ◌≤◌, length};
 ghost use Rattle.laws.specs.Lists.{tabulate};
 ghost use Rattle.laws.specs.Wrote.{Wrote};
-ghost use Rattle.model.specs.Bytes.{commandsBytes, statesBytes};
-ghost use Rattle.model.specs.Held.{stateAt};
+ghost use Rattle.model.specs.Bytes.{commands_bytes, states_bytes};
+ghost use Rattle.model.specs.Held.{state_at};
 ghost use Rattle.model.specs.SoundTest.{sound};
 ghost use Rattle.tables.specs.Meaning.{held};
-ghost use Rattle.tables.specs.Spans.{commandsOf};
+ghost use Rattle.tables.specs.Spans.{commands_of};
 ghost use Rattle.tables.specs.Ready.{Ready};
-ghost use Rattle.writing.specs.SpanBytes.{commandsFrom, spanBytes, FitsBytes};
+ghost use Rattle.writing.specs.SpanBytes.{commands_from, span_bytes, FitsBytes};
 
 use crate::fields::{write_command, write_row};
 use tables::entries::first_outcome;
@@ -25,10 +25,10 @@ fn write_commands(
     out: &mut [u8],
     place: usize,
 ) -> usize
-    requires { Ready size.n (commandsOf size firsts.now outcomes.now) × (end ≤ size.m)
-        × (place + length (commandsBytes (commandsFrom (commandsOf size firsts.now outcomes.now) first end) []) ≤ length out.old) }
+    requires { Ready size.n (commands_of size firsts.now outcomes.now) × (end ≤ size.m)
+        × (place + length (commands_bytes (commands_from (commands_of size firsts.now outcomes.now) first end) []) ≤ length out.old) }
     ensures { Wrote out.old place
-        (commandsBytes (commandsFrom (commandsOf size firsts.now outcomes.now) first end) []) out.new result }
+        (commands_bytes (commands_from (commands_of size firsts.now outcomes.now) first end) []) out.new result }
 {
     let mut next = place;
     let mut c = first;
@@ -50,9 +50,9 @@ fn write_state(
     out: &mut [u8],
     place: usize,
 ) -> usize
-    requires { Ready size.n (commandsOf size firsts.now outcomes.now) × FitsBytes size.m span
-        × (place + length (spanBytes (commandsOf size firsts.now outcomes.now) span) ≤ length out.old) }
-    ensures { Wrote out.old place (spanBytes (commandsOf size firsts.now outcomes.now) span)
+    requires { Ready size.n (commands_of size firsts.now outcomes.now) × FitsBytes size.m span
+        × (place + length (span_bytes (commands_of size firsts.now outcomes.now) span) ≤ length out.old) }
+    ensures { Wrote out.old place (span_bytes (commands_of size firsts.now outcomes.now) span)
         out.new result }
 {
     let commands = write_row(span, out, place);
@@ -69,10 +69,10 @@ pub fn write_states(
     place: usize,
 ) -> usize
     requires { (sound (held size rows.now firsts.now outcomes.now) ≡ true)
-        × (place + length (statesBytes (tabulate (stateAt (held size rows.now firsts.now outcomes.now)) 0 size.n) []) ≤ length
+        × (place + length (states_bytes (tabulate (state_at (held size rows.now firsts.now outcomes.now)) 0 size.n) []) ≤ length
         out.old) }
     ensures { Wrote out.old place
-        (statesBytes (tabulate (stateAt (held size rows.now firsts.now outcomes.now)) 0 size.n) [])
+        (states_bytes (tabulate (state_at (held size rows.now firsts.now outcomes.now)) 0 size.n) [])
         out.new result }
 {
     let mut next = place;

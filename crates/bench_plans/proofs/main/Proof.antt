@@ -12,8 +12,8 @@ decreases-loop left₀ left = left
 next-requires : tie.Need-next-requires invariant-loop decreases-loop
 next-requires c κs = omega arith
 
-loop-holds : tie.Need-loop-init invariant-loop decreases-loop
-loop-holds c = tt
+loop_holds : tie.Need-loop-init invariant-loop decreases-loop
+loop_holds c = tt
 
 try-case-requires : tie.Need-try-case-requires invariant-loop decreases-loop
 try-case-requires c κs = omega arith
@@ -21,11 +21,11 @@ try-case-requires c κs = omega arith
 sub-left : tie.Need-overflow-sub-left invariant-loop decreases-loop
 sub-left c = omega arith
 
-loop-less : tie.Need-loop-smaller invariant-loop decreases-loop
-loop-less c = omega arith
+loop_less : tie.Need-loop-smaller invariant-loop decreases-loop
+loop_less c = omega arith
 
-loop-again : tie.Need-loop-preserved invariant-loop decreases-loop
-loop-again c = tt
+loop_again : tie.Need-loop-preserved invariant-loop decreases-loop
+loop_again c = tt
 
 returns : tie.Need-returns invariant-loop decreases-loop
 returns c = omega arith
@@ -37,9 +37,9 @@ main_spec =
     invariant-loop
     decreases-loop
     next-requires
-    loop-holds
+    loop_holds
     try-case-requires
     sub-left
-    loop-less
-    loop-again
+    loop_less
+    loop_again
     returns)

@@ -49,11 +49,11 @@ ask-all-requires-2 c κs = search rules
 same_length : tie.Need-same-length
 same_length c = search rules
 
-same-length-2 : tie.Need-same-length-2
-same-length-2 c = search rules
+same_length_2 : tie.Need-same-length-2
+same_length_2 c = search rules
 
-same-length-3 : tie.Need-same-length-3
-same-length-3 c = search rules
+same_length_3 : tie.Need-same-length-3
+same_length_3 c = search rules
 
 returns : tie.Need-returns
 returns c = search rules
@@ -67,11 +67,11 @@ same-length-5 c = search rules
 same-length-6 : tie.Need-same-length-6
 same-length-6 c = search rules
 
-returns-2 : tie.Need-returns-2
-returns-2 c = search rules
+returns_2 : tie.Need-returns-2
+returns_2 c = search rules
 
 pub try-file-spec : {M : Type 1} → statement M
 try-file-spec = tie.close (tie.spec read-requires enum-known-r number-requires print-refusal-requires new-requires
     ask-all-requires enum-known-r-2 slice-aggregate-write-all write-all-requires print-size-requires write-again-requires
-    read-again-requires print-again-requires ask-all-requires-2 same_length same-length-2 same-length-3 returns same-length-4
-    same-length-5 same-length-6 returns-2)
+    read-again-requires print-again-requires ask-all-requires-2 same_length same_length_2 same_length_3 returns same-length-4
+    same-length-5 same-length-6 returns_2)

@@ -2,7 +2,7 @@
 use mathlib.Core.Path.{refl}
 use native.Mathlib.Omega.{arith}
 use borrow.Author.Rules.{rules}
-use Rattle.carry.proofs.Placement.{refuses, room, may-place, gives}
+use Rattle.carry.proofs.Placement.{refuses, room, may_place, gives}
 use Rattle.carry.proofs.carry_back.Statement.{statement}
 use Rattle.carry.proofs.carry_back.Tie as tie
 
@@ -28,7 +28,7 @@ place-all-requires c κs =
     let past-fill = c.before.before.before in
     let past-admit = past-fill.before.before.before.before in
     let a = past-admit.before.before.before.before.args in
-    may-place a.n a.olds.now a.table.now a.places.now (past-admit.admit.ensures _ refl)
+    may_place a.n a.olds.now a.table.now a.places.now (past-admit.admit.ensures _ refl)
     past-fill.before.before.enum_told.given.1
     past-fill.fill.ensures.same
 
@@ -41,8 +41,8 @@ returns c =
 same_length : tie.Need-same-length
 same_length c = search rules
 
-returns-2 : tie.Need-returns-2
-returns-2 c =
+returns_2 : tie.Need-returns-2
+returns_2 c =
     let past-place = c.before.before in
     let past-fill = past-place.before.before.before.before in
     let past-admit = past-fill.before.before.before.before in
@@ -62,4 +62,4 @@ carry-back-spec =
     place-all-requires
     returns
     same_length
-    returns-2)
+    returns_2)

@@ -4,7 +4,7 @@ mod Tie
 use mathlib.Core.Path.{refl}
 use borrow.Author.Rules.{rules}
 use Rattle.contest.proofs.Replying.{refuses}
-use Rattle.contest.proofs.Admitted.{admitted-spans, admitted-laid, admitted-gives}
+use Rattle.contest.proofs.Admitted.{admitted_spans, admitted_laid, admitted_gives}
 use Rattle.contest.proofs.contest.Statement.{statement}
 use Rattle.contest.proofs.contest.Proof.Tie as tie
 
@@ -39,7 +39,7 @@ initialize-requires c κs =
     let past-sound = past-admit.before in
     let entry = past-sound.before.before.before in
     let admitted = past-admit.admit.ensures _ past-sound.sound.ensures.0 refl in
-    admitted-spans _ entry.args.rows.now _ _ _ _ _ admitted past-enum-told.enum_told.given.1
+    admitted_spans _ entry.args.rows.now _ _ _ _ _ admitted past-enum-told.enum_told.given.1
 
 slice-aggregate-keeper-turn : tie.Need-slice-aggregate-keeper-turn
 slice-aggregate-keeper-turn c = search rules
@@ -53,8 +53,8 @@ slice-aggregate-keeper-turn-3 c = search rules
 slice-aggregate-keeper-turn-4 : tie.Need-slice-aggregate-keeper-turn-4
 slice-aggregate-keeper-turn-4 c = search rules
 
-keeper-turn-requires : tie.Need-keeper-turn-requires
-keeper-turn-requires c κs =
+keeper_turn_requires : tie.Need-keeper-turn-requires
+keeper_turn_requires c κs =
     let past-initialize = c.before.before.before.before.before.before.before.before in
     let past-enum-told = past-initialize.before.before.before.before.before in
     let past-admit = past-enum-told.before.before in
@@ -62,7 +62,7 @@ keeper-turn-requires c κs =
     let entry = past-sound.before.before.before in
     let admitted = past-admit.admit.ensures _ past-sound.sound.ensures.0 refl in
     let a = entry.args in
-    admitted-laid _ a.rows.now a.firsts.now a.outcomes.now _ _ _ admitted past-enum-told.enum_told.given.1
+    admitted_laid _ a.rows.now a.firsts.now a.outcomes.now _ _ _ admitted past-enum-told.enum_told.given.1
     (past-initialize.initialize.ensures a.firsts.now a.outcomes.now)
 
 returns : tie.Need-returns
@@ -71,8 +71,8 @@ returns c =
     let past-sound = past-admit.before in
     refuses _ _ _ _ (past-admit.admit.ensures _ past-sound.sound.ensures.0 refl) _ c.before.admission.given.1
 
-returns-2 : tie.Need-returns-2
-returns-2 c =
+returns_2 : tie.Need-returns-2
+returns_2 c =
     let past-initialize = c.before.before.before.before.before.before.before.before.before.before in
     let past-enum-told = past-initialize.before.before.before.before.before in
     let past-admit = past-enum-told.before.before in
@@ -80,7 +80,7 @@ returns-2 c =
     let entry = past-sound.before.before.before in
     let admitted = past-admit.admit.ensures _ past-sound.sound.ensures.0 refl in
     let a = entry.args in
-    admitted-gives _ a.rows.now a.firsts.now a.outcomes.now _ _ _ admitted past-enum-told.enum_told.given.1
+    admitted_gives _ a.rows.now a.firsts.now a.outcomes.now _ _ _ admitted past-enum-told.enum_told.given.1
     (past-initialize.initialize.ensures a.firsts.now a.outcomes.now) _
     c.before.keeper-turn.ensures.0
 
@@ -101,6 +101,6 @@ contest-spec =
     slice-aggregate-keeper-turn-2
     slice-aggregate-keeper-turn-3
     slice-aggregate-keeper-turn-4
-    keeper-turn-requires
+    keeper_turn_requires
     returns
-    returns-2)
+    returns_2)

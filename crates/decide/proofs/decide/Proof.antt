@@ -1,5 +1,5 @@
 -- What is refused leaves every table as it was; where the plan is admitted it is sound and the tables are long enough, and then the
--- propagations, the last pass over the states and the clearing of scratch leave what `decideCall` gives.
+-- propagations, the last pass over the states and the clearing of scratch leave what `decide_call` gives.
 mod Tie
 use mathlib.Core.Path.{◌≡◌, refl, ◌∙◌}
 use mathlib.Core.Bool.{true}
@@ -9,7 +9,7 @@ use lib.ListN.{length}
 use Rattle.model.specs.SoundTest.{sound}
 use Rattle.tables.specs.Meaning.{held}
 use Rattle.decide.proofs.Decisions.{refuses, admits, decides}
-use Rattle.decide.proofs.Finals.{plan-decided}
+use Rattle.decide.proofs.Finals.{plan_decided}
 use borrow.Author.Rules.{rules}
 use Rattle.decide.proofs.decide.Statement.{statement}
 use Rattle.decide.proofs.decide.Proof.Tie as tie
@@ -63,7 +63,7 @@ judge-all-requires c κs =
     let (sounds, long) = granted
     c.before.before.before.before.before.before.before.before.before.before.before.before.before.before.before.before in
     let v = past-propagate-plan.propagate-plan.ensures in
-    (sounds, (omega (arith, v.ranked.same, long), omega (arith, v.tos-past.same, long), omega (arith, v.fails-past.same, long)))
+    (sounds, (omega (arith, v.ranked.same, long), omega (arith, v.tos_past.same, long), omega (arith, v.fails_past.same, long)))
 
 fill-requires : tie.Need-fill-requires
 fill-requires c κs =
@@ -71,7 +71,7 @@ fill-requires c κs =
     c.before.before.before.before.before.before.before.before.before.before.before.before.before.before.before.before.before in
     omega (
       arith,
-      past-propagate-plan.propagate-plan.ensures.scratch-past.same,
+      past-propagate-plan.propagate-plan.ensures.scratch_past.same,
       (granted
           c.before.before.before.before.before.before.before.before.before.before.before.before.before.before.before.before.before.before.before.before.before.before).1,
     )
@@ -95,26 +95,26 @@ same_length c =
     c.before.before.before.before.before.before.before.before.before.before.before.before.before.before.before.before.before.before.before.before.before in
     past-propagate-plan.propagate-plan.ensures.ranked.same
 
-same-length-2 : tie.Need-same-length-2
-same-length-2 c =
+same_length_2 : tie.Need-same-length-2
+same_length_2 c =
     let past-judge-all = c.before.before.before.before.before.before.before.before.before in
     let past-propagate-plan = past-judge-all-to-past-propagate-plan past-judge-all in
-    past-judge-all.judge-all.ensures.took.same ∙ past-propagate-plan.propagate-plan.ensures.tos-past.same
+    past-judge-all.judge-all.ensures.took.same ∙ past-propagate-plan.propagate-plan.ensures.tos_past.same
 
-same-length-3 : tie.Need-same-length-3
-same-length-3 c =
+same_length_3 : tie.Need-same-length-3
+same_length_3 c =
     let past-judge-all = c.before.before.before.before.before.before.before.before.before in
     let past-propagate-plan = past-judge-all-to-past-propagate-plan past-judge-all in
-    past-judge-all.judge-all.ensures.marked.same ∙ past-propagate-plan.propagate-plan.ensures.fails-past.same
+    past-judge-all.judge-all.ensures.marked.same ∙ past-propagate-plan.propagate-plan.ensures.fails_past.same
 
 same-length-4 : tie.Need-same-length-4
 same-length-4 c =
     let past-fill = c.before.before.before in
     let past-propagate-plan = past-fill-to-past-propagate-plan past-fill in
-    past-fill.fill.ensures.same ∙ past-propagate-plan.propagate-plan.ensures.scratch-past.same
+    past-fill.fill.ensures.same ∙ past-propagate-plan.propagate-plan.ensures.scratch_past.same
 
-returns-2 : tie.Need-returns-2
-returns-2 c =
+returns_2 : tie.Need-returns-2
+returns_2 c =
     let past-fill = c.before.before.before in
     let past-judge-all = past-fill-to-past-judge-all past-fill in
     let past-propagate-plan = past-judge-all-to-past-propagate-plan past-judge-all in
@@ -125,7 +125,7 @@ returns-2 c =
     let a = entry.args in
     let (sounds, long) = granted
     c.before.before.before.before.before.before.before.before.before.before.before.before.before.before.before.before.before.before.before.before.before.before.before.before.before.before in
-    let leaves = plan-decided _ a.rows.now a.firsts.now a.outcomes.now sounds long.0 long.1.0 long.1.1.0
+    let leaves = plan_decided _ a.rows.now a.firsts.now a.outcomes.now sounds long.0 long.1.0 long.1.1.0
     long.1.1.1
     past-propagate-plan.propagate-plan.ensures past-judge-all.judge-all.ensures past-fill.fill.ensures in
     decides (held a.size a.rows.now a.firsts.now a.outcomes.now) a.ranks.now a.commands.now a.marks.now
@@ -135,4 +135,4 @@ returns-2 c =
 
 pub decide-spec : {M : Type 1} → statement M
 decide-spec = tie.close (tie.spec sound-requires admit-requires enum-known-admission refuse-requires enum_told propagate-plan-requires
-    judge-all-requires fill-requires answer-with-requires returns same_length same-length-2 same-length-3 same-length-4 returns-2)
+    judge-all-requires fill-requires answer-with-requires returns same_length same_length_2 same_length_3 same-length-4 returns_2)

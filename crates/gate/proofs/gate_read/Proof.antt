@@ -10,11 +10,11 @@ read-call-requires c κs = search rules
 same_length : tie.Need-same-length
 same_length c = search rules
 
-same-length-2 : tie.Need-same-length-2
-same-length-2 c = search rules
+same_length_2 : tie.Need-same-length-2
+same_length_2 c = search rules
 
-same-length-3 : tie.Need-same-length-3
-same-length-3 c = search rules
+same_length_3 : tie.Need-same-length-3
+same_length_3 c = search rules
 
 same-length-4 : tie.Need-same-length-4
 same-length-4 c = search rules
@@ -27,4 +27,4 @@ returns c =
 pub gate-read-spec : {M : Type 1} → statement M
 gate-read-spec =
     tie.close
-    (tie.spec read-call-requires same_length same-length-2 same-length-3 same-length-4 returns)
+    (tie.spec read-call-requires same_length same_length_2 same_length_3 same-length-4 returns)

@@ -1,6 +1,6 @@
 -- The text of a listing fits the bytes answered, so the part that is written is there.
 use mathlib.Core.Path.{sym}
-use Rattle.listing.proofs.Files.{text-fits, text-room}
+use Rattle.listing.proofs.Files.{text_fits, text_room}
 use borrow.Author.Rules.{rules}
 use Rattle.list.proofs.print.Statement.{statement}
 use Rattle.list.proofs.print.Tie as tie
@@ -9,10 +9,10 @@ text-of-requires : tie.Need-text-of-requires
 text-of-requires c κs = search rules
 
 array-share-prefix-bytes : tie.Need-array-share-prefix-bytes
-array-share-prefix-bytes c = text-room _ _ c.before.text-of.ensures
+array-share-prefix-bytes c = text_room _ _ c.before.text_of_lem.ensures
 
 slice-aggregate-write-all : tie.Need-slice-aggregate-write-all
-slice-aggregate-write-all c = sym (text-fits _ _ c.before.before.text-of.ensures)
+slice-aggregate-write-all c = sym (text_fits _ _ c.before.before.text_of_lem.ensures)
 
 write-all-requires : tie.Need-write-all-requires
 write-all-requires c κs = search rules
@@ -26,8 +26,8 @@ write-all-requires-2 c κs = search rules
 returns : tie.Need-returns
 returns c = search rules
 
-returns-2 : tie.Need-returns-2
-returns-2 c = search rules
+returns_2 : tie.Need-returns-2
+returns_2 c = search rules
 
 pub print-spec : {M : Type 1} → statement M
 print-spec =
@@ -40,4 +40,4 @@ print-spec =
     slice-aggregate-write-all-2
     write-all-requires-2
     returns
-    returns-2)
+    returns_2)

@@ -2,7 +2,7 @@
 mod Tie
 use mathlib.Core.Path.{refl}
 use borrow.Author.Rules.{rules}
-use Rattle.search.proofs.Replying.{refuses, gives, admitted-prepared}
+use Rattle.search.proofs.Replying.{refuses, gives, admitted_prepared}
 use Rattle.search.proofs.search.Statement.{statement}
 use Rattle.search.proofs.search.Proof.Tie as tie
 
@@ -29,7 +29,7 @@ walk-rounds-requires c κs =
     let past-enum-told = c.before.before.before.before in
     let past-admit = past-enum-told.before.before in
     let past-sound = past-admit.before in
-    admitted-prepared _ _ _ _ _ _ _ _ (past-admit.admit.ensures _ past-sound.sound.ensures.0 refl)
+    admitted_prepared _ _ _ _ _ _ _ _ (past-admit.admit.ensures _ past-sound.sound.ensures.0 refl)
     past-enum-told.enum_told.given.1
 
 returns : tie.Need-returns
@@ -44,11 +44,11 @@ returns c =
 same_length : tie.Need-same-length
 same_length c = search rules
 
-same-length-2 : tie.Need-same-length-2
-same-length-2 c = search rules
+same_length_2 : tie.Need-same-length-2
+same_length_2 c = search rules
 
-returns-2 : tie.Need-returns-2
-returns-2 c =
+returns_2 : tie.Need-returns-2
+returns_2 c =
     let past-walk-rounds = c.before.before.before.before.before.before in
     let past-enum-told = past-walk-rounds.before.before.before.before.before in
     let past-admit = past-enum-told.before.before in
@@ -71,5 +71,5 @@ search-spec =
     walk-rounds-requires
     returns
     same_length
-    same-length-2
-    returns-2)
+    same_length_2
+    returns_2)

@@ -4,7 +4,7 @@ mod Tie
 use mathlib.Core.Path.{refl}
 use borrow.Author.Rules.{rules}
 use Rattle.warning.proofs.Replying.{refuses}
-use Rattle.warning.proofs.Admitted.{admitted-sound, admitted-rank, admitted-gives}
+use Rattle.warning.proofs.Admitted.{admitted_sound, admitted_rank, admitted_gives}
 use Rattle.warning.proofs.warning_time.Statement.{statement}
 use Rattle.warning.proofs.warning_time.Proof.Tie as tie
 
@@ -40,7 +40,7 @@ propagate-plan-requires c κs =
     let entry = past-sound.before.before.before in
     let admitted = past-admit.admit.ensures _ past-sound.sound.ensures.0 refl in
     let a = entry.args in
-    admitted-sound _ a.rows.now a.firsts.now a.outcomes.now _ _ _ admitted past-enum-told.enum_told.given.1
+    admitted_sound _ a.rows.now a.firsts.now a.outcomes.now _ _ _ admitted past-enum-told.enum_told.given.1
 
 slice-aggregate-warning : tie.Need-slice-aggregate-warning
 slice-aggregate-warning c = search rules
@@ -54,7 +54,7 @@ warning-requires c κs =
     let entry = past-sound.before.before.before in
     let admitted = past-admit.admit.ensures _ past-sound.sound.ensures.0 refl in
     let a = entry.args in
-    admitted-rank _ a.rows.now a.firsts.now a.outcomes.now _ _ _ admitted past-enum-told.enum_told.given.1
+    admitted_rank _ a.rows.now a.firsts.now a.outcomes.now _ _ _ admitted past-enum-told.enum_told.given.1
     past-propagate-plan.propagate-plan.ensures
 
 returns : tie.Need-returns
@@ -63,8 +63,8 @@ returns c =
     let past-sound = past-admit.before in
     refuses _ _ _ _ (past-admit.admit.ensures _ past-sound.sound.ensures.0 refl) _ c.before.admission.given.1
 
-returns-2 : tie.Need-returns-2
-returns-2 c =
+returns_2 : tie.Need-returns-2
+returns_2 c =
     let past-propagate-plan = c.before.before.before.before.before.before in
     let past-enum-told = past-propagate-plan.before.before.before.before.before in
     let past-admit = past-enum-told.before.before in
@@ -72,7 +72,7 @@ returns-2 c =
     let entry = past-sound.before.before.before in
     let admitted = past-admit.admit.ensures _ past-sound.sound.ensures.0 refl in
     let a = entry.args in
-    admitted-gives _ a.rows.now a.firsts.now a.outcomes.now _ _ _ admitted past-enum-told.enum_told.given.1
+    admitted_gives _ a.rows.now a.firsts.now a.outcomes.now _ _ _ admitted past-enum-told.enum_told.given.1
     past-propagate-plan.propagate-plan.ensures c.warning.result c.warning.ensures
 
 pub warning-time-spec : {M : Type 1} → statement M
@@ -91,4 +91,4 @@ warning-time-spec =
     slice-aggregate-warning
     warning-requires
     returns
-    returns-2)
+    returns_2)

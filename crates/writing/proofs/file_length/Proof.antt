@@ -1,7 +1,7 @@
 -- Within the limits no sum overflows, so the sum is the one that the definition computes.
 use mathlib.Core.Path.{refl}
 use borrow.Author.Rules.{rules}
-use Rattle.model.specs.Tables.{sizeLength}
+use Rattle.model.specs.Tables.{size_length}
 use Rattle.writing.proofs.file_length.Statement.{statement}
 use Rattle.writing.proofs.file_length.Tie as tie
 
@@ -24,7 +24,7 @@ add-result-3 : tie.Need-overflow-add-result-3
 add-result-3 c = search rules
 
 returns : tie.Need-returns
-unfolding sizeLength
+unfolding size_length
 returns c = refl
 
 pub file-length-spec : {M : Type 1} → statement M

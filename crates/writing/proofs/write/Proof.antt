@@ -1,6 +1,6 @@
 -- Head, states and end are stored one behind the other, and that is the file of the plan; a refusal stores nothing.
 mod Tie
-use Rattle.writing.proofs.FileFacts.{head-ready, states-ready, end-ready, file-stored, size-ready, refuses, file-ready, written}
+use Rattle.writing.proofs.FileFacts.{head_ready, states_ready, end_ready, file_stored, size_ready, refuses, file_ready, written}
 use Rattle.tables.specs.Meaning.{held}
 use mathlib.Core.Path.{refl, sym, ◌∙◌}
 use borrow.Author.Rules.{rules}
@@ -15,7 +15,7 @@ admit-requires c κs =
     let entry = c.before.before.before.before in
     λ e.
     let a = entry.args in
-    size-ready (held a.size a.rows.now a.firsts.now a.outcomes.now) (sym c.sound.ensures.0 ∙ e)
+    size_ready (held a.size a.rows.now a.firsts.now a.outcomes.now) (sym c.sound.ensures.0 ∙ e)
 
 enum-known-admission : tie.Need-enum-known-admission
 enum-known-admission c = search rules
@@ -30,9 +30,9 @@ write-head-requires c κs =
     let entry = past-sound.before.before.before.before in
     let a = entry.args in
     let T = held a.size a.rows.now a.firsts.now a.outcomes.now in
-    let r = file-ready T a.bytes.now _ (past-admit.admit.ensures _ past-sound.sound.ensures.0 refl)
+    let r = file_ready T a.bytes.now _ (past-admit.admit.ensures _ past-sound.sound.ensures.0 refl)
     c.before.enum_told.given.1 in
-    head-ready T _ r.0 r.1
+    head_ready T _ r.0 r.1
 
 write-states-requires : tie.Need-write-states-requires
 write-states-requires c κs =
@@ -43,9 +43,9 @@ write-states-requires c κs =
     let entry = past-sound.before.before.before.before in
     let a = entry.args in
     let T = held a.size a.rows.now a.firsts.now a.outcomes.now in
-    let r = file-ready T a.bytes.now _ (past-admit.admit.ensures _ past-sound.sound.ensures.0 refl)
+    let r = file_ready T a.bytes.now _ (past-admit.admit.ensures _ past-sound.sound.ensures.0 refl)
     past-enum-told.enum_told.given.1 in
-    (r.0, states-ready T r.1 past-write-head.write-head.ensures)
+    (r.0, states_ready T r.1 past-write-head.write-head.ensures)
 
 write-end-requires : tie.Need-write-end-requires
 write-end-requires c κs =
@@ -57,9 +57,9 @@ write-end-requires c κs =
     let entry = past-sound.before.before.before.before in
     let a = entry.args in
     let T = held a.size a.rows.now a.firsts.now a.outcomes.now in
-    let r = file-ready T a.bytes.now _ (past-admit.admit.ensures _ past-sound.sound.ensures.0 refl)
+    let r = file_ready T a.bytes.now _ (past-admit.admit.ensures _ past-sound.sound.ensures.0 refl)
     past-enum-told.enum_told.given.1 in
-    end-ready T r.1 past-write-head.write-head.ensures past-write-states.write-states.ensures
+    end_ready T r.1 past-write-head.write-head.ensures past-write-states.write-states.ensures
 
 returns : tie.Need-returns
 returns c =
@@ -73,8 +73,8 @@ returns c =
 same_length : tie.Need-same-length
 same_length c = search rules
 
-returns-2 : tie.Need-returns-2
-returns-2 c =
+returns_2 : tie.Need-returns-2
+returns_2 c =
     let past-write-states = c.before.before.before.before.before.before in
     let past-write-head = past-write-states.before.before.before.before in
     let past-enum-told = past-write-head.before.before in
@@ -83,12 +83,12 @@ returns-2 c =
     let entry = past-sound.before.before.before.before in
     let a = entry.args in
     let T = held a.size a.rows.now a.firsts.now a.outcomes.now in
-    let r = file-ready T a.bytes.now _ (past-admit.admit.ensures _ past-sound.sound.ensures.0 refl)
+    let r = file_ready T a.bytes.now _ (past-admit.admit.ensures _ past-sound.sound.ensures.0 refl)
     past-enum-told.enum_told.given.1 in
     written T a.bytes.now _ (past-admit.admit.ensures _ past-sound.sound.ensures.0 refl) past-enum-told.enum_told.given.1
-    (file-stored T r.1 past-write-head.write-head.ensures past-write-states.write-states.ensures
+    (file_stored T r.1 past-write-head.write-head.ensures past-write-states.write-states.ensures
     c.before.before.write-end.ensures)
 
 pub write_spec : {M : Type 1} → statement M
 write_spec = tie.close (tie.spec sound-requires admit-requires enum-known-admission enum_told write-head-requires write-states-requires
-    write-end-requires returns same_length returns-2)
+    write-end-requires returns same_length returns_2)

@@ -13,8 +13,8 @@ invariant-loop file from table₀ i₀ table i = length table ≡ length table�
 abbrev decreases-loop : tie.decreases-loop
 decreases-loop file from table₀ i₀ table i = length table₀ - i
 
-loop-holds : tie.Need-loop-init invariant-loop decreases-loop
-loop-holds c = refl
+loop_holds : tie.Need-loop-init invariant-loop decreases-loop
+loop_holds c = refl
 
 add-entry-in : tie.Need-overflow-add-entry-in invariant-loop decreases-loop
 add-entry-in c = omega (arith, c.before.loop.invariant, c.before.before.before.before.requires)
@@ -28,14 +28,14 @@ mul-table c = omega arith
 slice-write-table : tie.Need-slice-write-table invariant-loop decreases-loop
 slice-write-table c = omega arith
 
-add-i : tie.Need-overflow-add-i invariant-loop decreases-loop
-add-i c = omega arith
+add_i : tie.Need-overflow-add-i invariant-loop decreases-loop
+add_i c = omega arith
 
-loop-less : tie.Need-loop-smaller invariant-loop decreases-loop
-loop-less c = omega (arith, c.before.before.loop.invariant)
+loop_less : tie.Need-loop-smaller invariant-loop decreases-loop
+loop_less c = omega (arith, c.before.before.loop.invariant)
 
-loop-again : tie.Need-loop-preserved invariant-loop decreases-loop
-loop-again c = length-set c.before.before.loop.table _ _ ∙ c.before.before.loop.invariant
+loop_again : tie.Need-loop-preserved invariant-loop decreases-loop
+loop_again c = length-set c.before.before.loop.table _ _ ∙ c.before.before.loop.invariant
 
 same_length : tie.Need-same-length invariant-loop decreases-loop
 same_length c = c.before.loop.invariant
@@ -49,13 +49,13 @@ copy-entries-spec =
     (tie.spec
     invariant-loop
     decreases-loop
-    loop-holds
+    loop_holds
     add-entry-in
     entry-in-requires
     mul-table
     slice-write-table
-    add-i
-    loop-less
-    loop-again
+    add_i
+    loop_less
+    loop_again
     same_length
     returns)

@@ -40,11 +40,11 @@ slice-aggregate-same-tables-3 c = search rules
 same-tables-requires : tie.Need-same-tables-requires
 same-tables-requires c κs = search rules
 
-returns-2 : tie.Need-returns-2
-returns-2 c = search rules
+returns_2 : tie.Need-returns-2
+returns_2 c = search rules
 
 pub read-again-spec : {M : Type 1} → statement M
 read-again-spec = tie.close
     (tie.spec slice-aggregate-write-read slice-aggregate-write-read-2 slice-aggregate-write-read-3 slice-aggregate-write-read-4
     write-read-requires enum-known-r enum_told returns slice-aggregate-same-tables slice-aggregate-same-tables-2
-    slice-aggregate-same-tables-3 same-tables-requires returns-2)
+    slice-aggregate-same-tables-3 same-tables-requires returns_2)

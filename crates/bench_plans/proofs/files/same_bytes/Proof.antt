@@ -24,8 +24,8 @@ slice-aggregate-same c = sym (length-take-le _ _ (omega arith))
 same-requires : tie.Need-same-requires
 same-requires c κs = search rules
 
-returns-2 : tie.Need-returns-2
-returns-2 c = search rules
+returns_2 : tie.Need-returns-2
+returns_2 c = search rules
 
 pub same-bytes-spec : {M : Type 1} → statement M
 same-bytes-spec =
@@ -37,4 +37,4 @@ same-bytes-spec =
     least-requires
     slice-aggregate-same
     same-requires
-    returns-2)
+    returns_2)

@@ -19,16 +19,16 @@ same-bytes-requires c κs = search rules
 same_length : tie.Need-same-length
 same_length c = search rules
 
-same-length-2 : tie.Need-same-length-2
-same-length-2 c = search rules
+same_length_2 : tie.Need-same-length-2
+same_length_2 c = search rules
 
-same-length-3 : tie.Need-same-length-3
-same-length-3 c = search rules
+same_length_3 : tie.Need-same-length-3
+same_length_3 c = search rules
 
 returns : tie.Need-returns
 returns c = search rules
 
 pub write-again-spec : {M : Type 1} → statement M
 write-again-spec = tie.close
-    (tie.spec slice-aggregate-read-write read-write-requires slice-aggregate-same-bytes same-bytes-requires same_length same-length-2
-    same-length-3 returns)
+    (tie.spec slice-aggregate-read-write read-write-requires slice-aggregate-same-bytes same-bytes-requires same_length same_length_2
+    same_length_3 returns)

@@ -13,8 +13,8 @@ invariant-loop rows₀ x i₀ rows i = length rows ≡ length rows₀
 abbrev decreases-loop : tie.decreases-loop
 decreases-loop rows₀ x i₀ rows i = length rows₀ - i
 
-loop-holds : tie.Need-loop-init invariant-loop decreases-loop
-loop-holds c = search rules
+loop_holds : tie.Need-loop-init invariant-loop decreases-loop
+loop_holds c = search rules
 
 row-of-requires : tie.Need-row-of-requires invariant-loop decreases-loop
 row-of-requires c κs = search rules
@@ -22,14 +22,14 @@ row-of-requires c κs = search rules
 put-row-requires : tie.Need-put-row-requires invariant-loop decreases-loop
 put-row-requires c κs = search rules
 
-add-i : tie.Need-overflow-add-i invariant-loop decreases-loop
-add-i c = search rules
+add_i : tie.Need-overflow-add-i invariant-loop decreases-loop
+add_i c = search rules
 
-loop-less : tie.Need-loop-smaller invariant-loop decreases-loop
-loop-less c = search rules
+loop_less : tie.Need-loop-smaller invariant-loop decreases-loop
+loop_less c = search rules
 
-loop-again : tie.Need-loop-preserved invariant-loop decreases-loop
-loop-again c = search rules
+loop_again : tie.Need-loop-preserved invariant-loop decreases-loop
+loop_again c = search rules
 
 same_length : tie.Need-same-length invariant-loop decreases-loop
 same_length c = search rules
@@ -38,5 +38,5 @@ returns : tie.Need-returns invariant-loop decreases-loop
 returns c = search rules
 
 pub hold-rows-spec : {M : Type 1} → statement M
-hold-rows-spec = tie.close (tie.spec invariant-loop decreases-loop loop-holds row-of-requires put-row-requires add-i loop-less loop-again
+hold-rows-spec = tie.close (tie.spec invariant-loop decreases-loop loop_holds row-of-requires put-row-requires add_i loop_less loop_again
     same_length returns)

@@ -15,8 +15,8 @@ decreases-loop table n end i₀ t5 i = end - i
 least-requires : tie.Need-least-requires invariant-loop decreases-loop
 least-requires c κs = omega arith
 
-loop-holds : tie.Need-loop-init invariant-loop decreases-loop
-loop-holds c = omega arith
+loop_holds : tie.Need-loop-init invariant-loop decreases-loop
+loop_holds c = omega arith
 
 mul-print-entry : tie.Need-overflow-mul-print-entry invariant-loop decreases-loop
 mul-print-entry c = omega arith
@@ -27,14 +27,14 @@ shared-slice-read-print-entry c = omega arith
 print-entry-requires : tie.Need-print-entry-requires invariant-loop decreases-loop
 print-entry-requires c κs = omega arith
 
-add-i : tie.Need-overflow-add-i invariant-loop decreases-loop
-add-i c = omega arith
+add_i : tie.Need-overflow-add-i invariant-loop decreases-loop
+add_i c = omega arith
 
-loop-less : tie.Need-loop-smaller invariant-loop decreases-loop
-loop-less c = omega arith
+loop_less : tie.Need-loop-smaller invariant-loop decreases-loop
+loop_less c = omega arith
 
-loop-again : tie.Need-loop-preserved invariant-loop decreases-loop
-loop-again c = omega arith
+loop_again : tie.Need-loop-preserved invariant-loop decreases-loop
+loop_again c = omega arith
 
 slice-aggregate-write-all : tie.Need-slice-aggregate-write-all invariant-loop decreases-loop
 slice-aggregate-write-all c = search rules
@@ -52,13 +52,13 @@ print-entries-spec =
     invariant-loop
     decreases-loop
     least-requires
-    loop-holds
+    loop_holds
     mul-print-entry
     shared-slice-read-print-entry
     print-entry-requires
-    add-i
-    loop-less
-    loop-again
+    add_i
+    loop_less
+    loop_again
     slice-aggregate-write-all
     write-all-requires
     returns)

@@ -14,8 +14,8 @@ returns c = search rules
 ask-warning-requires : tie.Need-ask-warning-requires
 ask-warning-requires c κs = search rules
 
-returns-2 : tie.Need-returns-2
-returns-2 c = search rules
+returns_2 : tie.Need-returns-2
+returns_2 c = search rules
 
 least-requires : tie.Need-least-requires
 least-requires c κs = search rules
@@ -23,12 +23,12 @@ least-requires c κs = search rules
 ask-tables-requires : tie.Need-ask-tables-requires
 ask-tables-requires c κs = omega arith
 
-returns-3 : tie.Need-returns-3
-returns-3 c = search rules
+returns_3 : tie.Need-returns-3
+returns_3 c = search rules
 
 returns-4 : tie.Need-returns-4
 returns-4 c = search rules
 
 pub ask-spec : {M : Type 1} → statement M
-ask-spec = tie.close (tie.spec ask-contest-requires returns ask-warning-requires returns-2 least-requires
-    ask-tables-requires returns-3 returns-4)
+ask-spec = tie.close (tie.spec ask-contest-requires returns ask-warning-requires returns_2 least-requires
+    ask-tables-requires returns_3 returns-4)

@@ -10,8 +10,8 @@ invariant-loop file size rows firsts outcomes questions left₀ left = Unit {0}
 abbrev decreases-loop : tie.decreases-loop
 decreases-loop file size rows firsts outcomes questions left₀ left = left
 
-loop-holds : tie.Need-loop-init invariant-loop decreases-loop
-loop-holds c = search rules
+loop_holds : tie.Need-loop-init invariant-loop decreases-loop
+loop_holds c = search rules
 
 next-requires : tie.Need-next-requires invariant-loop decreases-loop
 next-requires c κs = search rules
@@ -43,16 +43,16 @@ ask-requires c κs = search rules
 sub-left : tie.Need-overflow-sub-left invariant-loop decreases-loop
 sub-left c = search rules
 
-loop-less : tie.Need-loop-smaller invariant-loop decreases-loop
-loop-less c = search rules
+loop_less : tie.Need-loop-smaller invariant-loop decreases-loop
+loop_less c = search rules
 
-loop-again : tie.Need-loop-preserved invariant-loop decreases-loop
-loop-again c = search rules
+loop_again : tie.Need-loop-preserved invariant-loop decreases-loop
+loop_again c = search rules
 
 returns : tie.Need-returns invariant-loop decreases-loop
 returns c = search rules
 
 pub ask-all-spec : {M : Type 1} → statement M
-ask-all-spec = tie.close (tie.spec invariant-loop decreases-loop loop-holds next-requires is-trimming-requires next-places-requires
-    ask-trim-requires is-carrying-requires ask-carry-requires next-wide-requires next-wide-requires-2 ask-requires sub-left loop-less
-    loop-again returns)
+ask-all-spec = tie.close (tie.spec invariant-loop decreases-loop loop_holds next-requires is-trimming-requires next-places-requires
+    ask-trim-requires is-carrying-requires ask-carry-requires next-wide-requires next-wide-requires-2 ask-requires sub-left loop_less
+    loop_again returns)

@@ -13,11 +13,11 @@ decreases-loop n a b i₀ i = n - i
 returns : tie.Need-returns invariant-loop decreases-loop
 returns c = search rules
 
-returns-2 : tie.Need-returns-2 invariant-loop decreases-loop
-returns-2 c = search rules
+returns_2 : tie.Need-returns-2 invariant-loop decreases-loop
+returns_2 c = search rules
 
-loop-holds : tie.Need-loop-init invariant-loop decreases-loop
-loop-holds c = search rules
+loop_holds : tie.Need-loop-init invariant-loop decreases-loop
+loop_holds c = search rules
 
 mul-if3 : tie.Need-overflow-mul-if3 invariant-loop decreases-loop
 mul-if3 c = search rules
@@ -31,17 +31,17 @@ mul-if3-2 c = search rules
 shared-slice-read-if3-2 : tie.Need-shared-slice-read-if3-2 invariant-loop decreases-loop
 shared-slice-read-if3-2 c = search rules
 
-returns-3 : tie.Need-returns-3 invariant-loop decreases-loop
-returns-3 c = search rules
+returns_3 : tie.Need-returns-3 invariant-loop decreases-loop
+returns_3 c = search rules
 
-add-i : tie.Need-overflow-add-i invariant-loop decreases-loop
-add-i c = search rules
+add_i : tie.Need-overflow-add-i invariant-loop decreases-loop
+add_i c = search rules
 
-loop-less : tie.Need-loop-smaller invariant-loop decreases-loop
-loop-less c = search rules
+loop_less : tie.Need-loop-smaller invariant-loop decreases-loop
+loop_less c = search rules
 
-loop-again : tie.Need-loop-preserved invariant-loop decreases-loop
-loop-again c = search rules
+loop_again : tie.Need-loop-preserved invariant-loop decreases-loop
+loop_again c = search rules
 
 returns-4 : tie.Need-returns-4 invariant-loop decreases-loop
 returns-4 c = search rules
@@ -53,14 +53,14 @@ same-entries-spec =
     invariant-loop
     decreases-loop
     returns
-    returns-2
-    loop-holds
+    returns_2
+    loop_holds
     mul-if3
     shared-slice-read-if3
     mul-if3-2
     shared-slice-read-if3-2
-    returns-3
-    add-i
-    loop-less
-    loop-again
+    returns_3
+    add_i
+    loop_less
+    loop_again
     returns-4)

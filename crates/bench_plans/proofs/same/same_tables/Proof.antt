@@ -20,14 +20,14 @@ returns c = search rules
 same-entries-requires : tie.Need-same-entries-requires invariant-loop decreases-loop
 same-entries-requires c κs = search rules
 
-returns-2 : tie.Need-returns-2 invariant-loop decreases-loop
-returns-2 c = search rules
+returns_2 : tie.Need-returns-2 invariant-loop decreases-loop
+returns_2 c = search rules
 
 same-entries-requires-2 : tie.Need-same-entries-requires-2 invariant-loop decreases-loop
 same-entries-requires-2 c κs = search rules
 
-returns-3 : tie.Need-returns-3 invariant-loop decreases-loop
-returns-3 c = search rules
+returns_3 : tie.Need-returns-3 invariant-loop decreases-loop
+returns_3 c = search rules
 
 returns-4 : tie.Need-returns-4 invariant-loop decreases-loop
 returns-4 c = search rules
@@ -35,8 +35,8 @@ returns-4 c = search rules
 returns-5 : tie.Need-returns-5 invariant-loop decreases-loop
 returns-5 c = search rules
 
-loop-holds : tie.Need-loop-init invariant-loop decreases-loop
-loop-holds c = search rules
+loop_holds : tie.Need-loop-init invariant-loop decreases-loop
+loop_holds c = search rules
 
 row-at-requires : tie.Need-row-at-requires invariant-loop decreases-loop
 row-at-requires c κs = search rules
@@ -53,16 +53,16 @@ returns-6 c = search rules
 add-s : tie.Need-overflow-add-s invariant-loop decreases-loop
 add-s c = search rules
 
-loop-less : tie.Need-loop-smaller invariant-loop decreases-loop
-loop-less c = search rules
+loop_less : tie.Need-loop-smaller invariant-loop decreases-loop
+loop_less c = search rules
 
-loop-again : tie.Need-loop-preserved invariant-loop decreases-loop
-loop-again c = search rules
+loop_again : tie.Need-loop-preserved invariant-loop decreases-loop
+loop_again c = search rules
 
 returns-7 : tie.Need-returns-7 invariant-loop decreases-loop
 returns-7 c = search rules
 
 pub same-tables-spec : {M : Type 1} → statement M
 same-tables-spec = tie.close
-    (tie.spec invariant-loop decreases-loop same-size-requires returns same-entries-requires returns-2 same-entries-requires-2 returns-3 returns-4
-    returns-5 loop-holds row-at-requires row-at-requires-2 same-row-requires returns-6 add-s loop-less loop-again returns-7)
+    (tie.spec invariant-loop decreases-loop same-size-requires returns same-entries-requires returns_2 same-entries-requires-2 returns_3 returns-4
+    returns-5 loop_holds row-at-requires row-at-requires-2 same-row-requires returns-6 add-s loop_less loop_again returns-7)

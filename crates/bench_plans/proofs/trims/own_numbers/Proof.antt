@@ -14,26 +14,26 @@ decreases-loop olds n end i₀ i = end - i
 least-requires : tie.Need-least-requires invariant-loop decreases-loop
 least-requires c κs = omega arith
 
-loop-holds : tie.Need-loop-init invariant-loop decreases-loop
-loop-holds c = omega arith
+loop_holds : tie.Need-loop-init invariant-loop decreases-loop
+loop_holds c = omega arith
 
-at-requires : tie.Need-at-requires invariant-loop decreases-loop
-at-requires c κs = omega arith
+at_requires : tie.Need-at-requires invariant-loop decreases-loop
+at_requires c κs = omega arith
 
 returns : tie.Need-returns invariant-loop decreases-loop
 returns c = omega arith
 
-add-i : tie.Need-overflow-add-i invariant-loop decreases-loop
-add-i c = omega arith
+add_i : tie.Need-overflow-add-i invariant-loop decreases-loop
+add_i c = omega arith
 
-loop-less : tie.Need-loop-smaller invariant-loop decreases-loop
-loop-less c = omega arith
+loop_less : tie.Need-loop-smaller invariant-loop decreases-loop
+loop_less c = omega arith
 
-loop-again : tie.Need-loop-preserved invariant-loop decreases-loop
-loop-again c = omega arith
+loop_again : tie.Need-loop-preserved invariant-loop decreases-loop
+loop_again c = omega arith
 
-returns-2 : tie.Need-returns-2 invariant-loop decreases-loop
-returns-2 c = omega arith
+returns_2 : tie.Need-returns-2 invariant-loop decreases-loop
+returns_2 c = omega arith
 
 pub own-numbers-spec : {M : Type 1} → statement M
 own-numbers-spec =
@@ -42,10 +42,10 @@ own-numbers-spec =
     invariant-loop
     decreases-loop
     least-requires
-    loop-holds
-    at-requires
+    loop_holds
+    at_requires
     returns
-    add-i
-    loop-less
-    loop-again
-    returns-2)
+    add_i
+    loop_less
+    loop_again
+    returns_2)

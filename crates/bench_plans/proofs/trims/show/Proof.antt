@@ -22,8 +22,8 @@ returns c = search rules
 go-on-requires : tie.Need-go-on-requires
 go-on-requires c κs = search rules
 
-returns-2 : tie.Need-returns-2
-returns-2 c = search rules
+returns_2 : tie.Need-returns-2
+returns_2 c = search rules
 
 pub show-spec : {M : Type 1} → statement M
-show-spec = tie.close (tie.spec print-rows-requires print-lent-requires enum-known-r enum_told returns go-on-requires returns-2)
+show-spec = tie.close (tie.spec print-rows-requires print-lent-requires enum-known-r enum_told returns go-on-requires returns_2)

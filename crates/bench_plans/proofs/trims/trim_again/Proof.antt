@@ -37,8 +37,8 @@ slice-aggregate-own-numbers c = search rules
 own-numbers-requires : tie.Need-own-numbers-requires
 own-numbers-requires c κs = search rules
 
-returns-2 : tie.Need-returns-2
-returns-2 c = search rules
+returns_2 : tie.Need-returns-2
+returns_2 c = search rules
 
 slice-aggregate-same-tables : tie.Need-slice-aggregate-same-tables
 slice-aggregate-same-tables c = search rules
@@ -52,10 +52,10 @@ slice-aggregate-same-tables-3 c = search rules
 same-tables-requires : tie.Need-same-tables-requires
 same-tables-requires c κs = search rules
 
-returns-3 : tie.Need-returns-3
-returns-3 c = search rules
+returns_3 : tie.Need-returns-3
+returns_3 c = search rules
 
 pub trim-again-spec : {M : Type 1} → statement M
 trim-again-spec = tie.close (tie.spec slice-aggregate-trim slice-aggregate-trim-2 slice-aggregate-trim-3 slice-aggregate-trim-4
-    slice-aggregate-trim-5 trim-requires enum-known-r enum_told returns slice-aggregate-own-numbers own-numbers-requires returns-2
-    slice-aggregate-same-tables slice-aggregate-same-tables-2 slice-aggregate-same-tables-3 same-tables-requires returns-3)
+    slice-aggregate-trim-5 trim-requires enum-known-r enum_told returns slice-aggregate-own-numbers own-numbers-requires returns_2
+    slice-aggregate-same-tables slice-aggregate-same-tables-2 slice-aggregate-same-tables-3 same-tables-requires returns_3)

@@ -16,11 +16,11 @@ print-answer-requires c κs = search rules
 same_length : tie.Need-same-length
 same_length c = search rules
 
-same-length-2 : tie.Need-same-length-2
-same-length-2 c = search rules
+same_length_2 : tie.Need-same-length-2
+same_length_2 c = search rules
 
-same-length-3 : tie.Need-same-length-3
-same-length-3 c = search rules
+same_length_3 : tie.Need-same-length-3
+same_length_3 c = search rules
 
 same-length-4 : tie.Need-same-length-4
 same-length-4 c = search rules
@@ -49,10 +49,10 @@ same-length-9 c = search rules
 same-length-10 : tie.Need-same-length-10
 same-length-10 c = search rules
 
-returns-2 : tie.Need-returns-2
-returns-2 c = search rules
+returns_2 : tie.Need-returns-2
+returns_2 c = search rules
 
 pub try-trim-spec : {M : Type 1} → statement M
-try-trim-spec = tie.close (tie.spec hold-rows-requires trim-requires print-answer-requires same_length same-length-2 same-length-3
+try-trim-spec = tie.close (tie.spec hold-rows-requires trim-requires print-answer-requires same_length same_length_2 same_length_3
     same-length-4 same-length-5 returns show-requires same-length-6 same-length-7 same-length-8 same-length-9 same-length-10
-    returns-2)
+    returns_2)

@@ -4,7 +4,7 @@ use Prim.Native.Nat.{◌-◌, ◌≤◌}
 use native.Mathlib.Omega.{arith}
 use lib.ListN.{length, get_or}
 use Rattle.laws.specs.Placed.{Placed}
-use Rattle.laws.proofs.Placed.{placed-none, placed-next, placed-done}
+use Rattle.laws.proofs.Placed.{placed_none, placed_next, placed_done}
 use Rattle.carry.proofs.placing.place_all.Statement.{statement}
 use Rattle.carry.proofs.placing.place_all.Tie as tie
 
@@ -14,8 +14,8 @@ invariant-loop olds table places₀ i₀ places i = Placed i olds (λ j. get_or 
 abbrev decreases-loop : tie.decreases-loop
 decreases-loop olds table places₀ i₀ places i = length olds - i
 
-loop-holds : tie.Need-loop-init invariant-loop decreases-loop
-loop-holds c = (placed-none, omega arith)
+loop_holds : tie.Need-loop-init invariant-loop decreases-loop
+loop_holds c = (placed_none, omega arith)
 
 mul-places : tie.Need-overflow-mul-places invariant-loop decreases-loop
 mul-places c = omega (arith, c.before.before.before.before.before.requires.0)
@@ -23,8 +23,8 @@ mul-places c = omega (arith, c.before.before.before.before.before.requires.0)
 shared-slice-read-places : tie.Need-shared-slice-read-places invariant-loop decreases-loop
 shared-slice-read-places c = omega (arith, c.before.before.before.before.before.before.requires.0)
 
-at-requires : tie.Need-at-requires invariant-loop decreases-loop
-at-requires c κs = omega arith
+at_requires : tie.Need-at-requires invariant-loop decreases-loop
+at_requires c κs = omega arith
 
 mul-places-2 : tie.Need-overflow-mul-places-2 invariant-loop decreases-loop
 mul-places-2 c =
@@ -38,23 +38,23 @@ slice-write-places c =
     let entry = past-test.before.before.before.before.before in
     omega (arith, c.at.ensures, entry.requires.1.inside _ past-test.loop-test.true, past-test.before.loop.invariant.0.same)
 
-add-i : tie.Need-overflow-add-i invariant-loop decreases-loop
-add-i c = omega arith
+add_i : tie.Need-overflow-add-i invariant-loop decreases-loop
+add_i c = omega arith
 
-loop-less : tie.Need-loop-smaller invariant-loop decreases-loop
-loop-less c = omega arith
+loop_less : tie.Need-loop-smaller invariant-loop decreases-loop
+loop_less c = omega arith
 
-loop-again : tie.Need-loop-preserved invariant-loop decreases-loop
-loop-again c =
+loop_again : tie.Need-loop-preserved invariant-loop decreases-loop
+loop_again c =
     let past-test = c.before.before in
     let entry = past-test.before.before.before.before.before in
-    (placed-next past-test.before.loop.invariant.0 entry.requires.1 past-test.loop-test.true c.at.ensures refl refl, omega arith)
+    (placed_next past-test.before.loop.invariant.0 entry.requires.1 past-test.loop-test.true c.at.ensures refl refl, omega arith)
 
 same_length : tie.Need-same-length invariant-loop decreases-loop
 same_length c = c.before.loop.invariant.0.same
 
 returns : tie.Need-returns invariant-loop decreases-loop
-returns c = placed-done c.before.loop.invariant.0 c.before.loop.invariant.1 (omega (arith, c.loop-test.false))
+returns c = placed_done c.before.loop.invariant.0 c.before.loop.invariant.1 (omega (arith, c.loop-test.false))
 
 pub place-all-spec : {M : Type 1} → statement M
 place-all-spec =
@@ -62,14 +62,14 @@ place-all-spec =
     (tie.spec
     invariant-loop
     decreases-loop
-    loop-holds
+    loop_holds
     mul-places
     shared-slice-read-places
-    at-requires
+    at_requires
     mul-places-2
     slice-write-places
-    add-i
-    loop-less
-    loop-again
+    add_i
+    loop_less
+    loop_again
     same_length
     returns)

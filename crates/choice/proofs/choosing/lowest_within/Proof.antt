@@ -6,10 +6,10 @@ use native.Mathlib.Omega.{arith}
 use lib.ListN.{get_or}
 use Rattle.laws.specs.Entry.{entry}
 use Rattle.laws.specs.First.{FirstNot}
-use Rattle.laws.proofs.Tries.{first-start, first_next, first-stop, first_done}
-use Rattle.laws.proofs.Least.{least_first, least-missing}
+use Rattle.laws.proofs.Tries.{first_start, first_next, first_stop, first_done}
+use Rattle.laws.proofs.Least.{least_first, least_missing}
 use Rattle.choice.specs.Within.{within}
-use Rattle.choice.proofs.Members.{member, not-member}
+use Rattle.choice.proofs.Members.{member, not_member}
 use Rattle.choice.proofs.choosing.lowest_within.Statement.{statement}
 use Rattle.choice.proofs.choosing.lowest_within.Tie as tie
 
@@ -20,14 +20,14 @@ invariant-loop outcomes table limit from end i₀ i =
 abbrev decreases-loop : tie.decreases-loop
 decreases-loop outcomes table limit from end i₀ i = end - i
 
-loop-holds : tie.Need-loop-init invariant-loop decreases-loop
-loop-holds c = (c.before.before.requires.0.0, first-start)
+loop_holds : tie.Need-loop-init invariant-loop decreases-loop
+loop_holds c = (c.before.before.requires.0.0, first_start)
 
-at-requires : tie.Need-at-requires invariant-loop decreases-loop
-at-requires c κs = omega (arith, c.before.before.before.before.requires.0.1, c.loop-test.true)
+at_requires : tie.Need-at-requires invariant-loop decreases-loop
+at_requires c κs = omega (arith, c.before.before.before.before.requires.0.1, c.loop-test.true)
 
-at-requires-2 : tie.Need-at-requires-2 invariant-loop decreases-loop
-at-requires-2 c κs =
+at_requires_2 : tie.Need-at-requires-2 invariant-loop decreases-loop
+at_requires_2 c κs =
     let start = c.before.before.before.before.before in
     omega (arith, start.requires.0.2 _ c.before.loop-test.true)
 
@@ -35,40 +35,40 @@ returns : tie.Need-returns invariant-loop decreases-loop
 unfolding entry
 returns c =
     let past-at = c.before.before in
-    let past-loop-test = past-at.before in
-    let turn = past-loop-test.before in
+    let past_loop_test = past-at.before in
+    let turn = past_loop_test.before in
     let start = turn.before.before.before in
     let a = start.args in
     let inside = member a.table.now a.limit past-at.at.result _ c.before.at2.ensures c.if1.true in
-    let v = first-stop turn.loop.invariant.1 a.end past-loop-test.loop-test.true (ap not (rw past-at.at.ensures at inside)) in
+    let v = first_stop turn.loop.invariant.1 a.end past_loop_test.loop-test.true (ap not (rw past-at.at.ensures at inside)) in
     past-at.at.ensures
     ∙ sym (ap entry (least_first (within a.table.now a.limit) a.outcomes.now a.from a.end _ start.requires.0.0
-    start.requires.0.1 v start.requires.1 past-loop-test.loop-test.true))
+    start.requires.0.1 v start.requires.1 past_loop_test.loop-test.true))
 
-add-i : tie.Need-overflow-add-i invariant-loop decreases-loop
-add-i c = omega arith
+add_i : tie.Need-overflow-add-i invariant-loop decreases-loop
+add_i c = omega arith
 
-loop-less : tie.Need-loop-smaller invariant-loop decreases-loop
-loop-less c = omega arith
+loop_less : tie.Need-loop-smaller invariant-loop decreases-loop
+loop_less c = omega arith
 
-loop-again : tie.Need-loop-preserved invariant-loop decreases-loop
-loop-again c =
+loop_again : tie.Need-loop-preserved invariant-loop decreases-loop
+loop_again c =
     let past-at = c.before.before in
-    let past-loop-test = past-at.before in
-    let turn = past-loop-test.before in
+    let past_loop_test = past-at.before in
+    let turn = past_loop_test.before in
     let start = turn.before.before.before in
     let a = start.args in
-    let outside = not-member a.table.now a.limit past-at.at.result _ c.before.at2.ensures c.if1.false in
-    (omega (arith, past-loop-test.loop-test.true), first_next turn.loop.invariant.1 (ap not (rw past-at.at.ensures at outside)))
+    let outside = not_member a.table.now a.limit past-at.at.result _ c.before.at2.ensures c.if1.false in
+    (omega (arith, past_loop_test.loop-test.true), first_next turn.loop.invariant.1 (ap not (rw past-at.at.ensures at outside)))
 
-returns-2 : tie.Need-returns-2 invariant-loop decreases-loop
+returns_2 : tie.Need-returns-2 invariant-loop decreases-loop
 unfolding entry
-returns-2 c =
+returns_2 c =
     let turn = c.before in
     let start = turn.before.before.before in
     let a = start.args in
     let v = first_done turn.loop.invariant.1 a.end turn.loop.invariant.0 c.loop-test.false in
-    sym (ap entry (least-missing (within a.table.now a.limit) a.outcomes.now a.from a.end _ start.requires.0.0
+    sym (ap entry (least_missing (within a.table.now a.limit) a.outcomes.now a.from a.end _ start.requires.0.0
     start.requires.0.1 v c.loop-test.false))
 
 pub lowest-within-spec : {M : Type 1} → statement M
@@ -77,11 +77,11 @@ lowest-within-spec =
     (tie.spec
     invariant-loop
     decreases-loop
-    loop-holds
-    at-requires
-    at-requires-2
+    loop_holds
+    at_requires
+    at_requires_2
     returns
-    add-i
-    loop-less
-    loop-again
-    returns-2)
+    add_i
+    loop_less
+    loop_again
+    returns_2)

@@ -9,14 +9,14 @@ use Rattle.contest.proofs.turns.+keeper_turn_works_turn.Lts-works_turn as works-
 use Rattle.contest.proofs.turns.+keeper_turn_works_turn.Proof.Claims.{
   μ-keeper,
   μ-works,
-  keeper-Inv-loop,
-  keeper-μ-loop,
-  works-Inv-loop,
-  works-μ-loop,
-  keeper-at,
+  keeper_Inv_loop,
+  keeper_μ_loop,
+  works_Inv_loop,
+  works_μ_loop,
+  keeper_at,
   works_at,
-  keeper-called,
-  works-called,
+  keeper_called,
+  works_called,
 }
 use Rattle.contest.proofs.turns.+keeper_turn_works_turn.Proof.Keeper as keeper
 use Rattle.contest.proofs.turns.+keeper_turn_works_turn.Proof.Works as works
@@ -26,46 +26,46 @@ use Rattle.contest.proofs.turns.+keeper_turn_works_turn.Tie.{close}
 pub +keeper-turn-works-turn-spec : {M : Type 1} → statement M
 +keeper-turn-works-turn-spec =
     close μ-keeper μ-works
-    (λ t. keeper-lts.spec (keeper-called t) (keeper-at t) keeper-turn.Post keeper-Inv-loop keeper-μ-loop
-    (keeper.sure-turn-requires t)
-    (keeper.memo-place-requires t)
-    (keeper.put-requires t)
+    (λ t. keeper-lts.spec (keeper_called t) (keeper_at t) keeper-turn.Post keeper_Inv_loop keeper_μ_loop
+    (keeper.sure_turn_requires t)
+    (keeper.memo_place_requires t)
+    (keeper.put_requires t)
     (keeper.same_length t)
     (keeper.returns t)
-    (keeper.at-requires t)
-    (keeper.at-requires-2 t)
-    (keeper.sub-count t)
-    (keeper.loop-holds t)
-    (keeper.sub-works-turn t)
-    (keeper.works-turn-requires t)
-    (keeper.memo-place-requires-2 t)
-    (keeper.put-requires-2 t)
-    (keeper.same-length-2 t)
-    (keeper.returns-2 t)
-    (keeper.add-c t)
-    (keeper.loop-less t)
-    (keeper.loop-again t)
-    (keeper.memo-place-requires-3 t)
-    (keeper.put-requires-3 t)
-    (keeper.same-length-3 t)
-    (keeper.returns-3 t))
-    (λ t. works-lts.spec (works-called t) (works_at t) works-turn.Post works-Inv-loop works-μ-loop
-    (works.at-requires t)
-    (works.add-place t)
-    (works.first-outcome-requires t)
-    (works.add-first-outcome t)
-    (works.first-outcome-requires-2 t)
-    (works.loop-holds t)
-    (works.at-requires-2 t)
-    (works.memo-place-requires t)
-    (works.at-requires-3 t)
+    (keeper.at_requires t)
+    (keeper.at_requires_2 t)
+    (keeper.sub_count t)
+    (keeper.loop_holds t)
+    (keeper.sub_works_turn t)
+    (keeper.works_turn_requires t)
+    (keeper.memo_place_requires_2 t)
+    (keeper.put_requires_2 t)
+    (keeper.same_length_2 t)
+    (keeper.returns_2 t)
+    (keeper.add_c t)
+    (keeper.loop_less t)
+    (keeper.loop_again t)
+    (keeper.memo_place_requires_3 t)
+    (keeper.put_requires_3 t)
+    (keeper.same_length_3 t)
+    (keeper.returns_3 t))
+    (λ t. works-lts.spec (works_called t) (works_at t) works-turn.Post works_Inv_loop works_μ_loop
+    (works.at_requires t)
+    (works.add_place t)
+    (works.first_outcome_requires t)
+    (works.add_first_outcome t)
+    (works.first_outcome_requires_2 t)
+    (works.loop_holds t)
+    (works.at_requires_2 t)
+    (works.memo_place_requires t)
+    (works.at_requires_3 t)
     (works.same_length t)
     (works.returns t)
-    (works.keeper-turn-requires t)
-    (works.same-length-2 t)
-    (works.returns-2 t)
-    (works.add-i t)
-    (works.loop-less t)
-    (works.loop-again t)
-    (works.same-length-3 t)
-    (works.returns-3 t))
+    (works.keeper_turn_requires t)
+    (works.same_length_2 t)
+    (works.returns_2 t)
+    (works.add_i t)
+    (works.loop_less t)
+    (works.loop_again t)
+    (works.same_length_3 t)
+    (works.returns_3 t))

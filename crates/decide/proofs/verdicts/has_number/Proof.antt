@@ -3,11 +3,11 @@ use borrow.Author.Rules.{rules}
 use Rattle.decide.proofs.verdicts.has_number.Statement.{statement}
 use Rattle.decide.proofs.verdicts.has_number.Tie as tie
 
-at-requires : tie.Need-at-requires
-at-requires c κs = search rules
+at_requires : tie.Need-at-requires
+at_requires c κs = search rules
 
 returns : tie.Need-returns
 returns c = rw c.at.ensures
 
 pub has-number-spec : {M : Type 1} → statement M
-has-number-spec = tie.close (tie.spec at-requires returns)
+has-number-spec = tie.close (tie.spec at_requires returns)

@@ -1,6 +1,6 @@
 -- Command, mark and place in the tally are each what the callees' contracts say of the state, of which the span was read.
 use native.Mathlib.Omega.{arith}
-use Rattle.decide.proofs.StateVerdicts.{seen-inside, seen-fits, mark-small, judged}
+use Rattle.decide.proofs.StateVerdicts.{seen_inside, seen_fits, mark_small, judged}
 use borrow.Author.Rules.{rules}
 use Rattle.decide.proofs.verdicts.judge.Statement.{statement}
 use Rattle.decide.proofs.verdicts.judge.Tie as tie
@@ -20,28 +20,28 @@ has-number-requires-2 c κs = search rules
 command-of-requires : tie.Need-command-of-requires
 command-of-requires c κs =
     let entry = c.before.before.before.before.before.before.before.before in
-    let i = seen-inside entry.requires.1.0 in (entry.requires.0, (i.0, i.1, entry.requires.1.1.0))
+    let i = seen_inside entry.requires.1.0 in (entry.requires.0, (i.0, i.1, entry.requires.1.1.0))
 
-put-requires : tie.Need-put-requires
-put-requires c κs =
+put_requires : tie.Need-put-requires
+put_requires c κs =
     let entry = c.before.before.before.before.before.before.before.before.before.before in
-    (omega (arith, entry.requires.1.0.inside, entry.requires.1.1), seen-fits entry.requires.1.0 _ _ _ c.before.command-of.ensures)
+    (omega (arith, entry.requires.1.0.inside, entry.requires.1.1), seen_fits entry.requires.1.0 _ _ _ c.before.command-of.ensures)
 
 is-fault-requires : tie.Need-is-fault-requires
 is-fault-requires c κs =
     let entry = c.before.before.before.before.before.before.before.before.before.before.before.before.before in
-    (seen-inside entry.requires.1.0).0
+    (seen_inside entry.requires.1.0).0
 
 mark-of-requires : tie.Need-mark-of-requires
 mark-of-requires c κs = search rules
 
-put-requires-2 : tie.Need-put-requires-2
-put-requires-2 c κs =
+put_requires_2 : tie.Need-put-requires-2
+put_requires_2 c κs =
     let past-has-number2 = c.before.before.before.before.before.before.before.before in
     let entry = past-has-number2-to-entry past-has-number2 in (
       omega (arith, entry.pre.1.0.inside, entry.pre.1.1),
       rw c.mark_of.ensures
-          (mark-small past-has-number2.has-number2.result c.before.before.is-fault.result),
+          (mark_small past-has-number2.has-number2.result c.before.before.is-fault.result),
     )
 
 one-if-requires : tie.Need-one-if-requires
@@ -50,7 +50,7 @@ one-if-requires c κs = search rules
 has-practice-requires : tie.Need-has-practice-requires
 has-practice-requires c κs =
     let entry = c.before.before.before.before.before.before.before.before.before.before.before.before.before.before.before.before.before.before.before.before in
-    (seen-inside entry.pre.1.0).0
+    (seen_inside entry.pre.1.0).0
 
 column-of-requires : tie.Need-column-of-requires
 column-of-requires c κs = search rules
@@ -58,8 +58,8 @@ column-of-requires c κs = search rules
 same_length : tie.Need-same-length
 same_length c = search rules
 
-same-length-2 : tie.Need-same-length-2
-same-length-2 c = search rules
+same_length_2 : tie.Need-same-length-2
+same_length_2 c = search rules
 
 returns : tie.Need-returns
 returns c =
@@ -85,13 +85,13 @@ judge-spec =
     has-number-requires
     has-number-requires-2
     command-of-requires
-    put-requires
+    put_requires
     is-fault-requires
     mark-of-requires
-    put-requires-2
+    put_requires_2
     one-if-requires
     has-practice-requires
     column-of-requires
     same_length
-    same-length-2
+    same_length_2
     returns)

@@ -1,7 +1,7 @@
 -- A refusal and a lack of room leave the slices as they were; else each slice begins with what deciding left.
-use Rattle.gate_deciding.proofs.Delivering.{not-decided, cramped, delivered, decision-fits, room-facts}
+use Rattle.gate_deciding.proofs.Delivering.{not_decided, cramped, delivered, decision_fits, room_facts}
 use Rattle.laws.proofs.Loops.{stopped, passed}
-use Rattle.model.specs.Boundary.{entryBytes, tallyBytes}
+use Rattle.model.specs.Boundary.{entry_bytes, tally_bytes}
 use Prim.Native.Nat.{◌*◌, ◌≤◌}
 use lib.ListN.{length}
 use borrow.Author.Rules.{rules}
@@ -54,16 +54,16 @@ fits : (c : tie.Else1) →
 fits c =
     let entry = else1-to-entry c in
     let a = entry.args in
-    decision-fits a.decision a.ranked.now a.chosen.now a.marked.now a.clean.now a.n a.ranks.now
+    decision_fits a.decision a.ranked.now a.chosen.now a.marked.now a.clean.now a.n a.ranks.now
     a.commands.now a.marks.now a.scratch.now a.tally.now c.before.before.enum_told.given.1 entry.pre
 
 roomy : (c : tie.Else1) →
     let a = (else1-to-entry c).args in
-    (a.n * entryBytes ≤ length a.ranks.now) × (a.n * entryBytes ≤ length a.commands.now)
-    × (a.n * entryBytes ≤ length a.marks.now) × (a.n * entryBytes ≤ length a.scratch.now) × (tallyBytes ≤ length a.tally.now)
+    (a.n * entry_bytes ≤ length a.ranks.now) × (a.n * entry_bytes ≤ length a.commands.now)
+    × (a.n * entry_bytes ≤ length a.marks.now) × (a.n * entry_bytes ≤ length a.scratch.now) × (tally_bytes ≤ length a.tally.now)
 roomy c =
     let a = (else1-to-entry c).args in
-    room-facts a.n (length a.ranks.now) (length a.commands.now) (length a.marks.now) (length a.scratch.now)
+    room_facts a.n (length a.ranks.now) (length a.commands.now) (length a.marks.now) (length a.scratch.now)
     (length a.tally.now) c.before.room.ensures c.if1.false
 
 store-requires : tie.Need-store-requires
@@ -87,22 +87,22 @@ store-requires-4 c κs =
 store-tally-requires : tie.Need-store-tally-requires
 store-tally-requires c κs = (roomy (past-store4-to-else1 c.before.before.before.before.before)).4
 
-returns-2 : tie.Need-returns-2
-returns-2 c =
+returns_2 : tie.Need-returns-2
+returns_2 c =
     let entry = c.before.before.before.before.before.before.before.before.before.before.before.before.before in
     let a = entry.args in
-    not-decided a.decision a.ranked.now a.chosen.now a.marked.now a.clean.now a.n a.ranks.now a.commands.now
+    not_decided a.decision a.ranked.now a.chosen.now a.marked.now a.clean.now a.n a.ranks.now a.commands.now
     a.marks.now a.scratch.now a.tally.now
     _ c.before.before.answer.given.1 c.number.ensures
 
 same_length : tie.Need-same-length
 same_length c = search rules
 
-same-length-2 : tie.Need-same-length-2
-same-length-2 c = search rules
+same_length_2 : tie.Need-same-length-2
+same_length_2 c = search rules
 
-same-length-3 : tie.Need-same-length-3
-same-length-3 c = search rules
+same_length_3 : tie.Need-same-length-3
+same_length_3 c = search rules
 
 same-length-4 : tie.Need-same-length-4
 same-length-4 c = search rules
@@ -110,8 +110,8 @@ same-length-4 c = search rules
 same-length-5 : tie.Need-same-length-5
 same-length-5 c = search rules
 
-returns-3 : tie.Need-returns-3
-returns-3 c =
+returns_3 : tie.Need-returns-3
+returns_3 c =
     let past-store4 = c.before.before.before.before.before.before.before.before in
     let past-store3 = past-store4.before.before.before.before in
     let past-store2 = past-store3.before.before.before.before in
@@ -142,10 +142,10 @@ deliver-spec =
     store-requires-3
     store-requires-4
     store-tally-requires
-    returns-2
+    returns_2
     same_length
-    same-length-2
-    same-length-3
+    same_length_2
+    same_length_3
     same-length-4
     same-length-5
-    returns-3)
+    returns_3)

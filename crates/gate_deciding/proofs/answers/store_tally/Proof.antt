@@ -1,7 +1,7 @@
 -- Each entry is stored behind the one before it; together they are the bytes of the tally.
 use mir.Syntax.{w16}
 use borrow.Kind.Array.{e_int, good_length}
-use Rattle.gate_deciding.proofs.Delivering.{tally-stored}
+use Rattle.gate_deciding.proofs.Delivering.{tally_stored}
 use borrow.Author.Rules.{rules}
 use Rattle.gate_deciding.proofs.answers.store_tally.Statement.{statement}
 use Rattle.gate_deciding.proofs.answers.store_tally.Tie as tie
@@ -54,7 +54,7 @@ returns c =
     let past-store-entry = past-store-entry2.before.before.before.before in
     let entry = past-store-entry.before.before.before in
     let a = entry.args in
-    tally-stored a.t1 a.t2 _ (good_length (e_int w16) 3 a.t1 _ entry.well-formed.0)
+    tally_stored a.t1 a.t2 _ (good_length (e_int w16) 3 a.t1 _ entry.well-formed.0)
     (good_length (e_int w16) 3 a.t2 _ entry.well-formed.1.0) entry.requires
     past-store-entry.store_entry.ensures past-store-entry2.store-entry2.ensures past-store-entry3.store-entry3.ensures
     past-store-entry4.store-entry4.ensures past-store-entry5.store-entry5.ensures c.before.before.store-entry6.ensures

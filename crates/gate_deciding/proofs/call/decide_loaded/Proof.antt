@@ -1,5 +1,5 @@
 -- Deciding in tables of the limit's length is cramped nowhere, so that only the room in the slices is left to ask for.
-use Rattle.gate_deciding.proofs.Decided.{deliverable, decision-delivered}
+use Rattle.gate_deciding.proofs.Decided.{deliverable, decision_delivered}
 use Rattle.tables.specs.Meaning.{held}
 mod Tie
 use borrow.Author.Rules.{rules}
@@ -50,11 +50,11 @@ deliver-requires c κs =
 same_length : tie.Need-same-length
 same_length c = search rules
 
-same-length-2 : tie.Need-same-length-2
-same-length-2 c = search rules
+same_length_2 : tie.Need-same-length-2
+same_length_2 c = search rules
 
-same-length-3 : tie.Need-same-length-3
-same-length-3 c = search rules
+same_length_3 : tie.Need-same-length-3
+same_length_3 c = search rules
 
 same-length-4 : tie.Need-same-length-4
 same-length-4 c = search rules
@@ -68,7 +68,7 @@ returns c =
     let past-decide = past-deliver-to-past-decide past-deliver in
     let entry = past-decide-to-entry past-decide in
     let a = entry.args in
-    decision-delivered (held a.size a.rows.now a.firsts.now a.outcomes.now) _ a.ranks.now a.commands.now
+    decision_delivered (held a.size a.rows.now a.firsts.now a.outcomes.now) _ a.ranks.now a.commands.now
     a.marks.now a.scratch.now a.tally.now
     _ past-decide.decide.ensures.0 past-deliver.deliver.ensures
 
@@ -76,4 +76,4 @@ pub decide-loaded-spec : {M : Type 1} → statement M
 decide-loaded-spec = tie.close
     (tie.spec slice-aggregate-decide slice-aggregate-decide-2 slice-aggregate-decide-3 slice-aggregate-decide-4 decide-requires
     slice-aggregate-deliver slice-aggregate-deliver-2 slice-aggregate-deliver-3 slice-aggregate-deliver-4 deliver-requires same_length
-    same-length-2 same-length-3 same-length-4 same-length-5 returns)
+    same_length_2 same_length_3 same-length-4 same-length-5 returns)

@@ -18,18 +18,18 @@ returns c = rw c.enum_told.given.1
 room-requires : tie.Need-room-requires
 room-requires c κs = search rules
 
-returns-2 : tie.Need-returns-2
+returns_2 : tie.Need-returns-2
 unfolding need ◌>>=◌ ◌>>◌
-returns-2 c =
+returns_2 c =
     let past-plan = c.before.before.before in
     rw (past-plan.plan.given.1, stopped c.before.room.ensures c.if1.true)
 
-returns-3 : tie.Need-returns-3
+returns_3 : tie.Need-returns-3
 unfolding need ◌>>=◌ ◌>>◌
-returns-3 c =
+returns_3 c =
     let past-plan = c.before.before.before in
     rw (past-plan.plan.given.1, passed c.before.room.ensures c.if1.false)
 
 pub admit-spec : {M : Type 1} → statement M
 admit-spec =
-    tie.close (tie.spec enum-known-plan enum_told returns room-requires returns-2 returns-3)
+    tie.close (tie.spec enum-known-plan enum_told returns room-requires returns_2 returns_3)

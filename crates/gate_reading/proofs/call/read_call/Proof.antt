@@ -1,11 +1,11 @@
 -- The file is read into tables of the limits' lengths, which hold every plan: what is refused there or for want of room leaves every
--- slice as it was, and what is stored from the tables is what `gateReadCall` gives.
+-- slice as it was, and what is stored from the tables is what `gate_read_call` gives.
 use native.Mathlib.Omega.{arith}
 use mathlib.Core.List.{map}
 use lib.ListN.{replicate}
-use Rattle.model.specs.File.{maxStates, maxCommands, maxOutcomes}
+use Rattle.model.specs.File.{max_states, max_commands, max_outcomes}
 use Rattle.tables.specs.Meaning.{row_of}
-use Rattle.gate_reading.proofs.Answered.{refuses, rows-ready, lists-ready, gives}
+use Rattle.gate_reading.proofs.Answered.{refuses, rows_ready, lists_ready, gives}
 mod Tie
 use borrow.Author.Rules.{rules}
 use Rattle.gate_reading.proofs.call.read_call.Statement.{statement}
@@ -53,7 +53,7 @@ store-rows-requires c κs =
     let a = entry.args in
     let reads = past-read.read in
     let admits = past-admit.admit in
-    rows-ready a.file.now (map row_of (replicate maxStates _)) (replicate maxCommands 0) (replicate maxOutcomes 0) a.size.now
+    rows_ready a.file.now (map row_of (replicate max_states _)) (replicate max_commands 0) (replicate max_outcomes 0) a.size.now
     a.rows.now a.firsts.now a.outcomes.now
     reads.result admits.result reads.new.1.0 reads.ensures admits.ensures (omega arith, omega arith, omega arith)
     past-admitted2.admitted2.given.1
@@ -73,7 +73,7 @@ store-lists-requires c κs =
     let a = entry.args in
     let reads = past-read.read in
     let admits = past-admit.admit in
-    lists-ready a.file.now (map row_of (replicate maxStates _)) (replicate maxCommands 0) (replicate maxOutcomes 0) a.size.now
+    lists_ready a.file.now (map row_of (replicate max_states _)) (replicate max_commands 0) (replicate max_outcomes 0) a.size.now
     a.rows.now a.firsts.now a.outcomes.now
     reads.result admits.result reads.new.1.0 reads.ensures admits.ensures (omega arith, omega arith, omega arith)
     past-admitted2.admitted2.given.1
@@ -86,7 +86,7 @@ returns c =
     let a = entry.args in
     let reads = past-read.read in
     let admits = past-admit.admit in
-    refuses a.file.now (map row_of (replicate maxStates _)) (replicate maxCommands 0) (replicate maxOutcomes 0) a.size.now
+    refuses a.file.now (map row_of (replicate max_states _)) (replicate max_commands 0) (replicate max_outcomes 0) a.size.now
     a.rows.now a.firsts.now a.outcomes.now
     reads.result admits.result reads.new.1.0 reads.ensures admits.ensures (omega arith, omega arith, omega arith)
     c.before.before.admitted.given.1 c.number.ensures
@@ -94,17 +94,17 @@ returns c =
 same_length : tie.Need-same-length
 same_length c = search rules
 
-same-length-2 : tie.Need-same-length-2
-same-length-2 c = search rules
+same_length_2 : tie.Need-same-length-2
+same_length_2 c = search rules
 
-same-length-3 : tie.Need-same-length-3
-same-length-3 c = search rules
+same_length_3 : tie.Need-same-length-3
+same_length_3 c = search rules
 
 same-length-4 : tie.Need-same-length-4
 same-length-4 c = search rules
 
-returns-2 : tie.Need-returns-2
-returns-2 c =
+returns_2 : tie.Need-returns-2
+returns_2 c =
     let past-store-lists = c.before.before.before.before.before.before in
     let past-store-rows = past-store-lists-to-past-store-rows past-store-lists in
     let past-admitted2 = past-store-rows.before.before.before.before in
@@ -114,7 +114,7 @@ returns-2 c =
     let a = entry.args in
     let reads = past-read.read in
     let admits = past-admit.admit in
-    gives a.file.now (map row_of (replicate maxStates _)) (replicate maxCommands 0) (replicate maxOutcomes 0) a.size.now
+    gives a.file.now (map row_of (replicate max_states _)) (replicate max_commands 0) (replicate max_outcomes 0) a.size.now
     a.rows.now a.firsts.now a.outcomes.now
     reads.result admits.result reads.last.1.0 reads.ensures admits.ensures (omega arith, omega arith, omega arith)
     past-admitted2.admitted2.given.1 past-store-rows.store-rows.ensures past-store-lists.store-lists.ensures
@@ -123,4 +123,4 @@ pub read-call-spec : {M : Type 1} → statement M
 read-call-spec = tie.close
     (tie.spec slice-aggregate-read slice-aggregate-read-2 slice-aggregate-read-3 read-requires admit-requires enum-known-admitted
     number-requires enum-known-admitted-2 slice-aggregate-store-rows store-rows-requires slice-aggregate-store-lists
-    slice-aggregate-store-lists-2 store-lists-requires returns same_length same-length-2 same-length-3 same-length-4 returns-2)
+    slice-aggregate-store-lists-2 store-lists-requires returns same_length same_length_2 same_length_3 same-length-4 returns_2)

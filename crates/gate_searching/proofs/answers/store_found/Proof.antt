@@ -1,5 +1,5 @@
 -- The verdict and the rounds are stored one behind the other; together they are the bytes of the answer.
-use Rattle.gate_searching.proofs.Delivering.{found-stored}
+use Rattle.gate_searching.proofs.Delivering.{found_stored}
 use borrow.Author.Rules.{rules}
 use Rattle.gate_searching.proofs.answers.store_found.Statement.{statement}
 use Rattle.gate_searching.proofs.answers.store_found.Tie as tie
@@ -26,7 +26,7 @@ returns c =
     let past-flag = past-store-entry.before in
     let entry = past-flag.before.before.before in
     let f = entry.args.found in
-    found-stored (f.lost, f.rounds) _ entry.requires.1 (rw past-flag.flag.ensures at past-store-entry.store_entry.ensures)
+    found_stored (f.lost, f.rounds) _ entry.requires.1 (rw past-flag.flag.ensures at past-store-entry.store_entry.ensures)
     (rw past-narrow.narrow.ensures at c.before.before.store-entry2.ensures)
 
 pub store-found-spec : {M : Type 1} → statement M

@@ -1,9 +1,9 @@
 -- A plan that is not loaded is unsound; one that is loaded agrees with the plan lent, so that the search on it answers the same.
-use Rattle.load.proofs.Lending.{call-refused, call-given}
-use Rattle.gate_searching.proofs.LentSearch.{search-call, search-moved}
+use Rattle.load.proofs.Lending.{call_refused, call_given}
+use Rattle.gate_searching.proofs.LentSearch.{search_call_lem, search_moved}
 use lib.ListN.{length}
 use mathlib.Core.Path.{◌∙◌}
-use Rattle.gate_searching.proofs.Delivering.{refused-after}
+use Rattle.gate_searching.proofs.Delivering.{refused_after}
 mod Tie
 use borrow.Author.Rules.{rules}
 use Rattle.gate_searching.proofs.call.search_call.Statement.{statement}
@@ -53,35 +53,35 @@ returns c =
     let past-load-plan = c.before.before.before.before.before.before.before in
     let entry = past-load-plan-to-entry past-load-plan in
     let a = entry.args in
-    let e = call-refused _ _ _ _ _ past-load-plan.load-plan.ensures.0
-    (search-call a.start (length a.commands.now) (length a.scratch.now) (length a.answer.now)) _
+    let e = call_refused _ _ _ _ _ past-load-plan.load-plan.ensures.0
+    (search_call_lem a.start (length a.commands.now) (length a.scratch.now) (length a.answer.now)) _
     c.before.before.plan.given.1 in
-    refused-after _ _ _ _ _ _ _ e c.number.ensures
+    refused_after _ _ _ _ _ _ _ e c.number.ensures
 
 same_length : tie.Need-same-length
 same_length c = search rules
 
-same-length-2 : tie.Need-same-length-2
-same-length-2 c = search rules
+same_length_2 : tie.Need-same-length-2
+same_length_2 c = search rules
 
-same-length-3 : tie.Need-same-length-3
-same-length-3 c = search rules
+same_length_3 : tie.Need-same-length-3
+same_length_3 c = search rules
 
-returns-2 : tie.Need-returns-2
-returns-2 c =
+returns_2 : tie.Need-returns-2
+returns_2 c =
     let past-search-loaded = c.before.before.before.before.before.before in
     let past-plan2 = past-search-loaded-to-past-plan2 past-search-loaded in
     let past-load-plan = past-plan2.before.before.before.before.before in
     let entry = past-load-plan-to-entry past-load-plan in
     let a = entry.args in
     let l = past-load-plan.load-plan.ensures in
-    let e = call-given _ _ _ _ _ l.0
-    (search-call a.start (length a.commands.now) (length a.scratch.now) (length a.answer.now)) _
+    let e = call_given _ _ _ _ _ l.0
+    (search_call_lem a.start (length a.commands.now) (length a.scratch.now) (length a.answer.now)) _
     past-plan2.plan2.given.1 _ past-load-plan.load-plan.last.1.1.1.1.0 _ _ _ _ l.1.0 l.1.1.0 l.1.1.1 in
-    past-search-loaded.search-loaded.ensures ∙ search-moved e a.commands.now a.scratch.now a.answer.now
+    past-search-loaded.search-loaded.ensures ∙ search_moved e a.commands.now a.scratch.now a.answer.now
 
 pub search-call-spec : {M : Type 1} → statement M
 search-call-spec = tie.close
     (tie.spec slice-aggregate-load-plan slice-aggregate-load-plan-2 slice-aggregate-load-plan-3 load-plan-requires enum-known-plan
     number-requires enum-known-plan-2 slice-aggregate-search-loaded slice-aggregate-search-loaded-2 slice-aggregate-search-loaded-3
-    search-loaded-requires returns same_length same-length-2 same-length-3 returns-2)
+    search-loaded-requires returns same_length same_length_2 same_length_3 returns_2)

@@ -1,6 +1,6 @@
 -- The search in tables of the limit's length is cramped nowhere, so that only the room in the slices is left to ask for.
 use mathlib.Core.Path.{◌∙◌}
-use Rattle.gate_searching.proofs.Searched.{deliverable, search-delivered}
+use Rattle.gate_searching.proofs.Searched.{deliverable, search_delivered}
 use Rattle.tables.specs.Meaning.{held}
 mod Tie
 use borrow.Author.Rules.{rules}
@@ -39,11 +39,11 @@ deliver-requires c κs =
 same_length : tie.Need-same-length
 same_length c = search rules
 
-same-length-2 : tie.Need-same-length-2
-same-length-2 c = search rules
+same_length_2 : tie.Need-same-length-2
+same_length_2 c = search rules
 
-same-length-3 : tie.Need-same-length-3
-same-length-3 c = search rules
+same_length_3 : tie.Need-same-length-3
+same_length_3 c = search rules
 
 returns : tie.Need-returns
 returns c =
@@ -53,10 +53,10 @@ returns c =
     let a = entry.args in
     let s = past-search.search in
     past-deliver.deliver.ensures
-    ∙ search-delivered (held a.size a.rows.now a.firsts.now a.outcomes.now) _ _ s.result _ _ s.ensures.0
+    ∙ search_delivered (held a.size a.rows.now a.firsts.now a.outcomes.now) _ _ s.result _ _ s.ensures.0
     a.commands.now a.scratch.now a.answer.now
 
 pub search-loaded-spec : {M : Type 1} → statement M
 search-loaded-spec = tie.close
     (tie.spec slice-aggregate-search slice-aggregate-search-2 search-requires slice-aggregate-deliver slice-aggregate-deliver-2
-    deliver-requires same_length same-length-2 same-length-3 returns)
+    deliver-requires same_length same_length_2 same_length_3 returns)

@@ -2,8 +2,8 @@
 -- is listed.
 use native.Mathlib.Omega.{arith}
 use lib.ListN.{replicate}
-use Rattle.model.specs.File.{maxStates, maxCommands, maxOutcomes}
-use Rattle.listing.proofs.Files.{plan-read, refusal-read}
+use Rattle.model.specs.File.{max_states, max_commands, max_outcomes}
+use Rattle.listing.proofs.Files.{plan_read, refusal_read}
 mod Tie
 use borrow.Author.Rules.{rules}
 use Rattle.listing.proofs.file.list_file.Statement.{statement}
@@ -52,7 +52,7 @@ list-plan-requires c κs =
     let a = entry.args in
     let reads = past-read.read in
     let known = past-r2.r2.given in (
-      (plan-read a.file.now (replicate maxStates _) (replicate maxCommands 0) (replicate maxOutcomes 0) _ reads.new.1.0 _ _
+      (plan_read a.file.now (replicate max_states _) (replicate max_commands 0) (replicate max_outcomes 0) _ reads.new.1.0 _ _
           reads.ensures known.0.0 known.1).0,
       entry.pre,
     )
@@ -67,26 +67,26 @@ returns c =
     let entry = past-read-to-entry past-read in
     let a = entry.args in
     let reads = past-read.read in
-    rw (refusal-read a.file.now (replicate maxStates _) (replicate maxCommands 0) (replicate maxOutcomes 0) _ reads.new.1.0 _ _
+    rw (refusal_read a.file.now (replicate max_states _) (replicate max_commands 0) (replicate max_outcomes 0) _ reads.new.1.0 _ _
     reads.ensures _ past-r.r.given.1 (omega arith) (omega arith) (omega arith))
     c.before.before.put-refusal.ensures.0
 
-same-length-2 : tie.Need-same-length-2
-same-length-2 c = search rules
+same_length_2 : tie.Need-same-length-2
+same_length_2 c = search rules
 
-returns-2 : tie.Need-returns-2
-returns-2 c =
+returns_2 : tie.Need-returns-2
+returns_2 c =
     let past-r2 = c.before.before.before.before.before.before.before.before in
     let past-read = past-r2.before.before.before.before.before in
     let entry = past-read-to-entry past-read in
     let a = entry.args in
     let reads = past-read.read in
     let known = past-r2.r2.given in
-    rw (plan-read a.file.now (replicate maxStates _) (replicate maxCommands 0) (replicate maxOutcomes 0) _ reads.new.1.0 _ _
+    rw (plan_read a.file.now (replicate max_states _) (replicate max_commands 0) (replicate max_outcomes 0) _ reads.new.1.0 _ _
     reads.ensures known.0.0 known.1).1 c.before.before.list-plan.ensures
 
 pub list-file-spec : {M : Type 1} → statement M
 list-file-spec = tie.close
     (tie.spec slice-aggregate-read slice-aggregate-read-2 slice-aggregate-read-3 read-requires enum-known-r put-refusal-requires
     enum-known-r-2 slice-aggregate-list-plan slice-aggregate-list-plan-2 slice-aggregate-list-plan-3 list-plan-requires same_length returns
-    same-length-2 returns-2)
+    same_length_2 returns_2)

@@ -3,7 +3,7 @@ mod Tie
 use native.Mathlib.Omega.{arith}
 use borrow.Author.Rules.{rules}
 use Rattle.tables.specs.Meaning.{held}
-use Rattle.listing.proofs.PlanLines.{numbers-small, verdicts-room, start-room, plan-wrote}
+use Rattle.listing.proofs.PlanLines.{numbers_small, verdicts_room, start_room, plan_wrote}
 use Rattle.listing.proofs.plan.list_plan.Statement.{statement}
 use Rattle.listing.proofs.plan.list_plan.Proof.Tie as tie
 
@@ -11,7 +11,7 @@ put-plan-line-requires : tie.Need-put-plan-line-requires
 put-plan-line-requires c κs =
     let entry = c.before.before.before.before in
     let a = entry.args in
-    let small = numbers-small (held a.size a.rows.now a.firsts.now a.outcomes.now) entry.requires.0 in
+    let small = numbers_small (held a.size a.rows.now a.firsts.now a.outcomes.now) entry.requires.0 in
     (omega (arith, entry.requires.1), small.0, small.1, small.2)
 
 list-verdicts-requires : tie.Need-list-verdicts-requires
@@ -20,7 +20,7 @@ list-verdicts-requires c κs =
     let entry = past-put-plan-line.before.before.before.before.before in
     let a = entry.args in
     let T = held a.size a.rows.now a.firsts.now a.outcomes.now in
-    (entry.requires.0, verdicts-room T entry.requires.0 entry.requires.1 past-put-plan-line.put-plan-line.ensures.0)
+    (entry.requires.0, verdicts_room T entry.requires.0 entry.requires.1 past-put-plan-line.put-plan-line.ensures.0)
 
 list-start-requires : tie.Need-list-start-requires
 list-start-requires c κs =
@@ -30,7 +30,7 @@ list-start-requires c κs =
     let a = entry.args in
     let T = held a.size a.rows.now a.firsts.now a.outcomes.now in (
       entry.requires.0,
-      start-room T entry.requires.0 entry.requires.1 past-put-plan-line.put-plan-line.ensures.0
+      start_room T entry.requires.0 entry.requires.1 past-put-plan-line.put-plan-line.ensures.0
           past-list-verdicts.list-verdicts.ensures,
     )
 
@@ -44,7 +44,7 @@ returns c =
     let entry = past-put-plan-line.before.before.before.before.before in
     let a = entry.args in
     let T = held a.size a.rows.now a.firsts.now a.outcomes.now in
-    plan-wrote T entry.requires.0 entry.requires.1 past-put-plan-line.put-plan-line.ensures.0
+    plan_wrote T entry.requires.0 entry.requires.1 past-put-plan-line.put-plan-line.ensures.0
     past-list-verdicts.list-verdicts.ensures c.before.before.list-start.ensures
 
 pub list-plan-spec : {M : Type 1} → statement M

@@ -5,9 +5,9 @@ use borrow.Author.Rules.{rules}
 use mathlib.Core.Path.{ap}
 use Rattle.model.specs.Calls.{AfterSearch}
 use Rattle.model.specs.Search as Model
-use Rattle.model.specs.Held.{planIn}
+use Rattle.model.specs.Held.{plan_in}
 use Rattle.tables.specs.Meaning.{held}
-use Rattle.listing.proofs.Found.{start_small, found-answer, few-rounds}
+use Rattle.listing.proofs.Found.{start_small, found_answer, few_rounds}
 use Rattle.listing.proofs.start.list_start.Statement.{statement}
 use Rattle.listing.proofs.start.list_start.Proof.Tie as tie
 
@@ -32,7 +32,7 @@ put-answer-requires c κs =
     let T = held a.size a.rows.now a.firsts.now a.outcomes.now in (
       entry.pre.1,
       start_small T sounds,
-      few-rounds T sounds past-search.search.result
+      few_rounds T sounds past-search.search.result
           (ap (λ (x : AfterSearch). x.answers) past-search.search.ensures.0) (omega arith, omega arith),
     )
 
@@ -45,8 +45,8 @@ returns c =
     let entry = past-search-to-entry past-search in
     let a = entry.args in
     let T = held a.size a.rows.now a.firsts.now a.outcomes.now in
-    c.before.before.put-answer.ensures (Model.search (planIn T) a.size.start)
-    (found-answer T entry.pre.0 past-search.search.result
+    c.before.before.put-answer.ensures (Model.search (plan_in T) a.size.start)
+    (found_answer T entry.pre.0 past-search.search.result
     (ap (λ (x : AfterSearch). x.answers) past-search.search.ensures.0) (omega arith, omega arith))
 
 pub list-start-spec : {M : Type 1} → statement M

@@ -3,7 +3,7 @@ mod Tie
 use Prim.Native.Nat.{◌-◌}
 use native.Mathlib.Omega.{arith}
 use Rattle.tables.specs.Meaning.{held}
-use Rattle.listing.proofs.StateLines.{Lines, lines_start, lines-room, lines_next, lines-done}
+use Rattle.listing.proofs.StateLines.{Lines, lines_start, lines_room, lines_next, lines_done}
 use Rattle.listing.proofs.states.list_states.Statement.{statement}
 use Rattle.listing.proofs.states.list_states.Proof.Tie as tie
 
@@ -17,8 +17,8 @@ decreases-loop size rows firsts outcomes ranks commands marks out₀ place next�
 abbrev turn-to-entry : tie.Then1 invariant-loop decreases-loop → tie.Start invariant-loop decreases-loop
 turn-to-entry c = c.before.before.before.before.before.before.before.before.before
 
-loop-holds : tie.Need-loop-init invariant-loop decreases-loop
-loop-holds c =
+loop_holds : tie.Need-loop-init invariant-loop decreases-loop
+loop_holds c =
     let entry = c.before.before.before.before.before.before in
     let a = entry.args in
     lines_start (held a.size a.rows.now a.firsts.now a.outcomes.now) a.out.now a.place entry.requires.1.1.4
@@ -37,7 +37,7 @@ put-state-requires c κs =
     let long = entry.pre.1.1 in
     let below = turn.if1.true in
     let read = c.before.span-at.ensures a.firsts.now a.outcomes.now in
-    let room = lines-room (held a.size a.rows.now a.firsts.now a.outcomes.now) a.out.now a.place long.4
+    let room = lines_room (held a.size a.rows.now a.firsts.now a.outcomes.now) a.out.now a.place long.4
     turn.before.before.loop.invariant below in
     (entry.pre.0, ((below, long.1, long.2, long.3, room), λ fault. rw read (listed.given _ below fault)))
 
@@ -46,13 +46,13 @@ add-s c =
     let turn = c.before.before.before.before.before in
     omega (arith, turn.if1.true, (turn-to-entry turn).requires.0.few)
 
-loop-less : tie.Need-loop-smaller invariant-loop decreases-loop
-loop-less c =
+loop_less : tie.Need-loop-smaller invariant-loop decreases-loop
+loop_less c =
     let turn = c.before.before.before.before.before in
     omega (arith, turn.if1.true)
 
-loop-again : tie.Need-loop-preserved invariant-loop decreases-loop
-loop-again c =
+loop_again : tie.Need-loop-preserved invariant-loop decreases-loop
+loop_again c =
     let past-span-at = c.before.before.before.before in
     let turn = past-span-at.before in
     let entry = turn-to-entry turn in
@@ -70,9 +70,9 @@ returns c =
     let loop = c.before.before in
     let entry = loop.before.before.before.before.before.before.before in
     let a = entry.args in
-    lines-done (held a.size a.rows.now a.firsts.now a.outcomes.now) a.out.now a.place entry.requires.1.1.4
+    lines_done (held a.size a.rows.now a.firsts.now a.outcomes.now) a.out.now a.place entry.requires.1.1.4
     loop.loop.invariant c.if1.false
 
 pub list-states-spec : {M : Type 1} → statement M
 list-states-spec = tie.close
-    (tie.spec invariant-loop decreases-loop loop-holds span-at-requires put-state-requires add-s loop-less loop-again same_length returns)
+    (tie.spec invariant-loop decreases-loop loop_holds span-at-requires put-state-requires add-s loop_less loop_again same_length returns)

@@ -5,8 +5,8 @@ use Rattle.listing.proofs.Named.{read_named}
 use Rattle.listing.proofs.states.put_state.Statement.{statement}
 use Rattle.listing.proofs.states.put_state.Tie as tie
 
-at-requires : tie.Need-at-requires
-at-requires c κs = let entry = c.before.before.before.before.before.before in omega (arith, entry.requires.1.0)
+at_requires : tie.Need-at-requires
+at_requires c κs = let entry = c.before.before.before.before.before.before in omega (arith, entry.requires.1.0)
 
 fault-outcome-requires : tie.Need-fault-outcome-requires
 fault-outcome-requires c κs =
@@ -55,7 +55,7 @@ pub put-state-spec : {M : Type 1} → statement M
 put-state-spec =
     tie.close
     (tie.spec
-    at-requires
+    at_requires
     fault-outcome-requires
     mul-put-state-line
     shared-slice-read-put-state-line

@@ -5,11 +5,11 @@ use borrow.Author.Rules.{rules}
 use mathlib.Core.Path.{ap}
 use Rattle.model.specs.Calls.{AfterDecide}
 use Rattle.laws.proofs.Wrote.{wrote_then}
-use Rattle.model.specs.Held.{planIn}
+use Rattle.model.specs.Held.{plan_in}
 use Rattle.tables.specs.Meaning.{held}
-use Rattle.tables.proofs.Readiness.{sound-ready}
-use Rattle.listing.proofs.PlanLines.{tally-room}
-use Rattle.listing.proofs.Decided.{few, long-rows, all_listed, tallied}
+use Rattle.tables.proofs.Readiness.{sound_ready}
+use Rattle.listing.proofs.PlanLines.{tally_room}
+use Rattle.listing.proofs.Decided.{few, long_rows, all_listed, tallied}
 use Rattle.listing.proofs.verdicts.list_verdicts.Statement.{statement}
 use Rattle.listing.proofs.verdicts.list_verdicts.Proof.Tie as tie
 
@@ -57,13 +57,13 @@ list-states-requires c κs =
     let sounds = entry.pre.0 in
     let d = past-decide.decide.ensures.0 in
     let states = few a.size a.rows.now a.firsts.now a.outcomes.now sounds in (
-      sound-ready a.size a.rows.now a.firsts.now a.outcomes.now sounds,
+      sound_ready a.size a.rows.now a.firsts.now a.outcomes.now sounds,
       (
         all_listed a.size a.rows.now a.firsts.now a.outcomes.now sounds _ _ _
             (ap (λ (x : AfterDecide). x.ranks) d) (ap (λ (x : AfterDecide). x.commands) d) (ap (λ (x : AfterDecide). x.marks) d)
             (omega arith, omega arith, omega arith, omega arith),
         (
-          long-rows a.size a.rows.now a.firsts.now a.outcomes.now sounds,
+          long_rows a.size a.rows.now a.firsts.now a.outcomes.now sounds,
           omega (arith, states, past-ranks2.ranks2),
           omega (arith, states, past-commands2.commands2),
           omega (arith, states, past-marks2.marks2),
@@ -79,7 +79,7 @@ put-tally-requires c κs =
     let entry = past-decide-to-entry past-decide in
     let a = entry.args in
     let T = held a.size a.rows.now a.firsts.now a.outcomes.now in
-    tally-room (planIn T) a.size.n entry.pre.1 past-list-states.list-states.ensures
+    tally_room (plan_in T) a.size.n entry.pre.1 past-list-states.list-states.ensures
 
 same_length : tie.Need-same-length
 same_length c = search rules

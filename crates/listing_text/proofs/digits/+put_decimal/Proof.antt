@@ -9,9 +9,9 @@ use borrow.Fn.PlainCycle.{Measures, is, falls, and}
 use Rattle.laws.specs.Wrote.{Wrote}
 use Rattle.laws.proofs.Wrote.{wrote_then}
 use Rattle.model.specs.Listing.{decimal}
-use Rattle.model.proofs.Decimals.{decimal-one, decimal-more, decimal-short}
+use Rattle.model.proofs.Decimals.{decimal_one, decimal_more, decimal_short}
 use Rattle.tables.proofs.bytes.put_one.Reads as put_one
-use Rattle.listing_text.proofs.digits.last_digit.Reads as last-digit
+use Rattle.listing_text.proofs.digits.last_digit.Reads as last_digit_lem
 use Rattle.listing_text.proofs.digits.put_decimal.Reads as put-decimal
 use Rattle.listing_text.proofs.digits.put_decimal.Kinds as kinds
 use Rattle.listing_text.proofs.digits.+put_decimal.Lts-put_decimal as lts
@@ -20,7 +20,7 @@ use Rattle.listing_text.proofs.digits.+put_decimal.Tie.{close}
 
 -- a number with a digit to spare
 five-bytes : {l m : List ℕ} {i j x : ℕ} → Wrote l i (decimal x) m j → x < 100000 → j ≤ i + 5
-five-bytes {x = x} w h = omega (arith, w.past, decimal-short x h)
+five-bytes {x = x} w h = omega (arith, w.past, decimal_short x h)
 
 abbrev μ : Measures 1 kinds.ps ℕ
 μ κs a = a.1.1.0
@@ -34,7 +34,7 @@ module _ (t : ℕ) where
   below = and 1 kinds.ps (falls 1 kinds.ps ◌<◌ μ t) put-decimal.Pre
 
   abbrev called : lts.Claims
-  called = (last-digit.Asked, last-digit.Learnt, put_one.Asked, put_one.Learnt, below, put-decimal.Post)
+  called = (last_digit_lem.Asked, last_digit_lem.Learnt, put_one.Asked, put_one.Learnt, below, put-decimal.Post)
 
   last-digit-requires : lts.Need-last-digit-requires called at put-decimal.Post
   last-digit-requires c κs = search rules
@@ -50,7 +50,7 @@ module _ (t : ℕ) where
       let past-last-digit = c.before.before.before in
       let entry = past-last-digit.before.before.before.before in
       let digit = c.before.before.put_one.ensures in
-      (rw (decimal-one entry.args.x (omega arith), ← past-last-digit.last-digit.ensures) digit, omega arith)
+      (rw (decimal_one entry.args.x (omega arith), ← past-last-digit.last_digit_lem.ensures) digit, omega arith)
 
   put-decimal-requires : lts.Need-put-decimal-requires called at put-decimal.Post
   put-decimal-requires c κs =
@@ -66,17 +66,17 @@ module _ (t : ℕ) where
       let high = c.before.before.before.before.put-decimal.ensures.0 in
       omega (arith, five-bytes high (omega arith))
 
-  same-length-2 : lts.Need-same-length-2 called at put-decimal.Post
-  same-length-2 c = search rules
+  same_length_2 : lts.Need-same-length-2 called at put-decimal.Post
+  same_length_2 c = search rules
 
-  returns-2 : lts.Need-returns-2 called at put-decimal.Post
-  returns-2 c =
+  returns_2 : lts.Need-returns-2 called at put-decimal.Post
+  returns_2 c =
       let past-last-digit = c.before.before.before in
       let past-put-decimal = past-last-digit.before.before.before.before in
       let entry = past-put-decimal.before.before.before.before in
       let high = past-put-decimal.put-decimal.ensures.0 in
       let low = rw past-last-digit.last-digit2.ensures at c.before.before.put-one2.ensures in (
-        rw (decimal-more entry.args.x (omega arith) (omega arith)) (wrote_then high low),
+        rw (decimal_more entry.args.x (omega arith) (omega arith)) (wrote_then high low),
         omega (arith, five-bytes high (omega arith)),
       )
 
@@ -89,5 +89,5 @@ pub +put-decimal-spec : {M : Type 1} → statement M
     (put-decimal-requires t)
     (last-digit-requires-2 t)
     (put-one-requires-2 t)
-    (same-length-2 t)
-    (returns-2 t)
+    (same_length_2 t)
+    (returns_2 t)

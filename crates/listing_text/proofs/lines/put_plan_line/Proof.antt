@@ -2,7 +2,7 @@
 use mathlib.Core.List.{[], ◌∷◌}
 use native.Mathlib.Omega.{arith}
 use borrow.Author.Rules.{rules}
-use Rattle.model.specs.Listing.{planLine}
+use Rattle.model.specs.Listing.{plan_line}
 use Rattle.listing_text.proofs.LineBytes.{line_wrote}
 use Rattle.listing_text.proofs.lines.put_plan_line.Statement.{statement}
 use Rattle.listing_text.proofs.lines.put_plan_line.Tie as tie
@@ -23,7 +23,7 @@ same_length : tie.Need-same-length
 same_length c = search rules
 
 returns : tie.Need-returns
-unfolding planLine
+unfolding plan_line
 returns c =
     let past-put-three = c.before.before.before.before.before.before in
     let past-put-word = past-put-three.before.before.before.before in

@@ -2,8 +2,8 @@
 use mathlib.Core.List.{[], ◌∷◌}
 use native.Mathlib.Omega.{arith}
 use borrow.Author.Rules.{rules}
-use Rattle.model.specs.Listing.{refusalText}
-use Rattle.tables.specs.Meaning.{refusalOf}
+use Rattle.model.specs.Listing.{refusal_text}
+use Rattle.tables.specs.Meaning.{refusal_of}
 use Rattle.listing_text.proofs.LineBytes.{line_wrote}
 use Rattle.listing_text.proofs.Entries.{number_small}
 use Rattle.listing_text.proofs.lines.put_refusal.Statement.{statement}
@@ -24,7 +24,7 @@ cast-put-number c = search rules
 put-number-requires : tie.Need-put-number-requires
 put-number-requires c κs =
     let entry = c.before.before.before.before.before.before.before.before in
-    (search rules, rw c.number.ensures (number_small (refusalOf entry.args.refusal)))
+    (search rules, rw c.number.ensures (number_small (refusal_of entry.args.refusal)))
 
 put-one-requires : tie.Need-put-one-requires
 put-one-requires c κs = search rules
@@ -33,7 +33,7 @@ same_length : tie.Need-same-length
 same_length c = search rules
 
 returns : tie.Need-returns
-unfolding refusalText
+unfolding refusal_text
 returns c =
     let past-put-number = c.before.before.before.before.before.before in
     let past-number = past-put-number.before in

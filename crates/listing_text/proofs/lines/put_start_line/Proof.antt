@@ -2,8 +2,8 @@
 use mathlib.Core.List.{[], ◌∷◌}
 use native.Mathlib.Omega.{arith}
 use borrow.Author.Rules.{rules}
-use Rattle.model.specs.Listing.{startLine}
-use Rattle.listing_text.proofs.LineBytes.{words-wrote, line_wrote}
+use Rattle.model.specs.Listing.{start_line}
+use Rattle.listing_text.proofs.LineBytes.{words_wrote, line_wrote}
 use Rattle.listing_text.proofs.lines.put_start_line.Statement.{statement}
 use Rattle.listing_text.proofs.lines.put_start_line.Tie as tie
 
@@ -32,7 +32,7 @@ same_length : tie.Need-same-length
 same_length c = search rules
 
 returns : tie.Need-returns
-unfolding startLine
+unfolding start_line
 returns c =
     let past-put-number2 = c.before.before.before.before.before.before in
     let past-put-letter = past-put-number2.before.before.before.before in
@@ -47,8 +47,8 @@ returns c =
       λ R is_lost is-rounds.
           rw (is_lost, is-rounds)
           (line_wrote (_ ∷ _ ∷ _ ∷ []) word
-          (words-wrote (_ ∷ []) (_ ∷ _ ∷ []) start.0
-          (words-wrote (_ ∷ []) (_ ∷ []) (rw past-verdict-letter.verdict-letter.ensures at verdict.0) rounds.0)) end),
+          (words_wrote (_ ∷ []) (_ ∷ _ ∷ []) start.0
+          (words_wrote (_ ∷ []) (_ ∷ []) (rw past-verdict-letter.verdict-letter.ensures at verdict.0) rounds.0)) end),
       omega arith,
     )
 

@@ -1,7 +1,7 @@
 -- Number, kind, verdict and rank, command and marks, one behind another, are the line of a state of which the tables tell so.
 use native.Mathlib.Omega.{arith}
 use borrow.Author.Rules.{rules}
-use Rattle.listing_text.proofs.StateLine.{state-wrote}
+use Rattle.listing_text.proofs.StateLine.{state_wrote}
 use Rattle.listing_text.proofs.lines.put_state_line.Statement.{statement}
 use Rattle.listing_text.proofs.lines.put_state_line.Tie as tie
 
@@ -43,7 +43,7 @@ returns c =
     let command = past-put-entry.put-entry.ensures in
     let marks = past-put-marks.put-marks.ensures in
     let end = c.before.before.put_one.ensures in (
-      λ P tells. state-wrote tells past-kind-letter.kind-letter.ensures number.0 kind.0 verdict.0 command.0 marks.0 end,
+      λ P tells. state_wrote tells past-kind-letter.kind-letter.ensures number.0 kind.0 verdict.0 command.0 marks.0 end,
       omega arith,
     )
 

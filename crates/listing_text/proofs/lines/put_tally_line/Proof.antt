@@ -2,8 +2,8 @@
 use mathlib.Core.List.{[], ◌∷◌}
 use native.Mathlib.Omega.{arith}
 use borrow.Author.Rules.{rules}
-use Rattle.model.specs.Listing.{tallyLine}
-use Rattle.listing_text.proofs.LineBytes.{words-wrote, line_wrote}
+use Rattle.model.specs.Listing.{tally_line}
+use Rattle.listing_text.proofs.LineBytes.{words_wrote, line_wrote}
 use Rattle.listing_text.proofs.lines.put_tally_line.Statement.{statement}
 use Rattle.listing_text.proofs.lines.put_tally_line.Tie as tie
 
@@ -29,7 +29,7 @@ same_length : tie.Need-same-length
 same_length c = search rules
 
 returns : tie.Need-returns
-unfolding tallyLine
+unfolding tally_line
 returns c =
     let past-put-row2 = c.before.before.before.before.before.before in
     let past-put-letter = past-put-row2.before.before.before.before in
@@ -41,7 +41,7 @@ returns c =
     let lost = past-put-row2.put-row2.ensures in
     let end = c.before.before.put_one.ensures in (
       line_wrote (_ ∷ _ ∷ _ ∷ _ ∷ _ ∷ _ ∷ _ ∷ []) word
-          (words-wrote (_ ∷ _ ∷ _ ∷ []) (_ ∷ _ ∷ _ ∷ _ ∷ []) safe.0 (words-wrote (_ ∷ []) (_ ∷ _ ∷ _ ∷ []) slash.0 lost.0)) end,
+          (words_wrote (_ ∷ _ ∷ _ ∷ []) (_ ∷ _ ∷ _ ∷ _ ∷ []) safe.0 (words_wrote (_ ∷ []) (_ ∷ _ ∷ _ ∷ []) slash.0 lost.0)) end,
       omega arith,
     )
 

@@ -2,7 +2,7 @@
 use mathlib.Core.List.{[], ◌∷◌}
 use native.Mathlib.Omega.{arith}
 use borrow.Author.Rules.{rules}
-use Rattle.listing_text.proofs.LineBytes.{words-wrote}
+use Rattle.listing_text.proofs.LineBytes.{words_wrote}
 use Rattle.listing_text.proofs.words.put_marks.Statement.{statement}
 use Rattle.listing_text.proofs.words.put_marks.Tie as tie
 
@@ -24,7 +24,7 @@ returns c =
     let past-practice-letter = past-put-letter.before in
     let practice = past-put-letter.put-letter.ensures in
     let fault = c.before.before.put-fault.ensures in
-    (words-wrote (_ ∷ []) (_ ∷ []) (rw past-practice-letter.practice-letter.ensures at practice.0) fault.0, omega arith)
+    (words_wrote (_ ∷ []) (_ ∷ []) (rw past-practice-letter.practice-letter.ensures at practice.0) fault.0, omega arith)
 
 pub put-marks-spec : {M : Type 1} → statement M
 put-marks-spec =

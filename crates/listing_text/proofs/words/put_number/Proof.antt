@@ -2,7 +2,7 @@
 use native.Mathlib.Omega.{arith}
 use borrow.Author.Rules.{rules}
 use Rattle.laws.proofs.Wrote.{wrote_then}
-use Rattle.listing_text.proofs.LineBytes.{word-wrote}
+use Rattle.listing_text.proofs.LineBytes.{word_wrote}
 use Rattle.listing_text.proofs.words.put_number.Statement.{statement}
 use Rattle.listing_text.proofs.words.put_number.Tie as tie
 
@@ -20,7 +20,7 @@ returns c =
     let past-put-one = c.before.before.before.before.before.before in
     let space = past-put-one.put_one.ensures in
     let number = c.before.before.put-decimal.ensures in
-    (word-wrote (wrote_then space number.0), omega arith)
+    (word_wrote (wrote_then space number.0), omega arith)
 
 pub put-number-spec : {M : Type 1} → statement M
 put-number-spec = tie.close (tie.spec put-one-requires put-decimal-requires same_length returns)

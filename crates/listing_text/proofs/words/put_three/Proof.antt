@@ -2,7 +2,7 @@
 use mathlib.Core.List.{[], ◌∷◌}
 use native.Mathlib.Omega.{arith}
 use borrow.Author.Rules.{rules}
-use Rattle.listing_text.proofs.LineBytes.{words-wrote}
+use Rattle.listing_text.proofs.LineBytes.{words_wrote}
 use Rattle.listing_text.proofs.words.put_three.Statement.{statement}
 use Rattle.listing_text.proofs.words.put_three.Tie as tie
 
@@ -25,7 +25,7 @@ returns c =
     let x = past-put-number.put-number.ensures in
     let y = past-put-number2.put-number2.ensures in
     let z = c.before.before.put-number3.ensures in
-    (words-wrote (_ ∷ []) (_ ∷ _ ∷ []) x.0 (words-wrote (_ ∷ []) (_ ∷ []) y.0 z.0), omega arith)
+    (words_wrote (_ ∷ []) (_ ∷ _ ∷ []) x.0 (words_wrote (_ ∷ []) (_ ∷ []) y.0 z.0), omega arith)
 
 pub put-three-spec : {M : Type 1} → statement M
 put-three-spec =

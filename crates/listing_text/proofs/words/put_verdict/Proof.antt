@@ -2,8 +2,8 @@
 use mathlib.Core.List.{[], ◌∷◌}
 use native.Mathlib.Omega.{arith}
 use borrow.Author.Rules.{rules}
-use Rattle.listing_text.proofs.Entries.{found-entry}
-use Rattle.listing_text.proofs.LineBytes.{words-wrote}
+use Rattle.listing_text.proofs.Entries.{found_entry}
+use Rattle.listing_text.proofs.LineBytes.{words_wrote}
 use Rattle.listing_text.proofs.words.put_verdict.Statement.{statement}
 use Rattle.listing_text.proofs.words.put_verdict.Tie as tie
 
@@ -25,7 +25,7 @@ returns c =
     let past-verdict-letter = past-put-letter.before in
     let verdict = past-put-letter.put-letter.ensures in
     let rank = c.before.before.put-entry.ensures in (
-      rw found-entry (words-wrote (_ ∷ []) (_ ∷ []) (rw past-verdict-letter.verdict-letter.ensures at verdict.0) rank.0),
+      rw found_entry (words_wrote (_ ∷ []) (_ ∷ []) (rw past-verdict-letter.verdict-letter.ensures at verdict.0) rank.0),
       omega
           arith,
     )

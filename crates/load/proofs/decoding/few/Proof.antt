@@ -9,15 +9,15 @@ returns : tie.Need-returns
 unfolding few
 returns c = simp (lt-leb _ _ c.if1.true)
 
-returns-2 : tie.Need-returns-2
+returns_2 : tie.Need-returns-2
 unfolding few
-returns-2 c = simp (lt-leb _ _ c.if2.true, and-false)
+returns_2 c = simp (lt-leb _ _ c.if2.true, and-false)
 
-returns-3 : tie.Need-returns-3
+returns_3 : tie.Need-returns-3
 unfolding few
-returns-3 c =
+returns_3 c =
     let branch1 = c.before.before.before in
     rw (le-leb _ _ branch1.if1.false, le-leb _ _ c.before.if2.false)
 
 pub few-spec : {M : Type 1} → statement M
-few-spec = tie.close (tie.spec returns returns-2 returns-3)
+few-spec = tie.close (tie.spec returns returns_2 returns_3)

@@ -1,5 +1,5 @@
 -- The invariant is that the rows left to load make the table what all of them make it.
-use Rattle.load.proofs.LoadRows.{Rows, rows-begin, rows_more, rows_end}
+use Rattle.load.proofs.LoadRows.{Rows, rows_begin, rows_more, rows_end}
 use Prim.Native.Nat.{◌-◌, ◌≤◌}
 use native.Mathlib.Omega.{arith}
 mod Tie
@@ -12,8 +12,8 @@ invariant-loop bytes rows₀ n s₀ rows s = (s ≤ n) × Rows bytes n rows₀ r
 abbrev decreases-loop : tie.decreases-loop
 decreases-loop bytes rows₀ n s₀ rows s = n - s
 
-loop-holds : tie.Need-loop-init invariant-loop decreases-loop
-loop-holds c = (omega arith, rows-begin _ _ _)
+loop_holds : tie.Need-loop-init invariant-loop decreases-loop
+loop_holds c = (omega arith, rows_begin _ _ _)
 
 row-in-requires : tie.Need-row-in-requires invariant-loop decreases-loop
 row-in-requires c κs =
@@ -28,23 +28,23 @@ put-row-requires c κs =
 
 add-s : tie.Need-overflow-add-s invariant-loop decreases-loop
 add-s c =
-    let past-loop-test = c.before.before.before.before in
-    let past_fits = past-loop-test.before.before.before in
-    omega (arith, past_fits.ranges, past-loop-test.loop-test.true)
+    let past_loop_test = c.before.before.before.before in
+    let past_fits = past_loop_test.before.before.before in
+    omega (arith, past_fits.ranges, past_loop_test.loop-test.true)
 
-loop-less : tie.Need-loop-smaller invariant-loop decreases-loop
-loop-less c =
-    let past-loop-test = c.before.before.before.before in
-    omega (arith, past-loop-test.loop-test.true)
+loop_less : tie.Need-loop-smaller invariant-loop decreases-loop
+loop_less c =
+    let past_loop_test = c.before.before.before.before in
+    omega (arith, past_loop_test.loop-test.true)
 
-loop-again : tie.Need-loop-preserved invariant-loop decreases-loop
-loop-again c =
+loop_again : tie.Need-loop-preserved invariant-loop decreases-loop
+loop_again c =
     let past-row-in = c.before.before.before in
-    let past-loop-test = past-row-in.before in
-    let turn = past-loop-test.before in
+    let past_loop_test = past-row-in.before in
+    let turn = past_loop_test.before in
     let entry = turn.before.before in (
-      omega (arith, past-loop-test.loop-test.true),
-      rows_more _ entry.args.n turn.loop.s turn.loop.invariant.1 past-loop-test.loop-test.true past-row-in.row_in.ensures
+      omega (arith, past_loop_test.loop-test.true),
+      rows_more _ entry.args.n turn.loop.s turn.loop.invariant.1 past_loop_test.loop-test.true past-row-in.row_in.ensures
           c.before.put-row.ensures,
     )
 
@@ -58,4 +58,4 @@ returns c =
 
 pub load-rows-spec : {M : Type 1} → statement M
 load-rows-spec = tie.close
-    (tie.spec invariant-loop decreases-loop loop-holds row-in-requires put-row-requires add-s loop-less loop-again same_length returns)
+    (tie.spec invariant-loop decreases-loop loop_holds row-in-requires put-row-requires add-s loop_less loop_again same_length returns)

@@ -1,7 +1,7 @@
 -- The row is made of the entries from its first one on, as the callee reads them, so that it is the model's by rewriting.
 use Prim.Native.Nat.{◌*◌}
 use native.Mathlib.Nat.{add-zero}
-use Rattle.model.specs.Boundary.{rowWidth}
+use Rattle.model.specs.Boundary.{row_width}
 use borrow.Author.Rules.{rules}
 use Rattle.load.proofs.decoding.row_in.Statement.{statement}
 use Rattle.load.proofs.decoding.row_in.Tie as tie
@@ -28,7 +28,7 @@ returns : tie.Need-returns
 returns c =
     let entry = c.before.before.before.before in
     let s = entry.args.s in
-    rw (c.before.before.entry_at.ensures, c.before.entry-at2.ensures, c.entry-at3.ensures, add-zero (s * rowWidth))
+    rw (c.before.before.entry_at.ensures, c.before.entry-at2.ensures, c.entry-at3.ensures, add-zero (s * row_width))
 
 pub row-in-spec : {M : Type 1} → statement M
 row-in-spec =

@@ -1,5 +1,5 @@
 -- What the two parts of the index leave is what the propagation asks of it.
-use Rattle.propagate.proofs.Indexes.{index-fits}
+use Rattle.propagate.proofs.Indexes.{index_fits}
 use native.Mathlib.Omega.{arith}
 use borrow.Author.Rules.{rules}
 use Rattle.nets.proofs.propagations.index_all.Statement.{statement}
@@ -17,11 +17,11 @@ group-requires c κs = search rules
 same_length : tie.Need-same-length
 same_length c = search rules
 
-same-length-2 : tie.Need-same-length-2
-same-length-2 c = search rules
+same_length_2 : tie.Need-same-length-2
+same_length_2 c = search rules
 
-same-length-3 : tie.Need-same-length-3
-same-length-3 c = search rules
+same_length_3 : tie.Need-same-length-3
+same_length_3 c = search rules
 
 returns : tie.Need-returns
 returns c =
@@ -29,11 +29,11 @@ returns c =
     let past-own = past-group.before.before.before.before.before in
     let entry = past-own-to-entry past-own in
     let l = entry.pre.1.1 in (
-      index-fits _ _ _ _ _ (omega arith) (omega arith) (omega arith) past-group.group.ensures past-own.own.ensures,
+      index_fits _ _ _ _ _ (omega arith) (omega arith) (omega arith) past-group.group.ensures past-own.own.ensures,
       past-own.own.ensures,
     )
 
 pub index-all-spec : {M : Type 1} → statement M
 index-all-spec =
     tie.close
-    (tie.spec own-requires group-requires same_length same-length-2 same-length-3 returns)
+    (tie.spec own-requires group-requires same_length same_length_2 same_length_3 returns)

@@ -1,6 +1,6 @@
 -- When the loop comes to state s, the states before it are initialized in all four tables.
 mod Tie
-use Rattle.nets.proofs.Initializing.{initialized-start, initialized-next, initialized-done, read-inside}
+use Rattle.nets.proofs.Initializing.{initialized_start, initialized_next, initialized_done, read_inside}
 use Rattle.nets.specs.Nets.{Initialized}
 use Rattle.tables.specs.Meaning.{held}
 use Prim.Native.Nat.{ℕ, ◌-◌, ◌≤◌}
@@ -19,8 +19,8 @@ decreases-loop size rows ranks₀ froms₀ tos₀ places₀ s₀ ranks froms tos
 abbrev turn-to-entry : tie.At-loop invariant-loop decreases-loop → tie.Start invariant-loop decreases-loop
 turn-to-entry c = c.before.before.before.before.before
 
-loop-holds : tie.Need-loop-init invariant-loop decreases-loop
-loop-holds c = (omega arith, λ F O. initialized-start)
+loop_holds : tie.Need-loop-init invariant-loop decreases-loop
+loop_holds c = (omega arith, λ F O. initialized_start)
 
 span-at-requires : tie.Need-span-at-requires invariant-loop decreases-loop
 span-at-requires c κs =
@@ -36,7 +36,7 @@ initialize-state-requires c κs =
     let v = turn.loop.invariant.1 [] [] in
     let h = entry.pre.1 in
     let l = branch1.if1.true in (
-      read-inside entry.pre.0 [] [] _ l _ (past-span-at.span-at.ensures [] []),
+      read_inside entry.pre.0 [] [] _ l _ (past-span-at.span-at.ensures [] []),
       (
         omega (arith, v.seeded.same, l, h),
         omega (arith, v.begins.same, l, h),
@@ -51,13 +51,13 @@ add-s c =
     let entry = branch1.before.before.before.before.before.before.before in
     omega (arith, branch1.if1.true, entry.requires.0.few)
 
-loop-less : tie.Need-loop-smaller invariant-loop decreases-loop
-loop-less c =
+loop_less : tie.Need-loop-smaller invariant-loop decreases-loop
+loop_less c =
     let branch1 = c.before.before.before.before.before.before.before.before.before.before.before.before.before.before in
     omega (arith, branch1.if1.true)
 
-loop-again : tie.Need-loop-preserved invariant-loop decreases-loop
-loop-again c =
+loop_again : tie.Need-loop-preserved invariant-loop decreases-loop
+loop_again c =
     let past-initialize-state = c.before.before.before.before.before.before.before.before in
     let past-span-at = past-initialize-state.before.before.before.before.before in
     let branch1 = past-span-at.before in
@@ -66,24 +66,24 @@ loop-again c =
     let p = entry.pre.1 in
     let l = branch1.if1.true in (
       omega (arith, l),
-      λ F O. initialized-next (turn.loop.invariant.1 F O) _ (past-span-at.span-at.ensures F O) (omega (arith, l, p)) (omega (arith, l, p))
+      λ F O. initialized_next (turn.loop.invariant.1 F O) _ (past-span-at.span-at.ensures F O) (omega (arith, l, p)) (omega (arith, l, p))
           (omega (arith, l, p)) (omega (arith, l, p)) _ _ _ _ past-initialize-state.initialize-state.ensures,
     )
 
 same_length : tie.Need-same-length invariant-loop decreases-loop
 same_length c = (c.before.before.loop.invariant.1 [] []).seeded.same
 
-same-length-2 : tie.Need-same-length-2 invariant-loop decreases-loop
-same-length-2 c = (c.before.before.loop.invariant.1 [] []).begins.same
+same_length_2 : tie.Need-same-length-2 invariant-loop decreases-loop
+same_length_2 c = (c.before.before.loop.invariant.1 [] []).begins.same
 
-same-length-3 : tie.Need-same-length-3 invariant-loop decreases-loop
-same-length-3 c = (c.before.before.loop.invariant.1 [] []).stops.same
+same_length_3 : tie.Need-same-length-3 invariant-loop decreases-loop
+same_length_3 c = (c.before.before.loop.invariant.1 [] []).stops.same
 
 same-length-4 : tie.Need-same-length-4 invariant-loop decreases-loop
 same-length-4 c = (c.before.before.loop.invariant.1 [] []).placed.same
 
 returns : tie.Need-returns invariant-loop decreases-loop
-returns c = let w = c.before.before.loop.invariant in λ F O. initialized-done (w.1 F O) _ w.0 c.if1.false
+returns c = let w = c.before.before.loop.invariant in λ F O. initialized_done (w.1 F O) _ w.0 c.if1.false
 
 pub initialize-spec : {M : Type 1} → statement M
 initialize-spec =
@@ -91,14 +91,14 @@ initialize-spec =
     (tie.spec
     invariant-loop
     decreases-loop
-    loop-holds
+    loop_holds
     span-at-requires
     initialize-state-requires
     add-s
-    loop-less
-    loop-again
+    loop_less
+    loop_again
     same_length
-    same-length-2
-    same-length-3
+    same_length_2
+    same_length_3
     same-length-4
     returns)

@@ -1,11 +1,11 @@
 -- The ranges of both propagations are among the states' own commands, so one index serves both; the seeds of the second come back from the
 -- ranks that the first has found.
-use Rattle.laws.proofs.Fills.{filled-over}
+use Rattle.laws.proofs.Fills.{filled_over}
 use native.Mathlib.Omega.{arith}
-use Rattle.tables.specs.Spans.{commandsOf}
-use Rattle.propagate.specs.Net.{netOf}
-use Rattle.nets.proofs.OwnIndex.{ranges-fit, own-low, owners-fit}
-use Rattle.nets.proofs.Keeping.{practice-found, kept-seeded, kept-own}
+use Rattle.tables.specs.Spans.{commands_of}
+use Rattle.propagate.specs.Net.{net_of}
+use Rattle.nets.proofs.OwnIndex.{ranges_fit, own_low, owners_fit}
+use Rattle.nets.proofs.Keeping.{practice_found, kept_seeded, kept_own}
 use borrow.Author.Rules.{rules}
 use Rattle.nets.proofs.propagations.propagate_both.Statement.{statement}
 use Rattle.nets.proofs.propagations.propagate_both.Tie as tie
@@ -37,7 +37,7 @@ index-all-requires c κs =
     let entry = c.before.before.before.before.before.before.before.before.before.before.before in
     let p = entry.requires in
     let f = p.0 in
-    (f, (p.1.0, (p.1.1.0.long-froms, (f.few-commands, (f.few, f.states.few)))))
+    (f, (p.1.0, (p.1.1.0.long_froms, (f.few_commands, (f.few, f.states.few)))))
 
 slice-aggregate-propagate-in : tie.Need-slice-aggregate-propagate-in
 slice-aggregate-propagate-in c = search rules
@@ -53,12 +53,12 @@ propagate-in-requires c κs =
     let past-index-all = c.before.before.before.before.before.before.before.before.before.before in
     let entry = past-index-all-to-entry past-index-all in
     let a = entry.args in
-    let C = commandsOf a.size a.firsts.now a.outcomes.now in
+    let C = commands_of a.size a.firsts.now a.outcomes.now in
     let p = entry.pre in
     let o = p.1.1.0 in
     let l = p.1.1.1.1 in
     let i = past-index-all.index-all.ensures in
-    (p.0, (ranges-fit C o p.1.0, (i.0, (owners-fit C o i.1, (l.0, (o.long-froms, (l.1, l.2)))))))
+    (p.0, (ranges_fit C o p.1.0, (i.0, (owners_fit C o i.1, (l.0, (o.long_froms, (l.1, l.2)))))))
 
 keep-practice-requires : tie.Need-keep-practice-requires
 keep-practice-requires c κs =
@@ -71,11 +71,11 @@ keep-practice-requires c κs =
       (
         p.0.few,
         omega (arith, same.1.1.1.1.1.1.1.0, p.1.1.1.1.0),
-        omega (arith, same.1.1.1.1.1.1.1.1.0, p.1.1.0.long-froms),
-        o.long-tos,
-        o.long-froms,
+        omega (arith, same.1.1.1.1.1.1.1.1.0, p.1.1.0.long_froms),
+        o.long_tos,
+        o.long_froms,
       ),
-      own-low (commandsOf a.size a.firsts.now a.outcomes.now) o p.1.0 p.0.few-commands,
+      own_low (commands_of a.size a.firsts.now a.outcomes.now) o p.1.0 p.0.few_commands,
     )
 
 slice-aggregate-propagate-in-4 : tie.Need-slice-aggregate-propagate-in-4
@@ -94,23 +94,23 @@ propagate-in-requires-2 c κs =
     let past-index-all = past-propagate-in-to-past-index-all past-propagate-in in
     let entry = past-index-all-to-entry past-index-all in
     let a = entry.args in
-    let C = commandsOf a.size a.firsts.now a.outcomes.now in
+    let C = commands_of a.size a.firsts.now a.outcomes.now in
     let p = entry.pre in
     let l = p.1.1.1.1 in
     let k = past-keep-practice.keep-practice.ensures in
-    let o = kept-own k p.1.1.1.0
-    (omega (arith, past-propagate-in.propagate-in.kept.1.1.1.1.1.1.1.1.0, p.1.1.0.long-froms)) in
+    let o = kept_own k p.1.1.1.0
+    (omega (arith, past-propagate-in.propagate-in.kept.1.1.1.1.1.1.1.1.0, p.1.1.0.long_froms)) in
     let i = past-index-all.index-all.ensures in (
       p.0,
       (
-        ranges-fit C o p.1.0,
+        ranges_fit C o p.1.0,
         (
           i.0,
           (
-            owners-fit C o i.1,
+            owners_fit C o i.1,
             (
-              omega (arith, k.seeded.same, p.1.1.1.0.long-froms),
-              (o.long-froms, (omega (arith, past-propagate-in.propagate-in.ensures.1.same, l.1), kept-seeded k)),
+              omega (arith, k.seeded.same, p.1.1.1.0.long_froms),
+              (o.long_froms, (omega (arith, past-propagate-in.propagate-in.ensures.1.same, l.1), kept_seeded k)),
             ),
           ),
         ),
@@ -120,11 +120,11 @@ propagate-in-requires-2 c κs =
 same_length : tie.Need-same-length
 same_length c = search rules
 
-same-length-2 : tie.Need-same-length-2
-same-length-2 c = search rules
+same_length_2 : tie.Need-same-length-2
+same_length_2 c = search rules
 
-same-length-3 : tie.Need-same-length-3
-same-length-3 c = search rules
+same_length_3 : tie.Need-same-length-3
+same_length_3 c = search rules
 
 same-length-4 : tie.Need-same-length-4
 same-length-4 c = search rules
@@ -140,15 +140,15 @@ returns c =
     let entry = past-index-all-to-entry (past-propagate-in-to-past-index-all past-propagate-in) in
     let a = entry.args in
     let p = entry.pre in
-    let C = commandsOf a.size a.firsts.now a.outcomes.now in
-    let N = netOf a.size.n C a.froms.now a.tos.now in
+    let C = commands_of a.size a.firsts.now a.outcomes.now in
+    let N = net_of a.size.n C a.froms.now a.tos.now in
     let x = past-propagate-in.propagate-in.ensures in
     let y = past-propagate-in2.propagate-in2.ensures in
     let l = p.1.1.1.1 in (
       x.0,
       (
-        practice-found N l.2 l.0 x.0 past-keep-practice.keep-practice.ensures C p.1.1.1.0.long-froms y.0,
-        filled-over x.1 y.1,
+        practice_found N l.2 l.0 x.0 past-keep-practice.keep-practice.ensures C p.1.1.1.0.long_froms y.0,
+        filled_over x.1 y.1,
       ),
     )
 
@@ -170,8 +170,8 @@ propagate-both-spec =
     slice-aggregate-propagate-in-6
     propagate-in-requires-2
     same_length
-    same-length-2
-    same-length-3
+    same_length_2
+    same_length_3
     same-length-4
     same-length-5
     returns)

@@ -1,5 +1,5 @@
 -- The queue is the first part of scratch, so what is behind it stays.
-use Rattle.laws.proofs.Fills.{filled-front}
+use Rattle.laws.proofs.Fills.{filled_front}
 use mathlib.Core.Path.{sym, ◌∙◌}
 use lib.Seq.{length-take-le}
 use native.Mathlib.Omega.{arith}
@@ -36,11 +36,11 @@ propagate-requires c κs =
 same_length : tie.Need-same-length
 same_length c = search rules
 
-same-length-2 : tie.Need-same-length-2
-same-length-2 c = search rules
+same_length_2 : tie.Need-same-length-2
+same_length_2 c = search rules
 
-same-length-3 : tie.Need-same-length-3
-same-length-3 c = search rules
+same_length_3 : tie.Need-same-length-3
+same_length_3 c = search rules
 
 returns : tie.Need-returns
 returns c =
@@ -50,7 +50,7 @@ returns c =
     let h = entry.pre.1.1.1.1.1.1.0 in
     let front = past-propagate.propagate.new.1.1.1.1.1.1.1.1.1.0 in (
       past-propagate.propagate.ensures,
-      filled-front _ front l
+      filled_front _ front l
           (past-propagate.propagate.auto.1.1.1.1.1.1.1.1.1.0 ∙ length-take-le _ l h) h,
     )
 
@@ -62,6 +62,6 @@ propagate-in-spec =
     slice-aggregate-propagate
     propagate-requires
     same_length
-    same-length-2
-    same-length-3
+    same_length_2
+    same_length_3
     returns)

@@ -2,7 +2,7 @@
 mod Tie
 use mathlib.Core.Path.{◌∙◌}
 use mathlib.Core.List.{[]}
-use Rattle.nets.proofs.Settings.{sound-spans, both-ready}
+use Rattle.nets.proofs.Settings.{sound_spans, both_ready}
 use Rattle.nets.proofs.Finds.{found}
 use borrow.Author.Rules.{rules}
 use Rattle.nets.proofs.propagations.propagate_plan.Statement.{statement}
@@ -21,7 +21,7 @@ slice-aggregate-initialize c = search rules
 initialize-requires : tie.Need-initialize-requires
 initialize-requires c κs =
     let entry = c.before.before.before.before.before.before.before.before.before.before in
-    let v = sound-spans _ _ _ _ entry.requires.0 in
+    let v = sound_spans _ _ _ _ entry.requires.0 in
     let h = entry.requires.1 in
     (v, (h.0, v.few, h.1.0, h.1.1.0))
 
@@ -35,8 +35,8 @@ propagate-both-requires c κs =
     let a = entry.args in
     let e = entry.pre.0 in
     let h = entry.pre.1 in
-    let f = (sound-spans _ a.rows.now a.firsts.now a.outcomes.now e).few in
-    both-ready _ a.rows.now a.firsts.now a.outcomes.now e (past-initialize.initialize.ensures _ _) h.0 f h.1.0
+    let f = (sound_spans _ a.rows.now a.firsts.now a.outcomes.now e).few in
+    both_ready _ a.rows.now a.firsts.now a.outcomes.now e (past-initialize.initialize.ensures _ _) h.0 f h.1.0
     h.1.1.0 _ h.1.1.1
 
 same_length : tie.Need-same-length
@@ -45,14 +45,14 @@ same_length c =
     let past-initialize = past-propagate-both-to-past-initialize past-propagate-both in
     past-propagate-both.propagate-both.auto.1.1.1.0 ∙ (past-initialize.initialize.ensures [] []).seeded.same
 
-same-length-2 : tie.Need-same-length-2
-same-length-2 c =
+same_length_2 : tie.Need-same-length-2
+same_length_2 c =
     let past-propagate-both = c.before.before.before.before.before.before.before.before.before in
     let past-initialize = past-propagate-both-to-past-initialize past-propagate-both in
     past-propagate-both.propagate-both.auto.1.1.1.1.1.0 ∙ (past-initialize.initialize.ensures [] []).stops.same
 
-same-length-3 : tie.Need-same-length-3
-same-length-3 c =
+same_length_3 : tie.Need-same-length-3
+same_length_3 c =
     let past-propagate-both = c.before.before.before.before.before.before.before.before.before in
     let past-initialize = past-propagate-both-to-past-initialize past-propagate-both in
     past-propagate-both.propagate-both.auto.1.1.1.1.1.1.0 ∙ (past-initialize.initialize.ensures [] []).placed.same
@@ -76,4 +76,4 @@ returns c =
 pub propagate-plan-spec : {M : Type 1} → statement M
 propagate-plan-spec = tie.close
     (tie.spec slice-aggregate-initialize initialize-requires slice-aggregate-propagate-both propagate-both-requires same_length
-    same-length-2 same-length-3 same-length-4 returns)
+    same_length_2 same_length_3 same-length-4 returns)

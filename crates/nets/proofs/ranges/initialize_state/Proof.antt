@@ -1,5 +1,5 @@
 -- Each of the four tables gets one entry, which fits it.
-use Rattle.nets.proofs.Initializing.{seed-small, place_inside}
+use Rattle.nets.proofs.Initializing.{seed_small, place_inside}
 use native.Mathlib.Omega.{arith}
 use borrow.Author.Rules.{rules}
 use Rattle.nets.proofs.ranges.initialize_state.Statement.{statement}
@@ -8,16 +8,16 @@ use Rattle.nets.proofs.ranges.initialize_state.Tie as tie
 seed-of-requires : tie.Need-seed-of-requires
 seed-of-requires c κs = search rules
 
-put-requires : tie.Need-put-requires
-put-requires c κs =
+put_requires : tie.Need-put-requires
+put_requires c κs =
     let entry = c.before.before.before.before.before.before in
-    (entry.pre.1.0, rw c.seed-of.ensures (seed-small _))
+    (entry.pre.1.0, rw c.seed-of.ensures (seed_small _))
 
-put-requires-2 : tie.Need-put-requires-2
-put-requires-2 c κs = search rules
+put_requires_2 : tie.Need-put-requires-2
+put_requires_2 c κs = search rules
 
-put-requires-3 : tie.Need-put-requires-3
-put-requires-3 c κs = search rules
+put_requires_3 : tie.Need-put-requires-3
+put_requires_3 c κs = search rules
 
 practice-place-requires : tie.Need-practice-place-requires
 practice-place-requires c κs = search rules
@@ -32,11 +32,11 @@ put-requires-4 c κs =
 same_length : tie.Need-same-length
 same_length c = search rules
 
-same-length-2 : tie.Need-same-length-2
-same-length-2 c = search rules
+same_length_2 : tie.Need-same-length-2
+same_length_2 c = search rules
 
-same-length-3 : tie.Need-same-length-3
-same-length-3 c = search rules
+same_length_3 : tie.Need-same-length-3
+same_length_3 c = search rules
 
 same-length-4 : tie.Need-same-length-4
 same-length-4 c = search rules
@@ -57,13 +57,13 @@ initialize-state-spec =
     tie.close
     (tie.spec
     seed-of-requires
-    put-requires
-    put-requires-2
-    put-requires-3
+    put_requires
+    put_requires_2
+    put_requires_3
     practice-place-requires
     put-requires-4
     same_length
-    same-length-2
-    same-length-3
+    same_length_2
+    same_length_3
     same-length-4
     returns)

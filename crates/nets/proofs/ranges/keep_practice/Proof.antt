@@ -1,5 +1,5 @@
 -- When the loop comes to state s, the practice alone is kept at the states before it.
-use Rattle.nets.proofs.Keeping.{kept-start, kept-room, kept_next, kept-done}
+use Rattle.nets.proofs.Keeping.{kept_start, kept_room, kept_next, kept_done}
 use Rattle.nets.specs.Nets.{PracticeKept}
 use native.Mathlib.Omega.{arith}
 use Prim.Native.Nat.{◌-◌, ◌≤◌}
@@ -12,41 +12,41 @@ invariant-loop n ranks froms₀ tos₀ fails₀ s₀ froms tos fails s = (s ≤ 
 abbrev decreases-loop : tie.decreases-loop
 decreases-loop n ranks froms₀ tos₀ fails₀ s₀ froms tos fails s = n - s
 
-loop-holds : tie.Need-loop-init invariant-loop decreases-loop
-loop-holds c = (omega arith, kept-start)
+loop_holds : tie.Need-loop-init invariant-loop decreases-loop
+loop_holds c = (omega arith, kept_start)
 
 keep-practice-at-requires : tie.Need-keep-practice-at-requires invariant-loop decreases-loop
 keep-practice-at-requires c κs =
-    let past-loop-test = c.before.before.before in
-    let v = past-loop-test.before.loop.invariant.1 in
-    let p = past-loop-test.before.before.before.before.before.before.requires in
-    let l = past-loop-test.loop-test.true in (
+    let past_loop_test = c.before.before.before in
+    let v = past_loop_test.before.loop.invariant.1 in
+    let p = past_loop_test.before.before.before.before.before.before.requires in
+    let l = past_loop_test.loop-test.true in (
       (
         omega (arith, l, p.0),
         omega (arith, v.begins.same, l, p.0),
         omega (arith, v.stops.same, l, p.0),
         omega (arith, v.seeded.same, l, p.0),
       ),
-      kept-room v (p.1 _ l),
+      kept_room v (p.1 _ l),
     )
 
 add-s : tie.Need-overflow-add-s invariant-loop decreases-loop
 add-s c =
-    let past-loop-test = c.before.before.before.before.before.before.before.before.before.before in
-    let entry = past-loop-test.before.before.before.before.before.before in
-    omega (arith, entry.requires.0, past-loop-test.loop-test.true)
+    let past_loop_test = c.before.before.before.before.before.before.before.before.before.before in
+    let entry = past_loop_test.before.before.before.before.before.before in
+    omega (arith, entry.requires.0, past_loop_test.loop-test.true)
 
-loop-less : tie.Need-loop-smaller invariant-loop decreases-loop
-loop-less c =
-    let past-loop-test = c.before.before.before.before.before.before.before.before.before.before in
-    omega (arith, past-loop-test.loop-test.true)
+loop_less : tie.Need-loop-smaller invariant-loop decreases-loop
+loop_less c =
+    let past_loop_test = c.before.before.before.before.before.before.before.before.before.before in
+    omega (arith, past_loop_test.loop-test.true)
 
-loop-again : tie.Need-loop-preserved invariant-loop decreases-loop
-loop-again c =
-    let past-loop-test = c.before.before.before.before.before.before.before.before.before.before in
-    let turn = past-loop-test.before in
-    let p = past-loop-test.before.before.before.before.before.before.requires.0 in
-    let l = past-loop-test.loop-test.true in (
+loop_again : tie.Need-loop-preserved invariant-loop decreases-loop
+loop_again c =
+    let past_loop_test = c.before.before.before.before.before.before.before.before.before.before in
+    let turn = past_loop_test.before in
+    let p = past_loop_test.before.before.before.before.before.before.requires.0 in
+    let l = past_loop_test.loop-test.true in (
       omega (arith, l),
       kept_next turn.loop.invariant.1 (omega (arith, l, p)) (omega (arith, l, p)) (omega (arith, l, p)) _ _ _
           c.before.before.before.before.before.before.keep-practice-at.ensures,
@@ -55,14 +55,14 @@ loop-again c =
 same_length : tie.Need-same-length invariant-loop decreases-loop
 same_length c = c.before.loop.invariant.1.begins.same
 
-same-length-2 : tie.Need-same-length-2 invariant-loop decreases-loop
-same-length-2 c = c.before.loop.invariant.1.stops.same
+same_length_2 : tie.Need-same-length-2 invariant-loop decreases-loop
+same_length_2 c = c.before.loop.invariant.1.stops.same
 
-same-length-3 : tie.Need-same-length-3 invariant-loop decreases-loop
-same-length-3 c = c.before.loop.invariant.1.seeded.same
+same_length_3 : tie.Need-same-length-3 invariant-loop decreases-loop
+same_length_3 c = c.before.loop.invariant.1.seeded.same
 
 returns : tie.Need-returns invariant-loop decreases-loop
-returns c = kept-done c.before.loop.invariant.1 _ c.before.loop.invariant.0 c.loop-test.false
+returns c = kept_done c.before.loop.invariant.1 _ c.before.loop.invariant.0 c.loop-test.false
 
 pub keep-practice-spec : {M : Type 1} → statement M
 keep-practice-spec =
@@ -70,12 +70,12 @@ keep-practice-spec =
     (tie.spec
     invariant-loop
     decreases-loop
-    loop-holds
+    loop_holds
     keep-practice-at-requires
     add-s
-    loop-less
-    loop-again
+    loop_less
+    loop_again
     same_length
-    same-length-2
-    same-length-3
+    same_length_2
+    same_length_3
     returns)

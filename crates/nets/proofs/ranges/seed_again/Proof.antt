@@ -1,13 +1,13 @@
 -- The two branches are the two cases of the definition.
-use Rattle.nets.proofs.Keeping.{again-seed, again-none}
+use Rattle.nets.proofs.Keeping.{again_seed, again_none}
 use Rattle.nets.proofs.ranges.seed_again.Statement.{statement}
 use Rattle.nets.proofs.ranges.seed_again.Tie as tie
 
 returns : tie.Need-returns
-returns c = again-none _ c.if1.taken
+returns c = again_none _ c.if1.taken
 
-returns-2 : tie.Need-returns-2
-returns-2 c = again-seed _ c.if1.left
+returns_2 : tie.Need-returns-2
+returns_2 c = again_seed _ c.if1.left
 
 pub seed-again-spec : {M : Type 1} → statement M
-seed-again-spec = tie.close (tie.spec returns returns-2)
+seed-again-spec = tie.close (tie.spec returns returns_2)

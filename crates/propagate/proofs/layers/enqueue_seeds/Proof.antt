@@ -1,5 +1,5 @@
 -- When the loop comes to state s, the states of rank 0 before it wait in the queue.
-use Rattle.propagate.proofs.Starts.{seeds-start, seeds-done}
+use Rattle.propagate.proofs.Starts.{seeds_start, seeds_done}
 use Rattle.propagate.specs.Progress.{SeedsQueued}
 use lib.ListN.{length}
 use native.Mathlib.Omega.{arith}
@@ -14,8 +14,8 @@ invariant-loop n ranks queue₀ e₀ s₀ queue e s = (s ≤ n) × (length queue
 abbrev decreases-loop : tie.decreases-loop
 decreases-loop n ranks queue₀ e₀ s₀ queue e s = n - s
 
-loop-holds : tie.Need-loop-init invariant-loop decreases-loop
-loop-holds c = (omega arith, refl, seeds-start _ _)
+loop_holds : tie.Need-loop-init invariant-loop decreases-loop
+loop_holds c = (omega arith, refl, seeds_start _ _)
 
 enqueue-seed-requires : tie.Need-enqueue-seed-requires invariant-loop decreases-loop
 enqueue-seed-requires c κs =
@@ -24,20 +24,20 @@ enqueue-seed-requires c κs =
 
 add-s : tie.Need-overflow-add-s invariant-loop decreases-loop
 add-s c =
-    let past-loop-test = c.before.before.before.before in
-    let entry = past-loop-test.before.before.before.before in
-    omega (arith, entry.requires, past-loop-test.loop-test.true)
+    let past_loop_test = c.before.before.before.before in
+    let entry = past_loop_test.before.before.before.before in
+    omega (arith, entry.requires, past_loop_test.loop-test.true)
 
-loop-less : tie.Need-loop-smaller invariant-loop decreases-loop
-loop-less c =
-    let past-loop-test = c.before.before.before.before in
-    omega (arith, past-loop-test.loop-test.true)
+loop_less : tie.Need-loop-smaller invariant-loop decreases-loop
+loop_less c =
+    let past_loop_test = c.before.before.before.before in
+    omega (arith, past_loop_test.loop-test.true)
 
-loop-again : tie.Need-loop-preserved invariant-loop decreases-loop
-loop-again c =
-    let past-loop-test = c.before.before.before.before in
-    let turn = past-loop-test.before in (
-      omega (arith, past-loop-test.loop-test.true),
+loop_again : tie.Need-loop-preserved invariant-loop decreases-loop
+loop_again c =
+    let past_loop_test = c.before.before.before.before in
+    let turn = past_loop_test.before in (
+      omega (arith, past_loop_test.loop-test.true),
       c.before.before.enqueue-seed.auto.1.0
           ∙ turn.loop.invariant.1,
       c.before.before.enqueue-seed.ensures,
@@ -47,7 +47,7 @@ same_length : tie.Need-same-length invariant-loop decreases-loop
 same_length c = c.before.loop.invariant.1
 
 returns : tie.Need-returns invariant-loop decreases-loop
-returns c = seeds-done _ _ _ _ c.before.loop.invariant.2 _ c.before.loop.invariant.0 c.loop-test.false
+returns c = seeds_done _ _ _ _ c.before.loop.invariant.2 _ c.before.loop.invariant.0 c.loop-test.false
 
 pub enqueue-seeds-spec : {M : Type 1} → statement M
 enqueue-seeds-spec =
@@ -55,10 +55,10 @@ enqueue-seeds-spec =
     (tie.spec
     invariant-loop
     decreases-loop
-    loop-holds
+    loop_holds
     enqueue-seed-requires
     add-s
-    loop-less
-    loop-again
+    loop_less
+    loop_again
     same_length
     returns)

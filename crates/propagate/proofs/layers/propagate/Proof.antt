@@ -1,16 +1,16 @@
 -- After each turn one layer more has its ranks, and its new states wait in the queue; when none waits, no further layer adds one.
-use Rattle.propagate.proofs.Ends.{Going, going_start, going-few, going_next, going_done}
-use Rattle.propagate.proofs.Starts.{start-bound, start-at-layer}
+use Rattle.propagate.proofs.Ends.{Going, going_start, going_few, going_next, going_done}
+use Rattle.propagate.proofs.Starts.{start_bound, start_at_layer}
 use native.Mathlib.Omega.{arith}
 use mathlib.Core.Path.{refl, ◌∙◌}
 use Prim.Native.Nat.{◌-◌}
-use Rattle.tables.specs.Spans.{commandsOf}
+use Rattle.tables.specs.Spans.{commands_of}
 use Rattle.propagate.proofs.layers.propagate.Statement.{statement}
 use Rattle.propagate.proofs.layers.propagate.Tie as tie
 
 abbrev invariant-loop : tie.invariant-loop
 invariant-loop size tos firsts outcomes offsets users owner ranks₀ watch₀ queue₀ lo₀ hi₀ k₀ ranks watch queue lo hi k =
-    Going size.n (commandsOf size firsts outcomes) tos ranks₀ watch₀ queue₀ ranks watch queue lo hi k
+    Going size.n (commands_of size firsts outcomes) tos ranks₀ watch₀ queue₀ ranks watch queue lo hi k
 
 abbrev decreases-loop : tie.decreases-loop
 decreases-loop size tos firsts outcomes offsets users owner ranks₀ watch₀ queue₀ lo₀ hi₀ k₀ ranks watch queue lo hi k = size.n - lo
@@ -26,25 +26,25 @@ enqueue-seeds-requires c κs =
     let entry = c.before.before.before.before.before.before.before.before.before.before.before in
     let f = entry.requires in omega (arith, f.0.few, f.1.1.1.1)
 
-loop-holds : tie.Need-loop-init invariant-loop decreases-loop
-loop-holds c =
+loop_holds : tie.Need-loop-init invariant-loop decreases-loop
+loop_holds c =
     let entry = c.before.before.before.before.before.before.before.before.before.before.before.before.before.before in
     let f = entry.requires in
     let l = f.1.1.1.1 in
     let e = c.before.before.enqueue-seeds.ensures in
-    going_start _ _ _ _ _ _ _ (start-bound _ f.0 _ f.1.0 _ _ _ l.0 l.1.1.1 _ e)
-    (start-at-layer _ f.0 _ f.1.0 _ _ _ l.0 l.1.1.1 _ e) refl
+    going_start _ _ _ _ _ _ _ (start_bound _ f.0 _ f.1.0 _ _ _ l.0 l.1.1.1 _ e)
+    (start_at_layer _ f.0 _ f.1.0 _ _ _ l.0 l.1.1.1 _ e) refl
 
 add-layer-requires : tie.Need-add-layer-requires invariant-loop decreases-loop
 add-layer-requires c κs =
-    let past-loop-test = c.before.before.before in
-    let turn = past-loop-test.before in
+    let past_loop_test = c.before.before.before in
+    let turn = past_loop_test.before in
     let past-enqueue-seeds = turn.before.before.before in
     let entry = past-enqueue-seeds-to-entry past-enqueue-seeds in
     let f = entry.pre in
     let v = turn.loop.invariant in
     let q = past-enqueue-seeds.enqueue-seeds.auto.1.1.0 in
-    let n = going-few _ _ _ _ _ _ _ _ _ _ _ v in (
+    let n = going_few _ _ _ _ _ _ _ _ _ _ _ v in (
       f.0,
       (
         f.1.0,
@@ -60,7 +60,7 @@ add-layer-requires c κs =
               v.qlong,
               q,
               n,
-              past-loop-test.loop-test.true,
+              past_loop_test.loop-test.true,
               f.0.few,
               f.1.1.1.1,
             ),
@@ -75,32 +75,32 @@ add-k c =
     let turn = c.before.before.before.before.before.before.before.before.before.before.before in
     let entry = turn-to-entry turn in
     let v = turn.loop.invariant in
-    omega (arith, v.order, v.layers, going-few _ _ _ _ _ _ _ _ _ _ _ v, entry.pre.0.few)
+    omega (arith, v.order, v.layers, going_few _ _ _ _ _ _ _ _ _ _ _ v, entry.pre.0.few)
 
-loop-less : tie.Need-loop-smaller invariant-loop decreases-loop
-loop-less c =
-    let past-loop-test = c.before.before.before.before.before.before.before.before.before.before in
-    let turn = past-loop-test.before in
-    omega (arith, going-few _ _ _ _ _ _ _ _ _ _ _ turn.loop.invariant, past-loop-test.loop-test.true)
+loop_less : tie.Need-loop-smaller invariant-loop decreases-loop
+loop_less c =
+    let past_loop_test = c.before.before.before.before.before.before.before.before.before.before in
+    let turn = past_loop_test.before in
+    omega (arith, going_few _ _ _ _ _ _ _ _ _ _ _ turn.loop.invariant, past_loop_test.loop-test.true)
 
-loop-again : tie.Need-loop-preserved invariant-loop decreases-loop
-loop-again c =
+loop_again : tie.Need-loop-preserved invariant-loop decreases-loop
+loop_again c =
     let past-add-layer = c.before.before.before.before.before.before in
-    let past-loop-test = past-add-layer.before.before.before.before in
-    let turn = past-loop-test.before in
+    let past_loop_test = past-add-layer.before.before.before.before in
+    let turn = past_loop_test.before in
     let entry = turn-to-entry turn in
     let k = past-add-layer.add-layer.auto.1.1.1.1.1.1.1 in
-    going_next _ _ _ _ _ _ _ _ _ _ _ turn.loop.invariant _ entry.pre.1.1.1.0 past-loop-test.loop-test.true _ _ _ _
+    going_next _ _ _ _ _ _ _ _ _ _ _ turn.loop.invariant _ entry.pre.1.1.1.0 past_loop_test.loop-test.true _ _ _ _
     past-add-layer.add-layer.ensures k.0 k.1.0 k.1.1.0
 
 same_length : tie.Need-same-length invariant-loop decreases-loop
 same_length c = c.before.loop.invariant.long
 
-same-length-2 : tie.Need-same-length-2 invariant-loop decreases-loop
-same-length-2 c = c.before.loop.invariant.wlong
+same_length_2 : tie.Need-same-length-2 invariant-loop decreases-loop
+same_length_2 c = c.before.loop.invariant.wlong
 
-same-length-3 : tie.Need-same-length-3 invariant-loop decreases-loop
-same-length-3 c =
+same_length_3 : tie.Need-same-length-3 invariant-loop decreases-loop
+same_length_3 c =
     let past-enqueue-seeds = c.before.before.before.before in
     c.before.loop.invariant.qlong ∙ past-enqueue-seeds.enqueue-seeds.auto.1.1.0
 
@@ -117,12 +117,12 @@ propagate-spec =
     invariant-loop
     decreases-loop
     enqueue-seeds-requires
-    loop-holds
+    loop_holds
     add-layer-requires
     add-k
-    loop-less
-    loop-again
+    loop_less
+    loop_again
     same_length
-    same-length-2
-    same-length-3
+    same_length_2
+    same_length_3
     returns)

@@ -1,8 +1,8 @@
 -- Behind the frame the limit is tested, and then the outcomes, as in `command`.
 use Prim.Native.Nat.{ℕ, ◌+◌, ◌/◌}
-use Rattle.reading.proofs.FieldWays.{command-long, command-limit, command-walks}
+use Rattle.reading.proofs.FieldWays.{command_long, command_limit, command_walks}
 use Rattle.reading.proofs.Passing.{refuses, ends, went}
-use Rattle.reading.specs.Meaning.{bytesFrom, afterField}
+use Rattle.reading.specs.Meaning.{bytes_from, after_field}
 use Rattle.tables.specs.declared.Refusal.TheVariants.{Limit}
 use Rattle.model.specs.File.{command}
 use lib.ListN.{length-drop}
@@ -31,19 +31,19 @@ number-requires c κs =
     let entry = past-field.before.before in
     let a = entry.args in
     let w = went c.before.f.given.1 past-field.field.ensures in
-    omega (arith, command-long (bytesFrom a.file.now a.k) (afterField a.file.now a.k) w.0)
+    omega (arith, command_long (bytes_from a.file.now a.k) (after_field a.file.now a.k) w.0)
 
 sub-if1 : tie.Need-overflow-sub-if1
 sub-if1 c = search rules
 
-returns-2 : tie.Need-returns-2
-returns-2 c =
+returns_2 : tie.Need-returns-2
+returns_2 c =
     let past-f = c.before.before.before.before in
     let past-field = past-f.before.before in
     let entry = past-field.before.before in
     let a = entry.args in
     let w = went past-f.f.given.1 past-field.field.ensures in
-    refuses Limit (command-limit (bytesFrom a.file.now a.k) (afterField a.file.now a.k) w.0 _ _ _
+    refuses Limit (command_limit (bytes_from a.file.now a.k) (after_field a.file.now a.k) w.0 _ _ _
     (omega (arith, c.before.before.number.ensures, entry.requires)))
 
 add-check-outcomes : tie.Need-overflow-add-check-outcomes
@@ -68,14 +68,14 @@ check-outcomes-requires c κs =
       w.1,
       entry.requires,
       past-number.number.ensures,
-      command-long (bytesFrom a.file.now a.k)
-          (afterField a.file.now a.k) w.0,
+      command_long (bytes_from a.file.now a.k)
+          (after_field a.file.now a.k) w.0,
       length-drop a.k.at a.file.now,
       length-drop (a.k.at + 3) a.file.now,
     )
 
-returns-3 : tie.Need-returns-3
-returns-3 c =
+returns_3 : tie.Need-returns-3
+returns_3 c =
     let branch1 = c.before.before.before.before in
     let past-number = branch1.before.before in
     let past-f = past-number.before.before in
@@ -83,7 +83,7 @@ returns-3 c =
     let entry = past-field.before.before in
     let a = entry.args in
     let w = went past-f.f.given.1 past-field.field.ensures in
-    command-walks a.file.now a.k past-f.f.given.0.0 a.n _ w.0 (ap (λ (z : ℕ). z / 2) past-number.number.ensures)
+    command_walks a.file.now a.k past-f.f.given.0.0 a.n _ w.0 (ap (λ (z : ℕ). z / 2) past-number.number.ensures)
     (omega (arith, branch1.if1.false, entry.requires)) c.check-outcomes.ensures
 
 pub read-command-spec : {M : Type 1} → statement M
@@ -96,9 +96,9 @@ read-command-spec =
     returns
     number-requires
     sub-if1
-    returns-2
+    returns_2
     add-check-outcomes
     add-t11
     add-check-outcomes-2
     check-outcomes-requires
-    returns-3)
+    returns_3)

@@ -1,7 +1,7 @@
 -- Behind the frame the tests come in the order of `head`: each that fails is refused as beyond, and a head that passes them all is given.
-use Rattle.reading.proofs.FieldWays.{head-long, head-none, head-many, head-start, head-passes}
+use Rattle.reading.proofs.FieldWays.{head_long, head_none, head_many, head_start, head_passes}
 use Rattle.reading.proofs.Passing.{refuses, ends, went}
-use Rattle.reading.specs.Meaning.{headMark, afterField}
+use Rattle.reading.specs.Meaning.{head_mark, after_field}
 use Rattle.tables.specs.declared.Refusal.TheVariants.{Beyond}
 use Rattle.model.specs.File.{head}
 use native.Mathlib.Omega.{arith}
@@ -28,25 +28,25 @@ number-requires c κs =
     let entry = past-field.before.before in
     let a = entry.args in
     let w = went c.before.f.given.1 past-field.field.ensures in
-    omega (arith, head-long a.file.now (afterField a.file.now headMark) w.0)
+    omega (arith, head_long a.file.now (after_field a.file.now head_mark) w.0)
 
-returns-2 : tie.Need-returns-2
-returns-2 c =
+returns_2 : tie.Need-returns-2
+returns_2 c =
     let past-f = c.before.before.before in
     let past-field = past-f.before.before in
     let entry = past-field.before.before in
     let a = entry.args in
     let w = went past-f.f.given.1 past-field.field.ensures in
-    refuses Beyond (head-none a.file.now (afterField a.file.now headMark) w.0 _ (omega (arith, c.before.number.ensures)))
+    refuses Beyond (head_none a.file.now (after_field a.file.now head_mark) w.0 _ (omega (arith, c.before.number.ensures)))
 
-returns-3 : tie.Need-returns-3
-returns-3 c =
+returns_3 : tie.Need-returns-3
+returns_3 c =
     let past-f = c.before.before.before.before in
     let past-field = past-f.before.before in
     let entry = past-field.before.before in
     let a = entry.args in
     let w = went past-f.f.given.1 past-field.field.ensures in
-    refuses Beyond (head-many a.file.now (afterField a.file.now headMark) w.0 _
+    refuses Beyond (head_many a.file.now (after_field a.file.now head_mark) w.0 _
     (omega (arith, c.before.before.number.ensures, c.before.if1.false)) (omega (arith, c.before.before.number.ensures)))
 
 number-requires-2 : tie.Need-number-requires-2
@@ -56,7 +56,7 @@ number-requires-2 c κs =
     let entry = past-field.before.before in
     let a = entry.args in
     let w = went past-f.f.given.1 past-field.field.ensures in
-    omega (arith, head-long a.file.now (afterField a.file.now headMark) w.0)
+    omega (arith, head_long a.file.now (after_field a.file.now head_mark) w.0)
 
 returns-4 : tie.Need-returns-4
 returns-4 c =
@@ -67,7 +67,7 @@ returns-4 c =
     let entry = past-field.before.before in
     let a = entry.args in
     let w = went past-f.f.given.1 past-field.field.ensures in
-    refuses Beyond (head-start a.file.now (afterField a.file.now headMark) w.0 _
+    refuses Beyond (head_start a.file.now (after_field a.file.now head_mark) w.0 _
     (omega (arith, past-number.number.ensures, branch1.if1.false))
     (omega (arith, past-number.number.ensures, c.before.before.if2.false))
     (omega (arith, past-number.number.ensures, c.before.number2.ensures)))
@@ -82,7 +82,7 @@ returns-5 c =
     let a = entry.args in
     let w = went past-f.f.given.1 past-field.field.ensures in
     record {
-      answers = head-passes a.file.now (afterField a.file.now headMark) w.0
+      answers = head_passes a.file.now (after_field a.file.now head_mark) w.0
           (omega (arith, past-number.number.ensures, branch1.if1.false))
           (omega (arith, past-number.number.ensures, c.before.before.if2.false))
           (omega (arith, past-number.number.ensures, c.before.number2.ensures));
@@ -98,8 +98,8 @@ read-head-spec =
     enum_told
     returns
     number-requires
-    returns-2
-    returns-3
+    returns_2
+    returns_3
     number-requires-2
     returns-4
     returns-5)

@@ -24,8 +24,8 @@ fill-commands-requires c κs =
 same_length : tie.Need-same-length
 same_length c = search rules
 
-same-length-2 : tie.Need-same-length-2
-same-length-2 c = search rules
+same_length_2 : tie.Need-same-length-2
+same_length_2 c = search rules
 
 returns : tie.Need-returns
 returns c =
@@ -42,5 +42,5 @@ fill-state-spec =
     moved-requires
     fill-commands-requires
     same_length
-    same-length-2
+    same_length_2
     returns)

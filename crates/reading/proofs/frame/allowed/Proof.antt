@@ -7,14 +7,14 @@ use Rattle.reading.proofs.frame.allowed.Tie as tie
 returns : tie.Need-returns
 returns c = rw (eq-eqb _ _ c.before.if1.true, eq-eqb _ _ c.if2.true)
 
-returns-2 : tie.Need-returns-2
-returns-2 c = rw (eq-eqb _ _ c.before.if1.true, ne_eqb _ _ c.if2.false)
+returns_2 : tie.Need-returns-2
+returns_2 c = rw (eq-eqb _ _ c.before.if1.true, ne_eqb _ _ c.if2.false)
 
 fixed-length-requires : tie.Need-fixed-length-requires
 fixed-length-requires c κs = search rules
 
-returns-3 : tie.Need-returns-3
-returns-3 c = rw (ne_eqb _ _ c.before.if1.false, c.fixed-length.ensures)
+returns_3 : tie.Need-returns-3
+returns_3 c = rw (ne_eqb _ _ c.before.if1.false, c.fixed-length.ensures)
 
 pub allowed-spec : {M : Type 1} → statement M
-allowed-spec = tie.close (tie.spec returns returns-2 fixed-length-requires returns-3)
+allowed-spec = tie.close (tie.spec returns returns_2 fixed-length-requires returns_3)

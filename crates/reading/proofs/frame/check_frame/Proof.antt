@@ -1,6 +1,6 @@
 -- Each test of the frame that fails is the refusal that `field` gives there, and a frame that passes them all is the field's length.
-use Rattle.reading.proofs.FieldWays.{field_cut, field-tag, field-length, field-short, field-given, field-stops, field-walks}
-use Rattle.reading.specs.Meaning.{bytesFrom}
+use Rattle.reading.proofs.FieldWays.{field_cut, field_tag, field_length, field_short, field_given, field_stops, field_walks}
+use Rattle.reading.specs.Meaning.{bytes_from}
 use Rattle.tables.specs.declared.Refusal.TheVariants.{Cut, Tag, Length}
 use Rattle.model.specs.File.{allowed}
 use borrow.Author.Tests.{not-true, not-false}
@@ -18,19 +18,19 @@ returns : tie.Need-returns
 returns c =
     let entry = c.before.before.before in
     let a = entry.args in
-    field-stops a.file.now a.k a.due Cut
-    (field_cut a.due (bytesFrom a.file.now a.k) (omega (arith, c.before.remaining.ensures)))
+    field_stops a.file.now a.k a.due Cut
+    (field_cut a.due (bytes_from a.file.now a.k) (omega (arith, c.before.remaining.ensures)))
 
 byte-requires : tie.Need-byte-requires
 byte-requires c κs = search rules
 
-returns-2 : tie.Need-returns-2
-returns-2 c =
+returns_2 : tie.Need-returns-2
+returns_2 c =
     let past-remaining = c.before.before.before in
     let entry = past-remaining.before.before in
     let a = entry.args in
-    field-stops a.file.now a.k a.due Tag
-    (field-tag a.due (bytesFrom a.file.now a.k) (omega (arith, past-remaining.remaining.ensures))
+    field_stops a.file.now a.k a.due Tag
+    (field_tag a.due (bytes_from a.file.now a.k) (omega (arith, past-remaining.remaining.ensures))
     (λ q. c.if2.true (c.before.byte.ensures ∙ q)))
 
 number-requires : tie.Need-number-requires
@@ -39,15 +39,15 @@ number-requires c κs = search rules
 allowed-requires : tie.Need-allowed-requires
 allowed-requires c κs = search rules
 
-returns-3 : tie.Need-returns-3
-returns-3 c =
+returns_3 : tie.Need-returns-3
+returns_3 c =
     let branch2 = c.before.before.before in
     let past-byte = branch2.before in
     let past-remaining = past-byte.before.before in
     let entry = past-remaining.before.before in
     let a = entry.args in
-    field-stops a.file.now a.k a.due Length
-    (field-length a.due (bytesFrom a.file.now a.k) (omega (arith, past-remaining.remaining.ensures))
+    field_stops a.file.now a.k a.due Length
+    (field_length a.due (bytes_from a.file.now a.k) (omega (arith, past-remaining.remaining.ensures))
     (sym past-byte.byte.ensures ∙ branch2.if2.false)
     (sym (c.before.allowed.ensures ∙ ap (allowed a.due) c.before.before.number.ensures) ∙ not-true _ c.if3.true))
 
@@ -59,8 +59,8 @@ returns-4 c =
     let past-remaining = past-byte.before.before in
     let entry = past-remaining.before.before in
     let a = entry.args in
-    field-stops a.file.now a.k a.due Cut
-    (field-short a.due (bytesFrom a.file.now a.k) (omega (arith, past-remaining.remaining.ensures))
+    field_stops a.file.now a.k a.due Cut
+    (field_short a.due (bytes_from a.file.now a.k) (omega (arith, past-remaining.remaining.ensures))
     (sym past-byte.byte.ensures ∙ branch2.if2.false)
     (sym (c.before.before.allowed.ensures ∙ ap (allowed a.due) past-number.number.ensures)
     ∙ not-false _ c.before.if3.false) (omega (arith, past-remaining.remaining.ensures, past-number.number.ensures)))
@@ -86,11 +86,11 @@ returns-5 c =
     let past-remaining = past-byte.before.before in
     let s = c.before.before.before.before.before.before.before.before.before.before in
     let a = s.args in
-    let given-len = field-given a.due (bytesFrom a.file.now a.k) (omega (arith, past-remaining.remaining.ensures))
+    let given-len = field_given a.due (bytes_from a.file.now a.k) (omega (arith, past-remaining.remaining.ensures))
     (sym past-byte.byte.ensures ∙ branch2.if2.false)
     (sym (past-allowed.allowed.ensures ∙ ap (allowed a.due) past-number.number.ensures)
     ∙ not-false _ c.before.before.if3.false) (omega (arith, past-remaining.remaining.ensures, past-number.number.ensures)) in
-    field-walks a.file.now a.k a.due (rw (← past-number.number.ensures) at given-len) s.requires c.moved.ensures
+    field_walks a.file.now a.k a.due (rw (← past-number.number.ensures) at given-len) s.requires c.moved.ensures
 
 pub check-frame-spec : {M : Type 1} → statement M
 check-frame-spec =
@@ -99,10 +99,10 @@ check-frame-spec =
     remaining-requires
     returns
     byte-requires
-    returns-2
+    returns_2
     number-requires
     allowed-requires
-    returns-3
+    returns_3
     returns-4
     add-moved
     moved-requires

@@ -1,5 +1,5 @@
 -- Head, states and end field come one after another as in `read`: each refusal is its own, and what is past the end is a surplus.
-use Rattle.reading.proofs.Scanning.{head-room, file-stops, end-stops, file-surplus, file-read}
+use Rattle.reading.proofs.Scanning.{head_room, file_stops, end_stops, file_surplus, file_read}
 use Rattle.reading.proofs.Passing.{went, ends, refuses}
 use Rattle.tables.specs.declared.Refusal.TheVariants.{Surplus}
 use Rattle.model.specs.File.{read}
@@ -26,7 +26,7 @@ number-requires c κs =
     let past-read-head = c.before.before.before in
     let entry = past-read-head.before.before in
     let x = went c.before.h.given.1 past-read-head.read_head.ensures in
-    omega (arith, head-room entry.args.file.now c.before.h.given.0.0 x.0)
+    omega (arith, head_room entry.args.file.now c.before.h.given.0.0 x.0)
 
 scan-states-requires : tie.Need-scan-states-requires
 scan-states-requires c κs =
@@ -40,14 +40,14 @@ enum-known-s c = search rules
 enum-told-2 : tie.Need-enum-told-2
 enum-told-2 c = search rules
 
-returns-2 : tie.Need-returns-2
-returns-2 c =
+returns_2 : tie.Need-returns-2
+returns_2 c =
     let past-number = c.before.before.before in
     let past-h = past-number.before.before in
     let past-read-head = past-h.before.before in
     let entry = past-read-head.before.before in
     let x = went past-h.h.given.1 past-read-head.read_head.ensures in
-    file-stops entry.args.file.now past-h.h.given.0.0 x.0 past-number.number.ensures c.enum-told2.given.1
+    file_stops entry.args.file.now past-h.h.given.0.0 x.0 past-number.number.ensures c.enum-told2.given.1
     c.before.before.scan-states.ensures
 
 field-requires : tie.Need-field-requires
@@ -62,8 +62,8 @@ enum-known-e c = search rules
 enum-told-3 : tie.Need-enum-told-3
 enum-told-3 c = search rules
 
-returns-3 : tie.Need-returns-3
-returns-3 c =
+returns_3 : tie.Need-returns-3
+returns_3 c =
     let past-s = c.before.before.before.before in
     let past-scan-states = past-s.before.before in
     let past-number = past-scan-states.before in
@@ -72,7 +72,7 @@ returns-3 c =
     let entry = past-read-head.before.before in
     let x = went past-h.h.given.1 past-read-head.read_head.ensures in
     let y = went past-s.s.given.1 past-scan-states.scan-states.ensures in
-    end-stops entry.args.file.now past-h.h.given.0.0 x.0 past-number.number.ensures past-s.s.given.0.0 y.0
+    end_stops entry.args.file.now past-h.h.given.0.0 x.0 past-number.number.ensures past-s.s.given.0.0 y.0
     c.enum-told3.given.1 c.before.before.field.ensures
 
 remaining-requires : tie.Need-remaining-requires
@@ -94,7 +94,7 @@ returns-4 c =
     let x = went past-h.h.given.1 past-read-head.read_head.ensures in
     let y = went past-s.s.given.1 past-scan-states.scan-states.ensures in
     let z = went past-e.e.given.1 past-field.field.ensures in
-    refuses Surplus (file-surplus entry.args.file.now past-h.h.given.0.0 x.0 past-number.number.ensures
+    refuses Surplus (file_surplus entry.args.file.now past-h.h.given.0.0 x.0 past-number.number.ensures
     past-s.s.given.0.0 y.0 past-e.e.given.0.0 z.0 (omega (arith, c.before.remaining.ensures)))
 
 returns-5 : tie.Need-returns-5
@@ -111,7 +111,7 @@ returns-5 c =
     let y = went past-s.s.given.1 past-scan-states.scan-states.ensures in
     let z = went past-e.e.given.1 past-field.field.ensures in
     record {
-      answers = file-read entry.args.file.now past-h.h.given.0.0 x.0 past-number.number.ensures
+      answers = file_read entry.args.file.now past-h.h.given.0.0 x.0 past-number.number.ensures
           past-s.s.given.0.0 y.0 past-e.e.given.0.0 z.0 (omega (arith, c.before.remaining.ensures));
       stays = z.1;
     }
@@ -128,11 +128,11 @@ judge-spec =
     scan-states-requires
     enum-known-s
     enum-told-2
-    returns-2
+    returns_2
     field-requires
     enum-known-e
     enum-told-3
-    returns-3
+    returns_3
     remaining-requires
     returns-4
     returns-5)

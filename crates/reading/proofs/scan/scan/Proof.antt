@@ -1,5 +1,5 @@
 -- The mark behind a file that was read has its counts, and a refusal is handed on.
-use Rattle.reading.proofs.Scanning.{read-long, read-size, read-refused}
+use Rattle.reading.proofs.Scanning.{read_long, read_size, read_refused}
 use Rattle.reading.proofs.Passing.{went}
 use Rattle.tables.specs.Meaning.{numbers}
 use Rattle.model.specs.Refusal.{given}
@@ -21,7 +21,7 @@ number-requires c κs =
     let entry = past-judge.before.before in
     omega (
       arith,
-      read-long entry.args.file.now c.before.k.given.0.0
+      read_long entry.args.file.now c.before.k.given.0.0
           (went c.before.k.given.1 past-judge.judge.ensures).0,
     )
 
@@ -31,7 +31,7 @@ number-requires-2 c κs =
     let entry = past-judge.before.before in
     omega (
       arith,
-      read-long entry.args.file.now c.before.before.k.given.0.0
+      read_long entry.args.file.now c.before.before.k.given.0.0
           (went c.before.before.k.given.1 past-judge.judge.ensures).0,
     )
 
@@ -47,13 +47,13 @@ returns c =
     let past-judge = past-k.before.before in
     let entry = past-judge.before.before in
     ap (λ z. given (numbers z)) c.new.ensures
-    ∙ read-size entry.args.file.now past-k.k.given.0.0 (went past-k.k.given.1 past-judge.judge.ensures).0
+    ∙ read_size entry.args.file.now past-k.k.given.0.0 (went past-k.k.given.1 past-judge.judge.ensures).0
     c.before.before.number.ensures c.before.number2.ensures
 
-returns-2 : tie.Need-returns-2
-returns-2 c =
+returns_2 : tie.Need-returns-2
+returns_2 c =
     let past-judge = c.before.before.before in
-    read-refused c.before.r.given.1 past-judge.judge.ensures
+    read_refused c.before.r.given.1 past-judge.judge.ensures
 
 pub scan-spec : {M : Type 1} → statement M
 scan-spec =
@@ -66,4 +66,4 @@ scan-spec =
     new-requires
     enum-known-r
     returns
-    returns-2)
+    returns_2)

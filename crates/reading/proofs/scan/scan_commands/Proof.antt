@@ -1,8 +1,8 @@
 -- The invariant is that reading the commands left from the mark on answers what reading all of them does.
-use Rattle.reading.proofs.Scanning.{commandsLeft, commands-all, commands-none, commands-end, commands-step, commands-more}
+use Rattle.reading.proofs.Scanning.{commands_left, commands_all, commands_none, commands_end, commands_step, commands_more}
 use Rattle.reading.proofs.Passing.{went}
 use Rattle.reading.specs.Meaning.{Within, Walks}
-use Rattle.model.specs.File.{maxCommands}
+use Rattle.model.specs.File.{max_commands}
 use native.Mathlib.Omega.{arith}
 use mathlib.Core.Path.{◌≡◌, refl, sym, subst, ◌∙◌}
 use Prim.Native.Nat.{◌-◌, ◌≤◌}
@@ -11,8 +11,8 @@ use Rattle.reading.proofs.scan.scan_commands.Statement.{statement}
 use Rattle.reading.proofs.scan.scan_commands.Tie as tie
 
 abbrev invariant-loop : tie.invariant-loop
-invariant-loop file n count end k₀ k = Within file k × (k.m ≤ end) × (end ≤ maxCommands)
-    × (commandsLeft file n end k ≡ commandsLeft file n end k₀)
+invariant-loop file n count end k₀ k = Within file k × (k.m ≤ end) × (end ≤ max_commands)
+    × (commands_left file n end k ≡ commands_left file n end k₀)
 
 abbrev decreases-loop : tie.decreases-loop
 decreases-loop file n count end k₀ k = end - k.m
@@ -20,8 +20,8 @@ decreases-loop file n count end k₀ k = end - k.m
 add-end : tie.Need-overflow-add-end invariant-loop decreases-loop
 add-end c = omega arith
 
-loop-holds : tie.Need-loop-init invariant-loop decreases-loop
-loop-holds c = (c.before.before.requires.0, omega arith, omega arith, refl)
+loop_holds : tie.Need-loop-init invariant-loop decreases-loop
+loop_holds c = (c.before.before.requires.0, omega arith, omega arith, refl)
 
 read-command-requires : tie.Need-read-command-requires invariant-loop decreases-loop
 read-command-requires c κs = (c.before.before.loop.invariant.0, omega arith)
@@ -38,22 +38,22 @@ returns c =
     let turn = branch1.before.before in
     let entry = turn.before.before.before in
     let a = entry.args in
-    subst (Walks a.file.now _) (turn.loop.invariant.3 ∙ commands-all a.file.now a.n a.count a.from)
-    (commands-end a.file.now a.n _ turn.loop.k branch1.if1.true c.enum_told.given.1
+    subst (Walks a.file.now _) (turn.loop.invariant.3 ∙ commands_all a.file.now a.n a.count a.from)
+    (commands_end a.file.now a.n _ turn.loop.k branch1.if1.true c.enum_told.given.1
     c.before.before.read-command.ensures)
 
-loop-less : tie.Need-loop-smaller invariant-loop decreases-loop
-loop-less c =
+loop_less : tie.Need-loop-smaller invariant-loop decreases-loop
+loop_less c =
     let past-read-command = c.before.before.before in
     let branch1 = past-read-command.before in
     let turn = branch1.before.before in
     let entry = turn.before.before.before in
     let a = entry.args in
     let w = went c.before.f.given.1 past-read-command.read-command.ensures in
-    omega (arith, commands-step a.file.now a.n _ turn.loop.k branch1.if1.true c.before.f.given.0.0 w.0)
+    omega (arith, commands_step a.file.now a.n _ turn.loop.k branch1.if1.true c.before.f.given.0.0 w.0)
 
-loop-again : tie.Need-loop-preserved invariant-loop decreases-loop
-loop-again c =
+loop_again : tie.Need-loop-preserved invariant-loop decreases-loop
+loop_again c =
     let past-read-command = c.before.before.before in
     let branch1 = past-read-command.before in
     let turn = branch1.before.before in
@@ -61,19 +61,19 @@ loop-again c =
     let a = entry.args in
     let w = went c.before.f.given.1 past-read-command.read-command.ensures in (
       w.1,
-      omega (arith, commands-step a.file.now a.n _ turn.loop.k branch1.if1.true c.before.f.given.0.0 w.0),
+      omega (arith, commands_step a.file.now a.n _ turn.loop.k branch1.if1.true c.before.f.given.0.0 w.0),
       turn.loop.invariant.2,
-      sym (commands-more a.file.now a.n _ turn.loop.k branch1.if1.true c.before.f.given.0.0
+      sym (commands_more a.file.now a.n _ turn.loop.k branch1.if1.true c.before.f.given.0.0
           w.0) ∙ turn.loop.invariant.3,
     )
 
-returns-2 : tie.Need-returns-2 invariant-loop decreases-loop
-returns-2 c =
+returns_2 : tie.Need-returns-2 invariant-loop decreases-loop
+returns_2 c =
     let entry = c.before.before.before.before.before in
     let a = entry.args in
     record {
-      answers = commands-none a.file.now a.n _ c.before.before.loop.k c.if1.false ∙ c.before.before.loop.invariant.3
-          ∙ commands-all a.file.now a.n a.count a.from;
+      answers = commands_none a.file.now a.n _ c.before.before.loop.k c.if1.false ∙ c.before.before.loop.invariant.3
+          ∙ commands_all a.file.now a.n a.count a.from;
       stays = c.before.before.loop.invariant.0;
     }
 
@@ -84,11 +84,11 @@ scan-commands-spec =
     invariant-loop
     decreases-loop
     add-end
-    loop-holds
+    loop_holds
     read-command-requires
     enum-known-f
     enum_told
     returns
-    loop-less
-    loop-again
-    returns-2)
+    loop_less
+    loop_again
+    returns_2)

@@ -99,7 +99,7 @@ use denote.Exit.{yes}
 use denote.Triple.Clauses.{ensured, lasts}
 use Rattle.model.specs.Refusal.{answer}
 use Rattle.model.specs.File.{field}
-use Rattle.reading.specs.Meaning.{Within, Walks as Passes, bytesFrom, afterField}
+use Rattle.reading.specs.Meaning.{Within, Walks as Passes, bytes_from, after_field}
 use Rattle.reading.specs.declared.bytes.Mark.{Mark}
 use Rattle.reading.specs.declared.walker.FieldWalker.{FieldWalker}
 use Rattle.reading.specs.declared.frame.Passed.{Passed}
@@ -151,7 +151,7 @@ module _ {M : Type 1} {𝓤 : Ura M} (𝓛 : Logic 𝓤) (mem : Memory → SProp
 
   -- what is found at a mark of a file
   abbrev Found : List ℕ → Mark → Passed → Type 0
-  Found file at r = Passes file r (answer (afterField file at) (field due (bytesFrom file at)))
+  Found file at r = Passes file r (answer (after_field file at) (field due (bytes_from file at)))
 
   -- the struct's type as a local of a body has it
   abbrev αᵉ : NamedLft
@@ -255,10 +255,10 @@ module _ {M : Type 1} {𝓤 : Ura M} (𝓛 : Logic 𝓤) (mem : Memory → SProp
 module _ {M : Type 1} {𝓤 : Ura M} (𝓛 : Logic 𝓤) (mem : Memory → SProp 𝓤) (run : Routine → Fun 𝓤) where
   open 𝓛 use {H}
 
-  field-walks : (C : Calls 𝓤 H) (Λ : Loops 𝓤 H) → FmC 𝓤 H 𝓛.laws C → Triple 𝓤 (C #reading·walker-at) (New 𝓛 mem run)
+  field_walks : (C : Calls 𝓤 H) (Λ : Loops 𝓤 H) → FmC 𝓤 H 𝓛.laws C → Triple 𝓤 (C #reading·walker-at) (New 𝓛 mem run)
       → Triple 𝓤 (C #reading·next) (Next 𝓛 mem run)
       → Walks 𝓛 here.ended stayed (WpFn 𝓤 H C Λ code.function) (here.clauses 𝓛 mem run)
-  field-walks C Λ fm known-new known_next = walked 𝓛 here.ended stayed (here.clauses 𝓛 mem run) (WpFn 𝓤 H C Λ code.function)
+  field_walks C Λ fm known-new known_next = walked 𝓛 here.ended stayed (here.clauses 𝓛 mem run) (WpFn 𝓤 H C Λ code.function)
       (λ κs. (shr_slice_vals, (LL.vals K.the_type K'.the_laws, (uint_vals w8, tt))))
       (λ κs. (shr_slice_Tells (named 0) κs.0 u8, (LL.tells K.the_type K'.the_laws, (uint_Tells w8, tt))))
       (λ κs qs bounds a g are. needs 𝓤 (Within a.0.now a.1.0) _
@@ -274,7 +274,7 @@ field-meets {𝓤 = 𝓤} 𝓛 mem run 𝓣 known-new known_next = walk_Meets �
   (Goes-none 𝓛 1 (λ _. K.the_row) yes (λ κs x f. refl), (Goes-none 𝓛 1 (λ _. u8) yes (λ κs x f. refl), tt)),
 )
     (here.clauses 𝓛 mem run) (WpFn 𝓤 𝓛.H 𝓣.C 𝓣.Λ code.function) (WpFn-mono 𝓤 𝓛.H 𝓛.laws 𝓣 code.function)
-    (field-walks 𝓛 mem run 𝓣.C 𝓣.Λ (fm_of 𝓤 𝓛.H 𝓛.laws 𝓣) known-new known_next)
+    (field_walks 𝓛 mem run 𝓣.C 𝓣.Λ (fm_of 𝓤 𝓛.H 𝓛.laws 𝓣) known-new known_next)
 
 pub field-spec : {M : Type 1} → stated.statement M
 unfolding code.routine tables_of

@@ -94,7 +94,7 @@ use denote.Exit.{yes}
 use denote.Triple.Clauses.{ensured, lasts}
 use Rattle.model.specs.Refusal.{answer}
 use Rattle.model.specs.File.{field}
-use Rattle.reading.specs.Meaning.{Within, Walks as Passes, bytesFrom, afterField}
+use Rattle.reading.specs.Meaning.{Within, Walks as Passes, bytes_from, after_field}
 use Rattle.reading.specs.declared.walker.FieldWalker.{FieldWalker}
 use Rattle.reading.specs.declared.frame.Passed.{Passed}
 use Rattle.reading.specs.contracts.walker.FieldWalker as T
@@ -140,7 +140,7 @@ module _ {M : Type 1} {𝓤 : Ura M} (𝓛 : Logic 𝓤) (mem : Memory → SProp
   c = K'.lowered d.mark
 
   abbrev Found : Passed → Type 0
-  Found r = Passes d.file.now r (answer (afterField d.file.now d.mark) (field due (bytesFrom d.file.now d.mark)))
+  Found r = Passes d.file.now r (answer (after_field d.file.now d.mark) (field due (bytes_from d.file.now d.mark)))
 
   abbrev Inside : Type 0
   Inside = Within d.file.now d.mark

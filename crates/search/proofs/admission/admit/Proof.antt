@@ -1,21 +1,21 @@
 -- Each test is one of the definition's, in its order, so each return is where the definition stops too.
-use Rattle.search.proofs.Admitting.{denies-unsound, denies-stranger, denies-commands, denies-scratch, grants}
+use Rattle.search.proofs.Admitting.{denies_unsound, denies_stranger, denies_commands, denies_scratch, grants}
 use Rattle.search.proofs.admission.admit.Statement.{statement}
 use Rattle.search.proofs.admission.admit.Tie as tie
 
 returns : tie.Need-returns
-returns c = λ T. denies-unsound T _ _ _ c.if1.true
+returns c = λ T. denies_unsound T _ _ _ c.if1.true
 
-returns-2 : tie.Need-returns-2
-returns-2 c = λ T. denies-stranger T _ _ _ c.before.if1.false c.if2.true
+returns_2 : tie.Need-returns-2
+returns_2 c = λ T. denies_stranger T _ _ _ c.before.if1.false c.if2.true
 
-returns-3 : tie.Need-returns-3
-returns-3 c = λ T. denies-commands T _ _ _ c.before.before.if1.false c.before.if2.false c.if3.true
+returns_3 : tie.Need-returns-3
+returns_3 c = λ T. denies_commands T _ _ _ c.before.before.if1.false c.before.if2.false c.if3.true
 
 returns-4 : tie.Need-returns-4
 returns-4 c =
     let branch1 = c.before.before.before in
-    λ T. denies-scratch T _ _ _ branch1.if1.false c.before.before.if2.false c.before.if3.false c.if4.true
+    λ T. denies_scratch T _ _ _ branch1.if1.false c.before.before.if2.false c.before.if3.false c.if4.true
 
 returns-5 : tie.Need-returns-5
 returns-5 c =
@@ -23,4 +23,4 @@ returns-5 c =
     λ T. grants T _ _ _ branch1.if1.false c.before.before.if2.false c.before.if3.false c.if4.false
 
 pub admit-spec : {M : Type 1} → statement M
-admit-spec = tie.close (tie.spec returns returns-2 returns-3 returns-4 returns-5)
+admit-spec = tie.close (tie.spec returns returns_2 returns_3 returns-4 returns-5)

@@ -3,7 +3,7 @@ use Prim.Native.Nat.{ℕ, ◌-◌, ◌≤◌}
 use mathlib.Core.List.{List, []}
 use native.Mathlib.Omega.{arith}
 use borrow.Author.Rules.{rules}
-use Rattle.laws.proofs.Blocks.{Stored, stored-none, stored_next, stored-done, twos-blocks}
+use Rattle.laws.proofs.Blocks.{Stored, stored_none, stored_next, stored_done, twos_blocks}
 use Rattle.laws.specs.Entry.{twos}
 use Rattle.store.proofs.encoding.store.Statement.{statement}
 use Rattle.store.proofs.encoding.store.Tie as tie
@@ -14,8 +14,8 @@ invariant-loop table bytes₀ n i₀ bytes i = (i ≤ n) × Stored (λ (xs : Lis
 abbrev decreases-loop : tie.decreases-loop
 decreases-loop table bytes₀ n i₀ bytes i = n - i
 
-loop-holds : tie.Need-loop-init invariant-loop decreases-loop
-loop-holds c = (omega arith, stored-none twos-blocks _ _)
+loop_holds : tie.Need-loop-init invariant-loop decreases-loop
+loop_holds c = (omega arith, stored_none twos_blocks _ _)
 
 mul-store-entry : tie.Need-overflow-mul-store-entry invariant-loop decreases-loop
 mul-store-entry c = search rules
@@ -31,23 +31,23 @@ store-entry-requires c κs =
     let entry = turn.before.before.before in
     omega (arith, entry.requires, c.before.before.loop-test.true, turn.loop.invariant.1.same)
 
-add-i : tie.Need-overflow-add-i invariant-loop decreases-loop
-add-i c = search rules
+add_i : tie.Need-overflow-add-i invariant-loop decreases-loop
+add_i c = search rules
 
-loop-less : tie.Need-loop-smaller invariant-loop decreases-loop
-loop-less c =
-    let past-loop-test = c.before.before.before.before.before in
-    omega (arith, past-loop-test.loop-test.true)
+loop_less : tie.Need-loop-smaller invariant-loop decreases-loop
+loop_less c =
+    let past_loop_test = c.before.before.before.before.before in
+    omega (arith, past_loop_test.loop-test.true)
 
-loop-again : tie.Need-loop-preserved invariant-loop decreases-loop
+loop_again : tie.Need-loop-preserved invariant-loop decreases-loop
 unfolding twos
-loop-again c =
-    let past-loop-test = c.before.before.before.before.before in
-    let turn = past-loop-test.before in
+loop_again c =
+    let past_loop_test = c.before.before.before.before.before in
+    let turn = past_loop_test.before in
     let entry = turn.before.before.before in (
-      omega (arith, past-loop-test.loop-test.true),
-      stored_next twos-blocks 0 turn.loop.invariant.1
-          (omega (arith, entry.requires, past-loop-test.loop-test.true)) _ c.before.before.store_entry.ensures,
+      omega (arith, past_loop_test.loop-test.true),
+      stored_next twos_blocks 0 turn.loop.invariant.1
+          (omega (arith, entry.requires, past_loop_test.loop-test.true)) _ c.before.before.store_entry.ensures,
     )
 
 same_length : tie.Need-same-length invariant-loop decreases-loop
@@ -56,7 +56,7 @@ same_length c = c.before.loop.invariant.1.same
 returns : tie.Need-returns invariant-loop decreases-loop
 returns c =
     let entry = c.before.before.before.before in
-    stored-done twos-blocks c.before.loop.invariant.1 c.before.loop.invariant.0 c.loop-test.false entry.requires.0 entry.requires.1
+    stored_done twos_blocks c.before.loop.invariant.1 c.before.loop.invariant.0 c.loop-test.false entry.requires.0 entry.requires.1
 
 pub store_spec : {M : Type 1} → statement M
 store_spec =
@@ -64,12 +64,12 @@ store_spec =
     (tie.spec
     invariant-loop
     decreases-loop
-    loop-holds
+    loop_holds
     mul-store-entry
     shared-slice-read-store-entry
     store-entry-requires
-    add-i
-    loop-less
-    loop-again
+    add_i
+    loop_less
+    loop_again
     same_length
     returns)

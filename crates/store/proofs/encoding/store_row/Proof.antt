@@ -1,6 +1,6 @@
 -- Each entry is stored behind the one before it; together they are the bytes of the row.
 use Rattle.tables.specs.Meaning.{row_of}
-use Rattle.store.proofs.Entries.{row-stored}
+use Rattle.store.proofs.Entries.{row_stored}
 use borrow.Author.Rules.{rules}
 use Rattle.store.proofs.encoding.store_row.Statement.{statement}
 use Rattle.store.proofs.encoding.store_row.Tie as tie
@@ -32,7 +32,7 @@ returns c =
     let past-store-entry = past-store-entry2.before.before.before.before in
     let entry = past-store-entry.before.before.before in
     let a = entry.args in
-    row-stored (row_of a.row) a.s _ past-store-entry.store_entry.ensures past-store-entry2.store-entry2.ensures
+    row_stored (row_of a.row) a.s _ past-store-entry.store_entry.ensures past-store-entry2.store-entry2.ensures
     c.before.before.store-entry3.ensures
 
 pub store-row-spec : {M : Type 1} → statement M

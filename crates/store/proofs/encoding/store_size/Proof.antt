@@ -1,6 +1,6 @@
 -- Each entry is stored behind the one before it; together they are the bytes of the size record.
 use Rattle.tables.specs.Meaning.{numbers}
-use Rattle.store.proofs.Entries.{size-stored}
+use Rattle.store.proofs.Entries.{size_stored}
 use borrow.Author.Rules.{rules}
 use Rattle.store.proofs.encoding.store_size.Statement.{statement}
 use Rattle.store.proofs.encoding.store_size.Tie as tie
@@ -42,7 +42,7 @@ returns c =
     let past-store-entry = past-narrow2.before.before.before.before in
     let past-narrow = past-store-entry.before in
     let entry = past-narrow.before.before.before in
-    size-stored (numbers entry.args.size) _ entry.requires.0
+    size_stored (numbers entry.args.size) _ entry.requires.0
     (rw past-narrow.narrow.ensures at past-store-entry.store_entry.ensures)
     (rw past-narrow2.narrow2.ensures at past-store-entry2.store-entry2.ensures)
     (rw past-narrow3.narrow3.ensures at past-store-entry3.store-entry3.ensures)

@@ -1,14 +1,14 @@
 -- Room for so many places is a difference that is no smaller, once the order is known.
 use mathlib.Core.Path.{sym}
-use Rattle.tables.proofs.ListTest.{least-order, least-room}
+use Rattle.tables.proofs.ListTest.{least_order, least_room}
 use Rattle.tables.proofs.checks.at_least.Statement.{statement}
 use Rattle.tables.proofs.checks.at_least.Tie as tie
 
 returns : tie.Need-returns
-returns c = sym (least-order c.before.args.least _ _ c.if1.true)
+returns c = sym (least_order c.before.args.least _ _ c.if1.true)
 
-returns-2 : tie.Need-returns-2
-returns-2 c = least-room c.before.args.least _ _ c.if1.false
+returns_2 : tie.Need-returns-2
+returns_2 c = least_room c.before.args.least _ _ c.if1.false
 
 pub at-least-spec : {M : Type 1} → statement M
-at-least-spec = tie.close (tie.spec returns returns-2)
+at-least-spec = tie.close (tie.spec returns returns_2)

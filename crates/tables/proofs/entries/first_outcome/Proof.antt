@@ -7,7 +7,7 @@ start-of-requires : tie.Need-start-of-requires
 start-of-requires c κs = search rules
 
 returns : tie.Need-returns
-returns c = λ R O. c.start-of.ensures
+returns c = λ R O. c.start_of_lem.ensures
 
 pub first-outcome-spec : {M : Type 1} → statement M
 first-outcome-spec = tie.close (tie.spec start-of-requires returns)

@@ -5,20 +5,20 @@ use Prim.Native.Nat.{◌+◌, ◌-◌}
 use native.Mathlib.Omega.{arith}
 use borrow.Author.Tests.{lt-ltb, le-ltb}
 use Rattle.laws.specs.Sets.{every}
-use Rattle.laws.proofs.Loops.{every-none, every-next, every-stop, every-done}
-use Rattle.model.specs.SoundTest.{risesAt}
-use Rattle.tables.proofs.ListTest.{rises-test}
+use Rattle.laws.proofs.Loops.{every_none, every_next, every_stop, every_done}
+use Rattle.model.specs.SoundTest.{rises_at}
+use Rattle.tables.proofs.ListTest.{rises_test}
 use Rattle.tables.proofs.rising.rises.Statement.{statement}
 use Rattle.tables.proofs.rising.rises.Tie as tie
 
 abbrev invariant-loop : tie.invariant-loop
-invariant-loop entries from k i₀ i = every (λ j. risesAt entries (from + j)) i ≡ true
+invariant-loop entries from k i₀ i = every (λ j. rises_at entries (from + j)) i ≡ true
 
 abbrev decreases-loop : tie.decreases-loop
 decreases-loop entries from k i₀ i = k - i
 
-loop-holds : tie.Need-loop-init invariant-loop decreases-loop
-loop-holds c = every-none _
+loop_holds : tie.Need-loop-init invariant-loop decreases-loop
+loop_holds c = every_none _
 
 add_at : tie.Need-overflow-add-at invariant-loop decreases-loop
 add_at c = omega arith
@@ -26,35 +26,35 @@ add_at c = omega arith
 add-at-2 : tie.Need-overflow-add-at-2 invariant-loop decreases-loop
 add-at-2 c = omega arith
 
-at-requires : tie.Need-at-requires invariant-loop decreases-loop
-at-requires c κs = omega arith
+at_requires : tie.Need-at-requires invariant-loop decreases-loop
+at_requires c κs = omega arith
 
 add-at-3 : tie.Need-overflow-add-at-3 invariant-loop decreases-loop
 add-at-3 c = omega arith
 
-at-requires-2 : tie.Need-at-requires-2 invariant-loop decreases-loop
-at-requires-2 c κs = omega arith
+at_requires_2 : tie.Need-at-requires-2 invariant-loop decreases-loop
+at_requires_2 c κs = omega arith
 
 returns : tie.Need-returns invariant-loop decreases-loop
 returns c =
-    let past-loop-test = c.before.before.before in
-    every-stop _ past-loop-test.loop-test.true
-    (rises-test _ _ _ _ c.before.at2.ensures c.before.before.at.ensures ∙ le-ltb _ _ c.if1.true)
+    let past_loop_test = c.before.before.before in
+    every_stop _ past_loop_test.loop-test.true
+    (rises_test _ _ _ _ c.before.at2.ensures c.before.before.at.ensures ∙ le-ltb _ _ c.if1.true)
 
-add-i : tie.Need-overflow-add-i invariant-loop decreases-loop
-add-i c = omega arith
+add_i : tie.Need-overflow-add-i invariant-loop decreases-loop
+add_i c = omega arith
 
-loop-less : tie.Need-loop-smaller invariant-loop decreases-loop
-loop-less c = omega arith
+loop_less : tie.Need-loop-smaller invariant-loop decreases-loop
+loop_less c = omega arith
 
-loop-again : tie.Need-loop-preserved invariant-loop decreases-loop
-loop-again c =
+loop_again : tie.Need-loop-preserved invariant-loop decreases-loop
+loop_again c =
     let turn = c.before.before.before.before in
-    every-next _ _ turn.loop.invariant
-    (rises-test _ _ _ _ c.before.at2.ensures c.before.before.at.ensures ∙ lt-ltb _ _ c.if1.false)
+    every_next _ _ turn.loop.invariant
+    (rises_test _ _ _ _ c.before.at2.ensures c.before.before.at.ensures ∙ lt-ltb _ _ c.if1.false)
 
-returns-2 : tie.Need-returns-2 invariant-loop decreases-loop
-returns-2 c = every-done _ c.before.loop.invariant c.loop-test.false
+returns_2 : tie.Need-returns-2 invariant-loop decreases-loop
+returns_2 c = every_done _ c.before.loop.invariant c.loop-test.false
 
 pub rises-spec : {M : Type 1} → statement M
 rises-spec =
@@ -62,14 +62,14 @@ rises-spec =
     (tie.spec
     invariant-loop
     decreases-loop
-    loop-holds
+    loop_holds
     add_at
     add-at-2
-    at-requires
+    at_requires
     add-at-3
-    at-requires-2
+    at_requires_2
     returns
-    add-i
-    loop-less
-    loop-again
-    returns-2)
+    add_i
+    loop_less
+    loop_again
+    returns_2)

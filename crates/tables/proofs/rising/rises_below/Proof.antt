@@ -1,21 +1,21 @@
 -- Without entries there is nothing to test; else the last is looked at, and then whether all rise.
 use native.Mathlib.Omega.{arith}
 use borrow.Author.Rules.{rules}
-use Rattle.tables.proofs.ListTest.{rises-none, rises-beyond, rises-within}
+use Rattle.tables.proofs.ListTest.{rises_none, rises_beyond, rises_within}
 use Rattle.tables.proofs.rising.rises_below.Statement.{statement}
 use Rattle.tables.proofs.rising.rises_below.Tie as tie
 
 returns : tie.Need-returns
-returns c = rises-none _ _ _ _ (omega (arith, c.if1.true))
+returns c = rises_none _ _ _ _ (omega (arith, c.if1.true))
 
 sub-last : tie.Need-overflow-sub-last
 sub-last c = search rules
 
-at-requires : tie.Need-at-requires
-at-requires c κs = search rules
+at_requires : tie.Need-at-requires
+at_requires c κs = search rules
 
-returns-2 : tie.Need-returns-2
-returns-2 c = rises-beyond _ _ _ _ c.before.before.if1.false c.before.at.ensures c.if2.true
+returns_2 : tie.Need-returns-2
+returns_2 c = rises_beyond _ _ _ _ c.before.before.if1.false c.before.at.ensures c.if2.true
 
 sub-rises : tie.Need-overflow-sub-rises
 sub-rises c = search rules
@@ -26,9 +26,9 @@ sub-rises-2 c = search rules
 rises-requires : tie.Need-rises-requires
 rises-requires c κs = search rules
 
-returns-3 : tie.Need-returns-3
-returns-3 c =
-    rises-within _ _ _ _ c.before.before.before.if1.false c.before.before.at.ensures c.before.if2.false c.rises.ensures
+returns_3 : tie.Need-returns-3
+returns_3 c =
+    rises_within _ _ _ _ c.before.before.before.if1.false c.before.before.at.ensures c.before.if2.false c.rises.ensures
 
 pub rises-below-spec : {M : Type 1} → statement M
 rises-below-spec =
@@ -36,9 +36,9 @@ rises-below-spec =
     (tie.spec
     returns
     sub-last
-    at-requires
-    returns-2
+    at_requires
+    returns_2
     sub-rises
     sub-rises-2
     rises-requires
-    returns-3)
+    returns_3)

@@ -68,7 +68,7 @@ use Rattle.tables.specs.Spans.{no_row}
 use Rattle.tables.specs.declared.Row.{Row}
 use Rattle.tables.specs.contracts.Row as T
 use Rattle.tables.proofs.Row.TheLaws as T'
-use Rattle.tables.proofs.RowPlaces.{width, place-fits}
+use Rattle.tables.proofs.RowPlaces.{width, place_fits}
 use Rattle.tables.specs.contracts.rows.put_row.Key.{name as #tables·put-row}
 use Rattle.tables.specs.contracts.rows.put_row as put-row
 use Rattle.tables.proofs.rows.put_row.Statement as stated
@@ -128,8 +128,8 @@ module _ {M : Type 1} {𝓤 : Ura M} (𝓛 : Logic 𝓤) (mem : Memory → SProp
         pass1 ! (init ! 8 refl (tt, (tt, (record { fits = gn.0 }, tt)))) $ pass1 ! (init ! 6 refl (tt, record { fits = gi })) $ pass1 !
         (init ! 4 refl typed) $ pass0 ! $
         -- [_5; …; _4; …; _3; …; _2; …; _1; …; room for _0; …; the token; what the parameters own]
-        assigns ! (bin ! (load ! (from ! (stop !)) (look ! 6 refl)) (lit ! tt) (record { fits = place-fits i (length ys) l gn.1 }))
-        (from ! (stop !)) (init ! 2 refl (tt, record { fits = place-fits i (length ys) l gn.1 })) $
+        assigns ! (bin ! (load ! (from ! (stop !)) (look ! 6 refl)) (lit ! tt) (record { fits = place_fits i (length ys) l gn.1 }))
+        (from ! (stop !)) (init ! 2 refl (tt, record { fits = place_fits i (length ys) l gn.1 })) $
         assigns ! (bin ! (load ! (from ! (fld ! refl (stop !))) (look_in ! 8 (sub ! 0 refl (whole !))))
         (load ! (from ! (stop !)) (look ! 2 refl)) tt) (from ! (stop !)) (init ! 0 refl (tt, tt)) $
         rewrite ! 0 (λ (a : ℕ). ‵ (fat full_share ty_ptr l₅ 0 (vptr b a))) (sym (place_is width o i)) refl $

@@ -78,7 +78,7 @@ use Rattle.tables.specs.Spans.{no_row}
 use Rattle.tables.specs.declared.Row.{Row}
 use Rattle.tables.specs.contracts.Row as T
 use Rattle.tables.proofs.Row.TheLaws as T'
-use Rattle.tables.proofs.RowPlaces.{width, place-fits}
+use Rattle.tables.proofs.RowPlaces.{width, place_fits}
 use Rattle.tables.specs.contracts.rows.row_at.Key.{name as #tables·row-at}
 use Rattle.tables.specs.contracts.rows.row_at as row_at
 use Rattle.tables.proofs.rows.row_at.Statement as stated
@@ -126,8 +126,8 @@ module _ {M : Type 1} {𝓤 : Ura M} (𝓛 : Logic 𝓤) (mem : Memory → SProp
         alloc1 ! (λ l₀. alloc1 ! (λ l₁. alloc1 ! (λ l₂. alloc1 ! (λ l₃. alloc1 ! (λ l₄. alloc1 ! (λ l₅. alloc0 ! $ params1 ! $
         pass1 ! (init ! 8 refl (tt, (tt, (record { fits = gn.0 }, tt)))) $ pass1 ! (init ! 6 refl (tt, record { fits = gi })) $ pass0 ! $
         -- [_5; …; _4; …; _3; …; _2; …; _1; …; room for _0; …; the token; what rows and i own]
-        assigns ! (bin ! (load ! (from ! (stop !)) (look ! 6 refl)) (lit ! tt) (record { fits = place-fits i (length ys) l gn.1 }))
-        (from ! (stop !)) (init ! 4 refl (tt, record { fits = place-fits i (length ys) l gn.1 })) $
+        assigns ! (bin ! (load ! (from ! (stop !)) (look ! 6 refl)) (lit ! tt) (record { fits = place_fits i (length ys) l gn.1 }))
+        (from ! (stop !)) (init ! 4 refl (tt, record { fits = place_fits i (length ys) l gn.1 })) $
         assigns ! (bin ! (load ! (from ! (fld ! refl (stop !))) (look_in ! 8 (sub ! 0 refl (whole !))))
         (load ! (from ! (stop !)) (look ! 4 refl)) tt) (from ! (stop !)) (init ! 2 refl (tt, tt)) $
         rewrite ! 2 (λ (p : ℕ). ‵ (fat full_share ty_ptr l₄ 0 (vptr b p))) (sym (place_is width o i)) refl $

@@ -6,8 +6,8 @@ use Rattle.tables.proofs.spans.kind_fits.Tie as tie
 returns : tie.Need-returns
 returns c = rw (eq-eqb _ _ c.if1.true)
 
-returns-2 : tie.Need-returns-2
-returns-2 c = rw (ne_eqb _ _ c.if1.false)
+returns_2 : tie.Need-returns-2
+returns_2 c = rw (ne_eqb _ _ c.if1.false)
 
 pub kind-fits-spec : {M : Type 1} → statement M
-kind-fits-spec = tie.close (tie.spec returns returns-2)
+kind-fits-spec = tie.close (tie.spec returns returns_2)

@@ -13,8 +13,8 @@ returns c = rw (stopped c.before.kind-fits.ensures c.if1.true)
 practice-fits-requires : tie.Need-practice-fits-requires
 practice-fits-requires c κs = search rules
 
-returns-2 : tie.Need-returns-2
-returns-2 c = rw (passed c.before.before.kind-fits.ensures c.before.if1.false) c.practice-fits.ensures
+returns_2 : tie.Need-returns-2
+returns_2 c = rw (passed c.before.before.kind-fits.ensures c.before.if1.false) c.practice_fits.ensures
 
 pub not-idle-spec : {M : Type 1} → statement M
-not-idle-spec = tie.close (tie.spec kind-fits-requires returns practice-fits-requires returns-2)
+not-idle-spec = tie.close (tie.spec kind-fits-requires returns practice-fits-requires returns_2)

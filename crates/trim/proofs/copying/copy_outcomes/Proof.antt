@@ -3,7 +3,7 @@ use mathlib.Core.Path.{refl, ap}
 use Prim.Native.Nat.{ℕ, ◌-◌}
 use native.Mathlib.Omega.{arith}
 use lib.ListN.{get_or}
-use Rattle.laws.proofs.EntryCopies.{Copies, copies-start, copies-room, copies-next, copies-done}
+use Rattle.laws.proofs.EntryCopies.{Copies, copies_start, copies_room, copies_next, copies_done}
 use Rattle.trim.proofs.copying.copy_outcomes.Statement.{statement}
 use Rattle.trim.proofs.copying.copy_outcomes.Tie as tie
 
@@ -14,11 +14,11 @@ invariant-loop outcomes outcomes2₀ numbers from end t e₀ j₀ outcomes2 e j 
 abbrev decreases-loop : tie.decreases-loop
 decreases-loop outcomes outcomes2₀ numbers from end t e₀ j₀ outcomes2 e j = end - j
 
-loop-holds : tie.Need-loop-init invariant-loop decreases-loop
-loop-holds c = copies-start c.before.before.before.requires.0.2
+loop_holds : tie.Need-loop-init invariant-loop decreases-loop
+loop_holds c = copies_start c.before.before.before.requires.0.2
 
-at-requires : tie.Need-at-requires invariant-loop decreases-loop
-at-requires c κs = omega (arith, c.before.before.before.before.before.requires.0.1)
+at_requires : tie.Need-at-requires invariant-loop decreases-loop
+at_requires c κs = omega (arith, c.before.before.before.before.before.requires.0.1)
 
 mul-outcomes2 : tie.Need-overflow-mul-outcomes2 invariant-loop decreases-loop
 mul-outcomes2 c =
@@ -33,29 +33,29 @@ shared-slice-read-outcomes2 c =
 mul-outcomes2-2 : tie.Need-overflow-mul-outcomes2-2 invariant-loop decreases-loop
 mul-outcomes2-2 c =
     let turn = c.before.before.before in
-    omega (arith, copies-room turn.loop.invariant c.before.before.loop-test.true)
+    omega (arith, copies_room turn.loop.invariant c.before.before.loop-test.true)
 
 slice-write-outcomes2 : tie.Need-slice-write-outcomes2 invariant-loop decreases-loop
 slice-write-outcomes2 c =
     let turn = c.before.before.before in
-    copies-room turn.loop.invariant c.before.before.loop-test.true
+    copies_room turn.loop.invariant c.before.before.loop-test.true
 
 add-e : tie.Need-overflow-add-e invariant-loop decreases-loop
 add-e c =
     let turn = c.before.before.before in
-    omega (arith, copies-room turn.loop.invariant c.before.before.loop-test.true)
+    omega (arith, copies_room turn.loop.invariant c.before.before.loop-test.true)
 
 add-j : tie.Need-overflow-add-j invariant-loop decreases-loop
 add-j c = omega arith
 
-loop-less : tie.Need-loop-smaller invariant-loop decreases-loop
-loop-less c = omega arith
+loop_less : tie.Need-loop-smaller invariant-loop decreases-loop
+loop_less c = omega arith
 
-loop-again : tie.Need-loop-preserved invariant-loop decreases-loop
-loop-again c =
+loop_again : tie.Need-loop-preserved invariant-loop decreases-loop
+loop_again c =
     let turn = c.before.before.before in
     let a = turn.before.before.before.before.args in
-    copies-next turn.loop.invariant _ c.before.before.loop-test.true
+    copies_next turn.loop.invariant _ c.before.before.loop-test.true
     (ap (λ (x : ℕ). get_or a.numbers.now x 0) c.before.at.ensures)
     refl
 
@@ -63,7 +63,7 @@ same_length : tie.Need-same-length invariant-loop decreases-loop
 same_length c = c.before.loop.invariant.turn.same
 
 returns : tie.Need-returns invariant-loop decreases-loop
-returns c = copies-done c.before.loop.invariant c.loop-test.false
+returns c = copies_done c.before.loop.invariant c.loop-test.false
 
 pub copy-outcomes-spec : {M : Type 1} → statement M
 copy-outcomes-spec =
@@ -71,15 +71,15 @@ copy-outcomes-spec =
     (tie.spec
     invariant-loop
     decreases-loop
-    loop-holds
-    at-requires
+    loop_holds
+    at_requires
     mul-outcomes2
     shared-slice-read-outcomes2
     mul-outcomes2-2
     slice-write-outcomes2
     add-e
     add-j
-    loop-less
-    loop-again
+    loop_less
+    loop_again
     same_length
     returns)

@@ -7,19 +7,19 @@ use borrow.Author.Rules.{rules}
 use Rattle.model.specs.File.{Tree}
 use Rattle.model.specs.Held.{tree_of}
 use Rattle.model.proofs.Good.{Good}
-use Rattle.model.proofs.GoodTables.{sound-good}
+use Rattle.model.proofs.GoodTables.{sound_good}
 use Rattle.tables.specs.Meaning.{held}
-use Rattle.tables.proofs.Readiness.{sound-ready, sound-rows}
-use Rattle.trim.proofs.KeptStates.{kept-count}
-use Rattle.trim.proofs.KeptStretches.{StretchOf, kept-in-plan, kept-stretch}
+use Rattle.tables.proofs.Readiness.{sound_ready, sound_rows}
+use Rattle.trim.proofs.KeptStates.{kept_count}
+use Rattle.trim.proofs.KeptStretches.{StretchOf, kept_in_plan, kept_stretch}
 use Rattle.trim.proofs.Counted.{
   Counting,
-  counting-start,
-  counting-next,
-  counting-commands,
-  counting-outcomes,
-  start-place,
-  start-has-place,
+  counting_start,
+  counting_next,
+  counting_commands,
+  counting_outcomes,
+  start_place,
+  start_has_place,
   counted,
 }
 use Rattle.trim.proofs.counting.count.Statement.{statement}
@@ -51,7 +51,7 @@ stretch-here : (c : tie.After-stretch-at invariant-loop decreases-loop) → Stre
 stretch-here c =
     let entry = turn-to-entry (past-stretch-at-to-turn c) in
     let a = entry.args in
-    kept-stretch a.size a.rows.now a.firsts.now a.outcomes.now entry.pre.1.0 _
+    kept_stretch a.size a.rows.now a.firsts.now a.outcomes.now entry.pre.1.0 _
     c.before.before.loop-test.true c.before.at.ensures entry.pre.0 (c.stretch-at.ensures a.outcomes.now)
 
 abbrev Next : tie.After-stretch-at invariant-loop decreases-loop → Type 0
@@ -63,54 +63,54 @@ Next c =
 next : (c : tie.After-stretch-at invariant-loop decreases-loop) → Next c
 next c =
     let turn = past-stretch-at-to-turn c in
-    counting-next turn.loop.inv (omega (arith, c.before.before.loop-test.true, kept-count (turn-to-entry turn).pre.1.0))
+    counting_next turn.loop.inv (omega (arith, c.before.before.loop-test.true, kept_count (turn-to-entry turn).pre.1.0))
     (stretch-here c)
 
 good : (c : tie.Start invariant-loop decreases-loop) → Good (treeIn c)
-good c = sound-good _ c.requires.0
+good c = sound_good _ c.requires.0
 
-loop-holds : tie.Need-loop-init invariant-loop decreases-loop
-loop-holds c = counting-start _
+loop_holds : tie.Need-loop-init invariant-loop decreases-loop
+loop_holds c = counting_start _
 
-at-requires : tie.Need-at-requires invariant-loop decreases-loop
-at-requires c κs = omega (arith, (turn-to-entry c.before).pre.1.1)
+at_requires : tie.Need-at-requires invariant-loop decreases-loop
+at_requires c κs = omega (arith, (turn-to-entry c.before).pre.1.1)
 
 stretch-at-requires : tie.Need-stretch-at-requires invariant-loop decreases-loop
 stretch-at-requires c κs =
     let entry = turn-to-entry c.before.before in
     let a = entry.args in (
-      kept-in-plan a.size a.rows.now a.firsts.now a.outcomes.now entry.pre.1.0 _ c.before.loop-test.true
+      kept_in_plan a.size a.rows.now a.firsts.now a.outcomes.now entry.pre.1.0 _ c.before.loop-test.true
           c.at.ensures,
-      sound-rows a.size a.rows.now a.firsts.now a.outcomes.now entry.pre.0,
-      (sound-ready a.size a.rows.now a.firsts.now a.outcomes.now entry.pre.0).long-firsts,
+      sound_rows a.size a.rows.now a.firsts.now a.outcomes.now entry.pre.0,
+      (sound_ready a.size a.rows.now a.firsts.now a.outcomes.now entry.pre.0).long_firsts,
     )
 
 sub-m : tie.Need-overflow-sub-m invariant-loop decreases-loop
 sub-m c = (stretch-here c.before).rises
 
 add-m : tie.Need-overflow-add-m invariant-loop decreases-loop
-add-m c = omega (arith, counting-commands (next c.before) (good (turn-to-entry (past-stretch-at-to-turn c.before))))
+add-m c = omega (arith, counting_commands (next c.before) (good (turn-to-entry (past-stretch-at-to-turn c.before))))
 
 sub-t : tie.Need-overflow-sub-t invariant-loop decreases-loop
 sub-t c = (stretch-here c.before.before).order
 
 add-t : tie.Need-overflow-add-t invariant-loop decreases-loop
-add-t c = omega (arith, counting-outcomes (next c.before.before) (good (turn-to-entry (past-stretch-at-to-turn c.before.before))))
+add-t c = omega (arith, counting_outcomes (next c.before.before) (good (turn-to-entry (past-stretch-at-to-turn c.before.before))))
 
-add-i : tie.Need-overflow-add-i invariant-loop decreases-loop
-add-i c = omega arith
+add_i : tie.Need-overflow-add-i invariant-loop decreases-loop
+add_i c = omega arith
 
-loop-less : tie.Need-loop-smaller invariant-loop decreases-loop
-loop-less c = omega arith
+loop_less : tie.Need-loop-smaller invariant-loop decreases-loop
+loop_less c = omega arith
 
-loop-again : tie.Need-loop-preserved invariant-loop decreases-loop
-loop-again c = next c.before.before
+loop_again : tie.Need-loop-preserved invariant-loop decreases-loop
+loop_again c = next c.before.before
 
 place-of-requires : tie.Need-place-of-requires invariant-loop decreases-loop
 unfolding tree_of
 place-of-requires c κs =
     let entry = turn-to-entry c.before in
-    start-has-place entry.pre.1.0 (good entry) entry.pre.1.1
+    start_has_place entry.pre.1.0 (good entry) entry.pre.1.1
 
 new-requires : tie.Need-new-requires invariant-loop decreases-loop
 new-requires c κs = search rules
@@ -121,10 +121,10 @@ returns c =
     let turn = c.before.before.before in
     let entry = turn-to-entry turn in
     let k = entry.pre.1.0 in
-    let all : turn.loop.i ≡ entry.args.n = omega (arith, c.before.before.loop-test.false, turn.loop.invariant.high, kept-count k) in
+    let all : turn.loop.i ≡ entry.args.n = omega (arith, c.before.before.loop-test.false, turn.loop.invariant.high, kept_count k) in
     let place = c.before.place_of.ensures in
-    counted k (good entry) (rw all at turn.loop.invariant) c.new.ensures (start-place k (good entry) _ place.0 place.1)
+    counted k (good entry) (rw all at turn.loop.invariant) c.new.ensures (start_place k (good entry) _ place.0 place.1)
 
 pub count_spec : {M : Type 1} → statement M
-count_spec = tie.close (tie.spec invariant-loop decreases-loop loop-holds at-requires stretch-at-requires sub-m add-m sub-t add-t add-i loop-less
-    loop-again place-of-requires new-requires returns)
+count_spec = tie.close (tie.spec invariant-loop decreases-loop loop_holds at_requires stretch-at-requires sub-m add-m sub-t add-t add_i loop_less
+    loop_again place-of-requires new-requires returns)

@@ -4,21 +4,21 @@ use mathlib.Core.Path.{◌∙◌}
 use Prim.Native.Nat.{◌-◌, ◌<◌}
 use native.Mathlib.Omega.{arith}
 use Rattle.model.specs.Held.{tree_of, state_of}
-use Rattle.model.proofs.SoundFacts.{sound-facts}
-use Rattle.model.proofs.HeldPlan.{tree-count}
-use Rattle.model.proofs.GoodTables.{sound-good}
+use Rattle.model.proofs.SoundFacts.{sound_facts}
+use Rattle.model.proofs.HeldPlan.{tree_count}
+use Rattle.model.proofs.GoodTables.{sound_good}
 use Rattle.tables.specs.Meaning.{held}
-use Rattle.tables.proofs.Readiness.{sound-ready, sound-rows}
-use Rattle.walks.proofs.Room.{queued-few}
-use Rattle.trim.proofs.Stretching.{InStretch, state-stretch}
-use Rattle.walks.proofs.WholeWalks.{WholeWalk, fresh-queued, whole-start, whole-next}
-use Rattle.trim.proofs.EnteredStates.{outcomesOf, outcome-inside, walked-entered}
+use Rattle.tables.proofs.Readiness.{sound_ready, sound_rows}
+use Rattle.walks.proofs.Room.{queued_few}
+use Rattle.trim.proofs.Stretching.{InStretch, state_stretch}
+use Rattle.walks.proofs.WholeWalks.{WholeWalk, fresh_queued, whole_start, whole_next}
+use Rattle.trim.proofs.EnteredStates.{outcomes_of, outcome_inside, walked_entered}
 use Rattle.trim.proofs.entering.enter_all.Statement.{statement}
 use Rattle.trim.proofs.entering.enter_all.Proof.Tie as tie
 
 abbrev invariant-loop : tie.invariant-loop
 invariant-loop size rows firsts outcomes flags₀ queue₀ q₀ h₀ flags queue q h =
-    WholeWalk size.n size.start (outcomesOf (tree_of (held size rows firsts outcomes))) flags₀ queue₀ h q flags queue
+    WholeWalk size.n size.start (outcomes_of (tree_of (held size rows firsts outcomes))) flags₀ queue₀ h q flags queue
 
 abbrev decreases-loop : tie.decreases-loop
 decreases-loop size rows firsts outcomes flags₀ queue₀ q₀ h₀ flags queue q h = size.n - h
@@ -33,8 +33,8 @@ abbrev past-spread-to-stretch-at : tie.After-slice-known6 invariant-loop decreas
 past-spread-to-stretch-at c = c.before.before.before.before.before.before.before
 
 -- the state that is gone on from, and where its outcomes are
-in-plan : (c : tie.After-stretch-at invariant-loop decreases-loop) → c.before.at.result < (turn-to-entry (past-stretch-at-to-turn c)).args.size.n
-in-plan c =
+in_plan : (c : tie.After-stretch-at invariant-loop decreases-loop) → c.before.at.result < (turn-to-entry (past-stretch-at-to-turn c)).args.size.n
+in_plan c =
     let past-at = c.before in
     omega (arith, past-at.at.ensures, (past-stretch-at-to-turn c).loop.invariant.queued.states _ past-at.before.before.loop-test.true)
 
@@ -49,25 +49,25 @@ stretch-here : (c : tie.After-stretch-at invariant-loop decreases-loop) → Stre
 stretch-here c =
     let entry = turn-to-entry (past-stretch-at-to-turn c) in
     let a = entry.args in
-    state-stretch a.size a.rows.now a.firsts.now a.outcomes.now entry.pre.0 _ (in-plan c)
+    state_stretch a.size a.rows.now a.firsts.now a.outcomes.now entry.pre.0 _ (in_plan c)
     (c.stretch-at.ensures a.outcomes.now)
 
 reach-requires : tie.Need-reach-requires invariant-loop decreases-loop
 reach-requires c κs =
     let entry = c.before.before.before.before.before.before in
-    let size = ((sound-facts _).0 entry.requires.0).size in (
-      fresh-queued entry.args.queue.now entry.requires.1.2,
+    let size = ((sound_facts _).0 entry.requires.0).size in (
+      fresh_queued entry.args.queue.now entry.requires.1.2,
       (size.starts, size.few, entry.requires.1.0, entry.requires.1.1, omega arith, omega arith),
     )
 
-loop-holds : tie.Need-loop-init invariant-loop decreases-loop
-loop-holds c =
+loop_holds : tie.Need-loop-init invariant-loop decreases-loop
+loop_holds c =
     let past-reach = c.before.before.before.before in
     let entry = past-reach.before.before.before.before.before.before.before in
-    whole-start ((sound-facts _).0 entry.requires.0).size.starts entry.requires.1.2 past-reach.reach.ensures
+    whole_start ((sound_facts _).0 entry.requires.0).size.starts entry.requires.1.2 past-reach.reach.ensures
 
-at-requires : tie.Need-at-requires invariant-loop decreases-loop
-at-requires c κs =
+at_requires : tie.Need-at-requires invariant-loop decreases-loop
+at_requires c κs =
     let turn = c.before.before in
     let v = turn.loop.invariant in
     omega (
@@ -75,7 +75,7 @@ at-requires c κs =
       (turn-to-entry turn).requires.1.1,
       v.same_queue,
       turn.before.before.before.before.before.reach.ensures.same_queue,
-      queued-few v.queued,
+      queued_few v.queued,
     )
 
 stretch-at-requires : tie.Need-stretch-at-requires invariant-loop decreases-loop
@@ -84,8 +84,8 @@ stretch-at-requires c κs =
     let entry = turn-to-entry turn in
     let a = entry.args in (
       rw c.at.ensures (turn.loop.invariant.queued.states _ c.before.before.loop-test.true),
-      sound-rows a.size a.rows.now a.firsts.now a.outcomes.now entry.pre.0,
-      (sound-ready a.size a.rows.now a.firsts.now a.outcomes.now entry.pre.0).long-firsts,
+      sound_rows a.size a.rows.now a.firsts.now a.outcomes.now entry.pre.0,
+      (sound_ready a.size a.rows.now a.firsts.now a.outcomes.now entry.pre.0).long_firsts,
     )
 
 spread-requires : tie.Need-spread-requires invariant-loop decreases-loop
@@ -96,7 +96,7 @@ spread-requires c κs =
     let a = entry.args in
     let v = turn.loop.inv in
     let begun = turn.before.before.before.before.before.reach.ensures in
-    let ready = sound-ready a.size a.rows.now a.firsts.now a.outcomes.now entry.pre.0 in
+    let ready = sound_ready a.size a.rows.now a.firsts.now a.outcomes.now entry.pre.0 in
     let here = stretch-here past-stretch-at in (
       v.queued,
       (
@@ -114,33 +114,33 @@ spread-requires c κs =
 add-h : tie.Need-overflow-add-h invariant-loop decreases-loop
 add-h c =
     let turn = past-stretch-at-to-turn (past-spread-to-stretch-at c) in
-    omega (arith, ((sound-facts _).0 (turn-to-entry turn).pre.0).size.few, queued-few turn.loop.inv.queued)
+    omega (arith, ((sound_facts _).0 (turn-to-entry turn).pre.0).size.few, queued_few turn.loop.inv.queued)
 
-loop-less : tie.Need-loop-smaller invariant-loop decreases-loop
-loop-less c = omega (arith, queued-few (past-stretch-at-to-turn (past-spread-to-stretch-at c)).loop.inv.queued)
+loop_less : tie.Need-loop-smaller invariant-loop decreases-loop
+loop_less c = omega (arith, queued_few (past-stretch-at-to-turn (past-spread-to-stretch-at c)).loop.inv.queued)
 
-loop-again : tie.Need-loop-preserved invariant-loop decreases-loop
-loop-again c =
+loop_again : tie.Need-loop-preserved invariant-loop decreases-loop
+loop_again c =
     let past-stretch-at = past-spread-to-stretch-at c in
     let turn = past-stretch-at-to-turn past-stretch-at in
     let entry = turn-to-entry turn in
     let a = entry.args in
     let T = held a.size a.rows.now a.firsts.now a.outcomes.now in
-    whole-next turn.loop.inv past-stretch-at.before.before.before.loop-test.taken past-stretch-at.before.at.ensures
-    (λ x m. rw (tree-count T)
-    at (outcome-inside (tree_of T) (sound-good T entry.pre.0) _ x (rw (tree-count T) (in-plan past-stretch-at)) m))
+    whole_next turn.loop.inv past-stretch-at.before.before.before.loop-test.taken past-stretch-at.before.at.ensures
+    (λ x m. rw (tree_count T)
+    at (outcome_inside (tree_of T) (sound_good T entry.pre.0) _ x (rw (tree_count T) (in_plan past-stretch-at)) m))
     (stretch-here past-stretch-at).outs c.before.before.before.before.spread.ensures
 
 same_length : tie.Need-same-length invariant-loop decreases-loop
 same_length c = c.before.loop.invariant.same_flags ∙ c.before.before.before.before.before.before.reach.ensures.same_flags
 
-same-length-2 : tie.Need-same-length-2 invariant-loop decreases-loop
-same-length-2 c = c.before.loop.invariant.same_queue ∙ c.before.before.before.before.before.before.reach.ensures.same_queue
+same_length_2 : tie.Need-same-length-2 invariant-loop decreases-loop
+same_length_2 c = c.before.loop.invariant.same_queue ∙ c.before.before.before.before.before.before.reach.ensures.same_queue
 
 returns : tie.Need-returns invariant-loop decreases-loop
-returns c = walked-entered _ (turn-to-entry c.before).pre.0 c.before.loop.invariant c.loop-test.false
+returns c = walked_entered _ (turn-to-entry c.before).pre.0 c.before.loop.invariant c.loop-test.false
 
 pub enter-all-spec : {M : Type 1} → statement M
 enter-all-spec = tie.close
-    (tie.spec invariant-loop decreases-loop reach-requires loop-holds at-requires stretch-at-requires spread-requires add-h loop-less loop-again
-    same_length same-length-2 returns)
+    (tie.spec invariant-loop decreases-loop reach-requires loop_holds at_requires stretch-at-requires spread-requires add-h loop_less loop_again
+    same_length same_length_2 returns)

@@ -2,9 +2,9 @@
 mod Tie
 use native.Mathlib.Omega.{arith}
 use borrow.Author.Rules.{rules}
-use Rattle.model.proofs.SoundFacts.{sound-facts}
+use Rattle.model.proofs.SoundFacts.{sound_facts}
 use Rattle.tables.specs.Meaning.{held}
-use Rattle.walks.specs.Flags.{walkedIn}
+use Rattle.walks.specs.Flags.{walked_in}
 use Rattle.trim.proofs.KeptStates.{listed_kept}
 use Rattle.trim.proofs.entering.keep.Statement.{statement}
 use Rattle.trim.proofs.entering.keep.Proof.Tie as tie
@@ -13,7 +13,7 @@ slice-aggregate-fill : tie.Need-slice-aggregate-fill
 slice-aggregate-fill c = search rules
 
 fill-requires : tie.Need-fill-requires
-fill-requires c κs = (((sound-facts _).0 c.before.before.before.before.requires.0).size.few, omega arith)
+fill-requires c κs = (((sound_facts _).0 c.before.before.before.before.requires.0).size.few, omega arith)
 
 slice-aggregate-enter-all : tie.Need-slice-aggregate-enter-all
 slice-aggregate-enter-all c = search rules
@@ -21,7 +21,7 @@ slice-aggregate-enter-all c = search rules
 enter-all-requires : tie.Need-enter-all-requires
 enter-all-requires c κs =
     let entry = c.before.before.before.before.before.before.before.before in
-    let few = ((sound-facts _).0 entry.requires.0).size.few in
+    let few = ((sound_facts _).0 entry.requires.0).size.few in
     let filled = c.before.before.before.fill.ensures in
     (entry.requires.0, (omega (arith, few, filled.same), omega (arith, few, entry.requires.1), filled.low))
 
@@ -32,7 +32,7 @@ list-requires : tie.Need-list-requires
 list-requires c κs =
     let past-enter-all = c.before.before.before.before.before in
     let entry = past-enter-all.before.before.before.before.before.before.before.before.before in
-    let few = ((sound-facts _).0 entry.requires.0).size.few in (
+    let few = ((sound_facts _).0 entry.requires.0).size.few in (
       few,
       omega (arith, few, past-enter-all.enter-all.auto, past-enter-all.before.before.before.before.fill.ensures.same),
       omega (arith, few, past-enter-all.enter-all.auto, entry.requires.1),
@@ -46,8 +46,8 @@ returns c =
     let past-list = c.before.before in
     let past-enter-all = past-list.before.before.before.before.before.before in
     let entry = past-enter-all.before.before.before.before.before.before.before.before.before in
-    let few = ((sound-facts _).0 entry.requires.0).size.few in
-    listed_kept (held entry.args.size entry.args.rows.now entry.args.firsts.now entry.args.outcomes.now) (walkedIn _)
+    let few = ((sound_facts _).0 entry.requires.0).size.few in
+    listed_kept (held entry.args.size entry.args.rows.now entry.args.firsts.now entry.args.outcomes.now) (walked_in _)
     past-enter-all.enter-all.ensures _ (omega (arith, few, past-enter-all.enter-all.auto, entry.requires.1))
     past-list.list.ensures.0 past-list.list.ensures.1
 

@@ -7,12 +7,12 @@ use native.Mathlib.Omega.{arith}
 use borrow.Author.Rules.{rules}
 use Rattle.laws.specs.Lists.{overwrite}
 use Rattle.model.specs.Held.{tree_of}
-use Rattle.model.proofs.HeldPlan.{tree-count}
-use Rattle.model.proofs.GoodTables.{sound-good}
-use Rattle.model.proofs.TrimGood.{trim-good}
+use Rattle.model.proofs.HeldPlan.{tree_count}
+use Rattle.model.proofs.GoodTables.{sound_good}
+use Rattle.model.proofs.TrimGood.{trim_good}
 use Rattle.tables.specs.Meaning.{held}
-use Rattle.trim.proofs.KeptStates.{kept-count, kept-inside, kept-rises}
-use Rattle.trim.proofs.FilledTables.{rows_left, firsts-left, outcomes-left, scratch-left}
+use Rattle.trim.proofs.KeptStates.{kept_count, kept_inside, kept_rises}
+use Rattle.trim.proofs.FilledTables.{rows_left, firsts_left, outcomes_left, scratch_left}
 use Rattle.trim.proofs.filling.fill_trimmed.Statement.{statement}
 use Rattle.trim.proofs.filling.fill_trimmed.Proof.Tie as tie
 
@@ -23,13 +23,13 @@ number-requires c κs =
     let T = held a.size a.rows.now a.firsts.now a.outcomes.now in
     let k = entry.requires.1.0.0 in
     let lent = entry.requires.1.1.1 in (
-      (entry.requires.1.0.1, lent.0, omega (arith, kept-count k, (trim-good _ (sound-good T entry.requires.0)).few)),
+      (entry.requires.1.0.1, lent.0, omega (arith, kept_count k, (trim_good _ (sound_good T entry.requires.0)).few)),
       (
         λ i l. (
-          omega (arith, kept-inside k i l, tree-count T, lent.1),
-          omega (arith, kept-inside k i l, (sound-good T entry.requires.0).few),
+          omega (arith, kept_inside k i l, tree_count T, lent.1),
+          omega (arith, kept_inside k i l, (sound_good T entry.requires.0).few),
         ),
-        kept-rises k,
+        kept_rises k,
       ),
     )
 
@@ -51,11 +51,11 @@ fill-requires c κs =
 same_length : tie.Need-same-length
 same_length c = search rules
 
-same-length-2 : tie.Need-same-length-2
-same-length-2 c = search rules
+same_length_2 : tie.Need-same-length-2
+same_length_2 c = search rules
 
-same-length-3 : tie.Need-same-length-3
-same-length-3 c = search rules
+same_length_3 : tie.Need-same-length-3
+same_length_3 c = search rules
 
 same-length-4 : tie.Need-same-length-4
 same-length-4 c = search rules
@@ -75,12 +75,12 @@ returns c =
     let k = entry.requires.1.0.0 in (
       rows_left p a.rows2.now a.firsts2.now a.outcomes2.now room copied.0,
       (
-        firsts-left p a.rows2.now a.firsts2.now a.outcomes2.now room copied.1.0,
+        firsts_left p a.rows2.now a.firsts2.now a.outcomes2.now room copied.1.0,
         (
-          outcomes-left p a.rows2.now a.firsts2.now a.outcomes2.now room copied.1.1,
+          outcomes_left p a.rows2.now a.firsts2.now a.outcomes2.now room copied.1.1,
           (
             past-number.number.ensures.0 ∙ ap (λ (xs : List ℕ). overwrite xs a.olds.now) k.holds,
-            scratch-left k a.size.n (tree-count _) entry.requires.1.1.1.1 past-number.number.ensures.1
+            scratch_left k a.size.n (tree_count _) entry.requires.1.1.1.1 past-number.number.ensures.1
                 c.before.before.fill.ensures,
           ),
         ),
@@ -89,5 +89,5 @@ returns c =
 
 pub fill-trimmed-spec : {M : Type 1} → statement M
 fill-trimmed-spec = tie.close
-    (tie.spec number-requires copy-states-requires fill-requires same_length same-length-2 same-length-3 same-length-4
+    (tie.spec number-requires copy-states-requires fill-requires same_length same_length_2 same_length_3 same-length-4
     same-length-5 returns)

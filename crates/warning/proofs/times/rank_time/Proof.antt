@@ -2,7 +2,7 @@
 use Prim.Native.Nat.{◌*◌, ◌≤◌}
 use native.Mathlib.Omega.{arith}
 use borrow.Author.Rules.{rules}
-use Rattle.model.specs.Warning.{timeOf}
+use Rattle.model.specs.Warning.{time_of}
 use Rattle.model.proofs.Warnings.{longest}
 use Rattle.warning.proofs.times.rank_time.Statement.{statement}
 use Rattle.warning.proofs.times.rank_time.Tie as tie
@@ -33,7 +33,7 @@ seconds-left-requires : tie.Need-seconds-left-requires
 seconds-left-requires c κs = search rules
 
 returns : tie.Need-returns
-unfolding timeOf
+unfolding time_of
 returns c = rw (c.before.minutes-in.ensures, c.seconds-left.ensures)
 
 pub rank-time-spec : {M : Type 1} → statement M

@@ -1,7 +1,7 @@
 -- Tag, length and outcomes are stored one behind the other, and that is the field of a command with these outcomes.
 use borrow.Author.Rules.{rules}
 use Rattle.laws.proofs.Wrote.{wrote_then}
-use Rattle.writing.proofs.CommandFacts.{command-wrote}
+use Rattle.writing.proofs.CommandFacts.{command_wrote}
 use Rattle.writing.proofs.fields.write_command.Statement.{statement}
 use Rattle.writing.proofs.fields.write_command.Tie as tie
 
@@ -28,7 +28,7 @@ returns c =
     let past-put-two = c.before.before.before.before.before.before in
     let past-put-one = past-put-two.before.before.before.before in
     let entry = past-put-one.before.before.before.before in
-    command-wrote _ _ _ entry.requires.1
+    command_wrote _ _ _ entry.requires.1
     (wrote_then past-put-one.put_one.ensures
     (wrote_then past-put-two.put_two.ensures c.before.before.write-outcomes.ensures))
 
