@@ -9,7 +9,7 @@ use tables::rows::{put_row, row_at};
 use tables::{Row, Size};
 
 // How many places are lent of each table, and what every one of them holds: so it is seen which ones a call has written.
-#[derive(Drop)]
+#[derive(Clone, Copy)]
 pub struct Places {
     pub rows: usize,
     pub firsts: usize,

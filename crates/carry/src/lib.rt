@@ -1,4 +1,5 @@
 // Carrying back: a table of a trimmed plan under the old numbers.
+#![tactic(auto)]
 ghost use Rattle.std.specs.Prelude.{◌≡◌};
 ghost use Rattle.model.specs.Refusal.{given};
 ghost use Rattle.model.specs.Carry.{carry_call};
@@ -13,7 +14,7 @@ mod admission;
 mod placing;
 
 // That the table is carried back, or why it is not.
-#[derive(Drop)]
+#[derive(Clone, Copy)]
 pub enum CarryAnswer {
     Given,
     Refused(Refusal),

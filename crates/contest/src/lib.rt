@@ -1,4 +1,5 @@
 // The contest over a few moves: whether the keeper can hold a state against whatever the works do.
+#![tactic(auto)]
 ghost use Rattle.std.specs.Prelude.{◌≡◌, Bool};
 ghost use Rattle.model.specs.Refusal.{given};
 ghost use Rattle.model.specs.Contest.{contest_call, Contested};
@@ -14,7 +15,7 @@ mod memo;
 mod turns;
 
 // Whether the keeper's turn is held.
-#[derive(Drop)]
+#[derive(Clone, Copy)]
 pub enum ContestAnswer {
     Given(bool),
     Refused(Refusal),

@@ -1,4 +1,5 @@
 // Deciding a whole plan.
+#![tactic(auto)]
 ghost use Rattle.std.specs.Prelude.{◌≡◌, ◌&&◌, leb};
 ghost use Rattle.model.specs.Tables.{Tables};
 ghost use Rattle.model.specs.SoundTest.{sound};
@@ -20,14 +21,14 @@ use verdicts::judge_all;
 mod verdicts;
 
 // Whether the plan was decided.
-#[derive(Drop)]
+#[derive(Clone, Copy)]
 pub enum DecideAnswer {
     Given,
     Refused(Refusal),
 }
 
 // The answer, with the tally's two rows: how many safe and how many lost states have a practice that holds, one that fails, and none.
-#[derive(Drop)]
+#[derive(Clone, Copy)]
 pub struct Decision {
     pub answer: DecideAnswer,
     pub safe: [u16; 3],

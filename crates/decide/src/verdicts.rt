@@ -21,7 +21,7 @@ use tables::spans::{Span, span_at};
 use tables::{Row, Size};
 
 // A place of the tally.
-#[derive(Drop)]
+#[derive(Clone, Copy)]
 pub struct Place {
     pub row: usize,
     pub column: usize,

@@ -1,3 +1,4 @@
 // Deciding, for the gate controller's C program.
+#![tactic(auto)]
 mod answers;
 pub mod call;

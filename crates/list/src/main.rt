@@ -3,6 +3,7 @@
 // A program in Rattle has no exit status. Where the input cannot be read to its end, nothing is printed but a line on standard error: a
 // part of a file is not judged. Where the listing cannot be written whole, a line on standard error says so. A reader that went
 // away ends the program by the signal SIGPIPE, unless that is ignored.
+#![tactic(auto)]
 
 // `io::read_full` stops at the end of the input, and also where a read fails. Only at the end does a further read answer 0.
 fn at_end() -> bool {

@@ -16,7 +16,7 @@ use tables::rows::{ROW_BYTES, ROW_ENTRIES, SIZE_BYTES, put_row};
 use tables::{Refusal, Row, Size};
 
 // The size record, or what the plan is refused with.
-#[derive(Drop)]
+#[derive(Clone, Copy)]
 pub enum PlanAnswer {
     Given(Size),
     Refused(Refusal),

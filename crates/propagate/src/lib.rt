@@ -1,2 +1,3 @@
 // Propagation of losing states from a set of states, layer by layer, in time linear in the plan.
+#![tactic(auto)]
 pub mod layers;

@@ -6,7 +6,7 @@ ghost use Rattle.reading.specs.Meaning.{moved};
 use tables::entries::{join, wide};
 
 // How far a reading has come: a place in the file, and the commands and the outcomes before it.
-#[derive(Drop)]
+#[derive(Clone, Copy)]
 pub struct Mark {
     pub at: usize,
     pub m: usize,

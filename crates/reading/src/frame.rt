@@ -9,7 +9,7 @@ use tables::Refusal;
 use tables::tags::{COMMAND, HEAD, STATE};
 
 // The answer to every field: the mark past it, or the refusal, which ends the reading.
-#[derive(Drop)]
+#[derive(Clone, Copy)]
 pub enum Passed {
     To(Mark),
     Refused(Refusal),

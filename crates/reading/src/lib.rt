@@ -1,4 +1,5 @@
 // Reading a plan file into lent tables.
+#![tactic(auto)]
 ghost use Rattle.std.specs.Prelude.{◌≡◌};
 ghost use Rattle.model.specs.Calls.{read_call};
 ghost use Rattle.tables.specs.Meaning.{rows_of};
@@ -15,7 +16,7 @@ mod scan;
 mod walker;
 
 // The size record of the plan that was read, or why there is none.
-#[derive(Drop)]
+#[derive(Clone, Copy)]
 pub enum ReadAnswer {
     Given(Size),
     Refused(Refusal),

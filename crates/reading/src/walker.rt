@@ -7,7 +7,7 @@ ghost use Rattle.reading.specs.Meaning.{Within, Walks, bytes_from, after_field};
 use crate::bytes::Mark;
 use crate::frame::{Passed, check_frame};
 
-#[derive(Drop)]
+#[derive(Clone, Copy)]
 pub struct FieldWalker<'a> {
     pub file: &'a [u8],
     pub mark: Mark,

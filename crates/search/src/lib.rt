@@ -1,4 +1,5 @@
 // The search from one start: the start's verdict, and the commands that hold it, without deciding the whole plan.
+#![tactic(auto)]
 ghost use Rattle.std.specs.Prelude.{◌≡◌, Bool, ℕ};
 ghost use Rattle.model.specs.Refusal.{given};
 ghost use Rattle.model.specs.Calls.{search_call};
@@ -15,13 +16,13 @@ mod rounds;
 mod walk;
 
 // The verdict on the start, and how many rounds were walked, the last included.
-#[derive(Drop)]
+#[derive(Clone, Copy)]
 pub struct Found {
     pub lost: bool,
     pub rounds: usize,
 }
 
-#[derive(Drop)]
+#[derive(Clone, Copy)]
 pub enum SearchAnswer {
     Given(Found),
     Refused(Refusal),

@@ -31,7 +31,7 @@ use tables::{Row, Size};
 use walks::queue::spread;
 
 // How many states a walk has reached, and the lowest place of the queue from which a marked state was reached, NONE if none is marked.
-#[derive(Drop)]
+#[derive(Clone, Copy)]
 pub struct Progress {
     pub reached: usize,
     pub low: usize,

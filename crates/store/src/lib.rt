@@ -1,2 +1,3 @@
 // Entries of tables as bytes, two each, highest first.
+#![tactic(auto)]
 pub mod encoding;

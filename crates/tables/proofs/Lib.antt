@@ -1,6 +1,5 @@
 pub mod Reading
 pub mod RowPlaces
-pub mod Made
 pub mod SpanFacts
 pub mod ListTest
 pub mod Lasts

@@ -6,7 +6,7 @@ ghost use Rattle.tables.specs.Meaning.{numbers};
 use crate::{Refusal, Size};
 
 // Whether a call goes on, or what it is refused with.
-#[derive(Drop)]
+#[derive(Clone, Copy)]
 pub enum Admission {
     Granted,
     Denied(Refusal),

@@ -1,4 +1,6 @@
 // The plan in memory: the size record, the refusals, and the test for sound tables.
+#![tactic(auto)]
+
 ghost use Rattle.std.specs.Prelude.{◌≡◌, true, ◌↔◌};
 ghost use Rattle.tables.specs.Meaning.{sized, refusal_of, held};
 ghost use Rattle.model.specs.Refusal.{number};
@@ -17,7 +19,7 @@ pub mod spans;
 pub mod tags;
 
 // The numbers of a plan: n states, m commands, t outcome entries, and the start.
-#[derive(Drop)]
+#[derive(Clone, Copy)]
 pub struct Size {
     pub n: usize,
     pub m: usize,
@@ -44,7 +46,7 @@ impl Size {
 }
 
 // A state's row.
-#[derive(Drop)]
+#[derive(Clone, Copy)]
 pub struct Row {
     pub kind: u16,
     pub first: u16,
@@ -61,7 +63,7 @@ impl Row {
 }
 
 // The refusals, in the order of their numbers (rules E1 to E11, E22 and E23). No call gives the last five yet (rule E21).
-#[derive(Drop)]
+#[derive(Clone, Copy)]
 pub enum Refusal {
     Cut,
     Surplus,

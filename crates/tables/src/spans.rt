@@ -11,7 +11,7 @@ use crate::rows::row_at;
 use crate::{Row, Size};
 
 // A state's kind and practice, and where its commands begin and end.
-#[derive(Drop)]
+#[derive(Clone, Copy)]
 pub struct Span {
     pub kind: usize,
     pub first: usize,

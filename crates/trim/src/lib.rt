@@ -1,4 +1,5 @@
 // Trimming: a plan without the states that no run from its start comes to, and the old number of each state that is kept.
+#![tactic(auto)]
 ghost use Rattle.std.specs.Prelude.{◌≡◌};
 ghost use Rattle.model.specs.Refusal.{given};
 ghost use Rattle.model.specs.Tables.{Size as ModelSize};
@@ -17,7 +18,7 @@ mod numbering;
 mod stretches;
 
 // The trimmed size record, or why there is none.
-#[derive(Drop)]
+#[derive(Clone, Copy)]
 pub enum TrimAnswer {
     Given(Size),
     Refused(Refusal),

@@ -8,7 +8,7 @@ use tables::spans::span_at;
 use tables::{Row, Size};
 
 // The commands of a state, from `first` up to `end`, and the outcomes of them all, from `from` up to `to`.
-#[derive(Drop)]
+#[derive(Clone, Copy)]
 pub struct Stretch {
     pub first: usize,
     pub end: usize,

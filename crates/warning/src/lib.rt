@@ -1,4 +1,5 @@
 // The warning time: within what time the works can bring about failure from a lost state, whatever is commanded.
+#![tactic(auto)]
 ghost use Rattle.std.specs.Prelude.{◌≡◌};
 ghost use Rattle.std.proofs.Math.Option.{Option};
 ghost use Rattle.model.specs.Refusal.{given};
@@ -14,14 +15,14 @@ mod admission;
 mod times;
 
 // Whole minutes, and the seconds left over.
-#[derive(Drop)]
+#[derive(Clone, Copy)]
 pub struct Time {
     pub minutes: u16,
     pub seconds: u16,
 }
 
 // A time at a lost state, and no limit at a safe one.
-#[derive(Drop)]
+#[derive(Clone, Copy)]
 pub enum WarningAnswer {
     Given(Time),
     NoLimit,

@@ -1,4 +1,5 @@
 // Writing a plan file from plan tables.
+#![tactic(auto)]
 ghost use Rattle.std.specs.Prelude.{◌≡◌, true, ◌≤◌};
 ghost use Rattle.model.specs.File.{max_states, max_commands, max_outcomes};
 ghost use Rattle.model.specs.Bytes.{bytes_of};
@@ -20,7 +21,7 @@ mod fields;
 mod states;
 
 // The file's length, or why nothing was written.
-#[derive(Drop)]
+#[derive(Clone, Copy)]
 pub enum WriteAnswer {
     Given(usize),
     Refused(Refusal),
