@@ -1,4 +1,3 @@
-pub mod Made
 pub mod LaidPlans
 pub mod Memos
 pub mod Trying

@@ -1,4 +1,3 @@
-pub mod Made
 pub mod PracticeChosen
 pub mod StateVerdicts
 pub mod Tallies

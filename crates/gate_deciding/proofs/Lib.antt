@@ -1,4 +1,3 @@
-pub mod Made
 pub mod Delivering
 pub mod Decided
 pub mod LentDeciding

@@ -1,4 +1,3 @@
-pub mod Made
 pub mod Delivering
 pub mod Searched
 pub mod LentSearch

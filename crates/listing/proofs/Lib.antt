@@ -1,4 +1,3 @@
-pub mod Made
 pub mod StateLines
 pub mod Named
 pub mod Decided

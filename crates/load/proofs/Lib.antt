@@ -1,4 +1,3 @@
-pub mod Made
 pub mod Planning
 pub mod LoadRows
 pub mod Loaded

@@ -1,4 +1,3 @@
-pub mod Made
 pub mod PlanHits
 pub mod Initializing
 pub mod Keeping

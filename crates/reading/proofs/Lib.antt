@@ -1,4 +1,3 @@
-pub mod Made
 pub mod Passing
 pub mod FieldWays
 pub mod Scanning

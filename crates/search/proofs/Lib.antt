@@ -1,4 +1,3 @@
-pub mod Made
 pub mod SameSets
 pub mod ReadStates
 pub mod MarkTests

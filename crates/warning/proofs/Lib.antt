@@ -1,4 +1,3 @@
-pub mod Made
 pub mod Replying
 pub mod RankTimes
 pub mod Admitted

@@ -1,4 +1,3 @@
-pub mod Made
 pub mod Spreads
 pub mod OutcomeFacts
 pub mod CommandFacts

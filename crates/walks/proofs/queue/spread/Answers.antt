@@ -1,15 +1,14 @@
 -- The loop holds what is taken in so far and what is left of the part, and at its end nothing is left.
-use Prim.Native.Nat.{◌-◌}
 use Rattle.walks.proofs.Spreading.{spreading_start, spreading_done, spreading_next}
 use Rattle.walks.proofs.queue.spread.Goals as goal
 
 pub loop-i-init : goal.loop-i-init
 loop-i-init c =
-    let p = c.requires in spreading_start _ p.0 p.1.1.0
+    spreading_start _ c.requires.queued c.requires.from_le_end.0
 
 pub loop-i-preserved : goal.loop-i-preserved
 loop-i-preserved c =
-    spreading_next c.loop-i.invariant c.loop-i-test.true c.requires.n_le_max_states.1.1 _ c.at.ensures c.requires.n_le_max_states.0.3
+    spreading_next c.loop-i.invariant c.loop-i-test.true c.requires.from_le_end.1 _ c.at.ensures c.requires.n_le_max_states.3
     _ _ _ c.reach-e.ensures
 
 pub returns : goal.returns
