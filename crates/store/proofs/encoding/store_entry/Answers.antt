@@ -1,0 +1,8 @@
+-- The two bytes written are those of the number, by the definition of writing them one after another.
+use mathlib.Core.Path.{refl}
+use Rattle.laws.specs.Writes.{put_all}
+use Rattle.store.proofs.encoding.store_entry.Goals as goal
+
+pub returns : goal.returns
+unfolding put_all
+returns c = refl
