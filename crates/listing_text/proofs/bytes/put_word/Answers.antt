@@ -1,5 +1,4 @@
 -- A loop: after i turns the first i bytes of the word are stored, and the rest is left to store.
-use Prim.Native.Nat.{◌-◌}
 use native.Mathlib.Omega.{arith}
 use Rattle.laws.proofs.Spreads.{bytes_spread}
 use Rattle.laws.proofs.Turns.{turn_start, turn_room, turn_next, turn_done}
