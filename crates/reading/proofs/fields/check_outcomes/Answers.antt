@@ -7,7 +7,6 @@ use Rattle.model.specs.Refusal.{answer}
 use lib.ListN.{drop}
 use native.Mathlib.Omega.{arith}
 use mathlib.Core.Path.{ap, sym}
-use Prim.Native.Nat.{◌-◌}
 use Rattle.reading.proofs.fields.check_outcomes.Goals as goal
 
 pub returns-then-n-o : goal.returns-then-n-o

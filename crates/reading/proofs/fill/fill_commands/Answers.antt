@@ -5,7 +5,7 @@ use Rattle.reading.specs.declared.bytes.Mark.{Mark}
 use Rattle.reading.specs.Meaning.{bytes_from}
 use native.Mathlib.Omega.{arith}
 use mathlib.Core.Path.{ap}
-use Prim.Native.Nat.{ℕ, ◌+◌, ◌-◌, ◌/◌}
+use Prim.Native.Nat.{ℕ, ◌+◌, ◌/◌}
 use Rattle.reading.proofs.fill.fill_commands.Goals.{Else-end-m, Else-left-eq0}
 use Rattle.reading.proofs.fill.fill_commands.Goals as goal
 

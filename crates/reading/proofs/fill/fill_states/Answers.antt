@@ -1,6 +1,5 @@
 -- The invariant is that the states left to fill make the tables what all the states make them; a turn takes one state off what is left.
 use Rattle.reading.proofs.FillStates.{Turn, filling_turn, filling_more, filling_left, filling_over}
-use Prim.Native.Nat.{◌-◌}
 use native.Mathlib.Omega.{arith}
 use Rattle.reading.proofs.fill.fill_states.Goals.{In-loop-i}
 use Rattle.reading.proofs.fill.fill_states.Goals as goal

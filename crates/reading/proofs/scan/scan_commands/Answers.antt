@@ -4,7 +4,6 @@ use Rattle.reading.proofs.Passing.{went}
 use Rattle.reading.specs.Meaning.{Walks}
 use native.Mathlib.Omega.{arith}
 use mathlib.Core.Path.{sym, subst, ◌∙◌}
-use Prim.Native.Nat.{◌-◌}
 use Rattle.reading.proofs.scan.scan_commands.Goals as goal
 
 pub returns-in_default : goal.returns-in_default

@@ -1,5 +1,4 @@
 -- When the loop comes to place j, the bytes of the outcomes before it are written, and there is room for the rest.
-use Prim.Native.Nat.{◌-◌}
 use native.Mathlib.Omega.{arith}
 use Rattle.laws.specs.Entry.{twos}
 use Rattle.laws.proofs.Turns.{turn_start, turn_room, turn_next, turn_done}

@@ -1,6 +1,5 @@
 -- When the loop comes to command c, the fields of the commands before it are written, and there is room for the rest.
 use mathlib.Core.List.{[]}
-use Prim.Native.Nat.{◌-◌}
 use Rattle.laws.proofs.Turns.{turn_start, turn_room, turn_next, turn_done}
 use Rattle.writing.specs.SpanBytes.{commands_from}
 use Rattle.writing.proofs.CommandFacts.{command_ready, command_stored}

@@ -1,5 +1,4 @@
 -- When the loop comes to state s, the fields of the states before it and of their commands are written, and there is room for the rest.
-use Prim.Native.Nat.{◌-◌}
 use native.Mathlib.Nat.{sub-zero}
 use Rattle.laws.proofs.Turns.{turn_room, turn_next, turn_done}
 use Rattle.writing.proofs.StateFacts.{span_ready, state_ready, state_stored}
