@@ -4,7 +4,6 @@ use Prim.Native.Nat.{◌-◌, ◌<◌, ◌≤◌}
 use native.Mathlib.Omega.{arith}
 use lib.ListN.{length}
 use Rattle.laws.specs.Lists.{joined}
-use Rattle.model.specs.File.{Tree}
 use Rattle.model.specs.Tables.{all_commands}
 use Rattle.model.specs.Held.{tree_of}
 use Rattle.model.specs.Trim.{trim_tree}
@@ -22,11 +21,8 @@ use Rattle.trim.proofs.CopiedStates.{room_for, copying_rows, copying_firsts, cop
 use Rattle.trim.proofs.copying.copy_states.Goals.{After-at-s, After-stretch_at-stretch, Start}
 use Rattle.trim.proofs.copying.copy_states.Goals as goal
 
-abbrev treeIn : Start → Tree
-treeIn c = tree_of (held c.args.size c.args.rows.now c.args.firsts.now c.args.outcomes.now)
-
 new-state : (c : After-at-s)
-    → c.loop-i.i < length (trim_tree (treeIn c)).states
+    → c.loop-i.i < length (trim_tree (tree_of (held c.args.size c.args.rows.now c.args.firsts.now c.args.outcomes.now))).states
 new-state c = omega (arith, c.loop-i-test.true, kept_count c.requires.kept.0)
 
 in_plan : (c : After-at-s) → c.at-s.result < c.args.size.n
@@ -48,12 +44,12 @@ stretch-here c =
 
 abbrev RoomFor : Start → Type 0
 RoomFor c =
-    (length (trim_tree (treeIn c)).states ≤ length c.args.rows2.now)
-    × (length (all_commands (trim_tree (treeIn c)).states) ≤ length c.args.firsts2.now)
-    × (length (joined (all_commands (trim_tree (treeIn c)).states)) ≤ length c.args.outcomes2.now)
+    (length (trim_tree (tree_of (held c.args.size c.args.rows.now c.args.firsts.now c.args.outcomes.now))).states ≤ length c.args.rows2.now)
+    × (length (all_commands (trim_tree (tree_of (held c.args.size c.args.rows.now c.args.firsts.now c.args.outcomes.now))).states) ≤ length c.args.firsts2.now)
+    × (length (joined (all_commands (trim_tree (tree_of (held c.args.size c.args.rows.now c.args.firsts.now c.args.outcomes.now))).states)) ≤ length c.args.outcomes2.now)
 
 room : (c : Start) → RoomFor c
-room c = room_for (treeIn c) _ _ _ c.requires.outcomes2_value
+room c = room_for (tree_of (held c.args.size c.args.rows.now c.args.firsts.now c.args.outcomes.now)) _ _ _ c.requires.outcomes2_value
 
 pub row_at-row-requires : goal.row_at-row-requires
 row_at-row-requires c =
@@ -84,10 +80,10 @@ copy_firsts-m-requires c =
     let all = trim_good _ (sound_good _ c.requires.outcomes_value) in record { first_le_end = (
         here.rises,
         omega (arith, here.below, (sound_ready a.size a.rows.now a.firsts.now a.outcomes.now c.requires.outcomes_value).long_firsts),
-        omega (arith, here.count, trimmed_commands (treeIn c) c.loop-i.i, next.0, (room (goal.at.copy_firsts-m-requires c).Start).1, copying_firsts c.loop-i.invariant),
+        omega (arith, here.count, trimmed_commands (tree_of (held c.args.size c.args.rows.now c.args.firsts.now c.args.outcomes.now)) c.loop-i.i, next.0, (room (goal.at.copy_firsts-m-requires c).Start).1, copying_firsts c.loop-i.invariant),
       ); by_index = λ d low high.
           let (begins, ends) = here.each d low high in
-          (begins, omega (arith, ends, here.many, trimmed_outcomes (treeIn c) c.loop-i.i, next.1, all.few_outcomes)) }
+          (begins, omega (arith, ends, here.many, trimmed_outcomes (tree_of (held c.args.size c.args.rows.now c.args.firsts.now c.args.outcomes.now)) c.loop-i.i, next.1, all.few_outcomes)) }
 
 pub copy_outcomes-t-requires : goal.copy_outcomes-t-requires
 copy_outcomes-t-requires c =
@@ -99,7 +95,7 @@ copy_outcomes-t-requires c =
         omega (
           arith,
           here.many,
-          trimmed_outcomes (treeIn c) c.loop-i.i,
+          trimmed_outcomes (tree_of (held c.args.size c.args.rows.now c.args.firsts.now c.args.outcomes.now)) c.loop-i.i,
           (copying_room c.loop-i.invariant (new-state (goal.at.copy_outcomes-t-requires c).After-at-s)).1,
           (room (goal.at.copy_outcomes-t-requires c).Start).2,
           copying_outs c.loop-i.invariant,

@@ -2,7 +2,6 @@
 use mathlib.Core.Path.{◌≡◌}
 use Prim.Native.Nat.{◌+◌, ◌-◌}
 use native.Mathlib.Omega.{arith}
-use Rattle.model.specs.File.{Tree}
 use Rattle.model.specs.Held.{tree_of}
 use Rattle.model.proofs.Good.{Good}
 use Rattle.model.proofs.GoodTables.{sound_good}
@@ -13,9 +12,6 @@ use Rattle.trim.proofs.KeptStretches.{StretchOf, kept_in_plan, kept_stretch}
 use Rattle.trim.proofs.Counted.{Counting, counting_next, counting_commands, counting_outcomes, start_place, start_has_place, counted}
 use Rattle.trim.proofs.counting.count.Goals.{After-stretch_at-stretch, Start}
 use Rattle.trim.proofs.counting.count.Goals as goal
-
-abbrev treeIn : Start → Tree
-treeIn c = tree_of (held c.args.size c.args.rows.now c.args.firsts.now c.args.outcomes.now)
 
 abbrev StretchHere : After-stretch_at-stretch → Type 0
 StretchHere c =
@@ -31,14 +27,14 @@ stretch-here c =
 abbrev Next : After-stretch_at-stretch → Type 0
 Next c =
     let r = c.stretch_at-stretch.result in
-    Counting (treeIn c) (c.loop-i.i + 1) (c.loop-i.m + (r.end - r.first)) (c.loop-i.t + (r.to - r.from))
+    Counting (tree_of (held c.args.size c.args.rows.now c.args.firsts.now c.args.outcomes.now)) (c.loop-i.i + 1) (c.loop-i.m + (r.end - r.first)) (c.loop-i.t + (r.to - r.from))
 
 next : (c : After-stretch_at-stretch) → Next c
 next c =
     counting_next c.loop-i.invariant (omega (arith, c.loop-i-test.true, kept_count c.requires.kept.0))
     (stretch-here c)
 
-good : (c : Start) → Good (treeIn c)
+good : (c : Start) → Good (tree_of (held c.args.size c.args.rows.now c.args.firsts.now c.args.outcomes.now))
 good c = sound_good _ c.requires.outcomes_value
 
 pub stretch_at-stretch-requires : goal.stretch_at-stretch-requires
