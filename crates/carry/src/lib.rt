@@ -1,5 +1,6 @@
 // Carrying back: a table of a trimmed plan under the old numbers.
 #![tactic(auto)]
+
 ghost use Rattle.std.specs.Prelude.{◌≡◌};
 ghost use Rattle.model.specs.Refusal.{given};
 ghost use Rattle.model.specs.Carry.{carry_call};

@@ -1,32 +1,49 @@
 // Prints the listing of the plan file that is standard input.
 //
-// A program in Rattle has no exit status. Where the input cannot be read to its end, nothing is printed but a line on standard error: a
+// It ends with status 0 whatever comes of it. Where the input cannot be read to its end, nothing is printed but a line on standard error: a
 // part of a file is not judged. Where the listing cannot be written whole, a line on standard error says so. A reader that went
 // away ends the program by the signal SIGPIPE, unless that is ignored.
 #![tactic(auto)]
 
-// `io::read_full` stops at the end of the input, and also where a read fails. Only at the end does a further read answer 0.
-fn at_end() -> bool {
-    let mut more = [0u8; 1];
-    libc::read(0, &mut more) == 0
+ghost use Rattle.std.specs.Prelude.{◌≤◌, length, IfSome};
+
+use std::io::{Print, Read};
+use std::rt::Stdin;
+
+// How many bytes were read: all that the input has, or as many as there is room for. None where a read fails.
+fn read_input(mut stdin: Stdin, input: &mut [u8]) -> Option<usize>
+    ensures { IfSome result (λ n. n ≤ length input.new) }
+{
+    let mut done = 0;
+    while done < input.len() {
+        match stdin.read(&mut input[done..]) {
+            Ok(0) => break,
+            Ok(n) => done += n,
+            Err(_) => return None,
+        }
+    }
+    Some(done)
 }
 
-fn print(input: &[u8]) {
+// A line that cannot be written either is lost: there is nowhere left to say it.
+fn say(rt: &HostRuntime, line: &[u8]) {
+    let _ = rt.stderr().write_all(line);
+}
+
+fn print(rt: &HostRuntime, input: &[u8]) {
     let text = listing::text_of(input);
     let bytes = text.bytes;
     let length = text.length;
-    if !io::write_all(1, &bytes[..length]) {
-        io::write_all(2, b"list: standard output could not be written\n");
+    if rt.stdout().write_all(&bytes[..length]).is_err() {
+        say(rt, b"list: standard output could not be written\n");
     }
 }
 
-fn main() {
+fn main(rt: HostRuntime) {
     // One byte more than the limit, to see what is above it.
     let mut input = [0u8; listing::LIMIT + 1];
-    let n = io::read_full(0, &mut input);
-    if n < input.len() && !at_end() {
-        io::write_all(2, b"list: standard input could not be read\n");
-        return;
+    match read_input(rt.stdin(), &mut input) {
+        Some(n) => print(&rt, &input[..n]),
+        None => say(&rt, b"list: standard input could not be read\n"),
     }
-    print(&input[..n]);
 }

@@ -19,7 +19,7 @@ use Rattle.model.specs.Verdict.{rank}
 use Rattle.model.specs.Command.{chosen}
 use Rattle.model.specs.Practice.{mark, tally_row, tally as tallyCounts}
 use Rattle.model.specs.Search.{Result, search}
-use Rattle.model.specs.Refusal.{Refusal, Cramped, Answer, given, refused, number, ◌>>=◌, ◌>>◌}
+use Rattle.model.specs.Refusal.{Refusal, Cramped, Answer, given, refused, number, ◌>>=◌}
 use Rattle.model.specs.Tables.{Tables}
 use Rattle.model.specs.File.{entries}
 use Rattle.model.specs.SoundTest.{sound}

@@ -13,7 +13,7 @@ use Rattle.laws.specs.Entry.{twos}
 use Rattle.laws.proofs.Entry.{be16_two, length_twos}
 use Rattle.laws.proofs.Lists.{tabulate_ext, drop_tabulate}
 use Rattle.laws.proofs.Parts.{length_heads}
-use Rattle.model.specs.Refusal.{Cramped, Answer, given, need, ◌>>=◌, ◌>>◌}
+use Rattle.model.specs.Refusal.{Cramped, Answer, given, need, ◌>>◌}
 use Rattle.model.specs.File.{Tree, read}
 use Rattle.model.specs.Tables.{Size, Row, Tables, Same, all_commands, tables_of}
 use Rattle.model.specs.Calls.{left, reading, after_reading}

@@ -1,6 +1,5 @@
 -- Every command tried from the first place on has an outcome in the set when the loop comes to a place, so the first that has none is it.
 use mathlib.Core.Path.{◌∙◌}
-use Prim.Native.Nat.{◌-◌}
 use native.Mathlib.Omega.{arith}
 use Rattle.laws.proofs.Tries.{first_next, first_stop}
 use Rattle.tables.specs.Spans.{commands_of}
@@ -23,7 +22,9 @@ overflow_add-c c =
 pub command_hit-requires : goal.command_hit-requires
 command_hit-requires c =
     let a = c.args in
-    let L = commands_of a.size a.firsts.now a.outcomes.now in record { ready = c.requires.ready; c_lt_m = (
+    let L = commands_of a.size a.firsts.now a.outcomes.now in record {
+      ready = c.requires.ready;
+      c_lt_m = (
         omega (
           arith,
           c.requires.first_le_end,
@@ -31,7 +32,8 @@ command_hit-requires c =
               c.loop-place-test.true,
         ),
         c.requires.first_le_end.2,
-      ) }
+      );
+    }
 
 pub returns-then-command_hit-eq-NONE : goal.returns-then-command_hit-eq-NONE
 returns-then-command_hit-eq-NONE c =

@@ -1,5 +1,4 @@
 -- Every command from the first on has an outcome in the set when the loop comes to c, so the first that has none is the answer.
-use Prim.Native.Nat.{◌-◌}
 use native.Mathlib.Omega.{arith}
 use Rattle.laws.proofs.Tries.{first_next, first_stop}
 use Rattle.choice.proofs.Outcomes.{told_clear, told_hit}

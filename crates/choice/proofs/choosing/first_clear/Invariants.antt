@@ -6,7 +6,7 @@ use Rattle.choice.specs.Within.{within, command_hits}
 use Rattle.choice.proofs.choosing.first_clear.Given as goal
 
 abbrev pub invariant-loop-c : goal.invariant-loop-c
-invariant-loop-c l =    (l.c ≤ l.to) × FirstNot (command_hits (commands_of l.size l.firsts l.outcomes) (within l.table l.limit)) l.from l.c l.c
+invariant-loop-c l = (l.c ≤ l.to) × FirstNot (command_hits (commands_of l.size l.firsts l.outcomes) (within l.table l.limit)) l.from l.c l.c
 
 abbrev pub decreases-loop-c : goal.decreases-loop-c
 decreases-loop-c l = l.to - l.c

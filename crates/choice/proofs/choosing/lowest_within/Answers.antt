@@ -1,7 +1,6 @@
 -- No outcome before the one that is read is in the set, and those behind it are higher, so the first that is in the set is the lowest.
 use mathlib.Core.Path.{sym, ap, ◌∙◌}
 use mathlib.Core.Bool.{not}
-use Prim.Native.Nat.{◌-◌}
 use Rattle.laws.specs.Entry.{entry}
 use Rattle.laws.proofs.Tries.{first_stop, first_done}
 use Rattle.laws.proofs.Least.{least_first, least_missing}

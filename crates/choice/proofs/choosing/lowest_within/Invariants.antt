@@ -7,7 +7,7 @@ use Rattle.choice.specs.Within.{within}
 use Rattle.choice.proofs.choosing.lowest_within.Given as goal
 
 abbrev pub invariant-loop-i : goal.invariant-loop-i
-invariant-loop-i l =    (l.i ≤ l.end) × FirstNot (λ j. not (within l.table l.limit (get_or l.outcomes j 0))) l.from l.i l.i
+invariant-loop-i l = (l.i ≤ l.end) × FirstNot (λ j. not (within l.table l.limit (get_or l.outcomes j 0))) l.from l.i l.i
 
 abbrev pub decreases-loop-i : goal.decreases-loop-i
 decreases-loop-i l = l.end - l.i
