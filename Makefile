@@ -1,18 +1,16 @@
 # make run       print the listing of a plan: PLAN=examples/case-a.plan unless another is named
 # make test      prove every crate from nothing, try the edits that must be refused, run all tests;
 #                the last line is 'N passed, 0 failed'
-# make quick     what make test begins with: layout, files that scripts make, the reference held to rules, ranks, runs and maps,
-#                docs/TRACE.md
+# make quick     what make test begins with: files that scripts make, the reference held to rules, ranks, runs and maps, docs/TRACE.md
 # make wrong     try every edit that must be refused, those too for which make test has no time (crates/*/wrong)
 # make lib       the C library, target/staticlib/libgate.a (header: include/gate.h)
 # make c-test    the C library's tests and examples, and the header's in C and C++
 # make compare   hold the C library to a planner in Rust, byte for byte over COUNT inputs made from SEED
 # make bench     time the two beside each other, and contest, warning time, trimming and carrying back in the program bench_plans: the
 #                best of RUNS runs (4 are enough)
-# make rows      check that every machine-made proof file is what tools/rows makes (some minutes)
 # make trace     check that all that docs/TRACE.md names is there
 
-.PHONY: run plan test quick wrong kit list-test lib c-test header-test example-test compare bench rows trace
+.PHONY: run plan test quick wrong kit list-test lib c-test header-test example-test compare bench trace
 .SILENT:
 .NOTPARALLEL:
 .DELETE_ON_ERROR:
@@ -22,12 +20,12 @@ SHELL = /bin/bash
 PLAN ?= examples/case-a.plan
 export PLAN
 
-SOURCES = crates.txt $(shell find crates \( -name must-fail -o -name wrong \) -prune -o -type f -print)
+SOURCES = crates.txt $(shell find crates \( -name must-fail -o -name wrong -o -name out \) -prune -o -type f -print)
 
-# Runs rt and shows its lines on the crates as they come. All else that it says is in a log, which is shown if
+# Runs rt in a crate's folder and shows its lines on the crates as they come. All else that it says is in a log, which is shown if
 # it refuses one.
 prove = set -o pipefail; mkdir -p target; \
-    rt $(1) 2>&1 | tee target/$(2).log | sed -un '/^rt: /p' >&2 || { cat target/$(2).log >&2; exit 1; }
+    (cd crates/$(1) && rt $(2) </dev/null) 2>&1 | tee target/$(1).log | sed -un '/^rt: /p' >&2 || { cat target/$(1).log >&2; exit 1; }
 
 run: plan kit target/bin/list
 	target/bin/list <"$$PLAN"
@@ -39,9 +37,8 @@ plan:
 
 target/bin/list target/bin/bench_plans: target/bin/%: $(SOURCES)
 	echo "proving the program $* and the crates that it is built on, which can take some minutes" >&2
-	[ -x $@ ] || rm -f target/stamp/$* # else rt takes it as built
-	$(call prove,check $*,$*)
-	touch $@
+	$(call prove,$*,run)
+	mkdir -p $(@D) && cp crates/$*/out/$* $@
 
 # `rt ci`, and then the tests on what it leaves.
 test: kit need-gcc need-g++ need-cargo quick
@@ -49,10 +46,8 @@ test: kit need-gcc need-g++ need-cargo quick
 
 # What needs nothing proved comes first, so that it fails early.
 quick: kit trace
-	rt fmt --check
 	cd tests && python3 -B contest.py && python3 -B rules.py && python3 -B trims.py && python3 -B carries.py && python3 -B bench_plans.py --check && \
 	    python3 -B examples.py --check
-	python3 -B tools/rows --check tables load store
 
 wrong: kit
 	tests/wrong.sh
@@ -72,8 +67,7 @@ list-test: kit need-python3 target/bin/list
 	python3 -B tests/digit_table.py target/bin/list
 	tests/run.sh
 
-# The Rattle kit. Another one than README.md names is no error: its prover judges every file as well, and where
-# it refuses one that tools/rows made, this says why.
+# The Rattle kit. Another one than README.md names is no error: its prover judges every file as well.
 kit:
 	command -v rt >/dev/null || { echo "rt, the command of the Rattle kit, is not on the PATH" >&2; exit 1; }
 	is=$$(rt version); named=$$(sed -n 's/.*`\(rattle-kit-[^`]*\)`.*/\1/p' README.md); \
@@ -91,8 +85,8 @@ lib: kit $(LIB)
 
 $(LIB): $(SOURCES)
 	echo "proving the C library and the crates that it is built on, which can take some minutes" >&2
-	$(call prove,staticlib gate,lib)
-	touch $@
+	$(call prove,gate,lib)
+	mkdir -p $(@D) && cp crates/gate/out/libgate.a $@
 
 # With gcc's checks on the C side.
 C_WARN = -Wall -Wextra -Wpedantic -Wconversion -Werror -O1 -g -Iinclude
@@ -141,9 +135,6 @@ bench: kit need-gcc need-cargo $(LIB) target/bin/bench_plans
 	cd compare && rm -rf target/runs && mkdir -p target/runs && for run in $$(seq $(RUNS)); do \
 	    SHIFT=$$((16 * run)) cargo build --release --offline --locked --quiet && cp target/release/compare target/runs/$$run || exit 1; \
 	done && target/runs/1 bench ../target/bin/bench_plans target/runs/*
-
-rows: kit need-python3
-	python3 -B tools/rows --check
 
 trace: need-python3
 	python3 -B tools/trace

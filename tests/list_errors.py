@@ -88,7 +88,8 @@ def outputs(scratch):
     run("a full device", given=PLAN, said=UNWRITTEN, stdout=os.open("/dev/full", os.O_WRONLY))
     run("a file with room for a part", given=PLAN, said=UNWRITTEN, stdout=os.open(scratch, os.O_WRONLY), preexec_fn=at_most_ten_bytes)
     check("the part", pathlib.Path(scratch).read_bytes(), LISTING[:10])
-    run("a reader gone", given=PLAN, status=-signal.SIGPIPE, stdout=gone())
+    # A program in Rattle starts with the signal SIGPIPE ignored, whatever it was.
+    run("a reader gone", given=PLAN, said=UNWRITTEN, stdout=gone())
     run("a reader gone, the signal ignored", given=PLAN, said=UNWRITTEN, stdout=gone(), preexec_fn=ignoring_the_signal)
     run("input and output closed", said=UNREAD, stdin=None, stdout=None, preexec_fn=closed(0, 1))
     run("all closed", stdin=None, stdout=None, stderr=None, preexec_fn=closed(0, 1, 2))

@@ -8,7 +8,7 @@ fail() { echo "run.sh: $*" >&2; exit 1; }
 
 dir="target/my plans"
 rm -rf "$dir"
-mkdir -p "$dir/repo/bin" "$dir/repo/crates"
+mkdir -p "$dir/repo/bin" "$dir/repo/crates/list"
 for name in "a b.plan" "the keeper's \"own\".plan"; do
     cp examples/ring-leaks.plan "$dir/$name"
     make run PLAN="$dir/$name" | cmp - examples/ring-leaks.listing || fail "make run PLAN=$dir/$name"
@@ -31,8 +31,8 @@ cp -R Makefile README.md crates.txt examples "$dir/repo"
 cat >"$dir/repo/bin/rt" <<'END'
 #!/bin/sh
 [ "$1" != version ] || exit 0
-mkdir -p target/bin
-cp /bin/true target/bin/list
+mkdir -p out
+cp /bin/true out/list
 echo "rt: laws proved (1 s)"
 echo "a note of the prover"
 exit "$ENDS"

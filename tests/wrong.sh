@@ -1,13 +1,12 @@
 #!/usr/bin/env bash
 # Tries every edit that must be refused: those of crates/*/must-fail, which the gate tries too, and those of crates/*/wrong, for which it
-# has no time. They are put together in a copy of the repository; what is proved there is kept for the next time.
+# has no time. They are put together in a copy of the repository, outside the checkout, since `rt ci` refuses sources that no crate lists.
 set -euo pipefail
 cd "$(dirname "$0")/.."
 
-copy=target/wrong
-rm -rf "$copy/crates"
-mkdir -p "$copy"
-cp -R crates crates.txt "$copy"
+copy=$(mktemp -d)
+trap 'rm -rf "$copy"' EXIT
+git ls-files -z crates crates.txt | xargs -0 cp --parents -t "$copy"
 for edit in "$copy"/crates/*/wrong/*.edit; do
     together=${edit%/wrong/*}/must-fail
     mkdir -p "$together"

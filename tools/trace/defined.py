@@ -46,7 +46,7 @@ def uses(path, name):
 
 @functools.lru_cache(None)
 def crates():
-    return {line.split(":")[0] for line in (REPO / "crates.txt").read_text().splitlines()}
+    return {line.split(":")[0].split()[0] for line in (REPO / "crates.txt").read_text().splitlines()}
 
 
 @functools.lru_cache(None)

@@ -1,8 +1,8 @@
 // Prints the listing of the plan file that is standard input.
 //
 // It ends with status 0 whatever comes of it. Where the input cannot be read to its end, nothing is printed but a line on standard error: a
-// part of a file is not judged. Where the listing cannot be written whole, a line on standard error says so. A reader that went
-// away ends the program by the signal SIGPIPE, unless that is ignored.
+// part of a file is not judged. Where the listing cannot be written whole, a line on standard error says so; a reader that went away is
+// such a case too, since a program in Rattle starts with the signal SIGPIPE ignored.
 #![tactic(auto)]
 
 ghost use Rattle.std.specs.Prelude.{◌≤◌, length, IfSome};

@@ -9,7 +9,7 @@ use lib.ListN.{length}
 use Rattle.laws.specs.Lists.{overwrite}
 use Rattle.laws.proofs.TestFacts.{and_iff, leb_iff}
 use Rattle.model.specs.File.{max_states, max_commands, max_outcomes}
-use Rattle.model.specs.Refusal.{Refusal as ModelRefusal, Unsound, given, refused, answer, ◌>>=◌, ◌>>◌}
+use Rattle.model.specs.Refusal.{Refusal as ModelRefusal, Unsound, given, refused, answer}
 use Rattle.model.specs.Tables.{Size as ModelSize, Tables}
 use Rattle.model.specs.SoundTest.{tables_long}
 use Rattle.model.specs.Calls.{left}

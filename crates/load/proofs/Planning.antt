@@ -59,7 +59,7 @@ module _ (S R F O : List ℕ) where
     unfolding need ◌>>◌
     loading_long f =
         let f' : enough (size_in S) (length R / row_bytes) (length F / entry_bytes) (length O / entry_bytes) ≡ false =
-            subst (λ (q : ModelSize). enough q (length R / row_bytes) (length F / entry_bytes) (length O / entry_bytes) ≡ false) e f in
+        subst (λ (q : ModelSize). enough q (length R / row_bytes) (length F / entry_bytes) (length O / entry_bytes) ≡ false) e f in
         loading_is h ∙ rw (and_false_right (few (size_in S))
         (enough (size_in S) (length R / row_bytes) (length F / entry_bytes) (length O / entry_bytes)) f')
 
@@ -69,7 +69,7 @@ module _ (S R F O : List ℕ) where
     loading_whole f g =
         let f' : few (size_in S) ≡ true = rw e at f in
         let g' : enough (size_in S) (length R / row_bytes) (length F / entry_bytes) (length O / entry_bytes) ≡ true =
-            subst (λ (q : ModelSize). enough q (length R / row_bytes) (length F / entry_bytes) (length O / entry_bytes) ≡ true) e g in
+        subst (λ (q : ModelSize). enough q (length R / row_bytes) (length F / entry_bytes) (length O / entry_bytes) ≡ true) e g in
         loading_is h ∙ rw (f', g')
 
     pub size_answered : loading S R F O ≡ given lent → given (numbers z) ≡ answer size_of (loading S R F O)

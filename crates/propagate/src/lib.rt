@@ -1,3 +1,4 @@
 // Propagation of losing states from a set of states, layer by layer, in time linear in the plan.
 #![tactic(auto)]
+
 pub mod layers;

@@ -1,3 +1,4 @@
 // Entries of tables as bytes, two each, highest first.
 #![tactic(auto)]
+
 pub mod encoding;

@@ -1,5 +1,3 @@
-pub mod Reading
-pub mod RowPlaces
 pub mod SpanFacts
 pub mod ListTest
 pub mod Lasts

@@ -43,8 +43,8 @@ returns-then-not-rows_sound c =
 pub lists_sound-requires : goal.lists_sound-requires
 lists_sound-requires c =
     let R = c.args.rows.now in
-    let tables-long = all_long _ R _ _ (passed (c.long.ensures R refl) (not_from_true _ c.if-not-long.false)) in
-    (tables-long.1, tables-long.2)
+    let tables_long = all_long _ R _ _ (passed (c.long.ensures R refl) (not_from_true _ c.if-not-long.false)) in
+    (tables_long.1, tables_long.2)
 
 pub returns : goal.returns
 returns c =

@@ -1,6 +1,6 @@
 -- The invariant is that the entries left to load make the table what all of them make it.
 use mathlib.Core.List.{List}
-use Prim.Native.Nat.{ℕ, ◌-◌, ◌*◌}
+use Prim.Native.Nat.{ℕ, ◌*◌}
 use Rattle.model.proofs.Lent.{take_entries}
 use Rattle.laws.proofs.Writes.{ruled_next, ruled_last, ruled_first}
 use Rattle.laws.specs.Lists.{overwrite}

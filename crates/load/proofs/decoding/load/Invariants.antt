@@ -7,7 +7,7 @@ use mathlib.Core.Path.{◌≡◌}
 use Rattle.load.proofs.decoding.load.Given as goal
 
 abbrev pub invariant-loop-i : goal.invariant-loop-i
-invariant-loop-i l =    (l.i ≤ l.n) × (length l.table ≡ length l.initial.table) × (ruled (λ j. be16 l.bytes (j * 2)) l.n l.i l.table ≡ ruled (λ j. be16 l.bytes (j * 2)) l.n 0 l.initial.table)
+invariant-loop-i l = (l.i ≤ l.n) × (length l.table ≡ length l.initial.table) × (ruled (λ j. be16 l.bytes (j * 2)) l.n l.i l.table ≡ ruled (λ j. be16 l.bytes (j * 2)) l.n 0 l.initial.table)
 
 abbrev pub decreases-loop-i : goal.decreases-loop-i
 decreases-loop-i l = l.n - l.i

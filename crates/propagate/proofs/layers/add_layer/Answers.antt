@@ -2,7 +2,6 @@
 use Rattle.propagate.proofs.LayerSteps.{layer_at, layer_next, layer_done}
 use native.Mathlib.Omega.{arith}
 use mathlib.Core.Path.{◌∙◌}
-use Prim.Native.Nat.{◌-◌}
 use Rattle.propagate.proofs.layers.add_layer.Goals as goal
 
 pub at-o-requires : goal.at-o-requires
@@ -10,14 +9,13 @@ at-o-requires c =
     layer_at _ _ _ _ _ _ _ _ c.loop-h.invariant.3 _ (omega (arith, c.loop-h.invariant.2, c.requires.lo_le_hi)) c.loop-h-test.true
 
 pub loop-h-preserved : goal.loop-h-preserved
-loop-h-preserved c =
-    (
-      c.spread-e.auto.ranks ∙ c.loop-h.invariant.0,
-      c.spread-e.auto.watch ∙ c.loop-h.invariant.1,
-      c.spread-e.auto.queue ∙ c.loop-h.invariant.2,
-      layer_next _ _ _ _ _ _ _ _ c.loop-h.invariant.3 _ _ c.requires.indexed c.loop-h-test.true _ c.at-o.ensures _
-          c.spread-e.ensures,
-    )
+loop-h-preserved c = (
+  c.spread-e.auto.ranks ∙ c.loop-h.invariant.0,
+  c.spread-e.auto.watch ∙ c.loop-h.invariant.1,
+  c.spread-e.auto.queue ∙ c.loop-h.invariant.2,
+  layer_next _ _ _ _ _ _ _ _ c.loop-h.invariant.3 _ _ c.requires.indexed c.loop-h-test.true _ c.at-o.ensures _
+      c.spread-e.ensures,
+)
 
 pub returns : goal.returns
 returns c =

@@ -8,7 +8,7 @@ use Rattle.tables.specs.Spans.{commands_of}
 use Rattle.propagate.proofs.layers.add_layer.Given as goal
 
 abbrev pub invariant-loop-h : goal.invariant-loop-h
-invariant-loop-h l =    (length l.ranks ≡ length l.initial.ranks) × (length l.watch ≡ length l.initial.watch) × (length l.queue ≡ length l.initial.queue)
+invariant-loop-h l = (length l.ranks ≡ length l.initial.ranks) × (length l.watch ≡ length l.initial.watch) × (length l.queue ≡ length l.initial.queue)
     × LayerStep l.size.n (commands_of l.size l.firsts l.outcomes) l.tos l.owner l.k l.lo (progress l.initial.ranks l.initial.watch l.initial.queue l.hi) l.h
     (progress l.ranks l.watch l.queue l.e)
 

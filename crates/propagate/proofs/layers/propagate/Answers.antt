@@ -3,7 +3,6 @@ use Rattle.propagate.proofs.Ends.{going_start, going_few, going_done}
 use Rattle.propagate.proofs.Starts.{start_bound, start_at_layer}
 use native.Mathlib.Omega.{arith}
 use mathlib.Core.Path.{refl}
-use Prim.Native.Nat.{◌-◌}
 use Rattle.propagate.proofs.layers.propagate.Goals as goal
 
 pub loop-lo-init : goal.loop-lo-init
@@ -13,19 +12,25 @@ loop-lo-init c =
 
 pub add_layer-e-requires : goal.add_layer-e-requires
 add_layer-e-requires c =
-    let n = going_few _ _ _ _ _ _ _ _ _ _ _ c.loop-lo.invariant in record { ready = c.requires.ready; ranges = c.requires.ranges; indexed = c.requires.indexed; lo_le_hi = omega (
-              arith,
-              c.loop-lo.invariant.order,
-              c.loop-lo.invariant.layers,
-              c.loop-lo.invariant.long,
-              c.loop-lo.invariant.wlong,
-              c.loop-lo.invariant.qlong,
-              c.enqueue_seeds-hi.auto.queue,
-              n,
-              c.loop-lo-test.true,
-              c.requires.ready.few,
-              c.requires.n_in_bounds,
-            ); queue_bound = c.loop-lo.invariant.bound }
+    let n = going_few _ _ _ _ _ _ _ _ _ _ _ c.loop-lo.invariant in record {
+      ready = c.requires.ready;
+      ranges = c.requires.ranges;
+      indexed = c.requires.indexed;
+      lo_le_hi = omega (
+        arith,
+        c.loop-lo.invariant.order,
+        c.loop-lo.invariant.layers,
+        c.loop-lo.invariant.long,
+        c.loop-lo.invariant.wlong,
+        c.loop-lo.invariant.qlong,
+        c.enqueue_seeds-hi.auto.queue,
+        n,
+        c.loop-lo-test.true,
+        c.requires.ready.few,
+        c.requires.n_in_bounds,
+      );
+      queue_bound = c.loop-lo.invariant.bound;
+    }
 
 pub loop-lo-smaller : goal.loop-lo-smaller
 loop-lo-smaller c =

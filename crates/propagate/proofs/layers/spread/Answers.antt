@@ -2,7 +2,6 @@
 use Rattle.propagate.proofs.Spreads.{spread_start, spread_next, spread_done, group_order}
 use native.Mathlib.Omega.{arith}
 use mathlib.Core.Path.{refl, ◌∙◌}
-use Prim.Native.Nat.{◌-◌}
 use Rattle.propagate.proofs.layers.spread.Goals as goal
 
 pub loop-p-init : goal.loop-p-init
@@ -11,15 +10,14 @@ loop-p-init c =
     (omega arith, l, refl, refl, refl, spread_start _ _ _ _ _ _ _ c.requires.ranges c.requires.queue_bound)
 
 pub loop-p-preserved : goal.loop-p-preserved
-loop-p-preserved c =
-    (
-      omega (arith, c.loop-p.invariant.0),
-      omega (arith, c.loop-p-test.true),
-      c.visit-e.auto.ranks ∙ c.loop-p.invariant.2,
-      c.visit-e.auto.watch ∙ c.loop-p.invariant.3,
-      c.visit-e.auto.queue ∙ c.loop-p.invariant.4,
-      spread_next _ _ _ _ _ _ _ _ _ _ _ c.at-c.ensures c.loop-p.invariant.5 c.visit-e.ensures,
-    )
+loop-p-preserved c = (
+  omega (arith, c.loop-p.invariant.0),
+  omega (arith, c.loop-p-test.true),
+  c.visit-e.auto.ranks ∙ c.loop-p.invariant.2,
+  c.visit-e.auto.watch ∙ c.loop-p.invariant.3,
+  c.visit-e.auto.queue ∙ c.loop-p.invariant.4,
+  spread_next _ _ _ _ _ _ _ _ _ _ _ c.at-c.ensures c.loop-p.invariant.5 c.visit-e.ensures,
+)
 
 pub returns : goal.returns
 returns c =

@@ -10,8 +10,8 @@ range_end : (c : After-at-e) → c.at-e.result ≤ c.args.size.m
 range_end c =
     range_in _ c.requires.ranges c.at-s.result _ (omega (arith, c.at-s.ensures, c.requires.c_in_bounds.1.0)) c.at-e.ensures
 
-place-left : (c : Else-at-ne-NONE) → let a = c.args in a.end < a.size.n
-place-left c =
+place_left : (c : Else-at-ne-NONE) → let a = c.args in a.end < a.size.n
+place_left c =
     queue_room _ _ _ _ _ c.requires.queue_bound c.at-s.result _ (omega (arith, c.at-s.ensures, c.requires.c_in_bounds.1.0))
     c.at.ensures c.if-at-ne-NONE.false
 
@@ -41,11 +41,11 @@ returns-then-x-e c =
 
 pub put-requires-3 : goal.put-requires-3
 put-requires-3 c =
-    omega (arith, place-left (goal.at.put-requires-3 c).Else-at-ne-NONE, c.requires.c_in_bounds.1, c.at-s.ensures, c.requires.ready.few)
+    omega (arith, place_left (goal.at.put-requires-3 c).Else-at-ne-NONE, c.requires.c_in_bounds.1, c.at-s.ensures, c.requires.ready.few)
 
 pub overflow_add-result : goal.overflow_add-result
 overflow_add-result c =
-    omega (arith, place-left (goal.at.overflow_add-result c).Else-at-ne-NONE, c.requires.ready.few)
+    omega (arith, place_left (goal.at.overflow_add-result c).Else-at-ne-NONE, c.requires.ready.few)
 
 pub returns : goal.returns
 returns c =

@@ -28,13 +28,13 @@ long c =
     let a = c.args in
     state_long a.k.m (bytes_from a.file.now a.k) (after_field a.file.now a.k) (framed c).0
 
-kind-right : (c : Else-kind-gt2) → let a = c.args in get_or (bytes_from a.file.now a.k) 3 0 ≤ 2
-kind-right c = omega (arith, c.small-kind.ensures, c.if-kind-gt2.false)
+kind_right : (c : Else-kind-gt2) → let a = c.args in get_or (bytes_from a.file.now a.k) 3 0 ≤ 2
+kind_right c = omega (arith, c.small-kind.ensures, c.if-kind-gt2.false)
 
-idle-not : (c : Else-not-not_idle) →
+idle_not : (c : Else-not-not_idle) →
     let a = c.args in
     not_idle (state_values (bytes_from a.file.now a.k)) ≡ true
-idle-not c =
+idle_not c =
     sym (rw (c.small-kind.ensures, c.number-count.ensures, c.number.ensures) at
     c.not_idle.ensures) ∙ not-false _ (not_from_true _ c.if-not-not_idle.false)
 
@@ -61,7 +61,7 @@ pub returns-then-not-not_idle : goal.returns-then-not-not_idle
 returns-then-not-not_idle c =
     let a = c.args in
     refuses Idle (state_idle a.k.m (bytes_from a.file.now a.k) (after_field a.file.now a.k) (framed (goal.at.returns-then-not-not_idle c).In-To).0 _
-    (kind-right (goal.at.returns-then-not-not_idle c).Else-kind-gt2)
+    (kind_right (goal.at.returns-then-not-not_idle c).Else-kind-gt2)
     (sym (rw (c.small-kind.ensures, c.number-count.ensures, c.number.ensures) at
     c.not_idle.ensures) ∙ not-true _ (not_from_false _ c.if-not-not_idle.true)))
 
@@ -69,13 +69,13 @@ pub returns-then-k-count : goal.returns-then-k-count
 returns-then-k-count c =
     let a = c.args in
     refuses Limit (state_limit a.k.m (bytes_from a.file.now a.k) (after_field a.file.now a.k) (framed (goal.at.returns-then-k-count c).In-To).0 _
-    (kind-right (goal.at.returns-then-k-count c).Else-kind-gt2) (idle-not (goal.at.returns-then-k-count c).Else-not-not_idle) (omega (arith, c.number-count.ensures, c.requires)))
+    (kind_right (goal.at.returns-then-k-count c).Else-kind-gt2) (idle_not (goal.at.returns-then-k-count c).Else-not-not_idle) (omega (arith, c.number-count.ensures, c.requires)))
 
 pub returns : goal.returns
 returns c =
     let a = c.args in
     record {
       answers = state_passes a.k.m (bytes_from a.file.now a.k) (after_field a.file.now a.k) (framed (goal.at.returns c).In-To).0
-          (kind-right (goal.at.returns c).Else-kind-gt2) (idle-not (goal.at.returns c).Else-not-not_idle) (omega (arith, c.number-count.ensures, c.requires));
+          (kind_right (goal.at.returns c).Else-kind-gt2) (idle_not (goal.at.returns c).Else-not-not_idle) (omega (arith, c.number-count.ensures, c.requires));
       stays = (framed (goal.at.returns c).In-To).1;
     }

@@ -43,8 +43,8 @@ returns-then-left-len c =
 pub returns : goal.returns
 returns c =
     let a = c.args in
-    let given-len = field_given a.due (bytes_from a.file.now a.k) (omega (arith, c.remaining-left.ensures))
+    let given_len = field_given a.due (bytes_from a.file.now a.k) (omega (arith, c.remaining-left.ensures))
     (sym c.byte.ensures ∙ c.if-byte-due.false)
     (sym (c.allowed.ensures ∙ ap (allowed a.due) c.number-len.ensures)
     ∙ not-false _ (not_from_true _ c.if-not-allowed.false)) (omega (arith, c.remaining-left.ensures, c.number-len.ensures)) in
-    field_walks a.file.now a.k a.due (rw (← c.number-len.ensures) at given-len) c.requires c.moved.ensures
+    field_walks a.file.now a.k a.due (rw (← c.number-len.ensures) at given_len) c.requires c.moved.ensures

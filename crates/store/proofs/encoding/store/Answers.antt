@@ -9,12 +9,11 @@ loop-i-init c = (omega arith, stored_none twos_blocks _ _)
 
 pub loop-i-preserved : goal.loop-i-preserved
 unfolding twos
-loop-i-preserved c =
-    (
-      omega (arith, c.loop-i-test.true),
-      stored_next twos_blocks 0 c.loop-i.invariant.1
-          (omega (arith, c.requires, c.loop-i-test.true)) _ c.store_entry.ensures,
-    )
+loop-i-preserved c = (
+  omega (arith, c.loop-i-test.true),
+  stored_next twos_blocks 0 c.loop-i.invariant.1
+      (omega (arith, c.requires, c.loop-i-test.true)) _ c.store_entry.ensures,
+)
 
 pub returns : goal.returns
 returns c =

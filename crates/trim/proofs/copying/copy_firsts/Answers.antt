@@ -10,8 +10,8 @@ loop-c-init c = copies_start c.requires.first_le_end.2
 
 pub put-requires : goal.put-requires
 put-requires c =
-    let in-range = c.loop-c-test.true in
-    (copies_room c.loop-c.invariant in-range, omega (arith, c.at.ensures, (c.requires.by_index _ c.loop-c.invariant.low in-range).1))
+    let in_range = c.loop-c-test.true in
+    (copies_room c.loop-c.invariant in_range, omega (arith, c.at.ensures, (c.requires.by_index _ c.loop-c.invariant.low in_range).1))
 
 pub loop-c-preserved : goal.loop-c-preserved
 loop-c-preserved c =

@@ -21,9 +21,9 @@ use Rattle.trim.proofs.CopiedStates.{room_for, copying_rows, copying_firsts, cop
 use Rattle.trim.proofs.copying.copy_states.Goals.{After-at-s, After-stretch_at-stretch, Start}
 use Rattle.trim.proofs.copying.copy_states.Goals as goal
 
-new-state : (c : After-at-s)
+new_state : (c : After-at-s)
     → c.loop-i.i < length (trim_tree (tree_of (held c.args.size c.args.rows.now c.args.firsts.now c.args.outcomes.now))).states
-new-state c = omega (arith, c.loop-i-test.true, kept_count c.requires.kept.0)
+new_state c = omega (arith, c.loop-i-test.true, kept_count c.requires.kept.0)
 
 in_plan : (c : After-at-s) → c.at-s.result < c.args.size.n
 in_plan c =
@@ -36,8 +36,8 @@ StretchHere c =
     let a = c.args in
     StretchOf a.size a.rows.now a.firsts.now a.outcomes.now c.loop-i.i c.stretch_at-stretch.result
 
-stretch-here : (c : After-stretch_at-stretch) → StretchHere c
-stretch-here c =
+stretch_here : (c : After-stretch_at-stretch) → StretchHere c
+stretch_here c =
     let a = c.args in
     kept_stretch a.size a.rows.now a.firsts.now a.outcomes.now c.requires.kept.0 _
     c.loop-i-test.true c.at-s.ensures c.requires.outcomes_value (c.stretch_at-stretch.ensures a.outcomes.now)
@@ -62,7 +62,7 @@ row_after-requires c =
 
 pub put_row-requires : goal.put_row-requires
 put_row-requires c =
-    omega (arith, new-state (goal.at.put_row-requires c).After-at-s, (room (goal.at.put_row-requires c).Start).0, copying_rows c.loop-i.invariant)
+    omega (arith, new_state (goal.at.put_row-requires c).After-at-s, (room (goal.at.put_row-requires c).Start).0, copying_rows c.loop-i.invariant)
 
 pub stretch_at-stretch-requires : goal.stretch_at-stretch-requires
 stretch_at-stretch-requires c =
@@ -75,8 +75,8 @@ stretch_at-stretch-requires c =
 pub copy_firsts-m-requires : goal.copy_firsts-m-requires
 copy_firsts-m-requires c =
     let a = c.args in
-    let here = stretch-here (goal.at.copy_firsts-m-requires c).After-stretch_at-stretch in
-    let next = copying_room c.loop-i.invariant (new-state (goal.at.copy_firsts-m-requires c).After-at-s) in
+    let here = stretch_here (goal.at.copy_firsts-m-requires c).After-stretch_at-stretch in
+    let next = copying_room c.loop-i.invariant (new_state (goal.at.copy_firsts-m-requires c).After-at-s) in
     let all = trim_good _ (sound_good _ c.requires.outcomes_value) in record { first_le_end = (
         here.rises,
         omega (arith, here.below, (sound_ready a.size a.rows.now a.firsts.now a.outcomes.now c.requires.outcomes_value).long_firsts),
@@ -88,7 +88,7 @@ copy_firsts-m-requires c =
 pub copy_outcomes-t-requires : goal.copy_outcomes-t-requires
 copy_outcomes-t-requires c =
     let a = c.args in
-    let here = stretch-here (goal.at.copy_outcomes-t-requires c).After-stretch_at-stretch in
+    let here = stretch_here (goal.at.copy_outcomes-t-requires c).After-stretch_at-stretch in
     let ready = sound_ready a.size a.rows.now a.firsts.now a.outcomes.now c.requires.outcomes_value in record { from_le_end = (
         here.order,
         omega (arith, here.within, ready.states.long),
@@ -96,7 +96,7 @@ copy_outcomes-t-requires c =
           arith,
           here.many,
           trimmed_outcomes (tree_of (held c.args.size c.args.rows.now c.args.firsts.now c.args.outcomes.now)) c.loop-i.i,
-          (copying_room c.loop-i.invariant (new-state (goal.at.copy_outcomes-t-requires c).After-at-s)).1,
+          (copying_room c.loop-i.invariant (new_state (goal.at.copy_outcomes-t-requires c).After-at-s)).1,
           (room (goal.at.copy_outcomes-t-requires c).Start).2,
           copying_outs c.loop-i.invariant,
         ),
@@ -106,11 +106,11 @@ pub loop-i-preserved : goal.loop-i-preserved
 loop-i-preserved c =
     let a = c.args in
     let l = c.loop-i-test.true in
-    let here = stretch-here (goal.at.loop-i-preserved c).After-stretch_at-stretch in
+    let here = stretch_here (goal.at.loop-i-preserved c).After-stretch_at-stretch in
     let ready = sound_ready a.size a.rows.now a.firsts.now a.outcomes.now c.requires.outcomes_value in
     let row = c.row_after.ensures
     ∙ ap (λ (w : Row). row_after w c.loop-i.m) c.row_at-row.ensures in
-    copying_next c.loop-i.invariant (new-state (goal.at.loop-i-preserved c).After-at-s)
+    copying_next c.loop-i.invariant (new_state (goal.at.loop-i-preserved c).After-at-s)
     (ap row_of row
     ∙ row_copied a.size a.rows.now a.firsts.now a.outcomes.now _ _ c.loop-i.m
     (kept_old_is a.size a.rows.now a.firsts.now a.outcomes.now c.requires.kept.0 _ l c.at-s.ensures) (in_plan (goal.at.loop-i-preserved c).After-at-s))
@@ -118,7 +118,7 @@ loop-i-preserved c =
     (rw (firsts_copied a.size a.rows.now a.firsts.now a.outcomes.now _ c.loop-i.t here)
     at c.copy_firsts-m.ensures)
     (rw (outcomes_copied a.size a.rows.now a.firsts.now a.outcomes.now c.requires.outcomes_value a.numbers.now c.requires.kept.0
-    c.requires.n_in_bounds.1 _ (new-state (goal.at.loop-i-preserved c).After-at-s) here ready.states.long)
+    c.requires.n_in_bounds.1 _ (new_state (goal.at.loop-i-preserved c).After-at-s) here ready.states.long)
     at c.copy_outcomes-t.ensures)
 
 pub returns : goal.returns

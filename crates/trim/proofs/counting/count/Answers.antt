@@ -18,8 +18,8 @@ StretchHere c =
     let a = c.args in
     StretchOf a.size a.rows.now a.firsts.now a.outcomes.now c.loop-i.i c.stretch_at-stretch.result
 
-stretch-here : (c : After-stretch_at-stretch) → StretchHere c
-stretch-here c =
+stretch_here : (c : After-stretch_at-stretch) → StretchHere c
+stretch_here c =
     let a = c.args in
     kept_stretch a.size a.rows.now a.firsts.now a.outcomes.now c.requires.kept.0 _
     c.loop-i-test.true c.at.ensures c.requires.outcomes_value (c.stretch_at-stretch.ensures a.outcomes.now)
@@ -32,7 +32,7 @@ Next c =
 next : (c : After-stretch_at-stretch) → Next c
 next c =
     counting_next c.loop-i.invariant (omega (arith, c.loop-i-test.true, kept_count c.requires.kept.0))
-    (stretch-here c)
+    (stretch_here c)
 
 good : (c : Start) → Good (tree_of (held c.args.size c.args.rows.now c.args.firsts.now c.args.outcomes.now))
 good c = sound_good _ c.requires.outcomes_value
@@ -47,13 +47,13 @@ stretch_at-stretch-requires c =
     )
 
 pub overflow_sub-m : goal.overflow_sub-m
-overflow_sub-m c = (stretch-here (goal.at.overflow_sub-m c).After-stretch_at-stretch).rises
+overflow_sub-m c = (stretch_here (goal.at.overflow_sub-m c).After-stretch_at-stretch).rises
 
 pub overflow_add-m : goal.overflow_add-m
 overflow_add-m c = omega (arith, counting_commands (next (goal.at.overflow_add-m c).After-stretch_at-stretch) (good (goal.at.overflow_add-m c).Start))
 
 pub overflow_sub-t : goal.overflow_sub-t
-overflow_sub-t c = (stretch-here (goal.at.overflow_sub-t c).After-stretch_at-stretch).order
+overflow_sub-t c = (stretch_here (goal.at.overflow_sub-t c).After-stretch_at-stretch).order
 
 pub overflow_add-t : goal.overflow_add-t
 overflow_add-t c = omega (arith, counting_outcomes (next (goal.at.overflow_add-t c).After-stretch_at-stretch) (good (goal.at.overflow_add-t c).Start))

@@ -25,8 +25,8 @@ StretchHere c =
     (state_of (tree_of (held a.size a.rows.now a.firsts.now a.outcomes.now)) c.at.result).commands
     c.stretch_at-stretch.result
 
-stretch-here : (c : After-stretch_at-stretch) → StretchHere c
-stretch-here c =
+stretch_here : (c : After-stretch_at-stretch) → StretchHere c
+stretch_here c =
     let a = c.args in
     state_stretch a.size a.rows.now a.firsts.now a.outcomes.now c.requires.outcomes_value _ (in_plan c)
     (c.stretch_at-stretch.ensures a.outcomes.now)
@@ -61,7 +61,7 @@ pub spread-q-requires : goal.spread-q-requires
 spread-q-requires c =
     let a = c.args in
     let ready = sound_ready a.size a.rows.now a.firsts.now a.outcomes.now c.requires.outcomes_value in
-    let here = stretch-here (goal.at.spread-q-requires c).After-stretch_at-stretch in record { queued = c.loop-h.invariant.queued; n_le_max_states = (
+    let here = stretch_here (goal.at.spread-q-requires c).After-stretch_at-stretch in record { queued = c.loop-h.invariant.queued; n_le_max_states = (
           ready.few,
           omega (arith, c.requires.n_in_bounds, c.loop-h.invariant.same_flags, c.reach-q.ensures.same_flags),
           omega (arith, c.requires.n_in_bounds, c.loop-h.invariant.same_queue, c.reach-q.ensures.same_queue),
@@ -79,7 +79,7 @@ loop-h-preserved c =
     whole_next c.loop-h.invariant c.loop-h-test.true c.at.ensures
     (λ x m. rw (tree_count T)
     at (outcome_inside (tree_of T) (sound_good T c.requires.outcomes_value) _ x (rw (tree_count T) (in_plan (goal.at.loop-h-preserved c).After-stretch_at-stretch)) m))
-    (stretch-here (goal.at.loop-h-preserved c).After-stretch_at-stretch).outs c.spread-q.ensures
+    (stretch_here (goal.at.loop-h-preserved c).After-stretch_at-stretch).outs c.spread-q.ensures
 
 pub returns : goal.returns
 returns c = walked_entered _ c.requires.outcomes_value c.loop-h.invariant c.loop-h-test.false
