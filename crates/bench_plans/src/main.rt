@@ -13,6 +13,7 @@
 // asked of a plan that is not sound: it has a state for each row that is lent, and its start is none of them. Past the end of the input
 // every byte is 0.
 #![tactic(auto)]
+
 ghost use Rattle.std.specs.Prelude.{◌≤◌};
 ghost use Rattle.model.specs.File.{max_states, max_commands, max_outcomes};
 

@@ -1,5 +1,6 @@
 // The contest over a few moves: whether the keeper can hold a state against whatever the works do.
 #![tactic(auto)]
+
 ghost use Rattle.std.specs.Prelude.{◌≡◌, Bool};
 ghost use Rattle.model.specs.Refusal.{given};
 ghost use Rattle.model.specs.Contest.{contest_call, Contested};

@@ -1,5 +1,6 @@
 // Deciding a whole plan.
 #![tactic(auto)]
+
 ghost use Rattle.std.specs.Prelude.{◌≡◌, ◌&&◌, leb};
 ghost use Rattle.model.specs.Tables.{Tables};
 ghost use Rattle.model.specs.SoundTest.{sound};

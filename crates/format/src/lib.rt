@@ -1,5 +1,6 @@
 // Reading and writing, one after the other: both round trips. Where the second of the two refuses, what the first has written stays.
 #![tactic(auto)]
+
 ghost use Rattle.std.specs.Prelude.{◌≡◌, ◌≤◌, length};
 ghost use Rattle.laws.specs.Lists.{overwrite};
 ghost use Rattle.model.specs.Refusal.{given, refused};

@@ -1,5 +1,6 @@
 // The calls of the gate controller's C program, on numbers and byte slices (include/gate.h). An entry is two bytes, highest first.
 #![tactic(auto)]
+
 ghost use Rattle.std.specs.Prelude.{◌≡◌};
 ghost use Rattle.model.specs.Refusal.{given};
 ghost use Rattle.model.specs.Tables.{Tables};

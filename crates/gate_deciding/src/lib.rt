@@ -1,4 +1,5 @@
 // Deciding, for the gate controller's C program.
 #![tactic(auto)]
+
 mod answers;
 pub mod call;

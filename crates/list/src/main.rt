@@ -5,24 +5,32 @@
 // such a case too, since a program in Rattle starts with the signal SIGPIPE ignored.
 #![tactic(auto)]
 
-ghost use Rattle.std.specs.Prelude.{◌≤◌, length, IfSome};
+ghost use Rattle.std.specs.Prelude.{◌≤◌, length};
 
 use std::io::{Print, Read};
 use std::rt::Stdin;
 
-// How many bytes were read: all that the input has, or as many as there is room for. None where a read fails.
-fn read_input(mut stdin: Stdin, input: &mut [u8]) -> Option<usize>
-    ensures { IfSome result (λ n. n ≤ length input.new) }
+// Reads until `input` is full, the input ends or a read fails, and answers how many bytes there are.
+fn read_full(mut stdin: Stdin, input: &mut [u8]) -> usize
+    ensures { result ≤ length input.new }
 {
     let mut done = 0;
     while done < input.len() {
         match stdin.read(&mut input[done..]) {
-            Ok(0) => break,
+            Ok(0) | Err(_) => break,
             Ok(n) => done += n,
-            Err(_) => return None,
         }
     }
-    Some(done)
+    done
+}
+
+// `read_full` stops at the end of the input, and also where a read fails. Only at the end does a further read answer 0.
+fn at_end(mut stdin: Stdin) -> bool {
+    let mut more = [0u8; 1];
+    match stdin.read(&mut more) {
+        Ok(n) => n == 0,
+        Err(_) => false,
+    }
 }
 
 // A line that cannot be written either is lost: there is nowhere left to say it.
@@ -42,8 +50,10 @@ fn print(rt: &HostRuntime, input: &[u8]) {
 fn main(rt: HostRuntime) {
     // One byte more than the limit, to see what is above it.
     let mut input = [0u8; listing::LIMIT + 1];
-    match read_input(rt.stdin(), &mut input) {
-        Some(n) => print(&rt, &input[..n]),
-        None => say(&rt, b"list: standard input could not be read\n"),
+    let n = read_full(rt.stdin(), &mut input);
+    if n < input.len() && !at_end(rt.stdin()) {
+        say(&rt, b"list: standard input could not be read\n");
+        return;
     }
+    print(&rt, &input[..n]);
 }

@@ -1,5 +1,6 @@
 // Reading a plan file into lent tables.
 #![tactic(auto)]
+
 ghost use Rattle.std.specs.Prelude.{◌≡◌};
 ghost use Rattle.model.specs.Calls.{read_call};
 ghost use Rattle.tables.specs.Meaning.{rows_of};

@@ -1,5 +1,6 @@
 // The search from one start: the start's verdict, and the commands that hold it, without deciding the whole plan.
 #![tactic(auto)]
+
 ghost use Rattle.std.specs.Prelude.{◌≡◌, Bool, ℕ};
 ghost use Rattle.model.specs.Refusal.{given};
 ghost use Rattle.model.specs.Calls.{search_call};

@@ -1,5 +1,6 @@
 // Trimming: a plan without the states that no run from its start comes to, and the old number of each state that is kept.
 #![tactic(auto)]
+
 ghost use Rattle.std.specs.Prelude.{◌≡◌};
 ghost use Rattle.model.specs.Refusal.{given};
 ghost use Rattle.model.specs.Tables.{Size as ModelSize};

@@ -1,5 +1,6 @@
 // The warning time: within what time the works can bring about failure from a lost state, whatever is commanded.
 #![tactic(auto)]
+
 ghost use Rattle.std.specs.Prelude.{◌≡◌};
 ghost use Rattle.std.proofs.Math.Option.{Option};
 ghost use Rattle.model.specs.Refusal.{given};

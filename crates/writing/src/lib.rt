@@ -1,5 +1,6 @@
 // Writing a plan file from plan tables.
 #![tactic(auto)]
+
 ghost use Rattle.std.specs.Prelude.{◌≡◌, true, ◌≤◌};
 ghost use Rattle.model.specs.File.{max_states, max_commands, max_outcomes};
 ghost use Rattle.model.specs.Bytes.{bytes_of};

@@ -35,15 +35,19 @@ write_end-requires c =
     end_ready T r.1 c.write_head-states.ensures c.write_states-end.ensures
 
 pub returns-in-Denied : goal.returns-in-Denied
-returns-in-Denied c = record { call = let a = c.args in
-    refuses (held a.size a.rows.now a.firsts.now a.outcomes.now) _ _
-    (c.admit-admission.ensures _ c.sound-sounds.ensures.computed refl) _ c.in-Denied.is }
+returns-in-Denied c = record {
+  call = let a = c.args in
+      refuses (held a.size a.rows.now a.firsts.now a.outcomes.now) _ _
+      (c.admit-admission.ensures _ c.sound-sounds.ensures.computed refl) _ c.in-Denied.is;
+}
 
 pub returns-in-Granted : goal.returns-in-Granted
-returns-in-Granted c = record { call = let a = c.args in
-    let T = held a.size a.rows.now a.firsts.now a.outcomes.now in
-    let r = file_ready T a.bytes.now _ (c.admit-admission.ensures _ c.sound-sounds.ensures.computed refl)
-    c.in-Granted.is in
-    written T a.bytes.now _ (c.admit-admission.ensures _ c.sound-sounds.ensures.computed refl) c.in-Granted.is
-    (file_stored T r.1 c.write_head-states.ensures c.write_states-end.ensures
-    c.write_end.ensures) }
+returns-in-Granted c = record {
+  call = let a = c.args in
+      let T = held a.size a.rows.now a.firsts.now a.outcomes.now in
+      let r = file_ready T a.bytes.now _ (c.admit-admission.ensures _ c.sound-sounds.ensures.computed refl)
+      c.in-Granted.is in
+      written T a.bytes.now _ (c.admit-admission.ensures _ c.sound-sounds.ensures.computed refl) c.in-Granted.is
+      (file_stored T r.1 c.write_head-states.ensures c.write_states-end.ensures
+      c.write_end.ensures);
+}

@@ -1,12 +1,10 @@
 -- The keeper's turn: it is sure, or command after command is tried, the works' turn being called with a move fewer. The works' turn: outcome
 -- after outcome is tried, the keeper's turn being called where the memo does not know.
 use native.Mathlib.Omega.{arith}
-use Prim.Native.Nat.{ℕ}
 use Rattle.contest.proofs.LaidPlans.{laid_commands}
 use Rattle.contest.proofs.Memos.{known_fits, sure_remembered, remembers_all}
 use Rattle.contest.proofs.Trying.{trying_start, trying_next, trying_found, trying_done}
-use mathlib.Core.Path.{refl, sym, ◌∙◌}
-use mathlib.Core.Logic.{⊎_elim}
+use mathlib.Core.Path.{refl}
 use mathlib.Core.List.{[]}
 use Rattle.contest.proofs.Answering.{answering_start, answering_told, answering_next, answering_found, answering_done}
 use Rattle.std.proofs.lemmas.Bool.{not_from_false, not_from_true}
@@ -74,11 +72,11 @@ works_turn-loop-i-preserved t c =
     let told = answering_told c.loop-i.invariant c.loop-i-test.true _ c.at-next.ensures _ _ c.memo_place.ensures c.at-known.ensures in
     let next = answering_next c.loop-i.invariant c.loop-i-test.true _ c.at-next.ensures in
     elim c.if-known-eq-UNKNOWN.branch [
-      works_turn-then-known-eq-UNKNOWN+else-not-keeper_turn w ↦
-        rw w.memo-is (next _ _ w.keeper_turn.ensures.result_value w.keeper_turn.ensures.fact (not_from_true _ w.if-not-keeper_turn.false))
-    | works_turn-else-known-eq-UNKNOWN w ↦
-        rw w.memo-is
-        (next _ _ (told.0 w.if-known-eq-UNKNOWN.false c.if-known-eq-NOT_HELD.false) (remembers_all c.loop-i.invariant.remembers.told) refl)
+      | works_turn-then-known-eq-UNKNOWN+else-not-keeper_turn w ↦
+          rw w.memo-is (next _ _ w.keeper_turn.ensures.result_value w.keeper_turn.ensures.fact (not_from_true _ w.if-not-keeper_turn.false))
+      | works_turn-else-known-eq-UNKNOWN w ↦
+          rw w.memo-is
+          (next _ _ (told.0 w.if-known-eq-UNKNOWN.false c.if-known-eq-NOT_HELD.false) (remembers_all c.loop-i.invariant.remembers.told) refl)
     ]
 
 pub works_turn-returns : goal.works_turn-returns

@@ -2,7 +2,6 @@
 use Rattle.tables.proofs.LongTest.{rows_long}
 use Rattle.decide.proofs.Passes.{pass_start, pass_room, pass_next}
 use Rattle.model.proofs.SoundFacts.{sound_facts}
-use Prim.Native.Nat.{◌-◌}
 use native.Mathlib.Omega.{arith}
 use Rattle.tables.proofs.Readiness.{sound_ready}
 use Rattle.decide.proofs.verdicts.judge_all.Goals as goal

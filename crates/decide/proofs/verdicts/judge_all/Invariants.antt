@@ -6,7 +6,7 @@ use Prim.Native.Nat.{◌-◌, ◌≤◌}
 use Rattle.decide.proofs.verdicts.judge_all.Given as goal
 
 abbrev pub invariant-loop-s : goal.invariant-loop-s
-invariant-loop-s l =    (l.s ≤ l.size.n) × StatesJudged (plan_in (held l.size l.rows l.firsts l.outcomes)) (numbered l.ranks) l.s l.initial.commands l.initial.marks l.tally l.commands l.marks
+invariant-loop-s l = (l.s ≤ l.size.n) × StatesJudged (plan_in (held l.size l.rows l.firsts l.outcomes)) (numbered l.ranks) l.s l.initial.commands l.initial.marks l.tally l.commands l.marks
 
 abbrev pub decreases-loop-s : goal.decreases-loop-s
 decreases-loop-s l = l.size.n - l.s

@@ -27,10 +27,12 @@ roomy c =
     (length a.tally.now) c.room.ensures (not_from_true _ c.if-not-room.false)
 
 pub returns-then-not-room : goal.returns-then-not-room
-returns-then-not-room c = record { call = let a = c.args in
-    cramped a.decision a.ranked.now a.chosen.now a.marked.now a.clean.now a.n a.ranks.now a.commands.now
-    a.marks.now a.scratch.now a.tally.now
-    c.in-Given.is (stopped c.room.ensures (not_from_false _ c.if-not-room.true)) c.number-then-not-room.ensures.numbered }
+returns-then-not-room c = record {
+  call = let a = c.args in
+      cramped a.decision a.ranked.now a.chosen.now a.marked.now a.clean.now a.n a.ranks.now a.commands.now
+      a.marks.now a.scratch.now a.tally.now
+      c.in-Given.is (stopped c.room.ensures (not_from_false _ c.if-not-room.true)) c.number-then-not-room.ensures.numbered;
+}
 
 pub store-requires : goal.store-requires
 store-requires c = ((fits (goal.at.store-requires c).Else-not-room).0, (roomy (goal.at.store-requires c).Else-not-room).0)
@@ -48,15 +50,19 @@ store-requires-in-Given-3 c =
     ((fits (goal.at.store-requires-in-Given-3 c).Else-not-room).3, (roomy (goal.at.store-requires-in-Given-3 c).Else-not-room).3)
 
 pub returns-in-Refused : goal.returns-in-Refused
-returns-in-Refused c = record { call = let a = c.args in
-    not_decided a.decision a.ranked.now a.chosen.now a.marked.now a.clean.now a.n a.ranks.now a.commands.now
-    a.marks.now a.scratch.now a.tally.now
-    _ c.in-Refused.is c.number.ensures.numbered }
+returns-in-Refused c = record {
+  call = let a = c.args in
+      not_decided a.decision a.ranked.now a.chosen.now a.marked.now a.clean.now a.n a.ranks.now a.commands.now
+      a.marks.now a.scratch.now a.tally.now
+      _ c.in-Refused.is c.number.ensures.numbered;
+}
 
 pub returns-else-not-room : goal.returns-else-not-room
-returns-else-not-room c = record { call = let a = c.args in
-    delivered a.decision a.ranked.now a.chosen.now a.marked.now a.clean.now a.n a.ranks.now a.commands.now
-    a.marks.now a.scratch.now a.tally.now
-    c.in-Given.is (passed c.room.ensures (not_from_true _ c.if-not-room.false))
-    c.store.ensures c.store-in-Given.ensures c.store-in-Given-2.ensures c.store-in-Given-3.ensures
-    c.store_tally.ensures }
+returns-else-not-room c = record {
+  call = let a = c.args in
+      delivered a.decision a.ranked.now a.chosen.now a.marked.now a.clean.now a.n a.ranks.now a.commands.now
+      a.marks.now a.scratch.now a.tally.now
+      c.in-Given.is (passed c.room.ensures (not_from_true _ c.if-not-room.false))
+      c.store.ensures c.store-in-Given.ensures c.store-in-Given-2.ensures c.store-in-Given-3.ensures
+      c.store_tally.ensures;
+}

@@ -9,7 +9,9 @@ deliver-requires c =
     deliverable (held a.size a.rows.now a.firsts.now a.outcomes.now) _ _ c.decide-decision.ensures.call
 
 pub returns : goal.returns
-returns c = record { call = let a = c.args in
-    decision_delivered (held a.size a.rows.now a.firsts.now a.outcomes.now) _ a.ranks.now a.commands.now
-    a.marks.now a.scratch.now a.tally.now
-    _ c.decide-decision.ensures.call c.deliver.ensures.call }
+returns c = record {
+  call = let a = c.args in
+      decision_delivered (held a.size a.rows.now a.firsts.now a.outcomes.now) _ a.ranks.now a.commands.now
+      a.marks.now a.scratch.now a.tally.now
+      _ c.decide-decision.ensures.call c.deliver.ensures.call;
+}

@@ -25,15 +25,19 @@ store_lists-requires c =
     c.in-Given.is in record { size_bytes_in_bounds = w.0; m_in_bounds = w.1.0; t_in_bounds = w.1.1 }
 
 pub returns-in-Refused : goal.returns-in-Refused
-returns-in-Refused c = record { call = let a = c.args in
-    refuses a.file.now (map row_of (replicate max_states _)) (replicate max_commands 0) (replicate max_outcomes 0) a.size.now
-    a.rows.now a.firsts.now a.outcomes.now
-    c.read-plan.result c.admit-admitted.result c.read-plan.new.rows c.read-plan.ensures.call c.admit-admitted.ensures (omega arith, omega arith, omega arith)
-    c.in-Refused.is c.number.ensures.numbered }
+returns-in-Refused c = record {
+  call = let a = c.args in
+      refuses a.file.now (map row_of (replicate max_states _)) (replicate max_commands 0) (replicate max_outcomes 0) a.size.now
+      a.rows.now a.firsts.now a.outcomes.now
+      c.read-plan.result c.admit-admitted.result c.read-plan.new.rows c.read-plan.ensures.call c.admit-admitted.ensures (omega arith, omega arith, omega arith)
+      c.in-Refused.is c.number.ensures.numbered;
+}
 
 pub returns-in-Given : goal.returns-in-Given
-returns-in-Given c = record { call = let a = c.args in
-    gives a.file.now (map row_of (replicate max_states _)) (replicate max_commands 0) (replicate max_outcomes 0) a.size.now
-    a.rows.now a.firsts.now a.outcomes.now
-    c.read-plan.result c.admit-admitted.result c.read-plan.new.rows c.read-plan.ensures.call c.admit-admitted.ensures (omega arith, omega arith, omega arith)
-    c.in-Given.is c.store_rows.ensures (c.store_lists.ensures.size, (c.store_lists.ensures.firsts, c.store_lists.ensures.outcomes)) }
+returns-in-Given c = record {
+  call = let a = c.args in
+      gives a.file.now (map row_of (replicate max_states _)) (replicate max_commands 0) (replicate max_outcomes 0) a.size.now
+      a.rows.now a.firsts.now a.outcomes.now
+      c.read-plan.result c.admit-admitted.result c.read-plan.new.rows c.read-plan.ensures.call c.admit-admitted.ensures (omega arith, omega arith, omega arith)
+      c.in-Given.is c.store_rows.ensures (c.store_lists.ensures.size, (c.store_lists.ensures.firsts, c.store_lists.ensures.outcomes));
+}

@@ -3,6 +3,8 @@ use Rattle.gate_searching.proofs.Delivering.{found_stored}
 use Rattle.gate_searching.proofs.answers.store_found.Goals as goal
 
 pub returns : goal.returns
-returns c = record { stored = let f = c.args.found in
-    found_stored (f.lost, f.rounds) _ c.requires.fits.1 (rw c.flag.ensures.flagged at c.store_entry.ensures)
-    (rw c.narrow.ensures at c.store_entry-2.ensures) }
+returns c = record {
+  stored = let f = c.args.found in
+      found_stored (f.lost, f.rounds) _ c.requires.fits.1 (rw c.flag.ensures.flagged at c.store_entry.ensures)
+      (rw c.narrow.ensures at c.store_entry-2.ensures);
+}

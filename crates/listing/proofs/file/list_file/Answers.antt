@@ -8,8 +8,7 @@ use Rattle.listing.proofs.file.list_file.Goals as goal
 
 pub list_plan-requires : goal.list_plan-requires
 list_plan-requires c =
-    let a = c.args in
-    (
+    let a = c.args in (
       (plan_read a.file.now (replicate max_states _) (replicate max_commands 0) (replicate max_outcomes 0) _ c.read-r.new.rows _ _
           c.read-r.ensures.call c.in-Given.size c.in-Given.is).0,
       c.requires,

@@ -1,5 +1,4 @@
 -- The invariant is that the lines of the states before s are written; a turn writes one more.
-use Prim.Native.Nat.{◌-◌}
 use Rattle.tables.specs.Meaning.{held}
 use Rattle.listing.proofs.StateLines.{lines_start, lines_next, lines_done}
 use Rattle.listing.proofs.states.list_states.Goals as goal

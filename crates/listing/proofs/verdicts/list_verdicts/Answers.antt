@@ -14,15 +14,19 @@ pub list_states-tally-requires : goal.list_states-tally-requires
 list_states-tally-requires c =
     let a = c.args in
     let d = c.decide-d.ensures.call in
-    let states = few a.size a.rows.now a.firsts.now a.outcomes.now c.requires.0 in record { ready = sound_ready a.size a.rows.now a.firsts.now a.outcomes.now c.requires.0; all_listed = all_listed a.size a.rows.now a.firsts.now a.outcomes.now c.requires.0 _ _ _
-            (ap (λ (x : AfterDecide). x.ranks) d) (ap (λ (x : AfterDecide). x.commands) d) (ap (λ (x : AfterDecide). x.marks) d)
-            (omega arith, omega arith, omega arith, omega arith); n_in_bounds = (
-          long_rows a.size a.rows.now a.firsts.now a.outcomes.now c.requires.0,
-          omega (arith, states, c.ranks-2-1),
-          omega (arith, states, c.commands-2-1),
-          omega (arith, states, c.marks-2-1),
-          omega (arith, c.requires.1),
-        ) }
+    let states = few a.size a.rows.now a.firsts.now a.outcomes.now c.requires.0 in record {
+      ready = sound_ready a.size a.rows.now a.firsts.now a.outcomes.now c.requires.0;
+      all_listed = all_listed a.size a.rows.now a.firsts.now a.outcomes.now c.requires.0 _ _ _
+          (ap (λ (x : AfterDecide). x.ranks) d) (ap (λ (x : AfterDecide). x.commands) d) (ap (λ (x : AfterDecide). x.marks) d)
+          (omega arith, omega arith, omega arith, omega arith);
+      n_in_bounds = (
+        long_rows a.size a.rows.now a.firsts.now a.outcomes.now c.requires.0,
+        omega (arith, states, c.ranks-2-1),
+        omega (arith, states, c.commands-2-1),
+        omega (arith, states, c.marks-2-1),
+        omega (arith, c.requires.1),
+      );
+    }
 
 pub put_tally-requires : goal.put_tally-requires
 put_tally-requires c =

@@ -7,5 +7,8 @@ use Rattle.listing_text.proofs.lines.put_tally_line.Goals as goal
 
 pub returns : goal.returns
 unfolding tally_line
-returns c = record { wrote = line_wrote (_ ∷ _ ∷ _ ∷ _ ∷ _ ∷ _ ∷ _ ∷ []) c.put_word-next.ensures
-          (words_wrote (_ ∷ _ ∷ _ ∷ []) (_ ∷ _ ∷ _ ∷ _ ∷ []) c.put_row-slash.ensures.wrote (words_wrote (_ ∷ []) (_ ∷ _ ∷ _ ∷ []) c.put_letter-second.ensures.wrote c.put_row-end.ensures.wrote)) c.put_one.ensures; ends = omega arith }
+returns c = record {
+  wrote = line_wrote (_ ∷ _ ∷ _ ∷ _ ∷ _ ∷ _ ∷ _ ∷ []) c.put_word-next.ensures
+      (words_wrote (_ ∷ _ ∷ _ ∷ []) (_ ∷ _ ∷ _ ∷ _ ∷ []) c.put_row-slash.ensures.wrote (words_wrote (_ ∷ []) (_ ∷ _ ∷ _ ∷ []) c.put_letter-second.ensures.wrote c.put_row-end.ensures.wrote)) c.put_one.ensures;
+  ends = omega arith;
+}

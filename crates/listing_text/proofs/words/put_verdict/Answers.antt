@@ -6,5 +6,8 @@ use Rattle.listing_text.proofs.LineBytes.{words_wrote}
 use Rattle.listing_text.proofs.words.put_verdict.Goals as goal
 
 pub returns : goal.returns
-returns c = record { wrote = rw found_entry (words_wrote (_ ∷ []) (_ ∷ []) (rw c.verdict_letter.ensures at c.put_letter-next.ensures.wrote) c.put_entry.ensures.wrote); ends = omega
-          arith }
+returns c = record {
+  wrote = rw found_entry (words_wrote (_ ∷ []) (_ ∷ []) (rw c.verdict_letter.ensures at c.put_letter-next.ensures.wrote) c.put_entry.ensures.wrote);
+  ends = omega
+      arith;
+}

@@ -15,23 +15,32 @@ propagate_in-requires c =
 
 pub keep_practice-requires : goal.keep_practice-requires
 keep_practice-requires c =
-    let a = c.args in record { n_le_max_states = (
+    let a = c.args in record {
+      n_le_max_states = (
         c.requires.ready.few,
         omega (arith, c.propagate_in.auto.ranks, c.requires.n_in_bounds.0),
         omega (arith, c.propagate_in.auto.froms, c.requires.own_ranges.long_froms),
         c.requires.own_ranges_2.long_tos,
         c.requires.own_ranges_2.long_froms,
-      ); by_index = own_low (commands_of a.size a.firsts.now a.outcomes.now) c.requires.own_ranges_2 c.requires.parts c.requires.ready.few_commands }
+      );
+      by_index = own_low (commands_of a.size a.firsts.now a.outcomes.now) c.requires.own_ranges_2 c.requires.parts c.requires.ready.few_commands;
+    }
 
 pub propagate_in-requires-2 : goal.propagate_in-requires-2
 propagate_in-requires-2 c =
     let a = c.args in
     let C = commands_of a.size a.firsts.now a.outcomes.now in
     let o = kept_own c.keep_practice.ensures c.requires.own_ranges_2
-    (omega (arith, c.propagate_in.auto.froms, c.requires.own_ranges.long_froms)) in record { ready = c.requires.ready; ranges = ranges_fit C o c.requires.parts; indexed = c.index_all.ensures.indexed; owns = owners_fit C o c.index_all.ensures.owned; n_in_bounds = (
-              omega (arith, c.keep_practice.ensures.seeded.same, c.requires.own_ranges_2.long_froms),
-              (o.long_froms, (omega (arith, c.propagate_in.ensures.queued.same, c.requires.n_in_bounds.1), kept_seeded c.keep_practice.ensures)),
-            ) }
+    (omega (arith, c.propagate_in.auto.froms, c.requires.own_ranges.long_froms)) in record {
+      ready = c.requires.ready;
+      ranges = ranges_fit C o c.requires.parts;
+      indexed = c.index_all.ensures.indexed;
+      owns = owners_fit C o c.index_all.ensures.owned;
+      n_in_bounds = (
+        omega (arith, c.keep_practice.ensures.seeded.same, c.requires.own_ranges_2.long_froms),
+        (o.long_froms, (omega (arith, c.propagate_in.ensures.queued.same, c.requires.n_in_bounds.1), kept_seeded c.keep_practice.ensures)),
+      );
+    }
 
 pub returns : goal.returns
 returns c =

@@ -8,8 +8,7 @@ put-requires c =
     (c.requires.s_in_bounds.0, rw c.seed_of.ensures (seed_small _))
 
 pub put-requires-4 : goal.put-requires-4
-put-requires-4 c =
-    (
-      omega (arith, c.requires.s_in_bounds),
-      rw c.practice_place.ensures (omega (arith, place_inside c.args.span c.requires.first_le_end.0, c.requires.first_le_end)),
-    )
+put-requires-4 c = (
+  omega (arith, c.requires.s_in_bounds),
+  rw c.practice_place.ensures (omega (arith, place_inside c.args.span c.requires.first_le_end.0, c.requires.first_le_end)),
+)

@@ -4,12 +4,11 @@ use native.Mathlib.Omega.{arith}
 use Rattle.nets.proofs.ranges.keep_practice_at.Goals as goal
 
 pub put-requires-2 : goal.put-requires-2
-put-requires-2 c =
-    (
-      c.requires.s_in_bounds.2,
-      rw (c.one_end-end.ensures, c.at-place.ensures, c.at.ensures)
-          (omega (arith, end_inside _ _ c.requires.s_bound.0, c.requires.s_bound)),
-    )
+put-requires-2 c = (
+  c.requires.s_in_bounds.2,
+  rw (c.one_end-end.ensures, c.at-place.ensures, c.at.ensures)
+      (omega (arith, end_inside _ _ c.requires.s_bound.0, c.requires.s_bound)),
+)
 
 pub put-requires-3 : goal.put-requires-3
 put-requires-3 c =

@@ -7,7 +7,7 @@ use lib.ListN.{length, drop}
 use Rattle.reading.proofs.fill.fill_states.Given as goal
 
 abbrev pub invariant-loop-i : goal.invariant-loop-i
-invariant-loop-i l =    (l.i ≤ l.n) × Filling (length l.file) l.initial.rows l.initial.firsts l.initial.outcomes (states_in l.n (drop 7 l.file)) l.rows l.firsts l.outcomes l.i l.k
+invariant-loop-i l = (l.i ≤ l.n) × Filling (length l.file) l.initial.rows l.initial.firsts l.initial.outcomes (states_in l.n (drop 7 l.file)) l.rows l.firsts l.outcomes l.i l.k
     (states_in (l.n - l.i) (bytes_from l.file l.k))
 
 abbrev pub decreases-loop-i : goal.decreases-loop-i

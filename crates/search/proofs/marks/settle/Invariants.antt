@@ -8,7 +8,7 @@ use Rattle.search.specs.Settled.{Settled}
 use Rattle.search.proofs.marks.settle.Given as goal
 
 abbrev pub invariant-loop-i : goal.invariant-loop-i
-invariant-loop-i l =    (l.from ≤ l.i) × (l.i ≤ l.reached)
+invariant-loop-i l = (l.from ≤ l.i) × (l.i ≤ l.reached)
     × ((F O : List ℕ) → Settled l.from l.i (λ x. marked_at (span_at (held l.size l.rows F O) x) l.initial.commands l.initial.scratch x) l.queue l.initial.commands l.initial.scratch
     l.commands l.scratch)
 

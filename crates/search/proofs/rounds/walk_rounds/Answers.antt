@@ -1,6 +1,5 @@
 -- The loop holds that a walk is under way with the set known after so many rounds, none of them the last; how many come before the last one
 -- bounds it.
-use Prim.Native.Nat.{◌-◌}
 use native.Mathlib.Omega.{arith}
 use Rattle.walks.proofs.Room.{queued_few}
 use Rattle.walks.proofs.Spreads.{queued_none}
@@ -12,15 +11,18 @@ use Rattle.search.proofs.rounds.walk_rounds.Goals as goal
 
 pub reach-q-requires : goal.reach-q-requires
 reach-q-requires c =
-    let s = c.args in record { queued = queued_none _ (first_low _ c.requires.prepared.sounds _ c.requires.start_lt_n.0 c.fill.ensures
-          (c.start_known.ensures s.firsts.now s.outcomes.now)); x_lt_n = (
+    let s = c.args in record {
+      queued = queued_none _ (first_low _ c.requires.prepared.sounds _ c.requires.start_lt_n.0 c.fill.ensures
+          (c.start_known.ensures s.firsts.now s.outcomes.now));
+      x_lt_n = (
         c.requires.start_lt_n.0,
         c.requires.prepared.few,
         omega (arith, c.requires.prepared.long_scratch, c.start_known.auto),
         c.requires.prepared.long_queue,
         omega arith,
         omega arith,
-      ) }
+      );
+    }
 
 pub loop-end-init : goal.loop-end-init
 loop-end-init c =
@@ -33,7 +35,8 @@ loop-end-init c =
 pub kept-q-requires : goal.kept-q-requires
 kept-q-requires c =
     let d = c.loop-end.invariant.due c.loop-end-test.true in
-    let v = c.walk-walked.ensures.by_index _ _ d.walks d.clear in record { reached_nonzero = (
+    let v = c.walk-walked.ensures.by_index _ _ d.walks d.clear in record {
+      reached_nonzero = (
         v.done.begun,
         omega (
           arith,
@@ -44,7 +47,8 @@ kept-q-requires c =
           c.walk-walked.auto,
         ),
         low_small _ c.requires.prepared.sounds c.requires.prepared.few _ _ v,
-      ); by_index = λ i k. omega (
+      );
+      by_index = λ i k. omega (
         arith,
         v.done.queued.states i k,
         c.requires.prepared.long_scratch,
@@ -52,7 +56,8 @@ kept-q-requires c =
         c.start_known.auto,
         c.reach-q.auto,
         c.walk-walked.auto,
-      ) }
+      );
+    }
 
 pub overflow_add-count : goal.overflow_add-count
 overflow_add-count c =

@@ -8,8 +8,8 @@ use Rattle.search.proofs.AfterRounds.{AfterRounds}
 use Rattle.search.proofs.rounds.walk_rounds.Given as goal
 
 abbrev pub invariant-loop-end : goal.invariant-loop-end
-invariant-loop-end l =    AfterRounds (plan_in (held l.size l.rows l.firsts l.outcomes)) l.size.n l.start l.initial.commands l.initial.scratch l.initial.queue l.initial.tried l.end l.count l.h l.q l.commands l.scratch
+invariant-loop-end l = AfterRounds (plan_in (held l.size l.rows l.firsts l.outcomes)) l.size.n l.start l.initial.commands l.initial.scratch l.initial.queue l.initial.tried l.end l.count l.h l.q l.commands l.scratch
     l.queue l.tried
 
 abbrev pub decreases-loop-end : goal.decreases-loop-end
-decreases-loop-end l =    suc (before (plan_in (held l.size l.rows l.firsts l.outcomes)) l.start) - l.count
+decreases-loop-end l = suc (before (plan_in (held l.size l.rows l.firsts l.outcomes)) l.start) - l.count

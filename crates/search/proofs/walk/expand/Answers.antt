@@ -11,8 +11,11 @@ put-requires c =
     omega arith
 
 pub returns-then-c-eq-NONE : goal.returns-then-c-eq-NONE
-returns-then-c-eq-NONE c = record { expanded = λ R sounds is. expand_none _ sounds _ c.requires.seen.inside _ is _ _ (c.take-c.ensures.value R sounds is) c.if-c-eq-NONE.true _ _ _
-          c.put.ensures c.requires.queued; retried = c.take-c.ensures.retried }
+returns-then-c-eq-NONE c = record {
+  expanded = λ R sounds is. expand_none _ sounds _ c.requires.seen.inside _ is _ _ (c.take-c.ensures.value R sounds is) c.if-c-eq-NONE.true _ _ _
+      c.put.ensures c.requires.queued;
+  retried = c.take-c.ensures.retried;
+}
 
 pub overflow_add-g : goal.overflow_add-g
 overflow_add-g c =
@@ -37,12 +40,19 @@ spread-requires c =
     let O = c.args.outcomes.now in
     let e = c.take-c.ensures.value c.requires.seen.rows c.requires.seen.sounds c.requires.seen.is in
     let from = c.first_outcome-from.ensures c.requires.seen.rows O in
-    let end = c.first_outcome-end.ensures c.requires.seen.rows O in record { queued = c.requires.queued; n_le_max_states = (c.requires.ready.few, c.requires.n_in_bounds.1, c.requires.n_in_bounds.2, c.requires.n_in_bounds.3, c.requires.n_in_bounds.4); from_le_end = outcomes_inside c.requires.ready _ _ _ _
-            (expand_place _ c.requires.seen.sounds _ c.requires.seen.inside _ c.requires.seen.is c.args.scratch.now _ e c.if-c-eq-NONE.false) from end
-            (omega arith) }
+    let end = c.first_outcome-end.ensures c.requires.seen.rows O in record {
+      queued = c.requires.queued;
+      n_le_max_states = (c.requires.ready.few, c.requires.n_in_bounds.1, c.requires.n_in_bounds.2, c.requires.n_in_bounds.3, c.requires.n_in_bounds.4);
+      from_le_end = outcomes_inside c.requires.ready _ _ _ _
+          (expand_place _ c.requires.seen.sounds _ c.requires.seen.inside _ c.requires.seen.is c.args.scratch.now _ e c.if-c-eq-NONE.false) from end
+          (omega arith);
+    }
 
 pub returns : goal.returns
 returns c =
-    let O = c.args.outcomes.now in record { expanded = λ R sounds is. expand_some _ sounds _ c.requires.seen.inside _ is _ _ (c.take-c.ensures.value R sounds is) c.if-c-eq-NONE.false _ _
+    let O = c.args.outcomes.now in record {
+      expanded = λ R sounds is. expand_some _ sounds _ c.requires.seen.inside _ is _ _ (c.take-c.ensures.value R sounds is) c.if-c-eq-NONE.false _ _
           (c.first_outcome-from.ensures R O) (c.first_outcome-end.ensures R O) _ _ c.put.ensures
-          c.spread.ensures; retried = c.take-c.ensures.retried }
+          c.spread.ensures;
+      retried = c.take-c.ensures.retried;
+    }

@@ -6,7 +6,7 @@ use Rattle.search.proofs.Walking.{Walking}
 use Rattle.search.proofs.walk.walk.Given as goal
 
 abbrev pub invariant-loop-h : goal.invariant-loop-h
-invariant-loop-h l =    Walking (plan_in (held l.size l.rows l.firsts l.outcomes)) l.size.n l.from l.reached l.initial.commands l.initial.scratch l.initial.queue l.initial.tried l.h l.q l.low l.commands l.scratch l.queue
+invariant-loop-h l = Walking (plan_in (held l.size l.rows l.firsts l.outcomes)) l.size.n l.from l.reached l.initial.commands l.initial.scratch l.initial.queue l.initial.tried l.h l.q l.low l.commands l.scratch l.queue
     l.tried
 
 abbrev pub decreases-loop-h : goal.decreases-loop-h

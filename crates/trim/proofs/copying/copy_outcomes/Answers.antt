@@ -1,6 +1,6 @@
 -- Each turn writes one outcome under its new number, at the next place: what is left to write is less by it.
 use mathlib.Core.Path.{refl, ap}
-use Prim.Native.Nat.{ℕ, ◌-◌}
+use Prim.Native.Nat.{ℕ}
 use lib.ListN.{get_or}
 use Rattle.laws.proofs.EntryCopies.{copies_start, copies_room, copies_next, copies_done}
 use Rattle.trim.proofs.copying.copy_outcomes.Goals as goal

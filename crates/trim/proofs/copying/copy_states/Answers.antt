@@ -1,6 +1,6 @@
 -- The loop holds that what is left to write are the trimmed states from i on; each turn writes one of them.
 use mathlib.Core.Path.{ap, ◌∙◌}
-use Prim.Native.Nat.{◌-◌, ◌<◌, ◌≤◌}
+use Prim.Native.Nat.{◌<◌, ◌≤◌}
 use native.Mathlib.Omega.{arith}
 use lib.ListN.{length}
 use Rattle.laws.specs.Lists.{joined}
@@ -77,19 +77,23 @@ copy_firsts-m-requires c =
     let a = c.args in
     let here = stretch_here (goal.at.copy_firsts-m-requires c).After-stretch_at-stretch in
     let next = copying_room c.loop-i.invariant (new_state (goal.at.copy_firsts-m-requires c).After-at-s) in
-    let all = trim_good _ (sound_good _ c.requires.outcomes_value) in record { first_le_end = (
+    let all = trim_good _ (sound_good _ c.requires.outcomes_value) in record {
+      first_le_end = (
         here.rises,
         omega (arith, here.below, (sound_ready a.size a.rows.now a.firsts.now a.outcomes.now c.requires.outcomes_value).long_firsts),
         omega (arith, here.count, trimmed_commands (tree_of (held c.args.size c.args.rows.now c.args.firsts.now c.args.outcomes.now)) c.loop-i.i, next.0, (room (goal.at.copy_firsts-m-requires c).Start).1, copying_firsts c.loop-i.invariant),
-      ); by_index = λ d low high.
+      );
+      by_index = λ d low high.
           let (begins, ends) = here.each d low high in
-          (begins, omega (arith, ends, here.many, trimmed_outcomes (tree_of (held c.args.size c.args.rows.now c.args.firsts.now c.args.outcomes.now)) c.loop-i.i, next.1, all.few_outcomes)) }
+          (begins, omega (arith, ends, here.many, trimmed_outcomes (tree_of (held c.args.size c.args.rows.now c.args.firsts.now c.args.outcomes.now)) c.loop-i.i, next.1, all.few_outcomes));
+    }
 
 pub copy_outcomes-t-requires : goal.copy_outcomes-t-requires
 copy_outcomes-t-requires c =
     let a = c.args in
     let here = stretch_here (goal.at.copy_outcomes-t-requires c).After-stretch_at-stretch in
-    let ready = sound_ready a.size a.rows.now a.firsts.now a.outcomes.now c.requires.outcomes_value in record { from_le_end = (
+    let ready = sound_ready a.size a.rows.now a.firsts.now a.outcomes.now c.requires.outcomes_value in record {
+      from_le_end = (
         here.order,
         omega (arith, here.within, ready.states.long),
         omega (
@@ -100,7 +104,9 @@ copy_outcomes-t-requires c =
           (room (goal.at.copy_outcomes-t-requires c).Start).2,
           copying_outs c.loop-i.invariant,
         ),
-      ); by_index = λ j l. omega (arith, ready.states.inside j (omega (arith, here.within)), c.requires.n_in_bounds.0) }
+      );
+      by_index = λ j l. omega (arith, ready.states.inside j (omega (arith, here.within)), c.requires.n_in_bounds.0);
+    }
 
 pub loop-i-preserved : goal.loop-i-preserved
 loop-i-preserved c =

@@ -1,5 +1,5 @@
 -- The loop holds that the walk has gone on from the first h places of the queue.
-use Prim.Native.Nat.{◌-◌, ◌<◌}
+use Prim.Native.Nat.{◌<◌}
 use native.Mathlib.Omega.{arith}
 use Rattle.model.specs.Held.{tree_of, state_of}
 use Rattle.model.proofs.SoundFacts.{sound_facts}
@@ -61,13 +61,17 @@ pub spread-q-requires : goal.spread-q-requires
 spread-q-requires c =
     let a = c.args in
     let ready = sound_ready a.size a.rows.now a.firsts.now a.outcomes.now c.requires.outcomes_value in
-    let here = stretch_here (goal.at.spread-q-requires c).After-stretch_at-stretch in record { queued = c.loop-h.invariant.queued; n_le_max_states = (
-          ready.few,
-          omega (arith, c.requires.n_in_bounds, c.loop-h.invariant.same_flags, c.reach-q.ensures.same_flags),
-          omega (arith, c.requires.n_in_bounds, c.loop-h.invariant.same_queue, c.reach-q.ensures.same_queue),
-          omega arith,
-          omega arith,
-        ); from_le_end = (here.order, omega (arith, here.within, ready.states.long), λ j l. ready.states.inside j (omega (arith, here.within))) }
+    let here = stretch_here (goal.at.spread-q-requires c).After-stretch_at-stretch in record {
+      queued = c.loop-h.invariant.queued;
+      n_le_max_states = (
+        ready.few,
+        omega (arith, c.requires.n_in_bounds, c.loop-h.invariant.same_flags, c.reach-q.ensures.same_flags),
+        omega (arith, c.requires.n_in_bounds, c.loop-h.invariant.same_queue, c.reach-q.ensures.same_queue),
+        omega arith,
+        omega arith,
+      );
+      from_le_end = (here.order, omega (arith, here.within, ready.states.long), λ j l. ready.states.inside j (omega (arith, here.within)));
+    }
 
 pub loop-h-smaller : goal.loop-h-smaller
 loop-h-smaller c = omega (arith, queued_few c.loop-h.invariant.queued)

@@ -7,7 +7,7 @@ use Rattle.trim.proofs.EnteredStates.{outcomes_of}
 use Rattle.trim.proofs.entering.enter_all.Given as goal
 
 abbrev pub invariant-loop-h : goal.invariant-loop-h
-invariant-loop-h l =    WholeWalk l.size.n l.size.start (outcomes_of (tree_of (held l.size l.rows l.firsts l.outcomes))) l.initial.flags l.initial.queue l.h l.q l.flags l.queue
+invariant-loop-h l = WholeWalk l.size.n l.size.start (outcomes_of (tree_of (held l.size l.rows l.firsts l.outcomes))) l.initial.flags l.initial.queue l.h l.q l.flags l.queue
 
 abbrev pub decreases-loop-h : goal.decreases-loop-h
 decreases-loop-h l = l.size.n - l.h

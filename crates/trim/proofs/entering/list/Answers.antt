@@ -1,5 +1,4 @@
 -- The states below s that are reached stand in the first places, when the loop comes to s.
-use Prim.Native.Nat.{◌-◌}
 use native.Mathlib.Omega.{arith}
 use Rattle.laws.proofs.Gathers.{gathers_start, gathers_room, gathers_next}
 use Rattle.trim.proofs.entering.list.Goals as goal

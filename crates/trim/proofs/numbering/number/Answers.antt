@@ -1,5 +1,4 @@
 -- Each turn gives one state its number in both tables; old numbers differ, so no new number is written over.
-use Prim.Native.Nat.{◌-◌}
 use Rattle.trim.proofs.Numbers.{numbering_next, numbering_done}
 use Rattle.trim.proofs.numbering.number.Goals as goal
 

@@ -11,11 +11,10 @@ loop-j-init c = turn_start twos_spread (outcomes_ready _ _ _ _ _ c.requires.2)
 
 pub put_two-next-requires : goal.put_two-next-requires
 unfolding twos
-put_two-next-requires c =
-    (
-      omega (arith, turn_room twos_spread c.loop-j.invariant c.loop-j-test.true),
-      omega (arith, c.at.ensures, c.shared_slice_known-1.given c.loop-j.j),
-    )
+put_two-next-requires c = (
+  omega (arith, turn_room twos_spread c.loop-j.invariant c.loop-j-test.true),
+  omega (arith, c.at.ensures, c.shared_slice_known-1.given c.loop-j.j),
+)
 
 pub loop-j-preserved : goal.loop-j-preserved
 unfolding twos

@@ -7,7 +7,7 @@ use Rattle.tables.specs.Spans.{commands_of}
 use Rattle.writing.proofs.states.write_commands.Given as goal
 
 abbrev pub invariant-loop-c : goal.invariant-loop-c
-invariant-loop-c l =    Turn commands_bytes (list_at (commands_of l.size l.firsts l.outcomes)) l.end l.first l.initial.out l.place l.out l.next l.c
+invariant-loop-c l = Turn commands_bytes (list_at (commands_of l.size l.firsts l.outcomes)) l.end l.first l.initial.out l.place l.out l.next l.c
 
 abbrev pub decreases-loop-c : goal.decreases-loop-c
 decreases-loop-c l = l.end - l.c
