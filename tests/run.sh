@@ -6,8 +6,10 @@ cd "$(dirname "$0")/.."
 unset MAKEFLAGS MAKELEVEL PLAN # of the make that runs this
 fail() { echo "run.sh: $*" >&2; exit 1; }
 
-dir="target/my plans"
-rm -rf "$dir"
+# Outside the checkout, where rt takes no second repository.
+top=$(mktemp -d)
+trap 'rm -rf "$top"' EXIT
+dir="$top/my plans"
 mkdir -p "$dir/repo/bin" "$dir/repo/crates/list"
 for name in "a b.plan" "the keeper's \"own\".plan"; do
     cp examples/ring-leaks.plan "$dir/$name"

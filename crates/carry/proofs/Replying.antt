@@ -59,3 +59,6 @@ module _ (n : ℕ) (olds : List ℕ) (places : ℕ) {entries : ℕ} (T : List �
 
       pub grants : n ≤ places → carrying n olds T places ≡ given (carried n olds T)
       grants l = (carrying_iff n olds T places (carried n olds T)).1 (fitting, l, refl)
+
+-- what the tests of `admit` come to
+pub ruleset admitting = (denies_none, denies_many, denies_short, denies_map, denies_cramped, grants)

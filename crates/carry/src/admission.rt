@@ -8,6 +8,7 @@ use tables::rising::rises_below;
 use tables::{Refusal, Size};
 
 // Refusal 10, then 9: `entries` says how many entries the trimmed table has, and `places` how many places are lent.
+#[tactic(auto, using(crate::proofs::Replying::admitting))]
 pub fn admit(n: usize, olds: &[u16], entries: usize, places: usize) -> Admission
     ensures { (T : List ℕ) → entries ≡ length T → carrying n olds.now T places
         ≡ admitted result (carried n olds.now T) }

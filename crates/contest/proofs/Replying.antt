@@ -32,6 +32,9 @@ module _ (T : Tables) (s k : ℕ) {t : Bool} {n : ℕ} where
     pub grants : s < n → k ≤ max_moves → t ≡ sound T → n ≡ T.size.n → contest_call T s k ≡ given (keeper_turn (plan_in T) k s)
     grants l m e q = contest_tests T s k ∙ calls.grants T s Moves _ _ h l (le-leb k max_moves m) e q
 
+-- what the tests of `admit` come to
+pub ruleset admitting = (denies_unsound, denies_stranger, denies_moves, grants)
+
 module _ (T : Tables) (s k : ℕ) (g : Admission) (answers : contest_call T s k ≡ admitted g (keeper_turn (plan_in T) k s)) where
   abbrev pub Replied : ContestAnswer → Type 0
   Replied = calls.Replied answer_of (contest_call T s k) (Contested T s k)

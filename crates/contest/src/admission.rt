@@ -11,6 +11,7 @@ use tables::Refusal;
 use tables::admission::Admission;
 
 // Refusal 10, then 11, then 12: `sounds` says whether the plan is sound.
+#[tactic(auto, using(crate::proofs::Replying::admitting))]
 pub fn admit(sounds: bool, n: usize, state: usize, moves: usize) -> Admission
     ensures { (T : Tables) → sounds ≡ sound T → n ≡ T.size.n → contest_call T state moves
         ≡ admitted result (keeper_turn (plan_in T) moves state) }

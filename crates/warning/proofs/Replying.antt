@@ -38,6 +38,9 @@ module _ (T : Tables) (s d : ℕ) {t : Bool} {n : ℕ} where
         → warning_call T s d ≡ given (warning (rank (plan_in T) s) d)
     grants l z m e q = warning_tests T s d ∙ calls.grants T s Seconds _ _ h l ((length_allowed_lem d).1 (z, m)) e q
 
+-- what the tests of `admit` come to
+pub ruleset admitting = (denies_unsound, denies_stranger, denies_short, denies_long, grants)
+
 module _ (T : Tables) (s d : ℕ) (g : Admission) (answers : warning_call T s d ≡ admitted g (warning (rank (plan_in T) s) d)) where
   abbrev pub Replied : WarningAnswer → Type 0
   Replied = calls.Replied answer_of (warning_call T s d) (Warned T s d)

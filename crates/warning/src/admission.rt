@@ -12,6 +12,7 @@ use tables::Refusal;
 use tables::admission::Admission;
 
 // Refusal 10, then 11, then 13: `sounds` says whether the plan is sound.
+#[tactic(auto, using(crate::proofs::Replying::admitting))]
 pub fn admit(sounds: bool, n: usize, state: usize, seconds: usize) -> Admission
     ensures { (T : Tables) → sounds ≡ sound T → n ≡ T.size.n → warning_call T state seconds
         ≡ admitted result (warning (rank (plan_in T) state) seconds) }

@@ -52,5 +52,5 @@ returns c =
     look_lost _ c.requires.ready _ _ c.requires.ranges _ c.requires.c_in_bounds.1.1.1.1.1 _ _ _ _ c.requires.queue_bound _ _ c.at-s.ensures c.requires.c_in_bounds.1.0 _ c.at.ensures
     c.if-at-ne-NONE.false _ c.at-2.ensures
     c.if-at-c.false _ c.at-e.ensures c.if-e-c.false _ c.first_clear-x.ensures c.requires.c_in_bounds.1.1.1.0
-    c.if-x-e.false c.requires.c_in_bounds.1.1.0 c.requires.c_in_bounds.1.1.1.1.0 _ _ _ c.put.ensures c.put-2.ensures
+    (omega arith) c.requires.c_in_bounds.1.1.0 c.requires.c_in_bounds.1.1.1.1.0 _ _ _ c.put.ensures c.put-2.ensures
     c.put-3.ensures

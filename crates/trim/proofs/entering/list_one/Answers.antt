@@ -7,10 +7,10 @@ use Rattle.trim.proofs.entering.list_one.Goals as goal
 pub returns-then-at-lt-REACHED : goal.returns-then-at-lt-REACHED
 returns-then-at-lt-REACHED c =
     let a = c.args in
-    rw (value_unwalked a.flags.now a.s (omega (arith, c.if-at-lt-REACHED.true, c.at.ensures))) (record { value = refl; kept_after = refl })
+    rw (value_unwalked a.flags.now a.s (omega (arith, c.at.ensures))) (record { value = refl; kept_after = refl })
 
 pub returns : goal.returns
 returns c =
     let a = c.args in
-    rw (value_walked a.flags.now a.s (omega (arith, c.if-at-lt-REACHED.false, c.at.ensures)))
+    rw (value_walked a.flags.now a.s (omega (arith, c.at.ensures)))
     (record { value = refl; kept_after = c.put.ensures })

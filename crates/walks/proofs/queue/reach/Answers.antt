@@ -14,7 +14,7 @@ put-requires-2 c =
       arith,
       c.requires.x_lt_n,
       reach_room c.requires.queued _ c.requires.x_lt_n.0 c.requires.x_lt_n.2 c.requires.x_lt_n.3 _ c.requires.x_lt_n.4 _ c.at.ensures
-          c.if-at-ne1.false,
+          (omega arith),
     )
 
 pub overflow_add-result : goal.overflow_add-result
@@ -23,10 +23,10 @@ overflow_add-result c =
       arith,
       c.requires.x_lt_n,
       reach_room c.requires.queued _ c.requires.x_lt_n.0 c.requires.x_lt_n.2 c.requires.x_lt_n.3 _ c.requires.x_lt_n.4 _ c.at.ensures
-          c.if-at-ne1.false,
+          (omega arith),
     )
 
 pub returns : goal.returns
 returns c =
-    reach_new c.requires.queued _ c.requires.x_lt_n.0 c.requires.x_lt_n.2 c.requires.x_lt_n.3 _ c.requires.x_lt_n.4 _ c.at.ensures c.if-at-ne1.false _ _
+    reach_new c.requires.queued _ c.requires.x_lt_n.0 c.requires.x_lt_n.2 c.requires.x_lt_n.3 _ c.requires.x_lt_n.4 _ c.at.ensures (omega arith) _ _
     c.put.ensures c.put-2.ensures
