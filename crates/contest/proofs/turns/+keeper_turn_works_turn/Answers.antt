@@ -1,5 +1,6 @@
 -- The keeper's turn: it is sure, or command after command is tried, the works' turn being called with a move fewer. The works' turn: outcome
 -- after outcome is tried, the keeper's turn being called where the memo does not know.
+use Rattle.std.proofs.Common.{rules, ◌≡◌, false}
 use native.Mathlib.Omega.{arith}
 use Rattle.contest.proofs.LaidPlans.{laid_commands}
 use Rattle.contest.proofs.Memos.{known_fits, sure_remembered, remembers_all}
@@ -44,7 +45,8 @@ keeper_turn-returns-then-works_turn t c =
 
 pub keeper_turn-loop-c-preserved : goal.keeper_turn-loop-c-preserved
 keeper_turn-loop-c-preserved t c =
-    trying_next c.loop-c.invariant c.loop-c-test.true _ _ (c.works_turn.ensures.result_value, c.works_turn.ensures.fact) c.if-works_turn.false
+    let other : c.works_turn.result ≡ false = search rules in
+    trying_next c.loop-c.invariant c.loop-c-test.true _ _ (c.works_turn.ensures.result_value, c.works_turn.ensures.fact) other
 
 pub keeper_turn-returns : goal.keeper_turn-returns
 keeper_turn-returns t c =
