@@ -23,7 +23,7 @@ pub const LIMIT: usize = 65536;
 const ROOM: usize = 65536;
 
 // The text is in the first `length` bytes, and the bytes past it are zero.
-#[derive(Drop)]
+#[derive(Clone, Copy)]
 pub struct Text {
     pub bytes: [u8; ROOM],
     pub length: usize,
