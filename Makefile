@@ -1,5 +1,5 @@
 # make run       print the listing of a plan: PLAN=examples/case-a.plan unless another is named
-# make test      prove every crate from nothing, try the edits that must be refused, run all tests;
+# make test      prove every crate, try the edits that must be refused, run all tests;
 #                the last line is 'N passed, 0 failed'
 # make quick     what make test begins with: files that scripts make, the reference held to rules, ranks, runs and maps, docs/TRACE.md
 # make wrong     try every edit that must be refused, those too for which make test has no time (crates/*/wrong)

@@ -6,7 +6,7 @@ cd "$(dirname "$0")/.."
 
 copy=$(mktemp -d)
 trap 'rm -rf "$copy"' EXIT
-git ls-files -z crates crates.txt | xargs -0 cp --parents -t "$copy"
+git ls-files -z --cached --others --exclude-standard crates crates.txt | xargs -0 cp --parents -t "$copy"
 for edit in "$copy"/crates/*/wrong/*.edit; do
     together=${edit%/wrong/*}/must-fail
     mkdir -p "$together"

@@ -96,9 +96,7 @@ fn answer_with(tally: [[u16; 3]; 2]) -> Decision
 }
 
 // Decides the plan: its ranks, commands and practice marks (rule C4), and the tally. While it runs the tally is one array (rule N1), passed
-// on by value from state to state. It is answered as its two rows beside the enum: an enum may hold an array, but the
-// toolchain's borrow checker covers no function that makes, takes apart or hands on such an enum, so that each caller of `decide` would be
-// proved by hand.
+// on by value from state to state. It is answered as its two rows beside the enum (decision 35).
 // Free is what the tables have while the call runs (rule U2): until the answers are written, the propagations work in the first n
 // places of all four, and no place behind them is written. When it is over nothing is free: the equation says what every place has.
 // Ruled out: a leaking ring called safe, and a verdict where space was lacking.

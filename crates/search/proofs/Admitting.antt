@@ -34,3 +34,6 @@ module _ (T : Tables) (start commands scratch : ℕ) {t : Bool} {n : ℕ} where
         grants s e k =
             calls.searching_tests T start commands scratch
             ∙ calls.grants T start Cramped _ _ h l (rw (← k, le-leb n commands lc, le-leb n scratch s)) e k
+
+-- what the tests of `admit` come to
+pub ruleset admitting = (denies_unsound, denies_stranger, denies_commands, denies_scratch, grants)

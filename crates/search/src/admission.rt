@@ -11,6 +11,7 @@ use tables::Refusal;
 use tables::admission::Admission;
 
 // Refusal 10, then 11, then 9: `sounds` says whether the plan is sound, `commands` and `scratch` how many places those tables have.
+#[tactic(auto, using(crate::proofs::Admitting::admitting))]
 pub fn admit(sounds: bool, n: usize, start: usize, commands: usize, scratch: usize) -> Admission
     ensures { (T : Tables) → sounds ≡ sound T → n ≡ T.size.n → searching T start commands scratch
         ≡ admitted result (search (plan_in T) start) }
