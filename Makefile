@@ -40,7 +40,7 @@ target/bin/list target/bin/bench_plans: target/bin/%: $(SOURCES)
 	$(call prove,$*,run)
 	mkdir -p $(@D) && cp crates/$*/out/$* $@
 
-# `rt ci`, and then the tests on what it leaves.
+# `rt ci`, and then the tests. They build the library and the program, and so prove them once more: `rt ci` leaves nothing of that.
 test: kit need-gcc need-g++ need-cargo quick
 	tests/gate.sh
 
