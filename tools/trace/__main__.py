@@ -7,7 +7,7 @@ rule of docs/SPECIFICATION.md, and that only rules that exist are cited (rules.p
     `PATH` `name`, `name`           each is defined in the file; so are names further on, up to the next file
     `name` of `PATH`                likewise
     `name` in `PATH`, `PATH`        it is used in each; after the word contract, defined there
-    `name` of `crate::function`     a parameter of the function, or a clause of its contract
+    `name` of `crate::function`     a parameter of the function, or a clause of its contract; a method is `crate::Type::method`
     `name` in the contract of `crate::function`
                                     it is used there
     `name` of `crate`               a public function of the crate

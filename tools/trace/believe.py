@@ -1,5 +1,5 @@
 """The section of README that lists what to read: each line `N PATH ..` says how many lines the file has, comments, imports and blank lines
-left out. Of code the heads of public functions count, with their contracts."""
+left out. Of code the heads of public functions count, with their contracts; the functions of a trait that is implemented are public."""
 import re
 
 from defined import REPO
@@ -9,6 +9,7 @@ SECTION = "## What to read to believe it"
 
 def heads(text):
     """The public functions of a source file, without their bodies."""
+    text = re.sub(r"^impl\b.* for (?s:.)*?^\}", lambda m: m.group().replace("\n    fn ", "\n    pub fn "), text, flags=re.M)
     return "\n".join(m.group(0) for m in re.finditer(r'^( *)pub (?:extern "C" )?fn .*?(?=^\1\{)', text, re.M | re.S))
 
 

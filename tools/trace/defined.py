@@ -61,13 +61,18 @@ def decisions():
 
 
 def signature(path):
-    """The head of a public function named crate::function or crate::module::function, its contract included; None if there is none."""
+    """The head of a public function, its contract included; None if there is none. It is named crate::function, crate::module::function, or
+    crate::Type::method, wherever in the crate the method stands."""
     crate, *modules, name = path.split("::")
-    source = REPO / "crates" / crate / "src" / ("/".join(modules or ["lib"]) + ".rt")
-    if not source.is_file():
-        return None
-    found = re.search(rf'^ *pub (?:extern "C" )?fn {name}\b(?s:.)*?^ *\{{$', code(source), re.M)
-    return found and found.group()
+    sources = REPO / "crates" / crate / "src"
+    if modules and modules[-1][0].isupper():
+        blocks = rf"^impl\b[^{{\n]*\b{modules[-1]}\b[^{{\n]*\{{$(?s:.)*?^\}}"
+        texts = [block for source in sources.rglob("*.rt") for block in re.findall(blocks, code(source), re.M)]
+    else:
+        source = sources / ("/".join(modules or ["lib"]) + ".rt")
+        texts = [code(source)] if source.is_file() else []
+    found = (re.search(rf'^ *pub (?:extern "C" )?fn {name}\b(?s:.)*?^ *\{{$', text, re.M) for text in texts)
+    return next((head.group() for head in found if head), None)
 
 
 def names_in_head(path, name):

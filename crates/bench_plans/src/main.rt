@@ -14,20 +14,15 @@
 // every byte is 0.
 #![tactic(auto)]
 
-ghost use Rattle.std.specs.Prelude.{◌≤◌};
-ghost use Rattle.model.specs.File.{max_states, max_commands, max_outcomes};
-
 use crate::files::{print_again, print_size, read_again, write_again};
-use crate::numbers::{least, next};
+use crate::numbers::next;
 use crate::print::print_refusal;
-use crate::questions::ask_all;
-use reading::ReadAnswer;
-use tables::{Row, Size};
+use crate::questions::ask;
+use tables::{Plan, Row, Size};
 
 mod carries;
 mod contests;
 mod files;
-mod lent;
 mod numbers;
 mod print;
 mod questions;
@@ -36,6 +31,7 @@ mod trims;
 mod verdicts;
 mod warnings;
 
+// What the file is read as, and what is asked on it.
 fn try_file(
     file: &[u8],
     rows: &mut [Row],
@@ -43,40 +39,50 @@ fn try_file(
     outcomes: &mut [u16],
     questions: usize,
 ) {
-    let r = reading::read(file, rows, firsts, outcomes);
-    match r {
-        ReadAnswer::Refused(x) => {
-            print_refusal(tables::number(x));
-            let n = rows.len();
-            ask_all(
-                file,
-                Size::new(n, 0, 0, n),
+    let size = match reading::read(file, rows, firsts, outcomes) {
+        Ok(size) => {
+            let bytes = write_again(file, rows, firsts, outcomes);
+            let tables = read_again(&Plan {
+                size,
                 rows,
                 firsts,
                 outcomes,
-                questions,
-            );
-        }
-        ReadAnswer::Given(size) => {
+            });
             io::write_all(1, b"read");
             print_size(size);
-            let bytes = write_again(file, rows, firsts, outcomes);
-            let tables = read_again(size, rows, firsts, outcomes);
             print_again(bytes, tables);
-            ask_all(file, size, rows, firsts, outcomes, questions);
+            size
         }
+        Err(refusal) => {
+            print_refusal(refusal);
+            Size::new(rows.len(), 0, 0, rows.len())
+        }
+    };
+    let plan = Plan {
+        size,
+        rows,
+        firsts,
+        outcomes,
+    };
+    for _ in 0..questions {
+        ask(file, &plan);
     }
 }
 
 // Lends as many places as are asked for.
-fn lend(file: &[u8], rows: usize, firsts: usize, outcomes: usize, questions: usize)
-    requires { (rows ≤ max_states) × (firsts ≤ max_commands) × (outcomes ≤ max_outcomes) }
-{
+fn try_case() {
+    let length = next();
+    let rows = next().min(Size::STATES);
+    let firsts = next().min(Size::COMMANDS);
+    let outcomes = next().min(Size::OUTCOMES);
+    let questions = next();
+    let mut bytes = io::large_buffer();
+    let n = io::read_full(0, &mut bytes[..length]);
     let mut row_table = [Row::BLANK; Size::STATES];
     let mut first_table = [0u16; Size::COMMANDS];
     let mut outcome_table = [0u16; Size::OUTCOMES];
     try_file(
-        file,
+        &bytes[..n],
         &mut row_table[..rows],
         &mut first_table[..firsts],
         &mut outcome_table[..outcomes],
@@ -84,27 +90,8 @@ fn lend(file: &[u8], rows: usize, firsts: usize, outcomes: usize, questions: usi
     );
 }
 
-fn try_case() {
-    let length = next();
-    let rows = next();
-    let firsts = next();
-    let outcomes = next();
-    let questions = next();
-    let mut bytes = io::large_buffer();
-    let n = io::read_full(0, &mut bytes[..length]);
-    lend(
-        &bytes[..n],
-        least(rows, Size::STATES),
-        least(firsts, Size::COMMANDS),
-        least(outcomes, Size::OUTCOMES),
-        questions,
-    );
-}
-
 fn main() {
-    let mut left = next();
-    while left > 0 {
+    for _ in 0..next() {
         try_case();
-        left -= 1;
     }
 }

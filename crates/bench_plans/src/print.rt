@@ -1,36 +1,40 @@
 // Numbers, refusals and table entries, printed.
-use crate::numbers::least;
+use tables::Refusal;
 use tables::entries::NONE;
 
 // A space and a number.
-pub fn print_number(x: u64) {
+pub fn print_number(x: usize) {
     io::write_all(1, b" ");
-    io::print_decimal(1, x);
+    io::print_decimal(1, x as u64);
 }
 
 // The line of a refusal.
-pub fn print_refusal(number: u32) {
+pub fn print_refusal(refusal: Refusal) {
     io::write_all(1, b"refused");
-    print_number(number as u64);
+    print_number(u32::from(refusal) as usize);
     io::write_all(1, b"\n");
 }
 
 // A space and an entry, FFFF as -.
 pub fn print_entry(x: u16) {
-    if (x as usize) == NONE {
-        io::write_all(1, b" -");
-        return;
+    match usize::from(x) {
+        NONE => {
+            io::write_all(1, b" -");
+        }
+        number => print_number(number),
     }
-    print_number(x as u64);
 }
 
-// The first n entries of a table, each after a space, FFFF as -, and the line's end.
-pub fn print_entries(table: &[u16], n: usize) {
-    let end = least(n, table.len());
-    let mut i = 0;
-    while i < end {
-        print_entry(table[i]);
-        i += 1;
+// A table's name, its first n entries, and the line's end.
+pub fn print_entries(name: &[u8], table: &[u16], n: usize) {
+    io::write_all(1, name);
+    for entry in table.iter().take(n) {
+        print_entry(*entry);
     }
     io::write_all(1, b"\n");
+}
+
+// A table's name, all of its entries, and the line's end.
+pub fn print_table(name: &[u8], table: &[u16]) {
+    print_entries(name, table, table.len());
 }

@@ -1,104 +1,71 @@
-// The questions on a plan, one after another.
+// The questions on a plan.
 use crate::carries::ask_carry;
 use crate::contests::ask_contest;
-use crate::lent::next_places;
-use crate::numbers::{least, next, next_wide};
-use crate::trims::ask_trim;
-use crate::verdicts::ask_tables;
+use crate::numbers::{next, next_wide};
+use crate::trims::{Places, ask_trim};
+use crate::verdicts::{ask_decision, ask_search};
 use crate::warnings::ask_warning;
-use tables::{Row, Size};
+use tables::Plan;
 
-// The contest, the warning time, and both ways to ask for a trimming and for a table that is carried back, as a question names them.
-const CONTEST: usize = 2;
-
-const WARNING: usize = 3;
-
-const TRIMMING: usize = 4;
-
-const TRIMMING_ALONE: usize = 5;
-
-const CARRYING: usize = 6;
-
-const CARRYING_ALONE: usize = 7;
-
-pub fn ask(
-    size: Size,
-    rows: &[Row],
-    firsts: &[u16],
-    outcomes: &[u16],
-    call: usize,
-    state: usize,
-    number: usize,
-) {
-    if call == CONTEST {
-        ask_contest(size, rows, firsts, outcomes, state, number);
-        return;
-    }
-    if call == WARNING {
-        ask_warning(size, rows, firsts, outcomes, state, number);
-        return;
-    }
-    if call < CONTEST {
-        ask_tables(
-            size,
-            rows,
-            firsts,
-            outcomes,
-            call,
-            state,
-            least(number, Size::STATES),
-        );
-    }
+// What is asked. Where `all` is false, the answer alone is printed.
+#[derive(Clone, Copy, Debug, PartialEq, Eq)]
+enum Call {
+    Decide,
+    Search,
+    Contest,
+    Warning,
+    Trim { all: bool },
+    Carry { all: bool },
 }
 
-fn is_trimming(call: usize) -> bool {
-    if call == TRIMMING {
-        return true;
-    }
-    call == TRIMMING_ALONE
-}
+// The call that a question names.
+impl TryFrom<usize> for Call {
+    type Error = usize;
 
-fn is_carrying(call: usize) -> bool {
-    if call == CARRYING {
-        return true;
-    }
-    call == CARRYING_ALONE
-}
-
-// As many questions as the input has on this plan, or on the file that was to give it.
-pub fn ask_all(
-    file: &[u8],
-    size: Size,
-    rows: &[Row],
-    firsts: &[u16],
-    outcomes: &[u16],
-    questions: usize,
-) {
-    let mut left = questions;
-    while left > 0 {
-        let call = next();
-        if is_trimming(call) {
-            let places = next_places();
-            ask_trim(
-                size,
-                rows,
-                firsts,
-                outcomes,
-                places.rows,
-                places.firsts,
-                places.outcomes,
-                places.olds,
-                places.scratch,
-                places.holding,
-                call == TRIMMING,
-            );
-        } else if is_carrying(call) {
-            ask_carry(file, call == CARRYING);
-        } else {
-            let state = next_wide();
-            let number = next_wide();
-            ask(size, rows, firsts, outcomes, call, state, number);
+    fn try_from(number: usize) -> Result<Call, usize> {
+        match number {
+            0 => Ok(Call::Decide),
+            1 => Ok(Call::Search),
+            2 => Ok(Call::Contest),
+            3 => Ok(Call::Warning),
+            4 => Ok(Call::Trim { all: true }),
+            5 => Ok(Call::Trim { all: false }),
+            6 => Ok(Call::Carry { all: true }),
+            7 => Ok(Call::Carry { all: false }),
+            other => Err(other),
         }
-        left -= 1;
+    }
+}
+
+// A state, and a number that goes with it.
+fn next_state() -> (usize, usize) {
+    let state = next_wide();
+    (state, next_wide())
+}
+
+// The next question of the input, on this plan or on the file that was to give it.
+pub fn ask(file: &[u8], plan: &Plan) {
+    match Call::try_from(next()) {
+        Ok(Call::Decide) => {
+            let (_, places) = next_state();
+            ask_decision(plan, places);
+        }
+        Ok(Call::Search) => {
+            let (start, places) = next_state();
+            ask_search(plan, start, places);
+        }
+        Ok(Call::Contest) => {
+            let (state, moves) = next_state();
+            ask_contest(plan, state, moves);
+        }
+        Ok(Call::Warning) => {
+            let (state, seconds) = next_state();
+            ask_warning(plan, state, seconds);
+        }
+        Ok(Call::Trim { all }) => ask_trim(plan, &Places::next(), all),
+        Ok(Call::Carry { all }) => ask_carry(file, all),
+        Err(_) => {
+            next_state();
+        }
     }
 }

@@ -5,189 +5,181 @@ ghost use Rattle.model.specs.File.{max_states, max_commands, max_outcomes};
 
 use crate::carries::carry_commands;
 use crate::files::{print_again, print_size, read_again};
-use crate::lent::{hold_rows, print_lent, print_rows};
-use crate::numbers::least;
-use crate::print::print_refusal;
-use crate::same::same_tables;
-use crate::verdicts::{DECIDING, ask_tables};
-use tables::entries::at;
-use tables::{Row, Size};
-use trim::TrimAnswer;
+use crate::numbers::{next, next_entry};
+use crate::print::{print_entry, print_refusal, print_table};
+use crate::same::same_plans;
+use crate::verdicts::ask_decision;
+use tables::{Plan, Refusal, Row, Size};
+
+// How many places are lent of each table, no more than it has, and what every one of them holds: so it is seen which ones a call has
+// written.
+#[derive(Clone, Copy)]
+pub struct Places {
+    rows: usize,
+    firsts: usize,
+    outcomes: usize,
+    olds: usize,
+    scratch: usize,
+    holding: u16,
+    ghost bounded: { (rows ≤ max_states) × (firsts ≤ max_commands) × (outcomes ≤ max_outcomes) × (olds ≤ max_states)
+        × (scratch ≤ max_states) },
+}
+
+impl Places {
+    // The next six numbers of the input. Two more are passed over: a question is as long as any other.
+    pub fn next() -> Places {
+        let places = Places {
+            rows: next().min(Size::STATES),
+            firsts: next().min(Size::COMMANDS),
+            outcomes: next().min(Size::OUTCOMES),
+            olds: next().min(Size::STATES),
+            scratch: next().min(Size::STATES),
+            holding: next_entry(),
+        };
+        next();
+        next();
+        places
+    }
+}
 
 // Whether each of the first n entries is the number of its place.
 fn own_numbers(olds: &[u16], n: usize) -> bool {
-    let end = least(n, olds.len());
-    let mut i = 0;
-    while i < end {
-        if at(olds, i) != i {
-            return false;
-        }
-        i += 1;
-    }
-    end == n
+    n <= olds.len()
+        && olds
+            .iter()
+            .take(n)
+            .enumerate()
+            .all(|(i, old)| usize::from(*old) == i)
 }
 
 // Whether trimming once more gives the plan back, with every state's own number in the map.
-pub fn trim_again(size: Size, rows: &[Row], firsts: &[u16], outcomes: &[u16]) -> bool {
-    let mut rows2 = [Row::BLANK; Size::STATES];
-    let mut firsts2 = [0u16; Size::COMMANDS];
-    let mut outcomes2 = [0u16; Size::OUTCOMES];
+fn trim_again(plan: &Plan) -> bool {
+    let mut rows = [Row::BLANK; Size::STATES];
+    let mut firsts = [0u16; Size::COMMANDS];
+    let mut outcomes = [0u16; Size::OUTCOMES];
     let mut olds = [0u16; Size::STATES];
     let mut scratch = [0u16; Size::STATES];
-    let r = trim::trim(
-        size,
-        rows,
-        firsts,
-        outcomes,
-        &mut rows2[..],
-        &mut firsts2,
-        &mut outcomes2,
+    let answer = trim::trim(
+        plan,
+        &mut rows,
+        &mut firsts,
+        &mut outcomes,
         &mut olds,
         &mut scratch,
     );
-    let TrimAnswer::Given(size2) = r else {
+    let Ok(size) = answer else {
         return false;
     };
-    if !own_numbers(&olds, size.n) {
-        return false;
-    }
-    same_tables(
+    let again = Plan {
         size,
-        rows,
-        firsts,
-        outcomes,
-        size2,
-        &rows2[..],
-        &firsts2,
-        &outcomes2,
-    )
+        rows: &rows,
+        firsts: &firsts,
+        outcomes: &outcomes,
+    };
+    own_numbers(&olds, plan.size.n) && same_plans(plan, &again)
 }
 
 // The commands that deciding leaves of the trimmed plan, carried back to the n old numbers.
-pub fn carry_decided(
-    n: usize,
-    size: Size,
-    rows: &[Row],
-    firsts: &[u16],
-    outcomes: &[u16],
-    olds: &[u16],
-) {
+fn carry_decided(n: usize, plan: &Plan, olds: &[u16]) {
     let mut ranks = [0u16; Size::STATES];
     let mut commands = [0u16; Size::STATES];
     let mut marks = [0u16; Size::STATES];
     let mut scratch = [0u16; Size::STATES];
-    decide::decide(
-        size,
-        rows,
-        firsts,
-        outcomes,
-        &mut ranks,
-        &mut commands,
-        &mut marks,
-        &mut scratch,
-    );
-    carry_commands(n, olds, size.n, &commands);
+    let _ = decide::decide(plan, &mut ranks, &mut commands, &mut marks, &mut scratch);
+    carry_commands(n, olds, plan.size.n, &commands);
 }
 
-// What comes of the trimmed plan: written and read, trimmed again, decided, and its commands carried back.
-pub fn go_on(n: usize, size: Size, rows: &[Row], firsts: &[u16], outcomes: &[u16], olds: &[u16]) {
-    let written = read_again(size, rows, firsts, outcomes);
-    let trimmed = trim_again(size, rows, firsts, outcomes);
+// What comes of the trimmed plan: written and read, trimmed again, decided, and its commands carried back to the n old numbers.
+fn go_on(n: usize, plan: &Plan, olds: &[u16]) {
+    let written = read_again(plan);
+    let trimmed = trim_again(plan);
     io::write_all(1, b"again");
     print_again(written, trimmed);
-    ask_tables(size, rows, firsts, outcomes, DECIDING, 0, Size::STATES);
-    carry_decided(n, size, rows, firsts, outcomes, olds);
+    ask_decision(plan, Size::STATES);
+    carry_decided(n, plan, olds);
 }
 
-fn print_answer(r: TrimAnswer) {
-    match r {
-        TrimAnswer::Refused(x) => {
-            print_refusal(tables::number(x));
-        }
-        TrimAnswer::Given(size) => {
+fn print_answer(answer: Result<Size, Refusal>) {
+    match answer {
+        Ok(size) => {
             io::write_all(1, b"trimmed");
             print_size(size);
             io::write_all(1, b"\n");
         }
+        Err(refusal) => print_refusal(refusal),
     }
 }
 
-// Every table to its last place, and where there is a trimmed plan what comes of it; n is how many states the plan had.
-pub fn show(
-    r: TrimAnswer,
-    n: usize,
-    rows: &[Row],
-    firsts: &[u16],
-    outcomes: &[u16],
-    olds: &[u16],
-    scratch: &[u16],
-) {
-    print_rows(rows);
-    print_lent(firsts, outcomes, olds, scratch);
-    let TrimAnswer::Given(size) = r else {
-        return;
+fn print_rows(rows: &[Row]) {
+    io::write_all(1, b"rows");
+    for row in rows {
+        print_entry(row.kind);
+        print_entry(row.first);
+        print_entry(row.practice);
+    }
+    io::write_all(1, b"\n");
+}
+
+// The tables that a trimming writes, each as far as it is lent.
+struct Lent<'a> {
+    rows: &'a mut [Row],
+    firsts: &'a mut [u16],
+    outcomes: &'a mut [u16],
+    olds: &'a mut [u16],
+    scratch: &'a mut [u16],
+}
+
+impl Lent<'_> {
+    // Prints the answer, and where `all` is true every table to its last place as well, and what comes of the trimmed plan if there is one.
+    fn ask(self, plan: &Plan, all: bool) {
+        let Lent {
+            rows,
+            firsts,
+            outcomes,
+            olds,
+            scratch,
+        } = self;
+        let answer = trim::trim(plan, rows, firsts, outcomes, olds, scratch);
+        print_answer(answer);
+        if !all {
+            return;
+        }
+        print_rows(rows);
+        print_table(b"firsts", firsts);
+        print_table(b"outcomes", outcomes);
+        print_table(b"map", olds);
+        print_table(b"scratch", scratch);
+        if let Ok(size) = answer {
+            let trimmed = Plan {
+                size,
+                rows,
+                firsts,
+                outcomes,
+            };
+            go_on(plan.size.n, &trimmed, olds);
+        }
+    }
+}
+
+// Lends as many places as are asked for.
+pub fn ask_trim(plan: &Plan, places: &Places, all: bool) {
+    let x = places.holding;
+    let blank = Row {
+        kind: x,
+        first: x,
+        practice: x,
     };
-    go_on(n, size, rows, firsts, outcomes, olds);
-}
-
-// The rows hold x as the other tables do. Where `all` is false the answer alone is printed.
-pub fn try_trim(
-    size: Size,
-    rows: &[Row],
-    firsts: &[u16],
-    outcomes: &[u16],
-    rows2: &mut [Row],
-    firsts2: &mut [u16],
-    outcomes2: &mut [u16],
-    olds: &mut [u16],
-    scratch: &mut [u16],
-    x: u16,
-    all: bool,
-) {
-    hold_rows(rows2, x);
-    let r = trim::trim(
-        size, rows, firsts, outcomes, rows2, firsts2, outcomes2, olds, scratch,
-    );
-    print_answer(r);
-    if !all {
-        return;
-    }
-    show(r, size.n, rows2, firsts2, outcomes2, olds, scratch);
-}
-
-// Lends as many places of each table as are asked for: of rows, first outcomes, outcomes, map and scratch.
-pub fn ask_trim(
-    size: Size,
-    rows: &[Row],
-    firsts: &[u16],
-    outcomes: &[u16],
-    nrows: usize,
-    nfirsts: usize,
-    noutcomes: usize,
-    nolds: usize,
-    nscratch: usize,
-    x: u16,
-    all: bool,
-)
-    requires { (nrows ≤ max_states) × (nfirsts ≤ max_commands) × (noutcomes ≤ max_outcomes) × (nolds ≤ max_states)
-        × (nscratch ≤ max_states) }
-{
-    let mut rows2 = [Row::BLANK; Size::STATES];
-    let mut firsts2 = [x; Size::COMMANDS];
-    let mut outcomes2 = [x; Size::OUTCOMES];
+    let mut rows = [blank; Size::STATES];
+    let mut firsts = [x; Size::COMMANDS];
+    let mut outcomes = [x; Size::OUTCOMES];
     let mut olds = [x; Size::STATES];
     let mut scratch = [x; Size::STATES];
-    try_trim(
-        size,
-        rows,
-        firsts,
-        outcomes,
-        &mut rows2[..nrows],
-        &mut firsts2[..nfirsts],
-        &mut outcomes2[..noutcomes],
-        &mut olds[..nolds],
-        &mut scratch[..nscratch],
-        x,
-        all,
-    );
+    let lent = Lent {
+        rows: &mut rows[..places.rows],
+        firsts: &mut firsts[..places.firsts],
+        outcomes: &mut outcomes[..places.outcomes],
+        olds: &mut olds[..places.olds],
+        scratch: &mut scratch[..places.scratch],
+    };
+    lent.ask(plan, all);
 }

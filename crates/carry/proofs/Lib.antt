@@ -1,2 +1,2 @@
-pub mod Replying
 pub mod Placement
+pub mod Replying

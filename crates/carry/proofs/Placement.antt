@@ -20,13 +20,6 @@ use Rattle.model.specs.Carry.{new_in, entry_at, carried, carrying, AfterCarry, c
 use Rattle.model.specs.Carried.{Carried}
 use Rattle.model.proofs.CarryCalls.{CarrySound, carry_sound_iff, map_rise, carrying_iff}
 use Rattle.model.proofs.CarryTables.{carried_back}
-use Rattle.tables.specs.declared.Refusal.{Refusal}
-use Rattle.tables.specs.declared.admission.Admission.{Admission}
-use Rattle.tables.specs.declared.admission.Admission.TheVariants.{Granted, Denied}
-use Rattle.tables.specs.Spans.{admitted}
-use Rattle.carry.specs.declared.CarryAnswer.{CarryAnswer}
-use Rattle.carry.specs.declared.CarryAnswer.TheVariants.{Given, Refused}
-use Rattle.carry.specs.Answers.{answer_of, after_carry}
 
 module _ (n : ℕ) (olds table places : List ℕ) {blank after : List ℕ} (f : CarrySound n olds (length table))
     (v : Filled n (λ _. FFFF) places blank) (w : Placed (length olds) olds (λ i. get_or table i 0) blank after) where
@@ -55,42 +48,29 @@ module _ (n : ℕ) (olds table places : List ℕ) {blank after : List ℕ} (f : 
   unfolding carried
   carried_placed h = filled_is h placed_filled
 
-module _ (n : ℕ) (olds table places : List ℕ) where
-  -- what is promised of the call
-  abbrev pub Replied : CarryAnswer → List ℕ → Type 0
-  Replied r after = (after_carry r after ≡ carry_call n olds table places) × (answer_of r ≡ given tt → Carried n olds table after)
+-- the call goes on
+module _ (n : ℕ) (olds table places : List ℕ) (e : given (carried n olds table) ≡ carrying n olds table (length places)) where
+  fitting : CarrySound n olds (length table)
+  fitting = (carry_sound_iff n olds (length table)).0 ((carrying_iff n olds table (length places) (carried n olds table)).0 (sym e)).0
 
-  replied : (r : CarryAnswer) (after : List ℕ) → after_carry r after ≡ carry_call n olds table places → Replied r after
-  replied r after e = (
-    e,
-    λ q. subst (Carried n olds table) (sym (ap (λ (x : AfterCarry). x.places) e))
-        (carried_back n olds table places (sym (ap (λ (x : AfterCarry). x.answers) e) ∙ q)),
-  )
+  pub room : n ≤ length places
+  room = ((carrying_iff n olds table (length places) (carried n olds table)).0 (sym e)).1
 
-  module _ {g : Admission} (answers : carrying n olds table (length places) ≡ admitted g (carried n olds table)) where
-    pub refuses : (r : Refusal) → g ≡ Denied r → Replied (Refused r) places
-    unfolding answer left
-    refuses r q = replied (Refused r) places (rw (answers, q))
+  pub may_place : {k : ℕ} → k ≡ length places → (length olds ≤ length table) × RisingPlaces (length olds) olds k
+  may_place same =
+      let f = fitting in (
+        f.long,
+        record { inside = λ i l. omega (arith, f.below i l, same, room); rise = map_rise n olds (length table) f },
+      )
 
-    module _ (q : g ≡ Granted) where
-      goes_on : carrying n olds table (length places) ≡ given (carried n olds table)
-      goes_on = answers ∙ rw q
+  pub gives : {blank after : List ℕ} → Filled n (λ _. FFFF) places blank → Placed (length olds) olds (λ i. get_or table i 0) blank after
+      → record { answers = given (tt {0}); places = after } ≡ carry_call n olds table places
+  unfolding answer left
+  gives v w = rw (← e, carried_placed n olds table places fitting v w room)
 
-      fitting : CarrySound n olds (length table)
-      fitting = (carry_sound_iff n olds (length table)).0 ((carrying_iff n olds table (length places) (carried n olds table)).0 goes_on).0
-
-      pub room : n ≤ length places
-      room = ((carrying_iff n olds table (length places) (carried n olds table)).0 goes_on).1
-
-      pub may_place : {k : ℕ} → k ≡ length places
-          → (length olds ≤ length table) × RisingPlaces (length olds) olds k
-      may_place same =
-          let f = fitting in (
-            f.long,
-            record { inside = λ i l. omega (arith, f.below i l, same, room); rise = map_rise n olds (length table) f },
-          )
-
-      pub gives : {blank after : List ℕ} → Filled n (λ _. FFFF) places blank → Placed (length olds) olds (λ i. get_or table i 0) blank after
-          → Replied Given after
-      unfolding answer left
-      gives {after = after} v w = replied Given after (rw (goes_on, carried_placed n olds table places fitting v w room))
+-- what an answer means follows of the equation
+pub means : (n : ℕ) (olds table places after : List ℕ) → record { answers = given (tt {0}); places = after } ≡ carry_call n olds table places
+    → Carried n olds table after
+means n olds table places after e =
+    subst (Carried n olds table) (sym (ap (λ (x : AfterCarry). x.places) e))
+    (carried_back n olds table places (sym (ap (λ (x : AfterCarry). x.answers) e)))

@@ -1,20 +1,20 @@
 -- The choice at a state of a sound plan, by what is read of the state: the command at the first place of the trying order that is clear.
-use mathlib.Core.Path.{◌≡◌, sym, ap, ◌∙◌}
+use mathlib.Core.Path.{◌≡◌, refl, sym, ap, ◌∙◌}
 use mathlib.Core.Bool.{Bool, true, false, not}
-use mathlib.Core.List.{List, []}
+use mathlib.Core.List.{List, [], ◌∷◌}
 use mathlib.Core.Logic.{⊎_elim}
-use Prim.Native.Nat.{ℕ, ◌+◌, ◌<◌}
+use Prim.Native.Nat.{ℕ, zero, suc, ◌+◌, ◌<◌}
 use native.Mathlib.Numerals.{add-one}
 use native.Mathlib.Omega.{arith}
 use native.Mathlib.Decide.{dec_lt}
-use lib.ListN.{length}
+use lib.ListN.{length, get_or}
 use borrow.Author.Tests.{le-ltb}
+use Rattle.std.specs.Prelude.{Option as CodeOption, slice_get}
 use Rattle.laws.specs.Sets.{any, least, first, found}
 use Rattle.laws.specs.Lists.{tabulate}
-use Rattle.laws.specs.Entry.{entry}
+use Rattle.laws.specs.Entry.{FFFF}
 use Rattle.laws.specs.First.{FirstNot}
 use Rattle.laws.proofs.Tests.{clash, true_or_false}
-use Rattle.laws.proofs.Tries.{first_at}
 use Rattle.model.specs.Plan.{active, has_practice}
 use Rattle.model.specs.Verdict.{hit, hits}
 use Rattle.model.specs.Command.{try_order, choice}
@@ -29,8 +29,24 @@ use Rattle.model.proofs.Valid.{sound_valid}
 use Rattle.tables.specs.declared.spans.Span.{Span}
 use Rattle.tables.specs.Spans.{span_at}
 use Rattle.choice.specs.Within.{command_hit}
-use Rattle.choice.specs.Order.{alone, places, tried_at, hit_at, AllHit}
-use Rattle.choice.proofs.Orders.{tried_below}
+use Rattle.tables.specs.Meaning.{option_of}
+use Rattle.choice.specs.Order.{alone, places, tried_at, command_at, hit_at, AllHit}
+use Rattle.choice.proofs.Orders.{command_below}
+
+-- the member at the first place of which f does not hold is the first of which it does not
+first_got : (f : ℕ → Bool) (l : List ℕ) (r : ℕ) → FirstNot (λ i. f (get_or l i FFFF)) 0 (length l) r
+    → option_of (slice_get l r) ≡ first (λ x. not (f x)) l
+unfolding first
+first_got f [] r v = refl
+first_got f (x ∷ xs) zero v = let e : f x ≡ false = v.stops (omega arith) in rw e
+first_got f (x ∷ xs) (suc r) v =
+    let e : f x ≡ true = v.before 0 (omega arith) (omega arith) in
+    rw e (first_got f xs r (record {
+      since = omega arith;
+      until = omega (arith, v.until);
+      before = λ i p q. v.before (suc i) (omega arith) (omega arith);
+      stops = λ q. v.stops (omega arith);
+    }))
 
 module _ (T : Tables) (K : ℕ → Bool) (s : ℕ) (l : s < T.size.n) where
   -- a command's outcomes, by its place
@@ -59,9 +75,9 @@ module _ (T : Tables) (K : ℕ → Bool) (s : ℕ) (l : s < T.size.n) where
     choice_first =
         ⊎_elim (λ e. rw e) (λ e. choice_idle (plan_in T) K s e ∙ rw (none_tried (no_commands_lem e))) (true_or_false (active (plan_in T) s))
 
-    choice_at : (r : ℕ) → FirstNot (hit_at (plan_in T) K s) 0 (places (plan_in T) s) r → tried_at (plan_in T) s r ≡ entry (choice (plan_in T) K s)
-    unfolding places tried_at hit_at
-    choice_at r v = first_at (hits (plan_in T) K s) (try_order (plan_in T) s) r v ∙ ap entry (sym choice_first)
+    choice_at : (r : ℕ) → FirstNot (hit_at (plan_in T) K s) 0 (places (plan_in T) s) r → option_of (tried_at (plan_in T) s r) ≡ choice (plan_in T) K s
+    unfolding places tried_at hit_at command_at
+    choice_at r v = first_got (hits (plan_in T) K s) (try_order (plan_in T) s) r v ∙ sym choice_first
 
 -- what was read of the state s, as a plan of its own
 module _ (T : Tables) (q : Span) (s : ℕ) (l : s < T.size.n) (e : q ≡ span_at T s) where
@@ -77,14 +93,18 @@ module _ (T : Tables) (q : Span) (s : ℕ) (l : s < T.size.n) (e : q ≡ span_at
   unfolding tried_at
   tried_read i = rw order_read
 
+  command_read : (i : ℕ) → command_at (alone (lists_in T) q) 0 i ≡ command_at (plan_in T) s i
+  unfolding command_at
+  command_read i = rw order_read
+
   module _ (K : ℕ → Bool) where
     hit_read : (i : ℕ) → i < places (plan_in T) s → hit_at (alone (lists_in T) q) K 0 i ≡ hit_at (plan_in T) K s i
     unfolding hit_at hits hit
     hit_read i k =
-        let c = tried_at (plan_in T) s i in
+        let c = command_at (plan_in T) s i in
         let first_is : q.first ≡ first_command T s = ap (λ (p : Span). p.first) e in
-        let own = rw (commands_held T s l) at (tried_below (plan_in T) s i k) in
-        rw (tried_read i, first_is) (ap (λ (xs : List ℕ). found (least K xs)) (sym (outcomes_held T s l c own)))
+        let own = rw (commands_held T s l) at (command_below (plan_in T) s i k) in
+        rw (command_read i, first_is) (ap (λ (xs : List ℕ). found (least K xs)) (sym (outcomes_held T s l c own)))
 
     pub all_alone : {k : ℕ} → AllHit (plan_in T) K s k → AllHit (alone (lists_in T) q) K 0 k
     all_alone v = record {
@@ -109,6 +129,7 @@ module _ (T : Tables) (q : Span) (s : ℕ) (l : s < T.size.n) (e : q ≡ span_at
         }
 
     -- the command at the first place that is clear
-    pub first_chosen : sound T ≡ true → {r c : ℕ} → FirstNot (hit_at (alone (lists_in T) q) K 0) 0 (places (alone (lists_in T) q) 0) r
-        → c ≡ tried_at (alone (lists_in T) q) 0 r → c ≡ entry (choice (plan_in T) K s)
-    first_chosen sounds {r} v z = z ∙ tried_read r ∙ choice_at T K s l sounds r (first_read v)
+    pub first_chosen : sound T ≡ true → {r : ℕ} {c : CodeOption ℕ}
+        → FirstNot (hit_at (alone (lists_in T) q) K 0) 0 (places (alone (lists_in T) q) 0) r
+        → c ≡ tried_at (alone (lists_in T) q) 0 r → option_of c ≡ choice (plan_in T) K s
+    first_chosen sounds {r} v z = ap option_of (z ∙ tried_read r) ∙ choice_at T K s l sounds r (first_read v)

@@ -1,4 +1,3 @@
-pub mod Members
 pub mod Outcomes
 pub mod Orders
 pub mod Choices

@@ -1,23 +1,23 @@
 -- What follows of the state read and of the command chosen there.
-use mathlib.Core.Path.{◌≡◌, refl, sym, ap, ◌∙◌}
-use mathlib.Core.Bool.{Bool, true, false}
-use mathlib.Core.Option.{Option, none, some}
+use mathlib.Core.Path.{◌≡◌, sym}
+use mathlib.Core.Bool.{Bool, true}
+use mathlib.Core.Option.{some}
 use Prim.Native.Nat.{ℕ, ◌+◌, ◌<◌, ◌≤◌}
 use native.Mathlib.Numerals.{add-one}
 use native.Mathlib.Omega.{arith}
-use Rattle.laws.specs.Sets.{any}
-use Rattle.laws.specs.Entry.{FFFF, entry}
+use Rattle.std.specs.Prelude.{Option as CodeOption, Some, None, IfSome}
+use Rattle.laws.specs.Entry.{FFFF}
 use Rattle.model.specs.Command.{choice}
 use Rattle.model.specs.Tables.{Tables}
-use Rattle.model.specs.Places.{first_command, command_count, outcomes_at}
+use Rattle.model.specs.Places.{first_command, command_count}
 use Rattle.model.specs.SoundTest.{sound}
 use Rattle.model.specs.Held.{plan_in}
 use Rattle.model.proofs.Choices.{choice_some}
 use Rattle.model.proofs.HeldPlan.{commands_held}
 use Rattle.model.proofs.SoundFacts.{sound_facts}
 use Rattle.tables.specs.declared.spans.Span.{Span}
+use Rattle.tables.specs.Meaning.{option_of}
 use Rattle.tables.specs.Spans.{span_at}
-use Rattle.choice.proofs.Choices.{hits_held}
 
 module _ (T : Tables) (sounds : sound T ≡ true) (s : ℕ) (l : s < T.size.n) where
   -- the places of the commands of s are in range
@@ -27,7 +27,7 @@ module _ (T : Tables) (sounds : sound T ≡ true) (s : ℕ) (l : s < T.size.n) w
       rw (e, add-one s) (f.rises, f.below)
 
   module _ (K : ℕ → Bool) where
-    -- of a command that is chosen: its place, and that it stays out of K
+    -- of a command that is chosen: its place
     pub taken_place : (c : ℕ) → choice (plan_in T) K s ≡ some c → first_command T s + c < T.size.m
     unfolding command_count
     taken_place c e =
@@ -35,36 +35,10 @@ module _ (T : Tables) (sounds : sound T ≡ true) (s : ℕ) (l : s < T.size.n) w
         let f = ((sound_facts T).0 sounds).rows s l in
         omega (arith, commands_held T s l, f.rises, f.below)
 
-    pub taken_clear : (c : ℕ) → choice (plan_in T) K s ≡ some c → any K (outcomes_at T (first_command T s + c)) ≡ false
-    taken_clear c e =
-        let (act, own, out) = choice_some (plan_in T) K s c e in
-        sym (hits_held T K s l c (rw (commands_held T s l) at own)) ∙ out
-
     pub few_commands : (c : ℕ) → choice (plan_in T) K s ≡ some c → c < FFFF
     few_commands c e = omega (arith, taken_place c e, ((sound_facts T).0 sounds).size.few_commands)
 
-    -- an entry that was answered
-    module _ (r : ℕ) (e : r ≡ entry (choice (plan_in T) K s)) where
-      pub entry_fits : r < 65536
-      unfolding entry
-      entry_fits = go (choice (plan_in T) K s) refl
-        where
-          go : (o : Option ℕ) → choice (plan_in T) K s ≡ o → r < 65536
-          go none q = omega (arith, e ∙ ap entry q)
-          go (some c) q = omega (arith, e ∙ ap entry q, few_commands c q)
-
-      pub none_taken : r ≡ FFFF → choice (plan_in T) K s ≡ none
-      unfolding entry
-      none_taken z = go (choice (plan_in T) K s) refl
-        where
-          go : (o : Option ℕ) → choice (plan_in T) K s ≡ o → choice (plan_in T) K s ≡ none
-          go none q = q
-          go (some c) q = absurd (omega (arith, e ∙ ap entry q, few_commands c q))
-
-      pub some_taken : (r ≡ FFFF → ⊥) → choice (plan_in T) K s ≡ some r
-      unfolding entry
-      some_taken z = go (choice (plan_in T) K s) refl
-        where
-          go : (o : Option ℕ) → choice (plan_in T) K s ≡ o → choice (plan_in T) K s ≡ some r
-          go none q = absurd (z (e ∙ ap entry q))
-          go (some c) q = q ∙ ap some (sym (e ∙ ap entry q))
+    -- an answer that stands for the choice fits an entry
+    pub choice_fits : (r : CodeOption ℕ) → option_of r ≡ choice (plan_in T) K s → IfSome r (λ c. c < 65536)
+    choice_fits None e = tt
+    choice_fits (Some c) e = omega (arith, few_commands c (sym e))

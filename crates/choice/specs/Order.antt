@@ -1,5 +1,5 @@
 -- The trying order by its places, and a plan of one state, made of what was read of it.
-use Rattle.std.specs.Prelude.{◌≡◌, Bool, true, ℕ, ◌+◌, ◌-◌, ◌<◌, ◌≤◌, length, get_or}
+use Rattle.std.specs.Prelude.{◌≡◌, Bool, true, Option, ℕ, ◌+◌, ◌-◌, ◌<◌, ◌≤◌, length, get_or, slice_get}
 use Rattle.laws.specs.Entry.{FFFF}
 use Rattle.model.specs.Plan.{Plan}
 use Rattle.model.specs.Verdict.{hits}
@@ -23,13 +23,17 @@ alone L q = record {
 unfoldable pub places : Plan → ℕ → ℕ
 places P s = length (try_order P s)
 
--- the command at place i of it, and FFFF past the last
-unfoldable pub tried_at : Plan → ℕ → ℕ → ℕ
-tried_at P s i = get_or (try_order P s) i FFFF
+-- the command at place i of it, if it has so many
+unfoldable pub tried_at : Plan → ℕ → ℕ → Option ℕ
+tried_at P s i = slice_get (try_order P s) i
+
+-- as a number, FFFF past the last
+unfoldable pub command_at : Plan → ℕ → ℕ → ℕ
+command_at P s i = get_or (try_order P s) i FFFF
 
 -- the command at place i has an outcome in K
 unfoldable pub hit_at : Plan → (ℕ → Bool) → ℕ → ℕ → Bool
-hit_at P K s i = hits P K s (tried_at P s i)
+hit_at P K s i = hits P K s (command_at P s i)
 
 -- the order has k places, and the command at each of the first k has an outcome in K
 pub record AllHit (P : Plan) (K : ℕ → Bool) (s k : ℕ) : Type 0 where

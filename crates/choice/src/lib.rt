@@ -3,3 +3,4 @@
 
 pub mod choosing;
 pub mod order;
+pub mod state_set;

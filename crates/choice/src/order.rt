@@ -4,7 +4,6 @@ ghost use Rattle.std.specs.Prelude.{◌≡◌, ◌<◌, ◌≤◌};
 ghost use Rattle.model.specs.Tables.{Lists};
 ghost use Rattle.choice.specs.Order.{alone, places, tried_at};
 
-use tables::entries::NONE;
 use tables::spans::Span;
 
 // How many places the order has: a practice is tried at the first one, and again among all.
@@ -19,19 +18,19 @@ pub fn tries(span: Span) -> usize
     count
 }
 
-// The command at place i of the order, or the entry FFFF past its end.
-pub fn tried_at(span: Span, i: usize) -> usize
+// The command at place i of the order, or none past its end.
+pub fn tried_at(span: Span, i: usize) -> Option<usize>
     requires { (span.first ≤ span.end) × (span.end < 65536) }
     ensures { (L : Lists) → result ≡ tried_at (alone L span) 0 i }
 {
     if tries(span) <= i {
-        return NONE;
+        return None;
     }
     if span.end - span.first <= span.practice {
-        return i;
+        return Some(i);
     }
     if i == 0 {
-        return span.practice;
+        return Some(span.practice);
     }
-    i - 1
+    Some(i - 1)
 }

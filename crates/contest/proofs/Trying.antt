@@ -12,36 +12,32 @@ use Rattle.laws.proofs.Tests.{clash, refute}
 use Rattle.model.specs.Plan.{Plan}
 use Rattle.model.specs.Contest.{works_turn, keeper_turn, max_moves}
 use Rattle.model.proofs.Contests.{turn_tries}
-use Rattle.tables.specs.declared.Size.{Size}
-use Rattle.contest.specs.Laid.{laid_plan, Laid}
-use Rattle.contest.specs.Memo.{memo_place, code, Told, Open, Known, Remembers, Knows}
+use Rattle.contest.specs.declared.laid.LaidPlan.{LaidPlan}
+use Rattle.contest.specs.LaidPlans.{laid_as}
+use Rattle.contest.specs.declared.memo.Turn.{Turn}
+use Rattle.contest.specs.declared.memo.Turn.TheVariants.{Held, NotHeld}
+use Rattle.contest.specs.Memo.{memo_place, Told, Open, Remembers, Knows}
 use Rattle.contest.proofs.LaidPlans.{laid_commands}
 use Rattle.contest.proofs.Memos.{remembers_all, remembers_then, remembers_more}
 
 -- no command before c, of `count` in all, leaves the works a held turn
-pub record Trying (size : Size) (seeds froms tos firsts outcomes : List ℕ) (k s count c : ℕ) (memo₀ memo : List ℕ) : Type 0 where
-  pub laid : Laid size seeds froms tos firsts outcomes
-  pub inside : s < size.n
+pub record Trying (p : LaidPlan) (k s count c : ℕ) (memo₀ memo : List Turn) : Type 0 where
+  pub inside : s < p.checked.plan.size.n
   pub few : k ≤ max_moves
-  pub unknown : Open (laid_plan size seeds froms tos firsts outcomes) k s
-  pub counted : count ≡ get_or tos s 0 - get_or froms s 0
-  pub below : c ≤ count
-  pub tried : let P = laid_plan size seeds froms tos firsts outcomes in exists (works_turn P (keeper_turn P (k - 1)) s) c ≡ false
-  pub remembers : Remembers (laid_plan size seeds froms tos firsts outcomes) size.n memo₀ memo
+  pub unknown : Open (laid_as p) k s
+  pub counted : count ≡ get_or p.tos.now s 0 - get_or p.froms.now s 0
+  pub tried : exists (works_turn (laid_as p) (keeper_turn (laid_as p) (k - 1)) s) c ≡ false
+  pub remembers : Remembers (laid_as p) p.checked.plan.size.n memo₀ memo
 
-pub trying_start : {size : Size} {seeds froms tos firsts outcomes memo : List ℕ} {k s : ℕ} → Laid size seeds froms tos firsts outcomes
-    → ((s < size.n) × (k ≤ max_moves)) × Told (laid_plan size seeds froms tos firsts outcomes) size.n memo
-    → (x : ℕ) → Known (laid_plan size seeds froms tos firsts outcomes) k s x → x ≡ 0
-    → (from to : ℕ) → from ≡ get_or froms s 0 → to ≡ get_or tos s 0
-    → Trying size seeds froms tos firsts outcomes k s (to - from) 0 memo memo
+pub trying_start : {p : LaidPlan} {memo : List Turn} {k s : ℕ} → (s < p.checked.plan.size.n) × (k ≤ max_moves)
+    → Told (laid_as p) p.checked.plan.size.n memo → Open (laid_as p) k s
+    → (from to : ℕ) → from ≡ get_or p.froms.now s 0 → to ≡ get_or p.tos.now s 0 → Trying p k s (to - from) 0 memo memo
 unfolding exists
-trying_start laid (b, told) x w z from to p q = record {
-  laid = laid;
+trying_start b told o from to e f = record {
   inside = b.0;
   few = b.1;
-  unknown = w.opens z;
-  counted = rw (p, q);
-  below = omega arith;
+  unknown = o;
+  counted = rw (e, f);
   tried = refl;
   remembers = remembers_all told;
 }
@@ -52,47 +48,43 @@ turn_open {P} {k} {s} o =
     let e : k ≡ suc (k - 1) = omega (arith, o.moves) in
     ap (λ (j : ℕ). keeper_turn P j s) e ∙ turn_tries P s (k - 1) o.stands o.tries
 
-module _ {size : Size} {seeds froms tos firsts outcomes : List ℕ} {k s count c : ℕ} {memo₀ memo : List ℕ}
-    (w : Trying size seeds froms tos firsts outcomes k s count c memo₀ memo) where
+module _ {p : LaidPlan} {k s count c : ℕ} {memo₀ memo : List Turn} (w : Trying p k s count c memo₀ memo) where
   abbrev P : Plan
-  P = laid_plan size seeds froms tos firsts outcomes
+  P = laid_as p
 
   -- the works' turn at command c, as it was answered
-  abbrev Tried : List ℕ → Bool → Type 0
-  Tried memo' r = (r ≡ works_turn P (keeper_turn P (k - 1)) s c) × Remembers P size.n memo memo'
+  abbrev Tried : List Turn → Bool → Type 0
+  Tried memo' r = (r ≡ works_turn P (keeper_turn P (k - 1)) s c) × Remembers P p.checked.plan.size.n memo memo'
 
   all : count ≡ P.commands s
-  all = w.counted ∙ sym (laid_commands size seeds froms tos firsts outcomes s)
+  all = w.counted ∙ sym (laid_commands _ _ _ _ _ _ s)
 
-  pub trying_next : c < count → (memo' : List ℕ) (r : Bool) → Tried memo' r → r ≡ false
-      → Trying size seeds froms tos firsts outcomes k s count (c + 1) memo₀ memo'
+  pub trying_next : (memo' : List Turn) (r : Bool) → Tried memo' r → r ≡ false → Trying p k s count (c + 1) memo₀ memo'
   unfolding exists
-  trying_next l memo' r a f = record {
-    laid = w.laid;
+  trying_next memo' r a f = record {
     inside = w.inside;
     few = w.few;
     unknown = w.unknown;
     counted = w.counted;
-    below = omega arith;
     tried = rw (add-one c, w.tried) (sym a.0 ∙ f);
     remembers = remembers_then w.remembers a.1;
   }
 
-  module _ (place : ℕ) (p : place ≡ memo_place s k) (memo'' : List ℕ) where
-    pub trying_found : c < count → (memo' : List ℕ) (r : Bool) → Tried memo' r → r ≡ true → memo'' ≡ set memo' place 1
-        → (true ≡ keeper_turn P k s) × (Remembers P size.n memo₀ memo'' × Knows P memo'' s k)
-    unfolding code
-    trying_found l memo' r a t q =
-        let held : keeper_turn P k s ≡ true = turn_open w.unknown ∙ exists_of _ _ c (omega (arith, all)) (sym a.0 ∙ t) in
-        let known = remembers_then w.remembers a.1 in
-        (sym held, remembers_more known s k 1 w.inside w.few (rw held) place p memo'' q)
+  -- the answer, what became of the memo, and that it knows the turn
+  abbrev Turned : Bool → List Turn → Type 0
+  Turned held memo' = (held ≡ keeper_turn P k s) × (Remembers P p.checked.plan.size.n memo₀ memo' × Knows P memo' s k)
 
-    pub trying_done : count ≤ c → memo'' ≡ set memo place 2
-        → (false ≡ keeper_turn P k s) × (Remembers P size.n memo₀ memo'' × Knows P memo'' s k)
-    unfolding code
-    trying_done l q =
+  module _ (place : ℕ) (q : place ≡ memo_place s k) (memo'' : List Turn) where
+    pub trying_found : c < count → (memo' : List Turn) (r : Bool) → Tried memo' r → r ≡ true → memo'' ≡ set memo' place Held
+        → Turned true memo''
+    trying_found l memo' r a t e =
+        let held : keeper_turn P k s ≡ true = turn_open w.unknown ∙ exists_of _ _ c (omega (arith, all)) (sym a.0 ∙ t) in
+        (sym held, remembers_more (remembers_then w.remembers a.1) s k true w.inside w.few (sym held) place q memo'' e)
+
+    pub trying_done : count ≤ c → memo'' ≡ set memo place NotHeld → Turned false memo''
+    trying_done l e =
         let held : keeper_turn P k s ≡ false = turn_open w.unknown ∙ none in
-        (sym held, remembers_more w.remembers s k 2 w.inside w.few (rw held) place p memo'' q)
+        (sym held, remembers_more w.remembers s k false w.inside w.few (sym held) place q memo'' e)
       where
         none : exists (works_turn P (keeper_turn P (k - 1)) s) (P.commands s) ≡ false
         none = refute _ (λ t.

@@ -1,11 +1,9 @@
 -- What the answer of the contest stands for.
-use Rattle.std.specs.Prelude.{Bool}
-use Rattle.model.specs.Refusal.{Answer, given, refused}
-use Rattle.tables.specs.Meaning.{refusal_of}
-use Rattle.contest.specs.declared.ContestAnswer.{ContestAnswer}
-use Rattle.contest.specs.declared.ContestAnswer.TheVariants.{Given, Refused}
+use Rattle.std.specs.Prelude.{Bool, Result}
+use Rattle.model.specs.Refusal.{Answer}
+use Rattle.tables.specs.declared.Refusal.{Refusal}
+use Rattle.tables.specs.Meaning.{answered}
 
 -- whether the keeper's turn is held, or the refusal
-abbrev pub answer_of : ContestAnswer → Answer Bool
-answer_of (Given held) = given held
-answer_of (Refused r) = refused (refusal_of r)
+abbrev pub answer_of : Result Bool Refusal → Answer Bool
+answer_of = answered (λ held. held)

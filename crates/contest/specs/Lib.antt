@@ -1,3 +1,4 @@
 pub mod Laid
 pub mod Memo
 pub mod Answers
+pub mod LaidPlans

@@ -1,29 +1,24 @@
-// What the contest is refused with.
+// What the contest over a sound plan is refused with.
 ghost use Rattle.std.specs.Prelude.{◌≡◌};
-ghost use Rattle.model.specs.Tables.{Tables};
-ghost use Rattle.model.specs.SoundTest.{sound};
 ghost use Rattle.model.specs.Held.{plan_in};
 ghost use Rattle.model.specs.Contest.{keeper_turn, contest_call};
-ghost use Rattle.tables.specs.Spans.{admitted};
+ghost use Rattle.tables.specs.Meaning.{answered, lent};
 
 use crate::memo::MOVES;
 use tables::Refusal;
-use tables::admission::Admission;
+use tables::sound_plan::SoundPlan;
 
-// Refusal 10, then 11, then 12: `sounds` says whether the plan is sound.
+// Refusal 11, then 12.
 #[tactic(auto, using(crate::proofs::Replying::admitting))]
-pub fn admit(sounds: bool, n: usize, state: usize, moves: usize) -> Admission
-    ensures { (T : Tables) → sounds ≡ sound T → n ≡ T.size.n → contest_call T state moves
-        ≡ admitted result (keeper_turn (plan_in T) moves state) }
+pub fn admit(checked: &SoundPlan, state: usize, moves: usize) -> Result<(), Refusal>
+    ensures { let T = lent checked.now.plan in
+        contest_call T state moves ≡ answered (λ _. keeper_turn (plan_in T) moves state) result }
 {
-    if !sounds {
-        return Admission::Denied(Refusal::Unsound);
-    }
-    if n <= state {
-        return Admission::Denied(Refusal::Stranger);
+    if checked.plan.size.n <= state {
+        return Err(Refusal::Stranger);
     }
     if MOVES < moves {
-        return Admission::Denied(Refusal::Moves);
+        return Err(Refusal::Moves);
     }
-    Admission::Granted
+    Ok(())
 }

@@ -2,7 +2,7 @@
 ghost use Rattle.std.specs.Prelude.{◌≡◌, ◌<◌, ◌≤◌};
 ghost use Rattle.model.specs.File.{max_states};
 ghost use Rattle.model.specs.Contest.{max_moves};
-ghost use Rattle.contest.specs.Memo.{memo_place};
+ghost use Rattle.contest.specs.Memo.{memo_place, turn_of};
 
 use tables::Size;
 
@@ -15,12 +15,21 @@ const TURNS: usize = MOVES + 1;
 // How many places the memo has.
 pub const PLACES: usize = Size::STATES * TURNS;
 
-// The entries. The memo is made of zeros, so at first nothing is known.
-pub const UNKNOWN: usize = 0;
+// What the memo has of a turn. At first nothing is known.
+#[derive(Clone, Copy, Debug, PartialEq, Eq)]
+pub enum Turn {
+    Unknown,
+    Held,
+    NotHeld,
+}
 
-pub const HELD: usize = 1;
+impl From<bool> for Turn {
+    ghost from_gives = { λ held turn. turn ≡ turn_of held };
 
-pub const NOT_HELD: usize = 2;
+    fn from(held: bool) -> Turn {
+        if held { Turn::Held } else { Turn::NotHeld }
+    }
+}
 
 // The place of the turn at s with k moves left.
 pub fn memo_place(s: usize, k: usize) -> usize

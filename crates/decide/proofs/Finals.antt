@@ -20,11 +20,10 @@ use Rattle.model.specs.Held.{plan_in}
 use Rattle.model.specs.Calls.{rank_table, command_table, mark_table, cleared}
 use Rattle.model.proofs.PracticeHits.{fault_hits}
 use Rattle.model.proofs.HeldPlan.{states_held}
-use Rattle.tables.specs.declared.Row.{Row}
-use Rattle.tables.specs.declared.Size.{Size}
-use Rattle.tables.specs.Meaning.{held}
+use Rattle.tables.specs.declared.sound_plan.SoundPlan.{SoundPlan}
+use Rattle.tables.specs.Meaning.{lent}
 use Rattle.nets.specs.Found.{Found}
-use Rattle.decide.specs.Verdicts.{numbered, unless_lost, one_if, mark_at, StatesJudged}
+use Rattle.decide.specs.Verdicts.{numbered, unless_lost, mark_at, StatesJudged}
 use Rattle.nets.proofs.PlanHits.{choice_agree, practice_hits_agree}
 use Rattle.nets.proofs.Depths.{lost_found}
 use Rattle.decide.proofs.Tallies.{tally_same, tally_is}
@@ -59,7 +58,7 @@ module _ (T : Tables) (sounds : sound T ≡ true) (L F : ℕ → Bool) (losts : 
       (ap entry (lost_or_safe (lost P s) none (choice P (lost P) s)))
 
   mark_found : (s : ℕ) → s < T.size.n → mark_at P L (F s) s ≡ mark P s
-  unfolding mark_at one_if mark safe
+  unfolding mark_at mark safe
   mark_found s l = rw (fault_hits P s, fails s l, losts s l, practice_hits_agree T sounds L (lost P) losts s l)
 
   tally_found : tally_of L (has_practice P) F T.size.n ≡ tally P
@@ -67,22 +66,22 @@ module _ (T : Tables) (sounds : sound T ≡ true) (L F : ℕ → Bool) (losts : 
       tally_same (has_practice P) T.size.n F (practice_fails P) fails L (lost P) losts
       ∙ ap (tally_of (lost P) (has_practice P) (practice_fails P)) (sym (states_held T)) ∙ tally_is P
 
-module _ (size : Size) (rows : List Row) (firsts outcomes : List ℕ) (sounds : sound (held size rows firsts outcomes) ≡ true) where
+module _ (p : SoundPlan) where
   pub plan_decided : {rs cs ms ss r₁ c₁ m₁ s₁ c₂ m₂ s₂ : List ℕ} {t : List (List ℕ)}
-      → size.n ≤ length rs → size.n ≤ length cs → size.n ≤ length ms → size.n ≤ length ss
-      → Found (held size rows firsts outcomes) rs cs ms ss r₁ c₁ m₁ s₁
-      → StatesJudged (plan_in (held size rows firsts outcomes)) (numbered r₁) size.n c₁ m₁ t c₂ m₂ → Filled size.n (λ _. 0) s₁ s₂
-      → PlanDecided (held size rows firsts outcomes) rs cs ms ss t r₁ c₂ m₂ s₂
+      → let T = lent p.plan in
+      T.size.n ≤ length rs → T.size.n ≤ length cs → T.size.n ≤ length ms → T.size.n ≤ length ss
+      → Found T rs cs ms ss r₁ c₁ m₁ s₁ → StatesJudged (plan_in T) (numbered r₁) T.size.n c₁ m₁ t c₂ m₂ → Filled T.size.n (λ _. 0) s₁ s₂
+      → PlanDecided T rs cs ms ss t r₁ c₂ m₂ s₂
   unfolding rank_table command_table mark_table cleared
   plan_decided {rs} {cs} {ms} {ss} {r₁ = r₁} {m₁ = m₁} lr lc lm ls v j z =
-      let T = held size rows firsts outcomes in
-      let losts = lost_found size rows firsts outcomes sounds v.ranked in
+      let T = lent p.plan in
+      let losts = lost_found p.plan.size p.plan.rows.now p.plan.firsts.now p.plan.outcomes.now p.sounds v.ranked in
       record {
-        tallied = j.counted ∙ tally_found T sounds (numbered r₁) (numbered m₁) losts v.failed;
+        tallied = j.counted ∙ tally_found T p.sounds (numbered r₁) (numbered m₁) losts v.failed;
         ranked = table_is T lr v.ranked;
-        chose = table_is T lc (filled_as (chosen_found T sounds (numbered r₁) (numbered m₁) losts v.failed)
+        chose = table_is T lc (filled_as (chosen_found T p.sounds (numbered r₁) (numbered m₁) losts v.failed)
             (filled_over v.tos_past j.took));
-        marked = table_is T lm (filled_as (mark_found T sounds (numbered r₁) (numbered m₁) losts v.failed)
+        marked = table_is T lm (filled_as (mark_found T p.sounds (numbered r₁) (numbered m₁) losts v.failed)
             (filled_over v.fails_past j.marked));
         clean = table_is T ls (filled_over v.scratch_past z)
             ∙ ap (λ (l : List ℕ). overwrite l ss) (tabulate_constant 0 0 (plan_in T).states);

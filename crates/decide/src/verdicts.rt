@@ -1,193 +1,161 @@
 // The last pass over the states: commands, practice marks and the tally.
-ghost use Rattle.std.specs.Prelude.{◌≡◌, true, not, ◌&&◌, List, ℕ, ◌+◌, ◌<◌, ◌≤◌, eqb, length};
-ghost use Rattle.laws.specs.Entry.{entry};
-ghost use Rattle.model.specs.File.{max_states};
-ghost use Rattle.model.specs.SoundTest.{sound};
+ghost use Rattle.std.specs.Prelude.{◌≡◌, not, ◌&&◌, [], ℕ, ◌<◌, ◌≤◌, get_or, length};
+ghost use Rattle.laws.specs.Entry.{highest};
 ghost use Rattle.model.specs.Held.{plan_in};
 ghost use Rattle.model.specs.Command.{choice};
 ghost use Rattle.model.specs.Practice.{mark_of};
-ghost use Rattle.tables.specs.declared.Row.{Row};
-ghost use Rattle.tables.specs.Meaning.{held};
-ghost use Rattle.tables.specs.Spans.{span_at, commands_of};
-ghost use Rattle.tables.specs.Seen.{Seen};
-ghost use Rattle.tables.specs.Ready.{Ready};
+ghost use Rattle.tables.specs.Meaning.{lent, option_of};
+ghost use Rattle.tables.specs.Spans.{span_at};
+ghost use Rattle.choice.specs.Within.{members};
 ghost use Rattle.nets.specs.Nets.{practised};
-ghost use Rattle.decide.specs.Verdicts.{numbered, unless_lost, one_if, column_of, added, Counts, StateJudged, StatesJudged};
+ghost use Rattle.decide.specs.Verdicts.{numbered, unless_lost, is_other, practice_of, one_more, Low, added, StateJudged, StatesJudged};
 
+use crate::Tally;
 use choice::choosing::choose;
+use choice::state_set::StateSet;
 use nets::propagations::has_practice;
-use tables::entries::{HIGHEST, NONE, at, put};
-use tables::spans::{Span, span_at};
-use tables::{Row, Size};
+use tables::entries::{HIGHEST, put, put_option};
+use tables::sound_plan::SoundPlan;
+use tables::spans::Span;
 
-// A place of the tally.
-#[derive(Clone, Copy)]
-pub struct Place {
-    pub row: usize,
-    pub column: usize,
+// What a state's practice comes to: the columns of the tally, in their order.
+#[derive(Clone, Copy, Debug, PartialEq, Eq)]
+pub enum Practice {
+    Holds,
+    Fails,
+    Missing,
 }
 
-// Whether the entry of s is a number.
-fn has_number(table: &[u16], s: usize) -> bool
-    requires { s < length table.now }
-    ensures { result ≡ numbered table.now s }
+// A place of the tally.
+#[derive(Clone, Copy, Debug, PartialEq, Eq)]
+pub struct Place {
+    pub lost: bool,
+    pub practice: Practice,
+}
+
+// The states whose entry is a number.
+pub fn numbered(table: &[u16]) -> StateSet<'_>
+    ensures { (result.table.now ≡ table.now) × (result.limit ≡ highest) }
 {
-    at(table, s) <= HIGHEST
+    StateSet {
+        table,
+        limit: HIGHEST,
+    }
 }
 
 // The command of a state, of which `span` was read: none where it is lost.
-fn command_of(
-    size: Size,
-    span: Span,
-    firsts: &[u16],
-    outcomes: &[u16],
-    ranks: &[u16],
-    lost: bool,
-) -> usize
-    requires ready { Ready size.n (commands_of size firsts.now outcomes.now) }
-    requires first_le_end { (span.first ≤ span.end) × (span.end ≤ size.m) × (size.n ≤ length ranks.now) }
-    ensures { (R : List Row) (s : ℕ) →
-        let T = held size R firsts.now outcomes.now in
-        sound T ≡ true → s < size.n → span ≡ span_at T s
-        → result ≡ entry (unless_lost lost (choice (plan_in T) (numbered ranks.now) s)) }
+#[tactic(auto, unfolding(crate::specs::Verdicts::unless_lost))]
+fn command_of(checked: &SoundPlan, span: Span, lost: &StateSet, is_lost: bool) -> Option<usize>
+    requires { (span.first ≤ span.end) × (span.end ≤ checked.now.plan.size.m) × (checked.now.plan.size.n ≤ length lost.now.table.now) }
+    ensures { let T = lent checked.now.plan in
+        (s : ℕ) → s < T.size.n → span ≡ span_at T s
+        → option_of result ≡ unless_lost is_lost (choice (plan_in T) (members lost.now) s) }
 {
-    if lost {
-        return NONE;
+    if is_lost {
+        return None;
     }
-    choose(size, span, firsts, outcomes, ranks, HIGHEST)
+    choose(checked, span, lost)
 }
 
 // Whether the state, of which `span` was read, is a fault: it is safe, and the command chosen there is not the practice that it has. The
 // practice is tried first, so another command is chosen only if the practice has a lost outcome.
-fn is_fault(span: Span, lost: bool, command: usize) -> bool
+fn is_fault(span: Span, is_lost: bool, command: Option<usize>) -> bool
     requires { span.first ≤ span.end }
-    ensures { result ≡ (not lost && (practised span && not (eqb command span.practice))) }
+    ensures { result ≡ (not is_lost && (practised span && is_other command span.practice)) }
 {
-    if lost {
-        return false;
-    }
-    if !has_practice(span) {
-        return false;
-    }
-    command != span.practice
-}
-
-fn one_if(b: bool) -> usize
-    ensures { result ≡ one_if b }
-{
-    if b {
-        return 1;
-    }
-    0
+    !is_lost && has_practice(span) && command != Some(span.practice)
 }
 
 // A state's practice mark (rule V13).
 fn mark_of(fails: bool, fault: bool) -> usize
     ensures { result ≡ mark_of fails fault }
 {
-    let mark = one_if(fails);
-    if fault {
-        return mark + 2;
-    }
-    mark
+    usize::from(fails) + 2 * usize::from(fault)
 }
 
-fn column_of(given: bool, fails: bool) -> usize
-    ensures { result ≡ column_of given fails }
+fn practice_of(given: bool, fails: bool) -> Practice
+    ensures { result ≡ practice_of given fails }
 {
     if !given {
-        return 2;
+        return Practice::Missing;
     }
-    one_if(fails)
+    if fails {
+        Practice::Fails
+    } else {
+        Practice::Holds
+    }
 }
 
-// Judges state s, of which `span` was read: writes its command and its mark, and answers its place in the tally.
+// Judges state s: writes its command and its mark, and answers its place in the tally.
+#[tactic(auto, using(choice::proofs::Taken::span_inside))]
 fn judge(
-    size: Size,
-    span: Span,
-    firsts: &[u16],
-    outcomes: &[u16],
-    ranks: &[u16],
+    checked: &SoundPlan,
+    lost: &StateSet,
     commands: &mut [u16],
     marks: &mut [u16],
     s: usize,
 ) -> Place
-    requires ready { Ready size.n (commands_of size firsts.now outcomes.now) }
-    requires seen { Seen size firsts.now outcomes.now s span }
-    requires n_in_bounds { (size.n ≤ length ranks.now) × (size.n ≤ length commands.old) × (size.n ≤ length marks.old) }
-    ensures { (R : List Row) →
-        let T = held size R firsts.now outcomes.now in
-        sound T ≡ true → span ≡ span_at T s
-        → StateJudged (plan_in T) (numbered ranks.now) (numbered marks.old s) s
+    requires s_in_bounds { s < checked.now.plan.size.n }
+    requires n_in_bounds { let n = checked.now.plan.size.n in
+        (n ≤ length lost.now.table.now) × (n ≤ length commands.old) × (n ≤ length marks.old) }
+    ensures { StateJudged (plan_in (lent checked.now.plan)) (members lost.now) (numbered marks.old s) s
         commands.old marks.old result commands.new marks.new }
 {
-    let lost = has_number(ranks, s);
-    let fails = has_number(marks, s);
-    let command = command_of(size, span, firsts, outcomes, ranks, lost);
-    put(commands, s, command);
-    let fault = is_fault(span, lost, command);
+    let span = checked.span(s);
+    let is_lost = lost.contains(s);
+    let fails = numbered(marks).contains(s);
+    let command = command_of(checked, span, lost, is_lost);
+    put_option(commands, s, command);
+    let fault = is_fault(span, is_lost, command);
     put(marks, s, mark_of(fails, fault));
     Place {
-        row: one_if(lost),
-        column: column_of(has_practice(span), fails),
+        lost: is_lost,
+        practice: practice_of(has_practice(span), fails),
     }
 }
 
-// A count, with one more where the state belongs to it.
-fn more_if(count: u16, here: bool) -> u16
-    requires { count < max_states }
-    ensures { result ≡ count + one_if here }
+// A row of the tally, with one more in a column where the state belongs to the row. Each count is made anew at a place of its own: a store
+// at a place that is known only when the code runs would have every turn wait for the copy of the one before.
+fn add_in_row(row: [u16; 3], here: bool, practice: Practice) -> [u16; 3]
+    requires { Low row }
+    ensures { result ≡ one_more row here practice }
 {
-    if here {
-        return count + 1;
-    }
-    count
+    [
+        row[0] + u16::from(here && practice == Practice::Holds),
+        row[1] + u16::from(here && practice == Practice::Fails),
+        row[2] + u16::from(here && practice == Practice::Missing),
+    ]
 }
 
-// One more at a place of the tally. Each count is made anew at a place of its own: a store at a place that is known only when the code runs
-// would have every turn wait for the copy of the one before.
-fn add(t: [[u16; 3]; 2], r: usize, c: usize) -> [[u16; 3]; 2]
-    requires { (r < 2) × (c < 3) × Counts t }
-    ensures { result ≡ added t r c }
+// One more at a place of the tally.
+fn add(tally: Tally, place: Place) -> Tally
+    requires { Low (get_or tally 0 []) × Low (get_or tally 1 []) }
+    ensures { result ≡ added tally place }
 {
-    let k = r * 3 + c;
-    let safe = [
-        more_if(t[0][0], k == 0),
-        more_if(t[0][1], k == 1),
-        more_if(t[0][2], k == 2),
-    ];
-    let lost = [
-        more_if(t[1][0], k == 3),
-        more_if(t[1][1], k == 4),
-        more_if(t[1][2], k == 5),
-    ];
-    [safe, lost]
+    [
+        add_in_row(tally[0], !place.lost, place.practice),
+        add_in_row(tally[1], place.lost, place.practice),
+    ]
 }
 
 // Judges every state, and answers the tally.
 pub fn judge_all(
-    size: Size,
-    rows: &[Row],
-    firsts: &[u16],
-    outcomes: &[u16],
-    ranks: &[u16],
+    checked: &SoundPlan,
+    lost: &StateSet,
     commands: &mut [u16],
     marks: &mut [u16],
-) -> [[u16; 3]; 2]
-    requires outcomes_value { sound (held size rows.now firsts.now outcomes.now) ≡ true }
-    requires n_in_bounds { (size.n ≤ length ranks.now) × (size.n ≤ length commands.old) × (size.n ≤ length marks.old) }
-    ensures { let T = held size rows.now firsts.now outcomes.now in
-        StatesJudged (plan_in T) (numbered ranks.now) size.n
+) -> Tally
+    requires n_in_bounds { let n = checked.now.plan.size.n in
+        (n ≤ length lost.now.table.now) × (n ≤ length commands.old) × (n ≤ length marks.old) }
+    ensures { StatesJudged (plan_in (lent checked.now.plan)) (members lost.now) checked.now.plan.size.n
         commands.old marks.old result commands.new marks.new }
 {
-    let mut tally = [[0u16; 3]; 2];
-    let mut s = 0;
-    while s < size.n {
-        let span = span_at(size, rows, s);
-        let place = judge(size, span, firsts, outcomes, ranks, commands, marks, s);
-        let next = add(tally, place.row, place.column);
+    let mut tally = [[0; 3]; 2];
+    for s in 0..checked.plan.size.n {
+        let place = judge(checked, lost, commands, marks, s);
+        // By way of `next`: an array that is passed on by value gets no proof where the call's result is laid in it again.
+        let next = add(tally, place);
         tally = next;
-        s += 1;
     }
     tally
 }

@@ -4,6 +4,7 @@ use mathlib.Core.List.{List}
 use Prim.Native.Nat.{ℕ, ◌≤◌}
 use native.Mathlib.Omega.{arith}
 use lib.ListN.{length, take, length-map}
+use Rattle.std.specs.Prelude.{Result, Ok, Err}
 use Rattle.model.specs.Refusal.{given, refused, answer}
 use Rattle.model.specs.Bytes.{bytes_of}
 use Rattle.model.specs.Tables.{Tables, Same, file_length}
@@ -18,17 +19,14 @@ use Rattle.tables.specs.declared.Size.{Size}
 use Rattle.tables.specs.declared.Row.{Row}
 use Rattle.tables.specs.declared.Refusal.{Refusal}
 use Rattle.tables.specs.Meaning.{numbers, refusal_of, row_of, rows_of, held}
-use Rattle.reading.specs.declared.ReadAnswer.{ReadAnswer}
 use Rattle.reading.specs.Answers.{after_read, answer_of as readAnswer}
-use Rattle.writing.specs.declared.WriteAnswer.{WriteAnswer}
-use Rattle.writing.specs.declared.WriteAnswer.TheVariants.{Given, Refused}
 use Rattle.writing.specs.Answers.{answer_of as writeAnswer, after_write}
 use Rattle.format.specs.Trips.{AfterWriteRead, then_read, write_read_call}
 use Rattle.format.specs.Meaning.{after_write_read}
 
 -- what is written fits the bytes lent
-pub written_fits : (T : Tables) (bytes : List ℕ) (w : WriteAnswer) {bytes' : List ℕ} (k : ℕ) → after_write w bytes' ≡ write_call T bytes → w
-    ≡ Given k → k ≤ length bytes
+pub written_fits : (T : Tables) (bytes : List ℕ) (w : Result ℕ Refusal) {bytes' : List ℕ} (k : ℕ) → after_write w bytes' ≡ write_call T bytes → w
+    ≡ Ok k → k ≤ length bytes
 written_fits T bytes w k e q =
     let (file, written, count) = answer_inv length (writing T (length bytes)) k
     (ap (λ (x : AfterWrite). x.answers) (sym e) ∙ ap writeAnswer q) in
@@ -53,13 +51,13 @@ module _ (z : Size) (rows : List Row) (firsts outcomes bytes : List ℕ) (rows2 
       long_outcomes)
 
   -- both clauses
-  abbrev Says : ReadAnswer → List ℕ → List Row → List ℕ → List ℕ → Type 0
+  abbrev Says : Result Size Refusal → List ℕ → List Row → List ℕ → List ℕ → Type 0
   Says r bytes' rows' firsts' outcomes' =
       (after_write_read r bytes' rows' firsts' outcomes' ≡ whole)
       × (Sound T → file_length T ≤ length bytes → z.n ≤ length rows2 → z.m ≤ length firsts2 → z.t ≤ length outcomes2
       → (readAnswer r ≡ given T.size) × Same T (held z rows' firsts' outcomes'))
 
-  says : (r : ReadAnswer) (bytes' : List ℕ) (rows' : List Row) (firsts' outcomes' : List ℕ)
+  says : (r : Result Size Refusal) (bytes' : List ℕ) (rows' : List Row) (firsts' outcomes' : List ℕ)
       → after_write_read r bytes' rows' firsts' outcomes' ≡ whole → Says r bytes' rows' firsts' outcomes'
   says r bytes' rows' firsts' outcomes' e = (
     e,
@@ -72,26 +70,25 @@ module _ (z : Size) (rows : List Row) (firsts outcomes bytes : List ℕ) (rows2 
   )
 
   -- the equation of the writing's contract
-  module _ (w : WriteAnswer) (bytes' : List ℕ) (f : after_write w bytes' ≡ write_call T bytes) where
+  module _ (w : Result ℕ Refusal) (bytes' : List ℕ) (f : after_write w bytes' ≡ write_call T bytes) where
     a : writeAnswer w ≡ (write_call T bytes).answers
     a = ap (λ (x : AfterWrite). x.answers) f
 
     s : bytes' ≡ (write_call T bytes).bytes
     s = ap (λ (x : AfterWrite). x.bytes) f
 
-    pub tables_refused : (x : Refusal) → w ≡ Refused x → (r : ReadAnswer) → readAnswer r ≡ refused (refusal_of x)
-        → Says r bytes' rows2 firsts2 outcomes2
+    pub tables_refused : (x : Refusal) → w ≡ Err x → Says (Err x) bytes' rows2 firsts2 outcomes2
     unfolding then_read
-    tables_refused x q r c =
+    tables_refused x q =
         let d : (write_call T bytes).answers ≡ refused (refusal_of x) = sym a ∙ ap writeAnswer q in
-        let kept : record { answers = readAnswer r; rows = rows_of rows2; firsts = firsts2; outcomes = outcomes2 }
+        let kept : record { answers = refused (refusal_of x); rows = rows_of rows2; firsts = firsts2; outcomes = outcomes2 }
         ≡ then_read (write_call T bytes) (write_call T bytes).answers (rows_of rows2) firsts2 outcomes2
-        = rw (d, c) refl in
-        says r bytes' rows2 firsts2 outcomes2
+        = rw d refl in
+        says (Err x) bytes' rows2 firsts2 outcomes2
         (λ i. record { answers = (kept i).answers; bytes = s i; rows = (kept i).rows; firsts = (kept i).firsts; outcomes = (kept i).outcomes })
 
     -- with that of the reading's
-    pub tables_read : (k : ℕ) → w ≡ Given k → (r : ReadAnswer) (rows' : List Row) (firsts' outcomes' : List ℕ)
+    pub tables_read : (k : ℕ) → w ≡ Ok k → (r : Result Size Refusal) (rows' : List Row) (firsts' outcomes' : List ℕ)
         → after_read r rows' firsts' outcomes' ≡ read_call (take k bytes') (rows_of rows2) firsts2 outcomes2
         → Says r bytes' rows' firsts' outcomes'
     unfolding then_read

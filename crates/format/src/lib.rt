@@ -3,33 +3,19 @@
 
 ghost use Rattle.std.specs.Prelude.{◌≡◌, ◌≤◌, length};
 ghost use Rattle.laws.specs.Lists.{overwrite};
-ghost use Rattle.model.specs.Refusal.{given, refused};
+ghost use Rattle.model.specs.Refusal.{given};
 ghost use Rattle.model.specs.Tables.{Size as ModelSize, Same, file_length};
 ghost use Rattle.model.specs.Sound.{Sound};
 ghost use Rattle.model.specs.Calls.{read_call};
-ghost use Rattle.tables.specs.Meaning.{refusal_of, rows_of, held};
+ghost use Rattle.tables.specs.Meaning.{rows_of, held, lent};
 ghost use Rattle.reading.specs.Answers.{answer_of as readAnswer};
 ghost use Rattle.writing.specs.Answers.{answer_of as writeAnswer};
 ghost use Rattle.format.specs.Trips.{read_write_call, write_read_call};
 ghost use Rattle.format.specs.Meaning.{after_read_write, after_write_read};
 
-use reading::ReadAnswer;
-use tables::{Refusal, Row, Size};
-use writing::WriteAnswer;
-
-// A file that is not read is not written.
-fn not_read(why: Refusal) -> WriteAnswer
-    ensures { writeAnswer result ≡ refused (refusal_of why) }
-{
-    WriteAnswer::Refused(why)
-}
-
-// Tables that are not written are not read again.
-fn not_written(why: Refusal) -> ReadAnswer
-    ensures { readAnswer result ≡ refused (refusal_of why) }
-{
-    ReadAnswer::Refused(why)
-}
+use reading::read;
+use tables::{Plan, Refusal, Row, Size};
+use writing::write;
 
 // Reads a file into lent tables, and writes what was read into lent bytes. The clause `again`: if it is read and as many bytes are lent
 // as it has, these are its bytes. Ruled out: other bytes than the file's, and bytes written though the file is refused.
@@ -39,7 +25,7 @@ pub fn read_write(
     firsts: &mut [u16],
     outcomes: &mut [u16],
     bytes: &mut [u8],
-) -> WriteAnswer
+) -> Result<usize, Refusal>
     ensures call { after_read_write result rows.new firsts.new outcomes.new bytes.new
         ≡ read_write_call file.now (rows_of rows.old) firsts.old outcomes.old bytes.old }
     ensures again { (z : ModelSize)
@@ -47,37 +33,33 @@ pub fn read_write(
         → length file.now ≤ length bytes.old → (writeAnswer result ≡ given (length file.now))
         × (bytes.new ≡ overwrite file.now bytes.old) }
 {
-    let r = reading::read(file, rows, firsts, outcomes);
-    match r {
-        ReadAnswer::Refused(refusal) => not_read(refusal),
-        ReadAnswer::Given(size) => writing::write(size, rows, firsts, outcomes, bytes),
-    }
+    let size = read(file, rows, firsts, outcomes)?;
+    let plan = Plan {
+        size,
+        rows,
+        firsts,
+        outcomes,
+    };
+    write(&plan, bytes)
 }
 
 // Writes lent tables into lent bytes, and reads what was written into a second set of tables. The clause `again`: if the tables are
 // sound, and what is lent is long enough, the second are the same. Ruled out: a sound plan that does not come back, and reading past what
 // was written.
 pub fn write_read(
-    size: Size,
-    rows: &[Row],
-    firsts: &[u16],
-    outcomes: &[u16],
+    plan: &Plan,
     bytes: &mut [u8],
     rows2: &mut [Row],
     firsts2: &mut [u16],
     outcomes2: &mut [u16],
-) -> ReadAnswer
+) -> Result<Size, Refusal>
     ensures call { after_write_read result bytes.new rows2.new firsts2.new outcomes2.new
-        ≡ write_read_call (held size rows.now firsts.now outcomes.now) bytes.old
-        (rows_of rows2.old) firsts2.old outcomes2.old }
-    ensures again { let T = held size rows.now firsts.now outcomes.now in
+        ≡ write_read_call (lent plan.now) bytes.old (rows_of rows2.old) firsts2.old outcomes2.old }
+    ensures again { let T = lent plan.now in
         Sound T → file_length T ≤ length bytes.old
-        → size.n ≤ length rows2.old → size.m ≤ length firsts2.old → size.t ≤ length outcomes2.old
-        → (readAnswer result ≡ given T.size) × Same T (held size rows2.new firsts2.new outcomes2.new) }
+        → T.size.n ≤ length rows2.old → T.size.m ≤ length firsts2.old → T.size.t ≤ length outcomes2.old
+        → (readAnswer result ≡ given T.size) × Same T (held plan.now.size rows2.new firsts2.new outcomes2.new) }
 {
-    let w = writing::write(size, rows, firsts, outcomes, bytes);
-    match w {
-        WriteAnswer::Refused(refusal) => not_written(refusal),
-        WriteAnswer::Given(length) => { reading::read(&bytes[..length], rows2, firsts2, outcomes2) }
-    }
+    let length = write(plan, bytes)?;
+    read(&bytes[..length], rows2, firsts2, outcomes2)
 }

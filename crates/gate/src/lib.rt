@@ -1,4 +1,5 @@
-// The calls of the gate controller's C program, on numbers and byte slices (include/gate.h). An entry is two bytes, highest first.
+// The calls of the gate controller's C program, on numbers and byte slices (include/gate.h). An entry is two bytes, highest first. The
+// slices are parameters one by one, and a number is returned: that is the C interface.
 #![tactic(auto)]
 
 ghost use Rattle.std.specs.Prelude.{◌≡◌};

@@ -3,6 +3,7 @@ use mathlib.Core.Path.{◌≡◌, refl, sym, ap, ◌∙◌}
 use mathlib.Core.List.{List}
 use Prim.Native.Nat.{ℕ, ◌≤◌}
 use native.Mathlib.Omega.{arith}
+use Rattle.std.specs.Prelude.{Ok}
 use lib.ListN.{length, take, length-take, length-replicate}
 use Rattle.laws.specs.Lists.{joined}
 use Rattle.laws.proofs.Lists.{length_tabulate, take_overwritten}
@@ -17,7 +18,8 @@ use Rattle.model.proofs.Answers.{given_inj, need_inv, answer_inv}
 use Rattle.model.proofs.HeldPlan.{states_held}
 use Rattle.model.proofs.Gates.{whole_deciding, gate_decide_lem, code_from, left_from_lem}
 use Rattle.model.specs.Rooms.{decide_room}
-use Rattle.gate_deciding.specs.Delivery.{delivery, delivery_call, Deliverable}
+use Rattle.decide.specs.Answers.{after_decide}
+use Rattle.gate_deciding.specs.Delivery.{delivery, delivery_call}
 
 -- the plan that is decided has as many states as the size record says
 states_decided : (T : Tables) (P : Plan) → whole_deciding T ≡ given P → P.states ≡ T.size.n
@@ -68,14 +70,19 @@ module _ (T : Tables) (zeros : List ℕ) where
   long_front f long P g =
       omega (arith, length-take n (left f (whole_deciding T) zeros), ap length (taken f long P g), long P, states_decided T P g)
 
-  pub deliverable : (x : AfterDecide) → x ≡ decided → Deliverable x n
-  deliverable x is = rw is (λ t e.
-      let (P, g, _) = answer_inv tally (whole_deciding T) t e in (
-        long_front rank_table long_ranks P g,
-        long_front command_table long_commands P g,
-        long_front mark_table long_marks P g,
-        long_front (λ P. cleared P.states) long_cleared P g,
-      ))
+  -- the tables that deciding leaves have a place for each state
+  pub decided_long : {t : List (List ℕ)} {r c m s : List ℕ} → after_decide (Ok t) r c m s ≡ decided
+      → (n ≤ length r) × (n ≤ length c) × (n ≤ length m) × (n ≤ length s)
+  decided_long {t} {r} {c} {m} {s} is =
+      let (P, g, _) = answer_inv tally (whole_deciding T) t (sym (ap (λ (x : AfterDecide). x.answers) is)) in
+      let long : (table : AfterDecide → List ℕ) (f : Plan → List ℕ) → ((Q : Plan) → length (f Q) ≡ Q.states)
+      → table decided ≡ left f (whole_deciding T) zeros → n ≤ length (table (after_decide (Ok t) r c m s))
+      = λ table f each e. rw (ap table is ∙ e) (long_front f each P g) in (
+        long (λ x. x.ranks) rank_table long_ranks refl,
+        long (λ x. x.commands) command_table long_commands refl,
+        long (λ x. x.marks) mark_table long_marks refl,
+        long (λ x. x.scratch) (λ Q. cleared Q.states) long_cleared refl,
+      )
 
   module _ (R C M X Y : List ℕ) where
     -- what is delivered, and what the call answers

@@ -1,10 +1,12 @@
 -- What is stored of a decision.
-use Rattle.std.specs.Prelude.{◌≡◌, List, ℕ, ◌≤◌, length, take}
+use Rattle.std.specs.Prelude.{List, ℕ, length, take, Result, Ok, Err}
 use Rattle.laws.specs.Lists.{joined}
-use Rattle.model.specs.Refusal.{Cramped, Answer, given, need, ◌>>=◌, ◌>>◌}
+use Rattle.model.specs.Refusal.{Cramped, Answer, given, number, need, ◌>>=◌, ◌>>◌}
 use Rattle.model.specs.Calls.{left, AfterDecide}
 use Rattle.model.specs.Boundary.{bytes_for, code, AfterGateDecide}
 use Rattle.model.specs.Rooms.{decide_room}
+use Rattle.tables.specs.declared.Refusal.{Refusal}
+use Rattle.tables.specs.Meaning.{refusal_of}
 
 -- the tally, if there is room for everything
 unfoldable pub delivery : Answer (List (List ℕ)) → ℕ → ℕ → ℕ → ℕ → ℕ → ℕ → Answer (List (List ℕ))
@@ -12,6 +14,11 @@ delivery decision n ranks commands marks scratch tally = do
   t ← decision
   need Cramped (decide_room n ranks commands marks scratch tally)
   given t
+
+-- the number that C is told
+abbrev pub code_of : Result (Unit {0}) Refusal → ℕ
+code_of (Ok _) = 0
+code_of (Err r) = number (refusal_of r)
 
 -- what a call returns and what every slice lent to it holds
 abbrev pub after_gate_decide : ℕ → List ℕ → List ℕ → List ℕ → List ℕ → List ℕ → AfterGateDecide
@@ -30,9 +37,3 @@ delivery_call decided n ranks commands marks scratch tally =
       scratch = left (λ _. bytes_for (take n decided.scratch)) a scratch;
       tally = left (λ t. bytes_for (joined t)) a tally;
     }
-
--- where the plan was decided the tables have a place for each state
-abbrev pub Deliverable : AfterDecide → ℕ → Type 0
-Deliverable decided n =
-    (t : List (List ℕ)) → decided.answers ≡ given t
-    → (n ≤ length decided.ranks) × (n ≤ length decided.commands) × (n ≤ length decided.marks) × (n ≤ length decided.scratch)

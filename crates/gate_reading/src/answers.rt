@@ -3,50 +3,24 @@ ghost use Rattle.std.specs.Prelude.{◌≡◌, ◌*◌, ◌<◌, ◌≤◌, leng
 ghost use Rattle.laws.specs.Lists.{overwrite};
 ghost use Rattle.model.specs.Boundary.{bytes_for, entry_bytes, size_bytes, size_entries};
 ghost use Rattle.tables.specs.Meaning.{numbers};
-ghost use Rattle.reading.specs.Answers.{answer_of};
 ghost use Rattle.model.specs.Rooms.{read_room};
-ghost use Rattle.gate_reading.specs.Lent.{admitted};
 
-use reading::ReadAnswer;
 use store::encoding::{store, store_size};
-use tables::admission::long_enough;
+use tables::Size;
 use tables::entries::ENTRY_BYTES;
+use tables::lengths::long_enough;
 use tables::rows::{ROW_BYTES, SIZE_BYTES};
-use tables::{Refusal, Size};
 
 // Whether slices of these lengths have room for a plan.
-fn room(z: Size, size: usize, rows: usize, firsts: usize, outcomes: usize) -> bool
+pub fn room(z: Size, size: usize, rows: usize, firsts: usize, outcomes: usize) -> bool
     ensures { result ≡ read_room (numbers z) size rows firsts outcomes }
 {
-    let long = long_enough(
+    long_enough(
         z,
         rows / ROW_BYTES,
         firsts / ENTRY_BYTES,
         outcomes / ENTRY_BYTES,
-    );
-    if !long {
-        return false;
-    }
-    SIZE_BYTES <= size
-}
-
-// Refusal 9 for a plan that slices of these lengths have no room for.
-pub fn admit(
-    plan: ReadAnswer,
-    size: usize,
-    rows: usize,
-    firsts: usize,
-    outcomes: usize,
-) -> ReadAnswer
-    ensures { answer_of result ≡ admitted (answer_of plan) size rows firsts outcomes }
-{
-    let ReadAnswer::Given(z) = plan else {
-        return plan;
-    };
-    if !room(z, size, rows, firsts, outcomes) {
-        return ReadAnswer::Refused(Refusal::Cramped);
-    }
-    plan
+    ) && SIZE_BYTES <= size
 }
 
 // Stores the size record, the first outcomes of the commands and the outcome entries.

@@ -1,15 +1,37 @@
 // What only the planner's own crates call: reading, to bytes.
 ghost use Rattle.std.specs.Prelude.{◌≡◌};
 ghost use Rattle.model.specs.Boundary.{gate_read_call};
-ghost use Rattle.gate_reading.specs.Lent.{after_gate_read};
+ghost use Rattle.gate_reading.specs.Lent.{after_gate_read, code_of};
 
-use crate::answers::{admit, store_lists};
-use reading::{ReadAnswer, read};
+use crate::answers::{room, store_lists};
+use reading::read;
 use store::encoding::store_rows;
-use tables::{Row, Size};
+use tables::{Refusal, Row, Size};
 
-// Reads a file by way of tables of the limits' lengths; the size record, the rows, the first outcomes and the outcomes are answered as
-// entries of two bytes, highest first.
+// By way of tables of the limits' lengths; refusal 9 where the slices have no room for the plan.
+fn read_into(
+    file: &[u8],
+    size: &mut [u8],
+    rows: &mut [u8],
+    firsts: &mut [u8],
+    outcomes: &mut [u8],
+) -> Result<(), Refusal>
+    ensures { after_gate_read (code_of result) size.new rows.new firsts.new outcomes.new
+        ≡ gate_read_call file.now size.old rows.old firsts.old outcomes.old }
+{
+    let mut states = [Row::BLANK; Size::STATES];
+    let mut commands = [0; Size::COMMANDS];
+    let mut entries = [0; Size::OUTCOMES];
+    let z = read(file, &mut states, &mut commands, &mut entries)?;
+    if !room(z, size.len(), rows.len(), firsts.len(), outcomes.len()) {
+        return Err(Refusal::Cramped);
+    }
+    store_rows(&states, rows, z.n);
+    store_lists(z, &commands, &entries, size, firsts, outcomes);
+    Ok(())
+}
+
+// Reads a file; the size record, the rows, the first outcomes and the outcomes are answered as entries of two bytes, highest first.
 pub fn read_call(
     file: &[u8],
     size: &mut [u8],
@@ -20,17 +42,8 @@ pub fn read_call(
     ensures call { after_gate_read result size.new rows.new firsts.new outcomes.new
         ≡ gate_read_call file.now size.old rows.old firsts.old outcomes.old }
 {
-    let mut states = [Row::BLANK; Size::STATES];
-    let mut commands = [0u16; Size::COMMANDS];
-    let mut entries = [0u16; Size::OUTCOMES];
-    let plan = read(file, &mut states[..], &mut commands, &mut entries);
-    let admitted = admit(plan, size.len(), rows.len(), firsts.len(), outcomes.len());
-    match admitted {
-        ReadAnswer::Refused(refusal) => tables::number(refusal),
-        ReadAnswer::Given(z) => {
-            store_rows(&states[..], rows, z.n);
-            store_lists(z, &commands, &entries, size, firsts, outcomes);
-            0
-        }
+    match read_into(file, size, rows, firsts, outcomes) {
+        Ok(()) => 0,
+        Err(refusal) => u32::from(refusal),
     }
 }

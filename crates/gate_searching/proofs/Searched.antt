@@ -2,9 +2,10 @@
 use mathlib.Core.Path.{◌≡◌, refl, sym, ap, ◌∙◌}
 use mathlib.Core.Bool.{Bool}
 use mathlib.Core.List.{List}
-use Prim.Native.Nat.{ℕ, ◌≤◌}
+use Prim.Native.Nat.{ℕ, ◌<◌, ◌≤◌}
 use native.Mathlib.Omega.{arith}
 use lib.ListN.{length, take, length-take, length-replicate}
+use Rattle.std.specs.Prelude.{Result as CodeResult}
 use Rattle.laws.proofs.Lists.{length_tabulate, take_overwritten}
 use Rattle.model.specs.Search.{Result, search}
 use Rattle.model.specs.Refusal.{Answer, given, answer}
@@ -20,9 +21,10 @@ use Rattle.model.proofs.GoodTables.{sound_good}
 use Rattle.model.proofs.Valid.{sound_valid, few_states, few_commands}
 use Rattle.model.proofs.Widths.{rounds_fit}
 use Rattle.model.proofs.Gates.{whole_search, gate_search_lem, code_from, left_from_lem}
-use Rattle.search.specs.declared.SearchAnswer.{SearchAnswer}
+use Rattle.search.specs.declared.Found.{Found}
+use Rattle.tables.specs.declared.Refusal.{Refusal}
 use Rattle.search.specs.Answers.{answer_of, after_search}
-use Rattle.gate_searching.specs.Delivery.{delivery, Deliverable, delivered}
+use Rattle.gate_searching.specs.Delivery.{delivery, delivered}
 
 -- what is answered of a search
 abbrev verdict : Result → Bool × ℕ
@@ -41,7 +43,7 @@ module _ (T : Tables) (start : ℕ) (zeros : List ℕ) where
     scratch = left (λ R. cleared T.size.n) (whole_search T start) zeros;
   }
 
-  module _ (found : SearchAnswer) (takes clean : List ℕ) (says : after_search found takes clean ≡ whole_call) where
+  module _ (found : CodeResult Found Refusal) (takes clean : List ℕ) (says : after_search found takes clean ≡ whole_call) where
     answers : answer_of found ≡ answer verdict (whole_search T start)
     answers = ap (λ (x : AfterSearch). x.answers) says
 
@@ -57,7 +59,8 @@ module _ (T : Tables) (start : ℕ) (zeros : List ℕ) where
       scratch_taken = let cleans = ap (λ (x : AfterSearch). x.scratch) says in
           rw (rw f at cleans) (take_overwritten T.size.n (cleared T.size.n) zeros (length-replicate T.size.n 0))
 
-    pub deliverable : Deliverable (answer_of found) T.size.n (length takes) (length clean)
+    pub deliverable : (w : Bool × ℕ) → answer_of found ≡ given w
+        → (T.size.n ≤ length takes) × (T.size.n ≤ length clean) × (w.1 < 65536)
     unfolding plan_in result_table cleared
     deliverable w e =
         let (R, f, is) = answer_inv verdict (whole_search T start) w (sym answers ∙ e) in

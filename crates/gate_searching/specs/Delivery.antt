@@ -1,9 +1,15 @@
 -- What is stored of a search.
-use Rattle.std.specs.Prelude.{◌≡◌, Bool, List, ℕ, ◌<◌, ◌≤◌, length, take}
+use Rattle.std.specs.Prelude.{Bool, List, ℕ, length, take, Result}
 use Rattle.model.specs.Refusal.{Cramped, Answer, given, need, ◌>>=◌, ◌>>◌}
 use Rattle.model.specs.Calls.{left}
 use Rattle.model.specs.Boundary.{bytes_for, result_entries, code, AfterGateSearch}
 use Rattle.model.specs.Rooms.{search_room}
+use Rattle.tables.specs.declared.Refusal.{Refusal}
+use Rattle.tables.specs.Meaning.{answered}
+
+-- the number that C is told
+abbrev pub code_of : Result (Unit {0}) Refusal → ℕ
+code_of result = code (answered (λ _. tt {0}) result)
 
 -- what a call returned, and what the slices lent to it hold then
 abbrev pub after_gate_search : ℕ → List ℕ → List ℕ → List ℕ → AfterGateSearch
@@ -16,10 +22,6 @@ delivery found n commands scratch answer = do
   v ← found
   need Cramped (search_room n commands scratch answer)
   given v
-
--- where something was found it fits: the rounds 16 bits, and n the tables' lengths
-abbrev pub Deliverable : Answer (Bool × ℕ) → ℕ → ℕ → ℕ → Type 0
-Deliverable found n takes clean = (v : Bool × ℕ) → found ≡ given v → (n ≤ takes) × (n ≤ clean) × (v.1 < 65536)
 
 -- what is returned and left when it is delivered with the first n entries of the tables that the search left
 abbrev pub delivered : Answer (Bool × ℕ) → ℕ → List ℕ → List ℕ → List ℕ → List ℕ → List ℕ → AfterGateSearch

@@ -1,15 +1,15 @@
 // What the search found, as bytes.
-ghost use Rattle.std.specs.Prelude.{◌≡◌, cond, ◌<◌, ◌≤◌, length};
+ghost use Rattle.std.specs.Prelude.{◌≡◌, ◌<◌, ◌≤◌, length};
 ghost use Rattle.laws.specs.Lists.{overwrite};
+ghost use Rattle.model.specs.Refusal.{given};
 ghost use Rattle.model.specs.Boundary.{bytes_for, result_entries, answer_bytes};
-ghost use Rattle.search.specs.Answers.{answer_of};
 ghost use Rattle.model.specs.Rooms.{search_room};
-ghost use Rattle.gate_searching.specs.Delivery.{after_gate_search, Deliverable, delivered};
+ghost use Rattle.gate_searching.specs.Delivery.{code_of, after_gate_search, delivered};
 
-use search::{Found, SearchAnswer};
+use search::Found;
 use store::encoding::{store, store_entry};
-use tables::entries::{ENTRY_BYTES, narrow};
-use tables::{Refusal, number};
+use tables::Refusal;
+use tables::entries::ENTRY_BYTES;
 
 // The verdict and the rounds, an entry each.
 const ANSWER_BYTES: usize = 4;
@@ -18,22 +18,7 @@ const ANSWER_BYTES: usize = 4;
 fn room(n: usize, commands: usize, scratch: usize, answer: usize) -> bool
     ensures tested { result ≡ search_room n commands scratch answer }
 {
-    if commands / ENTRY_BYTES < n {
-        return false;
-    }
-    if scratch / ENTRY_BYTES < n {
-        return false;
-    }
-    ANSWER_BYTES <= answer
-}
-
-fn flag(lost: bool) -> u16
-    ensures flagged { result ≡ cond lost 1 0 }
-{
-    if lost {
-        return 1;
-    }
-    0
+    n <= commands / ENTRY_BYTES && n <= scratch / ENTRY_BYTES && ANSWER_BYTES <= answer
 }
 
 // The verdict, then the rounds.
@@ -41,35 +26,30 @@ fn store_found(found: Found, answer: &mut [u8])
     requires fits { (found.rounds < 65536) × (answer_bytes ≤ length answer.old) }
     ensures stored { answer.new ≡ overwrite (bytes_for (result_entries (found.lost, found.rounds))) answer.old }
 {
-    store_entry(answer, 0, flag(found.lost));
-    store_entry(answer, 1, narrow(found.rounds));
+    store_entry(answer, 0, u16::from(found.lost));
+    store_entry(answer, 1, found.rounds as u16);
 }
 
 // Stores what was found, and the first n entries of the tables that the search left, if there is room for all; else nothing is written.
 pub fn deliver(
-    found: SearchAnswer,
+    found: Found,
     n: usize,
     takes: &[u16],
     clean: &[u16],
     commands: &mut [u8],
     scratch: &mut [u8],
     answer: &mut [u8],
-) -> u32
-    requires fits { Deliverable (answer_of found) n (length takes.now) (length clean.now) }
-    ensures call { after_gate_search result commands.new scratch.new answer.new
-        ≡ delivered (answer_of found) n takes.now clean.now commands.old scratch.old
-        answer.old }
+) -> Result<(), Refusal>
+    requires fits { (n ≤ length takes.now) × (n ≤ length clean.now) × (found.rounds < 65536) }
+    ensures call { after_gate_search (code_of result) commands.new scratch.new answer.new
+        ≡ delivered (given (found.lost, found.rounds)) n takes.now clean.now
+        commands.old scratch.old answer.old }
 {
-    match found {
-        SearchAnswer::Refused(refusal) => number(refusal),
-        SearchAnswer::Given(verdict) => {
-            if !room(n, commands.len(), scratch.len(), answer.len()) {
-                return number(Refusal::Cramped);
-            }
-            store(takes, commands, n);
-            store(clean, scratch, n);
-            store_found(verdict, answer);
-            0
-        }
+    if !room(n, commands.len(), scratch.len(), answer.len()) {
+        return Err(Refusal::Cramped);
     }
+    store(takes, commands, n);
+    store(clean, scratch, n);
+    store_found(found, answer);
+    Ok(())
 }

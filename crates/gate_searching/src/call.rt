@@ -2,36 +2,78 @@
 ghost use Rattle.std.specs.Prelude.{◌≡◌};
 ghost use Rattle.model.specs.Refusal.{given};
 ghost use Rattle.model.specs.Boundary.{tables_in, gate_search_call};
-ghost use Rattle.tables.specs.Meaning.{held};
-ghost use Rattle.gate_searching.specs.Delivery.{after_gate_search};
+ghost use Rattle.tables.specs.Meaning.{lent};
+ghost use Rattle.gate_searching.specs.Delivery.{code_of, after_gate_search};
 
 use crate::answers::deliver;
-use load::decoding::{PlanAnswer, load_plan};
-use tables::{Row, Size};
+use load::decoding::load_plan;
+use search::search;
+use tables::{Plan, Refusal, Row, Size};
 
 // The call, on a plan that was read into tables.
-pub fn search_loaded(
-    size: Size,
-    rows: &[Row],
-    firsts: &[u16],
-    outcomes: &[u16],
+fn search_loaded(
+    plan: &Plan,
     start: usize,
     commands: &mut [u8],
     scratch: &mut [u8],
     answer: &mut [u8],
-) -> u32
-    ensures call { let T = held size rows.now firsts.now outcomes.now in
-        after_gate_search result commands.new scratch.new answer.new
-        ≡ gate_search_call (given T) start commands.old scratch.old answer.old }
+) -> Result<(), Refusal>
+    ensures call { after_gate_search (code_of result) commands.new scratch.new answer.new
+        ≡ gate_search_call (given (lent plan.now)) start commands.old scratch.old answer.old }
 {
     let mut takes = [0u16; Size::STATES];
     let mut clean = [0u16; Size::STATES];
-    let found = search::search(size, rows, firsts, outcomes, start, &mut takes, &mut clean);
-    deliver(found, size.n, &takes, &clean, commands, scratch, answer)
+    let found = search(plan, start, &mut takes, &mut clean)?;
+    deliver(
+        found,
+        plan.size.n,
+        &takes,
+        &clean,
+        commands,
+        scratch,
+        answer,
+    )
+}
+
+// The call, on the plan that is lent.
+fn search_lent(
+    size: &[u8],
+    rows: &[u8],
+    firsts: &[u8],
+    outcomes: &[u8],
+    start: usize,
+    commands: &mut [u8],
+    scratch: &mut [u8],
+    answer: &mut [u8],
+) -> Result<(), Refusal>
+    ensures call { let lent = tables_in size.now rows.now firsts.now outcomes.now in
+        after_gate_search (code_of result) commands.new scratch.new answer.new
+        ≡ gate_search_call lent start commands.old scratch.old answer.old }
+{
+    let mut states = [Row::BLANK; Size::STATES];
+    let mut heads = [0u16; Size::COMMANDS];
+    let mut entries = [0u16; Size::OUTCOMES];
+    let read = load_plan(
+        size,
+        rows,
+        firsts,
+        outcomes,
+        &mut states[..],
+        &mut heads,
+        &mut entries,
+    )?;
+    let plan = Plan {
+        size: read,
+        rows: &states[..],
+        firsts: &heads,
+        outcomes: &entries,
+    };
+    search_loaded(&plan, start, commands, scratch, answer)
 }
 
 // The search from one start, on a plan lent as bytes. Refused with 10, then 11, then 9, before a slice is written. Any
 // number may be the start: one that is no state is 11, also where no entry holds it.
+#[tactic(auto, unfolding(model::specs::Boundary::code))]
 pub fn search_call(
     size: &[u8],
     rows: &[u8],
@@ -46,29 +88,11 @@ pub fn search_call(
         after_gate_search result commands.new scratch.new answer.new
         ≡ gate_search_call lent start commands.old scratch.old answer.old }
 {
-    let mut states = [Row::BLANK; Size::STATES];
-    let mut heads = [0u16; Size::COMMANDS];
-    let mut entries = [0u16; Size::OUTCOMES];
-    let plan = load_plan(
-        size,
-        rows,
-        firsts,
-        outcomes,
-        &mut states[..],
-        &mut heads,
-        &mut entries,
+    let answered = search_lent(
+        size, rows, firsts, outcomes, start, commands, scratch, answer,
     );
-    match plan {
-        PlanAnswer::Refused(refusal) => tables::number(refusal),
-        PlanAnswer::Given(read) => search_loaded(
-            read,
-            &states[..],
-            &heads,
-            &entries,
-            start,
-            commands,
-            scratch,
-            answer,
-        ),
+    match answered {
+        Ok(()) => 0,
+        Err(refusal) => u32::from(refusal),
     }
 }

@@ -1,11 +1,11 @@
 -- Tables whose first places are written, one after another or all anew.
 use mathlib.Core.Path.{◌≡◌, refl, sym, ap, ◌∙◌}
-use mathlib.Core.List.{List, ◌∷◌, ◌++◌}
+use mathlib.Core.List.{List, ◌∷◌}
 use Prim.Native.Nat.{ℕ, zero, suc, ◌+◌, ◌<◌, ◌≤◌}
 use native.Mathlib.Decide.{dec_lt}
 use native.Mathlib.Numerals.{add-one}
 use native.Mathlib.Omega.{arith}
-use lib.ListN.{length, get_or, set, drop, replicate, length-set}
+use lib.ListN.{length, get_or, set, replicate, length-set}
 use lib.Seq.{get_or-set_same, get_or-set_other, ext_get_or}
 use Rattle.laws.specs.Filled.{Filled}
 use Rattle.laws.specs.Lists.{tabulate, overwrite}
@@ -52,10 +52,6 @@ filled_is {n} {f} {l₀} {l} h w =
         ∙ sym (get_or_overwrite_below (tabulate f 0 n) l₀ i 0 (omega (arith, length_tabulate f 0 n)) ∙ tabulate_at f n i 0 p)
     go i (no p) = w.high i (omega arith) ∙ sym (get_or_overwrite_above (tabulate f 0 n) l₀ i 0 (omega (arith, length_tabulate f 0 n)))
 
--- the loop is over
-pub filled_done : {i n : ℕ} {f : ℕ → ℕ} {l₀ l : List ℕ} → Filled i f l₀ l → i ≤ n → n ≤ i → Filled n f l₀ l
-filled_done {i} {n} w h k = let e : i ≡ n = omega arith in rw e at w
-
 pub tabulate_constant : (v a n : ℕ) → tabulate (λ _. v) a n ≡ replicate n v
 unfolding tabulate
 tabulate_constant v a zero = refl
@@ -65,12 +61,3 @@ tabulate_constant v a (suc n) = ap (λ (r : List ℕ). v ∷ r) (tabulate_consta
 pub filled_of : {n : ℕ} {f : ℕ → ℕ} {l₀ l : List ℕ} → n ≤ length l₀ → l ≡ overwrite (tabulate f 0 n) l₀ → Filled n f l₀ l
 filled_of {n} {f} {l₀} h e = rw e
     (record { same = overwrite_length f n l₀ h; low = overwrite_low f n l₀ h; high = overwrite_high f n l₀ h })
-
--- xs in the first places
-pub filled_front : (n : ℕ) (xs l : List ℕ) → length xs ≡ n → n ≤ length l → Filled n (λ i. get_or (xs ++ drop n l) i 0) l (xs ++ drop n l)
-unfolding overwrite
-filled_front n xs l e h = rw (← e) (record {
-  same = length_overwrite xs l (omega arith);
-  low = λ i k. refl;
-  high = λ i k. get_or_overwrite_above xs l i 0 k;
-})

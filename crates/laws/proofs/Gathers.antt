@@ -61,6 +61,3 @@ module _ {f : ℕ → Bool} {n : ℕ} {l₀ : List ℕ} where
     gathers_next h p q =
         rw (p, q)
         (⊎_elim (λ e. rw e (gathers_yes h e)) (λ e. rw e (gathers_no h e)) (true_or_false (f s)))
-
-    pub gathers_done : n ≤ s → (i ≡ how_many f n) × (l ≡ put_all l₀ 0 (passing f n))
-    gathers_done h = let e : s ≡ n = omega (arith, c.high) in (rw (← e) c.count, rw (← e) c.gathered)

@@ -13,7 +13,6 @@ pub mod Writes
 pub mod Steps
 pub mod Fills
 pub mod Placed
-pub mod RangeFills
 pub mod Scans
 pub mod Stores
 pub mod Tries
@@ -30,7 +29,6 @@ pub mod Least
 pub mod Wrote
 pub mod Spreads
 pub mod Turns
-pub mod EntryCopies
 pub mod Blocks
 pub mod Starts
 pub mod Merge

@@ -1,21 +1,12 @@
 -- Loops that test, and chains of tests: each is left at the first test that fails.
-use mathlib.Core.Path.{◌≡◌, refl, sym, ◌∙◌}
-use mathlib.Core.Bool.{Bool, true, false, not}
+use mathlib.Core.Path.{◌≡◌, refl, sym}
+use mathlib.Core.Bool.{Bool, true, false}
 use Prim.Native.Nat.{ℕ, ◌+◌, ◌<◌, ◌≤◌}
 use native.Mathlib.Numerals.{add-one}
 use native.Mathlib.Omega.{arith}
-use borrow.Author.Tests.{not-true, not-false}
 use Rattle.laws.specs.Sets.{every}
 use Rattle.laws.proofs.Tests.{clash, refute, and_join}
 use Rattle.laws.proofs.Sets.{every_at, every_of}
-
--- a test that is a call's answer t, asked as `if !t`
-module _ {t a : Bool} (e : t ≡ a) where
-  pub stopped : not t ≡ true → a ≡ false
-  stopped h = sym e ∙ not-true t h
-
-  pub passed : not t ≡ false → a ≡ true
-  passed h = sym e ∙ not-false t h
 
 -- a loop that tests f at each number from 0 on: before i all pass
 module _ (f : ℕ → Bool) where

@@ -1,7 +1,7 @@
 -- A loop that writes to the places that another table names: they rise, so no entry is written over.
-use mathlib.Core.Path.{◌≡◌, refl, sym, ◌∙◌}
+use mathlib.Core.Path.{◌≡◌, sym, ◌∙◌}
 use mathlib.Core.List.{List}
-use Prim.Native.Nat.{ℕ, ◌+◌, ◌<◌, ◌≤◌}
+use Prim.Native.Nat.{ℕ, ◌+◌, ◌<◌}
 use native.Mathlib.Decide.{dec_lt}
 use native.Mathlib.Omega.{arith}
 use lib.ListN.{length, get_or, set, length-set}
@@ -9,9 +9,6 @@ use lib.Seq.{get_or-set_same, get_or-set_other}
 use Rattle.laws.specs.Placed.{RisingPlaces, Placed}
 
 module _ {at : List ℕ} {f : ℕ → ℕ} {l₀ : List ℕ} where
-  pub placed_none : Placed 0 at f l₀ l₀
-  placed_none = record { same = refl; named = λ i l. absurd (omega arith); others = λ x h. refl }
-
   -- one entry more
   pub placed_next : {n i : ℕ} {l : List ℕ} → Placed i at f l₀ l → RisingPlaces n at (length l₀) → i < n → {x v : ℕ} → x ≡ get_or at i 0 → v ≡ f i
       → {l' : List ℕ} → l' ≡ set l x v → Placed (i + 1) at f l₀ l'
@@ -29,7 +26,3 @@ module _ {at : List ℕ} {f : ℕ → ℕ} {l₀ : List ℕ} where
       named j k (no b) =
           let e : j ≡ i = omega arith in
           rw e (get_or-set_same l s (f i) 0 (omega (arith, c.same, r.inside i h)))
-
-  -- the loop is over
-  pub placed_done : {n i : ℕ} {l : List ℕ} → Placed i at f l₀ l → i ≤ n → n ≤ i → Placed n at f l₀ l
-  placed_done {n} {i} c h k = let e : i ≡ n = omega arith in rw e at c

@@ -1,9 +1,8 @@
 -- Bytes of a list: those of each member, one after another.
 use mathlib.Core.Path.{◌≡◌, refl, sym}
-use mathlib.Core.List.{List, [], ◌∷◌, ◌++◌, append_assoc, append-nil}
+use mathlib.Core.List.{List, [], ◌∷◌, ◌++◌, append_assoc}
 use Prim.Native.Nat.{ℕ}
 use Rattle.laws.specs.Entry.{twos}
-use Rattle.laws.specs.Lists.{joined}
 
 -- g xs r has the bytes of xs in front of r
 pub record Spread {A : Type 0} (g : List A → List ℕ → List ℕ) : Type 0 where
@@ -18,15 +17,3 @@ front {g = g} p (x ∷ xs) r =
 pub twos_spread : Spread twos
 unfolding twos
 twos_spread = record { none = λ r. refl; more = λ x xs r. refl }
-
--- bytes as they are
-pub bytes_spread : Spread (λ (xs r : List ℕ). xs ++ r)
-bytes_spread = record { none = λ r. refl; more = λ x xs r. refl }
-
--- texts one after another
-pub joined_spread : Spread (λ (xs : List (List ℕ)) (r : List ℕ). joined xs ++ r)
-unfolding joined
-joined_spread = record {
-  none = λ r. refl;
-  more = λ x xs r. rw (append-nil x, append-nil x) (append_assoc x (joined xs) r);
-}

@@ -14,9 +14,6 @@ use Rattle.laws.specs.First.{FirstNot}
 use Rattle.laws.proofs.Tests.{clash}
 use Rattle.laws.proofs.Sets.{IsLowest, lowest_is, lowest_eq}
 
-pub first_start : {f : ℕ → Bool} {a : ℕ} → FirstNot f a a a
-first_start = record { since = omega arith; until = omega arith; before = λ i p q. absurd (omega arith); stops = λ p. absurd (omega arith) }
-
 -- the loop at c
 module _ {f : ℕ → Bool} {a c : ℕ} (v : FirstNot f a c c) where
   pub first_next : f c ≡ true → FirstNot f a (c + 1) (c + 1)

@@ -10,7 +10,8 @@ ghost use Rattle.std.specs.Prelude.{◌≤◌, length};
 use std::io::{Print, Read};
 use std::rt::Stdin;
 
-// Reads until `input` is full, the input ends or a read fails, and answers how many bytes there are.
+// Reads until `input` is full, the input ends or a read fails, and answers how many bytes there are. A while: each step is as long as what a
+// read answers.
 fn read_full(mut stdin: Stdin, input: &mut [u8]) -> usize
     ensures { result ≤ length input.new }
 {
@@ -40,9 +41,7 @@ fn say(rt: &HostRuntime, line: &[u8]) {
 
 fn print(rt: &HostRuntime, input: &[u8]) {
     let text = listing::text_of(input);
-    let bytes = text.bytes;
-    let length = text.length;
-    if rt.stdout().write_all(&bytes[..length]).is_err() {
+    if rt.stdout().write_all(text.as_bytes()).is_err() {
         say(rt, b"list: standard output could not be written\n");
     }
 }

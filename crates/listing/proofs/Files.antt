@@ -5,11 +5,9 @@ use mathlib.Core.List.{List}
 use Prim.Native.Nat.{ℕ, ◌<◌, ◌≤◌}
 use native.Mathlib.Nat.{zero-add}
 use native.Mathlib.Omega.{arith}
-use lib.ListN.{length, take, drop, replicate, length-map, length-append, length-replicate}
+use lib.ListN.{length, replicate, length-map, length-replicate}
 use borrow.Author.Tests.{lt-ltb, le-ltb}
-use Rattle.laws.specs.Lists.{overwrite}
-use Rattle.laws.specs.Wrote.{Wrote}
-use Rattle.laws.proofs.Lists.{take_overwrite}
+use Rattle.std.specs.Prelude.{Result, Ok, Err}
 use Rattle.laws.proofs.Writes.{put_front}
 use Rattle.model.specs.Refusal.{Limit}
 use Rattle.model.specs.File.{read}
@@ -24,18 +22,17 @@ use Rattle.tables.specs.declared.Row.{Row}
 use Rattle.tables.specs.declared.Size.{Size}
 use Rattle.tables.specs.declared.Refusal.{Refusal}
 use Rattle.tables.specs.Meaning.{numbers, refusal_of, row_of, rows_of, held}
-use Rattle.reading.specs.declared.ReadAnswer.{ReadAnswer}
-use Rattle.reading.specs.declared.ReadAnswer.TheVariants.{Given, Refused}
 use Rattle.reading.specs.Answers.{answer_of, after_read}
 use Rattle.reading.proofs.Passing.{refused_inv}
 use Rattle.reading.proofs.Leaves.{answered, leaves}
-use Rattle.listing.specs.declared.Text.{Text}
+use Rattle.listing_text.specs.declared.Text.{Text}
+use Rattle.listing_text.specs.Texts.{blank, Added}
 use Rattle.listing.specs.Texts.{text_of}
 
 -- by the equation of the reading's contract
-module _ (file : List ℕ) (rows : List Row) (firsts outcomes : List ℕ) (r : ReadAnswer) (rows' : List Row) (firsts' outcomes' : List ℕ)
+module _ (file : List ℕ) (rows : List Row) (firsts outcomes : List ℕ) (r : Result Size Refusal) (rows' : List Row) (firsts' outcomes' : List ℕ)
     (e : after_read r rows' firsts' outcomes' ≡ read_call file (rows_of rows) firsts outcomes) where
-  pub plan_read : (z : Size) → r ≡ Given z
+  pub plan_read : (z : Size) → r ≡ Ok z
       → (sound (held z rows' firsts' outcomes') ≡ true) × (answer_text (read file) ≡ plan_text (tree_of (held z rows' firsts' outcomes')))
   unfolding answer_text
   plan_read z q =
@@ -45,7 +42,7 @@ module _ (file : List ℕ) (rows : List Row) (firsts outcomes : List ℕ) (r : R
       (sym (leaves file rows firsts outcomes r rows' firsts' outcomes' e z))
       (sounds, ap answer_text reads)
 
-  pub refusal_read : (w : Refusal) → r ≡ Refused w → 1024 ≤ length rows → 4096 ≤ length firsts → 16384 ≤ length outcomes
+  pub refusal_read : (w : Refusal) → r ≡ Err w → 1024 ≤ length rows → 4096 ≤ length firsts → 16384 ≤ length outcomes
       → answer_text (read file) ≡ refusal_text (refusal_of w)
   unfolding answer_text
   refusal_read w q lr lf lo =
@@ -54,9 +51,6 @@ module _ (file : List ℕ) (rows : List Row) (firsts outcomes : List ℕ) (r : R
       ap answer_text (refuses_file (length (rows_of rows)) (length firsts) (length outcomes) long lf lo file (refusal_of w)
       (refused_inv size (reading (length (rows_of rows)) (length firsts) (length outcomes) file)
       (ap (λ (x : AfterRead). x.answers) (sym e) ∙ ap answer_of q)))
-
-abbrev text_with : List ℕ → ℕ → Text
-text_with bytes length = record { bytes = bytes; length = length }
 
 module _ (input : List ℕ) where
   pub over_limit : max_input < length input → listing input ≡ refusal_text Limit
@@ -68,20 +62,14 @@ module _ (input : List ℕ) where
   in_limit h = rw (le-ltb max_input (length input) h)
 
   -- the text stands at the front of zeros
-  pub text_stands : {after : List ℕ} {k : ℕ} → Wrote (replicate max_listing 0) 0 (listing input) after k → text_with after k
-      ≡ text_of (listing input)
+  pub text_stands : {text : Text} → Added blank (listing input) text → text ≡ text_of (listing input)
   text_stands w =
       let zeros : List ℕ = replicate max_listing 0 in
       let count = w.past ∙ zero-add _ in
       let fits : length (listing input) ≤ length zeros = omega (arith, listing_length input, length-replicate {A = ℕ} max_listing 0) in
       let whole = w.stored ∙ put_front zeros (listing input) fits in
-      λ i. text_with (whole i) (count i)
+      λ i. record { bytes = whole i; length = count i }
 
   -- it is no longer than the bytes that hold it
-  pub text_room : (r : Text) → r ≡ text_of (listing input) → r.length ≤ length r.bytes
-  unfolding overwrite
-  text_room r e = rw e (omega (arith, length-append (listing input) (drop (length (listing input)) (replicate {A = ℕ} max_listing 0))))
-
-  -- its bytes are as many as are said
-  pub text_fits : (r : Text) → r ≡ text_of (listing input) → length (take r.length r.bytes) ≡ r.length
-  text_fits r e = rw e (ap length (take_overwrite (listing input) (replicate max_listing 0)))
+  pub text_room : (r : Text) → r ≡ text_of (listing input) → r.length ≤ max_listing
+  text_room r e = rw e (listing_length input)

@@ -1,3 +1,4 @@
+pub mod Answered
 pub mod StateLines
 pub mod Named
 pub mod Decided

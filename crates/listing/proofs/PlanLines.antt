@@ -4,18 +4,18 @@ use mathlib.Core.Bool.{true}
 use mathlib.Core.List.{List, ◌++◌, append_assoc}
 use Prim.Native.Nat.{ℕ, ◌+◌, ◌*◌, ◌<◌, ◌≤◌}
 use native.Mathlib.Omega.{arith}
-use lib.ListN.{length, length-append}
+use lib.ListN.{length-append}
 use Rattle.laws.specs.Lists.{tabulate, joined}
 use Rattle.laws.specs.Wrote.{Wrote}
 use Rattle.laws.proofs.Joins.{joined_bound}
-use Rattle.laws.proofs.Wrote.{wrote_then, wrote_length}
+use Rattle.laws.proofs.Wrote.{wrote_then}
 use Rattle.model.specs.Plan.{Plan}
 use Rattle.model.specs.Practice.{tally}
 use Rattle.model.specs.Search.{search}
 use Rattle.model.specs.Tables.{Size, Tables, tables_of}
 use Rattle.model.specs.Held.{tree_of, plan_in}
 use Rattle.model.specs.SoundTest.{sound}
-use Rattle.model.specs.Listing.{plan_line, state_line, tally_line, start_line, plan_text}
+use Rattle.model.specs.Listing.{max_listing, plan_line, state_line, tally_line, start_line, plan_text}
 use Rattle.model.proofs.HeldPlan.{states_held, start_held}
 use Rattle.model.proofs.ListingLength.{plan_length, state_length, tally_length}
 use Rattle.model.proofs.SoundFacts.{sound_facts}
@@ -26,9 +26,9 @@ module _ (P : Plan) (n : ℕ) where
   state_lines = joined (tabulate (state_line P) 0 n)
 
   -- the tally's line, after the states'
-  pub tally_room : {l after : List ℕ} {place next : ℕ} → place + n * 35 + 50 ≤ length l → Wrote l place state_lines after next → next
-      + 50 ≤ length after
-  tally_room room w = omega (arith, room, joined_bound (state_line P) 0 n 35 (state_length P), w.past, wrote_length w)
+  pub tally_room : {l after : List ℕ} {place next : ℕ} → place + n * 35 + 50 ≤ max_listing → Wrote l place state_lines after next
+      → next + 50 ≤ max_listing
+  tally_room room w = omega (arith, room, joined_bound (state_line P) 0 n 35 (state_length P), w.past)
 
 module _ (T : Tables) (e : sound T ≡ true) where
   abbrev verdict_lines : List ℕ
@@ -58,26 +58,24 @@ module _ (T : Tables) (e : sound T ≡ true) where
       let f = ((sound_facts T).0 e).size in
       (omega (arith, f.few), omega (arith, f.few_commands), omega (arith, f.few_outcomes))
 
-  module _ {l₀ l₁ : List ℕ} {i₁ : ℕ} (long : 65536 ≤ length l₀) (first : Wrote l₀ 0 (plan_line T.size) l₁ i₁) where
-    pub verdicts_room : i₁ + T.size.n * 35 + 50 ≤ length l₁
-    verdicts_room = omega (arith, long, ((sound_facts T).0 e).size.few, plan_length T.size, first.past, wrote_length first)
+  module _ {l₀ l₁ : List ℕ} {i₀ i₁ : ℕ} (begins : i₀ ≡ 0) (first : Wrote l₀ i₀ (plan_line T.size) l₁ i₁) where
+    pub verdicts_room : i₁ + T.size.n * 35 + 50 ≤ max_listing
+    verdicts_room = omega (arith, begins, ((sound_facts T).0 e).size.few, plan_length T.size, first.past)
 
     module _ {l₂ : List ℕ} {i₂ : ℕ} (verdicts : Wrote l₁ i₁ verdict_lines l₂ i₂) where
-      pub start_room : i₂ + 22 ≤ length l₂
+      pub start_room : i₂ + 22 ≤ max_listing
       start_room =
           omega (
             arith,
-            long,
+            begins,
             ((sound_facts T).0 e).size.few,
             plan_length T.size,
             first.past,
-            wrote_length first,
             joined_bound (state_line (plan_in T)) 0 T.size.n 35 (state_length (plan_in T)),
             tally_length (tally (plan_in T)),
             length-append (state_lines (plan_in T) T.size.n) (tally_line (tally (plan_in T))),
             verdicts.past,
-            wrote_length verdicts,
           )
 
-      pub plan_wrote : {l₃ : List ℕ} {i₃ : ℕ} → Wrote l₂ i₂ last_line l₃ i₃ → Wrote l₀ 0 (plan_text (tree_of T)) l₃ i₃
+      pub plan_wrote : {l₃ : List ℕ} {i₃ : ℕ} → Wrote l₂ i₂ last_line l₃ i₃ → Wrote l₀ i₀ (plan_text (tree_of T)) l₃ i₃
       plan_wrote last = rw text_is (wrote_then first (wrote_then verdicts last))

@@ -1,3 +1,2 @@
-pub mod Named
-pub mod AllListed
+pub mod Holds
 pub mod Texts

@@ -2,7 +2,7 @@
 use Rattle.std.specs.Prelude.{List, ℕ, length, replicate}
 use Rattle.laws.specs.Lists.{overwrite}
 use Rattle.model.specs.Listing.{max_listing}
-use Rattle.listing.specs.declared.Text.{Text}
+use Rattle.listing_text.specs.declared.Text.{Text}
 
 -- at the front of bytes that hold every listing, with zeros past it
 abbrev pub text_of : List ℕ → Text

@@ -1,25 +1,32 @@
 // A file and its listing.
-ghost use Rattle.std.specs.Prelude.{◌≤◌, length};
-ghost use Rattle.laws.specs.Wrote.{Wrote};
+ghost use Rattle.std.specs.Prelude.{◌≡◌};
 ghost use Rattle.model.specs.File.{read};
-ghost use Rattle.model.specs.Listing.{max_listing, answer_text};
+ghost use Rattle.model.specs.Listing.{answer_text};
+ghost use Rattle.listing_text.specs.Texts.{Added};
 
 use crate::plan::list_plan;
-use listing_text::lines::put_refusal;
-use reading::ReadAnswer;
-use tables::{Row, Size};
+use listing_text::Text;
+use tables::sound_plan::SoundPlan;
+use tables::{Plan, Row, Size};
 
 // The file's listing, or the line of its refusal. The tables it is read into are of the limits' lengths, which hold every plan.
-pub fn list_file(file: &[u8], out: &mut [u8]) -> usize
-    requires { max_listing ≤ length out.old }
-    ensures { Wrote out.old 0 (answer_text (read file.now)) out.new result }
+pub fn list_file(file: &[u8], text: &mut Text)
+    requires { text.old.length ≡ 0 }
+    ensures { Added text.old (answer_text (read file.now)) text.new }
 {
     let mut rows = [Row::BLANK; Size::STATES];
-    let mut firsts = [0u16; Size::COMMANDS];
-    let mut outcomes = [0u16; Size::OUTCOMES];
-    let r = reading::read(file, &mut rows[..], &mut firsts, &mut outcomes);
-    match r {
-        ReadAnswer::Refused(refusal) => put_refusal(out, 0, refusal),
-        ReadAnswer::Given(size) => list_plan(size, &rows[..], &firsts, &outcomes, out),
+    let mut firsts = [0; Size::COMMANDS];
+    let mut outcomes = [0; Size::OUTCOMES];
+    match reading::read(file, &mut rows, &mut firsts, &mut outcomes) {
+        Err(refusal) => text.put_refusal(refusal),
+        Ok(size) => {
+            let plan = Plan {
+                size,
+                rows: &rows,
+                firsts: &firsts,
+                outcomes: &outcomes,
+            };
+            list_plan(&SoundPlan { plan }, text);
+        }
     }
 }

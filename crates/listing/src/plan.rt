@@ -1,28 +1,64 @@
 // The listing of a sound plan.
-ghost use Rattle.std.specs.Prelude.{◌≡◌, true, ◌≤◌, length};
-ghost use Rattle.laws.specs.Wrote.{Wrote};
-ghost use Rattle.model.specs.Held.{tree_of};
-ghost use Rattle.model.specs.Listing.{max_listing, plan_text};
-ghost use Rattle.model.specs.SoundTest.{sound};
-ghost use Rattle.tables.specs.Meaning.{held};
+ghost use Rattle.std.specs.Prelude.{◌≡◌, ◌++◌, ◌+◌, ◌*◌, ◌≤◌};
+ghost use Rattle.laws.specs.Lists.{tabulate, joined};
+ghost use Rattle.model.specs.Held.{tree_of, plan_in};
+ghost use Rattle.model.specs.Practice.{tally};
+ghost use Rattle.model.specs.Search.{search};
+ghost use Rattle.model.specs.Listing.{max_listing, plan_text, state_line, tally_line, start_line};
+ghost use Rattle.tables.specs.Meaning.{lent};
+ghost use Rattle.listing_text.specs.Texts.{Added};
 
-use crate::start::list_start;
-use crate::verdicts::list_verdicts;
-use listing_text::lines::put_plan_line;
-use tables::{Row, Size};
+use crate::states::Decided;
+use listing_text::Text;
+use tables::Size;
+use tables::sound_plan::SoundPlan;
 
-pub fn list_plan(
-    size: Size,
-    rows: &[Row],
-    firsts: &[u16],
-    outcomes: &[u16],
-    out: &mut [u8],
-) -> usize
-    requires { (sound (held size rows.now firsts.now outcomes.now) ≡ true) × (max_listing ≤ length out.old) }
-    ensures { Wrote out.old 0
-        (plan_text (tree_of (held size rows.now firsts.now outcomes.now))) out.new result }
+// What deciding says of the plan: the lines of the states, and the tally's.
+fn list_verdicts(checked: &SoundPlan, text: &mut Text)
+    requires { text.old.length + checked.now.plan.size.n * 35 + 50 ≤ max_listing }
+    ensures { let T = lent checked.now.plan in
+        Added text.old (joined (tabulate (state_line (plan_in T)) 0 T.size.n) ++ tally_line (tally (plan_in T))) text.new }
 {
-    let states = put_plan_line(out, 0, size);
-    let start = list_verdicts(size, rows, firsts, outcomes, out, states);
-    list_start(size, rows, firsts, outcomes, out, start)
+    let mut ranks = [0; Size::STATES];
+    let mut commands = [0; Size::STATES];
+    let mut marks = [0; Size::STATES];
+    let mut scratch = [0; Size::STATES];
+    let decision = decide::decide(
+        &checked.plan,
+        &mut ranks,
+        &mut commands,
+        &mut marks,
+        &mut scratch,
+    );
+    let decided = Decided {
+        checked: *checked,
+        ranks: &ranks,
+        commands: &commands,
+        marks: &marks,
+    };
+    decided.list_states(text);
+    let [safe, lost] = decision.unwrap();
+    text.put_tally_line(safe, lost);
+}
+
+// The last line: the search from the plan's own start.
+fn list_start(checked: &SoundPlan, text: &mut Text)
+    requires { text.old.length + 22 ≤ max_listing }
+    ensures { let T = lent checked.now.plan in
+        Added text.old (start_line T.size.start (search (plan_in T) T.size.start)) text.new }
+{
+    let mut commands = [0; Size::STATES];
+    let mut scratch = [0; Size::STATES];
+    let start = checked.plan.size.start;
+    let found = search::search(&checked.plan, start, &mut commands, &mut scratch).unwrap();
+    text.put_start_line(start, found.lost, found.rounds);
+}
+
+pub fn list_plan(checked: &SoundPlan, text: &mut Text)
+    requires { text.old.length ≡ 0 }
+    ensures { Added text.old (plan_text (tree_of (lent checked.now.plan))) text.new }
+{
+    text.put_plan_line(checked.plan.size);
+    list_verdicts(checked, text);
+    list_start(checked, text);
 }

@@ -1,117 +1,77 @@
-// The lines of the states.
-ghost use Rattle.std.specs.Prelude.{◌≡◌, ◌+◌, ◌*◌, ◌<◌, ◌≤◌, length, get_or};
-ghost use Rattle.laws.specs.Entry.{entry};
-ghost use Rattle.laws.specs.Lists.{tabulate, joined};
-ghost use Rattle.laws.specs.Wrote.{Wrote};
-ghost use Rattle.model.specs.Plan.{Plan};
-ghost use Rattle.model.specs.Held.{plan_in};
-ghost use Rattle.model.specs.Listing.{state_line};
-ghost use Rattle.tables.specs.Meaning.{held};
-ghost use Rattle.tables.specs.Spans.{commands_of};
-ghost use Rattle.tables.specs.Ready.{Ready};
-ghost use Rattle.listing_text.specs.Listed.{Listed};
-ghost use Rattle.listing.specs.Named.{named_at};
-ghost use Rattle.listing.specs.AllListed.{AllListed};
+// The lines of the states, from what deciding left.
+ghost use Rattle.tables.specs.Meaning.{lent};
+ghost use Rattle.listing.specs.Holds.{Holds};
 
 use choice::choosing::command_hit;
-use listing_text::lines::put_state_line;
-use tables::entries::{HIGHEST, NONE, at};
-use tables::spans::{Span, span_at};
-use tables::{Row, Size};
+use choice::state_set::StateSet;
+use listing_text::Text;
+use tables::entries::HIGHEST;
+use tables::sound_plan::SoundPlan;
 
-// At a fault, which the mark tells of, the lowest outcome of the practice that is lost, else the entry FFFF.
-fn fault_outcome(
-    size: Size,
-    span: Span,
-    firsts: &[u16],
-    outcomes: &[u16],
-    ranks: &[u16],
-    mark: usize,
-) -> usize
-    requires ready { Ready size.n (commands_of size firsts.now outcomes.now) }
-    requires n_in_bounds { (size.n ≤ length ranks.now) × (2 ≤ mark → span.first + span.practice < size.m) }
-    ensures named { result
-        ≡ entry (named_at (commands_of size firsts.now outcomes.now) ranks.now span mark) }
-    ensures fits { result < 65536 }
-{
-    if mark < 2 {
-        return NONE;
+// The least mark that tells of a fault.
+const FAULT: u16 = 2;
+
+// A sound plan and the tables that deciding left for it.
+#[derive(Clone, Copy)]
+pub struct Decided<'a> {
+    pub checked: SoundPlan<'a>,
+    pub ranks: &'a [u16],
+    pub commands: &'a [u16],
+    pub marks: &'a [u16],
+    pub ghost holds: { Holds (lent checked.plan) ranks.now commands.now marks.now },
+}
+
+impl Decided<'_> {
+    ghost use Rattle.std.specs.Prelude.{◌≡◌, ◌+◌, ◌*◌, ◌<◌, ◌≤◌, IfSome};
+    ghost use Rattle.laws.specs.Lists.{tabulate, joined};
+    ghost use Rattle.model.specs.Practice.{fault_outcome};
+    ghost use Rattle.model.specs.Held.{plan_in};
+    ghost use Rattle.model.specs.Listing.{max_listing, state_line};
+    ghost use Rattle.tables.specs.Meaning.{option_of};
+    ghost use Rattle.listing_text.specs.Texts.{Added};
+
+    // At a fault, which the mark tells of, the lowest outcome of the practice that is lost.
+    fn fault_outcome(&self, s: usize) -> Option<usize>
+        requires { s < self.now.checked.plan.size.n }
+        ensures named { option_of result ≡ fault_outcome (plan_in (lent self.now.checked.plan)) s }
+        ensures fits { IfSome result (λ x. x < 1000000) }
+    {
+        let mark = self.marks[s];
+        if mark < FAULT {
+            return None;
+        }
+        let span = self.checked.span(s);
+        let lost = StateSet {
+            table: self.ranks,
+            limit: HIGHEST,
+        };
+        command_hit(&self.checked, &lost, span.first + span.practice)
     }
-    command_hit(
-        size,
-        firsts,
-        outcomes,
-        ranks,
-        HIGHEST,
-        span.first + span.practice,
-    )
-}
 
-// The line of state s, of which `span` was read; the tables are deciding's.
-fn put_state(
-    size: Size,
-    span: Span,
-    firsts: &[u16],
-    outcomes: &[u16],
-    ranks: &[u16],
-    commands: &[u16],
-    marks: &[u16],
-    s: usize,
-    out: &mut [u8],
-    place: usize,
-) -> usize
-    requires ready { Ready size.n (commands_of size firsts.now outcomes.now) }
-    requires s_lt_n { (s < size.n) × (size.n ≤ length ranks.now) × (size.n ≤ length commands.now) × (size.n ≤ length marks.now)
-        × (place + 35 ≤ length out.old) }
-    requires practice_bound { 2 ≤ get_or marks.now s 0 → span.first + span.practice < size.m }
-    ensures wrote { (P : Plan)
-        → Listed P s span.kind (get_or ranks.now s 0) (get_or commands.now s 0) (get_or marks.now s 0)
-        (entry (named_at (commands_of size firsts.now outcomes.now) ranks.now span
-        (get_or marks.now s 0)))
-        → Wrote out.old place (state_line P s) out.new result }
-    ensures ends { result ≤ place + 35 }
-    ensures same { length out.new ≡ length out.old }
-{
-    let outcome = fault_outcome(size, span, firsts, outcomes, ranks, at(marks, s));
-    put_state_line(
-        out,
-        place,
-        s,
-        span.kind,
-        ranks[s],
-        commands[s],
-        marks[s],
-        outcome,
-    )
-}
-
-// The lines of all states.
-pub fn list_states(
-    size: Size,
-    rows: &[Row],
-    firsts: &[u16],
-    outcomes: &[u16],
-    ranks: &[u16],
-    commands: &[u16],
-    marks: &[u16],
-    out: &mut [u8],
-    place: usize,
-) -> usize
-    requires ready { Ready size.n (commands_of size firsts.now outcomes.now) }
-    requires all_listed { AllListed (held size rows.now firsts.now outcomes.now) ranks.now commands.now marks.now }
-    requires n_in_bounds { (size.n ≤ length rows.now) × (size.n ≤ length ranks.now) × (size.n ≤ length commands.now)
-        × (size.n ≤ length marks.now) × (place + size.n * 35 ≤ length out.old) }
-    ensures { let P = plan_in (held size rows.now firsts.now outcomes.now) in
-        Wrote out.old place (joined (tabulate (state_line P) 0 size.n)) out.new result }
-{
-    let mut next = place;
-    let mut s = 0;
-    while s < size.n {
-        let span = span_at(size, rows, s);
-        next = put_state(
-            size, span, firsts, outcomes, ranks, commands, marks, s, out, next,
+    fn list_state(&self, s: usize, text: &mut Text)
+        requires { (s < self.now.checked.plan.size.n) × (text.old.length + 35 ≤ max_listing) }
+        ensures wrote { Added text.old (state_line (plan_in (lent self.now.checked.plan)) s) text.new }
+        ensures ends { text.new.length ≤ text.old.length + 35 }
+    {
+        let kind = self.checked.span(s).kind;
+        let outcome = self.fault_outcome(s);
+        text.put_state_line(
+            s,
+            kind,
+            self.ranks[s],
+            self.commands[s],
+            self.marks[s],
+            outcome,
         );
-        s += 1;
     }
-    next
+
+    pub fn list_states(&self, text: &mut Text)
+        requires { text.old.length + self.now.checked.plan.size.n * 35 ≤ max_listing }
+        ensures { let T = lent self.now.checked.plan in
+            Added text.old (joined (tabulate (state_line (plan_in T)) 0 T.size.n)) text.new }
+    {
+        for s in 0..self.checked.plan.size.n {
+            self.list_state(s, text);
+        }
+    }
 }

@@ -3,8 +3,7 @@ use mathlib.Core.Path.{◌≡◌, refl}
 use mathlib.Core.Bool.{Bool, true, false, not, cond}
 use mathlib.Core.Logic.{⊎_elim}
 use mathlib.Core.List.{[], ◌∷◌}
-use Prim.Native.Nat.{ℕ, ◌+◌, ◌%◌, ◌<◌}
-use native.Mathlib.Omega.{arith}
+use Prim.Native.Nat.{ℕ, ◌+◌, ◌%◌}
 use lib.Dec.{eqb, leb}
 use borrow.Author.Tests.{ne_eqb}
 use Rattle.laws.specs.Entry.{FFFF, from_entry}
@@ -12,21 +11,11 @@ use Rattle.laws.specs.Sets.{found}
 use Rattle.laws.proofs.Tests.{true_or_false}
 use Rattle.model.specs.Plan.{Plan}
 use Rattle.model.specs.Practice.{practice_fails, fault, mark}
-use Rattle.model.specs.Refusal.{Refusal, number}
-use Rattle.model.specs.Listing.{decimal, number_or_dash, fault_sign}
-use Rattle.model.proofs.Numbers.{number_bound}
+use Rattle.model.specs.Listing.{decimal, number_or_dash}
 
 pub dash_word : (e : ℕ) → e ≡ FFFF → number_or_dash (from_entry e) ≡ 45 ∷ []
 unfolding number_or_dash from_entry
 dash_word e h = rw h
-
-pub dot_word : (e : ℕ) → e ≡ FFFF → fault_sign (from_entry e) ≡ 46 ∷ []
-unfolding fault_sign from_entry
-dot_word e h = rw h
-
-pub fault_word : (e : ℕ) → (e ≡ FFFF → ⊥) → fault_sign (from_entry e) ≡ 33 ∷ decimal e
-unfolding fault_sign from_entry
-fault_word e h = rw (ne_eqb e FFFF h)
 
 pub number_word : (e : ℕ) → (e ≡ FFFF → ⊥) → number_or_dash (from_entry e) ≡ decimal e
 unfolding number_or_dash from_entry
@@ -48,6 +37,3 @@ mark_parts false false = (refl, refl)
 pub mark_says : (P : Plan) (s m : ℕ) → mark P s ≡ m → (eqb (m % 2) 1 ≡ practice_fails P s) × (leb 2 m ≡ fault P s)
 unfolding mark
 mark_says P s m e = rw (← e) (mark_parts (practice_fails P s) (fault P s))
-
-pub number_small : (r : Refusal) → number r < 1000000
-number_small r = omega (arith, (number_bound r).1)

@@ -1,6 +1,7 @@
 -- The line of a state, from the entries that hold what it says.
 use mathlib.Core.Path.{◌≡◌, refl, sym, ap, ◌∙◌}
 use mathlib.Core.List.{List, [], ◌∷◌}
+use mathlib.Core.Option.{Option}
 use Prim.Native.Nat.{ℕ, ◌%◌, ◌<◌}
 use lib.Dec.{eqb}
 use lib.ListN.{get_or}
@@ -9,25 +10,24 @@ use Rattle.laws.specs.Lists.{overwrite}
 use Rattle.laws.specs.Sets.{found}
 use Rattle.laws.specs.Wrote.{Wrote}
 use Rattle.laws.proofs.Overwrites.{overwrite_at}
+use Rattle.model.specs.Calls.{rank_table, command_table, mark_table}
 use Rattle.model.specs.Plan.{Plan, Valid}
 use Rattle.model.specs.Verdict.{rank, lost}
 use Rattle.model.specs.Command.{chosen}
 use Rattle.model.specs.Practice.{mark, fault_outcome}
-use Rattle.model.specs.Calls.{rank_table, command_table, mark_table}
 use Rattle.model.specs.Listing.{decimal, line, kind_letter, verdict_letter, number_or_dash, practice_letter, fault_sign, state_line}
 use Rattle.model.proofs.Demands.{rank_entry_lem, chosen_entry}
-use Rattle.model.proofs.Faults.{named_entry}
 use Rattle.listing_text.specs.Words.{spaced}
 use Rattle.listing_text.specs.Listed.{Listed}
 use Rattle.listing_text.proofs.Entries.{mark_says}
 use Rattle.listing_text.proofs.LineBytes.{words_wrote, line_wrote}
 
-module _ {P : Plan} {s k r c m o : ℕ} (q : Listed P s k r c m o) where
+module _ {P : Plan} {s k r c m : ℕ} {o : Option ℕ} (q : Listed P s k r c m o) where
   -- the words after the number
   abbrev words : List (List ℕ)
   words =
       kind_letter k ∷ verdict_letter (found (from_entry r)) ∷ number_or_dash (from_entry r) ∷ number_or_dash (from_entry c)
-      ∷ practice_letter (eqb (m % 2) 1) ∷ fault_sign (from_entry o) ∷ []
+      ∷ practice_letter (eqb (m % 2) 1) ∷ fault_sign o ∷ []
 
   line_is : line (decimal s ∷ words) ≡ state_line P s
   unfolding state_line lost
@@ -39,7 +39,7 @@ module _ {P : Plan} {s k r c m o : ℕ} (q : Listed P s k r c m o) where
       → Wrote l₁ i₁ (spaced ((letter ∷ []) ∷ [])) l₂ i₂
       → Wrote l₂ i₂ (spaced (verdict_letter (found (from_entry r)) ∷ number_or_dash (from_entry r) ∷ [])) l₃ i₃
       → Wrote l₃ i₃ (spaced (number_or_dash (from_entry c) ∷ [])) l₄ i₄
-      → Wrote l₄ i₄ (spaced (practice_letter (eqb (m % 2) 1) ∷ fault_sign (from_entry o) ∷ [])) l₅ i₅
+      → Wrote l₄ i₄ (spaced (practice_letter (eqb (m % 2) 1) ∷ fault_sign o ∷ [])) l₅ i₅
       → Wrote l₅ i₅ (10 ∷ []) l₆ i₆ → Wrote l₀ i₀ (state_line P s) l₆ i₆
   state_wrote e number kind verdict command marks end =
       rw (← line_is)
@@ -50,21 +50,21 @@ module _ {P : Plan} {s k r c m o : ℕ} (q : Listed P s k r c m o) where
 
 module _ (P : Plan) (valid : Valid P) (few : P.states < 65535) (fit : (s : ℕ) → s < P.states → P.commands s < 65535) where
   -- the entries of a state hold what its line says
-  pub listed : {s k r c m o : ℕ} → s < P.states → k ≡ P.kind s → r ≡ entry (rank P s) → c ≡ entry (chosen P s) → m ≡ mark P s
-      → o ≡ entry (fault_outcome P s) → Listed P s k r c m o
-  listed {s} h kind_of rank-of Chosen-of mark_of outcome-of = record {
+  pub listed : {s k r c m : ℕ} → s < P.states → k ≡ P.kind s → r ≡ entry (rank P s) → c ≡ entry (chosen P s) → m ≡ mark P s
+      → Listed P s k r c m (fault_outcome P s)
+  listed {s} h kind_of rank-of Chosen-of mark_of = record {
     kind_is = sym kind_of;
     rank_is = sym (ap from_entry rank-of ∙ rank_entry_lem P valid few fit s);
     chosen_is = sym (ap from_entry Chosen-of ∙ chosen_entry P valid few fit s h);
     mark_is = sym mark_of;
-    outcome_is = sym (ap from_entry outcome-of ∙ named_entry P valid s h few);
+    outcome_is = refl;
   }
 
   -- and the tables that deciding leaves hold them
   pub listed_tables : (ranks commands marks : List ℕ) (s : ℕ) → s < P.states
       → Listed P s (P.kind s) (get_or (overwrite (rank_table P) ranks) s 0) (get_or (overwrite (command_table P) commands) s 0)
-      (get_or (overwrite (mark_table P) marks) s 0) (entry (fault_outcome P s))
+      (get_or (overwrite (mark_table P) marks) s 0) (fault_outcome P s)
   unfolding rank_table command_table mark_table
   listed_tables ranks commands marks s h =
       listed h refl (overwrite_at _ P.states ranks s h) (overwrite_at _ P.states commands s h)
-      (overwrite_at (mark P) P.states marks s h) refl
+      (overwrite_at (mark P) P.states marks s h)

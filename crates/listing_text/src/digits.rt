@@ -1,9 +1,12 @@
 // Decimal digits, by division (rule L5).
-ghost use Rattle.std.specs.Prelude.{◌≡◌, ◌+◌, ◌<◌, ◌≤◌, length};
-ghost use Rattle.laws.specs.Wrote.{Wrote};
-ghost use Rattle.model.specs.Listing.{last_digit, decimal};
+ghost use Rattle.std.specs.Prelude.{◌≡◌, ◌+◌, ◌<◌, ◌≤◌};
+ghost use Rattle.model.specs.Listing.{max_listing, last_digit, decimal};
+ghost use Rattle.listing_text.specs.Texts.{Added};
 
-use tables::bytes::put_one;
+use crate::Text;
+
+// The least number of two digits.
+const TWO_DIGITS: usize = 10;
 
 fn last_digit(x: usize) -> u8
     ensures { result ≡ last_digit x }
@@ -11,15 +14,16 @@ fn last_digit(x: usize) -> u8
     b'0' + (x % 10) as u8
 }
 
-// A number of at most six digits. Each call leaves one digit fewer, so it calls itself at most five times.
-pub fn put_decimal(out: &mut [u8], place: usize, x: usize) -> usize
-    requires { (place + 6 ≤ length out.old) × (x < 1000000) }
-    ensures wrote { Wrote out.old place (decimal x) out.new result }
-    ensures ends { result ≤ place + 6 }
-{
-    if x < 10 {
-        return put_one(out, place, last_digit(x));
+impl Text {
+    // A number of at most six digits. Each call leaves one digit fewer, so it calls itself at most five times.
+    pub(crate) fn put_decimal(&mut self, x: usize)
+        requires { (self.old.length + 6 ≤ max_listing) × (x < 1000000) }
+        ensures wrote { Added self.old (decimal x) self.new }
+        ensures ends { self.new.length ≤ self.old.length + 6 }
+    {
+        if x >= TWO_DIGITS {
+            self.put_decimal(x / 10);
+        }
+        self.put_byte(last_digit(x));
     }
-    let next = put_decimal(out, place, x / 10);
-    put_one(out, next, last_digit(x))
 }

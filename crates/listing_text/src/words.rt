@@ -1,101 +1,108 @@
 // Words with a space before each.
-ghost use Rattle.std.specs.Prelude.{[], ◌∷◌, ◌+◌, ◌%◌, ◌<◌, ◌≤◌, eqb, length, get_or};
+ghost use Rattle.std.specs.Prelude.{[], ◌∷◌, ◌+◌, ◌%◌, ◌<◌, ◌≤◌, eqb, get_or, IfSome};
 ghost use Rattle.laws.specs.Entry.{from_entry};
 ghost use Rattle.laws.specs.Sets.{found};
-ghost use Rattle.laws.specs.Wrote.{Wrote};
-ghost use Rattle.model.specs.Listing.{decimal, verdict_letter, number_or_dash, practice_letter, fault_sign};
+ghost use Rattle.model.specs.Listing.{max_listing, decimal, verdict_letter, number_or_dash, practice_letter, fault_sign};
+ghost use Rattle.tables.specs.Meaning.{option_of};
+ghost use Rattle.listing_text.specs.Texts.{Added};
 ghost use Rattle.listing_text.specs.Words.{spaced};
 
-use crate::digits::put_decimal;
+use crate::Text;
 use crate::letters::{practice_letter, verdict_letter};
-use tables::bytes::{put_both, put_one};
-use tables::entries::wide;
-
-const SPACE: u8 = 32;
 
 // The entry for none, as it stands in a table.
 const NONE: u16 = tables::entries::NONE as u16;
 
-pub fn put_letter(out: &mut [u8], place: usize, letter: u8) -> usize
-    requires { place + 2 ≤ length out.old }
-    ensures wrote { Wrote out.old place (spaced ((letter ∷ []) ∷ [])) out.new result }
-    ensures ends { result ≤ place + 2 }
-{
-    put_both(out, place, SPACE, letter)
-}
-
-pub fn put_number(out: &mut [u8], place: usize, x: usize) -> usize
-    requires { (place + 7 ≤ length out.old) × (x < 1000000) }
-    ensures wrote { Wrote out.old place (spaced (decimal x ∷ [])) out.new result }
-    ensures ends { result ≤ place + 7 }
-{
-    let next = put_one(out, place, SPACE);
-    put_decimal(out, next, x)
-}
-
-pub fn put_three(out: &mut [u8], place: usize, x: usize, y: usize, z: usize) -> usize
-    requires { (place + 21 ≤ length out.old) × (x < 1000000) × (y < 1000000) × (z < 1000000) }
-    ensures wrote { Wrote out.old place (spaced (decimal x ∷ decimal y ∷ decimal z ∷ [])) out.new result }
-    ensures ends { result ≤ place + 21 }
-{
-    let second = put_number(out, place, x);
-    let third = put_number(out, second, y);
-    put_number(out, third, z)
-}
-
-// A row of the tally.
-pub fn put_row(out: &mut [u8], place: usize, row: [u16; 3]) -> usize
-    requires { place + 21 ≤ length out.old }
-    ensures wrote { Wrote out.old place
-        (spaced (decimal (get_or row 0 0) ∷ decimal (get_or row 1 0) ∷ decimal (get_or row 2 0) ∷ [])) out.new result }
-    ensures ends { result ≤ place + 21 }
-{
-    put_three(out, place, wide(row[0]), wide(row[1]), wide(row[2]))
-}
-
-// An entry's number, or a dash for none.
-pub fn put_entry(out: &mut [u8], place: usize, e: u16) -> usize
-    requires { place + 7 ≤ length out.old }
-    ensures wrote { Wrote out.old place (spaced (number_or_dash (from_entry e) ∷ [])) out.new result }
-    ensures ends { result ≤ place + 7 }
-{
-    if e == NONE {
-        return put_letter(out, place, b'-');
+impl Text {
+    pub(crate) fn put_letter(&mut self, letter: u8)
+        requires { self.old.length + 2 ≤ max_listing }
+        ensures wrote { Added self.old (spaced ((letter ∷ []) ∷ [])) self.new }
+        ensures ends { self.new.length ≤ self.old.length + 2 }
+    {
+        self.put_word(&[b' ', letter]);
     }
-    put_number(out, place, e as usize)
-}
 
-// The verdict that follows from a rank's entry, and the rank.
-pub fn put_verdict(out: &mut [u8], place: usize, rank: u16) -> usize
-    requires { place + 9 ≤ length out.old }
-    ensures wrote { Wrote out.old place
-        (spaced (verdict_letter (found (from_entry rank)) ∷ number_or_dash (from_entry rank) ∷ [])) out.new result }
-    ensures ends { result ≤ place + 9 }
-{
-    let next = put_letter(out, place, verdict_letter(rank != NONE));
-    put_entry(out, next, rank)
-}
-
-// The sign of a fault and the outcome that is named there, or a dot where none is.
-fn put_fault(out: &mut [u8], place: usize, outcome: usize) -> usize
-    requires { (place + 8 ≤ length out.old) × (outcome < 1000000) }
-    ensures wrote { Wrote out.old place (spaced (fault_sign (from_entry outcome) ∷ [])) out.new result }
-    ensures ends { result ≤ place + 8 }
-{
-    if outcome == tables::entries::NONE {
-        return put_letter(out, place, b'.');
+    pub(crate) fn put_number(&mut self, x: usize)
+        requires { (self.old.length + 7 ≤ max_listing) × (x < 1000000) }
+        ensures wrote { Added self.old (spaced (decimal x ∷ [])) self.new }
+        ensures ends { self.new.length ≤ self.old.length + 7 }
+    {
+        self.put_byte(b' ');
+        self.put_decimal(x);
     }
-    let next = put_both(out, place, SPACE, b'!');
-    put_decimal(out, next, outcome)
-}
 
-// What is said of the practice: whether it fails, by the mark, and the fault.
-pub fn put_marks(out: &mut [u8], place: usize, mark: u16, outcome: usize) -> usize
-    requires { (place + 10 ≤ length out.old) × (outcome < 1000000) }
-    ensures wrote { Wrote out.old place
-        (spaced (practice_letter (eqb (mark % 2) 1) ∷ fault_sign (from_entry outcome) ∷ [])) out.new result }
-    ensures ends { result ≤ place + 10 }
-{
-    let next = put_letter(out, place, practice_letter(mark));
-    put_fault(out, next, outcome)
+    pub(crate) fn put_three(&mut self, x: usize, y: usize, z: usize)
+        requires { (self.old.length + 21 ≤ max_listing) × (x < 1000000) × (y < 1000000) × (z < 1000000) }
+        ensures wrote { Added self.old (spaced (decimal x ∷ decimal y ∷ decimal z ∷ [])) self.new }
+        ensures ends { self.new.length ≤ self.old.length + 21 }
+    {
+        self.put_number(x);
+        self.put_number(y);
+        self.put_number(z);
+    }
+
+    // A row of the tally.
+    pub(crate) fn put_row(&mut self, row: [u16; 3])
+        requires { self.old.length + 21 ≤ max_listing }
+        ensures wrote { Added self.old
+            (spaced (decimal (get_or row 0 0) ∷ decimal (get_or row 1 0) ∷ decimal (get_or row 2 0) ∷ [])) self.new }
+        ensures ends { self.new.length ≤ self.old.length + 21 }
+    {
+        let [holding, failing, none] = row;
+        self.put_three(
+            usize::from(holding),
+            usize::from(failing),
+            usize::from(none),
+        );
+    }
+
+    // An entry's number, or a dash for none.
+    pub(crate) fn put_entry(&mut self, e: u16)
+        requires { self.old.length + 7 ≤ max_listing }
+        ensures wrote { Added self.old (spaced (number_or_dash (from_entry e) ∷ [])) self.new }
+        ensures ends { self.new.length ≤ self.old.length + 7 }
+    {
+        if e == NONE {
+            self.put_letter(b'-');
+        } else {
+            self.put_number(usize::from(e));
+        }
+    }
+
+    // The verdict that follows from a rank's entry, and the rank.
+    pub(crate) fn put_verdict(&mut self, rank: u16)
+        requires { self.old.length + 9 ≤ max_listing }
+        ensures wrote { Added self.old
+            (spaced (verdict_letter (found (from_entry rank)) ∷ number_or_dash (from_entry rank) ∷ [])) self.new }
+        ensures ends { self.new.length ≤ self.old.length + 9 }
+    {
+        self.put_letter(verdict_letter(rank != NONE));
+        self.put_entry(rank);
+    }
+
+    // The sign of a fault and the outcome that is named there, or a dot where none is.
+    fn put_fault(&mut self, outcome: Option<usize>)
+        requires { (self.old.length + 8 ≤ max_listing) × IfSome outcome (λ x. x < 1000000) }
+        ensures wrote { Added self.old (spaced (fault_sign (option_of outcome) ∷ [])) self.new }
+        ensures ends { self.new.length ≤ self.old.length + 8 }
+    {
+        match outcome {
+            None => self.put_letter(b'.'),
+            Some(x) => {
+                self.put_letter(b'!');
+                self.put_decimal(x);
+            }
+        }
+    }
+
+    // What is said of the practice: whether it fails, by the mark, and the fault.
+    pub(crate) fn put_marks(&mut self, mark: u16, outcome: Option<usize>)
+        requires { (self.old.length + 10 ≤ max_listing) × IfSome outcome (λ x. x < 1000000) }
+        ensures wrote { Added self.old
+            (spaced (practice_letter (eqb (mark % 2) 1) ∷ fault_sign (option_of outcome) ∷ [])) self.new }
+        ensures ends { self.new.length ≤ self.old.length + 10 }
+    {
+        self.put_letter(practice_letter(mark));
+        self.put_fault(outcome);
+    }
 }

@@ -22,8 +22,7 @@ use Rattle.tables.specs.declared.Size.{Size}
 use Rattle.tables.specs.declared.Row.{Row}
 use Rattle.tables.specs.declared.Refusal.{Refusal}
 use Rattle.tables.specs.Meaning.{numbers, refusal_of, rows_of, held}
-use Rattle.load.specs.declared.decoding.PlanAnswer.{PlanAnswer}
-use Rattle.load.specs.declared.decoding.PlanAnswer.TheVariants.{Given, Refused}
+use Rattle.std.specs.Prelude.{Result, Ok, Err}
 use Rattle.load.specs.Loading.{answer_of, few, loading}
 use Rattle.load.proofs.Planning.{size_of}
 use Rattle.load.proofs.Loaded.{Within, within, no_plan, lent_with}
@@ -55,13 +54,13 @@ module _ {A : Type 0} (make : Tables → Answer A) (unsound : (T : Tables) → s
         (λ h. unsound T (refute (sound T) (λ s. clash (sound_held T s) h)) ∙ ap refused (refused_inj (rw h at e)))
         (true_or_false (few T.size && tables_long T))
 
-module _ (S R F O : List ℕ) (p : PlanAnswer) (says : answer_of p ≡ answer size_of (loading S R F O)) where
+module _ (S R F O : List ℕ) (p : Result Size Refusal) (says : answer_of p ≡ answer size_of (loading S R F O)) where
   lent_refused : {A : Type 0} (make : Tables → Answer A) → ((T : Tables) → sound T ≡ false → make T ≡ refused Unsound)
-      → (r : Refusal) → p ≡ Refused r → (tables_in S R F O >>= make) ≡ refused (refusal_of r)
+      → (r : Refusal) → p ≡ Err r → (tables_in S R F O >>= make) ≡ refused (refusal_of r)
   unfolding loading
   lent_refused make unsound r e = refused_with_lem make unsound (refusal_of r) (tables_in S R F O) (no_plan S R F O p says r e)
 
-  module _ (z : Size) (e : p ≡ Given z) where
+  module _ (z : Size) (e : p ≡ Ok z) where
     w : Within S R F O z
     w = within S R F O p says z e
 
@@ -93,10 +92,10 @@ module _ (S R F O : List ℕ) (p : PlanAnswer) (says : answer_of p ≡ answer si
     }
 
   module _ {A : Type 0} {call : Answer Tables → Answer A} (calls : PlanCall call) where
-    pub call_refused : (r : Refusal) → p ≡ Refused r → call (tables_in S R F O) ≡ refused (refusal_of r)
+    pub call_refused : (r : Refusal) → p ≡ Err r → call (tables_in S R F O) ≡ refused (refusal_of r)
     call_refused r e = calls.first (tables_in S R F O) ∙ lent_refused (λ T. call (given T)) calls.unsound r e
 
-    pub call_given : (z : Size) → p ≡ Given z → (rows₀ : List ModelRow) (rows₁ : List Row) (firsts₀ firsts₁ outcomes₀ outcomes₁ : List ℕ)
+    pub call_given : (z : Size) → p ≡ Ok z → (rows₀ : List ModelRow) (rows₁ : List Row) (firsts₀ firsts₁ outcomes₀ outcomes₁ : List ℕ)
         → rows_of rows₁ ≡ left (λ (T : Tables). take T.size.n T.rows) (loading S R F O) rows₀
         → firsts₁ ≡ left (λ (T : Tables). take T.size.m T.firsts) (loading S R F O) firsts₀
         → outcomes₁ ≡ left (λ (T : Tables). take T.size.t T.outcomes) (loading S R F O) outcomes₀

@@ -1,5 +1,5 @@
 -- The loading of rows, place by place.
-use mathlib.Core.Path.{◌≡◌, refl, sym, ap, ◌∙◌}
+use mathlib.Core.Path.{◌≡◌, sym, ap, ◌∙◌}
 use mathlib.Core.List.{List}
 use Prim.Native.Nat.{ℕ, ◌+◌, ◌*◌, ◌<◌, ◌≤◌}
 use lib.ListN.{length, take, set, length-set, length-map}
@@ -16,9 +16,6 @@ use Rattle.tables.proofs.StoredRows.{row_stored}
 pub record Rows (bytes : List ℕ) (n : ℕ) (rows₀ rows : List Row) (s : ℕ) : Type 0 where
   pub same : length rows ≡ length rows₀
   pub put : ruled (row_in bytes) n s (rows_of rows) ≡ ruled (row_in bytes) n 0 (rows_of rows₀)
-
-pub rows_begin : (bytes : List ℕ) (n : ℕ) (rows : List Row) → Rows bytes n rows rows 0
-rows_begin bytes n rows = record { same = refl; put = refl }
 
 module _ (bytes : List ℕ) (n s : ℕ) {rows₀ rows : List Row} (w : Rows bytes n rows₀ rows s) where
   pub rows_more : s < n → {r : Row} → row_of r ≡ row_in bytes s → {rows' : List Row} → rows' ≡ set rows s r

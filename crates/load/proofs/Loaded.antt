@@ -20,8 +20,7 @@ use Rattle.model.proofs.Lent.{length_entries_in, length_rows_in}
 use Rattle.tables.specs.declared.Size.{Size}
 use Rattle.tables.specs.declared.Refusal.{Refusal}
 use Rattle.tables.specs.Meaning.{numbers, refusal_of}
-use Rattle.load.specs.declared.decoding.PlanAnswer.{PlanAnswer}
-use Rattle.load.specs.declared.decoding.PlanAnswer.TheVariants.{Given, Refused}
+use Rattle.std.specs.Prelude.{Result, Ok, Err}
 use Rattle.load.specs.Loading.{answer_of, few, loading}
 use Rattle.load.proofs.Planning.{size_of}
 
@@ -53,8 +52,8 @@ module _ (S R F O : List ℕ) where
       let same : U ≡ T = given_inj q in
       (rw same at lends, rw same at fits)
 
-  module _ (p : PlanAnswer) (says : answer_of p ≡ answer size_of (loading S R F O)) where
-    pub within : (z : Size) → p ≡ Given z → Within z
+  module _ (p : Result Size Refusal) (says : answer_of p ≡ answer size_of (loading S R F O)) where
+    pub within : (z : Size) → p ≡ Ok z → Within z
     unfolding few tables_long
     within z e =
         let (T, loads, is) = answer_inv size_of (loading S R F O) (numbers z) (sym says ∙ ap answer_of e) in
@@ -72,7 +71,7 @@ module _ (S R F O : List ℕ) where
           outcomes = omega (arith, h.1.1, length_entries_in O);
         }
 
-    pub no_plan : (r : Refusal) → p ≡ Refused r → loading S R F O ≡ refused (refusal_of r)
+    pub no_plan : (r : Refusal) → p ≡ Err r → loading S R F O ≡ refused (refusal_of r)
     no_plan r e = answer_refused size_of (loading S R F O) (refusal_of r) (sym says ∙ ap answer_of e)
 
   -- what is answered, and what is left in a table
@@ -86,9 +85,5 @@ module _ (S R F O : List ℕ) where
     fills f l e = given_left w.loads f l e
 
   module _ {r : ModelRefusal} (e : loading S R F O ≡ refused r) where
-    pub refuses : refused r ≡ answer size_of (loading S R F O)
-    unfolding answer
-    refuses = rw e
-
     pub keeps : {A : Type 0} (f : Tables → List A) (l : List A) → l ≡ left f (loading S R F O) l
     keeps f l = refused_left e f l

@@ -1,18 +1,17 @@
 -- A plan that is lent as bytes, and the part of it that tables of the limits' lengths hold.
-use Rattle.std.specs.Prelude.{Bool, ◌&&◌, List, ℕ, leb}
-use Rattle.model.specs.Refusal.{Unsound, Answer, given, refused, need, ◌>>=◌, ◌>>◌}
+use Rattle.std.specs.Prelude.{Bool, ◌&&◌, List, ℕ, leb, Result}
+use Rattle.model.specs.Refusal.{Unsound, Answer, given, need, ◌>>=◌, ◌>>◌}
 use Rattle.model.specs.File.{max_states, max_commands, max_outcomes}
 use Rattle.model.specs.Tables.{Size as ModelSize, Tables}
 use Rattle.model.specs.SoundTest.{tables_long}
 use Rattle.model.specs.Boundary.{tables_in}
-use Rattle.tables.specs.Meaning.{numbers, refusal_of}
-use Rattle.load.specs.declared.decoding.PlanAnswer.{PlanAnswer}
-use Rattle.load.specs.declared.decoding.PlanAnswer.TheVariants.{Given, Refused}
+use Rattle.tables.specs.declared.Refusal.{Refusal}
+use Rattle.tables.specs.declared.Size.{Size}
+use Rattle.tables.specs.Meaning.{numbers, answered}
 
 -- the size record, or the refusal
-abbrev pub answer_of : PlanAnswer → Answer ModelSize
-answer_of (Given z) = given (numbers z)
-answer_of (Refused r) = refused (refusal_of r)
+abbrev pub answer_of : Result Size Refusal → Answer ModelSize
+answer_of = answered numbers
 
 -- no count is above its limit
 unfoldable pub few : ModelSize → Bool

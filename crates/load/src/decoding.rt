@@ -10,24 +10,17 @@ ghost use Rattle.model.specs.Boundary.{entries_in, rows_in, row_in, size_in, ent
 ghost use Rattle.tables.specs.Meaning.{numbers, row_of, rows_of};
 ghost use Rattle.load.specs.Loading.{few, loading, answer_of};
 
-use tables::admission::long_enough;
-use tables::entries::{ENTRY_BYTES, join, wide};
-use tables::rows::{ROW_BYTES, ROW_ENTRIES, SIZE_BYTES, put_row};
+use tables::entries::ENTRY_BYTES;
+use tables::lengths::long_enough;
+use tables::rows::{ROW_BYTES, ROW_ENTRIES, SIZE_BYTES};
 use tables::{Refusal, Row, Size};
-
-// The size record, or what the plan is refused with.
-#[derive(Clone, Copy)]
-pub enum PlanAnswer {
-    Given(Size),
-    Refused(Refusal),
-}
 
 // The entry at place i.
 fn entry_at(bytes: &[u8], i: usize) -> u16
     requires { i * 2 + 1 < length bytes.now }
     ensures { result ≡ be16 bytes.now (i * 2) }
 {
-    join(bytes[i * 2], bytes[i * 2 + 1])
+    u16::from_be_bytes([bytes[i * 2], bytes[i * 2 + 1]])
 }
 
 // The first n entries, to the first n places of a table.
@@ -35,10 +28,8 @@ pub fn load(bytes: &[u8], table: &mut [u16], n: usize)
     requires { (n * entry_bytes ≤ length bytes.now) × (n ≤ length table.old) }
     ensures { table.new ≡ overwrite (take n (entries_in bytes.now)) table.old }
 {
-    let mut i = 0;
-    while i < n {
+    for i in 0..n {
         table[i] = entry_at(bytes, i);
-        i += 1;
     }
 }
 
@@ -61,11 +52,8 @@ pub fn load_rows(bytes: &[u8], rows: &mut [Row], n: usize)
     ensures { rows_of rows.new
         ≡ overwrite (take n (rows_in (entries_in bytes.now))) (rows_of rows.old) }
 {
-    let mut s = 0;
-    while s < n {
-        let row = row_in(bytes, s);
-        put_row(rows, s, row);
-        s += 1;
+    for s in 0..n {
+        rows[s] = row_in(bytes, s);
     }
 }
 
@@ -77,33 +65,33 @@ fn size_in(bytes: &[u8]) -> Size
     let m = entry_at(bytes, 1);
     let t = entry_at(bytes, 2);
     let start = entry_at(bytes, 3);
-    Size::new(wide(n), wide(m), wide(t), wide(start))
+    Size::new(
+        usize::from(n),
+        usize::from(m),
+        usize::from(t),
+        usize::from(start),
+    )
 }
 
 // No count is above its limit.
+#[tactic(auto, unfolding(crate::specs::Loading::few))]
 fn few(size: Size) -> bool
     ensures { result ≡ few (numbers size) }
 {
-    if Size::STATES < size.n {
-        return false;
-    }
-    if Size::COMMANDS < size.m {
-        return false;
-    }
-    size.t <= Size::OUTCOMES
+    size.n <= Size::STATES && size.m <= Size::COMMANDS && size.t <= Size::OUTCOMES
 }
 
 // The lent plan's size record, where tables of the limits' lengths hold the plan; else it is unsound.
-fn plan_size(size: &[u8], rows: &[u8], firsts: &[u8], outcomes: &[u8]) -> PlanAnswer
+fn plan_size(size: &[u8], rows: &[u8], firsts: &[u8], outcomes: &[u8]) -> Result<Size, Refusal>
     ensures { let lent = loading size.now rows.now firsts.now outcomes.now in
         answer_of result ≡ answer (λ (T : Tables). T.size) lent }
 {
     if size.len() < SIZE_BYTES {
-        return PlanAnswer::Refused(Refusal::Unsound);
+        return Err(Refusal::Unsound);
     }
     let read = size_in(size);
     if !few(read) {
-        return PlanAnswer::Refused(Refusal::Unsound);
+        return Err(Refusal::Unsound);
     }
     let long = long_enough(
         read,
@@ -112,13 +100,14 @@ fn plan_size(size: &[u8], rows: &[u8], firsts: &[u8], outcomes: &[u8]) -> PlanAn
         outcomes.len() / ENTRY_BYTES,
     );
     if !long {
-        return PlanAnswer::Refused(Refusal::Unsound);
+        return Err(Refusal::Unsound);
     }
-    PlanAnswer::Given(read)
+    Ok(read)
 }
 
 // Reads the lent plan into tables of the limits' lengths, as far as its counts say. A plan that they cannot hold is no sound one, and is
 // refused with 10; that the one read is sound is not looked at.
+// The slices are parameters one by one, as the C interface lends them.
 pub fn load_plan(
     size: &[u8],
     rows: &[u8],
@@ -127,7 +116,7 @@ pub fn load_plan(
     states: &mut [Row],
     commands: &mut [u16],
     entries: &mut [u16],
-) -> PlanAnswer
+) -> Result<Size, Refusal>
     requires { (max_states ≤ length states.old) × (max_commands ≤ length commands.old) × (max_outcomes ≤ length entries.old) }
     ensures answered { let lent = loading size.now rows.now firsts.now outcomes.now in
         answer_of result ≡ answer (λ (T : Tables). T.size) lent }
@@ -138,14 +127,9 @@ pub fn load_plan(
     ensures outcomes { let lent = loading size.now rows.now firsts.now outcomes.now in
         entries.new ≡ left (λ (T : Tables). take T.size.t T.outcomes) lent entries.old }
 {
-    let plan = plan_size(size, rows, firsts, outcomes);
-    match plan {
-        PlanAnswer::Refused(refusal) => PlanAnswer::Refused(refusal),
-        PlanAnswer::Given(read) => {
-            load_rows(rows, states, read.n);
-            load(firsts, commands, read.m);
-            load(outcomes, entries, read.t);
-            PlanAnswer::Given(read)
-        }
-    }
+    let read = plan_size(size, rows, firsts, outcomes)?;
+    load_rows(rows, states, read.n);
+    load(firsts, commands, read.m);
+    load(outcomes, entries, read.t);
+    Ok(read)
 }

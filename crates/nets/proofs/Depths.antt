@@ -30,11 +30,13 @@ use Rattle.model.proofs.Layers.{rank_bound}
 use Rattle.model.proofs.SoundFacts.{sound_facts}
 use Rattle.tables.specs.declared.Row.{Row}
 use Rattle.tables.specs.declared.Size.{Size}
-use Rattle.tables.specs.Meaning.{held}
-use Rattle.tables.specs.Spans.{span_at, failing_span, commands_of}
+use Rattle.tables.specs.declared.sound_plan.SoundPlan.{SoundPlan}
+use Rattle.tables.specs.Meaning.{held, lent}
+use Rattle.tables.specs.Spans.{span_at, failing_span}
+use Rattle.tables.proofs.SoundPlans.{plan_ready}
 use Rattle.tables.proofs.SpanFacts.{span_failing}
 use Rattle.choice.specs.Within.{within}
-use Rattle.propagate.specs.Net.{net_of, losing, depth, seeds, Seeded}
+use Rattle.propagate.specs.Net.{Net, net_of, outcomes_of, losing, depth, seeds, Seeded}
 use Rattle.nets.specs.Nets.{practice_place, seed_of, one_end}
 use Rattle.nets.specs.Found.{depth_table}
 use Rattle.nets.proofs.NetSteps.{losing_all, losing_practice}
@@ -51,69 +53,81 @@ zero_or_none false = inr refl
 pub filled_past : {n : ℕ} {f : ℕ → ℕ} {l₀ l : List ℕ} → Filled n f l₀ l → Filled n (λ s. get_or l s 0) l₀ l
 filled_past v = record { same = v.same; low = λ x h. refl; high = v.high }
 
-module _ (size : Size) (rows : List Row) (firsts outcomes : List ℕ) (sounds : sound (held size rows firsts outcomes) ≡ true) where
+module _ (p : SoundPlan) where
   abbrev T : Tables
-  T = held size rows firsts outcomes
+  T = lent p.plan
 
   abbrev P : Plan
   P = plan_in T
 
-  few : size.n ≤ max_states
-  few = ((sound_facts T).0 sounds).size.few
+  abbrev n : ℕ
+  n = p.plan.size.n
+
+  abbrev net : List ℕ → List ℕ → Net
+  net = net_of n (outcomes_of p)
+
+  few : n ≤ max_states
+  few = (plan_ready p).few
 
   -- a table of seeds
-  module _ (r : List ℕ) (long : size.n ≤ length r) (sown : (s : ℕ) → s < size.n → get_or r s 0 ≡ seed_of (span_at T s)) where
-    pub sown_seeded : Seeded size.n r
+  module _ (r : List ℕ) (long : n ≤ length r) (sown : (s : ℕ) → s < n → get_or r s 0 ≡ seed_of (span_at T s)) where
+    pub sown_seeded : Seeded n r
     unfolding seed_of
     sown_seeded = record { seeded = λ s l. rw (sown s l) (zero_or_none (failing_span (span_at T s))) }
 
-    seeds_are : Agree size.n (seeds r) (failing P)
+    seeds_are : Agree n (seeds r) (failing P)
     unfolding seed_of
     seeds_are s l = rw (get_or_inside r s 1 0 (omega arith), sown s l) (zero_test (failing_span (span_at T s))) ∙ span_failing T s l
 
-    module _ (w e : List ℕ) {r' : List ℕ} (found : r' ≡ depth_table (net_of size.n (commands_of size firsts outcomes) w e) r) where
-      filled : Filled size.n (λ s. entry (depth (net_of size.n (commands_of size firsts outcomes) w e) (seeds r) s)) r r'
+    module _ (w e : List ℕ) {r' : List ℕ} (found : r' ≡ depth_table (net w e) r) where
+      filled : Filled n (λ s. entry (depth (net w e) (seeds r) s)) r r'
       filled = filled_of long found
 
-      pub depths_filled : Filled size.n (λ s. get_or r' s 0) r r'
+      pub depths_filled : Filled n (λ s. get_or r' s 0) r r'
       depths_filled = filled_past filled
 
       -- ---- all commands
 
-      module _ (begins : (s : ℕ) → s < size.n → get_or w s 0 ≡ (span_at T s).first)
-          (stops : (s : ℕ) → s < size.n → get_or e s 0 ≡ (span_at T s).end) where
-        depth_rank : (s : ℕ) → s < size.n → depth (net_of size.n (commands_of size firsts outcomes) w e) (seeds r) s ≡ rank P s
+      module _ (begins : (s : ℕ) → s < n → get_or w s 0 ≡ (span_at T s).first)
+          (stops : (s : ℕ) → s < n → get_or e s 0 ≡ (span_at T s).end) where
+        depth_rank : (s : ℕ) → s < n → depth (net w e) (seeds r) s ≡ rank P s
         unfolding depth rank
         depth_rank s l =
-            lowest_same _ _ (suc size.n) (λ k _.
-            grow_same size.n (losing (net_of size.n (commands_of size firsts outcomes) w e)) (forced P)
-            (λ A B h x g. losing_all size rows firsts outcomes w e sounds A B h x g (begins x g) (stops x g))
+            lowest_same _ _ (suc n) (λ k _.
+            grow_same n (losing (net w e)) (forced P)
+            (λ A B h x g. losing_all p w e A B h x g (begins x g) (stops x g))
             (seeds r) (failing P) seeds_are k s l)
             ∙ ap (λ (j : ℕ). lowest (λ k. layer P k s) (suc j)) (sym (states_held T))
 
-        pub ranks_found : Filled size.n (λ s. entry (rank P s)) r r'
+        pub ranks_found : Filled n (λ s. entry (rank P s)) r r'
         ranks_found = filled_as (λ s l. ap entry (depth_rank s l)) filled
 
       -- ---- the practice alone
 
-      depth_small : (s i : ℕ) → depth (net_of size.n (commands_of size firsts outcomes) w e) (seeds r) s ≡ some i → i ≤ highest
+      depth_small : (s i : ℕ) → depth (net w e) (seeds r) s ≡ some i → i ≤ highest
       unfolding depth
-      depth_small s i q = omega (arith, (lowest_some _ (suc size.n) i q).0, few)
+      depth_small s i q = omega (arith, (lowest_some _ (suc n) i q).0, few)
 
-      module _ (begins : (s : ℕ) → s < size.n → get_or w s 0 ≡ practice_place (span_at T s))
-          (stops : (s : ℕ) → s < size.n → get_or e s 0 ≡ one_end (practice_place (span_at T s)) (span_at T s).end) where
-        pub fails_found : Agree size.n (within r' highest) (practice_fails P)
+      module _ (begins : (s : ℕ) → s < n → get_or w s 0 ≡ practice_place (span_at T s))
+          (stops : (s : ℕ) → s < n → get_or e s 0 ≡ one_end (practice_place (span_at T s)) (span_at T s).end) where
+        pub fails_found : Agree n (within r' highest) (practice_fails P)
         unfolding depth practice_fails
         fails_found s l =
             rw (filled.low s l)
-            (entry_found (depth (net_of size.n (commands_of size firsts outcomes) w e) (seeds r) s) (depth_small s)
-            ∙ grow_found (losing (net_of size.n (commands_of size firsts outcomes) w e)) (seeds r) size.n s
-            ∙ grow_same size.n _ (practice_hits P)
-            (λ A B h x g. losing_practice size rows firsts outcomes w e sounds A B h x g (begins x g) (stops x g))
-            (seeds r) (failing P) seeds_are size.n s l
+            (entry_found (depth (net w e) (seeds r) s) (depth_small s)
+            ∙ grow_found (losing (net w e)) (seeds r) n s
+            ∙ grow_same n _ (practice_hits P)
+            (λ A B h x g. losing_practice p w e A B h x g (begins x g) (stops x g))
+            (seeds r) (failing P) seeds_are n s l
             ∙ ap (λ (j : ℕ). grow (practice_hits P) (failing P) j s) (sym (states_held T)))
 
-  -- the lost states are those of a rank
-  pub lost_found : {r₀ r' : List ℕ} → Filled size.n (λ s. entry (rank P s)) r₀ r' → Agree size.n (within r' highest) (lost P)
+-- the lost states are those of a rank
+module _ (size : Size) (rows : List Row) (firsts outcomes : List ℕ) (sounds : sound (held size rows firsts outcomes) ≡ true) where
+  abbrev U : Tables
+  U = held size rows firsts outcomes
+
+  pub lost_found : {r₀ r' : List ℕ} → Filled size.n (λ s. entry (rank (plan_in U) s)) r₀ r' → Agree size.n (within r' highest) (lost (plan_in U))
   unfolding lost
-  lost_found v s l = rw (v.low s l) (entry_found (rank P s) (λ i q. omega (arith, rank_bound P s i q, states_held T, few)))
+  lost_found v s l =
+      rw (v.low s l)
+      (entry_found (rank (plan_in U) s) (λ i q. omega (arith, rank_bound (plan_in U) s i q, states_held U, ((sound_facts U).0 sounds).size.few)))

@@ -10,16 +10,19 @@ use native.Mathlib.Omega.{arith}
 use lib.Dec.{eqb}
 use lib.ListN.{length, get_or}
 use borrow.Author.Tests.{lt-ltb, le-ltb, eq-eqb, ne_eqb}
+use Rattle.std.specs.Bool.{then_some}
 use Rattle.laws.specs.Entry.{FFFF, entry}
 use Rattle.laws.specs.Sets.{grow}
 use Rattle.laws.proofs.Defaults.{get_or_inside}
-use Rattle.laws.proofs.Fills.{filled_none, filled_next, filled_as, filled_is, filled_of}
+use Rattle.laws.proofs.Fills.{filled_as, filled_is, filled_of}
 use Rattle.laws.proofs.Sets.{lowest_some, lowest_eq}
 use Rattle.laws.proofs.Tests.{clash}
 use Rattle.model.specs.Tables.{Lists}
+use Rattle.tables.specs.Meaning.{option_of}
 use Rattle.propagate.specs.Net.{Net, net_of, depth, seeds, Seeded}
-use Rattle.nets.specs.Nets.{one_end, seed_again, StateKept, PracticeKept}
+use Rattle.nets.specs.Nets.{one_end, seed_again, PracticeKept}
 use Rattle.nets.specs.Found.{depth_table, copied, OwnRanges, PracticeFound}
+use Rattle.nets.proofs.Initializing.{zero_entry}
 
 -- ---- of one state
 
@@ -40,11 +43,15 @@ module _ (from to : ℕ) where
       go (no h) = omega (arith, end_none (omega arith))
 
 module _ (rank : ℕ) where
-  pub again_seed : rank ≡ 0 → 0 ≡ seed_again rank
+  pub again_is : entry (option_of (then_some (eqb rank 0) 0)) ≡ seed_again rank
+  unfolding seed_again
+  again_is = zero_entry (eqb rank 0)
+
+  again_seed : rank ≡ 0 → 0 ≡ seed_again rank
   unfolding seed_again
   again_seed h = rw (eq-eqb rank 0 h)
 
-  pub again_none : (rank ≡ 0 → ⊥) → FFFF ≡ seed_again rank
+  again_none : (rank ≡ 0 → ⊥) → FFFF ≡ seed_again rank
   unfolding seed_again
   again_none h = rw (ne_eqb rank 0 h)
 
@@ -58,33 +65,6 @@ module _ (rank : ℕ) where
 
   pub again_small : seed_again rank < 65536
   again_small = ⊎_elim (λ e. omega (arith, e)) (λ e. omega (arith, e)) again_either
-
--- ---- of the states one after another
-
-pub kept_start : {r w e m : List ℕ} → PracticeKept 0 r w e m w e m
-kept_start = record { begins = filled_none; stops = filled_none; seeded = filled_none }
-
-module _ {i : ℕ} {r w₀ e₀ m₀ w e m : List ℕ} (v : PracticeKept i r w₀ e₀ m₀ w e m) where
-  -- what is read at i is as it was
-  place_read : get_or m i 0 ≡ get_or m₀ i 0
-  place_read = v.seeded.high i (omega arith)
-
-  end_read : get_or e i 0 ≡ get_or e₀ i 0
-  end_read = v.stops.high i (omega arith)
-
-  pub kept_room : {b : ℕ} → (get_or m₀ i 0 ≤ get_or e₀ i 0) × (get_or e₀ i 0 ≤ b) → (get_or m i 0 ≤ get_or e i 0) × (get_or e i 0 ≤ b)
-  kept_room h = rw (place_read, end_read) h
-
-  pub kept_next : i < length w₀ → i < length e₀ → i < length m₀ → (w' e' m' : List ℕ) → StateKept i r w e m w' e' m'
-      → PracticeKept (i + 1) r w₀ e₀ m₀ w' e' m'
-  kept_next lw le lm w' e' m' u = record {
-    begins = filled_next v.begins lw _ place_read w' u.begins;
-    stops = filled_next v.stops le _ (rw (place_read, end_read)) e' u.stops;
-    seeded = filled_next v.seeded lm _ refl m' u.seeded;
-  }
-
-  pub kept_done : (n : ℕ) → i ≤ n → n ≤ i → PracticeKept n r w₀ e₀ m₀ w e m
-  kept_done n h k = let q : n ≡ i = omega arith in rw q v
 
 -- ---- the seeds come back: only they have rank 0
 

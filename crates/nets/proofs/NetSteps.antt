@@ -19,17 +19,15 @@ use Rattle.model.specs.Verdict.{hits, forced}
 use Rattle.model.specs.Practice.{practice_hits}
 use Rattle.model.specs.Tables.{Tables}
 use Rattle.model.specs.Places.{row_at, first_command, command_count}
-use Rattle.model.specs.SoundTest.{sound}
 use Rattle.model.specs.Held.{plan_in}
 use Rattle.model.proofs.StateKinds.{active_is, command_active}
 use Rattle.model.proofs.PracticeHits.{practice_hits_words}
 use Rattle.model.proofs.HeldPlan.{states_held, practice_held, commands_held}
 use Rattle.model.proofs.Valid.{sound_valid}
-use Rattle.tables.specs.declared.Row.{Row}
-use Rattle.tables.specs.declared.Size.{Size}
-use Rattle.tables.specs.Meaning.{held}
-use Rattle.tables.specs.Spans.{span_at, commands_of}
-use Rattle.propagate.specs.Net.{net_of, from, to, losing}
+use Rattle.tables.specs.declared.sound_plan.SoundPlan.{SoundPlan}
+use Rattle.tables.specs.Meaning.{lent}
+use Rattle.tables.specs.Spans.{span_at}
+use Rattle.propagate.specs.Net.{Net, net_of, outcomes_of, from, to, losing}
 use Rattle.choice.specs.Within.{command_hits}
 use Rattle.nets.specs.Nets.{practised, practice_place, one_end}
 use Rattle.nets.proofs.Keeping.{end_one, end_none}
@@ -45,24 +43,26 @@ pub practice_below : (T : Tables) (s : ℕ) → s < T.size.n → has_practice (p
 unfolding has_practice
 practice_below T s l e = rw (← practice_held T s l) (ltb-true ((plan_in T).practice s) ((plan_in T).commands s) e)
 
-module _ (size : Size) (rows : List Row) (firsts outcomes watch ends : List ℕ)
-    (sounds : sound (held size rows firsts outcomes) ≡ true) (A B : ℕ → Bool) (same : Agree size.n A B) (s : ℕ) (l : s < size.n) where
+module _ (p : SoundPlan) (watch ends : List ℕ) (A B : ℕ → Bool) (same : Agree p.plan.size.n A B) (s : ℕ) (l : s < p.plan.size.n) where
   abbrev T : Tables
-  T = held size rows firsts outcomes
+  T = lent p.plan
+
+  abbrev N : Net
+  N = net_of p.plan.size.n (outcomes_of p) watch ends
 
   abbrev P : Plan
   P = plan_in T
 
   -- an outcome in A at a place is an outcome in B of the command
-  hit_is : (c : ℕ) → c < P.commands s → command_hits (commands_of size firsts outcomes) A (first_command T s + c) ≡ hits P B s c
-  hit_is c m = hits_place size rows firsts outcomes A s c l m ∙ hits_agree T sounds A B same s l c m
+  hit_is : (c : ℕ) → c < P.commands s → command_hits (outcomes_of p) A (first_command T s + c) ≡ hits P B s c
+  hit_is c m = hits_place p A s c l m ∙ hits_agree T p.sounds A B same s l c m
 
   -- of a net whose range at s is known
   losing_words : (a b : ℕ) → get_or watch s 0 ≡ a → get_or ends s 0 ≡ b
-      → losing (net_of size.n (commands_of size firsts outcomes) watch ends) A s
-      ≡ (ltb a b && every (λ i. command_hits (commands_of size firsts outcomes) A (a + i)) (b - a))
+      → losing N A s
+      ≡ (ltb a b && every (λ i. command_hits (outcomes_of p) A (a + i)) (b - a))
   unfolding losing from to
-  losing_words a b p q = rw (p, q)
+  losing_words a b e f = rw (e, f)
 
   -- ---- all commands
 
@@ -70,12 +70,12 @@ module _ (size : Size) (rows : List Row) (firsts outcomes watch ends : List ℕ)
   unfolding command_count
   active_test =
       same_test (ltb (first_command T s) (first_command T (suc s))) (active P s)
-      (λ e. command_active P s (sound_valid T sounds) (rw (states_held T) l) 0
+      (λ e. command_active P s (sound_valid T p.sounds) (rw (states_held T) l) 0
       (omega (arith, ltb-true (first_command T s) (first_command T (suc s)) e, commands_held T s l)))
       (λ e. lt-ltb (first_command T s) (first_command T (suc s)) (omega (arith, (active_is P s e).1, commands_held T s l)))
 
   pub losing_all : get_or watch s 0 ≡ (span_at T s).first → get_or ends s 0 ≡ (span_at T s).end
-      → losing (net_of size.n (commands_of size firsts outcomes) watch ends) A s ≡ forced P B s
+      → losing N A s ≡ forced P B s
   unfolding forced command_count
   losing_all begins stops =
       losing_words (first_command T s) (first_command T (suc s)) begins (stops ∙ rw (add-one s))
@@ -86,7 +86,7 @@ module _ (size : Size) (rows : List Row) (firsts outcomes watch ends : List ℕ)
 
   module _ (begins : get_or watch s 0 ≡ practice_place (span_at T s))
       (stops : get_or ends s 0 ≡ one_end (practice_place (span_at T s)) (span_at T s).end) where
-    none : practised (span_at T s) ≡ false → losing (net_of size.n (commands_of size firsts outcomes) watch ends) A s
+    none : practised (span_at T s) ≡ false → losing N A s
         ≡ (has_practice P s && hits P B s (P.practice s))
     unfolding practice_place
     none e =
@@ -94,18 +94,18 @@ module _ (size : Size) (rows : List Row) (firsts outcomes watch ends : List ℕ)
         losing_words f f (begins ∙ rw e) (stops ∙ rw e (sym (end_none f f (omega arith))))
         ∙ rw (le-ltb f f (omega arith), ← practised_is T s l, e)
 
-    given : practised (span_at T s) ≡ true → losing (net_of size.n (commands_of size firsts outcomes) watch ends) A s
+    given : practised (span_at T s) ≡ true → losing N A s
         ≡ (has_practice P s && hits P B s (P.practice s))
     unfolding practice_place every command_count
     given e =
-        let p = (row_at T s).practice in
+        let i = (row_at T s).practice in
         let f = first_command T s in
-        let one : f + p + 1 - (f + p) ≡ suc zero = omega arith in
+        let one : f + i + 1 - (f + i) ≡ suc zero = omega arith in
         let below = practice_below T s l (sym (practised_is T s l) ∙ e) in
-        let inside : f + p < (span_at T s).end = rw (add-one s) (omega (arith, below, commands_held T s l)) in
-        losing_words (f + p) (f + p + 1) (begins ∙ rw e) (stops ∙ rw e (sym (end_one (f + p) (span_at T s).end inside)))
-        ∙ rw (lt-ltb (f + p) (f + p + 1) (omega arith), one, add-zero (f + p), ← practised_is T s l, e, practice_held T s l)
-        (hit_is p below)
+        let inside : f + i < (span_at T s).end = rw (add-one s) (omega (arith, below, commands_held T s l)) in
+        losing_words (f + i) (f + i + 1) (begins ∙ rw e) (stops ∙ rw e (sym (end_one (f + i) (span_at T s).end inside)))
+        ∙ rw (lt-ltb (f + i) (f + i + 1) (omega arith), one, add-zero (f + i), ← practised_is T s l, e, practice_held T s l)
+        (hit_is i below)
 
-    pub losing_practice : losing (net_of size.n (commands_of size firsts outcomes) watch ends) A s ≡ practice_hits P B s
+    pub losing_practice : losing N A s ≡ practice_hits P B s
     losing_practice = rw (practice_hits_words P B s) (⊎_elim given none (true_or_false (practised (span_at T s))))

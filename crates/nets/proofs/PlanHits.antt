@@ -2,7 +2,6 @@
 use mathlib.Core.Path.{◌≡◌, sym, ap, ◌∙◌}
 use mathlib.Core.Bool.{Bool, true}
 use mathlib.Core.Logic.{⊎_elim}
-use mathlib.Core.List.{List}
 use Prim.Native.Nat.{ℕ, ◌+◌, ◌<◌}
 use lib.Dec.{ltb}
 use borrow.Author.Tests.{ltb-true}
@@ -24,11 +23,10 @@ use Rattle.model.proofs.HeldPlan.{states_held, commands_held}
 use Rattle.model.proofs.Valid.{sound_valid}
 use Rattle.choice.proofs.Choices.{hits_held}
 use Rattle.choice.proofs.Outcomes.{command_hits_any}
-use Rattle.tables.specs.declared.Row.{Row}
-use Rattle.tables.specs.declared.Size.{Size}
-use Rattle.tables.specs.Meaning.{held}
-use Rattle.tables.specs.Spans.{commands_of}
+use Rattle.tables.specs.declared.sound_plan.SoundPlan.{SoundPlan}
+use Rattle.tables.specs.Meaning.{lent}
 use Rattle.choice.specs.Within.{command_hits}
+use Rattle.propagate.specs.Net.{outcomes_of}
 
 module _ (T : Tables) (sounds : sound T ≡ true) (A B : ℕ → Bool) (same : Agree T.size.n A B) (s : ℕ) (l : s < T.size.n) where
   -- outcomes are states
@@ -48,11 +46,9 @@ module _ (T : Tables) (sounds : sound T ≡ true) (A B : ℕ → Bool) (same : A
       (⊎_elim (λ e. rw e (hits_agree _ (ltb-true _ _ e))) (λ e. rw e)
       (true_or_false (ltb ((plan_in T).practice s) ((plan_in T).commands s))))
 
-module _ (size : Size) (rows : List Row) (firsts outcomes : List ℕ) where
-  -- a state's command, by its place
-  pub hits_place : (A : ℕ → Bool) (s c : ℕ) → s < size.n → c < (plan_in (held size rows firsts outcomes)).commands s
-      → command_hits (commands_of size firsts outcomes) A (first_command (held size rows firsts outcomes) s + c)
-      ≡ hits (plan_in (held size rows firsts outcomes)) A s c
-  hits_place A s c l m =
-      let T = held size rows firsts outcomes in
-      command_hits_any (commands_of size firsts outcomes) A _ ∙ sym (hits_held T A s l c (rw (commands_held T s l) at m))
+-- a state's command, by its place
+pub hits_place : (p : SoundPlan) (A : ℕ → Bool) (s c : ℕ) → s < p.plan.size.n → c < (plan_in (lent p.plan)).commands s
+    → command_hits (outcomes_of p) A (first_command (lent p.plan) s + c) ≡ hits (plan_in (lent p.plan)) A s c
+hits_place p A s c l m =
+    let T = lent p.plan in
+    command_hits_any (outcomes_of p) A _ ∙ sym (hits_held T A s l c (rw (commands_held T s l) at m))

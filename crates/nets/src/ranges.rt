@@ -1,10 +1,14 @@
 // What the propagations start from, state by state.
 ghost use Rattle.std.specs.Prelude.{◌≡◌, ℕ, ◌<◌, ◌≤◌, length, get_or};
+ghost use Rattle.laws.specs.Entry.{entry};
 ghost use Rattle.model.specs.File.{max_states, max_commands};
+ghost use Rattle.tables.specs.Meaning.{lent, option_of};
+ghost use Rattle.tables.specs.Spans.{span_at};
 ghost use Rattle.nets.specs.Nets.{practice_place, seed_of, one_end, seed_again, StateInitialized, StateKept, PracticeKept};
 
 use crate::propagations::has_practice;
-use tables::entries::{NONE, at, put};
+use tables::entries::{at, put, put_option};
+use tables::sound_plan::SoundPlan;
 use tables::spans::{Span, is_failing};
 
 // Where the practice stands among all commands, or where the state's commands end.
@@ -12,37 +16,36 @@ fn practice_place(span: Span) -> usize
     requires { (span.first ≤ span.end) × (span.end ≤ max_commands) }
     ensures { result ≡ practice_place span }
 {
-    if !has_practice(span) {
-        return span.end;
+    if has_practice(span) {
+        span.first + span.practice
+    } else {
+        span.end
     }
-    span.first + span.practice
 }
 
-// Rank 0 at a failing state, else none.
-fn seed_of(span: Span) -> usize
-    ensures { result ≡ seed_of span }
+// Rank 0 at a failing state.
+fn seed_of(span: Span) -> Option<usize>
+    ensures { entry (option_of result) ≡ seed_of span }
 {
-    if !is_failing(span) {
-        return NONE;
-    }
-    0
+    is_failing(span).then_some(0)
 }
 
-// Initializes state s, of which `span` was read.
+// Initializes state s.
 pub fn initialize_state(
-    span: Span,
+    checked: &SoundPlan,
     ranks: &mut [u16],
     froms: &mut [u16],
     tos: &mut [u16],
     places: &mut [u16],
     s: usize,
 )
-    requires first_le_end { (span.first ≤ span.end) × (span.end ≤ max_commands) }
-    requires s_in_bounds { (s < length ranks.old) × (s < length froms.old) × (s < length tos.old) × (s < length places.old) }
-    ensures { StateInitialized span s ranks.old froms.old tos.old places.old
+    requires { (s < checked.now.plan.size.n)
+        × (s < length ranks.old) × (s < length froms.old) × (s < length tos.old) × (s < length places.old) }
+    ensures { StateInitialized (span_at (lent checked.now.plan) s) s ranks.old froms.old tos.old places.old
         ranks.new froms.new tos.new places.new }
 {
-    put(ranks, s, seed_of(span));
+    let span = checked.span(s);
+    put_option(ranks, s, seed_of(span));
     put(froms, s, span.first);
     put(tos, s, span.end);
     put(places, s, practice_place(span));
@@ -53,20 +56,14 @@ fn one_end(from: usize, to: usize) -> usize
     requires { to ≤ max_commands }
     ensures { result ≡ one_end from to }
 {
-    if from < to {
-        return from + 1;
-    }
-    to
+    if from < to { from + 1 } else { to }
 }
 
 // A state's seed, by its rank: only where the seed is 0 is the rank 0.
-fn seed_again(rank: usize) -> usize
-    ensures { result ≡ seed_again rank }
+fn seed_again(rank: usize) -> Option<usize>
+    ensures { entry (option_of result) ≡ seed_again rank }
 {
-    if rank != 0 {
-        return NONE;
-    }
-    0
+    (rank == 0).then_some(0)
 }
 
 // Of the commands that count at state s, keeps the practice alone.
@@ -80,7 +77,7 @@ fn keep_practice_at(ranks: &[u16], froms: &mut [u16], tos: &mut [u16], fails: &m
     let end = one_end(place, at(tos, s));
     put(froms, s, place);
     put(tos, s, end);
-    put(fails, s, seed_again(at(ranks, s)));
+    put_option(fails, s, seed_again(at(ranks, s)));
 }
 
 // Of the commands that count at each state, keeps the practice alone. At entry `fails` says where it stands; afterwards it has the seeds,
@@ -92,9 +89,7 @@ pub fn keep_practice(n: usize, ranks: &[u16], froms: &mut [u16], tos: &mut [u16]
     ensures { PracticeKept n ranks.now froms.old tos.old fails.old
         froms.new tos.new fails.new }
 {
-    let mut s = 0;
-    while s < n {
+    for s in 0..n {
         keep_practice_at(ranks, froms, tos, fails, s);
-        s += 1;
     }
 }

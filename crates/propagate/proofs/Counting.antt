@@ -1,5 +1,5 @@
 -- How many states have a rank, and the queue that is no longer than that.
-use mathlib.Core.Path.{◌≡◌, refl, sym, ap, ◌∙◌}
+use mathlib.Core.Path.{◌≡◌, refl, ap, ◌∙◌}
 use mathlib.Core.Bool.{true, false, not}
 use mathlib.Core.List.{List}
 use Prim.Native.Nat.{ℕ, ◌+◌, ◌≤◌, ◌<◌}
@@ -24,14 +24,14 @@ pub no_rank : (x : ℕ) → x ≡ FFFF → not (eqb x FFFF) ≡ false
 no_rank x h = rw (eq-eqb x FFFF h)
 
 -- while some state has no rank there is room in the queue
-pub queue_room : (n : ℕ) (r w q : List ℕ) (end : ℕ) → QueueBound n (progress r w q end) → (s y : ℕ) → s < n → y ≡ get_or r s 0 → y ≡ FFFF
+pub queue_room : (n : ℕ) (r w q : List ℕ) (end : ℕ) → QueueBound n (progress r w q end) → (s : ℕ) → s < n → get_or r s 0 ≡ FFFF
     → end < n
 unfolding rank_count
-queue_room n r w q end v s y h p e =
+queue_room n r w q end v s h e =
     let l : rank_count n r < n =
     omega (
       arith,
-      many_lt (λ i. not (eqb (get_or r i 0) FFFF)) (λ i. true) n (λ i g t. refl) s h (no_rank (get_or r s 0) (sym p ∙ e)) refl,
+      many_lt (λ i. not (eqb (get_or r i 0) FFFF)) (λ i. true) n (λ i g t. refl) s h (no_rank (get_or r s 0) e) refl,
       many_bound (λ i. true) n,
     ) in
     omega (arith, v.few)
@@ -51,7 +51,7 @@ module _ (n : ℕ) (r : List ℕ) (s x : ℕ) (h : s < n) (long : n ≤ length r
 
   module _ (w q : List ℕ) (end : ℕ) (v : QueueBound n (progress r w q end)) (qlong : n ≤ length q) where
     room : end < n
-    room = queue_room n r w q end v s (get_or r s 0) h refl e
+    room = queue_room n r w q end v s h e
 
     pub bound_next : (w' : List ℕ) → QueueBound n (progress (set r s x) w' (set q end s) (end + 1))
     bound_next w' = record { few = omega (arith, v.few, count_more); states = λ i g. go i g (dec_lt i end) }

@@ -4,7 +4,7 @@ use mathlib.Core.Bool.{Bool, true, false}
 use mathlib.Core.Logic.{⊎_elim}
 use mathlib.Core.List.{List}
 use mathlib.Core.Option.{none, some}
-use Prim.Native.Nat.{ℕ, suc, ◌+◌, ◌≤◌, ◌<◌}
+use Prim.Native.Nat.{ℕ, suc, ◌≤◌, ◌<◌}
 use native.Mathlib.Decide.{ℕ_discrete}
 use native.Mathlib.Omega.{arith}
 use borrow.Author.Tests.{le-leb, lt-leb}
@@ -18,8 +18,8 @@ use Rattle.laws.proofs.Grow.{grow_step, still_all}
 use Rattle.laws.proofs.Overwrites.{overwrite_is}
 use Rattle.model.specs.Tables.{Lists}
 use Rattle.tables.specs.Ready.{Ready}
-use Rattle.propagate.specs.Net.{Net, net_of, losing, net_layer, depth, seeds, Ranges, Owns}
-use Rattle.propagate.specs.Progress.{Progress, progress, QueueBound, AtLayer, Layered}
+use Rattle.propagate.specs.Net.{Net, net_of, losing, net_layer, depth, seeds, Ranges}
+use Rattle.propagate.specs.Progress.{Progress, progress, QueueBound, AtLayer}
 use Rattle.propagate.proofs.Hits.{lose_mono}
 use Rattle.propagate.proofs.Counting.{count_le}
 use Rattle.propagate.proofs.LayerSteps.{none_waits, lost_waits}
@@ -65,55 +65,27 @@ module _ (N : Net) (R : Ready N.states N.commands) (ends : Ranges N.states N.com
           before : r s ≤ k → (j : ℕ) → j < r s → net_layer N K j s ≡ false
           before l j g = sym (u.towards.ranked j s (omega arith) h) ∙ lt-leb (r s) j g
 
--- The loop at layer k, from the tables r₀, w₀, q₀. As many states wait or have waited as layers are done, so there are no more than n.
-pub record Going (n : ℕ) (C : Lists) (tos r₀ w₀ q₀ : List ℕ) (r w q : List ℕ) (lo hi k : ℕ) : Type 0 where
+-- The loop at layer k, from the tables r₀ and w₀. As many states wait or have waited as layers are done, so there are no more than n.
+pub record Going (n : ℕ) (C : Lists) (tos r₀ w₀ r w q : List ℕ) (lo hi k : ℕ) : Type 0 where
   pub order : lo ≤ hi
   pub layers : k ≤ lo
-  pub bound : QueueBound (n) (progress r w q hi)
+  pub bound : QueueBound n (progress r w q hi)
   pub rest : (i : ℕ) → n ≤ i → get_or r i 0 ≡ get_or r₀ i 0
   pub at_layer : AtLayer (net_of n C w₀ tos) (seeds r₀) k lo (progress r w q hi)
-  pub long : length r ≡ length r₀
-  pub wlong : length w ≡ length w₀
-  pub qlong : length q ≡ length q₀
 
 module _ {n : ℕ} (C : Lists) (tos r₀ w₀ : List ℕ) where
-  pub going_start : (q₀ q : List ℕ) (e : ℕ) → QueueBound (n) (progress r₀ w₀ q e)
-      → AtLayer (net_of n C w₀ tos) (seeds r₀) 0 0 (progress r₀ w₀ q e)
-      → length q ≡ length q₀
-      → Going n C tos r₀ w₀ q₀ r₀ w₀ q 0 e 0
-  going_start q₀ q e bound u l = record {
-    order = omega arith;
-    layers = omega arith;
-    bound = bound;
-    rest = λ i h. refl;
-    at_layer = u;
-    long = refl;
-    wlong = refl;
-    qlong = l;
-  }
+  pub going_start : (q : List ℕ) (e : ℕ) → QueueBound n (progress r₀ w₀ q e)
+      → AtLayer (net_of n C w₀ tos) (seeds r₀) 0 0 (progress r₀ w₀ q e) → Going n C tos r₀ w₀ r₀ w₀ q 0 e 0
+  going_start q e bound u = record { order = omega arith; layers = omega arith; bound = bound; rest = λ i h. refl; at_layer = u }
 
-  module _ (q₀ r w q : List ℕ) (lo hi k : ℕ) (v : Going n C tos r₀ w₀ q₀ r w q lo hi k) where
+  module _ (r w q : List ℕ) (lo hi k : ℕ) (v : Going n C tos r₀ w₀ r w q lo hi k) where
     pub going_few : hi ≤ n
-    going_few = omega (arith, v.bound.few, count_le (n) r)
+    going_few = omega (arith, v.bound.few, count_le n r)
 
-    pub going_next : (owner : List ℕ) → Owns (net_of n C w₀ tos) owner → lo < hi → (r' w' q' : List ℕ) (e : ℕ)
-        → Layered n C tos owner k lo (progress r w q hi) (progress r' w' q' e)
-        → length r' ≡ length r → length w' ≡ length w → length q' ≡ length q → Going n C tos r₀ w₀ q₀ r' w' q' hi e (k + 1)
-    going_next owner own h r' w' q' e L lr lw lq = record {
-      order = L.more;
-      layers = omega (arith, v.layers);
-      bound = L.bound;
-      rest = λ i g. L.rest i g ∙ v.rest i g;
-      at_layer = L.at_layer w₀ (seeds r₀) own v.at_layer;
-      long = lr ∙ v.long;
-      wlong = lw ∙ v.wlong;
-      qlong = lq ∙ v.qlong;
-    }
-
-    pub going_done : Ready n C → Ranges n C.count tos → n ≤ length r₀ → hi ≤ lo
-        → r ≡ overwrite (tabulate (λ (s : ℕ). entry (depth (net_of n C w₀ tos) (seeds r₀) s)) 0 (n)) r₀
-    going_done R ends long h =
-        overwrite_is (λ (s : ℕ). entry (depth (net_of n C w₀ tos) (seeds r₀) s)) (n) r₀ long r v.long
+    pub going_done : Ready n C → Ranges n C.count tos → n ≤ length r₀ → length r ≡ length r₀ → hi ≤ lo
+        → r ≡ overwrite (tabulate (λ (s : ℕ). entry (depth (net_of n C w₀ tos) (seeds r₀) s)) 0 n) r₀
+    going_done R ends long same h =
+        overwrite_is (λ (s : ℕ). entry (depth (net_of n C w₀ tos) (seeds r₀) s)) n r₀ long r same
         (depth_is (net_of n C w₀ tos) R ends (seeds r₀) k lo (omega (arith, v.layers, v.order, going_few)) (progress r w q hi)
         v.at_layer h)
         v.rest

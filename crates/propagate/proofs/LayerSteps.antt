@@ -1,19 +1,18 @@
 -- A layer from the states of the last one: the walk over the queue from lo on, below hi, at place h.
-use mathlib.Core.Path.{◌≡◌, refl, sym, ◌∙◌}
-use mathlib.Core.Bool.{Bool, true, ◌&&◌}
+use mathlib.Core.Path.{◌≡◌, sym, ◌∙◌}
+use mathlib.Core.Bool.{Bool, true}
 use mathlib.Core.Logic.{⊎_elim}
 use mathlib.Core.List.{List, Memᴰ}
 use Prim.Native.Nat.{ℕ, suc, ◌+◌, ◌≤◌, ◌<◌}
 use native.Mathlib.Decide.{dec_lt, dec_le, ℕ_discrete}
 use native.Mathlib.Numerals.{add-one}
 use native.Mathlib.Omega.{arith}
-use borrow.Author.Tests.{le-leb, leb-true, eq-eqb, eqb-true}
-use lib.Dec.{eqb, leb}
+use borrow.Author.Tests.{le-leb, leb-true}
+use lib.Dec.{leb}
 use lib.ListN.{get_or}
 use Rattle.laws.specs.Entry.{FFFF}
 use Rattle.laws.specs.Starts.{start_of}
-use Rattle.laws.proofs.Tests.{same_test, and_both, and_join}
-use Rattle.laws.proofs.Sets.{exists_at, exists_of}
+use Rattle.laws.proofs.Tests.{same_test}
 use Rattle.laws.proofs.Grow.{grow_step, grow_more, grow_add}
 use Rattle.laws.proofs.Starts.{start_next}
 use Rattle.model.specs.Tables.{Lists}
@@ -25,20 +24,7 @@ use Rattle.propagate.specs.Net.{Net, net_of, losing, net_layer, Ranges, Indexed,
 use Rattle.propagate.specs.Progress.{Progress, QueueBound, TowardsLayer, Moved, Among, waiting, AtLayer, Layered}
 use Rattle.propagate.proofs.Hits.{hit_some, hit_of, hit_more, lose_some, lose_at, to_in}
 use Rattle.propagate.proofs.Counting.{count_le}
-
-module _ (q : List ℕ) (lo hi o : ℕ) where
-  pub wait_at : waiting q lo hi o ≡ true → (i : ℕ) × (lo ≤ i) × (i < hi) × (get_or q i 0 ≡ o)
-  unfolding waiting
-  wait_at t =
-      let (i, l, e) = exists_at (λ i. leb lo i && eqb (get_or q i 0) o) hi t in
-      let b = and_both (leb lo i) (eqb (get_or q i 0) o) e in
-      (i, leb-true lo i b.0, l, eqb-true (get_or q i 0) o b.1)
-
-  pub wait_of : (i : ℕ) → lo ≤ i → i < hi → get_or q i 0 ≡ o → waiting q lo hi o ≡ true
-  unfolding waiting
-  wait_of i p l e =
-      exists_of (λ i. leb lo i && eqb (get_or q i 0) o) hi i l
-      (and_join (leb lo i) (eqb (get_or q i 0) o) (le-leb lo i p) (eq-eqb (get_or q i 0) o e))
+use Rattle.propagate.proofs.Waits.{wait_at, wait_of}
 
 -- no command waits when the walk is over
 pub none_waits : (C : Lists) (q : List ℕ) (lo hi c : ℕ) → hi ≤ lo → command_hits C (waiting q lo hi) c ≡ true → ⊥
@@ -67,22 +53,9 @@ pub record LayerStep (n : ℕ) (C : Lists) (tos owner : List ℕ) (k lo : ℕ) (
       → TowardsLayer (net_of n C froms tos) K k X.end (command_hits C (waiting X.queue h X.end)) Y
 
 module _ {n : ℕ} (C : Lists) (tos owner : List ℕ) (k lo : ℕ) (X : Progress) where
-  pub layer_start : lo ≤ X.end → QueueBound (n) X → LayerStep n C tos owner k lo X lo X
-  layer_start h bound = record {
-    order = h;
-    more = omega arith;
-    bound = bound;
-    kept = λ i g. refl;
-    rest = λ i g. refl;
-    towards = λ froms K own u. u.towards;
-  }
-
   module _ (h : ℕ) (Y : Progress) (v : LayerStep n C tos owner k lo X h Y) where
     pub layer_at : (len : ℕ) → n ≤ len → h < X.end → h < len
     layer_at len l g = omega (arith, v.more, v.bound.few, count_le (n) Y.ranks)
-
-    pub layer_state : h < X.end → (o : ℕ) → o ≡ get_or Y.queue h 0 → o < n
-    layer_state g o e = omega (arith, e, v.bound.states h (omega (arith, v.more)))
 
     pub layer_next : (offsets users : List ℕ) → Indexed n C offsets users owner → h < X.end → (o : ℕ) → o ≡ get_or Y.queue h 0
         → (Z : Progress)

@@ -1,5 +1,7 @@
 pub mod Hits
 pub mod Counting
+pub mod Waits
+pub mod Plans
 pub mod Visits
 pub mod Spreads
 pub mod LayerSteps

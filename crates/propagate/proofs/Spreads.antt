@@ -8,7 +8,7 @@ use native.Mathlib.Decide.{dec_lt, ℕ_discrete}
 use native.Mathlib.Omega.{arith}
 use borrow.Author.Tests.{eq-eqb, eqb-true}
 use lib.Dec.{eqb}
-use lib.ListN.{length, get_or}
+use lib.ListN.{get_or}
 use Rattle.laws.specs.Starts.{start_of}
 use Rattle.laws.proofs.Tests.{or_cases, or_left, or_right}
 use Rattle.laws.proofs.Starts.{start_next}
@@ -90,14 +90,8 @@ module _ {n : ℕ} (C : Lists) (offsets users owner : List ℕ) (I : Indexed n C
   group_order = omega (arith, top, I.grouped.rises o h)
 
   module _ (p : ℕ) (g : a ≤ p) (l : p < z) where
-    pub group_place : p < length users
-    group_place = omega (arith, top, I.grouped.within o h, I.users_long)
-
     pub group_end : p < C.end
     group_end = omega (arith, top, I.grouped.within o h)
 
     pub group_command : (c : ℕ) → c ≡ get_or users p 0 → c < C.count
     group_command c e = omega (arith, e, I.grouped.inside o p h (omega arith) (omega (arith, top)))
-
-    pub group_owner : (c : ℕ) → c ≡ get_or users p 0 → (c < length owner) × (get_or owner c 0 < n)
-    group_owner c e = let m = group_command c e in (omega (arith, I.owner_long), I.inside c m)

@@ -1,5 +1,5 @@
 -- The tables before the first layer: the states of rank 0 wait in the queue, and each state watches the first command of its range.
-use mathlib.Core.Path.{◌≡◌, refl, sym, ◌∙◌, subst}
+use mathlib.Core.Path.{◌≡◌, refl, sym, ◌∙◌}
 use mathlib.Core.Bool.{true, not}
 use mathlib.Core.Logic.{◌⊎◌, inl, inr}
 use mathlib.Core.List.{List}
@@ -23,16 +23,10 @@ use Rattle.propagate.specs.Net.{Net, net_of, from, net_layer, seeds, Seeded, Ran
 use Rattle.propagate.specs.Progress.{progress, rank_count, QueueBound, waiting, AtLayer, SeedsQueued}
 use Rattle.propagate.proofs.Hits.{hit_some, hit_of, to_in}
 use Rattle.propagate.proofs.Counting.{has_rank, count_le}
-use Rattle.propagate.proofs.LayerSteps.{wait_of}
-
-pub seeds_start : (r q : List ℕ) → SeedsQueued r q 0 0
-seeds_start r q = record { few = omega arith; states = λ i p. absurd (omega arith); found = λ u p. absurd (omega arith) }
+use Rattle.propagate.proofs.Waits.{wait_of}
 
 pub seeds_end : (r q : List ℕ) (s e : ℕ) → SeedsQueued r q s e → e ≤ s
 seeds_end r q s e v = omega (arith, v.few, count_le s r)
-
-pub seeds_done : (r q : List ℕ) (s e : ℕ) → SeedsQueued r q s e → (n : ℕ) → s ≤ n → n ≤ s → SeedsQueued r q n e
-seeds_done r q s e v n g h = let z : s ≡ n = omega arith in subst (λ (i : ℕ). SeedsQueued r q i e) z v
 
 -- the state s, of which x was read
 module _ (r q : List ℕ) (s e : ℕ) (v : SeedsQueued r q s e) (x : ℕ) (p : x ≡ get_or r s 0) where

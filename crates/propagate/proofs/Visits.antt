@@ -16,7 +16,7 @@ use Rattle.model.specs.Tables.{Lists}
 use Rattle.tables.specs.Ready.{Ready}
 use Rattle.choice.specs.Within.{within, command_hits}
 use Rattle.propagate.specs.Net.{Net, net_of, from, to, losing, net_layer, Ranges, Owns}
-use Rattle.propagate.specs.Progress.{Progress, progress, QueueBound, Watch, TowardsLayer, Moved}
+use Rattle.propagate.specs.Progress.{Progress, progress, Room, QueueBound, Watch, TowardsLayer, Moved}
 use Rattle.propagate.proofs.Hits.{hit_same, lose_of, to_in}
 use Rattle.propagate.proofs.Counting.{queue_room, bound_next}
 
@@ -29,10 +29,6 @@ to_at n C froms tos s = refl
 pub watch_more : (N : Net) (A G G' : ℕ → Bool) (s c : ℕ) → Watch N A G s c → (c < to N s → G c ≡ true → G' c ≡ true) → Watch N A G' s c
 watch_more N A G G' s c y f =
     record { since = y.since; until = y.until; before = y.before; pending = λ l t. f l (y.pending l t) }
-
--- the range of s ends at f
-pub range_in : {n count : ℕ} (tos : List ℕ) → Ranges n count tos → (s f : ℕ) → s < n → f ≡ get_or tos s 0 → f ≤ count
-range_in tos R s f h p = omega (arith, p, R.inside s h)
 
 -- The tables before the look, of the command c, whose owner is s.
 module _ {n : ℕ} (C : Lists) (R : Ready n C) (tos owner : List ℕ) (ends : Ranges n C.count tos) (k : ℕ) (small : k < 1024)
@@ -155,7 +151,7 @@ module _ {n : ℕ} (C : Lists) (R : Ready n C) (tos owner : List ℕ) (ends : Ra
           new u g a f (yes n) = rw n (now, loses b)
 
           room : end < n
-          room = queue_room (n) r w q end bound s (get_or r s 0) h refl e
+          room = queue_room n r w q end bound s h e
 
           find : (u : ℕ) → u < n → get_or (set r s (k + 1)) u 0 ≡ k + 1 → Dec (u ≡ s) → (i : ℕ) × (hi ≤ i) × (i < end + 1)
               × (get_or (set q end s) i 0 ≡ u)
@@ -174,45 +170,26 @@ module _ {n : ℕ} (C : Lists) (R : Ready n C) (tos owner : List ℕ) (ends : Ra
     more = omega arith;
   }
 
-  module _ (x₀ : ℕ) (a : x₀ ≡ get_or r s 0) where
-    pub look_ranked : (x₀ ≡ FFFF → ⊥) → Look X
-    look_ranked n = look_idle (λ e z l. n (a ∙ e))
+  -- s watches c, its range ends at f, and x is the next command that is clear
+  module _ (e : get_or r s 0 ≡ FFFF) (z : get_or w s 0 ≡ c) (l : c < get_or tos s 0) (room : Room n r w q) (f : ℕ) (d : f ≡ get_or tos s 0) (x : ℕ)
+      (A : FirstNot (command_hits C (within r k)) c f x) where
+    B : FirstNot (command_hits C (within r k)) c (get_or tos s 0) x
+    B = rw d at A
 
-    module _ (e₀ : x₀ ≡ FFFF) (y₀ : ℕ) (b : y₀ ≡ get_or w s 0) where
-      pub look_other : (y₀ ≡ c → ⊥) → Look X
-      look_other n = look_idle (λ e z l. n (b ∙ z))
+    pub look_moved : x < f → (w' : List ℕ) → w' ≡ set w s x → Look (progress r w' q end)
+    look_moved g w' m = rw m (record {
+      towards = λ froms K G G' hi low own left v. moves froms K G G' hi own left v room.for_watch e z l x B (omega arith);
+      bound = record { few = bound.few; states = bound.states };
+      kept = λ i t. refl;
+      rest = λ i t. refl;
+      more = omega arith;
+    })
 
-      module _ (z₀ : y₀ ≡ c) (f : ℕ) (d : f ≡ get_or tos s 0) where
-        pub look_past : f ≤ c → Look X
-        look_past g = look_idle (λ e z l. omega arith)
-
-        module _ (l : c < f) (x : ℕ) (A : FirstNot (command_hits C (within r k)) c f x) (wlong : n ≤ length w) where
-          e : get_or r s 0 ≡ FFFF
-          e = sym a ∙ e₀
-
-          z : get_or w s 0 ≡ c
-          z = sym b ∙ z₀
-
-          B : FirstNot (command_hits C (within r k)) c (get_or tos s 0) x
-          B = rw d at A
-
-          pub look_moved : x < f → (w' : List ℕ) → w' ≡ set w s x → Look (progress r w' q end)
-          look_moved g w' m = rw m (record {
-            towards = λ froms K G G' hi low own left v. moves froms K G G' hi own left v wlong e z (omega arith) x B (omega arith);
-            bound = record { few = bound.few; states = bound.states };
-            kept = λ i t. refl;
-            rest = λ i t. refl;
-            more = omega arith;
-          })
-
-          module _ (g : f ≤ x) (rlong : n ≤ length r) (qlong : n ≤ length q) where
-            pub look_lost : (w' r' q' : List ℕ) → w' ≡ set w s x → r' ≡ set r s (k + 1) → q' ≡ set q end s
-                → Look (progress r' w' q' (end + 1))
-            look_lost w' r' q' a₁ a₂ a₃ = rw (a₁, a₂, a₃) (record {
-              towards = λ froms K G G' hi low own left v. ends_up froms K G G' hi own left v wlong e z (omega arith) x B (omega arith) rlong
-                  qlong low;
-              bound = bound_next (n) r s (k + 1) h rlong (omega arith) e w q end bound qlong (set w s x);
-              kept = λ i t. get_or-set_other q end i s 0 (omega arith);
-              rest = λ i t. get_or-set_other r s i (k + 1) 0 (omega arith);
-              more = omega arith;
-            })
+    pub look_lost : f ≤ x → (w' r' q' : List ℕ) → w' ≡ set w s x → r' ≡ set r s (k + 1) → q' ≡ set q end s → Look (progress r' w' q' (end + 1))
+    look_lost g w' r' q' a₁ a₂ a₃ = rw (a₁, a₂, a₃) (record {
+      towards = λ froms K G G' hi low own left v. ends_up froms K G G' hi own left v room.for_watch e z l x B (omega arith) room.for_ranks room.for_queue low;
+      bound = bound_next (n) r s (k + 1) h room.for_ranks (omega arith) e w q end bound room.for_queue (set w s x);
+      kept = λ i t. get_or-set_other q end i s 0 (omega arith);
+      rest = λ i t. get_or-set_other r s i (k + 1) 0 (omega arith);
+      more = omega arith;
+    })

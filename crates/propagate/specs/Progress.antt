@@ -1,6 +1,6 @@
 -- How far the propagation has come, and what each part of it does to the tables. Each state watches one command that counts, the first
 -- that has no outcome in the layers so far; a state whose watched commands run out is lost, and waits in the queue.
-use Rattle.std.specs.Prelude.{◌≡◌, Bool, true, not, ◌&&◌, List, ℕ, ◌+◌, ◌≤◌, ◌<◌, eqb, leb, get_or}
+use Rattle.std.specs.Prelude.{◌≡◌, Bool, true, not, ◌&&◌, List, ℕ, ◌+◌, ◌≤◌, ◌<◌, eqb, leb, length, get_or}
 use Rattle.laws.specs.Entry.{FFFF}
 use Rattle.laws.specs.Sets.{exists, how_many}
 use Rattle.model.specs.Tables.{Lists}
@@ -16,6 +16,12 @@ pub record Progress : Type 0 where
 
 abbrev pub progress : List ℕ → List ℕ → List ℕ → ℕ → Progress
 progress ranks watch queue end = record { ranks = ranks; watch = watch; queue = queue; end = end }
+
+-- the tables have a place for each of n states
+pub record Room (n : ℕ) (ranks watch queue : List ℕ) : Type 0 where
+  pub for_ranks : n ≤ length ranks
+  pub for_watch : n ≤ length watch
+  pub for_queue : n ≤ length queue
 
 -- how many of the first n states have a rank
 unfoldable pub rank_count : ℕ → List ℕ → ℕ

@@ -1,6 +1,6 @@
 -- The call, by the way that it ends.
 use mathlib.Core.Path.{◌≡◌, refl, sym, ap, ap₂, ◌∙◌}
-use mathlib.Core.Bool.{Bool, true, false, not, ◌&&◌}
+use mathlib.Core.Bool.{Bool, true, false, ◌&&◌}
 use mathlib.Core.List.{List, ◌∷◌, ◌++◌}
 use Prim.Native.Nat.{ℕ, suc, ◌+◌, ◌*◌, ◌/◌, ◌≤◌}
 use native.Mathlib.Omega.{arith}
@@ -12,7 +12,6 @@ use Rattle.laws.specs.Entry.{be16}
 use Rattle.laws.specs.Lists.{joined, overwrite}
 use Rattle.laws.specs.Writes.{put_all}
 use Rattle.laws.proofs.Joins.{length_joined}
-use Rattle.laws.proofs.Loops.{stopped, passed}
 use Rattle.laws.proofs.Parts.{length_heads}
 use Rattle.laws.proofs.Tests.{and_both}
 use Rattle.laws.proofs.Writes.{put_front}
@@ -175,11 +174,11 @@ module _ (file : List ℕ) (z : ModelSize) (e : answer size_of (read file) ≡ g
 -- ---- the test of the tables' lengths
 
 module _ (z : Size) (R F O : ℕ) {t : Bool} (e : t ≡ enough (numbers z) R F O) where
-  pub cramped : (file : List ℕ) → answer size_of (read file) ≡ given (numbers z) → not t ≡ true → reading R F O file ≡ refused Cramped
-  cramped file p h = short file (numbers z) p R F O (stopped e h)
+  pub cramped : (file : List ℕ) → answer size_of (read file) ≡ given (numbers z) → t ≡ false → reading R F O file ≡ refused Cramped
+  cramped file p h = short file (numbers z) p R F O (sym e ∙ h)
 
-  pub all_long : not t ≡ false → (z.n ≤ R) × (z.m ≤ F) × (z.t ≤ O)
+  pub all_long : t ≡ true → (z.n ≤ R) × (z.m ≤ F) × (z.t ≤ O)
   all_long h =
-      let three = and_both (leb z.n R && leb z.m F) _ (passed e h) in
+      let three = and_both (leb z.n R && leb z.m F) _ (sym e ∙ h) in
       let two = and_both (leb z.n R) _ three.0 in
       (leb-true _ _ two.0, leb-true _ _ two.1, leb-true _ _ three.1)

@@ -33,7 +33,7 @@ use Rattle.tables.specs.declared.Refusal.{Refusal}
 use Rattle.tables.specs.Meaning.{refusal_of}
 use Rattle.model.proofs.Fields.{field_inv, length_entries}
 use Rattle.reading.specs.declared.bytes.Mark.{Mark}
-use Rattle.reading.specs.declared.frame.Passed.{Passed}
+use Rattle.std.specs.Prelude.{Result, Ok, Err}
 use Rattle.reading.specs.Meaning.{moved, bytes_from, Within, Walks, after_field, after_command}
 use Rattle.reading.proofs.Passing.{answer_inv, refuses}
 
@@ -62,12 +62,12 @@ module _ (tag : ℕ) (s : List ℕ) where
 -- the field at a mark
 module _ (file : List ℕ) (k : Mark) (tag : ℕ) where
   pub field_stops : (r : Refusal) → refused (refusal_of r) ≡ field tag (bytes_from file k)
-      → Walks file (Passed.Refused r) (answer (after_field file k) (field tag (bytes_from file k)))
+      → Walks file (Err r) (answer (after_field file k) (field tag (bytes_from file k)))
   unfolding answer
   field_stops r e = refuses r (ap (answer (after_field file k)) e)
 
   pub field_walks : {len : ℕ} {next : Mark} → given len ≡ field tag (bytes_from file k) → Within file k → next ≡ moved k (3 + len)
-      → Walks file (Passed.To next) (answer (after_field file k) (field tag (bytes_from file k)))
+      → Walks file (Ok next) (answer (after_field file k) (field tag (bytes_from file k)))
   unfolding answer
   field_walks {len} e w q =
       let room : 3 + len ≤ length (bytes_from file k) = (field_inv tag (bytes_from file k) len (sym e)).fits in
@@ -164,9 +164,6 @@ module _ (s : List ℕ) (k : ℕ) where
   abbrev pub entries_from : ℕ → List ℕ
   entries_from i = entries (k - i) (drop (i * 2) s)
 
-  pub entries_all : entries k s ≡ entries_from 0
-  entries_all = let e : k - 0 ≡ k = omega arith in rw e
-
   pub entries_more : (i : ℕ) → i < k → entries_from i ≡ be16 s (i * 2) ∷ entries_from (i + 1)
   unfolding entries
   entries_more i h =
@@ -241,7 +238,7 @@ module _ {B : Type 0} {y : B} (s : List ℕ) (g : ℕ → B) (e : answer g (fiel
       let half : len / 2 ≡ c = omega arith in
       rw (f.is, half, le-leb _ _ l) (sym (then_answer (rising n 0 (entries c (drop 3 s))) (entries c (drop 3 s)) h))
 
-pub command_walks : (file : List ℕ) (k next : Mark) (n c : ℕ) {r : Passed}
+pub command_walks : (file : List ℕ) (k next : Mark) (n c : ℕ) {r : Result Mark Refusal}
     → answer (after_field file k) (field command_tag (bytes_from file k)) ≡ given (next.m, next.t, bytes_from file next)
     → c ≡ be16 (bytes_from file k) 1 / 2 → k.t + c ≤ max_outcomes
     → Walks file r (answer (λ x. (k.m + 1, k.t + c, bytes_from file next)) (rising n 0 (entries c (drop (k.at + 3) file))))

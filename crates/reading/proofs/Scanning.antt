@@ -18,7 +18,7 @@ use Rattle.model.proofs.Readings.{commands_inv, commands_count, outcomes_count, 
 use Rattle.tables.specs.Meaning.{refusal_of}
 use Rattle.tables.specs.declared.Refusal.{Refusal}
 use Rattle.reading.specs.declared.bytes.Mark.{Mark}
-use Rattle.reading.specs.declared.frame.Passed.{Passed}
+use Rattle.std.specs.Prelude.{Result, Err}
 use Rattle.reading.specs.Meaning.{
   bytes_from,
   passed_of,
@@ -52,7 +52,7 @@ module _ (file : List ℕ) (n end : ℕ) where
       ≡ 0 = omega arith in rw e (ap (λ (z : ℕ). given (z, k.t, bytes_from file k)) (sym (add-zero k.m)))
 
   module _ (k : Mark) (h : k.m < end) where
-    pub commands_end : {f : Passed} {r : Refusal} → f ≡ Passed.Refused r
+    pub commands_end : {f : Result Mark Refusal} {r : Refusal} → f ≡ Err r
         → Walks file f (answer (after_command file k) (command n k.t (bytes_from file k)))
         → Walks file f (commands_left k)
     unfolding commands
@@ -129,7 +129,7 @@ module _ (file : List ℕ) (n : ℕ) where
     more : n - i ≡ suc (n - (i + 1))
     more = omega arith
 
-    pub states_end : {f : Passed} {r : Refusal} → f ≡ Passed.Refused r
+    pub states_end : {f : Result Mark Refusal} {r : Refusal} → f ≡ Err r
         → Walks file f (answer (λ x. after_field file k 5) (state k.m (bytes_from file k)))
         → Walks file f (states_left i k)
     unfolding states
@@ -152,7 +152,7 @@ module _ (file : List ℕ) (n : ℕ) where
           = rw more (ap (answer (after_states k.m k.t)) (states_open n (n - (i + 1)) k.m k.t s p)) in
           (v, first ∙ ap₂ goes same q)
 
-      pub states_stop : {f : Passed} {r : Refusal} → f ≡ Passed.Refused r
+      pub states_stop : {f : Result Mark Refusal} {r : Refusal} → f ≡ Err r
           → Walks file f (answer (after_commands next.m) (commands n c next.t (bytes_from file next))) → Walks file f (states_left i k)
       states_stop told w = let (v, q) = opened in rw q (ends _ _ _ _ told w)
 
@@ -205,7 +205,7 @@ module _ (file : List ℕ) (first : Mark)
         let goes : ℕ → ℕ × ℕ × List ℕ → Answer Tree = λ x z. states x x z.0 z.1 z.2 >>= finish start in
         (start, read_open file p ∙ ap₂ goes same q)
 
-    pub file_stops : {f : Passed} {r : Refusal} → f ≡ Passed.Refused r
+    pub file_stops : {f : Result Mark Refusal} {r : Refusal} → f ≡ Err r
         → Walks file f (answer (after_states first.m first.t) (states n n first.m first.t (bytes_from file first)))
         → Walks file f (answer after_file (read file))
     file_stops told w = let (start, q) = begun in rw q (ends _ _ _ _ told w)
@@ -235,7 +235,7 @@ module _ (file : List ℕ) (first : Mark)
           = ap (λ (z : Answer (List State × List ℕ)). z >>= finish start) p ∙ ap (λ (z : List ℕ). finish start (x.0, z)) at in
           record { start = start; ss = x.0; is = a ∙ there; few = omega arith; outcomes = omega arith }
 
-      pub end_stops : {f : Passed} {r : Refusal} → f ≡ Passed.Refused r
+      pub end_stops : {f : Result Mark Refusal} {r : Refusal} → f ≡ Err r
           → Walks file f (answer (after_field file last) (field end_tag (bytes_from file last)))
           → Walks file f (answer after_file (read file))
       unfolding finish
@@ -284,7 +284,7 @@ module _ (file : List ℕ) (k : Mark) (e : answer after_file (read file) ≡ giv
       let t₁ = ap (λ (z : ℕ × ℕ × List ℕ). z.1) j in
       rw (i, n₁, s₁, m₁, t₁)
 
-pub read_refused : {file : List ℕ} {f : Passed} {r : Refusal} → f ≡ Passed.Refused r → Walks file f (answer after_file (read file))
+pub read_refused : {file : List ℕ} {f : Result Mark Refusal} {r : Refusal} → f ≡ Err r → Walks file f (answer after_file (read file))
     → refused (refusal_of r) ≡ answer (λ p. (tables_of p).size) (read file)
 unfolding answer
 read_refused {file} told w = rw (refused_inv after_file (read file) (sym w.answers ∙ ap (passed_of file) told))

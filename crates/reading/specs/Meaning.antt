@@ -1,12 +1,12 @@
 -- What a mark in a file stands for, and what the functions that walk over fields answer.
-use Rattle.std.specs.Prelude.{◌≡◌, List, [], ℕ, ◌+◌, ◌*◌, ◌≤◌, length, drop}
+use Rattle.std.specs.Prelude.{◌≡◌, List, [], ℕ, ◌+◌, ◌*◌, ◌≤◌, length, drop, Result, IfOk}
 use Rattle.laws.specs.Lists.{joined}
-use Rattle.model.specs.Refusal.{Answer, given, refused}
+use Rattle.model.specs.Refusal.{Answer}
 use Rattle.model.specs.File.{State, Tree, max_commands, max_outcomes}
 use Rattle.model.specs.Tables.{all_commands, tables_of}
-use Rattle.tables.specs.Meaning.{refusal_of}
+use Rattle.tables.specs.declared.Refusal.{Refusal}
+use Rattle.tables.specs.Meaning.{answered}
 use Rattle.reading.specs.declared.bytes.Mark.{Mark}
-use Rattle.reading.specs.declared.frame.Passed.{Passed}
 
 abbrev pub moved : Mark → ℕ → Mark
 moved k bytes = record { at = k.at + bytes; m = k.m; t = k.t }
@@ -16,9 +16,8 @@ abbrev pub bytes_from : List ℕ → Mark → List ℕ
 bytes_from file k = drop k.at file
 
 -- what a mark stands for: the commands and the outcomes so far, and the bytes from it on
-abbrev pub passed_of : List ℕ → Passed → Answer (ℕ × ℕ × List ℕ)
-passed_of file (Passed.To k) = given (k.m, k.t, bytes_from file k)
-passed_of file (Passed.Refused r) = refused (refusal_of r)
+abbrev pub passed_of : List ℕ → Result Mark Refusal → Answer (ℕ × ℕ × List ℕ)
+passed_of file = answered (λ k. (k.m, k.t, bytes_from file k))
 
 -- the mark is in the file, and keeps the limits
 pub record Within (file : List ℕ) (k : Mark) : Type 0 where
@@ -26,15 +25,10 @@ pub record Within (file : List ℕ) (k : Mark) : Type 0 where
   pub few_commands : k.m ≤ max_commands
   pub few_outcomes : k.t ≤ max_outcomes
 
--- a mark that is answered is within; of a refusal this says nothing
-abbrev pub Stays : List ℕ → Passed → Type 0
-Stays file (Passed.To k) = Within file k
-Stays file (Passed.Refused r) = Unit {0}
-
--- what a function that walks over fields answers
-pub record Walks (file : List ℕ) (r : Passed) (x : Answer (ℕ × ℕ × List ℕ)) : Type 0 where
+-- what a function that walks over fields answers: a mark that is answered is within
+pub record Walks (file : List ℕ) (r : Result Mark Refusal) (x : Answer (ℕ × ℕ × List ℕ)) : Type 0 where
   pub answers : passed_of file r ≡ x
-  pub stays : Stays file r
+  pub stays : IfOk r (Within file)
 
 -- where the head begins
 abbrev pub head_mark : Mark

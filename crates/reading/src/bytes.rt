@@ -3,24 +3,23 @@ ghost use Rattle.std.specs.Prelude.{◌≡◌, ◌+◌, ◌^◌, ◌<◌, ◌≤
 ghost use Rattle.laws.specs.Entry.{be16};
 ghost use Rattle.reading.specs.Meaning.{moved};
 
-use tables::entries::{join, wide};
-
 // How far a reading has come: a place in the file, and the commands and the outcomes before it.
-#[derive(Clone, Copy)]
+#[derive(Clone, Copy, Debug, PartialEq, Eq)]
 pub struct Mark {
     pub at: usize,
     pub m: usize,
     pub t: usize,
 }
 
-pub fn moved(k: Mark, bytes: usize) -> Mark
-    requires { k.at + bytes < 2 ^ 64 }
-    ensures { result ≡ moved k bytes }
-{
-    Mark {
-        at: k.at + bytes,
-        m: k.m,
-        t: k.t,
+impl Mark {
+    pub fn moved(self, bytes: usize) -> Mark
+        requires { self.at + bytes < 2 ^ 64 }
+        ensures { result ≡ moved self bytes }
+    {
+        Mark {
+            at: self.at + bytes,
+            ..self
+        }
     }
 }
 
@@ -38,20 +37,12 @@ pub fn byte(file: &[u8], at: usize, i: usize) -> u8
     file[at + i]
 }
 
-// One byte, as a number.
-pub fn small(file: &[u8], at: usize, i: usize) -> usize
-    requires { i < length (drop at file.now) }
-    ensures { result ≡ get_or (drop at file.now) i 0 }
-{
-    byte(file, at, i) as usize
-}
-
 // Two bytes, as an entry of a table.
 pub fn entry(file: &[u8], at: usize, i: usize) -> u16
     requires { i + 1 < length (drop at file.now) }
     ensures { result ≡ be16 (drop at file.now) i }
 {
-    join(byte(file, at, i), byte(file, at, i + 1))
+    u16::from_be_bytes([byte(file, at, i), byte(file, at, i + 1)])
 }
 
 // Two bytes, as a number.
@@ -59,5 +50,5 @@ pub fn number(file: &[u8], at: usize, i: usize) -> usize
     requires { i + 1 < length (drop at file.now) }
     ensures { result ≡ be16 (drop at file.now) i }
 {
-    wide(entry(file, at, i))
+    usize::from(entry(file, at, i))
 }

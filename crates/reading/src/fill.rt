@@ -8,9 +8,9 @@ ghost use Rattle.tables.specs.Meaning.{row_of, rows_of};
 ghost use Rattle.reading.specs.Meaning.{bytes_from, moved};
 ghost use Rattle.reading.specs.Filling.{commands_in, commands_at, states_in, states_mark, past_commands, Room, StatesRoom};
 
-use crate::bytes::{Mark, byte, entry, moved, number};
+use crate::bytes::{Mark, byte, entry, number};
 use tables::Row;
-use tables::entries::{narrow, put};
+use tables::entries::put;
 use tables::rows::put_row;
 
 // Commands and outcomes in one loop, `left` outcomes of a command being still to come: so the next place does not wait for a length that
@@ -52,20 +52,14 @@ fn fill_commands(
     }
 }
 
-fn wide(x: u8) -> u16
-    ensures { result ≡ x }
-{
-    x as u16
-}
-
 // The row of the state at a mark.
 fn row_in(file: &[u8], k: Mark) -> Row
     requires { (7 < length (bytes_from file.now k)) × (k.m < 65536) }
     ensures { row_of result ≡ row_with k.m (state_values (bytes_from file.now k)) }
 {
     Row {
-        kind: wide(byte(file, k.at, 3)),
-        first: narrow(k.m),
+        kind: u16::from(byte(file, k.at, 3)),
+        first: k.m as u16,
         practice: entry(file, k.at, 6),
     }
 }
@@ -80,7 +74,7 @@ fn fill_state(file: &[u8], k: Mark, firsts: &mut [u16], outcomes: &mut [u16]) ->
     ensures mark { result ≡ past_commands (moved k 8) (commands_at file.now k) }
 {
     let count = number(file, k.at, 4);
-    fill_commands(file, count, moved(k, 8), firsts, outcomes)
+    fill_commands(file, count, k.moved(8), firsts, outcomes)
 }
 
 pub fn fill_states(
@@ -100,11 +94,8 @@ pub fn fill_states(
         ≡ put_all outcomes.old 0 (joined (all_commands (states_in n (drop 7 file.now)))) }
 {
     let mut k = Mark { at: 7, m: 0, t: 0 };
-    let mut i = 0;
-    while i < n {
-        let row = row_in(file, k);
-        put_row(rows, i, row);
+    for i in 0..n {
+        put_row(rows, i, row_in(file, k));
         k = fill_state(file, k, firsts, outcomes);
-        i += 1;
     }
 }

@@ -12,22 +12,24 @@ pub record Cutting (low q' q : ℕ) (s u : List ℕ) : Type 0 where
   pub part : q' ≤ q
   pub above : (i : ℕ) → q' ≤ i → i < q → low + 2 ≤ get_or s (get_or u i 0) 0
 
-pub cutting_start : {low q : ℕ} {s u : List ℕ} → 0 < q → Cutting low q q s u
-cutting_start h = record { some = h; part = omega arith; above = λ i l k. absurd (omega arith) }
-
 module _ {low q' q : ℕ} {s u : List ℕ} (w : Cutting low q' q s u) where
   -- all but the start go
-  pub cut_first : q' ≤ 1 → Cut low q' q s u
-  cut_first h = record { some = w.some; part = w.part; last = λ i l e. absurd (omega arith); above = w.above }
+  pub cut_first : q' ≤ 1 → Cut low 1 q s u
+  cut_first h = record {
+    some = omega arith;
+    part = omega (arith, w.some, w.part);
+    last = λ i l e. absurd (omega arith);
+    above = λ i l k. w.above i (omega arith) k;
+  }
 
   -- the place before was read
   module _ (p : ℕ) (e : p + 1 ≡ q') (x : ℕ) (is : x ≡ get_or u p 0) (f : ℕ) (read : f ≡ get_or s x 0) where
-    pub cut_here : f < low + 2 → Cut low q' q s u
+    pub cut_here : f < low + 2 → Cut low (p + 1) q s u
     cut_here h = record {
-      some = w.some;
-      part = w.part;
+      some = omega arith;
+      part = omega (arith, w.part);
       last = λ i l z. let same : i ≡ p = omega arith in rw (same, ← is, ← read) h;
-      above = w.above;
+      above = λ i l k. w.above i (omega arith) k;
     }
 
     pub cutting_next : 1 < q' → low + 2 ≤ f → Cutting low p q s u

@@ -14,6 +14,4 @@ pub mod RoundEnds
 pub mod LastRound
 pub mod AfterRounds
 pub mod Concluding
-pub mod Preparing
-pub mod Admitting
 pub mod Replying

@@ -17,7 +17,7 @@ use Rattle.model.specs.Held.{plan_in}
 use Rattle.model.proofs.HeldPlan.{kind_held, commands_held}
 use Rattle.tables.specs.Spans.{span_at}
 use Rattle.tables.proofs.SpanFacts.{span_failing}
-use Rattle.search.specs.Marks.{active_span, start_flag, start_end}
+use Rattle.search.specs.Marks.{active_span, start_flag}
 
 module _ (T : Tables) (s : ℕ) (l : s < T.size.n) where
   pub span_active : active_span (span_at T s) ≡ active (plan_in T) s
@@ -27,10 +27,6 @@ module _ (T : Tables) (s : ℕ) (l : s < T.size.n) where
   pub start_flag_is : start_flag (span_at T s) ≡ cond (failing (plan_in T) s) 0 1
   unfolding start_flag
   start_flag_is = rw (span_failing T s l)
-
-  pub start_end_is : start_end (span_at T s) ≡ cond (active (plan_in T) s) 2 (cond (failing (plan_in T) s) 1 0)
-  unfolding start_end
-  start_end_is = rw (span_active, span_failing T s l)
 
 -- an entry FFFF is no command's
 pub entry_none : (o : Option ℕ) → ((c : ℕ) → o ≡ some c → c < FFFF) → eqb (entry o) FFFF ≡ not (found o)

@@ -13,6 +13,7 @@ use native.Mathlib.Omega.{arith}
 use lib.Dec.{leb}
 use lib.ListN.{get_or}
 use borrow.Author.Tests.{lt-leb}
+use Rattle.std.specs.Prelude.{Option as CodeOption, Some}
 use Rattle.laws.specs.Entry.{entry}
 use Rattle.laws.proofs.Tests.{clash, true_or_false, refute, or_cases, or_left}
 use Rattle.model.specs.Plan.{Plan, Valid}
@@ -202,14 +203,20 @@ module _ {P : Plan} {n : ℕ} {K M : ℕ → Bool} {a q : ℕ} {cs s u : List �
   }
 
   -- no state before that place is marked, with the new known set either
-  pub resumed_clear : Lowest P K low q s u → (i : ℕ) → i < low → none_left P K' (get_or u i 0) ≡ false
+  pub resumed_clear : {low' : CodeOption ℕ} → Lowest P K low' q s u → low' ≡ Some low → (i : ℕ) → i < low → none_left P K' (get_or u i 0) ≡ false
   unfolding none_left
-  resumed_clear e i k = rw (← choice_stays i k) (refute (none_left P K (get_or u i 0)) (λ t. early t (dec_lt 0 i)))
+  resumed_clear e told i k = rw (← choice_stays i k) (refute (none_left P K (get_or u i 0)) (λ t. early t (dec_lt 0 i)))
     where
+      late_flag : none_left P K (get_or u i 0) ≡ true → low + 2 ≤ get_or s (get_or u i 0) 0
+      late_flag t =
+          let (v, is_v, high) = e.each i (omega (arith, place)) t in
+          let same : v ≡ low = cc in
+          rw (← same) high
+
       early : none_left P K (get_or u i 0) ≡ true → Dec (0 < i) → ⊥
       early t (yes z) =
-          let (j, before, gone, f, b) = w.from i z (omega (arith, place)) in omega (arith, e.each i (omega (arith, place)) t)
+          let (j, before, gone, f, b) = w.from i z (omega (arith, place)) in omega (arith, late_flag t)
       early t (no z) =
           let o : i ≡ 0 = omega arith in
           let is : get_or u i 0 ≡ a = ap (λ j. get_or u j 0) o ∙ w.start in
-          omega (arith, rw is at (e.each i (omega (arith, place)) t), w.start_flag_lem)
+          omega (arith, rw is at (late_flag t), w.start_flag_lem)

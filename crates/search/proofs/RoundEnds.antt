@@ -1,22 +1,21 @@
 -- A round is walked to its end: which states it marks, whether there are any, and whether the start is one.
 use mathlib.Core.Path.{◌≡◌, sym, ◌∙◌, ap, subst}
-use mathlib.Core.Bool.{Bool, true, false, not, cond, ◌&&◌}
-use mathlib.Core.Logic.{◌⊎◌, inl, inr, ⊎_elim}
+use mathlib.Core.Bool.{Bool, true, false, not}
+use mathlib.Core.Logic.{⊎_elim}
 use mathlib.Core.List.{List}
 use Prim.Native.Nat.{ℕ, ◌+◌, ◌<◌, ◌≤◌}
 use native.Mathlib.Decide.{dec_lt}
 use native.Mathlib.Omega.{arith}
 use lib.Dec.{eqb}
 use lib.ListN.{get_or}
-use borrow.Author.Tests.{eq-eqb, ne_eqb}
+use Rattle.std.specs.Prelude.{Some, None}
 use Rattle.laws.specs.Sets.{found}
 use Rattle.laws.specs.Entry.{FFFF, entry}
-use Rattle.laws.proofs.Tests.{clash, true_or_false, refute, and_both}
+use Rattle.laws.proofs.Tests.{clash, true_or_false, refute}
 use Rattle.laws.proofs.Sets.{every_of}
 use Rattle.model.specs.Plan.{Plan, active}
 use Rattle.model.specs.Command.{choice}
-use Rattle.model.specs.Search.{reached, marked, known, without_marks}
-use Rattle.model.specs.File.{max_states}
+use Rattle.model.specs.Search.{marked, known, without_marks}
 use Rattle.model.specs.Tables.{Tables}
 use Rattle.model.specs.SoundTest.{sound}
 use Rattle.model.specs.Held.{plan_in}
@@ -26,17 +25,14 @@ use Rattle.model.proofs.Valid.{sound_valid}
 use Rattle.tables.specs.Spans.{span_at}
 use Rattle.choice.proofs.Taken.{few_commands}
 use Rattle.walks.specs.Flags.{walked_in}
-use Rattle.walks.proofs.Room.{queued_few}
 use Rattle.search.specs.declared.walk.Progress.{Progress}
 use Rattle.search.specs.Marks.{marked_at, none_left}
 use Rattle.search.specs.Walked.{Walked}
-use Rattle.search.specs.Ends.{end_of}
 use Rattle.search.proofs.ReadStates.{entry_none}
-use Rattle.search.proofs.WalkSteps.{flag_low}
-use Rattle.search.proofs.WalkEnds.{reached_state, reached_is}
+use Rattle.search.proofs.WalkEnds.{reached_is}
 use Rattle.search.proofs.Lowering.{marked_left}
 
-module _ (T : Tables) (sounds : sound T ≡ true) (few : T.size.n ≤ max_states) (a j : ℕ) {r : Progress} {cs s u : List ℕ}
+module _ (T : Tables) (sounds : sound T ≡ true) (a j : ℕ) {r : Progress} {cs s u : List ℕ}
     (w : Walked (plan_in T) T.size.n (known (plan_in T) a j) a r cs s u) where
   abbrev P : Plan
   P = plan_in T
@@ -44,16 +40,7 @@ module _ (T : Tables) (sounds : sound T ≡ true) (few : T.size.n ≤ max_states
   abbrev K : ℕ → Bool
   K = known (plan_in T) a j
 
-  pub walked_flag : (i : ℕ) → i < r.reached → get_or s (get_or u i 0) 0 ≤ max_states + 2
-  walked_flag i k = omega (arith, flag_low w.done i k, queued_few w.done.queued, few)
-
   -- ---- the marked states
-
-  marked_state : (x : ℕ) → marked P K a x ≡ true → x < T.size.n
-  unfolding marked
-  marked_state x t =
-      reached_state w.done (sound_valid T sounds) (states_held T) (omega arith) x
-      (and_both (reached P K a x) (active P x) (and_both (reached P K a x && active P x) (not (found (choice P K x))) t).0).0
 
   at_walked : (x : ℕ) → x < T.size.n → walked_in s x ≡ true → marked P K a x ≡ none_left P K x
   unfolding marked none_left
@@ -84,60 +71,43 @@ module _ (T : Tables) (sounds : sound T ≡ true) (few : T.size.n ≤ max_states
       there : walked_in s x ≡ true → (i : ℕ) × (i < r.reached) × (get_or u i 0 ≡ x) × (none_left P K x ≡ true)
       there b = let (i, l, e) = w.done.queued.listed x k b in (i, l, e, sym (at_walked x k b) ∙ t)
 
-  -- each was reached from the lowest place or a later one
-  pub marked_late : (x : ℕ) → x < T.size.n → marked P K a x ≡ true → r.low + 2 ≤ get_or s x 0
-  marked_late x k t =
-      let (i, l, e, b) = marked_place x k t in
-      subst (λ y. r.low + 2 ≤ get_or s y 0) e (w.lowest.each i l (subst (λ y. none_left P K y ≡ true) (sym e) b))
-
   -- ---- whether there are any
 
-  abbrev Marks : Type 0
-  Marks = (r.low < r.reached) × (without_marks P a j ≡ false)
-
-  none_marked : r.low ≡ FFFF → without_marks P a j ≡ true
+  pub none_marked : r.low ≡ None → without_marks P a j ≡ true
   unfolding without_marks
   none_marked e =
       every_of (λ x. not (marked P K a x)) P.states (λ x k. ap not (refute (marked P K a x) (λ t. none x (rw (states_held T) at k) t)))
     where
       none : (x : ℕ) → x < T.size.n → marked P K a x ≡ true → ⊥
-      none x k t = let (i, l, z, b) = marked_place x k t in omega (arith, marked_late x k t, rw z at (walked_flag i l))
+      none x k t =
+          let (i, l, z, b) = marked_place x k t in
+          let (v, is_v, late) = w.lowest.each i l (subst (λ y. none_left P K y ≡ true) (sym z) b) in
+          absurd (cc)
 
-  some_marked : (i : ℕ) → i < r.reached → none_left P K (get_or u i 0) ≡ true → get_or s (get_or u i 0) 0 ≡ r.low + 2 → Marks
-  some_marked i k t e =
-      (place (dec_lt 0 i), refute (without_marks P a j) (λ b. clash is_marked (unmarked_is P a j b (get_or u i 0) (rw (states_held T) state))))
-    where
-      state : get_or u i 0 < T.size.n
-      state = w.done.queued.states i k
+  module _ (low : ℕ) (is : r.low ≡ Some low) where
+    -- each was reached from the lowest place or a later one
+    pub marked_late : (x : ℕ) → x < T.size.n → marked P K a x ≡ true → low + 2 ≤ get_or s x 0
+    marked_late x k t =
+        let (i, l, e, b) = marked_place x k t in
+        let (v, is_v, late) = w.lowest.each i l (subst (λ y. none_left P K y ≡ true) (sym e) b) in
+        let same : v ≡ low = cc in
+        subst (λ y. low + 2 ≤ get_or s y 0) e (rw (← same) late)
 
-      is_marked : marked P K a (get_or u i 0) ≡ true
-      is_marked = at_walked (get_or u i 0) state (w.done.queued.placed i k) ∙ t
-
-      place : Dec (0 < i) → r.low < r.reached
-      place (yes z) = let (l, before, gone, f, b) = w.done.from i z k in omega arith
-      place (no z) =
-          let o : i ≡ 0 = omega arith in
-          let is : get_or u i 0 ≡ a = ap (λ l. get_or u l 0) o ∙ w.done.start in
-          omega (arith, rw is at e, w.done.start_flag_lem, w.done.begun)
-
-  sides : ((r.low ≡ FFFF) × (without_marks P a j ≡ true)) ⊎ Marks
-  sides = ⊎_elim (λ e. inl (e, none_marked e)) (λ t. let (i, k, b, e) = t in inr (some_marked i k b e)) w.lowest.one
-
-  pub low_place : without_marks P a j ≡ false → r.low < r.reached
-  low_place e = ⊎_elim (λ t. clash t.1 e) (λ t. t.0) sides
-
-  pub low_none : without_marks P a j ≡ true → r.low ≡ FFFF
-  low_none e = ⊎_elim (λ t. t.0) (λ t. clash e t.1) sides
-
-  pub low_small : r.low < 65536
-  low_small = ⊎_elim (λ t. omega (arith, t.0)) (λ t. omega (arith, t.0, queued_few w.done.queued, few)) sides
-
-  low_told : eqb r.low FFFF ≡ without_marks P a j
-  low_told =
-      ⊎_elim
-      (λ t. eq-eqb r.low FFFF t.0 ∙ sym t.1)
-      (λ t. ne_eqb r.low FFFF (λ z. omega (arith, t.0, queued_few w.done.queued, few)) ∙ sym t.1)
-      sides
+    pub some_marked : (low < r.reached) × (without_marks P a j ≡ false)
+    some_marked =
+        let (i, k, t, e) = w.lowest.one low is in
+        let state : get_or u i 0 < T.size.n = w.done.queued.states i k in
+        let is_marked : marked P K a (get_or u i 0) ≡ true = at_walked (get_or u i 0) state (w.done.queued.placed i k) ∙ t in (
+          place i k e (dec_lt 0 i),
+          refute (without_marks P a j) (λ b. clash is_marked (unmarked_is P a j b (get_or u i 0) (rw (states_held T) state))),
+        )
+      where
+        place : (i : ℕ) → i < r.reached → get_or s (get_or u i 0) 0 ≡ low + 2 → Dec (0 < i) → low < r.reached
+        place i k e (yes z) = let (l, before, gone, f, b) = w.done.from i z k in omega arith
+        place i k e (no z) =
+            let o : i ≡ 0 = omega arith in
+            let is : get_or u i 0 ≡ a = ap (λ l. get_or u l 0) o ∙ w.done.start in
+            omega (arith, rw is at e, w.done.start_flag_lem, w.done.begun)
 
   -- ---- how the round ends
 
@@ -152,28 +122,8 @@ module _ (T : Tables) (sounds : sound T ≡ true) (few : T.size.n ≤ max_states
     unfolding none_left
     start_left = rw act
 
-    start_told : eqb (get_or cs a 0) FFFF ≡ marked P K a a
+    pub start_told : eqb (get_or cs a 0) FFFF ≡ marked P K a a
     start_told =
         ap (λ c. eqb c FFFF) (took a first_in first_walked)
         ∙ entry_none (choice P K a) (few_commands T sounds a first_in K)
         ∙ sym (at_walked a first_in first_walked ∙ start_left)
-
-    pub end_told : (end : ℕ) → end ≡ end_of r.low (get_or cs a 0) → end ≡ cond (without_marks P a j) 0 (cond (marked P K a a) 1 2)
-    unfolding end_of
-    end_told end e = e ∙ rw (low_told, start_told)
-
--- ---- by the tests of the code
-
-module _ (low : ℕ) (cs : List ℕ) (a : ℕ) where
-  pub ends_unmarked : low ≡ FFFF → 0 ≡ end_of low (get_or cs a 0)
-  unfolding end_of
-  ends_unmarked h = rw (eq-eqb low FFFF h)
-
-  module _ (h : low ≡ FFFF → ⊥) (c : ℕ) (p : c ≡ get_or cs a 0) where
-    pub ends_lost : c ≡ FFFF → 1 ≡ end_of low (get_or cs a 0)
-    unfolding end_of
-    ends_lost z = rw (ne_eqb low FFFF h, ← p, eq-eqb c FFFF z)
-
-    pub ends_due : (c ≡ FFFF → ⊥) → 2 ≡ end_of low (get_or cs a 0)
-    unfolding end_of
-    ends_due z = rw (ne_eqb low FFFF h, ← p, ne_eqb c FFFF z)

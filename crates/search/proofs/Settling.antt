@@ -1,5 +1,5 @@
 -- The loop that ends a round at the places of the queue whose states are reached no more: what is done at place i.
-use mathlib.Core.Path.{◌≡◌, refl, sym, ◌∙◌, ap}
+use mathlib.Core.Path.{◌≡◌, sym, ◌∙◌, ap}
 use mathlib.Core.Bool.{Bool, cond}
 use mathlib.Core.List.{List}
 use Prim.Native.Nat.{ℕ, ◌+◌, ◌<◌, ◌≤◌}
@@ -15,15 +15,6 @@ use Rattle.walks.specs.Flags.{walked_in}
 use Rattle.walks.specs.Queued.{Queued}
 use Rattle.search.specs.Marks.{marked_at}
 use Rattle.search.specs.Settled.{Settled}
-
-pub settled_none : {q : ℕ} {M : ℕ → Bool} {u cs s : List ℕ} → Settled q q M u cs s cs s
-settled_none = record {
-  flag = λ i l k. absurd (omega arith);
-  blank = λ i l k. absurd (omega arith);
-  kept = λ y h. (refl, refl);
-  same_flags = refl;
-  same_commands = refl;
-}
 
 module _ {n q' q i : ℕ} (T : Tables) {u c₀ s₀ cs s : List ℕ} (L : Queued n q s₀ u) (lc : n ≤ length c₀) (ls : n ≤ length s₀)
     (w : Settled q' i (λ x. marked_at (span_at T x) c₀ s₀ x) u c₀ s₀ cs s) (from : q' ≤ i) (l : i < q) where
@@ -74,10 +65,6 @@ module _ {n q' q i : ℕ} (T : Tables) {u c₀ s₀ cs s : List ℕ} (L : Queued
       same_flags = ap length s_is ∙ length-set s y (cond (marked_at p cs s y) 0 1) ∙ w.same_flags;
       same_commands = ap length c_is ∙ length-set cs y FFFF ∙ w.same_commands;
     }
-
-pub settled_done : {q' i q : ℕ} {M : ℕ → Bool} {u cs s cs' s' : List ℕ} → Settled q' i M u cs s cs' s' → i ≤ q → q ≤ i
-    → Settled q' q M u cs s cs' s'
-settled_done {i = i} {q} w h k = let e : i ≡ q = omega arith in rw e at w
 
 -- the same marked states
 pub settled_as : {n q' q : ℕ} {M N : ℕ → Bool} {f u cs s cs' s' : List ℕ} → Queued n q f u → ((x : ℕ) → x < n → M x ≡ N x)

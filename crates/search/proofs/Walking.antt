@@ -1,12 +1,12 @@
 -- The loop of a walk: it goes on from place h of the queue, and is a walk of whatever start and known set it was one of.
-use mathlib.Core.Path.{◌≡◌, refl, sym, ◌∙◌, ap, subst}
+use mathlib.Core.Path.{◌≡◌, refl, sym, ◌∙◌, subst}
 use mathlib.Core.Bool.{Bool, true, false}
 use mathlib.Core.List.{List}
 use Prim.Native.Nat.{ℕ, ◌+◌, ◌<◌, ◌≤◌}
 use native.Mathlib.Omega.{arith}
 use lib.ListN.{length, get_or, set, length-set}
 use lib.Seq.{get_or-set_other}
-use Rattle.laws.specs.Entry.{FFFF}
+use Rattle.std.specs.Prelude.{Option}
 use Rattle.laws.specs.Filled.{Filled}
 use Rattle.model.specs.Plan.{Plan}
 use Rattle.model.specs.Tables.{Tables, lists_in}
@@ -14,7 +14,6 @@ use Rattle.model.specs.SoundTest.{sound}
 use Rattle.model.specs.Held.{plan_in}
 use Rattle.model.proofs.HeldPlan.{states_held}
 use Rattle.model.proofs.Valid.{sound_valid}
-use Rattle.tables.specs.declared.spans.Span.{Span}
 use Rattle.tables.specs.Spans.{span_at}
 use Rattle.choice.specs.Order.{alone}
 use Rattle.walks.specs.Flags.{known_in}
@@ -29,10 +28,7 @@ use Rattle.search.specs.Walked.{Expanded, Lowest, Walked}
 use Rattle.search.specs.Tried.{Tried, Retried}
 use Rattle.search.proofs.Trying.{tried_more, tried_next}
 use Rattle.search.proofs.WalkSteps.{underway_expanded}
-use Rattle.search.proofs.Lowering.{marked_left, lowest_start, lowest_next}
-
-pub past_none : {n : ℕ} {l : List ℕ} → Past n l l
-past_none = record { same = refl; low = λ x k. refl; high = λ x k. refl }
+use Rattle.search.proofs.Lowering.{marked_left, lowest_next}
 
 pub past_then : {n : ℕ} {l₁ l₂ l₃ : List ℕ} → Past n l₁ l₂ → Past n l₂ l₃ → Past n l₁ l₃
 past_then v w = record { same = w.same ∙ v.same; low = λ x k. refl; high = λ x k. w.high x k ∙ v.high x k }
@@ -55,35 +51,22 @@ past_set {l = l} x v k w l' e = rw e (record {
 abbrev pub Clear : Plan → (ℕ → Bool) → ℕ → List ℕ → Type 0
 Clear P K h u = (i : ℕ) → i < h → none_left P K (get_or u i 0) ≡ false
 
--- `from`, `reached`, c₀, s₀, u₀ and t₀ are as when the loop begins
-pub record Walking (P : Plan) (n from reached : ℕ) (c₀ s₀ u₀ t₀ : List ℕ) (h q low : ℕ) (cs s u t : List ℕ) : Type 0 where
+-- `from`, `reached`, c₀, s₀ and u₀ are as when the loop begins
+pub record Walking (P : Plan) (n from reached : ℕ) (c₀ s₀ u₀ : List ℕ) (h q : ℕ) (low : Option ℕ) (cs s u t : List ℕ) : Type 0 where
   pub queued : Queued n q s u
   pub tried : Tried P n (known_in s) t
   pub commands : Past n c₀ cs
   pub flags : Past n s₀ s
   pub same_queue : length u ≡ length u₀
-  pub same_tried : length t ≡ length t₀
   pub goes : (K : ℕ → Bool) (a : ℕ) → Underway P n K a from reached c₀ s₀ u₀ → Clear P K from u₀
       → Underway P n K a h q cs s u × Lowest P K low h s u
 
-pub walking_start : (P : Plan) {n from reached : ℕ} {c₀ s₀ u₀ t₀ : List ℕ} → Queued n reached s₀ u₀ → Tried P n (known_in s₀) t₀
-    → Walking P n from reached c₀ s₀ u₀ t₀ from reached FFFF c₀ s₀ u₀ t₀
-walking_start P L v = record {
-  queued = L;
-  tried = v;
-  commands = past_none;
-  flags = past_none;
-  same_queue = refl;
-  same_tried = refl;
-  goes = λ K a d clear. (d, lowest_start clear);
-}
-
-module _ (T : Tables) (sounds : sound T ≡ true) {from reached : ℕ} {c₀ s₀ u₀ t₀ : List ℕ} {h q low : ℕ} {cs s u t : List ℕ}
-    (w : Walking (plan_in T) T.size.n from reached c₀ s₀ u₀ t₀ h q low cs s u t) where
+module _ (T : Tables) (sounds : sound T ≡ true) {from reached : ℕ} {c₀ s₀ u₀ : List ℕ} {h q : ℕ} {low : Option ℕ} {cs s u t : List ℕ}
+    (w : Walking (plan_in T) T.size.n from reached c₀ s₀ u₀ h q low cs s u t) where
   -- the next state of the queue was gone on from
   module _ (k : h < q) (x : ℕ) (p : x ≡ get_or u h 0) (long : T.size.n ≤ length cs) {q' : ℕ} {cs' s' u' : List ℕ}
-      (g : Expanded (plan_in T) T.size.n q x (h + 2) cs s u q' cs' s' u') (span : Span) (is : span ≡ span_at T x)
-      (v : ℕ) (e : v ≡ lower_of (marked_at span cs' s' x) (get_or s' x 0) low) where
+      (g : Expanded (plan_in T) T.size.n q x (h + 2) cs s u q' cs' s' u') (v : Option ℕ)
+      (e : v ≡ lower_of (marked_at (span_at T x) cs' s' x) (get_or s' x 0) low) where
     state : x < T.size.n
     state = rw p (w.queued.states h k)
 
@@ -97,10 +80,9 @@ module _ (T : Tables) (sounds : sound T ≡ true) {from reached : ℕ} {c₀ s�
       next : Underway (plan_in T) T.size.n K a (h + 1) q' cs' s' u'
       next = underway_expanded d (sound_valid T sounds) (states_held T) k x p long g
 
-      left : marked_at span cs' s' x ≡ none_left (plan_in T) K x
+      left : marked_at (span_at T x) cs' s' x ≡ none_left (plan_in T) K x
       left =
-          ap (λ (t : Span). marked_at t cs' s' x) is
-          ∙ marked_left T sounds K x state cs' s' (rw here at (next.queued.placed h (omega (arith, next.ahead))))
+          marked_left T sounds K x state cs' s' (rw here at (next.queued.placed h (omega (arith, next.ahead))))
           (rw here at (next.took h (omega arith)))
 
       lowest_then : Lowest (plan_in T) K v (h + 1) s' u'
@@ -108,15 +90,14 @@ module _ (T : Tables) (sounds : sound T ≡ true) {from reached : ℕ} {c₀ s�
           lowest_next lowest s' u' (λ i m. g.spreads.kept i (omega arith)) flag_stays x here
           (walked_value s' x (rw here at (next.queued.placed h (omega (arith, next.ahead))))) _ left v e
 
-    pub walking_next : {t' : List ℕ} → Retried (alone (lists_in T) span) (known_in s) x t t' → length t' ≡ length t
-        → Walking (plan_in T) T.size.n from reached c₀ s₀ u₀ t₀ (h + 1) q' v cs' s' u' t'
+    pub walking_next : {t' : List ℕ} → Retried (alone (lists_in T) (span_at T x)) (known_in s) x t t' → length t' ≡ length t
+        → Walking (plan_in T) T.size.n from reached c₀ s₀ u₀ (h + 1) q' v cs' s' u' t'
     walking_next y z = record {
       queued = g.spreads.queued;
-      tried = tried_more (λ r b. spread_known g.spreads (omega arith) r ∙ b) (tried_next T x state span is y z w.tried);
+      tried = tried_more (λ r b. spread_known g.spreads (omega arith) r ∙ b) (tried_next T x state (span_at T x) refl y z w.tried);
       commands = past_set x _ state w.commands cs' g.took;
       flags = past_then w.flags (past_spread g.spreads);
       same_queue = g.spreads.same_queue ∙ w.same_queue;
-      same_tried = z ∙ w.same_tried;
       goes = λ K a d clear. let (now, lowest) = w.goes K a d clear in (next K a now lowest, lowest_then K a now lowest);
     }
 

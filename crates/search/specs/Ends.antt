@@ -1,20 +1,25 @@
--- How a round ends, and what the search leaves.
-use Rattle.std.specs.Prelude.{◌≡◌, true, false, cond, List, ℕ, eqb}
+-- What the rounds leave, and what the search leaves.
+use Rattle.std.specs.Prelude.{◌≡◌, Bool, true, false, List, ℕ, ◌<◌, get_or}
 use Rattle.laws.specs.Entry.{FFFF, entry}
 use Rattle.laws.specs.Filled.{Filled}
 use Rattle.model.specs.Plan.{Plan}
 use Rattle.model.specs.Search.{search}
 use Rattle.search.specs.declared.Found.{Found}
+use Rattle.search.specs.Past.{Past}
 
--- by what tells of the marked states and by the start's entry: 0 if there are none, 1 if the start has no command, else 2
-unfoldable pub end_of : ℕ → ℕ → ℕ
-end_of low command = cond (eqb low FFFF) 0 (cond (eqb command FFFF) 1 2)
+-- the rounds from a are over: where the start is safe the commands are those of the last walk, where it is lost there are none
+pub record Rounded (P : Plan) (n a : ℕ) (commands scratch : List ℕ) (r : Found) (commands' scratch' : List ℕ) : Type 0 where
+  pub verdict : r.lost ≡ (search P a).lost
+  pub counted : r.rounds ≡ (search P a).rounds
+  pub safe : r.lost ≡ false → (x : ℕ) → x < n → get_or commands' x 0 ≡ entry ((search P a).command x)
+  pub lost : r.lost ≡ true → (x : ℕ) → FFFF ≡ entry ((search P a).command x)
+  pub commands_past : Past n commands commands'
+  pub scratch_past : Past n scratch scratch'
 
--- the last words of the search, after a last round that ended so
-pub record Finished (n end rounds : ℕ) (commands scratch : List ℕ) (r : Found) (commands' scratch' : List ℕ) : Type 0 where
-  pub counted : r.rounds ≡ rounds
-  pub safe : end ≡ 0 → (r.lost ≡ false) × (commands' ≡ commands)
-  pub lost : (end ≡ 0 → ⊥) → (r.lost ≡ true) × Filled n (λ _. FFFF) commands commands'
+-- the last words of the search, whose start is lost or not
+pub record Finished (n : ℕ) (lost : Bool) (commands scratch commands' scratch' : List ℕ) : Type 0 where
+  pub safe : lost ≡ false → commands' ≡ commands
+  pub lost_blank : lost ≡ true → Filled n (λ _. FFFF) commands commands'
   pub clean : Filled n (λ _. 0) scratch scratch'
 
 -- the search from a is done

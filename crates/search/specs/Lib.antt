@@ -1,4 +1,3 @@
-pub mod Prepared
 pub mod Past
 pub mod Marks
 pub mod Underway

@@ -2,20 +2,15 @@
 // reads no state and no outcome more than a few times. Scratch has the flags of the crate `walks`: the mark of a reached state is 2 more
 // than the place of the queue from which it was reached. So it is known which part of a walk its marked states cast no doubt on, and the
 // next round need not walk it again.
-ghost use Rattle.std.specs.Prelude.{◌≡◌, Bool, true, false, List, ℕ, ◌<◌, ◌≤◌, length, get_or};
-ghost use Rattle.laws.specs.Entry.{entry};
+ghost use Rattle.std.specs.Prelude.{◌≡◌, Bool, false, ℕ, ◌<◌, ◌≤◌, length, get_or};
 ghost use Rattle.model.specs.Command.{choice};
-ghost use Rattle.model.specs.SoundTest.{sound};
+ghost use Rattle.model.specs.Tables.{lists_in};
 ghost use Rattle.model.specs.Held.{plan_in};
-ghost use Rattle.tables.specs.declared.Row.{Row};
-ghost use Rattle.tables.specs.Meaning.{held};
-ghost use Rattle.tables.specs.Spans.{span_at, commands_of};
-ghost use Rattle.tables.specs.Seen.{Seen};
-ghost use Rattle.tables.specs.Ready.{Ready};
+ghost use Rattle.tables.specs.Meaning.{lent, option_of};
+ghost use Rattle.tables.specs.Spans.{span_at};
 ghost use Rattle.choice.specs.Order.{alone, AllHit};
 ghost use Rattle.walks.specs.Flags.{known_in};
 ghost use Rattle.walks.specs.Queued.{Queued};
-ghost use Rattle.search.specs.Prepared.{Prepared};
 ghost use Rattle.search.specs.Past.{Past};
 ghost use Rattle.search.specs.Marks.{marked_at, lower_of, none_left};
 ghost use Rattle.search.specs.Underway.{Underway};
@@ -25,66 +20,71 @@ ghost use Rattle.search.specs.Tried.{Tried, Retried};
 use crate::marks::is_marked;
 use choice::choosing::choose_from;
 use choice::order::tried_at;
-use tables::entries::{NONE, at, first_outcome, put};
-use tables::spans::{Span, span_at};
-use tables::{Row, Size};
+use choice::state_set::StateSet;
+use tables::entries::{at, put, put_option};
+use tables::sound_plan::SoundPlan;
+use tables::spans::Span;
 use walks::queue::spread;
 
-// How many states a walk has reached, and the lowest place of the queue from which a marked state was reached, NONE if none is marked.
-#[derive(Clone, Copy)]
+// How many states a walk has reached, and the lowest place of the queue from which a marked state was reached, if one is marked.
+#[derive(Clone, Copy, Debug, PartialEq, Eq)]
 pub struct Progress {
     pub reached: usize,
-    pub low: usize,
+    pub low: Option<usize>,
 }
 
 // The lower of `low` and the place from which s was reached, if s is marked.
-fn lower(span: Span, commands: &[u16], scratch: &[u16], s: usize, low: usize) -> usize
-    requires { (s < length commands.now) × (s < length scratch.now) }
-    ensures { result ≡ lower_of (marked_at span commands.now scratch.now s) (get_or scratch.now s 0) low }
+fn lower(
+    checked: &SoundPlan,
+    commands: &[u16],
+    scratch: &[u16],
+    s: usize,
+    low: Option<usize>,
+) -> Option<usize>
+    requires { (s < checked.now.plan.size.n) × (s < length commands.now) × (s < length scratch.now) }
+    ensures { result
+        ≡ lower_of (marked_at (span_at (lent checked.now.plan) s) commands.now scratch.now s) (get_or scratch.now s 0) low }
 {
-    if !is_marked(span, commands, scratch, s) {
+    if !is_marked(checked, commands, scratch, s) {
         return low;
     }
     let place = at(scratch, s) - 2;
-    if place < low {
-        return place;
+    match low {
+        None => Some(place),
+        Some(lowest) => Some(place.min(lowest)),
     }
-    low
 }
 
 // The command taken at state s, of which `span` was read. No command that was found hit is tried again: `tried` has the place of the trying
 // order to go on from.
 fn take(
-    size: Size,
+    checked: &SoundPlan,
     span: Span,
-    firsts: &[u16],
-    outcomes: &[u16],
     scratch: &[u16],
     tried: &mut [u16],
     s: usize,
-) -> usize
-    requires ready { Ready size.n (commands_of size firsts.now outcomes.now) }
-    requires seen { Seen size firsts.now outcomes.now s span }
-    requires n_in_bounds { (size.n ≤ length scratch.now) × (s < length tried.old) }
-    requires all_hit { AllHit (alone (commands_of size firsts.now outcomes.now) span) (known_in scratch.now) 0 (get_or tried.old s 0) }
-    ensures value { (R : List Row) → sound (held size R firsts.now outcomes.now) ≡ true → span
-        ≡ span_at (held size R firsts.now outcomes.now) s → result
-        ≡ entry (choice (plan_in (held size R firsts.now outcomes.now)) (known_in scratch.now) s) }
-    ensures retried { Retried (alone (commands_of size firsts.now outcomes.now) span) (known_in scratch.now) s
-        tried.old tried.new }
+) -> Option<usize>
+    requires seen { (s < checked.now.plan.size.n) × (span ≡ span_at (lent checked.now.plan) s) }
+    requires n_in_bounds { (checked.now.plan.size.n ≤ length scratch.now) × (s < length tried.old) }
+    requires all_hit { AllHit (plan_in (lent checked.now.plan)) (known_in scratch.now) s (get_or tried.old s 0) }
+    ensures value { option_of result ≡ choice (plan_in (lent checked.now.plan)) (known_in scratch.now) s }
+    ensures retried { Retried (alone (lists_in (lent checked.now.plan)) span) (known_in scratch.now) s tried.old tried.new }
 {
     let from = at(tried, s);
-    let place = choose_from(size, span, firsts, outcomes, scratch, 0, from);
+    let known = StateSet {
+        table: scratch,
+        limit: 0,
+    };
+    let place = choose_from(checked, span, &known, from);
     put(tried, s, place);
     tried_at(span, place)
 }
 
-// Goes on from state s, of which `span` was read: takes the command there, and the command's outcomes into the walk under the mark.
+// Goes on from state s: takes the command there, and the command's outcomes into the walk under the mark.
+// The tables stay parameters here and below: of a struct behind a `&mut`, two cannot be lent to one call (not covered by the check).
+#[tactic(auto, using(choice::proofs::Taken::choice_fits))]
 fn expand(
-    size: Size,
-    span: Span,
-    firsts: &[u16],
-    outcomes: &[u16],
+    checked: &SoundPlan,
     commands: &mut [u16],
     scratch: &mut [u16],
     queue: &mut [u16],
@@ -93,38 +93,32 @@ fn expand(
     s: usize,
     mark: usize,
 ) -> usize
-    requires ready { Ready size.n (commands_of size firsts.now outcomes.now) }
-    requires seen { Seen size firsts.now outcomes.now s span }
-    requires n_in_bounds { (size.n ≤ length commands.old) × (size.n ≤ length scratch.old) × (size.n ≤ length queue.old) × (2 ≤ mark)
-        × (mark < 65536) }
-    requires queued { Queued size.n q scratch.old queue.old }
-    requires s_in_bounds { s < length tried.old }
-    requires all_hit { AllHit (alone (commands_of size firsts.now outcomes.now) span) (known_in scratch.old) 0 (get_or tried.old s 0) }
-    ensures expanded { (R : List Row) → sound (held size R firsts.now outcomes.now) ≡ true → span
-        ≡ span_at (held size R firsts.now outcomes.now) s
-        → Expanded (plan_in (held size R firsts.now outcomes.now)) size.n q s mark commands.old
-        scratch.old queue.old result commands.new scratch.new queue.new }
-    ensures retried { Retried (alone (commands_of size firsts.now outcomes.now) span) (known_in scratch.old) s
-        tried.old tried.new }
+    requires s_in_bounds { let n = checked.now.plan.size.n in (s < n) × (s < length tried.old) × (2 ≤ mark) × (mark < 65536) }
+    requires n_in_bounds { let n = checked.now.plan.size.n in
+        (n ≤ length commands.old) × (n ≤ length scratch.old) × (n ≤ length queue.old) }
+    requires queued { Queued checked.now.plan.size.n q scratch.old queue.old }
+    requires all_hit { AllHit (plan_in (lent checked.now.plan)) (known_in scratch.old) s (get_or tried.old s 0) }
+    ensures expanded { Expanded (plan_in (lent checked.now.plan)) checked.now.plan.size.n q s mark
+        commands.old scratch.old queue.old result commands.new scratch.new queue.new }
+    ensures retried { let T = lent checked.now.plan in
+        Retried (alone (lists_in T) (span_at T s)) (known_in scratch.old) s tried.old tried.new }
 {
-    let c = take(size, span, firsts, outcomes, scratch, tried, s);
-    put(commands, s, c);
-    if c == NONE {
+    let span = checked.span(s);
+    let taken = take(checked, span, scratch, tried, s);
+    put_option(commands, s, taken);
+    let Some(c) = taken else {
         return q;
-    }
+    };
     let g = span.first + c;
-    let from = first_outcome(size, firsts, g);
-    let end = first_outcome(size, firsts, g + 1);
-    spread(size.n, outcomes, scratch, queue, q, from, end, mark)
+    let from = checked.first_outcome(g);
+    let end = checked.first_outcome(g + 1);
+    spread(checked, scratch, queue, q, from, end, mark)
 }
 
 // Walks on from place `from` of the queue, where `reached` states are reached. Whatever start and known set it is a walk of, of those it is
 // done then.
 pub fn walk(
-    size: Size,
-    rows: &[Row],
-    firsts: &[u16],
-    outcomes: &[u16],
+    checked: &SoundPlan,
     commands: &mut [u16],
     scratch: &mut [u16],
     queue: &mut [u16],
@@ -132,42 +126,28 @@ pub fn walk(
     from: usize,
     reached: usize,
 ) -> Progress
-    requires prepared { Prepared size rows.now firsts.now outcomes.now commands.old scratch.old queue.old }
-    requires queued { Queued size.n reached scratch.old queue.old }
-    requires tried { Tried (plan_in (held size rows.now firsts.now outcomes.now)) size.n (known_in scratch.old) tried.old }
-    ensures past { Past size.n commands.old commands.new }
-    ensures past_2 { Past size.n scratch.old scratch.new }
-    ensures queued_2 { Queued size.n result.reached scratch.new queue.new }
-    ensures tried_2 { Tried (plan_in (held size rows.now firsts.now outcomes.now)) size.n
-        (known_in scratch.new) tried.new }
-    ensures by_index { (K : ℕ → Bool) (a : ℕ)
-        → Underway (plan_in (held size rows.now firsts.now outcomes.now)) size.n K a from reached
-        commands.old scratch.old queue.old
-        → ((i : ℕ) → i < from → none_left (plan_in (held size rows.now firsts.now outcomes.now)) K
-        (get_or queue.old i 0) ≡ false)
-        → Walked (plan_in (held size rows.now firsts.now outcomes.now)) size.n K a result
-        commands.new scratch.new queue.new }
+    requires n_in_bounds { let n = checked.now.plan.size.n in
+        (n ≤ length commands.old) × (n ≤ length scratch.old) × (n ≤ length queue.old) }
+    requires queued { Queued checked.now.plan.size.n reached scratch.old queue.old }
+    requires tried { Tried (plan_in (lent checked.now.plan)) checked.now.plan.size.n (known_in scratch.old) tried.old }
+    ensures past { Past checked.now.plan.size.n commands.old commands.new }
+    ensures past_2 { Past checked.now.plan.size.n scratch.old scratch.new }
+    ensures queued_2 { Queued checked.now.plan.size.n result.reached scratch.new queue.new }
+    ensures tried_2 { Tried (plan_in (lent checked.now.plan)) checked.now.plan.size.n (known_in scratch.new) tried.new }
+    ensures by_index { let P = plan_in (lent checked.now.plan) in let n = checked.now.plan.size.n in
+        (K : ℕ → Bool) (a : ℕ)
+        → Underway P n K a from reached commands.old scratch.old queue.old
+        → ((i : ℕ) → i < from → none_left P K (get_or queue.old i 0) ≡ false)
+        → Walked P n K a result commands.new scratch.new queue.new }
 {
     let mut q = reached;
-    let mut low = NONE;
+    let mut low = None;
     let mut h = from;
+    // the walk itself moves the end, so no `for` goes over these places
     while h < q {
         let s = at(queue, h);
-        let span = span_at(size, rows, s);
-        q = expand(
-            size,
-            span,
-            firsts,
-            outcomes,
-            commands,
-            scratch,
-            queue,
-            tried,
-            q,
-            s,
-            h + 2,
-        );
-        low = lower(span, commands, scratch, s, low);
+        q = expand(checked, commands, scratch, queue, tried, q, s, h + 2);
+        low = lower(checked, commands, scratch, s, low);
         h += 1;
     }
     Progress { reached: q, low }

@@ -1,9 +1,10 @@
--- Entries that are stored one after another: a row's three, a size record's four, and those of several rows.
+-- The two bytes of an entry, and entries that are stored one after another: a row's three, a size record's four, and those of several rows.
 use mathlib.Core.Path.{◌≡◌, refl, ap, ◌∙◌}
 use mathlib.Core.List.{List, [], ◌∷◌, ◌++◌}
-use Prim.Native.Nat.{ℕ, ◌+◌, ◌*◌, ◌≤◌}
+use Prim.Native.Nat.{ℕ, ◌+◌, ◌*◌, ◌%◌, ◌<◌, ◌≤◌}
 use native.Mathlib.Omega.{arith}
 use lib.ListN.{length}
+use Rattle.std.specs.Int.{w16, to_be_bytes}
 use Rattle.laws.specs.Entry.{two, twos}
 use Rattle.laws.specs.Lists.{overwrite}
 use Rattle.laws.specs.Writes.{put_all}
@@ -11,6 +12,9 @@ use Rattle.laws.proofs.Blocks.{Blocks}
 use Rattle.laws.proofs.Writes.{put_then, put_front}
 use Rattle.model.specs.Tables.{Row as ModelRow, Size as ModelSize}
 use Rattle.model.specs.Boundary.{entry_bytes, row_width, row_bytes, size_bytes, bytes_for, row_entries, size_entries}
+
+pub bytes_two : (x : ℕ) → x < 65536 → {bytes : List ℕ} → bytes ≡ to_be_bytes w16 x → bytes ≡ two x []
+bytes_two x h e = e ∙ ap (λ (high : ℕ). high ∷ x % 256 ∷ []) (omega arith)
 
 pub row_stored : (w : ModelRow) (s : ℕ) (l₀ : List ℕ) {l₁ l₂ l₃ : List ℕ} → l₁ ≡ put_all l₀ (s * row_width * entry_bytes) (two w.kind [])
     → l₂ ≡ put_all l₁ ((s * row_width + 1) * entry_bytes) (two w.first []) → l₃

@@ -6,8 +6,7 @@ ghost use Rattle.laws.specs.Writes.{put_all};
 ghost use Rattle.model.specs.Boundary.{bytes_for, row_entries, size_entries, entry_bytes, row_bytes, size_bytes};
 ghost use Rattle.tables.specs.Meaning.{numbers, row_of, rows_of};
 
-use tables::entries::narrow;
-use tables::rows::{ROW_ENTRIES, row_at};
+use tables::rows::ROW_ENTRIES;
 use tables::{Row, Size};
 
 // Stores x as the entry i.
@@ -15,8 +14,9 @@ pub fn store_entry(bytes: &mut [u8], i: usize, x: u16)
     requires { i * 2 + 2 ≤ length bytes.old }
     ensures { bytes.new ≡ put_all bytes.old (i * 2) (two x []) }
 {
-    bytes[i * 2] = (x / 256) as u8;
-    bytes[i * 2 + 1] = (x % 256) as u8;
+    let [high, low] = x.to_be_bytes();
+    bytes[i * 2] = high;
+    bytes[i * 2 + 1] = low;
 }
 
 // Stores the first n entries of a table.
@@ -24,10 +24,8 @@ pub fn store(table: &[u16], bytes: &mut [u8], n: usize)
     requires { (n ≤ length table.now) × (n * entry_bytes ≤ length bytes.old) }
     ensures { bytes.new ≡ overwrite (bytes_for (take n table.now)) bytes.old }
 {
-    let mut i = 0;
-    while i < n {
+    for i in 0..n {
         store_entry(bytes, i, table[i]);
-        i += 1;
     }
 }
 
@@ -47,11 +45,8 @@ pub fn store_rows(rows: &[Row], bytes: &mut [u8], n: usize)
     requires { (n ≤ length rows.now) × (n * row_bytes ≤ length bytes.old) }
     ensures { bytes.new ≡ overwrite (bytes_for (row_entries (take n (rows_of rows.now)))) bytes.old }
 {
-    let mut s = 0;
-    while s < n {
-        let row = row_at(rows, s);
-        store_row(row, bytes, s);
-        s += 1;
+    for s in 0..n {
+        store_row(rows[s], bytes, s);
     }
 }
 
@@ -60,8 +55,8 @@ pub fn store_size(size: Size, bytes: &mut [u8])
     requires { (size_bytes ≤ length bytes.old) × (size.n < 65536) × (size.m < 65536) × (size.t < 65536) × (size.start < 65536) }
     ensures { bytes.new ≡ overwrite (bytes_for (size_entries (numbers size))) bytes.old }
 {
-    store_entry(bytes, 0, narrow(size.n));
-    store_entry(bytes, 1, narrow(size.m));
-    store_entry(bytes, 2, narrow(size.t));
-    store_entry(bytes, 3, narrow(size.start));
+    store_entry(bytes, 0, size.n as u16);
+    store_entry(bytes, 1, size.m as u16);
+    store_entry(bytes, 2, size.t as u16);
+    store_entry(bytes, 3, size.start as u16);
 }

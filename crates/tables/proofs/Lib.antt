@@ -8,3 +8,5 @@ pub mod StatesFilling
 pub mod SoundParts
 pub mod Readiness
 pub mod Stretches
+pub mod SoundPlans
+pub mod Options

@@ -1,5 +1,6 @@
 pub mod Meaning
 pub mod Spans
-pub mod Seen
 pub mod Ready
 pub mod Lasts
+pub mod ListTables
+pub mod Listed

@@ -1,9 +1,11 @@
 -- What the code's types stand for: the model's size record, refusals and tables.
-use Rattle.std.specs.Prelude.{List, map, ℕ}
-use Rattle.model.specs.Refusal.{Refusal as ModelRefusal}
+use Rattle.std.specs.Prelude.{List, map, ℕ, Option, Some, None, Result, Ok, Err}
+use Rattle.std.proofs.Math.Option.{Option as ModelOption, some, none}
+use Rattle.model.specs.Refusal.{Refusal as ModelRefusal, Answer, given, refused}
 use Rattle.model.specs.Tables.{Size as ModelSize, Row as ModelRow, Tables}
 use Rattle.tables.specs.declared.Size.{Size}
 use Rattle.tables.specs.declared.Row.{Row}
+use Rattle.tables.specs.declared.Plan.{Plan}
 use Rattle.tables.specs.declared.Refusal.{Refusal}
 use Rattle.tables.specs.declared.Refusal.TheVariants.{
   Cut,
@@ -62,3 +64,16 @@ rows_of rows = map row_of rows
 -- size record and lent slices as the model's tables
 abbrev pub held : Size → List Row → List ℕ → List ℕ → Tables
 held z rows firsts outcomes = record { size = numbers z; rows = rows_of rows; firsts = firsts; outcomes = outcomes }
+
+abbrev pub lent : Plan → Tables
+lent p = held p.size p.rows.now p.firsts.now p.outcomes.now
+
+-- what a call answers: a value, which f says what it stands for, or a refusal
+abbrev pub answered : {A B : Type 0} → (A → B) → Result A Refusal → Answer B
+answered f (Ok a) = given (f a)
+answered f (Err r) = refused (refusal_of r)
+
+-- a value or none, in the model's words
+abbrev pub option_of : {A : Type 0} → Option A → ModelOption A
+option_of None = none
+option_of (Some a) = some a

@@ -1,22 +1,14 @@
--- What the inner functions read of a state at once, and how they say that a call goes on.
+-- What the inner functions read of a state at once.
 use Rattle.std.specs.Prelude.{Bool, ◌&&◌, List, ℕ, ◌+◌, ◌-◌, leb}
 use Rattle.model.specs.Plan.{failing_at}
-use Rattle.model.specs.Refusal.{Answer, given, refused}
 use Rattle.model.specs.Tables.{Row as ModelRow, Tables, Lists}
 use Rattle.model.specs.File.{StateField, not_idle}
 use Rattle.model.specs.Places.{no_row as noModelRow, row_at, first_command}
 use Rattle.tables.specs.declared.Size.{Size}
 use Rattle.tables.specs.declared.Row.{Row}
 use Rattle.tables.specs.declared.spans.Span.{Span}
-use Rattle.tables.specs.declared.admission.Admission.{Admission}
-use Rattle.tables.specs.declared.admission.Admission.TheVariants.{Granted, Denied}
-use Rattle.tables.specs.Meaning.{refusal_of, row_of}
+use Rattle.tables.specs.Meaning.{row_of}
 use Rattle.tables.specs.Ready.{list_table}
-
--- a call answers a where it goes on, else the refusal
-abbrev pub admitted : {A : Type 0} → Admission → A → Answer A
-admitted Granted a = given a
-admitted (Denied r) a = refused (refusal_of r)
 
 -- the row that stands for one of the model's
 abbrev pub as_row : ModelRow → Row

@@ -1,25 +1,23 @@
 // The plan in memory: the size record, the refusals, and the test for sound tables.
 #![tactic(auto)]
 
-ghost use Rattle.std.specs.Prelude.{◌≡◌, true, ◌↔◌};
-ghost use Rattle.tables.specs.Meaning.{sized, refusal_of, held};
+ghost use Rattle.std.specs.Prelude.{◌≡◌};
+ghost use Rattle.tables.specs.Meaning.{sized, refusal_of};
 ghost use Rattle.model.specs.Refusal.{number};
-ghost use Rattle.model.specs.Sound.{Sound};
-ghost use Rattle.model.specs.SoundTest.{sound};
 
-use spans::span_at;
-
-pub mod admission;
-pub mod bytes;
 mod checks;
 pub mod entries;
+pub mod lengths;
+pub mod list_table;
+pub mod lists;
 pub mod rising;
 pub mod rows;
+pub mod sound_plan;
 pub mod spans;
 pub mod tags;
 
 // The numbers of a plan: n states, m commands, t outcome entries, and the start.
-#[derive(Clone, Copy)]
+#[derive(Clone, Copy, Debug, PartialEq, Eq)]
 pub struct Size {
     pub n: usize,
     pub m: usize,
@@ -46,7 +44,7 @@ impl Size {
 }
 
 // A state's row.
-#[derive(Clone, Copy)]
+#[derive(Clone, Copy, Debug, PartialEq, Eq)]
 pub struct Row {
     pub kind: u16,
     pub first: u16,
@@ -62,73 +60,45 @@ impl Row {
     };
 }
 
-// The refusals, in the order of their numbers (rules E1 to E11, E22 and E23). No call gives the last five yet (rule E21).
+// A plan as it is lent: its size record, and its tables, which may be of any length and have anything in them.
 #[derive(Clone, Copy)]
+pub struct Plan<'a> {
+    pub size: Size,
+    pub rows: &'a [Row],
+    pub firsts: &'a [u16],
+    pub outcomes: &'a [u16],
+}
+
+// The refusals, in the order of their numbers (rules E1 to E11, E22 and E23). No call gives the last five yet (rule E21).
+#[derive(Clone, Copy, Debug, PartialEq, Eq)]
 pub enum Refusal {
-    Cut,
-    Surplus,
-    Tag,
-    Length,
-    Beyond,
-    Unsorted,
-    Idle,
-    Limit,
-    Cramped,
-    Unsound,
-    Stranger,
-    Moves,
-    Seconds,
-    Doubtful,
-    Departures,
-    Chambers,
-    Report,
-    Grant,
+    Cut = 1,
+    Surplus = 2,
+    Tag = 3,
+    Length = 4,
+    Beyond = 5,
+    Unsorted = 6,
+    Idle = 7,
+    Limit = 8,
+    Cramped = 9,
+    Unsound = 10,
+    Stranger = 11,
+    Moves = 12,
+    Seconds = 13,
+    Doubtful = 14,
+    Departures = 15,
+    Chambers = 16,
+    Report = 17,
+    Grant = 18,
 }
 
 // The number of a refusal. Ruled out: one number for two refusals, and a number that is not the specification's.
-pub fn number(r: Refusal) -> u32
-    ensures numbered { result ≡ number (refusal_of r) }
-{
-    match r {
-        Refusal::Cut => 1,
-        Refusal::Surplus => 2,
-        Refusal::Tag => 3,
-        Refusal::Length => 4,
-        Refusal::Beyond => 5,
-        Refusal::Unsorted => 6,
-        Refusal::Idle => 7,
-        Refusal::Limit => 8,
-        Refusal::Cramped => 9,
-        Refusal::Unsound => 10,
-        Refusal::Stranger => 11,
-        Refusal::Moves => 12,
-        Refusal::Seconds => 13,
-        Refusal::Doubtful => 14,
-        Refusal::Departures => 15,
-        Refusal::Chambers => 16,
-        Refusal::Report => 17,
-        Refusal::Grant => 18,
-    }
-}
+impl From<Refusal> for u32 {
+    ghost from_gives = { λ r x. x ≡ number (refusal_of r) };
 
-// Whether size record and tables are a plan that some file gives, and no table is shorter than its count (refusal 10 where not).
-// Ruled out: passing tables that no file gives, and failing a plan for what stands past its counts.
-pub fn sound(size: Size, rows: &[Row], firsts: &[u16], outcomes: &[u16]) -> bool
-    ensures computed { result ≡ sound (held size rows.now firsts.now outcomes.now) }
-    ensures meant { (result ≡ true) ↔ Sound (held size rows.now firsts.now outcomes.now) }
-{
-    if !checks::size_sound(size) {
-        return false;
+    fn from(r: Refusal) -> u32
+        ensures numbered { result ≡ number (refusal_of r) }
+    {
+        r as u32
     }
-    if !checks::long(size, rows.len(), firsts, outcomes) {
-        return false;
-    }
-    let span = span_at(size, rows, 0);
-    if span.first != 0 {
-        return false;
-    }
-    if !checks::rows_sound(size, rows) {
-        return false;
-    }
-    checks::lists_sound(1, size.n, size.m, size.t, firsts, outcomes)
 }

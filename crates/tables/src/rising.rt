@@ -11,12 +11,10 @@ fn rises(entries: &[u16], from: usize, k: usize) -> bool
     requires { k < length entries.now - from }
     ensures { result ≡ every (λ i. rises_at entries.now (from + i)) k }
 {
-    let mut i = 0;
-    while i < k {
+    for i in 0..k {
         if at(entries, from + i + 1) <= at(entries, from + i) {
             return false;
         }
-        i += 1;
     }
     true
 }

@@ -6,7 +6,7 @@ ghost use Rattle.tables.specs.declared.Row.{Row};
 ghost use Rattle.tables.specs.Meaning.{held};
 ghost use Rattle.tables.specs.Spans.{field_with, span_of, span_at, failing_span};
 
-use crate::entries::{NONE, wide};
+use crate::entries::NONE;
 use crate::rows::row_at;
 use crate::{Row, Size};
 
@@ -34,10 +34,10 @@ fn span_of(row: Row, end: usize) -> Span
     ensures { result ≡ span_of row end }
 {
     Span {
-        kind: wide(row.kind),
-        first: wide(row.first),
+        kind: usize::from(row.kind),
+        first: usize::from(row.first),
         end,
-        practice: wide(row.practice),
+        practice: usize::from(row.practice),
     }
 }
 
@@ -51,35 +51,26 @@ pub fn span_at(size: Size, rows: &[Row], s: usize) -> Span
         return span_of(row, size.m);
     }
     let next = row_at(rows, s + 1);
-    span_of(row, wide(next.first))
+    span_of(row, usize::from(next.first))
 }
 
 // Only a state of kind 0 has commands.
 fn kind_fits(kind: usize, count: usize) -> bool
     ensures { result ≡ (eqb kind 0 || eqb count 0) }
 {
-    if kind == 0 {
-        return true;
-    }
-    count == 0
+    kind == 0 || count == 0
 }
 
 // The practice is none or a command.
 fn practice_fits(practice: usize, count: usize) -> bool
     ensures { result ≡ (eqb practice FFFF || ltb practice count) }
 {
-    if practice == NONE {
-        return true;
-    }
-    practice < count
+    practice == NONE || practice < count
 }
 
 // No commands under kind 1 or 2, and a practice that fits: what refusal 7 asks for.
 pub fn not_idle(kind: usize, count: usize, practice: usize) -> bool
     ensures { result ≡ not_idle (field_with kind count practice) }
 {
-    if !kind_fits(kind, count) {
-        return false;
-    }
-    practice_fits(practice, count)
+    kind_fits(kind, count) && practice_fits(practice, count)
 }

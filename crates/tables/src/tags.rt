@@ -1,4 +1,5 @@
-// The tags of a file's fields. Only the planner's own crates use this.
+// The tags of a file's fields, as the bytes that they are in it: a file may have any other in their place. Only the planner's own crates
+// use this.
 pub const HEAD: u8 = 1;
 
 pub const STATE: u8 = 2;

@@ -21,7 +21,7 @@ use Rattle.model.proofs.TrimGood.{trim_good}
 use Rattle.tables.specs.declared.Row.{Row}
 use Rattle.tables.specs.Meaning.{row_of, rows_of}
 use Rattle.tables.proofs.Filling.{filling_long}
-use Rattle.tables.proofs.StatesFilling.{StatesFilling, states_start, states_next, states_end, rows_long}
+use Rattle.tables.proofs.StatesFilling.{StatesFilling, states_next, states_end, rows_long}
 use Rattle.trim.proofs.LeftStates.{trimmed_at, left_from, left_next, left_none}
 
 -- tables of so many places have one for each state, command and outcome
@@ -40,9 +40,6 @@ pub record Copying (p : Tree) (rows₀ : List Row) (firsts₀ outs₀ : List ℕ
       (0 + length ss) (0 + length cs) (0 + length (joined cs)) rows firsts outs i m t (left_from p i)
 
 module _ {p : Tree} {rows₀ : List Row} {firsts₀ outs₀ : List ℕ} where
-  pub copying_start : Copying p rows₀ firsts₀ outs₀ rows₀ firsts₀ outs₀ 0 0 0
-  copying_start = record { left = states_start rows₀ firsts₀ outs₀ 0 0 0 (trim_tree p).states }
-
   module _ {rows : List Row} {firsts outs : List ℕ} {i m t : ℕ} (c : Copying p rows₀ firsts₀ outs₀ rows firsts outs i m t) where
     -- the tables are as long as before
     pub copying_rows : length rows ≡ length rows₀

@@ -18,7 +18,8 @@ use Rattle.model.specs.Trim.{trim_tree, trimmed}
 use Rattle.model.proofs.Layouts.{by_state_lem, by_command_lem}
 use Rattle.tables.specs.declared.Row.{Row}
 use Rattle.tables.specs.Meaning.{row_of, rows_of}
-use Rattle.trim.specs.Kept.{Kept, Numbered}
+use Rattle.trim.specs.declared.kept_states.KeptStates.{KeptStates}
+use Rattle.trim.specs.Kept.{Numbered}
 use Rattle.trim.proofs.KeptStates.{kept_inside}
 use Rattle.trim.proofs.CopiedStates.{room_for}
 
@@ -44,10 +45,12 @@ module _ (p : Tree) (rows : List Row) (firsts outcomes : List ℕ)
   outcomes_left e = e ∙ put_front outcomes (trimmed p).outcomes (room_for p _ _ _ room).2
 
 -- scratch has the new numbers in between, at places that are cleared
-pub scratch_left : {p : Tree} {kept : List ℕ} {n : ℕ} → Kept p kept n → (old : ℕ) → length p.states ≡ old → {l₀ l l' : List ℕ}
-    → old ≤ length l₀
-    → Numbered n kept l₀ l → Filled old (λ _. 0) l l' → l' ≡ overwrite (cleared old) l₀
+pub scratch_left : (k : KeptStates) {l₀ l l' : List ℕ} → k.checked.now.plan.size.n ≤ length l₀ → Numbered k.olds.now l₀ l
+    → Filled k.checked.now.plan.size.n (λ _. 0) l l' → l' ≡ overwrite (cleared k.checked.now.plan.size.n) l₀
 unfolding cleared
-scratch_left k old e {l₀} long w f =
+scratch_left k {l₀} long w f =
     filled_is long (filled_from w.same (λ x h. w.others x (λ i l q. omega (arith, kept_inside k i l))) f)
-    ∙ ap (λ (xs : List ℕ). overwrite xs l₀) (tabulate_constant 0 0 old)
+    ∙ ap (λ (xs : List ℕ). overwrite xs l₀) (tabulate_constant 0 0 k.checked.now.plan.size.n)
+
+-- what the tables come to
+pub ruleset filling = (rows_left, firsts_left, outcomes_left, scratch_left)

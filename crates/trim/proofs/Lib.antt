@@ -1,10 +1,9 @@
-pub mod Numbers
 pub mod Stretching
 pub mod EnteredStates
 pub mod KeptStates
 pub mod LeftStates
-pub mod KeptStretches
 pub mod Counted
+pub mod Mapped
 pub mod Copied
 pub mod CopiedStates
 pub mod FilledTables

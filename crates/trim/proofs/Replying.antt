@@ -2,6 +2,7 @@
 use mathlib.Core.Path.{◌≡◌, sym, ap, subst, ◌∙◌}
 use mathlib.Core.Bool.{Bool, true, false, ◌&&◌}
 use mathlib.Core.List.{List}
+use Rattle.std.proofs.Common.{Result, Ok, Err}
 use Prim.Native.Nat.{ℕ, ◌≤◌}
 use lib.Dec.{leb}
 use lib.ListN.{length, length-map}
@@ -17,35 +18,26 @@ use Rattle.model.specs.Trimmed.{Trimmed}
 use Rattle.model.proofs.TrimTables.{trimmed_tables}
 use Rattle.tables.specs.declared.Size.{Size}
 use Rattle.tables.specs.declared.Row.{Row}
+use Rattle.tables.specs.declared.Refusal.{Refusal}
 use Rattle.tables.specs.declared.Refusal.TheVariants.{Cramped, Unsound}
 use Rattle.tables.specs.Meaning.{numbers, row_of, rows_of}
-use Rattle.trim.specs.declared.TrimAnswer.{TrimAnswer}
-use Rattle.trim.specs.declared.TrimAnswer.TheVariants.{Given, Refused}
 use Rattle.trim.specs.Answers.{answer_of, after_trim, leaves}
 
 module _ (T : Tables) (rows : List Row) (firsts outs olds scratch : List ℕ) where
-  -- the contract, clause by clause
-  abbrev pub Replied : TrimAnswer → List Row → List ℕ → List ℕ → List ℕ → List ℕ → Type 0
-  Replied r rows' firsts' outs' olds' scratch' =
-      (after_trim r rows' firsts' outs' olds' scratch' ≡ trim_call T (rows_of rows) firsts outs olds scratch)
-      × ((z : ModelSize) → answer_of r ≡ given z → Trimmed T (leaves z rows' firsts' outs') olds')
-
   -- what an answer means follows of the equation
-  replied : (r : TrimAnswer) (rows' : List Row) (firsts' outs' olds' scratch' : List ℕ)
+  pub means : (r : Result Size Refusal) (rows' : List Row) (firsts' outs' olds' scratch' : List ℕ)
       → after_trim r rows' firsts' outs' olds' scratch' ≡ trim_call T (rows_of rows) firsts outs olds scratch
-      → Replied r rows' firsts' outs' olds' scratch'
-  replied r rows' firsts' outs' olds' scratch' e = (
-    e,
-    λ z g.
-        subst (λ (x : AfterTrim). Trimmed T (record { size = z; rows = x.rows; firsts = x.firsts; outcomes = x.outcomes }) x.olds)
-        (sym e)
-        (trimmed_tables T (rows_of rows) firsts outs olds scratch z (sym (ap (λ (x : AfterTrim). x.answers) e) ∙ g)),
-  )
+      → (z : ModelSize) → answer_of r ≡ given z → Trimmed T (leaves z rows' firsts' outs') olds'
+  means r rows' firsts' outs' olds' scratch' e z q =
+      subst (λ (x : AfterTrim). Trimmed T (record { size = z; rows = x.rows; firsts = x.firsts; outcomes = x.outcomes }) x.olds)
+      (sym e)
+      (trimmed_tables T (rows_of rows) firsts outs olds scratch z (sym (ap (λ (x : AfterTrim). x.answers) e) ∙ q))
 
   -- 10: every table is as it was
-  pub refuses_unsound : sound T ≡ false → Replied (Refused Unsound) rows firsts outs olds scratch
+  pub refuses_unsound : sound T ≡ false
+      → after_trim (Err Unsound) rows firsts outs olds scratch ≡ trim_call T (rows_of rows) firsts outs olds scratch
   unfolding trimming need ◌>>◌ answer left
-  refuses_unsound e = replied (Refused Unsound) rows firsts outs olds scratch (rw e)
+  refuses_unsound e = rw e
 
   -- z is the trimmed size record, and r whether there is room for it
   module _ (sounds : sound T ≡ true) {z : Size} (is : numbers z ≡ (trimmed (tree_of T)).size) {r : Bool}
@@ -61,13 +53,14 @@ module _ (T : Tables) (rows : List Row) (firsts outs olds scratch : List ℕ) wh
         rw (sounds, same)
 
     -- 9: every table is as it was
-    pub refuses_cramped : r ≡ false → Replied (Refused Cramped) rows firsts outs olds scratch
+    pub refuses_cramped : r ≡ false
+        → after_trim (Err Cramped) rows firsts outs olds scratch ≡ trim_call T (rows_of rows) firsts outs olds scratch
     unfolding need ◌>>◌ answer left
     refuses_cramped f =
         let t : trimming T (length (rows_of rows)) (length firsts) (length outs) (length olds) (length scratch)
         ≡ refused ModelRefusal.Cramped
         = judged ∙ rw f in
-        replied (Refused Cramped) rows firsts outs olds scratch (rw t)
+        rw t
 
     -- what an answer asks for
     pub record Room : Type 0 where
@@ -92,9 +85,10 @@ module _ (T : Tables) (rows : List Row) (firsts outs olds scratch : List ℕ) wh
     pub gives : r ≡ true → (rows' : List Row) {firsts' outs' olds' scratch' : List ℕ}
         → rows_of rows' ≡ overwrite (trimmed (tree_of T)).rows (rows_of rows) → firsts' ≡ overwrite (trimmed (tree_of T)).firsts firsts
         → outs' ≡ overwrite (trimmed (tree_of T)).outcomes outs → olds' ≡ overwrite (map_of (tree_of T)) olds
-        → scratch' ≡ overwrite (cleared T.size.n) scratch → Replied (Given z) rows' firsts' outs' olds' scratch'
+        → scratch' ≡ overwrite (cleared T.size.n) scratch
+        → after_trim (Ok z) rows' firsts' outs' olds' scratch' ≡ trim_call T (rows_of rows) firsts outs olds scratch
     unfolding need ◌>>◌ answer left
     gives f rows' {firsts'} {outs'} {olds'} {scratch'} rows_are firsts-are outs-are olds-are scratch-is =
         let t : trimming T (length (rows_of rows)) (length firsts) (length outs) (length olds) (length scratch) ≡ given (tree_of T) = judged
         ∙ rw f in
-        replied (Given z) rows' firsts' outs' olds' scratch' (rw (t, is, rows_are, firsts-are, outs-are, olds-are, scratch-is))
+        rw (t, is, rows_are, firsts-are, outs-are, olds-are, scratch-is)

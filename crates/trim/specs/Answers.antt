@@ -1,19 +1,18 @@
 -- What the answer of a trimming stands for.
-use Rattle.std.specs.Prelude.{List, ℕ}
-use Rattle.model.specs.Refusal.{Answer, given, refused}
+use Rattle.std.specs.Prelude.{List, ℕ, Result}
+use Rattle.model.specs.Refusal.{Answer}
 use Rattle.model.specs.Tables.{Size as ModelSize, Tables}
 use Rattle.model.specs.Trim.{AfterTrim}
+use Rattle.tables.specs.declared.Size.{Size}
 use Rattle.tables.specs.declared.Row.{Row}
-use Rattle.tables.specs.Meaning.{refusal_of, numbers, rows_of}
-use Rattle.trim.specs.declared.TrimAnswer.{TrimAnswer}
-use Rattle.trim.specs.declared.TrimAnswer.TheVariants.{Given, Refused}
+use Rattle.tables.specs.declared.Refusal.{Refusal}
+use Rattle.tables.specs.Meaning.{answered, numbers, rows_of}
 
-abbrev pub answer_of : TrimAnswer → Answer ModelSize
-answer_of (Given z) = given (numbers z)
-answer_of (Refused r) = refused (refusal_of r)
+abbrev pub answer_of : Result Size Refusal → Answer ModelSize
+answer_of = answered numbers
 
 -- what is answered, and what the lent tables hold then
-abbrev pub after_trim : TrimAnswer → List Row → List ℕ → List ℕ → List ℕ → List ℕ → AfterTrim
+abbrev pub after_trim : Result Size Refusal → List Row → List ℕ → List ℕ → List ℕ → List ℕ → AfterTrim
 after_trim r rows firsts outcomes olds scratch =
     record { answers = answer_of r; rows = rows_of rows; firsts = firsts; outcomes = outcomes; olds = olds; scratch = scratch }
 

@@ -1,14 +1,12 @@
 // What is read of a state at once.
-ghost use Rattle.std.specs.Prelude.{◌≡◌, List, ℕ, ◌<◌, ◌≤◌, length};
-ghost use Rattle.tables.specs.Meaning.{held};
+ghost use Rattle.std.specs.Prelude.{◌≡◌, ◌<◌};
+ghost use Rattle.tables.specs.Meaning.{lent};
 ghost use Rattle.trim.specs.Stretches.{stretch_at};
 
-use tables::entries::first_outcome;
-use tables::spans::span_at;
-use tables::{Row, Size};
+use tables::sound_plan::SoundPlan;
 
 // The commands of a state, from `first` up to `end`, and the outcomes of them all, from `from` up to `to`.
-#[derive(Clone, Copy)]
+#[derive(Clone, Copy, Debug, PartialEq, Eq)]
 pub struct Stretch {
     pub first: usize,
     pub end: usize,
@@ -17,15 +15,15 @@ pub struct Stretch {
 }
 
 // The stretch of state s.
-pub fn stretch_at(size: Size, rows: &[Row], firsts: &[u16], s: usize) -> Stretch
-    requires { (s < size.n) × (size.n ≤ length rows.now) × (size.m ≤ length firsts.now) }
-    ensures { (O : List ℕ) → result ≡ stretch_at (held size rows.now firsts.now O) s }
+pub fn stretch_at(checked: &SoundPlan, s: usize) -> Stretch
+    requires { s < checked.now.plan.size.n }
+    ensures { result ≡ stretch_at (lent checked.now.plan) s }
 {
-    let span = span_at(size, rows, s);
+    let span = checked.span(s);
     Stretch {
         first: span.first,
         end: span.end,
-        from: first_outcome(size, firsts, span.first),
-        to: first_outcome(size, firsts, span.end),
+        from: checked.first_outcome(span.first),
+        to: checked.first_outcome(span.end),
     }
 }

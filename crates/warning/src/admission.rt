@@ -1,33 +1,25 @@
-// What the warning time is refused with.
+// What the warning time of a sound plan is refused with.
 ghost use Rattle.std.specs.Prelude.{◌≡◌};
 ghost use Rattle.model.specs.Verdict.{rank};
-ghost use Rattle.model.specs.Tables.{Tables};
-ghost use Rattle.model.specs.SoundTest.{sound};
 ghost use Rattle.model.specs.Held.{plan_in};
 ghost use Rattle.model.specs.Warning.{warning, warning_call};
-ghost use Rattle.tables.specs.Spans.{admitted};
+ghost use Rattle.tables.specs.Meaning.{answered, lent};
 
 use crate::times::LONGEST_MOVE;
 use tables::Refusal;
-use tables::admission::Admission;
+use tables::sound_plan::SoundPlan;
 
-// Refusal 10, then 11, then 13: `sounds` says whether the plan is sound.
+// Refusal 11, then 13.
 #[tactic(auto, using(crate::proofs::Replying::admitting))]
-pub fn admit(sounds: bool, n: usize, state: usize, seconds: usize) -> Admission
-    ensures { (T : Tables) → sounds ≡ sound T → n ≡ T.size.n → warning_call T state seconds
-        ≡ admitted result (warning (rank (plan_in T) state) seconds) }
+pub fn admit(checked: &SoundPlan, state: usize, seconds: usize) -> Result<(), Refusal>
+    ensures { let T = lent checked.now.plan in
+        warning_call T state seconds ≡ answered (λ _. warning (rank (plan_in T) state) seconds) result }
 {
-    if !sounds {
-        return Admission::Denied(Refusal::Unsound);
+    if checked.plan.size.n <= state {
+        return Err(Refusal::Stranger);
     }
-    if n <= state {
-        return Admission::Denied(Refusal::Stranger);
+    if seconds < 1 || LONGEST_MOVE < seconds {
+        return Err(Refusal::Seconds);
     }
-    if seconds < 1 {
-        return Admission::Denied(Refusal::Seconds);
-    }
-    if LONGEST_MOVE < seconds {
-        return Admission::Denied(Refusal::Seconds);
-    }
-    Admission::Granted
+    Ok(())
 }

@@ -1,5 +1,5 @@
+pub mod Puts
 pub mod Spreads
-pub mod OutcomeFacts
 pub mod CommandFacts
 pub mod StateFacts
 pub mod FileFacts

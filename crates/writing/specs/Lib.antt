@@ -1,2 +1,2 @@
-pub mod SpanBytes
+pub mod Puts
 pub mod Answers

@@ -1,23 +1,40 @@
-// Numbers stored at a place, two bytes each: each function answers the place past what it stored.
-ghost use Rattle.std.specs.Prelude.{[], ◌+◌, ◌<◌, ◌≤◌, length};
-ghost use Rattle.laws.specs.Entry.{two};
-ghost use Rattle.laws.specs.Wrote.{Wrote};
+// The bytes lent, and how far they are written.
+ghost use Rattle.std.specs.Prelude.{[], ◌∷◌, ◌*◌, length};
+ghost use Rattle.laws.specs.Entry.{two, twos};
+ghost use Rattle.writing.specs.Puts.{Room, Put};
 
-use tables::bytes::put_both;
-
-// A number in two bytes, highest byte first.
-pub fn put_two(out: &mut [u8], place: usize, x: usize) -> usize
-    requires { (place + 2 ≤ length out.old) × (x < 65536) }
-    ensures { Wrote out.old place (two x []) out.new result }
-{
-    put_both(out, place, (x / 256) as u8, (x % 256) as u8)
+#[derive(Drop)]
+pub struct Output<'a> {
+    pub bytes: &'a mut [u8],
+    pub place: usize,
 }
 
-// Two numbers.
-pub fn put_pair(out: &mut [u8], place: usize, x: usize, y: usize) -> usize
-    requires { (place + 4 ≤ length out.old) × (x < 65536) × (y < 65536) }
-    ensures { Wrote out.old place (two x (two y [])) out.new result }
-{
-    let next = put_two(out, place, x);
-    put_two(out, next, y)
+impl Output<'_> {
+    pub fn put_byte(&mut self, x: u8)
+        requires { Room self.old 1 }
+        ensures { Put self.old (x ∷ []) self.new }
+    {
+        self.bytes[self.place] = x;
+        self.place += 1;
+    }
+
+    // A number in two bytes, highest byte first.
+    pub fn put_number(&mut self, x: u16)
+        requires { Room self.old 2 }
+        ensures { Put self.old (two x []) self.new }
+    {
+        let [high, low] = x.to_be_bytes();
+        self.put_byte(high);
+        self.put_byte(low);
+    }
+
+    // Numbers one after another.
+    pub fn put_numbers(&mut self, numbers: &[u16])
+        requires { Room self.old (length numbers.now * 2) }
+        ensures { Put self.old (twos numbers.now []) self.new }
+    {
+        for &x in numbers {
+            self.put_number(x);
+        }
+    }
 }

@@ -1,31 +1,24 @@
 -- What is refused is so before the first store; else FFFF goes to all places, and then each entry to its own.
-use mathlib.Core.Path.{refl}
 use native.Mathlib.Omega.{arith}
-use Rattle.carry.proofs.Placement.{refuses, room, may_place, gives}
+use Rattle.std.proofs.lemmas.Result.{err_from_is_err_and}
+use Rattle.model.specs.Refusal.{answer}
+use Rattle.model.specs.Calls.{left}
+use Rattle.carry.proofs.Placement.{room, may_place, gives, means}
 use Rattle.carry.proofs.carry_back.Goals as goal
 
+pub returns-in_err-admit-clause-call : goal.returns-in_err-admit-clause-call
+unfolding answer left
+returns-in_err-admit-clause-call c =
+    let p = err_from_is_err_and c.from_residual.result c.from_residual.ensures.1 in
+    rw (p.1, p.2, ← c.in_err-admit.ensures)
+
 pub fill-requires : goal.fill-requires
-fill-requires c =
-    let a = c.args in
-    let granted = room a.n a.olds.now a.table.now a.places.now (c.admit-admission.ensures _ refl)
-    c.in-Granted.is in
-    omega (arith, granted)
+fill-requires c = (room _ _ _ _ c.in_ok-admit.ensures, omega arith)
 
 pub place_all-requires : goal.place_all-requires
-place_all-requires c =
-    let a = c.args in
-    may_place a.n a.olds.now a.table.now a.places.now (c.admit-admission.ensures _ refl)
-    c.in-Granted.is
-    c.fill.ensures.same
+place_all-requires c = may_place _ _ _ _ c.in_ok-admit.ensures c.fill.ensures.same
 
-pub returns-in-Denied : goal.returns-in-Denied
-returns-in-Denied c =
-    let a = c.args in
-    let w = refuses a.n a.olds.now a.table.now a.places.now (c.admit-admission.ensures _ refl) _ c.in-Denied.is in record { call = w.0; carried = w.1 }
-
-pub returns-in-Granted : goal.returns-in-Granted
-returns-in-Granted c =
-    let a = c.args in
-    let w = gives a.n a.olds.now a.table.now a.places.now (c.admit-admission.ensures _ refl)
-    c.in-Granted.is
-    c.fill.ensures c.place_all.ensures in record { call = w.0; carried = w.1 }
+pub returns : goal.returns
+returns c =
+    let e = gives _ _ _ _ c.in_ok-admit.ensures c.fill.ensures c.place_all.ensures in
+    record { call = e; carried = λ _. means _ _ _ _ _ e }

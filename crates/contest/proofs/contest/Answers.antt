@@ -1,25 +1,37 @@
--- Admission decides as the definition does. Where it is granted the plan is laid out in tables of numbers, and the keeper's turn on them is
--- the plan's.
-use mathlib.Core.Path.{refl}
-use Rattle.contest.proofs.Admitted.{admitted_spans, admitted_laid, admitted_gives}
+-- The tests decide as the definition does. Where they pass, the plan is laid out in tables of numbers, and the keeper's turn on them is the
+-- plan's.
+use mathlib.Core.Path.{◌≡◌, sym, ap, ◌∙◌}
+use Rattle.model.specs.Refusal.{given}
+use Rattle.model.specs.Contest.{contest_call}
+use Rattle.model.proofs.ContestCalls.{contested}
+use Rattle.tables.specs.Meaning.{lent}
+use Rattle.tables.proofs.SoundPlans.{plan_ready}
+use Rattle.contest.proofs.Laying.{laid_turn}
+use Rattle.contest.proofs.Admitted.{admitted_inside, admitted_unknown, admitted_laid, admitted_told}
+use Rattle.contest.proofs.contest.Goals.{After-keeper_turn}
 use Rattle.contest.proofs.contest.Goals as goal
 
 pub initialize-requires : goal.initialize-requires
-initialize-requires c =
-    let admitted = c.admit-admission.ensures _ c.sound-sounds.ensures.computed refl in
-    let w = admitted_spans _ c.args.rows.now _ _ _ _ _ admitted c.in-Granted.is in record { spans = w.0; n_in_bounds = w.1 }
+initialize-requires c = let few = (plan_ready c.in_ok-checked.checked).few in (few, few, few, few)
 
-pub keeper_turn-answer-requires : goal.keeper_turn-answer-requires
-keeper_turn-answer-requires c =
-    let admitted = c.admit-admission.ensures _ c.sound-sounds.ensures.computed refl in
-    let a = c.args in
-    let w = admitted_laid _ a.rows.now a.firsts.now a.outcomes.now _ _ _ admitted c.in-Granted.is
-    (c.initialize.ensures a.firsts.now a.outcomes.now) in record { laid = w.0; s_lt_n = w.1.0; told = w.1.1.0; k_value = w.1.1.1 }
+pub invariant_of-laid : goal.invariant_of-laid
+invariant_of-laid c = record { laid = admitted_laid c.in_ok-checked.checked c.initialize.ensures }
 
-pub returns-in-Granted : goal.returns-in-Granted
-returns-in-Granted c =
-    let admitted = c.admit-admission.ensures _ c.sound-sounds.ensures.computed refl in
-    let a = c.args in
-    let w = admitted_gives _ a.rows.now a.firsts.now a.outcomes.now _ _ _ admitted c.in-Granted.is
-    (c.initialize.ensures a.firsts.now a.outcomes.now) _
-    c.keeper_turn-answer.ensures.result_value in record { call = w.0; contested = w.1 }
+pub keeper_turn-requires : goal.keeper_turn-requires
+keeper_turn-requires c =
+    let p = c.in_ok-checked.checked in record {
+      inside = admitted_inside p _ _ c.in_ok-admit.ensures;
+      told = admitted_told p c.initialize.ensures;
+      unknown = admitted_unknown p _ _ c.in_ok-admit.ensures;
+    }
+
+answers : (c : After-keeper_turn) → contest_call (lent c.args.plan.now) c.args.state c.args.moves ≡ given c.keeper_turn.result
+answers c =
+    let p = c.in_ok-checked.checked in
+    let turn = laid_turn p c.initialize.ensures c.args.moves c.args.state (admitted_inside p _ _ c.in_ok-admit.ensures).0 in
+    let told = c.in_ok-admit.ensures ∙ ap given (sym (c.keeper_turn.ensures.turn ∙ turn)) in
+    rw c.in_ok-checked.ensures at told
+
+pub returns : goal.returns
+returns c =
+    let e = answers (goal.at.returns c).After-keeper_turn in record { call = sym e; contested = λ answer f. contested _ _ _ answer (e ∙ f) }

@@ -1,17 +1,19 @@
 -- What was read is written again by the model's round trip; a file that is refused leaves the bytes as they were.
+use Rattle.std.proofs.lemmas.Result.{err_from_is_err_and}
 use Rattle.format.proofs.FileTrip.{file_refused, file_written}
 use Rattle.format.proofs.read_write.Goals as goal
 
-pub returns-in-Refused : goal.returns-in-Refused
-returns-in-Refused c =
+pub returns-in_err-size : goal.returns-in_err-size
+returns-in_err-size c =
     let a = c.args in
+    let p = err_from_is_err_and c.from_residual.result c.from_residual.ensures.1 in
     let w = file_refused a.file.now a.rows.now a.firsts.now a.outcomes.now a.bytes.now
-    (record { byte = λ i. (c.shared_slice_known-1.given i).fits }) _ c.read-r.new.rows _ _ c.read-r.ensures.call _
-    c.in-Refused.is c.not_read.result c.not_read.ensures in record { call = w.0; again = w.1 }
+    (record { byte = λ i. (c.type_inv.file i).fits }) _ c.read.new.rows _ _ c.read.ensures.call _ c.in_err-size.was in
+    rw (p.1, p.2) (record { call = w.0; again = w.1 })
 
-pub returns-in-Given : goal.returns-in-Given
-returns-in-Given c =
+pub returns : goal.returns
+returns c =
     let a = c.args in
     let w = file_written a.file.now a.rows.now a.firsts.now a.outcomes.now a.bytes.now
-    (record { byte = λ i. (c.shared_slice_known-1.given i).fits }) _ c.read-r.new.rows _ _ c.read-r.ensures.call _
-    c.in-Given.is c.write.result _ c.write.ensures.call in record { call = w.0; again = w.1 }
+    (record { byte = λ i. (c.type_inv.file i).fits }) _ c.read.new.rows _ _ c.read.ensures.call _
+    c.in_ok-size.was c.write.result _ c.write.ensures.call in record { call = w.0; again = w.1 }

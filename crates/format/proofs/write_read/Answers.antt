@@ -2,32 +2,33 @@
 use lib.Seq.{length-take-le}
 use mathlib.Core.Path.{sym}
 use native.Mathlib.Omega.{arith}
-use Rattle.tables.specs.Meaning.{held}
+use Rattle.std.proofs.lemmas.Result.{err_from_is_err_and}
+use Rattle.tables.specs.Meaning.{lent}
 use Rattle.format.proofs.TablesTrip.{written_fits, tables_refused, tables_read}
 use Rattle.format.proofs.write_read.Goals as goal
 
 pub slice_bounds-read-end : goal.slice_bounds-read-end
 slice_bounds-read-end c =
-    let a = c.args in
-    let fits = written_fits (held a.size a.rows.now a.firsts.now a.outcomes.now) a.bytes.now _ _ c.write-w.ensures.call
-    c.in-Given.is in
-    omega (arith, fits, c.write-w.auto.bytes)
+    let fits = written_fits (lent c.args.plan.now) c.args.bytes.now _ _ c.write.ensures.call c.in_ok-length.was in
+    omega (arith, fits, c.write.auto.bytes)
 
-pub slice_bounds-read-end-in-Given : goal.slice_bounds-read-end-in-Given
-slice_bounds-read-end-in-Given c =
-    let a = c.args in
-    let fits = written_fits (held a.size a.rows.now a.firsts.now a.outcomes.now) a.bytes.now _ _ c.write-w.ensures.call
-    c.in-Given.is in
-    sym (length-take-le _ _ (omega (arith, fits, c.write-w.auto.bytes)))
+pub slice_bounds-read-end-2 : goal.slice_bounds-read-end-2
+slice_bounds-read-end-2 c =
+    let fits = written_fits (lent c.args.plan.now) c.args.bytes.now _ _ c.write.ensures.call c.in_ok-length.was in
+    sym (length-take-le _ _ (omega (arith, fits, c.write.auto.bytes)))
 
-pub returns-in-Refused : goal.returns-in-Refused
-returns-in-Refused c =
+pub returns-in_err-length : goal.returns-in_err-length
+returns-in_err-length c =
     let a = c.args in
-    let w = tables_refused a.size a.rows.now a.firsts.now a.outcomes.now a.bytes.now a.rows2.now a.firsts2.now
-    a.outcomes2.now _ _ c.write-w.ensures.call _ c.in-Refused.is c.not_written.result c.not_written.ensures in record { call = w.0; again = w.1 }
+    let z = a.plan.now in
+    let p = err_from_is_err_and c.from_residual.result c.from_residual.ensures.1 in
+    let w = tables_refused z.size z.rows.now z.firsts.now z.outcomes.now a.bytes.now a.rows2.now a.firsts2.now
+    a.outcomes2.now _ _ c.write.ensures.call _ c.in_err-length.was in
+    rw (p.1, p.2) (record { call = w.0; again = w.1 })
 
-pub returns-in-Given : goal.returns-in-Given
-returns-in-Given c =
+pub returns : goal.returns
+returns c =
     let a = c.args in
-    let w = tables_read a.size a.rows.now a.firsts.now a.outcomes.now a.bytes.now a.rows2.now a.firsts2.now
-    a.outcomes2.now _ _ c.write-w.ensures.call _ c.in-Given.is c.read.result c.read.new.rows _ _ c.read.ensures.call in record { call = w.0; again = w.1 }
+    let z = a.plan.now in
+    let w = tables_read z.size z.rows.now z.firsts.now z.outcomes.now a.bytes.now a.rows2.now a.firsts2.now
+    a.outcomes2.now _ _ c.write.ensures.call _ c.in_ok-length.was c.read.result c.read.new.rows _ _ c.read.ensures.call in record { call = w.0; again = w.1 }

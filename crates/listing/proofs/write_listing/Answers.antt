@@ -6,6 +6,6 @@ pub returns-then-input-gt-LIMIT : goal.returns-then-input-gt-LIMIT
 returns-then-input-gt-LIMIT c =
     rw (over_limit c.args.input.now c.if-input-gt-LIMIT.true) c.put_refusal.ensures.wrote
 
-pub returns : goal.returns
-returns c =
+pub returns-else-input-gt-LIMIT : goal.returns-else-input-gt-LIMIT
+returns-else-input-gt-LIMIT c =
     rw (in_limit c.args.input.now c.if-input-gt-LIMIT.false) c.list_file.ensures

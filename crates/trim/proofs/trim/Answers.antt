@@ -1,55 +1,45 @@
 -- Each test is the definition's, and decides as it does; where both are passed, what is written is what the definition gives.
-use mathlib.Core.Path.{◌≡◌}
-use mathlib.Core.Bool.{true}
-use mathlib.Core.List.{List}
-use Prim.Native.Nat.{ℕ, ◌≤◌}
+use mathlib.Core.Path.{◌≡◌, ap, ◌∙◌}
 use native.Mathlib.Omega.{arith}
-use borrow.Author.Tests.{not-true, not-false}
-use Rattle.laws.proofs.Loops.{stopped, passed}
-use Rattle.model.specs.File.{max_states}
-use Rattle.model.specs.SoundTest.{sound}
-use Rattle.model.specs.Held.{tree_of}
-use Rattle.model.proofs.GoodTables.{sound_good}
-use Rattle.model.proofs.TrimGood.{trim_good}
-use Rattle.tables.specs.Meaning.{held}
-use Rattle.trim.specs.Kept.{Kept}
+use Rattle.std.proofs.Common.{Ok}
+use Rattle.std.proofs.lemmas.Result.{err_from_is_err_and}
+use Rattle.tables.specs.declared.sound_plan.SoundPlan.{SoundPlan}
+use Rattle.tables.specs.Meaning.{lent}
 use Rattle.trim.proofs.KeptStates.{kept_count}
-use Rattle.trim.proofs.Replying.{refuses_unsound, refuses_cramped, room, gives}
-use Rattle.std.proofs.lemmas.Bool.{not_from_false}
-use Rattle.std.proofs.lemmas.Bool.{not_from_true}
-use Rattle.trim.proofs.trim.Goals.{Else-not-sound}
+use Rattle.trim.proofs.Replying.{refuses_unsound, refuses_cramped, room, gives, means}
+use Rattle.trim.proofs.trim.Goals.{After-keep-kept}
 use Rattle.trim.proofs.trim.Goals as goal
 
-sounds : (c : Else-not-sound) → sound (held c.args.size c.args.rows.now c.args.firsts.now c.args.outcomes.now) ≡ true
-sounds c = passed c.sound.ensures.computed (not_from_true _ c.if-not-sound.false)
+-- the plan that the kept states are of is the one lent
+same : (c : After-keep-kept) → c.keep-kept.result.checked.now.plan ≡ c.args.plan.now
+same c = ap (λ (p : SoundPlan). p.plan) c.keep-kept.ensures ∙ c.in_ok-checked.ensures
 
-few : (c : Else-not-sound) {kept : List ℕ} {n : ℕ} → Kept (tree_of (held c.args.size c.args.rows.now c.args.firsts.now c.args.outcomes.now)) kept n → n ≤ max_states
-few c k = omega (arith, kept_count k, (trim_good _ (sound_good _ (sounds c))).few)
+pub returns-in_err-checked-clause-call : goal.returns-in_err-checked-clause-call
+returns-in_err-checked-clause-call c =
+    let p = err_from_is_err_and c.from_residual.result c.from_residual.ensures.1 in
+    rw (p.1, p.2, c.in_err-checked.ensures.0) (refuses_unsound (lent c.args.plan.now) _ _ _ _ _ c.in_err-checked.ensures.1)
 
-pub returns-then-not-sound : goal.returns-then-not-sound
-returns-then-not-sound c =
+pub returns-then-not-room-clause-call : goal.returns-then-not-room-clause-call
+returns-then-not-room-clause-call c =
+    let p = c.keep-kept.result.checked.now in
+    rw (← same (goal.at.returns-then-not-room-clause-call c).After-keep-kept)
+    (refuses_cramped (lent p.plan) _ _ _ _ _ p.sounds c.count-size.ensures c.has_room-room.ensures c.if-not-room.true)
+
+pub fill_trimmed-requires-clause-n_in_bounds : goal.fill_trimmed-requires-clause-n_in_bounds
+fill_trimmed-requires-clause-n_in_bounds c =
     let a = c.args in
-    let w = refuses_unsound (held c.args.size c.args.rows.now c.args.firsts.now c.args.outcomes.now) a.rows2.now a.firsts2.now a.outcomes2.now a.olds.now a.scratch.now
-    (stopped {a = sound (held c.args.size c.args.rows.now c.args.firsts.now c.args.outcomes.now)} c.sound.ensures.computed (not_from_false _ c.if-not-sound.true)) in record { call = w.0; trimmed = w.1 }
-
-pub returns-then-not-room : goal.returns-then-not-room
-returns-then-not-room c =
-    let a = c.args in
-    let w = refuses_cramped (held c.args.size c.args.rows.now c.args.firsts.now c.args.outcomes.now) a.rows2.now a.firsts2.now a.outcomes2.now a.olds.now a.scratch.now
-    (sounds (goal.at.returns-then-not-room c).Else-not-sound)
-    c.count-size2.ensures c.has_room-room.ensures (not-true _ (not_from_false _ c.if-not-room.true)) in record { call = w.0; trimmed = w.1 }
-
-pub fill_trimmed-requires : goal.fill_trimmed-requires
-fill_trimmed-requires c =
-    let a = c.args in
-    let long = room (held c.args.size c.args.rows.now c.args.firsts.now c.args.outcomes.now) a.rows2.now a.firsts2.now a.outcomes2.now a.olds.now a.scratch.now
-    (sounds (goal.at.fill_trimmed-requires c).Else-not-sound)
-    c.count-size2.ensures c.has_room-room.ensures (not-false _ (not_from_true _ c.if-not-room.false)) in record { outcomes_value = sounds (goal.at.fill_trimmed-requires c).Else-not-sound; kept = (c.keep-n.ensures, omega (arith, few (goal.at.fill_trimmed-requires c).Else-not-sound c.keep-n.ensures, c.keep-n.auto)); outcomes2_value = long.plan; n_in_bounds = (omega (arith, kept_count c.keep-n.ensures, long.map), long.space) }
+    let p = c.keep-kept.result.checked.now in
+    let long = room (lent p.plan) a.rows2.now a.firsts2.now a.outcomes2.now a.olds.now a.scratch.now p.sounds c.count-size.ensures
+    c.has_room-room.ensures c.if-not-room.false in
+    (omega (arith, kept_count c.keep-kept.result, long.map), long.space)
 
 pub returns : goal.returns
 returns c =
     let a = c.args in
-    let w = gives (held c.args.size c.args.rows.now c.args.firsts.now c.args.outcomes.now) a.rows2.now a.firsts2.now a.outcomes2.now a.olds.now a.scratch.now (sounds (goal.at.returns c).Else-not-sound)
-    c.count-size2.ensures c.has_room-room.ensures (not-false _ (not_from_true _ c.if-not-room.false))
-    c.fill_trimmed.new.rows2 c.fill_trimmed.ensures.rows c.fill_trimmed.ensures.firsts
-    c.fill_trimmed.ensures.outcomes c.fill_trimmed.ensures.olds c.fill_trimmed.ensures.scratch in record { call = w.0; trimmed = w.1 }
+    let p = c.keep-kept.result.checked.now in
+    let w = c.fill_trimmed in
+    let e = rw (same (goal.at.returns c).After-keep-kept)
+    at (gives (lent p.plan) a.rows2.now a.firsts2.now a.outcomes2.now a.olds.now a.scratch.now p.sounds c.count-size.ensures
+    c.has_room-room.ensures c.if-not-room.false w.new.rows2 w.ensures.rows w.ensures.firsts w.ensures.outcomes w.ensures.olds
+    w.ensures.scratch) in
+    record { call = e; trimmed = means (lent a.plan.now) _ _ _ _ _ (Ok c.count-size.result) w.new.rows2 _ _ _ _ e }

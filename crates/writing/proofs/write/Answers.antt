@@ -1,53 +1,45 @@
--- Head, states and end are stored one behind the other, and that is the file of the plan; a refusal stores nothing.
-use Rattle.writing.proofs.FileFacts.{head_ready, states_ready, end_ready, file_stored, size_ready, refuses, file_ready, written}
-use Rattle.tables.specs.Meaning.{held}
-use mathlib.Core.Path.{refl, sym, ◌∙◌}
+-- Head, states and end are put one behind the other, and that is the file of the plan; a refusal puts nothing.
+use native.Mathlib.Omega.{arith}
+use mathlib.Core.Path.{refl}
+use Rattle.std.proofs.lemmas.Grind.{common_steps}
+use Rattle.std.proofs.lemmas.Result.{err_from_is_err_and}
+use Rattle.tables.specs.Meaning.{lent}
+use Rattle.writing.proofs.FileFacts.{unsound, cramped, parts_fit, file_put, written}
 use Rattle.writing.proofs.write.Goals as goal
 
-pub admit-admission-requires : goal.admit-admission-requires
-admit-admission-requires c =
-    λ e.
-    let a = c.args in
-    size_ready (held a.size a.rows.now a.firsts.now a.outcomes.now) (sym c.sound-sounds.ensures.computed ∙ e)
+pub returns-in_err-checked : goal.returns-in_err-checked
+returns-in_err-checked c = record {
+  call = let p = err_from_is_err_and c.from_residual.result c.from_residual.ensures.1 in
+      let e = c.in_err-checked.ensures in
+      rw (p.1, p.2, e.0) (unsound (lent c.args.plan.now) c.args.bytes.now e.1);
+}
 
-pub write_head-states-requires : goal.write_head-states-requires
-write_head-states-requires c =
-    let a = c.args in
-    let T = held a.size a.rows.now a.firsts.now a.outcomes.now in
-    let r = file_ready T a.bytes.now _ (c.admit-admission.ensures _ c.sound-sounds.ensures.computed refl)
-    c.in-Granted.is in
-    head_ready T _ r.0 r.1
+pub returns-then-bytes-file_length : goal.returns-then-bytes-file_length
+returns-then-bytes-file_length c = record {
+  call = let p = c.in_ok-checked.checked in
+      rw (← c.in_ok-checked.ensures)
+      (cramped (lent p.plan) p.sounds c.args.bytes.now (rw c.file_length.ensures at c.if-bytes-file_length.true));
+}
 
-pub write_states-end-requires : goal.write_states-end-requires
-write_states-end-requires c =
-    let a = c.args in
-    let T = held a.size a.rows.now a.firsts.now a.outcomes.now in
-    let r = file_ready T a.bytes.now _ (c.admit-admission.ensures _ c.sound-sounds.ensures.computed refl)
-    c.in-Granted.is in
-    (r.0, states_ready T r.1 c.write_head-states.ensures)
+pub write_head-requires : goal.write_head-requires
+write_head-requires c =
+    let p = c.in_ok-checked.checked in
+    omega (arith, parts_fit (lent p.plan) p.sounds c.args.bytes.now (rw c.file_length.ensures at c.if-bytes-file_length.false))
+
+pub write_states-requires : goal.write_states-requires
+write_states-requires c =
+    let p = c.in_ok-checked.checked in
+    omega (arith, parts_fit (lent p.plan) p.sounds c.args.bytes.now (rw c.file_length.ensures at c.if-bytes-file_length.false))
 
 pub write_end-requires : goal.write_end-requires
 write_end-requires c =
-    let a = c.args in
-    let T = held a.size a.rows.now a.firsts.now a.outcomes.now in
-    let r = file_ready T a.bytes.now _ (c.admit-admission.ensures _ c.sound-sounds.ensures.computed refl)
-    c.in-Granted.is in
-    end_ready T r.1 c.write_head-states.ensures c.write_states-end.ensures
+    let p = c.in_ok-checked.checked in
+    omega (arith, parts_fit (lent p.plan) p.sounds c.args.bytes.now (rw c.file_length.ensures at c.if-bytes-file_length.false))
 
-pub returns-in-Denied : goal.returns-in-Denied
-returns-in-Denied c = record {
-  call = let a = c.args in
-      refuses (held a.size a.rows.now a.firsts.now a.outcomes.now) _ _
-      (c.admit-admission.ensures _ c.sound-sounds.ensures.computed refl) _ c.in-Denied.is;
-}
-
-pub returns-in-Granted : goal.returns-in-Granted
-returns-in-Granted c = record {
-  call = let a = c.args in
-      let T = held a.size a.rows.now a.firsts.now a.outcomes.now in
-      let r = file_ready T a.bytes.now _ (c.admit-admission.ensures _ c.sound-sounds.ensures.computed refl)
-      c.in-Granted.is in
-      written T a.bytes.now _ (c.admit-admission.ensures _ c.sound-sounds.ensures.computed refl) c.in-Granted.is
-      (file_stored T r.1 c.write_head-states.ensures c.write_states-end.ensures
-      c.write_end.ensures);
+pub returns : goal.returns
+returns c = record {
+  call = let p = c.in_ok-checked.checked in
+      rw (← c.in_ok-checked.ensures)
+      (written (lent p.plan) p.sounds c.args.bytes.now (rw c.file_length.ensures at c.if-bytes-file_length.false) refl refl
+      (file_put (lent p.plan) c.write_head.ensures c.write_states.ensures c.write_end.ensures) (grind (arith, common_steps)));
 }

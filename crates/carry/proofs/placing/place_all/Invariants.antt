@@ -1,11 +1,7 @@
 -- Each turn writes one entry; old numbers differ, so none is written over.
-use Prim.Native.Nat.{◌-◌, ◌≤◌}
-use lib.ListN.{length, get_or}
+use lib.ListN.{get_or}
 use Rattle.laws.specs.Placed.{Placed}
 use Rattle.carry.proofs.placing.place_all.Given as goal
 
 abbrev pub invariant-loop-i : goal.invariant-loop-i
-invariant-loop-i l = Placed l.i l.olds (λ j. get_or l.table j 0) l.initial.places l.places × (l.i ≤ length l.olds)
-
-abbrev pub decreases-loop-i : goal.decreases-loop-i
-decreases-loop-i l = length l.olds - l.i
+invariant-loop-i l = Placed l.i l.olds (λ j. get_or l.table j 0) l.initial.places l.places

@@ -1,60 +1,59 @@
 -- Every command tried from the first place on has an outcome in the set when the loop comes to a place, so the first that has none is it.
-use mathlib.Core.Path.{◌∙◌}
+use mathlib.Core.Path.{sym, ◌∙◌}
 use native.Mathlib.Omega.{arith}
 use Rattle.laws.proofs.Tries.{first_next, first_stop}
-use Rattle.tables.specs.Spans.{commands_of}
-use Rattle.choice.proofs.Orders.{tried_inside, hit_is}
-use Rattle.choice.proofs.Outcomes.{told_clear, told_hit}
+use Rattle.model.specs.Tables.{lists_in}
+use Rattle.tables.specs.Meaning.{lent}
+use Rattle.tables.proofs.SoundPlans.{plan_ready}
+use Rattle.choice.specs.Order.{alone}
+use Rattle.choice.proofs.Orders.{tried_some, tried_inside, hit_is}
+use Rattle.choice.proofs.Outcomes.{hits_told}
 use Rattle.choice.proofs.choosing.choose_from.Goals as goal
 
-pub overflow_add-c : goal.overflow_add-c
-overflow_add-c c =
-    let a = c.args in
-    let L = commands_of a.size a.firsts.now a.outcomes.now in
+pub tries-end-requires : goal.tries-end-requires
+tries-end-requires c = omega (arith, c.requires.first_le_end, (plan_ready c.args.checked.now).few_commands)
+
+pub tried_at-requires : goal.tried_at-requires
+tried_at-requires c = omega (arith, c.requires.first_le_end, (plan_ready c.args.checked.now).few_commands)
+
+pub unwrap-c-requires : goal.unwrap-c-requires
+unwrap-c-requires c =
+    let L = lists_in (lent c.args.checked.now.plan) in
+    tried_some (alone L c.args.span) 0 _ (omega (arith, c.loop-place-test.true, c.tries-end.ensures L)) (c.tried_at.ensures L)
+
+pub overflow_add-span : goal.overflow_add-span
+overflow_add-span c =
+    let L = lists_in (lent c.args.checked.now.plan) in
     omega (
       arith,
-      c.requires.ready.few_commands,
       c.requires.first_le_end,
-      tried_inside L a.span _ _ (c.tried_at.ensures L) c.requires.first_le_end.0 (c.tries-end.ensures L)
+      (plan_ready c.args.checked.now).few_commands,
+      tried_inside L c.args.span _ _ (sym c.unwrap-c.ensures ∙ c.tried_at.ensures L) c.requires.first_le_end.0 (c.tries-end.ensures L)
           c.loop-place-test.true,
     )
 
 pub command_hit-requires : goal.command_hit-requires
 command_hit-requires c =
-    let a = c.args in
-    let L = commands_of a.size a.firsts.now a.outcomes.now in record {
-      ready = c.requires.ready;
-      c_lt_m = (
-        omega (
-          arith,
-          c.requires.first_le_end,
-          tried_inside L a.span _ _ (c.tried_at.ensures L) c.requires.first_le_end.0 (c.tries-end.ensures L)
-              c.loop-place-test.true,
-        ),
-        c.requires.first_le_end.2,
-      );
-    }
+    let L = lists_in (lent c.args.checked.now.plan) in (
+      omega (
+        arith,
+        c.requires.first_le_end,
+        tried_inside L c.args.span _ _ (sym c.unwrap-c.ensures ∙ c.tried_at.ensures L) c.requires.first_le_end.0
+            (c.tries-end.ensures L) c.loop-place-test.true,
+      ),
+      c.requires.first_le_end.2,
+    )
 
-pub returns-then-command_hit-eq-NONE : goal.returns-then-command_hit-eq-NONE
-returns-then-command_hit-eq-NONE c =
-    let a = c.args in
-    let L = commands_of a.size a.firsts.now a.outcomes.now in
-    let tried = c.tried_at.ensures L in
-    let below = c.loop-place-test.true in
-    let own = tried_inside L a.span _ _ tried c.requires.first_le_end.0 (c.tries-end.ensures L) below in
-    first_stop c.loop-place.invariant.1 _ (omega (arith, below, c.tries-end.ensures L))
-    (hit_is L a.span _ _ tried _
-    ∙ told_clear c.requires.ready _ _ (omega (arith, c.requires.first_le_end, own)) _ c.command_hit.ensures c.if-command_hit-eq-NONE.true)
+pub returns-then-is_none : goal.returns-then-is_none
+returns-then-is_none c =
+    let L = lists_in (lent c.args.checked.now.plan) in
+    first_stop c.loop-place.invariant _ (omega (arith, c.loop-place-test.true, c.tries-end.ensures L))
+    (hit_is L c.args.span _ _ (sym c.unwrap-c.ensures ∙ c.tried_at.ensures L) _ ∙ hits_told _ _ _ _ c.command_hit.ensures
+    ∙ c.if-is_none.ensures)
 
 pub loop-place-preserved : goal.loop-place-preserved
 loop-place-preserved c =
-    let a = c.args in
-    let L = commands_of a.size a.firsts.now a.outcomes.now in
-    let tried = c.tried_at.ensures L in
-    let below = c.loop-place-test.true in
-    let own = tried_inside L a.span _ _ tried c.requires.first_le_end.0 (c.tries-end.ensures L) below in (
-      omega (arith, below),
-      first_next c.loop-place.invariant.1
-          (hit_is L a.span _ _ tried _
-          ∙ told_hit c.requires.ready _ _ (omega (arith, c.requires.first_le_end, own)) _ c.command_hit.ensures c.if-command_hit-eq-NONE.false),
-    )
+    let L = lists_in (lent c.args.checked.now.plan) in
+    first_next c.loop-place.invariant
+    (hit_is L c.args.span _ _ (sym c.unwrap-c.ensures ∙ c.tried_at.ensures L) _ ∙ hits_told _ _ _ _ c.command_hit.ensures
+    ∙ c.if-is_none.ensures)

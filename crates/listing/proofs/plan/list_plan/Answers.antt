@@ -1,33 +1,26 @@
--- The lines are written one behind another, and together they are the text of the plan.
+-- The lines are put one behind another, and together they are the text of the plan.
 use native.Mathlib.Omega.{arith}
-use Rattle.tables.specs.Meaning.{held}
+use Rattle.tables.specs.Meaning.{lent}
 use Rattle.listing.proofs.PlanLines.{numbers_small, verdicts_room, start_room, plan_wrote}
 use Rattle.listing.proofs.plan.list_plan.Goals as goal
 
-pub put_plan_line-states-requires : goal.put_plan_line-states-requires
-put_plan_line-states-requires c =
-    let a = c.args in
-    let small = numbers_small (held a.size a.rows.now a.firsts.now a.outcomes.now) c.requires.0 in
-    (omega (arith, c.requires.1), small.0, small.1, small.2)
+pub put_plan_line-requires : goal.put_plan_line-requires
+put_plan_line-requires c =
+    let p = c.args.checked.now in
+    let small = numbers_small (lent p.plan) p.sounds in
+    (omega (arith, c.requires), small.0, small.1, small.2)
 
-pub list_verdicts-start-requires : goal.list_verdicts-start-requires
-list_verdicts-start-requires c =
-    let a = c.args in
-    let T = held a.size a.rows.now a.firsts.now a.outcomes.now in
-    (c.requires.0, verdicts_room T c.requires.0 c.requires.1 c.put_plan_line-states.ensures.wrote)
+pub list_verdicts-requires : goal.list_verdicts-requires
+list_verdicts-requires c =
+    let p = c.args.checked.now in
+    verdicts_room (lent p.plan) p.sounds c.requires c.put_plan_line.ensures.wrote
 
 pub list_start-requires : goal.list_start-requires
 list_start-requires c =
-    let a = c.args in
-    let T = held a.size a.rows.now a.firsts.now a.outcomes.now in (
-      c.requires.0,
-      start_room T c.requires.0 c.requires.1 c.put_plan_line-states.ensures.wrote
-          c.list_verdicts-start.ensures,
-    )
+    let p = c.args.checked.now in
+    start_room (lent p.plan) p.sounds c.requires c.put_plan_line.ensures.wrote c.list_verdicts.ensures
 
 pub returns : goal.returns
 returns c =
-    let a = c.args in
-    let T = held a.size a.rows.now a.firsts.now a.outcomes.now in
-    plan_wrote T c.requires.0 c.requires.1 c.put_plan_line-states.ensures.wrote
-    c.list_verdicts-start.ensures c.list_start.ensures
+    let p = c.args.checked.now in
+    plan_wrote (lent p.plan) p.sounds c.requires c.put_plan_line.ensures.wrote c.list_verdicts.ensures c.list_start.ensures

@@ -1,21 +1,25 @@
 -- What is read off a sound plan's rows is what both propagations ask; they find the plan's ranks, and where its practice fails.
-use Rattle.nets.proofs.Settings.{sound_spans, both_ready}
+use Rattle.tables.proofs.SoundPlans.{plan_ready}
+use Rattle.nets.proofs.Settings.{initialized_parts, initialized_all, initialized_practice, initialized_seeds}
 use Rattle.nets.proofs.Finds.{found}
 use Rattle.nets.proofs.propagations.propagate_plan.Goals as goal
 
 pub initialize-requires : goal.initialize-requires
-initialize-requires c =
-    let v = sound_spans _ _ _ _ c.requires.outcomes_value in record { spans = v; n_in_bounds = (c.requires.n_in_bounds.0, v.few, c.requires.n_in_bounds.1.0, c.requires.n_in_bounds.1.1.0) }
+initialize-requires c = (c.requires.0, (plan_ready c.args.checked.now).few, c.requires.1, c.requires.2)
 
 pub propagate_both-requires : goal.propagate_both-requires
 propagate_both-requires c =
-    let a = c.args in
-    let f = (sound_spans _ a.rows.now a.firsts.now a.outcomes.now c.requires.outcomes_value).few in
-    let w = both_ready _ a.rows.now a.firsts.now a.outcomes.now c.requires.outcomes_value (c.initialize.ensures _ _) c.requires.n_in_bounds.0 f c.requires.n_in_bounds.1.0
-    c.requires.n_in_bounds.1.1.0 _ c.requires.n_in_bounds.1.1.1 in record { ready = w.0; parts = w.1.0; own_ranges = w.1.1.0; own_ranges_2 = w.1.1.1.0; n_in_bounds = w.1.1.1.1 }
+    let p = c.args.checked.now in
+    let few = (plan_ready p).few in
+    let seeds = initialized_seeds p c.initialize.ensures c.requires.0 in record {
+      parts = initialized_parts p c.initialize.ensures;
+      own_ranges = initialized_all p c.initialize.ensures few c.requires.1;
+      own_ranges_2 = initialized_practice p c.initialize.ensures c.requires.2 c.requires.1;
+      n_in_bounds = (seeds.0, c.requires.3, seeds.1);
+    }
 
 pub returns : goal.returns
 returns c =
-    let a = c.args in
-    found _ a.rows.now a.firsts.now a.outcomes.now c.requires.outcomes_value c.requires.n_in_bounds.0 c.requires.n_in_bounds.1.1.0
-    (c.initialize.ensures _ _) c.propagate_both.ensures.ranked c.propagate_both.ensures.failed c.propagate_both.ensures.queued
+    let p = c.args.checked.now in
+    found p c.requires.0 c.requires.2
+    c.initialize.ensures c.propagate_both.ensures.ranked c.propagate_both.ensures.failed c.propagate_both.ensures.queued

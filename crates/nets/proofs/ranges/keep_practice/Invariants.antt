@@ -1,10 +1,6 @@
 -- When the loop comes to state s, the practice alone is kept at the states before it.
 use Rattle.nets.specs.Nets.{PracticeKept}
-use Prim.Native.Nat.{◌-◌, ◌≤◌}
 use Rattle.nets.proofs.ranges.keep_practice.Given as goal
 
 abbrev pub invariant-loop-s : goal.invariant-loop-s
-invariant-loop-s l = (l.s ≤ l.n) × PracticeKept l.s l.ranks l.initial.froms l.initial.tos l.initial.fails l.froms l.tos l.fails
-
-abbrev pub decreases-loop-s : goal.decreases-loop-s
-decreases-loop-s l = l.n - l.s
+invariant-loop-s l = PracticeKept l.s l.ranks l.initial.froms l.initial.tos l.initial.fails l.froms l.tos l.fails

@@ -1,6 +1,7 @@
 -- Each of the three tables gets one entry, which fits it.
-use Rattle.nets.proofs.Keeping.{end_inside, again_small}
 use native.Mathlib.Omega.{arith}
+use Rattle.nets.proofs.Initializing.{entry_fits}
+use Rattle.nets.proofs.Keeping.{end_inside, again_small}
 use Rattle.nets.proofs.ranges.keep_practice_at.Goals as goal
 
 pub put-requires-2 : goal.put-requires-2
@@ -10,6 +11,5 @@ put-requires-2 c = (
       (omega (arith, end_inside _ _ c.requires.s_bound.0, c.requires.s_bound)),
 )
 
-pub put-requires-3 : goal.put-requires-3
-put-requires-3 c =
-    (c.requires.s_in_bounds.3, rw c.seed_again.ensures (again_small _))
+pub put_option-requires-clause-fits : goal.put_option-requires-clause-fits
+put_option-requires-clause-fits c = entry_fits _ (rw c.seed_again.ensures (again_small _))

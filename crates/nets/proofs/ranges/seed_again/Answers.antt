@@ -1,9 +1,6 @@
--- The two branches are the two cases of the definition.
-use Rattle.nets.proofs.Keeping.{again_seed, again_none}
+-- The test is the definition's.
+use Rattle.nets.proofs.Keeping.{again_is}
 use Rattle.nets.proofs.ranges.seed_again.Goals as goal
 
-pub returns-then-rank-ne0 : goal.returns-then-rank-ne0
-returns-then-rank-ne0 c = again_none _ c.if-rank-ne0.true
-
 pub returns : goal.returns
-returns c = again_seed _ c.if-rank-ne0.false
+returns c = rw c.then_some.ensures (again_is c.args.rank)

@@ -17,5 +17,5 @@ overflow_add-result c =
 
 pub returns : goal.returns
 returns c =
-    seeds_add _ _ _ _ c.requires.seeds_queued _ c.at.ensures c.if-at-ne0.false c.requires.s_in_bounds.1.0 _
+    seeds_add _ _ _ _ c.requires.seeds_queued _ c.at.ensures c.if-at-ne0.false c.requires.s_in_bounds.1 _
     c.put.ensures

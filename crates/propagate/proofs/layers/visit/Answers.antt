@@ -1,56 +1,45 @@
 -- A look at a command that its state does not watch changes nothing; else the state watches the next clear command, or is lost.
-use Rattle.propagate.proofs.Counting.{queue_room}
-use Rattle.propagate.proofs.Visits.{range_in, look_ranked, look_other, look_past, look_moved, look_lost}
 use native.Mathlib.Omega.{arith}
-use Prim.Native.Nat.{◌<◌, ◌≤◌}
-use Rattle.propagate.proofs.layers.visit.Goals.{After-at-e, Else-at-ne-NONE}
+use Prim.Native.Nat.{◌<◌}
+use Rattle.laws.proofs.Tests.{clash}
+use Rattle.propagate.specs.Plans.{states_of}
+use Rattle.propagate.proofs.Counting.{queue_room}
+use Rattle.propagate.proofs.Plans.{ranged_ready}
+use Rattle.propagate.proofs.Visits.{look_idle, look_moved, look_lost}
+use Rattle.propagate.proofs.layers.visit.Goals.{Else-not-watches}
 use Rattle.propagate.proofs.layers.visit.Goals as goal
 
-range_end : (c : After-at-e) → c.at-e.result ≤ c.args.size.m
-range_end c =
-    range_in _ c.requires.ranges c.at-s.result _ (omega (arith, c.at-s.ensures, c.requires.c_in_bounds.1.0)) c.at-e.ensures
+pub returns-then-not-watches : goal.returns-then-not-watches
+returns-then-not-watches c =
+    look_idle _ (ranged_ready c.args.ranged.now) _ _ c.args.ranged.now.ranges _ c.requires.c_in_bounds.1 _ _ _ _ c.requires.queue_bound _ _
+    c.owner_of-s.ensures.read (omega arith) (λ e z l. clash (c.watches.ensures.1 (e, z, l)) c.if-not-watches.true)
 
-place_left : (c : Else-at-ne-NONE) → let a = c.args in a.end < a.size.n
+place_left : (c : Else-not-watches) → c.args.end < states_of c.args.ranged.now
 place_left c =
-    queue_room _ _ _ _ _ c.requires.queue_bound c.at-s.result _ (omega (arith, c.at-s.ensures, c.requires.c_in_bounds.1.0))
-    c.at.ensures c.if-at-ne-NONE.false
+    queue_room _ _ _ _ _ c.requires.queue_bound c.owner_of-s.result c.owner_of-s.ensures.inside (c.watches.ensures.0 c.if-not-watches.false).0
 
-pub returns-then-at-ne-NONE : goal.returns-then-at-ne-NONE
-returns-then-at-ne-NONE c =
-    look_ranked _ c.requires.ready _ _ c.requires.ranges _ c.requires.c_in_bounds.1.1.1.1.1 _ _ _ _ c.requires.queue_bound _ _ c.at-s.ensures c.requires.c_in_bounds.1.0 _ c.at.ensures
-    c.if-at-ne-NONE.true
+pub put-requires : goal.put-requires
+put-requires c =
+    let R = ranged_ready c.args.ranged.now in
+    omega (arith, c.first_clear-next.ensures.until, c.requires.room.for_watch, R.few_commands)
 
-pub returns-then-at-c : goal.returns-then-at-c
-returns-then-at-c c =
-    look_other _ c.requires.ready _ _ c.requires.ranges _ c.requires.c_in_bounds.1.1.1.1.1 _ _ _ _ c.requires.queue_bound _ _ c.at-s.ensures c.requires.c_in_bounds.1.0 _ c.at.ensures
-    c.if-at-ne-NONE.false _ c.at-2.ensures
-    c.if-at-c.true
-
-pub returns-then-e-c : goal.returns-then-e-c
-returns-then-e-c c =
-    look_past _ c.requires.ready _ _ c.requires.ranges _ c.requires.c_in_bounds.1.1.1.1.1 _ _ _ _ c.requires.queue_bound _ _ c.at-s.ensures c.requires.c_in_bounds.1.0 _ c.at.ensures
-    c.if-at-ne-NONE.false _ c.at-2.ensures
-    c.if-at-c.false _ c.at-e.ensures c.if-e-c.true
-
-pub returns-then-x-e : goal.returns-then-x-e
-returns-then-x-e c =
-    look_moved _ c.requires.ready _ _ c.requires.ranges _ c.requires.c_in_bounds.1.1.1.1.1 _ _ _ _ c.requires.queue_bound _ _ c.at-s.ensures c.requires.c_in_bounds.1.0 _ c.at.ensures
-    c.if-at-ne-NONE.false _ c.at-2.ensures
-    c.if-at-c.false _ c.at-e.ensures c.if-e-c.false _ c.first_clear-x.ensures c.requires.c_in_bounds.1.1.1.0
-    c.if-x-e.true _ c.put.ensures
+pub returns-then-next-to : goal.returns-then-next-to
+returns-then-next-to c =
+    let w = c.watches.ensures.0 c.if-not-watches.false in
+    look_moved _ (ranged_ready c.args.ranged.now) _ _ c.args.ranged.now.ranges _ c.requires.c_in_bounds.1 _ _ _ _ c.requires.queue_bound _ _
+    c.owner_of-s.ensures.read (omega arith) w.0 w.1 w.2 c.requires.room _ c.end_of-to.ensures.read _ c.first_clear-next.ensures c.if-next-to.true _ c.put.ensures
 
 pub put-requires-3 : goal.put-requires-3
 put-requires-3 c =
-    omega (arith, place_left (goal.at.put-requires-3 c).Else-at-ne-NONE, c.requires.c_in_bounds.1, c.at-s.ensures, c.requires.ready.few)
+    omega (arith, place_left (goal.at.put-requires-3 c).Else-not-watches, c.requires.room.for_queue, (ranged_ready c.args.ranged.now).few)
 
 pub overflow_add-result : goal.overflow_add-result
 overflow_add-result c =
-    omega (arith, place_left (goal.at.overflow_add-result c).Else-at-ne-NONE, c.requires.ready.few)
+    omega (arith, place_left (goal.at.overflow_add-result c).Else-not-watches, (ranged_ready c.args.ranged.now).few)
 
 pub returns : goal.returns
 returns c =
-    look_lost _ c.requires.ready _ _ c.requires.ranges _ c.requires.c_in_bounds.1.1.1.1.1 _ _ _ _ c.requires.queue_bound _ _ c.at-s.ensures c.requires.c_in_bounds.1.0 _ c.at.ensures
-    c.if-at-ne-NONE.false _ c.at-2.ensures
-    c.if-at-c.false _ c.at-e.ensures c.if-e-c.false _ c.first_clear-x.ensures c.requires.c_in_bounds.1.1.1.0
-    (omega arith) c.requires.c_in_bounds.1.1.0 c.requires.c_in_bounds.1.1.1.1.0 _ _ _ c.put.ensures c.put-2.ensures
-    c.put-3.ensures
+    let w = c.watches.ensures.0 c.if-not-watches.false in
+    look_lost _ (ranged_ready c.args.ranged.now) _ _ c.args.ranged.now.ranges _ c.requires.c_in_bounds.1 _ _ _ _ c.requires.queue_bound _ _
+    c.owner_of-s.ensures.read (omega arith) w.0 w.1 w.2 c.requires.room _ c.end_of-to.ensures.read _ c.first_clear-next.ensures c.if-next-to.false _ _ _
+    c.put.ensures c.put-2.ensures c.put-3.ensures

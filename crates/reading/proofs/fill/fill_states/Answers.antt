@@ -11,8 +11,8 @@ turn c =
     let a = c.args in
     filling_turn a.file.now a.n c.loop-i.i c.loop-i.k c.loop-i.invariant.1 c.loop-i-test.true
 
-pub row_in-row-requires : goal.row_in-row-requires
-row_in-row-requires c = let t = turn (goal.at.row_in-row-requires c).In-loop-i in (t.some, omega (arith, t.few))
+pub row_in-requires : goal.row_in-requires
+row_in-requires c = let t = turn (goal.at.row_in-requires c).In-loop-i in (t.some, omega (arith, t.few))
 
 pub put_row-requires : goal.put_row-requires
 put_row-requires c = (turn (goal.at.put_row-requires c).In-loop-i).row
@@ -25,7 +25,7 @@ loop-i-preserved c =
     let a = c.args in
     let l = c.loop-i in (
       omega (arith, c.loop-i-test.true),
-      filling_more a.file.now a.n l.i l.k l.invariant.1 c.loop-i-test.true c.row_in-row.ensures
+      filling_more a.file.now a.n l.i l.k l.invariant.1 c.loop-i-test.true c.row_in.ensures
           c.put_row.ensures
           c.fill_state-k.ensures.firsts c.fill_state-k.ensures.outcomes
           c.fill_state-k.ensures.mark,

@@ -3,11 +3,8 @@ use Rattle.reading.proofs.FieldWays.{field_cut, field_tag, field_length, field_s
 use Rattle.reading.specs.Meaning.{bytes_from}
 use Rattle.tables.specs.declared.Refusal.TheVariants.{Cut, Tag, Length}
 use Rattle.model.specs.File.{allowed}
-use borrow.Author.Tests.{not-true, not-false}
 use native.Mathlib.Omega.{arith}
 use mathlib.Core.Path.{sym, ap, ◌∙◌}
-use Rattle.std.proofs.lemmas.Bool.{not_from_false}
-use Rattle.std.proofs.lemmas.Bool.{not_from_true}
 use Rattle.reading.proofs.frame.check_frame.Goals as goal
 
 pub returns-then-left-lt3 : goal.returns-then-left-lt3
@@ -29,7 +26,7 @@ returns-then-not-allowed c =
     field_stops a.file.now a.k a.due Length
     (field_length a.due (bytes_from a.file.now a.k) (omega (arith, c.remaining-left.ensures))
     (sym c.byte.ensures ∙ c.if-byte-due.false)
-    (sym (c.allowed.ensures ∙ ap (allowed a.due) c.number-len.ensures) ∙ not-true _ (not_from_false _ c.if-not-allowed.true)))
+    (sym (c.allowed.ensures ∙ ap (allowed a.due) c.number-len.ensures) ∙ c.if-not-allowed.true))
 
 pub returns-then-left-len : goal.returns-then-left-len
 returns-then-left-len c =
@@ -38,7 +35,7 @@ returns-then-left-len c =
     (field_short a.due (bytes_from a.file.now a.k) (omega (arith, c.remaining-left.ensures))
     (sym c.byte.ensures ∙ c.if-byte-due.false)
     (sym (c.allowed.ensures ∙ ap (allowed a.due) c.number-len.ensures)
-    ∙ not-false _ (not_from_true _ c.if-not-allowed.false)) (omega (arith, c.remaining-left.ensures, c.number-len.ensures)))
+    ∙ c.if-not-allowed.false) (omega (arith, c.remaining-left.ensures, c.number-len.ensures)))
 
 pub returns : goal.returns
 returns c =
@@ -46,5 +43,5 @@ returns c =
     let given_len = field_given a.due (bytes_from a.file.now a.k) (omega (arith, c.remaining-left.ensures))
     (sym c.byte.ensures ∙ c.if-byte-due.false)
     (sym (c.allowed.ensures ∙ ap (allowed a.due) c.number-len.ensures)
-    ∙ not-false _ (not_from_true _ c.if-not-allowed.false)) (omega (arith, c.remaining-left.ensures, c.number-len.ensures)) in
+    ∙ c.if-not-allowed.false) (omega (arith, c.remaining-left.ensures, c.number-len.ensures)) in
     field_walks a.file.now a.k a.due (rw (← c.number-len.ensures) at given_len) c.requires c.moved.ensures

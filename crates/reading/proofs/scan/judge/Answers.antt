@@ -12,37 +12,37 @@ returns-in_default c = ends _ _ _ _ c.in_default.is c.read_head-h.ensures
 
 pub number-requires : goal.number-requires
 number-requires c =
-    let x = went c.in-To.is c.read_head-h.ensures in
-    omega (arith, head_room c.args.file.now c.in-To.first x.0)
+    let x = went c.in-Ok.ensures in
+    omega (arith, head_room c.args.file.now c.in-Ok.first x.0)
 
 pub returns-in_default-s : goal.returns-in_default-s
 returns-in_default-s c =
-    let x = went c.in-To.is c.read_head-h.ensures in
-    file_stops c.args.file.now c.in-To.first x.0 c.number.ensures c.in_default-s.is
+    let x = went c.in-Ok.ensures in
+    file_stops c.args.file.now c.in-Ok.first x.0 c.number.ensures c.in_default-s.is
     c.scan_states-s.ensures
 
 pub returns-in_default-e : goal.returns-in_default-e
 returns-in_default-e c =
-    let x = went c.in-To.is c.read_head-h.ensures in
-    let y = went c.in-To-s.is c.scan_states-s.ensures in
-    end_stops c.args.file.now c.in-To.first x.0 c.number.ensures c.in-To-s.last y.0
-    c.in_default-e.is c.field-e.ensures
+    let x = went c.in-Ok.ensures in
+    let y = went c.in-Ok-s.ensures in
+    end_stops c.args.file.now c.in-Ok.first x.0 c.number.ensures c.in-Ok-s.last y.0
+    c.in_default-e.is c.next-e.ensures
 
 pub returns-then-remaining-gt0 : goal.returns-then-remaining-gt0
 returns-then-remaining-gt0 c =
-    let x = went c.in-To.is c.read_head-h.ensures in
-    let y = went c.in-To-s.is c.scan_states-s.ensures in
-    let z = went c.in-To-e.is c.field-e.ensures in
-    refuses Surplus (file_surplus c.args.file.now c.in-To.first x.0 c.number.ensures
-    c.in-To-s.last y.0 c.in-To-e.end z.0 (omega (arith, c.remaining.ensures)))
+    let x = went c.in-Ok.ensures in
+    let y = went c.in-Ok-s.ensures in
+    let z = went c.in-Ok-e.ensures in
+    refuses Surplus (file_surplus c.args.file.now c.in-Ok.first x.0 c.number.ensures
+    c.in-Ok-s.last y.0 c.in-Ok-e.end z.0 (omega (arith, c.remaining.ensures)))
 
 pub returns : goal.returns
 returns c =
-    let x = went c.in-To.is c.read_head-h.ensures in
-    let y = went c.in-To-s.is c.scan_states-s.ensures in
-    let z = went c.in-To-e.is c.field-e.ensures in
+    let x = went c.in-Ok.ensures in
+    let y = went c.in-Ok-s.ensures in
+    let z = went c.in-Ok-e.ensures in
     record {
-      answers = file_read c.args.file.now c.in-To.first x.0 c.number.ensures
-          c.in-To-s.last y.0 c.in-To-e.end z.0 (omega (arith, c.remaining.ensures));
+      answers = file_read c.args.file.now c.in-Ok.first x.0 c.number.ensures
+          c.in-Ok-s.last y.0 c.in-Ok-e.end z.0 (omega (arith, c.remaining.ensures));
       stays = z.1;
     }

@@ -4,6 +4,3 @@ use Rattle.search.proofs.marks.kept.Given as goal
 
 abbrev pub invariant-loop-q : goal.invariant-loop-q
 invariant-loop-q l = Cutting l.low l.q l.reached l.scratch l.queue
-
-abbrev pub decreases-loop-q : goal.decreases-loop-q
-decreases-loop-q l = l.q

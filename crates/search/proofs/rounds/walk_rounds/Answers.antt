@@ -1,84 +1,84 @@
 -- The loop holds that a walk is under way with the set known after so many rounds, none of them the last; how many come before the last one
 -- bounds it.
+use mathlib.Core.Path.{sym, ap, ◌∙◌}
 use native.Mathlib.Omega.{arith}
+use lib.ListN.{get_or-replicate}
+use Rattle.model.specs.File.{max_states}
+use Rattle.search.specs.Marks.{active_span}
+use Rattle.tables.specs.Spans.{failing_span}
+use Rattle.tables.proofs.SoundPlans.{plan_ready}
+use Rattle.tables.proofs.SpanFacts.{span_failing}
 use Rattle.walks.proofs.Room.{queued_few}
 use Rattle.walks.proofs.Spreads.{queued_none}
-use Rattle.search.proofs.Walking.{past_filled, past_spread, past_then}
-use Rattle.search.proofs.RoundEnds.{low_small}
-use Rattle.search.proofs.AfterRounds.{first_low, rounds_start, due_before, due_few, rounds_next}
-use Rattle.search.proofs.Concluding.{concluded}
+use Rattle.search.proofs.ReadStates.{span_active}
+use Rattle.search.proofs.RoundEnds.{some_marked}
+use Rattle.search.proofs.AfterRounds.{first_low, rounds_start, rounds_none, due_before, due_few, rounds_safe, rounds_lost, rounds_next}
 use Rattle.search.proofs.rounds.walk_rounds.Goals as goal
+
+pub returns-then-not-has_commands : goal.returns-then-not-has_commands
+returns-then-not-has_commands c =
+    let p = c.args.checked.now in
+    rounds_none _ p.sounds _ c.requires.0 c.fill.ensures c.start_known.ensures
+    (sym (span_active _ _ c.requires.0) ∙ ap active_span (sym c.span-span.ensures) ∙ sym c.has_commands.ensures ∙ c.if-not-has_commands.true) _
+    (c.is_failing.ensures ∙ ap failing_span c.span-span.ensures ∙ span_failing _ _ c.requires.0)
 
 pub reach-q-requires : goal.reach-q-requires
 reach-q-requires c =
-    let s = c.args in record {
-      queued = queued_none _ (first_low _ c.requires.prepared.sounds _ c.requires.start_lt_n.0 c.fill.ensures
-          (c.start_known.ensures s.firsts.now s.outcomes.now));
+    let p = c.args.checked.now in
+    record {
+      queued = queued_none _ (first_low _ p.sounds _ c.requires.0 c.fill.ensures c.start_known.ensures);
       x_lt_n = (
-        c.requires.start_lt_n.0,
-        c.requires.prepared.few,
-        omega (arith, c.requires.prepared.long_scratch, c.start_known.auto),
-        c.requires.prepared.long_queue,
+        c.requires.0,
+        omega (arith, c.requires, c.start_known.auto),
+        omega (arith, (plan_ready p).few),
         omega arith,
         omega arith,
       );
     }
 
-pub loop-end-init : goal.loop-end-init
-loop-end-init c =
-    let s = c.args in
-    rounds_start _ c.requires.prepared.sounds _ c.requires.start_lt_n.0 c.fill.ensures
-    (c.start_known.ensures s.firsts.now s.outcomes.now) c.reach-q.ensures _
-    (c.span_at-span.ensures s.firsts.now s.outcomes.now) _ c.start_end-end.ensures
-    c.requires.start_lt_n.1 c.requires.start_lt_n.2
+pub loop-low-init : goal.loop-low-init
+loop-low-init c =
+    let p = c.args.checked.now in
+    rounds_start _ p.sounds _ c.requires.0 c.fill.ensures c.start_known.ensures c.reach-q.ensures
+    (sym (span_active _ _ c.requires.0) ∙ ap active_span (sym c.span-span.ensures) ∙ sym c.has_commands.ensures ∙ c.if-not-has_commands.false)
+    (plan_ready p).few (λ x l. get_or-replicate max_states x 0 0 (omega (arith, (plan_ready p).few)))
 
-pub kept-q-requires : goal.kept-q-requires
-kept-q-requires c =
-    let d = c.loop-end.invariant.due c.loop-end-test.true in
-    let v = c.walk-walked.ensures.by_index _ _ d.walks d.clear in record {
-      reached_nonzero = (
-        v.done.begun,
-        omega (
-          arith,
-          queued_few v.done.queued,
-          c.requires.prepared.long_queue,
-          c.loop-end.invariant.same_queue,
-          c.reach-q.auto,
-          c.walk-walked.auto,
-        ),
-        low_small _ c.requires.prepared.sounds c.requires.prepared.few _ _ v,
-      );
-      by_index = λ i k. omega (
-        arith,
-        v.done.queued.states i k,
-        c.requires.prepared.long_scratch,
-        c.loop-end.invariant.flags.same,
-        c.start_known.auto,
-        c.reach-q.auto,
-        c.walk-walked.auto,
-      );
-    }
+pub overflow_add-rounds : goal.overflow_add-rounds
+overflow_add-rounds c =
+    let p = c.args.checked.now in
+    omega (arith, (plan_ready p).few, due_few _ p.sounds c.requires.0 c.loop-low.invariant.due)
 
-pub overflow_add-count : goal.overflow_add-count
-overflow_add-count c =
-    omega (arith, c.requires.prepared.few, due_few _ c.requires.prepared.sounds c.requires.prepared.few c.requires.start_lt_n.0 (c.loop-end.invariant.due c.loop-end-test.true))
+pub returns-in_default : goal.returns-in_default
+returns-in_default c =
+    let v = c.loop-low.invariant in
+    let e = c.walk-walked.ensures in
+    rounds_safe _ c.args.checked.now.sounds c.requires.0 v.due (e.by_index _ _ v.due.walks v.due.clear) v e.past e.past_2 c.in_default.is
 
-pub loop-end-smaller : goal.loop-end-smaller
-loop-end-smaller c =
-    omega (arith, due_before _ c.requires.prepared.sounds c.requires.prepared.few c.requires.start_lt_n.0 (c.loop-end.invariant.due c.loop-end-test.true))
+pub returns-then-at-eq-NONE : goal.returns-then-at-eq-NONE
+returns-then-at-eq-NONE c =
+    let v = c.loop-low.invariant in
+    let e = c.walk-walked.ensures in
+    rounds_lost _ c.args.checked.now.sounds c.requires.0 v.due (e.by_index _ _ v.due.walks v.due.clear) v e.past e.past_2
+    (sym c.at.ensures ∙ c.if-at-eq-NONE.true)
 
-pub loop-end-preserved : goal.loop-end-preserved
-loop-end-preserved c =
-    let s = c.args in
-    let d = c.loop-end.invariant.due c.loop-end-test.true in
-    rounds_next _ c.requires.prepared.sounds c.requires.prepared.few c.requires.start_lt_n.0 d (c.walk-walked.ensures.by_index _ _ d.walks d.clear)
-    c.round_end-end.ensures c.kept-q.ensures (c.settle.ensures s.firsts.now s.outcomes.now) c.loop-end.invariant
-    c.walk-walked.ensures.past c.walk-walked.ensures.past_2 (omega (arith, c.walk-walked.auto))
-    c.walk-walked.ensures.tried_2 (omega (arith, c.walk-walked.auto))
+pub kept-q-requires-clause-reached_nonzero : goal.kept-q-requires-clause-reached_nonzero
+kept-q-requires-clause-reached_nonzero c =
+    let p = c.args.checked.now in
+    let d = c.loop-low.invariant.due in
+    let w = c.walk-walked.ensures.by_index _ _ d.walks d.clear in
+    let few = (plan_ready p).few in
+    let room = queued_few w.done.queued in (
+      w.done.begun,
+      omega (arith, few, room, c.if-at-eq-NONE.array_long),
+      omega (arith, few, room, (some_marked _ p.sounds _ _ w _ c.in-Some.is).0),
+    )
 
-pub returns : goal.returns
-returns c =
-    let s = c.args in
-    concluded c.fill.ensures
-    (past_then (past_filled (c.start_known.ensures s.firsts.now s.outcomes.now))
-    (past_spread c.reach-q.ensures)) c.loop-end.invariant c.loop-end-test.false c.finish.ensures
+pub loop-low-smaller : goal.loop-low-smaller
+loop-low-smaller c = omega (arith, due_before _ c.args.checked.now.sounds c.requires.0 c.loop-low.invariant.due)
+
+pub loop-low-preserved : goal.loop-low-preserved
+loop-low-preserved c =
+    let v = c.loop-low.invariant in
+    let e = c.walk-walked.ensures in
+    rounds_next _ c.args.checked.now.sounds c.requires.0 v.due (e.by_index _ _ v.due.walks v.due.clear) v e.past e.past_2 _ c.in-Some.is
+    (λ z. c.if-at-eq-NONE.false (c.at.ensures ∙ z)) c.kept-q.ensures c.settle.ensures e.tried_2

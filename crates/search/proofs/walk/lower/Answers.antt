@@ -1,28 +1,17 @@
--- A marked state is reached, so its flag is 2 at least, and the two tests are those of the definition.
-use native.Mathlib.Omega.{arith}
+-- A marked state is reached, so its flag is 2 at least, and the tests are those of the definition.
 use mathlib.Core.Path.{refl}
-use Rattle.search.proofs.MarkTests.{lower_unmarked, marked_high, lower_here, lower_before}
-use Rattle.std.proofs.lemmas.Bool.{not_from_false}
-use Rattle.std.proofs.lemmas.Bool.{not_from_true}
+use Rattle.search.proofs.MarkTests.{lower_unmarked, marked_high, lower_first, lower_both}
 use Rattle.search.proofs.walk.lower.Goals as goal
 
 pub returns-then-not-is_marked : goal.returns-then-not-is_marked
-returns-then-not-is_marked c = lower_unmarked _ _ _ _ _ _ c.is_marked.ensures (not_from_false _ c.if-not-is_marked.true)
+returns-then-not-is_marked c = lower_unmarked _ _ _ _ _ c.is_marked.ensures c.if-not-is_marked.true _
 
 pub overflow_sub-place : goal.overflow_sub-place
-overflow_sub-place c =
-    omega (
-      arith,
-      marked_high _ _ _ _ c.args.low _ c.is_marked.ensures (not_from_true _ c.if-not-is_marked.false) _
-          c.at-place.ensures,
-    )
+overflow_sub-place c = marked_high _ _ _ _ _ c.is_marked.ensures c.if-not-is_marked.false _ c.at-place.ensures
 
-pub returns-then-place-low : goal.returns-then-place-low
-returns-then-place-low c =
-    lower_here _ _ _ _ _ _ c.is_marked.ensures (not_from_true _ c.if-not-is_marked.false) _ c.at-place.ensures _ refl
-    c.if-place-low.true
+pub returns-in-None : goal.returns-in-None
+returns-in-None c = rw c.in-None.is (lower_first _ _ _ _ _ c.is_marked.ensures c.if-not-is_marked.false _ c.at-place.ensures _ refl)
 
-pub returns : goal.returns
-returns c =
-    lower_before _ _ _ _ _ _ c.is_marked.ensures (not_from_true _ c.if-not-is_marked.false) _ c.at-place.ensures _ refl
-    c.if-place-low.false
+pub returns-in-Some : goal.returns-in-Some
+returns-in-Some c =
+    rw (c.in-Some.is, c.min.ensures) (lower_both _ _ _ _ _ c.is_marked.ensures c.if-not-is_marked.false _ c.at-place.ensures _ _ refl)

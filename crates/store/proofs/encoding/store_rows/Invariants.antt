@@ -1,5 +1,5 @@
 -- The invariant is that the bytes of the first rows stand in front; a turn stores one row's block more.
-use Prim.Native.Nat.{◌-◌, ◌≤◌}
+use Prim.Native.Nat.{◌≤◌}
 use mathlib.Core.List.{List}
 use Rattle.laws.proofs.Blocks.{Stored}
 use Rattle.model.specs.Boundary.{bytes_for, row_entries}
@@ -9,6 +9,3 @@ use Rattle.store.proofs.encoding.store_rows.Given as goal
 
 abbrev pub invariant-loop-s : goal.invariant-loop-s
 invariant-loop-s l = (l.s ≤ l.n) × Stored (λ (ws : List ModelRow). bytes_for (row_entries ws)) (rows_of l.rows) l.initial.bytes l.s l.bytes
-
-abbrev pub decreases-loop-s : goal.decreases-loop-s
-decreases-loop-s l = l.n - l.s

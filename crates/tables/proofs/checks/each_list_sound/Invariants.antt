@@ -4,11 +4,11 @@ use mathlib.Core.Bool.{true}
 use Prim.Native.Nat.{◌-◌}
 use Rattle.laws.specs.Sets.{every}
 use Rattle.tables.specs.Lasts.{list_below}
-use Rattle.tables.specs.Ready.{list_table}
+use Rattle.tables.specs.ListTables.{table_of}
 use Rattle.tables.proofs.checks.each_list_sound.Given as goal
 
 abbrev pub invariant-loop-i : goal.invariant-loop-i
-invariant-loop-i l = every (list_below l.least l.n (list_table l.count l.end l.firsts l.entries)) l.i ≡ true
+invariant-loop-i l = every (list_below l.least l.n (table_of l.lists)) l.i ≡ true
 
 abbrev pub decreases-loop-i : goal.decreases-loop-i
-decreases-loop-i l = l.count - l.i
+decreases-loop-i l = l.lists.count - l.i

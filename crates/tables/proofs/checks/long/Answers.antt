@@ -6,4 +6,4 @@ use Rattle.tables.proofs.checks.long.Goals as goal
 
 pub returns : goal.returns
 unfolding tables_long
-returns c = λ R e. rw (length-map R row_of, ← e) c.long_enough.ensures
+returns c = rw (length-map c.args.plan.now.rows.now row_of) c.long_enough.ensures

@@ -13,4 +13,4 @@ pub returns : goal.returns
 returns c =
     λ F O.
     span_inner _ c.args.rows.now F O _ _ _ _ _ c.requires.0 (omega (arith, c.if-size-s.false)) c.row_at-row.ensures
-    c.row_at-next.ensures c.wide.ensures.0 c.span_of-2.ensures
+    c.row_at-next.ensures c.from.ensures c.span_of-2.ensures

@@ -1,16 +1,28 @@
 -- The states below s that are reached stand in the first places, when the loop comes to s.
+use mathlib.Core.Path.{◌∙◌}
 use native.Mathlib.Omega.{arith}
 use Rattle.laws.proofs.Gathers.{gathers_start, gathers_room, gathers_next}
+use Rattle.walks.proofs.FlagValues.{value_walked, value_unwalked}
+use Rattle.trim.proofs.entering.list.Goals.{then-at-ge-REACHED, else-at-ge-REACHED}
 use Rattle.trim.proofs.entering.list.Goals as goal
 
 pub loop-s-init : goal.loop-s-init
 loop-s-init c = gathers_start
 
-pub list_one-i-requires : goal.list_one-i-requires
-list_one-i-requires c =
-    (omega (arith, c.requires), omega (arith, c.requires), omega (arith, c.requires, c.loop-s.invariant.same, gathers_room c.loop-s.invariant))
+pub put-requires : goal.put-requires
+put-requires c =
+    (omega (arith, c.requires, c.loop-s.invariant.same, gathers_room c.loop-s.invariant), omega (arith, c.requires))
+
+pub overflow_add-i : goal.overflow_add-i
+overflow_add-i c = omega (arith, c.requires, gathers_room c.loop-s.invariant)
 
 pub loop-s-preserved : goal.loop-s-preserved
 loop-s-preserved c =
-    gathers_next c.loop-s.invariant c.loop-s-test.true c.list_one-i.ensures.value
-    c.list_one-i.ensures.kept_after
+    elim c.if-at-ge-REACHED.branch [
+      | then-at-ge-REACHED w ↦
+          let e = value_walked c.args.flags.now c.loop-s.s (omega (arith, c.at.ensures, w.if-at-ge-REACHED.true)) in
+          gathers_next c.loop-s.invariant c.loop-s-test.true (rw e w.i-is) (rw e (w.kept-is ∙ w.put.ensures))
+      | else-at-ge-REACHED w ↦
+          let e = value_unwalked c.args.flags.now c.loop-s.s (omega (arith, c.at.ensures, w.if-at-ge-REACHED.false)) in
+          gathers_next c.loop-s.invariant c.loop-s-test.true (rw e w.i-is) (rw e w.kept-is)
+    ]

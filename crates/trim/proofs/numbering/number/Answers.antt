@@ -1,13 +1,23 @@
--- Each turn gives one state its number in both tables; old numbers differ, so no new number is written over.
-use Rattle.trim.proofs.Numbers.{numbering_next, numbering_done}
+-- Each turn gives one state its number; old numbers differ, so no new number is written over.
+use mathlib.Core.Path.{refl}
+use native.Mathlib.Omega.{arith}
+use Rattle.laws.specs.Lists.{overwrite}
+use Rattle.laws.proofs.Placed.{placed_next}
+use Rattle.trim.proofs.KeptStates.{kept_few, kept_inside, kept_rises}
 use Rattle.trim.proofs.numbering.number.Goals as goal
+
+pub put-requires : goal.put-requires
+put-requires c =
+    let k = c.args.kept.now in
+    let l = c.loop-i-test.true in
+    (omega (arith, c.from.ensures, kept_inside k _ l, c.loop-i.invariant.same, c.requires.1), omega (arith, kept_few k, l))
 
 pub loop-i-preserved : goal.loop-i-preserved
 loop-i-preserved c =
-    numbering_next c.loop-i.invariant (record { inside = λ i l. (c.requires.by_index i l).0; rise = c.requires.by_index_2 })
-    c.loop-i-test.true
-    c.at-s.ensures c.put.ensures c.put-in-loop-i.ensures
+    let k = c.args.kept.now in
+    placed_next c.loop-i.invariant (record { inside = λ i l. omega (arith, kept_inside k i l, c.requires.1); rise = kept_rises k })
+    c.loop-i-test.true c.from.ensures refl c.put.ensures
 
-pub returns : goal.returns
-returns c =
-    let w = numbering_done c.loop-i.invariant c.requires.n_in_bounds.0 c.requires.n_in_bounds.1 c.loop-i-test.false in record { olds_after = w.0; numbered = w.1 }
+pub returns-clause-olds_after : goal.returns-clause-olds_after
+unfolding overwrite
+returns-clause-olds_after c = rw c.copy_from_slice.ensures.after

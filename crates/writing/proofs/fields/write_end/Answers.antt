@@ -1,7 +1,6 @@
--- Tag and length are stored one behind the other.
-use Rattle.laws.proofs.Wrote.{wrote_then}
+-- Tag and length are put one behind the other.
+use Rattle.writing.proofs.Puts.{put_then}
 use Rattle.writing.proofs.fields.write_end.Goals as goal
 
 pub returns : goal.returns
-returns c =
-    wrote_then c.put_one-length.ensures c.put_two.ensures
+returns c = put_then c.put_byte.ensures c.put_number.ensures

@@ -1,7 +1,8 @@
--- Tag, length and the two numbers are stored one behind the other.
-use Rattle.laws.proofs.Wrote.{wrote_then}
+-- Tag, length and the two numbers are put one behind the other.
+use Rattle.writing.proofs.Puts.{put_then}
 use Rattle.writing.proofs.fields.write_head.Goals as goal
 
 pub returns : goal.returns
 returns c =
-    wrote_then c.put_one-length.ensures (wrote_then c.put_two-n.ensures c.put_pair.ensures)
+    put_then c.put_byte.ensures
+    (put_then c.put_number.ensures (put_then c.put_number-2.ensures c.put_number-3.ensures))
