@@ -1,4 +1,5 @@
 // Whether plans are the same up to their counts.
+// No derive for plans: what stands past the counts does not matter.
 use tables::Plan;
 
 fn same_start<T: PartialEq>(a: &[T], b: &[T], n: usize) -> bool {

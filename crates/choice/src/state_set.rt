@@ -2,6 +2,8 @@
 // up to 65534) and the known. Only the planner's own crates call this.
 use tables::entries::at;
 
+// How long the table must be depends on the lists that are asked, so the functions that take both ask for it; a value of both would be made
+// anew at each call.
 #[derive(Clone, Copy)]
 pub struct StateSet<'a> {
     pub table: &'a [u16],

@@ -4,6 +4,7 @@ use mathlib.Core.List.{List}
 use Prim.Native.Nat.{ℕ, ◌*◌, ◌<◌, ◌≤◌}
 use native.Mathlib.Omega.{arith}
 use lib.ListN.{length, replicate, get_or-replicate, length-replicate}
+use Rattle.std.specs.Prelude.{Bool, Option, None}
 use Rattle.model.specs.File.{max_states}
 use Rattle.model.specs.Refusal.{given}
 use Rattle.model.specs.Held.{plan_in}
@@ -14,8 +15,6 @@ use Rattle.tables.specs.Meaning.{lent}
 use Rattle.tables.proofs.SoundPlans.{plan_ready}
 use Rattle.nets.specs.Nets.{Initialized}
 use Rattle.contest.specs.Laid.{laid_plan, Laid}
-use Rattle.contest.specs.declared.memo.Turn.{Turn}
-use Rattle.contest.specs.declared.memo.Turn.TheVariants.{Unknown}
 use Rattle.contest.specs.Memo.{memo_place, kept, Told}
 use Rattle.contest.proofs.Memos.{none_told}
 use Rattle.contest.proofs.Laying.{laid}
@@ -24,8 +23,8 @@ use Rattle.contest.proofs.Laying.{laid}
 abbrev empty : List ℕ
 empty = replicate max_states 0
 
-abbrev no_turns : List Turn
-no_turns = replicate (9 * max_states) Unknown
+abbrev no_turns : List (Option Bool)
+no_turns = replicate (9 * max_states) None
 
 module _ (p : SoundPlan) (s k : ℕ) (answers : contest_call (lent p.plan) s k ≡ given (keeper_turn (plan_in (lent p.plan)) k s)) where
   passed : ContestAnswers (lent p.plan) s k (keeper_turn (plan_in (lent p.plan)) k s)
@@ -34,8 +33,8 @@ module _ (p : SoundPlan) (s k : ℕ) (answers : contest_call (lent p.plan) s k �
   pub admitted_inside : (s < p.plan.size.n) × (k ≤ max_moves)
   admitted_inside = (passed.inside, passed.few)
 
-  pub admitted_unknown : kept no_turns s k ≡ Unknown
-  admitted_unknown = get_or-replicate (9 * max_states) (memo_place s k) Unknown Unknown (omega (arith, (plan_ready p).few, passed.inside, passed.few))
+  pub admitted_unknown : kept no_turns s k ≡ None
+  admitted_unknown = get_or-replicate (9 * max_states) (memo_place s k) None None (omega (arith, (plan_ready p).few, passed.inside, passed.few))
 
 module _ (p : SoundPlan) {seeds froms tos places : List ℕ}
     (v : Initialized (lent p.plan) p.plan.size.n empty empty empty empty seeds froms tos places) where

@@ -6,6 +6,7 @@ use Prim.Native.Nat.{ℕ, ◌+◌, ◌-◌, ◌<◌, ◌≤◌}
 use native.Mathlib.Omega.{arith}
 use lib.ListN.{length, get_or}
 use lib.Seq.{slice}
+use Rattle.std.specs.Prelude.{Option}
 use Rattle.laws.specs.Sets.{each}
 use Rattle.laws.proofs.Scans.{each_part, each_no_part}
 use Rattle.model.specs.Plan.{Plan}
@@ -14,13 +15,12 @@ use Rattle.model.specs.Contest.{works_turn, keeper_turn, max_moves}
 use Rattle.tables.specs.Meaning.{lent}
 use Rattle.contest.specs.declared.laid.LaidPlan.{LaidPlan}
 use Rattle.contest.specs.LaidPlans.{laid_as}
-use Rattle.contest.specs.declared.memo.Turn.{Turn}
 use Rattle.contest.specs.Memo.{Told, Remembers}
 use Rattle.contest.proofs.LaidPlans.{laid_works, laid_inside}
 use Rattle.contest.proofs.Memos.{remembers_all, remembers_then}
 
 -- the outcomes from place i on decide the turn at command c of s
-pub record Answering (p : LaidPlan) (k s c end i : ℕ) (memo₀ memo : List Turn) : Type 0 where
+pub record Answering (p : LaidPlan) (k s c end i : ℕ) (memo₀ memo : List (Option Bool)) : Type 0 where
   pub few : k ≤ max_moves
   pub since : i ≤ end
   pub long : end ≤ length p.checked.plan.outcomes.now
@@ -29,7 +29,7 @@ pub record Answering (p : LaidPlan) (k s c end i : ℕ) (memo₀ memo : List Tur
       each (keeper_turn P k) (slice i end p.checked.plan.outcomes.now) ≡ works_turn P (keeper_turn P k) s c
   pub remembers : Remembers (laid_as p) p.checked.plan.size.n memo₀ memo
 
-pub answering_start : {p : LaidPlan} {memo : List Turn} {k s c : ℕ}
+pub answering_start : {p : LaidPlan} {memo : List (Option Bool)} {k s c : ℕ}
     → (s < p.checked.plan.size.n) × ((c < get_or p.tos.now s 0 - get_or p.froms.now s 0) × (k ≤ max_moves))
     → Told (laid_as p) p.checked.plan.size.n memo
     → (from first end : ℕ) → from ≡ get_or p.froms.now s 0 → first ≡ first_outcome (lent p.checked.plan) (from + c)
@@ -46,14 +46,14 @@ answering_start {p} {memo} {k} {s} {c} b told from first end q a e =
       remembers = remembers_all told;
     }
 
-module _ {p : LaidPlan} {k s c end i : ℕ} {memo₀ memo : List Turn} (w : Answering p k s c end i memo₀ memo) where
+module _ {p : LaidPlan} {k s c end i : ℕ} {memo₀ memo : List (Option Bool)} (w : Answering p k s c end i memo₀ memo) where
   abbrev P : Plan
   P = laid_as p
 
   abbrev turn : Bool
   turn = works_turn P (keeper_turn P k) s c
 
-  module _ (h : i < end) (x : ℕ) (q : x ≡ get_or p.checked.plan.outcomes.now i 0) (memo' : List Turn) (r : Bool) (a : r ≡ keeper_turn P k x)
+  module _ (h : i < end) (x : ℕ) (q : x ≡ get_or p.checked.plan.outcomes.now i 0) (memo' : List (Option Bool)) (r : Bool) (a : r ≡ keeper_turn P k x)
       (v : Remembers P p.checked.plan.size.n memo memo') where
     next : r && each (keeper_turn P k) (slice (i + 1) end p.checked.plan.outcomes.now) ≡ turn
     next = sym (each_part (keeper_turn P k) p.checked.plan.outcomes.now i end h w.long ∙ rw (← q, ← a) refl) ∙ w.decides

@@ -9,7 +9,6 @@ ghost use Rattle.contest.specs.Answers.{answer_of};
 
 use crate::admission::admit;
 use crate::laid::LaidPlan;
-use crate::memo::{PLACES, Turn};
 use crate::turns::keeper_turn;
 use nets::propagations::initialize;
 use tables::{Plan, Refusal, Size};
@@ -22,7 +21,7 @@ mod turns;
 // The contest at `state` over `moves` moves: whether the keeper's turn is held. Refused with 10, then 11, then 12. Nothing is lent to be
 // written; free is only how the call comes to its answer (rule U10).
 // No turn is worked out twice (turns.rt): for each number of moves left, 0 to 8, each state, command and outcome is looked at once at most,
-// so that there are at most 9 (n + m + t) looks beside the soundness test, whatever the plan is. The local tables have 17,408 bytes
+// so that there are at most 9 (n + m + t) looks beside the soundness test, whatever the plan is. The local tables have 26,624 bytes
 // whatever the plan is, and at most 17 turns are under way at a time; docs/PERFORMANCE.md has the times and the stack.
 // Ruled out: a failing state held when no move is left, and a turn called held since one outcome of a command is.
 #[tactic(auto, using(crate::proofs::Replying::denies_unsound))]
@@ -36,7 +35,7 @@ pub fn contest(plan: &Plan, state: usize, moves: usize) -> Result<bool, Refusal>
     let mut froms = [0u16; Size::STATES];
     let mut tos = [0u16; Size::STATES];
     let mut places = [0u16; Size::STATES];
-    let mut memo = [Turn::Unknown; PLACES];
+    let mut memo = [None; memo::PLACES];
     initialize(&checked, &mut seeds, &mut froms, &mut tos, &mut places);
     let laid = LaidPlan {
         checked,

@@ -1,8 +1,8 @@
-// The memo: what is known of the keeper's turn at each state with each number of moves left.
+// The memo: whether the keeper's turn is held, as far as it is known, at each state with each number of moves left.
 ghost use Rattle.std.specs.Prelude.{◌≡◌, ◌<◌, ◌≤◌};
 ghost use Rattle.model.specs.File.{max_states};
 ghost use Rattle.model.specs.Contest.{max_moves};
-ghost use Rattle.contest.specs.Memo.{memo_place, turn_of};
+ghost use Rattle.contest.specs.Memo.{memo_place};
 
 use tables::Size;
 
@@ -14,22 +14,6 @@ const TURNS: usize = MOVES + 1;
 
 // How many places the memo has.
 pub const PLACES: usize = Size::STATES * TURNS;
-
-// What the memo has of a turn. At first nothing is known.
-#[derive(Clone, Copy, Debug, PartialEq, Eq)]
-pub enum Turn {
-    Unknown,
-    Held,
-    NotHeld,
-}
-
-impl From<bool> for Turn {
-    ghost from_gives = { λ held turn. turn ≡ turn_of held };
-
-    fn from(held: bool) -> Turn {
-        if held { Turn::Held } else { Turn::NotHeld }
-    }
-}
 
 // The place of the turn at s with k moves left.
 pub fn memo_place(s: usize, k: usize) -> usize

@@ -1,14 +1,13 @@
 // The keeper's turn and the works' turn, which call one another, with one move fewer left after each command (rule N7). Plain recursion
 // would work a turn out again wherever it is met, which no controller lives to see the end of; the memo has each turn of the keeper once it
 // is worked out.
-ghost use Rattle.std.specs.Prelude.{◌≡◌, ◌-◌, ◌<◌, ◌≤◌, get_or};
+ghost use Rattle.std.specs.Prelude.{◌≡◌, None, ◌-◌, ◌<◌, ◌≤◌, get_or};
 ghost use Rattle.model.specs.Contest.{works_turn, keeper_turn, max_moves};
-ghost use Rattle.contest.specs.declared.memo.Turn.TheVariants.{Unknown};
 ghost use Rattle.contest.specs.LaidPlans.{laid_as};
 ghost use Rattle.contest.specs.Memo.{memo_place, Told, Known, Remembers, Knows};
 
 use crate::laid::LaidPlan;
-use crate::memo::{Turn, memo_place};
+use crate::memo::memo_place;
 use tables::entries::at;
 
 // Whether the keeper's turn at s is held with k moves left, where no command has to be tried for it.
@@ -32,32 +31,33 @@ fn sure_turn(laid: &LaidPlan, s: usize, k: usize) -> Option<bool>
 // nothing that the memo knew is forgotten: so no turn is worked out twice. Free is which turns the memo has learnt beside it; what it has
 // of any is true.
 #[cycle(keeper_turn_works_turn)]
-pub fn keeper_turn(laid: &LaidPlan, memo: &mut [Turn], s: usize, k: usize) -> bool
+pub fn keeper_turn(laid: &LaidPlan, memo: &mut [Option<bool>], s: usize, k: usize) -> bool
     requires inside { (s < laid.now.checked.plan.size.n) × (k ≤ max_moves) }
     requires told { Told (laid_as laid.now) laid.now.checked.plan.size.n memo.old }
-    requires unknown { get_or memo.old (memo_place s k) Unknown ≡ Unknown }
+    requires unknown { get_or memo.old (memo_place s k) None ≡ None }
     ensures turn { result ≡ keeper_turn (laid_as laid.now) k s }
     ensures remembers { Remembers (laid_as laid.now) laid.now.checked.plan.size.n memo.old memo.new }
     ensures knows { Knows (laid_as laid.now) memo.new s k }
 {
-    if let Some(held) = sure_turn(laid, s, k) {
-        memo[memo_place(s, k)] = Turn::from(held);
+    let sure = sure_turn(laid, s, k);
+    if let Some(held) = sure {
+        memo[memo_place(s, k)] = sure;
         return held;
     }
     for c in 0..at(laid.tos, s) - at(laid.froms, s) {
         if works_turn(laid, memo, s, c, k - 1) {
-            memo[memo_place(s, k)] = Turn::Held;
+            memo[memo_place(s, k)] = Some(true);
             return true;
         }
     }
-    memo[memo_place(s, k)] = Turn::NotHeld;
+    memo[memo_place(s, k)] = Some(false);
     false
 }
 
 // Whether each outcome of command c of s gives the keeper a held turn with k moves left. The memo is asked first, and the keeper's turn
 // called where it does not know.
 #[cycle(keeper_turn_works_turn)]
-fn works_turn(laid: &LaidPlan, memo: &mut [Turn], s: usize, c: usize, k: usize) -> bool
+fn works_turn(laid: &LaidPlan, memo: &mut [Option<bool>], s: usize, c: usize, k: usize) -> bool
     requires inside { (s < laid.now.checked.plan.size.n)
         × ((c < get_or laid.now.tos.now s 0 - get_or laid.now.froms.now s 0) × (k ≤ max_moves)) }
     requires told { Told (laid_as laid.now) laid.now.checked.plan.size.n memo.old }
@@ -71,9 +71,8 @@ fn works_turn(laid: &LaidPlan, memo: &mut [Turn], s: usize, c: usize, k: usize) 
     for i in first..end {
         let next = at(outcomes, i);
         let held = match memo[memo_place(next, k)] {
-            Turn::Held => true,
-            Turn::NotHeld => false,
-            Turn::Unknown => keeper_turn(laid, memo, next, k),
+            Some(known) => known,
+            None => keeper_turn(laid, memo, next, k),
         };
         if !held {
             return false;

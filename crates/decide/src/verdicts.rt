@@ -54,7 +54,7 @@ fn command_of(checked: &SoundPlan, span: Span, lost: &StateSet, is_lost: bool) -
     if is_lost {
         return None;
     }
-    choose(checked, span, lost)
+    choose(&checked.outcome_lists(), span, lost)
 }
 
 // Whether the state, of which `span` was read, is a fault: it is safe, and the command chosen there is not the practice that it has. The
@@ -67,6 +67,7 @@ fn is_fault(span: Span, is_lost: bool, command: Option<usize>) -> bool
 }
 
 // A state's practice mark (rule V13).
+// A number and no enum: it is an entry of a table that C lends, and rule V13 goes by it (`mark_of`).
 fn mark_of(fails: bool, fault: bool) -> usize
     ensures { result ≡ mark_of fails fault }
 {

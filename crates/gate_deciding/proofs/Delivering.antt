@@ -15,7 +15,8 @@ use Rattle.model.specs.Rooms.{decide_room}
 use Rattle.tables.specs.declared.Refusal.{Refusal}
 use Rattle.tables.specs.declared.Refusal.TheVariants.{Cramped}
 use Rattle.decide.specs.Answers.{after_decide}
-use Rattle.gate_deciding.specs.Delivery.{code_of, delivery, after_gate_decide, delivery_call}
+use Rattle.gate_deciding.specs.Delivery.{delivery, after_gate_decide, delivery_call}
+use Rattle.store.specs.Codes.{code_of}
 
 flat_joined : (t : List (List ℕ)) → flat_map (λ row. row) t ≡ joined t
 unfolding joined

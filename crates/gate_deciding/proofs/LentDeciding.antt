@@ -13,7 +13,8 @@ use Rattle.model.proofs.Gates.{gate_decide_lent, gate_decide_same, gate_decide_u
 use Rattle.tables.specs.declared.Refusal.{Refusal}
 use Rattle.tables.specs.Meaning.{refusal_of}
 use Rattle.load.proofs.Lending.{PlanCall}
-use Rattle.gate_deciding.specs.Delivery.{code_of, after_gate_decide}
+use Rattle.gate_deciding.specs.Delivery.{after_gate_decide}
+use Rattle.store.specs.Codes.{code_of}
 
 pub decide_call_lem : (ranks commands marks scratch tally : ℕ) → PlanCall (λ lent. gate_decide lent ranks commands marks scratch tally)
 decide_call_lem ranks commands marks scratch tally = record {

@@ -1,12 +1,10 @@
 -- What is stored of a decision.
-use Rattle.std.specs.Prelude.{List, ℕ, length, take, Result, Ok, Err}
+use Rattle.std.specs.Prelude.{List, ℕ, length, take}
 use Rattle.laws.specs.Lists.{joined}
-use Rattle.model.specs.Refusal.{Cramped, Answer, given, number, need, ◌>>=◌, ◌>>◌}
+use Rattle.model.specs.Refusal.{Cramped, Answer, given, need, ◌>>=◌, ◌>>◌}
 use Rattle.model.specs.Calls.{left, AfterDecide}
 use Rattle.model.specs.Boundary.{bytes_for, code, AfterGateDecide}
 use Rattle.model.specs.Rooms.{decide_room}
-use Rattle.tables.specs.declared.Refusal.{Refusal}
-use Rattle.tables.specs.Meaning.{refusal_of}
 
 -- the tally, if there is room for everything
 unfoldable pub delivery : Answer (List (List ℕ)) → ℕ → ℕ → ℕ → ℕ → ℕ → ℕ → Answer (List (List ℕ))
@@ -14,11 +12,6 @@ delivery decision n ranks commands marks scratch tally = do
   t ← decision
   need Cramped (decide_room n ranks commands marks scratch tally)
   given t
-
--- the number that C is told
-abbrev pub code_of : Result (Unit {0}) Refusal → ℕ
-code_of (Ok _) = 0
-code_of (Err r) = number (refusal_of r)
 
 -- what a call returns and what every slice lent to it holds
 abbrev pub after_gate_decide : ℕ → List ℕ → List ℕ → List ℕ → List ℕ → List ℕ → AfterGateDecide

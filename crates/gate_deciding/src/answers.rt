@@ -4,7 +4,8 @@ ghost use Rattle.laws.specs.Lists.{joined, overwrite};
 ghost use Rattle.model.specs.Boundary.{bytes_for, tally_bytes};
 ghost use Rattle.model.specs.Rooms.{decide_room};
 ghost use Rattle.decide.specs.Answers.{after_decide};
-ghost use Rattle.gate_deciding.specs.Delivery.{code_of, after_gate_decide, delivery_call};
+ghost use Rattle.gate_deciding.specs.Delivery.{after_gate_decide, delivery_call};
+ghost use Rattle.store.specs.Codes.{code_of};
 
 use decide::Tally;
 use store::encoding::store;
@@ -17,6 +18,7 @@ const COUNTS: usize = 6;
 const TALLY_BYTES: usize = COUNTS * ENTRY_BYTES;
 
 // Whether slices of so many bytes have room for the entries of n states and for the tally's six.
+// Each call has a test of its own: it is over other slices, and the definitions have three (`read_room`, `decide_room`, `search_room`).
 fn room(n: usize, ranks: usize, commands: usize, marks: usize, scratch: usize, tally: usize) -> bool
     ensures { result ≡ decide_room n ranks commands marks scratch tally }
 {

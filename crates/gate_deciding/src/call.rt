@@ -3,11 +3,13 @@ ghost use Rattle.std.specs.Prelude.{◌≡◌};
 ghost use Rattle.model.specs.Refusal.{given};
 ghost use Rattle.model.specs.Boundary.{tables_in, gate_decide_call};
 ghost use Rattle.tables.specs.Meaning.{lent};
-ghost use Rattle.gate_deciding.specs.Delivery.{code_of, after_gate_decide};
+ghost use Rattle.gate_deciding.specs.Delivery.{after_gate_decide};
+ghost use Rattle.store.specs.Codes.{code_of};
 
 use crate::answers::deliver;
 use decide::decide;
 use load::decoding::load_plan;
+use store::codes::code;
 use tables::{Plan, Refusal, Row, Size};
 
 // The call, on a plan that was read into tables.
@@ -44,6 +46,8 @@ pub fn decide_loaded(
 }
 
 // The call, on a plan lent as bytes.
+// It loads the plan itself, as `search_lent` does: the tables are the call's own, and one function for both would take a closure over the
+// call's slices, of which no clause could say what they hold afterwards.
 fn decide_lent(
     size: &[u8],
     rows: &[u8],
@@ -99,8 +103,5 @@ pub fn decide_call(
     let answered = decide_lent(
         size, rows, firsts, outcomes, ranks, commands, marks, scratch, tally,
     );
-    match answered {
-        Ok(()) => 0,
-        Err(refusal) => u32::from(refusal),
-    }
+    code(answered)
 }

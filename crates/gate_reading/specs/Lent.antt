@@ -1,11 +1,9 @@
 -- Slices that a plan is to be read into, by their lengths in bytes.
-use Rattle.std.specs.Prelude.{List, ℕ, Result, Ok, Err}
-use Rattle.model.specs.Refusal.{Answer, Cramped, number, given, need, ◌>>=◌, ◌>>◌}
+use Rattle.std.specs.Prelude.{List, ℕ}
+use Rattle.model.specs.Refusal.{Answer, Cramped, given, need, ◌>>=◌, ◌>>◌}
 use Rattle.model.specs.Tables.{Size as ModelSize}
 use Rattle.model.specs.Boundary.{AfterGateRead}
 use Rattle.model.specs.Rooms.{read_room}
-use Rattle.tables.specs.declared.Refusal.{Refusal}
-use Rattle.tables.specs.Meaning.{refusal_of}
 
 -- rule G8: the size record answered, if they have room
 abbrev pub admitted : Answer ModelSize → ℕ → ℕ → ℕ → ℕ → Answer ModelSize
@@ -17,8 +15,3 @@ admitted a size rows firsts outcomes = do
 -- what is returned, and what every slice holds afterwards
 abbrev pub after_gate_read : ℕ → List ℕ → List ℕ → List ℕ → List ℕ → AfterGateRead
 after_gate_read r size rows firsts outcomes = record { returns = r; size = size; rows = rows; firsts = firsts; outcomes = outcomes }
-
--- the number that C is told
-abbrev pub code_of : Result (Unit {0}) Refusal → ℕ
-code_of (Ok x) = 0
-code_of (Err r) = number (refusal_of r)

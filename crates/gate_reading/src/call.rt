@@ -1,10 +1,12 @@
-// What only the planner's own crates call: reading, to bytes.
+// What only the planner's own crates call: reading, to bytes. The slices are parameters one by one, as the C interface lends them.
 ghost use Rattle.std.specs.Prelude.{◌≡◌};
 ghost use Rattle.model.specs.Boundary.{gate_read_call};
-ghost use Rattle.gate_reading.specs.Lent.{after_gate_read, code_of};
+ghost use Rattle.gate_reading.specs.Lent.{after_gate_read};
+ghost use Rattle.store.specs.Codes.{code_of};
 
 use crate::answers::{room, store_lists};
 use reading::read;
+use store::codes::code;
 use store::encoding::store_rows;
 use tables::{Refusal, Row, Size};
 
@@ -42,8 +44,5 @@ pub fn read_call(
     ensures call { after_gate_read result size.new rows.new firsts.new outcomes.new
         ≡ gate_read_call file.now size.old rows.old firsts.old outcomes.old }
 {
-    match read_into(file, size, rows, firsts, outcomes) {
-        Ok(()) => 0,
-        Err(refusal) => u32::from(refusal),
-    }
+    code(read_into(file, size, rows, firsts, outcomes))
 }

@@ -1,15 +1,9 @@
 -- What is stored of a search.
-use Rattle.std.specs.Prelude.{Bool, List, ℕ, length, take, Result}
+use Rattle.std.specs.Prelude.{Bool, List, ℕ, length, take}
 use Rattle.model.specs.Refusal.{Cramped, Answer, given, need, ◌>>=◌, ◌>>◌}
 use Rattle.model.specs.Calls.{left}
 use Rattle.model.specs.Boundary.{bytes_for, result_entries, code, AfterGateSearch}
 use Rattle.model.specs.Rooms.{search_room}
-use Rattle.tables.specs.declared.Refusal.{Refusal}
-use Rattle.tables.specs.Meaning.{answered}
-
--- the number that C is told
-abbrev pub code_of : Result (Unit {0}) Refusal → ℕ
-code_of result = code (answered (λ _. tt {0}) result)
 
 -- what a call returned, and what the slices lent to it hold then
 abbrev pub after_gate_search : ℕ → List ℕ → List ℕ → List ℕ → AfterGateSearch

@@ -4,7 +4,8 @@ ghost use Rattle.laws.specs.Lists.{overwrite};
 ghost use Rattle.model.specs.Refusal.{given};
 ghost use Rattle.model.specs.Boundary.{bytes_for, result_entries, answer_bytes};
 ghost use Rattle.model.specs.Rooms.{search_room};
-ghost use Rattle.gate_searching.specs.Delivery.{code_of, after_gate_search, delivered};
+ghost use Rattle.gate_searching.specs.Delivery.{after_gate_search, delivered};
+ghost use Rattle.store.specs.Codes.{code_of};
 
 use search::Found;
 use store::encoding::{store, store_entry};
@@ -31,6 +32,7 @@ fn store_found(found: Found, answer: &mut [u8])
 }
 
 // Stores what was found, and the first n entries of the tables that the search left, if there is room for all; else nothing is written.
+// The slices are parameters one by one, as the C interface lends them.
 pub fn deliver(
     found: Found,
     n: usize,

@@ -1,17 +1,19 @@
-// What only the planner's own crates call: the search, on bytes.
+// What only the planner's own crates call: the search, on bytes. The slices are parameters one by one, as the C interface lends them.
 ghost use Rattle.std.specs.Prelude.{◌≡◌};
 ghost use Rattle.model.specs.Refusal.{given};
 ghost use Rattle.model.specs.Boundary.{tables_in, gate_search_call};
 ghost use Rattle.tables.specs.Meaning.{lent};
-ghost use Rattle.gate_searching.specs.Delivery.{code_of, after_gate_search};
+ghost use Rattle.gate_searching.specs.Delivery.{after_gate_search};
+ghost use Rattle.store.specs.Codes.{code_of};
 
 use crate::answers::deliver;
 use load::decoding::load_plan;
 use search::search;
+use store::codes::code;
 use tables::{Plan, Refusal, Row, Size};
 
 // The call, on a plan that was read into tables.
-fn search_loaded(
+pub fn search_loaded(
     plan: &Plan,
     start: usize,
     commands: &mut [u8],
@@ -36,6 +38,8 @@ fn search_loaded(
 }
 
 // The call, on the plan that is lent.
+// It loads the plan itself, as `decide_lent` does: the tables are the call's own, and one function for both would take a closure over the
+// call's slices, of which no clause could say what they hold afterwards.
 fn search_lent(
     size: &[u8],
     rows: &[u8],
@@ -91,8 +95,5 @@ pub fn search_call(
     let answered = search_lent(
         size, rows, firsts, outcomes, start, commands, scratch, answer,
     );
-    match answered {
-        Ok(()) => 0,
-        Err(refusal) => u32::from(refusal),
-    }
+    code(answered)
 }

@@ -9,6 +9,7 @@ use tables::entries::HIGHEST;
 use tables::sound_plan::SoundPlan;
 
 // The least mark that tells of a fault.
+// A number: marks are entries of the table that deciding leaves (`mark_of` of decide).
 const FAULT: u16 = 2;
 
 // A sound plan and the tables that deciding left for it.
@@ -45,7 +46,11 @@ impl Decided<'_> {
             table: self.ranks,
             limit: HIGHEST,
         };
-        command_hit(&self.checked, &lost, span.first + span.practice)
+        command_hit(
+            &self.checked.outcome_lists(),
+            &lost,
+            span.first + span.practice,
+        )
     }
 
     fn list_state(&self, s: usize, text: &mut Text)

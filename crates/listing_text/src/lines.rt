@@ -34,7 +34,8 @@ impl Text {
         self.put_byte(END);
     }
 
-    // The line of state s, from its kind, deciding's entries for it, and the outcome that is named if it is a fault.
+    // The line of state s, from its kind, deciding's entries for it, and the outcome that is named if it is a fault. The numbers stay
+    // parameters: they are one line's, each of another table.
     pub fn put_state_line(
         &mut self,
         s: usize,

@@ -47,6 +47,7 @@ fn row_in(bytes: &[u8], s: usize) -> Row
 }
 
 // The first n rows, to the first n places of a table.
+// This and `load` stay two: an entry is one number of two bytes and a row three, and a trait over both would have these two impls alone.
 pub fn load_rows(bytes: &[u8], rows: &mut [Row], n: usize)
     requires { (n * row_bytes ≤ length bytes.now) × (n ≤ length rows.old) }
     ensures { rows_of rows.new

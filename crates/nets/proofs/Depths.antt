@@ -22,7 +22,7 @@ use Rattle.model.specs.File.{max_states}
 use Rattle.model.specs.Plan.{Plan, failing}
 use Rattle.model.specs.Verdict.{forced, layer, rank, lost}
 use Rattle.model.specs.Practice.{practice_hits, practice_fails}
-use Rattle.model.specs.Tables.{Tables}
+use Rattle.model.specs.Tables.{Tables, lists_in}
 use Rattle.model.specs.SoundTest.{sound}
 use Rattle.model.specs.Held.{plan_in}
 use Rattle.model.proofs.HeldPlan.{states_held}
@@ -36,7 +36,7 @@ use Rattle.tables.specs.Spans.{span_at, failing_span}
 use Rattle.tables.proofs.SoundPlans.{plan_ready}
 use Rattle.tables.proofs.SpanFacts.{span_failing}
 use Rattle.choice.specs.Within.{within}
-use Rattle.propagate.specs.Net.{Net, net_of, outcomes_of, losing, depth, seeds, Seeded}
+use Rattle.propagate.specs.Net.{Net, net_of, losing, depth, seeds, Seeded}
 use Rattle.nets.specs.Nets.{practice_place, seed_of, one_end}
 use Rattle.nets.specs.Found.{depth_table}
 use Rattle.nets.proofs.NetSteps.{losing_all, losing_practice}
@@ -64,7 +64,7 @@ module _ (p : SoundPlan) where
   n = p.plan.size.n
 
   abbrev net : List ℕ → List ℕ → Net
-  net = net_of n (outcomes_of p)
+  net = net_of n (lists_in T)
 
   few : n ≤ max_states
   few = (plan_ready p).few

@@ -6,11 +6,11 @@ use native.Mathlib.Omega.{arith}
 use lib.ListN.{length, get_or}
 use Rattle.laws.specs.Filled.{Filled}
 use Rattle.laws.proofs.Fills.{filled_over, filled_of}
-use Rattle.model.specs.Tables.{Lists}
+use Rattle.model.specs.Tables.{Lists, lists_in}
 use Rattle.tables.specs.declared.sound_plan.SoundPlan.{SoundPlan}
 use Rattle.tables.specs.Meaning.{lent}
 use Rattle.tables.specs.Spans.{span_at}
-use Rattle.propagate.specs.Net.{net_of, outcomes_of}
+use Rattle.propagate.specs.Net.{net_of}
 use Rattle.nets.specs.Nets.{seed_of, Initialized}
 use Rattle.nets.specs.Found.{depth_table, copied, PracticeFound, Found}
 use Rattle.nets.proofs.Depths.{filled_past, depths_filled, ranks_found, fails_found}
@@ -20,7 +20,7 @@ module _ (p : SoundPlan) where
   n = p.plan.size.n
 
   abbrev C : Lists
-  C = outcomes_of p
+  C = lists_in (lent p.plan)
 
   pub found : {rs ts ms ss ws r w t m r' t' m' s' : List ℕ} → n ≤ length rs → n ≤ length ms
       → Initialized (lent p.plan) n rs ws ts ms r w t m → r' ≡ depth_table (net_of n C w t) r → PracticeFound n C r t m t' m'

@@ -17,7 +17,7 @@ use Rattle.laws.proofs.Tests.{same_test, true_or_false}
 use Rattle.model.specs.Plan.{Plan, active, has_practice}
 use Rattle.model.specs.Verdict.{hits, forced}
 use Rattle.model.specs.Practice.{practice_hits}
-use Rattle.model.specs.Tables.{Tables}
+use Rattle.model.specs.Tables.{Tables, lists_in}
 use Rattle.model.specs.Places.{row_at, first_command, command_count}
 use Rattle.model.specs.Held.{plan_in}
 use Rattle.model.proofs.StateKinds.{active_is, command_active}
@@ -27,7 +27,7 @@ use Rattle.model.proofs.Valid.{sound_valid}
 use Rattle.tables.specs.declared.sound_plan.SoundPlan.{SoundPlan}
 use Rattle.tables.specs.Meaning.{lent}
 use Rattle.tables.specs.Spans.{span_at}
-use Rattle.propagate.specs.Net.{Net, net_of, outcomes_of, from, to, losing}
+use Rattle.propagate.specs.Net.{Net, net_of, from, to, losing}
 use Rattle.choice.specs.Within.{command_hits}
 use Rattle.nets.specs.Nets.{practised, practice_place, one_end}
 use Rattle.nets.proofs.Keeping.{end_one, end_none}
@@ -48,19 +48,19 @@ module _ (p : SoundPlan) (watch ends : List ℕ) (A B : ℕ → Bool) (same : Ag
   T = lent p.plan
 
   abbrev N : Net
-  N = net_of p.plan.size.n (outcomes_of p) watch ends
+  N = net_of p.plan.size.n (lists_in T) watch ends
 
   abbrev P : Plan
   P = plan_in T
 
   -- an outcome in A at a place is an outcome in B of the command
-  hit_is : (c : ℕ) → c < P.commands s → command_hits (outcomes_of p) A (first_command T s + c) ≡ hits P B s c
+  hit_is : (c : ℕ) → c < P.commands s → command_hits (lists_in T) A (first_command T s + c) ≡ hits P B s c
   hit_is c m = hits_place p A s c l m ∙ hits_agree T p.sounds A B same s l c m
 
   -- of a net whose range at s is known
   losing_words : (a b : ℕ) → get_or watch s 0 ≡ a → get_or ends s 0 ≡ b
       → losing N A s
-      ≡ (ltb a b && every (λ i. command_hits (outcomes_of p) A (a + i)) (b - a))
+      ≡ (ltb a b && every (λ i. command_hits (lists_in T) A (a + i)) (b - a))
   unfolding losing from to
   losing_words a b e f = rw (e, f)
 

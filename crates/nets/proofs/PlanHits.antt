@@ -16,7 +16,7 @@ use Rattle.model.specs.Command.{choice}
 use Rattle.model.specs.Places.{first_command}
 use Rattle.model.specs.SoundTest.{sound}
 use Rattle.model.specs.Held.{plan_in}
-use Rattle.model.specs.Tables.{Tables}
+use Rattle.model.specs.Tables.{Tables, lists_in}
 use Rattle.model.proofs.Choices.{choice_some, choice_same}
 use Rattle.model.proofs.PracticeHits.{practice_hits_words}
 use Rattle.model.proofs.HeldPlan.{states_held, commands_held}
@@ -26,7 +26,6 @@ use Rattle.choice.proofs.Outcomes.{command_hits_any}
 use Rattle.tables.specs.declared.sound_plan.SoundPlan.{SoundPlan}
 use Rattle.tables.specs.Meaning.{lent}
 use Rattle.choice.specs.Within.{command_hits}
-use Rattle.propagate.specs.Net.{outcomes_of}
 
 module _ (T : Tables) (sounds : sound T ≡ true) (A B : ℕ → Bool) (same : Agree T.size.n A B) (s : ℕ) (l : s < T.size.n) where
   -- outcomes are states
@@ -48,7 +47,7 @@ module _ (T : Tables) (sounds : sound T ≡ true) (A B : ℕ → Bool) (same : A
 
 -- a state's command, by its place
 pub hits_place : (p : SoundPlan) (A : ℕ → Bool) (s c : ℕ) → s < p.plan.size.n → c < (plan_in (lent p.plan)).commands s
-    → command_hits (outcomes_of p) A (first_command (lent p.plan) s + c) ≡ hits (plan_in (lent p.plan)) A s c
+    → command_hits (lists_in (lent p.plan)) A (first_command (lent p.plan) s + c) ≡ hits (plan_in (lent p.plan)) A s c
 hits_place p A s c l m =
     let T = lent p.plan in
-    command_hits_any (outcomes_of p) A _ ∙ sym (hits_held T A s l c (rw (commands_held T s l) at m))
+    command_hits_any (lists_in T) A _ ∙ sym (hits_held T A s l c (rw (commands_held T s l) at m))

@@ -12,6 +12,7 @@ use tables::sound_plan::SoundPlan;
 use tables::spans::{Span, is_failing};
 
 // Where the practice stands among all commands, or where the state's commands end.
+// Not an Option: it is stored, and where the commands end the range from it is empty.
 fn practice_place(span: Span) -> usize
     requires { (span.first ≤ span.end) × (span.end ≤ max_commands) }
     ensures { result ≡ practice_place span }

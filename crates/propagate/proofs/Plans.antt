@@ -1,4 +1,4 @@
--- What an indexed plan carries. The fact is kept as a mere one; what is asked of the index is found again, the place of a command by looking
+-- What indexed lists carry. The fact is kept as a mere one; what is asked of the index is found again, the place of a command by looking
 -- for it.
 use mathlib.Core.Bool.{Bool-set}
 use mathlib.Core.List.{List}
@@ -8,10 +8,10 @@ use Prim.Native.Nat.{ℕ, suc}
 use Rattle.laws.specs.Starts.{start_of}
 use Rattle.model.specs.Tables.{Lists}
 use Rattle.tables.specs.Ready.{Ready}
-use Rattle.tables.proofs.SoundPlans.{plan_ready}
-use Rattle.propagate.specs.declared.indexed.IndexedPlan.{IndexedPlan}
-use Rattle.propagate.specs.declared.indexed.RangedPlan.{RangedPlan}
-use Rattle.propagate.specs.Net.{outcomes_of, Indexed}
+use Rattle.tables.specs.Listed.{lists_of}
+use Rattle.propagate.specs.declared.indexed.IndexedLists.{IndexedLists}
+use Rattle.propagate.specs.declared.indexed.RangedLists.{RangedLists}
+use Rattle.propagate.specs.Net.{Indexed}
 use Rattle.propagate.specs.Plans.{states_of}
 use Rattle.propagate.proofs.Waits.{wait_at, wait_of}
 
@@ -32,8 +32,8 @@ module _ {n : ℕ} {C : Lists} {offsets users owner : List ℕ} (t : ∥ Indexed
     inside = λ c h. ∥∥₁_elim t le_prop (λ i. i.inside c h);
   }
 
-pub plan_indexed : (p : IndexedPlan) → Indexed p.checked.plan.size.n (outcomes_of p.checked) p.offsets.now p.users.now p.owner.now
-plan_indexed p = found p.indexed
+pub lists_indexed : (p : IndexedLists) → Indexed p.lists.n (lists_of p.lists) p.offsets.now p.users.now p.owner.now
+lists_indexed p = found p.indexed
 
-pub ranged_ready : (p : RangedPlan) → Ready (states_of p) (outcomes_of p.indexed.checked)
-ranged_ready p = plan_ready p.indexed.checked
+pub ranged_ready : (p : RangedLists) → Ready (states_of p) (lists_of p.indexed.lists)
+ranged_ready p = p.indexed.lists.ready

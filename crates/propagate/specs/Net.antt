@@ -4,9 +4,7 @@ use Rattle.std.specs.Prelude.{◌≡◌, Bool, ◌&&◌, List, ◌⊎◌, ℕ, s
 use Rattle.std.proofs.Math.Option.{Option}
 use Rattle.laws.specs.Entry.{FFFF}
 use Rattle.laws.specs.Sets.{every, lowest, grow}
-use Rattle.model.specs.Tables.{Lists, lists_in}
-use Rattle.tables.specs.declared.sound_plan.SoundPlan.{SoundPlan}
-use Rattle.tables.specs.Meaning.{lent}
+use Rattle.model.specs.Tables.{Lists}
 use Rattle.choice.specs.Within.{command_hits}
 use Rattle.index.specs.Grouping.{Grouped}
 
@@ -19,10 +17,6 @@ pub record Net : Type 0 where
 
 abbrev pub net_of : ℕ → Lists → List ℕ → List ℕ → Net
 net_of n C froms tos = record { states = n; commands = C; froms = froms; tos = tos }
-
--- the outcomes of a plan's commands
-abbrev pub outcomes_of : SoundPlan → Lists
-outcomes_of p = lists_in (lent p.plan)
 
 unfoldable pub from : Net → ℕ → ℕ
 from N s = get_or N.froms s 0

@@ -11,13 +11,13 @@ ghost use Rattle.propagate.specs.Net.{depth, seeds, Seeded, Owns};
 ghost use Rattle.propagate.specs.Progress.{progress, Room, QueueBound, Among, SeedsQueued};
 ghost use Rattle.propagate.specs.Plans.{states_of, entries_of, net_from, Moves, LayerAdded};
 
-use crate::indexed::RangedPlan;
+use crate::indexed::RangedLists;
 use choice::choosing::first_clear;
 use choice::state_set::StateSet;
 use tables::entries::{NONE, at, put};
 
 // Whether the state s has no rank and watches the command c, which counts.
-fn watches(ranged: &RangedPlan, ranks: &[u16], watch: &[u16], s: usize, c: usize) -> bool
+fn watches(ranged: &RangedLists, ranks: &[u16], watch: &[u16], s: usize, c: usize) -> bool
     requires { (s < states_of ranged.now) × (s < length ranks.now) × (s < length watch.now) }
     ensures { (result ≡ true) ↔ ((get_or ranks.now s 0 ≡ FFFF) × (get_or watch.now s 0 ≡ c) × (c < get_or ranged.now.tos.now s 0)) }
 {
@@ -27,7 +27,7 @@ fn watches(ranged: &RangedPlan, ranks: &[u16], watch: &[u16], s: usize, c: usize
 // The command c, which may have an outcome of rank k, is looked at: if its state watches it, the state goes on to the next command
 // that has no outcome of a rank of at most k; if there is none, the state has rank k + 1 and waits at the end of the queue.
 fn visit(
-    ranged: &RangedPlan,
+    ranged: &RangedLists,
     ranks: &mut [u16],
     watch: &mut [u16],
     queue: &mut [u16],
@@ -35,7 +35,7 @@ fn visit(
     end: usize,
     k: usize,
 ) -> usize
-    requires c_in_bounds { (c < ranged.now.indexed.checked.plan.size.m) × (k < max_states) }
+    requires c_in_bounds { (c < ranged.now.indexed.lists.table.count) × (k < max_states) }
     requires room { Room (states_of ranged.now) ranks.old watch.old queue.old }
     requires queue_bound { QueueBound (states_of ranged.now) (progress ranks.old watch.old queue.old end) }
     ensures { Moves ranged.now k (λ (d : ℕ). d ≡ c) (progress ranks.old watch.old queue.old end)
@@ -50,7 +50,7 @@ fn visit(
         table: ranks,
         limit: k,
     };
-    let next = first_clear(&ranged.indexed.checked, &lost, c, to);
+    let next = first_clear(&ranged.indexed.lists, &lost, c, to);
     put(watch, s, next);
     if next < to {
         return end;
@@ -62,7 +62,7 @@ fn visit(
 
 // All commands that have the outcome o, of rank k, are looked at.
 fn spread(
-    ranged: &RangedPlan,
+    ranged: &RangedLists,
     ranks: &mut [u16],
     watch: &mut [u16],
     queue: &mut [u16],
@@ -87,7 +87,7 @@ fn spread(
 
 // Layer k + 1 from the states of rank k, which wait in the queue from lo on, below hi. The answer is where the queue ends then.
 fn add_layer(
-    ranged: &RangedPlan,
+    ranged: &RangedLists,
     ranks: &mut [u16],
     watch: &mut [u16],
     queue: &mut [u16],
@@ -136,7 +136,7 @@ fn enqueue_seeds(n: usize, ranks: &[u16], queue: &mut [u16]) -> usize
 
 // The ranks of all states from those of rank 0, layer by layer, until one adds no state. The first commands of the ranges come in
 // the table of watched commands.
-pub fn propagate(ranged: &RangedPlan, ranks: &mut [u16], watch: &mut [u16], queue: &mut [u16])
+pub fn propagate(ranged: &RangedLists, ranks: &mut [u16], watch: &mut [u16], queue: &mut [u16])
     requires owns { Owns (net_from ranged.now watch.old) ranged.now.indexed.owner.now }
     requires n_in_bounds { Room (states_of ranged.now) ranks.old watch.old queue.old × Seeded (states_of ranged.now) ranks.old }
     ensures { ranks.new
@@ -147,7 +147,7 @@ pub fn propagate(ranged: &RangedPlan, ranks: &mut [u16], watch: &mut [u16], queu
     // load the slices' addresses again, and deciding takes up to a tenth longer.
     let own = *ranged;
     let mut lo = 0;
-    let mut hi = enqueue_seeds(own.indexed.checked.plan.size.n, ranks, queue);
+    let mut hi = enqueue_seeds(own.indexed.lists.n, ranks, queue);
     let mut k = 0;
     // A while: both bounds move with each layer.
     while lo < hi {

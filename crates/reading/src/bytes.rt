@@ -23,6 +23,8 @@ impl Mark {
     }
 }
 
+// File and place stay two parameters: a field answers the mark alone (decisions 29 and 40), so a value of both would be made, and shown to
+// fit, anew at every field.
 pub fn remaining(file: &[u8], at: usize) -> usize
     requires { at ≤ length file.now }
     ensures { result ≡ length (drop at file.now) }

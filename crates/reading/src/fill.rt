@@ -15,6 +15,7 @@ use tables::rows::put_row;
 
 // Commands and outcomes in one loop, `left` outcomes of a command being still to come: so the next place does not wait for a length that
 // was read.
+// The new form is no plainer: two loops, one in the other, would have two ends to prove.
 fn fill_commands(
     file: &[u8],
     count: usize,
@@ -53,6 +54,7 @@ fn fill_commands(
 }
 
 // The row of the state at a mark.
+// The cast loses nothing, which is proved; `try_from` and `unwrap` would say the same in more words.
 fn row_in(file: &[u8], k: Mark) -> Row
     requires { (7 < length (bytes_from file.now k)) × (k.m < 65536) }
     ensures { row_of result ≡ row_with k.m (state_values (bytes_from file.now k)) }

@@ -26,6 +26,7 @@ pub struct Found {
 // Refused with 10, then 11, then 9, before a table is written. Free is the order in which a round walks, and what commands and scratch hold
 // during the call: when it is over neither the answer nor a table shows it. Ruled out: a start called safe before all that its commands
 // lead to is walked, and a count of rounds that were not walked.
+// The tables that are written stay parameters of their own, and each is asked to be long enough (decision 69).
 pub fn search(
     plan: &Plan,
     start: usize,

@@ -49,9 +49,10 @@ pub fn walk_rounds(
     }
     let mut queue = [0u16; Size::STATES];
     let mut tried = [0u16; Size::STATES];
-    let mut q = reach(checked, scratch, &mut queue, 0, start, 2);
+    let mut q = reach(n, scratch, &mut queue, 0, start, 2);
     let mut h = 0;
     let mut rounds = 0;
+    // No `for`: only a round itself says that it is the last.
     loop {
         let walked = walk(checked, commands, scratch, &mut queue, &mut tried, h, q);
         rounds += 1;

@@ -75,7 +75,7 @@ fn take(
         table: scratch,
         limit: 0,
     };
-    let place = choose_from(checked, span, &known, from);
+    let place = choose_from(&checked.outcome_lists(), span, &known, from);
     put(tried, s, place);
     tried_at(span, place)
 }
@@ -112,7 +112,17 @@ fn expand(
     let g = span.first + c;
     let from = checked.first_outcome(g);
     let end = checked.first_outcome(g + 1);
-    spread(checked, scratch, queue, q, from, end, mark)
+    let plan = &checked.plan;
+    spread(
+        plan.size.n,
+        plan.outcomes,
+        scratch,
+        queue,
+        q,
+        from,
+        end,
+        mark,
+    )
 }
 
 // Walks on from place `from` of the queue, where `reached` states are reached. Whatever start and known set it is a walk of, of those it is

@@ -41,6 +41,7 @@ fn store_row(row: Row, bytes: &mut [u8], s: usize)
 }
 
 // Stores the first n rows of a table.
+// This and `store` stay two: an entry is one number of two bytes and a row three, and a trait over both would have these two impls alone.
 pub fn store_rows(rows: &[Row], bytes: &mut [u8], n: usize)
     requires { (n ≤ length rows.now) × (n * row_bytes ≤ length bytes.old) }
     ensures { bytes.new ≡ overwrite (bytes_for (row_entries (take n (rows_of rows.now)))) bytes.old }
@@ -51,6 +52,7 @@ pub fn store_rows(rows: &[Row], bytes: &mut [u8], n: usize)
 }
 
 // Stores a size record: n, m, t, start.
+// These casts lose nothing, which is proved; `try_from` and `unwrap` would say the same in more words.
 pub fn store_size(size: Size, bytes: &mut [u8])
     requires { (size_bytes ≤ length bytes.old) × (size.n < 65536) × (size.m < 65536) × (size.t < 65536) × (size.start < 65536) }
     ensures { bytes.new ≡ overwrite (bytes_for (size_entries (numbers size))) bytes.old }

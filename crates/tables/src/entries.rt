@@ -5,7 +5,7 @@ ghost use Rattle.laws.specs.Starts.{start_of};
 ghost use Rattle.laws.specs.Entry.{entry};
 ghost use Rattle.tables.specs.Meaning.{option_of};
 
-// The entry for none, hexadecimal FFFF.
+// The entry for none, hexadecimal FFFF. A test for none compares the entry with it: an Option made first would be tested in the same way.
 pub const NONE: usize = 65535;
 
 // The highest number that an entry holds beside it. A set that a table holds up to this limit is of the states that have a number.
@@ -23,6 +23,8 @@ pub fn at(table: &[u16], i: usize) -> usize
 }
 
 // Stores x at place i.
+// A cast that a proof shows to lose nothing stays `as`, here and elsewhere: `try_from` and `unwrap` would say the same in more words.
+// A table that is written is a parameter of its own, here and in the crates above (decision 69).
 pub fn put(table: &mut [u16], i: usize, x: usize)
     requires { (i < length table.old) × (x < 65536) }
     ensures { table.new ≡ set table.old i x }

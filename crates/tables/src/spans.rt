@@ -11,8 +11,11 @@ use crate::rows::row_at;
 use crate::{Row, Size};
 
 // A state's kind and practice, and where its commands begin and end.
+// That `first` is at most `end` is no part of the type: the soundness test makes spans of rows that break it, and a second type would double
+// the functions on spans.
 #[derive(Clone, Copy)]
 pub struct Span {
+    // A number and no enum, here and elsewhere, and `practice` a number and no Option: before the soundness test a lent row may have any, and the definitions (`failing_at`, `Sound`) go by it.
     pub kind: usize,
     pub first: usize,
     pub end: usize,
@@ -42,6 +45,7 @@ fn span_of(row: Row, end: usize) -> Span
 }
 
 // The commands of state s end where those of the next state begin, and the last ones at m.
+// Size and rows, and no `Plan`: its clause promises the span whatever first outcomes and outcomes there are.
 pub fn span_at(size: Size, rows: &[Row], s: usize) -> Span
     requires { (s < size.n) × (size.n ≤ length rows.now) }
     ensures { (F O : List ℕ) → result ≡ span_at (held size rows.now F O) s }

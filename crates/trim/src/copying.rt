@@ -16,6 +16,7 @@ use tables::entries::put;
 use tables::rows::{put_row, row_at};
 
 // The row of a state, before which m commands are kept.
+// The cast loses nothing, which is proved; `try_from` and `unwrap` would say the same in more words.
 fn row_after(row: Row, m: usize) -> Row
     requires { m < 65536 }
     ensures { result ≡ row_after row m }
@@ -27,6 +28,7 @@ fn row_after(row: Row, m: usize) -> Row
 }
 
 // The first outcomes of the stretch's commands, to the places from m on: their outcomes begin at t now.
+// One table is lent and not the plan, here and below: nothing else of it is read.
 fn copy_firsts(firsts: &[u16], stretch: Stretch, firsts2: &mut [u16], m: usize, t: usize) -> usize
     requires first_le_end { (stretch.first ≤ stretch.end) × (stretch.end ≤ length firsts.now)
         × (m + (stretch.end - stretch.first) ≤ length firsts2.old) }

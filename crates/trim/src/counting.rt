@@ -1,5 +1,6 @@
 // The trimmed plan's size record, and whether there is room for it.
-ghost use Rattle.std.specs.Prelude.{◌≡◌, ℕ, ◌<◌, length, get_or};
+ghost use Rattle.std.specs.Prelude.{◌≡◌, not, ℕ, ◌<◌, eqb, length, get_or};
+ghost use Rattle.laws.specs.First.{FirstNot};
 ghost use Rattle.model.specs.Held.{tree_of};
 ghost use Rattle.model.specs.Trim.{trimmed, trim_room};
 ghost use Rattle.tables.specs.Meaning.{lent, numbers};
@@ -9,9 +10,10 @@ use crate::stretches::stretch_at;
 use tables::Size;
 use tables::lengths::long_enough;
 
-// A place of x, which has one.
+// The first place of x, which has one.
 fn place_of(kept: &[u16], x: usize) -> usize
     requires { (k : ℕ) × (k < length kept.now) × (get_or kept.now k 0 ≡ x) }
+    ensures first_not { FirstNot (λ i. not (eqb (get_or kept.now i 0) x)) 0 (length kept.now) result }
     ensures upper_bound { result < length kept.now }
     ensures holds { get_or kept.now result 0 ≡ x }
 {

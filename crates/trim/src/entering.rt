@@ -17,6 +17,7 @@ use tables::sound_plan::SoundPlan;
 use walks::queue::{UNREACHED, reach, spread};
 
 // The one mark of all states that are reached: from where they were does not matter here.
+// A number and no enum: flags are entries of the table that `walks` is lent, which is the caller's scratch in the search.
 const REACHED: usize = 2;
 
 // Walks from the start, on from each state to the outcomes of all its commands.
@@ -25,17 +26,28 @@ pub fn enter_all(checked: &SoundPlan, flags: &mut [u16], queue: &mut [u16])
         × ((x : ℕ) → x < checked.now.plan.size.n → get_or flags.old x 0 ≡ 1) }
     ensures { (s : ℕ) → s < checked.now.plan.size.n → walked_in flags.new s ≡ entered (plan_in (lent checked.now.plan)) s }
 {
-    let mut q = reach(checked, flags, queue, 0, checked.plan.size.start, REACHED);
+    let plan = &checked.plan;
+    let mut q = reach(plan.size.n, flags, queue, 0, plan.size.start, REACHED);
     let mut h = 0;
     // The queue grows while it is gone through.
     while h < q {
         let stretch = stretch_at(checked, at(queue, h));
-        q = spread(checked, flags, queue, q, stretch.from, stretch.to, REACHED);
+        q = spread(
+            plan.size.n,
+            plan.outcomes,
+            flags,
+            queue,
+            q,
+            stretch.from,
+            stretch.to,
+            REACHED,
+        );
         h += 1;
     }
 }
 
 // Lists the reached states by their numbers; answers how many there are.
+// It stays apart from `enqueue_seeds` of propagate: one function would take a closure, and its contract the test, for a loop of a few lines.
 fn list(n: usize, flags: &[u16], kept: &mut [u16]) -> usize
     requires { (n ≤ max_states) × (n ≤ length flags.now) × (n ≤ length kept.old) }
     ensures value { result ≡ how_many (walked_in flags.now) n }
@@ -43,7 +55,8 @@ fn list(n: usize, flags: &[u16], kept: &mut [u16]) -> usize
 {
     let mut i = 0;
     for s in 0..n {
-        if REACHED <= at(flags, s) {
+        let reached = REACHED <= at(flags, s);
+        if reached {
             put(kept, i, s);
             i += 1;
         }

@@ -22,6 +22,7 @@ fn rank_time(rank: usize, seconds: usize) -> Time
     ensures { meant result ≡ time_of (rank * seconds) }
 {
     let all = rank * seconds;
+    // These casts lose nothing, which is proved; `try_from` and `unwrap` would say the same in more words.
     Time {
         minutes: (all / MINUTE) as u16,
         seconds: (all % MINUTE) as u16,

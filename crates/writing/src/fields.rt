@@ -1,4 +1,4 @@
-// The fields of a plan file.
+// The fields of a plan file. The casts in it lose nothing, which is proved; `try_from` and `unwrap` would say the same in more words.
 ghost use Rattle.std.specs.Prelude.{[], ◌∷◌, ◌<◌, ◌≤◌, length};
 ghost use Rattle.laws.specs.Entry.{two};
 ghost use Rattle.model.specs.File.{head_tag, end_tag};

@@ -11,7 +11,7 @@ use Rattle.contest.proofs.LaidPlans.{laid_commands}
 use Rattle.contest.proofs.Memos.{told_turn, remembers_all}
 use Rattle.contest.proofs.Trying.{trying_start, trying_next, trying_found, trying_done}
 use Rattle.contest.proofs.Answering.{answering_start, answering_next, answering_found, answering_done}
-use Rattle.contest.proofs.turns.+keeper_turn_works_turn.Goals.{works_turn-Joined-memo-memo_place, works_turn-in-Held, works_turn-in-NotHeld, works_turn-in-Unknown}
+use Rattle.contest.proofs.turns.+keeper_turn_works_turn.Goals.{works_turn-Joined-memo-memo_place, works_turn-in-Some, works_turn-in-None}
 use Rattle.contest.proofs.turns.+keeper_turn_works_turn.Goals as goal
 
 pub keeper_turn-overflow_sub-c-end : goal.keeper_turn-overflow_sub-c-end
@@ -48,11 +48,11 @@ turn_at : (t : ℕ) (c : works_turn-Joined-memo-memo_place t) → let P = laid_a
 turn_at t c =
     let w = c.loop-i.invariant in
     let inside : c.at-next.result < c.args.laid.now.checked.plan.size.n = omega (arith, w.states c.loop-i.i c.loop-i-test.true) in
-    let told = told_turn w.remembers.told _ _ inside w.few in
     elim c.match-memo-memo_place.branch [
-      | works_turn-in-Held b ↦ rw (b.memo-is, b.held-is) (told true _ c.memo_place.ensures b.in-Held.is, remembers_all w.remembers.told)
-      | works_turn-in-NotHeld b ↦ rw (b.memo-is, b.held-is) (told false _ c.memo_place.ensures b.in-NotHeld.is, remembers_all w.remembers.told)
-      | works_turn-in-Unknown b ↦ rw (b.memo-is, b.held-is) (b.keeper_turn-held.ensures.turn, b.keeper_turn-held.ensures.remembers)
+      | works_turn-in-Some b ↦
+          rw (b.memo-is, b.held-is)
+          (told_turn w.remembers.told _ _ inside w.few _ _ c.memo_place.ensures b.in-Some.is, remembers_all w.remembers.told)
+      | works_turn-in-None b ↦ rw (b.memo-is, b.held-is) (b.keeper_turn-held.ensures.turn, b.keeper_turn-held.ensures.remembers)
     ]
 
 pub works_turn-returns-then-not-held : goal.works_turn-returns-then-not-held

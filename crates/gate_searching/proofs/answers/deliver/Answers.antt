@@ -1,10 +1,12 @@
 -- A lack of room leaves the slices as they were; else each slice begins with what the search left.
 use mathlib.Core.Path.{sym, ◌∙◌}
 use lib.ListN.{length}
+use Rattle.model.specs.Boundary.{code}
 use Rattle.gate_searching.proofs.Delivering.{cramped, fits, room_facts, refused_after, given_after}
 use Rattle.gate_searching.proofs.answers.deliver.Goals as goal
 
 pub returns-then-not-room : goal.returns-then-not-room
+unfolding code
 returns-then-not-room c = record {
   call = refused_after _ _ _ _ _ _ _ (cramped _ _ _ _ _ (sym c.room.ensures.tested ∙ c.if-not-room.true));
 }
@@ -25,6 +27,7 @@ store_found-requires c = record {
 }
 
 pub returns : goal.returns
+unfolding code
 returns c = record {
   call = given_after _ _ _ _ _ _ _ (fits _ _ _ _ _ (sym c.room.ensures.tested ∙ c.if-not-room.false)) c.store.ensures c.store-2.ensures
       c.store_found.ensures.stored;

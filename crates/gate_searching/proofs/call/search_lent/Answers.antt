@@ -4,11 +4,13 @@ use lib.ListN.{length}
 use Rattle.std.proofs.Common.{rules}
 use Rattle.std.specs.Prelude.{Err}
 use Rattle.load.proofs.Lending.{call_refused, call_given}
+use Rattle.model.specs.Boundary.{code}
 use Rattle.gate_searching.proofs.Delivering.{refused_after}
 use Rattle.gate_searching.proofs.LentSearch.{search_call_lem, search_moved}
 use Rattle.gate_searching.proofs.call.search_lent.Goals as goal
 
 pub returns-in_err-read : goal.returns-in_err-read
+unfolding code
 returns-in_err-read c =
     let a = c.args in
     let is : c.from_residual.result ≡ Err c.in_err-read.field-0.0 = search rules in

@@ -3,11 +3,13 @@ use mathlib.Core.Path.{◌≡◌, refl, ◌∙◌}
 use Rattle.std.proofs.Common.{rules}
 use Rattle.std.specs.Prelude.{Ok, Err}
 use Rattle.tables.specs.Meaning.{lent}
+use Rattle.model.specs.Boundary.{code}
 use Rattle.gate_searching.proofs.Delivering.{not_found, refused_after}
 use Rattle.gate_searching.proofs.Searched.{deliverable, search_delivered}
 use Rattle.gate_searching.proofs.call.search_loaded.Goals as goal
 
 pub returns-in_err-found : goal.returns-in_err-found
+unfolding code
 returns-in_err-found c =
     let a = c.args in
     let is : c.from_residual.result ≡ Err c.in_err-found.field-0.0 = search rules in
@@ -24,6 +26,7 @@ deliver-requires c = record {
 }
 
 pub returns : goal.returns
+unfolding code
 returns c = record {
   call = let a = c.args in
       c.deliver.ensures.call

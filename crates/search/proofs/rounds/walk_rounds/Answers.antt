@@ -29,6 +29,7 @@ reach-q-requires c =
       queued = queued_none _ (first_low _ p.sounds _ c.requires.0 c.fill.ensures c.start_known.ensures);
       x_lt_n = (
         c.requires.0,
+        (plan_ready p).few,
         omega (arith, c.requires, c.start_known.auto),
         omega (arith, (plan_ready p).few),
         omega arith,

@@ -1,4 +1,5 @@
 -- What is chosen says whether a command is taken; if one is, its outcomes are the part of the table that is spread over.
+use Prim.Native.Nat.{◌≤◌}
 use native.Mathlib.Omega.{arith}
 use Rattle.tables.proofs.Readiness.{ready_order, ready_end}
 use Rattle.tables.proofs.SoundPlans.{plan_ready}
@@ -30,10 +31,22 @@ overflow_add-g-2 c =
 pub spread-requires-clause-from_le_end : goal.spread-requires-clause-from_le_end
 spread-requires-clause-from_le_end c =
     let p = c.args.checked.now in
-    let inside = expand_place _ p.sounds _ c.requires.s_in_bounds.0 _ _ c.take-taken.ensures.value _ c.in-Some.is _ c.span-span.ensures in (
-      rw (c.first_outcome-from.ensures, c.first_outcome-end.ensures) (ready_order (plan_ready p) _ _ (omega arith) (omega (arith, inside))),
-      rw c.first_outcome-end.ensures (ready_end (plan_ready p) _ (omega (arith, inside))),
+    let inside = expand_place _ p.sounds _ c.requires.s_in_bounds.0 _ _ c.take-taken.ensures.value _ c.in-Some.is _ c.span-span.ensures in
+    let r = plan_ready p in
+    let until : c.first_outcome-end.result ≤ p.plan.size.t = rw c.first_outcome-end.ensures (ready_end r _ (omega (arith, inside))) in (
+      rw (c.first_outcome-from.ensures, c.first_outcome-end.ensures) (ready_order r _ _ (omega arith) (omega (arith, inside))),
+      omega (arith, until, r.states.long),
+      λ j h. r.states.inside j (omega (arith, h, until)),
     )
+
+pub spread-requires-clause-n_le_max_states : goal.spread-requires-clause-n_le_max_states
+spread-requires-clause-n_le_max_states c = (
+  (plan_ready c.args.checked.now).few,
+  c.requires.n_in_bounds.1,
+  c.requires.n_in_bounds.2,
+  c.requires.s_in_bounds.2,
+  c.requires.s_in_bounds.3,
+)
 
 pub returns : goal.returns
 returns c = record {

@@ -6,6 +6,7 @@ use Rattle.model.proofs.SoundFacts.{sound_facts}
 use Rattle.model.proofs.HeldPlan.{tree_count}
 use Rattle.model.proofs.GoodTables.{sound_good}
 use Rattle.tables.specs.Meaning.{lent}
+use Rattle.tables.proofs.SoundPlans.{plan_ready}
 use Rattle.walks.proofs.Room.{queued_few}
 use Rattle.walks.proofs.WholeWalks.{fresh_queued, whole_start, whole_next}
 use Rattle.trim.proofs.Stretching.{InStretch, state_stretch}
@@ -25,7 +26,7 @@ reach-q-requires c =
     let size = ((sound_facts _).0 c.args.checked.now.sounds).size in
     record {
       queued = fresh_queued c.args.queue.now c.requires.2;
-      x_lt_n = (size.starts, c.requires.0, c.requires.1, omega arith, omega arith);
+      x_lt_n = (size.starts, size.few, c.requires.0, c.requires.1, omega arith, omega arith);
     }
 
 pub loop-h-init : goal.loop-h-init
@@ -44,7 +45,17 @@ at-requires c =
 pub spread-q-requires-clause-from_le_end : goal.spread-q-requires-clause-from_le_end
 spread-q-requires-clause-from_le_end c =
     let here = stretch_here (goal.at.spread-q-requires-clause-from_le_end c).After-stretch_at-stretch in
-    (here.order, here.within)
+    let states = (plan_ready c.args.checked.now).states in
+    (here.order, omega (arith, here.within, states.long), λ j h. states.inside j (omega (arith, h, here.within)))
+
+pub spread-q-requires-clause-n_le_max_states : goal.spread-q-requires-clause-n_le_max_states
+spread-q-requires-clause-n_le_max_states c = (
+  (plan_ready c.args.checked.now).few,
+  omega (arith, c.requires.0, c.loop-h.auto, c.reach-q.auto),
+  omega (arith, c.requires.1, c.loop-h.auto, c.reach-q.auto),
+  omega arith,
+  omega arith,
+)
 
 pub loop-h-smaller : goal.loop-h-smaller
 loop-h-smaller c = omega (arith, queued_few c.loop-h.invariant.queued)

@@ -3,7 +3,7 @@ use mathlib.Core.Path.{◌∙◌}
 use native.Mathlib.Omega.{arith}
 use Rattle.laws.proofs.Gathers.{gathers_start, gathers_room, gathers_next}
 use Rattle.walks.proofs.FlagValues.{value_walked, value_unwalked}
-use Rattle.trim.proofs.entering.list.Goals.{then-at-ge-REACHED, else-at-ge-REACHED}
+use Rattle.trim.proofs.entering.list.Goals.{then-reached, else-reached}
 use Rattle.trim.proofs.entering.list.Goals as goal
 
 pub loop-s-init : goal.loop-s-init
@@ -18,11 +18,11 @@ overflow_add-i c = omega (arith, c.requires, gathers_room c.loop-s.invariant)
 
 pub loop-s-preserved : goal.loop-s-preserved
 loop-s-preserved c =
-    elim c.if-at-ge-REACHED.branch [
-      | then-at-ge-REACHED w ↦
-          let e = value_walked c.args.flags.now c.loop-s.s (omega (arith, c.at.ensures, w.if-at-ge-REACHED.true)) in
+    elim c.if-reached.branch [
+      | then-reached w ↦
+          let e = value_walked c.args.flags.now c.loop-s.s (omega (arith, c.at-reached.ensures, w.if-reached.true)) in
           gathers_next c.loop-s.invariant c.loop-s-test.true (rw e w.i-is) (rw e (w.kept-is ∙ w.put.ensures))
-      | else-at-ge-REACHED w ↦
-          let e = value_unwalked c.args.flags.now c.loop-s.s (omega (arith, c.at.ensures, w.if-at-ge-REACHED.false)) in
+      | else-reached w ↦
+          let e = value_unwalked c.args.flags.now c.loop-s.s (omega (arith, c.at-reached.ensures, w.if-reached.false)) in
           gathers_next c.loop-s.invariant c.loop-s-test.true (rw e w.i-is) (rw e w.kept-is)
     ]

@@ -4,5 +4,5 @@ use Rattle.walks.proofs.queue.spread.Given as goal
 
 abbrev pub invariant-loop-i : goal.invariant-loop-i
 invariant-loop-i l =
-    Spreading l.checked.plan.size.n l.from l.end l.mark l.q l.checked.plan.outcomes.now l.initial.flags l.initial.queue l.i l.e l.flags
+    Spreading l.n l.from l.end l.mark l.q l.outcomes l.initial.flags l.initial.queue l.i l.e l.flags
     l.queue

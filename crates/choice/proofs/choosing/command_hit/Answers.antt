@@ -3,7 +3,7 @@ use mathlib.Core.Path.{sym, ◌∙◌}
 use native.Mathlib.Omega.{arith}
 use Rattle.choice.specs.Within.{members}
 use Rattle.choice.proofs.Outcomes.{scan_inside, scan_found, scan_missed}
-use Rattle.choice.proofs.choosing.list_hit.Goals as goal
+use Rattle.choice.proofs.choosing.command_hit.Goals as goal
 
 pub at-x-requires : goal.at-x-requires
 at-x-requires c =
