@@ -6,6 +6,6 @@ use Rattle.gate.proofs.gate_decide.Goals as goal
 pub returns-clause-demand3 : goal.returns-clause-demand3
 returns-clause-demand3 c =
     let a = c.args in
-    decides (tables_in a.size.now a.rows.now a.firsts.now a.outcomes.now) a.ranks.now a.commands.now a.marks.now
+    (decides (tables_in a.size.now a.rows.now a.firsts.now a.outcomes.now) a.ranks.now a.commands.now a.marks.now
     a.scratch.now a.tally.now
-    c.decide_call.ensures.call
+    c.decide_call.ensures.call).1

@@ -3,7 +3,7 @@ use Rattle.walks.proofs.Spreading.{spreading_start, spreading_done, spreading_ne
 use Rattle.walks.proofs.queue.spread.Goals as goal
 
 pub loop-i-init : goal.loop-i-init
-loop-i-init c = spreading_start _ c.requires.queued
+loop-i-init c = spreading_start _ c.requires.queued c.requires.from_le_end.0
 
 pub loop-i-preserved : goal.loop-i-preserved
 loop-i-preserved c =
@@ -11,4 +11,4 @@ loop-i-preserved c =
     _ _ _ c.reach-e.ensures
 
 pub returns : goal.returns
-returns c = spreading_done c.loop-i.invariant (c.loop-i.auto.i-end c.requires.from_le_end.0) c.loop-i-test.false
+returns c = spreading_done c.loop-i.invariant c.loop-i-test.false
