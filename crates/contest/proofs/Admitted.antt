@@ -41,7 +41,7 @@ module _ (p : SoundPlan) {seeds froms tos places : List ℕ}
   pub admitted_laid : Laid p.plan.size seeds froms tos p.plan.firsts.now p.plan.outcomes.now
   admitted_laid =
       let long : p.plan.size.n ≤ length empty = omega (arith, (plan_ready p).few, length-replicate {A = ℕ} max_states 0) in
-      laid p v long long long
+      laid _ _ _ _ p.sounds v long long long
 
   pub admitted_told : Told (laid_plan p.plan.size seeds froms tos p.plan.firsts.now p.plan.outcomes.now) p.plan.size.n no_turns
   admitted_told = none_told _ p.plan.size.n (9 * max_states) (omega (arith, (plan_ready p).few))

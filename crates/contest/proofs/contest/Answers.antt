@@ -28,7 +28,7 @@ keeper_turn-requires c =
 answers : (c : After-keeper_turn) → contest_call (lent c.args.plan.now) c.args.state c.args.moves ≡ given c.keeper_turn.result
 answers c =
     let p = c.in_ok-checked.checked in
-    let turn = laid_turn p c.initialize.ensures c.args.moves c.args.state (admitted_inside p _ _ c.in_ok-admit.ensures).0 in
+    let turn = laid_turn _ _ _ _ p.sounds c.initialize.ensures c.args.moves c.args.state (admitted_inside p _ _ c.in_ok-admit.ensures).0 in
     let told = c.in_ok-admit.ensures ∙ ap given (sym (c.keeper_turn.ensures.turn ∙ turn)) in
     rw c.in_ok-checked.ensures at told
 
