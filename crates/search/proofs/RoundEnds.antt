@@ -16,6 +16,7 @@ use Rattle.laws.proofs.Sets.{every_of}
 use Rattle.model.specs.Plan.{Plan, active}
 use Rattle.model.specs.Command.{choice}
 use Rattle.model.specs.Search.{marked, known, without_marks}
+use Rattle.model.specs.File.{max_states}
 use Rattle.model.specs.Tables.{Tables}
 use Rattle.model.specs.SoundTest.{sound}
 use Rattle.model.specs.Held.{plan_in}
@@ -25,12 +26,20 @@ use Rattle.model.proofs.Valid.{sound_valid}
 use Rattle.tables.specs.Spans.{span_at}
 use Rattle.choice.proofs.Taken.{few_commands}
 use Rattle.walks.specs.Flags.{walked_in}
+use Rattle.walks.proofs.Room.{queued_few}
 use Rattle.search.specs.declared.walk.Progress.{Progress}
 use Rattle.search.specs.Marks.{marked_at, none_left}
 use Rattle.search.specs.Walked.{Walked}
 use Rattle.search.proofs.ReadStates.{entry_none}
+use Rattle.search.proofs.WalkSteps.{flag_low}
 use Rattle.search.proofs.WalkEnds.{reached_is}
 use Rattle.search.proofs.Lowering.{marked_left}
+
+-- the flag of a state that was walked is an entry
+module _ (T : Tables) (few : T.size.n ≤ max_states) (a j : ℕ) {r : Progress} {cs s u : List ℕ}
+    (w : Walked (plan_in T) T.size.n (known (plan_in T) a j) a r cs s u) where
+  pub walked_flag : (i : ℕ) → i < r.reached → get_or s (get_or u i 0) 0 ≤ max_states + 2
+  walked_flag i k = omega (arith, flag_low w.done i k, queued_few w.done.queued, few)
 
 module _ (T : Tables) (sounds : sound T ≡ true) (a j : ℕ) {r : Progress} {cs s u : List ℕ}
     (w : Walked (plan_in T) T.size.n (known (plan_in T) a j) a r cs s u) where
