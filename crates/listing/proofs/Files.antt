@@ -5,9 +5,10 @@ use mathlib.Core.List.{List}
 use Prim.Native.Nat.{ℕ, ◌<◌, ◌≤◌}
 use native.Mathlib.Nat.{zero-add}
 use native.Mathlib.Omega.{arith}
-use lib.ListN.{length, replicate, length-map, length-replicate}
+use lib.ListN.{length, take, replicate, length-map, length-replicate}
 use borrow.Author.Tests.{lt-ltb, le-ltb}
 use Rattle.std.specs.Prelude.{Result, Ok, Err}
+use Rattle.laws.proofs.Lists.{take_overwrite}
 use Rattle.laws.proofs.Writes.{put_front}
 use Rattle.model.specs.Refusal.{Limit}
 use Rattle.model.specs.File.{read}
@@ -73,3 +74,7 @@ module _ (input : List ℕ) where
   -- it is no longer than the bytes that hold it
   pub text_room : (r : Text) → r ≡ text_of (listing input) → r.length ≤ max_listing
   text_room r e = rw e (listing_length input)
+
+  -- and so many bytes begin it
+  pub text_fits : (r : Text) → r ≡ text_of (listing input) → length (take r.length r.bytes) ≡ r.length
+  text_fits r e = rw e (ap length (take_overwrite (listing input) (replicate max_listing 0)))
