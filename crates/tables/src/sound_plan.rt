@@ -1,15 +1,12 @@
 // The test for sound tables, and a plan that has passed it.
-ghost use Rattle.std.specs.Prelude.{◌≡◌, true, ◌↔◌, ◌<◌, false, MatchResult};
+ghost use Rattle.std.specs.Prelude.{◌≡◌, true, ◌↔◌, false, MatchResult};
 ghost use Rattle.tables.specs.Meaning.{lent};
 ghost use Rattle.tables.specs.declared.Refusal.TheVariants.{Unsound};
 ghost use Rattle.model.specs.Sound.{Sound};
 ghost use Rattle.model.specs.SoundTest.{sound};
-ghost use Rattle.model.specs.Places.{first_outcome};
-ghost use Rattle.tables.specs.Spans.{span_at};
 
-use crate::entries::start_of;
 use crate::list_table::ListTable;
-use crate::spans::{Span, span_at};
+use crate::spans::span_at;
 use crate::{Plan, Refusal, checks};
 
 // A plan that has passed the test. What is read of it is in range, so the functions that take one ask for nothing else.
@@ -56,23 +53,5 @@ impl<'a> Plan<'a> {
             return Err(Refusal::Unsound);
         }
         Ok(SoundPlan { plan: *self })
-    }
-}
-
-impl SoundPlan<'_> {
-    // What is read of state s at once.
-    pub fn span(&self, s: usize) -> Span
-        requires { s < self.now.plan.size.n }
-        ensures { result ≡ span_at (lent self.now.plan) s }
-    {
-        span_at(self.plan.size, self.plan.rows, s)
-    }
-
-    // Where the outcomes of command c begin; for c = m, where the last ones end.
-    pub fn first_outcome(&self, c: usize) -> usize
-        ensures { result ≡ first_outcome (lent self.now.plan) c }
-    {
-        let size = self.plan.size;
-        start_of(self.plan.firsts, size.m, size.t, c)
     }
 }

@@ -6,8 +6,9 @@ ghost use Rattle.tables.specs.declared.Row.{Row};
 ghost use Rattle.tables.specs.Meaning.{held};
 ghost use Rattle.tables.specs.Spans.{field_with, span_of, span_at, failing_span};
 
-use crate::entries::NONE;
+use crate::entries::{NONE, start_of};
 use crate::rows::row_at;
+use crate::sound_plan::SoundPlan;
 use crate::{Row, Size};
 
 // A state's kind and practice, and where its commands begin and end.
@@ -56,6 +57,29 @@ pub fn span_at(size: Size, rows: &[Row], s: usize) -> Span
     }
     let next = row_at(rows, s + 1);
     span_of(row, usize::from(next.first))
+}
+
+impl SoundPlan<'_> {
+    ghost use Rattle.std.specs.Prelude.{◌≡◌, ◌<◌};
+    ghost use Rattle.model.specs.Places.{first_outcome};
+    ghost use Rattle.tables.specs.Meaning.{lent};
+    ghost use Rattle.tables.specs.Spans.{span_at};
+
+    // What is read of state s at once.
+    pub fn span(&self, s: usize) -> Span
+        requires { s < self.now.plan.size.n }
+        ensures { result ≡ span_at (lent self.now.plan) s }
+    {
+        span_at(self.plan.size, self.plan.rows, s)
+    }
+
+    // Where the outcomes of command c begin; for c = m, where the last ones end.
+    pub fn first_outcome(&self, c: usize) -> usize
+        ensures { result ≡ first_outcome (lent self.now.plan) c }
+    {
+        let size = self.plan.size;
+        start_of(self.plan.firsts, size.m, size.t, c)
+    }
 }
 
 // Only a state of kind 0 has commands.
