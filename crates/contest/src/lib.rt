@@ -36,7 +36,14 @@ pub fn contest(plan: &Plan, state: usize, moves: usize) -> Result<bool, Refusal>
     let mut tos = [0u16; Size::STATES];
     let mut places = [0u16; Size::STATES];
     let mut memo = [None; memo::PLACES];
-    initialize(&checked, &mut seeds, &mut froms, &mut tos, &mut places);
+    initialize(
+        checked.plan.size,
+        checked.plan.rows,
+        &mut seeds,
+        &mut froms,
+        &mut tos,
+        &mut places,
+    );
     let laid = LaidPlan {
         checked,
         seeds: &seeds,

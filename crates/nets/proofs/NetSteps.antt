@@ -55,7 +55,7 @@ module _ (p : SoundPlan) (watch ends : List ℕ) (A B : ℕ → Bool) (same : Ag
 
   -- an outcome in A at a place is an outcome in B of the command
   hit_is : (c : ℕ) → c < P.commands s → command_hits (lists_in T) A (first_command T s + c) ≡ hits P B s c
-  hit_is c m = hits_place p A s c l m ∙ hits_agree T p.sounds A B same s l c m
+  hit_is c m = hits_place T A s c l m ∙ hits_agree T p.sounds A B same s l c m
 
   -- of a net whose range at s is known
   losing_words : (a b : ℕ) → get_or watch s 0 ≡ a → get_or ends s 0 ≡ b

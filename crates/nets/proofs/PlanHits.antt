@@ -23,8 +23,6 @@ use Rattle.model.proofs.HeldPlan.{states_held, commands_held}
 use Rattle.model.proofs.Valid.{sound_valid}
 use Rattle.choice.proofs.Choices.{hits_held}
 use Rattle.choice.proofs.Outcomes.{command_hits_any}
-use Rattle.tables.specs.declared.sound_plan.SoundPlan.{SoundPlan}
-use Rattle.tables.specs.Meaning.{lent}
 use Rattle.choice.specs.Within.{command_hits}
 
 module _ (T : Tables) (sounds : sound T ≡ true) (A B : ℕ → Bool) (same : Agree T.size.n A B) (s : ℕ) (l : s < T.size.n) where
@@ -46,8 +44,6 @@ module _ (T : Tables) (sounds : sound T ≡ true) (A B : ℕ → Bool) (same : A
       (true_or_false (ltb ((plan_in T).practice s) ((plan_in T).commands s))))
 
 -- a state's command, by its place
-pub hits_place : (p : SoundPlan) (A : ℕ → Bool) (s c : ℕ) → s < p.plan.size.n → c < (plan_in (lent p.plan)).commands s
-    → command_hits (lists_in (lent p.plan)) A (first_command (lent p.plan) s + c) ≡ hits (plan_in (lent p.plan)) A s c
-hits_place p A s c l m =
-    let T = lent p.plan in
-    command_hits_any (lists_in T) A _ ∙ sym (hits_held T A s l c (rw (commands_held T s l) at m))
+pub hits_place : (T : Tables) (A : ℕ → Bool) (s c : ℕ) → s < T.size.n → c < (plan_in T).commands s
+    → command_hits (lists_in T) A (first_command T s + c) ≡ hits (plan_in T) A s c
+hits_place T A s c l m = command_hits_any (lists_in T) A _ ∙ sym (hits_held T A s l c (rw (commands_held T s l) at m))

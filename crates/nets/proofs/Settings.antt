@@ -11,13 +11,14 @@ use Rattle.laws.specs.Filled.{Filled}
 use Rattle.laws.specs.Starts.{start_of, Parts}
 use Rattle.laws.proofs.Starts.{start_in_lem, start_out}
 use Rattle.model.specs.Tables.{Tables}
-use Rattle.model.specs.Places.{first_command}
+use Rattle.model.specs.Places.{row_at, first_command}
 use Rattle.model.proofs.SoundFacts.{Fits, sound_facts}
 use Rattle.tables.specs.declared.sound_plan.SoundPlan.{SoundPlan}
 use Rattle.tables.specs.Meaning.{lent}
 use Rattle.tables.specs.Spans.{span_at}
+use Rattle.tables.proofs.SoundPlans.{plan_ready, plan_rows}
 use Rattle.propagate.specs.Net.{Seeded}
-use Rattle.nets.specs.Nets.{Initialized}
+use Rattle.nets.specs.Nets.{Spans, Initialized}
 use Rattle.nets.specs.Found.{OwnRanges}
 use Rattle.nets.proofs.Initializing.{place_inside}
 use Rattle.nets.proofs.Depths.{sown_seeded}
@@ -43,6 +44,11 @@ module _ (p : SoundPlan) where
   -- the places of a state's commands are in range
   pub own_span : (s : ℕ) → s < n → ((span_at T s).first ≤ (span_at T s).end) × ((span_at T s).end ≤ m)
   own_span s l = let r = facts.rows s l in rw (add-one s) (r.rises, r.below)
+
+  -- whatever stands in the other tables, on which where commands begin does not depend
+  pub sound_spans : Spans p.plan.size p.plan.rows.now
+  unfolding first_command row_at
+  sound_spans = record { few = (plan_ready p).few; few_commands = (plan_ready p).few_commands; long = plan_rows p; inside = λ F O s l. own_span s l }
 
   module _ {r₀ w₀ e₀ m₀ r starts e places : List ℕ} (v : Initialized T n r₀ w₀ e₀ m₀ r starts e places) where
     -- the layout of all commands, by which the index is made

@@ -1,9 +1,13 @@
 -- Where the propagations start: which states are in layer 0, and which commands count at each state, all its own, then its practice alone.
-use Rattle.std.specs.Prelude.{◌≡◌, Bool, cond, List, ℕ, ◌+◌, ◌-◌, eqb, ltb, get_or, set}
+use Rattle.std.specs.Prelude.{◌≡◌, Bool, cond, List, ℕ, ◌+◌, ◌-◌, ◌<◌, ◌≤◌, eqb, ltb, length, get_or, set}
 use Rattle.laws.specs.Entry.{FFFF}
 use Rattle.laws.specs.Filled.{Filled}
+use Rattle.model.specs.File.{max_states, max_commands}
 use Rattle.model.specs.Tables.{Tables}
+use Rattle.tables.specs.declared.Row.{Row}
+use Rattle.tables.specs.declared.Size.{Size}
 use Rattle.tables.specs.declared.spans.Span.{Span}
+use Rattle.tables.specs.Meaning.{held}
 use Rattle.tables.specs.Spans.{span_at, failing_span}
 
 -- a practice is given
@@ -17,6 +21,14 @@ practice_place q = cond (practised q) (q.first + q.practice) q.end
 -- failing states are in layer 0
 unfoldable pub seed_of : Span → ℕ
 seed_of q = cond (failing_span q) 0 FFFF
+
+-- what is asked of the rows: the places of each state's commands are in range
+pub record Spans (size : Size) (rows : List Row) : Type 0 where
+  pub few : size.n ≤ max_states
+  pub few_commands : size.m ≤ max_commands
+  pub long : size.n ≤ length rows
+  pub inside : (F O : List ℕ) (s : ℕ) → s < size.n
+      → ((span_at (held size rows F O) s).first ≤ (span_at (held size rows F O) s).end) × ((span_at (held size rows F O) s).end ≤ size.m)
 
 -- the state s, of which q was read, is initialized
 pub record StateInitialized (q : Span) (s : ℕ) (ranks froms tos places ranks' froms' tos' places' : List ℕ) : Type 0 where

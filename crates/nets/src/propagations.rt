@@ -1,23 +1,23 @@
 // Reading what the propagations start from, and the propagations over one index. Only the planner's own crates call this.
-ghost use Rattle.std.specs.Prelude.{◌≡◌, ℕ, ◌≤◌, length, get_or};
+ghost use Rattle.std.specs.Prelude.{◌≡◌, List, ℕ, ◌≤◌, length, get_or};
 ghost use Rattle.laws.specs.Filled.{Filled};
 ghost use Rattle.laws.specs.Starts.{Parts};
-ghost use Rattle.tables.specs.Meaning.{lent};
+ghost use Rattle.tables.specs.Meaning.{held, lent};
 ghost use Rattle.tables.specs.Listed.{lists_of};
 ghost use Rattle.index.specs.Parts.{Owned};
 ghost use Rattle.propagate.specs.Net.{net_of, Seeded, Indexed, Owns};
 ghost use Rattle.propagate.specs.Plans.{states_of, net_from};
-ghost use Rattle.nets.specs.Nets.{practised, Initialized};
+ghost use Rattle.nets.specs.Nets.{practised, Spans, Initialized};
 ghost use Rattle.nets.specs.Found.{depth_table, OwnRanges, PracticeFound, Found};
 
 use crate::ranges::{initialize_state, keep_practice};
 use index::grouping::{group, own};
 use propagate::indexed::{IndexedLists, RangedLists};
 use propagate::layers::propagate;
-use tables::Size;
 use tables::lists::StateLists;
 use tables::sound_plan::SoundPlan;
-use tables::spans::Span;
+use tables::spans::{Span, span_at};
+use tables::{Row, Size};
 
 // Whether a practice is given.
 pub fn has_practice(span: Span) -> bool
@@ -28,22 +28,26 @@ pub fn has_practice(span: Span) -> bool
 }
 
 // Initializes every state for both propagations, in one pass: its rank, 0 or none, where its commands begin and end, and where its practice
-// stands among all commands. Here and below the tables that are written stay parameters of their own (decision 69).
+// stands among all commands. It asks of the rows alone that each state's commands lie in order, so it takes no `SoundPlan`. Here and below
+// the tables that are written stay parameters of their own (decision 69).
 pub fn initialize(
-    checked: &SoundPlan,
+    size: Size,
+    rows: &[Row],
     ranks: &mut [u16],
     froms: &mut [u16],
     tos: &mut [u16],
     places: &mut [u16],
 )
-    requires { (checked.now.plan.size.n ≤ length ranks.old) × (checked.now.plan.size.n ≤ length froms.old)
-        × (checked.now.plan.size.n ≤ length tos.old) × (checked.now.plan.size.n ≤ length places.old) }
-    ensures { Initialized (lent checked.now.plan) checked.now.plan.size.n
+    requires spans { Spans size rows.now }
+    requires n_in_bounds { (size.n ≤ length ranks.old) × (size.n ≤ length froms.old)
+        × (size.n ≤ length tos.old) × (size.n ≤ length places.old) }
+    ensures { (F O : List ℕ) → Initialized (held size rows.now F O) size.n
         ranks.old froms.old tos.old places.old
         ranks.new froms.new tos.new places.new }
 {
-    for s in 0..checked.plan.size.n {
-        initialize_state(checked, ranks, froms, tos, places, s);
+    for s in 0..size.n {
+        let span = span_at(size, rows, s);
+        initialize_state(span, ranks, froms, tos, places, s);
     }
 }
 
@@ -130,7 +134,14 @@ pub fn propagate_plan(
         ranks.new tos.new fails.new scratch.new }
 {
     let mut froms = [0u16; Size::STATES];
-    initialize(checked, ranks, &mut froms, tos, fails);
+    initialize(
+        checked.plan.size,
+        checked.plan.rows,
+        ranks,
+        &mut froms,
+        tos,
+        fails,
+    );
     let lists = checked.outcome_lists();
     propagate_both(&lists, ranks, &mut froms, tos, fails, scratch);
 }

@@ -2,13 +2,11 @@
 ghost use Rattle.std.specs.Prelude.{◌≡◌, ℕ, ◌<◌, ◌≤◌, length, get_or};
 ghost use Rattle.laws.specs.Entry.{entry};
 ghost use Rattle.model.specs.File.{max_states, max_commands};
-ghost use Rattle.tables.specs.Meaning.{lent, option_of};
-ghost use Rattle.tables.specs.Spans.{span_at};
+ghost use Rattle.tables.specs.Meaning.{option_of};
 ghost use Rattle.nets.specs.Nets.{practice_place, seed_of, one_end, seed_again, StateInitialized, StateKept, PracticeKept};
 
 use crate::propagations::has_practice;
 use tables::entries::{at, put, put_option};
-use tables::sound_plan::SoundPlan;
 use tables::spans::{Span, is_failing};
 
 // Where the practice stands among all commands, or where the state's commands end.
@@ -31,21 +29,20 @@ fn seed_of(span: Span) -> Option<usize>
     is_failing(span).then_some(0)
 }
 
-// Initializes state s.
+// Initializes state s, of which `span` was read.
 pub fn initialize_state(
-    checked: &SoundPlan,
+    span: Span,
     ranks: &mut [u16],
     froms: &mut [u16],
     tos: &mut [u16],
     places: &mut [u16],
     s: usize,
 )
-    requires { (s < checked.now.plan.size.n)
-        × (s < length ranks.old) × (s < length froms.old) × (s < length tos.old) × (s < length places.old) }
-    ensures { StateInitialized (span_at (lent checked.now.plan) s) s ranks.old froms.old tos.old places.old
+    requires first_le_end { (span.first ≤ span.end) × (span.end ≤ max_commands) }
+    requires s_in_bounds { (s < length ranks.old) × (s < length froms.old) × (s < length tos.old) × (s < length places.old) }
+    ensures { StateInitialized span s ranks.old froms.old tos.old places.old
         ranks.new froms.new tos.new places.new }
 {
-    let span = checked.span(s);
     put_option(ranks, s, seed_of(span));
     put(froms, s, span.first);
     put(tos, s, span.end);
