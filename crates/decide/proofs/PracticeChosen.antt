@@ -46,9 +46,16 @@ module _ (T : Tables) (sounds : sound T ≡ true) (s : ℕ) (l : s < T.size.n) (
   practice_active : active (plan_in T) s ≡ true
   practice_active = command_active (plan_in T) s (sound_valid T sounds) (rw (states_held T) l) ((plan_in T).practice s) practice_number
 
-  pub other_hits : (o : CodeOption ℕ) → option_of o ≡ choice (plan_in T) K s
-      → is_other o ((plan_in T).practice s) ≡ hits (plan_in T) K s ((plan_in T).practice s)
-  other_hits o e = ⊎_elim (hit o e) (clear o e) (true_or_false (hits (plan_in T) K s p))
+  -- so what is chosen is not the practice exactly if its entry is not
+  pub other_entry : (o : CodeOption ℕ) → is_other o ((plan_in T).practice s) ≡ not (eqb (entry (option_of o)) ((plan_in T).practice s))
+  unfolding entry
+  other_entry None = sym (ap not (ne_eqb FFFF ((plan_in T).practice s) (λ w. omega (arith, practice_low, w))))
+  other_entry (Some c) = refl
+
+  pub not_practice : (c : ℕ) → c ≡ entry (choice (plan_in T) K s)
+      → not (eqb c ((plan_in T).practice s)) ≡ hits (plan_in T) K s ((plan_in T).practice s)
+  unfolding entry
+  not_practice c e = ⊎_elim hit clear (true_or_false (hits (plan_in T) K s p))
     where
       p : ℕ
       p = (plan_in T).practice s
@@ -56,30 +63,16 @@ module _ (T : Tables) (sounds : sound T ≡ true) (s : ℕ) (l : s < T.size.n) (
       chosen : (choice (plan_in T) K s ≡ some p) ↔ (hits (plan_in T) K s p ≡ false)
       chosen = practice_chosen (plan_in T) s practice_active given K
 
-      clear : (o : CodeOption ℕ) → option_of o ≡ choice (plan_in T) K s → hits (plan_in T) K s p ≡ false → is_other o p ≡ hits (plan_in T) K s p
-      clear None e z = absurd (let w : option_of {A = ℕ} None ≡ some p = e ∙ chosen.1 z in cc)
-      clear (Some c) e z =
-          let w : some c ≡ some p = e ∙ chosen.1 z in
-          let is : c ≡ p = cc in
+      clear : hits (plan_in T) K s p ≡ false → not (eqb c p) ≡ hits (plan_in T) K s p
+      clear z =
+          let is : c ≡ p = e ∙ ap entry (chosen.1 z) in
           rw (eq-eqb c p is, z)
 
-      hit : (o : CodeOption ℕ) → option_of o ≡ choice (plan_in T) K s → hits (plan_in T) K s p ≡ true → is_other o p ≡ hits (plan_in T) K s p
-      hit None e z = sym z
-      hit (Some c) e z =
-          ⊎_elim (λ t. clash z (chosen.0 (sym e ∙ ap some (eqb-true c p t)))) (λ t. ap not t ∙ sym z) (true_or_false (eqb c p))
+      -- only a command has its number for an entry
+      read : (o : Option ℕ) → p ≡ entry o → o ≡ some p
+      read none q = absurd (omega (arith, practice_low, q))
+      read (some d) q = ap some (sym q)
 
-  -- the same of the entry that a table has for the command
-  pub not_practice : (c : ℕ) → c ≡ entry (choice (plan_in T) K s)
-      → not (eqb c ((plan_in T).practice s)) ≡ hits (plan_in T) K s ((plan_in T).practice s)
-  unfolding entry
-  not_practice c e = go (choice (plan_in T) K s) refl
-    where
-      p : ℕ
-      p = (plan_in T).practice s
-
-      go : (o : Option ℕ) → choice (plan_in T) K s ≡ o → not (eqb c p) ≡ hits (plan_in T) K s p
-      go none q =
-          let is : c ≡ FFFF = e ∙ ap entry q in
-          let other : eqb c p ≡ false = ne_eqb c p (λ w. omega (arith, practice_low, is, w)) in
-          ap not other ∙ other_hits None (sym q)
-      go (some d) q = let is : c ≡ d = e ∙ ap entry q in rw is (other_hits (Some d) (sym q))
+      hit : hits (plan_in T) K s p ≡ true → not (eqb c p) ≡ hits (plan_in T) K s p
+      hit z =
+          ⊎_elim (λ t. clash z (chosen.0 (read _ (sym (eqb-true c p t) ∙ e)))) (λ t. ap not t ∙ sym z) (true_or_false (eqb c p))
