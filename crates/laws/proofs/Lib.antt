@@ -29,6 +29,7 @@ pub mod Least
 pub mod Wrote
 pub mod Spreads
 pub mod Turns
+pub mod EntryCopies
 pub mod Blocks
 pub mod Starts
 pub mod Merge

@@ -17,3 +17,7 @@ front {g = g} p (x ∷ xs) r =
 pub twos_spread : Spread twos
 unfolding twos
 twos_spread = record { none = λ r. refl; more = λ x xs r. refl }
+
+-- bytes as they are
+pub bytes_spread : Spread (λ (xs r : List ℕ). xs ++ r)
+bytes_spread = record { none = λ r. refl; more = λ x xs r. refl }
