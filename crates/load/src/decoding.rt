@@ -12,7 +12,7 @@ ghost use Rattle.load.specs.Loading.{few, loading, answer_of};
 
 use tables::entries::ENTRY_BYTES;
 use tables::lengths::long_enough;
-use tables::rows::{ROW_BYTES, ROW_ENTRIES, SIZE_BYTES};
+use tables::rows::{ROW_BYTES, ROW_ENTRIES, SIZE_BYTES, put_row};
 use tables::{Refusal, Row, Size};
 
 // The entry at place i.
@@ -54,7 +54,7 @@ pub fn load_rows(bytes: &[u8], rows: &mut [Row], n: usize)
         ≡ overwrite (take n (rows_in (entries_in bytes.now))) (rows_of rows.old) }
 {
     for s in 0..n {
-        rows[s] = row_in(bytes, s);
+        put_row(rows, s, row_in(bytes, s));
     }
 }
 

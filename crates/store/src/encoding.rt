@@ -6,7 +6,7 @@ ghost use Rattle.laws.specs.Writes.{put_all};
 ghost use Rattle.model.specs.Boundary.{bytes_for, row_entries, size_entries, entry_bytes, row_bytes, size_bytes};
 ghost use Rattle.tables.specs.Meaning.{numbers, row_of, rows_of};
 
-use tables::rows::ROW_ENTRIES;
+use tables::rows::{ROW_ENTRIES, row_at};
 use tables::{Row, Size};
 
 // Stores x as the entry i.
@@ -47,7 +47,7 @@ pub fn store_rows(rows: &[Row], bytes: &mut [u8], n: usize)
     ensures { bytes.new ≡ overwrite (bytes_for (row_entries (take n (rows_of rows.now)))) bytes.old }
 {
     for s in 0..n {
-        store_row(rows[s], bytes, s);
+        store_row(row_at(rows, s), bytes, s);
     }
 }
 

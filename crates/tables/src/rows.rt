@@ -1,5 +1,4 @@
-// Rows: the only functions that touch one in its table, besides `load_rows` of load and `store_rows` of store. Only the planner's own
-// crates call this.
+// Rows: the only functions that touch one in its table. Only the planner's own crates call this.
 ghost use Rattle.std.specs.Prelude.{◌≡◌, ◌<◌, length, get_or, set};
 ghost use Rattle.tables.specs.declared.Row.{Row};
 ghost use Rattle.tables.specs.Spans.{no_row};

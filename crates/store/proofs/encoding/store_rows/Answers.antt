@@ -9,7 +9,7 @@ use Rattle.laws.specs.Writes.{put_all}
 use Rattle.model.specs.Boundary.{row_bytes, bytes_for, row_entries}
 use Rattle.model.specs.Tables.{Row as ModelRow}
 use Rattle.tables.specs.Meaning.{row_of}
-use Rattle.tables.specs.declared.Row.{Row}
+use Rattle.tables.specs.Spans.{no_row}
 use Rattle.store.proofs.Entries.{rows_blocks}
 use Rattle.store.proofs.encoding.store_rows.Goals as goal
 
@@ -19,14 +19,13 @@ loop-s-init c = (omega arith, stored_none rows_blocks _ _)
 pub loop-s-preserved : goal.loop-s-preserved
 loop-s-preserved c =
     let R = c.args.rows.now in
-    let s = c.loop-s.s in
-    let blank : Row = record { kind = 0; first = 0; practice = 0 } in (
+    let s = c.loop-s.s in (
       omega (arith, c.loop-s-test.true),
-      stored_next rows_blocks (row_of blank) c.loop-s.invariant.1
+      stored_next rows_blocks (row_of no_row) c.loop-s.invariant.1
           (omega (arith, c.requires, c.loop-s-test.true, length-map R row_of)) _
           (c.store_row.ensures
           ∙ ap (λ (w : ModelRow). put_all c.loop-s.bytes (s * row_bytes) (bytes_for (row_entries (w ∷ []))))
-          (sym (get_or-map row_of R s blank))),
+          (ap row_of c.row_at.ensures ∙ sym (get_or-map row_of R s no_row))),
     )
 
 pub returns : goal.returns
