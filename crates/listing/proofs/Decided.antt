@@ -1,11 +1,12 @@
 -- What deciding leaves of a sound plan: tables that hold what the lines of the states say, and the tally.
-use mathlib.Core.Path.{◌≡◌, refl, sym, ap}
+use mathlib.Core.Path.{◌≡◌, refl, sym, ap, ◌∙◌}
 use mathlib.Core.Bool.{true}
 use mathlib.Core.List.{List, [], ◌∷◌}
 use Prim.Native.Nat.{ℕ, ◌<◌, ◌≤◌}
 use native.Mathlib.Omega.{arith}
 use lib.ListN.{length, get_or}
 use Rattle.laws.specs.Entry.{entry}
+use Rattle.laws.specs.Lists.{overwrite}
 use Rattle.laws.proofs.Overwrites.{overwrite_at}
 use Rattle.model.specs.Plan.{Plan}
 use Rattle.model.specs.Verdict.{rank}
@@ -23,7 +24,7 @@ use Rattle.model.proofs.Valid.{sound_valid, few_states, few_commands}
 use Rattle.tables.specs.declared.spans.Span.{Span}
 use Rattle.tables.specs.Spans.{span_at}
 use Rattle.listing_text.specs.Listed.{Listed}
-use Rattle.listing_text.proofs.StateLine.{listed}
+use Rattle.listing_text.proofs.StateLine.{listed_tables}
 use Rattle.listing.specs.Holds.{Holds}
 use Rattle.listing.proofs.Named.{states_few}
 
@@ -79,12 +80,16 @@ module _ (T : Tables) (sounds : sound T ≡ true) where
   pub state_listed : {ranks commands marks : List ℕ} → Holds T ranks commands marks → {s : ℕ} → s < T.size.n
       → {q : Span} → q ≡ span_at T s
       → Listed (plan_in T) s q.kind (get_or ranks s 0) (get_or commands s 0) (get_or marks s 0) (fault_outcome (plan_in T) s)
-  unfolding plan_in
-  state_listed h {s} l e =
+  unfolding plan_in rank_table command_table mark_table
+  state_listed {ranks} {commands} {marks} h {s} l e =
+      let P = plan_in T in
       let g = sound_good T sounds in
-      listed (plan_in T) (sound_valid T sounds) (omega (arith, few_states (tree_of T) g))
-      (λ s k. omega (arith, few_commands (tree_of T) g s k)) (in_plan l) (rw e (sym (kind_held T s l))) (h.ranked s l) (h.chose s l)
-      (h.marked s l)
+      let of_rank : get_or ranks s 0 ≡ get_or (overwrite (rank_table P) ranks) s 0 = h.ranked s l ∙ sym (overwrite_at _ P.states ranks s (in_plan l)) in
+      let of_command : get_or commands s 0 ≡ get_or (overwrite (command_table P) commands) s 0 = h.chose s l ∙ sym (overwrite_at _ P.states commands s (in_plan l)) in
+      let of_mark : get_or marks s 0 ≡ get_or (overwrite (mark_table P) marks) s 0 = h.marked s l ∙ sym (overwrite_at (mark P) P.states marks s (in_plan l)) in
+      rw (e, of_rank, of_command, of_mark, ← kind_held T s l)
+      (listed_tables P (sound_valid T sounds) (omega (arith, few_states (tree_of T) g))
+      (λ s k. omega (arith, few_commands (tree_of T) g s k)) ranks commands marks s (in_plan l))
 
 -- two rows are the tally
 pub two_rows : (P : Plan) {t : List (List ℕ)} (d : List ℕ) → t ≡ tally P → get_or t 0 d ∷ get_or t 1 d ∷ [] ≡ tally P

@@ -26,9 +26,10 @@ use Rattle.tables.specs.Meaning.{numbers, refusal_of, row_of, rows_of, held}
 use Rattle.reading.specs.Answers.{answer_of, after_read}
 use Rattle.reading.proofs.Passing.{refused_inv}
 use Rattle.reading.proofs.Leaves.{answered, leaves}
-use Rattle.listing_text.specs.declared.Text.{Text}
-use Rattle.listing_text.specs.Texts.{blank, Added}
-use Rattle.listing.specs.Texts.{text_of}
+use Rattle.listing_text.specs.declared.Output.{Output}
+use Rattle.listing_text.specs.Puts.{Put}
+use Rattle.listing.specs.declared.Text.{Text}
+use Rattle.listing.specs.Texts.{blank, text_of}
 
 -- by the equation of the reading's contract
 module _ (file : List ℕ) (rows : List Row) (firsts outcomes : List ℕ) (r : Result Size Refusal) (rows' : List Row) (firsts' outcomes' : List ℕ)
@@ -53,6 +54,9 @@ module _ (file : List ℕ) (rows : List Row) (firsts outcomes : List ℕ) (r : R
       (refused_inv size (reading (length (rows_of rows)) (length firsts) (length outcomes) file)
       (ap (λ (x : AfterRead). x.answers) (sym e) ∙ ap answer_of q)))
 
+abbrev text_with : List ℕ → ℕ → Text
+text_with bytes length = record { bytes = bytes; length = length }
+
 module _ (input : List ℕ) where
   pub over_limit : max_input < length input → listing input ≡ refusal_text Limit
   unfolding listing
@@ -63,13 +67,13 @@ module _ (input : List ℕ) where
   in_limit h = rw (le-ltb max_input (length input) h)
 
   -- the text stands at the front of zeros
-  pub text_stands : {text : Text} → Added blank (listing input) text → text ≡ text_of (listing input)
-  text_stands w =
-      let zeros : List ℕ = replicate max_listing 0 in
-      let count = w.past ∙ zero-add _ in
-      let fits : length (listing input) ≤ length zeros = omega (arith, listing_length input, length-replicate {A = ℕ} max_listing 0) in
-      let whole = w.stored ∙ put_front zeros (listing input) fits in
-      λ i. record { bytes = whole i; length = count i }
+  pub text_stands : {a b : Output} → a.bytes.now ≡ blank.bytes → a.place ≡ 0 → Put a (listing input) b
+      → text_with b.bytes.now b.place ≡ text_of (listing input)
+  text_stands zeros begins p =
+      let fits : length (listing input) ≤ length blank.bytes = omega (arith, listing_length input, length-replicate {A = ℕ} max_listing 0) in
+      let whole = (rw (zeros, begins) at p.stored) ∙ put_front blank.bytes (listing input) fits in
+      let count = (rw begins at p.past) ∙ zero-add _ in
+      λ i. text_with (whole i) (count i)
 
   -- it is no longer than the bytes that hold it
   pub text_room : (r : Text) → r ≡ text_of (listing input) → r.length ≤ max_listing

@@ -2,7 +2,11 @@
 use Rattle.std.specs.Prelude.{List, ℕ, length, replicate}
 use Rattle.laws.specs.Lists.{overwrite}
 use Rattle.model.specs.Listing.{max_listing}
-use Rattle.listing_text.specs.declared.Text.{Text}
+use Rattle.listing.specs.declared.Text.{Text}
+
+-- nothing yet
+abbrev pub blank : Text
+blank = record { bytes = replicate max_listing 0; length = 0 }
 
 -- at the front of bytes that hold every listing, with zeros past it
 abbrev pub text_of : List ℕ → Text

@@ -1,13 +1,13 @@
 // The listing of a plan file, as text.
 #![tactic(auto)]
 
-ghost use Rattle.std.specs.Prelude.{◌≡◌};
-ghost use Rattle.model.specs.Listing.{listing};
-ghost use Rattle.listing_text.specs.Texts.{Added};
-ghost use Rattle.listing.specs.Texts.{text_of};
+ghost use Rattle.std.specs.Prelude.{◌≡◌, ◌≤◌, take};
+ghost use Rattle.model.specs.Listing.{max_listing, listing};
+ghost use Rattle.listing_text.specs.Puts.{Room, Put};
+ghost use Rattle.listing.specs.Texts.{blank, text_of};
 
 use crate::file::list_file;
-use listing_text::Text;
+use listing_text::Output;
 use tables::Refusal;
 
 mod file;
@@ -17,15 +17,43 @@ mod states;
 // The longest input that is read.
 pub const LIMIT: usize = 65536;
 
+// A text: its first `length` bytes.
+#[derive(Clone, Copy)]
+pub struct Text {
+    pub bytes: [u8; Text::ROOM],
+    pub length: usize,
+}
+
+impl Text {
+    // The bytes that hold every listing.
+    pub const ROOM: usize = 65536;
+
+    pub fn new() -> Text
+        ensures { result ≡ blank }
+    {
+        Text {
+            bytes: [0; Text::ROOM],
+            length: 0,
+        }
+    }
+
+    pub fn as_bytes(&self) -> &[u8]
+        requires { self.now.length ≤ max_listing }
+        ensures { result.now ≡ take self.now.length self.now.bytes }
+    {
+        &self.bytes[..self.length]
+    }
+}
+
 // A longer input is refused before it is read.
-fn write_listing(input: &[u8], text: &mut Text)
-    requires { text.old.length ≡ 0 }
-    ensures { Added text.old (listing input.now) text.new }
+fn write_listing(input: &[u8], out: &mut Output)
+    requires { Room out.old max_listing }
+    ensures { Put out.old (listing input.now) out.new }
 {
     if LIMIT < input.len() {
-        text.put_refusal(Refusal::Limit);
+        out.put_refusal(Refusal::Limit);
     } else {
-        list_file(input, text);
+        list_file(input, out);
     }
 }
 
@@ -35,6 +63,11 @@ pub fn text_of(input: &[u8]) -> Text
     ensures text { result ≡ text_of (listing input.now) }
 {
     let mut text = Text::new();
-    write_listing(input, &mut text);
+    let mut out = Output {
+        bytes: &mut text.bytes,
+        place: 0,
+    };
+    write_listing(input, &mut out);
+    text.length = out.place;
     text
 }

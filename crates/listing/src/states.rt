@@ -4,7 +4,7 @@ ghost use Rattle.listing.specs.Holds.{Holds};
 
 use choice::choosing::command_hit;
 use choice::state_set::StateSet;
-use listing_text::Text;
+use listing_text::Output;
 use tables::entries::HIGHEST;
 use tables::sound_plan::SoundPlan;
 
@@ -27,9 +27,9 @@ impl Decided<'_> {
     ghost use Rattle.laws.specs.Lists.{tabulate, joined};
     ghost use Rattle.model.specs.Practice.{fault_outcome};
     ghost use Rattle.model.specs.Held.{plan_in};
-    ghost use Rattle.model.specs.Listing.{max_listing, state_line};
+    ghost use Rattle.model.specs.Listing.{state_line};
     ghost use Rattle.tables.specs.Meaning.{option_of};
-    ghost use Rattle.listing_text.specs.Texts.{Added};
+    ghost use Rattle.listing_text.specs.Puts.{Room, Put};
 
     // At a fault, which the mark tells of, the lowest outcome of the practice that is lost.
     fn fault_outcome(&self, s: usize) -> Option<usize>
@@ -53,14 +53,14 @@ impl Decided<'_> {
         )
     }
 
-    fn list_state(&self, s: usize, text: &mut Text)
-        requires { (s < self.now.checked.plan.size.n) × (text.old.length + 35 ≤ max_listing) }
-        ensures wrote { Added text.old (state_line (plan_in (lent self.now.checked.plan)) s) text.new }
-        ensures ends { text.new.length ≤ text.old.length + 35 }
+    fn list_state(&self, s: usize, out: &mut Output)
+        requires { (s < self.now.checked.plan.size.n) × Room out.old 35 }
+        ensures wrote { Put out.old (state_line (plan_in (lent self.now.checked.plan)) s) out.new }
+        ensures ends { out.new.place ≤ out.old.place + 35 }
     {
         let kind = self.checked.span(s).kind;
         let outcome = self.fault_outcome(s);
-        text.put_state_line(
+        out.put_state_line(
             s,
             kind,
             self.ranks[s],
@@ -70,13 +70,13 @@ impl Decided<'_> {
         );
     }
 
-    pub fn list_states(&self, text: &mut Text)
-        requires { text.old.length + self.now.checked.plan.size.n * 35 ≤ max_listing }
+    pub fn list_states(&self, out: &mut Output)
+        requires { Room out.old (self.now.checked.plan.size.n * 35) }
         ensures { let T = lent self.now.checked.plan in
-            Added text.old (joined (tabulate (state_line (plan_in T)) 0 T.size.n)) text.new }
+            Put out.old (joined (tabulate (state_line (plan_in T)) 0 T.size.n)) out.new }
     {
         for s in 0..self.checked.plan.size.n {
-            self.list_state(s, text);
+            self.list_state(s, out);
         }
     }
 }

@@ -1,3 +1,4 @@
+pub mod Puts
 pub mod LineBytes
 pub mod Copies
 pub mod Entries

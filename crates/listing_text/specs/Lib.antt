@@ -1,3 +1,3 @@
 pub mod Words
 pub mod Listed
-pub mod Texts
+pub mod Puts

@@ -1,9 +1,9 @@
 // Decimal digits, by division (rule L5).
 ghost use Rattle.std.specs.Prelude.{◌≡◌, ◌+◌, ◌<◌, ◌≤◌};
-ghost use Rattle.model.specs.Listing.{max_listing, last_digit, decimal};
-ghost use Rattle.listing_text.specs.Texts.{Added};
+ghost use Rattle.model.specs.Listing.{last_digit, decimal};
+ghost use Rattle.listing_text.specs.Puts.{Room, Put};
 
-use crate::Text;
+use crate::Output;
 
 // The least number of two digits.
 const TWO_DIGITS: usize = 10;
@@ -14,12 +14,12 @@ fn last_digit(x: usize) -> u8
     b'0' + (x % 10) as u8
 }
 
-impl Text {
+impl Output<'_> {
     // A number of at most six digits. Each call leaves one digit fewer, so it calls itself at most five times.
     pub(crate) fn put_decimal(&mut self, x: usize)
-        requires { (self.old.length + 6 ≤ max_listing) × (x < 1000000) }
-        ensures wrote { Added self.old (decimal x) self.new }
-        ensures ends { self.new.length ≤ self.old.length + 6 }
+        requires { (Room self.old 6) × (x < 1000000) }
+        ensures wrote { Put self.old (decimal x) self.new }
+        ensures ends { self.new.place ≤ self.old.place + 6 }
     {
         if x >= TWO_DIGITS {
             self.put_decimal(x / 10);

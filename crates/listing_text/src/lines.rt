@@ -2,22 +2,22 @@
 ghost use Rattle.std.specs.Prelude.{◌≡◌, [], ◌∷◌, ◌+◌, ◌<◌, ◌≤◌, IfSome};
 ghost use Rattle.model.specs.Plan.{Plan};
 ghost use Rattle.model.specs.Search.{Result};
-ghost use Rattle.model.specs.Listing.{max_listing, refusal_text, plan_line, state_line, tally_line, start_line};
+ghost use Rattle.model.specs.Listing.{refusal_text, plan_line, state_line, tally_line, start_line};
 ghost use Rattle.tables.specs.Meaning.{numbers, refusal_of, option_of};
 ghost use Rattle.listing_text.specs.Listed.{Listed};
-ghost use Rattle.listing_text.specs.Texts.{Added};
+ghost use Rattle.listing_text.specs.Puts.{Room, Put};
 
-use crate::Text;
+use crate::Output;
 use crate::letters::{kind_letter, verdict_letter};
 use tables::{Refusal, Size};
 
 const END: u8 = b'\n';
 
-impl Text {
+impl Output<'_> {
     pub fn put_refusal(&mut self, refusal: Refusal)
-        requires { self.old.length + 15 ≤ max_listing }
-        ensures wrote { Added self.old (refusal_text (refusal_of refusal)) self.new }
-        ensures ends { self.new.length ≤ self.old.length + 15 }
+        requires { Room self.old 15 }
+        ensures wrote { Put self.old (refusal_text (refusal_of refusal)) self.new }
+        ensures ends { self.new.place ≤ self.old.place + 15 }
     {
         self.put_word(b"refused");
         self.put_number(u32::from(refusal) as usize);
@@ -25,9 +25,9 @@ impl Text {
     }
 
     pub fn put_plan_line(&mut self, size: Size)
-        requires { (self.old.length + 26 ≤ max_listing) × (size.n < 1000000) × (size.m < 1000000) × (size.t < 1000000) }
-        ensures wrote { Added self.old (plan_line (numbers size)) self.new }
-        ensures ends { self.new.length ≤ self.old.length + 26 }
+        requires { (Room self.old 26) × (size.n < 1000000) × (size.m < 1000000) × (size.t < 1000000) }
+        ensures wrote { Put self.old (plan_line (numbers size)) self.new }
+        ensures ends { self.new.place ≤ self.old.place + 26 }
     {
         self.put_word(b"plan");
         self.put_three(size.n, size.m, size.t);
@@ -45,10 +45,10 @@ impl Text {
         mark: u16,
         outcome: Option<usize>,
     )
-        requires { (self.old.length + 35 ≤ max_listing) × (s < 1000000) × IfSome outcome (λ x. x < 1000000) }
+        requires { (Room self.old 35) × (s < 1000000) × IfSome outcome (λ x. x < 1000000) }
         ensures wrote { (P : Plan) → Listed P s kind rank command mark (option_of outcome)
-            → Added self.old (state_line P s) self.new }
-        ensures ends { self.new.length ≤ self.old.length + 35 }
+            → Put self.old (state_line P s) self.new }
+        ensures ends { self.new.place ≤ self.old.place + 35 }
     {
         self.put_decimal(s);
         self.put_letter(kind_letter(kind));
@@ -59,9 +59,9 @@ impl Text {
     }
 
     pub fn put_tally_line(&mut self, safe: [u16; 3], lost: [u16; 3])
-        requires { self.old.length + 50 ≤ max_listing }
-        ensures wrote { Added self.old (tally_line (safe ∷ lost ∷ [])) self.new }
-        ensures ends { self.new.length ≤ self.old.length + 50 }
+        requires { Room self.old 50 }
+        ensures wrote { Put self.old (tally_line (safe ∷ lost ∷ [])) self.new }
+        ensures ends { self.new.place ≤ self.old.place + 50 }
     {
         self.put_word(b"tally");
         self.put_row(safe);
@@ -72,10 +72,10 @@ impl Text {
 
     // The start, and the search's verdict and rounds from it.
     pub fn put_start_line(&mut self, start: usize, lost: bool, rounds: usize)
-        requires { (self.old.length + 22 ≤ max_listing) × (start < 1000000) × (rounds < 1000000) }
+        requires { (Room self.old 22) × (start < 1000000) × (rounds < 1000000) }
         ensures wrote { (R : Result) → R.lost ≡ lost → R.rounds ≡ rounds
-            → Added self.old (start_line start R) self.new }
-        ensures ends { self.new.length ≤ self.old.length + 22 }
+            → Put self.old (start_line start R) self.new }
+        ensures ends { self.new.place ≤ self.old.place + 22 }
     {
         self.put_word(b"start");
         self.put_number(start);

@@ -1,7 +1,7 @@
 -- The lines are put one behind another, and together they are the text of the plan.
 use native.Mathlib.Omega.{arith}
 use Rattle.tables.specs.Meaning.{lent}
-use Rattle.listing.proofs.PlanLines.{numbers_small, verdicts_room, start_room, plan_wrote}
+use Rattle.listing.proofs.PlanLines.{numbers_small, verdicts_room, start_room, plan_put}
 use Rattle.listing.proofs.plan.list_plan.Goals as goal
 
 pub put_plan_line-requires : goal.put_plan_line-requires
@@ -23,4 +23,4 @@ list_start-requires c =
 pub returns : goal.returns
 returns c =
     let p = c.args.checked.now in
-    plan_wrote (lent p.plan) p.sounds c.requires c.put_plan_line.ensures.wrote c.list_verdicts.ensures c.list_start.ensures
+    plan_put (lent p.plan) p.sounds c.requires c.put_plan_line.ensures.wrote c.list_verdicts.ensures c.list_start.ensures

@@ -3,10 +3,10 @@ use native.Mathlib.Omega.{arith}
 use mathlib.Core.Path.{ap, ◌∙◌}
 use mathlib.Core.List.{List}
 use Prim.Native.Nat.{ℕ}
-use Rattle.laws.proofs.Wrote.{wrote_then}
 use Rattle.model.specs.Calls.{AfterDecide}
 use Rattle.model.specs.Held.{plan_in}
 use Rattle.tables.specs.Meaning.{lent}
+use Rattle.listing_text.proofs.Puts.{put_then}
 use Rattle.listing.proofs.Answered.{answers, answer}
 use Rattle.listing.proofs.Decided.{holds, tallies, two_rows}
 use Rattle.listing.proofs.PlanLines.{tally_room}
@@ -40,4 +40,4 @@ returns c =
     let same = answer (λ (t : List (List ℕ)). t)
     (ap (λ (x : AfterDecide). x.answers) c.decide-decision.ensures.call
     ∙ tallies (lent p.plan) p.sounds (omega arith, omega arith, omega arith, omega arith)) c.unwrap.ensures in
-    wrote_then c.list_states.ensures (rw (two_rows (plan_in (lent p.plan)) _ same) at c.put_tally_line.ensures.wrote)
+    put_then c.list_states.ensures (rw (two_rows (plan_in (lent p.plan)) _ same) at c.put_tally_line.ensures.wrote)

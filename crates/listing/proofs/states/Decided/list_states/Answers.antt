@@ -1,17 +1,16 @@
 -- The lines of the states before s were put; a turn puts one more.
-use native.Mathlib.Omega.{arith}
 use Rattle.model.specs.Held.{plan_in}
 use Rattle.tables.specs.Meaning.{lent}
-use Rattle.listing.proofs.StateLines.{lines_none, lines_below, lines_next, lines_done}
+use Rattle.listing.proofs.StateLines.{lines_none, lines_room, lines_next, lines_done}
 use Rattle.listing.proofs.states.Decided.list_states.Goals as goal
 
 pub loop-s-init : goal.loop-s-init
-loop-s-init c = lines_none (plan_in (lent c.args.self.now.checked.plan)) _ _
+loop-s-init c = lines_none (plan_in (lent c.args.self.now.checked.plan)) _
 
 pub list_state-requires : goal.list_state-requires
 list_state-requires c =
     let P = plan_in (lent c.args.self.now.checked.plan) in
-    (c.loop-s-test.true, omega (arith, c.requires, lines_below P c.loop-s.s c.loop-s.invariant, c.loop-s-test.true))
+    (c.loop-s-test.true, lines_room P c.loop-s.s c.loop-s.invariant c.requires c.loop-s-test.true)
 
 pub loop-s-preserved : goal.loop-s-preserved
 loop-s-preserved c = lines_next (plan_in (lent c.args.self.now.checked.plan)) c.loop-s.s c.loop-s.invariant c.list_state.ensures.wrote
