@@ -1,13 +1,14 @@
 -- The call's answer in each of its cases, with every table lent to it.
 use mathlib.Core.Path.{◌≡◌, sym, ap, subst}
-use mathlib.Core.Bool.{Bool, true, false, ◌&&◌, and-false}
-use mathlib.Core.Logic.{◌⊎◌, inl, inr}
+use mathlib.Core.Bool.{Bool, true, false, ◌&&◌}
+use mathlib.Core.Logic.{⊎_elim}
 use mathlib.Core.List.{List}
-use Prim.Native.Nat.{ℕ, ◌<◌, ◌≤◌}
-use borrow.Author.Tests.{lt-leb, le-leb}
+use Prim.Native.Nat.{ℕ, ◌≤◌}
+use borrow.Author.Tests.{le-leb, leb-true}
 use lib.Dec.{leb}
 use lib.ListN.{length}
 use Rattle.std.specs.Prelude.{Result, Ok, Err}
+use Rattle.laws.proofs.Tests.{and_both, true_or_false}
 use Rattle.model.specs.Practice.{tally}
 use Rattle.model.specs.Refusal.{answer, need, ◌>>◌}
 use Rattle.model.specs.Tables.{Tables}
@@ -26,11 +27,14 @@ abbrev pub Long : ℕ → ℕ → ℕ → ℕ → ℕ → Bool
 Long n r c m s = leb n r && leb n c && leb n m && leb n s
 
 module _ (n r c m s : ℕ) where
-  pub short : (r < n) ⊎ (((n ≤ r) × (c < n)) ⊎ (((n ≤ r) × (n ≤ c) × (m < n)) ⊎ ((n ≤ r) × (n ≤ c) × (n ≤ m) × (s < n)))) → Long n r c m s ≡ false
-  short (inl h) = rw (lt-leb n r h)
-  short (inr (inl h)) = rw (lt-leb n c h.1, and-false)
-  short (inr (inr (inl h))) = rw (lt-leb n m h.2, and-false)
-  short (inr (inr (inr h))) = rw (lt-leb n s h.3, and-false)
+  pub short : (n ≤ r → n ≤ c → n ≤ m → n ≤ s → ⊥) → Long n r c m s ≡ false
+  short h = ⊎_elim
+      (λ e.
+      let three = and_both (leb n r && leb n c && leb n m) (leb n s) e in
+      let two = and_both (leb n r && leb n c) (leb n m) three.0 in
+      let one = and_both (leb n r) (leb n c) two.0 in
+      absurd (h (leb-true n r one.0) (leb-true n c one.1) (leb-true n m two.1) (leb-true n s three.1)))
+      (λ e. e) (true_or_false (Long n r c m s))
 
   pub long : n ≤ r → n ≤ c → n ≤ m → n ≤ s → Long n r c m s ≡ true
   long h k l j = rw (le-leb n r h, le-leb n c k, le-leb n m l, le-leb n s j)

@@ -1,6 +1,9 @@
 -- What is refused leaves every table as it was; else the propagations, the last pass over the states and the clearing of scratch leave what
 -- `decide_call` gives.
 use mathlib.Core.Path.{◌≡◌}
+use Prim.Native.Nat.{◌≤◌}
+use native.Mathlib.Omega.{arith}
+use lib.ListN.{length}
 use Rattle.std.proofs.Common.{rules}
 use Rattle.std.specs.Prelude.{Err}
 use Rattle.tables.specs.declared.Refusal.TheVariants.{Unsound}
@@ -15,15 +18,21 @@ returns-in_err-checked-clause-call c =
 
 pub returns-then-ranks-n-clause-call : goal.returns-then-ranks-n-clause-call
 returns-then-ranks-n-clause-call c =
-    rw (← c.in_ok-checked.ensures) (cramped _ _ _ _ _ c.in_ok-checked.checked.sounds (short _ _ _ _ _ c.then-ranks-n.either))
+    let p = c.in_ok-checked.checked in
+    let a = c.args in
+    rw (← c.in_ok-checked.ensures)
+    (cramped _ _ _ _ _ p.sounds
+    (short p.plan.size.n (length a.ranks.now) (length a.commands.now) (length a.marks.now) (length a.scratch.now)
+    (λ r k m s. omega (arith, c.then-ranks-n.either))))
 
 pub returns : goal.returns
 returns c =
     let p = c.in_ok-checked.checked in
-    let r = c.if-ranks-n.false in
-    let k = c.if-commands-n.false in
-    let m = c.if-marks-n.false in
-    let s = c.if-scratch-n.false in
+    let n = p.plan.size.n in
+    let r : n ≤ length c.args.ranks.now = omega arith in
+    let k : n ≤ length c.args.commands.now = omega arith in
+    let m : n ≤ length c.args.marks.now = omega arith in
+    let s : n ≤ length c.args.scratch.now = omega arith in
     let judged = rw (c.numbered.ensures.0, c.numbered.ensures.1) at c.judge_all-tally.ensures in
     let leaves = plan_decided p r k m s c.propagate_plan.ensures judged c.fill.ensures in
     let call = decides _ _ _ _ _ p.sounds (long _ _ _ _ _ r k m s) leaves in
