@@ -50,8 +50,9 @@ turn_at t c =
     let inside : c.at-next.result < c.args.laid.now.checked.plan.size.n = omega (arith, w.states c.loop-i.i c.loop-i-test.true) in
     elim c.match-memo-memo_place.branch [
       | works_turn-in-Some b ↦
-          rw (b.memo-is, b.held-is)
-          (told_turn w.remembers.told _ _ inside w.few _ _ c.memo_place.ensures b.in-Some.is, remembers_all w.remembers.told)
+          let known = told_turn w.remembers.told _ _ inside w.few _ _ c.memo_place.ensures b.in-Some.is in
+          let all = remembers_all w.remembers.told in
+          rw (b.memo-is, b.held-is) (search rules)
       | works_turn-in-None b ↦ rw (b.memo-is, b.held-is) (b.keeper_turn-held.ensures.turn, b.keeper_turn-held.ensures.remembers)
     ]
 
