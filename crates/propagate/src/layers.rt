@@ -52,7 +52,8 @@ fn visit(
     };
     let next = first_clear(&ranged.indexed.lists, &lost, c, to);
     put(watch, s, next);
-    if next < to {
+    let clear = next < to;
+    if clear {
         return end;
     }
     put(ranks, s, k + 1);

@@ -23,11 +23,11 @@ put-requires c =
     let R = ranged_ready c.args.ranged.now in
     omega (arith, c.first_clear-next.ensures.until, c.requires.room.for_watch, R.few_commands)
 
-pub returns-then-next-to : goal.returns-then-next-to
-returns-then-next-to c =
+pub returns-then-clear : goal.returns-then-clear
+returns-then-clear c =
     let w = c.watches.ensures.0 c.if-not-watches.false in
     look_moved _ (ranged_ready c.args.ranged.now) _ _ c.args.ranged.now.ranges _ c.requires.c_in_bounds.1 _ _ _ _ c.requires.queue_bound _ _
-    c.owner_of-s.ensures.read (omega arith) w.0 w.1 w.2 c.requires.room _ c.end_of-to.ensures.read _ c.first_clear-next.ensures c.if-next-to.true _ c.put.ensures
+    c.owner_of-s.ensures.read (omega arith) w.0 w.1 w.2 c.requires.room _ c.end_of-to.ensures.read _ c.first_clear-next.ensures c.if-clear.true _ c.put.ensures
 
 pub put-requires-3 : goal.put-requires-3
 put-requires-3 c =
@@ -41,5 +41,5 @@ pub returns : goal.returns
 returns c =
     let w = c.watches.ensures.0 c.if-not-watches.false in
     look_lost _ (ranged_ready c.args.ranged.now) _ _ c.args.ranged.now.ranges _ c.requires.c_in_bounds.1 _ _ _ _ c.requires.queue_bound _ _
-    c.owner_of-s.ensures.read (omega arith) w.0 w.1 w.2 c.requires.room _ c.end_of-to.ensures.read _ c.first_clear-next.ensures c.if-next-to.false _ _ _
+    c.owner_of-s.ensures.read (omega arith) w.0 w.1 w.2 c.requires.room _ c.end_of-to.ensures.read _ c.first_clear-next.ensures c.if-clear.false _ _ _
     c.put.ensures c.put-2.ensures c.put-3.ensures
