@@ -1,5 +1,6 @@
 -- The tests are those of the definition, in its order; where all pass, the rounds find what the definition says.
 use mathlib.Core.Path.{◌≡◌}
+use native.Mathlib.Omega.{arith}
 use Rattle.std.proofs.Common.{rules}
 use Rattle.std.specs.Prelude.{Err, true}
 use Rattle.model.specs.SoundTest.{sound}
@@ -24,7 +25,7 @@ returns-then-n-start c =
 
 pub returns-then-commands-n : goal.returns-then-commands-n
 returns-then-commands-n c =
-    let w = replies_cramped (lent c.args.plan.now) _ c.args.commands.now c.args.scratch.now (sounds (goal.at.returns-then-commands-n c).In_ok-checked) c.if-n-start.false c.then-commands-n.either in record { call = w.0; demand3 = w.1 }
+    let w = replies_cramped (lent c.args.plan.now) _ c.args.commands.now c.args.scratch.now (sounds (goal.at.returns-then-commands-n c).In_ok-checked) (omega arith) c.then-commands-n.either in record { call = w.0; demand3 = w.1 }
 
 pub walk_rounds-found-requires : goal.walk_rounds-found-requires
 walk_rounds-found-requires c = let e = c.in_ok-checked.ensures in rw e (c.if-n-start.false, c.if-commands-n.false, c.if-scratch-n.false)

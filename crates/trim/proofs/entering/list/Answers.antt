@@ -11,7 +11,7 @@ loop-s-init c = gathers_start
 
 pub put-requires : goal.put-requires
 put-requires c =
-    (omega (arith, c.requires, c.loop-s.invariant.same, gathers_room c.loop-s.invariant), omega (arith, c.requires))
+    (omega (arith, c.requires, c.loop-s.invariant.same, gathers_room c.loop-s.invariant), omega (arith, c.requires, gathers_room c.loop-s.invariant))
 
 pub overflow_add-i : goal.overflow_add-i
 overflow_add-i c = omega (arith, c.requires, gathers_room c.loop-s.invariant)

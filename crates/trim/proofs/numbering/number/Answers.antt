@@ -1,5 +1,4 @@
 -- Each turn gives one state its number; old numbers differ, so no new number is written over.
-use mathlib.Core.Path.{refl}
 use native.Mathlib.Omega.{arith}
 use Rattle.laws.specs.Lists.{overwrite}
 use Rattle.laws.proofs.Placed.{placed_next}
@@ -16,7 +15,7 @@ pub loop-i-preserved : goal.loop-i-preserved
 loop-i-preserved c =
     let k = c.args.kept.now in
     placed_next c.loop-i.invariant (record { inside = λ i l. omega (arith, kept_inside k i l, c.requires.1); rise = kept_rises k })
-    c.loop-i-test.true c.from.ensures refl c.put.ensures
+    c.loop-i-test.true c.from.ensures (omega arith) c.put.ensures
 
 pub returns-clause-olds_after : goal.returns-clause-olds_after
 unfolding overwrite
