@@ -39,6 +39,6 @@ module _ (q : Span) (cs s : List ℕ) (x : ℕ) (t : Bool) (p : t ≡ marked_at 
     unfolding lower_of
     lower_first v d = rw (← p, h, ← e, ← d)
 
-    pub lower_both : (low v : ℕ) → v ≡ f - 2 → Some (min v low) ≡ lower_of (marked_at q cs s x) (get_or s x 0) (Some low)
+    pub lower_both : (low r : ℕ) → r ≡ min (f - 2) low → Some r ≡ lower_of (marked_at q cs s x) (get_or s x 0) (Some low)
     unfolding lower_of
-    lower_both low v d = rw (← p, h, ← e, ← d)
+    lower_both low r d = rw (← p, h, ← e, ← d)
