@@ -8,6 +8,6 @@ put_option-requires-clause-fits c = entry_fits _ (rw c.seed_of.ensures (seed_sma
 
 pub put-requires-3 : goal.put-requires-3
 put-requires-3 c = (
-  c.requires.s_in_bounds.3,
+  omega (arith, c.requires.s_in_bounds),
   rw c.practice_place.ensures (omega (arith, place_inside c.args.span c.requires.first_le_end.0, c.requires.first_le_end)),
 )
