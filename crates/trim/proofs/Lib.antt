@@ -3,6 +3,7 @@ pub mod EnteredStates
 pub mod KeptStates
 pub mod LeftStates
 pub mod Counted
+pub mod Numbers
 pub mod Mapped
 pub mod Copied
 pub mod CopiedStates

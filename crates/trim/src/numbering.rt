@@ -12,8 +12,9 @@ pub fn number(kept: &KeptStates, olds: &mut [u16], scratch: &mut [u16])
     ensures olds_after { olds.new ≡ overwrite kept.now.olds.now olds.old }
     ensures numbered { Numbered kept.now.olds.now scratch.old scratch.new }
 {
-    olds[..kept.olds.len()].copy_from_slice(kept.olds);
     for (i, &old) in kept.olds.iter().enumerate() {
-        put(scratch, usize::from(old), i);
+        let s = usize::from(old);
+        put(olds, i, s);
+        put(scratch, s, i);
     }
 }
