@@ -76,3 +76,7 @@ module _ (T : Tables) (sounds : sound T ≡ true) (s : ℕ) (l : s < T.size.n) (
       hit : hits (plan_in T) K s p ≡ true → not (eqb c p) ≡ hits (plan_in T) K s p
       hit z =
           ⊎_elim (λ t. clash z (chosen.0 (read _ (sym (eqb-true c p t) ∙ e)))) (λ t. ap not t ∙ sym z) (true_or_false (eqb c p))
+
+  pub other_hits : (o : CodeOption ℕ) → option_of o ≡ choice (plan_in T) K s
+      → is_other o ((plan_in T).practice s) ≡ hits (plan_in T) K s ((plan_in T).practice s)
+  other_hits o e = other_entry o ∙ not_practice _ (ap entry e)

@@ -23,7 +23,7 @@ use Rattle.nets.specs.Nets.{practised}
 use Rattle.nets.proofs.NetSteps.{practised_is}
 use Rattle.decide.specs.declared.verdicts.Practice.{Practice}
 use Rattle.decide.specs.Verdicts.{unless_lost, is_other, mark_at, practice_of, StateJudged}
-use Rattle.decide.proofs.PracticeChosen.{other_entry, not_practice}
+use Rattle.decide.proofs.PracticeChosen.{other_hits}
 
 and_when : (a b x y : Bool) → a ≡ b → (b ≡ true → x ≡ y) → (a && x) ≡ (b && y)
 and_when a true x y e h = rw e (h refl)
@@ -49,7 +49,7 @@ module _ (T : Tables) (sounds : sound T ≡ true) (s : ℕ) (l : s < T.size.n) (
   unfolding unless_lost
   fault_read true r e = refl
   fault_read false r e = rw (practice_hits_words (plan_in T) L s) (and_when (practised q) (has_practice (plan_in T) s) _ _ given_is
-      (λ g. rw practice_is (other_entry T sounds s l g L r ∙ not_practice T sounds s l g L _ (ap entry e))))
+      (λ g. rw practice_is (other_hits T sounds s l g L r e)))
 
   -- all that is said of the state
   module _ (F lost fails fault given : Bool) (a : lost ≡ L s) (b : fails ≡ F) where

@@ -8,6 +8,7 @@ use native.Mathlib.Omega.{arith}
 use lib.ListN.{length, take, replicate, length-map, length-replicate}
 use borrow.Author.Tests.{lt-ltb, le-ltb}
 use Rattle.std.specs.Prelude.{Result, Ok, Err}
+use Rattle.laws.specs.Wrote.{Wrote}
 use Rattle.laws.proofs.Lists.{take_overwrite}
 use Rattle.laws.proofs.Writes.{put_front}
 use Rattle.model.specs.Refusal.{Limit}
@@ -28,6 +29,7 @@ use Rattle.reading.proofs.Passing.{refused_inv}
 use Rattle.reading.proofs.Leaves.{answered, leaves}
 use Rattle.listing_text.specs.declared.Output.{Output}
 use Rattle.listing_text.specs.Puts.{Put}
+use Rattle.listing_text.proofs.Puts.{wrote}
 use Rattle.listing.specs.declared.Text.{Text}
 use Rattle.listing.specs.Texts.{blank, text_of}
 
@@ -54,6 +56,10 @@ module _ (file : List ℕ) (rows : List Row) (firsts outcomes : List ℕ) (r : R
       (refused_inv size (reading (length (rows_of rows)) (length firsts) (length outcomes) file)
       (ap (λ (x : AfterRead). x.answers) (sym e) ∙ ap answer_of q)))
 
+-- after is before with the bytes xs behind its own
+abbrev pub Added : Text → List ℕ → Text → Type 0
+Added before xs after = Wrote before.bytes before.length xs after.bytes after.length
+
 abbrev text_with : List ℕ → ℕ → Text
 text_with bytes length = record { bytes = bytes; length = length }
 
@@ -67,13 +73,19 @@ module _ (input : List ℕ) where
   in_limit h = rw (le-ltb max_input (length input) h)
 
   -- the text stands at the front of zeros
-  pub text_stands : {a b : Output} → a.bytes.now ≡ blank.bytes → a.place ≡ 0 → Put a (listing input) b
+  pub text_stands : {text : Text} → Added blank (listing input) text → text ≡ text_of (listing input)
+  text_stands w =
+      let zeros : List ℕ = replicate max_listing 0 in
+      let count = w.past ∙ zero-add _ in
+      let fits : length (listing input) ≤ length zeros = omega (arith, listing_length input, length-replicate {A = ℕ} max_listing 0) in
+      let whole = w.stored ∙ put_front zeros (listing input) fits in
+      λ i. record { bytes = whole i; length = count i }
+
+  pub text_put : {a b : Output} → a.bytes.now ≡ blank.bytes → a.place ≡ 0 → Put a (listing input) b
       → text_with b.bytes.now b.place ≡ text_of (listing input)
-  text_stands zeros begins p =
-      let fits : length (listing input) ≤ length blank.bytes = omega (arith, listing_length input, length-replicate {A = ℕ} max_listing 0) in
-      let whole = (rw (zeros, begins) at p.stored) ∙ put_front blank.bytes (listing input) fits in
-      let count = (rw begins at p.past) ∙ zero-add _ in
-      λ i. text_with (whole i) (count i)
+  text_put {a} {b} zeros begins p =
+      let w : Wrote a.bytes.now a.place (listing input) b.bytes.now b.place = wrote p in
+      text_stands {text = text_with b.bytes.now b.place} (rw (zeros, begins) at w)
 
   -- it is no longer than the bytes that hold it
   pub text_room : (r : Text) → r ≡ text_of (listing input) → r.length ≤ max_listing

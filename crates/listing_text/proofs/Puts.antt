@@ -8,7 +8,7 @@ use Rattle.listing_text.specs.declared.Output.{Output}
 use Rattle.listing_text.specs.Puts.{Put}
 
 module _ {a b : Output} {xs : List ℕ} where
-  wrote : Put a xs b → Wrote a.bytes.now a.place xs b.bytes.now b.place
+  pub wrote : Put a xs b → Wrote a.bytes.now a.place xs b.bytes.now b.place
   wrote p = record { stored = p.stored; past = p.past }
 
   pub put : b.bytes.ghost_name ≡ a.bytes.ghost_name → Wrote a.bytes.now a.place xs b.bytes.now b.place → Put a xs b

@@ -7,6 +7,8 @@ ghost use Rattle.listing_text.specs.Puts.{Room, Put};
 mod digits;
 mod letters;
 mod lines;
+#[cfg(test)]
+mod tests;
 mod words;
 
 // The bytes lent, and how far they are written.

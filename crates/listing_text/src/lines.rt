@@ -5,7 +5,7 @@ ghost use Rattle.model.specs.Search.{Result};
 ghost use Rattle.model.specs.Listing.{refusal_text, plan_line, state_line, tally_line, start_line};
 ghost use Rattle.tables.specs.Meaning.{numbers, refusal_of, option_of};
 ghost use Rattle.listing_text.specs.Listed.{Listed};
-ghost use Rattle.listing_text.specs.Puts.{Room, Put};
+ghost use Rattle.listing_text.specs.Puts.{Room, Lent, Put};
 
 use crate::Output;
 use crate::letters::{kind_letter, verdict_letter};
@@ -48,6 +48,7 @@ impl Output<'_> {
         requires { (Room self.old 35) × (s < 1000000) × IfSome outcome (λ x. x < 1000000) }
         ensures wrote { (P : Plan) → Listed P s kind rank command mark (option_of outcome)
             → Put self.old (state_line P s) self.new }
+        ensures lent { Lent self.old self.new }
         ensures ends { self.new.place ≤ self.old.place + 35 }
     {
         self.put_decimal(s);

@@ -1,7 +1,7 @@
 -- The lines are put one behind another, and together they are the text of the plan.
 use native.Mathlib.Omega.{arith}
 use Rattle.tables.specs.Meaning.{lent}
-use Rattle.listing.proofs.PlanLines.{numbers_small, verdicts_room, start_room, plan_put}
+use Rattle.listing.proofs.PlanLines.{numbers_small, verdicts_fit, start_fits, plan_put}
 use Rattle.listing.proofs.plan.list_plan.Goals as goal
 
 pub put_plan_line-requires : goal.put_plan_line-requires
@@ -13,12 +13,12 @@ put_plan_line-requires c =
 pub list_verdicts-requires : goal.list_verdicts-requires
 list_verdicts-requires c =
     let p = c.args.checked.now in
-    verdicts_room (lent p.plan) p.sounds c.requires c.put_plan_line.ensures.wrote
+    verdicts_fit (lent p.plan) p.sounds c.requires c.put_plan_line.ensures.wrote
 
 pub list_start-requires : goal.list_start-requires
 list_start-requires c =
     let p = c.args.checked.now in
-    start_room (lent p.plan) p.sounds c.requires c.put_plan_line.ensures.wrote c.list_verdicts.ensures
+    start_fits (lent p.plan) p.sounds c.requires c.put_plan_line.ensures.wrote c.list_verdicts.ensures
 
 pub returns : goal.returns
 returns c =

@@ -9,7 +9,7 @@ use Rattle.tables.specs.Meaning.{lent}
 use Rattle.listing_text.proofs.Puts.{put_then}
 use Rattle.listing.proofs.Answered.{answers, answer}
 use Rattle.listing.proofs.Decided.{holds, tallies, two_rows}
-use Rattle.listing.proofs.PlanLines.{tally_room}
+use Rattle.listing.proofs.PlanLines.{tally_fits}
 use Rattle.listing.proofs.plan.list_verdicts.Goals as goal
 
 pub invariant_of-decided : goal.invariant_of-decided
@@ -32,7 +32,7 @@ unwrap-requires c =
 pub put_tally_line-requires : goal.put_tally_line-requires
 put_tally_line-requires c =
     let T = lent c.args.checked.now.plan in
-    tally_room (plan_in T) T.size.n c.requires c.list_states.ensures
+    tally_fits (plan_in T) T.size.n c.requires c.list_states.ensures
 
 pub returns : goal.returns
 returns c =
